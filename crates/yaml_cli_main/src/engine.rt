@@ -2,8 +2,7 @@
 
 use std::alloc::Global;
 use std::io::{Read, Write};
-use yaml_cli_order::Task;
-use yaml_cli_program::{Compared, Ended, Engine, FIRST, INPUT_LIMIT, SECOND};
+use yaml_cli_program::{Compared, Ended, Engine, FIRST, INPUT_LIMIT, SECOND, Task};
 use yaml_round::{
     yaml_encoding_t, yaml_run, yaml_run_fault_t, yaml_same, yaml_side_t, yaml_std_input_t,
     yaml_std_output_t,

@@ -4,8 +4,7 @@ use crate::engine::Rounds;
 use std::convert::AsStr;
 use std::io::{Read, Write};
 use std::rt::Files;
-use yaml_cli_program::follow;
-use yaml_cli_words::{order_of, tell};
+use yaml_cli_program::main_by;
 
 /// Does what the words say, the program's name first, over `input`, `output` and `errors`; files are opened through
 /// `rt`. Answers the status: 0, 1 where a command was refused or failed, 2 where the words are wrong. A refusal is a
@@ -17,8 +16,5 @@ pub fn yaml_main<H: Files + AllocGlobal, S: AsStr, R: Read, W: Write, E: Write>(
     output: &mut W,
     errors: &mut E,
 ) -> u8 {
-    match order_of(rt.alloc(), words) {
-        Ok(order) => follow(&Rounds, rt, &order, input, output, errors),
-        Err(error) => tell(error, output, errors),
-    }
+    main_by(&Rounds, rt, words, input, output, errors)
 }

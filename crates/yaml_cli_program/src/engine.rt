@@ -1,8 +1,8 @@
 //! What the program asks of an engine. It rests on nothing that an engine's contract says, so it is proved before the engine is.
 
+use crate::order::Task;
 use std::alloc::Global;
 use std::io::{Read, Write};
-use yaml_cli_order::Task;
 use yaml_round_device::{yaml_form_t, yaml_run_fault_t};
 use yaml_scan_types::yaml_encoding_t;
 

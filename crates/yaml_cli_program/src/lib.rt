@@ -1,11 +1,18 @@
-//! The program but for its words and its engine: the runs over files and streams, and what is told where one fails.
+//! The program but for its engine: its words and what they order, the runs over files and streams, and what is told where one
+//! fails.
 #![tactic(auto)]
 
 mod engine;
 mod fault;
 mod file;
+mod options;
+mod order;
 mod program;
+mod settings;
+mod table;
+mod words;
 
 pub use engine::{Compared, Ended, Engine, FIRST, SECOND};
 pub use fault::INPUT_LIMIT;
-pub use program::follow;
+pub use order::Task;
+pub use program::main_by;

@@ -3,11 +3,13 @@
 use crate::engine::{Compared, Ended, Engine, FIRST, SECOND};
 use crate::fault::{FAILED, run_failed};
 use crate::file::{bytes_of, write_answer};
+use crate::order::{Order, Task, WRONG_WORDS};
+use crate::words::{order_of, tell};
 use std::alloc::Global;
+use std::convert::AsStr;
 use std::fs;
 use std::io::{BufReader, Read, Write};
 use std::rt::Files;
-use yaml_cli_order::{Order, Task, WRONG_WORDS};
 use yaml_round_device::{yaml_form_t, yaml_run_fault_t};
 use yaml_scan_types::yaml_encoding_t;
 
@@ -64,13 +66,13 @@ fn note_form<E: Write>(task: &Task, form: Option<yaml_form_t>, errors: &mut E) {
     }
 }
 
-fn ended<E: Write>(alloc: Global, task: &Task, ended: &Ended, errors: &mut E) -> u8 {
+fn ended<E: Write>(alloc: Global, task: &Task, ended: Ended, errors: &mut E) -> u8 {
     match ended {
         Ok(form) => {
-            note_form(task, *form, errors);
+            note_form(task, form, errors);
             0
         }
-        Err(fault) => run_failed(alloc, errors, "", fault),
+        Err(fault) => run_failed(alloc, errors, "", &fault),
     }
 }
 
@@ -104,14 +106,14 @@ fn run_same<G: Engine, H: Files + AllocGlobal>(
 
 fn compared<W: Write, E: Write>(
     alloc: Global,
-    answer: &Compared,
+    answer: Compared,
     writer: &mut W,
     errors: &mut E,
 ) -> u8 {
     match answer {
         Ok(true) => write_answer(b"equal\n", writer, errors),
         Ok(false) => write_answer(b"different\n", writer, errors),
-        Err((input, fault)) => run_failed(alloc, errors, input, fault),
+        Err((input, fault)) => run_failed(alloc, errors, input, &fault),
     }
 }
 
@@ -121,10 +123,8 @@ fn unknown_word<E: Write>(errors: &mut E, what: &str, word: &str) -> u8 {
     WRONG_WORDS
 }
 
-/// Does what it is told over `reader`, `writer` and `errors`; files are opened through `rt`. Answers the status: 0, 1 where a
-/// command was refused or failed, 2 where a word is wrong. A refusal is a line on `errors`; nothing is written to `writer` then,
-/// but for a front of the text where writing itself fails.
-pub fn follow<G: Engine, H: Files + AllocGlobal, R: Read, W: Write, E: Write>(
+// Does what it is told. Answers the status.
+fn follow<G: Engine, H: Files + AllocGlobal, R: Read, W: Write, E: Write>(
     engine: &G,
     rt: &H,
     order: &Order<'_>,
@@ -135,7 +135,7 @@ pub fn follow<G: Engine, H: Files + AllocGlobal, R: Read, W: Write, E: Write>(
     match order {
         Order::Run { task, file } => {
             let answer = run_file(engine, rt, task, *file, reader, writer);
-            ended(rt.alloc(), task, &answer, errors)
+            ended(rt.alloc(), task, answer, errors)
         }
         Order::Same {
             from,
@@ -143,9 +143,26 @@ pub fn follow<G: Engine, H: Files + AllocGlobal, R: Read, W: Write, E: Write>(
             second,
         } => {
             let answer = run_same(engine, rt, *from, first, second);
-            compared(rt.alloc(), &answer, writer, errors)
+            compared(rt.alloc(), answer, writer, errors)
         }
         Order::Unknown { what, word } => unknown_word(errors, what, word),
         Order::Nothing => FAILED,
+    }
+}
+
+/// Does what the words say, the program's name first, by `engine`, over `input`, `output` and `errors`; files are opened
+/// through `rt`. Answers the status: 0, 1 where a command was refused or failed, 2 where a word is wrong. A refusal is a line
+/// on `errors`; nothing is written to `output` then, but for a front of the text where writing itself fails.
+pub fn main_by<G: Engine, H: Files + AllocGlobal, S: AsStr, R: Read, W: Write, E: Write>(
+    engine: &G,
+    rt: &H,
+    words: &[S],
+    input: &mut R,
+    output: &mut W,
+    errors: &mut E,
+) -> u8 {
+    match order_of(rt.alloc(), words) {
+        Ok(order) => follow(engine, rt, &order, input, output, errors),
+        Err(error) => tell(error, output, errors),
     }
 }

@@ -6,7 +6,7 @@ use yaml_round_device::{yaml_command_t, yaml_output_encoding_t, yaml_settings_t}
 use yaml_scan_types::yaml_encoding_t;
 
 /// The status where the words are wrong.
-pub const WRONG_WORDS: u8 = 2;
+pub(crate) const WRONG_WORDS: u8 = 2;
 
 /// What a run is told to do.
 #[derive(Clone, Copy)]
@@ -18,7 +18,7 @@ pub struct Task {
 
 /// What the program is told to do.
 #[derive(Clone, Copy)]
-pub enum Order<'a> {
+pub(crate) enum Order<'a> {
     /// A run over the file, or over standard input.
     Run {
         task: Task,
@@ -41,12 +41,12 @@ pub enum Order<'a> {
 
 /// The words of a run. A word that the command doesn't have is as where it is left out.
 #[derive(Clone, Copy)]
-pub struct Words<'a> {
-    pub file: Option<&'a str>,
-    pub from: &'a str,
-    pub line_break: &'a str,
-    pub encoding: &'a str,
-    pub settings: yaml_settings_t,
+pub(crate) struct Words<'a> {
+    pub(crate) file: Option<&'a str>,
+    pub(crate) from: &'a str,
+    pub(crate) line_break: &'a str,
+    pub(crate) encoding: &'a str,
+    pub(crate) settings: yaml_settings_t,
 }
 
 fn break_named(word: &str) -> Option<yaml_break_t> {
@@ -78,7 +78,7 @@ fn input_encoding_named(word: &str) -> Option<yaml_encoding_t> {
 }
 
 /// The command of that name, of those that read one input.
-pub fn command_named(word: &str) -> Option<yaml_command_t> {
+pub(crate) fn command_named(word: &str) -> Option<yaml_command_t> {
     match word {
         "fmt" => Some(yaml_command_t::Fmt),
         "docs" => Some(yaml_command_t::Docs),
@@ -88,7 +88,7 @@ pub fn command_named(word: &str) -> Option<yaml_command_t> {
 }
 
 /// The run that is asked for. The break is judged first, then the encoding, then how the input is encoded.
-pub fn run_of<'a>(command: yaml_command_t, words: &Words<'a>) -> Order<'a> {
+pub(crate) fn run_of<'a>(command: yaml_command_t, words: &Words<'a>) -> Order<'a> {
     let Some(line_break) = break_named(words.line_break) else {
         return Order::Unknown {
             what: "break",
@@ -123,7 +123,7 @@ pub fn run_of<'a>(command: yaml_command_t, words: &Words<'a>) -> Order<'a> {
 }
 
 /// The comparison that is asked for.
-pub fn same_of<'a>(from: &'a str, first: &'a str, second: &'a str) -> Order<'a> {
+pub(crate) fn same_of<'a>(from: &'a str, first: &'a str, second: &'a str) -> Order<'a> {
     match input_encoding_named(from) {
         Some(from) => Order::Same {
             from,

@@ -1,7 +1,7 @@
 //! The words of a command, as they stand among the matches.
 
+use crate::order::{Order, Words, command_named, run_of, same_of};
 use clap::ArgMatches;
-use yaml_cli_order::{Order, Words, command_named, run_of, same_of};
 use yaml_round_device::yaml_settings_t;
 
 // The settings but for those that are words.

@@ -1,0 +1,90 @@
+//! The words of each command, for clap.
+
+use crate::table::{COMMANDS, Kind, ROWS, Row, Told};
+use clap::builder::ValueParser;
+use clap::{Arg, ArgAction, Command};
+use std::alloc::{AllocError, Global};
+
+const MOST_COLUMNS: i64 = 2_147_483_647;
+
+const MOST_BYTES: u64 = 1_099_511_627_776;
+
+// An argument is made in small steps of two calls or so: what a function costs to prove grows with the square of its calls.
+
+fn named<'a>(alloc: Global, row: &Row) -> Arg<'a> {
+    Arg::new(alloc, row.name)
+        .help(row.help)
+        .value_name(row.value)
+}
+
+fn parser_of<'a>(kind: Kind) -> ValueParser<'a> {
+    match kind {
+        Kind::Flag => ValueParser::Bool,
+        Kind::Columns => ValueParser::Signed(0, MOST_COLUMNS),
+        Kind::Bytes => ValueParser::Unsigned(0, MOST_BYTES),
+        _ => ValueParser::String,
+    }
+}
+
+fn option_of<'a>(arg: Arg<'a>, row: &Row) -> Arg<'a> {
+    arg.long(row.name)
+        .default_value(row.usual)
+        .value_parser(parser_of(row.kind))
+}
+
+fn arg_of<'a>(alloc: Global, row: &Row) -> Arg<'a> {
+    let arg = named(alloc, row);
+    match row.kind {
+        Kind::Place => arg,
+        Kind::Needed => arg.required(true),
+        Kind::Flag => option_of(arg, row).action(ArgAction::SetTrue),
+        _ => option_of(arg, row),
+    }
+}
+
+fn filled<'a>(alloc: Global, told: &Told) -> Result<Command<'a>, AllocError> {
+    let mut command = Command::new(alloc, told.name).about(told.about);
+    for row in &ROWS {
+        if row.of & told.bit != 0 {
+            command = match command.arg(arg_of(alloc, row)) {
+                Ok(more) => more,
+                Err(error) => return Err(error),
+            };
+        }
+    }
+    Ok(command)
+}
+
+// A command with its arguments. Where there was no room for one it is left without any, and `is_short` is set: so no command is
+// let go here, which would be dear to prove.
+fn command_of<'a>(alloc: Global, told: &Told, is_short: &mut bool) -> Command<'a> {
+    match filled(alloc, told) {
+        Ok(command) => command,
+        Err(_) => {
+            *is_short = true;
+            Command::new(alloc, told.name)
+        }
+    }
+}
+
+fn bare_command<'a>(alloc: Global) -> Command<'a> {
+    let about = "Rewrites YAML in canonical or pretty form";
+    Command::new(alloc, "yaml_cli")
+        .about(about)
+        .subcommand_required(true)
+}
+
+/// The program's words. Where `is_short` is set there was no room for all of them, and what is read by them says nothing.
+pub(crate) fn whole_command<'a>(
+    alloc: Global,
+    is_short: &mut bool,
+) -> Result<Command<'a>, AllocError> {
+    let mut whole = bare_command(alloc);
+    for told in &COMMANDS {
+        whole = match whole.subcommand(command_of(alloc, told, is_short)) {
+            Ok(more) => more,
+            Err(error) => return Err(error),
+        };
+    }
+    whole.bin_name("yaml_cli")
+}

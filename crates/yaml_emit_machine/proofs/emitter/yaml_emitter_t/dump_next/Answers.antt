@@ -1,4 +1,5 @@
 use Rattle.std.proofs.Common.{Option, subst}
+use Rattle.std.proofs.lemmas.Bool.{false≢true}
 use Rattle.std.specs.Prelude.{Ok}
 use Rattle.yaml_parse_model.specs.declared.yaml_event_body_t.{yaml_event_body_t}
 use Rattle.yaml_emit_graph.specs.Events.{GivesGraphEvent}
@@ -19,3 +20,21 @@ returns-in-Ok-Some c =
 
 pub returns-in-Err-clause-takes : goal.returns-in-Err-clause-takes
 returns-in-Err-clause-takes c = c.starve.ensures.takes _
+
+pub returns-in-Err-clause-memory : goal.returns-in-Err-clause-memory
+returns-in-Err-clause-memory c = c.starve.ensures.memory
+
+pub returns-in-Err-clause-keeps : goal.returns-in-Err-clause-keeps
+returns-in-Err-clause-keeps c = c.starve.ensures.keeps
+
+pub returns-in-Err-clause-walk : goal.returns-in-Err-clause-walk
+returns-in-Err-clause-walk c = λ going. absurd (false≢true going)
+
+pub returns-in-Err-clause-less : goal.returns-in-Err-clause-less
+returns-in-Err-clause-less c = λ going. absurd (false≢true going)
+
+pub returns-in-Ok-None-clause-walk : goal.returns-in-Ok-None-clause-walk
+returns-in-Ok-None-clause-walk c = λ going. absurd (false≢true going)
+
+pub returns-in-Ok-None-clause-less : goal.returns-in-Ok-None-clause-less
+returns-in-Ok-None-clause-less c = λ going. absurd (false≢true going)

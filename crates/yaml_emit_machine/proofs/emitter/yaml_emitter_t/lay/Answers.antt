@@ -1,4 +1,5 @@
-use Rattle.std.proofs.Common.{None, refl, ◌∙◌}
+use Rattle.std.proofs.Common.{None, refl, ◌∙◌, sym}
+use Rattle.std.proofs.lemmas.Bool.{false≢true}
 use Rattle.yaml_parse_model.specs.Events.{body_of}
 use Rattle.yaml_emit_layout.specs.Content.{emitter_event}
 use Rattle.yaml_emit_held.proofs.Judging.{lays_unnoted}
@@ -13,7 +14,7 @@ invariant_of-self c =
       few = c.give.ensures.waits;
       short = c.give.ensures.short;
       texts = c.give.ensures.utf8;
-      begun = λ f. absurd (cc);
+      begun = λ f. absurd (false≢true (sym fr ∙ f));
       limited = c.give.ensures.lays.limit ∙ c.self.invariant.limited;
       running = c.self.invariant.running;
       memory = lays_unnoted _ _ _ _ c.give.ensures.lays c.self.invariant.memory;

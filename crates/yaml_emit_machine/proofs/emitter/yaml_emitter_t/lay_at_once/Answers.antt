@@ -1,4 +1,5 @@
-use Rattle.std.proofs.Common.{None, ap, ◌∙◌}
+use Rattle.std.proofs.Common.{None, ap, ◌∙◌, sym}
+use Rattle.std.proofs.lemmas.Bool.{false≢true}
 use Rattle.yaml_parse_model.specs.Events.{body_of}
 use Rattle.yaml_emit_layout.specs.Content.{emitter_event}
 use Rattle.yaml_emit_held.specs.Held.{is_ready}
@@ -16,7 +17,7 @@ invariant_of-self c =
       few = λ g. ap is_ready once.none;
       short = c.self.invariant.short;
       texts = c.self.invariant.texts;
-      begun = λ f. absurd (cc);
+      begun = λ f. absurd (false≢true (sym begun ∙ f));
       limited = c.lay_out.ensures.text.limit ∙ c.self.invariant.limited;
       running = c.self.invariant.running;
       memory = λ g. c.lay_out.ensures.memory (going_notes _ _ _ g) ∙ c.self.invariant.memory (c.lay_out.ensures.text.going g);

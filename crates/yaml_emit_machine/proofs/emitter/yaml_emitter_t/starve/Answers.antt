@@ -1,4 +1,5 @@
-use Rattle.std.proofs.Common.{◌∙◌, None}
+use Rattle.std.proofs.Common.{◌∙◌, None, sym}
+use Rattle.std.proofs.lemmas.Bool.{false≢true}
 use Rattle.yaml_emit_text.specs.Layout.{stay}
 use Rattle.yaml_emit_machine.proofs.Emitting.{goes_going}
 use Rattle.yaml_emit_machine.proofs.Dumped.{inside_starves, inside_starves_notes}
@@ -12,7 +13,7 @@ invariant_of-self c =
       few = λ g. absurd (c.starve.ensures.stopped (goes_going _ _ g));
       short = c.self.invariant.short;
       texts = c.self.invariant.texts;
-      begun = λ f. absurd (cc);
+      begun = λ f. absurd (false≢true (sym fr ∙ f));
       limited = (c.starve.ensures.text stay).limit ∙ c.self.invariant.limited;
       running = c.self.invariant.running;
       memory = λ g. absurd (c.starve.ensures.stopped g);

@@ -1,0 +1,24 @@
+-- What begins comes into force first; what a call has said of the same is named, so that nothing is searched for.
+use Rattle.yaml_emit_machine.proofs.Taking.{begins_takes, begins_notes}
+use Rattle.yaml_emit_machine.proofs.emitter.yaml_emitter_t.take.Goals as goal
+
+pub returns-then-self-clause-takes : goal.returns-then-self-clause-takes
+returns-then-self-clause-takes c = begins_takes _ _ _ _ c.begin.ensures.begins c.lay.ensures.takes
+
+pub returns-then-self-clause-memory : goal.returns-then-self-clause-memory
+returns-then-self-clause-memory c = begins_notes _ _ c.lay.new.self _ c.begin.ensures.begins c.lay.ensures.memory
+
+pub returns-then-self-clause-few : goal.returns-then-self-clause-few
+returns-then-self-clause-few c = c.lay.ensures.few
+
+pub returns-else-self-clause-takes : goal.returns-else-self-clause-takes
+returns-else-self-clause-takes c = c.lay-else-self.ensures.takes
+
+pub returns-else-self-clause-memory : goal.returns-else-self-clause-memory
+returns-else-self-clause-memory c = c.lay-else-self.ensures.memory
+
+pub returns-else-self-clause-few : goal.returns-else-self-clause-few
+returns-else-self-clause-few c = c.lay-else-self.ensures.few
+
+pub returns-else-self-clause-opened : goal.returns-else-self-clause-opened
+returns-else-self-clause-opened c = c.lay-else-self.ensures.opened

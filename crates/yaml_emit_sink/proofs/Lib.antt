@@ -2,4 +2,3 @@ pub mod Sinks
 mod Encodes
 mod Ascii
 mod Lines
-mod Ends

@@ -5,4 +5,3 @@ pub mod Appends
 pub mod Sink
 pub mod Hex
 pub mod Laws
-pub mod Ends

@@ -13,7 +13,6 @@ ghost use Rattle.yaml_parse_resolve.specs.Settles.{directives_of, Settles, Settl
 use crate::handles::TagDirectives;
 use std::alloc::{AllocError, AllocFailed, Global};
 use std::mem;
-use yaml_parse_bytes::{SHORT, put_short};
 use yaml_parse_grammar::{ParseFault, ParseProblem};
 use yaml_parse_model::{
     yaml_event_body_t, yaml_event_t, yaml_mapping_style_t, yaml_mark_t, yaml_scalar_style_t,
@@ -23,6 +22,7 @@ use yaml_parse_states::item::{Properties, RawEvent, RawEventBody, Resolved, Shap
 use yaml_parse_states::room::moved;
 use yaml_parse_states::scalars::scalar;
 use yaml_parse_states::slots::put;
+use yaml_scan_model::{SHORT, put_short};
 
 /// The directives of a document.
 #[derive(Drop)]

@@ -3,7 +3,7 @@
 ghost use Rattle.std.specs.Prelude.{◌≡◌, ◌≤◌, ◌+◌, ◌*◌, ◌++◌, ◌∷◌, [], length, true, Some, OnOk};
 ghost use Rattle.std.specs.Vec.{vec_len, vec_capacity};
 ghost use Rattle.yaml_parse_model.specs.Events.{event_of, text_of};
-ghost use Rattle.yaml_parse_bytes.specs.Ends.{IsShort};
+ghost use Rattle.yaml_scan_model.specs.Ends.{IsShort};
 ghost use Rattle.yaml_round_kept.specs.Kept.{Keeps, IsWithin};
 ghost use Rattle.yaml_round_kept.specs.Spelled.{length_bytes, long_bytes, text_bytes, given_bytes, start_bytes, spelled};
 
@@ -11,9 +11,8 @@ use crate::spelling::{
     LONG, bare_head, document_head, is_told, mapping_head, scalar_head, sequence_head,
 };
 use std::alloc::AllocError;
-use yaml_parse_bytes::{SHORT, is_short, put_short};
 use yaml_parse_model::{yaml_event_body_t, yaml_event_t};
-use yaml_scan_model::moved;
+use yaml_scan_model::{SHORT, is_short, moved, put_short};
 
 // Longer texts than four bytes can tell aren't kept.
 const LONGEST: usize = 0xFFFF_FFFF;
@@ -86,7 +85,7 @@ fn put_text(bytes: &mut Vec<u8>, text: &[u8])
 // Inlined: see `put_text`.
 #[inline(always)]
 fn put_given(bytes: &mut Vec<u8>, text: &Option<Vec<u8>>)
-    requires short { IsShort (text_of text.now) }
+    requires short { IsShort text.now }
     requires room { vec_len bytes.old + (SHORT + 1) ≤ vec_capacity bytes.old }
     ensures items { bytes.new.items ≡ bytes.old.items ++ given_bytes (text_of text.now) }
     ensures len { vec_len bytes.new ≤ vec_len bytes.old + (SHORT + 1) }
@@ -102,8 +101,8 @@ fn put_given(bytes: &mut Vec<u8>, text: &Option<Vec<u8>>)
 // Inlined: see `put_text`.
 #[inline(always)]
 fn put_start(bytes: &mut Vec<u8>, head: u8, anchor: &Option<Vec<u8>>, tag: &Option<Vec<u8>>)
-    requires anchor { IsShort (text_of anchor.now) }
-    requires tag { IsShort (text_of tag.now) }
+    requires anchor { IsShort anchor.now }
+    requires tag { IsShort tag.now }
     requires room { vec_len bytes.old + (2 * (SHORT + 1) + 1) ≤ vec_capacity bytes.old }
     ensures items { bytes.new.items ≡ bytes.old.items
         ++ start_bytes head (text_of anchor.now) (text_of tag.now) }
@@ -177,8 +176,8 @@ fn add_short_start(
     anchor: &Option<Vec<u8>>,
     tag: &Option<Vec<u8>>,
 ) -> Result<(), AllocError>
-    requires anchor { IsShort (text_of anchor.now) }
-    requires tag { IsShort (text_of tag.now) }
+    requires anchor { IsShort anchor.now }
+    requires tag { IsShort tag.now }
     ensures { OnOk result (bytes.new.items ≡ bytes.old.items
         ++ start_bytes head (text_of anchor.now) (text_of tag.now)) }
 {
@@ -193,8 +192,7 @@ fn add_short_start(
 // Inlined: three comparisons.
 #[inline(always)]
 fn are_short(anchor: &Option<Vec<u8>>, tag: &Option<Vec<u8>>, count: usize) -> bool
-    ensures { result ≡ true → IsShort (text_of anchor.now) × (IsShort (text_of tag.now)
-        × (count ≤ SHORT)) }
+    ensures { result ≡ true → IsShort anchor.now × (IsShort tag.now × (count ≤ SHORT)) }
 {
     is_short(anchor) && is_short(tag) && count <= SHORT
 }
@@ -244,8 +242,8 @@ fn add_short_scalar(
     tag: &Option<Vec<u8>>,
     value: &[u8],
 ) -> Result<(), AllocError>
-    requires anchor { IsShort (text_of anchor.now) }
-    requires tag { IsShort (text_of tag.now) }
+    requires anchor { IsShort anchor.now }
+    requires tag { IsShort tag.now }
     requires value { length value.now ≤ SHORT }
     ensures { OnOk result (bytes.new.items ≡ bytes.old.items
         ++ (start_bytes head (text_of anchor.now) (text_of tag.now) ++ text_bytes value.now)) }

@@ -6,8 +6,8 @@ ghost use Rattle.yaml_round_kept.specs.Kept.{Leaves};
 ghost use Rattle.yaml_round_kept.specs.Spelled.{length_bytes, long_bytes, text_bytes, given_bytes, start_bytes, spelled};
 
 use crate::spelling::{LONG, bare_head, document_head, mapping_head, scalar_head, sequence_head};
-use yaml_parse_bytes::{SHORT, stands_in_front};
 use yaml_parse_model::{yaml_event_body_t, yaml_event_t};
+use yaml_scan_model::{SHORT, stands_in_front};
 
 // What stands behind a byte, where it stands in front.
 fn after_byte<'a>(left: &'a [u8], byte: u8) -> Option<&'a [u8]>

@@ -2,15 +2,14 @@
 
 ghost use Rattle.std.specs.Prelude.{◌≡◌, ◌+◌, ◌*◌, ◌<◌, ◌≤◌, ◌++◌, [], ◌∷◌, true, length, codes, vec_len, vec_capacity, OnOk};
 ghost use Rattle.yaml_parse_model.specs.Events.{event_of, text_of};
-ghost use Rattle.yaml_parse_bytes.specs.Ends.{IsShort};
+ghost use Rattle.yaml_scan_model.specs.Ends.{IsShort};
 ghost use Rattle.yaml_round_lines.specs.Runs.{IsPlain, IsPlainGiven};
 ghost use Rattle.yaml_round_lines.specs.EventLine.{escaped, anchor_part, tag_part, indicator_of, mark_part, event_line};
 
 use crate::runs::{is_plain, push_runs};
 use std::alloc::AllocError;
-use yaml_parse_bytes::{SHORT, is_short, put_short};
 use yaml_parse_model::{yaml_event_body_t, yaml_event_t};
-use yaml_scan_model::{moved, push_each, yaml_scalar_style_t};
+use yaml_scan_model::{SHORT, is_short, moved, push_each, put_short, yaml_scalar_style_t};
 
 // What the line of a node takes at most whose texts are short.
 const ROOM: usize = 13 + 3 * SHORT;
@@ -124,7 +123,7 @@ fn is_plain_tag(tag: &Option<Vec<u8>>) -> bool
 // Inlined: some stores.
 #[inline(always)]
 fn put_anchor(line: &mut Vec<u8>, anchor: &Option<Vec<u8>>)
-    requires short { IsShort (text_of anchor.now) }
+    requires short { IsShort anchor.now }
     requires room { vec_len line.old + (SHORT + 2) ≤ vec_capacity line.old }
     ensures items { line.new.items ≡ line.old.items ++ anchor_part (text_of anchor.now) }
     ensures len { vec_len line.new ≤ vec_len line.old + (SHORT + 2) }
@@ -176,7 +175,7 @@ fn put_tag(line: &mut Vec<u8>, tag: &Option<Vec<u8>>)
 // Inlined: some stores.
 #[inline(always)]
 fn put_node(line: &mut Vec<u8>, word: &[u8; 4], anchor: &Option<Vec<u8>>, tag: &Option<Vec<u8>>)
-    requires anchor { IsShort (text_of anchor.now) }
+    requires anchor { IsShort anchor.now }
     requires tag { IsPlainGiven (text_of tag.now) }
     requires room { vec_len line.old + (2 * SHORT + 9) ≤ vec_capacity line.old }
     ensures items { line.new.items ≡ line.old.items
@@ -235,7 +234,7 @@ fn push_plain_scalar(
     value: &[u8],
     style: yaml_scalar_style_t,
 ) -> Result<(), AllocError>
-    requires anchor { IsShort (text_of anchor.now) }
+    requires anchor { IsShort anchor.now }
     requires tag { IsPlainGiven (text_of tag.now) }
     requires value { IsPlain value.now }
     ensures { OnOk result (line.new.items ≡ line.old.items
@@ -254,7 +253,7 @@ fn push_plain_scalar(
 // Inlined: see `is_kept_run`.
 #[inline(always)]
 fn are_plain(anchor: &Option<Vec<u8>>, tag: &Option<Vec<u8>>) -> bool
-    ensures { result ≡ true → IsShort (text_of anchor.now) × IsPlainGiven (text_of tag.now) }
+    ensures { result ≡ true → IsShort anchor.now × IsPlainGiven (text_of tag.now) }
 {
     is_short(anchor) && is_plain_tag(tag)
 }
@@ -307,7 +306,7 @@ fn push_plain_start(
     anchor: &Option<Vec<u8>>,
     tag: &Option<Vec<u8>>,
 ) -> Result<(), AllocError>
-    requires anchor { IsShort (text_of anchor.now) }
+    requires anchor { IsShort anchor.now }
     requires tag { IsPlainGiven (text_of tag.now) }
     ensures { OnOk result (line.new.items ≡ line.old.items
         ++ (word.now ++ (anchor_part (text_of anchor.now) ++ tag_part (text_of tag.now))

@@ -5,7 +5,7 @@ ghost use Rattle.yaml_round_lines.specs.Runs.{is_kept, kept_run, IsPlain};
 ghost use Rattle.yaml_round_lines.specs.EventLine.{escaped_byte, escaped};
 
 use std::alloc::AllocError;
-use yaml_parse_bytes::SHORT;
+use yaml_scan_model::SHORT;
 
 // So many bytes are looked at together; the kept bytes of a shorter text are added byte by byte.
 const CHUNK: usize = 16;

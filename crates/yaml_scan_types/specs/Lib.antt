@@ -2,3 +2,4 @@ pub mod Marks
 pub mod Classes
 pub mod Tokens
 pub mod Faults
+pub mod Ends

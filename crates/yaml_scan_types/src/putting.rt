@@ -1,10 +1,12 @@
 //! Short texts, put behind bytes that have room for them.
 
 ghost use Rattle.std.specs.Prelude.{◌≡◌, ◌+◌, ◌-◌, ◌≤◌, ◌++◌, true, length, vec_len, vec_capacity};
-ghost use Rattle.yaml_parse_model.specs.Events.{text_of};
-ghost use Rattle.yaml_parse_bytes.specs.Ends.{bytes_at, IsShort};
+ghost use Rattle.yaml_scan_types.specs.Ends.{bytes_at, IsShort};
 
-use yaml_scan_model::push_each;
+use crate::pushing::push_each;
+
+/// Texts of at most so many bytes are brief: two loads and two stores of up to eight bytes put one.
+pub const BRIEF: usize = 16;
 
 /// Texts of at most so many bytes are short.
 pub const SHORT: usize = 32;
@@ -104,11 +106,35 @@ fn put_ends(bytes: &mut Vec<u8>, text: &[u8], front: &[u8], end: &[u8])
 // Inlined: a comparison.
 #[inline(always)]
 pub fn is_short(text: &Option<Vec<u8>>) -> bool
-    ensures { result ≡ true → IsShort (text_of text.now) }
+    ensures { result ≡ true → IsShort text.now }
 {
     match text {
         None => true,
         Some(text) => text.len() <= SHORT,
+    }
+}
+
+/// Puts a brief text behind bytes that have room for it.
+// Inlined: two comparisons, two loads and two stores, where the bytes are the caller's own.
+#[inline(always)]
+pub fn put_brief(bytes: &mut Vec<u8>, text: &[u8])
+    requires brief { length text.now ≤ BRIEF }
+    requires room { vec_len bytes.old + length text.now ≤ vec_capacity bytes.old }
+    ensures items { bytes.new.items ≡ bytes.old.items ++ text.now }
+    ensures len { vec_len bytes.new ≡ vec_len bytes.old + length text.now }
+    ensures room { vec_capacity bytes.new ≡ vec_capacity bytes.old }
+{
+    let count = text.len();
+    if count < 4 {
+        if count < 2 {
+            push_each(bytes, text);
+        } else {
+            put_ends(bytes, text, &two_at(text, 0), &two_at(text, count - 2));
+        }
+    } else if count < 8 {
+        put_ends(bytes, text, &four_at(text, 0), &four_at(text, count - 4));
+    } else {
+        put_ends(bytes, text, &eight_at(text, 0), &eight_at(text, count - 8));
     }
 }
 
@@ -123,14 +149,8 @@ pub fn put_short(bytes: &mut Vec<u8>, text: &[u8])
     ensures room { vec_capacity bytes.new ≡ vec_capacity bytes.old }
 {
     let count = text.len();
-    if count < 2 {
-        push_each(bytes, text);
-    } else if count < 4 {
-        put_ends(bytes, text, &two_at(text, 0), &two_at(text, count - 2));
-    } else if count < 8 {
-        put_ends(bytes, text, &four_at(text, 0), &four_at(text, count - 4));
-    } else if count < 16 {
-        put_ends(bytes, text, &eight_at(text, 0), &eight_at(text, count - 8));
+    if count <= BRIEF {
+        put_brief(bytes, text);
     } else {
         put_ends(
             bytes,

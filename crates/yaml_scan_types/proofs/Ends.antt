@@ -1,9 +1,9 @@
 -- A text is its front and its end, which may have bytes in common.
-use Rattle.std.proofs.Common.{◌≡◌, ◌≢◌, ℕ, zero, suc, ◌+◌, ◌-◌, ◌<◌, ◌≤◌, Bool, true, false, ◌&&◌, ◌==◌, List, [], ◌∷◌, ◌++◌, take, drop, length, slice_index, refl, sym, ap, subst, ◌∙◌, arith, add-zero, add-one, length-drop}
+use Rattle.std.proofs.Common.{◌≡◌, ◌≢◌, ℕ, zero, suc, ◌+◌, ◌-◌, ◌≤◌, Bool, true, false, ◌&&◌, ◌==◌, List, ◌++◌, take, drop, length, slice_index, refl, sym, ap, ◌∙◌, arith, add-one, length-drop}
 use Rattle.std.proofs.lemmas.Bool.Decides.{nat_tests}
 use Rattle.std.proofs.lemmas.List.{take_more, take_all, take-append-drop, take-append-le, drop-take, get_or-drop, length-take-le, append_assoc, get_or_append_left}
 use Rattle.std.proofs.Math.Seq.{take-append-add}
-use Rattle.yaml_parse_bytes.specs.Ends.{bytes_at, same_run}
+use Rattle.yaml_scan_types.specs.Ends.{bytes_at, same_run}
 
 both : (a b : Bool) → (a && b) ≡ true → (a ≡ true) × (b ≡ true)
 both true b h = (refl, h)

@@ -1,5 +1,6 @@
 -- Parts of a text by their number of bytes.
-use Rattle.std.specs.Prelude.{ℕ, zero, suc, ◌+◌, Bool, true, ◌&&◌, ◌==◌, List, [], ◌∷◌, ◌++◌, slice_index, ◌≤◌, length, Option, None, Some}
+use Rattle.std.specs.Prelude.{ℕ, zero, suc, ◌+◌, Bool, true, ◌&&◌, ◌==◌, List, [], ◌∷◌, ◌++◌, slice_index, ◌≤◌, length, Option, None, Some, Vec}
+use Rattle.std.specs.Global.{Global}
 
 -- so many bytes from the place on
 unfoldable pub bytes_at : ℕ → List ℕ → ℕ → List ℕ
@@ -12,6 +13,6 @@ same_run zero a p b q = true
 same_run (suc n) a p b q = same_run n a p b q && slice_index a (p + n) == slice_index b (q + n)
 
 -- there is none, or it is short
-abbrev pub IsShort : Option (List ℕ) → Type 0
+abbrev pub IsShort : Option (Vec ℕ Global) → Type 0
 IsShort None = Unit {0}
-IsShort (Some text) = length text ≤ 32
+IsShort (Some text) = length text.items ≤ 32

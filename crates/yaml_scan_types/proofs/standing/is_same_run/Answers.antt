@@ -1,7 +1,7 @@
 use Rattle.std.proofs.Common.{refl, arith}
-use Rattle.yaml_parse_bytes.specs.Ends.{same_run}
-use Rattle.yaml_parse_bytes.proofs.Ends.{same_more}
-use Rattle.yaml_parse_bytes.proofs.standing.is_same_run.Goals as goal
+use Rattle.yaml_scan_types.specs.Ends.{same_run}
+use Rattle.yaml_scan_types.proofs.Ends.{same_more}
+use Rattle.yaml_scan_types.proofs.standing.is_same_run.Goals as goal
 
 pub bytes-init : goal.bytes-init
 unfolding same_run

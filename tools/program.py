@@ -29,7 +29,7 @@ import lanes
 
 TOP = os.path.dirname(os.path.dirname(os.path.abspath(__file__)))
 SEARCHES = bool(os.environ.get("SEARCH"))
-FROM_NOTHING = "14 to 20 minutes from nothing on 4 processors, by the machine and its hour, less where an earlier run has kept its proofs"
+FROM_NOTHING = "11 to 20 minutes from nothing on 4 processors, by the machine and its hour, less where an earlier run has kept its proofs"
 
 
 class Goal:

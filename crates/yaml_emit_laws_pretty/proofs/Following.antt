@@ -1,0 +1,86 @@
+-- What follows a node: a line, and something that is neither white nor a comment.
+use Rattle.std.proofs.Common.{◌≡◌, ℕ, ◌+◌, ◌≤◌, true, false, List, [], ◌∷◌, ◌++◌, zero, suc, refl, ap, subst, ◌∙◌, arith, replicate, append_assoc, None}
+use Rattle.yaml_emit_laws_text.specs.emit_layout.emit_text.declared.Cursor.{Cursor}
+use Rattle.yaml_emit_laws_text.specs.emit_layout.emit_text.declared.LineBreak.{LineBreak}
+use Rattle.yaml_emit_laws_text.specs.emit_layout.emit_text.declared.LineBreak.TheVariants.{Lf, Cr, CrLf}
+use Rattle.yaml_emit_laws_text.specs.emit_layout.emit_text.Layout.{Rest, line}
+use Rattle.yaml_emit_laws_text.specs.emit_layout.emit_text.Spelling.{break_text}
+use Rattle.yaml_emit_laws_text.specs.Walk.{bytes, first}
+use Rattle.yaml_emit_laws_text.proofs.Back.{spaced_by}
+use Rattle.yaml_emit_laws_text.proofs.Escapes.{AreLow, low_encodes}
+use Rattle.yaml_emit_laws_text.proofs.Words.{front_encodes}
+use Rattle.yaml_emit_laws_scalars.specs.Stops.{stops_plain_at, begins_white, begins_solid}
+use Rattle.yaml_emit_laws_scalars.proofs.Lines.{line_start, after_blanks, line_is}
+use Rattle.yaml_emit_laws_scalars.proofs.Stopping.{behind_lines}
+use Rattle.yaml_emit_laws_scalars.proofs.Solid.{what_stops}
+use Rattle.yaml_emit_laws_pretty.specs.Walk.{Follows, NoFeed, no_comment}
+
+spaces_low : (n : ℕ) → AreLow (replicate n 32)
+spaces_low zero = tt
+spaces_low (suc n) = (omega arith, spaces_low n)
+
+break_low : (b : LineBreak) (n : ℕ) → AreLow (break_text b ++ replicate n 32)
+break_low Lf n = (omega arith, spaces_low n)
+break_low Cr n = (omega arith, spaces_low n)
+break_low CrLf n = (omega arith, (omega arith, spaces_low n))
+
+blanks_bare : (n : ℕ) (c : Cursor) → c.bare ≡ true → (after_blanks n c).bare ≡ true
+blanks_bare zero c e = e
+blanks_bare (suc n) c e = blanks_bare n (spaced_by c) e
+
+blanks_white : (n : ℕ) (c : Cursor) → c.white ≡ true → (after_blanks n c).white ≡ true
+blanks_white zero c e = e
+blanks_white (suc n) c e = blanks_white n (spaced_by c) refl
+
+spaces_calm : (n : ℕ) (bs : List ℕ) → no_comment (replicate n 32 ++ bs) ≡ no_comment bs
+unfolding no_comment
+spaces_calm zero bs = refl
+spaces_calm (suc n) bs = spaces_calm n bs
+
+line_calm : (b : LineBreak) (n : ℕ) (bs : List ℕ) → no_comment (break_text b ++ (replicate n 32 ++ bs)) ≡ no_comment bs
+unfolding no_comment
+line_calm Lf n bs = spaces_calm n bs
+line_calm Cr n bs = spaces_calm n bs
+line_calm CrLf n bs = spaces_calm n bs
+
+line_white : (b : LineBreak) (bs : List ℕ) → begins_white (break_text b ++ bs) ≡ true
+line_white Lf bs = refl
+line_white Cr bs = refl
+line_white CrLf bs = refl
+
+-- what stands at a line's column is neither white nor a comment
+pub record Shows (rest : Rest) : Type 0 where
+  pub solid : (e : Cursor) → e.bare ≡ true → e.white ≡ true → begins_solid (bytes (rest e)) ≡ true
+  pub calm : (e : Cursor) → e.bare ≡ true → e.white ≡ true → no_comment (bytes (rest e)) ≡ true
+
+line_bytes : (b : LineBreak) (n : ℕ) (c : Cursor) (rest : Rest) → c.bare ≡ false → bytes (line b n c rest) ≡ break_text b ++ (replicate n 32 ++ bytes (rest (after_blanks n (line_start c))))
+line_bytes b n c rest bare =
+    let e = after_blanks n (line_start c) in
+    ap (λ t. bytes t) (line_is b n c rest bare) ∙ front_encodes (break_text b ++ replicate n 32) (rest e)
+    ∙ ap (λ (bs : List ℕ). bs ++ bytes (rest e)) (low_encodes (break_text b ++ replicate n 32) (break_low b n)) ∙ append_assoc (break_text b) (replicate n 32) (bytes (rest e))
+
+pub follows_line : (b : LineBreak) (n : ℕ) (rest : Rest) → Shows rest → Follows (n + 1) (λ e. line b n e rest)
+follows_line b n rest shows = record {
+  stops = λ level low e bare. let d = after_blanks n (line_start e) in
+      ap (λ bs. stops_plain_at false level None bs) (line_bytes b n e rest bare) ∙ (behind_lines false level n (bytes (rest d))).0 b None
+      ∙ (what_stops false level None).4 n (bytes (rest d)) (omega (arith, low)) (shows.solid d (blanks_bare n (line_start e) refl) (blanks_white n (line_start e) refl));
+  calm = λ e bare. let d = after_blanks n (line_start e) in
+      ap (λ bs. no_comment bs) (line_bytes b n e rest bare) ∙ line_calm b n (bytes (rest d)) ∙ shows.calm d (blanks_bare n (line_start e) refl) (blanks_white n (line_start e) refl);
+  white = λ e bare. let d = after_blanks n (line_start e) in
+      ap (λ bs. begins_white bs) (line_bytes b n e rest bare) ∙ line_white b (replicate n 32 ++ bytes (rest d));
+}
+
+solid_no_feed : (bs : List ℕ) → begins_solid bs ≡ true → first bs ≡ 10 → ⊥
+solid_no_feed [] h e = absurd (cc)
+solid_no_feed (b ∷ bs) h e =
+    let k : begins_solid (10 ∷ bs) ≡ true = subst (λ x. begins_solid (x ∷ bs) ≡ true) e h in
+    absurd (never k)
+  where
+    never : false ≡ true → ⊥
+    never e = cc
+
+pub shows_no_feed : (rest : Rest) → Shows rest → NoFeed rest
+shows_no_feed rest shows e bare white f = solid_no_feed (bytes (rest e)) (shows.solid e bare white) f
+
+pub follows_up : (m n : ℕ) (rest : Rest) → m ≤ n → Follows m rest → Follows n rest
+follows_up m n rest up f = record { stops = λ level low e bare. f.stops level (omega (arith, up, low)) e bare; calm = f.calm; white = f.white }

@@ -1,0 +1,10 @@
+pub mod Lining
+pub mod Entries
+pub mod Plains
+pub mod Following
+pub mod Sequences
+pub mod Trees
+pub mod KeysWalk
+pub mod Singles
+pub mod KeysShow
+pub mod KeysShown

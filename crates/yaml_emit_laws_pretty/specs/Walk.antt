@@ -1,0 +1,136 @@
+-- A walk at a cursor of a layout, outside of brackets.
+use Rattle.std.specs.Prelude.{◌≡◌, ◌<◌, ◌≤◌, ◌+◌, ℕ, ◌==◌, Bool, true, false, not, if◌then◌else◌, List, [], ◌∷◌, length, None, IsUtf8}
+use Rattle.std.specs.Str.{chars}
+use Rattle.yaml_emit_laws_text.specs.emit_layout.scan.declared.yaml_scalar_style_t.TheVariants.{YAML_PLAIN_SCALAR_STYLE, YAML_SINGLE_QUOTED_SCALAR_STYLE}
+use Rattle.yaml_emit_laws_text.specs.emit_layout.scan.Tokens as tokens
+use Rattle.yaml_emit_laws_text.specs.emit_layout.emit_text.declared.Page.{Page}
+use Rattle.yaml_emit_laws_text.specs.emit_layout.emit_text.Scalars.{plain, single_quoted}
+use Rattle.yaml_emit_laws_text.specs.emit_layout.emit_text.Style.{allowed}
+use Rattle.yaml_emit_laws_text.specs.scan_history.declared.lexeme.Opens.{Opens}
+use Rattle.yaml_emit_laws_text.specs.scan_history.declared.lexeme.Opens.TheVariants as opening
+use Rattle.yaml_scan_laws_levels.specs.Fronts.{Rises}
+use Rattle.yaml_scan_laws_levels.specs.Tokens.{start_bodies}
+use Rattle.yaml_emit_laws_scalars.specs.PlainLaws.{may_be_plain}
+use Rattle.yaml_emit_laws_text.specs.emit_layout.scan.declared.yaml_encoding_t.{yaml_encoding_t}
+use Rattle.yaml_emit_laws_text.specs.emit_layout.scan.Tokens.{TokenBody}
+use Rattle.yaml_emit_laws_text.specs.scan_history.scan_model.Marks.{column_at}
+use Rattle.yaml_emit_laws_text.specs.scan_history.History.{indent, opened, start_of}
+use Rattle.yaml_emit_laws_text.specs.emit_layout.emit_text.declared.Cursor.{Cursor}
+use Rattle.yaml_emit_laws_text.specs.emit_layout.emit_text.declared.LineBreak.{LineBreak}
+use Rattle.yaml_emit_laws_text.specs.emit_layout.emit_text.Layout.{Layout, Rest, line, indicator}
+use Rattle.yaml_emit_laws_text.specs.Walk.{Left, bytes, first}
+use Rattle.yaml_scan_laws_levels.specs.Walks.{Where, Reads}
+use Rattle.yaml_emit_laws_scalars.specs.Stops.{stops_plain_at, begins_white, is_gap_byte}
+
+-- The lexemes up to a cursor, with levels `ls` and beside them `more`, told T. Where the line is bare, a key may begin, and the cursor's
+-- column is the text's.
+pub record Stage (x : yaml_encoding_t) (text : List ℕ) (c : Cursor) (o : Where) (ls more : List ℕ)
+    (T : List TokenBody → List TokenBody) : Type 0 where
+  pub reads : Reads x text o [] ls more T
+  pub flat : o.depth ≡ 0
+  pub broken : o.broken ≡ true
+  pub bare : c.bare ≡ true → (o.now ≡ true) × (column_at text o.at ≡ c.column)
+
+-- Behind a node: its levels are left to whoever closes them, and the line has text.
+pub record Goes (x : yaml_encoding_t) (text : List ℕ) (rest : Rest) (ls : List ℕ)
+    (T : List TokenBody → List TokenBody) : Type 0 where
+  pub behind : Cursor
+  pub place : Where
+  pub more : List ℕ
+  pub stage : Stage x text behind place ls more T
+  pub left : Left text place.at (bytes (rest behind))
+  pub bare : behind.bare ≡ false
+
+-- Where a text goes on as the layout does and then as `rest`, right of the innermost level or at it, these tokens come.
+abbrev pub Walks : Layout → (List TokenBody → List TokenBody) → List ℕ → Cursor → Rest → Type 0
+Walks a B ls c rest = (x : yaml_encoding_t) (text : List ℕ) (o : Where)
+    (T : List TokenBody → List TokenBody) → Stage x text c o ls [] T
+    → indent ls ≤ column_at text o.at → Left text o.at (bytes (a c rest))
+    → Goes x text rest ls (λ bs. T (B bs))
+
+-- Likewise behind other items, whose levels are still open.
+abbrev pub WalksOn : Layout → (List TokenBody → List TokenBody) → List ℕ → Cursor → Rest → Type 0
+WalksOn a B ls c rest = (x : yaml_encoding_t) (text : List ℕ) (o : Where) (more : List ℕ)
+    (T : List TokenBody → List TokenBody) → Stage x text c o ls more T
+    → Left text o.at (bytes (a c rest)) → Goes x text rest ls (λ bs. T (B bs))
+
+-- behind the white that bytes begin with stands no `#`
+unfoldable pub no_comment : List ℕ → Bool
+no_comment [] = true
+no_comment (b ∷ bs) = if is_gap_byte b then no_comment bs else not (b == 35)
+
+-- What follows a node in levels from m on: it stops a plain scalar, is no comment, and begins with white or is nothing.
+pub record Follows (m : ℕ) (rest : Rest) : Type 0 where
+  pub stops : (level : ℕ) → m ≤ level → (e : Cursor) → e.bare ≡ false
+      → stops_plain_at false level None (bytes (rest e)) ≡ true
+  pub calm : (e : Cursor) → e.bare ≡ false → no_comment (bytes (rest e)) ≡ true
+  pub white : (e : Cursor) → e.bare ≡ false → begins_white (bytes (rest e)) ≡ true
+
+-- no line feed follows white on a bare line, which would make one break of CR and LF
+abbrev pub NoFeed : Rest → Type 0
+NoFeed rest = (e : Cursor) → e.bare ≡ true → e.white ≡ true → first (bytes (rest e)) ≡ 10 → ⊥
+
+-- A bare line with white before it, at a column.
+pub record Lined (x : yaml_encoding_t) (text : List ℕ) (rest : Rest) (n : ℕ) (ls more : List ℕ)
+    (T : List TokenBody → List TokenBody) : Type 0 where
+  pub cursor : Cursor
+  pub place : Where
+  pub stage : Stage x text cursor place ls more T
+  pub left : Left text place.at (bytes (rest cursor))
+  pub bare : cursor.bare ≡ true
+  pub white : cursor.white ≡ true
+  pub column : cursor.column ≡ n
+
+-- A line leads there from every cursor, with every break: by a break and spaces, or by spaces alone, where the line is bare.
+abbrev pub LineIsWalked : Type 0
+LineIsWalked = (b : LineBreak) (n : ℕ) (x : yaml_encoding_t) (text : List ℕ) (c : Cursor)
+    (o : Where) (ls more : List ℕ) (T : List TokenBody → List TokenBody) (rest : Rest)
+    → Stage x text c o ls more T → NoFeed rest → Left text o.at (bytes (line b n c rest))
+    → Lined x text rest n ls more T
+
+-- ---- `-`
+
+-- what stands behind an indicator of a bare line, at that column, begins with white or is nothing
+abbrev pub Parted : ℕ → Rest → Type 0
+Parted n rest = (e : Cursor) → e.bare ≡ true → e.white ≡ false → e.column ≡ n
+    → begins_white (bytes (rest e)) ≡ true
+
+-- Behind an indicator of a bare line, in the innermost level.
+pub record Entered (x : yaml_encoding_t) (text : List ℕ) (rest : Rest) (n : ℕ) (ls : List ℕ)
+    (T : List TokenBody → List TokenBody) : Type 0 where
+  pub cursor : Cursor
+  pub place : Where
+  pub stage : Stage x text cursor place ls [] T
+  pub left : Left text place.at (bytes (rest cursor))
+  pub bare : cursor.bare ≡ true
+  pub white : cursor.white ≡ false
+  pub column : cursor.column ≡ n
+  pub right : column_at text place.at ≡ n
+
+-- A `-` at a column of a bare line: a level opens there, or is there, and all that is open right of it is closed.
+abbrev pub EntryIsWalked : Type 0
+EntryIsWalked = (x : yaml_encoding_t) (text : List ℕ) (c : Cursor) (o : Where) (n : ℕ)
+    (ls more new : List ℕ) (what : Opens) (T : List TokenBody → List TokenBody) (rest : Rest)
+    → Stage x text c o ls more T → c.bare ≡ true → c.white ≡ true → c.column ≡ n
+    → indent ls ≤ n + 1 → Rises (n + 1) more → opened true (n + 1) ls ≡ new
+    → start_of 0 (n + 1) ls opening.Sequence ≡ what
+    → Parted (n + 1) rest → Left text o.at (bytes (indicator 45 c rest))
+    → Entered x text rest (n + 1) new (λ bs. T (start_bodies what (tokens.block_entry ∷ bs)))
+
+-- ---- a plain scalar
+
+-- A plain value that isn't empty, as content in the innermost level.
+abbrev pub PlainIsWalked : Type 0
+PlainIsWalked = (page : Page) (ls : List ℕ) (c : Cursor) (value : List ℕ) (rest : Rest)
+    → IsUtf8 value → 0 < length value → may_be_plain page.unicode false (chars value) ≡ true
+    → 0 < page.indentation → indent ls ≤ page.indentation → Follows (indent ls) rest
+    → Walks (plain page false (chars value))
+    (λ bs. tokens.scalar value YAML_PLAIN_SCALAR_STYLE ∷ bs) ls c rest
+
+-- A single quoted value, as content in the innermost level.
+abbrev pub SingleIsWalked : Type 0
+SingleIsWalked = (page : Page) (ls : List ℕ) (c : Cursor) (value : List ℕ) (rest : Rest)
+    → IsUtf8 value → (allowed page.unicode (chars value)).single ≡ true
+    → 0 < page.indentation → Follows (indent ls) rest
+    → Walks (single_quoted page (chars value))
+    (λ bs. tokens.scalar value YAML_SINGLE_QUOTED_SCALAR_STYLE ∷ bs) ls c rest

@@ -1,0 +1,62 @@
+//! Each function's contract is a law.
+
+ghost use Rattle.yaml_emit_laws_pretty.specs.Walk.{EntryIsWalked, LineIsWalked, PlainIsWalked, SingleIsWalked};
+ghost use Rattle.yaml_emit_laws_pretty.specs.KeyLaws.{KeyIsShown, KeyIsWalked};
+ghost use Rattle.yaml_emit_laws_pretty.specs.Trees.{ItemsAreWalked};
+
+use yaml_emit_laws_scalars::{near_is_fresh, plain_has_a_gap, plain_stands, scalars_are_words, simple_keys_are_near, single_stands, styles_are_allowed};
+
+/// A line leads to its column, by a break and spaces or by spaces alone.
+pub fn line_is_walked()
+    ensures { LineIsWalked }
+{}
+
+/// A `-` opens a level or closes those right of it.
+pub fn entry_is_walked()
+    ensures { EntryIsWalked }
+{}
+
+/// A plain scalar is walked as content.
+pub fn plain_is_walked()
+    ensures { PlainIsWalked }
+{
+    plain_has_a_gap();
+    plain_stands();
+    scalars_are_words();
+}
+
+/// Sequences in sequences are walked, at any level.
+pub fn items_are_walked()
+    ensures { ItemsAreWalked }
+{
+    plain_is_walked();
+    plain_has_a_gap();
+    styles_are_allowed();
+}
+
+/// A plain simple key and its `:` are walked.
+pub fn key_is_walked()
+    ensures { KeyIsWalked }
+{
+    plain_has_a_gap();
+    scalars_are_words();
+    styles_are_allowed();
+    simple_keys_are_near();
+    near_is_fresh();
+}
+
+/// A single quoted scalar is walked as content.
+pub fn single_is_walked()
+    ensures { SingleIsWalked }
+{
+    single_stands();
+    scalars_are_words();
+}
+
+/// What a plain simple key writes begins with neither white nor a comment.
+pub fn key_is_shown()
+    ensures { KeyIsShown }
+{
+    plain_has_a_gap();
+    styles_are_allowed();
+}

@@ -1,0 +1,247 @@
+-- What is written for a character inside a plain or single quoted scalar is a part of a spelling.
+use Rattle.std.proofs.Common.{◌≡◌, ℕ, ◌+◌, ◌<◌, Bool, true, false, not, ◌&&◌, ◌||◌, ◌==◌, nat_lt, List, [], ◌∷◌, ◌++◌, replicate, refl, sym, ap, ◌∙◌, inl, inr, ◌⊎◌, arith, append-nil, encode_utf8, encode_utf8_all}
+use Rattle.std.proofs.lemmas.Bool.{true≢false}
+use Rattle.std.proofs.lemmas.Bool.Decides.{nat_tests}
+use Rattle.std.proofs.lemmas.Str.{encode_ascii}
+use lib.Utf8.{scalar}
+use Rattle.yaml_scan_history.specs.scan_model.Marks.{is_blank}
+use Rattle.yaml_emit_layout.specs.emit_text.declared.Cursor.{Cursor}
+use Rattle.yaml_emit_layout.specs.emit_text.declared.LineBreak.{LineBreak}
+use Rattle.yaml_emit_layout.specs.emit_text.declared.LineBreak.TheVariants.{Lf, Cr, CrLf}
+use Rattle.yaml_emit_layout.specs.emit_text.Text.{letter, is_break}
+use Rattle.yaml_emit_layout.specs.emit_text.Layout.{Layout, Rest, when, char, line, is_past}
+use Rattle.yaml_emit_layout.specs.emit_text.declared.Page.{Page}
+use Rattle.yaml_emit_layout.specs.emit_text.Quoted.{is_printable, first}
+use Rattle.yaml_emit_layout.specs.emit_text.Scalars.{cuts_at, text_char}
+use Rattle.yaml_emit_layout.specs.emit_text.Spelling.{in_front, break_text}
+use Rattle.yaml_emit_laws_text.specs.Spelling.{may_turn, QuotedPart, raw, doubled, fold, may_be_raw, MayStand, spelled, meant, is_raw_blank, is_fold, is_turn, may_follow}
+use Rattle.yaml_emit_laws_text.proofs.Values.{cond_true, cond_false}
+use Rattle.yaml_emit_laws_text.proofs.Bytes.{and_left, and_right, not_true, or_left, or_right, differs, apart}
+use Rattle.yaml_emit_laws_text.proofs.Escapes.{low_encodes, end_of, fold_bytes, fold_means, space_encodes}
+use Rattle.yaml_emit_laws_text.proofs.Back.{moved_by}
+use Rattle.yaml_emit_laws_scalars.proofs.Lines.{bool_cases, equal_from, line_start, after_blanks, blanks_column, blanks_kept, line_is}
+use Rattle.yaml_emit_laws_scalars.proofs.PlainParts.{IsOne, is_plain_end}
+
+-- ---- characters
+
+-- what a character of such a value is, by the one behind it
+pub record Shows (x next : ℕ) : Type 0 where
+  pub scalar : scalar x ≡ true
+  pub printable : is_printable x ≡ true
+  -- no space stands before a break or behind one
+  pub space : (x == 32 && is_break next) ≡ false
+  pub broken : (is_break x && next == 32) ≡ false
+
+abbrev pub AllShow : List ℕ → Type 0
+AllShow [] = Unit {0}
+AllShow (x ∷ xs) = Shows x (first xs) × AllShow xs
+
+-- the quote, or none
+abbrev pub quote_byte : Bool → ℕ
+quote_byte true = 39
+quote_byte false = 0
+
+no_printable : (x k : ℕ) → is_printable x ≡ true → is_printable k ≡ false → (x == k) ≡ false
+no_printable x k s n = differs x k (λ e. true≢false (sym s ∙ ap (λ t. is_printable t) e ∙ n))
+
+raw_test : (s a b d e f z q k m : Bool) → s ≡ true → a ≡ false → b ≡ false → d ≡ false → e ≡ false → f ≡ false → z ≡ false → q ≡ false → m ≡ false
+    → (s && not ((a || (b || (d || (e || f)))) || (z || (q || (m && k))))) ≡ true
+raw_test s a b d e f z q k m g h i j l r n o t = rw (g, h, i, j, l, r, n, o, t) refl
+
+raw_may : (quote : Bool) (x : ℕ) → scalar x ≡ true → is_printable x ≡ true → is_break x ≡ false → (quote && x == 39) ≡ false → may_be_raw (quote_byte quote) x ≡ true
+raw_may quote x s p inside q =
+    let p29 = or_right _ (x == 0x2029) inside in
+    let t29 = or_left _ (x == 0x2029) inside in
+    let p28 = or_right _ (x == 0x2028) t29 in
+    let t28 = or_left _ (x == 0x2028) t29 in
+    let p85 = or_right _ (x == 0x85) t28 in
+    let t85 = or_left _ (x == 0x85) t28 in
+    raw_test (scalar x) (x == 10) (x == 13) (x == 0x85) (x == 0x2028) (x == 0x2029) (x == 0) (x == quote_byte quote) (x == 92) (quote_byte quote == 34) s (or_left (x == 10) _ t85) (or_right _ (x == 13) t85) p85 p28 p29 (no_printable x 0 p refl) (no_quote quote q) (no_double quote)
+  where
+    no_quote : (quote : Bool) → (quote && x == 39) ≡ false → (x == quote_byte quote) ≡ false
+    no_quote true h = h
+    no_quote false h = no_printable x 0 p refl
+
+    no_double : (quote : Bool) → (quote_byte quote == 34) ≡ false
+    no_double true = refl
+    no_double false = refl
+
+unblank : (x : ℕ) → is_printable x ≡ true → (x == 32) ≡ false → is_blank x ≡ false
+unblank x p n = both (x == 32) (x == 9) n (no_printable x 9 p refl)
+  where
+    both : (a b : Bool) → a ≡ false → b ≡ false → (a || b) ≡ false
+    both false b p q = q
+    both true b p q = absurd (true≢false p)
+
+-- ---- a character is written as a part
+
+abbrev pub seat : Page → Bool → ℕ → ℕ → List ℕ → Layout
+seat page quote before x xs = text_char page quote (cuts_at page before x xs) x
+
+cut_is : (page : Page) (quote b : Bool) (x : ℕ) (c : Cursor) (rest : Rest) → b ≡ true → is_past page.width c ≡ true → text_char page quote b x c rest ≡ line page.line_break page.indentation c rest
+cut_is page quote true x c rest e p = cond_true (is_past page.width c) (line page.line_break page.indentation c rest) (char x c rest) p
+cut_is page quote false x c rest e p = absurd (true≢false (sym e))
+
+uncut_is : (page : Page) (quote b : Bool) (x : ℕ) (c : Cursor) (rest : Rest) → (b && is_past page.width c) ≡ false → (quote && x == 39) ≡ false → text_char page quote b x c rest ≡ char x c rest
+uncut_is page quote true x c rest e q = cond_false (is_past page.width c) (line page.line_break page.indentation c rest) (char x c rest) e
+uncut_is page quote false x c rest e q = ap (λ t. when t (char 39) c (λ d. char x d rest)) q
+
+doubled_is : (page : Page) (quote b : Bool) (x : ℕ) (c : Cursor) (rest : Rest) → b ≡ false → (quote && x == 39) ≡ true → text_char page quote b x c rest ≡ letter 39 ∷ letter x ∷ rest (moved_by (moved_by c))
+doubled_is page quote true x c rest e q = absurd (true≢false e)
+doubled_is page quote false x c rest e q = ap (λ t. when t (char 39) c (λ d. char x d rest)) q
+
+pub record Step (page : Page) (quote : Bool) (before x : ℕ) (xs : List ℕ) (c : Cursor) (last : QuotedPart) : Type 0 where
+  pub part : QuotedPart
+  pub letters : List ℕ
+  pub after : Cursor
+  pub stand : MayStand (quote_byte quote) part
+  pub follow : may_follow last part ≡ true
+  pub text : (rest : Rest) → seat page quote before x xs c rest ≡ in_front letters (rest after)
+  pub bytes : encode_utf8_all letters ≡ spelled part
+  pub means : meant part ≡ encode_utf8 x
+  pub blank : is_raw_blank part ≡ true → x ≡ 32
+  pub turn : is_turn part ≡ true → (x ≡ 32) × ((first xs == 32) ≡ false)
+  pub bare : (x == 32) ≡ false → after.bare ≡ false
+  pub one : quote ≡ false → IsOne page.indentation part x
+  pub column : after.column ≡ 0 → ⊥
+  pub kept : after.kept ≡ c.kept
+
+-- how the last part stands to the character before
+pub record Behind (before : ℕ) (c : Cursor) (last : QuotedPart) (value : List ℕ) : Type 0 where
+  pub blank : is_raw_blank last ≡ true → before ≡ 32
+  pub turn : is_turn last ≡ true → ((before ≡ 32) ⊎ (is_break before ≡ true)) × ((first value == 32) ≡ false)
+  pub bare : (before == 32) ≡ false → is_break before ≡ false → c.bare ≡ false
+
+pub some_spaces : (n : ℕ) → 0 < n → nat_lt 0 n ≡ true
+some_spaces n h = grind (arith, nat_tests)
+
+fold_may : (quote : Bool) (b : LineBreak) (n : ℕ) → nat_lt 0 n ≡ true → MayStand (quote_byte quote) (fold (record { end = end_of b; spaces = n }) [])
+unfolding may_turn
+fold_may quote b n h = h
+
+-- what a cut needs
+record CutNeeds (page : Page) (before x : ℕ) (xs : List ℕ) : Type 0 where
+  cuts : page.cuts ≡ true
+  space : x ≡ 32
+  behind : (before == 32) ≡ false
+  next : (first xs == 32) ≡ false
+
+cut_needs : (page : Page) (before x : ℕ) (xs : List ℕ) → cuts_at page before x xs ≡ true → CutNeeds page before x xs
+cut_needs page before x xs e =
+    let a = and_right page.cuts _ e in
+    let b = and_right (x == 32) _ a in
+    let d = and_right (not (before == 32)) _ b in
+    record { cuts = and_left page.cuts _ e; space = equal_from x 32 (and_left (x == 32) _ a); behind = not_true (before == 32) (and_left (not (before == 32)) _ b); next = not_true (first xs == 32) (and_left (not (first xs == 32)) _ d) }
+
+pub fold_follows : (last q : QuotedPart) → is_fold q ≡ true → is_raw_blank q ≡ false → is_raw_blank last ≡ false → is_turn last ≡ false → may_follow last q ≡ true
+fold_follows last q a b d e = rw (a, b, d, e) refl
+
+other_follows : (last q : QuotedPart) → is_fold q ≡ false → is_raw_blank q ≡ false → may_follow last q ≡ true
+other_follows last q a b = rw (a, b) refl
+
+blank_follows : (last q : QuotedPart) → is_fold q ≡ false → is_turn last ≡ false → may_follow last q ≡ true
+blank_follows last q a e = rw (a, e) (no_and (is_raw_blank q))
+  where
+    no_and : (b : Bool) → not (b && false) ≡ true
+    no_and true = refl
+    no_and false = refl
+
+own_plain : (b : LineBreak) → is_plain_end (end_of b) ≡ true
+own_plain Lf = refl
+own_plain Cr = refl
+own_plain CrLf = refl
+
+lined_column : (n : ℕ) (c : Cursor) → 0 < n → (after_blanks n (line_start c)).column ≡ 0 → ⊥
+lined_column n c some z = let e = blanks_column n (line_start c) in omega (arith, some, z, e)
+
+step_cut : (page : Page) (quote : Bool) (before x : ℕ) (xs : List ℕ) (c : Cursor) (last : QuotedPart) → (page.cuts ≡ true → 0 < page.indentation) → Shows x (first xs) → Behind before c last (x ∷ xs) → is_break before ≡ false → cuts_at page before x xs ≡ true → is_past page.width c ≡ true
+    → Step page quote before x xs c last
+step_cut page quote before x xs c last deep s h inside m p =
+    let needs = cut_needs page before x xs m in
+    let n = page.indentation in
+    let b = page.line_break in
+    let apart_from = apart before 32 needs.behind in
+    let no_turn : is_turn last ≡ false = bool_cases (is_turn last) (λ t. elim ((h.turn t).0) [ inl e ↦ absurd (apart_from e) | inr e ↦ absurd (true≢false (sym e ∙ inside)) ]) (λ f. f) in
+    record {
+      part = fold (record { end = end_of b; spaces = n }) [];
+      letters = break_text b ++ replicate n 32;
+      after = after_blanks n (line_start c);
+      stand = fold_may quote b n (some_spaces n (deep needs.cuts));
+      follow = fold_follows last (fold (record { end = end_of page.line_break; spaces = page.indentation }) []) refl refl (bool_cases (is_raw_blank last) (λ t. absurd (apart_from (h.blank t))) (λ f. f)) no_turn;
+      text = λ rest. cut_is page quote (cuts_at page before x xs) x c rest m p ∙ line_is b n c rest (h.bare needs.behind inside);
+      bytes = fold_bytes b n;
+      means = fold_means b n ∙ sym space_encodes ∙ ap (λ k. encode_utf8 k) (sym needs.space);
+      blank = λ t. absurd (true≢false (sym t));
+      turn = λ t. (needs.space, needs.next);
+      bare = λ f. absurd (true≢false (sym (ap (λ k. k == 32) needs.space) ∙ f));
+      one = λ f. (needs.space, refl, refl, own_plain b);
+      column = lined_column n c (deep needs.cuts);
+      kept = blanks_kept n (line_start c);
+    }
+
+moved_on : (n : ℕ) → n + 1 ≡ 0 → ⊥
+moved_on n e = omega (arith, e)
+
+step_doubled : (page : Page) (quote : Bool) (before x : ℕ) (xs : List ℕ) (c : Cursor) (last : QuotedPart) → (quote && x == 39) ≡ true → cuts_at page before x xs ≡ false → Step page quote before x xs c last
+unfolding in_front
+step_doubled page quote before x xs c last q m =
+    let same = equal_from x 39 (and_right quote (x == 39) q) in
+    let on = and_left quote (x == 39) q in
+    let small : encode_utf8 39 ≡ 39 ∷ [] = encode_ascii 39 (omega arith) in
+    record {
+      part = doubled;
+      letters = 39 ∷ x ∷ [];
+      after = moved_by (moved_by c);
+      stand = ap (λ b. quote_byte b) on;
+      follow = other_follows last doubled refl refl;
+      text = λ rest. doubled_is page quote (cuts_at page before x xs) x c rest m q;
+      bytes = ap (λ k. encode_utf8_all (39 ∷ k ∷ [])) same ∙ low_encodes (39 ∷ 39 ∷ []) (omega arith, (omega arith, tt));
+      means = sym small ∙ ap (λ k. encode_utf8 k) (sym same);
+      blank = λ t. absurd (true≢false (sym t));
+      turn = λ t. absurd (true≢false (sym t));
+      bare = λ f. refl;
+      one = λ f. absurd (true≢false (sym on ∙ f));
+      column = moved_on (c.column + 1);
+      kept = refl;
+    }
+
+step_raw : (page : Page) (quote : Bool) (before x : ℕ) (xs : List ℕ) (c : Cursor) (last : QuotedPart) → Shows x (first xs) → is_break x ≡ false → Behind before c last (x ∷ xs) → (quote && x == 39) ≡ false → (cuts_at page before x xs && is_past page.width c) ≡ false → Step page quote before x xs c last
+unfolding in_front
+step_raw page quote before x xs c last s inside h q m = record {
+  part = raw x;
+  letters = x ∷ [];
+  after = moved_by c;
+  stand = raw_may quote x s.scalar s.printable inside q;
+  follow = bool_cases (x == 32)
+      (λ t. blank_follows last (raw x) refl (bool_cases (is_turn last) (λ k. absurd (true≢false (sym t ∙ (h.turn k).1))) (λ f. f)))
+      (λ f. other_follows last (raw x) refl (unblank x s.printable f));
+  text = λ rest. uncut_is page quote (cuts_at page before x xs) x c rest m q;
+  bytes = append-nil (encode_utf8 x);
+  means = refl;
+  blank = λ t. bool_cases (x == 32) (λ e. equal_from x 32 e) (λ f. absurd (true≢false (sym t ∙ unblank x s.printable f)));
+  turn = λ t. absurd (true≢false (sym t));
+  bare = λ f. refl;
+  one = λ f. refl;
+  column = moved_on c.column;
+  kept = refl;
+}
+
+quote_uncut : (page : Page) (quote : Bool) (before x : ℕ) (xs : List ℕ) → (quote && x == 39) ≡ true → cuts_at page before x xs ≡ false
+quote_uncut page quote before x xs q =
+    bool_cases (cuts_at page before x xs)
+    (λ t. let needs = cut_needs page before x xs t in absurd (true≢false (sym (and_right quote (x == 39) q) ∙ ap (λ k. k == 39) needs.space)))
+    (λ f. f)
+
+space_first : (page : Page) (before x : ℕ) (xs : List ℕ) → (x == 32) ≡ false → cuts_at page before x xs ≡ false
+space_first page before x xs n = bool_cases (cuts_at page before x xs) (λ t. let needs = cut_needs page before x xs t in absurd (true≢false (sym (ap (λ k. k == 32) needs.space) ∙ n))) (λ f. f)
+
+pub step : (page : Page) (quote : Bool) (before x : ℕ) (xs : List ℕ) (c : Cursor) (last : QuotedPart) → (page.cuts ≡ true → 0 < page.indentation) → Shows x (first xs) → is_break x ≡ false → Behind before c last (x ∷ xs) → (is_break before && x == 32) ≡ false → Step page quote before x xs c last
+step page quote before x xs c last deep s inside h apart =
+    bool_cases (quote && x == 39)
+    (λ q. step_doubled page quote before x xs c last q (quote_uncut page quote before x xs q))
+    (λ q. bool_cases (cuts_at page before x xs && is_past page.width c)
+    (λ m. let cuts = and_left (cuts_at page before x xs) (is_past page.width c) m in
+    let needs = cut_needs page before x xs cuts in
+    let no_break : is_break before ≡ false = bool_cases (is_break before) (λ t. absurd (true≢false (sym (rw t (ap (λ k. k == 32) needs.space)) ∙ apart))) (λ f. f) in
+    step_cut page quote before x xs c last deep s h no_break cuts (and_right (cuts_at page before x xs) (is_past page.width c) m))
+    (λ m. step_raw page quote before x xs c last s inside h q m))

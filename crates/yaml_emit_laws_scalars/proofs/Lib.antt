@@ -1,0 +1,18 @@
+pub mod Standing
+mod GapWords
+pub mod PlainParts
+pub mod PlainBack
+pub mod Lines
+pub mod Letters
+pub mod Writing
+mod Shown
+mod Single
+pub mod PlainStart
+pub mod PlainLaw
+pub mod Stopping
+pub mod Near
+pub mod OneLine
+pub mod NearKeys
+pub mod Solid
+mod Styles
+mod Stands

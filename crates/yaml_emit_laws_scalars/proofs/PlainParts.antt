@@ -1,0 +1,331 @@
+-- How a plain scalar's parts are read: characters, single spaces and folds.
+use Rattle.std.proofs.Common.{◌≡◌, ◌≢◌, ℕ, zero, suc, ◌+◌, ◌<◌, ◌≤◌, Bool, true, false, ◌&&◌, ◌==◌, nat_lt, List, [], ◌∷◌, ◌++◌, length, replicate, refl, sym, ap, subst, ◌∙◌, inl, inr, arith, add-zero, encode_utf8}
+use Rattle.std.proofs.lemmas.Bool.{cases_Bool, cases_lt, true≢false}
+use Rattle.std.proofs.lemmas.Bool.Decides.{nat_tests}
+use Rattle.yaml_scan_history.specs.scan_model.Marks.{byte, break_of, break_width, ends_break, column_at, is_blank, is_blank_or_end}
+use Rattle.yaml_scan_history.specs.scan_model.Breaks.{break_value, feed_at}
+use Rattle.yaml_scan_history.specs.scan_scalars.Pieces.{Piece, Kept, Blank, Break}
+use Rattle.yaml_scan_history.specs.scan_scalars.Plain.{is_bracket, after_white, leads, Takes, spot_at, is_nothing}
+use Rattle.yaml_scan_history.proofs.PlainLemmas.{leads-blank, white-blank, spot_blank, spot_break, seat_break, blank_inside}
+use Rattle.yaml_scan_history.proofs.MarksLemmas.{past_break, column_more}
+use Rattle.yaml_scan_history.proofs.HasLemmas.{Has, has_front, has_rest}
+use Rattle.yaml_emit_layout.specs.emit_text.Quoted.{first}
+use Rattle.yaml_emit_layout.specs.emit_text.Style.{last_or}
+use Rattle.yaml_emit_laws_text.specs.Spelling.{LineEnd, feed, return, return_feed, next_line, line_separator, paragraph_separator, end_bytes, end_means, QuotedPart, raw, doubled, named, numbered, fold, joint, spelling}
+use Rattle.yaml_emit_laws_text.proofs.Chars.{encode_1, encode_2, encode_3, encode_4}
+use Rattle.yaml_emit_laws_text.proofs.Values.{keeps, blanks_of, read_as, all_read_as, read_kept as raw_kept, read_blank as raw_blank}
+use Rattle.yaml_emit_laws_text.proofs.Bytes.{differs, calm_end, calm_break, calm_from}
+use Rattle.yaml_emit_laws_scalars.proofs.Standing.{Read, read_blank, read_break, Stand, column_on, Stays, Through, CharAt, Plainly, char_at, through_byte, through_both}
+
+-- ---- what the parts say
+
+-- LF, CR, and both
+abbrev pub is_plain_end : LineEnd → Bool
+is_plain_end feed = true
+is_plain_end return = true
+is_plain_end return_feed = true
+is_plain_end next_line = false
+is_plain_end line_separator = false
+is_plain_end paragraph_separator = false
+
+-- a character as itself, or a space as a fold into a line of so many spaces
+abbrev pub IsOne : ℕ → QuotedPart → ℕ → Type 0
+IsOne n (raw c) x = c ≡ x
+IsOne n doubled x = ⊥
+IsOne n (named b bytes) x = ⊥
+IsOne n (numbered b digits c) x = ⊥
+IsOne n (fold t ts) x = (x ≡ 32) × (t.spaces ≡ n) × (ts ≡ []) × (is_plain_end t.end ≡ true)
+IsOne n (joint t ts) x = ⊥
+
+-- the characters, one by one
+abbrev pub Spells : ℕ → List QuotedPart → List ℕ → Type 0
+Spells n [] [] = Unit {0}
+Spells n [] (x ∷ xs) = ⊥
+Spells n (p ∷ ps) [] = ⊥
+Spells n (p ∷ ps) (x ∷ xs) = IsOne n p x × Spells n ps xs
+
+-- a character that plain text may have, by the one before it and the one behind it
+pub record Good (flow : Bool) (before x next : ℕ) : Type 0 where
+  pub plainly : Plainly x
+  pub some : x ≢ 0
+  pub tab : x ≢ 9
+  pub colon : x ≡ 58 → (next ≢ 0) × (next ≢ 32) × (next ≢ 9)
+  pub hash : x ≡ 35 → before ≢ 32
+  pub bracket : (flow && is_bracket x) ≡ false
+  pub odd : (flow && x == 58) ≡ false
+  pub ask : (flow && x == 63) ≡ false
+
+abbrev pub AreGood : Bool → ℕ → List ℕ → Type 0
+AreGood flow before [] = Unit {0}
+AreGood flow before (x ∷ xs) = Good flow before x (first xs) × AreGood flow x xs
+
+-- ---- a character
+
+not_blank : (x : ℕ) → x ≢ 32 → x ≢ 9 → is_blank x ≡ false
+not_blank x m n = rw (differs x 32 m, differs x 9 n) refl
+
+high_blank : (b : ℕ) → 192 ≤ b → is_blank b ≡ false
+high_blank b h = grind (arith, nat_tests)
+
+-- the byte that begins a character is white or the end only where the character is
+pub record Firm (text : List ℕ) (p x : ℕ) : Type 0 where
+  pub blank : x ≢ 32 → x ≢ 9 → is_blank (byte text p) ≡ false
+  pub some : x ≢ 0 → (byte text p == 0) ≡ false
+  pub same : (k : ℕ) → k < 128 → byte text p ≡ k → x ≡ k
+
+pub firm : (flow : Bool) (level : ℕ) (text : List ℕ) (p x : ℕ) (bytes : List ℕ) → CharAt flow level text p x bytes → Firm text p x
+firm flow level text p x bytes c =
+    let here = c.here in
+    elim (cases_lt x 128) [
+      | inl l ↦
+          let e : byte text p ≡ x = here ∙ c.low l in
+          record {
+            blank = λ m n. ap (λ k. is_blank k) e ∙ not_blank x m n;
+            some = λ m. ap (λ k. k == 0) e ∙ differs x 0 m;
+            same = λ k small f. sym e ∙ f;
+          }
+      | inr l ↦
+          let big = c.high l in
+          record {
+            blank = λ m n. ap (λ k. is_blank k) here ∙ high_blank c.first big;
+            some = λ m. ap (λ k. k == 0) here ∙ differs c.first 0 (λ f. omega arith);
+            same = λ k small f. absurd (omega (arith, here, big, f, small));
+          }
+    ]
+
+-- behind a colon stands something
+abbrev pub FirmNext : List ℕ → ℕ → ℕ → Type 0
+FirmNext text p x = x ≡ 58 → is_blank_or_end text (p + 1) ≡ false
+
+pub when_is : (b : ℕ) (k : ℕ) (t : Bool) → (b ≡ k → t ≡ false) → (b == k && t) ≡ false
+when_is b k t f = elim (cases_Bool (b == k)) [
+  | inl e ↦ rw e (f (equal b k e))
+  | inr e ↦ rw e refl
+]
+  where
+    equal : (b k : ℕ) → (b == k) ≡ true → b ≡ k
+    equal b k e = grind (arith, nat_tests)
+
+bracket_is : (flow : Bool) (text : List ℕ) (p x : ℕ) → Firm text p x → (flow && is_bracket x) ≡ false → (flow && is_bracket (byte text p)) ≡ false
+unfolding is_bracket
+bracket_is false text p x f h = refl
+bracket_is true text p x f h =
+    let no : (k : ℕ) → k < 128 → is_bracket k ≡ true → (byte text p == k) ≡ false = λ k small e. differs (byte text p) k (λ g. true≢false (sym (ap (λ y. is_bracket y) (f.same k small g) ∙ e) ∙ h)) in
+    rw (no 44 (omega arith) refl, no 91 (omega arith) refl, no 93 (omega arith) refl, no 123 (omega arith) refl, no 125 (omega arith) refl) refl
+
+colon_is : (flow : Bool) (text : List ℕ) (p x : ℕ) → Firm text p x → (flow && x == 58) ≡ false → (flow && byte text p == 58) ≡ false
+colon_is false text p x f h = refl
+colon_is true text p x f h = differs (byte text p) 58 (λ g. true≢false (sym (ap (λ k. k == 58) (f.same 58 (omega arith) g)) ∙ h))
+
+pub stays_at : (flow : Bool) (level : ℕ) (text : List ℕ) (p before x next : ℕ) → Firm text p x → Good flow before x next → FirmNext text p x → Stand level text p before → Stays flow text p
+stays_at flow level text p before x next f g n s = record {
+  some = f.some g.some;
+  hash = when_is (byte text p) 35 (after_white text p) (λ e. no_white (after_white text p) (λ w. g.hash (f.same 35 (omega arith) e) (s.white w)));
+  colon = when_is (byte text p) 58 (is_blank_or_end text (p + 1)) (λ e. n (f.same 58 (omega arith) e));
+  bracket = bracket_is flow text p x f g.bracket;
+  odd = colon_is flow text p x f g.odd;
+}
+  where
+    no_white : (b : Bool) → (b ≡ true → ⊥) → b ≡ false
+    no_white true h = absurd (h refl)
+    no_white false h = refl
+
+pub char_through : (flow : Bool) (level : ℕ) (text : List ℕ) (p before x next : ℕ) → Good flow before x next → x ≢ 32 → FirmNext text p x → Stand level text p before → Has text p (encode_utf8 x)
+    → Through flow level text p (keeps (encode_utf8 x)) (p + length (encode_utf8 x))
+char_through flow level text p before x next g space n s h =
+    let c = char_at flow level text p x g.plainly h in
+    let f = firm flow level text p x (encode_utf8 x) c in
+    let k = stays_at flow level text p before x next f g n s in
+    let one = through_byte flow level text p c.first before s k c.here (ap (λ b. is_blank b) (sym c.here) ∙ f.blank space g.tab) c.ends c.width in
+    let both = through_both flow level text p (p + 1) (p + length (encode_utf8 x)) (Kept (c.first ∷ []) ∷ []) (keeps c.rest) one (c.tail one.stand) in
+    subst (λ (bs : List ℕ). Through flow level text p (keeps bs) (p + length (encode_utf8 x))) (sym c.is) both
+
+-- ---- a space
+
+no_tab : (b : ℕ) (x : Bool) → b ≡ 32 → (b == 9 && x) ≡ false
+no_tab b x h = grind (arith, nat_tests)
+
+space_blank : (b : ℕ) → b ≡ 32 → is_blank b ≡ true
+space_blank b h = grind (arith, nat_tests)
+
+pub space_spot : (flow : Bool) (level : ℕ) (text : List ℕ) (p : ℕ) → byte text p ≡ 32 → spot_at flow level text p ≡ Takes (Blank 32) (p + 1)
+space_spot flow level text p h =
+    let calm = calm_from 32 (omega arith) (omega arith) in
+    spot_blank flow level text p (rw h (calm_break 32 _ _ calm)) (space_blank (byte text p) h) (no_tab (byte text p) (leads text p && nat_lt (column_at text p) level) h)
+    ∙ ap (λ b. Takes (Blank b) (p + 1)) h
+
+-- columns and lines behind a space
+pub record Spaced (text : List ℕ) (p : ℕ) : Type 0 where
+  pub ends : ends_break text p ≡ false
+  pub column : column_at text (p + 1) ≡ column_at text p + 1
+  pub leading : leads text (p + 1) ≡ leads text p
+  pub white : after_white text (p + 1) ≡ true
+  pub inside : p < length text
+
+pub spaced : (text : List ℕ) (p : ℕ) → byte text p ≡ 32 → Spaced text p
+spaced text p h =
+    let calm = calm_from 32 (omega arith) (omega arith) in
+    let ends : ends_break text p ≡ false = rw h (calm_end _ _ 32 _ calm) in
+    let blank = space_blank (byte text p) h in
+    record { ends = ends; column = column_more text p ends (rw h refl); leading = leads-blank text p blank; white = white-blank text p blank; inside = blank_inside text p blank }
+
+further : (b : Bool) (m n level : ℕ) → n ≡ m + 1 → (b && nat_lt m level) ≡ false → (b && nat_lt n level) ≡ false
+further false m n level e h = refl
+further true m n level e h = grind (arith, nat_tests)
+
+pub stand_space : (level : ℕ) (text : List ℕ) (p before : ℕ) → byte text p ≡ 32 → Stand level text p before → Stand level text (p + 1) 32
+stand_space level text p before h s =
+    let d = spaced text p h in
+    record {
+      column = column_on text p d.ends s.column;
+      inner = ap (λ b. b && nat_lt (column_at text (p + 1)) level) d.leading ∙ further (leads text p) (column_at text p) (column_at text (p + 1)) level d.column s.inner;
+      white = λ e. refl;
+    }
+
+-- ---- a fold
+
+-- behind the break and the spaces
+pub record LinedUp (text : List ℕ) (q n : ℕ) : Type 0 where
+  pub column : column_at text (q + n) ≡ n
+  pub leading : leads text (q + n) ≡ true
+  pub inside : q ≤ length text → q + n ≤ length text
+
+lined_up : (text : List ℕ) (q k n : ℕ) → Has text q (replicate n 32) → column_at text q ≡ k → leads text q ≡ true → (column_at text (q + n) ≡ k + n) × (leads text (q + n) ≡ true)
+lined_up text q k zero h c l =
+    let z : q + 0 ≡ q = omega arith in
+    let y : k + 0 ≡ k = omega arith in
+    rw (z, y) (c, l)
+lined_up text q k (suc n) (e, h) c l =
+    let d = spaced text q e in
+    let far : q + suc n ≡ q + 1 + n = omega arith in
+    let deep : k + suc n ≡ k + 1 + n = omega arith in
+    rw (far, deep) (lined_up text (q + 1) (k + 1) n h (d.column ∙ ap (λ i. i + 1) c) (d.leading ∙ l))
+
+blanks_read : (flow : Bool) (level : ℕ) (text : List ℕ) (q n : ℕ) (ps : List Piece) (e place : ℕ) (broke : Bool) → Has text q (replicate n 32) → is_nothing ps ≡ false
+    → Read flow level text (q + n) ps e place broke → Read flow level text q (blanks_of n ++ ps) e place broke
+blanks_read flow level text q zero ps e place broke h some r = rw add-zero at r
+blanks_read flow level text q (suc n) ps e place broke (b, h) some r =
+    let d = spaced text q b in
+    let far : q + suc n ≡ q + 1 + n = omega arith in
+    read_blank flow level text q 32 (blanks_of n ++ ps) e place broke (space_spot flow level text q b) d.inside (some_behind n ps some)
+    (blanks_read flow level text (q + 1) n ps e place broke h some (subst (λ k. Read flow level text k ps e place broke) far r))
+  where
+    some_behind : (n : ℕ) (ps : List Piece) → is_nothing ps ≡ false → is_nothing (blanks_of n ++ ps) ≡ false
+    some_behind zero ps h = h
+    some_behind (suc n) ps h = refl
+
+-- an end of a line stands there, before a space
+pub record EndAt (text : List ℕ) (p : ℕ) (e : LineEnd) : Type 0 where
+  width : break_width text p ≡ length (end_bytes e)
+  some : 0 < length (end_bytes e)
+  read : feed_at text p ≡ end_means e
+
+end_at : (text : List ℕ) (p : ℕ) (e : LineEnd) (xs : List ℕ) → is_plain_end e ≡ true → Has text p (end_bytes e ++ 32 ∷ xs) → EndAt text p e
+unfolding break_value break_of
+end_at text p feed xs good (a, (b, h)) = record { width = rw a refl; some = omega arith; read = rw a refl }
+end_at text p return xs good (a, (b, h)) = record { width = rw (a, b) refl; some = omega arith; read = rw (a, b) refl }
+end_at text p return_feed xs good (a, (b, h)) = record { width = rw (a, b) refl; some = omega arith; read = rw (a, b) refl }
+end_at text p next_line xs good h = absurd (true≢false (sym good))
+end_at text p line_separator xs good h = absurd (true≢false (sym good))
+end_at text p paragraph_separator xs good h = absurd (true≢false (sym good))
+
+-- a fold, and what stands behind it
+pub record Folded (flow : Bool) (level : ℕ) (text : List ℕ) (p n : ℕ) (e : LineEnd) : Type 0 where
+  pub reads : (ps : List Piece) (f place : ℕ) (broke : Bool) → is_nothing ps ≡ false → Read flow level text (p + length (end_bytes e) + n) ps f place broke
+      → Read flow level text p (Break (end_means e) ∷ (blanks_of n ++ ps)) f place broke
+  pub stand : Stand level text (p + length (end_bytes e) + n) 32
+
+some_blanks : (n : ℕ) (ps : List Piece) → is_nothing ps ≡ false → is_nothing (blanks_of n ++ ps) ≡ false
+some_blanks zero ps h = h
+some_blanks (suc n) ps h = refl
+
+not_less : (n level : ℕ) → level ≤ n → nat_lt n level ≡ false
+not_less n level h = grind (arith, nat_tests)
+
+pub folded_at : (flow : Bool) (level : ℕ) (text : List ℕ) (p m : ℕ) (e : LineEnd) → is_plain_end e ≡ true → level ≤ suc m → Has text p (end_bytes e ++ replicate (suc m) 32) → Folded flow level text p (suc m) e
+folded_at flow level text p m e good deep h =
+    let n = suc m in
+    let a = end_at text p e (replicate m 32) good h in
+    let some : 0 < break_width text p = let w = a.width in let s = a.some in omega (arith, w, s) in
+    let past = past_break text p some in
+    let seat = seat_break text p some in
+    let q = p + length (end_bytes e) in
+    let same : p + break_width text p ≡ q = ap (λ k. p + k) a.width in
+    let blanks = has_rest text p (end_bytes e) (replicate n 32) h in
+    let up = lined_up text q 0 n blanks (subst (λ k. column_at text k ≡ 0) same past.column) (subst (λ k. leads text k ≡ true) same (sym seat.leading)) in
+    let col : column_at text (q + n) ≡ n = up.0 ∙ (let z : 0 + n ≡ n = omega arith in z) in
+    let spot : spot_at flow level text p ≡ Takes (Break (end_means e)) q = spot_break flow level text p some ∙ ap (λ v. Takes (Break v) (p + break_width text p)) a.read ∙ ap (λ k. Takes (Break (end_means e)) k) same in
+    let more : p < q = let s = a.some in omega (arith, s) in
+    record {
+      reads = λ ps f place broke nonempty r.
+          read_break flow level text p q (end_means e) (blanks_of n ++ ps) f place broke spot more (subst (λ k. k ≤ length text) same past.inside) (some_blanks n ps nonempty)
+          (blanks_read flow level text q n ps f place broke blanks nonempty r);
+      stand = record {
+        column = omega (arith, col);
+        inner = ap (λ k. leads text (q + n) && nat_lt k level) col ∙ ap (λ t. leads text (q + n) && t) (not_less n level deep) ∙ and_none (leads text (q + n));
+        white = λ w. refl;
+      };
+    }
+  where
+    and_none : (a : Bool) → (a && false) ≡ false
+    and_none true = refl
+    and_none false = refl
+
+-- ---- all parts
+
+record SomeByte (bs : List ℕ) : Type 0 where
+  byte : ℕ
+  rest : List ℕ
+  is : bs ≡ byte ∷ rest
+
+encoded : (c : ℕ) → SomeByte (encode_utf8 c)
+encoded c =
+    elim (cases_lt c 128) [
+      | inl a ↦ record { byte = _; rest = _; is = encode_1 c a }
+      | inr a ↦ elim (cases_lt c 2048) [
+        | inl b ↦ record { byte = _; rest = _; is = encode_2 c a b }
+        | inr b ↦ elim (cases_lt c 65536) [
+          | inl d ↦ record { byte = _; rest = _; is = encode_3 c b d }
+          | inr d ↦ record { byte = _; rest = _; is = encode_4 c d }
+        ]
+      ]
+    ]
+
+some_part : (n x : ℕ) (q : QuotedPart) (ps : List Piece) → IsOne n q x → is_nothing (read_as q ++ ps) ≡ false
+some_part n x (raw c) ps e =
+    elim (cases_Bool (is_blank c)) [
+      | inl b ↦ subst (λ (t : List Piece). is_nothing (t ++ ps) ≡ false) (sym (raw_blank c b)) refl
+      | inr b ↦ let s = encoded c in subst (λ (t : List Piece). is_nothing (t ++ ps) ≡ false) (sym (raw_kept c b)) (subst (λ (t : List ℕ). is_nothing (keeps t ++ ps) ≡ false) (sym s.is) refl)
+    ]
+some_part n x doubled ps e = absurd e
+some_part n x (named b bytes) ps e = absurd e
+some_part n x (numbered b digits c) ps e = absurd e
+some_part n x (fold t ts) ps e = refl
+some_part n x (joint t ts) ps e = absurd e
+
+some_parts : (n : ℕ) (ps : List QuotedPart) (x : ℕ) (xs : List ℕ) → Spells n ps (x ∷ xs) → is_nothing (all_read_as ps) ≡ false
+unfolding all_read_as
+some_parts n [] x xs h = absurd h
+some_parts n (p ∷ ps) x xs (a, h) = some_part n x p (all_read_as ps) a
+
+-- what follows a part that is white
+pub behind_white : (n : ℕ) (ps : List QuotedPart) (xs : List ℕ) → Spells n ps xs → (last_or 32 xs == 32) ≡ false → is_nothing (all_read_as ps) ≡ false
+unfolding last_or
+behind_white n ps [] h l = absurd (true≢false l)
+behind_white n ps (x ∷ xs) h l = some_parts n ps x xs h
+
+-- the character behind a colon
+pub colon_next : (flow : Bool) (level n : ℕ) (text : List ℕ) (p before : ℕ) (ps : List QuotedPart) (xs : List ℕ) → Spells n ps xs → AreGood flow before xs → Has text p (spelling ps)
+    → (first xs ≢ 0) × (first xs ≢ 32) × (first xs ≢ 9) → is_blank_or_end text p ≡ false
+unfolding spelling
+colon_next flow level n text p before ps [] s g h (a, b, c) = absurd (a refl)
+colon_next flow level n text p before [] (x ∷ xs) s g h d = absurd s
+colon_next flow level n text p before (raw c ∷ ps) (x ∷ xs) (e, s) (g, gs) h (a, b, d) =
+    let at = char_at flow level text p x g.plainly (subst (λ k. Has text p (encode_utf8 k)) e (has_front text p (encode_utf8 c) (spelling ps) h)) in
+    let f = firm flow level text p x (encode_utf8 x) at in
+    rw (f.blank b d, f.some a, at.width) refl
+colon_next flow level n text p before (doubled ∷ ps) (x ∷ xs) (e, s) g h d = absurd e
+colon_next flow level n text p before (named i bytes ∷ ps) (x ∷ xs) (e, s) g h d = absurd e
+colon_next flow level n text p before (numbered i digits c ∷ ps) (x ∷ xs) (e, s) g h d = absurd e
+colon_next flow level n text p before (fold t ts ∷ ps) (x ∷ xs) (e, s) g h (a, b, d) = absurd (b e.0)
+colon_next flow level n text p before (joint t ts ∷ ps) (x ∷ xs) (e, s) g h d = absurd e

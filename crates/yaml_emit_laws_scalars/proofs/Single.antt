@@ -1,0 +1,59 @@
+-- What an emitter writes between single quotes is read back, in lines or in one.
+use Rattle.std.proofs.Common.{◌≡◌, ℕ, ◌+◌, ◌<◌, true, List, [], ◌∷◌, ◌++◌, length, Ok, refl, sym, ap, subst, ◌∙◌, arith, encode_utf8_all, IsUtf8, false}
+use Rattle.std.proofs.lemmas.Bool.{true≢false}
+use Rattle.std.proofs.lemmas.Str.{encode_ascii, encodes-append, encodes-chars, scalars-chars}
+use Rattle.std.specs.Str.{chars}
+use Rattle.yaml_scan_history.specs.scan_model.Marks.{byte}
+use Rattle.yaml_scan_history.specs.scan_words.Written.{HasAt}
+use Rattle.yaml_scan_history.specs.scan_scalars.Quoted.{single_quoted_at}
+use Rattle.yaml_emit_layout.specs.emit_text.declared.Cursor.{Cursor}
+use Rattle.yaml_emit_layout.specs.emit_text.declared.Page.{Page}
+use Rattle.yaml_emit_layout.specs.emit_text.Text.{letter}
+use Rattle.yaml_emit_layout.specs.emit_text.Layout.{char}
+use Rattle.yaml_emit_layout.specs.emit_text.Spelling.{in_front}
+use Rattle.yaml_emit_layout.specs.emit_text.Style.{allowed}
+use Rattle.yaml_emit_laws_text.specs.Spelling.{doubled, spelling, meaning, quoted}
+use Rattle.yaml_emit_laws_text.specs.ReadBack.{between_single, is_one_line}
+use Rattle.yaml_emit_laws_text.specs.QuotedLaws.{SingleSpellingReads}
+use Rattle.yaml_emit_laws_text.proofs.Escapes.{low_encodes}
+use Rattle.yaml_emit_laws_text.proofs.Back.{front_append, front_one, front_more, moved_by}
+use Rattle.yaml_emit_laws_scalars.specs.SingleLaws.{SingleIsBack}
+use Rattle.yaml_emit_laws_scalars.proofs.Letters.{Behind}
+use Rattle.yaml_emit_laws_scalars.proofs.Writing.{left}
+use Rattle.yaml_emit_laws_scalars.proofs.Shown.{single_show}
+
+between : (xs bs : List ℕ) → encode_utf8_all xs ≡ bs → encode_utf8_all (39 ∷ (xs ++ 39 ∷ [])) ≡ 39 ∷ (bs ++ 39 ∷ [])
+between xs bs e =
+    let one : encode_utf8_all (39 ∷ []) ≡ 39 ∷ [] = low_encodes (39 ∷ []) (omega arith, tt) in
+    rw (encode_ascii 39 (omega arith), encodes-append xs (39 ∷ []), e) (ap (λ t. 39 ∷ (bs ++ t)) one)
+
+-- before the first character
+pub start_behind : (c : Cursor) (value : List ℕ) → Behind 32 c doubled value
+start_behind c value = record { blank = λ t. absurd (true≢false (sym t)); turn = λ t. absurd (true≢false (sym t)); bare = λ f g. absurd (true≢false f) }
+
+moved_on : (n : ℕ) → n + 1 ≡ 0 → ⊥
+moved_on n e = omega (arith, e)
+
+pub single_back : SingleSpellingReads → (page : Page) (c : Cursor) (value : List ℕ) → IsUtf8 value → (page.cuts ≡ true → 0 < page.indentation) → (is_one_line (chars value) ≡ false → 0 < page.indentation) → (allowed page.unicode (chars value)).single ≡ true → SingleIsBack (between_single page (chars value)) c value
+single_back law page c value u cuts lines a =
+    let good = single_show page.unicode (chars value) a (scalars-chars value u) in
+    let r = left page true 32 (moved_by c) doubled (chars value) (record { cuts = cuts; lines = lines }) good (start_behind (moved_by c) (chars value)) (λ e. (refl, refl)) refl in
+    let whole = 39 ∷ (r.letters ++ 39 ∷ []) in
+    let bytes : encode_utf8_all (39 ∷ (r.letters ++ 39 ∷ [])) ≡ quoted 39 r.parts = between r.letters (spelling r.parts) r.bytes in
+    let means : meaning r.parts ≡ value = r.means ∙ encodes-chars value u in
+    record {
+      letters = whole;
+      inside = r.letters ++ 39 ∷ [];
+      begins = refl;
+      behind = moved_by r.behind;
+      written = λ rest.
+          ap (λ t. letter 39 ∷ t) (r.text (λ d. char 39 d rest) ∙ ap (in_front r.letters) (sym (front_one 39 (rest (moved_by r.behind)))) ∙ sym (front_append r.letters (39 ∷ []) (rest (moved_by r.behind))))
+          ∙ sym (front_more 39 (r.letters ++ 39 ∷ []) (rest (moved_by r.behind)));
+      read = λ text p h n.
+          let P : List ℕ → Type 0 = λ bs. HasAt text p bs → (byte text (p + length bs) ≡ 39 → ⊥) → single_quoted_at text p ≡ Ok (value, p + length bs) in
+          subst P (sym bytes) (λ k m. law r.parts text p r.right k m ∙ ap (λ v. Ok (v, p + length (quoted 39 r.parts))) means) h n;
+      bare = refl;
+      white = refl;
+      column = moved_on r.behind.column;
+      kept = r.kept;
+    }

@@ -1,0 +1,323 @@
+-- How the bytes of a plain scalar are read, one by one.
+use Rattle.std.proofs.Common.{◌≡◌, ◌≢◌, ℕ, zero, suc, ◌+◌, ◌-◌, ◌/◌, ◌%◌, ◌<◌, ◌≤◌, Bool, true, false, ◌&&◌, ◌==◌, nat_lt, List, [], ◌∷◌, ◌++◌, length, Result, Ok, refl, sym, ap, subst, ◌∙◌, inl, inr, arith, add-one, append_assoc, encode_utf8}
+use Rattle.std.proofs.lemmas.Bool.{cases_lt, true≢false}
+use Rattle.std.proofs.lemmas.Bool.Decides.{nat_tests}
+use Rattle.yaml_scan_history.specs.scan_model.Marks.{byte, ends_of, break_width, ends_break, starts, column_at, is_blank, is_blank_or_end}
+use Rattle.yaml_scan_history.specs.scan_model.Breaks.{is_document_indicator}
+use Rattle.yaml_scan_history.specs.scan_model.Wrong.{Wrong}
+use Rattle.yaml_scan_history.specs.scan_scalars.Pieces.{Piece, Kept, Blank, Break}
+use Rattle.yaml_scan_history.specs.scan_scalars.Plain.{is_bracket, after_white, leads, PlainSpot, Takes, spot_at, ends_at, Words, is_nothing, with_piece, words_from, follows, words}
+use Rattle.yaml_scan_history.proofs.PlainLemmas.{leads-text, white-text, spot_kept}
+use Rattle.yaml_scan_history.proofs.MarksLemmas.{within}
+use Rattle.yaml_scan_history.proofs.HasLemmas.{Has}
+use Rattle.yaml_emit_laws_text.proofs.Chars.{encode_1, encode_2, encode_3, encode_4}
+use Rattle.yaml_emit_laws_text.proofs.Values.{keeps}
+use Rattle.yaml_emit_laws_text.proofs.Bytes.{differs, low_end, low_break, first_end, second_end, third_end, later_break, two_break, three_break, four_break, high_blank}
+
+-- ---- readings, from the right
+
+-- pieces, the place behind the last character, the place behind the white, and whether that has a break
+abbrev pub sealed : List Piece → ℕ → ℕ → Bool → Words
+sealed [] e place broke = record { pieces = []; end = place; place = place; broke = broke }
+sealed (x ∷ xs) e place broke = record { pieces = x ∷ xs; end = e; place = place; broke = broke }
+
+-- what is read from a place on, with enough steps
+pub record Read (flow : Bool) (level : ℕ) (text : List ℕ) (p : ℕ) (ps : List Piece) (e place : ℕ) (broke : Bool) : Type 0 where
+  pub here : is_nothing ps ≡ true → e ≡ p
+  pub at : p ≤ place
+  pub inside : p ≤ length text → place ≤ length text
+  pub gives : (n : ℕ) → place < n + p → words n flow level text p ≡ Ok (sealed ps e place broke)
+
+words_next : (n : ℕ) (flow : Bool) (level : ℕ) (text : List ℕ) (p : ℕ) (s : PlainSpot) → spot_at flow level text p ≡ s → words (suc n) flow level text p ≡ follows (words n flow level text) p s
+unfolding words
+words_next n flow level text p s h = ap (λ x. follows (words n flow level text) p x) h
+
+step_gives : (flow : Bool) (level : ℕ) (text : List ℕ) (p q place : ℕ) (x : Piece) (v w : Words) → spot_at flow level text p ≡ Takes x q → p < q → q ≤ place
+    → ((n : ℕ) → place < n + q → words n flow level text q ≡ Ok v) → with_piece x q v ≡ w
+    → (n : ℕ) → place < n + p → words n flow level text p ≡ Ok w
+step_gives flow level text p q place x v w s more l g e zero room = absurd (omega arith)
+step_gives flow level text p q place x v w s more l g e (suc n) room =
+    words_next n flow level text p (Takes x q) s
+    ∙ ap (λ (r : Result Words Wrong). words_from x q r) (g n (omega arith))
+    ∙ ap (λ (y : Words). let r : Result Words Wrong = Ok y in r) e
+
+pub kept_sealed : (bytes : List ℕ) (q e place : ℕ) (broke : Bool) (ps : List Piece) → (is_nothing ps ≡ true → e ≡ q) → with_piece (Kept bytes) q (sealed ps e place broke) ≡ sealed (Kept bytes ∷ ps) e place broke
+kept_sealed bytes q e place broke [] h = let same = h refl in rw same refl
+kept_sealed bytes q e place broke (x ∷ xs) h = refl
+
+blank_sealed : (b q e place : ℕ) (broke : Bool) (ps : List Piece) → is_nothing ps ≡ false → with_piece (Blank b) q (sealed ps e place broke) ≡ sealed (Blank b ∷ ps) e place broke
+blank_sealed b q e place broke [] h = absurd (true≢false h)
+blank_sealed b q e place broke (x ∷ xs) h = refl
+
+break_sealed : (bytes : List ℕ) (q e place : ℕ) (broke : Bool) (ps : List Piece) → is_nothing ps ≡ false → with_piece (Break bytes) q (sealed ps e place broke) ≡ sealed (Break bytes ∷ ps) e place broke
+break_sealed bytes q e place broke [] h = absurd (true≢false h)
+break_sealed bytes q e place broke (x ∷ xs) h = refl
+
+pub read_kept : (flow : Bool) (level : ℕ) (text : List ℕ) (p : ℕ) (bytes : List ℕ) (ps : List Piece) (e place : ℕ) (broke : Bool) → spot_at flow level text p ≡ Takes (Kept bytes) (p + 1) → p < length text
+    → Read flow level text (p + 1) ps e place broke → Read flow level text p (Kept bytes ∷ ps) e place broke
+read_kept flow level text p bytes ps e place broke s i r =
+    let at = r.at in
+    let inside = r.inside (omega (arith, i)) in
+    record {
+      here = λ h. absurd (true≢false (sym h));
+      at = omega (arith, at);
+      inside = λ l. inside;
+      gives = step_gives flow level text p (p + 1) place (Kept bytes) (sealed ps e place broke) (sealed (Kept bytes ∷ ps) e place broke) s (omega arith) at r.gives (kept_sealed bytes (p + 1) e place broke ps r.here);
+    }
+
+pub read_blank : (flow : Bool) (level : ℕ) (text : List ℕ) (p b : ℕ) (ps : List Piece) (e place : ℕ) (broke : Bool) → spot_at flow level text p ≡ Takes (Blank b) (p + 1) → p < length text → is_nothing ps ≡ false
+    → Read flow level text (p + 1) ps e place broke → Read flow level text p (Blank b ∷ ps) e place broke
+read_blank flow level text p b ps e place broke s i some r =
+    let at = r.at in
+    let inside = r.inside (omega (arith, i)) in
+    record {
+      here = λ h. absurd (true≢false (sym h));
+      at = omega (arith, at);
+      inside = λ l. inside;
+      gives = step_gives flow level text p (p + 1) place (Blank b) (sealed ps e place broke) (sealed (Blank b ∷ ps) e place broke) s (omega arith) at r.gives (blank_sealed b (p + 1) e place broke ps some);
+    }
+
+pub read_break : (flow : Bool) (level : ℕ) (text : List ℕ) (p q : ℕ) (bytes : List ℕ) (ps : List Piece) (e place : ℕ) (broke : Bool) → spot_at flow level text p ≡ Takes (Break bytes) q → p < q → q ≤ length text → is_nothing ps ≡ false
+    → Read flow level text q ps e place broke → Read flow level text p (Break bytes ∷ ps) e place broke
+read_break flow level text p q bytes ps e place broke s more i some r =
+    let at = r.at in
+    let inside = r.inside i in
+    record {
+      here = λ h. absurd (true≢false (sym h));
+      at = omega (arith, at, more);
+      inside = λ l. inside;
+      gives = step_gives flow level text p q place (Break bytes) (sealed ps e place broke) (sealed (Break bytes ∷ ps) e place broke) s more at r.gives (break_sealed bytes q e place broke ps some);
+    }
+
+-- ---- where a byte stands
+
+-- inside a line, not left of the level, behind that character
+pub record Stand (level : ℕ) (text : List ℕ) (p before : ℕ) : Type 0 where
+  pub column : 0 < column_at text p
+  pub inner : (leads text p && nat_lt (column_at text p) level) ≡ false
+  pub white : after_white text p ≡ true → before ≡ 32
+
+pub in_line : (text : List ℕ) (p : ℕ) → 0 < column_at text p → is_document_indicator text p ≡ false
+unfolding is_document_indicator
+in_line text p h =
+    let e : (column_at text p == 0) ≡ false = grind (arith, nat_tests) in
+    rw e refl
+
+pub column_on : (text : List ℕ) (p : ℕ) → ends_break text p ≡ false → 0 < column_at text p → 0 < column_at text (p + 1)
+unfolding column_at
+column_on text p h c = rw (add-one, h) (omega arith)
+
+pub column_start : (text : List ℕ) (p : ℕ) → ends_break text p ≡ false → starts (byte text p) ≡ true → 0 < column_at text (p + 1)
+unfolding column_at
+column_start text p h s = rw (add-one, h, s) (omega arith)
+
+-- behind a byte that isn't white
+pub stand_behind : (level : ℕ) (text : List ℕ) (p x : ℕ) → is_blank (byte text p) ≡ false → ends_break text p ≡ false → 0 < column_at text (p + 1) → Stand level text (p + 1) x
+stand_behind level text p x b e c = record {
+  column = c;
+  inner = ap (λ t. t && nat_lt (column_at text (p + 1)) level) (leads-text text p b e);
+  white = λ h. absurd (true≢false (sym h ∙ white-text text p b e));
+}
+
+-- a byte that doesn't end the scalar
+pub record Stays (flow : Bool) (text : List ℕ) (p : ℕ) : Type 0 where
+  pub some : (byte text p == 0) ≡ false
+  pub hash : (byte text p == 35 && after_white text p) ≡ false
+  pub colon : (byte text p == 58 && is_blank_or_end text (p + 1)) ≡ false
+  pub bracket : (flow && is_bracket (byte text p)) ≡ false
+  pub odd : (flow && byte text p == 58) ≡ false
+
+pub not_ended : (flow : Bool) (level : ℕ) (text : List ℕ) (p before : ℕ) → Stand level text p before → Stays flow text p → ends_at flow level text p ≡ false
+unfolding ends_at
+not_ended true level text p before s b = rw (b.some, in_line text p s.column, b.hash, b.colon) b.bracket
+not_ended false level text p before s b = rw (b.some, in_line text p s.column, b.hash, b.colon) s.inner
+
+no_odd : (a b c : Bool) → (a && b) ≡ false → (a && (b && c)) ≡ false
+no_odd false b c h = refl
+no_odd true false c h = refl
+no_odd true true c h = absurd (true≢false h)
+
+pub kept_spot : (flow : Bool) (level : ℕ) (text : List ℕ) (p b before : ℕ) → Stand level text p before → Stays flow text p → byte text p ≡ b → is_blank b ≡ false → break_width text p ≡ 0 → spot_at flow level text p ≡ Takes (Kept (b ∷ [])) (p + 1)
+kept_spot flow level text p b before s k e blank width =
+    spot_kept flow level text p width (ap (λ x. is_blank x) e ∙ blank) (not_ended flow level text p before s k) (no_odd flow (byte text p == 58) _ k.odd)
+    ∙ ap (λ x. Takes (Kept (x ∷ [])) (p + 1)) e
+
+-- ---- bytes that are kept
+
+pub record Through (flow : Bool) (level : ℕ) (text : List ℕ) (p : ℕ) (qs : List Piece) (q : ℕ) : Type 0 where
+  pub reads : (ps : List Piece) (e place : ℕ) (broke : Bool) → Read flow level text q ps e place broke → Read flow level text p (qs ++ ps) e place broke
+  pub stand : Stand level text q 0
+
+pub through_both : (flow : Bool) (level : ℕ) (text : List ℕ) (p q r : ℕ) (qs rs : List Piece) → Through flow level text p qs q → Through flow level text q rs r → Through flow level text p (qs ++ rs) r
+through_both flow level text p q r qs rs a b = record {
+  reads = λ ps e place broke x. subst (λ (t : List Piece). Read flow level text p t e place broke) (sym (append_assoc qs rs ps)) (a.reads (rs ++ ps) e place broke (b.reads ps e place broke x));
+  stand = b.stand;
+}
+
+pub through_at : (flow : Bool) (level : ℕ) (text : List ℕ) (p q r : ℕ) (qs : List Piece) → q ≡ r → Through flow level text p qs q → Through flow level text p qs r
+through_at flow level text p q r qs e t = subst (λ k. Through flow level text p qs k) e t
+
+through_none : (flow : Bool) (level : ℕ) (text : List ℕ) (p : ℕ) → Stand level text p 0 → Through flow level text p [] p
+through_none flow level text p s = record { reads = λ ps e place broke r. r; stand = s }
+
+positive : (b : ℕ) → (b == 0) ≡ false → 0 < b
+positive b h = grind (arith, nat_tests)
+
+pub through_byte : (flow : Bool) (level : ℕ) (text : List ℕ) (p b before : ℕ) → Stand level text p before → Stays flow text p → byte text p ≡ b → is_blank b ≡ false → ends_break text p ≡ false → break_width text p ≡ 0
+    → Through flow level text p (Kept (b ∷ []) ∷ []) (p + 1)
+through_byte flow level text p b before s k e blank ends width = record {
+  reads = λ ps f place broke r. read_kept flow level text p (b ∷ []) ps f place broke (kept_spot flow level text p b before s k e blank width) (within text p (positive (byte text p) k.some)) r;
+  stand = stand_behind level text p 0 (ap (λ x. is_blank x) e ∙ blank) ends (column_on text p ends s.column);
+}
+
+-- ---- characters past ASCII
+
+high_bracket : (b : ℕ) → 128 ≤ b → is_bracket b ≡ false
+unfolding is_bracket
+high_bracket b h = rw (differs b 44 (λ e. omega arith), differs b 91 (λ e. omega arith), differs b 93 (λ e. omega arith), differs b 123 (λ e. omega arith), differs b 125 (λ e. omega arith)) refl
+
+and_none : (a : Bool) → (a && false) ≡ false
+and_none true = refl
+and_none false = refl
+
+high_stays : (flow : Bool) (text : List ℕ) (p : ℕ) → 128 ≤ byte text p → Stays flow text p
+high_stays flow text p h = record {
+  some = differs (byte text p) 0 (λ e. omega arith);
+  hash = ap (λ t. t && after_white text p) (differs (byte text p) 35 (λ e. omega arith));
+  colon = ap (λ t. t && is_blank_or_end text (p + 1)) (differs (byte text p) 58 (λ e. omega arith));
+  bracket = ap (λ t. flow && t) (high_bracket (byte text p) h) ∙ and_none flow;
+  odd = ap (λ t. flow && t) (differs (byte text p) 58 (λ e. omega arith)) ∙ and_none flow;
+}
+
+high : (flow : Bool) (level : ℕ) (text : List ℕ) (p b before : ℕ) → Stand level text p before → byte text p ≡ b → 128 ≤ b → ends_break text p ≡ false → break_width text p ≡ 0 → Through flow level text p (Kept (b ∷ []) ∷ []) (p + 1)
+high flow level text p b before s e h ends width = through_byte flow level text p b before s (high_stays flow text p (rw e h)) e (high_blank b h) ends width
+
+ends_1 : (text : List ℕ) (p y b : ℕ) → byte text p ≡ y → byte text (p + 1) ≡ b → ((x c : ℕ) → ends_of x y b c ≡ false) → ends_break text (p + 1) ≡ false
+ends_1 text p y b h k f =
+    let e : p + 1 - 1 ≡ p = omega arith in
+    rw (e, h, k) (f (byte text (p + 1 - 2)) (byte text (p + 1 + 1)))
+
+ends_2 : (text : List ℕ) (p x y b : ℕ) → byte text p ≡ x → byte text (p + 1) ≡ y → byte text (p + 1 + 1) ≡ b → ((c : ℕ) → ends_of x y b c ≡ false) → ends_break text (p + 1 + 1) ≡ false
+ends_2 text p x y b g h k f =
+    let e : p + 1 + 1 - 1 ≡ p + 1 = omega arith in
+    let d : p + 1 + 1 - 2 ≡ p = omega arith in
+    rw (e, d, g, h, k) (f (byte text (p + 1 + 1 + 1)))
+
+-- a character's first byte, and how the others are read
+pub record CharAt (flow : Bool) (level : ℕ) (text : List ℕ) (p c : ℕ) (bytes : List ℕ) : Type 0 where
+  pub first : ℕ
+  pub rest : List ℕ
+  pub is : bytes ≡ first ∷ rest
+  pub here : byte text p ≡ first
+  pub width : break_width text p ≡ 0
+  pub ends : ends_break text p ≡ false
+  pub starts : starts first ≡ true
+  pub low : c < 128 → first ≡ c
+  pub high : 128 ≤ c → 192 ≤ first
+  pub tail : Stand level text (p + 1) 0 → Through flow level text (p + 1) (keeps rest) (p + length bytes)
+
+high_starts : (b : ℕ) → 192 ≤ b → starts b ≡ true
+high_starts b h = grind (arith, nat_tests)
+
+low_starts : (b : ℕ) → b < 128 → starts b ≡ true
+low_starts b h = grind (arith, nat_tests)
+
+one_at : (flow : Bool) (level : ℕ) (text : List ℕ) (p c : ℕ) → c < 128 → c ≢ 10 → c ≢ 13 → Has text p (c ∷ []) → CharAt flow level text p c (c ∷ [])
+one_at flow level text p c l nf nr (h, t) = record {
+  first = c;
+  rest = [];
+  is = refl;
+  here = h;
+  width = rw h (low_break c _ _ l nf nr);
+  ends = rw h (low_end _ _ c _ l nf nr);
+  starts = low_starts c l;
+  low = λ k. refl;
+  high = λ k. absurd (omega arith);
+  tail = λ s. through_none flow level text (p + 1) s;
+}
+
+two_at : (flow : Bool) (level : ℕ) (text : List ℕ) (p c a b : ℕ) → 128 ≤ c → 192 ≤ a → a < 224 → 128 ≤ b → b < 192 → (a ≡ 0xC2 → b ≡ 0x85 → ⊥) → Has text p (a ∷ b ∷ []) → CharAt flow level text p c (a ∷ b ∷ [])
+two_at flow level text p c a b big l m n o z (h, (k, u)) = record {
+  first = a;
+  rest = b ∷ [];
+  is = refl;
+  here = h;
+  width = rw (h, k) (two_break a b _ l m z);
+  ends = rw h (first_end _ _ a _ l);
+  starts = high_starts a l;
+  low = λ k. absurd (omega arith);
+  high = λ k. l;
+  tail = λ s.
+      let e : p + 1 + 1 ≡ p + 2 = omega arith in
+      through_at flow level text (p + 1) (p + 1 + 1) (p + 2) _ e
+      (high flow level text (p + 1) b 0 s k n (ends_1 text p a b h k (λ x d. second_end x a b d n o l (λ e f. z f e))) (rw k (later_break b _ _ n o)));
+}
+
+three_at : (flow : Bool) (level : ℕ) (text : List ℕ) (p c a b d : ℕ) → 128 ≤ c → 224 ≤ a → a < 240 → 128 ≤ b → b < 192 → 128 ≤ d → d < 192
+    → (a ≡ 0xE2 → b ≡ 0x80 → d ≡ 0xA8 → ⊥) → (a ≡ 0xE2 → b ≡ 0x80 → d ≡ 0xA9 → ⊥) → Has text p (a ∷ b ∷ d ∷ []) → CharAt flow level text p c (a ∷ b ∷ d ∷ [])
+three_at flow level text p c a b d big l m n o q r x y (h, (k, (i, u))) = record {
+  first = a;
+  rest = b ∷ d ∷ [];
+  is = refl;
+  here = h;
+  width = let w : p + 2 ≡ p + 1 + 1 = omega arith in rw (w, h, k, i) (three_break a b d l m x y);
+  ends = rw h (first_end _ _ a _ (omega arith));
+  starts = high_starts a (omega arith);
+  low = λ k. absurd (omega arith);
+  high = λ k. omega arith;
+  tail = λ s.
+      let e : p + 1 + 1 + 1 ≡ p + 3 = omega arith in
+      let second = high flow level text (p + 1) b 0 s k n (ends_1 text p a b h k (λ v w. second_end v a b w n o (omega arith) (λ e f. omega arith))) (rw k (later_break b _ _ n o)) in
+      let third = high flow level text (p + 1 + 1) d 0 second.stand i q (ends_2 text p a b d h k i (λ w. third_end a b d w q r n o (λ e f g. x g f e) (λ e f g. y g f e))) (rw i (later_break d _ _ q r)) in
+      through_at flow level text (p + 1) (p + 1 + 1 + 1) (p + 3) _ e
+      (through_both flow level text (p + 1) (p + 1 + 1) (p + 1 + 1 + 1) (keeps (b ∷ [])) (keeps (d ∷ [])) second third);
+}
+
+four_at : (flow : Bool) (level : ℕ) (text : List ℕ) (p c a b d g : ℕ) → 128 ≤ c → 240 ≤ a → 128 ≤ b → b < 192 → 128 ≤ d → d < 192 → 128 ≤ g → g < 192 → Has text p (a ∷ b ∷ d ∷ g ∷ []) → CharAt flow level text p c (a ∷ b ∷ d ∷ g ∷ [])
+four_at flow level text p c a b d g big l n o q r s t (h, (k, (i, (j, u)))) = record {
+  first = a;
+  rest = b ∷ d ∷ g ∷ [];
+  is = refl;
+  here = h;
+  width = rw h (four_break a _ _ l);
+  ends = rw h (first_end _ _ a _ (omega arith));
+  starts = high_starts a (omega arith);
+  low = λ k. absurd (omega arith);
+  high = λ k. omega arith;
+  tail = λ st.
+      let e : p + 1 + 1 + 1 + 1 ≡ p + 4 = omega arith in
+      let second = high flow level text (p + 1) b 0 st k n (ends_1 text p a b h k (λ v w. second_end v a b w n o (omega arith) (λ e f. omega arith))) (rw k (later_break b _ _ n o)) in
+      let third = high flow level text (p + 1 + 1) d 0 second.stand i q (ends_2 text p a b d h k i (λ w. third_end a b d w q r n o (λ e f x. omega arith) (λ e f x. omega arith))) (rw i (later_break d _ _ q r)) in
+      let fourth = high flow level text (p + 1 + 1 + 1) g 0 third.stand j s (ends_2 text (p + 1) b d g k i j (λ w. third_end b d g w s t q r (λ e f x. omega arith) (λ e f x. omega arith))) (rw j (later_break g _ _ s t)) in
+      through_at flow level text (p + 1) (p + 1 + 1 + 1 + 1) (p + 4) _ e
+      (through_both flow level text (p + 1) (p + 1 + 1) (p + 1 + 1 + 1 + 1) (keeps (b ∷ [])) (keeps (d ∷ g ∷ [])) second
+      (through_both flow level text (p + 1 + 1) (p + 1 + 1 + 1) (p + 1 + 1 + 1 + 1) (keeps (d ∷ [])) (keeps (g ∷ [])) third fourth));
+}
+
+-- what ends no line, and isn't past Unicode
+pub record Plainly (c : ℕ) : Type 0 where
+  pub no_feed : c ≢ 10
+  pub no_return : c ≢ 13
+  pub no_next_line : c ≢ 0x85
+  pub no_line : c ≢ 0x2028
+  pub no_paragraph : c ≢ 0x2029
+  pub top : c < 1114112
+
+pub char_at : (flow : Bool) (level : ℕ) (text : List ℕ) (p c : ℕ) → Plainly c → Has text p (encode_utf8 c) → CharAt flow level text p c (encode_utf8 c)
+char_at flow level text p c s =
+    let P : List ℕ → Type 0 = λ bs. Has text p bs → CharAt flow level text p c bs in
+    let nf = s.no_feed in let nr = s.no_return in let nn = s.no_next_line in let nl = s.no_line in let np = s.no_paragraph in let top = s.top in
+    elim (cases_lt c 128) [
+      | inl u ↦ subst P (sym (encode_1 c u)) (one_at flow level text p c u nf nr)
+      | inr u ↦ elim (cases_lt c 2048) [
+        | inl v ↦ subst P (sym (encode_2 c u v))
+            (two_at flow level text p c (192 + c / 64) (128 + c % 64) u (omega arith) (omega arith) (omega arith) (omega arith) (λ e f. omega arith))
+        | inr v ↦ elim (cases_lt c 65536) [
+          | inl w ↦ subst P (sym (encode_3 c v w))
+              (three_at flow level text p c (224 + c / 4096) (128 + c / 64 % 64) (128 + c % 64) u (omega arith) (omega arith) (omega arith) (omega arith) (omega arith) (omega arith)
+              (λ e f g. omega arith) (λ e f g. omega arith))
+          | inr w ↦ subst P (sym (encode_4 c w))
+              (four_at flow level text p c (240 + c / 262144) (128 + c / 4096 % 64) (128 + c / 64 % 64) (128 + c % 64) u (omega arith) (omega arith) (omega arith) (omega arith) (omega arith) (omega arith) (omega arith))
+        ]
+      ]
+    ]

@@ -1,0 +1,5 @@
+use Rattle.yaml_emit_laws_scalars.proofs.Stands.{stands}
+use Rattle.yaml_emit_laws_scalars.proofs.laws.plain_stands.Goals as goal
+
+pub returns : goal.returns
+returns c = stands

@@ -1,0 +1,127 @@
+-- Bytes of pretty text are decoded to it.
+use Rattle.std.proofs.Common.{◌≡◌, ℕ, ◌+◌, ◌/◌, ◌%◌, ◌<◌, Bool, true, false, ◌&&◌, nat_lt, if◌then◌else◌, List, [], ◌∷◌, ◌++◌, drop, refl, sym, ap, ◌∙◌, arith, inl, inr}
+use Rattle.std.specs.Prelude.{nat_eq}
+use Rattle.std.proofs.lemmas.Bool.{cases_Bool}
+use Rattle.std.proofs.lemmas.Bool.Decides.{nat_tests}
+use Rattle.yaml_parse_grammar.specs.parse_model.declared.yaml_encoding_t.{yaml_encoding_t}
+use Rattle.yaml_parse_grammar.specs.parse_model.declared.yaml_encoding_t.TheVariants.{YAML_ANY_ENCODING, YAML_UTF8_ENCODING, YAML_UTF16LE_ENCODING, YAML_UTF16BE_ENCODING}
+use Rattle.yaml_round_laws_documents.specs.scan_decode.Characters.{is_allowed}
+use Rattle.yaml_emit_laws_text.specs.emit_layout.emit_text.Text.{Item, letter, deep, shown, char_bytes, encode}
+use Rattle.yaml_emit_laws_text.specs.emit_layout.emit_text.declared.Encoding.TheVariants.{Utf8}
+use Rattle.yaml_emit_laws_text.specs.emit_layout.emit_text.Layout.{Rest, order_mark, start, nothing_more}
+use Rattle.yaml_emit_laws_text.specs.emit_layout.emit_text.declared.Encoding.{Encoding}
+use Rattle.yaml_emit_laws_text.specs.emit_layout.emit_text.declared.Encoding.TheVariants.{Utf16Le, Utf16Be}
+use Rattle.yaml_emit_laws_text.specs.emit_layout.Nodes.{documents_layout, stream_layout}
+use Rattle.yaml_round_laws_documents.specs.scan_decode.Encodings.{encoding_of, mark_length}
+use Rattle.yaml_round_laws_documents.specs.scan_decode.Spelling.{Spells, spellings}
+use Rattle.yaml_scan_decode.proofs.CompleteLemmas.{spells_decoded}
+use Rattle.yaml_round_laws_documents.specs.BytesLaws.{encoding_named}
+use Rattle.yaml_round_laws_pretty.proofs.Encoding.{bytes_8, bytes_le, bytes_be, bytes_utf8}
+use Rattle.yaml_round_laws_documents.proofs.CanonicalJoining.{Decodes}
+use Rattle.yaml_round_laws_documents.proofs.Characters.{Fits, all_pass}
+use Rattle.yaml_round_laws_pretty.specs.Laws.{PrettyBytesDecode}
+use Rattle.yaml_round_laws_pretty.proofs.Layouts.{documents_tame}
+use Rattle.yaml_round_laws_documents.proofs.Layouts.{Allowed, nothing_allowed}
+use Rattle.yaml_round_laws_documents.proofs.Marks.{Told, low_told, low_behind, high_told, high_behind}
+use Rattle.yaml_round_laws_pretty.proofs.Marks.{NoMark, Begins, begins_nothing, told_one, told_three, differs, equals, documents_heads}
+
+off_by : (a b : ℕ) → b < a → nat_eq a b ≡ false
+off_by a b h = differs a b (λ e. omega (arith, h, e))
+
+above_by : (a b : ℕ) → a < b → nat_eq a b ≡ false
+above_by a b h = differs a b (λ e. omega (arith, h, e))
+
+test_one : (c : ℕ) → c < 128 → (bs : List ℕ) → Told (c ∷ bs)
+test_one c h bs = told_one c bs (off_by 0xFF c (omega (arith, h))) (off_by 0xFE c (omega (arith, h))) (off_by 0xEF c (omega (arith, h)))
+
+two_low : (c : ℕ) → c < 0x800 → 0xC0 + c / 0x40 < 0xE0
+two_low c h = omega (arith, h)
+
+three_low : (c : ℕ) → c < 0x1_0000 → 0xE0 + c / 0x1000 < 0xF0
+three_low c h = omega (arith, h)
+
+four_low : (c : ℕ) → c < 0x11_0000 → 0xF0 + c / 0x4_0000 < 0xF5
+four_low c h = omega (arith, h)
+
+four_high : (c : ℕ) → 0xEF < 0xF0 + c / 0x4_0000
+four_high c = omega arith
+
+is_mark : (c : ℕ) → 0xEF ≡ 0xE0 + c / 0x1000 → 0xBB ≡ 0x80 + c / 0x40 % 0x40 → 0xBF ≡ 0x80 + c % 0x40 → c ≡ 0xFEFF
+is_mark c x y z = omega (arith, x, y, z)
+
+bound : (c : ℕ) → Fits c → c < 0x11_0000
+unfolding is_allowed
+bound c f = grind (arith, nat_tests)
+
+below : (a b : ℕ) → nat_lt a b ≡ true → a < b
+below a b e = grind (arith, nat_tests)
+
+and_left : (a b : Bool) → (a && b) ≡ true → a ≡ true
+and_left true b e = refl
+and_left false b e = absurd (cc)
+
+and_right : (a b : Bool) → (a && b) ≡ true → b ≡ true
+and_right true b e = e
+and_right false b e = absurd (cc)
+
+not_all : (c : ℕ) → NoMark c → (nat_eq 0xEF (0xE0 + c / 0x1000) && (nat_eq 0xBB (0x80 + c / 0x40 % 0x40) && nat_eq 0xBF (0x80 + c % 0x40))) ≡ false
+not_all c h =
+    let x = nat_eq 0xEF (0xE0 + c / 0x1000) in
+    let y = nat_eq 0xBB (0x80 + c / 0x40 % 0x40) in
+    let z = nat_eq 0xBF (0x80 + c % 0x40) in
+    elim (cases_Bool (x && (y && z))) [
+      | inr e ↦ e
+      | inl e ↦ absurd (h (is_mark c (equals _ _ (and_left x (y && z) e)) (equals _ _ (and_left y z (and_right x (y && z) e))) (equals _ _ (and_right y z (and_right x (y && z) e)))))
+    ]
+
+told_by : (c : ℕ) (bs : List ℕ) → c < 0x11_0000 → NoMark c → (p q r : Bool) → nat_lt c 0x80 ≡ p → nat_lt c 0x800 ≡ q → nat_lt c 0x1_0000 ≡ r
+    → Told ((if p then c ∷ [] else if q then (0xC0 + c / 0x40) ∷ (0x80 + c % 0x40) ∷ [] else if r then (0xE0 + c / 0x1000) ∷ (0x80 + c / 0x40 % 0x40) ∷ (0x80 + c % 0x40) ∷ [] else (0xF0 + c / 0x4_0000) ∷ (0x80 + c / 0x1000 % 0x40) ∷ (0x80 + c / 0x40 % 0x40) ∷ (0x80 + c % 0x40) ∷ []) ++ bs)
+told_by c bs least h true q r x y z = test_one c (below c 0x80 x) bs
+told_by c bs least h false true r x y z =
+    let b = two_low c (below c 0x800 y) in
+    told_one (0xC0 + c / 0x40) _ (off_by 0xFF _ (omega (arith, b))) (off_by 0xFE _ (omega (arith, b))) (off_by 0xEF _ (omega (arith, b)))
+told_by c bs least h false false true x y z =
+    let b = three_low c (below c 0x1_0000 z) in
+    told_three (0xE0 + c / 0x1000) (0x80 + c / 0x40 % 0x40) (0x80 + c % 0x40) bs (off_by 0xFF _ (omega (arith, b))) (off_by 0xFE _ (omega (arith, b)))
+    (nat_eq 0xEF (0xE0 + c / 0x1000)) (nat_eq 0xBB (0x80 + c / 0x40 % 0x40)) (nat_eq 0xBF (0x80 + c % 0x40)) refl refl refl (not_all c h)
+told_by c bs least h false false false x y z =
+    let b = four_low c least in
+    told_one (0xF0 + c / 0x4_0000) _ (off_by 0xFF _ (omega (arith, b))) (off_by 0xFE _ (omega (arith, b))) (above_by 0xEF _ (four_high c))
+
+told_char : (c : ℕ) (bs : List ℕ) → Fits c → NoMark c → Told (char_bytes Utf8 c ++ bs)
+unfolding char_bytes
+told_char c bs f h = told_by c bs (bound c f) h (nat_lt c 0x80) (nat_lt c 0x800) (nat_lt c 0x1_0000) refl refl refl
+
+told_items : (t : List Item) → Allowed t → Begins t → Told (encode Utf8 t)
+unfolding encode shown encoding_of mark_length
+told_items [] a h = (refl, refl)
+told_items (letter c ∷ t) (f, fs) h = told_char c (encode Utf8 t) f h
+told_items (deep ∷ t) a h = told_items t a h
+
+-- ---- joined
+
+decoded : (bytes : List ℕ) (t : List Item) (e : yaml_encoding_t) → Allowed t → encoding_of YAML_ANY_ENCODING bytes ≡ e → drop (mark_length YAML_ANY_ENCODING bytes) bytes ≡ spellings e (shown t)
+    → Decodes bytes (encode Utf8 t) e
+decoded bytes t e allowed told spelled =
+    let same : drop (mark_length YAML_ANY_ENCODING bytes) bytes ≡ spellings (encoding_of YAML_ANY_ENCODING bytes) (shown t) =
+    spelled ∙ ap (λ (x : yaml_encoding_t). spellings x (shown t)) (sym told) in
+    let spells : Spells YAML_ANY_ENCODING bytes (encode Utf8 t) = record { characters = shown t; allowed = all_pass (shown t) allowed; spelled = same; is = bytes_8 t } in
+    (spells_decoded YAML_ANY_ENCODING bytes (encode Utf8 t) spells, told)
+
+decodes : (x : Encoding) (rest : Rest) → Allowed (rest start) → Begins (rest start) → Decodes (encode x (order_mark x start rest)) (encode Utf8 (rest start)) (encoding_named x)
+decodes Utf8 rest allowed unmarked =
+    let t = rest start in
+    let (told, none) = told_items t allowed unmarked in
+    let behind : drop (mark_length YAML_ANY_ENCODING (encode Utf8 t)) (encode Utf8 t) ≡ encode Utf8 t = ap (λ (n : ℕ). drop n (encode Utf8 t)) none in
+    decoded (encode Utf8 t) t YAML_UTF8_ENCODING allowed told (behind ∙ bytes_8 t ∙ sym (bytes_utf8 (shown t)))
+decodes Utf16Le rest allowed unmarked =
+    let t = rest start in
+    decoded (encode Utf16Le (letter 0xFEFF ∷ t)) t YAML_UTF16LE_ENCODING allowed (low_told t) (low_behind t ∙ bytes_le t)
+decodes Utf16Be rest allowed unmarked =
+    let t = rest start in
+    decoded (encode Utf16Be (letter 0xFEFF ∷ t)) t YAML_UTF16BE_ENCODING allowed (high_told t) (high_behind t ∙ bytes_be t)
+
+pub bytes_decode : PrettyBytesDecode
+unfolding stream_layout
+bytes_decode s ds writable h =
+    decodes s.encoding (λ c. documents_layout s true false ds c nothing_more) (documents_tame s true false ds h start nothing_more (λ _. nothing_allowed)) (documents_heads s true false ds writable start nothing_more (λ _. begins_nothing))

@@ -1,0 +1,270 @@
+-- Trees of documents.
+use Rattle.std.proofs.Common.{◌≡◌, Bool, true, false, not, ◌&&◌, ◌||◌, List, [], ◌∷◌, length, Option, Some, None, refl, sym, ap, ◌∙◌}
+use Rattle.yaml_parse_grammar.specs.parse_model.declared.yaml_encoding_t.{yaml_encoding_t}
+use Rattle.yaml_parse_grammar.specs.parse_model.declared.yaml_version_directive_t.{yaml_version_directive_t}
+use Rattle.yaml_parse_grammar.specs.parse_model.Tokens.{Token, TokenBody}
+use Rattle.yaml_parse_grammar.specs.parse_model.Tokens as token
+use Rattle.yaml_parse_grammar.specs.parse_model.Events.{EventBody, TagDirective}
+use Rattle.yaml_parse_grammar.specs.parse_model.Events as event
+use Rattle.yaml_parse_grammar.specs.declared.name.Site.TheVariants.{Root}
+use Rattle.yaml_parse_grammar.specs.Items as item
+use Rattle.yaml_parse_grammar.specs.Trees.{Span, token_at, Given, spell_node, spell_maybe, spell_directives, spell_ends, spell_documents, no_first}
+use Rattle.yaml_parse_grammar.specs.TreeSteps.{items_node, items_maybe, items_ends, items_documents, items, behind}
+use Rattle.yaml_parse_grammar.specs.Trees as trees
+use Rattle.yaml_parse_grammar.specs.Machine.{Outcome}
+use Rattle.yaml_parse_grammar.specs.Resolve.{Directives, no_directives, Reading, reading}
+use Rattle.yaml_parse_grammar.specs.Remaining.{reading_of}
+use Rattle.yaml_parse_grammar.proofs.CompleteStream.{stream_runs}
+use Rattle.yaml_emit_laws_text.specs.emit_layout.emit_text.declared.Settings.{Settings}
+use Rattle.yaml_emit_laws_text.specs.emit_layout.declared.level.Part.TheVariants as part
+use Rattle.yaml_emit_laws_text.specs.emit_layout.Content.{Opening, Document}
+use Rattle.yaml_emit_laws_text.specs.emit_layout.Nodes.{has_version, has_directives, is_directed, is_marked}
+use Rattle.yaml_emit_laws_text.specs.emit_layout.Grammar.{opening_problem}
+use Rattle.yaml_emit_laws_text.specs.Bodies.{version_bodies, directives_bodies, end_bodies}
+use Rattle.yaml_emit_laws_text.specs.PrettyBodies.{start_bodies}
+use Rattle.yaml_emit_laws_text.proofs.Resolving.{tags_resolve}
+use Rattle.yaml_round_laws_documents.specs.TreeLaws.{token_bodies, event_bodies, Says, HasNoMark, AreParsable, parsed_of}
+use Rattle.yaml_round_laws_documents.proofs.Growing.{take}
+use Rattle.yaml_round_laws_documents.proofs.Documents.{item_says, no_spans, ends_say}
+use Rattle.yaml_round_laws_pretty.specs.Bodies.{context_in, root_bodies, is_root_kept, is_left_out, has_dots, opening_bodies, documents_bodies, starts_with_nothing}
+use Rattle.yaml_round_laws_pretty.specs.Reads.{root_reads, documents_reads, stream_reads}
+use Rattle.yaml_round_laws_pretty.specs.TokenLaws.{PrettyTokensAreParsed}
+use Rattle.yaml_round_laws_pretty.proofs.Dressing.{Resolves}
+use Rattle.yaml_round_laws_pretty.proofs.Directives.{fine_version, fine_tags, version_directed}
+use Rattle.yaml_round_laws_pretty.proofs.Nodes.{nodes_grown, maybes_grown}
+
+resolving : (o : Opening) → opening_problem o ≡ None → Resolves o.directives
+resolving = tags_resolve
+
+-- events, and the end without a fault
+pub record Ends (r : Reading) (bs : List EventBody) : Type 0 where
+  pub events : event_bodies r ≡ bs
+  pub ending : r.ending ≡ None
+
+ends_by : (R : List EventBody → List EventBody) (r q : Reading) (bs : List EventBody) → Says R r q → Ends q bs → Ends r (R bs)
+ends_by R r q bs s e = record { events = s.events ∙ ap (λ (x : List EventBody). R x) e.events; ending = s.ending ∙ e.ending }
+
+-- the ends of the document before, and the documents behind them
+pub record Parsed (s : Settings) (explicit unended kept : Bool) (ds : List Document) (ts : List Token) : Type 0 where
+  pub ends : List Span
+  pub documents : trees.Documents
+  pub rest : List Token
+  pub same : ts ≡ spell_ends ends (spell_documents documents rest)
+  pub none : no_spans ends ≡ not (explicit || (unended && has_dots kept ds))
+  pub gives : Ends (reading (items_documents documents rest) None no_directives) (documents_reads s false ds)
+
+-- documents, of which the first has its `---`
+pub record Read (es : List EventBody) (ts : List Token) : Type 0 where
+  pub documents : trees.Documents
+  pub rest : List Token
+  pub same : ts ≡ spell_documents documents rest
+  pub gives : Ends (reading (items_documents documents rest) None no_directives) es
+
+stream_ends : (s : Settings) (ts : List Token) → token_bodies ts ≡ token.stream_end ∷ [] → Read (documents_reads s false []) ts
+unfolding documents_reads reading
+stream_ends s ts e =
+    let t = take ts token.stream_end [] e in
+    record { documents = trees.end_stream t.span; rest = t.rest; same = t.same; gives = record { events = refl; ending = refl } }
+
+flags : (i b : Bool) → not (not i || (i && b)) ≡ (i && not b)
+flags true b = refl
+flags false b = refl
+
+-- the end of a document, and the documents behind it
+record Closed (s : Settings) (implicit : Bool) (ds : List Document) (ts : List Token) (es : List EventBody) : Type 0 where
+  ends : List Span
+  documents : trees.Documents
+  rest : List Token
+  same : ts ≡ spell_ends ends (spell_documents documents rest)
+  gives : (D : Directives) → Ends (reading (items_ends ends (spell_documents documents rest) (items_documents documents rest)) None D) es
+
+closed : (s : Settings) (implicit kept : Bool) (ds : List Document) (ts : List Token) → Parsed s (not implicit) implicit kept ds ts → Closed s implicit ds ts (event.document_end (implicit && not (has_dots kept ds)) ∷ documents_reads s false ds)
+closed s implicit kept ds ts b =
+    let more = spell_documents b.documents b.rest in
+    let last = items_documents b.documents b.rest in
+    let flag : no_spans b.ends ≡ (implicit && not (has_dots kept ds)) = b.none ∙ flags implicit (has_dots kept ds) in
+    record {
+      ends = b.ends;
+      documents = b.documents;
+      rest = b.rest;
+      same = b.same;
+      gives = λ D.
+          let x = ends_by (λ es. event.document_end (no_spans b.ends) ∷ es) (reading (items_ends b.ends more last) None D) (reading last None no_directives) (documents_reads s false ds) (ends_say b.ends more last None D) b.gives in
+          record { events = x.events ∙ ap (λ (y : Bool). event.document_end y ∷ documents_reads s false ds) flag; ending = x.ending };
+    }
+
+-- what stands behind a document's root
+abbrev pub After : Settings → Document → List Document → List TokenBody
+After s d ds = end_bodies (not d.implicit_end) (documents_bodies s false d.implicit_end (is_root_kept s d) ds)
+
+abbrev pub Behind : Settings → Document → List Document → Type 0
+Behind s d ds = (ts : List Token) → token_bodies ts ≡ After s d ds → Parsed s (not d.implicit_end) d.implicit_end (is_root_kept s d) ds ts
+
+-- a document with its `---`, from its directives on
+one_document : (s : Settings) (fresh : Bool) (d : Document) (ds : List Document) → is_marked s fresh d.opening ≡ true → opening_problem d.opening ≡ None → HasNoMark d.root → Behind s d ds → (ts : List Token)
+    → token_bodies ts ≡ opening_bodies s fresh d.opening (root_bodies s d (After s d ds)) → Read (documents_reads s fresh (d ∷ ds)) ts
+unfolding documents_reads
+one_document s fresh d ds marked opening fine behind_root ts e =
+    let o = d.opening in
+    let E : Directives = record { version = o.version; tags = o.directives } in
+    let after = After s d ds in
+    let root_of = token.document_start ∷ root_bodies s d after in
+    let marked_too = e ∙ ap (λ (b : Bool). version_bodies o.version (directives_bodies o.directives (start_bodies (not b) (root_bodies s d after)))) marked in
+    let dir = version_directed o.version o.directives (fine_version o opening) (fine_tags o opening) ts root_of marked_too in
+    let t = take dir.rest token.document_start (root_bodies s d after) dir.left in
+    let n = maybes_grown (context_in s d) (resolving o opening) d.root fine false part.Item true Root t.span.to t.rest after t.left in
+    let b = closed s d.implicit_end (is_root_kept s d) ds n.rest (behind_root n.rest n.left) in
+    let more = spell_documents b.documents b.rest in
+    let last = items_documents b.documents b.rest in
+    let ending = items_ends b.ends more last in
+    let root = items_maybe n.tree Root t.span.to (spell_ends b.ends more) ending in
+    let head : Given = (item.item_at (item.document false) (trees.start_of dir.directives t.span) t.span.to, length (spell_maybe n.tree (spell_ends b.ends more))) in
+    let done = event.document_end (d.implicit_end && not (has_dots (is_root_kept s d) ds)) ∷ documents_reads s false ds in
+    let second = ends_by (root_reads s d) (reading root None E) (reading ending None E) done (n.gives (spell_ends b.ends more) ending None E refl) (b.gives E) in
+    let whole = ends_by (λ es. event.document_start o.version o.directives false ∷ es) (reading (head ∷ root) None E) (reading root None E) (root_reads s d done)
+    (item_says head root None E E (event.document_start o.version o.directives false) refl) second in
+    let front = dir.gives (token_at token.document_start t.span ∷ spell_maybe n.tree (spell_ends b.ends more)) (head ∷ root) None in
+    record {
+      documents = trees.document dir.directives t.span n.tree b.ends b.documents;
+      rest = b.rest;
+      same = dir.same
+          ∙ ap (λ (y : List Token). spell_directives dir.directives y) (t.same ∙ ap (λ (y : List Token). token_at token.document_start t.span ∷ y) (n.same ∙ ap (λ (y : List Token). spell_maybe n.tree y) b.same));
+      gives = record {
+        events = ap (λ (r : Reading). event_bodies r) front ∙ whole.events ∙ ap (λ (m : Bool). event.document_start o.version o.directives (not m) ∷ root_reads s d done) (sym marked);
+        ending = ap (λ (r : Reading). r.ending) front ∙ whole.ending;
+      };
+    }
+
+at_end : (s : Settings) (unended kept dots : Bool) → (unended && kept) ≡ dots → (ts : List Token) → token_bodies ts ≡ end_bodies dots (token.stream_end ∷ []) → Parsed s false unended kept [] ts
+at_end s unended kept true is ts e =
+    let t = take ts token.document_end (token.stream_end ∷ []) e in
+    let x = stream_ends s t.rest t.left in
+    record { ends = t.span ∷ []; documents = x.documents; rest = x.rest; same = t.same ∙ ap (λ (y : List Token). token_at token.document_end t.span ∷ y) x.same; none = sym (ap (λ (b : Bool). not b) is); gives = x.gives }
+at_end s unended kept false is ts e =
+    let x = stream_ends s ts e in
+    record { ends = []; documents = x.documents; rest = x.rest; same = x.same; none = sym (ap (λ (b : Bool). not b) is); gives = x.gives }
+
+begun : (s : Settings) (unended kept dots : Bool) (d : Document) (ds : List Document) (bs : List TokenBody) → (unended && is_directed d.opening) ≡ dots → ((us : List Token) → token_bodies us ≡ bs → Read (documents_reads s false (d ∷ ds)) us)
+    → (ts : List Token) → token_bodies ts ≡ end_bodies dots bs → Parsed s false unended kept (d ∷ ds) ts
+begun s unended kept true d ds bs is one ts e =
+    let t = take ts token.document_end bs e in
+    let x = one t.rest t.left in
+    record { ends = t.span ∷ []; documents = x.documents; rest = x.rest; same = t.same ∙ ap (λ (y : List Token). token_at token.document_end t.span ∷ y) x.same; none = sym (ap (λ (b : Bool). not b) is); gives = x.gives }
+begun s unended kept false d ds bs is one ts e =
+    let x = one ts e in
+    record { ends = []; documents = x.documents; rest = x.rest; same = x.same; none = sym (ap (λ (b : Bool). not b) is); gives = x.gives }
+
+pub behind_root : (s : Settings) (implicit kept : Bool) (ds : List Document) (ts : List Token) → ((us : List Token) → token_bodies us ≡ documents_bodies s false implicit kept ds → Parsed s false implicit kept ds us)
+    → token_bodies ts ≡ end_bodies (not implicit) (documents_bodies s false implicit kept ds) → Parsed s (not implicit) implicit kept ds ts
+behind_root s true kept ds ts rest e = rest ts e
+behind_root s false kept ds ts rest e =
+    let t = take ts token.document_end (documents_bodies s false false kept ds) e in
+    let x = rest t.rest t.left in
+    record { ends = t.span ∷ x.ends; documents = x.documents; rest = x.rest; same = t.same ∙ ap (λ (y : List Token). token_at token.document_end t.span ∷ y) x.same; none = refl; gives = x.gives }
+
+later_marked : (canonical : Bool) → (canonical || true) ≡ true
+later_marked true = refl
+later_marked false = refl
+
+pub documents_parsed : (s : Settings) (unended kept : Bool) (ds : List Document) → AreParsable ds → (ts : List Token) → token_bodies ts ≡ documents_bodies s false unended kept ds → Parsed s false unended kept ds ts
+unfolding documents_bodies
+documents_parsed s unended kept [] fine ts e = at_end s unended kept (unended && kept) refl ts e
+documents_parsed s unended kept (d ∷ ds) ((opening, root), fine) ts e =
+    begun s unended kept (unended && is_directed d.opening) d ds (opening_bodies s false d.opening (root_bodies s d (After s d ds))) refl
+    (λ us x. one_document s false d ds (later_marked s.canonical) opening root (λ vs y. behind_root s d.implicit_end (is_root_kept s d) ds vs (documents_parsed s d.implicit_end (is_root_kept s d) ds fine) y) us x) ts e
+
+-- ---- the stream
+
+abbrev pub IsParsed : yaml_encoding_t → List EventBody → List Token → Type 0
+IsParsed x es ts = (event_bodies (parsed_of ts) ≡ event.stream_start x ∷ es) × ((parsed_of ts).ending ≡ None)
+
+parsed_by : (x : yaml_encoding_t) (es : List EventBody) (tree : trees.Stream) (rest ts : List Token) → ts ≡ trees.spell tree rest → Ends (reading (items tree rest) None no_directives) (event.stream_start x ∷ es) → IsParsed x es ts
+parsed_by x es tree rest ts same e =
+    let whole : parsed_of ts ≡ reading (items tree rest) None no_directives = ap (λ (y : List Token). parsed_of y) same ∙ ap (λ (o : Outcome). reading_of o no_directives) (stream_runs tree rest None) in
+    (ap (λ (r : Reading). event_bodies r) whole ∙ e.events, ap (λ (r : Reading). r.ending) whole ∙ e.ending)
+
+-- each document has its `---`
+pub marked_stream : (x : yaml_encoding_t) (es : List EventBody) (span : Span) (ts us : List Token) → ts ≡ token_at (token.stream_start x) span ∷ us → Read es us → IsParsed x es ts
+marked_stream x es span ts us same r =
+    let tree : trees.Stream = record { encoding = x; start = span; first = no_first; documents = r.documents } in
+    let rest = items_documents r.documents r.rest in
+    let head : Given = (trees.event_at (event.stream_start x) span.from span.to, length (spell_documents r.documents r.rest)) in
+    parsed_by x es tree r.rest ts (same ∙ ap (λ (y : List Token). token_at (token.stream_start x) span ∷ y) r.same)
+    (ends_by (λ es. event.stream_start x ∷ es) (reading (head ∷ rest) None no_directives) (reading rest None no_directives) es
+    (item_says head rest None no_directives no_directives (event.stream_start x) refl) r.gives)
+
+pub record Undirected (o : Opening) : Type 0 where
+  pub version : o.version ≡ None
+  pub directives : o.directives ≡ []
+
+undirected_by : (v : Option yaml_version_directive_t) (ds : List TagDirective) → (has_version v || has_directives ds) ≡ false → (v ≡ None) × (ds ≡ [])
+undirected_by None [] e = (refl, refl)
+undirected_by None (d ∷ ds) e = absurd (cc)
+undirected_by (Some v) ds e = absurd (cc)
+
+not_marked : (canonical fresh implicit directed : Bool) → (canonical || not (fresh && (implicit && not directed))) ≡ false → directed ≡ false
+not_marked true fresh implicit directed e = absurd (cc)
+not_marked false false implicit directed e = absurd (cc)
+not_marked false true false directed e = absurd (cc)
+not_marked false true true false e = refl
+not_marked false true true true e = absurd (cc)
+
+pub undirected : (s : Settings) (fresh : Bool) (o : Opening) → is_marked s fresh o ≡ false → Undirected o
+undirected s fresh o e = let (v, d) = undirected_by o.version o.directives (not_marked s.canonical fresh o.implicit (is_directed o) e) in record { version = v; directives = d }
+
+-- a first document without `---`
+bare_stream : (s : Settings) (x : yaml_encoding_t) (d : Document) (ds : List Document) → is_marked s true d.opening ≡ false → is_left_out (context_in s d) false part.Item d.root ≡ false → opening_problem d.opening ≡ None → HasNoMark d.root → Behind s d ds
+    → (span : Span) (ts us : List Token) → ts ≡ token_at (token.stream_start x) span ∷ us → token_bodies us ≡ opening_bodies s true d.opening (root_bodies s d (After s d ds)) → IsParsed x (stream_reads s (d ∷ ds)) ts
+unfolding documents_reads directives_bodies
+bare_stream s x d ds bare some opening fine behind_root span ts us same e =
+    let o = d.opening in
+    let after = After s d ds in
+    let plain = undirected s true o bare in
+    let e2 = e ∙ ap (λ (b : Bool). version_bodies o.version (directives_bodies o.directives (start_bodies (not b) (root_bodies s d after)))) bare
+    ∙ ap (λ (v : Option yaml_version_directive_t). version_bodies v (directives_bodies o.directives (root_bodies s d after))) plain.version
+    ∙ ap (λ (t : List TagDirective). directives_bodies t (root_bodies s d after)) plain.directives in
+    let n = nodes_grown (context_in s d) (resolving o opening) d.root fine false part.Item true some us after e2 in
+    let b = closed s d.implicit_end (is_root_kept s d) ds n.rest (behind_root n.rest n.left) in
+    let more = spell_documents b.documents b.rest in
+    let last = items_documents b.documents b.rest in
+    let ending = items_ends b.ends more last in
+    let root = items_node n.tree (spell_ends b.ends more) ending in
+    let tree : trees.Stream = record { encoding = x; start = span; first = trees.first n.tree b.ends; documents = b.documents } in
+    let spelt = spell_node n.tree (spell_ends b.ends more) in
+    let start : Given = (trees.event_at (event.stream_start x) span.from span.to, length spelt) in
+    let head : Given = (item.item_at (item.document true) (trees.next spelt) (trees.next spelt), behind spelt) in
+    let done = event.document_end (d.implicit_end && not (has_dots (is_root_kept s d) ds)) ∷ documents_reads s false ds in
+    let second = ends_by (root_reads s d) (reading root None no_directives) (reading ending None no_directives) done (n.gives (spell_ends b.ends more) ending None no_directives (sym plain.directives)) (b.gives no_directives) in
+    let opened = ends_by (λ es. event.document_start None [] true ∷ es) (reading (head ∷ root) None no_directives) (reading root None no_directives) (root_reads s d done)
+    (item_says head root None no_directives no_directives (event.document_start None [] true) refl) second in
+    let whole = ends_by (λ es. event.stream_start x ∷ es) (reading (start ∷ head ∷ root) None no_directives) (reading (head ∷ root) None no_directives) (event.document_start None [] true ∷ root_reads s d done)
+    (item_says start (head ∷ root) None no_directives no_directives (event.stream_start x) refl) opened in
+    parsed_by x (stream_reads s (d ∷ ds)) tree b.rest ts (same ∙ ap (λ (y : List Token). token_at (token.stream_start x) span ∷ y) (n.same ∙ ap (λ (y : List Token). spell_node n.tree y) b.same))
+    (record {
+      events = whole.events
+          ∙ ap (λ (v : Option yaml_version_directive_t). event.stream_start x ∷ event.document_start v [] true ∷ root_reads s d done) (sym plain.version)
+          ∙ ap (λ (t : List TagDirective). event.stream_start x ∷ event.document_start o.version t true ∷ root_reads s d done) (sym plain.directives)
+          ∙ ap (λ (m : Bool). event.stream_start x ∷ event.document_start o.version o.directives (not m) ∷ root_reads s d done) (sym bare);
+      ending = whole.ending;
+    })
+
+first_some : (m : Bool) (n : Bool) → m ≡ false → (not m && n) ≡ false → n ≡ false
+first_some true n m e = absurd (cc)
+first_some false n m e = e
+
+first_stream : (s : Settings) (x : yaml_encoding_t) (d : Document) (ds : List Document) (m : Bool) → is_marked s true d.opening ≡ m → starts_with_nothing s (d ∷ ds) ≡ false → opening_problem d.opening ≡ None → HasNoMark d.root → Behind s d ds
+    → (span : Span) (ts us : List Token) → ts ≡ token_at (token.stream_start x) span ∷ us → token_bodies us ≡ opening_bodies s true d.opening (root_bodies s d (After s d ds)) → IsParsed x (stream_reads s (d ∷ ds)) ts
+first_stream s x d ds true is some opening fine behind_root span ts us same e = marked_stream x (stream_reads s (d ∷ ds)) span ts us same (one_document s true d ds is opening fine behind_root us e)
+first_stream s x d ds false is some opening fine behind_root span ts us same e =
+    bare_stream s x d ds is (first_some (is_marked s true d.opening) (is_left_out (context_in s d) false part.Item d.root) is some) opening fine behind_root span ts us same e
+
+pub tokens_parsed : PrettyTokensAreParsed
+unfolding documents_bodies documents_reads
+tokens_parsed s x [] fine some ts e =
+    let t = take ts (token.stream_start x) (token.stream_end ∷ []) e in
+    let r = stream_ends s t.rest t.left in
+    marked_stream x (stream_reads s []) t.span ts t.rest t.same (record { documents = r.documents; rest = r.rest; same = r.same; gives = r.gives })
+tokens_parsed s x (d ∷ ds) ((opening, root), fine) some ts e =
+    let t = take ts (token.stream_start x) (opening_bodies s true d.opening (root_bodies s d (After s d ds))) e in
+    first_stream s x d ds (is_marked s true d.opening) refl some opening root
+    (λ vs y. behind_root s d.implicit_end (is_root_kept s d) ds vs (documents_parsed s d.implicit_end (is_root_kept s d) ds fine) y) t.span ts t.rest t.same t.left

@@ -1,0 +1,348 @@
+-- Properties in front of a content, and nodes that have nothing else.
+use Rattle.std.proofs.Common.{◌≡◌, ℕ, Bool, true, false, not, ◌&&◌, ◌||◌, List, [], ◌∷◌, length, Option, Some, None, refl, sym, ap, subst, ◌∙◌, codes}
+use Rattle.std.specs.Prelude.{if◌then◌else◌}
+use Rattle.std.specs.Str.{bytes_eq}
+use Rattle.yaml_parse_grammar.specs.parse_model.declared.yaml_mark_t.{yaml_mark_t}
+use Rattle.yaml_parse_grammar.specs.parse_model.declared.yaml_scalar_style_t.{yaml_scalar_style_t}
+use Rattle.yaml_parse_grammar.specs.parse_model.Tokens.{Token, TokenBody}
+use Rattle.yaml_parse_grammar.specs.parse_model.Tokens as token
+use Rattle.yaml_parse_grammar.specs.parse_model.Events.{EventBody, TagDirective}
+use Rattle.yaml_parse_grammar.specs.parse_model.Events as event
+use Rattle.yaml_parse_grammar.specs.parse_model.Faults.{Fault}
+use Rattle.yaml_parse_grammar.specs.declared.name.Wants.{Wants}
+use Rattle.yaml_parse_grammar.specs.declared.name.Site.{Site}
+use Rattle.yaml_parse_grammar.specs.Items.{Shape, Properties, node_at}
+use Rattle.yaml_parse_grammar.specs.Items as item
+use Rattle.yaml_parse_grammar.specs.Trees.{Span, token_at, PropertyTokens, Given, spell_properties, spell_node, spell_content, spell_maybe, properties_of}
+use Rattle.yaml_parse_grammar.specs.TreeSteps.{items_node, items_content, items_maybe, behind}
+use Rattle.yaml_parse_grammar.specs.Trees as trees
+use Rattle.yaml_parse_grammar.specs.Resolve.{Directives, gave, settle, reading, resolved, with_resolved, node_event}
+use Rattle.yaml_emit_laws_text.specs.emit_layout.emit_tags.Tags.{Split, shorthand, verbatim, split_tag}
+use Rattle.yaml_emit_laws_text.specs.emit_layout.emit_text.declared.Style.{Style}
+use Rattle.yaml_emit_laws_text.specs.emit_layout.emit_text.declared.Style.TheVariants as style
+use Rattle.yaml_emit_laws_text.specs.emit_layout.Grammar.{has}
+use Rattle.yaml_emit_laws_text.specs.TagsLaws.{resolved_split}
+use Rattle.yaml_emit_laws_text.specs.Bodies.{tag_body, anchor_bodies, tag_bodies, mark_bodies}
+use Rattle.yaml_round_laws_documents.specs.TreeLaws.{token_bodies, Says, IsNoMark, Grown}
+use Rattle.yaml_round_laws_documents.proofs.Growing.{take, step_says}
+use Rattle.yaml_round_laws_pretty.specs.Bodies.{style_named, takes_mark, is_bare, is_nothing, scalar_bodies}
+use Rattle.yaml_round_laws_pretty.specs.Reads.{scalar_reads}
+
+-- under the directives each tag is resolved as it was
+abbrev pub Resolves : List TagDirective → Type 0
+Resolves ds = (tag : List ℕ) → resolved_split ds (split_tag ds tag) ≡ Some tag
+
+-- The tokens begin with a part of a tree, of which the events are read, whatever follows.
+pub record Spelt (T : Type 0) (spell : T → List Token → List Token) (items : T → List Token → List Given → List Given) (ds : List TagDirective) (R : List EventBody → List EventBody) (ts : List Token) (bs : List TokenBody) : Type 0 where
+  pub tree : T
+  pub rest : List Token
+  pub same : ts ≡ spell tree rest
+  pub left : token_bodies rest ≡ bs
+  pub gives : (more : List Token) (gs : List Given) (f : Option Fault) (D : Directives) → D.tags ≡ ds → Says R (reading (items tree more gs) f D) (reading gs f D)
+
+abbrev pub MaybeGrown : Wants → Site → yaml_mark_t → List TagDirective → (List EventBody → List EventBody) → List Token → List TokenBody → Type 0
+MaybeGrown w at before ds R ts bs = Spelt (trees.Maybe w) (λ (n : trees.Maybe w) (rest : List Token). spell_maybe n rest) (λ (n : trees.Maybe w) (rest : List Token) (more : List Given). items_maybe n at before rest more) ds R ts bs
+
+pub held : (w : Wants) (at : Site) (before : yaml_mark_t) (ds : List TagDirective) (R : List EventBody → List EventBody) (ts : List Token) (bs : List TokenBody) → Grown w ds R ts bs → MaybeGrown w at before ds R ts bs
+held w at before ds R ts bs g = record { tree = trees.there g.tree; rest = g.rest; same = g.same; left = g.left; gives = g.gives }
+
+-- ---- properties
+
+pub record Named : Type 0 where
+  pub handle : List ℕ
+  pub suffix : List ℕ
+  pub full : List ℕ
+
+abbrev pub IsNamed : List TagDirective → Option Named → Type 0
+IsNamed ds None = Unit {0}
+IsNamed ds (Some x) = resolved ds x.handle x.suffix ≡ Some x.full
+
+abbrev pub named_bodies : Option Named → List TokenBody → List TokenBody
+named_bodies None bs = bs
+named_bodies (Some x) bs = token.tag x.handle x.suffix ∷ bs
+
+abbrev pub full_of : Option Named → Option (List ℕ)
+full_of None = None
+full_of (Some x) = Some x.full
+
+abbrev spell_if : Option PropertyTokens → List Token → List Token
+spell_if None ts = ts
+spell_if (Some d) ts = spell_properties d ts
+
+abbrev properties_if : Option PropertyTokens → Option Properties
+properties_if None = None
+properties_if (Some d) = Some (properties_of d)
+
+abbrev some_tokens : Option PropertyTokens → Bool
+some_tokens None = false
+some_tokens (Some d) = true
+
+abbrev some_named : Option Named → Bool
+some_named None = false
+some_named (Some x) = true
+
+record WithProperties (ds : List TagDirective) (anchor : Option (List ℕ)) (tag : Option Named) (ts : List Token) (bs : List TokenBody) : Type 0 where
+  dress : Option PropertyTokens
+  rest : List Token
+  same : ts ≡ spell_if dress rest
+  left : token_bodies rest ≡ bs
+  some : some_tokens dress ≡ (has anchor || some_named tag)
+  gives : (shape : Shape) (from to : yaml_mark_t) (D : Directives) → D.tags ≡ ds → settle (node_at (properties_if dress) shape from to) D ≡ gave (node_event anchor (full_of tag) shape) D
+
+resolves : (ds : List TagDirective) (handle suffix full : List ℕ) (anchor : Option (List ℕ)) (shape : Shape) (from at : yaml_mark_t) (D : Directives) → resolved ds handle suffix ≡ Some full → D.tags ≡ ds
+    → with_resolved (resolved D.tags handle suffix) anchor shape from at D ≡ gave (node_event anchor (Some full) shape) D
+resolves ds handle suffix full anchor shape from at D e t =
+    ap (λ (o : Option (List ℕ)). with_resolved o anchor shape from at D) (ap (λ (x : List TagDirective). resolved x handle suffix) t ∙ e)
+
+with_properties : (ds : List TagDirective) (anchor : Option (List ℕ)) (tag : Option Named) → IsNamed ds tag → (ts : List Token) (bs : List TokenBody) → token_bodies ts ≡ anchor_bodies anchor (named_bodies tag bs) → WithProperties ds anchor tag ts bs
+with_properties ds None None h ts bs e = record { dress = None; rest = ts; same = refl; left = e; some = refl; gives = λ shape from to D t. refl }
+with_properties ds (Some a) None h ts bs e =
+    let x = take ts (token.anchor a) bs e in
+    record { dress = Some (trees.anchor (record { name = a; span = x.span })); rest = x.rest; same = x.same; left = x.left; some = refl; gives = λ shape from to D t. refl }
+with_properties ds None (Some n) h ts bs e =
+    let x = take ts (token.tag n.handle n.suffix) bs e in
+    record {
+      dress = Some (trees.tag (record { handle = n.handle; suffix = n.suffix; span = x.span }));
+      rest = x.rest;
+      same = x.same;
+      left = x.left;
+      some = refl;
+      gives = λ shape from to D t. resolves ds n.handle n.suffix n.full None shape x.span.from x.span.from D h t;
+    }
+with_properties ds (Some a) (Some n) h ts bs e =
+    let x = take ts (token.anchor a) (token.tag n.handle n.suffix ∷ bs) e in
+    let y = take x.rest (token.tag n.handle n.suffix) bs x.left in
+    record {
+      dress = Some (trees.anchor_tag (record { name = a; span = x.span }) (record { handle = n.handle; suffix = n.suffix; span = y.span }));
+      rest = y.rest;
+      same = x.same ∙ ap (λ (r : List Token). token_at (token.anchor a) x.span ∷ r) y.same;
+      left = y.left;
+      some = refl;
+      gives = λ shape from to D t. resolves ds n.handle n.suffix n.full (Some a) shape x.span.from y.span.from D h t;
+    }
+
+-- the tag that is written, and what it resolves to
+abbrev split_handle : Split → List ℕ
+split_handle (shorthand handle suffix) = handle
+split_handle (verbatim t) = []
+
+abbrev split_suffix : Split → List ℕ
+split_suffix (shorthand handle suffix) = suffix
+split_suffix (verbatim t) = t
+
+split_body : (s : Split) → tag_body s ≡ token.tag (split_handle s) (split_suffix s)
+split_body (shorthand handle suffix) = refl
+split_body (verbatim t) = refl
+
+split_resolved : (ds : List TagDirective) (s : Split) → resolved ds (split_handle s) (split_suffix s) ≡ resolved_split ds s
+split_resolved ds (shorthand handle suffix) = refl
+split_resolved ds (verbatim t) = refl
+
+abbrev tag_named : List TagDirective → Option (List ℕ) → Option Named
+tag_named ds None = None
+tag_named ds (Some t) = Some (record { handle = split_handle (split_tag ds t); suffix = split_suffix (split_tag ds t); full = t })
+
+tag_is_named : (ds : List TagDirective) → Resolves ds → (tag : Option (List ℕ)) → IsNamed ds (tag_named ds tag)
+tag_is_named ds r None = tt
+tag_is_named ds r (Some t) = split_resolved ds (split_tag ds t) ∙ r t
+
+tag_bodies_are : (ds : List TagDirective) (tag : Option (List ℕ)) (bs : List TokenBody) → tag_bodies ds tag bs ≡ named_bodies (tag_named ds tag) bs
+tag_bodies_are ds None bs = refl
+tag_bodies_are ds (Some t) bs = ap (λ (b : TokenBody). b ∷ bs) (split_body (split_tag ds t))
+
+full_is : (ds : List TagDirective) (tag : Option (List ℕ)) → full_of (tag_named ds tag) ≡ tag
+full_is ds None = refl
+full_is ds (Some t) = refl
+
+-- of a scalar: with `!` where that is asked and it is untagged
+abbrev bang : Named
+bang = record { handle = []; suffix = 33 ∷ []; full = 33 ∷ [] }
+
+abbrev scalar_named : List TagDirective → Option (List ℕ) → Bool → Option Named
+scalar_named ds None true = Some bang
+scalar_named ds None false = None
+scalar_named ds (Some t) marked = tag_named ds (Some t)
+
+scalar_is_named : (ds : List TagDirective) → Resolves ds → (tag : Option (List ℕ)) (marked : Bool) → IsNamed ds (scalar_named ds tag marked)
+scalar_is_named ds r None true = refl
+scalar_is_named ds r None false = tt
+scalar_is_named ds r (Some t) marked = tag_is_named ds r (Some t)
+
+scalar_bodies_are : (ds : List TagDirective) (tag : Option (List ℕ)) (marked : Bool) (bs : List TokenBody) → tag_bodies ds tag (mark_bodies (not (has tag) && marked) bs) ≡ named_bodies (scalar_named ds tag marked) bs
+scalar_bodies_are ds None true bs = refl
+scalar_bodies_are ds None false bs = refl
+scalar_bodies_are ds (Some t) marked bs = tag_bodies_are ds (Some t) bs
+
+-- ---- a content behind them
+
+abbrev with_dress : {w : Wants} → Option PropertyTokens → trees.Content w → trees.Node w
+with_dress None c = trees.bare c
+with_dress (Some d) c = trees.with_properties d c
+
+dress_spells : (w : Wants) (d : Option PropertyTokens) (c : trees.Content w) (rest : List Token) → spell_node (with_dress d c) rest ≡ spell_if d (spell_content c rest)
+dress_spells w None c rest = refl
+dress_spells w (Some d) c rest = refl
+
+dress_gives : (w : Wants) (d : Option PropertyTokens) (c : trees.Content w) (rest : List Token) (more : List Given) → items_node (with_dress d c) rest more ≡ items_content c (properties_if d) rest more
+dress_gives w None c rest more = refl
+dress_gives w (Some d) c rest more = refl
+
+-- The tokens begin with a content of that shape: whatever its properties settle to stands in front of the events in it.
+pub record Contained (w : Wants) (ds : List TagDirective) (shape : Shape) (R : List EventBody → List EventBody) (ts : List Token) (bs : List TokenBody) : Type 0 where
+  pub tree : trees.Content w
+  pub rest : List Token
+  pub same : ts ≡ spell_content tree rest
+  pub left : token_bodies rest ≡ bs
+  pub gives : (o : Option Properties) (b : EventBody) (more : List Token) (gs : List Given) (f : Option Fault) (D : Directives) → D.tags ≡ ds
+      → ((from to : yaml_mark_t) → settle (node_at o shape from to) D ≡ gave b D) → Says (λ es. b ∷ R es) (reading (items_content tree o more gs) f D) (reading gs f D)
+
+dressed_named : (w : Wants) (ds : List TagDirective) (anchor : Option (List ℕ)) (tag : Option Named) → IsNamed ds tag → (shape : Shape) (R : List EventBody → List EventBody) (cs bs : List TokenBody) → ((us : List Token) → token_bodies us ≡ cs → Contained w ds shape R us bs)
+    → (ts : List Token) → token_bodies ts ≡ anchor_bodies anchor (named_bodies tag cs) → Grown w ds (λ es. node_event anchor (full_of tag) shape ∷ R es) ts bs
+dressed_named w ds anchor tag h shape R cs bs inner ts e =
+    let d = with_properties ds anchor tag h ts cs e in
+    let c = inner d.rest d.left in
+    record {
+      tree = with_dress d.dress c.tree;
+      rest = c.rest;
+      same = d.same ∙ ap (λ (y : List Token). spell_if d.dress y) c.same ∙ sym (dress_spells w d.dress c.tree c.rest);
+      left = c.left;
+      gives = λ more gs f D same.
+          let P : List Given → Type 0 = λ y. Says (λ es. node_event anchor (full_of tag) shape ∷ R es) (reading y f D) (reading gs f D) in
+          subst P (sym (dress_gives w d.dress c.tree more gs)) (c.gives (properties_if d.dress) (node_event anchor (full_of tag) shape) more gs f D same (λ from to. d.gives shape from to D same));
+    }
+
+-- of a collection
+pub dressed : (w : Wants) (ds : List TagDirective) → Resolves ds → (anchor tag : Option (List ℕ)) (shape : Shape) (R : List EventBody → List EventBody) (cs bs : List TokenBody) → ((us : List Token) → token_bodies us ≡ cs → Contained w ds shape R us bs)
+    → (ts : List Token) → token_bodies ts ≡ anchor_bodies anchor (tag_bodies ds tag cs) → Grown w ds (λ es. node_event anchor tag shape ∷ R es) ts bs
+dressed w ds r anchor tag shape R cs bs inner ts e =
+    let named = e ∙ ap (λ (y : List TokenBody). anchor_bodies anchor y) (tag_bodies_are ds tag cs) in
+    let P : Option (List ℕ) → Type 0 = λ t. Grown w ds (λ es. node_event anchor t shape ∷ R es) ts bs in
+    subst P (full_is ds tag) (dressed_named w ds anchor (tag_named ds tag) (tag_is_named ds r tag) shape R cs bs inner ts named)
+
+-- ---- scalars
+
+no_truth : false ≡ true → ⊥
+no_truth e = absurd (cc)
+
+no_lie : true ≡ false → ⊥
+no_lie e = absurd (cc)
+
+tagged_event : (b : Bool) (anchor : Option (List ℕ)) (t value : List ℕ) (s : yaml_scalar_style_t) → b ≡ false
+    → (if b then event.scalar anchor None value true false s else event.scalar anchor (Some t) value false false s) ≡ event.scalar anchor (Some t) value false false s
+tagged_event true anchor t value s e = absurd (no_lie e)
+tagged_event false anchor t value s e = refl
+
+untagged_event : (anchor : Option (List ℕ)) (value : List ℕ) (s : Style) → node_event anchor None (item.scalar value (style_named s)) ≡ scalar_reads anchor None value false s
+untagged_event anchor value style.Plain = refl
+untagged_event anchor value style.Single = refl
+untagged_event anchor value style.Double = refl
+untagged_event anchor value style.Literal = refl
+untagged_event anchor value style.Folded = refl
+
+event_is : (ds : List TagDirective) (anchor tag : Option (List ℕ)) (value : List ℕ) (marked : Bool) (s : Style) → IsNoMark tag
+    → node_event anchor (full_of (scalar_named ds tag marked)) (item.scalar value (style_named s)) ≡ scalar_reads anchor tag value marked s
+event_is ds anchor None value true s h = refl
+event_is ds anchor None value false s h = untagged_event anchor value s
+event_is ds anchor (Some t) value marked s h = tagged_event (bytes_eq t (codes "!")) anchor t value (style_named s) h
+
+scalar_contained : (w : Wants) (ds : List TagDirective) (value : List ℕ) (s : yaml_scalar_style_t) (bs : List TokenBody) (us : List Token) → token_bodies us ≡ token.scalar value s ∷ bs → Contained w ds (item.scalar value s) (λ es. es) us bs
+scalar_contained w ds value s bs us e =
+    let t = take us (token.scalar value s) bs e in
+    record {
+      tree = trees.scalar t.span value s;
+      rest = t.rest;
+      same = t.same;
+      left = t.left;
+      gives = λ o b more gs f D same settles. step_says (node_at o (item.scalar value s) t.span.from t.span.to, length more) gs f D b (settles t.span.from t.span.to);
+    }
+
+-- a scalar that has a word
+worded : (w : Wants) (ds : List TagDirective) → Resolves ds → (anchor tag : Option (List ℕ)) → IsNoMark tag → (value : List ℕ) (marked : Bool) (s : Style) (bs : List TokenBody) (ts : List Token)
+    → token_bodies ts ≡ anchor_bodies anchor (tag_bodies ds tag (mark_bodies (not (has tag) && marked) (token.scalar value (style_named s) ∷ bs))) → Grown w ds (λ es. scalar_reads anchor tag value marked s ∷ es) ts bs
+worded w ds r anchor tag fine value marked s bs ts e =
+    let cs = token.scalar value (style_named s) ∷ bs in
+    let named = e ∙ ap (λ (y : List TokenBody). anchor_bodies anchor y) (scalar_bodies_are ds tag marked cs) in
+    let P : EventBody → Type 0 = λ b. Grown w ds (λ es. b ∷ es) ts bs in
+    subst P (event_is ds anchor tag value marked s fine)
+    (dressed_named w ds anchor (scalar_named ds tag marked) (scalar_is_named ds r tag marked) (item.scalar value (style_named s)) (λ es. es) cs bs (scalar_contained w ds value (style_named s) bs) ts named)
+
+-- properties alone
+alone_by : (w : Wants) (ds : List TagDirective) (anchor tag : Option (List ℕ)) (d : Option PropertyTokens) → some_tokens d ≡ true → (ts rest : List Token) (bs : List TokenBody) → ts ≡ spell_if d rest → token_bodies rest ≡ bs
+    → ((from to : yaml_mark_t) (D : Directives) → D.tags ≡ ds → settle (node_at (properties_if d) item.empty from to) D ≡ gave (node_event anchor tag item.empty) D) → Grown w ds (λ es. node_event anchor tag item.empty ∷ es) ts bs
+alone_by w ds anchor tag None some ts rest bs same left gives = absurd (no_truth some)
+alone_by w ds anchor tag (Some d) some ts rest bs same left gives = record {
+  tree = trees.only_properties d;
+  rest = rest;
+  same = same;
+  left = left;
+  gives = λ more gs f D is. step_says (item.properties_alone (properties_of d), behind more) gs f D (node_event anchor tag item.empty) (gives (properties_of d).to (properties_of d).to D is);
+}
+
+some_either : (ds : List TagDirective) (anchor tag : Option (List ℕ)) → is_bare anchor tag ≡ false → (has anchor || some_named (tag_named ds tag)) ≡ true
+some_either ds None None h = absurd (no_lie h)
+some_either ds None (Some t) h = refl
+some_either ds (Some a) tag h = refl
+
+alone : (w : Wants) (ds : List TagDirective) → Resolves ds → (anchor tag : Option (List ℕ)) → is_bare anchor tag ≡ false → (bs : List TokenBody) (ts : List Token) → token_bodies ts ≡ anchor_bodies anchor (tag_bodies ds tag bs)
+    → Grown w ds (λ es. node_event anchor tag item.empty ∷ es) ts bs
+alone w ds r anchor tag some bs ts e =
+    let named = e ∙ ap (λ (y : List TokenBody). anchor_bodies anchor y) (tag_bodies_are ds tag bs) in
+    let d = with_properties ds anchor (tag_named ds tag) (tag_is_named ds r tag) ts bs named in
+    let P : Option (List ℕ) → Type 0 = λ t. Grown w ds (λ es. node_event anchor t item.empty ∷ es) ts bs in
+    subst P (full_is ds tag) (alone_by w ds anchor (full_of (tag_named ds tag)) d.dress (d.some ∙ some_either ds anchor tag some) ts d.rest bs d.same d.left (λ from to D is. d.gives item.empty from to D is))
+
+unmarked : (quoted : Bool) → takes_mark quoted style.Plain ≡ false
+unmarked true = refl
+unmarked false = refl
+
+unmarked_too : (tagged quoted : Bool) → (not tagged && takes_mark quoted style.Plain) ≡ false
+unmarked_too true quoted = refl
+unmarked_too false quoted = unmarked quoted
+
+empty_event : (anchor tag : Option (List ℕ)) → node_event anchor tag item.empty ≡ scalar_reads anchor tag [] false style.Plain
+empty_event anchor None = refl
+empty_event anchor (Some t) = refl
+
+empty_grown : (w : Wants) (ds : List TagDirective) → Resolves ds → (anchor tag : Option (List ℕ)) → is_bare anchor tag ≡ false → (quoted : Bool) (bs : List TokenBody) (ts : List Token)
+    → token_bodies ts ≡ anchor_bodies anchor (tag_bodies ds tag (mark_bodies (not (has tag) && takes_mark quoted style.Plain) bs)) → Grown w ds (λ es. scalar_reads anchor tag [] (takes_mark quoted style.Plain) style.Plain ∷ es) ts bs
+empty_grown w ds r anchor tag some quoted bs ts e =
+    let plain = e ∙ ap (λ (b : Bool). anchor_bodies anchor (tag_bodies ds tag (mark_bodies b bs))) (unmarked_too (has tag) quoted) in
+    let P : EventBody → Type 0 = λ b. Grown w ds (λ es. b ∷ es) ts bs in
+    subst P (empty_event anchor tag ∙ ap (λ (b : Bool). scalar_reads anchor tag [] b style.Plain) (sym (unmarked quoted))) (alone w ds r anchor tag some bs ts plain)
+
+abbrev ScalarBodies : List TagDirective → Bool → Style → Option (List ℕ) → Option (List ℕ) → List ℕ → Bool → List TokenBody → List TokenBody
+ScalarBodies ds flow s anchor tag value quoted bs = anchor_bodies anchor (tag_bodies ds tag (mark_bodies (not (has tag) && takes_mark quoted s) (scalar_bodies flow s value bs)))
+
+-- a scalar for which something stands
+pub scalar_grown : (w : Wants) (ds : List TagDirective) → Resolves ds → (flow : Bool) (s : Style) (anchor tag : Option (List ℕ)) → IsNoMark tag → (value : List ℕ) (quoted : Bool) → (is_nothing flow s value && is_bare anchor tag) ≡ false → (bs : List TokenBody) (ts : List Token)
+    → token_bodies ts ≡ ScalarBodies ds flow s anchor tag value quoted bs → Grown w ds (λ es. scalar_reads anchor tag value (takes_mark quoted s) s ∷ es) ts bs
+scalar_grown w ds r true s anchor tag fine value quoted some bs ts e = worded w ds r anchor tag fine value (takes_mark quoted s) s bs ts e
+scalar_grown w ds r false style.Plain anchor tag fine [] quoted some bs ts e = empty_grown w ds r anchor tag some quoted bs ts e
+scalar_grown w ds r false style.Plain anchor tag fine (c ∷ cs) quoted some bs ts e = worded w ds r anchor tag fine (c ∷ cs) (takes_mark quoted style.Plain) style.Plain bs ts e
+scalar_grown w ds r false style.Single anchor tag fine value quoted some bs ts e = worded w ds r anchor tag fine value (takes_mark quoted style.Single) style.Single bs ts e
+scalar_grown w ds r false style.Double anchor tag fine value quoted some bs ts e = worded w ds r anchor tag fine value (takes_mark quoted style.Double) style.Double bs ts e
+scalar_grown w ds r false style.Literal anchor tag fine value quoted some bs ts e = worded w ds r anchor tag fine value (takes_mark quoted style.Literal) style.Literal bs ts e
+scalar_grown w ds r false style.Folded anchor tag fine value quoted some bs ts e = worded w ds r anchor tag fine value (takes_mark quoted style.Folded) style.Folded bs ts e
+
+nothing_held : (w : Wants) (at : Site) (before : yaml_mark_t) (ds : List TagDirective) (quoted : Bool) (bs : List TokenBody) (ts : List Token) → token_bodies ts ≡ bs
+    → MaybeGrown w at before ds (λ es. scalar_reads None None [] (takes_mark quoted style.Plain) style.Plain ∷ es) ts bs
+nothing_held w at before ds quoted bs ts e = record {
+  tree = trees.left_out;
+  rest = ts;
+  same = refl;
+  left = e;
+  gives = λ more gs f D is. step_says _ gs f D (scalar_reads None None [] (takes_mark quoted style.Plain) style.Plain) (ap (λ (b : Bool). gave (scalar_reads None None [] b style.Plain) D) (sym (unmarked quoted)));
+}
+
+-- a scalar for which nothing stands
+pub scalar_left_out : (w : Wants) (at : Site) (before : yaml_mark_t) (ds : List TagDirective) (flow : Bool) (s : Style) (anchor tag : Option (List ℕ)) (value : List ℕ) (quoted : Bool) → (is_nothing flow s value && is_bare anchor tag) ≡ true → (bs : List TokenBody) (ts : List Token)
+    → token_bodies ts ≡ ScalarBodies ds flow s anchor tag value quoted bs → MaybeGrown w at before ds (λ es. scalar_reads anchor tag value (takes_mark quoted s) s ∷ es) ts bs
+scalar_left_out w at before ds true s anchor tag value quoted none bs ts e = absurd (no_truth none)
+scalar_left_out w at before ds false style.Plain None None [] quoted none bs ts e = nothing_held w at before ds quoted bs ts (e ∙ ap (λ (b : Bool). mark_bodies b bs) (unmarked_too false quoted))
+scalar_left_out w at before ds false style.Plain None (Some t) [] quoted none bs ts e = absurd (no_truth none)
+scalar_left_out w at before ds false style.Plain (Some a) tag [] quoted none bs ts e = absurd (no_truth none)
+scalar_left_out w at before ds false style.Plain anchor tag (c ∷ cs) quoted none bs ts e = absurd (no_truth none)
+scalar_left_out w at before ds false style.Single anchor tag value quoted none bs ts e = absurd (no_truth none)
+scalar_left_out w at before ds false style.Double anchor tag value quoted none bs ts e = absurd (no_truth none)
+scalar_left_out w at before ds false style.Literal anchor tag value quoted none bs ts e = absurd (no_truth none)
+scalar_left_out w at before ds false style.Folded anchor tag value quoted none bs ts e = absurd (no_truth none)

@@ -1,0 +1,221 @@
+-- What is laid out in pretty form for an input may be written.
+use Rattle.std.proofs.Common.{◌≡◌, ℕ, ◌<◌, Bool, true, false, ◌&&◌, ◌==◌, if◌then◌else◌, List, [], ◌∷◌, length, Option, Some, None, refl, sym, ap, subst, ◌∙◌, IsUtf8, arith}
+use Rattle.std.specs.List.{list_all}
+use Rattle.std.proofs.lemmas.Bool.Decides.{nat_tests}
+use Rattle.yaml_parse_grammar.specs.parse_model.declared.yaml_scalar_style_t.{yaml_scalar_style_t}
+use Rattle.yaml_parse_grammar.specs.parse_model.Constructors.{IsUtf8Option, AreUtf8, HasUtf8}
+use Rattle.yaml_parse_grammar.specs.parse_model.Events.{EventBody, TagDirective}
+use Rattle.yaml_parse_grammar.specs.parse_model.Events as event
+use Rattle.yaml_parse_grammar.specs.Resolve.{Told}
+use Rattle.yaml_emit_laws_text.specs.emit_layout.scan.Classes.{is_alpha_byte}
+use Rattle.yaml_emit_laws_text.specs.scan_history.scan_words.Written.{are_alphas}
+use Rattle.yaml_emit_laws_text.specs.emit_layout.declared.problem.Problem.{Problem}
+use Rattle.yaml_emit_laws_text.specs.emit_layout.Content as emit
+use Rattle.yaml_emit_laws_text.specs.emit_layout.Grammar.{or_else, name_problem, anchor_problem, tag_problem, scalar_tag, start_tag, event_problem, last_problem, own_problem, own_problems, opening_problem}
+use Rattle.yaml_emit_laws_text.specs.TagsLaws.{HaveUtf8}
+use Rattle.yaml_emit_laws_text.specs.Writable as text
+use Rattle.yaml_emit_laws_text.proofs.Joining.{written_readable}
+use Rattle.yaml_round_content.specs.Normalize.{is_lone_mark, normalize_scalar, normalize_body}
+use Rattle.yaml_round_content.specs.Events.{emitter_events}
+use Rattle.yaml_round_content.specs.Input.{events_of}
+use Rattle.yaml_round_content.specs.WritableLaws.{HaveUtf8Texts}
+use Rattle.yaml_round_content.proofs.Utf8.{input_utf8}
+use Rattle.yaml_round_laws_documents.specs.BytesLaws as bytes
+use Rattle.yaml_round_laws_documents.specs.Adapting.{IsReadableTag, IsTagged, AreTagged, PairsAreTagged, HaveTexts}
+use Rattle.yaml_round_laws_pretty.specs.Flags.{HasFlags, HaveFlags, PairsHaveFlags, HaveReaderFlags}
+use Rattle.yaml_round_laws_pretty.specs.Laws.{InputsLayoutIsWritable}
+use Rattle.yaml_round_laws_pretty.proofs.Contents.{start_by}
+use Rattle.yaml_round_laws_pretty.proofs.Lost.{written_is}
+use Rattle.yaml_round_laws_pretty.proofs.InputFlags.{inputs_flags}
+use Rattle.yaml_round_laws_pretty.proofs.InputPremises.{or_first, or_second, Right, head, tail, opening_right}
+
+-- ---- texts of events
+
+abbrev Texts : emit.Event → Type 0
+Texts (emit.document_start o) = HaveUtf8 o.directives
+Texts (emit.scalar x) = bytes.IsTextOption x.tag × IsUtf8 x.value
+Texts (emit.sequence_start o) = bytes.IsTextOption o.tag
+Texts (emit.mapping_start o) = bytes.IsTextOption o.tag
+Texts other = Unit {0}
+
+-- nothing is wrong with it, and its texts are UTF-8
+abbrev IsGood : emit.Event → Type 0
+IsGood e = (own_problem false e ≡ None) × Texts e
+
+abbrev AreGood : List emit.Event → Type 0
+AreGood [] = Unit {0}
+AreGood (e ∷ es) = IsGood e × AreGood es
+
+option_text : (t : Option (List ℕ)) → IsUtf8Option t → bytes.IsTextOption t
+option_text None u = tt
+option_text (Some t) u = u
+
+directives_text : (ds : List TagDirective) → AreUtf8 ds → HaveUtf8 ds
+directives_text [] u = tt
+directives_text (d ∷ ds) ((h, u), us) = (u, directives_text ds us)
+
+scalar_text : (lone : Bool) (anchor tag : Option (List ℕ)) (value : List ℕ) (plain quoted : Bool) (style : yaml_scalar_style_t) → IsUtf8Option tag → IsUtf8 value
+    → Texts (emit.emitter_event (normalize_scalar lone anchor tag value plain quoted style))
+scalar_text true anchor tag value plain quoted style t u = (tt, u)
+scalar_text false anchor tag value plain quoted style t u = (option_text tag t, u)
+
+body_text : (b : EventBody) → HasUtf8 b → Texts (emit.emitter_event (normalize_body false b))
+body_text event.no u = tt
+body_text (event.stream_start encoding) u = tt
+body_text event.stream_end u = tt
+body_text (event.document_start version directives implicit) u = directives_text directives u
+body_text (event.document_end implicit) u = tt
+body_text (event.alias name) u = tt
+body_text (event.scalar anchor tag value plain quoted style) (a, t, u) = scalar_text (is_lone_mark tag value) anchor tag value plain quoted style t u
+body_text (event.sequence_start anchor tag implicit style) (a, t) = option_text tag t
+body_text event.sequence_end u = tt
+body_text (event.mapping_start anchor tag implicit style) (a, t) = option_text tag t
+body_text event.mapping_end u = tt
+
+abbrev AllTexts : List emit.Event → Type 0
+AllTexts [] = Unit {0}
+AllTexts (e ∷ es) = Texts e × AllTexts es
+
+told_texts : (es : List Told) → HaveUtf8Texts es → AllTexts (emitter_events false es)
+told_texts [] us = tt
+told_texts (t ∷ ts) (u, us) = (body_text t.0.body u, told_texts ts us)
+
+good : (es : List emit.Event) → Right false es → AllTexts es → AreGood es
+good [] r us = tt
+good (e ∷ es) r (u, us) = ((head false e es r, u), good es (tail false e es r) us)
+
+-- ---- names and tags
+
+two_tests : (p q : Problem) (e l : Bool) → (if e then Some p else if l then None else Some q) ≡ None → (e ≡ false) × (l ≡ true)
+two_tests p q true l h = absurd (cc)
+two_tests p q false true h = (refl, refl)
+two_tests p q false false h = absurd (cc)
+
+one_test : (p : Problem) (e : Bool) → (if e then Some p else None) ≡ None → e ≡ false
+one_test p true h = absurd (cc)
+one_test p false h = refl
+
+positive : (n : ℕ) → (n == 0) ≡ false → 0 < n
+positive n e = grind (arith, nat_tests)
+
+alphas_are : (bs : List ℕ) → list_all is_alpha_byte bs ≡ are_alphas bs
+alphas_are [] = refl
+alphas_are (b ∷ bs) = ap (λ (more : Bool). is_alpha_byte b && more) (alphas_are bs)
+
+name_good : (p q : Problem) (name : List ℕ) → name_problem p q name ≡ None → text.IsWritableName name × bytes.IsName name
+name_good p q name h =
+    let (some, alphas) = two_tests p q (length name == 0) (list_all is_alpha_byte name) h in
+    ((positive (length name) some, sym (alphas_are name) ∙ alphas), alphas)
+
+anchor_good : (anchor : Option (List ℕ)) → anchor_problem anchor ≡ None → text.IsWritableAnchor anchor × bytes.IsNameOption anchor
+anchor_good None h = (tt, tt)
+anchor_good (Some name) h = name_good _ _ name h
+
+tag_good : (tag written : Option (List ℕ)) → written ≡ tag → tag_problem written ≡ None → bytes.IsTextOption tag → text.IsWritableTag tag
+tag_good None written w h u = tt
+tag_good (Some t) written w h u = (positive (length t) (one_test _ (length t == 0) (sym (ap (λ (o : Option (List ℕ)). tag_problem o) w) ∙ h)), u)
+
+-- ---- nodes
+
+alias_good : (name : List ℕ) → IsGood (emit.alias name) → text.IsWritableName name × bytes.IsName name
+unfolding event_problem last_problem
+alias_good name (h, u) = name_good _ _ name (or_first (event_problem false (emit.alias name)) None h)
+
+scalar_good : (x : emit.Scalar) → HasFlags (emit.scalar_node x) → IsGood (emit.scalar x) → text.IsWritable (emit.scalar_node x) × bytes.IsSpellable (emit.scalar_node x)
+unfolding event_problem
+scalar_good x flags (h, (t, u)) =
+    let own = or_first (event_problem false (emit.scalar x)) (last_problem (emit.scalar x)) h in
+    let (a, b) = anchor_good x.anchor (or_first (anchor_problem x.anchor) (tag_problem (scalar_tag false x)) own) in
+    let tag = tag_good x.tag (scalar_tag false x) (written_is x.tag x.plain x.quoted flags) (or_second (anchor_problem x.anchor) (tag_problem (scalar_tag false x)) own) t in
+    ((a, tag, u), (b, t, u))
+
+start_good : (o : emit.Start) → start_tag false o ≡ o.tag → or_else (anchor_problem o.anchor) (tag_problem (start_tag false o)) ≡ None → bytes.IsTextOption o.tag
+    → (text.IsWritableAnchor o.anchor × text.IsWritableTag o.tag) × (bytes.IsNameOption o.anchor × bytes.IsTextOption o.tag)
+start_good o w own t =
+    let (a, b) = anchor_good o.anchor (or_first (anchor_problem o.anchor) (tag_problem (start_tag false o)) own) in
+    ((a, tag_good o.tag (start_tag false o) w (or_second (anchor_problem o.anchor) (tag_problem (start_tag false o)) own) t), (b, t))
+
+sequence_good : (o : emit.Start) → start_tag false o ≡ o.tag → IsGood (emit.sequence_start o) → (text.IsWritableAnchor o.anchor × text.IsWritableTag o.tag) × (bytes.IsNameOption o.anchor × bytes.IsTextOption o.tag)
+unfolding event_problem last_problem
+sequence_good o w (h, t) = start_good o w (or_first (event_problem false (emit.sequence_start o)) None h) t
+
+mapping_good : (o : emit.Start) → start_tag false o ≡ o.tag → IsGood (emit.mapping_start o) → (text.IsWritableAnchor o.anchor × text.IsWritableTag o.tag) × (bytes.IsNameOption o.anchor × bytes.IsTextOption o.tag)
+unfolding event_problem last_problem
+mapping_good o w (h, t) = start_good o w (or_first (event_problem false (emit.mapping_start o)) None h) t
+
+mutual
+  unfolding emit.node_events emit.items_events emit.pairs_events
+
+  node_good : (n : emit.Node) → HasFlags n → (es : List emit.Event) → AreGood (emit.node_events n es) → (text.IsWritable n × bytes.IsSpellable n) × AreGood es
+  node_good (emit.alias_node name) flags es (g, gs) = (alias_good name g, gs)
+  node_good (emit.scalar_node x) flags es (g, gs) = (scalar_good x flags g, gs)
+  node_good (emit.sequence_node o items) (f, flags) es (g, gs) =
+      let ((a, t), (b, u)) = sequence_good o (start_by o.tag o.implicit f) g in
+      let ((w, s), (last, rest)) = items_good items flags (emit.sequence_end ∷ es) gs in
+      (((a, t, w), (b, u, s)), rest)
+  node_good (emit.mapping_node o pairs) (f, flags) es (g, gs) =
+      let ((a, t), (b, u)) = mapping_good o (start_by o.tag o.implicit f) g in
+      let ((w, s), (last, rest)) = pairs_good pairs flags (emit.mapping_end ∷ es) gs in
+      (((a, t, w), (b, u, s)), rest)
+
+  items_good : (ns : emit.Nodes) → HaveFlags ns → (es : List emit.Event) → AreGood (emit.items_events ns es) → (text.AreItemsWritable ns × bytes.AreSpellable ns) × AreGood es
+  items_good emit.no_nodes flags es gs = ((tt, tt), gs)
+  items_good (emit.node x xs) (f, flags) es gs =
+      let ((w, s), more) = node_good x f (emit.items_events xs es) gs in
+      let ((ws, ss), rest) = items_good xs flags es more in
+      (((w, ws), (s, ss)), rest)
+
+  pairs_good : (ps : emit.Pairs) → PairsHaveFlags ps → (es : List emit.Event) → AreGood (emit.pairs_events ps es) → (text.ArePairsWritable ps × bytes.PairsAreSpellable ps) × AreGood es
+  pairs_good emit.no_pairs flags es gs = ((tt, tt), gs)
+  pairs_good (emit.pair k v ps) (fk, fv, flags) es gs =
+      let ((wk, sk), behind) = node_good k fk (emit.node_events v (emit.pairs_events ps es)) gs in
+      let ((wv, sv), more) = node_good v fv (emit.pairs_events ps es) behind in
+      let ((ws, ss), rest) = pairs_good ps flags es more in
+      (((wk, wv, ws), (sk, sv, ss)), rest)
+
+-- ---- tags that can be read
+
+-- the directives may be written
+record Opened (o : emit.Opening) : Type 0 where
+  right : opening_problem o ≡ None
+  utf8 : HaveUtf8 o.directives
+
+readable_tag : (o : emit.Opening) → Opened o → (tag : Option (List ℕ)) → text.IsWritableTag tag → IsReadableTag o.directives tag
+readable_tag o h None t = tt
+readable_tag o h (Some t) (some, utf8) = written_readable o h.right h.utf8 t utf8 some
+
+mutual
+  node_tagged : (o : emit.Opening) → Opened o → (n : emit.Node) → text.IsWritable n → IsTagged o.directives n
+  node_tagged o h (emit.alias_node name) w = tt
+  node_tagged o h (emit.scalar_node x) (a, t, v) = readable_tag o h x.tag t
+  node_tagged o h (emit.sequence_node q items) (a, t, w) = (readable_tag o h q.tag t, items_tagged o h items w)
+  node_tagged o h (emit.mapping_node q pairs) (a, t, w) = (readable_tag o h q.tag t, pairs_tagged o h pairs w)
+
+  items_tagged : (o : emit.Opening) → Opened o → (ns : emit.Nodes) → text.AreItemsWritable ns → AreTagged o.directives ns
+  items_tagged o h emit.no_nodes w = tt
+  items_tagged o h (emit.node x xs) (w, ws) = (node_tagged o h x w, items_tagged o h xs ws)
+
+  pairs_tagged : (o : emit.Opening) → Opened o → (ps : emit.Pairs) → text.ArePairsWritable ps → PairsAreTagged o.directives ps
+  pairs_tagged o h emit.no_pairs w = tt
+  pairs_tagged o h (emit.pair k v ps) (wk, wv, ws) = (node_tagged o h k wk, node_tagged o h v wv, pairs_tagged o h ps ws)
+
+-- ---- documents
+
+prefixes : (ds : List TagDirective) → HaveUtf8 ds → bytes.HavePrefixes ds
+prefixes [] h = tt
+prefixes (d ∷ ds) (h, hs) = (h, prefixes ds hs)
+
+documents_good : (ds : List emit.Document) → HaveReaderFlags ds → AreGood (emit.documents_events ds) → text.AreWritable ds × bytes.DocumentsAreSpellable ds × HaveTexts ds
+unfolding emit.documents_events
+documents_good [] flags gs = (tt, tt, tt)
+documents_good (d ∷ ds) (f, flags) ((own, utf8), gs) =
+    let ((w, s), (end, more)) = node_good d.root f (emit.document_end d.implicit_end ∷ emit.documents_events ds) gs in
+    let (ws, ss, ts) = documents_good ds flags more in
+    let right = opening_right false d.opening own in
+    (((right, utf8), w, ws), (right, prefixes d.opening.directives utf8, s, ss), (utf8, node_tagged d.opening (record { right = right; utf8 = utf8 }) d.root w, ts))
+
+pub layout_writable : InputsLayoutIsWritable
+layout_writable w pretty from input x whole stream =
+    let told = good (emitter_events false (events_of from input)) (sym (ap (λ (c : Bool). own_problems c (emitter_events false (events_of from input))) pretty) ∙ stream.right) (told_texts (events_of from input) (input_utf8 from input)) in
+    let (first, rest) = subst (λ (es : List emit.Event). AreGood es) stream.same told in
+    documents_good stream.documents (inputs_flags from input stream.encoding stream.documents stream.same).0 rest

@@ -1,0 +1,109 @@
+-- Pretty text reads back exactly where the input doesn't begin with nothing, by the law of text.
+use Rattle.std.proofs.Common.{◌≡◌, ℕ, ◌≤◌, false, ◌&&◌, nat_le, if◌then◌else◌, List, ◌∷◌, Ok, refl, sym, ap, ◌∙◌, ℤ, pos, negsuc, arith}
+use Rattle.std.proofs.lemmas.Bool.Decides.{nat_tests}
+use Rattle.yaml_parse_grammar.specs.parse_model.declared.yaml_encoding_t.{yaml_encoding_t}
+use Rattle.yaml_parse_grammar.specs.parse_model.declared.yaml_encoding_t.TheVariants.{YAML_ANY_ENCODING}
+use Rattle.yaml_parse_grammar.specs.parse_model.Tokens.{Token}
+use Rattle.yaml_parse_grammar.specs.parse_model.Tokens as token
+use Rattle.yaml_round_laws_documents.specs.scan_decode.Decoding.{decoded_text}
+use Rattle.yaml_emit_laws_text.specs.scan_history.Remaining.{Remaining}
+use Rattle.yaml_emit_laws_text.specs.scan_history.Scanned.{scanned, scanned_in}
+use Rattle.yaml_emit_laws_text.specs.emit_layout.emit_text.Settings.{settled, settled_indent}
+use Rattle.yaml_emit_laws_text.specs.emit_layout.emit_text.Text.{Item, encode}
+use Rattle.yaml_emit_laws_text.specs.emit_layout.emit_text.Layout.{written}
+use Rattle.yaml_emit_laws_text.specs.emit_layout.emit_text.declared.Encoding.{Encoding}
+use Rattle.yaml_emit_laws_text.specs.emit_layout.emit_text.declared.RequestedSettings.{RequestedSettings}
+use Rattle.yaml_emit_laws_text.specs.emit_layout.Content.{Event}
+use Rattle.yaml_emit_laws_text.specs.emit_layout.Nodes.{stream_layout}
+use Rattle.yaml_emit_laws_text.specs.emit_layout.Streams.{IsStream}
+use Rattle.yaml_round_content.specs.Events.{emitter_events, contents}
+use Rattle.yaml_round_content.specs.Input.{events_of, ending_of, read, parsed, tokens_of}
+use Rattle.yaml_round_laws_adapted.specs.Adapted.{adapted}
+use Rattle.yaml_round_laws_documents.specs.BytesLaws.{canonical_bytes, canonical_text, encoding_named}
+use Rattle.yaml_round_laws_documents.specs.TreeLaws.{token_bodies, parsed_of}
+use Rattle.yaml_round_laws_documents.specs.Adapting.{without_fault}
+use Rattle.yaml_round_laws_pretty.specs.Bodies.{stream_bodies, starts_with_nothing}
+use Rattle.yaml_round_laws_pretty.specs.Flags.{begins_with_nothing}
+use Rattle.yaml_round_laws_pretty.specs.Laws.{PrettyTextIsRead, PrettyReadsBack, PrettyIsLost, PrettyFollows}
+use Rattle.yaml_round_laws_pretty.proofs.Passing.{tokens_pass}
+use Rattle.yaml_round_laws_pretty.proofs.Saying.{tokens_say}
+use Rattle.yaml_round_laws_pretty.proofs.Lost.{is_told, tokens_lost}
+use Rattle.yaml_round_laws_pretty.proofs.InputFlags.{inputs_flags}
+use Rattle.yaml_round_laws_pretty.proofs.InputPremises.{inputs_parsable}
+use Rattle.yaml_round_laws_pretty.proofs.InputTexts.{layout_writable}
+use Rattle.yaml_round_laws_pretty.proofs.Bytes.{bytes_decode}
+
+two_at_least : (n : ℕ) → 2 ≤ (if nat_le 2 n && nat_le n 9 then n else 2)
+two_at_least n = grind (arith, nat_tests)
+
+nine_at_most : (n : ℕ) → (if nat_le 2 n && nat_le n 9 then n else 2) ≤ 9
+nine_at_most n = grind (arith, nat_tests)
+
+least : (n : ℤ) → 2 ≤ settled_indent n
+least (pos n) = two_at_least n
+least (negsuc n) = two_at_least 0
+
+most : (n : ℤ) → settled_indent n ≤ 9
+most (pos n) = nine_at_most n
+most (negsuc n) = nine_at_most 0
+
+ending_is : (from : yaml_encoding_t) (input : List ℕ) → ending_of from input ≡ (parsed (tokens_of from input)).ending
+unfolding read
+ending_is from input = refl
+
+contents_are : (from : yaml_encoding_t) (input : List ℕ) → contents (events_of from input) ≡ contents (parsed (tokens_of from input)).events
+unfolding read
+contents_are from input = refl
+
+-- the tokens of the text, which a parser takes as they are
+record Taken (w : RequestedSettings) (from : yaml_encoding_t) (input : List ℕ) (x : Encoding) (whole : List Item) (stream : IsStream w x (emitter_events false (events_of from input)) whole) : Type 0 where
+  tokens : List Token
+  encoding : yaml_encoding_t
+  same : token_bodies tokens ≡ token.stream_start encoding ∷ stream_bodies (settled w stream.encoding) stream.documents
+  ending : ending_of YAML_ANY_ENCODING (encode x whole) ≡ (parsed_of tokens).ending
+  says : contents (events_of YAML_ANY_ENCODING (encode x whole)) ≡ contents (parsed_of tokens).events
+
+taken : PrettyTextIsRead → (w : RequestedSettings) → w.canonical ≡ false → (from : yaml_encoding_t) (input : List ℕ) (x : Encoding) (whole : List Item) → (stream : IsStream w x (emitter_events false (events_of from input)) whole) → Taken w from input x whole stream
+taken law w pretty from input x whole stream =
+    let s = settled w stream.encoding in
+    let ds = stream.documents in
+    let y = encoding_named s.encoding in
+    let bytes = canonical_bytes s ds in
+    let (writable, spellable, texts) = layout_writable w pretty from input x whole stream in
+    let (text, told) = bytes_decode s ds writable spellable in
+    let r = law s pretty (least w.indent) (most w.indent) y ds writable in
+    let detected : scanned YAML_ANY_ENCODING bytes ≡ scanned_in y (decoded_text YAML_ANY_ENCODING bytes) = ap (λ (z : yaml_encoding_t). scanned_in z (decoded_text YAML_ANY_ENCODING bytes)) told in
+    let decoded : scanned_in y (decoded_text YAML_ANY_ENCODING bytes) ≡ scanned_in y (Ok (canonical_text s ds)) = ap (λ (t : _). scanned_in y t) text in
+    let passed : tokens_of YAML_ANY_ENCODING bytes ≡ without_fault r.tokens = ap (λ (t : Remaining). adapted t) (detected ∙ decoded ∙ r.read) ∙ tokens_pass s y ds texts r.tokens r.same in
+    let is : encode x whole ≡ bytes = ap (λ (t : List Item). encode x t) stream.is ∙ ap (λ (z : Encoding). encode z (written (stream_layout s ds))) stream.coded in
+    record {
+      tokens = r.tokens;
+      encoding = y;
+      same = r.same;
+      ending = ap (λ (b : List ℕ). ending_of YAML_ANY_ENCODING b) is ∙ ending_is YAML_ANY_ENCODING bytes ∙ ap (λ (t : Remaining). (parsed t).ending) passed;
+      says = ap (λ (b : List ℕ). contents (events_of YAML_ANY_ENCODING b)) is ∙ contents_are YAML_ANY_ENCODING bytes ∙ ap (λ (t : Remaining). contents (parsed t).events) passed;
+    }
+
+begins_so : (w : RequestedSettings) → w.canonical ≡ false → (from : yaml_encoding_t) (input : List ℕ) (x : Encoding) (whole : List Item) → (stream : IsStream w x (emitter_events false (events_of from input)) whole)
+    → starts_with_nothing (settled w stream.encoding) stream.documents ≡ begins_with_nothing (emitter_events false (events_of from input))
+begins_so w pretty from input x whole stream =
+    let (flags, fine) = inputs_flags from input stream.encoding stream.documents stream.same in
+    sym (is_told (settled w stream.encoding) pretty stream.encoding stream.documents flags) ∙ ap (λ (es : List Event). begins_with_nothing es) (sym stream.same)
+
+read_back : PrettyTextIsRead → PrettyReadsBack
+read_back law w pretty from input some x whole stream =
+    let t = taken law w pretty from input x whole stream in
+    let (flags, fine) = inputs_flags from input stream.encoding stream.documents stream.same in
+    let begins = begins_so w pretty from input x whole stream ∙ some in
+    let (says, right) = tokens_say (settled w stream.encoding) (events_of from input) stream.encoding t.encoding stream.documents stream.same flags (inputs_parsable w from input x whole stream) begins t.tokens t.same in
+    (t.ending ∙ right, t.says ∙ says)
+
+lost : PrettyTextIsRead → PrettyIsLost
+lost law w pretty from input none x whole stream (right, said) =
+    let t = taken law w pretty from input x whole stream in
+    let (flags, fine) = inputs_flags from input stream.encoding stream.documents stream.same in
+    let begins = begins_so w pretty from input x whole stream ∙ none in
+    tokens_lost (settled w stream.encoding) (events_of from input) stream.encoding t.encoding stream.documents stream.same flags (inputs_parsable w from input x whole stream) begins t.tokens t.same (sym t.says ∙ said) (sym t.ending ∙ right)
+
+pub follows : PrettyFollows
+follows law = (read_back law, lost law)

@@ -1,0 +1,45 @@
+-- Inputs shaped as JSON don't begin with nothing.
+use Rattle.std.proofs.Common.{◌≡◌, ℕ, Bool, true, false, not, ◌&&◌, List, [], ◌∷◌, refl, sym, ap, ◌∙◌, inl, inr}
+use Rattle.yaml_parse_grammar.specs.parse_model.declared.yaml_encoding_t.{yaml_encoding_t}
+use Rattle.yaml_parse_grammar.specs.Resolve.{Told}
+use Rattle.yaml_emit_laws_text.specs.emit_layout.Content.{Event, stream_start, document_start, Scalar, Document, Node, alias_node, scalar_node, sequence_node, mapping_node, Opening, node_events, documents_events, stream_events}
+use Rattle.yaml_emit_laws_text.specs.emit_layout.Nodes.{is_directed}
+use Rattle.yaml_emit_laws_text.specs.Json.{IsJsonScalar, IsJsonNode}
+use Rattle.yaml_emit_laws_text.specs.scan_laws_keys.Values.{is_plain_value}
+use Rattle.yaml_round_content.specs.Events.{emitter_events}
+use Rattle.yaml_round_content.proofs.Joining.{events_of_tree}
+use Rattle.yaml_round_laws_pretty.specs.Bodies.{is_bare, is_empty}
+use Rattle.yaml_round_laws_pretty.specs.Flags.{is_asked_plain, says_nothing, begins_with_nothing}
+use Rattle.yaml_round_laws_pretty.specs.InputLaws.{JsonBeginsWithSomething}
+
+no_truth : false ≡ true → ⊥
+no_truth e = absurd (cc)
+
+and_false : (a : Bool) → (a && false) ≡ false
+and_false true = refl
+and_false false = refl
+
+some_value : (value : List ℕ) → is_plain_value value ≡ true → is_empty value ≡ false
+unfolding is_plain_value
+some_value [] h = absurd (no_truth h)
+some_value (b ∷ bs) h = refl
+
+scalar_says : (x : Scalar) → IsJsonScalar x → says_nothing x ≡ false
+scalar_says x (inl is) = ap (λ (p : Bool). is_bare x.anchor x.tag && (is_empty x.value && (p && is_asked_plain x.style))) is.plain ∙ ap (λ (b : Bool). is_bare x.anchor x.tag && b) (and_false (is_empty x.value)) ∙ and_false (is_bare x.anchor x.tag)
+scalar_says x (inr is) = ap (λ (e : Bool). is_bare x.anchor x.tag && (e && (x.plain && is_asked_plain x.style))) (some_value x.value is.value) ∙ and_false (is_bare x.anchor x.tag)
+
+root_begins : (x : yaml_encoding_t) (o : Opening) (n : Node) (es : List Event) → IsJsonNode n → begins_with_nothing (stream_start x ∷ document_start o ∷ node_events n es) ≡ false
+unfolding node_events
+root_begins x o (alias_node name) es is = refl
+root_begins x o (scalar_node v) es is = ap (λ (b : Bool). (o.implicit && not (is_directed o)) && b) (scalar_says v is) ∙ and_false (o.implicit && not (is_directed o))
+root_begins x o (sequence_node q items) es is = refl
+root_begins x o (mapping_node q pairs) es is = refl
+
+document_begins : (x : yaml_encoding_t) (d : Document) → IsJsonNode d.root → begins_with_nothing (stream_events x (d ∷ [])) ≡ false
+unfolding documents_events
+document_begins x d is = root_begins x d.opening d.root _ is
+
+pub json_begins : JsonBeginsWithSomething
+json_begins from input json =
+    let are = json.of_input.are ∙ sym (events_of_tree from input json.of_input.sentence) in
+    ap (λ (es : List Event). begins_with_nothing es) (ap (λ (es : List Told). emitter_events false es) (sym are) ∙ json.says) ∙ document_begins json.encoding json.document json.shaped.root

@@ -1,0 +1,221 @@
+-- The pretty layout of documents writes characters that a stream may hold.
+use Rattle.std.proofs.Common.{ℕ, Bool, true, false, not, ◌&&◌, ◌||◌, ◌==◌, nat_lt, if◌then◌else◌, List, [], ◌∷◌, length, Option, arith, IsUtf8}
+use Rattle.std.specs.Str.{chars}
+use Rattle.yaml_emit_laws_text.specs.emit_layout.emit_text.declared.Cursor.{Cursor}
+use Rattle.yaml_emit_laws_text.specs.emit_layout.emit_text.declared.Settings.{Settings}
+use Rattle.yaml_emit_laws_text.specs.emit_layout.emit_text.Text.{Item}
+use Rattle.yaml_emit_laws_text.specs.emit_layout.emit_text.Scalars.{scalar_text}
+use Rattle.yaml_emit_laws_text.specs.emit_layout.emit_text.Layout.{Layout, ◌▹◌, stay, choose, when, char, gap, word, indicator, opener, line, is_past, keep}
+use Rattle.yaml_emit_laws_text.specs.emit_layout.declared.level.Part.TheVariants as part
+use Rattle.yaml_emit_laws_text.specs.emit_layout.declared.level.Spot.{Spot}
+use Rattle.yaml_emit_laws_text.specs.emit_layout.Content.{Document, Scalar, Start, Node, alias_node, scalar_node, sequence_node, mapping_node, Nodes, no_nodes, node, Pairs, no_pairs, pair}
+use Rattle.yaml_emit_laws_text.specs.emit_layout.Grammar.{has, kept_tag, scalar_tag, start_tag, version_problem, directives_problem}
+use Rattle.yaml_emit_laws_text.specs.emit_layout.Nodes.{Context, context_of, MOST, is_kept, is_plain, is_simple, is_simple_part, key_part, root_spot, spot, deeper, page_at, checked, deep_if, line_at, wrap_at, anchor_text, tag_text, properties_text, style_of, mark_text, scalar_layout, alias_layout, is_flow, indent_of, indented, are_none, are_no_pairs, comma, turned, before_item, question, before_key, before_value, closer, node_layout, items_layout, pairs_layout, dots, is_directed, is_marked, version_text, directives_text, dashes, start_layout, end_layout, stop_layout, documents_layout}
+use Rattle.yaml_round_laws_documents.specs.BytesLaws.{IsNameOption, IsTextOption, IsSpellable, AreSpellable, PairsAreSpellable, DocumentsAreSpellable}
+use Rattle.yaml_round_laws_documents.proofs.Characters.{Fits, graphic, is_32, names_fit}
+use Rattle.yaml_round_laws_documents.proofs.Layouts.{Allowed, Tame, deep_allowed, letter_allowed, both, stay_tame, choose_tame, when_tame, char_tame, gap_tame, word_tame, opener_tame, line_tame, keep_tame}
+use Rattle.yaml_round_laws_documents.proofs.Leaves.{TagsFit, or_second, handles_fit, tags_fit, anchor_tame, tag_tame, version_tame, directives_tame}
+use Rattle.yaml_round_laws_pretty.proofs.Fitting.{style_needs, scalar_text_tame}
+
+deep_tame : (b : Bool) (t : List Item) → Allowed t → Allowed (deep_if b t)
+deep_tame true t h = deep_allowed t h
+deep_tame false t h = h
+
+checked_tame : (n : ℕ) → Tame (checked n)
+checked_tame n c rest h = deep_tame (nat_lt MOST n) (rest c) (h c)
+
+kept_text : (canonical left_out : Bool) (t : Option (List ℕ)) → IsTextOption t → IsTextOption (kept_tag canonical left_out t)
+kept_text true left_out t h = h
+kept_text false true t h = tt
+kept_text false false t h = h
+
+properties_tame : (p : Context) → TagsFit p.directives → (anchor tag : Option (List ℕ)) → IsNameOption anchor → IsTextOption tag → Tame (properties_text p anchor tag)
+properties_tame p fit anchor tag ha ht = both (anchor_text anchor) (tag_text p tag) (anchor_tame anchor ha) (tag_tame p fit tag ht)
+
+indicator_tame : (x : ℕ) → Fits x → Tame (indicator x)
+indicator_tame x f = both gap _ gap_tame (λ c rest h. letter_allowed x (rest _) f (h _))
+
+-- ---- leaves
+
+abbrev NodeTame : Context → Node → Type 0
+NodeTame p n = (at : Spot) → Tame (node_layout p at n)
+
+alias_tame : (p : Context) (name : List ℕ) → IsSpellable (alias_node name) → NodeTame p (alias_node name)
+unfolding node_layout alias_layout
+alias_tame p name h at =
+    both (word (42 ∷ name)) (when (is_simple_part at.part) (char 32)) (word_tame (42 ∷ name) (graphic 42 (omega arith) (omega arith), names_fit name h)) (when_tame (is_simple_part at.part) (char 32) (char_tame 32 is_32))
+
+text_by : (p : Context) (at : Spot) (x : Scalar) → IsUtf8 x.value → Tame (scalar_text (page_at p.settings at) p.settings.indent at.flow (style_of p at x) (chars x.value))
+unfolding style_of
+text_by p at x u =
+    scalar_text_tame (page_at p.settings at) p.settings.indent at.flow _ x.value u (style_needs p.settings.canonical p.settings.unicode (chars x.value) x.style (has (scalar_tag false x) || x.plain) at.flow (is_simple_part at.part) (length x.value == 0))
+
+scalar_tame : (p : Context) → TagsFit p.directives → (x : Scalar) → IsSpellable (scalar_node x) → NodeTame p (scalar_node x)
+unfolding node_layout scalar_layout
+scalar_tame p fit x (ha, ht, hv) at =
+    let tag = scalar_tag p.settings.canonical x in
+    let s = style_of p at x in
+    let text = scalar_text (page_at p.settings at) p.settings.indent at.flow s (chars x.value) in
+    both (properties_text p x.anchor tag) (mark_text p x s ▹ (checked (deeper p.settings at.around) ▹ text)) (properties_tame p fit x.anchor tag ha (kept_text p.settings.canonical (x.plain || x.quoted) x.tag ht))
+    (both (mark_text p x s) (checked (deeper p.settings at.around) ▹ text) (when_tame (not (has tag) && (not x.quoted && not (is_plain s))) (word (33 ∷ [])) (word_tame (33 ∷ []) (graphic 33 (omega arith) (omega arith), tt)))
+    (both (checked (deeper p.settings at.around)) text (checked_tame (deeper p.settings at.around)) (text_by p at x hv)))
+
+-- ---- collections
+
+abbrev ItemsTame : Context → Nodes → Type 0
+ItemsTame p ns = (flow : Bool) (n : ℕ) (fresh : Bool) → Tame (items_layout p flow n fresh ns)
+
+abbrev PairsTame : Context → Pairs → Type 0
+PairsTame p ps = (flow : Bool) (n : ℕ) (fresh : Bool) → Tame (pairs_layout p flow n fresh ps)
+
+indented_tame : (f : Cursor → ℕ) (g : ℕ → Layout) → ((n : ℕ) → Tame (g n)) → Tame (indented f g)
+indented_tame f g h c rest r = h (f c) c rest r
+
+sequence_tame : (p : Context) → TagsFit p.directives → (q : Start) (ns : Nodes) → IsNameOption q.anchor → IsTextOption q.tag → ItemsTame p ns → NodeTame p (sequence_node q ns)
+unfolding node_layout
+sequence_tame p fit q ns ha ht inner at =
+    let f = is_flow p.settings at q (are_none ns) in
+    let tag = start_tag p.settings.canonical q in
+    let body : ℕ → Layout = λ n. checked n ▹ items_layout p f n true ns in
+    both (properties_text p q.anchor tag) (when f (opener 91) ▹ indented (indent_of p.settings at true f) body) (properties_tame p fit q.anchor tag ha (kept_text p.settings.canonical q.implicit q.tag ht))
+    (both (when f (opener 91)) (indented (indent_of p.settings at true f) body) (when_tame f (opener 91) (opener_tame 91 (graphic 91 (omega arith) (omega arith))))
+    (indented_tame (indent_of p.settings at true f) body (λ n. both (checked n) (items_layout p f n true ns) (checked_tame n) (inner f n true))))
+
+mapping_tame : (p : Context) → TagsFit p.directives → (q : Start) (ps : Pairs) → IsNameOption q.anchor → IsTextOption q.tag → PairsTame p ps → NodeTame p (mapping_node q ps)
+unfolding node_layout
+mapping_tame p fit q ps ha ht inner at =
+    let f = is_flow p.settings at q (are_no_pairs ps) in
+    let tag = start_tag p.settings.canonical q in
+    let body : ℕ → Layout = λ n. checked n ▹ pairs_layout p f n true ps in
+    both (properties_text p q.anchor tag) (when f (opener 123) ▹ indented (indent_of p.settings at false f) body) (properties_tame p fit q.anchor tag ha (kept_text p.settings.canonical q.implicit q.tag ht))
+    (both (when f (opener 123)) (indented (indent_of p.settings at false f) body) (when_tame f (opener 123) (opener_tame 123 (graphic 123 (omega arith) (omega arith))))
+    (indented_tame (indent_of p.settings at false f) body (λ n. both (checked n) (pairs_layout p f n true ps) (checked_tame n) (inner f n true))))
+
+comma_fits : Fits 44
+comma_fits = graphic 44 (omega arith) (omega arith)
+
+comma_tame : (fresh : Bool) → Tame (comma fresh)
+comma_tame fresh = when_tame (not fresh) (char 44) (char_tame 44 comma_fits)
+
+wrap_tame : (s : Settings) (n : ℕ) → Tame (wrap_at s n)
+wrap_tame s n = choose_tame (is_past s.width) (line s.line_break n) stay (line_tame s.line_break n) stay_tame
+
+turned_by : (b : Bool) (s : Settings) (n : ℕ) → Tame (if b then line_at s n else wrap_at s n)
+turned_by true s n = line_tame s.line_break n
+turned_by false s n = wrap_tame s n
+
+turned_tame : (s : Settings) (n : ℕ) → Tame (turned s n)
+unfolding turned
+turned_tame s n = turned_by s.canonical s n
+
+closer_tame : (s : Settings) (flow : Bool) (n : ℕ) (fresh : Bool) (x : ℕ) → Fits x → Tame (closer s flow n fresh x)
+unfolding closer
+closer_tame s true n fresh x f =
+    both (when (s.canonical && not fresh) (char 44 ▹ line_at s _)) (char x) (when_tame (s.canonical && not fresh) (char 44 ▹ line_at s _) (both (char 44) (line_at s _) (char_tame 44 comma_fits) (line_tame s.line_break _))) (char_tame x f)
+closer_tame s false n fresh x f = stay_tame
+
+before_item_tame : (s : Settings) (flow : Bool) (n : ℕ) (fresh : Bool) → Tame (before_item s flow n fresh)
+unfolding before_item
+before_item_tame s true n fresh = both (comma fresh) (turned s n) (comma_tame fresh) (turned_tame s n)
+before_item_tame s false n fresh = both (line_at s n) (indicator 45) (line_tame s.line_break n) (indicator_tame 45 (graphic 45 (omega arith) (omega arith)))
+
+question_tame : (flow : Bool) → Tame (question flow)
+question_tame true = word_tame (63 ∷ []) (graphic 63 (omega arith) (omega arith), tt)
+question_tame false = indicator_tame 63 (graphic 63 (omega arith) (omega arith))
+
+lead_tame : (flow : Bool) (s : Settings) (n : ℕ) (fresh : Bool) → Tame (if flow then comma fresh ▹ turned s n else line_at s n)
+lead_tame true s n fresh = both (comma fresh) (turned s n) (comma_tame fresh) (turned_tame s n)
+lead_tame false s n fresh = line_tame s.line_break n
+
+before_key_tame : (s : Settings) (flow : Bool) (n : ℕ) (fresh simple : Bool) → Tame (before_key s flow n fresh simple)
+unfolding before_key
+before_key_tame s flow n fresh simple = both (if flow then comma fresh ▹ turned s n else line_at s n) (when (not simple) (question flow)) (lead_tame flow s n fresh) (when_tame (not simple) (question flow) (question_tame flow))
+
+before_value_tame : (s : Settings) (flow : Bool) (n : ℕ) (simple : Bool) → Tame (before_value s flow n simple)
+unfolding before_value
+before_value_tame s flow n true = char_tame 58 (graphic 58 (omega arith) (omega arith))
+before_value_tame s true n false = both (turned s n) (word (58 ∷ [])) (turned_tame s n) (word_tame (58 ∷ []) (graphic 58 (omega arith) (omega arith), tt))
+before_value_tame s false n false = both (line_at s n) (indicator 58) (line_tame s.line_break n) (indicator_tame 58 (graphic 58 (omega arith) (omega arith)))
+
+items_end : (p : Context) → ItemsTame p no_nodes
+unfolding items_layout
+items_end p flow n fresh = closer_tame p.settings flow n fresh 93 (graphic 93 (omega arith) (omega arith))
+
+pairs_end : (p : Context) → PairsTame p no_pairs
+unfolding pairs_layout
+pairs_end p flow n fresh = closer_tame p.settings flow n fresh 125 (graphic 125 (omega arith) (omega arith))
+
+item_tame : (p : Context) (x : Node) (xs : Nodes) → NodeTame p x → ItemsTame p xs → ItemsTame p (node x xs)
+unfolding items_layout
+item_tame p x xs one more flow n fresh =
+    both (before_item p.settings flow n fresh) (node_layout p (spot flow n part.Item) x ▹ items_layout p flow n false xs) (before_item_tame p.settings flow n fresh)
+    (both (node_layout p (spot flow n part.Item) x) (items_layout p flow n false xs) (one (spot flow n part.Item)) (more flow n false))
+
+pair_tame : (p : Context) (k v : Node) (ps : Pairs) → NodeTame p k → NodeTame p v → PairsTame p ps → PairsTame p (pair k v ps)
+unfolding pairs_layout
+pair_tame p k v ps key value more flow n fresh =
+    let simple = is_simple p k in
+    both (before_key p.settings flow n fresh simple) _ (before_key_tame p.settings flow n fresh simple)
+    (both (node_layout p (spot flow n (key_part simple)) k) _ (key (spot flow n (key_part simple)))
+    (both (before_value p.settings flow n simple) _ (before_value_tame p.settings flow n simple)
+    (both (node_layout p (spot flow n part.Value) v) (pairs_layout p flow n false ps) (value (spot flow n part.Value)) (more flow n false))))
+
+mutual
+  node_tame : (p : Context) → TagsFit p.directives → (n : Node) → IsSpellable n → NodeTame p n
+  node_tame p fit (alias_node name) h = alias_tame p name h
+  node_tame p fit (scalar_node x) h = scalar_tame p fit x h
+  node_tame p fit (sequence_node q items) (ha, ht, h) = sequence_tame p fit q items ha ht (items_tame p fit items h)
+  node_tame p fit (mapping_node q pairs) (ha, ht, h) = mapping_tame p fit q pairs ha ht (pairs_tame p fit pairs h)
+
+  items_tame : (p : Context) → TagsFit p.directives → (ns : Nodes) → AreSpellable ns → ItemsTame p ns
+  items_tame p fit no_nodes h = items_end p
+  items_tame p fit (node x xs) (h, hs) = item_tame p x xs (node_tame p fit x h) (items_tame p fit xs hs)
+
+  pairs_tame : (p : Context) → TagsFit p.directives → (ps : Pairs) → PairsAreSpellable ps → PairsTame p ps
+  pairs_tame p fit no_pairs h = pairs_end p
+  pairs_tame p fit (pair k v ps) (hk, hv, hs) = pair_tame p k v ps (node_tame p fit k hk) (node_tame p fit v hv) (pairs_tame p fit ps hs)
+
+-- ---- documents
+
+dots_tame : (s : Settings) → Tame (dots s)
+dots_tame s =
+    let dot : Fits 46 = graphic 46 (omega arith) (omega arith) in
+    both (word (46 ∷ 46 ∷ 46 ∷ [])) (line_at s 0) (word_tame (46 ∷ 46 ∷ 46 ∷ []) (dot, (dot, (dot, tt)))) (line_tame s.line_break 0)
+
+dashes_tame : (s : Settings) → Tame (dashes s)
+dashes_tame s =
+    let dash : Fits 45 = graphic 45 (omega arith) (omega arith) in
+    both (line_at s 0) (word (45 ∷ 45 ∷ 45 ∷ []) ▹ when s.canonical (line_at s 0)) (line_tame s.line_break 0)
+    (both (word (45 ∷ 45 ∷ 45 ∷ [])) (when s.canonical (line_at s 0)) (word_tame (45 ∷ 45 ∷ 45 ∷ []) (dash, (dash, (dash, tt)))) (when_tame s.canonical (line_at s 0) (line_tame s.line_break 0)))
+
+start_tame : (s : Settings) (fresh unended : Bool) (d : Document) (ds : List Document) → DocumentsAreSpellable (d ∷ ds) → Tame (start_layout s fresh unended d.opening)
+unfolding start_layout
+start_tame s fresh unended d ds (right, prefixes, root, more) =
+    let o = d.opening in
+    let dots_if = when (unended && is_directed o) (dots s) in
+    let dash = when (is_marked s fresh o) (dashes s) in
+    let fit = handles_fit [] o.directives (or_second (version_problem o.version) (directives_problem [] o.directives) right) in
+    both dots_if (keep false ▹ (version_text s o.version ▹ (directives_text s o.directives ▹ dash))) (when_tame (unended && is_directed o) (dots s) (dots_tame s))
+    (both (keep false) (version_text s o.version ▹ (directives_text s o.directives ▹ dash)) (keep_tame false)
+    (both (version_text s o.version) (directives_text s o.directives ▹ dash) (version_tame s o.version)
+    (both (directives_text s o.directives) dash (directives_tame s o.directives fit prefixes) (when_tame (is_marked s fresh o) (dashes s) (dashes_tame s)))))
+
+end_tame : (s : Settings) (implicit : Bool) → Tame (end_layout s implicit)
+unfolding end_layout
+end_tame s implicit = both (line_at s 0) (when (not implicit) (dots s)) (line_tame s.line_break 0) (when_tame (not implicit) (dots s) (dots_tame s))
+
+stop_tame : (s : Settings) (unended : Bool) → Tame (stop_layout s unended)
+unfolding stop_layout
+stop_tame s unended = when_tame unended (choose is_kept (dots s) stay) (choose_tame is_kept (dots s) stay (dots_tame s) stay_tame)
+
+pub documents_tame : (s : Settings) (fresh unended : Bool) (ds : List Document) → DocumentsAreSpellable ds → Tame (documents_layout s fresh unended ds)
+unfolding documents_layout
+documents_tame s fresh unended [] h = stop_tame s unended
+documents_tame s fresh unended (d ∷ ds) (right, prefixes, root, more) =
+    let o = d.opening in
+    let p = context_of s o.directives in
+    let fit = tags_fit o.directives (or_second (version_problem o.version) (directives_problem [] o.directives) right) in
+    let body = node_layout p root_spot d.root in
+    both (start_layout s fresh unended o) (body ▹ (end_layout s d.implicit_end ▹ documents_layout s false d.implicit_end ds)) (start_tame s fresh unended d ds (right, prefixes, root, more))
+    (both body (end_layout s d.implicit_end ▹ documents_layout s false d.implicit_end ds) (node_tame p fit d.root root root_spot)
+    (both (end_layout s d.implicit_end) (documents_layout s false d.implicit_end ds) (end_tame s d.implicit_end) (documents_tame s false d.implicit_end ds more)))

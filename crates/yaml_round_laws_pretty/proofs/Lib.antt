@@ -1,0 +1,18 @@
+mod Dressing
+mod Nodes
+mod Directives
+mod Documents
+mod Passing
+mod Contents
+mod Saying
+mod Lost
+mod InputFlags
+mod InputPremises
+mod InputTexts
+pub mod Joining
+mod JsonInputs
+mod Fitting
+mod Layouts
+mod Marks
+mod Bytes
+mod Encoding

@@ -1,0 +1,13 @@
+-- Tokens of pretty text say what events do.
+use Rattle.std.proofs.Common.{List, map, sym, ap, ◌∙◌}
+use Rattle.yaml_parse_grammar.specs.parse_model.Events.{EventBody}
+use Rattle.yaml_emit_laws_text.specs.emit_layout.Content.{Event}
+use Rattle.yaml_round_laws_documents.specs.TreeLaws.{parsed_of}
+use Rattle.yaml_round_laws_pretty.specs.TokenLaws.{PrettyTokensSayDocuments}
+use Rattle.yaml_round_laws_pretty.proofs.Contents.{says, content, contents_said, contents_by, stream_same}
+use Rattle.yaml_round_laws_pretty.proofs.Documents.{tokens_parsed}
+
+pub tokens_say : PrettyTokensSayDocuments
+tokens_say s es x y ds same flags fine some ts e =
+    let (events, ending) = tokens_parsed s y ds fine some ts e in
+    (contents_by (parsed_of ts).events ∙ ap (λ (bs : List EventBody). map content bs) events ∙ stream_same s x y ds flags fine ∙ sym (ap (λ (fs : List Event). map says fs) same) ∙ sym (contents_said es), ending)

@@ -1,0 +1,6 @@
+pub mod Bodies
+pub mod Reads
+pub mod Flags
+pub mod TokenLaws
+pub mod InputLaws
+pub mod Laws

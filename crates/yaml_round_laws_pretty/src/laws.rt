@@ -1,0 +1,18 @@
+//! Each function's contract is a law.
+
+ghost use Rattle.yaml_round_laws_pretty.specs.Laws.{InputsLayoutIsWritable, PrettyBytesDecode, PrettyFollows};
+
+/// The documents that are laid out for an input may be written.
+pub fn inputs_layout_is_writable()
+    ensures { InputsLayoutIsWritable }
+{}
+
+/// By the law of pretty text, that it is read as its tokens, it reads back exactly where the input doesn't begin with nothing.
+pub fn pretty_follows()
+    ensures { PrettyFollows }
+{}
+
+/// The bytes of pretty text decode to it.
+pub fn pretty_bytes_decode()
+    ensures { PrettyBytesDecode }
+{}

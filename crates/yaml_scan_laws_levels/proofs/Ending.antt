@@ -1,0 +1,151 @@
+-- A text begins with the stream's start, and ends with its end.
+use Rattle.std.proofs.Common.{◌≡◌, ◌≢◌, ℕ, ◌+◌, ◌-◌, ◌==◌, ◌&&◌, not, nat_lt, cond, Bool, true, false, List, [], ◌∷◌, ◌++◌, length, flat_map, Option, Some, None, Result, Ok, refl, sym, ap, ◌∙◌, arith}
+use Rattle.std.proofs.lemmas.List.{append-nil}
+use Rattle.yaml_scan_history.specs.scan_model.declared.record.yaml_mark_t.{yaml_mark_t}
+use Rattle.yaml_scan_history.specs.scan_model.Marks.{mark_at}
+use Rattle.yaml_scan_history.specs.scan_model.Tokens.{Token, TokenBody, stream_end}
+use Rattle.yaml_scan_history.specs.scan_model.Faults.{Fault}
+use Rattle.yaml_scan_history.specs.scan_model.Wrong.{Wrong}
+use Rattle.yaml_scan_history.specs.scan_words.Between.{Gap}
+use Rattle.yaml_scan_history.specs.declared.kind.Kind.{Kind}
+use Rattle.yaml_scan_history.specs.declared.kind.Kind.TheVariants as kinds
+use Rattle.yaml_scan_history.specs.declared.lexeme.Lexeme.{Lexeme}
+use Rattle.yaml_scan_history.specs.declared.lexeme.Entry.{Entry}
+use Rattle.yaml_scan_history.specs.declared.lexeme.Opens.TheVariants as opening
+use Rattle.yaml_scan_history.specs.History.{depth, reached, placed, candidate, fresh, indent, left_by, levels, entries}
+use Rattle.yaml_scan_history.specs.Words.{WordText, kind_at, word_at}
+use Rattle.yaml_scan_history.specs.Next.{Next, Read, Ends, first_lexeme, begun, gap_behind, allowed_behind, misplaced, missed, lost_by, level_in, next, extended, history}
+use Rattle.yaml_scan_history.specs.Stepwise.{not_allowed, unless_wrong, unless_lost, of_kind, unless_missed, behind}
+use Rattle.yaml_scan_history.specs.Remaining.{SpelledText, body_in, spell, all, handed_out, handed, kept_of, fault_in, Remaining, remaining, offline}
+use Rattle.yaml_scan_laws_order.proofs.HistoryForward.{last_is_all}
+use Rattle.yaml_scan_laws_levels.specs.Fronts.{Came, Rises, Front, IsFree, Idle, InTime, entry}
+use Rattle.yaml_scan_laws_levels.specs.Tokens.{bodies_of, told}
+use Rattle.yaml_scan_laws_levels.specs.Ends.{StartStands, end_at, EndIsRead}
+use Rattle.yaml_scan_laws_levels.proofs.Levels.{left_outside}
+use Rattle.yaml_scan_laws_levels.proofs.Reading.{unless_so, came_some, tested_read, fresh_in_time, lost_none}
+use Rattle.yaml_scan_laws_levels.proofs.Pushing.{free_push, free_in_time, came_push}
+use Rattle.yaml_scan_laws_levels.proofs.Telling.{word_tells}
+
+-- ---- the start
+
+nothing_free : (e : ℕ) → IsFree (candidate e [])
+unfolding candidate
+nothing_free e = tt
+
+start_front : (text : List ℕ) → Front text (first_lexeme ∷ []) 0 [] (entry first_lexeme 0 opening.Nothing ∷ [])
+unfolding Came Rises levels entries candidate
+start_front text = record { came = refl; going = refl; depth = refl; levels = refl; rises = tt; entries = refl }
+
+pub start_stands : StartStands
+start_stands text = record {
+  front = start_front text;
+  idle = λ e. free_push first_lexeme [] e (nothing_free e) refl;
+  told = λ x bs. refl;
+}
+
+-- ---- the end
+
+no_start : (b : Bool) → (b && false) ≡ false
+no_start true = refl
+no_start false = refl
+
+end_read : (text : List ℕ) (gap : Gap) (h : List Lexeme) (q : ℕ) (a : Bool) (w : WordText) → gap.place ≡ q → allowed_behind h gap ≡ a
+    → let m = mark_at text q in let l = end_at text h q a in
+    kind_at (nat_lt 0 (depth h)) text q ≡ Some kinds.StreamEnd
+    → word_at kinds.StreamEnd (nat_lt 0 (depth h)) l.level text q ≡ Ok w
+    → missed (fresh (candidate 0 h) (reached h)) m ≡ None
+    → lost_by l (fresh (candidate (depth h) h) m) ≡ None
+    → InTime (candidate 0 (l ∷ h)) l.reached
+    → behind text gap h ≡ Read l
+end_read text gap h q a w place allowed kind said none lost time =
+    let flow = nat_lt 0 (depth h) in
+    let m = mark_at text q in
+    let k = kinds.StreamEnd in
+    let l = end_at text h q a in
+    ap (λ (p : ℕ). unless_missed (missed (fresh (candidate 0 h) (reached h)) (mark_at text p)) text gap h) place
+    ∙ ap (λ (o : Option yaml_mark_t). unless_missed o text gap h) none
+    ∙ ap (λ (p : ℕ). of_kind (kind_at flow text p) text gap h) place
+    ∙ ap (λ (o : Option Kind). of_kind o text gap h) kind
+    ∙ ap (λ (p : ℕ). cond (misplaced k (mark_at text p) (allowed_behind h gap) h) (not_allowed k (mark_at text p))
+    (unless_lost (lost_by (begun k (placed k (mark_at text p)) (allowed_behind h gap) h) (fresh (candidate (depth h) h) (mark_at text p))) text p (begun k (placed k (mark_at text p)) (allowed_behind h gap) h) h)) place
+    ∙ ap (λ (x : Bool). cond (misplaced k m x h) (not_allowed k m) (unless_lost (lost_by (begun k (placed k m) x h) (fresh (candidate (depth h) h) m)) text q (begun k (placed k m) x h) h)) allowed
+    ∙ unless_so (misplaced k m a h) (not_allowed k m) _ (no_start (not flow && not a))
+    ∙ ap (λ (o : Option yaml_mark_t). unless_lost o text q l h) lost
+    ∙ ap (λ (r : Result WordText Wrong). unless_wrong r text l h) said
+    ∙ tested_read l h time
+
+nothing_more : (text : List ℕ) (l : Lexeme) (h : List Lexeme) → l.kind ≡ kinds.StreamEnd → next text (l ∷ h) ≡ Ends
+unfolding next
+nothing_more text l h e = rw e refl
+
+came_history : (text : List ℕ) (h : List Lexeme) → Came text h → history text (length h) ≡ h
+unfolding Came history next
+came_history text [] came = absurd came
+came_history text (l ∷ []) came = ap (λ (x : Lexeme). x ∷ []) (sym came)
+came_history text (l ∷ x ∷ h) (read, came) =
+    let before = came_history text (x ∷ h) came in
+    ap (λ (y : List Lexeme). extended (next text y) y) before ∙ ap (λ (n : Next). extended n (x ∷ h)) read
+
+no_read : (x : Next) (l : Lexeme) → x ≡ Ends → x ≢ Read l
+no_read x l e f = cc
+
+came_all : (text : List ℕ) (h : List Lexeme) → Came text h → next text h ≡ Ends → all text ≡ h
+came_all text h came ends =
+    let so = came_history text h came in
+    let last : next text (history text (length h)) ≡ Ends = ap (λ (x : List Lexeme). next text x) so ∙ ends in
+    last_is_all text (length h) (λ l. no_read _ l last) ∙ so
+
+remaining_of : (ts us : List Token) (f : Option Fault) → ts ≡ us → f ≡ None → let one : Remaining = record { tokens = ts; fault = f } in one ≡ record { tokens = us; fault = None }
+remaining_of ts us f e g = rw (e, g) refl
+
+offline_ends : (s : SpelledText) (h : List Lexeme) → all s.text ≡ h → next s.text h ≡ Ends → offline s ≡ record { tokens = flat_map (spell s) (entries h); fault = None }
+unfolding remaining handed
+offline_ends s h whole ends =
+    let last : next s.text (all s.text) ≡ Ends = ap (λ (x : List Lexeme). next s.text x) whole ∙ ends in
+    remaining_of _ (flat_map (spell s) (entries h)) (fault_in (next s.text (all s.text)))
+    (ap (λ (x : Next). flat_map (spell s) (handed_out x (all s.text)) ++ kept_of x (all s.text)) last ∙ ap (λ (x : List Lexeme). flat_map (spell s) (entries x) ++ []) whole ∙ append-nil (flat_map (spell s) (entries h)))
+    (ap (λ (x : Next). fault_in x) last)
+
+all_less : (n : ℕ) → n - 0 ≡ n
+all_less n = omega arith
+
+end_entries : (text : List ℕ) (h : List Lexeme) (ms : List ℕ) (es : List Entry) (q : ℕ) (a : Bool) → Front text h 0 ms es → let l = end_at text h q a in entries (l ∷ h) ≡ es ++ entry l (length ms) opening.Nothing ∷ []
+unfolding entries
+end_entries text h ms es q a f =
+    let l = end_at text h q a in
+    let k = kinds.StreamEnd in
+    let c = l.start.column in
+    ap (λ (n : ℕ). entries h ++ entry l (length (levels h) - length (left_by k n c (levels h))) opening.Nothing ∷ []) f.depth
+    ∙ ap (λ (x : List ℕ). entries h ++ entry l (length x - length (left_by k 0 c x)) opening.Nothing ∷ []) f.levels
+    ∙ ap (λ (x : List ℕ). entries h ++ entry l (length ms - length x) opening.Nothing ∷ []) (left_outside k c ms refl f.rises)
+    ∙ ap (λ (n : ℕ). entries h ++ entry l n opening.Nothing ∷ []) (all_less (length ms))
+    ∙ ap (λ (zs : List Entry). zs ++ entry l (length ms) opening.Nothing ∷ []) f.entries
+
+no_key : (a more : Bool) → ((a && false) && more) ≡ false
+no_key true more = refl
+no_key false more = refl
+
+end_body : (s : SpelledText) (h : List Lexeme) (q : ℕ) (a : Bool) → body_in s (end_at s.text h q a) ≡ stream_end
+unfolding word_at
+end_body s h q a = refl
+
+pub end_is_read : EndIsRead
+unfolding word_at indent
+end_is_read x text h ms es q a w f idle meets =
+    let s : SpelledText = record { encoding = x; text = text } in
+    let k = kinds.StreamEnd in
+    let m = mark_at text q in
+    let l = end_at text h q a in
+    let fs = es ++ entry l (length ms) opening.Nothing ∷ [] in
+    let kind : kind_at (nat_lt 0 (depth h)) text q ≡ Some k = ap (λ (n : ℕ). kind_at (nat_lt 0 n) text q) f.depth ∙ meets.kind in
+    let unrequired : l.required ≡ false = no_key a (depth h == 0 && level_in k l.start.column h == l.start.column + 1) in
+    let still : Idle (l ∷ h) = λ e. free_push l h e (idle e) unrequired in
+    let read : next text h ≡ Read l = came_some text h f.came f.going
+    ∙ end_read text (gap_behind text h) h q a w meets.place meets.allowed kind meets.word (fresh_in_time (candidate 0 h) (reached h) m (free_in_time (candidate 0 h) m (idle 0)))
+    (lost_none l (candidate (depth h) h) m (λ e. idle (depth h))) (free_in_time (candidate 0 (l ∷ h)) l.reached (still 0)) in
+    let ends = nothing_more text l h refl in
+    let whole = came_all text (l ∷ h) (came_push text l h f.came read) ends in
+    let offline_is = offline_ends s (l ∷ h) whole ends ∙ ap (λ (zs : List Entry). let r : Remaining = record { tokens = flat_map (spell s) zs; fault = None } in r) (end_entries text h ms es q a f) in (
+      record { read = offline_is; bodies = sym (append-nil (bodies_of s fs)) },
+      word_tells s es l (length ms) opening.Nothing [] ∙ ap (λ (b : TokenBody). told s es (length ms) (b ∷ [])) (end_body s h q a),
+    )

@@ -1,0 +1,13 @@
+pub mod Levels
+pub mod Reading
+pub mod Pushing
+pub mod Keying
+pub mod Telling
+pub mod Ending
+pub mod Whites
+pub mod Slotting
+pub mod Stepping
+pub mod Walking
+pub mod RowOfBlocks
+pub mod RowOfKeys
+pub mod Signing

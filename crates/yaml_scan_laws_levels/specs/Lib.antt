@@ -1,0 +1,11 @@
+pub mod Fronts
+pub mod Pushes
+pub mod Keys
+pub mod Tokens
+pub mod Ends
+pub mod White
+pub mod Slots
+pub mod Steps
+pub mod Walks
+pub mod Rows
+pub mod Signs

@@ -7,3 +7,8 @@ pub mod KeysWalk
 pub mod Singles
 pub mod KeysShow
 pub mod KeysShown
+pub mod NodeLines
+pub mod NodeItems
+pub mod NodePairs
+pub mod NodeBlocks
+pub mod NodeWalks

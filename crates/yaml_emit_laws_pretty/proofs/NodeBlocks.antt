@@ -61,9 +61,9 @@ opens_on law s d pretty None (Some t) good fine ls c rest parted x text o T st r
     record { cursor = h.cursor; place = h.place; stage = h.stage; left = h.left; right = h.right; same = h.same; is = h.bare ∙ sym (and_off c.bare) }
 
 properties_white : (p : Context) (a t : Option (List ℕ)) (c : Cursor) (rest : Rest) → c.white ≡ false → begins_white (bytes (rest c)) ≡ true → begins_white (bytes (properties_text p a t c rest)) ≡ true
-properties_white p None None c rest white then = then
-properties_white p (Some a) t c rest white then = word_begins_white (38 ∷ a) c (λ e. tag_text p t e rest) white
-properties_white p None (Some t) c rest white then = word_begins_white _ c rest white
+properties_white p None None c rest white next = next
+properties_white p (Some a) t c rest white next = word_begins_white (38 ∷ a) c (λ e. tag_text p t e rest) white
+properties_white p None (Some t) c rest white next = word_begins_white _ c rest white
 
 kept_tag : (b : Bool) (t : Option (List ℕ)) → IsWritableTag t → IsWritableTag (kept_if b t)
 kept_tag true t fine = fine
@@ -168,7 +168,6 @@ block_sequence law s d pretty around q bare place o y ys good fine block walk = 
   where
     inside_white : (p : Context) (around : Option ℕ) (q : Part) (y : Node) (ys : Nodes) (e : Cursor) (m : ℕ) (after : Rest) → e.white ≡ false
         → begins_white (bytes (indented (indent_of p.settings (block_spot around q) true false) (λ n. checked n ▹ items_layout p false n true (node y ys)) e (λ i. line p.settings.line_break m i after))) ≡ true
-    unfolding items_layout before_item
     inside_white p around q y ys e m after white =
         let n = block_indent_in p.settings around (is_of_mapping q && not e.bare) in
         let R : Rest = λ i. line p.settings.line_break m i after in
@@ -218,7 +217,6 @@ block_mapping law s d pretty around q bare o k v ps good fine block walk = recor
   where
     inside_white : (p : Context) (around : Option ℕ) (q : Part) (k v : Node) (ps : Pairs) (e : Cursor) (m : ℕ) (after : Rest) → e.white ≡ false
         → begins_white (bytes (indented (indent_of p.settings (block_spot around q) false false) (λ n. checked n ▹ pairs_layout p false n true (pair k v ps)) e (λ i. line p.settings.line_break m i after))) ≡ true
-    unfolding pairs_layout before_key
     inside_white p around q k v ps e m after white =
         let n = block_indent_in p.settings around false in
         let R : Rest = λ i. line p.settings.line_break m i after in

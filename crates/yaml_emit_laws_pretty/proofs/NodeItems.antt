@@ -36,7 +36,7 @@ abbrev pub items_after : Context → ℕ → ℕ → Rest → Nodes → Rest
 items_after p n m after no_nodes = after
 items_after p n m after (node y ys) = λ d. indicator 45 d (λ h. node_layout p (spot false n part.Item) y h (λ k. items_layout p false n false ys k (λ e. line p.settings.line_break m e after)))
 
-items_line : (p : Context) (n m : ℕ) (after : Rest) (xs : Nodes) → (λ (k : Cursor). items_layout p false n false xs k (λ e. line p.settings.line_break m e after)) ≡ (λ (k : Cursor). line p.settings.line_break (items_column n m xs) k (items_after p n m after xs))
+items_line : (p : Context) (n m : ℕ) (after : Rest) (xs : Nodes) → ◌≡◌ {A = Rest} (λ k. items_layout p false n false xs k (λ e. line p.settings.line_break m e after)) (λ k. line p.settings.line_break (items_column n m xs) k (items_after p n m after xs))
 unfolding items_layout before_item closer
 items_line p n m after no_nodes = refl
 items_line p n m after (node y ys) = refl

@@ -43,7 +43,7 @@ abbrev pub pairs_after : Context → ℕ → ℕ → Rest → Pairs → Rest
 pairs_after p n m after no_pairs = after
 pairs_after p n m after (pair k v ps) = pair_rest p n m after k v ps (is_simple p k)
 
-pairs_line : (p : Context) (n m : ℕ) (after : Rest) (ps : Pairs) → (λ (k : Cursor). pairs_layout p false n false ps k (λ e. line p.settings.line_break m e after)) ≡ (λ (k : Cursor). line p.settings.line_break (pairs_column n m ps) k (pairs_after p n m after ps))
+pairs_line : (p : Context) (n m : ℕ) (after : Rest) (ps : Pairs) → ◌≡◌ {A = Rest} (λ k. pairs_layout p false n false ps k (λ e. line p.settings.line_break m e after)) (λ k. line p.settings.line_break (pairs_column n m ps) k (pairs_after p n m after ps))
 unfolding pairs_layout before_key closer
 pairs_line p n m after no_pairs = refl
 pairs_line p n m after (pair k v ps) = refl
@@ -67,12 +67,12 @@ answer_rest p n m after v ps = λ d. indicator 58 d (value_rest p n m after v ps
 abbrev asked_rest : Context → ℕ → ℕ → Rest → Node → Node → Pairs → Rest
 asked_rest p n m after k v ps = λ h. node_layout p (spot false n part.Key) k h (λ e. line p.settings.line_break n e (answer_rest p n m after v ps))
 
-pair_simple : (p : Context) (n m : ℕ) (after : Rest) (k v : Node) (ps : Pairs) (b : Bool) → b ≡ true → pair_rest p n m after k v ps b ≡ simple_rest p n m after k v ps
+pair_simple : (p : Context) (n m : ℕ) (after : Rest) (k v : Node) (ps : Pairs) (b : Bool) → b ≡ true → ◌≡◌ {A = Rest} (pair_rest p n m after k v ps b) (simple_rest p n m after k v ps)
 unfolding before_value
 pair_simple p n m after k v ps true e = refl
 pair_simple p n m after k v ps false e = absurd (cc)
 
-pair_asks : (p : Context) (n m : ℕ) (after : Rest) (k v : Node) (ps : Pairs) (b : Bool) → b ≡ false → pair_rest p n m after k v ps b ≡ (λ d. indicator 63 d (asked_rest p n m after k v ps))
+pair_asks : (p : Context) (n m : ℕ) (after : Rest) (k v : Node) (ps : Pairs) (b : Bool) → b ≡ false → ◌≡◌ {A = Rest} (pair_rest p n m after k v ps b) (λ d. indicator 63 d (asked_rest p n m after k v ps))
 unfolding before_value
 pair_asks p n m after k v ps true e = absurd (cc)
 pair_asks p n m after k v ps false e = refl

@@ -45,16 +45,16 @@ mutual
     | inl e ↦ laws.brackets s d pretty (sequence_node o no_nodes) fine e around q bare (place_whole around q place)
     | inr e ↦ absurd (none_flows s.canonical false o.flow e)
   ]
-  node_on laws s d pretty (sequence_node o (node y ys)) (anchor, tag, one, all) around q bare place = elim (cases_Bool (is_flow_at (context_of s d.directives) false o false)) [
-    | inl e ↦ laws.brackets s d pretty (sequence_node o (node y ys)) (anchor, tag, one, all) e around q bare (place_whole around q place)
+  node_on laws s d pretty (sequence_node o (node y ys)) (anchor, tag, (one, all)) around q bare place = elim (cases_Bool (is_flow_at (context_of s d.directives) false o false)) [
+    | inl e ↦ laws.brackets s d pretty (sequence_node o (node y ys)) (anchor, tag, (one, all)) e around q bare (place_whole around q place)
     | inr e ↦ block_sequence laws.properties s d pretty around q bare place o y ys anchor tag e (record { first = λ n. node_on laws s d pretty y one (Some n) part.Item true refl; others = λ n. items_on laws s d pretty ys all n })
   ]
   node_on laws s d pretty (mapping_node o no_pairs) fine around q bare place = elim (cases_Bool (is_flow_at (context_of s d.directives) false o true)) [
     | inl e ↦ laws.brackets s d pretty (mapping_node o no_pairs) fine e around q bare (place_whole around q place)
     | inr e ↦ absurd (none_flows s.canonical false o.flow e)
   ]
-  node_on laws s d pretty (mapping_node o (pair k v ps)) (anchor, tag, key, value, all) around q bare place = elim (cases_Bool (is_flow_at (context_of s d.directives) false o false)) [
-    | inl e ↦ laws.brackets s d pretty (mapping_node o (pair k v ps)) (anchor, tag, key, value, all) e around q bare (place_whole around q place)
+  node_on laws s d pretty (mapping_node o (pair k v ps)) (anchor, tag, (key, value, all)) around q bare place = elim (cases_Bool (is_flow_at (context_of s d.directives) false o false)) [
+    | inl e ↦ laws.brackets s d pretty (mapping_node o (pair k v ps)) (anchor, tag, (key, value, all)) e around q bare (place_whole around q place)
     | inr e ↦ block_mapping laws.properties s d pretty around q bare o k v ps anchor tag e (record {
       first = λ n. record {
         simple = λ is. laws.keys s d pretty k key is;

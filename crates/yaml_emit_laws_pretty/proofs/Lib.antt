@@ -7,3 +7,10 @@ pub mod KeysWalk
 pub mod Singles
 pub mod KeysShow
 pub mod KeysShown
+pub mod DocStarts
+pub mod DocLines
+pub mod DocWords
+pub mod DocDirectives
+pub mod DocEnds
+pub mod DocOpens
+pub mod DocText

@@ -14,3 +14,8 @@ pub mod DocDirectives
 pub mod DocEnds
 pub mod DocOpens
 pub mod DocText
+pub mod NodeLines
+pub mod NodeItems
+pub mod NodePairs
+pub mod NodeBlocks
+pub mod NodeWalks

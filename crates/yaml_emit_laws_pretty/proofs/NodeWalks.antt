@@ -7,8 +7,8 @@ use Rattle.yaml_emit_laws_text.specs.emit_layout.declared.level.Part.TheVariants
 use Rattle.yaml_emit_laws_text.specs.emit_layout.Content.{Start, Opening, Node, alias_node, scalar_node, sequence_node, mapping_node, Nodes, no_nodes, node, Pairs, no_pairs, pair}
 use Rattle.yaml_emit_laws_text.specs.emit_layout.Nodes.{context_of, is_simple, is_simple_part}
 use Rattle.yaml_emit_laws_text.specs.Writable.{IsWritable, AreItemsWritable, ArePairsWritable}
-use Rattle.yaml_emit_laws_pretty.specs.Bodies.{is_flow_at}
-use Rattle.yaml_emit_laws_pretty.specs.Nodes.{IsPretty, NodeWalks, NodesAreWalked, LeavesAreWalked, BracketsAreWalked, PropertiesAreWalked, SimpleKeysAreWalked, is_place}
+use Rattle.yaml_emit_laws_pretty.specs.Bodies.{style_at, is_flow_at}
+use Rattle.yaml_emit_laws_pretty.specs.Nodes.{IsPretty, NodeWalks, NodesAreWalked, LeavesAreWalked, BlockScalarsAreWalked, is_block, BracketsAreWalked, PropertiesAreWalked, SimpleKeysAreWalked, is_place}
 use Rattle.yaml_emit_laws_pretty.proofs.NodeItems.{MoreItems, more_none, more_item}
 use Rattle.yaml_emit_laws_pretty.proofs.NodePairs.{PairWalks, PairsWalk}
 use Rattle.yaml_emit_laws_pretty.proofs.NodeBlocks.{block_sequence, block_mapping}
@@ -16,6 +16,7 @@ use Rattle.yaml_emit_laws_pretty.proofs.NodeBlocks.{block_sequence, block_mappin
 -- the laws of leaves, brackets, properties and simple keys
 record Parts : Type 0 where
   leaves : LeavesAreWalked
+  blocks : BlockScalarsAreWalked
   brackets : BracketsAreWalked
   properties : PropertiesAreWalked
   keys : SimpleKeysAreWalked
@@ -39,8 +40,11 @@ none_flows false false false e = absurd (cc)
 
 mutual
   node_on : Parts → (s : Settings) (d : Opening) → IsPretty s d → (y : Node) → IsWritable y → (around : Option ℕ) (q : Part) (bare : Bool) → is_place around q ≡ true → NodeWalks (context_of s d.directives) around q bare y
-  node_on laws s d pretty (alias_node name) fine around q bare place = laws.leaves s d pretty (alias_node name) fine refl around q bare (place_whole around q place)
-  node_on laws s d pretty (scalar_node v) fine around q bare place = laws.leaves s d pretty (scalar_node v) fine refl around q bare (place_whole around q place)
+  node_on laws s d pretty (alias_node name) fine around q bare place = laws.leaves s d pretty (alias_node name) fine around q bare (place_whole around q place) refl refl
+  node_on laws s d pretty (scalar_node v) fine around q bare place = elim (cases_Bool (is_block (style_at (context_of s d.directives) false q v))) [
+    | inl e ↦ laws.blocks s d pretty v fine around q bare (place_whole around q place) e
+    | inr e ↦ laws.leaves s d pretty (scalar_node v) fine around q bare (place_whole around q place) refl e
+  ]
   node_on laws s d pretty (sequence_node o no_nodes) fine around q bare place = elim (cases_Bool (is_flow_at (context_of s d.directives) false o true)) [
     | inl e ↦ laws.brackets s d pretty (sequence_node o no_nodes) fine e around q bare (place_whole around q place)
     | inr e ↦ absurd (none_flows s.canonical false o.flow e)
@@ -77,5 +81,5 @@ mutual
     value = λ b. node_on laws s d pretty v value (Some n) part.Value b refl;
   }, pairs_on laws s d pretty ps all n)
 
-pub nodes_walk : LeavesAreWalked → BracketsAreWalked → PropertiesAreWalked → SimpleKeysAreWalked → NodesAreWalked
-nodes_walk leaves brackets properties keys s d pretty y fine around q bare place = node_on (record { leaves = leaves; brackets = brackets; properties = properties; keys = keys }) s d pretty y fine around q bare place
+pub nodes_walk : LeavesAreWalked → BlockScalarsAreWalked → BracketsAreWalked → PropertiesAreWalked → SimpleKeysAreWalked → NodesAreWalked
+nodes_walk leaves blocks brackets properties keys s d pretty y fine around q bare place = node_on (record { leaves = leaves; blocks = blocks; brackets = brackets; properties = properties; keys = keys }) s d pretty y fine around q bare place

@@ -5,9 +5,8 @@ ghost use Rattle.yaml_round_writing.specs.Layers.{list_layers, reformat_layers};
 ghost use Rattle.yaml_round_writing.specs.Answers.{IsReformatted, IsInCanonicalForm, IsListed, text_and_form, bytes_of};
 
 use std::alloc::Global;
-use yaml_round_compare::stays;
 use yaml_round_device::{yaml_form_t, yaml_settings_t};
-use yaml_round_writing::{Shape, Watch, in_pretty_form, let_go, lines_of, reading_of, written};
+use yaml_round_writing::{Beginning, Watch, in_pretty_form, let_go, lines_of, reading_of, written};
 use yaml_scan_model::{yaml_encoding_t, yaml_fault_t};
 
 // The text in canonical form.
@@ -22,17 +21,15 @@ fn in_canonical_form(
 {
     let mut watch = Watch {
         canonical: true,
-        shape: Shape::Other,
-        kept: None,
-        most_kept: 0,
+        beginning: Beginning::Something,
     };
     let text = written(alloc, input, from, settings, &mut watch)?;
     Ok((text, yaml_form_t::Canonical))
 }
 
 /// The text rewritten, and its form. With `settings.canonical` on the answer is in canonical form. With it off the events
-/// are laid out in pretty form, with their styles; where that text, read back, hasn't the input's content, the answer is in
-/// canonical form all the same.
+/// are laid out in pretty form, with their styles, and that text reads back; only where the input begins with nothing (its first
+/// document has no `---` and is a `!` alone) it doesn't, and the answer is in canonical form all the same.
 ///
 /// Refusals: a fault of the input (kinds 2, 3 and 4), which comes before a limit; `write error` (kind 6) where the text
 /// has more than `settings.limit` bytes; `indentation is too deep` (kind 7); want of memory (kind 1).
@@ -48,11 +45,10 @@ pub fn yaml_reformat(
     if settings.canonical {
         return in_canonical_form(alloc, input, from, settings);
     }
-    let (text, known) = in_pretty_form(alloc, input, from, settings)?;
-    match stays(alloc, input, from, &text, known) {
+    match in_pretty_form(alloc, input, from, settings) {
         Err(fault) => Err(fault),
-        Ok(true) => Ok((text, yaml_form_t::Pretty)),
-        Ok(false) => in_canonical_form(alloc, input, from, settings),
+        Ok((text, false)) => Ok((text, yaml_form_t::Pretty)),
+        Ok((_, true)) => in_canonical_form(alloc, input, from, settings),
     }
 }
 

@@ -1,4 +1,2 @@
 mod Comparing
-mod KeptContents
 mod Mapped
-mod Telling

@@ -131,16 +131,6 @@ abbrev pub ReadsOutBoth : ParserRemaining → ParserRemaining
 ReadsOutBoth first second (Ok done) = (first.ending ≡ None) × (second.ending ≡ None)
 ReadsOutBoth first second (Err f) = IsSideFault first second f.0 f.1
 
--- without a fault the contents differ
-abbrev pub Unlike : ParserRemaining → ParserRemaining → Type 0
-Unlike first second = first.ending ≡ None → second.ending ≡ None → contents first.events
-    ≡ contents second.events → ⊥
-
-abbrev pub ReadsAlike : ParserRemaining → ParserRemaining → Result Bool yaml_fault_t → Type 0
-ReadsAlike first second (Ok true) = Equal first second
-ReadsAlike first second (Ok false) = Unlike first second
-ReadsAlike first second (Err f) = IsMemoryFault parse_layers (fault_of f)
-
 -- true exactly where the contents are equal
 pub record TellsWhetherEqual (first second : ParserRemaining) (same : Bool) : Type 0 where
   pub first_ending : first.ending ≡ None

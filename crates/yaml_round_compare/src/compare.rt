@@ -2,19 +2,16 @@
 
 ghost use Rattle.std.specs.Prelude.{ℕ, List};
 ghost use Rattle.yaml_round_content.specs.Input.{Reads};
-ghost use Rattle.yaml_round_compare.specs.Compare.{BothReal, JudgesEvents, StepsBeside, StepsAlone, StepsOn, Sided, ReadsOutBoth, IsBehindFirst, ComparesReadings, ReadsAlike};
+ghost use Rattle.yaml_round_compare.specs.Compare.{BothReal, JudgesEvents, StepsBeside, StepsAlone, StepsOn, Sided, ReadsOutBoth, IsBehindFirst, ComparesReadings};
 ghost use Rattle.yaml_parse.specs.Events.{event_of};
 ghost use Rattle.yaml_round_reading.specs.Reading.{AreReal};
-ghost use Rattle.yaml_round_reading.specs.Answers.{IsRight, IsReadBack, IsSame};
-ghost use Rattle.yaml_scan.specs.Faults.{Answers, IsMemoryFault, fault_of, parse_layers};
+ghost use Rattle.yaml_round_reading.specs.Answers.{IsSame};
 
 use crate::content::agree;
 use std::alloc::Global;
 use yaml_parse::{yaml_event_t, yaml_found_t};
 use yaml_round_reading::{Reading, let_go, normalize_event, read_out, reading_of, yaml_side_t};
-use yaml_scan::{
-    yaml_encoding_t, yaml_error_type_t, yaml_fault_t, yaml_memory_fault, yaml_origin_t,
-};
+use yaml_scan::{yaml_encoding_t, yaml_fault_t};
 
 /// How two streams of events go on.
 #[derive(Clone, Copy)]
@@ -136,64 +133,6 @@ fn compared(first: &mut Reading<'_>, second: &mut Reading<'_>) -> Result<bool, S
         Err((yaml_side_t::Second, fault)) => Err(behind_first(first, fault)),
         Err(fault) => Err(fault),
     }
-}
-
-/// Want of memory, told again by its layer and nothing else.
-pub(crate) fn starved_in(origin: yaml_origin_t) -> yaml_fault_t
-    ensures { IsMemoryFault parse_layers (fault_of result) }
-{
-    match origin {
-        yaml_origin_t::Reader => yaml_memory_fault(yaml_origin_t::Reader),
-        yaml_origin_t::Scanner => yaml_memory_fault(yaml_origin_t::Scanner),
-        _ => yaml_memory_fault(yaml_origin_t::Parser),
-    }
-}
-
-// Whether two readings have the same content; a fault of either means that they haven't.
-fn reads_alike(first: &mut Reading<'_>, second: &mut Reading<'_>) -> Result<bool, yaml_fault_t>
-    requires { BothReal first.old.parser second.old.parser }
-    ensures { ReadsAlike first.old.parser second.old.parser result }
-{
-    match same_events(first, second) {
-        Ok(same) => Ok(same),
-        Err((_, fault)) => {
-            if fault.kind == yaml_error_type_t::YAML_MEMORY_ERROR {
-                Err(starved_in(fault.origin))
-            } else {
-                Ok(false)
-            }
-        }
-    }
-}
-
-// Whether the text, read as its byte order mark tells, is accepted and has the content of a reading.
-fn reads_as(alloc: Global, first: &mut Reading<'_>, text: &[u8]) -> Result<bool, yaml_fault_t>
-    requires { AreReal first.old.parser.events }
-    ensures { (from : yaml_encoding_t) (input : List ℕ) → Reads from input first.old.parser
-        → IsRight from input
-        → Answers parse_layers (λ same. same) (IsReadBack from input text.now) result }
-{
-    let mut second = reading_of(alloc, text, yaml_encoding_t::YAML_ANY_ENCODING)?;
-    let answer = reads_alike(first, &mut second);
-    let_go(second);
-    answer
-}
-
-/// Whether the text, read as its byte order mark tells, is accepted and has the content of the input, which is accepted.
-/// Refused only where memory ran out.
-pub(crate) fn reads_back(
-    alloc: Global,
-    input: &[u8],
-    from: yaml_encoding_t,
-    text: &[u8],
-) -> Result<bool, yaml_fault_t>
-    requires { IsRight from input.now }
-    ensures { Answers parse_layers (λ same. same) (IsReadBack from input.now text.now) result }
-{
-    let mut first = reading_of(alloc, input, from)?;
-    let answer = reads_as(alloc, &mut first, text);
-    let_go(first);
-    answer
 }
 
 /// Whether the second input has the content of the first one's reading.

@@ -1,9 +1,7 @@
-//! What is made of readings beside texts: the comparison of two inputs' contents, and whether a text reads back.
+//! The comparison of two inputs' contents.
 #![tactic(auto)]
 
 mod compare;
 mod content;
-mod kept;
 
 pub use compare::same_as;
-pub use kept::stays;

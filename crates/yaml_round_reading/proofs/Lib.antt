@@ -1,4 +1,3 @@
 pub mod Plain
-pub mod Keeping
 mod Normalizing
 mod Real

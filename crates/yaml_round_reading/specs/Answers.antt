@@ -58,9 +58,3 @@ IsSame a_from a b_from b (Err f) = IsSideStarved a_from a f.0 (fault_of f.1)
 -- The text, read as its byte order mark tells, is accepted and has the input's content.
 abbrev pub ReadsBack : yaml_encoding_t → List ℕ → List ℕ → Type 0
 ReadsBack from input text = SameContent from input YAML_ANY_ENCODING text
-
--- whether a text reads back
-abbrev pub IsReadBack : yaml_encoding_t → List ℕ → List ℕ → Result Bool Fault → Type 0
-IsReadBack from input text (Ok true) = ReadsBack from input text
-IsReadBack from input text (Ok false) = ¬ ReadsBack from input text
-IsReadBack from input text (Err fault) = ⊥

@@ -6,18 +6,17 @@ use Rattle.yaml_scan.specs.declared.yaml_fault_t.{yaml_fault_t}
 use Rattle.yaml_scan.specs.Faults.{Fault, fault_of, IsMemoryFault, parse_layers, Answers}
 use Rattle.yaml_parse.specs.Remaining.{ParserRemaining}
 use Rattle.yaml_parse.specs.Resolve.{Told}
-use Rattle.yaml_parse.specs.Events.{Event, text_of}
+use Rattle.yaml_parse.specs.Events.{Event}
 use Rattle.yaml_emit.specs.Emitter.{Emitter, Completes}
 use Rattle.yaml_round_lines.specs.EventLine.{event_line}
 use Rattle.yaml_round_device.specs.declared.yaml_settings_t.{yaml_settings_t}
 use Rattle.yaml_round_writing.specs.Layers.{reformat_layers, list_layers}
 use Rattle.yaml_round_reading.specs.Reading.{emitter_events, GivesNextEvent, IsFaultOf, EndsWith}
 use Rattle.yaml_round_writing.specs.Lines.{event_lines}
-use Rattle.yaml_round_shape.specs.Seen.{seen_all}
+use Rattle.yaml_round_writing.specs.Beginning.{nothing_comes}
 use Rattle.yaml_round_writing.specs.declared.writing.Watch.{Watch}
 use Rattle.yaml_round_writing.specs.Writing.{LeadsWatched, WritesAll}
 use Rattle.yaml_round_laws_documents.specs.content.Input.{Reads, ending_of}
-use Rattle.yaml_round_reading.proofs.Keeping.{kept_then}
 use Rattle.yaml_round_reading.proofs.Plain.{faulty, faulty_ending, fault_met, right, has_events}
 use Rattle.yaml_round_reading.specs.Answers.{IsFaulty}
 use Rattle.yaml_round_writing.specs.Answers.{IsJudged, IsTooLong, HasLines}
@@ -62,8 +61,7 @@ rest_led a b c e e' e'' es fs l k = record {
       subst Q l.canonical (k.completes x whole (subst P (sym l.canonical) (l.completes x whole done)));
   limit = k.limit ∙ l.limit;
   canonical = k.canonical ∙ l.canonical;
-  shape = l.shape ∙ ap (λ (z : Bool). seen_all b.shape (emitter_events z fs)) (sym l.canonical) ∙ k.shape;
-  kept = kept_then (text_of a.kept) (text_of b.kept) (text_of c.kept) es fs [] l.kept k.kept;
+  beginning = l.beginning ∙ ap (λ (z : Bool). nothing_comes b.beginning (emitter_events z fs)) (sym l.canonical) ∙ k.beginning;
 }
 
 pub then_rest : (a b c : Watch) (r r' : ParserRemaining) (e e' e'' : Emitter) (result : Result (Unit {0}) yaml_fault_t)

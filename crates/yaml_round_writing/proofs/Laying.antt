@@ -7,8 +7,6 @@ use Rattle.yaml_scan.specs.declared.yaml_fault_t.{yaml_fault_t}
 use Rattle.yaml_scan.specs.Faults.{Fault, fault_of, IsMemoryFault, emit_layers, Answers}
 use Rattle.yaml_parse.specs.Remaining.{ParserRemaining}
 use Rattle.yaml_parse.specs.Resolve.{Told}
-use Rattle.yaml_parse.specs.Events.{text_of}
-use Rattle.yaml_round_reading.specs.Kept.{KeptOn}
 use Rattle.yaml_emit.specs.Content.{Event}
 use Rattle.yaml_emit.specs.Streams.{IsStream}
 use Rattle.yaml_emit.specs.Emitter.{Emitter, Completes, CompletesBy, IsLimited, IsWhole, Passes}
@@ -19,7 +17,7 @@ use Rattle.yaml_emit.specs.emit_text.declared.RequestedSettings.{RequestedSettin
 use Rattle.yaml_round_device.specs.declared.yaml_settings_t.{yaml_settings_t}
 use Rattle.yaml_round_writing.specs.Layers.{reformat_layers}
 use Rattle.yaml_round_reading.specs.Reading.{emitter_events}
-use Rattle.yaml_round_shape.specs.Seen.{seen_all}
+use Rattle.yaml_round_writing.specs.Beginning.{nothing_comes}
 use Rattle.yaml_round_writing.specs.declared.writing.Watch.{Watch}
 use Rattle.yaml_round_writing.specs.Writing.{IsUnder, LeadsWatched, FinishesText, requested_under, IsText, IsEachLayout, IsPastEach}
 use Rattle.yaml_round_laws_documents.specs.content.Input.{Reads, events_of, ending_of}
@@ -66,16 +64,10 @@ led from input settings w v r old new h u l = (
       (subst (λ (es : List Told). IsStream (requested_under settings w.canonical) x (emitter_events w.canonical es) whole) (sym h.events) s)),
 )
 
--- and their shape
-pub saw : (from : yaml_encoding_t) (input : List ℕ) (w v : Watch) (r : ParserRemaining) (old new : Emitter) → Reads from input r → LeadsWatched w old r.events v new []
-    → v.shape ≡ seen_all w.shape (emitter_events w.canonical (events_of from input))
-unfolding seen_all
-saw from input w v r old new h l = sym l.shape ∙ ap (λ (es : List Told). seen_all w.shape (emitter_events w.canonical es)) h.events
-
--- and what they say was kept
-pub kept_all : (from : yaml_encoding_t) (input : List ℕ) (w v : Watch) (r : ParserRemaining) (old new : Emitter) → Reads from input r → LeadsWatched w old r.events v new []
-    → KeptOn (text_of w.kept) (events_of from input) (text_of v.kept) []
-kept_all from input w v r old new h l = subst (λ (es : List Told). KeptOn (text_of w.kept) es (text_of v.kept) []) h.events l.kept
+-- and whether they begin with nothing
+pub began : (from : yaml_encoding_t) (input : List ℕ) (w v : Watch) (r : ParserRemaining) (old new : Emitter) → Reads from input r → LeadsWatched w old r.events v new []
+    → nothing_comes w.beginning (emitter_events w.canonical (events_of from input)) ≡ nothing_comes v.beginning []
+began from input w v r old new h l = sym (ap (λ (es : List Told). nothing_comes w.beginning (emitter_events w.canonical es)) h.events) ∙ l.beginning
 
 -- what is said of an answer in place of a refusal
 pub where_ok : {P : Type 0} (result : Result (Vec ℕ Global) yaml_fault_t) → P → IfOk result (λ text. P)

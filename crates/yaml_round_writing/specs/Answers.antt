@@ -13,24 +13,22 @@ use Rattle.yaml_emit.specs.emit_text.declared.RequestedSettings.{RequestedSettin
 use Rattle.yaml_round_device.specs.declared.yaml_settings_t.{yaml_settings_t}
 use Rattle.yaml_round_device.specs.declared.yaml_form_t.{yaml_form_t}
 use Rattle.yaml_round_device.specs.declared.yaml_form_t.TheVariants.{Canonical, Pretty}
-use Rattle.yaml_round_reading.specs.declared.known.Known.{Known}
 use Rattle.yaml_round_reading.specs.Reading.{emitter_events}
 use Rattle.yaml_round_writing.specs.Lines.{event_lines}
-use Rattle.yaml_round_reading.specs.Kept.{KnownHolds}
 use Rattle.yaml_round_writing.specs.Writing.{requested_under}
 use Rattle.yaml_parse.specs.Resolve.{Told}
 use Rattle.yaml_round_laws_documents.specs.content.Said.{Document}
 use Rattle.yaml_round_laws_documents.specs.content.Reading.{PlainReading, HasEvents}
 use Rattle.yaml_round_laws_documents.specs.content.Canon.{canon}
-use Rattle.yaml_round_laws_documents.specs.KeptLaws.{IsJsonInput}
+use Rattle.yaml_round_laws_pretty.specs.Flags.{begins_with_nothing}
 unfoldable pub use Rattle.yaml_round_reading.specs.Answers.{IsRight, IsFaulty}
-pub use Rattle.yaml_round_reading.specs.Answers.{SameContent, IsCompared, IsSideFaulty, IsSideStarved, IsSame, ReadsBack, IsReadBack}
+pub use Rattle.yaml_round_reading.specs.Answers.{SameContent, IsCompared, IsSideFaulty, IsSideStarved, IsSame, ReadsBack}
 
 abbrev pub text_and_form : {A : Type 0} → Vec ℕ A × yaml_form_t → List ℕ × yaml_form_t
 text_and_form answer = (answer.0.items, answer.1)
 
-abbrev pub text_and_known : {A : Type 0} → Vec ℕ A × Known → List ℕ × Known
-text_and_known answer = (answer.0.items, answer.1)
+abbrev pub text_and_whether : {A : Type 0} → Vec ℕ A × Bool → List ℕ × Bool
+text_and_whether answer = (answer.0.items, answer.1)
 
 abbrev pub text_and_maybe_form : {A : Type 0} → Vec ℕ A × Option yaml_form_t → List ℕ
     × Option yaml_form_t
@@ -123,19 +121,19 @@ pub record IsNormalForm (from : yaml_encoding_t) (settings : yaml_settings_t) (i
 
 -- ---- rewriting
 
--- the input's pretty form doesn't read back; so the input isn't shaped as JSON is
-pub record IsNotReadBack (from : yaml_encoding_t) (settings : yaml_settings_t)
-    (input : List ℕ) : Type 0 where
-  pub pretty : List ℕ
-  pub laid : IsLaidOut from input settings false pretty
-  pub differs : ¬ ReadsBack from input pretty
-  pub shape : ¬ IsJsonInput from input
+-- The input begins with nothing: its first document has no `---`, and nothing is written for its root.
+pub record BeginsWithNothing (from : yaml_encoding_t) (input : List ℕ) : Type 0 where
+  pub events : List Told
+  pub of_input : HasEvents from input events
+  pub begins : begins_with_nothing (emitter_events false events) ≡ true
 
--- the answer of the engine in pretty form, and what is known of it
+-- the answer of the engine in pretty form, and whether the input begins with nothing; else it reads back
 abbrev pub IsInPrettyForm : yaml_encoding_t → yaml_settings_t → List ℕ
-    → Result (List ℕ × Known) Fault → Type 0
-IsInPrettyForm from settings input (Ok (text, known)) = IsLaidOut from input settings false text
-    × KnownHolds from input text known
+    → Result (List ℕ × Bool) Fault → Type 0
+IsInPrettyForm from settings input (Ok (text, true)) = IsLaidOut from input settings false text
+    × BeginsWithNothing from input
+IsInPrettyForm from settings input (Ok (text, false)) = IsLaidOut from input settings false text
+    × ReadsBack from input text
 IsInPrettyForm from settings input (Err fault) = IsWritten from input settings false (Err fault)
 
 -- the answer of the engine in canonical form
@@ -147,22 +145,22 @@ IsInCanonicalForm from settings input (Ok (text, Pretty)) = ⊥
 IsInCanonicalForm from settings input (Err fault) = IsFaulty from input fault
     ⊎ IsTooLong from input settings true fault
 
--- Canonical form is due: it is asked for, or the pretty form doesn't read back.
-abbrev pub IsCanonicalDue : Bool → yaml_encoding_t → yaml_settings_t → List ℕ → Type 0
-IsCanonicalDue true from settings input = Unit {0}
-IsCanonicalDue false from settings input = IsNotReadBack from settings input
+-- Canonical form is due: it is asked for, or the input begins with nothing.
+abbrev pub IsCanonicalDue : Bool → yaml_encoding_t → List ℕ → Type 0
+IsCanonicalDue true from input = Unit {0}
+IsCanonicalDue false from input = BeginsWithNothing from input
 
 -- The engine may answer this to the input under the settings: the form that is due, where canonical form is a normal form and
 -- pretty form reads back; the input's fault; or the limit that a form that is due passes.
 unfoldable pub IsReformatted : yaml_encoding_t → yaml_settings_t → List ℕ
     → Result (List ℕ × yaml_form_t) Fault → Type 0
 IsReformatted from settings input (Ok (text, Canonical)) = IsCanonicalDue settings.canonical from
-    settings input × (IsLaidOut from input settings true text
+    input × (IsLaidOut from input settings true text
     × IsNormalForm from settings input text)
 IsReformatted from settings input (Ok (text, Pretty)) = (settings.canonical ≡ false)
     × (IsLaidOut from input settings false text × ReadsBack from input text)
 IsReformatted from settings input (Err fault) =
     IsFaulty from input fault
     ⊎ (((settings.canonical ≡ false) × IsTooLong from input settings false fault)
-    ⊎ (IsCanonicalDue settings.canonical from settings input
+    ⊎ (IsCanonicalDue settings.canonical from input
     × IsTooLong from input settings true fault))

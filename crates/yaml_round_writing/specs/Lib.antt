@@ -1,5 +1,6 @@
 pub mod Layers
 pub mod Lines
+pub mod Beginning
 pub mod Writing
 pub mod Answers
 pub mod Reload
@@ -8,4 +9,4 @@ pub use Rattle.yaml_round_laws_documents.specs as round_laws_documents
 pub use Rattle.yaml_emit.specs as emit
 pub use Rattle.yaml_round_lines.specs.EventLine
 pub use Rattle.yaml_round_reading.specs.Reading
-pub use Rattle.yaml_round_reading.specs.Kept
+pub use Rattle.yaml_round_laws_pretty.specs.Flags

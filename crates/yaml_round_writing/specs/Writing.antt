@@ -1,5 +1,5 @@
 -- What is written of a reading's events.
-use Rattle.std.specs.Prelude.{◌≡◌, ℕ, Bool, true, false, List, [], None, Result, Ok, Err, Vec}
+use Rattle.std.specs.Prelude.{◌≡◌, ℕ, Bool, true, false, List, [], ◌∷◌, None, Result, Ok, Err, Vec}
 use Rattle.std.specs.Global.{Global}
 use Rattle.yaml_scan.specs.declared.yaml_encoding_t.{yaml_encoding_t}
 use Rattle.yaml_scan.specs.declared.yaml_encoding_t.TheVariants.{YAML_UTF8_ENCODING, YAML_UTF16LE_ENCODING, YAML_UTF16BE_ENCODING}
@@ -7,7 +7,7 @@ use Rattle.yaml_scan.specs.declared.yaml_fault_t.{yaml_fault_t}
 use Rattle.yaml_scan.specs.Faults.{Fault, fault_of}
 use Rattle.yaml_parse.specs.Remaining.{ParserRemaining}
 use Rattle.yaml_parse.specs.Resolve.{Told}
-use Rattle.yaml_parse.specs.Events.{EventBody, text_of}
+use Rattle.yaml_parse.specs.Events.{EventBody}
 use Rattle.yaml_emit.specs.Content.{Event, emitter_event}
 use Rattle.yaml_emit.specs.Streams.{IsStream}
 use Rattle.yaml_emit.specs.Emitter.{Emitter, Completes, IsLimited, Passes}
@@ -15,13 +15,11 @@ use Rattle.yaml_emit.specs.Within.{Fits}
 use Rattle.yaml_emit.specs.Text.{Item, encode, is_deep}
 use Rattle.yaml_emit.specs.emit_text.declared.Encoding.{Encoding}
 use Rattle.yaml_emit.specs.emit_text.declared.RequestedSettings.{RequestedSettings}
-use Rattle.yaml_round_shape.specs.Seen.{seen, seen_all}
-use Rattle.yaml_round_kept.specs.Kept.{Keeps}
 use Rattle.yaml_round_device.specs.declared.yaml_settings_t.{yaml_settings_t}
 use Rattle.yaml_round_writing.specs.declared.writing.Watch.{Watch}
 use Rattle.yaml_round_device.specs.declared.yaml_output_encoding_t.{yaml_output_encoding_t}
 use Rattle.yaml_round_device.specs.declared.yaml_output_encoding_t.TheVariants.{Utf8, Utf16Le, Utf16Be}
-use Rattle.yaml_round_reading.specs.Kept.{KeptOn}
+use Rattle.yaml_round_writing.specs.Beginning.{nothing_comes}
 use Rattle.yaml_round_reading.specs.Reading.{emitter_events, AreReal, IsFaultOf}
 
 -- ---- the settings of an emitter
@@ -53,20 +51,14 @@ pub record IsUnder (e : Emitter) (w : RequestedSettings) (most : ℕ) : Type 0 w
 
 -- ---- events that are given
 
--- An event, normalized, was given: what was known of the form, the shape and the content goes on.
+-- An event, normalized, was given: the form stays, and what is known of the beginning goes on.
 pub record Sees (watch : Watch) (e : EventBody) (seen_new : Watch) : Type 0 where
   pub canonical : seen_new.canonical ≡ watch.canonical
-  pub shape : seen_new.shape ≡ seen watch.shape (emitter_event e)
-  pub kept : Keeps (text_of watch.kept) e (text_of seen_new.kept)
-
--- The same where its shape isn't looked at: only what is kept goes on.
-pub record Tells (watch : Watch) (e : EventBody) (told_new : Watch) : Type 0 where
-  pub canonical : told_new.canonical ≡ watch.canonical
-  pub shape : told_new.shape ≡ watch.shape
-  pub kept : Keeps (text_of watch.kept) e (text_of told_new.kept)
+  pub beginning : (es : List Event) → nothing_comes watch.beginning (emitter_event e ∷ es)
+      ≡ nothing_comes seen_new.beginning es
 
 -- With these events to come, normalized, from one emitter and those from the other, the text is the same,
--- and so is what they tell of their shape; what those between them say is kept.
+-- and so is whether the input begins with nothing.
 pub record LeadsWatched (watch : Watch) (old : Emitter) (before : List Told) (seen : Watch)
     (new : Emitter) (after : List Told) : Type 0 where
   pub completes : (x : Encoding) (whole : List Item)
@@ -74,9 +66,8 @@ pub record LeadsWatched (watch : Watch) (old : Emitter) (before : List Told) (se
       → Completes new x (emitter_events watch.canonical after) whole
   pub limit : new.limit ≡ old.limit
   pub canonical : seen.canonical ≡ watch.canonical
-  pub shape : seen_all watch.shape (emitter_events watch.canonical before)
-      ≡ seen_all seen.shape (emitter_events watch.canonical after)
-  pub kept : KeptOn (text_of watch.kept) before (text_of seen.kept) after
+  pub beginning : nothing_comes watch.beginning (emitter_events watch.canonical before)
+      ≡ nothing_comes seen.beginning (emitter_events watch.canonical after)
 
 -- the reading's events were given to the emitter: all of them, or a front of them
 abbrev pub WritesReading : Watch → ParserRemaining → Emitter → Result Bool yaml_fault_t → Watch

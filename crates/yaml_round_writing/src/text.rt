@@ -1,22 +1,20 @@
-//! The text of an input's events, and what is known of it.
+//! The text of an input's events, and whether they begin with nothing.
 
 ghost use Rattle.std.specs.Prelude.{◌≡◌, [], IfOk};
 ghost use Rattle.yaml_scan.specs.Faults.{Answers, parse_layers};
 ghost use Rattle.yaml_round_writing.specs.Layers.{reformat_layers};
 ghost use Rattle.yaml_round_laws_documents.specs.content.Input.{Reads, ending_of, events_of};
-ghost use Rattle.yaml_round_shape.specs.Seen.{seen_all};
 ghost use Rattle.yaml_round_reading.specs.Reading.{AreReal, emitter_events};
-ghost use Rattle.yaml_round_writing.specs.Answers.{IsInPrettyForm, IsJudged, IsWritten, text_and_known, bytes_of};
+ghost use Rattle.yaml_round_writing.specs.Answers.{IsInPrettyForm, IsJudged, IsWritten, text_and_whether, bytes_of};
 ghost use Rattle.yaml_round_writing.specs.Writing.{WritesAll};
-ghost use Rattle.yaml_round_reading.specs.Kept.{KeptOn};
-ghost use Rattle.yaml_parse.specs.Events.{text_of};
+ghost use Rattle.yaml_round_writing.specs.Beginning.{nothing_comes};
 
+use crate::beginning::{Beginning, is_nothing};
 use crate::writing::{Watch, emitter_under, finished, write_rest, write_up_to};
 use std::alloc::Global;
 use yaml_emit::yaml_emitter_t;
 use yaml_round_device::yaml_settings_t;
-use yaml_round_reading::{Known, Reading, let_go, read_out, reading_of};
-use yaml_round_shape::{Shape, is_json};
+use yaml_round_reading::{Reading, let_go, read_out, reading_of};
 use yaml_scan::{yaml_encoding_t, yaml_fault_t};
 
 // A text that has more than this many bytes for each byte of its input has outgrown it.
@@ -73,10 +71,9 @@ fn written_from(
     requires real { AreReal reading.old.parser.events }
     ensures text { Answers reformat_layers bytes_of (IsWritten from input.now settings.now
         watch.old.canonical) result }
-    ensures shape { IfOk result (λ _. watch.new.shape ≡ seen_all watch.old.shape
-        (emitter_events watch.old.canonical (events_of from input.now))) }
-    ensures kept { IfOk result (λ _. KeptOn (text_of watch.old.kept) (events_of from input.now)
-        (text_of watch.new.kept) []) }
+    ensures beginning { IfOk result (λ _. nothing_comes watch.old.beginning
+        (emitter_events watch.old.canonical (events_of from input.now))
+        ≡ nothing_comes watch.new.beginning []) }
 {
     let mut emitter = emitter_under(alloc, settings, watch.canonical)?;
     let written = write_events(alloc, input, from, reading, &mut emitter, watch);
@@ -98,10 +95,9 @@ pub fn written(
 ) -> Result<Vec<u8>, yaml_fault_t>
     ensures text { Answers reformat_layers bytes_of (IsWritten from input.now settings.now
         watch.old.canonical) result }
-    ensures shape { IfOk result (λ _. watch.new.shape ≡ seen_all watch.old.shape
-        (emitter_events watch.old.canonical (events_of from input.now))) }
-    ensures kept { IfOk result (λ _. KeptOn (text_of watch.old.kept) (events_of from input.now)
-        (text_of watch.new.kept) []) }
+    ensures beginning { IfOk result (λ _. nothing_comes watch.old.beginning
+        (emitter_events watch.old.canonical (events_of from input.now))
+        ≡ nothing_comes watch.new.beginning []) }
 {
     match reading_of(alloc, input, from) {
         Err(fault) => Err(fault),
@@ -113,34 +109,21 @@ pub fn written(
     }
 }
 
-/// The text in pretty form, and what is known of it: that of an input shaped as JSON reads back.
-#[tactic(auto, using(crate::proofs::Staying::known_back))]
+/// The text in pretty form, and whether the input begins with nothing; where it doesn't, the text reads back.
+#[tactic(auto, using(crate::proofs::Staying::in_pretty))]
 pub fn in_pretty_form(
     alloc: Global,
     input: &[u8],
     from: yaml_encoding_t,
     settings: &yaml_settings_t,
-) -> Result<(Vec<u8>, Known), yaml_fault_t>
-    ensures { Answers reformat_layers text_and_known
+) -> Result<(Vec<u8>, bool), yaml_fault_t>
+    ensures { Answers reformat_layers text_and_whether
         (IsInPrettyForm from settings.now input.now) result }
 {
     let mut watch = Watch {
         canonical: false,
-        shape: Shape::Json {
-            begun: false,
-            key: false,
-            mappings: 0,
-        },
-        kept: Some(Vec::new(alloc)),
-        most_kept: input.len().saturating_mul(2),
+        beginning: Beginning::Start,
     };
     let text = written(alloc, input, from, settings, &mut watch)?;
-    let back = is_json(watch.shape);
-    Ok((
-        text,
-        Known {
-            back,
-            kept: watch.kept,
-        },
-    ))
+    Ok((text, is_nothing(watch.beginning)))
 }

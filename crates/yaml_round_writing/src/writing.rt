@@ -1,6 +1,6 @@
 //! An emitter under the engine's settings, and the writing of a reading's events.
 
-ghost use Rattle.std.specs.Prelude.{◌≡◌, ◌∷◌, [], Some, IfOk, IfErr, option_map};
+ghost use Rattle.std.specs.Prelude.{◌≡◌, Some, IfOk, IfErr, option_map};
 ghost use Rattle.yaml_scan.specs.Faults.{Fault, fault_of, memory_fault};
 ghost use Rattle.yaml_parse.specs.Events.{event_of};
 ghost use Rattle.yaml_parse.specs.Constructors.{HasUtf8};
@@ -9,8 +9,9 @@ ghost use Rattle.yaml_emit.specs.Emitter.{IsLimited};
 ghost use Rattle.yaml_emit.specs.Taking.{GivesText};
 ghost use Rattle.yaml_round_laws_documents.specs.content.Normalize.{normalize_body};
 ghost use Rattle.yaml_round_reading.specs.Reading.{AreReal};
-ghost use Rattle.yaml_round_writing.specs.Writing.{IsUnder, requested_under, encoding_under, Sees, Tells, WritesReading, WritesAll, FinishesText};
+ghost use Rattle.yaml_round_writing.specs.Writing.{IsUnder, requested_under, encoding_under, Sees, WritesReading, WritesAll, FinishesText};
 
+use crate::beginning::{Beginning, behind};
 use std::alloc::Global;
 use yaml_emit::{
     yaml_emitter_emit_early, yaml_emitter_emit_from, yaml_emitter_fault, yaml_emitter_initialize,
@@ -20,22 +21,14 @@ use yaml_emit::{
 };
 use yaml_parse::{yaml_event_t, yaml_found_t};
 use yaml_round_device::{yaml_output_encoding_t, yaml_settings_t};
-use yaml_round_kept::keep;
 use yaml_round_reading::{Reading, normalize_event};
-use yaml_round_shape::{Shape, seen_with};
 use yaml_scan::{yaml_encoding_t, yaml_fault_t, yaml_memory_fault, yaml_origin_t};
 
-// While the events are still JSON's, whose text isn't read back, no more is kept than this.
-const KEPT_OF_JSON: usize = 4096;
-
-/// The form in which events are written, what those that were given tell of their shape, and what they say, where it is kept.
-#[derive(Drop)]
+/// The form in which events are written, and what those that were given tell of their beginning.
+#[derive(Clone, Copy)]
 pub struct Watch {
     pub canonical: bool,
-    pub shape: Shape,
-    pub kept: Option<Vec<u8>>,
-    /// The most bytes that are kept.
-    pub most_kept: usize,
+    pub beginning: Beginning,
 }
 
 fn encoding_of(encoding: yaml_output_encoding_t) -> yaml_encoding_t
@@ -84,69 +77,21 @@ fn give(emitter: &mut yaml_emitter_t, canonical: bool, event: &mut yaml_event_t)
     }
 }
 
-// The most bytes that are kept, as far as the shape is known.
-fn most_kept(watch: &Watch) -> usize {
-    match watch.shape {
-        Shape::Other => watch.most_kept,
-        Shape::Json { .. } => KEPT_OF_JSON,
-    }
-}
-
-// Gives the event in the slot, and keeps what it says, up to so many bytes.
-// Out of line: it holds what each kind says, beside the short way.
-#[inline(never)]
-fn give_told(emitter: &mut yaml_emitter_t, watch: &mut Watch, event: &mut yaml_event_t, most: usize)
-    requires { HasUtf8 (event_of event.old).body }
-    ensures gives { GivesText emitter.old (emitter_event (event_of event.old).body) emitter.new }
-    ensures told { Tells watch.old (event_of event.old).body watch.new }
-{
-    keep(&mut watch.kept, event, most);
-    yaml_emitter_emit_from(emitter, event);
-}
-
-// The same. Where nothing is kept, it is given alone.
-// Inlined: a test.
+// Gives the event in the slot, and sees what it tells of the beginning.
+// Inlined: a test an event; only the first three are looked at.
 #[inline(always)]
-fn give_kept(emitter: &mut yaml_emitter_t, watch: &mut Watch, event: &mut yaml_event_t, most: usize)
-    requires { HasUtf8 (event_of event.old).body }
-    ensures gives { GivesText emitter.old (emitter_event (event_of event.old).body) emitter.new }
-    ensures told { Tells watch.old (event_of event.old).body watch.new }
-{
-    match watch.kept {
-        None => give(emitter, watch.canonical, event),
-        Some(_) => give_told(emitter, watch, event, most),
-    }
-}
-
-// Gives the event in the slot, sees what it tells of the shape, and keeps what it says.
-// Out of line: it holds what the shape says, beside the short way.
-#[inline(never)]
-fn give_seen(emitter: &mut yaml_emitter_t, watch: &mut Watch, event: &mut yaml_event_t)
-    requires { HasUtf8 (event_of event.old).body }
-    ensures gives { GivesText emitter.old (emitter_event (event_of event.old).body) emitter.new }
-    ensures seen { Sees watch.old (event_of event.old).body watch.new }
-{
-    watch.shape = seen_with(watch.shape, event);
-    let most = most_kept(watch);
-    give_kept(emitter, watch, event, most);
-}
-
-// The same. Where the shape is known, there is nothing to see.
-// Inlined: two tests an event.
-#[inline(always)]
-#[tactic(auto, unfolding(yaml_round_shape::specs::Seen::seen))]
 fn give_on(emitter: &mut yaml_emitter_t, watch: &mut Watch, event: &mut yaml_event_t)
     requires { HasUtf8 (event_of event.old).body }
     ensures gives { GivesText emitter.old (emitter_event (event_of event.old).body) emitter.new }
     ensures seen { Sees watch.old (event_of event.old).body watch.new }
 {
-    match watch.shape {
-        Shape::Other => {
-            let most = watch.most_kept;
-            give_kept(emitter, watch, event, most);
+    match watch.beginning {
+        Beginning::Nothing | Beginning::Something => {}
+        Beginning::Start | Beginning::Stream | Beginning::Document => {
+            watch.beginning = behind(watch.beginning, event);
         }
-        Shape::Json { .. } => give_seen(emitter, watch, event),
     }
+    give(emitter, watch.canonical, event);
 }
 
 // The same of the event, normalized.

@@ -1,4 +1,4 @@
-use Rattle.yaml_round_writing.proofs.Laying.{wrote, saw, kept_all, where_ok}
+use Rattle.yaml_round_writing.proofs.Laying.{wrote, began, where_ok}
 use Rattle.yaml_round_writing.proofs.Judging.{not_written}
 use Rattle.yaml_round_writing.proofs.text.written_from.Goals as goal
 
@@ -11,12 +11,7 @@ returns-in-Ok-clause-text c =
     wrote c.args.from c.args.input.now c.args.settings.now c.args.watch.now c.write_events-written.new.watch c.args.reading.now.parser c.in_ok-emitter.emitter c.write_events-written.new.emitter c.finished-text.result
     c.requires.reads c.in_ok-emitter.ensures.under c.in-Ok.ensures c.finished-text.ensures
 
-pub returns-in-Ok-clause-shape : goal.returns-in-Ok-clause-shape
-returns-in-Ok-clause-shape c =
-    where_ok c.finished-text.result (saw c.args.from c.args.input.now c.args.watch.now c.write_events-written.new.watch c.args.reading.now.parser c.in_ok-emitter.emitter c.write_events-written.new.emitter
-    c.requires.reads c.in-Ok.ensures.1)
-
-pub returns-in-Ok-clause-kept : goal.returns-in-Ok-clause-kept
-returns-in-Ok-clause-kept c =
-    where_ok c.finished-text.result (kept_all c.args.from c.args.input.now c.args.watch.now c.write_events-written.new.watch c.args.reading.now.parser c.in_ok-emitter.emitter c.write_events-written.new.emitter
+pub returns-in-Ok-clause-beginning : goal.returns-in-Ok-clause-beginning
+returns-in-Ok-clause-beginning c =
+    where_ok c.finished-text.result (began c.args.from c.args.input.now c.args.watch.now c.write_events-written.new.watch c.args.reading.now.parser c.in_ok-emitter.emitter c.write_events-written.new.emitter
     c.requires.reads c.in-Ok.ensures.1)

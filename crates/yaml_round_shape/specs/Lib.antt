@@ -1,2 +1,0 @@
-pub mod Seen
-pub mod Laws

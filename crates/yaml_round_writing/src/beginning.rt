@@ -1,0 +1,133 @@
+//! Whether an input begins with nothing: its first document has no `---`, and its root is an empty plain scalar without anchor and
+//! tag, for which pretty form writes nothing.
+
+ghost use Rattle.std.specs.Prelude.{◌≡◌, ◌||◌, ◌∷◌, [], List, not, map};
+ghost use Rattle.yaml_parse.specs.Events.{event_of, text_of, directive_of};
+ghost use Rattle.yaml_emit.specs.Content.{Event, emitter_event};
+ghost use Rattle.yaml_emit.specs.Nodes.{has_version, has_directives};
+ghost use Rattle.yaml_round_laws_pretty.specs.Bodies.{is_bare};
+ghost use Rattle.yaml_round_laws_pretty.specs.Flags.{is_asked_plain};
+ghost use Rattle.yaml_round_writing.specs.Beginning as spec;
+
+use yaml_parse::{yaml_event_body_t, yaml_event_t};
+use yaml_scan::{yaml_scalar_style_t, yaml_tag_directive_t, yaml_version_directive_t};
+
+/// What the events so far tell of it.
+#[derive(Clone, Copy)]
+pub enum Beginning {
+    /// None was given.
+    Start,
+    /// The stream's start was.
+    Stream,
+    /// And that of a document without `---`.
+    Document,
+    /// And its root, which is nothing.
+    Nothing,
+    /// It begins with something.
+    Something,
+}
+
+fn has_none(version: &Option<yaml_version_directive_t>, directives: &[yaml_tag_directive_t]) -> bool
+    ensures { result ≡ not (has_version version.now || has_directives
+        (map directive_of directives.now)) }
+{
+    match version {
+        None => directives.is_empty(),
+        Some(_) => false,
+    }
+}
+
+fn is_bare(anchor: &Option<Vec<u8>>, tag: &Option<Vec<u8>>) -> bool
+    ensures { result ≡ is_bare (text_of anchor.now) (text_of tag.now) }
+{
+    match (anchor, tag) {
+        (None, None) => true,
+        _ => false,
+    }
+}
+
+// Whether plain style is taken where it may be.
+fn is_asked_plain(style: yaml_scalar_style_t) -> bool
+    ensures { result ≡ is_asked_plain style }
+{
+    match style {
+        yaml_scalar_style_t::YAML_ANY_SCALAR_STYLE | yaml_scalar_style_t::YAML_PLAIN_SCALAR_STYLE =>
+            true,
+        _ => false,
+    }
+}
+
+// Behind the stream's start.
+fn behind_stream(event: &yaml_event_t) -> Beginning
+    ensures { (es : List Event) → spec.opens_with_nothing
+        (emitter_event (event_of event.now).body ∷ es) ≡ spec.nothing_comes result es }
+{
+    match &event.body {
+        yaml_event_body_t::DocumentStart {
+            version_directive,
+            tag_directives,
+            implicit,
+        } => {
+            if *implicit && has_none(version_directive, tag_directives) {
+                Beginning::Document
+            } else {
+                Beginning::Something
+            }
+        }
+        _ => Beginning::Something,
+    }
+}
+
+// Behind the start of a document without `---`.
+fn behind_document(event: &yaml_event_t) -> Beginning
+    ensures { (es : List Event) → spec.is_nothing_next
+        (emitter_event (event_of event.now).body ∷ es) ≡ spec.nothing_comes result es }
+{
+    match &event.body {
+        yaml_event_body_t::Scalar {
+            anchor,
+            tag,
+            value,
+            plain_implicit,
+            style,
+            ..
+        } => {
+            let empty = value.is_empty() && (*plain_implicit && is_asked_plain(*style));
+            if is_bare(anchor, tag) && empty {
+                Beginning::Nothing
+            } else {
+                Beginning::Something
+            }
+        }
+        _ => Beginning::Something,
+    }
+}
+
+/// What is known with one more event, normalized.
+// Out of line: three events of an input come here.
+#[inline(never)]
+pub(crate) fn behind(beginning: Beginning, event: &yaml_event_t) -> Beginning
+    ensures { (es : List Event) → spec.nothing_comes beginning
+        (emitter_event (event_of event.now).body ∷ es) ≡ spec.nothing_comes result es }
+{
+    match beginning {
+        Beginning::Start => match &event.body {
+            yaml_event_body_t::StreamStart { .. } => Beginning::Stream,
+            _ => Beginning::Something,
+        },
+        Beginning::Stream => behind_stream(event),
+        Beginning::Document => behind_document(event),
+        Beginning::Nothing => Beginning::Nothing,
+        Beginning::Something => Beginning::Something,
+    }
+}
+
+/// Whether the root was given, and is nothing.
+pub(crate) fn is_nothing(beginning: Beginning) -> bool
+    ensures { result ≡ spec.nothing_comes beginning [] }
+{
+    match beginning {
+        Beginning::Nothing => true,
+        _ => false,
+    }
+}

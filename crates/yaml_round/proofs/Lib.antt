@@ -1,6 +1,9 @@
 mod Running
 pub use Rattle.yaml_round_writing.proofs.Normal
 pub use Rattle.yaml_round_writing.proofs.Plain
+pub use Rattle.yaml_round_writing.proofs.Staying
+pub use Rattle.yaml_round_writing.proofs.Theorem
+pub use Rattle.yaml_round_writing.proofs.JsonInputs
 -- the laws beneath, for crates of laws that name this one alone
 pub use Rattle.yaml_round_writing.proofs.Layouts
 pub use Rattle.yaml_round_writing.proofs.Laid

@@ -1,7 +1,7 @@
 pub mod Commands
 pub use Rattle.yaml_round_writing.specs.Layers
 pub use Rattle.yaml_round_writing.specs.Lines
-pub use Rattle.yaml_round_writing.specs.Kept
+pub use Rattle.yaml_round_writing.specs.Flags
 pub use Rattle.yaml_round_writing.specs.Writing
 pub use Rattle.yaml_round_writing.specs.Answers
 pub use Rattle.yaml_round_writing.specs.Reload

@@ -1,27 +1,17 @@
 -- From what two readings say to what is said of their inputs.
-use Rattle.std.proofs.Common.{◌≡◌, ◌⊎◌, ◌∙◌, inl, inr, ap, sym, ℕ, List, Bool, true, false, Result, Ok, Err}
+use Rattle.std.proofs.Common.{◌≡◌, ◌⊎◌, ◌∙◌, inl, inr, ap, sym, ℕ, List, Bool, Result, Ok, Err}
 use Rattle.yaml_scan.specs.declared.yaml_encoding_t.{yaml_encoding_t}
-use Rattle.yaml_scan.specs.declared.yaml_encoding_t.TheVariants.{YAML_ANY_ENCODING}
 use Rattle.yaml_scan.specs.declared.yaml_fault_t.{yaml_fault_t}
 use Rattle.yaml_scan.specs.declared.yaml_origin_t.TheVariants.{Parser}
-use Rattle.yaml_scan.specs.Faults.{fault_of, memory_fault, parse_layers, Answers}
+use Rattle.yaml_scan.specs.Faults.{fault_of, memory_fault}
 use Rattle.yaml_parse.specs.Remaining.{ParserRemaining}
 use Rattle.yaml_round_content.specs.Input.{Reads}
 use Rattle.yaml_round_reading.specs.declared.side.yaml_side_t.{yaml_side_t}
 use Rattle.yaml_round_reading.specs.declared.side.yaml_side_t.TheVariants.{First, Second}
 use Rattle.yaml_round_reading.specs.Reading.{contents}
-use Rattle.yaml_round_compare.specs.Compare.{ComparesReadings, ReadsAlike, IsSideFault, IsBehindFirst}
-use Rattle.yaml_round_reading.specs.Answers.{IsRight, IsReadBack, IsSame, IsSideStarved, IsSideFaulty}
-use Rattle.yaml_round_reading.proofs.Plain.{faulty, fault_met, right, right_ending, same_content, content_same, second_right}
-
-pub read_back : (from : yaml_encoding_t) (input text : List ℕ) (p q : ParserRemaining) (result : Result Bool yaml_fault_t) → Reads from input p → Reads YAML_ANY_ENCODING text q → IsRight from input
-    → ReadsAlike p q result → Answers parse_layers (λ (same : Bool). same) (IsReadBack from input text) result
-read_back from input text p q (Ok true) h k r e =
-    same_content from YAML_ANY_ENCODING input text (right_ending from input r) (sym k.ending ∙ e.second_ending) (ap contents (sym h.events) ∙ e.same ∙ ap contents k.events)
-read_back from input text p q (Ok false) h k r e = λ b.
-    e (h.ending ∙ right_ending from input r) (k.ending ∙ right_ending YAML_ANY_ENCODING text (second_right from YAML_ANY_ENCODING input text b))
-    (ap contents h.events ∙ content_same from YAML_ANY_ENCODING input text b ∙ ap contents (sym k.events))
-read_back from input text p q (Err f) h k r e = inl e
+use Rattle.yaml_round_compare.specs.Compare.{ComparesReadings, IsSideFault, IsBehindFirst}
+use Rattle.yaml_round_reading.specs.Answers.{IsSame, IsSideStarved, IsSideFaulty}
+use Rattle.yaml_round_reading.proofs.Plain.{faulty, fault_met, right, same_content, content_same}
 
 side_fault : (a_from : yaml_encoding_t) (a : List ℕ) (b_from : yaml_encoding_t) (b : List ℕ) (p q : ParserRemaining) (side : yaml_side_t) (f : yaml_fault_t) → Reads a_from a p → Reads b_from b q
     → IsSideFault p q side f → IsSideStarved a_from a side (fault_of f) ⊎ IsSideFaulty a_from a b_from b side (fault_of f)

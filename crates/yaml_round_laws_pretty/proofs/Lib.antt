@@ -10,7 +10,7 @@ mod InputFlags
 mod InputPremises
 mod InputTexts
 pub mod Joining
-mod JsonInputs
+pub mod JsonInputs
 mod Fitting
 mod Layouts
 mod Marks

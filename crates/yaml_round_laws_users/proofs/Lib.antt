@@ -1,5 +1,6 @@
 mod Rewriting
 mod Comparing
+mod Beginning
 mod Shaped
 mod Joining
 mod Loads

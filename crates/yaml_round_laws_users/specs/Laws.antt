@@ -6,7 +6,7 @@ use Rattle.yaml_emit_laws_columns.specs.emit_layout.scan.Faults.{Fault}
 use Rattle.yaml_round.specs.declared.yaml_settings_t.{yaml_settings_t}
 use Rattle.yaml_round.specs.declared.yaml_form_t.{yaml_form_t}
 use Rattle.yaml_round.specs.declared.yaml_form_t.TheVariants.{Canonical, Pretty}
-use Rattle.yaml_round.specs.Answers.{IsRight, IsReformatted, IsLaidOut, IsFaulty, IsTooLong, IsCompared, ReadsBack, SameContent}
+use Rattle.yaml_round.specs.Answers.{IsRight, IsReformatted, IsLaidOut, IsFaulty, IsTooLong, IsCompared, BeginsWithNothing, ReadsBack, SameContent}
 use Rattle.yaml_round.specs.round_laws_documents.KeptLaws.{IsJsonInput}
 
 -- ---- rewriting
@@ -39,6 +39,14 @@ RewritingIsStill = (from : yaml_encoding_t) (s : yaml_settings_t) (input text : 
     (result : Result (List ℕ × yaml_form_t) Fault)
     → IsReformatted from s input (Ok (text, Canonical))
     → IsReformatted YAML_ANY_ENCODING (asking s) text result → result ≡ Ok (text, Canonical)
+
+-- ---- the form
+
+-- Where canonical form isn't asked for, an answer is in canonical form exactly if its input begins with nothing.
+abbrev pub FormTellsBeginning : Type 0
+FormTellsBeginning = (from : yaml_encoding_t) (s : yaml_settings_t) (input text : List ℕ)
+    (form : yaml_form_t) → s.canonical ≡ false → IsReformatted from s input (Ok (text, form))
+    → (form ≡ Canonical) ↔ BeginsWithNothing from input
 
 -- ---- text shaped as JSON
 

@@ -1,6 +1,6 @@
 //! Each function's contract is a law.
 
-ghost use Rattle.yaml_round_laws_users.specs.Laws.{
+ghost use Rattle.yaml_round_laws_users.specs.Laws.{FormTellsBeginning, 
   AnswersReadBack,
   CanonicalAnswersTellContents,
   ComparisonsAgree,
@@ -29,6 +29,12 @@ pub fn canonical_answers_tell_contents()
 /// again: no byte changes, and no limit is passed.
 pub fn rewriting_is_still()
     ensures { RewritingIsStill }
+{}
+
+/// Where canonical form isn't asked for, an answer of `yaml_reformat` is in canonical form exactly if its input begins with nothing:
+/// its first document has no `---` and is a `!` alone. Each other answer is in pretty form, and reads back.
+pub fn form_tells_beginning()
+    ensures { FormTellsBeginning }
 {}
 
 /// Where canonical form isn't asked for, `yaml_reformat` answers an input shaped as JSON in pretty form, and refuses it only for a

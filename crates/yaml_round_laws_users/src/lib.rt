@@ -11,8 +11,8 @@ pub use column::{
     reloads_keep_columns, reloads_name_columns,
 };
 pub use laws::{
-    answers_read_back, canonical_answers_tell_contents, comparisons_agree, json_stays_pretty,
-    rewriting_is_still, same_content_is_an_equivalence, settings_do_not_matter,
+    answers_read_back, canonical_answers_tell_contents, comparisons_agree, form_tells_beginning,
+    json_stays_pretty, rewriting_is_still, same_content_is_an_equivalence, settings_do_not_matter,
 };
 pub use reload::{
     answers_and_reloads_agree, names_leave_reloads, reloads_are_normal_of_loads,

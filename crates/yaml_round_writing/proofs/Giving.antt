@@ -9,7 +9,7 @@ use Rattle.yaml_emit.specs.Emitter.{Emitter, Completes}
 use Rattle.yaml_emit.specs.Taking.{TakesEvents, GivesText}
 use Rattle.yaml_round_laws_documents.specs.content.Normalize.{normalize_body}
 use Rattle.yaml_round_reading.specs.Reading.{GivesNextEvent, emitter_events}
-use Rattle.yaml_round_writing.specs.Beginning.{nothing_comes}
+use Rattle.yaml_round_beginning.specs.Beginning.{nothing_comes}
 use Rattle.yaml_round_writing.specs.declared.writing.Watch.{Watch}
 use Rattle.yaml_round_writing.specs.Writing.{LeadsWatched, Sees}
 

@@ -13,7 +13,7 @@ use Rattle.yaml_round_device.specs.declared.yaml_settings_t.{yaml_settings_t}
 use Rattle.yaml_round_writing.specs.Layers.{reformat_layers, list_layers}
 use Rattle.yaml_round_reading.specs.Reading.{emitter_events, GivesNextEvent, IsFaultOf, EndsWith}
 use Rattle.yaml_round_writing.specs.Lines.{event_lines}
-use Rattle.yaml_round_writing.specs.Beginning.{nothing_comes}
+use Rattle.yaml_round_beginning.specs.Beginning.{nothing_comes}
 use Rattle.yaml_round_writing.specs.declared.writing.Watch.{Watch}
 use Rattle.yaml_round_writing.specs.Writing.{LeadsWatched, WritesAll}
 use Rattle.yaml_round_laws_documents.specs.content.Input.{Reads, ending_of}

@@ -17,7 +17,7 @@ use Rattle.yaml_emit.specs.emit_text.declared.RequestedSettings.{RequestedSettin
 use Rattle.yaml_round_device.specs.declared.yaml_settings_t.{yaml_settings_t}
 use Rattle.yaml_round_writing.specs.Layers.{reformat_layers}
 use Rattle.yaml_round_reading.specs.Reading.{emitter_events}
-use Rattle.yaml_round_writing.specs.Beginning.{nothing_comes}
+use Rattle.yaml_round_beginning.specs.Beginning.{nothing_comes}
 use Rattle.yaml_round_writing.specs.declared.writing.Watch.{Watch}
 use Rattle.yaml_round_writing.specs.Writing.{IsUnder, LeadsWatched, FinishesText, requested_under, IsText, IsEachLayout, IsPastEach}
 use Rattle.yaml_round_laws_documents.specs.content.Input.{Reads, events_of, ending_of}

@@ -4,7 +4,7 @@ mod Documents
 pub mod Laying
 pub mod Normal
 pub mod Forms
-mod Staying
+pub mod Staying
 pub mod Reloading
 mod Streams
 -- the laws beneath, for crates that name this one alone
@@ -17,3 +17,5 @@ pub use Rattle.yaml_round_laws_documents.proofs.Walks
 pub use Rattle.yaml_round_laws_documents.proofs.ReadingJoining as Joining
 pub use Rattle.yaml_round_laws_documents.proofs.Loaded
 pub use Rattle.yaml_round_reading.proofs.Plain
+pub use Rattle.yaml_round_laws_pretty.proofs.Theorem
+pub use Rattle.yaml_round_laws_pretty.proofs.JsonInputs

@@ -3,74 +3,22 @@ use Rattle.std.proofs.Common.{◌≡◌, ◌∙◌, ◌&&◌, not, ℕ, Bool, tr
 use Rattle.yaml_scan.specs.declared.yaml_encoding_t.{yaml_encoding_t}
 use Rattle.yaml_scan.specs.declared.yaml_encoding_t.TheVariants.{YAML_ANY_ENCODING}
 use Rattle.yaml_parse.specs.Resolve.{Told}
-use Rattle.yaml_emit.specs.Content.{Event, Opening, no_event, stream_start, stream_end, document_start, document_end, alias, scalar, sequence_start, sequence_end, mapping_start, mapping_end}
-use Rattle.yaml_emit.specs.Nodes.{is_directed}
 use Rattle.yaml_emit.specs.Streams.{IsStream}
 use Rattle.yaml_emit.specs.Text.{encode}
 use Rattle.yaml_round_laws_documents.specs.Stays.{SaysInput}
 use Rattle.yaml_round_laws_documents.specs.content.Input.{events_of}
 use Rattle.yaml_round_laws_pretty.specs.Flags.{begins_with_nothing, says_nothing}
-use Rattle.yaml_round_laws_pretty.specs.Laws.{PrettyReadsBack}
+use Rattle.yaml_round_laws_pretty.proofs.Theorem.{pretty_reads_back}
 use Rattle.yaml_round_device.specs.declared.yaml_settings_t.{yaml_settings_t}
 use Rattle.yaml_round_reading.specs.Reading.{emitter_events}
 use Rattle.yaml_round_writing.specs.Writing.{requested_under}
 use Rattle.yaml_round_reading.specs.Answers.{IsRight, ReadsBack}
-use Rattle.yaml_round_writing.specs.declared.beginning.Beginning.TheVariants as known
-use Rattle.yaml_round_writing.specs.Beginning.{nothing_comes, is_nothing_next}
+use Rattle.yaml_round_beginning.specs.declared.beginning.Beginning.TheVariants as known
+use Rattle.yaml_round_beginning.specs.Beginning.{nothing_comes}
+use Rattle.yaml_round_beginning.proofs.Starting.{from_start}
 use Rattle.yaml_round_writing.specs.Answers.{IsLaidOut, IsInPrettyForm}
 use Rattle.yaml_round_reading.proofs.Plain.{right_ending, events_are, same_content}
 use Rattle.yaml_round_writing.proofs.Laying.{laid_right}
-
-pretty_reads_back : PrettyReadsBack
-pretty_reads_back = ?
-
--- ---- before the first event
-
-none_next : (b : Bool) → (b && false) ≡ false
-none_next true = refl
-none_next false = refl
-
-behind_opening : (x : yaml_encoding_t) (o : Opening) (es : List Event) → nothing_comes known.Start (stream_start x ∷ document_start o ∷ es) ≡ begins_with_nothing (stream_start x ∷ document_start o ∷ es)
-behind_opening x o [] = none_next (o.implicit && not (is_directed o))
-behind_opening x o (scalar v ∷ es) = refl
-behind_opening x o (no_event ∷ es) = none_next (o.implicit && not (is_directed o))
-behind_opening x o (stream_start y ∷ es) = none_next (o.implicit && not (is_directed o))
-behind_opening x o (stream_end ∷ es) = none_next (o.implicit && not (is_directed o))
-behind_opening x o (document_start d ∷ es) = none_next (o.implicit && not (is_directed o))
-behind_opening x o (document_end b ∷ es) = none_next (o.implicit && not (is_directed o))
-behind_opening x o (alias name ∷ es) = none_next (o.implicit && not (is_directed o))
-behind_opening x o (sequence_start q ∷ es) = none_next (o.implicit && not (is_directed o))
-behind_opening x o (sequence_end ∷ es) = none_next (o.implicit && not (is_directed o))
-behind_opening x o (mapping_start q ∷ es) = none_next (o.implicit && not (is_directed o))
-behind_opening x o (mapping_end ∷ es) = none_next (o.implicit && not (is_directed o))
-
-behind_start : (x : yaml_encoding_t) (es : List Event) → nothing_comes known.Start (stream_start x ∷ es) ≡ begins_with_nothing (stream_start x ∷ es)
-behind_start x [] = refl
-behind_start x (document_start o ∷ es) = behind_opening x o es
-behind_start x (scalar v ∷ es) = refl
-behind_start x (no_event ∷ es) = refl
-behind_start x (stream_start y ∷ es) = refl
-behind_start x (stream_end ∷ es) = refl
-behind_start x (document_end b ∷ es) = refl
-behind_start x (alias name ∷ es) = refl
-behind_start x (sequence_start q ∷ es) = refl
-behind_start x (sequence_end ∷ es) = refl
-behind_start x (mapping_start q ∷ es) = refl
-behind_start x (mapping_end ∷ es) = refl
-
-from_start : (es : List Event) → nothing_comes known.Start es ≡ begins_with_nothing es
-from_start [] = refl
-from_start (stream_start x ∷ es) = behind_start x es
-from_start (no_event ∷ es) = refl
-from_start (stream_end ∷ es) = refl
-from_start (document_start o ∷ es) = refl
-from_start (document_end b ∷ es) = refl
-from_start (alias name ∷ es) = refl
-from_start (scalar v ∷ es) = refl
-from_start (sequence_start q ∷ es) = refl
-from_start (sequence_end ∷ es) = refl
-from_start (mapping_start q ∷ es) = refl
-from_start (mapping_end ∷ es) = refl
 
 -- ---- the answer in pretty form
 
@@ -78,7 +26,7 @@ reads : (from : yaml_encoding_t) (input text bytes : List ℕ) → IsRight from 
 reads from input text bytes is e h = subst (λ (t : List ℕ). ReadsBack from input t) (sym e) (same_content from YAML_ANY_ENCODING input bytes (right_ending from input is) h.0 (sym h.1))
 
 -- the layout is that of the input's events
-laid_stream : (from : yaml_encoding_t) (input : List ℕ) (settings : yaml_settings_t) (text : List ℕ) (laid : IsLaidOut from input settings false text)
+pub laid_stream : (from : yaml_encoding_t) (input : List ℕ) (settings : yaml_settings_t) (text : List ℕ) (laid : IsLaidOut from input settings false text)
     → IsStream (requested_under settings false) laid.layout.encoding (emitter_events false (events_of from input)) laid.layout.whole
 laid_stream from input settings text laid =
     subst (λ (es : List Told). IsStream (requested_under settings false) laid.layout.encoding (emitter_events false es) laid.layout.whole) (events_are from input laid.events laid.of_input) laid.layout.stream

@@ -1,6 +1,5 @@
 pub mod Layers
 pub mod Lines
-pub mod Beginning
 pub mod Writing
 pub mod Answers
 pub mod Reload

@@ -19,7 +19,7 @@ use Rattle.yaml_round_device.specs.declared.yaml_settings_t.{yaml_settings_t}
 use Rattle.yaml_round_writing.specs.declared.writing.Watch.{Watch}
 use Rattle.yaml_round_device.specs.declared.yaml_output_encoding_t.{yaml_output_encoding_t}
 use Rattle.yaml_round_device.specs.declared.yaml_output_encoding_t.TheVariants.{Utf8, Utf16Le, Utf16Be}
-use Rattle.yaml_round_writing.specs.Beginning.{nothing_comes}
+use Rattle.yaml_round_beginning.specs.Beginning.{nothing_comes}
 use Rattle.yaml_round_reading.specs.Reading.{emitter_events, AreReal, IsFaultOf}
 
 -- ---- the settings of an emitter

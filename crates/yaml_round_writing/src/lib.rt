@@ -1,15 +1,14 @@
 //! What the engine's calls stand on: the events of an input laid out as a text, the lines of events, and documents loaded and dumped.
 #![tactic(auto)]
 
-mod beginning;
 mod lines;
 mod reload;
 mod text;
 mod writing;
 
-pub use beginning::Beginning;
 pub use lines::lines_of;
 pub use reload::{documents_of, written_documents};
 pub use text::{in_pretty_form, written};
 pub use writing::Watch;
+pub use yaml_round_beginning::Beginning;
 pub use yaml_round_reading::{let_go, reading_of, yaml_adapter_t, yaml_side_t};

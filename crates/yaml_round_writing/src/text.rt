@@ -7,12 +7,12 @@ ghost use Rattle.yaml_round_laws_documents.specs.content.Input.{Reads, ending_of
 ghost use Rattle.yaml_round_reading.specs.Reading.{AreReal, emitter_events};
 ghost use Rattle.yaml_round_writing.specs.Answers.{IsInPrettyForm, IsJudged, IsWritten, text_and_whether, bytes_of};
 ghost use Rattle.yaml_round_writing.specs.Writing.{WritesAll};
-ghost use Rattle.yaml_round_writing.specs.Beginning.{nothing_comes};
+ghost use Rattle.yaml_round_beginning.specs.Beginning.{nothing_comes};
 
-use crate::beginning::{Beginning, is_nothing};
 use crate::writing::{Watch, emitter_under, finished, write_rest, write_up_to};
 use std::alloc::Global;
 use yaml_emit::yaml_emitter_t;
+use yaml_round_beginning::{Beginning, is_nothing};
 use yaml_round_device::yaml_settings_t;
 use yaml_round_reading::{Reading, let_go, read_out, reading_of};
 use yaml_scan::{yaml_encoding_t, yaml_fault_t};

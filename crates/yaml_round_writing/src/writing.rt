@@ -11,7 +11,6 @@ ghost use Rattle.yaml_round_laws_documents.specs.content.Normalize.{normalize_bo
 ghost use Rattle.yaml_round_reading.specs.Reading.{AreReal};
 ghost use Rattle.yaml_round_writing.specs.Writing.{IsUnder, requested_under, encoding_under, Sees, WritesReading, WritesAll, FinishesText};
 
-use crate::beginning::{Beginning, behind};
 use std::alloc::Global;
 use yaml_emit::{
     yaml_emitter_emit_early, yaml_emitter_emit_from, yaml_emitter_fault, yaml_emitter_initialize,
@@ -20,6 +19,7 @@ use yaml_emit::{
     yaml_emitter_set_unicode, yaml_emitter_set_width, yaml_emitter_t,
 };
 use yaml_parse::{yaml_event_t, yaml_found_t};
+use yaml_round_beginning::{Beginning, behind};
 use yaml_round_device::{yaml_output_encoding_t, yaml_settings_t};
 use yaml_round_reading::{Reading, normalize_event};
 use yaml_scan::{yaml_encoding_t, yaml_fault_t, yaml_memory_fault, yaml_origin_t};

@@ -2,15 +2,15 @@
 //! tag, for which pretty form writes nothing.
 
 ghost use Rattle.std.specs.Prelude.{◌≡◌, ◌||◌, ◌∷◌, [], List, not, map};
-ghost use Rattle.yaml_parse.specs.Events.{event_of, text_of, directive_of};
-ghost use Rattle.yaml_emit.specs.Content.{Event, emitter_event};
-ghost use Rattle.yaml_emit.specs.Nodes.{has_version, has_directives};
+ghost use Rattle.yaml_parse_model.specs.Events.{event_of, text_of, directive_of};
+ghost use Rattle.yaml_emit_layout.specs.Content.{Event, emitter_event};
+ghost use Rattle.yaml_emit_layout.specs.Nodes.{has_version, has_directives};
 ghost use Rattle.yaml_round_laws_pretty.specs.Bodies.{is_bare};
 ghost use Rattle.yaml_round_laws_pretty.specs.Flags.{is_asked_plain};
-ghost use Rattle.yaml_round_writing.specs.Beginning as spec;
+ghost use Rattle.yaml_round_beginning.specs.Beginning as spec;
 
-use yaml_parse::{yaml_event_body_t, yaml_event_t};
-use yaml_scan::{yaml_scalar_style_t, yaml_tag_directive_t, yaml_version_directive_t};
+use yaml_parse_model::{yaml_event_body_t, yaml_event_t};
+use yaml_scan_model::{yaml_scalar_style_t, yaml_tag_directive_t, yaml_version_directive_t};
 
 /// What the events so far tell of it.
 #[derive(Clone, Copy)]
@@ -106,7 +106,7 @@ fn behind_document(event: &yaml_event_t) -> Beginning
 /// What is known with one more event, normalized.
 // Out of line: three events of an input come here.
 #[inline(never)]
-pub(crate) fn behind(beginning: Beginning, event: &yaml_event_t) -> Beginning
+pub fn behind(beginning: Beginning, event: &yaml_event_t) -> Beginning
     ensures { (es : List Event) → spec.nothing_comes beginning
         (emitter_event (event_of event.now).body ∷ es) ≡ spec.nothing_comes result es }
 {
@@ -123,7 +123,7 @@ pub(crate) fn behind(beginning: Beginning, event: &yaml_event_t) -> Beginning
 }
 
 /// Whether the root was given, and is nothing.
-pub(crate) fn is_nothing(beginning: Beginning) -> bool
+pub fn is_nothing(beginning: Beginning) -> bool
     ensures { result ≡ spec.nothing_comes beginning [] }
 {
     match beginning {

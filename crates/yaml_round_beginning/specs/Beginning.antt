@@ -1,10 +1,10 @@
 -- Whether an input begins with nothing, as far as its events have come.
-use Rattle.std.specs.Prelude.{Bool, true, false, not, ◌&&◌, List, [], ◌∷◌}
-use Rattle.yaml_emit.specs.Content.{Event, stream_start, document_start, scalar}
-use Rattle.yaml_emit.specs.Nodes.{is_directed}
+use Rattle.std.specs.Prelude.{Bool, true, false, not, ◌&&◌, List, ◌∷◌}
+use Rattle.yaml_emit_layout.specs.Content.{Event, stream_start, document_start, scalar}
+use Rattle.yaml_emit_layout.specs.Nodes.{is_directed}
 use Rattle.yaml_round_laws_pretty.specs.Flags.{says_nothing}
-use Rattle.yaml_round_writing.specs.declared.beginning.Beginning.{Beginning}
-use Rattle.yaml_round_writing.specs.declared.beginning.Beginning.TheVariants as known
+use Rattle.yaml_round_beginning.specs.declared.beginning.Beginning.{Beginning}
+use Rattle.yaml_round_beginning.specs.declared.beginning.Beginning.TheVariants as known
 
 -- an empty plain scalar comes next, without anchor and tag
 abbrev pub is_nothing_next : List Event → Bool

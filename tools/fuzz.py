@@ -247,7 +247,7 @@ class Judge:
         except OSError:
             is_there = False
         if not is_there:
-            print("fuzz: no C compiler with libyaml's header: events aren't compared with libyaml's", flush=True)
+            print("no C compiler with libyaml's header: nothing is compared with libyaml", file=sys.stderr, flush=True)
             self.peer = ""
 
     def file(self, number, name, text):

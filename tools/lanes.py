@@ -6,6 +6,7 @@ import os
 import re
 import shutil
 import signal
+import subprocess
 import sys
 import tempfile
 import time
@@ -71,8 +72,10 @@ def work_in_memory():
     del os.environ["TMPDIR"]
 
 
-def kit():
-    """The kit's `rt` as a module."""
+def kit(what):
+    """The kit's `rt` as a module. Where it isn't there, a line says so and nothing goes on."""
+    if subprocess.run([f"{os.path.dirname(os.path.abspath(__file__))}/kit.sh", what]).returncode:
+        sys.exit(1)
     loader = importlib.machinery.SourceFileLoader("rt", os.path.realpath(shutil.which("rt")))
     made = importlib.util.module_from_spec(importlib.util.spec_from_loader("rt", loader))
     sys.modules["rt"] = made
@@ -100,6 +103,9 @@ class Unsearched:
 
     def give(self, crate, tests, key):
         return self.gates.give(crate, tests, key[0]) or self.own.give(crate, tests, key[1])
+
+    def has(self, crate):
+        return self.own.has(crate)
 
     def is_built(self, crate):
         self.gates.is_built(crate)
@@ -134,7 +140,10 @@ def only_at_the_end(crates):
 # loading costs each crate; and what linking and compiling cost, which go over all code below.
 CODE_WEIGHS = 35
 LOADING_WEIGHS = 4000
-COMPILING_WEIGHS = 20_000
+COMPILING_WEIGHS = 45_000
+# How many seconds of one processor a thousand weights take on a quick machine, and how many times as long on a slow one.
+SECONDS_A_THOUSAND = 1.7
+SLOW = 1.75
 
 
 def work_of(crate):
@@ -157,17 +166,22 @@ def longest_behind(crates, work):
     return behind
 
 
-class Lanes:
-    """The crates that are still to be built, and those that are under way. `build` makes one of them with so many jobs, and answers its status."""
+def minutes(seconds):
+    return 1 + int(seconds) // 60
 
-    def __init__(self, what, crates, build):
-        self.work = {it: work_of(it) for it in crates}
+
+class Lanes:
+    """The crates that are still to be built, and those that are under way. `build` makes one of them with so many jobs, and answers
+    its status; those that are `held` were proved by an earlier run, and are no work."""
+
+    def __init__(self, what, crates, build, held=()):
+        self.work = {it: 0 if it in held else work_of(it) for it in crates}
         self.behind = longest_behind(crates, self.work)
         self.left = sorted(crates, key=lambda it: -self.behind[it])
         self.late = only_at_the_end(crates)
         self.what, self.lanes, self.build = what, processors(), build
         self.total, self.done, self.running, self.failed = len(crates), set(), {}, []
-        self.proved_work = 0
+        self.proved_work, self.proved_seconds = 0, 0
 
     def begin(self, pool):
         """Begins what can begin, each with its share of the idle processors; what doesn't fit goes to the longest chains."""
@@ -196,12 +210,22 @@ class Lanes:
         began = time.monotonic()
         return self.build(crate, jobs), time.monotonic() - began
 
+    def seconds_left(self):
+        """How long the rest takes, one chain of crates after another and all of it by all processors: as fast as what was proved
+        so far or, as long as that is little, as on a quick machine."""
+        rest = [it for it in self.work if it not in self.done]
+        longest = max((self.behind[it] for it in rest), default=0)
+        work = max(longest, sum(self.work[it] for it in rest) / self.lanes)
+        is_told = 100 * self.proved_work >= TELLING_PART * sum(self.work.values()) > 0
+        return work * (self.proved_seconds / self.proved_work if is_told else SECONDS_A_THOUSAND / 1000)
+
     def time_left(self):
-        """How long the rest takes if it is proved as fast as what was proved so far."""
-        rest = sum(self.work.values()) - sum(self.work[it] for it in self.done)
-        if not rest or 100 * self.proved_work < TELLING_PART * sum(self.work.values()):
-            return ""
-        return f"; some {1 + int((time.monotonic() - BEGAN) * rest / self.proved_work) // 60} min left"
+        return f"; some {minutes(self.seconds_left())} min left" if len(self.done) < self.total else ""
+
+    def time(self):
+        """How long the whole takes, before anything was proved."""
+        least, most = minutes(self.seconds_left()), minutes(SLOW * self.seconds_left())
+        return f"{least} to {most} min" if least < most else f"{least} min"
 
     def end(self):
         """Waits until one has ended, and tells it."""
@@ -209,10 +233,12 @@ class Lanes:
             crate, jobs = self.running.pop(future)
             status, spent = future.result()
             self.done.add(crate)
-            self.proved_work += self.work[crate] if spent > PROVED_SECONDS else 0
+            if spent > PROVED_SECONDS:
+                self.proved_work += self.work[crate]
+                self.proved_seconds += spent * jobs
             if status:
                 self.failed.append(crate.name)
-            part = 100 * sum(self.work[it] for it in self.done) // sum(self.work.values())
+            part = 100 * sum(self.work[it] for it in self.done) // max(1, sum(self.work.values()))
             word = f"NOT PROVED, by its log {crate.name}.log" if status else "proved"
             line = f"{len(self.done)} of {self.total}, {part} in 100: {crate.name} {word}, {spent:.0f} s, jobs {jobs}"
             say(self.what, line + self.time_left())

@@ -30,6 +30,8 @@ LATE_PART = 40
 TELLING_PART = 5
 # A crate that took fewer seconds was taken from what an earlier run kept, and says nothing of how fast crates are proved.
 PROVED_SECONDS = 5
+# Behind so many seconds without a line one says what is under way.
+QUIET_SECONDS = 30
 BEGAN = time.monotonic()
 
 
@@ -179,7 +181,7 @@ class Lanes:
         self.behind = longest_behind(crates, self.work)
         self.left = sorted(crates, key=lambda it: -self.behind[it])
         self.late = only_at_the_end(crates)
-        self.what, self.lanes, self.build = what, processors(), build
+        self.what, self.lanes, self.build, self.held = what, processors(), build, held
         self.total, self.done, self.running, self.failed = len(crates), set(), {}, []
         self.proved_work, self.proved_seconds = 0, 0
 
@@ -188,14 +190,14 @@ class Lanes:
         longest = max(self.behind[it] for it in [*self.left, *self.running_crates()]) if self.left else 0
         ready = self.ready(longest)
         for at, it in enumerate(ready):
-            idle = self.lanes - sum(jobs for _, jobs in self.running.values())
+            idle = self.lanes - sum(jobs for _, jobs, _ in self.running.values())
             if idle < 1:
                 return
             is_long = LONG_PART * longest <= 100 * self.behind[it]
             share = -(-idle // (len(ready) - at)) if is_long else idle // (len(ready) - at)
             jobs = max(1, min(MOST_JOBS, share))
             self.left.remove(it)
-            self.running[pool.submit(self.timed, it, jobs)] = it, jobs
+            self.running[pool.submit(self.timed, it, jobs)] = it, jobs, time.monotonic()
 
     def ready(self, longest):
         """The crates that can begin, but for those that the end has room for, as long as others are under way."""
@@ -204,7 +206,7 @@ class Lanes:
         return soon if soon or self.running else found
 
     def running_crates(self):
-        return [it for it, _ in self.running.values()]
+        return [it for it, _, _ in self.running.values()]
 
     def timed(self, crate, jobs):
         began = time.monotonic()
@@ -213,11 +215,15 @@ class Lanes:
     def seconds_left(self):
         """How long the rest takes, one chain of crates after another and all of it by all processors: as fast as what was proved
         so far or, as long as that is little, as on a quick machine."""
-        rest = [it for it in self.work if it not in self.done]
-        longest = max((self.behind[it] for it in rest), default=0)
-        work = max(longest, sum(self.work[it] for it in rest) / self.lanes)
         is_told = 100 * self.proved_work >= TELLING_PART * sum(self.work.values()) > 0
-        return work * (self.proved_seconds / self.proved_work if is_told else SECONDS_A_THOUSAND / 1000)
+        rate = self.proved_seconds / self.proved_work if is_told else SECONDS_A_THOUSAND / 1000
+        # what was done of those that are under way, nine tenths of each at most
+        now, done = time.monotonic(), dict.fromkeys(self.done, 0)
+        for it, jobs, began in self.running.values():
+            done[it] = min(0.9 * self.work[it], jobs * (now - began) / rate)
+        rest = [it for it in self.work if it not in self.done]
+        longest = max((self.behind[it] - done.get(it, 0) for it in rest), default=0)
+        return rate * max(longest, sum(self.work[it] - done.get(it, 0) for it in rest) / self.lanes)
 
     def time_left(self):
         return f"; some {minutes(self.seconds_left())} min left" if len(self.done) < self.total else ""
@@ -228,9 +234,12 @@ class Lanes:
         return f"{least} to {most} min" if least < most else f"{least} min"
 
     def end(self):
-        """Waits until one has ended, and tells it."""
-        for future in wait(self.running, return_when=FIRST_COMPLETED).done:
-            crate, jobs = self.running.pop(future)
+        """Waits until one has ended, and tells it; that one was taken from what is kept needs no line."""
+        ended = wait(self.running, timeout=QUIET_SECONDS, return_when=FIRST_COMPLETED).done
+        if not ended:
+            say(self.what, ", ".join(it.name for it in self.running_crates()) + " under way" + self.time_left())
+        for future in ended:
+            crate, jobs, _ = self.running.pop(future)
             status, spent = future.result()
             self.done.add(crate)
             if spent > PROVED_SECONDS:
@@ -238,6 +247,8 @@ class Lanes:
                 self.proved_seconds += spent * jobs
             if status:
                 self.failed.append(crate.name)
+            elif crate in self.held:
+                continue
             part = 100 * sum(self.work[it] for it in self.done) // max(1, sum(self.work.values()))
             word = f"NOT PROVED, by its log {crate.name}.log" if status else "proved"
             line = f"{len(self.done)} of {self.total}, {part} in 100: {crate.name} {word}, {spent:.0f} s, jobs {jobs}"

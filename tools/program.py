@@ -46,7 +46,9 @@ def goal_of(crate):
     """The goal that a crate's name stands for."""
     if crate == "yaml_round_c":
         return Goal("make library", crate, "libyaml_round_c.a", "lib")
-    return Goal("make program" if crate == "yaml_cli" else f"program {crate}", crate, crate, "run", "--", "fmt")
+    if crate == "yaml_cli":
+        return Goal("make program", crate, crate, "run", "--", "fmt")
+    return Goal(f"program {crate}", crate, crate, "run")
 
 
 def compiled(rt, crate, jobs):

@@ -79,7 +79,7 @@ pub fn leap(reader: &mut Reader, end: usize)
 /// Past ASCII characters that are printed, and spaces, by whole rows of 32.
 // Inlined: the place and the text stay in registers.
 #[inline(always)]
-pub fn skip_printed(reader: &mut Reader)
+fn skip_printed(reader: &mut Reader)
     ensures text { reader.new.text ≡ reader.old.text }
     ensures forward { reader.old.at ≤ reader.new.at }
     ensures each { (k : ℕ) → reader.old.at ≤ k → k < reader.new.at → spec.is_printed

@@ -2,11 +2,9 @@
 use Rattle.std.proofs.Common.{◌≡◌, ℕ, zero, suc, ◌+◌, ◌-◌, ◌<◌, ◌≤◌, ◌==◌, nat_lt, ◌||◌, true, false, not, List, length, refl, ◌∙◌, inl, inr, ◌⊎◌, arith}
 use Rattle.std.proofs.lemmas.Bool.{cases_Bool}
 use Rattle.std.proofs.lemmas.Bool.Decides.{nat_tests}
-use Rattle.yaml_scan_model.specs.Marks.{byte, break_of, break_width, is_blank}
+use Rattle.yaml_scan_model.specs.Marks.{byte, break_width, is_blank}
 use Rattle.yaml_scan_model.specs.Classes.{is_alpha_byte, is_digit_byte}
-use Rattle.yaml_scan_model.specs.Runs.{is_printed}
 use Rattle.yaml_scan_model.proofs.MarksLemmas.{no_break, within}
-use Rattle.yaml_scan_model.proofs.PrintedLemmas.{printed_parts}
 use Rattle.yaml_scan_words.specs.declared.run.Run.{Run}
 use Rattle.yaml_scan_words.specs.declared.run.Run.TheVariants as runs
 use Rattle.yaml_scan_words.specs.Runs.{belongs, run_within, run_end}
@@ -124,14 +122,3 @@ past_alphas text p past =
 
 pub no_less : (a b : ℕ) → b ≤ a → nat_lt a b ≡ false
 no_less a b h = grind (arith, nat_tests)
-
-line_of : (b c d : ℕ) → is_printed b ≡ true → not (nat_lt 0 (break_of b c d) || b == 0) ≡ true
-line_of b c d h =
-    let (low, high) = printed_parts b h in
-    let none : break_of b c d ≡ 0 = no_break b c d (omega arith) (omega arith) (omega arith) (omega arith) in
-    rw none (grind (arith, nat_tests))
-
--- printed bytes and spaces belong to a line
-pub printed_there : (text : List ℕ) (k : ℕ) → is_printed (byte text k) ≡ true → belongs runs.Line text k ≡ true
-unfolding belongs
-printed_there text k h = line_of (byte text k) (byte text (k + 1)) (byte text (k + 2)) h

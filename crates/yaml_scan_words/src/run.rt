@@ -9,7 +9,7 @@ ghost use Rattle.yaml_scan_words.specs.Written.{is_kept};
 
 use std::alloc::AllocError;
 use yaml_scan_classes::{IS_ALPHA, IS_BLANK, IS_BREAKZ, IS_DIGIT};
-use yaml_scan_model::{Reader, copied as copied_bytes, skip_printed};
+use yaml_scan_model::{Reader, copied as copied_bytes};
 
 /// Which bytes go together.
 #[derive(Clone, Copy)]
@@ -47,24 +47,8 @@ pub(crate) fn skip_run(run: Run, reader: &mut Reader)
           reader.old.at;
     } }
 {
-    skip_rows(run, reader);
     'bytes: while belongs(run, reader.text(), reader.place()) {
         reader.skip();
-    }
-}
-
-/// Past those bytes of a line that are looked at in rows.
-// Inlined: its loop is the caller's first one.
-#[inline(always)]
-fn skip_rows(run: Run, reader: &mut Reader)
-    ensures text { reader.new.text ≡ reader.old.text }
-    ensures forward { reader.old.at ≤ reader.new.at }
-    ensures each { (k : ℕ) → reader.old.at ≤ k → k < reader.new.at → spec.belongs run reader.old.text k
-        ≡ true }
-{
-    match run {
-        Run::Line => skip_printed(reader),
-        Run::Alphas | Run::Digits | Run::Blanks => {}
     }
 }
 

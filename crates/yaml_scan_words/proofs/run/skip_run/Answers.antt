@@ -1,12 +1,10 @@
 use Rattle.std.proofs.Common.{◌≡◌, length, ◌∙◌, sym, refl, arith, true, false}
 use Rattle.yaml_scan_words.specs.Runs.{belongs}
-use Rattle.yaml_scan_words.proofs.RunsLemmas.{belongs_here, belongs_inside, run_more, run_stop, run_to}
+use Rattle.yaml_scan_words.proofs.RunsLemmas.{belongs_here, belongs_inside, run_more, run_stop}
 use Rattle.yaml_scan_words.proofs.run.skip_run.Goals as goal
 
 pub bytes-init : goal.bytes-init
-bytes-init c =
-    let s = c.skip_rows.ensures in
-    record { text = s.text; rest = run_to (length c.args.reader.now.text) c.args.run c.args.reader.now.text c.args.reader.now.at c.skip_rows.new.reader.at s.forward s.each (omega arith) }
+bytes-init c = record { text = refl; rest = (length c.args.reader.now.text, omega arith, refl) }
 
 pub skip-requires-clause-inside : goal.skip-requires-clause-inside
 skip-requires-clause-inside c =

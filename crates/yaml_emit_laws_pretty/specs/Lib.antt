@@ -1,4 +1,4 @@
 pub mod Bodies
 pub mod Walk
-pub mod Trees
 pub mod KeyLaws
+pub mod Nodes

@@ -1,5 +1,5 @@
 -- Words that a layout writes for a node, one behind the other: as content or as a key, at any depth.
-use Rattle.std.specs.Prelude.{◌≡◌, ◌+◌, ℕ, ◌==◌, ◌||◌, nat_lt, Bool, true, false, List, [], ◌∷◌, ◌++◌, length, Some, Ok}
+use Rattle.std.specs.Prelude.{◌≡◌, ◌+◌, ℕ, ◌==◌, ◌||◌, nat_lt, if◌then◌else◌, Bool, true, false, List, [], ◌∷◌, ◌++◌, length, None, Some, Ok}
 use Rattle.yaml_emit_laws_text.specs.emit_layout.scan.Tokens.{TokenBody}
 use Rattle.yaml_emit_laws_text.specs.scan_history.declared.kind.Kind.{Kind}
 use Rattle.yaml_emit_laws_text.specs.scan_history.declared.kind.Kind.TheVariants as kinds
@@ -90,7 +90,7 @@ all_bodies (w ∷ ws) bs = w.body ∷ all_bodies ws bs
 
 -- each word stands before what fits
 abbrev pub AllFit : {flow : Bool} {level : ℕ} → List (Spoken flow level) → List ℕ → Type 0
-AllFit [] bs = Unit {0}
+AllFit {flow} {level} [] bs = Unit {0}
 AllFit {flow} {level} (w ∷ ws) bs = Fits w.wants flow level (all_bytes ws ++ bs) × AllFit ws bs
 
 -- From a cursor on, a layout writes these words, whatever follows.

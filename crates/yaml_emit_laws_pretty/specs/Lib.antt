@@ -2,3 +2,4 @@ pub mod Bodies
 pub mod Walk
 pub mod KeyLaws
 pub mod Nodes
+pub mod Spoken

@@ -2,8 +2,10 @@
 #![tactic(auto)]
 
 mod laws;
+mod leaf_laws;
 
 pub use laws::{
     key_is_shown, key_is_walked, line_ends_node, line_is_walked, mark_is_walked, plain_is_walked, shown_ends,
     single_is_walked,
 };
+pub use leaf_laws::simple_keys_are_walked;

@@ -32,6 +32,11 @@ use Rattle.yaml_emit_laws_pretty.proofs.Entries.{no_gap, white_stands}
 never : false ≡ true → ⊥
 never e = cc
 
+pub both : (a b : Bool) → a ≡ true → b ≡ false → (a && not b) ≡ true
+both true false e f = refl
+both true true e f = absurd (never (sym f))
+both false b e f = absurd (never e)
+
 -- ---- kinds of text
 
 -- what the walk asks of a kind
@@ -141,7 +146,7 @@ key_more d ls w bs x text p q line wide cs T K reads out right l fits plain here
     let fresh : is_fresh (mark_at text p) (mark_at text s.reached) ≡ true = subst (λ r. is_fresh (mark_at text p) (mark_at text r) ≡ true) (sym (s.near plain)) near in
     let r = walk_key_goes x text (spot_at q line d false wide) d (mark_at text p) cs ls T K w.kind [] said e false s.wide reads (deeper_leaves w.kind d false cs out)
         (stands_comes d (indent ls) w.kind w.body text q e bs (omega arith) s) (both (stays_level w.kind d) (is_value w.kind) (t.stays d) t.lone)
-        (subst (λ i. IsRight d ls (column_at text i)) (sym z) right) (inl (refl, (refl, t.calm))) (subst (λ i. is_fresh (mark_at text p) (mark_at text i) ≡ true) (sym z) here) fresh
+        (subst (λ i. IsRight d ls (column_at text i)) (sym z) right) (inl (refl, refl, t.calm)) (subst (λ i. is_fresh (mark_at text p) (mark_at text i) ≡ true) (sym z) here) fresh
         (stands_leaves d (indent ls) w.kind w.body text q e bs t s) in
     record {
       line = line_of (q + 0) text;
@@ -151,11 +156,6 @@ key_more d ls w bs x text p q line wide cs T K reads out right l fits plain here
   where
     line_of : ℕ → List ℕ → ℕ
     line_of q text = (mark_at text q).line
-
-pub both : (a b : Bool) → a ≡ true → b ≡ false → (a && not b) ≡ true
-both true false e f = refl
-both true true e f = absurd (never (sym f))
-both false b e f = absurd (never e)
 
 -- the space in front of a word
 pub key_space : (x : yaml_encoding_t) (text : List ℕ) (p e line d : ℕ) (now wide : Bool) (cs ls bs : List ℕ) (T K : List TokenBody → List TokenBody) → ReadsKey x text (spot_at e line d false wide) d (mark_at text p) cs ls T K → Left text e (32 ∷ bs)
@@ -301,8 +301,8 @@ square = record {
   up = λ d. refl;
   down = λ d. refl;
   quiet = λ b. refl;
-  shown = (omega arith, (omega arith, λ h. omega (arith, h)));
-  shown_last = (omega arith, (omega arith, λ h. omega (arith, h)));
+  shown = (omega arith, omega arith, λ h. omega (arith, h));
+  shown_last = (omega arith, omega arith, λ h. omega (arith, h));
 }
 
 pub curly : Brackets 123 125 kinds.FlowMappingStart kinds.FlowMappingEnd tokens.flow_mapping_start tokens.flow_mapping_end
@@ -318,8 +318,8 @@ curly = record {
   up = λ d. refl;
   down = λ d. refl;
   quiet = λ b. refl;
-  shown = (omega arith, (omega arith, λ h. omega (arith, h)));
-  shown_last = (omega arith, (omega arith, λ h. omega (arith, h)));
+  shown = (omega arith, omega arith, λ h. omega (arith, h));
+  shown_last = (omega arith, omega arith, λ h. omega (arith, h));
 }
 
 -- behind the opener
@@ -392,7 +392,7 @@ brackets_more first last k l opens closes b d ls bs x text p q end cs T K r f mo
     let now = allows_key k (d == 0) false in
     let wide = not (nat_lt 0 (depth_after k d)) in
     let s = walk_key_goes x text (spot_at q r.line d false r.wide) d (mark_at text p) cs ls T K k [] w (q + 0 + 1) now wide r.reads (deeper_leaves k d false cs f.out) (b.opening text q d (indent ls) [] gap at0)
-        (both (stays_level k d) (is_value k) (b.stays d) b.lone) (subst (λ i. IsRight d ls (column_at text i)) (sym z) (f.right q more (omega (arith, few)))) (inl (refl, (refl, b.calm)))
+        (both (stays_level k d) (is_value k) (b.stays d) b.lone) (subst (λ i. IsRight d ls (column_at text i)) (sym z) (f.right q more (omega (arith, few)))) (inl (refl, refl, b.calm))
         (subst (λ i. is_fresh (mark_at text p) (mark_at text i) ≡ true) (sym z) (f.near q (omega (arith, few)))) (subst (λ i. is_fresh (mark_at text p) (mark_at text (i + 1)) ≡ true) (sym z) (f.near (q + 1) (omega (arith, few))))
         (words_leave.all text (depth_after k d) now w refl) in
     let o : Opened x text (q + 1) d p cs ls T (λ bs. K (opens ∷ bs)) = subst (λ i. Opened x text (i + 1) d p cs ls T (λ bs. K (opens ∷ bs))) z

@@ -8,3 +8,5 @@ pub mod Singles
 pub mod KeysShow
 pub mod KeysShown
 pub mod KeySteps
+pub mod SpokenWords
+pub mod LeafWords

@@ -10,3 +10,4 @@ pub mod KeysShown
 pub mod KeySteps
 pub mod SpokenWords
 pub mod LeafWords
+pub mod LeafProps

@@ -51,7 +51,7 @@ use Rattle.yaml_emit_laws_pretty.proofs.Lining.{first_byte, or_left, or_right}
 use Rattle.yaml_emit_laws_pretty.proofs.Entries.{white_stands}
 
 -- a word that takes no white
-in_line : (flow : Bool) (level : ℕ) (k : Kind) (body : TokenBody) (text : List ℕ) (p e : ℕ) (bs : List ℕ) → begins_lexeme text p ≡ true → kind_at flow text p ≡ Some k
+pub in_line : (flow : Bool) (level : ℕ) (k : Kind) (body : TokenBody) (text : List ℕ) (p e : ℕ) (bs : List ℕ) → begins_lexeme text p ≡ true → kind_at flow text p ≡ Some k
     → word_at k flow level text p ≡ Ok (record { body = body; end = e; reached = e; broke = false }) → WordStands flow level k body text p e bs
 in_line flow level k body text p e bs begins kind word =
     let w : WordText = record { body = body; end = e; reached = e; broke = false } in
@@ -69,65 +69,65 @@ in_line flow level k body text p e bs begins kind word =
 
 -- ---- names
 
-anchor_sign : Sign 38
+pub anchor_sign : Sign 38
 anchor_sign = sign 38 refl refl refl refl refl refl refl refl refl refl
 
-alias_sign : Sign 42
+pub alias_sign : Sign 42
 alias_sign = sign 42 refl refl refl refl refl refl refl refl refl refl
 
-mark_sign : Sign 33
+pub mark_sign : Sign 33
 mark_sign = sign 33 refl refl refl refl refl refl refl refl refl refl
 
-single_sign : Sign 39
+pub single_sign : Sign 39
 single_sign = sign 39 refl refl refl refl refl refl refl refl refl refl
 
-anchor_kind : (flow alone : Bool) → indicator_of flow alone 38 ≡ Some kinds.Anchor
+pub anchor_kind : (flow alone : Bool) → indicator_of flow alone 38 ≡ Some kinds.Anchor
 unfolding indicator_of
 anchor_kind flow alone = refl
 
-alias_kind : (flow alone : Bool) → indicator_of flow alone 42 ≡ Some kinds.Alias
+pub alias_kind : (flow alone : Bool) → indicator_of flow alone 42 ≡ Some kinds.Alias
 unfolding indicator_of
 alias_kind flow alone = refl
 
-mark_kind : (flow alone : Bool) → indicator_of flow alone 33 ≡ Some kinds.Tag
+pub mark_kind : (flow alone : Bool) → indicator_of flow alone 33 ≡ Some kinds.Tag
 unfolding indicator_of
 mark_kind flow alone = refl
 
-single_kind : (flow alone : Bool) → indicator_of flow alone 39 ≡ Some kinds.SingleQuoted
+pub single_kind : (flow alone : Bool) → indicator_of flow alone 39 ≡ Some kinds.SingleQuoted
 unfolding indicator_of
 single_kind flow alone = refl
 
-anchor_at_word : (flow : Bool) (level : ℕ) (text : List ℕ) (p : ℕ) → word_at kinds.Anchor flow level text p ≡ valued tokens.anchor (anchor_at contexts.Anchor text p)
+pub anchor_at_word : (flow : Bool) (level : ℕ) (text : List ℕ) (p : ℕ) → word_at kinds.Anchor flow level text p ≡ valued tokens.anchor (anchor_at contexts.Anchor text p)
 unfolding word_at
 anchor_at_word flow level text p = refl
 
-alias_at_word : (flow : Bool) (level : ℕ) (text : List ℕ) (p : ℕ) → word_at kinds.Alias flow level text p ≡ valued tokens.alias (anchor_at contexts.Alias text p)
+pub alias_at_word : (flow : Bool) (level : ℕ) (text : List ℕ) (p : ℕ) → word_at kinds.Alias flow level text p ≡ valued tokens.alias (anchor_at contexts.Alias text p)
 unfolding word_at
 alias_at_word flow level text p = refl
 
-white_ends : (text : List ℕ) (p : ℕ) (bs : List ℕ) → Left text p bs → begins_white bs ≡ true → may_end_name text p ≡ true
+pub white_ends : (text : List ℕ) (p : ℕ) (bs : List ℕ) → Left text p bs → begins_white bs ≡ true → may_end_name text p ≡ true
 unfolding may_end_name
 white_ends text p bs l e = or_left (is_blank_or_end text p) _ (white_stands text p bs l e)
 
-or_cases : (a b : Bool) → (a || b) ≡ true → (a ≡ true) ⊎ (b ≡ true)
+pub or_cases : (a b : Bool) → (a || b) ≡ true → (a ≡ true) ⊎ (b ≡ true)
 or_cases true b e = inl refl
 or_cases false b e = inr e
 
-bracket_ends : (text : List ℕ) (p b : ℕ) → byte text p ≡ b → (b == 44 || (b == 93 || b == 125)) ≡ true → may_end_name text p ≡ true
+pub bracket_ends : (text : List ℕ) (p b : ℕ) → byte text p ≡ b → (b == 44 || (b == 93 || b == 125)) ≡ true → may_end_name text p ≡ true
 unfolding may_end_name
 bracket_ends text p b h e = or_right (is_blank_or_end text p) _ (ends (byte text p) (subst (λ (n : ℕ). (n == 44 || (n == 93 || n == 125)) ≡ true) (sym h) e))
   where
     ends : (b : ℕ) → (b == 44 || (b == 93 || b == 125)) ≡ true → (b == 63 || (b == 58 || (b == 44 || (b == 93 || (b == 125 || (b == 37 || (b == 64 || b == 96))))))) ≡ true
     ends b e = grind (arith, nat_tests)
 
-name_ends : (text : List ℕ) (p : ℕ) (bs : List ℕ) → Left text p bs → ends_name bs ≡ true → may_end_name text p ≡ true
+pub name_ends : (text : List ℕ) (p : ℕ) (bs : List ℕ) → Left text p bs → ends_name bs ≡ true → may_end_name text p ≡ true
 name_ends text p [] l e = white_ends text p [] l refl
 name_ends text p (b ∷ bs) l e = elim (or_cases (begins_white (b ∷ bs)) (b == 44 || (b == 93 || b == 125)) e) [
   | inl h ↦ white_ends text p (b ∷ bs) l h
   | inr h ↦ bracket_ends text p b (left_first text p b bs l) h
 ]
 
-pub anchor_word : AnchorReads → (flow : Bool) (level : ℕ) (spaced : Bool) (name : List ℕ) → IsWritableName name → Spoken flow level
+unfoldable pub anchor_word : AnchorReads → (flow : Bool) (level : ℕ) (spaced : Bool) (name : List ℕ) → IsWritableName name → Spoken flow level
 anchor_word names flow level spaced name (some, are) = record {
   spaced = spaced;
   own = 38 ∷ name;
@@ -147,7 +147,7 @@ anchor_word names flow level spaced name (some, are) = record {
       (anchor_at_word flow level text p ∙ named tokens.anchor (anchor_at contexts.Anchor text p) name q reads));
 }
 
-pub alias_word : AnchorReads → (flow : Bool) (level : ℕ) (spaced : Bool) (name : List ℕ) → IsWritableName name → Spoken flow level
+unfoldable pub alias_word : AnchorReads → (flow : Bool) (level : ℕ) (spaced : Bool) (name : List ℕ) → IsWritableName name → Spoken flow level
 alias_word names flow level spaced name (some, are) = record {
   spaced = spaced;
   own = 42 ∷ name;
@@ -169,22 +169,22 @@ alias_word names flow level spaced name (some, are) = record {
 
 -- ---- tags
 
-tag_at_word : (flow : Bool) (level : ℕ) (text : List ℕ) (p : ℕ) → word_at kinds.Tag flow level text p ≡ tagged (tag_at flow text p)
+pub tag_at_word : (flow : Bool) (level : ℕ) (text : List ℕ) (p : ℕ) → word_at kinds.Tag flow level text p ≡ tagged (tag_at flow text p)
 unfolding word_at
 tag_at_word flow level text p = refl
 
-said_tag : (r : Result TagText Wrong) (t : TagText) → r ≡ Ok t → tagged r ≡ Ok (record { body = tokens.tag t.handle t.suffix; end = t.end; reached = t.end; broke = false })
+pub said_tag : (r : Result TagText Wrong) (t : TagText) → r ≡ Ok t → tagged r ≡ Ok (record { body = tokens.tag t.handle t.suffix; end = t.end; reached = t.end; broke = false })
 said_tag r t e = rw e refl
 
-text_is : (s : Split) (e : ℕ) → tagged (Ok (tag_text s e)) ≡ Ok (record { body = tag_body s; end = e; reached = e; broke = false })
+pub text_is : (s : Split) (e : ℕ) → tagged (Ok (tag_text s e)) ≡ Ok (record { body = tag_body s; end = e; reached = e; broke = false })
 text_is (shorthand handle suffix) e = refl
 text_is (verbatim t) e = refl
 
-tag_ends : (flow : Bool) (text : List ℕ) (p : ℕ) (bs : List ℕ) → Left text p bs → begins_white bs ≡ true → may_end_tag flow text p ≡ true
+pub tag_ends : (flow : Bool) (text : List ℕ) (p : ℕ) (bs : List ℕ) → Left text p bs → begins_white bs ≡ true → may_end_tag flow text p ≡ true
 tag_ends flow text p bs l e = or_left (is_blank_or_end text p) (flow && byte text p == 44) (white_stands text p bs l e)
 
 -- a tag that can be read, in its spelling
-pub split_word : SplitTagsAreRead → ReadableTagsAreAscii → (flow : Bool) (level : ℕ) (spaced : Bool) (s : Split) → IsReadable s → Spoken flow level
+unfoldable pub split_word : SplitTagsAreRead → ReadableTagsAreAscii → (flow : Bool) (level : ℕ) (spaced : Bool) (s : Split) → IsReadable s → Spoken flow level
 split_word split ascii flow level spaced s may = record {
   spaced = spaced;
   own = spelled s;
@@ -202,11 +202,11 @@ split_word split ascii flow level spaced s may = record {
       (tag_at_word flow level text p ∙ ap (λ (r : Result TagText Wrong). tagged r) read ∙ text_is s q);
 }
 
-pub tag_word : SplitTagsAreRead → ReadableTagsAreAscii → WrittenTagsAreReadable → (flow : Bool) (level : ℕ) (spaced : Bool) (o : Opening) → IsWritableOpening o → (t : List ℕ) → IsWritableTag (Some t) → Spoken flow level
+unfoldable pub tag_word : SplitTagsAreRead → ReadableTagsAreAscii → WrittenTagsAreReadable → (flow : Bool) (level : ℕ) (spaced : Bool) (o : Opening) → IsWritableOpening o → (t : List ℕ) → IsWritableTag (Some t) → Spoken flow level
 tag_word split ascii readable flow level spaced o (right, utf8) t (some, text_utf8) = split_word split ascii flow level spaced (split_tag o.directives t) (readable o right utf8 t text_utf8 some)
 
 -- the `!` of an untagged scalar
-pub mark_word : LoneMarkReads → (flow : Bool) (level : ℕ) (spaced : Bool) → Spoken flow level
+unfoldable pub mark_word : LoneMarkReads → (flow : Bool) (level : ℕ) (spaced : Bool) → Spoken flow level
 mark_word lone flow level spaced = record {
   spaced = spaced;
   own = 33 ∷ [];
@@ -224,11 +224,11 @@ mark_word lone flow level spaced = record {
 
 -- ---- quotes
 
-double_at_word : (flow : Bool) (level : ℕ) (text : List ℕ) (p : ℕ) → word_at kinds.DoubleQuoted flow level text p ≡ valued (λ v. tokens.scalar v YAML_DOUBLE_QUOTED_SCALAR_STYLE) (double_quoted_at text p)
+pub double_at_word : (flow : Bool) (level : ℕ) (text : List ℕ) (p : ℕ) → word_at kinds.DoubleQuoted flow level text p ≡ valued (λ v. tokens.scalar v YAML_DOUBLE_QUOTED_SCALAR_STYLE) (double_quoted_at text p)
 unfolding word_at
 double_at_word flow level text p = refl
 
-pub double_word : (flow : Bool) (level : ℕ) (spaced : Bool) (page : Page) (c : Cursor) (value : List ℕ) → ValueIsReadBack double_quoted_at (between_quotes page (chars value)) c value → Spoken flow level
+unfoldable pub double_word : (flow : Bool) (level : ℕ) (spaced : Bool) (page : Page) (c : Cursor) (value : List ℕ) → ValueIsReadBack double_quoted_at (between_quotes page (chars value)) c value → Spoken flow level
 double_word flow level spaced page c value r = record {
   spaced = spaced;
   own = encode_utf8_all r.letters;
@@ -245,10 +245,10 @@ double_word flow level spaced page c value r = record {
       (double_at_word flow level text p ∙ named (λ v. tokens.scalar v YAML_DOUBLE_QUOTED_SCALAR_STYLE) (double_quoted_at text p) value q (r.read text p (has_at text p own (has_front text p own bs l.has))));
 }
 
-single_first : (xs : List ℕ) → encode_utf8_all (39 ∷ xs) ≡ 39 ∷ encode_utf8_all xs
+pub single_first : (xs : List ℕ) → encode_utf8_all (39 ∷ xs) ≡ 39 ∷ encode_utf8_all xs
 single_first xs = let e : encode_utf8 39 ≡ 39 ∷ [] = encode_ascii 39 (omega arith) in rw e refl
 
-pub single_word : ScalarsAreWords → (flow : Bool) (level : ℕ) (spaced : Bool) (page : Page) (c : Cursor) (value : List ℕ) → SingleIsBack (between_single page (chars value)) c value → Spoken flow level
+unfoldable pub single_word : ScalarsAreWords → (flow : Bool) (level : ℕ) (spaced : Bool) (page : Page) (c : Cursor) (value : List ℕ) → SingleIsBack (between_single page (chars value)) c value → Spoken flow level
 single_word words flow level spaced page c value r = record {
   spaced = spaced;
   own = encode_utf8_all r.letters;
@@ -268,7 +268,7 @@ single_word words flow level spaced page c value r = record {
 
 -- ---- plain scalars
 
-no_hash : (text : List ℕ) (p : ℕ) (bs : List ℕ) → Left text p bs → no_comment bs ≡ true → byte text (p + length (white_of bs)) ≡ 35 → ⊥
+pub no_hash : (text : List ℕ) (p : ℕ) (bs : List ℕ) → Left text p bs → no_comment bs ≡ true → byte text (p + length (white_of bs)) ≡ 35 → ⊥
 unfolding no_comment white_of
 no_hash text p [] l h e =
     let z : p + 0 ≡ p = omega arith in
@@ -291,7 +291,7 @@ no_hash text p (b ∷ bs) l h e = elim (cases_Bool (is_gap_byte b)) [
     differs : (b : ℕ) → b ≡ 35 → not (b == 35) ≡ true → ⊥
     differs b e f = grind (arith, nat_tests)
 
-begins_by : (text : List ℕ) (q : ℕ) → (is_blank (byte text q)) ≡ false → nat_lt 0 (break_width text q) ≡ false → (byte text q == 35) ≡ false → (q == 0 && is_bom text q) ≡ false → begins_lexeme text q ≡ true
+pub begins_by : (text : List ℕ) (q : ℕ) → (is_blank (byte text q)) ≡ false → nat_lt 0 (break_width text q) ≡ false → (byte text q == 35) ≡ false → (q == 0 && is_bom text q) ≡ false → begins_lexeme text q ≡ true
 begins_by text q blank wide hash bom = let (gap, tab) = either (byte text q == 32) (byte text q == 9) blank in rw (gap, tab, hash, wide, bom) refl
   where
     either : (a b : Bool) → (a || b) ≡ false → (a ≡ false) × (b ≡ false)
@@ -299,7 +299,7 @@ begins_by text q blank wide hash bom = let (gap, tab) = either (byte text q == 3
     either false true e = absurd (cc)
     either false false e = (refl, refl)
 
-ends_begins : (flow : Bool) (level : ℕ) (text : List ℕ) (p q : ℕ) → ends_plain flow level text q ≡ true → begins_lexeme text p ≡ true → (byte text q ≡ 35 → ⊥) → p ≤ q → begins_lexeme text q ≡ true
+pub ends_begins : (flow : Bool) (level : ℕ) (text : List ℕ) (p q : ℕ) → ends_plain flow level text q ≡ true → begins_lexeme text p ≡ true → (byte text q ≡ 35 → ⊥) → p ≤ q → begins_lexeme text q ≡ true
 unfolding ends_plain
 ends_begins flow level text p zero h begins hash up = let z : p ≡ 0 = omega (arith, up) in subst (λ n. begins_lexeme text n ≡ true) z begins
 ends_begins flow level text p (suc q) h begins hash up =
@@ -318,7 +318,7 @@ ends_begins flow level text p (suc q) h begins hash up =
     apart : (b : ℕ) → (b ≡ 35 → ⊥) → (b == 35) ≡ false
     apart b f = grind (arith, nat_tests)
 
-pub plain_word : ScalarsAreWords → (flow : Bool) (level : ℕ) (spaced : Bool) (page : Page) (c : Cursor) (value : List ℕ) → PlainIsBack flow level (flow_body page false 32 (chars value) ▹ after_text) c value → Spoken flow level
+unfoldable pub plain_word : ScalarsAreWords → (flow : Bool) (level : ℕ) (spaced : Bool) (page : Page) (c : Cursor) (value : List ℕ) → PlainIsBack flow level (flow_body page false 32 (chars value) ▹ after_text) c value → Spoken flow level
 plain_word words flow level spaced page c value r = record {
   spaced = spaced;
   own = encode_utf8_all r.letters;

@@ -1,5 +1,6 @@
 -- What follows a node: a line, and something that is neither white nor a comment.
-use Rattle.std.proofs.Common.{◌≡◌, ℕ, ◌+◌, ◌≤◌, true, false, List, [], ◌∷◌, ◌++◌, zero, suc, refl, ap, subst, ◌∙◌, arith, replicate, append_assoc, None}
+use Rattle.std.proofs.Common.{◌≡◌, ℕ, ◌+◌, ◌≤◌, ◌==◌, ◌&&◌, ◌||◌, not, nat_lt, true, false, List, [], ◌∷◌, ◌++◌, zero, suc, refl, ap, subst, ◌∙◌, arith, replicate, append_assoc, None}
+use Rattle.std.proofs.lemmas.Bool.Decides.{nat_tests}
 use Rattle.yaml_emit_laws_text.specs.emit_layout.emit_text.declared.Cursor.{Cursor}
 use Rattle.yaml_emit_laws_text.specs.emit_layout.emit_text.declared.LineBreak.{LineBreak}
 use Rattle.yaml_emit_laws_text.specs.emit_layout.emit_text.declared.LineBreak.TheVariants.{Lf, Cr, CrLf}
@@ -13,7 +14,10 @@ use Rattle.yaml_emit_laws_scalars.specs.Stops.{stops_plain_at, begins_white, beg
 use Rattle.yaml_emit_laws_scalars.proofs.Lines.{line_start, after_blanks, line_is}
 use Rattle.yaml_emit_laws_scalars.proofs.Stopping.{behind_lines}
 use Rattle.yaml_emit_laws_scalars.proofs.Solid.{what_stops}
+use Rattle.yaml_emit_laws_text.specs.scan_history.scan_model.Marks.{break_of}
+use Rattle.yaml_emit_laws_block.specs.Passed.{begins_white as begins_blank}
 use Rattle.yaml_emit_laws_pretty.specs.Walk.{Follows, NoFeed, no_comment}
+use Rattle.yaml_emit_laws_pretty.specs.Nodes.{Shows, Ending, ShownEnds}
 
 spaces_low : (n : ℕ) → AreLow (replicate n 32)
 spaces_low zero = tt
@@ -48,10 +52,9 @@ line_white Lf bs = refl
 line_white Cr bs = refl
 line_white CrLf bs = refl
 
--- what stands at a line's column is neither white nor a comment
-pub record Shows (rest : Rest) : Type 0 where
-  pub solid : (e : Cursor) → e.bare ≡ true → e.white ≡ true → begins_solid (bytes (rest e)) ≡ true
-  pub calm : (e : Cursor) → e.bare ≡ true → e.white ≡ true → no_comment (bytes (rest e)) ≡ true
+blanks_column : (n : ℕ) (c : Cursor) → (after_blanks n c).column ≡ c.column + n
+blanks_column zero c = omega arith
+blanks_column (suc n) c = let e = blanks_column n (spaced_by c) in omega (arith, e)
 
 line_bytes : (b : LineBreak) (n : ℕ) (c : Cursor) (rest : Rest) → c.bare ≡ false → bytes (line b n c rest) ≡ break_text b ++ (replicate n 32 ++ bytes (rest (after_blanks n (line_start c))))
 line_bytes b n c rest bare =
@@ -59,13 +62,13 @@ line_bytes b n c rest bare =
     ap (λ t. bytes t) (line_is b n c rest bare) ∙ front_encodes (break_text b ++ replicate n 32) (rest e)
     ∙ ap (λ (bs : List ℕ). bs ++ bytes (rest e)) (low_encodes (break_text b ++ replicate n 32) (break_low b n)) ∙ append_assoc (break_text b) (replicate n 32) (bytes (rest e))
 
-pub follows_line : (b : LineBreak) (n : ℕ) (rest : Rest) → Shows rest → Follows (n + 1) (λ e. line b n e rest)
+pub follows_line : (b : LineBreak) (n : ℕ) (rest : Rest) → Shows n rest → Follows (n + 1) (λ e. line b n e rest)
 follows_line b n rest shows = record {
   stops = λ level low e bare. let d = after_blanks n (line_start e) in
       ap (λ bs. stops_plain_at false level None bs) (line_bytes b n e rest bare) ∙ (behind_lines false level n (bytes (rest d))).0 b None
-      ∙ (what_stops false level None).4 n (bytes (rest d)) (omega (arith, low)) (shows.solid d (blanks_bare n (line_start e) refl) (blanks_white n (line_start e) refl));
+      ∙ (what_stops false level None).4 n (bytes (rest d)) (omega (arith, low)) (shows.solid d (blanks_bare n (line_start e) refl) (blanks_white n (line_start e) refl) (blanks_column n (line_start e)));
   calm = λ e bare. let d = after_blanks n (line_start e) in
-      ap (λ bs. no_comment bs) (line_bytes b n e rest bare) ∙ line_calm b n (bytes (rest d)) ∙ shows.calm d (blanks_bare n (line_start e) refl) (blanks_white n (line_start e) refl);
+      ap (λ bs. no_comment bs) (line_bytes b n e rest bare) ∙ line_calm b n (bytes (rest d)) ∙ shows.calm d (blanks_bare n (line_start e) refl) (blanks_white n (line_start e) refl) (blanks_column n (line_start e));
   white = λ e bare. let d = after_blanks n (line_start e) in
       ap (λ bs. begins_white bs) (line_bytes b n e rest bare) ∙ line_white b (replicate n 32 ++ bytes (rest d));
 }
@@ -79,8 +82,31 @@ solid_no_feed (b ∷ bs) h e =
     never : false ≡ true → ⊥
     never e = cc
 
-pub shows_no_feed : (rest : Rest) → Shows rest → NoFeed rest
-shows_no_feed rest shows e bare white f = solid_no_feed (bytes (rest e)) (shows.solid e bare white) f
+pub shows_no_feed : (n : ℕ) (rest : Rest) → Shows n rest → NoFeed n rest
+shows_no_feed n rest shows e bare white column f = solid_no_feed (bytes (rest e)) (shows.solid e bare white column) f
 
 pub follows_up : (m n : ℕ) (rest : Rest) → m ≤ n → Follows m rest → Follows n rest
 follows_up m n rest up f = record { stops = λ level low e bare. f.stops level (omega (arith, up, low)) e bare; calm = f.calm; white = f.white }
+
+-- ---- the end of a node
+
+no_blank : (b c d : ℕ) → (not (b == 32 || (b == 10 || b == 13)) && (not (b == 9) && break_of b c d == 0)) ≡ true → ((b == 32 || b == 9) || nat_lt 0 (break_of b c d)) ≡ false
+unfolding break_of
+no_blank b c d h = grind (arith, nat_tests)
+
+solid_blank : (bs : List ℕ) → begins_solid bs ≡ true → begins_blank bs ≡ false
+solid_blank [] h = absurd (cc)
+solid_blank (b ∷ []) h = no_blank b 0 0 h
+solid_blank (b ∷ c ∷ []) h = no_blank b c 0 h
+solid_blank (b ∷ c ∷ d ∷ ds) h = no_blank b c d h
+
+pub shown_ends : ShownEnds
+shown_ends b n after shows = record {
+  follows = follows_line b n after shows;
+  feed = shows_no_feed n after shows;
+  solid = λ e bare white column. solid_blank (bytes (after e)) (shows.solid e bare white column);
+}
+
+-- in deeper levels too
+pub ending_up : (b : LineBreak) (m level deeper : ℕ) (after : Rest) → level ≤ deeper → Ending b m level after → Ending b m deeper after
+ending_up b m level deeper after up e = record { follows = follows_up level deeper (λ k. line b m k after) up e.follows; feed = e.feed; solid = e.solid }

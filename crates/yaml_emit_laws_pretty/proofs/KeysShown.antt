@@ -22,7 +22,7 @@ use Rattle.yaml_emit_laws_scalars.proofs.Stopping.{goes_on}
 use Rattle.yaml_emit_laws_scalars.proofs.Solid.{what_stops}
 use Rattle.yaml_emit_laws_pretty.specs.Bodies.{style_at}
 use Rattle.yaml_emit_laws_pretty.specs.KeyLaws.{KeyIsShown}
-use Rattle.yaml_emit_laws_pretty.proofs.Trees.{plain_layout}
+use Rattle.yaml_emit_laws_pretty.proofs.PlainLayouts.{plain_layout}
 use Rattle.yaml_emit_laws_pretty.proofs.KeysShow.{left_self, lexeme_solid, lexeme_calm}
 use Rattle.yaml_emit_laws_pretty.specs.Walk.{no_comment}
 

@@ -45,7 +45,7 @@ use Rattle.yaml_emit_laws_pretty.specs.Bodies.{style_at}
 use Rattle.yaml_emit_laws_pretty.specs.KeyLaws.{KeyIsWalked}
 use Rattle.yaml_emit_laws_pretty.proofs.Lining.{or_left}
 use Rattle.yaml_emit_laws_pretty.proofs.Entries.{no_gap, white_stands}
-use Rattle.yaml_emit_laws_pretty.proofs.Trees.{plain_layout}
+use Rattle.yaml_emit_laws_pretty.proofs.PlainLayouts.{plain_layout}
 
 -- ---- columns don't fall in a line
 
@@ -237,9 +237,10 @@ key_on gaps words styles nears freshes s d fine deep k anchor tag style good som
     record {
       cursor = f;
       place = behind text (e + 0) (e + 0 + 1) 0 false true;
-      stage = record { reads = r; flat = refl; broken = refl; bare = λ b. absurd (never b) };
+      stage = record { reads = r; flat = refl; broken = refl; bare = λ b. absurd (never b); line = line_at-grows text (e + 0) (e + 0 + 1) (omega arith) };
       left = subst (λ q. Left text (q + 1) tail) (sym y) after;
       bare = refl;
       white = refl;
       right = omega (arith, next, wide0, from);
+      same = back.kept;
     }

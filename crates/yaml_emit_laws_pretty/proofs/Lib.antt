@@ -2,8 +2,7 @@ pub mod Lining
 pub mod Entries
 pub mod Plains
 pub mod Following
-pub mod Sequences
-pub mod Trees
+pub mod PlainLayouts
 pub mod KeysWalk
 pub mod Singles
 pub mod KeysShow

@@ -24,6 +24,7 @@ use Rattle.yaml_scan_laws_texts.specs.PlainLaws.{ends_plain}
 use Rattle.yaml_emit_laws_text.specs.scan_history.scan_scalars.Plain.{ends_at}
 use Rattle.yaml_emit_laws_text.specs.scan_history.scan_model.Classes.{is_bom}
 use Rattle.yaml_scan_laws_levels.proofs.Whites.{pair}
+use Rattle.yaml_scan_laws_order.proofs.MarksForward.{line_at-grows}
 use Rattle.yaml_scan_laws_levels.specs.Steps.{Comes}
 use Rattle.yaml_scan_laws_levels.specs.Walks.{Where, LeaveClear, behind}
 use Rattle.yaml_scan_laws_levels.proofs.Slotting.{letter_columns}
@@ -34,7 +35,7 @@ use Rattle.yaml_emit_laws_scalars.specs.PlainLaws.{may_be_plain}
 use Rattle.yaml_emit_laws_scalars.specs.StandsLaws.{PlainHasGap, PlainStands, ScalarsAreWords}
 use Rattle.yaml_emit_laws_scalars.proofs.Stopping.{stops_end}
 use Rattle.yaml_emit_laws_pretty.specs.Walk.{Stage, Walks, Follows, no_comment, PlainIsWalked}
-use Rattle.yaml_emit_laws_pretty.proofs.Lining.{or_left, or_right, first_byte}
+use Rattle.yaml_emit_laws_pretty.proofs.Lining.{or_left, or_right, first_byte, line_on_to}
 use Rattle.yaml_emit_laws_pretty.proofs.Entries.{no_gap}
 
 -- a space, where one is due
@@ -49,7 +50,7 @@ walks_gap a B ls c rest w x text o T s right l =
           let r = walk_white x text o [] ls [] T (32 ∷ []) s.reads (has_at text o.at (32 ∷ []) (here, tt)) refl in
           let (next, line_same) = letter_columns text o.at 32 here (omega arith) (omega arith) in
           let u : Where = record { at = o.at + 1; line = o.line; depth = o.depth; now = o.now || (false && o.broken); broken = o.broken } in
-          let t : Stage x text d u ls [] T = record { reads = r; flat = s.flat; broken = s.broken; bare = λ b. let (now, column) = s.bare b in (or_left o.now (false && o.broken) now, next ∙ ap (λ k. k + 1) column) } in
+          let t : Stage x text d u ls [] T = record { reads = r; flat = s.flat; broken = s.broken; bare = λ b. let (now, column) = s.bare b in (or_left o.now (false && o.broken) now, next ∙ ap (λ k. k + 1) column); line = line_on_to text o.at (o.at + 1) o.line s.line (omega arith) } in
           w d x text u T t (omega (arith, next, right)) (left_more text o.at 32 _ m)
     ]
 
@@ -141,9 +142,10 @@ body_walks stands are_words page ls value rest u some may deep far follows c x t
       behind = g.behind;
       place = behind text (p + 0) e o.depth false true;
       more = [];
-      stage = record { reads = r; flat = s.flat; broken = refl; bare = λ b. absurd (bare_off g.behind.bare g.fine.bare b) };
+      stage = record { reads = r; flat = s.flat; broken = refl; bare = λ b. absurd (bare_off g.behind.bare g.fine.bare b); line = line_at-grows text (p + 0) e (omega arith) };
       left = g.left;
       bare = g.fine.bare;
+      same = g.fine.kept;
     }
   where
     stays : (d : ℕ) → (true && (nat_lt 0 d || true)) ≡ true

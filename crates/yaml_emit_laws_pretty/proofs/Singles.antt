@@ -17,6 +17,7 @@ use Rattle.yaml_emit_laws_text.specs.emit_layout.emit_text.Scalars.{flow_body}
 use Rattle.yaml_emit_laws_text.specs.emit_layout.emit_text.Style.{allowed}
 use Rattle.yaml_emit_laws_text.specs.ReadBack.{between_single}
 use Rattle.yaml_emit_laws_text.specs.Walk.{bytes, first}
+use Rattle.yaml_scan_laws_order.proofs.MarksForward.{line_at-grows}
 use Rattle.yaml_scan_laws_levels.specs.Steps.{Comes}
 use Rattle.yaml_scan_laws_levels.specs.Walks.{Where, Reads, LeaveClear, behind}
 use Rattle.yaml_scan_laws_levels.proofs.Stepping.{words_leave}
@@ -61,9 +62,10 @@ quotes_walk stands words page ls value rest u may deep follows c x text o T s ri
       behind = g.behind;
       place = behind text (p + 0) e 0 false true;
       more = [];
-      stage = record { reads = r; flat = refl; broken = refl; bare = λ b. absurd (bare_off g.behind.bare g.fine.bare b) };
+      stage = record { reads = r; flat = refl; broken = refl; bare = λ b. absurd (bare_off g.behind.bare g.fine.bare b); line = line_at-grows text (p + 0) e (omega arith) };
       left = g.left;
       bare = g.fine.bare;
+      same = g.fine.kept;
     }
 
 pub single_on : SingleStands → ScalarsAreWords → SingleIsWalked

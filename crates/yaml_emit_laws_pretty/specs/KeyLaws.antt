@@ -25,8 +25,8 @@ use Rattle.yaml_emit_laws_pretty.specs.Bodies.{style_at}
 use Rattle.yaml_emit_laws_pretty.specs.Walk.{Stage, no_comment}
 
 -- Behind a key's `:`, in the levels that it leaves.
-pub record Keyed (x : yaml_encoding_t) (text : List ℕ) (rest : Rest) (n : ℕ) (ls : List ℕ)
-    (T : List TokenBody → List TokenBody) : Type 0 where
+pub record Keyed (x : yaml_encoding_t) (text : List ℕ) (rest : Rest) (n : ℕ) (kept : Bool)
+    (ls : List ℕ) (T : List TokenBody → List TokenBody) : Type 0 where
   pub cursor : Cursor
   pub place : Where
   pub stage : Stage x text cursor place ls [] T
@@ -34,6 +34,7 @@ pub record Keyed (x : yaml_encoding_t) (text : List ℕ) (rest : Rest) (n : ℕ)
   pub bare : cursor.bare ≡ false
   pub white : cursor.white ≡ false
   pub right : n + 2 ≤ column_at text place.at
+  pub same : cursor.kept ≡ kept
 
 -- A plain key at a column of a bare line, at the innermost level that it leaves or right of it, with its `:`.
 abbrev pub KeyIsWalked : Type 0
@@ -50,7 +51,7 @@ KeyIsWalked = (s : Settings) (d : Opening) → IsWritableOpening d → 1 < s.ind
     → ((e : Cursor) → e.bare ≡ false → e.white ≡ false → begins_white (bytes (rest e)) ≡ true)
     → Left text o.at (bytes ((node_layout (context_of s d.directives)
     (spot false n part.SimpleKey) (scalar_node k) ▹ char 58) c rest))
-    → Keyed x text rest n new (λ bs. T (start_bodies what (tokens.key
+    → Keyed x text rest n c.kept new (λ bs. T (start_bodies what (tokens.key
     ∷ tokens.scalar k.value YAML_PLAIN_SCALAR_STYLE ∷ tokens.value ∷ bs)))
 
 -- What such a key writes on a bare line begins with neither white nor a comment, so that a line before it ends what stands in

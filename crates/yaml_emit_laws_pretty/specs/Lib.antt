@@ -1,5 +1,5 @@
 pub mod Bodies
 pub mod Walk
-pub mod Trees
 pub mod KeyLaws
+pub mod Nodes
 pub mod Spoken

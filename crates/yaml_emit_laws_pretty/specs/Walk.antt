@@ -13,7 +13,7 @@ use Rattle.yaml_scan_laws_levels.specs.Tokens.{start_bodies}
 use Rattle.yaml_emit_laws_scalars.specs.PlainLaws.{may_be_plain}
 use Rattle.yaml_emit_laws_text.specs.emit_layout.scan.declared.yaml_encoding_t.{yaml_encoding_t}
 use Rattle.yaml_emit_laws_text.specs.emit_layout.scan.Tokens.{TokenBody}
-use Rattle.yaml_emit_laws_text.specs.scan_history.scan_model.Marks.{column_at}
+use Rattle.yaml_emit_laws_text.specs.scan_history.scan_model.Marks.{column_at, line_at}
 use Rattle.yaml_emit_laws_text.specs.scan_history.History.{indent, opened, start_of}
 use Rattle.yaml_emit_laws_text.specs.emit_layout.emit_text.declared.Cursor.{Cursor}
 use Rattle.yaml_emit_laws_text.specs.emit_layout.emit_text.declared.LineBreak.{LineBreak}
@@ -23,16 +23,17 @@ use Rattle.yaml_scan_laws_levels.specs.Walks.{Where, Reads}
 use Rattle.yaml_emit_laws_scalars.specs.Stops.{stops_plain_at, begins_white, is_gap_byte}
 
 -- The lexemes up to a cursor, with levels `ls` and beside them `more`, told T. Where the line is bare, a key may begin, and the cursor's
--- column is the text's.
+-- column is the text's. The line from which keys may be looked for is that of the place or an earlier one.
 pub record Stage (x : yaml_encoding_t) (text : List ℕ) (c : Cursor) (o : Where) (ls more : List ℕ)
     (T : List TokenBody → List TokenBody) : Type 0 where
   pub reads : Reads x text o [] ls more T
   pub flat : o.depth ≡ 0
   pub broken : o.broken ≡ true
   pub bare : c.bare ≡ true → (o.now ≡ true) × (column_at text o.at ≡ c.column)
+  pub line : o.line ≤ line_at text o.at
 
--- Behind a node: its levels are left to whoever closes them, and the line has text.
-pub record Goes (x : yaml_encoding_t) (text : List ℕ) (rest : Rest) (ls : List ℕ)
+-- Behind a node: its levels are left to whoever closes them, and the line has text. The document's last block scalar is the one before.
+pub record Goes (x : yaml_encoding_t) (text : List ℕ) (rest : Rest) (kept : Bool) (ls : List ℕ)
     (T : List TokenBody → List TokenBody) : Type 0 where
   pub behind : Cursor
   pub place : Where
@@ -40,19 +41,14 @@ pub record Goes (x : yaml_encoding_t) (text : List ℕ) (rest : Rest) (ls : List
   pub stage : Stage x text behind place ls more T
   pub left : Left text place.at (bytes (rest behind))
   pub bare : behind.bare ≡ false
+  pub same : behind.kept ≡ kept
 
 -- Where a text goes on as the layout does and then as `rest`, right of the innermost level or at it, these tokens come.
 abbrev pub Walks : Layout → (List TokenBody → List TokenBody) → List ℕ → Cursor → Rest → Type 0
 Walks a B ls c rest = (x : yaml_encoding_t) (text : List ℕ) (o : Where)
     (T : List TokenBody → List TokenBody) → Stage x text c o ls [] T
     → indent ls ≤ column_at text o.at → Left text o.at (bytes (a c rest))
-    → Goes x text rest ls (λ bs. T (B bs))
-
--- Likewise behind other items, whose levels are still open.
-abbrev pub WalksOn : Layout → (List TokenBody → List TokenBody) → List ℕ → Cursor → Rest → Type 0
-WalksOn a B ls c rest = (x : yaml_encoding_t) (text : List ℕ) (o : Where) (more : List ℕ)
-    (T : List TokenBody → List TokenBody) → Stage x text c o ls more T
-    → Left text o.at (bytes (a c rest)) → Goes x text rest ls (λ bs. T (B bs))
+    → Goes x text rest c.kept ls (λ bs. T (B bs))
 
 -- behind the white that bytes begin with stands no `#`
 unfoldable pub no_comment : List ℕ → Bool
@@ -66,13 +62,14 @@ pub record Follows (m : ℕ) (rest : Rest) : Type 0 where
   pub calm : (e : Cursor) → e.bare ≡ false → no_comment (bytes (rest e)) ≡ true
   pub white : (e : Cursor) → e.bare ≡ false → begins_white (bytes (rest e)) ≡ true
 
--- no line feed follows white on a bare line, which would make one break of CR and LF
-abbrev pub NoFeed : Rest → Type 0
-NoFeed rest = (e : Cursor) → e.bare ≡ true → e.white ≡ true → first (bytes (rest e)) ≡ 10 → ⊥
+-- no line feed follows white on a bare line at that column, which would make one break of CR and LF
+abbrev pub NoFeed : ℕ → Rest → Type 0
+NoFeed n rest = (e : Cursor) → e.bare ≡ true → e.white ≡ true → e.column ≡ n
+    → first (bytes (rest e)) ≡ 10 → ⊥
 
 -- A bare line with white before it, at a column.
-pub record Lined (x : yaml_encoding_t) (text : List ℕ) (rest : Rest) (n : ℕ) (ls more : List ℕ)
-    (T : List TokenBody → List TokenBody) : Type 0 where
+pub record Lined (x : yaml_encoding_t) (text : List ℕ) (rest : Rest) (n : ℕ) (kept : Bool)
+    (ls more : List ℕ) (T : List TokenBody → List TokenBody) : Type 0 where
   pub cursor : Cursor
   pub place : Where
   pub stage : Stage x text cursor place ls more T
@@ -80,15 +77,57 @@ pub record Lined (x : yaml_encoding_t) (text : List ℕ) (rest : Rest) (n : ℕ)
   pub bare : cursor.bare ≡ true
   pub white : cursor.white ≡ true
   pub column : cursor.column ≡ n
+  pub same : cursor.kept ≡ kept
 
 -- A line leads there from every cursor, with every break: by a break and spaces, or by spaces alone, where the line is bare.
 abbrev pub LineIsWalked : Type 0
 LineIsWalked = (b : LineBreak) (n : ℕ) (x : yaml_encoding_t) (text : List ℕ) (c : Cursor)
     (o : Where) (ls more : List ℕ) (T : List TokenBody → List TokenBody) (rest : Rest)
-    → Stage x text c o ls more T → NoFeed rest → Left text o.at (bytes (line b n c rest))
-    → Lined x text rest n ls more T
+    → Stage x text c o ls more T → NoFeed n rest → Left text o.at (bytes (line b n c rest))
+    → Lined x text rest n c.kept ls more T
 
--- ---- `-`
+-- A line behind a node, whose levels are left to whoever closes them: no key of the node's lines may be looked for there.
+pub record LinedUp (x : yaml_encoding_t) (text : List ℕ) (rest : Rest) (n : ℕ) (kept : Bool)
+    (ls : List ℕ) (T : List TokenBody → List TokenBody) : Type 0 where
+  pub more : List ℕ
+  pub lined : Lined x text rest n kept ls more T
+  pub later : lined.place.line < line_at text lined.place.at
+
+-- So a line leads there behind text.
+abbrev pub LineEndsNode : Type 0
+LineEndsNode = (b : LineBreak) (n : ℕ) (x : yaml_encoding_t) (text : List ℕ) (kept : Bool)
+    (ls : List ℕ) (T : List TokenBody → List TokenBody) (rest : Rest) → NoFeed n rest
+    → Goes x text (λ e. line b n e rest) kept ls T → LinedUp x text rest n kept ls T
+
+-- ---- `-`, `?` and the `:` of a `?`
+
+-- an indicator of a bare line
+pub data Mark : Type 0 where
+  Entry : Mark
+  Question : Mark
+  Answer : Mark
+
+abbrev pub mark_byte : Mark → ℕ
+mark_byte Entry = 45
+mark_byte Question = 63
+mark_byte Answer = 58
+
+abbrev pub mark_body : Mark → TokenBody
+mark_body Entry = tokens.block_entry
+mark_body Question = tokens.key
+mark_body Answer = tokens.value
+
+-- the level that it may open
+abbrev pub mark_level : Mark → Opens
+mark_level Entry = opening.Sequence
+mark_level Question = opening.Mapping
+mark_level Answer = opening.Mapping
+
+-- a `:` stands on a later line than all that could be its key
+abbrev pub IsLone : Mark → List ℕ → Where → Type 0
+IsLone Entry text o = Unit {0}
+IsLone Question text o = Unit {0}
+IsLone Answer text o = o.line < line_at text o.at
 
 -- what stands behind an indicator of a bare line, at that column, begins with white or is nothing
 abbrev pub Parted : ℕ → Rest → Type 0
@@ -96,8 +135,8 @@ Parted n rest = (e : Cursor) → e.bare ≡ true → e.white ≡ false → e.col
     → begins_white (bytes (rest e)) ≡ true
 
 -- Behind an indicator of a bare line, in the innermost level.
-pub record Entered (x : yaml_encoding_t) (text : List ℕ) (rest : Rest) (n : ℕ) (ls : List ℕ)
-    (T : List TokenBody → List TokenBody) : Type 0 where
+pub record Entered (x : yaml_encoding_t) (text : List ℕ) (rest : Rest) (n : ℕ) (kept : Bool)
+    (ls : List ℕ) (T : List TokenBody → List TokenBody) : Type 0 where
   pub cursor : Cursor
   pub place : Where
   pub stage : Stage x text cursor place ls [] T
@@ -106,16 +145,17 @@ pub record Entered (x : yaml_encoding_t) (text : List ℕ) (rest : Rest) (n : �
   pub white : cursor.white ≡ false
   pub column : cursor.column ≡ n
   pub right : column_at text place.at ≡ n
+  pub same : cursor.kept ≡ kept
 
--- A `-` at a column of a bare line: a level opens there, or is there, and all that is open right of it is closed.
-abbrev pub EntryIsWalked : Type 0
-EntryIsWalked = (x : yaml_encoding_t) (text : List ℕ) (c : Cursor) (o : Where) (n : ℕ)
+-- An indicator at a column of a bare line: a level opens there, or is there, and all that is open right of it is closed.
+abbrev pub MarkIsWalked : Type 0
+MarkIsWalked = (k : Mark) (x : yaml_encoding_t) (text : List ℕ) (n : ℕ) (kept : Bool)
     (ls more new : List ℕ) (what : Opens) (T : List TokenBody → List TokenBody) (rest : Rest)
-    → Stage x text c o ls more T → c.bare ≡ true → c.white ≡ true → c.column ≡ n
-    → indent ls ≤ n + 1 → Rises (n + 1) more → opened true (n + 1) ls ≡ new
-    → start_of 0 (n + 1) ls opening.Sequence ≡ what
-    → Parted (n + 1) rest → Left text o.at (bytes (indicator 45 c rest))
-    → Entered x text rest (n + 1) new (λ bs. T (start_bodies what (tokens.block_entry ∷ bs)))
+    → (here : Lined x text (λ e. indicator (mark_byte k) e rest) n kept ls more T)
+    → IsLone k text here.place → indent ls ≤ n + 1 → Rises (n + 1) more
+    → opened true (n + 1) ls ≡ new → start_of 0 (n + 1) ls (mark_level k) ≡ what
+    → Parted (n + 1) rest
+    → Entered x text rest (n + 1) kept new (λ bs. T (start_bodies what (mark_body k ∷ bs)))
 
 -- ---- a plain scalar
 

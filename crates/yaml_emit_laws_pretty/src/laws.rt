@@ -1,8 +1,8 @@
 //! Each function's contract is a law.
 
-ghost use Rattle.yaml_emit_laws_pretty.specs.Walk.{EntryIsWalked, LineIsWalked, PlainIsWalked, SingleIsWalked};
+ghost use Rattle.yaml_emit_laws_pretty.specs.Walk.{LineEndsNode, LineIsWalked, MarkIsWalked, PlainIsWalked, SingleIsWalked};
 ghost use Rattle.yaml_emit_laws_pretty.specs.KeyLaws.{KeyIsShown, KeyIsWalked};
-ghost use Rattle.yaml_emit_laws_pretty.specs.Trees.{ItemsAreWalked};
+ghost use Rattle.yaml_emit_laws_pretty.specs.Nodes.{ShownEnds};
 
 use yaml_emit_laws_scalars::{near_is_fresh, plain_has_a_gap, plain_stands, scalars_are_words, simple_keys_are_near, single_stands, styles_are_allowed};
 
@@ -11,9 +11,19 @@ pub fn line_is_walked()
     ensures { LineIsWalked }
 {}
 
-/// A `-` opens a level or closes those right of it.
-pub fn entry_is_walked()
-    ensures { EntryIsWalked }
+/// Behind text a line leads to its column, on a later line.
+pub fn line_ends_node()
+    ensures { LineEndsNode }
+{}
+
+/// A `-`, a `?` or a `:` behind one opens a level or closes those right of it.
+pub fn mark_is_walked()
+    ensures { MarkIsWalked }
+{}
+
+/// What is neither white nor a comment ends what stands in a level right of it.
+pub fn shown_ends()
+    ensures { ShownEnds }
 {}
 
 /// A plain scalar is walked as content.
@@ -23,15 +33,6 @@ pub fn plain_is_walked()
     plain_has_a_gap();
     plain_stands();
     scalars_are_words();
-}
-
-/// Sequences in sequences are walked, at any level.
-pub fn items_are_walked()
-    ensures { ItemsAreWalked }
-{
-    plain_is_walked();
-    plain_has_a_gap();
-    styles_are_allowed();
 }
 
 /// A plain simple key and its `:` are walked.

@@ -4,6 +4,6 @@
 mod laws;
 
 pub use laws::{
-    entry_is_walked, items_are_walked, key_is_shown, key_is_walked, line_is_walked, plain_is_walked,
+    key_is_shown, key_is_walked, line_ends_node, line_is_walked, mark_is_walked, plain_is_walked, shown_ends,
     single_is_walked,
 };

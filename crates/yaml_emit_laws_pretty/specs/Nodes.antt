@@ -1,0 +1,171 @@
+-- Nodes in a block: each is walked with the line behind it.
+use Rattle.std.specs.Prelude.{◌≡◌, ◌≤◌, ◌+◌, ℕ, Bool, true, false, not, ◌||◌, List, [], ◌∷◌, Option, Some, None}
+use Rattle.yaml_emit_laws_text.specs.emit_layout.scan.declared.yaml_encoding_t.{yaml_encoding_t}
+use Rattle.yaml_emit_laws_text.specs.emit_layout.scan.Tokens as tokens
+use Rattle.yaml_emit_laws_text.specs.emit_layout.scan.Tokens.{TokenBody}
+use Rattle.yaml_emit_laws_text.specs.scan_history.scan_model.Marks.{column_at}
+use Rattle.yaml_emit_laws_text.specs.scan_history.History.{indent, opened, start_of}
+use Rattle.yaml_emit_laws_text.specs.scan_history.declared.lexeme.Opens.{Opens}
+use Rattle.yaml_emit_laws_text.specs.scan_history.declared.lexeme.Opens.TheVariants as opening
+use Rattle.yaml_emit_laws_text.specs.emit_layout.emit_text.declared.Cursor.{Cursor}
+use Rattle.yaml_emit_laws_text.specs.emit_layout.emit_text.declared.LineBreak.{LineBreak}
+use Rattle.yaml_emit_laws_text.specs.emit_layout.emit_text.declared.Settings.{Settings}
+use Rattle.yaml_emit_laws_text.specs.emit_layout.emit_text.Layout.{Layout, Rest, ◌▹◌, line, char}
+use Rattle.yaml_emit_laws_text.specs.emit_layout.declared.level.Part.{Part}
+use Rattle.yaml_emit_laws_text.specs.emit_layout.declared.level.Part.TheVariants as part
+use Rattle.yaml_emit_laws_text.specs.emit_layout.declared.level.Spot.{Spot}
+use Rattle.yaml_emit_laws_text.specs.emit_layout.Content.{Opening, Node, alias_node, scalar_node, sequence_node, mapping_node}
+use Rattle.yaml_emit_laws_text.specs.emit_layout.Grammar.{has}
+use Rattle.yaml_emit_laws_text.specs.emit_layout.Nodes.{Context, context_of, is_simple, is_simple_part, are_none, are_no_pairs, node_layout, properties_text}
+use Rattle.yaml_emit_laws_text.specs.Bodies.{anchor_bodies, tag_bodies}
+use Rattle.yaml_emit_laws_text.specs.Walk.{Left, bytes}
+use Rattle.yaml_emit_laws_text.specs.Writable.{IsWritable, IsWritableAnchor, IsWritableTag, IsWritableOpening}
+use Rattle.yaml_scan_laws_levels.specs.Fronts.{Rises}
+use Rattle.yaml_scan_laws_levels.specs.Tokens.{start_bodies}
+use Rattle.yaml_scan_laws_levels.specs.Walks.{Where}
+use Rattle.yaml_emit_laws_scalars.specs.Stops.{begins_white, begins_solid}
+use Rattle.yaml_emit_laws_block.specs.Laws.{margin_round}
+use Rattle.yaml_emit_laws_block.specs.Passed.{begins_white as begins_blank}
+use Rattle.yaml_emit_laws_pretty.specs.Bodies.{is_flow_at, node_bodies, node_kept}
+use Rattle.yaml_emit_laws_pretty.specs.Walk.{Stage, Lined, LinedUp, Follows, NoFeed, no_comment}
+use Rattle.yaml_emit_laws_pretty.specs.KeyLaws.{Keyed}
+
+-- ---- what stands behind a node
+
+-- What stands behind a line is neither white nor a comment.
+pub record Shows (n : ℕ) (rest : Rest) : Type 0 where
+  pub solid : (e : Cursor) → e.bare ≡ true → e.white ≡ true → e.column ≡ n
+      → begins_solid (bytes (rest e)) ≡ true
+  pub calm : (e : Cursor) → e.bare ≡ true → e.white ≡ true → e.column ≡ n
+      → no_comment (bytes (rest e)) ≡ true
+
+-- A line of m columns and what comes behind it end a node whose innermost level is that or more: it stops plain and block scalars, and
+-- is no comment.
+pub record Ending (b : LineBreak) (m level : ℕ) (after : Rest) : Type 0 where
+  pub follows : Follows level (λ e. line b m e after)
+  pub feed : NoFeed m after
+  pub solid : (e : Cursor) → e.bare ≡ true → e.white ≡ true → e.column ≡ m
+      → begins_blank (bytes (after e)) ≡ false
+
+-- What shows ends what stands in a level right of it.
+abbrev pub ShownEnds : Type 0
+ShownEnds = (b : LineBreak) (n : ℕ) (after : Rest) → Shows n after → Ending b n (n + 1) after
+
+-- ---- nodes
+
+-- a spot outside of brackets
+abbrev pub block_spot : Option ℕ → Part → Spot
+block_spot around q = record { around = around; flow = false; part = q }
+
+-- the innermost level's column, 0 round a root
+abbrev pub column_round : Option ℕ → ℕ
+column_round None = 0
+column_round (Some n) = n
+
+-- Settings of pretty form, and the directives of a document that may be written.
+pub record IsPretty (s : Settings) (d : Opening) : Type 0 where
+  pub pretty : s.canonical ≡ false
+  pub least : 2 ≤ s.indent
+  pub most : s.indent ≤ 9
+  pub fine : IsWritableOpening d
+
+-- A node at a spot of a block, up to the line behind it, whose column isn't right of the innermost level: where a text goes on with the
+-- node and then with that line and `after`, right of the innermost level or at it, the node's tokens come. It begins with white, where
+-- the cursor isn't behind white.
+pub record NodeWalks (p : Context) (around : Option ℕ) (q : Part) (bare : Bool) (y : Node)
+    : Type 0 where
+  pub walks : (ls : List ℕ) (c : Cursor) (m : ℕ) (after : Rest) → c.bare ≡ bare
+      → indent ls ≡ margin_round around → m ≤ column_round around
+      → Ending p.settings.line_break m (indent ls) after
+      → (x : yaml_encoding_t) (text : List ℕ) (o : Where) (T : List TokenBody → List TokenBody)
+      → Stage x text c o ls [] T → indent ls ≤ column_at text o.at
+      → Left text o.at (bytes (node_layout p (block_spot around q) y c
+      (λ e. line p.settings.line_break m e after)))
+      → LinedUp x text after m (node_kept p false q y c.kept) ls
+      (λ bs. T (node_bodies p false q bare y bs))
+  pub white : (c : Cursor) (m : ℕ) (after : Rest) → c.white ≡ false
+      → begins_white (bytes (node_layout p (block_spot around q) y c
+      (λ e. line p.settings.line_break m e after))) ≡ true
+
+-- All nodes that may be written are walked so, at each spot of a block that isn't a simple key's.
+abbrev pub NodesAreWalked : Type 0
+NodesAreWalked = (s : Settings) (d : Opening) → IsPretty s d → (y : Node) → IsWritable y
+    → (around : Option ℕ) (q : Part) (bare : Bool) → is_simple_part q ≡ false
+    → NodeWalks (context_of s d.directives) around q bare y
+
+-- ---- what that stands on
+
+-- an alias or a scalar
+abbrev pub is_leaf : Node → Bool
+is_leaf (alias_node name) = true
+is_leaf (scalar_node v) = true
+is_leaf (sequence_node q items) = false
+is_leaf (mapping_node q pairs) = false
+
+abbrev pub LeavesAreWalked : Type 0
+LeavesAreWalked = (s : Settings) (d : Opening) → IsPretty s d → (y : Node) → IsWritable y
+    → is_leaf y ≡ true → (around : Option ℕ) (q : Part) (bare : Bool) → is_simple_part q ≡ false
+    → NodeWalks (context_of s d.directives) around q bare y
+
+-- a collection in brackets
+abbrev pub is_bracketed : Context → Node → Bool
+is_bracketed p (alias_node name) = false
+is_bracketed p (scalar_node v) = false
+is_bracketed p (sequence_node q items) = is_flow_at p false q (are_none items)
+is_bracketed p (mapping_node q pairs) = is_flow_at p false q (are_no_pairs pairs)
+
+abbrev pub BracketsAreWalked : Type 0
+BracketsAreWalked = (s : Settings) (d : Opening) → IsPretty s d → (y : Node) → IsWritable y
+    → is_bracketed (context_of s d.directives) y ≡ true
+    → (around : Option ℕ) (q : Part) (bare : Bool) → is_simple_part q ≡ false
+    → NodeWalks (context_of s d.directives) around q bare y
+
+-- Behind an anchor, a tag, or both, in their line.
+pub record Dressed (x : yaml_encoding_t) (text : List ℕ) (rest : Rest) (kept : Bool) (ls : List ℕ)
+    (T : List TokenBody → List TokenBody) : Type 0 where
+  pub cursor : Cursor
+  pub place : Where
+  pub stage : Stage x text cursor place ls [] T
+  pub left : Left text place.at (bytes (rest cursor))
+  pub bare : cursor.bare ≡ false
+  pub white : cursor.white ≡ false
+  pub right : indent ls ≤ column_at text place.at
+  pub same : cursor.kept ≡ kept
+
+-- white or nothing stands behind properties, or behind a key's `:`
+abbrev pub PartedBehind : Rest → Type 0
+PartedBehind rest = (e : Cursor) → e.bare ≡ false → e.white ≡ false
+    → begins_white (bytes (rest e)) ≡ true
+
+-- A node's properties, before its content.
+abbrev pub PropertiesAreWalked : Type 0
+PropertiesAreWalked = (s : Settings) (d : Opening) → IsPretty s d → (anchor tag : Option (List ℕ))
+    → IsWritableAnchor anchor → IsWritableTag tag → (has anchor || has tag) ≡ true
+    → (ls : List ℕ) (c : Cursor) (rest : Rest) → PartedBehind rest
+    → (x : yaml_encoding_t) (text : List ℕ) (o : Where) (T : List TokenBody → List TokenBody)
+    → Stage x text c o ls [] T → indent ls ≤ column_at text o.at
+    → Left text o.at (bytes (properties_text (context_of s d.directives) anchor tag c rest))
+    → Dressed x text rest c.kept ls
+    (λ bs. T (anchor_bodies anchor (tag_bodies d.directives tag bs)))
+
+-- ---- simple keys
+
+-- A simple key and its `:`, at a column of a bare line, at the innermost level that it leaves or right of it. What it writes shows, and
+-- no block scalar is in it.
+pub record KeyWalks (p : Context) (k : Node) : Type 0 where
+  pub walks : (x : yaml_encoding_t) (text : List ℕ) (n : ℕ) (kept : Bool) (ls more new : List ℕ)
+      (what : Opens) (T : List TokenBody → List TokenBody) (rest : Rest)
+      → Lined x text (λ e. (node_layout p (block_spot (Some n) part.SimpleKey) k ▹ char 58) e rest)
+      n kept ls more T
+      → indent ls ≤ n + 1 → Rises (n + 1) more → opened true (n + 1) ls ≡ new
+      → start_of 0 (n + 1) ls opening.Mapping ≡ what → PartedBehind rest
+      → Keyed x text rest n kept new (λ bs. T (start_bodies what (tokens.key
+      ∷ node_bodies p false part.SimpleKey false k (tokens.value ∷ bs))))
+  pub shows : (n : ℕ) (rest : Rest) → PartedBehind rest
+      → Shows n (λ e. (node_layout p (block_spot (Some n) part.SimpleKey) k ▹ char 58) e rest)
+  pub same : (kept : Bool) → node_kept p false part.SimpleKey k kept ≡ kept
+
+-- All simple keys that may be written.
+abbrev pub SimpleKeysAreWalked : Type 0
+SimpleKeysAreWalked = (s : Settings) (d : Opening) → IsPretty s d → (k : Node) → IsWritable k
+    → is_simple (context_of s d.directives) k ≡ true → KeyWalks (context_of s d.directives) k

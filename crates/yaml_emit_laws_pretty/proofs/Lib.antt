@@ -7,3 +7,4 @@ pub mod KeysWalk
 pub mod Singles
 pub mod KeysShow
 pub mod KeysShown
+pub mod SpokenWords

@@ -8,3 +8,4 @@ pub mod Singles
 pub mod KeysShow
 pub mod KeysShown
 pub mod SpokenWords
+pub mod SpokenLayouts

@@ -84,10 +84,10 @@ record Broken (x : yaml_encoding_t) (text : List ℕ) (c : Cursor) (rest : Rest)
   later : place.line < line_at text place.at
 
 return_ends_line : (text : List ℕ) (p : ℕ) → byte text p ≡ 13 → (byte text (p + 1) ≡ 10 → ⊥) → ends_break text p ≡ true
+unfolding ends_of
 return_ends_line text p e f = ap (λ (b : ℕ). ends_of (byte text (p - 2)) (byte text (p - 1)) b (byte text (p + 1))) e ∙ alone (byte text (p - 2)) (byte text (p - 1)) (byte text (p + 1)) f
   where
     alone : (b c d : ℕ) → (d ≡ 10 → ⊥) → ends_of b c 13 d ≡ true
-    unfolding ends_of
     alone b c d f = grind (arith, nat_tests)
 
 abbrev behind_white : Where → ℕ → Where

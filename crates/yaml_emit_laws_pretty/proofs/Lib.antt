@@ -7,7 +7,5 @@ pub mod KeysWalk
 pub mod Singles
 pub mod KeysShow
 pub mod KeysShown
-pub mod KeySteps
 pub mod SpokenWords
-pub mod LeafWords
-pub mod LeafProps
+pub mod SpokenLayouts

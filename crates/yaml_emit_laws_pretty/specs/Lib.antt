@@ -3,3 +3,4 @@ pub mod Walk
 pub mod KeyLaws
 pub mod Nodes
 pub mod Spoken
+pub mod Flows

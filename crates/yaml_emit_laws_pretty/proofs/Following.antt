@@ -56,6 +56,9 @@ blanks_column : (n : ℕ) (c : Cursor) → (after_blanks n c).column ≡ c.colum
 blanks_column zero c = omega arith
 blanks_column (suc n) c = let e = blanks_column n (spaced_by c) in omega (arith, e)
 
+start_column : (n : ℕ) (e : Cursor) → (after_blanks n (line_start e)).column ≡ n
+start_column n e = let z = blanks_column n (line_start e) in omega (arith, z)
+
 line_bytes : (b : LineBreak) (n : ℕ) (c : Cursor) (rest : Rest) → c.bare ≡ false → bytes (line b n c rest) ≡ break_text b ++ (replicate n 32 ++ bytes (rest (after_blanks n (line_start c))))
 line_bytes b n c rest bare =
     let e = after_blanks n (line_start c) in
@@ -66,9 +69,9 @@ pub follows_line : (b : LineBreak) (n : ℕ) (rest : Rest) → Shows n rest → 
 follows_line b n rest shows = record {
   stops = λ level low e bare. let d = after_blanks n (line_start e) in
       ap (λ bs. stops_plain_at false level None bs) (line_bytes b n e rest bare) ∙ (behind_lines false level n (bytes (rest d))).0 b None
-      ∙ (what_stops false level None).4 n (bytes (rest d)) (omega (arith, low)) (shows.solid d (blanks_bare n (line_start e) refl) (blanks_white n (line_start e) refl) (blanks_column n (line_start e)));
+      ∙ (what_stops false level None).4 n (bytes (rest d)) (omega (arith, low)) (shows.solid d (blanks_bare n (line_start e) refl) (blanks_white n (line_start e) refl) (start_column n e));
   calm = λ e bare. let d = after_blanks n (line_start e) in
-      ap (λ bs. no_comment bs) (line_bytes b n e rest bare) ∙ line_calm b n (bytes (rest d)) ∙ shows.calm d (blanks_bare n (line_start e) refl) (blanks_white n (line_start e) refl) (blanks_column n (line_start e));
+      ap (λ bs. no_comment bs) (line_bytes b n e rest bare) ∙ line_calm b n (bytes (rest d)) ∙ shows.calm d (blanks_bare n (line_start e) refl) (blanks_white n (line_start e) refl) (start_column n e);
   white = λ e bare. let d = after_blanks n (line_start e) in
       ap (λ bs. begins_white bs) (line_bytes b n e rest bare) ∙ line_white b (replicate n 32 ++ bytes (rest d));
 }

@@ -7,5 +7,13 @@ pub mod KeysWalk
 pub mod Singles
 pub mod KeysShow
 pub mod KeysShown
+pub mod NodeLines
+pub mod NodeItems
+pub mod NodePairs
+pub mod NodeBlocks
+pub mod NodeWalks
 pub mod SpokenWords
 pub mod SpokenLayouts
+pub mod KeySteps
+pub mod LeafWords
+pub mod LeafProps

@@ -16,7 +16,7 @@ use Rattle.yaml_emit_laws_text.specs.emit_layout.declared.level.Part.TheVariants
 use Rattle.yaml_emit_laws_text.specs.emit_layout.declared.level.Spot.{Spot}
 use Rattle.yaml_emit_laws_text.specs.emit_layout.Content.{Opening, Node, alias_node, scalar_node, sequence_node, mapping_node}
 use Rattle.yaml_emit_laws_text.specs.emit_layout.Grammar.{has}
-use Rattle.yaml_emit_laws_text.specs.emit_layout.Nodes.{Context, context_of, is_simple, is_simple_part, are_none, are_no_pairs, node_layout, properties_text}
+use Rattle.yaml_emit_laws_text.specs.emit_layout.Nodes.{Context, context_of, is_simple, is_simple_part, is_of_mapping, are_none, are_no_pairs, node_layout, properties_text}
 use Rattle.yaml_emit_laws_text.specs.Bodies.{anchor_bodies, tag_bodies}
 use Rattle.yaml_emit_laws_text.specs.Walk.{Left, bytes}
 use Rattle.yaml_emit_laws_text.specs.Writable.{IsWritable, IsWritableAnchor, IsWritableTag, IsWritableOpening}
@@ -62,6 +62,11 @@ abbrev pub column_round : Option ℕ → ℕ
 column_round None = 0
 column_round (Some n) = n
 
+-- a root is an item, and no simple key is walked so
+abbrev pub is_place : Option ℕ → Part → Bool
+is_place None q = not (is_of_mapping q)
+is_place (Some n) q = not (is_simple_part q)
+
 -- Settings of pretty form, and the directives of a document that may be written.
 pub record IsPretty (s : Settings) (d : Opening) : Type 0 where
   pub pretty : s.canonical ≡ false
@@ -90,7 +95,7 @@ pub record NodeWalks (p : Context) (around : Option ℕ) (q : Part) (bare : Bool
 -- All nodes that may be written are walked so, at each spot of a block that isn't a simple key's.
 abbrev pub NodesAreWalked : Type 0
 NodesAreWalked = (s : Settings) (d : Opening) → IsPretty s d → (y : Node) → IsWritable y
-    → (around : Option ℕ) (q : Part) (bare : Bool) → is_simple_part q ≡ false
+    → (around : Option ℕ) (q : Part) (bare : Bool) → is_place around q ≡ true
     → NodeWalks (context_of s d.directives) around q bare y
 
 -- ---- what that stands on
@@ -169,3 +174,8 @@ pub record KeyWalks (p : Context) (k : Node) : Type 0 where
 abbrev pub SimpleKeysAreWalked : Type 0
 SimpleKeysAreWalked = (s : Settings) (d : Opening) → IsPretty s d → (k : Node) → IsWritable k
     → is_simple (context_of s d.directives) k ≡ true → KeyWalks (context_of s d.directives) k
+
+-- With these laws all nodes are walked.
+abbrev pub NodesFollow : Type 0
+NodesFollow = LeavesAreWalked → BracketsAreWalked → PropertiesAreWalked → SimpleKeysAreWalked
+    → NodesAreWalked

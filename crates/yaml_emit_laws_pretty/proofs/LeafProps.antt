@@ -29,7 +29,7 @@ use Rattle.yaml_scan_laws_texts.proofs.NamesRead.{anchor_is_read}
 use Rattle.yaml_emit_laws_scalars.specs.Stops.{begins_white}
 use Rattle.yaml_emit_laws_scalars.proofs.Lines.{bool_cases}
 use Rattle.yaml_emit_laws_pretty.specs.Spoken.{Spoken, spoken_bytes, all_bytes, all_bodies, AllFit, Fits}
-use Rattle.yaml_emit_laws_pretty.proofs.SpokenWords.{anchor_word, split_word, tag_word, mark_word}
+use Rattle.yaml_emit_laws_pretty.proofs.SpokenWords.{anchor_word, tag_word, mark_word}
 
 -- ---- bytes above the controls
 
@@ -251,7 +251,7 @@ dress_word flow level w xs c calm some spaced own r b more marked B s fit =
     }
 
 dress_mark : (flow : Bool) (level : ℕ) (m : Bool) (c : Cursor) → Dress flow level (when m (word (33 ∷ []))) c m m (λ bs. mark_bodies m bs)
-unfolding mark_word dress_none
+unfolding dress_none
 dress_mark flow level false c = dress_none flow level c false
 dress_mark flow level true c =
     let calm : AreCalm (33 ∷ []) = (calm_from 33 (omega arith) (omega arith), tt) in
@@ -264,7 +264,6 @@ has_some (Some t) b = true
 
 dress_tag : (flow : Bool) (level : ℕ) (o : Opening) → IsWritableOpening o → (s : Settings) (tag : Option (List ℕ)) → IsWritableTag tag → (m : Bool) (c : Cursor)
     → Dress flow level (tag_text (context_of s o.directives) tag ▹ when m (word (33 ∷ []))) c (has_some tag m) m (λ bs. tag_bodies o.directives tag (mark_bodies m bs))
-unfolding tag_word split_word
 dress_tag flow level o good s None w m c = dress_mark flow level m c
 dress_tag flow level o good s (Some t) w m c =
     let xs = spelled (split_tag o.directives t) in
@@ -276,7 +275,6 @@ dress_tag flow level o good s (Some t) w m c =
 -- an anchor, a tag and the `!`
 pub dress_all : (flow : Bool) (level : ℕ) (o : Opening) → IsWritableOpening o → (s : Settings) (anchor tag : Option (List ℕ)) → IsWritableAnchor anchor → IsWritableTag tag → (m : Bool) (c : Cursor)
     → Dress flow level (anchor_text anchor ▹ (tag_text (context_of s o.directives) tag ▹ when m (word (33 ∷ [])))) c (has_some anchor (has_some tag m)) m (λ bs. anchor_bodies anchor (tag_bodies o.directives tag (mark_bodies m bs)))
-unfolding anchor_word
 dress_all flow level o good s None tag a t m c = dress_tag flow level o good s tag t m c
 dress_all flow level o good s (Some name) tag (some, are) t m c =
     let calm : AreCalm (38 ∷ name) = (calm_from 38 (omega arith) (omega arith), alphas_calm name are) in

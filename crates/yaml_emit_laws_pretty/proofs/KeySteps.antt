@@ -180,14 +180,14 @@ abbrev pub front : Bool → ℕ
 front b = if b then 1 else 0
 
 -- behind the space in front of a word, if any
-record Fronted (x : yaml_encoding_t) (text : List ℕ) (q d p : ℕ) (cs ls : List ℕ) (T K : List TokenBody → List TokenBody) (spaced : Bool) (own bs : List ℕ) : Type 0 where
-  at : ℕ
-  up : q ≤ at
-  far : at + length own ≡ q + length (if spaced then 32 ∷ own else own)
-  runs : KeyRuns x text at d p cs ls T K
-  left : Left text at (own ++ bs)
+pub record Fronted (x : yaml_encoding_t) (text : List ℕ) (q d p : ℕ) (cs ls : List ℕ) (T K : List TokenBody → List TokenBody) (spaced : Bool) (own bs : List ℕ) : Type 0 where
+  pub at : ℕ
+  pub up : q ≤ at
+  pub far : at + length own ≡ q + length (if spaced then 32 ∷ own else own)
+  pub runs : KeyRuns x text at d p cs ls T K
+  pub left : Left text at (own ++ bs)
 
-key_front : (x : yaml_encoding_t) (text : List ℕ) (q d p : ℕ) (cs ls : List ℕ) (T K : List TokenBody → List TokenBody) (spaced : Bool) (own bs : List ℕ) → KeyRuns x text q d p cs ls T K → Left text q ((if spaced then 32 ∷ own else own) ++ bs) → Fronted x text q d p cs ls T K spaced own bs
+pub key_front : (x : yaml_encoding_t) (text : List ℕ) (q d p : ℕ) (cs ls : List ℕ) (T K : List TokenBody → List TokenBody) (spaced : Bool) (own bs : List ℕ) → KeyRuns x text q d p cs ls T K → Left text q ((if spaced then 32 ∷ own else own) ++ bs) → Fronted x text q d p cs ls T K spaced own bs
 key_front x text q d p cs ls T K false own bs r l = record { at = q; up = omega arith; far = refl; runs = r; left = l }
 key_front x text q d p cs ls T K true own bs r l = record {
   at = q + 1;

@@ -4,6 +4,7 @@ use Rattle.std.specs.Prelude.{if◌then◌else◌}
 use Rattle.std.proofs.lemmas.Bool.{cases_Bool}
 use Rattle.std.proofs.lemmas.Bool.Decides.{nat_tests}
 use Rattle.yaml_emit_laws_text.specs.emit_layout.scan.Tokens.{TokenBody}
+use Rattle.yaml_emit_laws_text.specs.scan_history.declared.kind.Kind.TheVariants as kinds
 use Rattle.yaml_emit_laws_text.specs.scan_history.scan_model.Classes.{is_alpha_byte, is_digit_byte}
 use Rattle.yaml_emit_laws_text.specs.scan_history.scan_words.Written.{are_alphas}
 use Rattle.yaml_emit_laws_text.specs.emit_layout.emit_text.declared.Cursor.{Cursor}
@@ -184,6 +185,11 @@ abbrev pub has_words : {flow : Bool} {level : ℕ} → List (Spoken flow level) 
 has_words {flow} {level} [] = false
 has_words {flow} {level} (w ∷ ws) = true
 
+-- none of them is a plain scalar
+abbrev pub NonePlain : {flow : Bool} {level : ℕ} → List (Spoken flow level) → Type 0
+NonePlain {flow} {level} [] = Unit {0}
+NonePlain {flow} {level} (w ∷ ws) = (w.kind ≡ kinds.Plain → ⊥) × NonePlain ws
+
 -- What a layout of properties writes is words; by whether there are any, and whether the last one wants a space.
 pub record Dress (flow : Bool) (level : ℕ) (a : Layout) (c : Cursor) (some marked : Bool) (B : List TokenBody → List TokenBody) : Type 0 where
   pub words : List (Spoken flow level)
@@ -197,6 +203,7 @@ pub record Dress (flow : Bool) (level : ℕ) (a : Layout) (c : Cursor) (some mar
   pub bodies : (bs : List TokenBody) → all_bodies words bs ≡ B bs
   pub moved : Moved words c behind
   pub leads : Leads words c
+  pub named : NonePlain words
   pub has : has_words words ≡ some
 
 dress_none : (flow : Bool) (level : ℕ) (c : Cursor) (marked : Bool) → Dress flow level stay c false marked (λ bs. bs)
@@ -212,6 +219,7 @@ dress_none flow level c marked = record {
   bodies = λ bs. refl;
   moved = refl;
   leads = tt;
+  named = tt;
   has = refl;
 }
 
@@ -230,9 +238,9 @@ moved_on (w ∷ ws) c e bare white m = m
 -- one word in front of others
 dress_word : (flow : Bool) (level : ℕ) (w : Spoken flow level) (xs : List ℕ) (c : Cursor) → AreCalm xs → (some : 0 < length xs) → w.spaced ≡ not c.white → w.own ≡ xs → (r : Wrote xs c) → (b : Layout) (more marked : Bool) (B : List TokenBody → List TokenBody)
     → (s : Dress flow level b r.behind more marked B)
-    → ((bs : List ℕ) → begins_white bs ≡ true → (marked ≡ true → first bs ≡ 32) → begins_white (all_bytes s.words ++ bs) ≡ true → Fits w.wants flow level (all_bytes s.words ++ bs))
+    → ((bs : List ℕ) → begins_white bs ≡ true → (marked ≡ true → first bs ≡ 32) → begins_white (all_bytes s.words ++ bs) ≡ true → Fits w.wants flow level (all_bytes s.words ++ bs)) → (w.kind ≡ kinds.Plain → ⊥)
     → Dress flow level (word xs ▹ b) c true marked (λ bs. w.body ∷ B bs)
-dress_word flow level w xs c calm some spaced own r b more marked B s fit =
+dress_word flow level w xs c calm some spaced own r b more marked B s fit name =
     let own_bytes : spoken_bytes w ≡ (if not c.white then 32 ∷ xs else xs) = ap (λ (t : Bool). if t then 32 ∷ w.own else w.own) spaced ∙ ap (λ (ys : List ℕ). if not c.white then 32 ∷ ys else ys) own in
     record {
       words = w ∷ s.words;
@@ -247,8 +255,15 @@ dress_word flow level w xs c calm some spaced own r b more marked B s fit =
       bodies = λ bs. ap (λ (ds : List TokenBody). w.body ∷ ds) (s.bodies bs);
       moved = moved_on s.words r.behind s.behind r.bare r.white s.moved;
       leads = (spaced, subst (λ (ys : List ℕ). 0 < length ys) (sym own) some, subst (λ (ys : List ℕ). AreCalm ys) (sym own) calm);
+      named = (name, s.named);
       has = refl;
     }
+
+no_tag : kinds.Tag ≡ kinds.Plain → ⊥
+no_tag e = cc
+
+no_anchor : kinds.Anchor ≡ kinds.Plain → ⊥
+no_anchor e = cc
 
 dress_mark : (flow : Bool) (level : ℕ) (m : Bool) (c : Cursor) → Dress flow level (when m (word (33 ∷ []))) c m m (λ bs. mark_bodies m bs)
 unfolding dress_none
@@ -256,7 +271,7 @@ dress_mark flow level false c = dress_none flow level c false
 dress_mark flow level true c =
     let calm : AreCalm (33 ∷ []) = (calm_from 33 (omega arith) (omega arith), tt) in
     let r = word_wrote (33 ∷ []) calm (omega arith) c in
-    dress_word flow level (mark_word lone_mark_is_read flow level (not c.white)) (33 ∷ []) c calm (omega arith) refl refl r stay false true (λ bs. bs) (dress_none flow level r.behind true) (λ bs h k f. k refl)
+    dress_word flow level (mark_word lone_mark_is_read flow level (not c.white)) (33 ∷ []) c calm (omega arith) refl refl r stay false true (λ bs. bs) (dress_none flow level r.behind true) (λ bs h k f. k refl) no_tag
 
 abbrev pub has_some : Option (List ℕ) → Bool → Bool
 has_some None b = b
@@ -270,7 +285,7 @@ dress_tag flow level o good s (Some t) w m c =
     let calm = tag_calm o good t w in
     let some = tag_some o good t w in
     let r = word_wrote xs calm some c in
-    dress_word flow level (tag_word split_read spelled_ascii written_readable flow level (not c.white) o good t w) xs c calm some refl refl r (when m (word (33 ∷ []))) m m (λ bs. mark_bodies m bs) (dress_mark flow level m r.behind) (λ bs h k f. f)
+    dress_word flow level (tag_word split_read spelled_ascii written_readable flow level (not c.white) o good t w) xs c calm some refl refl r (when m (word (33 ∷ []))) m m (λ bs. mark_bodies m bs) (dress_mark flow level m r.behind) (λ bs h k f. f) no_tag
 
 -- an anchor, a tag and the `!`
 pub dress_all : (flow : Bool) (level : ℕ) (o : Opening) → IsWritableOpening o → (s : Settings) (anchor tag : Option (List ℕ)) → IsWritableAnchor anchor → IsWritableTag tag → (m : Bool) (c : Cursor)
@@ -280,4 +295,4 @@ dress_all flow level o good s (Some name) tag (some, are) t m c =
     let calm : AreCalm (38 ∷ name) = (calm_from 38 (omega arith) (omega arith), alphas_calm name are) in
     let r = word_wrote (38 ∷ name) calm (omega arith) c in
     dress_word flow level (anchor_word anchor_is_read flow level (not c.white) name (some, are)) (38 ∷ name) c calm (omega arith) refl refl r (tag_text (context_of s o.directives) tag ▹ when m (word (33 ∷ []))) (has_some tag m) m
-    (λ bs. tag_bodies o.directives tag (mark_bodies m bs)) (dress_tag flow level o good s tag t m r.behind) (λ bs h k f. f)
+    (λ bs. tag_bodies o.directives tag (mark_bodies m bs)) (dress_tag flow level o good s tag t m r.behind) (λ bs h k f. f) no_anchor

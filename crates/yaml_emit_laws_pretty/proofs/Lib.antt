@@ -17,3 +17,4 @@ pub mod SpokenLayouts
 pub mod KeySteps
 pub mod LeafWords
 pub mod LeafProps
+pub mod KeyColumns

@@ -19,3 +19,9 @@ pub mod NodeItems
 pub mod NodePairs
 pub mod NodeBlocks
 pub mod NodeWalks
+pub mod SpokenWords
+pub mod SpokenLayouts
+pub mod KeySteps
+pub mod LeafWords
+pub mod LeafProps
+pub mod KeyColumns

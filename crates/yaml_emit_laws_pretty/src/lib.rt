@@ -6,6 +6,6 @@ mod laws;
 
 pub use doc_laws::documents_are_read;
 pub use laws::{
-    key_is_shown, key_is_walked, line_ends_node, line_is_walked, mark_is_walked, nodes_follow, plain_is_walked, shown_ends,
-    single_is_walked,
+    key_is_shown, key_is_walked, line_ends_node, line_is_walked, mark_is_walked, nodes_follow,
+    plain_is_walked, shown_ends, single_is_walked,
 };

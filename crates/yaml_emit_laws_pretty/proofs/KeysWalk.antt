@@ -75,7 +75,7 @@ column_first text q h s = elim (cases_Bool (ends_break text q)) [
 ]
 
 -- behind what begins with a character's first byte the column is greater
-columns_grow : (text : List ℕ) (p k : ℕ) → line_at text (p + suc k) ≤ line_at text p → starts (byte text p) ≡ true → column_at text p + 1 ≤ column_at text (p + suc k)
+pub columns_grow : (text : List ℕ) (p k : ℕ) → line_at text (p + suc k) ≤ line_at text p → starts (byte text p) ≡ true → column_at text p + 1 ≤ column_at text (p + suc k)
 columns_grow text p k h s =
     let far : p + suc k ≡ suc p + k = omega arith in
     let h1 : line_at text (suc p + k) ≤ line_at text p = subst (λ q. line_at text q ≤ line_at text p) far h in
@@ -85,7 +85,7 @@ columns_grow text p k h s =
     let rest = columns_rise text (suc p) k (omega (arith, h1, up)) in
     subst (λ q. column_at text p + 1 ≤ column_at text q) (sym far) (omega (arith, one, rest))
 
-low_starts : (b : ℕ) → b < 128 → starts b ≡ true
+pub low_starts : (b : ℕ) → b < 128 → starts b ≡ true
 low_starts b h = grind (arith, nat_tests)
 
 high_starts : (b : ℕ) → 192 ≤ b → starts b ≡ true

@@ -14,6 +14,7 @@ pub mod DocDirectives
 pub mod DocEnds
 pub mod DocOpens
 pub mod DocText
+pub mod LeafBlocks
 pub mod NodeLines
 pub mod NodeItems
 pub mod NodePairs

@@ -26,3 +26,5 @@ pub mod KeySteps
 pub mod LeafWords
 pub mod LeafProps
 pub mod KeyColumns
+pub mod LeafDress
+pub mod LeafNodes

@@ -14,8 +14,17 @@ pub mod DocDirectives
 pub mod DocEnds
 pub mod DocOpens
 pub mod DocText
+pub mod LeafBlocks
 pub mod NodeLines
 pub mod NodeItems
 pub mod NodePairs
 pub mod NodeBlocks
 pub mod NodeWalks
+pub mod SpokenWords
+pub mod SpokenLayouts
+pub mod KeySteps
+pub mod LeafWords
+pub mod LeafProps
+pub mod KeyColumns
+pub mod LeafDress
+pub mod LeafNodes

@@ -3,3 +3,5 @@ pub mod Walk
 pub mod KeyLaws
 pub mod Nodes
 pub mod DocLaws
+pub mod Spoken
+pub mod Flows

@@ -2,10 +2,14 @@
 #![tactic(auto)]
 
 mod doc_laws;
+mod flows;
 mod laws;
+mod leaf_laws;
 
 pub use doc_laws::documents_are_read;
+pub use flows::flow_trial;
 pub use laws::{
-    key_is_shown, key_is_walked, line_ends_node, line_is_walked, mark_is_walked, nodes_follow, plain_is_walked, shown_ends,
-    single_is_walked,
+    key_is_shown, key_is_walked, line_ends_node, line_is_walked, mark_is_walked, nodes_follow,
+    plain_is_walked, shown_ends, single_is_walked,
 };
+pub use leaf_laws::{block_scalars_are_walked, leaves_are_walked, properties_are_walked, simple_keys_are_walked};

@@ -20,9 +20,9 @@ use Rattle.yaml_round_laws_users.specs.Laws.{FormTellsBeginning}
 pub begins_so : (from : yaml_encoding_t) (input : List ℕ) → BeginsWithNothing from input → begins_with_nothing (emitter_events false (events_of from input)) ≡ true
 begins_so from input n = subst (λ (es : List Told). begins_with_nothing (emitter_events false es) ≡ true) (events_are from input n.events n.of_input) n.begins
 
-due_begins : (b : Bool) (from : yaml_encoding_t) (input : List ℕ) → b ≡ false → IsCanonicalDue b from input → BeginsWithNothing from input
-due_begins true from input e due = absurd (true≢false e)
-due_begins false from input e due = due
+due_begins : (b : Bool) (from : yaml_encoding_t) (s : yaml_settings_t) (input : List ℕ) → b ≡ false → IsCanonicalDue b from s input → BeginsWithNothing from input
+due_begins true from s input e due = absurd (true≢false e)
+due_begins false from s input e due = due.0
 
 -- pretty text that reads back is of an input that begins with something
 lost : (from : yaml_encoding_t) (s : yaml_settings_t) (input text : List ℕ) → IsLaidOut from input s false text → ReadsBack from input text → BeginsWithNothing from input → ⊥
@@ -37,5 +37,5 @@ is_canonical Pretty = false
 
 pub tells : FormTellsBeginning
 unfolding IsReformatted
-tells from s input text Canonical e h = (λ same. due_begins s.canonical from input e h.0, λ n. refl)
+tells from s input text Canonical e h = (λ same. due_begins s.canonical from s input e h.0, λ n. refl)
 tells from s input text Pretty e h = (λ same. absurd (true≢false (sym (ap is_canonical same))), λ n. absurd (lost from s input text h.1.0 h.1.1 n))

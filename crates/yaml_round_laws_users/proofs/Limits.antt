@@ -103,9 +103,9 @@ deep_long from s input c h deep =
 pub form_passes : CanonicalFormPassesColumns
 form_passes from s input c h = (λ k. long_deep from s input c h k, λ deep. deep_long from s input c h deep)
 
-due : (b : Bool) (from : yaml_encoding_t) (input : List ℕ) → b ≡ true → IsCanonicalDue b from input
-due true from input e = tt
-due false from input e = absurd (true≢false (sym e))
+due : (b : Bool) (from : yaml_encoding_t) (s : yaml_settings_t) (input : List ℕ) → b ≡ true → IsCanonicalDue b from s input
+due true from s input e = tt
+due false from s input e = absurd (true≢false (sym e))
 
 pub reformats : ReformatsNameColumns
 unfolding IsReformatted
@@ -117,7 +117,7 @@ reformats from s input c h canonical = (
       | inr b ↦ long_deep from s input c h b.1
     ]
   ],
-  λ deep. inr (inr (due s.canonical from input canonical, deep_long from s input c h deep)),
+  λ deep. inr (inr (due s.canonical from s input canonical, deep_long from s input c h deep)),
 )
 
 pub keeps : CanonicalAnswersKeepColumns

@@ -145,22 +145,27 @@ IsInCanonicalForm from settings input (Ok (text, Pretty)) = ⊥
 IsInCanonicalForm from settings input (Err fault) = IsFaulty from input fault
     ⊎ IsTooLong from input settings true fault
 
--- Canonical form is due: it is asked for, or the input begins with nothing.
-abbrev pub IsCanonicalDue : Bool → yaml_encoding_t → List ℕ → Type 0
-IsCanonicalDue true from input = Unit {0}
-IsCanonicalDue false from input = BeginsWithNothing from input
+-- its pretty layout passes no limit
+abbrev pub FitsInPretty : yaml_encoding_t → yaml_settings_t → List ℕ → Type 0
+FitsInPretty from settings input = (pretty : List ℕ) × IsLaidOut from input settings false pretty
+
+-- Canonical form is due: it is asked for; or the input begins with nothing, and no limit is passed before.
+abbrev pub IsCanonicalDue : Bool → yaml_encoding_t → yaml_settings_t → List ℕ → Type 0
+IsCanonicalDue true from settings input = Unit {0}
+IsCanonicalDue false from settings input = BeginsWithNothing from input
+    × FitsInPretty from settings input
 
 -- The engine may answer this to the input under the settings: the form that is due, where canonical form is a normal form and
 -- pretty form reads back; the input's fault; or the limit that a form that is due passes.
 unfoldable pub IsReformatted : yaml_encoding_t → yaml_settings_t → List ℕ
     → Result (List ℕ × yaml_form_t) Fault → Type 0
 IsReformatted from settings input (Ok (text, Canonical)) = IsCanonicalDue settings.canonical from
-    input × (IsLaidOut from input settings true text
+    settings input × (IsLaidOut from input settings true text
     × IsNormalForm from settings input text)
 IsReformatted from settings input (Ok (text, Pretty)) = (settings.canonical ≡ false)
     × (IsLaidOut from input settings false text × ReadsBack from input text)
 IsReformatted from settings input (Err fault) =
     IsFaulty from input fault
     ⊎ (((settings.canonical ≡ false) × IsTooLong from input settings false fault)
-    ⊎ (IsCanonicalDue settings.canonical from input
+    ⊎ (IsCanonicalDue settings.canonical from settings input
     × IsTooLong from input settings true fault))

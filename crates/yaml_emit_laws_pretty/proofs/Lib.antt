@@ -18,3 +18,4 @@ pub mod KeySteps
 pub mod LeafWords
 pub mod LeafProps
 pub mod KeyColumns
+pub mod KeyForms

@@ -19,3 +19,4 @@ pub mod LeafWords
 pub mod LeafProps
 pub mod KeyColumns
 pub mod KeyForms
+pub mod KeyKinds

@@ -1,7 +1,7 @@
 use Rattle.yaml_emit_laws_pretty.proofs.KeySteps.{key_first, key_more}
 use Rattle.yaml_emit_laws_pretty.proofs.LeafWords.{content_words}
 use Rattle.yaml_emit_laws_pretty.proofs.LeafProps.{Dress}
-use Rattle.yaml_emit_laws_pretty.proofs.KeyKinds.{scalar_says}
+use Rattle.yaml_emit_laws_pretty.proofs.KeyKinds.{key_form}
 use Rattle.yaml_emit_laws_pretty.proofs.leaf_laws.simple_keys_are_walked.Goals as goal
 
 pub returns : goal.returns

@@ -32,7 +32,7 @@ blanks_bare : (n : ℕ) (c : Cursor) → c.bare ≡ true → (after_blanks n c).
 blanks_bare zero c e = e
 blanks_bare (suc n) c e = blanks_bare n (spaced_by c) e
 
-blanks_white : (n : ℕ) (c : Cursor) → c.white ≡ true → (after_blanks n c).white ≡ true
+pub blanks_white : (n : ℕ) (c : Cursor) → c.white ≡ true → (after_blanks n c).white ≡ true
 blanks_white zero c e = e
 blanks_white (suc n) c e = blanks_white n (spaced_by c) refl
 
@@ -41,13 +41,13 @@ unfolding no_comment
 spaces_calm zero bs = refl
 spaces_calm (suc n) bs = spaces_calm n bs
 
-line_calm : (b : LineBreak) (n : ℕ) (bs : List ℕ) → no_comment (break_text b ++ (replicate n 32 ++ bs)) ≡ no_comment bs
+pub line_calm : (b : LineBreak) (n : ℕ) (bs : List ℕ) → no_comment (break_text b ++ (replicate n 32 ++ bs)) ≡ no_comment bs
 unfolding no_comment
 line_calm Lf n bs = spaces_calm n bs
 line_calm Cr n bs = spaces_calm n bs
 line_calm CrLf n bs = spaces_calm n bs
 
-line_white : (b : LineBreak) (bs : List ℕ) → begins_white (break_text b ++ bs) ≡ true
+pub line_white : (b : LineBreak) (bs : List ℕ) → begins_white (break_text b ++ bs) ≡ true
 line_white Lf bs = refl
 line_white Cr bs = refl
 line_white CrLf bs = refl
@@ -59,7 +59,7 @@ blanks_column (suc n) c = let e = blanks_column n (spaced_by c) in omega (arith,
 start_column : (n : ℕ) (e : Cursor) → (after_blanks n (line_start e)).column ≡ n
 start_column n e = let z = blanks_column n (line_start e) in omega (arith, z)
 
-line_bytes : (b : LineBreak) (n : ℕ) (c : Cursor) (rest : Rest) → c.bare ≡ false → bytes (line b n c rest) ≡ break_text b ++ (replicate n 32 ++ bytes (rest (after_blanks n (line_start c))))
+pub line_bytes : (b : LineBreak) (n : ℕ) (c : Cursor) (rest : Rest) → c.bare ≡ false → bytes (line b n c rest) ≡ break_text b ++ (replicate n 32 ++ bytes (rest (after_blanks n (line_start c))))
 line_bytes b n c rest bare =
     let e = after_blanks n (line_start c) in
     ap (λ t. bytes t) (line_is b n c rest bare) ∙ front_encodes (break_text b ++ replicate n 32) (rest e)

@@ -7,6 +7,14 @@ pub mod KeysWalk
 pub mod Singles
 pub mod KeysShow
 pub mod KeysShown
+pub mod DocStarts
+pub mod DocLines
+pub mod DocWords
+pub mod DocDirectives
+pub mod DocEnds
+pub mod DocOpens
+pub mod DocText
+pub mod LeafBlocks
 pub mod NodeLines
 pub mod NodeItems
 pub mod NodePairs

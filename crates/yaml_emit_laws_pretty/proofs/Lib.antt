@@ -28,3 +28,4 @@ pub mod LeafProps
 pub mod KeyColumns
 pub mod KeyForms
 pub mod KeyKinds
+pub mod KeyLeaves

@@ -12,4 +12,4 @@ pub use laws::{
     key_is_shown, key_is_walked, line_ends_node, line_is_walked, mark_is_walked, nodes_follow,
     plain_is_walked, shown_ends, single_is_walked,
 };
-pub use leaf_laws::simple_keys_are_walked;
+pub use leaf_laws::{keys_are_walked_in, simple_keys_are_walked};

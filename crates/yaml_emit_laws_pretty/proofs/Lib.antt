@@ -29,3 +29,5 @@ pub mod KeyColumns
 pub mod KeyForms
 pub mod KeyKinds
 pub mod KeyLeaves
+pub mod LeafDress
+pub mod LeafNodes

@@ -1,26 +1,31 @@
-//! Laws of simple keys.
+//! Laws of leaves and of properties.
 
-ghost use Rattle.yaml_emit_laws_pretty.specs.Flows.{KeysAreWalkedIn};
-ghost use Rattle.yaml_emit_laws_pretty.specs.Nodes.{SimpleKeysAreWalked};
+ghost use Rattle.yaml_emit_laws_pretty.specs.Nodes.{BlockScalarsAreWalked, LeavesAreWalked, PropertiesAreWalked};
 
-use yaml_emit_laws_scalars::{plain_has_a_gap, scalars_are_words, single_lines_are_read_back, styles_are_allowed};
+use yaml_emit_laws_scalars::{plain_has_a_gap, styles_are_allowed};
+use yaml_emit_laws_text::quoted_is_read_back;
 
-/// A simple key and its `:` are walked in a block, whatever it is.
-pub fn simple_keys_are_walked()
-    ensures { SimpleKeysAreWalked }
+use crate::laws::{plain_is_walked, single_is_walked};
+
+/// An anchor, a tag, or both are walked.
+pub fn properties_are_walked()
+    ensures { PropertiesAreWalked }
+{}
+
+/// Aliases and scalars in a line or in quotes are walked.
+pub fn leaves_are_walked()
+    ensures { LeavesAreWalked }
 {
-    plain_has_a_gap();
-    scalars_are_words();
-    single_lines_are_read_back();
+    plain_is_walked();
+    single_is_walked();
+    quoted_is_read_back();
     styles_are_allowed();
+    plain_has_a_gap();
 }
 
-/// A simple key and its `:` are walked in brackets, whatever it is.
-pub fn keys_are_walked_in()
-    ensures { KeysAreWalkedIn }
+/// Literal and folded scalars are walked.
+pub fn block_scalars_are_walked()
+    ensures { BlockScalarsAreWalked }
 {
     plain_has_a_gap();
-    scalars_are_words();
-    single_lines_are_read_back();
-    styles_are_allowed();
 }

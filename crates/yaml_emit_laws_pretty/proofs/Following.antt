@@ -56,7 +56,7 @@ blanks_column : (n : ℕ) (c : Cursor) → (after_blanks n c).column ≡ c.colum
 blanks_column zero c = omega arith
 blanks_column (suc n) c = let e = blanks_column n (spaced_by c) in omega (arith, e)
 
-line_bytes : (b : LineBreak) (n : ℕ) (c : Cursor) (rest : Rest) → c.bare ≡ false → bytes (line b n c rest) ≡ break_text b ++ (replicate n 32 ++ bytes (rest (after_blanks n (line_start c))))
+pub line_bytes : (b : LineBreak) (n : ℕ) (c : Cursor) (rest : Rest) → c.bare ≡ false → bytes (line b n c rest) ≡ break_text b ++ (replicate n 32 ++ bytes (rest (after_blanks n (line_start c))))
 line_bytes b n c rest bare =
     let e = after_blanks n (line_start c) in
     ap (λ t. bytes t) (line_is b n c rest bare) ∙ front_encodes (break_text b ++ replicate n 32) (rest e)

@@ -9,3 +9,4 @@ pub mod KeysShow
 pub mod KeysShown
 pub mod SpokenWords
 pub mod SpokenLayouts
+pub mod FlowSteps

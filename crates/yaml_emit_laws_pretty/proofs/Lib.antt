@@ -10,3 +10,4 @@ pub mod KeysShown
 pub mod SpokenWords
 pub mod SpokenLayouts
 pub mod FlowSteps
+pub mod FlowSigns

@@ -1,4 +1,4 @@
-use Rattle.yaml_emit_laws_pretty.proofs.FlowSteps.{both}
+use Rattle.yaml_emit_laws_pretty.proofs.FlowSigns.{answer_on}
 use Rattle.yaml_emit_laws_pretty.proofs.flows.flow_trial.Goals as goal
 
 pub returns : goal.returns

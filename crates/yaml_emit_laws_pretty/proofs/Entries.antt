@@ -46,7 +46,7 @@ white_stands text p (b ∷ bs) l e = space_white (byte text (p + 1)) (byte text 
 
 -- ---- the three indicators
 
-mark_kind : Mark → Kind
+abbrev mark_kind : Mark → Kind
 mark_kind Entry = kinds.BlockEntry
 mark_kind Question = kinds.KeyMark
 mark_kind Answer = kinds.ValueMark

@@ -32,7 +32,7 @@ blanks_bare : (n : ℕ) (c : Cursor) → c.bare ≡ true → (after_blanks n c).
 blanks_bare zero c e = e
 blanks_bare (suc n) c e = blanks_bare n (spaced_by c) e
 
-blanks_white : (n : ℕ) (c : Cursor) → c.white ≡ true → (after_blanks n c).white ≡ true
+pub blanks_white : (n : ℕ) (c : Cursor) → c.white ≡ true → (after_blanks n c).white ≡ true
 blanks_white zero c e = e
 blanks_white (suc n) c e = blanks_white n (spaced_by c) refl
 
@@ -41,13 +41,13 @@ unfolding no_comment
 spaces_calm zero bs = refl
 spaces_calm (suc n) bs = spaces_calm n bs
 
-line_calm : (b : LineBreak) (n : ℕ) (bs : List ℕ) → no_comment (break_text b ++ (replicate n 32 ++ bs)) ≡ no_comment bs
+pub line_calm : (b : LineBreak) (n : ℕ) (bs : List ℕ) → no_comment (break_text b ++ (replicate n 32 ++ bs)) ≡ no_comment bs
 unfolding no_comment
 line_calm Lf n bs = spaces_calm n bs
 line_calm Cr n bs = spaces_calm n bs
 line_calm CrLf n bs = spaces_calm n bs
 
-line_white : (b : LineBreak) (bs : List ℕ) → begins_white (break_text b ++ bs) ≡ true
+pub line_white : (b : LineBreak) (bs : List ℕ) → begins_white (break_text b ++ bs) ≡ true
 line_white Lf bs = refl
 line_white Cr bs = refl
 line_white CrLf bs = refl
@@ -55,6 +55,9 @@ line_white CrLf bs = refl
 blanks_column : (n : ℕ) (c : Cursor) → (after_blanks n c).column ≡ c.column + n
 blanks_column zero c = omega arith
 blanks_column (suc n) c = let e = blanks_column n (spaced_by c) in omega (arith, e)
+
+start_column : (n : ℕ) (e : Cursor) → (after_blanks n (line_start e)).column ≡ n
+start_column n e = let z = blanks_column n (line_start e) in omega (arith, z)
 
 pub line_bytes : (b : LineBreak) (n : ℕ) (c : Cursor) (rest : Rest) → c.bare ≡ false → bytes (line b n c rest) ≡ break_text b ++ (replicate n 32 ++ bytes (rest (after_blanks n (line_start c))))
 line_bytes b n c rest bare =
@@ -66,9 +69,9 @@ pub follows_line : (b : LineBreak) (n : ℕ) (rest : Rest) → Shows n rest → 
 follows_line b n rest shows = record {
   stops = λ level low e bare. let d = after_blanks n (line_start e) in
       ap (λ bs. stops_plain_at false level None bs) (line_bytes b n e rest bare) ∙ (behind_lines false level n (bytes (rest d))).0 b None
-      ∙ (what_stops false level None).4 n (bytes (rest d)) (omega (arith, low)) (shows.solid d (blanks_bare n (line_start e) refl) (blanks_white n (line_start e) refl) (blanks_column n (line_start e)));
+      ∙ (what_stops false level None).4 n (bytes (rest d)) (omega (arith, low)) (shows.solid d (blanks_bare n (line_start e) refl) (blanks_white n (line_start e) refl) (start_column n e));
   calm = λ e bare. let d = after_blanks n (line_start e) in
-      ap (λ bs. no_comment bs) (line_bytes b n e rest bare) ∙ line_calm b n (bytes (rest d)) ∙ shows.calm d (blanks_bare n (line_start e) refl) (blanks_white n (line_start e) refl) (blanks_column n (line_start e));
+      ap (λ bs. no_comment bs) (line_bytes b n e rest bare) ∙ line_calm b n (bytes (rest d)) ∙ shows.calm d (blanks_bare n (line_start e) refl) (blanks_white n (line_start e) refl) (start_column n e);
   white = λ e bare. let d = after_blanks n (line_start e) in
       ap (λ bs. begins_white bs) (line_bytes b n e rest bare) ∙ line_white b (replicate n 32 ++ bytes (rest d));
 }

@@ -11,3 +11,15 @@ pub mod SpokenWords
 pub mod SpokenLayouts
 pub mod FlowSteps
 pub mod FlowSigns
+pub mod DocStarts
+pub mod DocLines
+pub mod DocWords
+pub mod DocDirectives
+pub mod DocEnds
+pub mod DocOpens
+pub mod DocText
+pub mod NodeLines
+pub mod NodeItems
+pub mod NodePairs
+pub mod NodeBlocks
+pub mod NodeWalks

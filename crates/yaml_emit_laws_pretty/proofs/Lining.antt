@@ -83,12 +83,12 @@ record Broken (x : yaml_encoding_t) (text : List ℕ) (c : Cursor) (rest : Rest)
   left : Left text place.at (bytes (rest (line_start c)))
   later : place.line < line_at text place.at
 
-return_ends_line : (text : List ℕ) (p : ℕ) → byte text p ≡ 13 → (byte text (p + 1) ≡ 10 → ⊥) → ends_break text p ≡ true
+alone_ends : (b c d : ℕ) → (d ≡ 10 → ⊥) → ends_of b c 13 d ≡ true
 unfolding ends_of
-return_ends_line text p e f = ap (λ (b : ℕ). ends_of (byte text (p - 2)) (byte text (p - 1)) b (byte text (p + 1))) e ∙ alone (byte text (p - 2)) (byte text (p - 1)) (byte text (p + 1)) f
-  where
-    alone : (b c d : ℕ) → (d ≡ 10 → ⊥) → ends_of b c 13 d ≡ true
-    alone b c d f = grind (arith, nat_tests)
+alone_ends b c d f = grind (arith, nat_tests)
+
+return_ends_line : (text : List ℕ) (p : ℕ) → byte text p ≡ 13 → (byte text (p + 1) ≡ 10 → ⊥) → ends_break text p ≡ true
+return_ends_line text p e f = ap (λ (b : ℕ). ends_of (byte text (p - 2)) (byte text (p - 1)) b (byte text (p + 1))) e ∙ alone_ends (byte text (p - 2)) (byte text (p - 1)) (byte text (p + 1)) f
 
 abbrev behind_white : Where → ℕ → Where
 behind_white o n = record { at = o.at + n; line = o.line; depth = o.depth; now = o.now || (true && o.broken); broken = o.broken }

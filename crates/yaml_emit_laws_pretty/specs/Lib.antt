@@ -4,3 +4,4 @@ pub mod KeyLaws
 pub mod Nodes
 pub mod Spoken
 pub mod Flows
+pub mod DocLaws

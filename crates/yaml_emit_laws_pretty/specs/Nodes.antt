@@ -10,13 +10,15 @@ use Rattle.yaml_emit_laws_text.specs.scan_history.declared.lexeme.Opens.TheVaria
 use Rattle.yaml_emit_laws_text.specs.emit_layout.emit_text.declared.Cursor.{Cursor}
 use Rattle.yaml_emit_laws_text.specs.emit_layout.emit_text.declared.LineBreak.{LineBreak}
 use Rattle.yaml_emit_laws_text.specs.emit_layout.emit_text.declared.Settings.{Settings}
+use Rattle.yaml_emit_laws_text.specs.emit_layout.emit_text.declared.Style.{Style}
+use Rattle.yaml_emit_laws_text.specs.emit_layout.emit_text.declared.Style.TheVariants as style
 use Rattle.yaml_emit_laws_text.specs.emit_layout.emit_text.Layout.{Layout, Rest, ◌▹◌, line, char}
 use Rattle.yaml_emit_laws_text.specs.emit_layout.declared.level.Part.{Part}
 use Rattle.yaml_emit_laws_text.specs.emit_layout.declared.level.Part.TheVariants as part
 use Rattle.yaml_emit_laws_text.specs.emit_layout.declared.level.Spot.{Spot}
-use Rattle.yaml_emit_laws_text.specs.emit_layout.Content.{Opening, Node, alias_node, scalar_node, sequence_node, mapping_node}
+use Rattle.yaml_emit_laws_text.specs.emit_layout.Content.{Scalar, Opening, Node, alias_node, scalar_node, sequence_node, mapping_node}
 use Rattle.yaml_emit_laws_text.specs.emit_layout.Grammar.{has}
-use Rattle.yaml_emit_laws_text.specs.emit_layout.Nodes.{Context, context_of, is_simple, is_simple_part, are_none, are_no_pairs, node_layout, properties_text}
+use Rattle.yaml_emit_laws_text.specs.emit_layout.Nodes.{Context, context_of, is_simple, is_simple_part, is_of_mapping, are_none, are_no_pairs, node_layout, properties_text}
 use Rattle.yaml_emit_laws_text.specs.Bodies.{anchor_bodies, tag_bodies}
 use Rattle.yaml_emit_laws_text.specs.Walk.{Left, bytes}
 use Rattle.yaml_emit_laws_text.specs.Writable.{IsWritable, IsWritableAnchor, IsWritableTag, IsWritableOpening}
@@ -26,7 +28,7 @@ use Rattle.yaml_scan_laws_levels.specs.Walks.{Where}
 use Rattle.yaml_emit_laws_scalars.specs.Stops.{begins_white, begins_solid}
 use Rattle.yaml_emit_laws_block.specs.Laws.{margin_round}
 use Rattle.yaml_emit_laws_block.specs.Passed.{begins_white as begins_blank}
-use Rattle.yaml_emit_laws_pretty.specs.Bodies.{is_flow_at, node_bodies, node_kept}
+use Rattle.yaml_emit_laws_pretty.specs.Bodies.{style_at, is_flow_at, node_bodies, node_kept}
 use Rattle.yaml_emit_laws_pretty.specs.Walk.{Stage, Lined, LinedUp, Follows, NoFeed, no_comment}
 use Rattle.yaml_emit_laws_pretty.specs.KeyLaws.{Keyed}
 
@@ -62,6 +64,11 @@ abbrev pub column_round : Option ℕ → ℕ
 column_round None = 0
 column_round (Some n) = n
 
+-- a root is an item, and no simple key is walked so
+abbrev pub is_place : Option ℕ → Part → Bool
+is_place None q = not (is_of_mapping q)
+is_place (Some n) q = not (is_simple_part q)
+
 -- Settings of pretty form, and the directives of a document that may be written.
 pub record IsPretty (s : Settings) (d : Opening) : Type 0 where
   pub pretty : s.canonical ≡ false
@@ -90,7 +97,7 @@ pub record NodeWalks (p : Context) (around : Option ℕ) (q : Part) (bare : Bool
 -- All nodes that may be written are walked so, at each spot of a block that isn't a simple key's.
 abbrev pub NodesAreWalked : Type 0
 NodesAreWalked = (s : Settings) (d : Opening) → IsPretty s d → (y : Node) → IsWritable y
-    → (around : Option ℕ) (q : Part) (bare : Bool) → is_simple_part q ≡ false
+    → (around : Option ℕ) (q : Part) (bare : Bool) → is_place around q ≡ true
     → NodeWalks (context_of s d.directives) around q bare y
 
 -- ---- what that stands on
@@ -102,10 +109,32 @@ is_leaf (scalar_node v) = true
 is_leaf (sequence_node q items) = false
 is_leaf (mapping_node q pairs) = false
 
+-- a literal or folded scalar
+abbrev pub is_block : Style → Bool
+is_block style.Plain = false
+is_block style.Single = false
+is_block style.Double = false
+is_block style.Literal = true
+is_block style.Folded = true
+
+abbrev pub is_block_scalar : Context → Part → Node → Bool
+is_block_scalar p q (alias_node name) = false
+is_block_scalar p q (scalar_node v) = is_block (style_at p false q v)
+is_block_scalar p q (sequence_node o items) = false
+is_block_scalar p q (mapping_node o pairs) = false
+
 abbrev pub LeavesAreWalked : Type 0
 LeavesAreWalked = (s : Settings) (d : Opening) → IsPretty s d → (y : Node) → IsWritable y
-    → is_leaf y ≡ true → (around : Option ℕ) (q : Part) (bare : Bool) → is_simple_part q ≡ false
+    → (around : Option ℕ) (q : Part) (bare : Bool) → is_simple_part q ≡ false
+    → is_leaf y ≡ true → is_block_scalar (context_of s d.directives) q y ≡ false
     → NodeWalks (context_of s d.directives) around q bare y
+
+abbrev pub BlockScalarsAreWalked : Type 0
+BlockScalarsAreWalked = (s : Settings) (d : Opening) → IsPretty s d → (v : Scalar)
+    → IsWritable (scalar_node v)
+    → (around : Option ℕ) (q : Part) (bare : Bool) → is_simple_part q ≡ false
+    → is_block (style_at (context_of s d.directives) false q v) ≡ true
+    → NodeWalks (context_of s d.directives) around q bare (scalar_node v)
 
 -- a collection in brackets
 abbrev pub is_bracketed : Context → Node → Bool
@@ -169,3 +198,8 @@ pub record KeyWalks (p : Context) (k : Node) : Type 0 where
 abbrev pub SimpleKeysAreWalked : Type 0
 SimpleKeysAreWalked = (s : Settings) (d : Opening) → IsPretty s d → (k : Node) → IsWritable k
     → is_simple (context_of s d.directives) k ≡ true → KeyWalks (context_of s d.directives) k
+
+-- With these laws all nodes are walked.
+abbrev pub NodesFollow : Type 0
+NodesFollow = LeavesAreWalked → BlockScalarsAreWalked → BracketsAreWalked → PropertiesAreWalked
+    → SimpleKeysAreWalked → NodesAreWalked

@@ -2,7 +2,7 @@
 
 ghost use Rattle.yaml_emit_laws_pretty.specs.Walk.{LineEndsNode, LineIsWalked, MarkIsWalked, PlainIsWalked, SingleIsWalked};
 ghost use Rattle.yaml_emit_laws_pretty.specs.KeyLaws.{KeyIsShown, KeyIsWalked};
-ghost use Rattle.yaml_emit_laws_pretty.specs.Nodes.{ShownEnds};
+ghost use Rattle.yaml_emit_laws_pretty.specs.Nodes.{NodesFollow, ShownEnds};
 
 use yaml_emit_laws_scalars::{near_is_fresh, plain_has_a_gap, plain_stands, scalars_are_words, simple_keys_are_near, single_stands, styles_are_allowed};
 
@@ -61,3 +61,8 @@ pub fn key_is_shown()
     plain_has_a_gap();
     styles_are_allowed();
 }
+
+/// Block collections are walked, with their properties, where leaves, brackets, properties and simple keys are.
+pub fn nodes_follow()
+    ensures { NodesFollow }
+{}

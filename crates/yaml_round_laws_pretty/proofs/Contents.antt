@@ -28,7 +28,7 @@ use Rattle.yaml_emit_laws_text.specs.emit_layout.Content as emit
 use Rattle.yaml_emit_laws_text.specs.emit_layout.Grammar.{has, kept_if, kept_tag, scalar_tag, start_tag}
 use Rattle.yaml_emit_laws_text.specs.emit_layout.Nodes.{Context, style_of, is_plain, is_simple, is_simple_part, key_part, are_none, are_no_pairs}
 use Rattle.yaml_round_laws_documents.specs.TreeLaws.{IsNoMark, HasNoMark, HaveNoMark, PairsHaveNoMark, AreParsable}
-use Rattle.yaml_round_laws_pretty.specs.Bodies.{style_at, is_flow_at, style_named, takes_mark}
+use Rattle.yaml_emit_laws_pretty.specs.Bodies.{style_at, is_flow_at, style_named, takes_mark}
 use Rattle.yaml_round_laws_pretty.specs.Reads.{scalar_reads, node_reads, items_reads, pairs_reads, documents_reads}
 use Rattle.yaml_round_laws_pretty.specs.Flags.{HasScalarFlags, HasStartFlags, HasFlags, HaveFlags, PairsHaveFlags, HaveReaderFlags}
 

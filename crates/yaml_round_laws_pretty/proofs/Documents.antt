@@ -26,7 +26,7 @@ use Rattle.yaml_emit_laws_text.proofs.Resolving.{tags_resolve}
 use Rattle.yaml_round_laws_documents.specs.TreeLaws.{token_bodies, event_bodies, Says, HasNoMark, AreParsable, parsed_of}
 use Rattle.yaml_round_laws_documents.proofs.Growing.{take}
 use Rattle.yaml_round_laws_documents.proofs.Documents.{item_says, no_spans, ends_say}
-use Rattle.yaml_round_laws_pretty.specs.Bodies.{context_in, root_bodies, is_root_kept, is_left_out, has_dots, opening_bodies, documents_bodies, starts_with_nothing}
+use Rattle.yaml_emit_laws_pretty.specs.Bodies.{context_in, root_bodies, is_root_kept, is_left_out, has_dots, opening_bodies, documents_bodies, starts_with_nothing}
 use Rattle.yaml_round_laws_pretty.specs.Reads.{root_reads, documents_reads, stream_reads}
 use Rattle.yaml_round_laws_pretty.specs.TokenLaws.{PrettyTokensAreParsed}
 use Rattle.yaml_round_laws_pretty.proofs.Dressing.{Resolves}

@@ -25,7 +25,7 @@ use Rattle.yaml_emit_laws_text.specs.TagsLaws.{resolved_split}
 use Rattle.yaml_emit_laws_text.specs.Bodies.{tag_body, anchor_bodies, tag_bodies, mark_bodies}
 use Rattle.yaml_round_laws_documents.specs.TreeLaws.{token_bodies, Says, IsNoMark, Grown}
 use Rattle.yaml_round_laws_documents.proofs.Growing.{take, step_says}
-use Rattle.yaml_round_laws_pretty.specs.Bodies.{style_named, takes_mark, is_bare, is_nothing, scalar_bodies}
+use Rattle.yaml_emit_laws_pretty.specs.Bodies.{style_named, takes_mark, is_bare, is_nothing, scalar_bodies}
 use Rattle.yaml_round_laws_pretty.specs.Reads.{scalar_reads}
 
 -- under the directives each tag is resolved as it was

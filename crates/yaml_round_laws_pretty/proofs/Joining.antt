@@ -22,9 +22,10 @@ use Rattle.yaml_round_laws_adapted.specs.Adapted.{adapted}
 use Rattle.yaml_round_laws_documents.specs.BytesLaws.{canonical_bytes, canonical_text, encoding_named}
 use Rattle.yaml_round_laws_documents.specs.TreeLaws.{token_bodies, parsed_of}
 use Rattle.yaml_round_laws_documents.specs.Adapting.{without_fault}
-use Rattle.yaml_round_laws_pretty.specs.Bodies.{stream_bodies, starts_with_nothing}
+use Rattle.yaml_emit_laws_pretty.specs.Bodies.{stream_bodies, starts_with_nothing}
 use Rattle.yaml_round_laws_pretty.specs.Flags.{begins_with_nothing}
-use Rattle.yaml_round_laws_pretty.specs.Laws.{PrettyTextIsRead, PrettyReadsBack, PrettyIsLost, PrettyFollows}
+use Rattle.yaml_emit_laws_pretty.specs.DocLaws.{PrettyTextIsRead}
+use Rattle.yaml_round_laws_pretty.specs.Laws.{PrettyReadsBack, PrettyIsLost, PrettyFollows}
 use Rattle.yaml_round_laws_pretty.proofs.Passing.{tokens_pass}
 use Rattle.yaml_round_laws_pretty.proofs.Saying.{tokens_say}
 use Rattle.yaml_round_laws_pretty.proofs.Lost.{is_told, tokens_lost}

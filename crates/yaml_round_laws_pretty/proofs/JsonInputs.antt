@@ -8,7 +8,7 @@ use Rattle.yaml_emit_laws_text.specs.Json.{IsJsonScalar, IsJsonNode}
 use Rattle.yaml_emit_laws_text.specs.scan_laws_keys.Values.{is_plain_value}
 use Rattle.yaml_round_content.specs.Events.{emitter_events}
 use Rattle.yaml_round_content.proofs.Joining.{events_of_tree}
-use Rattle.yaml_round_laws_pretty.specs.Bodies.{is_bare, is_empty}
+use Rattle.yaml_emit_laws_pretty.specs.Bodies.{is_bare, is_empty}
 use Rattle.yaml_round_laws_pretty.specs.Flags.{is_asked_plain, says_nothing, begins_with_nothing}
 use Rattle.yaml_round_laws_pretty.specs.InputLaws.{JsonBeginsWithSomething}
 

@@ -26,7 +26,7 @@ use Rattle.yaml_emit_laws_text.specs.Bodies.{anchor_bodies, tag_bodies, mark_bod
 use Rattle.yaml_emit_laws_text.specs.PrettyBodies.{start_bodies}
 use Rattle.yaml_round_laws_documents.specs.TreeLaws.{token_bodies, AreParsable, parsed_of}
 use Rattle.yaml_round_laws_documents.proofs.Growing.{take}
-use Rattle.yaml_round_laws_pretty.specs.Bodies.{context_in, style_at, takes_mark, is_bare, is_empty, is_nothing, scalar_bodies, node_bodies, root_bodies, is_root_kept, is_left_out, opening_bodies, documents_bodies, starts_with_nothing}
+use Rattle.yaml_emit_laws_pretty.specs.Bodies.{context_in, style_at, takes_mark, is_bare, is_empty, is_nothing, scalar_bodies, node_bodies, root_bodies, is_root_kept, is_left_out, opening_bodies, documents_bodies, starts_with_nothing}
 use Rattle.yaml_round_laws_pretty.specs.Reads.{documents_reads}
 use Rattle.yaml_round_laws_pretty.specs.Flags.{HasScalarFlags, HasFlags, HaveReaderFlags, is_asked_plain, says_nothing, begins_with_nothing}
 use Rattle.yaml_round_laws_pretty.specs.TokenLaws.{BeginningIsTold, PrettyTokensAreLost}

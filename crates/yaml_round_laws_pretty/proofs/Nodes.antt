@@ -28,7 +28,7 @@ use Rattle.yaml_emit_laws_text.specs.emit_layout.Nodes.{Context, is_simple, is_o
 use Rattle.yaml_emit_laws_text.specs.Bodies.{anchor_bodies, tag_bodies}
 use Rattle.yaml_round_laws_documents.specs.TreeLaws.{token_bodies, IsNoMark, HasNoMark, HaveNoMark, PairsHaveNoMark, Grown}
 use Rattle.yaml_round_laws_documents.proofs.Growing.{take, both_say, step_says}
-use Rattle.yaml_round_laws_pretty.specs.Bodies.{style_at, is_flow_at, is_bare, keeps, sequence_opens, sequence_closes, mapping_opens, mapping_closes, node_bodies, items_bodies, pairs_bodies, is_left_out}
+use Rattle.yaml_emit_laws_pretty.specs.Bodies.{style_at, is_flow_at, is_bare, keeps, sequence_opens, sequence_closes, mapping_opens, mapping_closes, node_bodies, items_bodies, pairs_bodies, is_left_out}
 use Rattle.yaml_round_laws_pretty.specs.Reads.{sequence_style, mapping_style, node_reads, items_reads, pairs_reads}
 use Rattle.yaml_round_laws_pretty.proofs.Dressing.{Resolves, Spelt, MaybeGrown, held, Contained, dressed, scalar_grown, scalar_left_out}
 

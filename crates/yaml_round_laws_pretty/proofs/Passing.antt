@@ -19,7 +19,7 @@ use Rattle.yaml_emit_laws_text.specs.PrettyBodies.{comma_bodies, start_bodies}
 use Rattle.yaml_round_laws_adapted.specs.Adapted.{spells_text}
 use Rattle.yaml_round_laws_documents.specs.Adapting.{IsReadableTag, IsTagged, AreTagged, PairsAreTagged, HaveTexts}
 use Rattle.yaml_round_laws_documents.proofs.Passing.{Spell, passes}
-use Rattle.yaml_round_laws_pretty.specs.Bodies.{style_at, is_flow_at, takes_mark, keeps, is_nothing, value_bodies, scalar_bodies, sequence_opens, sequence_closes, mapping_opens, mapping_closes, item_bodies, pair_bodies, node_bodies, items_bodies, pairs_bodies, context_in, root_bodies, is_root_kept, opening_bodies, documents_bodies}
+use Rattle.yaml_emit_laws_pretty.specs.Bodies.{style_at, is_flow_at, takes_mark, keeps, is_nothing, value_bodies, scalar_bodies, sequence_opens, sequence_closes, mapping_opens, mapping_closes, item_bodies, pair_bodies, node_bodies, items_bodies, pairs_bodies, context_in, root_bodies, is_root_kept, opening_bodies, documents_bodies}
 use Rattle.yaml_round_laws_pretty.specs.TokenLaws.{PrettyTokensPass}
 
 -- ---- properties

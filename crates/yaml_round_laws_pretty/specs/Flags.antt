@@ -5,7 +5,7 @@ use Rattle.yaml_emit_laws_text.specs.emit_layout.scan.declared.yaml_scalar_style
 use Rattle.yaml_emit_laws_text.specs.emit_layout.Content.{Scalar, Document, Node, alias_node, scalar_node, sequence_node, mapping_node, Nodes, no_nodes, node, Pairs, no_pairs, pair, Event, stream_start, document_start, scalar}
 use Rattle.yaml_emit_laws_text.specs.emit_layout.Grammar.{has}
 use Rattle.yaml_emit_laws_text.specs.emit_layout.Nodes.{is_directed}
-use Rattle.yaml_round_laws_pretty.specs.Bodies.{is_bare, is_empty}
+use Rattle.yaml_emit_laws_pretty.specs.Bodies.{is_bare, is_empty}
 
 -- an untagged scalar has exactly one flag, a tagged one none
 abbrev pub HasScalarFlags : Option (List ℕ) → Bool → Bool → Type 0

@@ -1,34 +1,25 @@
 -- Pretty text reads back, unless the input begins with nothing: the laws beneath, and the theorem.
-use Rattle.std.specs.Prelude.{◌≡◌, ◌≤◌, ℕ, true, false, List, ◌∷◌, Ok}
+use Rattle.std.specs.Prelude.{◌≡◌, ℕ, true, false, List, Ok}
 use Rattle.yaml_round_laws_documents.specs.scan_decode.Encodings.{encoding_of}
 use Rattle.yaml_round_laws_documents.specs.scan_decode.Decoding.{decoded_text}
 use Rattle.yaml_parse_grammar.specs.parse_model.declared.yaml_encoding_t.{yaml_encoding_t}
 use Rattle.yaml_parse_grammar.specs.parse_model.declared.yaml_encoding_t.TheVariants.{YAML_ANY_ENCODING}
-use Rattle.yaml_emit_laws_text.specs.emit_layout.scan.Tokens.{stream_start}
 use Rattle.yaml_emit_laws_text.specs.emit_layout.emit_text.Text.{Item, encode}
 use Rattle.yaml_emit_laws_text.specs.emit_layout.emit_text.declared.Encoding.{Encoding}
 use Rattle.yaml_emit_laws_text.specs.emit_layout.emit_text.declared.Settings.{Settings}
 use Rattle.yaml_emit_laws_text.specs.emit_layout.emit_text.declared.RequestedSettings.{RequestedSettings}
 use Rattle.yaml_emit_laws_text.specs.emit_layout.Content.{Document}
 use Rattle.yaml_emit_laws_text.specs.emit_layout.Streams.{IsStream}
-use Rattle.yaml_emit_laws_text.specs.TextLaws.{text_of_documents, IsReadAs}
 use Rattle.yaml_emit_laws_text.specs.Writable.{AreWritable}
 use Rattle.yaml_round_content.specs.Events.{emitter_events}
 use Rattle.yaml_round_content.specs.Input.{events_of}
 use Rattle.yaml_round_laws_documents.specs.BytesLaws.{DocumentsAreSpellable, canonical_bytes, canonical_text, encoding_named}
 use Rattle.yaml_round_laws_documents.specs.Adapting.{HaveTexts}
 use Rattle.yaml_round_laws_documents.specs.Stays.{SaysInput}
-use Rattle.yaml_round_laws_pretty.specs.Bodies.{stream_bodies}
+use Rattle.yaml_emit_laws_pretty.specs.DocLaws.{PrettyTextIsRead}
 use Rattle.yaml_round_laws_pretty.specs.Flags.{begins_with_nothing}
 
 -- ---- the laws beneath
-
--- The pretty text of documents that may be written is read as their tokens, whatever encoding is told.
-abbrev pub PrettyTextIsRead : Type 0
-PrettyTextIsRead = (s : Settings) → s.canonical ≡ false → 2 ≤ s.indent → s.indent ≤ 9
-    → (x : yaml_encoding_t) (ds : List Document) → AreWritable ds
-    → IsReadAs (record { encoding = x; text = text_of_documents s ds })
-    (stream_start x ∷ stream_bodies s ds)
 
 -- With the encoding detected, the bytes of documents that may be written decode to the text, in the encoding that was set.
 abbrev pub PrettyBytesDecode : Type 0

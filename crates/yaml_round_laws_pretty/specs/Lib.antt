@@ -1,4 +1,3 @@
-pub mod Bodies
 pub mod Reads
 pub mod Flags
 pub mod TokenLaws

@@ -14,7 +14,7 @@ use Rattle.yaml_emit_laws_text.specs.emit_layout.Content.{Document, Node, alias_
 use Rattle.yaml_emit_laws_text.specs.emit_layout.Grammar.{scalar_tag, start_tag}
 use Rattle.yaml_emit_laws_text.specs.emit_layout.Nodes.{Context, is_plain, is_simple, key_part, are_none, are_no_pairs, is_marked}
 use Rattle.yaml_parse_grammar.specs.Resolve.{is_missing}
-use Rattle.yaml_round_laws_pretty.specs.Bodies.{style_at, is_flow_at, style_named, takes_mark, context_in, is_root_kept, has_dots}
+use Rattle.yaml_emit_laws_pretty.specs.Bodies.{style_at, is_flow_at, style_named, takes_mark, context_in, is_root_kept, has_dots}
 
 abbrev pub sequence_style : Bool → yaml_sequence_style_t
 sequence_style true = YAML_FLOW_SEQUENCE_STYLE

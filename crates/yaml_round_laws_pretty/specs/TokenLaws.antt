@@ -11,7 +11,7 @@ use Rattle.yaml_round_content.specs.Events.{emitter_events, contents}
 use Rattle.yaml_round_laws_adapted.specs.Adapted.{adapted}
 use Rattle.yaml_round_laws_documents.specs.TreeLaws.{token_bodies, event_bodies, AreParsable, parsed_of}
 use Rattle.yaml_round_laws_documents.specs.Adapting.{HaveTexts, without_fault}
-use Rattle.yaml_round_laws_pretty.specs.Bodies.{stream_bodies, starts_with_nothing}
+use Rattle.yaml_emit_laws_pretty.specs.Bodies.{stream_bodies, starts_with_nothing}
 use Rattle.yaml_round_laws_pretty.specs.Reads.{stream_reads}
 use Rattle.yaml_round_laws_pretty.specs.Flags.{HaveReaderFlags, begins_with_nothing}
 

@@ -1,0 +1,183 @@
+-- The start of a line outside of all levels, and what may stand there behind a root.
+use Rattle.std.proofs.Common.{◌≡◌, ◌⊎◌, ℕ, ◌==◌, ◌&&◌, ◌||◌, Bool, true, false, List, [], ◌∷◌, ◌++◌, Some, None, refl, sym, ap, subst, ◌∙◌, inl, inr, arith}
+use Rattle.std.specs.Prelude.{if◌then◌else◌}
+use Rattle.std.proofs.lemmas.Bool.Decides.{nat_tests}
+use Rattle.yaml_emit_laws_text.specs.emit_layout.scan.declared.yaml_encoding_t.{yaml_encoding_t}
+use Rattle.yaml_emit_laws_text.specs.emit_layout.scan.Tokens.{TokenBody}
+use Rattle.yaml_emit_laws_text.specs.scan_history.scan_model.Marks.{column_at, break_of}
+use Rattle.yaml_emit_laws_text.specs.emit_layout.emit_text.declared.Cursor.{Cursor}
+use Rattle.yaml_emit_laws_text.specs.emit_layout.emit_text.declared.LineBreak.{LineBreak}
+use Rattle.yaml_emit_laws_text.specs.emit_layout.emit_text.declared.LineBreak.TheVariants.{Lf, Cr, CrLf}
+use Rattle.yaml_emit_laws_text.specs.emit_layout.emit_text.Layout.{Rest, line, blanks, must_break, new_line, indent_to}
+use Rattle.yaml_emit_laws_text.specs.emit_layout.emit_text.Spelling.{break_text}
+use Rattle.yaml_emit_laws_text.specs.Walk.{Left, bytes, first}
+use Rattle.yaml_emit_laws_text.proofs.Steps.{letter_low}
+use Rattle.yaml_emit_laws_text.proofs.Words.{and_left}
+use Rattle.yaml_scan_laws_levels.specs.Walks.{Where, Reads}
+use Rattle.yaml_emit_laws_scalars.specs.Stops.{begins_white, begins_mark, stops_plain_at}
+use Rattle.yaml_emit_laws_block.specs.Passed.{begins_white as begins_blank}
+use Rattle.yaml_emit_laws_pretty.specs.Walk.{Stage, Lined, NoFeed, no_comment}
+use Rattle.yaml_emit_laws_pretty.specs.Nodes.{Ending}
+use Rattle.yaml_emit_laws_pretty.proofs.Lining.{line_on}
+
+never : false ≡ true → ⊥
+never e = cc
+
+-- the cursor at the start of a line
+abbrev pub line_start : Bool → Cursor
+line_start kept = record { column = 0; white = true; bare = true; kept = kept }
+
+pub at_start : (e : Cursor) (kept : Bool) → e.bare ≡ true → e.white ≡ true → e.column ≡ 0 → e.kept ≡ kept → e ≡ line_start kept
+at_start e kept bare white column same =
+    ap (λ (b : Bool). let c : Cursor = record { column = e.column; white = e.white; bare = b; kept = e.kept } in c) bare
+    ∙ ap (λ (w : Bool). let c : Cursor = record { column = e.column; white = w; bare = true; kept = e.kept } in c) white
+    ∙ ap (λ (n : ℕ). let c : Cursor = record { column = n; white = true; bare = true; kept = e.kept } in c) column
+    ∙ ap (λ (k : Bool). line_start k) same
+
+-- At the start of a line outside of all levels but those that are left to whoever closes them.
+pub record AtLine (x : yaml_encoding_t) (text : List ℕ) (after : Rest) (kept : Bool) (T : List TokenBody → List TokenBody) : Type 0 where
+  pub place : Where
+  pub more : List ℕ
+  pub stage : Stage x text (line_start kept) place [] more T
+  pub left : Left text place.at (bytes (after (line_start kept)))
+
+pub from_lined : (x : yaml_encoding_t) (text : List ℕ) (after : Rest) (kept : Bool) (more : List ℕ) (T : List TokenBody → List TokenBody) → Lined x text after 0 kept [] more T → AtLine x text after kept T
+from_lined x text after kept more T h =
+    let same = at_start h.cursor kept h.bare h.white h.column h.same in
+    record {
+      place = h.place;
+      more = more;
+      stage = subst (λ (c : Cursor). Stage x text c h.place [] more T) same h.stage;
+      left = subst (λ (c : Cursor). Left text h.place.at (bytes (after c))) same h.left;
+    }
+
+-- the same, whatever broke the line
+pub record OnLine (x : yaml_encoding_t) (text : List ℕ) (rest : Rest) (kept : Bool) (T : List TokenBody → List TokenBody) : Type 0 where
+  pub place : Where
+  pub more : List ℕ
+  pub reads : Reads x text place [] [] more T
+  pub flat : place.depth ≡ 0
+  pub column : column_at text place.at ≡ 0
+  pub left : Left text place.at (bytes (rest (line_start kept)))
+
+pub on_from : (x : yaml_encoding_t) (text : List ℕ) (rest : Rest) (kept : Bool) (T : List TokenBody → List TokenBody) → AtLine x text rest kept T → OnLine x text rest kept T
+on_from x text rest kept T a =
+    let (now, column) = a.stage.bare refl in
+    record { place = a.place; more = a.more; reads = a.stage.reads; flat = a.stage.flat; column = column; left = a.left }
+
+-- nothing, or a document's mark with white or the end behind it
+abbrev pub is_outer : List ℕ → Bool
+is_outer [] = true
+is_outer (b ∷ bs) = begins_mark b bs
+
+-- At the start of the line behind a root nothing comes, or a document's mark.
+abbrev pub EndsRoot : Rest → Type 0
+EndsRoot after = (kept : Bool) → is_outer (bytes (after (line_start kept))) ≡ true
+
+-- ---- a mark's first byte
+
+pick : (p q r u v w : Bool) → (((p && q) && r) || ((u && v) && w)) ≡ true → (p ≡ true) ⊎ (u ≡ true)
+pick true q r u v w h = inl refl
+pick false q r true v w h = inr refl
+pick false q r false v w h = absurd (never h)
+
+same_number : (a b : ℕ) → (a == b) ≡ true → a ≡ b
+same_number a b e = grind (arith, nat_tests)
+
+pub mark_first : (a : ℕ) (bs : List ℕ) → begins_mark a bs ≡ true → (a ≡ 45) ⊎ (a ≡ 46)
+mark_first a [] h = absurd (never h)
+mark_first a (b ∷ []) h = absurd (never h)
+mark_first a (b ∷ c ∷ bs) h = elim (pick (a == 45) (b == 45) (c == 45) (a == 46) (b == 46) (c == 46) (and_left (((a == 45 && b == 45) && c == 45) || ((a == 46 && b == 46) && c == 46)) (begins_white bs) h)) [
+  | inl e ↦ inl (same_number a 45 e)
+  | inr e ↦ inr (same_number a 46 e)
+]
+
+pub outer_calm : (bs : List ℕ) → is_outer bs ≡ true → first bs ≡ 10 → ⊥
+outer_calm [] h e = omega (arith, e)
+outer_calm (b ∷ bs) h e = elim (mark_first b bs h) [
+  | inl f ↦ omega (arith, e, f)
+  | inr f ↦ omega (arith, e, f)
+]
+
+-- ---- what such a line does to what stands before it
+
+stops_so : (level b : ℕ) (bs : List ℕ) → (b ≡ 45) ⊎ (b ≡ 46) → begins_mark b bs ≡ true → stops_plain_at false level (Some 0) (b ∷ bs) ≡ true
+unfolding stops_plain_at break_of
+stops_so level b bs (inl e) h = let k = subst (λ x. begins_mark x bs ≡ true) e h in subst (λ x. stops_plain_at false level (Some 0) (x ∷ bs) ≡ true) (sym e) (rw k refl)
+stops_so level b bs (inr e) h = let k = subst (λ x. begins_mark x bs ≡ true) e h in subst (λ x. stops_plain_at false level (Some 0) (x ∷ bs) ≡ true) (sym e) (rw k refl)
+
+outer_stops : (level : ℕ) (bs : List ℕ) → is_outer bs ≡ true → stops_plain_at false level (Some 0) bs ≡ true
+unfolding stops_plain_at
+outer_stops level [] h = refl
+outer_stops level (b ∷ bs) h = stops_so level b bs (mark_first b bs h) h
+
+outer_no_comment : (bs : List ℕ) → is_outer bs ≡ true → no_comment bs ≡ true
+unfolding no_comment
+outer_no_comment [] h = refl
+outer_no_comment (b ∷ bs) h = elim (mark_first b bs h) [
+  | inl e ↦ subst (λ x. no_comment (x ∷ bs) ≡ true) (sym e) refl
+  | inr e ↦ subst (λ x. no_comment (x ∷ bs) ≡ true) (sym e) refl
+]
+
+outer_solid : (bs : List ℕ) → is_outer bs ≡ true → begins_blank bs ≡ false
+unfolding break_of
+outer_solid [] h = refl
+outer_solid (b ∷ bs) h = elim (mark_first b bs h) [
+  | inl e ↦ subst (λ x. begins_blank (x ∷ bs) ≡ false) (sym e) refl
+  | inr e ↦ subst (λ x. begins_blank (x ∷ bs) ≡ false) (sym e) refl
+]
+
+-- a line behind text, in bytes
+new_line_bytes : (b : LineBreak) (c : Cursor) (rest : Rest) → bytes (new_line b c (λ k. indent_to 0 k rest)) ≡ break_text b ++ bytes (rest (line_start c.kept))
+unfolding blanks
+new_line_bytes Lf c rest = letter_low 10 _ refl
+new_line_bytes Cr c rest = letter_low 13 _ refl
+new_line_bytes CrLf c rest = letter_low 13 _ refl ∙ ap (λ (bs : List ℕ). 13 ∷ bs) (letter_low 10 _ refl)
+
+line_bytes : (b : LineBreak) (c : Cursor) (rest : Rest) → c.bare ≡ false → bytes (line b 0 c rest) ≡ break_text b ++ bytes (rest (line_start c.kept))
+unfolding line
+line_bytes b c rest bare =
+    let must : must_break 0 c ≡ true = rw bare refl in
+    let k : Rest = λ x. indent_to 0 x rest in
+    ap (λ (t : Bool). bytes (if t then new_line b c k else k c)) must ∙ new_line_bytes b c rest
+
+break_stops : (level : ℕ) (b : LineBreak) (bs : List ℕ) → stops_plain_at false level None (break_text b ++ bs) ≡ stops_plain_at false level (Some 0) bs
+unfolding stops_plain_at
+break_stops level Lf bs = refl
+break_stops level Cr bs = refl
+break_stops level CrLf bs = refl
+
+break_calm : (b : LineBreak) (bs : List ℕ) → no_comment (break_text b ++ bs) ≡ no_comment bs
+unfolding no_comment
+break_calm Lf bs = refl
+break_calm Cr bs = refl
+break_calm CrLf bs = refl
+
+break_white : (b : LineBreak) (bs : List ℕ) → begins_white (break_text b ++ bs) ≡ true
+break_white Lf bs = refl
+break_white Cr bs = refl
+break_white CrLf bs = refl
+
+pub line_white : (b : LineBreak) (c : Cursor) (rest : Rest) → c.bare ≡ false → begins_white (bytes (line b 0 c rest)) ≡ true
+line_white b c rest bare = ap (λ bs. begins_white bs) (line_bytes b c rest bare) ∙ break_white b (bytes (rest (line_start c.kept)))
+
+pub outer_feed : (after : Rest) → EndsRoot after → NoFeed 0 after
+outer_feed after ends e bare white column f = outer_calm (bytes (after (line_start e.kept))) (ends e.kept) (sym (ap (λ (c : Cursor). first (bytes (after c))) (at_start e e.kept bare white column refl)) ∙ f)
+
+-- what follows a root ends it
+pub root_ending : (b : LineBreak) (after : Rest) → EndsRoot after → Ending b 0 0 after
+root_ending b after ends = record {
+  follows = record {
+    stops = λ level low e bare. ap (λ bs. stops_plain_at false level None bs) (line_bytes b e after bare) ∙ break_stops level b (bytes (after (line_start e.kept))) ∙ outer_stops level (bytes (after (line_start e.kept))) (ends e.kept);
+    calm = λ e bare. ap (λ bs. no_comment bs) (line_bytes b e after bare) ∙ break_calm b (bytes (after (line_start e.kept))) ∙ outer_no_comment (bytes (after (line_start e.kept))) (ends e.kept);
+    white = λ e bare. line_white b e after bare;
+  };
+  feed = outer_feed after ends;
+  solid = λ e bare white column. ap (λ (c : Cursor). begins_blank (bytes (after c))) (at_start e e.kept bare white column refl) ∙ outer_solid (bytes (after (line_start e.kept))) (ends e.kept);
+}
+
+-- ---- the line behind text
+
+pub line_lands : (b : LineBreak) (x : yaml_encoding_t) (text : List ℕ) (c : Cursor) (o : Where) (more : List ℕ) (T : List TokenBody → List TokenBody) (rest : Rest) → Stage x text c o [] more T → NoFeed 0 rest
+    → Left text o.at (bytes (line b 0 c rest)) → AtLine x text rest c.kept T
+line_lands b x text c o more T rest s calm l = from_lined x text rest c.kept more T (line_on b 0 x text c o [] more T rest s calm l)

@@ -23,6 +23,7 @@ use Rattle.yaml_emit_laws_text.proofs.Steps.{left_letter, letter_low}
 use Rattle.yaml_scan_laws_levels.specs.Pushes.{IsRight, stays_level}
 use Rattle.yaml_scan_laws_levels.specs.Steps.{Comes, WordLeaves}
 use Rattle.yaml_scan_laws_levels.specs.Walks.{Where, Reads, LeaveClear, Outside, behind}
+use Rattle.yaml_scan_laws_levels.proofs.Slotting.{letter_columns}
 use Rattle.yaml_scan_laws_levels.proofs.Stepping.{words_leave}
 use Rattle.yaml_scan_laws_levels.proofs.Walking.{walk_white, walk_word, deeper_leaves}
 use Rattle.yaml_emit_laws_scalars.proofs.Lines.{line_start, after_blanks, blanks_kept}
@@ -85,15 +86,6 @@ leave_clear k o a cs keeps bars (inl out) = deeper_leaves k o.depth a cs out
 leave_clear k o a cs keeps bars (inr (ds, same, out, off)) =
     subst (λ (es : List ℕ). LeaveClear k o.depth a es) (sym same) (inl (refl, ap (λ (b : Bool). b && may_be_key k) (bars off), keeps), deeper_leaves k o.depth a ds out)
 
--- ---- white
-
-pub record White (x : yaml_encoding_t) (text bs : List ℕ) (o : Where) (cs ls : List ℕ) (T : List TokenBody → List TokenBody) : Type 0 where
-  pub place : Where
-  pub reads : Reads x text place cs ls [] T
-  pub deep : place.depth ≡ o.depth
-  pub now : o.now ≡ true → place.now ≡ true
-  pub left : Left text place.at bs
-
 off_or : (a b : Bool) → a ≡ false → (a || (false && b)) ≡ false
 off_or a b e = rw e refl
 
@@ -105,6 +97,7 @@ pub record Space (x : yaml_encoding_t) (text bs : List ℕ) (o : Where) (cs ls m
   pub deep : place.depth ≡ o.depth
   pub same : place.now ≡ o.now
   pub broken : place.broken ≡ o.broken
+  pub right : column_at text o.at ≤ column_at text place.at
   pub left : Left text place.at bs
 
 same_or : (a b : Bool) → (a || (false && b)) ≡ a
@@ -120,9 +113,10 @@ space_on true x text bs o cs ls more T r l =
       deep = refl;
       same = same_or o.now o.broken;
       broken = refl;
+      right = let (next, same) = letter_columns text o.at 32 here (omega arith) (omega arith) in omega (arith, next);
       left = left_more text o.at 32 bs l;
     }
-space_on false x text bs o cs ls more T r l = record { place = o; reads = r; deep = refl; same = refl; broken = refl; left = l }
+space_on false x text bs o cs ls more T r l = record { place = o; reads = r; deep = refl; same = refl; broken = refl; right = omega arith; left = l }
 
 pub clear_same : (o u : Where) (cs : List ℕ) → u.depth ≡ o.depth → u.now ≡ o.now → IsClear o cs → IsClear u cs
 clear_same o u cs deep now (inl out) = inl (subst (λ (d : ℕ). Outside d cs) (sym deep) out)

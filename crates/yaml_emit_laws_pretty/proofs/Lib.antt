@@ -23,3 +23,5 @@ pub mod NodeItems
 pub mod NodePairs
 pub mod NodeBlocks
 pub mod NodeWalks
+pub mod FlowFollows
+pub mod FlowScalars

@@ -94,7 +94,7 @@ abbrev pub behind_gap : Bool → Cursor → Cursor
 behind_gap true c = c
 behind_gap false c = record { column = c.column + 1; white = true; bare = c.bare; kept = c.kept }
 
-gap_left : (text : List ℕ) (p : ℕ) (b : Bool) (c : Cursor) (rest : Rest) → Left text p (bytes (if b then rest c else blank c rest)) → Left text p (if not b then 32 ∷ bytes (rest (behind_gap b c)) else bytes (rest (behind_gap b c)))
+pub gap_left : (text : List ℕ) (p : ℕ) (b : Bool) (c : Cursor) (rest : Rest) → Left text p (bytes (if b then rest c else blank c rest)) → Left text p (if not b then 32 ∷ bytes (rest (behind_gap b c)) else bytes (rest (behind_gap b c)))
 gap_left text p true c rest l = l
 gap_left text p false c rest l = left_letter text p 32 (rest (behind_gap false c)) refl l
 

@@ -25,3 +25,5 @@ pub mod NodeBlocks
 pub mod NodeWalks
 pub mod FlowFollows
 pub mod FlowScalars
+pub mod FlowItems
+pub mod FlowNodes

@@ -84,5 +84,5 @@ pub dots_walk : (s : Settings) (x : yaml_encoding_t) (text : List ℕ) (rest : R
 dots_walk s x text rest kept T calm a =
     let after : Rest = λ e. line s.line_break 0 e rest in
     let m = three_walks 46 kinds.DocumentEnd tokens.document_end thrice_dot refl x text after kept T (λ q l. line_blank s.line_break text (behind_three kept) q rest refl l)
-        (on_from x text (λ e. dots s e rest) kept T a) in
+    (on_from x text (λ e. dots s e rest) kept T a) in
     line_lands s.line_break x text (behind_three kept) m.place [] (λ bs. T (tokens.document_end ∷ bs)) rest m.stage calm m.left

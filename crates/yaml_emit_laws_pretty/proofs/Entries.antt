@@ -25,7 +25,7 @@ use Rattle.yaml_scan_laws_levels.proofs.Slotting.{letter_columns}
 use Rattle.yaml_scan_laws_levels.proofs.Stepping.{words_leave}
 use Rattle.yaml_scan_laws_levels.proofs.Walking.{walk_mark}
 use Rattle.yaml_emit_laws_scalars.specs.Stops.{begins_white, is_gap_byte}
-use Rattle.yaml_emit_laws_pretty.specs.Walk.{Mark, Entry, Question, Answer, mark_byte, mark_body, mark_level, IsLone, Lined, MarkIsWalked}
+use Rattle.yaml_emit_laws_pretty.specs.Walk.{Mark, Entry, Question, Answer, mark_byte, mark_body, mark_level, IsLone, MarkIsWalked}
 use Rattle.yaml_emit_laws_pretty.proofs.Lining.{first_byte, or_left}
 
 never : false ≡ true → ⊥
@@ -103,9 +103,9 @@ mark_on k x text n kept ls more new what T rest here lone low rises opens starts
     let closes : ClosesAt 0 (column_at text q) ls more = inr (refl, omega (arith, margin, low), subst (λ i. Rises i more) (sym margin) rises) in
     let (is, level, allows) = mark_starts k in
     let r = walk_mark x text o ls more new what T (mark_kind k) [] (sign (mark_body k) (q + 1)) (q + 1) true true s.reads s.flat comes is
-        (or_left o.now (false && o.broken) now) closes (lone_at k text o q z lone) (ap (λ i. opened true i ls) margin ∙ opens)
-        (ap (λ i. start_of 0 i ls (level_of (mark_kind k))) margin ∙ ap (λ t. start_of 0 (n + 1) ls t) level ∙ starts)
-        (subst (λ (t : Bool). WordLeaves text 0 t (sign (mark_body k) (q + 1)) (q + 1) true true) (sym allows) (words_leave.all text 0 true (sign (mark_body k) (q + 1)) refl)) in
+    (or_left o.now (false && o.broken) now) closes (lone_at k text o q z lone) (ap (λ i. opened true i ls) margin ∙ opens)
+    (ap (λ i. start_of 0 i ls (level_of (mark_kind k))) margin ∙ ap (λ t. start_of 0 (n + 1) ls t) level ∙ starts)
+    (subst (λ (t : Bool). WordLeaves text 0 t (sign (mark_body k) (q + 1)) (q + 1) true true) (sym allows) (words_leave.all text 0 true (sign (mark_body k) (q + 1)) refl)) in
     let (next, line) = letter_columns text q b at (omega (arith, above)) below in
     let right : column_at text (q + 1) ≡ n + 1 = next ∙ ap (λ i. i + 1) there in
     record {

@@ -1,11 +1,10 @@
 -- A plain key begins with neither white nor a comment: the text that it writes is read as a plain scalar, so a lexeme begins with it.
-use Rattle.std.proofs.Common.{◌≡◌, ℕ, ◌+◌, ◌==◌, ◌&&◌, ◌||◌, not, nat_lt, Bool, true, false, List, [], ◌∷◌, ◌++◌, length, zero, suc, refl, sym, ap, subst, ◌∙◌, arith, append_assoc}
+use Rattle.std.proofs.Common.{◌≡◌, ℕ, ◌+◌, ◌==◌, ◌&&◌, ◌||◌, not, nat_lt, Bool, true, false, List, [], ◌∷◌, ◌++◌, length, refl, subst, arith, append_assoc}
 use Rattle.std.specs.Prelude.{if◌then◌else◌}
 use Rattle.std.proofs.lemmas.Bool.Decides.{nat_tests}
 use Rattle.yaml_emit_laws_text.specs.scan_history.scan_model.Marks.{byte, break_of}
 use Rattle.yaml_emit_laws_text.specs.scan_history.scan_words.Written.{begins_lexeme}
-use Rattle.yaml_emit_laws_text.specs.Walk.{Has, Left, first}
-use Rattle.yaml_emit_laws_text.specs.emit_layout.emit_text.Style.{behind}
+use Rattle.yaml_emit_laws_text.specs.Walk.{Has, Left}
 use Rattle.yaml_scan_laws_levels.proofs.Whites.{pair}
 use Rattle.yaml_emit_laws_scalars.specs.Stops.{begins_solid, is_gap_byte}
 use Rattle.yaml_emit_laws_pretty.specs.Walk.{no_comment}

@@ -2,7 +2,6 @@
 use Rattle.std.proofs.Common.{◌≡◌, ℕ, ◌+◌, nat_lt, Bool, true, false, List, [], ◌∷◌, ◌++◌, refl, ap, ◌∙◌, arith, None, encode_utf8_all}
 use Rattle.std.specs.Prelude.{if◌then◌else◌}
 use Rattle.std.specs.Str.{chars}
-use Rattle.yaml_emit_laws_text.specs.scan_history.History.{indent}
 use Rattle.yaml_emit_laws_text.specs.scan_history.scan_words.Written.{begins_lexeme}
 use Rattle.yaml_emit_laws_text.specs.emit_layout.emit_text.declared.Cursor.{Cursor}
 use Rattle.yaml_emit_laws_text.specs.emit_layout.emit_text.Layout.{Layout, Rest, ◌▹◌, blank, char, after_text}
@@ -13,7 +12,6 @@ use Rattle.yaml_emit_laws_text.specs.emit_layout.Nodes.{Context, context_of, spo
 use Rattle.yaml_emit_laws_text.specs.Walk.{bytes}
 use Rattle.yaml_emit_laws_text.proofs.Steps.{letter_low, deep_bytes}
 use Rattle.yaml_emit_laws_text.proofs.Words.{front_encodes}
-use Rattle.yaml_scan_laws_levels.specs.Walks.{behind}
 use Rattle.yaml_emit_laws_scalars.specs.Stops.{begins_solid}
 use Rattle.yaml_emit_laws_scalars.specs.StandsLaws.{PlainHasGap}
 use Rattle.yaml_emit_laws_scalars.specs.StylesLaws.{StylesAreAllowed}
@@ -51,9 +49,9 @@ key_shown gaps styles s d deep k anchor tag style u some n rest parted c white =
     let f : Cursor = record { column = b.column + 1; white = false; bare = false; kept = b.kept } in
     let tail = bytes (rest f) in
     let laid : bytes (L c R) ≡ own ++ (58 ∷ tail) =
-        ap (λ (b : Layout). bytes (b c R)) (plain_layout ctx at k anchor tag chosen) ∙ deep_bytes (nat_lt MOST m) (plain page false (chars v) c R)
-        ∙ ap (λ (b : Layout). bytes (b c R)) (gaps page false v u some) ∙ ap (λ (b : Bool). bytes (if b then a c R else blank c (λ e. a e R))) white
-        ∙ ap (λ t. bytes t) (back.written R) ∙ front_encodes back.letters (R back.behind) ∙ ap (λ bs. own ++ bs) (letter_low 58 (rest f) refl) in
+    ap (λ (b : Layout). bytes (b c R)) (plain_layout ctx at k anchor tag chosen) ∙ deep_bytes (nat_lt MOST m) (plain page false (chars v) c R)
+    ∙ ap (λ (b : Layout). bytes (b c R)) (gaps page false v u some) ∙ ap (λ (b : Bool). bytes (if b then a c R else blank c (λ e. a e R))) white
+    ∙ ap (λ t. bytes t) (back.written R) ∙ front_encodes back.letters (R back.behind) ∙ ap (λ bs. own ++ bs) (letter_low 58 (rest f) refl) in
     let stop = (what_stops false 0 None).2 tail (parted f refl refl) in
     let says = goes_on false 0 a c v back (own ++ (58 ∷ tail)) 0 (58 ∷ tail) (left_self (own ++ (58 ∷ tail))) stop in
     let (solid, calm) = both_by own tail says.begins in

@@ -1,5 +1,5 @@
 -- A plain simple key and its `:`.
-use Rattle.std.proofs.Common.{◌≡◌, ℕ, ◌-◌, ◌+◌, ◌<◌, ◌≤◌, ◌&&◌, nat_lt, nat_le, Bool, true, false, List, [], ◌∷◌, ◌++◌, length, zero, suc, refl, sym, ap, subst, ◌∙◌, inl, inr, arith, None, Some, encode_utf8, encode_utf8_all}
+use Rattle.std.proofs.Common.{◌≡◌, ℕ, ◌+◌, ◌<◌, ◌≤◌, ◌&&◌, nat_lt, nat_le, Bool, true, false, List, [], ◌∷◌, ◌++◌, length, zero, suc, refl, sym, ap, subst, ◌∙◌, inl, inr, arith, None, Some, encode_utf8, encode_utf8_all}
 use Rattle.std.specs.Prelude.{if◌then◌else◌}
 use Rattle.std.specs.Str.{chars}
 use Rattle.std.proofs.lemmas.Bool.{cases_Bool, cases_lt}
@@ -75,7 +75,7 @@ column_first text q h s = elim (cases_Bool (ends_break text q)) [
 ]
 
 -- behind what begins with a character's first byte the column is greater
-columns_grow : (text : List ℕ) (p k : ℕ) → line_at text (p + suc k) ≤ line_at text p → starts (byte text p) ≡ true → column_at text p + 1 ≤ column_at text (p + suc k)
+pub columns_grow : (text : List ℕ) (p k : ℕ) → line_at text (p + suc k) ≤ line_at text p → starts (byte text p) ≡ true → column_at text p + 1 ≤ column_at text (p + suc k)
 columns_grow text p k h s =
     let far : p + suc k ≡ suc p + k = omega arith in
     let h1 : line_at text (suc p + k) ≤ line_at text p = subst (λ q. line_at text q ≤ line_at text p) far h in
@@ -85,7 +85,7 @@ columns_grow text p k h s =
     let rest = columns_rise text (suc p) k (omega (arith, h1, up)) in
     subst (λ q. column_at text p + 1 ≤ column_at text q) (sym far) (omega (arith, one, rest))
 
-low_starts : (b : ℕ) → b < 128 → starts b ≡ true
+pub low_starts : (b : ℕ) → b < 128 → starts b ≡ true
 low_starts b h = grind (arith, nat_tests)
 
 high_starts : (b : ℕ) → 192 ≤ b → starts b ≡ true
@@ -176,9 +176,9 @@ key_on gaps words styles nears freshes s d fine deep k anchor tag style good som
     let back = plain_back page false level c v u some ((styles ctx at k).0 chosen) (omega (arith, deep)) (omega (arith, deep, low)) in
     let own = encode_utf8_all back.letters in
     let laid : (R : Rest) → bytes (L c R) ≡ own ++ bytes (R back.behind) = λ R.
-        ap (λ (b : Layout). bytes (b c R)) (plain_layout ctx at k anchor tag chosen) ∙ deep_bytes (nat_lt MOST m) (plain page false (chars v) c R)
-        ∙ ap (λ (b : Layout). bytes (b c R)) (gaps page false v u some) ∙ ap (λ (b : Bool). bytes (if b then a c R else blank c (λ e. a e R))) white
-        ∙ ap (λ t. bytes t) (back.written R) ∙ front_encodes back.letters (R back.behind) in
+    ap (λ (b : Layout). bytes (b c R)) (plain_layout ctx at k anchor tag chosen) ∙ deep_bytes (nat_lt MOST m) (plain page false (chars v) c R)
+    ∙ ap (λ (b : Layout). bytes (b c R)) (gaps page false v u some) ∙ ap (λ (b : Bool). bytes (if b then a c R else blank c (λ e. a e R))) white
+    ∙ ap (λ t. bytes t) (back.written R) ∙ front_encodes back.letters (R back.behind) in
     let near = nears s d fine (scalar_node k) good simple false n c in
     let shown = encode_utf8_all near.shown in
     let none : Rest = λ e. [] in
@@ -211,9 +211,9 @@ key_on gaps words styles nears freshes s d fine deep k anchor tag style good som
     let line = same_line (line_at text e) (line_at text (p + 0)) e (p + 0 + 1024) fresh in
     let line1 : line_at text (p + length own) ≤ line_at text p = subst (λ q. line_at text (p + length own) ≤ line_at text q) z line in
     let filled : back.letters ≡ [] → ⊥ = λ nil. let zero_own : length own ≡ 0 = ap (λ (cs : List ℕ). length (encode_utf8_all cs)) nil in
-        let at_e : e ≡ p + 0 = omega (arith, zero_own) in
-        let other = signs_come.colon text p 0 level [] (no_gap text p says.begins) (ap (λ q. byte text q) (sym at_e) ∙ first) (ap (λ q. is_blank_or_end text (q + 1)) (sym at_e) ∙ white_stands text (e + 1) tail after begins) in
-        not_colon (sym comes.kind ∙ other.kind) in
+    let at_e : e ≡ p + 0 = omega (arith, zero_own) in
+    let other = signs_come.colon text p 0 level [] (no_gap text p says.begins) (ap (λ q. byte text q) (sym at_e) ∙ first) (ap (λ q. is_blank_or_end text (q + 1)) (sym at_e) ∙ white_stands text (e + 1) tail after begins) in
+    not_colon (sym comes.kind ∙ other.kind) in
     let wide = letters_grow text p back.letters (has_front text p own (58 ∷ tail) here.has) filled line1 in
     let (now, at_column) = st.bare bare in
     let from : column_at text p ≡ n = at_column ∙ column in
@@ -224,15 +224,15 @@ key_on gaps words styles nears freshes s d fine deep k anchor tag style good som
     let colon_begins = printed_begins text e 58 first (omega arith) (omega arith) (λ h. omega (arith, h)) in
     let closes : ClosesAt 0 (column_at text (p + 0)) ls more = inr (refl, omega (arith, margin, low), subst (λ i. Rises i more) (sym margin) rises) in
     let key = walk_key_starts x text u0 [] ls more T kinds.Plain [] w e false true reads tt comes refl (or_left o.now (false && o.broken) now) closes fresh0
-        (words_leave.none text 0 w e [] (no_gap text e colon_begins) refl refl) in
+    (words_leave.none text 0 w e [] (no_gap text e colon_begins) refl refl) in
     let u1 : Where = behind text (p + 0) e 0 false true in
     let at0 : byte text (e + 0) ≡ 58 = ap (λ q. byte text q) y ∙ first in
     let alone : is_blank_or_end text (e + 0 + 1) ≡ true = ap (λ q. is_blank_or_end text (q + 1)) y ∙ white_stands text (e + 1) tail after begins in
     let sign_comes = signs_come.colon text e 0 level [] (no_gap text e colon_begins) at0 alone in
     let wide0 : column_at text p + 1 ≤ column_at text (e + 0) = subst (λ q. column_at text p + 1 ≤ column_at text q) (sym y) wide in
     let r = walk_key_stops x text u1 (mark_at text (p + 0)) [] ls new what T (λ bs. tokens.scalar v YAML_PLAIN_SCALAR_STYLE ∷ bs) [] (sign tokens.value (e + 0 + 1)) (e + 0 + 1) false true key tt sign_comes
-        (inr (omega (arith, wide0, from, low))) fresh0 (ap (λ i. opened true i ls) margin ∙ opens) (ap (λ i. start_of 0 i ls opening.Mapping) margin ∙ begun)
-        (words_leave.all text 0 false (sign tokens.value (e + 0 + 1)) refl) in
+    (inr (omega (arith, wide0, from, low))) fresh0 (ap (λ i. opened true i ls) margin ∙ opens) (ap (λ i. start_of 0 i ls opening.Mapping) margin ∙ begun)
+    (words_leave.all text 0 false (sign tokens.value (e + 0 + 1)) refl) in
     let (next, line2) = letter_columns text (e + 0) 58 at0 (omega arith) (omega arith) in
     record {
       cursor = f;

@@ -18,6 +18,7 @@ pub mod DocDirectives
 pub mod DocEnds
 pub mod DocOpens
 pub mod DocText
+pub mod LeafBlocks
 pub mod NodeLines
 pub mod NodeItems
 pub mod NodePairs
@@ -27,3 +28,8 @@ pub mod FlowFollows
 pub mod FlowScalars
 pub mod FlowItems
 pub mod FlowNodes
+pub mod KeySteps
+pub mod LeafWords
+pub mod LeafProps
+pub mod KeyColumns
+pub mod FlowBlocks

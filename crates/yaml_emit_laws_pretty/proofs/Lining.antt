@@ -20,7 +20,7 @@ use Rattle.yaml_scan_laws_order.proofs.MarksForward.{line_at-grows}
 use Rattle.yaml_scan_laws_levels.specs.Walks.{Where}
 use Rattle.yaml_scan_laws_levels.proofs.Slotting.{letter_columns, feed_line}
 use Rattle.yaml_scan_laws_levels.proofs.Walking.{walk_white}
-use Rattle.yaml_emit_laws_pretty.specs.Walk.{Stage, Goes, NoFeed, Lined, LineIsWalked, LinedUp, LineEndsNode}
+use Rattle.yaml_emit_laws_pretty.specs.Walk.{Stage, NoFeed, Lined, LineIsWalked, LineEndsNode}
 
 pub first_byte : (text : List ℕ) (p : ℕ) (bs : List ℕ) → Left text p bs → byte text p ≡ first bs
 first_byte text p [] l = let e = l.ends in get_or_past text p 0 (omega (arith, e))
@@ -166,7 +166,7 @@ line_on b n x text c o ls more T rest s none l =
           let (bare, right, late) = all_false (not c.bare) (nat_lt n c.column) (c.column == n && not c.white) e in
           let most = up_to n c.column right in
           let all = blanks_on (n - c.column) x text c o ls more T rest s (not_false c.bare bare) (λ z. white_so (c.column == n) c.white (equal c.column n (omega (arith, z, most))) late)
-              (subst (λ (t : Bool). Left text o.at (bytes (if t then new_line b c after else after c))) e l) in
+          (subst (λ (t : Bool). Left text o.at (bytes (if t then new_line b c after else after c))) e l) in
           record { cursor = all.cursor; place = all.place; stage = all.stage; left = all.left; bare = all.bare; white = all.white; column = all.column ∙ omega (arith, most); same = all.same }
     ]
 
@@ -182,8 +182,9 @@ line_ends b n x text kept ls T rest none g =
     let break : must_break n c ≡ true = must_if c.bare (nat_lt n c.column) (c.column == n && not c.white) g.bare in
     let h = break_on b x text c g.place ls g.more T after g.stage (first_blank (n - 0) (line_start c) n rest none refl refl (omega arith)) (subst (λ (t : Bool). Left text g.place.at (bytes (if t then new_line b c after else after c))) break g.left) in
     let all = blanks_on (n - 0) x text (line_start c) h.place ls g.more T rest h.stage refl (λ z. refl) h.left in
+    let there : 0 + (n - 0) ≡ n = omega arith in
     record {
       more = g.more;
-      lined = record { cursor = all.cursor; place = all.place; stage = all.stage; left = all.left; bare = all.bare; white = all.white; column = all.column ∙ omega arith; same = all.same ∙ g.same };
+      lined = record { cursor = all.cursor; place = all.place; stage = all.stage; left = all.left; bare = all.bare; white = all.white; column = ◌∙◌ {a = all.cursor.column} all.column there; same = ◌∙◌ {a = all.cursor.kept} all.same g.same };
       later = blanks_later (n - 0) x text (line_start c) h.place ls g.more T rest h.stage refl (λ z. refl) h.left h.later;
     }

@@ -70,11 +70,11 @@ item_on p n y xs walk others x text kept now more new what m after T here low ri
     let R : Rest = λ h. node_layout p at y h (λ k. items_layout p false n false xs k (λ e. line b m e after)) in
     let split = items_line p n m after xs in
     let dash = mark_on Entry x text n kept now more new what T R here tt low rises opens starts
-        (λ e bare white column. ap (λ (r : Rest). begins_white (bytes (node_layout p at y e r))) split ∙ walk.white e next then white) in
+    (λ e bare white column. ap (λ (r : Rest). begins_white (bytes (node_layout p at y e r))) split ∙ walk.white e next then white) in
     let U : List TokenBody → List TokenBody = λ bs. T (start_bodies what (tokens.block_entry ∷ bs)) in
     let right = dash.right in
     let one = walk.walks new dash.cursor next then dash.bare last (items_up n m xs up) (subst (λ i. Ending b next i then) (sym last) (items_ending p n m after xs ending)) x text dash.place U dash.stage (omega (arith, last, right))
-        (subst (λ (r : Rest). Left text dash.place.at (bytes (node_layout p at y dash.cursor r))) split dash.left) in
+    (subst (λ (r : Rest). Left text dash.place.at (bytes (node_layout p at y dash.cursor r))) split dash.left) in
     let same : LinedUp x text then next (node_kept p false part.Item y kept) new (λ bs. U (node_bodies p false part.Item true y bs)) = subst (λ k. LinedUp x text then next (node_kept p false part.Item y k) new (λ bs. U (node_bodies p false part.Item true y bs))) dash.same one in
     others x text (node_kept p false part.Item y kept) new m after (λ bs. U (node_bodies p false part.Item true y bs)) last up ending same
 

@@ -1,5 +1,5 @@
 -- Lines between nodes, and the indicators behind them.
-use Rattle.std.proofs.Common.{◌≡◌, ℕ, ◌-◌, ◌+◌, ◌<◌, ◌≤◌, ◌==◌, ◌&&◌, ◌||◌, not, nat_lt, Bool, true, false, List, [], ◌∷◌, ◌++◌, zero, suc, refl, sym, ap, subst, ◌∙◌, inl, inr, arith}
+use Rattle.std.proofs.Common.{◌≡◌, ℕ, ◌-◌, ◌+◌, ◌<◌, ◌==◌, ◌&&◌, ◌||◌, not, nat_lt, Bool, true, false, List, [], ◌∷◌, ◌++◌, zero, suc, refl, ap, ◌∙◌, inl, inr, arith}
 use Rattle.std.specs.Prelude.{if◌then◌else◌}
 use Rattle.std.proofs.lemmas.Bool.{cases_Bool}
 use Rattle.std.proofs.lemmas.Bool.Decides.{nat_tests}
@@ -14,7 +14,6 @@ use Rattle.yaml_emit_laws_text.specs.emit_layout.emit_text.Layout.{Rest, blank, 
 use Rattle.yaml_emit_laws_text.specs.emit_layout.emit_text.Text.{letter}
 use Rattle.yaml_emit_laws_text.specs.Walk.{bytes}
 use Rattle.yaml_emit_laws_text.proofs.Steps.{letter_low}
-use Rattle.yaml_scan_laws_levels.specs.Walks.{Where}
 use Rattle.yaml_scan_laws_levels.proofs.Walking.{walk_ends, walk_says}
 use Rattle.yaml_emit_laws_scalars.specs.Stops.{begins_white, begins_solid}
 use Rattle.yaml_emit_laws_pretty.specs.Walk.{LinedUp, Mark, Entry, Question, Answer, mark_byte, no_comment}

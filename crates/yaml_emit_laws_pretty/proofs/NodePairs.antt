@@ -22,7 +22,7 @@ use Rattle.yaml_scan_laws_levels.proofs.Walking.{levels_part}
 use Rattle.yaml_emit_laws_scalars.specs.Stops.{begins_white}
 use Rattle.yaml_emit_laws_pretty.specs.Bodies.{node_bodies, pairs_bodies, node_kept, pairs_kept}
 use Rattle.yaml_emit_laws_pretty.specs.Walk.{Stage, Lined, LinedUp, Question, Answer}
-use Rattle.yaml_emit_laws_pretty.specs.Nodes.{Shows, Ending, NodeWalks, KeyWalks, PartedBehind}
+use Rattle.yaml_emit_laws_pretty.specs.Nodes.{Shows, Ending, NodeWalks, KeyWalks}
 use Rattle.yaml_emit_laws_pretty.proofs.Lining.{line_on}
 use Rattle.yaml_emit_laws_pretty.proofs.Entries.{mark_on}
 use Rattle.yaml_emit_laws_pretty.proofs.Following.{shown_ends, shows_no_feed, ending_up}
@@ -164,7 +164,7 @@ asked_on p n k v ps walk all others x text kept now more new what m after T here
     let answer = mark_on Answer x text n kept1 new key.more new opening.Nothing W V key.lined key.later (omega (arith, last)) (subst (λ i. Rises i key.more) last above) stays begins (λ e bare white column. value_parted p n m after k v ps walk e white) in
     let X : List TokenBody → List TokenBody = λ bs. W (tokens.value ∷ bs) in
     let right2 = answer.right in
-    let same : answer.cursor.kept ≡ node_kept p false part.Key k kept = answer.same ∙ ap (λ t. node_kept p false part.Key k t) ask.same in
+    let same : answer.cursor.kept ≡ node_kept p false part.Key k kept = ◌∙◌ {a = answer.cursor.kept} answer.same (ap (λ t. node_kept p false part.Key k t) ask.same) in
     let one = value_on p n k v ps true walk all x text answer.cursor answer.place (node_kept p false part.Key k kept) new m after X answer.stage answer.bare same (omega (arith, last, right2)) last up ending answer.left in
     others x text (node_kept p false part.Value v (node_kept p false part.Key k kept)) new m after (λ bs. X (node_bodies p false part.Value true v bs)) last up ending one
 

@@ -1,16 +1,16 @@
 -- All nodes of blocks, by induction.
-use Rattle.std.proofs.Common.{◌≡◌, ℕ, ◌||◌, not, Bool, true, false, refl, inl, inr, Option, Some, None}
+use Rattle.std.proofs.Common.{◌≡◌, ℕ, ◌||◌, Bool, true, false, refl, inl, inr, Option, Some, None}
 use Rattle.std.proofs.lemmas.Bool.{cases_Bool}
 use Rattle.yaml_emit_laws_text.specs.emit_layout.emit_text.declared.Settings.{Settings}
 use Rattle.yaml_emit_laws_text.specs.emit_layout.declared.level.Part.{Part}
 use Rattle.yaml_emit_laws_text.specs.emit_layout.declared.level.Part.TheVariants as part
-use Rattle.yaml_emit_laws_text.specs.emit_layout.Content.{Start, Opening, Node, alias_node, scalar_node, sequence_node, mapping_node, Nodes, no_nodes, node, Pairs, no_pairs, pair}
-use Rattle.yaml_emit_laws_text.specs.emit_layout.Nodes.{context_of, is_simple, is_simple_part}
+use Rattle.yaml_emit_laws_text.specs.emit_layout.Content.{Opening, Node, alias_node, scalar_node, sequence_node, mapping_node, Nodes, no_nodes, node, Pairs, no_pairs, pair}
+use Rattle.yaml_emit_laws_text.specs.emit_layout.Nodes.{context_of, is_simple_part}
 use Rattle.yaml_emit_laws_text.specs.Writable.{IsWritable, AreItemsWritable, ArePairsWritable}
 use Rattle.yaml_emit_laws_pretty.specs.Bodies.{style_at, is_flow_at}
 use Rattle.yaml_emit_laws_pretty.specs.Nodes.{IsPretty, NodeWalks, NodesAreWalked, LeavesAreWalked, BlockScalarsAreWalked, is_block, BracketsAreWalked, PropertiesAreWalked, SimpleKeysAreWalked, is_place}
 use Rattle.yaml_emit_laws_pretty.proofs.NodeItems.{MoreItems, more_none, more_item}
-use Rattle.yaml_emit_laws_pretty.proofs.NodePairs.{PairWalks, PairsWalk}
+use Rattle.yaml_emit_laws_pretty.proofs.NodePairs.{PairsWalk}
 use Rattle.yaml_emit_laws_pretty.proofs.NodeBlocks.{block_sequence, block_mapping}
 
 -- the laws of leaves, brackets, properties and simple keys
@@ -75,11 +75,14 @@ mutual
 
   pairs_on : Parts → (s : Settings) (d : Opening) → IsPretty s d → (ps : Pairs) → ArePairsWritable ps → (n : ℕ) → PairsWalk (context_of s d.directives) n ps
   pairs_on laws s d pretty no_pairs fine n = tt
-  pairs_on laws s d pretty (pair k v ps) (key, value, all) n = (record {
-    simple = λ is. laws.keys s d pretty k key is;
-    asked = node_on laws s d pretty k key (Some n) part.Key true refl;
-    value = λ b. node_on laws s d pretty v value (Some n) part.Value b refl;
-  }, pairs_on laws s d pretty ps all n)
+  pairs_on laws s d pretty (pair k v ps) (key, value, all) n = (
+    record {
+      simple = λ is. laws.keys s d pretty k key is;
+      asked = node_on laws s d pretty k key (Some n) part.Key true refl;
+      value = λ b. node_on laws s d pretty v value (Some n) part.Value b refl;
+    },
+    pairs_on laws s d pretty ps all n,
+  )
 
 pub nodes_walk : LeavesAreWalked → BlockScalarsAreWalked → BracketsAreWalked → PropertiesAreWalked → SimpleKeysAreWalked → NodesAreWalked
 nodes_walk leaves blocks brackets properties keys s d pretty y fine around q bare place = node_on (record { leaves = leaves; blocks = blocks; brackets = brackets; properties = properties; keys = keys }) s d pretty y fine around q bare place

@@ -1,26 +1,22 @@
 -- The layout and the tokens of plain scalars without properties.
-use Rattle.std.proofs.Common.{◌≡◌, ℕ, ◌-◌, ◌+◌, ◌<◌, ◌≤◌, ◌==◌, ◌&&◌, ◌||◌, not, nat_lt, Bool, true, false, List, [], ◌∷◌, zero, suc, refl, sym, ap, subst, ◌∙◌, arith, Option, None}
+use Rattle.std.proofs.Common.{◌≡◌, ℕ, ◌+◌, ◌<◌, ◌≤◌, ◌&&◌, ◌||◌, not, nat_lt, Bool, true, false, List, [], ◌∷◌, refl, sym, ap, subst, ◌∙◌, arith, Option, None}
 use Rattle.std.specs.Prelude.{if◌then◌else◌, IsUtf8}
 use Rattle.std.specs.Str.{chars}
-use Rattle.std.proofs.lemmas.Bool.Decides.{nat_tests}
 use Rattle.yaml_emit_laws_text.specs.emit_layout.scan.declared.yaml_encoding_t.{yaml_encoding_t}
-use Rattle.yaml_emit_laws_text.specs.emit_layout.scan.Tokens as tokens
 use Rattle.yaml_emit_laws_text.specs.emit_layout.scan.Tokens.{TokenBody}
 use Rattle.yaml_emit_laws_text.specs.scan_history.History.{indent}
 use Rattle.yaml_emit_laws_text.specs.emit_layout.emit_text.declared.Cursor.{Cursor}
-use Rattle.yaml_emit_laws_text.specs.emit_layout.emit_text.declared.LineBreak.{LineBreak}
 use Rattle.yaml_emit_laws_text.specs.emit_layout.emit_text.declared.Page.{Page}
 use Rattle.yaml_emit_laws_text.specs.emit_layout.emit_text.declared.Style.{Style}
 use Rattle.yaml_emit_laws_text.specs.emit_layout.emit_text.declared.Style.TheVariants as style
-use Rattle.yaml_emit_laws_text.specs.emit_layout.emit_text.Layout.{Layout, Rest, ◌▹◌, when, word, blank, blanks, line, must_break, new_line, indent_to, after_text, opener, indicator}
+use Rattle.yaml_emit_laws_text.specs.emit_layout.emit_text.Layout.{Layout, Rest, ◌▹◌, when, word, blank, after_text}
 use Rattle.yaml_emit_laws_text.specs.emit_layout.emit_text.Text.{Item}
 use Rattle.yaml_emit_laws_text.specs.emit_layout.emit_text.Scalars.{flow_body, plain, scalar_text}
 use Rattle.yaml_emit_laws_text.specs.emit_layout.declared.level.Spot.{Spot}
 use Rattle.yaml_emit_laws_text.specs.emit_layout.declared.level.Part.{Part}
-use Rattle.yaml_emit_laws_text.specs.emit_layout.declared.level.Part.TheVariants as part
-use Rattle.yaml_emit_laws_text.specs.emit_layout.Content.{Scalar, Start, Node, alias_node, scalar_node, sequence_node, mapping_node, Nodes, no_nodes, node}
+use Rattle.yaml_emit_laws_text.specs.emit_layout.Content.{Scalar, Start, scalar_node}
 use Rattle.yaml_emit_laws_text.specs.emit_layout.Grammar.{has, kept_if, scalar_tag, start_tag}
-use Rattle.yaml_emit_laws_text.specs.emit_layout.Nodes.{Context, spot, style_of, is_plain, is_flow, are_none, properties_text, mark_text, page_at, deeper, checked, MOST, indented, indent_of, scalar_layout, node_layout, items_layout, before_item}
+use Rattle.yaml_emit_laws_text.specs.emit_layout.Nodes.{Context, style_of, is_plain, properties_text, mark_text, page_at, deeper, checked, MOST, scalar_layout, node_layout}
 use Rattle.yaml_emit_laws_text.specs.Bodies.{anchor_bodies, tag_bodies, mark_bodies}
 use Rattle.yaml_emit_laws_text.specs.Walk.{Left, bytes}
 use Rattle.yaml_emit_laws_text.proofs.Steps.{letter_low, deep_bytes}
@@ -28,8 +24,7 @@ use Rattle.yaml_scan_laws_levels.proofs.Walking.{walk_says}
 use Rattle.yaml_emit_laws_scalars.specs.Stops.{begins_white}
 use Rattle.yaml_emit_laws_scalars.specs.StandsLaws.{PlainHasGap}
 use Rattle.yaml_emit_laws_scalars.specs.PlainLaws.{may_be_plain}
-use Rattle.yaml_emit_laws_scalars.specs.StylesLaws.{StylesAreAllowed}
-use Rattle.yaml_emit_laws_pretty.specs.Bodies.{place, style_at, is_flow_at, node_bodies, items_bodies, scalar_bodies, sequence_opens, sequence_closes, takes_mark}
+use Rattle.yaml_emit_laws_pretty.specs.Bodies.{style_at, node_bodies, scalar_bodies, takes_mark}
 use Rattle.yaml_emit_laws_pretty.specs.Walk.{Goes, Walks, Follows, PlainIsWalked}
 
 -- ---- the same tokens, the same layout
@@ -124,4 +119,3 @@ plain_white law page c (b ∷ bs) rest u white f =
     let d : Cursor = record { column = c.column + 1; white = true; bare = c.bare; kept = c.kept } in
     ap (λ (a : Layout). begins_white (bytes (a c rest))) (law page false (b ∷ bs) u (omega arith))
     ∙ ap (λ (w : Bool). begins_white (bytes (if w then body c rest else blank c (λ k. body k rest)))) white ∙ ap (λ xs. begins_white xs) (letter_low 32 (body d rest) refl)
-

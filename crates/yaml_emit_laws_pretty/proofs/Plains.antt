@@ -15,7 +15,7 @@ use Rattle.yaml_emit_laws_text.specs.scan_history.scan_words.Written.{has_break,
 use Rattle.yaml_emit_laws_text.specs.emit_layout.emit_text.declared.Cursor.{Cursor}
 use Rattle.yaml_emit_laws_text.specs.emit_layout.emit_text.declared.Page.{Page}
 use Rattle.yaml_emit_laws_text.specs.emit_layout.emit_text.Layout.{Layout, Rest, ◌▹◌, gap, blank, after_text}
-use Rattle.yaml_emit_laws_text.specs.emit_layout.emit_text.Scalars.{flow_body, plain}
+use Rattle.yaml_emit_laws_text.specs.emit_layout.emit_text.Scalars.{flow_body}
 use Rattle.yaml_emit_laws_text.specs.Walk.{Left, bytes}
 use Rattle.yaml_emit_laws_text.proofs.Places.{has_at, left_first, left_more}
 use Rattle.yaml_emit_laws_text.proofs.Steps.{left_letter}
@@ -136,8 +136,8 @@ body_walks stands are_words page ls value rest u some may deep far follows c x t
     let starts = ends_begins level text p (e + length white) ends at.says.begins (no_hash text e left g.left (follows.calm g.behind g.fine.bare)) (omega arith) in
     let leaves = words_leave.none text (depth_after kinds.Plain o.depth) w e white (record { has = has; blank = blank; ends = starts }) refl refl in
     let r = walk_word x text o [] ls T kinds.Plain [] w e false true s.reads tt
-        (subst (λ d. Comes text p d level kinds.Plain [] w e) (sym s.flat) comes) (stays o.depth)
-        (inr (subst (λ n. level ≤ column_at text n) (sym z) right)) (λ v. absurd (never v)) leaves in
+    (subst (λ d. Comes text p d level kinds.Plain [] w e) (sym s.flat) comes) (stays o.depth)
+    (inr (subst (λ n. level ≤ column_at text n) (sym z) right)) (λ v. absurd (never v)) leaves in
     record {
       behind = g.behind;
       place = behind text (p + 0) e o.depth false true;

@@ -1,19 +1,16 @@
 -- A single quoted scalar as content.
-use Rattle.std.proofs.Common.{◌≡◌, ℕ, ◌+◌, ◌<◌, ◌≤◌, ◌==◌, ◌||◌, not, nat_lt, Bool, true, false, List, [], ◌∷◌, length, refl, sym, ap, subst, ◌∙◌, inr, arith}
+use Rattle.std.proofs.Common.{◌≡◌, ℕ, ◌+◌, ◌<◌, ◌≤◌, Bool, true, false, List, [], ◌∷◌, length, refl, sym, ap, subst, ◌∙◌, inr, arith}
 use Rattle.std.specs.Prelude.{IsUtf8}
 use Rattle.std.specs.Str.{chars}
 use Rattle.yaml_emit_laws_text.specs.emit_layout.scan.declared.yaml_scalar_style_t.TheVariants.{YAML_SINGLE_QUOTED_SCALAR_STYLE}
 use Rattle.yaml_emit_laws_text.specs.emit_layout.scan.Tokens as tokens
-use Rattle.yaml_emit_laws_text.specs.emit_layout.scan.Tokens.{TokenBody}
 use Rattle.yaml_emit_laws_text.specs.scan_history.scan_model.Marks.{column_at}
 use Rattle.yaml_emit_laws_text.specs.scan_history.History.{indent}
-use Rattle.yaml_emit_laws_text.specs.scan_history.Kinds.{depth_after}
 use Rattle.yaml_emit_laws_text.specs.scan_history.Words.{WordText, kind_at, word_at}
 use Rattle.yaml_emit_laws_text.specs.scan_history.declared.kind.Kind.TheVariants as kinds
 use Rattle.yaml_emit_laws_text.specs.emit_layout.emit_text.declared.Cursor.{Cursor}
 use Rattle.yaml_emit_laws_text.specs.emit_layout.emit_text.declared.Page.{Page}
-use Rattle.yaml_emit_laws_text.specs.emit_layout.emit_text.Layout.{Rest, ◌▹◌, char}
-use Rattle.yaml_emit_laws_text.specs.emit_layout.emit_text.Scalars.{flow_body}
+use Rattle.yaml_emit_laws_text.specs.emit_layout.emit_text.Layout.{Rest}
 use Rattle.yaml_emit_laws_text.specs.emit_layout.emit_text.Style.{allowed}
 use Rattle.yaml_emit_laws_text.specs.ReadBack.{between_single}
 use Rattle.yaml_emit_laws_text.specs.Walk.{bytes, first}

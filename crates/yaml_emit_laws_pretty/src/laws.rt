@@ -4,7 +4,10 @@ ghost use Rattle.yaml_emit_laws_pretty.specs.Walk.{LineEndsNode, LineIsWalked, M
 ghost use Rattle.yaml_emit_laws_pretty.specs.KeyLaws.{KeyIsShown, KeyIsWalked};
 ghost use Rattle.yaml_emit_laws_pretty.specs.Nodes.{NodesFollow, ShownEnds};
 
-use yaml_emit_laws_scalars::{near_is_fresh, plain_has_a_gap, plain_stands, scalars_are_words, simple_keys_are_near, single_stands, styles_are_allowed};
+use yaml_emit_laws_scalars::{
+    near_is_fresh, plain_has_a_gap, plain_stands, scalars_are_words, simple_keys_are_near,
+    single_stands, styles_are_allowed,
+};
 
 /// A line leads to its column, by a break and spaces or by spaces alone.
 pub fn line_is_walked()

@@ -102,17 +102,23 @@ mapping_laid s ds around q o pairs flow =
     let at = block_spot around q in
     ap (λ (b : Bool). properties_text p o.anchor (start_tag false o) ▹ (when b (opener 123) ▹ indented (indent_of p.settings at false b) (λ m. checked m ▹ pairs_layout p b m true pairs))) flow
 
-sequence_told : (p : Context) (q : Part) (bare : Bool) (o : Start) (items : Nodes) → is_flow_at p false o (are_none items) ≡ true → (T : List TokenBody → List TokenBody)
-    → (λ bs. T (anchor_bodies o.anchor (tag_bodies p.directives (start_tag false o) (tokens.flow_sequence_start ∷ items_bodies p true true items (tokens.flow_sequence_end ∷ bs))))) ≡ (λ bs. T (node_bodies p false q bare (sequence_node o items) bs))
-unfolding node_bodies
-sequence_told p q bare o items flow T =
-    ap (λ (b : Bool) (bs : List TokenBody). T (anchor_bodies o.anchor (tag_bodies p.directives (start_tag false o) (sequence_opens b (keeps q bare o) (items_bodies p b true items (sequence_closes b (keeps q bare o) bs)))))) (sym flow)
+-- the same tokens
+abbrev Same : (List TokenBody → List TokenBody) → (List TokenBody → List TokenBody) → Type 0
+Same B C = B ≡ C
 
-mapping_told : (p : Context) (q : Part) (bare : Bool) (o : Start) (pairs : Pairs) → is_flow_at p false o (are_no_pairs pairs) ≡ true → (T : List TokenBody → List TokenBody)
-    → (λ bs. T (anchor_bodies o.anchor (tag_bodies p.directives (start_tag false o) (tokens.flow_mapping_start ∷ pairs_bodies p true true pairs (tokens.flow_mapping_end ∷ bs))))) ≡ (λ bs. T (node_bodies p false q bare (mapping_node o pairs) bs))
+sequence_told : (p : Context) (q : Part) (bare : Bool) (o : Start) (items : Nodes) → is_flow_at p false o (are_none items) ≡ true
+    → Same (λ bs. anchor_bodies o.anchor (tag_bodies p.directives (start_tag false o) (tokens.flow_sequence_start ∷ items_bodies p true true items (tokens.flow_sequence_end ∷ bs)))) (λ bs. node_bodies p false q bare (sequence_node o items) bs)
 unfolding node_bodies
-mapping_told p q bare o pairs flow T =
-    ap (λ (b : Bool) (bs : List TokenBody). T (anchor_bodies o.anchor (tag_bodies p.directives (start_tag false o) (mapping_opens b (pairs_bodies p b true pairs (mapping_closes b bs)))))) (sym flow)
+sequence_told p q bare o items flow =
+    let told : Bool → List TokenBody → List TokenBody = λ b bs. anchor_bodies o.anchor (tag_bodies p.directives (start_tag false o) (sequence_opens b (keeps q bare o) (items_bodies p b true items (sequence_closes b (keeps q bare o) bs)))) in
+    ap (λ (b : Bool). told b) (sym flow)
+
+mapping_told : (p : Context) (q : Part) (bare : Bool) (o : Start) (pairs : Pairs) → is_flow_at p false o (are_no_pairs pairs) ≡ true
+    → Same (λ bs. anchor_bodies o.anchor (tag_bodies p.directives (start_tag false o) (tokens.flow_mapping_start ∷ pairs_bodies p true true pairs (tokens.flow_mapping_end ∷ bs)))) (λ bs. node_bodies p false q bare (mapping_node o pairs) bs)
+unfolding node_bodies
+mapping_told p q bare o pairs flow =
+    let told : Bool → List TokenBody → List TokenBody = λ b bs. anchor_bodies o.anchor (tag_bodies p.directives (start_tag false o) (mapping_opens b (pairs_bodies p b true pairs (mapping_closes b bs)))) in
+    ap (λ (b : Bool). told b) (sym flow)
 
 sequence_keeps : WordLaws → (s : Settings) (ds : List TagDirective) (q : Part) (o : Start) (items : Nodes) → is_flow_at (prettily s ds) false o (are_none items) ≡ true → (kept : Bool) → kept ≡ node_kept (prettily s ds) false q (sequence_node o items) kept
 unfolding node_kept
@@ -132,16 +138,16 @@ margin_deep s least (Some n) = omega (arith, least)
 bracketed : PropertiesAreWalked → (s : Settings) (d : Opening) → IsPretty s d → (around : Option ℕ) (q : Part) (bare : Bool) (y : Node) (anchor tag : Option (List ℕ)) → IsWritableAnchor anchor → IsWritableTag tag → (mapping : Bool) (a : Layout) (B : List TokenBody → List TokenBody)
     → ((ls : List ℕ) (rest : Rest) → indent ls ≡ margin_round around → BodyIn a B ls rest)
     → node_layout (prettily s d.directives) (block_spot around q) y ≡ (properties_text (prettily s d.directives) anchor tag ▹ (opener (opening_of mapping) ▹ a))
-    → ((T : List TokenBody → List TokenBody) → (λ bs. T (anchor_bodies anchor (tag_bodies d.directives tag (opens mapping ∷ B bs)))) ≡ (λ bs. T (node_bodies (prettily s d.directives) false q bare y bs)))
+    → Same (λ bs. anchor_bodies anchor (tag_bodies d.directives tag (opens mapping ∷ B bs))) (λ bs. node_bodies (prettily s d.directives) false q bare y bs)
     → ((kept : Bool) → kept ≡ node_kept (prettily s d.directives) false q y kept) → NodeWalks (prettily s d.directives) around q bare y
-bracketed law s d is around q bare y anchor tag good fine mapping a B body laid told keeps = record {
+bracketed law s d is around q bare y anchor tag good fine mapping a B body laid told kept_so = record {
   walks = λ ls c m after here level low ending x text o T st right l.
       let p = prettily s d.directives in
       let R : Rest = λ e. line s.line_break m e after in
       let k = node_kept p false q y c.kept in
       let g = any_block law s d is anchor tag good fine mapping a B ls R (body ls R level) c x text o T st right (subst (λ (b : Layout). Left text o.at (bytes (b c R))) laid l) in
-      let h = subst (λ (U : List TokenBody → List TokenBody). Goes x text R c.kept ls U) (told T) g in
-      let i = subst (λ (b : Bool). Goes x text R b ls (λ bs. T (node_bodies p false q bare y bs))) (keeps c.kept) h in
+      let h = subst (λ (U : List TokenBody → List TokenBody). Goes x text R c.kept ls (λ bs. T (U bs))) told g in
+      let i = subst (λ (b : Bool). Goes x text R b ls (λ bs. T (node_bodies p false q bare y bs))) (kept_so c.kept) h in
       line_ends s.line_break m x text k ls (λ bs. T (node_bodies p false q bare y bs)) after ending.feed i;
   white = λ c m after white.
       let p = prettily s d.directives in
@@ -160,7 +166,7 @@ node_brackets laws keys law s d is (sequence_node o items) (anchor, tag, all) fl
     let up = margin_deep s least around in
     bracketed law s d is around q bare (sequence_node o items) o.anchor (start_tag false o) anchor (kept_good (not o.implicit) o.tag tag) false (checked m ▹ items_layout p true m true items) (λ bs. items_bodies p true true items (tokens.flow_sequence_end ∷ bs))
     (λ ls rest level. body_checked m (items_layout p true m true items) (λ bs. items_bodies p true true items (tokens.flow_sequence_end ∷ bs)) ls rest (first_in laws keys s d is items all m ls (omega (arith, level, up)) rest))
-    (sequence_laid s d.directives around q o items flow) (λ T. sequence_told p q bare o items flow T) (λ kept. sequence_keeps laws s d.directives q o items flow kept)
+    (sequence_laid s d.directives around q o items flow) (sequence_told p q bare o items flow) (λ kept. sequence_keeps laws s d.directives q o items flow kept)
 node_brackets laws keys law s d is (mapping_node o pairs) (anchor, tag, all) flow around q bare =
     let p = prettily s d.directives in
     let m = deeper (pretty_of s) around in
@@ -168,7 +174,7 @@ node_brackets laws keys law s d is (mapping_node o pairs) (anchor, tag, all) flo
     let up = margin_deep s least around in
     bracketed law s d is around q bare (mapping_node o pairs) o.anchor (start_tag false o) anchor (kept_good (not o.implicit) o.tag tag) true (checked m ▹ pairs_layout p true m true pairs) (λ bs. pairs_bodies p true true pairs (tokens.flow_mapping_end ∷ bs))
     (λ ls rest level. body_checked m (pairs_layout p true m true pairs) (λ bs. pairs_bodies p true true pairs (tokens.flow_mapping_end ∷ bs)) ls rest (first_pairs_in laws keys s d is pairs all m ls (omega (arith, level, up)) rest))
-    (mapping_laid s d.directives around q o pairs flow) (λ T. mapping_told p q bare o pairs flow T) (λ kept. mapping_keeps laws s d.directives q o pairs flow kept)
+    (mapping_laid s d.directives around q o pairs flow) (mapping_told p q bare o pairs flow) (λ kept. mapping_keeps laws s d.directives q o pairs flow kept)
 
 pretty_context : (s : Settings) (ds : List TagDirective) → s.canonical ≡ false → prettily s ds ≡ context_of s ds
 pretty_context s ds e = ap (λ (c : Bool). context_of (record { encoding = s.encoding; canonical = c; indent = s.indent; width = s.width; unicode = s.unicode; line_break = s.line_break }) ds) (sym e)

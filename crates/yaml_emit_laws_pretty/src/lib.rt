@@ -8,7 +8,7 @@ mod laws;
 mod leaf_laws;
 
 pub use doc_laws::documents_are_read;
-pub use flows::flow_trial;
+pub use flows::brackets_follow;
 pub use laws::{
     key_is_shown, key_is_walked, line_ends_node, line_is_walked, mark_is_walked, nodes_follow,
     plain_is_walked, shown_ends, single_is_walked,

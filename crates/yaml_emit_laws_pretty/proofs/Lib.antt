@@ -1,12 +1,11 @@
 pub mod Lining
 pub mod Entries
+pub mod KeyColumns
 pub mod Plains
 pub mod Following
 pub mod PlainLayouts
-pub mod KeysWalk
 pub mod Singles
 pub mod KeysShow
-pub mod KeysShown
 pub mod DocStarts
 pub mod DocLines
 pub mod DocWords
@@ -25,6 +24,8 @@ pub mod SpokenLayouts
 pub mod KeySteps
 pub mod LeafWords
 pub mod LeafProps
-pub mod KeyColumns
+pub mod KeyForms
+pub mod KeyKinds
+pub mod KeyLeaves
 pub mod LeafDress
 pub mod LeafNodes

@@ -1,8 +1,9 @@
 -- Collections in brackets, and what stands in them, at any depth.
-use Rattle.std.specs.Prelude.{◌≡◌, ◌⊎◌, ◌+◌, ℕ, nat_lt, Bool, true, false, not, List, [], ◌∷◌, None}
+use Rattle.std.specs.Prelude.{◌≡◌, ◌⊎◌, ◌≤◌, ◌+◌, ℕ, nat_lt, Bool, true, false, not, List, [], ◌∷◌, None}
 use Rattle.yaml_emit_laws_text.specs.emit_layout.scan.declared.yaml_encoding_t.{yaml_encoding_t}
 use Rattle.yaml_emit_laws_text.specs.emit_layout.scan.Tokens as tokens
 use Rattle.yaml_emit_laws_text.specs.emit_layout.scan.Tokens.{TokenBody}
+use Rattle.yaml_emit_laws_text.specs.scan_history.History.{indent}
 use Rattle.yaml_emit_laws_text.specs.emit_layout.emit_text.declared.Cursor.{Cursor}
 use Rattle.yaml_emit_laws_text.specs.emit_layout.emit_text.declared.Settings.{Settings}
 use Rattle.yaml_emit_laws_text.specs.emit_layout.emit_text.Layout.{Layout, Rest, ◌▹◌, char}
@@ -55,7 +56,8 @@ pub record FollowsIn (rest : Rest) : Type 0 where
 
 -- A simple key in brackets and its `:`, where a key may begin.
 abbrev pub KeyWalksIn : Context → Node → Type 0
-KeyWalksIn p k = (n : ℕ) (ls : List ℕ) (c : Cursor) (rest : Rest) → PartedBehind rest
+KeyWalksIn p k = (n : ℕ) (ls : List ℕ) (c : Cursor) (rest : Rest) → indent ls ≤ n
+    → PartedBehind rest
     → (x : yaml_encoding_t) (text : List ℕ) (o : Where) (cs : List ℕ)
     (T : List TokenBody → List TokenBody) → Reads x text o cs ls [] T → nat_lt 0 o.depth ≡ true
     → o.now ≡ true → Outside o.depth cs

@@ -1,8 +1,9 @@
 -- Collections in brackets, and what stands in them, at any depth.
-use Rattle.std.specs.Prelude.{◌≡◌, ◌⊎◌, ◌+◌, ℕ, nat_lt, Bool, true, false, not, List, [], ◌∷◌, None}
+use Rattle.std.specs.Prelude.{◌≡◌, ◌⊎◌, ◌≤◌, ◌+◌, ℕ, nat_lt, Bool, true, false, not, List, [], ◌∷◌, None}
 use Rattle.yaml_emit_laws_text.specs.emit_layout.scan.declared.yaml_encoding_t.{yaml_encoding_t}
 use Rattle.yaml_emit_laws_text.specs.emit_layout.scan.Tokens as tokens
 use Rattle.yaml_emit_laws_text.specs.emit_layout.scan.Tokens.{TokenBody}
+use Rattle.yaml_emit_laws_text.specs.scan_history.History.{indent}
 use Rattle.yaml_emit_laws_text.specs.emit_layout.emit_text.declared.Cursor.{Cursor}
 use Rattle.yaml_emit_laws_text.specs.emit_layout.emit_text.declared.Settings.{Settings}
 use Rattle.yaml_emit_laws_text.specs.emit_layout.emit_text.Layout.{Layout, Rest, ◌▹◌, char}
@@ -15,7 +16,7 @@ use Rattle.yaml_scan_laws_levels.specs.Walks.{Where, Reads, Outside}
 use Rattle.yaml_emit_laws_scalars.specs.Stops.{stops_plain_at}
 use Rattle.yaml_emit_laws_pretty.specs.Bodies.{node_bodies}
 use Rattle.yaml_emit_laws_pretty.specs.Walk.{no_comment}
-use Rattle.yaml_emit_laws_pretty.specs.Nodes.{IsPretty, PartedBehind}
+use Rattle.yaml_emit_laws_pretty.specs.Nodes.{IsPretty, PartedBehind, PropertiesAreWalked, BracketsAreWalked}
 use Rattle.yaml_emit_laws_pretty.specs.Spoken.{ends_name}
 
 -- Content may stand there: each `?` whose `:` is to come stands further out, or it stands in the same brackets and no key may begin.
@@ -55,7 +56,8 @@ pub record FollowsIn (rest : Rest) : Type 0 where
 
 -- A simple key in brackets and its `:`, where a key may begin.
 abbrev pub KeyWalksIn : Context → Node → Type 0
-KeyWalksIn p k = (n : ℕ) (ls : List ℕ) (c : Cursor) (rest : Rest) → PartedBehind rest
+KeyWalksIn p k = (n : ℕ) (ls : List ℕ) (c : Cursor) (rest : Rest) → indent ls ≤ n
+    → PartedBehind rest
     → (x : yaml_encoding_t) (text : List ℕ) (o : Where) (cs : List ℕ)
     (T : List TokenBody → List TokenBody) → Reads x text o cs ls [] T → nat_lt 0 o.depth ≡ true
     → o.now ≡ true → Outside o.depth cs
@@ -68,6 +70,6 @@ abbrev pub KeysAreWalkedIn : Type 0
 KeysAreWalkedIn = (s : Settings) (d : Opening) → IsPretty s d → (k : Node) → IsWritable k
     → is_simple (context_of s d.directives) k ≡ true → KeyWalksIn (context_of s d.directives) k
 
--- (trial)
-abbrev pub FlowTrial : Type 0
-FlowTrial = Unit {0}
+-- With these and properties all collections in brackets are walked.
+abbrev pub BracketsFollow : Type 0
+BracketsFollow = KeysAreWalkedIn → PropertiesAreWalked → BracketsAreWalked

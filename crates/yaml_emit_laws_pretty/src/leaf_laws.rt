@@ -1,16 +1,11 @@
-//! Laws of leaves, of properties, and of simple keys.
+//! Laws of leaves and of properties.
 
-ghost use Rattle.yaml_emit_laws_pretty.specs.Nodes.{BlockScalarsAreWalked, LeavesAreWalked, PropertiesAreWalked, SimpleKeysAreWalked};
+ghost use Rattle.yaml_emit_laws_pretty.specs.Nodes.{BlockScalarsAreWalked, LeavesAreWalked, PropertiesAreWalked};
 
 use yaml_emit_laws_scalars::{plain_has_a_gap, styles_are_allowed};
 use yaml_emit_laws_text::quoted_is_read_back;
 
 use crate::laws::{plain_is_walked, single_is_walked};
-
-/// A simple key and its `:` are walked, whatever it is.
-pub fn simple_keys_are_walked()
-    ensures { SimpleKeysAreWalked }
-{}
 
 /// An anchor, a tag, or both are walked.
 pub fn properties_are_walked()

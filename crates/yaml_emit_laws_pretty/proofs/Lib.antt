@@ -6,6 +6,10 @@ pub mod Following
 pub mod PlainLayouts
 pub mod Singles
 pub mod KeysShow
+pub mod SpokenWords
+pub mod SpokenLayouts
+pub mod FlowSteps
+pub mod FlowSigns
 pub mod DocStarts
 pub mod DocLines
 pub mod DocWords
@@ -19,8 +23,10 @@ pub mod NodeItems
 pub mod NodePairs
 pub mod NodeBlocks
 pub mod NodeWalks
-pub mod SpokenWords
-pub mod SpokenLayouts
+pub mod FlowFollows
+pub mod FlowScalars
+pub mod FlowItems
+pub mod FlowNodes
 pub mod KeySteps
 pub mod LeafWords
 pub mod LeafProps
@@ -29,3 +35,4 @@ pub mod KeyKinds
 pub mod KeyLeaves
 pub mod LeafDress
 pub mod LeafNodes
+pub mod FlowBlocks

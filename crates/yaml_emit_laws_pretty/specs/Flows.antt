@@ -16,7 +16,7 @@ use Rattle.yaml_scan_laws_levels.specs.Walks.{Where, Reads, Outside}
 use Rattle.yaml_emit_laws_scalars.specs.Stops.{stops_plain_at}
 use Rattle.yaml_emit_laws_pretty.specs.Bodies.{node_bodies}
 use Rattle.yaml_emit_laws_pretty.specs.Walk.{no_comment}
-use Rattle.yaml_emit_laws_pretty.specs.Nodes.{IsPretty, PartedBehind}
+use Rattle.yaml_emit_laws_pretty.specs.Nodes.{IsPretty, PartedBehind, PropertiesAreWalked, BracketsAreWalked}
 use Rattle.yaml_emit_laws_pretty.specs.Spoken.{ends_name}
 
 -- Content may stand there: each `?` whose `:` is to come stands further out, or it stands in the same brackets and no key may begin.
@@ -70,6 +70,6 @@ abbrev pub KeysAreWalkedIn : Type 0
 KeysAreWalkedIn = (s : Settings) (d : Opening) → IsPretty s d → (k : Node) → IsWritable k
     → is_simple (context_of s d.directives) k ≡ true → KeyWalksIn (context_of s d.directives) k
 
--- (trial)
-abbrev pub FlowTrial : Type 0
-FlowTrial = Unit {0}
+-- With these and properties all collections in brackets are walked.
+abbrev pub BracketsFollow : Type 0
+BracketsFollow = KeysAreWalkedIn → PropertiesAreWalked → BracketsAreWalked

@@ -2,6 +2,6 @@ pub mod Bodies
 pub mod Walk
 pub mod KeyLaws
 pub mod Nodes
-pub mod DocLaws
 pub mod Spoken
 pub mod Flows
+pub mod DocLaws

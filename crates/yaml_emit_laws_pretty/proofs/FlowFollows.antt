@@ -1,0 +1,198 @@
+-- What follows nodes in brackets, and what they begin with.
+use Rattle.std.proofs.Common.{◌≡◌, ℕ, ◌+◌, ◌==◌, ◌&&◌, ◌||◌, not, nat_lt, Bool, true, false, List, [], ◌∷◌, ◌++◌, refl, sym, ap, subst, ◌∙◌, inl, inr, arith, replicate, None, Some}
+use Rattle.std.specs.Prelude.{if◌then◌else◌, Option}
+use Rattle.std.specs.Str.{chars}
+use Rattle.std.proofs.lemmas.Bool.{cases_Bool}
+use Rattle.std.proofs.lemmas.Bool.Decides.{nat_tests}
+use Rattle.yaml_emit_laws_text.specs.scan_history.scan_scalars.Plain.{is_bracket}
+use Rattle.yaml_emit_laws_text.specs.emit_layout.emit_text.declared.Cursor.{Cursor}
+use Rattle.yaml_emit_laws_text.specs.emit_layout.emit_text.declared.LineBreak.{LineBreak}
+use Rattle.yaml_emit_laws_text.specs.emit_layout.emit_text.declared.Settings.{Settings}
+use Rattle.yaml_emit_laws_text.specs.emit_layout.emit_text.declared.Page.{Page}
+use Rattle.yaml_emit_laws_text.specs.emit_layout.emit_text.declared.Style.{Style}
+use Rattle.yaml_emit_laws_text.specs.emit_layout.emit_text.declared.Style.TheVariants as style
+use Rattle.yaml_emit_laws_text.specs.emit_layout.emit_text.Text.{Item, letter}
+use Rattle.yaml_emit_laws_text.specs.emit_layout.emit_text.Layout.{Layout, Rest, ◌▹◌, stay, when, gap, blank, char, letters, word, line, wrap, is_past, new_line, after_text, after_block}
+use Rattle.yaml_emit_laws_text.specs.emit_layout.emit_text.Spelling.{break_text}
+use Rattle.yaml_emit_laws_text.specs.emit_layout.emit_text.Scalars.{scalar_text, flow_body, block_body, digit_mark, chomp_mark, chomp}
+use Rattle.yaml_emit_laws_text.specs.emit_layout.emit_text.Quoted.{quoted_body}
+use Rattle.yaml_emit_laws_text.specs.emit_layout.emit_tags.Tags.{tag_spelling}
+use Rattle.yaml_emit_laws_text.specs.emit_layout.parse.Events.{TagDirective}
+use Rattle.yaml_emit_laws_text.specs.emit_layout.declared.level.Part.{Part}
+use Rattle.yaml_emit_laws_text.specs.emit_layout.declared.level.Part.TheVariants as part
+use Rattle.yaml_emit_laws_text.specs.emit_layout.Content.{Node, alias_node, scalar_node, sequence_node, mapping_node, Nodes, no_nodes, node, Pairs, no_pairs, pair}
+use Rattle.yaml_emit_laws_text.specs.emit_layout.Nodes.{Context, spot, checked, MOST, deeper, style_of, properties_text, page_at, node_layout, alias_layout, scalar_layout, items_layout, pairs_layout, before_item, before_key, closer}
+use Rattle.yaml_emit_laws_text.specs.Walk.{bytes, first}
+use Rattle.yaml_emit_laws_text.proofs.Steps.{letter_low, deep_bytes}
+use Rattle.yaml_emit_laws_scalars.specs.Stops.{stops_plain_at, begins_white}
+use Rattle.yaml_emit_laws_scalars.proofs.Lines.{line_start, after_blanks}
+use Rattle.yaml_emit_laws_scalars.proofs.Stopping.{behind_lines}
+use Rattle.yaml_emit_laws_scalars.proofs.Solid.{what_stops}
+use Rattle.yaml_emit_laws_pretty.specs.Walk.{no_comment}
+use Rattle.yaml_emit_laws_pretty.specs.Spoken.{ends_name}
+use Rattle.yaml_emit_laws_pretty.specs.Flows.{FollowsIn}
+use Rattle.yaml_emit_laws_pretty.specs.Nodes.{PartedBehind}
+use Rattle.yaml_emit_laws_pretty.proofs.Lining.{or_left, or_right}
+use Rattle.yaml_emit_laws_pretty.proofs.Following.{line_bytes, line_calm, line_white, blanks_white}
+
+-- settings of pretty form
+abbrev pub pretty_of : Settings → Settings
+pretty_of s = record { encoding = s.encoding; canonical = false; indent = s.indent; width = s.width; unicode = s.unicode; line_break = s.line_break }
+
+abbrev pub prettily : Settings → List TagDirective → Context
+prettily s ds = record { settings = pretty_of s; directives = ds }
+
+-- ---- a comma or a closing bracket follows
+
+-- its first byte is a comma or a closing bracket
+pub record Bracketed (rest : Rest) : Type 0 where
+  pub byte : ℕ
+  pub is : (byte == 44 || (byte == 93 || byte == 125)) ≡ true
+  pub more : Cursor → List ℕ
+  pub same : (e : Cursor) → bytes (rest e) ≡ byte ∷ more e
+
+bracket_is : (b : ℕ) → (b == 44 || (b == 93 || b == 125)) ≡ true → is_bracket b ≡ true
+unfolding is_bracket
+bracket_is b e = grind (arith, nat_tests)
+
+bracket_calm : (b : ℕ) (bs : List ℕ) → (b == 44 || (b == 93 || b == 125)) ≡ true → no_comment (b ∷ bs) ≡ true
+unfolding no_comment
+bracket_calm b bs e =
+    let a : (b == 32 || (b == 10 || b == 13)) ≡ false = grind (arith, nat_tests) in
+    let c : (b == 35) ≡ false = grind (arith, nat_tests) in
+    rw (a, c) refl
+
+pub bracket_follows : (rest : Rest) → Bracketed rest → FollowsIn rest
+bracket_follows rest b = record {
+  stops = λ level e bare white. ap (λ bs. stops_plain_at true level None bs) (b.same e) ∙ (what_stops true level None).1 b.byte (b.more e) (bracket_is b.byte b.is);
+  calm = λ e bare white. ap (λ bs. no_comment bs) (b.same e) ∙ bracket_calm b.byte (b.more e) b.is;
+  name = λ e bare white. ap (λ bs. ends_name bs) (b.same e) ∙ or_right (begins_white (b.byte ∷ b.more e)) (b.byte == 44 || (b.byte == 93 || b.byte == 125)) b.is;
+}
+
+abbrev lettered_on : Cursor → Cursor
+lettered_on c = record { column = c.column + 1; white = false; bare = false; kept = c.kept }
+
+pub items_follow_in : (s : Settings) (ds : List TagDirective) (n : ℕ) (xs : Nodes) (rest : Rest) → FollowsIn (λ c. items_layout (prettily s ds) true n false xs c rest)
+unfolding items_layout before_item closer
+items_follow_in s ds n no_nodes rest = bracket_follows (λ c. char 93 c rest) (record { byte = 93; is = refl; more = λ e. bytes (rest (lettered_on e)); same = λ e. letter_low 93 (rest (lettered_on e)) refl })
+items_follow_in s ds n (node x xs) rest =
+    let after : Rest = λ d. items_layout (prettily s ds) true n true (node x xs) d rest in
+    bracket_follows (λ c. char 44 c after) (record { byte = 44; is = refl; more = λ e. bytes (after (lettered_on e)); same = λ e. letter_low 44 (after (lettered_on e)) refl })
+
+pub pairs_follow_in : (s : Settings) (ds : List TagDirective) (n : ℕ) (ps : Pairs) (rest : Rest) → FollowsIn (λ c. pairs_layout (prettily s ds) true n false ps c rest)
+unfolding pairs_layout before_key closer
+pairs_follow_in s ds n no_pairs rest = bracket_follows (λ c. char 125 c rest) (record { byte = 125; is = refl; more = λ e. bytes (rest (lettered_on e)); same = λ e. letter_low 125 (rest (lettered_on e)) refl })
+pairs_follow_in s ds n (pair k v ps) rest =
+    let after : Rest = λ d. pairs_layout (prettily s ds) true n true (pair k v ps) d rest in
+    bracket_follows (λ c. char 44 c after) (record { byte = 44; is = refl; more = λ e. bytes (after (lettered_on e)); same = λ e. letter_low 44 (after (lettered_on e)) refl })
+
+-- ---- the `:` of a `?` follows
+
+colon_calm : (bs : List ℕ) → no_comment (58 ∷ bs) ≡ true
+unfolding no_comment
+colon_calm bs = refl
+
+space_calm : (bs : List ℕ) → no_comment (32 ∷ 58 ∷ bs) ≡ true
+unfolding no_comment
+space_calm bs = refl
+
+-- behind white
+colon_bytes : (d : Cursor) (after : Rest) → d.white ≡ true → bytes (word (58 ∷ []) d after) ≡ 58 ∷ bytes (after (lettered_on d))
+unfolding letters
+colon_bytes d after white = ap (λ (b : Bool). bytes (if b then char 58 d after else blank d (λ k. char 58 k after))) white ∙ letter_low 58 (after (lettered_on d)) refl
+
+-- behind text
+spaced_bytes : (d : Cursor) (after : Rest) → d.white ≡ false → bytes (word (58 ∷ []) d after) ≡ 32 ∷ 58 ∷ bytes (after (lettered_on (record { column = d.column + 1; white = true; bare = d.bare; kept = d.kept })))
+unfolding letters
+spaced_bytes d after white =
+    let e : Cursor = record { column = d.column + 1; white = true; bare = d.bare; kept = d.kept } in
+    ap (λ (b : Bool). bytes (if b then char 58 d after else blank d (λ k. char 58 k after))) white ∙ letter_low 32 (char 58 e after) refl ∙ ap (λ (bs : List ℕ). 32 ∷ bs) (letter_low 58 (after (lettered_on e)) refl)
+
+pub record AnswerBytes (bs : List ℕ) : Type 0 where
+  pub stops : (level : ℕ) → stops_plain_at true level None bs ≡ true
+  pub calm : no_comment bs ≡ true
+  pub name : ends_name bs ≡ true
+
+white_ends : (bs : List ℕ) → begins_white bs ≡ true → ends_name bs ≡ true
+white_ends [] e = refl
+white_ends (b ∷ bs) e = or_left (begins_white (b ∷ bs)) (b == 44 || (b == 93 || b == 125)) e
+
+answer_line : (b : LineBreak) (n : ℕ) (e : Cursor) (after : Rest) → PartedBehind after → e.bare ≡ false → AnswerBytes (bytes (line b n e (λ d. word (58 ∷ []) d after)))
+answer_line b n e after parted bare =
+    let d = after_blanks n (line_start e) in
+    let tail = bytes (after (lettered_on d)) in
+    let colon = colon_bytes d after (blanks_white n (line_start e) refl) in
+    let same = line_bytes b n e (λ k. word (58 ∷ []) k after) bare ∙ ap (λ (bs : List ℕ). break_text b ++ (replicate n 32 ++ bs)) colon in
+    record {
+      stops = λ level. ap (λ bs. stops_plain_at true level None bs) same ∙ (behind_lines true level n (58 ∷ tail)).0 b None ∙ (what_stops true level (Some n)).2 tail (parted (lettered_on d) refl refl);
+      calm = ap (λ bs. no_comment bs) same ∙ line_calm b n (58 ∷ tail) ∙ colon_calm tail;
+      name = white_ends (bytes (line b n e (λ k. word (58 ∷ []) k after))) (ap (λ bs. begins_white bs) same ∙ line_white b (replicate n 32 ++ (58 ∷ tail)));
+    }
+
+answer_here : (e : Cursor) (after : Rest) → PartedBehind after → e.white ≡ false → AnswerBytes (bytes (word (58 ∷ []) e after))
+answer_here e after parted white =
+    let d : Cursor = record { column = e.column + 1; white = true; bare = e.bare; kept = e.kept } in
+    let tail = bytes (after (lettered_on d)) in
+    let same = spaced_bytes e after white in
+    record {
+      stops = λ level. ap (λ bs. stops_plain_at true level None bs) same ∙ (behind_lines true level 1 (58 ∷ tail)).1 ∙ (what_stops true level None).2 tail (parted (lettered_on d) refl refl);
+      calm = ap (λ bs. no_comment bs) same ∙ space_calm tail;
+      name = ap (λ bs. ends_name bs) same;
+    }
+
+answer_bytes : (width : ℕ) (b : LineBreak) (n : ℕ) (e : Cursor) (after : Rest) → PartedBehind after → e.bare ≡ false → e.white ≡ false → AnswerBytes (bytes (wrap width b n e (λ d. word (58 ∷ []) d after)))
+answer_bytes width b n e after parted bare white =
+    let k : Rest = λ d. word (58 ∷ []) d after in
+    elim (cases_Bool (is_past width e)) [
+      | inl h ↦ subst (λ (t : Bool). AnswerBytes (bytes (if t then line b n e k else k e))) (sym h) (answer_line b n e after parted bare)
+      | inr h ↦ subst (λ (t : Bool). AnswerBytes (bytes (if t then line b n e k else k e))) (sym h) (answer_here e after parted white)
+    ]
+
+pub answer_follows : (width : ℕ) (b : LineBreak) (n : ℕ) (after : Rest) → PartedBehind after → FollowsIn (λ e. wrap width b n e (λ d. word (58 ∷ []) d after))
+answer_follows width b n after parted = record {
+  stops = λ level e bare white. (answer_bytes width b n e after parted bare white).stops level;
+  calm = λ e bare white. (answer_bytes width b n e after parted bare white).calm;
+  name = λ e bare white. (answer_bytes width b n e after parted bare white).name;
+}
+
+-- ---- what a node begins with
+
+-- a space, where white wasn't last
+abbrev pub Spaced : Rest → Type 0
+Spaced rest = (e : Cursor) → e.white ≡ false → first (bytes (rest e)) ≡ 32
+
+pub space_parts : (bs : List ℕ) → first bs ≡ 32 → begins_white bs ≡ true
+space_parts [] e = refl
+space_parts (b ∷ bs) e = grind (arith, nat_tests)
+
+pub gap_spaced : (a : Layout) (rest : Rest) → Spaced (λ e. (gap ▹ a) e rest)
+gap_spaced a rest e white =
+    let k : Rest = λ c. a c rest in
+    ap (λ (t : Bool). first (bytes (if t then k e else blank e k))) white ∙ ap (λ (bs : List ℕ). first bs) (letter_low 32 _ refl)
+
+pub checked_spaced : (n : ℕ) (a : Layout) (rest : Rest) → Spaced (λ e. a e rest) → Spaced (λ e. (checked n ▹ a) e rest)
+checked_spaced n a rest h e white = ap (λ (bs : List ℕ). first bs) (deep_bytes (nat_lt MOST n) (a e rest)) ∙ h e white
+
+pub tag_spaced : (p : Context) (tag : Option (List ℕ)) (a : Layout) (rest : Rest) → Spaced (λ e. a e rest) → Spaced (λ e. (properties_text p None tag ▹ a) e rest)
+tag_spaced p None a rest h = h
+tag_spaced p (Some t) a rest h = gap_spaced (letters (tag_spelling p.directives t) ▹ a) rest
+
+pub properties_spaced : (p : Context) (anchor tag : Option (List ℕ)) (a : Layout) (rest : Rest) → Spaced (λ e. a e rest) → Spaced (λ e. (properties_text p anchor tag ▹ a) e rest)
+properties_spaced p None tag a rest h = tag_spaced p tag a rest h
+properties_spaced p (Some name) tag a rest h = gap_spaced (letters (38 ∷ name) ▹ (properties_text p None tag ▹ a)) rest
+
+pub mark_spaced : (b : Bool) (a : Layout) (rest : Rest) → Spaced (λ e. a e rest) → Spaced (λ e. (when b (word (33 ∷ [])) ▹ a) e rest)
+mark_spaced true a rest h = gap_spaced (letters (33 ∷ []) ▹ a) rest
+mark_spaced false a rest h = h
+
+abbrev from_sign : Page → ℕ → Bool → List ℕ → Layout
+from_sign page digit folded value = (char (if folded then 62 else 124) ▹ (digit_mark digit value ▹ chomp_mark (chomp true true value))) ▹ (new_line page.line_break ▹ (block_body page folded true 10 value ▹ after_block))
+
+-- in brackets a space stands in front of a scalar of every style
+pub text_spaced : (page : Page) (digit : ℕ) (s : Style) (value : List ℕ) (rest : Rest) → Spaced (λ e. scalar_text page digit true s value e rest)
+unfolding scalar_text
+text_spaced page digit style.Plain value rest = gap_spaced (flow_body page false 32 value ▹ after_text) rest
+text_spaced page digit style.Single value rest = gap_spaced (char 39 ▹ (flow_body page true 32 value ▹ char 39)) rest
+text_spaced page digit style.Double value rest = gap_spaced (char 34 ▹ (quoted_body page 32 value ▹ char 34)) rest
+text_spaced page digit style.Literal value rest = gap_spaced (from_sign page digit false value) rest
+text_spaced page digit style.Folded value rest = gap_spaced (from_sign page digit true value) rest

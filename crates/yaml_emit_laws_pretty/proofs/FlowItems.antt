@@ -1,0 +1,332 @@
+-- Collections in brackets: items, pairs, and what opens and closes them.
+use Rattle.std.proofs.Common.{◌≡◌, ℕ, ◌+◌, ◌<◌, ◌≤◌, ◌==◌, ◌&&◌, ◌||◌, not, nat_lt, Bool, true, false, List, [], ◌∷◌, length, refl, sym, ap, subst, ◌∙◌, inl, inr, ◌⊎◌, arith, None, Some}
+use Rattle.std.specs.Prelude.{if◌then◌else◌, Option}
+use Rattle.std.proofs.lemmas.Bool.{cases_Bool}
+use Rattle.std.proofs.lemmas.Bool.Decides.{nat_tests}
+use Rattle.yaml_emit_laws_text.specs.emit_layout.scan.declared.yaml_encoding_t.{yaml_encoding_t}
+use Rattle.yaml_emit_laws_text.specs.emit_layout.scan.Tokens as tokens
+use Rattle.yaml_emit_laws_text.specs.emit_layout.scan.Tokens.{TokenBody}
+use Rattle.yaml_emit_laws_text.specs.emit_layout.parse.Events.{TagDirective}
+use Rattle.yaml_emit_laws_text.specs.scan_history.scan_model.Marks.{column_at}
+use Rattle.yaml_emit_laws_text.specs.scan_history.History.{indent}
+use Rattle.yaml_emit_laws_text.specs.emit_layout.emit_text.declared.Cursor.{Cursor}
+use Rattle.yaml_emit_laws_text.specs.emit_layout.emit_text.declared.Settings.{Settings}
+use Rattle.yaml_emit_laws_text.specs.emit_layout.emit_text.Text.{letter}
+use Rattle.yaml_emit_laws_text.specs.emit_layout.emit_text.Layout.{Layout, Rest, ◌▹◌, when, char, letters, word, opener, blank, wrap}
+use Rattle.yaml_emit_laws_text.specs.emit_layout.declared.level.Part.{Part}
+use Rattle.yaml_emit_laws_text.specs.emit_layout.declared.level.Part.TheVariants as part
+use Rattle.yaml_emit_laws_text.specs.emit_layout.Content.{Node, Nodes, no_nodes, node, Pairs, no_pairs, pair}
+use Rattle.yaml_emit_laws_text.specs.emit_layout.Nodes.{Context, spot, is_simple_part, is_simple, key_part, turned, before_item, before_key, before_value, closer, node_layout, items_layout, pairs_layout}
+use Rattle.yaml_emit_laws_text.specs.Walk.{Left, bytes, first}
+use Rattle.yaml_emit_laws_text.proofs.Steps.{left_letter}
+use Rattle.yaml_scan_laws_levels.specs.Pushes.{IsRight}
+use Rattle.yaml_scan_laws_levels.specs.Walks.{Where, Reads, Outside}
+use Rattle.yaml_emit_laws_scalars.specs.Stops.{begins_white}
+use Rattle.yaml_emit_laws_pretty.specs.Bodies.{node_bodies, items_bodies, pairs_bodies}
+use Rattle.yaml_emit_laws_pretty.specs.Nodes.{PartedBehind}
+use Rattle.yaml_emit_laws_pretty.specs.Flows.{IsClear, GoesIn, WalksIn, FollowsIn, KeyWalksIn}
+use Rattle.yaml_emit_laws_pretty.proofs.FlowSteps.{Space, space_on}
+use Rattle.yaml_emit_laws_pretty.proofs.FlowSigns.{wrap_in, behind_gap, gap_left, gap_kept, comma_on, opener_on, closer_on, question_on, answer_on, opening_of, closing_of, opens, closes}
+use Rattle.yaml_emit_laws_pretty.proofs.FlowFollows.{pretty_of, prettily, Spaced, space_parts, items_follow_in, pairs_follow_in, answer_follows}
+
+-- Behind a closing bracket, where d are open.
+pub record Closed (x : yaml_encoding_t) (text : List ℕ) (rest : Rest) (kept : Bool) (d : ℕ) (cs ls : List ℕ) (T : List TokenBody → List TokenBody) : Type 0 where
+  pub behind : Cursor
+  pub place : Where
+  pub reads : Reads x text place cs ls [] T
+  pub deep : place.depth ≡ d
+  pub now : place.now ≡ false
+  pub broken : place.broken ≡ not (nat_lt 0 d)
+  pub left : Left text place.at (bytes (rest behind))
+  pub bare : behind.bare ≡ false
+  pub white : behind.white ≡ false
+  pub same : behind.kept ≡ kept
+
+-- a node at each spot in brackets
+abbrev pub NodeIn : Settings → List TagDirective → Node → Type 0
+NodeIn s ds y = (n : ℕ) (q : Part) → is_simple_part q ≡ false → (bare : Bool) (ls : List ℕ) → indent ls ≤ n → (rest : Rest) → FollowsIn rest → (c : Cursor) → WalksIn (node_layout (prettily s ds) (spot true n q) y) (node_bodies (prettily s ds) true q bare y) ls c rest
+
+-- what stands behind an opening bracket, with what closes it
+abbrev pub BodyIn : Layout → (List TokenBody → List TokenBody) → List ℕ → Rest → Type 0
+BodyIn a B ls rest = (c : Cursor) → c.bare ≡ false → (x : yaml_encoding_t) (text : List ℕ) (o : Where) (d : ℕ) (cs : List ℕ) (T : List TokenBody → List TokenBody) → Reads x text o cs ls [] T → o.depth ≡ d + 1 → o.now ≡ true → Outside (d + 1) cs
+    → Left text o.at (bytes (a c rest)) → Closed x text rest c.kept d cs ls (λ bs. T (B bs))
+
+-- likewise behind an item or a pair
+abbrev pub MoreIn : Layout → (List TokenBody → List TokenBody) → List ℕ → Rest → Type 0
+MoreIn a B ls rest = (c : Cursor) → c.bare ≡ false → (x : yaml_encoding_t) (text : List ℕ) (o : Where) (d : ℕ) (cs : List ℕ) (T : List TokenBody → List TokenBody) → Reads x text o cs ls [] T → o.depth ≡ d + 1 → Outside (d + 1) cs
+    → Left text o.at (bytes (a c rest)) → Closed x text rest c.kept d cs ls (λ bs. T (B bs))
+
+-- likewise where white may be last on a bare line
+abbrev pub PairIn : Layout → (List TokenBody → List TokenBody) → List ℕ → Rest → Type 0
+PairIn a B ls rest = (c : Cursor) (x : yaml_encoding_t) (text : List ℕ) (o : Where) (d : ℕ) (cs : List ℕ) (T : List TokenBody → List TokenBody) → Reads x text o cs ls [] T → o.depth ≡ d + 1 → o.now ≡ true → Outside (d + 1) cs
+    → Left text o.at (bytes (a c rest)) → Closed x text rest c.kept d cs ls (λ bs. T (B bs))
+
+abbrev lettered_on : Cursor → Cursor
+lettered_on c = record { column = c.column + 1; white = false; bare = false; kept = c.kept }
+
+inside_so : (n d : ℕ) → n ≡ d + 1 → nat_lt 0 n ≡ true
+inside_so n d e = grind (arith, nat_tests)
+
+out_at : (n d : ℕ) (cs : List ℕ) → n ≡ d + 1 → Outside (d + 1) cs → Outside n cs
+out_at n d cs e out = subst (λ (m : ℕ). Outside m cs) (sym e) out
+
+kept_as : (x : yaml_encoding_t) (text : List ℕ) (rest : Rest) (a b : Bool) (d : ℕ) (cs ls : List ℕ) (T : List TokenBody → List TokenBody) → a ≡ b → Closed x text rest a d cs ls T → Closed x text rest b d cs ls T
+kept_as x text rest a b d cs ls T e g = subst (λ (k : Bool). Closed x text rest k d cs ls T) e g
+
+-- ---- the closing bracket
+
+sequence_shut : (ls : List ℕ) (rest : Rest) → MoreIn (char 93) (λ bs. tokens.flow_sequence_end ∷ bs) ls rest
+sequence_shut ls rest c bare x text o d cs T r deep out l =
+    let e = lettered_on c in
+    let g = closer_on false x text (bytes (rest e)) o d cs ls T r deep out (left_letter text o.at 93 (rest e) refl l) in
+    record { behind = e; place = g.place; reads = g.reads; deep = g.deep; now = g.begin; broken = g.broken; left = g.left; bare = refl; white = refl; same = refl }
+
+mapping_shut : (ls : List ℕ) (rest : Rest) → MoreIn (char 125) (λ bs. tokens.flow_mapping_end ∷ bs) ls rest
+mapping_shut ls rest c bare x text o d cs T r deep out l =
+    let e = lettered_on c in
+    let g = closer_on true x text (bytes (rest e)) o d cs ls T r deep out (left_letter text o.at 125 (rest e) refl l) in
+    record { behind = e; place = g.place; reads = g.reads; deep = g.deep; now = g.begin; broken = g.broken; left = g.left; bare = refl; white = refl; same = refl }
+
+-- behind a comma a key may begin
+comma_then : (a : Layout) (B : List TokenBody → List TokenBody) (ls : List ℕ) (rest : Rest) → BodyIn a B ls rest → MoreIn (char 44 ▹ a) (λ bs. tokens.flow_entry ∷ B bs) ls rest
+comma_then a B ls rest body c bare x text o d cs T r deep out l =
+    let e = lettered_on c in
+    let g = comma_on x text (bytes (a e rest)) o cs ls T r (inside_so o.depth d deep) (out_at o.depth d cs deep out) (left_letter text o.at 44 (a e rest) refl l) in
+    body e refl x text g.place d cs (λ bs. T (tokens.flow_entry ∷ bs)) g.reads (g.deep ∙ deep) g.begin out g.left
+
+-- ---- items
+
+abbrev pub FirstItems : Settings → List TagDirective → Nodes → Type 0
+FirstItems s ds xs = (n : ℕ) (ls : List ℕ) → indent ls ≤ n → (rest : Rest) → BodyIn (items_layout (prettily s ds) true n true xs) (λ bs. items_bodies (prettily s ds) true true xs (tokens.flow_sequence_end ∷ bs)) ls rest
+
+abbrev pub MoreItems : Settings → List TagDirective → Nodes → Type 0
+MoreItems s ds xs = (n : ℕ) (ls : List ℕ) → indent ls ≤ n → (rest : Rest) → MoreIn (items_layout (prettily s ds) true n false xs) (λ bs. items_bodies (prettily s ds) true false xs (tokens.flow_sequence_end ∷ bs)) ls rest
+
+pub items_none : (s : Settings) (ds : List TagDirective) → FirstItems s ds no_nodes
+unfolding items_layout closer items_bodies
+items_none s ds n ls low rest c bare x text o d cs T r deep now out l = sequence_shut ls rest c bare x text o d cs T r deep out l
+
+pub items_closed : (s : Settings) (ds : List TagDirective) → MoreItems s ds no_nodes
+unfolding items_layout closer items_bodies
+items_closed s ds n ls low rest c bare x text o d cs T r deep out l = sequence_shut ls rest c bare x text o d cs T r deep out l
+
+pub items_first : (s : Settings) (ds : List TagDirective) (y : Node) (xs : Nodes) → NodeIn s ds y → MoreItems s ds xs → FirstItems s ds (node y xs)
+unfolding items_layout before_item turned items_bodies
+items_first s ds y xs one more n ls low rest c bare x text o d cs T r deep now out l =
+    let p = prettily s ds in
+    let after : Rest = λ k. items_layout p true n false xs k rest in
+    let a = node_layout p (spot true n part.Item) y in
+    let t = wrap_in s.width s.line_break n x text c (λ e. a e after) o cs ls T bare r l in
+    let deep1 = t.deep ∙ deep in
+    let g = one n part.Item refl true ls low after (items_follow_in s ds n xs rest) t.cursor x text t.place cs T t.reads (inside_so t.place.depth d deep1) (inl (out_at t.place.depth d cs deep1 out)) t.left in
+    let h = more n ls low rest g.behind g.bare x text g.place d cs (λ bs. T (node_bodies p true part.Item true y bs)) g.reads (g.deep ∙ deep1) out g.left in
+    kept_as x text rest g.behind.kept c.kept d cs ls (λ bs. T (node_bodies p true part.Item true y (items_bodies p true false xs (tokens.flow_sequence_end ∷ bs)))) (g.same ∙ t.same) h
+
+pub items_more : (s : Settings) (ds : List TagDirective) (y : Node) (xs : Nodes) → FirstItems s ds (node y xs) → MoreItems s ds (node y xs)
+unfolding items_layout before_item items_bodies
+items_more s ds y xs whole n ls low rest =
+    let p = prettily s ds in
+    comma_then (items_layout p true n true (node y xs)) (λ bs. items_bodies p true true (node y xs) (tokens.flow_sequence_end ∷ bs)) ls rest (whole n ls low rest)
+
+-- ---- pairs
+
+abbrev pub FirstPairs : Settings → List TagDirective → Pairs → Type 0
+FirstPairs s ds ps = (n : ℕ) (ls : List ℕ) → indent ls ≤ n → (rest : Rest) → BodyIn (pairs_layout (prettily s ds) true n true ps) (λ bs. pairs_bodies (prettily s ds) true true ps (tokens.flow_mapping_end ∷ bs)) ls rest
+
+abbrev pub MorePairs : Settings → List TagDirective → Pairs → Type 0
+MorePairs s ds ps = (n : ℕ) (ls : List ℕ) → indent ls ≤ n → (rest : Rest) → MoreIn (pairs_layout (prettily s ds) true n false ps) (λ bs. pairs_bodies (prettily s ds) true false ps (tokens.flow_mapping_end ∷ bs)) ls rest
+
+pub pairs_none : (s : Settings) (ds : List TagDirective) → FirstPairs s ds no_pairs
+unfolding pairs_layout closer pairs_bodies
+pairs_none s ds n ls low rest c bare x text o d cs T r deep now out l = mapping_shut ls rest c bare x text o d cs T r deep out l
+
+pub pairs_closed : (s : Settings) (ds : List TagDirective) → MorePairs s ds no_pairs
+unfolding pairs_layout closer pairs_bodies
+pairs_closed s ds n ls low rest c bare x text o d cs T r deep out l = mapping_shut ls rest c bare x text o d cs T r deep out l
+
+-- a value, and the pairs behind it
+value_in : (s : Settings) (ds : List TagDirective) (v : Node) (ps : Pairs) → NodeIn s ds v → MorePairs s ds ps → (bare : Bool) (n : ℕ) (ls : List ℕ) → indent ls ≤ n → (rest : Rest)
+    → MoreIn (node_layout (prettily s ds) (spot true n part.Value) v ▹ pairs_layout (prettily s ds) true n false ps) (λ bs. node_bodies (prettily s ds) true part.Value bare v (pairs_bodies (prettily s ds) true false ps (tokens.flow_mapping_end ∷ bs))) ls rest
+value_in s ds v ps value more b n ls low rest c bare x text o d cs T r deep out l =
+    let p = prettily s ds in
+    let after : Rest = λ k. pairs_layout p true n false ps k rest in
+    let g = value n part.Value refl b ls low after (pairs_follow_in s ds n ps rest) c x text o cs T r (inside_so o.depth d deep) (inl (out_at o.depth d cs deep out)) l in
+    let h = more n ls low rest g.behind g.bare x text g.place d cs (λ bs. T (node_bodies p true part.Value b v bs)) g.reads (g.deep ∙ deep) out g.left in
+    kept_as x text rest g.behind.kept c.kept d cs ls (λ bs. T (node_bodies p true part.Value b v (pairs_bodies p true false ps (tokens.flow_mapping_end ∷ bs)))) g.same h
+
+-- ---- a `?`, its key and its `:`
+
+-- a byte that is a word, behind the space that is due
+sign_left : (b : ℕ) → nat_lt b 128 ≡ true → (x : yaml_encoding_t) (text : List ℕ) (c : Cursor) (rest : Rest) (o : Where) (cs ls : List ℕ) (T : List TokenBody → List TokenBody) → Reads x text o cs ls [] T → Left text o.at (bytes (word (b ∷ []) c rest))
+    → Space x text (b ∷ bytes (rest (lettered_on (behind_gap c.white c)))) o cs ls [] T
+unfolding letters
+sign_left b low x text c rest o cs ls T r l =
+    let K : Rest = λ e. char b e rest in
+    let e = behind_gap c.white c in
+    let sp = space_on (not c.white) x text (bytes (K e)) o cs ls [] T r (gap_left text o.at c.white c K l) in
+    record { place = sp.place; reads = sp.reads; deep = sp.deep; same = sp.same; broken = sp.broken; right = sp.right; left = left_letter text sp.place.at b (rest (lettered_on e)) low sp.left }
+
+-- Behind a `?` or its `:`, where d + 1 brackets are open.
+record Asked (x : yaml_encoding_t) (text : List ℕ) (rest : Rest) (kept : Bool) (d : ℕ) (cs ls : List ℕ) (T : List TokenBody → List TokenBody) : Type 0 where
+  cursor : Cursor
+  place : Where
+  reads : Reads x text place cs ls [] T
+  deep : place.depth ≡ d + 1
+  now : place.now ≡ false
+  left : Left text place.at (bytes (rest cursor))
+  bare : cursor.bare ≡ false
+  same : cursor.kept ≡ kept
+
+ask_then : (x : yaml_encoding_t) (text : List ℕ) (c : Cursor) (rest : Rest) (o : Where) (d : ℕ) (cs ls : List ℕ) (T : List TokenBody → List TokenBody) → Spaced rest → Reads x text o cs ls [] T → o.depth ≡ d + 1 → Outside (d + 1) cs → Left text o.at (bytes (word (63 ∷ []) c rest))
+    → Asked x text rest c.kept d ((d + 1) ∷ cs) ls (λ bs. T (tokens.key ∷ bs))
+ask_then x text c rest o d cs ls T spaced r deep out l =
+    let e = lettered_on (behind_gap c.white c) in
+    let sp = sign_left 63 refl x text c rest o cs ls T r l in
+    let deep1 = sp.deep ∙ deep in
+    let q = question_on x text (bytes (rest e)) sp.place cs ls T sp.reads (inside_so sp.place.depth d deep1) (out_at sp.place.depth d cs deep1 out) (space_parts (bytes (rest e)) (spaced e refl)) sp.left in
+    record {
+      cursor = e;
+      place = q.place;
+      reads = subst (λ (i : ℕ). Reads x text q.place (i ∷ cs) ls [] (λ bs. T (tokens.key ∷ bs))) deep1 q.reads;
+      deep = q.deep ∙ deep1;
+      now = q.begin;
+      left = q.left;
+      bare = refl;
+      same = gap_kept c.white c;
+    }
+
+answer_then : (x : yaml_encoding_t) (text : List ℕ) (c : Cursor) (rest : Rest) (o : Where) (d : ℕ) (cs ls : List ℕ) (T : List TokenBody → List TokenBody) → Spaced rest → Reads x text o ((d + 1) ∷ cs) ls [] T → o.depth ≡ d + 1 → Outside (d + 1) cs → Left text o.at (bytes (word (58 ∷ []) c rest))
+    → Asked x text rest c.kept d cs ls (λ bs. T (tokens.value ∷ bs))
+answer_then x text c rest o d cs ls T spaced r deep out l =
+    let e = lettered_on (behind_gap c.white c) in
+    let sp = sign_left 58 refl x text c rest o ((d + 1) ∷ cs) ls T r l in
+    let deep1 = sp.deep ∙ deep in
+    let reads1 = subst (λ (i : ℕ). Reads x text sp.place (i ∷ cs) ls [] T) (sym deep1) sp.reads in
+    let v = answer_on x text (bytes (rest e)) sp.place cs ls T reads1 (inside_so sp.place.depth d deep1) (out_at sp.place.depth d cs deep1 out) (space_parts (bytes (rest e)) (spaced e refl)) sp.left in
+    record {
+      cursor = e;
+      place = v.place;
+      reads = v.reads;
+      deep = v.deep ∙ deep1;
+      now = v.begin;
+      left = v.left;
+      bare = refl;
+      same = gap_kept c.white c;
+    }
+
+-- the key of a `?`
+asked_key : (s : Settings) (ds : List TagDirective) (k : Node) → NodeIn s ds k → (n : ℕ) (ls : List ℕ) → indent ls ≤ n → (after : Rest) → Spaced after → (x : yaml_encoding_t) (text : List ℕ) (c : Cursor) (o : Where) (d : ℕ) (cs : List ℕ) (T : List TokenBody → List TokenBody)
+    → Reads x text o ((d + 1) ∷ cs) ls [] T → o.depth ≡ d + 1 → o.now ≡ false → Outside (d + 1) cs → Left text o.at (bytes (node_layout (prettily s ds) (spot true n part.Key) k c (λ e. wrap s.width s.line_break n e (λ f. word (58 ∷ []) f after))))
+    → GoesIn x text (λ e. wrap s.width s.line_break n e (λ f. word (58 ∷ []) f after)) c.kept o.depth ((d + 1) ∷ cs) ls (λ bs. T (node_bodies (prettily s ds) true part.Key true k bs))
+asked_key s ds k key n ls low after parted x text c o d cs T r deep now out l =
+    key n part.Key refl true ls low (λ e. wrap s.width s.line_break n e (λ f. word (58 ∷ []) f after)) (answer_follows s.width s.line_break n after (λ e f w. space_parts (bytes (after e)) (parted e w))) c x text o ((d + 1) ∷ cs) T r (inside_so o.depth d deep)
+    (inr (cs, ap (λ (i : ℕ). i ∷ cs) (sym deep), out_at o.depth d cs deep out, now)) l
+
+-- its `:`, on the same line or a later one
+asked_answer : (s : Settings) (n : ℕ) (after : Rest) → Spaced after → (x : yaml_encoding_t) (text : List ℕ) (c : Cursor) (o : Where) (d : ℕ) (cs ls : List ℕ) (T : List TokenBody → List TokenBody) → c.bare ≡ false → Reads x text o ((d + 1) ∷ cs) ls [] T → o.depth ≡ d + 1 → Outside (d + 1) cs
+    → Left text o.at (bytes (wrap s.width s.line_break n c (λ f. word (58 ∷ []) f after))) → Asked x text after c.kept d cs ls (λ bs. T (tokens.value ∷ bs))
+asked_answer s n after parted x text c o d cs ls T bare r deep out l =
+    let t = wrap_in s.width s.line_break n x text c (λ f. word (58 ∷ []) f after) o ((d + 1) ∷ cs) ls T bare r l in
+    let v = answer_then x text t.cursor after t.place d cs ls T parted t.reads (t.deep ∙ deep) out t.left in
+    record { cursor = v.cursor; place = v.place; reads = v.reads; deep = v.deep; now = v.now; left = v.left; bare = v.bare; same = v.same ∙ t.same }
+
+asked_in : (s : Settings) (ds : List TagDirective) (k : Node) → NodeIn s ds k → (n : ℕ) (ls : List ℕ) → indent ls ≤ n → (a : Layout) (B : List TokenBody → List TokenBody) (rest : Rest) → Spaced (λ e. a e rest) → ((r : Rest) → Spaced (λ e. node_layout (prettily s ds) (spot true n part.Key) k e r)) → MoreIn a B ls rest
+    → PairIn (word (63 ∷ []) ▹ (node_layout (prettily s ds) (spot true n part.Key) k ▹ ((wrap s.width s.line_break n ▹ word (58 ∷ [])) ▹ a))) (λ bs. tokens.key ∷ node_bodies (prettily s ds) true part.Key true k (tokens.value ∷ B bs)) ls rest
+asked_in s ds k key n ls low a B rest parted starts value c x text o d cs T r deep now out l =
+    let p = prettily s ds in
+    let after : Rest = λ e. a e rest in
+    let answer : Rest = λ e. wrap s.width s.line_break n e (λ f. word (58 ∷ []) f after) in
+    let q = ask_then x text c (λ e. node_layout p (spot true n part.Key) k e answer) o d cs ls T (starts answer) r deep out l in
+    let g = asked_key s ds k key n ls low after parted x text q.cursor q.place d cs (λ bs. T (tokens.key ∷ bs)) q.reads q.deep q.now out q.left in
+    let v = asked_answer s n after parted x text g.behind g.place d cs ls (λ bs. T (tokens.key ∷ node_bodies p true part.Key true k bs)) g.bare g.reads (g.deep ∙ q.deep) out g.left in
+    let h = value v.cursor v.bare x text v.place d cs (λ bs. T (tokens.key ∷ node_bodies p true part.Key true k (tokens.value ∷ bs))) v.reads v.deep out v.left in
+    kept_as x text rest v.cursor.kept c.kept d cs ls (λ bs. T (tokens.key ∷ node_bodies p true part.Key true k (tokens.value ∷ B bs))) (v.same ∙ (g.same ∙ q.same)) h
+
+-- a simple key and its `:`
+keyed_in : (s : Settings) (ds : List TagDirective) (k : Node) → KeyWalksIn (prettily s ds) k → (n : ℕ) (ls : List ℕ) → indent ls ≤ n → (a : Layout) (B : List TokenBody → List TokenBody) (rest : Rest) → Spaced (λ e. a e rest) → MoreIn a B ls rest
+    → PairIn (node_layout (prettily s ds) (spot true n part.SimpleKey) k ▹ (char 58 ▹ a)) (λ bs. tokens.key ∷ node_bodies (prettily s ds) true part.SimpleKey false k (tokens.value ∷ B bs)) ls rest
+keyed_in s ds k key n ls low a B rest parted value c x text o d cs T r deep now out l =
+    let p = prettily s ds in
+    let after : Rest = λ e. a e rest in
+    let g = key n ls c after low (λ e f w. space_parts (bytes (after e)) (parted e w)) x text o cs T r (inside_so o.depth d deep) now (out_at o.depth d cs deep out) l in
+    let h = value g.behind g.bare x text g.place d cs (λ bs. T (tokens.key ∷ node_bodies p true part.SimpleKey false k (tokens.value ∷ bs))) g.reads (g.deep ∙ deep) out g.left in
+    kept_as x text rest g.behind.kept c.kept d cs ls (λ bs. T (tokens.key ∷ node_bodies p true part.SimpleKey false k (tokens.value ∷ B bs))) g.same h
+
+-- a key in both forms
+pub record KeyIn (s : Settings) (ds : List TagDirective) (k : Node) : Type 0 where
+  pub simple : is_simple (prettily s ds) k ≡ true → KeyWalksIn (prettily s ds) k
+  pub node : NodeIn s ds k
+  pub starts : (n : ℕ) (rest : Rest) → Spaced (λ e. node_layout (prettily s ds) (spot true n part.Key) k e rest)
+
+pub pairs_first : (s : Settings) (ds : List TagDirective) (k v : Node) (ps : Pairs) → KeyIn s ds k → ((n : ℕ) (rest : Rest) → Spaced (λ e. node_layout (prettily s ds) (spot true n part.Value) v e rest)) → NodeIn s ds v → MorePairs s ds ps → FirstPairs s ds (pair k v ps)
+unfolding pairs_layout before_key before_value turned pairs_bodies
+pairs_first s ds k v ps key starts value more n ls low rest c bare x text o d cs T r deep now out l =
+    let p = prettily s ds in
+    let b = pairs_layout p true n false ps in
+    let a = node_layout p (spot true n part.Value) v ▹ b in
+    let C : List TokenBody → List TokenBody = λ bs. pairs_bodies p true false ps (tokens.flow_mapping_end ∷ bs) in
+    let L : Bool → Layout = λ t. when (not t) (word (63 ∷ [])) ▹ (node_layout p (spot true n (key_part t)) k ▹ (before_value p.settings true n t ▹ a)) in
+    let W : Bool → List TokenBody → List TokenBody = λ t bs. tokens.key ∷ node_bodies p true (key_part t) (not t) k (tokens.value ∷ node_bodies p true part.Value (not t) v (C bs)) in
+    let parted : Spaced (λ e. a e rest) = starts n (λ e. b e rest) in
+    let walk : (t : Bool) → is_simple p k ≡ t → PairIn (L t) (W t) ls rest = λ t same. elim (cases_Bool t) [
+      | inl y ↦ subst (λ (u : Bool). PairIn (L u) (W u) ls rest) (sym y) (keyed_in s ds k (key.simple (same ∙ y)) n ls low a (λ bs. node_bodies p true part.Value false v (C bs)) rest parted (value_in s ds v ps value more false n ls low rest))
+      | inr y ↦ subst (λ (u : Bool). PairIn (L u) (W u) ls rest) (sym y) (asked_in s ds k key.node n ls low a (λ bs. node_bodies p true part.Value true v (C bs)) rest parted (key.starts n) (value_in s ds v ps value more true n ls low rest))
+    ] in
+    let t = wrap_in s.width s.line_break n x text c (λ e. L (is_simple p k) e rest) o cs ls T bare r l in
+    let h = walk (is_simple p k) refl t.cursor x text t.place d cs T t.reads (t.deep ∙ deep) (t.now now) out t.left in
+    kept_as x text rest t.cursor.kept c.kept d cs ls (λ bs. T (W (is_simple p k) bs)) t.same h
+
+pub pairs_more : (s : Settings) (ds : List TagDirective) (k v : Node) (ps : Pairs) → FirstPairs s ds (pair k v ps) → MorePairs s ds (pair k v ps)
+unfolding pairs_layout before_key pairs_bodies
+pairs_more s ds k v ps whole n ls low rest =
+    let p = prettily s ds in
+    comma_then (pairs_layout p true n true (pair k v ps)) (λ bs. pairs_bodies p true true (pair k v ps) (tokens.flow_mapping_end ∷ bs)) ls rest (whole n ls low rest)
+
+-- ---- the opening bracket
+
+opening_low : (mapping : Bool) → nat_lt (opening_of mapping) 128 ≡ true
+opening_low true = refl
+opening_low false = refl
+
+right_space : (d c e : ℕ) (ls : List ℕ) → c ≤ e → IsRight d ls c → IsRight d ls e
+right_space d c e ls up (inl h) = inl h
+right_space d c e ls up (inr h) = inr (omega (arith, up, h))
+
+out_deeper : (d : ℕ) (cs : List ℕ) → Outside d cs → Outside (d + 1) cs
+unfolding Outside
+out_deeper d [] out = tt
+out_deeper d (c ∷ cs) (low, out) = (omega (arith, low), out_deeper d cs out)
+
+out_next : (d : ℕ) (cs : List ℕ) → Outside d cs → Outside (d + 1) (d ∷ cs)
+unfolding Outside
+out_next d cs out = (omega arith, out_deeper d cs out)
+
+clear_out : (o : Where) (cs : List ℕ) → IsClear o cs → Outside (o.depth + 1) cs
+clear_out o cs (inl out) = out_deeper o.depth cs out
+clear_out o cs (inr (ds, same, out, off)) = subst (λ (es : List ℕ). Outside (o.depth + 1) es) (sym same) (out_next o.depth ds out)
+
+clear_there : (o u : Where) (cs : List ℕ) → u.depth ≡ o.depth → u.now ≡ o.now → IsClear o cs → IsClear u cs
+clear_there o u cs deep now (inl out) = inl (subst (λ (d : ℕ). Outside d cs) (sym deep) out)
+clear_there o u cs deep now (inr (ds, same, out, off)) = inr (ds, same ∙ ap (λ (d : ℕ). d ∷ ds) (sym deep), subst (λ (d : ℕ). Outside d ds) (sym deep) out, now ∙ off)
+
+-- a collection's brackets, at any depth
+pub opened_in : (mapping : Bool) (a : Layout) (B : List TokenBody → List TokenBody) (ls : List ℕ) (rest : Rest) → BodyIn a B ls rest → (c : Cursor) (x : yaml_encoding_t) (text : List ℕ) (o : Where) (cs : List ℕ) (T : List TokenBody → List TokenBody) → Reads x text o cs ls [] T
+    → IsRight o.depth ls (column_at text o.at) → IsClear o cs → Left text o.at (bytes ((opener (opening_of mapping) ▹ a) c rest)) → Closed x text rest c.kept o.depth cs ls (λ bs. T (opens mapping ∷ B bs))
+opened_in mapping a B ls rest body c x text o cs T r right clear l =
+    let K : Rest = λ e. letter (opening_of mapping) ∷ a (record { column = e.column + 1; white = true; bare = false; kept = e.kept }) rest in
+    let e = behind_gap c.white c in
+    let f : Cursor = record { column = e.column + 1; white = true; bare = false; kept = e.kept } in
+    let sp = space_on (not c.white) x text (bytes (K e)) o cs ls [] T r (gap_left text o.at c.white c K l) in
+    let m = left_letter text sp.place.at (opening_of mapping) (a f rest) (opening_low mapping) sp.left in
+    let clear1 = clear_there o sp.place cs sp.deep sp.same clear in
+    let right1 = subst (λ (d : ℕ). IsRight d ls (column_at text sp.place.at)) (sym sp.deep) (right_space o.depth (column_at text o.at) (column_at text sp.place.at) ls sp.right right) in
+    let g = opener_on mapping x text (bytes (a f rest)) sp.place cs ls T sp.reads right1 clear1 m in
+    let out = subst (λ (d : ℕ). Outside (d + 1) cs) sp.deep (clear_out sp.place cs clear1) in
+    let h = body f refl x text g.place o.depth cs (λ bs. T (opens mapping ∷ bs)) g.reads (g.deep ∙ ap (λ (d : ℕ). d + 1) sp.deep) g.begin out g.left in
+    kept_as x text rest e.kept c.kept o.depth cs ls (λ bs. T (opens mapping ∷ B bs)) (gap_kept c.white c) h
+
+-- as content in brackets
+pub bracket_in : (mapping : Bool) (a : Layout) (B : List TokenBody → List TokenBody) (ls : List ℕ) (rest : Rest) → BodyIn a B ls rest → (c : Cursor) → WalksIn (opener (opening_of mapping) ▹ a) (λ bs. opens mapping ∷ B bs) ls c rest
+bracket_in mapping a B ls rest body c x text o cs T r deep clear l =
+    let g = opened_in mapping a B ls rest body c x text o cs T r (inl deep) clear l in
+    record { behind = g.behind; place = g.place; reads = g.reads; deep = g.deep; now = g.now; left = g.left; bare = g.bare; white = g.white; same = g.same }

@@ -1,5 +1,0 @@
-use Rattle.yaml_emit_laws_pretty.proofs.SpokenLayouts.{plain_says}
-use Rattle.yaml_emit_laws_pretty.proofs.flows.flow_trial.Goals as goal
-
-pub returns : goal.returns
-returns c = tt

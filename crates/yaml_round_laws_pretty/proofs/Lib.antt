@@ -16,3 +16,4 @@ mod Layouts
 mod Marks
 mod Bytes
 mod Encoding
+pub mod Theorem

@@ -2,8 +2,6 @@
 
 ghost use Rattle.yaml_round_laws_pretty.specs.Laws.{InputsLayoutIsWritable, PrettyBytesDecode, PrettyFollows, PrettyIsLost, PrettyReadsBack};
 
-use yaml_emit_laws_pretty::pretty_text_is_read;
-
 /// The documents that are laid out for an input may be written.
 pub fn inputs_layout_is_writable()
     ensures { InputsLayoutIsWritable }
@@ -23,15 +21,9 @@ pub fn pretty_bytes_decode()
 /// the input's content: under all settings.
 pub fn pretty_reads_back()
     ensures { PrettyReadsBack }
-{
-    pretty_text_is_read();
-    pretty_follows();
-}
+{}
 
 /// What is laid out in pretty form for an input that begins with nothing never is.
 pub fn pretty_is_lost()
     ensures { PrettyIsLost }
-{
-    pretty_text_is_read();
-    pretty_follows();
-}
+{}

@@ -17,3 +17,4 @@ mod Layouts
 mod Marks
 mod Bytes
 mod Encoding
+pub mod Theorem

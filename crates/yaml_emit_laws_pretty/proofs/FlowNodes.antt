@@ -142,6 +142,7 @@ scalar_keeps styles p q x style.Folded same kept = let no_flow = ((styles p (pla
 
 mutual
   unfolding node_kept items_kept pairs_kept
+
   node_keeps : StylesAreAllowed → (s : Settings) (ds : List TagDirective) (y : Node) (q : Part) (kept : Bool) → node_kept (prettily s ds) true q y kept ≡ kept
   node_keeps styles s ds (alias_node name) q kept = refl
   node_keeps styles s ds (scalar_node x) q kept = scalar_keeps styles (prettily s ds) q x (style_at (prettily s ds) true q x) refl kept

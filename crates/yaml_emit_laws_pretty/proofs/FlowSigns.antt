@@ -78,14 +78,14 @@ wrap_in width b n x text c rest o cs ls T bare r l =
     elim (cases_Bool (is_past width c)) [
       | inl e ↦ line_in b n x text c rest o cs ls T bare r (subst (λ (t : Bool). Left text o.at (bytes (if t then line b n c rest else rest c))) e l)
       | inr e ↦ record {
-          cursor = c;
-          place = o;
-          reads = r;
-          deep = refl;
-          now = λ h. h;
-          left = subst (λ (t : Bool). Left text o.at (bytes (if t then line b n c rest else rest c))) e l;
-          same = refl;
-        }
+        cursor = c;
+        place = o;
+        reads = r;
+        deep = refl;
+        now = λ h. h;
+        left = subst (λ (t : Bool). Left text o.at (bytes (if t then line b n c rest else rest c))) e l;
+        same = refl;
+      }
     ]
 
 -- ---- a space that is due

@@ -1,5 +1,5 @@
 -- Collections in brackets at spots of a block.
-use Rattle.std.proofs.Common.{◌≡◌, ℕ, ◌+◌, ◌<◌, ◌≤◌, ◌==◌, ◌&&◌, ◌||◌, not, nat_lt, Bool, true, false, List, [], ◌∷◌, refl, sym, ap, subst, ◌∙◌, inl, inr, arith, None, Some}
+use Rattle.std.proofs.Common.{◌≡◌, ℕ, ◌+◌, ◌≤◌, ◌||◌, not, nat_lt, Bool, true, false, List, [], ◌∷◌, refl, sym, ap, subst, ◌∙◌, inl, inr, arith, None, Some}
 use Rattle.std.specs.Prelude.{Option}
 use Rattle.yaml_emit_laws_text.specs.emit_layout.scan.declared.yaml_encoding_t.{yaml_encoding_t}
 use Rattle.yaml_emit_laws_text.specs.emit_layout.scan.Tokens as tokens
@@ -9,26 +9,26 @@ use Rattle.yaml_emit_laws_text.specs.scan_history.scan_model.Marks.{column_at}
 use Rattle.yaml_emit_laws_text.specs.scan_history.History.{indent}
 use Rattle.yaml_emit_laws_text.specs.emit_layout.emit_text.declared.Cursor.{Cursor}
 use Rattle.yaml_emit_laws_text.specs.emit_layout.emit_text.declared.Settings.{Settings}
-use Rattle.yaml_emit_laws_text.specs.emit_layout.emit_text.Text.{Item, letter}
+use Rattle.yaml_emit_laws_text.specs.emit_layout.emit_text.Text.{letter}
 use Rattle.yaml_emit_laws_text.specs.emit_layout.emit_text.Layout.{Layout, Rest, ◌▹◌, when, opener, line}
 use Rattle.yaml_emit_laws_text.specs.emit_layout.declared.level.Part.{Part}
 use Rattle.yaml_emit_laws_text.specs.emit_layout.Content.{Start, Opening, Node, alias_node, scalar_node, sequence_node, mapping_node, Nodes, Pairs}
 use Rattle.yaml_emit_laws_text.specs.emit_layout.Grammar.{has, start_tag}
-use Rattle.yaml_emit_laws_text.specs.emit_layout.Nodes.{Context, context_of, checked, deeper, indented, indent_of, is_simple_part, are_none, are_no_pairs, properties_text, node_layout, items_layout, pairs_layout}
+use Rattle.yaml_emit_laws_text.specs.emit_layout.Nodes.{Context, context_of, checked, deeper, indented, indent_of, are_none, are_no_pairs, properties_text, node_layout, items_layout, pairs_layout}
 use Rattle.yaml_emit_laws_text.specs.Bodies.{anchor_bodies, tag_bodies}
-use Rattle.yaml_emit_laws_text.specs.Walk.{Left, bytes, first}
-use Rattle.yaml_emit_laws_text.specs.Writable.{IsWritable, AreItemsWritable, ArePairsWritable, IsWritableAnchor, IsWritableTag}
+use Rattle.yaml_emit_laws_text.specs.Walk.{Left, bytes}
+use Rattle.yaml_emit_laws_text.specs.Writable.{IsWritable, IsWritableAnchor, IsWritableTag}
 use Rattle.yaml_scan_laws_levels.specs.Walks.{Where, Outside}
 use Rattle.yaml_emit_laws_scalars.specs.Stops.{begins_white}
 use Rattle.yaml_emit_laws_block.specs.Laws.{margin_round}
 use Rattle.yaml_emit_laws_pretty.specs.Bodies.{is_flow_at, keeps, sequence_opens, sequence_closes, mapping_opens, mapping_closes, node_bodies, items_bodies, pairs_bodies, node_kept, items_kept, pairs_kept}
 use Rattle.yaml_emit_laws_pretty.specs.Walk.{Stage, Goes}
-use Rattle.yaml_emit_laws_pretty.specs.Nodes.{IsPretty, NodeWalks, PartedBehind, PropertiesAreWalked, BracketsAreWalked, block_spot, is_bracketed}
+use Rattle.yaml_emit_laws_pretty.specs.Nodes.{IsPretty, NodeWalks, PartedBehind, PropertiesAreWalked, block_spot, is_bracketed}
 use Rattle.yaml_emit_laws_pretty.specs.Flows.{KeysAreWalkedIn, BracketsFollow}
 use Rattle.yaml_emit_laws_pretty.proofs.Lining.{line_ends}
 use Rattle.yaml_emit_laws_pretty.proofs.FlowSigns.{opening_of, opens}
 use Rattle.yaml_emit_laws_pretty.proofs.FlowScalars.{WordLaws, kept_good}
-use Rattle.yaml_emit_laws_pretty.proofs.FlowFollows.{pretty_of, prettily, Spaced, space_parts, gap_spaced, properties_spaced}
+use Rattle.yaml_emit_laws_pretty.proofs.FlowFollows.{pretty_of, prettily, space_parts, gap_spaced, properties_spaced}
 use Rattle.yaml_emit_laws_pretty.proofs.FlowItems.{BodyIn, opened_in}
 use Rattle.yaml_emit_laws_pretty.proofs.FlowNodes.{body_checked, pretty_fine, first_in, first_pairs_in, items_keep, pairs_keep}
 

@@ -1,14 +1,8 @@
 -- All nodes in brackets, and collections in brackets at spots of a block.
-use Rattle.std.proofs.Common.{◌≡◌, ℕ, ◌+◌, ◌<◌, ◌≤◌, ◌==◌, ◌&&◌, ◌||◌, not, nat_lt, Bool, true, false, List, [], ◌∷◌, refl, sym, ap, subst, ◌∙◌, inl, inr, arith, None, Some}
-use Rattle.std.specs.Prelude.{Option}
-use Rattle.std.proofs.lemmas.Bool.{cases_Bool}
-use Rattle.yaml_emit_laws_text.specs.emit_layout.scan.declared.yaml_encoding_t.{yaml_encoding_t}
+use Rattle.std.proofs.Common.{◌≡◌, ℕ, ◌+◌, ◌&&◌, not, nat_lt, Bool, true, false, List, [], ◌∷◌, refl, subst, ◌∙◌, arith}
 use Rattle.yaml_emit_laws_text.specs.emit_layout.scan.Tokens as tokens
 use Rattle.yaml_emit_laws_text.specs.emit_layout.scan.Tokens.{TokenBody}
 use Rattle.yaml_emit_laws_text.specs.emit_layout.parse.Events.{TagDirective}
-use Rattle.yaml_emit_laws_text.specs.scan_history.scan_model.Marks.{column_at}
-use Rattle.yaml_emit_laws_text.specs.scan_history.History.{indent}
-use Rattle.yaml_emit_laws_text.specs.emit_layout.emit_text.declared.Cursor.{Cursor}
 use Rattle.yaml_emit_laws_text.specs.emit_layout.emit_text.declared.Settings.{Settings}
 use Rattle.yaml_emit_laws_text.specs.emit_layout.emit_text.declared.Style.{Style}
 use Rattle.yaml_emit_laws_text.specs.emit_layout.emit_text.declared.Style.TheVariants as style
@@ -21,16 +15,14 @@ use Rattle.yaml_emit_laws_text.specs.emit_layout.declared.level.Part.{Part}
 use Rattle.yaml_emit_laws_text.specs.emit_layout.declared.level.Part.TheVariants as part
 use Rattle.yaml_emit_laws_text.specs.emit_layout.Content.{Scalar, Start, Opening, Node, alias_node, scalar_node, sequence_node, mapping_node, Nodes, no_nodes, node, Pairs, no_pairs, pair}
 use Rattle.yaml_emit_laws_text.specs.emit_layout.Grammar.{has, start_tag, scalar_tag}
-use Rattle.yaml_emit_laws_text.specs.emit_layout.Nodes.{Context, context_of, spot, checked, MOST, deeper, indented, indent_of, is_flow, is_simple, is_simple_part, is_plain, key_part, are_none, are_no_pairs, mark_text, style_of, page_at, properties_text, node_layout, alias_layout, scalar_layout, items_layout, pairs_layout}
-use Rattle.yaml_emit_laws_text.specs.Bodies.{anchor_bodies, tag_bodies}
-use Rattle.yaml_emit_laws_text.specs.Walk.{Left, bytes, first}
+use Rattle.yaml_emit_laws_text.specs.emit_layout.Nodes.{Context, spot, checked, MOST, is_simple, is_simple_part, is_plain, key_part, style_of, page_at, node_layout, alias_layout, scalar_layout, items_layout, pairs_layout}
+use Rattle.yaml_emit_laws_text.specs.Walk.{Left}
 use Rattle.yaml_emit_laws_text.specs.Writable.{IsWritable, AreItemsWritable, ArePairsWritable, IsWritableOpening, IsWritableAnchor, IsWritableTag}
-use Rattle.yaml_scan_laws_levels.specs.Walks.{Where, Outside}
 use Rattle.yaml_emit_laws_scalars.specs.StylesLaws.{StylesAreAllowed}
 use Rattle.yaml_emit_laws_pretty.specs.Bodies.{place, style_at, scalar_kept, node_bodies, items_bodies, pairs_bodies, node_kept, items_kept, pairs_kept}
 use Rattle.yaml_emit_laws_pretty.specs.Nodes.{IsPretty}
-use Rattle.yaml_emit_laws_pretty.specs.Flows.{WalksIn, FollowsIn, KeysAreWalkedIn}
-use Rattle.yaml_emit_laws_pretty.proofs.FlowScalars.{WordLaws, walks_checked, properties_in, kept_good, scalar_in, alias_in}
+use Rattle.yaml_emit_laws_pretty.specs.Flows.{KeysAreWalkedIn}
+use Rattle.yaml_emit_laws_pretty.proofs.FlowScalars.{WordLaws, properties_in, kept_good, scalar_in, alias_in}
 use Rattle.yaml_emit_laws_pretty.proofs.FlowFollows.{pretty_of, prettily, Spaced, gap_spaced, checked_spaced, properties_spaced, mark_spaced, text_spaced}
 use Rattle.yaml_emit_laws_pretty.proofs.FlowItems.{NodeIn, BodyIn, KeyIn, FirstItems, MoreItems, FirstPairs, MorePairs, items_none, items_closed, items_first, items_more, pairs_none, pairs_closed, pairs_first, pairs_more, bracket_in}
 

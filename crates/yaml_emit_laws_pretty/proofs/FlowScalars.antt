@@ -1,8 +1,7 @@
 -- Properties, scalars and aliases as content in brackets.
-use Rattle.std.proofs.Common.{◌≡◌, ℕ, ◌+◌, ◌<◌, ◌≤◌, ◌==◌, ◌&&◌, ◌||◌, not, nat_lt, Bool, true, false, List, [], ◌∷◌, length, refl, sym, ap, subst, ◌∙◌, inl, inr, arith, None, Some}
-use Rattle.std.specs.Prelude.{if◌then◌else◌, IsUtf8, Option}
+use Rattle.std.proofs.Common.{◌≡◌, ℕ, ◌+◌, ◌<◌, ◌≤◌, ◌&&◌, ◌||◌, not, nat_lt, Bool, true, false, List, [], ◌∷◌, length, refl, sym, subst, arith, None, Some}
+use Rattle.std.specs.Prelude.{IsUtf8, Option}
 use Rattle.std.specs.Str.{chars}
-use Rattle.yaml_emit_laws_text.specs.emit_layout.scan.declared.yaml_scalar_style_t.TheVariants.{YAML_PLAIN_SCALAR_STYLE, YAML_SINGLE_QUOTED_SCALAR_STYLE, YAML_DOUBLE_QUOTED_SCALAR_STYLE}
 use Rattle.yaml_emit_laws_text.specs.emit_layout.scan.Tokens as tokens
 use Rattle.yaml_emit_laws_text.specs.emit_layout.scan.Tokens.{TokenBody}
 use Rattle.yaml_emit_laws_text.specs.emit_layout.parse.Events.{TagDirective}
@@ -10,7 +9,6 @@ use Rattle.yaml_emit_laws_text.specs.scan_history.History.{indent}
 use Rattle.yaml_emit_laws_text.specs.scan_history.scan_words.Laws.{AnchorReads}
 use Rattle.yaml_emit_laws_text.specs.emit_layout.emit_text.declared.Cursor.{Cursor}
 use Rattle.yaml_emit_laws_text.specs.emit_layout.emit_text.declared.Settings.{Settings}
-use Rattle.yaml_emit_laws_text.specs.emit_layout.emit_text.declared.Page.{Page}
 use Rattle.yaml_emit_laws_text.specs.emit_layout.emit_text.declared.Style.{Style}
 use Rattle.yaml_emit_laws_text.specs.emit_layout.emit_text.declared.Style.TheVariants as style
 use Rattle.yaml_emit_laws_text.specs.emit_layout.emit_text.Layout.{Layout, Rest, ◌▹◌, when, char, letters, word}
@@ -19,10 +17,9 @@ use Rattle.yaml_emit_laws_text.specs.emit_layout.emit_text.Scalars.{plain, singl
 use Rattle.yaml_emit_laws_text.specs.emit_layout.emit_text.Style.{allowed}
 use Rattle.yaml_emit_laws_text.specs.emit_layout.emit_tags.Tags.{tag_spelling, split_tag}
 use Rattle.yaml_emit_laws_text.specs.emit_layout.declared.level.Part.{Part}
-use Rattle.yaml_emit_laws_text.specs.emit_layout.declared.level.Part.TheVariants as part
-use Rattle.yaml_emit_laws_text.specs.emit_layout.Content.{Scalar, Start, Opening, Node, alias_node, scalar_node}
-use Rattle.yaml_emit_laws_text.specs.emit_layout.Grammar.{has, kept_if, scalar_tag, start_tag}
-use Rattle.yaml_emit_laws_text.specs.emit_layout.Nodes.{Context, spot, checked, MOST, deeper, is_simple_part, is_plain, style_of, mark_text, tag_text, anchor_text, properties_text, page_at, node_layout, alias_layout, scalar_layout}
+use Rattle.yaml_emit_laws_text.specs.emit_layout.Content.{Scalar, Opening, alias_node, scalar_node}
+use Rattle.yaml_emit_laws_text.specs.emit_layout.Grammar.{has, kept_if, scalar_tag}
+use Rattle.yaml_emit_laws_text.specs.emit_layout.Nodes.{Context, spot, checked, MOST, is_simple_part, is_plain, style_of, tag_text, anchor_text, properties_text, page_at, node_layout, alias_layout, scalar_layout}
 use Rattle.yaml_emit_laws_text.specs.Bodies.{anchor_bodies, tag_bodies, tag_body, mark_bodies}
 use Rattle.yaml_emit_laws_text.specs.QuotedLaws.{QuotedIsReadBack}
 use Rattle.yaml_emit_laws_text.specs.TagsLaws.{SplitTagsAreRead, WrittenTagsAreReadable, ReadableTagsAreAscii}
@@ -34,7 +31,7 @@ use Rattle.yaml_emit_laws_scalars.specs.PlainLaws.{PlainIsReadBack, may_be_plain
 use Rattle.yaml_emit_laws_scalars.specs.SingleLaws.{SingleLinesAreReadBack}
 use Rattle.yaml_emit_laws_scalars.specs.StandsLaws.{PlainHasGap, ScalarsAreWords}
 use Rattle.yaml_emit_laws_scalars.specs.StylesLaws.{StylesAreAllowed}
-use Rattle.yaml_emit_laws_pretty.specs.Bodies.{style_at, style_named, takes_mark, scalar_bodies, node_bodies}
+use Rattle.yaml_emit_laws_pretty.specs.Bodies.{style_at, style_named, node_bodies}
 use Rattle.yaml_emit_laws_pretty.specs.Spoken.{ends_name}
 use Rattle.yaml_emit_laws_pretty.specs.Flows.{WalksIn, FollowsIn}
 use Rattle.yaml_emit_laws_pretty.proofs.SpokenWords.{anchor_word, alias_word, tag_word, mark_word, double_word, single_word, plain_word}

@@ -1,5 +1,5 @@
 -- Lines, commas, brackets, `?` and its `:` in brackets.
-use Rattle.std.proofs.Common.{◌≡◌, ℕ, ◌+◌, ◌-◌, ◌<◌, ◌≤◌, ◌==◌, ◌&&◌, ◌||◌, not, nat_lt, Bool, true, false, List, [], ◌∷◌, ◌++◌, length, zero, suc, refl, sym, ap, subst, ◌∙◌, inl, inr, arith, replicate, append_assoc}
+use Rattle.std.proofs.Common.{◌≡◌, ℕ, ◌+◌, ◌-◌, ◌<◌, ◌&&◌, ◌||◌, not, nat_lt, Bool, true, false, List, [], ◌∷◌, ◌++◌, length, zero, suc, refl, sym, ap, subst, ◌∙◌, inl, inr, arith, replicate, append_assoc}
 use Rattle.std.specs.Prelude.{if◌then◌else◌}
 use Rattle.std.proofs.lemmas.Bool.{cases_Bool}
 use Rattle.std.proofs.lemmas.Bool.Decides.{nat_tests}
@@ -13,25 +13,24 @@ use Rattle.yaml_emit_laws_text.specs.scan_history.scan_words.Written.{are_gap, h
 use Rattle.yaml_emit_laws_text.specs.emit_layout.emit_text.declared.Cursor.{Cursor}
 use Rattle.yaml_emit_laws_text.specs.emit_layout.emit_text.declared.LineBreak.{LineBreak}
 use Rattle.yaml_emit_laws_text.specs.emit_layout.emit_text.declared.LineBreak.TheVariants.{Lf, Cr, CrLf}
-use Rattle.yaml_emit_laws_text.specs.emit_layout.emit_text.Text.{letter}
-use Rattle.yaml_emit_laws_text.specs.emit_layout.emit_text.Layout.{Layout, Rest, ◌▹◌, gap, blank, char, letters, word, opener, line, wrap, is_past}
+use Rattle.yaml_emit_laws_text.specs.emit_layout.emit_text.Layout.{Rest, blank, line, wrap, is_past}
 use Rattle.yaml_emit_laws_text.specs.emit_layout.emit_text.Spelling.{break_text}
 use Rattle.yaml_emit_laws_text.specs.Walk.{Left, bytes}
 use Rattle.yaml_emit_laws_text.proofs.Places.{has_at, has_front, left_first, left_more, left_rest}
-use Rattle.yaml_emit_laws_text.proofs.Steps.{left_letter, letter_low}
+use Rattle.yaml_emit_laws_text.proofs.Steps.{left_letter}
 use Rattle.yaml_scan_laws_levels.specs.Pushes.{IsRight}
 use Rattle.yaml_scan_laws_levels.specs.Signs.{sign}
-use Rattle.yaml_scan_laws_levels.specs.Walks.{Where, Reads, LeaveClear, Outside, behind}
+use Rattle.yaml_scan_laws_levels.specs.Walks.{Where, Reads, Outside, behind}
 use Rattle.yaml_scan_laws_levels.proofs.Signing.{signs_come, printed_begins}
 use Rattle.yaml_scan_laws_levels.proofs.Stepping.{words_leave}
 use Rattle.yaml_scan_laws_levels.proofs.Walking.{walk_white, walk_word, walk_asks, walk_answers, deeper_leaves}
 use Rattle.yaml_emit_laws_scalars.specs.Stops.{begins_white}
 use Rattle.yaml_emit_laws_scalars.proofs.Lines.{line_start, after_blanks, blanks_kept}
-use Rattle.yaml_emit_laws_pretty.specs.Flows.{IsClear, GoesIn}
+use Rattle.yaml_emit_laws_pretty.specs.Flows.{IsClear}
 use Rattle.yaml_emit_laws_pretty.proofs.Lining.{or_left, or_right}
 use Rattle.yaml_emit_laws_pretty.proofs.Entries.{no_gap, white_stands}
 use Rattle.yaml_emit_laws_pretty.proofs.Following.{line_bytes}
-use Rattle.yaml_emit_laws_pretty.proofs.FlowSteps.{space_on, leave_clear}
+use Rattle.yaml_emit_laws_pretty.proofs.FlowSteps.{leave_clear}
 
 never : false ≡ true → ⊥
 never e = cc

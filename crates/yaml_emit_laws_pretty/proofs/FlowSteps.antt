@@ -1,37 +1,27 @@
 -- White and words in brackets.
-use Rattle.std.proofs.Common.{◌≡◌, ℕ, ◌+◌, ◌-◌, ◌<◌, ◌≤◌, ◌==◌, ◌&&◌, ◌||◌, not, nat_lt, Bool, true, false, List, [], ◌∷◌, ◌++◌, length, zero, suc, Some, Ok, refl, sym, ap, subst, ◌∙◌, inl, inr, ◌⊎◌, arith, replicate, append_assoc}
+use Rattle.std.proofs.Common.{◌≡◌, ℕ, ◌+◌, ◌≤◌, ◌==◌, ◌&&◌, ◌||◌, nat_lt, Bool, true, false, List, [], ◌∷◌, ◌++◌, length, Some, Ok, refl, sym, ap, subst, ◌∙◌, inl, inr, arith, append_assoc}
 use Rattle.std.specs.Prelude.{if◌then◌else◌}
-use Rattle.std.proofs.lemmas.Bool.{cases_Bool}
 use Rattle.yaml_emit_laws_text.specs.emit_layout.scan.declared.yaml_encoding_t.{yaml_encoding_t}
-use Rattle.yaml_emit_laws_text.specs.emit_layout.scan.Tokens as tokens
 use Rattle.yaml_emit_laws_text.specs.emit_layout.scan.Tokens.{TokenBody}
-use Rattle.yaml_emit_laws_text.specs.scan_history.scan_model.Marks.{byte, column_at, is_blank_or_end}
+use Rattle.yaml_emit_laws_text.specs.scan_history.scan_model.Marks.{column_at}
 use Rattle.yaml_emit_laws_text.specs.scan_history.History.{indent}
 use Rattle.yaml_emit_laws_text.specs.scan_history.Kinds.{depth_after, allows_key, cancels, is_value, may_be_key}
 use Rattle.yaml_emit_laws_text.specs.scan_history.Words.{WordText, kind_at, word_at}
 use Rattle.yaml_emit_laws_text.specs.scan_history.declared.kind.Kind.{Kind}
 use Rattle.yaml_emit_laws_text.specs.scan_history.declared.kind.Kind.TheVariants as kinds
-use Rattle.yaml_emit_laws_text.specs.scan_history.scan_words.Written.{HasAt, are_gap, has_break}
 use Rattle.yaml_emit_laws_text.specs.emit_layout.emit_text.declared.Cursor.{Cursor}
-use Rattle.yaml_emit_laws_text.specs.emit_layout.emit_text.declared.LineBreak.{LineBreak}
-use Rattle.yaml_emit_laws_text.specs.emit_layout.emit_text.declared.LineBreak.TheVariants.{Lf, Cr, CrLf}
-use Rattle.yaml_emit_laws_text.specs.emit_layout.emit_text.Layout.{Layout, Rest, ◌▹◌, gap, blank, line, wrap, is_past}
-use Rattle.yaml_emit_laws_text.specs.emit_layout.emit_text.Spelling.{break_text}
-use Rattle.yaml_emit_laws_text.specs.Walk.{Has, Left, bytes}
-use Rattle.yaml_emit_laws_text.proofs.Places.{has_at, has_front, left_first, left_more, left_rest}
-use Rattle.yaml_emit_laws_text.proofs.Steps.{left_letter, letter_low}
-use Rattle.yaml_scan_laws_levels.specs.Pushes.{IsRight, stays_level}
+use Rattle.yaml_emit_laws_text.specs.emit_layout.emit_text.Layout.{Layout, Rest, ◌▹◌}
+use Rattle.yaml_emit_laws_text.specs.Walk.{Left, bytes}
+use Rattle.yaml_emit_laws_text.proofs.Places.{has_at, left_first, left_more, left_rest}
+use Rattle.yaml_scan_laws_levels.specs.Pushes.{stays_level}
 use Rattle.yaml_scan_laws_levels.specs.Steps.{Comes, WordLeaves}
 use Rattle.yaml_scan_laws_levels.specs.Walks.{Where, Reads, LeaveClear, Outside, behind}
 use Rattle.yaml_scan_laws_levels.proofs.Slotting.{letter_columns}
-use Rattle.yaml_scan_laws_levels.proofs.Stepping.{words_leave}
 use Rattle.yaml_scan_laws_levels.proofs.Walking.{walk_white, walk_word, deeper_leaves}
-use Rattle.yaml_emit_laws_scalars.proofs.Lines.{line_start, after_blanks, blanks_kept}
-use Rattle.yaml_emit_laws_pretty.specs.Spoken.{is_text, Fits, WordStands, Spoken, Says}
-use Rattle.yaml_emit_laws_pretty.specs.Flows.{IsClear, GoesIn, WalksIn}
-use Rattle.yaml_emit_laws_pretty.proofs.Lining.{or_left, or_right}
+use Rattle.yaml_emit_laws_pretty.specs.Spoken.{is_text, Fits, Spoken, Says}
+use Rattle.yaml_emit_laws_pretty.specs.Flows.{IsClear, WalksIn}
+use Rattle.yaml_emit_laws_pretty.proofs.Lining.{or_right}
 use Rattle.yaml_emit_laws_pretty.proofs.Entries.{no_gap}
-use Rattle.yaml_emit_laws_pretty.proofs.Following.{line_bytes}
 
 never : false ≡ true → ⊥
 never e = cc

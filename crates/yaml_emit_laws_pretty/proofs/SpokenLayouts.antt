@@ -1,5 +1,5 @@
 -- What layouts of single words say: names, tags, and scalars in the three styles of a line.
-use Rattle.std.proofs.Common.{◌≡◌, ℕ, ◌+◌, ◌<◌, ◌≤◌, ◌&&◌, not, nat_lt, Bool, true, false, List, [], ◌∷◌, ◌++◌, length, Some, refl, sym, ap, subst, ◌∙◌, arith, encode_utf8_all}
+use Rattle.std.proofs.Common.{◌≡◌, ℕ, ◌+◌, ◌<◌, ◌≤◌, not, nat_lt, Bool, true, false, List, [], ◌∷◌, ◌++◌, length, Some, refl, sym, ap, subst, ◌∙◌, arith, encode_utf8_all}
 use Rattle.std.specs.Prelude.{if◌then◌else◌, IsUtf8}
 use Rattle.std.specs.Str.{chars}
 use Rattle.std.proofs.lemmas.Bool.Decides.{nat_tests}
@@ -10,12 +10,12 @@ use Rattle.yaml_emit_laws_text.specs.scan_history.scan_scalars.Quoted.{double_qu
 use Rattle.yaml_emit_laws_text.specs.emit_layout.emit_text.declared.Cursor.{Cursor}
 use Rattle.yaml_emit_laws_text.specs.emit_layout.emit_text.declared.Page.{Page}
 use Rattle.yaml_emit_laws_text.specs.emit_layout.emit_text.Text.{Item, letter}
-use Rattle.yaml_emit_laws_text.specs.emit_layout.emit_text.Layout.{Layout, Rest, ◌▹◌, char, letters, word, gap, blank, after_text}
+use Rattle.yaml_emit_laws_text.specs.emit_layout.emit_text.Layout.{Layout, Rest, ◌▹◌, letters, word, gap, blank, after_text}
 use Rattle.yaml_emit_laws_text.specs.emit_layout.emit_text.Quoted.{double_quoted}
 use Rattle.yaml_emit_laws_text.specs.emit_layout.emit_text.Scalars.{flow_body, plain, single_quoted}
 use Rattle.yaml_emit_laws_text.specs.emit_layout.emit_text.Style.{allowed}
 use Rattle.yaml_emit_laws_text.specs.emit_layout.emit_text.Spelling.{in_front}
-use Rattle.yaml_emit_laws_text.specs.emit_layout.emit_tags.Tags.{tag_spelling, spelled, split_tag}
+use Rattle.yaml_emit_laws_text.specs.emit_layout.emit_tags.Tags.{tag_spelling, split_tag}
 use Rattle.yaml_emit_laws_text.specs.emit_layout.Content.{Opening}
 use Rattle.yaml_emit_laws_text.specs.ReadBack.{ValueIsReadBack, between_quotes, between_single}
 use Rattle.yaml_emit_laws_text.specs.QuotedLaws.{QuotedIsReadBack}
@@ -25,8 +25,8 @@ use Rattle.yaml_emit_laws_text.specs.Walk.{bytes}
 use Rattle.yaml_emit_laws_text.specs.Writable.{IsWritableName, IsWritableOpening, IsWritableTag}
 use Rattle.yaml_emit_laws_text.proofs.Steps.{letter_low}
 use Rattle.yaml_emit_laws_text.proofs.Words.{and_left, and_right, front_encodes}
-use Rattle.yaml_emit_laws_scalars.specs.PlainLaws.{PlainIsBack, PlainIsReadBack, may_be_plain}
-use Rattle.yaml_emit_laws_scalars.specs.SingleLaws.{SingleIsBack, SingleLinesAreReadBack}
+use Rattle.yaml_emit_laws_scalars.specs.PlainLaws.{PlainIsReadBack, may_be_plain}
+use Rattle.yaml_emit_laws_scalars.specs.SingleLaws.{SingleLinesAreReadBack}
 use Rattle.yaml_emit_laws_scalars.specs.StandsLaws.{PlainHasGap, ScalarsAreWords}
 use Rattle.yaml_emit_laws_pretty.specs.Spoken.{Spoken, Says}
 use Rattle.yaml_emit_laws_pretty.proofs.SpokenWords.{anchor_word, alias_word, tag_word, mark_word, double_word, single_word, plain_word}

@@ -1,5 +1,5 @@
 -- Collections in brackets, and what stands in them, at any depth.
-use Rattle.std.specs.Prelude.{◌≡◌, ◌⊎◌, ◌≤◌, ◌+◌, ℕ, nat_lt, Bool, true, false, not, List, [], ◌∷◌, None}
+use Rattle.std.specs.Prelude.{◌≡◌, ◌⊎◌, ◌≤◌, ℕ, nat_lt, Bool, true, false, List, [], ◌∷◌, None}
 use Rattle.yaml_emit_laws_text.specs.emit_layout.scan.declared.yaml_encoding_t.{yaml_encoding_t}
 use Rattle.yaml_emit_laws_text.specs.emit_layout.scan.Tokens as tokens
 use Rattle.yaml_emit_laws_text.specs.emit_layout.scan.Tokens.{TokenBody}
@@ -10,7 +10,7 @@ use Rattle.yaml_emit_laws_text.specs.emit_layout.emit_text.Layout.{Layout, Rest,
 use Rattle.yaml_emit_laws_text.specs.emit_layout.declared.level.Part.TheVariants as part
 use Rattle.yaml_emit_laws_text.specs.emit_layout.Content.{Opening, Node}
 use Rattle.yaml_emit_laws_text.specs.emit_layout.Nodes.{Context, context_of, spot, is_simple, node_layout}
-use Rattle.yaml_emit_laws_text.specs.Walk.{Left, bytes, first}
+use Rattle.yaml_emit_laws_text.specs.Walk.{Left, bytes}
 use Rattle.yaml_emit_laws_text.specs.Writable.{IsWritable}
 use Rattle.yaml_scan_laws_levels.specs.Walks.{Where, Reads, Outside}
 use Rattle.yaml_emit_laws_scalars.specs.Stops.{stops_plain_at}

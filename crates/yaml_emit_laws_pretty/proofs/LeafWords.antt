@@ -41,6 +41,7 @@ quiet now d cs f a h k is = f a (λ e. h refl) k is
 pub record WordsRun (x : yaml_encoding_t) (text : List ℕ) (e d : ℕ) (cs ls : List ℕ) (T : List TokenBody → List TokenBody) : Type 0 where
   pub line : ℕ
   pub wide : Bool
+  pub block : nat_lt 0 d ≡ false → wide ≡ true
   pub reads : Reads x text (spot_at e line d false wide) cs ls [] T
   pub before : line ≤ line_at text e
 
@@ -60,6 +61,7 @@ word_here d ls w bs x text q line now broken cs T reads clear right l fits =
     record {
       line = line_at text (q + 0);
       wide = s.wide;
+      block = s.block;
       reads = subst (λ i. Reads x text (spot_at e (line_at text (q + 0)) i false s.wide) cs ls [] (λ bs. T (w.body ∷ bs))) (t.same d) r;
       before = line_at-grows text (q + 0) e (omega arith);
     }

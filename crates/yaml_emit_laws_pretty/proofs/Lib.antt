@@ -32,4 +32,9 @@ pub mod KeySteps
 pub mod LeafWords
 pub mod LeafProps
 pub mod KeyColumns
+pub mod KeyForms
+pub mod KeyKinds
+pub mod KeyLeaves
+pub mod LeafDress
+pub mod LeafNodes
 pub mod FlowBlocks

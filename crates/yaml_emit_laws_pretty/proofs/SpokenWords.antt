@@ -64,6 +64,7 @@ in_line flow level k body text p e bs begins kind word =
       word = word;
       near = λ h. refl;
       wide = not flow;
+      block = λ e. ap (λ (b : Bool). not b) e;
       leaves = λ d same. subst (λ (b : Bool). WordLeaves text d false w e false (not b)) same (words_leave.all text d false w refl);
     }
 
@@ -356,6 +357,7 @@ plain_stands words flow level page c value r text p bs l fits =
       word = (words flow level text p value).0 own gap says;
       near = λ h. none_more e gap (h refl);
       wide = true;
+      block = λ e. refl;
       leaves = λ d same. words_leave.none text d w e gap (record { has = has; blank = blank; ends = starts }) refl refl;
     }
   where

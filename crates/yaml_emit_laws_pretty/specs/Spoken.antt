@@ -62,6 +62,7 @@ pub record WordStands (flow : Bool) (level : ℕ) (k : Kind) (body : TokenBody) 
       ≡ Ok record { body = body; end = end; reached = reached; broke = broke }
   pub near : (k ≡ kinds.Plain → white_of bs ≡ []) → reached ≡ e
   pub wide : Bool
+  pub block : flow ≡ false → wide ≡ true
   pub leaves : (d : ℕ) → nat_lt 0 d ≡ flow → WordLeaves text d false
       record { body = body; end = end; reached = reached; broke = broke } e false wide
 

@@ -1,8 +1,31 @@
-//! Laws of leaves, of properties, and of simple keys.
+//! Laws of leaves and of properties.
 
-ghost use Rattle.yaml_emit_laws_pretty.specs.Nodes.{SimpleKeysAreWalked};
+ghost use Rattle.yaml_emit_laws_pretty.specs.Nodes.{BlockScalarsAreWalked, LeavesAreWalked, PropertiesAreWalked};
 
-/// A simple key and its `:` are walked, whatever it is.
-pub fn simple_keys_are_walked()
-    ensures { SimpleKeysAreWalked }
+use yaml_emit_laws_scalars::{plain_has_a_gap, styles_are_allowed};
+use yaml_emit_laws_text::quoted_is_read_back;
+
+use crate::laws::{plain_is_walked, single_is_walked};
+
+/// An anchor, a tag, or both are walked.
+pub fn properties_are_walked()
+    ensures { PropertiesAreWalked }
 {}
+
+/// Aliases and scalars in a line or in quotes are walked.
+pub fn leaves_are_walked()
+    ensures { LeavesAreWalked }
+{
+    plain_is_walked();
+    single_is_walked();
+    quoted_is_read_back();
+    styles_are_allowed();
+    plain_has_a_gap();
+}
+
+/// Literal and folded scalars are walked.
+pub fn block_scalars_are_walked()
+    ensures { BlockScalarsAreWalked }
+{
+    plain_has_a_gap();
+}

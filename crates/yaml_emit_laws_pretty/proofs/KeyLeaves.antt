@@ -1,0 +1,173 @@
+-- Simple keys of every kind and their `:` are walked, in a block and in brackets.
+use Rattle.std.proofs.Common.{◌≡◌, ◌⊎◌, ℕ, ◌+◌, ◌<◌, ◌≤◌, ◌||◌, not, nat_lt, Bool, true, false, List, [], ◌∷◌, ◌++◌, length, Some, refl, sym, ap, subst, ◌∙◌, inl, inr, arith, append_assoc, length-append}
+use Rattle.std.specs.Prelude.{if◌then◌else◌}
+use Rattle.yaml_emit_laws_text.specs.emit_layout.scan.declared.yaml_encoding_t.{yaml_encoding_t}
+use Rattle.yaml_emit_laws_text.specs.emit_layout.scan.Tokens as tokens
+use Rattle.yaml_emit_laws_text.specs.emit_layout.scan.Tokens.{TokenBody}
+use Rattle.yaml_emit_laws_text.specs.scan_history.scan_model.Marks.{column_at, line_at}
+use Rattle.yaml_emit_laws_text.specs.scan_history.scan_words.Written.{begins_lexeme}
+use Rattle.yaml_emit_laws_text.specs.scan_history.History.{indent, margin_at, opened, start_of}
+use Rattle.yaml_emit_laws_text.specs.scan_history.declared.lexeme.Opens.{Opens}
+use Rattle.yaml_emit_laws_text.specs.scan_history.declared.lexeme.Opens.TheVariants as opening
+use Rattle.yaml_emit_laws_text.specs.emit_layout.emit_text.declared.Cursor.{Cursor}
+use Rattle.yaml_emit_laws_text.specs.emit_layout.emit_text.declared.Settings.{Settings}
+use Rattle.yaml_emit_laws_text.specs.emit_layout.emit_text.declared.Style.{Style}
+use Rattle.yaml_emit_laws_text.specs.emit_layout.emit_text.declared.Style.TheVariants as style
+use Rattle.yaml_emit_laws_text.specs.emit_layout.emit_text.Layout.{Layout, Rest, ◌▹◌, char}
+use Rattle.yaml_emit_laws_text.specs.emit_layout.declared.level.Part.TheVariants as part
+use Rattle.yaml_emit_laws_text.specs.emit_layout.Content.{Opening, Scalar, Node, alias_node, scalar_node, sequence_node, mapping_node, no_nodes, node, no_pairs, pair}
+use Rattle.yaml_emit_laws_text.specs.emit_layout.Nodes.{Context, context_of, spot, style_of, is_simple, node_layout}
+use Rattle.yaml_emit_laws_text.specs.Walk.{Left, bytes}
+use Rattle.yaml_emit_laws_text.specs.Writable.{IsWritable}
+use Rattle.yaml_emit_laws_text.proofs.Steps.{letter_low}
+use Rattle.yaml_scan_laws_order.proofs.MarksForward.{line_at-grows}
+use Rattle.yaml_scan_laws_levels.specs.Fronts.{Rises}
+use Rattle.yaml_scan_laws_levels.specs.Tokens.{start_bodies}
+use Rattle.yaml_scan_laws_levels.specs.Walks.{Where, Reads, ClosesAt, Outside}
+use Rattle.yaml_scan_laws_levels.proofs.Signing.{printed_begins}
+use Rattle.yaml_scan_laws_levels.proofs.Slotting.{level_opens}
+use Rattle.yaml_emit_laws_scalars.specs.Stops.{begins_white, begins_solid}
+use Rattle.yaml_emit_laws_scalars.proofs.NearKeys.{keys_near}
+use Rattle.yaml_emit_laws_pretty.specs.Bodies.{node_bodies, node_kept, items_kept, pairs_kept, scalar_kept, style_at}
+use Rattle.yaml_emit_laws_pretty.specs.Flows.{GoesIn, KeysAreWalkedIn}
+use Rattle.yaml_emit_laws_pretty.specs.KeyLaws.{Keyed}
+use Rattle.yaml_emit_laws_pretty.specs.Nodes.{IsPretty, KeyWalks, PartedBehind, Shows, SimpleKeysAreWalked, block_spot}
+use Rattle.yaml_emit_laws_pretty.specs.Spoken.{Spoken, spoken_bytes, all_bytes, AllFit}
+use Rattle.yaml_emit_laws_pretty.specs.Walk.{Lined, no_comment}
+use Rattle.yaml_emit_laws_pretty.proofs.KeyForms.{KeyForm, KeyEnd, at_once, spaced, squares, curlies, end_bytes, LeadsKey, behind_colon, key_done}
+use Rattle.yaml_emit_laws_pretty.proofs.KeyKinds.{Scalars, key_form, some_items, some_pairs}
+use Rattle.yaml_emit_laws_pretty.proofs.KeySteps.{front, spot_at}
+use Rattle.yaml_emit_laws_pretty.proofs.KeysShow.{left_self, lexeme_solid, lexeme_calm}
+
+never : false ≡ true → ⊥
+never e = cc
+
+-- ---- in a block
+
+key_walks : Scalars → (s : Settings) (d : Opening) → IsPretty s d → (k : Node) → IsWritable k → is_simple (context_of s d.directives) k ≡ true → (x : yaml_encoding_t) (text : List ℕ) (n : ℕ) (kept : Bool) (ls more new : List ℕ) (what : Opens) (T : List TokenBody → List TokenBody) (rest : Rest)
+    → Lined x text (λ e. (node_layout (context_of s d.directives) (block_spot (Some n) part.SimpleKey) k ▹ char 58) e rest) n kept ls more T → indent ls ≤ n + 1 → Rises (n + 1) more → opened true (n + 1) ls ≡ new → start_of 0 (n + 1) ls opening.Mapping ≡ what → PartedBehind rest
+    → Keyed x text rest n kept new (λ bs. T (start_bodies what (tokens.key ∷ node_bodies (context_of s d.directives) false part.SimpleKey false k (tokens.value ∷ bs))))
+unfolding Outside
+key_walks law s d good k w simple x text n kept ls more new what T rest here low rises opens begins parted =
+    let p = context_of s d.directives in
+    let c = here.cursor in
+    let o = here.place in
+    let st = here.stage in
+    let L = node_layout p (spot false n part.SimpleKey) k in
+    let B = node_bodies p false part.SimpleKey false k in
+    let least = good.least in
+    let form = key_form law s d good k w simple false (indent ls) n (omega (arith, low, least)) c in
+    let near = keys_near s d good.fine k w simple false n c in
+    let (now, at_column) = st.bare here.bare in
+    let flat : Reads x text (spot_at o.at o.line 0 o.now o.broken) [] ls more T = subst (λ i. Reads x text (spot_at o.at o.line i o.now o.broken) [] ls more T) st.flat st.reads in
+    let reads : Reads x text (spot_at o.at o.line 0 true o.broken) [] ls more T = subst (λ b. Reads x text (spot_at o.at o.line 0 b o.broken) [] ls more T) now flat in
+    let z : o.at + 0 ≡ o.at = omega arith in
+    let from : column_at text (o.at + front (not c.white)) ≡ n = ap (λ (b : Bool). column_at text (o.at + front (not b))) here.white ∙ ap (λ i. column_at text i) z ∙ at_column ∙ here.column in
+    let margin : margin_at (column_at text (o.at + front (not c.white))) ≡ n + 1 = ap (λ i. i + 1) from in
+    let closes : ClosesAt 0 (column_at text (o.at + front (not c.white))) ls more = inr (refl, omega (arith, margin, low), subst (λ i. Rises i more) (sym margin) rises) in
+    let done = key_done 0 ls L c B form near x text o.at o.line o.broken [] more new what T rest reads tt
+        (closes, inr (omega (arith, from, low)), ap (λ i. opened true i ls) margin ∙ opens, ap (λ i. start_of 0 i ls opening.Mapping) margin ∙ begins) parted here.left in
+    let up = done.grown in
+    record {
+      cursor = behind_colon done.behind;
+      place = spot_at (done.at + 1) (line_at text done.at) 0 false true;
+      stage = record { reads = done.reads; flat = refl; broken = refl; bare = λ b. absurd (never b); line = line_at-grows text done.at (done.at + 1) (omega arith) };
+      left = done.left;
+      bare = refl;
+      white = refl;
+      right = omega (arith, up, from);
+      same = done.kept ∙ here.same;
+    }
+
+-- ---- what a key writes on a bare line
+
+both_of : (bs : List ℕ) → 0 < length bs → begins_lexeme bs 0 ≡ true → (begins_solid bs ≡ true) × (no_comment bs ≡ true)
+both_of [] some h = absurd (omega (arith, some))
+both_of (b ∷ bs) some h = (lexeme_solid b bs h, lexeme_calm b bs h)
+
+sign_shows : (b : ℕ) (bs : List ℕ) → 32 < b → b < 127 → (b ≡ 35 → ⊥) → (begins_solid (b ∷ bs) ≡ true) × (no_comment (b ∷ bs) ≡ true)
+sign_shows b bs low high hash = both_of (b ∷ bs) (omega arith) (printed_begins (b ∷ bs) 0 b refl low high hash)
+
+form_shows : (level : ℕ) (words : List (Spoken false level)) (k : KeyEnd) (tail : List ℕ) → LeadsKey words k false → AllFit words (end_bytes k ++ tail) → let bs = all_bytes words ++ (end_bytes k ++ tail) in (begins_solid bs ≡ true) × (no_comment bs ≡ true)
+form_shows level [] at_once tail leads fits = absurd leads
+form_shows level [] spaced tail leads fits = absurd leads
+form_shows level [] (squares b) tail leads fits = let (solid, calm) = sign_shows 91 (93 ∷ tail) (omega arith) (omega arith) (λ h. omega (arith, h)) in
+    (ap (λ (t : Bool). begins_solid (end_bytes (squares t) ++ tail)) leads ∙ solid, ap (λ (t : Bool). no_comment (end_bytes (squares t) ++ tail)) leads ∙ calm)
+form_shows level [] (curlies b) tail leads fits = let (solid, calm) = sign_shows 123 (125 ∷ tail) (omega arith) (omega arith) (λ h. omega (arith, h)) in
+    (ap (λ (t : Bool). begins_solid (end_bytes (curlies t) ++ tail)) leads ∙ solid, ap (λ (t : Bool). no_comment (end_bytes (curlies t) ++ tail)) leads ∙ calm)
+form_shows level (w ∷ ws) k tail (gap, some, begins) (fit, fits) =
+    let more = all_bytes ws ++ (end_bytes k ++ tail) in
+    let bs = w.own ++ more in
+    let laid : all_bytes (w ∷ ws) ++ (end_bytes k ++ tail) ≡ bs = append_assoc (spoken_bytes w) (all_bytes ws) (end_bytes k ++ tail) ∙ ap (λ (t : Bool). (if t then 32 ∷ w.own else w.own) ++ more) gap in
+    let s = w.stands bs 0 more (left_self bs) fit in
+    let e = length-append w.own more in
+    let (solid, calm) = both_of bs (omega (arith, e, some)) s.begins in
+    (ap (λ ys. begins_solid ys) laid ∙ solid, ap (λ ys. no_comment ys) laid ∙ calm)
+
+key_shows : Scalars → (s : Settings) (d : Opening) → IsPretty s d → (k : Node) → IsWritable k → is_simple (context_of s d.directives) k ≡ true → (n : ℕ) (rest : Rest) → PartedBehind rest → (e : Cursor) → e.white ≡ true
+    → let bs = bytes ((node_layout (context_of s d.directives) (block_spot (Some n) part.SimpleKey) k ▹ char 58) e rest) in (begins_solid bs ≡ true) × (no_comment bs ≡ true)
+key_shows law s d good k w simple n rest parted e pale =
+    let p = context_of s d.directives in
+    let form = key_form law s d good k w simple false 0 n (omega arith) e in
+    let f = behind_colon form.behind in
+    let tail = bytes (rest f) in
+    let laid : bytes ((node_layout p (spot false n part.SimpleKey) k ▹ char 58) e rest) ≡ all_bytes form.words ++ (end_bytes form.end ++ (58 ∷ tail)) =
+        form.written (λ b. char 58 b rest) ∙ ap (λ (bs : List ℕ). all_bytes form.words ++ (end_bytes form.end ++ bs)) (letter_low 58 (rest f) refl) in
+    let (solid, calm) = form_shows 0 form.words form.end (58 ∷ tail) (subst (λ (b : Bool). LeadsKey form.words form.end (not b)) pale form.leads) (form.fits tail (parted f refl refl)) in
+    (ap (λ bs. begins_solid bs) laid ∙ solid, ap (λ bs. no_comment bs) laid ∙ calm)
+
+-- ---- no block scalar is a key
+
+spot_style : (p : Context) (n : ℕ) (x : Scalar) → style_of p (spot false n part.SimpleKey) x ≡ style_at p false part.SimpleKey x
+unfolding style_of
+spot_style p n x = refl
+
+style_kept : Scalars → (p : Context) (x : Scalar) (kept : Bool) (chosen : Style) → style_at p false part.SimpleKey x ≡ chosen → scalar_kept chosen x.value kept ≡ kept
+style_kept law p x kept style.Plain same = refl
+style_kept law p x kept style.Single same = refl
+style_kept law p x kept style.Double same = refl
+style_kept law p x kept style.Literal same = let (may, out, whole) = (law.styles p (spot false 0 part.SimpleKey) x).2 (spot_style p 0 x ∙ same) in absurd (never (sym whole))
+style_kept law p x kept style.Folded same = let (may, out, whole) = (law.styles p (spot false 0 part.SimpleKey) x).3 (spot_style p 0 x ∙ same) in absurd (never (sym whole))
+
+key_kept : Scalars → (p : Context) (k : Node) → is_simple p k ≡ true → (kept : Bool) → node_kept p false part.SimpleKey k kept ≡ kept
+unfolding node_kept items_kept pairs_kept
+key_kept law p (alias_node name) simple kept = refl
+key_kept law p (scalar_node x) simple kept = style_kept law p x kept (style_at p false part.SimpleKey x) refl
+key_kept law p (sequence_node q no_nodes) simple kept = refl
+key_kept law p (sequence_node q (node x xs)) simple kept = absurd (some_items p q x xs simple)
+key_kept law p (mapping_node q no_pairs) simple kept = refl
+key_kept law p (mapping_node q (pair k v ps)) simple kept = absurd (some_pairs p q k v ps simple)
+
+pub keys_walk : Scalars → SimpleKeysAreWalked
+keys_walk law s d good k w simple = record {
+  walks = key_walks law s d good k w simple;
+  shows = λ n rest parted. record {
+    solid = λ e bare pale column. (key_shows law s d good k w simple n rest parted e pale).0;
+    calm = λ e bare pale column. (key_shows law s d good k w simple n rest parted e pale).1;
+  };
+  same = key_kept law (context_of s d.directives) k simple;
+}
+
+-- ---- in brackets
+
+pub keys_walk_in : Scalars → KeysAreWalkedIn
+keys_walk_in law s d good k w simple n ls c rest low parted x text o cs T reads deep now out l =
+    let p = context_of s d.directives in
+    let L = node_layout p (spot true n part.SimpleKey) k in
+    let B = node_bodies p true part.SimpleKey false k in
+    let form : KeyForm (nat_lt 0 o.depth) (indent ls) L c B = subst (λ (f : Bool). KeyForm f (indent ls) L c B) (sym deep) (key_form law s d good k w simple true (indent ls) n (omega (arith, low)) c) in
+    let near = keys_near s d good.fine k w simple true n c in
+    let fresh : Reads x text (spot_at o.at o.line o.depth true o.broken) cs ls [] T = subst (λ b. Reads x text (spot_at o.at o.line o.depth b o.broken) cs ls [] T) now reads in
+    let inside = level_opens.inside o.depth (margin_at (column_at text (o.at + front (not c.white)))) ls opening.Mapping deep in
+    let done = key_done o.depth ls L c B form near x text o.at o.line o.broken cs [] ls opening.Nothing T rest fresh out (inl (deep, refl), inl deep, inside.0, inside.1) parted l in
+    record {
+      behind = behind_colon done.behind;
+      place = spot_at (done.at + 1) (line_at text done.at) o.depth false (not (nat_lt 0 o.depth));
+      reads = done.reads;
+      deep = refl;
+      now = refl;
+      left = done.left;
+      bare = refl;
+      white = refl;
+      same = done.kept;
+    }

@@ -1,0 +1,276 @@
+-- Aliases and scalars in a block, up to the line behind them.
+use Rattle.std.proofs.Common.{◌≡◌, ℕ, ◌+◌, ◌<◌, ◌≤◌, ◌&&◌, ◌||◌, not, nat_lt, Bool, true, false, List, [], ◌∷◌, ◌++◌, length, refl, sym, ap, subst, ◌∙◌, inl, inr, arith, Option, Some, None}
+use Rattle.std.specs.Prelude.{if◌then◌else◌, IsUtf8}
+use Rattle.std.specs.Str.{chars}
+use Rattle.std.proofs.lemmas.Bool.{cases_Bool}
+use Rattle.yaml_emit_laws_text.specs.emit_layout.scan.declared.yaml_encoding_t.{yaml_encoding_t}
+use Rattle.yaml_emit_laws_text.specs.emit_layout.scan.Tokens as tokens
+use Rattle.yaml_emit_laws_text.specs.emit_layout.scan.Tokens.{TokenBody}
+use Rattle.yaml_emit_laws_text.specs.scan_history.scan_model.Marks.{column_at}
+use Rattle.yaml_emit_laws_text.specs.scan_history.History.{indent}
+use Rattle.yaml_emit_laws_text.specs.emit_layout.emit_text.declared.Cursor.{Cursor}
+use Rattle.yaml_emit_laws_text.specs.emit_layout.emit_text.declared.LineBreak.{LineBreak}
+use Rattle.yaml_emit_laws_text.specs.emit_layout.emit_text.declared.Page.{Page}
+use Rattle.yaml_emit_laws_text.specs.emit_layout.emit_text.declared.Settings.{Settings}
+use Rattle.yaml_emit_laws_text.specs.emit_layout.emit_text.declared.Style.{Style}
+use Rattle.yaml_emit_laws_text.specs.emit_layout.emit_text.declared.Style.TheVariants as style
+use Rattle.yaml_emit_laws_text.specs.emit_layout.emit_text.Layout.{Layout, Rest, ◌▹◌, gap, blank, when, word, char, line}
+use Rattle.yaml_emit_laws_text.specs.emit_layout.emit_text.Scalars.{scalar_text, plain, single_quoted}
+use Rattle.yaml_emit_laws_text.specs.emit_layout.emit_text.Quoted.{double_quoted}
+use Rattle.yaml_emit_laws_text.specs.emit_layout.declared.level.Part.{Part}
+use Rattle.yaml_emit_laws_text.specs.emit_layout.declared.level.Spot.{Spot}
+use Rattle.yaml_emit_laws_text.specs.emit_layout.Content.{Scalar, Opening, Node, alias_node, scalar_node, sequence_node, mapping_node}
+use Rattle.yaml_emit_laws_text.specs.emit_layout.Grammar.{has, kept_if, scalar_tag}
+use Rattle.yaml_emit_laws_text.specs.emit_layout.Nodes.{Context, context_of, MOST, deeper, checked, page_at, style_of, is_plain, is_simple_part, properties_text, anchor_text, tag_text, mark_text, alias_layout, scalar_layout, node_layout}
+use Rattle.yaml_emit_laws_text.specs.Bodies.{anchor_bodies, tag_bodies, mark_bodies}
+use Rattle.yaml_emit_laws_text.specs.QuotedLaws.{QuotedIsReadBack}
+use Rattle.yaml_emit_laws_text.specs.ReadBack.{between_quotes, between_single}
+use Rattle.yaml_emit_laws_text.specs.Walk.{Left, bytes, first}
+use Rattle.yaml_emit_laws_text.specs.Writable.{IsWritable, IsWritableTag}
+use Rattle.yaml_emit_laws_text.proofs.Steps.{letter_low, deep_bytes}
+use Rattle.yaml_scan_laws_texts.proofs.NamesRead.{anchor_is_read}
+use Rattle.yaml_scan_laws_levels.specs.Walks.{Where}
+use Rattle.yaml_emit_laws_scalars.specs.Stops.{begins_white}
+use Rattle.yaml_emit_laws_scalars.specs.StandsLaws.{PlainHasGap}
+use Rattle.yaml_emit_laws_scalars.specs.StylesLaws.{StylesAreAllowed}
+use Rattle.yaml_emit_laws_block.specs.Laws.{from_indicator, margin_round}
+use Rattle.yaml_emit_laws_pretty.specs.Bodies.{style_at, style_named, takes_mark, scalar_bodies, scalar_kept, node_bodies, node_kept}
+use Rattle.yaml_emit_laws_pretty.specs.Walk.{Stage, Goes, Walks, LinedUp, PlainIsWalked, SingleIsWalked}
+use Rattle.yaml_emit_laws_pretty.specs.Nodes.{Ending, NodeWalks, IsPretty, LeavesAreWalked, BlockScalarsAreWalked, block_spot, column_round, is_block}
+use Rattle.yaml_emit_laws_pretty.specs.Spoken.{Behind, name_end, ends_name, spoken_bytes}
+use Rattle.yaml_emit_laws_pretty.proofs.Following.{line_bytes, line_white}
+use Rattle.yaml_emit_laws_pretty.proofs.Lining.{line_ends}
+use Rattle.yaml_emit_laws_pretty.proofs.NodeLines.{up_says, word_begins_white}
+use Rattle.yaml_emit_laws_pretty.proofs.PlainLayouts.{plain_walks, plain_white}
+use Rattle.yaml_emit_laws_pretty.proofs.SpokenWords.{alias_word, double_word}
+use Rattle.yaml_emit_laws_pretty.proofs.SpokenLayouts.{alias_says, double_says, behind_gap}
+use Rattle.yaml_emit_laws_pretty.proofs.LeafBlocks.{block_line}
+use Rattle.yaml_emit_laws_pretty.proofs.LeafDress.{Dressing, dressed, word_walks}
+use Rattle.yaml_emit_laws_pretty.proofs.LeafProps.{has_some}
+
+never : false ≡ true → ⊥
+never e = cc
+
+-- ---- white
+
+-- behind text a line begins with a break
+text_line_white : (b : LineBreak) (m : ℕ) (after : Rest) (e : Cursor) → e.bare ≡ false → begins_white (bytes (line b m e after)) ≡ true
+text_line_white b m after e bare = ap (λ bs. begins_white bs) (line_bytes b m e after bare) ∙ line_white b _
+
+gap_bytes : (a : Layout) (e : Cursor) (R : Rest) → e.white ≡ false → bytes ((gap ▹ a) e R) ≡ 32 ∷ bytes (a (record { column = e.column + 1; white = true; bare = e.bare; kept = e.kept }) R)
+gap_bytes a e R white =
+    let k : Rest = λ d. a d R in
+    ap (λ (b : Bool). bytes (if b then k e else blank e k)) white ∙ letter_low 32 (k (record { column = e.column + 1; white = true; bare = e.bare; kept = e.kept })) refl
+
+-- all but plain scalars have a space in front, where one is due
+spaced_text : (page : Page) (digit : ℕ) (v : List ℕ) (st : Style) → is_plain st ≡ false → (e : Cursor) (R : Rest) → e.white ≡ false → first (bytes (scalar_text page digit false st v e R)) ≡ 32
+unfolding scalar_text
+spaced_text page digit v style.Plain some e R white = absurd (never (sym some))
+spaced_text page digit v style.Single some e R white = ap (λ (bs : List ℕ). first bs) (gap_bytes (between_single page v) e R white)
+spaced_text page digit v style.Double some e R white = ap (λ (bs : List ℕ). first bs) (gap_bytes (between_quotes page v) e R white)
+spaced_text page digit v style.Literal some e R white = ap (λ (bs : List ℕ). first bs) (gap_bytes (from_indicator page digit false v) e R white)
+spaced_text page digit v style.Folded some e R white = ap (λ (bs : List ℕ). first bs) (gap_bytes (from_indicator page digit true v) e R white)
+
+space_white : (bs : List ℕ) → first bs ≡ 32 → begins_white bs ≡ true
+space_white [] e = refl
+space_white (b ∷ bs) e = subst (λ x. begins_white (x ∷ bs) ≡ true) (sym e) refl
+
+text_white : PlainHasGap → (page : Page) (digit : ℕ) (v : List ℕ) → IsUtf8 v → (st : Style) → (b : LineBreak) (m : ℕ) (after : Rest) (e : Cursor) → e.white ≡ false → begins_white (bytes (scalar_text page digit false st (chars v) e (λ i. line b m i after))) ≡ true
+unfolding scalar_text
+text_white gaps page digit v u style.Plain b m after e white = plain_white gaps page e v (λ i. line b m i after) u white (λ i bare. text_line_white b m after i bare)
+text_white gaps page digit v u style.Single b m after e white = space_white _ (spaced_text page digit (chars v) style.Single refl e (λ i. line b m i after) white)
+text_white gaps page digit v u style.Double b m after e white = space_white _ (spaced_text page digit (chars v) style.Double refl e (λ i. line b m i after) white)
+text_white gaps page digit v u style.Literal b m after e white = space_white _ (spaced_text page digit (chars v) style.Literal refl e (λ i. line b m i after) white)
+text_white gaps page digit v u style.Folded b m after e white = space_white _ (spaced_text page digit (chars v) style.Folded refl e (λ i. line b m i after) white)
+
+-- ---- pages
+
+page_deep : (s : Settings) → 2 ≤ s.indent → (around : Option ℕ) → (0 < deeper s around) × (margin_round around ≤ deeper s around)
+page_deep s least None = (omega (arith, least), omega arith)
+page_deep s least (Some n) = (omega (arith, least), omega (arith, least))
+
+-- ---- what a scalar is laid out as, and told as
+
+abbrev marked : Context → Part → Scalar → Bool
+marked p q v = not (has (scalar_tag false v)) && takes_mark v.quoted (style_at p false q v)
+
+spot_style : (p : Context) (around : Option ℕ) (q : Part) (v : Scalar) → style_of p (block_spot around q) v ≡ style_at p false q v
+unfolding style_of
+spot_style p around q v = refl
+
+scalar_shape : (s : Settings) (o : Opening) → s.canonical ≡ false → (around : Option ℕ) (q : Part) (v : Scalar) (c : Cursor) (R : Rest) → let p = context_of s o.directives in let at = block_spot around q in let st = style_at p false q v in
+    node_layout p at (scalar_node v) c R ≡ (anchor_text v.anchor ▹ (tag_text p (scalar_tag false v) ▹ when (marked p q v) (word (33 ∷ [])))) c (λ e. (checked (deeper s around) ▹ scalar_text (page_at s at) s.indent false st (chars v.value)) e R)
+unfolding node_layout scalar_layout
+scalar_shape s o pretty around q v c R =
+    let p = context_of s o.directives in
+    let at = block_spot around q in
+    let body : Style → Layout = λ t. checked (deeper s around) ▹ scalar_text (page_at s at) s.indent false t (chars v.value) in
+    let all : Bool → Style → Layout = λ b t. properties_text p v.anchor (scalar_tag b v) ▹ (when (not (has (scalar_tag b v)) && (not v.quoted && not (is_plain t))) (word (33 ∷ [])) ▹ body t) in
+    ap (λ (b : Bool). all b (style_of p at v) c R) pretty ∙ ap (λ (t : Style). all false t c R) (spot_style p around q v)
+
+kept_tag : (b : Bool) (t : Option (List ℕ)) → IsWritableTag t → IsWritableTag (kept_if b t)
+kept_tag true t fine = fine
+kept_tag false t fine = tt
+
+-- ---- the text of a scalar, up to the line behind it
+
+-- behind its properties
+abbrev TextLines : Settings → Opening → Option ℕ → Part → Scalar → Style → Type 0
+TextLines s o around q v st = (ls : List ℕ) (c : Cursor) (m : ℕ) (after : Rest) → indent ls ≡ margin_round around → m ≤ column_round around → Ending s.line_break m (indent ls) after
+    → (x : yaml_encoding_t) (text : List ℕ) (w : Where) (T : List TokenBody → List TokenBody) → Stage x text c w ls [] T → indent ls ≤ column_at text w.at
+    → Left text w.at (bytes (scalar_text (page_at s (block_spot around q)) s.indent false st (chars v.value) c (λ e. line s.line_break m e after)))
+    → LinedUp x text after m (scalar_kept st v.value c.kept) ls (λ bs. T (scalar_bodies false st v.value bs))
+
+plain_lines : PlainIsWalked → StylesAreAllowed → (s : Settings) (o : Opening) → IsPretty s o → (around : Option ℕ) (q : Part) (v : Scalar) → IsUtf8 v.value → style_at (context_of s o.directives) false q v ≡ style.Plain → TextLines s o around q v style.Plain
+unfolding scalar_text
+plain_lines law styles s o pretty around q v u is ls c m after level up ending x text w T st right l =
+    let p = context_of s o.directives in
+    let at = block_spot around q in
+    let (deep, far) = page_deep s pretty.least around in
+    line_ends s.line_break m x text c.kept ls (λ bs. T (scalar_bodies false style.Plain v.value bs)) after ending.feed
+    (plain_walks law (page_at s at) ls c v.value (λ e. line s.line_break m e after) u ((styles p at v).0 (spot_style p around q v ∙ is)) deep (omega (arith, level, far)) ending.follows x text w T st right l)
+
+single_lines : SingleIsWalked → StylesAreAllowed → (s : Settings) (o : Opening) → IsPretty s o → (around : Option ℕ) (q : Part) (v : Scalar) → IsUtf8 v.value → style_at (context_of s o.directives) false q v ≡ style.Single → TextLines s o around q v style.Single
+unfolding scalar_text
+single_lines law styles s o pretty around q v u is ls c m after level up ending x text w T st right l =
+    let p = context_of s o.directives in
+    let at = block_spot around q in
+    let (deep, far) = page_deep s pretty.least around in
+    line_ends s.line_break m x text c.kept ls (λ bs. T (scalar_bodies false style.Single v.value bs)) after ending.feed
+    (law (page_at s at) ls c v.value (λ e. line s.line_break m e after) u ((styles p at v).1 (spot_style p around q v ∙ is)) deep ending.follows x text w T st right l)
+
+double_lines : QuotedIsReadBack → (s : Settings) (o : Opening) → IsPretty s o → (around : Option ℕ) (q : Part) (v : Scalar) → IsUtf8 v.value → TextLines s o around q v style.Double
+unfolding scalar_text
+double_lines law s o pretty around q v u ls c m after level up ending x text w T st right l =
+    let page = page_at s (block_spot around q) in
+    let (deep, far) = page_deep s pretty.least around in
+    let says = double_says law false (indent ls) page v.value u deep c in
+    line_ends s.line_break m x text c.kept ls (λ bs. T (scalar_bodies false style.Double v.value bs)) after ending.feed
+    (word_walks (double_quoted page (chars v.value)) c ls (double_word false (indent ls) (not c.white) page (behind_gap c.white c) v.value (law page (behind_gap c.white c) v.value u (λ cuts. deep))) says (λ e. line s.line_break m e after) tt x text w T st right l)
+
+block_lines : (s : Settings) (o : Opening) → IsPretty s o → (around : Option ℕ) (q : Part) (v : Scalar) → IsUtf8 v.value → (st : Style) → is_block st ≡ true → style_at (context_of s o.directives) false q v ≡ st → TextLines s o around q v st
+unfolding scalar_text
+block_lines s o pretty around q v u style.Literal some is ls c m after level up ending x text w T st right l =
+    let p = context_of s o.directives in
+    let least = pretty.least in
+    let most = pretty.most in
+    block_line p around q v false (omega (arith, least)) (omega (arith, most)) u (spot_style p around q v ∙ is) ls c m after level up ending x text w T st right l
+block_lines s o pretty around q v u style.Folded some is ls c m after level up ending x text w T st right l =
+    let p = context_of s o.directives in
+    let least = pretty.least in
+    let most = pretty.most in
+    block_line p around q v true (omega (arith, least)) (omega (arith, most)) u (spot_style p around q v ∙ is) ls c m after level up ending x text w T st right l
+block_lines s o pretty around q v u style.Plain some is ls c m after level up ending x text w T st right l = absurd (never some)
+block_lines s o pretty around q v u style.Single some is ls c m after level up ending x text w T st right l = absurd (never some)
+block_lines s o pretty around q v u style.Double some is ls c m after level up ending x text w T st right l = absurd (never some)
+
+-- ---- scalars with their properties
+
+mark_plain : (a b : Bool) (st : Style) → (a && (b && not (is_plain st))) ≡ true → is_plain st ≡ false
+mark_plain a b style.Plain e = absurd (never (sym (off a b) ∙ e))
+  where
+    off : (a b : Bool) → (a && (b && false)) ≡ false
+    off true true = refl
+    off true false = refl
+    off false b = refl
+mark_plain a b style.Single e = refl
+mark_plain a b style.Double e = refl
+mark_plain a b style.Literal e = refl
+mark_plain a b style.Folded e = refl
+
+scalar_said : (p : Context) (q : Part) (bare : Bool) (v : Scalar) (bs : List TokenBody) → anchor_bodies v.anchor (tag_bodies p.directives (scalar_tag false v) (mark_bodies (marked p q v) (scalar_bodies false (style_at p false q v) v.value bs))) ≡ node_bodies p false q bare (scalar_node v) bs
+unfolding node_bodies
+scalar_said p q bare v bs = refl
+
+scalar_keeps : (p : Context) (q : Part) (v : Scalar) (kept : Bool) → scalar_kept (style_at p false q v) v.value kept ≡ node_kept p false q (scalar_node v) kept
+unfolding node_kept
+scalar_keeps p q v kept = refl
+
+dress_white : (p : Context) (a t : Option (List ℕ)) (m : Bool) (c : Cursor) (rest : Rest) → c.white ≡ false → begins_white (bytes (rest c)) ≡ true → begins_white (bytes ((anchor_text a ▹ (tag_text p t ▹ when m (word (33 ∷ [])))) c rest)) ≡ true
+dress_white p (Some a) t m c rest white next = word_begins_white (38 ∷ a) c (λ e. (tag_text p t ▹ when m (word (33 ∷ []))) e rest) white
+dress_white p None (Some t) m c rest white next = word_begins_white _ c (λ e. when m (word (33 ∷ [])) e rest) white
+dress_white p None None true c rest white next = word_begins_white (33 ∷ []) c rest white
+dress_white p None None false c rest white next = next
+
+scalar_walks : PlainHasGap → (s : Settings) (o : Opening) → IsPretty s o → (around : Option ℕ) (q : Part) (bare : Bool) (v : Scalar) → IsWritable (scalar_node v) → TextLines s o around q v (style_at (context_of s o.directives) false q v) → NodeWalks (context_of s o.directives) around q bare (scalar_node v)
+scalar_walks gaps s o pretty around q bare v (anchor, tag, u) lines = record {
+  walks = λ ls c m after is level up ending x text w T st right l.
+      let p = context_of s o.directives in
+      let style = style_at p false q v in
+      let n = deeper s around in
+      let page = page_at s (block_spot around q) in
+      let R : Rest = λ e. line s.line_break m e after in
+      let a : Layout = scalar_text page s.indent false style (chars v.value) in
+      let body : Rest = λ e. (checked n ▹ a) e R in
+      let t = scalar_tag false v in
+      let k = marked p q v in
+      let deep : (e : Cursor) → bytes (body e) ≡ bytes (a e R) = λ e. deep_bytes (nat_lt MOST n) (a e R) in
+      let h = dressed s o pretty v.anchor t k anchor (kept_tag _ v.tag tag) ls c body (λ e b f. ap (λ bs. begins_white bs) (deep e) ∙ text_white gaps page s.indent v.value u style s.line_break m after e f)
+          (λ is e b f. ap (λ (bs : List ℕ). first bs) (deep e) ∙ spaced_text page s.indent (chars v.value) style (mark_plain (not (has t)) (not v.quoted) style is) e R f) x text w T st right
+          (subst (λ ts. Left text w.at (bytes ts)) (scalar_shape s o pretty.pretty around q v c R) l) in
+      let U : List TokenBody → List TokenBody = λ bs. T (anchor_bodies v.anchor (tag_bodies o.directives t (mark_bodies k bs))) in
+      let all = lines ls h.cursor m after level up ending x text h.place U h.stage h.right (subst (λ bs. Left text h.place.at bs) (deep h.cursor) h.left) in
+      let told = up_says x text after m (scalar_kept style v.value h.cursor.kept) ls _ (λ bs. T (node_bodies p false q bare (scalar_node v) bs)) all (λ bs. ap (λ ts. T ts) (scalar_said p q bare v bs)) in
+      subst (λ b. LinedUp x text after m b ls (λ bs. T (node_bodies p false q bare (scalar_node v) bs))) (ap (λ b. scalar_kept style v.value b) h.same ∙ scalar_keeps p q v c.kept) told;
+  white = λ c m after white.
+      let p = context_of s o.directives in
+      let style = style_at p false q v in
+      let n = deeper s around in
+      let page = page_at s (block_spot around q) in
+      let R : Rest = λ e. line s.line_break m e after in
+      let a : Layout = scalar_text page s.indent false style (chars v.value) in
+      ap (λ ts. begins_white (bytes ts)) (scalar_shape s o pretty.pretty around q v c R)
+      ∙ dress_white p v.anchor (scalar_tag false v) (marked p q v) c (λ e. (checked n ▹ a) e R) white (ap (λ bs. begins_white bs) (deep_bytes (nat_lt MOST n) (a c R)) ∙ text_white gaps page s.indent v.value u style s.line_break m after c white);
+}
+
+-- ---- aliases
+
+white_ends : (bs : List ℕ) → begins_white bs ≡ true → ends_name bs ≡ true
+white_ends [] e = refl
+white_ends (b ∷ bs) e = ap (λ (t : Bool). t || _) e
+
+alias_shape : (p : Context) (around : Option ℕ) (q : Part) (name : List ℕ) → is_simple_part q ≡ false → (c : Cursor) (R : Rest) → node_layout p (block_spot around q) (alias_node name) c R ≡ word (42 ∷ name) c R
+unfolding node_layout alias_layout
+alias_shape p around q name whole c R = ap (λ (b : Bool). (word (42 ∷ name) ▹ when b (char 32)) c R) whole
+
+alias_said : (p : Context) (q : Part) (bare : Bool) (name : List ℕ) (bs : List TokenBody) → tokens.alias name ∷ bs ≡ node_bodies p false q bare (alias_node name) bs
+unfolding node_bodies
+alias_said p q bare name bs = refl
+
+alias_keeps : (p : Context) (q : Part) (name : List ℕ) (kept : Bool) → kept ≡ node_kept p false q (alias_node name) kept
+unfolding node_kept
+alias_keeps p q name kept = refl
+
+alias_walks : (s : Settings) (o : Opening) → IsPretty s o → (around : Option ℕ) (q : Part) (bare : Bool) (name : List ℕ) → IsWritable (alias_node name) → is_simple_part q ≡ false → NodeWalks (context_of s o.directives) around q bare (alias_node name)
+alias_walks s o pretty around q bare name good whole = record {
+  walks = λ ls c m after is level up ending x text w T st right l.
+      let p = context_of s o.directives in
+      let R : Rest = λ e. line s.line_break m e after in
+      let says = alias_says anchor_is_read false (indent ls) name good c in
+      let g = word_walks (word (42 ∷ name)) c ls (alias_word anchor_is_read false (indent ls) (not c.white) name good) says R (white_ends (bytes (R says.behind)) (ending.follows.white says.behind says.bare)) x text w T st right
+          (subst (λ ts. Left text w.at (bytes ts)) (alias_shape p around q name whole c R) l) in
+      let all = line_ends s.line_break m x text c.kept ls (λ bs. T (tokens.alias name ∷ bs)) after ending.feed g in
+      subst (λ b. LinedUp x text after m b ls (λ bs. T (node_bodies p false q bare (alias_node name) bs))) (alias_keeps p q name c.kept)
+      (up_says x text after m c.kept ls (λ bs. T (tokens.alias name ∷ bs)) (λ bs. T (node_bodies p false q bare (alias_node name) bs)) all (λ bs. ap (λ ts. T ts) (alias_said p q bare name bs)));
+  white = λ c m after white. ap (λ ts. begins_white (bytes ts)) (alias_shape (context_of s o.directives) around q name whole c (λ e. line s.line_break m e after)) ∙ word_begins_white (42 ∷ name) c (λ e. line s.line_break m e after) white;
+}
+
+-- ---- both
+
+style_lines : PlainIsWalked → SingleIsWalked → QuotedIsReadBack → StylesAreAllowed → (s : Settings) (o : Opening) → IsPretty s o → (around : Option ℕ) (q : Part) (v : Scalar) → IsUtf8 v.value → (st : Style) → style_at (context_of s o.directives) false q v ≡ st → is_block st ≡ false → TextLines s o around q v st
+style_lines plains singles doubles styles s o pretty around q v u style.Plain is none = plain_lines plains styles s o pretty around q v u is
+style_lines plains singles doubles styles s o pretty around q v u style.Single is none = single_lines singles styles s o pretty around q v u is
+style_lines plains singles doubles styles s o pretty around q v u style.Double is none = double_lines doubles s o pretty around q v u
+style_lines plains singles doubles styles s o pretty around q v u style.Literal is none = absurd (never (sym none))
+style_lines plains singles doubles styles s o pretty around q v u style.Folded is none = absurd (never (sym none))
+
+pub leaves_on : PlainIsWalked → SingleIsWalked → QuotedIsReadBack → StylesAreAllowed → PlainHasGap → LeavesAreWalked
+leaves_on plains singles doubles styles gaps s o pretty (alias_node name) fine around q bare whole leaf none = alias_walks s o pretty around q bare name fine whole
+leaves_on plains singles doubles styles gaps s o pretty (scalar_node v) (anchor, tag, u) around q bare whole leaf none =
+    scalar_walks gaps s o pretty around q bare v (anchor, tag, u) (style_lines plains singles doubles styles s o pretty around q v u (style_at (context_of s o.directives) false q v) refl none)
+leaves_on plains singles doubles styles gaps s o pretty (sequence_node a items) fine around q bare whole leaf none = absurd (never leaf)
+leaves_on plains singles doubles styles gaps s o pretty (mapping_node a pairs) fine around q bare whole leaf none = absurd (never leaf)
+
+pub blocks_on : PlainHasGap → BlockScalarsAreWalked
+blocks_on gaps s o pretty v (anchor, tag, u) around q bare whole some =
+    scalar_walks gaps s o pretty around q bare v (anchor, tag, u) (block_lines s o pretty around q v u (style_at (context_of s o.directives) false q v) some refl)

@@ -3,7 +3,7 @@ mod Nodes
 mod Directives
 mod Documents
 mod Passing
-mod Contents
+pub mod Contents
 mod Saying
 mod Lost
 mod InputFlags

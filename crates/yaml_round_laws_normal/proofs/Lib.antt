@@ -1,0 +1,5 @@
+mod Premises
+mod Saying
+mod Starting
+mod Joining
+mod Restyling

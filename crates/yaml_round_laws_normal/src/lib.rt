@@ -1,0 +1,7 @@
+//! Laws of the normal form that people read: a content's text with styles that the content alone decides reads back, and tells
+//! contents apart. No code.
+#![tactic(auto)]
+
+mod laws;
+
+pub use laws::readable_follows;

@@ -36,3 +36,4 @@ pub mod KeyLeaves
 pub mod LeafDress
 pub mod LeafNodes
 pub mod FlowBlocks
+pub mod Whole

@@ -1,5 +1,5 @@
 -- What a simple key writes: words, then what stands between them and its `:`. Such a key is walked, at any depth.
-use Rattle.std.proofs.Common.{◌≡◌, ◌⊎◌, ℕ, suc, ◌+◌, ◌-◌, ◌<◌, ◌≤◌, ◌&&◌, not, nat_lt, nat_le, Bool, true, false, List, [], ◌∷◌, ◌++◌, length, refl, sym, ap, subst, ◌∙◌, inl, inr, arith, append_assoc, length-append, append-nil, encode_utf8_all}
+use Rattle.std.proofs.Common.{◌≡◌, ◌⊎◌, ℕ, suc, ◌+◌, ◌-◌, ◌<◌, ◌≤◌, ◌&&◌, not, nat_lt, nat_le, Bool, true, false, List, [], ◌∷◌, ◌++◌, length, refl, sym, ap, subst, ◌∙◌, inl, inr, arith, append_assoc, length-append, encode_utf8_all}
 use Rattle.std.specs.Prelude.{if◌then◌else◌}
 use Rattle.std.proofs.lemmas.Bool.Decides.{nat_tests}
 use Rattle.yaml_emit_laws_text.specs.emit_layout.scan.declared.yaml_encoding_t.{yaml_encoding_t}
@@ -21,11 +21,11 @@ use Rattle.yaml_scan_laws_levels.specs.Tokens.{start_bodies}
 use Rattle.yaml_scan_laws_levels.specs.Walks.{Where, Reads, ClosesAt, Outside}
 use Rattle.yaml_scan_laws_levels.proofs.Walking.{walk_says}
 use Rattle.yaml_scan_laws_levels.proofs.Slotting.{letter_columns, near_before}
-use Rattle.yaml_emit_laws_scalars.specs.Stops.{begins_white, white_of}
+use Rattle.yaml_emit_laws_scalars.specs.Stops.{begins_white}
 use Rattle.yaml_emit_laws_scalars.specs.KeysLaws.{StaysNear}
 use Rattle.yaml_emit_laws_scalars.proofs.OneLine.{near_fresh}
 use Rattle.yaml_emit_laws_pretty.specs.Spoken.{Spoken, spoken_bytes, all_bytes, all_bodies, AllFit}
-use Rattle.yaml_emit_laws_pretty.proofs.KeyColumns.{columns_grow, low_starts}
+use Rattle.yaml_emit_laws_pretty.proofs.KeyColumns.{columns_grow}
 use Rattle.yaml_emit_laws_pretty.proofs.KeySteps.{Frame, KeyFit, KeyRuns, front, spot_at, key_words, key_front, key_begun, key_space, key_colon, square, curly, brackets_first, brackets_more}
 
 -- what stands between a key's words and its `:`: nothing, the space behind an alias, or a pair of brackets, by the space in front
@@ -112,7 +112,7 @@ ends_first (squares s) b same d ls tail x text o line end broken cs more T reads
         let two = two_behind s o 91 93 in
         let same : o + front b ≡ o + front s = ap (λ t. o + front t) e in
         let r = brackets_first 91 93 kinds.FlowSequenceStart kinds.FlowSequenceEnd tokens.flow_sequence_start tokens.flow_sequence_end square d ls tail x text (o + front s) line end g.broken cs more T g.reads
-            (subst (λ i. ClosesAt d (column_at text i) ls more) same closes) (subst (λ i. Frame text d i end cs ls) same f) (omega (arith, few, two)) g.left in
+        (subst (λ i. ClosesAt d (column_at text i) ls more) same closes) (subst (λ i. Frame text d i end cs ls) same f) (omega (arith, few, two)) g.left in
         subst (λ i. KeyRuns x text (o + length (end_bytes (squares s))) d i cs ls T (λ bs. tokens.flow_sequence_start ∷ tokens.flow_sequence_end ∷ bs)) (sym same)
         (subst (λ i. KeyRuns x text i d (o + front s) cs ls T (λ bs. tokens.flow_sequence_start ∷ tokens.flow_sequence_end ∷ bs)) two r)
 ends_first (curlies s) b same d ls tail x text o line end broken cs more T reads closes f few l = by s (sym same) few l
@@ -123,7 +123,7 @@ ends_first (curlies s) b same d ls tail x text o line end broken cs more T reads
         let two = two_behind s o 123 125 in
         let same : o + front b ≡ o + front s = ap (λ t. o + front t) e in
         let r = brackets_first 123 125 kinds.FlowMappingStart kinds.FlowMappingEnd tokens.flow_mapping_start tokens.flow_mapping_end curly d ls tail x text (o + front s) line end g.broken cs more T g.reads
-            (subst (λ i. ClosesAt d (column_at text i) ls more) same closes) (subst (λ i. Frame text d i end cs ls) same f) (omega (arith, few, two)) g.left in
+        (subst (λ i. ClosesAt d (column_at text i) ls more) same closes) (subst (λ i. Frame text d i end cs ls) same f) (omega (arith, few, two)) g.left in
         subst (λ i. KeyRuns x text (o + length (end_bytes (curlies s))) d i cs ls T (λ bs. tokens.flow_mapping_start ∷ tokens.flow_mapping_end ∷ bs)) (sym same)
         (subst (λ i. KeyRuns x text i d (o + front s) cs ls T (λ bs. tokens.flow_mapping_start ∷ tokens.flow_mapping_end ∷ bs)) two r)
 
@@ -140,9 +140,9 @@ key_runs d ls (w ∷ ws) k b (same, some, starts) tail x text o line end broken 
     let e = o + length (all_bytes (w ∷ ws)) in
     let lead = leads_by w.spaced w.own (all_bytes ws) some in
     let r = key_words d ls w ws (end_bytes k ++ tail) x text o line end broken cs more T reads (subst (λ t. ClosesAt d (column_at text (o + front t)) ls more) (sym same) closes) (subst (λ t. Frame text d (o + front t) end cs ls) (sym same) f) some
-        (omega (arith, few, all)) l fits plains in
+    (omega (arith, few, all)) l fits plains in
     let s = ends_more k d ls tail x text (o + front w.spaced) e end cs T (λ bs. w.body ∷ all_bodies ws bs) (subst (λ t. Frame text d (o + front t) end cs ls) (sym same) f) (omega (arith, lead)) (omega (arith, few, all)) r
-        (left_rest text o (all_bytes (w ∷ ws)) (end_bytes k ++ tail) l) in
+    (left_rest text o (all_bytes (w ∷ ws)) (end_bytes k ++ tail) l) in
     let far : e + length (end_bytes k) ≡ o + length (all_bytes (w ∷ ws) ++ end_bytes k) = omega (arith, all) in
     subst (λ t. KeyRuns x text (o + length (all_bytes (w ∷ ws) ++ end_bytes k)) d (o + front t) cs ls T (λ bs. w.body ∷ all_bodies ws (end_bodies k bs))) same
     (subst (λ i. KeyRuns x text i d (o + front w.spaced) cs ls T (λ bs. w.body ∷ all_bodies ws (end_bodies k bs))) far s)
@@ -234,9 +234,9 @@ key_done d ls a c B form near x text o line broken cs more new what T rest reads
     let fresh : is_fresh (mark_at text p) (mark_at text e) ≡ true = subst (λ (bs : List ℕ). is_fresh (mark_at text p) (mark_at text (o + length bs)) ≡ true) same (near_fresh a c 530 (omega arith) near text o (has_at text o shown has) (front b)) in
     let nears : (q : ℕ) → q ≤ e → is_fresh (mark_at text p) (mark_at text q) ≡ true = λ q low. near_before text (mark_at text p) q e low fresh in
     let grow : (q : ℕ) → p < q → q ≤ e → column_at text p + 1 ≤ column_at text q = λ q up low.
-        let far : p + suc (q - p - 1) ≡ q = omega (arith, up) in
-        let line = same_line (line_at text q) (line_at text p) q (p + 1024) (nears q low) in
-        subst (λ i. column_at text p + 1 ≤ column_at text i) far (columns_grow text p (q - p - 1) (subst (λ i. line_at text i ≤ line_at text p) (sym far) line) k.starts) in
+    let far : p + suc (q - p - 1) ≡ q = omega (arith, up) in
+    let line = same_line (line_at text q) (line_at text p) q (p + 1024) (nears q low) in
+    subst (λ i. column_at text p + 1 ≤ column_at text i) far (columns_grow text p (q - p - 1) (subst (λ i. line_at text i ≤ line_at text p) (sym far) line) k.starts) in
     let rights : (q : ℕ) → p < q → q ≤ e → IsRight d ls (column_at text q) = λ q up low. elim deep [ inl h ↦ inl h | inr h ↦ let g = grow q up low in inr (omega (arith, h, g)) ] in
     let frame : Frame text d p e cs ls = record { near = nears; right = rights; out = out } in
     let begun = parted f refl refl in

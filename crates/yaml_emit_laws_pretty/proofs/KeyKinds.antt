@@ -1,9 +1,8 @@
 -- Simple keys of every kind: scalars in the three styles that a key can have, aliases, and empty collections, with their properties.
-use Rattle.std.proofs.Common.{◌≡◌, ◌⊎◌, ℕ, suc, ◌+◌, ◌-◌, ◌<◌, ◌≤◌, ◌==◌, ◌&&◌, ◌||◌, not, nat_lt, Bool, true, false, List, [], ◌∷◌, ◌++◌, length, Option, Some, None, Ok, refl, sym, ap, subst, ◌∙◌, inl, inr, arith, append_assoc, length-append, encode_utf8_all, IsUtf8}
+use Rattle.std.proofs.Common.{◌≡◌, ◌⊎◌, ℕ, ◌+◌, ◌-◌, ◌<◌, ◌≤◌, ◌==◌, ◌&&◌, ◌||◌, not, nat_lt, Bool, true, false, List, [], ◌∷◌, ◌++◌, length, Option, Some, None, refl, sym, ap, subst, ◌∙◌, inl, inr, arith, append_assoc, encode_utf8_all, IsUtf8}
 use Rattle.std.specs.Prelude.{if◌then◌else◌}
 use Rattle.std.specs.Str.{chars}
 use Rattle.std.proofs.lemmas.Bool.{cases_Bool}
-use Rattle.std.proofs.lemmas.Bool.Decides.{nat_tests}
 use Rattle.std.proofs.lemmas.Str.{encode_ascii}
 use Rattle.yaml_emit_laws_text.specs.emit_layout.scan.Tokens as tokens
 use Rattle.yaml_emit_laws_text.specs.emit_layout.scan.Tokens.{TokenBody}
@@ -17,16 +16,16 @@ use Rattle.yaml_emit_laws_text.specs.emit_layout.emit_text.declared.Cursor.{Curs
 use Rattle.yaml_emit_laws_text.specs.emit_layout.emit_text.declared.Settings.{Settings}
 use Rattle.yaml_emit_laws_text.specs.emit_layout.emit_text.declared.Style.{Style}
 use Rattle.yaml_emit_laws_text.specs.emit_layout.emit_text.declared.Style.TheVariants as style
-use Rattle.yaml_emit_laws_text.specs.emit_layout.emit_text.Layout.{Layout, Rest, ◌▹◌, stay, when, char, word, blank, opener, line}
+use Rattle.yaml_emit_laws_text.specs.emit_layout.emit_text.Layout.{Layout, Rest, ◌▹◌, when, char, word, blank, opener, line}
 use Rattle.yaml_emit_laws_text.specs.emit_layout.emit_text.Text.{letter}
 use Rattle.yaml_emit_laws_text.specs.emit_layout.emit_text.Scalars.{scalar_text}
-use Rattle.yaml_emit_laws_text.specs.emit_layout.emit_text.Style.{allowed, taken, plain_fits, single_or, block_or}
+use Rattle.yaml_emit_laws_text.specs.emit_layout.emit_text.Style.{allowed, taken, plain_fits, single_or}
 use Rattle.yaml_emit_laws_text.specs.emit_layout.declared.level.Spot.{Spot}
 use Rattle.yaml_emit_laws_text.specs.emit_layout.declared.level.Part.{Part}
 use Rattle.yaml_emit_laws_text.specs.emit_layout.declared.level.Part.TheVariants as part
 use Rattle.yaml_emit_laws_text.specs.emit_layout.Content.{Opening, Scalar, Start, Node, alias_node, scalar_node, sequence_node, mapping_node, Nodes, no_nodes, node, Pairs, no_pairs, pair}
 use Rattle.yaml_emit_laws_text.specs.emit_layout.Grammar.{has, kept_if, scalar_tag, start_tag}
-use Rattle.yaml_emit_laws_text.specs.emit_layout.Nodes.{Context, context_of, spot, style_of, is_plain, is_flow, is_simple, is_simple_alias, is_simple_start, anchor_text, tag_text, properties_text, mark_text, page_at, deeper, checked, MOST, indented, indent_of, scalar_layout, alias_layout, closer, node_layout, items_layout, pairs_layout, is_simple_part}
+use Rattle.yaml_emit_laws_text.specs.emit_layout.Nodes.{Context, context_of, spot, style_of, is_plain, is_flow, is_simple, is_simple_start, anchor_text, tag_text, properties_text, page_at, deeper, checked, MOST, indented, indent_of, scalar_layout, alias_layout, closer, node_layout, items_layout, pairs_layout}
 use Rattle.yaml_emit_laws_text.specs.Bodies.{anchor_bodies, tag_bodies, mark_bodies}
 use Rattle.yaml_emit_laws_text.specs.Walk.{Has, Left, bytes, first}
 use Rattle.yaml_emit_laws_text.specs.Writable.{IsWritable, IsWritableTag}
@@ -43,7 +42,7 @@ use Rattle.yaml_emit_laws_scalars.proofs.PlainLaw.{plain_back}
 use Rattle.yaml_emit_laws_scalars.proofs.Solid.{what_stops}
 use Rattle.yaml_scan_laws_levels.specs.White.{IsGap}
 use Rattle.yaml_scan_laws_levels.proofs.Signing.{signs_come, printed_begins}
-use Rattle.yaml_emit_laws_pretty.specs.Bodies.{place, style_at, is_flow_at, is_empty, is_nothing, style_named, takes_mark, value_bodies, scalar_bodies, node_bodies, sequence_opens, sequence_closes, mapping_opens, mapping_closes, items_bodies, pairs_bodies, keeps}
+use Rattle.yaml_emit_laws_pretty.specs.Bodies.{place, style_at, is_empty, is_nothing, style_named, takes_mark, value_bodies, scalar_bodies, node_bodies, sequence_opens, sequence_closes, mapping_opens, mapping_closes, items_bodies, pairs_bodies, keeps}
 use Rattle.yaml_emit_laws_pretty.specs.Nodes.{IsPretty}
 use Rattle.yaml_emit_laws_pretty.specs.Walk.{no_comment}
 use Rattle.yaml_emit_laws_pretty.specs.Spoken.{Spoken, Says, Fits, spoken_bytes, all_bytes, all_bodies, AllFit}
@@ -307,8 +306,8 @@ empty_style p flow n x pretty none same =
     let a = allowed p.settings.unicode (chars x.value) in
     let untagged = has (scalar_tag false x) || x.plain in
     let e : is_plain (style_of p (spot flow n part.SimpleKey) x) ≡ false =
-        ap (λ (b : Bool). is_plain (if b then style.Double else taken a x.style untagged flow true (length x.value == 0))) pretty
-        ∙ ap (λ (v : List ℕ). is_plain (taken a x.style untagged flow true (length v == 0))) none ∙ taken_empty a x.style untagged flow in
+    ap (λ (b : Bool). is_plain (if b then style.Double else taken a x.style untagged flow true (length x.value == 0))) pretty
+    ∙ ap (λ (v : List ℕ). is_plain (taken a x.style untagged flow true (length v == 0))) none ∙ taken_empty a x.style untagged flow in
     never (sym e ∙ ap is_plain same)
 
 last_of : Scalars → (flow : Bool) (level : ℕ) (p : Context) (n : ℕ) (x : Scalar) (c : Cursor) (chosen : Style) → p.settings.canonical ≡ false → style_of p (spot flow n part.SimpleKey) x ≡ chosen → IsUtf8 x.value → 0 < n + p.settings.indent → level ≤ n + p.settings.indent

@@ -1,5 +1,5 @@
 -- Simple keys of every kind and their `:` are walked, in a block and in brackets.
-use Rattle.std.proofs.Common.{◌≡◌, ◌⊎◌, ℕ, ◌+◌, ◌<◌, ◌≤◌, ◌||◌, not, nat_lt, Bool, true, false, List, [], ◌∷◌, ◌++◌, length, Some, refl, sym, ap, subst, ◌∙◌, inl, inr, arith, append_assoc, length-append}
+use Rattle.std.proofs.Common.{◌≡◌, ℕ, ◌+◌, ◌<◌, ◌≤◌, not, nat_lt, Bool, true, false, List, [], ◌∷◌, ◌++◌, length, Some, refl, sym, ap, subst, ◌∙◌, inl, inr, arith, append_assoc, length-append}
 use Rattle.std.specs.Prelude.{if◌then◌else◌}
 use Rattle.yaml_emit_laws_text.specs.emit_layout.scan.declared.yaml_encoding_t.{yaml_encoding_t}
 use Rattle.yaml_emit_laws_text.specs.emit_layout.scan.Tokens as tokens
@@ -13,25 +13,25 @@ use Rattle.yaml_emit_laws_text.specs.emit_layout.emit_text.declared.Cursor.{Curs
 use Rattle.yaml_emit_laws_text.specs.emit_layout.emit_text.declared.Settings.{Settings}
 use Rattle.yaml_emit_laws_text.specs.emit_layout.emit_text.declared.Style.{Style}
 use Rattle.yaml_emit_laws_text.specs.emit_layout.emit_text.declared.Style.TheVariants as style
-use Rattle.yaml_emit_laws_text.specs.emit_layout.emit_text.Layout.{Layout, Rest, ◌▹◌, char}
+use Rattle.yaml_emit_laws_text.specs.emit_layout.emit_text.Layout.{Rest, ◌▹◌, char}
 use Rattle.yaml_emit_laws_text.specs.emit_layout.declared.level.Part.TheVariants as part
 use Rattle.yaml_emit_laws_text.specs.emit_layout.Content.{Opening, Scalar, Node, alias_node, scalar_node, sequence_node, mapping_node, no_nodes, node, no_pairs, pair}
 use Rattle.yaml_emit_laws_text.specs.emit_layout.Nodes.{Context, context_of, spot, style_of, is_simple, node_layout}
-use Rattle.yaml_emit_laws_text.specs.Walk.{Left, bytes}
+use Rattle.yaml_emit_laws_text.specs.Walk.{bytes}
 use Rattle.yaml_emit_laws_text.specs.Writable.{IsWritable}
 use Rattle.yaml_emit_laws_text.proofs.Steps.{letter_low}
 use Rattle.yaml_scan_laws_order.proofs.MarksForward.{line_at-grows}
 use Rattle.yaml_scan_laws_levels.specs.Fronts.{Rises}
 use Rattle.yaml_scan_laws_levels.specs.Tokens.{start_bodies}
-use Rattle.yaml_scan_laws_levels.specs.Walks.{Where, Reads, ClosesAt, Outside}
+use Rattle.yaml_scan_laws_levels.specs.Walks.{Reads, ClosesAt, Outside}
 use Rattle.yaml_scan_laws_levels.proofs.Signing.{printed_begins}
 use Rattle.yaml_scan_laws_levels.proofs.Slotting.{level_opens}
-use Rattle.yaml_emit_laws_scalars.specs.Stops.{begins_white, begins_solid}
+use Rattle.yaml_emit_laws_scalars.specs.Stops.{begins_solid}
 use Rattle.yaml_emit_laws_scalars.proofs.NearKeys.{keys_near}
 use Rattle.yaml_emit_laws_pretty.specs.Bodies.{node_bodies, node_kept, items_kept, pairs_kept, scalar_kept, style_at}
-use Rattle.yaml_emit_laws_pretty.specs.Flows.{GoesIn, KeysAreWalkedIn}
+use Rattle.yaml_emit_laws_pretty.specs.Flows.{KeysAreWalkedIn}
 use Rattle.yaml_emit_laws_pretty.specs.KeyLaws.{Keyed}
-use Rattle.yaml_emit_laws_pretty.specs.Nodes.{IsPretty, KeyWalks, PartedBehind, Shows, SimpleKeysAreWalked, block_spot}
+use Rattle.yaml_emit_laws_pretty.specs.Nodes.{IsPretty, PartedBehind, SimpleKeysAreWalked, block_spot}
 use Rattle.yaml_emit_laws_pretty.specs.Spoken.{Spoken, spoken_bytes, all_bytes, AllFit}
 use Rattle.yaml_emit_laws_pretty.specs.Walk.{Lined, no_comment}
 use Rattle.yaml_emit_laws_pretty.proofs.KeyForms.{KeyForm, KeyEnd, at_once, spaced, squares, curlies, end_bytes, LeadsKey, behind_colon, key_done}
@@ -66,7 +66,7 @@ key_walks law s d good k w simple x text n kept ls more new what T rest here low
     let margin : margin_at (column_at text (o.at + front (not c.white))) ≡ n + 1 = ap (λ i. i + 1) from in
     let closes : ClosesAt 0 (column_at text (o.at + front (not c.white))) ls more = inr (refl, omega (arith, margin, low), subst (λ i. Rises i more) (sym margin) rises) in
     let done = key_done 0 ls L c B form near x text o.at o.line o.broken [] more new what T rest reads tt
-        (closes, inr (omega (arith, from, low)), ap (λ i. opened true i ls) margin ∙ opens, ap (λ i. start_of 0 i ls opening.Mapping) margin ∙ begins) parted here.left in
+    (closes, inr (omega (arith, from, low)), ap (λ i. opened true i ls) margin ∙ opens, ap (λ i. start_of 0 i ls opening.Mapping) margin ∙ begins) parted here.left in
     let up = done.grown in
     record {
       cursor = behind_colon done.behind;
@@ -112,7 +112,7 @@ key_shows law s d good k w simple n rest parted e pale =
     let f = behind_colon form.behind in
     let tail = bytes (rest f) in
     let laid : bytes ((node_layout p (spot false n part.SimpleKey) k ▹ char 58) e rest) ≡ all_bytes form.words ++ (end_bytes form.end ++ (58 ∷ tail)) =
-        form.written (λ b. char 58 b rest) ∙ ap (λ (bs : List ℕ). all_bytes form.words ++ (end_bytes form.end ++ bs)) (letter_low 58 (rest f) refl) in
+    form.written (λ b. char 58 b rest) ∙ ap (λ (bs : List ℕ). all_bytes form.words ++ (end_bytes form.end ++ bs)) (letter_low 58 (rest f) refl) in
     let (solid, calm) = form_shows 0 form.words form.end (58 ∷ tail) (subst (λ (b : Bool). LeadsKey form.words form.end (not b)) pale form.leads) (form.fits tail (parted f refl refl)) in
     (ap (λ bs. begins_solid bs) laid ∙ solid, ap (λ bs. no_comment bs) laid ∙ calm)
 

@@ -1,7 +1,6 @@
 -- Words of a simple key, one behind the other, and its `:`: at any depth.
 use Rattle.std.proofs.Common.{◌≡◌, ℕ, ◌+◌, ◌-◌, ◌<◌, ◌≤◌, ◌==◌, ◌&&◌, ◌||◌, not, nat_lt, Bool, true, false, List, [], ◌∷◌, ◌++◌, length, refl, sym, ap, subst, ◌∙◌, inl, inr, arith, append_assoc, length-append}
 use Rattle.std.specs.Prelude.{if◌then◌else◌}
-use Rattle.std.proofs.lemmas.Bool.{cases_Bool}
 use Rattle.std.proofs.lemmas.Bool.Decides.{nat_tests}
 use Rattle.yaml_emit_laws_text.specs.emit_layout.scan.declared.yaml_encoding_t.{yaml_encoding_t}
 use Rattle.yaml_emit_laws_text.specs.emit_layout.scan.Tokens as tokens
@@ -20,10 +19,10 @@ use Rattle.yaml_scan_laws_levels.specs.Pushes.{IsRight, stays_level}
 use Rattle.yaml_scan_laws_levels.specs.Steps.{Comes, WordLeaves}
 use Rattle.yaml_scan_laws_levels.specs.Signs.{SignComes, sign}
 use Rattle.yaml_scan_laws_levels.specs.Tokens.{start_bodies}
-use Rattle.yaml_scan_laws_levels.specs.Walks.{Where, Reads, ReadsKey, ClosesAt, LeaveClear, Outside, behind}
+use Rattle.yaml_scan_laws_levels.specs.Walks.{Where, Reads, ReadsKey, ClosesAt, Outside, behind}
 use Rattle.yaml_scan_laws_levels.proofs.Signing.{signs_come, printed_begins}
 use Rattle.yaml_scan_laws_levels.proofs.Stepping.{words_leave}
-use Rattle.yaml_scan_laws_levels.proofs.Walking.{walk_white, walk_word, walk_key_starts, walk_key_goes, walk_key_stops, walk_says, deeper_leaves}
+use Rattle.yaml_scan_laws_levels.proofs.Walking.{walk_white, walk_key_starts, walk_key_goes, walk_key_stops, walk_says, deeper_leaves}
 use Rattle.yaml_emit_laws_scalars.specs.Stops.{begins_white, white_of}
 use Rattle.yaml_emit_laws_pretty.specs.Spoken.{is_text, Fits, WordStands, Spoken, spoken_bytes, all_bytes, all_bodies, AllFit}
 use Rattle.yaml_emit_laws_pretty.proofs.Lining.{or_right}
@@ -121,8 +120,8 @@ key_first d ls w bs x text p line broken cs more T reads out closes l fits plain
     let said : WordText = record { body = w.body; end = s.end; reached = s.reached; broke = s.broke } in
     let fresh : is_fresh (mark_at text (p + 0)) (mark_at text s.reached) ≡ true = subst (λ r. is_fresh (mark_at text (p + 0)) (mark_at text r) ≡ true) (sym (s.near plain)) (subst (λ q. is_fresh (mark_at text q) (mark_at text e) ≡ true) (sym z) near) in
     let r = walk_key_starts x text (spot_at p line d true broken) cs ls more T w.kind [] said e false s.wide reads (deeper_leaves w.kind d true cs out)
-        (stands_comes d (indent ls) w.kind w.body text p e bs (omega arith) s) t.begins refl (subst (λ q. ClosesAt d (column_at text q) ls more) (sym z) closes) fresh
-        (stands_leaves d (indent ls) w.kind w.body text p e bs t s) in
+    (stands_comes d (indent ls) w.kind w.body text p e bs (omega arith) s) t.begins refl (subst (λ q. ClosesAt d (column_at text q) ls more) (sym z) closes) fresh
+    (stands_leaves d (indent ls) w.kind w.body text p e bs t s) in
     record {
       line = line_of (p + 0) text;
       wide = s.wide;
@@ -145,9 +144,9 @@ key_more d ls w bs x text p q line wide cs T K reads out right l fits plain here
     let said : WordText = record { body = w.body; end = s.end; reached = s.reached; broke = s.broke } in
     let fresh : is_fresh (mark_at text p) (mark_at text s.reached) ≡ true = subst (λ r. is_fresh (mark_at text p) (mark_at text r) ≡ true) (sym (s.near plain)) near in
     let r = walk_key_goes x text (spot_at q line d false wide) d (mark_at text p) cs ls T K w.kind [] said e false s.wide reads (deeper_leaves w.kind d false cs out)
-        (stands_comes d (indent ls) w.kind w.body text q e bs (omega arith) s) (both (stays_level w.kind d) (is_value w.kind) (t.stays d) t.lone)
-        (subst (λ i. IsRight d ls (column_at text i)) (sym z) right) (inl (refl, refl, t.calm)) (subst (λ i. is_fresh (mark_at text p) (mark_at text i) ≡ true) (sym z) here) fresh
-        (stands_leaves d (indent ls) w.kind w.body text q e bs t s) in
+    (stands_comes d (indent ls) w.kind w.body text q e bs (omega arith) s) (both (stays_level w.kind d) (is_value w.kind) (t.stays d) t.lone)
+    (subst (λ i. IsRight d ls (column_at text i)) (sym z) right) (inl (refl, refl, t.calm)) (subst (λ i. is_fresh (mark_at text p) (mark_at text i) ≡ true) (sym z) here) fresh
+    (stands_leaves d (indent ls) w.kind w.body text q e bs t s) in
     record {
       line = line_of (q + 0) text;
       wide = s.wide;
@@ -210,7 +209,7 @@ key_list d ls (w ∷ ws) bs x text p q end cs T K f more few r l (fit, fits) (pl
     let all = length-append (spoken_bytes w) rest in
     let e = g.at + length w.own in
     let one = key_more d ls w (rest ++ bs) x text p g.at g.runs.line g.runs.wide cs T K g.runs.reads f.out (f.right g.at (omega (arith, more, up)) (omega (arith, few, far, all))) g.left fit plain
-        (f.near g.at (omega (arith, few, far, all))) (f.near e (omega (arith, few, far, all))) in
+    (f.near g.at (omega (arith, few, far, all))) (f.near e (omega (arith, few, far, all))) in
     let tail = key_list d ls ws bs x text p e end cs T (λ bs. K (w.body ∷ bs)) f (omega (arith, more, up)) (omega (arith, few, far, all)) one (left_rest text g.at w.own (rest ++ bs) g.left) fits plains in
     let same : e + length rest ≡ q + length (spoken_bytes w ++ rest) = omega (arith, far, all) in
     subst (λ i. KeyRuns x text i d p cs ls T (λ bs. K (w.body ∷ all_bodies ws bs))) same tail
@@ -266,8 +265,8 @@ key_colon d ls new what tail x text p e end cs T K f some few r l white opens st
     let comes = signs_come.colon text e d (indent ls) [] gap at0 alone in
     let w = sign tokens.value (e + 0 + 1) in
     let r = walk_key_stops x text (spot_at e r.line d false r.wide) (mark_at text p) cs ls new what T K [] w (e + 0 + 1) false (not (nat_lt 0 d)) r.reads (deeper_leaves kinds.ValueMark d false cs f.out) comes
-        (subst (λ i. IsRight d ls (column_at text i)) (sym z) (f.right e some few)) (subst (λ i. is_fresh (mark_at text p) (mark_at text i) ≡ true) (sym z) (f.near e few)) opens starts
-        (words_leave.all text d false w refl) in
+    (subst (λ i. IsRight d ls (column_at text i)) (sym z) (f.right e some few)) (subst (λ i. is_fresh (mark_at text p) (mark_at text i) ≡ true) (sym z) (f.near e few)) opens starts
+    (words_leave.all text d false w refl) in
     subst (λ i. Reads x text (behind text i (i + 1) d false (not (nat_lt 0 d))) cs new [] (λ bs. T (start_bodies what (tokens.key ∷ K (tokens.value ∷ bs))))) z r
 
 -- ---- an empty collection in brackets
@@ -347,10 +346,10 @@ bracket_closes first last k l opens closes b d ls bs x text p q end cs T K f few
     let at0 : byte text (q + 0) ≡ last = ap (λ i. byte text i) z ∙ here in
     let w = sign closes (q + 0 + 1) in
     let leaves : WordLeaves text (depth_after l (d + 1)) (allows_key l (d + 1 == 0) false) w (q + 0 + 1) false (not (nat_lt 0 (depth_after l (d + 1)))) =
-        subst (λ a. WordLeaves text (depth_after l (d + 1)) a w (q + 0 + 1) false (not (nat_lt 0 (depth_after l (d + 1))))) (sym (b.quiet (d + 1 == 0))) (words_leave.all text (depth_after l (d + 1)) false w refl) in
+    subst (λ a. WordLeaves text (depth_after l (d + 1)) a w (q + 0 + 1) false (not (nat_lt 0 (depth_after l (d + 1))))) (sym (b.quiet (d + 1 == 0))) (words_leave.all text (depth_after l (d + 1)) false w refl) in
     let s = walk_key_goes x text (spot_at q r.line (d + 1) r.now r.wide) d (mark_at text p) cs ls T K l [] w (q + 0 + 1) false (not (nat_lt 0 (depth_after l (d + 1)))) r.reads (deeper_leaves l (d + 1) (r.now || (false && r.wide)) cs (deeper_out d cs f.out))
-        (b.closing text q (d + 1) (indent ls) [] gap at0) (both (stays_level l (d + 1)) (is_value l) (b.stays_last (d + 1)) b.lone_last) (inl (deep_in d)) (inr (omega arith))
-        (subst (λ i. is_fresh (mark_at text p) (mark_at text i) ≡ true) (sym z) (f.near q (omega (arith, few)))) (subst (λ i. is_fresh (mark_at text p) (mark_at text (i + 1)) ≡ true) (sym z) (f.near (q + 1) few)) leaves in
+    (b.closing text q (d + 1) (indent ls) [] gap at0) (both (stays_level l (d + 1)) (is_value l) (b.stays_last (d + 1)) b.lone_last) (inl (deep_in d)) (inr (omega arith))
+    (subst (λ i. is_fresh (mark_at text p) (mark_at text i) ≡ true) (sym z) (f.near q (omega (arith, few)))) (subst (λ i. is_fresh (mark_at text p) (mark_at text (i + 1)) ≡ true) (sym z) (f.near (q + 1) few)) leaves in
     let shallow : depth_after l (d + 1) ≡ d = b.down (d + 1) ∙ omega arith in
     let wide = not (nat_lt 0 (depth_after l (d + 1))) in
     subst (λ i. KeyRuns x text (i + 1) d p cs ls T (λ bs. K (closes ∷ bs))) z
@@ -372,10 +371,10 @@ brackets_first first last k l opens closes b d ls bs x text p line end broken cs
     let now = allows_key k (d == 0) false in
     let wide = not (nat_lt 0 (depth_after k d)) in
     let s = walk_key_starts x text (spot_at p line d true broken) cs ls more T k [] w (p + 0 + 1) now wide reads (deeper_leaves k d true cs f.out) (b.opening text p d (indent ls) [] gap at0) b.begins refl
-        (subst (λ q. ClosesAt d (column_at text q) ls more) (sym z) close) (subst (λ i. is_fresh (mark_at text i) (mark_at text (i + 1)) ≡ true) (sym z) (f.near (p + 1) (omega (arith, few))))
-        (words_leave.all text (depth_after k d) now w refl) in
+    (subst (λ q. ClosesAt d (column_at text q) ls more) (sym z) close) (subst (λ i. is_fresh (mark_at text i) (mark_at text (i + 1)) ≡ true) (sym z) (f.near (p + 1) (omega (arith, few))))
+    (words_leave.all text (depth_after k d) now w refl) in
     let o : Opened x text (p + 1) d p cs ls T (λ bs. opens ∷ bs) = subst (λ i. Opened x text (i + 1) d i cs ls T (λ bs. opens ∷ bs)) z
-        (record { line = (mark_at text (p + 0)).line; now = now; wide = wide; reads = subst (λ i. ReadsKey x text (spot_at (p + 0 + 1) (mark_at text (p + 0)).line i now wide) d (mark_at text (p + 0)) cs ls T (λ bs. opens ∷ bs)) (b.up d) s }) in
+    (record { line = (mark_at text (p + 0)).line; now = now; wide = wide; reads = subst (λ i. ReadsKey x text (spot_at (p + 0 + 1) (mark_at text (p + 0)).line i now wide) d (mark_at text (p + 0)) cs ls T (λ bs. opens ∷ bs)) (b.up d) s }) in
     let two : p + 1 + 1 ≡ p + 2 = omega arith in
     subst (λ i. KeyRuns x text i d p cs ls T (λ bs. opens ∷ closes ∷ bs)) two
     (bracket_closes first last k l opens closes b d ls bs x text p (p + 1) end cs T (λ bs. opens ∷ bs) f (omega (arith, few)) o (left_more text p first (last ∷ bs) left))
@@ -392,11 +391,11 @@ brackets_more first last k l opens closes b d ls bs x text p q end cs T K r f mo
     let now = allows_key k (d == 0) false in
     let wide = not (nat_lt 0 (depth_after k d)) in
     let s = walk_key_goes x text (spot_at q r.line d false r.wide) d (mark_at text p) cs ls T K k [] w (q + 0 + 1) now wide r.reads (deeper_leaves k d false cs f.out) (b.opening text q d (indent ls) [] gap at0)
-        (both (stays_level k d) (is_value k) (b.stays d) b.lone) (subst (λ i. IsRight d ls (column_at text i)) (sym z) (f.right q more (omega (arith, few)))) (inl (refl, refl, b.calm))
-        (subst (λ i. is_fresh (mark_at text p) (mark_at text i) ≡ true) (sym z) (f.near q (omega (arith, few)))) (subst (λ i. is_fresh (mark_at text p) (mark_at text (i + 1)) ≡ true) (sym z) (f.near (q + 1) (omega (arith, few))))
-        (words_leave.all text (depth_after k d) now w refl) in
+    (both (stays_level k d) (is_value k) (b.stays d) b.lone) (subst (λ i. IsRight d ls (column_at text i)) (sym z) (f.right q more (omega (arith, few)))) (inl (refl, refl, b.calm))
+    (subst (λ i. is_fresh (mark_at text p) (mark_at text i) ≡ true) (sym z) (f.near q (omega (arith, few)))) (subst (λ i. is_fresh (mark_at text p) (mark_at text (i + 1)) ≡ true) (sym z) (f.near (q + 1) (omega (arith, few))))
+    (words_leave.all text (depth_after k d) now w refl) in
     let o : Opened x text (q + 1) d p cs ls T (λ bs. K (opens ∷ bs)) = subst (λ i. Opened x text (i + 1) d p cs ls T (λ bs. K (opens ∷ bs))) z
-        (record { line = (mark_at text (q + 0)).line; now = now; wide = wide; reads = subst (λ i. ReadsKey x text (spot_at (q + 0 + 1) (mark_at text (q + 0)).line i now wide) d (mark_at text p) cs ls T (λ bs. K (opens ∷ bs))) (b.up d) s }) in
+    (record { line = (mark_at text (q + 0)).line; now = now; wide = wide; reads = subst (λ i. ReadsKey x text (spot_at (q + 0 + 1) (mark_at text (q + 0)).line i now wide) d (mark_at text p) cs ls T (λ bs. K (opens ∷ bs))) (b.up d) s }) in
     let two : q + 1 + 1 ≡ q + 2 = omega arith in
     subst (λ i. KeyRuns x text i d p cs ls T (λ bs. K (opens ∷ closes ∷ bs))) two
     (bracket_closes first last k l opens closes b d ls bs x text p (q + 1) end cs T (λ bs. K (opens ∷ bs)) f (omega (arith, few)) o (left_more text q first (last ∷ bs) left))

@@ -45,7 +45,7 @@ use Rattle.yaml_emit_laws_pretty.specs.Walk.{Stage, LinedUp}
 use Rattle.yaml_emit_laws_pretty.specs.Nodes.{Ending, block_spot, column_round}
 use Rattle.yaml_emit_laws_pretty.proofs.Lining.{or_left}
 use Rattle.yaml_emit_laws_pretty.proofs.Entries.{no_gap}
-use Rattle.yaml_emit_laws_pretty.proofs.KeysWalk.{columns_grow, low_starts}
+use Rattle.yaml_emit_laws_pretty.proofs.KeyColumns.{columns_grow, low_starts}
 
 -- ---- the space in front
 
@@ -128,7 +128,7 @@ word_on k is x text c d o ls T b e w m rest s right here low high hash kind word
     let leaves = words_leave.all text (depth_after k 0) (allows_key k true false) w broke in
     let leaves_at = subst (λ (n : ℕ). WordLeaves text (depth_after k 0) (allows_key k true false) w n (allows_key k true false) (not (nat_lt 0 (depth_after k 0)))) reached leaves in
     let r = walk_word x text (record { at = o.at; line = o.line; depth = 0; now = o.now; broken = o.broken }) [] ls T k [] w e (allows_key k true false) (not (nat_lt 0 (depth_after k 0))) flat tt comes is.stays
-        (inr (subst (λ n. indent ls ≤ column_at text n) (sym z) right)) (λ v. absurd (is.value v)) leaves_at in
+    (inr (subst (λ n. indent ls ≤ column_at text n) (sym z) right)) (λ v. absurd (is.value v)) leaves_at in
     let later : line_at text p < line_at text e = elim (cases_lt (line_at text p) (line_at text e)) [
       | inl u ↦ u
       | inr u ↦ absurd (same_line text p e b m here high far u column left_of)

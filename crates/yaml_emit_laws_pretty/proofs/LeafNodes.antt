@@ -1,5 +1,5 @@
 -- Aliases and scalars in a block, up to the line behind them.
-use Rattle.std.proofs.Common.{◌≡◌, ℕ, ◌+◌, ◌<◌, ◌≤◌, ◌&&◌, ◌||◌, not, nat_lt, Bool, true, false, List, [], ◌∷◌, ◌++◌, length, refl, sym, ap, subst, ◌∙◌, inl, inr, arith, Option, Some, None}
+use Rattle.std.proofs.Common.{◌≡◌, ℕ, ◌+◌, ◌<◌, ◌≤◌, ◌==◌, ◌&&◌, ◌||◌, not, nat_lt, Bool, true, false, List, [], ◌∷◌, ◌++◌, length, refl, sym, ap, subst, ◌∙◌, inl, inr, arith, Option, Some, None}
 use Rattle.std.specs.Prelude.{if◌then◌else◌, IsUtf8}
 use Rattle.std.specs.Str.{chars}
 use Rattle.std.proofs.lemmas.Bool.{cases_Bool}
@@ -78,10 +78,10 @@ space_white (b ∷ bs) e = subst (λ x. begins_white (x ∷ bs) ≡ true) (sym e
 text_white : PlainHasGap → (page : Page) (digit : ℕ) (v : List ℕ) → IsUtf8 v → (st : Style) → (b : LineBreak) (m : ℕ) (after : Rest) (e : Cursor) → e.white ≡ false → begins_white (bytes (scalar_text page digit false st (chars v) e (λ i. line b m i after))) ≡ true
 unfolding scalar_text
 text_white gaps page digit v u style.Plain b m after e white = plain_white gaps page e v (λ i. line b m i after) u white (λ i bare. text_line_white b m after i bare)
-text_white gaps page digit v u style.Single b m after e white = space_white _ (spaced_text page digit (chars v) style.Single refl e (λ i. line b m i after) white)
-text_white gaps page digit v u style.Double b m after e white = space_white _ (spaced_text page digit (chars v) style.Double refl e (λ i. line b m i after) white)
-text_white gaps page digit v u style.Literal b m after e white = space_white _ (spaced_text page digit (chars v) style.Literal refl e (λ i. line b m i after) white)
-text_white gaps page digit v u style.Folded b m after e white = space_white _ (spaced_text page digit (chars v) style.Folded refl e (λ i. line b m i after) white)
+text_white gaps page digit v u style.Single b m after e white = space_white (bytes (scalar_text page digit false style.Single (chars v) e (λ i. line b m i after))) (spaced_text page digit (chars v) style.Single refl e (λ i. line b m i after) white)
+text_white gaps page digit v u style.Double b m after e white = space_white (bytes (scalar_text page digit false style.Double (chars v) e (λ i. line b m i after))) (spaced_text page digit (chars v) style.Double refl e (λ i. line b m i after) white)
+text_white gaps page digit v u style.Literal b m after e white = space_white (bytes (scalar_text page digit false style.Literal (chars v) e (λ i. line b m i after))) (spaced_text page digit (chars v) style.Literal refl e (λ i. line b m i after) white)
+text_white gaps page digit v u style.Folded b m after e white = space_white (bytes (scalar_text page digit false style.Folded (chars v) e (λ i. line b m i after))) (spaced_text page digit (chars v) style.Folded refl e (λ i. line b m i after) white)
 
 -- ---- pages
 
@@ -196,38 +196,38 @@ scalar_walks : PlainHasGap → (s : Settings) (o : Opening) → IsPretty s o →
 scalar_walks gaps s o pretty around q bare v (anchor, tag, u) lines = record {
   walks = λ ls c m after is level up ending x text w T st right l.
       let p = context_of s o.directives in
-      let style = style_at p false q v in
+      let chosen = style_at p false q v in
       let n = deeper s around in
       let page = page_at s (block_spot around q) in
       let R : Rest = λ e. line s.line_break m e after in
-      let a : Layout = scalar_text page s.indent false style (chars v.value) in
+      let a : Layout = scalar_text page s.indent false chosen (chars v.value) in
       let body : Rest = λ e. (checked n ▹ a) e R in
       let t = scalar_tag false v in
       let k = marked p q v in
       let deep : (e : Cursor) → bytes (body e) ≡ bytes (a e R) = λ e. deep_bytes (nat_lt MOST n) (a e R) in
-      let h = dressed s o pretty v.anchor t k anchor (kept_tag _ v.tag tag) ls c body (λ e b f. ap (λ bs. begins_white bs) (deep e) ∙ text_white gaps page s.indent v.value u style s.line_break m after e f)
-          (λ is e b f. ap (λ (bs : List ℕ). first bs) (deep e) ∙ spaced_text page s.indent (chars v.value) style (mark_plain (not (has t)) (not v.quoted) style is) e R f) x text w T st right
+      let h = dressed s o pretty v.anchor t k anchor (kept_tag (false || not (v.plain || v.quoted)) v.tag tag) ls c body (λ e b f. ap (λ bs. begins_white bs) (deep e) ∙ text_white gaps page s.indent v.value u chosen s.line_break m after e f)
+          (λ is e b f. ap (λ (bs : List ℕ). first bs) (deep e) ∙ spaced_text page s.indent (chars v.value) chosen (mark_plain (not (has t)) (not v.quoted) chosen is) e R f) x text w T st right
           (subst (λ ts. Left text w.at (bytes ts)) (scalar_shape s o pretty.pretty around q v c R) l) in
       let U : List TokenBody → List TokenBody = λ bs. T (anchor_bodies v.anchor (tag_bodies o.directives t (mark_bodies k bs))) in
       let all = lines ls h.cursor m after level up ending x text h.place U h.stage h.right (subst (λ bs. Left text h.place.at bs) (deep h.cursor) h.left) in
-      let told = up_says x text after m (scalar_kept style v.value h.cursor.kept) ls _ (λ bs. T (node_bodies p false q bare (scalar_node v) bs)) all (λ bs. ap (λ ts. T ts) (scalar_said p q bare v bs)) in
-      subst (λ b. LinedUp x text after m b ls (λ bs. T (node_bodies p false q bare (scalar_node v) bs))) (ap (λ b. scalar_kept style v.value b) h.same ∙ scalar_keeps p q v c.kept) told;
+      let told = up_says x text after m (scalar_kept chosen v.value h.cursor.kept) ls _ (λ bs. T (node_bodies p false q bare (scalar_node v) bs)) all (λ bs. ap (λ ts. T ts) (scalar_said p q bare v bs)) in
+      subst (λ b. LinedUp x text after m b ls (λ bs. T (node_bodies p false q bare (scalar_node v) bs))) (ap (λ b. scalar_kept chosen v.value b) h.same ∙ scalar_keeps p q v c.kept) told;
   white = λ c m after white.
       let p = context_of s o.directives in
-      let style = style_at p false q v in
+      let chosen = style_at p false q v in
       let n = deeper s around in
       let page = page_at s (block_spot around q) in
       let R : Rest = λ e. line s.line_break m e after in
-      let a : Layout = scalar_text page s.indent false style (chars v.value) in
+      let a : Layout = scalar_text page s.indent false chosen (chars v.value) in
       ap (λ ts. begins_white (bytes ts)) (scalar_shape s o pretty.pretty around q v c R)
-      ∙ dress_white p v.anchor (scalar_tag false v) (marked p q v) c (λ e. (checked n ▹ a) e R) white (ap (λ bs. begins_white bs) (deep_bytes (nat_lt MOST n) (a c R)) ∙ text_white gaps page s.indent v.value u style s.line_break m after c white);
+      ∙ dress_white p v.anchor (scalar_tag false v) (marked p q v) c (λ e. (checked n ▹ a) e R) white (ap (λ bs. begins_white bs) (deep_bytes (nat_lt MOST n) (a c R)) ∙ text_white gaps page s.indent v.value u chosen s.line_break m after c white);
 }
 
 -- ---- aliases
 
 white_ends : (bs : List ℕ) → begins_white bs ≡ true → ends_name bs ≡ true
 white_ends [] e = refl
-white_ends (b ∷ bs) e = ap (λ (t : Bool). t || _) e
+white_ends (b ∷ bs) e = ap (λ (t : Bool). t || (b == 44 || (b == 93 || b == 125))) e
 
 alias_shape : (p : Context) (around : Option ℕ) (q : Part) (name : List ℕ) → is_simple_part q ≡ false → (c : Cursor) (R : Rest) → node_layout p (block_spot around q) (alias_node name) c R ≡ word (42 ∷ name) c R
 unfolding node_layout alias_layout

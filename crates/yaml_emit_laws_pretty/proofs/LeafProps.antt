@@ -1,5 +1,5 @@
 -- Properties as words: an anchor, a tag, and the `!` of an untagged scalar.
-use Rattle.std.proofs.Common.{◌≡◌, ℕ, ◌+◌, ◌/◌, ◌%◌, ◌<◌, ◌≤◌, ◌==◌, ◌&&◌, not, nat_lt, Bool, true, false, List, [], ◌∷◌, ◌++◌, length, Option, Some, None, refl, sym, ap, subst, ◌∙◌, inl, inr, arith, append_assoc}
+use Rattle.std.proofs.Common.{◌≡◌, ℕ, ◌+◌, ◌/◌, ◌%◌, ◌<◌, not, nat_lt, Bool, true, false, List, [], ◌∷◌, ◌++◌, length, Option, Some, None, refl, sym, ap, subst, ◌∙◌, inl, inr, arith, append_assoc}
 use Rattle.std.specs.Prelude.{if◌then◌else◌}
 use Rattle.std.proofs.lemmas.Bool.{cases_Bool}
 use Rattle.std.proofs.lemmas.Bool.Decides.{nat_tests}
@@ -13,7 +13,7 @@ use Rattle.yaml_emit_laws_text.specs.emit_layout.emit_text.Hex.{hex_2, hex_digit
 use Rattle.yaml_emit_laws_text.specs.emit_layout.emit_text.Layout.{Layout, Rest, ◌▹◌, stay, when, letters, word, blank}
 use Rattle.yaml_emit_laws_text.specs.emit_layout.emit_tags.Tags.{suffix_keeps, keeps_byte, uri_byte, uri_text, Split, shorthand, verbatim, spelled, split_tag}
 use Rattle.yaml_emit_laws_text.specs.emit_layout.Content.{Opening}
-use Rattle.yaml_emit_laws_text.specs.emit_layout.Nodes.{Context, context_of, anchor_text, tag_text, properties_text}
+use Rattle.yaml_emit_laws_text.specs.emit_layout.Nodes.{context_of, anchor_text, tag_text}
 use Rattle.yaml_emit_laws_text.specs.Bodies.{anchor_bodies, tag_bodies, mark_bodies}
 use Rattle.yaml_emit_laws_text.specs.TagsLaws.{IsShaped, IsReadable, are_ascii, IsMarked}
 use Rattle.yaml_emit_laws_text.specs.Walk.{bytes, first}

@@ -56,8 +56,8 @@ word_here d ls w bs x text q line now broken cs T reads clear right l fits =
     let z : q + 0 ≡ q = omega arith in
     let said : WordText = record { body = w.body; end = s.end; reached = s.reached; broke = s.broke } in
     let r = walk_word x text (spot_at q line d now broken) cs ls T w.kind [] said e false s.wide reads (clear (now || (false && broken)) (λ h. no_more now broken h) w.kind w.plain)
-        (stands_comes d (indent ls) w.kind w.body text q e bs (omega arith) s) (t.stays d) (subst (λ i. IsRight d ls (column_at text i)) (sym z) right)
-        (λ v. absurd (never (sym t.lone ∙ v))) (stands_leaves d (indent ls) w.kind w.body text q e bs t s) in
+    (stands_comes d (indent ls) w.kind w.body text q e bs (omega arith) s) (t.stays d) (subst (λ i. IsRight d ls (column_at text i)) (sym z) right)
+    (λ v. absurd (never (sym t.lone ∙ v))) (stands_leaves d (indent ls) w.kind w.body text q e bs t s) in
     record {
       line = line_at text (q + 0);
       wide = s.wide;

@@ -1,12 +1,11 @@
 pub mod Lining
 pub mod Entries
+pub mod KeyColumns
 pub mod Plains
 pub mod Following
 pub mod PlainLayouts
-pub mod KeysWalk
 pub mod Singles
 pub mod KeysShow
-pub mod KeysShown
 pub mod SpokenWords
 pub mod SpokenLayouts
 pub mod FlowSteps
@@ -31,10 +30,10 @@ pub mod FlowNodes
 pub mod KeySteps
 pub mod LeafWords
 pub mod LeafProps
-pub mod KeyColumns
 pub mod KeyForms
 pub mod KeyKinds
 pub mod KeyLeaves
 pub mod LeafDress
 pub mod LeafNodes
 pub mod FlowBlocks
+pub mod Whole

@@ -1,13 +1,9 @@
 //! Each function's contract is a law.
 
 ghost use Rattle.yaml_emit_laws_pretty.specs.Walk.{LineEndsNode, LineIsWalked, MarkIsWalked, PlainIsWalked, SingleIsWalked};
-ghost use Rattle.yaml_emit_laws_pretty.specs.KeyLaws.{KeyIsShown, KeyIsWalked};
 ghost use Rattle.yaml_emit_laws_pretty.specs.Nodes.{NodesFollow, ShownEnds};
 
-use yaml_emit_laws_scalars::{
-    near_is_fresh, plain_has_a_gap, plain_stands, scalars_are_words, simple_keys_are_near,
-    single_stands, styles_are_allowed,
-};
+use yaml_emit_laws_scalars::{plain_has_a_gap, plain_stands, scalars_are_words, single_stands};
 
 /// A line leads to its column, by a break and spaces or by spaces alone.
 pub fn line_is_walked()
@@ -38,31 +34,12 @@ pub fn plain_is_walked()
     scalars_are_words();
 }
 
-/// A plain simple key and its `:` are walked.
-pub fn key_is_walked()
-    ensures { KeyIsWalked }
-{
-    plain_has_a_gap();
-    scalars_are_words();
-    styles_are_allowed();
-    simple_keys_are_near();
-    near_is_fresh();
-}
-
 /// A single quoted scalar is walked as content.
 pub fn single_is_walked()
     ensures { SingleIsWalked }
 {
     single_stands();
     scalars_are_words();
-}
-
-/// What a plain simple key writes begins with neither white nor a comment.
-pub fn key_is_shown()
-    ensures { KeyIsShown }
-{
-    plain_has_a_gap();
-    styles_are_allowed();
 }
 
 /// Block collections are walked, with their properties, where leaves, brackets, properties and simple keys are.

@@ -6,7 +6,7 @@ pub mod Lines
 pub mod Letters
 pub mod Writing
 mod Shown
-mod Single
+pub mod Single
 pub mod PlainStart
 pub mod PlainLaw
 pub mod Stopping
@@ -14,5 +14,5 @@ pub mod Near
 pub mod OneLine
 pub mod NearKeys
 pub mod Solid
-mod Styles
-mod Stands
+pub mod Styles
+pub mod Stands

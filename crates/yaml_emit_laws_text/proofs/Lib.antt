@@ -3,7 +3,7 @@ pub mod Values
 pub mod Bytes
 mod QuotedReading
 mod Turns
-mod Parts
+pub mod Parts
 pub mod Escapes
 mod Kept
 pub mod Back

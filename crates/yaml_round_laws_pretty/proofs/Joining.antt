@@ -91,7 +91,7 @@ begins_so w pretty from input x whole stream =
     let (flags, fine) = inputs_flags from input stream.encoding stream.documents stream.same in
     sym (is_told (settled w stream.encoding) pretty stream.encoding stream.documents flags) ∙ ap (λ (es : List Event). begins_with_nothing es) (sym stream.same)
 
-read_back : PrettyTextIsRead → PrettyReadsBack
+pub read_back : PrettyTextIsRead → PrettyReadsBack
 read_back law w pretty from input some x whole stream =
     let t = taken law w pretty from input x whole stream in
     let (flags, fine) = inputs_flags from input stream.encoding stream.documents stream.same in
@@ -99,7 +99,7 @@ read_back law w pretty from input some x whole stream =
     let (says, right) = tokens_say (settled w stream.encoding) (events_of from input) stream.encoding t.encoding stream.documents stream.same flags (inputs_parsable w from input x whole stream) begins t.tokens t.same in
     (t.ending ∙ right, t.says ∙ says)
 
-lost : PrettyTextIsRead → PrettyIsLost
+pub lost : PrettyTextIsRead → PrettyIsLost
 lost law w pretty from input none x whole stream (right, said) =
     let t = taken law w pretty from input x whole stream in
     let (flags, fine) = inputs_flags from input stream.encoding stream.documents stream.same in

@@ -10,6 +10,7 @@ mod InputFlags
 mod InputPremises
 mod InputTexts
 pub mod Joining
+pub mod Theorem
 mod JsonInputs
 mod Fitting
 mod Layouts

@@ -1,0 +1,61 @@
+-- The law of pretty text, joined from the laws beneath.
+use Rattle.yaml_scan_laws_texts.proofs.NamesRead.{anchor_is_read}
+use Rattle.yaml_scan_laws_texts.proofs.Lines.{lone_mark_is_read}
+use Rattle.yaml_scan_laws_texts.proofs.Directives.{version_is_read}
+use Rattle.yaml_emit_laws_text.proofs.QuotedWhole.{quoted_is_back}
+use Rattle.yaml_emit_laws_text.proofs.Parts.{single_spelling_reads}
+use Rattle.yaml_emit_laws_text.proofs.TagsReading.{split_read}
+use Rattle.yaml_emit_laws_text.proofs.Joining.{written_readable, written_directives}
+use Rattle.yaml_emit_laws_text.proofs.Ascii.{spelled_ascii, directive_ascii}
+use Rattle.yaml_emit_laws_text.proofs.TagsLines.{directive_read}
+use Rattle.yaml_emit_laws_scalars.proofs.Single.{single_back}
+use Rattle.yaml_emit_laws_scalars.proofs.PlainLaw.{plain_back}
+use Rattle.yaml_emit_laws_scalars.proofs.Styles.{styles_allowed}
+use Rattle.yaml_emit_laws_scalars.proofs.Stands.{has_gap, stands, are_words, quoted_stands}
+use Rattle.yaml_emit_laws_pretty.specs.Nodes.{NodesAreWalked, LeavesAreWalked, BlockScalarsAreWalked, BracketsAreWalked, PropertiesAreWalked, SimpleKeysAreWalked}
+use Rattle.yaml_emit_laws_pretty.specs.Flows.{KeysAreWalkedIn}
+use Rattle.yaml_emit_laws_pretty.specs.DocLaws.{PrettyTextIsRead}
+use Rattle.yaml_emit_laws_pretty.proofs.Plains.{plain_on}
+use Rattle.yaml_emit_laws_pretty.proofs.Singles.{single_on}
+use Rattle.yaml_emit_laws_pretty.proofs.LeafNodes.{leaves_on, blocks_on}
+use Rattle.yaml_emit_laws_pretty.proofs.LeafDress.{properties_on}
+use Rattle.yaml_emit_laws_pretty.proofs.KeyLeaves.{keys_walk, keys_walk_in}
+use Rattle.yaml_emit_laws_pretty.proofs.FlowBlocks.{brackets_walk}
+use Rattle.yaml_emit_laws_pretty.proofs.NodeWalks.{nodes_walk}
+use Rattle.yaml_emit_laws_pretty.proofs.DocText.{documents_read}
+
+leaves : LeavesAreWalked
+leaves = leaves_on (plain_on has_gap stands are_words) (single_on (quoted_stands single_spelling_reads) are_words) quoted_is_back styles_allowed has_gap
+
+blocks : BlockScalarsAreWalked
+blocks = blocks_on has_gap
+
+properties : PropertiesAreWalked
+properties = properties_on
+
+keys : SimpleKeysAreWalked
+keys = keys_walk (record { gaps = has_gap; words = are_words; singles = single_back single_spelling_reads; styles = styles_allowed })
+
+keys_in : KeysAreWalkedIn
+keys_in = keys_walk_in (record { gaps = has_gap; words = are_words; singles = single_back single_spelling_reads; styles = styles_allowed })
+
+brackets : BracketsAreWalked
+brackets = brackets_walk (record {
+  names = anchor_is_read;
+  lone = lone_mark_is_read;
+  split = split_read;
+  ascii = spelled_ascii;
+  readable = written_readable;
+  quoted = quoted_is_back;
+  singles = single_back single_spelling_reads;
+  plains = plain_back;
+  gaps = has_gap;
+  words = are_words;
+  styles = styles_allowed;
+}) keys_in properties
+
+pub nodes_are_walked : NodesAreWalked
+nodes_are_walked = nodes_walk leaves blocks brackets properties keys
+
+pub text_is_read : PrettyTextIsRead
+text_is_read = documents_read (record { versions = version_is_read; reads = directive_read; ascii = directive_ascii; readable = written_directives }) nodes_are_walked

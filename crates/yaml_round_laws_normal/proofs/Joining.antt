@@ -9,34 +9,26 @@ use Rattle.yaml_emit_laws_text.specs.scan_history.Remaining.{Remaining}
 use Rattle.yaml_emit_laws_text.specs.scan_history.Scanned.{scanned, scanned_in}
 use Rattle.yaml_emit_laws_text.specs.emit_layout.emit_text.Settings.{settled, settled_indent}
 use Rattle.yaml_emit_laws_text.specs.emit_layout.emit_text.declared.RequestedSettings.{RequestedSettings}
-use Rattle.yaml_emit_laws_text.specs.TagsLaws.{WrittenTagsAreReadable}
 use Rattle.yaml_round_content.specs.Events.{contents}
 use Rattle.yaml_round_content.specs.Input.{events_of, ending_of, read, parsed, tokens_of}
 use Rattle.yaml_round_content.specs.Said.{Document, stream_says}
-use Rattle.yaml_round_content.specs.ContentLaws.{SaysIsInjective}
-use Rattle.yaml_round_content.specs.WritableLaws.{InputsAreWritable}
 use Rattle.yaml_round_laws_adapted.specs.Adapted.{adapted}
 use Rattle.yaml_round_laws_documents.specs.BytesLaws.{canonical_text, encoding_named}
 use Rattle.yaml_round_laws_documents.specs.TreeLaws.{parsed_of}
 use Rattle.yaml_round_laws_documents.specs.Adapting.{without_fault}
-use Rattle.yaml_emit_laws_pretty.specs.DocLaws.{PrettyTextIsRead}
-use Rattle.yaml_round_laws_pretty.specs.Laws.{PrettyBytesDecode}
-use Rattle.yaml_round_laws_pretty.specs.TokenLaws.{PrettyTokensAreParsed, PrettyTokensPass}
+use Rattle.yaml_emit_laws_text.proofs.Joining.{written_readable}
+use Rattle.yaml_emit_laws_pretty.proofs.Whole.{text_is_read}
+use Rattle.yaml_round_content.proofs.Injective.{says_injective}
+use Rattle.yaml_round_content.proofs.WritableContents.{are_writable as inputs_writable}
+use Rattle.yaml_round_laws_pretty.proofs.Bytes.{bytes_decode}
 use Rattle.yaml_round_laws_pretty.proofs.Contents.{content, contents_by, stream_same}
+use Rattle.yaml_round_laws_pretty.proofs.Documents.{tokens_parsed}
+use Rattle.yaml_round_laws_pretty.proofs.Passing.{tokens_pass}
 use Rattle.yaml_round_laws_normal.specs.Readable.{readable_documents, readable}
-use Rattle.yaml_round_laws_normal.specs.Laws.{ReadableReadsBack, ReadableTellsContents, ReadableIsRead, ReadableTellsInputs, ReadableFollows}
+use Rattle.yaml_round_laws_normal.specs.Laws.{ReadableReadsBack, ReadableTellsContents, ReadableIsRead, ReadableTellsInputs}
 use Rattle.yaml_round_laws_normal.proofs.Premises.{are_writable, are_spellable, have_texts, are_parsable}
 use Rattle.yaml_round_laws_normal.proofs.Saying.{have_flags, stream_said}
 use Rattle.yaml_round_laws_normal.proofs.Starting.{starts_with_something}
-
--- the laws of lower crates that it stands on
-pub record Beneath : Type 0 where
-  pub readable : WrittenTagsAreReadable
-  pub writable : InputsAreWritable
-  pub injective : SaysIsInjective
-  pub decode : PrettyBytesDecode
-  pub parsed : PrettyTokensAreParsed
-  pub pass : PrettyTokensPass
 
 two_at_least : (n : ℕ) → 2 ≤ (if nat_le 2 n && nat_le n 9 then n else 2)
 two_at_least n = grind (arith, nat_tests)
@@ -60,39 +52,33 @@ contents_are : (from : yaml_encoding_t) (input : List ℕ) → contents (events_
 unfolding read
 contents_are from input = refl
 
-reads_back : Beneath → PrettyTextIsRead → ReadableReadsBack
-reads_back laws law w pretty c h =
+pub reads_back : ReadableReadsBack
+reads_back w pretty c h =
     let s = settled w YAML_ANY_ENCODING in
     let ds = readable_documents c in
     let y = encoding_named s.encoding in
     let bytes = readable w c in
     let fine = are_parsable true c h in
-    let (text, told) = laws.decode s ds (are_writable true c h) (are_spellable true c h) in
-    let r = law s pretty (least w.indent) (most w.indent) y ds (are_writable true c h) in
+    let (text, told) = bytes_decode s ds (are_writable true c h) (are_spellable true c h) in
+    let r = text_is_read s pretty (least w.indent) (most w.indent) y ds (are_writable true c h) in
     let detected : scanned YAML_ANY_ENCODING bytes ≡ scanned_in y (decoded_text YAML_ANY_ENCODING bytes) = ap (λ (z : yaml_encoding_t). scanned_in z (decoded_text YAML_ANY_ENCODING bytes)) told in
     let decoded : scanned_in y (decoded_text YAML_ANY_ENCODING bytes) ≡ scanned_in y (Ok (canonical_text s ds)) = ap (λ (t : _). scanned_in y t) text in
-    let passed : tokens_of YAML_ANY_ENCODING bytes ≡ without_fault r.tokens = ap (λ (t : Remaining). adapted t) (detected ∙ decoded ∙ r.read) ∙ laws.pass s y ds (have_texts laws.readable true c h) r.tokens r.same in
-    let (events, ending) = laws.parsed s y ds fine (starts_with_something s pretty c) r.tokens r.same in
+    let passed : tokens_of YAML_ANY_ENCODING bytes ≡ without_fault r.tokens = ap (λ (t : Remaining). adapted t) (detected ∙ decoded ∙ r.read) ∙ tokens_pass s y ds (have_texts written_readable true c h) r.tokens r.same in
+    let (events, ending) = tokens_parsed s y ds fine (starts_with_something s pretty c) r.tokens r.same in
     let says : contents (parsed_of r.tokens).events ≡ stream_says c = contents_by (parsed_of r.tokens).events ∙ ap (λ (bs : List EventBody). map content bs) events ∙ stream_same s y y ds (have_flags true c) fine ∙ stream_said y c in
     record {
       right = ending_is YAML_ANY_ENCODING bytes ∙ ap (λ (t : Remaining). (parsed t).ending) passed ∙ ending;
       says = contents_are YAML_ANY_ENCODING bytes ∙ ap (λ (t : Remaining). contents (parsed t).events) passed ∙ says;
     }
 
-tells : Beneath → ReadableReadsBack → ReadableTellsContents
-tells laws law w pretty c e hc he same =
-    let says : stream_says c ≡ contents (events_of YAML_ANY_ENCODING (readable w c)) = sym (law w pretty c hc).says in
+pub tells : ReadableTellsContents
+tells w pretty c e hc he same =
+    let says : stream_says c ≡ contents (events_of YAML_ANY_ENCODING (readable w c)) = sym (reads_back w pretty c hc).says in
     let turned = ap (λ (t : List ℕ). contents (events_of YAML_ANY_ENCODING t)) same in
-    laws.injective c e (says ∙ turned ∙ (law w pretty e he).says)
+    says_injective c e (says ∙ turned ∙ (reads_back w pretty e he).says)
 
-is_read : Beneath → ReadableReadsBack → ReadableIsRead
-is_read laws law from input c h w pretty = law w pretty c (laws.writable from input c h)
+pub is_read : ReadableIsRead
+is_read from input c h w pretty = reads_back w pretty c (inputs_writable from input c h)
 
-tells_inputs : Beneath → ReadableTellsContents → ReadableTellsInputs
-tells_inputs laws law w pretty a_from b_from a b c e h k same = law w pretty c e (laws.writable a_from a c h) (laws.writable b_from b e k) same
-
-pub follows : Beneath → ReadableFollows
-follows laws text =
-    let back = reads_back laws text in
-    let told = tells laws back in
-    (back, told, is_read laws back, tells_inputs laws told)
+pub tells_inputs : ReadableTellsInputs
+tells_inputs w pretty a_from b_from a b c e h k same = tells w pretty c e (inputs_writable a_from a c h) (inputs_writable b_from b e k) same

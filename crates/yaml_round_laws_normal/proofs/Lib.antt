@@ -1,5 +1,5 @@
 mod Premises
 mod Saying
 mod Starting
-mod Joining
-mod Restyling
+pub mod Joining
+pub mod Restyling

@@ -13,7 +13,7 @@ use Rattle.yaml_emit_laws_text.specs.emit_layout.Grammar.{or_else, kept_tag, nam
 use Rattle.yaml_round_laws_documents.specs.back_canon.scan.Classes.{is_alpha_byte}
 use Rattle.yaml_round_content.specs.Said.{Mark, untagged, tagged, Node, alias, scalar, sequence, mapping, Nodes, no_nodes, node, Pairs, no_pairs, pair, Document, scalar_says, node_says, items_say, pairs_say, documents_say, stream_says}
 use Rattle.yaml_round_content.specs.Writable.{IsName, IsAnchor, IsTag, IsMark, IsWritable, AreItemsWritable, ArePairsWritable, AreWritable}
-use Rattle.yaml_round_content.specs.WritableLaws.{InputsAreWritable}
+use Rattle.yaml_round_content.proofs.WritableContents.{are_writable as inputs_writable}
 use Rattle.yaml_round_laws_normal.specs.Readable.{readable_scalar, readable_start, readable_node, readable_nodes, readable_pairs, is_unmarked, documents_from, readable_documents}
 use Rattle.yaml_round_laws_normal.specs.Restyled.{Place, Before, Starts, Within, root_place, next_place, mark_by, readable_event, readable_events, ReadableIsLaidOut}
 
@@ -131,14 +131,14 @@ stream_right c h = documents_right true c h
 
 -- ---- laid out
 
-pub laid_out : InputsAreWritable → ReadableIsLaidOut
-laid_out writable w pretty from input c h =
+pub laid_out : ReadableIsLaidOut
+laid_out w pretty from input c h =
     let same = ap (λ (es : List EventBody). readable_events Before es) h.says ∙ stream_styled c in
     record {
       encoding = YAML_ANY_ENCODING;
       documents = readable_documents c;
       coded = refl;
       same = same;
-      right = ap (λ (es : List emit.Event). own_problems w.canonical es) same ∙ ap (λ (b : Bool). own_problems b (emit.stream_events YAML_ANY_ENCODING (readable_documents c))) pretty ∙ stream_right c (writable from input c h);
+      right = ap (λ (es : List emit.Event). own_problems w.canonical es) same ∙ ap (λ (b : Bool). own_problems b (emit.stream_events YAML_ANY_ENCODING (readable_documents c))) pretty ∙ stream_right c (inputs_writable from input c h);
       is = refl;
     }

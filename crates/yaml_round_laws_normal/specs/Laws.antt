@@ -1,11 +1,10 @@
--- The text that people read reads back, and is a normal form of contents, where pretty text is read as its tokens.
+-- The text that people read reads back, and is a normal form of contents.
 use Rattle.std.specs.Prelude.{◌≡◌, ℕ, false, List}
 use Rattle.yaml_round_content.specs.scan_model.declared.yaml_encoding_t.{yaml_encoding_t}
 use Rattle.yaml_round_content.specs.scan_model.declared.yaml_encoding_t.TheVariants.{YAML_ANY_ENCODING}
 use Rattle.yaml_round_content.specs.emit_text.declared.RequestedSettings.{RequestedSettings}
 use Rattle.yaml_round_content.specs.Said.{Document, HasContent}
 use Rattle.yaml_round_content.specs.Writable.{AreWritable}
-use Rattle.yaml_emit_laws_pretty.specs.DocLaws.{PrettyTextIsRead}
 use Rattle.yaml_round_laws_normal.specs.Readable.{readable}
 
 -- It is accepted, and says the content, whatever else is set.
@@ -32,8 +31,3 @@ abbrev pub ReadableTellsInputs : Type 0
 ReadableTellsInputs = (w : RequestedSettings) → w.canonical ≡ false
     → (a_from b_from : yaml_encoding_t) (a b : List ℕ) (c e : List Document)
     → HasContent a_from a c → HasContent b_from b e → readable w c ≡ readable w e → c ≡ e
-
--- All four follow from the law of text.
-abbrev pub ReadableFollows : Type 0
-ReadableFollows = PrettyTextIsRead → ReadableReadsBack × ReadableTellsContents × ReadableIsRead
-    × ReadableTellsInputs

@@ -1,19 +1,34 @@
-//! Each function's contract is a law. A body cites laws of lower crates.
+//! Each function's contract is a law.
 
-ghost use Rattle.yaml_round_laws_normal.specs.Laws.{ReadableFollows};
+ghost use Rattle.yaml_round_laws_normal.specs.Laws.{
+  ReadableIsRead,
+  ReadableReadsBack,
+  ReadableTellsContents,
+  ReadableTellsInputs,
+};
+ghost use Rattle.yaml_round_laws_normal.specs.Restyled.{ReadableIsLaidOut};
 
-use yaml_emit_laws_text::written_tags_are_readable;
-use yaml_round_content::{inputs_are_writable, says_is_injective};
-use yaml_round_laws_pretty::{pretty_bytes_decode, pretty_tokens_are_parsed, pretty_tokens_pass};
+/// The text that people read is accepted, and says its content: under all settings of pretty form.
+pub fn readable_reads_back()
+    ensures { ReadableReadsBack }
+{}
 
-/// Where pretty text is read as its tokens, the text that people read says its content, and no other content has it.
-pub fn readable_follows()
-    ensures { ReadableFollows }
-{
-    written_tags_are_readable();
-    inputs_are_writable();
-    says_is_injective();
-    pretty_bytes_decode();
-    pretty_tokens_are_parsed();
-    pretty_tokens_pass();
-}
+/// Contents with one such text are one.
+pub fn readable_tells_contents()
+    ensures { ReadableTellsContents }
+{}
+
+/// That text of what an accepted input says is accepted, with its encoding detected, and says exactly that.
+pub fn readable_is_read()
+    ensures { ReadableIsRead }
+{}
+
+/// Inputs whose contents have one such text have one content.
+pub fn readable_tells_inputs()
+    ensures { ReadableTellsInputs }
+{}
+
+/// For an input's events, each with the style that the content decides, that text is what is laid out.
+pub fn readable_is_laid_out()
+    ensures { ReadableIsLaidOut }
+{}

@@ -4,4 +4,7 @@
 
 mod laws;
 
-pub use laws::readable_follows;
+pub use laws::{
+    readable_is_laid_out, readable_is_read, readable_reads_back, readable_tells_contents,
+    readable_tells_inputs,
+};

@@ -1,8 +1,8 @@
 mod Dressing
 mod Nodes
 mod Directives
-mod Documents
-mod Passing
+pub mod Documents
+pub mod Passing
 pub mod Contents
 mod Saying
 mod Lost
@@ -15,5 +15,5 @@ mod JsonInputs
 mod Fitting
 mod Layouts
 mod Marks
-mod Bytes
+pub mod Bytes
 mod Encoding

@@ -10,7 +10,7 @@ use Rattle.yaml_emit_laws_text.specs.emit_layout.emit_text.Style.{allowed, taken
 use Rattle.yaml_emit_laws_text.specs.emit_layout.declared.level.Part.TheVariants as part
 use Rattle.yaml_emit_laws_text.specs.emit_layout.Content as emit
 use Rattle.yaml_emit_laws_text.specs.emit_layout.Grammar.{has, scalar_tag}
-use Rattle.yaml_emit_laws_text.specs.emit_layout.Nodes.{Context, is_plain, is_marked, has_version, has_directives}
+use Rattle.yaml_emit_laws_text.specs.emit_layout.Nodes.{Context, is_plain, style_of, is_marked, has_version, has_directives}
 use Rattle.yaml_round_content.specs.scan_model.declared.yaml_scalar_style_t.{yaml_scalar_style_t}
 use Rattle.yaml_round_content.specs.scan_model.declared.yaml_scalar_style_t.TheVariants.{YAML_PLAIN_SCALAR_STYLE, YAML_SINGLE_QUOTED_SCALAR_STYLE}
 use Rattle.yaml_round_content.specs.Said.{Mark, untagged, tagged, Node, alias, scalar, sequence, mapping, Document}
@@ -30,9 +30,9 @@ single_not_plain a = by a.single
     by true = refl
     by false = refl
 
-taken_single : (a : Allowed) (untagged flow simple empty : Bool) → is_plain (taken a YAML_SINGLE_QUOTED_SCALAR_STYLE untagged flow simple empty) ≡ false
+taken_single : (a : Allowed) (fits flow simple empty : Bool) → is_plain (taken a YAML_SINGLE_QUOTED_SCALAR_STYLE fits flow simple empty) ≡ false
 unfolding taken
-taken_single a untagged flow simple empty = single_not_plain a
+taken_single a fits flow simple empty = single_not_plain a
 
 -- a scalar that is asked for in single quotes isn't plain
 asked_single : (p : Context) (x : emit.Scalar) → p.settings.canonical ≡ false → x.style ≡ YAML_SINGLE_QUOTED_SCALAR_STYLE → is_plain (style_at p false part.Item x) ≡ false

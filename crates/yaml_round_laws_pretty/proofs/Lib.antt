@@ -1,9 +1,9 @@
 mod Dressing
 mod Nodes
 mod Directives
-mod Documents
-mod Passing
-mod Contents
+pub mod Documents
+pub mod Passing
+pub mod Contents
 mod Saying
 mod Lost
 mod InputFlags
@@ -15,6 +15,5 @@ pub mod JsonInputs
 mod Fitting
 mod Layouts
 mod Marks
-mod Bytes
+pub mod Bytes
 mod Encoding
-pub mod Theorem

@@ -1,0 +1,84 @@
+-- The text that people read decodes to a text whose tokens pass the adapter and are parsed as the content.
+use Rattle.std.proofs.Common.{◌≡◌, ℕ, ◌≤◌, true, false, ◌&&◌, nat_le, if◌then◌else◌, List, ◌∷◌, map, Ok, refl, sym, ap, ◌∙◌, ℤ, pos, negsuc, arith}
+use Rattle.std.proofs.lemmas.Bool.Decides.{nat_tests}
+use Rattle.yaml_parse_grammar.specs.parse_model.declared.yaml_encoding_t.{yaml_encoding_t}
+use Rattle.yaml_parse_grammar.specs.parse_model.declared.yaml_encoding_t.TheVariants.{YAML_ANY_ENCODING}
+use Rattle.yaml_parse_grammar.specs.parse_model.Events.{EventBody}
+use Rattle.yaml_round_laws_documents.specs.scan_decode.Decoding.{decoded_text}
+use Rattle.yaml_emit_laws_text.specs.scan_history.Remaining.{Remaining}
+use Rattle.yaml_emit_laws_text.specs.scan_history.Scanned.{scanned, scanned_in}
+use Rattle.yaml_emit_laws_text.specs.emit_layout.emit_text.Settings.{settled, settled_indent}
+use Rattle.yaml_emit_laws_text.specs.emit_layout.emit_text.declared.RequestedSettings.{RequestedSettings}
+use Rattle.yaml_round_content.specs.Events.{contents}
+use Rattle.yaml_round_content.specs.Input.{events_of, ending_of, read, parsed, tokens_of}
+use Rattle.yaml_round_content.specs.Said.{Document, stream_says}
+use Rattle.yaml_round_laws_adapted.specs.Adapted.{adapted}
+use Rattle.yaml_round_laws_documents.specs.BytesLaws.{canonical_text, encoding_named}
+use Rattle.yaml_round_laws_documents.specs.TreeLaws.{parsed_of}
+use Rattle.yaml_round_laws_documents.specs.Adapting.{without_fault}
+use Rattle.yaml_emit_laws_text.proofs.Joining.{written_readable}
+use Rattle.yaml_emit_laws_pretty.proofs.Whole.{text_is_read}
+use Rattle.yaml_round_content.proofs.Injective.{says_injective}
+use Rattle.yaml_round_content.proofs.WritableContents.{are_writable as inputs_writable}
+use Rattle.yaml_round_laws_pretty.proofs.Bytes.{bytes_decode}
+use Rattle.yaml_round_laws_pretty.proofs.Contents.{content, contents_by, stream_same}
+use Rattle.yaml_round_laws_pretty.proofs.Documents.{tokens_parsed}
+use Rattle.yaml_round_laws_pretty.proofs.Passing.{tokens_pass}
+use Rattle.yaml_round_laws_normal.specs.Readable.{readable_documents, readable}
+use Rattle.yaml_round_laws_normal.specs.Laws.{ReadableReadsBack, ReadableTellsContents, ReadableIsRead, ReadableTellsInputs}
+use Rattle.yaml_round_laws_normal.proofs.Premises.{are_writable, are_spellable, have_texts, are_parsable}
+use Rattle.yaml_round_laws_normal.proofs.Saying.{have_flags, stream_said}
+use Rattle.yaml_round_laws_normal.proofs.Starting.{starts_with_something}
+
+two_at_least : (n : ℕ) → 2 ≤ (if nat_le 2 n && nat_le n 9 then n else 2)
+two_at_least n = grind (arith, nat_tests)
+
+nine_at_most : (n : ℕ) → (if nat_le 2 n && nat_le n 9 then n else 2) ≤ 9
+nine_at_most n = grind (arith, nat_tests)
+
+least : (n : ℤ) → 2 ≤ settled_indent n
+least (pos n) = two_at_least n
+least (negsuc n) = two_at_least 0
+
+most : (n : ℤ) → settled_indent n ≤ 9
+most (pos n) = nine_at_most n
+most (negsuc n) = nine_at_most 0
+
+ending_is : (from : yaml_encoding_t) (input : List ℕ) → ending_of from input ≡ (parsed (tokens_of from input)).ending
+unfolding read
+ending_is from input = refl
+
+contents_are : (from : yaml_encoding_t) (input : List ℕ) → contents (events_of from input) ≡ contents (parsed (tokens_of from input)).events
+unfolding read
+contents_are from input = refl
+
+pub reads_back : ReadableReadsBack
+reads_back w pretty c h =
+    let s = settled w YAML_ANY_ENCODING in
+    let ds = readable_documents c in
+    let y = encoding_named s.encoding in
+    let bytes = readable w c in
+    let fine = are_parsable true c h in
+    let (text, told) = bytes_decode s ds (are_writable true c h) (are_spellable true c h) in
+    let r = text_is_read s pretty (least w.indent) (most w.indent) y ds (are_writable true c h) in
+    let detected : scanned YAML_ANY_ENCODING bytes ≡ scanned_in y (decoded_text YAML_ANY_ENCODING bytes) = ap (λ (z : yaml_encoding_t). scanned_in z (decoded_text YAML_ANY_ENCODING bytes)) told in
+    let decoded : scanned_in y (decoded_text YAML_ANY_ENCODING bytes) ≡ scanned_in y (Ok (canonical_text s ds)) = ap (λ (t : _). scanned_in y t) text in
+    let passed : tokens_of YAML_ANY_ENCODING bytes ≡ without_fault r.tokens = ap (λ (t : Remaining). adapted t) (detected ∙ decoded ∙ r.read) ∙ tokens_pass s y ds (have_texts written_readable true c h) r.tokens r.same in
+    let (events, ending) = tokens_parsed s y ds fine (starts_with_something s pretty c) r.tokens r.same in
+    let says : contents (parsed_of r.tokens).events ≡ stream_says c = contents_by (parsed_of r.tokens).events ∙ ap (λ (bs : List EventBody). map content bs) events ∙ stream_same s y y ds (have_flags true c) fine ∙ stream_said y c in
+    record {
+      right = ending_is YAML_ANY_ENCODING bytes ∙ ap (λ (t : Remaining). (parsed t).ending) passed ∙ ending;
+      says = contents_are YAML_ANY_ENCODING bytes ∙ ap (λ (t : Remaining). contents (parsed t).events) passed ∙ says;
+    }
+
+pub tells : ReadableTellsContents
+tells w pretty c e hc he same =
+    let says : stream_says c ≡ contents (events_of YAML_ANY_ENCODING (readable w c)) = sym (reads_back w pretty c hc).says in
+    let turned = ap (λ (t : List ℕ). contents (events_of YAML_ANY_ENCODING t)) same in
+    says_injective c e (says ∙ turned ∙ (reads_back w pretty e he).says)
+
+pub is_read : ReadableIsRead
+is_read from input c h w pretty = reads_back w pretty c (inputs_writable from input c h)
+
+pub tells_inputs : ReadableTellsInputs
+tells_inputs w pretty a_from b_from a b c e h k same = tells w pretty c e (inputs_writable a_from a c h) (inputs_writable b_from b e k) same

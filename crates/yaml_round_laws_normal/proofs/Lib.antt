@@ -1,0 +1,5 @@
+mod Premises
+mod Saying
+mod Starting
+pub mod Joining
+pub mod Restyling

@@ -1,0 +1,172 @@
+-- What reading back asks of a content's documents, from what may be written.
+use Rattle.std.proofs.Common.{◌≡◌, inl, inr, ℕ, Bool, false, ◌&&◌, List, [], ◌∷◌, Option, Some, None, refl, sym, ap, ◌∙◌, codes}
+use Rattle.std.specs.List.{list_all}
+use Rattle.std.specs.Str.{IsUtf8, bytes_eq}
+use Rattle.std.proofs.lemmas.Bool.{cases_Bool}
+use Rattle.std.proofs.lemmas.Slice.Eq.{bytes_eq-Decides}
+use Rattle.yaml_round_laws_documents.specs.back_canon.scan.Classes.{is_alpha_byte}
+use Rattle.yaml_round_laws_documents.specs.back_canon.scan_history.scan_words.Written.{are_alphas}
+use Rattle.yaml_round_laws_documents.specs.parse_grammar.parse_model.Events.{TagDirective}
+use Rattle.yaml_round_laws_documents.specs.back_canon.emit_layout.Content.{Opening}
+use Rattle.yaml_round_laws_documents.specs.back_canon.emit_layout.Grammar.{opening_problem}
+use Rattle.yaml_round_content.specs.Said.{Mark, untagged, tagged, Node, alias, scalar, sequence, mapping, Nodes, no_nodes, node, Pairs, no_pairs, pair, Document}
+use Rattle.yaml_round_laws_normal.specs.Readable.{readable_scalar, readable_node, readable_nodes, readable_pairs, readable_document, is_unmarked, documents_from}
+use Rattle.yaml_emit_laws_text.specs.TagsLaws.{HaveUtf8, WrittenTagsAreReadable}
+use Rattle.yaml_emit_laws_text.specs.Writable as text
+use Rattle.yaml_round_laws_documents.specs.BytesLaws as bytes
+use Rattle.yaml_round_laws_documents.specs.TreeLaws.{IsNoMark, HasNoMark, HaveNoMark, PairsHaveNoMark, AreParsable}
+use Rattle.yaml_round_laws_documents.specs.Adapting.{IsReadableTag, IsTagged, AreTagged, PairsAreTagged, HaveTexts}
+use Rattle.yaml_round_content.specs.Writable.{IsName, IsAnchor, IsTag, IsMark, IsWritable, AreItemsWritable, ArePairsWritable, HavePrefixes, AreWritable}
+
+-- ---- the text
+
+alphas_are : (bs : List ℕ) → list_all is_alpha_byte bs ≡ are_alphas bs
+alphas_are [] = refl
+alphas_are (b ∷ bs) = ap (λ (more : Bool). is_alpha_byte b && more) (alphas_are bs)
+
+text_name : (name : List ℕ) → IsName name → text.IsWritableName name
+text_name name (some, alphas) = (some, sym (alphas_are name) ∙ alphas)
+
+text_anchor : (anchor : Option (List ℕ)) → IsAnchor anchor → text.IsWritableAnchor anchor
+text_anchor None h = tt
+text_anchor (Some name) h = text_name name h
+
+text_tag : (tag : Option (List ℕ)) → IsTag tag → text.IsWritableTag tag
+text_tag None h = tt
+text_tag (Some t) h = h
+
+text_scalar : (b : Bool) → (anchor : Option (List ℕ)) (mark : Mark) (value : List ℕ) → IsAnchor anchor → IsMark mark → IsUtf8 value → text.IsWritable (readable_node b (scalar anchor mark value))
+text_scalar b anchor (untagged plain) value a m v = (text_anchor anchor a, tt, v)
+text_scalar b anchor (tagged t) value a (m, other) v = (text_anchor anchor a, m, v)
+
+mutual
+  text_node : (b : Bool) (n : Node) → IsWritable n → text.IsWritable (readable_node b n)
+  text_node b (alias name) h = text_name name h
+  text_node b (scalar anchor mark value) (a, m, v) = text_scalar b anchor mark value a m v
+  text_node b (sequence anchor tag items) (a, t, h) = (text_anchor anchor a, text_tag tag t, text_items items h)
+  text_node b (mapping anchor tag pairs) (a, t, h) = (text_anchor anchor a, text_tag tag t, text_pairs pairs h)
+
+  text_items : (ns : Nodes) → AreItemsWritable ns → text.AreItemsWritable (readable_nodes ns)
+  text_items no_nodes h = tt
+  text_items (node n ns) (h, hs) = (text_node false n h, text_items ns hs)
+
+  text_pairs : (ps : Pairs) → ArePairsWritable ps → text.ArePairsWritable (readable_pairs ps)
+  text_pairs no_pairs h = tt
+  text_pairs (pair k v ps) (hk, hv, hs) = (text_node false k hk, text_node false v hv, text_pairs ps hs)
+
+have_utf8 : (ds : List TagDirective) → HavePrefixes ds → HaveUtf8 ds
+have_utf8 [] h = tt
+have_utf8 (d ∷ ds) (h, hs) = (h, have_utf8 ds hs)
+
+pub are_writable : (first : Bool) (c : List Document) → AreWritable c → text.AreWritable (documents_from first c)
+are_writable first [] h = tt
+are_writable first (d ∷ ds) (h, hs) = ((h.opening, have_utf8 d.directives h.prefixes), text_node (is_unmarked first d) d.root h.root, are_writable false ds hs)
+
+-- ---- the bytes
+
+bytes_anchor : (anchor : Option (List ℕ)) → IsAnchor anchor → bytes.IsNameOption anchor
+bytes_anchor None h = tt
+bytes_anchor (Some name) (some, alphas) = alphas
+
+bytes_tag : (tag : Option (List ℕ)) → IsTag tag → bytes.IsTextOption tag
+bytes_tag None h = tt
+bytes_tag (Some t) (some, utf8) = utf8
+
+bytes_scalar : (b : Bool) → (anchor : Option (List ℕ)) (mark : Mark) (value : List ℕ) → IsAnchor anchor → IsMark mark → IsUtf8 value → bytes.IsSpellable (readable_node b (scalar anchor mark value))
+bytes_scalar b anchor (untagged plain) value a m v = (bytes_anchor anchor a, tt, v)
+bytes_scalar b anchor (tagged t) value a ((some, utf8), other) v = (bytes_anchor anchor a, utf8, v)
+
+bytes_name : (name : List ℕ) → IsName name → bytes.IsName name
+bytes_name name (some, alphas) = alphas
+
+mutual
+  bytes_node : (b : Bool) (n : Node) → IsWritable n → bytes.IsSpellable (readable_node b n)
+  bytes_node b (alias name) h = bytes_name name h
+  bytes_node b (scalar anchor mark value) (a, m, v) = bytes_scalar b anchor mark value a m v
+  bytes_node b (sequence anchor tag items) (a, t, h) = (bytes_anchor anchor a, bytes_tag tag t, bytes_items items h)
+  bytes_node b (mapping anchor tag pairs) (a, t, h) = (bytes_anchor anchor a, bytes_tag tag t, bytes_pairs pairs h)
+
+  bytes_items : (ns : Nodes) → AreItemsWritable ns → bytes.AreSpellable (readable_nodes ns)
+  bytes_items no_nodes h = tt
+  bytes_items (node n ns) (h, hs) = (bytes_node false n h, bytes_items ns hs)
+
+  bytes_pairs : (ps : Pairs) → ArePairsWritable ps → bytes.PairsAreSpellable (readable_pairs ps)
+  bytes_pairs no_pairs h = tt
+  bytes_pairs (pair k v ps) (hk, hv, hs) = (bytes_node false k hk, bytes_node false v hv, bytes_pairs ps hs)
+
+have_prefixes : (ds : List TagDirective) → HavePrefixes ds → bytes.HavePrefixes ds
+have_prefixes [] h = tt
+have_prefixes (d ∷ ds) (h, hs) = (h, have_prefixes ds hs)
+
+pub are_spellable : (first : Bool) (c : List Document) → AreWritable c → bytes.DocumentsAreSpellable (documents_from first c)
+are_spellable first [] h = tt
+are_spellable first (d ∷ ds) (h, hs) = (h.opening, have_prefixes d.directives h.prefixes, bytes_node (is_unmarked first d) d.root h.root, are_spellable false ds hs)
+
+-- ---- the adapter
+
+-- the directives may be written
+record Opened (o : Opening) : Type 0 where
+  right : opening_problem o ≡ None
+  utf8 : HaveUtf8 o.directives
+
+readable_tag : WrittenTagsAreReadable → (o : Opening) → Opened o → (tag : Option (List ℕ)) → IsTag tag → IsReadableTag o.directives tag
+readable_tag law o h None t = tt
+readable_tag law o h (Some t) (some, utf8) = law o h.right h.utf8 t utf8 some
+
+tagged_scalar : (b : Bool) → WrittenTagsAreReadable → (o : Opening) → Opened o → (anchor : Option (List ℕ)) (mark : Mark) (value : List ℕ) → IsMark mark → IsTagged o.directives (readable_node b (scalar anchor mark value))
+tagged_scalar b law o h anchor (untagged plain) value m = tt
+tagged_scalar b law o h anchor (tagged t) value (m, other) = readable_tag law o h (Some t) m
+
+mutual
+  tagged_node : (b : Bool) → WrittenTagsAreReadable → (o : Opening) → Opened o → (n : Node) → IsWritable n → IsTagged o.directives (readable_node b n)
+  tagged_node b law o h (alias name) w = tt
+  tagged_node b law o h (scalar anchor mark value) (a, m, v) = tagged_scalar b law o h anchor mark value m
+  tagged_node b law o h (sequence anchor tag items) (a, t, w) = (readable_tag law o h tag t, tagged_items law o h items w)
+  tagged_node b law o h (mapping anchor tag pairs) (a, t, w) = (readable_tag law o h tag t, tagged_pairs law o h pairs w)
+
+  tagged_items : WrittenTagsAreReadable → (o : Opening) → Opened o → (ns : Nodes) → AreItemsWritable ns → AreTagged o.directives (readable_nodes ns)
+  tagged_items law o h no_nodes w = tt
+  tagged_items law o h (node n ns) (w, ws) = (tagged_node false law o h n w, tagged_items law o h ns ws)
+
+  tagged_pairs : WrittenTagsAreReadable → (o : Opening) → Opened o → (ps : Pairs) → ArePairsWritable ps → PairsAreTagged o.directives (readable_pairs ps)
+  tagged_pairs law o h no_pairs w = tt
+  tagged_pairs law o h (pair k v ps) (wk, wv, ws) = (tagged_node false law o h k wk, tagged_node false law o h v wv, tagged_pairs law o h ps ws)
+
+pub have_texts : WrittenTagsAreReadable → (first : Bool) (c : List Document) → AreWritable c → HaveTexts (documents_from first c)
+have_texts law first [] h = tt
+have_texts law first (d ∷ ds) (h, hs) =
+    let utf8 = have_utf8 d.directives h.prefixes in
+    let o = (readable_document first d).opening in
+    (utf8, tagged_node (is_unmarked first d) law o (record { right = h.opening; utf8 = utf8 }) d.root h.root, have_texts law false ds hs)
+
+-- ---- the parser
+
+not_bang : (t : List ℕ) → (t ≡ codes "!" → ⊥) → bytes_eq t (codes "!") ≡ false
+not_bang t other =
+    elim (cases_Bool (bytes_eq t (codes "!"))) [
+      | inl h ↦ absurd (other ((bytes_eq-Decides t (codes "!")).0 h))
+      | inr h ↦ h
+    ]
+
+fine_scalar : (b : Bool) → (anchor : Option (List ℕ)) (mark : Mark) (value : List ℕ) → IsMark mark → IsNoMark (readable_scalar b anchor mark value).tag
+fine_scalar b anchor (untagged plain) value m = tt
+fine_scalar b anchor (tagged t) value (m, other) = not_bang t other
+
+mutual
+  fine_node : (b : Bool) (n : Node) → IsWritable n → HasNoMark (readable_node b n)
+  fine_node b (alias name) h = tt
+  fine_node b (scalar anchor mark value) (a, m, v) = fine_scalar b anchor mark value m
+  fine_node b (sequence anchor tag items) (a, t, h) = fine_items items h
+  fine_node b (mapping anchor tag pairs) (a, t, h) = fine_pairs pairs h
+
+  fine_items : (ns : Nodes) → AreItemsWritable ns → HaveNoMark (readable_nodes ns)
+  fine_items no_nodes h = tt
+  fine_items (node n ns) (h, hs) = (fine_node false n h, fine_items ns hs)
+
+  fine_pairs : (ps : Pairs) → ArePairsWritable ps → PairsHaveNoMark (readable_pairs ps)
+  fine_pairs no_pairs h = tt
+  fine_pairs (pair k v ps) (hk, hv, hs) = (fine_node false k hk, fine_node false v hv, fine_pairs ps hs)
+
+pub are_parsable : (first : Bool) (c : List Document) → AreWritable c → AreParsable (documents_from first c)
+are_parsable first [] h = tt
+are_parsable first (d ∷ ds) (h, hs) = ((h.opening, fine_node (is_unmarked first d) d.root h.root), are_parsable false ds hs)

@@ -1,0 +1,3 @@
+pub mod Readable
+pub mod Laws
+pub mod Restyled

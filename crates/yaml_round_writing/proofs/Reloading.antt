@@ -27,7 +27,7 @@ use Rattle.yaml_round_writing.specs.Layers.{reload_layers}
 use Rattle.yaml_round_writing.specs.Answers.{bytes_of}
 use Rattle.yaml_round_laws_documents.specs.content.Loads.{Loads, no_more, with_implicit_end, in_front, load_on, load_all, loads_of}
 use Rattle.yaml_round_laws_documents.specs.Normal.{ended}
-use Rattle.yaml_round_writing.specs.Reload.{to_write, to_load, HasRoot, LoadsDocument, IsLoaded, AreLoaded, stream_of, written_events, FeedsEmitter, IsWithinStream, DumpsAll, DumpsStream, IsEachDump, IsDumped, LaysOutLoading, IsReloaded, IsChecked}
+use Rattle.yaml_round_writing.specs.Reload.{to_write, to_load, HasRoot, LoadsDocument, IsLoaded, AreLoaded, stream_of, written_events, FeedsEmitter, IsWithinStream, DumpsAll, DumpsStream, IsEachDump, IsDumped, LaysOutLoading, IsReloaded}
 use Rattle.yaml_round_laws_documents.proofs.Loaded.{faultless_load, faulty_load}
 use Rattle.yaml_round_writing.proofs.Laying.{Led, starts, layout, past, one_layout, one_past}
 use Rattle.yaml_round_writing.proofs.Streams.{loaded_text}
@@ -189,15 +189,6 @@ none_small items e = subst AreNumerable (sym e) tt
 pub documents_refused : (from : yaml_encoding_t) (input : List ℕ) (r : ParserRemaining) (f : yaml_fault_t) → (to_load r).fault ≡ (loads_of from input).fault → IsMemoryFault load_layers (fault_of f) ⊎ (to_load r ≡ no_more (Some (fault_of f)))
     → IsMemoryFault load_layers (fault_of f) ⊎ IsLoaded from input (Err (fault_of f))
 documents_refused from input r f h e = elim e [ inl m ↦ inl m | inr k ↦ inr (sym h ∙ ap (λ (z : Loads). z.fault) k) ]
-
--- ---- no document is kept
-
-pub loads_out : (from : yaml_encoding_t) (input : List ℕ) (r : ParserRemaining) → (to_load r).fault ≡ (loads_of from input).fault → to_load r ≡ no_more None → IsChecked from input (Ok tt)
-loads_out from input r f e = ((loads_of from input).documents, faultless_load from input (sym f ∙ ap (λ (z : Loads). z.fault) e))
-
-pub loads_no_more : (from : yaml_encoding_t) (input : List ℕ) (r : ParserRemaining) (f : yaml_fault_t) → (to_load r).fault ≡ (loads_of from input).fault → IsMemoryFault load_layers (fault_of f) ⊎ (to_load r ≡ no_more (Some (fault_of f)))
-    → IsMemoryFault load_layers (fault_of f) ⊎ IsChecked from input (Err (fault_of f))
-loads_no_more from input r f h e = elim e [ inl m ↦ inl m | inr k ↦ inr (faulty_load from input (fault_of f) (sym h ∙ ap (λ (z : Loads). z.fault) k)) ]
 
 -- ---- the events of documents
 

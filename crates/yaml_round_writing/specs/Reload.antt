@@ -84,12 +84,6 @@ IsReloaded from settings input (Ok text) = (laid : LaysOutLoading from settings 
 IsReloaded from settings input (Err fault) = PlainLoading from input (Err fault)
     ⊎ LaysOutLoading from settings input (Err fault)
 
--- The input loads, or the fault that loading its tokens ends in, the one of the least place.
-abbrev pub IsChecked : yaml_encoding_t → List ℕ → Result (Unit {0}) Fault → Type 0
-IsChecked from input (Ok done) = (documents : List Document)
-    × PlainLoading from input (Ok documents)
-IsChecked from input (Err fault) = PlainLoading from input (Err fault)
-
 -- ---- the steps
 
 abbrev pub HasRoot : Document → Type 0

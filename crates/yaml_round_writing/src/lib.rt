@@ -2,13 +2,15 @@
 //! documents loaded and dumped.
 #![tactic(auto)]
 
+mod check;
 mod lines;
 mod reload;
 mod text;
 mod writing;
 
+pub use check::load_out;
 pub use lines::lines_of;
-pub use reload::{documents_of, load_out, written_documents};
+pub use reload::{documents_of, written_documents};
 pub use text::{in_pretty_form, written};
 pub use writing::Watch;
 pub use yaml_round_reading::{let_go, reading_of, yaml_adapter_t, yaml_side_t};

@@ -4,7 +4,7 @@ ghost use Rattle.std.specs.Prelude.{◌≡◌, ℕ, List, true, false, All};
 ghost use Rattle.yaml_round_laws_documents.specs.content.Input.{Reads};
 ghost use Rattle.yaml_scan.specs.Faults.{Answers, load_layers, emit_layers};
 ghost use Rattle.yaml_round_writing.specs.Answers.{bytes_of};
-ghost use Rattle.yaml_round_writing.specs.Reload.{LoadsNext, IsLoaded, IsChecked, HasRoot, IsWithinStream, DumpsAll, DumpsStream, IsEachDump};
+ghost use Rattle.yaml_round_writing.specs.Reload.{LoadsNext, IsLoaded, HasRoot, IsWithinStream, DumpsAll, DumpsStream, IsEachDump};
 
 use crate::writing::{emitter_under, finished};
 use std::alloc::Global;
@@ -15,9 +15,11 @@ use yaml_round_device::yaml_settings_t;
 use yaml_round_reading::{Reading, let_go, reading_of};
 use yaml_scan::{yaml_encoding_t, yaml_fault_t, yaml_memory_fault, yaml_origin_t};
 
-// The next document, whose end is made implicit; nothing behind the last.
+/// The next document, whose end is made implicit; nothing behind the last.
 #[tactic(auto, using(crate::proofs::Reloading::loaded_document, crate::proofs::Reloading::loaded_last, crate::proofs::Reloading::load_refused))]
-fn next_document(reading: &mut Reading<'_>) -> Result<Option<yaml_document_t>, yaml_fault_t>
+pub(crate) fn next_document(
+    reading: &mut Reading<'_>,
+) -> Result<Option<yaml_document_t>, yaml_fault_t>
     requires { reading.old.parser.between ≡ true }
     ensures next { LoadsNext reading.old.parser result reading.new.parser }
     ensures between { reading.new.parser.between ≡ true }
@@ -69,35 +71,6 @@ pub fn documents_of(
         Err(fault) => Err(fault),
         Ok(mut reading) => {
             let answer = documents_from(alloc, &mut reading);
-            let_go(reading);
-            answer
-        }
-    }
-}
-
-// Loads the documents of a reading, and lets go of each before the next.
-fn loaded_out(reading: &mut Reading<'_>) -> Result<(), yaml_fault_t>
-    requires { reading.old.parser.between ≡ true }
-    ensures { (from : yaml_encoding_t) (input : List ℕ) → Reads from input reading.old.parser
-        → Answers load_layers (λ done. done) (IsChecked from input) result }
-{
-    'documents: loop {
-        match next_document(reading) {
-            Err(fault) => return Err(fault),
-            Ok(None) => return Ok(()),
-            Ok(Some(document)) => drop(document),
-        }
-    }
-}
-
-/// Loads the documents of the input, and keeps none.
-pub fn load_out(alloc: Global, input: &[u8], from: yaml_encoding_t) -> Result<(), yaml_fault_t>
-    ensures { Answers load_layers (λ done. done) (IsChecked from input.now) result }
-{
-    match reading_of(alloc, input, from) {
-        Err(fault) => Err(fault),
-        Ok(mut reading) => {
-            let answer = loaded_out(&mut reading);
             let_go(reading);
             answer
         }

@@ -1,7 +1,7 @@
 -- The fault that ends the loads stays to come.
 use Rattle.std.proofs.Common.{◌≡◌, length, true}
 use Rattle.yaml_round_writing.specs.Reload.{to_load}
-use Rattle.yaml_round_writing.proofs.reload.loaded_out.Given as goal
+use Rattle.yaml_round_writing.proofs.check.loaded_out.Given as goal
 
 abbrev pub invariant-documents : goal.invariant-documents
 invariant-documents l = record {

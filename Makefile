@@ -27,6 +27,7 @@ run:
 	@tools/run.sh "$$FILE"
 
 test:
+	@tools/kit.sh 'make test'
 	rt ci
 
 program:

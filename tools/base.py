@@ -23,7 +23,7 @@ def built(crate, jobs):
 
 
 def main(names):
-    rt = lanes.kit()
+    rt = lanes.kit("base")
     # its first call sets a signal's handler, which only the main thread may
     rt.rtlib.guarded()
     if hasattr(rt, "share_work"):

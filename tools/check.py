@@ -25,7 +25,7 @@ def below(rt, crate, logs):
 
 
 def main(words):
-    rt = lanes.kit()
+    rt = lanes.kit("check")
     crate = next((it for it in lanes.crates_of(rt, program.TOP) if words and it.name == words[0]), None)
     if not crate:
         print(__doc__, file=sys.stderr)

@@ -17,8 +17,7 @@ Judged of each text:
     events, docs    the lines of the events, or the fault's line, are those of libyaml's parser, and the fault's line of docs
                     is its loader's, where a C compiler and libyaml's header are there
 
-Where docs/DIFFERENCES.md says that libyaml answers otherwise, its answer isn't compared, or only whether it accepts the text;
-the last lines count these by their reason. A text that is judged wrong is kept in out/fuzz/, told at once, and the script
+Where libyaml answers otherwise as docs/DIFFERENCES.md says, or only refusing is compared, the last lines count it by its reason. A text that is judged wrong is kept in out/fuzz/, told at once, and the script
 fails at the end.
 """
 import argparse
@@ -201,8 +200,8 @@ def decoded(text):
     return text.decode("utf-8", "replace")
 
 
-def not_compared(text):
-    """Why libyaml's answer for the text isn't compared, or an empty text."""
+def why_otherwise(text):
+    """Why libyaml may answer the text otherwise, or an empty text."""
     characters = decoded(text)
     if re.search(f"{BREAKS.pattern}\ufeff", characters):
         return "U+FEFF at the front of a line"
@@ -247,7 +246,7 @@ class Judge:
         except OSError:
             is_there = False
         if not is_there:
-            print("fuzz: no C compiler with libyaml's header: events aren't compared with libyaml's", flush=True)
+            print("no C compiler with libyaml's header: nothing is compared with libyaml", file=sys.stderr, flush=True)
             self.peer = ""
 
     def file(self, number, name, text):
@@ -264,10 +263,19 @@ class Judge:
         wrong_unless(ran == Ran(0, b"equal\n", b""), f"{what} isn't `same` as its input: {ran}")
 
     def with_libyaml(self, text, path, events, fault, docs):
+        """In which way libyaml's answer is like ours, or why it isn't."""
+        if not self.peer:
+            return ""
+        try:
+            return self.alike(path, events, fault, docs)
+        except Wrong:
+            why = why_otherwise(text)
+            if not why:
+                raise
+            return f"otherwise: {why}"
+
+    def alike(self, path, events, fault, docs):
         """In which way libyaml's answer is like ours."""
-        why = not_compared(text)
-        if why or not self.peer:
-            return f"not compared: {why}" if why else ""
         theirs = run(self.peer, path)
         wrong_unless(theirs.status in (0, 1), f"libyaml's events end with status {theirs.status}")
         wrong_unless(theirs.status == events.status, f"libyaml says {theirs.errors or 'yes'!r}, and we {fault or 'yes'!r}")

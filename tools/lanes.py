@@ -6,6 +6,7 @@ import os
 import re
 import shutil
 import signal
+import subprocess
 import sys
 import tempfile
 import time
@@ -29,6 +30,8 @@ LATE_PART = 40
 TELLING_PART = 5
 # A crate that took fewer seconds was taken from what an earlier run kept, and says nothing of how fast crates are proved.
 PROVED_SECONDS = 5
+# Behind so many seconds without a line one says what is under way.
+QUIET_SECONDS = 30
 BEGAN = time.monotonic()
 
 
@@ -71,8 +74,10 @@ def work_in_memory():
     del os.environ["TMPDIR"]
 
 
-def kit():
-    """The kit's `rt` as a module."""
+def kit(what):
+    """The kit's `rt` as a module. Where it isn't there, a line says so and nothing goes on."""
+    if subprocess.run([f"{os.path.dirname(os.path.abspath(__file__))}/kit.sh", what]).returncode:
+        sys.exit(1)
     loader = importlib.machinery.SourceFileLoader("rt", os.path.realpath(shutil.which("rt")))
     made = importlib.util.module_from_spec(importlib.util.spec_from_loader("rt", loader))
     sys.modules["rt"] = made
@@ -100,6 +105,9 @@ class Unsearched:
 
     def give(self, crate, tests, key):
         return self.gates.give(crate, tests, key[0]) or self.own.give(crate, tests, key[1])
+
+    def has(self, crate):
+        return self.own.has(crate)
 
     def is_built(self, crate):
         self.gates.is_built(crate)
@@ -134,7 +142,10 @@ def only_at_the_end(crates):
 # loading costs each crate; and what linking and compiling cost, which go over all code below.
 CODE_WEIGHS = 35
 LOADING_WEIGHS = 4000
-COMPILING_WEIGHS = 20_000
+COMPILING_WEIGHS = 45_000
+# How many seconds of one processor a thousand weights take on a quick machine, and how many times as long on a slow one.
+SECONDS_A_THOUSAND = 1.7
+SLOW = 1.75
 
 
 def work_of(crate):
@@ -157,31 +168,36 @@ def longest_behind(crates, work):
     return behind
 
 
-class Lanes:
-    """The crates that are still to be built, and those that are under way. `build` makes one of them with so many jobs, and answers its status."""
+def minutes(seconds):
+    return 1 + int(seconds) // 60
 
-    def __init__(self, what, crates, build):
-        self.work = {it: work_of(it) for it in crates}
+
+class Lanes:
+    """The crates that are still to be built, and those that are under way. `build` makes one of them with so many jobs, and answers
+    its status; those that are `held` were proved by an earlier run, and are no work."""
+
+    def __init__(self, what, crates, build, held=()):
+        self.work = {it: 0 if it in held else work_of(it) for it in crates}
         self.behind = longest_behind(crates, self.work)
         self.left = sorted(crates, key=lambda it: -self.behind[it])
         self.late = only_at_the_end(crates)
-        self.what, self.lanes, self.build = what, processors(), build
+        self.what, self.lanes, self.build, self.held = what, processors(), build, held
         self.total, self.done, self.running, self.failed = len(crates), set(), {}, []
-        self.proved_work = 0
+        self.proved_work, self.proved_seconds = 0, 0
 
     def begin(self, pool):
         """Begins what can begin, each with its share of the idle processors; what doesn't fit goes to the longest chains."""
         longest = max(self.behind[it] for it in [*self.left, *self.running_crates()]) if self.left else 0
         ready = self.ready(longest)
         for at, it in enumerate(ready):
-            idle = self.lanes - sum(jobs for _, jobs in self.running.values())
+            idle = self.lanes - sum(jobs for _, jobs, _ in self.running.values())
             if idle < 1:
                 return
             is_long = LONG_PART * longest <= 100 * self.behind[it]
             share = -(-idle // (len(ready) - at)) if is_long else idle // (len(ready) - at)
             jobs = max(1, min(MOST_JOBS, share))
             self.left.remove(it)
-            self.running[pool.submit(self.timed, it, jobs)] = it, jobs
+            self.running[pool.submit(self.timed, it, jobs)] = it, jobs, time.monotonic()
 
     def ready(self, longest):
         """The crates that can begin, but for those that the end has room for, as long as others are under way."""
@@ -190,29 +206,50 @@ class Lanes:
         return soon if soon or self.running else found
 
     def running_crates(self):
-        return [it for it, _ in self.running.values()]
+        return [it for it, _, _ in self.running.values()]
 
     def timed(self, crate, jobs):
         began = time.monotonic()
         return self.build(crate, jobs), time.monotonic() - began
 
+    def seconds_left(self):
+        """How long the rest takes, one chain of crates after another and all of it by all processors: as fast as what was proved
+        so far or, as long as that is little, as on a quick machine."""
+        is_told = 100 * self.proved_work >= TELLING_PART * sum(self.work.values()) > 0
+        rate = self.proved_seconds / self.proved_work if is_told else SECONDS_A_THOUSAND / 1000
+        # what was done of those that are under way, nine tenths of each at most
+        now, done = time.monotonic(), dict.fromkeys(self.done, 0)
+        for it, jobs, began in self.running.values():
+            done[it] = min(0.9 * self.work[it], jobs * (now - began) / rate)
+        rest = [it for it in self.work if it not in self.done]
+        longest = max((self.behind[it] - done.get(it, 0) for it in rest), default=0)
+        return rate * max(longest, sum(self.work[it] - done.get(it, 0) for it in rest) / self.lanes)
+
     def time_left(self):
-        """How long the rest takes if it is proved as fast as what was proved so far."""
-        rest = sum(self.work.values()) - sum(self.work[it] for it in self.done)
-        if not rest or 100 * self.proved_work < TELLING_PART * sum(self.work.values()):
-            return ""
-        return f"; some {1 + int((time.monotonic() - BEGAN) * rest / self.proved_work) // 60} min left"
+        return f"; some {minutes(self.seconds_left())} min left" if len(self.done) < self.total else ""
+
+    def time(self):
+        """How long the whole takes, before anything was proved."""
+        least, most = minutes(self.seconds_left()), minutes(SLOW * self.seconds_left())
+        return f"{least} to {most} min" if least < most else f"{least} min"
 
     def end(self):
-        """Waits until one has ended, and tells it."""
-        for future in wait(self.running, return_when=FIRST_COMPLETED).done:
-            crate, jobs = self.running.pop(future)
+        """Waits until one has ended, and tells it; that one was taken from what is kept needs no line."""
+        ended = wait(self.running, timeout=QUIET_SECONDS, return_when=FIRST_COMPLETED).done
+        if not ended:
+            say(self.what, ", ".join(it.name for it in self.running_crates()) + " under way" + self.time_left())
+        for future in ended:
+            crate, jobs, _ = self.running.pop(future)
             status, spent = future.result()
             self.done.add(crate)
-            self.proved_work += self.work[crate] if spent > PROVED_SECONDS else 0
+            if spent > PROVED_SECONDS:
+                self.proved_work += self.work[crate]
+                self.proved_seconds += spent * jobs
             if status:
                 self.failed.append(crate.name)
-            part = 100 * sum(self.work[it] for it in self.done) // sum(self.work.values())
+            elif crate in self.held:
+                continue
+            part = 100 * sum(self.work[it] for it in self.done) // max(1, sum(self.work.values()))
             word = f"NOT PROVED, by its log {crate.name}.log" if status else "proved"
             line = f"{len(self.done)} of {self.total}, {part} in 100: {crate.name} {word}, {spent:.0f} s, jobs {jobs}"
             say(self.what, line + self.time_left())

@@ -10,7 +10,6 @@ set -eu
 top=$(cd "$(dirname "$0")/.." && pwd)
 crate=$top/crates/yaml_round_c
 out=$top/out/library
-kit=$(dirname "$(rt doc)")
 
 say() { echo "make library: $*" >&2; }
 
@@ -18,6 +17,8 @@ if "$top/tools/is_built.sh" "$out/libyaml_c.so"; then
     say "out/library/libyaml_c.a and out/library/libyaml_c.so are newer than all sources"
     exit
 fi
+"$top/tools/kit.sh" 'make library' || exit 1
+kit=$(dirname "$(rt doc)")
 since=$(date +%s)
 say "proving yaml_round_c and what it stands on"
 "$top/tools/program.py" yaml_round_c || { say "not proved, so not built"; exit 1; }

@@ -1,5 +1,8 @@
 #!/usr/bin/env python3
-"""Lists the files of crates/ that the documents name and that aren't there: tools/paths.py. It fails where there are any."""
+"""Lists the files of crates/ that the documents name and that aren't there: tools/paths.py. It fails where there are any.
+
+docs/MEASURED.md is left out: what was measured may be gone since.
+"""
 import glob
 import os
 import re
@@ -33,8 +36,8 @@ KNOWN = set()
 
 
 def main():
-    pages = sorted(os.path.relpath(it, repo.TOP) for it in glob.glob(f"{repo.TOP}/docs/*.md"))
-    found = [it for page in ["README.md", "CONTRIBUTING.md", *pages] for it in lacking(page)]
+    pages = {os.path.relpath(it, repo.TOP) for it in glob.glob(f"{repo.TOP}/docs/*.md")} - {"docs/MEASURED.md"}
+    found = [it for page in ["README.md", "CONTRIBUTING.md", *sorted(pages)] for it in lacking(page)]
     print("\n".join(found) if found else "paths: all are there")
     return bool(found)
 

@@ -57,7 +57,7 @@ def main():
     reader.add_argument("--beside", action="append", default=[])
     reader.add_argument("--proved", action="store_true")
     asked, words = reader.parse_known_args()
-    rt = lanes.kit()
+    rt = lanes.kit("plant")
     with tempfile.TemporaryDirectory(prefix="plant-") as room:
         crate = copied(rt, f"{room}/repo", asked.crate, asked.beside)
         if not crate:

@@ -1,12 +1,13 @@
 #!/usr/bin/env python3
-"""Proves and builds the program, or the archive of the library for C, and says how far it is: `make program`.
+"""Proves and builds the program, another one of crates.txt, or the archive of the library for C, and says how far it is: `make
+program`.
 
-    tools/program.py [yaml_round_c]
+    tools/program.py [CRATE]        yaml_cli, where none is named
 
 The crates that it stands on are proved as the gate proves them, from nothing and side by side, those with the longest chain
 of others behind them first; a crate that nothing can run beside gets the processors that are idle (PROCESSORS sets how many
 there are to use). Neither must-fail edits are tried nor tests run, and one compiler builds what was proved, LLVM. The program is
-then crates/yaml_cli/out/yaml_cli, the archive crates/yaml_round_c/out/libyaml_round_c.a.
+then crates/CRATE/out/CRATE, the archive crates/yaml_round_c/out/libyaml_round_c.a.
 
 Each function is proved. That each contract can be met by some call is looked for by the gate, and here with SEARCH=1 alone, since
 it loads once more all that a crate stands on. What was proved is kept in the user's cache (tools/store.py), and what the
@@ -29,21 +30,25 @@ import lanes
 
 TOP = os.path.dirname(os.path.dirname(os.path.abspath(__file__)))
 SEARCHES = bool(os.environ.get("SEARCH"))
-FROM_NOTHING = "11 to 20 minutes from nothing on 4 processors, by the machine and its hour, less where an earlier run has kept its proofs"
 
 
 class Goal:
     """What is to be built."""
 
-    def __init__(self, what, crate, made, rt_words):
-        self.what, self.crate, self.made, self.rt_words = what, crate, made, rt_words
+    def __init__(self, what, crate, made, *rt_words):
+        self.what, self.crate, self.made, self.rt_words = what, crate, made, ["rt", *rt_words]
         self.folder = f"{TOP}/crates/{crate}"
         self.file = f"{self.folder}/out/{made}"
         self.logs = f"{self.folder}/out/program"
 
 
-PROGRAM = Goal("make program", "yaml_cli", "yaml_cli", ["rt", "run", "--", "fmt"])
-ARCHIVE = Goal("make library", "yaml_round_c", "libyaml_round_c.a", ["rt", "lib"])
+def goal_of(crate):
+    """The goal that a crate's name stands for."""
+    if crate == "yaml_round_c":
+        return Goal("make library", crate, "libyaml_round_c.a", "lib")
+    if crate == "yaml_cli":
+        return Goal("make program", crate, crate, "run", "--", "fmt")
+    return Goal(f"program {crate}", crate, crate, "run")
 
 
 def compiled(rt, crate, jobs):
@@ -132,11 +137,13 @@ def prove(rt, goal):
         os.mkdir(f"{copy}/.git")
         top = next(it for it in lanes.crates_of(rt, copy) if it.name == goal.crate)
         crates = [*sorted(top.below(), key=lambda it: len(it.below())), top]
-        lanes.say(goal.what, f"proving {len(crates)} crates, jobs {lanes.processors()}: {FROM_NOTHING}")
         kept = lanes.kept_by(rt, crates, SEARCHES)
+        held = {it for it in crates if hasattr(kept, "has") and kept.has(it)}
         build = lambda it, jobs: built(rt, kept, goal.logs, it, jobs)
+        run = lanes.Lanes(goal.what, crates, build, held)
+        lanes.say(goal.what, f"proving {len(crates)} crates, {len(held)} of them kept, jobs {run.lanes}: some {run.time()}")
         with lanes.work_in_memory():
-            is_well = lanes.Lanes(goal.what, crates, build).run()
+            is_well = run.run()
         if not is_well:
             return False
         kept.shrink()
@@ -153,15 +160,18 @@ def one_after_another(goal):
 
 
 def main(words):
-    goal = ARCHIVE if words == [ARCHIVE.crate] else PROGRAM
+    goal = goal_of(words[0] if words else "yaml_cli")
     say = lambda text: lanes.say(goal.what, text)
+    if not os.path.isfile(f"{goal.folder}/src/main.rt") and not words == ["yaml_round_c"]:
+        say(f"crates/{goal.crate} is no program: it has no src/main.rt")
+        return 2
     if subprocess.run([f"{TOP}/tools/is_built.sh", goal.file]).returncode == 0:
         say(f"{os.path.relpath(goal.file)} is newer than all sources")
         return 0
     since = time.time()
     os.makedirs(goal.logs, exist_ok=True)
     try:
-        rt = lanes.kit()
+        rt = lanes.kit(goal.what)
         set_up(rt)
         if not SEARCHES:
             leave_out_search(rt)

@@ -53,6 +53,7 @@ fi
 if "$top/tools/is_built.sh" "$unproved" && [ "$unproved" -nt "$top/tools/unproved.py" ]; then
     say "runs the program that was built without proofs; 'make program' builds the proved one"
 else
+    "$top/tools/kit.sh" 'make run' || exit 1
     say "builds the program without proofs, in about half a minute, and keeps it until a source changes;" \
         "'make program' builds the proved one"
     "$top/tools/unproved.py" || try_it

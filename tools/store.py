@@ -50,6 +50,10 @@ class Kept:
     def place(self, crate, key):
         return f"{self.folder}/{crate.name}-{key[:32]}"
 
+    def has(self, crate):
+        """Whether the crate's library is kept."""
+        return crate.makes_rlib() and os.path.isdir(self.place(crate, self.key(crate)))
+
     def give(self, crate, tests, key):
         """Puts the kept library where the crate's is looked for, if there is one."""
         assert not tests

@@ -2,3 +2,4 @@ pub mod MarksLemmas
 pub mod BreaksLemmas
 pub mod RunsLemmas
 pub mod SparesLemmas
+pub mod PrintedLemmas

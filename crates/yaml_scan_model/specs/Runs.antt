@@ -1,5 +1,5 @@
 -- Runs of bytes of one kind.
-use Rattle.std.specs.Prelude.{ℕ, zero, suc, ◌+◌, Bool, not, ◌||◌, ◌==◌, nat_lt, if◌then◌else◌, List, length}
+use Rattle.std.specs.Prelude.{ℕ, zero, suc, ◌+◌, Bool, true, not, ◌&&◌, ◌||◌, ◌==◌, nat_lt, if◌then◌else◌, List, length}
 use Rattle.yaml_scan_model.specs.Marks.{byte, break_width, is_blank}
 
 -- the first place from there on that is not of the kind, at most n bytes on
@@ -28,3 +28,12 @@ past_spaces text p = past is_space_there (length text) text p
 -- the place of the break or the end behind the text there
 abbrev pub line_end : List ℕ → ℕ → ℕ
 line_end text p = past is_text (length text) text p
+
+-- a printed character of ASCII, or a space
+abbrev pub is_printed : ℕ → Bool
+is_printed b = nat_lt 31 b && nat_lt b 127
+
+-- the n bytes there are such
+unfoldable pub are_printed : ℕ → List ℕ → ℕ → Bool
+are_printed zero text p = true
+are_printed (suc n) text p = are_printed n text p && is_printed (byte text (p + n))

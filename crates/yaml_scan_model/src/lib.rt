@@ -20,7 +20,7 @@ pub use reader::{Reader, is_blank as is_blank_byte};
 pub use record::{
     mark_again, yaml_mark_t, yaml_simple_key_t, yaml_tag_directive_t, yaml_version_directive_t,
 };
-pub use run::{is_text, skip_blanks, skip_spaces, skip_text};
+pub use run::{is_text, leap, skip_blanks, skip_spaces, skip_text};
 pub use spares::{copied, copied_whole, moved, room};
 pub use token::{yaml_token_body_t, yaml_token_t};
 pub use yaml_scan_types::{

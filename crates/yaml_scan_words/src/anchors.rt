@@ -5,9 +5,9 @@ ghost use Rattle.yaml_scan_model.specs.Marks.{byte, mark_at, is_blank_or_end};
 ghost use Rattle.yaml_scan_words.specs.Anchors as spec;
 ghost use Rattle.yaml_scan_words.specs.Readings.{ReadsAs, IsNameWord, behind_bytes};
 
-use crate::run::{copied_since, leap, name_end};
+use crate::run::{copied_since, name_end};
 use crate::word::{Word, refusal};
-use yaml_scan_model::{Context, Problem, Reader, ScanError, yaml_mark_t};
+use yaml_scan_model::{Context, Problem, Reader, ScanError, leap, yaml_mark_t};
 
 /// The anchor or alias whose `&` or `*` stands here (YAML 1.1, 3.2.2.2): its name is one or more alphas.
 ///

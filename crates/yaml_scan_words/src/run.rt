@@ -9,7 +9,7 @@ ghost use Rattle.yaml_scan_words.specs.Written.{is_kept};
 
 use std::alloc::AllocError;
 use yaml_scan_classes::{IS_ALPHA, IS_BLANK, IS_BREAKZ, IS_DIGIT};
-use yaml_scan_model::{Reader, copied as copied_bytes, yaml_mark_t};
+use yaml_scan_model::{Reader, copied as copied_bytes};
 
 /// Which bytes go together.
 #[derive(Clone, Copy)]
@@ -163,24 +163,6 @@ pub(crate) fn name_end(reader: &Reader) -> usize
     ensures { result ≡ spec.run_end runs.Alphas reader.now.text (reader.now.at + 1) }
 {
     alphas_end(reader.text(), reader.place() + 1)
-}
-
-/// Past ASCII characters that are printed and no spaces, up to that place.
-// Inlined: one store.
-#[inline(always)]
-pub(crate) fn leap(reader: &mut Reader, end: usize)
-    requires forward { reader.old.at ≤ end }
-    requires low { (k : ℕ) → reader.old.at ≤ k → k < end → 32 < byte reader.old.text k }
-    requires high { (k : ℕ) → reader.old.at ≤ k → k < end → byte reader.old.text k < 127 }
-    ensures { reader.new ≡ record { text = reader.old.text; at = end } }
-{
-    let here = reader.stop();
-    let mark = yaml_mark_t {
-        index: end as u64,
-        line: here.line,
-        column: here.column + (end as u64 - here.index),
-    };
-    *reader = Reader::resume(reader.text(), mark);
 }
 
 /// Past an ASCII character that is printed and no space.

@@ -6,10 +6,10 @@ ghost use Rattle.yaml_scan_words.specs.Tags as spec;
 ghost use Rattle.yaml_scan_words.specs.Readings.{ReadsAs};
 ghost use Rattle.yaml_scan_words.specs.TagsGiven.{IsTag, IsParts, IsShort};
 
-use crate::run::{copied, copied_since, leap, name_end, skip_indicator};
+use crate::run::{copied, copied_since, name_end, skip_indicator};
 use crate::uris::{kept_end, some_uri, uri};
 use crate::word::{TagWord, refusal};
-use yaml_scan_model::{Context, Problem, Reader, ScanError, room, yaml_mark_t};
+use yaml_scan_model::{Context, Problem, Reader, ScanError, leap, room, yaml_mark_t};
 
 /// A tag's handle and suffix.
 #[derive(Drop)]

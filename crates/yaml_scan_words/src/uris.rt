@@ -7,9 +7,9 @@ ghost use Rattle.yaml_scan_words.specs.Readings.{ReadsAs, IsBytes, behind_bytes}
 ghost use Rattle.yaml_scan_words.specs.Spelt.{spot_of};
 ghost use Rattle.yaml_scan_words.specs.Written.{is_kept};
 
-use crate::run::{copied_since, is_kept, leap, skip_indicator};
+use crate::run::{copied_since, is_kept, skip_indicator};
 use crate::word::refusal;
-use yaml_scan_model::{Context, Problem, Reader, ScanError, yaml_mark_t};
+use yaml_scan_model::{Context, Problem, Reader, ScanError, leap, yaml_mark_t};
 
 /// A byte of a URI, and how many escapes have to follow it to spell the rest of its character.
 #[derive(Clone, Copy)]

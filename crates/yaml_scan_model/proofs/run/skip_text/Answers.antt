@@ -1,10 +1,13 @@
 use Rattle.std.proofs.Common.{refl, ◌∙◌, sym, ◌≡◌, true, false}
 use Rattle.yaml_scan_model.specs.Runs.{is_text}
-use Rattle.yaml_scan_model.proofs.RunsLemmas.{run_start, run_more, run_done, text_parts}
+use Rattle.yaml_scan_model.proofs.RunsLemmas.{run_more, run_done, text_parts}
+use Rattle.yaml_scan_model.proofs.PrintedLemmas.{printed_start}
 use Rattle.yaml_scan_model.proofs.run.skip_text.Goals as goal
 
 pub bytes-init : goal.bytes-init
-bytes-init c = record { text = refl; run = run_start _ _ _ }
+bytes-init c =
+    let s = c.skip_printed.ensures in
+    record { text = s.text; run = printed_start c.args.reader.now.text c.args.reader.now.at c.skip_printed.new.reader.at s.forward s.each }
 
 pub bytes-preserved : goal.bytes-preserved
 bytes-preserved c =

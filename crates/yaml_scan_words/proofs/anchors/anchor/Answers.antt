@@ -19,7 +19,7 @@ leap-requires-clause-forward c =
 pub leap-requires-clause-low : goal.leap-requires-clause-low
 leap-requires-clause-low c =
     let first_printed : (32 < byte c.args.reader.now.text c.args.reader.now.at) × (byte c.args.reader.now.text c.args.reader.now.at < 127) = elim c.requires [ inl e ↦ (omega arith, omega arith) | inr e ↦ (omega arith, omega arith) ] in
-    rw c.name_end-to.ensures (λ k after before. (name_printed c.args.reader.now.text c.args.reader.now.at k first_printed after before).0)
+    rw c.name_end-to.ensures (λ k after before. let low = (name_printed c.args.reader.now.text c.args.reader.now.at k first_printed after before).0 in omega (arith, low))
 
 pub leap-requires-clause-high : goal.leap-requires-clause-high
 leap-requires-clause-high c =

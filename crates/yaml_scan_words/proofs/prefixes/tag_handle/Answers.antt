@@ -1,6 +1,5 @@
 use Rattle.std.proofs.Common.{◌+◌, length, arith}
 use Rattle.yaml_scan_words.specs.declared.run.Run.TheVariants as runs
-use Rattle.yaml_scan_words.specs.Runs.{run_end}
 use Rattle.yaml_scan_words.proofs.RunsLemmas.{run_within-ge}
 use Rattle.yaml_scan_words.proofs.prefixes.tag_handle.Goals as goal
 

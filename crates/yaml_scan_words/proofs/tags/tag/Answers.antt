@@ -1,4 +1,4 @@
-use Rattle.std.proofs.Common.{◌≡◌, ◌≢◌, ◌+◌, ◌==◌, ◌&&◌, not, true, slice_range, refl, sym, ◌∙◌, arith}
+use Rattle.std.proofs.Common.{◌≡◌, ◌+◌, ◌==◌, ◌&&◌, not, true, slice_range, refl, sym, ◌∙◌, arith}
 use Rattle.yaml_scan_model.specs.Marks.{byte}
 use Rattle.yaml_scan_words.specs.Tags.{handle_end, may_end_tag}
 use Rattle.yaml_scan_words.proofs.ShortLemmas.{short_printed, short_tag, handle_forward}
@@ -11,7 +11,7 @@ leap-requires-clause-forward c =
     rw c.ahead-behind.ensures (omega arith)
 
 pub leap-requires-clause-low : goal.leap-requires-clause-low
-leap-requires-clause-low c = rw c.ahead-behind.ensures (λ k after before. (short_printed c.args.reader.now.text c.args.reader.now.at c.suffix_end.result k c.requires c.suffix_end.ensures after before).0)
+leap-requires-clause-low c = rw c.ahead-behind.ensures (λ k after before. let low = (short_printed c.args.reader.now.text c.args.reader.now.at c.suffix_end.result k c.requires c.suffix_end.ensures after before).0 in omega (arith, low))
 
 pub leap-requires-clause-high : goal.leap-requires-clause-high
 leap-requires-clause-high c = rw c.ahead-behind.ensures (λ k after before. (short_printed c.args.reader.now.text c.args.reader.now.at c.suffix_end.result k c.requires c.suffix_end.ensures after before).1)

@@ -1,4 +1,4 @@
-use Rattle.std.proofs.Common.{◌≡◌, ◌≤◌, ◌<◌, ℕ, true, false, slice_range, refl}
+use Rattle.std.proofs.Common.{◌≡◌, ◌≤◌, ◌<◌, ℕ, true, false, slice_range, refl, arith}
 use Rattle.yaml_scan_words.specs.Uris.{is_uri, uri_at, with_bytes}
 use Rattle.yaml_scan_words.proofs.UrisLemmas.{uri_range, uri_behind, uri_plain}
 use Rattle.yaml_scan_model.specs.Marks.{byte}
@@ -11,7 +11,7 @@ leap-requires-clause-forward c = rw c.place-from.ensures at c.kept_end.ensures.f
 pub leap-requires-clause-low : goal.leap-requires-clause-low
 leap-requires-clause-low c =
     let kept : (k : ℕ) → c.args.reader.now.at ≤ k → k < c.kept_end.result → is_uri c.args.wide c.args.reader.now.text k ≡ true = rw (c.place-from.ensures, c.text.ensures) at c.kept_end.ensures.kept in
-    λ k after before. (uri_range c.args.wide c.args.reader.now.text k (kept k after before)).0
+    λ k after before. let low = (uri_range c.args.wide c.args.reader.now.text k (kept k after before)).0 in omega (arith, low)
 
 pub leap-requires-clause-high : goal.leap-requires-clause-high
 leap-requires-clause-high c =

@@ -1,7 +1,7 @@
 use Rattle.std.proofs.Common.{arith, refl}
 use Rattle.yaml_scan_model.proofs.MarksLemmas.{column_at-le}
-use Rattle.yaml_scan_words.proofs.PrintedLemmas.{leaps}
-use Rattle.yaml_scan_words.proofs.run.leap.Goals as goal
+use Rattle.yaml_scan_model.proofs.PrintedLemmas.{leaps}
+use Rattle.yaml_scan_model.proofs.run.leap.Goals as goal
 
 pub overflow_add-mark : goal.overflow_add-mark
 overflow_add-mark c =

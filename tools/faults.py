@@ -20,7 +20,8 @@ and some runs meet what goes wrong by itself: a full device as the output, a fol
 What is promised, and judged for each run (docs/PROFILE.md, 'The program'):
 
     an answer       the same status, output and lines as without anything wrong
-    told            status 1, the one line that names what went wrong, and nothing on standard output
+    told            status 1, the one line that names what went wrong, and nothing on standard output; of the commands that
+                    judge many files status 2, and the other files are judged all the same
     written so far  a failed write of the answer: status 1, `write failed after N bytes`, and the answer's first N bytes
     whose           of two inputs, a short one beside a long one: want of memory is told of the short one in no more runs
                     than there are allocations where it stands on both sides
@@ -33,6 +34,7 @@ the script fails.
 """
 import collections
 import os
+import re
 import shlex
 import subprocess
 import sys
@@ -75,6 +77,22 @@ CASES = [
     Case("same long and short", ["same", "a", "b"], files={"a": MAPPING, "b": b"a"}, short="second"),
     Case("same first refused", ["same", "a", "b"], files={"a": b"]", "b": b"a"}),
     Case("same second refused", ["same", "a", "b"], files={"a": b"a", "b": b"*a"}),
+    Case("check loads", ["check", "in.yaml"], files={"in.yaml": TAGGED}),
+    Case("check long", ["check", "-"], MAPPING),
+    Case("check parser fault", ["check", "in.yaml"], files={"in.yaml": b"a: [b\nc: d\n"}),
+    Case("check reader fault", ["check"], b"a: b\nc: \xff\n"),
+    Case("check composer fault, UTF-16", ["check", "in.yaml"], files={"in.yaml": b"\xff\xfe" + "\u00e4: *b".encode("utf-16le")}),
+    Case("check many", ["check", "a", "none", "b", "c"], files={"a": b"a", "b": b"*a", "c": MAPPING}),
+    Case("check quiet", ["check", "--quiet", "a", "b"], files={"a": b"a", "b": b"*a"}),
+    Case("check a list", ["check", "--files0-from", "list"], files={"list": b"a\0b\0", "a": b"a", "b": b"*a"}),
+    Case("check an empty list", ["check", "--files0-from", "-"]),
+    Case("fmt --check", ["fmt", "--check", "a", "b"], files={"a": b"--- a", "b": b'---\n! "a"\n'}),
+    Case("fmt --check pretty", ["fmt", "--check", "--pretty"], b"a: b\n"),
+    Case("fmt --check refused", ["fmt", "--check", "a", "b"], files={"a": b"[", "b": b"--- a"}),
+    Case("dash", ["same", "-", "a"], b"a: b", {"a": b"{a: b}"}),
+    Case("dash twice", ["same", "-", "-"], b"a: b"),
+    Case("one file too many", ["fmt", "a", "b"]),
+    Case("version", ["--version"]),
     Case("help", ["--help"]),
     Case("help of fmt", ["fmt", "--help"]),
     Case("unknown option", ["fmt", "--ident", "2"]),
@@ -169,7 +187,7 @@ def judge_write(wrong, run, usual):
     if wrong.way == "cut" and run.hits == 1:
         # the one byte was all that there was to write
         return "answered" if is_answer(run, usual) else None
-    is_help = b"\nUsage: " in usual.output
+    is_help = b"\nUsage: " in usual.output or usual.output.startswith(b"yaml_cli ")
     if wrong.way == "again" and (is_help or run.hit == 2) and is_answer(run, usual):
         # lines and help are tried again for longer
         return "answered"
@@ -189,6 +207,26 @@ def judge_open(wrong, run, usual):
     if wrong.way == "fail":
         return "told" if is_told(run, b"cannot read the input") else None
     return "answered" if is_answer(run, usual) else None
+
+
+def judge_many(wrong, run, usual):
+    """Of the commands that judge many files, where what goes wrong with one is told of it alone."""
+    if is_answer(run, usual):
+        return "answered"
+    if wrong.kind == "write" and run.hit == 2:
+        # of several lines in one write a front is there, and what is written on its own comes behind it
+        return "untold" if (run.status, run.output) == (usual.status, usual.output) and len(run.errors) < len(usual.errors) else None
+    if wrong.kind == "memory" and run.status == 2 and not (run.output or run.errors or run.counts[1] or run.counts[3]):
+        return "untold, of the command line's words"
+    usual_lines = usual.errors.splitlines()
+    own = [it for it in run.errors.splitlines() if it not in usual_lines]
+    is_front = usual.output.startswith(run.output)
+    if not own:
+        is_quiet = wrong.kind != "write" or run.hit != 1
+        return "untold" if is_quiet and is_front and run.status >= max(usual.status, 1) else None
+    line = rb"yaml_cli: [^ ]+: \S.*|yaml_cli: standard output: \S.*|[^ ]+: memory error"
+    is_own = all(re.fullmatch(line, it) for it in own) and (len(own) == 1 or wrong.count != 1)
+    return "told" if is_own and is_front and run.status == 2 else None
 
 
 JUDGES = {"memory": judge_memory, "read": judge_read, "write": judge_write, "open": judge_open}
@@ -222,7 +260,9 @@ def judged(bench, folder, case, usual, wrong):
         run = bench.run(folder, case, wrong)
     except subprocess.TimeoutExpired:
         return None, f"{case.name}: {' '.join(map(str, wrong))}: no end within {SECONDS} seconds"
-    found = JUDGES[wrong.kind](wrong, run, usual) if run.status >= 0 and run.hits else None
+    is_of_many = "check" in case.words[0] or "--check" in case.words
+    judge = judge_many if is_of_many else JUDGES[wrong.kind]
+    found = judge(wrong, run, usual) if run.status >= 0 and run.hits else None
     if found:
         return found, ""
     why = "nothing went wrong" if run.status >= 0 and not run.hits else f"status {run.status}"
@@ -255,17 +295,20 @@ def sided(bench, number, case, found):
 def real_runs(bench):
     """What no call of ours lets go wrong: a full device as the output, a folder as the input. What isn't as promised."""
     folder = bench.place("real", Case("real", [], b"a: b", {"in.yaml": b"a: b"}))
-    for words, output, line in [
-        (["fmt", "in.yaml"], "/dev/full", b"write failed after 0 bytes"),
-        (["same", "in.yaml", "in.yaml"], "/dev/full", b"write failed after 0 bytes"),
-        (["events", "."], "/dev/null", b"cannot read the input"),
-        (["same", "in.yaml", "."], "/dev/null", b"cannot read the input"),
+    for words, output, status, line in [
+        (["fmt", "in.yaml"], "/dev/full", 1, b"write failed after 0 bytes"),
+        (["same", "in.yaml", "in.yaml"], "/dev/full", 1, b"write failed after 0 bytes"),
+        (["events", "."], "/dev/null", 1, b"cannot read the input"),
+        (["same", "in.yaml", "."], "/dev/null", 1, b"cannot read the input"),
+        (["fmt", "--check", "in.yaml"], "/dev/full", 2, b"standard output: No space left on device (os error 28)"),
+        (["check", "in.yaml", "."], "/dev/full", 2, b".: Is a directory (os error 21)"),
+        (["check", "in.yaml", b"\xff"], "/dev/null", 2, b"a word isn't UTF-8"),
     ]:
         with open(output, "wb") as stdout:
             how = {"cwd": folder, "stdout": stdout, "stderr": subprocess.PIPE, "timeout": SECONDS}
             ran = subprocess.run([bench.program, *words], stdin=subprocess.DEVNULL, **how)
-        is_well = (ran.returncode, ran.stderr) == (1, b"yaml_cli: " + line + b"\n")
-        yield "" if is_well else f"{' '.join(words)} > {output}: status {ran.returncode}, errors {ran.stderr!r}"
+        is_well = (ran.returncode, ran.stderr) == (status, b"yaml_cli: " + line + b"\n")
+        yield "" if is_well else f"{words} > {output}: status {ran.returncode}, errors {ran.stderr!r}"
 
 
 def compiled_program():

@@ -17,24 +17,20 @@ TOOLS = os.path.dirname(os.path.abspath(__file__))
 TOP = os.path.dirname(TOOLS)
 NAME = "yaml_cli"
 
-# A command's name, what it does, its usage line, its arguments and its options.
-Command = collections.namedtuple("Command", "name about usage arguments options")
+# A command's name, what it does, its usage line, its arguments, its options, its examples, and its statuses with their texts.
+Command = collections.namedtuple("Command", "name about usage arguments options examples statuses")
 # An argument's name as it is shown, and its text.
 Argument = collections.namedtuple("Argument", "name text")
 # An option's short and long name, its value's name where it has one, its text, and its default.
 Option = collections.namedtuple("Option", "short long value text default")
 
 # What no help says: of the words of docs/PROFILE.md, 'The program'.
-STATUS = [
-    ("0", "An answer was written. Of same, also where it is different."),
-    ("1", "An input was refused, or reading or writing failed: one line on standard error tells what, and nothing is written, "
-     "but for the front of an answer whose writing failed."),
-    ("2", "The words of the command line are wrong."),
-]  # fmt: skip
 NOTES = [
-    "A text comes from FILE, or from standard input where none is named; - is a file's name like others. The answer is written "
-    "once the whole input was read and judged.",
-    "A fault's line has its kind, what was being read and what is wrong, with lines and columns from 1.",
+    "A text comes from FILE, or from standard input where none is named or where it is -; ./- is the file of that name. The "
+    "answer is written once the whole input was read and judged, and nothing is written where it is refused.",
+    "A fault's line has its kind, what was being read and what is wrong, with lines and columns from 1. check, and fmt with "
+    "--check, show the source line too, with a caret under the place.",
+    "Comments are dropped: a text that is written has none.",
     "Where pretty form was asked for and wouldn't read back with the same content, canonical form is written, and a line on "
     "standard error says so.",
 ]
@@ -76,7 +72,8 @@ def option_of(line):
 def command_of(name, text):
     parts = sections(text)
     arguments = [Argument(*re.split(r"  +", line, maxsplit=1)) for line in parts["Arguments"]]
-    return Command(name, parts[""][0], parts["Usage"][0], arguments, [option_of(it) for it in parts["Options"]])
+    options, statuses = [option_of(it) for it in parts["Options"]], [re.split(r"  +", it, maxsplit=1) for it in parts["Status"]]
+    return Command(name, parts[""][0], parts["Usage"][0], arguments, options, parts["Example"] + parts["Examples"], statuses)
 
 
 def commands_of(path):
@@ -90,6 +87,11 @@ def values_of(option):
     """The words that an option takes, where its text lists them: `..: a, b or c`."""
     listed = re.search(r": (\w+(?:, \w+)* or \w+)$", option.text) if option.value else None
     return re.split(r", | or ", listed[1]) if listed else []
+
+
+def is_file(option):
+    """Whether its value is a file's name."""
+    return option.value == "LIST"
 
 
 def roff(text):
@@ -109,8 +111,19 @@ def man_usage(usage):
     return re.sub(r"[A-Z]{1,}\b", lambda it: f"\\fI{it[0]}\\fR", roff(usage))
 
 
+def version_of(path):
+    """The program's name and version, without what it follows."""
+    return subprocess.run([path, "--version"], check=True, capture_output=True, text=True).stdout.split(" (")[0]
+
+
+def newest_change():
+    """The version of the first heading of CHANGELOG.md, as the program tells it."""
+    with open(f"{TOP}/CHANGELOG.md", encoding="utf-8") as file:
+        return f"{NAME} {re.search(r'^## (.+)$', file.read(), re.MULTILINE)[1]}"
+
+
 def man_page(about, commands):
-    lines = [f'.TH {NAME.upper()} 1 "" "" "User Commands"', ".SH NAME", f"{NAME} \\- {roff(about[0].lower() + about[1:])}"]
+    lines = [f'.TH {NAME.upper()} 1 "" "{newest_change()}" "User Commands"', ".SH NAME", f"{NAME} \\- {roff(about[0].lower() + about[1:])}"]
     lines.append(".SH SYNOPSIS")
     for it in commands:
         lines += [man_usage(it.usage), ".br"]
@@ -121,12 +134,13 @@ def man_page(about, commands):
     for it in commands:
         lines += [f".SS {man_usage(it.usage)}", f"{roff(it.about)}."]
         for argument in it.arguments:
-            lines += [".TP", f"\\fI{roff(argument.name.strip('[]<>'))}\\fR", f"{roff(argument.text)}."]
+            lines += [".TP", f"\\fI{roff(argument.name.strip('[]<>.'))}\\fR", f"{roff(argument.text)}."]
         for option in it.options:
             lines += man_option(option)
-    lines.append(".SH EXIT STATUS")
-    for number, text in STATUS:
-        lines += [".TP", f"\\fB{number}\\fR", roff(text)]
+        for number, text in it.statuses:
+            lines += [".TP", f"Status \\fB{number}\\fR", f"{roff(text)}."]
+        if it.examples:
+            lines += [".PP", ".nf", *[f"    {roff(example)}" for example in it.examples], ".fi"]
     return "\n".join([f'.\\" Written by tools/help.py from the program\'s own help.', *lines]) + "\n"
 
 
@@ -139,13 +153,14 @@ def bash(_, commands):
     options = "".join(f"        {it.name}) options='{' '.join(words_of(it))}' ;;\n" for it in commands)
     valued = {o.long: values_of(o) for it in commands for o in it.options if values_of(o)}
     values = "".join(f"        {long}) words='{' '.join(found)}' ;;\n" for long, found in valued.items())
-    numbers = "|".join(sorted({o.long for it in commands for o in it.options if o.value and not values_of(o)}))
+    free = {o.long for it in commands for o in it.options if o.value and not values_of(o) and not is_file(o)}
+    numbers = "|".join(sorted(free))
     return f"""# bash completion for {NAME}: source this file. Written by tools/help.py from the program's own help.
 _{NAME}() {{
     local now=${{COMP_WORDS[COMP_CWORD]}} before=${{COMP_WORDS[COMP_CWORD - 1]}} options='' words=''
     COMPREPLY=()
     if [ "$COMP_CWORD" -eq 1 ]; then
-        COMPREPLY=($(compgen -W '{names} -h --help' -- "$now"))
+        COMPREPLY=($(compgen -W '{names} -h --help -V --version' -- "$now"))
         return
     fi
     # a value behind a = is a word of its own
@@ -179,7 +194,7 @@ def quoted(text):
 def zsh_option(option):
     names = [it for it in (option.short, option.long) if it]
     text = quoted(option.text.replace("[", "\\[").replace("]", "\\]").replace(":", "\\:"))
-    values = f"({' '.join(values_of(option))})" if values_of(option) else " "
+    values = f"({' '.join(values_of(option))})" if values_of(option) else "_files" if is_file(option) else " "
     value = f":{option.value}:{values}" if option.value else ""
     equals = "=" if option.value else ""
     if len(names) == 1:
@@ -192,7 +207,8 @@ def zsh_command(command):
     rows = [row for it in command.options for row in zsh_option(it)]
     for at, argument in enumerate(command.arguments, 1):
         colons = "::" if argument.name.startswith("[") else ":"
-        rows.append(f"'{at}{colons}{quoted(argument.text)}:_files'")
+        place = "*:" if argument.name.endswith("...") else f"{at}{colons}"
+        rows.append(f"'{place}{quoted(argument.text)}:_files'")
     listed = " \\\n                ".join(rows)
     return f"            {command.name})\n            _arguments -s -S \\\n                {listed} ;;\n"
 
@@ -207,7 +223,8 @@ _{NAME}() {{
     local -a commands=(
 {listed}        'help:Tells the help of a command'
     )
-    _arguments -C '(-h --help)'{{-h,--help}}'[Print help]' '1: :->command' '*:: :->words'
+    _arguments -C '(-h --help)'{{-h,--help}}'[Print help]' '(-V --version)'{{-V,--version}}'[Print version]' \\
+        '1: :->command' '*:: :->words'
     case $state in
     command) _describe command commands ;;
     words)
@@ -226,7 +243,7 @@ fi
 
 def fish_option(name, option):
     names = f" -s {option.short[1:]}" if option.short else ""
-    value = " -x" if option.value else ""
+    value = (" -r -F" if is_file(option) else " -x") if option.value else ""
     values = f" -a '{' '.join(values_of(option))}'" if values_of(option) else ""
     text = option.text.replace("\\", "\\\\").replace("'", "\\'")
     return f"complete -c {NAME} -n '__fish_seen_subcommand_from {name}'{names} -l {option.long[2:]}{value}{values} -d '{text}'\n"
@@ -240,6 +257,7 @@ def fish(_, commands):
         lines.append(f"{first} -a {it.name} -d '{it.about}'\n")
     lines.append(f"{first} -a help -d 'Tells the help of a command'\n")
     lines.append(f"{first} -s h -l help -d 'Print help'\n")
+    lines.append(f"{first} -s V -l version -d 'Print version'\n")
     for it in commands:
         lines += [fish_option(it.name, option) for option in it.options]
         lines.append(f"complete -c {NAME} -n '__fish_seen_subcommand_from {it.name}' -F\n")
@@ -262,6 +280,9 @@ def main():
     if not path:
         print("help: the program isn't built, so the man page and the completions stay as they are; make program builds it")
         return words != ["--if-built"]
+    if version_of(path) != newest_change():
+        print(f"help: the program is {version_of(path)}, and CHANGELOG.md begins with {newest_change()}")
+        return 1
     about, commands = commands_of(path)
     differing = []
     for name, made in FILES.items():

@@ -1,15 +1,13 @@
 //! The program: it hands its words and the standard streams to `yaml_main`, and ends with the status that this answers.
 #![tactic(auto)]
 
+use std::io::{ErrorKind, Result, Write};
 use std::process::ExitCode;
 use yaml_cli_main::yaml_main;
 
-// The words of the program. None where one isn't UTF-8, or there is no room for them.
-fn words_of(rt: &HostRuntime) -> Option<Vec<String>> {
-    match std::env::args(rt) {
-        Ok(args) => args.collect::<Vec<String>>(rt.alloc()).ok(),
-        Err(_) => None,
-    }
+fn words_of(rt: &HostRuntime) -> Result<Vec<String>> {
+    let words = std::env::args(rt)?.collect(rt.alloc())?;
+    Ok(words)
 }
 
 fn status_of(rt: &HostRuntime, words: &[String]) -> u8 {
@@ -22,9 +20,17 @@ fn status_of(rt: &HostRuntime, words: &[String]) -> u8 {
     )
 }
 
+// There are no words. Where there was no room for them only the status tells that.
+fn wordless(rt: &HostRuntime, kind: ErrorKind) -> ExitCode {
+    if kind == ErrorKind::InvalidData {
+        let _ = writeln!(&mut rt.stderr(), "yaml_cli: a word isn't UTF-8");
+    }
+    ExitCode::from(2)
+}
+
 fn main(rt: HostRuntime) -> ExitCode {
     match words_of(&rt) {
-        Some(words) => ExitCode::from(status_of(&rt, words.as_slice())),
-        None => ExitCode::from(2),
+        Ok(words) => ExitCode::from(status_of(&rt, words.as_slice())),
+        Err(error) => wordless(&rt, error.kind()),
     }
 }

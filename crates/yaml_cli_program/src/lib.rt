@@ -5,14 +5,16 @@
 mod engine;
 mod fault;
 mod file;
+mod judge;
 mod options;
 mod order;
 mod program;
 mod settings;
 mod table;
+mod version;
 mod words;
 
 pub use engine::{Compared, Ended, Engine, FIRST, SECOND};
 pub use fault::INPUT_LIMIT;
-pub use order::Task;
+pub use order::{Judging, Question, Task};
 pub use program::main_by;

@@ -1,6 +1,7 @@
 //! The words of each command, for clap.
 
-use crate::table::{COMMANDS, Kind, ROWS, Row, Told};
+use crate::table::{AFTER, COMMANDS, Kind, ROWS, Row, Told};
+use crate::version::VERSION;
 use clap::builder::ValueParser;
 use clap::{Arg, ArgAction, Command};
 use std::alloc::{AllocError, Global};
@@ -36,14 +37,18 @@ fn arg_of<'a>(alloc: Global, row: &Row) -> Arg<'a> {
     let arg = named(alloc, row);
     match row.kind {
         Kind::Place => arg,
+        Kind::Many => arg.num_args(0..),
         Kind::Needed => arg.required(true),
         Kind::Flag => option_of(arg, row).action(ArgAction::SetTrue),
+        Kind::Name => arg.long(row.name),
         _ => option_of(arg, row),
     }
 }
 
 fn filled<'a>(alloc: Global, told: &Told) -> Result<Command<'a>, AllocError> {
-    let mut command = Command::new(alloc, told.name).about(told.about);
+    let mut command = Command::new(alloc, told.name)
+        .about(told.about)
+        .after_help(told.after);
     for row in &ROWS {
         if row.of & told.bit != 0 {
             command = match command.arg(arg_of(alloc, row)) {
@@ -68,9 +73,11 @@ fn command_of<'a>(alloc: Global, told: &Told, is_short: &mut bool) -> Command<'a
 }
 
 fn bare_command<'a>(alloc: Global) -> Command<'a> {
-    let about = "Rewrites YAML in canonical or pretty form";
+    let about = "Checks, compares and rewrites YAML";
     Command::new(alloc, "yaml_cli")
         .about(about)
+        .after_help(AFTER)
+        .version(VERSION)
         .subcommand_required(true)
 }
 

@@ -16,8 +16,26 @@ pub struct Task {
     pub settings: yaml_settings_t,
 }
 
-/// What the program is told to do.
+/// What is asked of each of many files.
 #[derive(Clone, Copy)]
+pub enum Question {
+    /// Whether it loads.
+    Loads,
+    /// Whether it is the text that a rewriting of it would write.
+    HasForm,
+}
+
+/// How files are judged.
+#[derive(Clone, Copy)]
+pub struct Judging {
+    pub question: Question,
+    pub task: Task,
+    /// Nothing is told but by the status.
+    pub quiet: bool,
+}
+
+/// What the program is told to do.
+#[derive(Drop)]
 pub(crate) enum Order<'a> {
     /// A run over the file, or over standard input.
     Run {
@@ -30,6 +48,16 @@ pub(crate) enum Order<'a> {
         first: &'a str,
         second: &'a str,
     },
+    /// Files are to be judged, and those that a list names; standard input where there are neither.
+    Judge {
+        judging: Judging,
+        files: Vec<&'a str>,
+        list: Option<&'a str>,
+    },
+    /// That word is one file too many.
+    Extra(&'a str),
+    /// There is no room for the words.
+    Short,
     /// That word can't stand there.
     Unknown {
         what: &'static str,
@@ -77,13 +105,35 @@ fn input_encoding_named(word: &str) -> Option<yaml_encoding_t> {
     }
 }
 
-/// The command of that name, of those that read one input.
+/// The command of that name, of those that read one input and do nothing else.
 pub(crate) fn command_named(word: &str) -> Option<yaml_command_t> {
     match word {
-        "fmt" => Some(yaml_command_t::Fmt),
         "docs" => Some(yaml_command_t::Docs),
         "events" => Some(yaml_command_t::Events),
         _ => None,
+    }
+}
+
+/// The judging of files that is asked for, by the run that the same words would ask for.
+pub(crate) fn judge_of<'a>(
+    question: Question,
+    quiet: bool,
+    run: Order<'a>,
+    files: Vec<&'a str>,
+    list: Option<&'a str>,
+) -> Order<'a> {
+    let Order::Run { task, .. } = run else {
+        return run;
+    };
+    let judging = Judging {
+        question,
+        task,
+        quiet,
+    };
+    Order::Judge {
+        judging,
+        files,
+        list,
     }
 }
 

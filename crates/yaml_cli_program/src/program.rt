@@ -2,7 +2,8 @@
 
 use crate::engine::{Compared, Ended, Engine, FIRST, SECOND};
 use crate::fault::{FAILED, run_failed};
-use crate::file::{bytes_of, write_answer};
+use crate::file::{STANDARD, bytes_of, write_answer};
+use crate::judge::{Judge, Named, judge_all};
 use crate::order::{Order, Task, WRONG_WORDS};
 use crate::words::{order_of, tell};
 use std::alloc::Global;
@@ -53,8 +54,8 @@ fn run_file<G: Engine, H: Files + AllocGlobal, R: Read, W: Write>(
     writer: &mut W,
 ) -> Ended {
     match file {
-        Some(path) => run_path(engine, rt, task, path, writer),
-        None => engine.run(rt.alloc(), task, reader, writer),
+        Some(path) if path != STANDARD => run_path(engine, rt, task, path, writer),
+        _ => engine.run(rt.alloc(), task, reader, writer),
     }
 }
 
@@ -77,29 +78,33 @@ fn ended<E: Write>(alloc: Global, task: &Task, ended: Ended, errors: &mut E) -> 
 }
 
 // Compares what was read of the first file with the second one.
-fn compare_with<G: Engine, H: Files + AllocGlobal>(
+fn compare_with<G: Engine, H: Files + AllocGlobal, R: Read>(
     engine: &G,
     rt: &H,
     from: yaml_encoding_t,
     first: &[u8],
     second: &str,
+    reader: &mut R,
 ) -> Compared {
-    match bytes_of(rt, second) {
+    match bytes_of(rt, second, reader) {
         Ok(second) => engine.same(rt.alloc(), from, first, second.as_slice()),
         Err(fault) => Err((SECOND, fault)),
     }
 }
 
-// Whether two files have the same content.
-fn run_same<G: Engine, H: Files + AllocGlobal>(
+// Whether two files have the same content. Standard input, named twice, is read once.
+fn run_same<G: Engine, H: Files + AllocGlobal, R: Read>(
     engine: &G,
     rt: &H,
     from: yaml_encoding_t,
     first: &str,
     second: &str,
+    reader: &mut R,
 ) -> Compared {
-    match bytes_of(rt, first) {
-        Ok(first) => compare_with(engine, rt, from, first.as_slice(), second),
+    let is_itself = first == STANDARD && second == STANDARD;
+    match bytes_of(rt, first, reader) {
+        Ok(first) if is_itself => engine.same(rt.alloc(), from, first.as_slice(), first.as_slice()),
+        Ok(first) => compare_with(engine, rt, from, first.as_slice(), second, reader),
         Err(fault) => Err((FIRST, fault)),
     }
 }
@@ -123,6 +128,16 @@ fn unknown_word<E: Write>(errors: &mut E, what: &str, word: &str) -> u8 {
     WRONG_WORDS
 }
 
+// Tells that a file is one too many, as clap tells it of a command that takes one.
+fn extra_file<E: Write>(errors: &mut E, word: &str) -> u8 {
+    let _ = writeln!(
+        errors,
+        "error: unexpected argument '{word}' found\n\nUsage: yaml_cli fmt [OPTIONS] [FILE]...\n\n\
+        For more information, try '--help'."
+    );
+    WRONG_WORDS
+}
+
 // Does what it is told. Answers the status.
 fn follow<G: Engine, H: Files + AllocGlobal, R: Read, W: Write, E: Write>(
     engine: &G,
@@ -142,9 +157,27 @@ fn follow<G: Engine, H: Files + AllocGlobal, R: Read, W: Write, E: Write>(
             first,
             second,
         } => {
-            let answer = run_same(engine, rt, *from, first, second);
+            let answer = run_same(engine, rt, *from, first, second, reader);
             compared(rt.alloc(), answer, writer, errors)
         }
+        Order::Judge {
+            judging,
+            files,
+            list,
+        } => {
+            let files = files.as_slice();
+            let named = Named { files, list: *list };
+            judge_all(
+                &Judge { engine, judging },
+                rt,
+                named,
+                reader,
+                writer,
+                errors,
+            )
+        }
+        Order::Extra(word) => extra_file(errors, word),
+        Order::Short => WRONG_WORDS,
         Order::Unknown { what, word } => unknown_word(errors, what, word),
         Order::Nothing => FAILED,
     }

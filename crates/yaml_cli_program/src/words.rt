@@ -10,6 +10,7 @@ use std::convert::AsStr;
 use std::io::Write;
 
 fn ordered<'a>(
+    alloc: Global,
     found: Result<ArgMatches<'a>, WordFault>,
     is_short: bool,
 ) -> Result<Order<'a>, WordFault> {
@@ -17,7 +18,7 @@ fn ordered<'a>(
         return Err(WordFault::from(AllocError));
     }
     match found {
-        Ok(matches) => Ok(order_in(&matches)),
+        Ok(matches) => Ok(order_in(alloc, &matches)),
         Err(error) => Err(error),
     }
 }
@@ -29,7 +30,7 @@ pub(crate) fn order_of<'a, S: AsStr>(
 ) -> Result<Order<'a>, WordFault> {
     let mut is_short = false;
     match whole_command(alloc, &mut is_short) {
-        Ok(command) => ordered(command.try_get_matches_from(words), is_short),
+        Ok(command) => ordered(alloc, command.try_get_matches_from(words), is_short),
         Err(error) => Err(WordFault::from(error)),
     }
 }

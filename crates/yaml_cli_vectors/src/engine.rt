@@ -6,7 +6,7 @@ use serde_json::Value;
 use yaml_cli_vector_calls::own_fault;
 use yaml_cli_vector_lines::Reply;
 use yaml_round::{
-    yaml_events, yaml_fault_line, yaml_fault_t, yaml_reformat, yaml_reload, yaml_same,
+    yaml_check, yaml_events, yaml_fault_line, yaml_fault_t, yaml_reformat, yaml_reload, yaml_same,
     yaml_settings_t, yaml_side_t,
 };
 
@@ -36,6 +36,20 @@ pub fn reload(reply: &mut Reply, line: &Value) {
     let input = given.input.as_slice();
     match yaml_reload(reply.alloc(), input, given.from, &given.settings) {
         Ok(text) => put_answer(reply, line, text.as_slice(), None),
+        Err(fault) => reply.fault(fault),
+    }
+}
+
+/// Whether the line's input loads, or its fault.
+pub fn loads(reply: &mut Reply, line: &Value) {
+    let from = reply.encoding(line, "from");
+    let input = input_of(reply, line, "input");
+    match yaml_check(reply.alloc(), input.as_slice(), from) {
+        Ok(()) => {
+            reply.begin();
+            reply.check("answer", true);
+            reply.end();
+        }
         Err(fault) => reply.fault(fault),
     }
 }

@@ -14,6 +14,7 @@ fn answer(rt: &HostRuntime, reply: &mut Reply, call: &str, line: &Value) {
         "events" => engine::events(reply, line),
         "reformat" => engine::reformat(reply, line),
         "reload" => engine::reload(reply, line),
+        "loads" => engine::loads(reply, line),
         "same" => engine::same(reply, line),
         "line" => engine::fault_line(reply, line),
         "least_limit" => limits::least_limit(reply, line),

@@ -1,11 +1,13 @@
 //! The engine: it reads a YAML text whole and writes it again in canonical or pretty form, over slices or over devices.
 #![tactic(auto)]
 
+mod check;
 mod engine;
 mod reload;
 mod run;
 mod same;
 
+pub use check::yaml_check;
 pub use engine::{yaml_events, yaml_reformat};
 pub use reload::yaml_reload;
 pub use run::yaml_run;

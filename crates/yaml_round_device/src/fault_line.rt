@@ -9,8 +9,8 @@ use yaml_scan_types::{
     yaml_error_type_t, yaml_fault_t, yaml_mark_t, yaml_memory_fault, yaml_origin_t,
 };
 
-// The kind's word, and `error`.
-fn headline(kind: yaml_error_type_t) -> &'static str
+/// The kind's word, and `error`.
+pub fn headline(kind: yaml_error_type_t) -> &'static str
     ensures { result.now ≡ headline kind }
 {
     match kind {

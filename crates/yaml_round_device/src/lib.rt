@@ -11,7 +11,7 @@ mod std_device;
 mod write_all;
 
 pub use device::{yaml_device_fault_t, yaml_input_t, yaml_output_t};
-pub use fault_line::yaml_fault_line;
+pub use fault_line::{headline, yaml_fault_line};
 pub use read_all::yaml_read_all;
 pub use run_fault::yaml_run_fault_t;
 pub use settings::{yaml_command_t, yaml_form_t, yaml_output_encoding_t, yaml_settings_t};

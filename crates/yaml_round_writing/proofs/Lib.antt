@@ -7,6 +7,7 @@ pub mod Forms
 pub mod Staying
 pub mod Reloading
 mod Streams
+mod Checking
 -- the laws beneath, for crates that name this one alone
 pub use Rattle.yaml_round_laws_documents.proofs.DocumentsLayouts as Layouts
 pub use Rattle.yaml_round_laws_documents.proofs.Laid

@@ -3,6 +3,7 @@ pub mod Lines
 pub mod Writing
 pub mod Answers
 pub mod Reload
+pub mod Checking
 -- what it speaks of, and the laws beneath, for crates that name this one alone
 pub use Rattle.yaml_round_laws_documents.specs as round_laws_documents
 pub use Rattle.yaml_emit.specs as emit

@@ -1,11 +1,13 @@
 //! What the engine's calls stand on: the events of an input laid out as a text, the lines of events, and documents loaded and dumped.
 #![tactic(auto)]
 
+mod check;
 mod lines;
 mod reload;
 mod text;
 mod writing;
 
+pub use check::load_out;
 pub use lines::lines_of;
 pub use reload::{documents_of, written_documents};
 pub use text::{in_pretty_form, written};

@@ -15,9 +15,11 @@ use yaml_round_device::yaml_settings_t;
 use yaml_round_reading::{Reading, let_go, reading_of};
 use yaml_scan::{yaml_encoding_t, yaml_fault_t, yaml_memory_fault, yaml_origin_t};
 
-// The next document, whose end is made implicit; nothing behind the last.
+/// The next document, whose end is made implicit; nothing behind the last.
 #[tactic(auto, using(crate::proofs::Reloading::loaded_document, crate::proofs::Reloading::loaded_last, crate::proofs::Reloading::load_refused))]
-fn next_document(reading: &mut Reading<'_>) -> Result<Option<yaml_document_t>, yaml_fault_t>
+pub(crate) fn next_document(
+    reading: &mut Reading<'_>,
+) -> Result<Option<yaml_document_t>, yaml_fault_t>
     requires { reading.old.parser.between ≡ true }
     ensures next { LoadsNext reading.old.parser result reading.new.parser }
     ensures between { reading.new.parser.between ≡ true }

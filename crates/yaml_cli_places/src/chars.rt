@@ -1,0 +1,155 @@
+//! The characters of a text, as far as its bytes spell any.
+
+use bstr::decode_utf8;
+use yaml_scan_types::yaml_encoding_t;
+
+/// The bytes of a text, and how they are encoded.
+#[derive(Clone, Copy)]
+pub(crate) struct Source<'a> {
+    pub(crate) input: &'a [u8],
+    pub(crate) from: yaml_encoding_t,
+}
+
+#[derive(Clone, Copy)]
+enum Form {
+    Utf8,
+    Utf16Le,
+    Utf16Be,
+}
+
+/// What comes next in a text.
+#[derive(Clone, Copy)]
+pub(crate) enum Next {
+    Char(char),
+    // Bytes that spell no character.
+    Broken,
+    End,
+}
+
+/// What is left of a text.
+#[derive(Clone, Copy)]
+pub(crate) struct Chars<'a> {
+    left: &'a [u8],
+    form: Form,
+}
+
+// The first unit of a UTF-16 text.
+fn unit_of(bytes: &[u8], form: Form) -> Option<u16> {
+    let unit = [*bytes.first()?, *bytes.get(1)?];
+    match form {
+        Form::Utf16Be => Some(u16::from_be_bytes(unit)),
+        _ => Some(u16::from_le_bytes(unit)),
+    }
+}
+
+// The character that two units spell.
+fn pair_of(high: u16, low: u16) -> Option<char> {
+    if high >> 10 == 0x36 && low >> 10 == 0x37 {
+        let above = u32::from(high & 0x3FF) * 0x400 + u32::from(low & 0x3FF);
+        char::from_u32(0x1_0000 + above)
+    } else {
+        None
+    }
+}
+
+// The first character of a UTF-16 text, and how many bytes it has.
+fn decode_utf16(bytes: &[u8], form: Form) -> (Option<char>, usize) {
+    let Some(unit) = unit_of(bytes, form) else {
+        return (None, 1);
+    };
+    if let Some(c) = char::from_u32(u32::from(unit)) {
+        return (Some(c), 2);
+    }
+    match unit_of(bytes.get(2..).unwrap_or(b""), form) {
+        Some(low) => (pair_of(unit, low), 4),
+        None => (None, 2),
+    }
+}
+
+fn is_break(c: char) -> bool {
+    matches!(c, '\n' | '\r' | '\u{85}' | '\u{2028}' | '\u{2029}')
+}
+
+impl<'a> Chars<'a> {
+    // Those of a text whose encoding its byte order mark tells; behind the mark.
+    fn detected(input: &'a [u8]) -> Chars<'a> {
+        let (form, mark) = match input {
+            [0xFF, 0xFE, ..] => (Form::Utf16Le, 2),
+            [0xFE, 0xFF, ..] => (Form::Utf16Be, 2),
+            [0xEF, 0xBB, 0xBF, ..] => (Form::Utf8, 3),
+            _ => (Form::Utf8, 0),
+        };
+        let left = input.get(mark..).unwrap_or(b"");
+        Chars { left, form }
+    }
+
+    /// All of them.
+    pub(crate) fn of(source: Source<'a>) -> Chars<'a> {
+        let left = source.input;
+        match source.from {
+            yaml_encoding_t::YAML_ANY_ENCODING => Chars::detected(left),
+            yaml_encoding_t::YAML_UTF8_ENCODING => Chars {
+                left,
+                form: Form::Utf8,
+            },
+            yaml_encoding_t::YAML_UTF16LE_ENCODING => Chars {
+                left,
+                form: Form::Utf16Le,
+            },
+            yaml_encoding_t::YAML_UTF16BE_ENCODING => Chars {
+                left,
+                form: Form::Utf16Be,
+            },
+        }
+    }
+
+    /// How many bytes are left.
+    pub(crate) fn byte_count(&self) -> usize {
+        self.left.len()
+    }
+
+    fn take(&mut self) -> Next {
+        if self.left.is_empty() {
+            return Next::End;
+        }
+        let (found, size) = match self.form {
+            Form::Utf8 => decode_utf8(self.left),
+            form => decode_utf16(self.left, form),
+        };
+        self.left = self.left.get(size..).unwrap_or(b"");
+        match found {
+            Some(c) => Next::Char(c),
+            None => Next::Broken,
+        }
+    }
+
+    /// The next character; a CR and a LF behind it are one line feed.
+    pub(crate) fn next(&mut self) -> Next {
+        let next = self.take();
+        if let Next::Char('\r') = next {
+            let mut ahead = *self;
+            if let Next::Char('\n') = ahead.take() {
+                *self = ahead;
+            }
+            return Next::Char('\n');
+        }
+        next
+    }
+
+    /// The next character of the line, U+FFFD for bytes that spell none; none at its end.
+    pub(crate) fn next_in_line(&mut self) -> Option<char> {
+        match self.next() {
+            Next::Char(c) if !is_break(c) => Some(c),
+            Next::Broken => Some('\u{FFFD}'),
+            _ => None,
+        }
+    }
+}
+
+/// Whether that ends a line.
+pub(crate) fn ends_line(next: Next) -> bool {
+    match next {
+        Next::Char(c) => is_break(c),
+        _ => false,
+    }
+}

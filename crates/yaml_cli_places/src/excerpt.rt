@@ -1,0 +1,109 @@
+//! A source line, and a caret under a place in it.
+
+use crate::chars::{Chars, Source};
+use crate::place::{Place, from_line};
+use std::alloc::AllocError;
+use unicode_width::UnicodeWidthChar;
+
+// A line is shown from that many characters before the place on, where there are more than a few in front of these.
+const BEFORE: u64 = 50;
+
+const FEW: u64 = 10;
+
+// And it is shown to that many characters behind the place.
+const BEHIND: u64 = 30;
+
+// Stands for what isn't shown of a line.
+const CUT: &'static str = "...";
+
+// A character that a terminal doesn't show where it stands: a control character, one without width that says how others are
+// shown, or none at all.
+fn is_hidden(c: char) -> bool {
+    c.is_control()
+        || matches!(c, '\u{200B}'..='\u{200F}' | '\u{2028}'..='\u{202E}' | '\u{2060}'..='\u{206F}')
+        || matches!(
+            c,
+            '\u{FEFF}' | '\u{FFF9}'..='\u{FFFB}' | '\u{FFFE}' | '\u{FFFF}'
+        )
+}
+
+/// Adds a character; a hidden one by its number, but for a tab.
+pub(crate) fn push_shown(text: &mut String, c: char) -> Result<(), AllocError> {
+    if c != '\t' && is_hidden(c) {
+        let code = u32::from(c);
+        write!(text, "<U+{code:04X}>")
+    } else {
+        text.push(c)
+    }
+}
+
+// Adds what takes as many columns as the character does.
+fn push_blank(text: &mut String, c: char) -> Result<(), AllocError> {
+    if c == '\t' {
+        return text.push('\t');
+    }
+    let columns = if is_hidden(c) {
+        8
+    } else {
+        c.width().unwrap_or(1)
+    };
+    for _ in 0..columns {
+        text.push(' ')?;
+    }
+    Ok(())
+}
+
+// The first column that is shown.
+fn first_shown(column: u64) -> u64 {
+    if column > BEFORE + FEW {
+        column - BEFORE
+    } else {
+        0
+    }
+}
+
+fn push_line(text: &mut String, mut line: Chars<'_>, column: u64) -> Result<(), AllocError> {
+    let first = first_shown(column);
+    if first > 0 {
+        text.push_str(CUT)?;
+    }
+    for at in 0..column.saturating_add(BEHIND) {
+        let Some(c) = line.next_in_line() else {
+            return text.push('\n');
+        };
+        if at >= first {
+            push_shown(text, c)?;
+        }
+    }
+    if line.next_in_line().is_some() {
+        text.push_str(CUT)?;
+    }
+    text.push('\n')
+}
+
+fn push_caret(text: &mut String, mut line: Chars<'_>, column: u64) -> Result<(), AllocError> {
+    let first = first_shown(column);
+    if first > 0 {
+        text.push_str("   ")?;
+    }
+    for at in 0..column {
+        let Some(c) = line.next_in_line() else {
+            break;
+        };
+        if at >= first {
+            push_blank(text, c)?;
+        }
+    }
+    text.push_str("^\n")
+}
+
+/// Adds the source line of a place, a long one cut around it, and a caret under the place.
+pub(crate) fn push_excerpt(
+    text: &mut String,
+    source: Source<'_>,
+    place: Place,
+) -> Result<(), AllocError> {
+    let line = from_line(source, place.line);
+    push_line(text, line, place.column)?;
+    push_caret(text, line, place.column)
+}

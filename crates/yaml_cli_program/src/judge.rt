@@ -1,0 +1,220 @@
+//! Files that are judged one after another. One is held at a time, and what is wrong with one doesn't keep the next from being
+//! judged.
+
+use crate::engine::Engine;
+use crate::fault::{FAILED, INPUT_LIMIT};
+use crate::file::{STANDARD, Unread, whole_of};
+use crate::order::{Judging, WRONG_WORDS};
+use std::alloc::Global;
+use std::io::{Error, ErrorKind, Read, Write};
+use std::rt::Files;
+use yaml_cli_places::fault_text;
+use yaml_scan_types::{yaml_error_type_t, yaml_fault_t};
+
+/// The status where a file couldn't be judged: that of wrong words.
+const UNJUDGED: u8 = WRONG_WORDS;
+
+/// An engine, and what it is asked.
+#[derive(Clone, Copy)]
+pub(crate) struct Judge<'j, G> {
+    pub(crate) engine: &'j G,
+    pub(crate) judging: &'j Judging,
+}
+
+/// The files that are judged: these, and those that a list names.
+#[derive(Clone, Copy)]
+pub(crate) struct Named<'n> {
+    pub(crate) files: &'n [&'n str],
+    pub(crate) list: Option<&'n str>,
+}
+
+// What came of a file: the status that it gives by itself, and whether no further one is to be judged.
+#[derive(Clone, Copy)]
+struct Verdict {
+    status: u8,
+    stops: bool,
+}
+
+fn goes_on(status: u8) -> Verdict {
+    Verdict {
+        status,
+        stops: false,
+    }
+}
+
+// Tells why a file wasn't read.
+fn unread<E: Write>(errors: &mut E, judging: &Judging, name: &str, why: &Unread) -> u8 {
+    if !judging.quiet {
+        let _ = match why {
+            Unread::Failed(error) => writeln!(errors, "yaml_cli: {name}: {error}"),
+            Unread::TooLong => writeln!(
+                errors,
+                "yaml_cli: {name}: longer than {INPUT_LIMIT} bytes"
+            ),
+        };
+    }
+    UNJUDGED
+}
+
+// Tells what is wrong with a list of files.
+fn unlisted<E: Write>(errors: &mut E, judging: &Judging, list: &str, what: &str) -> u8 {
+    if !judging.quiet {
+        let _ = writeln!(errors, "yaml_cli: {list}: {what}");
+    }
+    UNJUDGED
+}
+
+// Tells the fault of a file. Of want of memory, where there is none for the line either, only the status tells.
+fn refused<E: Write>(
+    alloc: Global,
+    errors: &mut E,
+    judging: &Judging,
+    name: &str,
+    input: &[u8],
+    fault: &yaml_fault_t,
+) -> u8 {
+    if !judging.quiet {
+        if let Ok(text) = fault_text(alloc, name, input, judging.task.from, fault) {
+            let _ = write!(errors, "{text}");
+        }
+    }
+    if fault.kind == yaml_error_type_t::YAML_MEMORY_ERROR {
+        UNJUDGED
+    } else {
+        FAILED
+    }
+}
+
+// No name can be written any more. Where nobody reads them there is nothing to tell.
+fn unnamed<E: Write>(errors: &mut E, error: &Error) -> Verdict {
+    let status = if error.kind() == ErrorKind::BrokenPipe {
+        FAILED
+    } else {
+        let _ = writeln!(errors, "yaml_cli: standard output: {error}");
+        UNJUDGED
+    };
+    Verdict {
+        status,
+        stops: true,
+    }
+}
+
+// Names a file that isn't as it was asked for.
+fn name_file<W: Write, E: Write>(writer: &mut W, errors: &mut E, name: &str) -> Verdict {
+    if let Err(error) = writeln!(writer, "{name}") {
+        return unnamed(errors, &error);
+    }
+    match writer.flush() {
+        Ok(()) => goes_on(FAILED),
+        Err(error) => unnamed(errors, &error),
+    }
+}
+
+fn judge_text<G: Engine, W: Write, E: Write>(
+    judge: &Judge<'_, G>,
+    alloc: Global,
+    name: &str,
+    input: &[u8],
+    writer: &mut W,
+    errors: &mut E,
+) -> Verdict {
+    match judge.engine.judge(alloc, judge.judging, input) {
+        Ok(true) => goes_on(0),
+        Ok(false) => name_file(writer, errors, name),
+        Err(fault) => goes_on(refused(alloc, errors, judge.judging, name, input, &fault)),
+    }
+}
+
+fn judge_file<G: Engine, H: Files + AllocGlobal, R: Read, W: Write, E: Write>(
+    judge: &Judge<'_, G>,
+    rt: &H,
+    name: &str,
+    reader: &mut R,
+    writer: &mut W,
+    errors: &mut E,
+) -> Verdict {
+    match whole_of(rt, name, reader) {
+        Ok(input) => judge_text(judge, rt.alloc(), name, input.as_slice(), writer, errors),
+        Err(why) => goes_on(unread(errors, judge.judging, name, &why)),
+    }
+}
+
+fn judge_files<G: Engine, H: Files + AllocGlobal, R: Read, W: Write, E: Write>(
+    judge: &Judge<'_, G>,
+    rt: &H,
+    files: &[&str],
+    reader: &mut R,
+    writer: &mut W,
+    errors: &mut E,
+) -> Verdict {
+    let mut worst = 0;
+    for name in files {
+        let verdict = judge_file(judge, rt, name, reader, writer, errors);
+        worst = worst.max(verdict.status);
+        if verdict.stops {
+            return verdict;
+        }
+    }
+    goes_on(worst)
+}
+
+// The names of a list, each ended by a zero byte.
+fn names_of<'l>(alloc: Global, list: &'l [u8]) -> Result<Vec<&'l str>, &'static str> {
+    let mut names = Vec::new(alloc);
+    for name in list.split(|byte| *byte == 0) {
+        let Ok(name) = str::from_utf8(name) else {
+            return Err("a name isn't UTF-8");
+        };
+        if !name.is_empty() && names.push(name).is_err() {
+            return Err("memory error");
+        }
+    }
+    if names.is_empty() {
+        return Err("no file is named");
+    }
+    Ok(names)
+}
+
+fn judge_listed<G: Engine, H: Files + AllocGlobal, R: Read, W: Write, E: Write>(
+    judge: &Judge<'_, G>,
+    rt: &H,
+    list: &str,
+    reader: &mut R,
+    writer: &mut W,
+    errors: &mut E,
+) -> u8 {
+    let text = match whole_of(rt, list, reader) {
+        Ok(text) => text,
+        Err(why) => return unread(errors, judge.judging, list, &why),
+    };
+    match names_of(rt.alloc(), text.as_slice()) {
+        Ok(names) => judge_files(judge, rt, names.as_slice(), reader, writer, errors).status,
+        Err(what) => unlisted(errors, judge.judging, list, what),
+    }
+}
+
+/// Judges the files, or standard input where none are named. The status is the worst one: 0 where each is as it was asked for,
+/// 1 where one isn't or is refused, 2 where one couldn't be judged.
+pub(crate) fn judge_all<G: Engine, H: Files + AllocGlobal, R: Read, W: Write, E: Write>(
+    judge: &Judge<'_, G>,
+    rt: &H,
+    named: Named<'_>,
+    reader: &mut R,
+    writer: &mut W,
+    errors: &mut E,
+) -> u8 {
+    let Some(list) = named.list else {
+        let files = if named.files.is_empty() {
+            &[STANDARD]
+        } else {
+            named.files
+        };
+        return judge_files(judge, rt, files, reader, writer, errors).status;
+    };
+    let verdict = judge_files(judge, rt, named.files, reader, writer, errors);
+    if verdict.stops {
+        return verdict.status;
+    }
+    let status = judge_listed(judge, rt, list, reader, writer, errors);
+    status.max(verdict.status)
+}

@@ -1,0 +1,20 @@
+//! Whether an input loads.
+
+ghost use Rattle.yaml_scan_model.specs.Faults.{Answers, load_layers};
+ghost use Rattle.yaml_round_writing.specs.Checking.{IsChecked};
+
+use std::alloc::Global;
+use yaml_round_writing::load_out;
+use yaml_scan_model::{yaml_encoding_t, yaml_fault_t};
+
+/// Whether the input's documents load, as `yaml_reload` loads them: accepted exactly where they do, refused with the same
+/// fault otherwise (kinds 2 to 5), or for want of memory (kind 1). No text is made, and no document where the input has no
+/// alias; else one is held at a time.
+pub fn yaml_check(alloc: Global, input: &[u8], from: yaml_encoding_t) -> Result<(), yaml_fault_t>
+    ensures { Answers load_layers (λ done. done) (IsChecked from input.now) result }
+{
+    match load_out(alloc, input, from) {
+        Ok(()) => Ok(()),
+        Err(fault) => Err(fault),
+    }
+}

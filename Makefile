@@ -6,6 +6,9 @@
 #   where that is set.
 # make library: proves and builds the library for C and what calls C: out/library/libyaml_c.a and libyaml_c.so, whose
 #   header is bindings/c/yaml_c.h. It needs a C compiler and binutils, and a machine with x86-64.
+# make libyaml: builds out/libyaml/libyaml-0.so.2, libyaml's own interface over that library (docs/LIBYAML.md).
+# make install-libyaml: puts it into PREFIX/lib/yaml_round, below DESTDIR where that is set.
+# make libyaml-test: tests it, beside Debian's libyaml and its bindings where they are there (tools/libyaml_test.sh).
 # make bench: the program beside C's libyaml (docs/BENCHMARK.md). It needs python3, a C compiler and libyaml's headers.
 # make bench-counts: the same by counts of instructions; it needs valgrind.
 # make docs: writes docs/EDITS.md and the quoted definitions of docs/MEANING.md again, and looks for names in the documents
@@ -17,7 +20,7 @@
 #   interrupted in turn, and judges each run. It needs glibc, a C compiler and python3.
 # make fuzz SECONDS=60: feeds the program changed texts and judges its answers, beside libyaml's where its header is there.
 #   It needs python3; for libyaml a C compiler too.
-.PHONY: run test program install library bench bench-counts docs bindings-test faults fuzz
+.PHONY: run test program install library libyaml install-libyaml libyaml-test bench bench-counts docs bindings-test faults fuzz
 
 PREFIX ?= /usr/local
 program = crates/yaml_cli/out/yaml_cli
@@ -43,6 +46,15 @@ install: program
 
 library:
 	@tools/library.sh
+
+libyaml: library
+	@tools/libyaml.sh
+
+install-libyaml: libyaml
+	@DESTDIR='$(DESTDIR)' tools/libyaml.sh install '$(PREFIX)'
+
+libyaml-test: libyaml
+	@tools/libyaml_test.sh
 
 bench: program
 	@python3 bench/run.py $(program)

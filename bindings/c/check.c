@@ -71,7 +71,7 @@ static const char *const TEXTS[] = {
     "\377",
     "\377\376a",
 };
-enum { TEXT_NUMBER = sizeof TEXTS / sizeof *TEXTS, CANONICAL = 0, PRETTY, RELOAD, SAME, EVENTS, PARSE, EMIT, EMIT_AGAIN, CALL_NUMBER };
+enum { TEXT_NUMBER = sizeof TEXTS / sizeof *TEXTS, CANONICAL = 0, PRETTY, RELOAD, SAME, EVENTS, PARSE, FRONT, SCAN, DECODE, EMIT, EMIT_AGAIN, CALL_NUMBER };
 
 static const uint8_t *bytes_of(int text)
 {
@@ -118,9 +118,31 @@ static int emit_parsed(int text, yaml_c_settings *settings, yaml_c_answer *answe
                        events->bytes.len, settings, answer);
 }
 
-/* The call of that number on a text. What it hands out stays in the records. */
-static int call_on(int call, int text, yaml_c_settings *settings, yaml_c_parsed *parsed, yaml_c_answer *answer)
+/* What a call hands out. */
+typedef struct {
+    yaml_c_parsed parsed;
+    yaml_c_scanned scanned;
+    yaml_c_answer answer;
+} records;
+
+static void init(records *r)
 {
+    yaml_c_parsed_init(&r->parsed);
+    yaml_c_scanned_init(&r->scanned);
+    yaml_c_answer_init(&r->answer);
+}
+
+static void give_back(records *r)
+{
+    yaml_c_parsed_free(&r->parsed);
+    yaml_c_scanned_free(&r->scanned);
+    yaml_c_answer_free(&r->answer);
+}
+
+/* The call of that number on a text. What it hands out stays in the records. */
+static int call_on(int call, int text, yaml_c_settings *settings, records *r)
+{
+    yaml_c_answer *answer = &r->answer;
     const uint8_t *at = bytes_of(text);
     size_t len = strlen(TEXTS[text]);
     calls++;
@@ -131,19 +153,25 @@ static int call_on(int call, int text, yaml_c_settings *settings, yaml_c_parsed 
     case RELOAD: return yaml_c_reload(at, len, 0, settings, answer);
     case SAME: return yaml_c_same(bytes_of(0), strlen(TEXTS[0]), 0, at, len, 0, answer);
     case EVENTS: return yaml_c_events(at, len, 0, answer);
-    case PARSE: return yaml_c_parse(at, len, 0, parsed, answer);
+    case PARSE: return yaml_c_parse(at, len, 0, &r->parsed, answer);
+    case FRONT: return yaml_c_front(at, len, 0, &r->parsed, answer);
+    case SCAN: return yaml_c_scan(at, len, 0, &r->scanned, answer);
+    case DECODE: return yaml_c_decode(at, len, 0, answer);
     case EMIT: return emit_list(text, settings, answer);
     default: return emit_parsed(text, settings, answer);
     }
 }
 
 /* What every answer has to be like. */
-static void is_in_order(int kind, const yaml_c_answer *answer, const yaml_c_parsed *parsed)
+static void is_in_order(int call, int kind, const records *r)
 {
+    const yaml_c_answer *answer = &r->answer;
+    const yaml_c_parsed *parsed = &r->parsed;
     EXPECT(answer->kind == kind && kind >= 0 && kind <= 7);
+    EXPECT(call == SCAN || (r->scanned.tokens_len == 0 && r->scanned.bytes.len == 0));
     if (kind) {
         EXPECT(answer->text.len == 0 && answer->is == 0 && answer->problem.len > 0);
-        EXPECT(parsed->events_len == 0 && parsed->directives_len == 0 && parsed->bytes.len == 0);
+        EXPECT(call == FRONT || (parsed->events_len == 0 && parsed->directives_len == 0 && parsed->bytes.len == 0));
     } else {
         EXPECT(answer->problem.len == 0 && answer->context.len == 0 && answer->line.len == 0);
     }
@@ -154,21 +182,18 @@ static void is_in_order(int kind, const yaml_c_answer *answer, const yaml_c_pars
 static int is_met(int call, int text, long number, int all, int usual)
 {
     yaml_c_settings settings;
-    yaml_c_parsed parsed;
-    yaml_c_answer answer;
+    records r;
     long before = blocks, refused = refusals;
     int kind;
     yaml_c_defaults(&settings);
-    yaml_c_parsed_init(&parsed);
-    yaml_c_answer_init(&answer);
+    init(&r);
     left = number;
     all_refused = all;
-    kind = call_on(call, text, &settings, &parsed, &answer);
+    kind = call_on(call, text, &settings, &r);
     left = -1;
-    is_in_order(kind, &answer, &parsed);
+    is_in_order(call, kind, &r);
     EXPECT(kind == usual || (kind == YAML_C_MEMORY_ERROR && refusals > refused));
-    yaml_c_answer_free(&answer);
-    yaml_c_parsed_free(&parsed);
+    give_back(&r);
     EXPECT(blocks == before);
     refused_calls += refusals > refused;
     return refusals > refused;
@@ -177,17 +202,14 @@ static int is_met(int call, int text, long number, int all, int usual)
 static void refuse_in_turn(int call, int text)
 {
     yaml_c_settings settings;
-    yaml_c_parsed parsed;
-    yaml_c_answer answer;
+    records r;
     int usual;
     yaml_c_defaults(&settings);
-    yaml_c_parsed_init(&parsed);
-    yaml_c_answer_init(&answer);
-    usual = call_on(call, text, &settings, &parsed, &answer);
-    is_in_order(usual, &answer, &parsed);
+    init(&r);
+    usual = call_on(call, text, &settings, &r);
+    is_in_order(call, usual, &r);
     EXPECT(usual != YAML_C_MEMORY_ERROR);
-    yaml_c_answer_free(&answer);
-    yaml_c_parsed_free(&parsed);
+    give_back(&r);
     for (int all = 0; all < 2; all++)
         for (long number = 0; is_met(call, text, number, all, usual); number++)
             ;
@@ -196,23 +218,23 @@ static void refuse_in_turn(int call, int text)
 /* The calls that read, with an encoding. */
 static void read_as(int from, const yaml_c_settings *settings, int wanted)
 {
-    yaml_c_parsed parsed;
-    yaml_c_answer answer;
+    records r;
     const uint8_t *text = bytes_of(2);
-    yaml_c_parsed_init(&parsed);
-    yaml_c_answer_init(&answer);
-    for (int call = 0; call < 6; call++) {
-        int kind = call == 0   ? yaml_c_reformat(text, 1, from, settings, &answer)
-                   : call == 1 ? yaml_c_reload(text, 1, from, settings, &answer)
-                   : call == 2 ? yaml_c_events(text, 1, from, &answer)
-                   : call == 3 ? yaml_c_same(text, 1, from, text, 1, 1, &answer)
-                   : call == 4 ? yaml_c_same(text, 1, 1, text, 1, from, &answer)
-                               : yaml_c_parse(text, 1, from, &parsed, &answer);
+    init(&r);
+    for (int call = 0; call < 9; call++) {
+        int kind = call == 0   ? yaml_c_reformat(text, 1, from, settings, &r.answer)
+                   : call == 1 ? yaml_c_reload(text, 1, from, settings, &r.answer)
+                   : call == 2 ? yaml_c_events(text, 1, from, &r.answer)
+                   : call == 3 ? yaml_c_same(text, 1, from, text, 1, 1, &r.answer)
+                   : call == 4 ? yaml_c_same(text, 1, 1, text, 1, from, &r.answer)
+                   : call == 5 ? yaml_c_parse(text, 1, from, &r.parsed, &r.answer)
+                   : call == 6 ? yaml_c_front(text, 1, from, &r.parsed, &r.answer)
+                   : call == 7 ? yaml_c_decode(text, 1, from, &r.answer)
+                               : yaml_c_scan(text, 1, from, &r.scanned, &r.answer);
         calls++;
-        EXPECT(kind == answer.kind && (wanted ? kind == wanted : kind >= 0));
-        EXPECT(kind == 0 || (answer.text.len == 0 && parsed.events_len == 0));
-        yaml_c_answer_free(&answer);
-        yaml_c_parsed_free(&parsed);
+        EXPECT(kind == r.answer.kind && (wanted ? kind == wanted : kind >= 0));
+        EXPECT(kind == 0 || (r.answer.text.len == 0 && (kind > 0 || (r.parsed.events_len == 0 && r.scanned.tokens_len == 0))));
+        give_back(&r);
     }
 }
 
@@ -302,6 +324,50 @@ static void events_are_told(void)
     EXPECT(parsed_texts[0].events_len == 17 && parsed_texts[0].directives_len == 1);
     EXPECT(parsed_texts[1].events_len == 2 && parsed_texts[1].directives_len == 0 && parsed_texts[1].bytes.len == 0);
     EXPECT(parsed_texts[4].events_len == 0);
+}
+
+/* A front has all events where there is no fault, and those in front of it where there is one. */
+static void fronts_are_told(void)
+{
+    static const size_t lengths[TEXT_NUMBER] = {17, 2, 5, 5, 6, 5, 0, 0}, tokens[TEXT_NUMBER] = {28, 2, 3, 3, 7, 3, 0, 0};
+    for (int text = 0; text < TEXT_NUMBER; text++) {
+        const yaml_c_parsed *parsed = &parsed_texts[text];
+        records r;
+        init(&r);
+        calls += 2;
+        int kind = yaml_c_front(bytes_of(text), strlen(TEXTS[text]), 0, &r.parsed, &r.answer);
+        EXPECT((kind == 0) == (parsed->events_len > 0) && r.parsed.events_len == lengths[text]);
+        EXPECT(kind || !memcmp(r.parsed.events, parsed->events, parsed->events_len * sizeof *parsed->events));
+        EXPECT(kind || (r.parsed.bytes.len == parsed->bytes.len && !memcmp(r.parsed.bytes.at, parsed->bytes.at, parsed->bytes.len)));
+        for (size_t i = 0; i < r.parsed.events_len; i++)
+            is_told(&r.parsed, &r.parsed.events[i]);
+        give_back(&r);
+        yaml_c_scan(bytes_of(text), strlen(TEXTS[text]), 0, &r.scanned, &r.answer);
+        EXPECT(r.scanned.tokens_len == tokens[text]);
+        for (size_t i = 0; i < r.scanned.tokens_len; i++) {
+            const yaml_c_token *it = &r.scanned.tokens[i];
+            EXPECT(it->kind >= YAML_C_STREAM_START_TOKEN && it->kind <= YAML_C_SCALAR_TOKEN);
+            EXPECT(is_within(it->handle, r.scanned.bytes.len) && is_within(it->value, r.scanned.bytes.len));
+        }
+        give_back(&r);
+    }
+}
+
+/* A text in UTF-16 with a byte order mark, and the same where the encoding is set and nothing is left out. */
+static void decoded(void)
+{
+    static const uint8_t text[] = {0xFF, 0xFE, 'a', 0, 0x3D, 0xD8, 0x00, 0xDE};
+    yaml_c_answer answer;
+    yaml_c_answer_init(&answer);
+    calls += 3;
+    EXPECT(yaml_c_decode(text, sizeof text, 0, &answer) == 0);
+    EXPECT(answer.text.len == 5 && !memcmp(answer.text.at, "a\xF0\x9F\x98\x80", 5));
+    yaml_c_answer_free(&answer);
+    EXPECT(yaml_c_decode(text, sizeof text, YAML_C_UTF16LE_ENCODING, &answer) == 0);
+    EXPECT(answer.text.len == 8 && !memcmp(answer.text.at, "\xEF\xBB\xBF" "a", 4));
+    yaml_c_answer_free(&answer);
+    EXPECT(yaml_c_decode(text, 5, 0, &answer) == YAML_C_READER_ERROR && answer.offset == 4 && answer.text.len == 0);
+    yaml_c_answer_free(&answer);
 }
 
 /* What is emitted of each list. */
@@ -407,6 +473,8 @@ int main(void)
         yaml_c_answer_free(&answer);
     }
     events_are_told();
+    fronts_are_told();
+    decoded();
     for (int call = 0; call < CALL_NUMBER; call++)
         for (int text = 0; text < TEXT_NUMBER; text++)
             refuse_in_turn(call, text);

@@ -12,19 +12,20 @@
  * has a length and may hold a byte 0; none ends with one.
  *
  * Ownership. The caller owns every record and every input, and the call keeps no pointer to them. Blocks that a call
- * hands out are malloc's and the caller's: `text` and `line` of an answer, and the three parts of a yaml_c_parsed, each
- * where its length is not 0. The functions below free them. `problem` and `context` are constants of the library: never
- * free or write them. A call overwrites the record's pointers without freeing what they named, so free a record before
- * it is used again.
+ * hands out are malloc's and the caller's: `text` and `line` of an answer, the three parts of a yaml_c_parsed, and the
+ * two of a yaml_c_scanned, each where its length is not 0. The functions below free them. `problem` and `context` are
+ * constants of the library: never free or write them. A call overwrites the record's pointers without freeing what they
+ * named, so free a record before it is used again.
  *
- * Errors. A refused call hands out no text and no events; its one block is `line`, the fault in words, which is empty
- * where even that met no memory. `problem` names the fault in any case.
+ * Errors. A refused call hands out no text and, but for yaml_c_front and yaml_c_scan, no records; its one block is
+ * `line`, the fault in words, which is empty where even that met no memory. `problem` names the fault in any case.
  *
  * What nothing checks, and the caller keeps:
  *  - a pointer with a length names that many readable bytes (or records), fewer than 2^63 bytes in all, which nothing
  *    writes while the call runs. It isn't NULL, even where the length is 0: pass YAML_C_NOTHING or any other pointer;
- *  - the records that a call writes are writable, set up once by yaml_c_answer_init and yaml_c_parsed_init, and neither
- *    read nor written by others while the call runs; they don't overlap one another or the inputs;
+ *  - the records that a call writes are writable, set up once by yaml_c_answer_init, yaml_c_parsed_init and
+ *    yaml_c_scanned_init, and neither read nor written by others while the call runs; they don't overlap one another or
+ *    the inputs;
  *  - malloc, realloc and free are one allocator's, of blocks aligned as C's are;
  *  - no call is made from a signal handler, or in the forked child of a process with threads.
  *
@@ -80,6 +81,31 @@ enum {
     YAML_C_SEQUENCE_END_EVENT = 8,
     YAML_C_MAPPING_START_EVENT = 9,
     YAML_C_MAPPING_END_EVENT = 10
+};
+
+/* What a token is. */
+enum {
+    YAML_C_STREAM_START_TOKEN = 1,
+    YAML_C_STREAM_END_TOKEN = 2,
+    YAML_C_VERSION_DIRECTIVE_TOKEN = 3,
+    YAML_C_TAG_DIRECTIVE_TOKEN = 4,
+    YAML_C_DOCUMENT_START_TOKEN = 5,
+    YAML_C_DOCUMENT_END_TOKEN = 6,
+    YAML_C_BLOCK_SEQUENCE_START_TOKEN = 7,
+    YAML_C_BLOCK_MAPPING_START_TOKEN = 8,
+    YAML_C_BLOCK_END_TOKEN = 9,
+    YAML_C_FLOW_SEQUENCE_START_TOKEN = 10,
+    YAML_C_FLOW_SEQUENCE_END_TOKEN = 11,
+    YAML_C_FLOW_MAPPING_START_TOKEN = 12,
+    YAML_C_FLOW_MAPPING_END_TOKEN = 13,
+    YAML_C_BLOCK_ENTRY_TOKEN = 14,
+    YAML_C_FLOW_ENTRY_TOKEN = 15,
+    YAML_C_KEY_TOKEN = 16,
+    YAML_C_VALUE_TOKEN = 17,
+    YAML_C_ALIAS_TOKEN = 18,
+    YAML_C_ANCHOR_TOKEN = 19,
+    YAML_C_TAG_TOKEN = 20,
+    YAML_C_SCALAR_TOKEN = 21
 };
 
 /* How a scalar is written. */
@@ -147,8 +173,8 @@ typedef struct {
     yaml_c_span handle, prefix; /* of the bytes */
 } yaml_c_directive;
 
-/* An event. What a kind doesn't name below is 0 in what yaml_c_parse hands out, and yaml_c_emit doesn't look at it. Flags
- * are 0 for no; any other number means yes, and yaml_c_parse writes 1. */
+/* An event. What a kind doesn't name below is 0 in what is handed out, and yaml_c_emit doesn't look at it. Flags are 0
+ * for no; any other number means yes, and what is handed out has 1. */
 typedef struct {
     int32_t kind;
     int32_t style;           /* of a scalar, and of the start of a sequence or mapping */
@@ -177,6 +203,25 @@ typedef struct {
     yaml_c_bytes bytes;
 } yaml_c_parsed;
 
+/* A token. What a kind doesn't name below is 0. */
+typedef struct {
+    int32_t kind;
+    int32_t style;        /* of a scalar */
+    int32_t encoding;     /* of the stream's start: the one that was found */
+    int32_t major, minor; /* of a version directive */
+    yaml_c_span handle;   /* of a tag (empty for a verbatim one) and of a tag directive, of the bytes */
+    yaml_c_span value;    /* of a scalar; the name of an alias or an anchor; a tag's suffix; a tag directive's prefix. A suffix
+                           * or a prefix may be any bytes, the other texts are UTF-8 */
+    yaml_c_mark start, end;
+} yaml_c_token;
+
+/* The tokens of an input, and the block of bytes that holds their texts, one behind another. */
+typedef struct {
+    const yaml_c_token *tokens;
+    size_t tokens_len;
+    yaml_c_bytes bytes;
+} yaml_c_scanned;
+
 /* ---- calls. `from` is the input's encoding. */
 
 /* Sets UTF-8, canonical form, indent 2, width 80, unicode on, LF, and a limit of 2^40 bytes. */
@@ -203,6 +248,18 @@ int32_t yaml_c_events(const uint8_t *input, size_t len, int32_t from, yaml_c_ans
 /* All events of the input as records, one for each in their order, with their marks. Refused by a fault of the input (2 to 4)
  * or for want of memory; there are none then, and none where -1 is answered. */
 int32_t yaml_c_parse(const uint8_t *input, size_t len, int32_t from, yaml_c_parsed *parsed, yaml_c_answer *answer);
+
+/* As yaml_c_parse, but a fault of the input (2 to 4) comes with the records of the events in front of it. Where memory was
+ * refused, what is handed out means nothing, and is to be freed all the same; there is nothing where -1 is answered. */
+int32_t yaml_c_front(const uint8_t *input, size_t len, int32_t from, yaml_c_parsed *parsed, yaml_c_answer *answer);
+
+/* The text that the input's bytes spell, in UTF-8. With YAML_C_ANY_ENCODING a byte order mark tells the encoding and is left
+ * out. Refused where the bytes spell no text (2), or for want of memory. */
+int32_t yaml_c_decode(const uint8_t *input, size_t len, int32_t from, yaml_c_answer *answer);
+
+/* All tokens of the input in front of its end, or of its fault (2, 3), which comes with them. Where memory was refused, what is
+ * handed out means nothing, and is to be freed all the same; there is nothing where -1 is answered. */
+int32_t yaml_c_scan(const uint8_t *input, size_t len, int32_t from, yaml_c_scanned *scanned, yaml_c_answer *answer);
 
 /* The text of events that are given as records, one after another: what an emitter writes for them. Spans of `anchor`, `tag`,
  * `value`, `handle` and `prefix`, empty ones too, lie within `bytes`, those of `directives` within the list of directives.
@@ -258,6 +315,22 @@ static inline void yaml_c_parsed_free(yaml_c_parsed *parsed) {
     yaml_c_parsed_init(parsed);
 }
 
+/* No tokens. Before the first call with the record. */
+static inline void yaml_c_scanned_init(yaml_c_scanned *scanned) {
+    static const yaml_c_token no_token = {0, 0, 0, 0, 0, {0, 0}, {0, 0}, {0, 0, 0}, {0, 0, 0}};
+    scanned->tokens = &no_token;
+    scanned->tokens_len = 0;
+    scanned->bytes.at = YAML_C_NOTHING;
+    scanned->bytes.len = 0;
+}
+
+/* Frees the tokens and the bytes; there are none then. After each call; a second time does nothing. */
+static inline void yaml_c_scanned_free(yaml_c_scanned *scanned) {
+    if (scanned->tokens_len) free((void *)scanned->tokens);
+    if (scanned->bytes.len) free((void *)scanned->bytes.at);
+    yaml_c_scanned_init(scanned);
+}
+
 /* ---- the layout that the proved code has, on a machine of 64 bits */
 
 #if defined(__cplusplus)
@@ -291,6 +364,13 @@ YAML_C_ASSERT(offsetof(yaml_c_event, start) == 104 && offsetof(yaml_c_event, end
 YAML_C_ASSERT(sizeof(yaml_c_parsed) == 48 && offsetof(yaml_c_parsed, events_len) == 8);
 YAML_C_ASSERT(offsetof(yaml_c_parsed, directives) == 16 && offsetof(yaml_c_parsed, directives_len) == 24);
 YAML_C_ASSERT(offsetof(yaml_c_parsed, bytes) == 32);
+YAML_C_ASSERT(sizeof(yaml_c_token) == 104 && offsetof(yaml_c_token, style) == 4);
+YAML_C_ASSERT(offsetof(yaml_c_token, encoding) == 8 && offsetof(yaml_c_token, major) == 12);
+YAML_C_ASSERT(offsetof(yaml_c_token, minor) == 16 && offsetof(yaml_c_token, handle) == 24);
+YAML_C_ASSERT(offsetof(yaml_c_token, value) == 40 && offsetof(yaml_c_token, start) == 56);
+YAML_C_ASSERT(offsetof(yaml_c_token, end) == 80);
+YAML_C_ASSERT(sizeof(yaml_c_scanned) == 32 && offsetof(yaml_c_scanned, tokens_len) == 8);
+YAML_C_ASSERT(offsetof(yaml_c_scanned, bytes) == 16);
 #undef YAML_C_ASSERT
 
 #ifdef __cplusplus

@@ -1,7 +1,8 @@
 -- The kind that is told is -1 only where a number means nothing.
-use Rattle.std.proofs.Common.{◌≡◌, sym, subst, ℕ, ℤ, pos, negsuc, Bool, List, [], Option, None, Some, Result, Ok, Err}
+use Rattle.std.proofs.Common.{◌≡◌, inl, inr, sym, subst, ℕ, ℤ, pos, negsuc, Bool, List, [], Option, None, Some, Result, Ok, Err}
 use Rattle.yaml_parse.specs.declared.yaml_error_type_t.{yaml_error_type_t}
 use Rattle.yaml_parse.specs.declared.yaml_error_type_t.TheVariants as error
+use Rattle.yaml_parse.specs.declared.yaml_encoding_t.{yaml_encoding_t}
 use Rattle.yaml_parse.specs.declared.yaml_fault_t.{yaml_fault_t}
 use Rattle.yaml_parse.specs.Faults.{Fault, fault_of}
 use Rattle.yaml_parse.specs.Events.{EventBody}
@@ -14,7 +15,10 @@ use Rattle.yaml_round_answers.specs.declared.parsing.yaml_c_parsed.{yaml_c_parse
 use Rattle.yaml_round_answers.specs.declared.answer.yaml_c_answer.{yaml_c_answer}
 use Rattle.yaml_round_records.specs.Numbers.{encoding_meant, error_number}
 use Rattle.yaml_round_answers.specs.Told.{TellsText, TellsFault, TellsResult, TellsForm, TellsSame, AnswersMeant, IsExact, both, call_meant, form_number, same_number, side_number, Reformats, Reloads, Lists, Compares}
-use Rattle.yaml_round_answers.specs.Parses.{TellsEvents, Parses}
+use Rattle.yaml_round_answers.specs.Parses.{TellsEvents, Parses, TellsFront, Fronts, NothingUnmeant}
+use Rattle.yaml_round_answers.specs.declared.scanning.yaml_c_scanned.{yaml_c_scanned}
+use Rattle.yaml_round_answers.specs.Decodes.{Decodes}
+use Rattle.yaml_round_answers.specs.Scans.{TellsEnd, Scans, NoTokenUnmeant}
 use Rattle.yaml_round_answers.specs.Emitting.{Emits}
 
 -- no number of a fault's kind is -1
@@ -120,3 +124,54 @@ pub emitted_exact : (meant : Option (List EventBody × (RequestedSettings × ℕ
 emitted_exact meant k a q h =
     subst (λ z. IsExact meant z) (sym q)
     (exact meant Emits a (λ m l. tells_kind l.result a l.told) h)
+
+front_kind : (m : yaml_encoding_t) (input : List ℕ) (blocks : yaml_c_parsed) (r : Result (List Told) Fault) (a : yaml_c_answer)
+    → TellsFront m input blocks r a → ¬ (a.kind ≡ negsuc 0)
+front_kind m input blocks (Ok es) a h = text_kind [] (pos 0) a h.0
+front_kind m input blocks (Err f) a h = fault_kind f (pos 0) a h.0
+
+pub front_told : (n from : ℤ) (input : List ℕ) (blocks : yaml_c_parsed) (a : yaml_c_answer) → n ≡ from
+    → AnswersMeant (encoding_meant n) (Fronts input blocks) a → AnswersMeant (encoding_meant from) (Fronts input blocks) a
+front_told n from input blocks a p h = subst (λ z. AnswersMeant (encoding_meant z) (Fronts input blocks) a) p h
+
+pub front_none : (n from : ℤ) (blocks : yaml_c_parsed) → n ≡ from
+    → NothingUnmeant (encoding_meant n) blocks → NothingUnmeant (encoding_meant from) blocks
+front_none n from blocks p h = subst (λ z. NothingUnmeant (encoding_meant z) blocks) p h
+
+pub front_exact : (n from k : ℤ) (input : List ℕ) (blocks : yaml_c_parsed) (a : yaml_c_answer) → n ≡ from → k ≡ a.kind
+    → AnswersMeant (encoding_meant n) (Fronts input blocks) a → IsExact (encoding_meant from) k
+front_exact n from k input blocks a p q h =
+    subst (λ z. IsExact (encoding_meant from) z) (sym q)
+    (exact (encoding_meant from) (Fronts input blocks) a (λ m l. front_kind m input blocks l.result a l.told) (front_told n from input blocks a p h))
+
+end_kind : (o : Option Fault) (a : yaml_c_answer) → TellsEnd o a → ¬ (a.kind ≡ negsuc 0)
+end_kind None a h = text_kind [] (pos 0) a h
+end_kind (Some f) a h = fault_kind f (pos 0) a h
+
+scan_kind : (input : List ℕ) (blocks : yaml_c_scanned) (m : yaml_encoding_t) (a : yaml_c_answer) → Scans input blocks m a → ¬ (a.kind ≡ negsuc 0)
+scan_kind input blocks m a (inl h) = fault_kind h.fault (pos 0) a h.told
+scan_kind input blocks m a (inr h) = end_kind _ a h.0
+
+pub scanned_told : (n from : ℤ) (input : List ℕ) (blocks : yaml_c_scanned) (a : yaml_c_answer) → n ≡ from
+    → AnswersMeant (encoding_meant n) (Scans input blocks) a → AnswersMeant (encoding_meant from) (Scans input blocks) a
+scanned_told n from input blocks a p h = subst (λ z. AnswersMeant (encoding_meant z) (Scans input blocks) a) p h
+
+pub scanned_none : (n from : ℤ) (blocks : yaml_c_scanned) → n ≡ from
+    → NoTokenUnmeant (encoding_meant n) blocks → NoTokenUnmeant (encoding_meant from) blocks
+scanned_none n from blocks p h = subst (λ z. NoTokenUnmeant (encoding_meant z) blocks) p h
+
+pub scanned_exact : (n from k : ℤ) (input : List ℕ) (blocks : yaml_c_scanned) (a : yaml_c_answer) → n ≡ from → k ≡ a.kind
+    → AnswersMeant (encoding_meant n) (Scans input blocks) a → IsExact (encoding_meant from) k
+scanned_exact n from k input blocks a p q h =
+    subst (λ z. IsExact (encoding_meant from) z) (sym q)
+    (exact (encoding_meant from) (Scans input blocks) a (λ m l. scan_kind input blocks m a l) (scanned_told n from input blocks a p h))
+
+pub decoded_told : (n from : ℤ) (input : List ℕ) (a : yaml_c_answer) → n ≡ from → AnswersMeant (encoding_meant n) (Decodes input) a
+    → AnswersMeant (encoding_meant from) (Decodes input) a
+decoded_told n from input a p h = subst (λ z. AnswersMeant (encoding_meant z) (Decodes input) a) p h
+
+pub decoded_exact : (n from k : ℤ) (input : List ℕ) (a : yaml_c_answer) → n ≡ from → k ≡ a.kind → AnswersMeant (encoding_meant n) (Decodes input) a
+    → IsExact (encoding_meant from) k
+decoded_exact n from k input a p q h =
+    subst (λ z. IsExact (encoding_meant from) z) (sym q)
+    (exact (encoding_meant from) (Decodes input) a (λ m l. tells_kind l.result a l.told) (decoded_told n from input a p h))

@@ -16,7 +16,7 @@ use Rattle.yaml_round_answers.specs.declared.parsing.yaml_c_parsed.{yaml_c_parse
 use Rattle.yaml_round_records.specs.Records.{all_directives}
 use Rattle.yaml_round_records.specs.Blocks.{listed_directives}
 use Rattle.yaml_round_records.specs.Listing.{Collected, AreSaid, HoldsAll, events_alone}
-use Rattle.yaml_round_answers.specs.Parses.{HandsOut, SayEvents}
+use Rattle.yaml_round_answers.specs.Parses.{HandsOut, SayEvents, IsFront}
 use Rattle.yaml_round_records.proofs.Saying.{say_at}
 
 -- the events of a reading that has no fault are the input's
@@ -29,9 +29,31 @@ all_taken from input p l r e c =
 
 -- its fault is the input's
 pub fault_taken : (from : yaml_encoding_t) (input : List ℕ) (p : ParserRemaining) (f : yaml_fault_t) → Reads from input p
-    → IsMemoryFault parse_layers (fault_of f) ⊎ (p.ending ≡ Some (fault_of f)) → IsMemoryFault parse_layers (fault_of f) ⊎ (ending_of from input ≡ Some (fault_of f))
-fault_taken from input p f r (inl m) = inl m
-fault_taken from input p f r (inr e) = inr (sym r.ending ∙ e)
+    → (l : Listing) → IsMemoryFault parse_layers (fault_of f) ⊎ ((p.ending ≡ Some (fault_of f)) × Collected p.events [] l)
+    → IsMemoryFault parse_layers (fault_of f) ⊎ (ending_of from input ≡ Some (fault_of f))
+fault_taken from input p f r l (inl m) = inl m
+fault_taken from input p f r l (inr e) = inr (sym r.ending ∙ e.0)
+
+-- the events of a reading up to its end are the input's
+pub whole_taken : (from : yaml_encoding_t) (input : List ℕ) (p : ParserRemaining) (l : Listing) → Reads from input p → p.ending ≡ None
+    → Collected p.events [] l → (ending_of from input ≡ None) × IsFront from input l
+whole_taken from input p l r e c = let a = all_taken from input p l r e c in (a.0, (a.1, a.2))
+
+-- the events of a reading up to its fault are the input's
+pub front_taken : (from : yaml_encoding_t) (input : List ℕ) (p : ParserRemaining) (f : yaml_fault_t) (l : Listing) → Reads from input p
+    → IsMemoryFault parse_layers (fault_of f) ⊎ ((p.ending ≡ Some (fault_of f)) × Collected p.events [] l)
+    → IsMemoryFault parse_layers (fault_of f)
+    ⊎ ((ending_of from input ≡ Some (fault_of f)) × IsFront from input l)
+front_taken from input p f l r (inl m) = inl m
+front_taken from input p f l r (inr e) =
+    let all : events_alone (events_of from input) ≡ e.1.given = sym (ap events_alone r.events) ∙ e.1.split ∙ append-nil e.1.given in
+    inr (sym r.ending ∙ e.0, (subst (λ z. AreSaid l z) (sym all) e.1.said, subst (λ z. HoldsAll l z) (sym all) e.1.holds))
+
+pub front_fault : (from : yaml_encoding_t) (input : List ℕ) (f : yaml_fault_t) (l : Listing)
+    → IsMemoryFault parse_layers (fault_of f) ⊎ ((ending_of from input ≡ Some (fault_of f)) × IsFront from input l)
+    → IsMemoryFault parse_layers (fault_of f) ⊎ IsFaulty from input (fault_of f)
+front_fault from input f l (inl m) = inl m
+front_fault from input f l (inr e) = inr (faulty from input (fault_of f) e.0)
 
 -- it is that of the input's plain reading
 pub fault_plain : (from : yaml_encoding_t) (input : List ℕ) (f : yaml_fault_t) → IsMemoryFault parse_layers (fault_of f) ⊎ (ending_of from input ≡ Some (fault_of f))
@@ -53,3 +75,10 @@ handed_says l p es h s a =
       bytes = h.bytes ∙ a.bytes;
       directives = list_at _ p.bytes.now _ p.directives.now (listed_directives (events_alone es)) bytes h.directives (a.directives []);
     }
+
+-- the blocks say what stands in front of the fault
+pub front_says : (from : yaml_encoding_t) (input : List ℕ) (f : yaml_fault_t) (l : Listing) (p : yaml_c_parsed) → HandsOut l p
+    → IsMemoryFault parse_layers (fault_of f) ⊎ ((ending_of from input ≡ Some (fault_of f)) × IsFront from input l)
+    → IsMemoryFault parse_layers (fault_of f) ⊎ SayEvents p (events_of from input)
+front_says from input f l p h (inl m) = inl m
+front_says from input f l p h (inr e) = inr (handed_says l p _ h e.1.0 e.1.1)

@@ -1,3 +1,4 @@
 mod Telling
 mod Handing
+mod ScanTelling
 pub mod Exact

@@ -2,5 +2,7 @@ pub mod Settings
 pub mod Told
 pub mod Emitting
 pub mod Parses
+pub mod Scans
+pub mod Decodes
 -- what it speaks of, for the crate that exports its calls
 pub use Rattle.yaml_round_records.specs.Numbers

@@ -1,5 +1,5 @@
 -- What C is told of a parse.
-use Rattle.std.specs.Prelude.{◌≡◌, ◌⊎◌, pos, ℕ, List, [], None, Some, Result, Ok, Err}
+use Rattle.std.specs.Prelude.{◌≡◌, ◌⊎◌, pos, ℕ, List, [], Option, None, Some, Result, Ok, Err}
 use Rattle.yaml_parse.specs.declared.yaml_encoding_t.{yaml_encoding_t}
 use Rattle.yaml_parse.specs.declared.yaml_fault_t.{yaml_fault_t}
 use Rattle.yaml_parse.specs.Faults.{Fault, fault_of, IsMemoryFault, parse_layers}
@@ -56,3 +56,31 @@ pub record HandsOut (l : Listing) (p : yaml_c_parsed) : Type 0 where
   pub events : p.events.now ≡ l.events.items
   pub directives : p.directives.now ≡ l.directives.items
   pub bytes : p.bytes.now ≡ l.bytes.items
+
+-- ---- events in front of a fault
+
+-- the listing says the events in front of what ends the input, and nothing beside
+abbrev pub IsFront : yaml_encoding_t → List ℕ → Listing → Type 0
+IsFront from input l = AreSaid l (events_alone (events_of from input))
+    × HoldsAll l (events_alone (events_of from input))
+
+abbrev pub EndsFront : yaml_encoding_t → List ℕ → Result (Unit {0}) yaml_fault_t → Listing → Type 0
+EndsFront from input (Ok done) l = (ending_of from input ≡ None) × IsFront from input l
+EndsFront from input (Err f) l = IsMemoryFault parse_layers (fault_of f)
+    ⊎ ((ending_of from input ≡ Some (fault_of f)) × IsFront from input l)
+
+-- the records say the events in front of the fault, unless memory was refused
+abbrev pub TellsFront : yaml_encoding_t → List ℕ → yaml_c_parsed → Result (List Told) Fault
+    → yaml_c_answer → Type 0
+TellsFront from input p (Ok es) a = TellsText [] (pos 0) a × SayEvents p es
+TellsFront from input p (Err fault) a = TellsFault fault (pos 0) a
+    × (IsMemoryFault parse_layers fault ⊎ SayEvents p (events_of from input))
+
+abbrev pub Fronts : List ℕ → yaml_c_parsed → yaml_encoding_t → yaml_c_answer → Type 0
+Fronts input p from = IsAnswered (OrMemory parse_layers (IsParsed from input))
+    (TellsFront from input p)
+
+-- where the number of an encoding means nothing, nothing is handed out
+abbrev pub NothingUnmeant : {M : Type 0} → Option M → yaml_c_parsed → Type 0
+NothingUnmeant None p = HasNothing p
+NothingUnmeant (Some m) p = Unit {0}

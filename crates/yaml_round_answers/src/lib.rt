@@ -2,15 +2,20 @@
 #![tactic(auto)]
 
 mod answer;
+mod decoding;
 mod emitting;
 mod engine;
 mod parsing;
+mod scanning;
 mod settings;
 
 pub use answer::{told, yaml_c_answer};
+pub use decoding::decoded_by;
 pub use emitting::answered_by;
 pub use engine::{compared_by, listed_by, reformatted_by, reloaded_by};
-pub use parsing::{parsed_by, yaml_c_parsed};
+pub use parsing::{front_by, parsed_by, yaml_c_parsed};
+pub use scanning::{scanned_by, yaml_c_scanned};
 pub use yaml_round_records::{
     yaml_c_directive, yaml_c_event, yaml_c_mark, yaml_c_settings, yaml_c_span,
 };
+pub use yaml_round_tokens::yaml_c_token;

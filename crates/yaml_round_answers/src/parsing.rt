@@ -5,7 +5,8 @@ ghost use Rattle.yaml_parse.specs.Faults.{fault_of, IsMemoryFault, parse_layers}
 ghost use Rattle.yaml_round.specs.Input.{Reads};
 ghost use Rattle.yaml_round_records.specs.Numbers.{encoding_meant};
 ghost use Rattle.yaml_round_answers.specs.Told.{AnswersMeant};
-ghost use Rattle.yaml_round_answers.specs.Parses.{HasNothing, HandsOut, Parses, IsCollected};
+ghost use Rattle.yaml_round_answers.specs.Parses.{HasNothing, HandsOut, Parses, IsCollected, EndsFront, Fronts, NothingUnmeant};
+ghost use Rattle.yaml_round_records.specs.Listing.{StartsEmpty};
 
 use crate::answer::{handed_out, misused, refused, said, yaml_c_answer};
 use std::alloc::Global;
@@ -130,6 +131,55 @@ pub fn parsed_by(
 {
     match encoding_of(from) {
         Some(from) => parsed(alloc, input, from, blocks),
+        None => {
+            *blocks = nothing();
+            misused()
+        }
+    }
+}
+
+fn fronted(
+    alloc: Global,
+    input: &[u8],
+    from: yaml_encoding_t,
+    listing: &mut Listing,
+) -> Result<(), yaml_fault_t>
+    requires { StartsEmpty listing.old }
+    ensures { EndsFront from input.now result listing.new }
+{
+    let mut reading = reading_of(alloc, input, from)?;
+    let end = collect(&mut reading, listing);
+    yaml_parser_delete(reading);
+    match end {
+        Ok(()) => Ok(()),
+        Err(fault) => Err(fault),
+    }
+}
+
+fn front(
+    alloc: Global,
+    input: &[u8],
+    from: yaml_encoding_t,
+    blocks: &mut yaml_c_parsed,
+) -> yaml_c_answer
+    ensures { Fronts input.now blocks.new from result }
+{
+    let mut listing = Listing::new(alloc);
+    let end = fronted(alloc, input, from, &mut listing);
+    *blocks = blocks_of(listing);
+    match end {
+        Ok(()) => said(0),
+        Err(fault) => refused(alloc, &fault, 0),
+    }
+}
+
+/// What a parse answers, and the events in front of its end or its fault.
+pub fn front_by(alloc: Global, input: &[u8], from: i32, blocks: &mut yaml_c_parsed) -> yaml_c_answer
+    ensures told { AnswersMeant (encoding_meant from) (Fronts input.now blocks.new) result }
+    ensures none { NothingUnmeant (encoding_meant from) blocks.new }
+{
+    match encoding_of(from) {
+        Some(from) => front(alloc, input, from, blocks),
         None => {
             *blocks = nothing();
             misused()

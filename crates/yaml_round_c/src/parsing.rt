@@ -3,10 +3,10 @@
 ghost use Rattle.std.specs.Prelude.{◌≡◌, ◌⊎◌, pos};
 ghost use Rattle.yaml_round_answers.specs.Numbers.{encoding_meant};
 ghost use Rattle.yaml_round_answers.specs.Told.{AnswersMeant, IsExact};
-ghost use Rattle.yaml_round_answers.specs.Parses.{HasNothing, Parses};
+ghost use Rattle.yaml_round_answers.specs.Parses.{HasNothing, Parses, Fronts, NothingUnmeant};
 
 use std::alloc::Global;
-use yaml_round_answers::{parsed_by, yaml_c_answer, yaml_c_parsed};
+use yaml_round_answers::{front_by, parsed_by, yaml_c_answer, yaml_c_parsed};
 
 /// The events of the input, as records over one block of bytes. Where it is refused there are none.
 #[unsafe(no_mangle)]
@@ -23,5 +23,23 @@ pub extern "C" fn yaml_c_parse(
     ensures kind { result ≡ answer.new.kind }
 {
     *answer = parsed_by(alloc, input, from, blocks);
+    answer.kind
+}
+
+/// The events of the input in front of its end or its fault, as records over one block of bytes.
+#[unsafe(no_mangle)]
+pub extern "C" fn yaml_c_front(
+    alloc: Global,
+    input: &[u8],
+    from: i32,
+    blocks: &mut yaml_c_parsed,
+    answer: &mut yaml_c_answer,
+) -> i32
+    ensures told { AnswersMeant (encoding_meant from) (Fronts input.now blocks.new) answer.new }
+    ensures none { NothingUnmeant (encoding_meant from) blocks.new }
+    ensures exact { IsExact (encoding_meant from) result }
+    ensures kind { result ≡ answer.new.kind }
+{
+    *answer = front_by(alloc, input, from, blocks);
     answer.kind
 }

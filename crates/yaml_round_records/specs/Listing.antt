@@ -197,7 +197,7 @@ pub record Collected (start left : List Told) (l : Listing) : Type 0 where
 abbrev pub Collects : ParserRemaining → Result (Unit {0}) yaml_fault_t → Listing → Type 0
 Collects reading (Ok done) l = (reading.ending ≡ None) × Collected reading.events [] l
 Collects reading (Err f) l = IsMemoryFault parse_layers (fault_of f)
-    ⊎ (reading.ending ≡ Some (fault_of f))
+    ⊎ ((reading.ending ≡ Some (fault_of f)) × Collected reading.events [] l)
 
 abbrev pub StartsEmpty : Listing → Type 0
 StartsEmpty l = (l.events.items ≡ []) × (l.directives.items ≡ []) × (l.bytes.items ≡ [])

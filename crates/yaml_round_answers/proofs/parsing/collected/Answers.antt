@@ -10,4 +10,4 @@ returns-in-Ok c =
 pub returns-in-Err : goal.returns-in-Err
 returns-in-Err c =
     let e = rw c.in-Err.is at c.collect-end.ensures in
-    fault_taken _ _ c.in_ok-reading.reading c.in-Err.fault c.in_ok-reading.ensures.reads e
+    fault_taken _ _ c.in_ok-reading.reading c.in-Err.fault c.in_ok-reading.ensures.reads _ e

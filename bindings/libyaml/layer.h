@@ -1,0 +1,108 @@
+/* What the files of this folder share. They give libyaml's interface to the proved calls of bindings/c/yaml_c.h; nothing
+ * proves them. No file has a variable that is written, nothing recurses, and each allocation's answer is looked at. */
+#ifndef YAML_LAYER_H
+#define YAML_LAYER_H
+
+#include "yaml.h"
+#include "yaml_c.h"
+
+#include <assert.h>
+#include <limits.h>
+#include <stdint.h>
+
+/* ---- exported by libyaml's shared object, and declared in no header of its own */
+
+void *yaml_malloc(size_t size);
+void *yaml_realloc(void *block, size_t size);
+void yaml_free(void *block);
+yaml_char_t *yaml_strdup(const yaml_char_t *text);
+int yaml_string_extend(yaml_char_t **start, yaml_char_t **pointer, yaml_char_t **end);
+int yaml_string_join(yaml_char_t **a_start, yaml_char_t **a_pointer, yaml_char_t **a_end, yaml_char_t **b_start,
+                     yaml_char_t **b_pointer, yaml_char_t **b_end);
+int yaml_stack_extend(void **start, void **top, void **end);
+int yaml_queue_extend(void **start, void **head, void **tail, void **end);
+int yaml_parser_update_buffer(yaml_parser_t *parser, size_t length);
+int yaml_parser_fetch_more_tokens(yaml_parser_t *parser);
+
+/* ---- memory */
+
+/* A text of that many bytes, with a byte 0 behind it; NULL where memory was refused. */
+yaml_char_t *layer_copy(const void *text, size_t len);
+
+/* Bytes that grow. */
+typedef struct {
+    uint8_t *at;
+    size_t len;
+    size_t room;
+} layer_bytes;
+
+/* Puts bytes behind the others. 0: memory was refused, and nothing has changed. */
+int layer_put(layer_bytes *bytes, const void *text, size_t len);
+
+/* A block with room for at least one item more than `len`, which replaces the old one, and how many it has room for. NULL:
+ * memory was refused, or there are INT_MAX items; then the old block is as it was. */
+void *layer_grown(void *block, size_t len, size_t item, size_t *room);
+
+/* Makes room for one item more in a stack of libyaml's form. `is_there` tells whether there is. */
+#define LAYER_MAKE_ROOM(is_there, stack)                                                               \
+    do {                                                                                               \
+        (is_there) = (stack)->top != (stack)->end;                                                     \
+        if (!(is_there)) {                                                                             \
+            size_t used_ = (stack)->start ? (size_t)((stack)->top - (stack)->start) : 0, room_ = 0;    \
+            void *block_ = layer_grown((stack)->start, used_, sizeof *(stack)->start, &room_);         \
+            if (block_) {                                                                              \
+                (stack)->start = block_;                                                               \
+                (stack)->top = (stack)->start + used_;                                                 \
+                (stack)->end = (stack)->start + room_;                                                 \
+                (is_there) = 1;                                                                        \
+            }                                                                                          \
+        }                                                                                              \
+    } while (0)
+
+/* Whether the bytes are UTF-8, without surrogates. */
+int layer_is_utf8(const yaml_char_t *text, size_t len);
+
+/* ---- the layer's own state, which hangs on a pointer that no client has a use for */
+
+#define LAYER_STATE(type, of) ((type *)(void *)(of)->raw_buffer.start)
+#define LAYER_SET_STATE(of, state) ((of)->raw_buffer.start = (unsigned char *)(void *)(state))
+
+/* What a parser has read. */
+typedef struct {
+    layer_bytes input;     /* what a handler gave */
+    yaml_c_answer decoded; /* the text in UTF-8, where the input isn't */
+    const uint8_t *bytes;  /* the input, and its length */
+    size_t len;
+    const uint8_t *text; /* the decoded text behind its byte order mark, and its length */
+    size_t text_len;
+    int is_ascii;
+    int is_read; /* its events or its tokens were asked for */
+    size_t at_byte; /* a place of the text, and the characters in front of it */
+    size_t at_char;
+    yaml_c_parsed parsed; /* without its events */
+    yaml_c_answer answer;
+    yaml_c_event *events; /* those that are to come, the next one last */
+    size_t left;
+    size_t room; /* of how many there is memory */
+    yaml_c_scanned scanned;
+    size_t next; /* the token that comes next, of so many */
+    size_t tokens_len;
+    char *problem;
+    char *context;
+} layer_reading;
+
+/* Has the input read and its records made, at the first call. 0: the parser tells why. */
+int layer_read(yaml_parser_t *parser, layer_reading *reading);
+/* Tells the input's fault. Answers 0. */
+int layer_fault(yaml_parser_t *parser, layer_reading *reading);
+int layer_no_memory(yaml_parser_t *parser);
+yaml_mark_t layer_mark(layer_reading *reading, yaml_c_mark mark);
+/* Reads all that the handler gives. 0: the parser tells why. */
+int layer_read_input(yaml_parser_t *parser, layer_reading *reading);
+/* Finds the encoding and the decoded text. 0: memory was refused. */
+int layer_decode(yaml_parser_t *parser, layer_reading *reading);
+
+/* Adds a node, whose tag and value are the document's then. Its number; 0: memory was refused, and both are freed. */
+int layer_add_node(yaml_document_t *document, const yaml_node_t *node);
+
+#endif

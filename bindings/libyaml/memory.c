@@ -1,0 +1,110 @@
+/* Versions, memory, texts. */
+#include "layer.h"
+
+YAML_DECLARE(const char *) yaml_get_version_string(void)
+{
+    return "0.2.5";
+}
+
+YAML_DECLARE(void) yaml_get_version(int *major, int *minor, int *patch)
+{
+    *major = 0;
+    *minor = 2;
+    *patch = 5;
+}
+
+YAML_DECLARE(void *) yaml_malloc(size_t size)
+{
+    return malloc(size ? size : 1);
+}
+
+YAML_DECLARE(void *) yaml_realloc(void *block, size_t size)
+{
+    return realloc(block, size ? size : 1);
+}
+
+YAML_DECLARE(void) yaml_free(void *block)
+{
+    free(block);
+}
+
+YAML_DECLARE(yaml_char_t *) yaml_strdup(const yaml_char_t *text)
+{
+    return text ? layer_copy(text, strlen((const char *)text)) : NULL;
+}
+
+yaml_char_t *layer_copy(const void *text, size_t len)
+{
+    yaml_char_t *copy = malloc(len + 1);
+    if (copy) {
+        if (len)
+            memcpy(copy, text, len);
+        copy[len] = 0;
+    }
+    return copy;
+}
+
+int layer_put(layer_bytes *bytes, const void *text, size_t len)
+{
+    if (len > bytes->room - bytes->len) {
+        size_t room = bytes->room ? bytes->room : 256;
+        while (room - bytes->len < len) {
+            if (room > SIZE_MAX / 2)
+                return 0;
+            room *= 2;
+        }
+        uint8_t *at = realloc(bytes->at, room);
+        if (!at)
+            return 0;
+        bytes->at = at;
+        bytes->room = room;
+    }
+    if (len)
+        memcpy(bytes->at + bytes->len, text, len);
+    bytes->len += len;
+    return 1;
+}
+
+void *layer_grown(void *block, size_t len, size_t item, size_t *room)
+{
+    size_t more = len < 8 ? 16 : len * 2;
+    if (len >= INT_MAX - 1)
+        return NULL;
+    void *found = realloc(block, more * item);
+    if (found)
+        *room = more;
+    return found;
+}
+
+/* How many bytes the character has that begins with this one; 0: none does. */
+static size_t width_of(unsigned byte)
+{
+    if (byte < 0x80)
+        return 1;
+    if (byte >= 0xC2 && byte < 0xE0)
+        return 2;
+    if ((byte & 0xF0) == 0xE0)
+        return 3;
+    return byte >= 0xF0 && byte < 0xF5 ? 4 : 0;
+}
+
+int layer_is_utf8(const yaml_char_t *text, size_t len)
+{
+    for (size_t i = 0; i < len;) {
+        size_t width = width_of(text[i]);
+        if (!width || width > len - i)
+            return 0;
+        unsigned value = width == 1 ? text[i] : text[i] & (0xFFu >> (width + 1));
+        for (size_t k = 1; k < width; k++) {
+            if ((text[i + k] & 0xC0) != 0x80)
+                return 0;
+            value = value << 6 | (text[i + k] & 0x3Fu);
+        }
+        if (width == 3 && (value < 0x800 || (value >= 0xD800 && value < 0xE000)))
+            return 0;
+        if (width == 4 && (value < 0x10000 || value > 0x10FFFF))
+            return 0;
+        i += width;
+    }
+    return 1;
+}

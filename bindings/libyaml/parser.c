@@ -1,0 +1,299 @@
+/* The parser: the whole input is read at the first call, and made into records by the proved core; each call then hands out one
+ * event, and behind those in front of a fault the fault. */
+#include "layer.h"
+
+int layer_no_memory(yaml_parser_t *parser)
+{
+    parser->error = YAML_MEMORY_ERROR;
+    return 0;
+}
+
+YAML_DECLARE(int) yaml_parser_initialize(yaml_parser_t *parser)
+{
+    assert(parser);
+    memset(parser, 0, sizeof *parser);
+    layer_reading *reading = calloc(1, sizeof *reading);
+    if (!reading)
+        return layer_no_memory(parser);
+    yaml_c_parsed_init(&reading->parsed);
+    yaml_c_scanned_init(&reading->scanned);
+    yaml_c_answer_init(&reading->answer);
+    yaml_c_answer_init(&reading->decoded);
+    LAYER_SET_STATE(parser, reading);
+    return 1;
+}
+
+YAML_DECLARE(void) yaml_parser_delete(yaml_parser_t *parser)
+{
+    assert(parser);
+    layer_reading *reading = LAYER_STATE(layer_reading, parser);
+    if (reading) {
+        yaml_c_parsed_free(&reading->parsed);
+        yaml_c_scanned_free(&reading->scanned);
+        yaml_c_answer_free(&reading->answer);
+        yaml_c_answer_free(&reading->decoded);
+        free(reading->events);
+        free(reading->input.at);
+        free(reading->problem);
+        free(reading->context);
+        free(reading);
+    }
+    free(parser->buffer.start);
+    memset(parser, 0, sizeof *parser);
+}
+
+/* ---- records */
+
+/* Takes the events out of what was parsed, the first one last, so that the memory of those that are done can be given back. */
+static void take_events(layer_reading *reading)
+{
+    yaml_c_parsed *parsed = &reading->parsed;
+    size_t len = parsed->events_len;
+    if (!len)
+        return;
+    yaml_c_event *events = (yaml_c_event *)parsed->events;
+    parsed->events_len = 0;
+    for (size_t i = 0; i < len / 2; i++) {
+        yaml_c_event other = events[i];
+        events[i] = events[len - 1 - i];
+        events[len - 1 - i] = other;
+    }
+    reading->events = events;
+    reading->left = reading->room = len;
+}
+
+/* Gives memory back each time that half of the events are done. A refusal changes nothing. */
+static void give_back(layer_reading *reading)
+{
+    if (reading->left < 1024 || reading->left > reading->room / 2)
+        return;
+    yaml_c_event *less = realloc(reading->events, reading->left * sizeof *less);
+    if (less) {
+        reading->events = less;
+        reading->room = reading->left;
+    }
+}
+
+int layer_read(yaml_parser_t *parser, layer_reading *reading)
+{
+    if (reading->is_read)
+        return 1;
+    if (!layer_read_input(parser, reading))
+        return 0;
+    reading->is_read = 1;
+    yaml_c_front(reading->bytes, reading->len, parser->encoding, &reading->parsed, &reading->answer);
+    if (reading->answer.kind != YAML_C_MEMORY_ERROR)
+        take_events(reading);
+    return layer_decode(parser, reading);
+}
+
+/* ---- marks, which go forward but for a few characters, so that all of them are counted in one pass */
+
+static size_t characters_before(layer_reading *reading, uint64_t byte)
+{
+    const uint8_t *text = reading->text;
+    if (reading->is_ascii)
+        return byte;
+    if (byte > reading->text_len)
+        byte = reading->text_len;
+    for (; reading->at_byte < byte; reading->at_byte++)
+        reading->at_char += (text[reading->at_byte] & 0xC0) != 0x80;
+    for (; reading->at_byte > byte; reading->at_byte--)
+        reading->at_char -= (text[reading->at_byte - 1] & 0xC0) != 0x80;
+    return reading->at_char;
+}
+
+yaml_mark_t layer_mark(layer_reading *reading, yaml_c_mark mark)
+{
+    yaml_mark_t found = {characters_before(reading, mark.index), mark.line, mark.column};
+    return found;
+}
+
+/* Of what was read as tokens there are no events, and of what was read as events no tokens. */
+static int mixed(yaml_parser_t *parser)
+{
+    parser->error = YAML_PARSER_ERROR;
+    parser->problem = "a parser gives events or tokens, not both";
+    return 0;
+}
+
+int layer_fault(yaml_parser_t *parser, layer_reading *reading)
+{
+    const yaml_c_answer *answer = &reading->answer;
+    if (answer->kind == YAML_C_ANSWERED)
+        return mixed(parser);
+    if (answer->kind == YAML_C_MEMORY_ERROR)
+        return layer_no_memory(parser);
+    /* an encoding that is none: */
+    parser->error = answer->kind < 0 ? YAML_READER_ERROR : (yaml_error_type_t)answer->kind;
+    reading->problem = (char *)layer_copy(answer->problem.at, answer->problem.len);
+    if (answer->context.len)
+        reading->context = (char *)layer_copy(answer->context.at, answer->context.len);
+    if (!reading->problem || (answer->context.len && !reading->context))
+        return layer_no_memory(parser);
+    parser->problem = reading->problem;
+    parser->context = reading->context;
+    parser->problem_offset = answer->offset;
+    parser->problem_value = answer->value;
+    if (parser->error != YAML_READER_ERROR) {
+        parser->problem_mark = layer_mark(reading, answer->problem_mark);
+        parser->context_mark = layer_mark(reading, answer->context_mark);
+        parser->mark = parser->problem_mark;
+    }
+    return 0;
+}
+
+/* ---- events */
+
+static int copied(const layer_reading *reading, yaml_char_t **to, yaml_c_span span)
+{
+    return (*to = layer_copy(reading->parsed.bytes.at + span.at, span.len)) != NULL;
+}
+
+/* The anchor and the tag of a node. */
+static int properties_copied(const layer_reading *reading, const yaml_c_event *it, yaml_char_t **anchor, yaml_char_t **tag)
+{
+    return (!it->has_anchor || copied(reading, anchor, it->anchor)) && (!it->has_tag || copied(reading, tag, it->tag));
+}
+
+/* How many bytes a line break has that stands there; 0: none does. */
+static size_t break_width(const uint8_t *at, const uint8_t *end)
+{
+    if (*at == '\r' || *at == '\n')
+        return 1;
+    if (end - at >= 2 && at[0] == 0xC2 && at[1] == 0x85)
+        return 2;
+    return end - at >= 3 && at[0] == 0xE2 && at[1] == 0x80 && (at[2] == 0xA8 || at[2] == 0xA9) ? 3 : 0;
+}
+
+static int is_gap(const uint8_t *at, const uint8_t *end)
+{
+    return at == end || *at == ' ' || *at == '\t' || break_width(at, end);
+}
+
+/* Behind blanks, line breaks and comments. */
+static const uint8_t *skip_gap(const uint8_t *at, const uint8_t *end)
+{
+    for (int is_comment = 0; at < end && (is_comment || *at == '#' || is_gap(at, end));) {
+        size_t width = break_width(at, end);
+        is_comment = !width && (is_comment || *at == '#');
+        at += width ? width : 1;
+    }
+    return at;
+}
+
+/* Whether a tag that means `!` stands there: `!`, or spelled out. */
+static int is_bang(const uint8_t *at, const uint8_t *end)
+{
+    size_t len = (size_t)(end - at);
+    if (!len || at[0] != '!')
+        return 0;
+    return is_gap(at + 1, end) || (len >= 4 && !memcmp(at, "!<!>", 4)) || (len >= 6 && !memcmp(at, "!<%21>", 6));
+}
+
+/* Whether a scalar has the tag `!`, which the core leaves out of its record. In the other styles the flags tell it; in plain
+ * style the text does, where the tag stands first or behind an anchor. */
+static int has_bang(const layer_reading *reading, const yaml_c_event *it)
+{
+    if (it->has_tag || !it->implicit || it->quoted_implicit)
+        return 0;
+    if (it->style != YAML_C_PLAIN_SCALAR_STYLE)
+        return 1;
+    if (it->start.index >= reading->text_len || it->end.index > reading->text_len)
+        return 0;
+    const uint8_t *at = reading->text + it->start.index, *end = reading->text + it->end.index;
+    if (it->has_anchor && at < end && *at == '&' && it->anchor.len < (size_t)(end - at))
+        at = skip_gap(at + 1 + it->anchor.len, end);
+    return is_bang(at, end);
+}
+
+static int scalar_made(const layer_reading *reading, const yaml_c_event *it, yaml_event_t *event)
+{
+    event->data.scalar.length = it->value.len;
+    event->data.scalar.plain_implicit = it->implicit;
+    event->data.scalar.quoted_implicit = it->quoted_implicit;
+    event->data.scalar.style = (yaml_scalar_style_t)it->style;
+    if (has_bang(reading, it) && !(event->data.scalar.tag = layer_copy("!", 1)))
+        return 0;
+    return properties_copied(reading, it, &event->data.scalar.anchor, &event->data.scalar.tag)
+           && copied(reading, &event->data.scalar.value, it->value);
+}
+
+static int directives_made(const layer_reading *reading, yaml_c_span span, yaml_event_t *event)
+{
+    if (!span.len)
+        return 1;
+    yaml_tag_directive_t *directives = calloc(span.len, sizeof *directives);
+    if (!directives)
+        return 0;
+    event->data.document_start.tag_directives.start = directives;
+    event->data.document_start.tag_directives.end = directives + span.len;
+    for (size_t i = 0; i < span.len; i++) {
+        const yaml_c_directive *from = &reading->parsed.directives[span.at + i];
+        if (!copied(reading, &directives[i].handle, from->handle) || !copied(reading, &directives[i].prefix, from->prefix))
+            return 0;
+    }
+    return 1;
+}
+
+static int document_start_made(const layer_reading *reading, const yaml_c_event *it, yaml_event_t *event)
+{
+    event->data.document_start.implicit = it->implicit;
+    if (it->has_version) {
+        yaml_version_directive_t *version = malloc(sizeof *version);
+        if (!version)
+            return 0;
+        version->major = it->major;
+        version->minor = it->minor;
+        event->data.document_start.version_directive = version;
+    }
+    return directives_made(reading, it->directives, event);
+}
+
+/* Fills what the event's kind has. 0: memory was refused. */
+static int made(const layer_reading *reading, const yaml_c_event *it, yaml_event_t *event)
+{
+    switch (it->kind) {
+    case YAML_C_STREAM_START_EVENT: event->data.stream_start.encoding = (yaml_encoding_t)it->encoding; return 1;
+    case YAML_C_DOCUMENT_START_EVENT: return document_start_made(reading, it, event);
+    case YAML_C_DOCUMENT_END_EVENT: event->data.document_end.implicit = it->implicit; return 1;
+    case YAML_C_ALIAS_EVENT: return copied(reading, &event->data.alias.anchor, it->anchor);
+    case YAML_C_SCALAR_EVENT: return scalar_made(reading, it, event);
+    case YAML_C_SEQUENCE_START_EVENT:
+        event->data.sequence_start.implicit = it->implicit;
+        event->data.sequence_start.style = (yaml_sequence_style_t)it->style;
+        return properties_copied(reading, it, &event->data.sequence_start.anchor, &event->data.sequence_start.tag);
+    case YAML_C_MAPPING_START_EVENT:
+        event->data.mapping_start.implicit = it->implicit;
+        event->data.mapping_start.style = (yaml_mapping_style_t)it->style;
+        return properties_copied(reading, it, &event->data.mapping_start.anchor, &event->data.mapping_start.tag);
+    default: return 1;
+    }
+}
+
+YAML_DECLARE(int) yaml_parser_parse(yaml_parser_t *parser, yaml_event_t *event)
+{
+    assert(parser && event);
+    layer_reading *reading = LAYER_STATE(layer_reading, parser);
+    memset(event, 0, sizeof *event);
+    if (parser->error || parser->stream_end_produced)
+        return 1;
+    if (!layer_read(parser, reading))
+        return 0;
+    if (!reading->left)
+        return layer_fault(parser, reading);
+    const yaml_c_event *it = &reading->events[reading->left - 1];
+    event->type = (yaml_event_type_t)it->kind;
+    if (!made(reading, it, event)) {
+        yaml_event_delete(event);
+        return layer_no_memory(parser);
+    }
+    event->start_mark = layer_mark(reading, it->start);
+    event->end_mark = layer_mark(reading, it->end);
+    parser->mark = event->end_mark;
+    parser->stream_start_produced = 1;
+    parser->stream_end_produced = it->kind == YAML_C_STREAM_END_EVENT;
+    reading->left--;
+    give_back(reading);
+    return 1;
+}

@@ -1,0 +1,73 @@
+#!/usr/bin/env python3
+"""Writes the texts that the tests of bindings/libyaml run over: those of the vectors, and broken ones made of them.
+
+    inputs.py FOLDER     FOLDER/given/SUM, and two broken ones of each, FOLDER/broken/SUM
+
+A file is named by the first twelve digits of its text's SHA-256, and what is broken depends on the text alone, so that a list of
+files outlives new vectors.
+"""
+import hashlib
+import json
+import os
+import random
+import sys
+
+TOP = os.path.dirname(os.path.dirname(os.path.dirname(os.path.dirname(os.path.abspath(__file__)))))
+VECTORS = f"{TOP}/crates/yaml_cli_vectors/stdin"
+LONGEST = 4096
+PIECES = [b"\n", b" ", b"\t", b"- ", b": ", b"? ", b"[", b"]", b"{", b"}", b",", b"&a ", b"*a", b"!t ", b"|\n", b">\n", b"'", b'"', b"#",
+          b"%YAML 1.1\n", b"---\n", b"...\n", b"\xc3\xa9", b"\xff", b"\x00", b"\xef\xbb\xbf", b"\xff\xfe", b"\\x", b"\r\n", b"\xe2\x80\xa8"]
+
+
+def given():
+    """The vectors' texts, each once, in their order."""
+    texts = {}
+    with open(VECTORS, encoding="utf-8") as file:
+        for line in file:
+            vector = json.loads(line)
+            for field in ("input", "input2"):
+                if isinstance(vector.get(field), str):
+                    text = bytes.fromhex(vector[field])
+                    if len(text) <= LONGEST:
+                        texts[text] = None
+    return list(texts)
+
+
+def broken(whole, dice):
+    """The text with some places changed."""
+    text = bytearray(whole)
+    for _ in range(dice.randint(1, 4)):
+        at = dice.randint(0, len(text))
+        way = dice.randint(0, 3)
+        if way == 0:
+            text[at:at] = dice.choice(PIECES)
+        elif way == 1:
+            del text[at:at + dice.randint(1, 5)]
+        elif way == 2:
+            text[at:at + 1] = dice.choice(PIECES)
+        else:
+            del text[at:]
+    return bytes(text)
+
+
+def write(folder, texts):
+    os.makedirs(folder, exist_ok=True)
+    for text in texts:
+        with open(f"{folder}/{hashlib.sha256(text).hexdigest()[:12]}", "wb") as file:
+            file.write(text)
+
+
+def two_broken(text):
+    dice = random.Random(hashlib.sha256(text).digest())
+    return [broken(text, dice) for _ in range(2)]
+
+
+def main(words):
+    folder, = words
+    texts = given()
+    write(f"{folder}/given", texts)
+    write(f"{folder}/broken", (it for text in texts for it in two_broken(text)))
+
+
+if __name__ == "__main__":
+    main(sys.argv[1:])

@@ -1,0 +1,79 @@
+/* Tokens: the whole input is scanned at the first call, as it is parsed for events; each call then hands out one token, and
+ * behind those in front of a fault the fault. */
+#include "layer.h"
+
+static int scan(yaml_parser_t *parser, layer_reading *reading)
+{
+    if (reading->is_read)
+        return 1;
+    if (!layer_read_input(parser, reading))
+        return 0;
+    reading->is_read = 1;
+    yaml_c_scan(reading->bytes, reading->len, parser->encoding, &reading->scanned, &reading->answer);
+    if (reading->answer.kind != YAML_C_MEMORY_ERROR)
+        reading->tokens_len = reading->scanned.tokens_len;
+    return layer_decode(parser, reading);
+}
+
+static int copied(const layer_reading *reading, yaml_char_t **to, yaml_c_span span)
+{
+    return (*to = layer_copy(reading->scanned.bytes.at + span.at, span.len)) != NULL;
+}
+
+/* Fills what the token's kind has. 0: memory was refused. */
+static int made(const layer_reading *reading, const yaml_c_token *it, yaml_token_t *token)
+{
+    switch (it->kind) {
+    case YAML_C_STREAM_START_TOKEN: token->data.stream_start.encoding = (yaml_encoding_t)it->encoding; return 1;
+    case YAML_C_VERSION_DIRECTIVE_TOKEN:
+        token->data.version_directive.major = it->major;
+        token->data.version_directive.minor = it->minor;
+        return 1;
+    case YAML_C_TAG_DIRECTIVE_TOKEN:
+        return copied(reading, &token->data.tag_directive.handle, it->handle)
+               && copied(reading, &token->data.tag_directive.prefix, it->value);
+    case YAML_C_ALIAS_TOKEN: return copied(reading, &token->data.alias.value, it->value);
+    case YAML_C_ANCHOR_TOKEN: return copied(reading, &token->data.anchor.value, it->value);
+    case YAML_C_TAG_TOKEN:
+        return copied(reading, &token->data.tag.handle, it->handle) && copied(reading, &token->data.tag.suffix, it->value);
+    case YAML_C_SCALAR_TOKEN:
+        token->data.scalar.length = it->value.len;
+        token->data.scalar.style = (yaml_scalar_style_t)it->style;
+        return copied(reading, &token->data.scalar.value, it->value);
+    default: return 1;
+    }
+}
+
+/* libyaml puts tokens into its queue; here there is none, and the tokens are read by then or the fault is told. */
+YAML_DECLARE(int) yaml_parser_fetch_more_tokens(yaml_parser_t *parser)
+{
+    assert(parser);
+    layer_reading *reading = LAYER_STATE(layer_reading, parser);
+    if (parser->stream_end_produced)
+        return 1;
+    return scan(parser, reading) && (reading->next < reading->tokens_len || layer_fault(parser, reading));
+}
+
+YAML_DECLARE(int) yaml_parser_scan(yaml_parser_t *parser, yaml_token_t *token)
+{
+    assert(parser && token);
+    layer_reading *reading = LAYER_STATE(layer_reading, parser);
+    memset(token, 0, sizeof *token);
+    if (parser->stream_end_produced || parser->error)
+        return 1;
+    if (!yaml_parser_fetch_more_tokens(parser))
+        return 0;
+    const yaml_c_token *it = &reading->scanned.tokens[reading->next++];
+    token->type = (yaml_token_type_t)it->kind;
+    if (!made(reading, it, token)) {
+        yaml_token_delete(token);
+        return layer_no_memory(parser);
+    }
+    token->start_mark = layer_mark(reading, it->start);
+    token->end_mark = layer_mark(reading, it->end);
+    parser->mark = token->end_mark;
+    parser->stream_start_produced = 1;
+    parser->stream_end_produced = it->kind == YAML_C_STREAM_END_TOKEN;
+    parser->tokens_parsed++;
+    return 1;
+}

@@ -1,0 +1,46 @@
+//! The text of an input.
+
+ghost use Rattle.std.specs.Prelude.{◌≡◌};
+ghost use Rattle.yaml_parse.specs.Faults.{Answers, scan_layers};
+ghost use Rattle.yaml_round_records.specs.Leading.{bytes_of};
+ghost use Rattle.yaml_round_records.specs.Numbers.{encoding_meant};
+ghost use Rattle.yaml_round_answers.specs.Told.{AnswersMeant};
+ghost use Rattle.yaml_round_answers.specs.Decodes.{IsDecoded, Decodes};
+
+use crate::answer::{misused, refused, told, yaml_c_answer};
+use std::alloc::Global;
+use yaml_round::{yaml_encoding_t, yaml_fault_t};
+use yaml_round_records::encoding_of;
+use yaml_scan::{yaml_decode, yaml_memory_fault, yaml_origin_t};
+
+// The text that the bytes spell, in a block of its own.
+fn text_of(alloc: Global, input: &[u8], from: yaml_encoding_t) -> Result<Vec<u8>, yaml_fault_t>
+    ensures { Answers scan_layers bytes_of (IsDecoded from input.now) result }
+{
+    match yaml_decode(alloc, input, from) {
+        Ok(text) => match Vec::from_slice(alloc, text.as_slice()) {
+            Ok(copy) => Ok(copy),
+            Err(_) => Err(yaml_memory_fault(yaml_origin_t::Reader)),
+        },
+        Err(fault) => Err(fault),
+    }
+}
+
+fn decoded(alloc: Global, input: &[u8], from: yaml_encoding_t) -> yaml_c_answer
+    ensures { Decodes input.now from result }
+{
+    match text_of(alloc, input, from) {
+        Ok(text) => told(text, 0),
+        Err(fault) => refused(alloc, &fault, 0),
+    }
+}
+
+/// What a decoding answers, where its number means something.
+pub fn decoded_by(alloc: Global, input: &[u8], from: i32) -> yaml_c_answer
+    ensures { AnswersMeant (encoding_meant from) (Decodes input.now) result }
+{
+    match encoding_of(from) {
+        Some(from) => decoded(alloc, input, from),
+        None => misused(),
+    }
+}

@@ -1,0 +1,8 @@
+//! An input's tokens as C's records over one block of bytes.
+#![tactic(auto)]
+
+mod listing;
+mod record;
+
+pub use listing::{TokenListing, list_tokens};
+pub use record::yaml_c_token;

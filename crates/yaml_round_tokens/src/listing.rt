@@ -1,0 +1,199 @@
+//! The tokens of an input, one behind another.
+
+ghost use Rattle.std.specs.Prelude.{◌≡◌, [], ◌++◌, length, pos, IfOk};
+ghost use Rattle.yaml_scan.specs.Tokens.{token_of};
+ghost use Rattle.yaml_scan.specs.Scanned.{scanned};
+ghost use Rattle.yaml_scan.specs.Session.{HasFirst};
+ghost use Rattle.yaml_round_tokens.specs.Listed.{ListsTokens, EndsListed, ListsNext, Puts, MakesRecord, Adds, with_value, with_both};
+
+use crate::record::{encoding_number, plain, style_number, yaml_c_token};
+use std::alloc::{AllocError, Global};
+use yaml_round_records::{mark_told, yaml_c_mark, yaml_c_span};
+use yaml_scan::{
+    yaml_encoding_t, yaml_fault_t, yaml_memory_fault, yaml_origin_t, yaml_parser_has_token,
+    yaml_parser_peek, yaml_parser_scan, yaml_parser_t, yaml_token_body_t, yaml_token_t,
+};
+
+/// Records, and the bytes of their texts.
+#[derive(Drop)]
+pub struct TokenListing {
+    pub tokens: Vec<yaml_c_token>,
+    pub bytes: Vec<u8>,
+}
+
+impl TokenListing {
+    /// A listing of nothing.
+    #[tactic(auto, unfolding(crate::specs::Listed::records_from, crate::specs::Listed::all_texts))]
+    pub fn new(alloc: Global) -> TokenListing
+        ensures { ListsTokens [] result }
+    {
+        TokenListing {
+            tokens: Vec::new(alloc),
+            bytes: Vec::new(alloc),
+        }
+    }
+}
+
+// Puts a text behind the others.
+fn put(bytes: &mut Vec<u8>, text: &[u8]) -> Result<yaml_c_span, AllocError>
+    ensures { IfOk result (λ s. Puts bytes.old.items text.now bytes.new.items s) }
+{
+    let at = bytes.len() as u64;
+    bytes.extend_from_slice(text)?;
+    Ok(yaml_c_span {
+        at,
+        len: text.len() as u64,
+    })
+}
+
+// A record with a text.
+fn named(bytes: &mut Vec<u8>, base: yaml_c_token, text: &[u8]) -> Result<yaml_c_token, AllocError>
+    ensures put { IfOk result (λ _. bytes.new.items ≡ bytes.old.items ++ text.now) }
+    ensures is { IfOk result (λ r. r ≡ with_value (length bytes.old.items) text.now base) }
+{
+    let mut record = base;
+    record.value = put(bytes, text)?;
+    Ok(record)
+}
+
+// A record with two texts.
+fn named_twice(
+    bytes: &mut Vec<u8>,
+    base: yaml_c_token,
+    handle: &[u8],
+    text: &[u8],
+) -> Result<yaml_c_token, AllocError>
+    ensures put { IfOk result (λ _. bytes.new.items ≡ bytes.old.items ++ (handle.now ++ text.now)) }
+    ensures is { IfOk result (λ r. r ≡ with_both (length bytes.old.items) handle.now text.now
+        base) }
+{
+    let mut record = base;
+    record.handle = put(bytes, handle)?;
+    record.value = put(bytes, text)?;
+    Ok(record)
+}
+
+// The record of a token, whose texts are put behind the others. It is long because it has an arm for each kind of token.
+fn record_of(bytes: &mut Vec<u8>, token: &yaml_token_t) -> Result<yaml_c_token, AllocError>
+    ensures { IfOk result (MakesRecord bytes.old.items (token_of token.now) bytes.new.items) }
+{
+    let start = mark_told(token.start_mark);
+    let end = mark_told(token.end_mark);
+    match &token.body {
+        yaml_token_body_t::No => Ok(plain(0, start, end)),
+        yaml_token_body_t::StreamStart { encoding } => {
+            let mut record = plain(1, start, end);
+            record.encoding = encoding_number(*encoding);
+            Ok(record)
+        }
+        yaml_token_body_t::StreamEnd => Ok(plain(2, start, end)),
+        yaml_token_body_t::VersionDirective { major, minor } => {
+            let mut record = plain(3, start, end);
+            record.major = *major;
+            record.minor = *minor;
+            Ok(record)
+        }
+        yaml_token_body_t::TagDirective { handle, prefix } => {
+            let record = named_twice(bytes, plain(4, start, end), handle, prefix)?;
+            Ok(record)
+        }
+        yaml_token_body_t::DocumentStart => Ok(plain(5, start, end)),
+        yaml_token_body_t::DocumentEnd => Ok(plain(6, start, end)),
+        yaml_token_body_t::BlockSequenceStart => Ok(plain(7, start, end)),
+        yaml_token_body_t::BlockMappingStart => Ok(plain(8, start, end)),
+        yaml_token_body_t::BlockEnd => Ok(plain(9, start, end)),
+        yaml_token_body_t::FlowSequenceStart => Ok(plain(10, start, end)),
+        yaml_token_body_t::FlowSequenceEnd => Ok(plain(11, start, end)),
+        yaml_token_body_t::FlowMappingStart => Ok(plain(12, start, end)),
+        yaml_token_body_t::FlowMappingEnd => Ok(plain(13, start, end)),
+        yaml_token_body_t::BlockEntry => Ok(plain(14, start, end)),
+        yaml_token_body_t::FlowEntry => Ok(plain(15, start, end)),
+        yaml_token_body_t::Key => Ok(plain(16, start, end)),
+        yaml_token_body_t::Value => Ok(plain(17, start, end)),
+        yaml_token_body_t::Alias { value } => {
+            let record = named(bytes, plain(18, start, end), value)?;
+            Ok(record)
+        }
+        yaml_token_body_t::Anchor { value } => {
+            let record = named(bytes, plain(19, start, end), value)?;
+            Ok(record)
+        }
+        yaml_token_body_t::Tag { handle, suffix } => {
+            let record = named_twice(bytes, plain(20, start, end), handle, suffix)?;
+            Ok(record)
+        }
+        yaml_token_body_t::Scalar { value, style } => {
+            let mut base = plain(21, start, end);
+            base.style = style_number(*style);
+            let record = named(bytes, base, value)?;
+            Ok(record)
+        }
+    }
+}
+
+impl TokenListing {
+    /// Puts a token behind the others.
+    pub fn add(&mut self, token: &yaml_token_t) -> Result<(), AllocError>
+        ensures { IfOk result (λ _. Adds self.old (token_of token.now) self.new) }
+    {
+        let record = record_of(&mut self.bytes, token)?;
+        self.tokens.push(record)?;
+        Ok(())
+    }
+}
+
+// Lists the token that comes next.
+fn list_next(session: &mut yaml_parser_t, listing: &mut TokenListing) -> Result<(), yaml_fault_t>
+    requires { HasFirst session.old.remaining.tokens }
+    ensures { ListsNext session.old.remaining listing.old result session.new.remaining listing.new }
+{
+    match yaml_parser_scan(session) {
+        Ok(token) => {
+            if listing.add(&token).is_err() {
+                return Err(yaml_memory_fault(yaml_origin_t::Scanner));
+            }
+            Ok(())
+        }
+        Err(fault) => Err(fault),
+    }
+}
+
+// The tokens of a session to its end, each of which is looked at before it is taken, so that the end is told.
+fn list_by(session: &mut yaml_parser_t, listing: &mut TokenListing) -> Result<(), yaml_fault_t>
+    requires { ListsTokens [] listing.old }
+    ensures { EndsListed session.old.remaining result listing.new }
+{
+    'tokens: loop {
+        match yaml_parser_peek(session) {
+            Ok(_) => {}
+            Err(fault) => return Err(fault),
+        }
+        if !yaml_parser_has_token(session) {
+            return Ok(());
+        }
+        match list_next(session, listing) {
+            Ok(()) => {}
+            Err(fault) => return Err(fault),
+        }
+    }
+}
+
+/// Lists the tokens of an input, in front of its end or of the fault that ends them, which is the answer. Where memory was
+/// refused, what is listed means nothing.
+pub fn list_tokens(
+    alloc: Global,
+    input: &[u8],
+    from: yaml_encoding_t,
+    listing: &mut TokenListing,
+) -> Result<(), yaml_fault_t>
+    requires { ListsTokens [] listing.old }
+    ensures { EndsListed (scanned from input.now) result listing.new }
+{
+    let mut session = yaml_parser_t::new(alloc, input, from);
+    let end = list_by(&mut session, listing);
+    drop(session);
+    match end {
+        Ok(()) => Ok(()),
+        Err(fault) => Err(fault),
+    }
+}

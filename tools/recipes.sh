@@ -88,7 +88,7 @@ recipe 3 >.git/hooks/pre-commit && chmod +x .git/hooks/pre-commit
 printf 'a: [\n' >wrong.yaml
 git add -A
 found=$(git commit -qm second 2>&1) && wrong "a file that doesn't load was committed"
-[[ $found == wrong.yaml:*"did not find expected node content"* ]] || wrong "the hook says: $found"
+[[ $found == *wrong.yaml:*"did not find expected node content"* ]] || wrong "the hook says: $found"
 printf 'a: *b\n' >wrong.yaml
 git add -A
 git commit -qm second 2>/dev/null && wrong "an undefined alias was committed"

@@ -1,5 +1,5 @@
 -- A block scalar and the line behind it.
-use Rattle.std.proofs.Common.{◌≡◌, ℕ, ◌+◌, ◌-◌, ◌<◌, ◌≤◌, ◌==◌, ◌&&◌, ◌||◌, not, nat_lt, Bool, true, false, List, [], ◌∷◌, length, suc, Option, Some, None, Result, Ok, refl, sym, ap, subst, ◌∙◌, inl, inr, arith}
+use Rattle.std.proofs.Common.{◌≡◌, ℕ, ◌+◌, ◌-◌, ◌<◌, ◌≤◌, ◌&&◌, ◌||◌, not, nat_lt, Bool, true, false, List, [], ◌∷◌, length, suc, Option, Some, None, Result, Ok, refl, sym, ap, subst, ◌∙◌, inl, inr, arith}
 use Rattle.std.specs.Prelude.{if◌then◌else◌, IsUtf8}
 use Rattle.std.specs.Str.{chars}
 use Rattle.std.proofs.lemmas.Bool.{cases_Bool, cases_lt}
@@ -13,12 +13,11 @@ use Rattle.yaml_emit_laws_text.specs.scan_history.Kinds.{depth_after, allows_key
 use Rattle.yaml_emit_laws_text.specs.scan_history.Words.{WordText, kind_at, word_at}
 use Rattle.yaml_emit_laws_text.specs.scan_history.declared.kind.Kind.{Kind}
 use Rattle.yaml_emit_laws_text.specs.scan_history.declared.kind.Kind.TheVariants as kinds
-use Rattle.yaml_emit_laws_text.specs.scan_history.scan_words.Written.{begins_lexeme}
 use Rattle.yaml_emit_laws_text.specs.emit_layout.emit_text.declared.Cursor.{Cursor}
 use Rattle.yaml_emit_laws_text.specs.emit_layout.emit_text.declared.Page.{Page}
 use Rattle.yaml_emit_laws_text.specs.emit_layout.emit_text.declared.Chomp.{Chomp}
 use Rattle.yaml_emit_laws_text.specs.emit_layout.emit_text.declared.Chomp.TheVariants as chomping
-use Rattle.yaml_emit_laws_text.specs.emit_layout.emit_text.Layout.{Layout, Rest, ◌▹◌, gap, blank, line}
+use Rattle.yaml_emit_laws_text.specs.emit_layout.emit_text.Layout.{Rest, ◌▹◌, gap, blank, line}
 use Rattle.yaml_emit_laws_text.specs.emit_layout.emit_text.Scalars.{chomp}
 use Rattle.yaml_emit_laws_text.specs.emit_layout.declared.level.Part.{Part}
 use Rattle.yaml_emit_laws_text.specs.emit_layout.Content.{Scalar}
@@ -26,7 +25,7 @@ use Rattle.yaml_emit_laws_text.specs.emit_layout.Nodes.{Context, style_of, deepe
 use Rattle.yaml_emit_laws_text.specs.Walk.{Left, bytes}
 use Rattle.yaml_emit_laws_text.proofs.Places.{has_at, left_first, left_more}
 use Rattle.yaml_emit_laws_text.proofs.Steps.{left_letter}
-use Rattle.yaml_emit_laws_block.specs.Laws.{from_indicator, is_keep as keeps_all, kind_of, read_style, margin_round, block_style, BlockStands}
+use Rattle.yaml_emit_laws_block.specs.Laws.{from_indicator, is_keep as keeps_all, read_style, margin_round, block_style}
 use Rattle.yaml_emit_laws_block.specs.Passed.{behind_line, BlockPassed}
 use Rattle.yaml_emit_laws_block.proofs.Whole.{block_back}
 use Rattle.yaml_emit_laws_block.proofs.Behind.{block_at_spot}

@@ -1,9 +1,9 @@
 -- Words as content of a block: properties with the `!`, and single words.
-use Rattle.std.proofs.Common.{◌≡◌, ℕ, ◌+◌, ◌≤◌, ◌||◌, not, nat_lt, Bool, true, false, List, [], ◌∷◌, ◌++◌, length, refl, sym, ap, subst, ◌∙◌, inr, arith, append_assoc, Option, Some, None}
+use Rattle.std.proofs.Common.{◌≡◌, ℕ, ◌+◌, ◌≤◌, ◌||◌, Bool, true, false, List, [], ◌∷◌, ◌++◌, length, refl, sym, ap, subst, ◌∙◌, inr, arith, Option, Some, None}
 use Rattle.std.specs.Prelude.{if◌then◌else◌}
 use Rattle.yaml_emit_laws_text.specs.emit_layout.scan.declared.yaml_encoding_t.{yaml_encoding_t}
 use Rattle.yaml_emit_laws_text.specs.emit_layout.scan.Tokens.{TokenBody}
-use Rattle.yaml_emit_laws_text.specs.scan_history.scan_model.Marks.{byte, column_at}
+use Rattle.yaml_emit_laws_text.specs.scan_history.scan_model.Marks.{column_at}
 use Rattle.yaml_emit_laws_text.specs.scan_history.History.{indent}
 use Rattle.yaml_emit_laws_text.specs.emit_layout.emit_text.declared.Cursor.{Cursor}
 use Rattle.yaml_emit_laws_text.specs.emit_layout.emit_text.declared.Settings.{Settings}
@@ -12,7 +12,7 @@ use Rattle.yaml_emit_laws_text.specs.emit_layout.Content.{Opening}
 use Rattle.yaml_emit_laws_text.specs.emit_layout.Grammar.{has}
 use Rattle.yaml_emit_laws_text.specs.emit_layout.Nodes.{context_of, anchor_text, tag_text}
 use Rattle.yaml_emit_laws_text.specs.Bodies.{anchor_bodies, tag_bodies, mark_bodies}
-use Rattle.yaml_emit_laws_text.specs.Walk.{Has, Left, bytes, first}
+use Rattle.yaml_emit_laws_text.specs.Walk.{Left, bytes, first}
 use Rattle.yaml_emit_laws_text.specs.Writable.{IsWritableAnchor, IsWritableTag}
 use Rattle.yaml_emit_laws_text.proofs.Bytes.{AreCalm}
 use Rattle.yaml_emit_laws_text.proofs.Places.{has_front, left_first, left_rest}
@@ -26,7 +26,7 @@ use Rattle.yaml_emit_laws_pretty.specs.Spoken.{Fits, Spoken, Says, spoken_bytes,
 use Rattle.yaml_emit_laws_pretty.proofs.KeyColumns.{calm_columns}
 use Rattle.yaml_emit_laws_pretty.proofs.KeySteps.{spot_at, front}
 use Rattle.yaml_emit_laws_pretty.proofs.LeafWords.{WordsRun, ClearFor, outside_clear, content_word, content_words}
-use Rattle.yaml_emit_laws_pretty.proofs.LeafProps.{Dress, Moved, has_words, has_some, dress_all}
+use Rattle.yaml_emit_laws_pretty.proofs.LeafProps.{Moved, has_words, has_some, dress_all}
 
 never : false ≡ true → ⊥
 never e = cc

@@ -1,8 +1,7 @@
 -- Aliases and scalars in a block, up to the line behind them.
-use Rattle.std.proofs.Common.{◌≡◌, ℕ, ◌+◌, ◌<◌, ◌≤◌, ◌==◌, ◌&&◌, ◌||◌, not, nat_lt, Bool, true, false, List, [], ◌∷◌, ◌++◌, length, refl, sym, ap, subst, ◌∙◌, inl, inr, arith, Option, Some, None}
+use Rattle.std.proofs.Common.{◌≡◌, ℕ, ◌+◌, ◌<◌, ◌≤◌, ◌==◌, ◌&&◌, ◌||◌, not, nat_lt, Bool, true, false, List, [], ◌∷◌, refl, sym, ap, subst, ◌∙◌, arith, Option, Some, None}
 use Rattle.std.specs.Prelude.{if◌then◌else◌, IsUtf8}
 use Rattle.std.specs.Str.{chars}
-use Rattle.std.proofs.lemmas.Bool.{cases_Bool}
 use Rattle.yaml_emit_laws_text.specs.emit_layout.scan.declared.yaml_encoding_t.{yaml_encoding_t}
 use Rattle.yaml_emit_laws_text.specs.emit_layout.scan.Tokens as tokens
 use Rattle.yaml_emit_laws_text.specs.emit_layout.scan.Tokens.{TokenBody}
@@ -15,13 +14,12 @@ use Rattle.yaml_emit_laws_text.specs.emit_layout.emit_text.declared.Settings.{Se
 use Rattle.yaml_emit_laws_text.specs.emit_layout.emit_text.declared.Style.{Style}
 use Rattle.yaml_emit_laws_text.specs.emit_layout.emit_text.declared.Style.TheVariants as style
 use Rattle.yaml_emit_laws_text.specs.emit_layout.emit_text.Layout.{Layout, Rest, ◌▹◌, gap, blank, when, word, char, line}
-use Rattle.yaml_emit_laws_text.specs.emit_layout.emit_text.Scalars.{scalar_text, plain, single_quoted}
+use Rattle.yaml_emit_laws_text.specs.emit_layout.emit_text.Scalars.{scalar_text}
 use Rattle.yaml_emit_laws_text.specs.emit_layout.emit_text.Quoted.{double_quoted}
 use Rattle.yaml_emit_laws_text.specs.emit_layout.declared.level.Part.{Part}
-use Rattle.yaml_emit_laws_text.specs.emit_layout.declared.level.Spot.{Spot}
-use Rattle.yaml_emit_laws_text.specs.emit_layout.Content.{Scalar, Opening, Node, alias_node, scalar_node, sequence_node, mapping_node}
+use Rattle.yaml_emit_laws_text.specs.emit_layout.Content.{Scalar, Opening, alias_node, scalar_node, sequence_node, mapping_node}
 use Rattle.yaml_emit_laws_text.specs.emit_layout.Grammar.{has, kept_if, scalar_tag}
-use Rattle.yaml_emit_laws_text.specs.emit_layout.Nodes.{Context, context_of, MOST, deeper, checked, page_at, style_of, is_plain, is_simple_part, properties_text, anchor_text, tag_text, mark_text, alias_layout, scalar_layout, node_layout}
+use Rattle.yaml_emit_laws_text.specs.emit_layout.Nodes.{Context, context_of, MOST, deeper, checked, page_at, style_of, is_plain, is_simple_part, properties_text, anchor_text, tag_text, alias_layout, scalar_layout, node_layout}
 use Rattle.yaml_emit_laws_text.specs.Bodies.{anchor_bodies, tag_bodies, mark_bodies}
 use Rattle.yaml_emit_laws_text.specs.QuotedLaws.{QuotedIsReadBack}
 use Rattle.yaml_emit_laws_text.specs.ReadBack.{between_quotes, between_single}
@@ -34,10 +32,10 @@ use Rattle.yaml_emit_laws_scalars.specs.Stops.{begins_white}
 use Rattle.yaml_emit_laws_scalars.specs.StandsLaws.{PlainHasGap}
 use Rattle.yaml_emit_laws_scalars.specs.StylesLaws.{StylesAreAllowed}
 use Rattle.yaml_emit_laws_block.specs.Laws.{from_indicator, margin_round}
-use Rattle.yaml_emit_laws_pretty.specs.Bodies.{style_at, style_named, takes_mark, scalar_bodies, scalar_kept, node_bodies, node_kept}
-use Rattle.yaml_emit_laws_pretty.specs.Walk.{Stage, Goes, Walks, LinedUp, PlainIsWalked, SingleIsWalked}
+use Rattle.yaml_emit_laws_pretty.specs.Bodies.{style_at, takes_mark, scalar_bodies, scalar_kept, node_bodies, node_kept}
+use Rattle.yaml_emit_laws_pretty.specs.Walk.{Stage, LinedUp, PlainIsWalked, SingleIsWalked}
 use Rattle.yaml_emit_laws_pretty.specs.Nodes.{Ending, NodeWalks, IsPretty, LeavesAreWalked, BlockScalarsAreWalked, block_spot, column_round, is_block}
-use Rattle.yaml_emit_laws_pretty.specs.Spoken.{Behind, name_end, ends_name, spoken_bytes}
+use Rattle.yaml_emit_laws_pretty.specs.Spoken.{ends_name}
 use Rattle.yaml_emit_laws_pretty.proofs.Following.{line_bytes, line_white}
 use Rattle.yaml_emit_laws_pretty.proofs.Lining.{line_ends}
 use Rattle.yaml_emit_laws_pretty.proofs.NodeLines.{up_says, word_begins_white}
@@ -45,8 +43,7 @@ use Rattle.yaml_emit_laws_pretty.proofs.PlainLayouts.{plain_walks, plain_white}
 use Rattle.yaml_emit_laws_pretty.proofs.SpokenWords.{alias_word, double_word}
 use Rattle.yaml_emit_laws_pretty.proofs.SpokenLayouts.{alias_says, double_says, behind_gap}
 use Rattle.yaml_emit_laws_pretty.proofs.LeafBlocks.{block_line}
-use Rattle.yaml_emit_laws_pretty.proofs.LeafDress.{Dressing, dressed, word_walks}
-use Rattle.yaml_emit_laws_pretty.proofs.LeafProps.{has_some}
+use Rattle.yaml_emit_laws_pretty.proofs.LeafDress.{dressed, word_walks}
 
 never : false ≡ true → ⊥
 never e = cc
@@ -206,8 +203,8 @@ scalar_walks gaps s o pretty around q bare v (anchor, tag, u) lines = record {
       let k = marked p q v in
       let deep : (e : Cursor) → bytes (body e) ≡ bytes (a e R) = λ e. deep_bytes (nat_lt MOST n) (a e R) in
       let h = dressed s o pretty v.anchor t k anchor (kept_tag (false || not (v.plain || v.quoted)) v.tag tag) ls c body (λ e b f. ap (λ bs. begins_white bs) (deep e) ∙ text_white gaps page s.indent v.value u chosen s.line_break m after e f)
-          (λ is e b f. ap (λ (bs : List ℕ). first bs) (deep e) ∙ spaced_text page s.indent (chars v.value) chosen (mark_plain (not (has t)) (not v.quoted) chosen is) e R f) x text w T st right
-          (subst (λ ts. Left text w.at (bytes ts)) (scalar_shape s o pretty.pretty around q v c R) l) in
+      (λ is e b f. ap (λ (bs : List ℕ). first bs) (deep e) ∙ spaced_text page s.indent (chars v.value) chosen (mark_plain (not (has t)) (not v.quoted) chosen is) e R f) x text w T st right
+      (subst (λ ts. Left text w.at (bytes ts)) (scalar_shape s o pretty.pretty around q v c R) l) in
       let U : List TokenBody → List TokenBody = λ bs. T (anchor_bodies v.anchor (tag_bodies o.directives t (mark_bodies k bs))) in
       let all = lines ls h.cursor m after level up ending x text h.place U h.stage h.right (subst (λ bs. Left text h.place.at bs) (deep h.cursor) h.left) in
       let told = up_says x text after m (scalar_kept chosen v.value h.cursor.kept) ls _ (λ bs. T (node_bodies p false q bare (scalar_node v) bs)) all (λ bs. ap (λ ts. T ts) (scalar_said p q bare v bs)) in
@@ -248,7 +245,7 @@ alias_walks s o pretty around q bare name good whole = record {
       let R : Rest = λ e. line s.line_break m e after in
       let says = alias_says anchor_is_read false (indent ls) name good c in
       let g = word_walks (word (42 ∷ name)) c ls (alias_word anchor_is_read false (indent ls) (not c.white) name good) says R (white_ends (bytes (R says.behind)) (ending.follows.white says.behind says.bare)) x text w T st right
-          (subst (λ ts. Left text w.at (bytes ts)) (alias_shape p around q name whole c R) l) in
+      (subst (λ ts. Left text w.at (bytes ts)) (alias_shape p around q name whole c R) l) in
       let all = line_ends s.line_break m x text c.kept ls (λ bs. T (tokens.alias name ∷ bs)) after ending.feed g in
       subst (λ b. LinedUp x text after m b ls (λ bs. T (node_bodies p false q bare (alias_node name) bs))) (alias_keeps p q name c.kept)
       (up_says x text after m c.kept ls (λ bs. T (tokens.alias name ∷ bs)) (λ bs. T (node_bodies p false q bare (alias_node name) bs)) all (λ bs. ap (λ ts. T ts) (alias_said p q bare name bs)));

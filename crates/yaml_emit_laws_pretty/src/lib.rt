@@ -1,4 +1,4 @@
-//! Laws of pretty text: block collections that a layout writes are walked, with their tokens. No code.
+//! Laws of pretty text: what a layout writes is walked, node by node, and read as its tokens. No code.
 #![tactic(auto)]
 
 mod doc_laws;
@@ -6,8 +6,9 @@ mod flows;
 mod key_laws;
 mod laws;
 mod leaf_laws;
+mod text_laws;
 
-pub use doc_laws::{documents_are_read, nodes_are_walked, pretty_text_is_read};
+pub use doc_laws::documents_are_read;
 pub use flows::brackets_follow;
 pub use key_laws::{keys_are_walked_in, simple_keys_are_walked};
 pub use laws::{
@@ -15,3 +16,4 @@ pub use laws::{
     single_is_walked,
 };
 pub use leaf_laws::{block_scalars_are_walked, leaves_are_walked, properties_are_walked};
+pub use text_laws::{nodes_are_walked, pretty_text_is_read};

@@ -17,3 +17,4 @@ mod Layouts
 mod Marks
 pub mod Bytes
 mod Encoding
+pub mod Theorem

@@ -1,5 +1,5 @@
 -- The text that people read decodes to a text whose tokens pass the adapter and are parsed as the content.
-use Rattle.std.proofs.Common.{◌≡◌, ℕ, ◌≤◌, true, false, ◌&&◌, nat_le, if◌then◌else◌, List, ◌∷◌, map, Ok, refl, sym, ap, ◌∙◌, ℤ, pos, negsuc, arith}
+use Rattle.std.proofs.Common.{◌≡◌, ℕ, ◌≤◌, true, ◌&&◌, nat_le, if◌then◌else◌, List, map, Ok, refl, sym, ap, ◌∙◌, ℤ, pos, negsuc, arith}
 use Rattle.std.proofs.lemmas.Bool.Decides.{nat_tests}
 use Rattle.yaml_parse_grammar.specs.parse_model.declared.yaml_encoding_t.{yaml_encoding_t}
 use Rattle.yaml_parse_grammar.specs.parse_model.declared.yaml_encoding_t.TheVariants.{YAML_ANY_ENCODING}
@@ -8,10 +8,9 @@ use Rattle.yaml_round_laws_documents.specs.scan_decode.Decoding.{decoded_text}
 use Rattle.yaml_emit_laws_text.specs.scan_history.Remaining.{Remaining}
 use Rattle.yaml_emit_laws_text.specs.scan_history.Scanned.{scanned, scanned_in}
 use Rattle.yaml_emit_laws_text.specs.emit_layout.emit_text.Settings.{settled, settled_indent}
-use Rattle.yaml_emit_laws_text.specs.emit_layout.emit_text.declared.RequestedSettings.{RequestedSettings}
 use Rattle.yaml_round_content.specs.Events.{contents}
 use Rattle.yaml_round_content.specs.Input.{events_of, ending_of, read, parsed, tokens_of}
-use Rattle.yaml_round_content.specs.Said.{Document, stream_says}
+use Rattle.yaml_round_content.specs.Said.{stream_says}
 use Rattle.yaml_round_laws_adapted.specs.Adapted.{adapted}
 use Rattle.yaml_round_laws_documents.specs.BytesLaws.{canonical_text, encoding_named}
 use Rattle.yaml_round_laws_documents.specs.TreeLaws.{parsed_of}

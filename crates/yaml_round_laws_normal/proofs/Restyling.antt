@@ -1,5 +1,5 @@
 -- Such events are those of the content's documents, and nothing is wrong with them.
-use Rattle.std.proofs.Common.{◌≡◌, ℕ, ◌<◌, ◌==◌, Bool, true, false, not, ◌&&◌, if◌then◌else◌, List, [], ◌∷◌, length, Option, Some, None, refl, sym, ap, subst, ◌∙◌, arith}
+use Rattle.std.proofs.Common.{◌≡◌, ℕ, ◌<◌, ◌==◌, Bool, true, false, if◌then◌else◌, List, [], ◌∷◌, length, Option, Some, None, refl, ap, ◌∙◌, arith}
 use Rattle.std.specs.List.{list_all}
 use Rattle.std.proofs.lemmas.Bool.Decides.{nat_tests}
 use Rattle.yaml_round_content.specs.scan_model.declared.yaml_encoding_t.TheVariants.{YAML_ANY_ENCODING}
@@ -7,7 +7,6 @@ use Rattle.yaml_parse_grammar.specs.parse_model.Events.{EventBody}
 use Rattle.yaml_parse_grammar.specs.parse_model.Events as event
 use Rattle.yaml_emit_laws_text.specs.emit_layout.declared.problem.Problem.{Problem}
 use Rattle.yaml_emit_laws_text.specs.emit_layout.declared.problem.Problem.TheVariants as problem
-use Rattle.yaml_emit_laws_text.specs.emit_layout.emit_text.Settings.{settled}
 use Rattle.yaml_emit_laws_text.specs.emit_layout.Content as emit
 use Rattle.yaml_emit_laws_text.specs.emit_layout.Grammar.{or_else, kept_tag, name_problem, anchor_problem, tag_problem, event_problem, last_problem, own_problem, own_problems}
 use Rattle.yaml_round_laws_documents.specs.back_canon.scan.Classes.{is_alpha_byte}
@@ -15,7 +14,7 @@ use Rattle.yaml_round_content.specs.Said.{Mark, untagged, tagged, Node, alias, s
 use Rattle.yaml_round_content.specs.Writable.{IsName, IsAnchor, IsTag, IsMark, IsWritable, AreItemsWritable, ArePairsWritable, AreWritable}
 use Rattle.yaml_round_content.proofs.WritableContents.{are_writable as inputs_writable}
 use Rattle.yaml_round_laws_normal.specs.Readable.{readable_scalar, readable_start, readable_node, readable_nodes, readable_pairs, is_unmarked, documents_from, readable_documents}
-use Rattle.yaml_round_laws_normal.specs.Restyled.{Place, Before, Starts, Within, root_place, next_place, mark_by, readable_event, readable_events, ReadableIsLaidOut}
+use Rattle.yaml_round_laws_normal.specs.Restyled.{Place, Before, Within, root_place, readable_event, readable_events, ReadableIsLaidOut}
 
 -- ---- the events
 

@@ -15,13 +15,18 @@ use Rattle.yaml_round_content.specs.Said as content
 use Rattle.yaml_round_content.specs.Said.{Mark, untagged, tagged, Node, Nodes, Pairs, Document}
 use Rattle.yaml_round_content.specs.Canon.{canon_encoding}
 
+-- an empty value without anchor
 abbrev pub is_nothing : Option (List ℕ) → List ℕ → Bool
 is_nothing anchor [] = not (has anchor)
 is_nothing anchor (b ∷ bs) = false
 
--- literal, where it has a line break and doesn't end in a space, which no block scalar may; else single quoted
+-- it has a line break, and doesn't end in a space, which no block scalar may
+abbrev pub may_be_literal : List ℕ → Bool
+may_be_literal value = has_break value && not (last_or 0 value == 32)
+
+-- literal, or else single quoted; the layout falls back to double quotes by its own rules
 abbrev pub quoted_style : List ℕ → yaml_scalar_style_t
-quoted_style value = if has_break value && not (last_or 0 value == 32) then YAML_LITERAL_SCALAR_STYLE
+quoted_style value = if may_be_literal value then YAML_LITERAL_SCALAR_STYLE
     else YAML_SINGLE_QUOTED_SCALAR_STYLE
 
 -- By whether nothing but it would begin the text: what counts as plain is plain, but for what would be nothing there. A tagged scalar

@@ -8,7 +8,7 @@ mod laws;
 mod leaf_laws;
 mod text_laws;
 
-pub use doc_laws::{documents_are_read, nodes_are_walked, pretty_text_is_read};
+pub use doc_laws::documents_are_read;
 pub use flows::brackets_follow;
 pub use key_laws::{keys_are_walked_in, simple_keys_are_walked};
 pub use laws::{

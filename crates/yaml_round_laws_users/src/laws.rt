@@ -1,6 +1,7 @@
 //! Each function's contract is a law.
 
-ghost use Rattle.yaml_round_laws_users.specs.Laws.{FormTellsBeginning, 
+ghost use Rattle.yaml_round_laws_users.specs.Laws.{
+  FormTellsBeginning,
   AnswersReadBack,
   CanonicalAnswersTellContents,
   ComparisonsAgree,

@@ -1,7 +1,6 @@
 //! Each function's contract is a law.
 
-ghost use Rattle.yaml_emit_laws_pretty.specs.DocLaws.{DocumentsAreRead, PrettyTextIsRead};
-ghost use Rattle.yaml_emit_laws_pretty.specs.Nodes.{NodesAreWalked};
+ghost use Rattle.yaml_emit_laws_pretty.specs.DocLaws.{DocumentsAreRead};
 
 use yaml_emit_laws_text::{
     directives_are_read, readable_directives_are_ascii, written_directives_are_readable,
@@ -18,14 +17,3 @@ pub fn documents_are_read()
     readable_directives_are_ascii();
     written_directives_are_readable();
 }
-
-/// All nodes that may be written are walked.
-pub fn nodes_are_walked()
-    ensures { NodesAreWalked }
-{}
-
-/// The pretty text of documents that may be written is read as their tokens, without fault: for all settings of pretty form and all
-/// encodings.
-pub fn pretty_text_is_read()
-    ensures { PrettyTextIsRead }
-{}

@@ -10,7 +10,6 @@ mod InputFlags
 mod InputPremises
 mod InputTexts
 pub mod Joining
-pub mod Theorem
 mod JsonInputs
 mod Fitting
 mod Layouts

@@ -47,8 +47,13 @@ pub fn yaml_reformat(
     }
     match in_pretty_form(alloc, input, from, settings) {
         Err(fault) => Err(fault),
-        Ok((text, false)) => Ok((text, yaml_form_t::Pretty)),
-        Ok((_, true)) => in_canonical_form(alloc, input, from, settings),
+        Ok((text, nothing)) => {
+            if nothing {
+                in_canonical_form(alloc, input, from, settings)
+            } else {
+                Ok((text, yaml_form_t::Pretty))
+            }
+        }
     }
 }
 

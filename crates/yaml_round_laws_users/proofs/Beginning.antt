@@ -1,5 +1,5 @@
 -- Where canonical form isn't asked for, the form tells whether the input begins with nothing.
-use Rattle.std.proofs.Common.{◌≡◌, sym, ap, subst, refl, ℕ, Bool, true, false, true≢false, List, Ok}
+use Rattle.std.proofs.Common.{◌≡◌, sym, ap, subst, refl, ℕ, Bool, true, false, true≢false, List}
 use Rattle.yaml_round.specs.declared.yaml_encoding_t.{yaml_encoding_t}
 use Rattle.yaml_round.specs.declared.yaml_encoding_t.TheVariants.{YAML_ANY_ENCODING}
 use Rattle.yaml_round.specs.declared.yaml_settings_t.{yaml_settings_t}
@@ -31,7 +31,7 @@ lost from s input text laid back n =
     let says : SaysInput from input text = (right_ending YAML_ANY_ENCODING text (second_right from YAML_ANY_ENCODING input text back), sym (content_same from YAML_ANY_ENCODING input text back)) in
     pretty_is_lost (requested_under s false) refl from input (begins_so from input n) l.encoding l.whole (laid_stream from input s text laid) (subst (λ (t : List ℕ). SaysInput from input t) l.is says)
 
-is_canonical : yaml_form_t → Bool
+abbrev is_canonical : yaml_form_t → Bool
 is_canonical Canonical = true
 is_canonical Pretty = false
 

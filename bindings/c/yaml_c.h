@@ -227,9 +227,9 @@ typedef struct {
 /* Sets UTF-8, canonical form, indent 2, width 80, unicode on, LF, and a limit of 2^40 bytes. */
 void yaml_c_defaults(yaml_c_settings *settings);
 
-/* The text again, in canonical or pretty form. With `canonical` off, the pretty text is answered where, read back, it has
- * the input's content, else the canonical one: `is` tells which. Refused by a fault of the input (2 to 4), which comes
- * before a limit; by 6 past the limit; by 7 where an indentation is too deep. */
+/* The text again, in canonical or pretty form. With `canonical` off it is the pretty text, which read back has the input's
+ * content; only where the first document has no `---` and is a `!` alone it is the canonical one: `is` tells which. Refused
+ * by a fault of the input (2 to 4), which comes before a limit; by 6 past the limit; by 7 where an indentation is too deep. */
 int32_t yaml_c_reformat(const uint8_t *input, size_t len, int32_t from, const yaml_c_settings *settings,
                         yaml_c_answer *answer);
 

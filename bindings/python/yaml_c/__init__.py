@@ -174,8 +174,8 @@ def _ask(call: Any, *arguments: Any) -> tuple[bytes, int]:
 def reformat_with_form(
     text: Text, settings: Settings = _USUAL, *, encoding: Encoding = Encoding.ANY
 ) -> tuple[bytes, Form]:
-    """The text again, and in which form it is: where pretty form was asked for but wouldn't read back with the same content,
-    that is canonical form.
+    """The text again, and in which form it is: where pretty form was asked for, it is that, but for a
+    first document without `---` that is a `!` alone, whose pretty text wouldn't read back: that is in canonical form.
 
     Raises the fault of the text, else a `WriterFault` past the limit, or an `EmitterFault` where an indentation is too deep.
     """

@@ -11,7 +11,7 @@ use Rattle.yaml_emit_laws_text.specs.emit_layout.Nodes.{dots, dashes, context_of
 use Rattle.yaml_emit_laws_text.specs.Walk.{bytes}
 use Rattle.yaml_emit_laws_text.specs.Writable.{IsWritable, IsWritableOpening, AreWritable}
 use Rattle.yaml_emit_laws_text.proofs.Documents.{three, behind_three}
-use Rattle.yaml_emit_laws_text.proofs.PrettyDocuments.{pretty}
+use Rattle.yaml_emit_laws_text.proofs.Prettily.{pretty}
 use Rattle.yaml_emit_laws_scalars.specs.Stops.{begins_white}
 use Rattle.yaml_emit_laws_pretty.specs.Nodes.{NodeWalks}
 use Rattle.yaml_emit_laws_pretty.proofs.DocStarts.{line_start, is_outer, EndsRoot, line_white}

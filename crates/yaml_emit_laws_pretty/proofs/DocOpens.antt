@@ -17,7 +17,7 @@ use Rattle.yaml_emit_laws_text.specs.TagsLaws.{WrittenDirectivesAreReadable, Rea
 use Rattle.yaml_emit_laws_text.specs.Walk.{Left, bytes, first}
 use Rattle.yaml_emit_laws_text.specs.Writable.{IsWritableOpening}
 use Rattle.yaml_emit_laws_text.proofs.Documents.{behind_three}
-use Rattle.yaml_emit_laws_text.proofs.PrettyDocuments.{pretty}
+use Rattle.yaml_emit_laws_text.proofs.Prettily.{pretty}
 use Rattle.yaml_scan_laws_texts.specs.WordsLaws.{VersionReads}
 use Rattle.yaml_scan_laws_levels.specs.Walks.{Where}
 use Rattle.yaml_emit_laws_scalars.specs.Stops.{begins_white}

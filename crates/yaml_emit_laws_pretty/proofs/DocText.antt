@@ -16,7 +16,7 @@ use Rattle.yaml_emit_laws_text.specs.TextLaws.{text_of_documents, IsReadAs}
 use Rattle.yaml_emit_laws_text.specs.Walk.{Left, bytes, first}
 use Rattle.yaml_emit_laws_text.specs.Writable.{AreWritable}
 use Rattle.yaml_emit_laws_text.proofs.Documents.{end_zero, end_begins, has_all}
-use Rattle.yaml_emit_laws_text.proofs.PrettyDocuments.{pretty, same_settings}
+use Rattle.yaml_emit_laws_text.proofs.Prettily.{pretty, same_settings}
 use Rattle.yaml_scan_laws_levels.specs.Walks.{Where, Done}
 use Rattle.yaml_scan_laws_levels.proofs.Signing.{marks_come}
 use Rattle.yaml_scan_laws_levels.proofs.Walking.{walk_starts, walk_stops, walk_says}

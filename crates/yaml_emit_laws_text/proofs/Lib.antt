@@ -27,19 +27,8 @@ mod Directives
 pub mod Nodes
 pub mod Documents
 pub mod TextWhole
-mod PrettyValues
-pub mod Layouts
-mod Lines
-pub mod Sizes
-mod PrettySteps
-mod PrettyWords
-mod Plain
-pub mod PrettyNodes
-pub mod PrettyDocuments
-pub mod Whole
+pub mod Prettily
 -- what it stands on, for crates that name this one alone
-pub use Rattle.yaml_scan_laws_texts.proofs.Near
-pub use Rattle.yaml_scan_laws_texts.proofs.PlainRead
 pub use Rattle.yaml_scan_laws_texts.proofs.MarksLemmas
 pub use Rattle.yaml_scan_laws_texts.proofs.GapsRead
 pub use Rattle.yaml_scan_laws_texts.proofs.HasLemmas

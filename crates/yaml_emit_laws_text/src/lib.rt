@@ -1,18 +1,14 @@
 //! Laws of reading back: quoted text that is written is read as the value that it was written for, tags and directives as they
-//! were; canonical text, where no `:` meets a candidate, is read as the tokens of its documents, without fault, and so is pretty
-//! text of documents shaped as JSON, which are defined here. No code.
+//! were; canonical text, where no `:` meets a candidate, is read as the tokens of its documents, without fault. Documents shaped as
+//! JSON are defined here. No code.
 #![tactic(auto)]
 
 mod canonical_laws;
-mod json_laws;
-mod pretty_laws;
 mod quoted_laws;
 mod tags_laws;
 mod text_laws;
 
 pub use canonical_laws::{canonical_is_key_free, canonical_words_are_read};
-pub use json_laws::{collections_are_flow, plain_is_laid_out, quoted_is_laid_out};
-pub use pretty_laws::{json_nodes_are_words, json_text_is_read, quoted_keys_are_near};
 pub use quoted_laws::{
     keys_stay_in_line, quoted_is_read_back, quoted_text_is_read_back, single_is_read_back,
     single_spelling_reads, spelling_reads,

@@ -14,7 +14,7 @@ use Rattle.yaml_round_content.specs.parse_grammar.Problems.{parser_fault}
 use Rattle.yaml_round_content.specs.parse_grammar.Items.{RawEvent, item_at}
 use Rattle.yaml_round_content.specs.parse_grammar.Items as item
 use Rattle.yaml_round_content.specs.parse_grammar.Trees.{Span, Given, Directive, Documents, First, Stream, token_at, spell_directives, spell_maybe, spell_node, spell_ends, spell_documents}
-use Rattle.yaml_round_content.specs.parse_grammar.TreeSteps.{items_node, items_maybe, items_directives, items_ends, items_documents, items_first, items}
+use Rattle.yaml_round_content.specs.parse_grammar.TreeSteps.{items_maybe, items_directives, items_ends, items_documents, items_first, items}
 use Rattle.yaml_round_content.specs.parse_grammar.Trees as tree
 use Rattle.yaml_round_content.specs.parse_grammar.Resolve.{Directives, no_directives, Reading, read_on, reading, directive_for, with_version, with_tag, is_known_version}
 use Rattle.yaml_round_content.specs.parse_grammar.Resolve as resolve

@@ -1,15 +1,11 @@
 -- For the dumps of loaded documents the canonical text of what they say is laid out.
-use Rattle.std.proofs.Common.{◌≡◌, ℕ, zero, suc, ℤ, pos, Bool, true, false, if◌then◌else◌, List, [], ◌∷◌, length, map, Option, Some, None, refl, sym, ap, subst, ◌∙◌}
-use Rattle.yaml_round_laws_documents.specs.back_canon.scan.declared.yaml_encoding_t.{yaml_encoding_t}
+use Rattle.std.proofs.Common.{◌≡◌, ℕ, zero, suc, ℤ, pos, Bool, true, false, if◌then◌else◌, List, [], ◌∷◌, length, map, Option, None, refl, sym, ap, subst, ◌∙◌}
 use Rattle.yaml_round_laws_documents.specs.back_canon.scan.declared.yaml_encoding_t.TheVariants.{YAML_ANY_ENCODING}
 use Rattle.yaml_round_laws_documents.specs.back_canon.scan.declared.yaml_scalar_style_t.{yaml_scalar_style_t}
 use Rattle.yaml_round_laws_documents.specs.back_canon.scan.declared.yaml_scalar_style_t.TheVariants.{YAML_ANY_SCALAR_STYLE}
-use Rattle.yaml_round_laws_documents.specs.back_canon.scan.Faults.{Fault}
 use Rattle.yaml_round_laws_documents.specs.parse_grammar.parse_model.declared.yaml_node_pair_t.{yaml_node_pair_t}
 use Rattle.yaml_round_laws_documents.specs.parse_grammar.parse_model.Nodes as model
-use Rattle.yaml_round_content.specs.parse_laws_loading.parse_document.Documents as documents
 use Rattle.yaml_round_content.specs.parse_laws_loading.parse_document.Documents.{Document, seq_tag, map_tag}
-use Rattle.yaml_round_laws_documents.specs.back_canon.emit_layout.emit_text.declared.RequestedSettings.{RequestedSettings}
 use Rattle.yaml_round_laws_documents.specs.back_canon.emit_layout.emit_text.Layout.{Layout, written}
 use Rattle.yaml_round_laws_documents.specs.back_canon.emit_layout.Content as emit
 use Rattle.yaml_round_laws_documents.specs.back_canon.emit_layout.Content.{is_flow_sequence, is_flow_mapping}

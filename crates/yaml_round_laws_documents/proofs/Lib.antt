@@ -18,17 +18,7 @@ mod CanonicalPremises
 pub mod Growing
 pub mod Documents
 pub mod Passing
-mod KeptGrowing
-mod KeptDocuments
-mod KeptPassing
-mod KeptNodes
-mod Bytes
-mod Texts
-mod Contents
-mod KeptReadBack
-pub mod KeptWhole
 mod Injective
-pub mod KeptJoining
 -- what they speak of, and the laws beneath, for crates that name this one alone
 pub use Rattle.yaml_round_content.proofs.Contents as DocumentsContents
 pub use Rattle.yaml_round_content.proofs.ContentLoading as Loading

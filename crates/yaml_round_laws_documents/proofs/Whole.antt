@@ -1,11 +1,9 @@
 -- The laws of loaded documents and of their texts, joined from the laws beneath.
-use Rattle.std.proofs.Common.{◌≡◌, ℕ, true, List, map, Option, Some, None, Ok, refl, sym, ap, subst, ◌∙◌}
-use Rattle.yaml_round_laws_documents.specs.back_canon.scan.declared.yaml_encoding_t.{yaml_encoding_t}
+use Rattle.std.proofs.Common.{◌≡◌, ℕ, List, map, Option, Some, None, Ok, sym, ap, subst, ◌∙◌}
 use Rattle.yaml_round_laws_documents.specs.back_canon.scan.declared.yaml_encoding_t.TheVariants.{YAML_ANY_ENCODING}
 use Rattle.yaml_round_laws_documents.specs.back_canon.scan.Faults.{Fault}
 use Rattle.yaml_round_content.specs.parse_laws_loading.parse_document.Documents.{Document}
 use Rattle.yaml_round_content.specs.parse_laws_loading.parse_loader.Loading.{nothing_loaded}
-use Rattle.yaml_round_laws_documents.specs.back_canon.emit_layout.emit_text.declared.RequestedSettings.{RequestedSettings}
 use Rattle.yaml_round_content.proofs.Loads.{loads_document}
 use Rattle.yaml_round_content.proofs.Visited.{numbered_in_order}
 use Rattle.yaml_round_content.specs.emit_laws_streams.DumpsLaws.{DumpsNumberBack}
@@ -22,12 +20,12 @@ use Rattle.yaml_round_content.specs.Canon.{canon}
 use Rattle.yaml_round_content.proofs.ContentInputs.{say_fronts}
 use Rattle.yaml_round_content.proofs.Utf8.{input_utf8}
 use Rattle.yaml_round_laws_documents.proofs.ReadBack.{reads_back}
-use Rattle.yaml_round_content.specs.Agree.{Core, core_of, AreAgreeing}
+use Rattle.yaml_round_content.specs.Agree.{core_of, AreAgreeing}
 use Rattle.yaml_round_content.proofs.DumpsContents.{loads_of_contents}
 use Rattle.yaml_round_content.proofs.Names.{loads_of_renamings}
 use Rattle.yaml_round_content.proofs.Walks.{agreeing_said}
 use Rattle.yaml_round_content.specs.DumpsEvents.{trees_of_dumps, AreNumerable}
-use Rattle.yaml_round_content.specs.DumpsLaws.{ContentIsLoaded, ContentLoadsDocuments, DumpsAreNumberedBack, DumpsLoadBack}
+use Rattle.yaml_round_content.specs.DumpsLaws.{ContentIsLoaded, DumpsLoadBack}
 use Rattle.yaml_round_content.proofs.DumpsSaying.{content_said}
 use Rattle.yaml_round_content.proofs.Loading.{content_loaded, documents_loaded}
 use Rattle.yaml_round_content.proofs.DumpsTrees as trees

@@ -1,17 +1,11 @@
--- Inputs shaped as JSON, and what is laid out for them in pretty form.
+-- Inputs shaped as JSON.
 use Rattle.std.specs.Prelude.{◌≡◌, ℕ, false, List, [], ◌∷◌}
 use Rattle.yaml_round_laws_documents.specs.back_canon.scan.declared.yaml_encoding_t.{yaml_encoding_t}
-use Rattle.yaml_emit_laws_text.specs.emit_layout.Streams.{IsStream}
-use Rattle.yaml_round_content.specs.emit_text.Text.{Item, encode}
-use Rattle.yaml_round_content.specs.emit_text.declared.Encoding.{Encoding}
-use Rattle.yaml_round_content.specs.emit_text.declared.RequestedSettings.{RequestedSettings}
 use Rattle.yaml_round_content.specs.Events.{emitter_events}
-use Rattle.yaml_round_content.specs.Input.{events_of}
 use Rattle.yaml_round_laws_documents.specs.parse_grammar.Resolve.{Told}
 use Rattle.yaml_round_content.specs.Reading.{HasEvents}
 use Rattle.yaml_emit_laws_text.specs.emit_layout.Content.{Document, stream_events}
-use Rattle.yaml_emit_laws_text.specs.Json.{IsJsonDocument, IsJsonShaped}
-use Rattle.yaml_round_laws_documents.specs.Stays.{SaysInput}
+use Rattle.yaml_emit_laws_text.specs.Json.{IsJsonDocument}
 
 -- What the input says, styles and all, is one document shaped as JSON is: without directives; each
 -- collection in brackets, each key a scalar; no anchors, aliases and tags; each scalar double quoted,
@@ -29,17 +23,3 @@ pub record IsJsonInput (from : yaml_encoding_t) (input : List ℕ) : Type 0 wher
 abbrev pub StreamsAreKnown : Type 0
 StreamsAreKnown = (x y : yaml_encoding_t) (c e : List Document)
     → stream_events x c ≡ stream_events y e → c ≡ e
-
--- So what is laid out in pretty form for such an input is laid out for a document of that shape.
-abbrev pub JsonInputsAreLaidOut : Type 0
-JsonInputsAreLaidOut = (w : RequestedSettings) (from : yaml_encoding_t) (input : List ℕ)
-    → IsJsonInput from input → (x : Encoding) (whole : List Item)
-    → (stream : IsStream w x (emitter_events false (events_of from input)) whole)
-    → IsJsonShaped stream.documents
-
--- And it reads back: the pretty text of an input shaped as JSON, under all settings.
-abbrev pub JsonStaysPretty : Type 0
-JsonStaysPretty = (w : RequestedSettings) → w.canonical ≡ false → (from : yaml_encoding_t)
-    → (input : List ℕ) → IsJsonInput from input → (x : Encoding) (whole : List Item)
-    → IsStream w x (emitter_events false (events_of from input)) whole
-    → SaysInput from input (encode x whole)

@@ -6,9 +6,6 @@ pub mod BytesLaws
 pub mod Reads
 pub mod TreeLaws
 pub mod Adapting
-pub mod KeptReads
-pub mod JsonTokens
-pub mod JsonBytes
 pub mod Stays
 pub mod KeptLaws
 -- what they speak of, and the laws beneath, for crates that name this one alone

@@ -1,17 +1,13 @@
 //! Laws of canonical text, from the bytes to the tree: that of a content that may be written is accepted and says that content, so
 //! that no two contents share one; the documents that an input loads are sound, what they say may be written, and its canonical
-//! text loads documents that agree with them. And of inputs shaped as JSON: what is laid out in pretty form for such an input
-//! reads back. No code.
+//! text loads documents that agree with them. And what it is for an input to be shaped as JSON. No code.
 #![tactic(auto)]
 
 mod back;
 mod bytes_laws;
 mod canonical;
-mod json;
 mod kept_laws;
 mod laws;
-mod pretty;
-mod stays;
 mod tree_laws;
 
 pub use back::{
@@ -20,13 +16,10 @@ pub use back::{
 };
 pub use bytes_laws::canonical_bytes_decode;
 pub use canonical::canonical_tokens_say_content;
-pub use json::{json_nodes_are_parsed, json_tokens_are_parsed, json_tokens_pass};
-pub use kept_laws::{json_inputs_are_laid_out, json_stays_pretty, streams_are_known};
+pub use kept_laws::streams_are_known;
 pub use laws::{
     all_load_documents, document_texts_load_again, document_texts_tell, dump_texts_load_again,
     dump_texts_tell_documents, dumps_are_laid_out, inputs_load_alike, loaded_are_sound,
     loaded_are_writable, loads_are_documents, names_do_not_matter, plain_documents,
 };
-pub use pretty::json_bytes_decode;
-pub use stays::{json_layout_reads_back, json_reads_back};
 pub use tree_laws::{canonical_tokens_are_parsed, canonical_tokens_pass, nodes_are_parsed};

@@ -2,10 +2,6 @@ pub mod MadeLemmas
 pub mod FreeLemmas
 pub mod StepLemmas
 pub mod TextLemmas
-mod Marking
-pub mod Held
-mod Asked
-pub mod KeysWords
 pub mod Names
 pub mod NamesWords
 pub mod Starts
@@ -21,10 +17,6 @@ pub mod Gaps
 pub mod Lexemes
 pub mod TokensUtf8
 pub mod Decoded
-mod ValueBytes
-mod GapWords
-pub mod PlainRead
-pub mod Near
 pub mod Lines
 pub mod Directives
 -- what it stands on, for crates that name this one alone

@@ -1,9 +1,6 @@
 pub mod KeyFree
 pub mod KeysLaws
 pub mod KeysTexts
-pub mod Keyed
-pub mod Brackets
-pub mod KeyedLaws
 pub mod Spelled
 pub mod NamesLaws
 pub mod Utf8Texts

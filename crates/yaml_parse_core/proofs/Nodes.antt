@@ -14,8 +14,8 @@ use Rattle.yaml_parse_grammar.specs.Machine.{joins, with_properties_taken, start
 use Rattle.yaml_parse_grammar.specs.declared.name.Site.{Site}
 use Rattle.yaml_parse_grammar.specs.declared.name.Choice.{Choice}
 use Rattle.yaml_parse_grammar.specs.declared.name.Choice.TheVariants.{Refuse, Take, Leave}
-use Rattle.yaml_parse_core.specs.declared.machine.Turn.{Turn}
-use Rattle.yaml_parse_core.specs.declared.machine.Turn.TheVariants as turn
+use Rattle.yaml_parse_core.specs.Seen.{Seen}
+use Rattle.yaml_parse_core.specs.Seen as turn
 use Rattle.yaml_parse_core.specs.declared.told.Shape.{Shape}
 use Rattle.yaml_parse_core.specs.Views.{Around, body_by, token_at, named_item}
 use Rattle.yaml_parse_core.specs.Turns.{Contents, Nodes, Turns, Takes, context_if}
@@ -106,18 +106,18 @@ same_taken w kind.YAML_ANCHOR_TOKEN x y st from to z h = absurd h
 same_taken w kind.YAML_TAG_TOKEN x y st from to z h = absurd h
 same_taken w kind.YAML_SCALAR_TOKEN x y st from to z h = refl
 
-pub bare_node : (w : Wants) (k : yaml_token_type_t) (x y : List ℕ) (st : Extra) (from to : yaml_mark_t) (s : List State) (new : Properties → List State) (r : Turn) (a : Around) → IsBare k
+pub bare_node : (w : Wants) (k : yaml_token_type_t) (x y : List ℕ) (st : Extra) (from to : yaml_mark_t) (s : List State) (new : Properties → List State) (r : Seen) (a : Around) → IsBare k
     → Contents w (token_at (body_by k x y st) from to) s r new → Nodes w (token_at (body_by k x y st) from to) s r a new
-bare_node w k x y st from to s new (turn.Node j) a b h =
+bare_node w k x y st from to s new (turn.node j) a b h =
     (same_start w k x y st b ∙ h.0, (h.1 (bare from to) (bare from to)).0 ∙ ap (λ (t : Taken). t.item) (same_taken w k x y st from to to b), λ q. (h.1 (bare from to) q).1 ∙ ap (λ (t : Taken). t.above ++ s) (same_taken w k x y st from to to b))
-bare_node w k x y st from to s new (turn.Named j) a b h = absurd h
-bare_node w k x y st from to s new (turn.Given j) a b h = absurd h
-bare_node w k x y st from to s new turn.Silent a b h = absurd h
-bare_node w k x y st from to s new (turn.Left j) a b h = absurd h
-bare_node w k x y st from to s new turn.Opened a b h = absurd h
-bare_node w k x y st from to s new turn.Over a b h = absurd h
-bare_node w k x y st from to s new (turn.Refused q) a b h = (same_start w k x y st b ∙ h.0, h.1)
-bare_node w k x y st from to s new turn.Memory a b h = tt
+bare_node w k x y st from to s new (turn.named j) a b h = absurd h
+bare_node w k x y st from to s new (turn.given j) a b h = absurd h
+bare_node w k x y st from to s new turn.silent a b h = absurd h
+bare_node w k x y st from to s new (turn.left j) a b h = absurd h
+bare_node w k x y st from to s new turn.opened a b h = absurd h
+bare_node w k x y st from to s new turn.over a b h = absurd h
+bare_node w k x y st from to s new (turn.refused q) a b h = (same_start w k x y st b ∙ h.0, h.1)
+bare_node w k x y st from to s new turn.memory a b h = tt
 
 -- ---- a node behind properties
 
@@ -151,7 +151,7 @@ takes_if true = refl
 takes_if false = refl
 
 pub named_node : (w : Wants) (k : yaml_token_type_t) (x y : List ℕ) (st : Extra) (from to : yaml_mark_t) (p : Properties) (s : List State) (new : Properties → List State) (j : Shape)
-    → (k ≡ kind.YAML_ANCHOR_TOKEN → ⊥) → (k ≡ kind.YAML_TAG_TOKEN → ⊥) → Contents w (token_at (body_by k x y st) from to) s (turn.Node j) new
+    → (k ≡ kind.YAML_ANCHOR_TOKEN → ⊥) → (k ≡ kind.YAML_TAG_TOKEN → ⊥) → Contents w (token_at (body_by k x y st) from to) s (turn.node j) new
     → Takes (state.with_properties w p) (token_at (body_by k x y st) from to) s (named_item j p (token_at (body_by k x y st) from to)) new
 named_node w k x y st from to p s new j a b h =
     (ap (λ z. if joins p (type_of (body_by k x y st)) || z then Take else Leave) h.0 ∙ takes_if (joins p (type_of (body_by k x y st))), (h.1 p p).0 ∙ ap (λ (t : Taken). t.item) (same_behind w k x y st from to p a b), λ q. (h.1 p q).1 ∙ ap (λ (t : Taken). t.above ++ s) (same_behind w k x y st from to p a b))
@@ -192,18 +192,18 @@ type_is kind.YAML_ANCHOR_TOKEN x y st = refl
 type_is kind.YAML_TAG_TOKEN x y st = refl
 type_is kind.YAML_SCALAR_TOKEN x y st = refl
 
-optional_at : (p : Site) (b : yaml_mark_t) (t : Token) (s : List State) (new : Properties → List State) (r : Turn) (a : Around) → follows p (type_of t.body) ≡ false
+optional_at : (p : Site) (b : yaml_mark_t) (t : Token) (s : List State) (new : Properties → List State) (r : Seen) (a : Around) → follows p (type_of t.body) ≡ false
     → Nodes (wants_of p) t s r a new → Turns (state.optional p b) t s r a new
-optional_at p b t s new (turn.Node j) a f h = (optional_chooses p b (type_of t.body) true f h.0, h.1, h.2)
-optional_at p b t s new (turn.Named j) a f h = absurd h
-optional_at p b t s new (turn.Given j) a f h = (optional_chooses p b (type_of t.body) true f h.0, h.1, h.2)
-optional_at p b t s new turn.Silent a f h = (optional_chooses p b (type_of t.body) true f h.0, h.1, h.2)
-optional_at p b t s new (turn.Left j) a f h = absurd h
-optional_at p b t s new turn.Opened a f h = absurd h
-optional_at p b t s new turn.Over a f h = absurd h
-optional_at p b t s new (turn.Refused q) a f h = optional_chooses p b (type_of t.body) false f h.0 ∙ ap (λ z. Refuse (no_node (wants_of p)) z) (sym (no_context (wants_of p) a.opener)) ∙ ap (λ z. Refuse z (context_if z a.opener)) (sym h.1)
-optional_at p b t s new turn.Memory a f h = tt
+optional_at p b t s new (turn.node j) a f h = (optional_chooses p b (type_of t.body) true f h.0, h.1, h.2)
+optional_at p b t s new (turn.named j) a f h = absurd h
+optional_at p b t s new (turn.given j) a f h = (optional_chooses p b (type_of t.body) true f h.0, h.1, h.2)
+optional_at p b t s new turn.silent a f h = (optional_chooses p b (type_of t.body) true f h.0, h.1, h.2)
+optional_at p b t s new (turn.left j) a f h = absurd h
+optional_at p b t s new turn.opened a f h = absurd h
+optional_at p b t s new turn.over a f h = absurd h
+optional_at p b t s new (turn.refused q) a f h = optional_chooses p b (type_of t.body) false f h.0 ∙ ap (λ z. Refuse (no_node (wants_of p)) z) (sym (no_context (wants_of p) a.opener)) ∙ ap (λ z. Refuse z (context_if z a.opener)) (sym h.1)
+optional_at p b t s new turn.memory a f h = tt
 
-pub optional_node : (p : Site) (b : yaml_mark_t) (w : Wants) (t : Token) (s : List State) (new : Properties → List State) (r : Turn) (a : Around) → follows p (type_of t.body) ≡ false
+pub optional_node : (p : Site) (b : yaml_mark_t) (w : Wants) (t : Token) (s : List State) (new : Properties → List State) (r : Seen) (a : Around) → follows p (type_of t.body) ≡ false
     → w ≡ wants_of p → Nodes w t s r a new → Turns (state.optional p b) t s r a new
 optional_node p b w t s new r a f e h = optional_at p b t s new r a f (subst (λ z. Nodes z t s r a new) e h)

@@ -6,13 +6,12 @@ ghost use Rattle.yaml_parse_core.specs.declared.level.Level.TheVariants as level
 ghost use Rattle.yaml_parse_grammar.specs.Items.{Properties};
 ghost use Rattle.yaml_parse_grammar.specs.States as state;
 ghost use Rattle.yaml_parse_core.specs.Views.{around_by, stack_of, states_by, whole_of};
+ghost use Rattle.yaml_parse_core.specs.Seen.{seen};
 ghost use Rattle.yaml_parse_core.specs.Turns.{Turns};
 
 use crate::level::{Await, Level};
 use crate::machine::{Machine, Turn, await_behind, come_back};
 use crate::token::yaml_lent_token_t;
-use crate::told::{Implied, Told};
-use yaml_parse_grammar::ParseProblem;
 use yaml_parse_model::yaml_token_type_t;
 
 // The stream's start.
@@ -28,15 +27,15 @@ pub(crate) fn at_stream<T: yaml_lent_token_t>(
     ensures { (s : List ℕ) (p : Properties) → Turns state.stream
         (whole_of (T.mark s) kind (T.extra token.now) (T.from token.now) (T.to token.now)
         (T.text s token.now) (T.other s token.now))
-        (stack_of (T.mark s) machine.old.below.items) result
+        (stack_of (T.mark s) machine.old.below.items) (seen result)
         (around_by (T.mark s) machine.new p) (states_by (T.mark s) machine.new) }
 {
     match kind {
         yaml_token_type_t::YAML_STREAM_START_TOKEN => {
             machine.level = Level::First;
-            Turn::Given(Told::StreamStart)
+            Turn::StreamStart
         }
-        _ => Turn::Refused(ParseProblem::NoStreamStart),
+        _ => Turn::NoStreamStart,
     }
 }
 
@@ -53,28 +52,28 @@ pub(crate) fn at_first<T: yaml_lent_token_t>(
     ensures { (s : List ℕ) (p : Properties) → Turns state.first
         (whole_of (T.mark s) kind (T.extra token.now) (T.from token.now) (T.to token.now)
         (T.text s token.now) (T.other s token.now))
-        (stack_of (T.mark s) machine.old.below.items) result
+        (stack_of (T.mark s) machine.old.below.items) (seen result)
         (around_by (T.mark s) machine.new p) (states_by (T.mark s) machine.new) }
 {
     match kind {
         yaml_token_type_t::YAML_DOCUMENT_START_TOKEN => {
             await_behind(machine, Await::Root, token);
             machine.level = Level::Document;
-            Turn::Given(Told::DocumentStart)
+            Turn::DocumentStart
         }
         yaml_token_type_t::YAML_STREAM_END_TOKEN => {
             come_back(machine);
-            Turn::Given(Told::StreamEnd)
+            Turn::StreamEnd
         }
         yaml_token_type_t::YAML_VERSION_DIRECTIVE_TOKEN => {
             machine.level = Level::Directives;
             machine.opener = token.from();
-            Turn::Given(Told::VersionDirective)
+            Turn::VersionDirective
         }
         yaml_token_type_t::YAML_TAG_DIRECTIVE_TOKEN => {
             machine.level = Level::Directives;
             machine.opener = token.from();
-            Turn::Given(Told::TagDirective)
+            Turn::TagDirective
         }
         yaml_token_type_t::YAML_SCALAR_TOKEN
         | yaml_token_type_t::YAML_FLOW_SEQUENCE_START_TOKEN
@@ -89,7 +88,7 @@ pub(crate) fn at_first<T: yaml_lent_token_t>(
             machine.level = Level::Document;
             Turn::Opened
         }
-        _ => Turn::Refused(ParseProblem::NoBlockNode),
+        _ => Turn::NoBlockNode,
     }
 }
 
@@ -106,31 +105,31 @@ pub(crate) fn at_documents<T: yaml_lent_token_t>(
     ensures { (s : List ℕ) (p : Properties) → Turns state.documents
         (whole_of (T.mark s) kind (T.extra token.now) (T.from token.now) (T.to token.now)
         (T.text s token.now) (T.other s token.now))
-        (stack_of (T.mark s) machine.old.below.items) result
+        (stack_of (T.mark s) machine.old.below.items) (seen result)
         (around_by (T.mark s) machine.new p) (states_by (T.mark s) machine.new) }
 {
     match kind {
         yaml_token_type_t::YAML_DOCUMENT_START_TOKEN => {
             await_behind(machine, Await::Root, token);
             machine.level = Level::Document;
-            Turn::Given(Told::DocumentStart)
+            Turn::DocumentStart
         }
         yaml_token_type_t::YAML_STREAM_END_TOKEN => {
             come_back(machine);
-            Turn::Given(Told::StreamEnd)
+            Turn::StreamEnd
         }
         yaml_token_type_t::YAML_VERSION_DIRECTIVE_TOKEN => {
             machine.level = Level::Directives;
             machine.opener = token.from();
-            Turn::Given(Told::VersionDirective)
+            Turn::VersionDirective
         }
         yaml_token_type_t::YAML_TAG_DIRECTIVE_TOKEN => {
             machine.level = Level::Directives;
             machine.opener = token.from();
-            Turn::Given(Told::TagDirective)
+            Turn::TagDirective
         }
         yaml_token_type_t::YAML_DOCUMENT_END_TOKEN => Turn::Silent,
-        _ => Turn::Refused(ParseProblem::NoDocumentStart),
+        _ => Turn::NoDocumentStart,
     }
 }
 
@@ -147,18 +146,18 @@ pub(crate) fn at_directives<T: yaml_lent_token_t>(
     ensures { (s : List ℕ) (p : Properties) → Turns (state.directives (T.mark s machine.old.opener))
         (whole_of (T.mark s) kind (T.extra token.now) (T.from token.now) (T.to token.now)
         (T.text s token.now) (T.other s token.now))
-        (stack_of (T.mark s) machine.old.below.items) result
+        (stack_of (T.mark s) machine.old.below.items) (seen result)
         (around_by (T.mark s) machine.new p) (states_by (T.mark s) machine.new) }
 {
     match kind {
         yaml_token_type_t::YAML_DOCUMENT_START_TOKEN => {
             await_behind(machine, Await::Root, token);
             machine.level = Level::Document;
-            Turn::Given(Told::DocumentDeclared)
+            Turn::DocumentDeclared
         }
-        yaml_token_type_t::YAML_VERSION_DIRECTIVE_TOKEN => Turn::Given(Told::VersionDirective),
-        yaml_token_type_t::YAML_TAG_DIRECTIVE_TOKEN => Turn::Given(Told::TagDirective),
-        _ => Turn::Refused(ParseProblem::NoDocumentStart),
+        yaml_token_type_t::YAML_VERSION_DIRECTIVE_TOKEN => Turn::VersionDirective,
+        yaml_token_type_t::YAML_TAG_DIRECTIVE_TOKEN => Turn::TagDirective,
+        _ => Turn::NoDocumentStart,
     }
 }
 
@@ -175,12 +174,12 @@ pub(crate) fn at_document<T: yaml_lent_token_t>(
     ensures { (s : List ℕ) (p : Properties) → Turns state.document_end
         (whole_of (T.mark s) kind (T.extra token.now) (T.from token.now) (T.to token.now)
         (T.text s token.now) (T.other s token.now))
-        (state.documents ∷ stack_of (T.mark s) machine.old.below.items) result
+        (state.documents ∷ stack_of (T.mark s) machine.old.below.items) (seen result)
         (around_by (T.mark s) machine.new p) (states_by (T.mark s) machine.new) }
 {
     machine.level = Level::Documents;
     match kind {
-        yaml_token_type_t::YAML_DOCUMENT_END_TOKEN => Turn::Given(Told::DocumentEnd),
-        _ => Turn::Left(Implied::DocumentEnd),
+        yaml_token_type_t::YAML_DOCUMENT_END_TOKEN => Turn::DocumentEnd,
+        _ => Turn::LeftDocumentEnd,
     }
 }

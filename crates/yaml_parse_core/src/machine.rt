@@ -9,27 +9,54 @@ ghost use Rattle.yaml_parse_core.specs.Views.{stack_of, level_over, states_by, i
 
 use crate::level::{Await, Kept, Level};
 use crate::token::yaml_lent_token_t;
-use crate::told::{Implied, Shape, Told};
 use std::alloc::{AllocError, Global};
-use yaml_parse_grammar::ParseProblem;
 
-/// What a turn did.
+/// What a turn did: one byte, since the compiler follows a pair of them no further.
 #[derive(Clone, Copy)]
 pub enum Turn {
-    /// The token is taken, and gives a node without properties.
-    Node(Shape),
-    /// The token is taken, and gives a node behind the properties that waited.
-    Named(Shape),
-    /// The token is taken, and tells something else.
-    Given(Told),
+    // The token is taken, and gives a node without properties.
+    Scalar,
+    BlockSequence,
+    BlockMapping,
+    FlowSequence,
+    FlowMapping,
+    // The token is taken, and gives a node behind the properties that waited.
+    NamedScalar,
+    NamedBlockSequence,
+    NamedBlockMapping,
+    NamedFlowSequence,
+    NamedFlowMapping,
+    // The token is taken, and tells something else.
+    SequenceEnd,
+    MappingEnd,
+    Alias,
+    StreamStart,
+    StreamEnd,
+    VersionDirective,
+    TagDirective,
+    DocumentStart,
+    DocumentDeclared,
+    DocumentEnd,
     /// The token is taken.
     Silent,
-    /// Something stands in front of the token, which stays.
-    Left(Implied),
+    // Something stands in front of the token, which stays.
+    LeftNothing,
+    LeftNothingBefore,
+    LeftProperties,
+    LeftSequenceEnd,
+    LeftMappingEnd,
+    LeftDocumentEnd,
     /// A document begins before the token, which stays.
     Opened,
-    /// The token is wrong here.
-    Refused(ParseProblem),
+    // The token is wrong here.
+    NoStreamStart,
+    NoDocumentStart,
+    NoDash,
+    NoKey,
+    NoSequenceEnd,
+    NoMappingEnd,
+    NoBlockNode,
+    NoFlowNode,
     /// A growth was refused.
     Memory,
     /// Nothing is left, and nothing was done.

@@ -3,10 +3,10 @@
 ghost use Rattle.std.specs.Prelude.{◌≡◌, true, ◌++◌, ◌∷◌, [], ℕ, List, OnOk, Some, None};
 ghost use Rattle.yaml_parse_model.specs.declared.yaml_mark_t.{yaml_mark_t};
 ghost use Rattle.yaml_parse_core.specs.Views.{around_of, await_of, properties_of, level_over, stack_of, states_by, whole_of};
+ghost use Rattle.yaml_parse_core.specs.Seen.{seen};
 ghost use Rattle.yaml_parse_core.specs.Turns.{keeps, Contents, Nodes, Turns, IfRefused};
 ghost use Rattle.yaml_parse_core.specs.declared.level.Await.TheVariants as await;
 ghost use Rattle.yaml_parse_core.specs.declared.machine.Turn.TheVariants as turn;
-ghost use Rattle.yaml_parse_core.specs.declared.told.Implied.TheVariants as implied;
 ghost use Rattle.yaml_parse_grammar.specs.States as state;
 ghost use Rattle.yaml_parse_grammar.specs.Items.{Properties};
 ghost use Rattle.yaml_parse_grammar.specs.Machine.{tag_at};
@@ -15,9 +15,9 @@ ghost use Rattle.yaml_parse_model.specs.declared.yaml_token_type_t.TheVariants a
 use crate::level::{Await, Level};
 use crate::machine::{Machine, Turn, await_behind, begin};
 use crate::token::yaml_lent_token_t;
-use crate::told::{Implied, Shape, Told, Waiting};
+use crate::told::Waiting;
 use std::alloc::AllocError;
-use yaml_parse_grammar::{ParseProblem, Side, Wants};
+use yaml_parse_grammar::{Side, Wants};
 use yaml_parse_model::yaml_token_type_t;
 
 // A collection begins, whose parts come next.
@@ -67,21 +67,21 @@ fn content<T: yaml_lent_token_t>(
         (whole_of (T.mark s) kind (T.extra token.now) (T.from token.now) (T.to token.now)
         (T.text s token.now) (T.other s token.now))
         (level_over machine.old.level (T.mark s machine.old.opener)
-        (stack_of (T.mark s) machine.old.below.items)) result
+        (stack_of (T.mark s) machine.old.below.items)) (seen result)
         (states_by (T.mark s) machine.new) }
-    ensures same { IfRefused result (machine.new ≡ machine.old) }
+    ensures same { IfRefused (seen result) (machine.new ≡ machine.old) }
 {
     match kind {
         yaml_token_type_t::YAML_SCALAR_TOKEN => {
             machine.awaited = Await::Nothing;
-            Turn::Node(Shape::Scalar)
+            Turn::Scalar
         }
         yaml_token_type_t::YAML_FLOW_SEQUENCE_START_TOKEN => match open(machine, Level::SequenceItems, token) {
-            Ok(()) => Turn::Node(Shape::FlowSequence),
+            Ok(()) => Turn::FlowSequence,
             Err(_) => Turn::Memory,
         },
         yaml_token_type_t::YAML_FLOW_MAPPING_START_TOKEN => match open(machine, Level::MappingItems, token) {
-            Ok(()) => Turn::Node(Shape::FlowMapping),
+            Ok(()) => Turn::FlowMapping,
             Err(_) => Turn::Memory,
         },
         _ => block_content(machine, token, kind, wants),
@@ -103,33 +103,33 @@ fn block_content<T: yaml_lent_token_t>(
         (whole_of (T.mark s) kind (T.extra token.now) (T.from token.now) (T.to token.now)
         (T.text s token.now) (T.other s token.now))
         (level_over machine.old.level (T.mark s machine.old.opener)
-        (stack_of (T.mark s) machine.old.below.items)) result
+        (stack_of (T.mark s) machine.old.below.items)) (seen result)
         (states_by (T.mark s) machine.new) }
-    ensures same { IfRefused result (machine.new ≡ machine.old) }
+    ensures same { IfRefused (seen result) (machine.new ≡ machine.old) }
 {
     match wants {
-        Wants::Flow => Turn::Refused(ParseProblem::NoFlowNode),
+        Wants::Flow => Turn::NoFlowNode,
         Wants::Block(side) => match kind {
             yaml_token_type_t::YAML_BLOCK_SEQUENCE_START_TOKEN => match open(machine, Level::Entries, token) {
-                Ok(()) => Turn::Node(Shape::BlockSequence),
+                Ok(()) => Turn::BlockSequence,
                 Err(_) => Turn::Memory,
             },
             yaml_token_type_t::YAML_BLOCK_MAPPING_START_TOKEN => match open(machine, Level::Pairs, token) {
-                Ok(()) => Turn::Node(Shape::BlockMapping),
+                Ok(()) => Turn::BlockMapping,
                 Err(_) => Turn::Memory,
             },
             yaml_token_type_t::YAML_BLOCK_ENTRY_TOKEN => match side {
-                None => Turn::Refused(ParseProblem::NoBlockNode),
+                None => Turn::NoBlockNode,
                 Some(Side::Key) => match open_others(machine, Level::OtherKeys, Await::LooseKey, token) {
-                    Ok(()) => Turn::Node(Shape::BlockSequence),
+                    Ok(()) => Turn::BlockSequence,
                     Err(_) => Turn::Memory,
                 },
                 Some(Side::Value) => match open_others(machine, Level::OtherValues, Await::LooseValue, token) {
-                    Ok(()) => Turn::Node(Shape::BlockSequence),
+                    Ok(()) => Turn::BlockSequence,
                     Err(_) => Turn::Memory,
                 },
             },
-            _ => Turn::Refused(ParseProblem::NoBlockNode),
+            _ => Turn::NoBlockNode,
         },
     }
 }
@@ -233,15 +233,15 @@ pub(crate) fn node<T: yaml_lent_token_t>(
         (whole_of (T.mark s) kind (T.extra token.old) (T.from token.old) (T.to token.old)
         (T.text s token.old) (T.other s token.old))
         (level_over machine.old.level (T.mark s machine.old.opener)
-        (stack_of (T.mark s) machine.old.below.items)) result
+        (stack_of (T.mark s) machine.old.below.items)) (seen result)
         (around_of (T.bytes s) (T.mark s) machine.new waiting.new)
         (states_by (T.mark s) machine.new) }
-    ensures kept { keeps result ≡ true → token.new ≡ token.old }
+    ensures kept { keeps (seen result) ≡ true → token.new ≡ token.old }
 {
     match kind {
         yaml_token_type_t::YAML_ALIAS_TOKEN => {
             machine.awaited = Await::Nothing;
-            Turn::Given(Told::Alias)
+            Turn::Alias
         }
         yaml_token_type_t::YAML_ANCHOR_TOKEN => {
             machine.awaited = rest_of(wants);
@@ -260,11 +260,11 @@ pub(crate) fn node<T: yaml_lent_token_t>(
 // The node is nothing but its properties.
 #[inline(always)]
 fn alone<P: Copy>(machine: &mut Machine<P>) -> Turn
-    ensures result { result ≡ turn.Left implied.Properties }
+    ensures result { result ≡ turn.LeftProperties }
     ensures machine { machine.new ≡ record machine.old { awaited = await.Nothing } }
 {
     machine.awaited = Await::Nothing;
-    Turn::Left(Implied::Properties)
+    Turn::LeftProperties
 }
 
 // The rest of a node behind properties.
@@ -282,10 +282,10 @@ pub(crate) fn at_rest<T: yaml_lent_token_t>(
         (whole_of (T.mark s) kind (T.extra token.old) (T.from token.old) (T.to token.old)
         (T.text s token.old) (T.other s token.old))
         (level_over machine.old.level (T.mark s machine.old.opener)
-        (stack_of (T.mark s) machine.old.below.items)) result
+        (stack_of (T.mark s) machine.old.below.items)) (seen result)
         (around_of (T.bytes s) (T.mark s) machine.new waiting.new)
         (states_by (T.mark s) machine.new) }
-    ensures kept { keeps result ≡ true → token.new ≡ token.old }
+    ensures kept { keeps (seen result) ≡ true → token.new ≡ token.old }
 {
     match kind {
         yaml_token_type_t::YAML_ANCHOR_TOKEN => {
@@ -305,8 +305,13 @@ pub(crate) fn at_rest<T: yaml_lent_token_t>(
             }
         }
         _ => match content(machine, token, kind, wants) {
-            Turn::Node(shape) => Turn::Named(shape),
-            Turn::Refused(_) => alone(machine),
+            Turn::Scalar => Turn::NamedScalar,
+            Turn::BlockSequence => Turn::NamedBlockSequence,
+            Turn::BlockMapping => Turn::NamedBlockMapping,
+            Turn::FlowSequence => Turn::NamedFlowSequence,
+            Turn::FlowMapping => Turn::NamedFlowMapping,
+            Turn::NoBlockNode => alone(machine),
+            Turn::NoFlowNode => alone(machine),
             _ => Turn::Memory,
         },
     }

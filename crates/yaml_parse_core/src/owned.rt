@@ -4,6 +4,7 @@ ghost use Rattle.std.specs.Prelude.{◌≡◌, true, ℕ, List};
 ghost use Rattle.yaml_parse_model.specs.Tokens.{body_of, type_of, token_of};
 ghost use Rattle.yaml_parse_core.specs.Owned.{text_in, other_in, extra_in, owned_properties, owned_states, owned_states_by};
 ghost use Rattle.yaml_parse_core.specs.Views.{around_by};
+ghost use Rattle.yaml_parse_core.specs.Seen.{seen};
 ghost use Rattle.yaml_parse_core.specs.Turns.{keeps, TurnsOn};
 
 use crate::machine::{Machine, Turn};
@@ -92,10 +93,10 @@ pub fn turn_owned(
     waiting: &mut Waiting<Vec<u8>, yaml_mark_t>,
     token: &mut yaml_token_t,
 ) -> Turn
-    ensures turns { TurnsOn (owned_states machine.old waiting.old) (token_of token.old) result
+    ensures turns { TurnsOn (owned_states machine.old waiting.old) (token_of token.old) (seen result)
         (around_by (λ m. m) machine.new (owned_properties waiting.new))
         (owned_states_by machine.new) }
-    ensures kept { keeps result ≡ true → token.new ≡ token.old }
+    ensures kept { keeps (seen result) ≡ true → token.new ≡ token.old }
 {
     turn(machine, waiting, token)
 }

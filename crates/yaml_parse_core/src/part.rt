@@ -9,13 +9,12 @@ ghost use Rattle.yaml_parse_grammar.specs.declared.name.Side.TheVariants as side
 ghost use Rattle.yaml_parse_grammar.specs.declared.name.Site.TheVariants as site;
 ghost use Rattle.yaml_parse_grammar.specs.declared.name.Brackets.TheVariants as brackets;
 ghost use Rattle.yaml_parse_core.specs.Views.{around_by, stack_of, states_by, whole_of};
+ghost use Rattle.yaml_parse_core.specs.Seen.{seen};
 ghost use Rattle.yaml_parse_core.specs.Turns.{Turns};
 
 use crate::level::{Await, Level};
 use crate::machine::{Machine, Turn, await_behind, come_back};
 use crate::token::yaml_lent_token_t;
-use crate::told::{Implied, Told};
-use yaml_parse_grammar::ParseProblem;
 use yaml_parse_model::yaml_token_type_t;
 
 // The parts of a block mapping.
@@ -29,7 +28,7 @@ pub(crate) fn at_pairs<T: yaml_lent_token_t>(
     ensures { (s : List ℕ) (p : Properties) → Turns (state.pairs (T.mark s machine.old.opener))
         (whole_of (T.mark s) kind (T.extra token.now) (T.from token.now) (T.to token.now)
         (T.text s token.now) (T.other s token.now))
-        (stack_of (T.mark s) machine.old.below.items) result
+        (stack_of (T.mark s) machine.old.below.items) (seen result)
         (around_by (T.mark s) machine.new p) (states_by (T.mark s) machine.new) }
 {
     match kind {
@@ -40,9 +39,9 @@ pub(crate) fn at_pairs<T: yaml_lent_token_t>(
         }
         yaml_token_type_t::YAML_BLOCK_END_TOKEN => {
             come_back(machine);
-            Turn::Given(Told::MappingEnd)
+            Turn::MappingEnd
         }
-        _ => Turn::Refused(ParseProblem::NoKey),
+        _ => Turn::NoKey,
     }
 }
 
@@ -58,7 +57,7 @@ pub(crate) fn at_entries<T: yaml_lent_token_t>(
     ensures { (s : List ℕ) (p : Properties) → Turns (state.entries (T.mark s machine.old.opener))
         (whole_of (T.mark s) kind (T.extra token.now) (T.from token.now) (T.to token.now)
         (T.text s token.now) (T.other s token.now))
-        (stack_of (T.mark s) machine.old.below.items) result
+        (stack_of (T.mark s) machine.old.below.items) (seen result)
         (around_by (T.mark s) machine.new p) (states_by (T.mark s) machine.new) }
 {
     match kind {
@@ -68,9 +67,9 @@ pub(crate) fn at_entries<T: yaml_lent_token_t>(
         }
         yaml_token_type_t::YAML_BLOCK_END_TOKEN => {
             come_back(machine);
-            Turn::Given(Told::SequenceEnd)
+            Turn::SequenceEnd
         }
-        _ => Turn::Refused(ParseProblem::NoDash),
+        _ => Turn::NoDash,
     }
 }
 
@@ -86,7 +85,7 @@ pub(crate) fn at_other_keys<T: yaml_lent_token_t>(
     ensures { (s : List ℕ) (p : Properties) → Turns (state.others side.Key)
         (whole_of (T.mark s) kind (T.extra token.now) (T.from token.now) (T.to token.now)
         (T.text s token.now) (T.other s token.now))
-        (stack_of (T.mark s) machine.old.below.items) result
+        (stack_of (T.mark s) machine.old.below.items) (seen result)
         (around_by (T.mark s) machine.new p) (states_by (T.mark s) machine.new) }
 {
     match kind {
@@ -96,7 +95,7 @@ pub(crate) fn at_other_keys<T: yaml_lent_token_t>(
         }
         _ => {
             come_back(machine);
-            Turn::Left(Implied::SequenceEnd)
+            Turn::LeftSequenceEnd
         }
     }
 }
@@ -113,7 +112,7 @@ pub(crate) fn at_other_values<T: yaml_lent_token_t>(
     ensures { (s : List ℕ) (p : Properties) → Turns (state.others side.Value)
         (whole_of (T.mark s) kind (T.extra token.now) (T.from token.now) (T.to token.now)
         (T.text s token.now) (T.other s token.now))
-        (stack_of (T.mark s) machine.old.below.items) result
+        (stack_of (T.mark s) machine.old.below.items) (seen result)
         (around_by (T.mark s) machine.new p) (states_by (T.mark s) machine.new) }
 {
     match kind {
@@ -123,7 +122,7 @@ pub(crate) fn at_other_values<T: yaml_lent_token_t>(
         }
         _ => {
             come_back(machine);
-            Turn::Left(Implied::SequenceEnd)
+            Turn::LeftSequenceEnd
         }
     }
 }
@@ -140,7 +139,7 @@ pub(crate) fn at_colon<T: yaml_lent_token_t>(
         (whole_of (T.mark s) kind (T.extra token.now) (T.from token.now) (T.to token.now)
         (T.text s token.now) (T.other s token.now))
         (state.pairs (T.mark s machine.old.opener)
-        ∷ stack_of (T.mark s) machine.old.below.items) result
+        ∷ stack_of (T.mark s) machine.old.below.items) (seen result)
         (around_by (T.mark s) machine.new p) (states_by (T.mark s) machine.new) }
 {
     machine.level = Level::Pairs;
@@ -149,7 +148,7 @@ pub(crate) fn at_colon<T: yaml_lent_token_t>(
             await_behind(machine, Await::Value, token);
             Turn::Silent
         }
-        _ => Turn::Left(Implied::Nothing),
+        _ => Turn::LeftNothing,
     }
 }
 
@@ -165,7 +164,7 @@ pub(crate) fn at_sequence_colon<T: yaml_lent_token_t>(
         (whole_of (T.mark s) kind (T.extra token.now) (T.from token.now) (T.to token.now)
         (T.text s token.now) (T.other s token.now))
         (state.pair_end ∷ state.more brackets.Sequence (T.mark s machine.old.opener)
-        ∷ stack_of (T.mark s) machine.old.below.items) result
+        ∷ stack_of (T.mark s) machine.old.below.items) (seen result)
         (around_by (T.mark s) machine.new p) (states_by (T.mark s) machine.new) }
 {
     machine.level = Level::SequencePair;
@@ -174,7 +173,7 @@ pub(crate) fn at_sequence_colon<T: yaml_lent_token_t>(
             await_behind(machine, Await::SequenceValue, token);
             Turn::Silent
         }
-        _ => Turn::Left(Implied::Nothing),
+        _ => Turn::LeftNothing,
     }
 }
 
@@ -190,7 +189,7 @@ pub(crate) fn at_mapping_colon<T: yaml_lent_token_t>(
         (whole_of (T.mark s) kind (T.extra token.now) (T.from token.now) (T.to token.now)
         (T.text s token.now) (T.other s token.now))
         (state.more brackets.Mapping (T.mark s machine.old.opener)
-        ∷ stack_of (T.mark s) machine.old.below.items) result
+        ∷ stack_of (T.mark s) machine.old.below.items) (seen result)
         (around_by (T.mark s) machine.new p) (states_by (T.mark s) machine.new) }
 {
     machine.level = Level::MappingMore;
@@ -199,7 +198,7 @@ pub(crate) fn at_mapping_colon<T: yaml_lent_token_t>(
             await_behind(machine, Await::MappingValue, token);
             Turn::Silent
         }
-        _ => Turn::Left(Implied::Nothing),
+        _ => Turn::LeftNothing,
     }
 }
 
@@ -214,7 +213,7 @@ pub(crate) fn at_sequence_more<T: yaml_lent_token_t>(
     ensures { (s : List ℕ) (p : Properties) → Turns (state.more brackets.Sequence (T.mark s machine.old.opener))
         (whole_of (T.mark s) kind (T.extra token.now) (T.from token.now) (T.to token.now)
         (T.text s token.now) (T.other s token.now))
-        (stack_of (T.mark s) machine.old.below.items) result
+        (stack_of (T.mark s) machine.old.below.items) (seen result)
         (around_by (T.mark s) machine.new p) (states_by (T.mark s) machine.new) }
 {
     match kind {
@@ -224,9 +223,9 @@ pub(crate) fn at_sequence_more<T: yaml_lent_token_t>(
         }
         yaml_token_type_t::YAML_FLOW_SEQUENCE_END_TOKEN => {
             come_back(machine);
-            Turn::Given(Told::SequenceEnd)
+            Turn::SequenceEnd
         }
-        _ => Turn::Refused(ParseProblem::NoSequenceEnd),
+        _ => Turn::NoSequenceEnd,
     }
 }
 
@@ -241,7 +240,7 @@ pub(crate) fn at_mapping_more<T: yaml_lent_token_t>(
     ensures { (s : List ℕ) (p : Properties) → Turns (state.more brackets.Mapping (T.mark s machine.old.opener))
         (whole_of (T.mark s) kind (T.extra token.now) (T.from token.now) (T.to token.now)
         (T.text s token.now) (T.other s token.now))
-        (stack_of (T.mark s) machine.old.below.items) result
+        (stack_of (T.mark s) machine.old.below.items) (seen result)
         (around_by (T.mark s) machine.new p) (states_by (T.mark s) machine.new) }
 {
     match kind {
@@ -251,9 +250,9 @@ pub(crate) fn at_mapping_more<T: yaml_lent_token_t>(
         }
         yaml_token_type_t::YAML_FLOW_MAPPING_END_TOKEN => {
             come_back(machine);
-            Turn::Given(Told::MappingEnd)
+            Turn::MappingEnd
         }
-        _ => Turn::Refused(ParseProblem::NoMappingEnd),
+        _ => Turn::NoMappingEnd,
     }
 }
 
@@ -269,11 +268,11 @@ pub(crate) fn at_sequence_pair<T: yaml_lent_token_t>(
         (whole_of (T.mark s) kind (T.extra token.now) (T.from token.now) (T.to token.now)
         (T.text s token.now) (T.other s token.now))
         (state.more brackets.Sequence (T.mark s machine.old.opener)
-        ∷ stack_of (T.mark s) machine.old.below.items) result
+        ∷ stack_of (T.mark s) machine.old.below.items) (seen result)
         (around_by (T.mark s) machine.new p) (states_by (T.mark s) machine.new) }
 {
     machine.level = Level::SequenceMore;
-    Turn::Left(Implied::MappingEnd)
+    Turn::LeftMappingEnd
 }
 
 // The value of a lone node.
@@ -288,9 +287,9 @@ pub(crate) fn at_mapping_lone<T: yaml_lent_token_t>(
         (whole_of (T.mark s) kind (T.extra token.now) (T.from token.now) (T.to token.now)
         (T.text s token.now) (T.other s token.now))
         (state.more brackets.Mapping (T.mark s machine.old.opener)
-        ∷ stack_of (T.mark s) machine.old.below.items) result
+        ∷ stack_of (T.mark s) machine.old.below.items) (seen result)
         (around_by (T.mark s) machine.new p) (states_by (T.mark s) machine.new) }
 {
     machine.level = Level::MappingMore;
-    Turn::Left(Implied::Nothing)
+    Turn::LeftNothing
 }

@@ -7,14 +7,15 @@ ghost use Rattle.yaml_parse_grammar.specs.Machine as grammar;
 ghost use Rattle.yaml_parse_grammar.specs.Items.{Properties};
 ghost use Rattle.yaml_parse_grammar.specs.States as state;
 ghost use Rattle.yaml_parse_core.specs.declared.level.Await.TheVariants.{Nothing};
-ghost use Rattle.yaml_parse_core.specs.Views.{around_of, level_over, stack_of, states_by, implied_item, whole_of};
-ghost use Rattle.yaml_parse_core.specs.Turns.{keeps, Turns};
+ghost use Rattle.yaml_parse_core.specs.Views.{around_of, level_over, stack_of, states_by, whole_of};
+ghost use Rattle.yaml_parse_core.specs.Seen.{seen};
+ghost use Rattle.yaml_parse_core.specs.Turns.{keeps, LeavesOut, Turns};
 
 use crate::level::{Await, Level};
 use crate::machine::{Machine, Turn, await_behind, come_back};
 use crate::node::node;
 use crate::token::yaml_lent_token_t;
-use crate::told::{Implied, Shape, Told, Waiting};
+use crate::told::Waiting;
 use yaml_parse_grammar::{Brackets, Side, Site, Wants};
 use yaml_parse_model::yaml_token_type_t;
 
@@ -30,20 +31,20 @@ pub(crate) fn at_sequence_items<T: yaml_lent_token_t>(
     ensures turns { (s : List ℕ) → Turns (state.items brackets.Sequence (T.mark s machine.old.opener))
         (whole_of (T.mark s) kind (T.extra token.old) (T.from token.old) (T.to token.old)
         (T.text s token.old) (T.other s token.old))
-        (stack_of (T.mark s) machine.old.below.items) result
+        (stack_of (T.mark s) machine.old.below.items) (seen result)
         (around_of (T.bytes s) (T.mark s) machine.new waiting.new)
         (states_by (T.mark s) machine.new) }
-    ensures kept { keeps result ≡ true → token.new ≡ token.old }
+    ensures kept { keeps (seen result) ≡ true → token.new ≡ token.old }
 {
     match kind {
         yaml_token_type_t::YAML_KEY_TOKEN => {
             machine.level = Level::SequenceColon;
             await_behind(machine, Await::SequenceKey, token);
-            Turn::Node(Shape::FlowMapping)
+            Turn::FlowMapping
         }
         yaml_token_type_t::YAML_FLOW_SEQUENCE_END_TOKEN => {
             come_back(machine);
-            Turn::Given(Told::SequenceEnd)
+            Turn::SequenceEnd
         }
         _ => {
             machine.level = Level::SequenceMore;
@@ -64,10 +65,10 @@ pub(crate) fn at_mapping_items<T: yaml_lent_token_t>(
     ensures turns { (s : List ℕ) → Turns (state.items brackets.Mapping (T.mark s machine.old.opener))
         (whole_of (T.mark s) kind (T.extra token.old) (T.from token.old) (T.to token.old)
         (T.text s token.old) (T.other s token.old))
-        (stack_of (T.mark s) machine.old.below.items) result
+        (stack_of (T.mark s) machine.old.below.items) (seen result)
         (around_of (T.bytes s) (T.mark s) machine.new waiting.new)
         (states_by (T.mark s) machine.new) }
-    ensures kept { keeps result ≡ true → token.new ≡ token.old }
+    ensures kept { keeps (seen result) ≡ true → token.new ≡ token.old }
 {
     match kind {
         yaml_token_type_t::YAML_KEY_TOKEN => {
@@ -77,7 +78,7 @@ pub(crate) fn at_mapping_items<T: yaml_lent_token_t>(
         }
         yaml_token_type_t::YAML_FLOW_MAPPING_END_TOKEN => {
             come_back(machine);
-            Turn::Given(Told::MappingEnd)
+            Turn::MappingEnd
         }
         _ => {
             machine.level = Level::MappingLone;
@@ -167,16 +168,15 @@ fn wants_of(place: Site) -> Wants
     }
 }
 
-// Where a node is told that is left out.
+// A node is left out, where the next token begins or the indicator before it ends.
 #[inline(always)]
-fn left_out(place: Site) -> Implied
-    ensures { (p : Properties) (before next : yaml_mark_t) → implied_item result p before next
-        ≡ grammar.left_at (state.optional place before) next }
+fn left_out(place: Site) -> Turn
+    ensures { LeavesOut place (seen result) }
 {
     match place {
-        Site::Root => Implied::Nothing,
-        Site::FlowPair(_, _) => Implied::Nothing,
-        _ => Implied::NothingBefore,
+        Site::Root => Turn::LeftNothing,
+        Site::FlowPair(_, _) => Turn::LeftNothing,
+        _ => Turn::LeftNothingBefore,
     }
 }
 
@@ -193,14 +193,14 @@ pub(crate) fn at_optional<T: yaml_lent_token_t>(
         (whole_of (T.mark s) kind (T.extra token.old) (T.from token.old) (T.to token.old)
         (T.text s token.old) (T.other s token.old))
         (level_over machine.old.level (T.mark s machine.old.opener)
-        (stack_of (T.mark s) machine.old.below.items)) result
+        (stack_of (T.mark s) machine.old.below.items)) (seen result)
         (around_of (T.bytes s) (T.mark s) machine.new waiting.new)
         (states_by (T.mark s) machine.new) }
-    ensures kept { keeps result ≡ true → token.new ≡ token.old }
+    ensures kept { keeps (seen result) ≡ true → token.new ≡ token.old }
 {
     if follows(place, kind) {
         machine.awaited = Await::Nothing;
-        Turn::Left(left_out(place))
+        left_out(place)
     } else {
         node(machine, waiting, token, kind, wants_of(place))
     }

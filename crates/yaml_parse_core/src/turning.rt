@@ -3,6 +3,7 @@
 ghost use Rattle.std.specs.Prelude.{◌≡◌, true, ℕ, List};
 ghost use Rattle.yaml_parse_core.specs.declared.level.Await.TheVariants.{Nothing};
 ghost use Rattle.yaml_parse_core.specs.Views.{around_of, states_of, states_by, whole_of};
+ghost use Rattle.yaml_parse_core.specs.Seen.{seen};
 ghost use Rattle.yaml_parse_core.specs.Turns.{keeps, TurnsOn};
 
 use crate::document::{at_directives, at_document, at_documents, at_first, at_stream};
@@ -31,9 +32,9 @@ fn at_level<T: yaml_lent_token_t>(
     ensures turns { (s : List ℕ) → TurnsOn (states_of (T.bytes s) (T.mark s) machine.old waiting.old)
         (whole_of (T.mark s) kind (T.extra token.old) (T.from token.old) (T.to token.old)
         (T.text s token.old) (T.other s token.old))
-        result (around_of (T.bytes s) (T.mark s) machine.new waiting.new)
+        (seen result) (around_of (T.bytes s) (T.mark s) machine.new waiting.new)
         (states_by (T.mark s) machine.new) }
-    ensures kept { keeps result ≡ true → token.new ≡ token.old }
+    ensures kept { keeps (seen result) ≡ true → token.new ≡ token.old }
 {
     match machine.level {
         Level::Pairs => at_pairs(machine, kind, token),
@@ -69,9 +70,9 @@ fn at_kind<T: yaml_lent_token_t>(
     ensures turns { (s : List ℕ) → TurnsOn (states_of (T.bytes s) (T.mark s) machine.old waiting.old)
         (whole_of (T.mark s) kind (T.extra token.old) (T.from token.old) (T.to token.old)
         (T.text s token.old) (T.other s token.old))
-        result (around_of (T.bytes s) (T.mark s) machine.new waiting.new)
+        (seen result) (around_of (T.bytes s) (T.mark s) machine.new waiting.new)
         (states_by (T.mark s) machine.new) }
-    ensures kept { keeps result ≡ true → token.new ≡ token.old }
+    ensures kept { keeps (seen result) ≡ true → token.new ≡ token.old }
 {
     match machine.awaited {
         Await::Nothing => at_level(machine, waiting, token, kind),
@@ -139,9 +140,9 @@ fn at_seen<T: yaml_lent_token_t>(
     ensures turns { (s : List ℕ) → TurnsOn (states_of (T.bytes s) (T.mark s) machine.old waiting.old)
         (whole_of (T.mark s) kind (T.extra token.old) (T.from token.old) (T.to token.old)
         (T.text s token.old) (T.other s token.old))
-        result (around_of (T.bytes s) (T.mark s) machine.new waiting.new)
+        (seen result) (around_of (T.bytes s) (T.mark s) machine.new waiting.new)
         (states_by (T.mark s) machine.new) }
-    ensures kept { keeps result ≡ true → token.new ≡ token.old }
+    ensures kept { keeps (seen result) ≡ true → token.new ≡ token.old }
 {
     match kind {
         yaml_token_type_t::YAML_SCALAR_TOKEN => at_kind(
@@ -164,9 +165,9 @@ pub fn turn<T: yaml_lent_token_t>(
     ensures turns { (s : List ℕ) → TurnsOn (states_of (T.bytes s) (T.mark s) machine.old waiting.old)
         (whole_of (T.mark s) (T.kind token.old) (T.extra token.old) (T.from token.old)
         (T.to token.old) (T.text s token.old) (T.other s token.old))
-        result (around_of (T.bytes s) (T.mark s) machine.new waiting.new)
+        (seen result) (around_of (T.bytes s) (T.mark s) machine.new waiting.new)
         (states_by (T.mark s) machine.new) }
-    ensures kept { keeps result ≡ true → token.new ≡ token.old }
+    ensures kept { keeps (seen result) ≡ true → token.new ≡ token.old }
 {
     let kind = token.kind();
     at_seen(machine, waiting, token, kind)

@@ -495,7 +495,7 @@ fn settle_rare(
             }
             Settled::Event
         }
-        Told::DocumentStart | Told::DocumentDeclared => {
+        Told::DocumentStart => {
             start_document(alloc, directives, false, &mut event.body, fault)
         }
         Told::DocumentEnd => {
@@ -528,6 +528,7 @@ pub fn settle_told(
     alloc: Global,
     directives: &mut Directives,
     told: Told,
+    opener: &yaml_mark_t,
     token: &mut yaml_token_t,
     event: &mut yaml_event_t,
     fault: &mut yaml_fault_t,
@@ -551,6 +552,10 @@ pub fn settle_told(
                 _ => tell_no_scalar(&mut event.body),
             }
             Settled::Event
+        }
+        Told::DocumentDeclared => {
+            event.start_mark = mark_again(opener);
+            start_document(alloc, directives, false, &mut event.body, fault)
         }
         _ => settle_rare(alloc, directives, told, token, event, fault),
     }

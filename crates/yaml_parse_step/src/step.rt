@@ -17,9 +17,9 @@ ghost use Rattle.yaml_parse_step.specs.Stepped.{stepped};
 ghost use Rattle.yaml_parse_step.specs.Turned.{turned};
 
 use std::alloc::Global;
-use yaml_parse_core::{Machine, Told, Turn, Waiting, finish, is_over, turn_owned};
+use yaml_parse_core::{Implied, Machine, Shape, Told, Turn, Waiting, finish, is_over, turn_owned};
 use yaml_parse_grammar::ParseProblem;
-use yaml_parse_model::{mark_again, yaml_event_t, yaml_token_source_t};
+use yaml_parse_model::{yaml_event_t, yaml_token_source_t};
 use yaml_parse_resolve::{
     Directives, Settled, lack_memory, refuse, settle_implied, settle_named, settle_opened, settle_told,
     tell_node,
@@ -95,22 +95,6 @@ fn context(problem: ParseProblem, opener: yaml_mark_t, at: yaml_mark_t) -> yaml_
     }
 }
 
-// The token is wrong there.
-// Out of line: it is met once.
-#[cold]
-#[inline(never)]
-fn refuse_token(
-    problem: ParseProblem,
-    opener: &yaml_mark_t,
-    at: &yaml_mark_t,
-    fault: &mut yaml_fault_t,
-)
-    ensures { fault_of fault.new ≡ parser_fault problem at.now
-        (context_of (context_if problem opener.now) at.now) }
-{
-    refuse(problem, *at, context(problem, *opener, *at), fault);
-}
-
 // What an item came to, behind a refusal of which nothing is left.
 // Inlined: it is known.
 #[inline(always)]
@@ -123,6 +107,101 @@ fn settled(machine: &mut Machine<yaml_mark_t>, settled: Settled) -> Step {
             Step::Refused
         }
     }
+}
+
+// A node without properties.
+#[inline(always)]
+fn tell(shape: Shape, buffers: &mut StepBuffers, event: &mut yaml_event_t) -> Step {
+    buffers.is_held = false;
+    tell_node(shape, &mut buffers.waiting, &mut buffers.token, event);
+    Step::Given
+}
+
+// A node behind properties.
+// Out of line: few have them.
+#[inline(never)]
+fn tell_named(
+    shape: Shape,
+    machine: &mut Machine<yaml_mark_t>,
+    buffers: &mut StepBuffers,
+    directives: &mut Directives,
+    event: &mut yaml_event_t,
+    fault: &mut yaml_fault_t,
+) -> Step {
+    buffers.is_held = false;
+    let came = settle_named(
+        &directives.tags,
+        shape,
+        &mut buffers.waiting,
+        &mut buffers.token,
+        event,
+        fault,
+    );
+    settled(machine, came)
+}
+
+// What a token tells but nodes.
+#[inline(always)]
+fn tell_other(
+    told: Told,
+    machine: &mut Machine<yaml_mark_t>,
+    buffers: &mut StepBuffers,
+    directives: &mut Directives,
+    event: &mut yaml_event_t,
+    fault: &mut yaml_fault_t,
+) -> Step {
+    buffers.is_held = false;
+    let came = settle_told(
+        buffers.alloc,
+        directives,
+        told,
+        &machine.opener,
+        &mut buffers.token,
+        event,
+        fault,
+    );
+    settled(machine, came)
+}
+
+// What stands in front of the token, which stays.
+// Out of line: few do.
+#[inline(never)]
+fn leave(
+    implied: Implied,
+    machine: &mut Machine<yaml_mark_t>,
+    buffers: &mut StepBuffers,
+    directives: &mut Directives,
+    event: &mut yaml_event_t,
+    fault: &mut yaml_fault_t,
+) -> Step {
+    buffers.is_held = true;
+    let came = settle_implied(
+        buffers.alloc,
+        directives,
+        implied,
+        &machine.before,
+        &buffers.token.start_mark,
+        &mut buffers.waiting,
+        event,
+        fault,
+    );
+    settled(machine, came)
+}
+
+// The token is wrong there.
+// Out of line: it is met once.
+#[cold]
+#[inline(never)]
+fn refused(
+    problem: ParseProblem,
+    machine: &mut Machine<yaml_mark_t>,
+    buffers: &StepBuffers,
+    fault: &mut yaml_fault_t,
+) -> Step {
+    let at = buffers.token.start_mark;
+    refuse(problem, at, context(problem, machine.opener, at), fault);
+    finish(machine);
+    Step::Refused
 }
 
 // The topmost state at the token in front.
@@ -138,59 +217,36 @@ fn moving(
     requires { buffers.old.is_held ≡ false }
 {
     match turn_owned(machine, &mut buffers.waiting, &mut buffers.token) {
-        Turn::Node(shape) => {
-            buffers.is_held = false;
-            tell_node(shape, &mut buffers.waiting, &mut buffers.token, event);
-            Step::Given
-        }
-        Turn::Named(shape) => {
-            buffers.is_held = false;
-            let came = settle_named(
-                &directives.tags,
-                shape,
-                &mut buffers.waiting,
-                &mut buffers.token,
-                event,
-                fault,
-            );
-            settled(machine, came)
-        }
-        Turn::Given(told) => {
-            buffers.is_held = false;
-            let came = settle_told(
-                buffers.alloc,
-                directives,
-                told,
-                &mut buffers.token,
-                event,
-                fault,
-            );
-            match told {
-                Told::DocumentDeclared => {
-                    event.start_mark = mark_again(&machine.opener);
-                }
-                _ => {}
-            }
-            settled(machine, came)
-        }
+        Turn::Scalar => tell(Shape::Scalar, buffers, event),
+        Turn::BlockSequence => tell(Shape::BlockSequence, buffers, event),
+        Turn::BlockMapping => tell(Shape::BlockMapping, buffers, event),
+        Turn::FlowSequence => tell(Shape::FlowSequence, buffers, event),
+        Turn::FlowMapping => tell(Shape::FlowMapping, buffers, event),
+        Turn::NamedScalar => tell_named(Shape::Scalar, machine, buffers, directives, event, fault),
+        Turn::NamedBlockSequence => tell_named(Shape::BlockSequence, machine, buffers, directives, event, fault),
+        Turn::NamedBlockMapping => tell_named(Shape::BlockMapping, machine, buffers, directives, event, fault),
+        Turn::NamedFlowSequence => tell_named(Shape::FlowSequence, machine, buffers, directives, event, fault),
+        Turn::NamedFlowMapping => tell_named(Shape::FlowMapping, machine, buffers, directives, event, fault),
+        Turn::SequenceEnd => tell_other(Told::SequenceEnd, machine, buffers, directives, event, fault),
+        Turn::MappingEnd => tell_other(Told::MappingEnd, machine, buffers, directives, event, fault),
+        Turn::Alias => tell_other(Told::Alias, machine, buffers, directives, event, fault),
+        Turn::StreamStart => tell_other(Told::StreamStart, machine, buffers, directives, event, fault),
+        Turn::StreamEnd => tell_other(Told::StreamEnd, machine, buffers, directives, event, fault),
+        Turn::VersionDirective => tell_other(Told::VersionDirective, machine, buffers, directives, event, fault),
+        Turn::TagDirective => tell_other(Told::TagDirective, machine, buffers, directives, event, fault),
+        Turn::DocumentStart => tell_other(Told::DocumentStart, machine, buffers, directives, event, fault),
+        Turn::DocumentDeclared => tell_other(Told::DocumentDeclared, machine, buffers, directives, event, fault),
+        Turn::DocumentEnd => tell_other(Told::DocumentEnd, machine, buffers, directives, event, fault),
         Turn::Silent => {
             buffers.is_held = false;
             Step::Silent
         }
-        Turn::Left(implied) => {
-            buffers.is_held = true;
-            let came = settle_implied(
-                buffers.alloc,
-                directives,
-                implied,
-                &machine.before,
-                &buffers.token.start_mark,
-                &mut buffers.waiting,
-                event,
-                fault,
-            );
-            settled(machine, came)
-        }
+        Turn::LeftNothing => leave(Implied::Nothing, machine, buffers, directives, event, fault),
+        Turn::LeftNothingBefore => leave(Implied::NothingBefore, machine, buffers, directives, event, fault),
+        Turn::LeftProperties => leave(Implied::Properties, machine, buffers, directives, event, fault),
+        Turn::LeftSequenceEnd => leave(Implied::SequenceEnd, machine, buffers, directives, event, fault),
+        Turn::LeftMappingEnd => leave(Implied::MappingEnd, machine, buffers, directives, event, fault),
+        Turn::LeftDocumentEnd => leave(Implied::DocumentEnd, machine, buffers, directives, event, fault),
         Turn::Opened => {
             buffers.is_held = true;
             let came = settle_opened(
@@ -202,11 +258,14 @@ fn moving(
             );
             settled(machine, came)
         }
-        Turn::Refused(problem) => {
-            refuse_token(problem, &machine.opener, &buffers.token.start_mark, fault);
-            finish(machine);
-            Step::Refused
-        }
+        Turn::NoStreamStart => refused(ParseProblem::NoStreamStart, machine, buffers, fault),
+        Turn::NoDocumentStart => refused(ParseProblem::NoDocumentStart, machine, buffers, fault),
+        Turn::NoDash => refused(ParseProblem::NoDash, machine, buffers, fault),
+        Turn::NoKey => refused(ParseProblem::NoKey, machine, buffers, fault),
+        Turn::NoSequenceEnd => refused(ParseProblem::NoSequenceEnd, machine, buffers, fault),
+        Turn::NoMappingEnd => refused(ParseProblem::NoMappingEnd, machine, buffers, fault),
+        Turn::NoBlockNode => refused(ParseProblem::NoBlockNode, machine, buffers, fault),
+        Turn::NoFlowNode => refused(ParseProblem::NoFlowNode, machine, buffers, fault),
         Turn::Memory => {
             lack_memory(fault);
             finish(machine);

@@ -10,15 +10,15 @@ use Rattle.yaml_parse_grammar.specs.declared.name.Wants.TheVariants.{Flow, Block
 use Rattle.yaml_parse_grammar.specs.Items.{Properties}
 use Rattle.yaml_parse_grammar.specs.States.{State, Taken}
 use Rattle.yaml_parse_grammar.specs.States as state
-use Rattle.yaml_parse_grammar.specs.Machine.{joins, with_properties_taken, starts_content, starts_node, content_taken, node_taken, no_node, choice_at, follows, wants_of}
+use Rattle.yaml_parse_grammar.specs.Machine.{joins, with_properties_taken, starts_content, starts_node, content_taken, node_taken, no_node, choice_at, left_at, follows, wants_of}
 use Rattle.yaml_parse_grammar.specs.declared.name.Site.{Site}
 use Rattle.yaml_parse_grammar.specs.declared.name.Choice.{Choice}
 use Rattle.yaml_parse_grammar.specs.declared.name.Choice.TheVariants.{Refuse, Take, Leave}
 use Rattle.yaml_parse_core.specs.Seen.{Seen}
 use Rattle.yaml_parse_core.specs.Seen as turn
 use Rattle.yaml_parse_core.specs.declared.told.Shape.{Shape}
-use Rattle.yaml_parse_core.specs.Views.{Around, body_by, token_at, named_item}
-use Rattle.yaml_parse_core.specs.Turns.{Contents, Nodes, Turns, Takes, context_if}
+use Rattle.yaml_parse_core.specs.Views.{Around, body_by, token_at, named_item, implied_item}
+use Rattle.yaml_parse_core.specs.Turns.{Contents, Nodes, Turns, Takes, LeavesOut, context_if}
 
 -- the kind isn't that of a property or an alias
 abbrev pub IsBare : yaml_token_type_t → Type 0
@@ -207,3 +207,15 @@ optional_at p b t s new turn.memory a f h = tt
 pub optional_node : (p : Site) (b : yaml_mark_t) (w : Wants) (t : Token) (s : List State) (new : Properties → List State) (r : Seen) (a : Around) → follows p (type_of t.body) ≡ false
     → w ≡ wants_of p → Nodes w t s r a new → Turns (state.optional p b) t s r a new
 optional_node p b w t s new r a f e h = optional_at p b t s new r a f (subst (λ z. Nodes z t s r a new) e h)
+
+pub left_optional : (p : Site) (b : yaml_mark_t) (t : Token) (s : List State) (new : Properties → List State) (r : Seen) (a : Around) → follows p (type_of t.body) ≡ true
+    → LeavesOut p r → a.before ≡ b → ((q : Properties) → new q ≡ s) → Turns (state.optional p b) t s r a new
+left_optional p b t s new (turn.left k) a f h e n = (ap (λ z. chosen_at z (starts_node (wants_of p) (type_of t.body)) (wants_of p)) f, subst (λ z. implied_item k a.properties a.before t.start_mark ≡ left_at (state.optional p z) t.start_mark) e (h a.properties a.before t.start_mark), n)
+left_optional p b t s new (turn.node k) a f h e n = absurd h
+left_optional p b t s new (turn.named k) a f h e n = absurd h
+left_optional p b t s new (turn.given k) a f h e n = absurd h
+left_optional p b t s new turn.silent a f h e n = absurd h
+left_optional p b t s new turn.opened a f h e n = absurd h
+left_optional p b t s new (turn.refused k) a f h e n = absurd h
+left_optional p b t s new turn.memory a f h e n = absurd h
+left_optional p b t s new turn.over a f h e n = absurd h

@@ -129,7 +129,7 @@ fn at_kind<T: yaml_lent_token_t>(
     }
 }
 
-// The same, by the kind that is met most: of that one the compiler makes a way of its own.
+// The same, by the kinds that are met most: of each the compiler makes a way of its own.
 #[inline(always)]
 fn at_seen<T: yaml_lent_token_t>(
     machine: &mut Machine<T::Place>,
@@ -150,6 +150,36 @@ fn at_seen<T: yaml_lent_token_t>(
             waiting,
             token,
             yaml_token_type_t::YAML_SCALAR_TOKEN,
+        ),
+        yaml_token_type_t::YAML_KEY_TOKEN => at_kind(
+            machine,
+            waiting,
+            token,
+            yaml_token_type_t::YAML_KEY_TOKEN,
+        ),
+        yaml_token_type_t::YAML_VALUE_TOKEN => at_kind(
+            machine,
+            waiting,
+            token,
+            yaml_token_type_t::YAML_VALUE_TOKEN,
+        ),
+        yaml_token_type_t::YAML_FLOW_ENTRY_TOKEN => at_kind(
+            machine,
+            waiting,
+            token,
+            yaml_token_type_t::YAML_FLOW_ENTRY_TOKEN,
+        ),
+        yaml_token_type_t::YAML_FLOW_SEQUENCE_START_TOKEN => at_kind(
+            machine,
+            waiting,
+            token,
+            yaml_token_type_t::YAML_FLOW_SEQUENCE_START_TOKEN,
+        ),
+        yaml_token_type_t::YAML_FLOW_SEQUENCE_END_TOKEN => at_kind(
+            machine,
+            waiting,
+            token,
+            yaml_token_type_t::YAML_FLOW_SEQUENCE_END_TOKEN,
         ),
         _ => at_kind(machine, waiting, token, kind),
     }

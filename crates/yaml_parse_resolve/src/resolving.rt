@@ -1,16 +1,19 @@
 //! What items come to: tags in full, directives noted, and the events.
 
-ghost use Rattle.std.specs.Prelude.{◌≡◌, ◌++◌, ℕ, List, None, Some, option_map, OnOk, IfOk};
-ghost use Rattle.yaml_parse_model.specs.Events.{body_of};
+ghost use Rattle.std.specs.Prelude.{◌≡◌, ◌++◌, ℕ, List, Option, None, Some, true, false, option_map, OnOk};
+ghost use Rattle.yaml_parse_model.specs.Tokens.{token_of, body_of as token_body};
+ghost use Rattle.yaml_parse_model.specs.Events.{body_of, event_of};
 ghost use Rattle.yaml_parse_model.specs.Events as told;
 ghost use Rattle.yaml_parse_model.specs.Faults.{fault_of, memory_fault};
 ghost use Rattle.yaml_parse_model.specs.declared.yaml_origin_t.TheVariants.{Parser};
+ghost use Rattle.yaml_parse_model.specs.declared.yaml_scalar_style_t.TheVariants.{YAML_ANY_SCALAR_STYLE};
 ghost use Rattle.yaml_parse_grammar.specs.Items as item;
 ghost use Rattle.yaml_parse_grammar.specs.Problems.{parser_fault};
-ghost use Rattle.yaml_parse_grammar.specs.Resolve.{directive_for, default_prefix, or_default, resolved, is_known_version, with_version, with_tag, settle as settle_item, Directives as DirectivesSpec, behind_event};
-ghost use Rattle.yaml_parse_core.specs.Owned.{owned_item};
-ghost use Rattle.yaml_parse_core.specs.declared.slot.Told.TheVariants as kinds;
-ghost use Rattle.yaml_parse_resolve.specs.Settles.{directives_of, Settles, Resolves, Notes};
+ghost use Rattle.yaml_parse_grammar.specs.Resolve.{Directives as DirectivesSpec, directive_for, default_prefix, or_default, resolved, is_known_version, with_version, with_tag, node_event, gave, settle_body, behind_event};
+ghost use Rattle.yaml_parse_core.specs.Extra.{value_in, style_in, name_in};
+ghost use Rattle.yaml_parse_core.specs.Owned.{owned_properties};
+ghost use Rattle.yaml_parse_core.specs.Views.{text_if, tag_if, shape_at, named_item, node_item, told_item, told_body, implied_item};
+ghost use Rattle.yaml_parse_resolve.specs.Settles.{directives_of, Resolves, Names, Notes, Comes, ComesTo};
 
 use crate::handles::TagDirectives;
 use crate::room::vacate;
@@ -173,6 +176,13 @@ fn resolve_if(
     waiting: &mut Waiting<Vec<u8>, yaml_mark_t>,
     fault: &mut yaml_fault_t,
 ) -> bool
+    ensures names { (anchor : Option (List ℕ)) (shape : item.Shape) (ds : DirectivesSpec)
+        → ds.tags ≡ tags.now → Names (settle_body (item.node anchor
+        (tag_if waiting.old.has_tag waiting.old.handle.items waiting.old.suffix.items
+        waiting.old.tag_from) shape) waiting.old.from ds) anchor
+        (text_if waiting.old.has_tag waiting.new.handle.items) shape ds result
+        (fault_of fault.new) }
+    ensures same { waiting.new ≡ record waiting.old { handle = waiting.new.handle } }
 {
     if waiting.has_tag {
         resolve(tags, waiting, fault)
@@ -196,9 +206,8 @@ fn note_version(
     at: yaml_mark_t,
     fault: &mut yaml_fault_t,
 ) -> Settled
-    ensures { Notes (with_version (directives_of directives.old).version
-        (directives_of directives.old).tags major minor at) result (fault_of fault.new)
-        (directives_of directives.new) }
+    ensures { Notes (with_version directives.old.version directives.old.tags major minor at) result
+        (fault_of fault.new) (directives_of directives.new) }
 {
     match directives.version {
         Some(_) => {
@@ -264,9 +273,9 @@ fn start_document(
     event: &mut yaml_event_body_t,
     fault: &mut yaml_fault_t,
 ) -> Settled
-    ensures { Comes (gave (told.document_start (directives_of directives.now).version
-        (directives_of directives.now).tags implicit) (directives_of directives.now)) result
-        (body_of event.new) (fault_of fault.new) (directives_of directives.now) }
+    ensures { Comes (gave (told.document_start directives.now.version directives.now.tags implicit)
+        (directives_of directives.now)) result (body_of event.new) (fault_of fault.new)
+        (directives_of directives.now) }
 {
     match copy_directives(alloc, directives.tags.as_slice()) {
         Ok(tag_directives) => {
@@ -292,16 +301,29 @@ fn tell_scalar(
     waiting: &mut Waiting<Vec<u8>, yaml_mark_t>,
     token: &mut yaml_token_body_t,
     event: &mut yaml_event_body_t,
-) {
+)
+    ensures { body_of event.new ≡ node_event None None
+        (item.scalar (value_in (token_body token.old)) (style_in (token_body token.old))) }
+{
     match token {
         yaml_token_body_t::Scalar { value, style } => bare(waiting, value, *style, event),
-        _ => tell_no_scalar(event),
+        _ => tell_no_scalar(waiting, event),
     }
 }
 
+// Where the token is no scalar: the machine says that it is one.
 #[cold]
 #[inline(never)]
-fn tell_no_scalar(event: &mut yaml_event_body_t) {
+fn tell_no_scalar(waiting: &mut Waiting<Vec<u8>, yaml_mark_t>, event: &mut yaml_event_body_t)
+    ensures { body_of event.new ≡ node_event None None (item.scalar [] YAML_ANY_SCALAR_STYLE) }
+{
+    let mut nothing = Vec::new(*waiting.anchor.allocator());
+    bare(
+        waiting,
+        &mut nothing,
+        yaml_scalar_style_t::YAML_ANY_SCALAR_STYLE,
+        event,
+    );
 }
 
 // A sequence begins without properties.
@@ -340,7 +362,10 @@ pub fn tell_node(
     waiting: &mut Waiting<Vec<u8>, yaml_mark_t>,
     token: &mut yaml_token_t,
     event: &mut yaml_event_t,
-) {
+)
+    ensures { event_of event.new ≡ placed (node_event None None
+        (shape_at shape (token_of token.old).body)) (node_item shape (token_of token.old)) }
+{
     event.start_mark = mark_again(&token.start_mark);
     event.end_mark = mark_again(&token.end_mark);
     match shape {

@@ -103,31 +103,40 @@ fn is_plain(style: yaml_scalar_style_t) -> bool
 // A scalar without properties.
 // Inlined: it is built where it is wanted.
 #[inline(always)]
-fn bare_of(value: Vec<u8>, form: Form) -> yaml_event_body_t
-    ensures { body_of result ≡ told.scalar None None value.items form.plain form.quoted form.style }
+fn bare_of(value: Vec<u8>, style: yaml_scalar_style_t) -> yaml_event_body_t
+    ensures { body_of result ≡ node_event None None (item.scalar value.items style) }
 {
+    let is_plain = is_plain(style);
     yaml_event_body_t::Scalar {
         anchor: None,
         tag: None,
         value,
-        plain_implicit: form.plain,
-        quoted_implicit: form.quoted,
-        style: form.style,
+        plain_implicit: is_plain,
+        quoted_implicit: !is_plain,
+        style,
     }
 }
 
-// A scalar without properties, where the slot holds no scalar.
-// Out of line: mostly it holds one, or else no text.
+// A scalar without properties, where the slot holds other texts.
+// Out of line: mostly it holds such a one already, or none.
 #[inline(never)]
-fn other_bare(value: &mut Vec<u8>, form: Form, event: &mut yaml_event_body_t)
-    ensures { body_of event.new ≡ told.scalar None None value.old.items form.plain form.quoted
-        form.style }
+fn new_bare(value: &mut Vec<u8>, style: yaml_scalar_style_t, event: &mut yaml_event_body_t)
+    ensures { body_of event.new ≡ node_event None None (item.scalar value.old.items style) }
+{
+    let text = exchanged(event, value);
+    put_bare(event, bare_of(text, style));
+}
+
+// A scalar without properties, where the slot holds no scalar.
+// Out of line: mostly it holds one.
+#[inline(never)]
+fn other_bare(value: &mut Vec<u8>, style: yaml_scalar_style_t, event: &mut yaml_event_body_t)
+    ensures { body_of event.new ≡ node_event None None (item.scalar value.old.items style) }
 {
     if is_bare(event) {
-        put_bare(event, bare_of(moved(value), form));
+        put_bare(event, bare_of(moved(value), style));
     } else {
-        let text = exchanged(event, value);
-        put_bare(event, bare_of(text, form));
+        new_bare(value, style, event);
     }
 }
 
@@ -142,12 +151,6 @@ pub(crate) fn bare(
 )
     ensures { body_of event.new ≡ node_event None None (item.scalar value.old.items style) }
 {
-    let is_plain = is_plain(style);
-    let form = Form {
-        plain: is_plain,
-        quoted: !is_plain,
-        style,
-    };
     match *event {
         yaml_event_body_t::Scalar {
             anchor: ref mut last_anchor,
@@ -160,11 +163,11 @@ pub(crate) fn bare(
             give_back(last_anchor, &mut waiting.anchor);
             give_back(last_tag, &mut waiting.handle);
             mem::swap(last, value);
-            *plain = form.plain;
-            *quoted = form.quoted;
-            *last_style = form.style;
+            *plain = is_plain(style);
+            *quoted = !is_plain(style);
+            *last_style = style;
         }
-        _ => other_bare(value, form, event),
+        _ => other_bare(value, style, event),
     }
 }
 

@@ -36,7 +36,7 @@ use yaml_scan_model::{yaml_fault_t, yaml_mark_t, yaml_memory_fault, yaml_origin_
 #[derive(Drop)]
 pub struct yaml_parser_t<S: yaml_token_source_t> {
     source: S,
-    // The allocator, the token at the front, and the item of the last step.
+    // The token at the front, and the properties that wait for their node.
     buffers: StepBuffers,
     // What may come.
     machine: Machine<yaml_mark_t>,
@@ -94,7 +94,7 @@ impl<S: yaml_token_source_t> yaml_parser_t<S> {
         // Between documents, whole ones are to come, and a front of one.
         ensures { self.now.between ≡ true → AreLoadsByContent self.now }
     {
-        self.buffers.alloc
+        self.directives.alloc
     }
 
     /// Nothing more is to come, and that fault was answered.
@@ -149,12 +149,12 @@ pub fn yaml_parser_initialize<S: yaml_token_source_t>(
         source,
         machine: fresh(alloc, waiting.from),
         buffers: StepBuffers {
-            alloc,
             token: yaml_token_t::empty(),
             is_held: false,
             waiting,
         },
         directives: Directives {
+            alloc,
             version: None,
             tags: TagDirectives::new(alloc),
         },

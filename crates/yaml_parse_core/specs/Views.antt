@@ -180,7 +180,7 @@ implied_item implied.DocumentEnd p b start = item_at (item.event (event.document
 -- the states of a machine, the topmost first, by the properties that wait for their node
 abbrev pub states_by : {P : Type 0} → (P → yaml_mark_t) → Machine P → Properties → List State
 states_by mark m p = await_of m.awaited (mark m.before) p
-    ++ level_over m.level (mark m.opener) (stack_of mark m.below.items)
+    ++ level_over m.top.level (mark m.top.opener) (stack_of mark m.below.items)
 
 -- the same, where they wait in that slot
 abbrev pub states_of : {X P : Type 0} → (X → List ℕ) → (P → yaml_mark_t) → Machine P → Waiting X P
@@ -194,7 +194,7 @@ pub record Around : Type 0 where
   pub properties : Properties
 
 abbrev pub around_by : {P : Type 0} → (P → yaml_mark_t) → Machine P → Properties → Around
-around_by mark m p = record { opener = mark m.opener; before = mark m.before; properties = p }
+around_by mark m p = record { opener = mark m.top.opener; before = mark m.before; properties = p }
 
 abbrev pub around_of : {X P : Type 0} → (X → List ℕ) → (P → yaml_mark_t) → Machine P → Waiting X P
     → Around

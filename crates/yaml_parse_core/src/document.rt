@@ -23,7 +23,7 @@ pub(crate) fn at_stream<T: yaml_lent_token_t>(
     token: &T,
 ) -> Turn
     requires awaited { machine.old.awaited ≡ Nothing }
-    requires level { machine.old.level ≡ level.Stream }
+    requires level { machine.old.top.level ≡ level.Stream }
     ensures { (s : List ℕ) (p : Properties) → Turns state.stream
         (whole_of (T.mark s) kind (T.extra token.now) (T.from token.now) (T.to token.now)
         (T.text s token.now) (T.other s token.now))
@@ -32,7 +32,7 @@ pub(crate) fn at_stream<T: yaml_lent_token_t>(
 {
     match kind {
         yaml_token_type_t::YAML_STREAM_START_TOKEN => {
-            machine.level = Level::First;
+            machine.top.level = Level::First;
             Turn::StreamStart
         }
         _ => Turn::NoStreamStart,
@@ -48,7 +48,7 @@ pub(crate) fn at_first<T: yaml_lent_token_t>(
     token: &T,
 ) -> Turn
     requires awaited { machine.old.awaited ≡ Nothing }
-    requires level { machine.old.level ≡ level.First }
+    requires level { machine.old.top.level ≡ level.First }
     ensures { (s : List ℕ) (p : Properties) → Turns state.first
         (whole_of (T.mark s) kind (T.extra token.now) (T.from token.now) (T.to token.now)
         (T.text s token.now) (T.other s token.now))
@@ -58,7 +58,7 @@ pub(crate) fn at_first<T: yaml_lent_token_t>(
     match kind {
         yaml_token_type_t::YAML_DOCUMENT_START_TOKEN => {
             await_behind(machine, Await::Root, token);
-            machine.level = Level::Document;
+            machine.top.level = Level::Document;
             Turn::DocumentStart
         }
         yaml_token_type_t::YAML_STREAM_END_TOKEN => {
@@ -66,13 +66,13 @@ pub(crate) fn at_first<T: yaml_lent_token_t>(
             Turn::StreamEnd
         }
         yaml_token_type_t::YAML_VERSION_DIRECTIVE_TOKEN => {
-            machine.level = Level::Directives;
-            machine.opener = token.from();
+            machine.top.level = Level::Directives;
+            machine.top.opener = token.from();
             Turn::VersionDirective
         }
         yaml_token_type_t::YAML_TAG_DIRECTIVE_TOKEN => {
-            machine.level = Level::Directives;
-            machine.opener = token.from();
+            machine.top.level = Level::Directives;
+            machine.top.opener = token.from();
             Turn::TagDirective
         }
         yaml_token_type_t::YAML_SCALAR_TOKEN
@@ -85,7 +85,7 @@ pub(crate) fn at_first<T: yaml_lent_token_t>(
         | yaml_token_type_t::YAML_TAG_TOKEN => {
             machine.awaited = Await::Root;
             machine.before = token.from();
-            machine.level = Level::Document;
+            machine.top.level = Level::Document;
             Turn::Opened
         }
         _ => Turn::NoBlockNode,
@@ -101,7 +101,7 @@ pub(crate) fn at_documents<T: yaml_lent_token_t>(
     token: &T,
 ) -> Turn
     requires awaited { machine.old.awaited ≡ Nothing }
-    requires level { machine.old.level ≡ level.Documents }
+    requires level { machine.old.top.level ≡ level.Documents }
     ensures { (s : List ℕ) (p : Properties) → Turns state.documents
         (whole_of (T.mark s) kind (T.extra token.now) (T.from token.now) (T.to token.now)
         (T.text s token.now) (T.other s token.now))
@@ -111,7 +111,7 @@ pub(crate) fn at_documents<T: yaml_lent_token_t>(
     match kind {
         yaml_token_type_t::YAML_DOCUMENT_START_TOKEN => {
             await_behind(machine, Await::Root, token);
-            machine.level = Level::Document;
+            machine.top.level = Level::Document;
             Turn::DocumentStart
         }
         yaml_token_type_t::YAML_STREAM_END_TOKEN => {
@@ -119,13 +119,13 @@ pub(crate) fn at_documents<T: yaml_lent_token_t>(
             Turn::StreamEnd
         }
         yaml_token_type_t::YAML_VERSION_DIRECTIVE_TOKEN => {
-            machine.level = Level::Directives;
-            machine.opener = token.from();
+            machine.top.level = Level::Directives;
+            machine.top.opener = token.from();
             Turn::VersionDirective
         }
         yaml_token_type_t::YAML_TAG_DIRECTIVE_TOKEN => {
-            machine.level = Level::Directives;
-            machine.opener = token.from();
+            machine.top.level = Level::Directives;
+            machine.top.opener = token.from();
             Turn::TagDirective
         }
         yaml_token_type_t::YAML_DOCUMENT_END_TOKEN => Turn::Silent,
@@ -142,8 +142,8 @@ pub(crate) fn at_directives<T: yaml_lent_token_t>(
     token: &T,
 ) -> Turn
     requires awaited { machine.old.awaited ≡ Nothing }
-    requires level { machine.old.level ≡ level.Directives }
-    ensures { (s : List ℕ) (p : Properties) → Turns (state.directives (T.mark s machine.old.opener))
+    requires level { machine.old.top.level ≡ level.Directives }
+    ensures { (s : List ℕ) (p : Properties) → Turns (state.directives (T.mark s machine.old.top.opener))
         (whole_of (T.mark s) kind (T.extra token.now) (T.from token.now) (T.to token.now)
         (T.text s token.now) (T.other s token.now))
         (stack_of (T.mark s) machine.old.below.items) (seen result)
@@ -152,7 +152,7 @@ pub(crate) fn at_directives<T: yaml_lent_token_t>(
     match kind {
         yaml_token_type_t::YAML_DOCUMENT_START_TOKEN => {
             await_behind(machine, Await::Root, token);
-            machine.level = Level::Document;
+            machine.top.level = Level::Document;
             Turn::DocumentDeclared
         }
         yaml_token_type_t::YAML_VERSION_DIRECTIVE_TOKEN => Turn::VersionDirective,
@@ -170,14 +170,14 @@ pub(crate) fn at_document<T: yaml_lent_token_t>(
     token: &T,
 ) -> Turn
     requires awaited { machine.old.awaited ≡ Nothing }
-    requires level { machine.old.level ≡ level.Document }
+    requires level { machine.old.top.level ≡ level.Document }
     ensures { (s : List ℕ) (p : Properties) → Turns state.document_end
         (whole_of (T.mark s) kind (T.extra token.now) (T.from token.now) (T.to token.now)
         (T.text s token.now) (T.other s token.now))
         (state.documents ∷ stack_of (T.mark s) machine.old.below.items) (seen result)
         (around_by (T.mark s) machine.new p) (states_by (T.mark s) machine.new) }
 {
-    machine.level = Level::Documents;
+    machine.top.level = Level::Documents;
     match kind {
         yaml_token_type_t::YAML_DOCUMENT_END_TOKEN => Turn::DocumentEnd,
         _ => Turn::LeftDocumentEnd,

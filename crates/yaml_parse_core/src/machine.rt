@@ -67,12 +67,11 @@ pub enum Turn {
 #[derive(Drop)]
 pub struct Machine<P> {
     pub awaited: Await,
-    pub level: Level,
     /// The end of the indicator before the node that is awaited.
     pub before: P,
-    /// Where the topmost level begins.
-    pub opener: P,
-    /// The levels below it.
+    /// The topmost level.
+    pub top: Kept<P>,
+    /// The levels below it, the outermost first.
     pub below: Vec<Kept<P>>,
 }
 
@@ -94,16 +93,15 @@ fn make_room<P: Copy>(stack: &mut Vec<Kept<P>>) -> Result<(), AllocError>
 #[inline(always)]
 pub(crate) fn come_back<P: Copy>(machine: &mut Machine<P>)
     ensures awaited { machine.new.awaited ≡ machine.old.awaited }
-    ensures stack { (mark : P → yaml_mark_t) → level_over machine.new.level (mark machine.new.opener)
+    ensures stack { (mark : P → yaml_mark_t) → level_over machine.new.top.level (mark machine.new.top.opener)
         (stack_of mark machine.new.below.items) ≡ stack_of mark machine.old.below.items }
 {
     match machine.below.pop() {
         Some(kept) => {
-            machine.level = kept.level;
-            machine.opener = kept.opener;
+            machine.top = kept;
         }
         None => {
-            machine.level = Level::Over;
+            machine.top.level = Level::Over;
         }
     }
 }
@@ -129,19 +127,15 @@ fn enter<T: yaml_lent_token_t>(machine: &mut Machine<T::Place>, level: Level, to
     requires { vec_len machine.old.below < vec_capacity machine.old.below }
     ensures awaited { machine.new.awaited ≡ machine.old.awaited }
     ensures before { machine.new.before ≡ machine.old.before }
-    ensures level { machine.new.level ≡ level }
-    ensures opener { machine.new.opener ≡ T.from token.now }
+    ensures level { machine.new.top.level ≡ level }
+    ensures opener { machine.new.top.opener ≡ T.from token.now }
     ensures stack { (mark : T.Place → yaml_mark_t) → stack_of mark machine.new.below.items
-        ≡ level_over machine.old.level (mark machine.old.opener)
+        ≡ level_over machine.old.top.level (mark machine.old.top.opener)
         (stack_of mark machine.old.below.items) }
 {
-    let kept = Kept {
-        level: machine.level,
-        opener: machine.opener,
-    };
-    machine.below.push_reserved(kept);
-    machine.level = level;
-    machine.opener = token.from();
+    machine.below.push_reserved(machine.top);
+    machine.top.level = level;
+    machine.top.opener = token.from();
 }
 
 // A level opens on the one that is open, where the token begins.
@@ -153,11 +147,11 @@ pub(crate) fn begin<T: yaml_lent_token_t>(
 ) -> Result<(), AllocError>
     ensures awaited { machine.new.awaited ≡ machine.old.awaited }
     ensures before { machine.new.before ≡ machine.old.before }
-    ensures level { OnOk result (machine.new.level ≡ level) }
-    ensures opener { OnOk result (machine.new.opener ≡ T.from token.now) }
+    ensures level { OnOk result (machine.new.top.level ≡ level) }
+    ensures opener { OnOk result (machine.new.top.opener ≡ T.from token.now) }
     ensures stack { OnOk result ((mark : T.Place → yaml_mark_t)
         → stack_of mark machine.new.below.items
-        ≡ level_over machine.old.level (mark machine.old.opener)
+        ≡ level_over machine.old.top.level (mark machine.old.top.opener)
         (stack_of mark machine.old.below.items)) }
 {
     match make_room(&mut machine.below) {
@@ -176,9 +170,11 @@ pub fn fresh<P: Copy>(alloc: Global, place: P) -> Machine<P>
 {
     Machine {
         awaited: Await::Nothing,
-        level: Level::Stream,
         before: place,
-        opener: place,
+        top: Kept {
+            level: Level::Stream,
+            opener: place,
+        },
         below: Vec::new(alloc),
     }
 }
@@ -190,7 +186,7 @@ pub fn finish<P: Copy>(machine: &mut Machine<P>)
     ensures { (mark : P → yaml_mark_t) (p : Properties) → states_by mark machine.new p ≡ [] }
 {
     machine.awaited = Await::Nothing;
-    machine.level = Level::Over;
+    machine.top.level = Level::Over;
 }
 
 /// Whether nothing is left.
@@ -200,7 +196,7 @@ pub fn is_over<P: Copy>(machine: &Machine<P>) -> bool
     ensures { (mark : P → yaml_mark_t) (p : Properties) → result ≡ is_nothing
         (states_by mark machine.now p) }
 {
-    match machine.level {
+    match machine.top.level {
         Level::Over => match machine.awaited {
             Await::Nothing => true,
             _ => false,
@@ -215,7 +211,7 @@ pub fn is_between<P: Copy>(machine: &Machine<P>) -> bool
         (states_by mark machine.now p) }
 {
     match machine.awaited {
-        Await::Nothing => match machine.level {
+        Await::Nothing => match machine.top.level {
             Level::Over | Level::Stream | Level::First | Level::Documents => true,
             _ => false,
         },

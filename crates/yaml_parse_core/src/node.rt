@@ -29,7 +29,7 @@ fn open<T: yaml_lent_token_t>(
 ) -> Result<(), AllocError>
     ensures { OnOk result ((mark : T.Place → yaml_mark_t) (q : Properties)
         → states_by mark machine.new q ≡ level_over level (mark (T.from token.now))
-        (level_over machine.old.level (mark machine.old.opener)
+        (level_over machine.old.top.level (mark machine.old.top.opener)
         (stack_of mark machine.old.below.items))) }
 {
     machine.awaited = Await::Nothing;
@@ -48,7 +48,7 @@ fn open_others<T: yaml_lent_token_t>(
     ensures { OnOk result ((mark : T.Place → yaml_mark_t) (q : Properties)
         → states_by mark machine.new q ≡ await_of awaited (mark (T.to token.now)) q
         ++ level_over level (mark (T.from token.now))
-        (level_over machine.old.level (mark machine.old.opener)
+        (level_over machine.old.top.level (mark machine.old.top.opener)
         (stack_of mark machine.old.below.items))) }
 {
     await_behind(machine, awaited, token);
@@ -66,7 +66,7 @@ fn content<T: yaml_lent_token_t>(
     ensures content { (s : List ℕ) → Contents wants
         (whole_of (T.mark s) kind (T.extra token.now) (T.from token.now) (T.to token.now)
         (T.text s token.now) (T.other s token.now))
-        (level_over machine.old.level (T.mark s machine.old.opener)
+        (level_over machine.old.top.level (T.mark s machine.old.top.opener)
         (stack_of (T.mark s) machine.old.below.items)) (seen result)
         (states_by (T.mark s) machine.new) }
     ensures same { IfRefused (seen result) (machine.new ≡ machine.old) }
@@ -102,7 +102,7 @@ fn block_content<T: yaml_lent_token_t>(
     ensures content { (s : List ℕ) → Contents wants
         (whole_of (T.mark s) kind (T.extra token.now) (T.from token.now) (T.to token.now)
         (T.text s token.now) (T.other s token.now))
-        (level_over machine.old.level (T.mark s machine.old.opener)
+        (level_over machine.old.top.level (T.mark s machine.old.top.opener)
         (stack_of (T.mark s) machine.old.below.items)) (seen result)
         (states_by (T.mark s) machine.new) }
     ensures same { IfRefused (seen result) (machine.new ≡ machine.old) }
@@ -232,7 +232,7 @@ pub(crate) fn node<T: yaml_lent_token_t>(
     ensures turns { (s : List ℕ) → Nodes wants
         (whole_of (T.mark s) kind (T.extra token.old) (T.from token.old) (T.to token.old)
         (T.text s token.old) (T.other s token.old))
-        (level_over machine.old.level (T.mark s machine.old.opener)
+        (level_over machine.old.top.level (T.mark s machine.old.top.opener)
         (stack_of (T.mark s) machine.old.below.items)) (seen result)
         (around_of (T.bytes s) (T.mark s) machine.new waiting.new)
         (states_by (T.mark s) machine.new) }
@@ -281,7 +281,7 @@ pub(crate) fn at_rest<T: yaml_lent_token_t>(
     ensures turns { (s : List ℕ) → Turns (state.with_properties wants (properties_of (T.bytes s) (T.mark s) waiting.old))
         (whole_of (T.mark s) kind (T.extra token.old) (T.from token.old) (T.to token.old)
         (T.text s token.old) (T.other s token.old))
-        (level_over machine.old.level (T.mark s machine.old.opener)
+        (level_over machine.old.top.level (T.mark s machine.old.top.opener)
         (stack_of (T.mark s) machine.old.below.items)) (seen result)
         (around_of (T.bytes s) (T.mark s) machine.new waiting.new)
         (states_by (T.mark s) machine.new) }

@@ -25,7 +25,7 @@ pub(crate) fn at_pairs<T: yaml_lent_token_t>(
     token: &T,
 ) -> Turn
     requires { machine.old.awaited ≡ Nothing }
-    ensures { (s : List ℕ) (p : Properties) → Turns (state.pairs (T.mark s machine.old.opener))
+    ensures { (s : List ℕ) (p : Properties) → Turns (state.pairs (T.mark s machine.old.top.opener))
         (whole_of (T.mark s) kind (T.extra token.now) (T.from token.now) (T.to token.now)
         (T.text s token.now) (T.other s token.now))
         (stack_of (T.mark s) machine.old.below.items) (seen result)
@@ -33,7 +33,7 @@ pub(crate) fn at_pairs<T: yaml_lent_token_t>(
 {
     match kind {
         yaml_token_type_t::YAML_KEY_TOKEN => {
-            machine.level = Level::Colon;
+            machine.top.level = Level::Colon;
             await_behind(machine, Await::Key, token);
             Turn::Silent
         }
@@ -53,8 +53,8 @@ pub(crate) fn at_entries<T: yaml_lent_token_t>(
     token: &T,
 ) -> Turn
     requires awaited { machine.old.awaited ≡ Nothing }
-    requires level { machine.old.level ≡ level.Entries }
-    ensures { (s : List ℕ) (p : Properties) → Turns (state.entries (T.mark s machine.old.opener))
+    requires level { machine.old.top.level ≡ level.Entries }
+    ensures { (s : List ℕ) (p : Properties) → Turns (state.entries (T.mark s machine.old.top.opener))
         (whole_of (T.mark s) kind (T.extra token.now) (T.from token.now) (T.to token.now)
         (T.text s token.now) (T.other s token.now))
         (stack_of (T.mark s) machine.old.below.items) (seen result)
@@ -81,7 +81,7 @@ pub(crate) fn at_other_keys<T: yaml_lent_token_t>(
     token: &T,
 ) -> Turn
     requires awaited { machine.old.awaited ≡ Nothing }
-    requires level { machine.old.level ≡ level.OtherKeys }
+    requires level { machine.old.top.level ≡ level.OtherKeys }
     ensures { (s : List ℕ) (p : Properties) → Turns (state.others side.Key)
         (whole_of (T.mark s) kind (T.extra token.now) (T.from token.now) (T.to token.now)
         (T.text s token.now) (T.other s token.now))
@@ -108,7 +108,7 @@ pub(crate) fn at_other_values<T: yaml_lent_token_t>(
     token: &T,
 ) -> Turn
     requires awaited { machine.old.awaited ≡ Nothing }
-    requires level { machine.old.level ≡ level.OtherValues }
+    requires level { machine.old.top.level ≡ level.OtherValues }
     ensures { (s : List ℕ) (p : Properties) → Turns (state.others side.Value)
         (whole_of (T.mark s) kind (T.extra token.now) (T.from token.now) (T.to token.now)
         (T.text s token.now) (T.other s token.now))
@@ -138,11 +138,11 @@ pub(crate) fn at_colon<T: yaml_lent_token_t>(
     ensures { (s : List ℕ) (p : Properties) → Turns (state.colon (site.BlockPair side.Value))
         (whole_of (T.mark s) kind (T.extra token.now) (T.from token.now) (T.to token.now)
         (T.text s token.now) (T.other s token.now))
-        (state.pairs (T.mark s machine.old.opener)
+        (state.pairs (T.mark s machine.old.top.opener)
         ∷ stack_of (T.mark s) machine.old.below.items) (seen result)
         (around_by (T.mark s) machine.new p) (states_by (T.mark s) machine.new) }
 {
-    machine.level = Level::Pairs;
+    machine.top.level = Level::Pairs;
     match kind {
         yaml_token_type_t::YAML_VALUE_TOKEN => {
             await_behind(machine, Await::Value, token);
@@ -163,11 +163,11 @@ pub(crate) fn at_sequence_colon<T: yaml_lent_token_t>(
     ensures { (s : List ℕ) (p : Properties) → Turns (state.colon (site.FlowPair brackets.Sequence side.Value))
         (whole_of (T.mark s) kind (T.extra token.now) (T.from token.now) (T.to token.now)
         (T.text s token.now) (T.other s token.now))
-        (state.pair_end ∷ state.more brackets.Sequence (T.mark s machine.old.opener)
+        (state.pair_end ∷ state.more brackets.Sequence (T.mark s machine.old.top.opener)
         ∷ stack_of (T.mark s) machine.old.below.items) (seen result)
         (around_by (T.mark s) machine.new p) (states_by (T.mark s) machine.new) }
 {
-    machine.level = Level::SequencePair;
+    machine.top.level = Level::SequencePair;
     match kind {
         yaml_token_type_t::YAML_VALUE_TOKEN => {
             await_behind(machine, Await::SequenceValue, token);
@@ -188,11 +188,11 @@ pub(crate) fn at_mapping_colon<T: yaml_lent_token_t>(
     ensures { (s : List ℕ) (p : Properties) → Turns (state.colon (site.FlowPair brackets.Mapping side.Value))
         (whole_of (T.mark s) kind (T.extra token.now) (T.from token.now) (T.to token.now)
         (T.text s token.now) (T.other s token.now))
-        (state.more brackets.Mapping (T.mark s machine.old.opener)
+        (state.more brackets.Mapping (T.mark s machine.old.top.opener)
         ∷ stack_of (T.mark s) machine.old.below.items) (seen result)
         (around_by (T.mark s) machine.new p) (states_by (T.mark s) machine.new) }
 {
-    machine.level = Level::MappingMore;
+    machine.top.level = Level::MappingMore;
     match kind {
         yaml_token_type_t::YAML_VALUE_TOKEN => {
             await_behind(machine, Await::MappingValue, token);
@@ -210,7 +210,7 @@ pub(crate) fn at_sequence_more<T: yaml_lent_token_t>(
     token: &T,
 ) -> Turn
     requires { machine.old.awaited ≡ Nothing }
-    ensures { (s : List ℕ) (p : Properties) → Turns (state.more brackets.Sequence (T.mark s machine.old.opener))
+    ensures { (s : List ℕ) (p : Properties) → Turns (state.more brackets.Sequence (T.mark s machine.old.top.opener))
         (whole_of (T.mark s) kind (T.extra token.now) (T.from token.now) (T.to token.now)
         (T.text s token.now) (T.other s token.now))
         (stack_of (T.mark s) machine.old.below.items) (seen result)
@@ -218,7 +218,7 @@ pub(crate) fn at_sequence_more<T: yaml_lent_token_t>(
 {
     match kind {
         yaml_token_type_t::YAML_FLOW_ENTRY_TOKEN => {
-            machine.level = Level::SequenceItems;
+            machine.top.level = Level::SequenceItems;
             Turn::Silent
         }
         yaml_token_type_t::YAML_FLOW_SEQUENCE_END_TOKEN => {
@@ -237,7 +237,7 @@ pub(crate) fn at_mapping_more<T: yaml_lent_token_t>(
     token: &T,
 ) -> Turn
     requires { machine.old.awaited ≡ Nothing }
-    ensures { (s : List ℕ) (p : Properties) → Turns (state.more brackets.Mapping (T.mark s machine.old.opener))
+    ensures { (s : List ℕ) (p : Properties) → Turns (state.more brackets.Mapping (T.mark s machine.old.top.opener))
         (whole_of (T.mark s) kind (T.extra token.now) (T.from token.now) (T.to token.now)
         (T.text s token.now) (T.other s token.now))
         (stack_of (T.mark s) machine.old.below.items) (seen result)
@@ -245,7 +245,7 @@ pub(crate) fn at_mapping_more<T: yaml_lent_token_t>(
 {
     match kind {
         yaml_token_type_t::YAML_FLOW_ENTRY_TOKEN => {
-            machine.level = Level::MappingItems;
+            machine.top.level = Level::MappingItems;
             Turn::Silent
         }
         yaml_token_type_t::YAML_FLOW_MAPPING_END_TOKEN => {
@@ -267,11 +267,11 @@ pub(crate) fn at_sequence_pair<T: yaml_lent_token_t>(
     ensures { (s : List ℕ) (p : Properties) → Turns state.pair_end
         (whole_of (T.mark s) kind (T.extra token.now) (T.from token.now) (T.to token.now)
         (T.text s token.now) (T.other s token.now))
-        (state.more brackets.Sequence (T.mark s machine.old.opener)
+        (state.more brackets.Sequence (T.mark s machine.old.top.opener)
         ∷ stack_of (T.mark s) machine.old.below.items) (seen result)
         (around_by (T.mark s) machine.new p) (states_by (T.mark s) machine.new) }
 {
-    machine.level = Level::SequenceMore;
+    machine.top.level = Level::SequenceMore;
     Turn::LeftMappingEnd
 }
 
@@ -286,10 +286,10 @@ pub(crate) fn at_mapping_lone<T: yaml_lent_token_t>(
     ensures { (s : List ℕ) (p : Properties) → Turns state.lone
         (whole_of (T.mark s) kind (T.extra token.now) (T.from token.now) (T.to token.now)
         (T.text s token.now) (T.other s token.now))
-        (state.more brackets.Mapping (T.mark s machine.old.opener)
+        (state.more brackets.Mapping (T.mark s machine.old.top.opener)
         ∷ stack_of (T.mark s) machine.old.below.items) (seen result)
         (around_by (T.mark s) machine.new p) (states_by (T.mark s) machine.new) }
 {
-    machine.level = Level::MappingMore;
+    machine.top.level = Level::MappingMore;
     Turn::LeftNothing
 }

@@ -28,7 +28,7 @@ pub(crate) fn at_sequence_items<T: yaml_lent_token_t>(
     kind: yaml_token_type_t,
 ) -> Turn
     requires { machine.old.awaited ≡ Nothing }
-    ensures turns { (s : List ℕ) → Turns (state.items brackets.Sequence (T.mark s machine.old.opener))
+    ensures turns { (s : List ℕ) → Turns (state.items brackets.Sequence (T.mark s machine.old.top.opener))
         (whole_of (T.mark s) kind (T.extra token.old) (T.from token.old) (T.to token.old)
         (T.text s token.old) (T.other s token.old))
         (stack_of (T.mark s) machine.old.below.items) (seen result)
@@ -38,7 +38,7 @@ pub(crate) fn at_sequence_items<T: yaml_lent_token_t>(
 {
     match kind {
         yaml_token_type_t::YAML_KEY_TOKEN => {
-            machine.level = Level::SequenceColon;
+            machine.top.level = Level::SequenceColon;
             await_behind(machine, Await::SequenceKey, token);
             Turn::FlowMapping
         }
@@ -47,7 +47,7 @@ pub(crate) fn at_sequence_items<T: yaml_lent_token_t>(
             Turn::SequenceEnd
         }
         _ => {
-            machine.level = Level::SequenceMore;
+            machine.top.level = Level::SequenceMore;
             node(machine, waiting, token, kind, Wants::Flow)
         }
     }
@@ -62,7 +62,7 @@ pub(crate) fn at_mapping_items<T: yaml_lent_token_t>(
     kind: yaml_token_type_t,
 ) -> Turn
     requires { machine.old.awaited ≡ Nothing }
-    ensures turns { (s : List ℕ) → Turns (state.items brackets.Mapping (T.mark s machine.old.opener))
+    ensures turns { (s : List ℕ) → Turns (state.items brackets.Mapping (T.mark s machine.old.top.opener))
         (whole_of (T.mark s) kind (T.extra token.old) (T.from token.old) (T.to token.old)
         (T.text s token.old) (T.other s token.old))
         (stack_of (T.mark s) machine.old.below.items) (seen result)
@@ -72,7 +72,7 @@ pub(crate) fn at_mapping_items<T: yaml_lent_token_t>(
 {
     match kind {
         yaml_token_type_t::YAML_KEY_TOKEN => {
-            machine.level = Level::MappingColon;
+            machine.top.level = Level::MappingColon;
             await_behind(machine, Await::MappingKey, token);
             Turn::Silent
         }
@@ -81,7 +81,7 @@ pub(crate) fn at_mapping_items<T: yaml_lent_token_t>(
             Turn::MappingEnd
         }
         _ => {
-            machine.level = Level::MappingLone;
+            machine.top.level = Level::MappingLone;
             node(machine, waiting, token, kind, Wants::Flow)
         }
     }
@@ -192,7 +192,7 @@ pub(crate) fn at_optional<T: yaml_lent_token_t>(
     ensures turns { (s : List ℕ) → Turns (state.optional place (T.mark s machine.old.before))
         (whole_of (T.mark s) kind (T.extra token.old) (T.from token.old) (T.to token.old)
         (T.text s token.old) (T.other s token.old))
-        (level_over machine.old.level (T.mark s machine.old.opener)
+        (level_over machine.old.top.level (T.mark s machine.old.top.opener)
         (stack_of (T.mark s) machine.old.below.items)) (seen result)
         (around_of (T.bytes s) (T.mark s) machine.new waiting.new)
         (states_by (T.mark s) machine.new) }

@@ -36,7 +36,7 @@ fn at_level<T: yaml_lent_token_t>(
         (states_by (T.mark s) machine.new) }
     ensures kept { keeps (seen result) ≡ true → token.new ≡ token.old }
 {
-    match machine.level {
+    match machine.top.level {
         Level::Pairs => at_pairs(machine, kind, token),
         Level::Colon => at_colon(machine, kind, token),
         Level::Entries => at_entries(machine, kind, token),

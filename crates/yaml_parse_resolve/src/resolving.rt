@@ -1,6 +1,6 @@
 //! What items come to: tags in full, directives noted, and the events.
 
-ghost use Rattle.std.specs.Prelude.{◌≡◌, ◌++◌, ℕ, List, Option, None, Some, true, false, option_map, OnOk};
+ghost use Rattle.std.specs.Prelude.{◌≡◌, ◌++◌, ℕ, List, [], Option, None, Some, true, false, option_map, OnOk};
 ghost use Rattle.yaml_parse_model.specs.Tokens.{token_of, body_of as token_body};
 ghost use Rattle.yaml_parse_model.specs.Events.{body_of, event_of};
 ghost use Rattle.yaml_parse_model.specs.Events as told;
@@ -10,7 +10,8 @@ ghost use Rattle.yaml_parse_model.specs.declared.yaml_scalar_style_t.TheVariants
 ghost use Rattle.yaml_parse_grammar.specs.Items as item;
 ghost use Rattle.yaml_parse_grammar.specs.Problems.{parser_fault};
 ghost use Rattle.yaml_parse_grammar.specs.Resolve.{Directives as DirectivesSpec, directive_for, default_prefix, or_default, resolved, is_known_version, with_version, with_tag, node_event, gave, settle_body, behind_event};
-ghost use Rattle.yaml_parse_core.specs.Extra.{value_in, style_in, name_in};
+ghost use Rattle.yaml_parse_core.specs.Extra.{value_in, style_in, name_in, encoding_in, major_in, minor_in, handle_in, prefix_in};
+ghost use Rattle.yaml_parse_core.specs.declared.told.Implied.TheVariants as implied;
 ghost use Rattle.yaml_parse_core.specs.Owned.{owned_properties};
 ghost use Rattle.yaml_parse_core.specs.Views.{text_if, tag_if, shape_at, named_item, node_item, told_item, told_body, implied_item};
 ghost use Rattle.yaml_parse_resolve.specs.Settles.{directives_of, Resolves, Names, Notes, Comes, ComesTo};
@@ -26,15 +27,16 @@ use std::alloc::{AllocError, Global};
 use yaml_parse_core::{Implied, Shape, Told, Waiting};
 use yaml_parse_grammar::{ParseFault, ParseProblem};
 use yaml_parse_model::{
-    copy_directives, mark_again, moved, yaml_event_body_t, yaml_event_t, yaml_fault_t,
-    yaml_mapping_style_t, yaml_mark_t, yaml_memory_fault, yaml_origin_t, yaml_sequence_style_t,
-    yaml_token_body_t, yaml_token_t, yaml_version_directive_t,
+    copy_directives, mark_again, moved, yaml_encoding_t, yaml_event_body_t, yaml_event_t, yaml_fault_t,
+    yaml_mapping_style_t, yaml_mark_t, yaml_memory_fault, yaml_origin_t, yaml_scalar_style_t,
+    yaml_sequence_style_t, yaml_token_body_t, yaml_token_t, yaml_version_directive_t,
 };
 use yaml_scan_model::{SHORT, put_short};
 
 /// The directives of a document.
 #[derive(Drop)]
 pub struct Directives {
+    pub alloc: Global,
     pub version: Option<yaml_version_directive_t>,
     pub tags: TagDirectives,
 }
@@ -228,7 +230,6 @@ fn note_version(
 
 // A `%TAG` directive, whose texts are moved.
 fn note_tag(
-    alloc: Global,
     directives: &mut Directives,
     handle: &mut Vec<u8>,
     prefix: &mut Vec<u8>,
@@ -244,7 +245,7 @@ fn note_tag(
             refuse(ParseProblem::DuplicateHandle, at, at, fault);
             Settled::Refused
         }
-        None => match directives.tags.push(alloc, moved(handle), moved(prefix)) {
+        None => match directives.tags.push(directives.alloc, moved(handle), moved(prefix)) {
             Ok(()) => Settled::Noted,
             Err(_) => {
                 lack_memory(fault);
@@ -255,6 +256,8 @@ fn note_tag(
 }
 
 // A document ends: nothing carries over to the next one.
+// Out of line: it is met once a document.
+#[inline(never)]
 fn end_document(directives: &mut Directives, implicit: bool, event: &mut yaml_event_body_t)
     ensures body { body_of event.new ≡ told.document_end implicit }
     ensures directives { directives_of directives.new ≡ behind_event (told.document_end implicit)
@@ -266,8 +269,9 @@ fn end_document(directives: &mut Directives, implicit: bool, event: &mut yaml_ev
 }
 
 // A document starts, with the directives before it.
+// Out of line: it is met once a document.
+#[inline(never)]
 fn start_document(
-    alloc: Global,
     directives: &Directives,
     implicit: bool,
     event: &mut yaml_event_body_t,
@@ -277,7 +281,7 @@ fn start_document(
         (directives_of directives.now)) result (body_of event.new) (fault_of fault.new)
         (directives_of directives.now) }
 {
-    match copy_directives(alloc, directives.tags.as_slice()) {
+    match copy_directives(directives.alloc, directives.tags.as_slice()) {
         Ok(tag_directives) => {
             let start = yaml_event_body_t::DocumentStart {
                 version_directive: directives.version,
@@ -393,6 +397,71 @@ pub fn tell_node(
     }
 }
 
+// The scalar of a token that is taken, behind properties.
+// Inlined: the token's kind is known.
+#[inline(always)]
+fn tell_named_scalar(
+    waiting: &mut Waiting<Vec<u8>, yaml_mark_t>,
+    token: &mut yaml_token_body_t,
+    event: &mut yaml_event_body_t,
+)
+    ensures { body_of event.new ≡ node_event (text_if waiting.old.has_anchor
+        waiting.old.anchor.items) (text_if waiting.old.has_tag waiting.old.handle.items)
+        (item.scalar (value_in (token_body token.old)) (style_in (token_body token.old))) }
+{
+    match token {
+        yaml_token_body_t::Scalar { value, style } => named(waiting, value, *style, event),
+        _ => tell_no_named_scalar(waiting, event),
+    }
+}
+
+// Where the token is no scalar: the machine says that it is one.
+#[cold]
+#[inline(never)]
+fn tell_no_named_scalar(waiting: &mut Waiting<Vec<u8>, yaml_mark_t>, event: &mut yaml_event_body_t)
+    ensures { body_of event.new ≡ node_event (text_if waiting.old.has_anchor
+        waiting.old.anchor.items) (text_if waiting.old.has_tag waiting.old.handle.items)
+        (item.scalar [] YAML_ANY_SCALAR_STYLE) }
+{
+    let mut nothing = Vec::new(*waiting.anchor.allocator());
+    named(
+        waiting,
+        &mut nothing,
+        yaml_scalar_style_t::YAML_ANY_SCALAR_STYLE,
+        event,
+    );
+}
+
+// A sequence begins behind properties.
+fn tell_named_sequence(
+    waiting: &mut Waiting<Vec<u8>, yaml_mark_t>,
+    token: &mut yaml_token_body_t,
+    style: yaml_sequence_style_t,
+    event: &mut yaml_event_body_t,
+)
+    ensures { body_of event.new ≡ node_event (text_if waiting.old.has_anchor
+        waiting.old.anchor.items) (text_if waiting.old.has_tag waiting.old.handle.items)
+        (item.sequence style) }
+{
+    vacate(event, token);
+    start_named_sequence(waiting, style, event);
+}
+
+// A mapping begins behind properties.
+fn tell_named_mapping(
+    waiting: &mut Waiting<Vec<u8>, yaml_mark_t>,
+    token: &mut yaml_token_body_t,
+    style: yaml_mapping_style_t,
+    event: &mut yaml_event_body_t,
+)
+    ensures { body_of event.new ≡ node_event (text_if waiting.old.has_anchor
+        waiting.old.anchor.items) (text_if waiting.old.has_tag waiting.old.handle.items)
+        (item.mapping style) }
+{
+    vacate(event, token);
+    start_named_mapping(waiting, style, event);
+}
+
 // The event of a node behind properties. Its tag stands in full in the place of its handle.
 // Inlined into its one caller.
 #[inline(always)]
@@ -401,28 +470,37 @@ fn tell_named(
     waiting: &mut Waiting<Vec<u8>, yaml_mark_t>,
     token: &mut yaml_token_body_t,
     event: &mut yaml_event_body_t,
-) {
+)
+    ensures { body_of event.new ≡ node_event (text_if waiting.old.has_anchor
+        waiting.old.anchor.items) (text_if waiting.old.has_tag waiting.old.handle.items)
+        (shape_at shape (token_body token.old)) }
+{
     match shape {
-        Shape::Scalar => match token {
-            yaml_token_body_t::Scalar { value, style } => named(waiting, value, *style, event),
-            _ => tell_no_scalar(event),
-        },
-        Shape::BlockSequence => {
-            vacate(event, token);
-            start_named_sequence(waiting, yaml_sequence_style_t::YAML_BLOCK_SEQUENCE_STYLE, event);
-        }
-        Shape::BlockMapping => {
-            vacate(event, token);
-            start_named_mapping(waiting, yaml_mapping_style_t::YAML_BLOCK_MAPPING_STYLE, event);
-        }
-        Shape::FlowSequence => {
-            vacate(event, token);
-            start_named_sequence(waiting, yaml_sequence_style_t::YAML_FLOW_SEQUENCE_STYLE, event);
-        }
-        Shape::FlowMapping => {
-            vacate(event, token);
-            start_named_mapping(waiting, yaml_mapping_style_t::YAML_FLOW_MAPPING_STYLE, event);
-        }
+        Shape::Scalar => tell_named_scalar(waiting, token, event),
+        Shape::BlockSequence => tell_named_sequence(
+            waiting,
+            token,
+            yaml_sequence_style_t::YAML_BLOCK_SEQUENCE_STYLE,
+            event,
+        ),
+        Shape::BlockMapping => tell_named_mapping(
+            waiting,
+            token,
+            yaml_mapping_style_t::YAML_BLOCK_MAPPING_STYLE,
+            event,
+        ),
+        Shape::FlowSequence => tell_named_sequence(
+            waiting,
+            token,
+            yaml_sequence_style_t::YAML_FLOW_SEQUENCE_STYLE,
+            event,
+        ),
+        Shape::FlowMapping => tell_named_mapping(
+            waiting,
+            token,
+            yaml_mapping_style_t::YAML_FLOW_MAPPING_STYLE,
+            event,
+        ),
     }
 }
 
@@ -436,152 +514,257 @@ pub fn settle_named(
     token: &mut yaml_token_t,
     event: &mut yaml_event_t,
     fault: &mut yaml_fault_t,
-) -> Settled {
+) -> Settled
+    ensures { (ds : DirectivesSpec) → ds.tags ≡ tags.now → ComesTo (named_item shape
+        (owned_properties waiting.old) (token_of token.old)) ds result (event_of event.new)
+        (fault_of fault.new) ds }
+{
     event.start_mark = mark_again(&waiting.from);
     event.end_mark = mark_again(&token.end_mark);
-    if !resolve_if(tags, waiting, fault) {
-        return Settled::Refused;
+    if resolve_if(tags, waiting, fault) {
+        tell_named(shape, waiting, &mut token.body, &mut event.body);
+        Settled::Event
+    } else {
+        Settled::Refused
     }
-    tell_named(shape, waiting, &mut token.body, &mut event.body);
-    Settled::Event
 }
 
-/// The event of what stands in front of a token that stays, which starts there, or a fault: its tag's handle stands for nothing.
-// Out of line: few do.
-#[inline(never)]
-pub fn settle_implied(
-    alloc: Global,
-    directives: &mut Directives,
-    implied: Implied,
-    before: &yaml_mark_t,
-    start: &yaml_mark_t,
+// A node that is nothing but its properties.
+fn settle_alone(
+    tags: &TagDirectives,
     waiting: &mut Waiting<Vec<u8>, yaml_mark_t>,
     event: &mut yaml_event_t,
     fault: &mut yaml_fault_t,
-) -> Settled {
-    event.start_mark = mark_again(start);
-    event.end_mark = mark_again(start);
-    match implied {
-        Implied::Nothing => empty(alloc, waiting, false, false, &mut event.body),
-        Implied::NothingBefore => {
-            event.start_mark = mark_again(before);
-            event.end_mark = mark_again(before);
-            empty(alloc, waiting, false, false, &mut event.body);
-        }
-        Implied::Properties => {
-            event.start_mark = waiting.from;
-            event.end_mark = waiting.to;
-            if !resolve_if(&directives.tags, waiting, fault) {
-                return Settled::Refused;
-            }
-            let has_anchor = waiting.has_anchor;
-            let has_tag = waiting.has_tag;
-            empty(alloc, waiting, has_anchor, has_tag, &mut event.body);
-        }
-        Implied::SequenceEnd => put(&mut event.body, yaml_event_body_t::SequenceEnd),
-        Implied::MappingEnd => put(&mut event.body, yaml_event_body_t::MappingEnd),
-        Implied::DocumentEnd => end_document(directives, true, &mut event.body),
+) -> Settled
+    ensures { (ds : DirectivesSpec) (b start : yaml_mark_t) → ds.tags ≡ tags.now
+        → ComesTo (implied_item implied.Properties (owned_properties waiting.old) b start) ds result
+        (event_of event.new) (fault_of fault.new) ds }
+{
+    event.start_mark = mark_again(&waiting.from);
+    event.end_mark = mark_again(&waiting.to);
+    if resolve_if(tags, waiting, fault) {
+        let has_anchor = waiting.has_anchor;
+        let has_tag = waiting.has_tag;
+        empty(waiting, has_anchor, has_tag, &mut event.body);
+        Settled::Event
+    } else {
+        Settled::Refused
     }
-    Settled::Event
 }
 
-/// A document begins in front of a token.
+/// The event of what stands in front of a token that stays, at that place, or a fault: its tag's handle stands for nothing.
+// Out of line: few do.
+#[inline(never)]
+pub fn settle_implied(
+    directives: &mut Directives,
+    implied: Implied,
+    at: &yaml_mark_t,
+    waiting: &mut Waiting<Vec<u8>, yaml_mark_t>,
+    event: &mut yaml_event_t,
+    fault: &mut yaml_fault_t,
+) -> Settled
+    ensures { ComesTo (implied_item implied (owned_properties waiting.old) at.now at.now)
+        (directives_of directives.old) result (event_of event.new) (fault_of fault.new)
+        (directives_of directives.new) }
+{
+    event.start_mark = mark_again(at);
+    event.end_mark = mark_again(at);
+    match implied {
+        Implied::Nothing => {
+            empty(waiting, false, false, &mut event.body);
+            Settled::Event
+        }
+        Implied::NothingBefore => {
+            empty(waiting, false, false, &mut event.body);
+            Settled::Event
+        }
+        Implied::Properties => settle_alone(&directives.tags, waiting, event, fault),
+        Implied::SequenceEnd => {
+            put(&mut event.body, yaml_event_body_t::SequenceEnd);
+            Settled::Event
+        }
+        Implied::MappingEnd => {
+            put(&mut event.body, yaml_event_body_t::MappingEnd);
+            Settled::Event
+        }
+        Implied::DocumentEnd => {
+            end_document(directives, true, &mut event.body);
+            Settled::Event
+        }
+    }
+}
+
+/// A document begins in front of a token, which begins there.
+// Out of line: it is met once a document.
 #[inline(never)]
 pub fn settle_opened(
-    alloc: Global,
     directives: &Directives,
     start: &yaml_mark_t,
     event: &mut yaml_event_t,
     fault: &mut yaml_fault_t,
-) -> Settled {
+) -> Settled
+    ensures { ComesTo (item.item_at (item.document true) start.now start.now)
+        (directives_of directives.now) result (event_of event.new) (fault_of fault.new)
+        (directives_of directives.now) }
+{
     event.start_mark = mark_again(start);
     event.end_mark = mark_again(start);
-    start_document(alloc, directives, true, &mut event.body, fault)
+    start_document(directives, true, &mut event.body, fault)
 }
 
-// What a token tells that is met once a document or more rarely.
-// Out of line: others are more.
+// A stream's start.
 #[inline(never)]
-fn settle_rare(
-    alloc: Global,
+fn start_stream(token: &yaml_token_body_t, event: &mut yaml_event_body_t)
+    ensures { body_of event.new ≡ told.stream_start (encoding_in (token_body token.now)) }
+{
+    let encoding = match *token {
+        yaml_token_body_t::StreamStart { encoding } => encoding,
+        _ => yaml_encoding_t::YAML_ANY_ENCODING,
+    };
+    put(event, yaml_event_body_t::StreamStart { encoding });
+}
+
+// The version of a `%YAML` directive.
+#[inline(never)]
+fn tell_version(
     directives: &mut Directives,
-    told: Told,
-    token: &mut yaml_token_t,
-    event: &mut yaml_event_t,
+    token: &yaml_token_t,
     fault: &mut yaml_fault_t,
-) -> Settled {
-    match told {
-        Told::StreamStart => {
-            match token.body {
-                yaml_token_body_t::StreamStart { encoding } => {
-                    put(&mut event.body, yaml_event_body_t::StreamStart { encoding });
-                }
-                _ => {}
-            }
-            Settled::Event
+) -> Settled
+    ensures { Notes (with_version directives.old.version directives.old.tags
+        (major_in (token_of token.now).body) (minor_in (token_of token.now).body)
+        token.now.start_mark) result (fault_of fault.new) (directives_of directives.new) }
+{
+    match token.body {
+        yaml_token_body_t::VersionDirective { major, minor } => {
+            note_version(directives, major, minor, token.start_mark, fault)
         }
-        Told::DocumentStart => {
-            start_document(alloc, directives, false, &mut event.body, fault)
-        }
-        Told::DocumentEnd => {
-            end_document(directives, false, &mut event.body);
-            Settled::Event
-        }
-        Told::VersionDirective => match token.body {
-            yaml_token_body_t::VersionDirective { major, minor } => {
-                note_version(directives, major, minor, token.start_mark, fault)
-            }
-            _ => Settled::Noted,
-        },
-        Told::TagDirective => match &mut token.body {
-            yaml_token_body_t::TagDirective { handle, prefix } => {
-                note_tag(alloc, directives, handle, prefix, token.start_mark, fault)
-            }
-            _ => Settled::Noted,
-        },
-        _ => {
-            put(&mut event.body, yaml_event_body_t::StreamEnd);
-            Settled::Event
-        }
+        _ => note_version(directives, 0, 0, token.start_mark, fault),
     }
+}
+
+// The texts of a `%TAG` directive.
+#[inline(never)]
+fn tell_tag(
+    directives: &mut Directives,
+    token: &mut yaml_token_t,
+    fault: &mut yaml_fault_t,
+) -> Settled
+    ensures { Notes (with_tag (directive_for (handle_in (token_of token.old).body)
+        directives.old.tags) (directives_of directives.old) (handle_in (token_of token.old).body)
+        (prefix_in (token_of token.old).body) token.old.start_mark) result (fault_of fault.new)
+        (directives_of directives.new) }
+{
+    let at = token.start_mark;
+    match &mut token.body {
+        yaml_token_body_t::TagDirective { handle, prefix } => {
+            note_tag(directives, handle, prefix, at, fault)
+        }
+        _ => note_no_tag(directives, at, fault),
+    }
+}
+
+// Where the token is no directive: the machine says that it is one.
+#[cold]
+#[inline(never)]
+fn note_no_tag(directives: &mut Directives, at: yaml_mark_t, fault: &mut yaml_fault_t) -> Settled
+    ensures { Notes (with_tag (directive_for [] directives.old.tags) (directives_of directives.old)
+        [] [] at) result (fault_of fault.new) (directives_of directives.new) }
+{
+    let mut handle = Vec::new(directives.alloc);
+    let mut prefix = Vec::new(directives.alloc);
+    note_tag(directives, &mut handle, &mut prefix, at, fault)
+}
+
+// An alias. The room of a text that the slot has from an earlier event is left in the token.
+// Inlined: the token's kind is known.
+#[inline(always)]
+fn tell_alias(alloc: Global, token: &mut yaml_token_body_t, event: &mut yaml_event_body_t)
+    ensures { body_of event.new ≡ told.alias (name_in (token_body token.old)) }
+{
+    match token {
+        yaml_token_body_t::Alias { value } => put_alias(event, value),
+        _ => tell_no_alias(alloc, event),
+    }
+}
+
+// Where the token is no alias: the machine says that it is one.
+#[cold]
+#[inline(never)]
+fn tell_no_alias(alloc: Global, event: &mut yaml_event_body_t)
+    ensures { body_of event.new ≡ told.alias [] }
+{
+    let mut nothing = Vec::new(alloc);
+    put_alias(event, &mut nothing);
+}
+
+// A sequence ends.
+// Inlined: mostly the slot holds no text.
+#[inline(always)]
+fn tell_sequence_end(token: &mut yaml_token_body_t, event: &mut yaml_event_body_t)
+    ensures { body_of event.new ≡ told.sequence_end }
+{
+    vacate(event, token);
+    end_sequence(event);
+}
+
+// A mapping ends.
+// Inlined: mostly the slot holds no text.
+#[inline(always)]
+fn tell_mapping_end(token: &mut yaml_token_body_t, event: &mut yaml_event_body_t)
+    ensures { body_of event.new ≡ told.mapping_end }
+{
+    vacate(event, token);
+    end_mapping(event);
 }
 
 /// What a token tells but nodes: the event, or nothing for a directive, or a fault.
 // Inlined into its one caller, the parser's step.
 #[inline(always)]
 pub fn settle_told(
-    alloc: Global,
     directives: &mut Directives,
     told: Told,
     opener: &yaml_mark_t,
     token: &mut yaml_token_t,
     event: &mut yaml_event_t,
     fault: &mut yaml_fault_t,
-) -> Settled {
+) -> Settled
+    ensures { ComesTo (told_item told opener.now (token_of token.old)) (directives_of directives.old)
+        result (event_of event.new) (fault_of fault.new) (directives_of directives.new) }
+{
     event.start_mark = mark_again(&token.start_mark);
     event.end_mark = mark_again(&token.end_mark);
     match told {
         Told::SequenceEnd => {
-            vacate(&mut event.body, &mut token.body);
-            end_sequence(&mut event.body);
+            tell_sequence_end(&mut token.body, &mut event.body);
             Settled::Event
         }
         Told::MappingEnd => {
-            vacate(&mut event.body, &mut token.body);
-            end_mapping(&mut event.body);
+            tell_mapping_end(&mut token.body, &mut event.body);
             Settled::Event
         }
         Told::Alias => {
-            match &mut token.body {
-                yaml_token_body_t::Alias { value } => put_alias(&mut event.body, value),
-                _ => tell_no_scalar(&mut event.body),
-            }
+            tell_alias(directives.alloc, &mut token.body, &mut event.body);
             Settled::Event
         }
+        Told::StreamStart => {
+            start_stream(&token.body, &mut event.body);
+            Settled::Event
+        }
+        Told::StreamEnd => {
+            put(&mut event.body, yaml_event_body_t::StreamEnd);
+            Settled::Event
+        }
+        Told::VersionDirective => tell_version(directives, token, fault),
+        Told::TagDirective => tell_tag(directives, token, fault),
+        Told::DocumentStart => start_document(directives, false, &mut event.body, fault),
         Told::DocumentDeclared => {
             event.start_mark = mark_again(opener);
-            start_document(alloc, directives, false, &mut event.body, fault)
+            start_document(directives, false, &mut event.body, fault)
         }
-        _ => settle_rare(alloc, directives, told, token, event, fault),
+        Told::DocumentEnd => {
+            end_document(directives, false, &mut event.body);
+            Settled::Event
+        }
     }
 }

@@ -1,16 +1,16 @@
 //! Scalars in a slot of events. Where it holds one already, that is changed in place: to put a new one there, the old one is taken
 //! apart, asked what it owns, and set to zero.
 
-ghost use Rattle.std.specs.Prelude.{◌≡◌, true, false};
+ghost use Rattle.std.specs.Prelude.{◌≡◌, None, Some, codes};
+ghost use Rattle.std.specs.Str.{bytes_eq};
 ghost use Rattle.yaml_parse_model.specs.Events.{body_of};
 ghost use Rattle.yaml_parse_model.specs.Events as told;
 ghost use Rattle.yaml_parse_grammar.specs.Items as item;
-ghost use Rattle.yaml_parse_grammar.specs.Resolve.{is_plain as is_plain_style, node_event, scalar_event};
+ghost use Rattle.yaml_parse_grammar.specs.Resolve.{is_plain as is_plain_style, node_event};
 ghost use Rattle.yaml_parse_core.specs.Views.{text_if};
 
 use crate::room::{exchange, exchanged, give_back, is_bare, moved_if, put_bare};
 use std::mem;
-use std::alloc::Global;
 use yaml_parse_core::Waiting;
 use yaml_parse_model::{moved, yaml_event_body_t, yaml_mark_t, yaml_scalar_style_t};
 
@@ -239,7 +239,6 @@ pub(crate) fn named(
 
 /// An empty node behind those properties. Its tag stands in full in the place of its handle.
 pub(crate) fn empty(
-    alloc: Global,
     waiting: &mut Waiting<Vec<u8>, yaml_mark_t>,
     has_anchor: bool,
     has_tag: bool,
@@ -253,6 +252,6 @@ pub(crate) fn empty(
         quoted: false,
         style: yaml_scalar_style_t::YAML_PLAIN_SCALAR_STYLE,
     };
-    let mut nothing = Vec::new(alloc);
+    let mut nothing = Vec::new(*waiting.anchor.allocator());
     put_scalar(waiting, has_anchor, has_tag, &mut nothing, form, event);
 }

@@ -16,7 +16,6 @@ ghost use Rattle.yaml_parse_step.specs.Steps.{HasFront, Steps, Turns, Moves, IsU
 ghost use Rattle.yaml_parse_step.specs.Stepped.{stepped};
 ghost use Rattle.yaml_parse_step.specs.Turned.{turned};
 
-use std::alloc::Global;
 use yaml_parse_core::{Implied, Machine, Shape, Told, Turn, Waiting, finish, is_over, turn_owned};
 use yaml_parse_grammar::ParseProblem;
 use yaml_parse_model::{yaml_event_t, yaml_token_source_t};
@@ -36,10 +35,9 @@ pub enum Step {
     Done,
 }
 
-/// What the steps hand on in place, since moving it costs more than what they do, and what they ask for memory.
+/// What the steps hand on in place, since moving it costs more than what they do.
 #[derive(Drop)]
 pub struct StepBuffers {
-    pub alloc: Global,
     /// The token that was asked for last.
     pub token: yaml_token_t,
     /// It is still to be taken.
@@ -152,15 +150,29 @@ fn tell_other(
 ) -> Step {
     buffers.is_held = false;
     let came = settle_told(
-        buffers.alloc,
         directives,
         told,
-        &machine.opener,
+        &machine.top.opener,
         &mut buffers.token,
         event,
         fault,
     );
     settled(machine, came)
+}
+
+// Where it stands: where the indicator before it ends, or the token begins.
+fn place(implied: Implied, before: yaml_mark_t, start: yaml_mark_t) -> yaml_mark_t
+    ensures { (p : Properties) → implied_item implied p result result
+        ≡ implied_item implied p before start }
+{
+    match implied {
+        Implied::NothingBefore => before,
+        Implied::Nothing => start,
+        Implied::Properties => start,
+        Implied::SequenceEnd => start,
+        Implied::MappingEnd => start,
+        Implied::DocumentEnd => start,
+    }
 }
 
 // What stands in front of the token, which stays.
@@ -175,12 +187,11 @@ fn leave(
     fault: &mut yaml_fault_t,
 ) -> Step {
     buffers.is_held = true;
+    let at = place(implied, machine.before, buffers.token.start_mark);
     let came = settle_implied(
-        buffers.alloc,
         directives,
         implied,
-        &machine.before,
-        &buffers.token.start_mark,
+        &at,
         &mut buffers.waiting,
         event,
         fault,
@@ -199,7 +210,7 @@ fn refused(
     fault: &mut yaml_fault_t,
 ) -> Step {
     let at = buffers.token.start_mark;
-    refuse(problem, at, context(problem, machine.opener, at), fault);
+    refuse(problem, at, context(problem, machine.top.opener, at), fault);
     finish(machine);
     Step::Refused
 }
@@ -250,7 +261,6 @@ fn moving(
         Turn::Opened => {
             buffers.is_held = true;
             let came = settle_opened(
-                buffers.alloc,
                 directives,
                 &buffers.token.start_mark,
                 event,

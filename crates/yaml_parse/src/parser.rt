@@ -27,7 +27,7 @@ use std::marker::Model;
 use yaml_parse_model::{
     yaml_event_body_t, yaml_event_t, yaml_parser_t_prefix, yaml_token_source_t,
 };
-use yaml_parse_core::{Machine, none_waiting, finish, fresh, is_between};
+use yaml_parse_core::{finish, fresh, is_between, none_waiting};
 use yaml_parse_resolve::{Directives, TagDirectives};
 use yaml_parse_step::{Step, StepBuffers, take_turn, yaml_found_t};
 use yaml_scan_model::{yaml_fault_t, yaml_mark_t, yaml_memory_fault, yaml_origin_t, yaml_token_t};
@@ -35,13 +35,9 @@ use yaml_scan_model::{yaml_fault_t, yaml_mark_t, yaml_memory_fault, yaml_origin_
 /// A parser of the tokens of a source.
 #[derive(Drop)]
 pub struct yaml_parser_t<S: yaml_token_source_t> {
-    source: S,
-    // The token at the front, and the properties that wait for their node.
+    // What may come, the token at the front, and the directives of the document. In front: calls out of line take the address.
     buffers: StepBuffers,
-    // What may come.
-    machine: Machine<yaml_mark_t>,
-    // Of the document that is open or begins.
-    directives: Directives,
+    source: S,
     // The fault that was answered.
     prefix: yaml_parser_t_prefix,
 }
@@ -49,21 +45,20 @@ pub struct yaml_parser_t<S: yaml_token_source_t> {
 impl<S: yaml_token_source_t> Model for yaml_parser_t<S> {
     ghost use Rattle.yaml_parse_model.specs.Prefix.{prefix_of};
     ghost use Rattle.yaml_parse_step.specs.parse_grammar.Remaining.{ParserRemaining, parser_remaining};
-    ghost use Rattle.yaml_parse_core.specs.Owned.{owned_states};
     ghost use Rattle.yaml_parse_resolve.specs.Settles.{directives_of};
-    ghost use Rattle.yaml_parse_step.specs.Steps.{peeked_of};
+    ghost use Rattle.yaml_parse_step.specs.Steps.{peeked_of, states_in};
 
     ghost Value = { ParserRemaining };
 
     ghost view = { λ p. parser_remaining (peeked_of p.buffers) (S.to_come p.source)
-        (S.fault_to_come p.source) (owned_states p.machine p.buffers.waiting) (directives_of p.directives)
+        (S.fault_to_come p.source) (states_in p.buffers) (directives_of p.buffers.directives)
         (prefix_of p.prefix) };
 
     ghost use Rattle.yaml_parse_step.specs.parse_grammar.Texts.{IsUtf8Held};
     ghost use Rattle.yaml_parse_step.specs.parse_grammar.Stacks.{IsStack};
 
-    ghost invariant = { λ p. IsUtf8Held (peeked_of p.buffers) (owned_states p.machine p.buffers.waiting)
-        (directives_of p.directives) × IsStack (owned_states p.machine p.buffers.waiting) };
+    ghost invariant = { λ p. IsUtf8Held (peeked_of p.buffers) (states_in p.buffers)
+        (directives_of p.buffers.directives) × IsStack (states_in p.buffers) };
 }
 
 impl<S: yaml_token_source_t> yaml_parser_t<S> {
@@ -80,8 +75,6 @@ impl<S: yaml_token_source_t> yaml_parser_t<S> {
         take_turn(
             &mut self.source,
             &mut self.buffers,
-            &mut self.machine,
-            &mut self.directives,
             event,
             fault,
         )
@@ -94,7 +87,7 @@ impl<S: yaml_token_source_t> yaml_parser_t<S> {
         // Between documents, whole ones are to come, and a front of one.
         ensures { self.now.between ≡ true → AreLoadsByContent self.now }
     {
-        self.directives.alloc
+        self.buffers.directives.alloc
     }
 
     /// Nothing more is to come, and that fault was answered.
@@ -104,7 +97,7 @@ impl<S: yaml_token_source_t> yaml_parser_t<S> {
         ensures unasked { self.new.unasked ≡ self.old.unasked }
         ensures held { self.new.held ≤ 1 }
     {
-        finish(&mut self.machine);
+        finish(&mut self.buffers.machine);
         self.prefix = yaml_parser_t_prefix::of(fault);
     }
 }
@@ -146,18 +139,18 @@ pub fn yaml_parser_initialize<S: yaml_token_source_t>(
 {
     let waiting = none_waiting(alloc);
     Ok(yaml_parser_t {
-        source,
-        machine: fresh(alloc, waiting.from),
         buffers: StepBuffers {
+            machine: fresh(alloc, waiting.from),
             token: yaml_token_t::empty(),
             is_held: false,
             waiting,
+            directives: Directives {
+                alloc,
+                version: None,
+                tags: TagDirectives::new(alloc),
+            },
         },
-        directives: Directives {
-            alloc,
-            version: None,
-            tags: TagDirectives::new(alloc),
-        },
+        source,
         prefix: yaml_parser_t_prefix::quiet(),
     })
 }
@@ -259,7 +252,7 @@ pub fn yaml_parser_parse<S: yaml_token_source_t>(
 pub fn yaml_parser_between<S: yaml_token_source_t>(parser: &yaml_parser_t<S>) -> bool
     ensures { result ≡ parser.now.between }
 {
-    is_between(&parser.machine)
+    is_between(&parser.buffers.machine)
 }
 
 /// The fault that was answered; before one its kind is `YAML_NO_ERROR`.

@@ -249,17 +249,6 @@ fn fill(place: &mut Option<Vec<u8>>, text: &mut Vec<u8>)
 pub(crate) fn give_back(place: &mut Option<Vec<u8>>, text: &mut Vec<u8>)
     ensures { place.new ≡ None }
 {
-    if place.is_some() {
-        take_back(place, text);
-    }
-}
-
-// The same, of a text that is there.
-// Out of line: few scalars have properties.
-#[inline(never)]
-fn take_back(place: &mut Option<Vec<u8>>, text: &mut Vec<u8>)
-    ensures { place.new ≡ None }
-{
     match place.take() {
         None => {}
         Some(last) => {

@@ -127,23 +127,28 @@ fn new_bare(value: &mut Vec<u8>, style: yaml_scalar_style_t, event: &mut yaml_ev
     put_bare(event, bare_of(text, style));
 }
 
-// A scalar without properties, where the slot holds no scalar.
+// A scalar without properties, where the slot holds no such one.
 // Out of line: mostly it holds one.
 #[inline(never)]
-fn other_bare(value: &mut Vec<u8>, style: yaml_scalar_style_t, event: &mut yaml_event_body_t)
+fn other_bare(
+    waiting: &mut Waiting<Vec<u8>, yaml_mark_t>,
+    value: &mut Vec<u8>,
+    style: yaml_scalar_style_t,
+    event: &mut yaml_event_body_t,
+)
     ensures { body_of event.new ≡ node_event None None (item.scalar value.old.items style) }
 {
     if is_bare(event) {
         put_bare(event, bare_of(moved(value), style));
     } else {
-        new_bare(value, style, event);
+        bare_over(waiting, value, style, event);
     }
 }
 
-/// A scalar without properties. The texts of an earlier scalar are left in place of the new one, and in the room of properties.
-// Inlined: some loads and stores.
-#[inline(always)]
-pub(crate) fn bare(
+// The same, where it holds a text.
+// Out of line: mostly it holds none.
+#[inline(never)]
+fn bare_over(
     waiting: &mut Waiting<Vec<u8>, yaml_mark_t>,
     value: &mut Vec<u8>,
     style: yaml_scalar_style_t,
@@ -167,7 +172,36 @@ pub(crate) fn bare(
             *quoted = !is_plain(style);
             *last_style = style;
         }
-        _ => other_bare(value, style, event),
+        _ => new_bare(value, style, event),
+    }
+}
+
+/// A scalar without properties. The texts of an earlier scalar are left in place of the new one, and in the room of properties.
+// Inlined: some loads and stores.
+#[inline(always)]
+pub(crate) fn bare(
+    waiting: &mut Waiting<Vec<u8>, yaml_mark_t>,
+    value: &mut Vec<u8>,
+    style: yaml_scalar_style_t,
+    event: &mut yaml_event_body_t,
+)
+    ensures { body_of event.new ≡ node_event None None (item.scalar value.old.items style) }
+{
+    match *event {
+        yaml_event_body_t::Scalar {
+            anchor: None,
+            tag: None,
+            value: ref mut last,
+            plain_implicit: ref mut plain,
+            quoted_implicit: ref mut quoted,
+            style: ref mut last_style,
+        } => {
+            mem::swap(last, value);
+            *plain = is_plain(style);
+            *quoted = !is_plain(style);
+            *last_style = style;
+        }
+        _ => other_bare(waiting, value, style, event),
     }
 }
 

@@ -35,15 +35,20 @@ pub enum Step {
     Done,
 }
 
-/// What the steps hand on in place, since moving it costs more than what they do.
+/// What the steps hand on in place, since moving it costs more than what they do. One struct, whose address is the only one that
+/// calls out of line take: each other one would be put aside in front of the loop over turns, for each event.
 #[derive(Drop)]
 pub struct StepBuffers {
+    /// What may come.
+    pub machine: Machine<yaml_mark_t>,
     /// The token that was asked for last.
     pub token: yaml_token_t,
     /// It is still to be taken.
     pub is_held: bool,
     /// The properties that wait for their node.
     pub waiting: Waiting<Vec<u8>, yaml_mark_t>,
+    /// Of the document that is open or begins.
+    pub directives: Directives,
 }
 
 // The source's next token, where none was asked for before, or else its fault.
@@ -96,12 +101,12 @@ fn context(problem: ParseProblem, opener: yaml_mark_t, at: yaml_mark_t) -> yaml_
 // What an item came to, behind a refusal of which nothing is left.
 // Inlined: it is known.
 #[inline(always)]
-fn settled(machine: &mut Machine<yaml_mark_t>, settled: Settled) -> Step {
+fn settled(buffers: &mut StepBuffers, settled: Settled) -> Step {
     match settled {
         Settled::Event => Step::Given,
         Settled::Noted => Step::Silent,
         Settled::Refused => {
-            finish(machine);
+            finish(&mut buffers.machine);
             Step::Refused
         }
     }
@@ -120,44 +125,53 @@ fn tell(shape: Shape, buffers: &mut StepBuffers, event: &mut yaml_event_t) -> St
 #[inline(never)]
 fn tell_named(
     shape: Shape,
-    machine: &mut Machine<yaml_mark_t>,
     buffers: &mut StepBuffers,
-    directives: &mut Directives,
     event: &mut yaml_event_t,
     fault: &mut yaml_fault_t,
 ) -> Step {
     buffers.is_held = false;
     let came = settle_named(
-        &directives.tags,
+        &buffers.directives.tags,
         shape,
         &mut buffers.waiting,
         &mut buffers.token,
         event,
         fault,
     );
-    settled(machine, came)
+    settled(buffers, came)
 }
 
 // What a token tells but nodes.
+// Inlined into its two callers.
 #[inline(always)]
 fn tell_other(
     told: Told,
-    machine: &mut Machine<yaml_mark_t>,
     buffers: &mut StepBuffers,
-    directives: &mut Directives,
     event: &mut yaml_event_t,
     fault: &mut yaml_fault_t,
 ) -> Step {
     buffers.is_held = false;
     let came = settle_told(
-        directives,
+        &mut buffers.directives,
         told,
-        &machine.top.opener,
+        &buffers.machine.top.opener,
         &mut buffers.token,
         event,
         fault,
     );
-    settled(machine, came)
+    settled(buffers, came)
+}
+
+// What a token tells that is met once a document or more rarely.
+// Out of line: others are more.
+#[inline(never)]
+fn tell_rare(
+    told: Told,
+    buffers: &mut StepBuffers,
+    event: &mut yaml_event_t,
+    fault: &mut yaml_fault_t,
+) -> Step {
+    tell_other(told, buffers, event, fault)
 }
 
 // Where it stands: where the indicator before it ends, or the token begins.
@@ -180,23 +194,35 @@ fn place(implied: Implied, before: yaml_mark_t, start: yaml_mark_t) -> yaml_mark
 #[inline(never)]
 fn leave(
     implied: Implied,
-    machine: &mut Machine<yaml_mark_t>,
     buffers: &mut StepBuffers,
-    directives: &mut Directives,
     event: &mut yaml_event_t,
     fault: &mut yaml_fault_t,
 ) -> Step {
     buffers.is_held = true;
-    let at = place(implied, machine.before, buffers.token.start_mark);
+    let at = place(implied, buffers.machine.before, buffers.token.start_mark);
     let came = settle_implied(
-        directives,
+        &mut buffers.directives,
         implied,
         &at,
         &mut buffers.waiting,
         event,
         fault,
     );
-    settled(machine, came)
+    settled(buffers, came)
+}
+
+// A document begins before the token, which stays.
+// Out of line: it is met once a document.
+#[inline(never)]
+fn open(buffers: &mut StepBuffers, event: &mut yaml_event_t, fault: &mut yaml_fault_t) -> Step {
+    buffers.is_held = true;
+    let came = settle_opened(
+        &buffers.directives,
+        &buffers.token.start_mark,
+        event,
+        fault,
+    );
+    settled(buffers, came)
 }
 
 // The token is wrong there.
@@ -205,13 +231,12 @@ fn leave(
 #[inline(never)]
 fn refused(
     problem: ParseProblem,
-    machine: &mut Machine<yaml_mark_t>,
-    buffers: &StepBuffers,
+    buffers: &mut StepBuffers,
     fault: &mut yaml_fault_t,
 ) -> Step {
     let at = buffers.token.start_mark;
-    refuse(problem, at, context(problem, machine.top.opener, at), fault);
-    finish(machine);
+    refuse(problem, at, context(problem, buffers.machine.top.opener, at), fault);
+    finish(&mut buffers.machine);
     Step::Refused
 }
 
@@ -219,66 +244,55 @@ fn refused(
 // Inlined into its one caller.
 #[inline(always)]
 fn moving(
-    machine: &mut Machine<yaml_mark_t>,
     buffers: &mut StepBuffers,
-    directives: &mut Directives,
     event: &mut yaml_event_t,
     fault: &mut yaml_fault_t,
 ) -> Step
     requires { buffers.old.is_held ≡ false }
 {
-    match turn_owned(machine, &mut buffers.waiting, &mut buffers.token) {
+    match turn_owned(&mut buffers.machine, &mut buffers.waiting, &mut buffers.token) {
         Turn::Scalar => tell(Shape::Scalar, buffers, event),
         Turn::BlockSequence => tell(Shape::BlockSequence, buffers, event),
         Turn::BlockMapping => tell(Shape::BlockMapping, buffers, event),
         Turn::FlowSequence => tell(Shape::FlowSequence, buffers, event),
         Turn::FlowMapping => tell(Shape::FlowMapping, buffers, event),
-        Turn::NamedScalar => tell_named(Shape::Scalar, machine, buffers, directives, event, fault),
-        Turn::NamedBlockSequence => tell_named(Shape::BlockSequence, machine, buffers, directives, event, fault),
-        Turn::NamedBlockMapping => tell_named(Shape::BlockMapping, machine, buffers, directives, event, fault),
-        Turn::NamedFlowSequence => tell_named(Shape::FlowSequence, machine, buffers, directives, event, fault),
-        Turn::NamedFlowMapping => tell_named(Shape::FlowMapping, machine, buffers, directives, event, fault),
-        Turn::SequenceEnd => tell_other(Told::SequenceEnd, machine, buffers, directives, event, fault),
-        Turn::MappingEnd => tell_other(Told::MappingEnd, machine, buffers, directives, event, fault),
-        Turn::Alias => tell_other(Told::Alias, machine, buffers, directives, event, fault),
-        Turn::StreamStart => tell_other(Told::StreamStart, machine, buffers, directives, event, fault),
-        Turn::StreamEnd => tell_other(Told::StreamEnd, machine, buffers, directives, event, fault),
-        Turn::VersionDirective => tell_other(Told::VersionDirective, machine, buffers, directives, event, fault),
-        Turn::TagDirective => tell_other(Told::TagDirective, machine, buffers, directives, event, fault),
-        Turn::DocumentStart => tell_other(Told::DocumentStart, machine, buffers, directives, event, fault),
-        Turn::DocumentDeclared => tell_other(Told::DocumentDeclared, machine, buffers, directives, event, fault),
-        Turn::DocumentEnd => tell_other(Told::DocumentEnd, machine, buffers, directives, event, fault),
+        Turn::NamedScalar => tell_named(Shape::Scalar, buffers, event, fault),
+        Turn::NamedBlockSequence => tell_named(Shape::BlockSequence, buffers, event, fault),
+        Turn::NamedBlockMapping => tell_named(Shape::BlockMapping, buffers, event, fault),
+        Turn::NamedFlowSequence => tell_named(Shape::FlowSequence, buffers, event, fault),
+        Turn::NamedFlowMapping => tell_named(Shape::FlowMapping, buffers, event, fault),
+        Turn::SequenceEnd => tell_other(Told::SequenceEnd, buffers, event, fault),
+        Turn::MappingEnd => tell_other(Told::MappingEnd, buffers, event, fault),
+        Turn::Alias => tell_other(Told::Alias, buffers, event, fault),
+        Turn::StreamStart => tell_rare(Told::StreamStart, buffers, event, fault),
+        Turn::StreamEnd => tell_rare(Told::StreamEnd, buffers, event, fault),
+        Turn::VersionDirective => tell_rare(Told::VersionDirective, buffers, event, fault),
+        Turn::TagDirective => tell_rare(Told::TagDirective, buffers, event, fault),
+        Turn::DocumentStart => tell_rare(Told::DocumentStart, buffers, event, fault),
+        Turn::DocumentDeclared => tell_rare(Told::DocumentDeclared, buffers, event, fault),
+        Turn::DocumentEnd => tell_rare(Told::DocumentEnd, buffers, event, fault),
         Turn::Silent => {
             buffers.is_held = false;
             Step::Silent
         }
-        Turn::LeftNothing => leave(Implied::Nothing, machine, buffers, directives, event, fault),
-        Turn::LeftNothingBefore => leave(Implied::NothingBefore, machine, buffers, directives, event, fault),
-        Turn::LeftProperties => leave(Implied::Properties, machine, buffers, directives, event, fault),
-        Turn::LeftSequenceEnd => leave(Implied::SequenceEnd, machine, buffers, directives, event, fault),
-        Turn::LeftMappingEnd => leave(Implied::MappingEnd, machine, buffers, directives, event, fault),
-        Turn::LeftDocumentEnd => leave(Implied::DocumentEnd, machine, buffers, directives, event, fault),
-        Turn::Opened => {
-            buffers.is_held = true;
-            let came = settle_opened(
-                directives,
-                &buffers.token.start_mark,
-                event,
-                fault,
-            );
-            settled(machine, came)
-        }
-        Turn::NoStreamStart => refused(ParseProblem::NoStreamStart, machine, buffers, fault),
-        Turn::NoDocumentStart => refused(ParseProblem::NoDocumentStart, machine, buffers, fault),
-        Turn::NoDash => refused(ParseProblem::NoDash, machine, buffers, fault),
-        Turn::NoKey => refused(ParseProblem::NoKey, machine, buffers, fault),
-        Turn::NoSequenceEnd => refused(ParseProblem::NoSequenceEnd, machine, buffers, fault),
-        Turn::NoMappingEnd => refused(ParseProblem::NoMappingEnd, machine, buffers, fault),
-        Turn::NoBlockNode => refused(ParseProblem::NoBlockNode, machine, buffers, fault),
-        Turn::NoFlowNode => refused(ParseProblem::NoFlowNode, machine, buffers, fault),
+        Turn::LeftNothing => leave(Implied::Nothing, buffers, event, fault),
+        Turn::LeftNothingBefore => leave(Implied::NothingBefore, buffers, event, fault),
+        Turn::LeftProperties => leave(Implied::Properties, buffers, event, fault),
+        Turn::LeftSequenceEnd => leave(Implied::SequenceEnd, buffers, event, fault),
+        Turn::LeftMappingEnd => leave(Implied::MappingEnd, buffers, event, fault),
+        Turn::LeftDocumentEnd => leave(Implied::DocumentEnd, buffers, event, fault),
+        Turn::Opened => open(buffers, event, fault),
+        Turn::NoStreamStart => refused(ParseProblem::NoStreamStart, buffers, fault),
+        Turn::NoDocumentStart => refused(ParseProblem::NoDocumentStart, buffers, fault),
+        Turn::NoDash => refused(ParseProblem::NoDash, buffers, fault),
+        Turn::NoKey => refused(ParseProblem::NoKey, buffers, fault),
+        Turn::NoSequenceEnd => refused(ParseProblem::NoSequenceEnd, buffers, fault),
+        Turn::NoMappingEnd => refused(ParseProblem::NoMappingEnd, buffers, fault),
+        Turn::NoBlockNode => refused(ParseProblem::NoBlockNode, buffers, fault),
+        Turn::NoFlowNode => refused(ParseProblem::NoFlowNode, buffers, fault),
         Turn::Memory => {
             lack_memory(fault);
-            finish(machine);
+            finish(&mut buffers.machine);
             Step::Refused
         }
         Turn::Over => {
@@ -294,35 +308,33 @@ fn moving(
 pub fn take_turn<S: yaml_token_source_t>(
     source: &mut S,
     buffers: &mut StepBuffers,
-    machine: &mut Machine<yaml_mark_t>,
-    directives: &mut Directives,
     event: &mut yaml_event_t,
     fault: &mut yaml_fault_t,
 ) -> Step
     ensures turns { (answered : Fault)
         → Turns (parser_remaining (peeked_of buffers.old) (S.to_come source.old)
-        (S.fault_to_come source.old) (owned_states machine.old buffers.old.waiting)
-        (directives_of directives.old) answered)
+        (S.fault_to_come source.old) (states_in buffers.old)
+        (directives_of buffers.old.directives) answered)
         (turned result (event_of event.new) (fault_of fault.new))
         (parser_remaining (peeked_of buffers.new) (S.to_come source.new)
-        (S.fault_to_come source.new) (owned_states machine.new buffers.new.waiting)
-        (directives_of directives.new) answered) }
-    ensures utf8 { IsUtf8Held (peeked_of buffers.old) (owned_states machine.old buffers.old.waiting)
-        (directives_of directives.old)
+        (S.fault_to_come source.new) (states_in buffers.new)
+        (directives_of buffers.new.directives) answered) }
+    ensures utf8 { IsUtf8Held (peeked_of buffers.old) (states_in buffers.old)
+        (directives_of buffers.old.directives)
         → IsUtf8Turn (turned result (event_of event.new) (fault_of fault.new))
-        × IsUtf8Held (peeked_of buffers.new) (owned_states machine.new buffers.new.waiting)
-        (directives_of directives.new) }
-    ensures stack { IsStack (owned_states machine.old buffers.old.waiting)
+        × IsUtf8Held (peeked_of buffers.new) (states_in buffers.new)
+        (directives_of buffers.new.directives) }
+    ensures stack { IsStack (states_in buffers.old)
         → IsStackTurn (turned result (event_of event.new) (fault_of fault.new))
-        (is_between (owned_states machine.new buffers.new.waiting))
-        × IsStack (owned_states machine.new buffers.new.waiting) }
+        (is_between (states_in buffers.new))
+        × IsStack (states_in buffers.new) }
 {
-    if is_over(machine) {
+    if is_over(&buffers.machine) {
         return Step::Done;
     }
     if !front(source, buffers, fault) {
-        finish(machine);
+        finish(&mut buffers.machine);
         return Step::Refused;
     }
-    moving(machine, buffers, directives, event, fault)
+    moving(buffers, event, fault)
 }

@@ -3,17 +3,21 @@
 ghost use Rattle.std.specs.Prelude.{◌≡◌, true, false, List, Option, None};
 ghost use Rattle.yaml_scan_model.specs.Tokens.{Token, token_of};
 ghost use Rattle.yaml_scan_model.specs.Faults.{Fault, fault_of};
-ghost use Rattle.yaml_parse_model.specs.Events.{event_of};
-ghost use Rattle.yaml_parse_core.specs.Owned.{owned_states};
+ghost use Rattle.yaml_parse_model.specs.Events.{Event, event_of};
+ghost use Rattle.yaml_parse_core.specs.Seen.{seen};
+ghost use Rattle.yaml_parse_core.specs.Seen as kinds;
+ghost use Rattle.yaml_parse_core.specs.Turns.{keeps, context_if};
+ghost use Rattle.yaml_parse_core.specs.Views.{implied_item};
 ghost use Rattle.yaml_parse_resolve.specs.Settles.{directives_of};
+ghost use Rattle.yaml_parse_grammar.specs.Machine.{context_of};
 ghost use Rattle.yaml_parse_grammar.specs.Remaining.{parser_remaining, is_between};
-ghost use Rattle.yaml_parse_grammar.specs.Resolve.{Directives as DirectivesSpec};
+ghost use Rattle.yaml_parse_grammar.specs.States.{State};
 ghost use Rattle.yaml_parse_grammar.specs.Items.{Properties};
 ghost use Rattle.yaml_parse_grammar.specs.Stacks.{IsStack};
 ghost use Rattle.yaml_parse_grammar.specs.Texts.{IsUtf8Token, IsUtf8Held};
 ghost use Rattle.yaml_parse_model.specs.Source.{HasUtf8};
-ghost use Rattle.yaml_parse_step.specs.Steps.{HasFront, Steps, Turns, Moves, IsUtf8Step, IsUtf8Turn, IsStackStep, IsStackTurn, raw, peeked_of};
-ghost use Rattle.yaml_parse_step.specs.Stepped.{stepped};
+ghost use Rattle.yaml_parse_step.specs.Steps.{HasFront, Turns, IsUtf8Turn, IsStackTurn, peeked_of, states_in};
+ghost use Rattle.yaml_parse_step.specs.Moves.{Turned, WentOn, LeavesMachine, step_of};
 ghost use Rattle.yaml_parse_step.specs.Turned.{turned};
 
 use yaml_parse_core::{Implied, Machine, Shape, Told, Turn, Waiting, finish, is_over, turn_owned};
@@ -101,7 +105,11 @@ fn context(problem: ParseProblem, opener: yaml_mark_t, at: yaml_mark_t) -> yaml_
 // What an item came to, behind a refusal of which nothing is left.
 // Inlined: it is known.
 #[inline(always)]
-fn settled(buffers: &mut StepBuffers, settled: Settled) -> Step {
+fn settled(buffers: &mut StepBuffers, settled: Settled) -> Step
+    ensures result { result ≡ step_of settled }
+    ensures machine { LeavesMachine settled buffers.old.machine buffers.new.machine }
+    ensures same { buffers.new ≡ record buffers.old { machine = buffers.new.machine } }
+{
     match settled {
         Settled::Event => Step::Given,
         Settled::Noted => Step::Silent,
@@ -114,7 +122,11 @@ fn settled(buffers: &mut StepBuffers, settled: Settled) -> Step {
 
 // A node without properties.
 #[inline(always)]
-fn tell(shape: Shape, buffers: &mut StepBuffers, event: &mut yaml_event_t) -> Step {
+fn tell(shape: Shape, buffers: &mut StepBuffers, event: &mut yaml_event_t) -> Step
+    ensures { (s : List State) (t : Token) (f : Fault) → Turned buffers.old s t (kinds.node shape)
+        → token_of buffers.old.token ≡ t → WentOn s t buffers.old result (event_of event.new) f
+        buffers.new }
+{
     buffers.is_held = false;
     tell_node(shape, &mut buffers.waiting, &mut buffers.token, event);
     Step::Given
@@ -128,7 +140,11 @@ fn tell_named(
     buffers: &mut StepBuffers,
     event: &mut yaml_event_t,
     fault: &mut yaml_fault_t,
-) -> Step {
+) -> Step
+    ensures { (s : List State) (t : Token) → Turned buffers.old s t (kinds.named shape)
+        → token_of buffers.old.token ≡ t → WentOn s t buffers.old result (event_of event.new)
+        (fault_of fault.new) buffers.new }
+{
     buffers.is_held = false;
     let came = settle_named(
         &buffers.directives.tags,
@@ -149,7 +165,11 @@ fn tell_other(
     buffers: &mut StepBuffers,
     event: &mut yaml_event_t,
     fault: &mut yaml_fault_t,
-) -> Step {
+) -> Step
+    ensures { (s : List State) (t : Token) → Turned buffers.old s t (kinds.given told)
+        → token_of buffers.old.token ≡ t → WentOn s t buffers.old result (event_of event.new)
+        (fault_of fault.new) buffers.new }
+{
     buffers.is_held = false;
     let came = settle_told(
         &mut buffers.directives,
@@ -170,7 +190,11 @@ fn tell_rare(
     buffers: &mut StepBuffers,
     event: &mut yaml_event_t,
     fault: &mut yaml_fault_t,
-) -> Step {
+) -> Step
+    ensures { (s : List State) (t : Token) → Turned buffers.old s t (kinds.given told)
+        → token_of buffers.old.token ≡ t → WentOn s t buffers.old result (event_of event.new)
+        (fault_of fault.new) buffers.new }
+{
     tell_other(told, buffers, event, fault)
 }
 
@@ -197,7 +221,11 @@ fn leave(
     buffers: &mut StepBuffers,
     event: &mut yaml_event_t,
     fault: &mut yaml_fault_t,
-) -> Step {
+) -> Step
+    ensures { (s : List State) (t : Token) → Turned buffers.old s t (kinds.left implied)
+        → token_of buffers.old.token ≡ t → WentOn s t buffers.old result (event_of event.new)
+        (fault_of fault.new) buffers.new }
+{
     buffers.is_held = true;
     let at = place(implied, buffers.machine.before, buffers.token.start_mark);
     let came = settle_implied(
@@ -214,7 +242,11 @@ fn leave(
 // A document begins before the token, which stays.
 // Out of line: it is met once a document.
 #[inline(never)]
-fn open(buffers: &mut StepBuffers, event: &mut yaml_event_t, fault: &mut yaml_fault_t) -> Step {
+fn open(buffers: &mut StepBuffers, event: &mut yaml_event_t, fault: &mut yaml_fault_t) -> Step
+    ensures { (s : List State) (t : Token) → Turned buffers.old s t (kinds.opened)
+        → token_of buffers.old.token ≡ t → WentOn s t buffers.old result (event_of event.new)
+        (fault_of fault.new) buffers.new }
+{
     buffers.is_held = true;
     let came = settle_opened(
         &buffers.directives,
@@ -233,24 +265,31 @@ fn refused(
     problem: ParseProblem,
     buffers: &mut StepBuffers,
     fault: &mut yaml_fault_t,
-) -> Step {
+) -> Step
+    ensures { (s : List State) (t : Token) (e : Event) → Turned buffers.old s t (kinds.refused problem)
+        → token_of buffers.old.token ≡ t → WentOn s t buffers.old result e (fault_of fault.new)
+        buffers.new }
+{
     let at = buffers.token.start_mark;
     refuse(problem, at, context(problem, buffers.machine.top.opener, at), fault);
     finish(&mut buffers.machine);
     Step::Refused
 }
 
-// The topmost state at the token in front.
+// What a turn did, with its item resolved.
 // Inlined into its one caller.
 #[inline(always)]
-fn moving(
+fn going(
+    turn: Turn,
     buffers: &mut StepBuffers,
     event: &mut yaml_event_t,
     fault: &mut yaml_fault_t,
 ) -> Step
-    requires { buffers.old.is_held ≡ false }
+    ensures { (s : List State) (t : Token) → Turned buffers.old s t (seen turn)
+        → (keeps (seen turn) ≡ true → token_of buffers.old.token ≡ t)
+        → WentOn s t buffers.old result (event_of event.new) (fault_of fault.new) buffers.new }
 {
-    match turn_owned(&mut buffers.machine, &mut buffers.waiting, &mut buffers.token) {
+    match turn {
         Turn::Scalar => tell(Shape::Scalar, buffers, event),
         Turn::BlockSequence => tell(Shape::BlockSequence, buffers, event),
         Turn::BlockMapping => tell(Shape::BlockMapping, buffers, event),
@@ -300,6 +339,21 @@ fn moving(
             Step::Done
         }
     }
+}
+
+// The topmost state at the token in front, with its item resolved.
+// Inlined into its one caller.
+#[inline(always)]
+fn moving(
+    buffers: &mut StepBuffers,
+    event: &mut yaml_event_t,
+    fault: &mut yaml_fault_t,
+) -> Step
+    ensures { WentOn (states_in buffers.old) (token_of buffers.old.token) buffers.old result
+        (event_of event.new) (fault_of fault.new) buffers.new }
+{
+    let turn = turn_owned(&mut buffers.machine, &mut buffers.waiting, &mut buffers.token);
+    going(turn, buffers, event, fault)
 }
 
 /// One step, with tags and directives resolved. After a refusal nothing is left.

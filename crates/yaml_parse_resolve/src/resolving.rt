@@ -9,7 +9,7 @@ ghost use Rattle.yaml_parse_model.specs.declared.yaml_origin_t.TheVariants.{Pars
 ghost use Rattle.yaml_parse_model.specs.declared.yaml_scalar_style_t.TheVariants.{YAML_ANY_SCALAR_STYLE};
 ghost use Rattle.yaml_parse_grammar.specs.Items as item;
 ghost use Rattle.yaml_parse_grammar.specs.Problems.{parser_fault};
-ghost use Rattle.yaml_parse_grammar.specs.Resolve.{Directives as DirectivesSpec, directive_for, default_prefix, or_default, resolved, is_known_version, with_version, with_tag, node_event, gave, settle_body, behind_event};
+ghost use Rattle.yaml_parse_grammar.specs.Resolve.{Directives as DirectivesSpec, directive_for, default_prefix, or_default, resolved, is_known_version, with_version, with_tag, node_event, gave, placed, settle_body, behind_event};
 ghost use Rattle.yaml_parse_core.specs.Extra.{value_in, style_in, name_in, encoding_in, major_in, minor_in, handle_in, prefix_in};
 ghost use Rattle.yaml_parse_core.specs.declared.told.Implied.TheVariants as implied;
 ghost use Rattle.yaml_parse_core.specs.Owned.{owned_properties};

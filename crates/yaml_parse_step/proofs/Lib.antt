@@ -1,5 +1,6 @@
 pub mod Front
 pub mod Moves
+pub mod Going
 pub mod Turning
 pub mod Texts
 pub mod Loading

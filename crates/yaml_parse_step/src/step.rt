@@ -69,7 +69,7 @@ fn ask<S: yaml_token_source_t>(
     source.next_token_into(token, fault)
 }
 
-// The token at the front: the one that is held, or else the source's next. It is held no more.
+// The token at the front: the one that is held, or else the source's next.
 fn front<S: yaml_token_source_t>(
     source: &mut S,
     buffers: &mut StepBuffers,
@@ -80,7 +80,7 @@ fn front<S: yaml_token_source_t>(
         (S.fault_to_come source.new) (fault_of fault.new) }
     ensures utf8 { IsUtf8Token (peeked_of buffers.old) → result ≡ true
         → HasUtf8 (token_of buffers.new.token).body }
-    ensures unheld { buffers.new.is_held ≡ false }
+    ensures same { buffers.new ≡ record buffers.old { token = buffers.new.token } }
 {
     if buffers.is_held {
         true

@@ -16,7 +16,10 @@ use Rattle.yaml_parse_core.specs.Owned.{owned_states_by}
 use Rattle.yaml_parse_resolve.specs.declared.resolving.Settled.{Settled}
 use Rattle.yaml_parse_resolve.specs.declared.resolving.Settled.TheVariants as came
 use Rattle.yaml_parse_resolve.specs.Settles.{ComesTo}
-use Rattle.yaml_parse_step.specs.declared.step.Step.TheVariants as code
+use Rattle.yaml_parse_resolve.specs.Settles.{directives_of}
+use Rattle.yaml_parse_step.specs.declared.step.StepBuffers.{StepBuffers}
+use Rattle.yaml_parse_step.specs.declared.step.Step.{Step}
+use Rattle.yaml_parse_step.specs.Steps.{peeked_of, states_in}
 use Rattle.yaml_parse_step.specs.Moves.{Moves, GaveEvent, Went, LeavesMachine, step_of}
 use Rattle.yaml_parse_step.proofs.Moves.{node_moves}
 
@@ -53,3 +56,9 @@ went_on came.Refused s t i q ds behind e g held old new m l c = (l q, inr (recor
   moves = m q;
   settles = c;
 }))
+
+-- of what is lent
+pub went_of : (r r' : Step) (b b' : StepBuffers) (s : List State) (t : Token) (ds : Directives) (e : Event) (g : Fault) → b ≡ b' → r ≡ r' → Went s t ds r' e g (peeked_of b') (states_in b') (directives_of b'.directives)
+    → Went s t ds r e g (peeked_of b) (states_in b) (directives_of b.directives)
+went_of r r' b b' s t ds e g p q h =
+    subst (λ (z : StepBuffers). Went s t ds r e g (peeked_of z) (states_in z) (directives_of z.directives)) (sym p) (subst (λ (z : Step). Went s t ds z e g (peeked_of b') (states_in b') (directives_of b'.directives)) (sym q) h)

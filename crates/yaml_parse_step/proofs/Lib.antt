@@ -1,6 +1,7 @@
 pub mod Front
 pub mod Moves
 pub mod Going
+pub mod Ways
 pub mod Turning
 pub mod Texts
 pub mod Loading

@@ -4,6 +4,8 @@ use Rattle.yaml_parse_step.specs.parse_grammar.Resolve.{Directives}
 use Rattle.yaml_parse_core.specs.Owned.{owned_states, owned_properties}
 use Rattle.yaml_parse_step.proofs.Sentences.{fault_of_tokens, told_with, begins_tree, few_events, tokens_events, least_events}
 use Rattle.yaml_parse_step.proofs.Turning.{starts, starts_anywhere, starts_unasked}
+use Rattle.yaml_parse_step.specs.parse_grammar.Remaining.{is_between}
+use Rattle.yaml_parse.proofs.Holds.{stream_holds}
 use Rattle.yaml_parse.proofs.parser.yaml_parser_initialize.Goals as goal
 
 pub returns-clause-tree : goal.returns-clause-tree
@@ -65,3 +67,9 @@ returns-clause-least g c =
     (record { version = None; tags = c.new.result })
     (c.fresh.ensures (λ m. m) (owned_properties c.none_waiting-waiting.result))
     (ap (λ (xs : List TagDirective). let ds : Directives = record { version = None; tags = xs } in ds) c.new.ensures)).0
+
+pub invariant_of-result : goal.invariant_of-result
+invariant_of-result g c = stream_holds (owned_states c.fresh.result c.none_waiting-waiting.result) _ (c.fresh.ensures (λ m. m) (owned_properties c.none_waiting-waiting.result)) c.new.ensures
+
+pub returns-clause-quiet : goal.returns-clause-quiet
+returns-clause-quiet g c = (c.quiet.ensures, ap is_between (c.fresh.ensures (λ m. m) (owned_properties c.none_waiting-waiting.result)))

@@ -4,6 +4,7 @@ use Rattle.yaml_parse_core.specs.Owned.{owned_properties, owned_states_by}
 use Rattle.yaml_parse_resolve.specs.Settles.{directives_of}
 use Rattle.yaml_parse_step.specs.Steps.{peeked_of}
 use Rattle.yaml_parse_step.proofs.Turning.{finishes, one_held}
+use Rattle.yaml_parse.proofs.Holds.{nothing_holds}
 use Rattle.yaml_parse.proofs.parser.yaml_parser_t.refuse.Goals as goal
 
 pub returns-clause-finished : goal.returns-clause-finished
@@ -13,3 +14,6 @@ returns-clause-finished g c =
 
 pub returns-clause-held : goal.returns-clause-held
 returns-clause-held g c = one_held (peeked_of c.self.inside.buffers)
+
+pub invariant_of-self : goal.invariant_of-self
+invariant_of-self g c = nothing_holds _ (owned_states_by c.finish.new.machine (owned_properties c.self.inside.buffers.waiting)) _ (c.finish.ensures (λ m. m) (owned_properties c.self.inside.buffers.waiting))

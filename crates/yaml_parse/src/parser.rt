@@ -24,10 +24,10 @@ ghost use Rattle.yaml_parse_step.specs.parse_grammar.Stacks.{parts_documents_beh
 
 use std::alloc::Global;
 use std::marker::Model;
+use yaml_parse_core::{finish, fresh, is_between, none_waiting};
 use yaml_parse_model::{
     yaml_event_body_t, yaml_event_t, yaml_parser_t_prefix, yaml_token_source_t,
 };
-use yaml_parse_core::{finish, fresh, is_between, none_waiting};
 use yaml_parse_resolve::{Directives, TagDirectives};
 use yaml_parse_step::{Step, StepBuffers, take_turn, yaml_found_t};
 use yaml_scan_model::{yaml_fault_t, yaml_mark_t, yaml_memory_fault, yaml_origin_t, yaml_token_t};
@@ -72,12 +72,7 @@ impl<S: yaml_token_source_t> yaml_parser_t<S> {
             self.new.between }
         ensures held { self.new.held ≤ 1 }
     {
-        take_turn(
-            &mut self.source,
-            &mut self.buffers,
-            event,
-            fault,
-        )
+        take_turn(&mut self.source, &mut self.buffers, event, fault)
     }
 }
 

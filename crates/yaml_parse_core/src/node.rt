@@ -76,11 +76,19 @@ fn content<T: yaml_lent_token_t>(
             machine.awaited = Await::Nothing;
             Turn::Scalar
         }
-        yaml_token_type_t::YAML_FLOW_SEQUENCE_START_TOKEN => match open(machine, Level::SequenceItems, token) {
+        yaml_token_type_t::YAML_FLOW_SEQUENCE_START_TOKEN => match open(
+            machine,
+            Level::SequenceItems,
+            token,
+        ) {
             Ok(()) => Turn::FlowSequence,
             Err(_) => Turn::Memory,
         },
-        yaml_token_type_t::YAML_FLOW_MAPPING_START_TOKEN => match open(machine, Level::MappingItems, token) {
+        yaml_token_type_t::YAML_FLOW_MAPPING_START_TOKEN => match open(
+            machine,
+            Level::MappingItems,
+            token,
+        ) {
             Ok(()) => Turn::FlowMapping,
             Err(_) => Turn::Memory,
         },
@@ -110,21 +118,39 @@ fn block_content<T: yaml_lent_token_t>(
     match wants {
         Wants::Flow => Turn::NoFlowNode,
         Wants::Block(side) => match kind {
-            yaml_token_type_t::YAML_BLOCK_SEQUENCE_START_TOKEN => match open(machine, Level::Entries, token) {
+            yaml_token_type_t::YAML_BLOCK_SEQUENCE_START_TOKEN => match open(
+                machine,
+                Level::Entries,
+                token,
+            ) {
                 Ok(()) => Turn::BlockSequence,
                 Err(_) => Turn::Memory,
             },
-            yaml_token_type_t::YAML_BLOCK_MAPPING_START_TOKEN => match open(machine, Level::Pairs, token) {
+            yaml_token_type_t::YAML_BLOCK_MAPPING_START_TOKEN => match open(
+                machine,
+                Level::Pairs,
+                token,
+            ) {
                 Ok(()) => Turn::BlockMapping,
                 Err(_) => Turn::Memory,
             },
             yaml_token_type_t::YAML_BLOCK_ENTRY_TOKEN => match side {
                 None => Turn::NoBlockNode,
-                Some(Side::Key) => match open_others(machine, Level::OtherKeys, Await::LooseKey, token) {
+                Some(Side::Key) => match open_others(
+                    machine,
+                    Level::OtherKeys,
+                    Await::LooseKey,
+                    token,
+                ) {
                     Ok(()) => Turn::BlockSequence,
                     Err(_) => Turn::Memory,
                 },
-                Some(Side::Value) => match open_others(machine, Level::OtherValues, Await::LooseValue, token) {
+                Some(Side::Value) => match open_others(
+                    machine,
+                    Level::OtherValues,
+                    Await::LooseValue,
+                    token,
+                ) {
                     Ok(()) => Turn::BlockSequence,
                     Err(_) => Turn::Memory,
                 },
@@ -154,11 +180,11 @@ fn rest_of(wants: Wants) -> Await
 fn wait_by_anchor<T: yaml_lent_token_t>(waiting: &mut Waiting<T::Text, T::Place>, token: &mut T)
     ensures { (s : List ℕ) → properties_of (T.bytes s) (T.mark s) waiting.new
         ≡ record {
-      anchor = Some (T.text s token.old);
-      tag = None;
-      from = T.mark s (T.from token.old);
-      to = T.mark s (T.to token.old);
-    } }
+          anchor = Some (T.text s token.old);
+          tag = None;
+          from = T.mark s (T.from token.old);
+          to = T.mark s (T.to token.old);
+        } }
 {
     waiting.has_anchor = true;
     waiting.has_tag = false;
@@ -173,11 +199,11 @@ fn wait_by_anchor<T: yaml_lent_token_t>(waiting: &mut Waiting<T::Text, T::Place>
 fn wait_by_tag<T: yaml_lent_token_t>(waiting: &mut Waiting<T::Text, T::Place>, token: &mut T)
     ensures { (s : List ℕ) → properties_of (T.bytes s) (T.mark s) waiting.new
         ≡ record {
-      anchor = None;
-      tag = Some (tag_at (T.text s token.old) (T.other s token.old) (T.mark s (T.from token.old)));
-      from = T.mark s (T.from token.old);
-      to = T.mark s (T.to token.old);
-    } }
+          anchor = None;
+          tag = Some (tag_at (T.text s token.old) (T.other s token.old) (T.mark s (T.from token.old)));
+          from = T.mark s (T.from token.old);
+          to = T.mark s (T.to token.old);
+        } }
 {
     waiting.has_anchor = false;
     waiting.has_tag = true;
@@ -194,9 +220,9 @@ fn wait_by_tag<T: yaml_lent_token_t>(waiting: &mut Waiting<T::Text, T::Place>, t
 fn join_anchor<T: yaml_lent_token_t>(waiting: &mut Waiting<T::Text, T::Place>, token: &mut T)
     ensures { (s : List ℕ) → properties_of (T.bytes s) (T.mark s) waiting.new
         ≡ record (properties_of (T.bytes s) (T.mark s) waiting.old) {
-      anchor = Some (T.text s token.old);
-      to = T.mark s (T.to token.old);
-    } }
+          anchor = Some (T.text s token.old);
+          to = T.mark s (T.to token.old);
+        } }
 {
     waiting.has_anchor = true;
     waiting.to = token.to();
@@ -209,9 +235,9 @@ fn join_anchor<T: yaml_lent_token_t>(waiting: &mut Waiting<T::Text, T::Place>, t
 fn join_tag<T: yaml_lent_token_t>(waiting: &mut Waiting<T::Text, T::Place>, token: &mut T)
     ensures { (s : List ℕ) → properties_of (T.bytes s) (T.mark s) waiting.new
         ≡ record (properties_of (T.bytes s) (T.mark s) waiting.old) {
-      tag = Some (tag_at (T.text s token.old) (T.other s token.old) (T.mark s (T.from token.old)));
-      to = T.mark s (T.to token.old);
-    } }
+          tag = Some (tag_at (T.text s token.old) (T.other s token.old) (T.mark s (T.from token.old)));
+          to = T.mark s (T.to token.old);
+        } }
 {
     waiting.has_tag = true;
     waiting.to = token.to();

@@ -124,7 +124,13 @@ fn at_kind<T: yaml_lent_token_t>(
         ),
         Await::Rest => at_rest(machine, waiting, token, kind, Wants::Block(None)),
         Await::RestOfKey => at_rest(machine, waiting, token, kind, Wants::Block(Some(Side::Key))),
-        Await::RestOfValue => at_rest(machine, waiting, token, kind, Wants::Block(Some(Side::Value))),
+        Await::RestOfValue => at_rest(
+            machine,
+            waiting,
+            token,
+            kind,
+            Wants::Block(Some(Side::Value)),
+        ),
         Await::RestInside => at_rest(machine, waiting, token, kind, Wants::Flow),
     }
 }

@@ -9,6 +9,6 @@ mod slots;
 
 pub use handles::TagDirectives;
 pub use resolving::{
-    Directives, Settled, lack_memory, refuse, settle_implied, settle_named, settle_opened, settle_told,
-    tell_node,
+    Directives, Settled, lack_memory, refuse, settle_implied, settle_named, settle_opened,
+    settle_told, tell_node,
 };

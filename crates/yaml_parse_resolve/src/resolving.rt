@@ -27,9 +27,10 @@ use std::alloc::{AllocError, Global};
 use yaml_parse_core::{Implied, Shape, Told, Waiting};
 use yaml_parse_grammar::{ParseFault, ParseProblem};
 use yaml_parse_model::{
-    copy_directives, mark_again, moved, yaml_encoding_t, yaml_event_body_t, yaml_event_t, yaml_fault_t,
-    yaml_mapping_style_t, yaml_mark_t, yaml_memory_fault, yaml_origin_t, yaml_scalar_style_t,
-    yaml_sequence_style_t, yaml_token_body_t, yaml_token_t, yaml_version_directive_t,
+    copy_directives, mark_again, moved, yaml_encoding_t, yaml_event_body_t, yaml_event_t,
+    yaml_fault_t, yaml_mapping_style_t, yaml_mark_t, yaml_memory_fault, yaml_origin_t,
+    yaml_scalar_style_t, yaml_sequence_style_t, yaml_token_body_t, yaml_token_t,
+    yaml_version_directive_t,
 };
 use yaml_scan_model::{SHORT, put_short};
 
@@ -245,7 +246,10 @@ fn note_tag(
             refuse(ParseProblem::DuplicateHandle, at, at, fault);
             Settled::Refused
         }
-        None => match directives.tags.push(directives.alloc, moved(handle), moved(prefix)) {
+        None => match directives
+            .tags
+            .push(directives.alloc, moved(handle), moved(prefix))
+        {
             Ok(()) => Settled::Noted,
             Err(_) => {
                 lack_memory(fault);

@@ -6,9 +6,7 @@ ghost use Rattle.yaml_parse_core.specs.Views.{text_if};
 ghost use Rattle.yaml_parse_resolve.specs.Bare.{OwnsNothing};
 
 use std::mem;
-use yaml_parse_model::{
-    moved, yaml_event_body_t, yaml_scalar_style_t, yaml_token_body_t,
-};
+use yaml_parse_model::{moved, yaml_event_body_t, yaml_scalar_style_t, yaml_token_body_t};
 
 /// Whether a slot of events holds no text.
 // Inlined: a look at the kind.

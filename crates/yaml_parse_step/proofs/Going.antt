@@ -49,13 +49,16 @@ went_on came.Noted s t i q ds behind e g held old new m l c = inr (record {
   moves = subst (λ z. Moves s t i held (owned_states_by z q)) (sym l) (m q);
   settles = c;
 })
-went_on came.Refused s t i q ds behind e g held old new m l c = (l q, inr (record {
-  item = i;
-  held = held;
-  new = owned_states_by old q;
-  moves = m q;
-  settles = c;
-}))
+went_on came.Refused s t i q ds behind e g held old new m l c = (
+  l q,
+  inr (record {
+    item = i;
+    held = held;
+    new = owned_states_by old q;
+    moves = m q;
+    settles = c;
+  }),
+)
 
 -- of what is lent
 pub went_of : (r r' : Step) (b b' : StepBuffers) (s : List State) (t : Token) (ds : Directives) (e : Event) (g : Fault) → b ≡ b' → r ≡ r' → Went s t ds r' e g (peeked_of b') (states_in b') (directives_of b'.directives)

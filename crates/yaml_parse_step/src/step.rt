@@ -24,8 +24,8 @@ use yaml_parse_core::{Implied, Machine, Shape, Told, Turn, Waiting, finish, is_o
 use yaml_parse_grammar::ParseProblem;
 use yaml_parse_model::{yaml_event_t, yaml_token_source_t};
 use yaml_parse_resolve::{
-    Directives, Settled, lack_memory, refuse, settle_implied, settle_named, settle_opened, settle_told,
-    tell_node,
+    Directives, Settled, lack_memory, refuse, settle_implied, settle_named, settle_opened,
+    settle_told, tell_node,
 };
 use yaml_scan_model::{yaml_fault_t, yaml_mark_t, yaml_token_t};
 
@@ -248,12 +248,7 @@ fn open(buffers: &mut StepBuffers, event: &mut yaml_event_t, fault: &mut yaml_fa
         (fault_of fault.new) buffers.new }
 {
     buffers.is_held = true;
-    let came = settle_opened(
-        &buffers.directives,
-        &buffers.token.start_mark,
-        event,
-        fault,
-    );
+    let came = settle_opened(&buffers.directives, &buffers.token.start_mark, event, fault);
     settled(buffers, came)
 }
 
@@ -261,17 +256,18 @@ fn open(buffers: &mut StepBuffers, event: &mut yaml_event_t, fault: &mut yaml_fa
 // Out of line: it is met once.
 #[cold]
 #[inline(never)]
-fn refused(
-    problem: ParseProblem,
-    buffers: &mut StepBuffers,
-    fault: &mut yaml_fault_t,
-) -> Step
+fn refused(problem: ParseProblem, buffers: &mut StepBuffers, fault: &mut yaml_fault_t) -> Step
     ensures { (s : List State) (t : Token) (e : Event) → Turned buffers.old s t (kinds.refused problem)
         → token_of buffers.old.token ≡ t → WentOn s t buffers.old result e (fault_of fault.new)
         buffers.new }
 {
     let at = buffers.token.start_mark;
-    refuse(problem, at, context(problem, buffers.machine.top.opener, at), fault);
+    refuse(
+        problem,
+        at,
+        context(problem, buffers.machine.top.opener, at),
+        fault,
+    );
     finish(&mut buffers.machine);
     Step::Refused
 }
@@ -344,15 +340,15 @@ fn going(
 // The topmost state at the token in front, with its item resolved.
 // Inlined into its one caller.
 #[inline(always)]
-fn moving(
-    buffers: &mut StepBuffers,
-    event: &mut yaml_event_t,
-    fault: &mut yaml_fault_t,
-) -> Step
+fn moving(buffers: &mut StepBuffers, event: &mut yaml_event_t, fault: &mut yaml_fault_t) -> Step
     ensures { WentOn (states_in buffers.old) (token_of buffers.old.token) buffers.old result
         (event_of event.new) (fault_of fault.new) buffers.new }
 {
-    let turn = turn_owned(&mut buffers.machine, &mut buffers.waiting, &mut buffers.token);
+    let turn = turn_owned(
+        &mut buffers.machine,
+        &mut buffers.waiting,
+        &mut buffers.token,
+    );
     going(turn, buffers, event, fault)
 }
 

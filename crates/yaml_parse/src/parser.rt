@@ -35,9 +35,9 @@ use yaml_scan_model::{yaml_fault_t, yaml_mark_t, yaml_memory_fault, yaml_origin_
 /// A parser of the tokens of a source.
 #[derive(Drop)]
 pub struct yaml_parser_t<S: yaml_token_source_t> {
-    // What may come, the token at the front, and the directives of the document. In front: calls out of line take the address.
-    buffers: StepBuffers,
     source: S,
+    // What may come, the token at the front, and the directives of the document.
+    buffers: StepBuffers,
     // The fault that was answered.
     prefix: yaml_parser_t_prefix,
 }

@@ -3,8 +3,12 @@
 
 mod handles;
 mod resolving;
-mod settling;
+mod room;
+mod scalars;
+mod slots;
 
 pub use handles::TagDirectives;
-pub use resolving::{Directives, Refusal, settle};
-pub use settling::settle_swiftly;
+pub use resolving::{
+    Directives, Settled, lack_memory, refuse, settle_implied, settle_named, settle_opened,
+    settle_told, tell_node,
+};

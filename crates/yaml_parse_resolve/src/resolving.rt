@@ -1,72 +1,86 @@
-//! Directives and tags.
+//! What items come to: tags in full, directives noted, and the events.
 
-ghost use Rattle.std.specs.Prelude.{◌≡◌, ◌++◌, ℕ, List, None, Some, map, option_map, OnOk, IfOk, IfErr};
-ghost use Rattle.yaml_parse_model.specs.Events.{directive_of, text_of, body_of, event_of};
+ghost use Rattle.std.specs.Prelude.{◌≡◌, ◌++◌, ℕ, List, [], Option, None, Some, true, false, option_map, OnOk};
+ghost use Rattle.yaml_parse_model.specs.Tokens.{token_of, body_of as token_body};
+ghost use Rattle.yaml_parse_model.specs.Events.{body_of, event_of};
 ghost use Rattle.yaml_parse_model.specs.Events as told;
+ghost use Rattle.yaml_parse_model.specs.Faults.{fault_of, memory_fault};
+ghost use Rattle.yaml_parse_model.specs.declared.yaml_origin_t.TheVariants.{Parser};
+ghost use Rattle.yaml_parse_model.specs.declared.yaml_scalar_style_t.TheVariants.{YAML_ANY_SCALAR_STYLE};
 ghost use Rattle.yaml_parse_grammar.specs.Items as item;
-ghost use Rattle.yaml_parse_grammar.specs.Resolve.{directive_for, default_prefix, or_default, resolved, node_event, settle as settle_item, settle_body as settle_item_body, scalar_event, is_known_version, with_version, with_tag, behind_event};
-ghost use Rattle.yaml_parse_states.specs.Views.{plain_of, item_of, item_body_of, node_of, shape_of, tag_if};
-ghost use Rattle.yaml_parse_grammar.specs.Resolve.{Directives as DirectivesSpec};
-ghost use Rattle.yaml_parse_resolve.specs.declared.resolving.Refusal.TheVariants.{Fault};
-ghost use Rattle.yaml_parse_resolve.specs.Settles.{directives_of, Settles, SettlesBody, SettlesNode, Resolves, Notes, IsMemory};
+ghost use Rattle.yaml_parse_grammar.specs.Problems.{parser_fault};
+ghost use Rattle.yaml_parse_grammar.specs.Resolve.{Directives as DirectivesSpec, directive_for, default_prefix, or_default, resolved, is_known_version, with_version, with_tag, node_event, gave, placed, settle_body, behind_event};
+ghost use Rattle.yaml_parse_core.specs.Extra.{value_in, style_in, name_in, encoding_in, major_in, minor_in, handle_in, prefix_in};
+ghost use Rattle.yaml_parse_core.specs.declared.told.Implied.TheVariants as implied;
+ghost use Rattle.yaml_parse_core.specs.Owned.{owned_properties};
+ghost use Rattle.yaml_parse_core.specs.Views.{text_if, tag_if, shape_at, named_item, node_item, told_item, told_body, implied_item};
+ghost use Rattle.yaml_parse_resolve.specs.Settles.{directives_of, Resolves, Names, Notes, Comes, ComesTo};
 
 use crate::handles::TagDirectives;
-use std::alloc::{AllocError, AllocFailed, Global};
-use std::mem;
+use crate::room::vacate;
+use crate::scalars::{bare, empty, named};
+use crate::slots::{
+    end_mapping, end_sequence, put, put_alias, start_mapping, start_named_mapping,
+    start_named_sequence, start_sequence,
+};
+use std::alloc::{AllocError, Global};
+use yaml_parse_core::{Implied, Shape, Told, Waiting};
 use yaml_parse_grammar::{ParseFault, ParseProblem};
 use yaml_parse_model::{
-    yaml_event_body_t, yaml_event_t, yaml_mapping_style_t, yaml_mark_t, yaml_scalar_style_t,
-    yaml_sequence_style_t, yaml_tag_directive_t, yaml_version_directive_t,
+    copy_directives, mark_again, moved, yaml_encoding_t, yaml_event_body_t, yaml_event_t,
+    yaml_fault_t, yaml_mapping_style_t, yaml_mark_t, yaml_memory_fault, yaml_origin_t,
+    yaml_scalar_style_t, yaml_sequence_style_t, yaml_token_body_t, yaml_token_t,
+    yaml_version_directive_t,
 };
-use yaml_parse_states::item::{Properties, RawEvent, RawEventBody, Resolved, Shape, Tag};
-use yaml_parse_states::room::moved;
-use yaml_parse_states::scalars::scalar;
-use yaml_parse_states::slots::put;
 use yaml_scan_model::{SHORT, put_short};
 
 /// The directives of a document.
 #[derive(Drop)]
 pub struct Directives {
+    pub alloc: Global,
     pub version: Option<yaml_version_directive_t>,
     pub tags: TagDirectives,
 }
 
-/// Why an item is refused.
-#[derive(Drop)]
-pub enum Refusal {
-    /// A growth was refused.
-    Memory,
-    Fault(ParseFault),
+/// What an item came to.
+#[derive(Clone, Copy)]
+pub enum Settled {
+    /// The event stands in its slot.
+    Event,
+    /// A directive is noted.
+    Noted,
+    /// The fault stands in its slot.
+    Refused,
 }
 
-impl From<AllocError> for Refusal {
-    ghost from_gives = { λ _ e. IsMemory e };
-
-    fn from(_e: AllocError) -> Refusal {
-        Refusal::Memory
-    }
-}
-
-impl<T: Drop> From<AllocFailed<T>> for Refusal {
-    ghost from_gives = { λ _ e. IsMemory e };
-
-    fn from(_e: AllocFailed<T>) -> Refusal {
-        Refusal::Memory
-    }
-}
-
-fn fault_at(problem: ParseProblem, problem_mark: yaml_mark_t, context_mark: yaml_mark_t) -> Refusal
-    ensures { result ≡ Fault (record {
-      problem = problem;
-      problem_mark = problem_mark;
-      context_mark = context_mark;
-    }) }
+/// A fault in its slot: memory ran out.
+// Out of line: its room would be set to zero for each item. Cold: it is met once.
+#[cold]
+#[inline(never)]
+pub fn lack_memory(fault: &mut yaml_fault_t)
+    ensures { fault_of fault.new ≡ memory_fault Parser }
 {
-    Refusal::Fault(ParseFault {
+    *fault = yaml_memory_fault(yaml_origin_t::Parser);
+}
+
+/// A fault in its slot.
+// Out of line: see `lack_memory`.
+#[cold]
+#[inline(never)]
+pub fn refuse(
+    problem: ParseProblem,
+    problem_mark: yaml_mark_t,
+    context_mark: yaml_mark_t,
+    fault: &mut yaml_fault_t,
+)
+    ensures { fault_of fault.new ≡ parser_fault problem problem_mark context_mark }
+{
+    let refused = ParseFault {
         problem,
         problem_mark,
         context_mark,
-    })
+    };
+    *fault = refused.located();
 }
 
 // What a handle stands for where no directive says it.
@@ -85,7 +99,7 @@ fn find_default(handle: &[u8]) -> Option<&'static [u8]>
 // The prefix and then the suffix, in the room of a text that is done with.
 // Inlined: each tag of a scalar is joined once.
 #[inline(always)]
-pub(crate) fn join(room: &mut Vec<u8>, prefix: &[u8], suffix: &[u8]) -> Result<(), AllocError>
+fn join(room: &mut Vec<u8>, prefix: &[u8], suffix: &[u8]) -> Result<(), AllocError>
     ensures { OnOk result (room.new.items ≡ prefix.now ++ suffix.now) }
 {
     room.clear();
@@ -113,7 +127,7 @@ fn prefix_for<'a>(tags: &'a TagDirectives, handle: &[u8]) -> Option<&'a [u8]>
 }
 
 // What stands before the suffix of a tag in full: nothing, where it has no handle.
-pub(crate) fn prefix_of_tag<'a>(tags: &'a TagDirectives, handle: &[u8]) -> Option<&'a [u8]>
+fn prefix_of_tag<'a>(tags: &'a TagDirectives, handle: &[u8]) -> Option<&'a [u8]>
     ensures { (suffix : List ℕ) → option_map (λ t. t.now ++ suffix) result ≡ resolved tags.now
         handle.now suffix }
 {
@@ -124,118 +138,59 @@ pub(crate) fn prefix_of_tag<'a>(tags: &'a TagDirectives, handle: &[u8]) -> Optio
     }
 }
 
-// Puts the tag in full in the place of its handle, of a node that begins there.
-fn resolve(tags: &TagDirectives, tag: &mut Tag, from: yaml_mark_t) -> Result<(), Refusal>
-    ensures { Resolves (resolved tags.now tag.old.handle.items tag.old.suffix.items) tag.old.mark
-        from result tag.new.handle.items }
-{
-    match prefix_of_tag(tags, tag.handle.as_slice()) {
-        Some(prefix) => {
-            join(&mut tag.handle, prefix, tag.suffix.as_slice())?;
-            Ok(())
-        }
-        None => Err(fault_at(ParseProblem::UndefinedHandle, tag.mark, from)),
-    }
-}
-
-// An empty scalar with these properties.
-// Out of line: other nodes are more, and in line its room would be set to zero for each.
-#[inline(never)]
-fn put_empty(
-    alloc: Global,
-    anchor: &mut Option<Vec<u8>>,
-    tag: &mut Option<Vec<u8>>,
-    event: &mut yaml_event_body_t,
-)
-    ensures { body_of event.new ≡ node_event (text_of anchor.old) (text_of tag.old) item.empty }
-{
-    let plain_implicit = tag.is_none();
-    let scalar = yaml_event_body_t::Scalar {
-        anchor: anchor.take(),
-        tag: tag.take(),
-        value: Vec::new(alloc),
-        plain_implicit,
-        quoted_implicit: false,
-        style: yaml_scalar_style_t::YAML_PLAIN_SCALAR_STYLE,
-    };
-    put(event, scalar);
-}
-
-// A sequence with these properties begins.
-// Out of line: most nodes are scalars, and in line its room would be set to zero for each.
-#[inline(never)]
-fn put_sequence(
-    anchor: &mut Option<Vec<u8>>,
-    tag: &mut Option<Vec<u8>>,
-    style: yaml_sequence_style_t,
-    event: &mut yaml_event_body_t,
-)
-    ensures { body_of event.new ≡ node_event (text_of anchor.old) (text_of tag.old)
-        (item.sequence style) }
-{
-    let implicit = tag.is_none();
-    let start = yaml_event_body_t::SequenceStart {
-        anchor: anchor.take(),
-        tag: tag.take(),
-        implicit,
-        style,
-    };
-    put(event, start);
-}
-
-// A mapping with these properties begins.
-// Out of line: most nodes are scalars, and in line its room would be set to zero for each.
-#[inline(never)]
-fn put_mapping(
-    anchor: &mut Option<Vec<u8>>,
-    tag: &mut Option<Vec<u8>>,
-    style: yaml_mapping_style_t,
-    event: &mut yaml_event_body_t,
-)
-    ensures { body_of event.new ≡ node_event (text_of anchor.old) (text_of tag.old)
-        (item.mapping style) }
-{
-    let implicit = tag.is_none();
-    let start = yaml_event_body_t::MappingStart {
-        anchor: anchor.take(),
-        tag: tag.take(),
-        implicit,
-        style,
-    };
-    put(event, start);
-}
-
-// The event of a node whose tag is resolved. Its texts are moved.
-// Inlined: where it is called it is known whether there is a tag.
+// Puts the tag in full in the place of its handle.
+// Inlined into its two callers.
 #[inline(always)]
-fn node(
-    alloc: Global,
-    anchor: &mut Option<Vec<u8>>,
-    tag: &mut Option<Vec<u8>>,
-    shape: &mut Shape,
-    event: &mut yaml_event_body_t,
-)
-    ensures { body_of event.new ≡ node_event (text_of anchor.old) (text_of tag.old)
-        (shape_of shape.old) }
+fn resolve(
+    tags: &TagDirectives,
+    waiting: &mut Waiting<Vec<u8>, yaml_mark_t>,
+    fault: &mut yaml_fault_t,
+) -> bool
+    ensures resolves { Resolves (resolved tags.now waiting.old.handle.items
+        waiting.old.suffix.items) waiting.old.tag_from waiting.old.from result
+        waiting.new.handle.items (fault_of fault.new) }
+    ensures same { waiting.new ≡ record waiting.old { handle = waiting.new.handle } }
 {
-    match shape {
-        Shape::Empty => put_empty(alloc, anchor, tag, event),
-        Shape::Scalar { value, style } => scalar(anchor, tag, value, *style, event),
-        Shape::Sequence(style) => put_sequence(anchor, tag, *style, event),
-        Shape::Mapping(style) => put_mapping(anchor, tag, *style, event),
+    match prefix_of_tag(tags, waiting.handle.as_slice()) {
+        Some(prefix) => match join(&mut waiting.handle, prefix, waiting.suffix.as_slice()) {
+            Ok(()) => true,
+            Err(_) => {
+                lack_memory(fault);
+                false
+            }
+        },
+        None => {
+            refuse(
+                ParseProblem::UndefinedHandle,
+                waiting.tag_from,
+                waiting.from,
+                fault,
+            );
+            false
+        }
     }
 }
 
-fn copy_directives(
-    alloc: Global,
-    tags: &[yaml_tag_directive_t],
-) -> Result<Vec<yaml_tag_directive_t>, Refusal>
-    ensures ok { IfOk result (λ v. map directive_of v.items ≡ map directive_of tags.now) }
-    ensures err { IfErr result IsMemory }
+// Puts the tag in full in the place of its handle, if there is one.
+// Inlined into its two callers.
+#[inline(always)]
+fn resolve_if(
+    tags: &TagDirectives,
+    waiting: &mut Waiting<Vec<u8>, yaml_mark_t>,
+    fault: &mut yaml_fault_t,
+) -> bool
+    ensures names { (anchor : Option (List ℕ)) (shape : item.Shape) (ds : DirectivesSpec)
+        → ds.tags ≡ tags.now → Names (settle_body (item.node anchor
+        (tag_if waiting.old.has_tag waiting.old.handle.items waiting.old.suffix.items
+        waiting.old.tag_from) shape) waiting.old.from ds) anchor
+        (text_if waiting.old.has_tag waiting.new.handle.items) shape ds result
+        (fault_of fault.new) }
+    ensures same { waiting.new ≡ record waiting.old { handle = waiting.new.handle } }
 {
-    match yaml_parse_model::copy_directives(alloc, tags) {
-        Ok(copies) => Ok(copies),
-        Err(_) => Err(Refusal::Memory),
+    if waiting.has_tag {
+        resolve(tags, waiting, fault)
+    } else {
+        true
     }
 }
 
@@ -252,18 +207,23 @@ fn note_version(
     major: i32,
     minor: i32,
     at: yaml_mark_t,
-) -> Result<(), Refusal>
-    ensures { Notes (with_version (directives_of directives.old).version
-        (directives_of directives.old).tags major minor at) result (directives_of directives.new) }
+    fault: &mut yaml_fault_t,
+) -> Settled
+    ensures { Notes (with_version directives.old.version directives.old.tags major minor at) result
+        (fault_of fault.new) (directives_of directives.new) }
 {
     match directives.version {
-        Some(_) => Err(fault_at(ParseProblem::DuplicateVersion, at, at)),
+        Some(_) => {
+            refuse(ParseProblem::DuplicateVersion, at, at, fault);
+            Settled::Refused
+        }
         None => {
             if is_known(major, minor) {
                 directives.version = Some(yaml_version_directive_t { major, minor });
-                Ok(())
+                Settled::Noted
             } else {
-                Err(fault_at(ParseProblem::IncompatibleVersion, at, at))
+                refuse(ParseProblem::IncompatibleVersion, at, at, fault);
+                Settled::Refused
             }
         }
     }
@@ -271,223 +231,544 @@ fn note_version(
 
 // A `%TAG` directive, whose texts are moved.
 fn note_tag(
-    alloc: Global,
     directives: &mut Directives,
     handle: &mut Vec<u8>,
     prefix: &mut Vec<u8>,
     at: yaml_mark_t,
-) -> Result<(), Refusal>
+    fault: &mut yaml_fault_t,
+) -> Settled
     ensures { Notes (with_tag (directive_for handle.old.items (directives_of directives.old).tags)
         (directives_of directives.old) handle.old.items prefix.old.items at) result
-        (directives_of directives.new) }
+        (fault_of fault.new) (directives_of directives.new) }
 {
     match directives.tags.prefix_of(handle.as_slice()) {
-        Some(_) => Err(fault_at(ParseProblem::DuplicateHandle, at, at)),
-        None => directives.tags.push(alloc, moved(handle), moved(prefix)),
-    }
-}
-
-// Nothing carries over to the next document.
-fn end_directives(directives: &mut Directives, event: &Resolved)
-    ensures { directives_of directives.new ≡ behind_event (plain_of event.now)
-        (directives_of directives.old) }
-{
-    match *event {
-        Resolved::DocumentEnd { .. } => {
-            directives.version = None;
-            directives.tags.clear();
+        Some(_) => {
+            refuse(ParseProblem::DuplicateHandle, at, at, fault);
+            Settled::Refused
         }
-        _ => {}
+        None => match directives
+            .tags
+            .push(directives.alloc, moved(handle), moved(prefix))
+        {
+            Ok(()) => Settled::Noted,
+            Err(_) => {
+                lack_memory(fault);
+                Settled::Refused
+            }
+        },
     }
 }
 
-fn plain_event(event: &mut Resolved, alloc: Global) -> yaml_event_body_t
-    ensures { body_of result ≡ plain_of event.old }
-{
-    match event {
-        Resolved::StreamStart { encoding } => yaml_event_body_t::StreamStart {
-            encoding: *encoding,
-        },
-        Resolved::StreamEnd => yaml_event_body_t::StreamEnd,
-        Resolved::DocumentEnd { implicit } => yaml_event_body_t::DocumentEnd {
-            implicit: *implicit,
-        },
-        Resolved::Alias { anchor } => yaml_event_body_t::Alias {
-            anchor: moved(anchor),
-        },
-        Resolved::SequenceEnd => yaml_event_body_t::SequenceEnd,
-        Resolved::MappingEnd => yaml_event_body_t::MappingEnd,
-    }
-}
-
-// An event that has nothing to resolve.
-fn settle_event(
-    alloc: Global,
-    directives: &mut Directives,
-    plain: &mut Resolved,
-    event: &mut yaml_event_body_t,
-)
-    ensures body { body_of event.new ≡ plain_of plain.old }
-    ensures directives { directives_of directives.new ≡ behind_event (plain_of plain.old)
+// A document ends: nothing carries over to the next one.
+// Out of line: it is met once a document.
+#[inline(never)]
+fn end_document(directives: &mut Directives, implicit: bool, event: &mut yaml_event_body_t)
+    ensures body { body_of event.new ≡ told.document_end implicit }
+    ensures directives { directives_of directives.new ≡ behind_event (told.document_end implicit)
         (directives_of directives.old) }
 {
-    end_directives(directives, plain);
-    put(event, plain_event(plain, alloc));
+    directives.version = None;
+    directives.tags.clear();
+    put(event, yaml_event_body_t::DocumentEnd { implicit });
 }
 
 // A document starts, with the directives before it.
-fn settle_document(
-    alloc: Global,
+// Out of line: it is met once a document.
+#[inline(never)]
+fn start_document(
     directives: &Directives,
     implicit: bool,
     event: &mut yaml_event_body_t,
-) -> Result<(), Refusal>
-    ensures ok { IfOk result (λ u. body_of event.new ≡ told.document_start
-        (directives_of directives.now).version (directives_of directives.now).tags implicit) }
-    ensures err { IfErr result IsMemory }
+    fault: &mut yaml_fault_t,
+) -> Settled
+    ensures { Comes (gave (told.document_start directives.now.version directives.now.tags implicit)
+        (directives_of directives.now)) result (body_of event.new) (fault_of fault.new)
+        (directives_of directives.now) }
 {
-    let tag_directives = copy_directives(alloc, directives.tags.as_slice())?;
-    let start = yaml_event_body_t::DocumentStart {
-        version_directive: directives.version,
-        tag_directives,
-        implicit,
-    };
-    put(event, start);
-    Ok(())
-}
-
-// The room of the tag that an earlier event had, if it had one, is kept in the place of the handle.
-fn keep_room(tag: &mut Tag, earlier: Option<Vec<u8>>) {
-    match earlier {
-        None => {}
-        Some(text) => {
-            tag.handle = text;
+    match copy_directives(directives.alloc, directives.tags.as_slice()) {
+        Ok(tag_directives) => {
+            let start = yaml_event_body_t::DocumentStart {
+                version_directive: directives.version,
+                tag_directives,
+                implicit,
+            };
+            put(event, start);
+            Settled::Event
+        }
+        Err(_) => {
+            lack_memory(fault);
+            Settled::Refused
         }
     }
 }
 
-// The event of a node that has properties, and begins there. The anchor is moved.
-fn with_properties(
-    alloc: Global,
-    tags: &TagDirectives,
-    properties: &mut Properties,
-    shape: &mut Shape,
-    from: yaml_mark_t,
+// The scalar of a token that is taken.
+// Inlined: the token's kind is known.
+#[inline(always)]
+fn tell_scalar(
+    waiting: &mut Waiting<Vec<u8>, yaml_mark_t>,
+    token: &mut yaml_token_body_t,
     event: &mut yaml_event_body_t,
-) -> Result<bool, Refusal>
-    ensures { (ds : DirectivesSpec) → ds.tags ≡ tags.now
-        → SettlesBody (settle_item_body (item.node (text_of properties.old.anchor)
-        (tag_if properties.old.is_tagged properties.old.tag) (shape_of shape.old)) from ds) result
-        event.new ds }
+)
+    ensures { body_of event.new ≡ node_event None None
+        (item.scalar (value_in (token_body token.old)) (style_in (token_body token.old))) }
 {
-    if properties.is_tagged {
-        resolve(tags, &mut properties.tag, from)?;
-        let mut full = Some(moved(&mut properties.tag.handle));
-        node(alloc, &mut properties.anchor, &mut full, shape, event);
-        keep_room(&mut properties.tag, full);
-        Ok(true)
-    } else {
-        let mut no_tag = None;
-        node(alloc, &mut properties.anchor, &mut no_tag, shape, event);
-        Ok(true)
+    match token {
+        yaml_token_body_t::Scalar { value, style } => bare(waiting, value, *style, event),
+        _ => tell_no_scalar(waiting, event),
     }
 }
 
-// The event of a node, which begins there. Its properties stay where they are, with what isn't moved of them.
-fn settle_node(
-    alloc: Global,
-    tags: &TagDirectives,
-    properties: &mut Option<Box<Properties>>,
-    shape: &mut Shape,
-    from: yaml_mark_t,
+// Where the token is no scalar: the machine says that it is one.
+#[cold]
+#[inline(never)]
+fn tell_no_scalar(waiting: &mut Waiting<Vec<u8>, yaml_mark_t>, event: &mut yaml_event_body_t)
+    ensures { body_of event.new ≡ node_event None None (item.scalar [] YAML_ANY_SCALAR_STYLE) }
+{
+    let mut nothing = Vec::new(*waiting.anchor.allocator());
+    bare(
+        waiting,
+        &mut nothing,
+        yaml_scalar_style_t::YAML_ANY_SCALAR_STYLE,
+        event,
+    );
+}
+
+// A sequence begins without properties.
+// Inlined: its style is known.
+#[inline(always)]
+fn tell_sequence(
+    token: &mut yaml_token_body_t,
+    style: yaml_sequence_style_t,
     event: &mut yaml_event_body_t,
-) -> Result<bool, Refusal>
-    ensures { (ds : DirectivesSpec) → ds.tags ≡ tags.now
-        → SettlesBody (settle_item_body (node_of properties.old (shape_of shape.old)) from ds)
-        result event.new ds }
+)
+    ensures { body_of event.new ≡ node_event None None (item.sequence style) }
 {
-    match properties {
-        None => {
-            let mut no_anchor = None;
-            let mut no_tag = None;
-            node(alloc, &mut no_anchor, &mut no_tag, shape, event);
-            Ok(true)
-        }
-        Some(there) => with_properties(alloc, tags, there, shape, from, event),
-    }
+    vacate(event, token);
+    start_sequence(event, style);
 }
 
-// A box that is done with, if there is one, may be used again.
-pub(crate) fn spare_box(
-    properties: &mut Option<Box<Properties>>,
-    spare: &mut Option<Box<Properties>>,
-) {
-    if properties.is_some() {
-        *spare = properties.take();
-    }
-}
-
-// The event of an item, whose place is told besides.
-fn settle_body(
-    alloc: Global,
-    directives: &mut Directives,
-    body: &mut RawEventBody,
-    spare: &mut Option<Box<Properties>>,
-    from: yaml_mark_t,
+// A mapping begins without properties.
+// Inlined: its style is known.
+#[inline(always)]
+fn tell_mapping(
+    token: &mut yaml_token_body_t,
+    style: yaml_mapping_style_t,
     event: &mut yaml_event_body_t,
-) -> Result<bool, Refusal>
-    ensures { SettlesBody (settle_item_body (item_body_of body.old) from
-        (directives_of directives.old)) result event.new (directives_of directives.new) }
+)
+    ensures { body_of event.new ≡ node_event None None (item.mapping style) }
 {
-    match *body {
-        RawEventBody::Event(ref mut plain) => {
-            settle_event(alloc, directives, plain, event);
-            Ok(true)
-        }
-        RawEventBody::VersionDirective { major, minor } => {
-            note_version(directives, major, minor, from)?;
-            Ok(false)
-        }
-        RawEventBody::TagDirective {
-            ref mut handle,
-            ref mut prefix,
-        } => {
-            note_tag(alloc, directives, handle, prefix, from)?;
-            Ok(false)
-        }
-        RawEventBody::Document { implicit } => {
-            settle_document(alloc, directives, implicit, event)?;
-            Ok(true)
-        }
-        RawEventBody::Node {
-            ref mut properties,
-            ref mut shape,
-        } => {
-            let given = settle_node(alloc, &directives.tags, properties, shape, from, event);
-            spare_box(properties, spare);
-            given
-        }
-    }
+    vacate(event, token);
+    start_mapping(event, style);
 }
 
-/// The event of the slot's item by the directives of its document, or nothing for a directive.
-pub fn settle(
-    alloc: Global,
-    directives: &mut Directives,
-    slot: &mut RawEvent,
+/// The event of a node without properties.
+// Inlined into its one caller, the parser's step.
+#[inline(always)]
+pub fn tell_node(
+    shape: Shape,
+    waiting: &mut Waiting<Vec<u8>, yaml_mark_t>,
+    token: &mut yaml_token_t,
     event: &mut yaml_event_t,
-) -> Result<bool, Refusal>
-    ensures { Settles (settle_item (item_of slot.old) (directives_of directives.old))
-        (item_of slot.old) result event.new (directives_of directives.new) }
+)
+    ensures { event_of event.new ≡ placed (node_event None None
+        (shape_at shape (token_of token.old).body)) (node_item shape (token_of token.old)) }
 {
-    event.start_mark = slot.from;
-    event.end_mark = slot.to;
-    settle_body(
-        alloc,
-        directives,
-        &mut slot.body,
-        &mut slot.spare,
-        slot.from,
-        &mut event.body,
-    )
+    event.start_mark = mark_again(&token.start_mark);
+    event.end_mark = mark_again(&token.end_mark);
+    match shape {
+        Shape::Scalar => tell_scalar(waiting, &mut token.body, &mut event.body),
+        Shape::BlockSequence => tell_sequence(
+            &mut token.body,
+            yaml_sequence_style_t::YAML_BLOCK_SEQUENCE_STYLE,
+            &mut event.body,
+        ),
+        Shape::BlockMapping => tell_mapping(
+            &mut token.body,
+            yaml_mapping_style_t::YAML_BLOCK_MAPPING_STYLE,
+            &mut event.body,
+        ),
+        Shape::FlowSequence => tell_sequence(
+            &mut token.body,
+            yaml_sequence_style_t::YAML_FLOW_SEQUENCE_STYLE,
+            &mut event.body,
+        ),
+        Shape::FlowMapping => tell_mapping(
+            &mut token.body,
+            yaml_mapping_style_t::YAML_FLOW_MAPPING_STYLE,
+            &mut event.body,
+        ),
+    }
+}
+
+// The scalar of a token that is taken, behind properties.
+// Inlined: the token's kind is known.
+#[inline(always)]
+fn tell_named_scalar(
+    waiting: &mut Waiting<Vec<u8>, yaml_mark_t>,
+    token: &mut yaml_token_body_t,
+    event: &mut yaml_event_body_t,
+)
+    ensures { body_of event.new ≡ node_event (text_if waiting.old.has_anchor
+        waiting.old.anchor.items) (text_if waiting.old.has_tag waiting.old.handle.items)
+        (item.scalar (value_in (token_body token.old)) (style_in (token_body token.old))) }
+{
+    match token {
+        yaml_token_body_t::Scalar { value, style } => named(waiting, value, *style, event),
+        _ => tell_no_named_scalar(waiting, event),
+    }
+}
+
+// Where the token is no scalar: the machine says that it is one.
+#[cold]
+#[inline(never)]
+fn tell_no_named_scalar(waiting: &mut Waiting<Vec<u8>, yaml_mark_t>, event: &mut yaml_event_body_t)
+    ensures { body_of event.new ≡ node_event (text_if waiting.old.has_anchor
+        waiting.old.anchor.items) (text_if waiting.old.has_tag waiting.old.handle.items)
+        (item.scalar [] YAML_ANY_SCALAR_STYLE) }
+{
+    let mut nothing = Vec::new(*waiting.anchor.allocator());
+    named(
+        waiting,
+        &mut nothing,
+        yaml_scalar_style_t::YAML_ANY_SCALAR_STYLE,
+        event,
+    );
+}
+
+// A sequence begins behind properties.
+fn tell_named_sequence(
+    waiting: &mut Waiting<Vec<u8>, yaml_mark_t>,
+    token: &mut yaml_token_body_t,
+    style: yaml_sequence_style_t,
+    event: &mut yaml_event_body_t,
+)
+    ensures { body_of event.new ≡ node_event (text_if waiting.old.has_anchor
+        waiting.old.anchor.items) (text_if waiting.old.has_tag waiting.old.handle.items)
+        (item.sequence style) }
+{
+    vacate(event, token);
+    start_named_sequence(waiting, style, event);
+}
+
+// A mapping begins behind properties.
+fn tell_named_mapping(
+    waiting: &mut Waiting<Vec<u8>, yaml_mark_t>,
+    token: &mut yaml_token_body_t,
+    style: yaml_mapping_style_t,
+    event: &mut yaml_event_body_t,
+)
+    ensures { body_of event.new ≡ node_event (text_if waiting.old.has_anchor
+        waiting.old.anchor.items) (text_if waiting.old.has_tag waiting.old.handle.items)
+        (item.mapping style) }
+{
+    vacate(event, token);
+    start_named_mapping(waiting, style, event);
+}
+
+// The event of a node behind properties. Its tag stands in full in the place of its handle.
+// Inlined into its one caller.
+#[inline(always)]
+fn tell_named(
+    shape: Shape,
+    waiting: &mut Waiting<Vec<u8>, yaml_mark_t>,
+    token: &mut yaml_token_body_t,
+    event: &mut yaml_event_body_t,
+)
+    ensures { body_of event.new ≡ node_event (text_if waiting.old.has_anchor
+        waiting.old.anchor.items) (text_if waiting.old.has_tag waiting.old.handle.items)
+        (shape_at shape (token_body token.old)) }
+{
+    match shape {
+        Shape::Scalar => tell_named_scalar(waiting, token, event),
+        Shape::BlockSequence => tell_named_sequence(
+            waiting,
+            token,
+            yaml_sequence_style_t::YAML_BLOCK_SEQUENCE_STYLE,
+            event,
+        ),
+        Shape::BlockMapping => tell_named_mapping(
+            waiting,
+            token,
+            yaml_mapping_style_t::YAML_BLOCK_MAPPING_STYLE,
+            event,
+        ),
+        Shape::FlowSequence => tell_named_sequence(
+            waiting,
+            token,
+            yaml_sequence_style_t::YAML_FLOW_SEQUENCE_STYLE,
+            event,
+        ),
+        Shape::FlowMapping => tell_named_mapping(
+            waiting,
+            token,
+            yaml_mapping_style_t::YAML_FLOW_MAPPING_STYLE,
+            event,
+        ),
+    }
+}
+
+/// The event of a node behind the properties that waited, or a fault: its tag's handle stands for nothing.
+// Out of line: few nodes have properties.
+#[inline(never)]
+pub fn settle_named(
+    tags: &TagDirectives,
+    shape: Shape,
+    waiting: &mut Waiting<Vec<u8>, yaml_mark_t>,
+    token: &mut yaml_token_t,
+    event: &mut yaml_event_t,
+    fault: &mut yaml_fault_t,
+) -> Settled
+    ensures { (ds : DirectivesSpec) → ds.tags ≡ tags.now → ComesTo (named_item shape
+        (owned_properties waiting.old) (token_of token.old)) ds result (event_of event.new)
+        (fault_of fault.new) ds }
+{
+    event.start_mark = mark_again(&waiting.from);
+    event.end_mark = mark_again(&token.end_mark);
+    if resolve_if(tags, waiting, fault) {
+        tell_named(shape, waiting, &mut token.body, &mut event.body);
+        Settled::Event
+    } else {
+        Settled::Refused
+    }
+}
+
+// A node that is nothing but its properties.
+fn settle_alone(
+    tags: &TagDirectives,
+    waiting: &mut Waiting<Vec<u8>, yaml_mark_t>,
+    event: &mut yaml_event_t,
+    fault: &mut yaml_fault_t,
+) -> Settled
+    ensures { (ds : DirectivesSpec) (b start : yaml_mark_t) → ds.tags ≡ tags.now
+        → ComesTo (implied_item implied.Properties (owned_properties waiting.old) b start) ds result
+        (event_of event.new) (fault_of fault.new) ds }
+{
+    event.start_mark = mark_again(&waiting.from);
+    event.end_mark = mark_again(&waiting.to);
+    if resolve_if(tags, waiting, fault) {
+        let has_anchor = waiting.has_anchor;
+        let has_tag = waiting.has_tag;
+        empty(waiting, has_anchor, has_tag, &mut event.body);
+        Settled::Event
+    } else {
+        Settled::Refused
+    }
+}
+
+/// The event of what stands in front of a token that stays, at that place, or a fault: its tag's handle stands for nothing.
+// Out of line: few do.
+#[inline(never)]
+pub fn settle_implied(
+    directives: &mut Directives,
+    implied: Implied,
+    at: &yaml_mark_t,
+    waiting: &mut Waiting<Vec<u8>, yaml_mark_t>,
+    event: &mut yaml_event_t,
+    fault: &mut yaml_fault_t,
+) -> Settled
+    ensures { ComesTo (implied_item implied (owned_properties waiting.old) at.now at.now)
+        (directives_of directives.old) result (event_of event.new) (fault_of fault.new)
+        (directives_of directives.new) }
+{
+    event.start_mark = mark_again(at);
+    event.end_mark = mark_again(at);
+    match implied {
+        Implied::Nothing => {
+            empty(waiting, false, false, &mut event.body);
+            Settled::Event
+        }
+        Implied::NothingBefore => {
+            empty(waiting, false, false, &mut event.body);
+            Settled::Event
+        }
+        Implied::Properties => settle_alone(&directives.tags, waiting, event, fault),
+        Implied::SequenceEnd => {
+            put(&mut event.body, yaml_event_body_t::SequenceEnd);
+            Settled::Event
+        }
+        Implied::MappingEnd => {
+            put(&mut event.body, yaml_event_body_t::MappingEnd);
+            Settled::Event
+        }
+        Implied::DocumentEnd => {
+            end_document(directives, true, &mut event.body);
+            Settled::Event
+        }
+    }
+}
+
+/// A document begins in front of a token, which begins there.
+// Out of line: it is met once a document.
+#[inline(never)]
+pub fn settle_opened(
+    directives: &Directives,
+    start: &yaml_mark_t,
+    event: &mut yaml_event_t,
+    fault: &mut yaml_fault_t,
+) -> Settled
+    ensures { ComesTo (item.item_at (item.document true) start.now start.now)
+        (directives_of directives.now) result (event_of event.new) (fault_of fault.new)
+        (directives_of directives.now) }
+{
+    event.start_mark = mark_again(start);
+    event.end_mark = mark_again(start);
+    start_document(directives, true, &mut event.body, fault)
+}
+
+// A stream's start.
+#[inline(never)]
+fn start_stream(token: &yaml_token_body_t, event: &mut yaml_event_body_t)
+    ensures { body_of event.new ≡ told.stream_start (encoding_in (token_body token.now)) }
+{
+    let encoding = match *token {
+        yaml_token_body_t::StreamStart { encoding } => encoding,
+        _ => yaml_encoding_t::YAML_ANY_ENCODING,
+    };
+    put(event, yaml_event_body_t::StreamStart { encoding });
+}
+
+// The version of a `%YAML` directive.
+#[inline(never)]
+fn tell_version(
+    directives: &mut Directives,
+    token: &yaml_token_t,
+    fault: &mut yaml_fault_t,
+) -> Settled
+    ensures { Notes (with_version directives.old.version directives.old.tags
+        (major_in (token_of token.now).body) (minor_in (token_of token.now).body)
+        token.now.start_mark) result (fault_of fault.new) (directives_of directives.new) }
+{
+    match token.body {
+        yaml_token_body_t::VersionDirective { major, minor } => {
+            note_version(directives, major, minor, token.start_mark, fault)
+        }
+        _ => note_version(directives, 0, 0, token.start_mark, fault),
+    }
+}
+
+// The texts of a `%TAG` directive.
+#[inline(never)]
+fn tell_tag(
+    directives: &mut Directives,
+    token: &mut yaml_token_t,
+    fault: &mut yaml_fault_t,
+) -> Settled
+    ensures { Notes (with_tag (directive_for (handle_in (token_of token.old).body)
+        directives.old.tags) (directives_of directives.old) (handle_in (token_of token.old).body)
+        (prefix_in (token_of token.old).body) token.old.start_mark) result (fault_of fault.new)
+        (directives_of directives.new) }
+{
+    let at = token.start_mark;
+    match &mut token.body {
+        yaml_token_body_t::TagDirective { handle, prefix } => {
+            note_tag(directives, handle, prefix, at, fault)
+        }
+        _ => note_no_tag(directives, at, fault),
+    }
+}
+
+// Where the token is no directive: the machine says that it is one.
+#[cold]
+#[inline(never)]
+fn note_no_tag(directives: &mut Directives, at: yaml_mark_t, fault: &mut yaml_fault_t) -> Settled
+    ensures { Notes (with_tag (directive_for [] directives.old.tags) (directives_of directives.old)
+        [] [] at) result (fault_of fault.new) (directives_of directives.new) }
+{
+    let mut handle = Vec::new(directives.alloc);
+    let mut prefix = Vec::new(directives.alloc);
+    note_tag(directives, &mut handle, &mut prefix, at, fault)
+}
+
+// An alias. The room of a text that the slot has from an earlier event is left in the token.
+// Inlined: the token's kind is known.
+#[inline(always)]
+fn tell_alias(alloc: Global, token: &mut yaml_token_body_t, event: &mut yaml_event_body_t)
+    ensures { body_of event.new ≡ told.alias (name_in (token_body token.old)) }
+{
+    match token {
+        yaml_token_body_t::Alias { value } => put_alias(event, value),
+        _ => tell_no_alias(alloc, event),
+    }
+}
+
+// Where the token is no alias: the machine says that it is one.
+#[cold]
+#[inline(never)]
+fn tell_no_alias(alloc: Global, event: &mut yaml_event_body_t)
+    ensures { body_of event.new ≡ told.alias [] }
+{
+    let mut nothing = Vec::new(alloc);
+    put_alias(event, &mut nothing);
+}
+
+// A sequence ends.
+// Inlined: mostly the slot holds no text.
+#[inline(always)]
+fn tell_sequence_end(token: &mut yaml_token_body_t, event: &mut yaml_event_body_t)
+    ensures { body_of event.new ≡ told.sequence_end }
+{
+    vacate(event, token);
+    end_sequence(event);
+}
+
+// A mapping ends.
+// Inlined: mostly the slot holds no text.
+#[inline(always)]
+fn tell_mapping_end(token: &mut yaml_token_body_t, event: &mut yaml_event_body_t)
+    ensures { body_of event.new ≡ told.mapping_end }
+{
+    vacate(event, token);
+    end_mapping(event);
+}
+
+/// What a token tells but nodes: the event, or nothing for a directive, or a fault.
+// Inlined into its one caller, the parser's step.
+#[inline(always)]
+pub fn settle_told(
+    directives: &mut Directives,
+    told: Told,
+    opener: &yaml_mark_t,
+    token: &mut yaml_token_t,
+    event: &mut yaml_event_t,
+    fault: &mut yaml_fault_t,
+) -> Settled
+    ensures { ComesTo (told_item told opener.now (token_of token.old)) (directives_of directives.old)
+        result (event_of event.new) (fault_of fault.new) (directives_of directives.new) }
+{
+    event.start_mark = mark_again(&token.start_mark);
+    event.end_mark = mark_again(&token.end_mark);
+    match told {
+        Told::SequenceEnd => {
+            tell_sequence_end(&mut token.body, &mut event.body);
+            Settled::Event
+        }
+        Told::MappingEnd => {
+            tell_mapping_end(&mut token.body, &mut event.body);
+            Settled::Event
+        }
+        Told::Alias => {
+            tell_alias(directives.alloc, &mut token.body, &mut event.body);
+            Settled::Event
+        }
+        Told::StreamStart => {
+            start_stream(&token.body, &mut event.body);
+            Settled::Event
+        }
+        Told::StreamEnd => {
+            put(&mut event.body, yaml_event_body_t::StreamEnd);
+            Settled::Event
+        }
+        Told::VersionDirective => tell_version(directives, token, fault),
+        Told::TagDirective => tell_tag(directives, token, fault),
+        Told::DocumentStart => start_document(directives, false, &mut event.body, fault),
+        Told::DocumentDeclared => {
+            event.start_mark = mark_again(opener);
+            start_document(directives, false, &mut event.body, fault)
+        }
+        Told::DocumentEnd => {
+            end_document(directives, false, &mut event.body);
+            Settled::Event
+        }
+    }
 }

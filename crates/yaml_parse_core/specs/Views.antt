@@ -171,7 +171,8 @@ told_item k o t = item_at (told_body k t.body) t.start_mark t.end_mark
 abbrev pub implied_item : Implied → Properties → yaml_mark_t → yaml_mark_t → RawEvent
 implied_item implied.Nothing p b start = item_at (item.node None None item.empty) start start
 implied_item implied.NothingBefore p b start = item_at (item.node None None item.empty) b b
-implied_item implied.Properties p b start = item_at (item.node p.anchor p.tag item.empty) p.from p.to
+implied_item implied.Properties p b start = item_at (item.node p.anchor p.tag item.empty) p.from
+    p.to
 implied_item implied.SequenceEnd p b start = item_at (item.event event.sequence_end) start start
 implied_item implied.MappingEnd p b start = item_at (item.event event.mapping_end) start start
 implied_item implied.DocumentEnd p b start = item_at (item.event (event.document_end true)) start

@@ -143,7 +143,8 @@ pub(crate) fn at_directives<T: yaml_lent_token_t>(
 ) -> Turn
     requires awaited { machine.old.awaited ≡ Nothing }
     requires level { machine.old.top.level ≡ level.Directives }
-    ensures { (s : List ℕ) (p : Properties) → Turns (state.directives (T.mark s machine.old.top.opener))
+    ensures { (s : List ℕ) (p : Properties) → Turns
+        (state.directives (T.mark s machine.old.top.opener))
         (whole_of (T.mark s) kind (T.extra token.now) (T.from token.now) (T.to token.now)
         (T.text s token.now) (T.other s token.now))
         (stack_of (T.mark s) machine.old.below.items) (seen result)

@@ -93,8 +93,9 @@ fn make_room<P: Copy>(stack: &mut Vec<Kept<P>>) -> Result<(), AllocError>
 #[inline(always)]
 pub(crate) fn come_back<P: Copy>(machine: &mut Machine<P>)
     ensures awaited { machine.new.awaited ≡ machine.old.awaited }
-    ensures stack { (mark : P → yaml_mark_t) → level_over machine.new.top.level (mark machine.new.top.opener)
-        (stack_of mark machine.new.below.items) ≡ stack_of mark machine.old.below.items }
+    ensures stack { (mark : P → yaml_mark_t) → level_over machine.new.top.level
+        (mark machine.new.top.opener) (stack_of mark machine.new.below.items)
+        ≡ stack_of mark machine.old.below.items }
 {
     match machine.below.pop() {
         Some(kept) => {

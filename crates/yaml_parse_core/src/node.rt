@@ -11,6 +11,7 @@ ghost use Rattle.yaml_parse_grammar.specs.States as state;
 ghost use Rattle.yaml_parse_grammar.specs.Items.{Properties};
 ghost use Rattle.yaml_parse_grammar.specs.Machine.{tag_at};
 ghost use Rattle.yaml_parse_model.specs.declared.yaml_token_type_t.TheVariants as kinds;
+ghost use Rattle.yaml_parse_grammar.specs.declared.name.Wants.TheVariants as wants;
 
 use crate::level::{Await, Level};
 use crate::machine::{Machine, Turn, await_behind, begin};
@@ -134,28 +135,41 @@ fn block_content<T: yaml_lent_token_t>(
                 Ok(()) => Turn::BlockMapping,
                 Err(_) => Turn::Memory,
             },
-            yaml_token_type_t::YAML_BLOCK_ENTRY_TOKEN => match side {
-                None => Turn::NoBlockNode,
-                Some(Side::Key) => match open_others(
-                    machine,
-                    Level::OtherKeys,
-                    Await::LooseKey,
-                    token,
-                ) {
-                    Ok(()) => Turn::BlockSequence,
-                    Err(_) => Turn::Memory,
-                },
-                Some(Side::Value) => match open_others(
-                    machine,
-                    Level::OtherValues,
-                    Await::LooseValue,
-                    token,
-                ) {
-                    Ok(()) => Turn::BlockSequence,
-                    Err(_) => Turn::Memory,
-                },
-            },
+            yaml_token_type_t::YAML_BLOCK_ENTRY_TOKEN => other_content(machine, token, side),
             _ => Turn::NoBlockNode,
+        },
+    }
+}
+
+// The same, where a dash stands: a key or a value may be a sequence that isn't indented.
+#[inline(always)]
+fn other_content<T: yaml_lent_token_t>(
+    machine: &mut Machine<T::Place>,
+    token: &T,
+    side: Option<Side>,
+) -> Turn
+    ensures content { (s : List ℕ) → Contents (wants.Block side)
+        (whole_of (T.mark s) kinds.YAML_BLOCK_ENTRY_TOKEN (T.extra token.now) (T.from token.now)
+        (T.to token.now) (T.text s token.now) (T.other s token.now))
+        (level_over machine.old.top.level (T.mark s machine.old.top.opener)
+        (stack_of (T.mark s) machine.old.below.items)) (seen result)
+        (states_by (T.mark s) machine.new) }
+    ensures same { IfRefused (seen result) (machine.new ≡ machine.old) }
+{
+    match side {
+        None => Turn::NoBlockNode,
+        Some(Side::Key) => match open_others(machine, Level::OtherKeys, Await::LooseKey, token) {
+            Ok(()) => Turn::BlockSequence,
+            Err(_) => Turn::Memory,
+        },
+        Some(Side::Value) => match open_others(
+            machine,
+            Level::OtherValues,
+            Await::LooseValue,
+            token,
+        ) {
+            Ok(()) => Turn::BlockSequence,
+            Err(_) => Turn::Memory,
         },
     }
 }
@@ -200,7 +214,8 @@ fn wait_by_tag<T: yaml_lent_token_t>(waiting: &mut Waiting<T::Text, T::Place>, t
     ensures { (s : List ℕ) → properties_of (T.bytes s) (T.mark s) waiting.new
         ≡ record {
           anchor = None;
-          tag = Some (tag_at (T.text s token.old) (T.other s token.old) (T.mark s (T.from token.old)));
+          tag = Some (tag_at (T.text s token.old) (T.other s token.old)
+              (T.mark s (T.from token.old)));
           from = T.mark s (T.from token.old);
           to = T.mark s (T.to token.old);
         } }
@@ -235,7 +250,8 @@ fn join_anchor<T: yaml_lent_token_t>(waiting: &mut Waiting<T::Text, T::Place>, t
 fn join_tag<T: yaml_lent_token_t>(waiting: &mut Waiting<T::Text, T::Place>, token: &mut T)
     ensures { (s : List ℕ) → properties_of (T.bytes s) (T.mark s) waiting.new
         ≡ record (properties_of (T.bytes s) (T.mark s) waiting.old) {
-          tag = Some (tag_at (T.text s token.old) (T.other s token.old) (T.mark s (T.from token.old)));
+          tag = Some (tag_at (T.text s token.old) (T.other s token.old)
+              (T.mark s (T.from token.old)));
           to = T.mark s (T.to token.old);
         } }
 {
@@ -304,7 +320,8 @@ pub(crate) fn at_rest<T: yaml_lent_token_t>(
 ) -> Turn
     requires { (b : yaml_mark_t) (p : Properties)
         → await_of machine.old.awaited b p ≡ state.with_properties wants p ∷ [] }
-    ensures turns { (s : List ℕ) → Turns (state.with_properties wants (properties_of (T.bytes s) (T.mark s) waiting.old))
+    ensures turns { (s : List ℕ) → Turns
+        (state.with_properties wants (properties_of (T.bytes s) (T.mark s) waiting.old))
         (whole_of (T.mark s) kind (T.extra token.old) (T.from token.old) (T.to token.old)
         (T.text s token.old) (T.other s token.old))
         (level_over machine.old.top.level (T.mark s machine.old.top.opener)

@@ -35,21 +35,25 @@ impl yaml_lent_token_t for yaml_token_t {
 
     ghost other = { λ s t. other_in (body_of t.body) };
 
+    // Inlined: each of the five is a read or a swap in the machine's turn.
     #[inline(always)]
     fn kind(&self) -> yaml_token_type_t {
         self.type_()
     }
 
+    // Inlined: see `kind`.
     #[inline(always)]
     fn from(&self) -> yaml_mark_t {
         self.start_mark
     }
 
+    // Inlined: see `kind`.
     #[inline(always)]
     fn to(&self) -> yaml_mark_t {
         self.end_mark
     }
 
+    // Inlined: see `kind`.
     #[inline(always)]
     fn take_text(&mut self, place: &mut Vec<u8>) {
         match &mut self.body {
@@ -59,6 +63,7 @@ impl yaml_lent_token_t for yaml_token_t {
         }
     }
 
+    // Inlined: see `kind`.
     #[inline(always)]
     fn take_other(&mut self, place: &mut Vec<u8>) {
         match &mut self.body {
@@ -87,13 +92,15 @@ fn take_other_text(body: &mut yaml_token_body_t, place: &mut Vec<u8>)
 }
 
 /// The topmost state at a token that owns its texts.
+// Inlined into its one caller, the parser's step.
 #[inline(always)]
 pub fn turn_owned(
     machine: &mut Machine<yaml_mark_t>,
     waiting: &mut Waiting<Vec<u8>, yaml_mark_t>,
     token: &mut yaml_token_t,
 ) -> Turn
-    ensures turns { TurnsOn (owned_states machine.old waiting.old) (token_of token.old) (seen result)
+    ensures turns { TurnsOn (owned_states machine.old waiting.old) (token_of token.old)
+        (seen result)
         (around_by (λ m. m) machine.new (owned_properties waiting.new))
         (owned_states_by machine.new) }
     ensures kept { keeps (seen result) ≡ true → token.new ≡ token.old }

@@ -54,7 +54,8 @@ pub(crate) fn at_entries<T: yaml_lent_token_t>(
 ) -> Turn
     requires awaited { machine.old.awaited ≡ Nothing }
     requires level { machine.old.top.level ≡ level.Entries }
-    ensures { (s : List ℕ) (p : Properties) → Turns (state.entries (T.mark s machine.old.top.opener))
+    ensures { (s : List ℕ) (p : Properties) → Turns
+        (state.entries (T.mark s machine.old.top.opener))
         (whole_of (T.mark s) kind (T.extra token.now) (T.from token.now) (T.to token.now)
         (T.text s token.now) (T.other s token.now))
         (stack_of (T.mark s) machine.old.below.items) (seen result)
@@ -160,7 +161,8 @@ pub(crate) fn at_sequence_colon<T: yaml_lent_token_t>(
     token: &T,
 ) -> Turn
     requires { machine.old.awaited ≡ Nothing }
-    ensures { (s : List ℕ) (p : Properties) → Turns (state.colon (site.FlowPair brackets.Sequence side.Value))
+    ensures { (s : List ℕ) (p : Properties) → Turns
+        (state.colon (site.FlowPair brackets.Sequence side.Value))
         (whole_of (T.mark s) kind (T.extra token.now) (T.from token.now) (T.to token.now)
         (T.text s token.now) (T.other s token.now))
         (state.pair_end ∷ state.more brackets.Sequence (T.mark s machine.old.top.opener)
@@ -185,7 +187,8 @@ pub(crate) fn at_mapping_colon<T: yaml_lent_token_t>(
     token: &T,
 ) -> Turn
     requires { machine.old.awaited ≡ Nothing }
-    ensures { (s : List ℕ) (p : Properties) → Turns (state.colon (site.FlowPair brackets.Mapping side.Value))
+    ensures { (s : List ℕ) (p : Properties) → Turns
+        (state.colon (site.FlowPair brackets.Mapping side.Value))
         (whole_of (T.mark s) kind (T.extra token.now) (T.from token.now) (T.to token.now)
         (T.text s token.now) (T.other s token.now))
         (state.more brackets.Mapping (T.mark s machine.old.top.opener)
@@ -210,7 +213,8 @@ pub(crate) fn at_sequence_more<T: yaml_lent_token_t>(
     token: &T,
 ) -> Turn
     requires { machine.old.awaited ≡ Nothing }
-    ensures { (s : List ℕ) (p : Properties) → Turns (state.more brackets.Sequence (T.mark s machine.old.top.opener))
+    ensures { (s : List ℕ) (p : Properties) → Turns
+        (state.more brackets.Sequence (T.mark s machine.old.top.opener))
         (whole_of (T.mark s) kind (T.extra token.now) (T.from token.now) (T.to token.now)
         (T.text s token.now) (T.other s token.now))
         (stack_of (T.mark s) machine.old.below.items) (seen result)
@@ -237,7 +241,8 @@ pub(crate) fn at_mapping_more<T: yaml_lent_token_t>(
     token: &T,
 ) -> Turn
     requires { machine.old.awaited ≡ Nothing }
-    ensures { (s : List ℕ) (p : Properties) → Turns (state.more brackets.Mapping (T.mark s machine.old.top.opener))
+    ensures { (s : List ℕ) (p : Properties) → Turns
+        (state.more brackets.Mapping (T.mark s machine.old.top.opener))
         (whole_of (T.mark s) kind (T.extra token.now) (T.from token.now) (T.to token.now)
         (T.text s token.now) (T.other s token.now))
         (stack_of (T.mark s) machine.old.below.items) (seen result)

@@ -3,6 +3,7 @@
 ghost use Rattle.std.specs.Prelude.{◌≡◌, true, ℕ, List};
 ghost use Rattle.yaml_parse_model.specs.declared.yaml_mark_t.{yaml_mark_t};
 ghost use Rattle.yaml_parse_grammar.specs.declared.name.Brackets.TheVariants as brackets;
+ghost use Rattle.yaml_parse_grammar.specs.declared.name.Site.TheVariants as site;
 ghost use Rattle.yaml_parse_grammar.specs.Machine as grammar;
 ghost use Rattle.yaml_parse_grammar.specs.Items.{Properties};
 ghost use Rattle.yaml_parse_grammar.specs.States as state;
@@ -28,7 +29,8 @@ pub(crate) fn at_sequence_items<T: yaml_lent_token_t>(
     kind: yaml_token_type_t,
 ) -> Turn
     requires { machine.old.awaited ≡ Nothing }
-    ensures turns { (s : List ℕ) → Turns (state.items brackets.Sequence (T.mark s machine.old.top.opener))
+    ensures turns { (s : List ℕ) → Turns
+        (state.items brackets.Sequence (T.mark s machine.old.top.opener))
         (whole_of (T.mark s) kind (T.extra token.old) (T.from token.old) (T.to token.old)
         (T.text s token.old) (T.other s token.old))
         (stack_of (T.mark s) machine.old.below.items) (seen result)
@@ -62,7 +64,8 @@ pub(crate) fn at_mapping_items<T: yaml_lent_token_t>(
     kind: yaml_token_type_t,
 ) -> Turn
     requires { machine.old.awaited ≡ Nothing }
-    ensures turns { (s : List ℕ) → Turns (state.items brackets.Mapping (T.mark s machine.old.top.opener))
+    ensures turns { (s : List ℕ) → Turns
+        (state.items brackets.Mapping (T.mark s machine.old.top.opener))
         (whole_of (T.mark s) kind (T.extra token.old) (T.from token.old) (T.to token.old)
         (T.text s token.old) (T.other s token.old))
         (stack_of (T.mark s) machine.old.below.items) (seen result)
@@ -106,17 +109,14 @@ fn follows(place: Site, kind: yaml_token_type_t) -> bool
                 true,
             _ => false,
         },
-        Site::IndentlessEntry(Side::Key) => match kind {
-            yaml_token_type_t::YAML_BLOCK_ENTRY_TOKEN
-            | yaml_token_type_t::YAML_KEY_TOKEN
-            | yaml_token_type_t::YAML_VALUE_TOKEN
-            | yaml_token_type_t::YAML_BLOCK_END_TOKEN => true,
-            _ => false,
-        },
-        Site::IndentlessEntry(Side::Value) => match kind {
+        Site::IndentlessEntry(side) => match kind {
             yaml_token_type_t::YAML_BLOCK_ENTRY_TOKEN
             | yaml_token_type_t::YAML_KEY_TOKEN
             | yaml_token_type_t::YAML_BLOCK_END_TOKEN => true,
+            yaml_token_type_t::YAML_VALUE_TOKEN => match side {
+                Side::Key => true,
+                Side::Value => false,
+            },
             _ => false,
         },
         Site::BlockPair(Side::Key) => match kind {
@@ -129,28 +129,30 @@ fn follows(place: Site, kind: yaml_token_type_t) -> bool
             yaml_token_type_t::YAML_KEY_TOKEN | yaml_token_type_t::YAML_BLOCK_END_TOKEN => true,
             _ => false,
         },
-        Site::FlowPair(Brackets::Sequence, Side::Key) => match kind {
-            yaml_token_type_t::YAML_FLOW_ENTRY_TOKEN
-            | yaml_token_type_t::YAML_VALUE_TOKEN
-            | yaml_token_type_t::YAML_FLOW_SEQUENCE_END_TOKEN => true,
-            _ => false,
+        Site::FlowPair(brackets, side) => follows_inside(brackets, side, kind),
+    }
+}
+
+// The same, for a part of a pair inside brackets.
+#[inline(always)]
+fn follows_inside(brackets: Brackets, side: Side, kind: yaml_token_type_t) -> bool
+    ensures { result ≡ grammar.follows (site.FlowPair brackets side) kind }
+{
+    match kind {
+        yaml_token_type_t::YAML_FLOW_ENTRY_TOKEN => true,
+        yaml_token_type_t::YAML_VALUE_TOKEN => match side {
+            Side::Key => true,
+            Side::Value => false,
         },
-        Site::FlowPair(Brackets::Sequence, Side::Value) => match kind {
-            yaml_token_type_t::YAML_FLOW_ENTRY_TOKEN
-            | yaml_token_type_t::YAML_FLOW_SEQUENCE_END_TOKEN => true,
-            _ => false,
+        yaml_token_type_t::YAML_FLOW_SEQUENCE_END_TOKEN => match brackets {
+            Brackets::Sequence => true,
+            Brackets::Mapping => false,
         },
-        Site::FlowPair(Brackets::Mapping, Side::Key) => match kind {
-            yaml_token_type_t::YAML_FLOW_ENTRY_TOKEN
-            | yaml_token_type_t::YAML_VALUE_TOKEN
-            | yaml_token_type_t::YAML_FLOW_MAPPING_END_TOKEN => true,
-            _ => false,
+        yaml_token_type_t::YAML_FLOW_MAPPING_END_TOKEN => match brackets {
+            Brackets::Sequence => false,
+            Brackets::Mapping => true,
         },
-        Site::FlowPair(Brackets::Mapping, Side::Value) => match kind {
-            yaml_token_type_t::YAML_FLOW_ENTRY_TOKEN
-            | yaml_token_type_t::YAML_FLOW_MAPPING_END_TOKEN => true,
-            _ => false,
-        },
+        _ => false,
     }
 }
 

@@ -29,7 +29,8 @@ fn at_level<T: yaml_lent_token_t>(
     kind: yaml_token_type_t,
 ) -> Turn
     requires { machine.old.awaited ≡ Nothing }
-    ensures turns { (s : List ℕ) → TurnsOn (states_of (T.bytes s) (T.mark s) machine.old waiting.old)
+    ensures turns { (s : List ℕ) → TurnsOn
+        (states_of (T.bytes s) (T.mark s) machine.old waiting.old)
         (whole_of (T.mark s) kind (T.extra token.old) (T.from token.old) (T.to token.old)
         (T.text s token.old) (T.other s token.old))
         (seen result) (around_of (T.bytes s) (T.mark s) machine.new waiting.new)
@@ -60,6 +61,7 @@ fn at_level<T: yaml_lent_token_t>(
 }
 
 // The topmost state at a token of that kind.
+// It is long: a row for each of what may be awaited, and nothing besides.
 #[inline(always)]
 fn at_kind<T: yaml_lent_token_t>(
     machine: &mut Machine<T::Place>,
@@ -67,7 +69,8 @@ fn at_kind<T: yaml_lent_token_t>(
     token: &mut T,
     kind: yaml_token_type_t,
 ) -> Turn
-    ensures turns { (s : List ℕ) → TurnsOn (states_of (T.bytes s) (T.mark s) machine.old waiting.old)
+    ensures turns { (s : List ℕ) → TurnsOn
+        (states_of (T.bytes s) (T.mark s) machine.old waiting.old)
         (whole_of (T.mark s) kind (T.extra token.old) (T.from token.old) (T.to token.old)
         (T.text s token.old) (T.other s token.old))
         (seen result) (around_of (T.bytes s) (T.mark s) machine.new waiting.new)
@@ -136,6 +139,7 @@ fn at_kind<T: yaml_lent_token_t>(
 }
 
 // The same, by the kinds that are met most: of each the compiler makes a way of its own.
+// It is long: an arm for each of these kinds, which all say the same.
 #[inline(always)]
 fn at_seen<T: yaml_lent_token_t>(
     machine: &mut Machine<T::Place>,
@@ -143,7 +147,8 @@ fn at_seen<T: yaml_lent_token_t>(
     token: &mut T,
     kind: yaml_token_type_t,
 ) -> Turn
-    ensures turns { (s : List ℕ) → TurnsOn (states_of (T.bytes s) (T.mark s) machine.old waiting.old)
+    ensures turns { (s : List ℕ) → TurnsOn
+        (states_of (T.bytes s) (T.mark s) machine.old waiting.old)
         (whole_of (T.mark s) kind (T.extra token.old) (T.from token.old) (T.to token.old)
         (T.text s token.old) (T.other s token.old))
         (seen result) (around_of (T.bytes s) (T.mark s) machine.new waiting.new)
@@ -192,13 +197,15 @@ fn at_seen<T: yaml_lent_token_t>(
 }
 
 /// The topmost state at a token.
+// Inlined into its callers, which ask for a token of one type.
 #[inline(always)]
 pub fn turn<T: yaml_lent_token_t>(
     machine: &mut Machine<T::Place>,
     waiting: &mut Waiting<T::Text, T::Place>,
     token: &mut T,
 ) -> Turn
-    ensures turns { (s : List ℕ) → TurnsOn (states_of (T.bytes s) (T.mark s) machine.old waiting.old)
+    ensures turns { (s : List ℕ) → TurnsOn
+        (states_of (T.bytes s) (T.mark s) machine.old waiting.old)
         (whole_of (T.mark s) (T.kind token.old) (T.extra token.old) (T.from token.old)
         (T.to token.old) (T.text s token.old) (T.other s token.old))
         (seen result) (around_of (T.bytes s) (T.mark s) machine.new waiting.new)

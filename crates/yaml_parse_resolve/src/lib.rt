@@ -2,13 +2,16 @@
 #![tactic(auto)]
 
 mod handles;
+mod nodes;
 mod resolving;
 mod room;
 mod scalars;
 mod slots;
+mod told;
 
 pub use handles::TagDirectives;
+pub use nodes::tell_node;
 pub use resolving::{
     Directives, Settled, lack_memory, refuse, settle_implied, settle_named, settle_opened,
-    settle_told, tell_node,
 };
+pub use told::settle_told;

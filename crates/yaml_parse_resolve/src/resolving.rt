@@ -17,20 +17,15 @@ ghost use Rattle.yaml_parse_core.specs.Views.{text_if, tag_if, shape_at, named_i
 ghost use Rattle.yaml_parse_resolve.specs.Settles.{directives_of, Resolves, Names, Notes, Comes, ComesTo};
 
 use crate::handles::TagDirectives;
-use crate::room::vacate;
-use crate::scalars::{bare, empty, named};
-use crate::slots::{
-    end_mapping, end_sequence, put, put_alias, start_mapping, start_named_mapping,
-    start_named_sequence, start_sequence,
-};
+use crate::nodes::tell_named;
+use crate::scalars::empty;
+use crate::slots::put;
 use std::alloc::{AllocError, Global};
-use yaml_parse_core::{Implied, Shape, Told, Waiting};
+use yaml_parse_core::{Implied, Shape, Waiting};
 use yaml_parse_grammar::{ParseFault, ParseProblem};
 use yaml_parse_model::{
-    copy_directives, mark_again, moved, yaml_encoding_t, yaml_event_body_t, yaml_event_t,
-    yaml_fault_t, yaml_mapping_style_t, yaml_mark_t, yaml_memory_fault, yaml_origin_t,
-    yaml_scalar_style_t, yaml_sequence_style_t, yaml_token_body_t, yaml_token_t,
-    yaml_version_directive_t,
+    copy_directives, mark_again, moved, yaml_event_body_t, yaml_event_t, yaml_fault_t, yaml_mark_t,
+    yaml_memory_fault, yaml_origin_t, yaml_token_t, yaml_version_directive_t,
 };
 use yaml_scan_model::{SHORT, put_short};
 
@@ -202,7 +197,7 @@ fn is_known(major: i32, minor: i32) -> bool
 }
 
 // A `%YAML` directive.
-fn note_version(
+pub(crate) fn note_version(
     directives: &mut Directives,
     major: i32,
     minor: i32,
@@ -230,7 +225,7 @@ fn note_version(
 }
 
 // A `%TAG` directive, whose texts are moved.
-fn note_tag(
+pub(crate) fn note_tag(
     directives: &mut Directives,
     handle: &mut Vec<u8>,
     prefix: &mut Vec<u8>,
@@ -262,7 +257,11 @@ fn note_tag(
 // A document ends: nothing carries over to the next one.
 // Out of line: it is met once a document.
 #[inline(never)]
-fn end_document(directives: &mut Directives, implicit: bool, event: &mut yaml_event_body_t)
+pub(crate) fn end_document(
+    directives: &mut Directives,
+    implicit: bool,
+    event: &mut yaml_event_body_t,
+)
     ensures body { body_of event.new ≡ told.document_end implicit }
     ensures directives { directives_of directives.new ≡ behind_event (told.document_end implicit)
         (directives_of directives.old) }
@@ -275,7 +274,7 @@ fn end_document(directives: &mut Directives, implicit: bool, event: &mut yaml_ev
 // A document starts, with the directives before it.
 // Out of line: it is met once a document.
 #[inline(never)]
-fn start_document(
+pub(crate) fn start_document(
     directives: &Directives,
     implicit: bool,
     event: &mut yaml_event_body_t,
@@ -299,212 +298,6 @@ fn start_document(
             lack_memory(fault);
             Settled::Refused
         }
-    }
-}
-
-// The scalar of a token that is taken.
-// Inlined: the token's kind is known.
-#[inline(always)]
-fn tell_scalar(
-    waiting: &mut Waiting<Vec<u8>, yaml_mark_t>,
-    token: &mut yaml_token_body_t,
-    event: &mut yaml_event_body_t,
-)
-    ensures { body_of event.new ≡ node_event None None
-        (item.scalar (value_in (token_body token.old)) (style_in (token_body token.old))) }
-{
-    match token {
-        yaml_token_body_t::Scalar { value, style } => bare(waiting, value, *style, event),
-        _ => tell_no_scalar(waiting, event),
-    }
-}
-
-// Where the token is no scalar: the machine says that it is one.
-#[cold]
-#[inline(never)]
-fn tell_no_scalar(waiting: &mut Waiting<Vec<u8>, yaml_mark_t>, event: &mut yaml_event_body_t)
-    ensures { body_of event.new ≡ node_event None None (item.scalar [] YAML_ANY_SCALAR_STYLE) }
-{
-    let mut nothing = Vec::new(*waiting.anchor.allocator());
-    bare(
-        waiting,
-        &mut nothing,
-        yaml_scalar_style_t::YAML_ANY_SCALAR_STYLE,
-        event,
-    );
-}
-
-// A sequence begins without properties.
-// Inlined: its style is known.
-#[inline(always)]
-fn tell_sequence(
-    token: &mut yaml_token_body_t,
-    style: yaml_sequence_style_t,
-    event: &mut yaml_event_body_t,
-)
-    ensures { body_of event.new ≡ node_event None None (item.sequence style) }
-{
-    vacate(event, token);
-    start_sequence(event, style);
-}
-
-// A mapping begins without properties.
-// Inlined: its style is known.
-#[inline(always)]
-fn tell_mapping(
-    token: &mut yaml_token_body_t,
-    style: yaml_mapping_style_t,
-    event: &mut yaml_event_body_t,
-)
-    ensures { body_of event.new ≡ node_event None None (item.mapping style) }
-{
-    vacate(event, token);
-    start_mapping(event, style);
-}
-
-/// The event of a node without properties.
-// Inlined into its one caller, the parser's step.
-#[inline(always)]
-pub fn tell_node(
-    shape: Shape,
-    waiting: &mut Waiting<Vec<u8>, yaml_mark_t>,
-    token: &mut yaml_token_t,
-    event: &mut yaml_event_t,
-)
-    ensures { event_of event.new ≡ placed (node_event None None
-        (shape_at shape (token_of token.old).body)) (node_item shape (token_of token.old)) }
-{
-    event.start_mark = mark_again(&token.start_mark);
-    event.end_mark = mark_again(&token.end_mark);
-    match shape {
-        Shape::Scalar => tell_scalar(waiting, &mut token.body, &mut event.body),
-        Shape::BlockSequence => tell_sequence(
-            &mut token.body,
-            yaml_sequence_style_t::YAML_BLOCK_SEQUENCE_STYLE,
-            &mut event.body,
-        ),
-        Shape::BlockMapping => tell_mapping(
-            &mut token.body,
-            yaml_mapping_style_t::YAML_BLOCK_MAPPING_STYLE,
-            &mut event.body,
-        ),
-        Shape::FlowSequence => tell_sequence(
-            &mut token.body,
-            yaml_sequence_style_t::YAML_FLOW_SEQUENCE_STYLE,
-            &mut event.body,
-        ),
-        Shape::FlowMapping => tell_mapping(
-            &mut token.body,
-            yaml_mapping_style_t::YAML_FLOW_MAPPING_STYLE,
-            &mut event.body,
-        ),
-    }
-}
-
-// The scalar of a token that is taken, behind properties.
-// Inlined: the token's kind is known.
-#[inline(always)]
-fn tell_named_scalar(
-    waiting: &mut Waiting<Vec<u8>, yaml_mark_t>,
-    token: &mut yaml_token_body_t,
-    event: &mut yaml_event_body_t,
-)
-    ensures { body_of event.new ≡ node_event (text_if waiting.old.has_anchor
-        waiting.old.anchor.items) (text_if waiting.old.has_tag waiting.old.handle.items)
-        (item.scalar (value_in (token_body token.old)) (style_in (token_body token.old))) }
-{
-    match token {
-        yaml_token_body_t::Scalar { value, style } => named(waiting, value, *style, event),
-        _ => tell_no_named_scalar(waiting, event),
-    }
-}
-
-// Where the token is no scalar: the machine says that it is one.
-#[cold]
-#[inline(never)]
-fn tell_no_named_scalar(waiting: &mut Waiting<Vec<u8>, yaml_mark_t>, event: &mut yaml_event_body_t)
-    ensures { body_of event.new ≡ node_event (text_if waiting.old.has_anchor
-        waiting.old.anchor.items) (text_if waiting.old.has_tag waiting.old.handle.items)
-        (item.scalar [] YAML_ANY_SCALAR_STYLE) }
-{
-    let mut nothing = Vec::new(*waiting.anchor.allocator());
-    named(
-        waiting,
-        &mut nothing,
-        yaml_scalar_style_t::YAML_ANY_SCALAR_STYLE,
-        event,
-    );
-}
-
-// A sequence begins behind properties.
-fn tell_named_sequence(
-    waiting: &mut Waiting<Vec<u8>, yaml_mark_t>,
-    token: &mut yaml_token_body_t,
-    style: yaml_sequence_style_t,
-    event: &mut yaml_event_body_t,
-)
-    ensures { body_of event.new ≡ node_event (text_if waiting.old.has_anchor
-        waiting.old.anchor.items) (text_if waiting.old.has_tag waiting.old.handle.items)
-        (item.sequence style) }
-{
-    vacate(event, token);
-    start_named_sequence(waiting, style, event);
-}
-
-// A mapping begins behind properties.
-fn tell_named_mapping(
-    waiting: &mut Waiting<Vec<u8>, yaml_mark_t>,
-    token: &mut yaml_token_body_t,
-    style: yaml_mapping_style_t,
-    event: &mut yaml_event_body_t,
-)
-    ensures { body_of event.new ≡ node_event (text_if waiting.old.has_anchor
-        waiting.old.anchor.items) (text_if waiting.old.has_tag waiting.old.handle.items)
-        (item.mapping style) }
-{
-    vacate(event, token);
-    start_named_mapping(waiting, style, event);
-}
-
-// The event of a node behind properties. Its tag stands in full in the place of its handle.
-// Inlined into its one caller.
-#[inline(always)]
-fn tell_named(
-    shape: Shape,
-    waiting: &mut Waiting<Vec<u8>, yaml_mark_t>,
-    token: &mut yaml_token_body_t,
-    event: &mut yaml_event_body_t,
-)
-    ensures { body_of event.new ≡ node_event (text_if waiting.old.has_anchor
-        waiting.old.anchor.items) (text_if waiting.old.has_tag waiting.old.handle.items)
-        (shape_at shape (token_body token.old)) }
-{
-    match shape {
-        Shape::Scalar => tell_named_scalar(waiting, token, event),
-        Shape::BlockSequence => tell_named_sequence(
-            waiting,
-            token,
-            yaml_sequence_style_t::YAML_BLOCK_SEQUENCE_STYLE,
-            event,
-        ),
-        Shape::BlockMapping => tell_named_mapping(
-            waiting,
-            token,
-            yaml_mapping_style_t::YAML_BLOCK_MAPPING_STYLE,
-            event,
-        ),
-        Shape::FlowSequence => tell_named_sequence(
-            waiting,
-            token,
-            yaml_sequence_style_t::YAML_FLOW_SEQUENCE_STYLE,
-            event,
-        ),
-        Shape::FlowMapping => tell_named_mapping(
-            waiting,
-            token,
-            yaml_mapping_style_t::YAML_FLOW_MAPPING_STYLE,
-            event,
-        ),
     }
 }
 
@@ -614,161 +407,4 @@ pub fn settle_opened(
     event.start_mark = mark_again(start);
     event.end_mark = mark_again(start);
     start_document(directives, true, &mut event.body, fault)
-}
-
-// A stream's start.
-#[inline(never)]
-fn start_stream(token: &yaml_token_body_t, event: &mut yaml_event_body_t)
-    ensures { body_of event.new ≡ told.stream_start (encoding_in (token_body token.now)) }
-{
-    let encoding = match *token {
-        yaml_token_body_t::StreamStart { encoding } => encoding,
-        _ => yaml_encoding_t::YAML_ANY_ENCODING,
-    };
-    put(event, yaml_event_body_t::StreamStart { encoding });
-}
-
-// The version of a `%YAML` directive.
-#[inline(never)]
-fn tell_version(
-    directives: &mut Directives,
-    token: &yaml_token_t,
-    fault: &mut yaml_fault_t,
-) -> Settled
-    ensures { Notes (with_version directives.old.version directives.old.tags
-        (major_in (token_of token.now).body) (minor_in (token_of token.now).body)
-        token.now.start_mark) result (fault_of fault.new) (directives_of directives.new) }
-{
-    match token.body {
-        yaml_token_body_t::VersionDirective { major, minor } => {
-            note_version(directives, major, minor, token.start_mark, fault)
-        }
-        _ => note_version(directives, 0, 0, token.start_mark, fault),
-    }
-}
-
-// The texts of a `%TAG` directive.
-#[inline(never)]
-fn tell_tag(
-    directives: &mut Directives,
-    token: &mut yaml_token_t,
-    fault: &mut yaml_fault_t,
-) -> Settled
-    ensures { Notes (with_tag (directive_for (handle_in (token_of token.old).body)
-        directives.old.tags) (directives_of directives.old) (handle_in (token_of token.old).body)
-        (prefix_in (token_of token.old).body) token.old.start_mark) result (fault_of fault.new)
-        (directives_of directives.new) }
-{
-    let at = token.start_mark;
-    match &mut token.body {
-        yaml_token_body_t::TagDirective { handle, prefix } => {
-            note_tag(directives, handle, prefix, at, fault)
-        }
-        _ => note_no_tag(directives, at, fault),
-    }
-}
-
-// Where the token is no directive: the machine says that it is one.
-#[cold]
-#[inline(never)]
-fn note_no_tag(directives: &mut Directives, at: yaml_mark_t, fault: &mut yaml_fault_t) -> Settled
-    ensures { Notes (with_tag (directive_for [] directives.old.tags) (directives_of directives.old)
-        [] [] at) result (fault_of fault.new) (directives_of directives.new) }
-{
-    let mut handle = Vec::new(directives.alloc);
-    let mut prefix = Vec::new(directives.alloc);
-    note_tag(directives, &mut handle, &mut prefix, at, fault)
-}
-
-// An alias. The room of a text that the slot has from an earlier event is left in the token.
-// Inlined: the token's kind is known.
-#[inline(always)]
-fn tell_alias(alloc: Global, token: &mut yaml_token_body_t, event: &mut yaml_event_body_t)
-    ensures { body_of event.new ≡ told.alias (name_in (token_body token.old)) }
-{
-    match token {
-        yaml_token_body_t::Alias { value } => put_alias(event, value),
-        _ => tell_no_alias(alloc, event),
-    }
-}
-
-// Where the token is no alias: the machine says that it is one.
-#[cold]
-#[inline(never)]
-fn tell_no_alias(alloc: Global, event: &mut yaml_event_body_t)
-    ensures { body_of event.new ≡ told.alias [] }
-{
-    let mut nothing = Vec::new(alloc);
-    put_alias(event, &mut nothing);
-}
-
-// A sequence ends.
-// Inlined: mostly the slot holds no text.
-#[inline(always)]
-fn tell_sequence_end(token: &mut yaml_token_body_t, event: &mut yaml_event_body_t)
-    ensures { body_of event.new ≡ told.sequence_end }
-{
-    vacate(event, token);
-    end_sequence(event);
-}
-
-// A mapping ends.
-// Inlined: mostly the slot holds no text.
-#[inline(always)]
-fn tell_mapping_end(token: &mut yaml_token_body_t, event: &mut yaml_event_body_t)
-    ensures { body_of event.new ≡ told.mapping_end }
-{
-    vacate(event, token);
-    end_mapping(event);
-}
-
-/// What a token tells but nodes: the event, or nothing for a directive, or a fault.
-// Inlined into its one caller, the parser's step.
-#[inline(always)]
-pub fn settle_told(
-    directives: &mut Directives,
-    told: Told,
-    opener: &yaml_mark_t,
-    token: &mut yaml_token_t,
-    event: &mut yaml_event_t,
-    fault: &mut yaml_fault_t,
-) -> Settled
-    ensures { ComesTo (told_item told opener.now (token_of token.old)) (directives_of directives.old)
-        result (event_of event.new) (fault_of fault.new) (directives_of directives.new) }
-{
-    event.start_mark = mark_again(&token.start_mark);
-    event.end_mark = mark_again(&token.end_mark);
-    match told {
-        Told::SequenceEnd => {
-            tell_sequence_end(&mut token.body, &mut event.body);
-            Settled::Event
-        }
-        Told::MappingEnd => {
-            tell_mapping_end(&mut token.body, &mut event.body);
-            Settled::Event
-        }
-        Told::Alias => {
-            tell_alias(directives.alloc, &mut token.body, &mut event.body);
-            Settled::Event
-        }
-        Told::StreamStart => {
-            start_stream(&token.body, &mut event.body);
-            Settled::Event
-        }
-        Told::StreamEnd => {
-            put(&mut event.body, yaml_event_body_t::StreamEnd);
-            Settled::Event
-        }
-        Told::VersionDirective => tell_version(directives, token, fault),
-        Told::TagDirective => tell_tag(directives, token, fault),
-        Told::DocumentStart => start_document(directives, false, &mut event.body, fault),
-        Told::DocumentDeclared => {
-            event.start_mark = mark_again(opener);
-            start_document(directives, false, &mut event.body, fault)
-        }
-        Told::DocumentEnd => {
-            end_document(directives, false, &mut event.body);
-            Settled::Event
-        }
-    }
 }

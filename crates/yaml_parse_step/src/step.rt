@@ -257,7 +257,8 @@ fn open(buffers: &mut StepBuffers, event: &mut yaml_event_t, fault: &mut yaml_fa
 #[cold]
 #[inline(never)]
 fn refused(problem: ParseProblem, buffers: &mut StepBuffers, fault: &mut yaml_fault_t) -> Step
-    ensures { (s : List State) (t : Token) (e : Event) → Turned buffers.old s t (kinds.refused problem)
+    ensures { (s : List State) (t : Token) (e : Event)
+        → Turned buffers.old s t (kinds.refused problem)
         → token_of buffers.old.token ≡ t → WentOn s t buffers.old result e (fault_of fault.new)
         buffers.new }
 {
@@ -273,6 +274,7 @@ fn refused(problem: ParseProblem, buffers: &mut StepBuffers, fault: &mut yaml_fa
 }
 
 // What a turn did, with its item resolved.
+// It is long: a row for each answer of a turn, and nothing besides.
 // Inlined into its one caller.
 #[inline(always)]
 fn going(

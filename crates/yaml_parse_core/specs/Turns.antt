@@ -6,8 +6,7 @@ use Rattle.yaml_parse_core.specs.Views.{Around, named_item, node_item, told_item
 use Rattle.yaml_parse_grammar.specs.declared.name.Choice.TheVariants.{Refuse, Take, Leave, Open}
 use Rattle.yaml_parse_grammar.specs.declared.problem.ParseProblem.{ParseProblem}
 use Rattle.yaml_parse_grammar.specs.declared.problem.ParseProblem.TheVariants as problem
-use Rattle.yaml_parse_grammar.specs.Items.{RawEvent, Properties, item_at}
-use Rattle.yaml_parse_grammar.specs.Items as item
+use Rattle.yaml_parse_grammar.specs.Items.{RawEvent, Properties}
 use Rattle.yaml_parse_grammar.specs.States.{State}
 use Rattle.yaml_parse_grammar.specs.States as state
 use Rattle.yaml_parse_grammar.specs.declared.name.Site.{Site}

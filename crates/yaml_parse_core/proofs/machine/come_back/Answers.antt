@@ -1,4 +1,3 @@
-use Rattle.std.proofs.Common.{sym, ◌∙◌}
 use Rattle.yaml_parse_core.proofs.Stacks.{popped, emptied}
 use Rattle.yaml_parse_core.proofs.machine.come_back.Goals as goal
 

@@ -1,9 +1,9 @@
 -- What a turn comes to with its item resolved.
-use Rattle.std.proofs.Common.{◌≡◌, ◌⊎◌, inl, inr, List, [], ◌∷◌, Option, Some, None, refl, sym, ap, subst, ◌∙◌}
+use Rattle.std.proofs.Common.{◌≡◌, inr, List, Option, None, sym, ap, subst, ◌∙◌}
 use Rattle.yaml_scan_model.specs.declared.yaml_mark_t.{yaml_mark_t}
 use Rattle.yaml_scan_model.specs.Tokens.{Token}
 use Rattle.yaml_scan_model.specs.Faults.{Fault}
-use Rattle.yaml_parse_model.specs.Events.{Event, EventBody}
+use Rattle.yaml_parse_model.specs.Events.{Event}
 use Rattle.yaml_parse_grammar.specs.Items.{RawEvent, Properties}
 use Rattle.yaml_parse_grammar.specs.States.{State}
 use Rattle.yaml_parse_grammar.specs.Resolve.{Directives, gave, node_event, placed}

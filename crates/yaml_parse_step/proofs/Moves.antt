@@ -1,6 +1,5 @@
 -- What each step over the grammar owes.
-use Rattle.std.proofs.Common.{◌≡◌, ◌⊎◌, ◌<◌, ℕ, inl, inr, List, [], ◌∷◌, ◌++◌, length, Option, Some, None, refl, sym, ap, subst, ◌∙◌, arith, Bool, true, false, ◌==◌}
-use Rattle.std.proofs.lemmas.Bool.Decides.{nat_tests}
+use Rattle.std.proofs.Common.{◌≡◌, ◌⊎◌, ◌<◌, ℕ, inl, inr, List, [], ◌∷◌, ◌++◌, length, Option, Some, None, refl, sym, ap, subst, ◌∙◌, arith, true, false}
 use Rattle.yaml_scan_model.specs.declared.yaml_mark_t.{yaml_mark_t}
 use Rattle.yaml_scan_model.specs.Tokens.{Token, no_token, type_of}
 use Rattle.yaml_scan_model.specs.Faults.{Fault}
@@ -29,7 +28,7 @@ use Rattle.yaml_parse_step.proofs.Texts.{take_item_utf8, take_silent_utf8, leave
 use Rattle.yaml_parse_step.proofs.Heights.{take_item_stands, take_silent_stands, leave_stands, open_stands}
 use Rattle.yaml_parse_step.specs.Stepped.{Stepped}
 use Rattle.yaml_parse_step.specs.Stepped as step
-use Rattle.yaml_parse_step.specs.Steps.{held_if, Raw, raw, outcome, stop_of, budget, IsFront, HasNoFront, IsDirective, GivesItem, GivesNoItem, IsRefused, Steps, OpensAt, IsReal, IsRealOn}
+use Rattle.yaml_parse_step.specs.Steps.{Raw, raw, outcome, stop_of, budget, IsFront, HasNoFront, IsDirective, GivesItem, GivesNoItem, IsRefused, Steps, OpensAt, IsReal, IsRealOn}
 
 -- a directive leaves something open
 directive_stands : (b : RawEventBody) (P : Type 0) → Voiced b P → IsDirective b → P

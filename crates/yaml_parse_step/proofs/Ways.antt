@@ -1,5 +1,5 @@
 -- What a turn with its item resolved is to what is to come.
-use Rattle.std.proofs.Common.{◌≡◌, inl, inr, true, false, List, [], ◌∷◌, Option, Some, None, refl, sym, subst}
+use Rattle.std.proofs.Common.{◌≡◌, inl, inr, true, false, List, [], ◌∷◌, Option, None, refl, sym, subst}
 use Rattle.yaml_scan_model.specs.Tokens.{Token}
 use Rattle.yaml_scan_model.specs.Faults.{Fault}
 use Rattle.yaml_parse_model.specs.Events.{Event}

@@ -1,4 +1,4 @@
-use Rattle.std.proofs.Common.{◌≡◌, ◌⊎◌, ◌∙◌, [], inl, ap, subst}
+use Rattle.std.proofs.Common.{◌⊎◌, ◌∙◌, inl, ap, subst}
 use Rattle.yaml_scan_model.specs.Tokens.{Token, token_of}
 use Rattle.yaml_scan_model.specs.Faults.{fault_of}
 use Rattle.yaml_parse_grammar.specs.Problems.{parser_fault}

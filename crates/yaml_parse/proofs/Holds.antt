@@ -1,7 +1,6 @@
 -- What a parser holds at first, and where nothing is left.
 use Rattle.std.proofs.Common.{◌≡◌, List, [], ◌∷◌, Option, None, refl, sym, subst}
 use Rattle.yaml_scan_model.specs.Tokens.{Token}
-use Rattle.yaml_parse_model.specs.Events.{TagDirective}
 use Rattle.yaml_parse_model.specs.Constructors.{AreUtf8}
 use Rattle.yaml_parse_step.specs.parse_grammar.States.{State, stream}
 use Rattle.yaml_parse_step.specs.parse_grammar.Resolve.{Directives}

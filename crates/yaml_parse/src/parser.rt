@@ -5,8 +5,6 @@ ghost use Rattle.yaml_scan_model.specs.Tokens.{Token};
 ghost use Rattle.yaml_scan_model.specs.Faults.{Fault, fault_of, memory_fault};
 ghost use Rattle.yaml_scan_model.specs.declared.yaml_origin_t.TheVariants.{Parser};
 ghost use Rattle.yaml_parse_model.specs.Events.{event_of, stream_end};
-ghost use Rattle.yaml_parse_step.specs.parse_grammar.Items as item;
-ghost use Rattle.yaml_parse_states.specs.Views.{item_of};
 ghost use Rattle.yaml_parse_model.specs.Prefix.{prefix_of, no_fault};
 ghost use Rattle.yaml_parse_step.specs.parse_grammar.Trees.{Stream, spell};
 ghost use Rattle.yaml_parse_step.specs.parse_grammar.TreeEvents.{given_of};
@@ -26,11 +24,11 @@ ghost use Rattle.yaml_parse_step.specs.parse_grammar.Stacks.{parts_documents_beh
 
 use std::alloc::Global;
 use std::marker::Model;
+use yaml_parse_core::{finish, fresh, is_between, none_waiting};
 use yaml_parse_model::{
     yaml_event_body_t, yaml_event_t, yaml_parser_t_prefix, yaml_token_source_t,
 };
 use yaml_parse_resolve::{Directives, TagDirectives};
-use yaml_parse_states::{RawEvent, RawEventBody, Resolved, State};
 use yaml_parse_step::{Step, StepBuffers, take_turn, yaml_found_t};
 use yaml_scan_model::{yaml_fault_t, yaml_mark_t, yaml_memory_fault, yaml_origin_t, yaml_token_t};
 
@@ -38,12 +36,8 @@ use yaml_scan_model::{yaml_fault_t, yaml_mark_t, yaml_memory_fault, yaml_origin_
 #[derive(Drop)]
 pub struct yaml_parser_t<S: yaml_token_source_t> {
     source: S,
-    // The allocator, the token at the front, and the item of the last step.
+    // What may come, the token at the front, and the directives of the document.
     buffers: StepBuffers,
-    // What may come, the nearest last.
-    stack: Vec<State>,
-    // Of the document that is open or begins.
-    directives: Directives,
     // The fault that was answered.
     prefix: yaml_parser_t_prefix,
 }
@@ -51,21 +45,20 @@ pub struct yaml_parser_t<S: yaml_token_source_t> {
 impl<S: yaml_token_source_t> Model for yaml_parser_t<S> {
     ghost use Rattle.yaml_parse_model.specs.Prefix.{prefix_of};
     ghost use Rattle.yaml_parse_step.specs.parse_grammar.Remaining.{ParserRemaining, parser_remaining};
-    ghost use Rattle.yaml_parse_states.specs.Views.{stack_of};
     ghost use Rattle.yaml_parse_resolve.specs.Settles.{directives_of};
-    ghost use Rattle.yaml_parse_step.specs.Steps.{peeked_of};
+    ghost use Rattle.yaml_parse_step.specs.Steps.{peeked_of, states_in};
 
     ghost Value = { ParserRemaining };
 
     ghost view = { λ p. parser_remaining (peeked_of p.buffers) (S.to_come p.source)
-        (S.fault_to_come p.source) (stack_of p.stack.items) (directives_of p.directives)
+        (S.fault_to_come p.source) (states_in p.buffers) (directives_of p.buffers.directives)
         (prefix_of p.prefix) };
 
     ghost use Rattle.yaml_parse_step.specs.parse_grammar.Texts.{IsUtf8Held};
     ghost use Rattle.yaml_parse_step.specs.parse_grammar.Stacks.{IsStack};
 
-    ghost invariant = { λ p. IsUtf8Held (peeked_of p.buffers) (stack_of p.stack.items)
-        (directives_of p.directives) × IsStack (stack_of p.stack.items) };
+    ghost invariant = { λ p. IsUtf8Held (peeked_of p.buffers) (states_in p.buffers)
+        (directives_of p.buffers.directives) × IsStack (states_in p.buffers) };
 }
 
 impl<S: yaml_token_source_t> yaml_parser_t<S> {
@@ -79,14 +72,7 @@ impl<S: yaml_token_source_t> yaml_parser_t<S> {
             self.new.between }
         ensures held { self.new.held ≤ 1 }
     {
-        take_turn(
-            &mut self.source,
-            &mut self.buffers,
-            &mut self.stack,
-            &mut self.directives,
-            event,
-            fault,
-        )
+        take_turn(&mut self.source, &mut self.buffers, event, fault)
     }
 }
 
@@ -96,7 +82,7 @@ impl<S: yaml_token_source_t> yaml_parser_t<S> {
         // Between documents, whole ones are to come, and a front of one.
         ensures { self.now.between ≡ true → AreLoadsByContent self.now }
     {
-        self.buffers.alloc
+        self.buffers.directives.alloc
     }
 
     /// Nothing more is to come, and that fault was answered.
@@ -106,25 +92,8 @@ impl<S: yaml_token_source_t> yaml_parser_t<S> {
         ensures unasked { self.new.unasked ≡ self.old.unasked }
         ensures held { self.new.held ≤ 1 }
     {
-        self.stack.clear();
+        finish(&mut self.buffers.machine);
         self.prefix = yaml_parser_t_prefix::of(fault);
-    }
-}
-
-// An item that nothing has given.
-fn no_item() -> RawEvent
-    ensures { (item_of result).body ≡ item.event stream_end }
-{
-    let zero = yaml_mark_t {
-        index: 0,
-        line: 0,
-        column: 0,
-    };
-    RawEvent {
-        body: RawEventBody::Event(Resolved::StreamEnd),
-        from: zero,
-        to: zero,
-        spare: None,
     }
 }
 
@@ -163,25 +132,22 @@ pub fn yaml_parser_initialize<S: yaml_token_source_t>(
     ensures quiet { IfOk result (λ p. (p.answered ≡ no_fault) × (p.between ≡ true)) }
     ensures memory { IfErr result (λ f. fault_of f ≡ memory_fault Parser) }
 {
-    let mut stack = Vec::new(alloc);
-    match stack.push(State::Stream) {
-        Ok(()) => Ok(yaml_parser_t {
-            source,
-            buffers: StepBuffers {
-                alloc,
-                token: yaml_token_t::empty(),
-                is_held: false,
-                item: no_item(),
-            },
-            stack,
+    let waiting = none_waiting(alloc);
+    Ok(yaml_parser_t {
+        buffers: StepBuffers {
+            machine: fresh(alloc, waiting.from),
+            token: yaml_token_t::empty(),
+            is_held: false,
+            waiting,
             directives: Directives {
+                alloc,
                 version: None,
                 tags: TagDirectives::new(alloc),
             },
-            prefix: yaml_parser_t_prefix::quiet(),
-        }),
-        Err(_) => Err(yaml_memory_fault(yaml_origin_t::Parser)),
-    }
+        },
+        source,
+        prefix: yaml_parser_t_prefix::quiet(),
+    })
 }
 
 // The fault that is answered is kept.
@@ -281,13 +247,7 @@ pub fn yaml_parser_parse<S: yaml_token_source_t>(
 pub fn yaml_parser_between<S: yaml_token_source_t>(parser: &yaml_parser_t<S>) -> bool
     ensures { result ≡ parser.now.between }
 {
-    match parser.stack.as_slice() {
-        [] => true,
-        [.., State::Stream] => true,
-        [.., State::First] => true,
-        [.., State::Documents] => true,
-        _ => false,
-    }
+    is_between(&parser.buffers.machine)
 }
 
 /// The fault that was answered; before one its kind is `YAML_NO_ERROR`.

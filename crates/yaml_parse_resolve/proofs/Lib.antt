@@ -1,2 +1,1 @@
 pub mod HandleTable
-pub mod Kept

@@ -1,72 +1,52 @@
 -- What resolving gives.
-use Rattle.std.specs.Prelude.{ℕ, ◌≡◌, Bool, true, false, List, Option, Some, None, Result, Ok, Err}
+use Rattle.std.specs.Prelude.{◌≡◌, ◌⊎◌, ℕ, Bool, true, false, List, Option, Some, None}
 use Rattle.yaml_parse_model.specs.declared.yaml_mark_t.{yaml_mark_t}
-use Rattle.std.specs.declared.alloc.AllocError.{AllocError}
-use Rattle.yaml_parse_model.specs.Events.{EventBody, event_of, body_of}
-use Rattle.yaml_parse_model.specs.declared.event.yaml_event_t.{yaml_event_t}
-use Rattle.yaml_parse_model.specs.declared.event.yaml_event_body_t.{yaml_event_body_t}
+use Rattle.yaml_parse_model.specs.declared.yaml_origin_t.TheVariants.{Parser}
+use Rattle.yaml_parse_model.specs.Faults.{Fault, memory_fault}
+use Rattle.yaml_parse_model.specs.Events.{Event, EventBody}
 use Rattle.yaml_parse_grammar.specs.declared.problem.ParseProblem.TheVariants.{UndefinedHandle}
 use Rattle.yaml_parse_grammar.specs.Problems.{parser_fault}
 use Rattle.yaml_parse_grammar.specs.Items as item
 use Rattle.yaml_parse_grammar.specs.Resolve as spec
-use Rattle.yaml_parse_grammar.specs.Resolve.{Settled, refused, gave, noted, placed, settle}
+use Rattle.yaml_parse_grammar.specs.Resolve.{refused, gave, noted, node_event, placed, settle}
 use Rattle.yaml_parse_resolve.specs.declared.resolving.Directives.{Directives}
-use Rattle.yaml_parse_resolve.specs.declared.resolving.Refusal.{Refusal}
-use Rattle.yaml_parse_resolve.specs.declared.resolving.Refusal.TheVariants.{Memory, Fault}
+use Rattle.yaml_parse_resolve.specs.declared.resolving.Settled.{Settled}
+use Rattle.yaml_parse_resolve.specs.declared.resolving.Settled.TheVariants as code
 
 abbrev pub directives_of : Directives → spec.Directives
 directives_of d = record { version = d.version; tags = d.tags }
 
-abbrev pub IsMemory : Refusal → Type 0
-IsMemory Memory = Unit {0}
-IsMemory (Fault f) = ⊥
-
--- an error other than want of memory is the fault that the definition gives
-abbrev pub Refused : Refusal → Settled → Type 0
-Refused Memory s = Unit {0}
-Refused (Fault f) s = s ≡ refused (parser_fault f.problem f.problem_mark f.context_mark)
+-- a fault in its slot is that of the definition, or memory ran out
+abbrev pub IsFaultOf : spec.Settled → Fault → Type 0
+IsFaultOf s f = (f ≡ memory_fault Parser) ⊎ (s ≡ refused f)
 
 -- the tag in full is that text, or its handle is undefined
-abbrev pub Resolves : Option (List ℕ) → yaml_mark_t → yaml_mark_t → Result (Unit {0}) Refusal
-    → List ℕ → Type 0
-Resolves o at from (Ok u) full = o ≡ Some full
-Resolves o at from (Err Memory) full = Unit {0}
-Resolves o at from (Err (Fault f)) full = (o ≡ None)
-    × (f ≡ record { problem = UndefinedHandle; problem_mark = at; context_mark = from })
+abbrev pub Resolves : Option (List ℕ) → yaml_mark_t → yaml_mark_t → Bool → List ℕ → Fault → Type 0
+Resolves o at from true full f = o ≡ Some full
+Resolves o at from false full f = (f ≡ memory_fault Parser)
+    ⊎ ((o ≡ None) × (f ≡ parser_fault UndefinedHandle at from))
 
-abbrev pub Notes : Settled → Result (Unit {0}) Refusal → spec.Directives → Type 0
-Notes s (Ok u) new = s ≡ noted new
-Notes s (Err e) new = Refused e s
+-- a node comes to its event, with that anchor and that tag in full, or a fault stands in its slot
+abbrev pub Names : spec.Settled → Option (List ℕ) → Option (List ℕ) → item.Shape → spec.Directives
+    → Bool → Fault → Type 0
+Names s anchor tag shape ds true f = s ≡ gave (node_event anchor tag shape) ds
+Names s anchor tag shape ds false f = IsFaultOf s f
 
--- the body of an event
-abbrev pub SettlesNode : Settled → Result yaml_event_body_t Refusal → spec.Directives → Type 0
-SettlesNode s (Ok b) new = s ≡ gave (body_of b) new
-SettlesNode s (Err e) new = Refused e s
+-- a directive is noted, or a fault stands in its slot
+abbrev pub Notes : spec.Settled → Settled → Fault → spec.Directives → Type 0
+Notes s code.Noted f new = s ≡ noted new
+Notes s code.Refused f new = IsFaultOf s f
+Notes s code.Event f new = ⊥
 
--- the body of an event in the slot, or nothing
-abbrev pub SettlesBody : Settled → Result Bool Refusal → yaml_event_body_t → spec.Directives
+-- the body of an event stands in its slot, or nothing is given, or a fault stands in its slot
+abbrev pub Comes : spec.Settled → Settled → EventBody → Fault → spec.Directives → Type 0
+Comes s code.Event b f new = s ≡ gave b new
+Comes s code.Noted b f new = s ≡ noted new
+Comes s code.Refused b f new = IsFaultOf s f
+
+-- the same of an item: its event stands where it does
+abbrev pub ComesTo : item.RawEvent → spec.Directives → Settled → Event → Fault → spec.Directives
     → Type 0
-SettlesBody s (Ok true) b new = s ≡ gave (body_of b) new
-SettlesBody s (Ok false) b new = s ≡ noted new
-SettlesBody s (Err e) b new = Refused e s
-
-abbrev pub Settles : Settled → item.RawEvent → Result Bool Refusal → yaml_event_t → spec.Directives
-    → Type 0
-Settles s i (Ok true) e new = (s ≡ gave (body_of e.body) new)
-    × (event_of e ≡ placed (body_of e.body) i)
-Settles s i (Ok false) e new = s ≡ noted new
-Settles s i (Err x) e new = Refused x s
-
--- the event of a scalar with a tag, or nothing was done
-abbrev pub SettlesTagged : Settled → Result Bool AllocError → EventBody → spec.Directives → Type 0
-SettlesTagged s (Ok true) b ds = s ≡ gave b ds
-SettlesTagged s (Ok false) b ds = Unit {0}
-SettlesTagged s (Err x) b ds = Unit {0}
-
--- the same of the item in its slot, which stays there where nothing was done
-abbrev pub SettlesSwiftly : spec.Directives → item.RawEvent → Result Bool AllocError → yaml_event_t
-    → item.RawEvent → Type 0
-SettlesSwiftly ds i (Ok true) e new = (settle i ds ≡ gave (body_of e.body) ds)
-    × (event_of e ≡ placed (body_of e.body) i)
-SettlesSwiftly ds i (Ok false) e new = new ≡ i
-SettlesSwiftly ds i (Err x) e new = Unit {0}
+ComesTo i ds code.Event e f new = (settle i ds ≡ gave e.body new) × (e ≡ placed e.body i)
+ComesTo i ds code.Noted e f new = settle i ds ≡ noted new
+ComesTo i ds code.Refused e f new = IsFaultOf (settle i ds) f

@@ -1,11 +1,9 @@
 //! The tag directives of a document.
 
-ghost use Rattle.std.specs.Prelude.{◌≡◌, ◌∷◌, ◌++◌, [], None, map, option_map, IfOk, IfErr};
+ghost use Rattle.std.specs.Prelude.{◌≡◌, ◌∷◌, ◌++◌, [], None, map, option_map, IfOk, OnOk};
 ghost use Rattle.yaml_parse_model.specs.Events.{directive_of};
 ghost use Rattle.yaml_parse_grammar.specs.Resolve.{directive_for};
-ghost use Rattle.yaml_parse_resolve.specs.Settles.{IsMemory};
 
-use crate::resolving::Refusal;
 use std::alloc::{AllocError, Global};
 use std::collections::BTreeMap;
 use std::marker::Model;
@@ -79,11 +77,10 @@ impl TagDirectives {
         alloc: Global,
         handle: Vec<u8>,
         prefix: Vec<u8>,
-    ) -> Result<(), Refusal>
+    ) -> Result<(), AllocError>
         requires { directive_for handle.items self.old ≡ None }
-        ensures ok { IfOk result (λ u. self.new ≡ self.old
+        ensures { OnOk result (self.new ≡ self.old
             ++ record { handle = handle.items; prefix = prefix.items } ∷ []) }
-        ensures err { IfErr result IsMemory }
     {
         let directive = yaml_tag_directive_t { handle, prefix };
         let copy = copy_directive(alloc, &directive)?;
@@ -92,7 +89,7 @@ impl TagDirectives {
             Ok(_) => Ok(()),
             Err(_) => {
                 self.list.pop();
-                Err(Refusal::Memory)
+                Err(AllocError)
             }
         }
     }

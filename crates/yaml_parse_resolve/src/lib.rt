@@ -2,9 +2,16 @@
 #![tactic(auto)]
 
 mod handles;
+mod nodes;
 mod resolving;
-mod settling;
+mod room;
+mod scalars;
+mod slots;
+mod told;
 
 pub use handles::TagDirectives;
-pub use resolving::{Directives, Refusal, settle};
-pub use settling::settle_swiftly;
+pub use nodes::tell_node;
+pub use resolving::{
+    Directives, Settled, lack_memory, refuse, settle_implied, settle_named, settle_opened,
+};
+pub use told::settle_told;

@@ -1,10 +1,11 @@
 pub mod Front
 pub mod Moves
+pub mod Going
+pub mod Ways
 pub mod Turning
 pub mod Texts
 pub mod Loading
 pub mod Heights
-pub mod Swiftness
 pub mod Sentences
 -- what it stands on, for crates that name this one alone
 pub use Rattle.yaml_parse_laws_trees.proofs.AllGiven

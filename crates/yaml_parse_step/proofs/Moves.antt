@@ -1,7 +1,5 @@
 -- What each step over the grammar owes.
-use Rattle.std.proofs.Common.{◌≡◌, ◌⊎◌, ◌<◌, ℕ, inl, inr, List, [], ◌∷◌, ◌++◌, length, reverse, Option, Some, None, refl, sym, ap, subst, ◌∙◌, arith, Bool, true, false, ◌==◌}
-use Rattle.std.proofs.lemmas.Bool.Decides.{nat_tests}
-use Rattle.std.proofs.lemmas.List.{length-map, length-reverse}
+use Rattle.std.proofs.Common.{◌≡◌, ◌⊎◌, ◌<◌, ℕ, inl, inr, List, [], ◌∷◌, ◌++◌, length, Option, Some, None, refl, sym, ap, subst, ◌∙◌, arith, true, false}
 use Rattle.yaml_scan_model.specs.declared.yaml_mark_t.{yaml_mark_t}
 use Rattle.yaml_scan_model.specs.Tokens.{Token, no_token, type_of}
 use Rattle.yaml_scan_model.specs.Faults.{Fault}
@@ -16,11 +14,21 @@ use Rattle.yaml_parse_grammar.specs.Machine.{choice_at, taken_at, left_at, conte
 use Rattle.yaml_parse_grammar.proofs.Complete.{giving, leaves_at}
 use Rattle.yaml_parse_grammar.proofs.Voice.{Voiced, TakenSpeaks, taken_speaks, left_voiced, takes_a_token}
 use Rattle.yaml_parse_grammar.proofs.Single.{refuses, takes, takes_silently, opens, refuses_stops, takes_stops, leaves_stops, opens_stops}
-use Rattle.yaml_parse_states.specs.declared.item.State as code
-use Rattle.yaml_parse_states.specs.Views.{state_of, stack_of, below}
+use Rattle.yaml_scan_model.specs.Faults.{memory_fault}
+use Rattle.yaml_scan_model.specs.declared.yaml_origin_t.TheVariants.{Parser}
+use Rattle.yaml_parse_grammar.specs.Items.{Properties}
+use Rattle.yaml_parse_core.specs.declared.told.Shape.{Shape}
+use Rattle.yaml_parse_core.specs.declared.told.Told.{Told}
+use Rattle.yaml_parse_core.specs.declared.told.Implied.{Implied}
+use Rattle.yaml_parse_core.specs.Seen as seen
+use Rattle.yaml_parse_core.specs.Views.{Around, is_nothing, node_item, named_item, told_item, implied_item}
+use Rattle.yaml_parse_core.specs.Turns.{Takes, TurnsOn, context_if}
+use Rattle.yaml_parse_step.specs.Moves.{Moves, MovesSilently, Stops}
+use Rattle.yaml_parse_step.proofs.Texts.{take_item_utf8, take_silent_utf8, leave_utf8, open_utf8}
+use Rattle.yaml_parse_step.proofs.Heights.{take_item_stands, take_silent_stands, leave_stands, open_stands}
 use Rattle.yaml_parse_step.specs.Stepped.{Stepped}
 use Rattle.yaml_parse_step.specs.Stepped as step
-use Rattle.yaml_parse_step.specs.Steps.{held_if, Raw, raw, outcome, stop_of, budget, IsFront, HasNoFront, IsDirective, GivesItem, GivesNoItem, IsRefused, Steps, OpensAt, IsReal, IsRealOn}
+use Rattle.yaml_parse_step.specs.Steps.{Raw, raw, outcome, stop_of, budget, IsFront, HasNoFront, IsDirective, GivesItem, GivesNoItem, IsRefused, Steps, OpensAt, IsReal, IsRealOn}
 
 -- a directive leaves something open
 directive_stands : (b : RawEventBody) (P : Type 0) → Voiced b P → IsDirective b → P
@@ -144,7 +152,7 @@ front_at : (peeked : Option Token) (ts : List Token) (f : Option Fault) (s : Lis
     → (length s ≡ 0 → ⊥) → IsFront peeked ts f t rest after → Steps (raw (Some t) rest after s) r new → IsRealOn s t r → Steps (raw peeked ts f s) r new
 front_at peeked ts f [] t rest after new r n h k l = absurd (n refl)
 front_at peeked ts f (x ∷ s) t rest after new r n h k l =
-    bridge (raw peeked ts f (x ∷ s)) (raw (Some t) rest after (x ∷ s)) new x t r k (h.runs (x ∷ s)) (h.stops (x ∷ s)) (elim h.asked [ inl a ↦ inl a | inr a ↦ inr a ]) (l x refl)
+    bridge (raw peeked ts f (x ∷ s)) (raw (Some t) rest after (x ∷ s)) new x t r k (h.runs (x ∷ s)) (h.stops (x ∷ s)) (elim h.asked [ inl a ↦ inl a | inr a ↦ inr a ]) l
 
 ending_outcome : (peeked : Option Token) (ts : List Token) (f : Option Fault) (old : List State) (x : State) (s : List State) (e : Fault)
     → old ≡ x ∷ s → ((z : List State) → outcome (raw peeked ts f z) ≡ ending_at z e) → outcome (raw peeked ts f old) ≡ record { items = []; ending = Some e }
@@ -162,36 +170,110 @@ no_front_at : (peeked : Option Token) (ts : List Token) (f : Option Fault) (s : 
 no_front_at peeked ts f [] e new k h = absurd (k refl)
 no_front_at peeked ts f (x ∷ s) e new k h = no_front_step peeked ts f (x ∷ s) x s e new refl h
 
-stack_length : (s : List code.State) → length (stack_of s) ≡ length s
-stack_length s = length-map (reverse s) state_of ∙ length-reverse s
+-- a stack that isn't over is some
+some_left : (s : List State) → is_nothing s ≡ false → length s ≡ 0 → ⊥
+some_left [] e n = cc
+some_left (x ∷ s) e n = omega (arith, n)
 
-no_zero : (n : ℕ) → (n == 0) ≡ false → n ≡ 0 → ⊥
-no_zero n h e = grind (arith, nat_tests)
+-- the states go on behind the token in front
+pub over_front : (peeked : Option Token) (ts : List Token) (f : Option Fault) (s : List State) (t : Token) (rest : List Token) (after : Option Fault) (new : Raw) (r : Stepped)
+    → is_nothing s ≡ false → IsFront peeked ts f t rest after → Steps (raw (Some t) rest after s) r new → IsRealOn s t r → Steps (raw peeked ts f s) r new
+over_front peeked ts f s t rest after new r z h k l = front_at peeked ts f s t rest after new r (some_left s z) h k l
 
--- the same, of states of which there are some
-pub over_front : (peeked : Option Token) (ts : List Token) (f : Option Fault) (s : List code.State) (n : ℕ) (t : Token) (rest : List Token) (after : Option Fault) (new : Raw) (r : Stepped)
-    → n ≡ length s → (n == 0) ≡ false → IsFront peeked ts f t rest after → Steps (raw (Some t) rest after (stack_of s)) r new → IsRealOn (stack_of s) t r → Steps (raw peeked ts f (stack_of s)) r new
-over_front peeked ts f s n t rest after new r q z h k l = front_at peeked ts f (stack_of s) t rest after new r (λ e. no_zero n z (q ∙ sym (stack_length s) ∙ e)) h k l
+-- no token stands in front
+pub no_front_open : (peeked : Option Token) (ts : List Token) (f : Option Fault) (s : List State) (e : Fault) (new : Raw)
+    → is_nothing s ≡ false → HasNoFront peeked ts f e new.tokens → IsRefused e (raw peeked ts f s) new
+no_front_open peeked ts f s e new z h = no_front_at peeked ts f s e new (some_left s z) h
 
--- the states stay where they are, of which there are some
-pub no_front_open : (peeked : Option Token) (ts : List Token) (f : Option Fault) (old : List code.State) (n : ℕ) (e : Fault) (new : Raw)
-    → n ≡ length old → (n == 0) ≡ false → HasNoFront peeked ts f e new.tokens → IsRefused e (raw peeked ts f (stack_of old)) new
-no_front_open peeked ts f old n e new q z h = no_front_at peeked ts f (stack_of old) e new (λ l. no_zero n z (q ∙ sym (stack_length old) ∙ l)) h
+-- ---- what a turn of the machine owes
 
-pub leave_real : (x : State) (t : Token) (start : yaml_mark_t) (i : RawEvent) → i ≡ left_at x start → IsReal x t (step.given i)
+leave_real : (x : State) (t : Token) (start : yaml_mark_t) (i : RawEvent) → i ≡ left_at x start → IsReal x t (step.given i)
 leave_real x t start i e = λ d. absurd (left_is_none x start (subst (λ (j : RawEvent). IsDirective j.body) e d))
 
--- no token is held
-pub unheld : (held : Bool) (t : Token) (P : Option Token → Type 0) → held ≡ false → P None → P (held_if held t)
-unheld held t P e h = subst (λ (x : Bool). P (held_if x t)) (sym e) h
+moves_taken : (x : State) (t : Token) (s : List State) (i : RawEvent) (f : Properties → List State) → Takes x t s i f → (q : Properties) → Moves (x ∷ s) t i None (f q)
+moves_taken x t s i f h q = record {
+  gives = λ rest ending. take_item x t rest ending s (f q) i (taken_at x t).above h.0 (taken_is x t (Some i) h.1) (h.2 q);
+  real = λ d. h.0;
+  utf8 = λ ds. take_item_utf8 x t s (f q) i (taken_at x t).above ds (taken_is x t (Some i) h.1) (h.2 q);
+  stack = take_item_stands x t s (f q) i (taken_at x t).above h.0 (taken_is x t (Some i) h.1) (h.2 q);
+}
 
--- what holds of the topmost state and those below holds of all, where there is one
-pub over : (s : List State) (P : List State → Type 0) → (length s ≡ 0 → ⊥) → ((x : State) → s ≡ x ∷ below s → P (x ∷ below s)) → P s
-over [] P n h = absurd (n refl)
-over (x ∷ s) P n h = h x refl
+left_here : (x : State) (t : Token) (s : List State) (i : RawEvent) → choice_at x (type_of t.body) ≡ Leave → i ≡ left_at x t.start_mark → Moves (x ∷ s) t i (Some t) s
+left_here x t s i h e = record {
+  gives = λ rest ending. leave_item x t rest ending s i h e;
+  real = leave_real x t t.start_mark i e;
+  utf8 = λ ds. leave_utf8 x t t.start_mark s i ds e;
+  stack = leave_stands x t s i h e;
+}
 
-some_length : (m n : ℕ) → 0 < n → n ≡ m → m ≡ 0 → ⊥
-some_length m n h e z = omega arith
+opened_here : (x : State) (t : Token) (s new : List State) → choice_at x (type_of t.body) ≡ Open → new ≡ opened t.start_mark ++ s
+    → Moves (x ∷ s) t (item_at (item.document true) t.start_mark t.start_mark) (Some t) new
+opened_here x t s new h e =
+    let i : RawEvent = item_at (item.document true) t.start_mark t.start_mark in
+    record {
+      gives = λ rest ending. open_step x t rest ending s new (step.given i) h (refl, e);
+      real = open_real x t t.start_mark s new (step.given i) (refl, e);
+      utf8 = λ ds. open_utf8 x t t.start_mark s new (step.given i) ds (refl, e);
+      stack = open_stands x t s new (step.given i) h (refl, e);
+    }
 
-pub are_some : (s : List code.State) (n : ℕ) → n ≡ length s → 0 < n → length (stack_of s) ≡ 0 → ⊥
-are_some s n e h z = some_length (length s) n h e (sym (stack_length s) ∙ z)
+pub node_moves : (s : List State) (t : Token) (k : Shape) (a : Around) (f : Properties → List State) → TurnsOn s t (seen.node k) a f → (q : Properties) → Moves s t (node_item k t) None (f q)
+node_moves [] t k a f h q = absurd (nothing_given k h.0)
+  where
+    nothing_given : (k : Shape) → seen.node k ≡ seen.over → ⊥
+    nothing_given k e = cc
+node_moves (x ∷ s) t k a f h q = moves_taken x t s (node_item k t) f h q
+
+pub named_moves : (s : List State) (t : Token) (k : Shape) (a : Around) (f : Properties → List State) → TurnsOn s t (seen.named k) a f → (q : Properties) → Moves s t (named_item k a.properties t) None (f q)
+named_moves [] t k a f h q = absurd (nothing_given k h.0)
+  where
+    nothing_given : (k : Shape) → seen.named k ≡ seen.over → ⊥
+    nothing_given k e = cc
+named_moves (x ∷ s) t k a f h q = moves_taken x t s (named_item k a.properties t) f h q
+
+pub told_moves : (s : List State) (t : Token) (k : Told) (a : Around) (f : Properties → List State) → TurnsOn s t (seen.given k) a f → (q : Properties) → Moves s t (told_item k a.opener t) None (f q)
+told_moves [] t k a f h q = absurd (nothing_given k h.0)
+  where
+    nothing_given : (k : Told) → seen.given k ≡ seen.over → ⊥
+    nothing_given k e = cc
+told_moves (x ∷ s) t k a f h q = moves_taken x t s (told_item k a.opener t) f h q
+
+pub implied_moves : (s : List State) (t : Token) (k : Implied) (a : Around) (f : Properties → List State) → TurnsOn s t (seen.left k) a f → (q : Properties)
+    → Moves s t (implied_item k a.properties a.before t.start_mark) (Some t) (f q)
+implied_moves [] t k a f h q = absurd (nothing_given k h.0)
+  where
+    nothing_given : (k : Implied) → seen.left k ≡ seen.over → ⊥
+    nothing_given k e = cc
+implied_moves (x ∷ s) t k a f h q =
+    subst (λ z. Moves (x ∷ s) t (implied_item k a.properties a.before t.start_mark) (Some t) z) (sym (h.2 q)) (left_here x t s (implied_item k a.properties a.before t.start_mark) h.0 h.1)
+
+pub opened_moves : (s : List State) (t : Token) (a : Around) (f : Properties → List State) → TurnsOn s t seen.opened a f → (q : Properties)
+    → Moves s t (item_at (item.document true) t.start_mark t.start_mark) (Some t) (f q)
+opened_moves [] t a f h q = absurd (nothing_given h.0)
+  where
+    nothing_given : seen.opened ≡ seen.over → ⊥
+    nothing_given e = cc
+opened_moves (x ∷ s) t a f h q = opened_here x t s (f q) h.0 (h.1 q)
+
+pub silent_moves : (s : List State) (t : Token) (a : Around) (f : Properties → List State) → TurnsOn s t seen.silent a f → MovesSilently s t (f a.properties)
+silent_moves [] t a f h = absurd (nothing_given h.0)
+  where
+    nothing_given : seen.silent ≡ seen.over → ⊥
+    nothing_given e = cc
+silent_moves (x ∷ s) t a f h = record {
+  gives = λ rest ending. take_silent x t rest ending s (f a.properties) (taken_at x t).above h.0 (taken_is x t None h.1) h.2;
+  real = h.0;
+  utf8 = λ ds. take_silent_utf8 x t s (f a.properties) (taken_at x t).above ds (taken_is x t None h.1) h.2;
+  stack = take_silent_stands x t s (f a.properties) (taken_at x t).above h.0 (taken_is x t None h.1) h.2;
+}
+
+pub refused_stops : (s : List State) (t : Token) (p : ParseProblem) (a : Around) (f : Properties → List State) (e : Fault) → TurnsOn s t (seen.refused p) a f
+    → e ≡ parser_fault p t.start_mark (context_of (context_if p a.opener) t.start_mark) → Stops s t e
+refused_stops [] t p a f e h q = absurd (nothing_given p h.0)
+  where
+    nothing_given : (p : ParseProblem) → seen.refused p ≡ seen.over → ⊥
+    nothing_given p d = cc
+refused_stops (x ∷ s) t p a f e h q = λ rest ending held new. refuse_step x t rest ending s new held p (context_if p a.opener) e h q
+
+pub memory_stops : (s : List State) (t : Token) (e : Fault) → e ≡ memory_fault Parser → Stops s t e
+memory_stops s t e h = λ rest ending held new. record { reason = inl (inl h); unasked = inl (inl h) }

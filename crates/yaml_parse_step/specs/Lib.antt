@@ -1,7 +1,7 @@
 pub mod Stepped
-pub mod Advanced
 pub mod Steps
 pub mod Turned
+pub mod Moves
 pub mod Fronts
 pub mod Finds
 -- what it stands on, for crates that name this one alone

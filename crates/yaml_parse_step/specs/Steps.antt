@@ -16,7 +16,7 @@ use Rattle.yaml_parse_model.specs.Constructors.{HasUtf8, AreUtf8}
 use Rattle.yaml_parse_grammar.specs.Resolve.{Directives, Settled, gave, noted, placed, refused}
 use Rattle.yaml_parse_model.specs.declared.event.yaml_event_t.{yaml_event_t}
 use Rattle.yaml_parse_model.specs.Events.{event_of, body_of}
-use Rattle.yaml_parse_states.specs.Views.{below}
+use Rattle.yaml_parse_core.specs.Owned.{owned_states}
 use Rattle.yaml_parse_step.specs.declared.step.StepBuffers.{StepBuffers}
 use Rattle.yaml_parse_step.specs.Finds.{GivesNext}
 use Rattle.yaml_parse_step.specs.Stepped.{Stepped}
@@ -31,6 +31,10 @@ held_if true t = Some t
 -- the token that is still to be taken
 abbrev pub peeked_of : StepBuffers → Option Token
 peeked_of d = held_if d.is_held (token_of d.token)
+
+-- what may come, the topmost first
+abbrev pub states_in : StepBuffers → List State
+states_in b = owned_states b.machine b.waiting
 
 -- The token stands at the front: every stack goes on as before, and if it isn't the empty one it was asked for.
 pub record IsFront (peeked : Option Token) (ts : List Token) (fault : Option Fault) (t : Token)
@@ -132,7 +136,8 @@ IsReal x t step.done = ⊥
 
 -- the same of the topmost state, if there is one
 abbrev pub IsRealOn : List State → Token → Stepped → Type 0
-IsRealOn s t r = (x : State) → s ≡ x ∷ below s → IsReal x t r
+IsRealOn [] t r = Unit {0}
+IsRealOn (x ∷ s) t r = IsReal x t r
 
 -- what an item comes to: an event, nothing, or a fault
 abbrev pub ComesTo : Settled → item.RawEvent → Option Bool → yaml_event_t → Fault → Directives

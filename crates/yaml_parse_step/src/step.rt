@@ -1,33 +1,33 @@
 //! One step of a parser: a token is taken, or a state is left before it.
 
-ghost use Rattle.std.specs.Prelude.{◌≡◌, ◌<◌, ◌∷◌, true, false, List, Option, Some, None, vec_len};
-ghost use Rattle.yaml_scan_model.specs.Tokens.{Token, token_of, type_of};
-ghost use Rattle.yaml_scan_model.specs.Faults.{Fault, fault_of, memory_fault};
-ghost use Rattle.yaml_scan_model.specs.declared.yaml_origin_t.TheVariants.{Parser};
-ghost use Rattle.yaml_parse_model.specs.Events.{event_of};
-ghost use Rattle.yaml_parse_grammar.specs.Problems.{parser_fault};
-ghost use Rattle.yaml_parse_grammar.specs.Machine.{choice_at, context_of};
-ghost use Rattle.yaml_parse_grammar.specs.declared.name.Choice.TheVariants.{Take as taking_it};
-ghost use Rattle.yaml_parse_states.specs.Views.{state_of, stack_of, item_of};
+ghost use Rattle.std.specs.Prelude.{◌≡◌, true, false, List, Option, None};
+ghost use Rattle.yaml_scan_model.specs.Tokens.{Token, token_of};
+ghost use Rattle.yaml_scan_model.specs.Faults.{Fault, fault_of};
+ghost use Rattle.yaml_parse_model.specs.Events.{Event, event_of};
+ghost use Rattle.yaml_parse_core.specs.Seen.{seen};
+ghost use Rattle.yaml_parse_core.specs.Seen as kinds;
+ghost use Rattle.yaml_parse_core.specs.Turns.{keeps, context_if};
+ghost use Rattle.yaml_parse_core.specs.Views.{implied_item};
 ghost use Rattle.yaml_parse_resolve.specs.Settles.{directives_of};
+ghost use Rattle.yaml_parse_grammar.specs.Machine.{context_of};
 ghost use Rattle.yaml_parse_grammar.specs.Remaining.{parser_remaining, is_between};
-ghost use Rattle.yaml_parse_grammar.specs.Resolve.{Directives as DirectivesSpec, settle as settle_item};
+ghost use Rattle.yaml_parse_grammar.specs.States.{State};
+ghost use Rattle.yaml_parse_grammar.specs.Items.{Properties};
 ghost use Rattle.yaml_parse_grammar.specs.Stacks.{IsStack};
 ghost use Rattle.yaml_parse_grammar.specs.Texts.{IsUtf8Token, IsUtf8Held};
 ghost use Rattle.yaml_parse_model.specs.Source.{HasUtf8};
-ghost use Rattle.yaml_parse_step.specs.Steps.{HasFront, Steps, Turns, OpensAt, IsReal, IsRealOn, ComesTo, IsUtf8Step, IsUtf8Turn, IsStackStep, IsStackTurn, raw, peeked_of};
-ghost use Rattle.yaml_parse_step.specs.Stepped.{stepped};
-ghost use Rattle.yaml_parse_step.specs.Advanced.{advanced, IsSettled};
+ghost use Rattle.yaml_parse_step.specs.Steps.{HasFront, Turns, IsUtf8Turn, IsStackTurn, peeked_of, states_in};
+ghost use Rattle.yaml_parse_step.specs.Moves.{Turned, WentOn, LeavesMachine, step_of};
 ghost use Rattle.yaml_parse_step.specs.Turned.{turned};
 
-use std::alloc::Global;
-use yaml_parse_grammar::{Choice, ParseFault, ParseProblem};
-use yaml_parse_machine::{choose, leave, take};
+use yaml_parse_core::{Implied, Machine, Shape, Told, Turn, Waiting, finish, is_over, turn_owned};
+use yaml_parse_grammar::ParseProblem;
 use yaml_parse_model::{yaml_event_t, yaml_token_source_t};
-use yaml_parse_resolve::{Directives, Refusal, settle, settle_swiftly};
-use yaml_parse_states::{RawEvent, RawEventBody, State, open};
-use yaml_parse_swift::{Swift, take_swiftly};
-use yaml_scan_model::{yaml_fault_t, yaml_mark_t, yaml_memory_fault, yaml_origin_t, yaml_token_t};
+use yaml_parse_resolve::{
+    Directives, Settled, lack_memory, refuse, settle_implied, settle_named, settle_opened,
+    settle_told, tell_node,
+};
+use yaml_scan_model::{yaml_fault_t, yaml_mark_t, yaml_token_t};
 
 /// What a step gives: an item, or with tags and directives resolved an event, or a fault, each in its slot; nothing; or nothing any
 /// more.
@@ -39,39 +39,20 @@ pub enum Step {
     Done,
 }
 
-/// How far an advance came: an event that stands in its slot already, since nothing of it is to be resolved; or what a step gives.
-#[derive(Clone, Copy)]
-pub enum Progress {
-    Ready,
-    By(Step),
-}
-
-/// What the steps hand on in place, since moving it costs more than what they do, and what they ask for memory.
+/// What the steps hand on in place, since moving it costs more than what they do. One struct, whose address is the only one that
+/// calls out of line take: each other one would be put aside in front of the loop over turns, for each event.
 #[derive(Drop)]
 pub struct StepBuffers {
-    pub alloc: Global,
+    /// What may come.
+    pub machine: Machine<yaml_mark_t>,
     /// The token that was asked for last.
     pub token: yaml_token_t,
     /// It is still to be taken.
     pub is_held: bool,
-    /// What the last step gave, if it gave an item.
-    pub item: RawEvent,
-}
-
-fn want_of_memory() -> yaml_fault_t
-    ensures { fault_of result ≡ memory_fault Parser }
-{
-    yaml_memory_fault(yaml_origin_t::Parser)
-}
-
-// A fault in its slot: memory ran out.
-// Out of line: its room would be set to zero for each item. Cold: it is met once.
-#[cold]
-#[inline(never)]
-fn lack_memory(fault: &mut yaml_fault_t)
-    ensures { fault_of fault.new ≡ memory_fault Parser }
-{
-    *fault = want_of_memory();
+    /// The properties that wait for their node.
+    pub waiting: Waiting<Vec<u8>, yaml_mark_t>,
+    /// Of the document that is open or begins.
+    pub directives: Directives,
 }
 
 // The source's next token, where none was asked for before, or else its fault.
@@ -88,7 +69,7 @@ fn ask<S: yaml_token_source_t>(
     source.next_token_into(token, fault)
 }
 
-// The token at the front: the one that is held, or else the source's next. It is held no more.
+// The token at the front: the one that is held, or else the source's next.
 fn front<S: yaml_token_source_t>(
     source: &mut S,
     buffers: &mut StepBuffers,
@@ -99,322 +80,313 @@ fn front<S: yaml_token_source_t>(
         (S.fault_to_come source.new) (fault_of fault.new) }
     ensures utf8 { IsUtf8Token (peeked_of buffers.old) → result ≡ true
         → HasUtf8 (token_of buffers.new.token).body }
-    ensures unheld { buffers.new.is_held ≡ false }
+    ensures same { buffers.new ≡ record buffers.old { token = buffers.new.token } }
 {
     if buffers.is_held {
-        buffers.is_held = false;
         true
     } else {
         ask(source, &mut buffers.token, fault)
     }
 }
 
-fn refusal(problem: ParseProblem, at: yaml_mark_t, opener: Option<yaml_mark_t>) -> yaml_fault_t
-    ensures { fault_of result ≡ parser_fault problem at (context_of opener at) }
+// The place where what was being parsed begins, if the fault tells it, or else the token's.
+fn context(problem: ParseProblem, opener: yaml_mark_t, at: yaml_mark_t) -> yaml_mark_t
+    ensures { result ≡ context_of (context_if problem opener) at }
 {
-    let context_mark = match opener {
-        None => at,
-        Some(mark) => mark,
-    };
-    let fault = ParseFault {
-        problem,
-        problem_mark: at,
-        context_mark,
-    };
-    fault.located()
+    match problem {
+        ParseProblem::NoDash
+        | ParseProblem::NoKey
+        | ParseProblem::NoSequenceEnd
+        | ParseProblem::NoMappingEnd => opener,
+        _ => at,
+    }
 }
 
-// The state takes the token.
-fn taking(
-    stack: &mut Vec<State>,
-    state: State,
-    buffers: &mut StepBuffers,
-    fault: &mut yaml_fault_t,
-) -> Step
-    requires { choice_at (state_of state) (type_of (token_of buffers.old.token).body) ≡ taking_it }
-    ensures steps { (rest : List Token) (ending : Option Fault)
-        → Steps (raw (Some (token_of buffers.old.token)) rest ending
-        (state_of state ∷ stack_of stack.old.items)) (stepped result (item_of buffers.new.item)
-        (fault_of fault.new)) (raw (peeked_of buffers.new) rest ending (stack_of stack.new.items)) }
-    ensures utf8 { (ds : DirectivesSpec) → IsUtf8Held (Some (token_of buffers.old.token))
-        (state_of state ∷ stack_of stack.old.items) ds
-        → IsUtf8Step (stepped result (item_of buffers.new.item) (fault_of fault.new))
-        (peeked_of buffers.new) (stack_of stack.new.items) ds }
-    ensures stack { IsStack (state_of state ∷ stack_of stack.old.items)
-        → IsStackStep (stepped result (item_of buffers.new.item) (fault_of fault.new))
-        (stack_of stack.new.items) }
+// What an item came to, behind a refusal of which nothing is left.
+// Inlined: it is known.
+#[inline(always)]
+fn settled(buffers: &mut StepBuffers, settled: Settled) -> Step
+    ensures result { result ≡ step_of settled }
+    ensures machine { LeavesMachine settled buffers.old.machine buffers.new.machine }
+    ensures same { buffers.new ≡ record buffers.old { machine = buffers.new.machine } }
+{
+    match settled {
+        Settled::Event => Step::Given,
+        Settled::Noted => Step::Silent,
+        Settled::Refused => {
+            finish(&mut buffers.machine);
+            Step::Refused
+        }
+    }
+}
+
+// A node without properties.
+#[inline(always)]
+fn tell(shape: Shape, buffers: &mut StepBuffers, event: &mut yaml_event_t) -> Step
+    ensures { (s : List State) (t : Token) (f : Fault) → Turned buffers.old s t (kinds.node shape)
+        → token_of buffers.old.token ≡ t → WentOn s t buffers.old result (event_of event.new) f
+        buffers.new }
 {
     buffers.is_held = false;
-    match take(stack, state, &mut buffers.token, &mut buffers.item) {
-        Ok(true) => Step::Given,
-        Ok(false) => Step::Silent,
-        Err(_) => {
-            *fault = want_of_memory();
-            Step::Refused
-        }
-    }
+    tell_node(shape, &mut buffers.waiting, &mut buffers.token, event);
+    Step::Given
 }
 
-// An implicit document begins before the token.
-fn opening(
-    stack: &mut Vec<State>,
-    start: yaml_mark_t,
-    slot: &mut RawEvent,
-    fault: &mut yaml_fault_t,
-) -> Step
-    ensures { OpensAt start (stack_of stack.old.items)
-        (stepped result (item_of slot.new) (fault_of fault.new)) (stack_of stack.new.items) }
-{
-    match open(stack, start) {
-        Ok(()) => {
-            slot.body = RawEventBody::Document { implicit: true };
-            slot.from = start;
-            slot.to = start;
-            Step::Given
-        }
-        Err(_) => {
-            *fault = want_of_memory();
-            Step::Refused
-        }
-    }
-}
-
-// The state on top of the stack at the token.
-fn stepping(
-    stack: &mut Vec<State>,
-    state: State,
-    buffers: &mut StepBuffers,
-    fault: &mut yaml_fault_t,
-) -> Step
-    ensures steps { (rest : List Token) (ending : Option Fault)
-        → Steps (raw (Some (token_of buffers.old.token)) rest ending
-        (state_of state ∷ stack_of stack.old.items)) (stepped result (item_of buffers.new.item)
-        (fault_of fault.new)) (raw (peeked_of buffers.new) rest ending (stack_of stack.new.items)) }
-    ensures real { IsReal (state_of state) (token_of buffers.old.token)
-        (stepped result (item_of buffers.new.item) (fault_of fault.new)) }
-    ensures utf8 { (ds : DirectivesSpec) → IsUtf8Held (Some (token_of buffers.old.token))
-        (state_of state ∷ stack_of stack.old.items) ds
-        → IsUtf8Step (stepped result (item_of buffers.new.item) (fault_of fault.new))
-        (peeked_of buffers.new) (stack_of stack.new.items) ds }
-    ensures stack { IsStack (state_of state ∷ stack_of stack.old.items)
-        → IsStackStep (stepped result (item_of buffers.new.item) (fault_of fault.new))
-        (stack_of stack.new.items) }
-{
-    let start = buffers.token.start_mark;
-    match choose(&state, buffers.token.type_()) {
-        Choice::Refuse(problem, opener) => {
-            *fault = refusal(problem, start, opener);
-            Step::Refused
-        }
-        Choice::Take => taking(stack, state, buffers, fault),
-        Choice::Leave => {
-            buffers.is_held = true;
-            leave(state, start, &mut buffers.item);
-            Step::Given
-        }
-        Choice::Open => {
-            buffers.is_held = true;
-            opening(stack, start, &mut buffers.item, fault)
-        }
-    }
-}
-
-// The state on top of the stack at the token, the general way. Where none is left nothing is done.
-// Out of line: the swift ways have no room to make for it.
+// A node behind properties.
+// Out of line: few have them.
 #[inline(never)]
-fn stepping_on(stack: &mut Vec<State>, buffers: &mut StepBuffers, fault: &mut yaml_fault_t) -> Step
-    ensures steps { (rest : List Token) (ending : Option Fault)
-        → Steps (raw (Some (token_of buffers.old.token)) rest ending (stack_of stack.old.items))
-        (stepped result (item_of buffers.new.item) (fault_of fault.new))
-        (raw (peeked_of buffers.new) rest ending (stack_of stack.new.items)) }
-    ensures real { IsRealOn (stack_of stack.old.items) (token_of buffers.old.token)
-        (stepped result (item_of buffers.new.item) (fault_of fault.new)) }
-    ensures utf8 { (ds : DirectivesSpec) → IsUtf8Held (Some (token_of buffers.old.token))
-        (stack_of stack.old.items) ds
-        → IsUtf8Step (stepped result (item_of buffers.new.item) (fault_of fault.new))
-        (peeked_of buffers.new) (stack_of stack.new.items) ds }
-    ensures stack { IsStack (stack_of stack.old.items)
-        → IsStackStep (stepped result (item_of buffers.new.item) (fault_of fault.new))
-        (stack_of stack.new.items) }
+fn tell_named(
+    shape: Shape,
+    buffers: &mut StepBuffers,
+    event: &mut yaml_event_t,
+    fault: &mut yaml_fault_t,
+) -> Step
+    ensures { (s : List State) (t : Token) → Turned buffers.old s t (kinds.named shape)
+        → token_of buffers.old.token ≡ t → WentOn s t buffers.old result (event_of event.new)
+        (fault_of fault.new) buffers.new }
 {
-    match stack.pop() {
-        Some(state) => stepping(stack, state, buffers, fault),
-        None => {
+    buffers.is_held = false;
+    let came = settle_named(
+        &buffers.directives.tags,
+        shape,
+        &mut buffers.waiting,
+        &mut buffers.token,
+        event,
+        fault,
+    );
+    settled(buffers, came)
+}
+
+// What a token tells but nodes.
+// Inlined into its two callers.
+#[inline(always)]
+fn tell_other(
+    told: Told,
+    buffers: &mut StepBuffers,
+    event: &mut yaml_event_t,
+    fault: &mut yaml_fault_t,
+) -> Step
+    ensures { (s : List State) (t : Token) → Turned buffers.old s t (kinds.given told)
+        → token_of buffers.old.token ≡ t → WentOn s t buffers.old result (event_of event.new)
+        (fault_of fault.new) buffers.new }
+{
+    buffers.is_held = false;
+    let came = settle_told(
+        &mut buffers.directives,
+        told,
+        &buffers.machine.top.opener,
+        &mut buffers.token,
+        event,
+        fault,
+    );
+    settled(buffers, came)
+}
+
+// What a token tells that is met once a document or more rarely.
+// Out of line: others are more.
+#[inline(never)]
+fn tell_rare(
+    told: Told,
+    buffers: &mut StepBuffers,
+    event: &mut yaml_event_t,
+    fault: &mut yaml_fault_t,
+) -> Step
+    ensures { (s : List State) (t : Token) → Turned buffers.old s t (kinds.given told)
+        → token_of buffers.old.token ≡ t → WentOn s t buffers.old result (event_of event.new)
+        (fault_of fault.new) buffers.new }
+{
+    tell_other(told, buffers, event, fault)
+}
+
+// Where it stands: where the indicator before it ends, or the token begins.
+fn place(implied: Implied, before: yaml_mark_t, start: yaml_mark_t) -> yaml_mark_t
+    ensures { (p : Properties) → implied_item implied p result result
+        ≡ implied_item implied p before start }
+{
+    match implied {
+        Implied::NothingBefore => before,
+        Implied::Nothing => start,
+        Implied::Properties => start,
+        Implied::SequenceEnd => start,
+        Implied::MappingEnd => start,
+        Implied::DocumentEnd => start,
+    }
+}
+
+// What stands in front of the token, which stays.
+// Out of line: few do.
+#[inline(never)]
+fn leave(
+    implied: Implied,
+    buffers: &mut StepBuffers,
+    event: &mut yaml_event_t,
+    fault: &mut yaml_fault_t,
+) -> Step
+    ensures { (s : List State) (t : Token) → Turned buffers.old s t (kinds.left implied)
+        → token_of buffers.old.token ≡ t → WentOn s t buffers.old result (event_of event.new)
+        (fault_of fault.new) buffers.new }
+{
+    buffers.is_held = true;
+    let at = place(implied, buffers.machine.before, buffers.token.start_mark);
+    let came = settle_implied(
+        &mut buffers.directives,
+        implied,
+        &at,
+        &mut buffers.waiting,
+        event,
+        fault,
+    );
+    settled(buffers, came)
+}
+
+// A document begins before the token, which stays.
+// Out of line: it is met once a document.
+#[inline(never)]
+fn open(buffers: &mut StepBuffers, event: &mut yaml_event_t, fault: &mut yaml_fault_t) -> Step
+    ensures { (s : List State) (t : Token) → Turned buffers.old s t (kinds.opened)
+        → token_of buffers.old.token ≡ t → WentOn s t buffers.old result (event_of event.new)
+        (fault_of fault.new) buffers.new }
+{
+    buffers.is_held = true;
+    let came = settle_opened(&buffers.directives, &buffers.token.start_mark, event, fault);
+    settled(buffers, came)
+}
+
+// The token is wrong there.
+// Out of line: it is met once.
+#[cold]
+#[inline(never)]
+fn refused(problem: ParseProblem, buffers: &mut StepBuffers, fault: &mut yaml_fault_t) -> Step
+    ensures { (s : List State) (t : Token) (e : Event)
+        → Turned buffers.old s t (kinds.refused problem)
+        → token_of buffers.old.token ≡ t → WentOn s t buffers.old result e (fault_of fault.new)
+        buffers.new }
+{
+    let at = buffers.token.start_mark;
+    refuse(
+        problem,
+        at,
+        context(problem, buffers.machine.top.opener, at),
+        fault,
+    );
+    finish(&mut buffers.machine);
+    Step::Refused
+}
+
+// What a turn did, with its item resolved.
+// It is long: a row for each answer of a turn, and nothing besides.
+// Inlined into its one caller.
+#[inline(always)]
+fn going(
+    turn: Turn,
+    buffers: &mut StepBuffers,
+    event: &mut yaml_event_t,
+    fault: &mut yaml_fault_t,
+) -> Step
+    ensures { (s : List State) (t : Token) → Turned buffers.old s t (seen turn)
+        → (keeps (seen turn) ≡ true → token_of buffers.old.token ≡ t)
+        → WentOn s t buffers.old result (event_of event.new) (fault_of fault.new) buffers.new }
+{
+    match turn {
+        Turn::Scalar => tell(Shape::Scalar, buffers, event),
+        Turn::BlockSequence => tell(Shape::BlockSequence, buffers, event),
+        Turn::BlockMapping => tell(Shape::BlockMapping, buffers, event),
+        Turn::FlowSequence => tell(Shape::FlowSequence, buffers, event),
+        Turn::FlowMapping => tell(Shape::FlowMapping, buffers, event),
+        Turn::NamedScalar => tell_named(Shape::Scalar, buffers, event, fault),
+        Turn::NamedBlockSequence => tell_named(Shape::BlockSequence, buffers, event, fault),
+        Turn::NamedBlockMapping => tell_named(Shape::BlockMapping, buffers, event, fault),
+        Turn::NamedFlowSequence => tell_named(Shape::FlowSequence, buffers, event, fault),
+        Turn::NamedFlowMapping => tell_named(Shape::FlowMapping, buffers, event, fault),
+        Turn::SequenceEnd => tell_other(Told::SequenceEnd, buffers, event, fault),
+        Turn::MappingEnd => tell_other(Told::MappingEnd, buffers, event, fault),
+        Turn::Alias => tell_other(Told::Alias, buffers, event, fault),
+        Turn::StreamStart => tell_rare(Told::StreamStart, buffers, event, fault),
+        Turn::StreamEnd => tell_rare(Told::StreamEnd, buffers, event, fault),
+        Turn::VersionDirective => tell_rare(Told::VersionDirective, buffers, event, fault),
+        Turn::TagDirective => tell_rare(Told::TagDirective, buffers, event, fault),
+        Turn::DocumentStart => tell_rare(Told::DocumentStart, buffers, event, fault),
+        Turn::DocumentDeclared => tell_rare(Told::DocumentDeclared, buffers, event, fault),
+        Turn::DocumentEnd => tell_rare(Told::DocumentEnd, buffers, event, fault),
+        Turn::Silent => {
+            buffers.is_held = false;
+            Step::Silent
+        }
+        Turn::LeftNothing => leave(Implied::Nothing, buffers, event, fault),
+        Turn::LeftNothingBefore => leave(Implied::NothingBefore, buffers, event, fault),
+        Turn::LeftProperties => leave(Implied::Properties, buffers, event, fault),
+        Turn::LeftSequenceEnd => leave(Implied::SequenceEnd, buffers, event, fault),
+        Turn::LeftMappingEnd => leave(Implied::MappingEnd, buffers, event, fault),
+        Turn::LeftDocumentEnd => leave(Implied::DocumentEnd, buffers, event, fault),
+        Turn::Opened => open(buffers, event, fault),
+        Turn::NoStreamStart => refused(ParseProblem::NoStreamStart, buffers, fault),
+        Turn::NoDocumentStart => refused(ParseProblem::NoDocumentStart, buffers, fault),
+        Turn::NoDash => refused(ParseProblem::NoDash, buffers, fault),
+        Turn::NoKey => refused(ParseProblem::NoKey, buffers, fault),
+        Turn::NoSequenceEnd => refused(ParseProblem::NoSequenceEnd, buffers, fault),
+        Turn::NoMappingEnd => refused(ParseProblem::NoMappingEnd, buffers, fault),
+        Turn::NoBlockNode => refused(ParseProblem::NoBlockNode, buffers, fault),
+        Turn::NoFlowNode => refused(ParseProblem::NoFlowNode, buffers, fault),
+        Turn::Memory => {
+            lack_memory(fault);
+            finish(&mut buffers.machine);
+            Step::Refused
+        }
+        Turn::Over => {
             buffers.is_held = true;
             Step::Done
         }
     }
 }
 
-// The state on top of the stack at the token, the swift way where there is one.
-// Inlined into its one caller, the advance.
+// The topmost state at the token in front, with its item resolved.
+// Inlined into its one caller.
 #[inline(always)]
-fn moving(
-    stack: &mut Vec<State>,
-    buffers: &mut StepBuffers,
-    event: &mut yaml_event_t,
-    fault: &mut yaml_fault_t,
-) -> Progress
-    requires some { 0 < vec_len stack.old }
-    requires unheld { buffers.old.is_held ≡ false }
-    ensures steps { (rest : List Token) (ending : Option Fault)
-        → Steps (raw (Some (token_of buffers.old.token)) rest ending (stack_of stack.old.items))
-        (advanced result (item_of buffers.new.item) (event_of event.new) (fault_of fault.new))
-        (raw (peeked_of buffers.new) rest ending (stack_of stack.new.items)) }
-    ensures real { IsRealOn (stack_of stack.old.items) (token_of buffers.old.token)
-        (advanced result (item_of buffers.new.item) (event_of event.new) (fault_of fault.new)) }
-    ensures utf8 { (ds : DirectivesSpec) → IsUtf8Held (Some (token_of buffers.old.token))
-        (stack_of stack.old.items) ds
-        → IsUtf8Step (advanced result (item_of buffers.new.item) (event_of event.new)
-        (fault_of fault.new)) (peeked_of buffers.new) (stack_of stack.new.items) ds }
-    ensures stack { IsStack (stack_of stack.old.items)
-        → IsStackStep (advanced result (item_of buffers.new.item) (event_of event.new)
-        (fault_of fault.new)) (stack_of stack.new.items) }
-    ensures ready { IsSettled result (event_of event.new) }
+fn moving(buffers: &mut StepBuffers, event: &mut yaml_event_t, fault: &mut yaml_fault_t) -> Step
+    ensures { WentOn (states_in buffers.old) (token_of buffers.old.token) buffers.old result
+        (event_of event.new) (fault_of fault.new) buffers.new }
 {
-    match take_swiftly(stack, &mut buffers.token, event, &mut buffers.item) {
-        Swift::Event => Progress::Ready,
-        Swift::Item => Progress::By(Step::Given),
-        Swift::Silent => Progress::By(Step::Silent),
-        Swift::Memory => {
-            lack_memory(fault);
-            Progress::By(Step::Refused)
-        }
-        Swift::Other => Progress::By(stepping_on(stack, buffers, fault)),
-    }
+    let turn = turn_owned(
+        &mut buffers.machine,
+        &mut buffers.waiting,
+        &mut buffers.token,
+    );
+    going(turn, buffers, event, fault)
 }
 
-/// One step over the grammar.
-// Inlined into its one caller, the turn.
-#[inline(always)]
-pub fn advance<S: yaml_token_source_t>(
-    source: &mut S,
-    buffers: &mut StepBuffers,
-    stack: &mut Vec<State>,
-    event: &mut yaml_event_t,
-    fault: &mut yaml_fault_t,
-) -> Progress
-    ensures steps { Steps (raw (peeked_of buffers.old) (S.to_come source.old)
-        (S.fault_to_come source.old) (stack_of stack.old.items))
-        (advanced result (item_of buffers.new.item) (event_of event.new) (fault_of fault.new))
-        (raw (peeked_of buffers.new) (S.to_come source.new) (S.fault_to_come source.new)
-        (stack_of stack.new.items)) }
-    ensures utf8 { (ds : DirectivesSpec) → IsUtf8Held (peeked_of buffers.old)
-        (stack_of stack.old.items) ds
-        → IsUtf8Step (advanced result (item_of buffers.new.item) (event_of event.new)
-        (fault_of fault.new)) (peeked_of buffers.new) (stack_of stack.new.items) ds }
-    ensures stack { IsStack (stack_of stack.old.items)
-        → IsStackStep (advanced result (item_of buffers.new.item) (event_of event.new)
-        (fault_of fault.new)) (stack_of stack.new.items) }
-    ensures ready { IsSettled result (event_of event.new) }
-{
-    if stack.is_empty() {
-        return Progress::By(Step::Done);
-    }
-    if front(source, buffers, fault) {
-        moving(stack, buffers, event, fault)
-    } else {
-        Progress::By(Step::Refused)
-    }
-}
-
-// What the item comes to: an event in its slot (true), nothing (false), or a fault in its slot (none).
-// Out of line: most items are scalars with a tag, and for each of those the room of a refusal would be set to zero.
-#[inline(never)]
-fn settled_whole(
-    alloc: Global,
-    directives: &mut Directives,
-    item: &mut RawEvent,
-    event: &mut yaml_event_t,
-    fault: &mut yaml_fault_t,
-) -> Option<bool>
-    ensures { ComesTo (settle_item (item_of item.old) (directives_of directives.old))
-        (item_of item.old) result event.new (fault_of fault.new) (directives_of directives.new) }
-{
-    match settle(alloc, directives, item, event) {
-        Ok(given) => Some(given),
-        Err(Refusal::Memory) => {
-            *fault = want_of_memory();
-            None
-        }
-        Err(Refusal::Fault(refused)) => {
-            *fault = refused.located();
-            None
-        }
-    }
-}
-
-// The same, in line for a scalar with a tag.
-// Out of line: few items are settled so.
-#[inline(never)]
-fn settled(
-    alloc: Global,
-    directives: &mut Directives,
-    item: &mut RawEvent,
-    event: &mut yaml_event_t,
-    fault: &mut yaml_fault_t,
-) -> Option<bool>
-    ensures { ComesTo (settle_item (item_of item.old) (directives_of directives.old))
-        (item_of item.old) result event.new (fault_of fault.new) (directives_of directives.new) }
-{
-    match settle_swiftly(directives, item, event) {
-        Ok(true) => Some(true),
-        Ok(false) => settled_whole(alloc, directives, item, event, fault),
-        Err(_) => {
-            lack_memory(fault);
-            None
-        }
-    }
-}
-
-/// One step, with tags and directives resolved. After a refusal the stack is empty.
+/// One step, with tags and directives resolved. After a refusal nothing is left.
 // Inlined into its one caller, the turn of the parser.
 #[inline(always)]
 pub fn take_turn<S: yaml_token_source_t>(
     source: &mut S,
     buffers: &mut StepBuffers,
-    stack: &mut Vec<State>,
-    directives: &mut Directives,
     event: &mut yaml_event_t,
     fault: &mut yaml_fault_t,
 ) -> Step
     ensures turns { (answered : Fault)
         → Turns (parser_remaining (peeked_of buffers.old) (S.to_come source.old)
-        (S.fault_to_come source.old) (stack_of stack.old.items) (directives_of directives.old)
-        answered) (turned result (event_of event.new) (fault_of fault.new))
+        (S.fault_to_come source.old) (states_in buffers.old)
+        (directives_of buffers.old.directives) answered)
+        (turned result (event_of event.new) (fault_of fault.new))
         (parser_remaining (peeked_of buffers.new) (S.to_come source.new)
-        (S.fault_to_come source.new) (stack_of stack.new.items) (directives_of directives.new)
-        answered) }
-    ensures utf8 { IsUtf8Held (peeked_of buffers.old) (stack_of stack.old.items)
-        (directives_of directives.old)
+        (S.fault_to_come source.new) (states_in buffers.new)
+        (directives_of buffers.new.directives) answered) }
+    ensures utf8 { IsUtf8Held (peeked_of buffers.old) (states_in buffers.old)
+        (directives_of buffers.old.directives)
         → IsUtf8Turn (turned result (event_of event.new) (fault_of fault.new))
-        × IsUtf8Held (peeked_of buffers.new) (stack_of stack.new.items)
-        (directives_of directives.new) }
-    ensures stack { IsStack (stack_of stack.old.items)
+        × IsUtf8Held (peeked_of buffers.new) (states_in buffers.new)
+        (directives_of buffers.new.directives) }
+    ensures stack { IsStack (states_in buffers.old)
         → IsStackTurn (turned result (event_of event.new) (fault_of fault.new))
-        (is_between (stack_of stack.new.items)) × IsStack (stack_of stack.new.items) }
+        (is_between (states_in buffers.new))
+        × IsStack (states_in buffers.new) }
 {
-    match advance(source, buffers, stack, event, fault) {
-        Progress::Ready => Step::Given,
-        Progress::By(Step::Done) => Step::Done,
-        Progress::By(Step::Silent) => Step::Silent,
-        Progress::By(Step::Refused) => {
-            stack.clear();
-            Step::Refused
-        }
-        Progress::By(Step::Given) => match settled(
-            buffers.alloc,
-            directives,
-            &mut buffers.item,
-            event,
-            fault,
-        ) {
-            Some(true) => Step::Given,
-            Some(false) => Step::Silent,
-            None => {
-                stack.clear();
-                Step::Refused
-            }
-        },
+    if is_over(&buffers.machine) {
+        return Step::Done;
     }
+    if !front(source, buffers, fault) {
+        finish(&mut buffers.machine);
+        return Step::Refused;
+    }
+    moving(buffers, event, fault)
 }

@@ -1,13 +1,12 @@
 -- Between documents one state stands alone, as the invariant says: what it gives is documents.
 use Rattle.yaml_parse_step.specs.parse_grammar.Remaining.{waiting}
-use Rattle.yaml_parse_states.specs.Views.{stack_of}
 use Rattle.yaml_parse_resolve.specs.Settles.{directives_of}
-use Rattle.yaml_parse_step.specs.Steps.{peeked_of}
+use Rattle.yaml_parse_step.specs.Steps.{peeked_of, states_in}
 use Rattle.yaml_parse_step.proofs.AllGiven.{run_loads}
 use Rattle.yaml_parse.proofs.parser.yaml_parser_t.allocator.Goals as goal
 
 pub returns : goal.returns
 returns g c =
     rw (← c.self.view_is)
-    (run_loads (waiting (peeked_of c.self.inside.buffers) (g.S.yaml_token_source_t.to_come c.self.inside.source)) (stack_of c.self.inside.stack.items)
-    (g.S.yaml_token_source_t.fault_to_come c.self.inside.source) (directives_of c.self.inside.directives) _ _ c.self.invariant.1)
+    (run_loads (waiting (peeked_of c.self.inside.buffers) (g.S.yaml_token_source_t.to_come c.self.inside.source)) (states_in c.self.inside.buffers)
+    (g.S.yaml_token_source_t.fault_to_come c.self.inside.source) (directives_of c.self.inside.buffers.directives) _ _ c.self.invariant.1)

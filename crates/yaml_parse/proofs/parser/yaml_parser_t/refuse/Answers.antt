@@ -1,16 +1,19 @@
 -- Nothing comes from an empty stack.
-use Rattle.std.proofs.Common.{ap}
 use Rattle.yaml_parse_model.specs.Prefix.{prefix_of}
-use Rattle.yaml_parse_states.specs.Views.{stack_of}
+use Rattle.yaml_parse_core.specs.Owned.{owned_properties, owned_states_by}
 use Rattle.yaml_parse_resolve.specs.Settles.{directives_of}
 use Rattle.yaml_parse_step.specs.Steps.{peeked_of}
 use Rattle.yaml_parse_step.proofs.Turning.{finishes, one_held}
+use Rattle.yaml_parse.proofs.Holds.{nothing_holds}
 use Rattle.yaml_parse.proofs.parser.yaml_parser_t.refuse.Goals as goal
 
 pub returns-clause-finished : goal.returns-clause-finished
 returns-clause-finished g c =
-    finishes (peeked_of c.self.inside.buffers) (g.S.yaml_token_source_t.to_come c.self.inside.source) (g.S.yaml_token_source_t.fault_to_come c.self.inside.source) (stack_of c.clear.new.self.items)
-    (directives_of c.self.inside.directives) (prefix_of c.of-self-inside.result) (ap stack_of c.clear.ensures.items)
+    finishes (peeked_of c.self.inside.buffers) (g.S.yaml_token_source_t.to_come c.self.inside.source) (g.S.yaml_token_source_t.fault_to_come c.self.inside.source) (owned_states_by c.finish.new.machine (owned_properties c.self.inside.buffers.waiting))
+    (directives_of c.self.inside.buffers.directives) (prefix_of c.of-self-inside.result) (c.finish.ensures (λ m. m) (owned_properties c.self.inside.buffers.waiting))
 
 pub returns-clause-held : goal.returns-clause-held
 returns-clause-held g c = one_held (peeked_of c.self.inside.buffers)
+
+pub invariant_of-self : goal.invariant_of-self
+invariant_of-self g c = nothing_holds _ (owned_states_by c.finish.new.machine (owned_properties c.self.inside.buffers.waiting)) _ (c.finish.ensures (λ m. m) (owned_properties c.self.inside.buffers.waiting))

@@ -1,0 +1,3 @@
+pub mod Stacks
+pub mod Nodes
+pub mod Bodies

@@ -1,0 +1,221 @@
+-- Nodes: what contents owe is what nodes and states owe.
+use Rattle.std.proofs.Common.{◌≡◌, ◌∙◌, ◌++◌, List, ℕ, Bool, true, false, if◌then◌else◌, ◌||◌, None, Some, refl, sym, ap, subst}
+use Rattle.yaml_parse_model.specs.declared.yaml_mark_t.{yaml_mark_t}
+use Rattle.yaml_parse_core.specs.Extra.{Extra}
+use Rattle.yaml_parse_model.specs.declared.yaml_token_type_t.{yaml_token_type_t}
+use Rattle.yaml_parse_model.specs.declared.yaml_token_type_t.TheVariants as kind
+use Rattle.yaml_parse_model.specs.Tokens.{Token, type_of}
+use Rattle.yaml_parse_grammar.specs.declared.name.Wants.{Wants}
+use Rattle.yaml_parse_grammar.specs.declared.name.Wants.TheVariants.{Flow, Block}
+use Rattle.yaml_parse_grammar.specs.Items.{Properties}
+use Rattle.yaml_parse_grammar.specs.States.{State, Taken}
+use Rattle.yaml_parse_grammar.specs.States as state
+use Rattle.yaml_parse_grammar.specs.Machine.{joins, with_properties_taken, starts_content, starts_node, content_taken, node_taken, no_node, choice_at, left_at, follows, wants_of}
+use Rattle.yaml_parse_grammar.specs.declared.name.Site.{Site}
+use Rattle.yaml_parse_grammar.specs.declared.name.Choice.{Choice}
+use Rattle.yaml_parse_grammar.specs.declared.name.Choice.TheVariants.{Refuse, Take, Leave}
+use Rattle.yaml_parse_core.specs.Seen.{Seen}
+use Rattle.yaml_parse_core.specs.Seen as turn
+use Rattle.yaml_parse_core.specs.declared.told.Shape.{Shape}
+use Rattle.yaml_parse_core.specs.Views.{Around, body_by, token_at, named_item, implied_item}
+use Rattle.yaml_parse_core.specs.Turns.{Contents, Nodes, Turns, Takes, LeavesOut, context_if}
+
+-- the kind isn't that of a property or an alias
+abbrev pub IsBare : yaml_token_type_t → Type 0
+IsBare kind.YAML_ALIAS_TOKEN = ⊥
+IsBare kind.YAML_ANCHOR_TOKEN = ⊥
+IsBare kind.YAML_TAG_TOKEN = ⊥
+IsBare k = Unit {0}
+
+pub is_bare : (k : yaml_token_type_t) → (k ≡ kind.YAML_ALIAS_TOKEN → ⊥) → (k ≡ kind.YAML_ANCHOR_TOKEN → ⊥) → (k ≡ kind.YAML_TAG_TOKEN → ⊥) → IsBare k
+is_bare kind.YAML_NO_TOKEN a b c = tt
+is_bare kind.YAML_STREAM_START_TOKEN a b c = tt
+is_bare kind.YAML_STREAM_END_TOKEN a b c = tt
+is_bare kind.YAML_VERSION_DIRECTIVE_TOKEN a b c = tt
+is_bare kind.YAML_TAG_DIRECTIVE_TOKEN a b c = tt
+is_bare kind.YAML_DOCUMENT_START_TOKEN a b c = tt
+is_bare kind.YAML_DOCUMENT_END_TOKEN a b c = tt
+is_bare kind.YAML_BLOCK_SEQUENCE_START_TOKEN a b c = tt
+is_bare kind.YAML_BLOCK_MAPPING_START_TOKEN a b c = tt
+is_bare kind.YAML_BLOCK_END_TOKEN a b c = tt
+is_bare kind.YAML_FLOW_SEQUENCE_START_TOKEN a b c = tt
+is_bare kind.YAML_FLOW_SEQUENCE_END_TOKEN a b c = tt
+is_bare kind.YAML_FLOW_MAPPING_START_TOKEN a b c = tt
+is_bare kind.YAML_FLOW_MAPPING_END_TOKEN a b c = tt
+is_bare kind.YAML_BLOCK_ENTRY_TOKEN a b c = tt
+is_bare kind.YAML_FLOW_ENTRY_TOKEN a b c = tt
+is_bare kind.YAML_KEY_TOKEN a b c = tt
+is_bare kind.YAML_VALUE_TOKEN a b c = tt
+is_bare kind.YAML_ALIAS_TOKEN a b c = a refl
+is_bare kind.YAML_ANCHOR_TOKEN a b c = b refl
+is_bare kind.YAML_TAG_TOKEN a b c = c refl
+is_bare kind.YAML_SCALAR_TOKEN a b c = tt
+
+abbrev bare : yaml_mark_t → yaml_mark_t → Properties
+bare from to = record { anchor = None; tag = None; from = from; to = to }
+
+-- behind no properties a content is a node
+same_start : (w : Wants) (k : yaml_token_type_t) (x y : List ℕ) (st : Extra) → IsBare k → starts_node w (type_of (body_by k x y st)) ≡ starts_content w (type_of (body_by k x y st))
+same_start w kind.YAML_NO_TOKEN x y st h = refl
+same_start w kind.YAML_STREAM_START_TOKEN x y st h = refl
+same_start w kind.YAML_STREAM_END_TOKEN x y st h = refl
+same_start w kind.YAML_VERSION_DIRECTIVE_TOKEN x y st h = refl
+same_start w kind.YAML_TAG_DIRECTIVE_TOKEN x y st h = refl
+same_start w kind.YAML_DOCUMENT_START_TOKEN x y st h = refl
+same_start w kind.YAML_DOCUMENT_END_TOKEN x y st h = refl
+same_start w kind.YAML_BLOCK_SEQUENCE_START_TOKEN x y st h = refl
+same_start w kind.YAML_BLOCK_MAPPING_START_TOKEN x y st h = refl
+same_start w kind.YAML_BLOCK_END_TOKEN x y st h = refl
+same_start w kind.YAML_FLOW_SEQUENCE_START_TOKEN x y st h = refl
+same_start w kind.YAML_FLOW_SEQUENCE_END_TOKEN x y st h = refl
+same_start w kind.YAML_FLOW_MAPPING_START_TOKEN x y st h = refl
+same_start w kind.YAML_FLOW_MAPPING_END_TOKEN x y st h = refl
+same_start w kind.YAML_BLOCK_ENTRY_TOKEN x y st h = refl
+same_start w kind.YAML_FLOW_ENTRY_TOKEN x y st h = refl
+same_start w kind.YAML_KEY_TOKEN x y st h = refl
+same_start w kind.YAML_VALUE_TOKEN x y st h = refl
+same_start w kind.YAML_ALIAS_TOKEN x y st h = absurd h
+same_start w kind.YAML_ANCHOR_TOKEN x y st h = absurd h
+same_start w kind.YAML_TAG_TOKEN x y st h = absurd h
+same_start w kind.YAML_SCALAR_TOKEN x y st h = refl
+
+same_taken : (w : Wants) (k : yaml_token_type_t) (x y : List ℕ) (st : Extra) (from to z : yaml_mark_t) → IsBare k
+    → content_taken w (Some (bare from z)) from to (body_by k x y st) ≡ node_taken w from to (body_by k x y st)
+same_taken w kind.YAML_NO_TOKEN x y st from to z h = refl
+same_taken w kind.YAML_STREAM_START_TOKEN x y st from to z h = refl
+same_taken w kind.YAML_STREAM_END_TOKEN x y st from to z h = refl
+same_taken w kind.YAML_VERSION_DIRECTIVE_TOKEN x y st from to z h = refl
+same_taken w kind.YAML_TAG_DIRECTIVE_TOKEN x y st from to z h = refl
+same_taken w kind.YAML_DOCUMENT_START_TOKEN x y st from to z h = refl
+same_taken w kind.YAML_DOCUMENT_END_TOKEN x y st from to z h = refl
+same_taken w kind.YAML_BLOCK_SEQUENCE_START_TOKEN x y st from to z h = refl
+same_taken w kind.YAML_BLOCK_MAPPING_START_TOKEN x y st from to z h = refl
+same_taken w kind.YAML_BLOCK_END_TOKEN x y st from to z h = refl
+same_taken w kind.YAML_FLOW_SEQUENCE_START_TOKEN x y st from to z h = refl
+same_taken w kind.YAML_FLOW_SEQUENCE_END_TOKEN x y st from to z h = refl
+same_taken w kind.YAML_FLOW_MAPPING_START_TOKEN x y st from to z h = refl
+same_taken w kind.YAML_FLOW_MAPPING_END_TOKEN x y st from to z h = refl
+same_taken Flow kind.YAML_BLOCK_ENTRY_TOKEN x y st from to z h = refl
+same_taken (Block None) kind.YAML_BLOCK_ENTRY_TOKEN x y st from to z h = refl
+same_taken (Block (Some s)) kind.YAML_BLOCK_ENTRY_TOKEN x y st from to z h = refl
+same_taken w kind.YAML_FLOW_ENTRY_TOKEN x y st from to z h = refl
+same_taken w kind.YAML_KEY_TOKEN x y st from to z h = refl
+same_taken w kind.YAML_VALUE_TOKEN x y st from to z h = refl
+same_taken w kind.YAML_ALIAS_TOKEN x y st from to z h = absurd h
+same_taken w kind.YAML_ANCHOR_TOKEN x y st from to z h = absurd h
+same_taken w kind.YAML_TAG_TOKEN x y st from to z h = absurd h
+same_taken w kind.YAML_SCALAR_TOKEN x y st from to z h = refl
+
+pub bare_node : (w : Wants) (k : yaml_token_type_t) (x y : List ℕ) (st : Extra) (from to : yaml_mark_t) (s : List State) (new : Properties → List State) (r : Seen) (a : Around) → IsBare k
+    → Contents w (token_at (body_by k x y st) from to) s r new → Nodes w (token_at (body_by k x y st) from to) s r a new
+bare_node w k x y st from to s new (turn.node j) a b h =
+    (same_start w k x y st b ∙ h.0, (h.1 (bare from to) (bare from to)).0 ∙ ap (λ (t : Taken). t.item) (same_taken w k x y st from to to b), λ q. (h.1 (bare from to) q).1 ∙ ap (λ (t : Taken). t.above ++ s) (same_taken w k x y st from to to b))
+bare_node w k x y st from to s new (turn.named j) a b h = absurd h
+bare_node w k x y st from to s new (turn.given j) a b h = absurd h
+bare_node w k x y st from to s new turn.silent a b h = absurd h
+bare_node w k x y st from to s new (turn.left j) a b h = absurd h
+bare_node w k x y st from to s new turn.opened a b h = absurd h
+bare_node w k x y st from to s new turn.over a b h = absurd h
+bare_node w k x y st from to s new (turn.refused q) a b h = (same_start w k x y st b ∙ h.0, h.1)
+bare_node w k x y st from to s new turn.memory a b h = tt
+
+-- ---- a node behind properties
+
+same_behind : (w : Wants) (k : yaml_token_type_t) (x y : List ℕ) (st : Extra) (from to : yaml_mark_t) (p : Properties) → (k ≡ kind.YAML_ANCHOR_TOKEN → ⊥) → (k ≡ kind.YAML_TAG_TOKEN → ⊥)
+    → content_taken w (Some p) from to (body_by k x y st) ≡ with_properties_taken w p from to (body_by k x y st)
+same_behind w kind.YAML_NO_TOKEN x y st from to p a b = refl
+same_behind w kind.YAML_STREAM_START_TOKEN x y st from to p a b = refl
+same_behind w kind.YAML_STREAM_END_TOKEN x y st from to p a b = refl
+same_behind w kind.YAML_VERSION_DIRECTIVE_TOKEN x y st from to p a b = refl
+same_behind w kind.YAML_TAG_DIRECTIVE_TOKEN x y st from to p a b = refl
+same_behind w kind.YAML_DOCUMENT_START_TOKEN x y st from to p a b = refl
+same_behind w kind.YAML_DOCUMENT_END_TOKEN x y st from to p a b = refl
+same_behind w kind.YAML_BLOCK_SEQUENCE_START_TOKEN x y st from to p a b = refl
+same_behind w kind.YAML_BLOCK_MAPPING_START_TOKEN x y st from to p a b = refl
+same_behind w kind.YAML_BLOCK_END_TOKEN x y st from to p a b = refl
+same_behind w kind.YAML_FLOW_SEQUENCE_START_TOKEN x y st from to p a b = refl
+same_behind w kind.YAML_FLOW_SEQUENCE_END_TOKEN x y st from to p a b = refl
+same_behind w kind.YAML_FLOW_MAPPING_START_TOKEN x y st from to p a b = refl
+same_behind w kind.YAML_FLOW_MAPPING_END_TOKEN x y st from to p a b = refl
+same_behind w kind.YAML_BLOCK_ENTRY_TOKEN x y st from to p a b = refl
+same_behind w kind.YAML_FLOW_ENTRY_TOKEN x y st from to p a b = refl
+same_behind w kind.YAML_KEY_TOKEN x y st from to p a b = refl
+same_behind w kind.YAML_VALUE_TOKEN x y st from to p a b = refl
+same_behind w kind.YAML_ALIAS_TOKEN x y st from to p a b = refl
+same_behind w kind.YAML_ANCHOR_TOKEN x y st from to p a b = absurd (a refl)
+same_behind w kind.YAML_TAG_TOKEN x y st from to p a b = absurd (b refl)
+same_behind w kind.YAML_SCALAR_TOKEN x y st from to p a b = refl
+
+takes_if : (b : Bool) → (if b || true then Take else Leave) ≡ Take
+takes_if true = refl
+takes_if false = refl
+
+pub named_node : (w : Wants) (k : yaml_token_type_t) (x y : List ℕ) (st : Extra) (from to : yaml_mark_t) (p : Properties) (s : List State) (new : Properties → List State) (j : Shape)
+    → (k ≡ kind.YAML_ANCHOR_TOKEN → ⊥) → (k ≡ kind.YAML_TAG_TOKEN → ⊥) → Contents w (token_at (body_by k x y st) from to) s (turn.node j) new
+    → Takes (state.with_properties w p) (token_at (body_by k x y st) from to) s (named_item j p (token_at (body_by k x y st) from to)) new
+named_node w k x y st from to p s new j a b h =
+    (ap (λ z. if joins p (type_of (body_by k x y st)) || z then Take else Leave) h.0 ∙ takes_if (joins p (type_of (body_by k x y st))), (h.1 p p).0 ∙ ap (λ (t : Taken). t.item) (same_behind w k x y st from to p a b), λ q. (h.1 p q).1 ∙ ap (λ (t : Taken). t.above ++ s) (same_behind w k x y st from to p a b))
+
+-- ---- a node that may be left out
+
+abbrev chosen_at : Bool → Bool → Wants → Choice
+chosen_at f n w = if f then Leave else if n then Take else Refuse (no_node w) None
+
+no_context : (w : Wants) (o : yaml_mark_t) → context_if (no_node w) o ≡ None
+no_context Flow o = refl
+no_context (Block s) o = refl
+
+optional_chooses : (p : Site) (b : yaml_mark_t) (k : yaml_token_type_t) (n : Bool) → follows p k ≡ false → starts_node (wants_of p) k ≡ n → choice_at (state.optional p b) k ≡ chosen_at false n (wants_of p)
+optional_chooses p b k n f e = ap (λ z. chosen_at z (starts_node (wants_of p) k) (wants_of p)) f ∙ ap (λ z. chosen_at false z (wants_of p)) e
+
+pub type_is : (k : yaml_token_type_t) (x y : List ℕ) (st : Extra) → type_of (body_by k x y st) ≡ k
+type_is kind.YAML_NO_TOKEN x y st = refl
+type_is kind.YAML_STREAM_START_TOKEN x y st = refl
+type_is kind.YAML_STREAM_END_TOKEN x y st = refl
+type_is kind.YAML_VERSION_DIRECTIVE_TOKEN x y st = refl
+type_is kind.YAML_TAG_DIRECTIVE_TOKEN x y st = refl
+type_is kind.YAML_DOCUMENT_START_TOKEN x y st = refl
+type_is kind.YAML_DOCUMENT_END_TOKEN x y st = refl
+type_is kind.YAML_BLOCK_SEQUENCE_START_TOKEN x y st = refl
+type_is kind.YAML_BLOCK_MAPPING_START_TOKEN x y st = refl
+type_is kind.YAML_BLOCK_END_TOKEN x y st = refl
+type_is kind.YAML_FLOW_SEQUENCE_START_TOKEN x y st = refl
+type_is kind.YAML_FLOW_SEQUENCE_END_TOKEN x y st = refl
+type_is kind.YAML_FLOW_MAPPING_START_TOKEN x y st = refl
+type_is kind.YAML_FLOW_MAPPING_END_TOKEN x y st = refl
+type_is kind.YAML_BLOCK_ENTRY_TOKEN x y st = refl
+type_is kind.YAML_FLOW_ENTRY_TOKEN x y st = refl
+type_is kind.YAML_KEY_TOKEN x y st = refl
+type_is kind.YAML_VALUE_TOKEN x y st = refl
+type_is kind.YAML_ALIAS_TOKEN x y st = refl
+type_is kind.YAML_ANCHOR_TOKEN x y st = refl
+type_is kind.YAML_TAG_TOKEN x y st = refl
+type_is kind.YAML_SCALAR_TOKEN x y st = refl
+
+optional_at : (p : Site) (b : yaml_mark_t) (t : Token) (s : List State) (new : Properties → List State) (r : Seen) (a : Around) → follows p (type_of t.body) ≡ false
+    → Nodes (wants_of p) t s r a new → Turns (state.optional p b) t s r a new
+optional_at p b t s new (turn.node j) a f h = (optional_chooses p b (type_of t.body) true f h.0, h.1, h.2)
+optional_at p b t s new (turn.named j) a f h = absurd h
+optional_at p b t s new (turn.given j) a f h = (optional_chooses p b (type_of t.body) true f h.0, h.1, h.2)
+optional_at p b t s new turn.silent a f h = (optional_chooses p b (type_of t.body) true f h.0, h.1, h.2)
+optional_at p b t s new (turn.left j) a f h = absurd h
+optional_at p b t s new turn.opened a f h = absurd h
+optional_at p b t s new turn.over a f h = absurd h
+optional_at p b t s new (turn.refused q) a f h = optional_chooses p b (type_of t.body) false f h.0 ∙ ap (λ z. Refuse (no_node (wants_of p)) z) (sym (no_context (wants_of p) a.opener)) ∙ ap (λ z. Refuse z (context_if z a.opener)) (sym h.1)
+optional_at p b t s new turn.memory a f h = tt
+
+pub optional_node : (p : Site) (b : yaml_mark_t) (w : Wants) (t : Token) (s : List State) (new : Properties → List State) (r : Seen) (a : Around) → follows p (type_of t.body) ≡ false
+    → w ≡ wants_of p → Nodes w t s r a new → Turns (state.optional p b) t s r a new
+optional_node p b w t s new r a f e h = optional_at p b t s new r a f (subst (λ z. Nodes z t s r a new) e h)
+
+pub left_optional : (p : Site) (b : yaml_mark_t) (t : Token) (s : List State) (new : Properties → List State) (r : Seen) (a : Around) → follows p (type_of t.body) ≡ true
+    → LeavesOut p r → a.before ≡ b → ((q : Properties) → new q ≡ s) → Turns (state.optional p b) t s r a new
+left_optional p b t s new (turn.left k) a f h e n = (ap (λ z. chosen_at z (starts_node (wants_of p) (type_of t.body)) (wants_of p)) f, subst (λ z. implied_item k a.properties a.before t.start_mark ≡ left_at (state.optional p z) t.start_mark) e (h a.properties a.before t.start_mark), n)
+left_optional p b t s new (turn.node k) a f h e n = absurd h
+left_optional p b t s new (turn.named k) a f h e n = absurd h
+left_optional p b t s new (turn.given k) a f h e n = absurd h
+left_optional p b t s new turn.silent a f h e n = absurd h
+left_optional p b t s new turn.opened a f h e n = absurd h
+left_optional p b t s new (turn.refused k) a f h e n = absurd h
+left_optional p b t s new turn.memory a f h e n = absurd h
+left_optional p b t s new turn.over a f h e n = absurd h

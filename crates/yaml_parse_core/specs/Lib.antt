@@ -1,0 +1,5 @@
+pub mod Extra
+pub mod Views
+pub mod Turns
+pub mod Owned
+pub mod Seen

@@ -1,0 +1,212 @@
+-- What tokens, levels and answers mean, where places and texts mean marks and bytes.
+use Rattle.std.specs.Prelude.{ℕ, Bool, true, false, List, [], ◌∷◌, ◌++◌, reverse, Option, Some, None}
+use Rattle.yaml_parse_model.specs.declared.yaml_mark_t.{yaml_mark_t}
+use Rattle.yaml_parse_model.specs.declared.yaml_token_type_t.{yaml_token_type_t}
+use Rattle.yaml_parse_model.specs.declared.yaml_token_type_t.TheVariants as kind
+use Rattle.yaml_parse_model.specs.declared.yaml_sequence_style_t.TheVariants.{YAML_BLOCK_SEQUENCE_STYLE}
+use Rattle.yaml_parse_model.specs.declared.yaml_mapping_style_t.TheVariants.{YAML_BLOCK_MAPPING_STYLE}
+use Rattle.yaml_parse_model.specs.Tokens.{Token, TokenBody}
+use Rattle.yaml_parse_model.specs.Tokens as token
+use Rattle.yaml_parse_model.specs.Events as event
+use Rattle.yaml_parse_grammar.specs.declared.name.Wants.TheVariants.{Flow, Block}
+use Rattle.yaml_parse_grammar.specs.declared.name.Brackets.TheVariants as brackets
+use Rattle.yaml_parse_grammar.specs.declared.name.Side.TheVariants as side
+use Rattle.yaml_parse_grammar.specs.declared.name.Site.TheVariants as site
+use Rattle.yaml_parse_grammar.specs.Items.{RawEvent, RawEventBody, Properties, Tag, item_at}
+use Rattle.yaml_parse_grammar.specs.Items as item
+use Rattle.yaml_parse_grammar.specs.Trees.{flow_shape}
+use Rattle.yaml_parse_grammar.specs.States.{State}
+use Rattle.yaml_parse_grammar.specs.States as state
+use Rattle.yaml_parse_core.specs.Extra.{Extra, value_in, style_in, name_in, encoding_in, major_in, minor_in, handle_in, prefix_in}
+use Rattle.yaml_parse_core.specs.declared.level.Await.{Await}
+use Rattle.yaml_parse_core.specs.declared.level.Await.TheVariants as await
+use Rattle.yaml_parse_core.specs.declared.level.Level.{Level}
+use Rattle.yaml_parse_core.specs.declared.level.Level.TheVariants as level
+use Rattle.yaml_parse_core.specs.declared.level.Kept.{Kept}
+use Rattle.yaml_parse_core.specs.declared.told.Shape.{Shape}
+use Rattle.yaml_parse_core.specs.declared.told.Shape.TheVariants as shape
+use Rattle.yaml_parse_core.specs.declared.told.Told.{Told}
+use Rattle.yaml_parse_core.specs.declared.told.Told.TheVariants as told
+use Rattle.yaml_parse_core.specs.declared.told.Implied.{Implied}
+use Rattle.yaml_parse_core.specs.declared.told.Implied.TheVariants as implied
+use Rattle.yaml_parse_core.specs.declared.told.Waiting.{Waiting}
+use Rattle.yaml_parse_core.specs.declared.machine.Machine.{Machine}
+
+-- the body of a token of that kind, with those texts
+abbrev pub body_by : yaml_token_type_t → List ℕ → List ℕ → Extra → TokenBody
+body_by kind.YAML_NO_TOKEN x y st = token.no
+body_by kind.YAML_STREAM_START_TOKEN x y st = token.stream_start st.encoding
+body_by kind.YAML_STREAM_END_TOKEN x y st = token.stream_end
+body_by kind.YAML_VERSION_DIRECTIVE_TOKEN x y st = token.version_directive st.major st.minor
+body_by kind.YAML_TAG_DIRECTIVE_TOKEN x y st = token.tag_directive x y
+body_by kind.YAML_DOCUMENT_START_TOKEN x y st = token.document_start
+body_by kind.YAML_DOCUMENT_END_TOKEN x y st = token.document_end
+body_by kind.YAML_BLOCK_SEQUENCE_START_TOKEN x y st = token.block_sequence_start
+body_by kind.YAML_BLOCK_MAPPING_START_TOKEN x y st = token.block_mapping_start
+body_by kind.YAML_BLOCK_END_TOKEN x y st = token.block_end
+body_by kind.YAML_FLOW_SEQUENCE_START_TOKEN x y st = token.flow_sequence_start
+body_by kind.YAML_FLOW_SEQUENCE_END_TOKEN x y st = token.flow_sequence_end
+body_by kind.YAML_FLOW_MAPPING_START_TOKEN x y st = token.flow_mapping_start
+body_by kind.YAML_FLOW_MAPPING_END_TOKEN x y st = token.flow_mapping_end
+body_by kind.YAML_BLOCK_ENTRY_TOKEN x y st = token.block_entry
+body_by kind.YAML_FLOW_ENTRY_TOKEN x y st = token.flow_entry
+body_by kind.YAML_KEY_TOKEN x y st = token.key
+body_by kind.YAML_VALUE_TOKEN x y st = token.value
+body_by kind.YAML_ALIAS_TOKEN x y st = token.alias x
+body_by kind.YAML_ANCHOR_TOKEN x y st = token.anchor x
+body_by kind.YAML_TAG_TOKEN x y st = token.tag x y
+body_by kind.YAML_SCALAR_TOKEN x y st = token.scalar x st.style
+
+abbrev pub token_at : TokenBody → yaml_mark_t → yaml_mark_t → Token
+token_at b start end = record { body = b; start_mark = start; end_mark = end }
+
+-- The level's states on top of those below, behind the node that is awaited; behind the stream's end nothing is left.
+abbrev pub level_over : Level → yaml_mark_t → List State → List State
+level_over level.Over o s = []
+level_over level.Stream o s = state.stream ∷ s
+level_over level.First o s = state.first ∷ s
+level_over level.Documents o s = state.documents ∷ s
+level_over level.Directives o s = state.directives o ∷ s
+level_over level.Document o s = state.document_end ∷ state.documents ∷ s
+level_over level.Entries o s = state.entries o ∷ s
+level_over level.OtherKeys o s = state.others side.Key ∷ s
+level_over level.OtherValues o s = state.others side.Value ∷ s
+level_over level.Pairs o s = state.pairs o ∷ s
+level_over level.Colon o s = state.colon (site.BlockPair side.Value) ∷ state.pairs o ∷ s
+level_over level.SequenceItems o s = state.items brackets.Sequence o ∷ s
+level_over level.SequenceMore o s = state.more brackets.Sequence o ∷ s
+level_over level.SequenceColon o s = state.colon (site.FlowPair brackets.Sequence side.Value)
+    ∷ state.pair_end ∷ state.more brackets.Sequence o ∷ s
+level_over level.SequencePair o s = state.pair_end ∷ state.more brackets.Sequence o ∷ s
+level_over level.MappingItems o s = state.items brackets.Mapping o ∷ s
+level_over level.MappingMore o s = state.more brackets.Mapping o ∷ s
+level_over level.MappingColon o s = state.colon (site.FlowPair brackets.Mapping side.Value)
+    ∷ state.more brackets.Mapping o ∷ s
+level_over level.MappingLone o s = state.lone ∷ state.more brackets.Mapping o ∷ s
+
+-- what is awaited: the end of the indicator before it, and the properties in the slot
+abbrev pub await_of : Await → yaml_mark_t → Properties → List State
+await_of await.Nothing b p = []
+await_of await.Root b p = state.optional site.Root b ∷ []
+await_of await.Entry b p = state.optional site.Entry b ∷ []
+await_of await.LooseKey b p = state.optional (site.IndentlessEntry side.Key) b ∷ []
+await_of await.LooseValue b p = state.optional (site.IndentlessEntry side.Value) b ∷ []
+await_of await.Key b p = state.optional (site.BlockPair side.Key) b ∷ []
+await_of await.Value b p = state.optional (site.BlockPair side.Value) b ∷ []
+await_of await.SequenceKey b p = state.optional (site.FlowPair brackets.Sequence side.Key) b ∷ []
+await_of await.SequenceValue b p = state.optional (site.FlowPair brackets.Sequence side.Value) b
+    ∷ []
+await_of await.MappingKey b p = state.optional (site.FlowPair brackets.Mapping side.Key) b ∷ []
+await_of await.MappingValue b p = state.optional (site.FlowPair brackets.Mapping side.Value) b ∷ []
+await_of await.Rest b p = state.with_properties (Block None) p ∷ []
+await_of await.RestOfKey b p = state.with_properties (Block (Some side.Key)) p ∷ []
+await_of await.RestOfValue b p = state.with_properties (Block (Some side.Value)) p ∷ []
+await_of await.RestInside b p = state.with_properties Flow p ∷ []
+
+-- the states of kept levels, the topmost first
+unfoldable pub levels_of : {P : Type 0} → (P → yaml_mark_t) → List (Kept P) → List State
+levels_of mark [] = []
+levels_of mark (k ∷ ks) = level_over k.level (mark k.opener) (levels_of mark ks)
+
+-- of a list whose last is the topmost
+abbrev pub stack_of : {P : Type 0} → (P → yaml_mark_t) → List (Kept P) → List State
+stack_of mark ks = levels_of mark (reverse ks)
+
+-- ---- items
+
+abbrev pub text_if : Bool → List ℕ → Option (List ℕ)
+text_if false x = None
+text_if true x = Some x
+
+abbrev pub tag_if : Bool → List ℕ → List ℕ → yaml_mark_t → Option Tag
+tag_if false x y m = None
+tag_if true x y m = Some (record { handle = x; suffix = y; mark = m })
+
+-- the properties that wait for their node
+abbrev pub properties_of : {X P : Type 0} → (X → List ℕ) → (P → yaml_mark_t) → Waiting X P
+    → Properties
+properties_of bytes mark w = record {
+  anchor = text_if w.has_anchor (bytes w.anchor);
+  tag = tag_if w.has_tag (bytes w.handle) (bytes w.suffix) (mark w.tag_from);
+  from = mark w.from;
+  to = mark w.to;
+}
+
+-- what a node is whose content begins with that token
+abbrev pub shape_at : Shape → TokenBody → item.Shape
+shape_at shape.Scalar b = item.scalar (value_in b) (style_in b)
+shape_at shape.BlockSequence b = item.sequence YAML_BLOCK_SEQUENCE_STYLE
+shape_at shape.BlockMapping b = item.mapping YAML_BLOCK_MAPPING_STYLE
+shape_at shape.FlowSequence b = flow_shape brackets.Sequence
+shape_at shape.FlowMapping b = flow_shape brackets.Mapping
+
+-- a node behind properties
+abbrev pub named_item : Shape → Properties → Token → RawEvent
+named_item k p t = item_at (item.node p.anchor p.tag (shape_at k t.body)) p.from t.end_mark
+
+-- a node without properties
+abbrev pub node_item : Shape → Token → RawEvent
+node_item k t = item_at (item.node None None (shape_at k t.body)) t.start_mark t.end_mark
+
+-- what the token tells that is taken
+abbrev pub told_body : Told → TokenBody → RawEventBody
+told_body told.SequenceEnd b = item.event event.sequence_end
+told_body told.MappingEnd b = item.event event.mapping_end
+told_body told.Alias b = item.event (event.alias (name_in b))
+told_body told.StreamStart b = item.event (event.stream_start (encoding_in b))
+told_body told.StreamEnd b = item.event event.stream_end
+told_body told.VersionDirective b = item.version_directive (major_in b) (minor_in b)
+told_body told.TagDirective b = item.tag_directive (handle_in b) (prefix_in b)
+told_body told.DocumentStart b = item.document false
+told_body told.DocumentDeclared b = item.document false
+told_body told.DocumentEnd b = item.event (event.document_end false)
+
+-- a document that has directives begins where these begin, at `o`
+abbrev pub told_item : Told → yaml_mark_t → Token → RawEvent
+told_item told.DocumentDeclared o t = item_at (item.document false) o t.end_mark
+told_item k o t = item_at (told_body k t.body) t.start_mark t.end_mark
+
+-- What stands in front of a token that stays: an empty node where the token begins or where the indicator before it ends, or of
+-- properties alone; or what ends there.
+abbrev pub implied_item : Implied → Properties → yaml_mark_t → yaml_mark_t → RawEvent
+implied_item implied.Nothing p b start = item_at (item.node None None item.empty) start start
+implied_item implied.NothingBefore p b start = item_at (item.node None None item.empty) b b
+implied_item implied.Properties p b start = item_at (item.node p.anchor p.tag item.empty) p.from
+    p.to
+implied_item implied.SequenceEnd p b start = item_at (item.event event.sequence_end) start start
+implied_item implied.MappingEnd p b start = item_at (item.event event.mapping_end) start start
+implied_item implied.DocumentEnd p b start = item_at (item.event (event.document_end true)) start
+    start
+
+-- the states of a machine, the topmost first, by the properties that wait for their node
+abbrev pub states_by : {P : Type 0} → (P → yaml_mark_t) → Machine P → Properties → List State
+states_by mark m p = await_of m.awaited (mark m.before) p
+    ++ level_over m.top.level (mark m.top.opener) (stack_of mark m.below.items)
+
+-- the same, where they wait in that slot
+abbrev pub states_of : {X P : Type 0} → (X → List ℕ) → (P → yaml_mark_t) → Machine P → Waiting X P
+    → List State
+states_of bytes mark m s = states_by mark m (properties_of bytes mark s)
+
+-- What the machine tells besides: where what is open begins, the end of the indicator before a node, and the properties that wait.
+pub record Around : Type 0 where
+  pub opener : yaml_mark_t
+  pub before : yaml_mark_t
+  pub properties : Properties
+
+abbrev pub around_by : {P : Type 0} → (P → yaml_mark_t) → Machine P → Properties → Around
+around_by mark m p = record { opener = mark m.top.opener; before = mark m.before; properties = p }
+
+abbrev pub around_of : {X P : Type 0} → (X → List ℕ) → (P → yaml_mark_t) → Machine P → Waiting X P
+    → Around
+around_of bytes mark m w = around_by mark m (properties_of bytes mark w)
+
+-- a token of that kind, with those places and texts
+abbrev pub whole_of : {P : Type 0} → (P → yaml_mark_t) → yaml_token_type_t → Extra → P → P
+    → List ℕ → List ℕ → Token
+whole_of mark k st from to x y = token_at (body_by k x y st) (mark from) (mark to)
+
+-- no state is left
+abbrev pub is_nothing : List State → Bool
+is_nothing [] = true
+is_nothing (x ∷ s) = false

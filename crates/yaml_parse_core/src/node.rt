@@ -1,0 +1,361 @@
+//! The contents of nodes.
+
+ghost use Rattle.std.specs.Prelude.{◌≡◌, true, ◌++◌, ◌∷◌, [], ℕ, List, OnOk, Some, None};
+ghost use Rattle.yaml_parse_model.specs.declared.yaml_mark_t.{yaml_mark_t};
+ghost use Rattle.yaml_parse_core.specs.Views.{around_of, await_of, properties_of, level_over, stack_of, states_by, whole_of};
+ghost use Rattle.yaml_parse_core.specs.Seen.{seen};
+ghost use Rattle.yaml_parse_core.specs.Turns.{keeps, Contents, Nodes, Turns, IfRefused};
+ghost use Rattle.yaml_parse_core.specs.declared.level.Await.TheVariants as await;
+ghost use Rattle.yaml_parse_core.specs.declared.machine.Turn.TheVariants as turn;
+ghost use Rattle.yaml_parse_grammar.specs.States as state;
+ghost use Rattle.yaml_parse_grammar.specs.Items.{Properties};
+ghost use Rattle.yaml_parse_grammar.specs.Machine.{tag_at};
+ghost use Rattle.yaml_parse_model.specs.declared.yaml_token_type_t.TheVariants as kinds;
+ghost use Rattle.yaml_parse_grammar.specs.declared.name.Wants.TheVariants as wants;
+
+use crate::level::{Await, Level};
+use crate::machine::{Machine, Turn, await_behind, begin};
+use crate::token::yaml_lent_token_t;
+use crate::told::Waiting;
+use std::alloc::AllocError;
+use yaml_parse_grammar::{Side, Wants};
+use yaml_parse_model::yaml_token_type_t;
+
+// A collection begins, whose parts come next.
+#[inline(always)]
+fn open<T: yaml_lent_token_t>(
+    machine: &mut Machine<T::Place>,
+    level: Level,
+    token: &T,
+) -> Result<(), AllocError>
+    ensures { OnOk result ((mark : T.Place → yaml_mark_t) (q : Properties)
+        → states_by mark machine.new q ≡ level_over level (mark (T.from token.now))
+        (level_over machine.old.top.level (mark machine.old.top.opener)
+        (stack_of mark machine.old.below.items))) }
+{
+    machine.awaited = Await::Nothing;
+    begin(machine, level, token)
+}
+
+// A sequence begins that isn't indented: its first node comes next, behind the token.
+// Out of line: few do.
+#[inline(never)]
+fn open_others<T: yaml_lent_token_t>(
+    machine: &mut Machine<T::Place>,
+    level: Level,
+    awaited: Await,
+    token: &T,
+) -> Result<(), AllocError>
+    ensures { OnOk result ((mark : T.Place → yaml_mark_t) (q : Properties)
+        → states_by mark machine.new q ≡ await_of awaited (mark (T.to token.now)) q
+        ++ level_over level (mark (T.from token.now))
+        (level_over machine.old.top.level (mark machine.old.top.opener)
+        (stack_of mark machine.old.below.items))) }
+{
+    await_behind(machine, awaited, token);
+    begin(machine, level, token)
+}
+
+// The content of a node.
+#[inline(always)]
+fn content<T: yaml_lent_token_t>(
+    machine: &mut Machine<T::Place>,
+    token: &T,
+    kind: yaml_token_type_t,
+    wants: Wants,
+) -> Turn
+    ensures content { (s : List ℕ) → Contents wants
+        (whole_of (T.mark s) kind (T.extra token.now) (T.from token.now) (T.to token.now)
+        (T.text s token.now) (T.other s token.now))
+        (level_over machine.old.top.level (T.mark s machine.old.top.opener)
+        (stack_of (T.mark s) machine.old.below.items)) (seen result)
+        (states_by (T.mark s) machine.new) }
+    ensures same { IfRefused (seen result) (machine.new ≡ machine.old) }
+{
+    match kind {
+        yaml_token_type_t::YAML_SCALAR_TOKEN => {
+            machine.awaited = Await::Nothing;
+            Turn::Scalar
+        }
+        yaml_token_type_t::YAML_FLOW_SEQUENCE_START_TOKEN => match open(
+            machine,
+            Level::SequenceItems,
+            token,
+        ) {
+            Ok(()) => Turn::FlowSequence,
+            Err(_) => Turn::Memory,
+        },
+        yaml_token_type_t::YAML_FLOW_MAPPING_START_TOKEN => match open(
+            machine,
+            Level::MappingItems,
+            token,
+        ) {
+            Ok(()) => Turn::FlowMapping,
+            Err(_) => Turn::Memory,
+        },
+        _ => block_content(machine, token, kind, wants),
+    }
+}
+
+// The same, of a block collection.
+#[inline(always)]
+fn block_content<T: yaml_lent_token_t>(
+    machine: &mut Machine<T::Place>,
+    token: &T,
+    kind: yaml_token_type_t,
+    wants: Wants,
+) -> Turn
+    requires scalar { kind ≡ kinds.YAML_SCALAR_TOKEN → ⊥ }
+    requires sequence { kind ≡ kinds.YAML_FLOW_SEQUENCE_START_TOKEN → ⊥ }
+    requires mapping { kind ≡ kinds.YAML_FLOW_MAPPING_START_TOKEN → ⊥ }
+    ensures content { (s : List ℕ) → Contents wants
+        (whole_of (T.mark s) kind (T.extra token.now) (T.from token.now) (T.to token.now)
+        (T.text s token.now) (T.other s token.now))
+        (level_over machine.old.top.level (T.mark s machine.old.top.opener)
+        (stack_of (T.mark s) machine.old.below.items)) (seen result)
+        (states_by (T.mark s) machine.new) }
+    ensures same { IfRefused (seen result) (machine.new ≡ machine.old) }
+{
+    match wants {
+        Wants::Flow => Turn::NoFlowNode,
+        Wants::Block(side) => match kind {
+            yaml_token_type_t::YAML_BLOCK_SEQUENCE_START_TOKEN => match open(
+                machine,
+                Level::Entries,
+                token,
+            ) {
+                Ok(()) => Turn::BlockSequence,
+                Err(_) => Turn::Memory,
+            },
+            yaml_token_type_t::YAML_BLOCK_MAPPING_START_TOKEN => match open(
+                machine,
+                Level::Pairs,
+                token,
+            ) {
+                Ok(()) => Turn::BlockMapping,
+                Err(_) => Turn::Memory,
+            },
+            yaml_token_type_t::YAML_BLOCK_ENTRY_TOKEN => other_content(machine, token, side),
+            _ => Turn::NoBlockNode,
+        },
+    }
+}
+
+// The same, where a dash stands: a key or a value may be a sequence that isn't indented.
+#[inline(always)]
+fn other_content<T: yaml_lent_token_t>(
+    machine: &mut Machine<T::Place>,
+    token: &T,
+    side: Option<Side>,
+) -> Turn
+    ensures content { (s : List ℕ) → Contents (wants.Block side)
+        (whole_of (T.mark s) kinds.YAML_BLOCK_ENTRY_TOKEN (T.extra token.now) (T.from token.now)
+        (T.to token.now) (T.text s token.now) (T.other s token.now))
+        (level_over machine.old.top.level (T.mark s machine.old.top.opener)
+        (stack_of (T.mark s) machine.old.below.items)) (seen result)
+        (states_by (T.mark s) machine.new) }
+    ensures same { IfRefused (seen result) (machine.new ≡ machine.old) }
+{
+    match side {
+        None => Turn::NoBlockNode,
+        Some(Side::Key) => match open_others(machine, Level::OtherKeys, Await::LooseKey, token) {
+            Ok(()) => Turn::BlockSequence,
+            Err(_) => Turn::Memory,
+        },
+        Some(Side::Value) => match open_others(
+            machine,
+            Level::OtherValues,
+            Await::LooseValue,
+            token,
+        ) {
+            Ok(()) => Turn::BlockSequence,
+            Err(_) => Turn::Memory,
+        },
+    }
+}
+
+// What is awaited behind properties.
+#[inline(always)]
+fn rest_of(wants: Wants) -> Await
+    ensures { (b : yaml_mark_t) (p : Properties)
+        → await_of result b p ≡ state.with_properties wants p ∷ [] }
+{
+    match wants {
+        Wants::Flow => Await::RestInside,
+        Wants::Block(None) => Await::Rest,
+        Wants::Block(Some(Side::Key)) => Await::RestOfKey,
+        Wants::Block(Some(Side::Value)) => Await::RestOfValue,
+    }
+}
+
+// The properties of a node whose first token is that anchor.
+// Inlined, and apart from any choice: see `await_behind`.
+#[inline(always)]
+fn wait_by_anchor<T: yaml_lent_token_t>(waiting: &mut Waiting<T::Text, T::Place>, token: &mut T)
+    ensures { (s : List ℕ) → properties_of (T.bytes s) (T.mark s) waiting.new
+        ≡ record {
+          anchor = Some (T.text s token.old);
+          tag = None;
+          from = T.mark s (T.from token.old);
+          to = T.mark s (T.to token.old);
+        } }
+{
+    waiting.has_anchor = true;
+    waiting.has_tag = false;
+    waiting.from = token.from();
+    waiting.to = token.to();
+    token.take_text(&mut waiting.anchor);
+}
+
+// The properties of a node whose first token is that tag.
+// Inlined, and apart from any choice: see `await_behind`.
+#[inline(always)]
+fn wait_by_tag<T: yaml_lent_token_t>(waiting: &mut Waiting<T::Text, T::Place>, token: &mut T)
+    ensures { (s : List ℕ) → properties_of (T.bytes s) (T.mark s) waiting.new
+        ≡ record {
+          anchor = None;
+          tag = Some (tag_at (T.text s token.old) (T.other s token.old)
+              (T.mark s (T.from token.old)));
+          from = T.mark s (T.from token.old);
+          to = T.mark s (T.to token.old);
+        } }
+{
+    waiting.has_anchor = false;
+    waiting.has_tag = true;
+    waiting.from = token.from();
+    waiting.to = token.to();
+    waiting.tag_from = token.from();
+    token.take_text(&mut waiting.handle);
+    token.take_other(&mut waiting.suffix);
+}
+
+// An anchor behind a tag.
+// Inlined, and apart from any choice: see `await_behind`.
+#[inline(always)]
+fn join_anchor<T: yaml_lent_token_t>(waiting: &mut Waiting<T::Text, T::Place>, token: &mut T)
+    ensures { (s : List ℕ) → properties_of (T.bytes s) (T.mark s) waiting.new
+        ≡ record (properties_of (T.bytes s) (T.mark s) waiting.old) {
+          anchor = Some (T.text s token.old);
+          to = T.mark s (T.to token.old);
+        } }
+{
+    waiting.has_anchor = true;
+    waiting.to = token.to();
+    token.take_text(&mut waiting.anchor);
+}
+
+// A tag behind an anchor.
+// Inlined, and apart from any choice: see `await_behind`.
+#[inline(always)]
+fn join_tag<T: yaml_lent_token_t>(waiting: &mut Waiting<T::Text, T::Place>, token: &mut T)
+    ensures { (s : List ℕ) → properties_of (T.bytes s) (T.mark s) waiting.new
+        ≡ record (properties_of (T.bytes s) (T.mark s) waiting.old) {
+          tag = Some (tag_at (T.text s token.old) (T.other s token.old)
+              (T.mark s (T.from token.old)));
+          to = T.mark s (T.to token.old);
+        } }
+{
+    waiting.has_tag = true;
+    waiting.to = token.to();
+    waiting.tag_from = token.from();
+    token.take_text(&mut waiting.handle);
+    token.take_other(&mut waiting.suffix);
+}
+
+// A node, or none starts there.
+#[inline(always)]
+pub(crate) fn node<T: yaml_lent_token_t>(
+    machine: &mut Machine<T::Place>,
+    waiting: &mut Waiting<T::Text, T::Place>,
+    token: &mut T,
+    kind: yaml_token_type_t,
+    wants: Wants,
+) -> Turn
+    ensures turns { (s : List ℕ) → Nodes wants
+        (whole_of (T.mark s) kind (T.extra token.old) (T.from token.old) (T.to token.old)
+        (T.text s token.old) (T.other s token.old))
+        (level_over machine.old.top.level (T.mark s machine.old.top.opener)
+        (stack_of (T.mark s) machine.old.below.items)) (seen result)
+        (around_of (T.bytes s) (T.mark s) machine.new waiting.new)
+        (states_by (T.mark s) machine.new) }
+    ensures kept { keeps (seen result) ≡ true → token.new ≡ token.old }
+{
+    match kind {
+        yaml_token_type_t::YAML_ALIAS_TOKEN => {
+            machine.awaited = Await::Nothing;
+            Turn::Alias
+        }
+        yaml_token_type_t::YAML_ANCHOR_TOKEN => {
+            machine.awaited = rest_of(wants);
+            wait_by_anchor(waiting, token);
+            Turn::Silent
+        }
+        yaml_token_type_t::YAML_TAG_TOKEN => {
+            machine.awaited = rest_of(wants);
+            wait_by_tag(waiting, token);
+            Turn::Silent
+        }
+        _ => content(machine, token, kind, wants),
+    }
+}
+
+// The node is nothing but its properties.
+#[inline(always)]
+fn alone<P: Copy>(machine: &mut Machine<P>) -> Turn
+    ensures result { result ≡ turn.LeftProperties }
+    ensures machine { machine.new ≡ record machine.old { awaited = await.Nothing } }
+{
+    machine.awaited = Await::Nothing;
+    Turn::LeftProperties
+}
+
+// The rest of a node behind properties.
+#[inline(always)]
+pub(crate) fn at_rest<T: yaml_lent_token_t>(
+    machine: &mut Machine<T::Place>,
+    waiting: &mut Waiting<T::Text, T::Place>,
+    token: &mut T,
+    kind: yaml_token_type_t,
+    wants: Wants,
+) -> Turn
+    requires { (b : yaml_mark_t) (p : Properties)
+        → await_of machine.old.awaited b p ≡ state.with_properties wants p ∷ [] }
+    ensures turns { (s : List ℕ) → Turns
+        (state.with_properties wants (properties_of (T.bytes s) (T.mark s) waiting.old))
+        (whole_of (T.mark s) kind (T.extra token.old) (T.from token.old) (T.to token.old)
+        (T.text s token.old) (T.other s token.old))
+        (level_over machine.old.top.level (T.mark s machine.old.top.opener)
+        (stack_of (T.mark s) machine.old.below.items)) (seen result)
+        (around_of (T.bytes s) (T.mark s) machine.new waiting.new)
+        (states_by (T.mark s) machine.new) }
+    ensures kept { keeps (seen result) ≡ true → token.new ≡ token.old }
+{
+    match kind {
+        yaml_token_type_t::YAML_ANCHOR_TOKEN => {
+            if waiting.has_anchor {
+                alone(machine)
+            } else {
+                join_anchor(waiting, token);
+                Turn::Silent
+            }
+        }
+        yaml_token_type_t::YAML_TAG_TOKEN => {
+            if waiting.has_tag {
+                alone(machine)
+            } else {
+                join_tag(waiting, token);
+                Turn::Silent
+            }
+        }
+        _ => match content(machine, token, kind, wants) {
+            Turn::Scalar => Turn::NamedScalar,
+            Turn::BlockSequence => Turn::NamedBlockSequence,
+            Turn::BlockMapping => Turn::NamedBlockMapping,
+            Turn::FlowSequence => Turn::NamedFlowSequence,
+            Turn::FlowMapping => Turn::NamedFlowMapping,
+            Turn::NoBlockNode => alone(machine),
+            Turn::NoFlowNode => alone(machine),
+            _ => Turn::Memory,
+        },
+    }
+}

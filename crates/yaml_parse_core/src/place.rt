@@ -1,0 +1,209 @@
+//! Places where a node may stand.
+
+ghost use Rattle.std.specs.Prelude.{◌≡◌, true, ℕ, List};
+ghost use Rattle.yaml_parse_model.specs.declared.yaml_mark_t.{yaml_mark_t};
+ghost use Rattle.yaml_parse_grammar.specs.declared.name.Brackets.TheVariants as brackets;
+ghost use Rattle.yaml_parse_grammar.specs.declared.name.Site.TheVariants as site;
+ghost use Rattle.yaml_parse_grammar.specs.Machine as grammar;
+ghost use Rattle.yaml_parse_grammar.specs.Items.{Properties};
+ghost use Rattle.yaml_parse_grammar.specs.States as state;
+ghost use Rattle.yaml_parse_core.specs.declared.level.Await.TheVariants.{Nothing};
+ghost use Rattle.yaml_parse_core.specs.Views.{around_of, level_over, stack_of, states_by, whole_of};
+ghost use Rattle.yaml_parse_core.specs.Seen.{seen};
+ghost use Rattle.yaml_parse_core.specs.Turns.{keeps, LeavesOut, Turns};
+
+use crate::level::{Await, Level};
+use crate::machine::{Machine, Turn, await_behind, come_back};
+use crate::node::node;
+use crate::token::yaml_lent_token_t;
+use crate::told::Waiting;
+use yaml_parse_grammar::{Brackets, Side, Site, Wants};
+use yaml_parse_model::yaml_token_type_t;
+
+// Behind an opening bracket or a comma of a sequence.
+#[inline(always)]
+pub(crate) fn at_sequence_items<T: yaml_lent_token_t>(
+    machine: &mut Machine<T::Place>,
+    waiting: &mut Waiting<T::Text, T::Place>,
+    token: &mut T,
+    kind: yaml_token_type_t,
+) -> Turn
+    requires { machine.old.awaited ≡ Nothing }
+    ensures turns { (s : List ℕ) → Turns
+        (state.items brackets.Sequence (T.mark s machine.old.top.opener))
+        (whole_of (T.mark s) kind (T.extra token.old) (T.from token.old) (T.to token.old)
+        (T.text s token.old) (T.other s token.old))
+        (stack_of (T.mark s) machine.old.below.items) (seen result)
+        (around_of (T.bytes s) (T.mark s) machine.new waiting.new)
+        (states_by (T.mark s) machine.new) }
+    ensures kept { keeps (seen result) ≡ true → token.new ≡ token.old }
+{
+    match kind {
+        yaml_token_type_t::YAML_KEY_TOKEN => {
+            machine.top.level = Level::SequenceColon;
+            await_behind(machine, Await::SequenceKey, token);
+            Turn::FlowMapping
+        }
+        yaml_token_type_t::YAML_FLOW_SEQUENCE_END_TOKEN => {
+            come_back(machine);
+            Turn::SequenceEnd
+        }
+        _ => {
+            machine.top.level = Level::SequenceMore;
+            node(machine, waiting, token, kind, Wants::Flow)
+        }
+    }
+}
+
+// Behind an opening bracket or a comma of a mapping.
+#[inline(always)]
+pub(crate) fn at_mapping_items<T: yaml_lent_token_t>(
+    machine: &mut Machine<T::Place>,
+    waiting: &mut Waiting<T::Text, T::Place>,
+    token: &mut T,
+    kind: yaml_token_type_t,
+) -> Turn
+    requires { machine.old.awaited ≡ Nothing }
+    ensures turns { (s : List ℕ) → Turns
+        (state.items brackets.Mapping (T.mark s machine.old.top.opener))
+        (whole_of (T.mark s) kind (T.extra token.old) (T.from token.old) (T.to token.old)
+        (T.text s token.old) (T.other s token.old))
+        (stack_of (T.mark s) machine.old.below.items) (seen result)
+        (around_of (T.bytes s) (T.mark s) machine.new waiting.new)
+        (states_by (T.mark s) machine.new) }
+    ensures kept { keeps (seen result) ≡ true → token.new ≡ token.old }
+{
+    match kind {
+        yaml_token_type_t::YAML_KEY_TOKEN => {
+            machine.top.level = Level::MappingColon;
+            await_behind(machine, Await::MappingKey, token);
+            Turn::Silent
+        }
+        yaml_token_type_t::YAML_FLOW_MAPPING_END_TOKEN => {
+            come_back(machine);
+            Turn::MappingEnd
+        }
+        _ => {
+            machine.top.level = Level::MappingLone;
+            node(machine, waiting, token, kind, Wants::Flow)
+        }
+    }
+}
+
+// Whether the token may follow a node that is left out there.
+#[inline(always)]
+fn follows(place: Site, kind: yaml_token_type_t) -> bool
+    ensures { result ≡ grammar.follows place kind }
+{
+    match place {
+        Site::Root => match kind {
+            yaml_token_type_t::YAML_DOCUMENT_END_TOKEN
+            | yaml_token_type_t::YAML_STREAM_END_TOKEN
+            | yaml_token_type_t::YAML_VERSION_DIRECTIVE_TOKEN
+            | yaml_token_type_t::YAML_TAG_DIRECTIVE_TOKEN
+            | yaml_token_type_t::YAML_DOCUMENT_START_TOKEN => true,
+            _ => false,
+        },
+        Site::Entry => match kind {
+            yaml_token_type_t::YAML_BLOCK_ENTRY_TOKEN | yaml_token_type_t::YAML_BLOCK_END_TOKEN =>
+                true,
+            _ => false,
+        },
+        Site::IndentlessEntry(side) => match kind {
+            yaml_token_type_t::YAML_BLOCK_ENTRY_TOKEN
+            | yaml_token_type_t::YAML_KEY_TOKEN
+            | yaml_token_type_t::YAML_BLOCK_END_TOKEN => true,
+            yaml_token_type_t::YAML_VALUE_TOKEN => match side {
+                Side::Key => true,
+                Side::Value => false,
+            },
+            _ => false,
+        },
+        Site::BlockPair(Side::Key) => match kind {
+            yaml_token_type_t::YAML_KEY_TOKEN
+            | yaml_token_type_t::YAML_VALUE_TOKEN
+            | yaml_token_type_t::YAML_BLOCK_END_TOKEN => true,
+            _ => false,
+        },
+        Site::BlockPair(Side::Value) => match kind {
+            yaml_token_type_t::YAML_KEY_TOKEN | yaml_token_type_t::YAML_BLOCK_END_TOKEN => true,
+            _ => false,
+        },
+        Site::FlowPair(brackets, side) => follows_inside(brackets, side, kind),
+    }
+}
+
+// The same, for a part of a pair inside brackets.
+#[inline(always)]
+fn follows_inside(brackets: Brackets, side: Side, kind: yaml_token_type_t) -> bool
+    ensures { result ≡ grammar.follows (site.FlowPair brackets side) kind }
+{
+    match kind {
+        yaml_token_type_t::YAML_FLOW_ENTRY_TOKEN => true,
+        yaml_token_type_t::YAML_VALUE_TOKEN => match side {
+            Side::Key => true,
+            Side::Value => false,
+        },
+        yaml_token_type_t::YAML_FLOW_SEQUENCE_END_TOKEN => match brackets {
+            Brackets::Sequence => true,
+            Brackets::Mapping => false,
+        },
+        yaml_token_type_t::YAML_FLOW_MAPPING_END_TOKEN => match brackets {
+            Brackets::Sequence => false,
+            Brackets::Mapping => true,
+        },
+        _ => false,
+    }
+}
+
+// Which nodes may stand there.
+#[inline(always)]
+fn wants_of(place: Site) -> Wants
+    ensures { result ≡ grammar.wants_of place }
+{
+    match place {
+        Site::Root => Wants::Block(None),
+        Site::Entry => Wants::Block(None),
+        Site::IndentlessEntry(_) => Wants::Block(None),
+        Site::BlockPair(side) => Wants::Block(Some(side)),
+        Site::FlowPair(_, _) => Wants::Flow,
+    }
+}
+
+// A node is left out, where the next token begins or the indicator before it ends.
+#[inline(always)]
+fn left_out(place: Site) -> Turn
+    ensures { LeavesOut place (seen result) }
+{
+    match place {
+        Site::Root => Turn::LeftNothing,
+        Site::FlowPair(_, _) => Turn::LeftNothing,
+        _ => Turn::LeftNothingBefore,
+    }
+}
+
+// A node may stand there, or be left out.
+#[inline(always)]
+pub(crate) fn at_optional<T: yaml_lent_token_t>(
+    machine: &mut Machine<T::Place>,
+    waiting: &mut Waiting<T::Text, T::Place>,
+    token: &mut T,
+    kind: yaml_token_type_t,
+    place: Site,
+) -> Turn
+    ensures turns { (s : List ℕ) → Turns (state.optional place (T.mark s machine.old.before))
+        (whole_of (T.mark s) kind (T.extra token.old) (T.from token.old) (T.to token.old)
+        (T.text s token.old) (T.other s token.old))
+        (level_over machine.old.top.level (T.mark s machine.old.top.opener)
+        (stack_of (T.mark s) machine.old.below.items)) (seen result)
+        (around_of (T.bytes s) (T.mark s) machine.new waiting.new)
+        (states_by (T.mark s) machine.new) }
+    ensures kept { keeps (seen result) ≡ true → token.new ≡ token.old }
+{
+    if follows(place, kind) {
+        machine.awaited = Await::Nothing;
+        left_out(place)
+    } else {
+        node(machine, waiting, token, kind, wants_of(place))
+    }
+}

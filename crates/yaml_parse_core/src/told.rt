@@ -1,0 +1,77 @@
+//! What an item is, and the properties that wait for their node.
+
+use std::alloc::Global;
+use yaml_parse_model::yaml_mark_t;
+
+/// What a node is whose content begins with the token that is taken.
+#[derive(Clone, Copy)]
+pub enum Shape {
+    Scalar,
+    BlockSequence,
+    BlockMapping,
+    FlowSequence,
+    FlowMapping,
+}
+
+/// What a token tells that is taken, but nodes.
+#[derive(Clone, Copy)]
+pub enum Told {
+    SequenceEnd,
+    MappingEnd,
+    Alias,
+    StreamStart,
+    StreamEnd,
+    VersionDirective,
+    TagDirective,
+    DocumentStart,
+    /// A document's start behind directives, where these begin.
+    DocumentDeclared,
+    DocumentEnd,
+}
+
+/// What stands in front of a token that stays.
+#[derive(Clone, Copy)]
+pub enum Implied {
+    /// An empty node, where the token begins.
+    Nothing,
+    /// An empty node, where the indicator before it ends.
+    NothingBefore,
+    /// A node that is nothing but its properties.
+    Properties,
+    SequenceEnd,
+    MappingEnd,
+    DocumentEnd,
+}
+
+/// Properties that wait for their node, in texts `X` and places `P`. A text that isn't there is one that is done with.
+#[derive(Drop)]
+pub struct Waiting<X, P> {
+    pub has_anchor: bool,
+    pub has_tag: bool,
+    pub from: P,
+    pub to: P,
+    /// Where the tag begins.
+    pub tag_from: P,
+    pub anchor: X,
+    pub handle: X,
+    pub suffix: X,
+}
+
+/// No properties.
+pub fn none_waiting(alloc: Global) -> Waiting<Vec<u8>, yaml_mark_t> {
+    let zero = yaml_mark_t {
+        index: 0,
+        line: 0,
+        column: 0,
+    };
+    Waiting {
+        has_anchor: false,
+        has_tag: false,
+        from: zero,
+        to: zero,
+        tag_from: zero,
+        anchor: Vec::new(alloc),
+        handle: Vec::new(alloc),
+        suffix: Vec::new(alloc),
+    }
+}

@@ -1,0 +1,217 @@
+//! A turn: the topmost state at a token.
+
+ghost use Rattle.std.specs.Prelude.{◌≡◌, true, ℕ, List};
+ghost use Rattle.yaml_parse_core.specs.declared.level.Await.TheVariants.{Nothing};
+ghost use Rattle.yaml_parse_core.specs.Views.{around_of, states_of, states_by, whole_of};
+ghost use Rattle.yaml_parse_core.specs.Seen.{seen};
+ghost use Rattle.yaml_parse_core.specs.Turns.{keeps, TurnsOn};
+
+use crate::document::{at_directives, at_document, at_documents, at_first, at_stream};
+use crate::level::{Await, Level};
+use crate::machine::{Machine, Turn};
+use crate::node::at_rest;
+use crate::part::{
+    at_colon, at_entries, at_mapping_colon, at_mapping_lone, at_mapping_more, at_other_keys,
+    at_other_values, at_pairs, at_sequence_colon, at_sequence_more, at_sequence_pair,
+};
+use crate::place::{at_mapping_items, at_optional, at_sequence_items};
+use crate::token::yaml_lent_token_t;
+use crate::told::Waiting;
+use yaml_parse_grammar::{Brackets, Side, Site, Wants};
+use yaml_parse_model::yaml_token_type_t;
+
+// What is open, where no node is awaited.
+#[inline(always)]
+fn at_level<T: yaml_lent_token_t>(
+    machine: &mut Machine<T::Place>,
+    waiting: &mut Waiting<T::Text, T::Place>,
+    token: &mut T,
+    kind: yaml_token_type_t,
+) -> Turn
+    requires { machine.old.awaited ≡ Nothing }
+    ensures turns { (s : List ℕ) → TurnsOn
+        (states_of (T.bytes s) (T.mark s) machine.old waiting.old)
+        (whole_of (T.mark s) kind (T.extra token.old) (T.from token.old) (T.to token.old)
+        (T.text s token.old) (T.other s token.old))
+        (seen result) (around_of (T.bytes s) (T.mark s) machine.new waiting.new)
+        (states_by (T.mark s) machine.new) }
+    ensures kept { keeps (seen result) ≡ true → token.new ≡ token.old }
+{
+    match machine.top.level {
+        Level::Pairs => at_pairs(machine, kind, token),
+        Level::Colon => at_colon(machine, kind, token),
+        Level::Entries => at_entries(machine, kind, token),
+        Level::OtherKeys => at_other_keys(machine, kind, token),
+        Level::OtherValues => at_other_values(machine, kind, token),
+        Level::SequenceItems => at_sequence_items(machine, waiting, token, kind),
+        Level::SequenceMore => at_sequence_more(machine, kind, token),
+        Level::SequenceColon => at_sequence_colon(machine, kind, token),
+        Level::SequencePair => at_sequence_pair(machine, kind, token),
+        Level::MappingItems => at_mapping_items(machine, waiting, token, kind),
+        Level::MappingMore => at_mapping_more(machine, kind, token),
+        Level::MappingColon => at_mapping_colon(machine, kind, token),
+        Level::MappingLone => at_mapping_lone(machine, kind, token),
+        Level::Document => at_document(machine, kind, token),
+        Level::Documents => at_documents(machine, kind, token),
+        Level::First => at_first(machine, kind, token),
+        Level::Directives => at_directives(machine, kind, token),
+        Level::Stream => at_stream(machine, kind, token),
+        Level::Over => Turn::Over,
+    }
+}
+
+// The topmost state at a token of that kind.
+// It is long: a row for each of what may be awaited, and nothing besides.
+#[inline(always)]
+fn at_kind<T: yaml_lent_token_t>(
+    machine: &mut Machine<T::Place>,
+    waiting: &mut Waiting<T::Text, T::Place>,
+    token: &mut T,
+    kind: yaml_token_type_t,
+) -> Turn
+    ensures turns { (s : List ℕ) → TurnsOn
+        (states_of (T.bytes s) (T.mark s) machine.old waiting.old)
+        (whole_of (T.mark s) kind (T.extra token.old) (T.from token.old) (T.to token.old)
+        (T.text s token.old) (T.other s token.old))
+        (seen result) (around_of (T.bytes s) (T.mark s) machine.new waiting.new)
+        (states_by (T.mark s) machine.new) }
+    ensures kept { keeps (seen result) ≡ true → token.new ≡ token.old }
+{
+    match machine.awaited {
+        Await::Nothing => at_level(machine, waiting, token, kind),
+        Await::Root => at_optional(machine, waiting, token, kind, Site::Root),
+        Await::Entry => at_optional(machine, waiting, token, kind, Site::Entry),
+        Await::LooseKey => at_optional(
+            machine,
+            waiting,
+            token,
+            kind,
+            Site::IndentlessEntry(Side::Key),
+        ),
+        Await::LooseValue => at_optional(
+            machine,
+            waiting,
+            token,
+            kind,
+            Site::IndentlessEntry(Side::Value),
+        ),
+        Await::Key => at_optional(machine, waiting, token, kind, Site::BlockPair(Side::Key)),
+        Await::Value => at_optional(machine, waiting, token, kind, Site::BlockPair(Side::Value)),
+        Await::SequenceKey => at_optional(
+            machine,
+            waiting,
+            token,
+            kind,
+            Site::FlowPair(Brackets::Sequence, Side::Key),
+        ),
+        Await::SequenceValue => at_optional(
+            machine,
+            waiting,
+            token,
+            kind,
+            Site::FlowPair(Brackets::Sequence, Side::Value),
+        ),
+        Await::MappingKey => at_optional(
+            machine,
+            waiting,
+            token,
+            kind,
+            Site::FlowPair(Brackets::Mapping, Side::Key),
+        ),
+        Await::MappingValue => at_optional(
+            machine,
+            waiting,
+            token,
+            kind,
+            Site::FlowPair(Brackets::Mapping, Side::Value),
+        ),
+        Await::Rest => at_rest(machine, waiting, token, kind, Wants::Block(None)),
+        Await::RestOfKey => at_rest(machine, waiting, token, kind, Wants::Block(Some(Side::Key))),
+        Await::RestOfValue => at_rest(
+            machine,
+            waiting,
+            token,
+            kind,
+            Wants::Block(Some(Side::Value)),
+        ),
+        Await::RestInside => at_rest(machine, waiting, token, kind, Wants::Flow),
+    }
+}
+
+// The same, by the kinds that are met most: of each the compiler makes a way of its own.
+// It is long: an arm for each of these kinds, which all say the same.
+#[inline(always)]
+fn at_seen<T: yaml_lent_token_t>(
+    machine: &mut Machine<T::Place>,
+    waiting: &mut Waiting<T::Text, T::Place>,
+    token: &mut T,
+    kind: yaml_token_type_t,
+) -> Turn
+    ensures turns { (s : List ℕ) → TurnsOn
+        (states_of (T.bytes s) (T.mark s) machine.old waiting.old)
+        (whole_of (T.mark s) kind (T.extra token.old) (T.from token.old) (T.to token.old)
+        (T.text s token.old) (T.other s token.old))
+        (seen result) (around_of (T.bytes s) (T.mark s) machine.new waiting.new)
+        (states_by (T.mark s) machine.new) }
+    ensures kept { keeps (seen result) ≡ true → token.new ≡ token.old }
+{
+    match kind {
+        yaml_token_type_t::YAML_SCALAR_TOKEN => at_kind(
+            machine,
+            waiting,
+            token,
+            yaml_token_type_t::YAML_SCALAR_TOKEN,
+        ),
+        yaml_token_type_t::YAML_KEY_TOKEN => at_kind(
+            machine,
+            waiting,
+            token,
+            yaml_token_type_t::YAML_KEY_TOKEN,
+        ),
+        yaml_token_type_t::YAML_VALUE_TOKEN => at_kind(
+            machine,
+            waiting,
+            token,
+            yaml_token_type_t::YAML_VALUE_TOKEN,
+        ),
+        yaml_token_type_t::YAML_FLOW_ENTRY_TOKEN => at_kind(
+            machine,
+            waiting,
+            token,
+            yaml_token_type_t::YAML_FLOW_ENTRY_TOKEN,
+        ),
+        yaml_token_type_t::YAML_FLOW_SEQUENCE_START_TOKEN => at_kind(
+            machine,
+            waiting,
+            token,
+            yaml_token_type_t::YAML_FLOW_SEQUENCE_START_TOKEN,
+        ),
+        yaml_token_type_t::YAML_FLOW_SEQUENCE_END_TOKEN => at_kind(
+            machine,
+            waiting,
+            token,
+            yaml_token_type_t::YAML_FLOW_SEQUENCE_END_TOKEN,
+        ),
+        _ => at_kind(machine, waiting, token, kind),
+    }
+}
+
+/// The topmost state at a token.
+// Inlined into its callers, which ask for a token of one type.
+#[inline(always)]
+pub fn turn<T: yaml_lent_token_t>(
+    machine: &mut Machine<T::Place>,
+    waiting: &mut Waiting<T::Text, T::Place>,
+    token: &mut T,
+) -> Turn
+    ensures turns { (s : List ℕ) → TurnsOn
+        (states_of (T.bytes s) (T.mark s) machine.old waiting.old)
+        (whole_of (T.mark s) (T.kind token.old) (T.extra token.old) (T.from token.old)
+        (T.to token.old) (T.text s token.old) (T.other s token.old))
+        (seen result) (around_of (T.bytes s) (T.mark s) machine.new waiting.new)
+        (states_by (T.mark s) machine.new) }
+    ensures kept { keeps (seen result) ≡ true → token.new ≡ token.old }
+{
+    let kind = token.kind();
+    at_seen(machine, waiting, token, kind)
+}

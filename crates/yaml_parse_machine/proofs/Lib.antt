@@ -1,2 +1,0 @@
-pub mod Defaults
-pub mod Awaited

@@ -1,0 +1,225 @@
+//! The events of nodes, written from the token that tells their content.
+
+ghost use Rattle.std.specs.Prelude.{◌≡◌, [], None};
+ghost use Rattle.yaml_parse_model.specs.Tokens.{token_of, body_of as token_body};
+ghost use Rattle.yaml_parse_model.specs.Events.{body_of, event_of};
+ghost use Rattle.yaml_parse_model.specs.declared.yaml_scalar_style_t.TheVariants.{YAML_ANY_SCALAR_STYLE};
+ghost use Rattle.yaml_parse_grammar.specs.Items as item;
+ghost use Rattle.yaml_parse_grammar.specs.Resolve.{node_event, placed};
+ghost use Rattle.yaml_parse_core.specs.Extra.{value_in, style_in};
+ghost use Rattle.yaml_parse_core.specs.Views.{text_if, shape_at, node_item};
+
+use crate::room::vacate;
+use crate::scalars::{bare, named};
+use crate::slots::{start_mapping, start_named_mapping, start_named_sequence, start_sequence};
+use yaml_parse_core::{Shape, Waiting};
+use yaml_parse_model::{
+    mark_again, yaml_event_body_t, yaml_event_t, yaml_mapping_style_t, yaml_mark_t,
+    yaml_scalar_style_t, yaml_sequence_style_t, yaml_token_body_t, yaml_token_t,
+};
+
+// The scalar of a token that is taken.
+// Inlined: the token's kind is known.
+#[inline(always)]
+fn tell_scalar(
+    waiting: &mut Waiting<Vec<u8>, yaml_mark_t>,
+    token: &mut yaml_token_body_t,
+    event: &mut yaml_event_body_t,
+)
+    ensures { body_of event.new ≡ node_event None None
+        (item.scalar (value_in (token_body token.old)) (style_in (token_body token.old))) }
+{
+    match token {
+        yaml_token_body_t::Scalar { value, style } => bare(waiting, value, *style, event),
+        _ => tell_no_scalar(waiting, event),
+    }
+}
+
+// Where the token is no scalar: the machine says that it is one.
+#[cold]
+#[inline(never)]
+fn tell_no_scalar(waiting: &mut Waiting<Vec<u8>, yaml_mark_t>, event: &mut yaml_event_body_t)
+    ensures { body_of event.new ≡ node_event None None (item.scalar [] YAML_ANY_SCALAR_STYLE) }
+{
+    let mut nothing = Vec::new(*waiting.anchor.allocator());
+    bare(
+        waiting,
+        &mut nothing,
+        yaml_scalar_style_t::YAML_ANY_SCALAR_STYLE,
+        event,
+    );
+}
+
+// A sequence begins without properties.
+// Inlined: its style is known.
+#[inline(always)]
+fn tell_sequence(
+    token: &mut yaml_token_body_t,
+    style: yaml_sequence_style_t,
+    event: &mut yaml_event_body_t,
+)
+    ensures { body_of event.new ≡ node_event None None (item.sequence style) }
+{
+    vacate(event, token);
+    start_sequence(event, style);
+}
+
+// A mapping begins without properties.
+// Inlined: its style is known.
+#[inline(always)]
+fn tell_mapping(
+    token: &mut yaml_token_body_t,
+    style: yaml_mapping_style_t,
+    event: &mut yaml_event_body_t,
+)
+    ensures { body_of event.new ≡ node_event None None (item.mapping style) }
+{
+    vacate(event, token);
+    start_mapping(event, style);
+}
+
+/// The event of a node without properties.
+// Inlined into its one caller, the parser's step.
+#[inline(always)]
+pub fn tell_node(
+    shape: Shape,
+    waiting: &mut Waiting<Vec<u8>, yaml_mark_t>,
+    token: &mut yaml_token_t,
+    event: &mut yaml_event_t,
+)
+    ensures { event_of event.new ≡ placed (node_event None None
+        (shape_at shape (token_of token.old).body)) (node_item shape (token_of token.old)) }
+{
+    event.start_mark = mark_again(&token.start_mark);
+    event.end_mark = mark_again(&token.end_mark);
+    match shape {
+        Shape::Scalar => tell_scalar(waiting, &mut token.body, &mut event.body),
+        Shape::BlockSequence => tell_sequence(
+            &mut token.body,
+            yaml_sequence_style_t::YAML_BLOCK_SEQUENCE_STYLE,
+            &mut event.body,
+        ),
+        Shape::BlockMapping => tell_mapping(
+            &mut token.body,
+            yaml_mapping_style_t::YAML_BLOCK_MAPPING_STYLE,
+            &mut event.body,
+        ),
+        Shape::FlowSequence => tell_sequence(
+            &mut token.body,
+            yaml_sequence_style_t::YAML_FLOW_SEQUENCE_STYLE,
+            &mut event.body,
+        ),
+        Shape::FlowMapping => tell_mapping(
+            &mut token.body,
+            yaml_mapping_style_t::YAML_FLOW_MAPPING_STYLE,
+            &mut event.body,
+        ),
+    }
+}
+
+// The scalar of a token that is taken, behind properties.
+// Inlined: the token's kind is known.
+#[inline(always)]
+fn tell_named_scalar(
+    waiting: &mut Waiting<Vec<u8>, yaml_mark_t>,
+    token: &mut yaml_token_body_t,
+    event: &mut yaml_event_body_t,
+)
+    ensures { body_of event.new ≡ node_event (text_if waiting.old.has_anchor
+        waiting.old.anchor.items) (text_if waiting.old.has_tag waiting.old.handle.items)
+        (item.scalar (value_in (token_body token.old)) (style_in (token_body token.old))) }
+{
+    match token {
+        yaml_token_body_t::Scalar { value, style } => named(waiting, value, *style, event),
+        _ => tell_no_named_scalar(waiting, event),
+    }
+}
+
+// Where the token is no scalar: the machine says that it is one.
+#[cold]
+#[inline(never)]
+fn tell_no_named_scalar(waiting: &mut Waiting<Vec<u8>, yaml_mark_t>, event: &mut yaml_event_body_t)
+    ensures { body_of event.new ≡ node_event (text_if waiting.old.has_anchor
+        waiting.old.anchor.items) (text_if waiting.old.has_tag waiting.old.handle.items)
+        (item.scalar [] YAML_ANY_SCALAR_STYLE) }
+{
+    let mut nothing = Vec::new(*waiting.anchor.allocator());
+    named(
+        waiting,
+        &mut nothing,
+        yaml_scalar_style_t::YAML_ANY_SCALAR_STYLE,
+        event,
+    );
+}
+
+// A sequence begins behind properties.
+fn tell_named_sequence(
+    waiting: &mut Waiting<Vec<u8>, yaml_mark_t>,
+    token: &mut yaml_token_body_t,
+    style: yaml_sequence_style_t,
+    event: &mut yaml_event_body_t,
+)
+    ensures { body_of event.new ≡ node_event (text_if waiting.old.has_anchor
+        waiting.old.anchor.items) (text_if waiting.old.has_tag waiting.old.handle.items)
+        (item.sequence style) }
+{
+    vacate(event, token);
+    start_named_sequence(waiting, style, event);
+}
+
+// A mapping begins behind properties.
+fn tell_named_mapping(
+    waiting: &mut Waiting<Vec<u8>, yaml_mark_t>,
+    token: &mut yaml_token_body_t,
+    style: yaml_mapping_style_t,
+    event: &mut yaml_event_body_t,
+)
+    ensures { body_of event.new ≡ node_event (text_if waiting.old.has_anchor
+        waiting.old.anchor.items) (text_if waiting.old.has_tag waiting.old.handle.items)
+        (item.mapping style) }
+{
+    vacate(event, token);
+    start_named_mapping(waiting, style, event);
+}
+
+// The event of a node behind properties. Its tag stands in full in the place of its handle.
+// Inlined into its one caller.
+#[inline(always)]
+pub(crate) fn tell_named(
+    shape: Shape,
+    waiting: &mut Waiting<Vec<u8>, yaml_mark_t>,
+    token: &mut yaml_token_body_t,
+    event: &mut yaml_event_body_t,
+)
+    ensures { body_of event.new ≡ node_event (text_if waiting.old.has_anchor
+        waiting.old.anchor.items) (text_if waiting.old.has_tag waiting.old.handle.items)
+        (shape_at shape (token_body token.old)) }
+{
+    match shape {
+        Shape::Scalar => tell_named_scalar(waiting, token, event),
+        Shape::BlockSequence => tell_named_sequence(
+            waiting,
+            token,
+            yaml_sequence_style_t::YAML_BLOCK_SEQUENCE_STYLE,
+            event,
+        ),
+        Shape::BlockMapping => tell_named_mapping(
+            waiting,
+            token,
+            yaml_mapping_style_t::YAML_BLOCK_MAPPING_STYLE,
+            event,
+        ),
+        Shape::FlowSequence => tell_named_sequence(
+            waiting,
+            token,
+            yaml_sequence_style_t::YAML_FLOW_SEQUENCE_STYLE,
+            event,
+        ),
+        Shape::FlowMapping => tell_named_mapping(
+            waiting,
+            token,
+            yaml_mapping_style_t::YAML_FLOW_MAPPING_STYLE,
+            event,
+        ),
+    }
+}

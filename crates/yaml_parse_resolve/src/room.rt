@@ -1,0 +1,288 @@
+//! The room of texts that are done with.
+
+ghost use Rattle.std.specs.Prelude.{◌≡◌, None, Some, true, vec_capacity};
+ghost use Rattle.yaml_parse_model.specs.Events.{text_of};
+ghost use Rattle.yaml_parse_core.specs.Views.{text_if};
+ghost use Rattle.yaml_parse_resolve.specs.Bare.{OwnsNothing};
+
+use std::mem;
+use yaml_parse_model::{moved, yaml_event_body_t, yaml_scalar_style_t, yaml_token_body_t};
+
+/// Whether a slot of events holds no text.
+// Inlined: a look at the kind.
+#[inline(always)]
+pub fn is_bare(event: &yaml_event_body_t) -> bool
+    ensures { result ≡ true → OwnsNothing event.now }
+{
+    match *event {
+        yaml_event_body_t::DocumentStart { .. } => false,
+        yaml_event_body_t::Alias { .. } => false,
+        yaml_event_body_t::Scalar { .. } => false,
+        yaml_event_body_t::SequenceStart {
+            anchor: None,
+            tag: None,
+            ..
+        } => true,
+        yaml_event_body_t::SequenceStart { .. } => false,
+        yaml_event_body_t::MappingStart {
+            anchor: None,
+            tag: None,
+            ..
+        } => true,
+        yaml_event_body_t::MappingStart { .. } => false,
+        _ => true,
+    }
+}
+
+/// Puts an event into a slot that holds no text.
+// Inlined: it is built in its place.
+#[inline(always)]
+pub fn put_bare(slot: &mut yaml_event_body_t, event: yaml_event_body_t)
+    requires { OwnsNothing slot.old }
+    ensures { slot.new ≡ event }
+{
+    forget_bare(mem::replace(slot, event));
+}
+
+// Lets go of an event that owns nothing: its drop would look at each kind of event.
+// Inlined: it does nothing.
+#[inline(always)]
+fn forget_bare(event: yaml_event_body_t)
+    requires { OwnsNothing event }
+{
+    mem::forget(event);
+}
+
+/// Takes the texts out of a slot of events, and has the slot of a token that is taken hold one of them: the reader may read a later
+/// text into its room.
+// Inlined: mostly a comparison of the kind, or some moves.
+#[inline(always)]
+pub fn vacate(earlier: &mut yaml_event_body_t, slot: &mut yaml_token_body_t)
+    ensures { OwnsNothing earlier.new }
+{
+    match *earlier {
+        yaml_event_body_t::Scalar {
+            anchor: None,
+            tag: None,
+            ref mut value,
+            ..
+        } => hand_over(moved(value), slot),
+        _ => vacate_other(earlier, slot),
+    }
+}
+
+// The same, of another event than a scalar without properties.
+// Inlined: mostly a comparison of the kind.
+#[inline(always)]
+fn vacate_other(earlier: &mut yaml_event_body_t, slot: &mut yaml_token_body_t)
+    ensures { OwnsNothing earlier.new }
+{
+    if is_bare(earlier) {
+        return;
+    }
+    vacate_rare(earlier, slot);
+}
+
+// The same, of an event with a text.
+// Out of line: mostly it is a scalar without properties.
+#[inline(never)]
+fn vacate_rare(earlier: &mut yaml_event_body_t, slot: &mut yaml_token_body_t)
+    ensures { OwnsNothing earlier.new }
+{
+    match earlier {
+        yaml_event_body_t::Scalar {
+            anchor,
+            tag,
+            value,
+            ..
+        } => {
+            let other = taken(anchor, tag);
+            hand_over_both(moved(value), other, slot);
+        }
+        yaml_event_body_t::Alias { anchor } => hand_over(moved(anchor), slot),
+        _ => {
+            *earlier = yaml_event_body_t::No;
+        }
+    }
+}
+
+/// Takes both of a node's properties, and answers one that is there.
+// Inlined: some moves.
+#[inline(always)]
+pub fn taken(anchor: &mut Option<Vec<u8>>, tag: &mut Option<Vec<u8>>) -> Option<Vec<u8>>
+    ensures anchor { anchor.new ≡ None }
+    ensures tag { tag.new ≡ None }
+{
+    let name = anchor.take();
+    match tag.take() {
+        None => name,
+        Some(full) => Some(full),
+    }
+}
+
+/// Has the slot of a token that is taken hold both texts, where there are two.
+// Inlined: some moves.
+#[inline(always)]
+pub fn hand_over_both(text: Vec<u8>, other: Option<Vec<u8>>, slot: &mut yaml_token_body_t) {
+    match other {
+        None => hand_over(text, slot),
+        Some(second) => {
+            *slot = yaml_token_body_t::Tag {
+                handle: text,
+                suffix: second,
+            };
+        }
+    }
+}
+
+// Has the slot of a token that is taken hold the text, if that has room. Where the slot has one, that is let go.
+// Inlined: some moves.
+#[inline(always)]
+fn hand_over(text: Vec<u8>, slot: &mut yaml_token_body_t) {
+    if text.capacity() == 0 {
+        return;
+    }
+    match *slot {
+        yaml_token_body_t::TagDirective { .. } => put_text(text, slot),
+        yaml_token_body_t::Alias { ref mut value } => *value = text,
+        yaml_token_body_t::Anchor { ref mut value } => *value = text,
+        yaml_token_body_t::Tag { .. } => put_text(text, slot),
+        yaml_token_body_t::Scalar { ref mut value, .. } => *value = text,
+        _ => *slot = kept(text),
+    }
+}
+
+// A text in the slot of a token, in the place of others.
+// Out of line: the slot of an indicator has none.
+#[inline(never)]
+fn put_text(text: Vec<u8>, slot: &mut yaml_token_body_t) {
+    *slot = kept(text);
+}
+
+// A token that keeps a text.
+// Inlined: it is built in its slot.
+#[inline(always)]
+fn kept(text: Vec<u8>) -> yaml_token_body_t {
+    yaml_token_body_t::Scalar {
+        value: text,
+        style: yaml_scalar_style_t::YAML_PLAIN_SCALAR_STYLE,
+    }
+}
+
+// Lets go of what a slot of events holds.
+// Out of line: mostly that owns nothing.
+#[inline(never)]
+fn clear(earlier: &mut yaml_event_body_t)
+    ensures { OwnsNothing earlier.new }
+{
+    *earlier = yaml_event_body_t::No;
+}
+
+// The text of a token that is taken, which keeps the room of an anchor, if there is one.
+// Inlined: some moves.
+#[inline(always)]
+fn in_place_of(text: &mut Vec<u8>, anchor: &mut Option<Vec<u8>>) -> Vec<u8>
+    ensures text { result.items ≡ text.old.items }
+    ensures anchor { anchor.new ≡ None }
+{
+    match anchor.take() {
+        None => moved(text),
+        Some(name) => mem::replace(text, name),
+    }
+}
+
+/// The text of a token that is taken, which keeps the room of a text that a slot of events has from an earlier one. The slot is
+/// emptied.
+// Inlined into its two callers, which are out of line themselves.
+#[inline(always)]
+pub fn exchanged(earlier: &mut yaml_event_body_t, text: &mut Vec<u8>) -> Vec<u8>
+    ensures text { result.items ≡ text.old.items }
+    ensures bare { OwnsNothing earlier.new }
+{
+    match earlier {
+        yaml_event_body_t::Scalar {
+            anchor,
+            tag,
+            value,
+            ..
+        } => {
+            *anchor = None;
+            *tag = None;
+            replaced(text, value)
+        }
+        yaml_event_body_t::Alias { anchor } => replaced(text, anchor),
+        yaml_event_body_t::SequenceStart { anchor, tag, .. } => {
+            *tag = None;
+            in_place_of(text, anchor)
+        }
+        yaml_event_body_t::MappingStart { anchor, tag, .. } => {
+            *tag = None;
+            in_place_of(text, anchor)
+        }
+        yaml_event_body_t::DocumentStart { .. } => {
+            clear(earlier);
+            moved(text)
+        }
+        _ => moved(text),
+    }
+}
+
+// Another text in a place for one, in whose place the room of the earlier one is left.
+// Inlined: some moves.
+#[inline(always)]
+fn fill(place: &mut Option<Vec<u8>>, text: &mut Vec<u8>)
+    ensures { text_of place.new ≡ Some text.old.items }
+{
+    match place {
+        None => {
+            *place = Some(moved(text));
+        }
+        Some(last) => mem::swap(last, text),
+    }
+}
+
+// No text in a place for one: the room of the earlier one is left in that of a text that is done with.
+// Inlined: mostly a look at the place.
+#[inline(always)]
+pub(crate) fn give_back(place: &mut Option<Vec<u8>>, text: &mut Vec<u8>)
+    ensures { place.new ≡ None }
+{
+    match place.take() {
+        None => {}
+        Some(last) => {
+            *text = last;
+        }
+    }
+}
+
+/// The text, if it is one that is to be there, in a place for one, in whose place the room of the earlier one is left.
+// Inlined: mostly it is known whether it is to be there.
+#[inline(always)]
+pub(crate) fn exchange(place: &mut Option<Vec<u8>>, is_there: bool, text: &mut Vec<u8>)
+    ensures { text_of place.new ≡ text_if is_there text.old.items }
+{
+    if is_there {
+        fill(place, text);
+    } else {
+        give_back(place, text);
+    }
+}
+
+/// The text, if it is one that is to be there.
+// Inlined: some moves.
+#[inline(always)]
+pub(crate) fn moved_if(is_there: bool, text: &mut Vec<u8>) -> Option<Vec<u8>>
+    ensures { text_of result ≡ text_if is_there text.old.items }
+{
+    if is_there { Some(moved(text)) } else { None }
+}
+
+/// The text, in whose place another one is left, which leaves an empty one.
+// Inlined: some moves.
+#[inline(always)]
+pub fn replaced(text: &mut Vec<u8>, other: &mut Vec<u8>) -> Vec<u8>
+    ensures text { result.items ≡ text.old.items }
+    ensures other { vec_capacity other.new ≡ 0 }
+{
+    mem::replace(text, moved(other))
+}

@@ -1,0 +1,291 @@
+//! Scalars in a slot of events. Where it holds one already, that is changed in place: to put a new one there, the old one is taken
+//! apart, asked what it owns, and set to zero.
+
+ghost use Rattle.std.specs.Prelude.{◌≡◌, None, Some, codes};
+ghost use Rattle.std.specs.Str.{bytes_eq};
+ghost use Rattle.yaml_parse_model.specs.Events.{body_of};
+ghost use Rattle.yaml_parse_model.specs.Events as told;
+ghost use Rattle.yaml_parse_grammar.specs.Items as item;
+ghost use Rattle.yaml_parse_grammar.specs.Resolve.{is_plain as is_plain_style, node_event};
+ghost use Rattle.yaml_parse_core.specs.Views.{text_if};
+
+use crate::room::{exchange, exchanged, give_back, is_bare, moved_if, put_bare};
+use std::mem;
+use yaml_parse_core::Waiting;
+use yaml_parse_model::{moved, yaml_event_body_t, yaml_mark_t, yaml_scalar_style_t};
+
+// How a scalar may be written with its tag left out, in plain style and in every other one, and its own style.
+#[derive(Clone, Copy)]
+struct Form {
+    plain: bool,
+    quoted: bool,
+    style: yaml_scalar_style_t,
+}
+
+// A new scalar.
+// Out of line: mostly the slot holds a scalar already, which is changed in place.
+#[inline(never)]
+fn new_scalar(
+    waiting: &mut Waiting<Vec<u8>, yaml_mark_t>,
+    has_anchor: bool,
+    has_tag: bool,
+    value: &mut Vec<u8>,
+    form: Form,
+    event: &mut yaml_event_body_t,
+)
+    ensures { body_of event.new ≡ told.scalar (text_if has_anchor waiting.old.anchor.items)
+        (text_if has_tag waiting.old.handle.items) value.old.items form.plain form.quoted
+        form.style }
+{
+    let text = exchanged(event, value);
+    let scalar = yaml_event_body_t::Scalar {
+        anchor: moved_if(has_anchor, &mut waiting.anchor),
+        tag: moved_if(has_tag, &mut waiting.handle),
+        value: text,
+        plain_implicit: form.plain,
+        quoted_implicit: form.quoted,
+        style: form.style,
+    };
+    put_bare(event, scalar);
+}
+
+// A scalar with the anchor that waited, and the tag in full in the place of its handle, where it has them. The texts of an earlier
+// scalar are left in place of the new ones.
+// Inlined: some loads and stores.
+#[inline(always)]
+fn put_scalar(
+    waiting: &mut Waiting<Vec<u8>, yaml_mark_t>,
+    has_anchor: bool,
+    has_tag: bool,
+    value: &mut Vec<u8>,
+    form: Form,
+    event: &mut yaml_event_body_t,
+)
+    ensures { body_of event.new ≡ told.scalar (text_if has_anchor waiting.old.anchor.items)
+        (text_if has_tag waiting.old.handle.items) value.old.items form.plain form.quoted
+        form.style }
+{
+    match *event {
+        yaml_event_body_t::Scalar {
+            anchor: ref mut last_anchor,
+            tag: ref mut last_tag,
+            value: ref mut last,
+            plain_implicit: ref mut plain,
+            quoted_implicit: ref mut quoted,
+            style: ref mut last_style,
+        } => {
+            exchange(last_anchor, has_anchor, &mut waiting.anchor);
+            exchange(last_tag, has_tag, &mut waiting.handle);
+            mem::swap(last, value);
+            *plain = form.plain;
+            *quoted = form.quoted;
+            *last_style = form.style;
+        }
+        _ => new_scalar(waiting, has_anchor, has_tag, value, form, event),
+    }
+}
+
+fn is_mark(tag: &[u8]) -> bool
+    ensures { result ≡ bytes_eq tag.now (codes "!") }
+{
+    tag == b"!".as_slice()
+}
+
+fn is_plain(style: yaml_scalar_style_t) -> bool
+    ensures { result ≡ is_plain_style style }
+{
+    match style {
+        yaml_scalar_style_t::YAML_PLAIN_SCALAR_STYLE => true,
+        _ => false,
+    }
+}
+
+// A scalar without properties.
+// Inlined: it is built where it is wanted.
+#[inline(always)]
+fn bare_of(value: Vec<u8>, style: yaml_scalar_style_t) -> yaml_event_body_t
+    ensures { body_of result ≡ node_event None None (item.scalar value.items style) }
+{
+    let is_plain = is_plain(style);
+    yaml_event_body_t::Scalar {
+        anchor: None,
+        tag: None,
+        value,
+        plain_implicit: is_plain,
+        quoted_implicit: !is_plain,
+        style,
+    }
+}
+
+// A scalar without properties, where the slot holds other texts.
+// Out of line: mostly it holds such a one already, or none.
+#[inline(never)]
+fn new_bare(value: &mut Vec<u8>, style: yaml_scalar_style_t, event: &mut yaml_event_body_t)
+    ensures { body_of event.new ≡ node_event None None (item.scalar value.old.items style) }
+{
+    let text = exchanged(event, value);
+    put_bare(event, bare_of(text, style));
+}
+
+// A scalar without properties, where the slot holds no such one.
+// Out of line: mostly it holds one.
+#[inline(never)]
+fn other_bare(
+    waiting: &mut Waiting<Vec<u8>, yaml_mark_t>,
+    value: &mut Vec<u8>,
+    style: yaml_scalar_style_t,
+    event: &mut yaml_event_body_t,
+)
+    ensures { body_of event.new ≡ node_event None None (item.scalar value.old.items style) }
+{
+    if is_bare(event) {
+        put_bare(event, bare_of(moved(value), style));
+    } else {
+        bare_over(waiting, value, style, event);
+    }
+}
+
+// The same, where it holds a text.
+// Out of line: mostly it holds none.
+#[inline(never)]
+fn bare_over(
+    waiting: &mut Waiting<Vec<u8>, yaml_mark_t>,
+    value: &mut Vec<u8>,
+    style: yaml_scalar_style_t,
+    event: &mut yaml_event_body_t,
+)
+    ensures { body_of event.new ≡ node_event None None (item.scalar value.old.items style) }
+{
+    match *event {
+        yaml_event_body_t::Scalar {
+            anchor: ref mut last_anchor,
+            tag: ref mut last_tag,
+            value: ref mut last,
+            plain_implicit: ref mut plain,
+            quoted_implicit: ref mut quoted,
+            style: ref mut last_style,
+        } => {
+            give_back(last_anchor, &mut waiting.anchor);
+            give_back(last_tag, &mut waiting.handle);
+            mem::swap(last, value);
+            *plain = is_plain(style);
+            *quoted = !is_plain(style);
+            *last_style = style;
+        }
+        _ => new_bare(value, style, event),
+    }
+}
+
+/// A scalar without properties. The texts of an earlier scalar are left in place of the new one, and in the room of properties.
+// Inlined: some loads and stores.
+#[inline(always)]
+pub(crate) fn bare(
+    waiting: &mut Waiting<Vec<u8>, yaml_mark_t>,
+    value: &mut Vec<u8>,
+    style: yaml_scalar_style_t,
+    event: &mut yaml_event_body_t,
+)
+    ensures { body_of event.new ≡ node_event None None (item.scalar value.old.items style) }
+{
+    match *event {
+        yaml_event_body_t::Scalar {
+            anchor: None,
+            tag: None,
+            value: ref mut last,
+            plain_implicit: ref mut plain,
+            quoted_implicit: ref mut quoted,
+            style: ref mut last_style,
+        } => {
+            mem::swap(last, value);
+            *plain = is_plain(style);
+            *quoted = !is_plain(style);
+            *last_style = style;
+        }
+        _ => other_bare(waiting, value, style, event),
+    }
+}
+
+// A scalar without a tag, and with that anchor if it has one.
+// Inlined into its one caller.
+#[inline(always)]
+fn untagged(
+    waiting: &mut Waiting<Vec<u8>, yaml_mark_t>,
+    has_anchor: bool,
+    value: &mut Vec<u8>,
+    style: yaml_scalar_style_t,
+    event: &mut yaml_event_body_t,
+)
+    ensures { body_of event.new ≡ node_event (text_if has_anchor waiting.old.anchor.items) None
+        (item.scalar value.old.items style) }
+{
+    let plain = is_plain(style);
+    let form = Form {
+        plain,
+        quoted: !plain,
+        style,
+    };
+    put_scalar(waiting, has_anchor, false, value, form, event);
+}
+
+// A scalar with the tag that stands in full in the place of its handle. The tag `!` says that it has none.
+// Inlined into its one caller.
+#[inline(always)]
+fn tagged(
+    waiting: &mut Waiting<Vec<u8>, yaml_mark_t>,
+    value: &mut Vec<u8>,
+    style: yaml_scalar_style_t,
+    event: &mut yaml_event_body_t,
+)
+    ensures { body_of event.new ≡ node_event (text_if waiting.old.has_anchor
+        waiting.old.anchor.items) (Some waiting.old.handle.items)
+        (item.scalar value.old.items style) }
+{
+    let has_anchor = waiting.has_anchor;
+    let is_mark = is_mark(waiting.handle.as_slice());
+    let form = Form {
+        plain: is_mark,
+        quoted: false,
+        style,
+    };
+    put_scalar(waiting, has_anchor, !is_mark, value, form, event);
+}
+
+/// A scalar behind properties. Its tag stands in full in the place of its handle.
+// Inlined into its one caller.
+#[inline(always)]
+pub(crate) fn named(
+    waiting: &mut Waiting<Vec<u8>, yaml_mark_t>,
+    value: &mut Vec<u8>,
+    style: yaml_scalar_style_t,
+    event: &mut yaml_event_body_t,
+)
+    ensures { body_of event.new ≡ node_event (text_if waiting.old.has_anchor
+        waiting.old.anchor.items) (text_if waiting.old.has_tag waiting.old.handle.items)
+        (item.scalar value.old.items style) }
+{
+    if waiting.has_tag {
+        tagged(waiting, value, style, event);
+    } else {
+        let has_anchor = waiting.has_anchor;
+        untagged(waiting, has_anchor, value, style, event);
+    }
+}
+
+/// An empty node behind those properties. Its tag stands in full in the place of its handle.
+pub(crate) fn empty(
+    waiting: &mut Waiting<Vec<u8>, yaml_mark_t>,
+    has_anchor: bool,
+    has_tag: bool,
+    event: &mut yaml_event_body_t,
+)
+    ensures { body_of event.new ≡ node_event (text_if has_anchor waiting.old.anchor.items)
+        (text_if has_tag waiting.old.handle.items) item.empty }
+{
+    let form = Form {
+        plain: !has_tag,
+        quoted: false,
+        style: yaml_scalar_style_t::YAML_PLAIN_SCALAR_STYLE,
+    };
+    let mut nothing = Vec::new(*waiting.anchor.allocator());
+    put_scalar(waiting, has_anchor, has_tag, &mut nothing, form, event);
+}

@@ -1,0 +1,126 @@
+//! Other events in a slot of events.
+
+ghost use Rattle.std.specs.Prelude.{◌≡◌};
+ghost use Rattle.yaml_parse_model.specs.Events.{body_of};
+ghost use Rattle.yaml_parse_model.specs.Events as told;
+ghost use Rattle.yaml_parse_grammar.specs.Items as item;
+ghost use Rattle.yaml_parse_grammar.specs.Resolve.{node_event};
+ghost use Rattle.yaml_parse_core.specs.Views.{text_if};
+ghost use Rattle.yaml_parse_resolve.specs.Bare.{OwnsNothing};
+
+use crate::room::{exchanged, moved_if, put_bare};
+use yaml_parse_core::Waiting;
+use yaml_parse_model::{
+    yaml_event_body_t, yaml_mapping_style_t, yaml_mark_t, yaml_sequence_style_t,
+};
+
+/// Another event in the slot.
+// Inlined: the new one's kind is known.
+#[inline(always)]
+pub(crate) fn put(slot: &mut yaml_event_body_t, event: yaml_event_body_t)
+    ensures { slot.new ≡ event }
+{
+    *slot = event;
+}
+
+/// A sequence ends.
+// Out of line: in line the addresses of the slot's parts would be put aside in front of the loop over turns, for each event.
+#[inline(never)]
+pub(crate) fn end_sequence(slot: &mut yaml_event_body_t)
+    requires { OwnsNothing slot.old }
+    ensures { body_of slot.new ≡ told.sequence_end }
+{
+    put_bare(slot, yaml_event_body_t::SequenceEnd);
+}
+
+/// A mapping ends.
+// Out of line: see `end_sequence`.
+#[inline(never)]
+pub(crate) fn end_mapping(slot: &mut yaml_event_body_t)
+    requires { OwnsNothing slot.old }
+    ensures { body_of slot.new ≡ told.mapping_end }
+{
+    put_bare(slot, yaml_event_body_t::MappingEnd);
+}
+
+/// An alias. The room of a text that the slot of events has from an earlier one is left in place of the name.
+// Out of line: see `end_sequence`.
+#[inline(never)]
+pub(crate) fn put_alias(slot: &mut yaml_event_body_t, name: &mut Vec<u8>)
+    ensures { body_of slot.new ≡ told.alias name.old.items }
+{
+    let anchor = exchanged(slot, name);
+    put_bare(slot, yaml_event_body_t::Alias { anchor });
+}
+
+/// A sequence begins without properties.
+// Out of line: see `end_sequence`.
+#[inline(never)]
+pub(crate) fn start_sequence(slot: &mut yaml_event_body_t, style: yaml_sequence_style_t)
+    requires { OwnsNothing slot.old }
+    ensures { body_of slot.new ≡ node_event None None (item.sequence style) }
+{
+    let start = yaml_event_body_t::SequenceStart {
+        anchor: None,
+        tag: None,
+        implicit: true,
+        style,
+    };
+    put_bare(slot, start);
+}
+
+/// A mapping begins without properties.
+// Out of line: see `end_sequence`.
+#[inline(never)]
+pub(crate) fn start_mapping(slot: &mut yaml_event_body_t, style: yaml_mapping_style_t)
+    requires { OwnsNothing slot.old }
+    ensures { body_of slot.new ≡ node_event None None (item.mapping style) }
+{
+    let start = yaml_event_body_t::MappingStart {
+        anchor: None,
+        tag: None,
+        implicit: true,
+        style,
+    };
+    put_bare(slot, start);
+}
+
+/// A sequence begins behind properties. Its tag stands in full in the place of its handle.
+pub(crate) fn start_named_sequence(
+    waiting: &mut Waiting<Vec<u8>, yaml_mark_t>,
+    style: yaml_sequence_style_t,
+    event: &mut yaml_event_body_t,
+)
+    requires { OwnsNothing event.old }
+    ensures { body_of event.new ≡ node_event (text_if waiting.old.has_anchor
+        waiting.old.anchor.items) (text_if waiting.old.has_tag waiting.old.handle.items)
+        (item.sequence style) }
+{
+    let start = yaml_event_body_t::SequenceStart {
+        anchor: moved_if(waiting.has_anchor, &mut waiting.anchor),
+        tag: moved_if(waiting.has_tag, &mut waiting.handle),
+        implicit: !waiting.has_tag,
+        style,
+    };
+    put_bare(event, start);
+}
+
+/// A mapping begins behind properties. Its tag stands in full in the place of its handle.
+pub(crate) fn start_named_mapping(
+    waiting: &mut Waiting<Vec<u8>, yaml_mark_t>,
+    style: yaml_mapping_style_t,
+    event: &mut yaml_event_body_t,
+)
+    requires { OwnsNothing event.old }
+    ensures { body_of event.new ≡ node_event (text_if waiting.old.has_anchor
+        waiting.old.anchor.items) (text_if waiting.old.has_tag waiting.old.handle.items)
+        (item.mapping style) }
+{
+    let start = yaml_event_body_t::MappingStart {
+        anchor: moved_if(waiting.has_anchor, &mut waiting.anchor),
+        tag: moved_if(waiting.has_tag, &mut waiting.handle),
+        implicit: !waiting.has_tag,
+        style,
+    };
+    put_bare(event, start);
+}

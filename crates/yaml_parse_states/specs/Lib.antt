@@ -1,2 +1,0 @@
-pub mod Views
-pub mod Bare

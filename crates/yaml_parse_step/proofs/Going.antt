@@ -1,0 +1,67 @@
+-- What a turn comes to with its item resolved.
+use Rattle.std.proofs.Common.{◌≡◌, inr, List, Option, None, sym, ap, subst, ◌∙◌}
+use Rattle.yaml_scan_model.specs.declared.yaml_mark_t.{yaml_mark_t}
+use Rattle.yaml_scan_model.specs.Tokens.{Token}
+use Rattle.yaml_scan_model.specs.Faults.{Fault}
+use Rattle.yaml_parse_model.specs.Events.{Event}
+use Rattle.yaml_parse_grammar.specs.Items.{RawEvent, Properties}
+use Rattle.yaml_parse_grammar.specs.States.{State}
+use Rattle.yaml_parse_grammar.specs.Resolve.{Directives, gave, node_event, placed}
+use Rattle.yaml_parse_core.specs.declared.told.Shape.{Shape}
+use Rattle.yaml_parse_core.specs.declared.machine.Machine.{Machine}
+use Rattle.yaml_parse_core.specs.Seen as seen
+use Rattle.yaml_parse_core.specs.Views.{Around, node_item, shape_at}
+use Rattle.yaml_parse_core.specs.Turns.{TurnsOn}
+use Rattle.yaml_parse_core.specs.Owned.{owned_states_by}
+use Rattle.yaml_parse_resolve.specs.declared.resolving.Settled.{Settled}
+use Rattle.yaml_parse_resolve.specs.declared.resolving.Settled.TheVariants as came
+use Rattle.yaml_parse_resolve.specs.Settles.{ComesTo}
+use Rattle.yaml_parse_resolve.specs.Settles.{directives_of}
+use Rattle.yaml_parse_step.specs.declared.step.StepBuffers.{StepBuffers}
+use Rattle.yaml_parse_step.specs.declared.step.Step.{Step}
+use Rattle.yaml_parse_step.specs.Steps.{peeked_of, states_in}
+use Rattle.yaml_parse_step.specs.Moves.{Moves, GaveEvent, Went, LeavesMachine, step_of}
+use Rattle.yaml_parse_step.proofs.Moves.{node_moves}
+
+-- a node without properties
+pub went_node : (s : List State) (t : Token) (k : Shape) (a : Around) (f : Properties → List State) (q : Properties) (ds : Directives) (e : Event) → TurnsOn s t (seen.node k) a f
+    → e ≡ placed (node_event None None (shape_at k t.body)) (node_item k t) → GaveEvent s t ds e None (f q) ds
+went_node s t k a f q ds e h p =
+    let b : node_event None None (shape_at k t.body) ≡ e.body = sym (ap (λ (x : Event). x.body) p) in
+    record {
+      item = node_item k t;
+      moves = node_moves s t k a f h q;
+      settles = ap (λ z. gave z ds) b;
+      placed = p ∙ ap (λ z. placed z (node_item k t)) b;
+    }
+
+-- what an item came to
+pub went_on : (r : Settled) (s : List State) (t : Token) (i : RawEvent) (q : Properties) (ds behind : Directives) (e : Event) (g : Fault) (held : Option Token) (old new : Machine yaml_mark_t)
+    → ((p : Properties) → Moves s t i held (owned_states_by old p)) → LeavesMachine r old new → ComesTo i ds r e g behind → Went s t ds (step_of r) e g held (owned_states_by new q) behind
+went_on came.Event s t i q ds behind e g held old new m l c = record {
+  item = i;
+  moves = subst (λ z. Moves s t i held (owned_states_by z q)) (sym l) (m q);
+  settles = c.0;
+  placed = c.1;
+}
+went_on came.Noted s t i q ds behind e g held old new m l c = inr (record {
+  item = i;
+  moves = subst (λ z. Moves s t i held (owned_states_by z q)) (sym l) (m q);
+  settles = c;
+})
+went_on came.Refused s t i q ds behind e g held old new m l c = (
+  l q,
+  inr (record {
+    item = i;
+    held = held;
+    new = owned_states_by old q;
+    moves = m q;
+    settles = c;
+  }),
+)
+
+-- of what is lent
+pub went_of : (r r' : Step) (b b' : StepBuffers) (s : List State) (t : Token) (ds : Directives) (e : Event) (g : Fault) → b ≡ b' → r ≡ r' → Went s t ds r' e g (peeked_of b') (states_in b') (directives_of b'.directives)
+    → Went s t ds r e g (peeked_of b) (states_in b) (directives_of b.directives)
+went_of r r' b b' s t ds e g p q h =
+    subst (λ (z : StepBuffers). Went s t ds r e g (peeked_of z) (states_in z) (directives_of z.directives)) (sym p) (subst (λ (z : Step). Went s t ds z e g (peeked_of b') (states_in b') (directives_of b'.directives)) (sym q) h)

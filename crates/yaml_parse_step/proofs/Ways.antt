@@ -1,0 +1,73 @@
+-- What a turn with its item resolved is to what is to come.
+use Rattle.std.proofs.Common.{◌≡◌, inl, inr, true, false, List, [], ◌∷◌, Option, None, refl, sym, subst}
+use Rattle.yaml_scan_model.specs.Tokens.{Token}
+use Rattle.yaml_scan_model.specs.Faults.{Fault}
+use Rattle.yaml_parse_model.specs.Events.{Event}
+use Rattle.yaml_parse_model.specs.Source as source
+use Rattle.yaml_parse_grammar.specs.States.{State}
+use Rattle.yaml_parse_grammar.specs.Resolve.{Directives}
+use Rattle.yaml_parse_grammar.specs.Remaining.{parser_remaining, is_between}
+use Rattle.yaml_parse_grammar.specs.Stacks.{IsStack}
+use Rattle.yaml_parse_grammar.specs.Texts.{IsUtf8Token, IsUtf8Held}
+use Rattle.yaml_parse_core.specs.Views.{is_nothing}
+use Rattle.yaml_parse_step.specs.declared.step.Step.{Step}
+use Rattle.yaml_parse_step.specs.declared.step.Step.TheVariants as code
+use Rattle.yaml_parse_step.specs.Stepped as step
+use Rattle.yaml_parse_step.specs.Steps.{raw, IsFront, Turns, IsSilent, IsUtf8Turn, IsStackTurn, IsRealOn}
+use Rattle.yaml_parse_step.specs.Turned.{turned}
+use Rattle.yaml_parse_step.specs.Moves.{Went}
+use Rattle.yaml_parse_step.proofs.Moves.{over_front}
+use Rattle.yaml_parse_step.proofs.Turning.{event_turn, silent_turn, noted_turn, refused_turn, unsettled_turn}
+use Rattle.yaml_parse_step.proofs.Texts.{advance_utf8, silent_utf8, event_utf8, noted_utf8, cleared_utf8}
+use Rattle.yaml_parse_step.proofs.Heights.{silent_stands, event_stands, noted_stands, cleared_stands}
+
+pub over_empty : (s : List State) → is_nothing s ≡ true → s ≡ []
+over_empty [] e = refl
+over_empty (x ∷ s) e = cc
+
+nothing_open : (s : List State) → s ≡ [] → is_nothing s ≡ false → ⊥
+nothing_open [] e z = cc
+nothing_open (x ∷ s) e z = cc
+
+refused_real : (s : List State) (t : Token) (g : Fault) → IsRealOn s t (step.refused g)
+refused_real [] t g = tt
+refused_real (x ∷ s) t g = tt
+
+pub went_turns : (peeked : Option Token) (ts : List Token) (f : Option Fault) (s : List State) (t : Token) (rest : List Token) (after : Option Fault) (ds : Directives) (r : Step) (e : Event) (g : Fault)
+    (held : Option Token) (new : List State) (behind : Directives) (answered : Fault) → is_nothing s ≡ false → IsFront peeked ts f t rest after → Went s t ds r e g held new behind
+    → Turns (parser_remaining peeked ts f s ds answered) (turned r e g) (parser_remaining held rest after new behind answered)
+went_turns peeked ts f s t rest after ds code.Given e g held new behind answered z k h =
+    event_turn (raw peeked ts f s) (raw held rest after new) ds behind answered h.item e.body e
+    (over_front peeked ts f s t rest after (raw held rest after new) (step.given h.item) z k (h.moves.gives rest after) h.moves.real) h.settles h.placed
+went_turns peeked ts f s t rest after ds code.Silent e g held new behind answered z k (inl m) =
+    subst (λ (x : Option Token). IsSilent (parser_remaining peeked ts f s ds answered) (parser_remaining x rest after new behind answered)) (sym m.1)
+    (subst (λ (d : Directives). IsSilent (parser_remaining peeked ts f s ds answered) (parser_remaining None rest after new d answered)) (sym m.2)
+    (silent_turn (raw peeked ts f s) (raw None rest after new) ds answered (over_front peeked ts f s t rest after (raw None rest after new) step.silent z k (m.0.gives rest after) m.0.real)))
+went_turns peeked ts f s t rest after ds code.Silent e g held new behind answered z k (inr d) =
+    noted_turn (raw peeked ts f s) (raw held rest after new) ds behind answered d.item
+    (over_front peeked ts f s t rest after (raw held rest after new) (step.given d.item) z k (d.moves.gives rest after) d.moves.real) d.settles
+went_turns peeked ts f s t rest after ds code.Refused e g held new behind answered z k (n, inl st) =
+    refused_turn (raw peeked ts f s) (raw held rest after new) (raw held rest after new) ds behind answered g
+    (over_front peeked ts f s t rest after (raw held rest after new) (step.refused g) z k (st rest after held new) (refused_real s t g)) refl n
+went_turns peeked ts f s t rest after ds code.Refused e g held new behind answered z k (n, inr d) =
+    unsettled_turn (raw peeked ts f s) (raw d.held rest after d.new) (raw held rest after new) ds behind answered d.item g
+    (over_front peeked ts f s t rest after (raw d.held rest after d.new) (step.given d.item) z k (d.moves.gives rest after) d.moves.real) d.settles refl n
+went_turns peeked ts f s t rest after ds code.Done e g held new behind answered z k h = absurd (nothing_open s h.0 z)
+
+pub went_utf8 : (peeked : Option Token) (s : List State) (t : Token) (ds : Directives) (r : Step) (e : Event) (g : Fault) (held : Option Token) (new : List State) (behind : Directives)
+    → (IsUtf8Token peeked → source.HasUtf8 t.body) → Went s t ds r e g held new behind → IsUtf8Held peeked s ds → IsUtf8Turn (turned r e g) × IsUtf8Held held new behind
+went_utf8 peeked s t ds code.Given e g held new behind u h p = event_utf8 held new ds behind h.item e.body h.settles (advance_utf8 peeked s t held new (step.given h.item) ds u (h.moves.utf8 ds) p)
+went_utf8 peeked s t ds code.Silent e g held new behind u (inl m) p =
+    subst (λ (x : Option Token). Unit {0} × IsUtf8Held x new behind) (sym m.1)
+    (subst (λ (d : Directives). Unit {0} × IsUtf8Held None new d) (sym m.2) (silent_utf8 None new ds (advance_utf8 peeked s t None new step.silent ds u (m.0.utf8 ds) p)))
+went_utf8 peeked s t ds code.Silent e g held new behind u (inr d) p = noted_utf8 held new ds behind d.item d.settles (advance_utf8 peeked s t held new (step.given d.item) ds u (d.moves.utf8 ds) p)
+went_utf8 peeked s t ds code.Refused e g held new behind u h p = cleared_utf8 held new behind h.0
+went_utf8 peeked s t ds code.Done e g held new behind u h p = cleared_utf8 held new behind h.2
+
+pub went_stands : (s : List State) (t : Token) (ds : Directives) (r : Step) (e : Event) (g : Fault) (held : Option Token) (new : List State) (behind : Directives)
+    → Went s t ds r e g held new behind → IsStack s → IsStackTurn (turned r e g) (is_between new) × IsStack new
+went_stands s t ds code.Given e g held new behind h p = event_stands new ds behind h.item e.body h.settles (h.moves.stack p)
+went_stands s t ds code.Silent e g held new behind (inl m) p = silent_stands new (m.0.stack p)
+went_stands s t ds code.Silent e g held new behind (inr d) p = noted_stands new d.item (d.moves.stack p)
+went_stands s t ds code.Refused e g held new behind h p = cleared_stands new h.0
+went_stands s t ds code.Done e g held new behind h p = cleared_stands new h.2

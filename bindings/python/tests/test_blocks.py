@@ -10,7 +10,7 @@ from typing import Any
 from unittest import mock
 
 import yaml_c
-from yaml_c import _library
+from yaml_c import _calls, _library
 
 HERE = os.path.dirname(os.path.abspath(__file__))
 HEADER = os.path.join(HERE, "..", "..", "c", "yaml_c.h")
@@ -30,6 +30,10 @@ CALLS = [
     lambda: yaml_c.parse(b"%TAG !e! x\n--- !e!a b"),
     lambda: yaml_c.parse(b""),
     lambda: yaml_c.emit(yaml_c.parse(b"[a]")),
+    lambda: yaml_c.load(b"{a: &x [b], c: *x}"),
+    lambda: yaml_c.compose(b"&x [a, *x]"),
+    lambda: yaml_c.check(b"a"),
+    lambda: yaml_c.dump({"a": ["b"]}),
 ]
 REFUSED = [
     lambda: yaml_c.reformat(b"]"),
@@ -38,6 +42,8 @@ REFUSED = [
     lambda: yaml_c.same(b"a", b"["),
     lambda: yaml_c.emit([yaml_c.StreamEnd()]),
     lambda: yaml_c.parse(b"["),
+    lambda: yaml_c.check(b"*a"),
+    lambda: yaml_c.dump("a", yaml_c.Settings(limit=0)),
 ]
 
 
@@ -149,7 +155,7 @@ class Blocks(unittest.TestCase):
             return 1
 
         with self.assertRaises(yaml_c.MemoryFault) as caught:
-            yaml_c._ask(refuses)
+            _calls.ask(refuses)
         self.assertEqual(str(caught.exception), "memory error: out of memory")
         self.assertIsInstance(caught.exception, MemoryError)
         self.assertEqual((caught.exception.line, caught.exception.context), (None, None))

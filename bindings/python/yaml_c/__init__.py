@@ -149,9 +149,8 @@ def emit(events: Iterable[Event], settings: Settings = _USUAL) -> bytes:
     """
     packed = Packed()
     for event in events:
-        packed.add(event)
-    try:
-        lists = packed.lists()
-    except struct.error as error:
-        raise ArgumentRefused(f"a number of an event: {error}") from None
-    return ask(_library.emit, *lists, record_of(settings))[0]
+        try:
+            packed.add(event)
+        except struct.error as error:
+            raise ArgumentRefused(f"a number of an event: {error}") from None
+    return ask(_library.emit, *packed.lists(), record_of(settings))[0]

@@ -30,6 +30,8 @@ _KINDS: list[type] = [
 ]  # fmt: skip
 _NUMBER_OF: dict[type, int] = {it: number for number, it in enumerate(_KINDS, 1)}
 _NO_SPAN = (0, 0)
+# A record without its marks, which no call looks at.
+_RECORD = struct.Struct("=10i8Q48x")
 _SCALAR_STYLES, _STYLES = list(ScalarStyle), list(Style)
 
 # A frozen event's own `__init__` asks at each field whether it may be set; where there are many, that is most of the time.
@@ -109,7 +111,7 @@ class Packed:
     """Records of events, the directives that they name, and the bytes that hold their texts."""
 
     def __init__(self) -> None:
-        self.records: list[tuple[int, ...]] = []
+        self.records = bytearray()
         self.directives: list[tuple[int, ...]] = []
         self.bytes = bytearray()
 
@@ -126,8 +128,8 @@ class Packed:
         for handle, prefix in event.tags:
             self.directives.append((*self.span(handle), *self.span(prefix)))
         major, minor = event.version or (0, 0)
-        numbers = {"implicit": event.implicit, "has_version": event.version is not None, "major": major, "minor": minor}
-        self.record(3, directives=(at, len(event.tags)), **numbers)
+        numbers = {"has_version": event.version is not None, "major": major, "minor": minor}
+        self.record(3, implicit=event.implicit, directives=(at, len(event.tags)), **numbers)
 
     def record(
         self,
@@ -145,10 +147,10 @@ class Packed:
         tag: str | None = None,
         value: str | None = None,
     ) -> None:
-        flags = (implicit, quoted, anchor is not None, tag is not None, has_version)
-        numbers = (kind, style, encoding, *flags, major, minor)
+        """One more record. Raises a `struct.error` where a number is none of its field's."""
         spans = (*directives, *self.span(anchor), *self.span(tag), *self.span(value))
-        self.records.append((*map(int, numbers), *spans, *[0] * 6))
+        flags = (implicit, quoted, anchor is not None, tag is not None, has_version)
+        self.records += _RECORD.pack(kind, style, encoding, *flags, major, minor, *spans)
 
     def add(self, event: Event) -> None:
         """One more event."""
@@ -171,6 +173,6 @@ class Packed:
 
     def lists(self) -> tuple[bytes, int, bytes, int, bytes, int]:
         """The three lists as a call takes them, each with its number of items."""
-        records = b"".join(struct.pack(_library.EVENT, *it) for it in self.records)
         directives = b"".join(struct.pack(_library.DIRECTIVE, *it) for it in self.directives)
-        return records, len(self.records), directives, len(self.directives), bytes(self.bytes), len(self.bytes)
+        count = len(self.records) // _RECORD.size
+        return bytes(self.records), count, directives, len(self.directives), bytes(self.bytes), len(self.bytes)

@@ -9,15 +9,11 @@ from typing import Any
 from . import _library
 from ._calls import Settings, ask, record_of
 from ._convert import Packed
-from ._events import Alias, DocumentEnd, DocumentStart, Event, MappingEnd, MappingStart, Scalar, ScalarStyle
-from ._events import SequenceEnd, SequenceStart, StreamEnd, StreamStart
+from ._events import DocumentStart, ScalarStyle, StreamEnd, StreamStart
 
 _PRETTY = Settings(canonical=False)
 _COLLECTIONS = (list, tuple, dict)
-_SEQUENCE_END, _MAPPING_END = SequenceEnd(), MappingEnd()
-# what no text has written is a plain scalar; a text without a character needs quotes, else it would be that
-_NONE = Scalar("", style=ScalarStyle.PLAIN, quoted_implicit=False)
-_EMPTY = Scalar("", style=ScalarStyle.SINGLE_QUOTED)
+_DOCUMENT_END, _ALIAS, _SCALAR, _SEQUENCE, _MAPPING = 4, 5, 6, 7, 9
 
 
 def _children(value: Any) -> Iterator[Any]:
@@ -46,37 +42,40 @@ def _shared(document: Any) -> dict[int, Any]:
     return shared
 
 
-def _scalar(value: Any) -> Event:
+def _scalar(packed: Packed, value: Any) -> None:
     if value is None:
-        return _NONE
-    if not isinstance(value, str):
+        packed.record(_SCALAR, value="", style=ScalarStyle.PLAIN, implicit=1)
+    elif isinstance(value, str):
+        # without a character it would be the scalar of None
+        style = ScalarStyle.ANY if value else ScalarStyle.SINGLE_QUOTED
+        packed.record(_SCALAR, value=value, style=style, implicit=1, quoted=1)
+    else:
         raise TypeError(f"what is dumped is str, list, tuple, dict or None, and not {type(value).__name__}")
-    return Scalar(str(value)) if value else _EMPTY
 
 
-def _nodes(document: Any) -> Iterator[Event]:
-    """The events of a document's nodes. What is shared has an anchor where it comes first, and is an alias then."""
+def _nodes(packed: Packed, document: Any) -> None:
+    """Adds a document's nodes. What is shared has an anchor where it comes first, and is an alias then."""
     shared = _shared(document)
     names: dict[int, str] = {}
-    waiting: list[tuple[Iterator[Any], Event | None]] = [(iter((document,)), None)]
-    while waiting:
-        children, end = waiting[-1]
+    # what is still to come of each list, tuple and dict around, and the event that ends it
+    around: list[tuple[Iterator[Any], int]] = [(iter((document,)), _DOCUMENT_END)]
+    while around:
+        children, end = around[-1]
         for value in children:
             if id(value) in names:
-                yield Alias(names[id(value)])
+                packed.record(_ALIAS, anchor=names[id(value)])
             elif isinstance(value, _COLLECTIONS):
                 if id(value) in shared:
                     names[id(value)] = f"id{len(names) + 1:03}"
-                is_dict = isinstance(value, dict)
-                yield (MappingStart if is_dict else SequenceStart)(anchor=names.get(id(value)))
-                waiting.append((_children(value), _MAPPING_END if is_dict else _SEQUENCE_END))
+                kind = _MAPPING if isinstance(value, dict) else _SEQUENCE
+                packed.record(kind, anchor=names.get(id(value)), implicit=1)
+                around.append((_children(value), kind + 1))
                 break
             else:
-                yield _scalar(value)
+                _scalar(packed, value)
         else:
-            waiting.pop()
-            if end is not None:
-                yield end
+            around.pop()
+            packed.record(end, implicit=1)
 
 
 def dump_all(documents: Iterable[Any], settings: Settings = _PRETTY) -> bytes:
@@ -96,9 +95,7 @@ def dump_all(documents: Iterable[Any], settings: Settings = _PRETTY) -> bytes:
     for document in documents:
         # without its `---` a document that is an empty plain scalar would be none
         packed.add(DocumentStart(implicit=document is not None))
-        for event in _nodes(document):
-            packed.add(event)
-        packed.add(DocumentEnd())
+        _nodes(packed, document)
     packed.add(StreamEnd())
     return ask(_library.emit, *packed.lists(), record_of(settings))[0]
 

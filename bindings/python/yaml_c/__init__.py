@@ -12,7 +12,8 @@
 
 Texts come in as bytes, or as str, which say what their bytes in UTF-8 say; they go out as bytes. A refused text raises a
 `YamlFault`, with the place; a number that means nothing raises `ArgumentRefused`. What the library answers is proved; what is
-made of it here, objects of Python, is tested. Calls keep nothing between them and let other threads run meanwhile. `libyaml_c.so` is looked for by the variable YAML_C_SO, beside these modules, and where `make library` leaves it.
+made of it here, objects of Python, is tested. Calls keep nothing between them and let other threads run meanwhile.
+`libyaml_c.so` is looked for by the variable YAML_C_SO, beside these modules, and where `make library` leaves it.
 """
 
 from __future__ import annotations

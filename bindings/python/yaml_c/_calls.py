@@ -9,7 +9,7 @@ from typing import Any, Union
 
 from . import _library
 from ._events import Encoding
-from ._faults import CLASS_OF, ArgumentRefused, Kind, Mark, WriterFault, YamlFault
+from ._faults import CLASS_OF, ArgumentRefused, EmitterFault, Kind, Mark, WriterFault, YamlFault
 from ._records import Records
 
 #: What is taken as a text.
@@ -137,7 +137,7 @@ def judge(text: tuple[bytes, int, int]) -> None:
     try:
         # no byte of a text is asked for, and each fault of the input comes before the limit
         ask(_library.reload, *text, record_of(Settings(limit=0)))
-    except WriterFault:
+    except (WriterFault, EmitterFault):
         pass
 
 

@@ -212,9 +212,9 @@ def check(text: Text | os.PathLike[Any], *, encoding: Encoding = Encoding.ANY) -
 
     A str is a text. Raises an `OSError` where the file can't be read.
 
-    >>> check("a: [b")
+    >>> check("- a\\n- *b")
     Traceback (most recent call last):
-    yaml_c._faults.ParserFault: parser error: while parsing a flow sequence (line 1, column 4): did not find expected ',' or ']' (line 2, column 1)
+    yaml_c._faults.ComposerFault: composer error: found undefined alias (line 2, column 3)
     """
     if isinstance(text, os.PathLike):
         with open(text, "rb") as file:

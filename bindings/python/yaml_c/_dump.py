@@ -105,6 +105,6 @@ def dump(document: Any, settings: Settings = _PRETTY) -> bytes:
 
     >>> ports = ["80", "443"]
     >>> dump({"old": ports, "new": ports})
-    b"old: &id001\\n- 80\\n- 443\\nnew: *id001\\n"
+    b'old: &id001\\n- 80\\n- 443\\nnew: *id001\\n'
     """
     return dump_all((document,), settings)

@@ -2,7 +2,6 @@
 
 from __future__ import annotations
 
-import ctypes
 import struct
 from collections.abc import Iterator
 from functools import partial
@@ -11,22 +10,18 @@ from typing import Any
 from . import _library
 from ._faults import Mark
 
-#: Where the spans of a record stand, and its two marks.
-DIRECTIVES, ANCHOR, TAG, VALUE, START, END = 40, 56, 72, 88, 104, 128
+#: Where a record has the span of its anchor, behind it that of its tag, that of its value, and its two marks.
+ANCHOR, VALUE, START, END = 56, 88, 104, 128
 _SIZE = struct.calcsize(_library.EVENT)
 _as_mark: Any = partial(tuple.__new__, Mark)
-
-
-def _copy(at: int, count: int, size: int) -> bytes:
-    return ctypes.string_at(at, count * size) if count else b""
 
 
 class Records:
     """A copy of the records that a call has filled, and of the bytes of their texts."""
 
     def __init__(self, parsed: _library.ParsedRecord) -> None:
-        self._events = _copy(parsed.events, parsed.events_len, _SIZE)
-        self._directives = _copy(parsed.directives, parsed.directives_len, struct.calcsize(_library.DIRECTIVE))
+        self._events = _library.copied(parsed.events, parsed.events_len * _SIZE)
+        self._directives = _library.copied(parsed.directives, parsed.directives_len * struct.calcsize(_library.DIRECTIVE))
         self._bytes = parsed.bytes.get()
         # where all is ASCII, an index of the bytes is one of the characters
         self._characters = self._bytes.decode() if self._bytes.isascii() else None

@@ -1,7 +1,7 @@
 """Measures the package for Python beside PyYAML over C's libyaml, on the same inputs: python3 python.py [--kinds KIND,..] [--size BYTES]
 
 Both run in turns in this process, and the table has the medians of the processor's seconds and their ratio: `parse` beside the
-list of CParser's events, `load` and `compose` beside CSafeLoader's, `dump` beside CSafeDumper's. `check` has no peer.
+list of CParser's events, `load` and `compose` beside CSafeLoader's, `dump` beside CSafeDumper's. `check` has no peer, and the input of anchors none in `load`.
 """
 
 import argparse
@@ -66,7 +66,8 @@ def main():
     for kind in said.kinds.split(","):
         text = inputs.text(kind, said.size).encode()
         for name, ours, peer in calls_of(yaml, yaml_c, text):
-            row(kind, len(text), name, ours, peer)
+            # CSafeLoader refuses tags that it doesn't know
+            row(kind, len(text), name, ours, None if (kind, name) == ("anchors", "load") else peer)
 
 
 if __name__ == "__main__":

@@ -2,6 +2,7 @@
 
 import os
 import pathlib
+import pickle
 import tempfile
 import unittest
 from typing import Any
@@ -132,6 +133,17 @@ class Compose(unittest.TestCase):
         self.assertEqual((items.start, items.end), (Mark(3, 0, 3), Mark(14, 0, 14)))
         self.assertEqual((d.style, e.tag, e.value), (ScalarStyle.SINGLE_QUOTED, "tag:yaml.org,2002:str", "e"))
         self.assertEqual(repr(items), "<SequenceNode !t at line 1, column 4>")
+
+    def test_copies(self) -> None:
+        node: Any = yaml_c.compose(b"&x {a: [b, *x]}")
+        made: Any = pickle.loads(pickle.dumps(node))
+        self.assertIs(made.value[0][1].value[1], made)
+        for one, other in ((made, node), (made.value[0][0], node.value[0][0]), (made.value[0][1], node.value[0][1])):
+            self.assertEqual((one.tag, one.style, one.start, one.end), (other.tag, other.style, other.start, other.end))
+        self.assertEqual((node.start, node.end), (Mark(0, 0, 0), Mark(15, 0, 15)))
+        node.start = Mark(1, 2, 3)
+        self.assertEqual(node.start, Mark(1, 2, 3))
+        self.assertEqual(ScalarNode("!t", node.end, node.end, "a", ScalarStyle.PLAIN).end, node.end)
 
     def test_aliases(self) -> None:
         first, second = yaml_c.compose_all(b"- &x {a: b}\n- *x\n- &x c\n- *x\n---\nd\n")

@@ -8,6 +8,8 @@ from typing import Any
 
 from . import _library
 from ._events import (
+    SCALAR_STYLES,
+    STYLES,
     Alias,
     DocumentEnd,
     DocumentStart,
@@ -16,12 +18,10 @@ from ._events import (
     MappingEnd,
     MappingStart,
     Scalar,
-    ScalarStyle,
     SequenceEnd,
     SequenceStart,
     StreamEnd,
     StreamStart,
-    Style,
 )
 from ._records import Records
 
@@ -32,7 +32,6 @@ _NUMBER_OF: dict[type, int] = {it: number for number, it in enumerate(_KINDS, 1)
 _NO_SPAN = (0, 0)
 # A record without its marks, which no call looks at.
 _RECORD = struct.Struct("=10i8Q48x")
-_SCALAR_STYLES, _STYLES = list(ScalarStyle), list(Style)
 
 # A frozen event's own `__init__` asks at each field whether it may be set; where there are many, that is most of the time.
 _new: Any = object.__new__
@@ -54,7 +53,7 @@ def _scalar(value: str, tag: str | None, anchor: str | None, style: int, plain: 
     _set_value(it, value)
     _set_scalar_tag(it, tag)
     _set_scalar_anchor(it, anchor)
-    _set_scalar_style(it, _SCALAR_STYLES[style])
+    _set_scalar_style(it, SCALAR_STYLES[style])
     _set_plain(it, plain == 1)
     _set_quoted(it, quoted == 1)
     return it
@@ -65,7 +64,7 @@ def _start(kind: type, tag: str | None, anchor: str | None, style: int, implicit
     set_tag, set_anchor, set_style, set_implicit = _FIELDS_OF_START[kind]
     set_tag(it, tag)
     set_anchor(it, anchor)
-    set_style(it, _STYLES[style])
+    set_style(it, STYLES[style])
     set_implicit(it, implicit == 1)
     return it
 

@@ -7,7 +7,7 @@ from dataclasses import dataclass
 from typing import Any, NoReturn, Union, cast
 
 from ._calls import Text, input_of, judge, loadable
-from ._events import Encoding, ScalarStyle, Style
+from ._events import SCALAR_STYLES, STYLES, Encoding, Placed, ScalarStyle, Style
 from ._faults import KeyRefused, ManyDocuments, Mark
 from ._records import ANCHOR, END, START, Records
 
@@ -16,11 +16,13 @@ Loaded = Union[str, list["Loaded"], dict[str, "Loaded"]]
 
 _ALIAS, _DOCUMENT_START, _SCALAR, _SEQUENCE, _MAPPING, _ENDS = 5, 3, 6, 7, 9, (8, 10)
 _STARTS, _MADE = (_SEQUENCE, _MAPPING), (_SCALAR, _SEQUENCE, _MAPPING)
+# A node has its marks as they stand in its record, until they are asked for.
+_new: Any = object.__new__
 _DEFAULT_TAGS = {_SCALAR: "tag:yaml.org,2002:str", _SEQUENCE: "tag:yaml.org,2002:seq", _MAPPING: "tag:yaml.org,2002:map"}
 
 
 @dataclass(slots=True, eq=False)
-class _Node:
+class _Node(Placed):
     """What each node has: its tag, the one of its kind where none is written or `!` alone, and where its tokens stand."""
 
     tag: str
@@ -117,16 +119,15 @@ def _composed(records: Records, text: tuple[bytes, int, int]) -> list[Node]:
     # the sequence or mapping that takes the next node, and in a mapping the key that waits for its value
     here: Any = None
     key: Any = None
-    values, starts, ends = records.values(), records.marks(START), records.marks(END)
-    columns = zip(records.column(0, "2i12x2i"), records.column(ANCHOR, "4Q"), values, starts, ends)
-    for (kind, style, has_anchor, has_tag), spans, value, start, end in columns:
+    columns = zip(records.column(0, "2i12x2i"), records.column(ANCHOR, "4Q16x48s"), records.values())
+    for number, ((kind, style, has_anchor, has_tag), (*spans, places), value) in enumerate(columns):
         if kind in _ENDS:
-            here.end = end
+            here.end = records.mark(number, END)
             here, key = around.pop()
             continue
         if kind in _MADE:
             tag = records.text(*spans[2:]) if has_tag else "!"
-            node = _node(kind, tag, style, value, start, end)
+            node = _node(kind, tag, style, value, places)
         elif kind == _ALIAS:
             node = _named(anchors, records.text(*spans[:2]), text)
         else:
@@ -149,11 +150,17 @@ def _composed(records: Records, text: tuple[bytes, int, int]) -> list[Node]:
     return documents
 
 
-def _node(kind: int, tag: str, style: int, value: str, start: Mark, end: Mark) -> Node:
-    tag = _DEFAULT_TAGS[kind] if tag == "!" else tag
+def _node(kind: int, tag: str, style: int, value: str, places: Any) -> Node:
+    node: Any
     if kind == _SCALAR:
-        return ScalarNode(tag, start, end, value, ScalarStyle(style))
-    return (SequenceNode if kind == _SEQUENCE else MappingNode)(tag, start, end, [], Style(style))
+        node = _new(ScalarNode)
+        node.value, node.style = value, SCALAR_STYLES[style]
+    else:
+        node = _new(SequenceNode if kind == _SEQUENCE else MappingNode)
+        node.value, node.style = [], STYLES[style]
+    node.tag = _DEFAULT_TAGS[kind] if tag == "!" else tag
+    node._places = places
+    return node
 
 
 def _only(documents: list[Any], records: Records) -> Any:

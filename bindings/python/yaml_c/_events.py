@@ -41,8 +41,12 @@ class Style(IntEnum):
     FLOW = 2
 
 
-class _Placed:
-    """What a parsed event has in place of its marks until somebody asks for one: the bytes of both in its record."""
+#: The styles by their numbers.
+SCALAR_STYLES, STYLES = tuple(ScalarStyle), tuple(Style)
+
+
+class Placed:
+    """What has, in place of its marks, the bytes of both in its record, until somebody asks for one."""
 
     __slots__ = ("_places",)
     _places: bytes
@@ -57,7 +61,7 @@ class _Placed:
 
 
 @dataclass(frozen=True, slots=True)
-class _Event(_Placed):
+class _Event(Placed):
     """What each event has: where its tokens stand. Two events are equal also where they stand at different places."""
 
     start: Mark = field(default=_NOWHERE, compare=False, kw_only=True, repr=False)

@@ -4,7 +4,6 @@ from __future__ import annotations
 
 import struct
 from collections.abc import Iterator
-from functools import partial
 from typing import Any
 
 from . import _library
@@ -13,7 +12,6 @@ from ._faults import Mark
 #: Where a record has the span of its anchor, behind it that of its tag, that of its value, and its two marks.
 ANCHOR, VALUE, START, END = 56, 88, 104, 128
 _SIZE = struct.calcsize(_library.EVENT)
-_as_mark: Any = partial(tuple.__new__, Mark)
 
 
 class Records:
@@ -30,14 +28,10 @@ class Records:
         """The text of a span."""
         return self._bytes[at : at + length].decode()
 
-    def column(self, at: int, layout: str) -> Iterator[tuple[int, ...]]:
-        """The numbers of each record from byte `at` on."""
+    def column(self, at: int, layout: str) -> Iterator[tuple[Any, ...]]:
+        """What is so laid out in each record from byte `at` on."""
         behind = _SIZE - at - struct.calcsize("=" + layout)
         return struct.iter_unpack(f"={at}x{layout}{behind}x", self._events)
-
-    def marks(self, at: int) -> Iterator[Mark]:
-        """A mark of each record."""
-        return map(_as_mark, self.column(at, "3Q"))
 
     def values(self) -> list[str]:
         """The value of each record; empty where its kind has none."""

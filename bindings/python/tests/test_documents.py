@@ -84,6 +84,8 @@ class Load(unittest.TestCase):
             yaml_c.load(b"- a\n---\n- *c\n")
         with self.assertRaises(yaml_c.ComposerFault):
             yaml_c.compose_all(b"- &a b\n---\n- *a\n")
+        with self.assertRaises(yaml_c.ComposerFault):
+            yaml_c.load_all(b"- &a b\n---\n- *a\n")
         # the loader meets the alias before it comes to the fault of the parser
         with self.assertRaises(yaml_c.ComposerFault):
             yaml_c.load(b"*a : b\n---\n]")

@@ -6,21 +6,24 @@
 #   where that is set.
 # make library: proves and builds the library for C and what calls C: out/library/libyaml_c.a and libyaml_c.so, whose
 #   header is bindings/c/yaml_c.h. It needs a C compiler and binutils, and a machine with x86-64.
+# make install-library: puts it, its header and yaml_c.pc for pkg-config into PREFIX/lib and PREFIX/include, below DESTDIR where
+#   that is set.
 # make libyaml: builds out/libyaml/libyaml-0.so.2, libyaml's own interface over that library (docs/LIBYAML.md).
 # make install-libyaml: puts it into PREFIX/lib/yaml_round, below DESTDIR where that is set.
 # make libyaml-test: tests it, beside Debian's libyaml and its bindings where they are there (tools/libyaml_test.sh).
 # make bench: the program beside C's libyaml (docs/BENCHMARK.md). It needs python3, a C compiler and libyaml's headers.
 # make bench-counts: the same by counts of instructions; it needs valgrind.
+# make bench-python: the package for Python beside PyYAML. It needs python3 with PyYAML that has libyaml.
 # make docs: writes docs/EDITS.md and the quoted definitions of docs/MEANING.md again, and looks for names in the documents
 #   that are gone; where the program is built and newer than the sources, also docs/man/yaml_cli.1 and completions/ from its
 #   help. It needs python3.
-# make bindings-test: builds the library and runs the C example and Python's tests over it, under AddressSanitizer where that
-#   is there. It needs a C compiler and python3 (3.10).
+# make bindings-test: builds the library, runs the C example and Python's tests over it, under AddressSanitizer where that
+#   is there, and tries both as they are installed. It needs a C compiler and python3 (3.10).
 # make faults: runs the program with every allocation refused in turn, every read, write and open failing, short or
 #   interrupted in turn, and judges each run. It needs glibc, a C compiler and python3.
 # make fuzz SECONDS=60: feeds the program changed texts and judges its answers, beside libyaml's where its header is there.
 #   It needs python3; for libyaml a C compiler too.
-.PHONY: run test program install library libyaml install-libyaml libyaml-test bench bench-counts docs bindings-test faults fuzz
+.PHONY: run test program install library install-library libyaml install-libyaml libyaml-test bench bench-counts bench-python docs bindings-test faults fuzz
 
 PREFIX ?= /usr/local
 program = crates/yaml_cli/out/yaml_cli
@@ -47,6 +50,9 @@ install: program
 library:
 	@tools/library.sh
 
+install-library: library
+	@DESTDIR='$(DESTDIR)' tools/library.sh install '$(PREFIX)'
+
 libyaml: library
 	@tools/libyaml.sh
 
@@ -61,6 +67,9 @@ bench: program
 
 bench-counts: program
 	@python3 bench/run.py $(program) --instructions
+
+bench-python: library
+	@python3 bench/python.py
 
 docs:
 	@tools/meaning.py

@@ -7,12 +7,15 @@
 #
 # The example is linked with the archive and with the shared object; both must write the same, also under ASan and UBSan, with
 # no block left. bindings/c/check.c calls the archive with numbers that mean nothing and with each allocation refused in turn.
-# Python's tests run as they are and, with ASan's library before the C library, once more.
+# Python's tests run as they are and, with ASan's library before the C library, once more. The library is installed into a
+# folder of its own and the example linked with it, by pkg-config where that is there; the package is installed by pip, where
+# that is there, with nothing else at hand.
 set -u
 top=$(cd "$(dirname "$0")/.." && pwd)
 library=$top/out/library
 compiler=${CC:-cc}
-work=$(mktemp -d) || exit 2
+version=$(sed -n 's/.*"\([0-9.]*\) .*/\1/p' "$top/crates/yaml_cli_program/src/version.rt")
+cd "$top" && work=$(mktemp -d) || exit 2
 trap 'rm -rf "$work"' EXIT
 failed=0
 
@@ -69,10 +72,42 @@ has_sanitizer() {
     $compiler -fsanitize=address,undefined -o "$work/empty" "$work/empty.c" 2>/dev/null && "$work/empty" 2>/dev/null
 }
 
+# linked NAME FLAG..: the example, with the header and the library that the flags name and nothing of the repository.
+linked() {
+    local name=$1
+    shift
+    cp "$top/bindings/c/example.c" "$work/example.c"
+    $compiler -Wall -Wextra -Werror -o "$work/$name" "$work/example.c" "$@" || { wrong "example.c doesn't compile as $name"; return 1; }
+}
+
+# installed: the library as `make install-library` leaves it.
+installed() {
+    local at=$work/installed flags name
+    tools/library.sh install "$at" 2>/dev/null && DESTDIR=$work/below tools/library.sh install /opt/it 2>/dev/null ||
+        { wrong "the library can't be installed"; return; }
+    (cd "$at" && find . ! -type d | sort) >"$work/listed"
+    (cd "$work/below/opt/it" && find . ! -type d | sort) | cmp -s - "$work/listed" || wrong "with DESTDIR other files are installed"
+    grep -qx 'prefix=/opt/it' "$work/below/opt/it/lib/pkgconfig/yaml_c.pc" || wrong "yaml_c.pc names DESTDIR"
+    name=$(objdump -p "$at/lib/libyaml_c.so" | sed -n 's/ *SONAME *//p')
+    [[ $name =~ ^libyaml_c\.so\.[0-9]+$ && -f $at/lib/$name ]] || wrong "the shared object's name is ${name:-none}"
+    flags="-I$at/include -L$at/lib -lyaml_c"
+    if command -v pkg-config >/dev/null; then
+        export PKG_CONFIG_PATH=$at/lib/pkgconfig
+        flags=$(pkg-config --cflags --libs yaml_c) || wrong "pkg-config finds no yaml_c"
+        [ "$(pkg-config --modversion yaml_c)" = "$version" ] || wrong "pkg-config tells another version than $version"
+    else
+        say "pkg-config isn't here: yaml_c.pc isn't tried"
+    fi
+    linked installed_shared $flags && LD_LIBRARY_PATH=$at/lib example installed_shared
+    objdump -p "$work/installed_shared" | grep -q "NEEDED  *$name\$" || wrong "the example doesn't need $name"
+    linked installed_archive -I"$at/include" "$at/lib/libyaml_c.a" && example installed_archive
+}
+
 heap=-Wl,--wrap=malloc,--wrap=realloc,--wrap=free
 compile archive example.c "$library/libyaml_c.a" && example archive
 compile shared example.c "$library/libyaml_c.so" -Wl,-rpath,"$library" && example shared
 compile hostile check.c "$library/libyaml_c.a" $heap && hostile hostile
+installed
 if has_sanitizer; then
     sanitized='-fsanitize=address,undefined -fno-sanitize-recover=all'
     compile archive_asan example.c $sanitized "$library/libyaml_c.a" && example archive_asan
@@ -99,6 +134,22 @@ tests() {
     say "Python's tests, $name: $(grep '^Ran ' "$work/$name"): $(tail -1 "$work/$name")"
 }
 
+# packed: the package as pip installs it, without a network and with its own library.
+packed() {
+    "$python" -m pip --version >/dev/null 2>&1 || { say "pip isn't here: the package isn't installed"; return; }
+    "$python" -m pip install -q --disable-pip-version-check --no-index --target "$work/site" "$top/bindings/python" >"$work/pip" 2>&1 ||
+        { wrong "pip doesn't install the package: $(tail -c 2000 "$work/pip")"; return; }
+    local told
+    told=$(cd "$work" && env -u YAML_C_SO PYTHONPATH="$work/site" "$python" -c '
+import os, yaml_c
+here = os.path.dirname(yaml_c.__file__)
+print(yaml_c.__version__, sorted({"libyaml_c.so", "py.typed"} & set(os.listdir(here))), here, yaml_c._library.library._name)
+print(yaml_c.load("a: [b]"), yaml_c.dump({"a": ["b"]}))')
+    [ "$told" = "$version ['libyaml_c.so', 'py.typed'] $work/site/yaml_c $work/site/yaml_c/libyaml_c.so
+{'a': ['b']} b'a:\n- b\n'" ] || wrong "the installed package says: $told"
+    say "the package, installed by pip: run"
+}
+
 # The library that is to be loaded first, where the compiler has it as one: gcc's name, then clang's.
 asan() {
     local name path
@@ -115,6 +166,7 @@ if ! python=$(python3 -c 'import sys; assert sys.version_info >= (3, 10); print(
     wrong "python3 of 3.10 or newer isn't here"
 else
     tests plain
+    packed
     if preload=$(asan); then
         tests asan LD_PRELOAD="$preload" ASAN_OPTIONS=detect_leaks=0 PYTHONMALLOC=malloc
     else

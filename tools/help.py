@@ -122,6 +122,13 @@ def newest_change():
         return f"{NAME} {re.search(r'^## (.+)$', file.read(), re.MULTILINE)[1]}"
 
 
+def version_of_python():
+    """The version that the package for Python states, with the program's name."""
+    with open(f"{TOP}/bindings/python/yaml_c/_version.py", encoding="utf-8") as file:
+        stated = re.search(r'^VERSION = "(.+)"$', file.read(), re.MULTILINE)
+    return f"{NAME} {stated[1]}"
+
+
 def man_page(about, commands):
     lines = [f'.TH {NAME.upper()} 1 "" "{newest_change()}" "User Commands"', ".SH NAME", f"{NAME} \\- {roff(about[0].lower() + about[1:])}"]
     lines.append(".SH SYNOPSIS")
@@ -282,6 +289,9 @@ def main():
         return words != ["--if-built"]
     if version_of(path) != newest_change():
         print(f"help: the program is {version_of(path)}, and CHANGELOG.md begins with {newest_change()}")
+        return 1
+    if version_of_python() != newest_change():
+        print(f"help: bindings/python is {version_of_python()}, and CHANGELOG.md begins with {newest_change()}")
         return 1
     about, commands = commands_of(path)
     differing = []

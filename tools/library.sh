@@ -1,19 +1,59 @@
 #!/bin/bash
-# Proves and builds the C library, as an archive and as a shared object: `make library`.
+# Proves and builds the C library, as an archive and as a shared object: `make library`, and installs it: `make install-library`.
 #
 #     tools/library.sh
+#     tools/library.sh install PREFIX
 #
 # What it stands on is proved side by side, or taken from what the gate and `make program` have kept (tools/program.py). The
 # archive and the shared object have the calls of bindings/c/yaml_c.h and no other symbol, and what they need beside them
 # is the C library's malloc, realloc, free and memory functions. It needs the kit, a C compiler, binutils.
+#
+# The shared object's name is libyaml_c.so.MAJOR, of the repository's version: calls and records stay what they are within it.
+# Installed are it, the archive, the header and yaml_c.pc for pkg-config, below DESTDIR where that is set.
 set -eu
 top=$(cd "$(dirname "$0")/.." && pwd)
 crate=$top/crates/yaml_round_c
 out=$top/out/library
 
+version=$(sed -n 's/.*"\([0-9.]*\) .*/\1/p' "$top/crates/yaml_cli_program/src/version.rt")
+name=libyaml_c.so.${version%%.*}
+
 say() { echo "make library: $*" >&2; }
 
-if "$top/tools/is_built.sh" "$out/libyaml_c.so"; then
+# pkgconfig PREFIX: the description for pkg-config of the library that is installed there.
+pkgconfig() {
+    cat <<END
+prefix=$1
+libdir=\${prefix}/lib
+includedir=\${prefix}/include
+
+Name: yaml_c
+Description: a proved YAML 1.1 engine, parser and emitter
+Version: $version
+Cflags: -I\${includedir}
+Libs: -L\${libdir} -lyaml_c
+END
+}
+
+install_into() {
+    local at=${DESTDIR:-}$1
+    install -d "$at/lib/pkgconfig" "$at/include"
+    install -m 755 "$out/$name" "$at/lib/libyaml_c.so.$version"
+    ln -sf "libyaml_c.so.$version" "$at/lib/$name"
+    ln -sf "$name" "$at/lib/libyaml_c.so"
+    install -m 644 "$out/libyaml_c.a" "$at/lib/libyaml_c.a"
+    install -m 644 "$top/bindings/c/yaml_c.h" "$at/include/yaml_c.h"
+    pkgconfig "$1" >"$at/lib/pkgconfig/yaml_c.pc"
+    chmod 644 "$at/lib/pkgconfig/yaml_c.pc"
+    say "installed into $at: lib/libyaml_c.a, lib/$name, include/yaml_c.h, lib/pkgconfig/yaml_c.pc"
+}
+
+if [ "${1:-}" = install ]; then
+    [ -f "$out/libyaml_c.a" ] && [ -f "$out/$name" ] || { say "out/library isn't there: make library makes it"; exit 1; }
+    install_into "${2:?PREFIX is missing}"
+    exit
+fi
+if "$top/tools/is_built.sh" "$out/$name"; then
     say "out/library/libyaml_c.a and out/library/libyaml_c.so are newer than all sources"
     exit
 fi
@@ -31,8 +71,9 @@ ld -r -o "$work/yaml_c.o" --whole-archive "$crate/out/libyaml_round_c.a" --no-wh
 objcopy --wildcard --keep-global-symbol='yaml_c_*' "$work/yaml_c.o"
 rm -f "$work/libyaml_c.a"
 ar rcs "$work/libyaml_c.a" "$work/yaml_c.o"
-${CC:-cc} -shared -Wl,-z,defs -Wl,-soname,libyaml_c.so -o "$work/libyaml_c.so" "$work/yaml_c.o"
+${CC:-cc} -shared -Wl,-z,defs -Wl,-soname,"$name" -o "$work/$name" "$work/yaml_c.o"
+ln -s "$name" "$work/libyaml_c.so"
 # a source that was edited meanwhile is newer than the library
-touch -d "@$since" "$work/libyaml_c.a" "$work/libyaml_c.so"
-mv "$work/libyaml_c.a" "$work/libyaml_c.so" "$out"
+touch -d "@$since" "$work/libyaml_c.a" "$work/$name"
+mv "$work/libyaml_c.a" "$work/$name" "$work/libyaml_c.so" "$out"
 say "built out/library/libyaml_c.a and out/library/libyaml_c.so; their header is bindings/c/yaml_c.h"

@@ -10,7 +10,7 @@ from typing import Any
 from unittest import mock
 
 import yaml_c
-from yaml_c import _library
+from yaml_c import _calls, _library, _records
 
 HERE = os.path.dirname(os.path.abspath(__file__))
 HEADER = os.path.join(HERE, "..", "..", "c", "yaml_c.h")
@@ -30,6 +30,10 @@ CALLS = [
     lambda: yaml_c.parse(b"%TAG !e! x\n--- !e!a b"),
     lambda: yaml_c.parse(b""),
     lambda: yaml_c.emit(yaml_c.parse(b"[a]")),
+    lambda: yaml_c.load(b"{a: &x [b], c: *x}"),
+    lambda: yaml_c.compose(b"&x [a, *x]"),
+    lambda: yaml_c.check(b"a"),
+    lambda: yaml_c.dump({"a": ["b"]}),
 ]
 REFUSED = [
     lambda: yaml_c.reformat(b"]"),
@@ -38,6 +42,8 @@ REFUSED = [
     lambda: yaml_c.same(b"a", b"["),
     lambda: yaml_c.emit([yaml_c.StreamEnd()]),
     lambda: yaml_c.parse(b"["),
+    lambda: yaml_c.check(b"*a"),
+    lambda: yaml_c.dump("a", yaml_c.Settings(limit=0)),
 ]
 
 
@@ -61,7 +67,8 @@ class Layout(unittest.TestCase):
         numbers = ["style", "encoding", "implicit", "quoted_implicit", "has_anchor", "has_tag", "has_version", "major", "minor"]
         wanted = {name: 4 * at for at, name in enumerate(numbers, 1)}
         wanted |= {name: 40 + 16 * at for at, name in enumerate(["directives", "anchor", "tag", "value"])}
-        wanted |= {"start": 104, "end": 128}
+        wanted |= {"start": _records.START, "end": _records.END}
+        self.assertEqual((_records.ANCHOR, _records.VALUE), (wanted["anchor"], wanted["value"]))
         self.assertEqual({name: int(place) for name, place in places}, wanted)
         self.assertEqual((struct.calcsize(_library.EVENT), struct.calcsize(_library.DIRECTIVE)), (152, 32))
 
@@ -139,6 +146,13 @@ class Blocks(unittest.TestCase):
         many(400)
         self.assertLess(used() - before, 16_000)
 
+    def test_long_blocks_are_copied_in_parts(self) -> None:
+        text = b"%TAG !e! x\n--- [!e!a, 'b', \"c\"]\n"
+        wanted, written = yaml_c.parse(text), yaml_c.reformat(text)
+        for size in (1, 7, 152, 1 << 20):
+            with mock.patch.object(_library, "_AT_ONCE", size):
+                self.assertEqual((yaml_c.parse(text), yaml_c.reformat(text)), (wanted, written), size)
+
     def test_want_of_memory(self) -> None:
         def refuses(answer: Any) -> int:
             found = ctypes.cast(answer, ctypes.POINTER(_library.AnswerRecord)).contents
@@ -149,7 +163,7 @@ class Blocks(unittest.TestCase):
             return 1
 
         with self.assertRaises(yaml_c.MemoryFault) as caught:
-            yaml_c._ask(refuses)
+            _calls.ask(refuses)
         self.assertEqual(str(caught.exception), "memory error: out of memory")
         self.assertIsInstance(caught.exception, MemoryError)
         self.assertEqual((caught.exception.line, caught.exception.context), (None, None))

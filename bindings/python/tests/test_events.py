@@ -1,5 +1,8 @@
 """Events out of texts, and texts out of events."""
 
+import copy
+import dataclasses
+import pickle
 import unittest
 from typing import Any
 
@@ -65,6 +68,19 @@ class Parse(unittest.TestCase):
         self.assertEqual([it.start for it in scalars], [Mark(0, 0, 0), Mark(4, 0, 3)])
         self.assertEqual([it.end for it in scalars], [Mark(2, 0, 1), Mark(7, 0, 6)])
         self.assertEqual((found[-1].start, found[-1].end), (Mark(8, 1, 0), Mark(8, 1, 0)))
+
+    def test_copies(self) -> None:
+        for it in yaml_c.parse(b"%TAG !e! x\n--- &a [!e!b c, *a, {d: }]\n"):
+            for made in (copy.copy(it), pickle.loads(pickle.dumps(it)), dataclasses.replace(it)):
+                self.assertEqual((made, hash(made), repr(made)), (it, hash(it), repr(it)))
+                self.assertEqual((made.start, made.end), (it.start, it.end))
+            self.assertEqual(dataclasses.replace(it, start=Mark(9, 9, 9)).start, Mark(9, 9, 9))
+            with self.assertRaises(dataclasses.FrozenInstanceError):
+                it.start = Mark(0, 0, 0)  # type: ignore[misc]
+            with self.assertRaises(AttributeError):
+                it.middle  # type: ignore[union-attr]
+        self.assertEqual(Scalar("a", start=Mark(1, 2, 3)).start, Mark(1, 2, 3))
+        self.assertEqual(Scalar("a").end, Mark(0, 0, 0))
 
     def test_directives(self) -> None:
         found = yaml_c.parse(b"%YAML 1.1\n%TAG !e! tag:x,2000:\n%TAG !f! y\n--- !e!a b\n...\n--- c\n")

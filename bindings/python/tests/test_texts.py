@@ -92,8 +92,9 @@ class Others(unittest.TestCase):
 
     def test_documented_examples(self) -> None:
         finder = doctest.DocTestFinder(exclude_empty=True)
-        tests = [it for it in finder.find(yaml_c) if it.examples]
-        self.assertGreater(len(tests), 2)
+        modules = (yaml_c, yaml_c._documents, yaml_c._dump)
+        tests = [it for module in modules for it in finder.find(module) if it.examples]
+        self.assertGreater(len(tests), 8)
         runner = doctest.DocTestRunner()
         for it in tests:
             self.assertEqual(runner.run(it).failed, 0, it.name)

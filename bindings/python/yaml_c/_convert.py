@@ -2,13 +2,14 @@
 
 from __future__ import annotations
 
-import ctypes
 import struct
 from collections.abc import Callable
 from typing import Any
 
 from . import _library
 from ._events import (
+    SCALAR_STYLES,
+    STYLES,
     Alias,
     DocumentEnd,
     DocumentStart,
@@ -17,74 +18,99 @@ from ._events import (
     MappingEnd,
     MappingStart,
     Scalar,
-    ScalarStyle,
     SequenceEnd,
     SequenceStart,
     StreamEnd,
     StreamStart,
-    Style,
 )
-from ._faults import Mark
+from ._records import Records
 
-_KINDS = [
+_KINDS: list[type] = [
     StreamStart, StreamEnd, DocumentStart, DocumentEnd, Alias, Scalar, SequenceStart, SequenceEnd, MappingStart, MappingEnd,
 ]  # fmt: skip
 _NUMBER_OF: dict[type, int] = {it: number for number, it in enumerate(_KINDS, 1)}
 _NO_SPAN = (0, 0)
+# A record without its marks, which no call looks at.
+_RECORD = struct.Struct("=10i8Q48x")
+
+# A frozen event's own `__init__` asks at each field whether it may be set; where there are many, that is most of the time.
+_new: Any = object.__new__
 
 
-def _copy(at: int, count: int, size: int) -> bytes:
-    return ctypes.string_at(at, count * size) if count else b""
+def _setters(kind: type, *names: str) -> list[Callable[[Any, Any], None]]:
+    """What sets these fields of an event that nobody has seen yet."""
+    return [getattr(kind, name).__set__ for name in names]
 
 
-class _Reader:
-    """The events of a record of parsed ones; each method makes those of a kind."""
+(_set_places,) = _setters(Scalar, "_places")
+_set_value, _set_scalar_tag, _set_scalar_anchor = _setters(Scalar, "value", "tag", "anchor")
+_set_scalar_style, _set_plain, _set_quoted = _setters(Scalar, "style", "implicit", "quoted_implicit")
+_FIELDS_OF_START = {kind: _setters(kind, "tag", "anchor", "style", "implicit") for kind in (SequenceStart, MappingStart)}
 
-    def __init__(self, parsed: _library.ParsedRecord) -> None:
-        self.records = _copy(parsed.events, parsed.events_len, struct.calcsize(_library.EVENT))
-        self.bytes = parsed.bytes.get()
-        pairs = _copy(parsed.directives, parsed.directives_len, struct.calcsize(_library.DIRECTIVE))
-        it = struct.iter_unpack(_library.DIRECTIVE, pairs)
-        self.tags = [(self.text(*one[:2]), self.text(*one[2:])) for one in it]
 
-    def text(self, at: int, length: int) -> str:
-        return self.bytes[at : at + length].decode()
+def _scalar(value: str, tag: str | None, anchor: str | None, style: int, plain: int, quoted: int) -> Any:
+    it = _new(Scalar)
+    _set_value(it, value)
+    _set_scalar_tag(it, tag)
+    _set_scalar_anchor(it, anchor)
+    _set_scalar_style(it, SCALAR_STYLES[style])
+    _set_plain(it, plain == 1)
+    _set_quoted(it, quoted == 1)
+    return it
 
-    def event(self, record: tuple[int, ...]) -> Event:
-        kind, style, encoding, implicit, quoted, has_anchor, has_tag, has_version, major, minor = record[:10]
-        spans = record[10:18]
-        marks = {"start": Mark(*record[18:21]), "end": Mark(*record[21:24])}
-        anchor = self.text(*spans[2:4]) if has_anchor else None
-        tag = self.text(*spans[4:6]) if has_tag else None
+
+def _start(kind: type, tag: str | None, anchor: str | None, style: int, implicit: int) -> Any:
+    it = _new(kind)
+    set_tag, set_anchor, set_style, set_implicit = _FIELDS_OF_START[kind]
+    set_tag(it, tag)
+    set_anchor(it, anchor)
+    set_style(it, STYLES[style])
+    set_implicit(it, implicit == 1)
+    return it
+
+
+def _made(kind: type, **fields: Any) -> Any:
+    it = _new(kind)
+    for name, value in fields.items():
+        object.__setattr__(it, name, value)
+    return it
+
+
+def unpacked(records: Records) -> list[Event]:
+    """The events of the records. An event has its marks as they stand in its record, until they are asked for."""
+    found: list[Event] = []
+    add, text, tags = found.append, records.text, records.directives()
+    for numbers, value in zip(records.column(0, "10i6Q16x48s"), records.values()):
+        (kind, style, encoding, implicit, quoted, has_anchor, has_tag, has_version, major, minor, first, count,
+         anchor_at, anchor_len, tag_at, tag_len, places) = numbers  # fmt: skip
+        anchor = text(anchor_at, anchor_len) if anchor_len else None
+        tag = text(tag_at, tag_len) if has_tag else None
+        it: Any
         if kind == 6:
-            return Scalar(self.text(*spans[6:8]), tag, anchor, ScalarStyle(style), bool(implicit), bool(quoted), **marks)
-        if kind in (7, 9):
-            start = SequenceStart if kind == 7 else MappingStart
-            return start(tag, anchor, Style(style), bool(implicit), **marks)
-        if kind == 5:
-            return Alias(self.text(*spans[2:4]), **marks)
-        if kind == 3:
-            tags = tuple(self.tags[spans[0] : spans[0] + spans[1]])
-            return DocumentStart(bool(implicit), (major, minor) if has_version else None, tags, **marks)
-        if kind == 4:
-            return DocumentEnd(bool(implicit), **marks)
-        if kind == 1:
-            return StreamStart(Encoding(encoding), **marks)
-        plain: dict[int, Callable[..., Event]] = {2: StreamEnd, 8: SequenceEnd, 10: MappingEnd}
-        return plain[kind](**marks)
-
-
-def unpacked(parsed: _library.ParsedRecord) -> list[Event]:
-    """The events of a record that a call has filled."""
-    reader = _Reader(parsed)
-    return [reader.event(it) for it in struct.iter_unpack(_library.EVENT, reader.records)]
+            it = _scalar(value, tag, anchor, style, implicit, quoted)
+        elif kind == 7 or kind == 9:
+            it = _start(_KINDS[kind - 1], tag, anchor, style, implicit)
+        elif kind == 5:
+            it = _made(Alias, anchor=anchor)
+        elif kind == 4:
+            it = _made(DocumentEnd, implicit=implicit == 1)
+        elif kind == 3:
+            version = (major, minor) if has_version else None
+            it = _made(DocumentStart, implicit=implicit == 1, version=version, tags=tuple(tags[first : first + count]))
+        elif kind == 1:
+            it = _made(StreamStart, encoding=Encoding(encoding))
+        else:
+            it = _new(_KINDS[kind - 1])
+        _set_places(it, places)
+        add(it)
+    return found
 
 
 class Packed:
     """Records of events, the directives that they name, and the bytes that hold their texts."""
 
     def __init__(self) -> None:
-        self.records: list[tuple[int, ...]] = []
+        self.records = bytearray()
         self.directives: list[tuple[int, ...]] = []
         self.bytes = bytearray()
 
@@ -101,8 +127,8 @@ class Packed:
         for handle, prefix in event.tags:
             self.directives.append((*self.span(handle), *self.span(prefix)))
         major, minor = event.version or (0, 0)
-        numbers = {"implicit": event.implicit, "has_version": event.version is not None, "major": major, "minor": minor}
-        self.record(3, directives=(at, len(event.tags)), **numbers)
+        numbers = {"has_version": event.version is not None, "major": major, "minor": minor}
+        self.record(3, implicit=event.implicit, directives=(at, len(event.tags)), **numbers)
 
     def record(
         self,
@@ -120,10 +146,10 @@ class Packed:
         tag: str | None = None,
         value: str | None = None,
     ) -> None:
-        flags = (implicit, quoted, anchor is not None, tag is not None, has_version)
-        numbers = (kind, style, encoding, *flags, major, minor)
+        """One more record. Raises a `struct.error` where a number is none of its field's."""
         spans = (*directives, *self.span(anchor), *self.span(tag), *self.span(value))
-        self.records.append((*map(int, numbers), *spans, *[0] * 6))
+        flags = (implicit, quoted, anchor is not None, tag is not None, has_version)
+        self.records += _RECORD.pack(kind, style, encoding, *flags, major, minor, *spans)
 
     def add(self, event: Event) -> None:
         """One more event."""
@@ -146,6 +172,6 @@ class Packed:
 
     def lists(self) -> tuple[bytes, int, bytes, int, bytes, int]:
         """The three lists as a call takes them, each with its number of items."""
-        records = b"".join(struct.pack(_library.EVENT, *it) for it in self.records)
         directives = b"".join(struct.pack(_library.DIRECTIVE, *it) for it in self.directives)
-        return records, len(self.records), directives, len(self.directives), bytes(self.bytes), len(self.bytes)
+        count = len(self.records) // _RECORD.size
+        return bytes(self.records), count, directives, len(self.directives), bytes(self.bytes), len(self.bytes)

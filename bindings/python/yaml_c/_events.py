@@ -2,6 +2,7 @@
 
 from __future__ import annotations
 
+import struct
 from collections.abc import Sequence
 from dataclasses import dataclass, field
 from enum import IntEnum
@@ -40,27 +41,46 @@ class Style(IntEnum):
     FLOW = 2
 
 
-@dataclass(frozen=True)
-class _Event:
+#: The styles by their numbers.
+SCALAR_STYLES, STYLES = tuple(ScalarStyle), tuple(Style)
+
+
+class Placed:
+    """What has, in place of its marks, the bytes of both in its record, until somebody asks for one."""
+
+    __slots__ = ("_places",)
+    _places: bytes
+
+    def __getattr__(self, name: str) -> Mark:
+        # only a field that isn't set yet comes here
+        if name not in ("start", "end"):
+            raise AttributeError(f"{type(self).__name__!r} object has no attribute {name!r}")
+        mark = Mark(*struct.unpack_from("=3Q", self._places, 0 if name == "start" else 24))
+        object.__setattr__(self, name, mark)
+        return mark
+
+
+@dataclass(frozen=True, slots=True)
+class _Event(Placed):
     """What each event has: where its tokens stand. Two events are equal also where they stand at different places."""
 
     start: Mark = field(default=_NOWHERE, compare=False, kw_only=True, repr=False)
     end: Mark = field(default=_NOWHERE, compare=False, kw_only=True, repr=False)
 
 
-@dataclass(frozen=True)
+@dataclass(frozen=True, slots=True)
 class StreamStart(_Event):
     """The first event. `encoding` is the one that was found; `emit` writes in it where the settings name none."""
 
     encoding: Encoding = Encoding.UTF8
 
 
-@dataclass(frozen=True)
+@dataclass(frozen=True, slots=True)
 class StreamEnd(_Event):
     """The last event."""
 
 
-@dataclass(frozen=True)
+@dataclass(frozen=True, slots=True)
 class DocumentStart(_Event):
     """A document begins. `implicit`: no `---`. `version`: that of a %YAML directive. `tags`: handles and prefixes of %TAG."""
 
@@ -69,21 +89,21 @@ class DocumentStart(_Event):
     tags: Sequence[tuple[str, str]] = ()
 
 
-@dataclass(frozen=True)
+@dataclass(frozen=True, slots=True)
 class DocumentEnd(_Event):
     """A document ends. `implicit`: no `...`."""
 
     implicit: bool = True
 
 
-@dataclass(frozen=True)
+@dataclass(frozen=True, slots=True)
 class Alias(_Event):
     """Stands for the node before it that has the anchor."""
 
     anchor: str
 
 
-@dataclass(frozen=True)
+@dataclass(frozen=True, slots=True)
 class Scalar(_Event):
     """A text. `implicit`, `quoted_implicit`: whether the tag may be left out in plain style, and in the other styles."""
 
@@ -95,7 +115,7 @@ class Scalar(_Event):
     quoted_implicit: bool = True
 
 
-@dataclass(frozen=True)
+@dataclass(frozen=True, slots=True)
 class SequenceStart(_Event):
     """A sequence begins. `implicit`: whether the tag may be left out."""
 
@@ -105,12 +125,12 @@ class SequenceStart(_Event):
     implicit: bool = True
 
 
-@dataclass(frozen=True)
+@dataclass(frozen=True, slots=True)
 class SequenceEnd(_Event):
     """It ends."""
 
 
-@dataclass(frozen=True)
+@dataclass(frozen=True, slots=True)
 class MappingStart(_Event):
     """A mapping begins: keys and values follow by turns. `implicit`: whether the tag may be left out."""
 
@@ -120,7 +140,7 @@ class MappingStart(_Event):
     implicit: bool = True
 
 
-@dataclass(frozen=True)
+@dataclass(frozen=True, slots=True)
 class MappingEnd(_Event):
     """It ends."""
 

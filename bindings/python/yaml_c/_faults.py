@@ -119,6 +119,31 @@ class ArgumentRefused(ValueError):
     """A number means nothing: no text was looked at."""
 
 
+class LoadRefused(ValueError):
+    """The text's documents load, but can't be given as they were asked for."""
+
+    #: Where it can't be.
+    mark: Mark
+
+    _PROBLEM = ""
+
+    def __init__(self, mark: Mark) -> None:
+        super().__init__(f"{self._PROBLEM} (line {mark.line + 1}, column {mark.column + 1})")
+        self.mark = mark
+
+
+class KeyRefused(LoadRefused):
+    """A key is a list or a dict, which no dict takes."""
+
+    _PROBLEM = "a key is a sequence or a mapping, and a dict takes none"
+
+
+class ManyDocuments(LoadRefused):
+    """There is more than one document; the place is where the second one begins."""
+
+    _PROBLEM = "there is more than one document"
+
+
 CLASS_OF: dict[Kind, type[YamlFault]] = {
     Kind.MEMORY: MemoryFault,
     Kind.READER: ReaderFault,

@@ -16,6 +16,15 @@ EVENT = "=10i14Q"
 DIRECTIVE = "=4Q"
 
 
+# `string_at` takes an int of C.
+_AT_ONCE = 1 << 30
+
+
+def copied(at: int, size: int) -> bytes:
+    """A copy of so many bytes from an address on."""
+    return b"".join([ctypes.string_at(at + it, min(_AT_ONCE, size - it)) for it in range(0, size, _AT_ONCE)])
+
+
 class Bytes(ctypes.Structure):
     """Bytes at an address."""
 
@@ -23,7 +32,7 @@ class Bytes(ctypes.Structure):
 
     def get(self) -> bytes:
         """A copy of them."""
-        return ctypes.string_at(self.at, self.len) if self.len else b""
+        return copied(self.at, self.len)
 
 
 class MarkRecord(ctypes.Structure):

@@ -52,7 +52,8 @@ pub fn load_mapping(
 // A copy of the value, where there is one.
 fn copied(alloc: Global, value: Option<&[u8]>) -> Result<Option<Vec<u8>>, LookupError>
     ensures ok { IfOk result (λ copy. bytes_of copy ≡ option_map (λ t. t.now) value.entry) }
-    ensures err { IfErr result (λ e. (e ≡ CopyRefused) × (is_some (option_map (λ t. t.now) value.entry) ≡ true)) }
+    ensures err { IfErr result (λ e. (e ≡ CopyRefused)
+        × (is_some (option_map (λ t. t.now) value.entry) ≡ true)) }
 {
     match value {
         None => Ok(None),

@@ -51,6 +51,14 @@ TakesFew before after limit Read = TakesAtMost before after limit
 TakesFew before after limit (Yaml fault) = TakesAtMost before after limit
 TakesFew before after limit (Write written) = TakesAtMost before after limit
 
+-- The same of a run, told by its answer.
+abbrev pub RunTakes : {F : Type 0} → (before after : ℕ) → ℕ → Result F yaml_run_fault_t → Type 0
+RunTakes before after limit (Err TooLong) = after ≡ counted before (limit + 1)
+RunTakes before after limit (Err Read) = TakesAtMost before after limit
+RunTakes before after limit (Err (Yaml fault)) = TakesAtMost before after limit
+RunTakes before after limit (Err (Write written)) = TakesAtMost before after limit
+RunTakes before after limit (Ok form) = TakesAtMost before after limit
+
 -- what a run is to do: how many bytes it may read, in which layers memory may run out, and what answers an input
 pub record Work (F : Type 0) : Type 1 where
   pub limit : ℕ

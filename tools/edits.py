@@ -101,6 +101,8 @@ def why_none(it):
         return "it lends the one place that it can lend; what stands there is turned at the calls that answer faults"
     if it.name == "document_is_sound":
         return "a law: its body reads a field for the clause and does nothing"
+    if it.name.endswith("_delete") and not it.contract():
+        return "it takes what it frees and answers nothing, so that no clause can speak of it"
     return "" if it.contract() else "no clause"
 
 

@@ -14,7 +14,7 @@ use Rattle.yaml_parse.specs.Resolve.{Reading}
 use Rattle.yaml_parse.specs.parse_laws_trees.Places.{FaultOfTokens}
 use Rattle.yaml_parse.specs.parse_laws_trees.Given.{EventsOfTokens}
 use Rattle.yaml_cli_lookup.specs.declared.error.LookupError.{LookupError}
-use Rattle.yaml_cli_lookup.specs.declared.error.LookupError.TheVariants.{Unreadable, NotAMapping, OutOfMemory}
+use Rattle.yaml_cli_lookup.specs.declared.error.LookupError.TheVariants.{Unreadable, NotAMapping, OutOfMemory, CopyRefused}
 use Rattle.yaml_cli_lookup.specs.Errors.{IsErrorOf}
 use Rattle.yaml_cli_lookup.specs.Lookup.{IsDue}
 use Rattle.yaml_cli_lookup.specs.Input.{tokens_of, IsReadingOf, outcome, IsFirstDocument}
@@ -67,4 +67,5 @@ due First f (Unreadable g) h k = elim k [
   | inr p ↦ subst (λ (z : yaml_fault_t). First (Err (fault_of z))) (sym h.0) p
 ]
 due First f NotAMapping h k = absurd h
-due First f OutOfMemory h k = tt
+due First f (OutOfMemory g) h k = subst (λ (z : yaml_fault_t). IsDue First (OutOfMemory z)) (sym h.0) (h.1, k)
+due First f CopyRefused h k = absurd h

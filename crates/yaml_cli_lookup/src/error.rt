@@ -14,9 +14,12 @@ pub enum LookupError {
     /// There is no document, or its root isn't a mapping.
     #[error("the root is not a mapping")]
     NotAMapping,
-    /// A growth was refused.
+    /// Memory was refused while the first document was read: the fault names the layer.
+    #[error("{}", .0.problem)]
+    OutOfMemory(yaml_fault_t),
+    /// Memory was refused for the copy of the value.
     #[error("out of memory")]
-    OutOfMemory,
+    CopyRefused,
 }
 
 /// The error that a load's fault is.
@@ -24,7 +27,7 @@ pub(crate) fn error_of(fault: yaml_fault_t) -> LookupError
     ensures { IsErrorOf fault result }
 {
     match fault.kind {
-        yaml_error_type_t::YAML_MEMORY_ERROR => LookupError::OutOfMemory,
+        yaml_error_type_t::YAML_MEMORY_ERROR => LookupError::OutOfMemory(fault),
         _ => LookupError::Unreadable(fault),
     }
 }

@@ -1,10 +1,10 @@
 //! The first document of an input, and a value in it.
 
-ghost use Rattle.std.specs.Prelude.{◌≡◌, option_map, IfOk, IfErr};
+ghost use Rattle.std.specs.Prelude.{◌≡◌, true, is_some, option_map, IfOk, IfErr};
 ghost use Rattle.yaml_scan.specs.Faults.{Answers, load_layers};
-ghost use Rattle.yaml_cli_lookup.specs.declared.error.LookupError.TheVariants.{OutOfMemory};
+ghost use Rattle.yaml_cli_lookup.specs.declared.error.LookupError.TheVariants.{CopyRefused};
 ghost use Rattle.yaml_cli_lookup.specs.Input.{IsFirstDocument};
-ghost use Rattle.yaml_cli_lookup.specs.Lookup.{IsFirstMapping, IsDue, IsValueFound, bytes_of};
+ghost use Rattle.yaml_cli_lookup.specs.Lookup.{IsFirstMapping, IsDue, IsDueOf, IsValueFound, bytes_of};
 
 use crate::error::{LookupError, error_of};
 use crate::value::{has_mapping, value_of};
@@ -52,13 +52,14 @@ pub fn load_mapping(
 // A copy of the value, where there is one.
 fn copied(alloc: Global, value: Option<&[u8]>) -> Result<Option<Vec<u8>>, LookupError>
     ensures ok { IfOk result (λ copy. bytes_of copy ≡ option_map (λ t. t.now) value.entry) }
-    ensures err { IfErr result (λ e. e ≡ OutOfMemory) }
+    ensures err { IfErr result (λ e. (e ≡ CopyRefused)
+        × (is_some (option_map (λ t. t.now) value.entry) ≡ true)) }
 {
     match value {
         None => Ok(None),
         Some(value) => match Vec::from_slice(alloc, value) {
             Ok(copy) => Ok(Some(copy)),
-            Err(_) => Err(LookupError::OutOfMemory),
+            Err(_) => Err(LookupError::CopyRefused),
         },
     }
 }
@@ -71,7 +72,7 @@ pub fn lookup(
     key: &[u8],
 ) -> Result<Option<Vec<u8>>, LookupError>
     ensures ok { IfOk result (IsValueFound (IsFirstDocument encoding input.now) key.now) }
-    ensures err { IfErr result (IsDue (IsFirstDocument encoding input.now)) }
+    ensures err { IfErr result (IsDueOf (IsFirstDocument encoding input.now) key.now) }
 {
     match load_mapping(alloc, input, encoding) {
         Err(error) => Err(error),

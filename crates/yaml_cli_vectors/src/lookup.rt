@@ -8,7 +8,9 @@ fn put_error(reply: &mut Reply, error: LookupError) {
     match error {
         LookupError::Unreadable(fault) => reply.fault(fault),
         LookupError::NotAMapping => reply.refusal("NotAMapping"),
-        LookupError::OutOfMemory => reply.refuse(VectorError::Memory),
+        LookupError::OutOfMemory(_) | LookupError::CopyRefused => {
+            reply.refuse(VectorError::Memory)
+        }
     }
 }
 

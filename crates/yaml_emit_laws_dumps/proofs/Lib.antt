@@ -1,4 +1,5 @@
 pub mod Passing
+mod LookingBack
 pub mod Naming
 pub mod Contents
 pub mod Loading

@@ -1,6 +1,7 @@
 pub mod StreamsLaws
 pub mod Dumps
 pub mod DumpsLaws
+pub mod LookBack
 -- what it stands on, for crates that name this one alone
 pub use Rattle.yaml_emit_graph.specs as emit_graph
 pub use Rattle.yaml_emit_graph.specs.emit_layout

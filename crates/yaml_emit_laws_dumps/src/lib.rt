@@ -13,5 +13,6 @@ pub use dumps_laws::{
 };
 pub use streams_laws::{
     dumped_streams_are_right, dumps_are_right, loads_are_right, passed_are_fronts,
-    passed_are_streams, right_streams_have_texts, steps_keep_right, taken_are_right,
+    passed_are_streams, refusal_looks_back, right_streams_have_texts, steps_keep_right,
+    taken_are_right,
 };

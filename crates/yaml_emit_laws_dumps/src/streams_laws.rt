@@ -1,5 +1,6 @@
 //! Each function's contract is a law.
 
+ghost use Rattle.yaml_emit_laws_dumps.specs.LookBack.{RefusalLooksBack};
 ghost use Rattle.yaml_emit_laws_dumps.specs.StreamsLaws.{DumpedStreamsAreRight, DumpsAreRight, LoadsAreRight, PassedAreFronts, PassedAreStreams, RightStreamsHaveTexts, StepsKeepRight, TakenAreRight};
 
 /// A list of events of which none is refused, and which ends the stream, is a stream's in which nothing is wrong.
@@ -40,4 +41,9 @@ pub fn steps_keep_right()
 /// A document that is loaded of such events is right, and the events behind it are such.
 pub fn loads_are_right()
     ensures { LoadsAreRight }
+{}
+
+/// The event that is refused first is told by looking back over the events in front of it.
+pub fn refusal_looks_back()
+    ensures { RefusalLooksBack }
 {}

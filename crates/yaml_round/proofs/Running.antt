@@ -12,7 +12,7 @@ use Rattle.yaml_round_device.specs.declared.yaml_command_t.{yaml_command_t}
 use Rattle.yaml_round_device.specs.declared.yaml_command_t.TheVariants.{Fmt, Docs, Events}
 use Rattle.yaml_round_device.specs.declared.yaml_run_fault_t.{yaml_run_fault_t}
 use Rattle.yaml_round_device.specs.declared.yaml_run_fault_t.TheVariants as fault
-use Rattle.yaml_round_device.specs.Run.{GivesAll, IsReadFault, Work, Runs, FailsBy}
+use Rattle.yaml_round_device.specs.Run.{GivesAll, IsReadFault, TakesFew, RunTakes, Work, Runs, FailsBy}
 use Rattle.yaml_round.specs.Commands.{IsRunAnswer, run_layers}
 
 abbrev pub work_of : yaml_command_t → yaml_encoding_t → yaml_settings_t → ℕ → Work (Option yaml_form_t)
@@ -38,6 +38,12 @@ unread_failures to_come limit before after output fault.Read h = (h, refl)
 unread_failures to_come limit before after output fault.TooLong h = (h.0, refl)
 unread_failures to_come limit before after output (fault.Yaml f) h = (h.0, refl)
 unread_failures to_come limit before after output (fault.Write written) h = absurd h
+
+pub unread_taken : (before after limit : ℕ) (why : yaml_run_fault_t) → TakesFew before after limit why → RunTakes {F = Option yaml_form_t} before after limit (Err why)
+unread_taken before after limit fault.Read h = h
+unread_taken before after limit fault.TooLong h = h
+unread_taken before after limit (fault.Yaml f) h = h
+unread_taken before after limit (fault.Write written) h = h
 
 -- the input was refused
 pub refused : (command : yaml_command_t) (from : yaml_encoding_t) (settings : yaml_settings_t) (limit : ℕ) (to_come left received : Option (List ℕ)) (input : List ℕ) (f : yaml_fault_t)

@@ -1,7 +1,7 @@
 //! A run over devices: it reads to the end, works, and then writes.
 
 ghost use Rattle.std.specs.Prelude.{◌≡◌, true, IfErr, OnOk};
-ghost use Rattle.yaml_round_device.specs.Run.{Runs, FailsBy, IsBeforeWriting};
+ghost use Rattle.yaml_round_device.specs.Run.{Runs, RunTakes, FailsBy, IsBeforeWriting};
 ghost use Rattle.yaml_scan_model.specs.Faults.{Answers};
 ghost use Rattle.yaml_round_writing.specs.Answers.{text_and_maybe_form};
 ghost use Rattle.yaml_round.specs.Commands.{IsRunAnswer, run_layers};
@@ -63,6 +63,8 @@ pub fn yaml_run<I: yaml_input_t, O: yaml_output_t>(
         })
         (record { to_come = I.to_come input.old; received = O.received output.old })
         (record { to_come = I.to_come input.new; received = O.received output.new }) result }
+    // No byte is taken behind the one past the limit, whether or not the input tells its bytes.
+    ensures taken { RunTakes (I.given input.old) (I.given input.new) input_limit result }
     // After a whole answer the output is finished.
     ensures finished { OnOk result (O.is_finished output.new ≡ true) }
     ensures failures { FailsBy

@@ -1,1 +1,2 @@
 mod Failing
+mod Counting

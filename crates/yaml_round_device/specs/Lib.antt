@@ -1,3 +1,4 @@
+pub mod Counts
 pub mod StdDevices
 pub mod Run
 pub mod FaultLine

@@ -1,8 +1,9 @@
 -- What a run over devices does, told by its answer.
-use Rattle.std.specs.Prelude.{◌≡◌, ◌⊎◌, ℕ, ◌<◌, ◌≤◌, Bool, true, List, take, length, Option, IfSome, Result, Ok, Err}
+use Rattle.std.specs.Prelude.{◌≡◌, ◌⊎◌, ℕ, ◌+◌, ◌<◌, ◌≤◌, Bool, true, List, take, length, Option, IfSome, Result, Ok, Err}
 use Rattle.std.specs.Io.KnownBytes.{Keeps, Appends, Consumes, IsAtEnd}
 use Rattle.yaml_scan_types.specs.declared.yaml_origin_t.{yaml_origin_t}
 use Rattle.yaml_scan_types.specs.declared.yaml_origin_t.TheVariants.{Reader}
+use Rattle.yaml_round_device.specs.Counts.{counted}
 use Rattle.yaml_round_device.specs.declared.read_all.Cause.{Cause}
 use Rattle.yaml_round_device.specs.declared.read_all.Cause.TheVariants as cause
 use Rattle.yaml_round_device.specs.declared.run_fault.yaml_run_fault_t.{yaml_run_fault_t}
@@ -31,6 +32,32 @@ IsReadFault to_come before after limit TooLong = (after ≡ before)
 IsReadFault to_come before after limit (Yaml fault) = (after ≡ before)
     × (fault_of fault ≡ memory_fault Reader)
 IsReadFault to_come before after limit (Write written) = ⊥
+
+-- at most so many bytes were taken
+abbrev pub TakesAtMost : (before after : ℕ) → ℕ → Type 0
+TakesAtMost before after limit = (n : ℕ) × (n ≤ limit) × (after ≡ counted before n)
+
+-- how many bytes were taken, before it is told as a fault
+abbrev pub CausedBy : (before after : ℕ) → ℕ → Cause → Type 0
+CausedBy before after limit cause.TooLong = after ≡ counted before (limit + 1)
+CausedBy before after limit cause.Failed = TakesAtMost before after limit
+CausedBy before after limit cause.NoMemory = TakesAtMost before after limit
+
+-- How many bytes were taken of an input that wasn't read to the end: of one that is too long one more than the limit, otherwise
+-- at most the limit.
+abbrev pub TakesFew : (before after : ℕ) → ℕ → yaml_run_fault_t → Type 0
+TakesFew before after limit TooLong = after ≡ counted before (limit + 1)
+TakesFew before after limit Read = TakesAtMost before after limit
+TakesFew before after limit (Yaml fault) = TakesAtMost before after limit
+TakesFew before after limit (Write written) = TakesAtMost before after limit
+
+-- The same of a run, told by its answer.
+abbrev pub RunTakes : {F : Type 0} → (before after : ℕ) → ℕ → Result F yaml_run_fault_t → Type 0
+RunTakes before after limit (Err TooLong) = after ≡ counted before (limit + 1)
+RunTakes before after limit (Err Read) = TakesAtMost before after limit
+RunTakes before after limit (Err (Yaml fault)) = TakesAtMost before after limit
+RunTakes before after limit (Err (Write written)) = TakesAtMost before after limit
+RunTakes before after limit (Ok form) = TakesAtMost before after limit
 
 -- what a run is to do: how many bytes it may read, in which layers memory may run out, and what answers an input
 pub record Work (F : Type 0) : Type 1 where

@@ -1,7 +1,8 @@
 //! The reading of an input to its end.
 
-ghost use Rattle.std.specs.Prelude.{◌≡◌, IfOk, IfErr, OnOk};
-ghost use Rattle.yaml_round_device.specs.Run.{GivesAll, IsCause, IsReadFault};
+ghost use Rattle.std.specs.Prelude.{◌≡◌, length, IfOk, IfErr, OnOk};
+ghost use Rattle.yaml_round_device.specs.Counts.{counted};
+ghost use Rattle.yaml_round_device.specs.Run.{GivesAll, IsCause, IsReadFault, CausedBy, TakesFew};
 
 use crate::device::yaml_input_t;
 use crate::run_fault::yaml_run_fault_t;
@@ -29,6 +30,9 @@ fn read_to_end<I: yaml_input_t>(
     ensures sound { OnOk result (I.has_failed input.new ≡ I.has_failed input.old) }
     ensures cause { IfErr result (IsCause (I.to_come input.old) (I.has_failed input.old)
         (I.has_failed input.new) input_limit) }
+    ensures count { IfOk result (λ bytes. I.given input.new
+        ≡ counted (I.given input.old) (length bytes.items)) }
+    ensures few { IfErr result (CausedBy (I.given input.old) (I.given input.new) input_limit) }
 {
     let mut bytes = Vec::new(alloc);
     let mut piece = [0u8; 4096];
@@ -64,6 +68,10 @@ pub fn yaml_read_all<I: yaml_input_t>(
     ensures sound { OnOk result (I.has_failed input.new ≡ I.has_failed input.old) }
     ensures cause { IfErr result (IsReadFault (I.to_come input.old) (I.has_failed input.old)
         (I.has_failed input.new) input_limit) }
+    // No byte is taken behind the one past the limit, whether or not the input tells its bytes.
+    ensures count { IfOk result (λ bytes. I.given input.new
+        ≡ counted (I.given input.old) (length bytes.items)) }
+    ensures few { IfErr result (TakesFew (I.given input.old) (I.given input.new) input_limit) }
 {
     match read_to_end(alloc, input, input_limit) {
         Ok(bytes) => Ok(bytes),

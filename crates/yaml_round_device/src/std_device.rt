@@ -2,7 +2,7 @@
 
 ghost use Rattle.std.specs.Prelude.{◌≡◌, ◌≤◌, ◌<◌, true, false, length, take, IfOk, OnErr, MatchResult};
 ghost use Rattle.std.specs.Io.KnownBytes.{Keeps, Consumes, Appends, IsAtEnd};
-ghost use Rattle.yaml_round_device.specs.StdDevices.{input_inner, input_failed, output_inner, output_failed, output_finished};
+ghost use Rattle.yaml_round_device.specs.StdDevices.{input_inner, input_given, input_failed, output_inner, output_failed, output_finished};
 
 use crate::device::{yaml_device_fault_t, yaml_input_t, yaml_output_t};
 use std::io::{ErrorKind, Read, Write};
@@ -15,17 +15,21 @@ const TRIES: u32 = 1000;
 #[derive(Drop)]
 pub struct yaml_std_input_t<R> {
     inner: R,
+    // How many bytes it has given, of which `u64::MAX` are counted.
+    given: u64,
     has_failed: bool,
 }
 
 impl<R> yaml_std_input_t<R> {
-    /// The input over that reader, which hasn't failed.
+    /// The input over that reader, which has given nothing and hasn't failed.
     pub fn new(inner: R) -> Self
         ensures inner { input_inner result ≡ inner }
+        ensures count { input_given result ≡ 0 }
         ensures sound { input_failed result ≡ false }
     {
         yaml_std_input_t {
             inner,
+            given: 0,
             has_failed: false,
         }
     }
@@ -41,10 +45,13 @@ impl<R> yaml_std_input_t<R> {
 impl<R: Read> yaml_input_t for yaml_std_input_t<R> {
     ghost to_come = { λ d. R.remaining (input_inner d) };
 
+    ghost given = { input_given };
+
     ghost has_failed = { input_failed };
 
     fn get(&mut self, buf: &mut [u8]) -> Result<usize, yaml_device_fault_t> {
         let got = read_tried_again(&mut self.inner, buf);
+        self.given = self.given.saturating_add(got.unwrap_or(0) as u64);
         self.has_failed |= got.is_err();
         got
     }
@@ -111,6 +118,9 @@ impl<W: Write> yaml_output_t for yaml_std_output_t<W> {
     ghost is_finished = { output_finished };
 
     fn put(&mut self, piece: &[u8]) -> Result<usize, yaml_device_fault_t> {
+        if piece.is_empty() {
+            return Ok(0);
+        }
         let taken = write_tried_again(&mut self.inner, piece);
         self.is_finished = false;
         self.has_failed |= taken.is_err();
@@ -125,8 +135,7 @@ impl<W: Write> yaml_output_t for yaml_std_output_t<W> {
     }
 }
 
-// One write of a piece, tried again where it is interrupted. A piece that has bytes and of which
-// none is taken is a failure.
+// One write of a piece that has bytes, tried again where it is interrupted. Where none is taken it is a failure.
 fn write_tried_again<W: Write>(writer: &mut W, piece: &[u8]) -> Result<usize, yaml_device_fault_t>
     ensures bound { IfOk result (λ n. n ≤ length piece.now) }
     ensures some { IfOk result (λ n. 0 < length piece.now → 0 < n) }
@@ -134,9 +143,6 @@ fn write_tried_again<W: Write>(writer: &mut W, piece: &[u8]) -> Result<usize, ya
         (take n piece.now)) }
     ensures err { OnErr result (Keeps (W.contents writer.old) (W.contents writer.new)) }
 {
-    if piece.is_empty() {
-        return Ok(0);
-    }
     for _ in 0..TRIES {
         match writer.write(piece) {
             Ok(0) => return Err(yaml_device_fault_t),

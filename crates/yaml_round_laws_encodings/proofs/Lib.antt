@@ -2,3 +2,4 @@ mod Tokens
 mod Events
 mod Joining
 mod Spelled
+mod Texts

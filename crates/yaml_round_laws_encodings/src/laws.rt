@@ -1,6 +1,7 @@
 //! Each function's contract is a law.
 
 ghost use Rattle.yaml_round_laws_encodings.specs.Laws.{CharactersAreEnough, EncodingsDoNotMatter};
+ghost use Rattle.yaml_round_laws_encodings.specs.Texts.{NoTextHasNoToken, ReadingIsOfText, TokensAreOfText};
 
 /// Bytes that spell the same text, in UTF-8 or UTF-16, behind a byte order mark or without one, say the same, and where they are
 /// refused, they are so by the same fault at the same place.
@@ -12,4 +13,11 @@ pub fn encodings_do_not_matter()
 /// where none is named and no mark stands first.
 pub fn characters_are_enough()
     ensures { CharactersAreEnough }
+{}
+
+/// What an input says is what the text says that its bytes spell; bytes that spell none are refused by the reader.
+pub fn texts_are_read()
+    ensures tokens { TokensAreOfText }
+    ensures none { NoTextHasNoToken }
+    ensures reading { ReadingIsOfText }
 {}

@@ -3,4 +3,4 @@
 
 mod laws;
 
-pub use laws::{characters_are_enough, encodings_do_not_matter};
+pub use laws::{characters_are_enough, encodings_do_not_matter, texts_are_read};

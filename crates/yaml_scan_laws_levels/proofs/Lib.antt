@@ -11,3 +11,4 @@ pub mod Walking
 pub mod RowOfBlocks
 pub mod RowOfKeys
 pub mod Signing
+pub mod LookingBack

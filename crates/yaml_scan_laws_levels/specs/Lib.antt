@@ -9,3 +9,4 @@ pub mod Steps
 pub mod Walks
 pub mod Rows
 pub mod Signs
+pub mod LookBack

@@ -1,10 +1,11 @@
 //! Laws of texts with block levels, required keys and keys of several words: what each lexeme
 //! makes of levels, entries and
-//! candidates, and how BLOCK-END tokens come out. No code.
+//! candidates, how BLOCK-END tokens come out, and that a text's tokens are those that looking back gives. No code.
 #![tactic(auto)]
 
 mod ends;
 mod keys;
+mod look_back;
 mod pushes;
 mod rows;
 mod signs;
@@ -16,6 +17,7 @@ mod white;
 
 pub use ends::{end_is_read, start_stands};
 pub use keys::{key_begins, key_ends, key_goes_on};
+pub use look_back::offline_looks_back;
 pub use pushes::{
     inside_leaves, left_closes, mark_is_read, met_is_read, outer_is_read, right_leaves,
     word_is_read,

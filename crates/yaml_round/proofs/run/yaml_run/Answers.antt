@@ -3,7 +3,7 @@ use Rattle.std.proofs.Common.{◌⊎◌, ◌≤◌, subst, refl, length, take, �
 use Rattle.std.specs.Io.KnownBytes.{Appends}
 use Rattle.yaml_scan_model.specs.Faults.{fault_of, IsMemoryFault}
 use Rattle.yaml_round.specs.Commands.{IsRunAnswer, run_layers}
-use Rattle.yaml_round.proofs.Running.{unread, unread_failures, refused, told, told_in_part}
+use Rattle.yaml_round.proofs.Running.{unread, unread_failures, unread_taken, refused, told, told_in_part}
 use Rattle.yaml_round.proofs.run.yaml_run.Goals as goal
 
 pub returns-in-Err-clause-untouched : goal.returns-in-Err-clause-untouched
@@ -65,3 +65,15 @@ returns-clause-runs g c =
 
 pub returns-clause-failures : goal.returns-clause-failures
 returns-clause-failures g c = (c.in-Ok.ensures.sound, c.in-Err-yaml_write_all.ensures.failed)
+
+pub returns-in-Err-clause-taken : goal.returns-in-Err-clause-taken
+returns-in-Err-clause-taken g c = unread_taken (g.I.yaml_input_t.given c.args.input.now) (g.I.yaml_input_t.given c.yaml_read_all.new.input) c.args.input_limit c.in-Err.fault c.in-Err.ensures.few
+
+pub returns-in-Err-answer_of-clause-taken : goal.returns-in-Err-answer_of-clause-taken
+returns-in-Err-answer_of-clause-taken g c = (length c.in-Ok.bytes.items, c.in-Ok.ensures.all.within, c.in-Ok.ensures.count)
+
+pub returns-in-Ok-yaml_write_all-clause-taken : goal.returns-in-Ok-yaml_write_all-clause-taken
+returns-in-Ok-yaml_write_all-clause-taken g c = (length c.in-Ok.bytes.items, c.in-Ok.ensures.all.within, c.in-Ok.ensures.count)
+
+pub returns-clause-taken : goal.returns-clause-taken
+returns-clause-taken g c = (length c.in-Ok.bytes.items, c.in-Ok.ensures.all.within, c.in-Ok.ensures.count)

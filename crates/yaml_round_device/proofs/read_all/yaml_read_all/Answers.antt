@@ -15,3 +15,18 @@ returns-in-Err-TooLong-clause-cause g c = rw c.in-Err-TooLong.field-0-is at c.in
 
 pub returns-in-Err-NoMemory-clause-cause : goal.returns-in-Err-NoMemory-clause-cause
 returns-in-Err-NoMemory-clause-cause g c = (rw c.in-Err-NoMemory.field-0-is at c.in-Err-NoMemory.ensures.cause, c.yaml_memory_fault-fault.ensures)
+
+pub returns-in-Ok-clause-few : goal.returns-in-Ok-clause-few
+returns-in-Ok-clause-few g c = tt
+
+pub returns-in-Ok-clause-count : goal.returns-in-Ok-clause-count
+returns-in-Ok-clause-count g c = c.in-Ok.ensures.count
+
+pub returns-in-Err-Failed-clause-few : goal.returns-in-Err-Failed-clause-few
+returns-in-Err-Failed-clause-few g c = rw c.in-Err-Failed.field-0-is at c.in-Err-Failed.ensures.few
+
+pub returns-in-Err-TooLong-clause-few : goal.returns-in-Err-TooLong-clause-few
+returns-in-Err-TooLong-clause-few g c = rw c.in-Err-TooLong.field-0-is at c.in-Err-TooLong.ensures.few
+
+pub returns-in-Err-NoMemory-clause-few : goal.returns-in-Err-NoMemory-clause-few
+returns-in-Err-NoMemory-clause-few g c = rw c.in-Err-NoMemory.field-0-is at c.in-Err-NoMemory.ensures.few

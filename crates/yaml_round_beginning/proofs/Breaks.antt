@@ -1,6 +1,6 @@
 -- Where a value has a break, and how it ends.
-use Rattle.std.proofs.Common.{◌≡◌, ◌∙◌, ℕ, ◌<◌, ◌+◌, ◌-◌, ◌==◌, List, [], ◌∷◌, length, get_or, Bool, true, false, refl, sym, ap, arith, inl, inr, add-one}
-use Rattle.std.specs.Prelude.{zero, suc}
+use Rattle.std.proofs.Common.{◌≡◌, ◌∙◌, ℕ, ◌<◌, ◌+◌, ◌-◌, ◌==◌, List, [], ◌∷◌, length, get_or, Bool, true, false, refl, sym, ap, subst, arith, inl, inr, add-one}
+use Rattle.std.specs.Prelude.{zero, suc, ◌&&◌}
 use Rattle.std.proofs.lemmas.Bool.{cases_eq}
 use Rattle.std.proofs.Math.Bool.{or-true}
 use Rattle.std.proofs.lemmas.Bool.Decides.{nat_tests}
@@ -33,3 +33,12 @@ pub last_none : (before : ℕ) (xs : List ℕ) → (length xs == 0) ≡ true →
 unfolding last_or
 last_none before [] h = refl
 last_none before (x ∷ xs) h = absurd (grind (arith, nat_tests, h))
+
+-- one place more of a row
+pub row_more : (p : ℕ → Bool) (at n : ℕ) (all one : Bool) → (all ≡ true → any_below at p ≡ false → any_below (at + n) p ≡ false) → (one ≡ true → p (at + n) ≡ false)
+    → (all && one) ≡ true → any_below at p ≡ false → any_below (at + (n + 1)) p ≡ false
+row_more p at n true true h k e none =
+    let on : (at + n) + 1 ≡ at + (n + 1) = omega arith in
+    subst (λ (m : ℕ). any_below m p ≡ false) on (below_more p (at + n) (h refl none) (k refl))
+row_more p at n true false h k e none = absurd (cc)
+row_more p at n false one h k e none = absurd (cc)

@@ -1,11 +1,6 @@
-use Rattle.std.proofs.Common.{refl, sym, ◌∙◌}
-use Rattle.yaml_emit_layout.specs.Nodes.{any_below}
+use Rattle.std.proofs.Common.{sym, ◌∙◌}
 use Rattle.yaml_round_beginning.proofs.Breaks.{below_found, below_more}
 use Rattle.yaml_round_beginning.proofs.styles.has_break.Goals as goal
-
-pub loop-i-init : goal.loop-i-init
-unfolding any_below
-loop-i-init c = refl
 
 pub returns-then-begins_break : goal.returns-then-begins_break
 returns-then-begins_break c = sym (below_found _ _ _ c.loop-i-test.true (sym c.begins_break.ensures ∙ c.if-begins_break.true))

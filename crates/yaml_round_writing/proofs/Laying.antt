@@ -1,5 +1,5 @@
 -- From what a reading and an emitter say to what is said of the input.
-use Rattle.std.proofs.Common.{◌≡◌, ◌⊎◌, ◌∙◌, inl, inr, refl, ap, sym, subst, ℕ, List, [], Bool, true, None, Result, Ok, Err, Vec}
+use Rattle.std.proofs.Common.{◌≡◌, ◌⊎◌, ◌∙◌, inl, inr, refl, ap, sym, subst, ℕ, List, [], Bool, true, false, None, Result, Ok, Err, Vec}
 use Rattle.std.specs.Prelude.{IfOk}
 use Rattle.std.specs.Global.{Global}
 use Rattle.yaml_scan.specs.declared.yaml_encoding_t.{yaml_encoding_t}

@@ -4,10 +4,9 @@ ghost use Rattle.std.specs.Prelude.{◌≡◌, [], IfOk};
 ghost use Rattle.yaml_scan.specs.Faults.{Answers, parse_layers};
 ghost use Rattle.yaml_round_writing.specs.Layers.{reformat_layers};
 ghost use Rattle.yaml_round_laws_documents.specs.content.Input.{Reads, ending_of, events_of};
-ghost use Rattle.yaml_round_reading.specs.Reading.{AreReal, emitter_events};
-ghost use Rattle.yaml_round_writing.specs.Answers.{IsInPrettyForm, IsJudged, IsWritten, text_and_whether, bytes_of};
-ghost use Rattle.yaml_round_writing.specs.Writing.{WritesAll};
-ghost use Rattle.yaml_round_beginning.specs.Beginning.{nothing_comes};
+ghost use Rattle.yaml_round_reading.specs.Reading.{AreReal};
+ghost use Rattle.yaml_round_writing.specs.Answers.{IsInPrettyForm, IsJudged, IsWrittenIn, text_and_whether, bytes_of};
+ghost use Rattle.yaml_round_writing.specs.Writing.{WritesAll, comes_to_nothing};
 
 use crate::writing::{
     Form, begins_with_nothing, emitter_under, finished, is_canonical, write_rest, write_up_to,
@@ -60,7 +59,6 @@ fn write_events(
 }
 
 // The text of the events of the input's reading in that form, or their fault.
-#[tactic(auto, using(crate::proofs::Judging::not_written))]
 fn written_from(
     alloc: Global,
     input: &[u8],
@@ -110,7 +108,6 @@ pub fn written(
 }
 
 /// The text in pretty form, and whether the input begins with nothing; where it doesn't, the text reads back.
-#[tactic(auto, using(crate::proofs::Staying::in_pretty))]
 pub fn in_pretty_form(
     alloc: Global,
     input: &[u8],

@@ -1,3 +1,5 @@
+use Rattle.std.proofs.Common.{Bool, subst}
+use Rattle.yaml_round_writing.specs.Writing.{IsUnder, requested_under}
 use Rattle.yaml_round_writing.proofs.Laying.{wrote, began, where_ok}
 use Rattle.yaml_round_writing.proofs.Judging.{not_written}
 use Rattle.yaml_round_writing.proofs.text.written_from.Goals as goal
@@ -7,8 +9,9 @@ returns-in-Err-clause-text c = not_written c.args.form.now c.args.from c.args.se
 
 pub returns-in-Ok-clause-text : goal.returns-in-Ok-clause-text
 returns-in-Ok-clause-text c =
+    let under = subst (λ (b : Bool). IsUnder c.in_ok-emitter.emitter (requested_under c.args.settings.now b) c.args.settings.now.limit) c.is_canonical.ensures c.in_ok-emitter.ensures.under in
     wrote c.args.from c.args.input.now c.args.settings.now c.args.form.now c.write_events-written.new.form c.args.reading.now.parser c.in_ok-emitter.emitter c.write_events-written.new.emitter c.finished-text.result
-    c.requires.reads c.in_ok-emitter.ensures.under c.in-Ok.ensures c.finished-text.ensures
+    c.requires.reads under c.in-Ok.ensures c.finished-text.ensures
 
 pub returns-in-Ok-clause-beginning : goal.returns-in-Ok-clause-beginning
 returns-in-Ok-clause-beginning c =

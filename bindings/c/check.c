@@ -71,7 +71,7 @@ static const char *const TEXTS[] = {
     "\377",
     "\377\376a",
 };
-enum { TEXT_NUMBER = sizeof TEXTS / sizeof *TEXTS, CANONICAL = 0, PRETTY, RELOAD, SAME, EVENTS, PARSE, FRONT, SCAN, DECODE, EMIT, EMIT_AGAIN, CALL_NUMBER };
+enum { TEXT_NUMBER = sizeof TEXTS / sizeof *TEXTS, CANONICAL = 0, PRETTY, NORMALIZE, RELOAD, CHECK, SAME, EVENTS, PARSE, FRONT, SCAN, DECODE, EMIT, EMIT_AGAIN, CALL_NUMBER };
 
 static const uint8_t *bytes_of(int text)
 {
@@ -150,7 +150,9 @@ static int call_on(int call, int text, yaml_c_settings *settings, records *r)
     switch (call) {
     case CANONICAL:
     case PRETTY: return yaml_c_reformat(at, len, 0, settings, answer);
+    case NORMALIZE: return yaml_c_normalize(at, len, 0, settings, answer);
     case RELOAD: return yaml_c_reload(at, len, 0, settings, answer);
+    case CHECK: return yaml_c_check(at, len, 0, answer);
     case SAME: return yaml_c_same(bytes_of(0), strlen(TEXTS[0]), 0, at, len, 0, answer);
     case EVENTS: return yaml_c_events(at, len, 0, answer);
     case PARSE: return yaml_c_parse(at, len, 0, &r->parsed, answer);
@@ -221,7 +223,7 @@ static void read_as(int from, const yaml_c_settings *settings, int wanted)
     records r;
     const uint8_t *text = bytes_of(2);
     init(&r);
-    for (int call = 0; call < 9; call++) {
+    for (int call = 0; call < 11; call++) {
         int kind = call == 0   ? yaml_c_reformat(text, 1, from, settings, &r.answer)
                    : call == 1 ? yaml_c_reload(text, 1, from, settings, &r.answer)
                    : call == 2 ? yaml_c_events(text, 1, from, &r.answer)
@@ -230,6 +232,8 @@ static void read_as(int from, const yaml_c_settings *settings, int wanted)
                    : call == 5 ? yaml_c_parse(text, 1, from, &r.parsed, &r.answer)
                    : call == 6 ? yaml_c_front(text, 1, from, &r.parsed, &r.answer)
                    : call == 7 ? yaml_c_decode(text, 1, from, &r.answer)
+                   : call == 8 ? yaml_c_normalize(text, 1, from, settings, &r.answer)
+                   : call == 9 ? yaml_c_check(text, 1, from, &r.answer)
                                : yaml_c_scan(text, 1, from, &r.scanned, &r.answer);
         calls++;
         EXPECT(kind == r.answer.kind && (wanted ? kind == wanted : kind >= 0));
@@ -252,11 +256,13 @@ static void numbers(void)
         for (int which = 0; which < 2; which++) {
             settings = usual;
             *(which ? &settings.encoding : &settings.line_break) = none[i];
-            calls += 3;
+            calls += 4;
             EXPECT(yaml_c_reformat(bytes_of(2), 1, 0, &settings, &answer) == YAML_C_REFUSED_ARGUMENT);
             EXPECT(answer.kind == YAML_C_REFUSED_ARGUMENT && answer.text.len == 0);
             yaml_c_answer_free(&answer);
             EXPECT(yaml_c_reload(bytes_of(2), 1, 0, &settings, &answer) == YAML_C_REFUSED_ARGUMENT);
+            yaml_c_answer_free(&answer);
+            EXPECT(yaml_c_normalize(bytes_of(2), 1, 0, &settings, &answer) == YAML_C_REFUSED_ARGUMENT);
             yaml_c_answer_free(&answer);
             EXPECT(emit_list(6, &settings, &answer) == YAML_C_REFUSED_ARGUMENT);
             yaml_c_answer_free(&answer);
@@ -370,6 +376,23 @@ static void decoded(void)
     yaml_c_answer_free(&answer);
 }
 
+/* A text that is nothing but a `!` is quoted, whatever form is asked for; an alias without an anchor doesn't load. */
+static void normalized(void)
+{
+    yaml_c_settings settings;
+    yaml_c_answer answer;
+    yaml_c_answer_init(&answer);
+    yaml_c_defaults(&settings);
+    calls += 3;
+    EXPECT(yaml_c_normalize(bytes_of(3), 1, 0, &settings, &answer) == 0);
+    EXPECT(answer.text.len == 5 && !memcmp(answer.text.at, "! ''\n", 5) && answer.is == 0);
+    yaml_c_answer_free(&answer);
+    EXPECT(yaml_c_check(bytes_of(3), 1, 0, &answer) == 0 && answer.text.len == 0);
+    yaml_c_answer_free(&answer);
+    EXPECT(yaml_c_check(bytes_of(5), 2, 0, &answer) == YAML_C_COMPOSER_ERROR && answer.text.len == 0);
+    yaml_c_answer_free(&answer);
+}
+
 /* What is emitted of each list. */
 static void emitted(void)
 {
@@ -475,6 +498,7 @@ int main(void)
     events_are_told();
     fronts_are_told();
     decoded();
+    normalized();
     for (int call = 0; call < CALL_NUMBER; call++)
         for (int text = 0; text < TEXT_NUMBER; text++)
             refuse_in_turn(call, text);

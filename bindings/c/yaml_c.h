@@ -139,7 +139,7 @@ typedef struct {
 /* How an answer is written. Set by yaml_c_defaults, then changed as one likes. */
 typedef struct {
     int32_t encoding;   /* of the answer; any means UTF-8, in yaml_c_emit the encoding that the stream's start names */
-    int32_t canonical;  /* 0: pretty form, else canonical form; yaml_c_reload's answer is always canonical */
+    int32_t canonical;  /* 0: pretty form, else canonical form; yaml_c_reload and yaml_c_normalize don't look at it */
     int32_t indent;     /* columns of a level, 2 to 9; any other number means 2 */
     int32_t width;      /* the column behind which lines are folded; negative: none; 0 to twice the indent means 80 */
     int32_t unicode;    /* 0: escape what isn't ASCII, else write what is printable as it is */
@@ -233,10 +233,19 @@ void yaml_c_defaults(yaml_c_settings *settings);
 int32_t yaml_c_reformat(const uint8_t *input, size_t len, int32_t from, const yaml_c_settings *settings,
                         yaml_c_answer *answer);
 
+/* The input in the normal form that people read: its pretty text with styles that the content alone decides. Read back it has
+ * the input's content; two inputs have the same one under the same settings exactly where they have the same content; and it is
+ * its own normal form. `canonical` isn't looked at. Refused as above. */
+int32_t yaml_c_normalize(const uint8_t *input, size_t len, int32_t from, const yaml_c_settings *settings,
+                         yaml_c_answer *answer);
+
 /* The documents of the input, loaded and written again in canonical form. Refused as above, and by 5 where a document
  * can't be loaded. */
 int32_t yaml_c_reload(const uint8_t *input, size_t len, int32_t from, const yaml_c_settings *settings,
                       yaml_c_answer *answer);
+
+/* Whether the documents of the input load, as yaml_c_reload loads them: 0 where they do. No text is made. Refused by 2 to 5. */
+int32_t yaml_c_check(const uint8_t *input, size_t len, int32_t from, yaml_c_answer *answer);
 
 /* Whether two inputs have the same content. The first input's fault comes before the second one's. */
 int32_t yaml_c_same(const uint8_t *first, size_t first_len, int32_t first_from, const uint8_t *second,

@@ -6,8 +6,8 @@ use serde_json::Value;
 use yaml_cli_vector_calls::own_fault;
 use yaml_cli_vector_lines::Reply;
 use yaml_round::{
-    yaml_check, yaml_events, yaml_fault_line, yaml_fault_t, yaml_reformat, yaml_reload, yaml_same,
-    yaml_settings_t, yaml_side_t,
+    yaml_check, yaml_events, yaml_fault_line, yaml_fault_t, yaml_normalize, yaml_reformat,
+    yaml_reload, yaml_same, yaml_settings_t, yaml_side_t,
 };
 
 /// The event lines of the line's input.
@@ -26,6 +26,16 @@ pub fn reformat(reply: &mut Reply, line: &Value) {
     let input = given.input.as_slice();
     match yaml_reformat(reply.alloc(), input, given.from, &given.settings) {
         Ok((text, form)) => put_answer(reply, line, text.as_slice(), Some(form)),
+        Err(fault) => reply.fault(fault),
+    }
+}
+
+/// The normal form that people read of the line's input, under its settings.
+pub fn normalize(reply: &mut Reply, line: &Value) {
+    let given = given_of(reply, line);
+    let input = given.input.as_slice();
+    match yaml_normalize(reply.alloc(), input, given.from, &given.settings) {
+        Ok(text) => put_answer(reply, line, text.as_slice(), None),
         Err(fault) => reply.fault(fault),
     }
 }

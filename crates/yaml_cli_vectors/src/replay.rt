@@ -13,6 +13,7 @@ fn answer(rt: &HostRuntime, reply: &mut Reply, call: &str, line: &Value) {
     match call {
         "events" => engine::events(reply, line),
         "reformat" => engine::reformat(reply, line),
+        "normalize" => engine::normalize(reply, line),
         "reload" => engine::reload(reply, line),
         "loads" => engine::loads(reply, line),
         "same" => engine::same(reply, line),

@@ -4,6 +4,7 @@ pub use Rattle.yaml_round_writing.specs.Lines
 pub use Rattle.yaml_round_writing.specs.Flags
 pub use Rattle.yaml_round_writing.specs.Writing
 pub use Rattle.yaml_round_writing.specs.Answers
+pub use Rattle.yaml_round_writing.specs.Readable
 pub use Rattle.yaml_round_writing.specs.Reload
 pub use Rattle.yaml_round_writing.specs.Checking
 pub use Rattle.yaml_round_writing.specs.EventLine

@@ -6,7 +6,7 @@ ghost use Rattle.yaml_round_writing.specs.Answers.{IsReformatted, IsInCanonicalF
 
 use std::alloc::Global;
 use yaml_round_device::{yaml_form_t, yaml_settings_t};
-use yaml_round_writing::{Beginning, Watch, in_pretty_form, let_go, lines_of, reading_of, written};
+use yaml_round_writing::{Form, in_pretty_form, let_go, lines_of, reading_of, written};
 use yaml_scan_model::{yaml_encoding_t, yaml_fault_t};
 
 // The text in canonical form.
@@ -19,11 +19,8 @@ fn in_canonical_form(
     ensures { Answers reformat_layers text_and_form
         (IsInCanonicalForm from settings.now input.now) result }
 {
-    let mut watch = Watch {
-        canonical: true,
-        beginning: Beginning::Something,
-    };
-    let text = written(alloc, input, from, settings, &mut watch)?;
+    let mut form = Form::Canonical;
+    let text = written(alloc, input, from, settings, &mut form)?;
     Ok((text, yaml_form_t::Canonical))
 }
 

@@ -3,12 +3,14 @@
 
 mod check;
 mod engine;
+mod normalize;
 mod reload;
 mod run;
 mod same;
 
 pub use check::yaml_check;
 pub use engine::{yaml_events, yaml_reformat};
+pub use normalize::yaml_normalize;
 pub use reload::yaml_reload;
 pub use run::yaml_run;
 pub use same::yaml_same;

@@ -35,13 +35,13 @@ fault_number error.YAML_COMPOSER_ERROR n e = no_minus 5 n e
 fault_number error.YAML_WRITER_ERROR n e = no_minus 6 n e
 fault_number error.YAML_EMITTER_ERROR n e = no_minus 7 n e
 
-text_kind : (bytes : List ℕ) (number : ℤ) (a : yaml_c_answer) → TellsText bytes number a → ¬ (a.kind ≡ negsuc 0)
+pub text_kind : (bytes : List ℕ) (number : ℤ) (a : yaml_c_answer) → TellsText bytes number a → ¬ (a.kind ≡ negsuc 0)
 text_kind bytes number a h = no_minus 0 a.kind h.kind
 
-fault_kind : (f : Fault) (whose : ℤ) (a : yaml_c_answer) → TellsFault f whose a → ¬ (a.kind ≡ negsuc 0)
+pub fault_kind : (f : Fault) (whose : ℤ) (a : yaml_c_answer) → TellsFault f whose a → ¬ (a.kind ≡ negsuc 0)
 fault_kind f whose a h = fault_number f.kind a.kind h.kind
 
-tells_kind : (r : Result (List ℕ) Fault) (a : yaml_c_answer) → TellsResult r a → ¬ (a.kind ≡ negsuc 0)
+pub tells_kind : (r : Result (List ℕ) Fault) (a : yaml_c_answer) → TellsResult r a → ¬ (a.kind ≡ negsuc 0)
 tells_kind (Ok text) a h = text_kind text (pos 0) a h
 tells_kind (Err f) a h = fault_kind f (pos 0) a h
 
@@ -58,7 +58,7 @@ events_kind blocks (Ok es) a h = text_kind [] (pos 0) a h.0
 events_kind blocks (Err f) a h = fault_kind f (pos 0) a h.0
 
 -- a call whose answers tell no -1
-exact : {M : Type 0} (o : Option M) (Is : M → yaml_c_answer → Type 0) (a : yaml_c_answer) → ((m : M) → Is m a → ¬ (a.kind ≡ negsuc 0))
+pub exact : {M : Type 0} (o : Option M) (Is : M → yaml_c_answer → Type 0) (a : yaml_c_answer) → ((m : M) → Is m a → ¬ (a.kind ≡ negsuc 0))
     → AnswersMeant o Is a → IsExact o a.kind
 exact None Is a f h = h.kind
 exact (Some m) Is a f h = f m h

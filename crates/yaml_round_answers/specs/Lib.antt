@@ -4,5 +4,6 @@ pub mod Emitting
 pub mod Parses
 pub mod Scans
 pub mod Decodes
+pub mod Normalizes
 -- what it speaks of, for the crate that exports its calls
 pub use Rattle.yaml_round_records.specs.Numbers

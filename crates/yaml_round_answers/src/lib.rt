@@ -5,6 +5,7 @@ mod answer;
 mod decoding;
 mod emitting;
 mod engine;
+mod normalizing;
 mod parsing;
 mod scanning;
 mod settings;
@@ -13,6 +14,7 @@ pub use answer::{told, yaml_c_answer};
 pub use decoding::decoded_by;
 pub use emitting::answered_by;
 pub use engine::{compared_by, listed_by, reformatted_by, reloaded_by};
+pub use normalizing::{checked_by, normalized_by};
 pub use parsing::{front_by, parsed_by, yaml_c_parsed};
 pub use scanning::{scanned_by, yaml_c_scanned};
 pub use yaml_round_records::{

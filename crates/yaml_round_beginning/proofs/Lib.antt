@@ -1,1 +1,2 @@
 pub mod Starting
+mod Breaks

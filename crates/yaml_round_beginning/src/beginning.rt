@@ -27,7 +27,10 @@ pub enum Beginning {
     Something,
 }
 
-fn has_none(version: &Option<yaml_version_directive_t>, directives: &[yaml_tag_directive_t]) -> bool
+pub(crate) fn has_none(
+    version: &Option<yaml_version_directive_t>,
+    directives: &[yaml_tag_directive_t],
+) -> bool
     ensures { result ≡ not (has_version version.now || has_directives
         (map directive_of directives.now)) }
 {

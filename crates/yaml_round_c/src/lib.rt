@@ -4,12 +4,14 @@
 
 mod emitting;
 mod engine;
+mod normalizing;
 mod parsing;
 mod scanning;
 mod settings;
 
 pub use emitting::yaml_c_emit;
 pub use engine::{yaml_c_events, yaml_c_reformat, yaml_c_reload, yaml_c_same};
+pub use normalizing::{yaml_c_check, yaml_c_normalize};
 pub use parsing::{yaml_c_front, yaml_c_parse};
 pub use scanning::{yaml_c_decode, yaml_c_scan};
 pub use settings::yaml_c_defaults;

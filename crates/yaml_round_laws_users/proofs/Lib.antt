@@ -1,4 +1,5 @@
 mod Rewriting
+mod Normalizing
 mod Comparing
 mod Beginning
 mod Shaped

@@ -64,11 +64,11 @@ tell s a_from b_from a b t u h k =
 
 -- ---- again
 
-none_is_past : (limit : ℕ) (x : Encoding) (whole : List Item) (f : Fault) → Fits limit x whole → Passes limit (encode x whole) (is_deep whole) f → ⊥
+pub none_is_past : (limit : ℕ) (x : Encoding) (whole : List Item) (f : Fault) → Fits limit x whole → Passes limit (encode x whole) (is_deep whole) f → ⊥
 none_is_past limit x whole f fits (inl p) = let (is, size) = p in let kept = fits.size in omega (arith, size, kept)
 none_is_past limit x whole f fits (inr p) = let (is, deep) = p in true≢false (sym (sym fits.columns ∙ deep))
 
-no_fault : (from : yaml_encoding_t) (input : List ℕ) (f : Fault) → ending_of from input ≡ None → IsFaulty from input f → ⊥
+pub no_fault : (from : yaml_encoding_t) (input : List ℕ) (f : Fault) → ending_of from input ≡ None → IsFaulty from input f → ⊥
 no_fault from input f h k = let bad : None ≡ Some f = sym h ∙ faulty_ending from input f k in absurd cc
 
 -- a text that is laid out and fits is past no limit

@@ -1,5 +1,5 @@
 -- From what readings say to what is said of their inputs.
-use Rattle.std.proofs.Common.{◌≡◌, ◌⊎◌, ◌∙◌, ◌++◌, inl, inr, ap, sym, subst, ℕ, List, [], Bool, Option, None, Some, Result, Ok, Err}
+use Rattle.std.proofs.Common.{◌≡◌, ◌⊎◌, ◌∙◌, ◌++◌, inl, inr, ap, sym, subst, ℕ, List, [], Option, None, Some, Result, Ok, Err}
 use Rattle.std.proofs.lemmas.List.{append_assoc}
 use Rattle.yaml_scan.specs.declared.yaml_encoding_t.{yaml_encoding_t}
 use Rattle.yaml_scan.specs.declared.yaml_fault_t.{yaml_fault_t}
@@ -7,19 +7,18 @@ use Rattle.yaml_scan.specs.Faults.{Fault, fault_of, IsMemoryFault, parse_layers,
 use Rattle.yaml_parse.specs.Remaining.{ParserRemaining}
 use Rattle.yaml_parse.specs.Resolve.{Told}
 use Rattle.yaml_parse.specs.Events.{Event}
-use Rattle.yaml_emit.specs.Emitter.{Emitter, Completes}
+use Rattle.yaml_emit.specs.Emitter.{Emitter}
 use Rattle.yaml_round_lines.specs.EventLine.{event_line}
 use Rattle.yaml_round_device.specs.declared.yaml_settings_t.{yaml_settings_t}
 use Rattle.yaml_round_writing.specs.Layers.{reformat_layers, list_layers}
-use Rattle.yaml_round_reading.specs.Reading.{emitter_events, GivesNextEvent, IsFaultOf, EndsWith}
+use Rattle.yaml_round_reading.specs.Reading.{GivesNextEvent, IsFaultOf, EndsWith}
 use Rattle.yaml_round_writing.specs.Lines.{event_lines}
-use Rattle.yaml_round_beginning.specs.Beginning.{nothing_comes}
-use Rattle.yaml_round_writing.specs.declared.writing.Watch.{Watch}
-use Rattle.yaml_round_writing.specs.Writing.{LeadsWatched, WritesAll}
+use Rattle.yaml_round_writing.specs.declared.writing.Form.{Form}
+use Rattle.yaml_round_writing.specs.Writing.{LeadsOn, WritesAll}
 use Rattle.yaml_round_laws_documents.specs.content.Input.{Reads, ending_of}
 use Rattle.yaml_round_reading.proofs.Plain.{faulty, faulty_ending, fault_met, right, has_events}
 use Rattle.yaml_round_reading.specs.Answers.{IsFaulty}
-use Rattle.yaml_round_writing.specs.Answers.{IsJudged, IsTooLong, HasLines}
+use Rattle.yaml_round_writing.specs.Answers.{IsJudged, IsWrittenPast, HasLines}
 
 -- ---- one input
 
@@ -53,19 +52,15 @@ not_listed from input r f h e = elim e [ inl m ↦ inl m | inr k ↦ inr (faulty
 -- ---- writing
 
 -- The rest was written behind a front.
-rest_led : (a b c : Watch) (e e' e'' : Emitter) (es fs : List Told) → LeadsWatched a e es b e' fs → LeadsWatched b e' fs c e'' [] → LeadsWatched a e es c e'' []
+rest_led : (a b c : Form) (e e' e'' : Emitter) (es fs : List Told) → LeadsOn a e es b e' fs → LeadsOn b e' fs c e'' [] → LeadsOn a e es c e'' []
 rest_led a b c e e' e'' es fs l k = record {
-  completes = λ x whole done.
-      let P : Bool → Type 0 = λ z. Completes e' x (emitter_events z fs) whole in
-      let Q : Bool → Type 0 = λ z. Completes e'' x (emitter_events z []) whole in
-      subst Q l.canonical (k.completes x whole (subst P (sym l.canonical) (l.completes x whole done)));
+  completes = λ x whole done. k.completes x whole (l.completes x whole done);
   limit = k.limit ∙ l.limit;
-  canonical = k.canonical ∙ l.canonical;
-  beginning = l.beginning ∙ ap (λ (z : Bool). nothing_comes b.beginning (emitter_events z fs)) (sym l.canonical) ∙ k.beginning;
+  beginning = l.beginning ∙ k.beginning;
 }
 
-pub then_rest : (a b c : Watch) (r r' : ParserRemaining) (e e' e'' : Emitter) (result : Result (Unit {0}) yaml_fault_t)
-    → r'.ending ≡ r.ending → LeadsWatched a e r.events b e' r'.events → WritesAll b r' e' result c e'' → WritesAll a r e result c e''
+pub then_rest : (a b c : Form) (r r' : ParserRemaining) (e e' e'' : Emitter) (result : Result (Unit {0}) yaml_fault_t)
+    → r'.ending ≡ r.ending → LeadsOn a e r.events b e' r'.events → WritesAll b r' e' result c e'' → WritesAll a r e result c e''
 then_rest a b c r r' e e' e'' (Ok done) h l w = (sym h ∙ w.0, rest_led a b c e e' e'' r.events r'.events l w.1)
 then_rest a b c r r' e e' e'' (Err f) h l w = elim w [ inl m ↦ inl m | inr k ↦ inr (sym h ∙ k) ]
 
@@ -73,6 +68,6 @@ then_rest a b c r r' e e' e'' (Err f) h l w = elim w [ inl m ↦ inl m | inr k �
 pub met_again : (from : yaml_encoding_t) (input : List ℕ) (ending : Option Fault) (f : yaml_fault_t) → ending ≡ ending_of from input → IsMemoryFault parse_layers (fault_of f) ⊎ IsFaulty from input (fault_of f) → IsFaultOf ending f
 met_again from input ending f e h = elim h [ inl m ↦ inl m | inr k ↦ inr (e ∙ faulty_ending from input (fault_of f) k) ]
 
-pub not_written : (from : yaml_encoding_t) (input : List ℕ) (settings : yaml_settings_t) (canonical : Bool) (r : ParserRemaining) (f : yaml_fault_t) → Reads from input r → IsFaultOf r.ending f
-    → IsMemoryFault reformat_layers (fault_of f) ⊎ (IsFaulty from input (fault_of f) ⊎ IsTooLong from input settings canonical (fault_of f))
-not_written from input settings canonical r f h e = elim (fault_met from input r f h e) [ inl m ↦ inl (inr (inr m)) | inr q ↦ inr (inl q) ]
+pub not_written : (w : Form) (from : yaml_encoding_t) (settings : yaml_settings_t) (input : List ℕ) (r : ParserRemaining) (f : yaml_fault_t) → Reads from input r → IsFaultOf r.ending f
+    → IsMemoryFault reformat_layers (fault_of f) ⊎ (IsFaulty from input (fault_of f) ⊎ IsWrittenPast w from settings input (fault_of f))
+not_written w from settings input r f h e = elim (fault_met from input r f h e) [ inl m ↦ inl (inr (inr m)) | inr q ↦ inr (inl q) ]

@@ -1,5 +1,5 @@
 -- From what a reading and an emitter say to what is said of the input.
-use Rattle.std.proofs.Common.{◌≡◌, ◌⊎◌, ◌∙◌, inl, inr, refl, ap, sym, subst, ℕ, List, [], Bool, true, None, Result, Ok, Err, Vec}
+use Rattle.std.proofs.Common.{◌≡◌, ◌⊎◌, ◌∙◌, inl, inr, refl, ap, sym, subst, ℕ, List, [], Bool, true, false, None, Result, Ok, Err, Vec}
 use Rattle.std.specs.Prelude.{IfOk}
 use Rattle.std.specs.Global.{Global}
 use Rattle.yaml_scan.specs.declared.yaml_encoding_t.{yaml_encoding_t}
@@ -17,12 +17,13 @@ use Rattle.yaml_emit.specs.emit_text.declared.RequestedSettings.{RequestedSettin
 use Rattle.yaml_round_device.specs.declared.yaml_settings_t.{yaml_settings_t}
 use Rattle.yaml_round_writing.specs.Layers.{reformat_layers}
 use Rattle.yaml_round_reading.specs.Reading.{emitter_events}
-use Rattle.yaml_round_beginning.specs.Beginning.{nothing_comes}
-use Rattle.yaml_round_writing.specs.declared.writing.Watch.{Watch}
-use Rattle.yaml_round_writing.specs.Writing.{IsUnder, LeadsWatched, FinishesText, requested_under, IsText, IsEachLayout, IsPastEach}
+use Rattle.yaml_round_beginning.specs.declared.beginning.Beginning.{Beginning}
+use Rattle.yaml_round_writing.specs.declared.writing.Form.{Form}
+use Rattle.yaml_round_writing.specs.declared.writing.Form.TheVariants as form
+use Rattle.yaml_round_writing.specs.Writing.{IsUnder, LeadsOn, FinishesText, requested_under, requested_in, given_in, comes_to_nothing, IsText, IsEachLayout, IsPastEach}
 use Rattle.yaml_round_laws_documents.specs.content.Input.{Reads, events_of, ending_of}
-use Rattle.yaml_round_writing.specs.Answers.{IsLayout, IsPast, IsLaidOut, IsWritten, bytes_of}
-use Rattle.yaml_round_reading.proofs.Plain.{has_events, events_right}
+use Rattle.yaml_round_writing.specs.Answers.{IsLayout, IsPast, IsLaidOut, IsTooLong, IsWritten, IsWrittenIn, bytes_of}
+use Rattle.yaml_round_reading.proofs.Plain.{has_events, events_right, right, right_ending}
 use Rattle.yaml_round_reading.specs.Answers.{IsRight}
 use Rattle.yaml_round_laws_documents.specs.content.emit_laws_streams.StreamsLaws.{HasText}
 use Rattle.yaml_round_writing.proofs.Streams.{input_text}
@@ -53,21 +54,27 @@ past w limit es e left f l h = elim h [
 pub whole_text : (e : Emitter) (text : Vec ℕ Global) → e.fault ≡ None → IsWhole e text.items → IsWithin e → FinishesText e (Ok text)
 whole_text e text none w k = (none, λ x whole c. record { is = w none x whole c; fits = k none x whole c })
 
+-- behind the last event the form gives nothing
+none_given : (v : Form) → given_in v [] ≡ []
+none_given form.Canonical = refl
+none_given (form.Pretty beginning) = refl
+none_given (form.Readable at) = refl
+
 -- all events of a reading
-pub led : (from : yaml_encoding_t) (input : List ℕ) (settings : yaml_settings_t) (w v : Watch) (r : ParserRemaining) (old new : Emitter)
-    → Reads from input r → IsUnder old (requested_under settings w.canonical) settings.limit → LeadsWatched w old r.events v new []
-    → Led (requested_under settings w.canonical) settings.limit (emitter_events w.canonical (events_of from input)) new []
+pub led : (from : yaml_encoding_t) (input : List ℕ) (settings : yaml_settings_t) (w v : Form) (r : ParserRemaining) (old new : Emitter)
+    → Reads from input r → IsUnder old (requested_in w settings) settings.limit → LeadsOn w old r.events v new []
+    → Led (requested_in w settings) settings.limit (given_in w (events_of from input)) new []
 led from input settings w v r old new h u l = (
   l.limit ∙ u.limit,
-  λ x whole s. l.completes x whole
-      (starts old (requested_under settings w.canonical) settings.limit x (emitter_events w.canonical r.events) whole u
-      (subst (λ (es : List Told). IsStream (requested_under settings w.canonical) x (emitter_events w.canonical es) whole) (sym h.events) s)),
+  λ x whole s. subst (λ (es : List Event). Completes new x es whole) (none_given v) (l.completes x whole
+      (starts old (requested_in w settings) settings.limit x (given_in w r.events) whole u
+      (subst (λ (es : List Told). IsStream (requested_in w settings) x (given_in w es) whole) (sym h.events) s))),
 )
 
--- and whether they begin with nothing
-pub began : (from : yaml_encoding_t) (input : List ℕ) (w v : Watch) (r : ParserRemaining) (old new : Emitter) → Reads from input r → LeadsWatched w old r.events v new []
-    → nothing_comes w.beginning (emitter_events w.canonical (events_of from input)) ≡ nothing_comes v.beginning []
-began from input w v r old new h l = sym (ap (λ (es : List Told). nothing_comes w.beginning (emitter_events w.canonical es)) h.events) ∙ l.beginning
+-- and whether they come to nothing
+pub began : (from : yaml_encoding_t) (input : List ℕ) (w v : Form) (r : ParserRemaining) (old new : Emitter) → Reads from input r → LeadsOn w old r.events v new []
+    → comes_to_nothing w (events_of from input) ≡ comes_to_nothing v []
+began from input w v r old new h l = sym (ap (comes_to_nothing w) h.events) ∙ l.beginning
 
 -- what is said of an answer in place of a refusal
 pub where_ok : {P : Type 0} (result : Result (Vec ℕ Global) yaml_fault_t) → P → IfOk result (λ text. P)
@@ -92,27 +99,48 @@ one_past w limit es f h p = record { encoding = h.encoding; whole = h.whole; str
 emits : (f : yaml_fault_t) → IsMemoryFault emit_layers (fault_of f) → IsMemoryFault reformat_layers (fault_of f)
 emits f m = elim m [ inl e ↦ inl e | inr w ↦ inr (inl w) ]
 
-pub wrote : (from : yaml_encoding_t) (input : List ℕ) (settings : yaml_settings_t) (a b : Watch) (r : ParserRemaining) (old new : Emitter) (result : Result (Vec ℕ Global) yaml_fault_t)
-    → Reads from input r → IsUnder old (requested_under settings a.canonical) settings.limit → (r.ending ≡ None) × LeadsWatched a old r.events b new [] → FinishesText new result
-    → Answers reformat_layers bytes_of (IsWritten from input settings a.canonical) result
-wrote from input settings a b r old new (Ok text) h u l f =
-    let right : ending_of from input ≡ None = sym h.ending ∙ l.0 in
-    let w : RequestedSettings = requested_under settings a.canonical in
-    let es : List Event = emitter_events a.canonical (events_of from input) in
+pub wrote : (from : yaml_encoding_t) (input : List ℕ) (settings : yaml_settings_t) (a b : Form) (r : ParserRemaining) (old new : Emitter) (result : Result (Vec ℕ Global) yaml_fault_t)
+    → Reads from input r → IsUnder old (requested_in a settings) settings.limit → (r.ending ≡ None) × LeadsOn a old r.events b new [] → FinishesText new result
+    → Answers reformat_layers bytes_of (IsWrittenIn a from settings input) result
+wrote from input settings a b r old new (Ok text) h u l f = record {
+  right = right from input (sym h.ending ∙ l.0);
+  each = layout (requested_in a settings) settings.limit (given_in a (events_of from input)) new text.items (led from input settings a b r old new h u l.1) f.1;
+}
+wrote from input settings a b r old new (Err f) h u l e =
+    elim (past (requested_in a settings) settings.limit (given_in a (events_of from input)) new [] f (led from input settings a b r old new h u l.1) e) [
+      | inl m ↦ inl (emits f m)
+      | inr p ↦ inr (inr (record { right = right from input (sym h.ending ∙ l.0); each = p }))
+    ]
+
+-- ---- canonical form and pretty form
+
+pub laid_in : (from : yaml_encoding_t) (input : List ℕ) (settings : yaml_settings_t) (canonical : Bool) (text : List ℕ) → IsRight from input
+    → IsEachLayout (requested_under settings canonical) settings.limit (emitter_events canonical (events_of from input)) text → IsLaidOut from input settings canonical text
+laid_in from input settings canonical text h each =
+    let w : RequestedSettings = requested_under settings canonical in
+    let none : ending_of from input ≡ None = right_ending from input h in
     record {
       events = events_of from input;
-      of_input = has_events from input (events_of from input) right refl;
-      layout = one_layout w settings.limit es text.items (input_text from input w right) (layout w settings.limit es new text.items (led from input settings a b r old new h u l.1) f.1);
+      of_input = has_events from input (events_of from input) none refl;
+      layout = one_layout w settings.limit (emitter_events canonical (events_of from input)) text (input_text from input w none) each;
     }
-wrote from input settings a b r old new (Err f) h u l e =
-    let right : ending_of from input ≡ None = sym h.ending ∙ l.0 in
-    let w : RequestedSettings = requested_under settings a.canonical in
-    let es : List Event = emitter_events a.canonical (events_of from input) in
-    elim (past w settings.limit es new [] f (led from input settings a b r old new h u l.1) e) [
-      | inl m ↦ inl (emits f m)
-      | inr p ↦ inr (inr (record {
-        events = events_of from input;
-        of_input = has_events from input (events_of from input) right refl;
-        past = one_past w settings.limit es (fault_of f) (input_text from input w right) p;
-      }))
-    ]
+
+past_in : (from : yaml_encoding_t) (input : List ℕ) (settings : yaml_settings_t) (canonical : Bool) (f : Fault) → IsRight from input
+    → IsPastEach (requested_under settings canonical) settings.limit (emitter_events canonical (events_of from input)) f → IsTooLong from input settings canonical f
+past_in from input settings canonical f h each =
+    let w : RequestedSettings = requested_under settings canonical in
+    let none : ending_of from input ≡ None = right_ending from input h in
+    record {
+      events = events_of from input;
+      of_input = has_events from input (events_of from input) none refl;
+      past = one_past w settings.limit (emitter_events canonical (events_of from input)) f (input_text from input w none) each;
+    }
+
+-- what is refused in one of these forms
+pub refused_in_canonical : (from : yaml_encoding_t) (input : List ℕ) (settings : yaml_settings_t) (f : Fault) → IsMemoryFault reformat_layers f ⊎ IsWrittenIn form.Canonical from settings input (Err f)
+    → IsMemoryFault reformat_layers f ⊎ IsWritten from input settings true (Err f)
+refused_in_canonical from input settings f h = elim h [ inl m ↦ inl m | inr k ↦ inr (elim k [ inl q ↦ inl q | inr p ↦ inr (past_in from input settings true f p.right p.each) ]) ]
+
+pub refused_in_pretty : (from : yaml_encoding_t) (input : List ℕ) (settings : yaml_settings_t) (b : Beginning) (f : Fault) → IsMemoryFault reformat_layers f ⊎ IsWrittenIn (form.Pretty b) from settings input (Err f)
+    → IsMemoryFault reformat_layers f ⊎ IsWritten from input settings false (Err f)
+refused_in_pretty from input settings b f h = elim h [ inl m ↦ inl m | inr k ↦ inr (elim k [ inl q ↦ inl q | inr p ↦ inr (past_in from input settings false f p.right p.each) ]) ]

@@ -5,6 +5,7 @@ pub mod Laying
 pub mod Normal
 pub mod Forms
 pub mod Staying
+pub mod Readably
 pub mod Reloading
 mod Streams
 mod Checking

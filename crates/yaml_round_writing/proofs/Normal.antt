@@ -16,8 +16,10 @@ use Rattle.yaml_round_device.specs.declared.yaml_settings_t.{yaml_settings_t}
 use Rattle.yaml_round_device.specs.declared.yaml_output_encoding_t.{yaml_output_encoding_t}
 use Rattle.yaml_round_device.specs.declared.yaml_output_encoding_t.TheVariants.{Utf8, Utf16Le, Utf16Be}
 use Rattle.yaml_round_reading.specs.Reading.{emitter_events}
+use Rattle.yaml_round_writing.specs.declared.writing.Form.TheVariants as form
 use Rattle.yaml_round_writing.specs.Writing.{encoding_under, requested_under}
-use Rattle.yaml_round_writing.specs.Answers.{IsLayout, IsLaidOut, IsNormalForm, canonical_text}
+use Rattle.yaml_round_writing.specs.Answers.{IsLayout, IsLaidOut, IsWrittenOut, IsNormalForm, canonical_text}
+use Rattle.yaml_round_writing.proofs.Laying.{laid_in}
 use Rattle.yaml_round_reading.proofs.Plain.{right_ending, has_events, events_are, events_right}
 use Rattle.yaml_round_laws_documents.proofs.ReadingJoining.{said_read, read_said}
 
@@ -83,5 +85,5 @@ normal from s input text laid =
       });
     }
 
-pub in_normal_form : (from : yaml_encoding_t) (s : yaml_settings_t) (input text : List ℕ) → IsLaidOut from input s true text → IsLaidOut from input s true text × IsNormalForm from s input text
-in_normal_form from s input text laid = (laid, normal from s input text laid)
+pub in_normal_form : (from : yaml_encoding_t) (s : yaml_settings_t) (input text : List ℕ) → IsWrittenOut form.Canonical from s input text → IsLaidOut from input s true text × IsNormalForm from s input text
+in_normal_form from s input text h = let laid = laid_in from input s true text h.right h.each in (laid, normal from s input text laid)

@@ -11,14 +11,15 @@ use Rattle.yaml_round_laws_pretty.specs.Flags.{begins_with_nothing, says_nothing
 use Rattle.yaml_round_laws_pretty.proofs.Theorem.{pretty_reads_back}
 use Rattle.yaml_round_device.specs.declared.yaml_settings_t.{yaml_settings_t}
 use Rattle.yaml_round_reading.specs.Reading.{emitter_events}
+use Rattle.yaml_round_writing.specs.declared.writing.Form.TheVariants as form
 use Rattle.yaml_round_writing.specs.Writing.{requested_under}
 use Rattle.yaml_round_reading.specs.Answers.{IsRight, ReadsBack}
 use Rattle.yaml_round_beginning.specs.declared.beginning.Beginning.TheVariants as known
 use Rattle.yaml_round_beginning.specs.Beginning.{nothing_comes}
 use Rattle.yaml_round_beginning.proofs.Starting.{from_start}
-use Rattle.yaml_round_writing.specs.Answers.{IsLaidOut, IsInPrettyForm}
+use Rattle.yaml_round_writing.specs.Answers.{IsLaidOut, IsWrittenOut, IsInPrettyForm}
 use Rattle.yaml_round_reading.proofs.Plain.{right_ending, events_are, same_content}
-use Rattle.yaml_round_writing.proofs.Laying.{laid_right}
+use Rattle.yaml_round_writing.proofs.Laying.{laid_right, laid_in}
 
 -- ---- the answer in pretty form
 
@@ -50,6 +51,7 @@ by_beginning from input settings text true laid e = (
 )
 by_beginning from input settings text false laid e = (laid, stays from input settings text laid e)
 
-pub in_pretty : (from : yaml_encoding_t) (input : List ℕ) (settings : yaml_settings_t) (text : List ℕ) (nothing : Bool) → IsLaidOut from input settings false text
+pub in_pretty : (from : yaml_encoding_t) (input : List ℕ) (settings : yaml_settings_t) (text : List ℕ) (nothing : Bool) → IsWrittenOut (form.Pretty known.Start) from settings input text
     → nothing_comes known.Start (emitter_events false (events_of from input)) ≡ nothing → IsInPrettyForm from settings input (Ok (text, nothing))
-in_pretty from input settings text nothing laid e = by_beginning from input settings text nothing laid (sym (from_start (emitter_events false (events_of from input))) ∙ e)
+in_pretty from input settings text nothing h e =
+    by_beginning from input settings text nothing (laid_in from input settings false text h.right h.each) (sym (from_start (emitter_events false (events_of from input))) ∙ e)

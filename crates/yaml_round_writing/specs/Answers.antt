@@ -15,7 +15,9 @@ use Rattle.yaml_round_device.specs.declared.yaml_form_t.{yaml_form_t}
 use Rattle.yaml_round_device.specs.declared.yaml_form_t.TheVariants.{Canonical, Pretty}
 use Rattle.yaml_round_reading.specs.Reading.{emitter_events}
 use Rattle.yaml_round_writing.specs.Lines.{event_lines}
-use Rattle.yaml_round_writing.specs.Writing.{requested_under}
+use Rattle.yaml_round_writing.specs.declared.writing.Form.{Form}
+use Rattle.yaml_round_writing.specs.Writing.{requested_under, requested_in, given_in, IsEachLayout, IsPastEach}
+use Rattle.yaml_round_laws_documents.specs.content.Input.{events_of}
 use Rattle.yaml_parse.specs.Resolve.{Told}
 use Rattle.yaml_round_laws_documents.specs.content.Said.{Document}
 use Rattle.yaml_round_laws_documents.specs.content.Reading.{PlainReading, HasEvents}
@@ -95,6 +97,27 @@ abbrev pub IsWritten : yaml_encoding_t → List ℕ → yaml_settings_t → Bool
 IsWritten from input settings canonical (Ok text) = IsLaidOut from input settings canonical text
 IsWritten from input settings canonical (Err fault) = IsFaulty from input fault
     ⊎ IsTooLong from input settings canonical fault
+
+-- The input is accepted, and the text is each layout of what the form gives of its events.
+pub record IsWrittenOut (form : Form) (from : yaml_encoding_t) (settings : yaml_settings_t)
+    (input text : List ℕ) : Type 0 where
+  pub right : IsRight from input
+  pub each : IsEachLayout (requested_in form settings) settings.limit
+      (given_in form (events_of from input)) text
+
+-- The input is accepted, and each of them passes the limit that the fault names.
+pub record IsWrittenPast (form : Form) (from : yaml_encoding_t) (settings : yaml_settings_t)
+    (input : List ℕ) (fault : Fault) : Type 0 where
+  pub right : IsRight from input
+  pub each : IsPastEach (requested_in form settings) settings.limit
+      (given_in form (events_of from input)) fault
+
+-- such a text, the input's fault, or a limit
+abbrev pub IsWrittenIn : Form → yaml_encoding_t → yaml_settings_t → List ℕ
+    → Result (List ℕ) Fault → Type 0
+IsWrittenIn form from settings input (Ok text) = IsWrittenOut form from settings input text
+IsWrittenIn form from settings input (Err fault) = IsFaulty from input fault
+    ⊎ IsWrittenPast form from settings input fault
 
 -- ---- normal forms
 

@@ -2,6 +2,7 @@ pub mod Layers
 pub mod Lines
 pub mod Writing
 pub mod Answers
+pub mod Readable
 pub mod Reload
 pub mod Checking
 -- what it speaks of, and the laws beneath, for crates that name this one alone

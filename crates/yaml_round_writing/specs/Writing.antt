@@ -7,8 +7,8 @@ use Rattle.yaml_scan.specs.declared.yaml_fault_t.{yaml_fault_t}
 use Rattle.yaml_scan.specs.Faults.{Fault, fault_of}
 use Rattle.yaml_parse.specs.Remaining.{ParserRemaining}
 use Rattle.yaml_parse.specs.Resolve.{Told}
-use Rattle.yaml_parse.specs.Events.{EventBody}
-use Rattle.yaml_emit.specs.Content.{Event, emitter_event}
+use Rattle.yaml_parse.specs.Events.{Event as ParsedEvent}
+use Rattle.yaml_emit.specs.Content.{Event}
 use Rattle.yaml_emit.specs.Streams.{IsStream}
 use Rattle.yaml_emit.specs.Emitter.{Emitter, Completes, IsLimited, Passes}
 use Rattle.yaml_emit.specs.Within.{Fits}
@@ -16,11 +16,14 @@ use Rattle.yaml_emit.specs.Text.{Item, encode, is_deep}
 use Rattle.yaml_emit.specs.emit_text.declared.Encoding.{Encoding}
 use Rattle.yaml_emit.specs.emit_text.declared.RequestedSettings.{RequestedSettings}
 use Rattle.yaml_round_device.specs.declared.yaml_settings_t.{yaml_settings_t}
-use Rattle.yaml_round_writing.specs.declared.writing.Watch.{Watch}
+use Rattle.yaml_round_writing.specs.declared.writing.Form.{Form}
+use Rattle.yaml_round_writing.specs.declared.writing.Form.TheVariants as form
 use Rattle.yaml_round_device.specs.declared.yaml_output_encoding_t.{yaml_output_encoding_t}
 use Rattle.yaml_round_device.specs.declared.yaml_output_encoding_t.TheVariants.{Utf8, Utf16Le, Utf16Be}
+use Rattle.yaml_round_laws_normal.specs.Restyled.{readable_events}
 use Rattle.yaml_round_beginning.specs.Beginning.{nothing_comes}
-use Rattle.yaml_round_reading.specs.Reading.{emitter_events, AreReal, IsFaultOf}
+use Rattle.yaml_round_beginning.specs.Styles.{place_of}
+use Rattle.yaml_round_reading.specs.Reading.{contents, emitter_events, AreReal, IsFaultOf}
 
 -- ---- the settings of an emitter
 
@@ -40,6 +43,15 @@ requested_under s canonical = record {
   line_break = s.line_break;
 }
 
+abbrev pub is_canonical : Form → Bool
+is_canonical form.Canonical = true
+is_canonical (form.Pretty beginning) = false
+is_canonical (form.Readable at) = false
+
+-- in the form
+abbrev pub requested_in : Form → yaml_settings_t → RequestedSettings
+requested_in w s = requested_under s (is_canonical w)
+
 -- an emitter under these settings that was given nothing
 pub record IsUnder (e : Emitter) (w : RequestedSettings) (most : ℕ) : Type 0 where
   pub requested_settings : e.requested_settings ≡ w
@@ -51,36 +63,50 @@ pub record IsUnder (e : Emitter) (w : RequestedSettings) (most : ℕ) : Type 0 w
 
 -- ---- events that are given
 
--- An event, normalized, was given: the form stays, and what is known of the beginning goes on.
-pub record Sees (watch : Watch) (e : EventBody) (seen_new : Watch) : Type 0 where
-  pub canonical : seen_new.canonical ≡ watch.canonical
-  pub beginning : (es : List Event) → nothing_comes watch.beginning (emitter_event e ∷ es)
-      ≡ nothing_comes seen_new.beginning es
+-- what the form gives of the events to come
+abbrev pub given_in : Form → List Told → List Event
+given_in form.Canonical es = emitter_events true es
+given_in (form.Pretty beginning) es = emitter_events false es
+given_in (form.Readable at) es = readable_events (place_of at) (contents es)
 
--- With these events to come, normalized, from one emitter and those from the other, the text is the same,
+-- with these to come in pretty form the input begins with nothing
+abbrev pub comes_to_nothing : Form → List Told → Bool
+comes_to_nothing form.Canonical es = false
+comes_to_nothing (form.Pretty beginning) es = nothing_comes beginning (emitter_events false es)
+comes_to_nothing (form.Readable at) es = false
+
+-- An event was given in the form. Whatever follows, the text is the same, and so is whether the input begins with nothing.
+pub record Gives (form_old : Form) (old : Emitter) (e : ParsedEvent) (form_new : Form)
+    (new : Emitter) : Type 0 where
+  pub completes : (unasked : ℕ) (es : List Told) (x : Encoding) (whole : List Item)
+      → Completes old x (given_in form_old ((e, unasked) ∷ es)) whole
+      → Completes new x (given_in form_new es) whole
+  pub limit : new.limit ≡ old.limit
+  pub beginning : (unasked : ℕ) (es : List Told)
+      → comes_to_nothing form_old ((e, unasked) ∷ es) ≡ comes_to_nothing form_new es
+
+-- With these events to come, in that form, from one emitter and those from the other, the text is the same,
 -- and so is whether the input begins with nothing.
-pub record LeadsWatched (watch : Watch) (old : Emitter) (before : List Told) (seen : Watch)
+pub record LeadsOn (form_old : Form) (old : Emitter) (before : List Told) (form_new : Form)
     (new : Emitter) (after : List Told) : Type 0 where
   pub completes : (x : Encoding) (whole : List Item)
-      → Completes old x (emitter_events watch.canonical before) whole
-      → Completes new x (emitter_events watch.canonical after) whole
+      → Completes old x (given_in form_old before) whole
+      → Completes new x (given_in form_new after) whole
   pub limit : new.limit ≡ old.limit
-  pub canonical : seen.canonical ≡ watch.canonical
-  pub beginning : nothing_comes watch.beginning (emitter_events watch.canonical before)
-      ≡ nothing_comes seen.beginning (emitter_events watch.canonical after)
+  pub beginning : comes_to_nothing form_old before ≡ comes_to_nothing form_new after
 
 -- the reading's events were given to the emitter: all of them, or a front of them
-abbrev pub WritesReading : Watch → ParserRemaining → Emitter → Result Bool yaml_fault_t → Watch
+abbrev pub WritesReading : Form → ParserRemaining → Emitter → Result Bool yaml_fault_t → Form
     → ParserRemaining → Emitter → Type 0
-WritesReading w r e (Ok true) w' r' e' = (r.ending ≡ None) × LeadsWatched w e r.events w' e' []
+WritesReading w r e (Ok true) w' r' e' = (r.ending ≡ None) × LeadsOn w e r.events w' e' []
 WritesReading w r e (Ok false) w' r' e' = (r'.ending ≡ r.ending)
-    × (AreReal r'.events × LeadsWatched w e r.events w' e' r'.events)
+    × (AreReal r'.events × LeadsOn w e r.events w' e' r'.events)
 WritesReading w r e (Err f) w' r' e' = IsFaultOf r.ending f
 
 -- all of the reading's events were given to the emitter
-abbrev pub WritesAll : Watch → ParserRemaining → Emitter → Result (Unit {0}) yaml_fault_t → Watch
+abbrev pub WritesAll : Form → ParserRemaining → Emitter → Result (Unit {0}) yaml_fault_t → Form
     → Emitter → Type 0
-WritesAll w r e (Ok done) w' e' = (r.ending ≡ None) × LeadsWatched w e r.events w' e' []
+WritesAll w r e (Ok done) w' e' = (r.ending ≡ None) × LeadsOn w e r.events w' e' []
 WritesAll w r e (Err f) w' e' = IsFaultOf r.ending f
 
 -- the text is that layout, and passes no limit

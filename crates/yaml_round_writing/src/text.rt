@@ -4,15 +4,16 @@ ghost use Rattle.std.specs.Prelude.{◌≡◌, [], IfOk};
 ghost use Rattle.yaml_scan.specs.Faults.{Answers, parse_layers};
 ghost use Rattle.yaml_round_writing.specs.Layers.{reformat_layers};
 ghost use Rattle.yaml_round_laws_documents.specs.content.Input.{Reads, ending_of, events_of};
-ghost use Rattle.yaml_round_reading.specs.Reading.{AreReal, emitter_events};
-ghost use Rattle.yaml_round_writing.specs.Answers.{IsInPrettyForm, IsJudged, IsWritten, text_and_whether, bytes_of};
-ghost use Rattle.yaml_round_writing.specs.Writing.{WritesAll};
-ghost use Rattle.yaml_round_beginning.specs.Beginning.{nothing_comes};
+ghost use Rattle.yaml_round_reading.specs.Reading.{AreReal};
+ghost use Rattle.yaml_round_writing.specs.Answers.{IsInPrettyForm, IsJudged, IsWrittenIn, text_and_whether, bytes_of};
+ghost use Rattle.yaml_round_writing.specs.Writing.{WritesAll, comes_to_nothing};
 
-use crate::writing::{Watch, emitter_under, finished, write_rest, write_up_to};
+use crate::writing::{
+    Form, begins_with_nothing, emitter_under, finished, is_canonical, write_rest, write_up_to,
+};
 use std::alloc::Global;
 use yaml_emit::yaml_emitter_t;
-use yaml_round_beginning::{Beginning, is_nothing};
+use yaml_round_beginning::Beginning;
 use yaml_round_device::yaml_settings_t;
 use yaml_round_reading::{Reading, let_go, read_out, reading_of};
 use yaml_scan::{yaml_encoding_t, yaml_fault_t};
@@ -43,40 +44,38 @@ fn write_events(
     from: yaml_encoding_t,
     reading: &mut Reading<'_>,
     emitter: &mut yaml_emitter_t,
-    watch: &mut Watch,
+    form: &mut Form,
 ) -> Result<(), yaml_fault_t>
     requires real { AreReal reading.old.parser.events }
     requires ending { reading.old.parser.ending ≡ ending_of from input.now }
-    ensures { WritesAll watch.old reading.old.parser emitter.old result watch.new emitter.new }
+    ensures { WritesAll form.old reading.old.parser emitter.old result form.new emitter.new }
 {
     let most = input.len().saturating_mul(OUTGROWN);
-    if write_up_to(reading, emitter, watch, most)? {
+    if write_up_to(reading, emitter, form, most)? {
         return Ok(());
     }
     judge(alloc, input, from)?;
-    write_rest(reading, emitter, watch)
+    write_rest(reading, emitter, form)
 }
 
-// The text of the events of the input's reading in canonical or pretty form, or their fault.
-#[tactic(auto, using(crate::proofs::Judging::not_written))]
+// The text of the events of the input's reading in that form, or their fault.
 fn written_from(
     alloc: Global,
     input: &[u8],
     from: yaml_encoding_t,
     reading: &mut Reading<'_>,
     settings: &yaml_settings_t,
-    watch: &mut Watch,
+    form: &mut Form,
 ) -> Result<Vec<u8>, yaml_fault_t>
     requires reads { Reads from input.now reading.old.parser }
     requires real { AreReal reading.old.parser.events }
-    ensures text { Answers reformat_layers bytes_of (IsWritten from input.now settings.now
-        watch.old.canonical) result }
-    ensures beginning { IfOk result (λ _. nothing_comes watch.old.beginning
-        (emitter_events watch.old.canonical (events_of from input.now))
-        ≡ nothing_comes watch.new.beginning []) }
+    ensures text { Answers reformat_layers bytes_of (IsWrittenIn form.old from settings.now
+        input.now) result }
+    ensures beginning { IfOk result (λ _. comes_to_nothing form.old (events_of from input.now)
+        ≡ comes_to_nothing form.new []) }
 {
-    let mut emitter = emitter_under(alloc, settings, watch.canonical)?;
-    let written = write_events(alloc, input, from, reading, &mut emitter, watch);
+    let mut emitter = emitter_under(alloc, settings, is_canonical(*form))?;
+    let written = write_events(alloc, input, from, reading, &mut emitter, form);
     let text = finished(emitter);
     match written {
         Err(fault) => Err(fault),
@@ -84,25 +83,24 @@ fn written_from(
     }
 }
 
-/// The text of the input's events in canonical or pretty form. The input is read to its end, also where the text passes its
+/// The text of the input's events in that form. The input is read to its end, also where the text passes its
 /// limit before, so that a fault of the input comes first.
 pub fn written(
     alloc: Global,
     input: &[u8],
     from: yaml_encoding_t,
     settings: &yaml_settings_t,
-    watch: &mut Watch,
+    form: &mut Form,
 ) -> Result<Vec<u8>, yaml_fault_t>
-    ensures text { Answers reformat_layers bytes_of (IsWritten from input.now settings.now
-        watch.old.canonical) result }
-    ensures beginning { IfOk result (λ _. nothing_comes watch.old.beginning
-        (emitter_events watch.old.canonical (events_of from input.now))
-        ≡ nothing_comes watch.new.beginning []) }
+    ensures text { Answers reformat_layers bytes_of (IsWrittenIn form.old from settings.now
+        input.now) result }
+    ensures beginning { IfOk result (λ _. comes_to_nothing form.old (events_of from input.now)
+        ≡ comes_to_nothing form.new []) }
 {
     match reading_of(alloc, input, from) {
         Err(fault) => Err(fault),
         Ok(mut reading) => {
-            let answer = written_from(alloc, input, from, &mut reading, settings, watch);
+            let answer = written_from(alloc, input, from, &mut reading, settings, form);
             let_go(reading);
             answer
         }
@@ -110,7 +108,6 @@ pub fn written(
 }
 
 /// The text in pretty form, and whether the input begins with nothing; where it doesn't, the text reads back.
-#[tactic(auto, using(crate::proofs::Staying::in_pretty))]
 pub fn in_pretty_form(
     alloc: Global,
     input: &[u8],
@@ -120,10 +117,7 @@ pub fn in_pretty_form(
     ensures { Answers reformat_layers text_and_whether
         (IsInPrettyForm from settings.now input.now) result }
 {
-    let mut watch = Watch {
-        canonical: false,
-        beginning: Beginning::Start,
-    };
-    let text = written(alloc, input, from, settings, &mut watch)?;
-    Ok((text, is_nothing(watch.beginning)))
+    let mut form = Form::Pretty(Beginning::Start);
+    let text = written(alloc, input, from, settings, &mut form)?;
+    Ok((text, begins_with_nothing(form)))
 }

@@ -1,15 +1,14 @@
 //! An emitter under the engine's settings, and the writing of a reading's events.
 
-ghost use Rattle.std.specs.Prelude.{◌≡◌, Some, IfOk, IfErr, option_map};
+ghost use Rattle.std.specs.Prelude.{◌≡◌, Some, List, [], ◌∷◌, IfOk, IfErr, option_map};
 ghost use Rattle.yaml_scan.specs.Faults.{Fault, fault_of, memory_fault};
 ghost use Rattle.yaml_parse.specs.Events.{event_of};
 ghost use Rattle.yaml_parse.specs.Constructors.{HasUtf8};
 ghost use Rattle.yaml_emit.specs.Content.{emitter_event};
 ghost use Rattle.yaml_emit.specs.Emitter.{IsLimited};
-ghost use Rattle.yaml_emit.specs.Taking.{GivesText};
-ghost use Rattle.yaml_round_laws_documents.specs.content.Normalize.{normalize_body};
+ghost use Rattle.yaml_round_beginning.specs.Beginning.{nothing_comes};
 ghost use Rattle.yaml_round_reading.specs.Reading.{AreReal};
-ghost use Rattle.yaml_round_writing.specs.Writing.{IsUnder, requested_under, encoding_under, Sees, WritesReading, WritesAll, FinishesText};
+ghost use Rattle.yaml_round_writing.specs.Writing.{IsUnder, Gives, is_canonical, requested_under, comes_to_nothing, encoding_under, WritesReading, WritesAll, FinishesText};
 
 use std::alloc::Global;
 use yaml_emit::{
@@ -19,16 +18,40 @@ use yaml_emit::{
     yaml_emitter_set_unicode, yaml_emitter_set_width, yaml_emitter_t,
 };
 use yaml_parse::{yaml_event_t, yaml_found_t};
-use yaml_round_beginning::{Beginning, behind};
+use yaml_round_beginning::{Beginning, Place, behind, is_nothing, restyle};
 use yaml_round_device::{yaml_output_encoding_t, yaml_settings_t};
 use yaml_round_reading::{Reading, normalize_event};
 use yaml_scan::{yaml_encoding_t, yaml_fault_t, yaml_memory_fault, yaml_origin_t};
 
-/// The form in which events are written, and what those that were given tell of their beginning.
+/// The form in which events are given to the emitter, and what it has to know of those that were.
 #[derive(Clone, Copy)]
-pub struct Watch {
-    pub canonical: bool,
-    pub beginning: Beginning,
+pub enum Form {
+    /// Canonical form.
+    Canonical,
+    /// Pretty form, with the events' own styles, and what they tell of their beginning.
+    Pretty(Beginning),
+    /// The normal form that people read, and where the next event stands.
+    Readable(Place),
+}
+
+/// Whether that is canonical form.
+pub(crate) fn is_canonical(form: Form) -> bool
+    ensures { result ≡ is_canonical form }
+{
+    match form {
+        Form::Canonical => true,
+        Form::Pretty(_) | Form::Readable(_) => false,
+    }
+}
+
+/// Whether the events that were given are those of an input that begins with nothing, as pretty form has to know.
+pub(crate) fn begins_with_nothing(form: Form) -> bool
+    ensures { result ≡ comes_to_nothing form [] }
+{
+    match form {
+        Form::Pretty(beginning) => is_nothing(beginning),
+        Form::Canonical | Form::Readable(_) => false,
+    }
 }
 
 fn encoding_of(encoding: yaml_output_encoding_t) -> yaml_encoding_t
@@ -63,47 +86,42 @@ pub(crate) fn emitter_under(
     Ok(emitter)
 }
 
-// Gives the event in the slot; what is left there counts for nothing. The emitter keeps its first fault.
-// Inlined: a test in front of a call. Pretty form has to hold events.
-#[inline(always)]
-fn give(emitter: &mut yaml_emitter_t, canonical: bool, event: &mut yaml_event_t)
-    requires { HasUtf8 (event_of event.old).body }
-    ensures { GivesText emitter.old (emitter_event (event_of event.old).body) emitter.new }
-{
-    if canonical {
-        yaml_emitter_emit_early(emitter, event);
-    } else {
-        yaml_emitter_emit_from(emitter, event);
-    }
-}
-
-// Gives the event in the slot, and sees what it tells of the beginning.
+// What is known of the beginning with the event.
 // Inlined: a test an event; only the first three are looked at.
 #[inline(always)]
-fn give_on(emitter: &mut yaml_emitter_t, watch: &mut Watch, event: &mut yaml_event_t)
-    requires { HasUtf8 (event_of event.old).body }
-    ensures gives { GivesText emitter.old (emitter_event (event_of event.old).body) emitter.new }
-    ensures seen { Sees watch.old (event_of event.old).body watch.new }
+fn see(beginning: &mut Beginning, event: &yaml_event_t)
+    ensures { (es : List _) → nothing_comes beginning.old
+        (emitter_event (event_of event.now).body ∷ es) ≡ nothing_comes beginning.new es }
 {
-    match watch.beginning {
+    match *beginning {
         Beginning::Nothing | Beginning::Something => {}
         Beginning::Start | Beginning::Stream | Beginning::Document => {
-            watch.beginning = behind(watch.beginning, event);
+            *beginning = behind(*beginning, event);
         }
     }
-    give(emitter, watch.canonical, event);
 }
 
-// The same of the event, normalized.
-fn give_normalized(emitter: &mut yaml_emitter_t, watch: &mut Watch, event: &mut yaml_event_t)
+// Gives the event in the slot, as its form has it; what is left there counts for nothing. The emitter keeps its first fault.
+fn give(emitter: &mut yaml_emitter_t, form: &mut Form, event: &mut yaml_event_t)
     requires { HasUtf8 (event_of event.old).body }
-    ensures gives { GivesText emitter.old (emitter_event
-        (normalize_body watch.old.canonical (event_of event.old).body)) emitter.new }
-    ensures seen { Sees watch.old (normalize_body watch.old.canonical (event_of event.old).body)
-        watch.new }
+    ensures { Gives form.old emitter.old (event_of event.old) form.new emitter.new }
 {
-    normalize_event(event, watch.canonical);
-    give_on(emitter, watch, event);
+    match form {
+        Form::Canonical => {
+            normalize_event(event, true);
+            yaml_emitter_emit_early(emitter, event);
+        }
+        Form::Pretty(beginning) => {
+            normalize_event(event, false);
+            see(beginning, event);
+            yaml_emitter_emit_from(emitter, event);
+        }
+        Form::Readable(place) => {
+            normalize_event(event, true);
+            *place = restyle(event, *place);
+            yaml_emitter_emit_from(emitter, event);
+        }
+    }
 }
 
 /// Writes the events while the text has at most so many bytes. True at the end of the events. A fault of theirs is the
@@ -111,11 +129,11 @@ fn give_normalized(emitter: &mut yaml_emitter_t, watch: &mut Watch, event: &mut 
 pub(crate) fn write_up_to(
     reading: &mut Reading<'_>,
     emitter: &mut yaml_emitter_t,
-    watch: &mut Watch,
+    form: &mut Form,
     most: usize,
 ) -> Result<bool, yaml_fault_t>
     requires { AreReal reading.old.parser.events }
-    ensures { WritesReading watch.old reading.old.parser emitter.old result watch.new
+    ensures { WritesReading form.old reading.old.parser emitter.old result form.new
         reading.new.parser emitter.new }
 {
     'events: loop {
@@ -125,7 +143,7 @@ pub(crate) fn write_up_to(
         match reading.next() {
             yaml_found_t::Refused => return Err(reading.fault),
             yaml_found_t::End => return Ok(true),
-            yaml_found_t::Event => give_normalized(emitter, watch, &mut reading.event),
+            yaml_found_t::Event => give(emitter, form, &mut reading.event),
         }
     }
 }
@@ -134,16 +152,16 @@ pub(crate) fn write_up_to(
 pub(crate) fn write_rest(
     reading: &mut Reading<'_>,
     emitter: &mut yaml_emitter_t,
-    watch: &mut Watch,
+    form: &mut Form,
 ) -> Result<(), yaml_fault_t>
     requires { AreReal reading.old.parser.events }
-    ensures { WritesAll watch.old reading.old.parser emitter.old result watch.new emitter.new }
+    ensures { WritesAll form.old reading.old.parser emitter.old result form.new emitter.new }
 {
     'events: loop {
         match reading.next() {
             yaml_found_t::Refused => return Err(reading.fault),
             yaml_found_t::End => return Ok(()),
-            yaml_found_t::Event => give_normalized(emitter, watch, &mut reading.event),
+            yaml_found_t::Event => give(emitter, form, &mut reading.event),
         }
     }
 }

@@ -1,0 +1,62 @@
+//! The normal form that people read, and whether an input loads.
+
+ghost use Rattle.yaml_round_records.specs.Numbers.{encoding_meant};
+ghost use Rattle.yaml_round_answers.specs.Told.{AnswersMeant, call_meant};
+ghost use Rattle.yaml_round_answers.specs.Normalizes.{Normalizes, Checks};
+
+use crate::answer::{misused, refused, said, told, yaml_c_answer};
+use crate::settings::settings_of;
+use std::alloc::Global;
+use yaml_round::{yaml_check, yaml_encoding_t, yaml_normalize, yaml_settings_t};
+use yaml_round_records::{encoding_of, yaml_c_settings};
+
+fn normalized(
+    alloc: Global,
+    input: &[u8],
+    from: yaml_encoding_t,
+    settings: &yaml_settings_t,
+) -> yaml_c_answer
+    ensures { Normalizes input.now (from, settings.now) result }
+{
+    match yaml_normalize(alloc, input, from, settings) {
+        Ok(text) => told(text, 0),
+        Err(fault) => refused(alloc, &fault, 0),
+    }
+}
+
+/// What normalizing answers, where its numbers mean something.
+pub fn normalized_by(
+    alloc: Global,
+    input: &[u8],
+    from: i32,
+    settings: &yaml_c_settings,
+) -> yaml_c_answer
+    ensures { AnswersMeant (call_meant from settings.now) (Normalizes input.now) result }
+{
+    let Some(from) = encoding_of(from) else {
+        return misused();
+    };
+    let Some(settings) = settings_of(settings) else {
+        return misused();
+    };
+    normalized(alloc, input, from, &settings)
+}
+
+fn checked(alloc: Global, input: &[u8], from: yaml_encoding_t) -> yaml_c_answer
+    ensures { Checks input.now from result }
+{
+    match yaml_check(alloc, input, from) {
+        Ok(()) => said(0),
+        Err(fault) => refused(alloc, &fault, 0),
+    }
+}
+
+/// What a check answers, where its number means something.
+pub fn checked_by(alloc: Global, input: &[u8], from: i32) -> yaml_c_answer
+    ensures { AnswersMeant (encoding_meant from) (Checks input.now) result }
+{
+    match encoding_of(from) {
+        Some(from) => checked(alloc, input, from),
+        None => misused(),
+    }
+}

@@ -8,10 +8,11 @@ ghost use Rattle.yaml_round_reading.specs.Reading.{AreReal};
 ghost use Rattle.yaml_round_reading.specs.Answers.{IsSame};
 
 use crate::content::agree;
+use crate::trail::Trail;
 use std::alloc::Global;
 use yaml_parse::{yaml_event_t, yaml_found_t};
 use yaml_round_reading::{Reading, let_go, normalize_event, read_out, reading_of, yaml_side_t};
-use yaml_scan::{yaml_encoding_t, yaml_fault_t};
+use yaml_scan::{yaml_encoding_t, yaml_fault_t, yaml_memory_fault, yaml_origin_t};
 
 /// How two streams of events go on.
 #[derive(Clone, Copy)]
@@ -79,7 +80,11 @@ fn compared_next(first: &mut Reading<'_>, second: &mut Reading<'_>) -> Next
 }
 
 // Whether the events are the same to their end. The first fault ends it.
-fn same_events(first: &mut Reading<'_>, second: &mut Reading<'_>) -> Result<bool, SideFault>
+fn same_events(
+    first: &mut Reading<'_>,
+    second: &mut Reading<'_>,
+    trail: &mut Trail,
+) -> Result<bool, SideFault>
     requires { BothReal first.old.parser second.old.parser }
     ensures { Sided first.old.parser second.old.parser result first.new.parser second.new.parser }
 {
@@ -88,8 +93,16 @@ fn same_events(first: &mut Reading<'_>, second: &mut Reading<'_>) -> Result<bool
             Next::Refused(yaml_side_t::First) => return Err((yaml_side_t::First, first.fault)),
             Next::Refused(yaml_side_t::Second) => return Err((yaml_side_t::Second, second.fault)),
             Next::End => return Ok(true),
-            Next::Different => return Ok(false),
-            Next::Same => {}
+            Next::Different => {
+                trail.part_at(&first.event, &second.event);
+                return Ok(false);
+            }
+            Next::Same => match trail.go_past(&mut first.event) {
+                Ok(()) => {}
+                Err(_) => {
+                    return Err((yaml_side_t::First, yaml_memory_fault(yaml_origin_t::Parser)))
+                }
+            },
         }
     }
 }
@@ -120,11 +133,15 @@ fn behind_first(first: &mut Reading<'_>, fault: yaml_fault_t) -> SideFault
 }
 
 // Whether two readings have the same content. A fault of the first is answered first.
-fn compared(first: &mut Reading<'_>, second: &mut Reading<'_>) -> Result<bool, SideFault>
+fn compared(
+    first: &mut Reading<'_>,
+    second: &mut Reading<'_>,
+    trail: &mut Trail,
+) -> Result<bool, SideFault>
     requires { BothReal first.old.parser second.old.parser }
     ensures { ComparesReadings first.old.parser second.old.parser result }
 {
-    match same_events(first, second) {
+    match same_events(first, second, trail) {
         Ok(true) => Ok(true),
         Ok(false) => match read_out_both(first, second) {
             Err(fault) => Err(fault),
@@ -141,6 +158,7 @@ pub fn same_as(
     first: &mut Reading<'_>,
     b: &[u8],
     b_encoding: yaml_encoding_t,
+    trail: &mut Trail,
 ) -> Result<bool, (yaml_side_t, yaml_fault_t)>
     requires { AreReal first.old.parser.events }
     ensures { (from : yaml_encoding_t) (input : List ℕ) → Reads from input first.old.parser
@@ -149,7 +167,7 @@ pub fn same_as(
     match reading_of(alloc, b, b_encoding) {
         Err(fault) => Err(behind_first(first, fault)),
         Ok(mut second) => {
-            let answer = compared(first, &mut second);
+            let answer = compared(first, &mut second, trail);
             let_go(second);
             answer
         }

@@ -1,0 +1,17 @@
+mod Whites
+mod ValueBytes
+mod PlainWhite
+mod Plains
+mod EventsRead
+mod Growing
+mod Documents
+mod Passing
+mod Strings
+mod Numbers
+mod Characters
+mod Near
+mod Steps
+mod Walk
+mod Bytes
+mod Saying
+mod Joining

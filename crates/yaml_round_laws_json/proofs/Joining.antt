@@ -1,6 +1,7 @@
 -- A JSON text is decoded, scanned, passed on and parsed as its value.
-use Rattle.std.proofs.Common.{◌≡◌, ℕ, List, [], ◌∷◌, map, Result, Ok, refl, ap, ◌∙◌}
+use Rattle.std.proofs.Common.{◌≡◌, ℕ, true, List, [], ◌∷◌, map, Result, Ok, refl, ap, ◌∙◌}
 use Rattle.yaml_round_content.specs.scan_model.declared.yaml_encoding_t.{yaml_encoding_t}
+use Rattle.yaml_round_content.specs.scan_model.declared.yaml_encoding_t.TheVariants.{YAML_UTF8_ENCODING}
 use Rattle.yaml_round_content.specs.scan_history.scan_decode.declared.offence.Offence.{Offence}
 use Rattle.yaml_round_content.specs.scan_history.scan_decode.Encodings.{encoding_of}
 use Rattle.yaml_round_content.specs.scan_history.scan_decode.Spelling.{Spells}
@@ -10,18 +11,19 @@ use Rattle.yaml_round_content.specs.scan_history.Scanned.{scanned, scanned_in}
 use Rattle.yaml_round_content.specs.parse_grammar.Resolve.{Told, Reading}
 use Rattle.yaml_round_content.specs.Said.{HasContent}
 use Rattle.yaml_round_content.specs.Input.{events_of, read, parsed, tokens_of}
-use Rattle.yaml_round_content.proofs.Joining.{said_read, events_of_tree}
+use Rattle.yaml_round_content.proofs.Joining.{said_read, events_of_tree, one_reading}
 use Rattle.yaml_round_laws_adapted.specs.Adapted.{adapted}
 use Rattle.yaml_round_laws_documents.specs.Adapting.{without_fault}
 use Rattle.yaml_round_laws_documents.specs.TreeLaws.{parsed_of}
 use Rattle.yaml_round_laws_json.specs.Grammar.{Text, IsJsonText}
 use Rattle.yaml_round_laws_json.specs.Values.{json_value, json_content, json_document}
 use Rattle.yaml_round_laws_json.specs.Exceptions.{IsUsualText}
-use Rattle.yaml_round_laws_json.specs.Laws.{IsReadAsValue, JsonIsRead}
+use Rattle.yaml_round_laws_json.specs.Laws.{may_be_utf8, IsReadAsValue, JsonIsRead}
 use Rattle.yaml_round_laws_json.proofs.Bytes.{text_spells}
 use Rattle.yaml_round_laws_json.proofs.Walk.{text_done}
 use Rattle.yaml_round_laws_json.proofs.Passing.{tokens_pass}
 use Rattle.yaml_round_laws_json.proofs.Documents.{tokens_parsed}
+use Rattle.yaml_round_laws_json.proofs.Unique.{one_content}
 use Rattle.yaml_round_laws_json.proofs.Saying.{document_said, document_shown, document_shaped}
 
 read_is : (from : yaml_encoding_t) (input : List ℕ) → read from input ≡ parsed (tokens_of from input)
@@ -53,8 +55,14 @@ spelled_read from input text t spells is usual =
       styled = refl;
     }
 
+bytes_read : (from : yaml_encoding_t) → may_be_utf8 from ≡ true → (bytes : List ℕ) (t : Text) → IsJsonText bytes t → IsUsualText t → IsReadAsValue from bytes (json_value t.value)
+bytes_read from may bytes t is usual = spelled_read from bytes bytes t (text_spells from may bytes t is usual) is usual
+
+one_read : (text : List ℕ) (t u : Text) → IsJsonText text t → IsUsualText t → IsJsonText text u → IsUsualText u → json_value t.value ≡ json_value u.value
+one_read text t u is usual are same =
+    let r = bytes_read YAML_UTF8_ENCODING refl text t is usual in
+    let s = bytes_read YAML_UTF8_ENCODING refl text u are same in
+    one_content (json_value t.value) (json_value u.value) (one_reading YAML_UTF8_ENCODING text _ _ r.reading s.reading)
+
 pub json_is_read : JsonIsRead
-json_is_read = record {
-  in_utf8 = λ from may bytes t is usual. spelled_read from bytes bytes t (text_spells from may bytes t is usual) is usual;
-  spelled = spelled_read;
-}
+json_is_read = record { in_utf8 = bytes_read; spelled = spelled_read; one = one_read }

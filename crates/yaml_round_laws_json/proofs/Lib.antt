@@ -14,4 +14,5 @@ mod Steps
 mod Walk
 mod Bytes
 mod Saying
+mod Unique
 mod Joining

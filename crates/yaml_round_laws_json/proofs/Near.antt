@@ -54,12 +54,8 @@ one_line (c ∷ cs) h = let (here, rest) = pair (goes_on c) (list_all goes_on cs
 start : Cursor
 start = record { column = 0; white = false; bare = false; kept = false }
 
-most : (n : ℕ) → nat_le n 1024 ≡ true → n ≤ 1024
-most n h = grind (arith, nat_tests)
-
-negated : (a : Bool) → not a ≡ true → a ≡ false
-negated true h = absurd (true≢false (sym h))
-negated false h = refl
+near_parts : (ls : List Letter) (ws : List ℕ) → is_near ls ws ≡ true → (has_break ws ≡ false) × (length (string_bytes ls ++ ws) ≤ 1024)
+near_parts ls ws h = (grind (arith, nat_tests), grind (arith, nat_tests))
 
 -- few characters that end no line
 line_near : (cs text : List ℕ) (p : ℕ) → is_one_line cs ≡ true → length (encode_utf8_all cs) ≤ 1024 → HasAt text p (encode_utf8_all cs) → is_fresh (mark_at text p) (mark_at text (p + length (encode_utf8_all cs))) ≡ true
@@ -74,10 +70,9 @@ pub key_near : (ls : List Letter) (ws : List ℕ) (text : List ℕ) (p : ℕ) �
     → is_fresh (mark_at text p) (mark_at text (p + length (string_bytes ls ++ ws))) ≡ true
 key_near ls ws text p h k white near at =
     let key = string_bytes ls ++ ws in
-    let (calm, few) = pair (not (has_break ws)) (nat_le (length key) 1024) near in
-    let tail : Spelled goes_on ws = subst (λ (bs : List ℕ). Spelled goes_on bs) (append-nil ws) (white_before goes_on ws [] white (white_on ws white (negated (has_break ws) calm)) (no_bytes goes_on)) in
+    let (calm, few) = near_parts ls ws near in
+    let tail : Spelled goes_on ws = subst (λ (bs : List ℕ). Spelled goes_on bs) (append-nil ws) (white_before goes_on ws [] white (white_on ws white calm) (no_bytes goes_on)) in
     let s = string_before goes_on passes ls ws h k tail in
-    let m = most (length key) few in
     let size : length (encode_utf8_all s.characters) ≡ length key = ap (λ (bs : List ℕ). length bs) s.is in
     let F : List ℕ → Type 0 = λ bs. is_fresh (mark_at text p) (mark_at text (p + length bs)) ≡ true in
-    subst F s.is (line_near s.characters text p (one_line s.characters s.all) (omega (arith, size, m)) (subst (λ (bs : List ℕ). HasAt text p bs) (sym s.is) at))
+    subst F s.is (line_near s.characters text p (one_line s.characters s.all) (omega (arith, size, few)) (subst (λ (bs : List ℕ). HasAt text p bs) (sym s.is) at))

@@ -31,3 +31,6 @@ pub record JsonIsRead : Type 0 where
   -- bytes that spell it in whichever encoding, behind a byte order mark or without one
   pub spelled : (from : yaml_encoding_t) (input text : List ℕ) (t : Text) → Spells from input text
       → IsJsonText text t → IsUsualText t → IsReadAsValue from input (json_value t.value)
+  -- it has one value
+  pub one : (text : List ℕ) (t u : Text) → IsJsonText text t → IsUsualText t → IsJsonText text u
+      → IsUsualText u → json_value t.value ≡ json_value u.value

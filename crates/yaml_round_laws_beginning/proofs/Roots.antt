@@ -8,6 +8,9 @@ use Rattle.std.proofs.lemmas.Slice.Eq.{bytes_eq-Decides}
 use Rattle.yaml_round_content.specs.scan_model.declared.yaml_encoding_t.{yaml_encoding_t}
 use Rattle.yaml_round_content.specs.scan_model.declared.yaml_mark_t.{yaml_mark_t}
 use Rattle.yaml_round_content.specs.scan_model.declared.yaml_scalar_style_t.{yaml_scalar_style_t}
+use Rattle.yaml_round_content.specs.scan_model.declared.yaml_scalar_style_t.TheVariants.{YAML_PLAIN_SCALAR_STYLE}
+use Rattle.yaml_round_content.specs.scan_model.declared.yaml_sequence_style_t.TheVariants.{YAML_FLOW_SEQUENCE_STYLE, YAML_BLOCK_SEQUENCE_STYLE}
+use Rattle.yaml_round_content.specs.scan_model.declared.yaml_mapping_style_t.TheVariants.{YAML_FLOW_MAPPING_STYLE, YAML_BLOCK_MAPPING_STYLE}
 use Rattle.yaml_round_content.specs.scan_model.declared.yaml_version_directive_t.{yaml_version_directive_t}
 use Rattle.yaml_round_content.specs.scan_model.Tokens.{Token}
 use Rattle.yaml_round_content.specs.parse_model.Events.{EventBody, TagDirective}
@@ -18,7 +21,7 @@ use Rattle.yaml_round_content.specs.parse_grammar.Items.{RawEvent, Properties, T
 use Rattle.yaml_round_content.specs.parse_grammar.Items as item
 use Rattle.yaml_round_content.specs.parse_grammar.Trees.{Given, TagToken, properties_of, spell_ends, spell_content, spell_documents}
 use Rattle.yaml_round_content.specs.parse_grammar.Trees as tree
-use Rattle.yaml_round_content.specs.parse_grammar.TreeSteps.{items, items_node, items_directives, items_documents, items_first}
+use Rattle.yaml_round_content.specs.parse_grammar.TreeSteps.{items, items_node, items_content, items_directives, items_documents, items_first}
 use Rattle.yaml_round_content.specs.parse_grammar.Resolve.{Directives, no_directives, Settled, refused, gave, noted, settle, settle_body, resolved, directive_for, default_prefix, with_resolved, with_tag, with_version, is_known_version, is_plain, node_event, Reading, read_on, reading}
 use Rattle.yaml_round_content.specs.parse_laws_loading.Places.{BeginsWithSentence}
 use Rattle.yaml_round_content.specs.scan_laws_names.Spelled.{IsSome, IsSpelled, AreSpelled}
@@ -103,30 +106,36 @@ there anchor tag (item.mapping style) h = refl
 
 -- ---- an empty node behind its properties
 
+empty_at : (m : Bool) (anchor : Option (List ℕ)) (tag : List ℕ) → is_nothing_next (emitter_event (normalize_scalar m anchor (Some tag) [] false false YAML_PLAIN_SCALAR_STYLE) ∷ []) ≡ (not (has anchor) && m)
+empty_at true None tag = refl
+empty_at true (Some a) tag = refl
+empty_at false None tag = refl
+empty_at false (Some a) tag = refl
+
 empty_by : (m : Bool) (anchor : Option (List ℕ)) (tag : List ℕ) → is_lone_mark (Some tag) [] ≡ m → says (node_event anchor (Some tag) item.empty) ≡ (not (has anchor) && m)
-empty_by true None tag e = rw e refl
-empty_by true (Some a) tag e = rw e refl
-empty_by false None tag e = rw e refl
-empty_by false (Some a) tag e = rw e refl
+empty_by m anchor tag e = ap (λ (b : Bool). is_nothing_next (emitter_event (normalize_scalar b anchor (Some tag) [] false false YAML_PLAIN_SCALAR_STYLE) ∷ [])) e ∙ empty_at m anchor tag
+
+lone_tag : (tag : List ℕ) → is_lone_mark (Some tag) [] ≡ true → tag ≡ codes "!"
+lone_tag [] h = absurd (cc)
+lone_tag (b ∷ []) h = let e : b ≡ 33 = grind (arith, nat_tests, h) in ap (λ (x : ℕ). x ∷ []) e
+lone_tag (b ∷ c ∷ bs) h = absurd (grind (arith, nat_tests, h))
+
+not_both : (b : Bool) → b ≡ true → b ≡ false → ⊥
+not_both b e f = cc
 
 lone_is : (tag : List ℕ) → is_lone_mark (Some tag) [] ≡ bytes_eq tag (codes "!")
 lone_is tag =
     elim (cases_Bool (bytes_eq tag (codes "!"))) [
       | inl e ↦ rw ((bytes_eq-Decides tag (codes "!")).0 e) refl
-      | inr e ↦ none tag e
+      | inr e ↦ elim (cases_Bool (is_lone_mark (Some tag) [])) [
+        | inl h ↦ absurd (not_both (bytes_eq tag (codes "!")) ((bytes_eq-Decides tag (codes "!")).1 (lone_tag tag h)) e)
+        | inr h ↦ h ∙ sym e
+      ]
     ]
-  where
-    none : (t : List ℕ) → bytes_eq t (codes "!") ≡ false → is_lone_mark (Some t) [] ≡ bytes_eq t (codes "!")
-    none [] e = refl
-    none (b ∷ []) e = one b (cases_Bool (b == 33)) e
-      where
-        one : (b : ℕ) → _ → bytes_eq (b ∷ []) (codes "!") ≡ false → is_lone_mark (Some (b ∷ [])) [] ≡ bytes_eq (b ∷ []) (codes "!")
-        one b c e = sym (e ∙ grind (arith, nat_tests, e))
-    none (b ∷ c ∷ bs) e = sym (e ∙ refl)
 
 -- a tag of several characters is no lone mark
 long_tag : (tag : List ℕ) → (length tag == 1) ≡ false → is_lone_mark (Some tag) [] ≡ false
-long_tag tag e = rw e refl
+long_tag tag e = ap (λ (b : Bool). (true && b) && slice_index tag 0 == 33) e
 
 -- ---- settled
 
@@ -170,9 +179,12 @@ anchored : (o : Option (List ℕ)) (a : List ℕ) → alone o (Some a) ≡ false
 anchored None a = refl
 anchored (Some tag) a = empty_by (is_lone_mark (Some tag) []) (Some a) tag refl
 
+longest : (c d : ℕ) (bs : List ℕ) → (length (c ∷ d ∷ bs) == 1) ≡ false
+longest c d bs = grind (arith, nat_tests)
+
 longer : (c : ℕ) (suffix : List ℕ) → IsSome suffix → (length (c ∷ suffix) == 1) ≡ false
 longer c [] h = absurd (cc)
-longer c (b ∷ bs) h = grind (arith, nat_tests)
+longer c (b ∷ bs) h = longest c b bs
 
 behind_handle : (o : Option (List ℕ)) (tag : List ℕ) → o ≡ Some tag → (length tag == 1) ≡ false → alone o None ≡ false
 behind_handle o tag e h = rw e (empty_by false None tag (long_tag tag h))
@@ -180,15 +192,13 @@ behind_handle o tag e h = rw e (empty_by false None tag (long_tag tag h))
 by_default : (a b : Bool) (suffix : List ℕ) → IsSome suffix
     → alone (option_map (λ (prefix : List ℕ). prefix ++ suffix) (if a then Some (codes "!") else if b then Some (codes "tag:yaml.org,2002:") else None)) None ≡ false
 by_default true b suffix h = behind_handle _ (33 ∷ suffix) refl (longer 33 suffix h)
-by_default false true suffix h = behind_handle _ (codes "tag:yaml.org,2002:" ++ suffix) refl (grind (arith, nat_tests))
+by_default false true suffix h = behind_handle _ (codes "tag:yaml.org,2002:" ++ suffix) refl (longest 116 97 (codes "g:yaml.org,2002:" ++ suffix))
 by_default false false suffix h = refl
 
 tag_alone : (t : TagToken) → IsSome t.suffix → alone (resolved [] t.handle t.suffix) None ≡ is_mark t
 unfolding directive_for
 tag_alone t h = by t.handle t.suffix h
   where
-    unfolding directive_for
-
     by : (handle suffix : List ℕ) → IsSome suffix → alone (resolved [] handle suffix) None ≡ is_mark (record { handle = handle; suffix = suffix; span = t.span })
     by [] suffix some = empty_by (bytes_eq suffix (codes "!")) None suffix (lone_is suffix)
     by (c ∷ cs) suffix some = by_default (bytes_eq (c ∷ cs) (codes "!")) (bytes_eq (c ∷ cs) (codes "!!")) suffix some
@@ -199,23 +209,27 @@ tag_alone t h = by t.handle t.suffix h
 abbrev Told : List Token → Type 0
 Told ts = AreFull ts × AreSpelled ts
 
-content_there : {w : Wants} (c : tree.Content w) (p : Option Properties) (rest : List Token) → AreFull (spell_content c rest) → (more : List Given) (behind : List Token)
-    → is_nothing_next (emitter_events false (reading (items_node (tree.bare c) behind more) None no_directives).events) ≡ false
-content_there (tree.scalar s value style) p rest h more behind = node_next None None (item.scalar value style) s.from s.to _ more ∙ node_there None None (item.scalar value style) h.0
-content_there (tree.flow brackets.Sequence s its) p rest h more behind = node_next None None (item.sequence _) s.from s.to _ _ ∙ node_there None None (item.sequence _) tt
-content_there (tree.flow brackets.Mapping s its) p rest h more behind = node_next None None (item.mapping _) s.from s.to _ _ ∙ node_there None None (item.mapping _) tt
-content_there (tree.block_sequence s es) p rest h more behind = node_next None None (item.sequence _) s.from s.to _ _ ∙ node_there None None (item.sequence _) tt
-content_there (tree.block_mapping s ps) p rest h more behind = node_next None None (item.mapping _) s.from s.to _ _ ∙ node_there None None (item.mapping _) tt
-content_there (tree.indentless s n others) p rest h more behind = node_next None None (item.sequence _) s.from s.to _ _ ∙ node_there None None (item.sequence _) tt
+shaped : (anchor : Option (List ℕ)) (tag : Option Tag) (shape : Shape) (from to : yaml_mark_t) (left : ℕ) (gs : List Given) → IsThere shape
+    → is_nothing_next (emitter_events false (reading ((item_at (item.node anchor tag shape) from to, left) ∷ gs) None no_directives).events) ≡ false
+shaped anchor tag shape from to left gs h = node_next anchor tag shape from to left gs ∙ node_there anchor tag shape h
 
-dressed_there : {w : Wants} (d : tree.PropertyTokens) (c : tree.Content w) (rest : List Token) → AreFull (spell_content c rest) → (more : List Given) (behind : List Token)
-    → is_nothing_next (emitter_events false (reading (items_node (tree.with_properties d c) behind more) None no_directives).events) ≡ false
-dressed_there d (tree.scalar s value style) rest h more behind = node_next (properties_of d).anchor (properties_of d).tag (item.scalar value style) _ s.to _ more ∙ node_there (properties_of d).anchor (properties_of d).tag (item.scalar value style) h.0
-dressed_there d (tree.flow brackets.Sequence s its) rest h more behind = node_next (properties_of d).anchor (properties_of d).tag (item.sequence _) _ s.to _ _ ∙ node_there (properties_of d).anchor (properties_of d).tag (item.sequence _) tt
-dressed_there d (tree.flow brackets.Mapping s its) rest h more behind = node_next (properties_of d).anchor (properties_of d).tag (item.mapping _) _ s.to _ _ ∙ node_there (properties_of d).anchor (properties_of d).tag (item.mapping _) tt
-dressed_there d (tree.block_sequence s es) rest h more behind = node_next (properties_of d).anchor (properties_of d).tag (item.sequence _) _ s.to _ _ ∙ node_there (properties_of d).anchor (properties_of d).tag (item.sequence _) tt
-dressed_there d (tree.block_mapping s ps) rest h more behind = node_next (properties_of d).anchor (properties_of d).tag (item.mapping _) _ s.to _ _ ∙ node_there (properties_of d).anchor (properties_of d).tag (item.mapping _) tt
-dressed_there d (tree.indentless s n others) rest h more behind = node_next (properties_of d).anchor (properties_of d).tag (item.sequence _) _ s.to _ _ ∙ node_there (properties_of d).anchor (properties_of d).tag (item.sequence _) tt
+bare_there : {w : Wants} (c : tree.Content w) (rest : List Token) → AreFull (spell_content c rest) → (more : List Given)
+    → is_nothing_next (emitter_events false (reading (items_content c None rest more) None no_directives).events) ≡ false
+bare_there (tree.scalar s value style) rest h more = shaped None None (item.scalar value style) s.from s.to _ _ h.0
+bare_there (tree.flow brackets.Sequence s its) rest h more = shaped None None (item.sequence YAML_FLOW_SEQUENCE_STYLE) s.from s.to _ _ tt
+bare_there (tree.flow brackets.Mapping s its) rest h more = shaped None None (item.mapping YAML_FLOW_MAPPING_STYLE) s.from s.to _ _ tt
+bare_there (tree.block_sequence s es) rest h more = shaped None None (item.sequence YAML_BLOCK_SEQUENCE_STYLE) s.from s.to _ _ tt
+bare_there (tree.block_mapping s ps) rest h more = shaped None None (item.mapping YAML_BLOCK_MAPPING_STYLE) s.from s.to _ _ tt
+bare_there (tree.indentless s n others) rest h more = shaped None None (item.sequence YAML_BLOCK_SEQUENCE_STYLE) s.from s.to _ _ tt
+
+dressed_there : {w : Wants} (p : Properties) (c : tree.Content w) (rest : List Token) → AreFull (spell_content c rest) → (more : List Given)
+    → is_nothing_next (emitter_events false (reading (items_content c (Some p) rest more) None no_directives).events) ≡ false
+dressed_there p (tree.scalar s value style) rest h more = shaped p.anchor p.tag (item.scalar value style) p.from s.to _ _ h.0
+dressed_there p (tree.flow brackets.Sequence s its) rest h more = shaped p.anchor p.tag (item.sequence YAML_FLOW_SEQUENCE_STYLE) p.from s.to _ _ tt
+dressed_there p (tree.flow brackets.Mapping s its) rest h more = shaped p.anchor p.tag (item.mapping YAML_FLOW_MAPPING_STYLE) p.from s.to _ _ tt
+dressed_there p (tree.block_sequence s es) rest h more = shaped p.anchor p.tag (item.sequence YAML_BLOCK_SEQUENCE_STYLE) p.from s.to _ _ tt
+dressed_there p (tree.block_mapping s ps) rest h more = shaped p.anchor p.tag (item.mapping YAML_BLOCK_MAPPING_STYLE) p.from s.to _ _ tt
+dressed_there p (tree.indentless s n others) rest h more = shaped p.anchor p.tag (item.sequence YAML_BLOCK_SEQUENCE_STYLE) p.from s.to _ _ tt
 
 behind_properties : (d : tree.PropertyTokens) (ts : List Token) → AreFull (tree.spell_properties d ts) → AreFull ts
 behind_properties (tree.anchor a) ts h = h.1
@@ -229,16 +243,16 @@ properties_said (tree.anchor_tag a t) ts h = anchored (resolved [] t.handle t.su
 properties_said (tree.tag t) ts h = tag_alone t h.0.1
 properties_said (tree.tag_anchor t a) ts h = anchored (resolved [] t.handle t.suffix) a.name
 
+aliased : (name : List ℕ) (from to : yaml_mark_t) (left : ℕ) (gs : List Given) → is_nothing_next (emitter_events false (reading ((item_at (item.event (event.alias name)) from to, left) ∷ gs) None no_directives).events) ≡ false
+unfolding reading
+aliased name from to left gs = refl
+
 root_next : {w : Wants} (n : tree.Node w) (rest : List Token) → Told (tree.spell_node n rest) → (more : List Given)
     → is_nothing_next (emitter_events false (reading (items_node n rest more) None no_directives).events) ≡ is_mark_node n
-root_next (tree.alias s name) rest h more = aliased s.from s.to (length rest) more
-  where
-    aliased : (from to : yaml_mark_t) (left : ℕ) (gs : List Given) → is_nothing_next (emitter_events false (reading ((item_at (item.event (event.alias name)) from to, left) ∷ gs) None no_directives).events) ≡ false
-    unfolding reading
-    aliased from to left gs = refl
+root_next (tree.alias s name) rest h more = aliased name s.from s.to (length rest) more
 root_next (tree.only_properties d) rest h more = node_next (properties_of d).anchor (properties_of d).tag item.empty (properties_of d).from (properties_of d).to _ more ∙ properties_said d rest h.1
-root_next (tree.with_properties d c) rest h more = dressed_there d c rest (behind_properties d (spell_content c rest) h.0) more rest
-root_next (tree.bare c) rest h more = content_there c None rest h.0 more rest
+root_next (tree.with_properties d c) rest h more = dressed_there (properties_of d) c rest (behind_properties d (spell_content c rest) h.0) more
+root_next (tree.bare c) rest h more = bare_there c rest h.0 more
 
 -- ---- a document with a `---`
 
@@ -272,12 +286,12 @@ directed [] rest from to left gs d = refl
 directed (tree.version s x y ∷ ds) rest from to left gs d = quiet_on (with_version d.version d.tags x y s.from) _ _ _ (version_quiet d.version d.tags x y s.from) (λ e. directed ds rest from to left gs e)
 directed (tree.handle s name prefix ∷ ds) rest from to left gs d = quiet_on (with_tag (directive_for name d.tags) d name prefix s.from) _ _ _ (handle_quiet (directive_for name d.tags) d name prefix s.from) (λ e. directed ds rest from to left gs e)
 
+ended : (left : ℕ) (from to : yaml_mark_t) → opens_with_nothing (emitter_events false (reading ((item_at (item.event event.stream_end) from to, left) ∷ []) None no_directives).events) ≡ false
+unfolding reading
+ended left from to = refl
+
 documents_open : (ds : tree.Documents) (rest : List Token) → opens_with_nothing (emitter_events false (reading (items_documents ds rest) None no_directives).events) ≡ false
 documents_open (tree.end_stream s) rest = ended (length rest) s.from s.to
-  where
-    ended : (left : ℕ) (from to : yaml_mark_t) → opens_with_nothing (emitter_events false (reading ((item_at (item.event event.stream_end) from to, left) ∷ []) None no_directives).events) ≡ false
-    unfolding reading
-    ended left from to = refl
 documents_open (tree.document ds s root ends more) rest = directed ds _ _ s.to _ _ no_directives
 
 -- ---- the stream

@@ -1,5 +1,5 @@
 -- No plain scalar of an input is empty.
-use Rattle.std.proofs.Common.{◌≡◌, ℕ, zero, suc, ◌+◌, ◌==◌, nat_lt, if◌then◌else◌, true, false, true≢false, List, [], ◌∷◌, ◌++◌, length, take, drop, replicate, Option, Result, Ok, Err, refl, sym, ◌∙◌, inl, inr, flat_map}
+use Rattle.std.proofs.Common.{◌≡◌, ℕ, zero, suc, ◌+◌, ◌==◌, nat_lt, if◌then◌else◌, true, false, true≢false, List, [], ◌∷◌, ◌++◌, length, drop, replicate, Option, Result, Ok, Err, refl, sym, ◌∙◌, inl, inr, flat_map}
 use Rattle.std.proofs.lemmas.Bool.{cases_Bool}
 use Rattle.yaml_round_content.specs.scan_model.declared.yaml_encoding_t.{yaml_encoding_t}
 use Rattle.yaml_round_content.specs.scan_model.declared.yaml_scalar_style_t.{yaml_scalar_style_t}
@@ -9,7 +9,7 @@ use Rattle.yaml_round_content.specs.scan_model.Tokens.{Token, TokenBody, block_e
 use Rattle.yaml_round_content.specs.scan_model.Faults.{Fault}
 use Rattle.yaml_round_content.specs.scan_history.scan_model.Wrong.{Wrong}
 use Rattle.yaml_round_content.specs.scan_history.scan_model.Marks.{byte}
-use Rattle.yaml_round_content.specs.scan_history.scan_scalars.Pieces.{Line, Piece, Kept, lines, folded}
+use Rattle.yaml_round_content.specs.scan_history.scan_scalars.Pieces.{Line, Kept, lines, folded}
 use Rattle.yaml_round_content.specs.scan_history.scan_scalars.Plain.{Words, words_from, plain_with, plain_text, words}
 use Rattle.yaml_round_content.specs.scan_history.scan_block.Block.{BlockText}
 use Rattle.yaml_round_content.specs.scan_history.scan_words.Directives.{Said, DirectiveText}
@@ -23,8 +23,8 @@ use Rattle.yaml_round_content.specs.scan_history.declared.Opens.{Opens}
 use Rattle.yaml_round_content.specs.scan_history.declared.Opens.TheVariants as opening
 use Rattle.yaml_round_content.specs.scan_history.History.{first_open, entries}
 use Rattle.yaml_round_content.specs.scan_history.Words.{WordText, valued, tagged, directed, blocked, plainly, body_said, word_at}
-use Rattle.yaml_round_content.specs.scan_history.Next.{Next, Read, Fails, Ends, next, history}
-use Rattle.yaml_round_content.specs.scan_history.Remaining.{SpelledText, body_of_word, body_by, body_in, before, start_tokens, end_tokens, own_tokens, spell, all, handed_out, handed, front_ends, kept_of, remaining}
+use Rattle.yaml_round_content.specs.scan_history.Next.{Next, Read, Fails, Ends, next}
+use Rattle.yaml_round_content.specs.scan_history.Remaining.{SpelledText, body_of_word, body_by, body_in, before, start_tokens, end_tokens, own_tokens, spell, all, handed, front_ends, kept_of, remaining}
 use Rattle.yaml_round_content.specs.scan_history.Scanned.{scanned_in, scanned}
 use Rattle.yaml_round_content.specs.scan_history.scan_decode.Encodings.{encoding_of}
 use Rattle.yaml_round_content.specs.scan_history.scan_decode.Decoding.{decoded_text}

@@ -22,14 +22,13 @@ use Rattle.yaml_round_content.specs.parse_grammar.Items as item
 use Rattle.yaml_round_content.specs.parse_grammar.Trees.{Given, TagToken, properties_of, spell_ends, spell_content, spell_documents}
 use Rattle.yaml_round_content.specs.parse_grammar.Trees as tree
 use Rattle.yaml_round_content.specs.parse_grammar.TreeSteps.{items, items_node, items_content, items_directives, items_documents, items_first}
-use Rattle.yaml_round_content.specs.parse_grammar.Resolve.{Directives, no_directives, Settled, refused, gave, noted, settle, settle_body, resolved, directive_for, default_prefix, with_resolved, with_tag, with_version, is_known_version, is_plain, node_event, Reading, read_on, reading}
-use Rattle.yaml_round_content.specs.parse_laws_loading.Places.{BeginsWithSentence}
-use Rattle.yaml_round_content.specs.scan_laws_names.Spelled.{IsSome, IsSpelled, AreSpelled}
+use Rattle.yaml_round_content.specs.parse_grammar.Resolve.{Directives, no_directives, Settled, refused, gave, noted, resolved, directive_for, with_resolved, with_tag, with_version, is_known_version, is_plain, node_event, Reading, read_on, reading}
+use Rattle.yaml_round_content.specs.scan_laws_names.Spelled.{IsSome, AreSpelled}
 use Rattle.yaml_round_content.specs.round_laws_adapted.Adapted.{spells_text, cut}
 use Rattle.yaml_round_content.specs.scan_history.Scanned.{scanned}
 use Rattle.yaml_round_content.specs.Normalize.{is_lone_mark, normalize_scalar, normalize_body}
 use Rattle.yaml_round_content.specs.Events.{emitter_events}
-use Rattle.yaml_round_content.specs.Input.{tokens_of, read, events_of}
+use Rattle.yaml_round_content.specs.Input.{tokens_of, events_of}
 use Rattle.yaml_round_content.proofs.Inputs.{scanned_spelled}
 use Rattle.yaml_round_content.proofs.Joining.{read_is, tree_read}
 use Rattle.yaml_round_content.proofs.Spelling.{spelled_before}
@@ -37,12 +36,12 @@ use Rattle.yaml_emit_layout.specs.Content as emit
 use Rattle.yaml_emit_layout.specs.Content.{emitter_event}
 use Rattle.yaml_emit_layout.specs.Grammar.{has}
 use Rattle.yaml_emit_laws_pretty.specs.Bodies.{is_bare, is_empty}
-use Rattle.yaml_round_laws_pretty.specs.Flags.{is_asked_plain, says_nothing, begins_with_nothing}
+use Rattle.yaml_round_laws_pretty.specs.Flags.{is_asked_plain}
 use Rattle.yaml_round_beginning.specs.declared.beginning.Beginning.TheVariants as known
 use Rattle.yaml_round_beginning.specs.Beginning.{is_nothing_next, opens_with_nothing, nothing_comes}
 use Rattle.yaml_round_beginning.proofs.Starting.{from_start}
 use Rattle.yaml_round_laws_beginning.specs.MarkAlone.{is_mark, is_mark_alone, is_mark_node, begins_with_mark, BeginningIsAMark}
-use Rattle.yaml_round_laws_beginning.proofs.Full.{IsFull, AreFull, tokens_full}
+use Rattle.yaml_round_laws_beginning.proofs.Full.{AreFull, tokens_full}
 
 and_off : (a : Bool) → (a && false) ≡ false
 and_off true = refl
@@ -159,8 +158,8 @@ resolves (Some tag) anchor shape from at i left k = gives (node_event anchor (So
 node_next : (anchor : Option (List ℕ)) (tag : Option Tag) (shape : Shape) (from to : yaml_mark_t) (left : ℕ) (gs : List Given)
     → is_nothing_next (emitter_events false (reading ((item_at (item.node anchor tag shape) from to, left) ∷ gs) None no_directives).events) ≡ node_says anchor tag shape
 unfolding reading
-node_next anchor None shape from to left gs = gives (node_event anchor None shape) no_directives _ left (λ ds. reading gs None ds)
-node_next anchor (Some t) shape from to left gs = resolves (resolved [] t.handle t.suffix) anchor shape from t.mark _ left (λ ds. reading gs None ds)
+node_next anchor None shape from to left gs = gives (node_event anchor None shape) no_directives (item_at (item.node anchor None shape) from to) left (λ ds. reading gs None ds)
+node_next anchor (Some t) shape from to left gs = resolves (resolved [] t.handle t.suffix) anchor shape from t.mark (item_at (item.node anchor (Some t) shape) from to) left (λ ds. reading gs None ds)
 
 resolved_there : (o anchor : Option (List ℕ)) (shape : Shape) → IsThere shape → resolved_says o anchor shape ≡ false
 resolved_there None anchor shape h = refl
@@ -220,7 +219,7 @@ bare_there (tree.flow brackets.Sequence s its) rest h more = shaped None None (i
 bare_there (tree.flow brackets.Mapping s its) rest h more = shaped None None (item.mapping YAML_FLOW_MAPPING_STYLE) s.from s.to _ _ tt
 bare_there (tree.block_sequence s es) rest h more = shaped None None (item.sequence YAML_BLOCK_SEQUENCE_STYLE) s.from s.to _ _ tt
 bare_there (tree.block_mapping s ps) rest h more = shaped None None (item.mapping YAML_BLOCK_MAPPING_STYLE) s.from s.to _ _ tt
-bare_there (tree.indentless s n others) rest h more = shaped None None (item.sequence YAML_BLOCK_SEQUENCE_STYLE) s.from s.to _ _ tt
+bare_there (tree.indentless s n more_items) rest h more = shaped None None (item.sequence YAML_BLOCK_SEQUENCE_STYLE) s.from s.to _ _ tt
 
 dressed_there : {w : Wants} (p : Properties) (c : tree.Content w) (rest : List Token) → AreFull (spell_content c rest) → (more : List Given)
     → is_nothing_next (emitter_events false (reading (items_content c (Some p) rest more) None no_directives).events) ≡ false
@@ -229,7 +228,7 @@ dressed_there p (tree.flow brackets.Sequence s its) rest h more = shaped p.ancho
 dressed_there p (tree.flow brackets.Mapping s its) rest h more = shaped p.anchor p.tag (item.mapping YAML_FLOW_MAPPING_STYLE) p.from s.to _ _ tt
 dressed_there p (tree.block_sequence s es) rest h more = shaped p.anchor p.tag (item.sequence YAML_BLOCK_SEQUENCE_STYLE) p.from s.to _ _ tt
 dressed_there p (tree.block_mapping s ps) rest h more = shaped p.anchor p.tag (item.mapping YAML_BLOCK_MAPPING_STYLE) p.from s.to _ _ tt
-dressed_there p (tree.indentless s n others) rest h more = shaped p.anchor p.tag (item.sequence YAML_BLOCK_SEQUENCE_STYLE) p.from s.to _ _ tt
+dressed_there p (tree.indentless s n more_items) rest h more = shaped p.anchor p.tag (item.sequence YAML_BLOCK_SEQUENCE_STYLE) p.from s.to _ _ tt
 
 behind_properties : (d : tree.PropertyTokens) (ts : List Token) → AreFull (tree.spell_properties d ts) → AreFull ts
 behind_properties (tree.anchor a) ts h = h.1

@@ -1,13 +1,14 @@
-//! The calls of the engine: events, reformat, reload, same, and the line that tells a fault.
+//! The calls of the engine: events, reformat, reload, same, diff, and the line that tells a fault.
 
+use crate::difference::put_difference;
 use crate::given::{Given, given_of, input_of};
 use crate::text::put_answer;
 use serde_json::Value;
 use yaml_cli_vector_calls::own_fault;
 use yaml_cli_vector_lines::Reply;
 use yaml_round::{
-    yaml_check, yaml_events, yaml_fault_line, yaml_fault_t, yaml_normalize, yaml_reformat,
-    yaml_reload, yaml_same, yaml_settings_t, yaml_side_t,
+    yaml_check, yaml_diff, yaml_events, yaml_fault_line, yaml_fault_t, yaml_normalize,
+    yaml_reformat, yaml_reload, yaml_same, yaml_settings_t, yaml_side_t,
 };
 
 /// The event lines of the line's input.
@@ -71,16 +72,19 @@ fn side_word(side: yaml_side_t) -> &'static str {
     }
 }
 
+// Puts the fault of one of two inputs.
+fn put_side(reply: &mut Reply, line: &Value, side: yaml_side_t, fault: &yaml_fault_t) {
+    reply.name("side");
+    reply.put_word(side_word(side));
+    reply.name_fault(line, fault);
+}
+
 // Puts what comparing answered.
 fn put_same(reply: &mut Reply, line: &Value, same: Result<bool, (yaml_side_t, yaml_fault_t)>) {
     reply.begin();
     match same {
         Ok(same) => reply.check("answer", same),
-        Err((side, fault)) => {
-            reply.name("side");
-            reply.put_word(side_word(side));
-            reply.name_fault(line, &fault);
-        }
+        Err((side, fault)) => put_side(reply, line, side, &fault),
     }
     reply.end();
 }
@@ -99,6 +103,26 @@ pub fn same(reply: &mut Reply, line: &Value) {
         from2,
     );
     put_same(reply, line, same);
+}
+
+/// Where the line's inputs part, null where they don't, or the side that is refused and its fault.
+pub fn diff(reply: &mut Reply, line: &Value) {
+    let from = reply.encoding(line, "from");
+    let from2 = reply.encoding(line, "from2");
+    let first = input_of(reply, line, "input");
+    let second = input_of(reply, line, "input2");
+    reply.begin();
+    match yaml_diff(
+        reply.alloc(),
+        first.as_slice(),
+        from,
+        second.as_slice(),
+        from2,
+    ) {
+        Ok(difference) => put_difference(reply, &difference),
+        Err((side, fault)) => put_side(reply, line, side, &fault),
+    }
+    reply.end();
 }
 
 /// The line that tells the fault.

@@ -2,6 +2,7 @@
 //! what it is a row of, and isn't looked at.
 #![tactic(auto)]
 
+mod difference;
 mod engine;
 mod given;
 mod limits;

@@ -17,6 +17,7 @@ fn answer(rt: &HostRuntime, reply: &mut Reply, call: &str, line: &Value) {
         "reload" => engine::reload(reply, line),
         "loads" => engine::loads(reply, line),
         "same" => engine::same(reply, line),
+        "diff" => engine::diff(reply, line),
         "line" => engine::fault_line(reply, line),
         "least_limit" => limits::least_limit(reply, line),
         "run" => run::run(reply, line),

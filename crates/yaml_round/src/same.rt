@@ -3,7 +3,7 @@
 ghost use Rattle.yaml_round_writing.specs.Answers.{IsSame};
 
 use std::alloc::Global;
-use yaml_round_compare::same_as;
+use yaml_round_compare::{Trail, same_as};
 use yaml_round_writing::{let_go, reading_of, yaml_side_t};
 use yaml_scan_model::{yaml_encoding_t, yaml_fault_t};
 
@@ -22,7 +22,8 @@ pub fn yaml_same(
     match reading_of(alloc, a, a_encoding) {
         Err(fault) => Err((yaml_side_t::First, fault)),
         Ok(mut first) => {
-            let answer = same_as(alloc, &mut first, b, b_encoding);
+            let mut trail = Trail::new(alloc, false);
+            let answer = same_as(alloc, &mut first, b, b_encoding, &mut trail);
             let_go(first);
             answer
         }

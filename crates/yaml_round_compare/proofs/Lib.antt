@@ -1,2 +1,7 @@
+mod Walks
+mod Placing
+mod Fronts
+mod Stepping
+mod Parting
 mod Comparing
 mod Mapped

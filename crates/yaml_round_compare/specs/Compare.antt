@@ -1,21 +1,29 @@
 -- How two readings compare.
-use Rattle.std.specs.Prelude.{◌≡◌, ◌↔◌, ◌<◌, Bool, true, false, IsTrue, List, [], ◌∷◌, length, Option, None, Result, Ok, Err}
+use Rattle.std.specs.Prelude.{◌≡◌, ◌↔◌, ◌<◌, ℕ, Bool, true, false, IsTrue, List, [], ◌∷◌, ◌++◌, length, Option, None, Result, Ok, Err}
 use Rattle.yaml_scan.specs.declared.yaml_fault_t.{yaml_fault_t}
 use Rattle.yaml_scan.specs.Faults.{Fault}
-use Rattle.yaml_parse.specs.Events.{EventBody}
+use Rattle.yaml_parse.specs.Events.{Event, EventBody, event_of, type_of}
+use Rattle.yaml_parse.specs.Resolve.{Told}
 use Rattle.yaml_parse.specs.Remaining.{ParserRemaining}
 use Rattle.yaml_round_reading.specs.declared.side.yaml_side_t.{yaml_side_t}
 use Rattle.yaml_round_reading.specs.declared.side.yaml_side_t.TheVariants.{First, Second}
 use Rattle.yaml_round_reading.specs.declared.reading.Reading.{Reading}
 use Rattle.yaml_round_compare.specs.declared.compare.Next.{Next}
 use Rattle.yaml_round_compare.specs.declared.compare.Next.TheVariants.{Same, End, Different, Refused}
+use Rattle.yaml_round_compare.specs.declared.difference.yaml_difference_t.{yaml_difference_t}
+use Rattle.yaml_round_compare.specs.declared.trail.Trail.{Trail}
 use Rattle.yaml_round_content.specs.Normalize.{normalize_body}
 use Rattle.yaml_round_content.specs.Content.{content_of}
 use Rattle.yaml_round_reading.specs.Reading.{contents, AreReal, IsFaultOf}
+use Rattle.yaml_round_compare.specs.Walking.{path_of, past}
 
 -- what an event says, normalized
 abbrev pub saying : EventBody → EventBody
 saying e = content_of (normalize_body true e)
+
+-- the event as it is compared
+abbrev pub normalized : Event → Event
+normalized e = record e { body = normalize_body true e.body }
 
 abbrev pub JudgesEvents : EventBody → EventBody → Next → Type 0
 JudgesEvents e f Same = saying e ≡ saying f
@@ -27,8 +35,45 @@ JudgesEvents e f (Refused side) = ⊥
 abbrev pub BothReal : ParserRemaining → ParserRemaining → Type 0
 BothReal first second = AreReal first.events × AreReal second.events
 
--- both go on, and what is left compares as before
-pub record BothGoOn (first second first_new second_new : ParserRemaining) : Type 0 where
+-- ---- where events part
+
+-- it tells where the events begin and what they are
+pub record TellsOf (first second : Event) (d : yaml_difference_t) : Type 0 where
+  pub first_mark : d.first_mark ≡ first.start_mark
+  pub first_type : d.first_type ≡ type_of first.body
+  pub second_mark : d.second_mark ≡ second.start_mark
+  pub second_type : d.second_type ≡ type_of second.body
+
+-- The first of these events differ, and it tells of them; or there are events on one side alone.
+abbrev pub AreApart : List Told → List Told → yaml_difference_t → Type 0
+AreApart [] [] d = ⊥
+AreApart [] (f ∷ fs) d = Unit {0}
+AreApart (e ∷ es) [] d = Unit {0}
+AreApart (e ∷ es) (f ∷ fs) d = (saying e.0.body ≡ saying f.0.body → ⊥) × TellsOf e.0 f.0 d
+
+-- Behind fronts that say the same the events are apart. Where it is kept, the path is that behind these fronts.
+pub record Parted (first second : List Told) (old new : Trail) : Type 0 where
+  pub before : List Told
+  pub other_before : List Told
+  pub left : List Told
+  pub other_left : List Told
+  pub first_events : first ≡ before ++ left
+  pub second_events : second ≡ other_before ++ other_left
+  pub alike : contents before ≡ contents other_before
+  pub apart : AreApart left other_left new.place
+  pub path : old.kept ≡ true → path_of new.place ≡ past (contents before) (path_of old.place)
+
+-- ---- the steps
+
+-- each gives an event that says the same, and what is left compares as before
+pub record BothGoOn (first second : ParserRemaining) (first_new second_new : ParserRemaining)
+    (shown : Event) : Type 0 where
+  pub front : Told
+  pub other_front : Told
+  pub first_events : first.events ≡ front ∷ first_new.events
+  pub second_events : second.events ≡ other_front ∷ second_new.events
+  pub says : saying front.0.body ≡ saying other_front.0.body
+  pub normal : shown ≡ normalized front.0
   pub real : BothReal first_new second_new
   pub less : length first_new.events < length first.events
   pub first_ending : first_new.ending ≡ first.ending
@@ -50,6 +95,14 @@ pub record Differ (first second first_new second_new : ParserRemaining) : Type 0
   pub first_ending : first_new.ending ≡ first.ending
   pub second_ending : second_new.ending ≡ second.ending
 
+-- they do, with their next events, which stand in the slots
+pub record DifferNext (first second : ParserRemaining) (first_new second_new : Reading) : Type 0
+  where
+    pub contents : Differ first second first_new.parser second_new.parser
+    pub apart : (d : yaml_difference_t)
+        → TellsOf (event_of first_new.event) (event_of second_new.event) d
+        → AreApart first.events second.events d
+
 -- the fault of a side; where the second is refused, the first's is still to come
 abbrev pub SideIs : ParserRemaining → ParserRemaining → ParserRemaining → yaml_side_t → yaml_fault_t
     → Type 0
@@ -58,31 +111,39 @@ SideIs first second first_new Second f = IsFaultOf second.ending f
     × ((first_new.ending ≡ first.ending) × AreReal first_new.events)
 
 -- the second's next event says what that one does
-pub record GoesBeside (e : EventBody) (second second_new : ParserRemaining) : Type 0 where
+pub record GoesBeside (e : Event) (second : ParserRemaining) (shown : Event)
+    (second_new : ParserRemaining) : Type 0 where
+  pub front : Told
+  pub events : second.events ≡ front ∷ second_new.events
+  pub says : saying e.body ≡ saying front.0.body
+  pub normal : shown ≡ normalized e
   pub real : AreReal second_new.events
   pub ending : second_new.ending ≡ second.ending
-  pub says : contents second.events ≡ saying e ∷ contents second_new.events
 
 -- the second has no such next event
-pub record DiffersBeside (e : EventBody) (second second_new : ParserRemaining) : Type 0 where
-  pub real : AreReal second_new.events
-  pub ending : second_new.ending ≡ second.ending
-  pub differ : (rest : List EventBody) → contents second.events ≡ saying e ∷ rest → ⊥
+pub record DiffersBeside (e : Event) (second : ParserRemaining) (shown : Event)
+    (second_new : Reading) : Type 0 where
+  pub real : AreReal second_new.parser.events
+  pub ending : second_new.parser.ending ≡ second.ending
+  pub differ : (rest : List EventBody) → contents second.events ≡ saying e.body ∷ rest → ⊥
+  pub apart : (unasked : ℕ) (rest : List Told) (d : yaml_difference_t)
+      → TellsOf shown (event_of second_new.event) d
+      → AreApart ((e, unasked) ∷ rest) second.events d
 
 -- the second has events to come
 pub record DiffersAlone (second second_new : ParserRemaining) : Type 0 where
   pub real : AreReal second_new.events
   pub ending : second_new.ending ≡ second.ending
   pub differ : contents second.events ≡ [] → ⊥
+  pub apart : (d : yaml_difference_t) → AreApart [] second.events d
 
--- the second's next event beside one that the first gave
-abbrev pub StepsBeside : EventBody → ParserRemaining → Next → yaml_fault_t → ParserRemaining
-    → Type 0
-StepsBeside e second Same f second_new = GoesBeside e second second_new
-StepsBeside e second End f second_new = ⊥
-StepsBeside e second Different f second_new = DiffersBeside e second second_new
-StepsBeside e second (Refused First) f second_new = ⊥
-StepsBeside e second (Refused Second) f second_new = IsFaultOf second.ending f
+-- the second's next event beside one that the first gave, which is shown normalized
+abbrev pub StepsBeside : Event → ParserRemaining → Next → Event → Reading → Type 0
+StepsBeside e second Same shown second_new = GoesBeside e second shown second_new.parser
+StepsBeside e second End shown second_new = ⊥
+StepsBeside e second Different shown second_new = DiffersBeside e second shown second_new
+StepsBeside e second (Refused First) shown second_new = ⊥
+StepsBeside e second (Refused Second) shown second_new = IsFaultOf second.ending second_new.fault
 
 -- the second beside the end of the first
 abbrev pub StepsAlone : ParserRemaining → Next → yaml_fault_t → ParserRemaining → Type 0
@@ -95,10 +156,10 @@ StepsAlone second (Refused Second) f second_new = IsFaultOf second.ending f
 -- both steps; each reading's fault stands in a slot of its own
 abbrev pub StepsOn : Reading → Reading → Next → Reading → Reading → Type 0
 StepsOn first second Same first_new second_new = BothGoOn first.parser second.parser
-    first_new.parser second_new.parser
+    first_new.parser second_new.parser (event_of first_new.event)
 StepsOn first second End first_new second_new = EndBoth first.parser second.parser
-StepsOn first second Different first_new second_new = Differ first.parser second.parser
-    first_new.parser second_new.parser
+StepsOn first second Different first_new second_new = DifferNext first.parser second.parser
+    first_new second_new
 StepsOn first second (Refused First) first_new second_new = SideIs first.parser second.parser
     first_new.parser First first_new.fault
 StepsOn first second (Refused Second) first_new second_new = SideIs first.parser second.parser
@@ -115,6 +176,12 @@ abbrev pub Sided : ParserRemaining → ParserRemaining → Result Bool (yaml_sid
 Sided first second (Ok true) first_new second_new = Equal first second
 Sided first second (Ok false) first_new second_new = Differ first second first_new second_new
 Sided first second (Err f) first_new second_new = SideIs first second first_new f.0 f.1
+
+-- where the contents are told to differ, that holds
+abbrev pub WhereDifferent : Result Bool (yaml_side_t × yaml_fault_t) → Type 0 → Type 0
+WhereDifferent (Ok false) P = P
+WhereDifferent (Ok true) P = Unit {0}
+WhereDifferent (Err f) P = Unit {0}
 
 -- neither has a fault, or the first fault; that of the second only where the first has none, for want of memory too
 abbrev pub IsSideFault : ParserRemaining → ParserRemaining → yaml_side_t → yaml_fault_t → Type 0

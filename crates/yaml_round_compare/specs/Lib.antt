@@ -1,1 +1,4 @@
+pub mod Places
+pub mod Walking
 pub mod Compare
+pub mod Differences

@@ -1,17 +1,19 @@
 //! Comparisons of inputs, by their events side by side; no tree is held.
 
-ghost use Rattle.std.specs.Prelude.{ℕ, List};
+ghost use Rattle.std.specs.Prelude.{◌≡◌, ℕ, List};
 ghost use Rattle.yaml_round_content.specs.Input.{Reads};
-ghost use Rattle.yaml_round_compare.specs.Compare.{BothReal, JudgesEvents, StepsBeside, StepsAlone, StepsOn, Sided, ReadsOutBoth, IsBehindFirst, ComparesReadings};
+ghost use Rattle.yaml_round_compare.specs.Compare.{BothReal, JudgesEvents, normalized, StepsBeside, StepsAlone, StepsOn, Sided, Parted, WhereDifferent, ReadsOutBoth, IsBehindFirst, ComparesReadings};
+ghost use Rattle.yaml_round_compare.specs.Differences.{IsFresh, IsParting};
 ghost use Rattle.yaml_parse.specs.Events.{event_of};
 ghost use Rattle.yaml_round_reading.specs.Reading.{AreReal};
 ghost use Rattle.yaml_round_reading.specs.Answers.{IsSame};
 
 use crate::content::agree;
+use crate::trail::Trail;
 use std::alloc::Global;
 use yaml_parse::{yaml_event_t, yaml_found_t};
 use yaml_round_reading::{Reading, let_go, normalize_event, read_out, reading_of, yaml_side_t};
-use yaml_scan::{yaml_encoding_t, yaml_fault_t};
+use yaml_scan::{yaml_encoding_t, yaml_fault_t, yaml_memory_fault, yaml_origin_t};
 
 /// How two streams of events go on.
 #[derive(Clone, Copy)]
@@ -30,7 +32,9 @@ type SideFault = (yaml_side_t, yaml_fault_t);
 
 // Two events, normalized in their slots, say the same.
 fn judged(event: &mut yaml_event_t, other: &mut yaml_event_t) -> Next
-    ensures { JudgesEvents (event_of event.old).body (event_of other.old).body result }
+    ensures judges { JudgesEvents (event_of event.old).body (event_of other.old).body result }
+    ensures event { event_of event.new ≡ normalized (event_of event.old) }
+    ensures other { event_of other.new ≡ normalized (event_of other.old) }
 {
     normalize_event(event, true);
     normalize_event(other, true);
@@ -44,8 +48,8 @@ fn judged(event: &mut yaml_event_t, other: &mut yaml_event_t) -> Next
 // The second input's next event beside the first's, which stands in its slot.
 fn compared_event(event: &mut yaml_event_t, second: &mut Reading<'_>) -> Next
     requires { AreReal second.old.parser.events }
-    ensures { StepsBeside (event_of event.old).body second.old.parser result second.new.fault
-        second.new.parser }
+    ensures { StepsBeside (event_of event.old) second.old.parser result (event_of event.new)
+        second.new }
 {
     match second.next() {
         yaml_found_t::Refused => Next::Refused(yaml_side_t::Second),
@@ -79,17 +83,32 @@ fn compared_next(first: &mut Reading<'_>, second: &mut Reading<'_>) -> Next
 }
 
 // Whether the events are the same to their end. The first fault ends it.
-fn same_events(first: &mut Reading<'_>, second: &mut Reading<'_>) -> Result<bool, SideFault>
+fn same_events(
+    first: &mut Reading<'_>,
+    second: &mut Reading<'_>,
+    trail: &mut Trail,
+) -> Result<bool, SideFault>
     requires { BothReal first.old.parser second.old.parser }
-    ensures { Sided first.old.parser second.old.parser result first.new.parser second.new.parser }
+    ensures sided { Sided first.old.parser second.old.parser result first.new.parser
+        second.new.parser }
+    ensures parted { WhereDifferent result (Parted first.old.parser.events
+        second.old.parser.events trail.old trail.new) }
 {
     'events: loop {
         match compared_next(first, second) {
             Next::Refused(yaml_side_t::First) => return Err((yaml_side_t::First, first.fault)),
             Next::Refused(yaml_side_t::Second) => return Err((yaml_side_t::Second, second.fault)),
             Next::End => return Ok(true),
-            Next::Different => return Ok(false),
-            Next::Same => {}
+            Next::Different => {
+                trail.part_at(&first.event, &second.event);
+                return Ok(false);
+            }
+            Next::Same => match trail.go_past(&mut first.event) {
+                Ok(()) => {}
+                Err(_) => {
+                    return Err((yaml_side_t::First, yaml_memory_fault(yaml_origin_t::Parser)))
+                }
+            },
         }
     }
 }
@@ -120,11 +139,17 @@ fn behind_first(first: &mut Reading<'_>, fault: yaml_fault_t) -> SideFault
 }
 
 // Whether two readings have the same content. A fault of the first is answered first.
-fn compared(first: &mut Reading<'_>, second: &mut Reading<'_>) -> Result<bool, SideFault>
+fn compared(
+    first: &mut Reading<'_>,
+    second: &mut Reading<'_>,
+    trail: &mut Trail,
+) -> Result<bool, SideFault>
     requires { BothReal first.old.parser second.old.parser }
-    ensures { ComparesReadings first.old.parser second.old.parser result }
+    ensures compares { ComparesReadings first.old.parser second.old.parser result }
+    ensures parted { WhereDifferent result (Parted first.old.parser.events
+        second.old.parser.events trail.old trail.new) }
 {
-    match same_events(first, second) {
+    match same_events(first, second, trail) {
         Ok(true) => Ok(true),
         Ok(false) => match read_out_both(first, second) {
             Err(fault) => Err(fault),
@@ -135,21 +160,25 @@ fn compared(first: &mut Reading<'_>, second: &mut Reading<'_>) -> Result<bool, S
     }
 }
 
-/// Whether the second input has the content of the first one's reading.
+/// Whether the second input has the content of the first one's reading. Where it hasn't, the trail tells where they part.
 pub fn same_as(
     alloc: Global,
     first: &mut Reading<'_>,
     b: &[u8],
     b_encoding: yaml_encoding_t,
+    trail: &mut Trail,
 ) -> Result<bool, (yaml_side_t, yaml_fault_t)>
     requires { AreReal first.old.parser.events }
-    ensures { (from : yaml_encoding_t) (input : List ℕ) → Reads from input first.old.parser
+    ensures same { (from : yaml_encoding_t) (input : List ℕ) → Reads from input first.old.parser
         → IsSame from input b_encoding b.now result }
+    ensures parting { (from : yaml_encoding_t) (input : List ℕ)
+        → Reads from input first.old.parser → IsFresh trail.old
+        → WhereDifferent result (IsParting from input b_encoding b.now trail.new.place) }
 {
     match reading_of(alloc, b, b_encoding) {
         Err(fault) => Err(behind_first(first, fault)),
         Ok(mut second) => {
-            let answer = compared(first, &mut second);
+            let answer = compared(first, &mut second, trail);
             let_go(second);
             answer
         }

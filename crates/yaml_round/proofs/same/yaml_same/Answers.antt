@@ -6,4 +6,4 @@ pub returns-in-Err : goal.returns-in-Err
 returns-in-Err c = inl (inl c.in-Err.ensures.memory)
 
 pub returns-in-Ok : goal.returns-in-Ok
-returns-in-Ok c = c.same_as-answer.ensures c.args.a_encoding c.args.a.now c.in-Ok.ensures.reads
+returns-in-Ok c = c.same_as-answer.ensures.same c.args.a_encoding c.args.a.now c.in-Ok.ensures.reads

@@ -1,10 +1,19 @@
 use Rattle.yaml_round_compare.proofs.Comparing.{same_told, not_begun}
+use Rattle.yaml_round_compare.proofs.Parting.{told_where}
 use Rattle.yaml_round_compare.proofs.compare.same_as.Goals as goal
 
-pub returns-in-Ok : goal.returns-in-Ok
-returns-in-Ok c = λ from input h.
-    same_told from input c.args.b_encoding c.args.b.now c.args.first.now.parser c.in-Ok.second.parser c.compared-answer.result h c.in-Ok.ensures.reads c.compared-answer.ensures
+pub returns-in-Ok-clause-same : goal.returns-in-Ok-clause-same
+returns-in-Ok-clause-same c = λ from input h.
+    same_told from input c.args.b_encoding c.args.b.now c.args.first.now.parser c.in-Ok.second.parser c.compared-answer.result h c.in-Ok.ensures.reads c.compared-answer.ensures.compares
 
-pub returns-in-Err : goal.returns-in-Err
-returns-in-Err c = λ from input h.
+pub returns-in-Ok-clause-parting : goal.returns-in-Ok-clause-parting
+returns-in-Ok-clause-parting c = λ from input h fresh.
+    told_where from input c.args.b_encoding c.args.b.now c.args.first.now.parser c.in-Ok.second.parser c.args.trail.now c.compared-answer.new.trail c.compared-answer.result
+    h c.in-Ok.ensures.reads c.compared-answer.ensures.compares c.compared-answer.ensures.parted fresh
+
+pub returns-in-Err-clause-same : goal.returns-in-Err-clause-same
+returns-in-Err-clause-same c = λ from input h.
     not_begun from input c.args.b_encoding c.args.b.now c.args.first.now.parser c.in-Err.fault c.behind_first.result h c.in-Err.ensures.memory c.behind_first.ensures
+
+pub returns-in-Err-clause-parting : goal.returns-in-Err-clause-parting
+returns-in-Err-clause-parting c = λ from input h fresh. tt

@@ -1,0 +1,47 @@
+-- Where the contents of two inputs part.
+use Rattle.std.specs.Prelude.{◌≡◌, ◌⊎◌, true, ℕ, List, [], ◌∷◌, ◌++◌, Option, Some, None, Result, Ok, Err}
+use Rattle.yaml_scan.specs.declared.yaml_encoding_t.{yaml_encoding_t}
+use Rattle.yaml_scan.specs.declared.yaml_fault_t.{yaml_fault_t}
+use Rattle.yaml_scan.specs.Faults.{fault_of}
+use Rattle.yaml_parse.specs.Resolve.{Told}
+use Rattle.yaml_round_content.specs.Reading.{HasEvents}
+use Rattle.yaml_round_reading.specs.declared.side.yaml_side_t.{yaml_side_t}
+use Rattle.yaml_round_reading.specs.Reading.{contents}
+use Rattle.yaml_round_reading.specs.Answers.{SameContent, IsSideStarved, IsSideFaulty}
+use Rattle.yaml_round_compare.specs.declared.difference.yaml_difference_t.{yaml_difference_t}
+use Rattle.yaml_round_compare.specs.declared.trail.Trail.{Trail}
+use Rattle.yaml_round_compare.specs.Places.{Place, place_says, path_to}
+use Rattle.yaml_round_compare.specs.Walking.{path_of, start}
+use Rattle.yaml_round_compare.specs.Compare.{TellsOf, saying}
+
+-- Both inputs are accepted. The events in front say the same, and are what stands in front of a place; the next ones
+-- don't. It tells where these begin, what they are, and the path to that place.
+pub record IsParting (a_from : yaml_encoding_t) (a : List ℕ) (b_from : yaml_encoding_t)
+    (b : List ℕ) (d : yaml_difference_t) : Type 0 where
+  pub before : List Told
+  pub other_before : List Told
+  pub next : Told
+  pub other_next : Told
+  pub behind : List Told
+  pub other_behind : List Told
+  pub of_first : HasEvents a_from a (before ++ next ∷ behind)
+  pub of_second : HasEvents b_from b (other_before ++ other_next ∷ other_behind)
+  pub alike : contents before ≡ contents other_before
+  pub differ : saying next.0.body ≡ saying other_next.0.body → ⊥
+  pub tells : TellsOf next.0 other_next.0 d
+  pub place : Place
+  pub in_front : contents before ≡ place_says place []
+  pub path : path_of d ≡ path_to place
+
+-- the answer to where two inputs part: nowhere, there, or a refusal, as where they are compared
+abbrev pub IsDiff : yaml_encoding_t → List ℕ → yaml_encoding_t → List ℕ
+    → Result (Option yaml_difference_t) (yaml_side_t × yaml_fault_t) → Type 0
+IsDiff a_from a b_from b (Ok None) = SameContent a_from a b_from b
+IsDiff a_from a b_from b (Ok (Some d)) = IsParting a_from a b_from b d
+IsDiff a_from a b_from b (Err f) = IsSideStarved a_from a f.0 (fault_of f.1)
+    ⊎ IsSideFaulty a_from a b_from b f.0 (fault_of f.1)
+
+-- in front of a stream, with the path kept
+pub record IsFresh (t : Trail) : Type 0 where
+  pub kept : t.kept ≡ true
+  pub path : path_of t.place ≡ start

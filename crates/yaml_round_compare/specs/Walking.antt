@@ -1,0 +1,61 @@
+-- What each event makes of the path to the place in front of it.
+use Rattle.std.specs.Prelude.{ℕ, suc, List, [], ◌∷◌, Option, Some, None, map, reverse}
+use Rattle.yaml_parse.specs.Events.{EventBody, text_of}
+use Rattle.yaml_parse.specs.Events as event
+use Rattle.yaml_round_compare.specs.declared.difference.yaml_step_t.{yaml_step_t}
+use Rattle.yaml_round_compare.specs.declared.difference.yaml_step_t.TheVariants as declared
+use Rattle.yaml_round_compare.specs.declared.difference.yaml_difference_t.{yaml_difference_t}
+use Rattle.yaml_round_compare.specs.Places.{Step, Path}
+use Rattle.yaml_round_compare.specs.Places as place
+
+-- ---- what a clause sees
+
+abbrev pub step_of : yaml_step_t → Step
+step_of (declared.Item number) = place.item number
+step_of (declared.Key number) = place.key number
+step_of (declared.Value number text) = place.value number (text_of text)
+
+-- the innermost first
+abbrev pub steps_of : List yaml_step_t → List Step
+steps_of ss = reverse (map step_of ss)
+
+abbrev pub path_of : yaml_difference_t → Path
+path_of d = record { document = d.document; steps = steps_of d.path.items }
+
+-- ---- the steps
+
+-- behind a node in the same collection; the text is that of the node, where it is a scalar
+abbrev pub step_behind : Step → Option (List ℕ) → Step
+step_behind (place.item n) text = place.item (suc n)
+step_behind (place.key n) text = place.value n text
+step_behind (place.value n key) text = place.key (suc n)
+
+abbrev pub past_node : Option (List ℕ) → List Step → List Step
+past_node text [] = []
+past_node text (s ∷ ss) = step_behind s text ∷ ss
+
+abbrev pub past_end : List Step → List Step
+past_end [] = []
+past_end (s ∷ ss) = past_node None ss
+
+abbrev pub past_event : EventBody → Path → Path
+past_event (event.alias name) p = record p { steps = past_node None p.steps }
+past_event (event.scalar anchor tag text plain quoted style) p = record p
+    { steps = past_node (Some text) p.steps }
+past_event (event.sequence_start anchor tag implicit style) p = record p
+    { steps = place.item 0 ∷ p.steps }
+past_event (event.mapping_start anchor tag implicit style) p = record p
+    { steps = place.key 0 ∷ p.steps }
+past_event event.sequence_end p = record p { steps = past_end p.steps }
+past_event event.mapping_end p = record p { steps = past_end p.steps }
+past_event (event.document_end implicit) p = record p { document = suc p.document }
+past_event _ p = p
+
+-- one event after another
+abbrev pub past : List EventBody → Path → Path
+past [] p = p
+past (e ∷ es) p = past es (past_event e p)
+
+-- in front of a stream
+abbrev pub start : Path
+start = record { document = 0; steps = [] }

@@ -4,7 +4,7 @@ use std::alloc::{AllocError, Global};
 use std::io::{Read, Write};
 use yaml_cli_program::{
     Compared, Difference, Ended, Engine, INPUT_LIMIT, Judging, Manner, Met, Parted, Question, Side,
-    Task, push_item, push_key, push_value,
+    Step, Task, push_step,
 };
 use yaml_round::{
     yaml_check, yaml_diff, yaml_difference_t, yaml_encoding_t, yaml_fault_t, yaml_normalize,
@@ -22,23 +22,20 @@ fn side_of(side: yaml_side_t) -> Side {
     }
 }
 
-fn push_step(path: &mut String, step: &yaml_step_t) -> Result<(), AllocError> {
+fn step_of(step: &yaml_step_t) -> Step<'_> {
     match step {
-        yaml_step_t::Item(number) => push_item(path, *number),
-        yaml_step_t::Key(pair) => push_key(path, *pair),
-        yaml_step_t::Value {
-            pair,
-            key: Some(key),
-        } => push_value(path, *pair, Some(key.as_slice())),
-        yaml_step_t::Value { pair, key: None } => push_value(path, *pair, None),
+        yaml_step_t::Item(number) => Step::Item(*number),
+        yaml_step_t::Key(pair) => Step::Key(*pair),
+        yaml_step_t::Value { key: Some(key), .. } => Step::Named(key.as_slice()),
+        yaml_step_t::Value { pair, key: None } => Step::Value(*pair),
     }
 }
 
 fn path_of(alloc: Global, difference: &yaml_difference_t) -> Result<String, AllocError> {
     let mut path = String::new(alloc);
-    push_item(&mut path, difference.document)?;
+    push_step(&mut path, Step::Item(difference.document))?;
     for step in &difference.path {
-        push_step(&mut path, step)?;
+        push_step(&mut path, step_of(step))?;
     }
     Ok(path)
 }

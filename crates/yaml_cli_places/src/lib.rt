@@ -9,5 +9,5 @@ mod place;
 mod telling;
 
 pub use chars::Source;
-pub use path::{push_item, push_key, push_value};
+pub use path::{Step, push_step};
 pub use telling::{Stand, difference_text, fault_text};

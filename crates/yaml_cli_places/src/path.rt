@@ -8,21 +8,26 @@ use yaml_scan_types::yaml_encoding_t;
 // How many characters of a key are shown.
 const MOST_OF_KEY: usize = 40;
 
-/// Adds the number of a document or of an item, from 0.
-pub fn push_item(path: &mut String, number: u64) -> Result<(), AllocError> {
-    write!(path, "[{number}]")
+/// A step inwards.
+#[derive(Clone, Copy)]
+pub enum Step<'k> {
+    /// To a document or an item, by its number from 0.
+    Item(u64),
+    /// To the key itself of a pair, by the pair's number from 0.
+    Key(u64),
+    /// To the value of a pair whose key is no scalar, by the pair's number from 0.
+    Value(u64),
+    /// To the value of a pair whose key is a scalar of this text.
+    Named(&'k [u8]),
 }
 
-/// Adds the step to the key itself of a pair, by the pair's number from 0.
-pub fn push_key(path: &mut String, pair: u64) -> Result<(), AllocError> {
-    write!(path, ".<key {pair}>")
-}
-
-/// Adds the step to the value of a pair: by its key, where that is a scalar with this text, else by the pair's number from 0.
-pub fn push_value(path: &mut String, pair: u64, key: Option<&[u8]>) -> Result<(), AllocError> {
-    match key {
-        Some(key) => push_named(path, Chars::of(key, yaml_encoding_t::YAML_UTF8_ENCODING)),
-        None => write!(path, ".<value {pair}>"),
+/// Adds a step.
+pub fn push_step(path: &mut String, step: Step<'_>) -> Result<(), AllocError> {
+    match step {
+        Step::Item(number) => write!(path, "[{number}]"),
+        Step::Key(pair) => write!(path, ".<key {pair}>"),
+        Step::Value(pair) => write!(path, ".<value {pair}>"),
+        Step::Named(key) => push_named(path, Chars::of(key, yaml_encoding_t::YAML_UTF8_ENCODING)),
     }
 }
 

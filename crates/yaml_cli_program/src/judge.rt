@@ -4,25 +4,18 @@
 use crate::engine::Engine;
 use crate::fault::{FAILED, UNJUDGED, shown, unread, unwritten};
 use crate::file::{STANDARD, Unread, whole_of};
-use crate::order::Judging;
+use crate::order::{Judged, Judging};
 use std::alloc::Global;
 use std::io::{Read, Write};
 use std::rt::Files;
 use yaml_cli_places::Source;
 use yaml_scan_types::{yaml_error_type_t, yaml_fault_t};
 
-/// An engine, and what it is asked.
+// An engine, and what it is asked.
 #[derive(Drop)]
-pub(crate) struct Judge<'j, G> {
-    pub(crate) engine: &'j G,
-    pub(crate) judging: &'j Judging,
-}
-
-/// The files that are judged: these, and those that a list names.
-#[derive(Clone, Copy)]
-pub(crate) struct Named<'n> {
-    pub(crate) files: &'n [&'n str],
-    pub(crate) list: Option<&'n str>,
+struct Judge<'j, G> {
+    engine: &'j G,
+    judging: &'j Judging,
 }
 
 // What came of a file: the status that it gives by itself, and whether no further one is to be judged.
@@ -170,25 +163,26 @@ fn judge_listed<G: Engine, H: Files + AllocGlobal, R: Read, W: Write, E: Write>(
 /// Judges the files, or standard input where none are named. The status is the worst one: 0 where each is as it was asked for,
 /// 1 where one isn't or is refused, 2 where one couldn't be judged.
 pub(crate) fn judge_all<G: Engine, H: Files + AllocGlobal, R: Read, W: Write, E: Write>(
-    judge: &Judge<'_, G>,
+    engine: &G,
     rt: &H,
-    named: Named<'_>,
+    judged: &Judged<'_>,
     reader: &mut R,
     writer: &mut W,
     errors: &mut E,
 ) -> u8 {
-    let Some(list) = named.list else {
-        let files = if named.files.is_empty() {
-            &[STANDARD]
-        } else {
-            named.files
-        };
-        return judge_files(judge, rt, files, reader, writer, errors).status;
+    let judge = Judge {
+        engine,
+        judging: &judged.judging,
     };
-    let verdict = judge_files(judge, rt, named.files, reader, writer, errors);
+    let files = judged.files.as_slice();
+    let Some(list) = judged.list else {
+        let files = if files.is_empty() { &[STANDARD] } else { files };
+        return judge_files(&judge, rt, files, reader, writer, errors).status;
+    };
+    let verdict = judge_files(&judge, rt, files, reader, writer, errors);
     if verdict.stops {
         return verdict.status;
     }
-    let status = judge_listed(judge, rt, list, reader, writer, errors);
+    let status = judge_listed(&judge, rt, list, reader, writer, errors);
     status.max(verdict.status)
 }

@@ -20,4 +20,4 @@ pub use engine::{Compared, Difference, Ended, Engine, Met, Parted, Side};
 pub use fault::INPUT_LIMIT;
 pub use order::{Judging, Manner, Question, Task};
 pub use program::main_by;
-pub use yaml_cli_places::{push_item, push_key, push_value};
+pub use yaml_cli_places::{Step, push_step};

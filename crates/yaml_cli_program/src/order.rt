@@ -42,21 +42,27 @@ pub struct Judging {
     pub quiet: bool,
 }
 
-/// What is asked of two files.
-#[derive(Clone, Copy)]
-pub(crate) enum Comparison {
-    /// Whether they have the same content.
-    Same,
-    /// Where their contents part.
-    Diff,
-}
-
 /// Two files that are to be compared.
 #[derive(Clone, Copy)]
 pub(crate) struct Pair<'a> {
     pub(crate) from: yaml_encoding_t,
     pub(crate) first: &'a str,
     pub(crate) second: &'a str,
+}
+
+/// A run over a file, or over standard input.
+#[derive(Clone, Copy)]
+pub(crate) struct Run<'a> {
+    pub(crate) task: Task,
+    pub(crate) file: Option<&'a str>,
+}
+
+/// Files that are to be judged, and those that a list names; standard input where there are neither.
+#[derive(Drop)]
+pub(crate) struct Judged<'a> {
+    pub(crate) judging: Judging,
+    pub(crate) files: Vec<&'a str>,
+    pub(crate) list: Option<&'a str>,
 }
 
 /// The rewriting of a file, or of standard input.
@@ -88,24 +94,14 @@ pub(crate) enum Wrong<'a> {
 /// What the program is told to do.
 #[derive(Drop)]
 pub(crate) enum Order<'a> {
-    /// A run over the file, or over standard input.
-    Run {
-        task: Task,
-        file: Option<&'a str>,
-    },
+    Run(Run<'a>),
     /// The normal form is to be written.
     Normalize(Rewriting<'a>),
-    /// Two files are to be compared.
-    Compare {
-        comparison: Comparison,
-        pair: Pair<'a>,
-    },
-    /// Files are to be judged, and those that a list names; standard input where there are neither.
-    Judge {
-        judging: Judging,
-        files: Vec<&'a str>,
-        list: Option<&'a str>,
-    },
+    /// Whether they have the same content.
+    Same(Pair<'a>),
+    /// Where their contents part.
+    Diff(Pair<'a>),
+    Judge(Judged<'a>),
     /// The words say nothing that can be done.
     Wrong(Wrong<'a>),
 }

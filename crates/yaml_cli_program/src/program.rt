@@ -4,9 +4,9 @@ use crate::compare::{run_diff, run_same};
 use crate::engine::{Ended, Engine};
 use crate::fault::{FAILED, run_failed};
 use crate::file::STANDARD;
-use crate::judge::{Judge, Named, judge_all};
+use crate::judge::judge_all;
 use crate::norm::run_normalize;
-use crate::order::{Comparison, Order, Task, Unknown, WRONG_WORDS, Wrong};
+use crate::order::{Order, Run, Task, Unknown, WRONG_WORDS, Wrong};
 use crate::words::{order_of, tell};
 use std::alloc::Global;
 use std::convert::AsStr;
@@ -45,21 +45,6 @@ fn run_path<G: Engine, H: Files + AllocGlobal, W: Write>(
     }
 }
 
-// Runs a command on its file, or on standard input.
-fn run_file<G: Engine, H: Files + AllocGlobal, R: Read, W: Write>(
-    engine: &G,
-    rt: &H,
-    task: &Task,
-    file: Option<&str>,
-    reader: &mut R,
-    writer: &mut W,
-) -> Ended {
-    match file {
-        Some(path) if path != STANDARD => run_path(engine, rt, task, path, writer),
-        _ => engine.run(rt.alloc(), task, reader, writer),
-    }
-}
-
 // Tells where pretty form was asked for and isn't answered.
 fn note_form<E: Write>(task: &Task, form: Option<yaml_form_t>, errors: &mut E) {
     if !task.manner.settings.canonical && form == Some(yaml_form_t::Canonical) {
@@ -76,6 +61,22 @@ fn ended<E: Write>(alloc: Global, task: &Task, ended: Ended, errors: &mut E) -> 
         }
         Err(fault) => run_failed(alloc, errors, "", &fault),
     }
+}
+
+// Runs a command on its file, or on standard input.
+fn run_file<G: Engine, H: Files + AllocGlobal, R: Read, W: Write, E: Write>(
+    engine: &G,
+    rt: &H,
+    run: &Run<'_>,
+    reader: &mut R,
+    writer: &mut W,
+    errors: &mut E,
+) -> u8 {
+    let answer = match run.file {
+        Some(path) if path != STANDARD => run_path(engine, rt, &run.task, path, writer),
+        _ => engine.run(rt.alloc(), &run.task, reader, writer),
+    };
+    ended(rt.alloc(), &run.task, answer, errors)
 }
 
 // Tells what is wrong with the words: the status tells it where the line can't. Of a file too many it is told as clap does of a
@@ -107,31 +108,11 @@ fn follow<G: Engine, H: Files + AllocGlobal, R: Read, W: Write, E: Write>(
     errors: &mut E,
 ) -> u8 {
     match order {
-        Order::Run { task, file } => {
-            let answer = run_file(engine, rt, task, *file, reader, writer);
-            ended(rt.alloc(), task, answer, errors)
-        }
+        Order::Run(run) => run_file(engine, rt, run, reader, writer, errors),
         Order::Normalize(rewriting) => run_normalize(engine, rt, rewriting, reader, writer, errors),
-        Order::Compare { comparison, pair } => match comparison {
-            Comparison::Same => run_same(engine, rt, pair, reader, writer, errors),
-            Comparison::Diff => run_diff(engine, rt, pair, reader, writer, errors),
-        },
-        Order::Judge {
-            judging,
-            files,
-            list,
-        } => {
-            let files = files.as_slice();
-            let named = Named { files, list: *list };
-            judge_all(
-                &Judge { engine, judging },
-                rt,
-                named,
-                reader,
-                writer,
-                errors,
-            )
-        }
+        Order::Same(pair) => run_same(engine, rt, pair, reader, writer, errors),
+        Order::Diff(pair) => run_diff(engine, rt, pair, reader, writer, errors),
+        Order::Judge(judged) => judge_all(engine, rt, judged, reader, writer, errors),
         Order::Wrong(wrong) => told_wrong(errors, wrong),
     }
 }

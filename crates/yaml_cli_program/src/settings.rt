@@ -1,7 +1,7 @@
 //! The words of a command, as they stand among the matches.
 
 use crate::order::{
-    Comparison, Judging, Manner, Order, Pair, Question, Rewriting, Task, Unknown, Words, Wrong,
+    Judged, Judging, Manner, Order, Pair, Question, Rewriting, Run, Task, Unknown, Words, Wrong,
     from_named, manner_of,
 };
 use clap::ArgMatches;
@@ -47,10 +47,10 @@ fn run_in<'a>(
     file: Option<&'a str>,
 ) -> Order<'a> {
     match manner_in(matches) {
-        Ok(manner) => Order::Run {
+        Ok(manner) => Order::Run(Run {
             task: Task { command, manner },
             file,
-        },
+        }),
         Err(unknown) => Order::Wrong(Wrong::Unknown(unknown)),
     }
 }
@@ -67,7 +67,7 @@ fn judge_in<'a>(alloc: Global, question: Question, matches: &ArgMatches<'a>) -> 
         return Order::Wrong(Wrong::Short);
     };
     match manner_in(matches) {
-        Ok(manner) => Order::Judge {
+        Ok(manner) => Order::Judge(Judged {
             judging: Judging {
                 question,
                 manner,
@@ -75,7 +75,7 @@ fn judge_in<'a>(alloc: Global, question: Question, matches: &ArgMatches<'a>) -> 
             },
             files,
             list: matches.get_str("files0-from"),
-        },
+        }),
         Err(unknown) => Order::Wrong(Wrong::Unknown(unknown)),
     }
 }
@@ -104,18 +104,19 @@ fn rewriting_in<'a>(
     }
 }
 
-fn compare_in<'a>(comparison: Comparison, matches: &ArgMatches<'a>) -> Order<'a> {
-    let first = word_of(matches, "first", "");
-    let second = word_of(matches, "second", "");
-    match from_named(word_of(matches, "from", "auto")) {
-        Ok(from) => Order::Compare {
-            comparison,
-            pair: Pair {
-                from,
-                first,
-                second,
-            },
-        },
+fn pair_in<'a>(matches: &ArgMatches<'a>) -> Result<Pair<'a>, Unknown<'a>> {
+    let from = from_named(word_of(matches, "from", "auto"))?;
+    Ok(Pair {
+        from,
+        first: word_of(matches, "first", ""),
+        second: word_of(matches, "second", ""),
+    })
+}
+
+fn compare_in<'a>(name: &str, matches: &ArgMatches<'a>) -> Order<'a> {
+    match pair_in(matches) {
+        Ok(pair) if name == "diff" => Order::Diff(pair),
+        Ok(pair) => Order::Same(pair),
         Err(unknown) => Order::Wrong(Wrong::Unknown(unknown)),
     }
 }
@@ -127,8 +128,7 @@ fn order_named<'a>(alloc: Global, name: &'a str, matches: &ArgMatches<'a>) -> Or
         "check" => judge_in(alloc, Question::Loads, matches),
         "docs" => run_in(yaml_command_t::Docs, matches, matches.get_str("file")),
         "events" => run_in(yaml_command_t::Events, matches, matches.get_str("file")),
-        "diff" => compare_in(Comparison::Diff, matches),
-        _ => compare_in(Comparison::Same, matches),
+        _ => compare_in(name, matches),
     }
 }
 

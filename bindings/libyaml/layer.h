@@ -67,40 +67,58 @@ int layer_is_utf8(const yaml_char_t *text, size_t len);
 #define LAYER_STATE(type, of) ((type *)(void *)(of)->raw_buffer.start)
 #define LAYER_SET_STATE(of, state) ((of)->raw_buffer.start = (unsigned char *)(void *)(state))
 
-/* What a parser has read. */
+/* What was asked of a parser. */
+enum layer_asked { LAYER_NOTHING, LAYER_EVENTS, LAYER_TOKENS };
+
+/* What a parser has read. The input is read in windows: whole documents, up to a cut, or all that is left. */
 typedef struct {
-    layer_bytes input;     /* what a handler gave */
-    yaml_c_answer decoded; /* the text in UTF-8, where the input isn't */
-    const uint8_t *bytes;  /* the input, and its length */
+    layer_bytes input;     /* what a handler gave, from the window on */
+    yaml_c_answer decoded; /* the window in UTF-8, where the input isn't */
+    const uint8_t *bytes;  /* what there is of the input from the window on, how much, and how much of it is the window */
+    size_t given;
     size_t len;
-    const uint8_t *text; /* the decoded text behind its byte order mark, and its length */
+    const uint8_t *text; /* the window's text behind its byte order mark, and its length */
     size_t text_len;
     int is_ascii;
-    int is_read; /* its events or its tokens were asked for */
-    size_t at_byte; /* a place of the text, and the characters in front of it */
+    int is_whole; /* the window is to be the whole input */
+    int is_last;  /* the window ends with the input */
+    size_t bytes_before; /* of the input in front of the window, and of its text the characters and the lines */
+    size_t chars_before;
+    size_t lines_before;
+    size_t lines; /* of the window, where it isn't the last */
+    size_t at_byte; /* a place of the window's text, and the window's characters in front of it */
     size_t at_char;
+    enum layer_asked asked;
     yaml_c_parsed parsed; /* without its events */
     yaml_c_answer answer;
     yaml_c_event *events; /* those that are to come, the next one last */
     size_t left;
     size_t room; /* of how many there is memory */
     yaml_c_scanned scanned;
-    size_t next; /* the token that comes next, of so many */
-    size_t tokens_len;
+    size_t next; /* the token that comes next, of those in front of an end */
+    size_t tokens_end;
     char *problem;
     char *context;
 } layer_reading;
 
-/* Has the input read and its records made, at the first call. 0: the parser tells why. */
+/* Has events read until there is one, or none is left. 0: the parser tells why. */
 int layer_read(yaml_parser_t *parser, layer_reading *reading);
+/* Parsers give events or tokens, not both: whether this one gives these. 0: the parser tells so. */
+int layer_asks(yaml_parser_t *parser, layer_reading *reading, enum layer_asked asked);
 /* Tells the input's fault. Answers 0. */
 int layer_fault(yaml_parser_t *parser, layer_reading *reading);
 int layer_no_memory(yaml_parser_t *parser);
 yaml_mark_t layer_mark(layer_reading *reading, yaml_c_mark mark);
-/* Reads all that the handler gives. 0: the parser tells why. */
-int layer_read_input(yaml_parser_t *parser, layer_reading *reading);
-/* Finds the encoding and the decoded text. 0: memory was refused. */
+/* Goes on to the next window. 0: the parser tells why. */
+int layer_next_window(yaml_parser_t *parser, layer_reading *reading);
+/* Has the window end with the input. 0: the parser tells why. */
+int layer_widen(yaml_parser_t *parser, layer_reading *reading);
+/* Whether the input may go on in another way than the window tells: it ends at a cut, and its fault may be due to that. */
+int layer_is_doubtful(const layer_reading *reading);
+/* Finds the encoding and the window's text. 0: memory was refused. */
 int layer_decode(yaml_parser_t *parser, layer_reading *reading);
+/* The last place behind `from` at which an input of that length can be cut; 0: none is known by now. */
+size_t layer_last_cut(const uint8_t *text, size_t len, size_t from);
 
 /* Adds a node, whose tag and value are the document's then. Its number; 0: memory was refused, and both are freed. */
 int layer_add_node(yaml_document_t *document, const yaml_node_t *node);

@@ -1,4 +1,4 @@
-/* The parser: the whole input is read at the first call, and made into records by the proved core; each call then hands out one
+/* The parser: the input is read in windows of whole documents, each made into records by the proved core; each call hands out one
  * event, and behind those in front of a fault the fault. */
 #include "layer.h"
 
@@ -44,7 +44,8 @@ YAML_DECLARE(void) yaml_parser_delete(yaml_parser_t *parser)
 
 /* ---- records */
 
-/* Takes the events out of what was parsed, the first one last, so that the memory of those that are done can be given back. */
+/* Takes the events out of what was parsed, the first one last, so that the memory of those that are done can be given back. The
+ * stream has one start and one end: those of other windows aren't the stream's. */
 static void take_events(layer_reading *reading)
 {
     yaml_c_parsed *parsed = &reading->parsed;
@@ -53,13 +54,16 @@ static void take_events(layer_reading *reading)
         return;
     yaml_c_event *events = (yaml_c_event *)parsed->events;
     parsed->events_len = 0;
+    reading->events = events;
+    reading->room = len;
+    if (!reading->is_last)
+        reading->lines = events[--len].start.line;
     for (size_t i = 0; i < len / 2; i++) {
         yaml_c_event other = events[i];
         events[i] = events[len - 1 - i];
         events[len - 1 - i] = other;
     }
-    reading->events = events;
-    reading->left = reading->room = len;
+    reading->left = len - (reading->bytes_before != 0);
 }
 
 /* Gives memory back each time that half of the events are done. A refusal changes nothing. */
@@ -74,54 +78,57 @@ static void give_back(layer_reading *reading)
     }
 }
 
-int layer_read(yaml_parser_t *parser, layer_reading *reading)
+static void parse(const yaml_parser_t *parser, layer_reading *reading)
 {
-    if (reading->is_read)
-        return 1;
-    if (!layer_read_input(parser, reading))
-        return 0;
-    reading->is_read = 1;
     yaml_c_front(reading->bytes, reading->len, parser->encoding, &reading->parsed, &reading->answer);
+}
+
+/* Reads the events of the next window, and where it has a fault that may not be the input's, those of all that is left. */
+static int read_events(yaml_parser_t *parser, layer_reading *reading)
+{
+    free(reading->events);
+    reading->events = NULL;
+    yaml_c_parsed_free(&reading->parsed);
+    if (!layer_next_window(parser, reading))
+        return 0;
+    parse(parser, reading);
+    if (layer_is_doubtful(reading)) {
+        yaml_c_parsed_free(&reading->parsed);
+        yaml_c_answer_free(&reading->answer);
+        if (!layer_widen(parser, reading))
+            return 0;
+        parse(parser, reading);
+    }
+    reading->is_last |= reading->answer.kind != YAML_C_ANSWERED;
     if (reading->answer.kind != YAML_C_MEMORY_ERROR)
         take_events(reading);
     return layer_decode(parser, reading);
 }
 
-/* ---- marks, which go forward but for a few characters, so that all of them are counted in one pass */
-
-static size_t characters_before(layer_reading *reading, uint64_t byte)
+int layer_asks(yaml_parser_t *parser, layer_reading *reading, enum layer_asked asked)
 {
-    const uint8_t *text = reading->text;
-    if (reading->is_ascii)
-        return byte;
-    if (byte > reading->text_len)
-        byte = reading->text_len;
-    for (; reading->at_byte < byte; reading->at_byte++)
-        reading->at_char += (text[reading->at_byte] & 0xC0) != 0x80;
-    for (; reading->at_byte > byte; reading->at_byte--)
-        reading->at_char -= (text[reading->at_byte - 1] & 0xC0) != 0x80;
-    return reading->at_char;
-}
-
-yaml_mark_t layer_mark(layer_reading *reading, yaml_c_mark mark)
-{
-    yaml_mark_t found = {characters_before(reading, mark.index), mark.line, mark.column};
-    return found;
-}
-
-/* Of what was read as tokens there are no events, and of what was read as events no tokens. */
-static int mixed(yaml_parser_t *parser)
-{
+    if (!reading->asked)
+        reading->asked = asked;
+    if (reading->asked == asked)
+        return 1;
     parser->error = YAML_PARSER_ERROR;
     parser->problem = "a parser gives events or tokens, not both";
     return 0;
 }
 
+int layer_read(yaml_parser_t *parser, layer_reading *reading)
+{
+    if (!layer_asks(parser, reading, LAYER_EVENTS))
+        return 0;
+    while (!reading->left && !reading->is_last)
+        if (!read_events(parser, reading))
+            return 0;
+    return 1;
+}
+
 int layer_fault(yaml_parser_t *parser, layer_reading *reading)
 {
     const yaml_c_answer *answer = &reading->answer;
-    if (answer->kind == YAML_C_ANSWERED)
-        return mixed(parser);
     if (answer->kind == YAML_C_MEMORY_ERROR)
         return layer_no_memory(parser);
     /* an encoding that is none: */
@@ -133,11 +140,13 @@ int layer_fault(yaml_parser_t *parser, layer_reading *reading)
         return layer_no_memory(parser);
     parser->problem = reading->problem;
     parser->context = reading->context;
-    parser->problem_offset = answer->offset;
+    parser->problem_offset = answer->kind == YAML_C_READER_ERROR ? reading->bytes_before + answer->offset : 0;
     parser->problem_value = answer->value;
     if (parser->error != YAML_READER_ERROR) {
         parser->problem_mark = layer_mark(reading, answer->problem_mark);
-        parser->context_mark = layer_mark(reading, answer->context_mark);
+        /* a scanner's fault has that mark without a context too */
+        if (answer->context.len || answer->kind == YAML_C_SCANNER_ERROR)
+            parser->context_mark = layer_mark(reading, answer->context_mark);
         parser->mark = parser->problem_mark;
     }
     return 0;

@@ -99,13 +99,13 @@ static int read_piece(yaml_parser_t *parser, layer_reading *reading)
     return 1;
 }
 
-/* Whether the input can be cut: it is UTF-8. */
+/* Whether the input can be cut: it is known to be UTF-8. */
 static int may_be_cut(const yaml_parser_t *parser, const layer_reading *reading)
 {
     if (reading->is_whole || parser->encoding > YAML_UTF8_ENCODING)
         return 0;
-    return parser->encoding || reading->given < 2
-           || (memcmp(reading->bytes, "\xFF\xFE", 2) && memcmp(reading->bytes, "\xFE\xFF", 2));
+    return parser->encoding
+           || (reading->given >= 2 && memcmp(reading->bytes, "\xFF\xFE", 2) && memcmp(reading->bytes, "\xFE\xFF", 2));
 }
 
 /* The window ends at a cut behind `from`, where one is found in that many bytes. */
@@ -169,8 +169,12 @@ int layer_next_window(yaml_parser_t *parser, layer_reading *reading)
                 return 1;
         return layer_widen(parser, reading);
     }
-    while (!parser->eof) {
-        if (ends_at_cut(parser, reading, from, reading->given))
+    for (size_t checked = 0; !parser->eof;) {
+        /* as libyaml does, which decodes what it has read before it goes on */
+        reading->is_wrong = may_be_cut(parser, reading) && !layer_is_text(reading->bytes, reading->given, &checked);
+        if (reading->is_wrong)
+            reading->len = reading->given;
+        if (reading->is_wrong || ends_at_cut(parser, reading, from, reading->given))
             return 1;
         from = reading->given > 4 ? reading->given - 4 : 0;
         if (!read_piece(parser, reading))
@@ -183,8 +187,12 @@ int layer_is_doubtful(const layer_reading *reading)
 {
     const yaml_c_answer *answer = &reading->answer;
     int is_placed = answer->kind == YAML_C_SCANNER_ERROR || answer->kind == YAML_C_PARSER_ERROR;
+    if (reading->is_last)
+        return 0;
+    if (reading->is_wrong)
+        return answer->kind != YAML_C_READER_ERROR;
     /* where a fault stands is where it was found, and what stands further on was looked at by then in no more than that */
-    return !reading->is_last && is_placed && answer->problem_mark.index + 8 > reading->len;
+    return is_placed && answer->problem_mark.index + 8 > reading->len;
 }
 
 /* ---- the decoded text: the input behind its byte order mark, and of UTF-16 what the core decodes */

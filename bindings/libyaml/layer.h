@@ -61,6 +61,9 @@ void *layer_grown(void *block, size_t len, size_t item, size_t *room);
 
 /* Whether the bytes are UTF-8, without surrogates. */
 int layer_is_utf8(const yaml_char_t *text, size_t len);
+/* Whether the bytes from `from` on are UTF-8 and what a text may have, as far as four bytes tell; `from` is then where that isn't
+ * known. */
+int layer_is_text(const yaml_char_t *text, size_t len, size_t *from);
 
 /* ---- the layer's own state, which hangs on a pointer that no client has a use for */
 
@@ -82,6 +85,7 @@ typedef struct {
     int is_ascii;
     int is_whole; /* the window is to be the whole input */
     int is_last;  /* the window ends with the input */
+    int is_wrong; /* the window has a wrong byte, and ends with what was read by then */
     size_t bytes_before; /* of the input in front of the window, and of its text the characters and the lines */
     size_t chars_before;
     size_t lines_before;
@@ -119,6 +123,52 @@ int layer_is_doubtful(const layer_reading *reading);
 int layer_decode(yaml_parser_t *parser, layer_reading *reading);
 /* The last place behind `from` at which an input of that length can be cut; 0: none is known by now. */
 size_t layer_last_cut(const uint8_t *text, size_t len, size_t from);
+
+/* A collection that is open in what an emitter keeps: a level of the layout. */
+typedef struct {
+    size_t start;    /* the number of its start's record */
+    size_t key;      /* of a mapping: that of the key whose value is due or open */
+    int is_mapping;
+    int is_value;    /* a value is due or open */
+    int is_flow;
+    int is_replaced; /* a stand-in can replace what was laid out of it: see stand_in.c */
+} layer_level;
+
+enum layer_place { LAYER_BEFORE_STREAM, LAYER_BETWEEN_DOCUMENTS, LAYER_IN_DOCUMENT, LAYER_BEHIND_STREAM };
+
+/* What an emitter keeps: the records of a stand-in for what was written, and of the events behind it. */
+typedef struct {
+    enum layer_place place;
+    layer_bytes levels;     /* layer_level, the outermost first */
+    int has_kept;           /* a block scalar of the document may keep its breaks, which may ask for `...` at the end */
+    int is_line_next;       /* the last event is a scalar, an alias or the end of a flow collection */
+    int is_settled;         /* the settings of this document, and its stand-in's length, are known: it was laid out */
+    yaml_c_settings settings;
+    size_t stand_in;        /* how many records are the stand-in's, of how many bytes, and the length of its text */
+    size_t stand_in_bytes;
+    size_t cut;
+    size_t written;         /* how much of the text behind it the handler has taken */
+    int has_cut[2];         /* whether a stand-in's length is known that replaces documents, by how it ends */
+    size_t cuts[2];         /* that length */
+    yaml_c_settings cut_by; /* the settings that give it */
+    size_t head;            /* up to where the bytes belong to the stand-in for documents and to the document's start */
+    layer_bytes events;
+    layer_bytes directives;
+    layer_bytes bytes;
+    char *problem;
+} layer_writing;
+
+/* The event as a record. 0: memory was refused. */
+int layer_record(layer_writing *w, yaml_c_event *record, const yaml_event_t *event);
+size_t layer_events_len(const layer_writing *w);
+yaml_c_event layer_event_at(const layer_writing *w, size_t number);
+int layer_keep(layer_writing *w, const yaml_c_event *record);
+/* The collection that was opened last; NULL: none is open. */
+layer_level *layer_innermost(const layer_writing *w);
+/* Replace what is kept by a stand-in: all documents, in front of one that begins, or all that was laid out of one. 0: memory was
+ * refused. */
+int layer_replace_documents(layer_writing *w);
+int layer_replace_levels(layer_writing *w);
 
 /* Adds a node, whose tag and value are the document's then. Its number; 0: memory was refused, and both are freed. */
 int layer_add_node(yaml_document_t *document, const yaml_node_t *node);

@@ -156,31 +156,42 @@ static void begin(yaml_parser_t *parser, layer_reading *reading)
     parser->input.string.current = parser->input.string.end;
 }
 
+/* `from`: where it was looked for a cut, but in the line that ends or begins there. */
+static int window_of_string(yaml_parser_t *parser, layer_reading *reading)
+{
+    for (size_t from = 0, to = LAYER_WINDOW; to < reading->given; from = to - 4, to *= 2)
+        if (ends_at_cut(parser, reading, from, to))
+            return 1;
+    return layer_widen(parser, reading);
+}
+
+/* A wrong byte comes first, as with libyaml, which decodes what it has read before it goes on. */
+static int window_by_handler(yaml_parser_t *parser, layer_reading *reading)
+{
+    for (size_t from = 0, checked = 0; !parser->eof;) {
+        reading->is_wrong = may_be_cut(parser, reading) && !layer_is_text(reading->bytes, reading->given, &checked);
+        if (reading->is_wrong) {
+            reading->len = reading->given;
+            return 1;
+        }
+        if (checked == reading->given) {
+            if (ends_at_cut(parser, reading, from, reading->given))
+                return 1;
+            from = checked > 4 ? checked - 4 : 0;
+        }
+        if (!read_piece(parser, reading))
+            return 0;
+    }
+    return layer_widen(parser, reading);
+}
+
 int layer_next_window(yaml_parser_t *parser, layer_reading *reading)
 {
     if (!reading->bytes)
         begin(parser, reading);
     else
         leave_window(reading);
-    size_t from = 0; /* up to there it was looked for a cut, but in the line that ends or begins there */
-    if (parser->read_handler == read_string) {
-        for (size_t to = LAYER_WINDOW; to < reading->given; from = to - 4, to *= 2)
-            if (ends_at_cut(parser, reading, from, to))
-                return 1;
-        return layer_widen(parser, reading);
-    }
-    for (size_t checked = 0; !parser->eof;) {
-        /* as libyaml does, which decodes what it has read before it goes on */
-        reading->is_wrong = may_be_cut(parser, reading) && !layer_is_text(reading->bytes, reading->given, &checked);
-        if (reading->is_wrong)
-            reading->len = reading->given;
-        if (reading->is_wrong || ends_at_cut(parser, reading, from, reading->given))
-            return 1;
-        from = reading->given > 4 ? reading->given - 4 : 0;
-        if (!read_piece(parser, reading))
-            return 0;
-    }
-    return layer_widen(parser, reading);
+    return parser->read_handler == read_string ? window_of_string(parser, reading) : window_by_handler(parser, reading);
 }
 
 int layer_is_doubtful(const layer_reading *reading)

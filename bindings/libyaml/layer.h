@@ -98,6 +98,7 @@ typedef struct {
     yaml_c_event *events; /* those that are to come, the next one last */
     size_t left;
     size_t room; /* of how many there is memory */
+    int last;    /* the kind of the event that was handed out last */
     yaml_c_scanned scanned;
     size_t next; /* the token that comes next, of those in front of an end */
     size_t tokens_end;

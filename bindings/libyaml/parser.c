@@ -280,6 +280,14 @@ static int made(const layer_reading *reading, const yaml_c_event *it, yaml_event
     }
 }
 
+/* Whether a document begins in front of the fault, which the core doesn't tell: where the fault is the stream's first token. */
+static int misses_start(const layer_reading *reading)
+{
+    static const char problem[] = "did not find expected node content";
+    const yaml_c_bytes *told = &reading->answer.problem;
+    return reading->last == YAML_C_STREAM_START_EVENT && told->len == sizeof problem - 1 && !memcmp(told->at, problem, told->len);
+}
+
 YAML_DECLARE(int) yaml_parser_parse(yaml_parser_t *parser, yaml_event_t *event)
 {
     assert(parser && event);
@@ -289,9 +297,11 @@ YAML_DECLARE(int) yaml_parser_parse(yaml_parser_t *parser, yaml_event_t *event)
         return 1;
     if (!layer_read(parser, reading))
         return 0;
-    if (!reading->left)
+    yaml_c_event start = {.kind = YAML_C_DOCUMENT_START_EVENT, .implicit = 1};
+    start.start = start.end = reading->answer.problem_mark;
+    if (!reading->left && !misses_start(reading))
         return layer_fault(parser, reading);
-    const yaml_c_event *it = &reading->events[reading->left - 1];
+    const yaml_c_event *it = reading->left ? &reading->events[reading->left - 1] : &start;
     event->type = (yaml_event_type_t)it->kind;
     if (!made(reading, it, event)) {
         yaml_event_delete(event);
@@ -302,7 +312,9 @@ YAML_DECLARE(int) yaml_parser_parse(yaml_parser_t *parser, yaml_event_t *event)
     parser->mark = event->end_mark;
     parser->stream_start_produced = 1;
     parser->stream_end_produced = it->kind == YAML_C_STREAM_END_EVENT;
-    reading->left--;
+    reading->last = it->kind;
+    if (reading->left)
+        reading->left--;
     give_back(reading);
     return 1;
 }

@@ -66,8 +66,10 @@ static size_t characters_before(layer_reading *reading, uint64_t byte)
 
 yaml_mark_t layer_mark(layer_reading *reading, yaml_c_mark mark)
 {
-    yaml_mark_t found = {reading->chars_before + characters_before(reading, mark.index), reading->lines_before + mark.line,
-                         mark.column};
+    if (mark.index < reading->stand_in) /* of the stand-in its beginning is named alone */
+        return reading->root_mark;
+    yaml_mark_t found = {reading->chars_before + characters_before(reading, mark.index) - reading->stand_in,
+                         reading->lines_before + mark.line - (reading->within != LAYER_NO_ROOT), mark.column};
     return found;
 }
 
@@ -111,13 +113,22 @@ static int may_be_cut(const yaml_parser_t *parser, const layer_reading *reading)
 /* The window ends at a cut behind `from`, where one is found in that many bytes. */
 static int ends_at_cut(const yaml_parser_t *parser, layer_reading *reading, size_t from, size_t len)
 {
-    size_t cut = may_be_cut(parser, reading) ? layer_last_cut(reading->bytes, len, from) : 0;
+    if (!may_be_cut(parser, reading))
+        return 0;
+    size_t cut = layer_last_cut(reading->bytes, len, from);
+    if (!cut && !reading->is_uncut && reading->asked == LAYER_EVENTS) {
+        reading->cut_in = reading->within ? reading->within : layer_root_of(reading->bytes, len);
+        cut = layer_last_item(reading->bytes, len, from, reading->cut_in);
+    }
     if (cut)
         reading->len = cut;
+    else
+        reading->cut_in = LAYER_NO_ROOT;
     return cut != 0;
 }
 
-int layer_widen(yaml_parser_t *parser, layer_reading *reading)
+/* The window ends with the input. */
+static int take_all(yaml_parser_t *parser, layer_reading *reading)
 {
     while (!parser->eof)
         if (!read_piece(parser, reading))
@@ -127,42 +138,13 @@ int layer_widen(yaml_parser_t *parser, layer_reading *reading)
     return 1;
 }
 
-/* Puts the window's bytes behind. */
-static void leave_window(layer_reading *reading)
-{
-    reading->bytes_before += reading->len;
-    reading->chars_before += characters_before(reading, reading->text_len);
-    reading->lines_before += reading->lines;
-    reading->at_byte = reading->at_char = 0;
-    reading->given -= reading->len;
-    if (!reading->input.len) {
-        reading->bytes += reading->len;
-    } else {
-        reading->input.len = reading->given;
-        memmove(reading->input.at, reading->input.at + reading->len, reading->given);
-    }
-    reading->len = 0;
-}
-
-static void begin(yaml_parser_t *parser, layer_reading *reading)
-{
-    assert(parser->read_handler);
-    reading->bytes = YAML_C_NOTHING;
-    if (parser->read_handler != read_string)
-        return;
-    parser->eof = 1;
-    reading->bytes = parser->input.string.current;
-    reading->given = (size_t)(parser->input.string.end - parser->input.string.current);
-    parser->input.string.current = parser->input.string.end;
-}
-
 /* `from`: where it was looked for a cut, but in the line that ends or begins there. */
 static int window_of_string(yaml_parser_t *parser, layer_reading *reading)
 {
     for (size_t from = 0, to = LAYER_WINDOW; to < reading->given; from = to - 4, to *= 2)
         if (ends_at_cut(parser, reading, from, to))
             return 1;
-    return layer_widen(parser, reading);
+    return take_all(parser, reading);
 }
 
 /* A wrong byte comes first, as with libyaml, which decodes what it has read before it goes on. */
@@ -182,7 +164,73 @@ static int window_by_handler(yaml_parser_t *parser, layer_reading *reading)
         if (!read_piece(parser, reading))
             return 0;
     }
-    return layer_widen(parser, reading);
+    return take_all(parser, reading);
+}
+
+/* What is to be parsed: the window, within a root behind its stand-in. */
+static int join(yaml_parser_t *parser, layer_reading *reading)
+{
+    const char *stand_in = reading->within == LAYER_SEQUENCE ? "- x\n" : reading->within == LAYER_MAPPING ? "x: x\n" : "";
+    reading->read = reading->bytes;
+    reading->read_len = reading->len;
+    reading->stand_in = strlen(stand_in);
+    if (!reading->within)
+        return 1;
+    reading->joined.len = 0;
+    if (!layer_put(&reading->joined, stand_in, reading->stand_in) || !layer_put(&reading->joined, reading->bytes, reading->len))
+        return layer_no_memory(parser);
+    reading->read = reading->joined.at;
+    reading->read_len = reading->joined.len;
+    return 1;
+}
+
+static int find_window(yaml_parser_t *parser, layer_reading *reading)
+{
+    int is_found = parser->read_handler == read_string ? window_of_string(parser, reading) : window_by_handler(parser, reading);
+    return is_found && join(parser, reading);
+}
+
+int layer_widen(yaml_parser_t *parser, layer_reading *reading)
+{
+    if (!reading->cut_in)
+        return take_all(parser, reading) && join(parser, reading);
+    reading->cut_in = LAYER_NO_ROOT;
+    reading->is_uncut = 1;
+    return find_window(parser, reading);
+}
+
+/* Puts the window's bytes behind. */
+static void leave_window(layer_reading *reading)
+{
+    if (reading->cut_in && !reading->within)
+        reading->root_mark = layer_mark(reading, reading->root);
+    reading->bytes_before += reading->len;
+    reading->chars_before += characters_before(reading, reading->text_len) - reading->stand_in;
+    reading->lines_before += reading->lines - (reading->within != LAYER_NO_ROOT);
+    reading->at_byte = reading->at_char = 0;
+    reading->given -= reading->len;
+    if (!reading->input.len) {
+        reading->bytes += reading->len;
+    } else {
+        reading->input.len = reading->given;
+        memmove(reading->input.at, reading->input.at + reading->len, reading->given);
+    }
+    reading->len = 0;
+    reading->within = reading->cut_in;
+    reading->cut_in = LAYER_NO_ROOT;
+    reading->is_uncut &= reading->within != LAYER_NO_ROOT;
+}
+
+static void begin(yaml_parser_t *parser, layer_reading *reading)
+{
+    assert(parser->read_handler);
+    reading->bytes = YAML_C_NOTHING;
+    if (parser->read_handler != read_string)
+        return;
+    parser->eof = 1;
+    reading->bytes = parser->input.string.current;
+    reading->given = (size_t)(parser->input.string.end - parser->input.string.current);
+    parser->input.string.current = parser->input.string.end;
 }
 
 int layer_next_window(yaml_parser_t *parser, layer_reading *reading)
@@ -191,7 +239,7 @@ int layer_next_window(yaml_parser_t *parser, layer_reading *reading)
         begin(parser, reading);
     else
         leave_window(reading);
-    return parser->read_handler == read_string ? window_of_string(parser, reading) : window_by_handler(parser, reading);
+    return find_window(parser, reading);
 }
 
 int layer_is_doubtful(const layer_reading *reading)
@@ -203,7 +251,7 @@ int layer_is_doubtful(const layer_reading *reading)
     if (reading->is_wrong)
         return answer->kind != YAML_C_READER_ERROR;
     /* where a fault stands is where it was found, and what stands further on was looked at by then in no more than that */
-    return is_placed && answer->problem_mark.index + 8 > reading->len;
+    return is_placed && answer->problem_mark.index + 8 > reading->read_len;
 }
 
 /* ---- the decoded text: the input behind its byte order mark, and of UTF-16 what the core decodes */
@@ -236,8 +284,8 @@ static int is_all_ascii(const uint8_t *text, size_t len)
 int layer_decode(yaml_parser_t *parser, layer_reading *reading)
 {
     yaml_encoding_t set = parser->encoding;
-    reading->text = reading->bytes;
-    reading->text_len = reading->len;
+    reading->text = reading->read;
+    reading->text_len = reading->read_len;
     parser->encoding = encoding_of(reading, set);
     if (parser->encoding == YAML_UTF16LE_ENCODING || parser->encoding == YAML_UTF16BE_ENCODING) {
         yaml_c_answer *decoded = &reading->decoded;

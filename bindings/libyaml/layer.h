@@ -70,10 +70,13 @@ int layer_is_text(const yaml_char_t *text, size_t len, size_t *from);
 #define LAYER_STATE(type, of) ((type *)(void *)(of)->raw_buffer.start)
 #define LAYER_SET_STATE(of, state) ((of)->raw_buffer.start = (unsigned char *)(void *)(state))
 
+/* The collection at column 0 that is a document's root, where the input may be cut within it; or none. */
+enum layer_root { LAYER_NO_ROOT, LAYER_SEQUENCE, LAYER_MAPPING };
+
 /* What was asked of a parser. */
 enum layer_asked { LAYER_NOTHING, LAYER_EVENTS, LAYER_TOKENS };
 
-/* What a parser has read. The input is read in windows: whole documents, up to a cut, or all that is left. */
+/* What a parser has read. The input is read in windows: whole documents, up to a cut, or items of a root, or all that is left. */
 typedef struct {
     layer_bytes input;     /* what a handler gave, from the window on */
     yaml_c_answer decoded; /* the window in UTF-8, where the input isn't */
@@ -83,6 +86,15 @@ typedef struct {
     const uint8_t *text; /* the window's text behind its byte order mark, and its length */
     size_t text_len;
     int is_ascii;
+    enum layer_root within;   /* the root in which the window begins */
+    enum layer_root cut_in;   /* and that in which it ends */
+    yaml_c_mark root;         /* where that begins, in its window, and in the input */
+    yaml_mark_t root_mark;
+    int is_uncut;             /* the document isn't cut, since its root is none of these */
+    layer_bytes joined;       /* a root's beginning, as a stand-in, and the window behind it */
+    const uint8_t *read;      /* what is parsed: that or the window, how much, and how much of it is the stand-in */
+    size_t read_len;
+    size_t stand_in;
     int is_whole; /* the window is to be the whole input */
     int is_last;  /* the window ends with the input */
     int is_wrong; /* the window has a wrong byte, and ends with what was read by then */
@@ -116,7 +128,7 @@ int layer_no_memory(yaml_parser_t *parser);
 yaml_mark_t layer_mark(layer_reading *reading, yaml_c_mark mark);
 /* Goes on to the next window. 0: the parser tells why. */
 int layer_next_window(yaml_parser_t *parser, layer_reading *reading);
-/* Has the window end with the input. 0: the parser tells why. */
+/* Has the window end further on: with its document, where it ends within one, or with the input. 0: the parser tells why. */
 int layer_widen(yaml_parser_t *parser, layer_reading *reading);
 /* Whether the input may go on in another way than the window tells: it ends at a cut, and its fault may be due to that. */
 int layer_is_doubtful(const layer_reading *reading);
@@ -124,6 +136,10 @@ int layer_is_doubtful(const layer_reading *reading);
 int layer_decode(yaml_parser_t *parser, layer_reading *reading);
 /* The last place behind `from` at which an input of that length can be cut; 0: none is known by now. */
 size_t layer_last_cut(const uint8_t *text, size_t len, size_t from);
+/* The root with which a document may begin there. */
+enum layer_root layer_root_of(const uint8_t *text, size_t len);
+/* The last place behind `from` where an item of the root begins; 0: none is known by now. */
+size_t layer_last_item(const uint8_t *text, size_t len, size_t from, enum layer_root root);
 
 /* A collection that is open in what an emitter keeps: a level of the layout. */
 typedef struct {

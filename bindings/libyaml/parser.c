@@ -34,6 +34,7 @@ YAML_DECLARE(void) yaml_parser_delete(yaml_parser_t *parser)
         yaml_c_answer_free(&reading->decoded);
         free(reading->events);
         free(reading->input.at);
+        free(reading->joined.at);
         free(reading->problem);
         free(reading->context);
         free(reading);
@@ -44,26 +45,50 @@ YAML_DECLARE(void) yaml_parser_delete(yaml_parser_t *parser)
 
 /* ---- records */
 
-/* Takes the events out of what was parsed, the first one last, so that the memory of those that are done can be given back. The
- * stream has one start and one end: those of other windows aren't the stream's. */
+/* The root of the last document; NULL: there is none. */
+static const yaml_c_event *last_root(const yaml_c_parsed *parsed)
+{
+    size_t at = parsed->events_len;
+    while (at > 0 && parsed->events[at - 1].kind != YAML_C_DOCUMENT_START_EVENT)
+        at--;
+    return at > 0 && at < parsed->events_len ? &parsed->events[at] : NULL;
+}
+
+/* Whether the events end with those of a root in which the input can be cut: of a block collection at column 0, that and its
+ * document have nothing that a stand-in hasn't. */
+static int ends_in_root(const layer_reading *reading)
+{
+    const yaml_c_event *root = last_root(&reading->parsed), *end = reading->parsed.events + reading->parsed.events_len;
+    int kind = reading->cut_in == LAYER_SEQUENCE ? YAML_C_SEQUENCE_START_EVENT : YAML_C_MAPPING_START_EVENT;
+    return root && end - root >= 4 && root->kind == kind && root->style == YAML_C_BLOCK_STYLE && root->start.column == 0
+           && !root->has_anchor && !root->has_tag && !root[-1].has_version && !root[-1].directives.len && end[-3].kind == kind + 1
+           && end[-2].implicit;
+}
+
+/* Takes the events out of what was parsed, the first one last, so that the memory of those that are done can be given back. A
+ * stand-in's are left out, and the ends of what goes on in the next window. */
 static void take_events(layer_reading *reading)
 {
     yaml_c_parsed *parsed = &reading->parsed;
-    size_t len = parsed->events_len;
+    size_t len = parsed->events_len, first = reading->within ? 3 + reading->within : reading->bytes_before != 0;
     if (!len)
         return;
+    if (reading->cut_in && !reading->is_last)
+        reading->root = last_root(parsed)->start;
     yaml_c_event *events = (yaml_c_event *)parsed->events;
     parsed->events_len = 0;
     reading->events = events;
     reading->room = len;
-    if (!reading->is_last)
-        reading->lines = events[--len].start.line;
+    if (!reading->is_last) {
+        reading->lines = events[len - 1].start.line;
+        len -= reading->cut_in ? 3 : 1;
+    }
     for (size_t i = 0; i < len / 2; i++) {
         yaml_c_event other = events[i];
         events[i] = events[len - 1 - i];
         events[len - 1 - i] = other;
     }
-    reading->left = len - (reading->bytes_before != 0);
+    reading->left = len > first ? len - first : 0;
 }
 
 /* Gives memory back each time that half of the events are done. A refusal changes nothing. */
@@ -80,10 +105,15 @@ static void give_back(layer_reading *reading)
 
 static void parse(const yaml_parser_t *parser, layer_reading *reading)
 {
-    yaml_c_front(reading->bytes, reading->len, parser->encoding, &reading->parsed, &reading->answer);
+    yaml_c_front(reading->read, reading->read_len, parser->encoding, &reading->parsed, &reading->answer);
 }
 
-/* Reads the events of the next window, and where it has a fault that may not be the input's, those of all that is left. */
+static int is_doubtful(const layer_reading *reading)
+{
+    return layer_is_doubtful(reading) || (!reading->answer.kind && reading->cut_in && !ends_in_root(reading));
+}
+
+/* Reads the events of the next window, and where they may not be the input's, those of more. */
 static int read_events(yaml_parser_t *parser, layer_reading *reading)
 {
     free(reading->events);
@@ -92,7 +122,7 @@ static int read_events(yaml_parser_t *parser, layer_reading *reading)
     if (!layer_next_window(parser, reading))
         return 0;
     parse(parser, reading);
-    if (layer_is_doubtful(reading)) {
+    while (is_doubtful(reading)) {
         yaml_c_parsed_free(&reading->parsed);
         yaml_c_answer_free(&reading->answer);
         if (!layer_widen(parser, reading))
@@ -140,7 +170,7 @@ int layer_fault(yaml_parser_t *parser, layer_reading *reading)
         return layer_no_memory(parser);
     parser->problem = reading->problem;
     parser->context = reading->context;
-    parser->problem_offset = answer->kind == YAML_C_READER_ERROR ? reading->bytes_before + answer->offset : 0;
+    parser->problem_offset = answer->kind == YAML_C_READER_ERROR ? reading->bytes_before - reading->stand_in + answer->offset : 0;
     parser->problem_value = answer->value;
     if (parser->error != YAML_READER_ERROR) {
         parser->problem_mark = layer_mark(reading, answer->problem_mark);

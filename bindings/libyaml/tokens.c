@@ -4,7 +4,7 @@
 
 static void scan(const yaml_parser_t *parser, layer_reading *reading)
 {
-    yaml_c_scan(reading->bytes, reading->len, parser->encoding, &reading->scanned, &reading->answer);
+    yaml_c_scan(reading->read, reading->read_len, parser->encoding, &reading->scanned, &reading->answer);
 }
 
 /* Whether the window leaves brackets open: a cut is none there. */

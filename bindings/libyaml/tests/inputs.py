@@ -24,6 +24,10 @@ CUT = [
     b"- |+\n  a\n\n- b\n- c\n", b"- a\n- b\n- >+\n  a\n\n- b\n- c\n- d\n", b"x: |+\n  a\n\nb: c\nd: e\nf: g\n",
     b"? - a\n  - b\n  - c\n  - d\n: e\n? f: g\n  h: i\n  j: k\n: - l\n  - m\n  - n\n  - o\no: p\n",
     b"? ? - a\n    - b\n    - c\n    - d\n  : e\n: f\ng: h\ni: j\n", b"- - - a\n    - b\n    - c\n  - d\n  - e\n- ? k\n  : - v\n    - w\n    - x\n",
+    b"a: b\nk:\n- m\n- n\nc: d\n  e\nf: |\n  g\n\nh: 'i\nj: k'\nl: [m,\nn: o]\np: q: r\n", b"a: b\n...\nc: d\n", b" a: b\nc: d\n",
+    b"- a\n- b\n- - c\n  - d\n- |\n e\n\n- k: v\n- 'f\n- g'\n- h\n i\n]\n", b"--- !t\na: b\nc: d\n", b"- a\n- b\n- c\nd: e\n",
+    b"? a\n: b\nc: d\n? e\nf: g\nh\ni: j\n", b"%TAG !a! b\n---\n- !a!c d\n- !a!e f\n", b"a: b\r\nc: d\r\ne:\r\n- f\r\ng: h\ri: j\n",
+    b"# c\n---\na: \xc3\xa9\nb: ! c\n\xc3\xa9: d\ne: &f g\nh: *f\ni: \"\\q\"\n", b"a: b\nc: d\n--- e\n---\n- f\n- g\n",
     b"a:\n- b\n- &c\n  - d\n  - e\n- {f: g, h: [i]}\n- []\n- |\n  j\n- k: >-\n    l\n  m: n\no: p\n",
 ]
 

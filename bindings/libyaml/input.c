@@ -110,6 +110,11 @@ static int may_be_cut(const yaml_parser_t *parser, const layer_reading *reading)
            || (reading->given >= 2 && memcmp(reading->bytes, "\xFF\xFE", 2) && memcmp(reading->bytes, "\xFE\xFF", 2));
 }
 
+static int has_utf8_mark(const layer_reading *reading)
+{
+    return reading->given >= 3 && !memcmp(reading->bytes, "\xEF\xBB\xBF", 3);
+}
+
 /* The window ends at a cut behind `from`, where one is found in that many bytes. */
 static int ends_at_cut(const yaml_parser_t *parser, layer_reading *reading, size_t from, size_t len)
 {
@@ -117,7 +122,8 @@ static int ends_at_cut(const yaml_parser_t *parser, layer_reading *reading, size
         return 0;
     size_t cut = layer_last_cut(reading->bytes, len, from);
     if (!cut && !reading->is_uncut && reading->asked == LAYER_EVENTS) {
-        reading->cut_in = reading->within ? reading->within : layer_root_of(reading->bytes, len);
+        size_t from_mark = !reading->bytes_before && has_utf8_mark(reading) ? 3 : 0;
+        reading->cut_in = reading->within ? reading->within : layer_root_of(reading->bytes + from_mark, len - from_mark);
         cut = layer_last_item(reading->bytes, len, from, reading->cut_in);
     }
     if (cut)
@@ -261,24 +267,17 @@ static yaml_encoding_t encoding_of(const layer_reading *reading, yaml_encoding_t
 {
     if (reading->bytes_before)
         return set;
-    if (reading->left)
-        return (yaml_encoding_t)reading->events[reading->left - 1].encoding;
-    if (reading->tokens_end)
-        return (yaml_encoding_t)reading->scanned.tokens[0].encoding;
-    return set;
-}
-
-static int has_utf8_mark(const layer_reading *reading)
-{
-    return reading->len >= 3 && !memcmp(reading->bytes, "\xEF\xBB\xBF", 3);
+    if (!reading->end)
+        return set;
+    return (yaml_encoding_t)(reading->asked == LAYER_EVENTS ? reading->events[0].encoding : reading->scanned.tokens[0].encoding);
 }
 
 static int is_all_ascii(const uint8_t *text, size_t len)
 {
+    uint8_t all = 0;
     for (size_t i = 0; i < len; i++)
-        if (text[i] & 0x80)
-            return 0;
-    return 1;
+        all |= text[i];
+    return all < 0x80;
 }
 
 int layer_decode(yaml_parser_t *parser, layer_reading *reading)

@@ -107,13 +107,11 @@ typedef struct {
     enum layer_asked asked;
     yaml_c_parsed parsed; /* without its events */
     yaml_c_answer answer;
-    yaml_c_event *events; /* those that are to come, the next one last */
-    size_t left;
-    size_t room; /* of how many there is memory */
-    int last;    /* the kind of the event that was handed out last */
+    yaml_c_event *events;
     yaml_c_scanned scanned;
-    size_t next; /* the token that comes next, of those in front of an end */
-    size_t tokens_end;
+    size_t next; /* the event or the token that comes next, and behind which none is to come */
+    size_t end;
+    int last; /* the kind of the event that was handed out last */
     char *problem;
     char *context;
 } layer_reading;

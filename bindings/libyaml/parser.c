@@ -65,42 +65,37 @@ static int ends_in_root(const layer_reading *reading)
            && end[-2].implicit;
 }
 
-/* Takes the events out of what was parsed, the first one last, so that the memory of those that are done can be given back. A
- * stand-in's are left out, and the ends of what goes on in the next window. */
+/* Takes the events out of what was parsed. A stand-in's are left out, and the ends of what goes on in the next window. */
 static void take_events(layer_reading *reading)
 {
     yaml_c_parsed *parsed = &reading->parsed;
-    size_t len = parsed->events_len, first = reading->within ? 3 + reading->within : reading->bytes_before != 0;
+    size_t len = parsed->events_len;
+    reading->next = reading->within ? 3 + reading->within : reading->bytes_before != 0;
+    reading->end = len;
     if (!len)
         return;
-    if (reading->cut_in && !reading->is_last)
-        reading->root = last_root(parsed)->start;
-    yaml_c_event *events = (yaml_c_event *)parsed->events;
-    parsed->events_len = 0;
-    reading->events = events;
-    reading->room = len;
     if (!reading->is_last) {
-        reading->lines = events[len - 1].start.line;
-        len -= reading->cut_in ? 3 : 1;
+        reading->lines = parsed->events[len - 1].start.line;
+        reading->end -= reading->cut_in ? 3 : 1;
+        if (reading->cut_in)
+            reading->root = last_root(parsed)->start;
     }
-    for (size_t i = 0; i < len / 2; i++) {
-        yaml_c_event other = events[i];
-        events[i] = events[len - 1 - i];
-        events[len - 1 - i] = other;
-    }
-    reading->left = len > first ? len - first : 0;
+    reading->events = (yaml_c_event *)parsed->events;
+    parsed->events_len = 0;
 }
 
 /* Gives memory back each time that half of the events are done. A refusal changes nothing. */
 static void give_back(layer_reading *reading)
 {
-    if (reading->left < 1024 || reading->left > reading->room / 2)
+    size_t left = reading->end - reading->next;
+    if (left < 1024 || reading->next < left)
         return;
-    yaml_c_event *less = realloc(reading->events, reading->left * sizeof *less);
-    if (less) {
+    memmove(reading->events, reading->events + reading->next, left * sizeof *reading->events);
+    reading->next = 0;
+    reading->end = left;
+    yaml_c_event *less = realloc(reading->events, left * sizeof *less);
+    if (less)
         reading->events = less;
-        reading->room = reading->left;
-    }
 }
 
 static void parse(const yaml_parser_t *parser, layer_reading *reading)
@@ -118,6 +113,7 @@ static int read_events(yaml_parser_t *parser, layer_reading *reading)
 {
     free(reading->events);
     reading->events = NULL;
+    reading->next = reading->end = 0;
     yaml_c_parsed_free(&reading->parsed);
     if (!layer_next_window(parser, reading))
         return 0;
@@ -150,7 +146,7 @@ int layer_read(yaml_parser_t *parser, layer_reading *reading)
 {
     if (!layer_asks(parser, reading, LAYER_EVENTS))
         return 0;
-    while (!reading->left && !reading->is_last)
+    while (reading->next >= reading->end && !reading->is_last)
         if (!read_events(parser, reading))
             return 0;
     return 1;
@@ -329,9 +325,10 @@ YAML_DECLARE(int) yaml_parser_parse(yaml_parser_t *parser, yaml_event_t *event)
         return 0;
     yaml_c_event start = {.kind = YAML_C_DOCUMENT_START_EVENT, .implicit = 1};
     start.start = start.end = reading->answer.problem_mark;
-    if (!reading->left && !misses_start(reading))
+    int is_read = reading->next < reading->end;
+    if (!is_read && !misses_start(reading))
         return layer_fault(parser, reading);
-    const yaml_c_event *it = reading->left ? &reading->events[reading->left - 1] : &start;
+    const yaml_c_event *it = is_read ? &reading->events[reading->next] : &start;
     event->type = (yaml_event_type_t)it->kind;
     if (!made(reading, it, event)) {
         yaml_event_delete(event);
@@ -343,8 +340,9 @@ YAML_DECLARE(int) yaml_parser_parse(yaml_parser_t *parser, yaml_event_t *event)
     parser->stream_start_produced = 1;
     parser->stream_end_produced = it->kind == YAML_C_STREAM_END_EVENT;
     reading->last = it->kind;
-    if (reading->left)
-        reading->left--;
-    give_back(reading);
+    if (is_read) {
+        reading->next++;
+        give_back(reading);
+    }
     return 1;
 }

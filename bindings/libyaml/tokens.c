@@ -24,16 +24,16 @@ static void take_tokens(layer_reading *reading)
 {
     size_t len = reading->scanned.tokens_len;
     reading->next = reading->bytes_before != 0;
-    reading->tokens_end = len;
+    reading->end = len;
     if (!reading->is_last && len)
-        reading->lines = reading->scanned.tokens[--reading->tokens_end].start.line;
+        reading->lines = reading->scanned.tokens[--reading->end].start.line;
 }
 
 /* Reads the tokens of the next window, and where it may not tell what the input does, those of all that is left. */
 static int read_tokens(yaml_parser_t *parser, layer_reading *reading)
 {
     yaml_c_scanned_free(&reading->scanned);
-    reading->next = reading->tokens_end = 0;
+    reading->next = reading->end = 0;
     if (!layer_next_window(parser, reading))
         return 0;
     scan(parser, reading);
@@ -88,10 +88,10 @@ YAML_DECLARE(int) yaml_parser_fetch_more_tokens(yaml_parser_t *parser)
         return 1;
     if (!layer_asks(parser, reading, LAYER_TOKENS))
         return 0;
-    while (reading->next >= reading->tokens_end && !reading->is_last)
+    while (reading->next >= reading->end && !reading->is_last)
         if (!read_tokens(parser, reading))
             return 0;
-    return reading->next < reading->tokens_end || layer_fault(parser, reading);
+    return reading->next < reading->end || layer_fault(parser, reading);
 }
 
 YAML_DECLARE(int) yaml_parser_scan(yaml_parser_t *parser, yaml_token_t *token)

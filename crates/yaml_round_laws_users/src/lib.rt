@@ -4,6 +4,7 @@
 
 mod column;
 mod laws;
+mod plain;
 mod reload;
 
 pub use column::{
@@ -14,6 +15,7 @@ pub use laws::{
     answers_read_back, canonical_answers_tell_contents, comparisons_agree, form_tells_beginning,
     json_stays_pretty, rewriting_is_still, same_content_is_an_equivalence, settings_do_not_matter,
 };
+pub use plain::{canonical_text_is_the_contents, pretty_text_reads_back};
 pub use reload::{
     answers_and_reloads_agree, names_leave_reloads, reloads_are_normal_of_loads,
     reloads_are_of_loads, reloads_tell_documents,

@@ -5,6 +5,7 @@
 mod column;
 mod laws;
 mod normalizing;
+mod plain;
 mod reload;
 
 pub use column::{
@@ -16,6 +17,7 @@ pub use laws::{
     json_stays_pretty, rewriting_is_still, same_content_is_an_equivalence, settings_do_not_matter,
 };
 pub use normalizing::{normal_forms_tell_contents, normalizing_is_still};
+pub use plain::{canonical_text_is_the_contents, pretty_text_reads_back};
 pub use reload::{
     answers_and_reloads_agree, names_leave_reloads, reloads_are_normal_of_loads,
     reloads_are_of_loads, reloads_tell_documents,

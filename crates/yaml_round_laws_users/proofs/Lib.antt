@@ -5,3 +5,4 @@ mod Shaped
 mod Joining
 mod Loads
 mod Limits
+mod Partings

@@ -2,3 +2,4 @@ pub mod Laws
 pub mod Reloads
 pub mod Loads
 pub mod Limits
+pub mod Partings

@@ -1,9 +1,10 @@
-//! Laws of what `yaml_reformat`, `yaml_reload` and `yaml_same` answer and of the limits that they name, for users: each follows
-//! from the definitions that the calls' contracts name. No code.
+//! Laws of what `yaml_reformat`, `yaml_reload`, `yaml_same` and `yaml_diff` answer and of the limits that they name, for users: each
+//! follows from the definitions that the calls' contracts name. No code.
 #![tactic(auto)]
 
 mod column;
 mod laws;
+mod parting;
 mod reload;
 
 pub use column::{
@@ -14,6 +15,7 @@ pub use laws::{
     answers_read_back, canonical_answers_tell_contents, comparisons_agree, form_tells_beginning,
     json_stays_pretty, rewriting_is_still, same_content_is_an_equivalence, settings_do_not_matter,
 };
+pub use parting::diffs_agree;
 pub use reload::{
     answers_and_reloads_agree, names_leave_reloads, reloads_are_normal_of_loads,
     reloads_are_of_loads, reloads_tell_documents,

@@ -7,3 +7,4 @@ mod Joining
 mod Loads
 mod Limits
 mod Readings
+mod Partings

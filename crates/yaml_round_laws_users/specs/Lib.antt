@@ -4,3 +4,4 @@ pub mod Reloads
 pub mod Loads
 pub mod Limits
 pub mod Plain
+pub mod Partings

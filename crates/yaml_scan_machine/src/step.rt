@@ -124,27 +124,27 @@ impl<'a> Machine<'a> {
         let Read {
             lexeme,
             body,
-            own,
             key,
             left,
         } = read;
         let found = key.is_some();
+        let allowed = allows(lexeme, found);
         let column = self.level_column(lexeme.start.column, key);
         let ends = self.close_levels(lexeme, left);
         let opens = self.open_level(lexeme, column)?;
-        self.mark_own(own, lexeme, opens);
+        self.mark_key(key, opens);
+        let number = self.count();
+        self.keys.put(lexeme, number)?;
         self.waiting.reserve()?;
         self.waiting.push_back_reserved(Waiting {
             entry: entry(lexeme, ends, opens, found),
             body,
-            current: lexeme.saved,
         });
-        self.candidate_bound = self.bound_behind(own, lexeme);
         self.place = lexeme.reached;
         self.depth = lexeme.kind.depth_after(lexeme.depth);
-        self.allowed = allows(lexeme, found);
+        self.allowed = allowed;
         self.ended = lexeme.kind.is_end();
-        self.settled = self.settle();
+        self.settled = self.settle(number + 1);
         Ok(())
     }
 }

@@ -63,8 +63,6 @@ returns-in-Ok-clause-safe g c =
     record {
       column = subst At (sym e.start) low;
       depth = e.depth ∙ ap (λ (x : Lexeme). x.depth) value;
-      own = c.own-own.ensures.inside;
-      last = c.own-own.ensures.last;
       key = c.key-key.ensures.inside;
       left = leaves_ends k c.args.stand.mark c.args.stand.allowed m.depth m.levels c.left_at-left.result (text_bytes m.text) c.lexeme_at-lexeme.result c.in-Ok.lexeme value e c.left_at-left.ensures;
       place = λ f. e.place (sym (ap is_end e.kind) ∙ f);
@@ -79,8 +77,8 @@ returns-in-Ok-clause-exact g c = λ gap here allow.
     let eq = kind_machine m gap k c.args.stand.mark c.args.reader.now.text c.args.reader.now.at c.args.stand.allowed c.args.required l c.key-key.result c.is_misplaced.result c.requires.stands.shown c.requires.text here c.requires.mark allow c.key-key.ensures.picks c.is_misplaced.ensures c.if-is_misplaced.false c.requires.forward c.requires.required c.requires.early value in
     let none : lost c.args.required l ≡ None = sym c.lost.ensures ∙ c.in_default.is in
     let all = eq ∙ ap (λ o. unless_lost o (text_bytes m.text) l.start.index l (history_of m)) none in
-    subst (λ (x : Next). GivesNext m (Ok record { lexeme = c.in-Ok.lexeme; body = c.in-Ok.body; own = c.own-own.result; key = c.key-key.result; left = c.left_at-left.result }) x) (sym all)
-    (ok_gives m _ record { lexeme = c.in-Ok.lexeme; body = c.in-Ok.body; own = c.own-own.result; key = c.key-key.result; left = c.left_at-left.result } l k c.args.stand.mark c.args.stand.allowed m.levels value c.in-Ok.ensures.exact c.in-Ok.ensures.safe c.own-own.ensures.owns c.key-key.ensures.picks)
+    subst (λ (x : Next). GivesNext m (Ok record { lexeme = c.in-Ok.lexeme; body = c.in-Ok.body; key = c.key-key.result; left = c.left_at-left.result }) x) (sym all)
+    (ok_gives m _ record { lexeme = c.in-Ok.lexeme; body = c.in-Ok.body; key = c.key-key.result; left = c.left_at-left.result } l k c.args.stand.mark c.args.stand.allowed m.levels value c.in-Ok.ensures.exact c.in-Ok.ensures.safe c.key-key.ensures.picks)
 
 pub returns-in-Err-clause-exact : goal.returns-in-Err-clause-exact
 returns-in-Err-clause-exact g c = λ gap here allow.

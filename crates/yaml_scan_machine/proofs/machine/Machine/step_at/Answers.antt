@@ -9,8 +9,5 @@ of_rare-requires g c = subst (λ (k : Kind). MayReadAt c.args.self.now k c.args.
 pub required_where-required-requires-clause-stands : goal.required_where-required-requires-clause-stands
 required_where-required-requires-clause-stands g c = c.requires.may.stands
 
-pub required_where-required-requires-clause-more : goal.required_where-required-requires-clause-more
-required_where-required-requires-clause-more g c = c.requires.may.more
-
 pub required_where-required-requires-clause-told : goal.required_where-required-requires-clause-told
 required_where-required-requires-clause-told g c = c.requires.stand.required

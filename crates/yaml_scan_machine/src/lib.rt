@@ -5,7 +5,6 @@ mod keys;
 mod levels;
 mod machine;
 mod next;
-mod readings;
 mod stand;
 mod step;
 mod ways;

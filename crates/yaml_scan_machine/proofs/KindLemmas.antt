@@ -17,7 +17,7 @@ use Rattle.yaml_scan_words.specs.Between.{Gap, gap_at}
 use Rattle.yaml_scan_history.specs.declared.kind.Kind.{Kind}
 use Rattle.yaml_scan_history.specs.declared.kind.Kind.TheVariants as kinds
 use Rattle.yaml_scan_history.specs.declared.lexeme.Lexeme.{Lexeme}
-use Rattle.yaml_scan_history.specs.Kinds.{is_value, is_start, is_end, cancels, may_be_key}
+use Rattle.yaml_scan_history.specs.Kinds.{is_value, is_start, is_end, may_be_key}
 use Rattle.yaml_scan_history.specs.History.{Candidate, candidate, fresh, has, reached, depth, placed, levels, found_by}
 use Rattle.yaml_scan_history.specs.Words.{WordText, word_at, kind_at}
 use Rattle.yaml_scan_history.specs.Next.{Next, Read, Fails, Ends, next, history, first_lexeme, not_allowed_by, allowed_behind, finished, misplaced, missed, lost_by}
@@ -30,7 +30,7 @@ use Rattle.yaml_scan_machine.specs.declared.word.Word.{Word}
 use Rattle.yaml_scan_machine.specs.State.{IsPlace, Leaves}
 use Rattle.yaml_scan_machine.specs.Given.{IsWord, ReadsWord}
 use Rattle.yaml_scan_machine.specs.Shows.{Fields, fields_of, IsShown, read, Picks, history_of, stream_of}
-use Rattle.yaml_scan_machine.specs.Reads.{required_in, late, lost, required_behind, colon_fault, begun_in, keyed_by, ended_by, EndsAt, Finishes, GivesLexeme, GivesNext, IsRead, Owns}
+use Rattle.yaml_scan_machine.specs.Reads.{required_in, late, lost, required_behind, colon_fault, begun_in, keyed_by, ended_by, EndsAt, Finishes, GivesLexeme, GivesNext, IsRead}
 use Rattle.yaml_scan_machine.proofs.ReadLemmas.{gap_of, finished_kind, finished_start, finished_depth, finished_level, finished_saved, finished_required}
 use Rattle.yaml_scan_decode.specs.DecodedText.{text_bytes}
 use Rattle.yaml_scan_history.specs.Laws.{Upto}
@@ -217,21 +217,17 @@ err_gives m s e Ends g = g
 
 -- what is read where a lexeme of a kind stands
 pub ok_gives : (mc : Machine) (x : Next) (r : Answer) (b : Lexeme) (k : Kind) (m : yaml_mark_t) (a : Bool) (ls : List ℕ) → b ≡ begun_in k (placed k m) a mc.depth ls → GivesLexeme (stream_of mc) (Ok (r.lexeme, r.body)) x
-    → EndsAt (stream_of mc).text b r.lexeme → Owns mc mc.depth ((a && may_be_key k) || cancels k) r.own → Picks mc (keyed_by k (fresh (candidate mc.depth (history_of mc)) m)) r.key → GivesNext mc (Ok r) x
-ok_gives mc (Fails p) r b k m a ls is g e own key = g
-ok_gives mc Ends r b k m a ls is g e own key = g
-ok_gives mc (Read l) r b k m a ls is (same, spoken) e own key =
+    → EndsAt (stream_of mc).text b r.lexeme → Picks mc (keyed_by k (fresh (candidate mc.depth (history_of mc)) m)) r.key → GivesNext mc (Ok r) x
+ok_gives mc (Fails p) r b k m a ls is g e key = g
+ok_gives mc Ends r b k m a ls is g e key = g
+ok_gives mc (Read l) r b k m a ls is (same, spoken) e key =
     let kind : k ≡ l.kind = sym (ap (λ (x : Lexeme). x.kind) (sym same) ∙ e.kind ∙ ap (λ (x : Lexeme). x.kind) is) in
     let deep : mc.depth ≡ l.depth = sym (ap (λ (x : Lexeme). x.depth) (sym same) ∙ e.depth ∙ ap (λ (x : Lexeme). x.depth) is) in
     let start : placed k m ≡ l.start = sym (ap (λ (x : Lexeme). x.start) (sym same) ∙ e.start ∙ ap (λ (x : Lexeme). x.start) is) in
-    let saved : (a && may_be_key k) ≡ l.saved = sym (ap (λ (x : Lexeme). x.saved) (sym same) ∙ e.saved ∙ ap (λ (x : Lexeme). x.saved) is) in
-    let P : Bool → Type 0 = λ b. Owns mc mc.depth (b || cancels k) r.own in
-    let Q : Kind → Type 0 = λ y. Owns mc mc.depth (l.saved || cancels y) r.own in
-    let R : ℕ → Type 0 = λ d. Owns mc d (l.saved || cancels l.kind) r.own in
     let T : Option Candidate → Type 0 = λ o. Picks mc o r.key in
     let h = history_of mc in
     let keyed : keyed_by k (fresh (candidate mc.depth h) m) ≡ keyed_by l.kind (found_by l h) = sym (keyed_same k (candidate mc.depth h) m) ∙ ap (λ y. keyed_by k (fresh (candidate mc.depth h) y)) start ∙ ap (λ d. keyed_by k (fresh (candidate d h) l.start)) deep ∙ ap (λ y. keyed_by y (fresh (candidate l.depth h) l.start)) kind in
-    record { lexeme = same; spoken = spoken; own = subst R deep (subst Q kind (subst P saved own)); key = subst T keyed key }
+    record { lexeme = same; spoken = spoken; key = subst T keyed key }
 
 reached_none : (h : List Lexeme) → length h ≡ 0 → reached h ≡ zero_mark
 reached_none [] e = refl
@@ -253,17 +249,17 @@ pub leaves_ends : (k : Kind) (mark : yaml_mark_t) (allowed : Bool) (d : ℕ) (xs
     → Leaves l.kind l.depth l.start.column xs left
 leaves_ends k mark allowed d xs left text b l value e h = rw (e.kind, e.depth, e.start, value) h
 
-first_read : (m : Machine) (r : Answer) → r.lexeme ≡ first_lexeme → body_of r.body ≡ stream_start m.encoding → r.own ≡ None → r.key ≡ None → IsRead m r first_lexeme
-first_read m r is body own key =
+first_read : (m : Machine) (r : Answer) → r.lexeme ≡ first_lexeme → body_of r.body ≡ stream_start m.encoding → r.key ≡ None → IsRead m r first_lexeme
+first_read m r is body key =
     let T : Option ℕ → Type 0 = λ k. Picks m None k in
-    record { lexeme = is; spoken = body; own = own; key = subst T (sym key) refl }
+    record { lexeme = is; spoken = body; key = subst T (sym key) refl }
 
-pub first_gives : (m : Machine) (r : Answer) → IsShown (fields_of m) → length (history_of m) ≡ 0 → r.lexeme ≡ record first_lexeme { start = m.place; end = m.place; reached = m.place } → body_of r.body ≡ stream_start m.encoding → r.own ≡ None → r.key ≡ None
+pub first_gives : (m : Machine) (r : Answer) → IsShown (fields_of m) → length (history_of m) ≡ 0 → r.lexeme ≡ record first_lexeme { start = m.place; end = m.place; reached = m.place } → body_of r.body ≡ stream_start m.encoding → r.key ≡ None
     → GivesNext m (Ok r) (next (text_bytes m.text) (history_of m))
-first_gives m r s none is body own key =
+first_gives m r s none is body key =
     let zero_at : m.place ≡ zero_mark = s.place ∙ reached_none (history_of m) none in
     let same : r.lexeme ≡ first_lexeme = is ∙ ap (λ (p : yaml_mark_t). record first_lexeme { start = p; end = p; reached = p }) zero_at in
-    rw (next_first (text_bytes m.text) (history_of m) none) (first_read m r same body own key)
+    rw (next_first (text_bytes m.text) (history_of m) none) (first_read m r same body key)
 
 -- the gap behind what was read
 pub gap_by : (m : Fields) (g : Gap) → IsShown m → gap_at (ltb 0 m.depth) m.allowed m.text m.place.index ≡ g → gap_of m.text (read m.text m.dropped m.waiting) ≡ g
@@ -335,12 +331,12 @@ pub allow_by : (m : Fields) (g : Gap) (b : Bool) → IsShown m → b ≡ (m.allo
 allow_by m g b s e = rw (← s.allowed, ← s.depth) (sym e)
 
 -- what an answer tells of the next lexeme
-pub ok_read : (mc : Machine) (r : Answer) (x : Next) → GivesNext mc (Ok r) x → (x ≡ Read r.lexeme) × (body_of r.body ≡ body_in (stream_of mc) r.lexeme) × Owns mc r.lexeme.depth (r.lexeme.saved || cancels r.lexeme.kind) r.own × Picks mc (keyed_by r.lexeme.kind (found_by r.lexeme (history_of mc))) r.key
+pub ok_read : (mc : Machine) (r : Answer) (x : Next) → GivesNext mc (Ok r) x → (x ≡ Read r.lexeme) × (body_of r.body ≡ body_in (stream_of mc) r.lexeme) × Picks mc (keyed_by r.lexeme.kind (found_by r.lexeme (history_of mc))) r.key
 ok_read mc r (Fails p) g = absurd g
 ok_read mc r Ends g = absurd g
 ok_read mc r (Read l) g =
-    let P : Lexeme → Type 0 = λ y. (Read l ≡ Read y) × (body_of r.body ≡ body_in (stream_of mc) y) × Owns mc y.depth (y.saved || cancels y.kind) r.own × Picks mc (keyed_by y.kind (found_by y (history_of mc))) r.key in
-    subst P (sym g.lexeme) (refl, g.spoken, g.own, g.key)
+    let P : Lexeme → Type 0 = λ y. (Read l ≡ Read y) × (body_of r.body ≡ body_in (stream_of mc) y) × Picks mc (keyed_by y.kind (found_by y (history_of mc))) r.key in
+    subst P (sym g.lexeme) (refl, g.spoken, g.key)
 
 pub kind_found : (m : Fields) (g : Gap) (o : Option Kind) → IsShown m → kind_at (ltb 0 m.depth) m.text g.place ≡ o → let h = read m.text m.dropped m.waiting in unless_missed None m.text g h ≡ of_kind o m.text g h
 kind_found m g o s e =

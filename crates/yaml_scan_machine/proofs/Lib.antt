@@ -4,8 +4,8 @@ pub mod WordLemmas
 pub mod SafeLemmas
 pub mod ReadLemmas
 pub mod StepLemmas
-pub mod PassLemmas
 pub mod MarkLemmas
+pub mod KeysLemmas
 pub mod NextLemmas
 pub mod KindLemmas
 pub mod PushLemmas
@@ -16,6 +16,5 @@ pub mod GapLemmas
 pub mod ComesLemmas
 pub mod TakeLemmas
 pub mod LetterLemmas
-pub mod BoundLemmas
 pub mod IndicatorLemmas
 pub mod RowLemmas

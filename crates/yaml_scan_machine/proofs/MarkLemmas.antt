@@ -1,24 +1,23 @@
 -- What a lexeme does to its candidate, and how much has been read.
-use Rattle.std.proofs.Common.{◌≡◌, ◌≢◌, ℕ, zero, suc, ◌+◌, ◌-◌, ◌<◌, ◌≤◌, Bool, true, false, eqb, ◌&&◌, ◌||◌, not, List, [], ◌∷◌, ◌++◌, length, drop, get_or, Option, Some, None, refl, sym, ap, ◌∙◌, inl, inr, arith, length-append, length-drop, get_or-set_other, get_or-set_same}
-use Rattle.std.proofs.lemmas.Bool.{cases_Bool, cases_lt}
-use Rattle.std.proofs.lemmas.Bool.Decides.{nat_tests}
-use Rattle.std.proofs.lemmas.List.{get_or-map, length-map, map-set, get_or_append_left, get_or-append_right, drop-append-le}
-use Rattle.std.proofs.Math.ListN.{set, length-set}
+use Rattle.std.proofs.Common.{◌≡◌, ℕ, zero, suc, ◌+◌, ◌-◌, ◌<◌, ◌≤◌, true, false, List, [], ◌∷◌, ◌++◌, length, drop, get_or, Some, cond, refl, sym, ap, subst, ◌∙◌, inl, inr, arith, length-append, length-drop}
+use Rattle.std.proofs.lemmas.Bool.{cases_Bool}
+use Rattle.std.proofs.lemmas.List.{get_or-map, length-map, map-set, drop-append-le}
+use Rattle.std.proofs.Math.ListN.{set}
 use Rattle.std.specs.Prelude.{map}
 use Rattle.yaml_scan_history.specs.declared.lexeme.Lexeme.{Lexeme}
 use Rattle.yaml_scan_history.specs.declared.lexeme.Entry.{Entry}
 use Rattle.yaml_scan_queue.specs.declared.waiting.Waiting.{Waiting}
 use Rattle.yaml_scan_history.specs.declared.lexeme.Opens.{Opens}
 use Rattle.yaml_scan_history.specs.declared.lexeme.Opens.TheVariants as opening
-use Rattle.yaml_scan_history.specs.Kinds.{is_value, cancels, is_end, depth_after}
-use Rattle.yaml_scan_history.specs.History.{Candidate, candidate, is_fresh, has_number, first_open, as_key, mark_key, keyed, entries, entry_of, reached, opens_in, depth, ended, found_by, inside, start_of, levels, key_allowed}
+use Rattle.yaml_scan_history.specs.Kinds.{is_value, is_end, depth_after}
+use Rattle.yaml_scan_history.specs.History.{first_open, as_key, mark_key, keyed, entries, entry_of, reached, depth, ended, found_by, inside, start_of, levels, key_allowed}
 use Rattle.yaml_scan_history.specs.Next.{history, Read, Ends, next}
 use Rattle.yaml_scan_history.specs.Laws.{Upto, GoesForward}
-use Rattle.yaml_scan_machine.proofs.ReadLemmas.{next_is, first_is, cases_Option, begun_at, finished_depth}
-use Rattle.yaml_scan_machine.specs.Shows.{Fields, Pending, IsShown, read, Closes, settled_in}
-use Rattle.yaml_scan_queue.specs.Waits.{marked}
-use Rattle.yaml_scan_machine.proofs.StepLemmas.{opens_more, opens_new, none_deeper, opens-below}
-use Rattle.yaml_scan_history.proofs.HistoryLemmas.{length-entries, length-keyed, candidate_below, fresh_before, fresh_is, first_open-least, first_open-grows, IsOpen}
+use Rattle.yaml_scan_machine.proofs.ReadLemmas.{next_is, first_is, begun_at, finished_depth}
+use Rattle.yaml_scan_machine.specs.Candidates.{AreKeys}
+use Rattle.yaml_scan_machine.specs.Shows.{Fields, Shows, IsShown, read, settled_in}
+use Rattle.yaml_scan_queue.specs.Waits.{keyed as marked}
+use Rattle.yaml_scan_history.proofs.HistoryLemmas.{length-entries, length-keyed, first_open-le, first_open-grows}
 
 -- nothing comes behind the end
 pub next_ended : (text : List ℕ) (h : List Lexeme) → ended h ≡ true → next text h ≡ Ends
@@ -38,56 +37,10 @@ pub settled_open : (m : Fields) (l : Lexeme) → IsShown m → let h = read m.te
 unfolding settled_in
 settled_open m l s e = let more = not_ended m.text (read m.text m.dropped m.waiting) l e in s.settled ∙ rw more refl
 
--- A candidate that is settled is stale: a `:` makes no key of it.
-pub keyed_none : (m : Fields) (l : Lexeme) → GoesForward m.text → IsShown m → let h = read m.text m.dropped m.waiting in next m.text h ≡ Read l
-    → ((c : Candidate) → candidate l.depth h ≡ Some c → c.number < m.settled) → keyed l h (entries h) ≡ entries h
-keyed_none m l go s e low =
-    let h = read m.text m.dropped m.waiting in
-    elim (cases_Bool (is_value l.kind)) [
-      | inr other ↦ rw other refl
-      | inl value ↦
-          elim (cases_Option (found_by l h)) [
-            | inl none ↦ rw (value, none) refl
-            | inr (c, some) ↦
-                let is = fresh_is (candidate l.depth h) l.start c some in
-                let (near, far) = further_on m.text m.dropped m.waiting l go e in
-                let here : IsOpen h l.depth c.number = (c, fresh_before _ _ _ c some near, refl) in
-                let least = first_open-least h l.depth c.number here (candidate_below l.depth h c is) in
-                let settled = settled_open m l s e in
-                let below = low c is in
-                absurd (omega arith)
-          ]
-    ]
-
-number_low : (o : Option Candidate) (s n : ℕ) → ((c : Candidate) → o ≡ Some c → c.number < s) → s ≤ n → has_number o n ≡ false
-number_low None s n low le = refl
-number_low (Some c) s n low le = let lt = low c refl in grind (arith, nat_tests)
-
-unmarked : (b e : Bool) → (b && not (e && false)) ≡ b
-unmarked true true = refl
-unmarked true false = refl
-unmarked false e = refl
-
 pub depth_of : (text : List ℕ) (h : List Lexeme) (l : Lexeme) → next text h ≡ Read l → l.depth ≡ depth h
 unfolding next
 depth_of text [] l e = ap (λ (x : Lexeme). x.depth) (first_is text l e)
 depth_of text (x ∷ h) l e = let r = next_is text x h l e in ap (λ (y : Lexeme). y.depth) r.is ∙ finished_depth text (begun_at text (x ∷ h) l.kind) r.word
-
--- the marks behind one more lexeme, by the old ones
-pub closes : (m : Fields) (l : Lexeme) (k : ℕ) → IsShown m → let h = read m.text m.dropped m.waiting in next m.text h ≡ Read l → k < length m.waiting → m.settled ≤ m.dropped + k
-    → get_or (opens_in (l ∷ h) (l ∷ h)) (m.dropped + k) false ≡ (get_or m.opens k false && not ((l.saved || cancels l.kind) && has_number (candidate l.depth h) (m.dropped + k)))
-unfolding read
-closes m l k s e inside low =
-    let h = read m.text m.dropped m.waiting in
-    let lt : m.dropped + k < length h = omega (arith, s.count) in
-    let same = depth_of m.text h l e in
-    opens-below (l ∷ h) l h (m.dropped + k) lt ∙ opens_more l h h (m.dropped + k) (λ d deep. none_deeper m.text (m.dropped + length m.waiting) d (omega arith)) lt lt ∙ ap (λ b. b && not ((l.saved || cancels l.kind) && has_number (candidate l.depth h) (m.dropped + k))) (sym (s.opens k inside low))
-
-pub closes_none : (m : Fields) (l : Lexeme) → IsShown m → let h = read m.text m.dropped m.waiting in next m.text h ≡ Read l
-    → ((c : Candidate) → candidate l.depth h ≡ Some c → c.number < m.settled) → Closes l m m.opens
-closes_none m l s e low =
-    let h = read m.text m.dropped m.waiting in
-    (s.same, λ k inside high. sym (closes m l k s e inside high ∙ ap (λ b. get_or m.opens k false && not ((l.saved || cancels l.kind) && b)) (number_low (candidate l.depth h) m.settled (m.dropped + k) low high) ∙ unmarked (get_or m.opens k false) (l.saved || cancels l.kind)))
 
 as_key_set : (ls : List ℕ) (es : List Entry) (i : ℕ) (e : Entry) → i < length es → e ≡ get_or es i e → mark_key ls es i ≡ set es i (as_key ls e)
 unfolding mark_key
@@ -101,50 +54,18 @@ drop-as_key ls zero es i = let z : 0 + i ≡ i = omega arith in rw z refl
 drop-as_key ls (suc d) [] i = refl
 drop-as_key ls (suc d) (x ∷ es) i = let z : suc d + i ≡ suc (d + i) = omega arith in rw z (drop-as_key ls d es i)
 
-set_own : (es : List Entry) (i : ℕ) (e : Entry) → i < length es → e ≡ get_or es i e → set es i e ≡ es
-set_own [] i e lt is = absurd (omega arith)
-set_own (x ∷ es) zero e lt is = rw (← is) refl
-set_own (x ∷ es) (suc i) e lt is = ap (λ r. x ∷ r) (set_own es i e (omega arith) is)
-
+-- what waits, where a `:` makes a key of one of them
 pub keyed_some : (m : Fields) (ws : List Waiting) (w : Waiting) (i : ℕ) (l : Lexeme) (opens : Opens) → IsShown m → m.waiting ≡ map (λ (x : Waiting). x.entry) ws → w ≡ get_or ws i w → i < length ws → let h = read m.text m.dropped m.waiting in
-    candidate l.depth h ≡ Some record { number = m.dropped + i; lexeme = w.entry.lexeme }
-    → (is_value l.kind ≡ true → is_fresh w.entry.lexeme.start l.start ≡ true → opens ≡ start_of w.entry.lexeme.depth (w.entry.lexeme.start.column + 1) (inside l h) opening.Mapping)
-    → map (λ (x : Waiting). x.entry) (set ws i (marked l opens w)) ≡ drop m.dropped (keyed l h (entries h))
-keyed_some m ws w i l opens s wait is lt c so =
+    is_value l.kind ≡ true → found_by l h ≡ Some record { number = m.dropped + i; lexeme = w.entry.lexeme }
+    → opens ≡ start_of w.entry.lexeme.depth (w.entry.lexeme.start.column + 1) (inside l h) opening.Mapping
+    → map (λ (x : Waiting). x.entry) (set ws i (marked opens w)) ≡ drop m.dropped (keyed l h (entries h))
+keyed_some m ws w i l opens s wait is lt value found so =
     let h = read m.text m.dropped m.waiting in
     let es : List Entry = map (λ (x : Waiting). x.entry) ws in
     let inside_of : i < length es = omega (arith, length-map ws (λ (x : Waiting). x.entry)) in
     let e : w.entry ≡ get_or es i w.entry = ap (λ (x : Waiting). x.entry) is ∙ sym (get_or-map (λ (x : Waiting). x.entry) ws i w w.entry lt) in
-    let plain : set es i w.entry ≡ drop m.dropped (entries h) = set_own es i w.entry inside_of e ∙ sym wait ∙ s.waiting in
-    map-set (λ (x : Waiting). x.entry) ws i (marked l opens w) ∙
-    elim (cases_Bool (is_value l.kind)) [
-      | inr other ↦ rw other plain
-      | inl value ↦ elim (cases_Bool (is_fresh w.entry.lexeme.start l.start)) [
-        | inl near ↦ rw (value, c, near, so value near) (sym (drop-as_key (inside l h) m.dropped (entries h) i ∙ ap (λ xs. mark_key (inside l h) xs i) (sym s.waiting ∙ wait) ∙ as_key_set (inside l h) es i w.entry inside_of e))
-        | inr far ↦ rw (value, c, far) plain
-      ]
-    ]
-
-both_true : (b : Bool) → (b && true) ≡ b
-both_true true = refl
-both_true false = refl
-
-pub closes_some : (m : Fields) (ws : List Waiting) (w : Waiting) (i : ℕ) (l : Lexeme) (opens : Opens) → IsShown m → m.waiting ≡ map (λ (x : Waiting). x.entry) ws → m.opens ≡ map (λ (x : Waiting). x.current) ws → w ≡ get_or ws i w → i < length ws → let h = read m.text m.dropped m.waiting in
-    next m.text h ≡ Read l → candidate l.depth h ≡ Some record { number = m.dropped + i; lexeme = w.entry.lexeme }
-    → Closes l m (map (λ (x : Waiting). x.current) (set ws i (marked l opens w)))
-closes_some m ws w i l opens s wait bits is lt e c =
-    let h = read m.text m.dropped m.waiting in
-    let bs : List Bool = map (λ (x : Waiting). x.current) ws in
-    let new = map-set (λ (x : Waiting). x.current) ws i (marked l opens w) in
-    let long : length bs ≡ length m.waiting = ap length (sym bits) ∙ s.same in
-    let inside_of : i < length bs = omega (arith, length-map ws (λ (x : Waiting). x.current)) in
-    let here : get_or m.opens i false ≡ w.current = ap (λ xs. get_or xs i false) bits ∙ get_or-map (λ (x : Waiting). x.current) ws i w false lt ∙ ap (λ (x : Waiting). x.current) (sym is) in (
-      rw new (length-set bs i (marked l opens w).current ∙ long),
-      λ k room high. rw (new, closes m l k s e room high, c) (elim (cases_Bool (eqb (m.dropped + i) (m.dropped + k))) [
-        | inl same ↦ let eq : k ≡ i = grind (arith, nat_tests) in rw (same, eq, here, both_true (l.saved || cancels l.kind)) (get_or-set_same bs i (marked l opens w).current false inside_of)
-        | inr other ↦ let ne : k ≢ i = grind (arith, nat_tests) in rw (other, bits, unmarked (get_or bs k false) (l.saved || cancels l.kind)) (get_or-set_other bs i k (marked l opens w).current false ne)
-      ]),
-    )
+    map-set (λ (x : Waiting). x.entry) ws i (marked opens w) ∙
+    rw (value, found, so) (sym (drop-as_key (inside l h) m.dropped (entries h) i ∙ ap (λ xs. mark_key (inside l h) xs i) (sym s.waiting ∙ wait) ∙ as_key_set (inside l h) es i w.entry inside_of e))
 
 pub read_more : (m : Fields) (l : Lexeme) (xs : List Entry) → next m.text (read m.text m.dropped m.waiting) ≡ Read l → length xs ≡ length m.waiting + 1 → read m.text m.dropped xs ≡ l ∷ read m.text m.dropped m.waiting
 unfolding read history
@@ -156,39 +77,62 @@ read_more m l xs e len =
 abbrev pub kept_entries : Fields → Lexeme → List Entry
 kept_entries m l = drop m.dropped (keyed l (read m.text m.dropped m.waiting) (entries (read m.text m.dropped m.waiting)))
 
--- the state behind one more lexeme, as its parts are set
-abbrev pub pushed : Fields → Lexeme → List Bool → Fields
-pushed m l bs = record m {
-  waiting = drop m.dropped (keyed l (read m.text m.dropped m.waiting) (entries (read m.text m.dropped m.waiting))) ++ entry_of l (read m.text m.dropped m.waiting) ∷ [];
-  opens = bs ++ l.saved ∷ [];
-  place = l.reached;
-  depth = depth_after l.kind l.depth;
-  levels = levels (l ∷ read m.text m.dropped m.waiting);
-  allowed = key_allowed (l ∷ read m.text m.dropped m.waiting);
-  ended = is_end l.kind;
-}
+-- the fields x are those behind one more lexeme, but what is settled
+pub record IsPushed (m : Fields) (l : Lexeme) (x : Fields) : Type 0 where
+  pub text : x.text ≡ m.text
+  pub waiting : x.waiting ≡ kept_entries m l ++ entry_of l (read m.text m.dropped m.waiting) ∷ []
+  pub keys : AreKeys x.keys (l ∷ read m.text m.dropped m.waiting) x.place
+  pub dropped : x.dropped ≡ m.dropped
+  pub place : x.place ≡ l.reached
+  pub depth : x.depth ≡ depth_after l.kind l.depth
+  pub levels : x.levels ≡ levels (l ∷ read m.text m.dropped m.waiting)
+  pub allowed : x.allowed ≡ key_allowed (l ∷ read m.text m.dropped m.waiting)
+  pub ended : x.ended ≡ is_end l.kind
 
-pub pending : (m : Fields) (l : Lexeme) (bs : List Bool) → GoesForward m.text → IsShown m → next m.text (read m.text m.dropped m.waiting) ≡ Read l → Closes l m bs
-    → Pending (l ∷ read m.text m.dropped m.waiting) (pushed m l bs)
+kept_length : (m : Fields) (l : Lexeme) → IsShown m → length (kept_entries m l) ≡ length m.waiting
+kept_length m l s =
+    let h = read m.text m.dropped m.waiting in
+    omega (arith, length-drop m.dropped (keyed l h (entries h)), length-keyed l h (entries h), length-entries h, s.count)
+
+pushed_length : (m x : Fields) (l : Lexeme) → IsShown m → IsPushed m l x → length x.waiting ≡ length m.waiting + 1
+pushed_length m x l s p = ap length p.waiting ∙ length-append (kept_entries m l) (entry_of l (read m.text m.dropped m.waiting) ∷ []) ∙ ap (λ n. n + 1) (kept_length m l s)
+
+pub read_pushed : (m x : Fields) (l : Lexeme) → IsShown m → next m.text (read m.text m.dropped m.waiting) ≡ Read l → IsPushed m l x → read x.text x.dropped x.waiting ≡ l ∷ read m.text m.dropped m.waiting
+read_pushed m x l s e p =
+    ap (λ t. read t x.dropped x.waiting) p.text ∙ ap (λ d. read m.text d x.waiting) p.dropped ∙ read_more m l x.waiting e (pushed_length m x l s p)
+
+pushed_waiting : (m x : Fields) (l : Lexeme) → IsShown m → IsPushed m l x → x.waiting ≡ drop x.dropped (entries (l ∷ read m.text m.dropped m.waiting))
 unfolding entries
-pending m l bs go s e (long, marks) =
+pushed_waiting m x l s p =
     let h = read m.text m.dropped m.waiting in
     let ks = keyed l h (entries h) in
-    let kept : length (drop m.dropped ks) ≡ length m.waiting = omega (arith, length-drop m.dropped ks, length-keyed l h (entries h), length-entries h, s.count) in
-    let all : length (drop m.dropped ks ++ entry_of l h ∷ []) ≡ length m.waiting + 1 = omega (arith, length-append (drop m.dropped ks) (entry_of l h ∷ [])) in
+    p.waiting ∙ sym (drop-append-le m.dropped ks _ (omega (arith, length-keyed l h (entries h), length-entries h, s.count))) ∙ ap (λ d. drop d (ks ++ entry_of l h ∷ [])) (sym p.dropped)
+
+-- what is settled grows, and is read
+pub settled_grows : (m : Fields) (l : Lexeme) → GoesForward m.text → IsShown m → let h = read m.text m.dropped m.waiting in next m.text h ≡ Read l → (m.settled ≤ settled_in (l ∷ h)) × (settled_in (l ∷ h) ≤ length (l ∷ h))
+unfolding settled_in
+settled_grows m l go s e =
+    let h = read m.text m.dropped m.waiting in
     let (near, far) = further_on m.text m.dropped m.waiting l go e in
-    record {
-      count = omega (arith, s.count);
-      waiting = sym (drop-append-le m.dropped ks _ (omega (arith, length-keyed l h (entries h), length-entries h, s.count)));
-      taken = s.taken;
-      settled = let grows = first_open-grows l h (omega (arith, near.0, far.0), omega (arith, near.1, far.1)) in let now = settled_open m l s e in omega arith;
-      place = refl;
-      same = omega (arith, length-append bs (l.saved ∷ []));
-      opens = λ k room low. elim (cases_lt k (length m.waiting)) [
-        | inl old ↦ get_or_append_left bs _ false k (omega arith) ∙ marks k old low
-        | inr past ↦
-            let here : m.dropped + k ≡ length h = omega (arith, s.count) in
-            let z : k - length bs ≡ 0 = omega arith in
-            get_or-append_right bs (l.saved ∷ []) (length bs) k false refl (omega arith) ∙ ap (λ i. get_or (l.saved ∷ []) i false) z ∙ sym (opens_new l h) ∙ ap (λ i. get_or (opens_in (l ∷ h) (l ∷ h)) i false) (sym here)
-      ];
+    let grows = first_open-grows l h (omega (arith, near.0, far.0), omega (arith, near.1, far.1)) in
+    let now = settled_open m l s e in
+    let most = first_open-le (l ∷ h) (l ∷ h) in
+    elim (is_end l.kind) as (λ b. (m.settled ≤ cond b (length (l ∷ h)) (first_open (l ∷ h) (l ∷ h))) × (cond b (length (l ∷ h)) (first_open (l ∷ h) (l ∷ h)) ≤ length (l ∷ h))) [ true ↦ (omega (arith, grows, most, now), omega arith) | false ↦ (omega (arith, grows, now), most) ]
+
+pub shown_by : (m x : Fields) (l : Lexeme) → GoesForward m.text → IsShown m → next m.text (read m.text m.dropped m.waiting) ≡ Read l → IsPushed m l x
+    → x.settled ≡ settled_in (l ∷ read m.text m.dropped m.waiting) → IsShown x
+shown_by m x l go s e p now =
+    let len = pushed_length m x l s p in
+    let grows = settled_grows m l go s e in
+    subst (λ (y : List Lexeme). Shows y x) (sym (read_pushed m x l s e p)) record {
+      count = omega (arith, s.count, len, p.dropped);
+      waiting = pushed_waiting m x l s p;
+      settled = now;
+      taken = omega (arith, p.dropped, now, grows.0, s.taken);
+      place = p.place;
+      levels = p.levels;
+      depth = p.depth;
+      allowed = p.allowed;
+      ended = p.ended;
+      keys = p.keys;
     }

@@ -1,28 +1,22 @@
 -- What comes next, by the fields of a machine.
-use Rattle.std.proofs.Common.{◌≡◌, ℕ, zero, suc, ◌+◌, ◌-◌, ◌<◌, ◌≤◌, Bool, true, false, cond, ltb, eqb, ◌&&◌, ◌||◌, List, [], ◌∷◌, length, get_or, Option, Some, None, refl, sym, ap, subst, ◌∙◌, inl, inr, arith}
+use Rattle.std.proofs.Common.{◌≡◌, ℕ, zero, suc, ◌+◌, ◌-◌, ◌<◌, ◌≤◌, Bool, true, false, ltb, eqb, ◌&&◌, List, [], ◌∷◌, length, Option, Some, None, refl, sym, ap, subst, ◌∙◌, inl, inr, arith}
 use Rattle.std.proofs.lemmas.Bool.{cases_Bool, cases_lt, and_parts}
 use Rattle.std.proofs.lemmas.Bool.Decides.{nat_tests}
-use Rattle.std.proofs.lemmas.List.{get_or-map, get_or-drop, length-map}
-use Rattle.std.specs.Prelude.{map}
 use Rattle.yaml_scan_model.specs.declared.record.yaml_mark_t.{yaml_mark_t}
 use Rattle.yaml_scan_model.specs.Marks.{mark_at, line_at}
 use Rattle.yaml_scan_words.proofs.PlacesLemmas.{gap_place}
-use Rattle.yaml_scan_history.specs.declared.kind.Kind.{Kind}
-use Rattle.yaml_scan_history.specs.declared.kind.Kind.TheVariants as kinds
 use Rattle.yaml_scan_history.specs.declared.lexeme.Lexeme.{Lexeme}
-use Rattle.yaml_scan_history.specs.declared.lexeme.Entry.{Entry}
-use Rattle.yaml_scan_history.specs.Kinds.{is_value, cancels, may_be_key}
-use Rattle.yaml_scan_history.specs.History.{Candidate, candidate, fresh, is_fresh, first_open, opens_in, entries, reached, depth, key_allowed, ended}
+use Rattle.yaml_scan_history.specs.Kinds.{cancels, may_be_key}
+use Rattle.yaml_scan_history.specs.History.{Candidate, candidate, fresh, is_fresh, first_open, reached, depth, key_allowed, ended}
 use Rattle.yaml_scan_history.specs.Next.{Next, Read, Fails, Ends, next, history, extended, first_lexeme, allowed_behind, missed, lost_by}
 use Rattle.yaml_scan_history.specs.Stepwise.{behind}
 use Rattle.yaml_scan_history.specs.Laws.{Upto}
 use Rattle.yaml_scan_history.proofs.StepwiseLemmas.{stepwise}
-use Rattle.yaml_scan_history.proofs.HistoryLemmas.{candidate_below, first_open-is, first_open-least, fresh_is, fresh_before, IsOpen}
-use Rattle.yaml_scan_queue.specs.declared.waiting.Waiting.{Waiting}
+use Rattle.yaml_scan_history.proofs.HistoryLemmas.{fresh_is, fresh_before}
 use Rattle.yaml_scan_machine.specs.Shows.{Fields, IsShown, read, settled_in}
 use Rattle.yaml_scan_machine.specs.Reads.{required_in, late, lost, required_behind}
 use Rattle.yaml_scan_machine.proofs.ReadLemmas.{next_is, first_is, cases_Option, begun_at, gap_of, finished_required, finished_depth, finished_saved}
-use Rattle.yaml_scan_machine.proofs.StepLemmas.{candidate_top, one_depth, start_is, open_is, open_set}
+use Rattle.yaml_scan_machine.proofs.StepLemmas.{candidate_top}
 
 pub next_first : (text : List ℕ) (h : List Lexeme) → length h ≡ 0 → next text h ≡ Read first_lexeme
 unfolding next
@@ -64,29 +58,6 @@ late_same (Some c) p =
       ]
     ]
 
-candidate_bound : (d : ℕ) (l : Lexeme) (h : List Lexeme) → l.depth < d → candidate d (l ∷ h) ≡ None
-unfolding candidate
-candidate_bound d l h low =
-    let t : eqb l.depth d ≡ false = grind (arith, nat_tests) in
-    let u : ltb l.depth d ≡ true = grind (arith, nat_tests) in
-    rw (t, u) refl
-
--- a candidate outside all brackets is older than any other one
-pub outer_older : (h : List Lexeme) (d : ℕ) (c x : Candidate) → candidate 0 h ≡ Some c → candidate d h ≡ Some x → 0 < d → c.number < x.number
-unfolding candidate
-outer_older [] d c x is ix deep = cc
-outer_older (l ∷ h) d c x is ix deep =
-    elim (candidate_top d l h x ix) [
-      | inl (a, top, s) ↦ elim (candidate_top 0 l h c is) [
-        | inl (z, up, t) ↦ absurd (omega arith)
-        | inr before ↦ let low = candidate_below 0 h c before in omega arith
-      ]
-      | inr was ↦ elim (candidate_top 0 l h c is) [
-        | inl (z, up, t) ↦ let none = candidate_bound d l h (omega arith) in let bad : Some x ≡ None = sym ix ∙ none in cc
-        | inr before ↦ outer_older h d c x before was deep
-      ]
-    ]
-
 -- a candidate stands at its depth
 pub candidate_depth : (d : ℕ) (h : List Lexeme) (c : Candidate) → candidate d h ≡ Some c → c.lexeme.depth ≡ d
 unfolding candidate
@@ -97,102 +68,9 @@ candidate_depth d (l ∷ h) c is =
       | inr before ↦ candidate_depth d h c before
     ]
 
--- The open candidate outside all brackets is the earliest open one.
-outer_first : (h : List Lexeme) (c : Candidate) → fresh (candidate 0 h) (reached h) ≡ Some c → c.number ≡ first_open h h
-outer_first h c f =
-    let is = fresh_is (candidate 0 h) (reached h) c f in
-    let low = candidate_below 0 h c is in
-    let least = first_open-least h 0 c.number (c, f, refl) low in
-    let (d, (x, g, n)) = first_open-is h h (omega arith) in
-    let ix = fresh_is (candidate d h) (reached h) x g in
-    elim (cases_lt 0 d) [
-      | inl deep ↦ let older = outer_older h d c x is ix deep in absurd (omega arith)
-      | inr flat ↦
-          let z : d ≡ 0 = omega arith in
-          let same : Some x ≡ Some c = sym g ∙ ap (λ k. fresh (candidate k h) (reached h)) z ∙ f in
-          let eq : x ≡ c = cc in
-          ap (λ (y : Candidate). y.number) (sym eq) ∙ n
-    ]
-
--- what waits first behind what is settled
-pub first_waits : (m : Fields) (ws : List Waiting) (w : Waiting) → IsShown m → m.waiting ≡ map (λ (x : Waiting). x.entry) ws → m.opens ≡ map (λ (x : Waiting). x.current) ws
-    → w ≡ get_or ws (m.settled - m.dropped) w → m.settled - m.dropped < length ws → let h = read m.text m.dropped m.waiting in
-    (get_or (opens_in h h) m.settled false ≡ w.current) × ((get_or (entries h) m.settled w.entry).lexeme ≡ w.entry.lexeme) × (m.settled < length h)
-first_waits m ws w s wait bits is lt =
-    let h = read m.text m.dropped m.waiting in
-    let i : ℕ = m.settled - m.dropped in
-    let n : m.dropped + i ≡ m.settled = omega (arith, s.taken) in
-    let len : length m.waiting ≡ length ws = ap length wait ∙ length-map ws (λ (x : Waiting). x.entry) in
-    let bit : get_or (opens_in h h) (m.dropped + i) false ≡ w.current = sym (s.opens i (omega arith) (omega arith)) ∙ ap (λ xs. get_or xs i false) bits ∙ get_or-map (λ (x : Waiting). x.current) ws i w false lt ∙ ap (λ (x : Waiting). x.current) (sym is) in
-    let e : get_or (entries h) (m.dropped + i) w.entry ≡ w.entry = sym (get_or-drop m.dropped (entries h) i w.entry) ∙ ap (λ xs. get_or xs i w.entry) (sym s.waiting ∙ wait) ∙ get_or-map (λ (x : Waiting). x.entry) ws i w w.entry lt ∙ ap (λ (x : Waiting). x.entry) (sym is) in
-    (ap (λ k. get_or (opens_in h h) k false) (sym n) ∙ bit, ap (λ k. (get_or (entries h) k w.entry).lexeme) (sym n) ∙ ap (λ (x : Entry). x.lexeme) e, omega (arith, s.count, len))
-
 pub settled_first : (m : Fields) → IsShown m → m.ended ≡ false → m.settled ≡ first_open (read m.text m.dropped m.waiting) (read m.text m.dropped m.waiting)
 unfolding settled_in
 settled_first m s more = let e = sym s.ended ∙ more in s.settled ∙ rw e refl
-
--- nothing waits behind what is settled
-pub required_none : (m : Fields) (n : ℕ) → IsShown m → m.ended ≡ false → n ≡ length m.waiting → n ≤ m.settled - m.dropped → let h = read m.text m.dropped m.waiting in None ≡ required_in (fresh (candidate 0 h) (reached h))
-required_none m n s more same past =
-    let h = read m.text m.dropped m.waiting in
-    elim (cases_Option (fresh (candidate 0 h) (reached h))) [
-      | inl none ↦ rw none refl
-      | inr (c, f) ↦
-          let first = outer_first h c f in
-          let low = candidate_below 0 h c (fresh_is (candidate 0 h) (reached h) c f) in
-          let now = settled_first m s more in
-          absurd (omega (arith, s.count, s.taken))
-    ]
-
--- the required candidate is what waits first behind what is settled, where that is one
-pub required_some : (m : Fields) (ws : List Waiting) (w : Waiting) → IsShown m → m.ended ≡ false → m.waiting ≡ map (λ (x : Waiting). x.entry) ws → m.opens ≡ map (λ (x : Waiting). x.current) ws
-    → w ≡ get_or ws (m.settled - m.dropped) w → m.settled - m.dropped < length ws → let h = read m.text m.dropped m.waiting in
-    cond ((w.current && w.entry.lexeme.required) && eqb w.entry.lexeme.depth 0) (Some w.entry.lexeme.start) None ≡ required_in (fresh (candidate 0 h) (reached h))
-required_some m ws w s more wait bits is lt =
-    let h = read m.text m.dropped m.waiting in
-    let (bit, e, inside) = first_waits m ws w s wait bits is lt in
-    let now = settled_first m s more in
-    elim (cases_Bool ((w.current && w.entry.lexeme.required) && eqb w.entry.lexeme.depth 0)) [
-      | inl all ↦
-          let (a, flat) = and_parts _ _ all in
-          let (current, must) = and_parts _ _ a in
-          let (d, c, ic, n) = open_is h h m.settled inside (bit ∙ current) in
-          let same : c.lexeme ≡ w.entry.lexeme = sym (start_is d h c w.entry ic) ∙ ap (λ k. (get_or (entries h) k w.entry).lexeme) n ∙ e in
-          let (b, (x, f, k)) = first_open-is h h (omega arith) in
-          let ix = fresh_is (candidate b h) (reached h) x f in
-          let one = one_depth h d b c x ic ix (n ∙ now ∙ sym k) in
-          let z : w.entry.lexeme.depth ≡ 0 = grind (arith, nat_tests) in
-          let at : d ≡ 0 = sym (candidate_depth d h c ic) ∙ ap (λ (y : Lexeme). y.depth) same ∙ z in
-          let g : fresh (candidate 0 h) (reached h) ≡ Some x = ap (λ i. fresh (candidate i h) (reached h)) (sym (sym one ∙ at)) ∙ f in
-          let both : Some x ≡ Some c = sym ix ∙ ap (λ i. candidate i h) (sym one) ∙ ic in
-          let xc : x ≡ c = cc in
-          let so : x.lexeme ≡ w.entry.lexeme = ap (λ (y : Candidate). y.lexeme) xc ∙ same in
-          rw (all, g, so, must) refl
-      | inr never ↦
-          elim (cases_Option (fresh (candidate 0 h) (reached h))) [
-            | inl none ↦ rw (never, none) refl
-            | inr (c, f) ↦
-                let first = outer_first h c f in
-                let ic = fresh_is (candidate 0 h) (reached h) c f in
-                let n : c.number ≡ m.settled = first ∙ sym now in
-                let same : c.lexeme ≡ w.entry.lexeme = sym (start_is 0 h c w.entry ic) ∙ ap (λ k. (get_or (entries h) k w.entry).lexeme) n ∙ e in
-                let current : w.current ≡ true = sym bit ∙ ap (λ k. get_or (opens_in h h) k false) (sym n) ∙ open_set h 0 c ic in
-                let flat : w.entry.lexeme.depth ≡ 0 = ap (λ (y : Lexeme). y.depth) (sym same) ∙ candidate_depth 0 h c ic in
-                let off : w.entry.lexeme.required ≡ false = elim (cases_Bool w.entry.lexeme.required) [
-                  | inr no_one ↦ no_one
-                  | inl must ↦ let bad = rw (current, must, flat) at never in cc
-                ] in
-                rw (never, f, same, off) refl
-          ]
-    ]
-
-value_cancels : (k : Kind) → is_value k ≡ true → cancels k ≡ true
-value_cancels kinds.ValueMark e = refl
-value_cancels _ e = cc
-
-pub asked_value : (k : Kind) (b : Bool) → is_value k ≡ true → (b || cancels k) ≡ true
-asked_value k true e = refl
-asked_value k false e = value_cancels k e
 
 -- A lexeme that is required stands outside all brackets, and may be a key.
 required_parts : (a b c : Bool) (d : ℕ) → ((a && b) && (eqb d 0 && c)) ≡ true → (d ≡ 0) × ((a && b) ≡ true)
@@ -262,22 +140,6 @@ stale_later o p q u e =
     elim (cases_Option (fresh o q)) [
       | inl none ↦ none
       | inr (c, f) ↦ let bad : None ≡ Some c = sym e ∙ fresh_before o p q c f u in cc
-    ]
-
--- A candidate that is settled is stale at each later place.
-pub stale_settled : (m : Fields) (d : ℕ) (p : yaml_mark_t) → IsShown m → m.ended ≡ false → let h = read m.text m.dropped m.waiting in Upto (reached h) p
-    → ((c : Candidate) → candidate d h ≡ Some c → c.number < m.settled) → None ≡ fresh (candidate d h) p
-stale_settled m d p s more u low =
-    let h = read m.text m.dropped m.waiting in
-    elim (cases_Option (fresh (candidate d h) p)) [
-      | inl none ↦ sym none
-      | inr (c, f) ↦
-          let is = fresh_is (candidate d h) p c f in
-          let here : IsOpen h d c.number = (c, fresh_before (candidate d h) (reached h) p c f u, refl) in
-          let least = first_open-least h d c.number here (candidate_below d h c is) in
-          let now = settled_first m s more in
-          let below = low c is in
-          absurd (omega arith)
     ]
 
 pub lost_same : (text : List ℕ) (n : ℕ) (p : yaml_mark_t) (b : Lexeme) → let h = history text n in b.depth ≡ depth h → Upto (reached h) p

@@ -1,6 +1,7 @@
 pub mod Stands
 pub mod Rising
 pub mod Given
+pub mod Candidates
 pub mod Shows
 pub mod Taken
 pub mod Reads

@@ -1,5 +1,5 @@
 -- What reading the next lexeme answers.
-use Rattle.std.specs.Prelude.{ℕ, ◌+◌, ◌≡◌, ◌&&◌, ◌||◌, not, Bool, true, false, nat_lt, ◌==◌, if◌then◌else◌, Option, Some, None, Result, Ok, Err, List, slice_index_or, slice_set}
+use Rattle.std.specs.Prelude.{ℕ, ◌+◌, ◌≡◌, ◌&&◌, ◌||◌, not, Bool, false, nat_lt, ◌==◌, if◌then◌else◌, Option, Some, None, Result, Ok, Err, List, slice_index_or, slice_set}
 use Rattle.yaml_scan_model.specs.declared.record.yaml_mark_t.{yaml_mark_t}
 use Rattle.yaml_scan_model.specs.declared.problem.ScanFault.{ScanFault}
 use Rattle.yaml_scan_model.specs.declared.problem.Problem.TheVariants as problems
@@ -22,8 +22,8 @@ use Rattle.yaml_scan_machine.specs.declared.word.Word.{Word}
 use Rattle.yaml_scan_model.specs.declared.token.yaml_token_body_t.{yaml_token_body_t}
 use Rattle.yaml_scan_machine.specs.State.{IsPlace}
 use Rattle.yaml_scan_queue.specs.declared.waiting.Waiting.{Waiting}
-use Rattle.yaml_scan_machine.specs.Shows.{Finds, Picks, history_of, stream_of}
-use Rattle.yaml_scan_queue.specs.Waits.{marked}
+use Rattle.yaml_scan_machine.specs.Shows.{Picks, history_of, stream_of}
+use Rattle.yaml_scan_queue.specs.Waits.{keyed}
 
 -- the start of a candidate whose `:` must come
 abbrev pub required_in : Option Candidate → Option yaml_mark_t
@@ -62,11 +62,6 @@ no_token_fault mark = record {
   problem_mark = mark;
 }
 
--- Where the candidate of a depth waits, if it is asked for.
-abbrev pub Owns : Machine → ℕ → Bool → Option ℕ → Type 0
-Owns m d false own = own ≡ None
-Owns m d true own = Finds m d own
-
 -- the candidate of which a `:` makes a key
 abbrev pub keyed_by : Kind → Option Candidate → Option Candidate
 keyed_by k o = if is_value k then o else None
@@ -89,7 +84,6 @@ begun_in k start allowed depth levels = record {
 pub record IsRead (m : Machine) (r : Answer) (l : Lexeme) : Type 0 where
   pub lexeme : r.lexeme ≡ l
   pub spoken : body_of r.body ≡ body_in (stream_of m) l
-  pub own : Owns m l.depth (l.saved || cancels l.kind) r.own
   pub key : Picks m (keyed_by l.kind (found_by l (history_of m))) r.key
 
 -- the refusal tells that fault, unless memory ran out
@@ -137,11 +131,11 @@ GivesNext m (Err e) (Read l) = IsMemory e
 GivesNext m (Err e) (Fails p) = Tells e p
 GivesNext m (Err e) Ends = ⊥
 
--- what a lexeme makes of its own depth's candidate, where that waits
-abbrev pub MarksOwn : Option ℕ → Lexeme → Opens → List Waiting → List Waiting → Type 0
-MarksOwn None l opens old new = new ≡ old
-MarksOwn (Some i) l opens old new = (w : Waiting)
-    → new ≡ slice_set old i (marked l opens (slice_index_or old i w))
+-- what a `:` makes of the lexeme of which it makes a key
+abbrev pub MarksKey : Option ℕ → Opens → List Waiting → List Waiting → Type 0
+MarksKey None opens old new = new ≡ old
+MarksKey (Some i) opens old new = (w : Waiting)
+    → new ≡ slice_set old i (keyed opens (slice_index_or old i w))
 
 -- what a lexeme opens with a margin, where it may and the margin passes the indent
 abbrev pub opens_for : Kind → ℕ → ℕ → List ℕ → Opens
@@ -157,13 +151,3 @@ IsColumnAt ws own (Some i) column = (w : Waiting)
 
 abbrev pub IsColumn : List Waiting → Lexeme → Option ℕ → ℕ → Type 0
 IsColumn ws l key column = IsColumnAt ws l.start.column key column
-
--- the place where a candidate waits, or where it is known that none does
-abbrev pub bound_or : ℕ → ℕ → Option ℕ → ℕ
-bound_or dropped candidate_bound None = candidate_bound
-bound_or dropped candidate_bound (Some i) = dropped + i
-
--- the number from which on no lexeme is its depth's candidate, behind one that takes, cancels or replaces its own
-abbrev pub bound_behind : ℕ → ℕ → ℕ → Lexeme → Option ℕ → ℕ
-bound_behind dropped candidate_bound count l own = if l.saved then dropped + count
-    else bound_or dropped candidate_bound own

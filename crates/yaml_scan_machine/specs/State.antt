@@ -27,19 +27,12 @@ abbrev pub AreInside : ℕ → List Waiting → Type 0
 AreInside n ws = (k : ℕ) → (w : Waiting) → k < length ws
     → (slice_index_or ws k w).entry.lexeme.start.column ≤ n
 
--- no lexeme that waits, from that number on, is its depth's candidate
-abbrev pub AreBounded : ℕ → ℕ → List Waiting → Type 0
-AreBounded n dropped ws = (k : ℕ) → (w : Waiting) → k < length ws → n ≤ dropped + k
-    → (slice_index_or ws k w).current ≡ false
-
 pub record IsMachine (m : Machine) : Type 0 where
   pub long : length (text_bytes m.text) < 2 ^ 63
   pub few : m.dropped + length m.waiting.items ≤ length (text_bytes m.text) + 2
   pub short : length m.waiting.items ≤ 1025
   pub taken : m.dropped ≤ m.settled
   pub settled : m.settled ≤ m.dropped + length m.waiting.items
-  pub last : m.candidate_bound ≤ m.dropped + length m.waiting.items
-  pub candidate_bound : AreBounded m.candidate_bound m.dropped m.waiting.items
   pub depth : m.depth ≤ m.dropped + length m.waiting.items
   pub levels : IsNarrow (length (text_bytes m.text) + 1) m.levels
   pub inside : AreInside (length (text_bytes m.text)) m.waiting.items
@@ -66,8 +59,6 @@ Leaves k depth column levels left = (left ≤ length levels)
 pub record IsNext (m : Machine) (r : Read) : Type 0 where
   pub column : r.lexeme.start.column ≤ length (text_bytes m.text)
   pub depth : r.lexeme.depth ≡ m.depth
-  pub own : IfSome r.own (λ i. i < length m.waiting.items)
-  pub last : IfSome r.own (λ i. AreBounded (m.dropped + i + 1) m.dropped m.waiting.items)
   pub key : IfSome r.key (λ i. i < length m.waiting.items)
   pub left : Leaves r.lexeme.kind r.lexeme.depth r.lexeme.start.column m.levels r.left
   pub place : is_end r.lexeme.kind ≡ false → IsPlace (text_bytes m.text) r.lexeme.reached

@@ -7,6 +7,7 @@ ghost use Rattle.yaml_scan_model.specs.Faults.{fault_of};
 ghost use Rattle.yaml_scan_machine.specs.Left.{IsLocated};
 ghost use Rattle.yaml_scan_history.specs.History as history;
 
+use crate::keys::Keys;
 use crate::levels::Levels;
 use std::alloc::{AllocError, Global};
 use yaml_scan_decode::{stream_encoding, yaml_decode, yaml_text_t};
@@ -35,8 +36,8 @@ pub struct Machine<'a> {
     pub given: usize,
     /// How many lexemes no later one changes.
     pub settled: usize,
-    /// No lexeme with this number or a later one is its depth's candidate.
-    pub candidate_bound: usize,
+    /// The candidate of each open depth.
+    pub keys: Keys,
     /// The place that is reached.
     pub place: yaml_mark_t,
     /// How many brackets are open.
@@ -49,13 +50,13 @@ pub struct Machine<'a> {
 }
 
 impl<'a> Machine<'a> {
-    ghost use Rattle.yaml_scan_machine.specs.State.{IsMachine, IsNarrow, AreInside, AreBounded, GoesOn, Leaves, is_ready};
+    ghost use Rattle.yaml_scan_machine.specs.State.{IsMachine, IsNarrow, AreInside, GoesOn, Leaves, is_ready};
     ghost use Rattle.yaml_scan_history.specs.Scanned.{scanned};
     ghost use Rattle.yaml_scan_machine.specs.Left.{left_in, left_from, IsTold};
     ghost use Rattle.yaml_scan_decode.specs.Encodings.{encoding_of};
-    ghost use Rattle.yaml_scan_machine.specs.Shows.{IsPending, fields_of, history_of};
-    ghost use Rattle.yaml_scan_machine.specs.Reads.{MarksOwn, IsColumnAt, opens_for, bound_behind};
-    ghost use Rattle.yaml_scan_machine.specs.Comes.{Refused};
+    ghost use Rattle.yaml_scan_machine.specs.Shows.{IsCounted, history_of};
+    ghost use Rattle.yaml_scan_machine.specs.Reads.{MarksKey, IsColumnAt, opens_for};
+    ghost use Rattle.yaml_scan_machine.specs.Candidates.{AreKeys, stack_of};
     ghost use Rattle.yaml_scan_history.specs.Remaining.{nothing, offline};
     ghost use Rattle.yaml_scan_laws_order.specs.Fronts.{GivesFirst};
     ghost use Rattle.yaml_scan_model.specs.Tokens.{token_of};
@@ -103,7 +104,7 @@ impl<'a> Machine<'a> {
             dropped: 0,
             given: 0,
             settled: 0,
-            candidate_bound: 0,
+            keys: Keys::new(alloc),
             place: yaml_mark_t {
                 index: 0,
                 line: 0,
@@ -192,61 +193,39 @@ impl<'a> Machine<'a> {
         }
     }
 
-    /// Tells the candidate of a lexeme's depth what the lexeme makes of it.
+    /// Tells the candidate of which a `:` makes a key that it is one, and what it opens.
     // Inlined: the kind is known where it is called.
     #[inline(always)]
-    pub(crate) fn mark_own(&mut self, own: Option<usize>, lexeme: Lexeme, opens: Opens)
-        requires { IfSome own (λ i. i < length self.old.waiting.items) }
+    pub(crate) fn mark_key(&mut self, key: Option<usize>, opens: Opens)
+        requires { IfSome key (λ i. i < length self.old.waiting.items) }
         ensures same { self.new ≡ record self.old { waiting = self.new.waiting } }
         ensures length { length self.new.waiting.items ≡ length self.old.waiting.items }
         ensures inside { (n : ℕ) → AreInside n self.old.waiting.items
             → AreInside n self.new.waiting.items }
-        ensures marks { MarksOwn own lexeme opens self.old.waiting.items self.new.waiting.items }
+        ensures marks { MarksKey key opens self.old.waiting.items self.new.waiting.items }
     {
-        if let Some(i) = own {
-            self.waiting.mark(i, lexeme, opens);
+        if let Some(i) = key {
+            self.waiting.mark(i, opens);
         }
     }
 
-    /// The number from which on no lexeme is its depth's candidate, where `lexeme` is the last one and takes, cancels or
-    /// replaces the one at `own`.
+    /// How many of so many lexemes no later one changes: those before the earliest open candidate, or all behind the end.
     // Inlined: the kind is known where it is called.
     #[inline(always)]
-    pub(crate) fn bound_behind(&self, own: Option<usize>, lexeme: Lexeme) -> usize
-        requires own { IfSome own (λ i. i < length self.now.waiting.items) }
-        requires few { self.now.dropped + length self.now.waiting.items < 2 ^ 64 - 1 }
-        ensures { result ≡ bound_behind self.now.dropped self.now.candidate_bound
-            (length self.now.waiting.items) lexeme own }
-    {
-        if lexeme.saved {
-            return self.dropped + self.waiting.len();
-        }
-        match own {
-            Some(i) => self.dropped + i,
-            None => self.candidate_bound,
-        }
-    }
-
-    /// How many lexemes no later one changes: those before the earliest open candidate, or all behind the end.
-    // Inlined: the kind is known where it is called.
-    #[inline(always)]
-    pub(crate) fn settle(&self) -> usize
-        requires shown { IsPending (fields_of self.now) }
-        requires settled { self.now.settled ≤ self.now.dropped + length self.now.waiting.items }
-        requires few { self.now.dropped + length self.now.waiting.items < 2 ^ 64 - 1 }
-        requires last { self.now.candidate_bound ≤ self.now.dropped + length
-            self.now.waiting.items }
-        requires candidate_bound { AreBounded self.now.candidate_bound self.now.dropped
-            self.now.waiting.items }
-        ensures value { result ≡ (if self.now.ended then length (history_of self.now)
-            else history.first_open (history_of self.now) (history_of self.now)) }
-        ensures low { self.now.settled ≤ result }
-        ensures high { result ≤ self.now.dropped + length self.now.waiting.items }
+    pub(crate) fn settle(&mut self, count: usize) -> usize
+        requires { IsCounted self.old count }
+        ensures same { self.new ≡ record self.old { keys = self.new.keys } }
+        ensures keys { AreKeys (stack_of self.new.keys) (history_of self.old) self.old.place }
+        ensures value { result ≡ (if self.old.ended then length (history_of self.old)
+            else history.first_open (history_of self.old) (history_of self.old)) }
     {
         if self.ended {
-            return self.dropped + self.waiting.len();
+            return count;
         }
-        self.earliest_open()
+        match self.keys.earliest(self.place) {
+            Some(number) => number,
+            None => count,
+        }
     }
 
     /// Closes all but the first `left` levels, those right of a lexeme outside all brackets, and answers how many they are.
@@ -305,64 +284,10 @@ impl<'a> Machine<'a> {
         Ok(level_of(lexeme.kind))
     }
 
-    /// The number of the earliest open candidate, or how many lexemes were read. Mostly it is the one where the last
-    /// look ended: that is asked before the loop, in front of which LLVM would compute its places.
-    // Inlined: the kind is known where it is called.
-    #[inline(always)]
-    fn earliest_open(&self) -> usize
-        requires shown { IsPending (fields_of self.now) }
-        requires settled { self.now.settled ≤ self.now.dropped + length self.now.waiting.items }
-        requires few { self.now.dropped + length self.now.waiting.items < 2 ^ 64 - 1 }
-        requires last { self.now.candidate_bound ≤ self.now.dropped + length
-            self.now.waiting.items }
-        requires candidate_bound { AreBounded self.now.candidate_bound self.now.dropped
-            self.now.waiting.items }
-        ensures value { result ≡ history.first_open (history_of self.now) (history_of self.now) }
-        ensures low { self.now.settled ≤ result }
-        ensures high { result ≤ self.now.dropped + length self.now.waiting.items }
-    {
-        if self.candidate_bound <= self.settled {
-            return self.count();
-        }
-        if self
-            .waiting
-            .index(self.settled - self.dropped)
-            .is_open(self.place)
-        {
-            return self.settled;
-        }
-        self.later_open()
-    }
-
-    /// The number of the earliest open candidate, or how many lexemes were read, by a look at each. What is settled
-    /// stays so, so the look goes on where the last one ended; behind the last candidate bound there is none.
-    // Out of line: it is seldom asked.
-    #[inline(never)]
-    fn later_open(&self) -> usize
-        requires shown { IsPending (fields_of self.now) }
-        requires settled { self.now.settled ≤ self.now.dropped + length self.now.waiting.items }
-        requires few { self.now.dropped + length self.now.waiting.items < 2 ^ 64 - 1 }
-        requires last { self.now.candidate_bound ≤ self.now.dropped + length
-            self.now.waiting.items }
-        requires candidate_bound { AreBounded self.now.candidate_bound self.now.dropped
-            self.now.waiting.items }
-        ensures value { result ≡ history.first_open (history_of self.now) (history_of self.now) }
-        ensures low { self.now.settled ≤ result }
-        ensures high { result ≤ self.now.dropped + length self.now.waiting.items }
-    {
-        let mut i = self.settled - self.dropped;
-        let candidate_bound = self.candidate_bound.saturating_sub(self.dropped);
-        'pass: while i < candidate_bound {
-            if self.waiting.index(i).is_open(self.place) {
-                return self.dropped + i;
-            }
-            i += 1;
-        }
-        self.count()
-    }
-
     /// How many lexemes were read.
-    fn count(&self) -> usize
+    // Inlined: two additions.
+    #[inline(always)]
+    pub(crate) fn count(&self) -> usize
         requires few { self.now.dropped + length self.now.waiting.items < 2 ^ 64 - 1 }
         ensures { result ≡ self.now.dropped + length self.now.waiting.items }
     {
@@ -400,6 +325,8 @@ fn level_of(kind: Kind) -> Opens
 }
 
 /// How a lexeme is spelled out, where it is read. What a `:` opens for its key stands before that key.
+// Inlined: the kind is known where it is called.
+#[inline(always)]
 pub(crate) fn entry(lexeme: Lexeme, ends: usize, opens: Opens, found: bool) -> Entry
     ensures { result ≡ record {
       lexeme = lexeme;
@@ -418,6 +345,8 @@ pub(crate) fn entry(lexeme: Lexeme, ends: usize, opens: Opens, found: bool) -> E
 }
 
 /// Whether a key may begin behind a lexeme.
+// Inlined: the kind is known where it is called.
+#[inline(always)]
 pub(crate) fn allows(lexeme: Lexeme, found: bool) -> bool
     ensures { result ≡ (kinds.allows_key lexeme.kind (lexeme.depth == 0) found || lexeme.broke) }
 {

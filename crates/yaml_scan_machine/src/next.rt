@@ -11,8 +11,6 @@ ghost use Rattle.yaml_scan_history.specs.Next as spec;
 ghost use Rattle.yaml_scan_history.specs.Stepwise as steps;
 ghost use Rattle.yaml_scan_history.specs.Laws.{Upto};
 ghost use Rattle.yaml_scan_history.specs.History.{candidate, fresh, reached, indent, left_by, placed};
-ghost use Rattle.yaml_scan_queue.specs.Waits.{seen};
-ghost use Rattle.yaml_scan_queue.specs.declared.waiting.Seen.TheVariants as looks;
 ghost use Rattle.yaml_scan_machine.specs.Stands.{Stands};
 ghost use Rattle.yaml_scan_machine.specs.State.{IsPlace, Leaves};
 ghost use Rattle.yaml_scan_history.specs.Words.{word_at};
@@ -20,20 +18,17 @@ ghost use Rattle.yaml_scan_machine.specs.Reads.{late, lost, required_behind, col
 
 use crate::levels::keeps;
 use crate::machine::Machine;
-use crate::word::{Reading, Word, read_word};
+use crate::word::{Word, read_word};
 use yaml_scan_history::{Kind, Lexeme, is_fresh, moved_end};
 use yaml_scan_model::{
     Context, Problem, Reader, ScanError, ScanFault, yaml_encoding_t, yaml_mark_t, yaml_token_body_t,
 };
-use yaml_scan_queue::{Seen, Waiting};
 
 /// A lexeme that was read, and what its own token carries.
 #[derive(Drop)]
 pub struct Read {
     pub lexeme: Lexeme,
     pub body: yaml_token_body_t,
-    /// Where its depth's candidate waits, which it takes, cancels or replaces.
-    pub own: Option<usize>,
     /// It is a `:`, and makes a key of that candidate where it is given.
     pub key: Option<usize>,
     /// How many block levels it leaves open.
@@ -60,11 +55,11 @@ struct Stand {
 }
 
 impl<'a> Machine<'a> {
-    ghost use Rattle.yaml_scan_machine.specs.State.{IsMachine, IsNext, AreBounded};
-    ghost use Rattle.yaml_scan_machine.specs.Shows.{IsShown, fields_of, history_of, stream_of, Finds, IsHidden, Picks};
+    ghost use Rattle.yaml_scan_machine.specs.State.{IsMachine, IsNext};
+    ghost use Rattle.yaml_scan_machine.specs.Shows.{IsShown, fields_of, history_of, stream_of, Picks};
     ghost use Rattle.yaml_scan_machine.specs.Comes.{Refused};
     ghost use Rattle.yaml_scan_machine.specs.Stood.{IsStand};
-    ghost use Rattle.yaml_scan_machine.specs.Reads.{GivesNext, GivesLexeme, EndsAt, Owns, keyed_by, required_in};
+    ghost use Rattle.yaml_scan_machine.specs.Reads.{GivesNext, GivesLexeme, EndsAt, keyed_by, required_in};
 
     /// The lexeme that comes first.
     pub(crate) fn first(&self) -> Read
@@ -81,16 +76,16 @@ impl<'a> Machine<'a> {
     /// The lexeme that comes next, which stands there.
     // Inlined: its kind is known where it is called.
     #[inline(always)]
-    pub(crate) fn next<R: Reading>(
+    pub(crate) fn next(
         &self,
-        reading: &R,
+        kind: Kind,
         spot: Spot,
         required: Option<yaml_mark_t>,
         spares: &mut Vec<Vec<u8>>,
     ) -> Result<Read, ScanError>
         requires stands { IsMachine self.now }
         requires more { self.now.ended ≡ false }
-        requires stand { IsStand self.now (R.reads reading.now) spot }
+        requires stand { IsStand self.now kind spot }
         requires required { required ≡ required_in (fresh (candidate 0 (history_of self.now))
             (reached (history_of self.now))) }
         ensures safe { IfOk result (λ r. IsNext self.now r) }
@@ -101,18 +96,18 @@ impl<'a> Machine<'a> {
         let mut reader = Reader::resume(self.text.as_slice(), spot.mark);
         let stand = Stand {
             mark: spot.mark,
-            kind: reading.kind(),
+            kind,
             allowed: spot.allowed,
         };
-        self.of_kind(reading, &mut reader, stand, required, spares)
+        self.of_kind(kind, &mut reader, stand, required, spares)
     }
 
     /// The lexeme of that kind, which stands there.
     // Inlined: the kind is known where it is called.
     #[inline(always)]
-    fn of_kind<R: Reading>(
+    fn of_kind(
         &self,
-        reading: &R,
+        kind: Kind,
         reader: &mut Reader,
         stand: Stand,
         required: Option<yaml_mark_t>,
@@ -120,7 +115,7 @@ impl<'a> Machine<'a> {
     ) -> Result<Read, ScanError>
         requires stands { IsMachine self.now }
         requires more { self.now.ended ≡ false }
-        requires same { stand.kind ≡ R.reads reading.now }
+        requires same { stand.kind ≡ kind }
         requires text { reader.old.text ≡ text_bytes self.now.text }
         requires mark { stand.mark ≡ mark_at reader.old.text reader.old.at }
         requires place { IsPlace (text_bytes self.now.text) stand.mark }
@@ -135,8 +130,7 @@ impl<'a> Machine<'a> {
             → GivesNext self.now result (steps.of_kind (Some stand.kind) (text_bytes self.now.text)
             gap (history_of self.now)) }
     {
-        let own = self.own(stand);
-        let key = self.key(stand, own);
+        let key = self.key(stand);
         if self.is_misplaced(stand, key) {
             return Err(misplaced(stand.kind, stand.mark));
         }
@@ -145,11 +139,10 @@ impl<'a> Machine<'a> {
         if let Some(start) = lost(required, lexeme) {
             return Err(no_colon(start, lexeme.start));
         }
-        match self.read(reading, reader, lexeme, required, spares) {
+        match self.read(kind, reader, lexeme, required, spares) {
             Ok((lexeme, body)) => Ok(Read {
                 lexeme,
                 body,
-                own,
                 key,
                 left,
             }),
@@ -158,17 +151,18 @@ impl<'a> Machine<'a> {
     }
 
     /// The lexeme with its end, and what its token carries.
-    // Inlined: the kind is known where it is called.
+    // Inlined: the kind is known where it is called. It comes beside the lexeme that has it: read there it would be a load,
+    // which keeps the reading of each other kind in the way.
     #[inline(always)]
-    fn read<R: Reading>(
+    fn read(
         &self,
-        reading: &R,
+        kind: Kind,
         reader: &mut Reader,
         lexeme: Lexeme,
         required: Option<yaml_mark_t>,
         spares: &mut Vec<Vec<u8>>,
     ) -> Result<(Lexeme, yaml_token_body_t), ScanError>
-        requires same { lexeme.kind ≡ R.reads reading.now }
+        requires same { lexeme.kind ≡ kind }
         requires text { reader.old.text ≡ text_bytes self.now.text }
         requires index { lexeme.start.index ≡ reader.old.at }
         requires start { kinds.is_end lexeme.kind ≡ false → lexeme.start ≡ mark_at reader.old.text
@@ -185,7 +179,7 @@ impl<'a> Machine<'a> {
             (history_of self.now)) }
     {
         let flow = 0 < lexeme.depth;
-        match read_word(reading, spares, reader, lexeme.kind, flow, lexeme.level) {
+        match read_word(spares, reader, kind, flow, lexeme.level) {
             Ok(word) => finish(lexeme, word, reader.stop(), required),
             Err(error) => Err(error),
         }
@@ -258,32 +252,12 @@ impl<'a> Machine<'a> {
         self.levels.indent_of(left)
     }
 
-    /// Where the candidate waits that a lexeme takes, cancels or replaces.
-    // Inlined: the kind is known where it is called.
-    #[inline(always)]
-    fn own(&self, stand: Stand) -> Option<usize>
-        requires stands { IsMachine self.now }
-        ensures owns { Owns self.now self.now.depth ((stand.allowed && kinds.may_be_key stand.kind)
-            || kinds.cancels stand.kind) result }
-        ensures inside { IfSome result (λ i. i < length self.now.waiting.items) }
-        ensures last { IfSome result (λ i. AreBounded (self.now.dropped + i + 1) self.now.dropped
-            self.now.waiting.items) }
-    {
-        if stand.asks() {
-            return self.find();
-        }
-        None
-    }
-
     /// Where the candidate waits of which a `:` makes a key.
     // Inlined: the kind is known where it is called.
     #[inline(always)]
-    fn key(&self, stand: Stand, own: Option<usize>) -> Option<usize>
+    fn key(&self, stand: Stand) -> Option<usize>
         requires stands { IsMachine self.now }
         requires more { self.now.ended ≡ false }
-        requires own { Owns self.now self.now.depth ((stand.allowed && kinds.may_be_key stand.kind)
-            || kinds.cancels stand.kind) own }
-        requires inside { IfSome own (λ i. i < length self.now.waiting.items) }
         requires forward { Upto (reached (history_of self.now)) stand.mark }
         ensures picks { Picks self.now
             (keyed_by stand.kind (fresh (candidate self.now.depth (history_of self.now))
@@ -293,28 +267,21 @@ impl<'a> Machine<'a> {
         if !stand.kind.is_value() {
             return None;
         }
-        let Some(i) = own else {
-            return None;
-        };
-        if is_fresh(self.waiting.index(i).entry.lexeme.start, stand.mark) {
-            return Some(i);
+        match self.keys.innermost.found(stand.mark) {
+            Some(number) => Some(number - self.dropped),
+            None => None,
         }
-        None
     }
 
-    /// The start of the required candidate that is open. It stands outside all brackets, so it is the earliest open one.
+    /// The start of the required candidate that is open.
     // Inlined: mostly a comparison, asked for each lexeme.
     #[inline(always)]
     pub(crate) fn required(&self) -> Option<yaml_mark_t>
-        requires stands { IsMachine self.now }
-        requires more { self.now.ended ≡ false }
+        requires { IsMachine self.now }
         ensures { result ≡ required_in (fresh (candidate 0 (history_of self.now))
             (reached (history_of self.now))) }
     {
-        if self.settled < self.candidate_bound {
-            return self.waiting.index(self.settled - self.dropped).must_come();
-        }
-        None
+        self.keys.must_come()
     }
 
     /// The start of the required candidate that is open, where it is known whether one is.
@@ -322,7 +289,6 @@ impl<'a> Machine<'a> {
     #[inline(always)]
     pub(crate) fn required_where(&self, waits: bool) -> Option<yaml_mark_t>
         requires stands { IsMachine self.now }
-        requires more { self.now.ended ≡ false }
         requires told { is_some (required_in (fresh (candidate 0 (history_of self.now))
             (reached (history_of self.now)))) ≡ waits }
         ensures { result ≡ required_in (fresh (candidate 0 (history_of self.now))
@@ -333,87 +299,6 @@ impl<'a> Machine<'a> {
         }
         None
     }
-
-    /// Where the candidate of the open depth waits, by a look back from the last lexeme that may be one. One that is not
-    /// found is stale. The first look mostly decides: it stands before the loop, in front of which LLVM would compute
-    /// its places.
-    // Inlined: the kind is known where it is called.
-    #[inline(always)]
-    fn find(&self) -> Option<usize>
-        requires shown { IsShown (fields_of self.now) }
-        requires settled { self.now.settled ≤ self.now.dropped + length self.now.waiting.items }
-        requires last { self.now.candidate_bound ≤ self.now.dropped + length
-            self.now.waiting.items }
-        requires candidate_bound { AreBounded self.now.candidate_bound self.now.dropped
-            self.now.waiting.items }
-        ensures finds { Finds self.now self.now.depth result }
-        ensures last { IfSome result (λ i. AreBounded (self.now.dropped + i + 1) self.now.dropped
-            self.now.waiting.items) }
-    {
-        if self.candidate_bound <= self.settled {
-            return None;
-        }
-        let i = self.candidate_bound - self.dropped;
-        match self.waiting.index(i - 1).seen(self.depth) {
-            Seen::Here => Some(i - 1),
-            Seen::Nowhere => None,
-            Seen::Further => self.look_back(i - 1),
-        }
-    }
-
-    /// Where the candidate of the open depth waits, by a look back over the lexemes before the one at `from`.
-    // Out of line: it is seldom asked.
-    #[inline(never)]
-    fn look_back(&self, from: usize) -> Option<usize>
-        requires shown { IsShown (fields_of self.now) }
-        requires settled { self.now.settled ≤ self.now.dropped + length self.now.waiting.items }
-        requires inside { from ≤ length self.now.waiting.items }
-        requires passed { AreBounded (self.now.dropped + from) self.now.dropped
-            self.now.waiting.items }
-        requires hidden { IsHidden self.now from }
-        ensures finds { Finds self.now self.now.depth result }
-        ensures last { IfSome result (λ i. AreBounded (self.now.dropped + i + 1) self.now.dropped
-            self.now.waiting.items) }
-    {
-        let first = self.settled - self.dropped;
-        let depth = self.depth;
-        let mut i = from;
-        'back: while first < i {
-            let waiting = self.waiting.index(i - 1);
-            if is_deeper(waiting, depth) {
-                i -= 1;
-            } else {
-                match waiting.seen(depth) {
-                    Seen::Here => return Some(i - 1),
-                    Seen::Nowhere => return None,
-                    Seen::Further => i -= 1,
-                }
-            }
-        }
-        None
-    }
-}
-
-impl Stand {
-    /// Whether its lexeme takes, cancels or replaces a candidate.
-    fn asks(self) -> bool
-        ensures { result ≡ ((self.allowed && kinds.may_be_key self.kind) || kinds.cancels
-            self.kind) }
-    {
-        self.allowed && self.kind.may_be_key() || self.kind.cancels()
-    }
-}
-
-/// Whether a lexeme that waits stands deeper than a depth, and is no candidate: so one that looks back goes further.
-// Inlined: two comparisons. In brackets most are passed so, without a name for what they say.
-#[inline(always)]
-fn is_deeper(waiting: &Waiting, depth: usize) -> bool
-    ensures { result ≡ true → seen waiting.now depth ≡ looks.Further }
-{
-    if waiting.current {
-        return false;
-    }
-    depth < waiting.entry.lexeme.depth
 }
 
 /// The start of the stream.
@@ -424,7 +309,6 @@ fn stream_start(place: yaml_mark_t, encoding: yaml_encoding_t) -> Read
       reached = place;
     } }
     ensures body { body_of result.body ≡ tokens.stream_start encoding }
-    ensures own { result.own ≡ None }
     ensures key { result.key ≡ None }
     ensures left { result.left ≡ 0 }
 {
@@ -441,7 +325,6 @@ fn stream_start(place: yaml_mark_t, encoding: yaml_encoding_t) -> Read
             broke: false,
         },
         body: yaml_token_body_t::StreamStart { encoding },
-        own: None,
         key: None,
         left: 0,
     }

@@ -6,7 +6,6 @@ ghost use Rattle.yaml_scan_machine.specs.Left.{IsLocated};
 
 use crate::machine::{Machine, allows, entry, put_fault};
 use crate::next::{Read, Spot};
-use crate::word::Reading;
 use std::alloc::AllocError;
 use yaml_scan_history::Kind;
 use yaml_scan_model::{ScanError, yaml_fault_t, yaml_mark_t};
@@ -39,22 +38,21 @@ impl<'a> Machine<'a> {
     /// whose room would be set to zero for each lexeme.
     // Inlined: each of its calls knows the kind.
     #[inline(always)]
-    pub(crate) fn step_at<R: Reading>(
+    pub(crate) fn step_at(
         &mut self,
-        reading: &R,
+        kind: Kind,
         spot: &Spot,
         spares: &mut Vec<Vec<u8>>,
         fault: &mut yaml_fault_t,
     ) -> bool
-        requires { MayReadAt self.old (R.reads reading.now) spot.now }
+        requires { MayReadAt self.old kind spot.now }
         ensures { Steps self.old self.new (fault_of fault.new) result }
     {
-        let kind = reading.kind();
         if !kind.is_value() && self.may_refuse(kind, *spot) {
             return self.of_rare(kind, spot, spares, fault);
         }
         let required = self.required_where(spot.required);
-        self.step_by(reading, *spot, required, spares, fault)
+        self.step_by(kind, *spot, required, spares, fault)
     }
 
     /// Whether a lexeme of that kind may be refused for what stands before it.
@@ -67,20 +65,20 @@ impl<'a> Machine<'a> {
     /// Reads the lexeme of that kind, which stands there, where the start of the required candidate is known.
     // Inlined: each of its calls knows the kind.
     #[inline(always)]
-    pub(crate) fn step_by<R: Reading>(
+    pub(crate) fn step_by(
         &mut self,
-        reading: &R,
+        kind: Kind,
         spot: Spot,
         required: Option<yaml_mark_t>,
         spares: &mut Vec<Vec<u8>>,
         fault: &mut yaml_fault_t,
     ) -> bool
-        requires may { MayReadAt self.old (R.reads reading.now) spot }
+        requires may { MayReadAt self.old kind spot }
         requires required { required ≡ required_in (fresh (candidate 0 (history_of self.old))
             (reached (history_of self.old))) }
         ensures { Steps self.old self.new (fault_of fault.new) result }
     {
-        match self.next(reading, spot, required, spares) {
+        match self.next(kind, spot, required, spares) {
             Ok(read) => self.take(read, fault),
             Err(error) => {
                 put_refusal(fault, error);
@@ -124,27 +122,27 @@ impl<'a> Machine<'a> {
         let Read {
             lexeme,
             body,
-            own,
             key,
             left,
         } = read;
         let found = key.is_some();
+        let allowed = allows(lexeme, found);
         let column = self.level_column(lexeme.start.column, key);
         let ends = self.close_levels(lexeme, left);
         let opens = self.open_level(lexeme, column)?;
-        self.mark_own(own, lexeme, opens);
+        self.mark_key(key, opens);
+        let number = self.count();
+        self.keys.put(lexeme, number)?;
         self.waiting.reserve()?;
         self.waiting.push_back_reserved(Waiting {
             entry: entry(lexeme, ends, opens, found),
             body,
-            current: lexeme.saved,
         });
-        self.candidate_bound = self.bound_behind(own, lexeme);
         self.place = lexeme.reached;
         self.depth = lexeme.kind.depth_after(lexeme.depth);
-        self.allowed = allows(lexeme, found);
+        self.allowed = allowed;
         self.ended = lexeme.kind.is_end();
-        self.settled = self.settle();
+        self.settled = self.settle(number + 1);
         Ok(())
     }
 }

@@ -7,9 +7,6 @@ ghost use Rattle.yaml_scan_history.specs.declared.kind.Kind.TheVariants as kinds
 
 use crate::machine::Machine;
 use crate::next::Spot;
-use crate::readings::{
-    AliasReading, AnchorReading, DoubleQuotedReading, PlainReading, SingleQuotedReading, TagReading,
-};
 use yaml_scan_history::Kind;
 use yaml_scan_model::yaml_fault_t;
 
@@ -60,7 +57,7 @@ impl<'a> Machine<'a> {
         requires { MayReadAt self.old kinds.FlowEntry spot.now }
         ensures { Steps self.old self.new (fault_of fault.new) result }
     {
-        self.step_at(&Kind::FlowEntry, spot, spares, fault)
+        self.step_at(Kind::FlowEntry, spot, spares, fault)
     }
 
     /// Reads a `:`.
@@ -75,7 +72,7 @@ impl<'a> Machine<'a> {
         requires { MayReadAt self.old kinds.ValueMark spot.now }
         ensures { Steps self.old self.new (fault_of fault.new) result }
     {
-        self.step_at(&Kind::ValueMark, spot, spares, fault)
+        self.step_at(Kind::ValueMark, spot, spares, fault)
     }
 
     /// Reads a plain scalar.
@@ -85,7 +82,7 @@ impl<'a> Machine<'a> {
         requires { MayReadAt self.old kinds.Plain spot.now }
         ensures { Steps self.old self.new (fault_of fault.new) result }
     {
-        self.step_at(&PlainReading, spot, spares, fault)
+        self.step_at(Kind::Plain, spot, spares, fault)
     }
 
     /// Reads a double quoted scalar.
@@ -100,7 +97,7 @@ impl<'a> Machine<'a> {
         requires { MayReadAt self.old kinds.DoubleQuoted spot.now }
         ensures { Steps self.old self.new (fault_of fault.new) result }
     {
-        self.step_at(&DoubleQuotedReading, spot, spares, fault)
+        self.step_at(Kind::DoubleQuoted, spot, spares, fault)
     }
 
     /// Reads a `]`.
@@ -115,7 +112,7 @@ impl<'a> Machine<'a> {
         requires { MayReadAt self.old kinds.FlowSequenceEnd spot.now }
         ensures { Steps self.old self.new (fault_of fault.new) result }
     {
-        self.step_at(&Kind::FlowSequenceEnd, spot, spares, fault)
+        self.step_at(Kind::FlowSequenceEnd, spot, spares, fault)
     }
 
     /// Reads a `}`.
@@ -130,7 +127,7 @@ impl<'a> Machine<'a> {
         requires { MayReadAt self.old kinds.FlowMappingEnd spot.now }
         ensures { Steps self.old self.new (fault_of fault.new) result }
     {
-        self.step_at(&Kind::FlowMappingEnd, spot, spares, fault)
+        self.step_at(Kind::FlowMappingEnd, spot, spares, fault)
     }
 
     /// Reads a `[`.
@@ -145,7 +142,7 @@ impl<'a> Machine<'a> {
         requires { MayReadAt self.old kinds.FlowSequenceStart spot.now }
         ensures { Steps self.old self.new (fault_of fault.new) result }
     {
-        self.step_at(&Kind::FlowSequenceStart, spot, spares, fault)
+        self.step_at(Kind::FlowSequenceStart, spot, spares, fault)
     }
 
     /// Reads a `{`.
@@ -160,7 +157,7 @@ impl<'a> Machine<'a> {
         requires { MayReadAt self.old kinds.FlowMappingStart spot.now }
         ensures { Steps self.old self.new (fault_of fault.new) result }
     {
-        self.step_at(&Kind::FlowMappingStart, spot, spares, fault)
+        self.step_at(Kind::FlowMappingStart, spot, spares, fault)
     }
 
     /// Reads a `-`.
@@ -175,7 +172,7 @@ impl<'a> Machine<'a> {
         requires { MayReadAt self.old kinds.BlockEntry spot.now }
         ensures { Steps self.old self.new (fault_of fault.new) result }
     {
-        self.step_at(&Kind::BlockEntry, spot, spares, fault)
+        self.step_at(Kind::BlockEntry, spot, spares, fault)
     }
 
     /// Reads a single quoted scalar.
@@ -190,7 +187,7 @@ impl<'a> Machine<'a> {
         requires { MayReadAt self.old kinds.SingleQuoted spot.now }
         ensures { Steps self.old self.new (fault_of fault.new) result }
     {
-        self.step_at(&SingleQuotedReading, spot, spares, fault)
+        self.step_at(Kind::SingleQuoted, spot, spares, fault)
     }
 
     /// Reads an anchor.
@@ -200,7 +197,7 @@ impl<'a> Machine<'a> {
         requires { MayReadAt self.old kinds.Anchor spot.now }
         ensures { Steps self.old self.new (fault_of fault.new) result }
     {
-        self.step_at(&AnchorReading, spot, spares, fault)
+        self.step_at(Kind::Anchor, spot, spares, fault)
     }
 
     /// Reads an alias.
@@ -210,7 +207,7 @@ impl<'a> Machine<'a> {
         requires { MayReadAt self.old kinds.Alias spot.now }
         ensures { Steps self.old self.new (fault_of fault.new) result }
     {
-        self.step_at(&AliasReading, spot, spares, fault)
+        self.step_at(Kind::Alias, spot, spares, fault)
     }
 
     /// Reads a tag.
@@ -220,7 +217,7 @@ impl<'a> Machine<'a> {
         requires { MayReadAt self.old kinds.Tag spot.now }
         ensures { Steps self.old self.new (fault_of fault.new) result }
     {
-        self.step_at(&TagReading, spot, spares, fault)
+        self.step_at(Kind::Tag, spot, spares, fault)
     }
 
     /// Reads a lexeme of any kind, in the general way.
@@ -238,6 +235,6 @@ impl<'a> Machine<'a> {
         ensures { Steps self.old self.new (fault_of fault.new) result }
     {
         let required = self.required();
-        self.step_by(&kind, *spot, required, spares, fault)
+        self.step_by(kind, *spot, required, spares, fault)
     }
 }

@@ -4,13 +4,13 @@ ghost use Rattle.std.specs.Prelude.{◌≡◌, ◌++◌, ◌∷◌, [], ◌<◌,
 ghost use Rattle.yaml_scan_model.specs.Tokens.{body_of};
 ghost use Rattle.yaml_scan_queue.specs.Bare.{is_bare, is_kind};
 ghost use Rattle.yaml_scan_queue.specs.Hands.{Hands};
-ghost use Rattle.yaml_scan_queue.specs.Waits as waits;
+ghost use Rattle.yaml_scan_queue.specs.Waits.{keyed};
 
 use crate::waiting::Waiting;
 use std::alloc::{AllocError, Global};
 use std::marker::Model;
 use std::mem;
-use yaml_scan_history::{Entry, Lexeme, Opens};
+use yaml_scan_history::{Entry, Opens};
 use yaml_scan_model::{mark_again, moved, yaml_token_body_t, yaml_token_t};
 
 /// A row of slots, of which those from `first` to `last` hold the lexemes that wait. The others are used again: the body
@@ -65,15 +65,15 @@ impl Queue {
         &self.slots[self.first + i]
     }
 
-    /// Tells the lexeme at a place what a later one makes of it.
-    // Inlined: it is called at one place, for each token.
+    /// The lexeme at a place becomes a key, and opens that.
+    // Inlined: it is called at one place.
     #[inline(always)]
-    pub fn mark(&mut self, i: usize, lexeme: Lexeme, opens: Opens)
+    pub fn mark(&mut self, i: usize, opens: Opens)
         requires { i < length self.old.items }
         ensures { (w : Waiting) → self.new.items ≡ slice_set self.old.items i
-            (waits.marked lexeme opens (slice_index_or self.old.items i w)) }
+            (keyed opens (slice_index_or self.old.items i w)) }
     {
-        self.slots[self.first + i].mark(lexeme, opens);
+        self.slots[self.first + i].mark(opens);
     }
 
     /// Makes a slot behind the last lexeme, where none is free.
@@ -116,14 +116,9 @@ impl Queue {
         requires { self.old.free ≡ true }
         ensures items { self.new.items ≡ self.old.items ++ waiting ∷ [] }
     {
-        let Waiting {
-            entry,
-            body,
-            current,
-        } = waiting;
+        let Waiting { entry, body } = waiting;
         let slot = &mut self.slots[self.last];
         put_entry(&mut slot.entry, entry);
-        slot.current = current;
         put_body(&mut slot.body, body);
         self.last += 1;
     }

@@ -6,10 +6,9 @@ ghost use Rattle.yaml_scan_queue.specs.Bare.{is_bare};
 ghost use Rattle.yaml_scan_queue.specs.Front.{front_at, key_count, opens_number, start_at};
 ghost use Rattle.yaml_scan_model.specs.Tokens.{key};
 ghost use Rattle.yaml_scan_queue.specs.Fronted.{token_before};
-ghost use Rattle.yaml_scan_history.specs.History as history;
-ghost use Rattle.yaml_scan_queue.specs.Waits as waits;
+ghost use Rattle.yaml_scan_queue.specs.Waits.{keyed};
 
-use yaml_scan_history::{Entry, Kind, Lexeme, Opens, is_fresh};
+use yaml_scan_history::{Entry, Kind, Lexeme, Opens};
 use yaml_scan_model::{yaml_mark_t, yaml_token_body_t};
 
 /// A lexeme that was read and not yet taken.
@@ -18,8 +17,6 @@ pub struct Waiting {
     pub entry: Entry,
     /// What its own token carries.
     pub body: yaml_token_body_t,
-    /// It is its depth's candidate; whether it is stale is asked apart.
-    pub current: bool,
 }
 
 impl Waiting {
@@ -50,53 +47,17 @@ impl Waiting {
                 key: false,
             },
             body: yaml_token_body_t::No,
-            current: false,
         }
     }
 
-    /// Whether it is an open candidate where this place is reached.
-    pub fn is_open(&self, place: yaml_mark_t) -> bool
-        ensures { result ≡ (self.now.current && history.is_fresh self.now.entry.lexeme.start
-            place) }
+    /// It becomes a key, and opens that.
+    // Inlined: two stores.
+    #[inline(always)]
+    pub fn mark(&mut self, opens: Opens)
+        ensures { self.new ≡ keyed opens self.old }
     {
-        self.current && is_fresh(self.entry.lexeme.start, place)
-    }
-
-    /// Its start, where it is the candidate outside all brackets and its `:` must come.
-    pub fn must_come(&self) -> Option<yaml_mark_t>
-        ensures { result ≡ (if (self.now.current && self.now.entry.lexeme.required)
-            && self.now.entry.lexeme.depth == 0 then Some self.now.entry.lexeme.start else None) }
-    {
-        let lexeme = self.entry.lexeme;
-        if self.current && lexeme.required && lexeme.depth == 0 {
-            return Some(lexeme.start);
-        }
-        None
-    }
-
-    /// Takes what a later lexeme of its depth says of it: `opens` is what it opens where it becomes a key.
-    pub fn mark(&mut self, lexeme: Lexeme, opens: Opens)
-        ensures marked { self.new ≡ waits.marked lexeme opens self.old }
-        ensures lexeme { self.new.entry.lexeme ≡ self.old.entry.lexeme }
-    {
-        if lexeme.kind.is_value() && is_fresh(self.entry.lexeme.start, lexeme.start) {
-            self.entry.key = true;
-            self.entry.opens = opens;
-        }
-        self.current = self.current && !(lexeme.saved || lexeme.kind.cancels());
-    }
-
-    /// What it says to one that looks back for the candidate of a depth.
-    pub fn seen(&self, depth: usize) -> Seen
-        ensures { result ≡ waits.seen self.now depth }
-    {
-        if self.current && self.entry.lexeme.depth == depth {
-            return Seen::Here;
-        }
-        if self.current || !is_passed(self.entry.lexeme, depth) {
-            return Seen::Nowhere;
-        }
-        Seen::Further
+        self.entry.key = true;
+        self.entry.opens = opens;
     }
 
     /// The token in front of its own one, where `given` tokens were taken: BLOCK-END tokens, a block start, KEY.
@@ -201,19 +162,4 @@ fn key(is_key: bool, here: bool) -> Option<Before>
         return Some(Before::Key);
     }
     None
-}
-
-/// What a lexeme that waits says to one that looks back for the candidate of a depth.
-#[derive(Drop)]
-pub enum Seen {
-    Here,
-    Nowhere,
-    Further,
-}
-
-/// Whether a lexeme leaves the candidate of a depth as it was before it.
-fn is_passed(lexeme: Lexeme, depth: usize) -> bool
-    ensures { result ≡ waits.is_passed lexeme depth }
-{
-    depth < lexeme.depth || lexeme.depth == depth && !(lexeme.saved || lexeme.kind.cancels())
 }

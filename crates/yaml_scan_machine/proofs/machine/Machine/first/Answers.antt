@@ -1,10 +1,10 @@
-use Rattle.std.proofs.Common.{◌≡◌, ℕ, ◌+◌, ◌<◌, length, Option, sym, ap, subst, arith}
+use Rattle.std.proofs.Common.{◌≡◌, ℕ, ◌<◌, length, Option, sym, ap, subst, arith}
 use Rattle.std.specs.Prelude.{IfSome}
 use Rattle.yaml_scan_model.specs.declared.record.yaml_mark_t.{yaml_mark_t}
 use Rattle.yaml_scan_decode.specs.DecodedText.{text_bytes}
 use Rattle.yaml_scan_history.specs.declared.lexeme.Lexeme.{Lexeme}
 use Rattle.yaml_scan_machine.specs.Shows.{history_of}
-use Rattle.yaml_scan_machine.specs.State.{IsPlace, AreBounded}
+use Rattle.yaml_scan_machine.specs.State.{IsPlace}
 use Rattle.yaml_scan_machine.proofs.SafeLemmas.{mark_column}
 use Rattle.std.proofs.lemmas.List.{length-map}
 use Rattle.yaml_scan_queue.specs.declared.waiting.Waiting.{Waiting}
@@ -15,7 +15,7 @@ pub returns-clause-exact : goal.returns-clause-exact
 returns-clause-exact c =
     let m = c.args.self.now in
     let len = length-map m.waiting.items (λ (x : Waiting). x.entry) in
-    first_gives m c.stream_start.result c.requires.stands.shown (omega (arith, c.requires.stands.shown.count, len, c.requires.none)) c.stream_start.ensures.lexeme c.stream_start.ensures.body c.stream_start.ensures.own c.stream_start.ensures.key
+    first_gives m c.stream_start.result c.requires.stands.shown (omega (arith, c.requires.stands.shown.count, len, c.requires.none)) c.stream_start.ensures.lexeme c.stream_start.ensures.body c.stream_start.ensures.key
 
 pub returns-clause-safe : goal.returns-clause-safe
 returns-clause-safe c =
@@ -26,14 +26,11 @@ returns-clause-safe c =
     let low = mark_column (text_bytes m.text) m.place (c.requires.stands.place c.requires.more) in
     let column : c.stream_start.result.lexeme.start.column ≡ m.place.column = ap (λ (x : Lexeme). x.start.column) l in
     let depth : c.stream_start.result.lexeme.depth ≡ 0 = ap (λ (x : Lexeme). x.depth) l in
-    let AtOwn : Option ℕ → Type 0 = λ o. IfSome o (λ i. AreBounded (m.dropped + i + 1) m.dropped m.waiting.items) in
     let AtKey : Option ℕ → Type 0 = λ o. IfSome o (λ i. i < length m.waiting.items) in
     let AtPlace : yaml_mark_t → Type 0 = λ y. IsPlace (text_bytes m.text) y in
     record {
       column = omega (arith, column, low);
       depth = omega (arith, depth, c.requires.stands.depth, c.requires.none);
-      own = subst AtKey (sym c.stream_start.ensures.own) tt;
-      last = subst AtOwn (sym c.stream_start.ensures.own) tt;
       key = subst AtKey (sym c.stream_start.ensures.key) tt;
       left = leaves_none m c.stream_start.result.lexeme.kind c.stream_start.result.lexeme.depth c.stream_start.result.lexeme.start.column c.stream_start.result.left c.requires.stands.shown none c.stream_start.ensures.left depth;
       place = λ e. subst AtPlace (sym (ap (λ (x : Lexeme). x.reached) l)) (c.requires.stands.place c.requires.more);

@@ -1,16 +1,22 @@
-use Rattle.std.proofs.Common.{◌≡◌, Option, ℕ, Bool, true, ◌&&◌, None, sym, subst, ◌∙◌}
-use Rattle.yaml_scan_history.specs.Kinds.{may_be_key, is_value}
-use Rattle.yaml_scan_machine.specs.Shows.{fields_of, Finds}
-use Rattle.yaml_scan_machine.specs.Reads.{Owns}
-use Rattle.yaml_scan_machine.proofs.NextLemmas.{stale_settled, asked_value}
+use Rattle.std.proofs.Common.{◌≡◌, true, refl, sym, ◌∙◌}
+use Rattle.yaml_scan_history.specs.Kinds.{is_value}
+use Rattle.yaml_scan_machine.specs.Shows.{fields_of}
+use Rattle.yaml_scan_machine.proofs.KeysLemmas.{key_waits}
 use Rattle.yaml_scan_machine.proofs.machine.Machine.key.Goals as goal
 
-pub returns-in_default-clause-picks : goal.returns-in_default-clause-picks
-returns-in_default-clause-picks c =
+pub overflow_sub-result : goal.overflow_sub-result
+overflow_sub-result c =
+    let m = c.args.self.now in
+    (key_waits (fields_of m) m.waiting.items c.args.stand.mark c.in-Some.number c.requires.stands.shown refl c.requires.more c.requires.forward c.in-Some.ensures).0
+
+pub returns-in-Some-clause-picks : goal.returns-in-Some-clause-picks
+returns-in-Some-clause-picks c =
     let m = c.args.self.now in
     let value : is_value c.args.stand.kind ≡ true = sym c.is_value.ensures ∙ c.if-not-is_value.false in
-    let asked = asked_value c.args.stand.kind (c.args.stand.allowed && may_be_key c.args.stand.kind) value in
-    let P : Bool → Type 0 = λ b. Owns m m.depth b c.args.own in
-    let Q : Option ℕ → Type 0 = λ o. Owns m m.depth true o in
-    let finds : Finds m m.depth None = subst Q c.in_default.is (subst P asked c.requires.own) in
-    rw value (sym (stale_settled (fields_of m) m.depth c.args.stand.mark c.requires.stands.shown c.requires.more c.requires.forward finds))
+    let (low, room, here) = key_waits (fields_of m) m.waiting.items c.args.stand.mark c.in-Some.number c.requires.stands.shown refl c.requires.more c.requires.forward c.in-Some.ensures in
+    (room, λ w. rw value (here w))
+
+pub returns-in-Some-clause-inside : goal.returns-in-Some-clause-inside
+returns-in-Some-clause-inside c =
+    let m = c.args.self.now in
+    (key_waits (fields_of m) m.waiting.items c.args.stand.mark c.in-Some.number c.requires.stands.shown refl c.requires.more c.requires.forward c.in-Some.ensures).1

@@ -7,7 +7,10 @@ use Rattle.yaml_scan_history.specs.Scanned.{scanned}
 use Rattle.yaml_scan_machine.specs.Left.{left_from}
 use Rattle.yaml_scan_machine.specs.State.{IsNarrow}
 use Rattle.yaml_scan_machine.proofs.SafeLemmas.{start_place, narrow_none}
+use Rattle.yaml_scan_model.specs.Tokens.{zero_mark}
+use Rattle.yaml_scan_machine.specs.Candidates.{stack_of}
 use Rattle.yaml_scan_machine.proofs.FrontLemmas.{shown_start}
+use Rattle.yaml_scan_machine.proofs.KeysLemmas.{start_keys}
 use Rattle.yaml_scan_machine.proofs.GivenLemmas.{given_none}
 use Rattle.yaml_scan_queue.specs.declared.waiting.Waiting.{Waiting}
 use Rattle.yaml_scan_machine.proofs.machine.Machine.over.Goals as goal
@@ -21,15 +24,13 @@ returns-clause-stands c =
       short = rw c.new.ensures.items (omega arith);
       taken = omega arith;
       settled = omega arith;
-      last = omega arith;
-      candidate_bound = λ k w lt le. absurd (let bad = rw c.new.ensures.items at lt in omega (arith, bad));
       depth = omega arith;
-      levels = subst P (sym c.new-2.ensures) (narrow_none (length (text_bytes c.args.text) + 1));
+      levels = subst P (sym c.new-3.ensures) (narrow_none (length (text_bytes c.args.text) + 1));
       inside = λ k w lt. absurd (let bad = rw c.new.ensures.items at lt in omega (arith, bad));
       place = λ _. start_place (text_bytes c.args.text);
       begun = λ off. c.new.ensures.items;
       given = given_none 0 0 (map (λ (x : Waiting). x.entry) c.new.result.items);
-      shown = shown_start (text_bytes c.args.text) c.new.result.items c.new-2.result c.new.ensures.items c.new-2.ensures;
+      shown = shown_start (text_bytes c.args.text) c.new.result.items c.new-3.result (stack_of c.new-2.result) c.new.ensures.items c.new-3.ensures (start_keys (stack_of c.new-2.result) zero_mark c.new-2.ensures.outer c.new-2.ensures.none c.new-2.ensures.stale);
       spoken = λ k w lt. absurd (let bad = rw c.new.ensures.items at lt in omega (arith, bad));
     }
 

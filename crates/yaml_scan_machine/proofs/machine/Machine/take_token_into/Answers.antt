@@ -6,12 +6,11 @@ use Rattle.yaml_scan_history.specs.Remaining.{remaining, before, body_in, token_
 use Rattle.yaml_scan_laws_order.specs.Fronts.{GivesFirst}
 use Rattle.yaml_scan_machine.specs.Left.{left_in}
 use Rattle.yaml_scan_queue.specs.declared.waiting.Waiting.{Waiting}
-use Rattle.yaml_scan_machine.specs.State.{IsMachine, ready_in, AreInside, AreBounded}
+use Rattle.yaml_scan_machine.specs.State.{IsMachine, ready_in, AreInside}
 use Rattle.yaml_scan_machine.proofs.SafeLemmas.{inside_rest}
 use Rattle.yaml_scan_machine.specs.Shows.{fields_of, stream_of, AreSpoken}
 use Rattle.yaml_scan_queue.specs.Line.{Line}
 use Rattle.yaml_scan_queue.specs.Hands.{Hands, IsInFront, IsItsOwn}
-use Rattle.yaml_scan_machine.proofs.BoundLemmas.{bound_rest}
 use Rattle.yaml_scan_machine.proofs.FrontLemmas.{shown_popped}
 use Rattle.yaml_scan_machine.proofs.PushLemmas.{spoken_rest}
 use Rattle.yaml_scan_machine.proofs.GivenLemmas.{given_none, own_settled}
@@ -79,14 +78,12 @@ returns-then-give-clause-stands c =
       short = omega (arith, len, c.requires.stands.short);
       taken = omega (arith, low);
       settled = omega (arith, len, c.requires.stands.settled);
-      last = omega (arith, len, c.requires.stands.last);
-      candidate_bound = bound_rest m.candidate_bound m.dropped front rest (subst (λ (ws : List Waiting). AreBounded m.candidate_bound m.dropped ws) items c.requires.stands.candidate_bound);
       depth = omega (arith, len, c.requires.stands.depth);
       levels = c.requires.stands.levels;
       inside = inside_rest (length (text_bytes m.text)) front rest (subst Q items c.requires.stands.inside);
       place = c.requires.stands.place;
       begun = λ off. let bad : front ∷ rest ≡ [] = sym items ∙ c.requires.stands.begun off in cc;
-      shown = shown_popped (fields_of m) m.waiting.items front rest c.requires.stands.shown refl refl items low;
+      shown = shown_popped (fields_of m) m.waiting.items front rest c.requires.stands.shown refl items low;
       given = given_none (m.dropped + 1) m.settled (map (λ (x : Waiting). x.entry) rest);
       spoken = spoken_rest (stream_of m) front rest (subst (λ (ws : List Waiting). AreSpoken (stream_of m) ws) items c.requires.stands.spoken);
     }

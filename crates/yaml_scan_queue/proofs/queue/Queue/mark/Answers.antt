@@ -1,11 +1,11 @@
 use Rattle.std.proofs.Common.{ap}
 use Rattle.yaml_scan_queue.specs.Line.{Line}
 use Rattle.yaml_scan_queue.specs.declared.waiting.Waiting.{Waiting}
-use Rattle.yaml_scan_queue.specs.Waits.{marked}
+use Rattle.yaml_scan_queue.specs.Waits.{keyed}
 use Rattle.yaml_scan_queue.proofs.QueueLemmas.{part_marked}
 use Rattle.yaml_scan_queue.proofs.queue.Queue.mark.Goals as goal
 
 pub returns : goal.returns
 returns c =
     let q = c.self.inside in
-    part_marked q.slots.items q.first q.last c.args.i c.index_mut.result.now c.mark.new.self (λ (w : Waiting). marked c.args.lexeme c.args.opens w) c.args.self.now.items (ap (λ (x : Line). x.items) c.self.view_is) c.self.invariant.last c.requires c.index_mut.ensures.value c.mark.ensures.marked
+    part_marked q.slots.items q.first q.last c.args.i c.index_mut.result.now c.mark.new.self (λ (w : Waiting). keyed c.args.opens w) c.args.self.now.items (ap (λ (x : Line). x.items) c.self.view_is) c.self.invariant.last c.requires c.index_mut.ensures.value c.mark.ensures

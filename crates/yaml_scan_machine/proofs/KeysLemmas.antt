@@ -1,0 +1,413 @@
+-- What a lexeme makes of the candidates of each depth, and which of them is the earliest.
+use Rattle.std.proofs.Common.{◌≡◌, ◌∙◌, ℕ, ◌+◌, ◌-◌, ◌<◌, ◌≤◌, inl, inr, Bool, true, false, cond, ◌&&◌, List, [], ◌∷◌, ◌++◌, length, get_or, Option, Some, None, Result, Ok, Err, OnOk, refl, sym, ap, subst, arith}
+use Rattle.std.proofs.lemmas.Bool.{cases_Bool, cases_lt, cases_order}
+use Rattle.std.proofs.lemmas.Bool.Decides.{nat_tests}
+use Rattle.std.proofs.lemmas.List.{get_or_append_left, get_or_at, get_or_default, get_or_past, get_or-drop, get_or-map, length-append, length-map}
+use Rattle.yaml_scan_model.specs.declared.record.yaml_mark_t.{yaml_mark_t}
+use Rattle.yaml_scan_history.specs.declared.lexeme.Lexeme.{Lexeme}
+use Rattle.yaml_scan_history.specs.Kinds.{cancels, depth_after}
+use Rattle.yaml_scan_history.specs.History.{Candidate, candidate, depth, fresh, is_fresh, first_open, reached, entries}
+use Rattle.yaml_scan_history.specs.declared.lexeme.Entry.{Entry}
+use Rattle.std.specs.Prelude.{map}
+use Rattle.yaml_scan_queue.specs.declared.waiting.Waiting.{Waiting}
+use Rattle.yaml_scan_machine.specs.Shows.{Fields, IsShown, read, fields_of, history_of}
+use Rattle.yaml_scan_history.specs.Next.{Read, history, missed, next}
+use Rattle.yaml_scan_history.specs.Laws.{Upto, GoesForward}
+use Rattle.yaml_scan_history.proofs.HistoryLemmas.{candidate_below, first_open-le, first_open-is, first_open-least, fresh_is, fresh_before}
+use Rattle.yaml_scan_machine.specs.declared.keys.Key.{Key}
+use Rattle.yaml_scan_machine.specs.declared.machine.Machine.{Machine}
+use Rattle.yaml_scan_decode.specs.DecodedText.{text_bytes}
+use Rattle.yaml_scan_machine.specs.Reads.{required_in}
+use Rattle.yaml_scan_machine.specs.Candidates.{stack_of, KeyStack, KeyView, key_at, view_of, key_view, fresh_key, number_in, required_view, AreStale, AreKeysTo, AreKeys, Turns, IsPut}
+use Rattle.yaml_scan_machine.proofs.StepLemmas.{candidate_top, none_deeper, start_is}
+use Rattle.yaml_scan_machine.proofs.NextLemmas.{settled_first, unmissed}
+use Rattle.yaml_scan_machine.proofs.MarkLemmas.{further_on, depth_of}
+
+-- ---- the candidates behind one more lexeme
+
+lower : (d : ℕ) (l : Lexeme) (h : List Lexeme) → d < l.depth → candidate d (l ∷ h) ≡ candidate d h
+unfolding candidate
+lower d l h b = grind (arith, nat_tests)
+
+inner : (d : ℕ) (l : Lexeme) (h : List Lexeme) → l.depth < d → candidate d (l ∷ h) ≡ None
+unfolding candidate
+inner d l h b = grind (arith, nat_tests)
+
+top_saved : (l : Lexeme) (h : List Lexeme) → l.saved ≡ true → candidate l.depth (l ∷ h) ≡ Some (record { number = length h; lexeme = l })
+unfolding candidate
+top_saved l h s = grind (arith, nat_tests)
+
+top_cancelled : (l : Lexeme) (h : List Lexeme) → l.saved ≡ false → cancels l.kind ≡ true → candidate l.depth (l ∷ h) ≡ None
+unfolding candidate
+top_cancelled l h s e = grind (arith, nat_tests)
+
+top_same : (l : Lexeme) (h : List Lexeme) → l.saved ≡ false → cancels l.kind ≡ false → candidate l.depth (l ∷ h) ≡ candidate l.depth h
+unfolding candidate
+top_same l h s e = grind (arith, nat_tests)
+
+-- ---- the keys
+
+near_before : (s p q : yaml_mark_t) → p.index ≤ q.index → p.line ≤ q.line → is_fresh s q ≡ true → is_fresh s p ≡ true
+near_before s p q i l h = grind (arith, nat_tests)
+
+if_none : (b : Bool) (v : KeyView) → cond b (Some v) None ≡ None → b ≡ false
+if_none true v e = cc
+if_none false v e = refl
+
+stale_stays : (k : Key) (p r : yaml_mark_t) → fresh_key k p ≡ None → Upto p r → fresh_key k r ≡ None
+stale_stays k p r e u =
+    let v : KeyView = record { number = k.number; start = k.start; required = k.required } in
+    let was = if_none (k.possible && is_fresh k.start p) v e in
+    elim (cases_Bool k.possible) [
+      | inr none ↦ rw none refl
+      | inl some ↦ elim (cases_Bool (is_fresh k.start r)) [
+        | inr far ↦ rw (some, far) refl
+        | inl near ↦ let now = near_before k.start p r u.0 u.1 near in let bad = rw (some, now) at was in cc
+      ]
+    ]
+
+no_view : (k : Key) → k.possible ≡ false → key_view k ≡ None
+no_view k e = rw e refl
+
+all_stale : (s : KeyStack) (p q : yaml_mark_t) → AreStale s p → Upto p q → AreStale s q
+all_stale s p q a u d lt = stale_stays (key_at s d) p q (a d lt) u
+
+-- the key of a depth outside is one of those, whatever the innermost one is
+outer_key : (s : KeyStack) (d : ℕ) (k : Key) → d < length s.outer → key_at s d ≡ get_or s.outer d k
+outer_key s d k lt = get_or_default s.outer d s.innermost k lt
+
+-- keys whose depths outside are others' are stale as those are
+stale_same : (s t : KeyStack) (p : yaml_mark_t) → ((d : ℕ) → d < t.stale → key_at t d ≡ key_at s d) → t.stale ≤ s.stale → AreStale s p → AreStale t p
+stale_same s t p same le a d lt = ap (λ k. fresh_key k p) (same d lt) ∙ a d (omega (arith, lt, le))
+
+abbrev with_key : KeyStack → Key → KeyStack
+with_key s k = record { outer = s.outer; innermost = k; stale = s.stale }
+
+-- another key at a lexeme's depth
+set_key : (n : ℕ) (s : KeyStack) (l : Lexeme) (h : List Lexeme) (k : Key) (p q : yaml_mark_t) → AreKeysTo n s h p → Upto p q → l.depth ≡ n → key_view k ≡ view_of (candidate n (l ∷ h))
+    → AreKeysTo n (with_key s k) (l ∷ h) q
+set_key n s l h k p q a u at top = record {
+  long = a.long;
+  inside = a.inside;
+  agrees = λ d b. elim (cases_lt d n) [
+    | inl low ↦ ap key_view (sym (outer_key s d k (omega (arith, low, a.long)))) ∙ a.agrees d b ∙ ap view_of (sym (lower d l h (omega (arith, low, at))))
+    | inr high ↦ let same : n ≡ d = omega (arith, high, b) in
+        ap key_view (get_or_past s.outer d k (omega (arith, a.long, same))) ∙ top ∙ ap (λ z. view_of (candidate z (l ∷ h))) same
+  ];
+  stale = stale_same s (with_key s k) q (λ d lt. sym (outer_key s d k (omega (arith, lt, a.inside)))) (omega arith) (all_stale s p q a.stale u);
+}
+
+-- a lexeme that leaves its depth's candidate
+keep_key : (n : ℕ) (s : KeyStack) (l : Lexeme) (h : List Lexeme) (p q : yaml_mark_t) → AreKeysTo n s h p → Upto p q → l.depth ≡ n → l.saved ≡ false → cancels l.kind ≡ false → AreKeysTo n s (l ∷ h) q
+keep_key n s l h p q a u at saved idle = record {
+  long = a.long;
+  inside = a.inside;
+  agrees = λ d b. elim (cases_lt d n) [
+    | inl low ↦ a.agrees d b ∙ ap view_of (sym (lower d l h (omega (arith, low, at))))
+    | inr high ↦ let same : l.depth ≡ d = omega (arith, high, b, at) in
+        a.agrees d b ∙ ap view_of (sym (subst (λ z. candidate z (l ∷ h) ≡ candidate z h) same (top_same l h saved idle)))
+  ];
+  stale = all_stale s p q a.stale u;
+}
+
+-- the depth inside an opener has no candidate
+push_key : (n : ℕ) (s : KeyStack) (l : Lexeme) (h : List Lexeme) (k : Key) (q : yaml_mark_t) → AreKeysTo n s (l ∷ h) q → l.depth ≡ n → k.possible ≡ false
+    → AreKeysTo (n + 1) (record { outer = s.outer ++ s.innermost ∷ []; innermost = k; stale = s.stale }) (l ∷ h) q
+push_key n s l h k q a at none =
+    let t : KeyStack = record { outer = s.outer ++ s.innermost ∷ []; innermost = k; stale = s.stale } in
+    let long : length t.outer ≡ n + 1 = length-append s.outer (s.innermost ∷ []) ∙ ap (λ z. z + 1) a.long in
+    let old : (d : ℕ) → d < n + 1 → key_at t d ≡ key_at s d = λ d lt. elim (cases_lt d n) [
+      | inl low ↦ get_or_append_left s.outer (s.innermost ∷ []) k d (omega (arith, low, a.long)) ∙ sym (outer_key s d k (omega (arith, low, a.long)))
+      | inr high ↦ get_or_at s.outer s.innermost [] k d (omega (arith, lt, high, a.long)) ∙ sym (get_or_past s.outer d s.innermost (omega (arith, high, a.long)))
+    ] in record {
+      long = long;
+      inside = omega (arith, long, a.long, a.inside);
+      agrees = λ d b. elim (cases_lt d (n + 1)) [
+        | inl low ↦ ap key_view (old d low) ∙ a.agrees d (omega (arith, low))
+        | inr high ↦ ap key_view (get_or_past t.outer d k (omega (arith, long, high))) ∙ no_view k none ∙ ap view_of (sym (inner d l h (omega (arith, high, at))))
+      ];
+      stale = stale_same s t q (λ d lt. old d (omega (arith, lt, a.inside, a.long))) (omega arith) a.stale;
+    }
+
+-- what is inside a closer is gone
+pop_key : (n : ℕ) (s t : KeyStack) (l : Lexeme) (h : List Lexeme) (p q : yaml_mark_t) → AreKeysTo n s h p → Upto p q → l.depth ≡ n → s.outer ≡ t.outer ++ t.innermost ∷ [] → t.stale ≤ s.stale → t.stale ≤ length t.outer
+    → AreKeysTo (n - 1) t (l ∷ h) q
+pop_key n s t l h p q a u at is low inside =
+    let more : length s.outer ≡ length t.outer + 1 = ap (λ (ks : List Key). length ks) is ∙ length-append t.outer (t.innermost ∷ []) in
+    let old : (d : ℕ) → d < n → key_at t d ≡ key_at s d = λ d lt. elim (cases_lt d (length t.outer)) [
+      | inl less ↦ sym (ap (λ ks. get_or ks d s.innermost) is ∙ get_or_append_left t.outer (t.innermost ∷ []) s.innermost d less ∙ get_or_default t.outer d s.innermost t.innermost less)
+      | inr past ↦ get_or_past t.outer d t.innermost past ∙ sym (ap (λ ks. get_or ks d s.innermost) is ∙ get_or_at t.outer t.innermost [] s.innermost d (omega (arith, lt, past, more, a.long)))
+    ] in record {
+      long = omega (arith, more, a.long);
+      inside = inside;
+      agrees = λ d b. let lt : d < n = omega (arith, b, more, a.long) in
+          ap key_view (old d lt) ∙ a.agrees d (omega (arith, lt)) ∙ ap view_of (sym (lower d l h (omega (arith, lt, at))));
+      stale = stale_same s t q (λ d lt. old d (omega (arith, lt, inside, more, a.long))) low (all_stale s p q a.stale u);
+    }
+
+-- ---- the steps of code
+
+no_keys : (ks : List Key) → length ks ≡ 0 → ks ≡ []
+no_keys [] e = refl
+no_keys (k ∷ ks) e = absurd (omega (arith, e))
+
+pub saved_turns : (l : Lexeme) (number : ℕ) (s t : KeyStack) (k : Key) → l.saved ≡ true → k ≡ record { number = number; start = l.start; possible = true; required = l.required } → t ≡ record { outer = s.outer; innermost = k; stale = s.stale } → Turns l number (λ n. n) s t
+saved_turns l number s t k saved key is n h p a u at count =
+    let here : candidate n (l ∷ h) ≡ Some (record { number = number; lexeme = l }) = ap (λ d. candidate d (l ∷ h)) (sym at) ∙ top_saved l h saved ∙ ap (λ c. Some (record { number = c; lexeme = l })) (sym count) in
+    subst (λ z. AreKeysTo n z (l ∷ h) l.reached) (sym is) (set_key n s l h k p l.reached a u at (ap key_view key ∙ ap view_of (sym here)))
+
+pub kept_turns : (l : Lexeme) (number : ℕ) (s : KeyStack) → l.saved ≡ false → cancels l.kind ≡ false → Turns l number (λ n. n) s s
+kept_turns l number s saved idle n h p a u at count = keep_key n s l h p l.reached a u at saved idle
+
+pub cancelled_turns : (l : Lexeme) (number : ℕ) (s t : KeyStack) (k : Key) → l.saved ≡ false → cancels l.kind ≡ true → k.possible ≡ false → t ≡ record { outer = s.outer; innermost = k; stale = s.stale } → Turns l number (λ n. n) s t
+cancelled_turns l number s t k saved stops none is n h p a u at count =
+    let here : candidate n (l ∷ h) ≡ None = ap (λ d. candidate d (l ∷ h)) (sym at) ∙ top_cancelled l h saved stops in
+    subst (λ z. AreKeysTo n z (l ∷ h) l.reached) (sym is) (set_key n s l h k p l.reached a u at (no_view k none ∙ ap view_of (sym here)))
+
+pub opened_turns : (l : Lexeme) (number : ℕ) (s m t : KeyStack) (k : Key) → Turns l number (λ n. n) s m → k.possible ≡ false → t ≡ record { outer = m.outer ++ m.innermost ∷ []; innermost = k; stale = m.stale } → Turns l number (λ n. n + 1) s t
+opened_turns l number s m t k turns none is n h p a u at count =
+    subst (λ z. AreKeysTo (n + 1) z (l ∷ h) l.reached) (sym is) (push_key n m l h k l.reached (turns n h p a u at count) at none)
+
+pub popped_turns : (l : Lexeme) (number : ℕ) (s t : KeyStack) → s.outer ≡ t.outer ++ t.innermost ∷ [] → t.stale ≤ s.stale → t.stale ≤ length t.outer → Turns l number (λ n. n - 1) s t
+popped_turns l number s t is low inside n h p a u at count = pop_key n s t l h p l.reached a u at is low inside
+
+-- where no bracket is open a closer closes none
+pub bare_turns : (l : Lexeme) (number : ℕ) (s m t : KeyStack) → length s.outer ≡ 0 → length m.outer ≡ 0 → m ≡ record { outer = m.outer; innermost = s.innermost; stale = s.stale } → Turns l number (λ n. n) m t → Turns l number (λ n. n - 1) s t
+bare_turns l number s m t none empty is turns n h p a u at count =
+    let flat : n ≡ n - 1 = omega (arith, a.long, none) in
+    let same : m ≡ s = is ∙ ap (λ ks. record { outer = ks; innermost = s.innermost; stale = s.stale }) (no_keys m.outer empty ∙ sym (no_keys s.outer none)) in
+    subst (λ d. AreKeysTo d t (l ∷ h) l.reached) flat (turns n h p (subst (λ z. AreKeysTo n z h p) (sym same) a) u at count)
+
+-- a lexeme that cancels isn't saved
+pub no_saved : (l : Lexeme) → cancels l.kind ≡ true → (l.saved && cancels l.kind) ≡ false → l.saved ≡ false
+no_saved l stops both = elim (cases_Bool l.saved) [ inr off ↦ off | inl on ↦ let bad = rw (on, stops) at both in cc ]
+
+pub on_ok : {X E : Type 0} (r : Result X E) (A B : Type 0) → (A → B) → OnOk r A → OnOk r B
+on_ok (Ok x) A B f a = f a
+on_ok (Err e) A B f a = tt
+
+-- a lexeme of a kind leaves the depths that its effect tells
+pub turns_put : (l : Lexeme) (number : ℕ) (deeper : ℕ → ℕ) (s t : KeyStack) → ((d : ℕ) → depth_after l.kind d ≡ deeper d) → Turns l number deeper s t → IsPut l number s t
+turns_put l number deeper s t deep turns h p a u at count =
+    subst (λ d. AreKeysTo d t (l ∷ h) l.reached) (sym (deep l.depth ∙ ap deeper at)) (turns (depth h) h p a u at count)
+
+-- ---- what the keys answer
+
+-- a key of a candidate is fresh where that is
+fresh_same : (k : Key) (o : Option Candidate) (p : yaml_mark_t) → key_view k ≡ view_of o → fresh_key k p ≡ view_of (fresh o p)
+fresh_same k None p e = let off = if_none k.possible _ e in rw off refl
+fresh_same k (Some c) p e =
+    elim (cases_Bool k.possible) [
+      | inr off ↦ let bad = rw off at e in cc
+      | inl on ↦
+          let is : Some (record { number = k.number; start = k.start; required = k.required }) ≡ view_of (Some c) = rw on at e in
+          let v : KeyView = record { number = k.number; start = k.start; required = k.required } in
+          let w : KeyView = record { number = c.number; start = c.lexeme.start; required = c.lexeme.required } in
+          let same : v ≡ w = cc in
+          let start : k.start ≡ c.lexeme.start = ap (λ (x : KeyView). x.start) same in
+          let number : k.number ≡ c.number = ap (λ (x : KeyView). x.number) same in
+          let required : k.required ≡ c.lexeme.required = ap (λ (x : KeyView). x.required) same in
+          elim (cases_Bool (is_fresh c.lexeme.start p)) [
+            | inl near ↦ rw (on, start, number, required, near) refl
+            | inr far ↦ rw (on, start, number, required, far) refl
+          ]
+    ]
+
+viewed : (o : Option Candidate) (v : KeyView) → Some v ≡ view_of o → (c : Candidate) × (o ≡ Some c) × (c.number ≡ v.number)
+viewed None v e = cc
+viewed (Some c) v e = (c, refl, let is : v ≡ record { number = c.number; start = c.lexeme.start; required = c.lexeme.required } = cc in ap (λ (x : KeyView). x.number) (sym is))
+
+view_none : (o : Option Candidate) → view_of o ≡ None → o ≡ None
+view_none None e = refl
+view_none (Some c) e = cc
+
+required_same : (o : Option Candidate) → required_view (view_of o) ≡ required_in o
+required_same None = refl
+required_same (Some c) = refl
+
+-- a required candidate that isn't missed is fresh
+required_fresh : (o : Option Candidate) (p : yaml_mark_t) → missed o p ≡ None → required_in (fresh o p) ≡ required_in o
+required_fresh None p e = refl
+required_fresh (Some c) p e =
+    elim (cases_Bool (is_fresh c.lexeme.start p)) [
+      | inl near ↦ rw near refl
+      | inr far ↦ elim (cases_Bool c.lexeme.required) [
+        | inr other ↦ rw (far, other) refl
+        | inl must ↦ let bad = rw (far, must) at e in cc
+      ]
+    ]
+
+numbered : (o : Option KeyView) (n : ℕ) → Some n ≡ number_in o → (v : KeyView) × (o ≡ Some v) × (v.number ≡ n)
+numbered None n e = cc
+numbered (Some v) n e = (v, refl, let is : n ≡ v.number = cc in sym is)
+
+not_numbered : (o : Option KeyView) → None ≡ number_in o → o ≡ None
+not_numbered None e = refl
+not_numbered (Some v) e = cc
+
+-- the candidate whose number a key tells
+found_candidate : (k : Key) (o : Option Candidate) (p : yaml_mark_t) (n : ℕ) → fresh_key k p ≡ view_of (fresh o p) → Some n ≡ number_in (fresh_key k p) → (c : Candidate) × (fresh o p ≡ Some c) × (c.number ≡ n)
+found_candidate k o p n agrees is =
+    let (v, some, same) = numbered (fresh_key k p) n is in
+    let (c, here, number) = viewed (fresh o p) v (sym some ∙ agrees) in
+    (c, here, number ∙ same)
+
+no_candidate : (k : Key) (o : Option Candidate) (p : yaml_mark_t) → fresh_key k p ≡ view_of (fresh o p) → None ≡ number_in (fresh_key k p) → fresh o p ≡ None
+no_candidate k o p agrees is = view_none (fresh o p) (sym agrees ∙ not_numbered (fresh_key k p) is)
+
+-- a candidate of a depth further in is a later one
+deeper_later : (h : List Lexeme) (d e : ℕ) (c x : Candidate) → candidate d h ≡ Some c → candidate e h ≡ Some x → d < e → c.number < x.number
+unfolding candidate
+deeper_later [] d e c x is ix deep = cc
+deeper_later (l ∷ h) d e c x is ix deep =
+    elim (candidate_top e l h x ix) [
+      | inl (a, top, s) ↦ elim (candidate_top d l h c is) [
+        | inl (z, up, t) ↦ absurd (omega (arith, z, a, deep))
+        | inr before ↦ let low = candidate_below d h c before in omega (arith, low, top)
+      ]
+      | inr was ↦ elim (candidate_top d l h c is) [
+        | inl (z, up, t) ↦ let none = inner e l h (omega (arith, z, deep)) in let bad : Some x ≡ None = sym ix ∙ none in cc
+        | inr before ↦ deeper_later h d e c x before was deep
+      ]
+    ]
+
+-- the first key that isn't stale is the earliest open candidate
+first_at : (h : List Lexeme) (s : KeyStack) (d n : ℕ) → AreKeys s h (reached h) → d ≤ depth h → ((e : ℕ) → e < d → fresh_key (key_at s e) (reached h) ≡ None) → Some n ≡ number_in (fresh_key (key_at s d) (reached h)) → n ≡ first_open h h
+first_at h s d n a low none is =
+    let p = reached h in
+    let (c, here, number) = found_candidate (key_at s d) (candidate d h) p n (fresh_same (key_at s d) (candidate d h) p (a.agrees d low)) is in
+    let below = candidate_below d h c (fresh_is (candidate d h) p c here) in
+    let least = first_open-least h d n (c, here, number) (omega (arith, below, number)) in
+    let (e, (x, there, first)) = first_open-is h h (omega (arith, below, least, number)) in
+    elim (cases_order d e) [
+      | inl same ↦
+          let both : Some c ≡ Some x = sym here ∙ ap (λ z. fresh (candidate z h) p) same ∙ there in
+          let eq : c ≡ x = cc in
+          sym number ∙ ap (λ (y : Candidate). y.number) eq ∙ first
+      | inr (inl inside) ↦
+          let later = deeper_later h d e c x (fresh_is (candidate d h) p c here) (fresh_is (candidate e h) p x there) inside in
+          absurd (omega (arith, later, first, number, least))
+      | inr (inr outside) ↦
+          let gone = view_none (fresh (candidate e h) p) (sym (fresh_same (key_at s e) (candidate e h) p (a.agrees e (omega (arith, outside, low)))) ∙ none e outside) in
+          let bad : None ≡ Some x = sym gone ∙ there in cc
+    ]
+
+-- where all are stale no candidate is open
+none_at : (text : List ℕ) (n : ℕ) (s : KeyStack) → let h = history text n in AreKeys s h (reached h) → ((e : ℕ) → e ≤ depth h → fresh_key (key_at s e) (reached h) ≡ None) → first_open h h ≡ length h
+none_at text n s a none =
+    let h = history text n in
+    let p = reached h in
+    let most = first_open-le h h in
+    elim (cases_lt (first_open h h) (length h)) [
+      | inr past ↦ omega (arith, past, most)
+      | inl less ↦
+          let (e, (x, there, first)) = first_open-is h h less in
+          let gone : fresh (candidate e h) p ≡ None = elim (cases_lt (depth h) e) [
+            | inl deep ↦ ap (λ o. fresh o p) (none_deeper text n e deep)
+            | inr shallow ↦ view_none (fresh (candidate e h) p) (sym (fresh_same (key_at s e) (candidate e h) p (a.agrees e shallow)) ∙ none e shallow)
+          ] in
+          let bad : None ≡ Some x = sym gone ∙ there in cc
+    ]
+
+-- the earliest open candidate, by what the keys answer
+first_is : (h : List Lexeme) (s : KeyStack) (n : ℕ) → AreKeys s h (reached h) → Some n ≡ number_in (fresh_key (key_at s s.stale) (reached h)) → n ≡ first_open h h
+first_is h s n a is = first_at h s s.stale n a (omega (arith, a.inside, a.long)) a.stale is
+
+none_is : (text : List ℕ) (n : ℕ) (s : KeyStack) → let h = history text n in AreKeys s h (reached h) → None ≡ number_in (fresh_key (key_at s s.stale) (reached h)) → s.stale ≡ length s.outer → length h ≡ first_open h h
+none_is text n s a is all =
+    let h = history text n in
+    sym (none_at text n s a (λ e low. elim (cases_lt e s.stale) [
+      | inl less ↦ a.stale e less
+      | inr past ↦ let same : s.stale ≡ e = omega (arith, past, low, all, a.long) in ap (λ d. fresh_key (key_at s d) (reached h)) (sym same) ∙ not_numbered (fresh_key (key_at s s.stale) (reached h)) is
+    ]))
+
+-- keys of which more are passed as stale
+passed_keys : (n : ℕ) (s t : KeyStack) (h : List Lexeme) (p : yaml_mark_t) → AreKeysTo n s h p → t ≡ record { outer = s.outer; innermost = s.innermost; stale = t.stale } → t.stale ≤ length t.outer → AreStale t p → AreKeysTo n t h p
+passed_keys n s t h p a is inside stale =
+    let outer : t.outer ≡ s.outer = ap (λ (x : KeyStack). x.outer) is in
+    record {
+      long = ap (λ (ks : List Key). length ks) outer ∙ a.long;
+      inside = inside;
+      agrees = λ d b. ap (λ (x : KeyStack). key_view (key_at x d)) is ∙ a.agrees d b;
+      stale = stale;
+    }
+
+-- the earliest open candidate, by what the keys answer
+pub some_settles : (h : List Lexeme) (s t : KeyStack) (p : yaml_mark_t) (n : ℕ) → AreKeys s h p → p ≡ reached h → t ≡ record { outer = s.outer; innermost = s.innermost; stale = t.stale } → t.stale ≤ length t.outer → (AreStale s p → AreStale t p)
+    → Some n ≡ number_in (fresh_key (key_at t t.stale) p) → n ≡ first_open h h
+some_settles h s t p n a at is inside stale number =
+    let keys = passed_keys (depth h) s t h p a is inside (stale a.stale) in
+    first_is h t n (subst (λ q. AreKeys t h q) at keys) (number ∙ ap (λ q. number_in (fresh_key (key_at t t.stale) q)) at)
+
+pub none_settles : (m : Machine) (t : KeyStack) → let h = history_of m in AreKeys (stack_of m.keys) h m.place → m.place ≡ reached h → t ≡ record { outer = m.keys.outer.items; innermost = m.keys.innermost; stale = t.stale } → t.stale ≤ length t.outer
+    → (AreStale (stack_of m.keys) m.place → AreStale t m.place) → None ≡ number_in (fresh_key (key_at t t.stale) m.place) → t.stale ≡ length t.outer → length h ≡ first_open h h
+unfolding read
+none_settles m t a at is inside stale none last =
+    let h = history_of m in
+    let keys = passed_keys (depth h) (stack_of m.keys) t h m.place a is inside (stale a.stale) in
+    none_is (text_bytes m.text) (m.dropped + length (fields_of m).waiting) t (subst (λ q. AreKeys t h q) at keys) (none ∙ ap (λ q. number_in (fresh_key (key_at t t.stale) q)) at) last
+
+-- before the first lexeme
+pub start_keys : (s : KeyStack) (p : yaml_mark_t) → s.outer ≡ [] → s.innermost.possible ≡ false → s.stale ≡ 0 → AreKeysTo 0 s [] p
+unfolding candidate
+start_keys s p none no_key zero_stale =
+    let long : length s.outer ≡ 0 = ap (λ (ks : List Key). length ks) none in
+    record {
+      long = long;
+      inside = omega (arith, zero_stale);
+      agrees = λ d b. ap key_view (get_or_past s.outer d s.innermost (omega (arith, long))) ∙ no_view s.innermost no_key;
+      stale = λ d lt. absurd (omega (arith, lt, zero_stale));
+    }
+
+-- ---- what a machine's keys answer
+
+-- the required candidate that is open
+pub required_is : (m : Fields) (o : Option yaml_mark_t) → IsShown m → o ≡ required_view (key_view (key_at m.keys 0)) → let h = read m.text m.dropped m.waiting in o ≡ required_in (fresh (candidate 0 h) (reached h))
+unfolding read
+required_is m o s is =
+    let n : ℕ = m.dropped + length m.waiting in
+    let h = history m.text n in
+    is ∙ ap required_view (s.keys.agrees 0 (omega arith)) ∙ required_same (candidate 0 h) ∙ sym (required_fresh (candidate 0 h) (reached h) (unmissed m.text n))
+
+innermost_is : (m : Fields) → IsShown m → let h = read m.text m.dropped m.waiting in key_view m.keys.innermost ≡ view_of (candidate m.depth h)
+innermost_is m s =
+    let h = read m.text m.dropped m.waiting in
+    ap key_view (sym (get_or_past m.keys.outer (depth h) m.keys.innermost (omega (arith, s.keys.long)))) ∙ s.keys.agrees (depth h) (omega arith) ∙ ap (λ d. view_of (candidate d h)) (sym s.depth)
+
+-- the candidate of the open depth is none, or stale
+pub key_none : (m : Fields) (p : yaml_mark_t) → IsShown m → None ≡ number_in (fresh_key m.keys.innermost p) → let h = read m.text m.dropped m.waiting in fresh (candidate m.depth h) p ≡ None
+key_none m p s is = let h = read m.text m.dropped m.waiting in no_candidate m.keys.innermost (candidate m.depth h) p (fresh_same m.keys.innermost (candidate m.depth h) p (innermost_is m s)) is
+
+-- where the candidate of the open depth waits
+pub key_waits : (m : Fields) (ws : List Waiting) (p : yaml_mark_t) (n : ℕ) → IsShown m → m.waiting ≡ map (λ (x : Waiting). x.entry) ws → m.ended ≡ false → let h = read m.text m.dropped m.waiting in Upto (reached h) p → Some n ≡ number_in (fresh_key m.keys.innermost p)
+    → (m.dropped ≤ n) × (n - m.dropped < length ws) × ((w : Waiting) → fresh (candidate m.depth h) p ≡ Some record { number = m.dropped + (n - m.dropped); lexeme = (get_or ws (n - m.dropped) w).entry.lexeme })
+key_waits m ws p n s wait more u is =
+    let h = read m.text m.dropped m.waiting in
+    let (c, here, number) = found_candidate m.keys.innermost (candidate m.depth h) p n (fresh_same m.keys.innermost (candidate m.depth h) p (innermost_is m s)) is in
+    let isc = fresh_is (candidate m.depth h) p c here in
+    let below = candidate_below m.depth h c isc in
+    let least = first_open-least h m.depth n (c, fresh_before (candidate m.depth h) (reached h) p c here u, number) (omega (arith, below, number)) in
+    let now = settled_first m s more in
+    let low : m.dropped ≤ n = omega (arith, least, now, s.taken) in
+    let i : ℕ = n - m.dropped in
+    let at : m.dropped + i ≡ c.number = omega (arith, low, number) in
+    let len : length m.waiting ≡ length ws = ap length wait ∙ length-map ws (λ (x : Waiting). x.entry) in
+    let room : i < length ws = omega (arith, below, number, s.count, len, low) in (
+      low,
+      room,
+      λ w.
+          let x = get_or ws i w in
+          let e : get_or (entries h) (m.dropped + i) x.entry ≡ x.entry = sym (get_or-drop m.dropped (entries h) i x.entry) ∙ ap (λ xs. get_or xs i x.entry) (sym s.waiting ∙ wait) ∙ get_or-map (λ (y : Waiting). y.entry) ws i w x.entry room in
+          let same : c.lexeme ≡ x.entry.lexeme = sym (start_is m.depth h c x.entry isc) ∙ ap (λ k. (get_or (entries h) k x.entry).lexeme) (sym at) ∙ ap (λ (y : Entry). y.lexeme) e in
+          here ∙ ap (λ k. Some record { number = k; lexeme = c.lexeme }) (sym at) ∙ ap (λ y. Some record { number = m.dropped + i; lexeme = y }) same,
+    )
+
+-- the keys behind one more lexeme
+pub put_keys : (m : Fields) (l : Lexeme) (old new : KeyStack) (number : ℕ) → GoesForward m.text → IsShown m → let h = read m.text m.dropped m.waiting in next m.text h ≡ Read l → old ≡ m.keys → number ≡ m.dropped + length m.waiting
+    → IsPut l number old new → AreKeys new (l ∷ h) l.reached
+put_keys m l old new number go s e was count put =
+    let h = read m.text m.dropped m.waiting in
+    let (near, far) = further_on m.text m.dropped m.waiting l go e in
+    let up : Upto (reached h) l.reached = (omega (arith, near.0, far.0), omega (arith, near.1, far.1)) in
+    let old_keys : AreKeys old h (reached h) = subst (λ (k : KeyStack). AreKeys k h (reached h)) (sym was) (subst (λ p. AreKeys m.keys h p) s.place s.keys) in
+    put h (reached h) old_keys up (depth_of m.text h l e) (count ∙ sym s.count)

@@ -1,0 +1,11 @@
+use Rattle.std.proofs.Common.{false, refl}
+use Rattle.yaml_scan_machine.specs.declared.keys.Key.{Key}
+use Rattle.yaml_scan_machine.specs.Candidates.{stack_of}
+use Rattle.yaml_scan_machine.proofs.KeysLemmas.{cancelled_turns}
+use Rattle.yaml_scan_machine.proofs.keys.Keys.cancel.Goals as goal
+
+pub returns : goal.returns
+returns c =
+    let s = stack_of c.args.self.now in
+    let k : Key = record s.innermost { possible = false } in
+    cancelled_turns c.args.lexeme c.args.number s record { outer = s.outer; innermost = k; stale = s.stale } k c.requires.saved c.requires.cancels refl refl

@@ -1,0 +1,14 @@
+use Rattle.std.proofs.Common.{true, refl}
+use Rattle.yaml_scan_machine.specs.declared.keys.Key.{Key}
+use Rattle.yaml_scan_machine.specs.Candidates.{stack_of}
+use Rattle.yaml_scan_machine.proofs.KeysLemmas.{saved_turns, kept_turns}
+use Rattle.yaml_scan_machine.proofs.keys.Keys.save.Goals as goal
+
+pub returns-then-lexeme : goal.returns-then-lexeme
+returns-then-lexeme c =
+    let k : Key = record { number = c.args.number; start = c.args.lexeme.start; possible = true; required = c.args.lexeme.required } in
+    let s = stack_of c.args.self.now in
+    saved_turns c.args.lexeme c.args.number s record { outer = s.outer; innermost = k; stale = s.stale } k c.if-lexeme.true refl refl
+
+pub returns-else-lexeme : goal.returns-else-lexeme
+returns-else-lexeme c = kept_turns c.args.lexeme c.args.number (stack_of c.args.self.now) c.if-lexeme.false c.requires

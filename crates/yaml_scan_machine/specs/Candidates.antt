@@ -1,0 +1,89 @@
+-- A stack of keys as the candidates of a history.
+use Rattle.std.specs.Prelude.{ℕ, ◌+◌, ◌-◌, ◌≡◌, ◌≤◌, ◌<◌, Bool, true, false, ◌&&◌, if◌then◌else◌, List, ◌∷◌, length, slice_index_or, Option, Some, None}
+use Rattle.yaml_scan_model.specs.declared.record.yaml_mark_t.{yaml_mark_t}
+use Rattle.yaml_scan_history.specs.declared.kind.Kind.{Kind}
+use Rattle.yaml_scan_history.specs.declared.lexeme.Lexeme.{Lexeme}
+use Rattle.yaml_scan_history.specs.History.{Candidate, candidate, depth, is_fresh}
+use Rattle.yaml_scan_history.specs.Kinds.{cancels, depth_after}
+use Rattle.yaml_scan_history.specs.Laws.{Upto}
+use Rattle.yaml_scan_machine.specs.declared.keys.Key.{Key}
+use Rattle.yaml_scan_machine.specs.declared.keys.Keys.{Keys}
+use Rattle.yaml_scan_machine.specs.declared.keys.Effect.{Effect}
+use Rattle.yaml_scan_machine.specs.declared.keys.Effect.TheVariants as effects
+
+-- the keys of the depths outside, the outermost first, that of the open depth, and how many of the outermost are stale
+pub record KeyStack : Type 0 where
+  pub outer : List Key
+  pub innermost : Key
+  pub stale : ℕ
+
+abbrev pub stack_of : Keys → KeyStack
+stack_of k = record { outer = k.outer.items; innermost = k.innermost; stale = k.stale }
+
+-- the key of a depth
+abbrev pub key_at : KeyStack → ℕ → Key
+key_at s d = slice_index_or s.outer d s.innermost
+
+-- what is read of a candidate
+pub record KeyView : Type 0 where
+  pub number : ℕ
+  pub start : yaml_mark_t
+  pub required : Bool
+
+abbrev pub view_of : Option Candidate → Option KeyView
+view_of None = None
+view_of (Some c) = Some (record {
+  number = c.number;
+  start = c.lexeme.start;
+  required = c.lexeme.required;
+})
+
+abbrev pub key_view : Key → Option KeyView
+key_view k = if k.possible
+    then Some (record { number = k.number; start = k.start; required = k.required }) else None
+
+-- the key, where there is one that isn't stale at that place
+abbrev pub fresh_key : Key → yaml_mark_t → Option KeyView
+fresh_key k place = if k.possible && is_fresh k.start place
+    then Some (record { number = k.number; start = k.start; required = k.required }) else None
+
+abbrev pub number_in : Option KeyView → Option ℕ
+number_in None = None
+number_in (Some v) = Some v.number
+
+abbrev pub required_view : Option KeyView → Option yaml_mark_t
+required_view None = None
+required_view (Some v) = if v.required then Some v.start else None
+
+-- so many of the outermost keys are none, or stale there
+abbrev pub AreStale : KeyStack → yaml_mark_t → Type 0
+AreStale s place = (d : ℕ) → d < s.stale → fresh_key (key_at s d) place ≡ None
+
+-- The keys are the candidates of the depths up to that one, and so many of the outermost are stale at a place.
+pub record AreKeysTo (n : ℕ) (s : KeyStack) (h : List Lexeme) (place : yaml_mark_t) : Type 0 where
+  pub long : length s.outer ≡ n
+  pub inside : s.stale ≤ length s.outer
+  pub agrees : (d : ℕ) → d ≤ n → key_view (key_at s d) ≡ view_of (candidate d h)
+  pub stale : AreStale s place
+
+-- the same of all open depths
+abbrev pub AreKeys : KeyStack → List Lexeme → yaml_mark_t → Type 0
+AreKeys s h place = AreKeysTo (depth h) s h place
+
+-- A lexeme, in front of which so many stand, makes the old keys of one depth the new ones of another.
+abbrev pub Turns : Lexeme → ℕ → (ℕ → ℕ) → KeyStack → KeyStack → Type 0
+Turns l number deeper old new = (n : ℕ) (h : List Lexeme) (p : yaml_mark_t) → AreKeysTo n old h p
+    → Upto p l.reached → l.depth ≡ n → number ≡ length h
+    → AreKeysTo (deeper n) new (l ∷ h) l.reached
+
+-- It makes the old keys of all depths the new ones.
+abbrev pub IsPut : Lexeme → ℕ → KeyStack → KeyStack → Type 0
+IsPut l number old new = (h : List Lexeme) (p : yaml_mark_t) → AreKeys old h p
+    → Upto p l.reached → l.depth ≡ depth h → number ≡ length h → AreKeys new (l ∷ h) l.reached
+
+-- how many brackets are open behind a lexeme of that kind, and whether it cancels its depth's candidate
+abbrev pub HasEffect : Kind → Effect → Type 0
+HasEffect k effects.Opens = ((d : ℕ) → depth_after k d ≡ d + 1) × (cancels k ≡ false)
+HasEffect k effects.Closes = ((d : ℕ) → depth_after k d ≡ d - 1) × (cancels k ≡ true)
+HasEffect k effects.Cancels = ((d : ℕ) → depth_after k d ≡ d) × (cancels k ≡ true)
+HasEffect k effects.Leaves = ((d : ℕ) → depth_after k d ≡ d) × (cancels k ≡ false)

@@ -1,8 +1,7 @@
 -- The events of a document that are still to come.
-use Rattle.std.specs.Prelude.{◌≡◌, List, [], ◌∷◌, ◌++◌, map, Option, Some, None, Result, Ok, Err, IfOk, IsUtf8}
+use Rattle.std.specs.Prelude.{◌≡◌, Bool, true, false, List, [], ◌∷◌, ◌++◌, map, Result, Ok, Err, OnOk, IsUtf8}
 use Rattle.std.specs.declared.alloc.AllocError.{AllocError}
-use Rattle.yaml_parse_model.specs.declared.yaml_event_body_t.{yaml_event_body_t}
-use Rattle.yaml_parse_model.specs.Events.{body_of}
+use Rattle.yaml_parse_model.specs.Events.{EventBody}
 use Rattle.yaml_parse_model.specs.Constructors.{HasUtf8}
 use Rattle.yaml_parse_model.specs.Nodes as model
 use Rattle.yaml_parse_document.specs.Documents.{Document}
@@ -13,9 +12,9 @@ use Rattle.yaml_emit_graph.specs.declared.graph.Stage.TheVariants as at
 use Rattle.yaml_emit_graph.specs.Graph.{graph_opening, turn_event}
 use Rattle.yaml_emit_graph.specs.Walk.{remaining_turns, IsWalk}
 
--- a call made that event, with texts that are UTF-8
-abbrev pub Says : Event → Result yaml_event_body_t AllocError → Type 0
-Says e result = IfOk result (λ b. (emitter_event (body_of b) ≡ e) × HasUtf8 (body_of b))
+-- a call put that event, with texts that are UTF-8, into a slot
+abbrev pub Says : Event → Result Unit AllocError → EventBody → Type 0
+Says e result put = OnOk result ((emitter_event put ≡ e) × HasUtf8 put)
 
 abbrev pub IsUtf8Body : model.NodeBody → Type 0
 IsUtf8Body model.no = Unit {0}
@@ -39,10 +38,10 @@ remaining_events d e = remaining_at e.place d e
 abbrev pub IsEvents : Document → Events → Type 0
 IsEvents d e = IsWalk d.nodes e.walk
 
--- the next event, and the others are still to come
-abbrev pub GivesGraphEvent : Document → Events → Result (Option yaml_event_body_t) AllocError
-    → Events → Type 0
-GivesGraphEvent d old (Ok None) new = remaining_events d old ≡ []
-GivesGraphEvent d old (Ok (Some b)) new = (remaining_events d old ≡ emitter_event (body_of b)
-    ∷ remaining_events d new) × HasUtf8 (body_of b) × IsEvents d new
-GivesGraphEvent d old (Err e) new = Unit {0}
+-- the next event stands in a slot, and the others are still to come
+abbrev pub GivesGraphEvent : Document → Events → Result Bool AllocError → EventBody → Events
+    → Type 0
+GivesGraphEvent d old (Ok false) put new = remaining_events d old ≡ []
+GivesGraphEvent d old (Ok true) put new = (remaining_events d old ≡ emitter_event put
+    ∷ remaining_events d new) × HasUtf8 put × IsEvents d new
+GivesGraphEvent d old (Err e) put new = Unit {0}

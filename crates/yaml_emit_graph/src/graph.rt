@@ -12,6 +12,7 @@ ghost use Rattle.yaml_emit_graph.specs.Events.{remaining_events, IsEvents, Says,
 use crate::numbers::{number_of, numbers_of};
 use crate::walk::{Turn, Walk};
 use std::alloc::{AllocError, Global};
+use std::mem;
 use yaml_parse_document::{yaml_document_get_node, yaml_document_t};
 use yaml_parse_model::{copy_directives, yaml_event_body_t, yaml_node_body_t, yaml_node_t};
 use yaml_scan_model::{
@@ -89,113 +90,164 @@ fn is_text(text: &[u8], other: &[u8]) -> bool
     text == other
 }
 
+// The room of the tag of an event that was given.
+fn tag_room(alloc: Global, event: &mut yaml_event_body_t) -> Vec<u8> {
+    let tag = match event {
+        yaml_event_body_t::Scalar { tag, .. }
+        | yaml_event_body_t::SequenceStart { tag, .. }
+        | yaml_event_body_t::MappingStart { tag, .. } => tag.take(),
+        _ => None,
+    };
+    match tag {
+        Some(room) => room,
+        None => Vec::new(alloc),
+    }
+}
+
+// The room of its value.
+fn value_room(alloc: Global, event: &mut yaml_event_body_t) -> Vec<u8> {
+    match event {
+        yaml_event_body_t::Scalar { value, .. } => mem::replace(value, Vec::new(alloc)),
+        _ => Vec::new(alloc),
+    }
+}
+
+// A text in the room of another.
+fn text_in(room: Vec<u8>, text: &[u8]) -> Result<Vec<u8>, AllocError>
+    ensures { IfOk result (λ t. t.items ≡ text.now) }
+{
+    let mut room = room;
+    room.clear();
+    room.extend_from_slice(text)?;
+    Ok(room)
+}
+
 // A scalar whose tag may be left out where it is that of a text.
-fn scalar_event(
+fn put_scalar(
     alloc: Global,
     anchor: Option<Vec<u8>>,
     tag: &[u8],
     value: &[u8],
     style: yaml_scalar_style_t,
-) -> Result<yaml_event_body_t, AllocError>
+    event: &mut yaml_event_body_t,
+) -> Result<(), AllocError>
     requires { IsUtf8Option (text_of anchor) × IsUtf8 tag.now × IsUtf8 value.now }
-    ensures { Says (scalar (graph_scalar (text_of anchor) tag.now value.now style)) result }
+    ensures { Says (scalar (graph_scalar (text_of anchor) tag.now value.now style)) result
+        (body_of event.new) }
 {
     let plain = is_text(tag, b"tag:yaml.org,2002:str");
-    Ok(yaml_event_body_t::Scalar {
+    let tag = text_in(tag_room(alloc, event), tag)?;
+    let value = text_in(value_room(alloc, event), value)?;
+    *event = yaml_event_body_t::Scalar {
         anchor,
-        tag: Some(Vec::from_slice(alloc, tag)?),
-        value: Vec::from_slice(alloc, value)?,
+        tag: Some(tag),
+        value,
         plain_implicit: plain,
         quoted_implicit: plain,
         style,
-    })
+    };
+    Ok(())
 }
 
-fn sequence_event(
+fn put_sequence(
     alloc: Global,
     anchor: Option<Vec<u8>>,
     tag: &[u8],
     style: yaml_sequence_style_t,
-) -> Result<yaml_event_body_t, AllocError>
+    event: &mut yaml_event_body_t,
+) -> Result<(), AllocError>
     requires { IsUtf8Option (text_of anchor) × IsUtf8 tag.now }
     ensures { Says (sequence_start (graph_start (text_of anchor) tag.now seq_tag
-        (is_flow_sequence style))) result }
+        (is_flow_sequence style))) result (body_of event.new) }
 {
-    Ok(yaml_event_body_t::SequenceStart {
+    let implicit = is_text(tag, b"tag:yaml.org,2002:seq");
+    let tag = text_in(tag_room(alloc, event), tag)?;
+    *event = yaml_event_body_t::SequenceStart {
         anchor,
-        tag: Some(Vec::from_slice(alloc, tag)?),
-        implicit: is_text(tag, b"tag:yaml.org,2002:seq"),
+        tag: Some(tag),
+        implicit,
         style,
-    })
+    };
+    Ok(())
 }
 
-fn mapping_event(
+fn put_mapping(
     alloc: Global,
     anchor: Option<Vec<u8>>,
     tag: &[u8],
     style: yaml_mapping_style_t,
-) -> Result<yaml_event_body_t, AllocError>
+    event: &mut yaml_event_body_t,
+) -> Result<(), AllocError>
     requires { IsUtf8Option (text_of anchor) × IsUtf8 tag.now }
     ensures { Says (mapping_start (graph_start (text_of anchor) tag.now map_tag
-        (is_flow_mapping style))) result }
+        (is_flow_mapping style))) result (body_of event.new) }
 {
-    Ok(yaml_event_body_t::MappingStart {
+    let implicit = is_text(tag, b"tag:yaml.org,2002:map");
+    let tag = text_in(tag_room(alloc, event), tag)?;
+    *event = yaml_event_body_t::MappingStart {
         anchor,
-        tag: Some(Vec::from_slice(alloc, tag)?),
-        implicit: is_text(tag, b"tag:yaml.org,2002:map"),
+        tag: Some(tag),
+        implicit,
         style,
-    })
+    };
+    Ok(())
 }
 
 // The event of a node that is written for the first time.
-fn node_event(
+fn put_node(
     alloc: Global,
     anchor: Option<Vec<u8>>,
     node: &yaml_node_t,
-) -> Result<yaml_event_body_t, AllocError>
+    event: &mut yaml_event_body_t,
+) -> Result<(), AllocError>
     requires { IsUtf8Option (text_of anchor) × IsUtf8 (node_of node.now).tag
         × IsUtf8Body (node_of node.now).body }
     ensures { Says (opening_event (text_of anchor) (node_of node.now).tag (node_of node.now).body)
-        result }
+        result (body_of event.new) }
 {
     match &node.body {
-        yaml_node_body_t::No => scalar_event(
+        yaml_node_body_t::No => put_scalar(
             alloc,
             anchor,
             &node.tag,
             b"",
             yaml_scalar_style_t::YAML_ANY_SCALAR_STYLE,
+            event,
         ),
-        yaml_node_body_t::Scalar { value, style } => scalar_event(
-            alloc, anchor, &node.tag, value, *style,
+        yaml_node_body_t::Scalar { value, style } => put_scalar(
+            alloc, anchor, &node.tag, value, *style, event,
         ),
-        yaml_node_body_t::Sequence { style, .. } => sequence_event(
-            alloc, anchor, &node.tag, *style,
+        yaml_node_body_t::Sequence { style, .. } => put_sequence(
+            alloc, anchor, &node.tag, *style, event,
         ),
-        yaml_node_body_t::Mapping { style, .. } => mapping_event(alloc, anchor, &node.tag, *style),
+        yaml_node_body_t::Mapping { style, .. } => put_mapping(
+            alloc, anchor, &node.tag, *style, event,
+        ),
     }
 }
 
 // How the node under a number begins.
-fn opening_event(
+fn put_opening(
     alloc: Global,
     document: &yaml_document_t,
     anchor: Option<Vec<u8>>,
     id: i32,
-) -> Result<yaml_event_body_t, AllocError>
+    event: &mut yaml_event_body_t,
+) -> Result<(), AllocError>
     requires { IsUtf8Option (text_of anchor) }
     ensures { Says (opening_event (text_of anchor) (tag_of_id document.now.nodes id)
-        (body_of_id document.now.nodes id)) result }
+        (body_of_id document.now.nodes id)) result (body_of event.new) }
 {
     match yaml_document_get_node(document, id) {
-        None => scalar_event(
+        None => put_scalar(
             alloc,
             anchor,
             b"tag:yaml.org,2002:str",
             b"",
             yaml_scalar_style_t::YAML_ANY_SCALAR_STYLE,
+            event,
         ),
-        Some(node) => node_event(alloc, anchor, node),
+        Some(node) => put_node(alloc, anchor, node, event),
     }
 }
 
@@ -213,12 +265,13 @@ fn closing_event(document: &yaml_document_t, id: i32) -> yaml_event_body_t
     }
 }
 
-fn alias_event(alloc: Global, number: u64) -> Result<yaml_event_body_t, AllocError>
-    ensures { Says (alias (name_of number)) result }
+fn put_alias(alloc: Global, number: u64, event: &mut yaml_event_body_t) -> Result<(), AllocError>
+    ensures { Says (alias (name_of number)) result (body_of event.new) }
 {
-    Ok(yaml_event_body_t::Alias {
+    *event = yaml_event_body_t::Alias {
         anchor: name_of(alloc, number)?,
-    })
+    };
+    Ok(())
 }
 
 impl Events {
@@ -235,78 +288,106 @@ impl Events {
         })
     }
 
-    fn first(&self, document: &yaml_document_t, id: i32) -> Result<yaml_event_body_t, AllocError>
+    fn put_first(
+        &self,
+        document: &yaml_document_t,
+        id: i32,
+        event: &mut yaml_event_body_t,
+    ) -> Result<(), AllocError>
         ensures { Says (turn_event self.now.numbers.items document.now.nodes (Turn.First id))
-            result }
+            result (body_of event.new) }
     {
         let anchor = anchor_of(self.alloc, number_of(&self.numbers, id))?;
-        opening_event(self.alloc, document, anchor, id)
+        put_opening(self.alloc, document, anchor, id, event)
     }
 
     // The event of a turn of the walk.
-    fn event_of(
+    fn put_turn(
         &self,
         document: &yaml_document_t,
         turn: Turn,
-    ) -> Result<yaml_event_body_t, AllocError>
-        ensures { Says (turn_event self.now.numbers.items document.now.nodes turn) result }
+        event: &mut yaml_event_body_t,
+    ) -> Result<(), AllocError>
+        ensures { Says (turn_event self.now.numbers.items document.now.nodes turn) result
+            (body_of event.new) }
     {
         match turn {
-            Turn::First(id) => self.first(document, id),
-            Turn::Again(id) => alias_event(self.alloc, number_of(&self.numbers, id)),
-            Turn::Leave(id) => Ok(closing_event(document, id)),
-        }
-    }
-
-    fn start(&self, document: &yaml_document_t) -> Result<yaml_event_body_t, AllocError>
-        ensures { Says (document_start (graph_opening document.now)) result }
-    {
-        Ok(yaml_event_body_t::DocumentStart {
-            version_directive: document.version_directive(),
-            tag_directives: copies(self.alloc, document.tag_directives())?,
-            implicit: document.start_implicit(),
-        })
-    }
-
-    fn begin(&mut self, document: &yaml_document_t) -> Result<Option<yaml_event_body_t>, AllocError>
-        requires walk { IsEvents document.now self.old }
-        requires place { self.old.place ≡ Stage.Start }
-        ensures { GivesGraphEvent document.now self.old result self.new }
-    {
-        let event = self.start(document)?;
-        self.place = Stage::Nodes;
-        Ok(Some(event))
-    }
-
-    // The next event of the nodes, or the document's end.
-    fn step(&mut self, document: &yaml_document_t) -> Result<Option<yaml_event_body_t>, AllocError>
-        requires walk { IsEvents document.now self.old }
-        requires place { self.old.place ≡ Stage.Nodes }
-        ensures { GivesGraphEvent document.now self.old result self.new }
-    {
-        match self.walk.next(document)? {
-            Some(turn) => Ok(Some(self.event_of(document, turn)?)),
-            None => {
-                self.place = Stage::End;
-                Ok(Some(yaml_event_body_t::DocumentEnd {
-                    implicit: document.end_implicit(),
-                }))
+            Turn::First(id) => self.put_first(document, id, event),
+            Turn::Again(id) => put_alias(self.alloc, number_of(&self.numbers, id), event),
+            Turn::Leave(id) => {
+                *event = closing_event(document, id);
+                Ok(())
             }
         }
     }
 
-    /// The next event; none behind the document's end.
+    fn put_start(
+        &self,
+        document: &yaml_document_t,
+        event: &mut yaml_event_body_t,
+    ) -> Result<(), AllocError>
+        ensures { Says (document_start (graph_opening document.now)) result (body_of event.new) }
+    {
+        *event = yaml_event_body_t::DocumentStart {
+            version_directive: document.version_directive(),
+            tag_directives: copies(self.alloc, document.tag_directives())?,
+            implicit: document.start_implicit(),
+        };
+        Ok(())
+    }
+
+    fn begin(
+        &mut self,
+        document: &yaml_document_t,
+        event: &mut yaml_event_body_t,
+    ) -> Result<bool, AllocError>
+        requires walk { IsEvents document.now self.old }
+        requires place { self.old.place ≡ Stage.Start }
+        ensures { GivesGraphEvent document.now self.old result (body_of event.new) self.new }
+    {
+        self.put_start(document, event)?;
+        self.place = Stage::Nodes;
+        Ok(true)
+    }
+
+    // The next event of the nodes, or the document's end.
+    fn step(
+        &mut self,
+        document: &yaml_document_t,
+        event: &mut yaml_event_body_t,
+    ) -> Result<bool, AllocError>
+        requires walk { IsEvents document.now self.old }
+        requires place { self.old.place ≡ Stage.Nodes }
+        ensures { GivesGraphEvent document.now self.old result (body_of event.new) self.new }
+    {
+        match self.walk.next(document)? {
+            Some(turn) => {
+                self.put_turn(document, turn, event)?;
+                Ok(true)
+            }
+            None => {
+                self.place = Stage::End;
+                *event = yaml_event_body_t::DocumentEnd {
+                    implicit: document.end_implicit(),
+                };
+                Ok(true)
+            }
+        }
+    }
+
+    /// The next event, in a slot that is lent; none behind the document's end.
     pub fn next(
         &mut self,
         document: &yaml_document_t,
-    ) -> Result<Option<yaml_event_body_t>, AllocError>
+        event: &mut yaml_event_body_t,
+    ) -> Result<bool, AllocError>
         requires { IsEvents document.now self.old }
-        ensures { GivesGraphEvent document.now self.old result self.new }
+        ensures { GivesGraphEvent document.now self.old result (body_of event.new) self.new }
     {
         match self.place {
-            Stage::Start => self.begin(document),
-            Stage::Nodes => self.step(document),
-            Stage::End => Ok(None),
+            Stage::Start => self.begin(document, event),
+            Stage::Nodes => self.step(document, event),
+            Stage::End => Ok(false),
         }
     }
 }

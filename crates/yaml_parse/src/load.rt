@@ -5,11 +5,12 @@ ghost use Rattle.yaml_scan_model.specs.Faults.{fault_of};
 ghost use Rattle.yaml_parse_document.specs.Sizes.{IsSized};
 ghost use Rattle.yaml_parse_step.specs.parse_laws_given.NextLoad.{AreLoadsByContent, FrontsLoadByContent, LoadIsNext, RefusalIsNext};
 
-use crate::parser::{next_event, yaml_parser_t};
+use crate::parser::{yaml_parser_parse_into, yaml_parser_t};
 use yaml_parse_document::{no_document, yaml_document_t};
 use yaml_parse_loader::Loader;
-use yaml_parse_model::yaml_token_source_t;
-use yaml_scan_model::yaml_fault_t;
+use yaml_parse_model::{yaml_event_body_t, yaml_event_t, yaml_token_source_t};
+use yaml_parse_step::yaml_found_t;
+use yaml_scan_model::{yaml_fault_t, yaml_memory_fault, yaml_origin_t};
 
 /// The next document, its nodes numbered from 1 in preorder; behind the last one a document without root. An alias stands
 /// for the last node before it in preorder that has its anchor, a node that encloses it counting from its own start; an
@@ -34,18 +35,20 @@ pub fn yaml_parser_load<S: yaml_token_source_t>(
 {
     let alloc = parser.allocator();
     let mut loader = Loader::new(alloc);
+    let mut event = yaml_event_t::unplaced(yaml_event_body_t::No);
+    let mut fault = yaml_memory_fault(yaml_origin_t::Parser);
     'events: loop {
-        match next_event(parser) {
-            Ok(Some(event)) => match loader.feed(event) {
+        match yaml_parser_parse_into(parser, &mut event, &mut fault) {
+            yaml_found_t::Event => match loader.feed(&mut event) {
                 Ok(None) => {}
                 Ok(Some(document)) => return Ok(document),
-                Err(fault) => {
-                    parser.refuse(&fault);
-                    return Err(fault);
+                Err(refused) => {
+                    parser.refuse(&refused);
+                    return Err(refused);
                 }
             },
-            Ok(None) => return Ok(no_document(alloc)),
-            Err(fault) => return Err(fault),
+            yaml_found_t::End => return Ok(no_document(alloc)),
+            yaml_found_t::Refused => return Err(fault),
         }
     }
 }

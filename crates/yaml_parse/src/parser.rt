@@ -1,6 +1,6 @@
 //! The parser and its calls.
 
-ghost use Rattle.std.specs.Prelude.{◌≡◌, ◌≤◌, List, Option, Some, None, true, length, IfOk, IfErr, IfSome};
+ghost use Rattle.std.specs.Prelude.{◌≡◌, ◌≤◌, List, Option, Some, None, true, length, IfOk, IfErr};
 ghost use Rattle.yaml_scan_model.specs.Tokens.{Token};
 ghost use Rattle.yaml_scan_model.specs.Faults.{Fault, fault_of, memory_fault};
 ghost use Rattle.yaml_scan_model.specs.declared.yaml_origin_t.TheVariants.{Parser};
@@ -13,7 +13,7 @@ ghost use Rattle.yaml_parse_step.specs.parse_grammar.Remaining.{EventOf, FaultOf
 ghost use Rattle.yaml_parse_model.specs.Constructors.{HasUtf8};
 ghost use Rattle.yaml_parse_step.specs.parse_laws_given.Places.{FaultOfTokens, IsToldWith};
 ghost use Rattle.yaml_parse_step.specs.parse_laws_given.Given.{EventsOfTokens};
-ghost use Rattle.yaml_parse_step.specs.Finds.{NextOf, Finds, IsUtf8Found, IsStackFound};
+ghost use Rattle.yaml_parse_step.specs.Finds.{Finds, IsUtf8Found, IsStackFound};
 ghost use Rattle.yaml_parse_step.specs.Steps.{Turns, IsUtf8Turn, IsStackTurn};
 ghost use Rattle.yaml_parse_step.specs.Turned.{turned};
 ghost use Rattle.yaml_parse_step.specs.parse_laws_given.NextLoad.{AreLoadsByContent};
@@ -172,32 +172,6 @@ pub fn yaml_parser_parse_into<S: yaml_token_source_t>(
                 return yaml_found_t::Refused;
             }
             Step::Done => return yaml_found_t::End,
-        }
-    }
-}
-
-/// The next event, or nothing behind the last one and after a fault.
-pub(crate) fn next_event<S: yaml_token_source_t>(
-    parser: &mut yaml_parser_t<S>,
-) -> Result<Option<yaml_event_t>, yaml_fault_t>
-    ensures ok { IfOk result (λ e. NextOf parser.old e parser.new) }
-    ensures utf8 { IfOk result (λ e. IfSome e (λ x. HasUtf8 (event_of x).body)) }
-    ensures between { IfOk result (λ e. IfSome e (λ x. parser.new.between ≡ parts_documents_behind
-        (event_of x).body)) }
-    ensures err { IfErr result (λ f. FaultOf parser.old (fault_of f) parser.new) }
-    ensures held { parser.new.held ≤ 1 }
-{
-    let mut event = yaml_event_t::unplaced(yaml_event_body_t::No);
-    let mut fault = yaml_memory_fault(yaml_origin_t::Parser);
-    match yaml_parser_parse_into(parser, &mut event, &mut fault) {
-        yaml_found_t::Event => Ok(Some(event)),
-        yaml_found_t::Refused => {
-            drop(event);
-            Err(fault)
-        }
-        yaml_found_t::End => {
-            drop(event);
-            Ok(None)
         }
     }
 }

@@ -1,18 +1,45 @@
--- A collection's end, seen by views.
-use Rattle.std.proofs.Common.{◌≡◌, ◌<◌, ◌≤◌, ℕ, zero, suc, List, [], ◌∷◌, ◌++◌, map, length, reverse, refl, ap, sym, ◌∙◌, arith, get_or}
+-- What becomes of open collections, seen by views.
+use Rattle.std.proofs.Common.{◌≡◌, ◌<◌, ◌≤◌, ℕ, zero, suc, ℤ, List, [], ◌∷◌, ◌++◌, map, length, reverse, take, Option, Some, Result, Ok, Err, refl, ap, sym, subst, ◌∙◌, arith, get_or}
+use Rattle.std.specs.Prelude.{OnOk}
 use Rattle.std.proofs.Math.ListN.{set}
 use Rattle.std.proofs.lemmas.List.{map-append, reverse-append}
 use Rattle.yaml_parse_model.specs.declared.yaml_mark_t.{yaml_mark_t}
 use Rattle.yaml_parse_model.specs.declared.yaml_node_t.{yaml_node_t}
+use Rattle.yaml_parse_model.specs.declared.yaml_text_fault_t.{yaml_text_fault_t}
 use Rattle.yaml_parse_model.specs.Nodes.{Node, node_of}
 use Rattle.yaml_parse_document.specs.Documents.{Document, change_place}
 use Rattle.yaml_parse_loader.specs.declared.making.Level.{Level}
+use Rattle.yaml_parse_loader.specs.declared.making.Fed.{Fed}
 use Rattle.yaml_parse_loader.specs.Anchors.{Anchors}
-use Rattle.yaml_parse_loader.specs.Loading.{Open, Loading, closed, filled, place_of}
-use Rattle.yaml_parse_loader.specs.Views.{level_of, levels_of}
+use Rattle.yaml_parse_loader.specs.Loading.{Open, Loading, LoadStep, goes_on, aliased, attached, attach, closed, filled, place_of}
+use Rattle.yaml_parse_loader.specs.Sizes.{HasRoom, HaveRoom}
+use Rattle.yaml_parse_loader.specs.Views.{level_of, levels_of, taken_by, Applies}
 
 popped : (rest : List Level) (level : Level) → levels_of (rest ++ level ∷ []) ≡ level_of level ∷ levels_of rest
 popped rest level = ap reverse (map-append level_of rest (level ∷ [])) ∙ reverse-append (map level_of rest) (level_of level ∷ [])
+
+-- the last of a list changes: what stands before it, and itself
+last_set : (ls : List Level) (k : ℕ) (x : Level) → suc k ≡ length ls → set ls k x ≡ take k ls ++ x ∷ []
+last_set [] k x h = absurd (omega arith)
+last_set (l ∷ []) zero x h = refl
+last_set (l ∷ m ∷ ls) zero x h = absurd (omega arith)
+last_set (l ∷ ls) (suc k) x h = ap (λ ms. l ∷ ms) (last_set ls k x (omega arith))
+
+last_is : (ls : List Level) (k : ℕ) (x : Level) → suc k ≡ length ls → x ≡ get_or ls k x → ls ≡ take k ls ++ x ∷ []
+last_is [] k x h e = absurd (omega arith)
+last_is (l ∷ []) zero x h e = ap (λ m. m ∷ []) (sym e)
+last_is (l ∷ m ∷ ls) zero x h e = absurd (omega arith)
+last_is (l ∷ ls) (suc k) x h e = ap (λ ms. l ∷ ms) (last_is ls k x (omega arith) e)
+
+pub attaches : (n m : ℤ) (ls : List Level) (k : ℕ) (old new : Level) (r : Result Unit yaml_text_fault_t) → m ≡ n → suc k ≡ length ls → old ≡ get_or ls k old
+    → OnOk r ((level_of new ≡ attached m (level_of old)) × HasRoom (level_of old)) → OnOk r ((levels_of (set ls k new) ≡ attach n (levels_of ls)) × HaveRoom (levels_of ls))
+attaches n m ls k old new (Err f) i h e p = tt
+attaches n m ls k old new (Ok u) i h e p =
+    let before : levels_of ls ≡ level_of old ∷ levels_of (take k ls) = ap levels_of (last_is ls k old h e) ∙ popped (take k ls) old in
+    let behind : levels_of (set ls k new) ≡ level_of new ∷ levels_of (take k ls) = ap levels_of (last_set ls k new h) ∙ popped (take k ls) new in (
+      behind ∙ ap (λ o. o ∷ levels_of (take k ls)) (p.0 ∙ ap (λ (z : ℤ). attached z (level_of old)) i) ∙ sym (ap (attach n) before),
+      subst HaveRoom (sym before) p.1,
+    )
 
 set_changes : (f : Node → Node) (items : List yaml_node_t) (k : ℕ) (old new : yaml_node_t) → k < length items → old ≡ get_or items k old
     → node_of new ≡ f (node_of old) → map node_of (set items k new) ≡ change_place f k (map node_of items)
@@ -47,3 +74,18 @@ closes_outside d known items levels rest level to k split at out =
     ap (λ (ns : List Node). at_levels d ns (levels_of rest) known)
     (sym (outside (filled (level_of level) to) items k out) ∙ ap (λ (i : ℕ). change_place (filled (level_of level) to) i (map node_of items)) at)
     ∙ sym (ap (λ (ls : List Open). closed to (at_levels d (map node_of items) (levels_of levels) known) ls) top)
+
+-- ---- what an event came to
+
+pub takes : (came : LoadStep) (at : yaml_mark_t) (HadRoom : Type 0) (new : Loading) (r : Result Unit yaml_text_fault_t) (v : Fed) → v ≡ taken_by r
+    → OnOk r ((came ≡ goes_on new) × HadRoom) → Applies came at HadRoom v new
+takes came at HadRoom new (Ok u) v e p = subst (λ (w : Fed). Applies came at HadRoom w new) (sym e) p
+takes came at HadRoom new (Err f) v e p = subst (λ (w : Fed). Applies came at HadRoom w new) (sym e) tt
+
+pub takes_alias : (l : Loading) (found : Option ℤ) (n m : ℤ) (levels : List Open) (at : yaml_mark_t) (r : Result Unit yaml_text_fault_t) (v : Fed) → found ≡ Some n → m ≡ n → v ≡ taken_by r
+    → OnOk r ((levels ≡ attach m l.levels) × HaveRoom l.levels) → Applies (aliased found at l) at (HaveRoom l.levels) v (record l { levels = levels })
+takes_alias l found n m levels at (Ok u) v f i e p =
+    let took : aliased found at l ≡ goes_on (record l { levels = levels })
+    = ap (λ o. aliased o at l) f ∙ ap (λ (z : ℤ). goes_on (record l { levels = attach z l.levels })) (sym i) ∙ ap (λ os. goes_on (record l { levels = os })) (sym p.0) in
+    takes (aliased found at l) at (HaveRoom l.levels) _ (Ok u) v e (took, p.1)
+takes_alias l found n m levels at (Err g) v f i e p = takes (aliased found at l) at (HaveRoom l.levels) _ (Err g) v e tt

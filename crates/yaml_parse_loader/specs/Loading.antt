@@ -169,17 +169,6 @@ Feeds fed (Ok None) new = fed ≡ goes_on new
 Feeds fed (Ok (Some d)) new = (fed ≡ loaded d) × (new ≡ nothing_loaded)
 Feeds fed (Err f) new = (IsStarved f ⊎ (fed ≡ refused (fault_of f))) × (new ≡ nothing_loaded)
 
--- the same of the document in the making, with whether the document is whole
-abbrev pub Applies : LoadStep → Result Bool yaml_fault_t → Loading → Type 0
-Applies fed (Ok false) new = fed ≡ goes_on new
-Applies fed (Ok true) new = fed ≡ loaded new.document
-Applies fed (Err f) new = IsStarved f ⊎ (fed ≡ refused (fault_of f))
-
--- and of an event that ends no document
-abbrev pub Goes : {A : Type 0} → LoadStep → Result A yaml_fault_t → Loading → Type 0
-Goes fed (Ok _) new = fed ≡ goes_on new
-Goes fed (Err f) new = IsStarved f ⊎ (fed ≡ refused (fault_of f))
-
 -- ---- whole runs
 
 -- the document that events begin with and the events behind it; or the fault that comes first; or the document so far

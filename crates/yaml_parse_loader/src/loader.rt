@@ -2,16 +2,41 @@
 
 ghost use Rattle.std.specs.Prelude.{◌≡◌, IfOk, IfSome};
 ghost use Rattle.yaml_parse_model.specs.Events.{event_of};
+ghost use Rattle.yaml_parse_model.specs.Faults.{fault_of};
+ghost use Rattle.yaml_parse_loader.specs.Numbering.{undefined_alias};
 ghost use Rattle.yaml_parse_model.specs.Constructors.{HasUtf8};
 ghost use Rattle.yaml_parse_document.specs.Sizes.{IsSized};
 ghost use Rattle.yaml_parse_loader.specs.Loading.{nothing_loaded, step, Feeds};
 
-use crate::making::Making;
+use crate::making::{Fed, Making};
 use std::alloc::Global;
 use std::marker::Model;
-use std::mem;
 use yaml_parse_document::yaml_document_t;
-use yaml_parse_model::{yaml_event_t, yaml_fault_t};
+use yaml_parse_model::{
+    yaml_error_type_t, yaml_event_t, yaml_fault_t, yaml_mark_t, yaml_memory_fault, yaml_origin_t,
+};
+
+// An alias that no node before it anchors.
+// Out of line: in line its room would be set to zero for each event.
+#[inline(never)]
+fn undefined_alias_fault(at: yaml_mark_t) -> yaml_fault_t
+    ensures { fault_of result ≡ undefined_alias at }
+{
+    yaml_fault_t {
+        kind: yaml_error_type_t::YAML_COMPOSER_ERROR,
+        problem: "found undefined alias",
+        offset: 0,
+        value: 0,
+        problem_mark: at,
+        context: None,
+        context_mark: yaml_mark_t {
+            index: 0,
+            line: 0,
+            column: 0,
+        },
+        origin: yaml_origin_t::Loader,
+    }
+}
 
 /// A document in the making. Events are moved in, and their texts become the document's. Nothing recurses: open
 /// collections stand on a stack of the loader's own, and each gets what it holds once, at its end.
@@ -50,22 +75,26 @@ impl Loader {
     /// preorder. An alias stands for the last node before it that has its anchor, and is refused where there is none
     /// (`found undefined alias`). Where a list would get more than 2,147,483,647 entries, want of memory is answered.
     /// After a document and after a refusal it starts anew.
-    pub fn feed(&mut self, event: yaml_event_t) -> Result<Option<yaml_document_t>, yaml_fault_t>
-        requires { HasUtf8 (event_of event).body }
-        ensures feeds { Feeds (step (event_of event) self.old) result self.new }
+    pub fn feed(
+        &mut self,
+        event: &mut yaml_event_t,
+    ) -> Result<Option<yaml_document_t>, yaml_fault_t>
+        requires { HasUtf8 (event_of event.old).body }
+        ensures feeds { Feeds (step (event_of event.old) self.old) result self.new }
         // No list of a document has more than 2,147,483,647 entries.
         ensures sized { IfOk result (λ o. IfSome o (λ d. IsSized d)) }
     {
-        let alloc = self.making.parts.alloc;
+        let at = event.start_mark;
         match self.making.apply(event) {
-            Ok(false) => Ok(None),
-            Ok(true) => {
-                let whole = mem::replace(&mut self.making, Making::new(alloc));
-                Ok(Some(whole.parts.into_document()))
+            Fed::Taken => Ok(None),
+            Fed::Whole => Ok(Some(self.making.give())),
+            Fed::Undefined => {
+                self.making.begin_anew();
+                Err(undefined_alias_fault(at))
             }
-            Err(fault) => {
-                self.making = Making::new(alloc);
-                Err(fault)
+            Fed::Starved => {
+                self.making.begin_anew();
+                Err(yaml_memory_fault(yaml_origin_t::Loader))
             }
         }
     }

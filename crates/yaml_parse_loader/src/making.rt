@@ -1,24 +1,26 @@
 //! A document in the making, and what an event makes of it.
 
-ghost use Rattle.std.specs.Prelude.{◌≡◌, ◌<◌, ◌⊎◌, ◌++◌, ◌∷◌, [], pos, suc, length, map, reverse, Option, Ok, Err, MatchResult, OnOk};
-ghost use Rattle.yaml_parse_model.specs.Faults.{fault_of};
+ghost use Rattle.std.specs.Prelude.{◌≡◌, ◌<◌, ◌++◌, ◌∷◌, [], pos, suc, length, map, reverse, Option, MatchResult, IfOk, OnOk};
+ghost use Rattle.yaml_parse_model.specs.declared.yaml_mark_t.{yaml_mark_t};
 ghost use Rattle.yaml_parse_model.specs.Events.{event_of, text_of, directive_of};
 ghost use Rattle.yaml_parse_model.specs.Nodes.{node_of};
-ghost use Rattle.yaml_parse_document.specs.Documents.{str_tag};
-ghost use Rattle.yaml_parse_loader.specs.Numbering.{is_bang, loaded_tag, scalar_node, sequence_node, mapping_node, undefined_alias};
-ghost use Rattle.yaml_parse_loader.specs.Loading.{attach, attached, nothing_loaded, next, named, enter_leaf, enter_open, goes_on, refused, aliased, closed, place_of, filled, filled_body, started, step, Applies, Goes, IsStarved};
+ghost use Rattle.yaml_parse_document.specs.Documents.{IsDocument};
+ghost use Rattle.yaml_parse_document.specs.Sizes.{IsSized};
+ghost use Rattle.yaml_parse_loader.specs.Numbering.{is_bang, loaded_tag, scalar_node, sequence_node, mapping_node};
+ghost use Rattle.yaml_parse_loader.specs.Loading.{attach, attached, nothing_loaded, next, named, enter_leaf, enter_open, aliased, closed, place_of, filled, filled_body, started, step};
 ghost use Rattle.yaml_parse_loader.specs.Sizes.{HasRoom, HaveRoom, HasRoomForNode, HasRoomFor};
-ghost use Rattle.yaml_parse_loader.specs.Views.{level_of, levels_of, loading_of, properties_of};
+ghost use Rattle.yaml_parse_loader.specs.Views.{level_of, levels_of, loading_of, properties_of, taken_by, Applies};
 ghost use Rattle.yaml_parse_loader.specs.Loading.{open_sequence, open_mapping};
 ghost use Rattle.std.specs.FinMap as finite;
 
 use crate::anchors::AnchorTable;
 use std::alloc::Global;
-use yaml_parse_document::{DocumentParts, MAX_ENTRIES, push_entry};
+use std::mem;
+use yaml_parse_document::{DocumentParts, MAX_ENTRIES, push_entry, yaml_document_t};
 use yaml_parse_model::{
-    yaml_error_type_t, yaml_event_body_t, yaml_event_t, yaml_fault_t, yaml_mapping_style_t,
-    yaml_mark_t, yaml_memory_fault, yaml_node_body_t, yaml_node_pair_t, yaml_node_t, yaml_origin_t,
-    yaml_scalar_style_t, yaml_sequence_style_t, yaml_tag_directive_t, yaml_version_directive_t,
+    copy_text, yaml_event_body_t, yaml_event_t, yaml_mapping_style_t, yaml_mark_t,
+    yaml_node_body_t, yaml_node_pair_t, yaml_node_t, yaml_scalar_style_t, yaml_sequence_style_t,
+    yaml_tag_directive_t, yaml_text_fault_t, yaml_version_directive_t,
 };
 
 /// An open collection: the place of its node, and what it holds so far. A mapping may have a key without its value.
@@ -44,48 +46,17 @@ pub struct Making {
     pub anchors: AnchorTable,
 }
 
-// A growth was refused.
-fn out_of_memory() -> yaml_fault_t
-    ensures { IsStarved result }
-{
-    yaml_memory_fault(yaml_origin_t::Loader)
-}
-
-// An alias that no node before it anchors.
-fn undefined_alias_fault(at: yaml_mark_t) -> yaml_fault_t
-    ensures { fault_of result ≡ undefined_alias at }
-{
-    yaml_fault_t {
-        kind: yaml_error_type_t::YAML_COMPOSER_ERROR,
-        problem: "found undefined alias",
-        offset: 0,
-        value: 0,
-        problem_mark: at,
-        context: None,
-        context_mark: yaml_mark_t {
-            index: 0,
-            line: 0,
-            column: 0,
-        },
-        origin: yaml_origin_t::Loader,
-    }
-}
-
 // No tag and the tag `!` become the default tag.
 fn tag_or_default(
     alloc: Global,
     tag: Option<Vec<u8>>,
     default: &[u8],
-) -> Result<Vec<u8>, yaml_fault_t>
-    ensures { MatchResult result (λ t. t.items ≡ loaded_tag (text_of tag) default.now)
-        (λ f. IsStarved f) }
+) -> Result<Vec<u8>, yaml_text_fault_t>
+    ensures { IfOk result (λ t. t.items ≡ loaded_tag (text_of tag) default.now) }
 {
     match tag {
         Some(tag) if !is_lone_bang(&tag) => Ok(tag),
-        _ => match Vec::from_slice(alloc, default) {
-            Ok(copy) => Ok(copy),
-            Err(_) => Err(out_of_memory()),
-        },
+        _ => copy_text(alloc, default),
     }
 }
 
@@ -101,47 +72,31 @@ fn register(
     anchors: &mut AnchorTable,
     anchor: Option<Vec<u8>>,
     number: i32,
-) -> Result<(), yaml_fault_t>
-    ensures { MatchResult result (λ _. anchors.new ≡ named (text_of anchor) number anchors.old)
-        (λ f. IsStarved f) }
+) -> Result<(), yaml_text_fault_t>
+    ensures { OnOk result (anchors.new ≡ named (text_of anchor) number anchors.old) }
 {
     let Some(name) = anchor else {
         return Ok(());
     };
     match anchors.insert(name, number) {
         Ok(()) => Ok(()),
-        Err(_) => Err(out_of_memory()),
-    }
-}
-
-// A list of a document with one entry more.
-fn extend<T: Drop>(entries: &mut Vec<T>, entry: T) -> Result<(), yaml_fault_t>
-    ensures { MatchResult result
-        (λ _. (entries.new.items ≡ entries.old.items ++ entry ∷ [])
-        × (length entries.old.items < 2147483647))
-        (λ f. IsStarved f) }
-{
-    match push_entry(entries, entry) {
-        Ok(()) => Ok(()),
-        Err(_) => Err(out_of_memory()),
+        Err(_) => Err(yaml_text_fault_t::Memory),
     }
 }
 
 // A node's number becomes the next item, key or value of a collection.
-fn attach_to(level: &mut Level, number: i32) -> Result<(), yaml_fault_t>
-    ensures { MatchResult result
-        (λ _. (level_of level.new ≡ attached number (level_of level.old))
-        × HasRoom (level_of level.old))
-        (λ f. IsStarved f) }
+fn attach_to(level: &mut Level, number: i32) -> Result<(), yaml_text_fault_t>
+    ensures { OnOk result ((level_of level.new ≡ attached number (level_of level.old))
+        × HasRoom (level_of level.old)) }
 {
     match level {
-        Level::Sequence { items, .. } => extend(items, number),
+        Level::Sequence { items, .. } => push_entry(items, number),
         Level::Mapping { pairs, key, .. } => match key.take() {
             None => {
                 *key = Some(number);
                 Ok(())
             }
-            Some(first) => extend(
+            Some(first) => push_entry(
                 pairs,
                 yaml_node_pair_t {
                     key: first,
@@ -153,19 +108,13 @@ fn attach_to(level: &mut Level, number: i32) -> Result<(), yaml_fault_t>
 }
 
 // A node's number becomes the next item, key or value of the innermost open collection.
-fn attach(levels: &mut Vec<Level>, number: i32) -> Result<(), yaml_fault_t>
-    ensures { MatchResult result
-        (λ _. (levels_of levels.new.items ≡ attach number (levels_of levels.old.items))
-        × HaveRoom (levels_of levels.old.items))
-        (λ f. IsStarved f) }
+fn attach(levels: &mut Vec<Level>, number: i32) -> Result<(), yaml_text_fault_t>
+    ensures { OnOk result ((levels_of levels.new.items ≡ attach number (levels_of levels.old.items))
+        × HaveRoom (levels_of levels.old.items)) }
 {
-    let Some(mut level) = levels.pop() else {
-        return Ok(());
-    };
-    attach_to(&mut level, number)?;
-    match levels.push(level) {
-        Ok(()) => Ok(()),
-        Err(_) => Err(out_of_memory()),
+    match levels.last_mut() {
+        None => Ok(()),
+        Some(level) => attach_to(level, number),
     }
 }
 
@@ -204,6 +153,30 @@ impl Level {
     }
 }
 
+/// What an event came to.
+#[derive(Clone, Copy)]
+pub enum Fed {
+    /// It was taken.
+    Taken,
+    /// It was taken, and the document is whole.
+    Whole,
+    /// It is an alias that no node before it anchors.
+    Undefined,
+    /// A growth was refused.
+    Starved,
+}
+
+// What a step came to that only want of memory refuses.
+#[inline(always)]
+fn taken(step: Result<(), yaml_text_fault_t>) -> Fed
+    ensures { result ≡ taken_by step }
+{
+    match step {
+        Ok(()) => Fed::Taken,
+        Err(_) => Fed::Starved,
+    }
+}
+
 /// A node's properties, and where its first event stands.
 #[derive(Drop)]
 pub struct Properties {
@@ -239,6 +212,29 @@ impl Making {
         }
     }
 
+    /// What was loaded is let go.
+    // Out of line: it runs once a document.
+    #[inline(never)]
+    pub fn begin_anew(&mut self)
+        ensures { loading_of self.new ≡ nothing_loaded }
+    {
+        *self = Making::new(self.parts.alloc);
+    }
+
+    /// The document. It starts anew.
+    // Out of line: in line its room would be set to zero for each event.
+    #[inline(never)]
+    pub fn give(&mut self) -> yaml_document_t
+        requires sound { IsDocument (loading_of self.old).document }
+        requires sized { IsSized (loading_of self.old).document }
+        ensures document { result ≡ (loading_of self.old).document }
+        ensures anew { loading_of self.new ≡ nothing_loaded }
+    {
+        let alloc = self.parts.alloc;
+        let whole = mem::replace(self, Making::new(alloc));
+        whole.parts.into_document()
+    }
+
     // A document begins; what was loaded before is let go.
     fn start(
         &mut self,
@@ -250,7 +246,7 @@ impl Making {
         ensures { loading_of self.new ≡ started version_directive
             (map directive_of tag_directives.items) start_implicit start_mark }
     {
-        *self = Making::new(self.parts.alloc);
+        self.begin_anew();
         self.parts.version_directive = version_directive;
         self.parts.tag_directives = tag_directives;
         self.parts.start_implicit = start_implicit;
@@ -258,31 +254,29 @@ impl Making {
     }
 
     // An alias stands for the last node that has its anchor.
-    fn alias(&mut self, name: &[u8], at: yaml_mark_t) -> Result<(), yaml_fault_t>
-        ensures goes { Goes (aliased (finite.get (loading_of self.old).anchors name.now) at
-            (loading_of self.old)) result (loading_of self.new) }
-        ensures room { OnOk result (HaveRoom (loading_of self.old).levels) }
+    fn alias(&mut self, name: &[u8]) -> Fed
+        ensures { (at : yaml_mark_t) → Applies (aliased (finite.get (loading_of self.old).anchors
+            name.now) at (loading_of self.old)) at (HaveRoom (loading_of self.old).levels) result
+            (loading_of self.new) }
     {
         match self.anchors.get(name) {
-            None => Err(undefined_alias_fault(at)),
-            Some(number) => attach(&mut self.levels, number),
+            None => Fed::Undefined,
+            Some(number) => taken(attach(&mut self.levels, number)),
         }
     }
 
     // One node more: its anchor is noted, and the collection round it gets its number.
-    fn add(&mut self, anchor: Option<Vec<u8>>, node: yaml_node_t) -> Result<(), yaml_fault_t>
-        ensures { MatchResult result
-            (λ _. (loading_of self.new ≡ enter_leaf (loading_of self.old) (text_of anchor)
-            (node_of node)) × HasRoomForNode (loading_of self.old))
-            (λ f. IsStarved f) }
+    fn add(&mut self, anchor: Option<Vec<u8>>, node: yaml_node_t) -> Result<(), yaml_text_fault_t>
+        ensures { OnOk result ((loading_of self.new ≡ enter_leaf (loading_of self.old)
+            (text_of anchor) (node_of node)) × HasRoomForNode (loading_of self.old)) }
     {
         let count = self.parts.nodes.len();
         if count >= MAX_ENTRIES {
-            return Err(out_of_memory());
+            return Err(yaml_text_fault_t::Memory);
         }
         let number = (count + 1) as i32;
+        push_entry(&mut self.parts.nodes, node)?;
         register(&mut self.anchors, anchor, number)?;
-        extend(&mut self.parts.nodes, node)?;
         attach(&mut self.levels, number)
     }
 
@@ -292,16 +286,15 @@ impl Making {
         anchor: Option<Vec<u8>>,
         node: yaml_node_t,
         level: Level,
-    ) -> Result<(), yaml_fault_t>
-        ensures { MatchResult result
-            (λ _. (loading_of self.new ≡ enter_open (loading_of self.old) (text_of anchor)
-            (node_of node) (level_of level)) × HasRoomForNode (loading_of self.old))
-            (λ f. IsStarved f) }
+    ) -> Result<(), yaml_text_fault_t>
+        ensures { OnOk result ((loading_of self.new ≡ enter_open (loading_of self.old)
+            (text_of anchor) (node_of node) (level_of level))
+            × HasRoomForNode (loading_of self.old)) }
     {
         self.add(anchor, node)?;
         match self.levels.push(level) {
             Ok(()) => Ok(()),
-            Err(_) => Err(out_of_memory()),
+            Err(_) => Err(yaml_text_fault_t::Memory),
         }
     }
 
@@ -325,12 +318,10 @@ impl Making {
         head: Properties,
         value: Vec<u8>,
         style: yaml_scalar_style_t,
-    ) -> Result<(), yaml_fault_t>
-        ensures { MatchResult result
-            (λ _. (loading_of self.new ≡ enter_leaf (loading_of self.old) (text_of head.anchor)
-            (scalar_node (properties_of head) value.items style))
-            × HasRoomForNode (loading_of self.old))
-            (λ f. IsStarved f) }
+    ) -> Result<(), yaml_text_fault_t>
+        ensures { OnOk result ((loading_of self.new ≡ enter_leaf (loading_of self.old)
+            (text_of head.anchor) (scalar_node (properties_of head) value.items style))
+            × HasRoomForNode (loading_of self.old)) }
     {
         let Properties {
             anchor,
@@ -353,13 +344,11 @@ impl Making {
         &mut self,
         head: Properties,
         style: yaml_sequence_style_t,
-    ) -> Result<(), yaml_fault_t>
-        ensures { MatchResult result
-            (λ _. (loading_of self.new ≡ enter_open (loading_of self.old) (text_of head.anchor)
-            (sequence_node (properties_of head) [] style head.end_mark)
+    ) -> Result<(), yaml_text_fault_t>
+        ensures { OnOk result ((loading_of self.new ≡ enter_open (loading_of self.old)
+            (text_of head.anchor) (sequence_node (properties_of head) [] style head.end_mark)
             (open_sequence (length (loading_of self.old).document.nodes) []))
-            × HasRoomForNode (loading_of self.old))
-            (λ f. IsStarved f) }
+            × HasRoomForNode (loading_of self.old)) }
     {
         let Properties {
             anchor,
@@ -386,13 +375,15 @@ impl Making {
     }
 
     // A mapping begins.
-    fn mapping(&mut self, head: Properties, style: yaml_mapping_style_t) -> Result<(), yaml_fault_t>
-        ensures { MatchResult result
-            (λ _. (loading_of self.new ≡ enter_open (loading_of self.old) (text_of head.anchor)
-            (mapping_node (properties_of head) [] style head.end_mark)
+    fn mapping(
+        &mut self,
+        head: Properties,
+        style: yaml_mapping_style_t,
+    ) -> Result<(), yaml_text_fault_t>
+        ensures { OnOk result ((loading_of self.new ≡ enter_open (loading_of self.old)
+            (text_of head.anchor) (mapping_node (properties_of head) [] style head.end_mark)
             (open_mapping (length (loading_of self.old).document.nodes) [] None))
-            × HasRoomForNode (loading_of self.old))
-            (λ f. IsStarved f) }
+            × HasRoomForNode (loading_of self.old)) }
     {
         let Properties {
             anchor,
@@ -419,13 +410,14 @@ impl Making {
         self.open(anchor, node, level)
     }
 
-    /// What the event makes of the document; true where the document is whole. It is long because it has an arm for each kind
-    /// of event.
-    pub fn apply(&mut self, event: yaml_event_t) -> Result<bool, yaml_fault_t>
-        ensures applies { Applies (step (event_of event) (loading_of self.old)) result
+    /// What the event makes of the document. Its texts are taken out. It is long because it has an arm for each kind of event.
+    pub fn apply(&mut self, event: &mut yaml_event_t) -> Fed
+        ensures { Applies (step (event_of event.old) (loading_of self.old))
+            (event_of event.old).start_mark
+            (HasRoomFor (event_of event.old).body (loading_of self.old)) result
             (loading_of self.new) }
-        ensures room { OnOk result (HasRoomFor (event_of event).body (loading_of self.old)) }
     {
+        let alloc = self.parts.alloc;
         let yaml_event_t {
             body,
             start_mark,
@@ -436,63 +428,68 @@ impl Making {
                 version_directive,
                 tag_directives,
                 implicit,
-            } => self.start(version_directive, tag_directives, implicit, start_mark),
-            yaml_event_body_t::DocumentEnd { implicit } => {
-                self.parts.end_implicit = implicit;
-                self.parts.end_mark = end_mark;
-                return Ok(true);
+            } => {
+                let directives = mem::replace(tag_directives, Vec::new(alloc));
+                self.start(*version_directive, directives, *implicit, *start_mark);
+                Fed::Taken
             }
-            yaml_event_body_t::Alias { anchor } => self.alias(&anchor, start_mark)?,
+            yaml_event_body_t::DocumentEnd { implicit } => {
+                self.parts.end_implicit = *implicit;
+                self.parts.end_mark = *end_mark;
+                Fed::Whole
+            }
+            yaml_event_body_t::Alias { anchor } => self.alias(anchor),
             yaml_event_body_t::Scalar {
                 anchor,
                 tag,
                 value,
-                plain_implicit: _,
-                quoted_implicit: _,
                 style,
+                ..
             } => {
                 let head = Properties {
-                    anchor,
-                    tag,
-                    start_mark,
-                    end_mark,
+                    anchor: anchor.take(),
+                    tag: tag.take(),
+                    start_mark: *start_mark,
+                    end_mark: *end_mark,
                 };
-                self.scalar(head, value, style)?;
+                let value = mem::replace(value, Vec::new(alloc));
+                taken(self.scalar(head, value, *style))
             }
             yaml_event_body_t::SequenceStart {
                 anchor,
                 tag,
-                implicit: _,
                 style,
+                ..
             } => {
                 let head = Properties {
-                    anchor,
-                    tag,
-                    start_mark,
-                    end_mark,
+                    anchor: anchor.take(),
+                    tag: tag.take(),
+                    start_mark: *start_mark,
+                    end_mark: *end_mark,
                 };
-                self.sequence(head, style)?;
+                taken(self.sequence(head, *style))
             }
             yaml_event_body_t::MappingStart {
                 anchor,
                 tag,
-                implicit: _,
                 style,
+                ..
             } => {
                 let head = Properties {
-                    anchor,
-                    tag,
-                    start_mark,
-                    end_mark,
+                    anchor: anchor.take(),
+                    tag: tag.take(),
+                    start_mark: *start_mark,
+                    end_mark: *end_mark,
                 };
-                self.mapping(head, style)?;
+                taken(self.mapping(head, *style))
             }
-            yaml_event_body_t::SequenceEnd => self.close(end_mark),
-            yaml_event_body_t::MappingEnd => self.close(end_mark),
-            yaml_event_body_t::No => {}
-            yaml_event_body_t::StreamStart { encoding: _ } => {}
-            yaml_event_body_t::StreamEnd => {}
+            yaml_event_body_t::SequenceEnd | yaml_event_body_t::MappingEnd => {
+                self.close(*end_mark);
+                Fed::Taken
+            }
+            yaml_event_body_t::No
+            | yaml_event_body_t::StreamStart { .. }
+            | yaml_event_body_t::StreamEnd => Fed::Taken,
         }
-        Ok(false)
     }
 }

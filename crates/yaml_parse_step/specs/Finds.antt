@@ -1,9 +1,8 @@
 -- What a call that fills lent slots gives.
-use Rattle.std.specs.Prelude.{◌≡◌, Bool, [], ◌∷◌, Option, Some, None}
+use Rattle.std.specs.Prelude.{◌≡◌, Bool, [], ◌∷◌, None}
 use Rattle.yaml_scan_model.specs.Faults.{Fault}
-use Rattle.yaml_parse_model.specs.Events.{Event, event_of, no_event}
+use Rattle.yaml_parse_model.specs.Events.{Event, no_event}
 use Rattle.yaml_parse_model.specs.Constructors.{HasUtf8}
-use Rattle.yaml_parse_model.specs.declared.yaml_event_t.{yaml_event_t}
 use Rattle.yaml_parse_grammar.specs.Remaining.{ParserRemaining, GivesNothing, FaultOf}
 use Rattle.yaml_parse_grammar.specs.Stacks.{parts_documents_behind}
 use Rattle.yaml_parse_step.specs.declared.found.yaml_found_t.{yaml_found_t}
@@ -21,11 +20,6 @@ pub record GivesEnd (old new : ParserRemaining) : Type 0 where
   pub events : old.events ≡ []
   pub ending : old.ending ≡ None
   pub nothing : GivesNothing no_event old new
-
--- the next event, or nothing behind the last one
-abbrev pub NextOf : ParserRemaining → Option yaml_event_t → ParserRemaining → Type 0
-NextOf old (Some e) new = GivesNext (event_of e) old new
-NextOf old None new = GivesEnd old new
 
 -- what a call finds: the next event or a fault, which stands in its slot, or the end
 abbrev pub Finds : ParserRemaining → yaml_found_t → Event → Fault → ParserRemaining → Type 0

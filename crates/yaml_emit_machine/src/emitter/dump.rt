@@ -9,7 +9,7 @@ ghost use Rattle.yaml_emit_graph.specs.Events.{IsEvents, remaining_events};
 ghost use Rattle.yaml_emit_machine.specs.Emitter.{Keeps, left_if};
 ghost use Rattle.yaml_emit_machine.specs.Taking.{TakesEvents, NotesMemory};
 
-use super::{emit, yaml_emitter_t};
+use super::{answer, give, yaml_emitter_t};
 use crate::fault::refusal;
 use std::alloc::AllocError;
 use yaml_emit_graph::Events;
@@ -28,24 +28,30 @@ impl yaml_emitter_t {
         self.fault = refusal(&self.core);
     }
 
-    // An event of the dump.
-    fn dump_event(&mut self, event: yaml_event_body_t) -> bool
-        requires utf8 { HasUtf8 (body_of event) }
+    // An event of the dump. What is left of it counts for nothing.
+    fn dump_event(&mut self, event: &mut yaml_event_body_t) -> bool
+        requires utf8 { HasUtf8 (body_of event.old) }
         requires begun { self.old.fresh ≡ false }
         ensures takes { (es : List Event)
-            → TakesEvents self.old (emitter_event (body_of event) ∷ es) self.new
+            → TakesEvents self.old (emitter_event (body_of event.old) ∷ es) self.new
             (left_if result es) }
         ensures memory { NotesMemory true self.old self.new }
         ensures keeps { Keeps self.old self.new }
     {
-        match emit(self, event) {
+        give(self, event);
+        match answer(self) {
             Ok(()) => true,
             Err(_) => false,
         }
     }
 
-    // Whether an event was written, and no fault has come.
-    fn dump_next(&mut self, events: &mut Events, document: &yaml_document_t) -> bool
+    // Whether an event was written, by way of a slot that is lent, and no fault has come.
+    fn dump_next(
+        &mut self,
+        events: &mut Events,
+        document: &yaml_document_t,
+        event: &mut yaml_event_body_t,
+    ) -> bool
         requires walk { IsEvents document.now events.old }
         requires begun { self.old.fresh ≡ false }
         ensures takes { TakesEvents self.old (remaining_events document.now events.old) self.new
@@ -56,9 +62,9 @@ impl yaml_emitter_t {
         ensures less { result ≡ true → length (remaining_events document.now events.new)
             < length (remaining_events document.now events.old) }
     {
-        match events.next(document) {
-            Ok(None) => false,
-            Ok(Some(event)) => self.dump_event(event),
+        match events.next(document, event) {
+            Ok(false) => false,
+            Ok(true) => self.dump_event(event),
             Err(refused) => {
                 self.starve(refused);
                 false
@@ -74,7 +80,8 @@ impl yaml_emitter_t {
         ensures keeps { Keeps self.old self.new }
     {
         let mut events = events;
-        while self.dump_next(&mut events, document) {}
+        let mut event = yaml_event_body_t::No;
+        while self.dump_next(&mut events, document, &mut event) {}
     }
 }
 

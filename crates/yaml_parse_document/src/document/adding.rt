@@ -19,6 +19,8 @@ use yaml_parse_model::{
 pub const MAX_ENTRIES: usize = 2_147_483_647;
 
 /// One entry more at the end of a list of a document; `Memory` where a growth was refused or the list is full.
+// Inlined: the entry is built where it is to stand. Room is made first, so that it isn't handed back.
+#[inline(always)]
 pub fn push_entry<T: Drop>(entries: &mut Vec<T>, entry: T) -> Result<(), yaml_text_fault_t>
     ensures { MatchResult result
         (λ _. (entries.new.items ≡ entries.old.items ++ entry ∷ [])
@@ -28,8 +30,11 @@ pub fn push_entry<T: Drop>(entries: &mut Vec<T>, entry: T) -> Result<(), yaml_te
     if entries.len() >= MAX_ENTRIES {
         return Err(yaml_text_fault_t::Memory);
     }
-    match entries.push(entry) {
-        Ok(()) => Ok(()),
+    match entries.reserve(1) {
+        Ok(()) => {
+            entries.push_reserved(entry);
+            Ok(())
+        }
         Err(_) => Err(yaml_text_fault_t::Memory),
     }
 }

@@ -5,11 +5,11 @@ use Rattle.yaml_emit_graph.specs.Walk.{Comes}
 use Rattle.yaml_emit_graph.proofs.Leaving.{turn_comes, end_comes}
 use Rattle.yaml_emit_graph.proofs.graph.Events.step.Goals as goal
 
-pub returns-in_ok-event_of-in-Some : goal.returns-in_ok-event_of-in-Some
-returns-in_ok-event_of-in-Some c =
+pub returns-in_ok-put_turn-in-Some : goal.returns-in_ok-put_turn-in-Some
+returns-in_ok-put_turn-in-Some c =
     let P : Option Turn → Type 0 = λ z. Comes c.args.document.now.nodes c.args.self.now.walk (Ok z) c.next.new.self in
     let m = subst P c.in-Some.is c.in_ok-turn.ensures in
-    (turn_comes _ _ _ _ _ c.requires.place refl refl m.0 c.in_ok-event_of-in-Some.ensures.0, c.in_ok-event_of-in-Some.ensures.1, m.1)
+    (turn_comes _ _ _ _ _ c.requires.place refl refl m.0 c.in_ok-put_turn-in-Some.ensures.0, c.in_ok-put_turn-in-Some.ensures.1, m.1)
 
 pub returns-in-None : goal.returns-in-None
 returns-in-None c =

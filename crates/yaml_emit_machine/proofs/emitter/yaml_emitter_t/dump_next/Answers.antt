@@ -1,15 +1,15 @@
-use Rattle.std.proofs.Common.{Option, subst}
+use Rattle.std.proofs.Common.{Bool, subst}
 use Rattle.std.proofs.lemmas.Bool.{false≢true}
 use Rattle.std.specs.Prelude.{Ok}
-use Rattle.yaml_parse_model.specs.declared.yaml_event_body_t.{yaml_event_body_t}
+use Rattle.yaml_parse_model.specs.Events.{body_of}
 use Rattle.yaml_emit_graph.specs.Events.{GivesGraphEvent}
 use Rattle.yaml_emit_machine.proofs.Dumped.{takes_next, one_less_left}
 use Rattle.yaml_emit_machine.proofs.emitter.yaml_emitter_t.dump_next.Goals as goal
 
-pub returns-in-Ok-Some : goal.returns-in-Ok-Some
-returns-in-Ok-Some c =
-    let P : Option yaml_event_body_t → Type 0 = λ z. GivesGraphEvent c.args.document.now c.args.events.now (Ok z) c.next.new.self in
-    let g = subst P c.in-Ok-Some.field-0-is c.in-Ok-Some.ensures in
+pub returns-in-Ok-true : goal.returns-in-Ok-true
+returns-in-Ok-true c =
+    let P : Bool → Type 0 = λ z. GivesGraphEvent c.args.document.now c.args.events.now (Ok z) (body_of c.next.new.event) c.next.new.self in
+    let g = subst P c.in-Ok-true.field-0-test c.in-Ok-true.ensures in
     record {
       takes = takes_next _ _ _ _ _ _ g.0 c.dump_event.ensures.takes;
       memory = c.dump_event.ensures.memory;
@@ -33,8 +33,8 @@ returns-in-Err-clause-walk c = λ going. absurd (false≢true going)
 pub returns-in-Err-clause-less : goal.returns-in-Err-clause-less
 returns-in-Err-clause-less c = λ going. absurd (false≢true going)
 
-pub returns-in-Ok-None-clause-walk : goal.returns-in-Ok-None-clause-walk
-returns-in-Ok-None-clause-walk c = λ going. absurd (false≢true going)
+pub returns-in-Ok-false-clause-walk : goal.returns-in-Ok-false-clause-walk
+returns-in-Ok-false-clause-walk c = λ going. absurd (false≢true going)
 
-pub returns-in-Ok-None-clause-less : goal.returns-in-Ok-None-clause-less
-returns-in-Ok-None-clause-less c = λ going. absurd (false≢true going)
+pub returns-in-Ok-false-clause-less : goal.returns-in-Ok-false-clause-less
+returns-in-Ok-false-clause-less c = λ going. absurd (false≢true going)

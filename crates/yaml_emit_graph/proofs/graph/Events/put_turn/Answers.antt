@@ -7,16 +7,16 @@ use Rattle.yaml_emit_layout.specs.Content.{alias, emitter_event}
 use Rattle.yaml_emit_graph.specs.declared.walk.Turn.{Turn}
 use Rattle.yaml_emit_graph.specs.Events.{Says}
 use Rattle.yaml_emit_graph.specs.Graph.{name_of, number_at, closing_event, body_of_id, turn_event}
-use Rattle.yaml_emit_graph.proofs.graph.Events.event_of.Goals as goal
+use Rattle.yaml_emit_graph.proofs.graph.Events.put_turn.Goals as goal
 
 pub returns-in-Again : goal.returns-in-Again
 unfolding turn_event
 returns-in-Again c =
     let f : SFits w32 c.in-Again.id = search rules in
     let fit = to_z-of_z w32 c.in-Again.id f in
-    let P : Turn → Type 0 = λ t. Says (turn_event c.args.self.now.numbers.items c.args.document.now.nodes t) c.alias_event.result in
-    let N : ℕ → Type 0 = λ n. Says (alias (name_of n)) c.alias_event.result in
-    subst P (sym c.in-Again.is) (subst N (c.number_of.ensures ∙ ap (number_at c.deref.result.now) fit ∙ ap (λ z. number_at z c.in-Again.id) c.deref.ensures.value) c.alias_event.ensures)
+    let P : Turn → Type 0 = λ t. Says (turn_event c.args.self.now.numbers.items c.args.document.now.nodes t) c.put_alias.result (body_of c.put_alias.new.event) in
+    let N : ℕ → Type 0 = λ n. Says (alias (name_of n)) c.put_alias.result (body_of c.put_alias.new.event) in
+    subst P (sym c.in-Again.is) (subst N (c.number_of.ensures ∙ ap (number_at c.deref.result.now) fit ∙ ap (λ z. number_at z c.in-Again.id) c.deref.ensures.value) c.put_alias.ensures)
 
 pub returns-in-Leave : goal.returns-in-Leave
 unfolding turn_event

@@ -2,8 +2,9 @@
 
 ghost use Rattle.std.specs.Prelude.{◌≡◌, ◌∷◌, true, suc, OnOk, IfOk};
 ghost use Rattle.yaml_parse.specs.Events.{event_of, text_of};
-ghost use Rattle.yaml_round_compare.specs.Compare.{TellsOf};
-ghost use Rattle.yaml_round_compare.specs.Walking.{path_of, past_end, past_event, past_node, start, step_behind, step_of, steps_of};
+ghost use Rattle.yaml_round_compare.specs.Differences.{TellsOf};
+ghost use Rattle.yaml_round_compare.specs.Places.{path_of, step_of, steps_of};
+ghost use Rattle.yaml_round_compare.specs.Walking.{past_end, past_event, past_node, start, step_behind};
 
 use crate::difference::{yaml_difference_t, yaml_step_t};
 use std::alloc::{AllocError, Global};

@@ -6,11 +6,10 @@ use Rattle.yaml_round.specs.declared.yaml_difference_t.{yaml_difference_t}
 use Rattle.yaml_round.specs.round_laws_documents.content.parse_grammar.Resolve.{Told}
 use Rattle.yaml_round.specs.round_laws_documents.content.parse_model.Events.{EventBody, type_of}
 use Rattle.yaml_round.specs.Reading.{contents}
-use Rattle.yaml_round.specs.Compare.{saying}
 use Rattle.yaml_round.specs.Answers.{IsCompared, SameContent}
-use Rattle.yaml_round.specs.Places.{Place, place_says, path_to}
-use Rattle.yaml_round.specs.Walking.{path_of, past, start}
-use Rattle.yaml_round.specs.Differences.{IsDiff, IsParting}
+use Rattle.yaml_round.specs.Places.{Place, place_says, path_to, path_of}
+use Rattle.yaml_round.specs.Walking.{past, start}
+use Rattle.yaml_round.specs.Differences.{saying, IsDiff, IsParting}
 use Rattle.yaml_round.proofs.Pathing.{place_walked}
 use Rattle.yaml_round.proofs.Plain.{content_same, events_are}
 use Rattle.yaml_round_laws_users.specs.Partings.{TellTheSame, DiffsAgree, turned}

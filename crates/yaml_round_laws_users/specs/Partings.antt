@@ -3,7 +3,7 @@ use Rattle.std.specs.Prelude.{◌≡◌, ℕ, Bool, true, false, List, Option, S
 use Rattle.yaml_round.specs.declared.yaml_encoding_t.{yaml_encoding_t}
 use Rattle.yaml_round.specs.declared.yaml_difference_t.{yaml_difference_t}
 use Rattle.yaml_round.specs.Answers.{IsCompared}
-use Rattle.yaml_round.specs.Walking.{path_of}
+use Rattle.yaml_round.specs.Places.{path_of}
 use Rattle.yaml_round.specs.Differences.{IsDiff, IsParting}
 
 -- with the path, the marks and the kinds of the other

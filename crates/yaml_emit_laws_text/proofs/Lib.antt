@@ -28,6 +28,7 @@ pub mod Nodes
 pub mod Documents
 pub mod TextWhole
 pub mod Prettily
+mod Printing
 -- what it stands on, for crates that name this one alone
 pub use Rattle.yaml_scan_laws_texts.proofs.MarksLemmas
 pub use Rattle.yaml_scan_laws_texts.proofs.GapsRead

@@ -173,19 +173,19 @@ below c n h = grind (arith, nat_tests)
 above : (c n : ℕ) → n ≤ c → nat_lt c n ≡ false
 above c n h = grind (arith, nat_tests)
 
-encode_1 : (c : ℕ) → c < 128 → encode_utf8 c ≡ c ∷ []
+pub encode_1 : (c : ℕ) → c < 128 → encode_utf8 c ≡ c ∷ []
 unfolding encode
 encode_1 c a = rw (below c 128 a) refl
 
-encode_2 : (c : ℕ) → 128 ≤ c → c < 2048 → encode_utf8 c ≡ (192 + c / 64) ∷ (128 + c % 64) ∷ []
+pub encode_2 : (c : ℕ) → 128 ≤ c → c < 2048 → encode_utf8 c ≡ (192 + c / 64) ∷ (128 + c % 64) ∷ []
 unfolding encode
 encode_2 c a b = rw (above c 128 a, below c 2048 b) refl
 
-encode_3 : (c : ℕ) → 2048 ≤ c → c < 65536 → encode_utf8 c ≡ (224 + c / 4096) ∷ (128 + c / 64 % 64) ∷ (128 + c % 64) ∷ []
+pub encode_3 : (c : ℕ) → 2048 ≤ c → c < 65536 → encode_utf8 c ≡ (224 + c / 4096) ∷ (128 + c / 64 % 64) ∷ (128 + c % 64) ∷ []
 unfolding encode
 encode_3 c a b = rw (above c 128 (omega arith), above c 2048 a, below c 65536 b) refl
 
-encode_4 : (c : ℕ) → 65536 ≤ c → encode_utf8 c ≡ (240 + c / 262144) ∷ (128 + c / 4096 % 64) ∷ (128 + c / 64 % 64) ∷ (128 + c % 64) ∷ []
+pub encode_4 : (c : ℕ) → 65536 ≤ c → encode_utf8 c ≡ (240 + c / 262144) ∷ (128 + c / 4096 % 64) ∷ (128 + c / 64 % 64) ∷ (128 + c % 64) ∷ []
 unfolding encode
 encode_4 c a = rw (above c 128 (omega arith), above c 2048 (omega arith), above c 65536 a) refl
 

@@ -11,6 +11,7 @@ pub mod Writable
 pub mod TextLaws
 pub mod Json
 pub mod PrettyBodies
+pub mod Printing
 -- what it stands on, for crates that name this one alone
 pub use Rattle.yaml_emit_text.specs as emit_text
 pub use Rattle.yaml_scan_laws_texts.specs as scan_laws_keys

@@ -10,8 +10,8 @@ mod text_laws;
 
 pub use canonical_laws::{canonical_is_key_free, canonical_words_are_read};
 pub use quoted_laws::{
-    keys_stay_in_line, quoted_is_read_back, quoted_text_is_read_back, single_is_read_back,
-    single_spelling_reads, spelling_reads,
+    keys_stay_in_line, printable_is_of_characters, quoted_is_read_back, quoted_text_is_read_back,
+    single_is_read_back, single_spelling_reads, spelling_reads,
 };
 pub use tags_laws::{
     directives_are_read, readable_directives_are_ascii, readable_tags_are_ascii,

@@ -1,5 +1,6 @@
 //! Each function's contract is a law. A body cites a law of a lower crate.
 
+ghost use Rattle.yaml_emit_laws_text.specs.Printing.{PrintableIsOfCharacters};
 ghost use Rattle.yaml_emit_laws_text.specs.QuotedLaws.{KeysStayInLine, QuotedIsReadBack, QuotedTextIsReadBack, SingleIsReadBack, SingleSpellingReads, SpellingReads};
 
 use yaml_emit_text::quoted_spells;
@@ -36,4 +37,9 @@ pub fn single_is_read_back()
 /// As a simple key, double quoted text stays in its line.
 pub fn keys_stay_in_line()
     ensures { KeysStayInLine }
+{}
+
+/// The byte classes call a character printable exactly where its code point is.
+pub fn printable_is_of_characters()
+    ensures { PrintableIsOfCharacters }
 {}

@@ -3,3 +3,4 @@ pub mod Marks
 pub mod Depths
 pub mod Events
 mod Rows
+mod Forgetting

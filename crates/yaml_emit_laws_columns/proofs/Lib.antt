@@ -4,3 +4,4 @@ pub mod Depths
 pub mod Events
 mod Rows
 mod Forgetting
+mod Values

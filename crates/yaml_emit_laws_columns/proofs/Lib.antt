@@ -3,3 +3,5 @@ pub mod Marks
 pub mod Depths
 pub mod Events
 mod Rows
+mod Forgetting
+mod Values

@@ -1,12 +1,18 @@
--- Which columns canonical layout passes.
-use Rattle.std.specs.Prelude.{◌≡◌, ◌↔◌, ℕ, true, List}
+-- Which columns canonical layout passes, and where a column counts for nothing.
+use Rattle.std.specs.Prelude.{◌≡◌, ◌↔◌, ℕ, Bool, true, false, List}
+use Rattle.yaml_emit_layout.specs.parse.Events.{TagDirective}
 use Rattle.yaml_emit_layout.specs.scan.declared.yaml_encoding_t.{yaml_encoding_t}
 use Rattle.yaml_emit_layout.specs.emit_text.declared.Settings.{Settings}
 use Rattle.yaml_emit_layout.specs.emit_text.Text.{is_deep}
-use Rattle.yaml_emit_layout.specs.emit_text.Layout.{written}
-use Rattle.yaml_emit_layout.specs.Content.{Document, stream_events}
-use Rattle.yaml_emit_layout.specs.Nodes.{stream_layout}
+use Rattle.yaml_emit_layout.specs.emit_text.declared.Cursor.{Cursor}
+use Rattle.yaml_emit_layout.specs.emit_text.Layout.{Rest, ◌▹◌, written}
+use Rattle.yaml_emit_layout.specs.declared.level.Part.TheVariants as part
+use Rattle.yaml_emit_layout.specs.Content.{Start, Nodes, sequence_node, Document, stream_events}
+use Rattle.yaml_emit_layout.specs.Grammar.{start_tag}
+use Rattle.yaml_emit_layout.specs.Nodes.{Context, spot, is_flow, are_none, properties_text, checked, before_value, node_layout, items_layout, stream_layout}
+use Rattle.yaml_emit_layout.specs.ToCome.{Frame, frames, layout}
 use Rattle.yaml_emit_laws_columns.specs.Depths.{IsTooDeep}
+use Rattle.yaml_emit_laws_columns.specs.Forgetting.{are_block, Forgets}
 
 -- In canonical form, whatever the other settings, the layout of these documents marks an indentation
 -- of too many columns exactly where one of their nodes that are no alias stands too deep.
@@ -19,3 +25,25 @@ abbrev pub EventsTellColumns : Type 0
 EventsTellColumns = (x y : yaml_encoding_t) (ds es : List Document)
     → stream_events x ds ≡ stream_events y es → (indent : ℕ)
     → IsTooDeep indent ds ↔ IsTooDeep indent es
+
+-- Within block collections, where an item, a key or an end is next, what is still to come of a stream is laid out without a look at
+-- the column or at what stands in the line: the collections with their indentations, the directives, and whether breaks are kept
+-- are all that counts of what came before.
+abbrev pub BlocksForgetColumns : Type 0
+BlocksForgetColumns = (s : Settings) (directives : List TagDirective) (fs : List Frame)
+    (implicit : Bool) (ds : List Document) → are_block fs ≡ true
+    → Forgets (layout s (frames directives fs implicit ds))
+
+-- A block sequence that is a value in a block mapping: its indentation is told by the mapping's, by whether its key is simple, and by
+-- its own properties, whatever came before and comes behind. (By definition a root stands at 0, and items, and mappings that are
+-- values, one indent deeper.)
+abbrev pub ValuesStandByKeys : Type 0
+ValuesStandByKeys = (p : Context) (n : ℕ) (simple : Bool) (q : Start) → (m : ℕ)
+    × ((items : Nodes)
+    → is_flow p.settings (spot false n part.Value) q (are_none items) ≡ false
+    → (c : Cursor) (rest : Rest)
+    → (before_value p.settings false n simple
+    ▹ node_layout p (spot false n part.Value) (sequence_node q items)) c rest
+    ≡ (before_value p.settings false n simple
+    ▹ properties_text p q.anchor (start_tag p.settings.canonical q) ▹ checked m
+    ▹ items_layout p false m true items) c rest)

@@ -1,4 +1,5 @@
 pub mod Depths
+pub mod Forgetting
 pub mod Laws
 pub mod Rows
 -- what it stands on, for crates of laws that name this one alone

@@ -1,6 +1,6 @@
 //! Each function's contract is a law.
 
-ghost use Rattle.yaml_emit_laws_columns.specs.Laws.{ColumnsAreByDepth, EventsTellColumns};
+ghost use Rattle.yaml_emit_laws_columns.specs.Laws.{ColumnsAreByDepth, EventsTellColumns, BlocksForgetColumns, ValuesStandByKeys};
 ghost use Rattle.yaml_emit_laws_columns.specs.Rows.{RowsHold};
 
 /// In canonical form, laying out passes the columns exactly where a node that is no alias stands too deep for the indent.
@@ -16,4 +16,14 @@ pub fn events_tell_columns()
 /// Trees by hand, one on each side of the limit for each kind of node.
 pub fn rows_of_columns_hold()
     ensures { RowsHold }
+{}
+
+/// Within block collections what is to come is laid out the same wherever the line stands.
+pub fn blocks_forget_columns()
+    ensures { BlocksForgetColumns }
+{}
+
+/// A block sequence's indentation as a value is told by the mapping's, by its key and by its properties.
+pub fn values_stand_by_keys()
+    ensures { ValuesStandByKeys }
 {}

@@ -1,6 +1,9 @@
-//! Laws of the columns that canonical layout passes, said by depth and indent. No code.
+//! Laws of the columns that canonical layout passes, said by depth and indent, and of where columns count for nothing. No code.
 #![tactic(auto)]
 
 mod laws;
 
-pub use laws::{columns_are_by_depth, events_tell_columns, rows_of_columns_hold};
+pub use laws::{
+    blocks_forget_columns, columns_are_by_depth, events_tell_columns, rows_of_columns_hold,
+    values_stand_by_keys,
+};

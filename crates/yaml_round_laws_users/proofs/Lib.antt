@@ -1,5 +1,5 @@
 mod Rewriting
-mod Normalizing
+mod NormalForms
 mod Comparing
 mod Beginning
 mod Shaped

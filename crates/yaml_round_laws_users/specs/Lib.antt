@@ -1,5 +1,5 @@
 pub mod Laws
-pub mod Normalizing
+pub mod NormalForms
 pub mod Reloads
 pub mod Loads
 pub mod Limits

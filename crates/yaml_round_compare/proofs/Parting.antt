@@ -16,10 +16,10 @@ use Rattle.yaml_round_reading.specs.Reading.{contents}
 use Rattle.yaml_round_reading.proofs.Plain.{has_events}
 use Rattle.yaml_round_compare.specs.declared.difference.yaml_difference_t.{yaml_difference_t}
 use Rattle.yaml_round_compare.specs.declared.trail.Trail.{Trail}
-use Rattle.yaml_round_compare.specs.Places.{Place, place_says, Path}
-use Rattle.yaml_round_compare.specs.Walking.{path_of, past, start}
-use Rattle.yaml_round_compare.specs.Compare.{saying, AreApart, Parted, WhereDifferent, ComparesReadings}
-use Rattle.yaml_round_compare.specs.Differences.{IsParting, IsFresh}
+use Rattle.yaml_round_compare.specs.Places.{Place, place_says, Path, path_of}
+use Rattle.yaml_round_compare.specs.Walking.{past, start, IsFresh}
+use Rattle.yaml_round_compare.specs.Compare.{AreApart, Parted, WhereDifferent, ComparesReadings}
+use Rattle.yaml_round_compare.specs.Differences.{saying, IsParting}
 use Rattle.yaml_round_compare.proofs.Walks.{place_walked}
 use Rattle.yaml_round_compare.proofs.Placing.{placed}
 use Rattle.yaml_round_compare.proofs.Fronts.{whole_stream}

@@ -14,9 +14,10 @@ use Rattle.yaml_round_compare.specs.declared.compare.Next.{Next}
 use Rattle.yaml_round_compare.specs.declared.compare.Next.TheVariants.{Same, End, Different, Refused}
 use Rattle.yaml_round_compare.specs.declared.difference.yaml_difference_t.{yaml_difference_t}
 use Rattle.yaml_round_compare.specs.declared.trail.Trail.{Trail}
-use Rattle.yaml_round_compare.specs.Places.{Path}
-use Rattle.yaml_round_compare.specs.Walking.{path_of, past, past_event}
-use Rattle.yaml_round_compare.specs.Compare.{saying, normalized, JudgesEvents, TellsOf, AreApart, Parted, BothGoOn, StepsBeside, StepsOn}
+use Rattle.yaml_round_compare.specs.Places.{Path, path_of}
+use Rattle.yaml_round_compare.specs.Walking.{past, past_event}
+use Rattle.yaml_round_compare.specs.Differences.{saying, TellsOf}
+use Rattle.yaml_round_compare.specs.Compare.{normalized, JudgesEvents, AreApart, Parted, BothGoOn, StepsBeside, StepsOn}
 
 -- ---- normalized events
 

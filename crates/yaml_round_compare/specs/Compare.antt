@@ -2,7 +2,7 @@
 use Rattle.std.specs.Prelude.{◌≡◌, ◌↔◌, ◌<◌, ℕ, Bool, true, false, IsTrue, List, [], ◌∷◌, ◌++◌, length, Option, None, Result, Ok, Err}
 use Rattle.yaml_scan.specs.declared.yaml_fault_t.{yaml_fault_t}
 use Rattle.yaml_scan.specs.Faults.{Fault}
-use Rattle.yaml_parse.specs.Events.{Event, EventBody, event_of, type_of}
+use Rattle.yaml_parse.specs.Events.{Event, EventBody, event_of}
 use Rattle.yaml_parse.specs.Resolve.{Told}
 use Rattle.yaml_parse.specs.Remaining.{ParserRemaining}
 use Rattle.yaml_round_reading.specs.declared.side.yaml_side_t.{yaml_side_t}
@@ -13,13 +13,10 @@ use Rattle.yaml_round_compare.specs.declared.compare.Next.TheVariants.{Same, End
 use Rattle.yaml_round_compare.specs.declared.difference.yaml_difference_t.{yaml_difference_t}
 use Rattle.yaml_round_compare.specs.declared.trail.Trail.{Trail}
 use Rattle.yaml_round_content.specs.Normalize.{normalize_body}
-use Rattle.yaml_round_content.specs.Content.{content_of}
 use Rattle.yaml_round_reading.specs.Reading.{contents, AreReal, IsFaultOf}
-use Rattle.yaml_round_compare.specs.Walking.{path_of, past}
-
--- what an event says, normalized
-abbrev pub saying : EventBody → EventBody
-saying e = content_of (normalize_body true e)
+use Rattle.yaml_round_compare.specs.Places.{path_of}
+use Rattle.yaml_round_compare.specs.Walking.{past}
+use Rattle.yaml_round_compare.specs.Differences.{saying, TellsOf}
 
 -- the event as it is compared
 abbrev pub normalized : Event → Event
@@ -36,13 +33,6 @@ abbrev pub BothReal : ParserRemaining → ParserRemaining → Type 0
 BothReal first second = AreReal first.events × AreReal second.events
 
 -- ---- where events part
-
--- it tells where the events begin and what they are
-pub record TellsOf (first second : Event) (d : yaml_difference_t) : Type 0 where
-  pub first_mark : d.first_mark ≡ first.start_mark
-  pub first_type : d.first_type ≡ type_of first.body
-  pub second_mark : d.second_mark ≡ second.start_mark
-  pub second_type : d.second_type ≡ type_of second.body
 
 -- The first of these events differ, and it tells of them; or there are events on one side alone.
 abbrev pub AreApart : List Told → List Told → yaml_difference_t → Type 0

@@ -3,16 +3,27 @@ use Rattle.std.specs.Prelude.{◌≡◌, ◌⊎◌, true, ℕ, List, [], ◌∷�
 use Rattle.yaml_scan.specs.declared.yaml_encoding_t.{yaml_encoding_t}
 use Rattle.yaml_scan.specs.declared.yaml_fault_t.{yaml_fault_t}
 use Rattle.yaml_scan.specs.Faults.{fault_of}
+use Rattle.yaml_parse.specs.Events.{Event, EventBody, type_of}
 use Rattle.yaml_parse.specs.Resolve.{Told}
+use Rattle.yaml_round_content.specs.Normalize.{normalize_body}
+use Rattle.yaml_round_content.specs.Content.{content_of}
 use Rattle.yaml_round_content.specs.Reading.{HasEvents}
 use Rattle.yaml_round_reading.specs.declared.side.yaml_side_t.{yaml_side_t}
 use Rattle.yaml_round_reading.specs.Reading.{contents}
 use Rattle.yaml_round_reading.specs.Answers.{SameContent, IsSideStarved, IsSideFaulty}
 use Rattle.yaml_round_compare.specs.declared.difference.yaml_difference_t.{yaml_difference_t}
-use Rattle.yaml_round_compare.specs.declared.trail.Trail.{Trail}
-use Rattle.yaml_round_compare.specs.Places.{Place, place_says, path_to}
-use Rattle.yaml_round_compare.specs.Walking.{path_of, start}
-use Rattle.yaml_round_compare.specs.Compare.{TellsOf, saying}
+use Rattle.yaml_round_compare.specs.Places.{Place, place_says, path_to, path_of}
+
+-- what an event says, normalized
+abbrev pub saying : EventBody → EventBody
+saying e = content_of (normalize_body true e)
+
+-- it tells where the events begin and what they are
+pub record TellsOf (first second : Event) (d : yaml_difference_t) : Type 0 where
+  pub first_mark : d.first_mark ≡ first.start_mark
+  pub first_type : d.first_type ≡ type_of first.body
+  pub second_mark : d.second_mark ≡ second.start_mark
+  pub second_type : d.second_type ≡ type_of second.body
 
 -- Both inputs are accepted. The events in front say the same, and are what stands in front of a place; the next ones
 -- don't. It tells where these begin, what they are, and the path to that place.
@@ -40,8 +51,3 @@ IsDiff a_from a b_from b (Ok None) = SameContent a_from a b_from b
 IsDiff a_from a b_from b (Ok (Some d)) = IsParting a_from a b_from b d
 IsDiff a_from a b_from b (Err f) = IsSideStarved a_from a f.0 (fault_of f.1)
     ⊎ IsSideFaulty a_from a b_from b f.0 (fault_of f.1)
-
--- in front of a stream, with the path kept
-pub record IsFresh (t : Trail) : Type 0 where
-  pub kept : t.kept ≡ true
-  pub path : path_of t.place ≡ start

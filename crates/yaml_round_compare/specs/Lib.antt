@@ -1,4 +1,4 @@
 pub mod Places
+pub mod Differences
 pub mod Walking
 pub mod Compare
-pub mod Differences

@@ -1,12 +1,15 @@
 -- Places in a stream: what stands in front of an event, and the path to it.
-use Rattle.std.specs.Prelude.{ℕ, suc, true, List, [], ◌∷◌, length, Option, Some, None}
+use Rattle.std.specs.Prelude.{ℕ, suc, true, List, [], ◌∷◌, length, Option, Some, None, map, reverse}
 use Rattle.yaml_round_content.specs.scan_model.declared.yaml_encoding_t.TheVariants.{YAML_ANY_ENCODING}
 use Rattle.yaml_round_content.specs.scan_model.declared.yaml_version_directive_t.{yaml_version_directive_t}
 use Rattle.yaml_round_content.specs.scan_model.declared.yaml_sequence_style_t.TheVariants.{YAML_ANY_SEQUENCE_STYLE}
 use Rattle.yaml_round_content.specs.scan_model.declared.yaml_mapping_style_t.TheVariants.{YAML_ANY_MAPPING_STYLE}
-use Rattle.yaml_parse.specs.Events.{EventBody, TagDirective}
+use Rattle.yaml_parse.specs.Events.{EventBody, TagDirective, text_of}
 use Rattle.yaml_parse.specs.Events as event
 use Rattle.yaml_round_content.specs.Said.{Node, scalar, Nodes, no_nodes, node, Pairs, no_pairs, pair, Document, node_says, items_say, pairs_say}
+use Rattle.yaml_round_compare.specs.declared.difference.yaml_step_t.{yaml_step_t}
+use Rattle.yaml_round_compare.specs.declared.difference.yaml_step_t.TheVariants as declared
+use Rattle.yaml_round_compare.specs.declared.difference.yaml_difference_t.{yaml_difference_t}
 
 -- Where in a document: at its root; in an open sequence, behind whole items; in an open mapping, at a key behind whole pairs,
 -- or at the value behind them and that key. A collection has an anchor and a tag.
@@ -86,3 +89,17 @@ path_to (between ds) = record { document = length ds; steps = [] }
 path_to (within ds version directives inside) = record
     { document = length ds; steps = steps_to inside }
 path_to (at_end ds d) = record { document = length ds; steps = [] }
+
+-- ---- what a difference tells
+
+abbrev pub step_of : yaml_step_t → Step
+step_of (declared.Item number) = item number
+step_of (declared.Key number) = key number
+step_of (declared.Value number text) = value number (text_of text)
+
+-- the innermost first
+abbrev pub steps_of : List yaml_step_t → List Step
+steps_of ss = reverse (map step_of ss)
+
+abbrev pub path_of : yaml_difference_t → Path
+path_of d = record { document = d.document; steps = steps_of d.path.items }

@@ -1,26 +1,10 @@
 -- What each event makes of the path to the place in front of it.
-use Rattle.std.specs.Prelude.{ℕ, suc, List, [], ◌∷◌, Option, Some, None, map, reverse}
-use Rattle.yaml_parse.specs.Events.{EventBody, text_of}
+use Rattle.std.specs.Prelude.{◌≡◌, true, ℕ, suc, List, [], ◌∷◌, Option, Some, None}
+use Rattle.yaml_parse.specs.Events.{EventBody}
 use Rattle.yaml_parse.specs.Events as event
-use Rattle.yaml_round_compare.specs.declared.difference.yaml_step_t.{yaml_step_t}
-use Rattle.yaml_round_compare.specs.declared.difference.yaml_step_t.TheVariants as declared
-use Rattle.yaml_round_compare.specs.declared.difference.yaml_difference_t.{yaml_difference_t}
-use Rattle.yaml_round_compare.specs.Places.{Step, Path}
+use Rattle.yaml_round_compare.specs.declared.trail.Trail.{Trail}
+use Rattle.yaml_round_compare.specs.Places.{Step, Path, path_of}
 use Rattle.yaml_round_compare.specs.Places as place
-
--- ---- what a clause sees
-
-abbrev pub step_of : yaml_step_t → Step
-step_of (declared.Item number) = place.item number
-step_of (declared.Key number) = place.key number
-step_of (declared.Value number text) = place.value number (text_of text)
-
--- the innermost first
-abbrev pub steps_of : List yaml_step_t → List Step
-steps_of ss = reverse (map step_of ss)
-
-abbrev pub path_of : yaml_difference_t → Path
-path_of d = record { document = d.document; steps = steps_of d.path.items }
 
 -- ---- the steps
 
@@ -59,3 +43,8 @@ past (e ∷ es) p = past es (past_event e p)
 -- in front of a stream
 abbrev pub start : Path
 start = record { document = 0; steps = [] }
+
+-- in front of a stream, with the path kept
+pub record IsFresh (t : Trail) : Type 0 where
+  pub kept : t.kept ≡ true
+  pub path : path_of t.place ≡ start

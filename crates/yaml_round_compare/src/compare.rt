@@ -3,7 +3,8 @@
 ghost use Rattle.std.specs.Prelude.{◌≡◌, ℕ, List};
 ghost use Rattle.yaml_round_content.specs.Input.{Reads};
 ghost use Rattle.yaml_round_compare.specs.Compare.{BothReal, JudgesEvents, normalized, StepsBeside, StepsAlone, StepsOn, Sided, Parted, WhereDifferent, ReadsOutBoth, IsBehindFirst, ComparesReadings};
-ghost use Rattle.yaml_round_compare.specs.Differences.{IsFresh, IsParting};
+ghost use Rattle.yaml_round_compare.specs.Differences.{IsParting};
+ghost use Rattle.yaml_round_compare.specs.Walking.{IsFresh};
 ghost use Rattle.yaml_parse.specs.Events.{event_of};
 ghost use Rattle.yaml_round_reading.specs.Reading.{AreReal};
 ghost use Rattle.yaml_round_reading.specs.Answers.{IsSame};

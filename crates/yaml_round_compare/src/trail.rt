@@ -2,8 +2,9 @@
 
 ghost use Rattle.std.specs.Prelude.{◌≡◌, ◌∷◌, true, suc, OnOk, IfOk};
 ghost use Rattle.yaml_parse.specs.Events.{event_of, text_of};
-ghost use Rattle.yaml_round_compare.specs.Compare.{TellsOf};
-ghost use Rattle.yaml_round_compare.specs.Walking.{path_of, past_end, past_event, past_node, start, step_behind, step_of, steps_of};
+ghost use Rattle.yaml_round_compare.specs.Differences.{TellsOf};
+ghost use Rattle.yaml_round_compare.specs.Places.{path_of, step_of, steps_of};
+ghost use Rattle.yaml_round_compare.specs.Walking.{past_end, past_event, past_node, start, step_behind};
 
 use crate::difference::{yaml_difference_t, yaml_step_t};
 use std::alloc::{AllocError, Global};
@@ -93,6 +94,8 @@ fn pass_document(document: &mut u64) -> Result<(), AllocError>
 }
 
 // The event stands in front. A scalar's text is taken out of it.
+// Out of line: where no path is kept, the loop that compares has a test of one byte for it.
+#[inline(never)]
 fn pass(
     alloc: Global,
     place: &mut yaml_difference_t,

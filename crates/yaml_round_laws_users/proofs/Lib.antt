@@ -6,3 +6,4 @@ mod Shaped
 mod Joining
 mod Loads
 mod Limits
+mod Partings

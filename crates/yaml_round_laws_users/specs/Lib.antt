@@ -3,3 +3,4 @@ pub mod NormalForms
 pub mod Reloads
 pub mod Loads
 pub mod Limits
+pub mod Partings

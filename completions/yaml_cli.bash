@@ -3,7 +3,7 @@ _yaml_cli() {
     local now=${COMP_WORDS[COMP_CWORD]} before=${COMP_WORDS[COMP_CWORD - 1]} options='' words=''
     COMPREPLY=()
     if [ "$COMP_CWORD" -eq 1 ]; then
-        COMPREPLY=($(compgen -W 'fmt docs events same check help -h --help -V --version' -- "$now"))
+        COMPREPLY=($(compgen -W 'fmt norm docs events same diff check help -h --help -V --version' -- "$now"))
         return
     fi
     # a value behind a = is a word of its own
@@ -21,11 +21,13 @@ _yaml_cli() {
     fi
     case ${COMP_WORDS[1]} in
         fmt) options='--from --check --pretty --indent --width --ascii --break --encoding --limit -h --help' ;;
+        norm) options='--from --check --indent --width --ascii --break --encoding --limit -h --help' ;;
         docs) options='--from --indent --width --ascii --break --encoding --limit -h --help' ;;
         events) options='--from -h --help' ;;
         same) options='--from -h --help' ;;
+        diff) options='--from -h --help' ;;
         check) options='--from --quiet --files0-from -h --help' ;;
-        help) COMPREPLY=($(compgen -W 'fmt docs events same check help' -- "$now")); return ;;
+        help) COMPREPLY=($(compgen -W 'fmt norm docs events same diff check help' -- "$now")); return ;;
         *) return ;;
     esac
     case $now in

@@ -15,14 +15,15 @@ writes and opens it makes. Then each of these goes wrong in turn:
     each write   in the same ways, and taking no byte
     each open    failing, interrupted
 
-and some runs meet what goes wrong by itself: a full device as the output, a folder as the input.
+and some runs meet what goes wrong by itself: a full device or a pipe that nobody reads as the output, a folder as the input.
 
 What is promised, and judged for each run (docs/PROFILE.md, 'The program'):
 
     an answer       the same status, output and lines as without anything wrong
     told            status 1, the one line that names what went wrong, and nothing on standard output; of the commands that
-                    judge many files status 2, and the other files are judged all the same
-    written so far  a failed write of the answer: status 1, `write failed after N bytes`, and the answer's first N bytes
+                    judge many files, and of diff, status 2, and the other files are judged all the same
+    written so far  a failed write of the answer: status 1, `write failed after N bytes`, and the answer's first N bytes; of the
+                    commands that tell a reason that reason, and a front of the answer
     whose           of two inputs, a short one beside a long one: want of memory is told of the short one in no more runs
                     than there are allocations where it stands on both sides
     untold          of want of memory where the line itself can't be made, as where all further allocations are refused:
@@ -89,6 +90,16 @@ CASES = [
     Case("fmt --check", ["fmt", "--check", "a", "b"], files={"a": b"--- a", "b": b'---\n! "a"\n'}),
     Case("fmt --check pretty", ["fmt", "--check", "--pretty"], b"a: b\n"),
     Case("fmt --check refused", ["fmt", "--check", "a", "b"], files={"a": b"[", "b": b"--- a"}),
+    Case("norm tagged", ["norm", "in.yaml"], files={"in.yaml": TAGGED}),
+    Case("norm long", ["norm", "--indent", "4"], MAPPING),
+    Case("norm UTF-16", ["norm", "--encoding", "utf16be", "--break", "crlf"], UTF16),
+    Case("norm past its limit", ["norm", "--limit", "3", "in.yaml"], files={"in.yaml": b"foo"}),
+    Case("norm parser fault", ["norm", "in.yaml"], files={"in.yaml": b"a: [b\nc: d\n"}),
+    Case("norm --check", ["norm", "--check", "a", "none", "b", "c"], files={"a": b"a: b\n", "b": b"[", "c": b"{a: b}"}),
+    Case("diff equal", ["diff", "a", "b"], files={"a": TAGGED, "b": TAGGED}),
+    Case("diff long", ["diff", "a", "b"], files={"a": MAPPING + b"- a", "b": MAPPING + b"- b"}),
+    Case("diff short", ["diff", "-", "a"], b"a: {b c: [d]}", {"a": b"a:\n  b c:\n  - d\n  - e\n"}),
+    Case("diff refused", ["diff", "a", "b"], files={"a": b"a", "b": b"a: [b\nc: d\n"}),
     Case("dash", ["same", "-", "a"], b"a: b", {"a": b"{a: b}"}),
     Case("dash twice", ["same", "-", "-"], b"a: b"),
     Case("one file too many", ["fmt", "a", "b"]),
@@ -209,8 +220,8 @@ def judge_open(wrong, run, usual):
     return "answered" if is_answer(run, usual) else None
 
 
-def judge_many(wrong, run, usual):
-    """Of the commands that judge many files, where what goes wrong with one is told of it alone."""
+def judge_reasons(wrong, run, usual, failed):
+    """Of the commands that name the file and the reason, one beside others: what goes wrong is told of it alone, by that status."""
     if is_answer(run, usual):
         return "answered"
     if wrong.kind == "write" and run.hit == 2:
@@ -226,7 +237,7 @@ def judge_many(wrong, run, usual):
         return "untold" if is_quiet and is_front and run.status >= max(usual.status, 1) else None
     line = rb"yaml_cli: [^ ]+: \S.*|yaml_cli: standard output: \S.*|[^ ]+: memory error"
     is_own = all(re.fullmatch(line, it) for it in own) and (len(own) == 1 or wrong.count != 1)
-    return "told" if is_own and is_front and run.status == 2 else None
+    return "told" if is_own and is_front and run.status == failed else None
 
 
 JUDGES = {"memory": judge_memory, "read": judge_read, "write": judge_write, "open": judge_open}
@@ -260,9 +271,14 @@ def judged(bench, folder, case, usual, wrong):
         run = bench.run(folder, case, wrong)
     except subprocess.TimeoutExpired:
         return None, f"{case.name}: {' '.join(map(str, wrong))}: no end within {SECONDS} seconds"
-    is_of_many = "check" in case.words[0] or "--check" in case.words
-    judge = judge_many if is_of_many else JUDGES[wrong.kind]
-    found = judge(wrong, run, usual) if run.status >= 0 and run.hits else None
+    if case.words[0] in ("check", "diff") or "--check" in case.words:
+        found = judge_reasons(wrong, run, usual, 2)
+    elif case.words[0] == "norm":
+        found = judge_reasons(wrong, run, usual, 1)
+    else:
+        found = JUDGES[wrong.kind](wrong, run, usual)
+    if run.status < 0 or not run.hits:
+        found = None
     if found:
         return found, ""
     why = "nothing went wrong" if run.status >= 0 and not run.hits else f"status {run.status}"
@@ -292,22 +308,41 @@ def sided(bench, number, case, found):
     return f"{case.name}: of the short input told {few} times, of the long one {many}, where the short one alone takes {most}"
 
 
+def unread_pipe():
+    """The writing end of a pipe that nobody reads."""
+    reading, writing = os.pipe()
+    os.close(reading)
+    return open(writing, "wb")
+
+
 def real_runs(bench):
-    """What no call of ours lets go wrong: a full device as the output, a folder as the input. What isn't as promised."""
-    folder = bench.place("real", Case("real", [], b"a: b", {"in.yaml": b"a: b"}))
+    """What no call of ours lets go wrong: a full device or a pipe that nobody reads as the output, a folder as the input. What isn't
+    as promised."""
+    folder = bench.place("real", Case("real", [], b"a: b", {"in.yaml": b"a: b", "other.yaml": b"- a\n" * 100000}))
+    full, none, pipe = "/dev/full", "/dev/null", "a pipe"
+    no_space = b"standard output: No space left on device (os error 28)"
     for words, output, status, line in [
-        (["fmt", "in.yaml"], "/dev/full", 1, b"write failed after 0 bytes"),
-        (["same", "in.yaml", "in.yaml"], "/dev/full", 1, b"write failed after 0 bytes"),
-        (["events", "."], "/dev/null", 1, b"cannot read the input"),
-        (["same", "in.yaml", "."], "/dev/null", 1, b"cannot read the input"),
-        (["fmt", "--check", "in.yaml"], "/dev/full", 2, b"standard output: No space left on device (os error 28)"),
-        (["check", "in.yaml", "."], "/dev/full", 2, b".: Is a directory (os error 21)"),
-        (["check", "in.yaml", b"\xff"], "/dev/null", 2, b"a word isn't UTF-8"),
+        (["fmt", "in.yaml"], full, 1, b"write failed after 0 bytes"),
+        (["same", "in.yaml", "in.yaml"], full, 1, b"write failed after 0 bytes"),
+        (["events", "."], none, 1, b"cannot read the input"),
+        (["same", "in.yaml", "."], none, 1, b"cannot read the input"),
+        (["fmt", "--check", "in.yaml"], full, 2, no_space),
+        (["fmt", "--check", "in.yaml"], pipe, 1, b""),
+        (["check", "in.yaml", "."], full, 2, b".: Is a directory (os error 21)"),
+        (["check", "in.yaml", b"\xff"], none, 2, b"a word isn't UTF-8"),
+        (["norm", "in.yaml"], full, 1, no_space),
+        (["norm", "other.yaml"], pipe, 1, b""),
+        (["norm", "."], none, 1, b".: Is a directory (os error 21)"),
+        (["norm", "--check", "."], none, 2, b".: Is a directory (os error 21)"),
+        (["diff", "in.yaml", "other.yaml"], full, 2, no_space),
+        (["diff", "in.yaml", "other.yaml"], pipe, 1, b""),
+        (["diff", "in.yaml", "in.yaml"], full, 0, b""),
+        (["diff", "in.yaml", "."], none, 2, b".: Is a directory (os error 21)"),
     ]:
-        with open(output, "wb") as stdout:
+        with unread_pipe() if output == pipe else open(output, "wb") as stdout:
             how = {"cwd": folder, "stdout": stdout, "stderr": subprocess.PIPE, "timeout": SECONDS}
             ran = subprocess.run([bench.program, *words], stdin=subprocess.DEVNULL, **how)
-        is_well = (ran.returncode, ran.stderr) == (status, b"yaml_cli: " + line + b"\n")
+        is_well = (ran.returncode, ran.stderr) == (status, b"yaml_cli: " + line + b"\n" if line else b"")
         yield "" if is_well else f"{words} > {output}: status {ran.returncode}, errors {ran.stderr!r}"
 
 
@@ -343,7 +378,7 @@ def main():
             calls = ", ".join(f"{n} {word}" for n, word in zip(usual.counts, ["allocations", "reads", "writes", "opens"]))
             print(f"{case.name}: {calls}: {sum(found.values())} runs", flush=True)
         for text in real_runs(bench):
-            total["a full device or a folder, " + ("NOT AS PROMISED" if text else "told")] += 1
+            total["a full device, an unread pipe or a folder, " + ("NOT AS PROMISED" if text else "told")] += 1
             if text:
                 wrong_ones.append(text)
                 print(text, flush=True)

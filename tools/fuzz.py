@@ -13,6 +13,8 @@ Judged of each text:
     events, fmt     accept the same texts, and tell the same fault
     fmt             its answer is `same` as the text, and rewriting it changes no byte, under settings that change too
     fmt --pretty    its answer is `same` as the text
+    norm            its answer is `same` as the text, and is that of its canonical text and its own, under settings that change
+    diff            of the text and its first half: nothing exactly where they are `same`, a path exactly where they aren't
     docs            rewriting its answer changes no byte; it accepts only what events accepts
     events, docs    the lines of the events, or the fault's line, are those of libyaml's parser, and the fault's line of docs
                     is its loader's, where a C compiler and libyaml's header are there
@@ -309,6 +311,24 @@ class Judge:
         self.is_same("the pretty text", path, styled)
         repeated = self.ours("fmt", *settings, again)
         wrong_unless(repeated == Ran(0, canonical.output, b""), "rewriting the canonical text changes it")
+        self.normalized(number, path, again, settings)
+
+    def normalized(self, number, path, canonical, settings):
+        """The normal form of an input that is accepted."""
+        ran = self.ours("norm", *settings, path)
+        wrong_unless((ran.status, ran.errors) == (0, b""), f"norm refuses what events accepts: {ran.errors!r}")
+        normal = self.file(number, "norm", ran.output)
+        self.is_same("the normal form", path, normal)
+        for what, it in [("the normal form", normal), ("the canonical text", canonical)]:
+            wrong_unless(self.ours("norm", *settings, it) == ran, f"the normal form of {what} is another one")
+
+    def parted(self, number, text, path):
+        """Where a text and its first half part is told where they aren't the same."""
+        half = self.file(number, "half", text[: len(text) // 2])
+        same, ran = self.ours("same", path, half), self.ours("diff", path, half)
+        wanted = {b"equal\n": 0, b"different\n": 1}.get(same.output, 2)
+        told = (ran.status, bool(ran.output), bool(ran.errors))
+        wrong_unless(told == (wanted, wanted == 1, wanted == 2), f"same says {same}, and diff {ran}")
 
     def loaded(self, number, docs, settings):
         """The loaded documents' text."""
@@ -326,12 +346,15 @@ class Judge:
             told = fault_of(words[0], self.ours(*words, path))
             is_loader = words == ["docs"] and told is not None and told.startswith(b"composer error")
             wrong_unless(told == fault or is_loader, f"{' '.join(words)} says {told!r}, and events {fault!r}")
+        ran = self.ours("norm", path)
+        wrong_unless((ran.status, ran.output) == (1, b"") and ran.errors, f"norm says {ran}, and events {fault!r}")
 
     def judge(self, number, text, settings):
         """What was found of a text."""
         path = self.file(number, "yaml", text)
         events = self.ours("events", path)
         fault = fault_of("events", events)
+        self.parted(number, text, path)
         if fault is not None:
             self.refused(path, fault)
             found = ["refused", self.with_libyaml(text, path, events, fault, None)]
@@ -343,7 +366,7 @@ class Judge:
         return [it for it in found if it]
 
     def forget(self, number):
-        for name in ("yaml", "fmt", "pretty", "docs"):
+        for name in ("yaml", "fmt", "pretty", "docs", "norm", "half"):
             if os.path.exists(f"{self.folder}/{number}.{name}"):
                 os.remove(f"{self.folder}/{number}.{name}")
 

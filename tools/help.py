@@ -28,8 +28,11 @@ Option = collections.namedtuple("Option", "short long value text default")
 NOTES = [
     "A text comes from FILE, or from standard input where none is named or where it is -; ./- is the file of that name. The "
     "answer is written once the whole input was read and judged, and nothing is written where it is refused.",
-    "A fault's line has its kind, what was being read and what is wrong, with lines and columns from 1. check, and fmt with "
-    "--check, show the source line too, with a caret under the place.",
+    "A fault's line has its kind, what was being read and what is wrong, with lines and columns from 1. check, norm, diff, and "
+    "fmt with --check, show the source line too, with a caret under the place.",
+    "A path that diff shows has the document's number first, then the way inwards: [0].service.ports[1]. Numbers count from 0; a "
+    "key that is no more than a word stands behind a dot, another one between [\" and \"], and for a key that is no scalar stands "
+    "its pair's number: <key 2>, <value 2>.",
     "Comments are dropped: a text that is written has none.",
     "Where pretty form was asked for and wouldn't read back with the same content, canonical form is written, and a line on "
     "standard error says so.",

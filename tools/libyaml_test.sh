@@ -6,8 +6,9 @@
 #     tools/libyaml_test.sh          JOBS: how many clients run side by side; LIST=1: prints what differs, for the list
 #
 # By itself: symbols, soname and layouts; events, tokens and texts of the vectors' inputs, and of two broken ones of each, beside
-# the proved core's own, also from a reader of single bytes and with flushes; the symbols that no header declares; each
-# allocation refused in turn; all these inputs under AddressSanitizer and UBSan, with readers and writers that fail. Beside
+# the proved core's own, also from a reader of single bytes, with flushes, and cut at each place where that can be; that documents
+# and output come in time; the symbols that no header declares; each allocation refused in turn; all these inputs under
+# AddressSanitizer and UBSan, with readers and writers that fail. Beside
 # Debian's libyaml: all answers for each file, by a C program and by the bindings of Python, Ruby and Perl, where
 # bindings/libyaml/tests/expected.txt lists what differs and why; a difference that isn't there fails, and so does one that is
 # there and isn't seen.
@@ -92,13 +93,19 @@ has_sanitizer() {
 
 # ---- by itself
 alone() {
-    local heap=-Wl,--wrap=malloc,--wrap=calloc,--wrap=realloc,--wrap=free
-    compile against_core against_core.c "$top/out/library/libyaml_c.a" -L "$library" -lyaml -Wl,-rpath,"$library" &&
+    local heap=-Wl,--wrap=malloc,--wrap=calloc,--wrap=realloc,--wrap=free core=$top/out/library/libyaml_c.a
+    # windows and pieces as small as can be
+    local small='-DLAYER_WINDOW=8 -DLAYER_PIECE=0'
+    compile against_core against_core.c "$core" -L "$library" -lyaml -Wl,-rpath,"$library" &&
         judges against_core "$work/against_core" "$work"/inputs/given/* "$work"/inputs/broken/*
+    compile in_pieces against_core.c $small "$source"/*.c "$core" &&
+        judges 'in small pieces' "$work/in_pieces" "$work"/inputs/given/* "$work"/inputs/broken/*
+    compile promptly promptly.c -L "$library" -lyaml -Wl,-rpath,"$library" && judges promptly "$work/promptly"
     compile undeclared undeclared.c -L "$library" -lyaml -Wl,-rpath,"$library" && judges undeclared "$work/undeclared"
     compile refuse refuse.c "$library/libyaml.a" $heap && judges refuse "$work/refuse"
+    compile refuse refuse.c $small "$source"/*.c "$core" $heap && judges 'refuse, in small pieces' "$work/refuse"
     if has_sanitizer; then
-        compile hostile hostile.c "$source"/*.c "$top/out/library/libyaml_c.a" -fsanitize=address,undefined -fno-sanitize-recover=all &&
+        compile hostile hostile.c $small "$source"/*.c "$core" -fsanitize=address,undefined -fno-sanitize-recover=all &&
             judges hostile "$work/hostile" "$work"/inputs/given/* "$work"/inputs/broken/*
     else
         say "$compiler has no AddressSanitizer here: broken texts aren't run under it"
@@ -121,6 +128,7 @@ c_client() {
         return
     fi
     compile theirs undeclared.c -lyaml && judges "undeclared, Debian's" "$work/theirs"
+    compile theirs promptly.c -lyaml && judges "promptly, Debian's" "$work/theirs"
     for section in events tokens documents plain canonical unicode wide utf16 dumped; do
         beside "$section" "$work/inputs/given" "$work/show" "$section"
     done

@@ -67,24 +67,32 @@ printf 'a: {b: c}   # why\nd: e\n' >some.yaml
 bash -c "$(recipe 1)" || wrong "the recipe of a diff ends with status $?"
 git add -A && git commit -qm first
 printf 'a:\n    b: c\nd: "e"\n' >some.yaml
-[[ $(git diff | grep -c '^[+-] ') == 2 ]] || wrong "a diff by content shows more than the quotes: $(git diff)"
+[[ $(git diff | grep -c '^[+-][^+-]') == 2 ]] || wrong "a diff by content shows more than the quotes: $(git diff)"
 printf 'a:\n    b: c\n\nd: e # not\n' >some.yaml
-[[ $(git diff | grep -c '^[+-] ') == 0 ]] || wrong "a diff by content shows styles: $(git diff)"
+[[ $(git diff | grep -c '^[+-][^+-]') == 0 ]] || wrong "a diff by content shows styles: $(git diff)"
 printf 'a: [\n' >some.yaml
 [[ $(git diff | grep -c '^+a: \[') == 1 ]] || wrong "a text that is refused isn't shown as it is: $(git diff)"
 say "a diff by content"
 
+printf '# why\na:\n    b: c\nd: e\n' >some.yaml
+bash -c "$(recipe 2)" || wrong "an edit of styles touches the content"
+printf 'a: {b: c}\nd: f\n' >some.yaml
 found=$(bash -c "$(recipe 2)")
+[ $? -eq 1 ] && [[ $found == "[0].d"*"some.yaml:2:4: a scalar"* ]] || wrong "an edit of a value is shown as $found"
+say "where an edit touches the content"
+
+printf 'a: [\n' >some.yaml
+found=$(bash -c "$(recipe 3)")
 [ $? -eq 1 ] && [ -z "$found" ] || wrong "a refused file has the key $found"
 for text in 'a: {b: c}' $'a:\n  b: c # d'; do
     printf '%s' "$text" >some.yaml
-    found=$(bash -c "$(recipe 2)") || wrong "the recipe of a key ends with status $?"
+    found=$(bash -c "$(recipe 3)") || wrong "the recipe of a key ends with status $?"
     [ "$found" = "${before:=$found}" ] || wrong "one content has the keys $before and $found"
 done
 [[ $before =~ ^[0-9a-f]{64} ]] || wrong "the key is $before"
 say "a key of a content"
 
-recipe 3 >.git/hooks/pre-commit && chmod +x .git/hooks/pre-commit
+recipe 4 >.git/hooks/pre-commit && chmod +x .git/hooks/pre-commit
 printf 'a: [\n' >wrong.yaml
 git add -A
 found=$(git commit -qm second 2>&1) && wrong "a file that doesn't load was committed"
@@ -99,9 +107,9 @@ say "a check before each commit"
 
 printf 'a: [b]' >old.yaml
 printf 'a:\n- b' >new.yaml
-bash -c "$(recipe 4)" || wrong "one content in two styles isn't told as equal"
+bash -c "$(recipe 5)" || wrong "one content in two styles isn't told as equal"
 printf 'a: [c]' >new.yaml
-bash -c "$(recipe 4)" && wrong "two contents are told as equal"
+bash -c "$(recipe 5)" && wrong "two contents are told as equal"
 say "whether a change kept the content"
 
 if [ -f "$top/out/library/libyaml_c.so" ]; then

@@ -1,24 +1,6 @@
-/* The emitter: the events of a document are kept as records until it ends, and are then laid out by the proved core, behind a
- * stand-in for what came before, whose text is cut off. Of the documents in front, a document's layout knows whether there is
- * one and whether the last one's end was implicit, so the stand-in is a document that is one plain scalar, ended in that way. */
+/* The emitter: events are kept as records, and laid out by the proved core: at the end of a document, at a flush, and within a
+ * document each time that enough are kept; then a stand-in replaces them (stand_in.c). */
 #include "layer.h"
-
-enum place { BEFORE_STREAM, BETWEEN_DOCUMENTS, IN_DOCUMENT, BEHIND_STREAM };
-
-typedef struct {
-    enum place place;
-    long depth;             /* of the collections that are open */
-    int has_kept;           /* a block scalar of the document ends in a line break, which may ask for `...` at the end */
-    int has_cut[2];         /* whether the stand-in's length is known, by how it ends */
-    size_t cuts[2];         /* that length */
-    yaml_c_settings cut_by; /* the settings that give it */
-    size_t cut;             /* the length in front of this document's text */
-    size_t written;         /* how much of the document's text the handler has taken */
-    layer_bytes events;
-    layer_bytes directives;
-    layer_bytes bytes;
-    char *problem;
-} writing;
 
 static int no_memory(yaml_emitter_t *emitter)
 {
@@ -30,7 +12,7 @@ YAML_DECLARE(int) yaml_emitter_initialize(yaml_emitter_t *emitter)
 {
     assert(emitter);
     memset(emitter, 0, sizeof *emitter);
-    writing *w = calloc(1, sizeof *w);
+    layer_writing *w = calloc(1, sizeof *w);
     if (!w)
         return no_memory(emitter);
     LAYER_SET_STATE(emitter, w);
@@ -40,8 +22,9 @@ YAML_DECLARE(int) yaml_emitter_initialize(yaml_emitter_t *emitter)
 YAML_DECLARE(void) yaml_emitter_delete(yaml_emitter_t *emitter)
 {
     assert(emitter);
-    writing *w = LAYER_STATE(writing, emitter);
+    layer_writing *w = LAYER_STATE(layer_writing, emitter);
     if (w) {
+        free(w->levels.at);
         free(w->events.at);
         free(w->directives.at);
         free(w->bytes.at);
@@ -66,26 +49,20 @@ static yaml_c_settings settings_of(const yaml_emitter_t *emitter)
     return settings;
 }
 
-static size_t events_len(const writing *w)
-{
-    return w->events.len / sizeof(yaml_c_event);
-}
-
-/* The text of what is kept. */
-static int32_t emit(const yaml_emitter_t *emitter, const writing *w, yaml_c_answer *answer)
+/* The text of that many of the events that are kept. */
+static int32_t emit(const layer_writing *w, size_t len, yaml_c_answer *answer)
 {
     static const yaml_c_event no_event;
     static const yaml_c_directive no_directive;
-    yaml_c_settings settings = settings_of(emitter);
-    const yaml_c_event *events = w->events.len ? (const void *)w->events.at : &no_event;
+    const yaml_c_event *events = len ? (const void *)w->events.at : &no_event;
     const yaml_c_directive *directives = w->directives.len ? (const void *)w->directives.at : &no_directive;
     yaml_c_answer_init(answer);
-    return yaml_c_emit(events, events_len(w), directives, w->directives.len / sizeof *directives,
-                       w->bytes.len ? w->bytes.at : YAML_C_NOTHING, w->bytes.len, &settings, answer);
+    return yaml_c_emit(events, len, directives, w->directives.len / sizeof *directives, w->bytes.len ? w->bytes.at : YAML_C_NOTHING,
+                       w->bytes.len, &w->settings, answer);
 }
 
 /* Tells a layout's fault, and frees the answer. */
-static int fault(yaml_emitter_t *emitter, writing *w, yaml_c_answer *answer)
+static int fault(yaml_emitter_t *emitter, layer_writing *w, yaml_c_answer *answer)
 {
     /* -1: an event with a number or a text that means nothing */
     emitter->error = answer->kind < 0 ? YAML_EMITTER_ERROR : (yaml_error_type_t)answer->kind;
@@ -101,12 +78,54 @@ static int fault(yaml_emitter_t *emitter, writing *w, yaml_c_answer *answer)
     return 0;
 }
 
+/* How long the stand-in's text is. */
+static int measure(yaml_emitter_t *emitter, layer_writing *w)
+{
+    yaml_c_answer answer;
+    if (emit(w, w->stand_in, &answer))
+        return fault(emitter, w, &answer);
+    w->cut = answer.text.len;
+    yaml_c_answer_free(&answer);
+    return 1;
+}
+
+/* Likewise of one that replaces documents, which is measured once. */
+static int measure_documents(yaml_emitter_t *emitter, layer_writing *w)
+{
+    int is_implicit = layer_event_at(w, w->stand_in - 1).implicit != 0;
+    if (memcmp(&w->settings, &w->cut_by, sizeof w->settings)) {
+        w->cut_by = w->settings;
+        w->has_cut[0] = w->has_cut[1] = 0;
+    }
+    if (!w->has_cut[is_implicit] && !measure(emitter, w))
+        return 0;
+    if (!w->has_cut[is_implicit])
+        w->cuts[is_implicit] = w->cut;
+    w->has_cut[is_implicit] = 1;
+    w->cut = w->cuts[is_implicit];
+    return 1;
+}
+
+/* The settings hold from the first layout on, until what was laid out is replaced. */
+static int settle_layout(yaml_emitter_t *emitter, layer_writing *w)
+{
+    w->is_settled = 1;
+    w->cut = 0;
+    w->settings = settings_of(emitter);
+    if (!w->stand_in)
+        return 1;
+    int is_documents = layer_event_at(w, w->stand_in - 1).kind == YAML_C_DOCUMENT_END_EVENT;
+    return is_documents ? measure_documents(emitter, w) : measure(emitter, w);
+}
+
 /* Lays out what is kept, and has written what isn't yet. */
-static int lay_out(yaml_emitter_t *emitter, writing *w)
+static int lay_out(yaml_emitter_t *emitter, layer_writing *w)
 {
     yaml_c_answer answer;
     int is_written = 1;
-    if (emit(emitter, w, &answer))
+    if (!w->is_settled && !settle_layout(emitter, w))
+        return 0;
+    if (emit(w, layer_events_len(w), &answer))
         return fault(emitter, w, &answer);
     size_t from = w->cut + w->written;
     if (answer.text.len > from) {
@@ -126,144 +145,109 @@ static int lay_out(yaml_emitter_t *emitter, writing *w)
 YAML_DECLARE(int) yaml_emitter_flush(yaml_emitter_t *emitter)
 {
     assert(emitter && emitter->write_handler && emitter->encoding);
-    return !emitter->error && lay_out(emitter, LAYER_STATE(writing, emitter));
+    return !emitter->error && lay_out(emitter, LAYER_STATE(layer_writing, emitter));
 }
 
-/* ---- records */
+/* ---- where the events lead */
 
-static int keep(writing *w, const yaml_c_event *record)
+static int is_break_byte(yaml_char_t byte)
 {
-    return layer_put(&w->events, record, sizeof *record);
+    return byte == '\n' || byte == '\r' || byte >= 0x80; /* or a break's last byte, if it isn't ASCII */
 }
 
-static int put(writing *w, yaml_c_span *span, const yaml_char_t *text, size_t len)
+/* Whether a scalar may be a block scalar that keeps its breaks: it ends in two, or is one. */
+static int is_kept(const yaml_event_t *event)
 {
-    span->at = w->bytes.len;
-    span->len = len;
-    return layer_put(&w->bytes, text, len);
+    const yaml_char_t *value = event->data.scalar.value;
+    size_t len = event->data.scalar.length;
+    int is_block = event->data.scalar.style == YAML_LITERAL_SCALAR_STYLE || event->data.scalar.style == YAML_FOLDED_SCALAR_STYLE;
+    return is_block && len && is_break_byte(value[len - 1])
+           && (len == 1 || value[len - 1] >= 0x80 || is_break_byte(value[len - 2]));
 }
 
-/* A text that may be missing. */
-static int put_if(writing *w, yaml_c_span *span, const yaml_char_t *text)
+/* A collection begins. A stand-in replaces none in flow style, and none in a key. */
+static int open_level(layer_writing *w, int is_mapping, int is_flow)
 {
-    return !text || put(w, span, text, strlen((const char *)text));
+    layer_level *around = layer_innermost(w);
+    int is_due = !around || (around->is_replaced && (!around->is_mapping || (around->is_value && around->key)));
+    layer_level level = {layer_events_len(w), 0, is_mapping, 0, is_flow, is_due && !is_flow};
+    w->is_line_next = 0;
+    return layer_put(&w->levels, &level, sizeof level);
 }
 
-static int put_properties(writing *w, yaml_c_event *record, const yaml_char_t *anchor, const yaml_char_t *tag)
+/* A node has come: that record, or a collection (0). */
+static void go_on(layer_writing *w, size_t number)
 {
-    record->has_anchor = anchor != NULL;
-    record->has_tag = tag != NULL;
-    return put_if(w, &record->anchor, anchor) && put_if(w, &record->tag, tag);
+    layer_level *around = layer_innermost(w);
+    if (!around || !around->is_mapping)
+        return;
+    if (!around->is_value)
+        around->key = number;
+    around->is_value = !around->is_value;
 }
 
-static int put_document_start(writing *w, yaml_c_event *record, const yaml_event_t *event)
+static void come(layer_writing *w)
 {
-    const yaml_version_directive_t *version = event->data.document_start.version_directive;
-    const yaml_tag_directive_t *it = event->data.document_start.tag_directives.start;
-    record->implicit = event->data.document_start.implicit;
-    if (version) {
-        record->has_version = 1;
-        record->major = version->major;
-        record->minor = version->minor;
-    }
-    record->directives.at = w->directives.len / sizeof(yaml_c_directive);
-    for (; it != event->data.document_start.tag_directives.end; it++) {
-        yaml_c_directive directive = {{0, 0}, {0, 0}};
-        if (!put_if(w, &directive.handle, it->handle) || !put_if(w, &directive.prefix, it->prefix)
-            || !layer_put(&w->directives, &directive, sizeof directive))
-            return 0;
-        record->directives.len++;
-    }
+    w->is_line_next = 1;
+    go_on(w, layer_events_len(w));
+}
+
+/* A collection ends. 0: none of that kind can end there. */
+static int close_level(layer_writing *w, int is_mapping)
+{
+    layer_level *level = layer_innermost(w);
+    if (!level || level->is_mapping != is_mapping || level->is_value)
+        return 0;
+    w->is_line_next = level->is_flow || level->start + 1 == layer_events_len(w); /* an empty one is flow */
+    w->levels.len -= sizeof *level;
+    go_on(w, 0);
     return 1;
 }
 
-static int put_scalar(writing *w, yaml_c_event *record, const yaml_event_t *event)
-{
-    record->implicit = event->data.scalar.plain_implicit;
-    record->quoted_implicit = event->data.scalar.quoted_implicit;
-    record->style = (int32_t)event->data.scalar.style;
-    return put_properties(w, record, event->data.scalar.anchor, event->data.scalar.tag)
-           && put(w, &record->value, event->data.scalar.value, event->data.scalar.length);
-}
+enum due { KEEP, LAY_OUT, NO_MEMORY };
 
-/* The event as a record. 0: memory was refused. */
-static int put_event(writing *w, yaml_c_event *record, const yaml_event_t *event)
+/* What is due with an event within a document. What can't stand there is laid out, which tells the fault. */
+static enum due due_in_document(layer_writing *w, const yaml_event_t *event)
 {
-    memset(record, 0, sizeof *record);
-    record->kind = (int32_t)event->type;
+    int is_flow;
     switch (event->type) {
-    case YAML_STREAM_START_EVENT: record->encoding = (int32_t)event->data.stream_start.encoding; return 1;
-    case YAML_DOCUMENT_START_EVENT: return put_document_start(w, record, event);
-    case YAML_DOCUMENT_END_EVENT: record->implicit = event->data.document_end.implicit; return 1;
-    case YAML_ALIAS_EVENT: return put_if(w, &record->anchor, event->data.alias.anchor);
-    case YAML_SCALAR_EVENT: return put_scalar(w, record, event);
+    case YAML_SCALAR_EVENT:
+        w->has_kept |= is_kept(event);
+        come(w);
+        return KEEP;
+    case YAML_ALIAS_EVENT: come(w); return KEEP;
     case YAML_SEQUENCE_START_EVENT:
-        record->implicit = event->data.sequence_start.implicit;
-        record->style = (int32_t)event->data.sequence_start.style;
-        return put_properties(w, record, event->data.sequence_start.anchor, event->data.sequence_start.tag);
+        is_flow = event->data.sequence_start.style == YAML_FLOW_SEQUENCE_STYLE;
+        return open_level(w, 0, is_flow) ? KEEP : NO_MEMORY;
     case YAML_MAPPING_START_EVENT:
-        record->implicit = event->data.mapping_start.implicit;
-        record->style = (int32_t)event->data.mapping_start.style;
-        return put_properties(w, record, event->data.mapping_start.anchor, event->data.mapping_start.tag);
-    default: return 1;
+        is_flow = event->data.mapping_start.style == YAML_FLOW_MAPPING_STYLE;
+        return open_level(w, 1, is_flow) ? KEEP : NO_MEMORY;
+    case YAML_SEQUENCE_END_EVENT: return close_level(w, 0) ? KEEP : LAY_OUT;
+    case YAML_MAPPING_END_EVENT: return close_level(w, 1) ? KEEP : LAY_OUT;
+    case YAML_DOCUMENT_END_EVENT: w->place = LAYER_BETWEEN_DOCUMENTS; return LAY_OUT;
+    default: return LAY_OUT;
     }
 }
 
-/* ---- the stand-in */
-
-static yaml_c_event last_event(const writing *w)
+/* Begins a document: what is kept of the last one is replaced. */
+static int begin_document(layer_writing *w)
 {
-    yaml_c_event event;
-    memcpy(&event, w->events.at + w->events.len - sizeof event, sizeof event);
-    return event;
+    w->place = LAYER_IN_DOCUMENT;
+    w->levels.len = 0;
+    w->has_kept = w->is_settled = w->is_line_next = 0;
+    return layer_events_len(w) == 1 || layer_replace_documents(w);
 }
 
-/* Keeps the stand-in alone, ended as the last document was. */
-static int keep_stand_in(writing *w, yaml_c_event end)
+/* Likewise between documents; at the stream's end there is text where there was no document, or one with a kept break. */
+static enum due due_between(layer_writing *w, const yaml_event_t *event)
 {
-    static const yaml_c_event document = {.kind = YAML_C_DOCUMENT_START_EVENT, .implicit = 1};
-    static const yaml_c_event scalar = {.kind = YAML_C_SCALAR_EVENT, .implicit = 1, .quoted_implicit = 1, .value = {0, 1}};
-    w->events.len = sizeof end; /* the stream's start */
-    w->directives.len = w->bytes.len = 0;
-    return layer_put(&w->bytes, "x", 1) && keep(w, &document) && keep(w, &scalar) && keep(w, &end);
+    if (event->type == YAML_DOCUMENT_START_EVENT)
+        return begin_document(w) ? KEEP : NO_MEMORY;
+    if (event->type != YAML_STREAM_END_EVENT)
+        return LAY_OUT;
+    w->place = LAYER_BEHIND_STREAM;
+    return w->has_kept || layer_events_len(w) == 1 ? LAY_OUT : KEEP;
 }
-
-/* How long the stand-in's text is. */
-static int measure_stand_in(yaml_emitter_t *emitter, writing *w, int is_implicit)
-{
-    yaml_c_settings settings = settings_of(emitter);
-    yaml_c_answer answer;
-    if (memcmp(&settings, &w->cut_by, sizeof settings)) {
-        w->cut_by = settings;
-        w->has_cut[0] = w->has_cut[1] = 0;
-    }
-    if (!w->has_cut[is_implicit]) {
-        if (emit(emitter, w, &answer))
-            return fault(emitter, w, &answer);
-        w->cuts[is_implicit] = answer.text.len;
-        w->has_cut[is_implicit] = 1;
-        yaml_c_answer_free(&answer);
-    }
-    w->cut = w->cuts[is_implicit];
-    return 1;
-}
-
-/* Begins a document: what is kept of the last one is exchanged for the stand-in. */
-static int begin_document(yaml_emitter_t *emitter, writing *w)
-{
-    w->place = IN_DOCUMENT;
-    w->depth = 0;
-    w->has_kept = 0;
-    if (events_len(w) == 1)
-        return 1;
-    yaml_c_event end = last_event(w);
-    w->written = 0;
-    if (!keep_stand_in(w, end))
-        return no_memory(emitter);
-    return measure_stand_in(emitter, w, end.implicit != 0);
-}
-
-/* ---- events */
 
 /* What libyaml settles in its structure as a stream begins, and some clients read. */
 static void settle(yaml_emitter_t *emitter, yaml_encoding_t encoding)
@@ -280,75 +264,60 @@ static void settle(yaml_emitter_t *emitter, yaml_encoding_t encoding)
         emitter->line_break = YAML_LN_BREAK;
 }
 
-static int is_kept(const yaml_event_t *event)
-{
-    const yaml_char_t *value = event->data.scalar.value;
-    size_t len = event->data.scalar.length;
-    int is_block = event->data.scalar.style == YAML_LITERAL_SCALAR_STYLE || event->data.scalar.style == YAML_FOLDED_SCALAR_STYLE;
-    /* LF, CR, or the last byte of NEL, LS and PS */
-    return is_block && len && (value[len - 1] == '\n' || value[len - 1] == '\r' || value[len - 1] >= 0x80);
-}
-
-/* Follows an event within a document. Whether what is kept is to be laid out with it: it ends the document, or can't stand
- * there, which the layout then tells. */
-static int ends_in_document(writing *w, const yaml_event_t *event)
-{
-    switch (event->type) {
-    case YAML_ALIAS_EVENT: return 0;
-    case YAML_SCALAR_EVENT: w->has_kept |= is_kept(event); return 0;
-    case YAML_SEQUENCE_START_EVENT:
-    case YAML_MAPPING_START_EVENT: w->depth++; return 0;
-    case YAML_SEQUENCE_END_EVENT:
-    case YAML_MAPPING_END_EVENT: return --w->depth < 0;
-    case YAML_DOCUMENT_END_EVENT: w->place = BETWEEN_DOCUMENTS; return 1;
-    default: return 1;
-    }
-}
-
-/* Likewise between documents; at the stream's end there is text where there was no document, or one with a kept break. */
-static int ends_between(writing *w, const yaml_event_t *event)
-{
-    if (event->type != YAML_STREAM_END_EVENT)
-        return 1;
-    w->place = BEHIND_STREAM;
-    return w->has_kept || events_len(w) == 1;
-}
-
-/* Whether what is kept is to be laid out with this event. */
-static int ends_with(yaml_emitter_t *emitter, writing *w, const yaml_event_t *event)
+static enum due due_with(yaml_emitter_t *emitter, layer_writing *w, const yaml_event_t *event)
 {
     switch (w->place) {
-    case BEFORE_STREAM:
+    case LAYER_BEFORE_STREAM:
         if (event->type != YAML_STREAM_START_EVENT)
-            return 1;
-        w->place = BETWEEN_DOCUMENTS;
+            return LAY_OUT;
+        w->place = LAYER_BETWEEN_DOCUMENTS;
         settle(emitter, event->data.stream_start.encoding);
-        return 0;
-    case BETWEEN_DOCUMENTS: return ends_between(w, event);
-    case IN_DOCUMENT: return ends_in_document(w, event);
-    default: return 1;
+        return KEEP;
+    case LAYER_BETWEEN_DOCUMENTS: return due_between(w, event);
+    case LAYER_IN_DOCUMENT: return due_in_document(w, event);
+    default: return LAY_OUT;
     }
 }
 
-static int take(yaml_emitter_t *emitter, writing *w, const yaml_event_t *event)
+/* ---- events */
+
+/* How many events are kept, or a 64th of the bytes of their texts, before they are laid out within a document; 0: none more than
+ * have to be. */
+#ifndef LAYER_PIECE
+#define LAYER_PIECE 1024
+#endif
+
+/* Whether enough is kept behind the stand-in, which is laid out again with it, and a stand-in can replace all. */
+static int is_enough(const yaml_emitter_t *emitter, const layer_writing *w)
+{
+    const layer_level *level = layer_innermost(w);
+    size_t len = layer_events_len(w);
+    if (LAYER_PIECE && len < LAYER_PIECE + 5 * w->stand_in && w->bytes.len < 64 * LAYER_PIECE + 5 * w->stand_in_bytes)
+        return 0;
+    /* behind the fourth event the start isn't held */
+    return level && level->is_replaced && !level->is_value && w->is_line_next && len >= level->start + 4 && !w->has_kept
+           && !emitter->canonical;
+}
+
+static int take(yaml_emitter_t *emitter, layer_writing *w, const yaml_event_t *event)
 {
     yaml_c_event record;
-    int is_end = 0;
-    if (w->place == BETWEEN_DOCUMENTS && event->type == YAML_DOCUMENT_START_EVENT) {
-        if (!begin_document(emitter, w))
-            return 0;
-    } else {
-        is_end = ends_with(emitter, w, event);
-    }
-    if (!put_event(w, &record, event) || !keep(w, &record))
+    enum due due = due_with(emitter, w, event);
+    if (due == NO_MEMORY || !layer_record(w, &record, event) || !layer_keep(w, &record))
         return no_memory(emitter);
-    return !is_end || lay_out(emitter, w);
+    if (event->type == YAML_DOCUMENT_START_EVENT)
+        w->head = w->bytes.len;
+    if (due == LAY_OUT)
+        return lay_out(emitter, w);
+    if (w->place != LAYER_IN_DOCUMENT || !is_enough(emitter, w))
+        return 1;
+    return lay_out(emitter, w) && (layer_replace_levels(w) || no_memory(emitter));
 }
 
 YAML_DECLARE(int) yaml_emitter_emit(yaml_emitter_t *emitter, yaml_event_t *event)
 {
     assert(emitter && event);
-    int is_taken = !emitter->error && take(emitter, LAYER_STATE(writing, emitter), event);
+    int is_taken = !emitter->error && take(emitter, LAYER_STATE(layer_writing, emitter), event);
     yaml_event_delete(event);
     return is_taken;
 }

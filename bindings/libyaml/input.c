@@ -48,45 +48,216 @@ YAML_DECLARE(void) yaml_parser_set_encoding(yaml_parser_t *parser, yaml_encoding
     parser->encoding = encoding;
 }
 
-static int not_read(yaml_parser_t *parser, size_t offset)
+/* ---- marks, which go forward but for a few characters, so that all of them are counted in one pass */
+
+static size_t characters_before(layer_reading *reading, uint64_t byte)
 {
-    parser->error = YAML_READER_ERROR;
-    parser->problem = "input error";
-    parser->problem_offset = offset;
-    parser->problem_value = -1;
-    return 0;
+    const uint8_t *text = reading->text;
+    if (reading->is_ascii)
+        return byte;
+    if (byte > reading->text_len)
+        byte = reading->text_len;
+    for (; reading->at_byte < byte; reading->at_byte++)
+        reading->at_char += (text[reading->at_byte] & 0xC0) != 0x80;
+    for (; reading->at_byte > byte; reading->at_byte--)
+        reading->at_char -= (text[reading->at_byte - 1] & 0xC0) != 0x80;
+    return reading->at_char;
 }
 
-/* All that a handler gives, until it gives nothing. */
-static int read_by_handler(yaml_parser_t *parser, layer_bytes *input)
+yaml_mark_t layer_mark(layer_reading *reading, yaml_c_mark mark)
+{
+    if (mark.index < reading->stand_in) /* of the stand-in its beginning is named alone */
+        return reading->root_mark;
+    yaml_mark_t found = {reading->chars_before + characters_before(reading, mark.index) - reading->stand_in,
+                         reading->lines_before + mark.line - (reading->within != LAYER_NO_ROOT), mark.column};
+    return found;
+}
+
+/* ---- windows */
+
+/* How much of an input that is there as a whole is looked at first. */
+#ifndef LAYER_WINDOW
+#define LAYER_WINDOW ((size_t)1 << 16)
+#endif
+
+/* Reads on by the handler. 0: the parser tells why. */
+static int read_piece(yaml_parser_t *parser, layer_reading *reading)
 {
     unsigned char piece[16384];
-    for (;;) {
-        size_t len = 0;
-        if (!parser->read_handler(parser->read_handler_data, piece, sizeof piece, &len))
-            return not_read(parser, input->len);
-        if (!len)
-            return 1;
-        if (!layer_put(input, piece, len))
-            return layer_no_memory(parser);
+    size_t len = 0;
+    if (!parser->read_handler(parser->read_handler_data, piece, sizeof piece, &len)) {
+        parser->error = YAML_READER_ERROR;
+        parser->problem = "input error";
+        parser->problem_offset = reading->bytes_before + reading->given;
+        parser->problem_value = -1;
+        return 0;
     }
+    parser->eof = !len;
+    if (!layer_put(&reading->input, piece, len))
+        return layer_no_memory(parser);
+    if (len)
+        reading->bytes = reading->input.at;
+    reading->given = reading->input.len;
+    return 1;
 }
 
-int layer_read_input(yaml_parser_t *parser, layer_reading *reading)
+/* Whether the input can be cut: it is known to be UTF-8. */
+static int may_be_cut(const yaml_parser_t *parser, const layer_reading *reading)
+{
+    if (reading->is_whole || parser->encoding > YAML_UTF8_ENCODING)
+        return 0;
+    return parser->encoding
+           || (reading->given >= 2 && memcmp(reading->bytes, "\xFF\xFE", 2) && memcmp(reading->bytes, "\xFE\xFF", 2));
+}
+
+static int has_utf8_mark(const layer_reading *reading)
+{
+    return reading->given >= 3 && !memcmp(reading->bytes, "\xEF\xBB\xBF", 3);
+}
+
+/* The window ends at a cut behind `from`, where one is found in that many bytes. */
+static int ends_at_cut(const yaml_parser_t *parser, layer_reading *reading, size_t from, size_t len)
+{
+    if (!may_be_cut(parser, reading))
+        return 0;
+    size_t cut = layer_last_cut(reading->bytes, len, from);
+    if (!cut && !reading->is_uncut && reading->asked == LAYER_EVENTS) {
+        size_t from_mark = !reading->bytes_before && has_utf8_mark(reading) ? 3 : 0;
+        reading->cut_in = reading->within ? reading->within : layer_root_of(reading->bytes + from_mark, len - from_mark);
+        cut = layer_last_item(reading->bytes, len, from, reading->cut_in);
+    }
+    if (cut)
+        reading->len = cut;
+    else
+        reading->cut_in = LAYER_NO_ROOT;
+    return cut != 0;
+}
+
+/* The window ends with the input. */
+static int take_all(yaml_parser_t *parser, layer_reading *reading)
+{
+    while (!parser->eof)
+        if (!read_piece(parser, reading))
+            return 0;
+    reading->len = reading->given;
+    reading->is_last = 1;
+    return 1;
+}
+
+/* `from`: where it was looked for a cut, but in the line that ends or begins there. */
+static int window_of_string(yaml_parser_t *parser, layer_reading *reading)
+{
+    for (size_t from = 0, to = LAYER_WINDOW; to < reading->given; from = to - 4, to *= 2)
+        if (ends_at_cut(parser, reading, from, to))
+            return 1;
+    return take_all(parser, reading);
+}
+
+/* A wrong byte comes first, as with libyaml, which decodes what it has read before it goes on. */
+static int window_by_handler(yaml_parser_t *parser, layer_reading *reading)
+{
+    for (size_t from = 0, checked = 0; !parser->eof;) {
+        reading->is_wrong = may_be_cut(parser, reading) && !layer_is_text(reading->bytes, reading->given, &checked);
+        if (reading->is_wrong) {
+            reading->len = reading->given;
+            return 1;
+        }
+        if (checked == reading->given) {
+            if (ends_at_cut(parser, reading, from, reading->given))
+                return 1;
+            from = checked > 4 ? checked - 4 : 0;
+        }
+        if (!read_piece(parser, reading))
+            return 0;
+    }
+    return take_all(parser, reading);
+}
+
+/* What is to be parsed: the window, within a root behind its stand-in. */
+static int join(yaml_parser_t *parser, layer_reading *reading)
+{
+    const char *stand_in = reading->within == LAYER_SEQUENCE ? "- x\n" : reading->within == LAYER_MAPPING ? "x: x\n" : "";
+    reading->read = reading->bytes;
+    reading->read_len = reading->len;
+    reading->stand_in = strlen(stand_in);
+    if (!reading->within)
+        return 1;
+    reading->joined.len = 0;
+    if (!layer_put(&reading->joined, stand_in, reading->stand_in) || !layer_put(&reading->joined, reading->bytes, reading->len))
+        return layer_no_memory(parser);
+    reading->read = reading->joined.at;
+    reading->read_len = reading->joined.len;
+    return 1;
+}
+
+static int find_window(yaml_parser_t *parser, layer_reading *reading)
+{
+    int is_found = parser->read_handler == read_string ? window_of_string(parser, reading) : window_by_handler(parser, reading);
+    return is_found && join(parser, reading);
+}
+
+int layer_widen(yaml_parser_t *parser, layer_reading *reading)
+{
+    if (!reading->cut_in)
+        return take_all(parser, reading) && join(parser, reading);
+    reading->cut_in = LAYER_NO_ROOT;
+    reading->is_uncut = 1;
+    return find_window(parser, reading);
+}
+
+/* Puts the window's bytes behind. */
+static void leave_window(layer_reading *reading)
+{
+    if (reading->cut_in && !reading->within)
+        reading->root_mark = layer_mark(reading, reading->root);
+    reading->bytes_before += reading->len;
+    reading->chars_before += characters_before(reading, reading->text_len) - reading->stand_in;
+    reading->lines_before += reading->lines - (reading->within != LAYER_NO_ROOT);
+    reading->at_byte = reading->at_char = 0;
+    reading->given -= reading->len;
+    if (!reading->input.len) {
+        reading->bytes += reading->len;
+    } else {
+        reading->input.len = reading->given;
+        memmove(reading->input.at, reading->input.at + reading->len, reading->given);
+    }
+    reading->len = 0;
+    reading->within = reading->cut_in;
+    reading->cut_in = LAYER_NO_ROOT;
+    reading->is_uncut &= reading->within != LAYER_NO_ROOT;
+}
+
+static void begin(yaml_parser_t *parser, layer_reading *reading)
 {
     assert(parser->read_handler);
-    if (parser->read_handler == read_string) {
-        reading->bytes = parser->input.string.current;
-        reading->len = (size_t)(parser->input.string.end - parser->input.string.current);
-        parser->input.string.current = parser->input.string.end;
-    } else {
-        if (!read_by_handler(parser, &reading->input))
-            return 0;
-        reading->bytes = reading->input.at ? reading->input.at : YAML_C_NOTHING;
-        reading->len = reading->input.len;
-    }
+    reading->bytes = YAML_C_NOTHING;
+    if (parser->read_handler != read_string)
+        return;
     parser->eof = 1;
-    return 1;
+    reading->bytes = parser->input.string.current;
+    reading->given = (size_t)(parser->input.string.end - parser->input.string.current);
+    parser->input.string.current = parser->input.string.end;
+}
+
+int layer_next_window(yaml_parser_t *parser, layer_reading *reading)
+{
+    if (!reading->bytes)
+        begin(parser, reading);
+    else
+        leave_window(reading);
+    return find_window(parser, reading);
+}
+
+int layer_is_doubtful(const layer_reading *reading)
+{
+    const yaml_c_answer *answer = &reading->answer;
+    int is_placed = answer->kind == YAML_C_SCANNER_ERROR || answer->kind == YAML_C_PARSER_ERROR;
+    if (reading->is_last)
+        return 0;
+    if (reading->is_wrong)
+        return answer->kind != YAML_C_READER_ERROR;
+    /* where a fault stands is where it was found, and what stands further on was looked at by then in no more than that */
+    return is_placed && answer->problem_mark.index + 8 > reading->read_len;
 }
 
 /* ---- the decoded text: the input behind its byte order mark, and of UTF-16 what the core decodes */
@@ -94,31 +265,26 @@ int layer_read_input(yaml_parser_t *parser, layer_reading *reading)
 /* The encoding that the core found, where it came so far. */
 static yaml_encoding_t encoding_of(const layer_reading *reading, yaml_encoding_t set)
 {
-    if (reading->left)
-        return (yaml_encoding_t)reading->events[reading->left - 1].encoding;
-    if (reading->tokens_len)
-        return (yaml_encoding_t)reading->scanned.tokens[0].encoding;
-    return set;
-}
-
-static int has_utf8_mark(const layer_reading *reading)
-{
-    return reading->len >= 3 && !memcmp(reading->bytes, "\xEF\xBB\xBF", 3);
+    if (reading->bytes_before)
+        return set;
+    if (!reading->end)
+        return set;
+    return (yaml_encoding_t)(reading->asked == LAYER_EVENTS ? reading->events[0].encoding : reading->scanned.tokens[0].encoding);
 }
 
 static int is_all_ascii(const uint8_t *text, size_t len)
 {
+    uint8_t all = 0;
     for (size_t i = 0; i < len; i++)
-        if (text[i] & 0x80)
-            return 0;
-    return 1;
+        all |= text[i];
+    return all < 0x80;
 }
 
 int layer_decode(yaml_parser_t *parser, layer_reading *reading)
 {
     yaml_encoding_t set = parser->encoding;
-    reading->text = reading->bytes;
-    reading->text_len = reading->len;
+    reading->text = reading->read;
+    reading->text_len = reading->read_len;
     parser->encoding = encoding_of(reading, set);
     if (parser->encoding == YAML_UTF16LE_ENCODING || parser->encoding == YAML_UTF16BE_ENCODING) {
         yaml_c_answer *decoded = &reading->decoded;
@@ -126,7 +292,7 @@ int layer_decode(yaml_parser_t *parser, layer_reading *reading)
             return layer_no_memory(parser);
         reading->text = decoded->text.at;
         reading->text_len = decoded->text.len;
-    } else if (!set && has_utf8_mark(reading)) {
+    } else if (!set && !reading->bytes_before && has_utf8_mark(reading)) {
         reading->text += 3;
         reading->text_len -= 3;
     }
@@ -154,6 +320,7 @@ YAML_DECLARE(int) yaml_parser_update_buffer(yaml_parser_t *parser, size_t length
     layer_reading *reading = LAYER_STATE(layer_reading, parser);
     if (parser->unread >= length)
         return 1;
+    reading->is_whole = 1;
     if (!layer_read(parser, reading))
         return 0;
     if (reading->answer.kind == YAML_C_READER_ERROR)

@@ -61,46 +61,129 @@ void *layer_grown(void *block, size_t len, size_t item, size_t *room);
 
 /* Whether the bytes are UTF-8, without surrogates. */
 int layer_is_utf8(const yaml_char_t *text, size_t len);
+/* Whether the bytes from `from` on are UTF-8 and what a text may have, as far as four bytes tell; `from` is then where that isn't
+ * known. */
+int layer_is_text(const yaml_char_t *text, size_t len, size_t *from);
 
 /* ---- the layer's own state, which hangs on a pointer that no client has a use for */
 
 #define LAYER_STATE(type, of) ((type *)(void *)(of)->raw_buffer.start)
 #define LAYER_SET_STATE(of, state) ((of)->raw_buffer.start = (unsigned char *)(void *)(state))
 
-/* What a parser has read. */
+/* The collection at column 0 that is a document's root, where the input may be cut within it; or none. */
+enum layer_root { LAYER_NO_ROOT, LAYER_SEQUENCE, LAYER_MAPPING };
+
+/* What was asked of a parser. */
+enum layer_asked { LAYER_NOTHING, LAYER_EVENTS, LAYER_TOKENS };
+
+/* What a parser has read. The input is read in windows: whole documents, up to a cut, or items of a root, or all that is left. */
 typedef struct {
-    layer_bytes input;     /* what a handler gave */
-    yaml_c_answer decoded; /* the text in UTF-8, where the input isn't */
-    const uint8_t *bytes;  /* the input, and its length */
+    layer_bytes input;     /* what a handler gave, from the window on */
+    yaml_c_answer decoded; /* the window in UTF-8, where the input isn't */
+    const uint8_t *bytes;  /* what there is of the input from the window on, how much, and how much of it is the window */
+    size_t given;
     size_t len;
-    const uint8_t *text; /* the decoded text behind its byte order mark, and its length */
+    const uint8_t *text; /* the window's text behind its byte order mark, and its length */
     size_t text_len;
     int is_ascii;
-    int is_read; /* its events or its tokens were asked for */
-    size_t at_byte; /* a place of the text, and the characters in front of it */
+    enum layer_root within;   /* the root in which the window begins */
+    enum layer_root cut_in;   /* and that in which it ends */
+    yaml_c_mark root;         /* where that begins, in its window, and in the input */
+    yaml_mark_t root_mark;
+    int is_uncut;             /* the document isn't cut, since its root is none of these */
+    layer_bytes joined;       /* a root's beginning, as a stand-in, and the window behind it */
+    const uint8_t *read;      /* what is parsed: that or the window, how much, and how much of it is the stand-in */
+    size_t read_len;
+    size_t stand_in;
+    int is_whole; /* the window is to be the whole input */
+    int is_last;  /* the window ends with the input */
+    int is_wrong; /* the window has a wrong byte, and ends with what was read by then */
+    size_t bytes_before; /* of the input in front of the window, and of its text the characters and the lines */
+    size_t chars_before;
+    size_t lines_before;
+    size_t lines; /* of the window, where it isn't the last */
+    size_t at_byte; /* a place of the window's text, and the window's characters in front of it */
     size_t at_char;
+    enum layer_asked asked;
     yaml_c_parsed parsed; /* without its events */
     yaml_c_answer answer;
-    yaml_c_event *events; /* those that are to come, the next one last */
-    size_t left;
-    size_t room; /* of how many there is memory */
+    yaml_c_event *events;
     yaml_c_scanned scanned;
-    size_t next; /* the token that comes next, of so many */
-    size_t tokens_len;
+    size_t next; /* the event or the token that comes next, and behind which none is to come */
+    size_t end;
+    int last; /* the kind of the event that was handed out last */
     char *problem;
     char *context;
 } layer_reading;
 
-/* Has the input read and its records made, at the first call. 0: the parser tells why. */
+/* Has events read until there is one, or none is left. 0: the parser tells why. */
 int layer_read(yaml_parser_t *parser, layer_reading *reading);
+/* Parsers give events or tokens, not both: whether this one gives these. 0: the parser tells so. */
+int layer_asks(yaml_parser_t *parser, layer_reading *reading, enum layer_asked asked);
 /* Tells the input's fault. Answers 0. */
 int layer_fault(yaml_parser_t *parser, layer_reading *reading);
 int layer_no_memory(yaml_parser_t *parser);
 yaml_mark_t layer_mark(layer_reading *reading, yaml_c_mark mark);
-/* Reads all that the handler gives. 0: the parser tells why. */
-int layer_read_input(yaml_parser_t *parser, layer_reading *reading);
-/* Finds the encoding and the decoded text. 0: memory was refused. */
+/* Goes on to the next window. 0: the parser tells why. */
+int layer_next_window(yaml_parser_t *parser, layer_reading *reading);
+/* Has the window end further on: with its document, where it ends within one, or with the input. 0: the parser tells why. */
+int layer_widen(yaml_parser_t *parser, layer_reading *reading);
+/* Whether the input may go on in another way than the window tells: it ends at a cut, and its fault may be due to that. */
+int layer_is_doubtful(const layer_reading *reading);
+/* Finds the encoding and the window's text. 0: memory was refused. */
 int layer_decode(yaml_parser_t *parser, layer_reading *reading);
+/* The last place behind `from` at which an input of that length can be cut; 0: none is known by now. */
+size_t layer_last_cut(const uint8_t *text, size_t len, size_t from);
+/* The root with which a document may begin there. */
+enum layer_root layer_root_of(const uint8_t *text, size_t len);
+/* The last place behind `from` where an item of the root begins; 0: none is known by now. */
+size_t layer_last_item(const uint8_t *text, size_t len, size_t from, enum layer_root root);
+
+/* A collection that is open in what an emitter keeps: a level of the layout. */
+typedef struct {
+    size_t start;    /* the number of its start's record */
+    size_t key;      /* of a mapping: that of the key whose value is due or open */
+    int is_mapping;
+    int is_value;    /* a value is due or open */
+    int is_flow;
+    int is_replaced; /* a stand-in can replace what was laid out of it: see stand_in.c */
+} layer_level;
+
+enum layer_place { LAYER_BEFORE_STREAM, LAYER_BETWEEN_DOCUMENTS, LAYER_IN_DOCUMENT, LAYER_BEHIND_STREAM };
+
+/* What an emitter keeps: the records of a stand-in for what was written, and of the events behind it. */
+typedef struct {
+    enum layer_place place;
+    layer_bytes levels;     /* layer_level, the outermost first */
+    int has_kept;           /* a block scalar of the document may keep its breaks, which may ask for `...` at the end */
+    int is_line_next;       /* the last event is a scalar, an alias or the end of a flow collection */
+    int is_settled;         /* the settings of this document, and its stand-in's length, are known: it was laid out */
+    yaml_c_settings settings;
+    size_t stand_in;        /* how many records are the stand-in's, of how many bytes, and the length of its text */
+    size_t stand_in_bytes;
+    size_t cut;
+    size_t written;         /* how much of the text behind it the handler has taken */
+    int has_cut[2];         /* whether a stand-in's length is known that replaces documents, by how it ends */
+    size_t cuts[2];         /* that length */
+    yaml_c_settings cut_by; /* the settings that give it */
+    size_t head;            /* up to where the bytes belong to the stand-in for documents and to the document's start */
+    layer_bytes events;
+    layer_bytes directives;
+    layer_bytes bytes;
+    char *problem;
+} layer_writing;
+
+/* The event as a record. 0: memory was refused. */
+int layer_record(layer_writing *w, yaml_c_event *record, const yaml_event_t *event);
+size_t layer_events_len(const layer_writing *w);
+yaml_c_event layer_event_at(const layer_writing *w, size_t number);
+int layer_keep(layer_writing *w, const yaml_c_event *record);
+/* The collection that was opened last; NULL: none is open. */
+layer_level *layer_innermost(const layer_writing *w);
+/* Replace what is kept by a stand-in: all documents, in front of one that begins, or all that was laid out of one. 0: memory was
+ * refused. */
+int layer_replace_documents(layer_writing *w);
+int layer_replace_levels(layer_writing *w);
 
 /* Adds a node, whose tag and value are the document's then. Its number; 0: memory was refused, and both are freed. */
 int layer_add_node(yaml_document_t *document, const yaml_node_t *node);

@@ -88,23 +88,45 @@ static size_t width_of(unsigned byte)
     return byte >= 0xF0 && byte < 0xF5 ? 4 : 0;
 }
 
+/* The character that begins there, of that width, or 0xFFFFFFFF: what stands there is none. */
+static unsigned character(const yaml_char_t *text, size_t width)
+{
+    unsigned value = width == 1 ? text[0] : text[0] & (0xFFu >> (width + 1));
+    for (size_t k = 1; k < width; k++) {
+        if ((text[k] & 0xC0) != 0x80)
+            return UINT32_MAX;
+        value = value << 6 | (text[k] & 0x3Fu);
+    }
+    int is_wrong = (width == 3 && (value < 0x800 || (value >= 0xD800 && value < 0xE000)))
+                   || (width == 4 && (value < 0x10000 || value > 0x10FFFF));
+    return is_wrong ? UINT32_MAX : value;
+}
+
 int layer_is_utf8(const yaml_char_t *text, size_t len)
 {
     for (size_t i = 0; i < len;) {
         size_t width = width_of(text[i]);
-        if (!width || width > len - i)
-            return 0;
-        unsigned value = width == 1 ? text[i] : text[i] & (0xFFu >> (width + 1));
-        for (size_t k = 1; k < width; k++) {
-            if ((text[i + k] & 0xC0) != 0x80)
-                return 0;
-            value = value << 6 | (text[i + k] & 0x3Fu);
-        }
-        if (width == 3 && (value < 0x800 || (value >= 0xD800 && value < 0xE000)))
-            return 0;
-        if (width == 4 && (value < 0x10000 || value > 0x10FFFF))
+        if (!width || width > len - i || character(text + i, width) == UINT32_MAX)
             return 0;
         i += width;
+    }
+    return 1;
+}
+
+/* Whether a text may have the character. */
+static int is_of_text(unsigned value)
+{
+    return (value >= 0x20 && value < 0x7F) || value == '\t' || value == '\n' || value == '\r' || value == 0x85
+           || (value >= 0xA0 && value < 0xFFFE) || (value >= 0x10000 && value <= 0x10FFFF);
+}
+
+int layer_is_text(const yaml_char_t *text, size_t len, size_t *from)
+{
+    while (*from < len) {
+        size_t width = width_of(text[*from]);
+        if (!width || width > len - *from || !is_of_text(character(text + *from, width)))
+            return len - *from < 4;
+        *from += width;
     }
     return 1;
 }

@@ -1,4 +1,4 @@
-/* The parser: the whole input is read at the first call, and made into records by the proved core; each call then hands out one
+/* The parser: the input is read in windows of whole documents, each made into records by the proved core; each call hands out one
  * event, and behind those in front of a fault the fault. */
 #include "layer.h"
 
@@ -34,6 +34,7 @@ YAML_DECLARE(void) yaml_parser_delete(yaml_parser_t *parser)
         yaml_c_answer_free(&reading->decoded);
         free(reading->events);
         free(reading->input.at);
+        free(reading->joined.at);
         free(reading->problem);
         free(reading->context);
         free(reading);
@@ -44,84 +45,116 @@ YAML_DECLARE(void) yaml_parser_delete(yaml_parser_t *parser)
 
 /* ---- records */
 
-/* Takes the events out of what was parsed, the first one last, so that the memory of those that are done can be given back. */
+/* The root of the last document; NULL: there is none. */
+static const yaml_c_event *last_root(const yaml_c_parsed *parsed)
+{
+    size_t at = parsed->events_len;
+    while (at > 0 && parsed->events[at - 1].kind != YAML_C_DOCUMENT_START_EVENT)
+        at--;
+    return at > 0 && at < parsed->events_len ? &parsed->events[at] : NULL;
+}
+
+/* Whether the events end with those of a root in which the input can be cut: of a block collection at column 0, that and its
+ * document have nothing that a stand-in hasn't. */
+static int ends_in_root(const layer_reading *reading)
+{
+    const yaml_c_event *root = last_root(&reading->parsed), *end = reading->parsed.events + reading->parsed.events_len;
+    int kind = reading->cut_in == LAYER_SEQUENCE ? YAML_C_SEQUENCE_START_EVENT : YAML_C_MAPPING_START_EVENT;
+    return root && end - root >= 4 && root->kind == kind && root->style == YAML_C_BLOCK_STYLE && root->start.column == 0
+           && !root->has_anchor && !root->has_tag && !root[-1].has_version && !root[-1].directives.len && end[-3].kind == kind + 1
+           && end[-2].implicit;
+}
+
+/* Takes the events out of what was parsed. A stand-in's are left out, and the ends of what goes on in the next window. */
 static void take_events(layer_reading *reading)
 {
     yaml_c_parsed *parsed = &reading->parsed;
     size_t len = parsed->events_len;
+    reading->next = reading->within ? 3 + reading->within : reading->bytes_before != 0;
+    reading->end = len;
     if (!len)
         return;
-    yaml_c_event *events = (yaml_c_event *)parsed->events;
-    parsed->events_len = 0;
-    for (size_t i = 0; i < len / 2; i++) {
-        yaml_c_event other = events[i];
-        events[i] = events[len - 1 - i];
-        events[len - 1 - i] = other;
+    if (!reading->is_last) {
+        reading->lines = parsed->events[len - 1].start.line;
+        reading->end -= reading->cut_in ? 3 : 1;
+        if (reading->cut_in)
+            reading->root = last_root(parsed)->start;
     }
-    reading->events = events;
-    reading->left = reading->room = len;
+    reading->events = (yaml_c_event *)parsed->events;
+    parsed->events_len = 0;
 }
 
 /* Gives memory back each time that half of the events are done. A refusal changes nothing. */
 static void give_back(layer_reading *reading)
 {
-    if (reading->left < 1024 || reading->left > reading->room / 2)
+    size_t left = reading->end - reading->next;
+    if (left < 1024 || reading->next < left)
         return;
-    yaml_c_event *less = realloc(reading->events, reading->left * sizeof *less);
-    if (less) {
+    memmove(reading->events, reading->events + reading->next, left * sizeof *reading->events);
+    reading->next = 0;
+    reading->end = left;
+    yaml_c_event *less = realloc(reading->events, left * sizeof *less);
+    if (less)
         reading->events = less;
-        reading->room = reading->left;
-    }
 }
 
-int layer_read(yaml_parser_t *parser, layer_reading *reading)
+static void parse(const yaml_parser_t *parser, layer_reading *reading)
 {
-    if (reading->is_read)
-        return 1;
-    if (!layer_read_input(parser, reading))
+    yaml_c_front(reading->read, reading->read_len, parser->encoding, &reading->parsed, &reading->answer);
+}
+
+static int is_doubtful(const layer_reading *reading)
+{
+    return layer_is_doubtful(reading) || (!reading->answer.kind && reading->cut_in && !ends_in_root(reading));
+}
+
+/* Reads the events of the next window, and where they may not be the input's, those of more. */
+static int read_events(yaml_parser_t *parser, layer_reading *reading)
+{
+    free(reading->events);
+    reading->events = NULL;
+    reading->next = reading->end = 0;
+    yaml_c_parsed_free(&reading->parsed);
+    if (!layer_next_window(parser, reading))
         return 0;
-    reading->is_read = 1;
-    yaml_c_front(reading->bytes, reading->len, parser->encoding, &reading->parsed, &reading->answer);
+    parse(parser, reading);
+    while (is_doubtful(reading)) {
+        yaml_c_parsed_free(&reading->parsed);
+        yaml_c_answer_free(&reading->answer);
+        if (!layer_widen(parser, reading))
+            return 0;
+        parse(parser, reading);
+    }
+    reading->is_last |= reading->answer.kind != YAML_C_ANSWERED;
     if (reading->answer.kind != YAML_C_MEMORY_ERROR)
         take_events(reading);
     return layer_decode(parser, reading);
 }
 
-/* ---- marks, which go forward but for a few characters, so that all of them are counted in one pass */
-
-static size_t characters_before(layer_reading *reading, uint64_t byte)
+int layer_asks(yaml_parser_t *parser, layer_reading *reading, enum layer_asked asked)
 {
-    const uint8_t *text = reading->text;
-    if (reading->is_ascii)
-        return byte;
-    if (byte > reading->text_len)
-        byte = reading->text_len;
-    for (; reading->at_byte < byte; reading->at_byte++)
-        reading->at_char += (text[reading->at_byte] & 0xC0) != 0x80;
-    for (; reading->at_byte > byte; reading->at_byte--)
-        reading->at_char -= (text[reading->at_byte - 1] & 0xC0) != 0x80;
-    return reading->at_char;
-}
-
-yaml_mark_t layer_mark(layer_reading *reading, yaml_c_mark mark)
-{
-    yaml_mark_t found = {characters_before(reading, mark.index), mark.line, mark.column};
-    return found;
-}
-
-/* Of what was read as tokens there are no events, and of what was read as events no tokens. */
-static int mixed(yaml_parser_t *parser)
-{
+    if (!reading->asked)
+        reading->asked = asked;
+    if (reading->asked == asked)
+        return 1;
     parser->error = YAML_PARSER_ERROR;
     parser->problem = "a parser gives events or tokens, not both";
     return 0;
 }
 
+int layer_read(yaml_parser_t *parser, layer_reading *reading)
+{
+    if (!layer_asks(parser, reading, LAYER_EVENTS))
+        return 0;
+    while (reading->next >= reading->end && !reading->is_last)
+        if (!read_events(parser, reading))
+            return 0;
+    return 1;
+}
+
 int layer_fault(yaml_parser_t *parser, layer_reading *reading)
 {
     const yaml_c_answer *answer = &reading->answer;
-    if (answer->kind == YAML_C_ANSWERED)
-        return mixed(parser);
     if (answer->kind == YAML_C_MEMORY_ERROR)
         return layer_no_memory(parser);
     /* an encoding that is none: */
@@ -133,11 +166,13 @@ int layer_fault(yaml_parser_t *parser, layer_reading *reading)
         return layer_no_memory(parser);
     parser->problem = reading->problem;
     parser->context = reading->context;
-    parser->problem_offset = answer->offset;
+    parser->problem_offset = answer->kind == YAML_C_READER_ERROR ? reading->bytes_before - reading->stand_in + answer->offset : 0;
     parser->problem_value = answer->value;
     if (parser->error != YAML_READER_ERROR) {
         parser->problem_mark = layer_mark(reading, answer->problem_mark);
-        parser->context_mark = layer_mark(reading, answer->context_mark);
+        /* a scanner's fault has that mark without a context too */
+        if (answer->context.len || answer->kind == YAML_C_SCANNER_ERROR)
+            parser->context_mark = layer_mark(reading, answer->context_mark);
         parser->mark = parser->problem_mark;
     }
     return 0;
@@ -271,6 +306,14 @@ static int made(const layer_reading *reading, const yaml_c_event *it, yaml_event
     }
 }
 
+/* Whether a document begins in front of the fault, which the core doesn't tell: where the fault is the stream's first token. */
+static int misses_start(const layer_reading *reading)
+{
+    static const char problem[] = "did not find expected node content";
+    const yaml_c_bytes *told = &reading->answer.problem;
+    return reading->last == YAML_C_STREAM_START_EVENT && told->len == sizeof problem - 1 && !memcmp(told->at, problem, told->len);
+}
+
 YAML_DECLARE(int) yaml_parser_parse(yaml_parser_t *parser, yaml_event_t *event)
 {
     assert(parser && event);
@@ -280,9 +323,12 @@ YAML_DECLARE(int) yaml_parser_parse(yaml_parser_t *parser, yaml_event_t *event)
         return 1;
     if (!layer_read(parser, reading))
         return 0;
-    if (!reading->left)
+    yaml_c_event start = {.kind = YAML_C_DOCUMENT_START_EVENT, .implicit = 1};
+    start.start = start.end = reading->answer.problem_mark;
+    int is_read = reading->next < reading->end;
+    if (!is_read && !misses_start(reading))
         return layer_fault(parser, reading);
-    const yaml_c_event *it = &reading->events[reading->left - 1];
+    const yaml_c_event *it = is_read ? &reading->events[reading->next] : &start;
     event->type = (yaml_event_type_t)it->kind;
     if (!made(reading, it, event)) {
         yaml_event_delete(event);
@@ -293,7 +339,10 @@ YAML_DECLARE(int) yaml_parser_parse(yaml_parser_t *parser, yaml_event_t *event)
     parser->mark = event->end_mark;
     parser->stream_start_produced = 1;
     parser->stream_end_produced = it->kind == YAML_C_STREAM_END_EVENT;
-    reading->left--;
-    give_back(reading);
+    reading->last = it->kind;
+    if (is_read) {
+        reading->next++;
+        give_back(reading);
+    }
     return 1;
 }

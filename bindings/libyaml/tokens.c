@@ -1,17 +1,52 @@
-/* Tokens: the whole input is scanned at the first call, as it is parsed for events; each call then hands out one token, and
- * behind those in front of a fault the fault. */
+/* Tokens: the input is scanned in windows, as it is parsed for events; each call hands out one token, and behind those in front of
+ * a fault the fault. */
 #include "layer.h"
 
-static int scan(yaml_parser_t *parser, layer_reading *reading)
+static void scan(const yaml_parser_t *parser, layer_reading *reading)
 {
-    if (reading->is_read)
-        return 1;
-    if (!layer_read_input(parser, reading))
+    yaml_c_scan(reading->read, reading->read_len, parser->encoding, &reading->scanned, &reading->answer);
+}
+
+/* Whether the window leaves brackets open: a cut is none there. */
+static int is_open(const layer_reading *reading)
+{
+    size_t open = 0;
+    for (size_t i = 0; i < reading->scanned.tokens_len; i++) {
+        int kind = reading->scanned.tokens[i].kind;
+        open += kind == YAML_C_FLOW_SEQUENCE_START_TOKEN || kind == YAML_C_FLOW_MAPPING_START_TOKEN;
+        open -= open && (kind == YAML_C_FLOW_SEQUENCE_END_TOKEN || kind == YAML_C_FLOW_MAPPING_END_TOKEN);
+    }
+    return open != 0;
+}
+
+/* The stream has one start and one end: those of other windows aren't the stream's. */
+static void take_tokens(layer_reading *reading)
+{
+    size_t len = reading->scanned.tokens_len;
+    reading->next = reading->bytes_before != 0;
+    reading->end = len;
+    if (!reading->is_last && len)
+        reading->lines = reading->scanned.tokens[--reading->end].start.line;
+}
+
+/* Reads the tokens of the next window, and where it may not tell what the input does, those of all that is left. */
+static int read_tokens(yaml_parser_t *parser, layer_reading *reading)
+{
+    yaml_c_scanned_free(&reading->scanned);
+    reading->next = reading->end = 0;
+    if (!layer_next_window(parser, reading))
         return 0;
-    reading->is_read = 1;
-    yaml_c_scan(reading->bytes, reading->len, parser->encoding, &reading->scanned, &reading->answer);
+    scan(parser, reading);
+    if (layer_is_doubtful(reading) || (!reading->is_last && !reading->answer.kind && is_open(reading))) {
+        yaml_c_scanned_free(&reading->scanned);
+        yaml_c_answer_free(&reading->answer);
+        if (!layer_widen(parser, reading))
+            return 0;
+        scan(parser, reading);
+    }
+    reading->is_last |= reading->answer.kind != YAML_C_ANSWERED;
     if (reading->answer.kind != YAML_C_MEMORY_ERROR)
-        reading->tokens_len = reading->scanned.tokens_len;
+        take_tokens(reading);
     return layer_decode(parser, reading);
 }
 
@@ -51,7 +86,12 @@ YAML_DECLARE(int) yaml_parser_fetch_more_tokens(yaml_parser_t *parser)
     layer_reading *reading = LAYER_STATE(layer_reading, parser);
     if (parser->stream_end_produced)
         return 1;
-    return scan(parser, reading) && (reading->next < reading->tokens_len || layer_fault(parser, reading));
+    if (!layer_asks(parser, reading, LAYER_TOKENS))
+        return 0;
+    while (reading->next >= reading->end && !reading->is_last)
+        if (!read_tokens(parser, reading))
+            return 0;
+    return reading->next < reading->end || layer_fault(parser, reading);
 }
 
 YAML_DECLARE(int) yaml_parser_scan(yaml_parser_t *parser, yaml_token_t *token)

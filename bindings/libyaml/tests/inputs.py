@@ -1,7 +1,7 @@
 #!/usr/bin/env python3
 """Writes the texts that the tests of bindings/libyaml run over: those of the vectors, and broken ones made of them.
 
-    inputs.py FOLDER     FOLDER/given/SUM, and two broken ones of each, FOLDER/broken/SUM
+    inputs.py FOLDER     FOLDER/given/SUM, with those of CUT, and two broken ones of each, FOLDER/broken/SUM
 
 A file is named by the first twelve digits of its text's SHA-256, and what is broken depends on the text alone, so that a list of
 files outlives new vectors.
@@ -17,6 +17,19 @@ VECTORS = f"{TOP}/crates/yaml_cli_vectors/stdin"
 LONGEST = 4096
 PIECES = [b"\n", b" ", b"\t", b"- ", b": ", b"? ", b"[", b"]", b"{", b"}", b",", b"&a ", b"*a", b"!t ", b"|\n", b">\n", b"'", b'"', b"#",
           b"%YAML 1.1\n", b"---\n", b"...\n", b"\xc3\xa9", b"\xff", b"\x00", b"\xef\xbb\xbf", b"\xff\xfe", b"\\x", b"\r\n", b"\xe2\x80\xa8"]
+# Texts with places where an input, or what is emitted of its events, is cut or mustn't be.
+CUT = [
+    b"a: b\n--- c\n---\n- d\n--- |\n e\n---\tf\n---\r\ng\n", b"%YAML 1.1\n--- a\n...\n# c\n%YAML 1.1\n\n--- b\n",
+    b"... a\n%b\n\n---\nc\n", b"a\n%b\n--- c\n", b"'a\n--- b\n'\n--- c\n", b"[a\n--- b\n---\nc: d\n", b"--- a\n... \n%TAG !a! b\n---\n!a!c d\n",
+    b"- |+\n  a\n\n- b\n- c\n", b"- a\n- b\n- >+\n  a\n\n- b\n- c\n- d\n", b"x: |+\n  a\n\nb: c\nd: e\nf: g\n",
+    b"? - a\n  - b\n  - c\n  - d\n: e\n? f: g\n  h: i\n  j: k\n: - l\n  - m\n  - n\n  - o\no: p\n",
+    b"? ? - a\n    - b\n    - c\n    - d\n  : e\n: f\ng: h\ni: j\n", b"- - - a\n    - b\n    - c\n  - d\n  - e\n- ? k\n  : - v\n    - w\n    - x\n",
+    b"a: b\nk:\n- m\n- n\nc: d\n  e\nf: |\n  g\n\nh: 'i\nj: k'\nl: [m,\nn: o]\np: q: r\n", b"a: b\n...\nc: d\n", b" a: b\nc: d\n",
+    b"- a\n- b\n- - c\n  - d\n- |\n e\n\n- k: v\n- 'f\n- g'\n- h\n i\n]\n", b"--- !t\na: b\nc: d\n", b"- a\n- b\n- c\nd: e\n",
+    b"? a\n: b\nc: d\n? e\nf: g\nh\ni: j\n", b"%TAG !a! b\n---\n- !a!c d\n- !a!e f\n", b"a: b\r\nc: d\r\ne:\r\n- f\r\ng: h\ri: j\n",
+    b"# c\n---\na: \xc3\xa9\nb: ! c\n\xc3\xa9: d\ne: &f g\nh: *f\ni: \"\\q\"\n", b"a: b\nc: d\n--- e\n---\n- f\n- g\n",
+    b"a:\n- b\n- &c\n  - d\n  - e\n- {f: g, h: [i]}\n- []\n- |\n  j\n- k: >-\n    l\n  m: n\no: p\n",
+]
 
 
 def given():
@@ -65,6 +78,7 @@ def two_broken(text):
 def main(words):
     folder, = words
     texts = given()
+    texts += CUT
     write(f"{folder}/given", texts)
     write(f"{folder}/broken", (it for text in texts for it in two_broken(text)))
 

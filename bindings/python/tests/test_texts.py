@@ -70,6 +70,40 @@ class Reformat(unittest.TestCase):
         self.assertTrue(yaml_c.same(MANY, yaml_c.reformat(MANY, PRETTY)))
 
 
+class Normalize(unittest.TestCase):
+    def test_one_text_for_a_content(self) -> None:
+        wanted = b"a:\n- 1\n- 'two'\nb: |\n  x\n  y\nc: ''\n"
+        for text in (b"{a: [1, 'two'], b: \"x\\ny\\n\", c: ''}", b"a:\n  - 1\n  - \"two\" # why\nb: |\n    x\n    y\nc: \"\"", wanted):
+            self.assertEqual(yaml_c.normalize(text), wanted)
+        self.assertNotEqual(yaml_c.normalize(b"a: 1"), yaml_c.normalize(b"a: '1'"))
+        self.assertEqual(yaml_c.normalize(""), b"")
+        # its plain text would be nothing at all
+        self.assertTrue(yaml_c.same(yaml_c.normalize("!"), "!"))
+
+    def test_settings(self) -> None:
+        self.assertEqual(yaml_c.normalize("{a: {b: c}}", Settings(indent=4, canonical=True)), b"a:\n    b: c\n")
+        self.assertEqual(yaml_c.normalize("{a: {b: c}}", Settings(indent=4, canonical=False)), b"a:\n    b: c\n")
+        self.assertEqual(yaml_c.normalize("\u00e9", Settings(unicode=False)), b'! "\\xE9"\n')
+        self.assertEqual(yaml_c.normalize("a: b", Settings(line_break=LineBreak.CRLF)), b"a: b\r\n")
+        self.assertEqual(yaml_c.normalize(b"a\0", Settings(encoding=Encoding.UTF16BE), encoding=Encoding.UTF16LE), b"\xfe\xff\0a\0\n")
+        self.assertEqual(yaml_c.normalize("foo", Settings(limit=4)), b"foo\n")
+
+    def test_faults(self) -> None:
+        for text, kind in ((b"a: \xff", yaml_c.ReaderFault), (b"a: 'b", yaml_c.ScannerFault), (b"a: [b", yaml_c.ParserFault)):
+            with self.assertRaises(kind):
+                yaml_c.normalize(text, Settings(limit=0))
+        with self.assertRaises(yaml_c.WriterFault):
+            yaml_c.normalize("foo", Settings(limit=3))
+        with self.assertRaises(yaml_c.ArgumentRefused):
+            yaml_c.normalize("a", encoding=Encoding.UTF16LE)
+
+    def test_many(self) -> None:
+        normal = yaml_c.normalize(MANY)
+        self.assertTrue(yaml_c.same(MANY, normal))
+        self.assertEqual(yaml_c.normalize(normal), normal)
+        self.assertEqual(yaml_c.normalize(yaml_c.reformat(MANY)), normal)
+
+
 class Others(unittest.TestCase):
     def test_reload(self) -> None:
         wanted = b'---\n!!seq [\n  &id001 !!str "b",\n  *id001,\n]\n'

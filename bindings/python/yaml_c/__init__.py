@@ -5,6 +5,8 @@
     b"key: [1, 'two']\\n"
     >>> yaml_c.same(b"{a: b}", b"a: b")
     True
+    >>> yaml_c.normalize(b"{a: [1, 'two']}")
+    b"a:\\n- 1\\n- 'two'\\n"
     >>> yaml_c.load("name: mill\\nports: [80, 443]")
     {'name': 'mill', 'ports': ['80', '443']}
     >>> yaml_c.dump({"name": "mill", "ports": ["80", "443"]})
@@ -77,7 +79,7 @@ __all__ = [
     "MappingStart", "Mark", "MemoryFault", "Node", "ParserFault", "ReaderFault", "Scalar", "ScalarNode", "ScalarStyle",
     "ScannerFault", "SequenceEnd", "SequenceNode", "SequenceStart", "Settings", "StreamEnd", "StreamStart", "Style", "Text",
     "WriterFault", "YamlFault", "check", "compose", "compose_all", "dump", "dump_all", "emit", "events", "load", "load_all",
-    "parse", "reformat", "reformat_with_form", "reload", "same",
+    "normalize", "parse", "reformat", "reformat_with_form", "reload", "same",
 ]  # fmt: skip
 
 #: The version of the package, and of the repository that it stands in.
@@ -104,6 +106,18 @@ def reformat(text: Text, settings: Settings = _USUAL, *, encoding: Encoding = En
     b'---\\n[\\n  ! "a",\\n  "b",\\n]\\n'
     """
     return reformat_with_form(text, settings, encoding=encoding)[0]
+
+
+def normalize(text: Text, settings: Settings = _USUAL, *, encoding: Encoding = Encoding.ANY) -> bytes:
+    """The text in the normal form that people read: in blocks, with styles that its content alone decides, so that under equal
+    settings two texts have equal normal forms exactly if they have the same content. `canonical` isn't looked at.
+
+    Raises the fault of the text, else a `WriterFault` past the limit, or an `EmitterFault` where an indentation is too deep.
+
+    >>> normalize(b'{a: "b", c: [d, e]}')
+    b"a: 'b'\\nc:\\n- d\\n- e\\n"
+    """
+    return ask(_library.normalize, *input_of(text, encoding), record_of(settings))[0]
 
 
 def reload(text: Text, settings: Settings = _USUAL, *, encoding: Encoding = Encoding.ANY) -> bytes:

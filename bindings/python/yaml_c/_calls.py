@@ -9,7 +9,7 @@ from typing import Any, Union
 
 from . import _library
 from ._events import Encoding
-from ._faults import CLASS_OF, ArgumentRefused, EmitterFault, Kind, Mark, WriterFault, YamlFault
+from ._faults import CLASS_OF, ArgumentRefused, Kind, Mark, YamlFault
 from ._records import Records
 
 #: What is taken as a text.
@@ -134,11 +134,7 @@ def parsed(text: tuple[bytes, int, int]) -> Records:
 
 def judge(text: tuple[bytes, int, int]) -> None:
     """Raises the fault for which an input's documents can't be loaded."""
-    try:
-        # no byte of a text is asked for, and each fault of the input comes before the limit
-        ask(_library.reload, *text, record_of(Settings(limit=0)))
-    except (WriterFault, EmitterFault):
-        pass
+    ask(_library.check, *text)
 
 
 def loadable(text: tuple[bytes, int, int]) -> Records:

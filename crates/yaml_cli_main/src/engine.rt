@@ -1,31 +1,56 @@
 //! The engine that the program runs.
 
-use std::alloc::Global;
+use std::alloc::{AllocError, Global};
 use std::io::{Read, Write};
 use yaml_cli_program::{
-    Compared, Ended, Engine, FIRST, INPUT_LIMIT, Judging, Question, SECOND, Task,
+    Compared, Difference, Ended, Engine, INPUT_LIMIT, Judging, Manner, Met, Parted, Question, Side,
+    Step, Task, push_step,
 };
 use yaml_round::{
-    yaml_check, yaml_encoding_t, yaml_fault_t, yaml_reformat, yaml_run, yaml_run_fault_t,
-    yaml_same, yaml_side_t, yaml_std_input_t, yaml_std_output_t,
+    yaml_check, yaml_diff, yaml_difference_t, yaml_encoding_t, yaml_fault_t, yaml_normalize,
+    yaml_reformat, yaml_run, yaml_run_fault_t, yaml_same, yaml_side_t, yaml_std_input_t,
+    yaml_std_output_t, yaml_step_t,
 };
 
 /// The engine of `yaml_round`, with the program's limit.
 pub struct Rounds;
 
-// How a line calls an input of two.
-fn input_name(side: yaml_side_t) -> &'static str {
+fn side_of(side: yaml_side_t) -> Side {
     match side {
-        yaml_side_t::First => FIRST,
-        yaml_side_t::Second => SECOND,
+        yaml_side_t::First => Side::First,
+        yaml_side_t::Second => Side::Second,
     }
 }
 
-// Whether the input is the text that a rewriting of it would write.
-fn has_form(alloc: Global, task: &Task, input: &[u8]) -> Result<bool, yaml_fault_t> {
-    match yaml_reformat(alloc, input, task.from, &task.settings) {
-        Ok((text, _)) => Ok(text.as_slice() == input),
-        Err(fault) => Err(fault),
+fn step_of(step: &yaml_step_t) -> Step<'_> {
+    match step {
+        yaml_step_t::Item(number) => Step::Item(*number),
+        yaml_step_t::Key(pair) => Step::Key(*pair),
+        yaml_step_t::Value { key: Some(key), .. } => Step::Named(key.as_slice()),
+        yaml_step_t::Value { pair, key: None } => Step::Value(*pair),
+    }
+}
+
+fn path_of(alloc: Global, difference: &yaml_difference_t) -> Result<String, AllocError> {
+    let mut path = String::new(alloc);
+    push_step(&mut path, Step::Item(difference.document))?;
+    for step in &difference.path {
+        push_step(&mut path, step_of(step))?;
+    }
+    Ok(path)
+}
+
+fn difference_of(alloc: Global, difference: &yaml_difference_t) -> Difference {
+    Difference {
+        path: path_of(alloc, difference).ok(),
+        first: Met {
+            mark: difference.first_mark,
+            kind: difference.first_type,
+        },
+        second: Met {
+            mark: difference.second_mark,
+            kind: difference.second_type,
+        },
     }
 }
 
@@ -44,18 +69,34 @@ impl Engine for Rounds {
             &mut input,
             &mut output,
             task.command,
-            task.from,
-            &task.settings,
+            task.manner.from,
+            &task.manner.settings,
             INPUT_LIMIT,
         )
     }
 
+    fn normalize(
+        &self,
+        alloc: Global,
+        manner: &Manner,
+        input: &[u8],
+    ) -> Result<Vec<u8>, yaml_fault_t> {
+        yaml_normalize(alloc, input, manner.from, &manner.settings)
+    }
+
     fn judge(&self, alloc: Global, judging: &Judging, input: &[u8]) -> Result<bool, yaml_fault_t> {
-        let task = &judging.task;
+        let Manner { from, settings } = judging.manner;
         match judging.question {
-            Question::HasForm => has_form(alloc, task, input),
-            Question::Loads => match yaml_check(alloc, input, task.from) {
+            Question::Loads => match yaml_check(alloc, input, from) {
                 Ok(()) => Ok(true),
+                Err(fault) => Err(fault),
+            },
+            Question::HasForm => match yaml_reformat(alloc, input, from, &settings) {
+                Ok((text, _)) => Ok(text.as_slice() == input),
+                Err(fault) => Err(fault),
+            },
+            Question::IsNormal => match yaml_normalize(alloc, input, from, &settings) {
+                Ok(text) => Ok(text.as_slice() == input),
                 Err(fault) => Err(fault),
             },
         }
@@ -64,7 +105,15 @@ impl Engine for Rounds {
     fn same(&self, alloc: Global, from: yaml_encoding_t, first: &[u8], second: &[u8]) -> Compared {
         match yaml_same(alloc, first, from, second, from) {
             Ok(same) => Ok(same),
-            Err((side, fault)) => Err((input_name(side), yaml_run_fault_t::Yaml(fault))),
+            Err((side, fault)) => Err((side_of(side), yaml_run_fault_t::Yaml(fault))),
+        }
+    }
+
+    fn diff(&self, alloc: Global, from: yaml_encoding_t, first: &[u8], second: &[u8]) -> Parted {
+        match yaml_diff(alloc, first, from, second, from) {
+            Ok(None) => Ok(None),
+            Ok(Some(difference)) => Ok(Some(difference_of(alloc, &difference))),
+            Err((side, fault)) => Err((side_of(side), fault)),
         }
     }
 }

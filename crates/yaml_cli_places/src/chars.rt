@@ -3,11 +3,12 @@
 use bstr::decode_utf8;
 use yaml_scan_types::yaml_encoding_t;
 
-/// The bytes of a text, and how they are encoded.
+/// The text of a file: how the file is called, its bytes, and how they are encoded.
 #[derive(Clone, Copy)]
-pub(crate) struct Source<'a> {
-    pub(crate) input: &'a [u8],
-    pub(crate) from: yaml_encoding_t,
+pub struct Source<'a> {
+    pub name: &'a str,
+    pub input: &'a [u8],
+    pub from: yaml_encoding_t,
 }
 
 #[derive(Clone, Copy)]
@@ -29,7 +30,7 @@ pub(crate) enum Next {
 /// What is left of a text.
 #[derive(Clone, Copy)]
 pub(crate) struct Chars<'a> {
-    left: &'a [u8],
+    pub(crate) left: &'a [u8],
     form: Form,
 }
 
@@ -66,8 +67,12 @@ fn decode_utf16(bytes: &[u8], form: Form) -> (Option<char>, usize) {
     }
 }
 
-fn is_break(c: char) -> bool {
-    matches!(c, '\n' | '\r' | '\u{85}' | '\u{2028}' | '\u{2029}')
+/// Whether that ends a line.
+pub(crate) fn ends_line(next: Next) -> bool {
+    matches!(
+        next,
+        Next::Char('\n' | '\r' | '\u{85}' | '\u{2028}' | '\u{2029}')
+    )
 }
 
 impl<'a> Chars<'a> {
@@ -84,9 +89,8 @@ impl<'a> Chars<'a> {
     }
 
     /// All of them.
-    pub(crate) fn of(source: Source<'a>) -> Chars<'a> {
-        let left = source.input;
-        match source.from {
+    pub(crate) fn of(left: &'a [u8], from: yaml_encoding_t) -> Chars<'a> {
+        match from {
             yaml_encoding_t::YAML_ANY_ENCODING => Chars::detected(left),
             yaml_encoding_t::YAML_UTF8_ENCODING => Chars {
                 left,
@@ -103,12 +107,8 @@ impl<'a> Chars<'a> {
         }
     }
 
-    /// How many bytes are left.
-    pub(crate) fn byte_count(&self) -> usize {
-        self.left.len()
-    }
-
-    fn take(&mut self) -> Next {
+    /// The next character, whatever it is.
+    pub(crate) fn take(&mut self) -> Next {
         if self.left.is_empty() {
             return Next::End;
         }
@@ -138,18 +138,11 @@ impl<'a> Chars<'a> {
 
     /// The next character of the line, U+FFFD for bytes that spell none; none at its end.
     pub(crate) fn next_in_line(&mut self) -> Option<char> {
-        match self.next() {
-            Next::Char(c) if !is_break(c) => Some(c),
+        let next = self.next();
+        match next {
+            Next::Char(c) if !ends_line(next) => Some(c),
             Next::Broken => Some('\u{FFFD}'),
             _ => None,
         }
-    }
-}
-
-/// Whether that ends a line.
-pub(crate) fn ends_line(next: Next) -> bool {
-    match next {
-        Next::Char(c) => is_break(c),
-        _ => false,
     }
 }

@@ -1,9 +1,10 @@
 //! A source line, and a caret under a place in it.
 
 use crate::chars::{Chars, Source};
-use crate::place::{Place, from_line};
+use crate::place::from_line;
 use std::alloc::AllocError;
 use unicode_width::UnicodeWidthChar;
+use yaml_scan_types::yaml_mark_t;
 
 // A line is shown from that many characters before the place on, where there are more than a few in front of these.
 const BEFORE: u64 = 50;
@@ -16,9 +17,9 @@ const BEHIND: u64 = 30;
 // Stands for what isn't shown of a line.
 const CUT: &'static str = "...";
 
-// A character that a terminal doesn't show where it stands: a control character, one without width that says how others are
-// shown, or none at all.
-fn is_hidden(c: char) -> bool {
+/// A character that a terminal doesn't show where it stands: a control character, one without width that says how others are
+/// shown, or none at all.
+pub(crate) fn is_hidden(c: char) -> bool {
     c.is_control()
         || matches!(c, '\u{200B}'..='\u{200F}' | '\u{2028}'..='\u{202E}' | '\u{2060}'..='\u{206F}')
         || matches!(
@@ -101,7 +102,7 @@ fn push_caret(text: &mut String, mut line: Chars<'_>, column: u64) -> Result<(),
 pub(crate) fn push_excerpt(
     text: &mut String,
     source: Source<'_>,
-    place: Place,
+    place: yaml_mark_t,
 ) -> Result<(), AllocError> {
     let line = from_line(source, place.line);
     push_line(text, line, place.column)?;

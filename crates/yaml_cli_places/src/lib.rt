@@ -1,9 +1,13 @@
-//! Places in a text, as people are shown them: the lines that tell a fault, with the source line and a caret under it.
+//! Places in texts, as people are shown them: the lines that tell a fault, or where two texts part, with the source line and a
+//! caret under it; and the path to a place in the documents.
 #![tactic(auto)]
 
 mod chars;
 mod excerpt;
+mod path;
 mod place;
 mod telling;
 
-pub use telling::fault_text;
+pub use chars::Source;
+pub use path::{Step, push_step};
+pub use telling::{Stand, difference_text, fault_text};

@@ -3,28 +3,17 @@
 use crate::chars::{Chars, Next, Source, ends_line};
 use yaml_scan_types::{yaml_error_type_t, yaml_fault_t, yaml_mark_t};
 
-/// A place in a text: a line, and a column in characters, both from 0.
-#[derive(Clone, Copy)]
-pub(crate) struct Place {
-    pub(crate) line: u64,
-    pub(crate) column: u64,
-}
-
-/// A mark's place.
-pub(crate) fn marked(mark: yaml_mark_t) -> Place {
-    Place {
-        line: mark.line,
-        column: mark.column,
-    }
-}
-
 // The place of the character that has that byte, or of the first bytes in front of it that spell none.
-fn place_of_byte(source: Source<'_>, offset: u64) -> Place {
-    let mut chars = Chars::of(source);
-    let mut place = Place { line: 0, column: 0 };
+fn place_of_byte(source: Source<'_>, offset: u64) -> yaml_mark_t {
+    let mut chars = Chars::of(source.input, source.from);
+    let mut place = yaml_mark_t {
+        index: offset,
+        line: 0,
+        column: 0,
+    };
     for _ in 0..source.input.len() {
         let next = chars.next();
-        let behind = source.input.len().saturating_sub(chars.byte_count());
+        let behind = source.input.len().saturating_sub(chars.left.len());
         if matches!(next, Next::Broken | Next::End) || behind as u64 > offset {
             break;
         }
@@ -39,19 +28,19 @@ fn place_of_byte(source: Source<'_>, offset: u64) -> Place {
 }
 
 /// The place of the problem, where it has one: a reader's is counted in what could be decoded.
-pub(crate) fn place_of(source: Source<'_>, fault: &yaml_fault_t) -> Option<Place> {
+pub(crate) fn place_of(source: Source<'_>, fault: &yaml_fault_t) -> Option<yaml_mark_t> {
     match fault.kind {
         yaml_error_type_t::YAML_READER_ERROR => Some(place_of_byte(source, fault.offset)),
         yaml_error_type_t::YAML_SCANNER_ERROR
         | yaml_error_type_t::YAML_PARSER_ERROR
-        | yaml_error_type_t::YAML_COMPOSER_ERROR => Some(marked(fault.problem_mark)),
+        | yaml_error_type_t::YAML_COMPOSER_ERROR => Some(fault.problem_mark),
         _ => None,
     }
 }
 
 /// What is left of a text from its line on; nothing where there is no such line.
 pub(crate) fn from_line(source: Source<'_>, line: u64) -> Chars<'_> {
-    let mut chars = Chars::of(source);
+    let mut chars = Chars::of(source.input, source.from);
     let mut left = line;
     for _ in 0..source.input.len() {
         if left == 0 {
@@ -65,7 +54,7 @@ pub(crate) fn from_line(source: Source<'_>, line: u64) -> Chars<'_> {
 }
 
 /// What is left of a text from a place on.
-pub(crate) fn from_place(source: Source<'_>, place: Place) -> Chars<'_> {
+pub(crate) fn from_place(source: Source<'_>, place: yaml_mark_t) -> Chars<'_> {
     let mut chars = from_line(source, place.line);
     for _ in 0..place.column {
         if chars.next_in_line().is_none() {

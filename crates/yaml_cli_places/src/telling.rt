@@ -1,17 +1,25 @@
-//! The lines that tell a fault of a file.
+//! The lines that tell a fault of a file, and those that tell where two files part.
 
 use crate::chars::{Chars, Source};
 use crate::excerpt::{push_excerpt, push_shown};
-use crate::place::{Place, from_place, marked, place_of};
+use crate::place::{from_place, place_of};
 use std::alloc::{AllocError, Global};
 use yaml_round_device::headline;
-use yaml_scan_types::{yaml_encoding_t, yaml_error_type_t, yaml_fault_t};
+use yaml_scan_types::{yaml_error_type_t, yaml_fault_t, yaml_mark_t};
 
 // How many characters of a wrong word are told.
 const MOST_OF_WORD: usize = 40;
 
+/// What stands at a place of a text.
+#[derive(Clone, Copy)]
+pub struct Stand<'a> {
+    pub source: Source<'a>,
+    pub mark: yaml_mark_t,
+    pub what: &'a str,
+}
+
 // Adds the file's name and the place, counted from 1.
-fn push_place(text: &mut String, name: &str, place: Place) -> Result<(), AllocError> {
+fn push_place(text: &mut String, name: &str, place: yaml_mark_t) -> Result<(), AllocError> {
     let line = u128::from(place.line) + 1;
     let column = u128::from(place.column) + 1;
     write!(text, "{name}:{line}:{column}: ")
@@ -43,7 +51,7 @@ fn push_word(text: &mut String, mut chars: Chars<'_>) -> Result<(), AllocError> 
 fn push_wrong(
     text: &mut String,
     source: Source<'_>,
-    place: Place,
+    place: yaml_mark_t,
     fault: &yaml_fault_t,
 ) -> Result<(), AllocError> {
     let value = fault.value;
@@ -81,7 +89,7 @@ fn push_placeless(text: &mut String, fault: &yaml_fault_t) -> Result<(), AllocEr
 fn push_problem(
     text: &mut String,
     source: Source<'_>,
-    place: Place,
+    place: yaml_mark_t,
     fault: &yaml_fault_t,
 ) -> Result<(), AllocError> {
     text.push_str(headline(fault.kind))?;
@@ -92,49 +100,62 @@ fn push_problem(
     push_excerpt(text, source, place)
 }
 
-// Adds the context at its place, where there is one.
-fn push_context(
-    text: &mut String,
-    name: &str,
-    source: Source<'_>,
-    fault: &yaml_fault_t,
-) -> Result<(), AllocError> {
-    let Some(context) = fault.context else {
-        return Ok(());
-    };
-    let place = marked(fault.context_mark);
-    push_place(text, name, place)?;
-    text.push_str(context)?;
+// Adds a place, what stands there, and its source line.
+fn push_stand(text: &mut String, stand: &Stand<'_>) -> Result<(), AllocError> {
+    push_place(text, stand.source.name, stand.mark)?;
+    text.push_str(stand.what)?;
     text.push('\n')?;
-    push_excerpt(text, source, place)
+    push_excerpt(text, stand.source, stand.mark)
 }
 
 fn push_fault(
     text: &mut String,
-    name: &str,
     source: Source<'_>,
     fault: &yaml_fault_t,
 ) -> Result<(), AllocError> {
     let Some(place) = place_of(source, fault) else {
-        write!(text, "{name}: ")?;
+        write!(text, "{}: ", source.name)?;
         return push_placeless(text, fault);
     };
-    push_place(text, name, place)?;
+    push_place(text, source.name, place)?;
     push_problem(text, source, place, fault)?;
-    push_context(text, name, source, fault)
+    match fault.context {
+        Some(what) => push_stand(
+            text,
+            &Stand {
+                source,
+                mark: fault.context_mark,
+                what,
+            },
+        ),
+        None => Ok(()),
+    }
 }
 
-/// The lines that tell a fault of the text of the file of that name: `NAME:LINE:COLUMN: K error: PROBLEM`, the source line
-/// with a caret under the place, and then the context's place in the same way, where there is one. Lines and columns count
-/// from 1, columns in characters.
+/// The lines that tell a fault of a file's text: `NAME:LINE:COLUMN: K error: PROBLEM`, the source line with a caret under the
+/// place, and then the context's place in the same way, where there is one. Lines and columns count from 1, columns in
+/// characters.
 pub fn fault_text(
     alloc: Global,
-    name: &str,
-    input: &[u8],
-    from: yaml_encoding_t,
+    source: Source<'_>,
     fault: &yaml_fault_t,
 ) -> Result<String, AllocError> {
     let mut text = String::new(alloc);
-    push_fault(&mut text, name, Source { input, from }, fault)?;
+    push_fault(&mut text, source, fault)?;
+    Ok(text)
+}
+
+/// The lines that tell where two texts part: the path, and both places as `fault_text` shows them, with what stands there.
+pub fn difference_text(
+    alloc: Global,
+    path: &str,
+    first: &Stand<'_>,
+    second: &Stand<'_>,
+) -> Result<String, AllocError> {
+    let mut text = String::new(alloc);
+    text.push_str(path)?;
+    text.push('\n')?;
+    push_stand(&mut text, first)?;
+    push_stand(&mut text, second)?;
     Ok(text)
 }

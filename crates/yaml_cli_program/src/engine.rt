@@ -1,22 +1,43 @@
 //! What the program asks of an engine. It rests on nothing that an engine's contract says, so it is proved before the engine is.
 
-use crate::order::{Judging, Task};
+use crate::order::{Judging, Manner, Task};
 use std::alloc::Global;
 use std::io::{Read, Write};
+use yaml_parse_types::yaml_event_type_t;
 use yaml_round_device::{yaml_form_t, yaml_run_fault_t};
-use yaml_scan_types::{yaml_encoding_t, yaml_fault_t};
+use yaml_scan_types::{yaml_encoding_t, yaml_fault_t, yaml_mark_t};
 
-/// How a line calls the first input of two.
-pub const FIRST: &'static str = "first input: ";
-
-/// How a line calls the second input of two.
-pub const SECOND: &'static str = "second input: ";
+/// An input of two.
+#[derive(Clone, Copy)]
+pub enum Side {
+    First,
+    Second,
+}
 
 /// The form that a run's answer has, if any.
 pub type Ended = Result<Option<yaml_form_t>, yaml_run_fault_t>;
 
-/// Whether two inputs have the same content, or a fault behind the words that say of which input it is.
-pub type Compared = Result<bool, (&'static str, yaml_run_fault_t)>;
+/// Whether two inputs have the same content, or the fault of one of them.
+pub type Compared = Result<bool, (Side, yaml_run_fault_t)>;
+
+/// An event of an input: where it starts, and of which kind it is.
+#[derive(Clone, Copy)]
+pub struct Met {
+    pub mark: yaml_mark_t,
+    pub kind: yaml_event_type_t,
+}
+
+/// The first place at which the contents of two inputs part.
+#[derive(Drop)]
+pub struct Difference {
+    /// The path to it, as people are shown it, where there is room for it.
+    pub path: Option<String>,
+    pub first: Met,
+    pub second: Met,
+}
+
+/// Where two inputs part, nothing where they have the same content, or the fault of one of them.
+pub type Parted = Result<Option<Difference>, (Side, yaml_fault_t)>;
 
 /// An engine.
 pub trait Engine {
@@ -29,9 +50,20 @@ pub trait Engine {
         writer: &mut W,
     ) -> Ended;
 
+    /// The normal form of an input's text, or its fault.
+    fn normalize(
+        &self,
+        alloc: Global,
+        manner: &Manner,
+        input: &[u8],
+    ) -> Result<Vec<u8>, yaml_fault_t>;
+
     /// Whether an input is as the question asks, or its fault.
     fn judge(&self, alloc: Global, judging: &Judging, input: &[u8]) -> Result<bool, yaml_fault_t>;
 
     /// Whether two inputs have the same content.
     fn same(&self, alloc: Global, from: yaml_encoding_t, first: &[u8], second: &[u8]) -> Compared;
+
+    /// Where two inputs part.
+    fn diff(&self, alloc: Global, from: yaml_encoding_t, first: &[u8], second: &[u8]) -> Parted;
 }

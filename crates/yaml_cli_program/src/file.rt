@@ -1,6 +1,6 @@
 //! Files and standard input that are read whole, and answers that are written.
 
-use crate::fault::{INPUT_LIMIT, write_failed};
+use crate::fault::{INPUT_LIMIT, unwritten, write_failed};
 use std::alloc::Global;
 use std::fs;
 use std::io::{Error, Read, Write};
@@ -37,6 +37,8 @@ pub(crate) fn bytes_of<H: Files + AllocGlobal, R: Read>(
 pub(crate) enum Unread {
     Failed(Error),
     TooLong,
+    /// It lists no files.
+    Unlisted(&'static str),
 }
 
 fn whole<R: Read>(alloc: Global, file: &mut R) -> Result<Vec<u8>, Unread> {
@@ -73,5 +75,17 @@ pub(crate) fn write_answer<W: Write, E: Write>(
     match yaml_write_all(&mut output, answer) {
         Ok(()) => 0,
         Err(written) => write_failed(errors, written),
+    }
+}
+
+/// Writes a text; answers the status: 0, or that of an output that takes no more.
+pub(crate) fn write_text<W: Write, E: Write>(text: &[u8], writer: &mut W, errors: &mut E) -> u8 {
+    let written = match writer.write_all(text) {
+        Ok(()) => writer.flush(),
+        Err(error) => Err(error),
+    };
+    match written {
+        Ok(()) => 0,
+        Err(error) => unwritten(errors, &error),
     }
 }

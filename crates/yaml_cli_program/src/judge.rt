@@ -2,30 +2,20 @@
 //! judged.
 
 use crate::engine::Engine;
-use crate::fault::{FAILED, INPUT_LIMIT};
+use crate::fault::{FAILED, UNJUDGED, shown, unread, unwritten};
 use crate::file::{STANDARD, Unread, whole_of};
-use crate::order::{Judging, WRONG_WORDS};
+use crate::order::{Judged, Judging};
 use std::alloc::Global;
-use std::io::{Error, ErrorKind, Read, Write};
+use std::io::{Read, Write};
 use std::rt::Files;
-use yaml_cli_places::fault_text;
+use yaml_cli_places::Source;
 use yaml_scan_types::{yaml_error_type_t, yaml_fault_t};
 
-/// The status where a file couldn't be judged: that of wrong words.
-const UNJUDGED: u8 = WRONG_WORDS;
-
-/// An engine, and what it is asked.
-#[derive(Clone, Copy)]
-pub(crate) struct Judge<'j, G> {
-    pub(crate) engine: &'j G,
-    pub(crate) judging: &'j Judging,
-}
-
-/// The files that are judged: these, and those that a list names.
-#[derive(Clone, Copy)]
-pub(crate) struct Named<'n> {
-    pub(crate) files: &'n [&'n str],
-    pub(crate) list: Option<&'n str>,
+// An engine, and what it is asked.
+#[derive(Drop)]
+struct Judge<'j, G> {
+    engine: &'j G,
+    judging: &'j Judging,
 }
 
 // What came of a file: the status that it gives by itself, and whether no further one is to be judged.
@@ -42,41 +32,24 @@ fn goes_on(status: u8) -> Verdict {
     }
 }
 
-// Tells why a file wasn't read.
-fn unread<E: Write>(errors: &mut E, judging: &Judging, name: &str, why: &Unread) -> u8 {
+// Tells why a file, or a list of files, wasn't read.
+fn unread_of<E: Write>(errors: &mut E, judging: &Judging, name: &str, why: &Unread) -> u8 {
     if !judging.quiet {
-        let _ = match why {
-            Unread::Failed(error) => writeln!(errors, "yaml_cli: {name}: {error}"),
-            Unread::TooLong => writeln!(
-                errors,
-                "yaml_cli: {name}: longer than {INPUT_LIMIT} bytes"
-            ),
-        };
+        unread(errors, name, why);
     }
     UNJUDGED
 }
 
-// Tells what is wrong with a list of files.
-fn unlisted<E: Write>(errors: &mut E, judging: &Judging, list: &str, what: &str) -> u8 {
-    if !judging.quiet {
-        let _ = writeln!(errors, "yaml_cli: {list}: {what}");
-    }
-    UNJUDGED
-}
-
-// Tells the fault of a file. Of want of memory, where there is none for the line either, only the status tells.
+// Tells the fault of a file.
 fn refused<E: Write>(
     alloc: Global,
     errors: &mut E,
     judging: &Judging,
-    name: &str,
-    input: &[u8],
+    source: Source<'_>,
     fault: &yaml_fault_t,
 ) -> u8 {
     if !judging.quiet {
-        if let Ok(text) = fault_text(alloc, name, input, judging.task.from, fault) {
-            let _ = write!(errors, "{text}");
-        }
+        shown(alloc, errors, source, fault);
     }
     if fault.kind == yaml_error_type_t::YAML_MEMORY_ERROR {
         UNJUDGED
@@ -85,28 +58,18 @@ fn refused<E: Write>(
     }
 }
 
-// No name can be written any more. Where nobody reads them there is nothing to tell.
-fn unnamed<E: Write>(errors: &mut E, error: &Error) -> Verdict {
-    let status = if error.kind() == ErrorKind::BrokenPipe {
-        FAILED
-    } else {
-        let _ = writeln!(errors, "yaml_cli: standard output: {error}");
-        UNJUDGED
-    };
-    Verdict {
-        status,
-        stops: true,
-    }
-}
-
 // Names a file that isn't as it was asked for.
 fn name_file<W: Write, E: Write>(writer: &mut W, errors: &mut E, name: &str) -> Verdict {
-    if let Err(error) = writeln!(writer, "{name}") {
-        return unnamed(errors, &error);
-    }
-    match writer.flush() {
+    let written = match writeln!(writer, "{name}") {
+        Ok(()) => writer.flush(),
+        Err(error) => Err(error),
+    };
+    match written {
         Ok(()) => goes_on(FAILED),
-        Err(error) => unnamed(errors, &error),
+        Err(error) => Verdict {
+            status: unwritten(errors, &error),
+            stops: true,
+        },
     }
 }
 
@@ -121,7 +84,11 @@ fn judge_text<G: Engine, W: Write, E: Write>(
     match judge.engine.judge(alloc, judge.judging, input) {
         Ok(true) => goes_on(0),
         Ok(false) => name_file(writer, errors, name),
-        Err(fault) => goes_on(refused(alloc, errors, judge.judging, name, input, &fault)),
+        Err(fault) => {
+            let from = judge.judging.manner.from;
+            let source = Source { name, input, from };
+            goes_on(refused(alloc, errors, judge.judging, source, &fault))
+        }
     }
 }
 
@@ -135,7 +102,7 @@ fn judge_file<G: Engine, H: Files + AllocGlobal, R: Read, W: Write, E: Write>(
 ) -> Verdict {
     match whole_of(rt, name, reader) {
         Ok(input) => judge_text(judge, rt.alloc(), name, input.as_slice(), writer, errors),
-        Err(why) => goes_on(unread(errors, judge.judging, name, &why)),
+        Err(why) => goes_on(unread_of(errors, judge.judging, name, &why)),
     }
 }
 
@@ -185,36 +152,37 @@ fn judge_listed<G: Engine, H: Files + AllocGlobal, R: Read, W: Write, E: Write>(
 ) -> u8 {
     let text = match whole_of(rt, list, reader) {
         Ok(text) => text,
-        Err(why) => return unread(errors, judge.judging, list, &why),
+        Err(why) => return unread_of(errors, judge.judging, list, &why),
     };
     match names_of(rt.alloc(), text.as_slice()) {
         Ok(names) => judge_files(judge, rt, names.as_slice(), reader, writer, errors).status,
-        Err(what) => unlisted(errors, judge.judging, list, what),
+        Err(what) => unread_of(errors, judge.judging, list, &Unread::Unlisted(what)),
     }
 }
 
 /// Judges the files, or standard input where none are named. The status is the worst one: 0 where each is as it was asked for,
 /// 1 where one isn't or is refused, 2 where one couldn't be judged.
 pub(crate) fn judge_all<G: Engine, H: Files + AllocGlobal, R: Read, W: Write, E: Write>(
-    judge: &Judge<'_, G>,
+    engine: &G,
     rt: &H,
-    named: Named<'_>,
+    judged: &Judged<'_>,
     reader: &mut R,
     writer: &mut W,
     errors: &mut E,
 ) -> u8 {
-    let Some(list) = named.list else {
-        let files = if named.files.is_empty() {
-            &[STANDARD]
-        } else {
-            named.files
-        };
-        return judge_files(judge, rt, files, reader, writer, errors).status;
+    let judge = Judge {
+        engine,
+        judging: &judged.judging,
     };
-    let verdict = judge_files(judge, rt, named.files, reader, writer, errors);
+    let files = judged.files.as_slice();
+    let Some(list) = judged.list else {
+        let files = if files.is_empty() { &[STANDARD] } else { files };
+        return judge_files(&judge, rt, files, reader, writer, errors).status;
+    };
+    let verdict = judge_files(&judge, rt, files, reader, writer, errors);
     if verdict.stops {
         return verdict.status;
     }
-    let status = judge_listed(judge, rt, list, reader, writer, errors);
+    let status = judge_listed(&judge, rt, list, reader, writer, errors);
     status.max(verdict.status)
 }

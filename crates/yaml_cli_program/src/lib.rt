@@ -2,10 +2,12 @@
 //! fails.
 #![tactic(auto)]
 
+mod compare;
 mod engine;
 mod fault;
 mod file;
 mod judge;
+mod norm;
 mod options;
 mod order;
 mod program;
@@ -14,7 +16,8 @@ mod table;
 mod version;
 mod words;
 
-pub use engine::{Compared, Ended, Engine, FIRST, SECOND};
+pub use engine::{Compared, Difference, Ended, Engine, Met, Parted, Side};
 pub use fault::INPUT_LIMIT;
-pub use order::{Judging, Question, Task};
+pub use order::{Judging, Manner, Question, Task};
 pub use program::main_by;
+pub use yaml_cli_places::{Step, push_step};

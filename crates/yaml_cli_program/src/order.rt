@@ -8,12 +8,18 @@ use yaml_scan_types::yaml_encoding_t;
 /// The status where the words are wrong.
 pub(crate) const WRONG_WORDS: u8 = 2;
 
+/// How inputs are read, and how a text is written.
+#[derive(Clone, Copy)]
+pub struct Manner {
+    pub from: yaml_encoding_t,
+    pub settings: yaml_settings_t,
+}
+
 /// What a run is told to do.
 #[derive(Clone, Copy)]
 pub struct Task {
     pub command: yaml_command_t,
-    pub from: yaml_encoding_t,
-    pub settings: yaml_settings_t,
+    pub manner: Manner,
 }
 
 /// What is asked of each of many files.
@@ -23,54 +29,86 @@ pub enum Question {
     Loads,
     /// Whether it is the text that a rewriting of it would write.
     HasForm,
+    /// Whether it is in the normal form.
+    IsNormal,
 }
 
 /// How files are judged.
 #[derive(Clone, Copy)]
 pub struct Judging {
     pub question: Question,
-    pub task: Task,
+    pub manner: Manner,
     /// Nothing is told but by the status.
     pub quiet: bool,
+}
+
+/// Two files that are to be compared.
+#[derive(Clone, Copy)]
+pub(crate) struct Pair<'a> {
+    pub(crate) from: yaml_encoding_t,
+    pub(crate) first: &'a str,
+    pub(crate) second: &'a str,
+}
+
+/// A run over a file, or over standard input.
+#[derive(Clone, Copy)]
+pub(crate) struct Run<'a> {
+    pub(crate) task: Task,
+    pub(crate) file: Option<&'a str>,
+}
+
+/// Files that are to be judged, and those that a list names; standard input where there are neither.
+#[derive(Drop)]
+pub(crate) struct Judged<'a> {
+    pub(crate) judging: Judging,
+    pub(crate) files: Vec<&'a str>,
+    pub(crate) list: Option<&'a str>,
+}
+
+/// The rewriting of a file, or of standard input.
+#[derive(Clone, Copy)]
+pub(crate) struct Rewriting<'a> {
+    pub(crate) manner: Manner,
+    pub(crate) file: Option<&'a str>,
+}
+
+/// A word that can't stand there.
+#[derive(Clone, Copy)]
+pub(crate) struct Unknown<'a> {
+    pub(crate) what: &'static str,
+    pub(crate) word: &'a str,
+}
+
+/// What is wrong with the words.
+#[derive(Clone, Copy)]
+pub(crate) enum Wrong<'a> {
+    Unknown(Unknown<'a>),
+    /// That word is one file too many for the command.
+    Extra { command: &'a str, word: &'a str },
+    /// There is no room for the words.
+    Short,
+    /// There is no command.
+    Nothing,
 }
 
 /// What the program is told to do.
 #[derive(Drop)]
 pub(crate) enum Order<'a> {
-    /// A run over the file, or over standard input.
-    Run {
-        task: Task,
-        file: Option<&'a str>,
-    },
-    /// Two files are to be compared.
-    Same {
-        from: yaml_encoding_t,
-        first: &'a str,
-        second: &'a str,
-    },
-    /// Files are to be judged, and those that a list names; standard input where there are neither.
-    Judge {
-        judging: Judging,
-        files: Vec<&'a str>,
-        list: Option<&'a str>,
-    },
-    /// That word is one file too many.
-    Extra(&'a str),
-    /// There is no room for the words.
-    Short,
-    /// That word can't stand there.
-    Unknown {
-        what: &'static str,
-        word: &'a str,
-    },
-    /// No command.
-    Nothing,
+    Run(Run<'a>),
+    /// The normal form is to be written.
+    Normalize(Rewriting<'a>),
+    /// Whether they have the same content.
+    Same(Pair<'a>),
+    /// Where their contents part.
+    Diff(Pair<'a>),
+    Judge(Judged<'a>),
+    /// The words say nothing that can be done.
+    Wrong(Wrong<'a>),
 }
 
-/// The words of a run. A word that the command doesn't have is as where it is left out.
+/// The words that say how a text is read and written. A word that the command doesn't have is as where it is left out.
 #[derive(Clone, Copy)]
 pub(crate) struct Words<'a> {
-    pub(crate) file: Option<&'a str>,
     pub(crate) from: &'a str,
     pub(crate) line_break: &'a str,
     pub(crate) encoding: &'a str,
@@ -95,94 +133,39 @@ fn encoding_named(word: &str) -> Option<yaml_output_encoding_t> {
     }
 }
 
-fn input_encoding_named(word: &str) -> Option<yaml_encoding_t> {
+/// The encoding of an input that the word names.
+pub(crate) fn from_named<'a>(word: &'a str) -> Result<yaml_encoding_t, Unknown<'a>> {
     match word {
-        "auto" => Some(yaml_encoding_t::YAML_ANY_ENCODING),
-        "utf8" => Some(yaml_encoding_t::YAML_UTF8_ENCODING),
-        "utf16le" => Some(yaml_encoding_t::YAML_UTF16LE_ENCODING),
-        "utf16be" => Some(yaml_encoding_t::YAML_UTF16BE_ENCODING),
-        _ => None,
+        "auto" => Ok(yaml_encoding_t::YAML_ANY_ENCODING),
+        "utf8" => Ok(yaml_encoding_t::YAML_UTF8_ENCODING),
+        "utf16le" => Ok(yaml_encoding_t::YAML_UTF16LE_ENCODING),
+        "utf16be" => Ok(yaml_encoding_t::YAML_UTF16BE_ENCODING),
+        _ => Err(Unknown {
+            what: "input encoding",
+            word,
+        }),
     }
 }
 
-/// The command of that name, of those that read one input and do nothing else.
-pub(crate) fn command_named(word: &str) -> Option<yaml_command_t> {
-    match word {
-        "docs" => Some(yaml_command_t::Docs),
-        "events" => Some(yaml_command_t::Events),
-        _ => None,
-    }
-}
-
-/// The judging of files that is asked for, by the run that the same words would ask for.
-pub(crate) fn judge_of<'a>(
-    question: Question,
-    quiet: bool,
-    run: Order<'a>,
-    files: Vec<&'a str>,
-    list: Option<&'a str>,
-) -> Order<'a> {
-    let Order::Run { task, .. } = run else {
-        return run;
-    };
-    let judging = Judging {
-        question,
-        task,
-        quiet,
-    };
-    Order::Judge {
-        judging,
-        files,
-        list,
-    }
-}
-
-/// The run that is asked for. The break is judged first, then the encoding, then how the input is encoded.
-pub(crate) fn run_of<'a>(command: yaml_command_t, words: &Words<'a>) -> Order<'a> {
+/// What the words ask for. The break is judged first, then the encoding, then how the input is encoded.
+pub(crate) fn manner_of<'a>(words: &Words<'a>) -> Result<Manner, Unknown<'a>> {
     let Some(line_break) = break_named(words.line_break) else {
-        return Order::Unknown {
+        return Err(Unknown {
             what: "break",
             word: words.line_break,
-        };
+        });
     };
     let Some(encoding) = encoding_named(words.encoding) else {
-        return Order::Unknown {
+        return Err(Unknown {
             what: "encoding",
             word: words.encoding,
-        };
+        });
     };
-    let Some(from) = input_encoding_named(words.from) else {
-        return Order::Unknown {
-            what: "input encoding",
-            word: words.from,
-        };
-    };
+    let from = from_named(words.from)?;
     let settings = yaml_settings_t {
         encoding,
         line_break,
         ..words.settings
     };
-    Order::Run {
-        task: Task {
-            command,
-            from,
-            settings,
-        },
-        file: words.file,
-    }
-}
-
-/// The comparison that is asked for.
-pub(crate) fn same_of<'a>(from: &'a str, first: &'a str, second: &'a str) -> Order<'a> {
-    match input_encoding_named(from) {
-        Some(from) => Order::Same {
-            from,
-            first,
-            second,
-        },
-        None => Order::Unknown {
-            what: "input encoding",
-            word: from,
-        },
-    }
+    Ok(Manner { from, settings })
 }

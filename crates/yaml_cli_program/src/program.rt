@@ -1,10 +1,12 @@
 //! The program over any engine, reader and writers.
 
-use crate::engine::{Compared, Ended, Engine, FIRST, SECOND};
+use crate::compare::{run_diff, run_same};
+use crate::engine::{Ended, Engine};
 use crate::fault::{FAILED, run_failed};
-use crate::file::{STANDARD, bytes_of, write_answer};
-use crate::judge::{Judge, Named, judge_all};
-use crate::order::{Order, Task, WRONG_WORDS};
+use crate::file::STANDARD;
+use crate::judge::judge_all;
+use crate::norm::run_normalize;
+use crate::order::{Order, Run, Task, Unknown, WRONG_WORDS, Wrong};
 use crate::words::{order_of, tell};
 use std::alloc::Global;
 use std::convert::AsStr;
@@ -12,7 +14,6 @@ use std::fs;
 use std::io::{BufReader, Read, Write};
 use std::rt::Files;
 use yaml_round_device::{yaml_form_t, yaml_run_fault_t};
-use yaml_scan_types::yaml_encoding_t;
 
 // How many bytes of a file are read at once: each call of the system costs some microseconds.
 const READ_AHEAD: usize = 65_536;
@@ -44,24 +45,9 @@ fn run_path<G: Engine, H: Files + AllocGlobal, W: Write>(
     }
 }
 
-// Runs a command on its file, or on standard input.
-fn run_file<G: Engine, H: Files + AllocGlobal, R: Read, W: Write>(
-    engine: &G,
-    rt: &H,
-    task: &Task,
-    file: Option<&str>,
-    reader: &mut R,
-    writer: &mut W,
-) -> Ended {
-    match file {
-        Some(path) if path != STANDARD => run_path(engine, rt, task, path, writer),
-        _ => engine.run(rt.alloc(), task, reader, writer),
-    }
-}
-
 // Tells where pretty form was asked for and isn't answered.
 fn note_form<E: Write>(task: &Task, form: Option<yaml_form_t>, errors: &mut E) {
-    if !task.settings.canonical && form == Some(yaml_form_t::Canonical) {
+    if !task.manner.settings.canonical && form == Some(yaml_form_t::Canonical) {
         // A note: the text is written, whether or not it can be told.
         let _ = writeln!(errors, "yaml_cli: canonical form was written");
     }
@@ -77,64 +63,38 @@ fn ended<E: Write>(alloc: Global, task: &Task, ended: Ended, errors: &mut E) -> 
     }
 }
 
-// Compares what was read of the first file with the second one.
-fn compare_with<G: Engine, H: Files + AllocGlobal, R: Read>(
+// Runs a command on its file, or on standard input.
+fn run_file<G: Engine, H: Files + AllocGlobal, R: Read, W: Write, E: Write>(
     engine: &G,
     rt: &H,
-    from: yaml_encoding_t,
-    first: &[u8],
-    second: &str,
+    run: &Run<'_>,
     reader: &mut R,
-) -> Compared {
-    match bytes_of(rt, second, reader) {
-        Ok(second) => engine.same(rt.alloc(), from, first, second.as_slice()),
-        Err(fault) => Err((SECOND, fault)),
-    }
-}
-
-// Whether two files have the same content. Standard input, named twice, is read once.
-fn run_same<G: Engine, H: Files + AllocGlobal, R: Read>(
-    engine: &G,
-    rt: &H,
-    from: yaml_encoding_t,
-    first: &str,
-    second: &str,
-    reader: &mut R,
-) -> Compared {
-    let is_itself = first == STANDARD && second == STANDARD;
-    match bytes_of(rt, first, reader) {
-        Ok(first) if is_itself => engine.same(rt.alloc(), from, first.as_slice(), first.as_slice()),
-        Ok(first) => compare_with(engine, rt, from, first.as_slice(), second, reader),
-        Err(fault) => Err((FIRST, fault)),
-    }
-}
-
-fn compared<W: Write, E: Write>(
-    alloc: Global,
-    answer: Compared,
     writer: &mut W,
     errors: &mut E,
 ) -> u8 {
-    match answer {
-        Ok(true) => write_answer(b"equal\n", writer, errors),
-        Ok(false) => write_answer(b"different\n", writer, errors),
-        Err((input, fault)) => run_failed(alloc, errors, input, &fault),
-    }
+    let answer = match run.file {
+        Some(path) if path != STANDARD => run_path(engine, rt, &run.task, path, writer),
+        _ => engine.run(rt.alloc(), &run.task, reader, writer),
+    };
+    ended(rt.alloc(), &run.task, answer, errors)
 }
 
-// Tells that `what` can't be the word: the status tells it where the line can't.
-fn unknown_word<E: Write>(errors: &mut E, what: &str, word: &str) -> u8 {
-    let _ = writeln!(errors, "yaml_cli: unknown {what}: {word}");
-    WRONG_WORDS
-}
-
-// Tells that a file is one too many, as clap tells it of a command that takes one.
-fn extra_file<E: Write>(errors: &mut E, word: &str) -> u8 {
-    let _ = writeln!(
-        errors,
-        "error: unexpected argument '{word}' found\n\nUsage: yaml_cli fmt [OPTIONS] [FILE]...\n\n\
-        For more information, try '--help'."
-    );
+// Tells what is wrong with the words: the status tells it where the line can't. Of a file too many it is told as clap does of a
+// command that takes one.
+fn told_wrong<E: Write>(errors: &mut E, wrong: &Wrong<'_>) -> u8 {
+    let _ = match wrong {
+        Wrong::Unknown(Unknown { what, word }) => writeln!(
+            errors,
+            "yaml_cli: unknown {what}: {word}"
+        ),
+        Wrong::Extra { command, word } => writeln!(
+            errors,
+            "error: unexpected argument '{word}' found\n\n\
+            Usage: yaml_cli {command} [OPTIONS] [FILE]...\n\nFor more information, try '--help'."
+        ),
+        Wrong::Short => Ok(()),
+        Wrong::Nothing => return FAILED,
+    };
     WRONG_WORDS
 }
 
@@ -148,38 +108,12 @@ fn follow<G: Engine, H: Files + AllocGlobal, R: Read, W: Write, E: Write>(
     errors: &mut E,
 ) -> u8 {
     match order {
-        Order::Run { task, file } => {
-            let answer = run_file(engine, rt, task, *file, reader, writer);
-            ended(rt.alloc(), task, answer, errors)
-        }
-        Order::Same {
-            from,
-            first,
-            second,
-        } => {
-            let answer = run_same(engine, rt, *from, first, second, reader);
-            compared(rt.alloc(), answer, writer, errors)
-        }
-        Order::Judge {
-            judging,
-            files,
-            list,
-        } => {
-            let files = files.as_slice();
-            let named = Named { files, list: *list };
-            judge_all(
-                &Judge { engine, judging },
-                rt,
-                named,
-                reader,
-                writer,
-                errors,
-            )
-        }
-        Order::Extra(word) => extra_file(errors, word),
-        Order::Short => WRONG_WORDS,
-        Order::Unknown { what, word } => unknown_word(errors, what, word),
-        Order::Nothing => FAILED,
+        Order::Run(run) => run_file(engine, rt, run, reader, writer, errors),
+        Order::Normalize(rewriting) => run_normalize(engine, rt, rewriting, reader, writer, errors),
+        Order::Same(pair) => run_same(engine, rt, pair, reader, writer, errors),
+        Order::Diff(pair) => run_diff(engine, rt, pair, reader, writer, errors),
+        Order::Judge(judged) => judge_all(engine, rt, judged, reader, writer, errors),
+        Order::Wrong(wrong) => told_wrong(errors, wrong),
     }
 }
 

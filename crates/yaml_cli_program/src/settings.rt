@@ -1,6 +1,9 @@
 //! The words of a command, as they stand among the matches.
 
-use crate::order::{Order, Question, Words, command_named, judge_of, run_of, same_of};
+use crate::order::{
+    Judged, Judging, Manner, Order, Pair, Question, Rewriting, Run, Task, Unknown, Words, Wrong,
+    from_named, manner_of,
+};
 use clap::ArgMatches;
 use std::alloc::{AllocError, Global};
 use yaml_round_device::{yaml_command_t, yaml_settings_t};
@@ -22,14 +25,13 @@ fn word_of<'a>(matches: &ArgMatches<'a>, name: &str, usual: &'a str) -> &'a str 
     matches.get_str(name).unwrap_or(usual)
 }
 
-fn words_of<'a>(matches: &ArgMatches<'a>, file: Option<&'a str>) -> Words<'a> {
-    Words {
-        file,
+fn manner_in<'a>(matches: &ArgMatches<'a>) -> Result<Manner, Unknown<'a>> {
+    manner_of(&Words {
         from: word_of(matches, "from", "auto"),
         line_break: word_of(matches, "break", "lf"),
         encoding: word_of(matches, "encoding", "utf8"),
         settings: numbers_of(matches),
-    }
+    })
 }
 
 fn files_in<'a>(alloc: Global, matches: &ArgMatches<'a>) -> Result<Vec<&'a str>, AllocError> {
@@ -39,47 +41,94 @@ fn files_in<'a>(alloc: Global, matches: &ArgMatches<'a>) -> Result<Vec<&'a str>,
     }
 }
 
-// A rewriting, or whether files have its form already. It takes one file where it writes.
-fn fmt_in<'a>(alloc: Global, matches: &ArgMatches<'a>) -> Order<'a> {
+fn run_in<'a>(
+    command: yaml_command_t,
+    matches: &ArgMatches<'a>,
+    file: Option<&'a str>,
+) -> Order<'a> {
+    match manner_in(matches) {
+        Ok(manner) => Order::Run(Run {
+            task: Task { command, manner },
+            file,
+        }),
+        Err(unknown) => Order::Wrong(Wrong::Unknown(unknown)),
+    }
+}
+
+fn normalize_in<'a>(matches: &ArgMatches<'a>, file: Option<&'a str>) -> Order<'a> {
+    match manner_in(matches) {
+        Ok(manner) => Order::Normalize(Rewriting { manner, file }),
+        Err(unknown) => Order::Wrong(Wrong::Unknown(unknown)),
+    }
+}
+
+fn judge_in<'a>(alloc: Global, question: Question, matches: &ArgMatches<'a>) -> Order<'a> {
     let Ok(files) = files_in(alloc, matches) else {
-        return Order::Short;
+        return Order::Wrong(Wrong::Short);
     };
-    let run = run_of(
-        yaml_command_t::Fmt,
-        &words_of(matches, files.first().copied()),
-    );
+    match manner_in(matches) {
+        Ok(manner) => Order::Judge(Judged {
+            judging: Judging {
+                question,
+                manner,
+                quiet: matches.get_flag("quiet"),
+            },
+            files,
+            list: matches.get_str("files0-from"),
+        }),
+        Err(unknown) => Order::Wrong(Wrong::Unknown(unknown)),
+    }
+}
+
+// A rewriting of one file, or whether files have its form already.
+fn rewriting_in<'a>(
+    alloc: Global,
+    name: &'a str,
+    question: Question,
+    matches: &ArgMatches<'a>,
+) -> Order<'a> {
     if matches.get_flag("check") {
-        return judge_of(Question::HasForm, false, run, files, None);
+        return judge_in(alloc, question, matches);
     }
-    match files.get(1) {
-        Some(word) => Order::Extra(word),
-        None => run,
+    let files = matches.get_strs("files").unwrap_or(&[]);
+    if let Some(word) = files.get(1) {
+        return Order::Wrong(Wrong::Extra {
+            command: name,
+            word,
+        });
+    }
+    let file = files.first().copied();
+    match question {
+        Question::IsNormal => normalize_in(matches, file),
+        _ => run_in(yaml_command_t::Fmt, matches, file),
     }
 }
 
-fn check_in<'a>(alloc: Global, matches: &ArgMatches<'a>) -> Order<'a> {
-    let Ok(files) = files_in(alloc, matches) else {
-        return Order::Short;
-    };
-    let run = run_of(yaml_command_t::Docs, &words_of(matches, None));
-    let list = matches.get_str("files0-from");
-    judge_of(Question::Loads, matches.get_flag("quiet"), run, files, list)
+fn pair_in<'a>(matches: &ArgMatches<'a>) -> Result<Pair<'a>, Unknown<'a>> {
+    let from = from_named(word_of(matches, "from", "auto"))?;
+    Ok(Pair {
+        from,
+        first: word_of(matches, "first", ""),
+        second: word_of(matches, "second", ""),
+    })
 }
 
-fn same_in<'a>(matches: &ArgMatches<'a>) -> Order<'a> {
-    let first = word_of(matches, "first", "");
-    let second = word_of(matches, "second", "");
-    same_of(word_of(matches, "from", "auto"), first, second)
+fn compare_in<'a>(name: &str, matches: &ArgMatches<'a>) -> Order<'a> {
+    match pair_in(matches) {
+        Ok(pair) if name == "diff" => Order::Diff(pair),
+        Ok(pair) => Order::Same(pair),
+        Err(unknown) => Order::Wrong(Wrong::Unknown(unknown)),
+    }
 }
 
-fn order_named<'a>(alloc: Global, name: &str, matches: &ArgMatches<'a>) -> Order<'a> {
+fn order_named<'a>(alloc: Global, name: &'a str, matches: &ArgMatches<'a>) -> Order<'a> {
     match name {
-        "fmt" => fmt_in(alloc, matches),
-        "check" => check_in(alloc, matches),
-        _ => match command_named(name) {
-            Some(command) => run_of(command, &words_of(matches, matches.get_str("file"))),
-            None => same_in(matches),
-        },
+        "fmt" => rewriting_in(alloc, name, Question::HasForm, matches),
+        "norm" => rewriting_in(alloc, name, Question::IsNormal, matches),
+        "check" => judge_in(alloc, Question::Loads, matches),
+        "docs" => run_in(yaml_command_t::Docs, matches, matches.get_str("file")),
+        "events" => run_in(yaml_command_t::Events, matches, matches.get_str("file")),
+        _ => compare_in(name, matches),
     }
 }
 
@@ -87,6 +136,6 @@ fn order_named<'a>(alloc: Global, name: &str, matches: &ArgMatches<'a>) -> Order
 pub(crate) fn order_in<'a>(alloc: Global, matches: &ArgMatches<'a>) -> Order<'a> {
     match matches.subcommand() {
         Some((name, matches)) => order_named(alloc, name, matches),
-        None => Order::Nothing,
+        None => Order::Wrong(Wrong::Nothing),
     }
 }

@@ -50,6 +50,10 @@ const SAME: u8 = 8;
 
 const CHECK: u8 = 16;
 
+const NORM: u8 = 32;
+
+const DIFF: u8 = 64;
+
 /// What stands behind the help of the program.
 pub(crate) const AFTER: &'static str = "\
 Examples:
@@ -59,10 +63,10 @@ Examples:
 Status:
   0  All is well
   1  An input is refused, or isn't as it was asked for, or reading or writing fails
-  2  The words are wrong, or where many files are judged one can't be read";
+  2  The words are wrong, or check, --check or diff can't read a file, or diff refuses one";
 
 /// The commands, in the order in which help lists them.
-pub(crate) const COMMANDS: [Told; 5] = [
+pub(crate) const COMMANDS: [Told; 7] = [
     Told {
         name: "fmt",
         about: "Writes the text again in canonical or pretty form; comments are dropped",
@@ -76,6 +80,20 @@ Status:
   1  An input is refused or hasn't the form, or reading or writing fails
   2  The words are wrong, or with --check a file can't be read",
         bit: FMT,
+    },
+    Told {
+        name: "norm",
+        about: "Writes the normal form: the one readable text of a content; comments are dropped",
+        after: "\
+Examples:
+  yaml_cli norm config.yaml
+  yaml_cli norm --check *.yaml
+
+Status:
+  0  The text was written, or all files are in normal form already
+  1  An input is refused or isn't in normal form, or reading or writing fails
+  2  The words are wrong, or with --check a file can't be read",
+        bit: NORM,
     },
     Told {
         name: "docs",
@@ -117,6 +135,19 @@ Status:
         bit: SAME,
     },
     Told {
+        name: "diff",
+        about: "Shows where the contents of two files part, and writes nothing where they don't",
+        after: "\
+Example:
+  yaml_cli diff old.yaml new.yaml
+
+Status:
+  0  The files have the same content
+  1  They haven't: the path to the first difference was written, and its place in both
+  2  The words are wrong, or a file is refused or can't be read",
+        bit: DIFF,
+    },
+    Told {
         name: "check",
         about: "Loads files, writes nothing where all load, and shows where one is refused",
         after: "\
@@ -148,7 +179,7 @@ pub(crate) const ROWS: [Row; 16] = [
         value: "FILE",
         usual: "",
         help: "The file to read, or with --check the files; `-`, or none, is standard input",
-        of: FMT,
+        of: FMT | NORM,
     },
     Row {
         name: "files",
@@ -164,7 +195,7 @@ pub(crate) const ROWS: [Row; 16] = [
         value: "A",
         usual: "",
         help: "The file to compare; `-` is standard input",
-        of: SAME,
+        of: SAME | DIFF,
     },
     Row {
         name: "second",
@@ -172,7 +203,7 @@ pub(crate) const ROWS: [Row; 16] = [
         value: "B",
         usual: "",
         help: "The file that it is compared with; `-` is standard input",
-        of: SAME,
+        of: SAME | DIFF,
     },
     Row {
         name: "from",
@@ -180,7 +211,7 @@ pub(crate) const ROWS: [Row; 16] = [
         value: "ENCODING",
         usual: "auto",
         help: "How the input is encoded: auto, utf8, utf16le or utf16be",
-        of: FMT | DOCS | EVENTS | SAME | CHECK,
+        of: FMT | NORM | DOCS | EVENTS | SAME | DIFF | CHECK,
     },
     Row {
         name: "check",
@@ -188,7 +219,7 @@ pub(crate) const ROWS: [Row; 16] = [
         value: "",
         usual: "false",
         help: "Write no text, but the names of the files that haven't this form already",
-        of: FMT,
+        of: FMT | NORM,
     },
     Row {
         name: "quiet",
@@ -220,7 +251,7 @@ pub(crate) const ROWS: [Row; 16] = [
         value: "COLUMNS",
         usual: "2",
         help: "Columns of a level, 2 to 9; any other number counts as 2",
-        of: FMT | DOCS,
+        of: FMT | NORM | DOCS,
     },
     Row {
         name: "width",
@@ -228,7 +259,7 @@ pub(crate) const ROWS: [Row; 16] = [
         value: "COLUMNS",
         usual: "80",
         help: "The column behind which lines are folded; 0, up to twice the indent, means 80",
-        of: FMT | DOCS,
+        of: FMT | NORM | DOCS,
     },
     Row {
         name: "ascii",
@@ -236,7 +267,7 @@ pub(crate) const ROWS: [Row; 16] = [
         value: "",
         usual: "false",
         help: "Escape all characters that aren't ASCII",
-        of: FMT | DOCS,
+        of: FMT | NORM | DOCS,
     },
     Row {
         name: "break",
@@ -244,7 +275,7 @@ pub(crate) const ROWS: [Row; 16] = [
         value: "BREAK",
         usual: "lf",
         help: "How lines end: lf, cr or crlf",
-        of: FMT | DOCS,
+        of: FMT | NORM | DOCS,
     },
     Row {
         name: "encoding",
@@ -252,7 +283,7 @@ pub(crate) const ROWS: [Row; 16] = [
         value: "ENCODING",
         usual: "utf8",
         help: "How the output is encoded: utf8, utf16le or utf16be",
-        of: FMT | DOCS,
+        of: FMT | NORM | DOCS,
     },
     Row {
         name: "limit",
@@ -260,6 +291,6 @@ pub(crate) const ROWS: [Row; 16] = [
         value: "BYTES",
         usual: "1099511627776",
         help: "How many bytes the output may have",
-        of: FMT | DOCS,
+        of: FMT | NORM | DOCS,
     },
 ];

@@ -25,7 +25,7 @@ pub use yaml_parse_model::{
     yaml_sequence_start_event_initialize, yaml_stream_end_event_initialize,
     yaml_stream_start_event_initialize, yaml_text_fault_t, yaml_token_source_t,
 };
-pub use yaml_parse_step::yaml_found_t;
+pub use yaml_parse_step::{events_keep_to_tokens, yaml_found_t};
 pub use yaml_scan_model::{
     yaml_break_t, yaml_encoding_t, yaml_error_type_t, yaml_event_type_t, yaml_fault_t,
     yaml_mapping_style_t, yaml_mark_t, yaml_memory_fault, yaml_node_type_t, yaml_origin_t,

@@ -11,11 +11,8 @@ ghost use Rattle.yaml_parse_step.specs.parse_grammar.TreeEvents.{given_of};
 ghost use Rattle.yaml_parse_step.specs.parse_grammar.Resolve.{reading, no_directives};
 ghost use Rattle.yaml_parse_step.specs.parse_grammar.Remaining.{EventOf, FaultOf, IsFinished};
 ghost use Rattle.yaml_parse_model.specs.Constructors.{HasUtf8};
-ghost use Rattle.yaml_parse_step.specs.parse_laws_given.SoundLaws.{BeginsWithTree};
-ghost use Rattle.yaml_parse_step.specs.parse_laws_given.CountsLaws.{AtMostFourSoFar};
 ghost use Rattle.yaml_parse_step.specs.parse_laws_given.Places.{FaultOfTokens, IsToldWith};
-ghost use Rattle.yaml_parse_step.specs.parse_laws_given.Given.{EventsOfTokens, GivesLeast};
-ghost use Rattle.yaml_parse_step.specs.Fronts.{BeginsTree};
+ghost use Rattle.yaml_parse_step.specs.parse_laws_given.Given.{EventsOfTokens};
 ghost use Rattle.yaml_parse_step.specs.Finds.{NextOf, Finds, IsUtf8Found, IsStackFound};
 ghost use Rattle.yaml_parse_step.specs.Steps.{Turns, IsUtf8Turn, IsStackTurn};
 ghost use Rattle.yaml_parse_step.specs.Turned.{turned};
@@ -108,7 +105,8 @@ pub fn yaml_parser_initialize<S: yaml_token_source_t>(
         → IfOk result (λ p. (p.events ≡ (reading (given_of t (length rest)) None
         no_directives).events)
         × (p.ending ≡ (reading (given_of t (length rest)) None no_directives).ending)) }
-    // They are the tokens' events, also where those begin with no tree's: before their fault.
+    // They are the tokens' events, also where those begin with no tree's: before their fault. What follows from that is a law
+    // (`events_keep_to_tokens`).
     ensures events { IfOk result (λ p. EventsOfTokens (S.to_come source) (S.fault_to_come source)
         p.events) }
     // No fault is to come exactly where they begin with a sentence, and else the tokens' fault: that of the least place, a
@@ -118,15 +116,6 @@ pub fn yaml_parser_initialize<S: yaml_token_source_t>(
     // It is told as its place is reached, with no token asked for behind that.
     ensures told { (e : Fault) → IfOk result (λ p. p.ending ≡ Some e
         → IsToldWith (S.to_come source) (S.fault_to_come source) e p.ending_unasked) }
-    // As each event is given, no more have come than four for each token that was asked for by then.
-    ensures few { IfOk result (λ p. AtMostFourSoFar 0 (length (S.to_come source)) p.events) }
-    // Where they don't begin with the tokens of a tree, the events to come begin those of a tree that goes on with the longest
-    // front of them with which one does.
-    ensures front { IfOk result (λ p. (BeginsWithTree (S.to_come source) → ⊥)
-        → BeginsTree (S.to_come source) p.events) }
-    // And they begin with all that every such tree gives with no token asked for behind that front.
-    ensures least { IfOk result (λ p. (BeginsWithTree (S.to_come source) → ⊥)
-        → GivesLeast (S.to_come source) p.events) }
     // No token was asked for yet.
     ensures unasked { IfOk result (λ p. (p.unasked ≡ length (S.to_come source)) × (p.held ≡ 0)) }
     ensures quiet { IfOk result (λ p. (p.answered ≡ no_fault) × (p.between ≡ true)) }

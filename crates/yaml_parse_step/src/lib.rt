@@ -2,7 +2,9 @@
 #![tactic(auto)]
 
 mod found;
+mod law;
 mod step;
 
 pub use found::yaml_found_t;
+pub use law::events_keep_to_tokens;
 pub use step::{Step, StepBuffers, take_turn};

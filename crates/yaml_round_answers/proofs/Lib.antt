@@ -2,4 +2,4 @@ mod Telling
 mod Handing
 mod ScanTelling
 pub mod Exact
-pub mod Normalizing
+pub mod NormalExact

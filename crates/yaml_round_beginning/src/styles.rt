@@ -202,6 +202,7 @@ fn place_behind(event: &yaml_event_t, at: Place) -> Place
 }
 
 // Gives the event the style and the marks of its place.
+// It is long: an arm for each kind of event, and nothing besides.
 fn put_style(event: &mut yaml_event_t, at: Place)
     ensures styled { emitter_event (event_of event.new).body
         ≡ spec.styled (spec.place_of at) (event_of event.old).body }

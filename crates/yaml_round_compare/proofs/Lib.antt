@@ -1,4 +1,4 @@
-mod Walks
+pub mod Walks
 mod Placing
 mod Fronts
 mod Stepping

@@ -93,6 +93,8 @@ fn pass_document(document: &mut u64) -> Result<(), AllocError>
 }
 
 // The event stands in front. A scalar's text is taken out of it.
+// Out of line: where no path is kept, the loop that compares has a test of one byte for it.
+#[inline(never)]
 fn pass(
     alloc: Global,
     place: &mut yaml_difference_t,

@@ -16,6 +16,7 @@ mod Saying
 mod Documents
 pub mod Joining
 mod Rows
+mod Told
 mod Placing
 mod Placed
 mod Numbered

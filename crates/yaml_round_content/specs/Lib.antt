@@ -12,6 +12,7 @@ pub mod ContentLaws
 pub mod TreeContent
 pub mod TreeDocuments
 pub mod Reading
+pub mod TreeTold
 pub mod Loading
 pub mod NextLoads
 pub mod PlainLoading

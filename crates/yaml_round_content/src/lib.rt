@@ -23,10 +23,11 @@ pub use loads::{agreeing_say_the_same, loads_of_content, loads_of_renamed};
 pub use reading_laws::{
     a_source_has_one_loading, a_source_loads_its_loading, an_input_has_one_loading,
     an_input_has_one_reading, an_input_loads_its_loading, each_input_has_a_reading,
-    events_are_of_the_tree, events_are_placed, inputs_are_numbered, loads_are_numbered,
-    loads_are_one_by_one, read_is_refused, read_is_said, refused_is_read, rows_of_contents_hold,
-    said_is_read, sources_load_by_content, the_fault_of_loads_is_its_loading,
-    the_loading_is_what_it_loads, what_loads_without_fault_is_its_loading,
+    events_are_of_the_tree, events_are_placed, events_are_told, inputs_are_numbered,
+    loads_are_numbered, loads_are_one_by_one, read_is_refused, read_is_said, refused_is_read,
+    rows_of_contents_hold, said_is_read, sources_load_by_content,
+    the_fault_of_loads_is_its_loading, the_loading_is_what_it_loads,
+    what_loads_without_fault_is_its_loading,
 };
 pub use streams_laws::{inputs_are_fronts, inputs_are_streams, inputs_load_right, parsed_is_right};
 pub use writable_laws::{

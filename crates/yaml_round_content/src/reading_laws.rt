@@ -6,6 +6,7 @@ ghost use Rattle.yaml_round_content.specs.Loading.{EventsArePlaced, InputsAreNum
 ghost use Rattle.yaml_round_content.specs.NextLoads.{SourcesLoadByContent};
 ghost use Rattle.yaml_round_content.specs.PlainLoading.{FaultlessLoad, FaultyLoad, InputsLoad, LoadingIsLoads, LoadingIsOne, SourceLoadingIsOne, SourcesLoad};
 ghost use Rattle.yaml_round_content.specs.Reading.{EventsAreOfTree, InputsRead, ReadIsRefused, ReadIsSaid, ReadingIsOne, RefusedIsRead, SaidIsRead};
+ghost use Rattle.yaml_round_content.specs.TreeTold.{EventsAreTold};
 ghost use Rattle.yaml_round_content.specs.Rows.{RowsHold};
 
 use yaml_parse_loader::loads_documents;
@@ -43,6 +44,11 @@ pub fn read_is_said()
 /// The events of an accepted input are those of its tree, their tags resolved.
 pub fn events_are_of_the_tree()
     ensures { EventsAreOfTree }
+{}
+
+/// They are those that the tree tells: each tag in full by the directives of its own document.
+pub fn events_are_told()
+    ensures { EventsAreTold }
 {}
 
 /// Lists of tokens with their contents.

@@ -7,6 +7,7 @@ use Rattle.yaml_round.specs.round_laws_documents.content.Said as content
 use Rattle.yaml_round.specs.round_laws_documents.content.parse_laws_loading.parse_document.Documents.{Document}
 use Rattle.yaml_round.specs.round_laws_documents.content.PlainLoading.{PlainLoading}
 use Rattle.yaml_round.specs.round_laws_documents.content.Agree.{core_of}
+use Rattle.yaml_round.specs.round_laws_documents.content.Renamed.{renamed}
 use Rattle.yaml_round.specs.round_laws_documents.content.DumpsEvents.{trees_of_dumps}
 use Rattle.yaml_round.proofs.Loaded.{faultless_load}
 use Rattle.yaml_round.proofs.Whole.{inputs_load_alike, names_do_not_matter}
@@ -74,5 +75,5 @@ names s r c one a_from b_from a b t u h g x y =
     let p = normal_of a_from s a t k.documents x k.loading in
     let q = normal_of b_from s b u l.documents y l.loading in
     let said = λ (z : List Document). canonical_text s (trees_of_dumps z) in
-    p.is ∙ ap said (sym (loads_alike a_from a k.documents k.loading)) ∙ names_do_not_matter (requested_under s true) r c one a_from a h b_from b g
+    p.is ∙ ap said (sym (loads_alike a_from a k.documents k.loading)) ∙ names_do_not_matter (requested_under s true) r c one a_from a (read_said a_from a c h) b_from b (read_said b_from b (renamed r c) g)
     ∙ ap said (loads_alike b_from b l.documents l.loading) ∙ sym q.is

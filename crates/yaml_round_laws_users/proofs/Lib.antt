@@ -1,8 +1,10 @@
 mod Rewriting
-mod Normalizing
+mod NormalForms
 mod Comparing
 mod Beginning
 mod Shaped
 mod Joining
 mod Loads
 mod Limits
+mod Readings
+mod Partings

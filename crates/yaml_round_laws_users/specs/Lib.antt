@@ -1,5 +1,7 @@
 pub mod Laws
-pub mod Normalizing
+pub mod NormalForms
 pub mod Reloads
 pub mod Loads
 pub mod Limits
+pub mod Plain
+pub mod Partings

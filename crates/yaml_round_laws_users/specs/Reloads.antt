@@ -5,7 +5,7 @@ use Rattle.yaml_round.specs.declared.yaml_encoding_t.TheVariants.{YAML_ANY_ENCOD
 use Rattle.yaml_round.specs.round_laws_documents.content.parse_laws_loading.parse_document.Documents.{Document}
 use Rattle.yaml_round.specs.round_laws_documents.content.PlainLoading.{PlainLoading}
 use Rattle.yaml_round.specs.round_laws_documents.content.Said as content
-use Rattle.yaml_round.specs.round_laws_documents.content.Said.{HasContent}
+use Rattle.yaml_round.specs.round_laws_documents.content.Reading.{PlainReading}
 use Rattle.yaml_round.specs.round_laws_documents.content.Agree.{AreAgreeing}
 use Rattle.yaml_round.specs.round_laws_documents.content.Renamed.{Renaming, renamed, AreOneToOne}
 use Rattle.yaml_round.specs.declared.yaml_settings_t.{yaml_settings_t}
@@ -39,5 +39,5 @@ abbrev pub NamesLeaveReloads : Type 0
 NamesLeaveReloads = (s : yaml_settings_t) (r : ℕ → Renaming) (c : List content.Document)
     → AreOneToOne r c
     → (a_from b_from : yaml_encoding_t) (a b t u : List ℕ)
-    → HasContent a_from a c → HasContent b_from b (renamed r c)
+    → PlainReading a_from a (Ok c) → PlainReading b_from b (Ok (renamed r c))
     → IsReloaded a_from s a (Ok t) → IsReloaded b_from s b (Ok u) → t ≡ u

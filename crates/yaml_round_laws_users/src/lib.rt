@@ -1,10 +1,12 @@
-//! Laws of what `yaml_reformat`, `yaml_normalize`, `yaml_reload` and `yaml_same` answer and of the limits that they name, for
-//! users: each follows from the definitions that the calls' contracts name. No code.
+//! Laws of what `yaml_reformat`, `yaml_normalize`, `yaml_reload`, `yaml_same` and `yaml_diff` answer and of the limits that
+//! they name, for users: each follows from the definitions that the calls' contracts name. No code.
 #![tactic(auto)]
 
 mod column;
 mod laws;
 mod normalizing;
+mod parting;
+mod plain;
 mod reload;
 
 pub use column::{
@@ -16,6 +18,8 @@ pub use laws::{
     json_stays_pretty, rewriting_is_still, same_content_is_an_equivalence, settings_do_not_matter,
 };
 pub use normalizing::{normal_forms_tell_contents, normalizing_is_still};
+pub use parting::diffs_agree;
+pub use plain::{canonical_text_is_the_contents, pretty_text_reads_back};
 pub use reload::{
     answers_and_reloads_agree, names_leave_reloads, reloads_are_normal_of_loads,
     reloads_are_of_loads, reloads_tell_documents,

@@ -1,6 +1,6 @@
 //! Each function's contract is a law of the normal form that people read.
 
-ghost use Rattle.yaml_round_laws_users.specs.Normalizing.{NormalFormsTellContents, NormalizingIsStill};
+ghost use Rattle.yaml_round_laws_users.specs.NormalForms.{NormalFormsTellContents, NormalizingIsStill};
 
 /// Two answers of `yaml_normalize` under the same settings are equal exactly where the contents of their inputs are.
 pub fn normal_forms_tell_contents()

@@ -2,7 +2,7 @@ use Rattle.std.proofs.Common.{ap, List, None}
 use Rattle.yaml_parse_model.specs.Events.{TagDirective}
 use Rattle.yaml_parse_step.specs.parse_grammar.Resolve.{Directives}
 use Rattle.yaml_parse_core.specs.Owned.{owned_states, owned_properties}
-use Rattle.yaml_parse_step.proofs.Sentences.{fault_of_tokens, told_with, begins_tree, few_events, tokens_events, least_events}
+use Rattle.yaml_parse_step.proofs.Sentences.{fault_of_tokens, told_with, tokens_events}
 use Rattle.yaml_parse_step.proofs.Turning.{starts, starts_anywhere, starts_unasked}
 use Rattle.yaml_parse_step.specs.parse_grammar.Remaining.{is_between}
 use Rattle.yaml_parse.proofs.Holds.{stream_holds}
@@ -23,14 +23,6 @@ returns-clause-fault g c =
     (c.fresh.ensures (λ m. m) (owned_properties c.none_waiting-waiting.result))
     (ap (λ (xs : List TagDirective). let ds : Directives = record { version = None; tags = xs } in ds) c.new.ensures)).1
 
-pub returns-clause-front : goal.returns-clause-front
-returns-clause-front g c =
-    begins_tree (g.S.yaml_token_source_t.to_come c.args.source) (g.S.yaml_token_source_t.fault_to_come c.args.source) _
-    (starts_anywhere (g.S.yaml_token_source_t.to_come c.args.source) (g.S.yaml_token_source_t.fault_to_come c.args.source) (owned_states c.fresh.result c.none_waiting-waiting.result)
-    (record { version = None; tags = c.new.result })
-    (c.fresh.ensures (λ m. m) (owned_properties c.none_waiting-waiting.result))
-    (ap (λ (xs : List TagDirective). let ds : Directives = record { version = None; tags = xs } in ds) c.new.ensures)).0
-
 pub returns-clause-told : goal.returns-clause-told
 returns-clause-told g c = λ e p.
     told_with (g.S.yaml_token_source_t.to_come c.args.source) (g.S.yaml_token_source_t.fault_to_come c.args.source) _ e _
@@ -44,25 +36,9 @@ returns-clause-told g c = λ e p.
     (ap (λ (xs : List TagDirective). let ds : Directives = record { version = None; tags = xs } in ds) c.new.ensures))
     p
 
-pub returns-clause-few : goal.returns-clause-few
-returns-clause-few g c =
-    few_events (g.S.yaml_token_source_t.to_come c.args.source) (g.S.yaml_token_source_t.fault_to_come c.args.source) _
-    (starts_anywhere (g.S.yaml_token_source_t.to_come c.args.source) (g.S.yaml_token_source_t.fault_to_come c.args.source) (owned_states c.fresh.result c.none_waiting-waiting.result)
-    (record { version = None; tags = c.new.result })
-    (c.fresh.ensures (λ m. m) (owned_properties c.none_waiting-waiting.result))
-    (ap (λ (xs : List TagDirective). let ds : Directives = record { version = None; tags = xs } in ds) c.new.ensures)).0
-
 pub returns-clause-events : goal.returns-clause-events
 returns-clause-events g c =
     tokens_events (g.S.yaml_token_source_t.to_come c.args.source) (g.S.yaml_token_source_t.fault_to_come c.args.source) _
-    (starts_anywhere (g.S.yaml_token_source_t.to_come c.args.source) (g.S.yaml_token_source_t.fault_to_come c.args.source) (owned_states c.fresh.result c.none_waiting-waiting.result)
-    (record { version = None; tags = c.new.result })
-    (c.fresh.ensures (λ m. m) (owned_properties c.none_waiting-waiting.result))
-    (ap (λ (xs : List TagDirective). let ds : Directives = record { version = None; tags = xs } in ds) c.new.ensures)).0
-
-pub returns-clause-least : goal.returns-clause-least
-returns-clause-least g c =
-    least_events (g.S.yaml_token_source_t.to_come c.args.source) (g.S.yaml_token_source_t.fault_to_come c.args.source) _
     (starts_anywhere (g.S.yaml_token_source_t.to_come c.args.source) (g.S.yaml_token_source_t.fault_to_come c.args.source) (owned_states c.fresh.result c.none_waiting-waiting.result)
     (record { version = None; tags = c.new.result })
     (c.fresh.ensures (λ m. m) (owned_properties c.none_waiting-waiting.result))

@@ -3,7 +3,7 @@ use mir.Syntax.{w32}
 use mir.Val.{SFits}
 use Rattle.std.proofs.Common.{rules}
 use Rattle.std.proofs.lemmas.Int.{to_z-of_z}
-use Rattle.yaml_round_answers.proofs.Normalizing.{normalized_told, normalized_exact}
+use Rattle.yaml_round_answers.proofs.NormalExact.{normalized_told, normalized_exact}
 use Rattle.yaml_round_c.proofs.normalizing.yaml_c_normalize.Goals as goal
 
 pub returns-clause-told : goal.returns-clause-told

@@ -1,4 +1,4 @@
-use Rattle.yaml_round_laws_users.proofs.Normalizing.{still}
+use Rattle.yaml_round_laws_users.proofs.NormalForms.{still}
 use Rattle.yaml_round_laws_users.proofs.normalizing.normalizing_is_still.Goals as goal
 
 pub returns : goal.returns

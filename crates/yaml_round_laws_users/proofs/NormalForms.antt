@@ -13,7 +13,7 @@ use Rattle.yaml_round.specs.Readable.{IsReadableForm, IsReadablePast, IsReadable
 use Rattle.yaml_round.proofs.Joining.{read_said}
 use Rattle.yaml_round_laws_users.proofs.Comparing.{one_content}
 use Rattle.yaml_round_laws_users.proofs.Rewriting.{none_is_past, no_fault}
-use Rattle.yaml_round_laws_users.specs.Normalizing.{NormalFormsTellContents, NormalizingIsStill}
+use Rattle.yaml_round_laws_users.specs.NormalForms.{NormalFormsTellContents, NormalizingIsStill}
 
 told_apart : (s : yaml_settings_t) (a_from b_from : yaml_encoding_t) (a b t u : List ℕ) → IsReadableForm a_from s a t → IsReadableForm b_from s b u → t ≡ u → SameContent a_from a b_from b
 told_apart s a_from b_from a b t u p q e = record {

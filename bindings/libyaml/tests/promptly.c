@@ -1,0 +1,93 @@
+/* Documents come before the reader is asked for what stands behind them, and within a document output comes before it ends.
+ * Linked with Debian's libyaml it tells the same of that.
+ *
+ *     promptly */
+#include <yaml.h>
+
+static int wrong;
+
+#define EXPECT(condition)                                                             \
+    do {                                                                              \
+        if (!(condition)) {                                                           \
+            wrong++;                                                                  \
+            printf("promptly.c:%d: %s\n", __LINE__, #condition);                      \
+        }                                                                             \
+    } while (0)
+
+/* Gives a document at each call; how many it gave. */
+static int give(void *data, unsigned char *buffer, size_t size, size_t *size_read)
+{
+    static const char *const texts[] = {"a: b\n", "---\n- c\n", "--- |\n d\n", "---\ne\n"};
+    int *given = data;
+    *size_read = 0;
+    if (*given < 4) {
+        *size_read = strlen(texts[*given]);
+        EXPECT(size >= *size_read);
+        memcpy(buffer, texts[*given], *size_read);
+    }
+    ++*given;
+    return 1;
+}
+
+static void reads(void)
+{
+    yaml_parser_t parser;
+    yaml_event_t event;
+    int given = 0, ended = 0;
+    yaml_parser_initialize(&parser);
+    yaml_parser_set_input(&parser, give, &given);
+    while (!parser.stream_end_produced && yaml_parser_parse(&parser, &event)) {
+        if (event.type == YAML_DOCUMENT_END_EVENT) {
+            ended++;
+            EXPECT(given == ended + 1);
+            EXPECT(event.end_mark.line == (size_t)(ended == 1 ? 1 : ended * 2 - 1));
+        }
+        yaml_event_delete(&event);
+    }
+    EXPECT(!parser.error && ended == 4);
+    yaml_parser_delete(&parser);
+}
+
+static int take(void *data, unsigned char *buffer, size_t size)
+{
+    (void)buffer;
+    *(size_t *)data += size;
+    return 1;
+}
+
+static void item(yaml_emitter_t *emitter, const char *text)
+{
+    yaml_event_t event;
+    yaml_scalar_event_initialize(&event, NULL, NULL, (const yaml_char_t *)text, -1, 1, 1, YAML_PLAIN_SCALAR_STYLE);
+    EXPECT(yaml_emitter_emit(emitter, &event));
+}
+
+static void writes(void)
+{
+    yaml_emitter_t emitter;
+    yaml_event_t event;
+    size_t written = 0;
+    yaml_emitter_initialize(&emitter);
+    yaml_emitter_set_output(&emitter, take, &written);
+    yaml_stream_start_event_initialize(&event, YAML_UTF8_ENCODING);
+    EXPECT(yaml_emitter_emit(&emitter, &event));
+    yaml_document_start_event_initialize(&event, NULL, NULL, NULL, 1);
+    EXPECT(yaml_emitter_emit(&emitter, &event));
+    yaml_mapping_start_event_initialize(&event, NULL, NULL, 1, YAML_BLOCK_MAPPING_STYLE);
+    EXPECT(yaml_emitter_emit(&emitter, &event));
+    for (size_t i = 1; i <= 20000; i++) {
+        item(&emitter, "key");
+        item(&emitter, "some value");
+        EXPECT(written + (1 << 16) > i * strlen("key: some value\n"));
+    }
+    EXPECT(written > 200000);
+    yaml_emitter_delete(&emitter);
+}
+
+int main(void)
+{
+    reads();
+    writes();
+    printf("promptly: %d wrong\n", wrong);
+    return wrong != 0;
+}

@@ -1,0 +1,105 @@
+/* Where an input is cut: between two documents, or within a long one.
+ *
+ * Between documents: what stands in front of a cut is parsed, or scanned, alone, and so is what stands
+ * behind it: a line `---` at column 0 ends every token and every document, and the scanner and the parser are behind it as they
+ * are at a stream's start, if the front has no fault. Where it has one at its end the cut counts for nothing
+ * (layer_is_doubtful).
+ *
+ * Within a document, where its root is a block collection at column 0, without anchor, tag and directives: in front of an item at
+ * column 0. What stands behind it is parsed behind a stand-in, a root of that kind with one item; of both the events of what
+ * isn't there are left out. The line has `- ` or a simple plain key, so that its first token has no fault. */
+#include "layer.h"
+
+static int is_blank_or_break(uint8_t byte)
+{
+    return byte == ' ' || byte == '\t' || byte == '\r' || byte == '\n';
+}
+
+/* Whether `---` stands there, with a blank or a break behind it, which is looked at too and has to be there. */
+static int is_document_start(const uint8_t *text, size_t len, size_t at)
+{
+    return at + 3 < len && !memcmp(text + at, "---", 3) && is_blank_or_break(text[at + 3]);
+}
+
+/* Whether a line is `...` and nothing else. */
+static int is_document_end(const uint8_t *text, size_t at, size_t end)
+{
+    if (end - at < 4 || memcmp(text + at, "...", 3))
+        return 0;
+    for (at += 3; at < end; at++)
+        if (!is_blank_or_break(text[at]))
+            return 0;
+    return 1;
+}
+
+/* What a line begins with, behind blanks where that is a comment or a break. */
+static uint8_t first_of(const uint8_t *text, size_t at, size_t end)
+{
+    uint8_t first = text[at];
+    while (at + 1 < end && text[at] != '\n' && is_blank_or_break(text[at]))
+        at++;
+    return text[at] == '#' || text[at] == '\n' ? text[at] : first;
+}
+
+/* The cut for a document that begins at `---`: there, or where its directives stand, behind `...`. 0: there is none. */
+static size_t cut_before(const uint8_t *text, size_t mark)
+{
+    size_t end = mark;
+    int has_directives = 0;
+    while (end > 0) {
+        size_t at = end - 1; /* the line's LF */
+        while (at > 0 && text[at - 1] != '\n')
+            at--;
+        uint8_t first = first_of(text, at, end);
+        if (first != '#' && first != '\n' && first != '%')
+            return !has_directives ? mark : is_document_end(text, at, end) ? end : 0;
+        has_directives |= first == '%';
+        end = at;
+    }
+    return 0;
+}
+
+size_t layer_last_cut(const uint8_t *text, size_t len, size_t from)
+{
+    for (size_t at = len; at > from; at--)
+        if (text[at - 1] == '\n' && is_document_start(text, len, at)) {
+            size_t cut = cut_before(text, at);
+            if (cut)
+                return cut;
+        }
+    return 0;
+}
+
+static int is_of_key(uint8_t byte)
+{
+    return (byte >= 'a' && byte <= 'z') || (byte >= 'A' && byte <= 'Z') || (byte >= '0' && byte <= '9') || byte == '_';
+}
+
+/* The root that may have an item in that line. */
+static enum layer_root root_with(const uint8_t *text, size_t len, size_t at)
+{
+    size_t end = at;
+    if (text[at] == '-')
+        return at + 1 < len && is_blank_or_break(text[at + 1]) ? LAYER_SEQUENCE : LAYER_NO_ROOT;
+    while (end < len && end < at + 128 && is_of_key(text[end]))
+        end++;
+    return end > at && end + 1 < len && text[end] == ':' && is_blank_or_break(text[end + 1]) ? LAYER_MAPPING : LAYER_NO_ROOT;
+}
+
+enum layer_root layer_root_of(const uint8_t *text, size_t len)
+{
+    size_t at = 0;
+    while (at < len && (text[at] == '#' || text[at] == '\n' || !memcmp(text + at, "---\n", len - at < 4 ? len - at : 4))) {
+        const uint8_t *end = memchr(text + at, '\n', len - at);
+        at = end ? (size_t)(end - text) + 1 : len;
+    }
+    return at < len ? root_with(text, len, at) : LAYER_NO_ROOT;
+}
+
+size_t layer_last_item(const uint8_t *text, size_t len, size_t from, enum layer_root root)
+{
+    for (size_t at = len; at > from && root; at--)
+        if (text[at - 1] == '\n' && at < len && root_with(text, len, at) == root)
+            return at;
+    return 0;
+}

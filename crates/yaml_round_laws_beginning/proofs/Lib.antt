@@ -1,0 +1,2 @@
+mod Full
+mod Roots

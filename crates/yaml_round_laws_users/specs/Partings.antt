@@ -1,0 +1,37 @@
+-- What follows from the definition of where two inputs part.
+use Rattle.std.specs.Prelude.{◌≡◌, ℕ, Bool, true, false, List, Option, Some, None, Ok}
+use Rattle.yaml_round.specs.declared.yaml_encoding_t.{yaml_encoding_t}
+use Rattle.yaml_round.specs.declared.yaml_difference_t.{yaml_difference_t}
+use Rattle.yaml_round.specs.Answers.{IsCompared}
+use Rattle.yaml_round.specs.Walking.{path_of}
+use Rattle.yaml_round.specs.Differences.{IsDiff, IsParting}
+
+-- with the path, the marks and the kinds of the other
+pub record TellTheSame (d e : yaml_difference_t) : Type 0 where
+  pub path : path_of d ≡ path_of e
+  pub first_mark : d.first_mark ≡ e.first_mark
+  pub first_type : d.first_type ≡ e.first_type
+  pub second_mark : d.second_mark ≡ e.second_mark
+  pub second_type : d.second_type ≡ e.second_type
+
+-- the same with the sides turned
+abbrev pub turned : yaml_difference_t → yaml_difference_t
+turned d = record d {
+  first_mark = d.second_mark;
+  first_type = d.second_type;
+  second_mark = d.first_mark;
+  second_type = d.first_type;
+}
+
+-- `yaml_diff` answers nothing exactly where `yaml_same` answers true. It has one answer, whichever input comes first.
+pub record DiffsAgree : Type 0 where
+  pub nothing : (a_from b_from : yaml_encoding_t) (a b : List ℕ) (same : Bool)
+      → IsCompared a_from a b_from b same → IsDiff a_from a b_from b (Ok None) → same ≡ true
+  pub something : (a_from b_from : yaml_encoding_t) (a b : List ℕ) (same : Bool)
+      (d : yaml_difference_t) → IsCompared a_from a b_from b same
+      → IsDiff a_from a b_from b (Ok (Some d)) → same ≡ false
+  pub again : (a_from b_from : yaml_encoding_t) (a b : List ℕ) (d e : yaml_difference_t)
+      → IsParting a_from a b_from b d → IsParting a_from a b_from b e → TellTheSame d e
+  pub turned : (a_from b_from : yaml_encoding_t) (a b : List ℕ) (d e : yaml_difference_t)
+      → IsParting a_from a b_from b d → IsParting b_from b a_from a e
+      → TellTheSame d (turned e)

@@ -14,9 +14,9 @@
 # make bench: the program beside C's libyaml (docs/BENCHMARK.md). It needs python3, a C compiler and libyaml's headers.
 # make bench-counts: the same by counts of instructions; it needs valgrind.
 # make bench-python: the package for Python beside PyYAML. It needs python3 with PyYAML that has libyaml.
-# make docs: writes docs/EDITS.md and the quoted definitions of docs/MEANING.md again, and looks for names in the documents
-#   that are gone; where the program is built and newer than the sources, also docs/man/yaml_cli.1 and completions/ from its
-#   help. It needs python3.
+# make docs: writes docs/EDITS.md, docs/PROVED.md from the README.md of each crate, and the quoted definitions of
+#   docs/MEANING.md again, and looks for names in the documents that are gone; where the program is built and newer than the
+#   sources, also docs/man/yaml_cli.1 and completions/ from its help. It needs python3.
 # make bindings-test: builds the library, runs the C example and Python's tests over it, under AddressSanitizer where that
 #   is there, and tries both as they are installed. It needs a C compiler and python3 (3.10).
 # make faults: runs the program with every allocation refused in turn, every read, write and open failing, short or
@@ -74,6 +74,7 @@ bench-python: library
 docs:
 	@tools/meaning.py
 	@tools/edits.py
+	@tools/proved.py
 	@tools/paths.py
 	@tools/help.py --if-built
 

@@ -1,5 +1,6 @@
 #!/usr/bin/env python3
 """Lists the files of crates/ that the documents name and that aren't there: tools/paths.py. It fails where there are any.
+The documents are those of the top and of docs/, and the README.md of each crate.
 
 docs/MEASURED.md is left out: what was measured may be gone since.
 """
@@ -35,9 +36,13 @@ def known_names():
 KNOWN = set()
 
 
+def pages():
+    found = [it for pattern in ("docs/*.md", "crates/*/README.md") for it in glob.glob(f"{repo.TOP}/{pattern}")]
+    return ["README.md", "CONTRIBUTING.md", *sorted({os.path.relpath(it, repo.TOP) for it in found} - {"docs/MEASURED.md"})]
+
+
 def main():
-    pages = {os.path.relpath(it, repo.TOP) for it in glob.glob(f"{repo.TOP}/docs/*.md")} - {"docs/MEASURED.md"}
-    found = [it for page in ["README.md", "CONTRIBUTING.md", *sorted(pages)] for it in lacking(page)]
+    found = [it for page in pages() for it in lacking(page)]
     print("\n".join(found) if found else "paths: all are there")
     return bool(found)
 

@@ -56,7 +56,7 @@ struct Stand {
 
 impl<'a> Machine<'a> {
     ghost use Rattle.yaml_scan_machine.specs.State.{IsMachine, IsNext};
-    ghost use Rattle.yaml_scan_machine.specs.Shows.{IsShown, fields_of, history_of, stream_of, Picks};
+    ghost use Rattle.yaml_scan_machine.specs.Shows.{history_of, stream_of, Picks};
     ghost use Rattle.yaml_scan_machine.specs.Comes.{Refused};
     ghost use Rattle.yaml_scan_machine.specs.Stood.{IsStand};
     ghost use Rattle.yaml_scan_machine.specs.Reads.{GivesNext, GivesLexeme, EndsAt, keyed_by, required_in};

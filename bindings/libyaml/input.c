@@ -122,8 +122,9 @@ static int ends_at_cut(const yaml_parser_t *parser, layer_reading *reading, size
         return 0;
     size_t cut = layer_last_cut(reading->bytes, len, from);
     if (!cut && !reading->is_uncut && reading->asked == LAYER_EVENTS) {
-        size_t from_mark = !reading->bytes_before && has_utf8_mark(reading) ? 3 : 0;
-        reading->cut_in = reading->within ? reading->within : layer_root_of(reading->bytes + from_mark, len - from_mark);
+        if (!reading->front && !reading->bytes_before && has_utf8_mark(reading))
+            reading->front = 3;
+        reading->cut_in = reading->within ? reading->within : layer_root_of(reading->bytes, len, &reading->front);
         cut = layer_last_item(reading->bytes, len, from, reading->cut_in);
     }
     if (cut)
@@ -221,7 +222,7 @@ static void leave_window(layer_reading *reading)
         reading->input.len = reading->given;
         memmove(reading->input.at, reading->input.at + reading->len, reading->given);
     }
-    reading->len = 0;
+    reading->len = reading->front = 0;
     reading->within = reading->cut_in;
     reading->cut_in = LAYER_NO_ROOT;
     reading->is_uncut &= reading->within != LAYER_NO_ROOT;

@@ -88,6 +88,7 @@ typedef struct {
     int is_ascii;
     enum layer_root within;   /* the root in which the window begins */
     enum layer_root cut_in;   /* and that in which it ends */
+    size_t front;             /* of the window, in front of its first content */
     yaml_c_mark root;         /* where that begins, in its window, and in the input */
     yaml_mark_t root_mark;
     int is_uncut;             /* the document isn't cut, since its root is none of these */
@@ -134,8 +135,8 @@ int layer_is_doubtful(const layer_reading *reading);
 int layer_decode(yaml_parser_t *parser, layer_reading *reading);
 /* The last place behind `from` at which an input of that length can be cut; 0: none is known by now. */
 size_t layer_last_cut(const uint8_t *text, size_t len, size_t from);
-/* The root with which a document may begin there. */
-enum layer_root layer_root_of(const uint8_t *text, size_t len);
+/* The root with which a document may begin, behind `from`, which is moved on behind comments and `---`. */
+enum layer_root layer_root_of(const uint8_t *text, size_t len, size_t *from);
 /* The last place behind `from` where an item of the root begins; 0: none is known by now. */
 size_t layer_last_item(const uint8_t *text, size_t len, size_t from, enum layer_root root);
 

@@ -6,7 +6,8 @@
  * - Within a document the state is its directives, the open collections, each with its indentation, and the cursor. The stand-in
  *   is that document's start, the start of each open collection, with the key where it is a value, and some items in the
  *   innermost one: `x`, and what was laid out last. An indentation depends on these alone, as long as all is in block style
- *   (values_stand_by_keys in yaml_emit_laws_columns), and of the column nothing does there (blocks_forget_columns). A cursor behind a scalar, an alias or a flow collection is where a line comes next, or where the same scalar leaves it. Whether
+ *   (values_stand_by_keys in yaml_emit_laws_columns), and of the column nothing does there (blocks_forget_columns). A cursor
+ *   behind a scalar, an alias or a flow collection is where a line comes next, or where the same scalar leaves it. Whether
  *   a block scalar keeps its breaks isn't replaced: such a document is kept whole. */
 #include "layer.h"
 

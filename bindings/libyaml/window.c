@@ -86,14 +86,15 @@ static enum layer_root root_with(const uint8_t *text, size_t len, size_t at)
     return end > at && end + 1 < len && text[end] == ':' && is_blank_or_break(text[end + 1]) ? LAYER_MAPPING : LAYER_NO_ROOT;
 }
 
-enum layer_root layer_root_of(const uint8_t *text, size_t len)
+enum layer_root layer_root_of(const uint8_t *text, size_t len, size_t *from)
 {
-    size_t at = 0;
-    while (at < len && (text[at] == '#' || text[at] == '\n' || !memcmp(text + at, "---\n", len - at < 4 ? len - at : 4))) {
-        const uint8_t *end = memchr(text + at, '\n', len - at);
-        at = end ? (size_t)(end - text) + 1 : len;
+    while (*from < len && (text[*from] == '#' || text[*from] == '\n' || (len - *from >= 4 && !memcmp(text + *from, "---\n", 4)))) {
+        const uint8_t *end = memchr(text + *from, '\n', len - *from);
+        if (!end)
+            return LAYER_NO_ROOT;
+        *from = (size_t)(end - text) + 1;
     }
-    return at < len ? root_with(text, len, at) : LAYER_NO_ROOT;
+    return *from < len ? root_with(text, len, *from) : LAYER_NO_ROOT;
 }
 
 size_t layer_last_item(const uint8_t *text, size_t len, size_t from, enum layer_root root)

@@ -4,3 +4,4 @@ pub mod LinesLemmas
 pub mod HeaderLemmas
 pub mod DepthLemmas
 pub mod ScalarLemmas
+mod Unbounding

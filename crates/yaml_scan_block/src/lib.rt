@@ -3,7 +3,9 @@
 
 mod block;
 mod header;
+mod laws;
 mod lines;
 mod stacking;
 
 pub use block::{Block, block_scalar};
+pub use laws::lines_are_unbounded;

@@ -6,5 +6,6 @@ pub mod PlainLemmas
 pub mod PlainRunLemmas
 mod TableLemmas
 mod OneRunLemmas
+mod Unbounding
 -- what it stands on, for crates of laws that name this one alone
 pub use Rattle.yaml_scan_model.proofs as scan_model

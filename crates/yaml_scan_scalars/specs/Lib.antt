@@ -5,5 +5,6 @@ pub mod Readings
 pub mod Plain
 pub mod Joined
 pub mod Ordinary
+pub mod Unbounded
 -- what it stands on, for crates of laws that name this one alone
 pub use Rattle.yaml_scan_model.specs as scan_model

@@ -4,11 +4,13 @@
 mod escape;
 mod folding;
 mod joining;
+mod laws;
 mod plain;
 mod quoted;
 mod run;
 mod scalar;
 
+pub use laws::scalars_are_unbounded;
 pub use plain::{plain_scalar, starts_plain};
 pub use quoted::{double_quoted, single_quoted};
 pub use scalar::PlainScalar;

@@ -11,3 +11,4 @@ pub mod NamesRead
 pub mod UrisRead
 pub mod TagsRead
 pub mod ShortLemmas
+mod Unbounding

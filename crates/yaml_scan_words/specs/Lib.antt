@@ -11,3 +11,4 @@ pub mod Directives
 pub mod DirectivesGiven
 pub mod Written
 pub mod Laws
+pub mod Unbounded

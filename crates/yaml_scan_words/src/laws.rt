@@ -1,6 +1,7 @@
 //! Each function's contract is a law.
 
 ghost use Rattle.yaml_scan_words.specs.Laws.{AnchorReads, GapReads, BareTagReads, NamedTagReads, VerbatimTagReads, UriReads};
+ghost use Rattle.yaml_scan_words.specs.Unbounded.{GapIsOne, GapLeads, UriIs, UriIsOne};
 
 /// Spaces and breaks before a lexeme are one gap, whatever follows it.
 pub fn gap_reads()
@@ -22,4 +23,12 @@ pub fn tag_reads()
     ensures bare { BareTagReads }
     ensures named { NamedTagReads }
     ensures verbatim { VerbatimTagReads }
+{}
+
+/// The gap and the URI at a place are those of a relation that knows no bound on steps, and the only ones.
+pub fn gaps_and_uris_are_unbounded()
+    ensures gap { GapLeads }
+    ensures one_gap { GapIsOne }
+    ensures uri { UriIs }
+    ensures one_uri { UriIsOne }
 {}

@@ -1,0 +1,5 @@
+use Rattle.yaml_scan_scalars.proofs.Unbounding.{quoted_is, quoted_is_one, plain_is, plain_is_one}
+use Rattle.yaml_scan_scalars.proofs.laws.scalars_are_unbounded.Goals as goal
+
+pub returns : goal.returns
+returns c = record { quoted = quoted_is; one_quoted = quoted_is_one; plain = plain_is; one_plain = plain_is_one }

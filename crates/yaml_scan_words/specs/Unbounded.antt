@@ -1,0 +1,60 @@
+-- Gaps and URIs as relations, with no bound on their steps.
+use Rattle.std.specs.Prelude.{◌≡◌, ℕ, Bool, true, false, not, ◌||◌, List, [], ◌∷◌, Result, Ok, Err}
+use Rattle.yaml_scan_model.specs.declared.problem.Context.{Context}
+use Rattle.yaml_scan_model.specs.declared.problem.Problem.{Problem}
+use Rattle.yaml_scan_model.specs.Wrong.{Wrong}
+use Rattle.yaml_scan_words.specs.declared.between.Standing.TheVariants as standings
+use Rattle.yaml_scan_words.specs.Between.{Gap, with_break, step_at, gap_at}
+use Rattle.yaml_scan_words.specs.Uris.{Spells, Ends, Faulty, spot_at, with_bytes, uri_at}
+
+-- ---- gaps
+
+-- From a place on a gap leads to the next lexeme, past blanks, comments and breaks; by whether a key is allowed there, which a break
+-- changes outside of brackets.
+pub data Leads (flow : Bool) (text : List ℕ) : Bool → ℕ → Gap → Type 0 where
+  arrives : (allowed : Bool) (p q : ℕ)
+      → step_at (flow || not allowed) text p ≡ record { standing = standings.Lexeme; place = q }
+      → Leads flow text allowed p (record { place = q; broke = false })
+  passes_blank : (allowed : Bool) (p q : ℕ) (gap : Gap)
+      → step_at (flow || not allowed) text p ≡ record { standing = standings.Blank; place = q }
+      → Leads flow text allowed q gap → Leads flow text allowed p gap
+  passes_break : (allowed : Bool) (p q : ℕ) (gap : Gap)
+      → step_at (flow || not allowed) text p ≡ record { standing = standings.Break; place = q }
+      → Leads flow text (allowed || not flow) q gap
+      → Leads flow text allowed p (with_break true gap)
+
+-- The gap at a place is one, and the only one.
+abbrev pub GapLeads : Type 0
+GapLeads = (flow allowed : Bool) (text : List ℕ) (p : ℕ)
+    → Leads flow text allowed p (gap_at flow allowed text p)
+
+abbrev pub GapIsOne : Type 0
+GapIsOne = (flow allowed : Bool) (text : List ℕ) (p : ℕ) (gap : Gap)
+    → Leads flow text allowed p gap → gap ≡ gap_at flow allowed text p
+
+-- ---- URIs
+
+-- What a URI spells from a place on, where so many escapes are due: byte by byte up to its end, or what is wrong.
+pub data IsUriAt (context : Context) (wide : Bool) (text : List ℕ)
+    : ℕ → ℕ → Result (List ℕ × ℕ) Wrong → Type 0 where
+  spells_byte : (due p b next q : ℕ) (rest : Result (List ℕ × ℕ) Wrong)
+      → spot_at wide due text p ≡ Spells b next q → IsUriAt context wide text next q rest
+      → IsUriAt context wide text due p (with_bytes (b ∷ []) rest)
+  ends_there : (due p q : ℕ) → spot_at wide due text p ≡ Ends q
+      → IsUriAt context wide text due p (Ok ([], q))
+  is_faulty : (due p q : ℕ) (problem : Problem) → spot_at wide due text p ≡ Faulty problem q
+      → IsUriAt context wide text due p (Err record {
+        problem = problem;
+        context = context;
+        place = q;
+      })
+
+-- The URI at a place is one, and the only one.
+abbrev pub UriIs : Type 0
+UriIs = (context : Context) (wide : Bool) (text : List ℕ) (p : ℕ)
+    → IsUriAt context wide text 0 p (uri_at context wide text p)
+
+abbrev pub UriIsOne : Type 0
+UriIsOne = (context : Context) (wide : Bool) (text : List ℕ) (p : ℕ)
+    (r : Result (List ℕ × ℕ) Wrong)
+    → IsUriAt context wide text 0 p r → r ≡ uri_at context wide text p

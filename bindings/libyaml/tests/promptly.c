@@ -1,4 +1,5 @@
-/* Documents come before the reader is asked for what stands behind them, and within a document output comes before it ends.
+/* Documents, and the items of a long one, come before the reader is asked for more than what follows them, and within a document
+ * output comes before it ends.
  * Linked with Debian's libyaml it tells the same of that.
  *
  *     promptly */
@@ -48,6 +49,35 @@ static void reads(void)
     yaml_parser_delete(&parser);
 }
 
+/* Gives an item at each call, 1,000 in all. */
+static int give_item(void *data, unsigned char *buffer, size_t size, size_t *size_read)
+{
+    int *given = data;
+    *size_read = *given < 1000 && size >= 4 ? 4 : 0;
+    memcpy(buffer, "- a\n", *size_read);
+    ++*given;
+    return 1;
+}
+
+static void reads_items(void)
+{
+    yaml_parser_t parser;
+    yaml_event_t event;
+    int given = 0, items = 0;
+    yaml_parser_initialize(&parser);
+    yaml_parser_set_input(&parser, give_item, &given);
+    while (!parser.stream_end_produced && yaml_parser_parse(&parser, &event)) {
+        if (event.type == YAML_SCALAR_EVENT) {
+            EXPECT(event.start_mark.line == (size_t)items && event.start_mark.index == (size_t)items * 4 + 2);
+            items++;
+            EXPECT(given <= items + 2);
+        }
+        yaml_event_delete(&event);
+    }
+    EXPECT(!parser.error && items == 1000);
+    yaml_parser_delete(&parser);
+}
+
 static int take(void *data, unsigned char *buffer, size_t size)
 {
     (void)buffer;
@@ -87,6 +117,7 @@ static void writes(void)
 int main(void)
 {
     reads();
+    reads_items();
     writes();
     printf("promptly: %d wrong\n", wrong);
     return wrong != 0;

@@ -22,7 +22,8 @@ pub fn yaml_normalize(
     from: yaml_encoding_t,
     settings: &yaml_settings_t,
 ) -> Result<Vec<u8>, yaml_fault_t>
-    ensures { Answers reformat_layers bytes_of (IsReadableAnswer from settings.now input.now) result }
+    ensures { Answers reformat_layers bytes_of
+        (IsReadableAnswer from settings.now input.now) result }
 {
     let mut form = Form::Readable(Place::Before);
     match written(alloc, input, from, settings, &mut form) {

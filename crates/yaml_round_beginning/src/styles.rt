@@ -1,11 +1,11 @@
 //! The normal form that people read, event by event: each is given the style that its content alone decides.
 
-ghost use Rattle.std.specs.Prelude.{◌≡◌, ◌+◌, ◌<◌, ◌≤◌, true, false, not, length, map};
+ghost use Rattle.std.specs.Prelude.{◌≡◌, ◌+◌, ◌<◌, ◌≤◌, true, false, length, map};
 ghost use Rattle.yaml_scan_model.specs.Classes.{is_break};
 ghost use Rattle.yaml_parse_model.specs.Constructors.{HasUtf8};
 ghost use Rattle.yaml_parse_model.specs.Events.{event_of, text_of, directive_of};
 ghost use Rattle.yaml_emit_layout.specs.Content.{emitter_event};
-ghost use Rattle.yaml_emit_layout.specs.Nodes.{any_below, has_break, has_version, has_directives};
+ghost use Rattle.yaml_emit_layout.specs.Nodes.{any_below, has_break};
 ghost use Rattle.yaml_round_beginning.specs.Styles as spec;
 
 use crate::beginning::has_none;
@@ -201,7 +201,7 @@ fn place_behind(event: &yaml_event_t, at: Place) -> Place
     }
 }
 
-// Gives the event the style and the marks of its place.
+// Gives the event the style and the marks of its place. It is long by its patterns: an arm for each kind.
 fn put_style(event: &mut yaml_event_t, at: Place)
     ensures styled { emitter_event (event_of event.new).body
         ≡ spec.styled (spec.place_of at) (event_of event.old).body }
@@ -256,6 +256,8 @@ fn put_style(event: &mut yaml_event_t, at: Place)
 }
 
 /// Gives a normalized event, which stands there, the style and the marks that what it says decides. Where the next one stands.
+// Out of line: canonical form and pretty form, whose events go by the same function, don't come here.
+#[inline(never)]
 pub fn restyle(event: &mut yaml_event_t, at: Place) -> Place
     ensures styled { emitter_event (event_of event.new).body
         ≡ spec.styled (spec.place_of at) (event_of event.old).body }

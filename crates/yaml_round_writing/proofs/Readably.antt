@@ -1,5 +1,5 @@
 -- What is laid out for an input with the styles that its content decides is the normal form that people read.
-use Rattle.std.proofs.Common.{◌≡◌, ◌⊎◌, ◌∙◌, inl, inr, false, ℕ, List, Ok, Err, refl, sym, subst}
+use Rattle.std.proofs.Common.{◌⊎◌, ◌∙◌, inl, inr, false, ℕ, List, Err, refl, sym, subst}
 use Rattle.yaml_scan.specs.declared.yaml_encoding_t.{yaml_encoding_t}
 use Rattle.yaml_scan.specs.declared.yaml_encoding_t.TheVariants.{YAML_ANY_ENCODING}
 use Rattle.yaml_scan.specs.Faults.{Fault, IsMemoryFault}

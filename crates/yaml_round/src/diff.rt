@@ -22,8 +22,8 @@ pub fn yaml_diff(
     match reading_of(alloc, a, a_encoding) {
         Err(fault) => Err((yaml_side_t::First, fault)),
         Ok(mut first) => {
-            let mut trail = Trail::new(alloc, true);
-            let answer = same_as(alloc, &mut first, b, b_encoding, &mut trail);
+            let mut trail = Trail::new(alloc);
+            let answer = same_as(alloc, &mut first, b, b_encoding, &mut trail, true);
             let_go(first);
             match answer {
                 Ok(true) => Ok(None),

@@ -101,16 +101,16 @@ parted_at a_from a b_from b place before other_before (x ∷ xs) (y ∷ ys) p q 
       path = path ∙ ap (λ (es : List EventBody). past es start) there.1 ∙ place_walked there.0;
     }
 
-pub parting_told : (a_from : yaml_encoding_t) (a : List ℕ) (b_from : yaml_encoding_t) (b : List ℕ) (p q : ParserRemaining) (old new : Trail) → Reads a_from a p → Reads b_from b q
-    → p.ending ≡ None → q.ending ≡ None → IsFresh old → Parted p.events q.events old new → IsParting a_from a b_from b new.place
-parting_told a_from a b_from b p q old new h k first_ending second_ending fresh d =
+pub parting_told : (kept : Bool) (a_from : yaml_encoding_t) (a : List ℕ) (b_from : yaml_encoding_t) (b : List ℕ) (p q : ParserRemaining) (old new : Trail) → Reads a_from a p → Reads b_from b q
+    → p.ending ≡ None → q.ending ≡ None → IsFresh kept old → Parted kept p.events q.events old new → IsParting a_from a b_from b new.place
+parting_told kept a_from a b_from b p q old new h k first_ending second_ending fresh d =
     parted_at a_from a b_from b new.place d.before d.other_before d.left d.other_left
     (sym h.ending ∙ first_ending) (sym k.ending ∙ second_ending) (sym h.events ∙ d.first_events) (sym k.events ∙ d.second_events)
     d.alike d.apart (d.path fresh.kept ∙ ap (λ (w : Path). past (contents d.before) w) fresh.path)
 
-pub told_where : (a_from : yaml_encoding_t) (a : List ℕ) (b_from : yaml_encoding_t) (b : List ℕ) (p q : ParserRemaining) (old new : Trail) (result : Result Bool (yaml_side_t × yaml_fault_t))
-    → Reads a_from a p → Reads b_from b q → ComparesReadings p q result → WhereDifferent result (Parted p.events q.events old new) → IsFresh old
+pub told_where : (kept : Bool) (a_from : yaml_encoding_t) (a : List ℕ) (b_from : yaml_encoding_t) (b : List ℕ) (p q : ParserRemaining) (old new : Trail) (result : Result Bool (yaml_side_t × yaml_fault_t))
+    → Reads a_from a p → Reads b_from b q → ComparesReadings p q result → WhereDifferent result (Parted kept p.events q.events old new) → IsFresh kept old
     → WhereDifferent result (IsParting a_from a b_from b new.place)
-told_where a_from a b_from b p q old new (Ok false) h k e d fresh = parting_told a_from a b_from b p q old new h k e.first_ending e.second_ending fresh d
-told_where a_from a b_from b p q old new (Ok true) h k e d fresh = tt
-told_where a_from a b_from b p q old new (Err f) h k e d fresh = tt
+told_where kept a_from a b_from b p q old new (Ok false) h k e d fresh = parting_told kept a_from a b_from b p q old new h k e.first_ending e.second_ending fresh d
+told_where kept a_from a b_from b p q old new (Ok true) h k e d fresh = tt
+told_where kept a_from a b_from b p q old new (Err f) h k e d fresh = tt

@@ -147,8 +147,8 @@ judged_beside e f shown second (Refused side) second_new g j p q = absurd j
 
 -- ---- where they part
 
-pub parted_here : (first second : List Told) (old new : Trail) → AreApart first second new.place → path_of new.place ≡ path_of old.place → Parted first second old new
-parted_here first second old new a p = record {
+pub parted_here : (kept : Bool) (first second : List Told) (old new : Trail) → AreApart first second new.place → path_of new.place ≡ path_of old.place → Parted kept first second old new
+parted_here kept first second old new a p = record {
   before = [];
   other_before = [];
   left = first;
@@ -163,11 +163,11 @@ parted_here first second old new a p = record {
 longer : (xs ys zs ws : List Told) (x : Told) → xs ≡ x ∷ ys → ys ≡ zs ++ ws → xs ≡ x ∷ zs ++ ws
 longer xs ys zs ws x e f = e ∙ ap (λ (vs : List Told). x ∷ vs) f
 
-pub parted_behind : (first second : List Told) (rest other_rest : List Told) (x y : Told) (shown : Event) (old middle new : Trail)
+pub parted_behind : (kept : Bool) (first second : List Told) (rest other_rest : List Told) (x y : Told) (shown : Event) (old middle new : Trail)
     → first ≡ x ∷ rest → second ≡ y ∷ other_rest → saying x.0.body ≡ saying y.0.body → shown ≡ normalized x.0
-    → middle.kept ≡ old.kept → (old.kept ≡ true → path_of middle.place ≡ past_event shown.body (path_of old.place))
-    → Parted rest other_rest middle new → Parted first second old new
-parted_behind first second rest other_rest x y shown old middle new p q says n kept step h = record {
+    → (kept ≡ true → path_of middle.place ≡ past_event shown.body (path_of old.place))
+    → Parted kept rest other_rest middle new → Parted kept first second old new
+parted_behind kept first second rest other_rest x y shown old middle new p q says n step h = record {
   before = x ∷ h.before;
   other_before = y ∷ h.other_before;
   left = h.left;
@@ -178,5 +178,5 @@ parted_behind first second rest other_rest x y shown old middle new p q says n k
   apart = h.apart;
   path = λ k.
       let walked = step k ∙ ap (λ (e : Event). past_event e.body (path_of old.place)) n ∙ said_past x.0.body (path_of old.place) in
-      h.path (kept ∙ k) ∙ ap (λ (w : Path). past (contents h.before) w) walked;
+      h.path k ∙ ap (λ (w : Path). past (contents h.before) w) walked;
 }

@@ -42,7 +42,7 @@ AreApart (e ∷ es) [] d = Unit {0}
 AreApart (e ∷ es) (f ∷ fs) d = (saying e.0.body ≡ saying f.0.body → ⊥) × TellsOf e.0 f.0 d
 
 -- Behind fronts that say the same the events are apart. Where it is kept, the path is that behind these fronts.
-pub record Parted (first second : List Told) (old new : Trail) : Type 0 where
+pub record Parted (kept : Bool) (first second : List Told) (old new : Trail) : Type 0 where
   pub before : List Told
   pub other_before : List Told
   pub left : List Told
@@ -51,7 +51,7 @@ pub record Parted (first second : List Told) (old new : Trail) : Type 0 where
   pub second_events : second ≡ other_before ++ other_left
   pub alike : contents before ≡ contents other_before
   pub apart : AreApart left other_left new.place
-  pub path : old.kept ≡ true → path_of new.place ≡ past (contents before) (path_of old.place)
+  pub path : kept ≡ true → path_of new.place ≡ past (contents before) (path_of old.place)
 
 -- ---- the steps
 

@@ -1,5 +1,5 @@
 -- What each event makes of the path to the place in front of it.
-use Rattle.std.specs.Prelude.{◌≡◌, true, ℕ, suc, List, [], ◌∷◌, Option, Some, None}
+use Rattle.std.specs.Prelude.{◌≡◌, Bool, true, ℕ, suc, List, [], ◌∷◌, Option, Some, None}
 use Rattle.yaml_parse.specs.Events.{EventBody}
 use Rattle.yaml_parse.specs.Events as event
 use Rattle.yaml_round_compare.specs.declared.trail.Trail.{Trail}
@@ -44,7 +44,7 @@ past (e ∷ es) p = past es (past_event e p)
 abbrev pub start : Path
 start = record { document = 0; steps = [] }
 
--- in front of a stream, with the path kept
-pub record IsFresh (t : Trail) : Type 0 where
-  pub kept : t.kept ≡ true
+-- in front of a stream, and the path is kept
+pub record IsFresh (keeps : Bool) (t : Trail) : Type 0 where
+  pub kept : keeps ≡ true
   pub path : path_of t.place ≡ start

@@ -32,6 +32,8 @@ pub(crate) enum Next {
 type SideFault = (yaml_side_t, yaml_fault_t);
 
 // Two events, normalized in their slots, say the same.
+// In line, as all that the loop below does at each event.
+#[inline(always)]
 fn judged(event: &mut yaml_event_t, other: &mut yaml_event_t) -> Next
     ensures judges { JudgesEvents (event_of event.old).body (event_of other.old).body result }
     ensures event { event_of event.new ≡ normalized (event_of event.old) }
@@ -47,6 +49,8 @@ fn judged(event: &mut yaml_event_t, other: &mut yaml_event_t) -> Next
 }
 
 // The second input's next event beside the first's, which stands in its slot.
+// In line, as the loop.
+#[inline(always)]
 fn compared_event(event: &mut yaml_event_t, second: &mut Reading<'_>) -> Next
     requires { AreReal second.old.parser.events }
     ensures { StepsBeside (event_of event.old) second.old.parser result (event_of event.new)
@@ -60,6 +64,8 @@ fn compared_event(event: &mut yaml_event_t, second: &mut Reading<'_>) -> Next
 }
 
 // What the second input has where the first is at its end.
+// In line, as the loop.
+#[inline(always)]
 fn compared_end(second: &mut Reading<'_>) -> Next
     requires { AreReal second.old.parser.events }
     ensures { StepsAlone second.old.parser result second.new.fault second.new.parser }
@@ -72,6 +78,8 @@ fn compared_end(second: &mut Reading<'_>) -> Next
 }
 
 // The next event of each input.
+// In line, as the loop.
+#[inline(always)]
 fn compared_next(first: &mut Reading<'_>, second: &mut Reading<'_>) -> Next
     requires { BothReal first.old.parser second.old.parser }
     ensures { StepsOn first.old second.old result first.new second.new }
@@ -84,15 +92,18 @@ fn compared_next(first: &mut Reading<'_>, second: &mut Reading<'_>) -> Next
 }
 
 // Whether the events are the same to their end. The first fault ends it.
+// In line, up to the public calls: each says whether a path is kept, so that comparing alone has no test for it.
+#[inline(always)]
 fn same_events(
     first: &mut Reading<'_>,
     second: &mut Reading<'_>,
     trail: &mut Trail,
+    kept: bool,
 ) -> Result<bool, SideFault>
     requires { BothReal first.old.parser second.old.parser }
     ensures sided { Sided first.old.parser second.old.parser result first.new.parser
         second.new.parser }
-    ensures parted { WhereDifferent result (Parted first.old.parser.events
+    ensures parted { WhereDifferent result (Parted kept first.old.parser.events
         second.old.parser.events trail.old trail.new) }
 {
     'events: loop {
@@ -104,7 +115,7 @@ fn same_events(
                 trail.part_at(&first.event, &second.event);
                 return Ok(false);
             }
-            Next::Same => match trail.go_past(&mut first.event) {
+            Next::Same => match trail.go_past(&mut first.event, kept) {
                 Ok(()) => {}
                 Err(_) => {
                     return Err((yaml_side_t::First, yaml_memory_fault(yaml_origin_t::Parser)))
@@ -140,17 +151,20 @@ fn behind_first(first: &mut Reading<'_>, fault: yaml_fault_t) -> SideFault
 }
 
 // Whether two readings have the same content. A fault of the first is answered first.
+// In line, as the loop.
+#[inline(always)]
 fn compared(
     first: &mut Reading<'_>,
     second: &mut Reading<'_>,
     trail: &mut Trail,
+    kept: bool,
 ) -> Result<bool, SideFault>
     requires { BothReal first.old.parser second.old.parser }
     ensures compares { ComparesReadings first.old.parser second.old.parser result }
-    ensures parted { WhereDifferent result (Parted first.old.parser.events
+    ensures parted { WhereDifferent result (Parted kept first.old.parser.events
         second.old.parser.events trail.old trail.new) }
 {
-    match same_events(first, second, trail) {
+    match same_events(first, second, trail, kept) {
         Ok(true) => Ok(true),
         Ok(false) => match read_out_both(first, second) {
             Err(fault) => Err(fault),
@@ -161,25 +175,29 @@ fn compared(
     }
 }
 
-/// Whether the second input has the content of the first one's reading. Where it hasn't, the trail tells where they part.
+/// Whether the second input has the content of the first one's reading. Where it hasn't, the trail tells where they part, with
+/// the path where that is `kept`.
+// In line, as the loop.
+#[inline(always)]
 pub fn same_as(
     alloc: Global,
     first: &mut Reading<'_>,
     b: &[u8],
     b_encoding: yaml_encoding_t,
     trail: &mut Trail,
+    kept: bool,
 ) -> Result<bool, (yaml_side_t, yaml_fault_t)>
     requires { AreReal first.old.parser.events }
     ensures same { (from : yaml_encoding_t) (input : List ℕ) → Reads from input first.old.parser
         → IsSame from input b_encoding b.now result }
     ensures parting { (from : yaml_encoding_t) (input : List ℕ)
-        → Reads from input first.old.parser → IsFresh trail.old
+        → Reads from input first.old.parser → IsFresh kept trail.old
         → WhereDifferent result (IsParting from input b_encoding b.now trail.new.place) }
 {
     match reading_of(alloc, b, b_encoding) {
         Err(fault) => Err(behind_first(first, fault)),
         Ok(mut second) => {
-            let answer = compared(first, &mut second, trail);
+            let answer = compared(first, &mut second, trail, kept);
             let_go(second);
             answer
         }

@@ -58,6 +58,8 @@ fn same_flag(tag: &Option<Vec<u8>>, a: bool, b: bool) -> bool
 
 /// Whether two normalized events say the same: styles and document marks aside, and of a tagged scalar the flags. It is long
 /// because it has an arm for each kind of event.
+// In line, as the loop that compares.
+#[inline(always)]
 pub(crate) fn agree(a: &yaml_event_t, b: &yaml_event_t) -> bool
     ensures { IsTrue result ↔ (content_of (event_of a.now).body ≡ content_of
         (event_of b.now).body) }

@@ -15,7 +15,6 @@ use yaml_scan::yaml_mark_t;
 /// Where a comparison stands, or where it found that the contents part. The path is kept only where it is asked for.
 #[derive(Drop)]
 pub struct Trail {
-    pub kept: bool,
     pub place: yaml_difference_t,
     alloc: Global,
 }
@@ -94,7 +93,7 @@ fn pass_document(document: &mut u64) -> Result<(), AllocError>
 }
 
 // The event stands in front. A scalar's text is taken out of it.
-// Out of line: where no path is kept, the loop that compares has a test of one byte for it.
+// Out of line, so that the loop that compares stays short.
 #[inline(never)]
 fn pass(
     alloc: Global,
@@ -120,9 +119,8 @@ fn pass(
 
 impl Trail {
     /// In front of two streams.
-    pub fn new(alloc: Global, kept: bool) -> Trail
-        ensures kept { result.kept ≡ kept }
-        ensures path { path_of result.place ≡ start }
+    pub fn new(alloc: Global) -> Trail
+        ensures { path_of result.place ≡ start }
     {
         let zero = yaml_mark_t {
             index: 0,
@@ -130,7 +128,6 @@ impl Trail {
             column: 0,
         };
         Trail {
-            kept,
             place: yaml_difference_t {
                 document: 0,
                 path: Vec::new(alloc),
@@ -144,12 +141,13 @@ impl Trail {
     }
 
     // The event stands in front of both inputs' next ones.
-    pub(crate) fn go_past(&mut self, event: &mut yaml_event_t) -> Result<(), AllocError>
-        ensures kept { self.new.kept ≡ self.old.kept }
-        ensures path { self.old.kept ≡ true → OnOk result (path_of self.new.place
+    // In line: where no path is kept nothing is done.
+    #[inline(always)]
+    pub(crate) fn go_past(&mut self, event: &mut yaml_event_t, kept: bool) -> Result<(), AllocError>
+        ensures { kept ≡ true → OnOk result (path_of self.new.place
             ≡ past_event (event_of event.old).body (path_of self.old.place)) }
     {
-        if self.kept {
+        if kept {
             pass(self.alloc, &mut self.place, event)
         } else {
             Ok(())

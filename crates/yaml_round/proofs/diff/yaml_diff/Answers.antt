@@ -1,5 +1,5 @@
 -- The place is that of the first input's reading. Not searched for, so that a wrong value fails by its type, at once.
-use Rattle.std.proofs.Common.{inl, subst, Bool, Ok}
+use Rattle.std.proofs.Common.{inl, subst, refl, Bool, Ok}
 use Rattle.yaml_round_compare.specs.Compare.{WhereDifferent}
 use Rattle.yaml_round_compare.specs.Differences.{IsParting}
 use Rattle.yaml_round.proofs.diff.yaml_diff.Goals as goal
@@ -14,7 +14,7 @@ pub returns-in-Ok-false : goal.returns-in-Ok-false
 returns-in-Ok-false c =
     let parts = IsParting c.args.a_encoding c.args.a.now c.args.b_encoding c.args.b.now c.same_as-answer.new.trail.place in
     subst (λ (same : Bool). WhereDifferent (Ok same) parts) c.in-Ok-false.field-0-test
-    (c.in-Ok-false.ensures.parting c.args.a_encoding c.args.a.now c.in-Ok.ensures.reads record { kept = c.new-trail.ensures.kept; path = c.new-trail.ensures.path })
+    (c.in-Ok-false.ensures.parting c.args.a_encoding c.args.a.now c.in-Ok.ensures.reads record { kept = refl; path = c.new-trail.ensures })
 
 pub returns-in-Err-answer : goal.returns-in-Err-answer
 returns-in-Err-answer c = c.in-Err-answer.ensures.same c.args.a_encoding c.args.a.now c.in-Ok.ensures.reads

@@ -8,7 +8,7 @@ returns-in-Ok-clause-same c = λ from input h.
 
 pub returns-in-Ok-clause-parting : goal.returns-in-Ok-clause-parting
 returns-in-Ok-clause-parting c = λ from input h fresh.
-    told_where from input c.args.b_encoding c.args.b.now c.args.first.now.parser c.in-Ok.second.parser c.args.trail.now c.compared-answer.new.trail c.compared-answer.result
+    told_where c.args.kept from input c.args.b_encoding c.args.b.now c.args.first.now.parser c.in-Ok.second.parser c.args.trail.now c.compared-answer.new.trail c.compared-answer.result
     h c.in-Ok.ensures.reads c.compared-answer.ensures.compares c.compared-answer.ensures.parted fresh
 
 pub returns-in-Err-clause-same : goal.returns-in-Err-clause-same

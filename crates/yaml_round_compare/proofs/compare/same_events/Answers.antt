@@ -7,7 +7,7 @@ use Rattle.yaml_round_compare.proofs.compare.same_events.Goals as goal
 pub returns-in-Different-clause-parted : goal.returns-in-Different-clause-parted
 returns-in-Different-clause-parted c =
     c.events.invariant.parted c.part_at.new.self
-    (parted_here c.events.first.parser.events c.events.second.parser.events c.events.trail c.part_at.new.self
+    (parted_here c.args.kept c.events.first.parser.events c.events.second.parser.events c.events.trail c.part_at.new.self
     (c.in-Different.ensures.apart c.part_at.new.self.place c.part_at.ensures.tells) c.part_at.ensures.path)
 
 pub events-preserved : goal.events-preserved
@@ -21,7 +21,7 @@ events-preserved c =
       second = b.second_ending ∙ before.second;
       alike = (λ e. b.alike.0 (before.alike.0 e), λ e. before.alike.1 (b.alike.1 e));
       parted = λ t h. before.parted t
-          (parted_behind c.events.first.parser.events c.events.second.parser.events c.compared_next.new.first.parser.events c.compared_next.new.second.parser.events
+          (parted_behind c.args.kept c.events.first.parser.events c.events.second.parser.events c.compared_next.new.first.parser.events c.compared_next.new.second.parser.events
           b.front b.other_front (event_of c.compared_next.new.first.event) c.events.trail c.go_past.new.self t
-          b.first_events b.second_events b.says b.normal c.in-Ok.ensures.kept c.in-Ok.ensures.path h);
+          b.first_events b.second_events b.says b.normal c.in-Ok.ensures h);
     }

@@ -1,4 +1,5 @@
 pub mod Grammatical
+mod LaidOut
 pub mod Ending
 pub mod Viewing
 pub mod Emitting

@@ -1,6 +1,7 @@
 pub mod Emitter
 pub mod Views
 pub mod Within
+pub mod Laid
 pub mod Verdict
 pub mod Taking
 pub mod Dumping

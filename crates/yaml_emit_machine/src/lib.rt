@@ -11,5 +11,5 @@ pub use emitter::{
     is_fresh, is_opened, let_go, new_emitter, output, requested_settings, set_closed, set_opened,
     set_requested_settings, yaml_emitter_t,
 };
-pub use law::streams_pass;
+pub use law::{streams_are_laid, streams_pass};
 pub use name::yaml_emitter_state_t;

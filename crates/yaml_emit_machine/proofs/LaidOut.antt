@@ -1,0 +1,57 @@
+-- What is written event by event is the layout of the stream.
+use Rattle.std.proofs.Common.{◌≡◌, List, [], ◌∷◌, None, refl, sym, ◌∙◌, ap}
+use Rattle.std.proofs.Math.Path.{fun_ext}
+use Rattle.yaml_emit_text.specs.declared.Cursor.{Cursor}
+use Rattle.yaml_emit_text.specs.declared.Settings.{Settings}
+use Rattle.yaml_emit_text.specs.Layout.{Rest}
+use Rattle.yaml_emit_layout.specs.Content.{Node, alias_node, scalar_node, sequence_node, mapping_node, no_nodes, node, no_pairs, pair, Event, node_events, items_events, pairs_events, documents_events, stream_events}
+use Rattle.yaml_emit_layout.specs.Grammar.{own_problems}
+use Rattle.yaml_emit_layout.specs.State.{State, opens_empty, piece, next, problem_at}
+use Rattle.yaml_emit_layout.specs.ToCome.{items_left, pairs_left, value_left, ToCome, stream, documents, root, frames, nothing, frame_events, frames_events, events, layout}
+use Rattle.yaml_emit_layout.specs.ToCome as come
+use Rattle.yaml_emit_layout.proofs.Going.{goes}
+use Rattle.yaml_emit_held.specs.Judged.{laid}
+use Rattle.yaml_emit_machine.specs.Laid.{StreamsAreLaid}
+use Rattle.yaml_emit_machine.proofs.Grammatical.{first_right, right_there}
+
+node_some : (v : Node) (es : List Event) → node_events v es ≡ [] → ⊥
+unfolding node_events
+node_some (alias_node name) es h = cc
+node_some (scalar_node x) es h = cc
+node_some (sequence_node o ns) es h = cc
+node_some (mapping_node o ps) es h = cc
+
+-- where no event is to come, nothing is
+nothing_left : (s : Settings) (k : ToCome) → events k ≡ [] → (c : Cursor) (f : Rest) → layout s k c f ≡ f c
+unfolding events layout frames_events frame_events items_events pairs_events documents_events
+nothing_left s (stream x ds) h c f = absurd (cc)
+nothing_left s (documents first unended []) h c f = absurd (cc)
+nothing_left s (documents first unended (d ∷ ds)) h c f = absurd (cc)
+nothing_left s (root g v implicit ds) h c f = absurd (node_some v _ h)
+nothing_left s (frames g [] implicit ds) h c f = absurd (cc)
+nothing_left s (frames g (items_left flow n fresh no_nodes ∷ fs) implicit ds) h c f = absurd (cc)
+nothing_left s (frames g (items_left flow n fresh (node v ns) ∷ fs) implicit ds) h c f = absurd (node_some v _ h)
+nothing_left s (frames g (pairs_left flow n fresh no_pairs ∷ fs) implicit ds) h c f = absurd (cc)
+nothing_left s (frames g (pairs_left flow n fresh (pair v u ps) ∷ fs) implicit ds) h c f = absurd (node_some v _ h)
+nothing_left s (frames g (value_left flow n simple v ps ∷ fs) implicit ds) h c f = absurd (node_some v _ h)
+nothing_left s nothing h c f = refl
+
+laid_on : (s : Settings) (st : State) (e : Event) (es : List Event) (c : Cursor) (f : Rest) → problem_at s st e ≡ None
+    → laid s st (e ∷ es) c f ≡ piece s st e (opens_empty e es) c (λ d. laid s (next s st e (opens_empty e es) d) es d f)
+unfolding laid
+laid_on s st e es c f h = rw h refl
+
+laid_is : (s : Settings) (es : List Event) (k : ToCome) → es ≡ events k → own_problems s.canonical es ≡ None → (c : Cursor) (f : Rest) → laid s (come.state_of k) es c f ≡ layout s k c f
+unfolding laid
+laid_is s [] k same right c f = sym (nothing_left s k (sym same) c f)
+laid_is s (e ∷ es) k same right c f =
+    let st : State = come.state_of k in
+    let go = goes s e es k same in
+    let r = first_right s.canonical e es right in
+    laid_on s st e es c f (right_there s st e r.0 go.there)
+    ∙ ap (λ (b : Rest). piece s st e (opens_empty e es) c b) (fun_ext (λ (d : Cursor). ap (λ (z : State). laid s z es d f) (go.fits d) ∙ laid_is s es (go.rest d) (go.same d) r.1 d f))
+    ∙ sym (go.text c f)
+
+pub streams_are_laid : StreamsAreLaid
+unfolding events layout come.state_of
+streams_are_laid s x ds right c f = laid_is s (stream_events x ds) (stream x ds) refl right c f

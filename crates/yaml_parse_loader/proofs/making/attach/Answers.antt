@@ -1,4 +1,4 @@
-use Rattle.std.proofs.Common.{w32, ◌≡◌, ◌<◌, ◌-◌, suc, length, rules, sym, ◌∙◌, arith}
+use Rattle.std.proofs.Common.{w32, ◌≡◌, ◌<◌, ◌-◌, suc, length, rules, ◌∙◌, arith}
 use Rattle.std.proofs.lemmas.Int.{to_z-of_z}
 use Rattle.std.specs.Vec.{vec_len}
 use Rattle.yaml_parse_loader.proofs.Steps.{attaches}

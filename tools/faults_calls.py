@@ -16,7 +16,7 @@ refused, for each N.
 
 What is promised, and judged for each run:
 
-    an answer       the line passes
+    an answer       the line passes: a text isn't kept to be used again, or what was refused is read behind the line's fault
     a layer's       want of memory with nothing else in it, of a layer that the call's contract lists; in front of it stands a
                     front of what the line has, and behind it a session and a source answer the empty token, a parser the
                     empty event, the end or the document without a root, and both the fault that they keep; an emitter the

@@ -20,7 +20,9 @@
 # make bindings-test: builds the library, runs the C example and Python's tests over it, under AddressSanitizer where that
 #   is there, and tries both as they are installed. It needs a C compiler and python3 (3.10).
 # make faults: runs the program with every allocation refused in turn, every read, write and open failing, short or
-#   interrupted in turn, and judges each run. It needs glibc, a C compiler and python3.
+#   interrupted in turn, and judges each run; then replays vectors, call by call, with each request for memory refused in turn,
+#   where `tools/program.py yaml_cli_vectors` has built what replays them, or with NEAR=1 by a build of it that isn't proved. It
+#   needs glibc, a C compiler and python3.
 # make fuzz SECONDS=60: feeds the program changed texts and judges its answers, beside libyaml's where its header is there.
 #   It needs python3; for libyaml a C compiler too.
 .PHONY: run test program install library install-library libyaml install-libyaml libyaml-test bench bench-counts bench-python docs bindings-test faults fuzz
@@ -83,6 +85,7 @@ bindings-test: library
 
 faults:
 	@tools/faults.py
+	@tools/faults_calls.py $(if $(NEAR),--near)
 
 fuzz:
 	@tools/fuzz.py --seconds '$(or $(SECONDS),60)'

@@ -3,7 +3,8 @@
 # `make bindings-test`. It isn't part of the gate. It needs a C compiler (CC) and python3 (3.10 or newer), and under
 # AddressSanitizer one that has it; where it hasn't, a line says so and that part is left out.
 #
-#     tools/bindings_test.sh
+#     tools/bindings_test.sh          LIBRARY: the folder of another build, as tools/near_library.py makes it; the package for
+#                                     Python, which holds the one of out/library, isn't installed then
 #
 # The example is linked with the archive and with the shared object; both must write the same, also under ASan and UBSan, with
 # no block left. bindings/c/check.c calls the archive with numbers that mean nothing and with each allocation refused in turn.
@@ -12,7 +13,9 @@
 # that is there, with nothing else at hand.
 set -u
 top=$(cd "$(dirname "$0")/.." && pwd)
-library=$top/out/library
+built=$(realpath -m "$top/out/library")
+library=$(realpath -m "${LIBRARY:-$built}")
+export LIBRARY=$library
 compiler=${CC:-cc}
 version=$(sed -n 's/.*"\([0-9.]*\) .*/\1/p' "$top/crates/yaml_cli_program/src/version.rt")
 cd "$top" && work=$(mktemp -d) || exit 2
@@ -26,7 +29,7 @@ wrong() {
 }
 
 [ -f "$library/libyaml_c.a" ] && [ -f "$library/libyaml_c.so" ] || {
-    say "out/library/libyaml_c.a and .so aren't there: make library makes them"
+    say "$library/libyaml_c.a and .so aren't there: make library makes them"
     exit 2
 }
 
@@ -136,6 +139,7 @@ tests() {
 
 # packed: the package as pip installs it, without a network and with its own library.
 packed() {
+    [ "$library" = "$built" ] || { say "another library than out/library: the package isn't installed"; return; }
     "$python" -m pip --version >/dev/null 2>&1 || { say "pip isn't here: the package isn't installed"; return; }
     "$python" -m pip install -q --disable-pip-version-check --no-index --target "$work/site" "$top/bindings/python" >"$work/pip" 2>&1 ||
         { wrong "pip doesn't install the package: $(tail -c 2000 "$work/pip")"; return; }

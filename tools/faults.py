@@ -31,7 +31,7 @@ What is promised, and judged for each run (docs/PROFILE.md, 'The program'):
                     at all; where a line or help can't be written: the status that it would have had, and a front of it
 
 Whatever else happens (a signal, another status, a line cut short, a front of an answer behind another line) is printed, and
-the script fails.
+the script fails. Want of memory of each call by itself is tried by tools/faults_calls.py.
 """
 import collections
 import os

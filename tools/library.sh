@@ -2,7 +2,8 @@
 # Proves and builds the C library, as an archive and as a shared object: `make library`, and installs it: `make install-library`.
 #
 #     tools/library.sh
-#     tools/library.sh install PREFIX
+#     tools/library.sh install PREFIX           LIBRARY: the folder that it is taken from (out/library)
+#     tools/library.sh link ARCHIVE FOLDER      makes both of what is compiled already (tools/near_library.py)
 #
 # What it stands on is proved side by side, or taken from what the gate and `make program` have kept (tools/program.py). The
 # archive and the shared object have the calls of bindings/c/yaml_c.h and no other symbol, and what they need beside them
@@ -48,9 +49,32 @@ install_into() {
     say "installed into $at: lib/libyaml_c.a, lib/$name, include/yaml_c.h, lib/pkgconfig/yaml_c.pc"
 }
 
+# link ARCHIVE FOLDER: one object of all, of which only the calls can be seen, as an archive and as a shared object. Both are as
+# old as the file $work/since, so that a source that was edited meanwhile is newer.
+link() {
+    local kit
+    kit=$(dirname "$(rt doc)")
+    ld -r -o "$work/yaml_c.o" --whole-archive "$1" --no-whole-archive "$kit/c/liblibc_c.a"
+    objcopy --wildcard --keep-global-symbol='yaml_c_*' "$work/yaml_c.o"
+    ar rcs "$work/libyaml_c.a" "$work/yaml_c.o"
+    ${CC:-cc} -shared -Wl,-z,defs -Wl,-soname,"$name" -o "$work/$name" "$work/yaml_c.o"
+    ln -s "$name" "$work/libyaml_c.so"
+    touch -r "$work/since" "$work/libyaml_c.a" "$work/$name"
+    mkdir -p "$2"
+    mv "$work/libyaml_c.a" "$work/$name" "$work/libyaml_c.so" "$2"
+}
+
 if [ "${1:-}" = install ]; then
-    [ -f "$out/libyaml_c.a" ] && [ -f "$out/$name" ] || { say "out/library isn't there: make library makes it"; exit 1; }
+    out=${LIBRARY:-$out}
+    [ -f "$out/libyaml_c.a" ] && [ -f "$out/$name" ] || { say "$out isn't there: make library makes it"; exit 1; }
     install_into "${2:?PREFIX is missing}"
+    exit
+fi
+work=$(mktemp -d)
+trap 'rm -rf "$work"' EXIT
+touch "$work/since"
+if [ "${1:-}" = link ]; then
+    link "${2:?ARCHIVE is missing}" "${3:?FOLDER is missing}"
     exit
 fi
 if "$top/tools/is_built.sh" "$out/$name"; then
@@ -58,22 +82,7 @@ if "$top/tools/is_built.sh" "$out/$name"; then
     exit
 fi
 "$top/tools/kit.sh" 'make library' || exit 1
-kit=$(dirname "$(rt doc)")
-since=$(date +%s)
 say "proving yaml_round_c and what it stands on"
 "$top/tools/program.py" yaml_round_c || { say "not proved, so not built"; exit 1; }
-
-work=$(mktemp -d)
-trap 'rm -rf "$work"' EXIT
-mkdir -p "$out"
-# One object of all, of which only the calls can be seen.
-ld -r -o "$work/yaml_c.o" --whole-archive "$crate/out/libyaml_round_c.a" --no-whole-archive "$kit/c/liblibc_c.a"
-objcopy --wildcard --keep-global-symbol='yaml_c_*' "$work/yaml_c.o"
-rm -f "$work/libyaml_c.a"
-ar rcs "$work/libyaml_c.a" "$work/yaml_c.o"
-${CC:-cc} -shared -Wl,-z,defs -Wl,-soname,"$name" -o "$work/$name" "$work/yaml_c.o"
-ln -s "$name" "$work/libyaml_c.so"
-# a source that was edited meanwhile is newer than the library
-touch -d "@$since" "$work/libyaml_c.a" "$work/$name"
-mv "$work/libyaml_c.a" "$work/$name" "$work/libyaml_c.so" "$out"
+link "$crate/out/libyaml_round_c.a" "$out"
 say "built out/library/libyaml_c.a and out/library/libyaml_c.so; their header is bindings/c/yaml_c.h"

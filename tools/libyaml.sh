@@ -7,12 +7,13 @@
 # out/libyaml gets libyaml-0.so.2, which has libyaml's name and symbols, libyaml.so beside it for linkers, libyaml.a,
 # include/yaml.h and pkgconfig/yaml-0.1.pc. They are made of out/library/libyaml_c.a, which is proved, and of the C code of
 # bindings/libyaml, which isn't. Installed, they stand in a folder of their own, PREFIX/lib/yaml_round (below DESTDIR where
-# that is set), so that no library of the system is replaced. It needs a C compiler (CC, CFLAGS) and binutils.
+# that is set), so that no library of the system is replaced. It needs a C compiler (CC, CFLAGS) and binutils. LIBRARY names the
+# folder of another libyaml_c.a, as tools/near_library.py makes it; what is made of that stands in its folder libyaml.
 set -eu
 top=$(cd "$(dirname "$0")/.." && pwd)
 source=$top/bindings/libyaml
-out=$top/out/libyaml
-proved=$top/out/library/libyaml_c.a
+out=${LIBRARY:-$top/out}/libyaml
+proved=${LIBRARY:-$top/out/library}/libyaml_c.a
 compiler=${CC:-cc}
 
 say() { echo "make libyaml: $*" >&2; }
@@ -47,7 +48,7 @@ if [ "${1:-}" = install ]; then
     install_into "$2"
     exit
 fi
-[ -f "$proved" ] || { say "out/library/libyaml_c.a isn't there: make library makes it"; exit 1; }
+[ -f "$proved" ] || { say "$proved isn't there: make library makes it"; exit 1; }
 
 work=$(mktemp -d)
 trap 'rm -rf "$work"' EXIT
@@ -73,4 +74,4 @@ cp "$source/yaml.h" "$out/include/yaml.h"
 pkgconfig "$out" >"$out/pkgconfig/yaml-0.1.pc"
 mv "$work/libyaml-0.so.2" "$work/libyaml.a" "$out"
 ln -sf libyaml-0.so.2 "$out/libyaml.so"
-say "built out/libyaml/libyaml-0.so.2 and out/libyaml/libyaml.a; to run a program on it, LD_LIBRARY_PATH=$out"
+say "built $out/libyaml-0.so.2 and $out/libyaml.a; to run a program on it, LD_LIBRARY_PATH=$out"

@@ -3,7 +3,8 @@
 # compiler (CC), binutils and python3; what of AddressSanitizer, Debian's libyaml-dev, python3-yaml, ruby with psych and
 # libyaml-libyaml-perl isn't on the machine is named, and its part is left out.
 #
-#     tools/libyaml_test.sh          JOBS: how many clients run side by side; LIST=1: prints what differs, for the list
+#     tools/libyaml_test.sh          JOBS: how many clients run side by side; LIST=1: prints what differs, for the list;
+#                                    LIBRARY: the folder of another build, of which tools/libyaml.sh made its own
 #
 # By itself: symbols, soname and layouts; events, tokens and texts of the vectors' inputs, and of two broken ones of each, beside
 # the proved core's own, also from a reader of single bytes, with flushes, and cut at each place where that can be; that documents
@@ -14,7 +15,8 @@
 # there and isn't seen.
 set -u
 top=$(cd "$(dirname "$0")/.." && pwd)
-library=$top/out/libyaml
+core=$(realpath -m "${LIBRARY:-$top/out/library}")/libyaml_c.a
+library=$(realpath -m "${LIBRARY:-$top/out}")/libyaml
 source=$top/bindings/libyaml
 tests=$source/tests
 compiler=${CC:-cc}
@@ -30,7 +32,7 @@ wrong() {
 }
 
 [ -f "$library/libyaml-0.so.2" ] && [ -f "$library/libyaml.a" ] || {
-    say "out/libyaml/libyaml-0.so.2 and libyaml.a aren't there: make libyaml makes them"
+    say "$library/libyaml-0.so.2 and libyaml.a aren't there: make libyaml makes them"
     exit 2
 }
 
@@ -93,7 +95,7 @@ has_sanitizer() {
 
 # ---- by itself
 alone() {
-    local heap=-Wl,--wrap=malloc,--wrap=calloc,--wrap=realloc,--wrap=free core=$top/out/library/libyaml_c.a
+    local heap=-Wl,--wrap=malloc,--wrap=calloc,--wrap=realloc,--wrap=free
     # windows and pieces as small as can be
     local small='-DLAYER_WINDOW=8 -DLAYER_PIECE=0'
     compile against_core against_core.c "$core" -L "$library" -lyaml -Wl,-rpath,"$library" &&

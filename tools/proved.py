@@ -4,8 +4,8 @@
     tools/proved.py             writes the page
     tools/proved.py --check     writes nothing, and fails where the page differs
 
-Both fail where a crate lacks its README.md, where one has more than 15 lines or not the form that all have, and where an item
-that it names doesn't stand in the crate's src/.
+Both fail where a crate lacks its README.md, where one has more than 15 lines or not the form that all have, where an item
+that it names doesn't stand in the crate's src/, and where that of a crate of laws doesn't name one of its public laws.
 
 A README.md is: the crate's name; a line on what it holds; where its calls have contracts, a table of these calls and of what
 the contracts say; and a line on what no clause says.
@@ -58,11 +58,24 @@ def rows(lines):
     return [it for it in lines if it.startswith("| ") and it not in TABLE]
 
 
+def items(lines):
+    """The items of a table."""
+    return [name for row in rows(lines) for name in re.findall(r"`([^`]+)`", row.split(" | ")[0])]
+
+
 def unknown(crate, lines):
     """The items of a table that don't stand in the crate."""
     names = known(crate)
-    items = [name for row in rows(lines) for name in re.findall(r"`([^`]+)`", row.split(" | ")[0])]
-    return [it for it in items if it not in names]
+    return [it for it in items(lines) if it not in names]
+
+
+def unnamed(crate, lines):
+    """The public laws of a crate of laws that its table doesn't name."""
+    if "_laws_" not in crate:
+        return []
+    named = items(lines)
+    laws = [it for path in repo.sources(crate) for it in repo.functions(path) if it.is_pub and it.contract()]
+    return [it.label for it in laws if it.label not in named and it.name not in named]
 
 
 def is_formed(crate, lines):
@@ -82,6 +95,7 @@ def faults(crate):
         return [f"{path} isn't there"]
     lines = repo.read(path).rstrip("\n").split("\n")
     found = [f"{path}: no item of this name stands in src/: {it}" for it in unknown(crate, lines)]
+    found += [f"{path}: no row names this law: {it}" for it in unnamed(crate, lines)]
     if len(lines) > MOST_LINES:
         found.append(f"{path}: {len(lines)} lines, of {MOST_LINES} at most")
     if not is_formed(crate, lines):

@@ -1,0 +1,390 @@
+#!/usr/bin/env python3
+"""Replays vectors with each request for memory refused in turn, call by call: the second half of `make faults`.
+
+    tools/faults_calls.py [--near] [WORD..]     the chosen lines whose call or name has one of the words; none: all
+
+It takes the program that replays the vectors where `tools/program.py yaml_cli_vectors` has built it and no source is newer, or
+the one that VECTORS names. Else it says so and runs nothing, unless --near is given: then it builds one without proofs
+(tools/near.py). JOBS: runs at a time (1). SECONDS: how long new lines are begun (120); every call has its first line before
+one has its second. It needs what tools/faults.py needs.
+
+Of crates/yaml_cli_vectors/stdin it chooses, for each call, few lines of at most MOST bytes (without their answers) that
+together reach what all such lines do (an answer's form, a fault's kind and layer, UTF-16, anchors, tags, styles, kinds of
+events and nodes); and all that make calls one after another, with some calls more behind, which show what state a fault leaves.
+Each line is replayed by itself: first as it is, which has to pass and tells how many requests it makes, then with the Nth
+refused, for each N.
+
+What is promised, and judged for each run:
+
+    an answer       the line passes: a text isn't kept to be used again, or what was refused is read behind the line's fault
+    a layer's       want of memory with nothing else in it, of a layer that the call's contract lists; in front of it stands a
+                    front of what the line has, and behind it a session and a source answer the empty token, a parser the
+                    empty event, the end or the document without a root, and both the fault that they keep; an emitter the
+                    fault again at each call, and its text stays
+    the line's      `out of memory`: of the line's JSON, of what it writes, of the document or event that it makes for a call
+    the program's   status 1 and the error, before there is a line
+    not told apart  the answers that a call of the line's own makes of any refusal: see UNTOLD
+
+`main` isn't among the calls: tools/faults.py runs the program itself. Whatever else happens is printed, and the script fails;
+so it does where a call that has layers was never seen to tell one.
+"""
+import collections
+import json
+import os
+import subprocess
+import sys
+import tempfile
+import time
+from concurrent.futures import ThreadPoolExecutor
+
+import faults
+
+TOOLS = faults.TOOLS
+TOP = os.path.dirname(TOOLS)
+CRATE = "yaml_cli_vectors"
+MOST = 900
+# `memory error`, as the line of a fault.
+LINE = b"memory error".hex()
+
+SCAN = {"Scanner", "Reader"}
+PARSE = SCAN | {"Parser"}
+LOAD = PARSE | {"Loader"}
+EMIT = {"Emitter", "Writer"}
+# The layers that may tell want of memory, by the calls' contracts (`Faults.antt` of yaml_scan_types, `Layers.antt` of
+# yaml_round_writing); what a line makes of several calls, by all of them.
+LAYERS = {
+    "decode": SCAN,
+    "scan": SCAN,
+    "scan_calls": SCAN,
+    "next_tokens": SCAN,
+    "parse": PARSE,
+    "parse_tokens": PARSE,
+    "load": LOAD,
+    "load_tokens": LOAD,
+    "parse_calls": LOAD,
+    "loads": LOAD,
+    "same": PARSE,
+    "diff": PARSE,
+    "events": PARSE | {"Emitter"},
+    "reformat": PARSE | EMIT,
+    "normalize": PARSE | EMIT,
+    "reload": LOAD | EMIT,
+    "run": LOAD | EMIT,
+    "least_limit": LOAD | EMIT,
+    "emit": PARSE | EMIT,
+    "emit_events": EMIT,
+    "emit_calls": EMIT,
+    "emit_limits": EMIT,
+    "dump": EMIT,
+    "told": {"Writer"},
+    "line": {"Writer"},
+}
+# What these answer where some call was refused, for want of memory or for another reason: the first limit that isn't as it
+# should be, things that aren't right, the line of a fault, which names no layer, a device over memory that failed.
+UNTOLD = {
+    "emit_limits": lambda line, got: isinstance(got.get("answer"), int),
+    "check": lambda line, got: set(got["answer"]) == set(line["answer"]) and False in got["answer"].values(),
+    "line": lambda line, got: got == {"answer": LINE},
+    "run": lambda line, got: got == {"refused": "Write"},
+    "read_all": lambda line, got: {**got, "sizes": 0} == {"refused": "Read", "sizes": 0} or got.get("refused") == "Yaml",
+}
+# These tell no layer: `lookup` answers the fault of the load as want of memory of the line.
+OTHERS = {"tokens", "lookup", *UNTOLD} - {*LAYERS}
+# These make a call again for each limit, so that the shortest line is enough.
+AGAIN = {"least_limit", "emit_limits"}
+# What an input has where one of these stands in it.
+MARKS = "&*!%|>\"'[{#"
+
+# The calls that are put behind those of a line.
+BEHIND = {
+    "scan_calls": ["fault", "scan", "peek", "has", "skip", "fault"],
+    "parse_calls": ["prefix", "parse", "into", "between", "load", "prefix"],
+    "emit_calls": [["flush"], ["opened"], ["turn"], ["output"], ["flush"], ["output"]],
+}
+ZERO = [0, 0, 0]
+NO_TOKEN, NO_EVENT = ["NO", ZERO, ZERO], ["", ZERO, ZERO]
+NO_DOCUMENT = {"version": None, "directives": [], "start_implicit": False, "end_implicit": False, "start_mark": ZERO}
+NO_DOCUMENT |= {"end_mark": ZERO, "nodes": []}
+# What a call answers behind a fault, where that isn't the fault.
+LEFT = {
+    "scan_calls": {"scan": NO_TOKEN, "peek": NO_TOKEN, "has": False, "skip": False},
+    "parse_calls": {"parse": NO_EVENT, "into": "end", "load": NO_DOCUMENT, "between": True},
+}
+Vector = collections.namedtuple("Vector", "number call name line")
+
+
+def bytes_of(given):
+    """An input: digits, or pieces of them, each with how often it is repeated."""
+    if isinstance(given, list):
+        return b"".join(bytes.fromhex(text) * times for text, times in given)
+    return bytes.fromhex(given)
+
+
+def reaches(line):
+    """What a line reaches, beside its call."""
+    fault, text = line.get("fault"), bytes_of(line.get("input", ""))
+    found = {(name, str(line[name])) for name in ("form", "side", "refused", "of", "command") if name in line}
+    found |= {name for name in ("answer", "fault_line", "call_number", "tokens") if name in line}
+    found |= {mark for mark in MARKS if mark.encode() in text}
+    found |= {(name, line["settings"][name]) for name in ("encoding", "canonical") if "settings" in line}
+    found |= {(event[0], event[-1]) for event in line.get("events", [])}
+    found |= {(node[0], node[-1]) for node in line.get("document", {}).get("nodes", [])}
+    if fault:
+        found.add((fault["kind"], fault["origin"]))
+    if line.get("from", "").startswith("utf16") or text[:2] in (b"\xff\xfe", b"\xfe\xff"):
+        found.add("UTF-16")
+    return found
+
+
+def covering(vectors):
+    """Few of these lines that reach what all do: each time the one that adds most, of these the longest."""
+    rest, reached = {it.number: (reaches(it.line), size_of(it), it) for it in vectors}, set()
+    while rest:
+        reach, _, best = max(rest.values(), key=lambda it: (len(it[0] - reached), it[1], it[2].number))
+        if reach <= reached:
+            return
+        reached |= reach
+        yield best
+        del rest[best.number]
+
+
+def size_of(vector):
+    """A line's bytes without its answer, and those of an input that it writes in pieces."""
+    given, asked = vector.line.get("input", ""), {**vector.line, "answer": None}
+    return len(json.dumps(asked)) + (2 * len(bytes_of(given)) if isinstance(given, list) else 0)
+
+
+def chosen(lines):
+    """The lines that are run: of each call the first comes before another's second."""
+    by_call = collections.defaultdict(list)
+    for number, text in enumerate(lines, 1):
+        line = json.loads(text)
+        if line["call"] != "main":
+            by_call[line["call"]].append(Vector(number, line["call"], line.get("name", f"line {number}"), line))
+    rows = []
+    for call, vectors in by_call.items():
+        short = [it for it in vectors if size_of(it) <= MOST] or [min(vectors, key=size_of)]
+        rows.append(short if call in BEHIND else [min(short, key=size_of)] if call in AGAIN else list(covering(short)))
+    return [row[at] for at in range(max(map(len, rows))) for row in rows if at < len(row)]
+
+
+def said(run):
+    """What a run says of its line: '' where it passes, else what is told; None where it isn't of that form."""
+    first, _, rest = run.output.decode("utf-8", "replace").partition("\n")
+    if run.status == 0 and (first, rest) == ("1 passed, 0 failed", ""):
+        return ""
+    if run.status == 0 and first.startswith("line 1: ") and rest == "0 passed, 1 failed\n":
+        return first[len("line 1: ") :]
+    return None
+
+
+def answered(text, call):
+    """The object that was answered, where another was wanted, or nothing."""
+    front, middle, got = (text or "").partition("` is another in ")
+    return json.loads(got) if middle and front.startswith(f"{call}: `") else None
+
+
+def is_memory(fault, call):
+    whole = {"problem": "out of memory", "context": None, "kind": 1, "offset": 0, "value": 0}
+    whole |= {"problem_mark": ZERO, "context_mark": ZERO}
+    return isinstance(fault, dict) and fault == {**whole, "origin": fault.get("origin")} and fault["origin"] in LAYERS[call]
+
+
+def is_front(got, whole):
+    """Of two lists, or two texts."""
+    return type(got) is type(whole) and got == whole[: len(got)]
+
+
+def words_of(line):
+    """What each of a line's calls is."""
+    if line["call"] == "next_tokens":
+        return ["scan"] * line["calls"]
+    return [it[0] if isinstance(it, list) else it for it in line["calls"]]
+
+
+def is_emitter_left(words, fault, got, whole):
+    """Whether calls of an emitter behind a fault answer it, and show a text that stays and is a front of the line's."""
+    shown = {}
+    for word, it, usual in zip(words, got, whole):
+        if word in ("opened", "output"):
+            is_right = it == shown.setdefault(word, it) and (word == "opened" or is_front(it, usual))
+        else:
+            is_right = it == (True if word == "front" else fault)
+        if not is_right:
+            return False
+    return True
+
+
+def is_left(call, words, fault, got, whole):
+    """Whether calls behind a fault show the state that it leaves."""
+    if call == "emit_calls":
+        return is_emitter_left(words, fault, got, whole)
+    left = LEFT["scan_calls" if call == "next_tokens" else call]
+    return all(it == left.get(word, fault) for word, it in zip(words, got))
+
+
+def judge_calls(vector, got):
+    """Of a line of calls one after another: a front of its answers, a fault, and what that leaves."""
+    whole, words, got = vector.line["answer"], words_of(vector.line), got["answer"]
+    at = next((at for at, it in enumerate(got) if is_memory(it, vector.call)), len(got))
+    if len(got) != len(whole) or at == len(got) or got[:at] != whole[:at]:
+        return None
+    behind = slice(at + 1, None)
+    return got[at] if is_left(vector.call, words[behind], got[at], got[behind], whole[behind]) else None
+
+
+def judge_events(vector, got):
+    """Of events that are given to an emitter: a front of its text, and of what flushes showed."""
+    line, fault = vector.line, got.get("fault")
+    text, flushed = line.get("answer", line.get("output")), got["flushed"]
+    # the flush that met it shows what there was
+    is_last = not flushed or flushed[-1] in line["flushed"] or len(flushed[-1]) == 2
+    is_shown = is_last and is_front(flushed[:-1], line["flushed"])
+    is_told = set(got) == {"flushed", "fault", "output"} and (text is None or is_front(got["output"], text))
+    return fault if is_shown and is_told else None
+
+
+def judge_fault(vector, got):
+    """Of a fault alone, with the side that it was met on, the line that tells it, and a front of a list."""
+    line, rest = vector.line, dict(got)
+    fault, front, told, side = (rest.pop(it, None) for it in ("fault", "answer", "fault_line", "side"))
+    # the second input's comes only where the first is accepted
+    sides = [None] if vector.call not in ("same", "diff") else ["First"] if line.get("side") == "First" else ["First", "Second"]
+    is_listed = front is None or vector.call in ("scan", "load", "load_tokens") and is_front(front, line["answer"])
+    return fault if not rest and is_listed and told in (None, LINE) and side in sides else None
+
+
+def judge(vector, run):
+    """What a run with a request refused came to; None where it isn't as promised."""
+    text, call = said(run), vector.call
+    if run.status == 1 and not run.output and run.errors == b"Error: Kind(OutOfMemory)\n":
+        return "the program's"
+    if run.hits != 1 or text is None or run.errors:
+        return None
+    if text == "":
+        return "an answer"
+    if text == "out of memory":
+        return "the line's"
+    # the line of a fault that was answered
+    if text == "refused: out of memory" and "fault_line" in vector.line:
+        return "a layer's, Writer"
+    got = answered(text, call)
+    if got is None:
+        return None
+    if call in UNTOLD and UNTOLD[call](vector.line, got):
+        return "not told apart"
+    judges = {"emit_events": judge_events, "next_tokens": judge_calls, **dict.fromkeys(BEHIND, judge_calls)}
+    fault = judges.get(call, judge_fault)(vector, got) if call in LAYERS else None
+    return f"a layer's, {fault['origin']}" if fault and is_memory(fault, call) else None
+
+
+class Replay:
+    """The program, each line in a folder of its own."""
+
+    def __init__(self, folder, program):
+        self.bench = faults.Bench(folder, program)
+
+    def run(self, vector, at=0):
+        """A run of a line with the request of that number refused; of 0, with none."""
+        case = faults.Case(vector.name, [], json.dumps(vector.line).encode() + b"\n")
+        place = f"{self.bench.folder}/{vector.number}"
+        if not os.path.isdir(place):
+            self.bench.place(vector.number, case)
+        return self.bench.run(place, case, faults.Wrong("memory", "fail", at, 1) if at else None)
+
+    def extended(self, vector):
+        """The line with more calls behind its own, and what these answer with nothing refused."""
+        line, call = dict(vector.line), vector.call
+        if call not in BEHIND and call != "next_tokens":
+            return vector
+        own = line["answer"]
+        line["calls"] += 3 if call == "next_tokens" else BEHIND[call]
+        line["answer"] = []
+        got = answered(said(self.run(vector._replace(number=f"{vector.number}-more", line=line))), call)
+        if not got or not is_front(own, got["answer"]) or len(got["answer"]) != len(words_of(line)):
+            raise SystemExit(f"faults: {call}, {vector.name}: with more calls behind its own: {got}")
+        return vector._replace(line={**line, **got})
+
+    def usual(self, vector):
+        """How many requests a line makes, which passes with none refused."""
+        run, again = self.run(vector), self.run(vector)
+        if run != again or said(run) != "":
+            raise SystemExit(f"faults: {vector.call}, {vector.name}: with nothing refused: {run} and then {again}")
+        return run.counts[0]
+
+    def judged(self, vector, at):
+        """What a refusal came to, and what is to be said of it where that isn't as promised."""
+        try:
+            run = self.run(vector, at)
+        except subprocess.TimeoutExpired:
+            return None, f"{vector.call}, {vector.name}, request {at}: no end within {faults.SECONDS} seconds"
+        found = judge(vector, run)
+        told = f"status {run.status}, output {faults.shown(run.output)}, errors {faults.shown(run.errors)}"
+        return found, "" if found else f"{vector.call}, {vector.name}, request {at}: {told}"
+
+
+def program(is_near):
+    """The program that replays the vectors, or nothing."""
+    built = lambda path: subprocess.run([f"{TOOLS}/is_built.sh", path]).returncode == 0
+    proved, near = f"{TOP}/crates/{CRATE}/out/{CRATE}", f"{TOP}/out/near/{CRATE}"
+    if "VECTORS" in os.environ:
+        return os.environ["VECTORS"]
+    if built(proved):
+        return proved
+    if not is_near:
+        print(f"faults: call by call: not run, since {CRATE} isn't built or a source is newer: tools/program.py {CRATE} builds it")
+        return None
+    if not built(near) and subprocess.run([f"{TOOLS}/near.py", "--crate", CRATE]).returncode:
+        raise SystemExit(2)
+    print(f"faults: call by call, by a program that isn't proved: {os.path.relpath(near)}")
+    return near
+
+
+def replayed(replay, pool, vectors, total):
+    """Runs the lines until time is up: how many were run, and what isn't as promised."""
+    until, wrong = time.monotonic() + float(os.environ.get("SECONDS", "120")), []
+    for number, vector in enumerate(vectors, 1):
+        if time.monotonic() > until:
+            return number - 1, wrong
+        vector = replay.extended(vector)
+        found = collections.Counter()
+        for end, text in pool.map(lambda at: replay.judged(vector, at), range(1, replay.usual(vector) + 1)):
+            found[end or "NOT AS PROMISED"] += 1
+            if text:
+                wrong.append(text)
+                print(text, flush=True)
+        total[vector.call].update(found)
+        ends = ", ".join(f"{count} {end}" for end, count in sorted(found.items()))
+        print(f"{number}/{len(vectors)} {vector.call}, {vector.name}: {sum(found.values())} requests: {ends}", flush=True)
+    return len(vectors), wrong
+
+
+def main():
+    words = [it for it in sys.argv[1:] if it != "--near"]
+    path = program("--near" in sys.argv[1:])
+    if path is None:
+        return False
+    with open(f"{TOP}/crates/{CRATE}/stdin", encoding="utf-8") as file:
+        vectors = chosen(file)
+    unknown = {it.call for it in vectors} - {*LAYERS, *OTHERS}
+    if unknown:
+        raise SystemExit(f"faults: which layers may tell want of memory isn't said in LAYERS: {', '.join(sorted(unknown))}")
+    vectors = [it for it in vectors if not words or any(word in f"{it.call}, {it.name}" for word in words)]
+    total = collections.defaultdict(collections.Counter)
+    calls = {it.call for it in vectors}
+    with tempfile.TemporaryDirectory(prefix="faults-") as folder, ThreadPoolExecutor(int(os.environ.get("JOBS", "1"))) as pool:
+        count, wrong = replayed(Replay(folder, path), pool, vectors, total)
+    for end, number in sorted(sum(total.values(), collections.Counter()).items()):
+        print(f"{number:8} {end}")
+    silent = sorted(it for it in calls & {*LAYERS} if not any("layer" in end for end in total.get(it, ())))
+    if silent:
+        print(f"faults: no layer was seen to tell want of memory: {', '.join(silent)}")
+    if count < len(vectors):
+        print(f"faults: {len(vectors) - count} lines weren't run, since SECONDS were over")
+    runs = sum(map(sum, (it.values() for it in total.values())))
+    print(f"faults: call by call: {len(total)} calls, {count} lines, {runs} runs, {len(wrong)} not as promised")
+    return bool(wrong or silent)
+
+
+if __name__ == "__main__":
+    sys.exit(main())

@@ -6,4 +6,4 @@ mod Rows
 mod Forgetting
 mod Values
 mod Counting
-mod Sizes
+pub mod Sizes

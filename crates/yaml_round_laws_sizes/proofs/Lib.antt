@@ -1,0 +1,3 @@
+mod Tokens
+mod Trees
+mod Joining

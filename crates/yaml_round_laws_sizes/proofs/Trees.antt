@@ -1,5 +1,5 @@
--- A node at depth d of a tree's content stands behind or in front of d of the tokens that levels are told by, and the stream's two.
-use Rattle.std.proofs.Common.{◌≡◌, ℕ, zero, suc, ◌+◌, ◌≤◌, List, [], ◌∷◌, Option, Some, None, refl, arith, inl, inr, le_refl}
+-- The tokens of a tree weigh one and a half times the depth of each node of its content at least.
+use Rattle.std.proofs.Common.{◌≡◌, ℕ, zero, suc, ◌+◌, ◌*◌, ◌≤◌, List, [], ◌∷◌, Option, Some, None, refl, arith, inl, inr, le_refl}
 use Rattle.yaml_scan_history.specs.scan_model.Tokens.{Token}
 use Rattle.yaml_scan_history.specs.scan_model.Tokens as token
 use Rattle.yaml_parse_grammar.specs.declared.Wants.{Wants}
@@ -78,14 +78,14 @@ mutual
 mutual
   unfolding StandsAt ItemStandsAt PartStandsAt
 
-  node_deep : {w : Wants} (ds : List TagDirective) (n : tree.Node w) (d : ℕ) (rest : List Token) → StandsAt d (written_node (node_of ds n)) → d + count rest ≤ count (spell_node n rest)
+  node_deep : {w : Wants} (ds : List TagDirective) (n : tree.Node w) (d : ℕ) (rest : List Token) → StandsAt d (written_node (node_of ds n)) → 3 * d + 2 * count rest ≤ 2 * count (spell_node n rest)
   node_deep ds (tree.alias s name) d rest h = absurd h
   node_deep ds (tree.only_properties p) zero rest h = omega (arith, properties_count p rest)
   node_deep ds (tree.only_properties p) (suc d) rest h = absurd h
   node_deep ds (tree.with_properties p c) d rest h = omega (arith, properties_count p (spell_content c rest), content_deep ds (Some (properties_of p)) c d rest h)
   node_deep ds (tree.bare c) d rest h = content_deep ds None c d rest h
 
-  content_deep : {w : Wants} (ds : List TagDirective) (p : Option Properties) (c : tree.Content w) (d : ℕ) (rest : List Token) → StandsAt d (written_node (with_content ds p c)) → d + count rest ≤ count (spell_content c rest)
+  content_deep : {w : Wants} (ds : List TagDirective) (p : Option Properties) (c : tree.Content w) (d : ℕ) (rest : List Token) → StandsAt d (written_node (with_content ds p c)) → 3 * d + 2 * count rest ≤ 2 * count (spell_content c rest)
   content_deep ds p (tree.scalar s value style) zero rest h = omega arith
   content_deep ds p (tree.scalar s value style) (suc d) rest h = absurd h
   content_deep ds p (tree.flow brackets.Sequence s items) zero rest h = omega (arith, items_grow brackets.Sequence items rest)
@@ -100,18 +100,18 @@ mutual
   content_deep ds p (tree.indentless s n others) (suc d) rest (inl h) = omega (arith, maybe_deep ds n d (spell_others others rest) h, others_grow others rest)
   content_deep ds p (tree.indentless s n others) (suc d) rest (inr h) = omega (arith, maybe_grows n (spell_others others rest), others_deep ds others d rest h)
 
-  maybe_deep : {w : Wants} (ds : List TagDirective) (n : tree.Maybe w) (d : ℕ) (rest : List Token) → StandsAt d (written_node (maybe_of ds n)) → d + count rest ≤ count (spell_maybe n rest)
+  maybe_deep : {w : Wants} (ds : List TagDirective) (n : tree.Maybe w) (d : ℕ) (rest : List Token) → StandsAt d (written_node (maybe_of ds n)) → 3 * d + 2 * count rest ≤ 2 * count (spell_maybe n rest)
   maybe_deep ds tree.left_out zero rest h = omega arith
   maybe_deep ds tree.left_out (suc d) rest h = absurd h
   maybe_deep ds (tree.there n) d rest h = node_deep ds n d rest h
 
-  colon_deep : {w : Wants} (ds : List TagDirective) (v : tree.Colon w) (d : ℕ) (rest : List Token) → StandsAt d (written_node (colon_of ds v)) → d + count rest ≤ count (spell_colon v rest)
+  colon_deep : {w : Wants} (ds : List TagDirective) (v : tree.Colon w) (d : ℕ) (rest : List Token) → StandsAt d (written_node (colon_of ds v)) → 3 * d + 2 * count rest ≤ 2 * count (spell_colon v rest)
   colon_deep ds tree.no_colon zero rest h = omega arith
   colon_deep ds tree.no_colon (suc d) rest h = absurd h
   colon_deep ds (tree.colon s n) d rest h = omega (arith, maybe_deep ds n d rest h)
 
   -- inside brackets, with the closing one
-  items_deep : (ds : List TagDirective) (items : tree.Items) (d : ℕ) (rest : List Token) → ItemStandsAt d (written_nodes (items_of ds items)) → d + 1 + count rest ≤ count (spell_items brackets.Sequence items rest)
+  items_deep : (ds : List TagDirective) (items : tree.Items) (d : ℕ) (rest : List Token) → ItemStandsAt d (written_nodes (items_of ds items)) → 3 * d + 1 + 2 * count rest ≤ 2 * count (spell_items brackets.Sequence items rest)
   items_deep ds (tree.end_items s) d rest h = absurd h
   items_deep ds (tree.single n more) d rest (inl h) = omega (arith, node_deep ds n d (spell_more brackets.Sequence more rest) h, more_grows brackets.Sequence more rest)
   items_deep ds (tree.single n more) d rest (inr h) = omega (arith, node_grows n (spell_more brackets.Sequence more rest), more_items_deep ds more d rest h)
@@ -129,11 +129,11 @@ mutual
       let behind = spell_more brackets.Sequence more rest in
       omega (arith, maybe_grows key (spell_colon value behind), colon_grows value behind, more_items_deep ds more d rest h)
 
-  more_items_deep : (ds : List TagDirective) (more : tree.More) (d : ℕ) (rest : List Token) → ItemStandsAt d (written_nodes (more_items_of ds more)) → d + 1 + count rest ≤ count (spell_more brackets.Sequence more rest)
+  more_items_deep : (ds : List TagDirective) (more : tree.More) (d : ℕ) (rest : List Token) → ItemStandsAt d (written_nodes (more_items_of ds more)) → 3 * d + 1 + 2 * count rest ≤ 2 * count (spell_more brackets.Sequence more rest)
   more_items_deep ds (tree.end_more s) d rest h = absurd h
   more_items_deep ds (tree.comma s items) d rest h = omega (arith, items_deep ds items d rest h)
 
-  parts_deep : (ds : List TagDirective) (items : tree.Items) (d : ℕ) (rest : List Token) → PartStandsAt d (written_pairs (parts_of ds items)) → d + 1 + count rest ≤ count (spell_items brackets.Mapping items rest)
+  parts_deep : (ds : List TagDirective) (items : tree.Items) (d : ℕ) (rest : List Token) → PartStandsAt d (written_pairs (parts_of ds items)) → 3 * d + 1 + 2 * count rest ≤ 2 * count (spell_items brackets.Mapping items rest)
   parts_deep ds (tree.end_items s) d rest h = absurd h
   parts_deep ds (tree.single n more) d rest (inl h) = omega (arith, node_deep ds n d (spell_more brackets.Mapping more rest) h, more_grows brackets.Mapping more rest)
   parts_deep ds (tree.single n more) zero rest (inr (inl h)) = omega (arith, node_grows n (spell_more brackets.Mapping more rest), more_grows brackets.Mapping more rest)
@@ -149,22 +149,22 @@ mutual
       let behind = spell_more brackets.Mapping more rest in
       omega (arith, maybe_grows key (spell_colon value behind), colon_grows value behind, more_parts_deep ds more d rest h)
 
-  more_parts_deep : (ds : List TagDirective) (more : tree.More) (d : ℕ) (rest : List Token) → PartStandsAt d (written_pairs (more_parts_of ds more)) → d + 1 + count rest ≤ count (spell_more brackets.Mapping more rest)
+  more_parts_deep : (ds : List TagDirective) (more : tree.More) (d : ℕ) (rest : List Token) → PartStandsAt d (written_pairs (more_parts_of ds more)) → 3 * d + 1 + 2 * count rest ≤ 2 * count (spell_more brackets.Mapping more rest)
   more_parts_deep ds (tree.end_more s) d rest h = absurd h
   more_parts_deep ds (tree.comma s items) d rest h = omega (arith, parts_deep ds items d rest h)
 
   -- in blocks, with an indicator
-  entries_deep : (ds : List TagDirective) (entries : tree.Entries) (d : ℕ) (rest : List Token) → ItemStandsAt d (written_nodes (entries_of ds entries)) → d + 1 + count rest ≤ count (spell_entries entries rest)
+  entries_deep : (ds : List TagDirective) (entries : tree.Entries) (d : ℕ) (rest : List Token) → ItemStandsAt d (written_nodes (entries_of ds entries)) → 3 * d + 3 + 2 * count rest ≤ 2 * count (spell_entries entries rest)
   entries_deep ds (tree.end_entries s) d rest h = absurd h
   entries_deep ds (tree.entry s n entries) d rest (inl h) = omega (arith, maybe_deep ds n d (spell_entries entries rest) h, entries_grow entries rest)
   entries_deep ds (tree.entry s n entries) d rest (inr h) = omega (arith, maybe_grows n (spell_entries entries rest), entries_deep ds entries d rest h)
 
-  others_deep : (ds : List TagDirective) (others : tree.Others) (d : ℕ) (rest : List Token) → ItemStandsAt d (written_nodes (others_of ds others)) → d + 1 + count rest ≤ count (spell_others others rest)
+  others_deep : (ds : List TagDirective) (others : tree.Others) (d : ℕ) (rest : List Token) → ItemStandsAt d (written_nodes (others_of ds others)) → 3 * d + 3 + 2 * count rest ≤ 2 * count (spell_others others rest)
   others_deep ds tree.no_others d rest h = absurd h
   others_deep ds (tree.other s n others) d rest (inl h) = omega (arith, maybe_deep ds n d (spell_others others rest) h, others_grow others rest)
   others_deep ds (tree.other s n others) d rest (inr h) = omega (arith, maybe_grows n (spell_others others rest), others_deep ds others d rest h)
 
-  pairs_deep : (ds : List TagDirective) (pairs : tree.Pairs) (d : ℕ) (rest : List Token) → PartStandsAt d (written_pairs (pairs_of ds pairs)) → d + 1 + count rest ≤ count (spell_pairs pairs rest)
+  pairs_deep : (ds : List TagDirective) (pairs : tree.Pairs) (d : ℕ) (rest : List Token) → PartStandsAt d (written_pairs (pairs_of ds pairs)) → 3 * d + 1 + 2 * count rest ≤ 2 * count (spell_pairs pairs rest)
   pairs_deep ds (tree.end_pairs s) d rest h = absurd h
   pairs_deep ds (tree.block_pair s key value pairs) d rest (inl h) =
       let behind = spell_pairs pairs rest in
@@ -187,15 +187,14 @@ ends_grow : (ends : List tree.Span) (rest : List Token) → count rest ≤ count
 ends_grow [] rest = le_refl _
 ends_grow (s ∷ ends) rest = omega (arith, ends_grow ends rest)
 
--- with the stream's end
-documents_grow : (t : tree.Documents) (rest : List Token) → 1 + count rest ≤ count (spell_documents t rest)
+documents_grow : (t : tree.Documents) (rest : List Token) → count rest ≤ count (spell_documents t rest)
 documents_grow (tree.end_stream s) rest = omega arith
 documents_grow (tree.document ds s root ends more) rest =
     let behind = spell_ends ends (spell_documents more rest) in
     let opened = token_at token.document_start s ∷ spell_maybe root behind in
     omega (arith, directives_grow ds opened, maybe_grows root behind, ends_grow ends (spell_documents more rest), documents_grow more rest)
 
-documents_deep : (t : tree.Documents) (d : ℕ) (rest : List Token) → RootStandsAt d (written_documents (documents_of t)) → d + 1 + count rest ≤ count (spell_documents t rest)
+documents_deep : (t : tree.Documents) (d : ℕ) (rest : List Token) → RootStandsAt d (written_documents (documents_of t)) → 3 * d + 2 * count rest ≤ 2 * count (spell_documents t rest)
 unfolding RootStandsAt
 documents_deep (tree.end_stream s) d rest h = absurd h
 documents_deep (tree.document ds s root ends more) d rest (inl h) =
@@ -207,7 +206,7 @@ documents_deep (tree.document ds s root ends more) d rest (inr h) =
     let opened = token_at token.document_start s ∷ spell_maybe root behind in
     omega (arith, directives_grow ds opened, maybe_grows root behind, ends_grow ends (spell_documents more rest), documents_deep more d rest h)
 
-first_deep : (f : tree.First) (t : tree.Documents) (d : ℕ) (rest : List Token) → RootStandsAt d (written_documents (behind_first f (documents_of t))) → d + 1 + count rest ≤ count (spell_first f (spell_documents t rest))
+first_deep : (f : tree.First) (t : tree.Documents) (d : ℕ) (rest : List Token) → RootStandsAt d (written_documents (behind_first f (documents_of t))) → 3 * d + 2 * count rest ≤ 2 * count (spell_first f (spell_documents t rest))
 unfolding RootStandsAt
 first_deep tree.no_first t d rest h = documents_deep t d rest h
 first_deep (tree.first n ends) t d rest (inl h) =
@@ -217,6 +216,5 @@ first_deep (tree.first n ends) t d rest (inr h) =
     let behind = spell_documents t rest in
     omega (arith, node_grows n (spell_ends ends behind), ends_grow ends behind, documents_deep t d rest h)
 
--- with the stream's start
-pub tree_deep : (t : tree.Stream) (d : ℕ) (rest : List Token) → RootStandsAt d (written_documents (tree_content t)) → d + 2 + count rest ≤ count (spell t rest)
+pub tree_deep : (t : tree.Stream) (d : ℕ) (rest : List Token) → RootStandsAt d (written_documents (tree_content t)) → 3 * d + 2 * count rest ≤ 2 * count (spell t rest)
 tree_deep t d rest h = omega (arith, first_deep t.first t.documents d rest h)

@@ -5,3 +5,5 @@ pub mod Events
 mod Rows
 mod Forgetting
 mod Values
+mod Counting
+pub mod Sizes

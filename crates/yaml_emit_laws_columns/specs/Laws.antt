@@ -1,9 +1,9 @@
--- Which columns canonical layout passes, and where a column counts for nothing.
-use Rattle.std.specs.Prelude.{◌≡◌, ◌↔◌, ℕ, Bool, true, false, List}
+-- Which columns canonical layout passes, how many bytes it takes, and where a column counts for nothing.
+use Rattle.std.specs.Prelude.{◌≡◌, ◌↔◌, ℕ, ◌≤◌, Bool, true, false, List, length}
 use Rattle.yaml_emit_layout.specs.parse.Events.{TagDirective}
 use Rattle.yaml_emit_layout.specs.scan.declared.yaml_encoding_t.{yaml_encoding_t}
 use Rattle.yaml_emit_layout.specs.emit_text.declared.Settings.{Settings}
-use Rattle.yaml_emit_layout.specs.emit_text.Text.{is_deep}
+use Rattle.yaml_emit_layout.specs.emit_text.Text.{encode, is_deep}
 use Rattle.yaml_emit_layout.specs.emit_text.declared.Cursor.{Cursor}
 use Rattle.yaml_emit_layout.specs.emit_text.Layout.{Rest, ◌▹◌, written}
 use Rattle.yaml_emit_layout.specs.declared.level.Part.TheVariants as part
@@ -13,6 +13,7 @@ use Rattle.yaml_emit_layout.specs.Nodes.{Context, spot, is_flow, are_none, prope
 use Rattle.yaml_emit_layout.specs.ToCome.{Frame, frames, layout}
 use Rattle.yaml_emit_laws_columns.specs.Depths.{IsTooDeep}
 use Rattle.yaml_emit_laws_columns.specs.Forgetting.{are_block, Forgets}
+use Rattle.yaml_emit_laws_columns.specs.Sizes.{most_bytes}
 
 -- In canonical form, whatever the other settings, the layout of these documents marks an indentation
 -- of too many columns exactly where one of their nodes that are no alias stands too deep.
@@ -25,6 +26,11 @@ abbrev pub EventsTellColumns : Type 0
 EventsTellColumns = (x y : yaml_encoding_t) (ds es : List Document)
     → stream_events x ds ≡ stream_events y es → (indent : ℕ)
     → IsTooDeep indent ds ↔ IsTooDeep indent es
+
+-- In canonical form the text of these documents has at most as many bytes as its nodes, lines and texts tell.
+abbrev pub SizesAreByContent : Type 0
+SizesAreByContent = (s : Settings) → s.canonical ≡ true → (ds : List Document)
+    → length (encode s.encoding (written (stream_layout s ds))) ≤ most_bytes s ds
 
 -- Within block collections, where an item, a key or an end is next, what is still to come of a stream is laid out without a look at
 -- the column or at what stands in the line: the collections with their indentations, the directives, and whether breaks are kept

@@ -1,6 +1,6 @@
 //! Each function's contract is a law.
 
-ghost use Rattle.yaml_emit_laws_columns.specs.Laws.{ColumnsAreByDepth, EventsTellColumns, BlocksForgetColumns, ValuesStandByKeys};
+ghost use Rattle.yaml_emit_laws_columns.specs.Laws.{ColumnsAreByDepth, SizesAreByContent, EventsTellColumns, BlocksForgetColumns, ValuesStandByKeys};
 ghost use Rattle.yaml_emit_laws_columns.specs.Rows.{RowsHold};
 
 /// In canonical form, laying out passes the columns exactly where a node that is no alias stands too deep for the indent.
@@ -26,4 +26,9 @@ pub fn blocks_forget_columns()
 /// A block sequence's indentation as a value is told by the mapping's, by its key and by its properties.
 pub fn values_stand_by_keys()
     ensures { ValuesStandByKeys }
+{}
+
+/// In canonical form a text has at most as many bytes as its nodes, lines and texts tell.
+pub fn sizes_are_by_content()
+    ensures { SizesAreByContent }
 {}

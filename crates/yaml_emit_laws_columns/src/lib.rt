@@ -5,5 +5,5 @@ mod laws;
 
 pub use laws::{
     blocks_forget_columns, columns_are_by_depth, events_tell_columns, rows_of_columns_hold,
-    values_stand_by_keys,
+    sizes_are_by_content, values_stand_by_keys,
 };

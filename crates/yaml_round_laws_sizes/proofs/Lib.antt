@@ -1,0 +1,6 @@
+mod Leads
+mod Lexemes
+mod Paying
+mod Tokens
+mod Trees
+mod Joining

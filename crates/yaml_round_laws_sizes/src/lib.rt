@@ -1,0 +1,8 @@
+//! Laws of sizes, said of inputs: how deep their nodes can stand, and how long canonical text can be. No code.
+#![tactic(auto)]
+
+mod laws;
+
+pub use laws::{
+    canonical_texts_are_bounded, deep_inputs_are_long, depths_take_bytes, short_inputs_keep_columns,
+};

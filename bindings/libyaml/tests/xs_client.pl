@@ -6,6 +6,9 @@ use warnings;
 use Data::Dumper;
 use YAML::XS ();
 
+# what is warned of stands where it was met
+$| = 1;
+
 $Data::Dumper::Sortkeys = $Data::Dumper::Useqq = $Data::Dumper::Indent = 1;
 for my $path (@ARGV) {
     print "\n@@ $path\n";

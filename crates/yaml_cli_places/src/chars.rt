@@ -3,6 +3,9 @@
 use bstr::decode_utf8;
 use yaml_scan_types::yaml_encoding_t;
 
+// How many bytes are looked at in a row.
+const ROW: usize = 32;
+
 /// The text of a file: how the file is called, its bytes, and how they are encoded.
 #[derive(Clone, Copy)]
 pub struct Source<'a> {
@@ -143,6 +146,70 @@ impl<'a> Chars<'a> {
             Next::Char(c) if !ends_line(next) => Some(c),
             Next::Broken => Some('\u{FFFD}'),
             _ => None,
+        }
+    }
+
+    // Goes on behind the row of bytes that comes next and tells how many lines end in it, where these are fewer than `most`,
+    // each ends by a LF or a CR LF and, if not `wide`, each byte is a character. A NEL begins with C2, a LS and a PS with E2,
+    // which stand nowhere but at the beginning of a character or of bytes that spell none.
+    // Inlined, and without an early exit, so that the bytes are looked at side by side.
+    #[inline(always)]
+    fn skip_row(&mut self, most: u64, wide: bool) -> Option<u64> {
+        let row = match self.form {
+            Form::Utf8 => self.left.get(..ROW)?,
+            _ => return None,
+        };
+        let mut plain = true;
+        let mut lines = 0u8;
+        let mut before = b'\n';
+        for byte in row {
+            let begins_none = wide & (*byte != 0xC2) & (*byte != 0xE2);
+            plain = plain & ((*byte < 0x80) | begins_none) & ((before != b'\r') | (*byte == b'\n'));
+            lines = lines.wrapping_add(u8::from(*byte == b'\n'));
+            before = *byte;
+        }
+        let lines = u64::from(lines);
+        if !plain || before == b'\r' || lines >= most {
+            return None;
+        }
+        self.left = self.left.get(ROW..).unwrap_or(b"");
+        Some(lines)
+    }
+
+    /// Goes on behind so many ends of lines, or to the text's end; answers how many are missing.
+    pub(crate) fn skip_lines(&mut self, lines: u64) -> u64 {
+        let mut missing = lines;
+        for _ in 0..self.left.len() {
+            if let Some(ended) = self.skip_row(missing, true) {
+                missing = missing.saturating_sub(ended);
+                continue;
+            }
+            for _ in 0..ROW {
+                if missing == 0 || self.left.is_empty() {
+                    return missing;
+                }
+                if ends_line(self.next()) {
+                    missing -= 1;
+                }
+            }
+        }
+        missing
+    }
+
+    /// Goes on by so many characters of the line, or behind the line's end.
+    pub(crate) fn skip_columns(&mut self, columns: u64) {
+        let mut left = columns;
+        for _ in 0..self.left.len() {
+            if left >= ROW as u64 && self.skip_row(1, false).is_some() {
+                left -= ROW as u64;
+                continue;
+            }
+            for _ in 0..ROW {
+                if left == 0 || self.next_in_line().is_none() {
+                    return;
+                }
+                left -= 1;
+            }
         }
     }
 }

@@ -1,7 +1,7 @@
 //! A source line, and a caret under a place in it.
 
 use crate::chars::{Chars, Source};
-use crate::place::from_line;
+use crate::place::from_place;
 use std::alloc::AllocError;
 use unicode_width::UnicodeWidthChar;
 use yaml_scan_types::yaml_mark_t;
@@ -63,18 +63,20 @@ fn first_shown(column: u64) -> u64 {
     }
 }
 
-fn push_line(text: &mut String, mut line: Chars<'_>, column: u64) -> Result<(), AllocError> {
-    let first = first_shown(column);
+fn push_line(
+    text: &mut String,
+    mut line: Chars<'_>,
+    first: u64,
+    column: u64,
+) -> Result<(), AllocError> {
     if first > 0 {
         text.push_str(CUT)?;
     }
-    for at in 0..column.saturating_add(BEHIND) {
+    for _ in first..column.saturating_add(BEHIND) {
         let Some(c) = line.next_in_line() else {
             return text.push('\n');
         };
-        if at >= first {
-            push_shown(text, c)?;
-        }
+        push_shown(text, c)?;
     }
     if line.next_in_line().is_some() {
         text.push_str(CUT)?;
@@ -82,18 +84,20 @@ fn push_line(text: &mut String, mut line: Chars<'_>, column: u64) -> Result<(), 
     text.push('\n')
 }
 
-fn push_caret(text: &mut String, mut line: Chars<'_>, column: u64) -> Result<(), AllocError> {
-    let first = first_shown(column);
+fn push_caret(
+    text: &mut String,
+    mut line: Chars<'_>,
+    first: u64,
+    column: u64,
+) -> Result<(), AllocError> {
     if first > 0 {
         text.push_str("   ")?;
     }
-    for at in 0..column {
+    for _ in first..column {
         let Some(c) = line.next_in_line() else {
             break;
         };
-        if at >= first {
-            push_blank(text, c)?;
-        }
+        push_blank(text, c)?;
     }
     text.push_str("^\n")
 }
@@ -104,7 +108,14 @@ pub(crate) fn push_excerpt(
     source: Source<'_>,
     place: yaml_mark_t,
 ) -> Result<(), AllocError> {
-    let line = from_line(source, place.line);
-    push_line(text, line, place.column)?;
-    push_caret(text, line, place.column)
+    let first = first_shown(place.column);
+    let line = from_place(
+        source,
+        yaml_mark_t {
+            column: first,
+            ..place
+        },
+    );
+    push_line(text, line, first, place.column)?;
+    push_caret(text, line, first, place.column)
 }

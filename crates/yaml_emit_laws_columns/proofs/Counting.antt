@@ -83,7 +83,7 @@ both_are false b e = (e, absurd_of e)
     absurd_of : false ≡ true → b ≡ true
     absurd_of w = cc
 
-ascii_bytes : (x : Encoding) (t : List ℕ) → all_ascii t ≡ true → text_bytes x t ≤ unit x * length t
+pub ascii_bytes : (x : Encoding) (t : List ℕ) → all_ascii t ≡ true → text_bytes x t ≤ unit x * length t
 unfolding text_bytes
 ascii_bytes x [] e = omega arith
 ascii_bytes x (i ∷ t) e =

@@ -6,4 +6,5 @@ mod Rows
 mod Forgetting
 mod Values
 mod Counting
+mod Escapes
 pub mod Sizes

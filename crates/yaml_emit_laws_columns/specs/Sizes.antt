@@ -1,5 +1,5 @@
 -- How many bytes canonical text has at most, by what it says.
-use Rattle.std.specs.Prelude.{ℕ, ◌+◌, ◌*◌, true, ◌==◌, if◌then◌else◌, List, [], ◌∷◌, length, Option, Some, None}
+use Rattle.std.specs.Prelude.{ℕ, ◌+◌, ◌*◌, true, ◌==◌, nat_lt, if◌then◌else◌, List, [], ◌∷◌, length, Option, Some, None}
 use Rattle.std.specs.Str.{chars}
 use Rattle.yaml_emit_layout.specs.parse.Events.{TagDirective}
 use Rattle.yaml_emit_layout.specs.emit_text.declared.Settings.{Settings}
@@ -50,6 +50,10 @@ most_of_char s n c =
     if c == 32 then ascii s (n + 3)
     else if needs_escape s.unicode c then text_bytes s.encoding (escape_text c)
     else length (char_bytes s.encoding c)
+
+-- how long an escape is at most: `\x`, `\u` or `\U` with its digits
+abbrev pub most_of_escape : ℕ → ℕ
+most_of_escape c = if nat_lt c 0x100 then 4 else if nat_lt c 0x1_0000 then 6 else 10
 
 unfoldable pub most_of_value : Settings → ℕ → List ℕ → ℕ
 most_of_value s n [] = 0

@@ -1,6 +1,6 @@
 //! Each function's contract is a law.
 
-ghost use Rattle.yaml_emit_laws_columns.specs.Laws.{ColumnsAreByDepth, SizesAreByContent, EventsTellColumns, BlocksForgetColumns, ValuesStandByKeys};
+ghost use Rattle.yaml_emit_laws_columns.specs.Laws.{ColumnsAreByDepth, SizesAreByContent, EscapesAreShort, EventsTellColumns, BlocksForgetColumns, ValuesStandByKeys};
 ghost use Rattle.yaml_emit_laws_columns.specs.Rows.{RowsHold};
 
 /// In canonical form, laying out passes the columns exactly where a node that is no alias stands too deep for the indent.
@@ -31,4 +31,9 @@ pub fn values_stand_by_keys()
 /// In canonical form a text has at most as many bytes as its nodes, lines and texts tell.
 pub fn sizes_are_by_content()
     ensures { SizesAreByContent }
+{}
+
+/// A character of a value, spaces aside, takes at most 4, 6 or 10 characters of ASCII.
+pub fn escapes_are_short()
+    ensures { EscapesAreShort }
 {}

@@ -4,6 +4,6 @@
 mod laws;
 
 pub use laws::{
-    blocks_forget_columns, columns_are_by_depth, events_tell_columns, rows_of_columns_hold,
-    sizes_are_by_content, values_stand_by_keys,
+    blocks_forget_columns, columns_are_by_depth, escapes_are_short, events_tell_columns,
+    rows_of_columns_hold, sizes_are_by_content, values_stand_by_keys,
 };

@@ -1,15 +1,14 @@
 -- How many characters begin before a place: at most as many as an input has bytes.
-use Rattle.std.proofs.Common.{◌≡◌, ℕ, zero, suc, ◌+◌, ◌/◌, ◌%◌, ◌-◌, ◌<◌, ◌≤◌, Bool, true, false, nat_lt, nat_le, List, [], ◌∷◌, ◌++◌, length, drop, refl, subst, ap, arith, length-append, length-drop, inl, inr, le_refl}
+use Rattle.std.proofs.Common.{◌≡◌, ℕ, zero, suc, ◌+◌, ◌/◌, ◌%◌, ◌-◌, ◌<◌, ◌≤◌, Bool, true, false, nat_lt, nat_le, List, [], ◌∷◌, ◌++◌, length, Result, Ok, Err, refl, subst, arith, inl, inr, le_refl}
 use Rattle.std.proofs.lemmas.Bool.{cases_Bool, ltb-true, leb-true}
 use Rattle.std.specs.Prelude.{encode_utf8, encode_utf8_all}
-use Rattle.std.specs.Char.Escape.{encode_utf16}
 use lib.Utf8.{encode as encode_char}
 use Rattle.yaml_scan_history.specs.scan_model.declared.yaml_encoding_t.{yaml_encoding_t}
-use Rattle.yaml_scan_history.specs.scan_model.declared.yaml_encoding_t.TheVariants.{YAML_ANY_ENCODING, YAML_UTF8_ENCODING, YAML_UTF16LE_ENCODING, YAML_UTF16BE_ENCODING}
-use Rattle.yaml_scan_history.specs.scan_decode.declared.utf16.ByteOrder.{ByteOrder}
-use Rattle.yaml_scan_history.specs.scan_decode.declared.utf16.ByteOrder.TheVariants.{LowFirst, HighFirst}
 use Rattle.yaml_scan_history.specs.scan_decode.Encodings.{encoding_of, mark_length}
-use Rattle.yaml_scan_history.specs.scan_decode.Spelling.{units_bytes, spelling, spellings, Spells}
+use Rattle.yaml_scan_history.specs.scan_decode.declared.offence.Offence.{Offence}
+use Rattle.yaml_scan_history.specs.scan_decode.declared.offence.Character.{Character}
+use Rattle.yaml_scan_history.specs.scan_decode.Characters.{character_at}
+use Rattle.yaml_scan_history.specs.scan_decode.Decoding.{before, led_by, characters, decoded_characters}
 use Rattle.yaml_scan_history.specs.scan_model.Marks.{byte, starts}
 
 abbrev pub one_if : Bool → ℕ
@@ -83,50 +82,32 @@ text_leads : (cs : List ℕ) → lead_count (encode_utf8_all cs) ≤ length cs
 text_leads [] = le_refl _
 text_leads (c ∷ cs) = omega (arith, char_leads c, text_leads cs, count_append (encode_utf8 c) (encode_utf8_all cs))
 
--- ---- and of bytes that spell it
+-- ---- and of what bytes spell
 
-utf8_some : (c : ℕ) → 1 ≤ length (encode_utf8 c)
-unfolding encode_char
-utf8_some c =
-    elim (cases_Bool (nat_lt c 128)) [
-      | inl e ↦ rw e (omega arith)
-      | inr e ↦ rw e (elim (cases_Bool (nat_lt c 2048)) [
-        | inl f ↦ rw f (omega arith)
-        | inr f ↦ rw f (elim (cases_Bool (nat_lt c 65536)) [
-          | inl g ↦ rw g (omega arith)
-          | inr g ↦ rw g (omega arith)
-        ])
-      ])
+abbrev pub Few : ℕ → Result (List ℕ) Offence → Type 0
+Few n (Ok cs) = length cs ≤ n
+Few n (Err o) = Unit {0}
+
+before_few : (n c : ℕ) (r : Result (List ℕ) Offence) → Few n r → Few (suc n) (before c r)
+before_few n c (Ok cs) f = omega arith
+before_few n c (Err o) f = tt
+
+led_few : (n p : ℕ) (rest : ℕ → Result (List ℕ) Offence) (r : Result Character Offence) → ((q : ℕ) → Few n (rest q)) → Few (suc n) (led_by rest p r)
+led_few n p rest (Ok c) f = before_few n c.code (rest (p + c.width)) (f (p + c.width))
+led_few n p rest (Err o) f = tt
+
+few_characters : (n : ℕ) (e : yaml_encoding_t) (bytes : List ℕ) (p : ℕ) → Few n (characters n e bytes p)
+unfolding characters
+few_characters zero e bytes p = le_refl _
+few_characters (suc n) e bytes p =
+    elim (cases_Bool (nat_lt p (length bytes))) [
+      | inl w ↦ rw w (led_few n p (characters n e bytes) (character_at e bytes p) (few_characters n e bytes))
+      | inr w ↦ rw w (omega arith)
     ]
 
-unit_some : (order : ByteOrder) (u : ℕ) (us : List ℕ) → 1 ≤ length (units_bytes order (u ∷ us))
-unit_some LowFirst u us = omega arith
-unit_some HighFirst u us = omega arith
+-- an input has no more characters than bytes
+pub few_decoded : (from : yaml_encoding_t) (input : List ℕ) → Few (length input) (decoded_characters from input)
+few_decoded from input = few_characters (length input) (encoding_of from input) input (mark_length from input)
 
-units_some : (order : ByteOrder) (c : ℕ) → 1 ≤ length (units_bytes order (encode_utf16 c))
-units_some order c =
-    elim (cases_Bool (nat_lt c 0x1_0000)) [
-      | inl e ↦ rw e (unit_some order c [])
-      | inr e ↦ rw e (unit_some order (0xD800 + (c - 0x1_0000) / 0x400) ((0xDC00 + (c - 0x1_0000) % 0x400) ∷ []))
-    ]
-
-some_spelled : (e : yaml_encoding_t) (c : ℕ) → 1 ≤ length (spelling e c)
-some_spelled YAML_ANY_ENCODING c = utf8_some c
-some_spelled YAML_UTF8_ENCODING c = utf8_some c
-some_spelled YAML_UTF16LE_ENCODING c = units_some LowFirst c
-some_spelled YAML_UTF16BE_ENCODING c = units_some HighFirst c
-
-all_spelled : (e : yaml_encoding_t) (cs : List ℕ) → length cs ≤ length (spellings e cs)
-all_spelled e [] = le_refl _
-all_spelled e (c ∷ cs) = omega (arith, some_spelled e c, all_spelled e cs, length-append (spelling e c) (spellings e cs))
-
-pub leads_few : (from : yaml_encoding_t) (input text : List ℕ) → Spells from input text → leads text (length text) ≤ length input
-leads_few from input text k =
-    let m = mark_length from input in
-    let a : lead_count (encode_utf8_all k.characters) ≤ length k.characters = text_leads k.characters in
-    let b : length k.characters ≤ length (spellings (encoding_of from input) k.characters) = all_spelled (encoding_of from input) k.characters in
-    let c : length (drop m input) ≡ length (spellings (encoding_of from input) k.characters) = ap length k.spelled in
-    let d : length (drop m input) ≡ length input - m = length-drop m input in
-    let e : leads text (length text) ≡ lead_count text = whole text in
-    let f : lead_count text ≡ lead_count (encode_utf8_all k.characters) = ap lead_count k.is in
-    omega (arith, a, b, c, d, e, f)
+pub leads_few : (cs : List ℕ) → leads (encode_utf8_all cs) (length (encode_utf8_all cs)) ≤ length cs
+leads_few cs = omega (arith, whole (encode_utf8_all cs), text_leads cs)

@@ -374,6 +374,10 @@ innermost_is m s =
     let h = read m.text m.dropped m.waiting in
     ap key_view (sym (get_or_past m.keys.outer (depth h) m.keys.innermost (omega (arith, s.keys.long)))) ∙ s.keys.agrees (depth h) (omega arith) ∙ ap (λ d. view_of (candidate d h)) (sym s.depth)
 
+-- the candidate of the open depth is none, or stale
+pub key_none : (m : Fields) (p : yaml_mark_t) → IsShown m → None ≡ number_in (fresh_key m.keys.innermost p) → let h = read m.text m.dropped m.waiting in fresh (candidate m.depth h) p ≡ None
+key_none m p s is = let h = read m.text m.dropped m.waiting in no_candidate m.keys.innermost (candidate m.depth h) p (fresh_same m.keys.innermost (candidate m.depth h) p (innermost_is m s)) is
+
 -- where the candidate of the open depth waits
 pub key_waits : (m : Fields) (ws : List Waiting) (p : yaml_mark_t) (n : ℕ) → IsShown m → m.waiting ≡ map (λ (x : Waiting). x.entry) ws → m.ended ≡ false → let h = read m.text m.dropped m.waiting in Upto (reached h) p → Some n ≡ number_in (fresh_key m.keys.innermost p)
     → (m.dropped ≤ n) × (n - m.dropped < length ws) × ((w : Waiting) → fresh (candidate m.depth h) p ≡ Some record { number = m.dropped + (n - m.dropped); lexeme = (get_or ws (n - m.dropped) w).entry.lexeme })

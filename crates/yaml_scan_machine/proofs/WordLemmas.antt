@@ -1,6 +1,19 @@
 -- What reading a directive answers.
-use Rattle.std.proofs.Common.{◌≡◌, eqb, ℕ, Bool, true, false, refl}
+use Rattle.std.proofs.Common.{◌≡◌, eqb, ℕ, Bool, true, false, refl, List, Result, Ok, Err}
+use Rattle.yaml_scan_model.specs.declared.problem.ScanError.{ScanError}
+use Rattle.yaml_scan_model.specs.Marks.{Place, mark_at}
+use Rattle.yaml_scan_model.specs.Wrong.{Wrong}
 use Rattle.yaml_scan_scalars.specs.Joined.{told}
+use Rattle.yaml_scan_words.specs.Readings.{ReadsAs}
+use Rattle.yaml_scan_words.specs.Directives.{DirectiveText}
+use Rattle.yaml_scan_words.specs.DirectivesGiven.{IsDirective}
+use Rattle.yaml_scan_history.specs.Words.{directed}
+use Rattle.yaml_scan_machine.specs.Given.{ReadsWord}
+
+pub directive_refused : (text : List ℕ) (p : ℕ) (place : Place) (e : ScanError) (x : Result DirectiveText Wrong)
+    → ReadsAs (IsDirective text p) (λ d. d.place) text (mark_at text p) place (Err e) x → ReadsWord text p place (Err e) (directed x)
+directive_refused text p place e (Ok x) r = r
+directive_refused text p place e (Err w) r = r
 
 pub one_told : (b : Bool) (n : ℕ) → n ≡ told b → eqb n 1 ≡ b
 one_told true n e = rw e refl

@@ -48,7 +48,16 @@ fn effect_of(kind: Kind) -> Effect
     match kind {
         Kind::FlowSequenceStart | Kind::FlowMappingStart => Effect::Opens,
         Kind::FlowSequenceEnd | Kind::FlowMappingEnd => Effect::Closes,
-        _ if kind.cancels() => Effect::Cancels,
+        Kind::StreamEnd
+        | Kind::Directive
+        | Kind::DocumentStart
+        | Kind::DocumentEnd
+        | Kind::FlowEntry
+        | Kind::BlockEntry
+        | Kind::KeyMark
+        | Kind::ValueMark
+        | Kind::Literal
+        | Kind::Folded => Effect::Cancels,
         _ => Effect::Leaves,
     }
 }

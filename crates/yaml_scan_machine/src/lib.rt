@@ -5,6 +5,7 @@ mod keys;
 mod levels;
 mod machine;
 mod next;
+mod readings;
 mod stand;
 mod step;
 mod ways;

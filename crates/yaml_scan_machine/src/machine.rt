@@ -50,14 +50,14 @@ pub struct Machine<'a> {
 }
 
 impl<'a> Machine<'a> {
-    ghost use Rattle.yaml_scan_machine.specs.State.{IsMachine, IsNarrow, AreInside, Leaves, is_ready};
+    ghost use Rattle.yaml_scan_machine.specs.State.{IsMachine, IsNarrow, AreInside, GoesOn, Leaves, is_ready};
     ghost use Rattle.yaml_scan_history.specs.Scanned.{scanned};
     ghost use Rattle.yaml_scan_machine.specs.Left.{left_in, left_from, IsTold};
     ghost use Rattle.yaml_scan_decode.specs.Encodings.{encoding_of};
     ghost use Rattle.yaml_scan_machine.specs.Shows.{IsCounted, history_of};
     ghost use Rattle.yaml_scan_machine.specs.Reads.{MarksKey, IsColumnAt, opens_for};
     ghost use Rattle.yaml_scan_machine.specs.Candidates.{AreKeys, stack_of};
-    ghost use Rattle.yaml_scan_history.specs.Remaining.{offline};
+    ghost use Rattle.yaml_scan_history.specs.Remaining.{nothing, offline};
     ghost use Rattle.yaml_scan_laws_order.specs.Fronts.{GivesFirst};
     ghost use Rattle.yaml_scan_model.specs.Tokens.{token_of};
     ghost use Rattle.yaml_scan_queue.specs.Bare.{is_bare};

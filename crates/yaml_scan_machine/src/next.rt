@@ -18,7 +18,7 @@ ghost use Rattle.yaml_scan_machine.specs.Reads.{late, lost, required_behind, col
 
 use crate::levels::keeps;
 use crate::machine::Machine;
-use crate::word::{Word, read_word};
+use crate::word::{Reading, Word, read_word};
 use yaml_scan_history::{Kind, Lexeme, is_fresh, moved_end};
 use yaml_scan_model::{
     Context, Problem, Reader, ScanError, ScanFault, yaml_encoding_t, yaml_mark_t, yaml_token_body_t,
@@ -56,7 +56,7 @@ struct Stand {
 
 impl<'a> Machine<'a> {
     ghost use Rattle.yaml_scan_machine.specs.State.{IsMachine, IsNext};
-    ghost use Rattle.yaml_scan_machine.specs.Shows.{history_of, stream_of, Picks};
+    ghost use Rattle.yaml_scan_machine.specs.Shows.{IsShown, fields_of, history_of, stream_of, Picks};
     ghost use Rattle.yaml_scan_machine.specs.Comes.{Refused};
     ghost use Rattle.yaml_scan_machine.specs.Stood.{IsStand};
     ghost use Rattle.yaml_scan_machine.specs.Reads.{GivesNext, GivesLexeme, EndsAt, keyed_by, required_in};
@@ -76,16 +76,16 @@ impl<'a> Machine<'a> {
     /// The lexeme that comes next, which stands there.
     // Inlined: its kind is known where it is called.
     #[inline(always)]
-    pub(crate) fn next(
+    pub(crate) fn next<R: Reading>(
         &self,
-        kind: Kind,
+        reading: &R,
         spot: Spot,
         required: Option<yaml_mark_t>,
         spares: &mut Vec<Vec<u8>>,
     ) -> Result<Read, ScanError>
         requires stands { IsMachine self.now }
         requires more { self.now.ended ≡ false }
-        requires stand { IsStand self.now kind spot }
+        requires stand { IsStand self.now (R.reads reading.now) spot }
         requires required { required ≡ required_in (fresh (candidate 0 (history_of self.now))
             (reached (history_of self.now))) }
         ensures safe { IfOk result (λ r. IsNext self.now r) }
@@ -96,18 +96,18 @@ impl<'a> Machine<'a> {
         let mut reader = Reader::resume(self.text.as_slice(), spot.mark);
         let stand = Stand {
             mark: spot.mark,
-            kind,
+            kind: reading.kind(),
             allowed: spot.allowed,
         };
-        self.of_kind(kind, &mut reader, stand, required, spares)
+        self.of_kind(reading, &mut reader, stand, required, spares)
     }
 
     /// The lexeme of that kind, which stands there.
     // Inlined: the kind is known where it is called.
     #[inline(always)]
-    fn of_kind(
+    fn of_kind<R: Reading>(
         &self,
-        kind: Kind,
+        reading: &R,
         reader: &mut Reader,
         stand: Stand,
         required: Option<yaml_mark_t>,
@@ -115,7 +115,7 @@ impl<'a> Machine<'a> {
     ) -> Result<Read, ScanError>
         requires stands { IsMachine self.now }
         requires more { self.now.ended ≡ false }
-        requires same { stand.kind ≡ kind }
+        requires same { stand.kind ≡ R.reads reading.now }
         requires text { reader.old.text ≡ text_bytes self.now.text }
         requires mark { stand.mark ≡ mark_at reader.old.text reader.old.at }
         requires place { IsPlace (text_bytes self.now.text) stand.mark }
@@ -139,7 +139,7 @@ impl<'a> Machine<'a> {
         if let Some(start) = lost(required, lexeme) {
             return Err(no_colon(start, lexeme.start));
         }
-        match self.read(kind, reader, lexeme, required, spares) {
+        match self.read(reading, reader, lexeme, required, spares) {
             Ok((lexeme, body)) => Ok(Read {
                 lexeme,
                 body,
@@ -151,18 +151,17 @@ impl<'a> Machine<'a> {
     }
 
     /// The lexeme with its end, and what its token carries.
-    // Inlined: the kind is known where it is called. It comes beside the lexeme that has it: read there it would be a load,
-    // which keeps the reading of each other kind in the way.
+    // Inlined: the kind is known where it is called.
     #[inline(always)]
-    fn read(
+    fn read<R: Reading>(
         &self,
-        kind: Kind,
+        reading: &R,
         reader: &mut Reader,
         lexeme: Lexeme,
         required: Option<yaml_mark_t>,
         spares: &mut Vec<Vec<u8>>,
     ) -> Result<(Lexeme, yaml_token_body_t), ScanError>
-        requires same { lexeme.kind ≡ kind }
+        requires same { lexeme.kind ≡ R.reads reading.now }
         requires text { reader.old.text ≡ text_bytes self.now.text }
         requires index { lexeme.start.index ≡ reader.old.at }
         requires start { kinds.is_end lexeme.kind ≡ false → lexeme.start ≡ mark_at reader.old.text
@@ -179,7 +178,7 @@ impl<'a> Machine<'a> {
             (history_of self.now)) }
     {
         let flow = 0 < lexeme.depth;
-        match read_word(spares, reader, kind, flow, lexeme.level) {
+        match read_word(reading, spares, reader, lexeme.kind, flow, lexeme.level) {
             Ok(word) => finish(lexeme, word, reader.stop(), required),
             Err(error) => Err(error),
         }

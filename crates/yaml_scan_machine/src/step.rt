@@ -6,6 +6,7 @@ ghost use Rattle.yaml_scan_machine.specs.Left.{IsLocated};
 
 use crate::machine::{Machine, allows, entry, put_fault};
 use crate::next::{Read, Spot};
+use crate::word::Reading;
 use std::alloc::AllocError;
 use yaml_scan_history::Kind;
 use yaml_scan_model::{ScanError, yaml_fault_t, yaml_mark_t};
@@ -38,21 +39,22 @@ impl<'a> Machine<'a> {
     /// whose room would be set to zero for each lexeme.
     // Inlined: each of its calls knows the kind.
     #[inline(always)]
-    pub(crate) fn step_at(
+    pub(crate) fn step_at<R: Reading>(
         &mut self,
-        kind: Kind,
+        reading: &R,
         spot: &Spot,
         spares: &mut Vec<Vec<u8>>,
         fault: &mut yaml_fault_t,
     ) -> bool
-        requires { MayReadAt self.old kind spot.now }
+        requires { MayReadAt self.old (R.reads reading.now) spot.now }
         ensures { Steps self.old self.new (fault_of fault.new) result }
     {
+        let kind = reading.kind();
         if !kind.is_value() && self.may_refuse(kind, *spot) {
             return self.of_rare(kind, spot, spares, fault);
         }
         let required = self.required_where(spot.required);
-        self.step_by(kind, *spot, required, spares, fault)
+        self.step_by(reading, *spot, required, spares, fault)
     }
 
     /// Whether a lexeme of that kind may be refused for what stands before it.
@@ -65,20 +67,20 @@ impl<'a> Machine<'a> {
     /// Reads the lexeme of that kind, which stands there, where the start of the required candidate is known.
     // Inlined: each of its calls knows the kind.
     #[inline(always)]
-    pub(crate) fn step_by(
+    pub(crate) fn step_by<R: Reading>(
         &mut self,
-        kind: Kind,
+        reading: &R,
         spot: Spot,
         required: Option<yaml_mark_t>,
         spares: &mut Vec<Vec<u8>>,
         fault: &mut yaml_fault_t,
     ) -> bool
-        requires may { MayReadAt self.old kind spot }
+        requires may { MayReadAt self.old (R.reads reading.now) spot }
         requires required { required ≡ required_in (fresh (candidate 0 (history_of self.old))
             (reached (history_of self.old))) }
         ensures { Steps self.old self.new (fault_of fault.new) result }
     {
-        match self.next(kind, spot, required, spares) {
+        match self.next(reading, spot, required, spares) {
             Ok(read) => self.take(read, fault),
             Err(error) => {
                 put_refusal(fault, error);

@@ -7,6 +7,9 @@ ghost use Rattle.yaml_scan_history.specs.declared.kind.Kind.TheVariants as kinds
 
 use crate::machine::Machine;
 use crate::next::Spot;
+use crate::readings::{
+    AliasReading, AnchorReading, DoubleQuotedReading, PlainReading, SingleQuotedReading, TagReading,
+};
 use yaml_scan_history::Kind;
 use yaml_scan_model::yaml_fault_t;
 
@@ -57,7 +60,7 @@ impl<'a> Machine<'a> {
         requires { MayReadAt self.old kinds.FlowEntry spot.now }
         ensures { Steps self.old self.new (fault_of fault.new) result }
     {
-        self.step_at(Kind::FlowEntry, spot, spares, fault)
+        self.step_at(&Kind::FlowEntry, spot, spares, fault)
     }
 
     /// Reads a `:`.
@@ -72,7 +75,7 @@ impl<'a> Machine<'a> {
         requires { MayReadAt self.old kinds.ValueMark spot.now }
         ensures { Steps self.old self.new (fault_of fault.new) result }
     {
-        self.step_at(Kind::ValueMark, spot, spares, fault)
+        self.step_at(&Kind::ValueMark, spot, spares, fault)
     }
 
     /// Reads a plain scalar.
@@ -82,7 +85,7 @@ impl<'a> Machine<'a> {
         requires { MayReadAt self.old kinds.Plain spot.now }
         ensures { Steps self.old self.new (fault_of fault.new) result }
     {
-        self.step_at(Kind::Plain, spot, spares, fault)
+        self.step_at(&PlainReading, spot, spares, fault)
     }
 
     /// Reads a double quoted scalar.
@@ -97,7 +100,7 @@ impl<'a> Machine<'a> {
         requires { MayReadAt self.old kinds.DoubleQuoted spot.now }
         ensures { Steps self.old self.new (fault_of fault.new) result }
     {
-        self.step_at(Kind::DoubleQuoted, spot, spares, fault)
+        self.step_at(&DoubleQuotedReading, spot, spares, fault)
     }
 
     /// Reads a `]`.
@@ -112,7 +115,7 @@ impl<'a> Machine<'a> {
         requires { MayReadAt self.old kinds.FlowSequenceEnd spot.now }
         ensures { Steps self.old self.new (fault_of fault.new) result }
     {
-        self.step_at(Kind::FlowSequenceEnd, spot, spares, fault)
+        self.step_at(&Kind::FlowSequenceEnd, spot, spares, fault)
     }
 
     /// Reads a `}`.
@@ -127,7 +130,7 @@ impl<'a> Machine<'a> {
         requires { MayReadAt self.old kinds.FlowMappingEnd spot.now }
         ensures { Steps self.old self.new (fault_of fault.new) result }
     {
-        self.step_at(Kind::FlowMappingEnd, spot, spares, fault)
+        self.step_at(&Kind::FlowMappingEnd, spot, spares, fault)
     }
 
     /// Reads a `[`.
@@ -142,7 +145,7 @@ impl<'a> Machine<'a> {
         requires { MayReadAt self.old kinds.FlowSequenceStart spot.now }
         ensures { Steps self.old self.new (fault_of fault.new) result }
     {
-        self.step_at(Kind::FlowSequenceStart, spot, spares, fault)
+        self.step_at(&Kind::FlowSequenceStart, spot, spares, fault)
     }
 
     /// Reads a `{`.
@@ -157,7 +160,7 @@ impl<'a> Machine<'a> {
         requires { MayReadAt self.old kinds.FlowMappingStart spot.now }
         ensures { Steps self.old self.new (fault_of fault.new) result }
     {
-        self.step_at(Kind::FlowMappingStart, spot, spares, fault)
+        self.step_at(&Kind::FlowMappingStart, spot, spares, fault)
     }
 
     /// Reads a `-`.
@@ -172,7 +175,7 @@ impl<'a> Machine<'a> {
         requires { MayReadAt self.old kinds.BlockEntry spot.now }
         ensures { Steps self.old self.new (fault_of fault.new) result }
     {
-        self.step_at(Kind::BlockEntry, spot, spares, fault)
+        self.step_at(&Kind::BlockEntry, spot, spares, fault)
     }
 
     /// Reads a single quoted scalar.
@@ -187,7 +190,7 @@ impl<'a> Machine<'a> {
         requires { MayReadAt self.old kinds.SingleQuoted spot.now }
         ensures { Steps self.old self.new (fault_of fault.new) result }
     {
-        self.step_at(Kind::SingleQuoted, spot, spares, fault)
+        self.step_at(&SingleQuotedReading, spot, spares, fault)
     }
 
     /// Reads an anchor.
@@ -197,7 +200,7 @@ impl<'a> Machine<'a> {
         requires { MayReadAt self.old kinds.Anchor spot.now }
         ensures { Steps self.old self.new (fault_of fault.new) result }
     {
-        self.step_at(Kind::Anchor, spot, spares, fault)
+        self.step_at(&AnchorReading, spot, spares, fault)
     }
 
     /// Reads an alias.
@@ -207,7 +210,7 @@ impl<'a> Machine<'a> {
         requires { MayReadAt self.old kinds.Alias spot.now }
         ensures { Steps self.old self.new (fault_of fault.new) result }
     {
-        self.step_at(Kind::Alias, spot, spares, fault)
+        self.step_at(&AliasReading, spot, spares, fault)
     }
 
     /// Reads a tag.
@@ -217,7 +220,7 @@ impl<'a> Machine<'a> {
         requires { MayReadAt self.old kinds.Tag spot.now }
         ensures { Steps self.old self.new (fault_of fault.new) result }
     {
-        self.step_at(Kind::Tag, spot, spares, fault)
+        self.step_at(&TagReading, spot, spares, fault)
     }
 
     /// Reads a lexeme of any kind, in the general way.
@@ -235,6 +238,6 @@ impl<'a> Machine<'a> {
         ensures { Steps self.old self.new (fault_of fault.new) result }
     {
         let required = self.required();
-        self.step_by(kind, *spot, required, spares, fault)
+        self.step_by(&kind, *spot, required, spares, fault)
     }
 }

@@ -114,10 +114,54 @@ fn indicator(byte: u8, flow: bool, reader: &Reader) -> Option<Kind>
     }
 }
 
-/// Reads the lexeme of that kind, which stands here. Its text may take a spare one's room.
+/// How the lexeme of a kind is read. A type for a kind that is met often has the reading of that kind alone: so it can be inlined
+/// into the way of its kind, where the reading of all kinds would be more than the kit inlines.
+pub(crate) trait Reading {
+    // The kind that is read.
+    ghost reads: { Self → Kind };
+
+    /// The kind.
+    fn kind(&self) -> Kind
+        ensures { result ≡ reads self.now };
+
+    /// Reads the lexeme of that kind, which stands here. Its text may take a spare one's room.
+    fn word(
+        &self,
+        spares: &mut Vec<Vec<u8>>,
+        reader: &mut Reader,
+        flow: bool,
+        level: u64,
+    ) -> Result<Word, ScanError>
+        requires stands { Stands (reads self.now) flow reader.old.text reader.old.at }
+        requires level { level ≤ length reader.old.text + 1 }
+        ensures { ReadsWord reader.old.text reader.old.at reader.new result
+            (spec.word_at (reads self.now) flow level reader.old.text reader.old.at) };
+}
+
+/// Reads the lexeme of that kind, which stands here, in the way that is given.
 // Inlined: the kind is known where it is called.
 #[inline(always)]
-pub(crate) fn read_word(
+pub(crate) fn read_word<R: Reading>(
+    reading: &R,
+    spares: &mut Vec<Vec<u8>>,
+    reader: &mut Reader,
+    kind: Kind,
+    flow: bool,
+    level: u64,
+) -> Result<Word, ScanError>
+    requires same { kind ≡ R.reads reading.now }
+    requires stands { Stands kind flow reader.old.text reader.old.at }
+    requires level { level ≤ length reader.old.text + 1 }
+    ensures { ReadsWord reader.old.text reader.old.at reader.new result
+        (spec.word_at kind flow level reader.old.text reader.old.at) }
+{
+    reading.word(spares, reader, flow, level)
+}
+
+/// Reads the lexeme of that kind, which stands here. Its text may take a spare one's room.
+// Inlined: an indicator's kind is known where it is called.
+#[inline(always)]
+pub(crate) fn any_word(
     spares: &mut Vec<Vec<u8>>,
     reader: &mut Reader,
     kind: Kind,
@@ -156,8 +200,8 @@ fn indicator_body(kind: Kind) -> Option<yaml_token_body_t>
 
 /// Reads a lexeme that is no indicator of one byte.
 #[tactic(auto, unfolding(yaml_scan_types::specs::Marks::break_of, yaml_scan_history::specs::Words::word_at))]
-// Inlined: the kind is known where it is called.
-#[inline(always)]
+// Out of line: the kinds that are met often have a reading of their own.
+#[inline(never)]
 fn text_word(
     spares: &mut Vec<Vec<u8>>,
     reader: &mut Reader,
@@ -294,7 +338,7 @@ fn directive_body(directive: Directive) -> yaml_token_body_t
 
 // Inlined: in the way of its kind its answer isn't put together.
 #[inline(always)]
-fn alias_word(spares: &mut Vec<Vec<u8>>, reader: &mut Reader) -> Result<Word, ScanError>
+pub(crate) fn alias_word(spares: &mut Vec<Vec<u8>>, reader: &mut Reader) -> Result<Word, ScanError>
     requires { byte reader.old.text reader.old.at ≡ 42 }
     ensures { ReadsWord reader.old.text reader.old.at reader.new result
         (spec.valued (λ v. tokens.alias v)
@@ -310,7 +354,7 @@ fn alias_word(spares: &mut Vec<Vec<u8>>, reader: &mut Reader) -> Result<Word, Sc
 
 // Inlined: in the way of its kind its answer isn't put together.
 #[inline(always)]
-fn anchor_word(spares: &mut Vec<Vec<u8>>, reader: &mut Reader) -> Result<Word, ScanError>
+pub(crate) fn anchor_word(spares: &mut Vec<Vec<u8>>, reader: &mut Reader) -> Result<Word, ScanError>
     requires { byte reader.old.text reader.old.at ≡ 38 }
     ensures { ReadsWord reader.old.text reader.old.at reader.new result
         (spec.valued (λ v. tokens.anchor v)
@@ -326,7 +370,11 @@ fn anchor_word(spares: &mut Vec<Vec<u8>>, reader: &mut Reader) -> Result<Word, S
 
 // Inlined: in the way of its kind its answer isn't put together.
 #[inline(always)]
-fn tag_word(spares: &mut Vec<Vec<u8>>, reader: &mut Reader, flow: bool) -> Result<Word, ScanError>
+pub(crate) fn tag_word(
+    spares: &mut Vec<Vec<u8>>,
+    reader: &mut Reader,
+    flow: bool,
+) -> Result<Word, ScanError>
     requires { byte reader.old.text reader.old.at ≡ 33 }
     ensures { ReadsWord reader.old.text reader.old.at reader.new result
         (spec.tagged (tag_at flow reader.old.text reader.old.at)) }
@@ -365,7 +413,7 @@ fn block_word(alloc: Global, reader: &mut Reader, level: u64) -> Result<Word, Sc
 
 // Inlined: in the way of its kind its answer isn't put together.
 #[inline(always)]
-fn single_word(spares: &mut Vec<Vec<u8>>, reader: &mut Reader) -> Result<Word, ScanError>
+pub(crate) fn single_word(spares: &mut Vec<Vec<u8>>, reader: &mut Reader) -> Result<Word, ScanError>
     requires { byte reader.old.text reader.old.at ≡ 39 }
     ensures { ReadsWord reader.old.text reader.old.at reader.new result
         (spec.valued (λ v. tokens.scalar v yaml_scalar_style_t.YAML_SINGLE_QUOTED_SCALAR_STYLE)
@@ -384,7 +432,7 @@ fn single_word(spares: &mut Vec<Vec<u8>>, reader: &mut Reader) -> Result<Word, S
 
 // Inlined: in the way of its kind its answer isn't put together.
 #[inline(always)]
-fn double_word(spares: &mut Vec<Vec<u8>>, reader: &mut Reader) -> Result<Word, ScanError>
+pub(crate) fn double_word(spares: &mut Vec<Vec<u8>>, reader: &mut Reader) -> Result<Word, ScanError>
     requires { byte reader.old.text reader.old.at ≡ 34 }
     ensures { ReadsWord reader.old.text reader.old.at reader.new result
         (spec.valued (λ v. tokens.scalar v yaml_scalar_style_t.YAML_DOUBLE_QUOTED_SCALAR_STYLE)
@@ -403,7 +451,7 @@ fn double_word(spares: &mut Vec<Vec<u8>>, reader: &mut Reader) -> Result<Word, S
 
 // Inlined: in the way of its kind its answer isn't put together.
 #[inline(always)]
-fn plain_word(
+pub(crate) fn plain_word(
     spares: &mut Vec<Vec<u8>>,
     reader: &mut Reader,
     flow: bool,

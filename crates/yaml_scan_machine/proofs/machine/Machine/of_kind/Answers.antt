@@ -14,7 +14,7 @@ use Rattle.yaml_scan_machine.proofs.KindLemmas.{kind_machine, wrong_machine, mis
 use Rattle.yaml_scan_machine.proofs.machine.Machine.of_kind.Goals as goal
 
 pub returns-then-is_misplaced-clause-exact : goal.returns-then-is_misplaced-clause-exact
-returns-then-is_misplaced-clause-exact c = λ gap here allow.
+returns-then-is_misplaced-clause-exact g c = λ gap here allow.
     let m = c.args.self.now in
     let k = c.args.stand.kind in
     misplaced_gives m c.misplaced.result _ k c.args.stand.mark
@@ -22,7 +22,7 @@ returns-then-is_misplaced-clause-exact c = λ gap here allow.
     c.misplaced.ensures
 
 pub returns-in-Some-clause-exact : goal.returns-in-Some-clause-exact
-returns-in-Some-clause-exact c = λ gap here allow.
+returns-in-Some-clause-exact g c = λ gap here allow.
     let m = c.args.self.now in
     let k = c.args.stand.kind in
     let l = c.lexeme_at-lexeme.result in
@@ -31,28 +31,28 @@ returns-in-Some-clause-exact c = λ gap here allow.
     lost_gives m c.no_colon.result _ c.in-Some.start l.start (eq ∙ ap (λ o. unless_lost o (text_bytes m.text) l.start.index l (history_of m)) some) c.no_colon.ensures
 
 pub read-requires-clause-same : goal.read-requires-clause-same
-read-requires-clause-same c = ap (λ (x : Lexeme). x.kind) c.lexeme_at-lexeme.ensures.value ∙ c.requires.same
+read-requires-clause-same g c = ap (λ (x : Lexeme). x.kind) c.lexeme_at-lexeme.ensures.value ∙ c.requires.same
 
 pub read-requires-clause-index : goal.read-requires-clause-index
-read-requires-clause-index c = ap (λ (x : Lexeme). x.start.index) c.lexeme_at-lexeme.ensures.value ∙ placed_index c.args.stand.kind c.args.stand.mark ∙ ap (λ (x : yaml_mark_t). x.index) c.requires.mark
+read-requires-clause-index g c = ap (λ (x : Lexeme). x.start.index) c.lexeme_at-lexeme.ensures.value ∙ placed_index c.args.stand.kind c.args.stand.mark ∙ ap (λ (x : yaml_mark_t). x.index) c.requires.mark
 
 pub read-requires-clause-start : goal.read-requires-clause-start
-read-requires-clause-start c = λ e.
+read-requires-clause-start g c = λ e.
     let value = c.lexeme_at-lexeme.ensures.value in
     ap (λ (x : Lexeme). x.start) value ∙ placed_start c.args.stand.kind c.args.stand.mark (sym (ap (λ (x : Lexeme). is_end x.kind) value) ∙ e) ∙ c.requires.mark
 
 pub read-requires-clause-kind : goal.read-requires-clause-kind
-read-requires-clause-kind c =
+read-requires-clause-kind g c =
     let value = c.lexeme_at-lexeme.ensures.value in
     let K : Kind → Type 0 = λ k. Stands k (nat_lt 0 c.args.self.now.depth) c.args.reader.now.text c.args.reader.now.at in
     let D : ℕ → Type 0 = λ d. Stands c.lexeme_at-lexeme.result.kind (nat_lt 0 d) c.args.reader.now.text c.args.reader.now.at in
     subst D (sym (ap (λ (x : Lexeme). x.depth) value)) (subst K (sym (ap (λ (x : Lexeme). x.kind) value)) c.requires.kind)
 
 pub read-requires-clause-saved : goal.read-requires-clause-saved
-read-requires-clause-saved c = required_saved c.args.stand.kind (placed c.args.stand.kind c.args.stand.mark) c.args.stand.allowed c.args.self.now.depth c.args.self.now.levels c.lexeme_at-lexeme.result c.lexeme_at-lexeme.ensures.value
+read-requires-clause-saved g c = required_saved c.args.stand.kind (placed c.args.stand.kind c.args.stand.mark) c.args.stand.allowed c.args.self.now.depth c.args.self.now.levels c.lexeme_at-lexeme.result c.lexeme_at-lexeme.ensures.value
 
 pub returns-in-Ok-clause-safe : goal.returns-in-Ok-clause-safe
-returns-in-Ok-clause-safe c =
+returns-in-Ok-clause-safe g c =
     let m = c.args.self.now in
     let k = c.args.stand.kind in
     let value = c.lexeme_at-lexeme.ensures.value in
@@ -69,7 +69,7 @@ returns-in-Ok-clause-safe c =
     }
 
 pub returns-in-Ok-clause-exact : goal.returns-in-Ok-clause-exact
-returns-in-Ok-clause-exact c = λ gap here allow.
+returns-in-Ok-clause-exact g c = λ gap here allow.
     let m = c.args.self.now in
     let k = c.args.stand.kind in
     let l = c.lexeme_at-lexeme.result in
@@ -81,7 +81,7 @@ returns-in-Ok-clause-exact c = λ gap here allow.
     (ok_gives m _ record { lexeme = c.in-Ok.lexeme; body = c.in-Ok.body; key = c.key-key.result; left = c.left_at-left.result } l k c.args.stand.mark c.args.stand.allowed m.levels value c.in-Ok.ensures.exact c.in-Ok.ensures.safe c.key-key.ensures.picks)
 
 pub returns-in-Err-clause-exact : goal.returns-in-Err-clause-exact
-returns-in-Err-clause-exact c = λ gap here allow.
+returns-in-Err-clause-exact g c = λ gap here allow.
     let m = c.args.self.now in
     let k = c.args.stand.kind in
     let l = c.lexeme_at-lexeme.result in

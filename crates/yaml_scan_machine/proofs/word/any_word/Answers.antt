@@ -3,7 +3,7 @@ use Rattle.std.specs.Prelude.{option_map}
 use Rattle.yaml_scan_model.specs.Tokens.{body_of}
 use Rattle.yaml_scan_machine.specs.Given.{indicator_at, ReadsWord}
 use Rattle.yaml_scan_machine.proofs.IndicatorLemmas.{indicator_stands, no_break, indicator_word}
-use Rattle.yaml_scan_machine.proofs.word.read_word.Goals as goal
+use Rattle.yaml_scan_machine.proofs.word.any_word.Goals as goal
 
 pub read_indicator-requires-clause-some : goal.read_indicator-requires-clause-some
 read_indicator-requires-clause-some c =

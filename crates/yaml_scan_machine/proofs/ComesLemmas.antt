@@ -1,8 +1,8 @@
 -- Where a machine stops.
-use Rattle.std.proofs.Common.{◌≡◌, ℕ, ◌+◌, ◌<◌, ◌≤◌, Bool, true, false, ltb, List, [], ◌∷◌, length, get_or, Result, Ok, Err, refl, sym, ap, subst, ◌∙◌, inl, inr, ◌⊎◌, arith, Some}
+use Rattle.std.proofs.Common.{◌≡◌, ℕ, ◌+◌, ◌≤◌, Bool, true, false, ltb, List, [], ◌∷◌, length, get_or, Result, Ok, Err, refl, sym, ap, subst, ◌∙◌, inl, inr, ◌⊎◌, arith, Some}
 use Rattle.std.proofs.lemmas.Bool.{cases_Bool, cases_lt}
 use Rattle.std.proofs.lemmas.Bool.Decides.{nat_tests}
-use Rattle.std.proofs.lemmas.List.{length-map, get_or-drop}
+use Rattle.std.proofs.lemmas.List.{length-map}
 use Rattle.std.specs.Prelude.{map, IfErr, option_map}
 use Rattle.yaml_scan_model.specs.declared.name.yaml_encoding_t.{yaml_encoding_t}
 use Rattle.yaml_scan_model.specs.declared.problem.ScanFault.{ScanFault}
@@ -21,7 +21,6 @@ use Rattle.yaml_scan_model.specs.Tokens.{Token}
 use Rattle.yaml_scan_laws_order.specs.Fronts.{GivesFirst}
 use Rattle.yaml_scan_history.specs.Scanned.{scanned, scanned_in}
 use Rattle.yaml_scan_machine.specs.Left.{left_in, left_from, IsTold, IsLocated}
-use Rattle.yaml_scan_history.specs.declared.lexeme.Entry.{Entry}
 use Rattle.yaml_scan_history.specs.declared.lexeme.Lexeme.{Lexeme}
 use Rattle.yaml_scan_history.specs.History.{entries, first_open}
 use Rattle.yaml_scan_history.specs.Next.{Next, Read, Fails, Ends, next}
@@ -31,6 +30,7 @@ use Rattle.yaml_scan_laws_order.proofs.HeldForward.{few_wait}
 use Rattle.yaml_scan_laws_order.proofs.RemainingForward.{fault_comes, end_comes, front_count, front_none}
 use Rattle.yaml_scan_machine.specs.declared.machine.Machine.{Machine}
 use Rattle.yaml_scan_queue.specs.declared.waiting.Waiting.{Waiting}
+use Rattle.yaml_scan_queue.specs.Waits.{Kept, kept_of}
 use Rattle.yaml_scan_machine.specs.declared.next.Read.{Read as Answer}
 use Rattle.yaml_scan_machine.specs.State.{IsMachine, GoesOn, ready_in, is_ready}
 use Rattle.yaml_scan_machine.specs.Shows.{Fields, fields_of, IsShown, read, settled_in, history_of, stream_of}
@@ -39,6 +39,7 @@ use Rattle.yaml_scan_machine.specs.Stood.{Steps, IsRefused}
 use Rattle.yaml_scan_machine.specs.Comes.{to_come, Refused, Faults}
 use Rattle.yaml_scan_machine.proofs.MarkLemmas.{next_ended}
 use Rattle.yaml_scan_machine.proofs.NextLemmas.{settled_first}
+use Rattle.yaml_scan_machine.proofs.GivenLemmas.{front_is, no_entry}
 
 refused_at : (m : Machine) (f : ScanFault) (x : Next) → next (text_bytes m.text) (history_of m) ≡ x → GivesNext m (Err (errors.Fault f)) x → next (text_bytes m.text) (history_of m) ≡ Fails f
 refused_at m f (Read l) e g = absurd g
@@ -61,30 +62,19 @@ goes_same old new g =
     ∙ ap (λ (t : List ℕ). remaining record { encoding = old.encoding; text = t } new.dropped new.given) (ap text_bytes g.text)
     ∙ ap (λ d. remaining (stream_of old) d new.given) g.dropped ∙ ap (λ n. remaining (stream_of old) old.dropped n) g.given
 
-not_ready : (d s g : ℕ) (ws : List Waiting) → ready_in d s g ws ≡ false → (ws ≡ []) ⊎ ((w : Waiting) × (rest : List Waiting) × (ws ≡ w ∷ rest) × (s ≤ d) × (w.entry.ends ≤ g))
+not_ready : (d s g : ℕ) (ws : List Waiting) → ready_in d s g ws ≡ false → (ws ≡ []) ⊎ ((w : Waiting) × (rest : List Waiting) × (ws ≡ w ∷ rest) × (s ≤ d) × (w.ends ≤ g))
 not_ready d s g [] e = inl refl
 not_ready d s g (w ∷ ws) e =
     elim (cases_lt d s) [
       | inl low ↦ let a : ltb d s ≡ true = grind (arith, nat_tests) in let bad = rw a at e in cc
-      | inr high ↦ elim (cases_lt g w.entry.ends) [
+      | inr high ↦ elim (cases_lt g w.ends) [
         | inl more ↦
             let a : ltb d s ≡ false = grind (arith, nat_tests) in
-            let b : ltb g w.entry.ends ≡ true = grind (arith, nat_tests) in
+            let b : ltb g w.ends ≡ true = grind (arith, nat_tests) in
             let bad = rw (a, b) at e in cc
         | inr past ↦ inr (w, ws, refl, high, past)
       ]
     ]
-
--- the first lexeme that waits is the one of that number
-front_entry : (m : Fields) (ws : List Waiting) (w : Waiting) (rest : List Waiting) → IsShown m → m.waiting ≡ map (λ (x : Waiting). x.entry) ws → ws ≡ w ∷ rest
-    → let h = read m.text m.dropped m.waiting in (get_or (entries h) m.dropped w.entry ≡ w.entry) × (m.dropped < length h)
-front_entry m ws w rest s wait is =
-    let h = read m.text m.dropped m.waiting in
-    let all : m.waiting ≡ w.entry ∷ map (λ (x : Waiting). x.entry) rest = wait ∙ ap (λ xs. map (λ (x : Waiting). x.entry) xs) is in
-    let len : length m.waiting ≡ length (map (λ (x : Waiting). x.entry) rest) + 1 = ap length all ∙ omega arith in
-    let z : m.dropped + 0 ≡ m.dropped = omega arith in
-    let here : get_or (entries h) (m.dropped + 0) w.entry ≡ w.entry = sym (get_or-drop m.dropped (entries h) 0 w.entry) ∙ ap (λ xs. get_or xs 0 w.entry) (sym s.waiting ∙ all) in
-    (ap (λ k. get_or (entries h) k w.entry) (sym z) ∙ here, omega (arith, s.count, len))
 
 pub settled_end : (m : Fields) → IsShown m → m.ended ≡ true → m.settled ≡ length (read m.text m.dropped m.waiting)
 unfolding settled_in
@@ -97,7 +87,7 @@ end_machine m i stuck over =
     let f = fields_of m in
     let s = i.shown in
     let h = history_of m in
-    let len = length-map m.waiting.items (λ (x : Waiting). x.entry) in
+    let len = length-map m.waiting.items (λ (x : Waiting). kept_of x) in
     let none : next (text_bytes m.text) h ≡ Ends = next_ended (text_bytes m.text) h (sym s.ended ∙ over) in
     let all = settled_end f s over in
     let past : length h ≤ m.dropped = elim (not_ready m.dropped m.settled m.given m.waiting.items stuck) [
@@ -112,7 +102,7 @@ unfolding read
 waits_short m l i stuck more is =
     let f = fields_of m in
     let s = i.shown in
-    let len = length-map m.waiting.items (λ (x : Waiting). x.entry) in
+    let len = length-map m.waiting.items (λ (x : Waiting). kept_of x) in
     let first = settled_first f s more in
     let few = few_wait (text_bytes m.text) (m.dropped + length f.waiting) l is in
     elim (not_ready m.dropped m.settled m.given m.waiting.items stuck) [
@@ -129,7 +119,7 @@ fault_machine m (errors.Fault p) i stuck more r =
     let s = i.shown in
     let h = history_of m in
     let n : ℕ = m.dropped + length f.waiting in
-    let len = length-map m.waiting.items (λ (x : Waiting). x.entry) in
+    let len = length-map m.waiting.items (λ (x : Waiting). kept_of x) in
     let first = settled_first f s more in
     let most = first_open-le h h in
     let same_length = length-entries h in
@@ -141,9 +131,10 @@ fault_machine m (errors.Fault p) i stuck more r =
           ap (λ k. remaining (stream_of m) k m.given) (sym at) ∙ fault_comes (stream_of m) n p m.given r (omega (arith, gone))
       | inr (w, rest, is, low, few) ↦
           let at : first_open h h ≡ m.dropped = omega (arith, s.taken) in
-          let (here, inside) = front_entry f m.waiting.items w rest s refl is in
-          let count = front_count (entries h) (first_open h h) w.entry (omega arith) in
-          let ends : (get_or (entries h) (first_open h h) w.entry).ends ≡ w.entry.ends = ap (λ k. (get_or (entries h) k w.entry).ends) at ∙ ap (λ (x : Entry). x.ends) here in
+          let z = no_entry in
+          let (here, inside) = front_is f (kept_of w) (map (λ (x : Waiting). kept_of x) rest) z s (ap (λ ws. map (λ (x : Waiting). kept_of x) ws) is) in
+          let count = front_count (entries h) (first_open h h) z (omega arith) in
+          let ends : (get_or (entries h) (first_open h h) z).ends ≡ w.ends = ap (λ k. (get_or (entries h) k z).ends) at ∙ ap (λ (x : Kept). x.ends) here in
           ap (λ k. remaining (stream_of m) k m.given) (sym at) ∙ fault_comes (stream_of m) n p m.given r (omega (arith, count, ends, few))
     ]
 

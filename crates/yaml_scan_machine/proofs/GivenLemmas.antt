@@ -1,21 +1,23 @@
 -- What is taken of the first lexeme that waits, and how many levels a lexeme closes.
 use Rattle.std.proofs.Common.{◌≡◌, ℕ, suc, ◌+◌, ◌-◌, ◌<◌, ◌≤◌, Bool, true, false, ◌&&◌, not, ltb, leb, List, [], ◌∷◌, length, take, get_or, Some, None, refl, sym, ap, subst, ◌∙◌, inl, inr, arith, length-append}
 use Rattle.std.proofs.lemmas.Bool.{cases_Bool, cases_lt}
-use Rattle.std.proofs.lemmas.List.{get_or-append_right, get_or-drop, get_or-take}
-use Rattle.std.specs.Prelude.{filter}
+use Rattle.std.proofs.lemmas.List.{get_or-append_right, get_or-drop, get_or-map, get_or-take}
+use Rattle.std.specs.Prelude.{filter, map}
 use Rattle.yaml_scan_model.specs.Tokens.{TokenBody}
 use Rattle.yaml_scan_history.specs.declared.kind.Kind.{Kind}
 use Rattle.yaml_scan_history.specs.declared.lexeme.Lexeme.{Lexeme}
 use Rattle.yaml_scan_history.specs.declared.lexeme.Entry.{Entry}
 use Rattle.yaml_scan_history.specs.Kinds.{is_start}
 use Rattle.yaml_scan_history.specs.History.{entries, levels, left_by, keeps, opened, opens_at, found_by, inside, indent, keyed, entry_of}
-use Rattle.yaml_scan_history.specs.Next.{Read, next}
+use Rattle.yaml_scan_history.specs.declared.lexeme.Opens.TheVariants as opening
+use Rattle.yaml_scan_history.specs.Next.{Read, next, first_lexeme}
 use Rattle.yaml_scan_history.specs.Laws.{GoesForward}
 use Rattle.yaml_scan_history.proofs.HistoryLemmas.{length-entries, length-keyed, take-entries}
 use Rattle.yaml_scan_laws_order.proofs.RemainingForward.{entries_ends}
 use Rattle.yaml_scan_queue.specs.declared.waiting.Waiting.{Waiting}
+use Rattle.yaml_scan_queue.specs.Waits.{Kept, kept_of}
 use Rattle.yaml_scan_machine.specs.State.{ready_in}
-use Rattle.yaml_scan_machine.specs.Shows.{Fields, IsShown, read}
+use Rattle.yaml_scan_machine.specs.Shows.{Fields, IsShown, read, kept_in, spelled}
 use Rattle.yaml_scan_queue.specs.Front.{front_at}
 use Rattle.yaml_scan_machine.specs.Taken.{front_count, given_in, IsGiven}
 use Rattle.yaml_scan_machine.proofs.SafeLemmas.{known_settled}
@@ -23,16 +25,22 @@ use Rattle.yaml_scan_machine.proofs.MarkLemmas.{further_on, settled_open}
 use Rattle.yaml_scan_machine.proofs.SpellLemmas.{Counts, front_counts}
 
 -- the first lexeme that waits is the one of that number
-pub front_is : (m : Fields) (e : Entry) (es : List Entry) (x : Entry) → IsShown m → m.waiting ≡ e ∷ es → let h = read m.text m.dropped m.waiting in (get_or (entries h) m.dropped x ≡ e) × (m.dropped < length h)
-front_is m e es x s wait =
+pub front_is : (m : Fields) (k : Kept) (ks : List Kept) (x : Entry) → IsShown m → m.waiting ≡ k ∷ ks → let h = read m.text m.dropped m.waiting in (kept_in (spelled m) (get_or (entries h) m.dropped x) ≡ k) × (m.dropped < length h)
+front_is m k ks x s wait =
     let h = read m.text m.dropped m.waiting in
-    let len : length m.waiting ≡ length es + 1 = ap length wait ∙ omega arith in
+    let f : Entry → Kept = λ e. kept_in (spelled m) e in
+    let len : length m.waiting ≡ length ks + 1 = ap (λ (xs : List Kept). length xs) wait ∙ omega arith in
+    let low : m.dropped < length h = omega (arith, s.count, len) in
     let z : m.dropped + 0 ≡ m.dropped = omega arith in
-    let here : get_or (entries h) (m.dropped + 0) x ≡ e = sym (get_or-drop m.dropped (entries h) 0 x) ∙ ap (λ xs. get_or xs 0 x) (sym s.waiting ∙ wait) in
-    (ap (λ k. get_or (entries h) k x) (sym z) ∙ here, omega (arith, s.count, len))
+    let here : get_or (map f (entries h)) (m.dropped + 0) (f x) ≡ k = sym (get_or-drop m.dropped (map f (entries h)) 0 (f x)) ∙ ap (λ xs. get_or xs 0 (f x)) (sym s.waiting ∙ wait) in
+    (sym (get_or-map f (entries h) m.dropped x (f x) (omega (arith, low, length-entries h))) ∙ ap (λ j. get_or (map f (entries h)) j (f x)) (sym z) ∙ here, low)
+
+-- an entry for the places behind a list
+abbrev pub no_entry : Entry
+no_entry = record { lexeme = first_lexeme; ends = 0; opens = opening.Nothing; key = false }
 
 -- one more lexeme leaves how much of the first one is taken
-given_lists : (m x : Fields) (l : Lexeme) (ws xs : List Entry) → IsShown m → IsShown x → GoesForward m.text → let h = read m.text m.dropped m.waiting in next m.text h ≡ Read l → read x.text x.dropped x.waiting ≡ l ∷ h
+given_lists : (m x : Fields) (l : Lexeme) (ws xs : List Kept) → IsShown m → IsShown x → GoesForward m.text → let h = read m.text m.dropped m.waiting in next m.text h ≡ Read l → read x.text x.dropped x.waiting ≡ l ∷ h
     → x.dropped ≡ m.dropped → x.given ≡ m.given → m.settled ≤ x.settled → m.waiting ≡ ws → x.waiting ≡ xs → given_in m.dropped m.settled m.given ws → given_in x.dropped x.settled x.given xs
 given_lists m x l [] [] s t go e more drops gives grows wait now given = gives ∙ given
 given_lists m x l [] (y ∷ ys) s t go e more drops gives grows wait now given = inl (omega (arith, gives, given))
@@ -43,21 +51,22 @@ given_lists m x l (w ∷ ws) [] s t go e more drops gives grows wait now given =
     absurd (omega (arith, long, left, none, s.count, t.count, drops))
 given_lists m x l (w ∷ ws) (y ∷ ys) s t go e more drops gives grows wait now given =
     let h = read m.text m.dropped m.waiting in
-    let (old, low) = front_is m w ws w s wait in
-    let (new, high) = front_is x y ys w t now in
-    let here : get_or (entries (l ∷ h)) m.dropped w ≡ y = ap (λ k. get_or (entries (l ∷ h)) k w) (sym drops) ∙ ap (λ g. get_or (entries g) x.dropped w) (sym more) ∙ new in
+    let z = no_entry in
+    let (old, low) = front_is m w ws z s wait in
+    let (new, high) = front_is x y ys z t now in
+    let here : get_or (entries (l ∷ h)) m.dropped z ≡ get_or (entries (read x.text x.dropped x.waiting)) x.dropped z = ap (λ k. get_or (entries (l ∷ h)) k z) (sym drops) ∙ ap (λ g. get_or (entries g) x.dropped z) (sym more) in
     elim given [
       | inl few ↦
-          let (same, lexeme) = entries_ends l h m.dropped w low in
-          let ends : y.ends ≡ w.ends = ap (λ (z : Entry). z.ends) (sym here) ∙ same ∙ ap (λ (z : Entry). z.ends) old in
+          let (same, lexeme) = entries_ends l h m.dropped z low in
+          let ends : y.ends ≡ w.ends = ap (λ (k : Kept). k.ends) (sym new) ∙ ap (λ (e : Entry). e.ends) (sym here) ∙ same ∙ ap (λ (k : Kept). k.ends) old in
           inl (omega (arith, gives, few, ends))
       | inr (settled, few) ↦
           let first = settled_open m l s e in
           let (near, far) = further_on m.text m.dropped m.waiting l go e in
           let kept = take-entries l h (suc m.dropped) near (omega (arith, first, settled)) in
-          let taken : (es : List Entry) → get_or (take (suc m.dropped) es) m.dropped w ≡ get_or es m.dropped w = λ es. get_or-take (suc m.dropped) es m.dropped w (omega arith) in
-          let is : y ≡ w = sym here ∙ sym (taken (entries (l ∷ h))) ∙ ap (λ es. get_or es m.dropped w) kept ∙ taken (entries h) ∙ old in
-          let count : front_count y ≡ front_count w = ap (λ (z : Entry). front_count z) is in
+          let taken : (es : List Entry) → get_or (take (suc m.dropped) es) m.dropped z ≡ get_or es m.dropped z = λ es. get_or-take (suc m.dropped) es m.dropped z (omega arith) in
+          let is = sym here ∙ sym (taken (entries (l ∷ h))) ∙ ap (λ es. get_or es m.dropped z) kept ∙ taken (entries h) in
+          let count : front_count y ≡ front_count w = ap (λ (k : Kept). front_count k) (sym new) ∙ ap (λ (e : Entry). front_count (kept_in (spelled m) e)) is ∙ ap (λ (k : Kept). front_count k) old in
           inr (omega (arith, drops, settled, grows), omega (arith, gives, few, count))
     ]
 
@@ -66,35 +75,35 @@ pub given_goes : (m x : Fields) (l : Lexeme) → IsShown m → IsShown x → Goe
 given_goes m x l s t go e more drops gives grows given = given_lists m x l m.waiting x.waiting s t go e more drops gives grows refl refl given
 
 -- nothing is taken of the next one
-pub given_none : (d s : ℕ) (es : List Entry) → given_in d s 0 es
+pub given_none : (d s : ℕ) (es : List Kept) → given_in d s 0 es
 given_none d s [] = refl
 given_none d s (e ∷ es) = inl (omega arith)
 
 -- no more is taken than stands in front
-pub given_few : (d s g : ℕ) (e : Entry) (es : List Entry) → given_in d s g (e ∷ es) → g ≤ front_count e
+pub given_few : (d s g : ℕ) (e : Kept) (es : List Kept) → given_in d s g (e ∷ es) → g ≤ front_count e
 given_few d s g e es (inl low) = omega (arith, low)
 given_few d s g e es (inr (settled, low)) = low
 
-pub front_room : (e : Entry) (g : ℕ) (b : TokenBody) → front_at e g ≡ Some b → g < front_count e
+pub front_room : (e : Kept) (g : ℕ) (b : TokenBody) → front_at e g ≡ Some b → g < front_count e
 front_room e g b some = subst (λ o. Counts (front_count e) g o) some (front_counts e g)
 
-pub front_done : (e : Entry) (g : ℕ) → front_at e g ≡ None → front_count e ≤ g
+pub front_done : (e : Kept) (g : ℕ) → front_at e g ≡ None → front_count e ≤ g
 front_done e g none = subst (λ o. Counts (front_count e) g o) none (front_counts e g)
 
 -- one more of the tokens in front is taken
-pub given_more : (d s g : ℕ) (w : Waiting) (ws : List Waiting) (es : List Entry) (b : TokenBody) → ready_in d s g (w ∷ ws) ≡ true → front_at w.entry g ≡ Some b → given_in d s (g + 1) (w.entry ∷ es)
+pub given_more : (d s g : ℕ) (w : Waiting) (ws : List Waiting) (es : List Kept) (b : TokenBody) → ready_in d s g (w ∷ ws) ≡ true → front_at (kept_of w) g ≡ Some b → given_in d s (g + 1) (kept_of w ∷ es)
 given_more d s g w ws es b ready some =
-    elim (cases_lt g w.entry.ends) [
+    elim (cases_lt g w.ends) [
       | inl more ↦ inl (omega (arith, more))
       | inr past ↦
           let low = known_settled d s g w ws ready (λ more. omega (arith, more, past)) in
-          let room = front_room w.entry g b some in
+          let room = front_room (kept_of w) g b some in
           inr (low, omega (arith, room))
     ]
 
 -- where all that stands in front is taken, what is known is settled
-pub own_settled : (d s g : ℕ) (w : Waiting) (ws : List Waiting) → ready_in d s g (w ∷ ws) ≡ true → front_at w.entry g ≡ None → d < s
-own_settled d s g w ws ready none = let past = front_done w.entry g none in known_settled d s g w ws ready (λ more. omega (arith, more, past))
+pub own_settled : (d s g : ℕ) (w : Waiting) (ws : List Waiting) → ready_in d s g (w ∷ ws) ≡ true → front_at (kept_of w) g ≡ None → d < s
+own_settled d s g w ws ready none = let past = front_done (kept_of w) g none in known_settled d s g w ws ready (λ more. omega (arith, more, past))
 
 filter_few : (p : ℕ → Bool) (xs : List ℕ) → length (filter p xs) ≤ length xs
 filter_few p [] = omega arith

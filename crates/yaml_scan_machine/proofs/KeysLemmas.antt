@@ -8,12 +8,14 @@ use Rattle.yaml_scan_history.specs.declared.lexeme.Lexeme.{Lexeme}
 use Rattle.yaml_scan_history.specs.Kinds.{cancels, depth_after}
 use Rattle.yaml_scan_history.specs.History.{Candidate, candidate, depth, fresh, is_fresh, first_open, reached, entries}
 use Rattle.yaml_scan_history.specs.declared.lexeme.Entry.{Entry}
+use Rattle.yaml_scan_history.specs.declared.lexeme.Opens.TheVariants as opening
 use Rattle.std.specs.Prelude.{map}
 use Rattle.yaml_scan_queue.specs.declared.waiting.Waiting.{Waiting}
-use Rattle.yaml_scan_machine.specs.Shows.{Fields, IsShown, read, fields_of, history_of}
+use Rattle.yaml_scan_queue.specs.Waits.{Kept, kept_of}
+use Rattle.yaml_scan_machine.specs.Shows.{Fields, IsShown, kept_in, read, spelled, fields_of, history_of}
 use Rattle.yaml_scan_history.specs.Next.{Read, history, missed, next}
 use Rattle.yaml_scan_history.specs.Laws.{Upto, GoesForward}
-use Rattle.yaml_scan_history.proofs.HistoryLemmas.{candidate_below, first_open-le, first_open-is, first_open-least, fresh_is, fresh_before}
+use Rattle.yaml_scan_history.proofs.HistoryLemmas.{candidate_below, length-entries, first_open-le, first_open-is, first_open-least, fresh_is, fresh_before}
 use Rattle.yaml_scan_machine.specs.declared.keys.Key.{Key}
 use Rattle.yaml_scan_machine.specs.declared.machine.Machine.{Machine}
 use Rattle.yaml_scan_decode.specs.DecodedText.{text_bytes}
@@ -379,8 +381,8 @@ pub key_none : (m : Fields) (p : yaml_mark_t) → IsShown m → None ≡ number_
 key_none m p s is = let h = read m.text m.dropped m.waiting in no_candidate m.keys.innermost (candidate m.depth h) p (fresh_same m.keys.innermost (candidate m.depth h) p (innermost_is m s)) is
 
 -- where the candidate of the open depth waits
-pub key_waits : (m : Fields) (ws : List Waiting) (p : yaml_mark_t) (n : ℕ) → IsShown m → m.waiting ≡ map (λ (x : Waiting). x.entry) ws → m.ended ≡ false → let h = read m.text m.dropped m.waiting in Upto (reached h) p → Some n ≡ number_in (fresh_key m.keys.innermost p)
-    → (m.dropped ≤ n) × (n - m.dropped < length ws) × ((w : Waiting) → fresh (candidate m.depth h) p ≡ Some record { number = m.dropped + (n - m.dropped); lexeme = (get_or ws (n - m.dropped) w).entry.lexeme })
+pub key_waits : (m : Fields) (ws : List Waiting) (p : yaml_mark_t) (n : ℕ) → IsShown m → m.waiting ≡ map (λ (x : Waiting). kept_of x) ws → m.ended ≡ false → let h = read m.text m.dropped m.waiting in Upto (reached h) p → Some n ≡ number_in (fresh_key m.keys.innermost p)
+    → (m.dropped ≤ n) × (n - m.dropped < length ws) × ((c : Candidate) × (fresh (candidate m.depth h) p ≡ Some c) × (c.number ≡ m.dropped + (n - m.dropped)) × ((w : Waiting) → (get_or ws (n - m.dropped) w).start ≡ c.lexeme.start))
 key_waits m ws p n s wait more u is =
     let h = read m.text m.dropped m.waiting in
     let (c, here, number) = found_candidate m.keys.innermost (candidate m.depth h) p n (fresh_same m.keys.innermost (candidate m.depth h) p (innermost_is m s)) is in
@@ -390,16 +392,18 @@ key_waits m ws p n s wait more u is =
     let now = settled_first m s more in
     let low : m.dropped ≤ n = omega (arith, least, now, s.taken) in
     let i : ℕ = n - m.dropped in
-    let at : m.dropped + i ≡ c.number = omega (arith, low, number) in
-    let len : length m.waiting ≡ length ws = ap length wait ∙ length-map ws (λ (x : Waiting). x.entry) in
-    let room : i < length ws = omega (arith, below, number, s.count, len, low) in (
+    let at : c.number ≡ m.dropped + i = omega (arith, low, number) in
+    let g : Waiting → Kept = λ x. kept_of x in
+    let len : length m.waiting ≡ length ws = ap (λ (ks : List Kept). length ks) wait ∙ length-map ws g in
+    let room : i < length ws = omega (arith, below, number, s.count, len, low) in
+    let f : Entry → Kept = λ e. kept_in (spelled m) e in
+    let z : Entry = record { lexeme = c.lexeme; ends = 0; opens = opening.Nothing; key = false } in
+    let inside : c.number < length (entries h) = omega (arith, below, length-entries h) in (
       low,
       room,
-      λ w.
-          let x = get_or ws i w in
-          let e : get_or (entries h) (m.dropped + i) x.entry ≡ x.entry = sym (get_or-drop m.dropped (entries h) i x.entry) ∙ ap (λ xs. get_or xs i x.entry) (sym s.waiting ∙ wait) ∙ get_or-map (λ (y : Waiting). y.entry) ws i w x.entry room in
-          let same : c.lexeme ≡ x.entry.lexeme = sym (start_is m.depth h c x.entry isc) ∙ ap (λ k. (get_or (entries h) k x.entry).lexeme) (sym at) ∙ ap (λ (y : Entry). y.lexeme) e in
-          here ∙ ap (λ k. Some record { number = k; lexeme = c.lexeme }) (sym at) ∙ ap (λ y. Some record { number = m.dropped + i; lexeme = y }) same,
+      (c, here, at, λ w.
+          let there : g (get_or ws i w) ≡ f (get_or (entries h) c.number z) = sym (get_or-map g ws i w (f z) room) ∙ ap (λ (ks : List Kept). get_or ks i (f z)) (sym wait ∙ s.waiting) ∙ get_or-drop m.dropped (map f (entries h)) i (f z) ∙ ap (λ k. get_or (map f (entries h)) k (f z)) (sym at) ∙ get_or-map f (entries h) c.number z (f z) inside in
+          ap (λ (k : Kept). k.start) there ∙ ap (λ (l : Lexeme). l.start) (start_is m.depth h c z isc)),
     )
 
 -- the keys behind one more lexeme

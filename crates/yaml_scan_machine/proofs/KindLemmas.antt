@@ -25,6 +25,7 @@ use Rattle.yaml_scan_history.specs.Stepwise.{behind, unless_missed, no_colon, no
 use Rattle.yaml_scan_history.specs.Remaining.{SpelledText, body_by, body_in, body_of_word}
 use Rattle.yaml_scan_machine.specs.declared.machine.Machine.{Machine}
 use Rattle.yaml_scan_queue.specs.declared.waiting.Waiting.{Waiting}
+use Rattle.yaml_scan_queue.specs.Waits.{kept_of}
 use Rattle.yaml_scan_machine.specs.declared.next.Read.{Read as Answer}
 use Rattle.yaml_scan_machine.specs.declared.word.Word.{Word}
 use Rattle.yaml_scan_machine.specs.State.{IsPlace, Leaves}
@@ -58,8 +59,7 @@ picks_has m k o None none = elim (cases_Bool (is_value k)) [
   | inr other ↦ rw other refl
   | inl value ↦ let is : o ≡ None = rw value at none in rw (value, is) refl
 ]
-picks_has m k o (Some i) (inside, found) =
-    let c = found (first_of m.waiting.items i inside) in
+picks_has m k o (Some i) (inside, (it, c, at)) =
     elim (cases_Bool (is_value k)) [
       | inr other ↦ let bad = rw other at c in cc
       | inl value ↦ let is = rw value at c in rw (value, is) refl
@@ -310,7 +310,7 @@ pub next_machine : (mc : Machine) (r q : Place) (t : List ℕ) (broke : Bool) (m
     → (gap_of (text_bytes mc.text) (history_of mc) ≡ record { place = q.at; broke = broke }) × (q.text ≡ text_bytes mc.text) × (mark ≡ mark_at (text_bytes mc.text) q.at)
     × (next (text_bytes mc.text) (history_of mc) ≡ unless_missed (late required mark) (text_bytes mc.text) record { place = q.at; broke = broke } (history_of mc))
 next_machine mc r q t broke mark required s some more lent start gap kept is req =
-    let len = length-map mc.waiting.items (λ (x : Waiting). x.entry) in
+    let len = length-map mc.waiting.items (λ (x : Waiting). kept_of x) in
     let text : r.text ≡ text_bytes mc.text = ap (λ (p : Place). p.text) start ∙ lent in
     let at : r.at ≡ mc.place.index = ap (λ (p : Place). p.at) start in
     let here : gap_at (ltb 0 mc.depth) mc.allowed (text_bytes mc.text) mc.place.index ≡ record { place = q.at; broke = broke } =

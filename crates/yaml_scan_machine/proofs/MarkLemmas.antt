@@ -1,7 +1,7 @@
 -- What a lexeme does to its candidate, and how much has been read.
 use Rattle.std.proofs.Common.{◌≡◌, ℕ, zero, suc, ◌+◌, ◌-◌, ◌<◌, ◌≤◌, true, false, List, [], ◌∷◌, ◌++◌, length, drop, get_or, Some, cond, refl, sym, ap, subst, ◌∙◌, inl, inr, arith, length-append, length-drop}
 use Rattle.std.proofs.lemmas.Bool.{cases_Bool}
-use Rattle.std.proofs.lemmas.List.{get_or-map, length-map, map-set, drop-append-le}
+use Rattle.std.proofs.lemmas.List.{get_or_default, get_or-drop, get_or-map, length-map, map-append, map-set, drop-append-le, drop-set-add}
 use Rattle.std.proofs.Math.ListN.{set}
 use Rattle.std.specs.Prelude.{map}
 use Rattle.yaml_scan_history.specs.declared.lexeme.Lexeme.{Lexeme}
@@ -10,14 +10,17 @@ use Rattle.yaml_scan_queue.specs.declared.waiting.Waiting.{Waiting}
 use Rattle.yaml_scan_history.specs.declared.lexeme.Opens.{Opens}
 use Rattle.yaml_scan_history.specs.declared.lexeme.Opens.TheVariants as opening
 use Rattle.yaml_scan_history.specs.Kinds.{is_value, is_end, depth_after}
-use Rattle.yaml_scan_history.specs.History.{first_open, as_key, mark_key, keyed, entries, entry_of, reached, depth, ended, found_by, inside, start_of, levels, key_allowed}
+use Rattle.yaml_scan_history.specs.History.{Candidate, candidate, first_open, as_key, mark_key, keyed, entries, entry_of, reached, depth, ended, found_by, inside, start_of, levels, key_allowed}
 use Rattle.yaml_scan_history.specs.Next.{history, Read, Ends, next}
 use Rattle.yaml_scan_history.specs.Laws.{Upto, GoesForward}
 use Rattle.yaml_scan_machine.proofs.ReadLemmas.{next_is, first_is, begun_at, finished_depth}
 use Rattle.yaml_scan_machine.specs.Candidates.{AreKeys}
-use Rattle.yaml_scan_machine.specs.Shows.{Fields, Shows, IsShown, read, settled_in}
-use Rattle.yaml_scan_queue.specs.Waits.{keyed as marked}
-use Rattle.yaml_scan_history.proofs.HistoryLemmas.{length-entries, length-keyed, first_open-le, first_open-grows}
+use Rattle.yaml_scan_machine.specs.Shows.{Fields, Shows, IsShown, all_kept, kept_in, read, settled_in, spelled}
+use Rattle.yaml_scan_queue.specs.Waits.{Kept, kept_of, keyed as marked}
+use Rattle.yaml_scan_model.specs.declared.name.yaml_encoding_t.{yaml_encoding_t}
+use Rattle.yaml_scan_history.specs.Remaining.{SpelledText}
+use Rattle.yaml_scan_history.proofs.HistoryLemmas.{candidate_below, fresh_is, length-entries, length-keyed, first_open-le, first_open-grows}
+use Rattle.yaml_scan_machine.proofs.StepLemmas.{start_is}
 
 -- nothing comes behind the end
 pub next_ended : (text : List ℕ) (h : List Lexeme) → ended h ≡ true → next text h ≡ Ends
@@ -26,7 +29,7 @@ next_ended text [] e = cc
 next_ended text (l ∷ h) e = rw e refl
 
 -- what is read next stands behind what was reached
-pub further_on : (text : List ℕ) (d : ℕ) (es : List Entry) (l : Lexeme) → GoesForward text → next text (read text d es) ≡ Read l → Upto (reached (read text d es)) l.start × Upto l.start l.reached
+pub further_on : (text : List ℕ) (d : ℕ) (es : List Kept) (l : Lexeme) → GoesForward text → next text (read text d es) ≡ Read l → Upto (reached (read text d es)) l.start × Upto l.start l.reached
 unfolding read
 further_on text d es l go e = go (d + length es) l e
 
@@ -48,39 +51,51 @@ as_key_set ls [] i e lt is = absurd (omega arith)
 as_key_set ls (x ∷ es) zero e lt is = rw (← is) refl
 as_key_set ls (x ∷ es) (suc i) e lt is = ap (λ r. x ∷ r) (as_key_set ls es i e (omega arith) is)
 
-drop-as_key : (ls : List ℕ) (d : ℕ) (es : List Entry) (i : ℕ) → drop d (mark_key ls es (d + i)) ≡ mark_key ls (drop d es) i
-unfolding mark_key
-drop-as_key ls zero es i = let z : 0 + i ≡ i = omega arith in rw z refl
-drop-as_key ls (suc d) [] i = refl
-drop-as_key ls (suc d) (x ∷ es) i = let z : suc d + i ≡ suc (d + i) = omega arith in rw z (drop-as_key ls d es i)
+-- what waited, as a lexeme leaves it
+abbrev pub kept_entries : Fields → Lexeme → List Kept
+kept_entries m l = drop m.dropped (all_kept (spelled m) (keyed l (read m.text m.dropped m.waiting) (entries (read m.text m.dropped m.waiting))))
 
 -- what waits, where a `:` makes a key of one of them
-pub keyed_some : (m : Fields) (ws : List Waiting) (w : Waiting) (i : ℕ) (l : Lexeme) (opens : Opens) → IsShown m → m.waiting ≡ map (λ (x : Waiting). x.entry) ws → w ≡ get_or ws i w → i < length ws → let h = read m.text m.dropped m.waiting in
-    is_value l.kind ≡ true → found_by l h ≡ Some record { number = m.dropped + i; lexeme = w.entry.lexeme }
-    → opens ≡ start_of w.entry.lexeme.depth (w.entry.lexeme.start.column + 1) (inside l h) opening.Mapping
-    → map (λ (x : Waiting). x.entry) (set ws i (marked opens w)) ≡ drop m.dropped (keyed l h (entries h))
-keyed_some m ws w i l opens s wait is lt value found so =
+pub keyed_some : (m : Fields) (ws : List Waiting) (w : Waiting) (c : Candidate) (i : ℕ) (l : Lexeme) (opens : Opens) → IsShown m → m.waiting ≡ map (λ (x : Waiting). kept_of x) ws → w ≡ get_or ws i w → i < length ws → let h = read m.text m.dropped m.waiting in
+    is_value l.kind ≡ true → found_by l h ≡ Some c → c.number ≡ m.dropped + i
+    → opens ≡ start_of c.lexeme.depth (c.lexeme.start.column + 1) (inside l h) opening.Mapping
+    → map (λ (x : Waiting). kept_of x) (set ws i (marked opens w)) ≡ kept_entries m l
+keyed_some m ws w c i l opens s wait is lt value found number so =
     let h = read m.text m.dropped m.waiting in
-    let es : List Entry = map (λ (x : Waiting). x.entry) ws in
-    let inside_of : i < length es = omega (arith, length-map ws (λ (x : Waiting). x.entry)) in
-    let e : w.entry ≡ get_or es i w.entry = ap (λ (x : Waiting). x.entry) is ∙ sym (get_or-map (λ (x : Waiting). x.entry) ws i w w.entry lt) in
-    map-set (λ (x : Waiting). x.entry) ws i (marked opens w) ∙
-    rw (value, found, so) (sym (drop-as_key (inside l h) m.dropped (entries h) i ∙ ap (λ xs. mark_key (inside l h) xs i) (sym s.waiting ∙ wait) ∙ as_key_set (inside l h) es i w.entry inside_of e))
+    let g : Waiting → Kept = λ x. kept_of x in
+    let f : Entry → Kept = λ e. kept_in (spelled m) e in
+    let es = entries h in
+    let ls = inside l h in
+    let all = map f es in
+    let isc = fresh_is (candidate l.depth h) l.start c found in
+    let z = entry_of l h in
+    let e = get_or es c.number z in
+    let low : c.number < length es = omega (arith, candidate_below l.depth h c isc, length-entries h) in
+    let lexeme : e.lexeme ≡ c.lexeme = start_is l.depth h c z isc in
+    let waits : map g ws ≡ drop m.dropped all = sym wait ∙ s.waiting in
+    let kept : g w ≡ f e = ap g is ∙ sym (get_or-map g ws i w (f z) lt) ∙ ap (λ (xs : List Kept). get_or xs i (f z)) waits ∙ get_or-drop m.dropped all i (f z) ∙ ap (λ k. get_or all k (f z)) (sym number) ∙ get_or-map f es c.number z (f z) low in
+    let mark : Opens → Kept → Kept = λ o k. record k { opens = o; key = true } in
+    let opens_at : opens ≡ start_of e.lexeme.depth (e.lexeme.start.column + 1) ls opening.Mapping = so ∙ ap (λ (x : Lexeme). start_of x.depth (x.start.column + 1) ls opening.Mapping) (sym lexeme) in
+    let now : mark opens (g w) ≡ f (as_key ls e) = ap (mark opens) kept ∙ ap (λ o. mark o (f e)) opens_at in
+    let is_keyed : keyed l h es ≡ mark_key ls es c.number = rw (value, found) refl in
+    let one : mark_key ls es c.number ≡ set es c.number (as_key ls e) = as_key_set ls es c.number e low (get_or_default es c.number z e low) in
+    map-set g ws i (marked opens w)
+    ∙ ap (λ (xs : List Kept). set xs i (mark opens (g w))) waits ∙ ap (λ (k : Kept). set (drop m.dropped all) i k) now
+    ∙ sym (drop-set-add m.dropped all i (f (as_key ls e))) ∙ ap (λ k. drop m.dropped (set all k (f (as_key ls e)))) (sym number)
+    ∙ ap (λ (xs : List Kept). drop m.dropped xs) (sym (map-set f es c.number (as_key ls e)))
+    ∙ ap (λ (xs : List Entry). drop m.dropped (map f xs)) (sym (is_keyed ∙ one))
 
-pub read_more : (m : Fields) (l : Lexeme) (xs : List Entry) → next m.text (read m.text m.dropped m.waiting) ≡ Read l → length xs ≡ length m.waiting + 1 → read m.text m.dropped xs ≡ l ∷ read m.text m.dropped m.waiting
+pub read_more : (m : Fields) (l : Lexeme) (xs : List Kept) → next m.text (read m.text m.dropped m.waiting) ≡ Read l → length xs ≡ length m.waiting + 1 → read m.text m.dropped xs ≡ l ∷ read m.text m.dropped m.waiting
 unfolding read history
 read_more m l xs e len =
     let n : m.dropped + length xs ≡ suc (m.dropped + length m.waiting) = omega arith in
     rw (n, e) refl
 
--- what waited, as a lexeme leaves it
-abbrev pub kept_entries : Fields → Lexeme → List Entry
-kept_entries m l = drop m.dropped (keyed l (read m.text m.dropped m.waiting) (entries (read m.text m.dropped m.waiting)))
-
 -- the fields x are those behind one more lexeme, but what is settled
 pub record IsPushed (m : Fields) (l : Lexeme) (x : Fields) : Type 0 where
+  pub encoding : x.encoding ≡ m.encoding
   pub text : x.text ≡ m.text
-  pub waiting : x.waiting ≡ kept_entries m l ++ entry_of l (read m.text m.dropped m.waiting) ∷ []
+  pub waiting : x.waiting ≡ kept_entries m l ++ kept_in (spelled m) (entry_of l (read m.text m.dropped m.waiting)) ∷ []
   pub keys : AreKeys x.keys (l ∷ read m.text m.dropped m.waiting) x.place
   pub dropped : x.dropped ≡ m.dropped
   pub place : x.place ≡ l.reached
@@ -92,21 +107,27 @@ pub record IsPushed (m : Fields) (l : Lexeme) (x : Fields) : Type 0 where
 kept_length : (m : Fields) (l : Lexeme) → IsShown m → length (kept_entries m l) ≡ length m.waiting
 kept_length m l s =
     let h = read m.text m.dropped m.waiting in
-    omega (arith, length-drop m.dropped (keyed l h (entries h)), length-keyed l h (entries h), length-entries h, s.count)
+    let ks = keyed l h (entries h) in
+    omega (arith, length-drop m.dropped (all_kept (spelled m) ks), length-map ks (λ (e : Entry). kept_in (spelled m) e), length-keyed l h (entries h), length-entries h, s.count)
 
 pushed_length : (m x : Fields) (l : Lexeme) → IsShown m → IsPushed m l x → length x.waiting ≡ length m.waiting + 1
-pushed_length m x l s p = ap length p.waiting ∙ length-append (kept_entries m l) (entry_of l (read m.text m.dropped m.waiting) ∷ []) ∙ ap (λ n. n + 1) (kept_length m l s)
+pushed_length m x l s p = ap length p.waiting ∙ length-append (kept_entries m l) (kept_in (spelled m) (entry_of l (read m.text m.dropped m.waiting)) ∷ []) ∙ ap (λ n. n + 1) (kept_length m l s)
 
 pub read_pushed : (m x : Fields) (l : Lexeme) → IsShown m → next m.text (read m.text m.dropped m.waiting) ≡ Read l → IsPushed m l x → read x.text x.dropped x.waiting ≡ l ∷ read m.text m.dropped m.waiting
 read_pushed m x l s e p =
     ap (λ t. read t x.dropped x.waiting) p.text ∙ ap (λ d. read m.text d x.waiting) p.dropped ∙ read_more m l x.waiting e (pushed_length m x l s p)
 
-pushed_waiting : (m x : Fields) (l : Lexeme) → IsShown m → IsPushed m l x → x.waiting ≡ drop x.dropped (entries (l ∷ read m.text m.dropped m.waiting))
+pushed_waiting : (m x : Fields) (l : Lexeme) → IsShown m → IsPushed m l x → x.waiting ≡ drop x.dropped (all_kept (spelled x) (entries (l ∷ read m.text m.dropped m.waiting)))
 unfolding entries
 pushed_waiting m x l s p =
     let h = read m.text m.dropped m.waiting in
+    let f : Entry → Kept = λ e. kept_in (spelled m) e in
     let ks = keyed l h (entries h) in
-    p.waiting ∙ sym (drop-append-le m.dropped ks _ (omega (arith, length-keyed l h (entries h), length-entries h, s.count))) ∙ ap (λ d. drop d (ks ++ entry_of l h ∷ [])) (sym p.dropped)
+    let e = entry_of l h in
+    let same : spelled m ≡ spelled x = ap (λ (t : List ℕ). record { encoding = m.encoding; text = t }) (sym p.text) ∙ ap (λ (n : yaml_encoding_t). record { encoding = n; text = x.text }) (sym p.encoding) in
+    p.waiting ∙ sym (drop-append-le m.dropped (map f ks) (f e ∷ []) (omega (arith, length-map ks f, length-keyed l h (entries h), length-entries h, s.count)))
+    ∙ ap (λ (xs : List Kept). drop m.dropped xs) (sym (map-append f ks (e ∷ []))) ∙ ap (λ d. drop d (map f (ks ++ e ∷ []))) (sym p.dropped)
+    ∙ ap (λ (t : SpelledText). drop x.dropped (all_kept t (ks ++ e ∷ []))) same
 
 -- what is settled grows, and is read
 pub settled_grows : (m : Fields) (l : Lexeme) → GoesForward m.text → IsShown m → let h = read m.text m.dropped m.waiting in next m.text h ≡ Read l → (m.settled ≤ settled_in (l ∷ h)) × (settled_in (l ∷ h) ≤ length (l ∷ h))

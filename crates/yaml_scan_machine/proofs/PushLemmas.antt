@@ -1,23 +1,24 @@
 -- The fields behind one more lexeme.
-use Rattle.std.proofs.Common.{◌≡◌, ℕ, zero, suc, ◌+◌, ◌-◌, ◌<◌, Bool, true, false, cond, ltb, eqb, ◌&&◌, ◌||◌, not, List, [], ◌∷◌, ◌++◌, length, drop, get_or, Option, Some, None, refl, sym, ap, subst, ◌∙◌, inl, inr, arith}
+use Rattle.std.proofs.Common.{◌≡◌, ℕ, ◌+◌, ◌-◌, ◌<◌, Bool, true, false, cond, ltb, eqb, ◌&&◌, ◌||◌, not, List, ◌∷◌, length, drop, get_or, Option, Some, None, refl, sym, ap, ◌∙◌, inl, inr}
 use Rattle.std.proofs.lemmas.Bool.{cases_Bool}
 use Rattle.std.proofs.Math.ListN.{set}
-use Rattle.std.specs.Prelude.{map, is_some, IfSome}
+use Rattle.std.specs.Prelude.{map, is_some}
 use Rattle.yaml_scan_history.specs.declared.kind.Kind.{Kind}
 use Rattle.yaml_scan_history.specs.declared.kind.Kind.TheVariants as kinds
 use Rattle.yaml_scan_history.specs.declared.lexeme.Lexeme.{Lexeme}
-use Rattle.yaml_scan_history.specs.declared.lexeme.Entry.{Entry}
 use Rattle.yaml_scan_history.specs.declared.lexeme.Opens.{Opens}
 use Rattle.yaml_scan_history.specs.declared.lexeme.Opens.TheVariants as opening
 use Rattle.yaml_scan_history.specs.Kinds.{is_value, is_start, is_end, allows_key}
 use Rattle.yaml_scan_history.specs.History.{Candidate, candidate, has, first_open, entries, entry_of, levels, key_allowed, found_by, inside, start_of, level_of, opens_at, opens_of, opened}
 use Rattle.yaml_scan_history.specs.Next.{Read, next}
-use Rattle.yaml_scan_history.specs.Remaining.{SpelledText}
+use Rattle.yaml_scan_model.specs.declared.record.yaml_mark_t.{yaml_mark_t}
+use Rattle.yaml_scan_model.specs.Tokens.{TokenBody}
+use Rattle.yaml_scan_history.specs.Remaining.{body_in}
 use Rattle.yaml_scan_laws_order.proofs.HistoryForward.{steps_below}
 use Rattle.yaml_scan_machine.specs.declared.machine.Machine.{Machine}
 use Rattle.yaml_scan_queue.specs.declared.waiting.Waiting.{Waiting}
-use Rattle.yaml_scan_machine.specs.Shows.{Fields, fields_of, IsShown, read, settled_in, Picks, history_of, IsSpoken, AreSpoken}
-use Rattle.yaml_scan_queue.specs.Waits.{keyed as marked}
+use Rattle.yaml_scan_machine.specs.Shows.{Fields, fields_of, IsShown, all_kept, kept_in, read, settled_in, spelled, Picks, history_of, stream_of}
+use Rattle.yaml_scan_queue.specs.Waits.{Kept, kept_of, keyed as marked}
 use Rattle.yaml_scan_machine.specs.Reads.{MarksKey, IsColumn, opens_for, keyed_by}
 use Rattle.std.proofs.lemmas.List.{get_or_default}
 use Rattle.yaml_scan_history.proofs.HistoryLemmas.{fresh_is}
@@ -42,12 +43,13 @@ column_is mc k l o None column none is =
       | inl value ↦ let no_one : o ≡ None = rw value at none in rw no_one is
       | inr other ↦ elim o as (λ o. column ≡ opens_at o k l.start.column) [ None ↦ is | Some c ↦ rw other is ]
     ]
-column_is mc k l o (Some i) column (inside, found) is =
+column_is mc k l o (Some i) column (inside, (c, it, at)) is =
     let w = first_of mc.waiting.items i inside in
-    let c = found w in
     elim (cases_Bool (is_value k)) [
-      | inl value ↦ let some = rw value at c in rw (some, value) (is w)
-      | inr other ↦ let bad = rw other at c in cc
+      | inl value ↦
+          let some : o ≡ Some c = rw value at it in
+          rw (some, value) (is w ∙ ap (λ (m : yaml_mark_t). m.column + 1) (at.start w))
+      | inr other ↦ let bad = rw other at it in cc
     ]
 
 -- what a lexeme opens is the definition's
@@ -78,68 +80,46 @@ allowed_is mc l h key picks = ap (λ b. b || l.broke) (allows_same l.kind (eqb l
 
 -- what waits, as a lexeme leaves it
 pub marks_are : (mc : Machine) (l : Lexeme) (key : Option ℕ) (column : ℕ) (o : Opens) (ws new : List Waiting) → IsShown (fields_of mc) → Picks mc (keyed_by l.kind (found_by l (history_of mc))) key → IsColumn mc.waiting.items l key column → o ≡ opens_for l.kind l.depth column (inside l (history_of mc))
-    → ws ≡ mc.waiting.items → MarksKey key o ws new → map (λ (x : Waiting). x.entry) new ≡ kept_entries (fields_of mc) l
+    → ws ≡ mc.waiting.items → MarksKey key o ws new → map (λ (x : Waiting). kept_of x) new ≡ kept_entries (fields_of mc) l
 marks_are mc l None column o ws new s none at opens same marks =
     let h = history_of mc in
-    let plain : map (λ (x : Waiting). x.entry) new ≡ drop mc.dropped (entries h) = ap (λ xs. map (λ (x : Waiting). x.entry) xs) (marks ∙ same) ∙ s.waiting in
+    let plain : map (λ (x : Waiting). kept_of x) new ≡ drop mc.dropped (all_kept (spelled (fields_of mc)) (entries h)) = ap (λ xs. map (λ (x : Waiting). kept_of x) xs) (marks ∙ same) ∙ s.waiting in
     elim (cases_Bool (is_value l.kind)) [
       | inl value ↦ let no_one : found_by l h ≡ None = rw value at none in rw (value, no_one) plain
       | inr other ↦ rw other plain
     ]
-marks_are mc l (Some i) column o ws new s picks at opens same marks =
+marks_are mc l (Some i) column o ws new s (room, (c, it, waits)) at opens same marks =
     let h = history_of mc in
     let items = mc.waiting.items in
-    let x = first_of items i picks.0 in
+    let x = first_of items i room in
     let w = get_or items i x in
-    let c = picks.1 x in
     elim (cases_Bool (is_value l.kind)) [
-      | inr other ↦ let bad = rw other at c in cc
+      | inr other ↦ let bad = rw other at it in cc
       | inl value ↦
-          let found : found_by l h ≡ Some record { number = mc.dropped + i; lexeme = w.entry.lexeme } = rw value at c in
-          let deep : w.entry.lexeme.depth ≡ l.depth = candidate_depth l.depth h _ (fresh_is (candidate l.depth h) l.start _ found) in
-          let here : column ≡ w.entry.lexeme.start.column + 1 = at x in
+          let found : found_by l h ≡ Some c = rw value at it in
+          let deep : c.lexeme.depth ≡ l.depth = candidate_depth l.depth h c (fresh_is (candidate l.depth h) l.start c found) in
+          let here : column ≡ c.lexeme.start.column + 1 = at x ∙ ap (λ (m : yaml_mark_t). m.column + 1) (waits.start x) in
           let (begins, map_level) = value_start l.kind value in
-          let so : o ≡ start_of w.entry.lexeme.depth (w.entry.lexeme.start.column + 1) (inside l h) opening.Mapping = elim (cases_Bool (ltb 0 l.depth)) [
+          let so : o ≡ start_of c.lexeme.depth (c.lexeme.start.column + 1) (inside l h) opening.Mapping = elim (cases_Bool (ltb 0 l.depth)) [
             | inl in_flow ↦ rw (opens, deep, begins, in_flow) refl
             | inr flat ↦ rw (opens, deep, begins, flat, here, map_level) refl
           ] in
           let now : new ≡ set items i (marked o w) = marks x ∙ ap (λ xs. set xs i (marked o (get_or xs i x))) same in
-          ap (λ xs. map (λ (y : Waiting). y.entry) xs) now ∙ keyed_some (fields_of mc) items w i l o s refl (get_or_default items i x w picks.0) picks.0 value found so
+          ap (λ xs. map (λ (y : Waiting). kept_of y) xs) now ∙ keyed_some (fields_of mc) items w c i l o s refl (get_or_default items i x w room) room value found waits.number so
     ]
 
 pub levels_is : (l : Lexeme) (h : List Lexeme) (column : ℕ) (lv new : List ℕ) → column ≡ opens_at (found_by l h) l.kind l.start.column → lv ≡ inside l h → new ≡ opened (is_start l.kind && not (ltb 0 l.depth)) column lv → new ≡ levels (l ∷ h)
 unfolding levels
 levels_is l h column lv new at left is = is ∙ rw (at, left) refl
 
-pub entry_is : (mc : Machine) (l : Lexeme) (h : List Lexeme) (key : Option ℕ) (column ends : ℕ) (found : Bool) (o : Opens) (old lv : List ℕ) (x : Entry) → old ≡ levels h → lv ≡ inside l h → ends ≡ length old - length lv → found ≡ is_some key
-    → Picks mc (keyed_by l.kind (found_by l h)) key → IsColumn mc.waiting.items l key column → o ≡ opens_for l.kind l.depth column lv → x ≡ record { lexeme = l; ends = ends; opens = cond found opening.Nothing o; key = false } → x ≡ entry_of l h
-entry_is mc l h key column ends found o old lv x was left many has_key picks at opens is =
-    let open_to : cond found opening.Nothing o ≡ opens_of (found_by l h) l (inside l h) = ap (λ b. cond b opening.Nothing o) has_key ∙ opens_is mc l h key column o picks at (opens ∙ ap (λ ls. opens_for l.kind l.depth column ls) left) in
+pub kept_is : (mc : Machine) (l : Lexeme) (h : List Lexeme) (key : Option ℕ) (column ends : ℕ) (found : Bool) (o here : Opens) (b : TokenBody) (old lv : List ℕ) → old ≡ levels h → lv ≡ inside l h → ends ≡ length old - length lv → found ≡ is_some key
+    → Picks mc (keyed_by l.kind (found_by l h)) key → IsColumn mc.waiting.items l key column → o ≡ opens_for l.kind l.depth column lv → here ≡ cond found opening.Nothing o → b ≡ body_in (stream_of mc) l
+    → record { start = l.start; end = l.end; ends = ends; opens = here; key = false; body = b } ≡ kept_in (stream_of mc) (entry_of l h)
+kept_is mc l h key column ends found o here b old lv was left many has_key picks at opens is body =
+    let open_to : here ≡ opens_of (found_by l h) l (inside l h) = is ∙ ap (λ b. cond b opening.Nothing o) has_key ∙ opens_is mc l h key column o picks at (opens ∙ ap (λ ls. opens_for l.kind l.depth column ls) left) in
     let closed : ends ≡ length (levels h) - length (inside l h) = many ∙ ap (λ ls. length ls - length lv) was ∙ ap (λ ls. length (levels h) - length ls) left in
-    is ∙ ap (λ n. record { lexeme = l; ends = n; opens = cond found opening.Nothing o; key = false }) closed ∙ ap (λ (y : Opens). record { lexeme = l; ends = length (levels h) - length (inside l h); opens = y; key = false }) open_to
-
--- What waits carries what stands there, whatever is marked.
-pub spoken_rest : (s : SpelledText) (w : Waiting) (ws : List Waiting) → AreSpoken s (w ∷ ws) → AreSpoken s ws
-spoken_rest s w ws h k d lt = h (suc k) d (omega arith)
-
-spoken_cons : (s : SpelledText) (w : Waiting) (ws : List Waiting) → IsSpoken s w → AreSpoken s ws → AreSpoken s (w ∷ ws)
-spoken_cons s w ws is h zero d lt = is
-spoken_cons s w ws is h (suc k) d lt = h k d (omega arith)
-
-pub spoken_push : (s : SpelledText) (w : Waiting) (ws : List Waiting) → IsSpoken s w → AreSpoken s ws → AreSpoken s (ws ++ w ∷ [])
-spoken_push s w [] is h = spoken_cons s w [] is h
-spoken_push s w (x ∷ xs) is h = spoken_cons s x (xs ++ w ∷ []) (h 0 x (omega arith)) (spoken_push s w xs is (spoken_rest s x xs h))
-
-spoken_set : (s : SpelledText) (w : Waiting) (ws : List Waiting) (i : ℕ) → IsSpoken s w → AreSpoken s ws → AreSpoken s (set ws i w)
-spoken_set s w [] i is h = h
-spoken_set s w (x ∷ xs) zero is h = spoken_cons s w xs is (spoken_rest s x xs h)
-spoken_set s w (x ∷ xs) (suc i) is h = spoken_cons s x (set xs i w) (h 0 x (omega arith)) (spoken_set s w xs i is (spoken_rest s x xs h))
-
-pub spoken_marked : (s : SpelledText) (key : Option ℕ) (o : Opens) (ws new : List Waiting) → IfSome key (λ i. i < length ws) → MarksKey key o ws new → AreSpoken s ws → AreSpoken s new
-spoken_marked s None o ws new inside_of marks h = subst (λ (xs : List Waiting). AreSpoken s xs) (sym marks) h
-spoken_marked s (Some i) o ws new inside_of marks h =
-    let x = first_of ws i inside_of in
-    subst (λ (xs : List Waiting). AreSpoken s xs) (sym (marks x)) (spoken_set s (marked o (get_or ws i x)) ws i (h i x inside_of) h)
+    let k : ℕ → Opens → TokenBody → Kept = λ n y c. record { start = l.start; end = l.end; ends = n; opens = y; key = false; body = c } in
+    ap (λ n. k n here b) closed ∙ ap (λ y. k (length (levels h) - length (inside l h)) y b) open_to ∙ ap (λ c. k (length (levels h) - length (inside l h)) (opens_of (found_by l h) l (inside l h)) c) body
 
 -- there is room for one lexeme more
 pub room_is : (m : Fields) (l : Lexeme) → next m.text (read m.text m.dropped m.waiting) ≡ Read l → m.dropped + length m.waiting < length m.text + 2

@@ -106,15 +106,15 @@ narrow_opened n c xs low h =
 pub inside_rest : (n : ℕ) (w : Waiting) (ws : List Waiting) → AreInside n (w ∷ ws) → AreInside n ws
 inside_rest n w ws h k d lt = h (suc k) d (omega arith)
 
-inside_cons : (n : ℕ) (w : Waiting) (ws : List Waiting) → w.entry.lexeme.start.column ≤ n → AreInside n ws → AreInside n (w ∷ ws)
+inside_cons : (n : ℕ) (w : Waiting) (ws : List Waiting) → w.start.column ≤ n → AreInside n ws → AreInside n (w ∷ ws)
 inside_cons n w ws low h zero d lt = low
 inside_cons n w ws low h (suc k) d lt = h k d (omega arith)
 
-pub inside_push : (n : ℕ) (w : Waiting) (ws : List Waiting) → w.entry.lexeme.start.column ≤ n → AreInside n ws → AreInside n (ws ++ w ∷ [])
+pub inside_push : (n : ℕ) (w : Waiting) (ws : List Waiting) → w.start.column ≤ n → AreInside n ws → AreInside n (ws ++ w ∷ [])
 inside_push n w [] low h = inside_cons n w [] low h
 inside_push n w (x ∷ xs) low h = inside_cons n x (xs ++ w ∷ []) (h 0 x (omega arith)) (inside_push n w xs low (inside_rest n x xs h))
 
-pub inside_set : (n : ℕ) (w : Waiting) (ws : List Waiting) (i : ℕ) → w.entry.lexeme.start.column ≤ n → AreInside n ws → AreInside n (slice_set ws i w)
+pub inside_set : (n : ℕ) (w : Waiting) (ws : List Waiting) (i : ℕ) → w.start.column ≤ n → AreInside n ws → AreInside n (slice_set ws i w)
 inside_set n w [] i low h = h
 inside_set n w (x ∷ xs) zero low h = inside_cons n w xs low (inside_rest n x xs h)
 inside_set n w (x ∷ xs) (suc i) low h = inside_cons n x (slice_set xs i w) (h 0 x (omega arith)) (inside_set n w xs i low (inside_rest n x xs h))
@@ -124,16 +124,16 @@ none_left None not_some = refl
 none_left (Some x) not_some = absurd (not_some x refl)
 
 -- what is known and no BLOCK-END is settled
-pub known_settled : (d s g : ℕ) (w : Waiting) (ws : List Waiting) → ready_in d s g (w ∷ ws) ≡ true → (g < w.entry.ends → ⊥) → d < s
+pub known_settled : (d s g : ℕ) (w : Waiting) (ws : List Waiting) → ready_in d s g (w ∷ ws) ≡ true → (g < w.ends → ⊥) → d < s
 known_settled d s g w ws ready past =
     elim (cases_lt d s) [
       | inl low ↦ low
       | inr high ↦
-          elim (cases_lt g w.entry.ends) [
+          elim (cases_lt g w.ends) [
             | inl more ↦ absurd (past more)
             | inr over ↦
                 let a : ltb d s ≡ false = grind (arith, nat_tests) in
-                let b : ltb g w.entry.ends ≡ false = grind (arith, nat_tests) in
+                let b : ltb g w.ends ≡ false = grind (arith, nat_tests) in
                 let bad : false ≡ true = rw (a, b) at ready in cc
           ]
     ]

@@ -10,6 +10,8 @@ use Rattle.yaml_scan_history.specs.declared.lexeme.Opens.{Opens}
 use Rattle.yaml_scan_history.specs.declared.lexeme.Opens.TheVariants as opening
 use Rattle.yaml_scan_history.specs.Remaining.{SpelledText, before, token_in, start_tokens, end_tokens, own_tokens, spell}
 use Rattle.yaml_scan_queue.specs.Front.{key_at, start_at, front_at, start_count, key_count}
+use Rattle.yaml_scan_queue.specs.Waits.{Kept}
+use Rattle.yaml_scan_machine.specs.Shows.{kept_in}
 use Rattle.yaml_scan_machine.specs.Taken.{front_count, fronted}
 
 -- a token is in front where fewer are taken than stand in front
@@ -41,7 +43,7 @@ start_counts opening.Nothing k n = let z : 0 + key_count k ≡ key_count k = ome
 start_counts opening.Sequence k n = behind_counts block_sequence_start k n
 start_counts opening.Mapping k n = behind_counts block_mapping_start k n
 
-pub front_counts : (e : Entry) (n : ℕ) → Counts (front_count e) n (front_at e n)
+pub front_counts : (e : Kept) (n : ℕ) → Counts (front_count e) n (front_at e n)
 front_counts e n =
     elim (cases_lt n e.ends) [
       | inl more ↦ let t : ltb n e.ends ≡ true = grind (arith, nat_tests) in rw t (omega arith)
@@ -57,7 +59,7 @@ start_count-le opening.Mapping false = omega arith
 start_count-le opening.Mapping true = omega arith
 
 -- at most a block start and KEY stand behind the levels that a lexeme closes
-pub front_count-le : (e : Entry) → front_count e ≤ e.ends + 2
+pub front_count-le : (e : Kept) → front_count e ≤ e.ends + 2
 front_count-le e = let low = start_count-le e.opens e.key in omega (arith, low)
 
 -- KEY, then the own token
@@ -72,7 +74,7 @@ start_length s l opening.Sequence true = refl
 start_length s l opening.Mapping false = refl
 start_length s l opening.Mapping true = refl
 
-pub spell_length : (s : SpelledText) (e : Entry) → length (spell s e) ≡ front_count e + 1
+pub spell_length : (s : SpelledText) (e : Entry) → length (spell s e) ≡ front_count (kept_in s e) + 1
 spell_length s e =
     let a = length-replicate e.ends (before block_end e.lexeme) in
     let b = length-append (end_tokens e) (start_tokens e.opens e.lexeme) in
@@ -80,7 +82,7 @@ spell_length s e =
     let d = start_length s e.lexeme e.opens e.key in
     omega (arith, a, b, c, d)
 
-start_token : (s : SpelledText) (l : Lexeme) (o : Opens) (k : Bool) (n : ℕ) (t : Token) → n ≤ start_count o + key_count k → get_or (start_tokens o l ++ own s l k) n t ≡ fronted s l (start_at o k n)
+start_token : (s : SpelledText) (l : Lexeme) (o : Opens) (k : Bool) (n : ℕ) (t : Token) → n ≤ start_count o + key_count k → get_or (start_tokens o l ++ own s l k) n t ≡ fronted (token_in s l) (start_at o k n)
 start_token s l opening.Nothing false zero t low = refl
 start_token s l opening.Nothing false (suc n) t low = absurd (omega arith)
 start_token s l opening.Nothing true zero t low = refl
@@ -102,7 +104,7 @@ start_token s l opening.Mapping true (suc (suc zero)) t low = refl
 start_token s l opening.Mapping true (suc (suc (suc n))) t low = absurd (omega arith)
 
 -- behind so many tokens of a lexeme stands that one
-pub spell_token : (s : SpelledText) (e : Entry) (n : ℕ) (t : Token) → n ≤ front_count e → get_or (spell s e) n t ≡ fronted s e.lexeme (front_at e n)
+pub spell_token : (s : SpelledText) (e : Entry) (n : ℕ) (t : Token) → n ≤ front_count (kept_in s e) → get_or (spell s e) n t ≡ fronted (token_in s e.lexeme) (front_at (kept_in s e) n)
 spell_token s e n t low =
     let ends = end_tokens e in
     let rest : List Token = start_tokens e.opens e.lexeme ++ own_tokens s e in

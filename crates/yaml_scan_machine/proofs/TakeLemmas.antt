@@ -9,15 +9,16 @@ use Rattle.yaml_scan_history.specs.declared.lexeme.Lexeme.{Lexeme}
 use Rattle.yaml_scan_history.specs.declared.lexeme.Entry.{Entry}
 use Rattle.yaml_scan_history.specs.History.{entries, first_open}
 use Rattle.yaml_scan_history.specs.Next.{Ends, next, history}
-use Rattle.yaml_scan_history.specs.Remaining.{SpelledText, Remaining, remaining, spell, before, token_in}
+use Rattle.yaml_scan_history.specs.Remaining.{SpelledText, Remaining, remaining, spell}
 use Rattle.yaml_scan_laws_order.specs.Fronts.{GivesFirst}
 use Rattle.yaml_scan_laws_order.proofs.RemainingForward.{settled_comes, last_comes, ends_token}
 use Rattle.yaml_scan_machine.specs.declared.machine.Machine.{Machine}
 use Rattle.yaml_scan_queue.specs.declared.waiting.Waiting.{Waiting}
+use Rattle.yaml_scan_queue.specs.Waits.{Kept, kept_of}
 use Rattle.yaml_scan_machine.specs.State.{IsMachine, is_ready, ready_in}
-use Rattle.yaml_scan_machine.specs.Shows.{Fields, fields_of, IsShown, read, history_of, stream_of}
+use Rattle.yaml_scan_machine.specs.Shows.{Fields, fields_of, IsShown, kept_in, read, history_of, stream_of}
 use Rattle.yaml_scan_queue.specs.Front.{front_at}
-use Rattle.yaml_scan_machine.specs.Taken.{front_count, fronted, given_in}
+use Rattle.yaml_scan_machine.specs.Taken.{front_count, fronted, given_in, own_token}
 use Rattle.yaml_scan_machine.specs.Comes.{to_come}
 use Rattle.yaml_scan_machine.proofs.MarkLemmas.{next_ended}
 use Rattle.yaml_scan_machine.proofs.NextLemmas.{settled_first}
@@ -27,7 +28,7 @@ use Rattle.yaml_scan_machine.proofs.ComesLemmas.{settled_end, left_is, ready_sta
 use Rattle.yaml_scan_machine.proofs.SafeLemmas.{known_settled}
 use Rattle.yaml_scan_machine.proofs.SpellLemmas.{spell_length, spell_token, front_count-le}
 use Rattle.yaml_scan_machine.proofs.FrontLemmas.{shown_given}
-use Rattle.yaml_scan_machine.proofs.GivenLemmas.{own_settled, front_is, given_few, given_more, front_room, front_done, ends_few}
+use Rattle.yaml_scan_machine.proofs.GivenLemmas.{own_settled, front_is, no_entry, given_few, given_more, front_room, front_done, ends_few}
 
 -- no later lexeme changes it, or there is none
 abbrev IsKnown : List ℕ → List Lexeme → ℕ → Type 0
@@ -47,95 +48,97 @@ token_gives s n k given e t (inl low) = settled_comes s n k given e t low
 token_gives s n k given e t (inr (over, low)) = last_comes s n k given e t over low
 
 -- a lexeme that is known gives its tokens
-settled_front : (m : Machine) (e : Entry) (es : List Entry) → IsMachine m → (fields_of m).waiting ≡ e ∷ es → m.dropped < m.settled → m.given ≤ front_count e
-    → GivesFirst (to_come m) (fronted (stream_of m) e.lexeme (front_at e m.given)) (remaining (stream_of m) m.dropped (m.given + 1))
-    × (front_at e m.given ≡ None → remaining (stream_of m) m.dropped (m.given + 1) ≡ remaining (stream_of m) (m.dropped + 1) 0)
+settled_front : (m : Machine) (k : Kept) (ks : List Kept) → IsMachine m → (fields_of m).waiting ≡ k ∷ ks → m.dropped < m.settled → m.given ≤ front_count k
+    → GivesFirst (to_come m) (fronted (own_token k) (front_at k m.given)) (remaining (stream_of m) m.dropped (m.given + 1))
+    × (front_at k m.given ≡ None → remaining (stream_of m) m.dropped (m.given + 1) ≡ remaining (stream_of m) (m.dropped + 1) 0)
 unfolding read
-settled_front m e es i wait low few =
+settled_front m k ks i wait low few =
     let f = fields_of m in
     let s = stream_of m in
     let n : ℕ = m.dropped + length f.waiting in
     let h = history_of m in
-    let (here, inside) = front_is f e es e i.shown wait in
+    let x = get_or (entries h) m.dropped no_entry in
+    let (here, inside) = front_is f k ks no_entry i.shown wait in
     let known = known_by f i.shown low in
-    let (now, end) = token_gives s n m.dropped m.given e no_token known in
-    let (more, done) = token_gives s n m.dropped (m.given + 1) e no_token known in
-    let long : length (spell s (get_or (entries h) m.dropped e)) ≡ front_count e + 1 = ap (λ x. length (spell s x)) here ∙ spell_length s e in
-    let is : get_or (spell s (get_or (entries h) m.dropped e)) m.given no_token ≡ fronted s e.lexeme (front_at e m.given) = ap (λ x. get_or (spell s x) m.given no_token) here ∙ spell_token s e m.given no_token few in
+    let (now, end) = token_gives s n m.dropped m.given no_entry no_token known in
+    let (more, done) = token_gives s n m.dropped (m.given + 1) no_entry no_token known in
+    let count : front_count (kept_in s x) ≡ front_count k = ap (λ (y : Kept). front_count y) here in
+    let long : length (spell s x) ≡ front_count k + 1 = spell_length s x ∙ ap (λ (n : ℕ). n + 1) count in
+    let is : get_or (spell s x) m.given no_token ≡ fronted (own_token k) (front_at k m.given) = spell_token s x m.given no_token (omega (arith, few, count)) ∙ ap (λ (y : Kept). fronted (own_token y) (front_at y m.given)) here in
     let (tokens, fault) = now (omega (arith, long, few)) in (
       (tokens ∙ ap (λ t. t ∷ (remaining s m.dropped (m.given + 1)).tokens) is, fault),
-      λ none. let past = front_done e m.given none in done (omega (arith, long, few, past)),
+      λ none. let past = front_done k m.given none in done (omega (arith, long, few, past)),
     )
 
 -- the levels that the first lexeme closes come first
-ends_front : (m : Machine) (e : Entry) (es : List Entry) → IsMachine m → (fields_of m).waiting ≡ e ∷ es → m.ended ≡ false → m.given < e.ends
-    → GivesFirst (to_come m) (before block_end e.lexeme) (remaining (stream_of m) m.dropped (m.given + 1))
+ends_front : (m : Machine) (k : Kept) (ks : List Kept) → IsMachine m → (fields_of m).waiting ≡ k ∷ ks → m.ended ≡ false → m.given < k.ends
+    → GivesFirst (to_come m) (fronted (own_token k) (Some block_end)) (remaining (stream_of m) m.dropped (m.given + 1))
 unfolding read
-ends_front m e es i wait more few =
+ends_front m k ks i wait more few =
     let f = fields_of m in
     let s = stream_of m in
     let n : ℕ = m.dropped + length f.waiting in
     let h = history_of m in
-    let (here, inside) = front_is f e es e i.shown wait in
+    let (here, inside) = front_is f k ks no_entry i.shown wait in
     let first = settled_first f i.shown more in
-    let count : (get_or (entries h) m.dropped e).ends ≡ e.ends = ap (λ (x : Entry). x.ends) here in
-    let (tokens, fault) = ends_token s n m.dropped m.given e (omega (arith, first, i.taken)) inside (omega (arith, count, few)) in
-    (tokens ∙ ap (λ (x : Entry). before block_end x.lexeme ∷ (remaining s m.dropped (m.given + 1)).tokens) here, fault)
+    let count : (get_or (entries h) m.dropped no_entry).ends ≡ k.ends = ap (λ (x : Kept). x.ends) here in
+    let (tokens, fault) = ends_token s n m.dropped m.given no_entry (omega (arith, first, i.taken)) inside (omega (arith, count, few)) in
+    (tokens ∙ ap (λ (x : Kept). fronted (own_token x) (Some block_end) ∷ (remaining s m.dropped (m.given + 1)).tokens) here, fault)
 
 -- the token in front of the first lexeme is what comes
-pub gives_front : (m : Machine) (w : Waiting) (rest : List Waiting) (b : TokenBody) → IsMachine m → m.waiting.items ≡ w ∷ rest → is_ready m ≡ true → front_at w.entry m.given ≡ Some b
-    → GivesFirst (to_come m) (before b w.entry.lexeme) (remaining (stream_of m) m.dropped (m.given + 1))
+pub gives_front : (m : Machine) (w : Waiting) (rest : List Waiting) (b : TokenBody) → IsMachine m → m.waiting.items ≡ w ∷ rest → is_ready m ≡ true → front_at (kept_of w) m.given ≡ Some b
+    → GivesFirst (to_come m) (fronted (own_token (kept_of w)) (Some b)) (remaining (stream_of m) m.dropped (m.given + 1))
 gives_front m w rest b i items ready some =
     let f = fields_of m in
     let s = stream_of m in
-    let wait : f.waiting ≡ w.entry ∷ map (λ (x : Waiting). x.entry) rest = ap (λ ws. map (λ (x : Waiting). x.entry) ws) items in
+    let wait : f.waiting ≡ kept_of w ∷ map (λ (x : Waiting). kept_of x) rest = ap (λ ws. map (λ (x : Waiting). kept_of x) ws) items in
     let after : Remaining = remaining s m.dropped (m.given + 1) in
-    let few = given_few m.dropped m.settled m.given w.entry (map (λ (x : Waiting). x.entry) rest) (subst (λ es. given_in m.dropped m.settled m.given es) wait i.given) in
+    let few = given_few m.dropped m.settled m.given (kept_of w) (map (λ (x : Waiting). kept_of x) rest) (subst (λ es. given_in m.dropped m.settled m.given es) wait i.given) in
     elim (cases_lt m.dropped m.settled) [
       | inl low ↦
-          let ((tokens, fault), done) = settled_front m w.entry (map (λ (x : Waiting). x.entry) rest) i wait low few in
-          (tokens ∙ ap (λ o. fronted s w.entry.lexeme o ∷ after.tokens) some, fault)
+          let ((tokens, fault), done) = settled_front m (kept_of w) (map (λ (x : Waiting). kept_of x) rest) i wait low few in
+          (tokens ∙ ap (λ o. fronted (own_token (kept_of w)) o ∷ after.tokens) some, fault)
       | inr high ↦
           let first : ready_in m.dropped m.settled m.given (w ∷ rest) ≡ true = ap (λ (ws : List Waiting). ready_in m.dropped m.settled m.given ws) (sym items) ∙ ready in
-          elim (cases_lt m.given w.entry.ends) [
+          elim (cases_lt m.given w.ends) [
             | inr past ↦ let low = known_settled m.dropped m.settled m.given w rest first (λ more. omega (arith, more, past)) in absurd (omega (arith, low, high))
             | inl fewer ↦
-                let t : ltb m.given w.entry.ends ≡ true = grind (arith, nat_tests) in
+                let t : ltb m.given w.ends ≡ true = grind (arith, nat_tests) in
                 let is : Some block_end ≡ Some b = rw t at some in
                 let same : block_end ≡ b = cc in
                 let open_end : m.ended ≡ false = elim (cases_Bool m.ended) [
                   | inr more ↦ more
-                  | inl over ↦ let all = settled_end f i.shown over in let (here, inside) = front_is f w.entry (map (λ (x : Waiting). x.entry) rest) w.entry i.shown wait in absurd (omega (arith, all, inside, high))
+                  | inl over ↦ let all = settled_end f i.shown over in let (here, inside) = front_is f (kept_of w) (map (λ (x : Waiting). kept_of x) rest) no_entry i.shown wait in absurd (omega (arith, all, inside, high))
                 ] in
-                let (tokens, fault) = ends_front m w.entry (map (λ (x : Waiting). x.entry) rest) i wait open_end fewer in
-                (tokens ∙ ap (λ x. before x w.entry.lexeme ∷ after.tokens) same, fault)
+                let (tokens, fault) = ends_front m (kept_of w) (map (λ (x : Waiting). kept_of x) rest) i wait open_end fewer in
+                (tokens ∙ ap (λ x. fronted (own_token (kept_of w)) (Some x) ∷ after.tokens) same, fault)
           ]
     ]
 
 -- the first lexeme's own token is what comes, and then the next one's do
-pub gives_own : (m : Machine) (w : Waiting) (rest : List Waiting) → IsMachine m → m.waiting.items ≡ w ∷ rest → m.dropped < m.settled → front_at w.entry m.given ≡ None
-    → GivesFirst (to_come m) (token_in (stream_of m) w.entry.lexeme) (remaining (stream_of m) (m.dropped + 1) 0)
+pub gives_own : (m : Machine) (w : Waiting) (rest : List Waiting) → IsMachine m → m.waiting.items ≡ w ∷ rest → m.dropped < m.settled → front_at (kept_of w) m.given ≡ None
+    → GivesFirst (to_come m) (own_token (kept_of w)) (remaining (stream_of m) (m.dropped + 1) 0)
 gives_own m w rest i items low none =
     let s = stream_of m in
-    let wait : (fields_of m).waiting ≡ w.entry ∷ map (λ (x : Waiting). x.entry) rest = ap (λ ws. map (λ (x : Waiting). x.entry) ws) items in
-    let few = given_few m.dropped m.settled m.given w.entry (map (λ (x : Waiting). x.entry) rest) (subst (λ es. given_in m.dropped m.settled m.given es) wait i.given) in
-    let ((tokens, fault), done) = settled_front m w.entry (map (λ (x : Waiting). x.entry) rest) i wait low few in
+    let wait : (fields_of m).waiting ≡ kept_of w ∷ map (λ (x : Waiting). kept_of x) rest = ap (λ ws. map (λ (x : Waiting). kept_of x) ws) items in
+    let few = given_few m.dropped m.settled m.given (kept_of w) (map (λ (x : Waiting). kept_of x) rest) (subst (λ es. given_in m.dropped m.settled m.given es) wait i.given) in
+    let ((tokens, fault), done) = settled_front m (kept_of w) (map (λ (x : Waiting). kept_of x) rest) i wait low few in
     let next = done none in (
-      tokens ∙ ap (λ o. fronted s w.entry.lexeme o ∷ (remaining s m.dropped (m.given + 1)).tokens) none ∙ ap (λ (c : Remaining). token_in s w.entry.lexeme ∷ c.tokens) next,
+      tokens ∙ ap (λ o. fronted (own_token (kept_of w)) o ∷ (remaining s m.dropped (m.given + 1)).tokens) none ∙ ap (λ (c : Remaining). own_token (kept_of w) ∷ c.tokens) next,
       fault ∙ ap (λ (c : Remaining). c.fault) next,
     )
 
 -- so few tokens stand in front of a lexeme
-pub given_room : (m : Machine) (w : Waiting) (rest : List Waiting) (b : TokenBody) → IsMachine m → m.waiting.items ≡ w ∷ rest → front_at w.entry m.given ≡ Some b → m.given < 2 ^ 64 - 1
+pub given_room : (m : Machine) (w : Waiting) (rest : List Waiting) (b : TokenBody) → IsMachine m → m.waiting.items ≡ w ∷ rest → front_at (kept_of w) m.given ≡ Some b → m.given < 2 ^ 64 - 1
 given_room m w rest b i items some =
     let f = fields_of m in
-    let wait : f.waiting ≡ w.entry ∷ map (λ (x : Waiting). x.entry) rest = ap (λ ws. map (λ (x : Waiting). x.entry) ws) items in
-    let (here, inside) = front_is f w.entry (map (λ (x : Waiting). x.entry) rest) w.entry i.shown wait in
-    let few = ends_few (history_of m) m.dropped w.entry inside in
-    let ends : (get_or (entries (history_of m)) m.dropped w.entry).ends ≡ w.entry.ends = ap (λ (x : Entry). x.ends) here in
-    let long = length-map m.waiting.items (λ (x : Waiting). x.entry) in
-    let room = front_room w.entry m.given b some in
-    let two = front_count-le w.entry in
+    let wait : f.waiting ≡ kept_of w ∷ map (λ (x : Waiting). kept_of x) rest = ap (λ ws. map (λ (x : Waiting). kept_of x) ws) items in
+    let (here, inside) = front_is f (kept_of w) (map (λ (x : Waiting). kept_of x) rest) no_entry i.shown wait in
+    let few = ends_few (history_of m) m.dropped no_entry inside in
+    let ends : (get_or (entries (history_of m)) m.dropped no_entry).ends ≡ w.ends = ap (λ (x : Kept). x.ends) here in
+    let long = length-map m.waiting.items (λ (x : Waiting). kept_of x) in
+    let room = front_room (kept_of w) m.given b some in
+    let two = front_count-le (kept_of w) in
     omega (arith, few, ends, long, room, two, i.shown.count, i.few, i.long)
 
 pub first_waits : (d s g : ℕ) (ws : List Waiting) → ready_in d s g ws ≡ true → (w : Waiting) × (rest : List Waiting) × (ws ≡ w ∷ rest)
@@ -156,9 +159,9 @@ popped_waits m x rest ready here left =
     items ∙ ap (λ (ws : List Waiting). x ∷ ws) (sym (left ∙ ap (λ (ws : List Waiting). drop 1 ws) items))
 
 -- the state where one more of the tokens in front is taken
-pub stands_more : (m : Machine) (w : Waiting) (rest : List Waiting) (b : TokenBody) → IsMachine m → m.waiting.items ≡ w ∷ rest → is_ready m ≡ true → front_at w.entry m.given ≡ Some b → IsMachine record m { given = m.given + 1 }
+pub stands_more : (m : Machine) (w : Waiting) (rest : List Waiting) (b : TokenBody) → IsMachine m → m.waiting.items ≡ w ∷ rest → is_ready m ≡ true → front_at (kept_of w) m.given ≡ Some b → IsMachine record m { given = m.given + 1 }
 stands_more m w rest b i items ready some =
-    let wait : (fields_of m).waiting ≡ w.entry ∷ map (λ (x : Waiting). x.entry) rest = ap (λ ws. map (λ (x : Waiting). x.entry) ws) items in
+    let wait : (fields_of m).waiting ≡ kept_of w ∷ map (λ (x : Waiting). kept_of x) rest = ap (λ ws. map (λ (x : Waiting). kept_of x) ws) items in
     let first : ready_in m.dropped m.settled m.given (w ∷ rest) ≡ true = ap (λ (ws : List Waiting). ready_in m.dropped m.settled m.given ws) (sym items) ∙ ready in
     record {
       long = i.long;
@@ -172,8 +175,7 @@ stands_more m w rest b i items ready some =
       place = i.place;
       begun = i.begun;
       shown = shown_given (fields_of m) (m.given + 1) i.shown;
-      given = subst (λ es. given_in m.dropped m.settled (m.given + 1) es) (sym wait) (given_more m.dropped m.settled m.given w rest (map (λ (x : Waiting). x.entry) rest) b first some);
-      spoken = i.spoken;
+      given = subst (λ es. given_in m.dropped m.settled (m.given + 1) es) (sym wait) (given_more m.dropped m.settled m.given w rest (map (λ (x : Waiting). kept_of x) rest) b first some);
     }
 
 -- where the next token is known, one is to come
@@ -182,7 +184,7 @@ ready_gives m i ready =
     let (w, rest, items) = first_waits m.dropped m.settled m.given m.waiting.items ready in
     let first : ready_in m.dropped m.settled m.given (w ∷ rest) ≡ true = ap (λ (ws : List Waiting). ready_in m.dropped m.settled m.given ws) (sym items) ∙ ready in
     let all = left_is m (ready_started m i ready) in
-    rw all (elim (cases_Option (front_at w.entry m.given)) [
-      | inl none ↦ (token_in (stream_of m) w.entry.lexeme, remaining (stream_of m) (m.dropped + 1) 0, gives_own m w rest i items (own_settled m.dropped m.settled m.given w rest first none) none)
-      | inr (b, some) ↦ (before b w.entry.lexeme, remaining (stream_of m) m.dropped (m.given + 1), gives_front m w rest b i items ready some)
+    rw all (elim (cases_Option (front_at (kept_of w) m.given)) [
+      | inl none ↦ (own_token (kept_of w), remaining (stream_of m) (m.dropped + 1) 0, gives_own m w rest i items (own_settled m.dropped m.settled m.given w rest first none) none)
+      | inr (b, some) ↦ (fronted (own_token (kept_of w)) (Some b), remaining (stream_of m) m.dropped (m.given + 1), gives_front m w rest b i items ready some)
     ])

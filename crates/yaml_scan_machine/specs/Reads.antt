@@ -147,7 +147,7 @@ opens_for k depth column levels = if is_start k && not (nat_lt 0 depth)
 abbrev pub IsColumnAt : List Waiting → ℕ → Option ℕ → ℕ → Type 0
 IsColumnAt ws own None column = column ≡ own + 1
 IsColumnAt ws own (Some i) column = (w : Waiting)
-    → column ≡ (slice_index_or ws i w).entry.lexeme.start.column + 1
+    → column ≡ (slice_index_or ws i w).start.column + 1
 
 abbrev pub IsColumn : List Waiting → Lexeme → Option ℕ → ℕ → Type 0
 IsColumn ws l key column = IsColumnAt ws l.start.column key column

@@ -1,7 +1,7 @@
 -- What the fields of a machine say of the lexemes that were read.
 use Rattle.std.specs.Prelude.{ℕ, ◌+◌, ◌-◌, ◌≡◌, ◌<◌, ◌≤◌, Bool, if◌then◌else◌, map, Option, Some, None, List, length, drop, slice_index_or}
 use Rattle.yaml_scan_model.specs.declared.record.yaml_mark_t.{yaml_mark_t}
-use Rattle.yaml_scan_model.specs.Tokens.{body_of}
+use Rattle.yaml_scan_model.specs.declared.name.yaml_encoding_t.{yaml_encoding_t}
 use Rattle.yaml_scan_decode.specs.DecodedText.{text_bytes}
 use Rattle.yaml_scan_history.specs.declared.lexeme.Lexeme.{Lexeme}
 use Rattle.yaml_scan_history.specs.declared.lexeme.Entry.{Entry}
@@ -11,11 +11,28 @@ use Rattle.yaml_scan_history.specs.Remaining.{SpelledText, body_in}
 use Rattle.yaml_scan_machine.specs.declared.machine.Machine.{Machine}
 use Rattle.yaml_scan_machine.specs.Candidates.{KeyStack, stack_of, AreKeys}
 use Rattle.yaml_scan_queue.specs.declared.waiting.Waiting.{Waiting}
+use Rattle.yaml_scan_queue.specs.Waits.{Kept, kept_of}
+
+-- what is kept of an entry of a text
+abbrev pub kept_in : SpelledText → Entry → Kept
+kept_in s e = record {
+  start = e.lexeme.start;
+  end = e.lexeme.end;
+  ends = e.ends;
+  opens = e.opens;
+  key = e.key;
+  body = body_in s e.lexeme;
+}
+
+-- the same of each entry
+abbrev pub all_kept : SpelledText → List Entry → List Kept
+all_kept s es = map (λ e. kept_in s e) es
 
 -- the fields of a machine, seen as numbers and lists
 pub record Fields : Type 0 where
+  pub encoding : yaml_encoding_t
   pub text : List ℕ
-  pub waiting : List Entry
+  pub waiting : List Kept
   pub keys : KeyStack
   pub dropped : ℕ
   pub given : ℕ
@@ -28,8 +45,9 @@ pub record Fields : Type 0 where
 
 abbrev pub fields_of : Machine → Fields
 fields_of m = record {
+  encoding = m.encoding;
   text = text_bytes m.text;
-  waiting = map (λ w. w.entry) m.waiting.items;
+  waiting = map (λ w. kept_of w) m.waiting.items;
   keys = stack_of m.keys;
   dropped = m.dropped;
   given = m.given;
@@ -41,8 +59,12 @@ fields_of m = record {
   ended = m.ended;
 }
 
+-- the text, and how its bytes are spelled
+abbrev pub spelled : Fields → SpelledText
+spelled m = record { encoding = m.encoding; text = m.text }
+
 -- the lexemes that were read so far
-unfoldable pub read : List ℕ → ℕ → List Entry → List Lexeme
+unfoldable pub read : List ℕ → ℕ → List Kept → List Lexeme
 read text dropped waiting = history text (dropped + length waiting)
 
 -- How many lexemes no later one changes: those before the earliest open candidate, or all at the end.
@@ -52,7 +74,7 @@ settled_in h = if ended h then length h else first_open h h
 -- the fields that stand for a history
 pub record Shows (h : List Lexeme) (m : Fields) : Type 0 where
   pub count : length h ≡ m.dropped + length m.waiting
-  pub waiting : m.waiting ≡ drop m.dropped (entries h)
+  pub waiting : m.waiting ≡ drop m.dropped (all_kept (spelled m) (entries h))
   pub settled : m.settled ≡ settled_in h
   pub taken : m.dropped ≤ m.settled
   pub place : m.place ≡ reached h
@@ -78,16 +100,13 @@ IsCounted m count = AreKeys (stack_of m.keys) (history_of m) m.place
 abbrev pub stream_of : Machine → SpelledText
 stream_of m = record { encoding = m.encoding; text = text_bytes m.text }
 
--- What waits carries what stands there.
-abbrev pub IsSpoken : SpelledText → Waiting → Type 0
-IsSpoken s w = body_of w.body ≡ body_in s w.entry.lexeme
+-- A candidate is the lexeme that waits at a place, by its number and where it starts.
+pub record WaitsAt (m : Machine) (i : ℕ) (c : Candidate) : Type 0 where
+  pub number : c.number ≡ m.dropped + i
+  pub start : (w : Waiting) → (slice_index_or m.waiting.items i w).start ≡ c.lexeme.start
 
-abbrev pub AreSpoken : SpelledText → List Waiting → Type 0
-AreSpoken s ws = (k : ℕ) → (w : Waiting) → k < length ws → IsSpoken s (slice_index_or ws k w)
-
--- Where a candidate waits.
+-- where a candidate waits
 abbrev pub Picks : Machine → Option Candidate → Option ℕ → Type 0
 Picks m o None = o ≡ None
 Picks m o (Some i) = (i < length m.waiting.items)
-    × ((w : Waiting) → o ≡ Some
-    record { number = m.dropped + i; lexeme = (slice_index_or m.waiting.items i w).entry.lexeme })
+    × ((c : Candidate) × (o ≡ Some c) × WaitsAt m i c)

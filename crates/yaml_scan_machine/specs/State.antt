@@ -9,7 +9,7 @@ use Rattle.yaml_scan_machine.specs.declared.next.Read.{Read}
 use Rattle.yaml_scan_history.specs.declared.kind.Kind.{Kind}
 use Rattle.yaml_scan_history.specs.Kinds.{is_end}
 use Rattle.yaml_scan_history.specs.History.{left_by}
-use Rattle.yaml_scan_machine.specs.Shows.{IsShown, fields_of, AreSpoken, stream_of}
+use Rattle.yaml_scan_machine.specs.Shows.{IsShown, fields_of}
 use Rattle.yaml_scan_machine.specs.Taken.{IsGiven}
 
 -- a place where a reader may stand
@@ -25,7 +25,7 @@ IsNarrow n levels = (k : ℕ) → slice_index levels k ≤ n
 -- no lexeme that waits stands further right than the text is long
 abbrev pub AreInside : ℕ → List Waiting → Type 0
 AreInside n ws = (k : ℕ) → (w : Waiting) → k < length ws
-    → (slice_index_or ws k w).entry.lexeme.start.column ≤ n
+    → (slice_index_or ws k w).start.column ≤ n
 
 pub record IsMachine (m : Machine) : Type 0 where
   pub long : length (text_bytes m.text) < 2 ^ 63
@@ -40,11 +40,10 @@ pub record IsMachine (m : Machine) : Type 0 where
   pub begun : m.started ≡ false → m.waiting.items ≡ []
   pub shown : IsShown (fields_of m)
   pub given : IsGiven (fields_of m)
-  pub spoken : AreSpoken (stream_of m) m.waiting.items
 
 abbrev pub ready_in : ℕ → ℕ → ℕ → List Waiting → Bool
 ready_in dropped settled given [] = false
-ready_in dropped settled given (w ∷ ws) = nat_lt dropped settled || nat_lt given w.entry.ends
+ready_in dropped settled given (w ∷ ws) = nat_lt dropped settled || nat_lt given w.ends
 
 -- the next token is known, whatever follows
 abbrev pub is_ready : Machine → Bool

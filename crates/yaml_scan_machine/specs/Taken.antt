@@ -1,27 +1,29 @@
 -- How many tokens stand in front of a lexeme's own one, and how many of them are taken.
 use Rattle.std.specs.Prelude.{ℕ, ◌+◌, ◌≡◌, ◌<◌, ◌≤◌, ◌⊎◌, List, [], ◌∷◌, Option, Some, None}
 use Rattle.yaml_scan_model.specs.Tokens.{Token, TokenBody}
-use Rattle.yaml_scan_history.specs.declared.lexeme.Lexeme.{Lexeme}
-use Rattle.yaml_scan_history.specs.declared.lexeme.Entry.{Entry}
 use Rattle.yaml_scan_queue.specs.Front.{start_count, key_count}
-use Rattle.yaml_scan_history.specs.Remaining.{SpelledText, before, token_in}
+use Rattle.yaml_scan_queue.specs.Waits.{Kept}
 use Rattle.yaml_scan_machine.specs.Shows.{Fields}
 
 -- how many tokens stand in front of a lexeme's own one
-abbrev pub front_count : Entry → ℕ
-front_count e = e.ends + (start_count e.opens + key_count e.key)
+abbrev pub front_count : Kept → ℕ
+front_count k = k.ends + (start_count k.opens + key_count k.key)
 
--- that token, or the own one
-abbrev pub fronted : SpelledText → Lexeme → Option TokenBody → Token
-fronted s l None = token_in s l
-fronted s l (Some b) = before b l
+-- a lexeme's own token
+abbrev pub own_token : Kept → Token
+own_token k = record { body = k.body; start_mark = k.start; end_mark = k.end }
+
+-- the token in front of a lexeme's own one, or that
+abbrev pub fronted : Token → Option TokenBody → Token
+fronted t None = t
+fronted t (Some b) = record { body = b; start_mark = t.start_mark; end_mark = t.start_mark }
 
 -- What is taken of the first lexeme that waits: levels that it closes, or what else stands in front of it where it is
 -- settled.
-abbrev pub given_in : ℕ → ℕ → ℕ → List Entry → Type 0
+abbrev pub given_in : ℕ → ℕ → ℕ → List Kept → Type 0
 given_in dropped settled given [] = given ≡ 0
-given_in dropped settled given (e ∷ es) = (given ≤ e.ends)
-    ⊎ ((dropped < settled) × (given ≤ front_count e))
+given_in dropped settled given (k ∷ ks) = (given ≤ k.ends)
+    ⊎ ((dropped < settled) × (given ≤ front_count k))
 
 abbrev pub IsGiven : Fields → Type 0
 IsGiven m = given_in m.dropped m.settled m.given m.waiting

@@ -11,7 +11,7 @@ use crate::keys::Keys;
 use crate::levels::Levels;
 use std::alloc::{AllocError, Global};
 use yaml_scan_decode::{stream_encoding, yaml_decode, yaml_text_t};
-use yaml_scan_history::{Entry, Kind, Lexeme, Opens};
+use yaml_scan_history::{Kind, Lexeme, Opens};
 use yaml_scan_model::{
     ScanError, yaml_encoding_t, yaml_fault_t, yaml_mark_t, yaml_memory_fault, yaml_origin_t,
     yaml_token_t,
@@ -159,7 +159,7 @@ impl<'a> Machine<'a> {
     {
         match self.waiting.front() {
             None => false,
-            Some(front) => self.dropped < self.settled || self.given < front.entry.ends,
+            Some(front) => self.dropped < self.settled || self.given < front.ends,
         }
     }
 
@@ -259,7 +259,7 @@ impl<'a> Machine<'a> {
         ensures narrow { result ≤ length (text_bytes self.now.text) + 1 }
     {
         match key {
-            Some(i) => self.waiting.index(i).entry.lexeme.start.column + 1,
+            Some(i) => self.waiting.index(i).start.column + 1,
             None => own + 1,
         }
     }
@@ -324,24 +324,13 @@ fn level_of(kind: Kind) -> Opens
     }
 }
 
-/// How a lexeme is spelled out, where it is read. What a `:` opens for its key stands before that key.
+/// What a lexeme opens before itself: what a `:` opens for its key stands before that key.
 // Inlined: the kind is known where it is called.
 #[inline(always)]
-pub(crate) fn entry(lexeme: Lexeme, ends: usize, opens: Opens, found: bool) -> Entry
-    ensures { result ≡ record {
-      lexeme = lexeme;
-      ends = ends;
-      opens = if found then Opens.Nothing
-          else opens;
-      key = false;
-    } }
+pub(crate) fn opens_here(opens: Opens, found: bool) -> Opens
+    ensures { result ≡ (if found then Opens.Nothing else opens) }
 {
-    Entry {
-        lexeme,
-        ends,
-        opens: if found { Opens::Nothing } else { opens },
-        key: false,
-    }
+    if found { Opens::Nothing } else { opens }
 }
 
 /// Whether a key may begin behind a lexeme.

@@ -4,7 +4,7 @@ ghost use Rattle.std.specs.Prelude.{◌≡◌, ◌+◌, ◌≤◌, true, false, 
 ghost use Rattle.yaml_scan_model.specs.Faults.{fault_of};
 ghost use Rattle.yaml_scan_machine.specs.Left.{IsLocated};
 
-use crate::machine::{Machine, allows, entry, put_fault};
+use crate::machine::{Machine, allows, opens_here, put_fault};
 use crate::next::{Read, Spot};
 use crate::word::Reading;
 use std::alloc::AllocError;
@@ -137,7 +137,11 @@ impl<'a> Machine<'a> {
         self.keys.put(lexeme, number)?;
         self.waiting.reserve()?;
         self.waiting.push_back_reserved(Waiting {
-            entry: entry(lexeme, ends, opens, found),
+            start: lexeme.start,
+            end: lexeme.end,
+            ends,
+            opens: opens_here(opens, found),
+            key: false,
             body,
         });
         self.place = lexeme.reached;

@@ -4,21 +4,22 @@ use Rattle.yaml_scan_model.specs.declared.token.yaml_token_t.{yaml_token_t}
 use Rattle.yaml_scan_model.specs.Tokens.{body_of}
 use Rattle.yaml_scan_queue.specs.Front.{front_at}
 use Rattle.yaml_scan_queue.specs.Line.{Line}
+use Rattle.yaml_scan_queue.specs.Waits.{kept_of}
 use Rattle.yaml_scan_queue.specs.declared.waiting.Waiting.{Waiting}
 
 -- a token in front of its own one, behind so many of its tokens
 pub record IsInFront (given : ℕ) (w : Waiting) (old new : Line) (t : yaml_token_t) : Type 0 where
-  pub some : front_at w.entry given ≡ Some (body_of t.body)
-  pub start : t.start_mark ≡ w.entry.lexeme.start
-  pub end : t.end_mark ≡ w.entry.lexeme.start
+  pub some : front_at (kept_of w) given ≡ Some (body_of t.body)
+  pub start : t.start_mark ≡ w.start
+  pub end : t.end_mark ≡ w.start
   pub same : new ≡ old
 
 -- its own token, with which it is taken
 pub record IsItsOwn (given : ℕ) (w : Waiting) (old new : Line) (t : yaml_token_t) : Type 0 where
-  pub none : front_at w.entry given ≡ None
+  pub none : front_at (kept_of w) given ≡ None
   pub body : t.body ≡ w.body
-  pub start : t.start_mark ≡ w.entry.lexeme.start
-  pub end : t.end_mark ≡ w.entry.lexeme.end
+  pub start : t.start_mark ≡ w.start
+  pub end : t.end_mark ≡ w.end
   pub rest : new.items ≡ drop 1 old.items
 
 abbrev pub Hands : ℕ → Waiting → Line → Line → yaml_token_t → Bool → Type 0

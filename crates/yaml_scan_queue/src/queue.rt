@@ -10,7 +10,7 @@ use crate::waiting::Waiting;
 use std::alloc::{AllocError, Global};
 use std::marker::Model;
 use std::mem;
-use yaml_scan_history::{Entry, Opens};
+use yaml_scan_history::Opens;
 use yaml_scan_model::{mark_again, moved, yaml_token_body_t, yaml_token_t};
 
 /// A row of slots, of which those from `first` to `last` hold the lexemes that wait. The others are used again: the body
@@ -116,10 +116,7 @@ impl Queue {
         requires { self.old.free ≡ true }
         ensures items { self.new.items ≡ self.old.items ++ waiting ∷ [] }
     {
-        let Waiting { entry, body } = waiting;
-        let slot = &mut self.slots[self.last];
-        put_entry(&mut slot.entry, entry);
-        put_body(&mut slot.body, body);
+        put(&mut self.slots[self.last], waiting);
         self.last += 1;
     }
 
@@ -150,13 +147,13 @@ impl Queue {
     {
         let at = self.first;
         let first = &self.slots[at];
-        slot.start_mark = mark_again(&first.entry.lexeme.start);
+        slot.start_mark = mark_again(&first.start);
         if let Some(before) = first.before(given) {
-            slot.end_mark = mark_again(&first.entry.lexeme.start);
+            slot.end_mark = mark_again(&first.start);
             put_body(&mut slot.body, before.body());
             return false;
         }
-        slot.end_mark = mark_again(&first.entry.lexeme.end);
+        slot.end_mark = mark_again(&first.end);
         hand_out(&mut self.slots[at].body, &mut slot.body);
         if at + 1 == self.last {
             self.first = 0;
@@ -290,24 +287,28 @@ fn kind(body: &yaml_token_body_t) -> yaml_token_body_t
     }
 }
 
-/// Puts an entry to a place, field by field: of one that is moved whole the gaps between the fields are set too.
+/// Puts a lexeme into a slot that holds no text, field by field: of one that is moved whole the gaps between the fields are
+/// set too.
 // Inlined: some stores.
 #[inline(always)]
-fn put_entry(to: &mut Entry, entry: Entry)
-    ensures { to.new ≡ entry }
+fn put(slot: &mut Waiting, waiting: Waiting)
+    requires { is_bare (body_of slot.old.body) ≡ true }
+    ensures { slot.new ≡ waiting }
 {
-    to.lexeme.kind = entry.lexeme.kind;
-    to.lexeme.start = mark_again(&entry.lexeme.start);
-    to.lexeme.end = mark_again(&entry.lexeme.end);
-    to.lexeme.reached = mark_again(&entry.lexeme.reached);
-    to.lexeme.depth = entry.lexeme.depth;
-    to.lexeme.level = entry.lexeme.level;
-    to.lexeme.saved = entry.lexeme.saved;
-    to.lexeme.required = entry.lexeme.required;
-    to.lexeme.broke = entry.lexeme.broke;
-    to.ends = entry.ends;
-    to.opens = entry.opens;
-    to.key = entry.key;
+    let Waiting {
+        start,
+        end,
+        ends,
+        opens,
+        key,
+        body,
+    } = waiting;
+    slot.start = start;
+    slot.end = end;
+    slot.ends = ends;
+    slot.opens = opens;
+    slot.key = key;
+    put_body(&mut slot.body, body);
 }
 
 /// Puts a body to a place that holds no text.

@@ -6,15 +6,23 @@ ghost use Rattle.yaml_scan_queue.specs.Bare.{is_bare};
 ghost use Rattle.yaml_scan_queue.specs.Front.{front_at, key_count, opens_number, start_at};
 ghost use Rattle.yaml_scan_model.specs.Tokens.{key};
 ghost use Rattle.yaml_scan_queue.specs.Fronted.{token_before};
-ghost use Rattle.yaml_scan_queue.specs.Waits.{keyed};
+ghost use Rattle.yaml_scan_queue.specs.Waits.{kept_of, keyed};
 
-use yaml_scan_history::{Entry, Kind, Lexeme, Opens};
+use yaml_scan_history::Opens;
 use yaml_scan_model::{yaml_mark_t, yaml_token_body_t};
 
-/// A lexeme that was read and not yet taken.
+/// A lexeme that was read and not yet taken: what its tokens are made of.
 #[derive(Drop)]
 pub struct Waiting {
-    pub entry: Entry,
+    /// Its own token's marks.
+    pub start: yaml_mark_t,
+    pub end: yaml_mark_t,
+    /// How many block levels it closes.
+    pub ends: usize,
+    /// The level that it opens.
+    pub opens: Opens,
+    /// Its `:` has come.
+    pub key: bool,
     /// What its own token carries.
     pub body: yaml_token_body_t,
 }
@@ -30,22 +38,11 @@ impl Waiting {
             column: 0,
         };
         Waiting {
-            entry: Entry {
-                lexeme: Lexeme {
-                    kind: Kind::StreamStart,
-                    start: zero,
-                    end: zero,
-                    reached: zero,
-                    depth: 0,
-                    level: 0,
-                    saved: false,
-                    required: false,
-                    broke: false,
-                },
-                ends: 0,
-                opens: Opens::Nothing,
-                key: false,
-            },
+            start: zero,
+            end: zero,
+            ends: 0,
+            opens: Opens::Nothing,
+            key: false,
             body: yaml_token_body_t::No,
         }
     }
@@ -56,21 +53,21 @@ impl Waiting {
     pub fn mark(&mut self, opens: Opens)
         ensures { self.new ≡ keyed opens self.old }
     {
-        self.entry.key = true;
-        self.entry.opens = opens;
+        self.key = true;
+        self.opens = opens;
     }
 
     /// The token in front of its own one, where `given` tokens were taken: BLOCK-END tokens, a block start, KEY.
     pub fn before(&self, given: usize) -> Option<Before>
-        ensures { option_map token_before result ≡ front_at self.now.entry given }
+        ensures { option_map token_before result ≡ front_at (kept_of self.now) given }
     {
-        if given < self.entry.ends {
+        if given < self.ends {
             return Some(Before::BlockEnd);
         }
-        if stands_alone(self.entry.opens, self.entry.key) {
+        if stands_alone(self.opens, self.key) {
             return None;
         }
-        start(self.entry.opens, self.entry.key, given - self.entry.ends)
+        start(self.opens, self.key, given - self.ends)
     }
 }
 

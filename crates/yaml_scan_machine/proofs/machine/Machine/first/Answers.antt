@@ -8,19 +8,20 @@ use Rattle.yaml_scan_machine.specs.State.{IsPlace}
 use Rattle.yaml_scan_machine.proofs.SafeLemmas.{mark_column}
 use Rattle.std.proofs.lemmas.List.{length-map}
 use Rattle.yaml_scan_queue.specs.declared.waiting.Waiting.{Waiting}
+use Rattle.yaml_scan_queue.specs.Waits.{kept_of}
 use Rattle.yaml_scan_machine.proofs.KindLemmas.{first_gives, leaves_none}
 use Rattle.yaml_scan_machine.proofs.machine.Machine.first.Goals as goal
 
 pub returns-clause-exact : goal.returns-clause-exact
 returns-clause-exact c =
     let m = c.args.self.now in
-    let len = length-map m.waiting.items (λ (x : Waiting). x.entry) in
+    let len = length-map m.waiting.items (λ (x : Waiting). kept_of x) in
     first_gives m c.stream_start.result c.requires.stands.shown (omega (arith, c.requires.stands.shown.count, len, c.requires.none)) c.stream_start.ensures.lexeme c.stream_start.ensures.body c.stream_start.ensures.key
 
 pub returns-clause-safe : goal.returns-clause-safe
 returns-clause-safe c =
     let m = c.args.self.now in
-    let len = length-map m.waiting.items (λ (x : Waiting). x.entry) in
+    let len = length-map m.waiting.items (λ (x : Waiting). kept_of x) in
     let none : length (history_of m) ≡ 0 = omega (arith, c.requires.stands.shown.count, len, c.requires.none) in
     let l = c.stream_start.ensures.lexeme in
     let low = mark_column (text_bytes m.text) m.place (c.requires.stands.place c.requires.more) in

@@ -14,7 +14,8 @@ returns-in-Some-clause-picks c =
     let m = c.args.self.now in
     let value : is_value c.args.stand.kind ≡ true = sym c.is_value.ensures ∙ c.if-not-is_value.false in
     let (low, room, here) = key_waits (fields_of m) m.waiting.items c.args.stand.mark c.in-Some.number c.requires.stands.shown refl c.requires.more c.requires.forward c.in-Some.ensures in
-    (room, λ w. rw value (here w))
+    let (c, some, number, start) = here in
+    (room, (c, rw value some, record { number = number; start = start }))
 
 pub returns-in-Some-clause-inside : goal.returns-in-Some-clause-inside
 returns-in-Some-clause-inside c =

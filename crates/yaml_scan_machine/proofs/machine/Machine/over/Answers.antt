@@ -13,6 +13,7 @@ use Rattle.yaml_scan_machine.proofs.FrontLemmas.{shown_start}
 use Rattle.yaml_scan_machine.proofs.KeysLemmas.{start_keys}
 use Rattle.yaml_scan_machine.proofs.GivenLemmas.{given_none}
 use Rattle.yaml_scan_queue.specs.declared.waiting.Waiting.{Waiting}
+use Rattle.yaml_scan_queue.specs.Waits.{kept_of}
 use Rattle.yaml_scan_machine.proofs.machine.Machine.over.Goals as goal
 
 pub returns-clause-stands : goal.returns-clause-stands
@@ -29,9 +30,8 @@ returns-clause-stands c =
       inside = λ k w lt. absurd (let bad = rw c.new.ensures.items at lt in omega (arith, bad));
       place = λ _. start_place (text_bytes c.args.text);
       begun = λ off. c.new.ensures.items;
-      given = given_none 0 0 (map (λ (x : Waiting). x.entry) c.new.result.items);
-      shown = shown_start (text_bytes c.args.text) c.new.result.items c.new-3.result (stack_of c.new-2.result) c.new.ensures.items c.new-3.ensures (start_keys (stack_of c.new-2.result) zero_mark c.new-2.ensures.outer c.new-2.ensures.none c.new-2.ensures.stale);
-      spoken = λ k w lt. absurd (let bad = rw c.new.ensures.items at lt in omega (arith, bad));
+      given = given_none 0 0 (map (λ (x : Waiting). kept_of x) c.new.result.items);
+      shown = shown_start c.stream_encoding.result (text_bytes c.args.text) c.new.result.items c.new-3.result (stack_of c.new-2.result) c.new.ensures.items c.new-3.ensures (start_keys (stack_of c.new-2.result) zero_mark c.new-2.ensures.outer c.new-2.ensures.none c.new-2.ensures.stale);
     }
 
 pub returns-clause-left : goal.returns-clause-left

@@ -1,24 +1,23 @@
-use Rattle.std.proofs.Common.{true, false, ◌≡◌, ◌≤◌, ◌<◌, ℕ, Bool, List, ◌∷◌, [], ◌++◌, sym, ap, subst, ◌∙◌, refl, arith, ◌+◌, ◌&&◌, ◌||◌, not, ltb, eqb, length, length-append}
-use Rattle.std.specs.Prelude.{map, IfSome}
-use Rattle.yaml_scan_model.specs.declared.name.yaml_encoding_t.{yaml_encoding_t}
+use Rattle.std.proofs.Common.{true, false, ◌≡◌, ◌≤◌, ℕ, Bool, List, ◌∷◌, [], ◌++◌, sym, ap, subst, ◌∙◌, refl, arith, ◌+◌, ◌&&◌, ◌||◌, not, ltb, eqb, length, length-append}
+use Rattle.std.specs.Prelude.{map}
+use Rattle.yaml_scan_model.specs.Tokens.{body_of}
 use Rattle.yaml_scan_history.specs.Kinds.{is_start, allows_key}
 use Rattle.std.proofs.lemmas.List.{map-append, length-map}
 use Rattle.yaml_scan_decode.specs.DecodedText.{text_bytes}
 use Rattle.yaml_scan_machine.specs.declared.machine.Machine.{Machine}
 use Rattle.yaml_scan_queue.specs.declared.waiting.Waiting.{Waiting}
+use Rattle.yaml_scan_queue.specs.Waits.{Kept, kept_of}
 use Rattle.yaml_scan_machine.specs.State.{IsMachine, GoesOn, AreInside, IsNarrow, IsPlace}
 use Rattle.yaml_scan_history.specs.declared.lexeme.Lexeme.{Lexeme}
-use Rattle.yaml_scan_history.specs.declared.lexeme.Entry.{Entry}
-use Rattle.yaml_scan_history.specs.Remaining.{SpelledText, body_in}
 use Rattle.yaml_scan_history.specs.History.{inside, left_by, entry_of, reached}
 use Rattle.yaml_scan_laws_order.proofs.HistoryForward.{goes_forward}
 use Rattle.yaml_scan_machine.specs.Candidates.{stack_of, AreKeys}
-use Rattle.yaml_scan_machine.specs.Shows.{Fields, fields_of, history_of, stream_of, AreSpoken, IsSpoken}
+use Rattle.yaml_scan_machine.specs.Shows.{Fields, fields_of, history_of, kept_in, stream_of}
 use Rattle.yaml_scan_machine.specs.Reads.{opens_for}
 use Rattle.yaml_scan_machine.proofs.SafeLemmas.{inside_push, depth_after-le, narrow_by}
 use Rattle.yaml_scan_machine.proofs.KindLemmas.{ok_read}
 use Rattle.yaml_scan_machine.proofs.MarkLemmas.{IsPushed, kept_entries, settled_grows, shown_by, read_pushed}
-use Rattle.yaml_scan_machine.proofs.PushLemmas.{marks_are, levels_is, entry_is, column_is, allowed_is, settled_value, spoken_marked, spoken_push, room_is}
+use Rattle.yaml_scan_machine.proofs.PushLemmas.{marks_are, levels_is, kept_is, column_is, allowed_is, settled_value, room_is}
 use Rattle.yaml_scan_machine.proofs.KeysLemmas.{put_keys}
 use Rattle.yaml_scan_machine.proofs.StepLemmas.{saved_keeps}
 use Rattle.yaml_scan_machine.proofs.ComesLemmas.{waits_short}
@@ -42,23 +41,25 @@ settle-self-requires c =
     let go = goes_forward (text_bytes m.text) in
     let (e, spoken, key) = ok_read m r _ c.requires.next.exact in
     let texts : d.text ≡ m.text = ap (λ (x : Machine). x.text) to_d ∙ ap (λ (x : Machine). x.text) to_b ∙ ap (λ (x : Machine). x.text) to_a in
+    let codes : d.encoding ≡ m.encoding = ap (λ (x : Machine). x.encoding) to_d ∙ ap (λ (x : Machine). x.encoding) to_b ∙ ap (λ (x : Machine). x.encoding) to_a in
     let drops : d.dropped ≡ m.dropped = ap (λ (x : Machine). x.dropped) to_d ∙ ap (λ (x : Machine). x.dropped) to_b ∙ ap (λ (x : Machine). x.dropped) to_a in
     let waits : b.waiting.items ≡ m.waiting.items = ap (λ (x : Machine). x.waiting.items) to_b ∙ ap (λ (x : Machine). x.waiting.items) to_a in
     let left : a.levels ≡ inside l h = c.close_levels-ends.ensures.levels ∙ ap (λ ls. left_by l.kind l.depth l.start.column ls) c.requires.stands.shown.levels in
     let opens : o ≡ opens_for l.kind l.depth c.level_column-column.result (inside l h) = c.in_ok-opens.ensures.opens ∙ ap (λ ls. opens_for l.kind l.depth c.level_column-column.result ls) left in
     let column = c.level_column-column.ensures.column in
     let kept = marks_are m l r.key c.level_column-column.result o b.waiting.items d.waiting.items c.requires.stands.shown key column opens waits c.mark_key.ensures.marks in
-    let w : Waiting = record { entry = c.entry.result; body = r.body } in
+    let w : Waiting = record { start = l.start; end = l.end; ends = c.close_levels-ends.result; opens = c.opens_here.result; key = false; body = r.body } in
     let items : c.push_back_reserved.new.self.items ≡ d.waiting.items ++ w ∷ [] = c.push_back_reserved.ensures.items ∙ ap (λ (ws : List Waiting). ws ++ w ∷ []) c.reserve.ensures.items in
-    let entry : c.entry.result ≡ entry_of l h = entry_is m l h r.key c.level_column-column.result c.close_levels-ends.result c.is_some-found.result o m.levels a.levels c.entry.result c.requires.stands.shown.levels left c.close_levels-ends.ensures.count c.is_some-found.ensures key column c.in_ok-opens.ensures.opens c.entry.ensures in
+    let laid : kept_of w ≡ kept_in (stream_of m) (entry_of l h) = kept_is m l h r.key c.level_column-column.result c.close_levels-ends.result c.is_some-found.result o c.opens_here.result (body_of r.body) m.levels a.levels c.requires.stands.shown.levels left c.close_levels-ends.ensures.count c.is_some-found.ensures key column c.in_ok-opens.ensures.opens c.opens_here.ensures spoken in
     let count : length d.waiting.items ≡ length m.waiting.items = c.mark_key.ensures.length ∙ ap (λ (ws : List Waiting). length ws) waits in
     let keyed : stack_of d.keys ≡ stack_of m.keys = ap (λ (x : Machine). stack_of x.keys) to_d ∙ ap (λ (x : Machine). stack_of x.keys) to_b ∙ ap (λ (x : Machine). stack_of x.keys) to_a in
-    let number : c.count-number.result ≡ m.dropped + length f.waiting = omega (arith, c.count-number.ensures, drops, count, length-map m.waiting.items (λ (y : Waiting). y.entry)) in
+    let number : c.count-number.result ≡ m.dropped + length f.waiting = omega (arith, c.count-number.ensures, drops, count, length-map m.waiting.items (λ (y : Waiting). kept_of y)) in
     let keys : AreKeys (stack_of c.put.new.self) (l ∷ h) l.reached = put_keys f l (stack_of d.keys) (stack_of c.put.new.self) c.count-number.result go c.requires.stands.shown e keyed number c.in_ok-put.ensures in
-    let x : Fields = record { text = text_bytes d.text; waiting = map (λ (y : Waiting). y.entry) c.push_back_reserved.new.self.items; keys = stack_of c.put.new.self; dropped = d.dropped; given = d.given; settled = d.settled; place = l.reached; depth = c.depth_after-self.result; levels = d.levels; allowed = c.allows-allowed.result; ended = c.is_end-self.result } in
+    let x : Fields = record { encoding = d.encoding; text = text_bytes d.text; waiting = map (λ (y : Waiting). kept_of y) c.push_back_reserved.new.self.items; keys = stack_of c.put.new.self; dropped = d.dropped; given = d.given; settled = d.settled; place = l.reached; depth = c.depth_after-self.result; levels = d.levels; allowed = c.allows-allowed.result; ended = c.is_end-self.result } in
     let p : IsPushed f l x = record {
+      encoding = codes;
       text = ap text_bytes texts;
-      waiting = ap (λ xs. map (λ (y : Waiting). y.entry) xs) items ∙ map-append (λ (y : Waiting). y.entry) d.waiting.items (w ∷ []) ∙ ap (λ xs. xs ++ c.entry.result ∷ []) kept ∙ ap (λ (y : Entry). (kept_entries f l) ++ y ∷ []) entry;
+      waiting = ap (λ xs. map (λ (y : Waiting). kept_of y) xs) items ∙ map-append (λ (y : Waiting). kept_of y) d.waiting.items (w ∷ []) ∙ ap (λ xs. xs ++ kept_of w ∷ []) kept ∙ ap (λ (y : Kept). (kept_entries f l) ++ y ∷ []) laid;
       keys = keys;
       dropped = drops;
       place = refl;
@@ -96,23 +97,25 @@ returns-clause-ok c =
     let go = goes_forward (text_bytes m.text) in
     let (e, spoken, key) = ok_read m r _ c.requires.next.exact in
     let texts : d.text ≡ m.text = ap (λ (x : Machine). x.text) to_d ∙ ap (λ (x : Machine). x.text) to_b ∙ ap (λ (x : Machine). x.text) to_a in
+    let codes : d.encoding ≡ m.encoding = ap (λ (x : Machine). x.encoding) to_d ∙ ap (λ (x : Machine). x.encoding) to_b ∙ ap (λ (x : Machine). x.encoding) to_a in
     let drops : d.dropped ≡ m.dropped = ap (λ (x : Machine). x.dropped) to_d ∙ ap (λ (x : Machine). x.dropped) to_b ∙ ap (λ (x : Machine). x.dropped) to_a in
     let waits : b.waiting.items ≡ m.waiting.items = ap (λ (x : Machine). x.waiting.items) to_b ∙ ap (λ (x : Machine). x.waiting.items) to_a in
     let left : a.levels ≡ inside l h = c.close_levels-ends.ensures.levels ∙ ap (λ ls. left_by l.kind l.depth l.start.column ls) c.requires.stands.shown.levels in
     let opens : o ≡ opens_for l.kind l.depth c.level_column-column.result (inside l h) = c.in_ok-opens.ensures.opens ∙ ap (λ ls. opens_for l.kind l.depth c.level_column-column.result ls) left in
     let column = c.level_column-column.ensures.column in
     let kept = marks_are m l r.key c.level_column-column.result o b.waiting.items d.waiting.items c.requires.stands.shown key column opens waits c.mark_key.ensures.marks in
-    let w : Waiting = record { entry = c.entry.result; body = r.body } in
+    let w : Waiting = record { start = l.start; end = l.end; ends = c.close_levels-ends.result; opens = c.opens_here.result; key = false; body = r.body } in
     let items : c.push_back_reserved.new.self.items ≡ d.waiting.items ++ w ∷ [] = c.push_back_reserved.ensures.items ∙ ap (λ (ws : List Waiting). ws ++ w ∷ []) c.reserve.ensures.items in
-    let entry : c.entry.result ≡ entry_of l h = entry_is m l h r.key c.level_column-column.result c.close_levels-ends.result c.is_some-found.result o m.levels a.levels c.entry.result c.requires.stands.shown.levels left c.close_levels-ends.ensures.count c.is_some-found.ensures key column c.in_ok-opens.ensures.opens c.entry.ensures in
+    let laid : kept_of w ≡ kept_in (stream_of m) (entry_of l h) = kept_is m l h r.key c.level_column-column.result c.close_levels-ends.result c.is_some-found.result o c.opens_here.result (body_of r.body) m.levels a.levels c.requires.stands.shown.levels left c.close_levels-ends.ensures.count c.is_some-found.ensures key column c.in_ok-opens.ensures.opens c.opens_here.ensures spoken in
     let count : length d.waiting.items ≡ length m.waiting.items = c.mark_key.ensures.length ∙ ap (λ (ws : List Waiting). length ws) waits in
     let keyed : stack_of d.keys ≡ stack_of m.keys = ap (λ (x : Machine). stack_of x.keys) to_d ∙ ap (λ (x : Machine). stack_of x.keys) to_b ∙ ap (λ (x : Machine). stack_of x.keys) to_a in
-    let number : c.count-number.result ≡ m.dropped + length f.waiting = omega (arith, c.count-number.ensures, drops, count, length-map m.waiting.items (λ (y : Waiting). y.entry)) in
+    let number : c.count-number.result ≡ m.dropped + length f.waiting = omega (arith, c.count-number.ensures, drops, count, length-map m.waiting.items (λ (y : Waiting). kept_of y)) in
     let keys : AreKeys (stack_of c.put.new.self) (l ∷ h) l.reached = put_keys f l (stack_of d.keys) (stack_of c.put.new.self) c.count-number.result go c.requires.stands.shown e keyed number c.in_ok-put.ensures in
-    let x : Fields = record { text = text_bytes d.text; waiting = map (λ (y : Waiting). y.entry) c.push_back_reserved.new.self.items; keys = stack_of c.put.new.self; dropped = d.dropped; given = d.given; settled = d.settled; place = l.reached; depth = c.depth_after-self.result; levels = d.levels; allowed = c.allows-allowed.result; ended = c.is_end-self.result } in
+    let x : Fields = record { encoding = d.encoding; text = text_bytes d.text; waiting = map (λ (y : Waiting). kept_of y) c.push_back_reserved.new.self.items; keys = stack_of c.put.new.self; dropped = d.dropped; given = d.given; settled = d.settled; place = l.reached; depth = c.depth_after-self.result; levels = d.levels; allowed = c.allows-allowed.result; ended = c.is_end-self.result } in
     let p : IsPushed f l x = record {
+      encoding = codes;
       text = ap text_bytes texts;
-      waiting = ap (λ xs. map (λ (y : Waiting). y.entry) xs) items ∙ map-append (λ (y : Waiting). y.entry) d.waiting.items (w ∷ []) ∙ ap (λ xs. xs ++ c.entry.result ∷ []) kept ∙ ap (λ (y : Entry). (kept_entries f l) ++ y ∷ []) entry;
+      waiting = ap (λ xs. map (λ (y : Waiting). kept_of y) xs) items ∙ map-append (λ (y : Waiting). kept_of y) d.waiting.items (w ∷ []) ∙ ap (λ xs. xs ++ kept_of w ∷ []) kept ∙ ap (λ (y : Kept). (kept_entries f l) ++ y ∷ []) laid;
       keys = keys;
       dropped = drops;
       place = refl;
@@ -127,16 +130,13 @@ returns-clause-ok c =
     let next = c.requires.next.safe in
     let n : ℕ = length (text_bytes m.text) in
     let room = room_is f l e in
-    let long = length-map m.waiting.items (λ (y : Waiting). y.entry) in
+    let long = length-map m.waiting.items (λ (y : Waiting). kept_of y) in
     let text : text_bytes d.text ≡ text_bytes m.text = ap text_bytes texts in
     let levels : d.levels ≡ b.levels = ap (λ (x : Machine). x.levels) to_d in
     let more : length c.push_back_reserved.new.self.items ≡ length m.waiting.items + 1 = ap (λ (ws : List Waiting). length ws) items ∙ length-append d.waiting.items (w ∷ []) ∙ omega (arith, count) in
-    let InLexeme : Lexeme → Type 0 = λ l. l.start.column ≤ n in
-    let lexeme : c.entry.result.lexeme ≡ l = ap (λ (y : Entry). y.lexeme) entry in
-    let at_column : w.entry.lexeme.start.column ≤ n = subst InLexeme (sym lexeme) next.column in
     let Inside : List Waiting → Type 0 = λ ws. AreInside n ws in
     let old : AreInside n d.waiting.items = c.mark_key.ensures.inside n (subst Inside (sym waits) c.requires.stands.inside) in
-    let all : AreInside n c.push_back_reserved.new.self.items = subst Inside (sym items) (inside_push n w d.waiting.items at_column old) in
+    let all : AreInside n c.push_back_reserved.new.self.items = subst Inside (sym items) (inside_push n w d.waiting.items next.column old) in
     let deeper = depth_after-le l.kind l.depth in
     let above : c.depth_after-self.result ≤ l.depth + 1 = rw c.depth_after-self.ensures deeper in
     let low : IsNarrow (n + 1) a.levels = c.close_levels-ends.ensures.narrow (n + 1) c.requires.stands.levels in
@@ -148,19 +148,12 @@ returns-clause-ok c =
     let Place : List ℕ → Type 0 = λ t. IsPlace t l.reached in
     let same = read_pushed f x l c.requires.stands.shown e p in
     let done : Fields = record x { keys = stack_of z.keys; settled = c.settle-self.result } in
-    let q : IsPushed f l done = record { text = p.text; waiting = p.waiting; keys = subst (λ y. AreKeys (stack_of z.keys) y l.reached) same settled.keys; dropped = p.dropped; place = p.place; depth = p.depth; levels = p.levels; allowed = p.allowed; ended = p.ended } in
+    let q : IsPushed f l done = record { encoding = p.encoding; text = p.text; waiting = p.waiting; keys = subst (λ y. AreKeys (stack_of z.keys) y l.reached) same settled.keys; dropped = p.dropped; place = p.place; depth = p.depth; levels = p.levels; allowed = p.allowed; ended = p.ended } in
     let now = settled_value x l h c.settle-self.result same c.is_end-self.ensures settled.value in
     let (grows, most) = settled_grows f l go c.requires.stands.shown e in
     let shown_now = shown_by f done l go c.requires.stands.shown e q now in
     let gives : d.given ≡ m.given = ap (λ (x : Machine). x.given) to_d ∙ ap (λ (x : Machine). x.given) to_b ∙ ap (λ (x : Machine). x.given) to_a in
-    let inside_b : IfSome r.key (λ i. i < length b.waiting.items) = subst (λ (ws : List Waiting). IfSome r.key (λ i. i < length ws)) (sym waits) next.key in
-    let old_spoken : AreSpoken (stream_of m) b.waiting.items = subst (λ (ws : List Waiting). AreSpoken (stream_of m) ws) (sym waits) c.requires.stands.spoken in
-    let marked_spoken = spoken_marked (stream_of m) r.key o b.waiting.items d.waiting.items inside_b c.mark_key.ensures.marks old_spoken in
-    let is_w : IsSpoken (stream_of m) w = spoken ∙ ap (λ (y : Lexeme). body_in (stream_of m) y) (sym lexeme) in
-    let all_spoken : AreSpoken (stream_of m) c.push_back_reserved.new.self.items = subst (λ (ws : List Waiting). AreSpoken (stream_of m) ws) (sym items) (spoken_push (stream_of m) w d.waiting.items is_w marked_spoken) in
-    let codes : d.encoding ≡ m.encoding = ap (λ (x : Machine). x.encoding) to_d ∙ ap (λ (x : Machine). x.encoding) to_b ∙ ap (λ (x : Machine). x.encoding) to_a in
     let on : d.started ≡ m.started = ap (λ (x : Machine). x.started) to_d ∙ ap (λ (x : Machine). x.started) to_b ∙ ap (λ (x : Machine). x.started) to_a in
-    let stream : stream_of d ≡ stream_of m = ap (λ (t : List ℕ). record { encoding = d.encoding; text = t }) text ∙ ap (λ (y : yaml_encoding_t). record { encoding = y; text = text_bytes m.text }) codes in
     let pushed : Machine = record d { waiting = c.push_back_reserved.new.self; keys = z.keys; place = l.reached; depth = c.depth_after-self.result; allowed = c.allows-allowed.result; ended = c.is_end-self.result; settled = c.settle-self.result } in
     let is : record z { settled = c.settle-self.result } ≡ pushed = ap (λ (y : Machine). record y { settled = c.settle-self.result }) to_z in
     subst (λ (y : Machine). IsMachine y × GoesOn m y) (sym is) (
@@ -177,7 +170,6 @@ returns-clause-ok c =
         begun = λ off. let bad : true ≡ false = sym c.requires.started ∙ sym on ∙ off in cc;
         shown = shown_now;
         given = given_goes f done l c.requires.stands.shown shown_now go e same drops gives (omega (arith, now, grows)) c.requires.stands.given;
-        spoken = subst (λ (s : SpelledText). AreSpoken s c.push_back_reserved.new.self.items) (sym stream) all_spoken;
       },
       record { text = texts; dropped = drops; further = more; given = gives; encoding = codes; started = on },
     )

@@ -1,18 +1,19 @@
-use Rattle.std.proofs.Common.{◌≡◌, Bool, List, [], ◌∷◌, sym, ap, subst, ◌∙◌, arith, ◌+◌, length, get_or, true, refl}
+use Rattle.std.proofs.Common.{◌≡◌, Bool, List, [], ◌∷◌, sym, ap, subst, ◌∙◌, arith, ◌+◌, length, get_or, Some, true, refl}
 use Rattle.std.specs.Prelude.{map}
 use Rattle.yaml_scan_decode.specs.DecodedText.{text_bytes}
 use Rattle.yaml_scan_model.specs.Tokens.{Token, TokenBody, body_of, token_of}
-use Rattle.yaml_scan_history.specs.Remaining.{remaining, before, body_in, token_in}
+use Rattle.yaml_scan_history.specs.Remaining.{remaining}
 use Rattle.yaml_scan_laws_order.specs.Fronts.{GivesFirst}
 use Rattle.yaml_scan_machine.specs.Left.{left_in}
 use Rattle.yaml_scan_queue.specs.declared.waiting.Waiting.{Waiting}
+use Rattle.yaml_scan_queue.specs.Waits.{kept_of}
 use Rattle.yaml_scan_machine.specs.State.{IsMachine, ready_in, AreInside}
 use Rattle.yaml_scan_machine.proofs.SafeLemmas.{inside_rest}
-use Rattle.yaml_scan_machine.specs.Shows.{fields_of, stream_of, AreSpoken}
+use Rattle.yaml_scan_machine.specs.Shows.{fields_of, stream_of}
+use Rattle.yaml_scan_machine.specs.Taken.{fronted, own_token}
 use Rattle.yaml_scan_queue.specs.Line.{Line}
 use Rattle.yaml_scan_queue.specs.Hands.{Hands, IsInFront, IsItsOwn}
 use Rattle.yaml_scan_machine.proofs.FrontLemmas.{shown_popped}
-use Rattle.yaml_scan_machine.proofs.PushLemmas.{spoken_rest}
 use Rattle.yaml_scan_machine.proofs.GivenLemmas.{given_none, own_settled}
 use Rattle.yaml_scan_machine.proofs.TakeLemmas.{first_waits, popped_waits, gives_front, gives_own, given_room, stands_more}
 use Rattle.yaml_scan_machine.proofs.ComesLemmas.{left_gives, ready_started}
@@ -54,8 +55,9 @@ returns-else-give-clause-gives c =
     let b = body_of c.give.new.slot.body in
     let (tokens, fault) = gives_front m front rest b c.requires.stands items c.requires.ready hands.some in
     let on = ready_started m c.requires.stands c.requires.ready in
-    let is : token_of c.give.new.slot ≡ before b front.entry.lexeme = rw (hands.start, hands.end) refl in
-    let gives : GivesFirst (left_in m) (before b front.entry.lexeme) (left_in record m { given = m.given + 1 }) = left_gives m record m { given = m.given + 1 } (before b front.entry.lexeme) on on (tokens, fault) in
+    let t = fronted (own_token (kept_of front)) (Some b) in
+    let is : token_of c.give.new.slot ≡ t = rw (hands.start, hands.end) refl in
+    let gives : GivesFirst (left_in m) t (left_in record m { given = m.given + 1 }) = left_gives m record m { given = m.given + 1 } t on on (tokens, fault) in
     subst (λ (q : Line). GivesFirst (left_in m) (token_of c.give.new.slot) (left_in record m { waiting = q; given = m.given + 1 })) (sym hands.same) (subst (λ (t : Token). GivesFirst (left_in m) t (left_in record m { given = m.given + 1 })) (sym is) gives)
 
 pub returns-then-give-clause-stands : goal.returns-then-give-clause-stands
@@ -84,8 +86,7 @@ returns-then-give-clause-stands c =
       place = c.requires.stands.place;
       begun = λ off. let bad : front ∷ rest ≡ [] = sym items ∙ c.requires.stands.begun off in cc;
       shown = shown_popped (fields_of m) m.waiting.items front rest c.requires.stands.shown refl items low;
-      given = given_none (m.dropped + 1) m.settled (map (λ (x : Waiting). x.entry) rest);
-      spoken = spoken_rest (stream_of m) front rest (subst (λ (ws : List Waiting). AreSpoken (stream_of m) ws) items c.requires.stands.spoken);
+      given = given_none (m.dropped + 1) m.settled (map (λ (x : Waiting). kept_of x) rest);
     }
 
 pub returns-then-give-clause-gives : goal.returns-then-give-clause-gives
@@ -100,9 +101,8 @@ returns-then-give-clause-gives c =
     let none = hands.none in
     let ready : ready_in m.dropped m.settled m.given (front ∷ rest) ≡ true = ap (λ (ws : List Waiting). ready_in m.dropped m.settled m.given ws) (sym items) ∙ c.requires.ready in
     let low = own_settled m.dropped m.settled m.given front rest ready none in
-    let spoken : body_of front.body ≡ body_in (stream_of m) front.entry.lexeme = subst (λ (ws : List Waiting). AreSpoken (stream_of m) ws) items c.requires.stands.spoken 0 front (omega arith) in
-    let given : TokenBody → Token = λ b. record { body = b; start_mark = front.entry.lexeme.start; end_mark = front.entry.lexeme.end } in
-    let own : token_in (stream_of m) front.entry.lexeme ≡ given (body_of c.give.new.slot.body) = ap given (sym spoken ∙ ap body_of (sym hands.body)) in
+    let given : TokenBody → Token = λ b. record { body = b; start_mark = front.start; end_mark = front.end } in
+    let own : own_token (kept_of front) ≡ given (body_of c.give.new.slot.body) = ap given (ap body_of (sym hands.body)) in
     let is : token_of c.give.new.slot ≡ given (body_of c.give.new.slot.body) = rw (hands.start, hands.end) refl in
     let (tokens, fault) = gives_own m front rest c.requires.stands items low none in
     let on = ready_started m c.requires.stands c.requires.ready in

@@ -4,6 +4,7 @@ use Rattle.std.proofs.Math.ListN.{set}
 use Rattle.yaml_scan_queue.specs.Front.{front_at}
 use Rattle.yaml_scan_queue.specs.Fronted.{token_before}
 use Rattle.yaml_scan_queue.specs.Line.{Line}
+use Rattle.yaml_scan_queue.specs.Waits.{kept_of}
 use Rattle.yaml_scan_queue.specs.declared.waiting.Waiting.{Waiting}
 use Rattle.yaml_scan_queue.proofs.QueueLemmas.{part_pop, part_last, part_some, part_first, empty_pop, empty_all, none_left}
 use Rattle.yaml_scan_queue.proofs.queue.Queue.give.Goals as goal
@@ -14,12 +15,12 @@ returns-then-at-self c = λ w.
     let is = ap (λ (x : Line). x.items) c.self.view_is in
     let first = part_first q.slots.items q.first q.last c.index-first.result.now c.args.self.now.items is c.self.invariant.last c.requires.some c.index-first.ensures w in
     let taken = part_first q.slots.items q.first q.last c.index_mut.result.now c.args.self.now.items is c.self.invariant.last c.requires.some c.index_mut.ensures.value w in
-    let none : front_at c.index-first.result.now.entry c.args.given ≡ None = sym c.before-2.ensures ∙ ap (option_map token_before) (none_left c.before-2.result c.in_default.not-Some) in
+    let none : front_at (kept_of c.index-first.result.now) c.args.given ≡ None = sym c.before-2.ensures ∙ ap (option_map token_before) (none_left c.before-2.result c.in_default.not-Some) in
     record {
-      none = ap (λ (x : Waiting). front_at x.entry c.args.given) (sym first) ∙ none;
+      none = ap (λ (x : Waiting). front_at (kept_of x) c.args.given) (sym first) ∙ none;
       body = c.hand_out.ensures.to ∙ ap (λ (x : Waiting). x.body) taken;
-      start = c.mark_again-slot.ensures ∙ ap (λ (x : Waiting). x.entry.lexeme.start) first;
-      end = c.mark_again-slot-2.ensures ∙ ap (λ (x : Waiting). x.entry.lexeme.end) first;
+      start = c.mark_again-slot.ensures ∙ ap (λ (x : Waiting). x.start) first;
+      end = c.mark_again-slot-2.ensures ∙ ap (λ (x : Waiting). x.end) first;
       rest = part_last q.slots.items q.first q.last c.args.self.now.items is c.self.invariant.last c.if-at-self.true;
     }
 
@@ -29,12 +30,12 @@ returns-else-at-self c = λ w.
     let is = ap (λ (x : Line). x.items) c.self.view_is in
     let first = part_first q.slots.items q.first q.last c.index-first.result.now c.args.self.now.items is c.self.invariant.last c.requires.some c.index-first.ensures w in
     let taken = part_first q.slots.items q.first q.last c.index_mut.result.now c.args.self.now.items is c.self.invariant.last c.requires.some c.index_mut.ensures.value w in
-    let none : front_at c.index-first.result.now.entry c.args.given ≡ None = sym c.before-2.ensures ∙ ap (option_map token_before) (none_left c.before-2.result c.in_default.not-Some) in
+    let none : front_at (kept_of c.index-first.result.now) c.args.given ≡ None = sym c.before-2.ensures ∙ ap (option_map token_before) (none_left c.before-2.result c.in_default.not-Some) in
     record {
-      none = ap (λ (x : Waiting). front_at x.entry c.args.given) (sym first) ∙ none;
+      none = ap (λ (x : Waiting). front_at (kept_of x) c.args.given) (sym first) ∙ none;
       body = c.hand_out.ensures.to ∙ ap (λ (x : Waiting). x.body) taken;
-      start = c.mark_again-slot.ensures ∙ ap (λ (x : Waiting). x.entry.lexeme.start) first;
-      end = c.mark_again-slot-2.ensures ∙ ap (λ (x : Waiting). x.entry.lexeme.end) first;
+      start = c.mark_again-slot.ensures ∙ ap (λ (x : Waiting). x.start) first;
+      end = c.mark_again-slot-2.ensures ∙ ap (λ (x : Waiting). x.end) first;
       rest = part_pop q.slots.items q.first q.last _ (part_some q.slots.items q.first q.last c.args.self.now.items is c.self.invariant.last c.requires.some) ∙ ap (λ (x : Line). drop 1 x.items) c.self.view_is;
     }
 

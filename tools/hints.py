@@ -3,8 +3,9 @@
 
     tools/hints.py [PROGRAM]        crates/yaml_cli/out/yaml_cli, the proved one, where none is named
 
-The kit drops that hint, with no message, from a function that would grow very large. A near build (tools/near.py) follows it, so
-that its counts are too low then. A function that is listed is called, each time; it needs binutils.
+The kit drops that hint, with no message, from a function that would grow very large. A near build (tools/near.py) drops it there
+too, and tells what the function would grow to: `tools/hints.py out/near/yaml_cli` lists before a proof what will stand. A function
+that is listed is called, each time; it needs binutils.
 """
 import re
 import subprocess

@@ -34,7 +34,7 @@ YAML_DECLARE(void) yaml_event_delete(yaml_event_t *event)
         break;
     default: break;
     }
-    memset(event, 0, sizeof *event);
+    layer_clear(event);
 }
 
 YAML_DECLARE(void) yaml_token_delete(yaml_token_t *token)
@@ -61,7 +61,7 @@ YAML_DECLARE(void) yaml_token_delete(yaml_token_t *token)
 static void begin(yaml_event_t *event, yaml_event_type_t type)
 {
     assert(event);
-    memset(event, 0, sizeof *event);
+    layer_clear(event);
     event->type = type;
 }
 

@@ -68,16 +68,17 @@ yaml_mark_t layer_mark(layer_reading *reading, yaml_c_mark mark)
 {
     if (mark.index < reading->stand_in) /* of the stand-in its beginning is named alone */
         return reading->root_mark;
-    yaml_mark_t found = {reading->chars_before + characters_before(reading, mark.index) - reading->stand_in,
-                         reading->lines_before + mark.line - (reading->within != LAYER_NO_ROOT), mark.column};
+    yaml_mark_t found = {reading->chars_to_window + characters_before(reading, mark.index),
+                         reading->lines_to_window + mark.line, mark.column};
     return found;
 }
 
 /* ---- windows */
 
-/* How much of an input that is there as a whole is looked at first. */
+/* How much of what is there is looked at first: the records of that many bytes, some thirty times as many, are still near the
+ * processor when they are handed out, and no block of them is given back to the system between two windows. */
 #ifndef LAYER_WINDOW
-#define LAYER_WINDOW ((size_t)1 << 16)
+#define LAYER_WINDOW ((size_t)1 << 13)
 #endif
 
 /* Reads on by the handler. 0: the parser tells why. */
@@ -145,29 +146,38 @@ static int take_all(yaml_parser_t *parser, layer_reading *reading)
     return 1;
 }
 
-/* `from`: where it was looked for a cut, but in the line that ends or begins there. */
+/* Whether the window ends at a cut in what there is from `*from` on, which is looked at by more and more, up to `*to`; all that has
+ * been looked at then has no cut, but in the line that ends or begins there. */
+static int finds_cut(const yaml_parser_t *parser, layer_reading *reading, size_t *from, size_t *to)
+{
+    for (;;) {
+        size_t len = *to < reading->given ? *to : reading->given;
+        if (ends_at_cut(parser, reading, *from, len))
+            return 1;
+        *from = len > 4 ? len - 4 : 0;
+        if (len == reading->given)
+            return 0;
+        *to *= 2;
+    }
+}
+
 static int window_of_string(yaml_parser_t *parser, layer_reading *reading)
 {
-    for (size_t from = 0, to = LAYER_WINDOW; to < reading->given; from = to - 4, to *= 2)
-        if (ends_at_cut(parser, reading, from, to))
-            return 1;
-    return take_all(parser, reading);
+    size_t from = 0, to = LAYER_WINDOW;
+    return (to < reading->given && finds_cut(parser, reading, &from, &to)) || take_all(parser, reading);
 }
 
 /* A wrong byte comes first, as with libyaml, which decodes what it has read before it goes on. */
 static int window_by_handler(yaml_parser_t *parser, layer_reading *reading)
 {
-    for (size_t from = 0, checked = 0; !parser->eof;) {
-        reading->is_wrong = may_be_cut(parser, reading) && !layer_is_text(reading->bytes, reading->given, &checked);
+    for (size_t from = 0, to = LAYER_WINDOW; !parser->eof;) {
+        reading->is_wrong = may_be_cut(parser, reading) && !layer_is_text(reading->bytes, reading->given, &reading->checked);
         if (reading->is_wrong) {
             reading->len = reading->given;
             return 1;
         }
-        if (checked == reading->given) {
-            if (ends_at_cut(parser, reading, from, reading->given))
-                return 1;
-            from = checked > 4 ? checked - 4 : 0;
-        }
+        if (reading->checked == reading->given && finds_cut(parser, reading, &from, &to))
+            return 1;
         if (!read_piece(parser, reading))
             return 0;
     }
@@ -181,6 +191,8 @@ static int join(yaml_parser_t *parser, layer_reading *reading)
     reading->read = reading->bytes;
     reading->read_len = reading->len;
     reading->stand_in = strlen(stand_in);
+    reading->chars_to_window = reading->chars_before - reading->stand_in;
+    reading->lines_to_window = reading->lines_before - (reading->within != LAYER_NO_ROOT);
     if (!reading->within)
         return 1;
     reading->joined.len = 0;
@@ -212,10 +224,11 @@ static void leave_window(layer_reading *reading)
     if (reading->cut_in && !reading->within)
         reading->root_mark = layer_mark(reading, reading->root);
     reading->bytes_before += reading->len;
-    reading->chars_before += characters_before(reading, reading->text_len) - reading->stand_in;
-    reading->lines_before += reading->lines - (reading->within != LAYER_NO_ROOT);
+    reading->chars_before = reading->chars_to_window + characters_before(reading, reading->text_len);
+    reading->lines_before = reading->lines_to_window + reading->lines;
     reading->at_byte = reading->at_char = 0;
     reading->given -= reading->len;
+    reading->checked -= reading->checked < reading->len ? reading->checked : reading->len;
     if (!reading->input.len) {
         reading->bytes += reading->len;
     } else {
@@ -273,14 +286,6 @@ static yaml_encoding_t encoding_of(const layer_reading *reading, yaml_encoding_t
     return (yaml_encoding_t)(reading->asked == LAYER_EVENTS ? reading->events[0].encoding : reading->scanned.tokens[0].encoding);
 }
 
-static int is_all_ascii(const uint8_t *text, size_t len)
-{
-    uint8_t all = 0;
-    for (size_t i = 0; i < len; i++)
-        all |= text[i];
-    return all < 0x80;
-}
-
 int layer_decode(yaml_parser_t *parser, layer_reading *reading)
 {
     yaml_encoding_t set = parser->encoding;
@@ -297,7 +302,7 @@ int layer_decode(yaml_parser_t *parser, layer_reading *reading)
         reading->text += 3;
         reading->text_len -= 3;
     }
-    reading->is_ascii = is_all_ascii(reading->text, reading->text_len);
+    reading->is_ascii = layer_is_ascii(reading->text, reading->text_len);
     return 1;
 }
 

@@ -64,6 +64,16 @@ int layer_is_utf8(const yaml_char_t *text, size_t len);
 /* Whether the bytes from `from` on are UTF-8 and what a text may have, as far as four bytes tell; `from` is then where that isn't
  * known. */
 int layer_is_text(const yaml_char_t *text, size_t len, size_t *from);
+int layer_is_ascii(const uint8_t *text, size_t len);
+
+/* No event. It is cleared part by part: compilers clear the whole of such a size by an instruction that takes longer. */
+static inline void layer_clear(yaml_event_t *event)
+{
+    event->type = YAML_NO_EVENT;
+    memset(&event->data, 0, sizeof event->data);
+    memset(&event->start_mark, 0, sizeof event->start_mark);
+    memset(&event->end_mark, 0, sizeof event->end_mark);
+}
 
 /* ---- the layer's own state, which hangs on a pointer that no client has a use for */
 
@@ -83,6 +93,7 @@ typedef struct {
     const uint8_t *bytes;  /* what there is of the input from the window on, how much, and how much of it is the window */
     size_t given;
     size_t len;
+    size_t checked; /* by a handler: how much of it is known to be text */
     const uint8_t *text; /* the window's text behind its byte order mark, and its length */
     size_t text_len;
     int is_ascii;
@@ -102,6 +113,8 @@ typedef struct {
     size_t bytes_before; /* of the input in front of the window, and of its text the characters and the lines */
     size_t chars_before;
     size_t lines_before;
+    size_t chars_to_window; /* what is added to places of what is parsed: these, less those of the stand-in */
+    size_t lines_to_window;
     size_t lines; /* of the window, where it isn't the last */
     size_t at_byte; /* a place of the window's text, and the window's characters in front of it */
     size_t at_char;

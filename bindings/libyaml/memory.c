@@ -120,13 +120,51 @@ static int is_of_text(unsigned value)
            || (value >= 0xA0 && value < 0xFFFE) || (value >= 0x10000 && value <= 0x10FFFF);
 }
 
+/* How long the run of printable ASCII, tabs and breaks is with which a text begins, of that many bytes or some fewer. It is looked
+ * at by 32 bytes, without a way out between them, so that a compiler takes many at once. */
+static size_t ascii_run(const yaml_char_t *text, size_t len)
+{
+    size_t at = 0;
+    for (uint8_t others = 0; at + 32 <= len; at += 32) {
+        for (size_t i = 0; i < 32; i++) {
+            uint8_t byte = text[at + i];
+            others |= (uint8_t)(((uint8_t)(byte - 0x20) >= 0x5F) & (byte != '\n') & (byte != '\t') & (byte != '\r'));
+        }
+        if (others)
+            break;
+    }
+    return at;
+}
+
+/* Goes behind one character. 0: it is none of a text's, or isn't there as a whole. */
+static int step(const yaml_char_t *text, size_t len, size_t *at)
+{
+    size_t width = width_of(text[*at]);
+    if (!width || width > len - *at || !is_of_text(character(text + *at, width)))
+        return 0;
+    *at += width;
+    return 1;
+}
+
 int layer_is_text(const yaml_char_t *text, size_t len, size_t *from)
 {
     while (*from < len) {
-        size_t width = width_of(text[*from]);
-        if (!width || width > len - *from || !is_of_text(character(text + *from, width)))
-            return len - *from < 4;
-        *from += width;
+        *from += ascii_run(text + *from, len - *from);
+        for (int k = 0; k < 32 && *from < len; k++)
+            if (!step(text, len, from))
+                return len - *from < 4;
     }
     return 1;
+}
+
+int layer_is_ascii(const uint8_t *text, size_t len)
+{
+    size_t at = 0;
+    uint8_t all = 0;
+    for (; at + 64 <= len; at += 64)
+        for (size_t i = 0; i < 64; i++)
+            all |= text[at + i];
+    for (; at < len; at++)
+        all |= text[at];
+    return all < 0x80;
 }

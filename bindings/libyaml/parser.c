@@ -84,11 +84,11 @@ static void take_events(layer_reading *reading)
     parsed->events_len = 0;
 }
 
-/* Gives memory back each time that half of the events are done. A refusal changes nothing. */
+/* Of a long document gives memory back each time that half of the events are done. A refusal changes nothing. */
 static void give_back(layer_reading *reading)
 {
     size_t left = reading->end - reading->next;
-    if (left < 1024 || reading->next < left)
+    if (left < 1 << 15 || reading->next < left)
         return;
     memmove(reading->events, reading->events + reading->next, left * sizeof *reading->events);
     reading->next = 0;
@@ -314,35 +314,56 @@ static int misses_start(const layer_reading *reading)
     return reading->last == YAML_C_STREAM_START_EVENT && told->len == sizeof problem - 1 && !memcmp(told->at, problem, told->len);
 }
 
-YAML_DECLARE(int) yaml_parser_parse(yaml_parser_t *parser, yaml_event_t *event)
+static yaml_mark_t mark_of(layer_reading *reading, const yaml_c_mark *mark)
 {
-    assert(parser && event);
-    layer_reading *reading = LAYER_STATE(layer_reading, parser);
-    memset(event, 0, sizeof *event);
-    if (parser->error || parser->stream_end_produced)
-        return 1;
-    if (!layer_read(parser, reading))
-        return 0;
-    yaml_c_event start = {.kind = YAML_C_DOCUMENT_START_EVENT, .implicit = 1};
-    start.start = start.end = reading->answer.problem_mark;
-    int is_read = reading->next < reading->end;
-    if (!is_read && !misses_start(reading))
-        return layer_fault(parser, reading);
-    const yaml_c_event *it = is_read ? &reading->events[reading->next] : &start;
+    if (!reading->is_ascii || mark->index < reading->stand_in)
+        return layer_mark(reading, *mark);
+    yaml_mark_t found = {reading->chars_to_window + mark->index, reading->lines_to_window + mark->line, mark->column};
+    return found;
+}
+
+/* Makes the event of a record. 0: memory was refused. */
+static int hand_out(yaml_parser_t *parser, layer_reading *reading, const yaml_c_event *it, yaml_event_t *event)
+{
     event->type = (yaml_event_type_t)it->kind;
     if (!made(reading, it, event)) {
         yaml_event_delete(event);
         return layer_no_memory(parser);
     }
-    event->start_mark = layer_mark(reading, it->start);
-    event->end_mark = layer_mark(reading, it->end);
+    event->start_mark = mark_of(reading, &it->start);
+    event->end_mark = mark_of(reading, &it->end);
     parser->mark = event->end_mark;
     parser->stream_start_produced = 1;
     parser->stream_end_produced = it->kind == YAML_C_STREAM_END_EVENT;
     reading->last = it->kind;
-    if (is_read) {
-        reading->next++;
-        give_back(reading);
-    }
+    return 1;
+}
+
+/* What comes where no event is left: the fault, or in front of it the document's start that the core doesn't tell. */
+static int end_of_events(yaml_parser_t *parser, layer_reading *reading, yaml_event_t *event)
+{
+    if (!misses_start(reading))
+        return layer_fault(parser, reading);
+    yaml_c_event start = {.kind = YAML_C_DOCUMENT_START_EVENT, .implicit = 1};
+    start.start = start.end = reading->answer.problem_mark;
+    return hand_out(parser, reading, &start, event);
+}
+
+YAML_DECLARE(int) yaml_parser_parse(yaml_parser_t *parser, yaml_event_t *event)
+{
+    assert(parser && event);
+    layer_reading *reading = LAYER_STATE(layer_reading, parser);
+    layer_clear(event);
+    if (parser->error || parser->stream_end_produced)
+        return 1;
+    int is_there = reading->asked == LAYER_EVENTS && reading->next < reading->end;
+    if (!is_there && !layer_read(parser, reading))
+        return 0;
+    if (reading->next >= reading->end)
+        return end_of_events(parser, reading, event);
+    if (!hand_out(parser, reading, &reading->events[reading->next], event))
+        return 0;
+    reading->next++;
+    give_back(reading);
     return 1;
 }

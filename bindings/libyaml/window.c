@@ -59,13 +59,17 @@ static size_t cut_before(const uint8_t *text, size_t mark)
     return 0;
 }
 
+/* Of three dashes every third byte is one: where none stands there, no document begins within two bytes of it. */
 size_t layer_last_cut(const uint8_t *text, size_t len, size_t from)
 {
-    for (size_t at = len; at > from; at--)
-        if (text[at - 1] == '\n' && is_document_start(text, len, at)) {
-            size_t cut = cut_before(text, at);
-            if (cut)
-                return cut;
+    for (size_t at = len; at >= from + 3; at -= 3)
+        for (size_t k = 0; k < 3 && text[at - 3] == '-'; k++) {
+            size_t mark = at - 3 > k ? at - 3 - k : 0;
+            if (mark > from && text[mark - 1] == '\n' && is_document_start(text, len, mark)) {
+                size_t cut = cut_before(text, mark);
+                if (cut)
+                    return cut;
+            }
         }
     return 0;
 }

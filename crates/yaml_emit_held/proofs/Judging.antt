@@ -10,7 +10,7 @@ use Rattle.yaml_emit_text.specs.declared.Status.TheVariants.{Going, Full, Deep, 
 use Rattle.yaml_emit_text.specs.Text.{Item}
 use Rattle.yaml_emit_text.specs.Layout.{Layout, Rest, nothing_more}
 use Rattle.yaml_emit_text.specs.Sink.{Ends, Puts}
-use Rattle.yaml_emit_text.proofs.Sinks.{ends_other, status_cases}
+use Rattle.yaml_emit_text.proofs.Sinks.{grows_none, grows_both, ends_other, status_cases}
 use Rattle.yaml_emit_layout.specs.declared.Problem.{Problem}
 use Rattle.yaml_emit_layout.specs.declared.Level.{Level}
 use Rattle.yaml_emit_layout.specs.declared.Phase.{Phase}
@@ -27,8 +27,8 @@ use Rattle.yaml_emit_state.specs.Finish.{Finishes}
 use Rattle.yaml_emit_state.proofs.Finishing.{finishes_on}
 use Rattle.yaml_emit_state.proofs.Noting.{neither, notes_both, notes_within}
 use Rattle.yaml_emit_held.specs.Held.{is_ready, needs, closes, passes, opens_level, ends_level}
-use Rattle.yaml_emit_layout.specs.Progress.{Due, item_due, key_due, Progress, progress_after, inside, behind_node, outer_due, phase_due, level_due, problem_in, first_refusal}
-use Rattle.yaml_emit_held.specs.Judged.{let_out, unless, laid, refused_at, due_in, due_of, shape_of, refusal_from, text_from, refusal_behind, LetsOut, take_memory}
+use Rattle.yaml_emit_layout.specs.Progress.{Due, item_due, key_due, progress_after, inside, behind_node, outer_due, phase_due, level_due, problem_in, first_refusal}
+use Rattle.yaml_emit_held.specs.Judged.{let_out, unless, laid, refused_at, due_in, due_of, shape_of, refusal_among, text_among, refusal_from, refusal_behind, LetsOut, first_wrong, LaysAll, take_memory}
 use Rattle.yaml_emit_held.specs.Laying.{LaysEvents}
 use Rattle.yaml_emit_held.proofs.Opening.{opens_none}
 use Rattle.yaml_emit_held.proofs.Holding.{ready_empty, none_needed}
@@ -168,24 +168,26 @@ first_out : (e : Event) (es : List Event) → is_ready (e ∷ es) ≡ true → l
 unfolding let_out
 first_out e es r = rw r refl
 
-first_step : (canonical : Bool) (h : Progress) (e : Event) (es : List Event) → is_ready (e ∷ es) ≡ true → first_refusal canonical h (let_out (e ∷ es)) ≡ or_else (problem_in canonical h e) (first_refusal canonical (progress_after h e) (let_out es))
+among_step : (s : Settings) (st new : State) (e : Event) (empty : Bool) (d : Cursor) (es : List Event) (p : Option Problem) → p ≡ problem_at s st e → refused_at st.place ≡ None
+    → new ≡ next_state p st (next s st e empty d) → refusal_among s.canonical new es ≡ refusal_among s.canonical st (e ∷ es)
 unfolding first_refusal
-first_step canonical h e es r = ap (first_refusal canonical h) (first_out e es r)
+among_step s st new e empty d es None pe o same =
+    let right : problem_in s.canonical (shape_of st) e ≡ None = sym (same_problem s st e) ∙ sym pe in
+    let front : refusal_among s.canonical st (e ∷ es) ≡ first_refusal s.canonical (progress_after (shape_of st) e) es =
+    or_none (refused_at st.place) _ o ∙ or_none _ _ right in
+    let back : refusal_among s.canonical (next s st e empty d) es ≡ first_refusal s.canonical (progress_after (shape_of st) e) es =
+    or_none _ _ (open_next s st e empty d o) ∙ ap (λ z. first_refusal s.canonical z es) (shape_next s st e empty d) in
+    ap (λ z. refusal_among s.canonical z es) same ∙ (back ∙ sym front)
+among_step s st new e empty d es (Some x) pe o same =
+    let wrong : problem_in s.canonical (shape_of st) e ≡ Some x = sym (same_problem s st e) ∙ sym pe in
+    let front : refusal_among s.canonical st (e ∷ es) ≡ Some x =
+    or_none (refused_at st.place) _ o ∙ or_some _ _ x wrong in
+    ap (λ z. refusal_among s.canonical z es) same ∙ sym front
 
 refusal_step : (s : Settings) (st new : State) (e : Event) (empty : Bool) (d : Cursor) (es : List Event) (p : Option Problem) → p ≡ problem_at s st e → refused_at st.place ≡ None → is_ready (e ∷ es) ≡ true
     → new ≡ next_state p st (next s st e empty d) → refusal_from s.canonical new es ≡ refusal_from s.canonical st (e ∷ es)
-refusal_step s st new e empty d es None pe o r same =
-    let right : problem_in s.canonical (shape_of st) e ≡ None = sym (same_problem s st e) ∙ sym pe in
-    let front : refusal_from s.canonical st (e ∷ es) ≡ first_refusal s.canonical (progress_after (shape_of st) e) (let_out es) =
-    or_none (refused_at st.place) _ o ∙ (first_step s.canonical (shape_of st) e es r ∙ or_none _ _ right) in
-    let back : refusal_from s.canonical (next s st e empty d) es ≡ first_refusal s.canonical (progress_after (shape_of st) e) (let_out es) =
-    or_none _ _ (open_next s st e empty d o) ∙ ap (λ z. first_refusal s.canonical z (let_out es)) (shape_next s st e empty d) in
-    ap (λ z. refusal_from s.canonical z es) same ∙ (back ∙ sym front)
-refusal_step s st new e empty d es (Some x) pe o r same =
-    let wrong : problem_in s.canonical (shape_of st) e ≡ Some x = sym (same_problem s st e) ∙ sym pe in
-    let front : refusal_from s.canonical st (e ∷ es) ≡ Some x =
-    or_none (refused_at st.place) _ o ∙ (first_step s.canonical (shape_of st) e es r ∙ or_some _ _ x wrong) in
-    ap (λ z. refusal_from s.canonical z es) same ∙ sym front
+refusal_step s st new e empty d es p pe o r same =
+    among_step s st new e empty d (let_out es) p pe o same ∙ ap (λ z. refusal_among s.canonical st z) (sym (first_out e es r))
 
 -- ---- what is written
 
@@ -246,21 +248,17 @@ laid_right : (s : Settings) (st : State) (e : Event) (es : List Event) (c : Curs
 unfolding laid behind
 laid_right s st e es c rest p = unless_none (problem_at s st e) _ c rest p
 
-text_right : (s : Settings) (st : State) (e : Event) (es : List Event) (c : Cursor) (rest : Rest) → refused_at st.place ≡ None → is_ready (e ∷ es) ≡ true → problem_at s st e ≡ None
-    → text_from s st (e ∷ es) c rest ≡ piece s st e (opens_empty e es) c (behind s st e (opens_empty e es) (let_out es) rest)
-text_right s st e es c rest o r p =
-    unless_none (refused_at st.place) _ c rest o
-    ∙ (ap (λ z. laid s st z c rest) (first_out e es r)
-    ∙ (laid_right s st e (let_out es) c rest p ∙ ap (λ b. piece s st e b c (behind s st e b (let_out es) rest)) (empty_out e es)))
+text_right : (s : Settings) (st : State) (e : Event) (es : List Event) (c : Cursor) (rest : Rest) → refused_at st.place ≡ None → problem_at s st e ≡ None
+    → text_among s st (e ∷ es) c rest ≡ piece s st e (opens_empty e es) c (behind s st e (opens_empty e es) es rest)
+text_right s st e es c rest o p = unless_none (refused_at st.place) _ c rest o ∙ laid_right s st e es c rest p
 
 laid_wrong : (s : Settings) (st : State) (e : Event) (es : List Event) (c : Cursor) (rest : Rest) (x : Problem) → problem_at s st e ≡ Some x → laid s st (e ∷ es) c rest ≡ rest c
 unfolding laid
 laid_wrong s st e es c rest x p = unless_some (problem_at s st e) x _ c rest p
 
-text_wrong : (s : Settings) (st : State) (e : Event) (es : List Event) (c : Cursor) (rest : Rest) (x : Problem) → refused_at st.place ≡ None → is_ready (e ∷ es) ≡ true → problem_at s st e ≡ Some x
-    → text_from s st (e ∷ es) c rest ≡ rest c
-text_wrong s st e es c rest x o r p =
-    unless_none (refused_at st.place) _ c rest o ∙ (ap (λ z. laid s st z c rest) (first_out e es r) ∙ laid_wrong s st e (let_out es) c rest x p)
+text_wrong : (s : Settings) (st : State) (e : Event) (es : List Event) (c : Cursor) (rest : Rest) (x : Problem) → refused_at st.place ≡ None → problem_at s st e ≡ Some x
+    → text_among s st (e ∷ es) c rest ≡ rest c
+text_wrong s st e es c rest x o p = unless_none (refused_at st.place) _ c rest o ∙ laid_wrong s st e es c rest x p
 
 same_settings : (old new : Core) → new.settings ≡ old.settings → new.sink.encoding ≡ old.sink.encoding → settings_of new ≡ settings_of old
 same_settings old new e x = rw (e, x) refl
@@ -275,34 +273,42 @@ record Done (old new : Core) (e : Event) (empty : Bool) (p : Option Problem) : T
 done : (old new : Core) (e : Event) (empty : Bool) → LaysOut old new e empty → Done old new e empty (problem_at (settings_of old) (state_of old) e)
 done old new e empty l = record { problem = refl; settings = same_settings old new l.settings l.text.encoding; state = l.state; text = l.text }
 
-text_step : (p : Option Problem) (old new : Core) (e : Event) (es : List Event) (whole : List Item) → refused_at old.place ≡ None → is_ready (e ∷ es) ≡ true → Done old new e (opens_empty e es) p → LetsOut (settings_of old) (state_of old) old.sink (e ∷ es) whole → LetsOut (settings_of new) (state_of new) new.sink es whole
-unfolding LetsOut behind
-text_step None old new e es whole o r l h =
+all_step : (p : Option Problem) (old new : Core) (e : Event) (es : List Event) (whole : List Item) → refused_at old.place ≡ None → Done old new e (opens_empty e es) p → LaysAll (settings_of old) (state_of old) old.sink (e ∷ es) whole → LaysAll (settings_of new) (state_of new) new.sink es whole
+unfolding LaysAll behind
+all_step None old new e es whole o l h =
     let s : Settings = settings_of old in
     let st : State = state_of old in
     let P : List Item → Type 0 = λ t. Ends old.sink t whole in
-    let front = subst P (text_right s st e es old.sink.cursor nothing_more o r l.problem) h in
-    let back : Ends new.sink (behind s st e (opens_empty e es) (let_out es) nothing_more new.sink.cursor) whole = l.text.ends (behind s st e (opens_empty e es) (let_out es) nothing_more) whole front in
+    let front = subst P (text_right s st e es old.sink.cursor nothing_more o l.problem) h in
+    let back : Ends new.sink (behind s st e (opens_empty e es) es nothing_more new.sink.cursor) whole = l.text.ends (behind s st e (opens_empty e es) es nothing_more) whole front in
     status_cases new.sink.status
     (λ g.
     let at : State = next s st e (opens_empty e es) new.sink.cursor in
-    let same : text_from s at es new.sink.cursor nothing_more ≡ behind s st e (opens_empty e es) (let_out es) nothing_more new.sink.cursor = unless_none _ _ _ _ (open_next s st e (opens_empty e es) new.sink.cursor o) in
+    let same : text_among s at es new.sink.cursor nothing_more ≡ behind s st e (opens_empty e es) es nothing_more new.sink.cursor = unless_none _ _ _ _ (open_next s st e (opens_empty e es) new.sink.cursor o) in
     let Q : List Item → Type 0 = λ t. Ends new.sink t whole in
-    let R : State → Type 0 = λ z. Ends new.sink (text_from s z es new.sink.cursor nothing_more) whole in
-    let S : Settings → Type 0 = λ z. Ends new.sink (text_from z (state_of new) es new.sink.cursor nothing_more) whole in
+    let R : State → Type 0 = λ z. Ends new.sink (text_among s z es new.sink.cursor nothing_more) whole in
+    let S : Settings → Type 0 = λ z. Ends new.sink (text_among z (state_of new) es new.sink.cursor nothing_more) whole in
     subst S (sym l.settings) (subst R (sym (l.state g)) (subst Q (sym same) back)))
     (λ n. ends_other new.sink _ _ whole n back)
-text_step (Some x) old new e es whole o r l h =
+all_step (Some x) old new e es whole o l h =
     let s : Settings = settings_of old in
     let st : State = state_of old in
     let P : List Item → Type 0 = λ t. Ends old.sink t whole in
-    let front = subst P (text_wrong s st e es old.sink.cursor nothing_more x o r l.problem) h in
+    let front = subst P (text_wrong s st e es old.sink.cursor nothing_more x o l.problem) h in
     let back : Ends new.sink [] whole = l.text.ends nothing_more whole front in
     status_cases new.sink.status
     (λ g.
-    let R : State → Type 0 = λ z. Ends new.sink (text_from (settings_of new) z es new.sink.cursor nothing_more) whole in
+    let R : State → Type 0 = λ z. Ends new.sink (text_among (settings_of new) z es new.sink.cursor nothing_more) whole in
     subst R (sym (l.state g)) back)
     (λ n. ends_other new.sink _ _ whole n back)
+
+-- the same of those that are let out
+text_step : (old new : Core) (e : Event) (es : List Event) (whole : List Item) → refused_at old.place ≡ None → is_ready (e ∷ es) ≡ true → LaysOut old new e (opens_empty e es) → LetsOut (settings_of old) (state_of old) old.sink (e ∷ es) whole → LetsOut (settings_of new) (state_of new) new.sink es whole
+unfolding LetsOut LaysAll
+text_step old new e es whole o r l h =
+    let R : Bool → Type 0 = λ v. LaysOut old new e v in
+    let P : List Event → Type 0 = λ z. Ends old.sink (text_among (settings_of old) (state_of old) z old.sink.cursor nothing_more) whole in
+    all_step (problem_at (settings_of old) (state_of old) e) old new e (let_out es) whole o (done old new e _ (subst R (sym (empty_out e es)) l)) (subst P (first_out e es r) h)
 
 -- ---- one event after another
 
@@ -311,6 +317,9 @@ lays_none a h = record {
   finishes = λ es whole f. f;
   refuses = λ g es. refl;
   lets_out = λ es whole f. f;
+  first = λ g es. refl;
+  lays = λ es whole f. f;
+  grows = grows_none a.sink.bytes;
   going = λ g. g;
   encoding = refl;
   limit = refl;
@@ -323,6 +332,16 @@ unfolding refusal_behind
 refusal_on b c e es empty o r l g =
     ap (λ (z : Settings). refusal_from z.canonical (state_of c) es) (same_settings b c l.settings l.text.encoding)
     ∙ refusal_step (settings_of b) (state_of b) (state_of c) e empty c.sink.cursor es (problem_at (settings_of b) (state_of b) e) refl o r (l.state g)
+
+pub wrong_on : (b c : Core) (e : Event) (es : List Event) (empty : Bool) → refused_at b.place ≡ None → LaysOut b c e empty → c.sink.status ≡ Going → first_wrong (settings_of c) (state_of c) es ≡ first_wrong (settings_of b) (state_of b) (e ∷ es)
+unfolding first_wrong
+wrong_on b c e es empty o l g =
+    ap (λ (z : Settings). refusal_among z.canonical (state_of c) es) (same_settings b c l.settings l.text.encoding)
+    ∙ among_step (settings_of b) (state_of b) (state_of c) e empty c.sink.cursor es (problem_at (settings_of b) (state_of b) e) refl o (l.state g)
+
+-- an event that is laid out before those behind it are known
+pub lays_first : (b c : Core) (e : Event) (es : List Event) (whole : List Item) → refused_at b.place ≡ None → LaysOut b c e (opens_empty e es) → LaysAll (settings_of b) (state_of b) b.sink (e ∷ es) whole → LaysAll (settings_of c) (state_of c) c.sink es whole
+lays_first b c e es whole o l h = all_step (problem_at (settings_of b) (state_of b) e) b c e es whole o (done b c e _ l) h
 
 -- no event of a list takes memory outside the output
 none_takes : (e : Event) (es : List Event) → take_memory (e ∷ es) ≡ false → (takes_memory e ≡ false) × (take_memory es ≡ false)
@@ -345,7 +364,15 @@ lays_more a b c h x y e empty p same goes r is l =
           let P : List Event → Type 0 = λ z. LetsOut (settings_of b) (state_of b) b.sink (z ++ es) whole in
           let R : Bool → Type 0 = λ v. LaysOut b c e v in
           let l' : LaysOut b c e (opens_empty e (y ++ es)) = subst R (is ∙ sym (ready_empty e y es r')) l in
-          text_step (problem_at (settings_of b) (state_of b) e) b c e (y ++ es) whole o (ready_more e y es r') (done b c e _ l') (subst P same (p.lets_out es whole f));
+          text_step b c e (y ++ es) whole o (ready_more e y es r') l' (subst P same (p.lets_out es whole f));
+      first = λ g es.
+          wrong_on b c e (y ++ es) empty o l g
+          ∙ (ap (λ z. first_wrong (settings_of b) (state_of b) (z ++ es)) (sym same) ∙ p.first (l.text.going g) es);
+      lays = λ es whole f.
+          let P : List Event → Type 0 = λ z. LaysAll (settings_of b) (state_of b) b.sink (z ++ es) whole in
+          let R : Bool → Type 0 = λ v. LaysOut b c e v in
+          lays_first b c e (y ++ es) whole o (subst R (is ∙ sym (ready_empty e y es r')) l) (subst P same (p.lays es whole f));
+      grows = grows_both a.sink.bytes b.sink.bytes c.sink.bytes p.grows l.text.grows;
       going = λ g. p.going (l.text.going g);
       encoding = l.text.encoding ∙ p.encoding;
       limit = l.text.limit ∙ p.limit;

@@ -56,14 +56,21 @@ due_of (l ∷ ls) = due_in l.phase ∷ due_of ls
 abbrev pub shape_of : State → Progress
 shape_of st = record { place = st.place; due = due_of st.levels }
 
--- the first refusal among those that are let out; one that has come stays the first
-abbrev pub refusal_from : Bool → State → List Event → Option Problem
-refusal_from canonical st es = or_else (refused_at st.place)
-    (first_refusal canonical (shape_of st) (let_out es))
+-- the first refusal among these; one that has come stays the first
+abbrev pub refusal_among : Bool → State → List Event → Option Problem
+refusal_among canonical st es = or_else (refused_at st.place)
+    (first_refusal canonical (shape_of st) es)
 
--- what is written for those; behind a refusal nothing
+-- what is written for them; behind a refusal nothing
+abbrev pub text_among : Settings → State → List Event → Layout
+text_among s st es = unless (refused_at st.place) (laid s st es)
+
+-- the same of those that are let out
+abbrev pub refusal_from : Bool → State → List Event → Option Problem
+refusal_from canonical st es = refusal_among canonical st (let_out es)
+
 abbrev pub text_from : Settings → State → List Event → Layout
-text_from s st es = unless (refused_at st.place) (laid s st (let_out es))
+text_from s st es = text_among s st (let_out es)
 
 -- the problem of the first event that is refused, once these are given too
 unfoldable pub refusal_behind : Settings → State → List Event → Option Problem
@@ -72,6 +79,13 @@ refusal_behind s st es = refusal_from s.canonical st es
 -- `whole` is what is written behind that output, once these events are given too
 unfoldable pub LetsOut : Settings → State → Output → List Event → List Item → Type 0
 LetsOut s st o es whole = Ends o (text_from s st es o.cursor nothing_more) whole
+
+-- the same of all these, whether they are let out by then or not
+unfoldable pub first_wrong : Settings → State → List Event → Option Problem
+first_wrong s st es = refusal_among s.canonical st es
+
+unfoldable pub LaysAll : Settings → State → Output → List Event → List Item → Type 0
+LaysAll s st o es whole = Ends o (text_among s st es o.cursor nothing_more) whole
 
 -- laying out some of them may take memory outside the output
 abbrev pub take_memory : List Event → Bool

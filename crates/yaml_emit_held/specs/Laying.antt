@@ -2,14 +2,15 @@
 use Rattle.std.specs.Prelude.{◌≡◌, false, List, ◌++◌}
 use Rattle.yaml_emit_text.specs.declared.Status.TheVariants.{Going}
 use Rattle.yaml_emit_text.specs.Text.{Item}
+use Rattle.yaml_emit_text.specs.Sink.{Grows}
 use Rattle.yaml_emit_layout.specs.Content.{Event}
 use Rattle.yaml_emit_state.specs.declared.Core.{Core}
 use Rattle.yaml_emit_state.specs.Steps.{state_of, settings_of, Notes}
 use Rattle.yaml_emit_state.specs.Finish.{Finishes}
-use Rattle.yaml_emit_held.specs.Judged.{refusal_behind, LetsOut, take_memory}
+use Rattle.yaml_emit_held.specs.Judged.{refusal_behind, LetsOut, first_wrong, LaysAll, take_memory}
 
 -- Of the events `before` those of `after` are left, and the others were laid out. Whatever follows: the whole text is the same,
--- the same event is refused, unless the output has stopped, and the same is written.
+-- the same event is refused, unless the output has stopped, and the same is written; of those that are let out, and of all.
 pub record LaysEvents (old : Core) (before : List Event) (new : Core)
     (after : List Event) : Type 0 where
   pub finishes : (es : List Event) (whole : List Item)
@@ -21,6 +22,14 @@ pub record LaysEvents (old : Core) (before : List Event) (new : Core)
   pub lets_out : (es : List Event) (whole : List Item)
       → LetsOut (settings_of old) (state_of old) old.sink (before ++ es) whole
       → LetsOut (settings_of new) (state_of new) new.sink (after ++ es) whole
+  pub first : new.sink.status ≡ Going → (es : List Event)
+      → first_wrong (settings_of new) (state_of new) (after ++ es)
+      ≡ first_wrong (settings_of old) (state_of old) (before ++ es)
+  pub lays : (es : List Event) (whole : List Item)
+      → LaysAll (settings_of old) (state_of old) old.sink (before ++ es) whole
+      → LaysAll (settings_of new) (state_of new) new.sink (after ++ es) whole
+  -- nothing that was written is taken back
+  pub grows : Grows old.sink.bytes new.sink.bytes
   -- an output that has stopped stays stopped
   pub going : new.sink.status ≡ Going → old.sink.status ≡ Going
   pub encoding : new.sink.encoding ≡ old.sink.encoding

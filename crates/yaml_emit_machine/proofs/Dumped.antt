@@ -21,10 +21,10 @@ use Rattle.yaml_emit_state.proofs.Noting.{notes_starved}
 use Rattle.yaml_emit_graph.specs.Graph.{dumped}
 use Rattle.yaml_emit_machine.specs.declared.emitter.yaml_emitter_t.TheInside.{Inside}
 use Rattle.yaml_emit_held.specs.Held.{held_events}
-use Rattle.yaml_emit_held.specs.Judged.{text_from, LetsOut}
+use Rattle.yaml_emit_held.specs.Judged.{text_among, LetsOut, LaysAll, let_out}
 use Rattle.yaml_emit_machine.specs.Emitter.{Emitter, CompletesBy, Completes, left_if, opening_events, closing_events, dump_events, document_events_by, document_events}
 use Rattle.yaml_emit_machine.specs.Views.{emitter_of}
-use Rattle.yaml_emit_machine.specs.Verdict.{WritesBy, Writes}
+use Rattle.yaml_emit_machine.specs.Verdict.{WritesBy, Writes, LaysBy, Lays}
 use Rattle.yaml_emit_machine.specs.Taking.{TakesEvents, Stuck, NotesMemory, NotesMemoryOf}
 use Rattle.yaml_emit_machine.specs.Dumping.{opening_event}
 use Rattle.yaml_emit_machine.proofs.Viewing.{seen}
@@ -79,11 +79,24 @@ starved_completes i core fault x xs ys whole a s c =
     let k = subst P a c in
     subst Q (sym a) ((s.text stay).encoding ∙ k.0, starved_finishes i.core core _ _ whole s k.1)
 
+starved_all : (old new : Core) (xs ys : List Event) (whole : List Item) → Starves old new → LaysAll (settings_of old) (state_of old) old.sink xs whole → LaysAll (settings_of new) (state_of new) new.sink ys whole
+unfolding LaysAll
+starved_all old new xs ys whole s h =
+    let before : Layout = λ c rest. text_among (settings_of old) (state_of old) xs c nothing_more in
+    (s.text before).ends (λ c. text_among (settings_of new) (state_of new) ys c nothing_more) whole h
+
 starved_lets_out : (old new : Core) (xs ys : List Event) (whole : List Item) → Starves old new → LetsOut (settings_of old) (state_of old) old.sink xs whole → LetsOut (settings_of new) (state_of new) new.sink ys whole
-unfolding LetsOut
-starved_lets_out old new xs ys whole s h =
-    let before : Layout = λ c rest. text_from (settings_of old) (state_of old) xs c nothing_more in
-    (s.text before).ends (λ c. text_from (settings_of new) (state_of new) ys c nothing_more) whole h
+unfolding LetsOut LaysAll
+starved_lets_out old new xs ys whole s h = starved_all old new (let_out xs) (let_out ys) whole s h
+
+starved_lays : (i : Inside) (core : Core) (fault : Option Fault) (x : Encoding) (xs ys : List Event) (whole : List Item) → i.fresh ≡ false → Starves i.core core
+    → Lays (emitter_of i) x xs whole → Lays (seen i.requested_settings core (held_events i.held) i.fresh i.opened i.closed fault) x ys whole
+unfolding Lays
+starved_lays i core fault x xs ys whole a s c =
+    let P : Bool → Type 0 = λ z. LaysBy z (emitter_of i) x xs whole in
+    let Q : Bool → Type 0 = λ z. LaysBy z (seen i.requested_settings core (held_events i.held) i.fresh i.opened i.closed fault) x ys whole in
+    let k = subst P a c in
+    subst Q (sym a) ((s.text stay).encoding ∙ k.0, starved_all i.core core _ _ whole s k.1)
 
 starved_writes : (i : Inside) (core : Core) (fault : Option Fault) (x : Encoding) (xs ys : List Event) (whole : List Item) → i.fresh ≡ false → Starves i.core core
     → Writes (emitter_of i) x xs whole → Writes (seen i.requested_settings core (held_events i.held) i.fresh i.opened i.closed fault) x ys whole
@@ -101,6 +114,9 @@ inside_starves i core fault es fr s = record {
   completes = λ x more whole h. starved_completes i core fault x (es ++ more) more whole fr s h;
   refuses = λ g more. absurd (s.stopped g);
   writes = λ x more whole h. starved_writes i core fault x (es ++ more) more whole fr s h;
+  first = λ g more. absurd (s.stopped g);
+  lays = λ x more whole h. starved_lays i core fault x (es ++ more) more whole fr s h;
+  grows = (s.text stay).grows;
   going = λ g. absurd (s.stopped g);
   requested_settings = refl;
   limit = (s.text stay).limit;

@@ -1,5 +1,5 @@
 -- An event that is laid out before those behind it are known: in canonical form the text is the same.
-use Rattle.std.proofs.Common.{◌≡◌, List, [], ◌∷◌, ◌++◌, Bool, true, false, ◌||◌, refl, sym, subst, ◌∙◌, ap, Option}
+use Rattle.std.proofs.Common.{◌≡◌, List, [], ◌∷◌, ◌++◌, Bool, true, false, ◌||◌, refl, sym, subst, ◌∙◌, ap, Option, None}
 use Rattle.yaml_scan_model.specs.Faults.{Fault}
 use Rattle.yaml_emit_text.specs.declared.Cursor.{Cursor}
 use Rattle.yaml_emit_text.specs.declared.Settings.{Settings}
@@ -14,13 +14,15 @@ use Rattle.yaml_emit_state.specs.Steps.{state_of, settings_of, next_state, next_
 use Rattle.yaml_emit_state.specs.Finish.{Finishes}
 use Rattle.yaml_emit_state.proofs.Finishing.{finishes_on}
 use Rattle.yaml_emit_held.specs.Held.{held_events}
-use Rattle.yaml_emit_held.specs.Judged.{take_memory}
+use Rattle.yaml_emit_held.specs.Judged.{refused_at, first_wrong, LaysAll, take_memory}
+use Rattle.yaml_emit_held.proofs.Judging.{wrong_on, lays_first}
 use Rattle.yaml_emit_machine.specs.declared.emitter.yaml_emitter_t.TheInside.{Inside}
 use Rattle.yaml_emit_machine.specs.Emitter.{Emitter}
 use Rattle.yaml_emit_machine.specs.Views.{emitter_of}
 use Rattle.yaml_emit_machine.specs.Taking.{GivesText, LaysAtOnce, NotesMemoryOf}
 use Rattle.yaml_emit_machine.proofs.Viewing.{seen}
 use Rattle.yaml_emit_machine.proofs.Emitting.{lay_completes}
+use Rattle.yaml_emit_machine.proofs.Taking.{lay_wrong, lay_lays}
 
 -- the settings in force, in that form
 abbrev formed : Core → Bool → Settings
@@ -74,15 +76,23 @@ lays_either old new e empty h l =
       memory = l.memory;
     }
 
-pub inside_gives : (i : Inside) (core : Core) (fault : Option Fault) (e : Event) → LaysAtOnce (emitter_of i) → LaysOut i.core core e false
+pub inside_gives : (i : Inside) (core : Core) (fault : Option Fault) (e : Event) → refused_at i.core.place ≡ None → LaysAtOnce (emitter_of i) → LaysOut i.core core e false
     → GivesText (emitter_of i) e (seen i.requested_settings core (held_events i.held) i.fresh i.opened i.closed fault)
-inside_gives i core fault e once l =
+inside_gives i core fault e o once l =
     let new : Emitter = seen i.requested_settings core (held_events i.held) i.fresh i.opened i.closed fault in
     record {
       completes = λ x more whole c.
           let P : List Event → Type 0 = λ z. Finishes (settings_of core) (state_of core) core.sink (z ++ more) whole in
           lay_completes (emitter_of i) new e [] x more whole once.begun once.begun (sym once.none)
           (λ f. subst P (sym once.none) (finishes_on i.core core e more whole (lays_either i.core core e (opens_empty e more) once.form l) f)) l.text.encoding c;
+      first = λ g more.
+          let P : List Event → Type 0 = λ z. first_wrong (settings_of core) (state_of core) (z ++ more) ≡ first_wrong (settings_of i.core) (state_of i.core) (e ∷ more) in
+          lay_wrong (emitter_of i) new e [] more once.begun once.begun (sym once.none) (subst P (sym once.none) (wrong_on i.core core e more false o l g));
+      lays = λ x more whole c.
+          let P : List Event → Type 0 = λ z. LaysAll (settings_of core) (state_of core) core.sink (z ++ more) whole in
+          lay_lays (emitter_of i) new e [] x more whole once.begun once.begun (sym once.none)
+          (λ f. subst P (sym once.none) (lays_first i.core core e more whole o (lays_either i.core core e (opens_empty e more) once.form l) f)) l.text.encoding c;
+      grows = l.text.grows;
       requested_settings = refl;
       limit = l.text.limit;
     }

@@ -10,6 +10,7 @@ use Rattle.yaml_emit_text.specs.Text.{Item, encode, is_deep}
 use Rattle.yaml_emit_text.specs.Settings.{settled}
 use Rattle.yaml_emit_text.specs.Sink.{Output, Ends, EndsBy}
 use Rattle.yaml_emit_text.specs.Layout.{written}
+use Rattle.yaml_emit_text.proofs.Sinks.{deep_written}
 use Rattle.yaml_emit_layout.specs.declared.Problem.{Problem}
 use Rattle.yaml_emit_layout.specs.declared.Expected.{Expected}
 use Rattle.yaml_emit_layout.specs.declared.Expected.TheVariants as at
@@ -108,7 +109,7 @@ begin_completes old core held opened closed fault e x es whole a none f c =
 written_by : (s : Status) (limit : ℕ) (x : Encoding) (bytes : List ℕ) (text whole : List Item) → EndsBy s limit x bytes text whole → HasWritten s limit bytes (encode x whole) (is_deep whole)
 written_by Going limit x bytes text whole h = (encode x text, h.0)
 written_by Full limit x bytes text whole h = h
-written_by Deep limit x bytes text whole h = h
+written_by Deep limit x bytes text whole h = (h.0, deep_written x bytes whole h.1)
 written_by Starved limit x bytes text whole h = h
 
 ends_written : (s : Status) (o : Output) (text whole : List Item) → s ≡ o.status → Ends o text whole → HasWritten s o.limit o.bytes (encode o.encoding whole) (is_deep whole)

@@ -11,7 +11,7 @@ use Rattle.yaml_emit_text.specs.Text.{Item}
 use Rattle.yaml_emit_text.specs.Settings.{settled}
 use Rattle.yaml_emit_text.specs.Layout.{nothing_more, written}
 use Rattle.yaml_emit_text.specs.Sink.{Output, Ends, EndsBy}
-use Rattle.yaml_emit_text.proofs.Sinks.{ends_other, status_cases}
+use Rattle.yaml_emit_text.proofs.Sinks.{grows_none, grows_both, grows_same, ends_other, status_cases}
 use Rattle.yaml_emit_layout.specs.declared.Problem.{Problem}
 use Rattle.yaml_emit_layout.specs.declared.Expected.TheVariants as at
 use Rattle.yaml_emit_layout.specs.Content.{Event}
@@ -23,14 +23,14 @@ use Rattle.yaml_emit_held.specs.Held.{held_events}
 use Rattle.yaml_emit_held.specs.declared.Held.{Held}
 use Rattle.yaml_emit_machine.specs.declared.emitter.yaml_emitter_t.TheInside.{Inside}
 use Rattle.yaml_emit_layout.specs.Progress.{first_progress, first_refusal}
-use Rattle.yaml_emit_held.specs.Judged.{let_out, laid, refused_at, refusal_from, text_from, refusal_behind, LetsOut, take_memory}
+use Rattle.yaml_emit_held.specs.Judged.{let_out, laid, refused_at, refusal_among, text_among, refusal_behind, LetsOut, first_wrong, LaysAll, take_memory}
 use Rattle.yaml_emit_held.specs.Laying.{LaysEvents}
 use Rattle.yaml_emit_machine.specs.Emitter.{Emitter, text_of, fault_by, refusal_by, stop_of, stream_encoding, CompletesBy, Completes}
 use Rattle.yaml_emit_machine.specs.Views.{emitter_of, IsEmitter}
-use Rattle.yaml_emit_machine.specs.Verdict.{verdict_by, verdict, IsLetOut, WritesBy, Writes, TellsOutcome}
+use Rattle.yaml_emit_machine.specs.Verdict.{verdict_by, verdict, IsLetOut, WritesBy, Writes, wrong_by, wrong, IsLaid, LaysBy, Lays, TellsOutcome}
 use Rattle.yaml_emit_machine.specs.Taking.{TakesEvents, Stuck, NotesMemory, NotesMemoryOf, ComesIntoForce}
 use Rattle.yaml_emit_machine.proofs.Viewing.{seen}
-use Rattle.yaml_emit_held.proofs.Judging.{or_some, unless_some}
+use Rattle.yaml_emit_held.proofs.Judging.{going_open, or_some, unless_some}
 use Rattle.yaml_emit_machine.proofs.Emitting.{not_true, refusal_none, goes_going, stopped_completes, lay_completes, begin_completes}
 
 -- ---- one call behind another
@@ -41,6 +41,9 @@ takes_none e es = record {
   completes = λ x more whole h. h;
   refuses = λ g more. refl;
   writes = λ x more whole h. h;
+  first = λ g more. refl;
+  lays = λ x more whole h. h;
+  grows = grows_none e.output;
   going = λ g. g;
   requested_settings = refl;
   limit = refl;
@@ -52,6 +55,9 @@ takes_on a b c es fs gs p q = record {
   completes = λ x more whole h. q.completes x more whole (p.completes x more whole h);
   refuses = λ g more. q.refuses g more ∙ p.refuses (q.going g) more;
   writes = λ x more whole h. q.writes x more whole (p.writes x more whole h);
+  first = λ g more. q.first g more ∙ p.first (q.going g) more;
+  lays = λ x more whole h. q.lays x more whole (p.lays x more whole h);
+  grows = grows_both a.output b.output c.output p.grows q.grows;
   going = λ g. p.going (q.going g);
   requested_settings = q.requested_settings ∙ p.requested_settings;
   limit = q.limit ∙ p.limit;
@@ -68,6 +74,9 @@ takes_first old new e es t = record {
   completes = λ x more whole h. t.completes x (es ++ more) whole h;
   refuses = λ g more. t.refuses g (es ++ more);
   writes = λ x more whole h. t.writes x (es ++ more) whole h;
+  first = λ g more. t.first g (es ++ more);
+  lays = λ x more whole h. t.lays x (es ++ more) whole h;
+  grows = t.grows;
   going = t.going;
   requested_settings = t.requested_settings;
   limit = t.limit;
@@ -110,6 +119,24 @@ lay_writes old new e h x es whole a b same on coded c =
     let move : old.held ++ (e ∷ es) ≡ (h ++ e ∷ []) ++ es = ap (λ z. z ++ (e ∷ es)) (sym same) ∙ sym (append_assoc h (e ∷ []) es) in
     subst Q (sym b) (coded ∙ k.0, on (subst R move k.1))
 
+pub lay_wrong : (old new : Emitter) (e : Event) (h es : List Event) → old.fresh ≡ false → new.fresh ≡ false → h ≡ old.held
+    → first_wrong new.settings new.state (new.held ++ es) ≡ first_wrong old.settings old.state ((h ++ e ∷ []) ++ es) → wrong new es ≡ wrong old (e ∷ es)
+unfolding wrong
+lay_wrong old new e h es a b same j =
+    let move : old.held ++ (e ∷ es) ≡ (h ++ e ∷ []) ++ es = ap (λ z. z ++ (e ∷ es)) (sym same) ∙ sym (append_assoc h (e ∷ []) es) in
+    ap (λ z. wrong_by z new es) b ∙ (j ∙ (ap (first_wrong old.settings old.state) (sym move) ∙ sym (ap (λ z. wrong_by z old (e ∷ es)) a)))
+
+pub lay_lays : (old new : Emitter) (e : Event) (h : List Event) (x : Encoding) (es : List Event) (whole : List Item) → old.fresh ≡ false → new.fresh ≡ false → h ≡ old.held
+    → (LaysAll old.settings old.state (text_of old) ((h ++ e ∷ []) ++ es) whole → LaysAll new.settings new.state (text_of new) (new.held ++ es) whole) → new.settings.encoding ≡ old.settings.encoding → Lays old x (e ∷ es) whole → Lays new x es whole
+unfolding Lays
+lay_lays old new e h x es whole a b same on coded c =
+    let P : Bool → Type 0 = λ z. LaysBy z old x (e ∷ es) whole in
+    let Q : Bool → Type 0 = λ z. LaysBy z new x es whole in
+    let k = subst P a c in
+    let R : List Event → Type 0 = λ t. LaysAll old.settings old.state (text_of old) t whole in
+    let move : old.held ++ (e ∷ es) ≡ (h ++ e ∷ []) ++ es = ap (λ z. z ++ (e ∷ es)) (sym same) ∙ sym (append_assoc h (e ∷ []) es) in
+    subst Q (sym b) (coded ∙ k.0, on (subst R move k.1))
+
 pub inside_takes : (i : Inside) (core : Core) (h held : Held) (fault : Option Fault) (e : Event) → i.fresh ≡ false → i.core.sink.status ≡ Going → h ≡ i.held → LaysEvents i.core (held_events h ++ e ∷ []) core (held_events held)
     → TakesEvents (emitter_of i) (e ∷ []) (seen i.requested_settings core (held_events held) i.fresh i.opened i.closed fault) []
 inside_takes i core h held fault e fr on same l =
@@ -118,6 +145,9 @@ inside_takes i core h held fault e fr on same l =
       completes = λ x es whole c. lay_completes (emitter_of i) new e (held_events h) x es whole fr fr (ap held_events same) (l.finishes es whole) l.encoding c;
       refuses = λ g es. lay_refuses (emitter_of i) new e (held_events h) es fr fr (ap held_events same) (l.refuses g es);
       writes = λ x es whole c. lay_writes (emitter_of i) new e (held_events h) x es whole fr fr (ap held_events same) (l.lets_out es whole) l.encoding c;
+      first = λ g es. lay_wrong (emitter_of i) new e (held_events h) es fr fr (ap held_events same) (l.first g es);
+      lays = λ x es whole c. lay_lays (emitter_of i) new e (held_events h) x es whole fr fr (ap held_events same) (l.lays es whole) l.encoding c;
+      grows = l.grows;
       going = λ _. on;
       requested_settings = refl;
       limit = l.limit;
@@ -136,28 +166,59 @@ pub inside_going : (i : Inside) → IsEmitter i → option_map fault_of i.fault 
 inside_going i inv none =
     goes_going i.core.sink.status i.core.place (refusal_none i.core.place i.core.sink.status i.core.starved (sym inv.faulty ∙ none))
 
+-- and no event was refused
+pub inside_open : (i : Inside) → IsEmitter i → option_map fault_of i.fault ≡ None → refused_at i.core.place ≡ None
+inside_open i inv none =
+    going_open i.core.sink.status i.core.place (refusal_none i.core.place i.core.sink.status i.core.starved (sym inv.faulty ∙ none))
+
 -- ---- the settings came into force
 
+fresh_wrong : (core : Core) (s : Settings) (es : List Event) → IsFresh core s → first_wrong (settings_of core) (state_of core) es ≡ first_refusal s.canonical first_progress es
+unfolding first_wrong
+fresh_wrong core s es f =
+    ap (λ (z : Settings). refusal_among z.canonical (state_of core) es) f.settings ∙ ap (λ (z : State). refusal_among s.canonical z es) f.state
+
 fresh_refuses : (core : Core) (s : Settings) (es : List Event) → IsFresh core s → refusal_behind (settings_of core) (state_of core) es ≡ first_refusal s.canonical first_progress (let_out es)
-unfolding refusal_behind
-fresh_refuses core s es f =
-    ap (λ (z : Settings). refusal_from z.canonical (state_of core) es) f.settings ∙ ap (λ (z : State). refusal_from s.canonical z es) f.state
+unfolding refusal_behind first_wrong
+fresh_refuses core s es f = fresh_wrong core s (let_out es) f
 
 ends_fresh : (o : Output) (t : List Item) → o.bytes ≡ [] → o.status ≡ Going → Ends o t t
 unfolding Ends
 ends_fresh o t b g =
     let P : Status → Type 0 = λ z. EndsBy z o.limit o.encoding o.bytes t t in
-    subst P (sym g) (rw b refl, (rw b (omega arith), refl))
+    subst P (sym g) (rw b refl, (rw b (omega arith), (refl, rw b refl)))
 
-fresh_lets_out : (core : Core) (s : Settings) (es : List Event) → IsFresh core s → LetsOut (settings_of core) (state_of core) core.sink es (written (laid s (placed at.StreamStart) (let_out es)))
-unfolding LetsOut
-fresh_lets_out core s es f =
-    let text : List Item = text_from (settings_of core) (state_of core) es core.sink.cursor nothing_more in
-    let same : text ≡ written (laid s (placed at.StreamStart) (let_out es)) =
-    ap (λ (z : Settings). text_from z (state_of core) es core.sink.cursor nothing_more) f.settings
-    ∙ (ap (λ (z : State). text_from s z es core.sink.cursor nothing_more) f.state ∙ ap (λ (z : Cursor). laid s (placed at.StreamStart) (let_out es) z nothing_more) f.cursor) in
+fresh_lays : (core : Core) (s : Settings) (es : List Event) → IsFresh core s → LaysAll (settings_of core) (state_of core) core.sink es (written (laid s (placed at.StreamStart) es))
+unfolding LaysAll
+fresh_lays core s es f =
+    let text : List Item = text_among (settings_of core) (state_of core) es core.sink.cursor nothing_more in
+    let same : text ≡ written (laid s (placed at.StreamStart) es) =
+    ap (λ (z : Settings). text_among z (state_of core) es core.sink.cursor nothing_more) f.settings
+    ∙ (ap (λ (z : State). text_among s z es core.sink.cursor nothing_more) f.state ∙ ap (λ (z : Cursor). laid s (placed at.StreamStart) es z nothing_more) f.cursor) in
     let P : List Item → Type 0 = λ t. Ends core.sink text t in
     subst P same (ends_fresh core.sink text f.output f.status)
+
+fresh_lets_out : (core : Core) (s : Settings) (es : List Event) → IsFresh core s → LetsOut (settings_of core) (state_of core) core.sink es (written (laid s (placed at.StreamStart) (let_out es)))
+unfolding LetsOut LaysAll
+fresh_lets_out core s es f = fresh_lays core s (let_out es) f
+
+begin_wrong : (old : Emitter) (core : Core) (held : List Event) (opened closed : Bool) (fault : Option Fault) (e : Event) (es : List Event) → old.fresh ≡ true → held ≡ []
+    → IsFresh core (settled old.requested_settings (stream_encoding e)) → wrong (seen old.requested_settings core held false opened closed fault) (e ∷ es) ≡ wrong old (e ∷ es)
+unfolding wrong
+begin_wrong old core held opened closed fault e es a none f =
+    ap (λ z. first_wrong (settings_of core) (state_of core) (z ++ (e ∷ es))) none
+    ∙ (fresh_wrong core (settled old.requested_settings (stream_encoding e)) (e ∷ es) f ∙ sym (ap (λ z. wrong_by z old (e ∷ es)) a))
+
+begin_lays : (old : Emitter) (core : Core) (held : List Event) (opened closed : Bool) (fault : Option Fault) (e : Event) (x : Encoding) (es : List Event) (whole : List Item) → old.fresh ≡ true → held ≡ []
+    → IsFresh core (settled old.requested_settings (stream_encoding e)) → Lays old x (e ∷ es) whole → Lays (seen old.requested_settings core held false opened closed fault) x (e ∷ es) whole
+unfolding Lays
+begin_lays old core held opened closed fault e x es whole a none f c =
+    let P : Bool → Type 0 = λ z. LaysBy z old x (e ∷ es) whole in
+    let s : Settings = settled old.requested_settings (stream_encoding e) in
+    let k : IsLaid old.requested_settings x (e ∷ es) whole = subst P a c in
+    let R : List Event → Type 0 = λ t. LaysAll (settings_of core) (state_of core) core.sink (t ++ (e ∷ es)) (written (laid s (placed at.StreamStart) (e ∷ es))) in
+    let S : List Item → Type 0 = λ t. LaysAll (settings_of core) (state_of core) core.sink (held ++ (e ∷ es)) t in
+    (ap (λ (z : Settings). z.encoding) f.settings ∙ sym k.coded, subst S (sym k.is) (subst R (sym none) (fresh_lays core s (e ∷ es) f)))
 
 begin_refuses : (old : Emitter) (core : Core) (held : List Event) (opened closed : Bool) (fault : Option Fault) (e : Event) (es : List Event) → old.fresh ≡ true → held ≡ []
     → IsFresh core (settled old.requested_settings (stream_encoding e)) → verdict (seen old.requested_settings core held false opened closed fault) (e ∷ es) ≡ verdict old (e ∷ es)
@@ -189,6 +250,9 @@ inside_begins i core e s z inv fr a b f most =
         completes = λ x es whole c. begin_completes (emitter_of i) core (held_events i.held) i.opened i.closed (option_map fault_of i.fault) e x es whole fr (inv.begun fr).0 f' c;
         refuses = λ g es. begin_refuses (emitter_of i) core (held_events i.held) i.opened i.closed (option_map fault_of i.fault) e es fr (inv.begun fr).0 f';
         writes = λ x es whole c. begin_writes (emitter_of i) core (held_events i.held) i.opened i.closed (option_map fault_of i.fault) e x es whole fr (inv.begun fr).0 f' c;
+        first = λ g es. begin_wrong (emitter_of i) core (held_events i.held) i.opened i.closed (option_map fault_of i.fault) e es fr (inv.begun fr).0 f';
+        lays = λ x es whole c. begin_lays (emitter_of i) core (held_events i.held) i.opened i.closed (option_map fault_of i.fault) e x es whole fr (inv.begun fr).0 f' c;
+        grows = grows_same i.core.sink.bytes core.sink.bytes (f.output ∙ sym (inv.begun fr).1.1.0);
         going = λ g. was;
         requested_settings = refl;
         limit = most ∙ sym inv.limited;
@@ -218,21 +282,41 @@ refused_by Full b p f g h = absurd (cc)
 refused_by Deep b p f g h = absurd (cc)
 refused_by Starved b p f g h = absurd (cc)
 
-stuck_refuses : (s : Settings) (st : State) (status : Status) (levels : Bool) (f : Fault) (xs ys : List Event) → refusal_by st.place status levels ≡ Some f → status ≡ Going → refusal_behind s st xs ≡ refusal_behind s st ys
-unfolding refusal_behind
-stuck_refuses s st status levels f xs ys h g =
+stuck_first : (s : Settings) (st : State) (status : Status) (levels : Bool) (f : Fault) (xs ys : List Event) → refusal_by st.place status levels ≡ Some f → status ≡ Going → first_wrong s st xs ≡ first_wrong s st ys
+unfolding first_wrong
+stuck_first s st status levels f xs ys h g =
     let r = refused_by status levels (refused_at st.place) f g h in
     or_some (refused_at st.place) _ r.0 r.1 ∙ sym (or_some (refused_at st.place) _ r.0 r.1)
 
-stuck_lets_out : (s : Settings) (st : State) (o : Output) (levels : Bool) (f : Fault) (xs ys : List Event) (whole : List Item) → refusal_by st.place o.status levels ≡ Some f → LetsOut s st o xs whole → LetsOut s st o ys whole
-unfolding LetsOut
-stuck_lets_out s st o levels f xs ys whole h e =
+stuck_refuses : (s : Settings) (st : State) (status : Status) (levels : Bool) (f : Fault) (xs ys : List Event) → refusal_by st.place status levels ≡ Some f → status ≡ Going → refusal_behind s st xs ≡ refusal_behind s st ys
+unfolding refusal_behind first_wrong
+stuck_refuses s st status levels f xs ys h g = stuck_first s st status levels f (let_out xs) (let_out ys) h g
+
+stuck_all : (s : Settings) (st : State) (o : Output) (levels : Bool) (f : Fault) (xs ys : List Event) (whole : List Item) → refusal_by st.place o.status levels ≡ Some f → LaysAll s st o xs whole → LaysAll s st o ys whole
+unfolding LaysAll
+stuck_all s st o levels f xs ys whole h e =
     status_cases o.status
     (λ g.
     let r = refused_by o.status levels (refused_at st.place) f g h in
     let P : List Item → Type 0 = λ t. Ends o t whole in
     subst P (unless_some (refused_at st.place) r.0 _ _ _ r.1 ∙ sym (unless_some (refused_at st.place) r.0 _ _ _ r.1)) e)
     (λ n. ends_other o _ _ whole n e)
+
+stuck_lets_out : (s : Settings) (st : State) (o : Output) (levels : Bool) (f : Fault) (xs ys : List Event) (whole : List Item) → refusal_by st.place o.status levels ≡ Some f → LetsOut s st o xs whole → LetsOut s st o ys whole
+unfolding LetsOut LaysAll
+stuck_lets_out s st o levels f xs ys whole h e = stuck_all s st o levels f (let_out xs) (let_out ys) whole h e
+
+stuck_wrong : (e : Emitter) (f : Fault) (xs ys : List Event) → e.fresh ≡ false → stop_of e ≡ Some f → e.status ≡ Going → wrong e xs ≡ wrong e ys
+unfolding wrong
+stuck_wrong e f xs ys b h g = ap (λ z. wrong_by z e xs) b ∙ (stuck_first e.settings e.state e.status e.starved f _ _ h g ∙ sym (ap (λ z. wrong_by z e ys) b))
+
+stuck_lays : (e : Emitter) (f : Fault) (x : Encoding) (xs ys : List Event) (whole : List Item) → e.fresh ≡ false → stop_of e ≡ Some f → Lays e x xs whole → Lays e x ys whole
+unfolding Lays
+stuck_lays e f x xs ys whole b h c =
+    let P : Bool → Type 0 = λ z. LaysBy z e x xs whole in
+    let Q : Bool → Type 0 = λ z. LaysBy z e x ys whole in
+    let k = subst P b c in
+    subst Q (sym b) (k.0, stuck_all e.settings e.state (text_of e) e.starved f _ _ whole h k.1)
 
 stuck_verdict : (e : Emitter) (f : Fault) (xs ys : List Event) → e.fresh ≡ false → stop_of e ≡ Some f → e.status ≡ Going → verdict e xs ≡ verdict e ys
 unfolding verdict
@@ -253,6 +337,9 @@ inside_stuck i inv f is = λ es left.
       completes = λ x more whole h. stopped_completes (emitter_of i) f x (es ++ more) (left ++ more) whole fr (sym inv.faulty ∙ is) h;
       refuses = λ g more. stuck_verdict (emitter_of i) f (left ++ more) (es ++ more) fr (sym inv.faulty ∙ is) g;
       writes = λ x more whole h. stuck_writes (emitter_of i) f x (es ++ more) (left ++ more) whole fr (sym inv.faulty ∙ is) h;
+      first = λ g more. stuck_wrong (emitter_of i) f (left ++ more) (es ++ more) fr (sym inv.faulty ∙ is) g;
+      lays = λ x more whole h. stuck_lays (emitter_of i) f x (es ++ more) (left ++ more) whole fr (sym inv.faulty ∙ is) h;
+      grows = grows_none i.core.sink.bytes;
       going = λ g. g;
       requested_settings = refl;
       limit = refl;
@@ -276,16 +363,31 @@ marked_writes : (b : Bool) (e : Emitter) (o k : Bool) (x : Encoding) (es : List 
 marked_writes true e o k x es whole h = h
 marked_writes false e o k x es whole h = h
 
+marked_wrong : (b : Bool) (e : Emitter) (o k : Bool) (es : List Event) → wrong_by b (marked e o k) es ≡ wrong_by b e es
+marked_wrong true e o k es = refl
+marked_wrong false e o k es = refl
+
+marked_lays : (b : Bool) (e : Emitter) (o k : Bool) (x : Encoding) (es : List Event) (whole : List Item) → LaysBy b e x es whole → LaysBy b (marked e o k) x es whole
+marked_lays true e o k x es whole h = h
+marked_lays false e o k x es whole h = h
+
+unmarked_lays : (b : Bool) (e : Emitter) (o k : Bool) (x : Encoding) (es : List Event) (whole : List Item) → LaysBy b (marked e o k) x es whole → LaysBy b e x es whole
+unmarked_lays true e o k x es whole h = h
+unmarked_lays false e o k x es whole h = h
+
 unmarked_writes : (b : Bool) (e : Emitter) (o k : Bool) (x : Encoding) (es : List Event) (whole : List Item) → WritesBy b (marked e o k) x es whole → WritesBy b e x es whole
 unmarked_writes true e o k x es whole h = h
 unmarked_writes false e o k x es whole h = h
 
 takes_as_marked : (old mid : Emitter) (es left : List Event) (o k : Bool) → TakesEvents old es mid left → TakesEvents old es (marked mid o k) left
-unfolding Completes verdict Writes
+unfolding Completes verdict Writes wrong Lays
 takes_as_marked old mid es left o k t = record {
   completes = λ x more whole h. marked_completes mid.fresh mid o k x (left ++ more) whole (t.completes x more whole h);
   refuses = λ g more. marked_verdict mid.fresh mid o k (left ++ more) ∙ t.refuses g more;
   writes = λ x more whole h. marked_writes mid.fresh mid o k x (left ++ more) whole (t.writes x more whole h);
+  first = λ g more. marked_wrong mid.fresh mid o k (left ++ more) ∙ t.first g more;
+  lays = λ x more whole h. marked_lays mid.fresh mid o k x (left ++ more) whole (t.lays x more whole h);
+  grows = t.grows;
   going = t.going;
   requested_settings = t.requested_settings;
   limit = t.limit;
@@ -299,10 +401,13 @@ pub notes_marked : (e : Event) (old mid new : Emitter) (o k : Bool) → new ≡ 
 notes_marked e old mid new o k same m = let P : Emitter → Type 0 = λ z. NotesMemoryOf e old z in subst P (sym same) m
 
 tells_as_marked : (mid : Emitter) (o k : Bool) → TellsOutcome mid → TellsOutcome (marked mid o k)
-unfolding verdict Writes
+unfolding verdict Writes wrong Lays
 tells_as_marked mid o k t = record {
   fault = t.fault ∙ ap (fault_by mid.status mid.starved) (sym (marked_verdict mid.fresh mid o k []));
   output = λ x whole h. t.output x whole (unmarked_writes mid.fresh mid o k x [] whole h);
+  first = λ g p v more. marked_wrong mid.fresh mid o k more ∙ t.first g p (sym (marked_verdict mid.fresh mid o k []) ∙ v) more;
+  front = λ g p v x more whole h. t.front g p (sym (marked_verdict mid.fresh mid o k []) ∙ v) x more whole (unmarked_lays mid.fresh mid o k x more whole h);
+  deep = λ d x whole h. t.deep d x whole (unmarked_writes mid.fresh mid o k x [] whole h);
   memory = t.memory;
 }
 

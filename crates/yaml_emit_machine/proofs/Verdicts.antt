@@ -5,9 +5,10 @@ use Rattle.yaml_emit_text.specs.declared.Encoding.{Encoding}
 use Rattle.yaml_emit_text.specs.declared.Settings.{Settings}
 use Rattle.yaml_emit_text.specs.declared.Status.{Status}
 use Rattle.yaml_emit_text.specs.declared.Status.TheVariants.{Going, Full, Deep, Starved}
-use Rattle.yaml_emit_text.specs.Text.{Item, encode, is_deep}
+use Rattle.yaml_emit_text.specs.Text.{Item, encode, is_deep, shallow}
 use Rattle.yaml_emit_text.specs.Layout.{Rest, nothing_more}
 use Rattle.yaml_emit_text.specs.Sink.{Output, Ends, EndsBy}
+use Rattle.yaml_emit_text.proofs.Sinks.{deep_written}
 use Rattle.yaml_emit_layout.specs.declared.Problem.{Problem}
 use Rattle.yaml_emit_layout.specs.declared.Expected.{Expected}
 use Rattle.yaml_emit_layout.specs.declared.Expected.TheVariants as at
@@ -18,19 +19,20 @@ use Rattle.yaml_emit_state.specs.Steps.{goes_on}
 use Rattle.yaml_emit_held.specs.Held.{held_events, is_ready}
 use Rattle.yaml_emit_machine.specs.declared.emitter.yaml_emitter_t.TheInside.{Inside}
 use Rattle.yaml_emit_layout.specs.Progress.{Progress, first_refusal}
-use Rattle.yaml_emit_held.specs.Judged.{let_out, unless, laid, refused_at, refusal_behind, LetsOut}
+use Rattle.yaml_emit_held.specs.Judged.{let_out, unless, laid, refused_at, refusal_behind, LetsOut, first_wrong, LaysAll}
+use Rattle.yaml_emit_held.proofs.Judging.{or_some, unless_some}
 use Rattle.yaml_emit_machine.specs.Emitter.{Emitter, fault_by, problem_fault}
 use Rattle.yaml_emit_machine.specs.Views.{emitter_of, IsEmitter}
-use Rattle.yaml_emit_machine.specs.Verdict.{verdict_by, verdict, IsLetOut, WritesBy, Writes, HasLetOut, TellsOutcome}
+use Rattle.yaml_emit_machine.specs.Verdict.{verdict_by, verdict, IsLetOut, WritesBy, Writes, wrong_by, wrong, LaysBy, Lays, HasLetOut, TellsOutcome}
 
 let_out_by : (s : Status) (limit : ℕ) (x : Encoding) (bytes : List ℕ) (text whole : List Item) → (s ≡ Going → text ≡ []) → EndsBy s limit x bytes text whole → HasLetOut s limit bytes (encode x whole) (is_deep whole)
 unfolding encode is_deep
 let_out_by Going limit x bytes text whole n h =
     let P : List Item → Type 0 = λ t. EndsBy Going limit x bytes t whole in
     let k : EndsBy Going limit x bytes [] whole = subst P (n refl) h in
-    (sym (k.0 ∙ append-nil bytes), (k.1.0, k.1.1))
+    (sym (k.0 ∙ append-nil bytes), (k.1.0, k.1.1.0))
 let_out_by Full limit x bytes text whole n h = h
-let_out_by Deep limit x bytes text whole n h = h
+let_out_by Deep limit x bytes text whole n h = (h.0, deep_written x bytes whole h.1)
 let_out_by Starved limit x bytes text whole n h = h
 
 ends_let_out : (o : Output) (text whole : List Item) → (o.status ≡ Going → text ≡ []) → Ends o text whole → HasLetOut o.status o.limit o.bytes (encode o.encoding whole) (is_deep whole)
@@ -92,6 +94,46 @@ output_now i x whole inv fr h =
     let R : Encoding → Type 0 = λ z. HasLetOut i.core.sink.status i.core.sink.limit i.core.sink.bytes (encode z whole) (is_deep whole) in
     subst R k.0 (ends_let_out i.core.sink _ whole (λ g. text_now (refused_at i.core.place) _ _ (held_events i.held ++ []) _ (waits_now i inv g)) k.1)
 
+deep_by : (s : Status) (limit : ℕ) (x : Encoding) (bytes : List ℕ) (text whole : List Item) → s ≡ Deep → EndsBy s limit x bytes text whole → bytes ≡ encode x (shallow whole)
+deep_by Deep limit x bytes text whole d h = h.1
+deep_by Going limit x bytes text whole d h = absurd (cc)
+deep_by Full limit x bytes text whole d h = absurd (cc)
+deep_by Starved limit x bytes text whole d h = absurd (cc)
+
+deep_ends : (o : Output) (text whole : List Item) → o.status ≡ Deep → Ends o text whole → o.bytes ≡ encode o.encoding (shallow whole)
+unfolding Ends
+deep_ends o text whole d h = deep_by o.status o.limit o.encoding o.bytes text whole d h
+
+deep_now : (i : Inside) (x : Encoding) (whole : List Item) → i.fresh ≡ false → i.core.sink.status ≡ Deep → Writes (emitter_of i) x [] whole → i.core.sink.bytes ≡ encode x (shallow whole)
+unfolding Writes LetsOut
+deep_now i x whole fr d h =
+    let P : Bool → Type 0 = λ z. WritesBy z (emitter_of i) x [] whole in
+    let k = subst P fr h in
+    let R : Encoding → Type 0 = λ z. i.core.sink.bytes ≡ encode z (shallow whole) in
+    subst R k.0 (deep_ends i.core.sink _ whole d k.1)
+
+-- ---- behind a refused event
+
+refused_first : (i : Inside) (p : Problem) (more : List Event) → i.fresh ≡ false → refused_at i.core.place ≡ Some p → wrong (emitter_of i) more ≡ Some p
+unfolding wrong first_wrong
+refused_first i p more fr r = ap (λ z. wrong_by z (emitter_of i) more) fr ∙ or_some (refused_at i.core.place) _ p r
+
+ends_all : (o : Output) (whole : List Item) → o.status ≡ Going → Ends o [] whole → o.bytes ≡ encode o.encoding whole
+unfolding Ends encode
+ends_all o whole g h =
+    let P : Status → Type 0 = λ z. EndsBy z o.limit o.encoding o.bytes [] whole in
+    let k : EndsBy Going o.limit o.encoding o.bytes [] whole = subst P g h in
+    sym (k.0 ∙ append-nil o.bytes)
+
+refused_front : (i : Inside) (p : Problem) (x : Encoding) (more : List Event) (whole : List Item) → i.fresh ≡ false → i.core.sink.status ≡ Going → refused_at i.core.place ≡ Some p → Lays (emitter_of i) x more whole → i.core.sink.bytes ≡ encode x whole
+unfolding Lays LaysAll
+refused_front i p x more whole fr g r h =
+    let P : Bool → Type 0 = λ z. LaysBy z (emitter_of i) x more whole in
+    let k = subst P fr h in
+    let Q : List Item → Type 0 = λ t. Ends i.core.sink t whole in
+    let R : Encoding → Type 0 = λ z. i.core.sink.bytes ≡ encode z whole in
+    subst R k.0 (ends_all i.core.sink whole g (subst Q (unless_some (refused_at i.core.place) p _ _ _ r) k.1))
+
 first_verdict : (e : Emitter) → e.fresh ≡ true → None ≡ verdict e []
 unfolding verdict first_refusal let_out
 first_verdict e fr = sym (ap (λ z. verdict_by z e []) fr)
@@ -115,17 +157,26 @@ none_refused Starved b p g h = absurd (cc)
 fresh_refused : (i : Inside) → IsEmitter i → i.fresh ≡ true → refused_at i.core.place ≡ None
 fresh_refused i inv fr = let k = inv.begun fr in none_refused i.core.sink.status i.core.starved (refused_at i.core.place) k.1.1.1 (sym k.1.0 ∙ inv.faulty)
 
+none_some : (p : Problem) → None ≡ Some p → ⊥
+none_some p h = cc
+
 tells_by : (b : Bool) (i : Inside) → b ≡ i.fresh → IsEmitter i → TellsOutcome (emitter_of i)
 tells_by true i fr inv =
     let begun = inv.begun (sym fr) in
     record {
       fault = inv.faulty ∙ fault_now i.core.sink.status i.core.starved _ _ (λ g. fresh_refused i inv (sym fr) ∙ first_verdict (emitter_of i) (sym fr));
       output = λ x whole h. first_output (emitter_of i) x whole (sym fr) begun.1.1.0 begun.1.1.1 h;
+      first = λ g p v. absurd (none_some p (first_verdict (emitter_of i) (sym fr) ∙ v));
+      front = λ g p v. absurd (none_some p (first_verdict (emitter_of i) (sym fr) ∙ v));
+      deep = λ d. let g = begun.1.1.1 in absurd (cc);
       memory = inv.memory;
     }
 tells_by false i fr inv = record {
   fault = inv.faulty ∙ fault_now i.core.sink.status i.core.starved _ _ (verdict_now i inv (sym fr));
   output = λ x whole h. output_now i x whole inv (sym fr) h;
+  first = λ g p v more. refused_first i p more (sym fr) (verdict_now i inv (sym fr) g ∙ v);
+  front = λ g p v x more whole h. refused_front i p x more whole (sym fr) g (verdict_now i inv (sym fr) g ∙ v) h;
+  deep = λ d x whole h. deep_now i x whole (sym fr) d h;
   memory = inv.memory;
 }
 

@@ -31,7 +31,7 @@ fits_at Going v st o xs whole same g w f =
     let Q : Status → Type 0 = λ s. EndsBy s o.limit o.encoding o.bytes [] whole in
     let e : EndsBy Going o.limit o.encoding o.bytes [] whole = subst Q (sym same) (subst P last f.ends) in
     let R : List ℕ → Type 0 = λ z. length z ≤ o.limit in
-    record { size = subst R (sym (e.0 ∙ append-nil o.bytes)) e.1.0; columns = e.1.1 }
+    record { size = subst R (sym (e.0 ∙ append-nil o.bytes)) e.1.0; columns = e.1.1.0 }
 fits_at Full v st o xs whole same g w f = absurd (cc)
 fits_at Deep v st o xs whole same g w f = absurd (cc)
 fits_at Starved v st o xs whole same g w f = absurd (cc)

@@ -4,7 +4,8 @@
 -- `Completes` is about the end of a stream: these are all the events to come, nothing is wrong in them, and this is the whole
 -- text.
 -- `verdict` and `Writes` (`Verdict.antt`) are about any events, right or not, and not about an end: once these are given too, this
--- event is the first that is refused, and this is the text up to it.
+-- event is the first that is refused, and this is the text up to it. `wrong` and `Lays` are the same of all events, those that are
+-- held too.
 -- `TakesEvents` (`Taking.antt`) says of a call, by both, which of the events that were to come it took.
 use Rattle.std.specs.Prelude.{◌≡◌, ◌⊎◌, ℕ, ◌<◌, Bool, true, false, List, [], ◌∷◌, ◌++◌, length, take, Option, Some, None, option_map, pos, codes, Result, Ok, Err}
 use Rattle.yaml_scan_model.specs.declared.yaml_encoding_t.{yaml_encoding_t}

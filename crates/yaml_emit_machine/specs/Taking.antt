@@ -3,14 +3,16 @@ use Rattle.std.specs.Prelude.{◌≡◌, Bool, true, false, List, [], ◌∷◌,
 use Rattle.yaml_emit_text.specs.declared.Encoding.{Encoding}
 use Rattle.yaml_emit_text.specs.declared.Status.TheVariants.{Going}
 use Rattle.yaml_emit_text.specs.Text.{Item}
+use Rattle.yaml_emit_text.specs.Sink.{Grows}
 use Rattle.yaml_emit_layout.specs.Content.{Event}
 use Rattle.yaml_emit_state.specs.Steps.{may_note}
 use Rattle.yaml_emit_held.specs.Judged.{take_memory}
 use Rattle.yaml_emit_machine.specs.Emitter.{Emitter, Completes, Keeps}
-use Rattle.yaml_emit_machine.specs.Verdict.{verdict, Writes}
+use Rattle.yaml_emit_machine.specs.Verdict.{verdict, Writes, wrong, Lays}
 
 -- Of the events `es` that were to come those of `left` are still to come, and the others were taken. Whatever follows, they count:
--- the whole text is the same, the same event is refused, unless the output has stopped, and the same is written.
+-- the whole text is the same, the same event is refused, unless the output has stopped, and the same is written, both of those that
+-- are let out and of all. What stood in the output stands there still.
 pub record TakesEvents (old : Emitter) (es : List Event) (new : Emitter)
     (left : List Event) : Type 0 where
   pub completes : (x : Encoding) (more : List Event) (whole : List Item)
@@ -19,6 +21,11 @@ pub record TakesEvents (old : Emitter) (es : List Event) (new : Emitter)
       → verdict new (left ++ more) ≡ verdict old (es ++ more)
   pub writes : (x : Encoding) (more : List Event) (whole : List Item)
       → Writes old x (es ++ more) whole → Writes new x (left ++ more) whole
+  pub first : new.status ≡ Going → (more : List Event)
+      → wrong new (left ++ more) ≡ wrong old (es ++ more)
+  pub lays : (x : Encoding) (more : List Event) (whole : List Item)
+      → Lays old x (es ++ more) whole → Lays new x (left ++ more) whole
+  pub grows : Grows old.output new.output
   -- an output that has stopped stays stopped
   pub going : new.status ≡ Going → old.status ≡ Going
   pub requested_settings : new.requested_settings ≡ old.requested_settings
@@ -26,11 +33,16 @@ pub record TakesEvents (old : Emitter) (es : List Event) (new : Emitter)
   -- one that is still fresh has taken nothing
   pub begun : new.fresh ≡ true → (old.fresh ≡ true) × (left ≡ es)
 
--- An event was given of a stream whose whole text is wanted: that is the same. Which part of it is written by now, and which
--- fault is told, may be that of a later call.
+-- An event was given whose text is wanted as soon as it may be: the whole text is the same, the same event is the first that is
+-- wrong, unless the output has stopped, and the same is written up to it. What stood in the output stands there still. Which part
+-- of the text is written by now, and which fault is told, may be that of a later call.
 pub record GivesText (old : Emitter) (e : Event) (new : Emitter) : Type 0 where
   pub completes : (x : Encoding) (more : List Event) (whole : List Item)
       → Completes old x (e ∷ more) whole → Completes new x more whole
+  pub first : new.status ≡ Going → (more : List Event) → wrong new more ≡ wrong old (e ∷ more)
+  pub lays : (x : Encoding) (more : List Event) (whole : List Item)
+      → Lays old x (e ∷ more) whole → Lays new x more whole
+  pub grows : Grows old.output new.output
   pub requested_settings : new.requested_settings ≡ old.requested_settings
   pub limit : new.limit ≡ old.limit
 

@@ -1,12 +1,12 @@
 -- What an emitter refuses and has written, with the events that follow.
-use Rattle.std.specs.Prelude.{◌≡◌, ℕ, ◌≤◌, Bool, true, false, List, [], ◌∷◌, ◌++◌, length, Option}
+use Rattle.std.specs.Prelude.{◌≡◌, ℕ, ◌≤◌, Bool, true, false, List, [], ◌∷◌, ◌++◌, length, Option, Some}
 use Rattle.yaml_scan_model.specs.declared.yaml_encoding_t.TheVariants.{YAML_ANY_ENCODING}
 use Rattle.yaml_emit_text.specs.declared.Encoding.{Encoding}
 use Rattle.yaml_emit_text.specs.declared.Settings.{Settings}
 use Rattle.yaml_emit_text.specs.declared.Status.{Status}
 use Rattle.yaml_emit_text.specs.declared.Status.TheVariants.{Going, Full, Deep, Starved}
 use Rattle.yaml_emit_text.specs.declared.RequestedSettings.{RequestedSettings}
-use Rattle.yaml_emit_text.specs.Text.{Item, encode, is_deep}
+use Rattle.yaml_emit_text.specs.Text.{Item, encode, is_deep, shallow}
 use Rattle.yaml_emit_text.specs.Layout.{written}
 use Rattle.yaml_emit_text.specs.Settings.{settled}
 use Rattle.yaml_emit_layout.specs.declared.Problem.{Problem}
@@ -14,7 +14,7 @@ use Rattle.yaml_emit_layout.specs.declared.Expected.TheVariants as at
 use Rattle.yaml_emit_layout.specs.Content.{Event}
 use Rattle.yaml_emit_layout.specs.State.{placed}
 use Rattle.yaml_emit_layout.specs.Progress.{first_progress, first_refusal}
-use Rattle.yaml_emit_held.specs.Judged.{let_out, laid, refusal_behind, LetsOut}
+use Rattle.yaml_emit_held.specs.Judged.{let_out, laid, refusal_behind, LetsOut, first_wrong, LaysAll}
 use Rattle.yaml_emit_machine.specs.Emitter.{Emitter, text_of, stream_encoding, fault_by, HasWritten}
 
 abbrev pub verdict_by : Bool → Emitter → List Event → Option Problem
@@ -46,6 +46,31 @@ WritesBy false e x es whole = (e.settings.encoding ≡ x)
 unfoldable pub Writes : Emitter → Encoding → List Event → List Item → Type 0
 Writes e x es whole = WritesBy e.fresh e x es whole
 
+-- ---- of all events, whether they are let out by then or not
+
+abbrev pub wrong_by : Bool → Emitter → List Event → Option Problem
+wrong_by true e es = first_refusal e.requested_settings.canonical first_progress es
+wrong_by false e es = first_wrong e.settings e.state (e.held ++ es)
+
+-- The problem of the first event that is wrong, once these are given too: the one that is refused when all of them are let out.
+unfoldable pub wrong : Emitter → List Event → Option Problem
+wrong e es = wrong_by e.fresh e es
+
+-- a fresh emitter's text, and its encoding
+pub record IsLaid (w : RequestedSettings) (x : Encoding) (es : List Event)
+    (whole : List Item) : Type 0 where
+  pub coded : x ≡ (first_settings w es).encoding
+  pub is : whole ≡ written (laid (first_settings w es) (placed at.StreamStart) es)
+
+abbrev pub LaysBy : Bool → Emitter → Encoding → List Event → List Item → Type 0
+LaysBy true e x es whole = IsLaid e.requested_settings x es whole
+LaysBy false e x es whole = (e.settings.encoding ≡ x)
+    × LaysAll e.settings e.state (text_of e) (e.held ++ es) whole
+
+-- `whole` is what is written when all of them are let out, in that encoding: up to the first one that is wrong.
+unfoldable pub Lays : Emitter → Encoding → List Event → List Item → Type 0
+Lays e x es whole = LaysBy e.fresh e x es whole
+
 -- All of it is in the output, which passes no limit; or the output has stopped there.
 abbrev pub HasLetOut : Status → ℕ → List ℕ → List ℕ → Bool → Type 0
 HasLetOut Going limit output bytes deep = (output ≡ bytes)
@@ -61,4 +86,13 @@ pub record TellsOutcome (e : Emitter) : Type 0 where
   pub fault : e.fault ≡ fault_by e.status e.starved (verdict e [])
   pub output : (x : Encoding) (whole : List Item) → Writes e x [] whole
       → HasLetOut e.status e.limit e.output (encode x whole) (is_deep whole)
+  -- a refused event is the first of all that is wrong, whatever follows, and the output is what stands in front of it
+  pub first : e.status ≡ Going → (p : Problem) → verdict e [] ≡ Some p
+      → (more : List Event) → wrong e more ≡ Some p
+  pub front : e.status ≡ Going → (p : Problem) → verdict e [] ≡ Some p
+      → (x : Encoding) (more : List Event) (whole : List Item) → Lays e x more whole
+      → e.output ≡ encode x whole
+  -- stopped by an indentation that is too deep, it has all in front of the first such place
+  pub deep : e.status ≡ Deep → (x : Encoding) (whole : List Item) → Writes e x [] whole
+      → e.output ≡ encode x (shallow whole)
   pub memory : e.status ≡ Going → e.starved ≡ false

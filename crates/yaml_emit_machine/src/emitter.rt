@@ -298,7 +298,7 @@ pub fn give(emitter: &mut yaml_emitter_t, event: &mut yaml_event_body_t)
 }
 
 /// `give` where the whole text is wanted: in canonical form no event is held, since none behind it decides what is written for
-/// it. So output and fault may come some events earlier.
+/// it. So output and fault may come some events earlier; the fault is that of the same event, and the text that up to it.
 // Out of line: the short way to the layout, beside the general one, and pretty form has none of it.
 #[inline(never)]
 pub fn give_early(emitter: &mut yaml_emitter_t, event: &mut yaml_event_body_t)

@@ -12,11 +12,11 @@ use Rattle.yaml_emit_sink.specs.declared.cursor.Cursor.{Cursor}
 use Rattle.yaml_emit_sink.specs.declared.cursor.Status.{Status}
 use Rattle.yaml_emit_sink.specs.declared.cursor.Status.TheVariants.{Going}
 use Rattle.yaml_emit_sink.specs.declared.settings.Encoding.TheVariants.{Utf8}
-use Rattle.yaml_emit_sink.specs.Text.{letter, encode, char_bytes, is_deep}
+use Rattle.yaml_emit_sink.specs.Text.{letter, encode, char_bytes, is_deep, shallow}
 use Rattle.yaml_emit_sink.specs.Layout.{Rest, ◌▹◌, letters, word}
 use Rattle.yaml_emit_sink.specs.Appends.{AppendsBy, lettered}
 use Rattle.yaml_emit_sink.specs.Sink.{Output, Puts}
-use Rattle.yaml_emit_sink.proofs.Sinks.{puts_run, puts_stroke, puts_nothing, puts_as, puts_both, cond_false}
+use Rattle.yaml_emit_sink.proofs.Sinks.{Leads, puts_run, puts_stroke, puts_nothing, puts_as, puts_both, cond_false}
 
 -- the cursor behind characters
 behind : List ℕ → Cursor → Cursor
@@ -53,11 +53,21 @@ unfolding is_deep letters behind
 letters_deep [] c rest = refl
 letters_deep (x ∷ xs) c rest = letters_deep xs (record { column = c.column + 1; white = false; bare = false; kept = c.kept }) rest
 
+letters_front : (xs : List ℕ) (c : Cursor) (rest : Rest) → IsAscii xs → encode Utf8 (shallow (letters xs c rest)) ≡ xs ++ encode Utf8 (shallow (rest (behind xs c)))
+unfolding encode shallow letters behind
+letters_front [] c rest h = refl
+letters_front (x ∷ xs) c rest h =
+    let d : Cursor = record { column = c.column + 1; white = false; bare = false; kept = c.kept } in
+    ap (λ b. b ++ encode Utf8 (shallow (letters xs d rest))) (one_byte x (first_byte x xs h)) ∙ ap (λ (t : List ℕ). x ∷ t) (letters_front xs d rest (more_bytes x xs h))
+
+letters_lead : (xs : List ℕ) (c : Cursor) (rest : Rest) → IsAscii xs → Leads Utf8 (letters xs c rest) (rest (behind xs c)) xs
+letters_lead xs c rest h = record { all = letters_encode xs c rest h; deep = letters_deep xs c rest; front = letters_front xs c rest h }
+
 pub puts_ascii : (a b : Output) (xs : List ℕ) → IsAscii xs → 0 < length xs → a.status ≡ Going → a.encoding ≡ Utf8 → b.encoding ≡ a.encoding → b.limit ≡ a.limit → AppendsBy b.status a.limit a.bytes b.bytes xs
     → (b.status ≡ Going → b.cursor ≡ lettered (length xs) a.cursor) → Puts a b (letters xs)
 puts_ascii a b [] s p g x e l h k = absurd (omega (arith, p))
 puts_ascii a b (y ∷ ys) s p g x e l h k =
-    puts_run a b (letters (y ∷ ys)) (y ∷ ys) (behind (y ∷ ys)) g e l (λ rest. rw x (letters_encode (y ∷ ys) a.cursor rest s)) (λ rest. letters_deep (y ∷ ys) a.cursor rest) h
+    puts_run a b (letters (y ∷ ys)) (y ∷ ys) (behind (y ∷ ys)) g e l (λ rest. rw x (letters_lead (y ∷ ys) a.cursor rest s)) h
     (λ going. k going ∙ sym (behind_is y ys a.cursor))
 
 -- the same, all of them for certain

@@ -8,11 +8,11 @@ use Rattle.yaml_emit_sink.specs.declared.cursor.Status.TheVariants.{Going}
 use Rattle.yaml_emit_sink.specs.declared.settings.Encoding.TheVariants.{Utf8}
 use Rattle.yaml_emit_sink.specs.declared.settings.LineBreak.{LineBreak}
 use Rattle.yaml_emit_sink.specs.declared.settings.LineBreak.TheVariants.{Lf, Cr, CrLf}
-use Rattle.yaml_emit_sink.specs.Text.{letter, encode, char_bytes, is_deep}
+use Rattle.yaml_emit_sink.specs.Text.{letter, encode, char_bytes, is_deep, shallow}
 use Rattle.yaml_emit_sink.specs.Layout.{Rest, blanks, fresh, line, must_break, indent_to}
 use Rattle.yaml_emit_sink.specs.Appends.{AppendsBy, indented}
 use Rattle.yaml_emit_sink.specs.Sink.{Output, Puts}
-use Rattle.yaml_emit_sink.proofs.Sinks.{puts_as, puts_run, cond_true, cond_false, stepped, stepped_none, stepped_is, blanks_encode, blanks_deep}
+use Rattle.yaml_emit_sink.proofs.Sinks.{puts_as, puts_run, cond_true, cond_false, stepped, stepped_none, stepped_is, Leads, blanks_lead}
 
 -- the cursor at the start of a line
 abbrev home : Cursor → Cursor
@@ -25,19 +25,17 @@ stepped_home (suc n) c =
     let e : 0 + suc n ≡ suc n = omega arith in
     stepped_is n (home c) ∙ ap at e
 
-fresh_encode : (n : ℕ) (c : Cursor) (rest : Rest) → encode Utf8 (fresh Lf n c rest) ≡ (10 ∷ replicate n 32) ++ encode Utf8 (rest (stepped n (home c)))
-unfolding encode char_bytes
-fresh_encode n c rest = ap (λ (t : List ℕ). 10 ∷ t) (blanks_encode n (home c) rest)
-
-fresh_deep : (n : ℕ) (c : Cursor) (rest : Rest) → is_deep (fresh Lf n c rest) ≡ is_deep (rest (stepped n (home c)))
-unfolding is_deep
-fresh_deep n c rest = blanks_deep n (home c) rest
+fresh_lead : (n : ℕ) (c : Cursor) (rest : Rest) → Leads Utf8 (fresh Lf n c rest) (rest (stepped n (home c))) (10 ∷ replicate n 32)
+unfolding encode char_bytes is_deep shallow
+fresh_lead n c rest =
+    let l = blanks_lead n (home c) rest in
+    record { all = ap (λ (t : List ℕ). 10 ∷ t) l.all; deep = l.deep; front = ap (λ (t : List ℕ). 10 ∷ t) l.front }
 
 -- a line feed and spaces of one byte were appended
 pub puts_fresh : (a b : Output) (n : ℕ) → a.status ≡ Going → a.encoding ≡ Utf8 → b.encoding ≡ a.encoding → b.limit ≡ a.limit → AppendsBy b.status a.limit a.bytes b.bytes (10 ∷ replicate n 32) → (b.status ≡ Going → b.cursor ≡ indented n a.cursor)
     → Puts a b (fresh Lf n)
 puts_fresh a b n g x e l h k =
-    puts_run a b (fresh Lf n) (10 ∷ replicate n 32) (λ c. stepped n (home c)) g e l (λ rest. rw x (fresh_encode n a.cursor rest)) (λ rest. fresh_deep n a.cursor rest) h (λ going. k going ∙ sym (stepped_home n a.cursor))
+    puts_run a b (fresh Lf n) (10 ∷ replicate n 32) (λ c. stepped n (home c)) g e l (λ rest. rw x (fresh_lead n a.cursor rest)) h (λ going. k going ∙ sym (stepped_home n a.cursor))
 
 -- the same, all of them for certain
 pub puts_brief : (a b : Output) (n : ℕ) → a.status ≡ Going → a.encoding ≡ Utf8 → b.status ≡ a.status → b.encoding ≡ a.encoding → b.limit ≡ a.limit

@@ -1,16 +1,44 @@
 -- Laws of what an output owes.
 use Rattle.std.proofs.Common.{◌≡◌, ◌≢◌, ℕ, ◌+◌, ◌-◌, ◌<◌, ◌≤◌, List, [], ◌∷◌, ◌++◌, length, drop, get_or, Bool, true, false, cond, refl, sym, subst, ◌∙◌, ap, append_assoc, arith, length-append}
-use Rattle.std.specs.Prelude.{if◌then◌else◌, zero, suc, replicate}
+use Rattle.std.specs.Prelude.{if◌then◌else◌, take, zero, suc, replicate}
 use Rattle.yaml_emit_sink.specs.declared.settings.Encoding.TheVariants.{Utf8}
-use Rattle.std.proofs.lemmas.List.{take-append-drop, take-append-le, drop_more, drop_all}
+use Rattle.std.proofs.lemmas.List.{append-nil, take-append-drop, take-append-le, take-take, drop_more, drop_all}
+use Rattle.std.proofs.Math.Seq.{take-length, take-append_seam}
 use Rattle.yaml_emit_sink.specs.declared.cursor.Cursor.{Cursor}
 use Rattle.yaml_emit_sink.specs.declared.cursor.Status.{Status}
 use Rattle.yaml_emit_sink.specs.declared.cursor.Status.TheVariants.{Going, Full, Deep, Starved}
 use Rattle.yaml_emit_sink.specs.declared.settings.Encoding.{Encoding}
-use Rattle.yaml_emit_sink.specs.Text.{Item, letter, deep, encode, char_bytes, is_deep}
+use Rattle.yaml_emit_sink.specs.Text.{Item, letter, deep, encode, char_bytes, is_deep, shallow}
 use Rattle.yaml_emit_sink.specs.Layout.{Layout, Rest, ◌▹◌, stay, choose, when, char, letters, blank, blanks, too_deep}
 use Rattle.yaml_emit_sink.specs.Appends.{AppendsBy, blanked}
-use Rattle.yaml_emit_sink.specs.Sink.{Output, Ends, EndsBy, Owes, Puts, stroke}
+use Rattle.yaml_emit_sink.specs.Sink.{Output, Grows, Ends, EndsBy, Owes, Puts, stroke}
+
+-- nothing is taken back
+pub grows_none : (xs : List ℕ) → Grows xs xs
+grows_none xs = take-length xs
+
+pub grows_by : (xs ys more : List ℕ) → ys ≡ xs ++ more → Grows xs ys
+grows_by xs ys more e = ap (take (length xs)) e ∙ take-append_seam xs more
+
+pub grows_same : (xs ys : List ℕ) → ys ≡ xs → Grows xs ys
+grows_same xs ys e = ap (take (length xs)) e ∙ take-length xs
+
+-- what came
+pub grows_rest : (xs ys : List ℕ) → Grows xs ys → ys ≡ xs ++ drop (length xs) ys
+grows_rest xs ys g = sym (take-append-drop (length xs) ys) ∙ ap (λ (t : List ℕ). t ++ drop (length xs) ys) g
+
+pub grows_both : (xs ys zs : List ℕ) → Grows xs ys → Grows ys zs → Grows xs zs
+grows_both xs ys zs p q =
+    let first : List ℕ = drop (length xs) ys in
+    let second : List ℕ = drop (length ys) zs in
+    grows_by xs zs (first ++ second) (grows_rest ys zs q ∙ (ap (λ (t : List ℕ). t ++ second) (grows_rest xs ys p) ∙ append_assoc xs first second))
+
+appends_grows : (s : Status) (limit : ℕ) (old new bytes : List ℕ) → AppendsBy s limit old new bytes → Grows old new
+appends_grows Going limit old new bytes a = grows_by old new bytes a.0
+appends_grows Full limit old new bytes a =
+    ap (take (length old)) a.0 ∙ (take-take (length old) limit (old ++ bytes) a.1.1 ∙ take-append_seam old bytes)
+appends_grows Deep limit old new bytes a = absurd a
+appends_grows Starved limit old new bytes a = grows_same old new a
 
 -- a sink that has stopped takes every text
 ends_stopped : (s : Status) (limit : ℕ) (x : Encoding) (output : List ℕ) (t u whole : List Item) → s ≢ Going → EndsBy s limit x output t whole → EndsBy s limit x output u whole
@@ -24,13 +52,13 @@ unfolding Ends
 ends_other a t u whole n h = ends_stopped a.status a.limit a.encoding a.bytes t u whole n h
 
 pub puts_nothing : (a : Output) → Puts a a stay
-puts_nothing a = record { ends = λ rest whole h. h; encoding = refl; limit = refl; going = λ g. g; stays = λ n. refl }
+puts_nothing a = record { ends = λ rest whole h. h; encoding = refl; limit = refl; going = λ g. g; stays = λ n. refl; grows = grows_none a.bytes }
 
 pub owes_same : (a : Output) (x : Layout) → Owes a a x x
-owes_same a x = record { ends = λ rest whole h. h; encoding = refl; limit = refl; going = λ g. g; stays = λ n. refl }
+owes_same a x = record { ends = λ rest whole h. h; encoding = refl; limit = refl; going = λ g. g; stays = λ n. refl; grows = grows_none a.bytes }
 
 pub puts_stopped : (a : Output) (x : Layout) → a.status ≢ Going → Puts a a x
-puts_stopped a x n = record { ends = λ rest whole h. ends_other a _ _ whole n h; encoding = refl; limit = refl; going = λ g. g; stays = λ n. refl }
+puts_stopped a x n = record { ends = λ rest whole h. ends_other a _ _ whole n h; encoding = refl; limit = refl; going = λ g. g; stays = λ n. refl; grows = grows_none a.bytes }
 
 -- some of what is owed is written
 pub owes_more : (a b c : Output) (x y z : Layout) → Owes a b x (y ▹ z) → Puts b c y → Owes a c x z
@@ -40,6 +68,7 @@ owes_more a b c x y z p q = record {
   limit = q.limit ∙ p.limit;
   going = λ g. p.going (q.going g);
   stays = λ n. q.stays (λ g. n (p.going g)) ∙ p.stays n;
+  grows = grows_both a.bytes b.bytes c.bytes p.grows q.grows;
 }
 
 -- one behind the other
@@ -50,6 +79,7 @@ puts_both a b c x y p q = record {
   limit = q.limit ∙ p.limit;
   going = λ g. p.going (q.going g);
   stays = λ n. q.stays (λ g. n (p.going g)) ∙ p.stays n;
+  grows = grows_both a.bytes b.bytes c.bytes p.grows q.grows;
 }
 
 -- a layout that is another at the cursor
@@ -60,6 +90,7 @@ puts_as a b x y e p = record {
   limit = p.limit;
   going = p.going;
   stays = p.stays;
+  grows = p.grows;
 }
 
 -- the cursor alone is moved
@@ -71,6 +102,7 @@ puts_moved a b f o s e l k = record {
   limit = l;
   going = λ g. sym s ∙ g;
   stays = λ _. s;
+  grows = grows_same a.bytes b.bytes o;
 }
 
 pub cond_true : {A : Type 0} (b : Bool) (x y : A) → b ≡ true → cond b x y ≡ x
@@ -101,15 +133,22 @@ puts_if a b t x y e p = let P : Bool → Type 0 = λ v. Puts a b (if v then x el
 pub puts_else : (a b : Output) (t : Bool) (x y : Layout) → t ≡ false → Puts a b y → Puts a b (if t then x else y)
 puts_else a b t x y e p = let P : Bool → Type 0 = λ v. Puts a b (if v then x else y) in subst P (sym e) p
 
+-- a text is those bytes and then `more`, and no place in front of `more` is too deep
+pub record Leads (x : Encoding) (text more : List Item) (bytes : List ℕ) : Type 0 where
+  pub all : encode x text ≡ bytes ++ encode x more
+  pub deep : is_deep text ≡ is_deep more
+  pub front : encode x (shallow text) ≡ bytes ++ encode x (shallow more)
+
 -- what is appended was to come
-appends_ends : (s : Status) (limit : ℕ) (x : Encoding) (old new bytes : List ℕ) (text more whole : List Item) → encode x text ≡ bytes ++ encode x more → is_deep text ≡ is_deep more
+appends_ends : (s : Status) (limit : ℕ) (x : Encoding) (old new bytes : List ℕ) (text more whole : List Item) → Leads x text more bytes
     → AppendsBy s limit old new bytes → EndsBy Going limit x old text whole → EndsBy s limit x new more whole
-appends_ends Going limit x old new bytes text more whole b d a e = (e.0 ∙ rw (a.0, append_assoc, b) refl, (a.1, e.1.1 ∙ d))
-appends_ends Full limit x old new bytes text more whole b d a e =
-    let longer : encode x whole ≡ (old ++ bytes) ++ encode x more = e.0 ∙ ap (λ t. old ++ t) b ∙ sym (append_assoc old bytes (encode x more)) in
-    (rw (longer, take-append-le limit (old ++ bytes) (encode x more) (omega (arith, a.1))) a.0, rw longer (omega (arith, a.1, length-append (old ++ bytes) (encode x more))))
-appends_ends Deep limit x old new bytes text more whole b d a e = absurd a
-appends_ends Starved limit x old new bytes text more whole b d a e = (bytes ++ encode x more, rw a (e.0 ∙ ap (λ t. old ++ t) b))
+appends_ends Going limit x old new bytes text more whole l a e =
+    (e.0 ∙ rw (a.0, append_assoc, l.all) refl, (a.1, (e.1.1.0 ∙ l.deep, e.1.1.1 ∙ rw (a.0, append_assoc, l.front) refl)))
+appends_ends Full limit x old new bytes text more whole l a e =
+    let longer : encode x whole ≡ (old ++ bytes) ++ encode x more = e.0 ∙ ap (λ t. old ++ t) l.all ∙ sym (append_assoc old bytes (encode x more)) in
+    (rw (longer, take-append-le limit (old ++ bytes) (encode x more) (omega (arith, a.1.0))) a.0, rw longer (omega (arith, a.1.0, length-append (old ++ bytes) (encode x more))))
+appends_ends Deep limit x old new bytes text more whole l a e = absurd a
+appends_ends Starved limit x old new bytes text more whole l a e = (bytes ++ encode x more, rw a (e.0 ∙ ap (λ t. old ++ t) l.all))
 
 pub status_cases : {P : Type 0} (s : Status) → (s ≡ Going → P) → (s ≢ Going → P) → P
 status_cases Going p q = p refl
@@ -120,34 +159,36 @@ status_cases Starved p q = q (λ e. cc)
 -- a character's bytes were appended
 pub puts_stroke : (a b : Output) (x : ℕ) (n : Cursor → Cursor) → a.status ≡ Going → b.encoding ≡ a.encoding → b.limit ≡ a.limit → AppendsBy b.status a.limit a.bytes b.bytes (char_bytes a.encoding x) → (b.status ≡ Going → b.cursor ≡ n a.cursor)
     → Puts a b (λ c rest. letter x ∷ rest (n c))
-unfolding Ends encode is_deep
+unfolding Ends encode is_deep shallow
 puts_stroke a b x n g e l h k = record {
   ends = λ rest whole w.
       let P : Status → Type 0 = λ s. EndsBy s a.limit a.encoding a.bytes (letter x ∷ rest (n a.cursor)) whole in
-      let back : Ends b (rest (n a.cursor)) whole = rw (e, l) (appends_ends b.status a.limit a.encoding a.bytes b.bytes (char_bytes a.encoding x) (letter x ∷ rest (n a.cursor)) (rest (n a.cursor)) whole refl refl h (subst P g w)) in
+      let back : Ends b (rest (n a.cursor)) whole = rw (e, l) (appends_ends b.status a.limit a.encoding a.bytes b.bytes (char_bytes a.encoding x) (letter x ∷ rest (n a.cursor)) (rest (n a.cursor)) whole (record { all = refl; deep = refl; front = refl }) h (subst P g w)) in
       let Q : Cursor → Type 0 = λ c. Ends b (rest c) whole in
       status_cases b.status (λ going. subst Q (sym (k going)) back) (λ stopped. ends_other b _ _ whole stopped back);
   encoding = e;
   limit = l;
   going = λ _. g;
   stays = λ n. absurd (n g);
+  grows = appends_grows b.status a.limit a.bytes b.bytes (char_bytes a.encoding x) h;
 }
 
 -- a layout of those bytes was appended
 pub puts_run : (a b : Output) (y : Layout) (bytes : List ℕ) (n : Cursor → Cursor) → a.status ≡ Going → b.encoding ≡ a.encoding → b.limit ≡ a.limit
-    → ((rest : Rest) → encode a.encoding (y a.cursor rest) ≡ bytes ++ encode a.encoding (rest (n a.cursor))) → ((rest : Rest) → is_deep (y a.cursor rest) ≡ is_deep (rest (n a.cursor)))
+    → ((rest : Rest) → Leads a.encoding (y a.cursor rest) (rest (n a.cursor)) bytes)
     → AppendsBy b.status a.limit a.bytes b.bytes bytes → (b.status ≡ Going → b.cursor ≡ n a.cursor) → Puts a b y
 unfolding Ends
-puts_run a b y bytes n g e l u d h k = record {
+puts_run a b y bytes n g e l u h k = record {
   ends = λ rest whole w.
       let P : Status → Type 0 = λ s. EndsBy s a.limit a.encoding a.bytes (y a.cursor rest) whole in
-      let back : Ends b (rest (n a.cursor)) whole = rw (e, l) (appends_ends b.status a.limit a.encoding a.bytes b.bytes bytes (y a.cursor rest) (rest (n a.cursor)) whole (u rest) (d rest) h (subst P g w)) in
+      let back : Ends b (rest (n a.cursor)) whole = rw (e, l) (appends_ends b.status a.limit a.encoding a.bytes b.bytes bytes (y a.cursor rest) (rest (n a.cursor)) whole (u rest) h (subst P g w)) in
       let Q : Cursor → Type 0 = λ c. Ends b (rest c) whole in
       status_cases b.status (λ going. subst Q (sym (k going)) back) (λ stopped. ends_other b _ _ whole stopped back);
   encoding = e;
   limit = l;
   going = λ _. g;
   stays = λ n. absurd (n g);
+  grows = appends_grows b.status a.limit a.bytes b.bytes bytes h;
 }
 
 -- the cursor behind a space and then some
@@ -167,15 +208,23 @@ stepped_is (suc n) c =
     let e : c.column + 1 + suc n ≡ c.column + suc (suc n) = omega arith in
     stepped_is n (at (c.column + 1)) ∙ ap at e
 
-pub blanks_encode : (n : ℕ) (c : Cursor) (rest : Rest) → encode Utf8 (blanks n c rest) ≡ replicate n 32 ++ encode Utf8 (rest (stepped n c))
+blanks_encode : (n : ℕ) (c : Cursor) (rest : Rest) → encode Utf8 (blanks n c rest) ≡ replicate n 32 ++ encode Utf8 (rest (stepped n c))
 unfolding encode char_bytes blanks stepped
 blanks_encode zero c rest = refl
 blanks_encode (suc n) c rest = ap (λ (t : List ℕ). 32 ∷ t) (blanks_encode n (record { column = c.column + 1; white = true; bare = c.bare; kept = c.kept }) rest)
 
-pub blanks_deep : (n : ℕ) (c : Cursor) (rest : Rest) → is_deep (blanks n c rest) ≡ is_deep (rest (stepped n c))
+blanks_deep : (n : ℕ) (c : Cursor) (rest : Rest) → is_deep (blanks n c rest) ≡ is_deep (rest (stepped n c))
 unfolding is_deep blanks stepped
 blanks_deep zero c rest = refl
 blanks_deep (suc n) c rest = blanks_deep n (record { column = c.column + 1; white = true; bare = c.bare; kept = c.kept }) rest
+
+blanks_front : (n : ℕ) (c : Cursor) (rest : Rest) → encode Utf8 (shallow (blanks n c rest)) ≡ replicate n 32 ++ encode Utf8 (shallow (rest (stepped n c)))
+unfolding encode char_bytes shallow blanks stepped
+blanks_front zero c rest = refl
+blanks_front (suc n) c rest = ap (λ (t : List ℕ). 32 ∷ t) (blanks_front n (record { column = c.column + 1; white = true; bare = c.bare; kept = c.kept }) rest)
+
+pub blanks_lead : (n : ℕ) (c : Cursor) (rest : Rest) → Leads Utf8 (blanks n c rest) (rest (stepped n c)) (replicate n 32)
+blanks_lead n c rest = record { all = blanks_encode n c rest; deep = blanks_deep n c rest; front = blanks_front n c rest }
 
 pub no_blanks : (a : Output) (n : ℕ) → n ≡ 0 → Puts a a (blanks n)
 unfolding blanks
@@ -185,7 +234,7 @@ no_blanks a n e = rw e (puts_nothing a)
 spaces_more : (a b : Output) (n : ℕ) → a.status ≡ Going → a.encoding ≡ Utf8 → b.encoding ≡ a.encoding → b.limit ≡ a.limit → AppendsBy b.status a.limit a.bytes b.bytes (replicate (suc n) 32) → (b.status ≡ Going → b.cursor ≡ blanked (suc n) a.cursor)
     → Puts a b (blanks (suc n))
 spaces_more a b n g x e l h k =
-    puts_run a b (blanks (suc n)) (replicate (suc n) 32) (stepped (suc n)) g e l (λ rest. rw x (blanks_encode (suc n) a.cursor rest)) (λ rest. blanks_deep (suc n) a.cursor rest) h (λ going. k going ∙ sym (stepped_is n a.cursor))
+    puts_run a b (blanks (suc n)) (replicate (suc n) 32) (stepped (suc n)) g e l (λ rest. rw x (blanks_lead (suc n) a.cursor rest)) h (λ going. k going ∙ sym (stepped_is n a.cursor))
 
 pub puts_spaces : (a b : Output) (n : ℕ) → 0 < n → a.status ≡ Going → a.encoding ≡ Utf8 → b.encoding ≡ a.encoding → b.limit ≡ a.limit → AppendsBy b.status a.limit a.bytes b.bytes (replicate n 32) → (b.status ≡ Going → b.cursor ≡ blanked n a.cursor)
     → Puts a b (blanks n)
@@ -224,11 +273,23 @@ letters_all a b xs i h p =
 pub blanks_start : (a : Output) (n : ℕ) → Owes a a (blanks n) (blanks (n - 0))
 blanks_start a n = let e : n ≡ n - 0 = omega arith in let P : ℕ → Type 0 = λ k. Owes a a (blanks n) (blanks k) in subst P e (owes_same a (blanks n))
 
+-- what is in front of the first place that is too deep is a front
+pub shallow_front : (x : Encoding) (t : List Item) → (rest : List ℕ) × (encode x t ≡ encode x (shallow t) ++ rest)
+unfolding encode shallow
+shallow_front x [] = ([], refl)
+shallow_front x (letter c ∷ t) =
+    let k = shallow_front x t in
+    (k.0, ap (λ (z : List ℕ). char_bytes x c ++ z) k.1 ∙ sym (append_assoc (char_bytes x c) (encode x (shallow t)) k.0))
+shallow_front x (deep ∷ t) = (encode x t, refl)
+
+pub deep_written : (x : Encoding) (output : List ℕ) (whole : List Item) → output ≡ encode x (shallow whole) → (rest : List ℕ) × (encode x whole ≡ output ++ rest)
+deep_written x output whole e = let k = shallow_front x whole in (k.0, k.1 ∙ ap (λ (z : List ℕ). z ++ k.0) (sym e))
+
 -- what is written is the front of the whole
 front_of : (status : Status) (limit : ℕ) (x : Encoding) (output : List ℕ) (text whole : List Item) → EndsBy status limit x output text whole → (rest : List ℕ) × (encode x whole ≡ output ++ rest)
 front_of Going limit x output text whole h = (encode x text, h.0)
 front_of Full limit x output text whole h = (drop limit (encode x whole), sym (take-append-drop limit (encode x whole)) ∙ ap (λ t. t ++ drop limit (encode x whole)) (sym h.0))
-front_of Deep limit x output text whole h = h.1
+front_of Deep limit x output text whole h = deep_written x output whole h.1
 front_of Starved limit x output text whole h = h
 
 pub puts_starved : (a b : Output) (t : Layout) → b.bytes ≡ a.bytes → b.status ≡ Starved → a.status ≡ Going → b.encoding ≡ a.encoding → b.limit ≡ a.limit → Puts a b t
@@ -239,11 +300,12 @@ puts_starved a b t o s g e l = record {
   limit = l;
   going = λ x. absurd (cc (sym s ∙ x));
   stays = λ n. absurd (n g);
+  grows = grows_same a.bytes b.bytes o;
 }
 
-deep_front : (status : Status) (limit : ℕ) (x : Encoding) (output : List ℕ) (text whole : List Item) → status ≡ Going → EndsBy status limit x output (deep ∷ text) whole → (is_deep whole ≡ true) × ((rest : List ℕ) × (encode x whole ≡ output ++ rest))
-unfolding is_deep
-deep_front Going limit x output text whole g h = (h.1.1, (encode x (deep ∷ text), h.0))
+deep_front : (status : Status) (limit : ℕ) (x : Encoding) (output : List ℕ) (text whole : List Item) → status ≡ Going → EndsBy status limit x output (deep ∷ text) whole → (is_deep whole ≡ true) × (output ≡ encode x (shallow whole))
+unfolding is_deep encode shallow
+deep_front Going limit x output text whole g h = (h.1.1.0, sym (append-nil output) ∙ sym h.1.1.1)
 deep_front Full limit x output text whole g h = absurd (cc g)
 deep_front Deep limit x output text whole g h = absurd (cc g)
 deep_front Starved limit x output text whole g h = absurd (cc g)
@@ -256,6 +318,7 @@ puts_deep a b o s g e l = record {
   limit = l;
   going = λ x. absurd (cc (sym s ∙ x));
   stays = λ n. absurd (n g);
+  grows = grows_same a.bytes b.bytes o;
 }
 
 -- texts of letters

@@ -8,7 +8,7 @@ use Rattle.yaml_emit_sink.specs.declared.cursor.Status.TheVariants.{Going, Full,
 abbrev pub AppendsBy : Status → ℕ → List ℕ → List ℕ → List ℕ → Type 0
 AppendsBy Going limit old new bytes = (new ≡ old ++ bytes) × (length new ≤ limit)
 AppendsBy Full limit old new bytes = (new ≡ take limit (old ++ bytes))
-    × (limit < length (old ++ bytes))
+    × ((limit < length (old ++ bytes)) × (length old ≤ limit))
 AppendsBy Deep limit old new bytes = ⊥
 AppendsBy Starved limit old new bytes = new ≡ old
 

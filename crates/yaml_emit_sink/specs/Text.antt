@@ -51,6 +51,12 @@ is_deep [] = false
 is_deep (letter c ∷ t) = is_deep t
 is_deep (deep ∷ t) = true
 
+-- all in front of the first such place
+unfoldable pub shallow : List Item → List Item
+shallow [] = []
+shallow (letter c ∷ t) = letter c ∷ shallow t
+shallow (deep ∷ t) = []
+
 -- the characters alone
 unfoldable pub shown : List Item → List ℕ
 shown [] = []

@@ -119,5 +119,5 @@ fresh_finishes core s x ds f r =
       right = let Q : Settings → Type 0 = λ z. own_problems z.canonical (stream_events x ds) ≡ None in subst Q (sym f.settings) r;
       ends =
           let P : Status → Type 0 = λ t. EndsBy t core.sink.limit core.sink.encoding core.sink.bytes (stream_layout (settings_of core) ds core.sink.cursor nothing_more) (written (stream_layout s ds)) in
-          subst P (sym f.status) (rw (f.output, f.settings, f.cursor) refl, (rw f.output (omega arith), rw (f.settings, f.cursor) refl));
+          subst P (sym f.status) (rw (f.output, f.settings, f.cursor) refl, (rw f.output (omega arith), (rw (f.settings, f.cursor) refl, rw (f.output, f.settings, f.cursor) refl)));
     })

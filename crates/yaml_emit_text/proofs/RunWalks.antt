@@ -9,6 +9,7 @@ use Rattle.yaml_emit_sink.specs.declared.Cursor.{Cursor}
 use Rattle.yaml_emit_sink.specs.Text.{Item, letter, is_break}
 use Rattle.yaml_emit_sink.specs.Layout.{Layout, Rest, ◌▹◌, stay, choose, when, char, letters, new_line, line, is_past}
 use Rattle.yaml_emit_sink.specs.Sink.{Output, Ends, Owes, Puts}
+use Rattle.yaml_emit_sink.proofs.Sinks.{grows_both}
 use Rattle.yaml_emit_text.specs.declared.page.Page.{Page}
 use Rattle.yaml_emit_text.specs.declared.run.Bounds.{Bounds}
 use Rattle.yaml_emit_text.specs.Quoted.{needs_escape, escape_text, first, is_empty, may_fold, fold, escaped, quoted_char, quoted_body}
@@ -32,6 +33,7 @@ owes_as a b x y z e p = record {
   limit = p.limit;
   going = p.going;
   stays = p.stays;
+  grows = p.grows;
 }
 
 pub owes_then : (a b c : Output) (x y z : Layout) → Owes a b x y → Owes b c y z → Owes a c x z
@@ -41,6 +43,7 @@ owes_then a b c x y z p q = record {
   limit = q.limit ∙ p.limit;
   going = λ g. p.going (q.going g);
   stays = λ n. q.stays (λ g. n (p.going g)) ∙ p.stays n;
+  grows = grows_both a.bytes b.bytes c.bytes p.grows q.grows;
 }
 
 -- Any walk: where each byte that passes is written as it is, all of them are.

@@ -5,6 +5,7 @@ use Rattle.yaml_emit_layout.specs.Content.{emitter_event}
 use Rattle.yaml_emit_held.specs.Held.{is_ready}
 use Rattle.yaml_emit_held.proofs.Judging.{going_notes}
 use Rattle.yaml_emit_machine.proofs.Early.{inside_gives, inside_notes_early}
+use Rattle.yaml_emit_machine.proofs.Taking.{inside_open}
 use Rattle.yaml_emit_machine.proofs.emitter.yaml_emitter_t.lay_at_once.Goals as goal
 
 pub invariant_of-self : goal.invariant_of-self
@@ -26,7 +27,7 @@ invariant_of-self c =
 pub returns-clause-text : goal.returns-clause-text
 returns-clause-text c =
     let once = rw (← c.self.view_is) at c.requires.once in
-    rw (← c.self.view_is) (inside_gives c.self.inside c.lay_out.new.self _ _ once c.lay_out.ensures)
+    rw (← c.self.view_is) (inside_gives c.self.inside c.lay_out.new.self _ _ (inside_open c.self.inside c.self.invariant once.right) once c.lay_out.ensures)
 
 pub returns-clause-memory : goal.returns-clause-memory
 returns-clause-memory c =

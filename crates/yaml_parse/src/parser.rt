@@ -17,6 +17,7 @@ ghost use Rattle.yaml_parse_step.specs.Finds.{Finds, IsUtf8Found, IsStackFound};
 ghost use Rattle.yaml_parse_step.specs.Steps.{Turns, IsUtf8Turn, IsStackTurn};
 ghost use Rattle.yaml_parse_step.specs.Turned.{turned};
 ghost use Rattle.yaml_parse_step.specs.parse_laws_given.NextLoad.{AreLoadsByContent};
+ghost use Rattle.yaml_parse_step.specs.parse_laws_given.Falling.{AreFalling};
 ghost use Rattle.yaml_parse_step.specs.parse_grammar.Stacks.{parts_documents_behind};
 
 use std::alloc::Global;
@@ -77,7 +78,9 @@ impl<S: yaml_token_source_t> yaml_parser_t<S> {
     /// The allocator that the parser keeps.
     pub(crate) fn allocator(&self) -> Global
         // Between documents, whole ones are to come, and a front of one.
-        ensures { self.now.between ≡ true → AreLoadsByContent self.now }
+        ensures loads { self.now.between ≡ true → AreLoadsByContent self.now }
+        // As an event is given, no fewer tokens are left unasked for than as the next one is.
+        ensures falls { AreFalling self.now.events self.now.ending_unasked }
     {
         self.buffers.directives.alloc
     }

@@ -1,7 +1,8 @@
 -- What is still to come of a parser, and what its calls give.
-use Rattle.std.specs.Prelude.{◌≡◌, ◌⊎◌, ℕ, Bool, true, false, List, [], ◌∷◌, length, Option, Some, None}
+use Rattle.std.specs.Prelude.{◌≡◌, ◌⊎◌, ◌≤◌, ℕ, Bool, true, false, List, [], ◌∷◌, length, Option, Some, None}
 use Rattle.yaml_parse_model.specs.Tokens.{Token}
-use Rattle.yaml_parse_model.specs.Faults.{Fault, IsMemoryFault, parse_layers}
+use Rattle.yaml_parse_model.specs.Faults.{Fault, IsMemoryFault, parse_layers, scan_layers}
+use Rattle.yaml_parse_model.specs.Source.{HasMore}
 use Rattle.yaml_parse_model.specs.Events.{Event, no_event}
 use Rattle.yaml_parse_grammar.specs.States.{State}
 use Rattle.yaml_parse_grammar.specs.States as state
@@ -88,10 +89,20 @@ GivesEvent [] (Some f) e old new = ⊥
 abbrev pub EventOf : ParserRemaining → Event → ParserRemaining → Type 0
 EventOf old e new = GivesEvent old.events old.ending e old new
 
--- a fault is answered: the one that is to come, or want of memory, the source's or the parser's; nothing comes behind it
+-- how many tokens are not asked for as the next event is given, or where none is to come, as the fault is told
+abbrev pub next_unasked : List Told → ℕ → ℕ
+next_unasked [] behind = behind
+next_unasked (g ∷ gs) behind = g.1
+
+-- A fault is answered: the one that is to come, or want of memory, the source's or the parser's. Something was to come, so it is
+-- neither behind the end nor behind a fault; nothing comes behind it.
 pub record FaultOf (old : ParserRemaining) (f : Fault) (new : ParserRemaining) : Type 0 where
+  pub more : HasMore old.events old.ending
   pub finished : IsFinished new
   pub answered : new.answered ≡ f
   pub reason : IsMemoryFault parse_layers f ⊎ ((old.events ≡ []) × (old.ending ≡ Some f))
   -- with so many tokens asked for
   pub unasked : IsMemoryFault parse_layers f ⊎ (new.unasked ≡ old.ending_unasked)
+  -- None was asked for behind the place of what was to come; where the source lacks memory, none of its tokens is left.
+  pub asked : IsMemoryFault scan_layers f
+      ⊎ (next_unasked old.events old.ending_unasked ≤ new.unasked)

@@ -7,6 +7,7 @@ use Rattle.yaml_parse_laws_trees.specs.grammar.Remaining.{ParserRemaining, IsFin
 use Rattle.yaml_parse_loader.specs.Loading.{Loading, LoadStep, goes_on, loaded, refused, nothing_loaded, step, Loaded}
 use Rattle.yaml_parse_loader.specs.Loading as loading
 use Rattle.yaml_parse_laws_trees.specs.NextLoad.{told_events, left_behind, GivesDocument, GivesNoDocument}
+use Rattle.yaml_parse_laws_trees.specs.Falling.{AreFalling}
 
 -- What events come to that a loader is fed, and the fault behind them: the document that ends first, the events that are
 -- left and the number of tokens that are not asked for then; or the fault that comes first; or neither.
@@ -46,6 +47,15 @@ loads_of c = loads c.events c.ending nothing_loaded
 abbrev pub unasked_of : ParserRemaining → ℕ
 unasked_of c = unasked_at_refusal c.events c.ending_unasked nothing_loaded
 
+-- how many are not asked for as a load is answered, by the two numbers of a refusal and of the end
+abbrev pub unasked_by : Loads → ℕ → ℕ → ℕ
+unasked_by (document d rest n) refusal end = n
+unasked_by (faulty f) refusal end = refusal
+unasked_by nothing refusal end = end
+
+abbrev pub answer_unasked : ParserRemaining → ℕ
+answer_unasked c = unasked_by (loads_of c) (unasked_of c) (left_behind c.events c.unasked)
+
 -- a load gives the next document with what is left, or the document without nodes where no document comes any more
 abbrev pub LoadGives : Loads → Document → ParserRemaining → ParserRemaining → Type 0
 LoadGives (document e left unasked) d old new = (d ≡ e) × GivesDocument left unasked old new
@@ -68,6 +78,8 @@ pub record KeepsLoading (initial now : ParserRemaining) (l : Loading) : Type 0 w
   pub ending : now.ending ≡ initial.ending
   pub ending_unasked : now.ending_unasked ≡ initial.ending_unasked
   pub answered : now.answered ≡ initial.answered
+  pub falls : AreFalling now.events now.ending_unasked
+  pub none : initial.events ≡ [] → now.events ≡ []
 
 -- ---- the same of events alone
 

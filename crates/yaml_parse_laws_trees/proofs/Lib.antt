@@ -37,6 +37,7 @@ mod LoadingTaking
 mod Feeding
 pub mod LoadingEnding
 mod Rows
+pub mod Falling
 pub mod ByStep
 pub mod NextLoads
 pub mod ByContent

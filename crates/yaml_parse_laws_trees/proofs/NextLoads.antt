@@ -1,10 +1,11 @@
 -- What a load comes to by content is what it comes to by the loader's steps.
-use Rattle.std.proofs.Common.{◌≡◌, ◌<◌, ◌+◌, ℕ, suc, ℤ, inl, inr, Bool, true, false, ◌||◌, cond, List, [], ◌∷◌, ◌++◌, length, Option, Some, None, Result, Ok, refl, sym, ap, subst, ◌∙◌, arith}
+use Rattle.std.proofs.Common.{◌≡◌, ◌⊎◌, ◌<◌, ◌≤◌, ◌+◌, ℕ, suc, ℤ, inl, inr, Bool, true, false, ◌||◌, cond, List, [], ◌∷◌, ◌++◌, length, Option, Some, None, Result, Ok, refl, sym, ap, subst, ◌∙◌, arith}
 use Rattle.std.specs.FinMap as map
 use Rattle.std.specs.Ordering.{nat_cmp}
 use Rattle.std.specs.Cmp.Lexicographic.{slice_cmp, nat_list_cmp_total}
 use Rattle.yaml_parse_laws_trees.specs.grammar.parse_model.declared.yaml_mark_t.{yaml_mark_t}
-use Rattle.yaml_parse_laws_trees.specs.grammar.parse_model.Faults.{Fault}
+use Rattle.yaml_parse_laws_trees.specs.grammar.parse_model.Faults.{Fault, IsMemoryFault, scan_layers}
+use Rattle.yaml_parse_laws_trees.specs.grammar.parse_model.Source.{HasMore}
 use Rattle.yaml_parse_laws_trees.specs.grammar.parse_model.Events.{Event, EventBody}
 use Rattle.yaml_parse_laws_trees.specs.grammar.parse_model.Events as event
 use Rattle.yaml_parse_laws_trees.specs.grammar.parse_model.Prefix.{no_fault}
@@ -16,10 +17,10 @@ use Rattle.yaml_parse_loader.specs.Numbering.{is_same, spanning, Content, Conten
 use Rattle.yaml_parse_loader.specs.Loading.{Open, Loading, LoadStep, goes_on, loaded, refused, nothing_loaded, named, closed, aliased, step, step_body, load, turn, behind}
 use Rattle.yaml_parse_loader.specs.Loading as loading
 use Rattle.yaml_parse_loader.proofs.Loads as numbering
-use Rattle.yaml_parse_laws_trees.specs.NextLoad.{told_events, left_behind, is_among, and_anchor, names_behind, unless_known, wrong_alias, or_later, first_wrong, IsOutside, AreOutside, NextLoad, next_document, next_fault, next_none, NoneNext, IsLoadOf, IsNextLoad, GivesLoad, IsRefusalOf, RefusesNext, LoadIsNext, RefusalIsNext, LoadsByContent, one_more, ended, AreLoadsByContent}
+use Rattle.yaml_parse_laws_trees.specs.NextLoad.{told_events, left_behind, is_among, and_anchor, names_behind, unless_known, wrong_alias, or_later, first_wrong, IsOutside, AreOutside, NextLoad, next_document, next_fault, next_none, NoneNext, IsLoadOf, IsNextLoad, GivesLoad, load_unasked, IsRefusalOf, RefusesNext, LoadIsNext, RefusalIsNext, LoadsByContent, one_more, ended, AreLoadsByContent}
 use Rattle.yaml_parse_laws_trees.specs.NextLoad as next
 use Rattle.yaml_parse_laws_trees.proofs.ByStep as told
-use Rattle.yaml_parse_laws_trees.proofs.ByStep.{Loads, load_on, behind_all, loads, loads_of, unasked_on, unasked_at_refusal, unasked_of, LoadGives, LoadRefuses}
+use Rattle.yaml_parse_laws_trees.proofs.ByStep.{Loads, load_on, behind_all, loads, loads_of, unasked_on, unasked_at_refusal, unasked_of, unasked_by, answer_unasked, LoadGives, LoadRefuses}
 
 -- ---- inside of a document
 
@@ -340,8 +341,15 @@ refusal_of (next_document e left count) r u m f p q v = let s : told.document e 
 refusal_of (next_fault g count) r u m f p q v = let s : told.faulty f ≡ told.faulty g = sym q ∙ p.0 in (cc, v ∙ p.1)
 refusal_of next_none r u m f p q v = let s : told.nothing ≡ told.faulty f = sym p ∙ q in absurd (cc)
 
-pub refusal_is_next : (old new : ParserRemaining) (f : Fault) → LoadRefuses f old new → RefusalIsNext old f new
-refusal_is_next old new f h n k = record {
+unasked_is : (n : NextLoad) (r : Loads) (u : ℕ) (old : ParserRemaining) → IsOf n r u → unasked_by r u (left_behind old.events old.unasked) ≡ load_unasked n old
+unasked_is (next_document e left count) r u old p = ap (λ (x : Loads). unasked_by x u (left_behind old.events old.unasked)) p
+unasked_is (next_fault f count) r u old p = ap (λ (x : Loads). unasked_by x u (left_behind old.events old.unasked)) p.0 ∙ p.1
+unasked_is next_none r u old p = ap (λ (x : Loads). unasked_by x u (left_behind old.events old.unasked)) p
+
+pub refusal_is_next : (old new : ParserRemaining) (f : Fault) → LoadRefuses f old new → HasMore old.events old.ending → IsMemoryFault scan_layers f ⊎ (answer_unasked old ≤ new.unasked) → RefusalIsNext old f new
+refusal_is_next old new f h m a n k = record {
+  more = m;
+  asked = elim a [ inl s ↦ inl s | inr l ↦ inr (subst (λ (x : ℕ). x ≤ new.unasked) (unasked_is n (loads_of old) (unasked_of old) old (next_is old n k)) l) ];
   finished = h.finished;
   answered = h.answered;
   reason = elim h.reason [ inl m ↦ inl m | inr q ↦ elim h.unasked [ inl m ↦ inl m | inr u ↦ inr (refusal_of n (loads_of old) (unasked_of old) new.unasked f (next_is old n k) q u) ] ];

@@ -14,6 +14,7 @@ pub mod AllLoads
 pub mod Laws
 pub mod Rows
 pub mod NextLoad
+pub mod Falling
 -- what it stands on, for crates that name this one alone
 pub use Rattle.yaml_parse_grammar.specs as grammar
 -- what it stands on, for crates of laws that name this one alone

@@ -1,7 +1,8 @@
 -- What a load comes to, said by content: by that of the document whose events come next.
-use Rattle.std.specs.Prelude.{◌≡◌, ◌⊎◌, ℕ, Bool, true, false, ◌||◌, List, [], ◌∷◌, ◌++◌, map, Option, Some, None, Ok}
+use Rattle.std.specs.Prelude.{◌≡◌, ◌⊎◌, ◌≤◌, ℕ, Bool, true, false, ◌||◌, List, [], ◌∷◌, ◌++◌, map, Option, Some, None, Ok}
 use Rattle.yaml_parse_laws_trees.specs.grammar.parse_model.declared.yaml_mark_t.{yaml_mark_t}
-use Rattle.yaml_parse_laws_trees.specs.grammar.parse_model.Faults.{Fault, IsMemoryFault, load_layers}
+use Rattle.yaml_parse_laws_trees.specs.grammar.parse_model.Faults.{Fault, IsMemoryFault, scan_layers, load_layers}
+use Rattle.yaml_parse_laws_trees.specs.grammar.parse_model.Source.{HasMore}
 use Rattle.yaml_parse_laws_trees.specs.grammar.parse_model.Events.{Event, EventBody}
 use Rattle.yaml_parse_laws_trees.specs.grammar.parse_model.Events as event
 use Rattle.yaml_parse_document.specs.Documents.{Document, no_document}
@@ -153,11 +154,21 @@ abbrev pub IsRefusalOf : NextLoad → Fault → ℕ → Type 0
 IsRefusalOf (next_fault g count) f unasked = (f ≡ g) × (unasked ≡ count)
 IsRefusalOf _ f unasked = ⊥
 
--- or is refused so, or for want of memory
+-- how many tokens are not asked for as it is answered
+abbrev pub load_unasked : NextLoad → ParserRemaining → ℕ
+load_unasked (next_document e left unasked) old = unasked
+load_unasked (next_fault f unasked) old = unasked
+load_unasked next_none old = left_behind old.events old.unasked
+
+-- Or is refused so, or for want of memory. Something was to come, so it is refused once, and behind that, as behind the last
+-- document, the document without root comes.
 pub record RefusesNext (n : NextLoad) (f : Fault) (old new : ParserRemaining) : Type 0 where
+  pub more : HasMore old.events old.ending
   pub finished : IsFinished new
   pub answered : new.answered ≡ f
   pub reason : IsMemoryFault load_layers f ⊎ IsRefusalOf n f new.unasked
+  -- No token was asked for behind the place of what was to come; where the source lacks memory, none of its tokens is left.
+  pub asked : IsMemoryFault scan_layers f ⊎ (load_unasked n old ≤ new.unasked)
 
 -- The next load is the one that content says, whichever content's the events are.
 abbrev pub LoadIsNext : ParserRemaining → Document → ParserRemaining → Type 0

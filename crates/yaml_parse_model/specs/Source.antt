@@ -36,9 +36,17 @@ pub record GivesToken (old : List Token) (fault : Option Fault) (t : Token) (new
   pub may : MayAnswer old fault
   pub utf8 : HasUtf8 t.body
 
--- a fault was given: that to come, or want of memory in a layer that scans; nothing comes behind it
+-- something is to come: a token or an event, or a fault
+abbrev pub HasMore : {X : Type 0} → List X → Option Fault → Type 0
+HasMore [] None = ⊥
+HasMore [] (Some f) = Unit {0}
+HasMore (x ∷ xs) fault = Unit {0}
+
+-- A fault was given: that to come, or want of memory in a layer that scans. Something was to come, and nothing comes behind it:
+-- it is given once.
 pub record GivesFault (old : List Token) (fault : Option Fault) (f : Fault) (new : List Token)
     (after : Option Fault) : Type 0 where
+  pub more : HasMore old fault
   pub none : new ≡ []
   pub no_fault : after ≡ None
   pub reason : IsMemoryFault scan_layers f ⊎ ((old ≡ []) × (fault ≡ Some f))

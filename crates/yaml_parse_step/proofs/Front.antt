@@ -29,8 +29,8 @@ stops_here ts rest p q s = rw (p, q) (sym (nothing_stops s))
 pub has_no_front : (p : Option Token) (ts : List Token) (f : Option Fault) (e : Fault) (rest : List Token) (after : Option Fault)
     → p ≡ None → GivesFault ts f e rest after → HasNoFront p ts f e rest
 has_no_front p ts f e rest after n h = record {
-  reason = elim h.reason [ inl m ↦ inl (inr m) | inr q ↦ inr (λ s. rw n (ends_here ts f e q.0 q.1 s)) ];
-  unasked = elim h.reason [ inl m ↦ inl (inr m) | inr q ↦ inr (λ s. rw n (stops_here ts rest h.none q.0 s)) ];
+  reason = elim h.reason [ inl m ↦ inl m | inr q ↦ inr (λ s. rw n (ends_here ts f e q.0 q.1 s)) ];
+  unasked = elim h.reason [ inl m ↦ inl m | inr q ↦ inr (λ s. rw n (stops_here ts rest h.none q.0 s)) ];
 }
 
 -- What a source put into the slots that were lent.

@@ -11,4 +11,5 @@ pub mod Sentences
 pub use Rattle.yaml_parse_laws_trees.proofs.AllGiven
 pub use Rattle.yaml_parse_laws_trees.proofs.ByContent
 pub use Rattle.yaml_parse_laws_trees.proofs.ByStep
+pub use Rattle.yaml_parse_laws_trees.proofs.Falling
 pub use Rattle.yaml_parse_laws_trees.proofs.NextLoads

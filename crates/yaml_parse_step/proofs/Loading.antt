@@ -1,7 +1,8 @@
 -- What feeding a loader with a parser's events comes to.
-use Rattle.std.proofs.Common.{◌≡◌, ◌⊎◌, ◌<◌, ℕ, ℤ, inl, inr, List, [], ◌∷◌, length, Option, Some, None, Bool, true, refl, sym, ap, subst, ◌∙◌, arith}
+use Rattle.std.proofs.Common.{◌≡◌, ◌⊎◌, ◌<◌, ◌≤◌, ℕ, ℤ, inl, inr, List, [], ◌∷◌, length, Option, Some, None, Bool, true, refl, sym, ap, subst, ◌∙◌, arith}
 use Rattle.yaml_scan_model.specs.declared.yaml_origin_t.TheVariants.{Loader}
-use Rattle.yaml_scan_model.specs.Faults.{Fault, memory_fault}
+use Rattle.yaml_scan_model.specs.Faults.{Fault, memory_fault, IsMemoryFault, scan_layers}
+use Rattle.yaml_parse_model.specs.Source.{HasMore}
 use Rattle.yaml_scan_model.specs.declared.yaml_mark_t.{yaml_mark_t}
 use Rattle.std.specs.FinMap as map
 use Rattle.yaml_parse_model.specs.Events.{Event, EventBody}
@@ -9,14 +10,16 @@ use Rattle.yaml_parse_model.specs.Events as event
 use Rattle.yaml_parse_grammar.specs.Stacks.{parts_documents_behind}
 use Rattle.yaml_parse_laws_trees.specs.parse_document.Documents.{Document, no_document}
 use Rattle.yaml_parse_grammar.specs.Resolve.{Told}
-use Rattle.yaml_parse_grammar.specs.Remaining.{ParserRemaining, IsFinished, FaultOf}
+use Rattle.yaml_parse_grammar.specs.Remaining.{ParserRemaining, IsFinished, FaultOf, next_unasked}
 use Rattle.yaml_parse_laws_trees.specs.parse_loader.Loading.{Loading, LoadStep, goes_on, loaded, refused, nothing_loaded, step, step_body, aliased, load, turn}
 use Rattle.yaml_parse_step.specs.Finds.{GivesNext, GivesEnd}
 use Rattle.yaml_parse_laws_trees.specs.NextLoad.{told_events, left_behind}
-use Rattle.yaml_parse_laws_trees.proofs.ByStep.{Loads, load_on, behind_all, loads, loads_of, unasked_on, unasked_at_refusal, unasked_of, LoadGives, LoadRefuses, KeepsLoading, LoadsSame}
+use Rattle.yaml_parse_laws_trees.proofs.ByStep.{Loads, load_on, behind_all, loads, loads_of, unasked_on, unasked_at_refusal, unasked_of, unasked_by, answer_unasked, LoadGives, LoadRefuses, KeepsLoading, LoadsSame}
+use Rattle.yaml_parse_laws_trees.specs.Falling.{AreFalling}
+use Rattle.yaml_parse_laws_trees.proofs.Falling.{has_more, nothing_more}
 
-pub keeps_first : (c : ParserRemaining) (l : Loading) → l ≡ nothing_loaded → KeepsLoading c c l
-keeps_first c l e = record { same = ap (λ (x : Loading). loads c.events c.ending x) e; unasked = ap (λ (x : Loading). unasked_at_refusal c.events c.ending_unasked x) e; left = refl; ending = refl; ending_unasked = refl; answered = refl }
+pub keeps_first : (c : ParserRemaining) (l : Loading) → l ≡ nothing_loaded → AreFalling c.events c.ending_unasked → KeepsLoading c c l
+keeps_first c l e d = record { falls = d; none = λ p. p; same = ap (λ (x : Loading). loads c.events c.ending x) e; unasked = ap (λ (x : Loading). unasked_at_refusal c.events c.ending_unasked x) e; left = refl; ending = refl; ending_unasked = refl; answered = refl }
 
 -- the next event is fed
 fed : (i o n : ParserRemaining) (l : Loading) (e : Event) (c : LoadStep) → KeepsLoading i o l → GivesNext e o n → step e l ≡ c → loads_of i ≡ load_on c (loads n.events o.ending) n.events n.unasked
@@ -33,8 +36,16 @@ fed_left : (i o n : ParserRemaining) (l : Loading) (e : Event) → KeepsLoading 
 unfolding left_behind
 fed_left i o n l e k h = sym (ap (λ (gs : List Told). left_behind gs o.unasked) h.events) ∙ k.left
 
+falls_behind : (gs rest : List Told) (g : Told) (m k : ℕ) → gs ≡ g ∷ rest → k ≡ m → AreFalling gs m → AreFalling rest k
+falls_behind gs rest g m k e p d = subst (AreFalling rest) (sym p) (subst (λ (z : List Told). AreFalling z m) e d).1
+
+none_before : (gs rest : List Told) (g : Told) → gs ≡ g ∷ rest → gs ≡ [] → rest ≡ []
+none_before gs rest g e p = let bad : [] ≡ g ∷ rest = sym p ∙ e in cc
+
 pub keeps_on : (i o n : ParserRemaining) (l m : Loading) (e : Event) → KeepsLoading i o l → GivesNext e o n → step e l ≡ goes_on m → KeepsLoading i n m
 keeps_on i o n l m e k h s = record {
+  falls = falls_behind o.events n.events (e, n.unasked) o.ending_unasked n.ending_unasked h.events h.ending_unasked k.falls;
+  none = λ p. none_before o.events n.events (e, n.unasked) h.events (k.none p);
   same = ap (λ (f : Option Fault). loads n.events f m) h.ending ∙ sym (fed i o n l e (goes_on m) k h s);
   unasked = ap (λ (u : ℕ). unasked_at_refusal n.events u m) h.ending_unasked ∙ sym (fed_unasked i o n l e (goes_on m) k h s);
   left = fed_left i o n l e k h;
@@ -87,6 +98,56 @@ load_refused i o n n' l e f k h r p q u = record {
   reason = elim r [ inl m ↦ inl (inl m) | inr s ↦ inr (fed i o n l e (refused f) k h s) ];
   unasked = elim r [ inl m ↦ inl (inl m) | inr s ↦ inr (u ∙ sym (fed_unasked i o n l e (refused f) k h s)) ];
 }
+
+-- ---- what a refusal has to come, and has asked for
+
+pub load_more : (i o : ParserRemaining) (l : Loading) → KeepsLoading i o l → HasMore o.events o.ending → HasMore i.events i.ending
+load_more i o l k h = has_more i.events i.ending (λ p q. nothing_more o.events o.ending (k.none p) (k.ending ∙ q) h)
+
+unasked_step : (c : LoadStep) (go : Loading → Loads) (u : Loading → ℕ) (rest : List Told) (left end n : ℕ) → left ≤ n → ((m : Loading) → unasked_by (go m) (u m) end ≤ left)
+    → unasked_by (load_on c go rest left) (unasked_on c left u) end ≤ n
+unasked_step (goes_on m) go u rest left end n l h = let x = h m in omega (arith, x, l)
+unasked_step (loaded d) go u rest left end n l h = l
+unasked_step (refused f) go u rest left end n l h = l
+
+unasked_within : (gs : List Told) (f : Option Fault) (m n : ℕ) (l : Loading) → next_unasked gs m ≤ n → AreFalling gs m → unasked_by (loads gs f l) (unasked_at_refusal gs m l) (left_behind gs n) ≤ n
+unfolding loads unasked_at_refusal left_behind
+unasked_within [] None m n l h d = omega arith
+unasked_within [] (Some e) m n l h d = h
+unasked_within (g ∷ gs) f m n l h d = unasked_step (step g.0 l) (loads gs f) (unasked_at_refusal gs m) gs g.1 (left_behind gs g.1) n h (λ k. unasked_within gs f m g.1 k d.0 d.1)
+
+unasked_next : (gs : List Told) (f : Option Fault) (m n : ℕ) (l : Loading) → HasMore gs f → AreFalling gs m → unasked_by (loads gs f l) (unasked_at_refusal gs m l) (left_behind gs n) ≤ next_unasked gs m
+unfolding loads unasked_at_refusal left_behind
+unasked_next [] None m n l h d = absurd h
+unasked_next [] (Some e) m n l h d = omega arith
+unasked_next (g ∷ gs) f m n l h d = unasked_step (step g.0 l) (loads gs f) (unasked_at_refusal gs m) gs g.1 (left_behind gs g.1) g.1 (omega arith) (λ k. unasked_within gs f m g.1 k d.0 d.1)
+
+unasked_first : (i o : ParserRemaining) (l : Loading) → KeepsLoading i o l → HasMore o.events o.ending → answer_unasked i ≤ next_unasked o.events o.ending_unasked
+unasked_first i o l k h =
+    let same : unasked_by (loads o.events o.ending l) (unasked_at_refusal o.events o.ending_unasked l) (left_behind o.events o.unasked) ≡ answer_unasked i =
+    ap (λ (r : Loads). unasked_by r (unasked_at_refusal o.events o.ending_unasked l) (left_behind o.events o.unasked)) k.same
+    ∙ ap (λ (u : ℕ). unasked_by (loads_of i) u (left_behind o.events o.unasked)) k.unasked
+    ∙ ap (λ (u : ℕ). unasked_by (loads_of i) (unasked_of i) u) k.left in
+    subst (λ (x : ℕ). x ≤ next_unasked o.events o.ending_unasked) same (unasked_next o.events o.ending o.ending_unasked o.unasked l h k.falls)
+
+pub load_asked : (i o n : ParserRemaining) (l : Loading) (f : Fault) → KeepsLoading i o l → FaultOf o f n → IsMemoryFault scan_layers f ⊎ (answer_unasked i ≤ n.unasked)
+load_asked i o n l f k h = elim h.asked [ inl m ↦ inl m | inr a ↦ let b = unasked_first i o l k h.more in inr (omega (arith, a, b)) ]
+
+-- the same where the loader refuses the event that was given
+more_of : (gs rest : List Told) (g : Told) (f : Option Fault) → gs ≡ g ∷ rest → HasMore gs f
+more_of gs rest g f e = rw e tt
+
+next_of : (gs rest : List Told) (g : Told) (m : ℕ) → gs ≡ g ∷ rest → next_unasked gs m ≡ g.1
+next_of gs rest g m e = rw e refl
+
+pub fed_more : (i o n : ParserRemaining) (l : Loading) (e : Event) → KeepsLoading i o l → GivesNext e o n → HasMore i.events i.ending
+fed_more i o n l e k h = load_more i o l k (more_of o.events n.events (e, n.unasked) o.ending h.events)
+
+pub fed_asked : (i o n n' : ParserRemaining) (l : Loading) (e : Event) (f : Fault) → KeepsLoading i o l → GivesNext e o n → n'.unasked ≡ n.unasked → IsMemoryFault scan_layers f ⊎ (answer_unasked i ≤ n'.unasked)
+fed_asked i o n n' l e f k h u =
+    let a = unasked_first i o l k (more_of o.events n.events (e, n.unasked) o.ending h.events) in
+    let b = next_of o.events n.events (e, n.unasked) o.ending_unasked h.events in
+    inr (omega (arith, a, b, u))
 
 -- ---- behind a document
 

@@ -161,8 +161,8 @@ ending_outcome peeked ts f old x s e p r = r old ∙ ap (λ (z : List State). en
 no_front_step : (peeked : Option Token) (ts : List Token) (f : Option Fault) (old : List State) (x : State) (s : List State) (e : Fault) (new : Raw)
     → old ≡ x ∷ s → HasNoFront peeked ts f e new.tokens → IsRefused e (raw peeked ts f old) new
 no_front_step peeked ts f old x s e new p h = record {
-  reason = elim h.reason [ inl m ↦ inl m | inr r ↦ inr (ending_outcome peeked ts f old x s e p r) ];
-  unasked = elim h.unasked [ inl m ↦ inl m | inr n ↦ inr (n old) ];
+  reason = elim h.reason [ inl m ↦ inl (inr m) | inr r ↦ inr (ending_outcome peeked ts f old x s e p r) ];
+  unasked = elim h.unasked [ inl m ↦ inl (inr m) | inr n ↦ inr (n old) ];
 }
 
 no_front_at : (peeked : Option Token) (ts : List Token) (f : Option Fault) (s : List State) (e : Fault) (new : Raw)

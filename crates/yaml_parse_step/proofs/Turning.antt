@@ -3,7 +3,8 @@ use Rattle.std.proofs.Common.{◌≡◌, ◌⊎◌, ◌+◌, ◌<◌, ◌≤◌,
 use Rattle.yaml_scan_model.specs.declared.yaml_origin_t.TheVariants.{Parser}
 use Rattle.yaml_scan_model.specs.declared.yaml_mark_t.{yaml_mark_t}
 use Rattle.yaml_scan_model.specs.Tokens.{Token}
-use Rattle.yaml_scan_model.specs.Faults.{Fault, memory_fault}
+use Rattle.yaml_scan_model.specs.Faults.{Fault, memory_fault, IsMemoryFault, scan_layers}
+use Rattle.yaml_parse_model.specs.Source.{HasMore}
 use Rattle.yaml_parse_model.specs.Events.{Event, EventBody, no_event}
 use Rattle.yaml_parse_grammar.specs.Items.{RawEvent, RawEventBody}
 use Rattle.yaml_parse_grammar.specs.Items as item
@@ -12,10 +13,11 @@ use Rattle.yaml_parse_grammar.specs.Trees.{Given, Stream, spell}
 use Rattle.yaml_parse_grammar.specs.TreeEvents.{given_of}
 use Rattle.yaml_parse_grammar.specs.Machine.{Outcome, run, initial, Stands}
 use Rattle.yaml_parse_grammar.specs.Resolve.{Directives, no_directives, Settled, refused, gave, noted, settle, settle_body, resolved, placed, read_on, reading, Reading, Told, unasked_on, unasked_at_fault}
-use Rattle.yaml_parse_grammar.specs.Remaining.{ParserRemaining, parser_remaining, reading_of, unasked_of, waiting, held_of, IsFinished, GivesNothing, GivesEvent, EventOf, FaultOf}
+use Rattle.yaml_parse_grammar.specs.Remaining.{ParserRemaining, parser_remaining, reading_of, unasked_of, waiting, held_of, IsFinished, GivesNothing, GivesEvent, EventOf, FaultOf, next_unasked}
 use Rattle.yaml_parse_grammar.proofs.CompleteStream.{nothing_runs, stream_runs}
 use Rattle.yaml_parse_grammar.proofs.Voice.{speaks, reading_speaks, not_noted}
 use Rattle.yaml_parse_laws_trees.proofs.Turns.{items_given}
+use Rattle.yaml_parse_laws_trees.proofs.Falling.{has_more}
 use Rattle.yaml_parse_step.specs.Steps.{Raw, outcome, stop_of, IsDirective, GivesItem, GivesNoItem, IsRefused, IsDone, IsSilent, IsTurnRefused, IsOver, Kept}
 use Rattle.yaml_parse_step.specs.Finds.{GivesNext, GivesEnd}
 
@@ -135,8 +137,18 @@ noted_turn old new ds ds' answered i h s =
 refused_of : (old : ParserRemaining) (r : Reading) (e : Fault) → r ≡ record { events = []; ending = Some e } → old.events ≡ r.events → old.ending ≡ r.ending → (old.events ≡ []) × (old.ending ≡ Some e)
 refused_of old r e p a b = (a ∙ ap (λ (x : Reading). x.events) p, b ∙ ap (λ (x : Reading). x.ending) p)
 
-pub refused_turn : (old middle new : Raw) (ds ds' : Directives) (answered : Fault) (e : Fault) → IsRefused e old middle → new.tokens ≡ middle.tokens → new.stack ≡ [] → IsTurnRefused e (of_raw old ds answered) (of_raw new ds' answered)
-refused_turn old middle new ds ds' answered e h k s = record {
+-- what stands has something to give
+pub stands_more : (r : Raw) (ds : Directives) (answered : Fault) → Stands r.stack → HasMore (of_raw r ds answered).events (of_raw r ds answered).ending
+stands_more r ds answered h = has_more (of_raw r ds answered).events (of_raw r ds answered).ending (still_speaks r ds h)
+
+abbrev pub AskedFor : Fault → Raw → Directives → List Token → Type 0
+AskedFor e r ds rest = IsMemoryFault scan_layers e ⊎ (next_unasked (reading_of (outcome r) ds).events (fault_of_raw r ds) ≤ length rest)
+
+pub refused_turn : (old middle new : Raw) (ds ds' : Directives) (answered : Fault) (e : Fault) → Stands old.stack → AskedFor e old ds new.tokens → IsRefused e old middle → new.tokens ≡ middle.tokens → new.stack ≡ []
+    → IsTurnRefused e (of_raw old ds answered) (of_raw new ds' answered)
+refused_turn old middle new ds ds' answered e z a h k s = record {
+  more = stands_more old ds answered z;
+  asked = a;
   finished = finishes new.peeked new.tokens new.fault new.stack ds' answered s;
   reason = elim h.reason [
     | inl m ↦ inl m
@@ -148,23 +160,26 @@ refused_turn old middle new ds ds' answered e h k s = record {
   ];
 }
 
-settled_turn : (old middle new : Raw) (ds ds' : Directives) (answered : Fault) (i : RawEvent) (e : Fault) → GivesItem i old middle → settle i ds ≡ refused e → new.tokens ≡ middle.tokens → new.stack ≡ []
+settled_turn : (old middle new : Raw) (ds ds' : Directives) (answered : Fault) (i : RawEvent) (e : Fault) → Stands old.stack → AskedFor e old ds new.tokens → GivesItem i old middle → settle i ds ≡ refused e → new.tokens ≡ middle.tokens → new.stack ≡ []
     → IsTurnRefused e (of_raw old ds answered) (of_raw new ds' answered)
-settled_turn old middle new ds ds' answered i e h r k s = record {
+settled_turn old middle new ds ds' answered i e z a h r k s = record {
+  more = stands_more old ds answered z;
+  asked = a;
   finished = finishes new.peeked new.tokens new.fault new.stack ds' answered s;
   reason = inr (refused_of (of_raw old ds answered) (reading_of (outcome old) ds) e
       (ap (λ (o : Outcome). reading_of o ds) h.same ∙ reading_refused (outcome middle).items (outcome middle).ending ds i (length middle.tokens) e r) refl refl);
   unasked = inr (ap length k ∙ sym (item_unasked old middle ds i h ∙ fault_refused (outcome middle).items (stop_of middle) ds i (length middle.tokens) e r));
 }
 
-memory_turn : (old : ParserRemaining) (new : Raw) (ds' : Directives) (answered : Fault) (e : Fault) → e ≡ memory_fault Parser → new.stack ≡ [] → IsTurnRefused e old (of_raw new ds' answered)
-memory_turn old new ds' answered e m s = record { finished = finishes new.peeked new.tokens new.fault new.stack ds' answered s; reason = inl (inl m); unasked = inl (inl m) }
+memory_turn : (old new : Raw) (ds ds' : Directives) (answered : Fault) (e : Fault) → Stands old.stack → AskedFor e old ds new.tokens → e ≡ memory_fault Parser → new.stack ≡ []
+    → IsTurnRefused e (of_raw old ds answered) (of_raw new ds' answered)
+memory_turn old new ds ds' answered e z a m s = record { more = stands_more old ds answered z; asked = a; finished = finishes new.peeked new.tokens new.fault new.stack ds' answered s; reason = inl (inl m); unasked = inl (inl m) }
 
 -- an item that is refused, or for which memory ran out
-pub unsettled_turn : (old middle new : Raw) (ds ds' : Directives) (answered : Fault) (i : RawEvent) (e : Fault) → GivesItem i old middle → (e ≡ memory_fault Parser) ⊎ (settle i ds ≡ refused e) → new.tokens ≡ middle.tokens → new.stack ≡ []
+pub unsettled_turn : (old middle new : Raw) (ds ds' : Directives) (answered : Fault) (i : RawEvent) (e : Fault) → Stands old.stack → AskedFor e old ds new.tokens → GivesItem i old middle → (e ≡ memory_fault Parser) ⊎ (settle i ds ≡ refused e) → new.tokens ≡ middle.tokens → new.stack ≡ []
     → IsTurnRefused e (of_raw old ds answered) (of_raw new ds' answered)
-unsettled_turn old middle new ds ds' answered i e h (inl m) k s = memory_turn (of_raw old ds answered) new ds' answered e m s
-unsettled_turn old middle new ds ds' answered i e h (inr r) k s = settled_turn old middle new ds ds' answered i e h r k s
+unsettled_turn old middle new ds ds' answered i e z a h (inl m) k s = memory_turn old new ds ds' answered e z a m s
+unsettled_turn old middle new ds ds' answered i e z a h (inr r) k s = settled_turn old middle new ds ds' answered i e z a h r k s
 
 pub done_turn : (old new : Raw) (ds : Directives) (answered : Fault) → IsDone old new → IsOver (of_raw old ds answered) (of_raw new ds answered)
 done_turn old new ds answered h = record {
@@ -253,8 +268,15 @@ given_end es f e i n p q r h = rw (p, q, r) h
 pub parsed_end : (i n : ParserRemaining) (e : Event) → GivesEnd i n → e ≡ no_event → EventOf i e n
 parsed_end i n e h p = given_end i.events i.ending e i n h.events h.ending p h.nothing
 
+asked_same : (i o n n' : ParserRemaining) → Kept i o → next_unasked o.events o.ending_unasked ≤ n.unasked → n'.unasked ≡ n.unasked → next_unasked i.events i.ending_unasked ≤ n'.unasked
+asked_same i o n n' k l u =
+    subst (λ (x : ℕ). next_unasked i.events i.ending_unasked ≤ x) (sym u)
+    (subst (λ (x : ℕ). next_unasked i.events x ≤ n.unasked) k.ending_unasked (subst (λ (gs : List Told). next_unasked gs o.ending_unasked ≤ n.unasked) k.events l))
+
 pub parsed_fault : (i o n n' : ParserRemaining) (f : Fault) → Kept i o → IsTurnRefused f o n → n'.events ≡ n.events → n'.ending ≡ n.ending → n'.between ≡ n.between → n'.unasked ≡ n.unasked → n'.answered ≡ f → FaultOf i f n'
 parsed_fault i o n n' f k h a b c u d = record {
+  more = subst (λ (x : Option Fault). HasMore i.events x) k.ending (subst (λ (gs : List Told). HasMore gs o.ending) k.events h.more);
+  asked = elim h.asked [ inl m ↦ inl m | inr l ↦ inr (asked_same i o n n' k l u) ];
   finished = record { events = a ∙ h.finished.events; ending = b ∙ h.finished.ending; between = c ∙ h.finished.between };
   answered = d;
   reason = elim h.reason [ inl m ↦ inl m | inr q ↦ inr (sym k.events ∙ q.0, sym k.ending ∙ q.1) ];

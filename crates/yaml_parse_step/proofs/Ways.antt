@@ -1,23 +1,25 @@
 -- What a turn with its item resolved is to what is to come.
-use Rattle.std.proofs.Common.{◌≡◌, inl, inr, true, false, List, [], ◌∷◌, Option, None, refl, sym, subst}
+use Rattle.std.proofs.Common.{◌≡◌, ◌⊎◌, ◌∙◌, ◌≤◌, ℕ, inl, inr, true, false, List, [], ◌∷◌, length, arith, Option, None, refl, sym, subst}
 use Rattle.yaml_scan_model.specs.Tokens.{Token}
 use Rattle.yaml_scan_model.specs.Faults.{Fault}
 use Rattle.yaml_parse_model.specs.Events.{Event}
 use Rattle.yaml_parse_model.specs.Source as source
 use Rattle.yaml_parse_grammar.specs.States.{State}
-use Rattle.yaml_parse_grammar.specs.Resolve.{Directives}
-use Rattle.yaml_parse_grammar.specs.Remaining.{parser_remaining, is_between}
+use Rattle.yaml_parse_grammar.specs.Machine.{Outcome, run, ending_at, unasked_at_stop, Stands}
+use Rattle.yaml_parse_grammar.specs.Resolve.{Directives, unasked_at_fault}
+use Rattle.yaml_parse_grammar.specs.Remaining.{parser_remaining, is_between, waiting, reading_of, next_unasked}
+use Rattle.yaml_parse_laws_trees.proofs.Falling.{next_behind, ended_next}
 use Rattle.yaml_parse_grammar.specs.Stacks.{IsStack}
 use Rattle.yaml_parse_grammar.specs.Texts.{IsUtf8Token, IsUtf8Held}
 use Rattle.yaml_parse_core.specs.Views.{is_nothing}
 use Rattle.yaml_parse_step.specs.declared.step.Step.{Step}
 use Rattle.yaml_parse_step.specs.declared.step.Step.TheVariants as code
 use Rattle.yaml_parse_step.specs.Stepped as step
-use Rattle.yaml_parse_step.specs.Steps.{raw, IsFront, Turns, IsSilent, IsUtf8Turn, IsStackTurn, IsRealOn}
+use Rattle.yaml_parse_step.specs.Steps.{raw, IsFront, HasNoFront, Turns, IsSilent, IsUtf8Turn, IsStackTurn, IsRealOn}
 use Rattle.yaml_parse_step.specs.Turned.{turned}
 use Rattle.yaml_parse_step.specs.Moves.{Went}
 use Rattle.yaml_parse_step.proofs.Moves.{over_front}
-use Rattle.yaml_parse_step.proofs.Turning.{event_turn, silent_turn, noted_turn, refused_turn, unsettled_turn}
+use Rattle.yaml_parse_step.proofs.Turning.{event_turn, silent_turn, noted_turn, refused_turn, unsettled_turn, AskedFor}
 use Rattle.yaml_parse_step.proofs.Texts.{advance_utf8, silent_utf8, event_utf8, noted_utf8, cleared_utf8}
 use Rattle.yaml_parse_step.proofs.Heights.{silent_stands, event_stands, noted_stands, cleared_stands}
 
@@ -33,6 +35,32 @@ refused_real : (s : List State) (t : Token) (g : Fault) → IsRealOn s t (step.r
 refused_real [] t g = tt
 refused_real (x ∷ s) t g = tt
 
+pub stands_open : (s : List State) → is_nothing s ≡ false → Stands s
+stands_open [] z = cc
+stands_open (x ∷ s) z = tt
+
+-- no token behind the one in front was asked for
+front_asked : (peeked : Option Token) (ts : List Token) (f : Option Fault) (s : List State) (t : Token) (rest : List Token) (after : Option Fault) (ds : Directives) (g : Fault)
+    → IsFront peeked ts f t rest after → AskedFor g (raw peeked ts f s) ds rest
+front_asked peeked ts f s t rest after ds g k =
+    inr (subst (λ (u : ℕ). next_unasked (reading_of (run (waiting peeked ts) s f) ds).events (unasked_at_fault (run (waiting peeked ts) s f).items u ds) ≤ length rest) (k.stops s)
+    (subst (λ (o : Outcome). next_unasked (reading_of o ds).events (unasked_at_fault o.items (unasked_at_stop (t ∷ rest) s) ds) ≤ length rest) (k.runs s) (next_behind t rest after s ds)))
+
+same_le : (a b : ℕ) → a ≡ b → a ≤ b
+same_le a b e = omega (arith, e)
+
+-- and none where none is there
+pub no_front_asked : (peeked : Option Token) (ts : List Token) (f : Option Fault) (s : List State) (rest : List Token) (ds : Directives) (g : Fault) → HasNoFront peeked ts f g rest → AskedFor g (raw peeked ts f s) ds rest
+no_front_asked peeked ts f s rest ds g h = elim h.reason [
+  | inl m ↦ inl m
+  | inr r ↦ elim h.unasked [
+    | inl m ↦ inl m
+    | inr u ↦
+        inr (subst (λ (o : Outcome). next_unasked (reading_of o ds).events (unasked_at_fault o.items (unasked_at_stop (waiting peeked ts) s) ds) ≤ length rest) (sym (r s))
+        (same_le _ _ (ended_next s g (unasked_at_stop (waiting peeked ts) s) ds ∙ sym (u s))))
+  ]
+]
+
 pub went_turns : (peeked : Option Token) (ts : List Token) (f : Option Fault) (s : List State) (t : Token) (rest : List Token) (after : Option Fault) (ds : Directives) (r : Step) (e : Event) (g : Fault)
     (held : Option Token) (new : List State) (behind : Directives) (answered : Fault) → is_nothing s ≡ false → IsFront peeked ts f t rest after → Went s t ds r e g held new behind
     → Turns (parser_remaining peeked ts f s ds answered) (turned r e g) (parser_remaining held rest after new behind answered)
@@ -47,10 +75,10 @@ went_turns peeked ts f s t rest after ds code.Silent e g held new behind answere
     noted_turn (raw peeked ts f s) (raw held rest after new) ds behind answered d.item
     (over_front peeked ts f s t rest after (raw held rest after new) (step.given d.item) z k (d.moves.gives rest after) d.moves.real) d.settles
 went_turns peeked ts f s t rest after ds code.Refused e g held new behind answered z k (n, inl st) =
-    refused_turn (raw peeked ts f s) (raw held rest after new) (raw held rest after new) ds behind answered g
+    refused_turn (raw peeked ts f s) (raw held rest after new) (raw held rest after new) ds behind answered g (stands_open s z) (front_asked peeked ts f s t rest after ds g k)
     (over_front peeked ts f s t rest after (raw held rest after new) (step.refused g) z k (st rest after held new) (refused_real s t g)) refl n
 went_turns peeked ts f s t rest after ds code.Refused e g held new behind answered z k (n, inr d) =
-    unsettled_turn (raw peeked ts f s) (raw d.held rest after d.new) (raw held rest after new) ds behind answered d.item g
+    unsettled_turn (raw peeked ts f s) (raw d.held rest after d.new) (raw held rest after new) ds behind answered d.item g (stands_open s z) (front_asked peeked ts f s t rest after ds g k)
     (over_front peeked ts f s t rest after (raw d.held rest after d.new) (step.given d.item) z k (d.moves.gives rest after) d.moves.real) d.settles refl n
 went_turns peeked ts f s t rest after ds code.Done e g held new behind answered z k h = absurd (nothing_open s h.0 z)
 

@@ -1,15 +1,16 @@
 -- What the private steps of a parser owe.
-use Rattle.std.specs.Prelude.{◌≡◌, ◌⊎◌, ◌+◌, ◌<◌, ◌++◌, ℕ, List, [], ◌∷◌, length, Option, Some, None, Bool, true, false}
+use Rattle.std.specs.Prelude.{◌≡◌, ◌⊎◌, ◌+◌, ◌<◌, ◌≤◌, ◌++◌, ℕ, List, [], ◌∷◌, length, Option, Some, None, Bool, true, false}
 use Rattle.yaml_scan_model.specs.declared.yaml_origin_t.TheVariants.{Parser}
 use Rattle.yaml_scan_model.specs.declared.yaml_mark_t.{yaml_mark_t}
 use Rattle.yaml_scan_model.specs.Tokens.{Token, no_token, token_of, type_of}
-use Rattle.yaml_scan_model.specs.Faults.{Fault, memory_fault, IsMemoryFault, parse_layers}
+use Rattle.yaml_scan_model.specs.Faults.{Fault, memory_fault, IsMemoryFault, parse_layers, scan_layers}
+use Rattle.yaml_parse_model.specs.Source.{HasMore}
 use Rattle.yaml_parse_grammar.specs.declared.name.Choice.TheVariants.{Take}
 use Rattle.yaml_parse_grammar.specs.States.{State}
 use Rattle.yaml_parse_grammar.specs.Items.{item_at}
 use Rattle.yaml_parse_grammar.specs.Items as item
 use Rattle.yaml_parse_grammar.specs.Machine.{Outcome, run, unasked_at_stop, ending_at, choice_at, opened, Stands}
-use Rattle.yaml_parse_grammar.specs.Remaining.{ParserRemaining, waiting, held_of, IsFinished, is_between}
+use Rattle.yaml_parse_grammar.specs.Remaining.{ParserRemaining, waiting, held_of, IsFinished, is_between, next_unasked}
 use Rattle.yaml_parse_grammar.specs.Texts.{IsUtf8Item, AreUtf8States, IsUtf8Token}
 use Rattle.yaml_parse_grammar.specs.Stacks.{IsStack, StandsBehind, parts_documents_behind}
 use Rattle.yaml_parse_model.specs.Constructors.{HasUtf8, AreUtf8}
@@ -44,12 +45,12 @@ pub record IsFront (peeked : Option Token) (ts : List Token) (fault : Option Fau
   pub stops : (s : List State)
       → unasked_at_stop (t ∷ rest) s ≡ unasked_at_stop (waiting peeked ts) s
 
--- No token stands there: memory ran out, or the fault ends the list.
+-- No token stands there: the source's memory ran out, or its fault ends the list.
 pub record HasNoFront (peeked : Option Token) (ts : List Token) (fault : Option Fault)
     (f : Fault) (rest : List Token) : Type 0 where
-  pub reason : IsMemoryFault parse_layers f
+  pub reason : IsMemoryFault scan_layers f
       ⊎ ((s : List State) → run (waiting peeked ts) s fault ≡ ending_at s f)
-  pub unasked : IsMemoryFault parse_layers f
+  pub unasked : IsMemoryFault scan_layers f
       ⊎ ((s : List State) → length rest ≡ unasked_at_stop (waiting peeked ts) s)
 
 -- whether a token stands at the front
@@ -180,9 +181,12 @@ pub record IsSilent (old new : ParserRemaining) : Type 0 where
   pub speaks : old.events ≡ [] → old.ending ≡ None → ⊥
 
 pub record IsTurnRefused (f : Fault) (old new : ParserRemaining) : Type 0 where
+  pub more : HasMore old.events old.ending
   pub finished : IsFinished new
   pub reason : IsMemoryFault parse_layers f ⊎ ((old.events ≡ []) × (old.ending ≡ Some f))
   pub unasked : IsMemoryFault parse_layers f ⊎ (new.unasked ≡ old.ending_unasked)
+  pub asked : IsMemoryFault scan_layers f
+      ⊎ (next_unasked old.events old.ending_unasked ≤ new.unasked)
 
 pub record IsOver (old new : ParserRemaining) : Type 0 where
   pub finished : IsFinished old

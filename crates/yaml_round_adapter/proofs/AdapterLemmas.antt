@@ -1,5 +1,5 @@
 -- The token that an adapter gives, and the texts of what is left.
-use Rattle.std.proofs.Common.{◌≡◌, ℕ, Bool, true, false, true≢false, List, [], ◌∷◌, Option, None, Result, Ok, Err, refl, inl, inr, All, ap, ◌∙◌}
+use Rattle.std.proofs.Common.{◌≡◌, ℕ, Bool, true, false, true≢false, List, [], ◌∷◌, Option, Some, None, Result, Ok, Err, refl, inl, inr, All, ap, ◌∙◌}
 use Rattle.std.proofs.lemmas.List.Elements.{All-nil, All-head, All-tail}
 use Rattle.yaml_scan.specs.declared.yaml_encoding_t.{yaml_encoding_t}
 use Rattle.yaml_scan.specs.Tokens.{Token}
@@ -16,7 +16,7 @@ use Rattle.yaml_scan.specs.scan_history.Remaining.{Remaining}
 use Rattle.yaml_scan.specs.Scanned.{scanned_in, scanned}
 use Rattle.yaml_scan.specs.Session as session
 use Rattle.yaml_scan.specs.Session.{View, first_of, others_of, behind_first}
-use Rattle.yaml_parse.specs.Source.{front_of, rest_of, MayAnswer, GivesToken, GivesFault}
+use Rattle.yaml_parse.specs.Source.{front_of, rest_of, MayAnswer, HasMore, GivesToken, GivesFault}
 use Rattle.yaml_round_adapter.specs.Adapted.{adapted}
 use Rattle.yaml_round_adapter.specs.Adapter.{TakesText, Stops}
 use Rattle.yaml_round_adapter.specs.AdapterView.{remaining_by}
@@ -57,6 +57,11 @@ same_may : (ts : List Token) (fault : Option Fault) → session.MayAnswer ts fau
 same_may [] fault may = may
 same_may (t ∷ ts) fault may = tt
 
+same_more : (ts : List Token) (fault : Option Fault) → session.HasMore ts fault → HasMore ts fault
+same_more [] None more = more
+same_more [] (Some f) more = tt
+same_more (t ∷ ts) fault more = tt
+
 -- a token whose tag is UTF-8 is given
 gives_text : (old new : View) (t : Token) → HaveTexts old.remaining → TakesText old t new
     → GivesToken (adapted old.remaining).tokens (adapted old.remaining).fault t (adapted new.remaining).tokens (adapted new.remaining).fault
@@ -76,7 +81,7 @@ gives_token false old new was t o e texts g = rw (← e) (gives_text old new t t
 
 -- the session's own fault is given, or that of the next token's tag
 gives_stop : (c : Remaining) (f : Fault) → Stops c f → GivesFault (adapted c).tokens (adapted c).fault f [] None
-gives_stop c f (inl told) = failed c f told
+gives_stop c f (inl (more, told)) = failed c f (same_more c.tokens c.fault more) told
 gives_stop c f (inr (s, e)) = rw e (refused c (first_of c.tokens) (first_front c.tokens) s)
 
 pub gives_fault : (over : Bool) (old was : Remaining) (f : Fault) → over ≡ false → remaining_by over old ≡ was → Stops old f → GivesFault was.tokens was.fault f [] None

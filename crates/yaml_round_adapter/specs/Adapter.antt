@@ -4,7 +4,7 @@ use Rattle.yaml_scan.specs.Tokens.{Token}
 use Rattle.yaml_scan.specs.Faults.{Fault}
 use Rattle.yaml_scan.specs.scan_history.Remaining.{Remaining}
 use Rattle.yaml_scan.specs.Left.{IsTold}
-use Rattle.yaml_scan.specs.Session.{View, Takes, first_of}
+use Rattle.yaml_scan.specs.Session.{View, HasMore, Takes, first_of}
 use Rattle.yaml_round_adapter.specs.Adapted.{spells_text, tag_fault}
 
 -- whether a token's tag is UTF-8; where it isn't, the fault of the tag
@@ -17,9 +17,10 @@ pub record TakesText (old : View) (t : Token) (new : View) : Type 0 where
   pub takes : Takes old t new
   pub text : spells_text t.body ≡ true
 
--- the session's own fault, or that of the next token's tag
+-- the session's own fault, where something is to come, or that of the next token's tag
 abbrev pub Stops : Remaining → Fault → Type 0
-Stops c f = IsTold c f ⊎ ((spells_text (first_of c.tokens).body ≡ false)
+Stops c f = (HasMore c.tokens c.fault × IsTold c f)
+    ⊎ ((spells_text (first_of c.tokens).body ≡ false)
     × (f ≡ tag_fault (first_of c.tokens).start_mark))
 
 abbrev pub Adapts : View → View → Bool → Token → Fault → Type 0

@@ -10,7 +10,7 @@ use Rattle.yaml_parse_model.specs.Faults.{Fault, IsMemoryFault, scan_layers}
 use Rattle.yaml_scan_laws_texts.specs.scan_history.Remaining.{SpelledText, Remaining, remaining}
 use Rattle.yaml_scan_laws_texts.specs.Utf8Texts.{HasTexts}
 use Rattle.yaml_scan_laws_texts.proofs.TokensUtf8.{remaining_sound}
-use Rattle.yaml_parse_model.specs.Source.{front_of, rest_of, MayAnswer, HasUtf8, GivesToken, GivesFault}
+use Rattle.yaml_parse_model.specs.Source.{front_of, rest_of, MayAnswer, HasMore, HasUtf8, GivesToken, GivesFault}
 use Rattle.yaml_round_laws_adapted.specs.Adapted.{spells_text, tag_fault, cut, adapted}
 
 -- what escapes spell, and all other texts
@@ -47,7 +47,7 @@ taken old new t e f g may h s = rw (e, f, g) (cut_taken old.fault old.tokens (rw
 
 cut_refused : (fault : Option Fault) (old : List Token) → spells_text (front_of old).body ≡ false → GivesFault (cut fault old).tokens (cut fault old).fault (tag_fault (front_of old).start_mark) [] None
 cut_refused fault [] s = absurd (true≢false s)
-cut_refused fault (t ∷ ts) s = rw s record { none = refl; no_fault = refl; reason = inr (refl, refl) }
+cut_refused fault (t ∷ ts) s = rw s record { more = tt; none = refl; no_fault = refl; reason = inr (refl, refl) }
 
 -- The front is refused, where its tag isn't UTF-8.
 pub refused : (old : Remaining) (t : Token) → t ≡ front_of old.tokens → spells_text t.body ≡ false → GivesFault (adapted old).tokens (adapted old).fault (tag_fault t.start_mark) [] None
@@ -57,10 +57,18 @@ cut_failed : (fault : Option Fault) (old : List Token) (f : Fault) → old ≡ [
 cut_failed fault [] f e g = (refl, g)
 cut_failed fault (t ∷ ts) f e g = let bad : t ∷ ts ≡ [] = e in cc
 
+cut_more : (fault : Option Fault) (old : List Token) → HasMore old fault → HasMore (cut fault old).tokens (cut fault old).fault
+cut_more fault [] h = h
+cut_more fault (t ∷ ts) h =
+    elim (cases_Bool (spells_text t.body)) [
+      | inl e ↦ rw e tt
+      | inr e ↦ rw e tt
+    ]
+
 -- The session's own fault is passed on.
-pub failed : (old : Remaining) (f : Fault) → IsMemoryFault scan_layers f ⊎ ((old.tokens ≡ []) × (old.fault ≡ Some f)) → GivesFault (adapted old).tokens (adapted old).fault f [] None
-failed old f (inl memory) = record { none = refl; no_fault = refl; reason = inl memory }
-failed old f (inr (e, g)) = record { none = refl; no_fault = refl; reason = inr (cut_failed old.fault old.tokens f e g) }
+pub failed : (old : Remaining) (f : Fault) → HasMore old.tokens old.fault → IsMemoryFault scan_layers f ⊎ ((old.tokens ≡ []) × (old.fault ≡ Some f)) → GivesFault (adapted old).tokens (adapted old).fault f [] None
+failed old f more (inl memory) = record { more = cut_more old.fault old.tokens more; none = refl; no_fault = refl; reason = inl memory }
+failed old f more (inr (e, g)) = record { more = cut_more old.fault old.tokens more; none = refl; no_fault = refl; reason = inr (cut_failed old.fault old.tokens f e g) }
 
 -- a test of UTF-8 is the test of the definition
 pub same_test : (r : Bool) (bytes : List ℕ) → (IsTrue r ↔ IsUtf8 bytes) → r ≡ is_utf8 bytes

@@ -4,7 +4,7 @@ use Rattle.yaml_parse_model.specs.Tokens.{Token}
 use Rattle.yaml_parse_model.specs.Faults.{Fault, IsMemoryFault, scan_layers}
 use Rattle.yaml_scan_laws_texts.specs.scan_history.Remaining.{SpelledText, Remaining, remaining}
 use Rattle.yaml_scan_laws_texts.specs.Utf8Texts.{HasTexts}
-use Rattle.yaml_parse_model.specs.Source.{front_of, rest_of, MayAnswer, HasUtf8, GivesToken, GivesFault}
+use Rattle.yaml_parse_model.specs.Source.{front_of, rest_of, MayAnswer, HasMore, HasUtf8, GivesToken, GivesFault}
 use Rattle.yaml_round_laws_adapted.specs.Adapted.{spells_text, tag_fault, adapted}
 
 -- Its texts are UTF-8.
@@ -24,8 +24,8 @@ abbrev pub TagIsRefused : Type 0
 TagIsRefused = (old : Remaining) (t : Token) → t ≡ front_of old.tokens → spells_text t.body ≡ false
     → GivesFault (adapted old).tokens (adapted old).fault (tag_fault t.start_mark) [] None
 
--- A fault that is to come, and want of memory, is given as it is.
+-- Where something is to come, its fault, and want of memory, is given as it is.
 abbrev pub FaultIsGiven : Type 0
-FaultIsGiven = (old : Remaining) (f : Fault) → IsMemoryFault scan_layers f
-    ⊎ ((old.tokens ≡ []) × (old.fault ≡ Some f)) → GivesFault (adapted old).tokens
-    (adapted old).fault f [] None
+FaultIsGiven = (old : Remaining) (f : Fault) → HasMore old.tokens old.fault
+    → IsMemoryFault scan_layers f ⊎ ((old.tokens ≡ []) × (old.fault ≡ Some f))
+    → GivesFault (adapted old).tokens (adapted old).fault f [] None

@@ -1,4 +1,5 @@
 pub mod FoundLemmas
+mod MoreLemmas
 pub mod SessionLemmas
 -- its helpers, for crates of laws that name the member alone
 pub use Rattle.yaml_scan_decode.proofs.CompleteLemmas

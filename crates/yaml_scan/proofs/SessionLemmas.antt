@@ -11,7 +11,7 @@ use Rattle.yaml_scan_machine.specs.declared.machine.Machine.{Machine}
 use Rattle.yaml_scan_machine.specs.State.{IsMachine, is_ready}
 use Rattle.yaml_scan_machine.specs.Left.{left_in, IsTold}
 use Rattle.yaml_scan_machine.proofs.TakeLemmas.{ready_gives}
-use Rattle.yaml_scan.specs.Session.{View, HasFirst, Takes, Lends, Refuses, ScansInto, MayAnswer, behind_first}
+use Rattle.yaml_scan.specs.Session.{View, HasFirst, HasMore, Takes, Lends, Refuses, ScansInto, MayAnswer, behind_first}
 use Rattle.yaml_scan.specs.SessionView.{remaining_by, ready_by, view_by, IsWhole}
 
 pub no_fault : (o : Option yaml_fault_t) → is_some o ≡ false → o ≡ None
@@ -103,10 +103,10 @@ takes_none None true ready next s t c d n k e off over none empty = cc
 takes_none (Some f) aside ready next s t c d n k e off over none empty = cc
 
 -- a refusal is answered and kept
-pub refuses : (o : Option yaml_fault_t) (aside after ready next : Bool) (s t : Token) (c d : Remaining) (n k : ℕ) (f : yaml_fault_t) → is_some o ≡ false → aside ≡ false → ready ≡ false → IsTold c (fault_of f) → Refuses (view_by o aside s c ready n) (fault_of f) (view_by (Some f) after t d next k)
-refuses None false after ready next s t c d n k f e off sought told = record { sought = sought; told = told; once = refl; kept = refl; over = refl; unknown = refl }
-refuses None true after ready next s t c d n k f e off sought told = cc
-refuses (Some g) aside after ready next s t c d n k f e off sought told = cc
+pub refuses : (o : Option yaml_fault_t) (aside after ready next : Bool) (s t : Token) (c d : Remaining) (n k : ℕ) (f : yaml_fault_t) → is_some o ≡ false → aside ≡ false → ready ≡ false → IsTold c (fault_of f) → HasMore c.tokens c.fault → Refuses (view_by o aside s c ready n) (fault_of f) (view_by (Some f) after t d next k)
+refuses None false after ready next s t c d n k f e off sought told more = record { sought = sought; more = more; told = told; once = refl; kept = refl; over = refl; unknown = refl }
+refuses None true after ready next s t c d n k f e off sought told more = cc
+refuses (Some g) aside after ready next s t c d n k f e off sought told more = cc
 
 -- the token that was put aside is lent, or behind a fault that was answered the empty one
 pub lends_aside : (o : Option yaml_fault_t) (aside ready : Bool) (s : Token) (c : Remaining) (n : ℕ) → aside ≡ true → ((f : yaml_fault_t) → o ≡ Some f → s ≡ no_token) → Lends (view_by o aside s c ready n) s (view_by o aside s c ready n)

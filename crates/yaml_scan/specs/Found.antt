@@ -7,6 +7,7 @@ use Rattle.yaml_scan_machine.specs.scan_laws_order.Fronts.{GivesFirst}
 use Rattle.yaml_scan_machine.specs.declared.machine.Machine.{Machine}
 use Rattle.yaml_scan_machine.specs.Left.{left_in, IsTold}
 use Rattle.yaml_scan_machine.specs.State.{IsMachine, is_ready}
+use Rattle.yaml_scan.specs.Session.{HasMore}
 use Rattle.yaml_scan.specs.declared.reading.Sought.{Sought}
 use Rattle.yaml_scan.specs.declared.reading.Sought.TheVariants as found
 
@@ -22,10 +23,11 @@ pub record Finishes (old new : Machine) : Type 0 where
   pub left : left_in old ≡ nothing
   pub none : left_in new ≡ nothing
 
--- A refusal tells the fault that is to come, where no token is, or that memory ran out; a token that is known isn't
--- refused.
+-- A refusal tells the fault that is to come, where no token is, or that memory ran out; a token that is known isn't refused, nor
+-- is the end.
 pub record Denies (old new : Machine) (f : Fault) : Type 0 where
   pub sought : is_ready old ≡ false
+  pub more : HasMore (left_in old).tokens (left_in old).fault
   pub told : IsTold (left_in old) f
   pub few : length new.waiting.items ≤ 1025
 

@@ -34,6 +34,12 @@ abbrev pub HasFirst : List Token → Type 0
 HasFirst [] = ⊥
 HasFirst (t ∷ ts) = Unit {0}
 
+-- a token or a fault is to come
+abbrev pub HasMore : List Token → Option Fault → Type 0
+HasMore [] None = ⊥
+HasMore [] (Some f) = Unit {0}
+HasMore (t ∷ ts) fault = Unit {0}
+
 -- behind the last token a fault is answered, if one is to come
 abbrev pub MayAnswer : List Token → Option Fault → Type 0
 MayAnswer [] fault = fault ≡ None
@@ -51,10 +57,11 @@ FewWait v = v.waiting ≤ 1025
 abbrev pub IsKnown : View → Type 0
 IsKnown v = (v.ready ≡ true) ⊎ (v.remaining ≡ nothing)
 
--- A refusal tells the fault that is to come, where no token is, or that memory ran out; a token that is known isn't
--- refused. It is answered once and kept, and nothing comes behind it.
+-- A refusal tells the fault that is to come, where no token is, or that memory ran out; a token that is known isn't refused, nor
+-- is the empty token behind the end. It is answered once and kept, and nothing comes behind it.
 pub record Refuses (old : View) (f : Fault) (new : View) : Type 0 where
   pub sought : old.ready ≡ false
+  pub more : HasMore old.remaining.tokens old.remaining.fault
   pub told : IsTold old.remaining f
   pub once : old.answered ≡ None
   pub kept : new.answered ≡ Some f

@@ -198,6 +198,7 @@ fn read_on(machine: &mut Machine, spares: &mut Vec<Vec<u8>>, fault: &mut yaml_fa
 #[inline(never)]
 fn begin(machine: &mut Machine, spares: &mut Vec<Vec<u8>>, fault: &mut yaml_fault_t) -> Sought
     requires stands { IsMachine machine.old }
+    requires fresh { machine.old.started ≡ false }
     requires sought { is_ready machine.old ≡ false }
     ensures { ReadsOn machine.old machine.new (fault_of fault.new) result }
 {

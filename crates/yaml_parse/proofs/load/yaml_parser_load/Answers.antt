@@ -1,6 +1,6 @@
 use Rattle.yaml_scan_model.specs.Faults.{fault_of}
 use Rattle.yaml_parse_model.specs.Events.{event_of}
-use Rattle.yaml_parse_step.proofs.Loading.{keeps_on, loads_document, loads_nothing, load_faulty, load_refused}
+use Rattle.yaml_parse_step.proofs.Loading.{keeps_on, loads_document, loads_nothing, load_faulty, load_refused, load_more, load_asked, fed_more, fed_asked}
 use Rattle.yaml_parse_step.proofs.NextLoads.{load_is_next, refusal_is_next}
 use Rattle.yaml_parse.proofs.load.yaml_parser_load.Goals as goal
 
@@ -30,8 +30,12 @@ returns-in-Err-clause-refused g c =
     refusal_is_next c.args.parser.now c.refuse.new.self (fault_of c.in-Err.refused)
     (load_refused c.args.parser.now c.events.parser c.yaml_parser_parse_into.new.parser c.refuse.new.self c.events.loader (event_of c.yaml_parser_parse_into.new.event) (fault_of c.in-Err.refused)
     c.events.invariant next c.in-Err.ensures.feeds.0 c.refuse.ensures.finished c.refuse.ensures.answered c.refuse.ensures.unasked)
+    (fed_more c.args.parser.now c.events.parser c.yaml_parser_parse_into.new.parser c.events.loader (event_of c.yaml_parser_parse_into.new.event) c.events.invariant next)
+    (fed_asked c.args.parser.now c.events.parser c.yaml_parser_parse_into.new.parser c.refuse.new.self c.events.loader (event_of c.yaml_parser_parse_into.new.event) (fault_of c.in-Err.refused) c.events.invariant next c.refuse.ensures.unasked)
 
 pub returns-in-Refused-clause-refused : goal.returns-in-Refused-clause-refused
 returns-in-Refused-clause-refused g c =
     refusal_is_next c.args.parser.now c.yaml_parser_parse_into.new.parser (fault_of c.yaml_parser_parse_into.new.fault)
     (load_faulty c.args.parser.now c.events.parser c.yaml_parser_parse_into.new.parser c.events.loader (fault_of c.yaml_parser_parse_into.new.fault) c.events.invariant c.in-Refused.ensures.finds)
+    (load_more c.args.parser.now c.events.parser c.events.loader c.events.invariant c.in-Refused.ensures.finds.more)
+    (load_asked c.args.parser.now c.events.parser c.yaml_parser_parse_into.new.parser c.events.loader (fault_of c.yaml_parser_parse_into.new.fault) c.events.invariant c.in-Refused.ensures.finds)

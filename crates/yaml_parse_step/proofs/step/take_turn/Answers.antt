@@ -11,7 +11,7 @@ use Rattle.yaml_parse_step.proofs.Moves.{no_front_open}
 use Rattle.yaml_parse_step.proofs.Turning.{done_turn, refused_turn}
 use Rattle.yaml_parse_step.proofs.Texts.{cleared_utf8}
 use Rattle.yaml_parse_step.proofs.Heights.{cleared_stands}
-use Rattle.yaml_parse_step.proofs.Ways.{over_empty, went_turns, went_utf8, went_stands}
+use Rattle.yaml_parse_step.proofs.Ways.{over_empty, stands_open, no_front_asked, went_turns, went_utf8, went_stands}
 use Rattle.yaml_parse_step.proofs.step.take_turn.Goals as goal
 
 pub returns-then-is_over-clause-turns : goal.returns-then-is_over-clause-turns
@@ -22,6 +22,8 @@ returns-then-is_over-clause-turns g c = λ answered.
 pub returns-then-not-front-clause-turns : goal.returns-then-not-front-clause-turns
 returns-then-not-front-clause-turns g c = λ answered.
     refused_turn (raw (peeked_of c.args.buffers.now) (g.S.yaml_token_source_t.to_come c.args.source.now) (g.S.yaml_token_source_t.fault_to_come c.args.source.now) (states_in c.args.buffers.now)) (raw (held_if c.front.new.buffers.is_held (token_of c.front.new.buffers.token)) (g.S.yaml_token_source_t.to_come c.front.new.source) (g.S.yaml_token_source_t.fault_to_come c.front.new.source) (states_in c.args.buffers.now)) (raw (held_if c.front.new.buffers.is_held (token_of c.front.new.buffers.token)) (g.S.yaml_token_source_t.to_come c.front.new.source) (g.S.yaml_token_source_t.fault_to_come c.front.new.source) (owned_states_by c.finish.new.machine (owned_properties c.front.new.buffers.waiting))) (directives_of c.args.buffers.now.directives) (directives_of c.front.new.buffers.directives) answered (fault_of c.front.new.fault)
+    (stands_open (states_in c.args.buffers.now) (sym (c.is_over.ensures (λ m. m) (owned_properties c.args.buffers.now.waiting)) ∙ c.if-is_over.false))
+    (no_front_asked (peeked_of c.args.buffers.now) (g.S.yaml_token_source_t.to_come c.args.source.now) (g.S.yaml_token_source_t.fault_to_come c.args.source.now) (states_in c.args.buffers.now) (g.S.yaml_token_source_t.to_come c.front.new.source) (directives_of c.args.buffers.now.directives) (fault_of c.front.new.fault) c.if-not-front.ensures.front)
     (no_front_open (peeked_of c.args.buffers.now) (g.S.yaml_token_source_t.to_come c.args.source.now) (g.S.yaml_token_source_t.fault_to_come c.args.source.now) (states_in c.args.buffers.now) (fault_of c.front.new.fault) (raw (held_if c.front.new.buffers.is_held (token_of c.front.new.buffers.token)) (g.S.yaml_token_source_t.to_come c.front.new.source) (g.S.yaml_token_source_t.fault_to_come c.front.new.source) (states_in c.args.buffers.now)) (sym (c.is_over.ensures (λ m. m) (owned_properties c.args.buffers.now.waiting)) ∙ c.if-is_over.false) c.if-not-front.ensures.front) refl (c.finish.ensures (λ m. m) (owned_properties c.front.new.buffers.waiting))
 
 pub returns-then-not-front-clause-utf8 : goal.returns-then-not-front-clause-utf8

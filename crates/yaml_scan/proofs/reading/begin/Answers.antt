@@ -1,6 +1,7 @@
 use Rattle.std.proofs.Common.{◌∙◌}
 use Rattle.yaml_scan_model.specs.Faults.{fault_of}
 use Rattle.yaml_scan.proofs.FoundLemmas.{reads_behind}
+use Rattle.yaml_scan.proofs.MoreLemmas.{fresh_more}
 use Rattle.yaml_scan.proofs.reading.begin.Goals as goal
 
 pub fill-requires-clause-stands : goal.fill-requires-clause-stands
@@ -16,4 +17,4 @@ pub returns-in-Ok : goal.returns-in-Ok
 returns-in-Ok c = reads_behind c.args.machine.now c.start.new.self c.fill.new.machine (fault_of c.fill.new.fault) c.fill.result c.in-Ok.ensures.left c.in-Ok.ensures.ready c.fill.ensures
 
 pub returns-in-Err : goal.returns-in-Err
-returns-in-Err c = record { sought = c.in-Err.ensures.sought; told = c.in-Err.ensures.told; few = c.in-Err.ensures.few }
+returns-in-Err c = record { sought = c.in-Err.ensures.sought; more = fresh_more c.args.machine.now c.requires.fresh; told = c.in-Err.ensures.told; few = c.in-Err.ensures.few }

@@ -2,6 +2,7 @@ use Rattle.std.proofs.Common.{refl, sym, ◌∙◌, arith}
 use Rattle.yaml_scan_model.specs.Faults.{fault_of}
 use Rattle.yaml_scan_machine.proofs.ComesLemmas.{end_machine, goes_same, left_is, told_refused, steps_on, steps_off}
 use Rattle.yaml_scan.proofs.FoundLemmas.{reads_behind}
+use Rattle.yaml_scan.proofs.MoreLemmas.{denied_more}
 use Rattle.yaml_scan.proofs.reading.fill_first.Goals as goal
 
 pub returns-then-machine : goal.returns-then-machine
@@ -20,6 +21,7 @@ returns-then-not-begin c =
     let (refused, few) = steps_off m c.begin.new.self (fault_of c.begin.new.fault) c.begin.result c.if-not-begin.true c.begin.ensures in
     record {
       sought = c.requires.sought;
+      more = denied_more m m c.requires.started refl c.requires.stands c.requires.sought c.if-machine.false;
       told = told_refused m m (fault_of c.begin.new.fault) c.requires.started refl c.requires.stands c.requires.sought c.if-machine.false refused;
       few = few;
     }

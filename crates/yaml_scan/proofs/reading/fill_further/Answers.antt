@@ -1,6 +1,7 @@
 use Rattle.std.proofs.Common.{sym, ◌∙◌, arith}
 use Rattle.yaml_scan_model.specs.Faults.{fault_of}
 use Rattle.yaml_scan_machine.proofs.ComesLemmas.{end_machine, goes_same, left_is, told_refused, steps_on, steps_off}
+use Rattle.yaml_scan.proofs.MoreLemmas.{denied_more}
 use Rattle.yaml_scan.proofs.reading.fill_further.Goals as goal
 
 pub steps-preserved : goal.steps-preserved
@@ -36,6 +37,7 @@ returns-then-not-step c =
     let (refused, few) = steps_off c.steps.machine c.step.new.machine (fault_of c.step.new.fault) c.step.result c.if-not-step.true c.step.ensures in
     record {
       sought = c.requires.sought;
+      more = denied_more c.args.machine.now c.steps.machine c.requires.started i.same i.stands i.sought c.if-machine.false;
       told = told_refused c.args.machine.now c.steps.machine (fault_of c.step.new.fault) c.requires.started i.same i.stands i.sought c.if-machine.false refused;
       few = few;
     }

@@ -9,3 +9,6 @@ fill-requires-clause-sought c = sym c.has_token.ensures ∙ c.if-has_token.false
 
 pub begin-requires-clause-sought : goal.begin-requires-clause-sought
 begin-requires-clause-sought c = sym c.has_token.ensures ∙ c.if-has_token.false
+
+pub begin-requires-clause-fresh : goal.begin-requires-clause-fresh
+begin-requires-clause-fresh c = c.if-machine.false

@@ -42,4 +42,4 @@ pub returns-in-Refused-clause-looks : goal.returns-in-Refused-clause-looks
 returns-in-Refused-clause-looks c =
     let m = c.args.machine.now in
     let n = c.next_into.new.machine in
-    rw c.keep.ensures (refuses c.args.kept.now c.args.aside.now true (is_ready m) (is_ready n) (token_of c.args.shown.now) (token_of c.next_into.new.token) (left_in m) (left_in n) (length m.waiting.items) (length n.waiting.items) c.next_into.new.fault (none_some c.args.kept.now (c.requires.free c.if-aside.false)) c.if-aside.false c.in-Refused.ensures.denies.sought c.in-Refused.ensures.denies.told)
+    rw c.keep.ensures (refuses c.args.kept.now c.args.aside.now true (is_ready m) (is_ready n) (token_of c.args.shown.now) (token_of c.next_into.new.token) (left_in m) (left_in n) (length m.waiting.items) (length n.waiting.items) c.next_into.new.fault (none_some c.args.kept.now (c.requires.free c.if-aside.false)) c.if-aside.false c.in-Refused.ensures.denies.sought c.in-Refused.ensures.denies.told c.in-Refused.ensures.denies.more)

@@ -54,7 +54,7 @@ pub returns-in-Refused-clause-scans : goal.returns-in-Refused-clause-scans
 returns-in-Refused-clause-scans c =
     let s = c.parser.inside in
     let n = c.next_into.new.machine in
-    rw (← c.parser.view_is, c.keep.ensures) (refuses s.fault s.aside true (is_ready s.machine) (is_ready n) (token_of s.shown) (token_of s.shown) (left_in s.machine) (left_in n) (length s.machine.waiting.items) (length n.waiting.items) c.next_into.new.fault (none_some s.fault (c.parser.invariant.free c.if-parser.false)) c.if-parser.false c.in-Refused.ensures.denies.sought c.in-Refused.ensures.denies.told)
+    rw (← c.parser.view_is, c.keep.ensures) (refuses s.fault s.aside true (is_ready s.machine) (is_ready n) (token_of s.shown) (token_of s.shown) (left_in s.machine) (left_in n) (length s.machine.waiting.items) (length n.waiting.items) c.next_into.new.fault (none_some s.fault (c.parser.invariant.free c.if-parser.false)) c.if-parser.false c.in-Refused.ensures.denies.sought c.in-Refused.ensures.denies.told c.in-Refused.ensures.denies.more)
 
 pub returns-then-is_some-clause-few : goal.returns-then-is_some-clause-few
 returns-then-is_some-clause-few c = rw (← c.parser.view_is) c.parser.invariant.short

@@ -5,3 +5,5 @@ mod Stepping
 mod Parting
 mod Comparing
 mod Mapped
+mod Dumping
+pub mod Inputs

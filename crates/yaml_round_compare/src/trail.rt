@@ -19,8 +19,8 @@ pub struct Trail {
     alloc: Global,
 }
 
-// The number behind another. There is none behind the largest: it is refused as memory is.
-fn one_more(number: u64) -> Result<u64, AllocError>
+/// The number behind another. There is none behind the largest: it is refused as memory is.
+pub(crate) fn one_more(number: u64) -> Result<u64, AllocError>
     ensures { IfOk result (λ next. next ≡ suc number) }
 {
     if number == u64::MAX {

@@ -1,0 +1,127 @@
+//! Comparisons of loaded documents, by their dumps side by side: anchors count by what they share, and not by name.
+
+ghost use Rattle.yaml_round_compare.specs.Dumps.{IsDump, AreDumps, TurnsBeside, TurnsAlone, TurnsOn, Compares, ComparesAll, document_says, dump_left, documents_left};
+
+use crate::content::agree;
+use crate::dump::Dump;
+use crate::front::Front;
+use std::alloc::{AllocError, Global};
+use std::collections::VecDeque;
+use yaml_parse::yaml_document_t;
+
+/// How two dumps go on.
+#[derive(Clone, Copy)]
+pub(crate) enum Turn {
+    // Both events say the same.
+    Same,
+    // Both are at their end.
+    End,
+    Different,
+}
+
+// The second dump's next event beside the first's, which stands in its slot.
+fn turned_beside(first: &Dump, second: &mut Dump) -> Result<Turn, AllocError>
+    requires { IsDump second.old }
+    ensures { TurnsBeside first.now second.old result second.new }
+{
+    match second.next() {
+        Err(refusal) => Err(refusal),
+        Ok(false) => Ok(Turn::Different),
+        Ok(true) => {
+            if agree(&first.event, &second.event) {
+                Ok(Turn::Same)
+            } else {
+                Ok(Turn::Different)
+            }
+        }
+    }
+}
+
+// What the second dump has where the first is at its end.
+fn turned_alone(second: &mut Dump) -> Result<Turn, AllocError>
+    requires { IsDump second.old }
+    ensures { TurnsAlone second.old result }
+{
+    match second.next() {
+        Err(refusal) => Err(refusal),
+        Ok(false) => Ok(Turn::End),
+        Ok(true) => Ok(Turn::Different),
+    }
+}
+
+// The next event of each dump.
+fn turned(first: &mut Dump, second: &mut Dump) -> Result<Turn, AllocError>
+    requires { AreDumps first.old second.old }
+    ensures { TurnsOn first.old second.old result first.new second.new }
+{
+    match first.next() {
+        Err(refusal) => Err(refusal),
+        Ok(false) => turned_alone(second),
+        Ok(true) => turned_beside(first, second),
+    }
+}
+
+// Whether two dumps are the same to their end.
+fn same_dumps(first: &mut Dump, second: &mut Dump, front: &mut Front) -> Result<bool, AllocError>
+    requires { AreDumps first.old second.old }
+    ensures { Compares (dump_left first.old) (dump_left second.old) front.old result front.new }
+{
+    'events: loop {
+        match turned(first, second) {
+            Err(refusal) => return Err(refusal),
+            Ok(Turn::End) => return Ok(true),
+            Ok(Turn::Different) => return Ok(false),
+            Ok(Turn::Same) => match front.pass(&mut first.event) {
+                Ok(()) => {}
+                Err(refusal) => return Err(refusal),
+            },
+        }
+    }
+}
+
+// Whether two documents have the same dump.
+fn same_document(
+    alloc: Global,
+    document: yaml_document_t,
+    other: yaml_document_t,
+    front: &mut Front,
+) -> Result<bool, AllocError>
+    ensures { Compares (document_says document) (document_says other) front.old result front.new }
+{
+    match Dump::of(alloc, document) {
+        Err(refusal) => Err(refusal),
+        Ok(mut first) => match Dump::of(alloc, other) {
+            Err(refusal) => Err(refusal),
+            Ok(mut second) => same_dumps(&mut first, &mut second, front),
+        },
+    }
+}
+
+/// Whether documents have the same dumps, one after another. Where they haven't, the front tells what stands before the first
+/// events that differ. Documents are let go as they are passed.
+pub fn same_documents(
+    alloc: Global,
+    first: &mut VecDeque<yaml_document_t>,
+    second: &mut VecDeque<yaml_document_t>,
+    front: &mut Front,
+) -> Result<bool, AllocError>
+    ensures { ComparesAll (documents_left first.old.items) (documents_left second.old.items)
+        front.old result front.new }
+{
+    'documents: loop {
+        match first.pop_front() {
+            None => match second.pop_front() {
+                None => return Ok(true),
+                Some(_) => return Ok(false),
+            },
+            Some(document) => match second.pop_front() {
+                None => return Ok(false),
+                Some(other) => match same_document(alloc, document, other, front) {
+                    Ok(true) => {}
+                    Ok(false) => return Ok(false),
+                    Err(refusal) => return Err(refusal),
+                },
+            },
+        }
+    }
+}

@@ -1,0 +1,38 @@
+//! The dump of a document, event by event.
+
+ghost use Rattle.std.specs.Prelude.{◌≡◌, IfOk};
+ghost use Rattle.yaml_round_compare.specs.Dumps.{IsDump, document_says, dump_left, GivesDumped};
+
+use std::alloc::{AllocError, Global};
+use yaml_emit_graph::Events;
+use yaml_parse::{yaml_document_t, yaml_event_body_t, yaml_event_t};
+
+/// A document, what of its dump is to come, and a slot in which the next event stands.
+#[derive(Drop)]
+pub(crate) struct Dump {
+    pub document: yaml_document_t,
+    pub events: Events,
+    pub event: yaml_event_t,
+}
+
+impl Dump {
+    /// In front of the document.
+    pub fn of(alloc: Global, document: yaml_document_t) -> Result<Dump, AllocError>
+        ensures { IfOk result (λ d. IsDump d × (dump_left d ≡ document_says document)) }
+    {
+        let events = Events::of(alloc, &document)?;
+        Ok(Dump {
+            document,
+            events,
+            event: yaml_event_t::unplaced(yaml_event_body_t::No),
+        })
+    }
+
+    /// The next event, in the slot; none behind the document's end.
+    pub fn next(&mut self) -> Result<bool, AllocError>
+        requires { IsDump self.old }
+        ensures { GivesDumped self.old result self.new }
+    {
+        self.events.next(&self.document, &mut self.event.body)
+    }
+}

@@ -1,0 +1,41 @@
+//! What stands in front of a place in two streams, as far as it was passed.
+
+ghost use Rattle.std.specs.Prelude.{◌≡◌, OnOk};
+ghost use Rattle.yaml_parse.specs.Events.{event_of};
+ghost use Rattle.yaml_round_compare.specs.Dumps.{IsStarted, PassesEvent};
+
+use crate::trail::{Trail, one_more};
+use std::alloc::{AllocError, Global};
+use yaml_parse::yaml_event_t;
+
+/// Where the comparison of two dumps stands: the path, and how many events are in front.
+#[derive(Drop)]
+pub struct Front {
+    pub trail: Trail,
+    pub events: u64,
+}
+
+impl Front {
+    /// Behind the start of both streams.
+    pub fn new(alloc: Global) -> Front
+        ensures { IsStarted result }
+    {
+        Front {
+            trail: Trail::new(alloc),
+            events: 1,
+        }
+    }
+
+    // The event stands in front of both dumps' next ones.
+    pub(crate) fn pass(&mut self, event: &mut yaml_event_t) -> Result<(), AllocError>
+        ensures { OnOk result (PassesEvent (event_of event.old).body self.old self.new) }
+    {
+        match one_more(self.events) {
+            Err(refusal) => Err(refusal),
+            Ok(next) => {
+                self.events = next;
+                self.trail.go_past(event, true)
+            }
+        }
+    }
+}

@@ -1,0 +1,104 @@
+//! What stands in two inputs behind so many events.
+
+ghost use Rattle.std.specs.Prelude.{◌≡◌};
+ghost use Rattle.yaml_round_content.specs.Input.{events_of, ending_of};
+ghost use Rattle.yaml_round_reading.specs.Reading.{AreReal};
+ghost use Rattle.yaml_round_compare.specs.Dumps.{FindsEvent, TellsOfInputs};
+
+use crate::difference::yaml_difference_t;
+use crate::front::Front;
+use std::alloc::Global;
+use yaml_parse::{yaml_event_type_t, yaml_found_t};
+use yaml_round_reading::{Reading, let_go, reading_of, yaml_side_t};
+use yaml_scan::{yaml_encoding_t, yaml_fault_t, yaml_mark_t};
+
+// Where the event of that number begins, from 0, and what it is; no event at no place behind the last.
+fn found_at(
+    reading: &mut Reading<'_>,
+    number: u64,
+) -> Result<(yaml_mark_t, yaml_event_type_t), yaml_fault_t>
+    requires { AreReal reading.old.parser.events }
+    ensures { FindsEvent number reading.old.parser.events reading.old.parser.ending result }
+{
+    let mut left = number;
+    'events: loop {
+        match reading.next() {
+            yaml_found_t::Refused => return Err(reading.fault),
+            yaml_found_t::End => {
+                let zero = yaml_mark_t {
+                    index: 0,
+                    line: 0,
+                    column: 0,
+                };
+                return Ok((zero, yaml_event_type_t::YAML_NO_EVENT));
+            }
+            yaml_found_t::Event => {
+                if left == 0 {
+                    return Ok((reading.event.start_mark, reading.event.type_()));
+                }
+                left -= 1;
+            }
+        }
+    }
+}
+
+// The same of an input.
+fn seen_at(
+    alloc: Global,
+    input: &[u8],
+    from: yaml_encoding_t,
+    number: u64,
+) -> Result<(yaml_mark_t, yaml_event_type_t), yaml_fault_t>
+    ensures { FindsEvent number (events_of from input.now) (ending_of from input.now) result }
+{
+    match reading_of(alloc, input, from) {
+        Err(fault) => Err(fault),
+        Ok(mut reading) => {
+            let answer = found_at(&mut reading, number);
+            let_go(reading);
+            answer
+        }
+    }
+}
+
+// The place, told of these two events.
+fn placed(
+    place: yaml_difference_t,
+    first: (yaml_mark_t, yaml_event_type_t),
+    second: (yaml_mark_t, yaml_event_type_t),
+) -> yaml_difference_t
+    ensures { result ≡ record place {
+      first_mark = first.0;
+      first_type = first.1;
+      second_mark = second.0;
+      second_type = second.1;
+    } }
+{
+    yaml_difference_t {
+        first_mark: first.0,
+        first_type: first.1,
+        second_mark: second.0,
+        second_type: second.1,
+        ..place
+    }
+}
+
+/// The place behind what was passed of both inputs' dumps: an input's events are as many as those of its documents' dumps.
+pub fn place_behind(
+    alloc: Global,
+    a: &[u8],
+    a_encoding: yaml_encoding_t,
+    b: &[u8],
+    b_encoding: yaml_encoding_t,
+    front: Front,
+) -> Result<yaml_difference_t, (yaml_side_t, yaml_fault_t)>
+    ensures { TellsOfInputs a_encoding a.now b_encoding b.now front result }
+{
+    match seen_at(alloc, a, a_encoding, front.events) {
+        Err(fault) => Err((yaml_side_t::First, fault)),
+        Ok(first) => match seen_at(alloc, b, b_encoding, front.events) {
+            Err(fault) => Err((yaml_side_t::Second, fault)),
+            Ok(second) => Ok(placed(front.trail.place, first, second)),
+        },
+    }
+}

@@ -5,6 +5,6 @@ pub mod Events
 mod Rows
 mod Forgetting
 mod Values
-mod Counting
-mod Escapes
+pub mod Counting
+pub mod Escapes
 pub mod Sizes

@@ -1,7 +1,8 @@
 -- The laws: tokens of an input, and the tree that they are.
-use Rattle.std.proofs.Common.{◌≡◌, ℕ, ◌+◌, ◌*◌, ◌<◌, ◌≤◌, List, [], ◌++◌, length, Result, Ok, Err, ap, subst, ◌∙◌, arith, inl, inr, mul-le-mul_right, mul_assoc}
-use Rattle.std.proofs.lemmas.Bool.{cases_Bool}
-use Rattle.std.specs.Prelude.{encode_utf8_all}
+use Rattle.std.proofs.Common.{◌≡◌, ℕ, ◌+◌, ◌*◌, ◌/◌, ◌<◌, ◌≤◌, Bool, true, false, ◌&&◌, nat_le, List, [], ◌++◌, length, Result, Ok, Err, pos, refl, ap, subst, ◌∙◌, arith, inl, inr, IsUtf8, le_refl, mul-le-mul_left, mul-le-mul_right, mul_assoc}
+use Rattle.std.proofs.lemmas.Bool.{cases_Bool, leb-true}
+use Rattle.std.proofs.lemmas.Str.{length-le-encodes}
+use Rattle.std.specs.Prelude.{encode_utf8_all, ℤ, negsuc}
 use Rattle.yaml_round_content.specs.scan_model.declared.yaml_encoding_t.{yaml_encoding_t}
 use Rattle.yaml_round_content.specs.scan_model.declared.yaml_encoding_t.TheVariants.{YAML_ANY_ENCODING}
 use Rattle.yaml_round_content.specs.scan_model.Tokens.{Token}
@@ -10,6 +11,7 @@ use Rattle.yaml_round_content.specs.scan_history.scan_decode.Decoding.{in_utf8, 
 use Rattle.yaml_round_content.specs.scan_history.scan_decode.Encodings.{encoding_of}
 use Rattle.yaml_round_content.specs.scan_history.Remaining.{SpelledText, offline}
 use Rattle.yaml_round_content.specs.scan_history.Scanned.{scanned_in}
+use Rattle.yaml_round_content.specs.emit_text.declared.Settings.{Settings}
 use Rattle.yaml_round_content.specs.emit_text.Settings.{settled, settled_indent}
 use Rattle.yaml_round_content.specs.emit_text.Text.{is_deep}
 use Rattle.yaml_round_content.specs.emit_layout.Nodes.{MOST}
@@ -19,13 +21,22 @@ use Rattle.yaml_round_content.specs.Reading.{HaveContent}
 use Rattle.yaml_round_content.specs.TreeContent.{tree_content}
 use Rattle.yaml_round_content.specs.Canon.{written_documents, canon_items}
 use Rattle.yaml_round_laws_adapted.specs.Adapted.{adapted}
+use Rattle.yaml_scan_laws_texts.proofs.TokensUtf8.{remaining_sound}
 use Rattle.yaml_emit_laws_columns.specs.Depths.{RootStandsAt}
+use Rattle.yaml_emit_laws_columns.specs.Sizes.{unit, ascii, most_of_documents, most_bytes}
 use Rattle.yaml_emit_laws_columns.proofs.Depths.{by_depth}
 use Rattle.yaml_emit_laws_columns.proofs.Sizes.{by_content}
-use Rattle.yaml_round_laws_sizes.specs.Laws.{DepthsTakeBytes, DeepInputsAreLong, ShortInputsKeepColumns, CanonicalTextsAreBounded}
+use Rattle.yaml_round_laws_sizes.specs.Laws.{text_times, most_of_read, DepthsTakeBytes, DeepInputsAreLong, ShortInputsKeepColumns, CanonicalTextsAreBounded, ContentsAreBounded, CanonicalTextsAreShort}
 use Rattle.yaml_round_laws_sizes.proofs.Leads.{Few, few_decoded, leads_few}
 use Rattle.yaml_round_laws_sizes.proofs.Tokens.{count, count_append, tokens_few, cut_most}
 use Rattle.yaml_round_laws_sizes.proofs.Trees.{tree_deep}
+use Rattle.yaml_round_laws_sizes.proofs.Weights.{Weight, weigh, weigh_append}
+use Rattle.yaml_round_laws_sizes.proofs.Flat.{flat_documents, flat_documents_most}
+use Rattle.yaml_round_laws_sizes.proofs.Costs.{broad, cost, lends, tree_cost}
+use Rattle.yaml_round_laws_sizes.proofs.Prices.{by_length, tokens_cost, tokens_mark}
+use Rattle.yaml_round_laws_sizes.proofs.Lengths.{tags, lengths, cut_costs, cut_lends, all_marked}
+use Rattle.yaml_round_laws_sizes.proofs.Bounds.{squares, all_in_all, most_columns, columns_fit}
+use Rattle.yaml_round_laws_sizes.proofs.Decoded.{IsTextAny, input_text}
 
 nothing_said : {A : Type 0} (t : Stream) (rest : List Token) → [] ≡ spell t [] ++ rest → A
 nothing_said t rest e = cc
@@ -72,3 +83,70 @@ short_keeps from input c k short w canonical two =
 
 pub bounded : CanonicalTextsAreBounded
 bounded w canonical c = by_content (settled w YAML_ANY_ENCODING) canonical (written_documents c)
+
+-- ---- by the input's length
+
+front_weighs : (w : Weight) (ts xs ys : List Token) → ts ≡ xs ++ ys → weigh w xs ≤ weigh w ts
+front_weighs w ts xs ys e = rw e (omega (arith, weigh_append w xs ys))
+
+-- of a text in UTF-8
+text_bounded : (s : Settings) (x : yaml_encoding_t) (cs : List ℕ) (c : List Document) → 2 ≤ s.indent → IsUtf8 (encode_utf8_all cs) → HaveContent (adapted (scanned_in x (in_utf8 (Ok cs)))).tokens c
+    → most_bytes s (written_documents c) ≤ most_of_read s (length (encode_utf8_all cs))
+text_bounded s x cs c two utf8 k =
+    let t : SpelledText = record { encoding = x; text = encode_utf8_all cs } in
+    let m = length t.text in
+    let ts = (offline t).tokens in
+    let u = unit s.encoding in
+    let i = (2 * m + 5) / 3 * s.indent in
+    let d = k.sentence.tree in
+    let g = weigh tags ts in
+    let b = weigh lengths ts in
+    let room = 27 * u + 4 * u * b in
+    let sound = remaining_sound t utf8 0 0 in
+    -- what stands deepest
+    let deep = λ (n : ℕ) (h : RootStandsAt n (written_documents c)). columns_fit m s.indent n (decoded_take x (Ok cs) m c (length-le-encodes cs) k n h) in
+    let a : most_of_documents s (written_documents c) ≤ flat_documents s i (written_documents c) = flat_documents_most s i (written_documents c) deep in
+    -- tokens of the tree are some of the text's
+    let whole = λ (w : Weight). front_weighs w (adapted (offline t)).tokens (spell d []) k.sentence.rest k.sentence.same in
+    let lent : ascii s 27 + weigh (lends s.encoding) (spell d []) ≤ room = omega (arith, whole (lends s.encoding), cut_lends s.encoding (offline t).fault ts sound) in
+    let e : flat_documents s i (written_documents (tree_content d)) ≤ ascii s 34 + weigh (cost s i room) (spell d []) = tree_cost s i room d lent in
+    let same : flat_documents s i (written_documents c) ≡ flat_documents s i (written_documents (tree_content d)) = ap (λ (z : List Document). flat_documents s i (written_documents z)) k.content in
+    let f : weigh (cost s i room) (adapted (offline t)).tokens ≤ weigh (by_length u (broad s i)) ts + room * g = cut_costs s i room (offline t).fault ts sound in
+    let wide : 10 * u ≤ broad s i = omega arith in
+    let p : weigh (by_length u (broad s i)) ts ≤ (broad s i + broad s i) * (m + 1) = tokens_cost u (broad s i) wide t in
+    let few : g + b ≤ m + 1 = omega (arith, tokens_mark t, all_marked ts) in
+    let n = all_in_all u m s.indent i g b two (most_columns m s.indent) few in
+    omega (arith, a, same, e, whole (cost s i room), f, p, n)
+
+read_grows : (s : Settings) (n m : ℕ) → n ≤ m → most_of_read s n ≤ most_of_read s m
+read_grows s n m w =
+    let a : (n + 8) * (n + 8) ≤ (m + 8) * (m + 8) = squares (n + 8) (m + 8) (omega (arith, w)) in
+    let b : s.indent * ((n + 8) * (n + 8)) ≤ s.indent * ((m + 8) * (m + 8)) = mul-le-mul_left s.indent a in
+    mul-le-mul_left (unit s.encoding) (omega (arith, b))
+
+decoded_bounded : (s : Settings) (x : yaml_encoding_t) (r : Result (List ℕ) Offence) (k n : ℕ) (c : List Document) → 2 ≤ s.indent → IsTextAny k n r → HaveContent (adapted (scanned_in x (in_utf8 r))).tokens c
+    → most_bytes s (written_documents c) ≤ most_of_read s (k * n)
+decoded_bounded s x (Err o) k n c two t h = nothing_said h.sentence.tree h.sentence.rest h.sentence.same
+decoded_bounded s x (Ok cs) k n c two t h =
+    let a = text_bounded s x cs c two t.utf8 h in
+    let b = read_grows s (length (encode_utf8_all cs)) (k * n) t.short in
+    omega (arith, a, b)
+
+indent_two : (z : ℤ) → 2 ≤ settled_indent z
+indent_two (pos n) =
+    elim (cases_Bool (nat_le 2 n && nat_le n 9)) [
+      | inl e ↦ rw e (leb-true 2 n (first_of (nat_le 2 n) (nat_le n 9) e))
+      | inr e ↦ rw e (le_refl _)
+    ]
+  where
+    first_of : (a b : Bool) → (a && b) ≡ true → a ≡ true
+    first_of true b e = refl
+    first_of false b e = cc
+indent_two (negsuc n) = le_refl _
+
+pub contents_bounded : ContentsAreBounded
+contents_bounded from input c k w =
+    decoded_bounded (settled w YAML_ANY_ENCODING) (encoding_of from input) (decoded_characters from input) (text_times (encoding_of from input)) (length input) c (indent_two w.indent) (input_text from input) k
+
+pub texts_short : CanonicalTextsAreShort
+texts_short from input c k w canonical = omega (arith, bounded w canonical c, contents_bounded from input c k w)

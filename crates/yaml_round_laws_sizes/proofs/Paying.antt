@@ -18,12 +18,12 @@ use Rattle.yaml_round_laws_sizes.proofs.Leads.{one_if, leads, leads_grow}
 use Rattle.yaml_round_laws_sizes.proofs.Lexemes.{own, apart, apart_least, worth, worths, white_starts, blank_white, begins, followed, not_blank}
 
 -- what is known of a lexeme that was read
-record Telling (text : List ℕ) (l : Lexeme) : Type 0 where
-  begins : own l.kind ≤ one_if (starts (byte text l.start.index))
-  bare : one_if (not (is_end l.kind)) + one_if (is_blank_or_end text l.start.index) ≤ 1
-  behind : apart l.kind l.depth ≤ one_if (is_blank_or_end text l.reached.index)
+pub record Telling (text : List ℕ) (l : Lexeme) : Type 0 where
+  pub begins : own l.kind ≤ one_if (starts (byte text l.start.index))
+  pub bare : one_if (not (is_end l.kind)) + one_if (is_blank_or_end text l.start.index) ≤ 1
+  pub behind : apart l.kind l.depth ≤ one_if (is_blank_or_end text l.reached.index)
 
-abbrev Tells : List ℕ → Next → Type 0
+abbrev pub Tells : List ℕ → Next → Type 0
 Tells text (Read l) = Telling text l
 Tells text (Fails p) = Unit {0}
 Tells text Ends = Unit {0}
@@ -46,7 +46,7 @@ ended_keeps text l (Ok w) =
     ]
 ended_keeps text l (Err w) = record { kind = refl; depth = refl; start = refl }
 
-placed_index : (k : Kind) (m : yaml_mark_t) → (placed k m).index ≡ m.index
+pub placed_index : (k : Kind) (m : yaml_mark_t) → (placed k m).index ≡ m.index
 placed_index k m =
     elim (cases_Bool (is_end k && nat_lt 0 m.column)) [
       | inl e ↦ rw e refl
@@ -78,7 +78,7 @@ coming_tells (Some k) text h e =
       behind = rw same.kind (rw same.depth c);
     })
 
-next_tells : (text : List ℕ) (x : Lexeme) (h : List Lexeme) → is_end x.kind ≡ false → Tells text (next text (x ∷ h))
+pub next_tells : (text : List ℕ) (x : Lexeme) (h : List Lexeme) → is_end x.kind ≡ false → Tells text (next text (x ∷ h))
 unfolding next
 next_tells text x h more = rw more (coming_tells (kind_behind text (x ∷ h)) text (x ∷ h) refl)
 
@@ -116,7 +116,7 @@ gone text p q w n =
       | inr e ↦ let a = leads_grow text p q w in rw e (omega (arith, a))
     ]
 
-no_blank : (b : Bool) → 1 + one_if b ≤ 1 → b ≡ false
+pub no_blank : (b : Bool) → 1 + one_if b ≤ 1 → b ≡ false
 no_blank true w = absurd (omega arith)
 no_blank false w = refl
 

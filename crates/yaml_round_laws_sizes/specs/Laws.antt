@@ -1,8 +1,10 @@
 -- How deep an input's nodes can stand, how long an input passes no column, and how long canonical text can be.
 use Rattle.std.specs.Prelude.{◌≡◌, ℕ, ◌+◌, ◌*◌, ◌<◌, ◌≤◌, true, false, List, length, Ok}
 use Rattle.yaml_round_content.specs.scan_model.declared.yaml_encoding_t.{yaml_encoding_t}
-use Rattle.yaml_round_content.specs.scan_model.declared.yaml_encoding_t.TheVariants.{YAML_ANY_ENCODING}
+use Rattle.yaml_round_content.specs.scan_model.declared.yaml_encoding_t.TheVariants.{YAML_ANY_ENCODING, YAML_UTF8_ENCODING, YAML_UTF16LE_ENCODING, YAML_UTF16BE_ENCODING}
+use Rattle.yaml_round_content.specs.scan_history.scan_decode.Encodings.{encoding_of}
 use Rattle.yaml_round_content.specs.emit_text.declared.RequestedSettings.{RequestedSettings}
+use Rattle.yaml_round_content.specs.emit_text.declared.Settings.{Settings}
 use Rattle.yaml_round_content.specs.emit_text.Settings.{settled, settled_indent}
 use Rattle.yaml_round_content.specs.emit_text.Text.{is_deep}
 use Rattle.yaml_round_content.specs.emit_layout.Nodes.{MOST}
@@ -10,7 +12,7 @@ use Rattle.yaml_round_content.specs.Said.{Document}
 use Rattle.yaml_round_content.specs.Canon.{written_documents, canon_items, canon}
 use Rattle.yaml_round_content.specs.Reading.{PlainReading}
 use Rattle.yaml_emit_laws_columns.specs.Depths.{RootStandsAt, IsTooDeep}
-use Rattle.yaml_emit_laws_columns.specs.Sizes.{most_bytes}
+use Rattle.yaml_emit_laws_columns.specs.Sizes.{ascii, most_bytes}
 
 -- A node at depth d takes one and a half bytes of its input for each level: three times the depth is at most twice the bytes, and
 -- two.
@@ -36,3 +38,32 @@ ShortInputsKeepColumns = (from : yaml_encoding_t) (input : List ℕ) (c : List D
 abbrev pub CanonicalTextsAreBounded : Type 0
 CanonicalTextsAreBounded = (w : RequestedSettings) → w.canonical ≡ true → (c : List Document)
     → length (canon w c) ≤ most_bytes (settled w YAML_ANY_ENCODING) (written_documents c)
+
+-- ---- by the input's length
+
+-- An input is read as a text in UTF-8, of at most so many bytes for each of its own: one, or two where it is UTF-16.
+abbrev pub text_times : yaml_encoding_t → ℕ
+text_times YAML_ANY_ENCODING = 1
+text_times YAML_UTF8_ENCODING = 1
+text_times YAML_UTF16LE_ENCODING = 2
+text_times YAML_UTF16BE_ENCODING = 2
+
+abbrev pub read_bytes : yaml_encoding_t → List ℕ → ℕ
+read_bytes from input = text_times (encoding_of from input) * length input
+
+-- Of n bytes that are read: twice the indent times (n + 8) squared characters of ASCII, in the encoding of the answer.
+abbrev pub most_of_read : Settings → ℕ → ℕ
+most_of_read s n = ascii s (2 * (s.indent * ((n + 8) * (n + 8))))
+
+-- The nodes, lines and texts of what an input says tell no more than that.
+abbrev pub ContentsAreBounded : Type 0
+ContentsAreBounded = (from : yaml_encoding_t) (input : List ℕ) (c : List Document)
+    → PlainReading from input (Ok c) → (w : RequestedSettings)
+    → most_bytes (settled w YAML_ANY_ENCODING) (written_documents c)
+    ≤ most_of_read (settled w YAML_ANY_ENCODING) (read_bytes from input)
+
+-- So its canonical text has at most so many bytes.
+abbrev pub CanonicalTextsAreShort : Type 0
+CanonicalTextsAreShort = (from : yaml_encoding_t) (input : List ℕ) (c : List Document)
+    → PlainReading from input (Ok c) → (w : RequestedSettings) → w.canonical ≡ true
+    → length (canon w c) ≤ most_of_read (settled w YAML_ANY_ENCODING) (read_bytes from input)

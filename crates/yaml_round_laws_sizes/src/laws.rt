@@ -2,6 +2,8 @@
 
 ghost use Rattle.yaml_round_laws_sizes.specs.Laws.{
   CanonicalTextsAreBounded,
+  CanonicalTextsAreShort,
+  ContentsAreBounded,
   DeepInputsAreLong,
   DepthsTakeBytes,
   ShortInputsKeepColumns,
@@ -25,4 +27,14 @@ pub fn short_inputs_keep_columns()
 /// Canonical text of a content has at most as many bytes as its nodes, lines and texts tell.
 pub fn canonical_texts_are_bounded()
     ensures { CanonicalTextsAreBounded }
+{}
+
+/// What an input says tells at most so many bytes by its length alone: twice the indent times its square, eight bytes more.
+pub fn contents_are_bounded()
+    ensures { ContentsAreBounded }
+{}
+
+/// So canonical text of what an input says has at most as many bytes, in UTF-16 twice as many.
+pub fn canonical_texts_are_short()
+    ensures { CanonicalTextsAreShort }
 {}

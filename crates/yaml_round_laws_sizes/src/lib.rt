@@ -4,5 +4,6 @@
 mod laws;
 
 pub use laws::{
-    canonical_texts_are_bounded, deep_inputs_are_long, depths_take_bytes, short_inputs_keep_columns,
+    canonical_texts_are_bounded, canonical_texts_are_short, contents_are_bounded,
+    deep_inputs_are_long, depths_take_bytes, short_inputs_keep_columns,
 };

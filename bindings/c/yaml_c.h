@@ -18,7 +18,8 @@
  * named, so free a record before it is used again.
  *
  * Errors. A refused call hands out no text and, but for yaml_c_front and yaml_c_scan, no records; its one block is
- * `line`, the fault in words, which is empty where even that met no memory. `problem` names the fault in any case.
+ * `line`, the fault in words. Where that met no memory, YAML_C_MEMORY_ERROR is told in the fault's place, with an empty
+ * line, which no other fault has. `problem` names what is told in any case.
  *
  * What nothing checks, and the caller keeps:
  *  - a pointer with a length names that many readable bytes (or records), fewer than 2^63 bytes in all, which nothing
@@ -29,8 +30,8 @@
  *  - malloc, realloc and free are one allocator's, of blocks aligned as C's are;
  *  - no call is made from a signal handler, or in the forked child of a process with threads.
  *
- * Trusted beside the proofs: this file (its sizes and offsets are asserted below, and the records' sizes in the proved
- * code too), those duties, that free takes the blocks that the library left, and the C compiler and linker. */
+ * Trusted beside the proofs: this file (its sizes and offsets are asserted below, and are proved of the records too; a test
+ * compares the numbers), those duties, that free takes the blocks that the library left, and the C compiler and linker. */
 #ifndef YAML_C_H
 #define YAML_C_H
 
@@ -159,7 +160,7 @@ typedef struct {
     yaml_c_bytes problem;     /* what is wrong, a constant; empty for kind 0 */
     yaml_c_bytes context;     /* what was being read, a constant; empty where none is told */
     yaml_c_bytes text;        /* the text that the call answers; empty where it is refused */
-    yaml_c_bytes line;        /* the fault in words, in one line without its end, places counted from 1 */
+    yaml_c_bytes line;        /* the fault in words, in one line without its end, places counted from 1; a kind of 1 may lack it */
 } yaml_c_answer;
 
 /* A part of a block of bytes, or of a list of directives: `len` items from `at` on. */

@@ -14,6 +14,8 @@ from yaml_c import _calls, _library, _records
 
 HERE = os.path.dirname(os.path.abspath(__file__))
 HEADER = os.path.join(HERE, "..", "..", "c", "yaml_c.h")
+CRATES = os.path.join(HERE, "..", "..", "..", "crates")
+PROVED = [os.path.join(CRATES, f"yaml_round_{it}", "specs", "Offsets.antt") for it in ("records", "tokens", "answers")]
 RECORDS: dict[str, Any] = {
     "bytes": _library.Bytes,
     "mark": _library.MarkRecord,
@@ -60,6 +62,22 @@ class Layout(unittest.TestCase):
             if name in RECORDS:
                 found = getattr(RECORDS[name], "is_" if field == "is" else field)
                 self.assertEqual(found.offset, int(place), (name, field))
+
+    def test_the_headers_places_are_proved(self) -> None:
+        with open(HEADER, encoding="utf-8") as file:
+            stated = re.findall(r"offsetof\(yaml_c_(\w+), (\w+)\) == (\d+)", file.read())
+        places = {(record, field): int(place) for record, field, place in stated}
+        proved: dict[tuple[str, str], int] = {}
+        for name in PROVED:
+            with open(name, encoding="utf-8") as file:
+                rows = re.findall(r"LiesAt (\w+)\.the_type \d+ \(λ d\. d\.(\w+)\) (\d+)", file.read())
+            proved |= {(record, field): int(place) for record, field, place in rows}
+        self.assertGreater(len(proved), 50)
+        self.assertEqual({it: at for it, at in places.items() if it in proved}, {it: at for it, at in proved.items() if at})
+        # the length of a list lies behind its pointer
+        lengths = {it: at for it, at in places.items() if it not in proved}
+        self.assertEqual(lengths.pop(("bytes", "len")), 8)
+        self.assertEqual(lengths, {(record, field): proved[record, field.removesuffix("_len")] + 8 for record, field in lengths})
 
     def test_events_are_the_headers(self) -> None:
         with open(HEADER, encoding="utf-8") as file:

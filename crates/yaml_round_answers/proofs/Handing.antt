@@ -1,11 +1,12 @@
 -- What was collected is handed out, and C is told of it.
-use Rattle.std.proofs.Common.{◌≡◌, ◌∙◌, ◌⊎◌, inl, inr, ap, sym, subst, ℕ, List, [], ◌++◌, Some, None}
+use Rattle.std.proofs.Common.{◌≡◌, ◌∙◌, ◌⊎◌, inl, inr, ap, refl, sym, subst, ℕ, pos, List, [], ◌++◌, Some, None, Err}
 use Rattle.std.proofs.lemmas.List.{append-nil}
 use Rattle.yaml_parse.specs.declared.yaml_encoding_t.{yaml_encoding_t}
 use Rattle.yaml_parse.specs.declared.yaml_fault_t.{yaml_fault_t}
 use Rattle.yaml_parse.specs.Events.{TagDirective}
 use Rattle.yaml_parse.specs.Resolve.{Told}
-use Rattle.yaml_parse.specs.Faults.{fault_of, IsMemoryFault, parse_layers}
+use Rattle.yaml_parse.specs.Faults.{Fault, fault_of, memory_fault, IsMemoryFault, parse_layers}
+use Rattle.yaml_parse.specs.declared.yaml_origin_t.TheVariants.{Parser}
 use Rattle.yaml_parse.specs.Remaining.{ParserRemaining}
 use Rattle.yaml_round.specs.Answers.{IsFaulty}
 use Rattle.yaml_round.specs.Input.{Reads, events_of, ending_of}
@@ -16,7 +17,10 @@ use Rattle.yaml_round_answers.specs.declared.parsing.yaml_c_parsed.{yaml_c_parse
 use Rattle.yaml_round_records.specs.Records.{all_directives}
 use Rattle.yaml_round_records.specs.Blocks.{listed_directives}
 use Rattle.yaml_round_records.specs.Listing.{Collected, AreSaid, HoldsAll, events_alone}
-use Rattle.yaml_round_answers.specs.Parses.{HandsOut, SayEvents, IsFront}
+use Rattle.yaml_round_answers.specs.declared.answer.yaml_c_answer.{yaml_c_answer}
+use Rattle.yaml_round_answers.specs.Told.{TellsFault, Refuses}
+use Rattle.yaml_round_answers.specs.Parses.{HasNothing, HandsOut, SayEvents, IsParsed, IsFront, TellsEvents, Parses, Fronts}
+use Rattle.yaml_round_answers.proofs.Refusing.{refused_answer}
 use Rattle.yaml_round_records.proofs.Saying.{say_at}
 
 -- the events of a reading that has no fault are the input's
@@ -82,3 +86,27 @@ pub front_says : (from : yaml_encoding_t) (input : List ℕ) (f : yaml_fault_t) 
     → IsMemoryFault parse_layers (fault_of f) ⊎ SayEvents p (events_of from input)
 front_says from input f l p h (inl m) = inl m
 front_says from input f l p h (inr e) = inr (handed_says l p _ h e.1.0 e.1.1)
+
+-- ---- a refused parse is told
+
+none_told : (p : yaml_c_parsed) (g : Fault) (a : yaml_c_answer) → HasNothing p → TellsFault g (pos 0) a → TellsEvents p (Err g) a
+none_told p g a h t = (t, h)
+
+pub refused_parse : (from : yaml_encoding_t) (input : List ℕ) (f : yaml_fault_t) (p : yaml_c_parsed) (a : yaml_c_answer) → HasNothing p
+    → IsMemoryFault parse_layers (fault_of f) ⊎ (ending_of from input ≡ Some (fault_of f)) → Refuses (fault_of f) (pos 0) a → Parses input p from a
+refused_parse from input f p a h e t =
+    refused_answer parse_layers Parser (IsParsed from input) (TellsEvents p) (fault_of f) a (inl refl) (λ g u. none_told p g a h u) (fault_plain from input f e) t
+
+pub refused_front : (from : yaml_encoding_t) (input : List ℕ) (f : yaml_fault_t) (l : Listing) (p : yaml_c_parsed) (a : yaml_c_answer) → HandsOut l p
+    → IsMemoryFault parse_layers (fault_of f) ⊎ ((ending_of from input ≡ Some (fault_of f)) × IsFront from input l)
+    → Refuses (fault_of f) (pos 0) a → Fronts input p from a
+refused_front from input f l p a h e (inl t) = record {
+  result = Err (fault_of f);
+  is = front_fault from input f l e;
+  told = (t, front_says from input f l p h e);
+}
+refused_front from input f l p a h e (inr s) = record {
+  result = Err (memory_fault Parser);
+  is = inl (inl refl);
+  told = (s.told Parser, inl (inl refl));
+}

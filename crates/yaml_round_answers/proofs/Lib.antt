@@ -1,5 +1,7 @@
+mod Refusing
 mod Telling
 mod Handing
 mod ScanTelling
 pub mod Exact
 pub mod NormalExact
+pub mod Offsets

@@ -2,8 +2,10 @@
 use Rattle.std.specs.Prelude.{◌≡◌, ◌⊎◌, ℕ, ℤ, pos, negsuc, List, [], Bool, true, false, Option, None, Some, Result, Ok, Err, codes, unwrap_or}
 use Rattle.yaml_parse.specs.declared.yaml_encoding_t.{yaml_encoding_t}
 use Rattle.yaml_parse.specs.declared.yaml_origin_t.{yaml_origin_t}
+use Rattle.yaml_parse.specs.declared.yaml_origin_t.TheVariants.{Writer}
+use Rattle.yaml_parse.specs.declared.yaml_error_type_t.TheVariants.{YAML_MEMORY_ERROR}
 use Rattle.yaml_parse.specs.declared.yaml_fault_t.{yaml_fault_t}
-use Rattle.yaml_parse.specs.Faults.{Fault, fault_of, IsMemoryFault}
+use Rattle.yaml_parse.specs.Faults.{Fault, fault_of, memory_fault, IsMemoryFault}
 use Rattle.yaml_round.specs.declared.yaml_settings_t.{yaml_settings_t}
 use Rattle.yaml_round.specs.declared.yaml_side_t.{yaml_side_t}
 use Rattle.yaml_round.specs.declared.yaml_side_t.TheVariants.{First, Second}
@@ -42,7 +44,12 @@ pub record TellsText (bytes : List ℕ) (number : ℤ) (a : yaml_c_answer) : Typ
   pub text : a.text.now ≡ bytes
   pub line : a.line.now ≡ []
 
--- A fault, and whose it is. The one block is its line, which is left out where memory for it is refused.
+-- the fault's line; of want of memory alone it may be left out
+abbrev pub LineTold : Fault → List ℕ → Type 0
+LineTold fault line = (line ≡ fault_line fault)
+    ⊎ ((fault.kind ≡ YAML_MEMORY_ERROR) × (line ≡ []))
+
+-- a fault, and whose it is; the one block is its line
 pub record TellsFault (fault : Fault) (whose : ℤ) (a : yaml_c_answer) : Type 0 where
   pub kind : a.kind ≡ error_number fault.kind
   pub is : a.is ≡ pos 0
@@ -54,7 +61,16 @@ pub record TellsFault (fault : Fault) (whose : ℤ) (a : yaml_c_answer) : Type 0
   pub problem : a.problem.now ≡ fault.problem
   pub context : a.context.now ≡ unwrap_or fault.context []
   pub text : a.text.now ≡ []
-  pub line : (a.line.now ≡ fault_line fault) ⊎ (a.line.now ≡ [])
+  pub line : LineTold fault a.line.now
+
+-- memory for a fault's line was refused, and this is told in the fault's place; C isn't told of a layer
+pub record TellsStarved (whose : ℤ) (a : yaml_c_answer) : Type 0 where
+  pub refusal : yaml_fault_t
+  pub is : fault_of refusal ≡ memory_fault Writer
+  pub told : (layer : yaml_origin_t) → TellsFault (memory_fault layer) whose a
+
+abbrev pub Refuses : Fault → ℤ → yaml_c_answer → Type 0
+Refuses fault whose a = TellsFault fault whose a ⊎ TellsStarved whose a
 
 -- a number means nothing; no block, and no place
 pub record TellsMisuse (a : yaml_c_answer) : Type 0 where

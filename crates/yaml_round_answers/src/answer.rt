@@ -1,9 +1,8 @@
 //! What C is told.
 
-ghost use Rattle.std.specs.Prelude.{◌≡◌, ◌⊎◌, [], pos, unwrap_or, option_map};
+ghost use Rattle.std.specs.Prelude.{◌≡◌, [], pos, unwrap_or, option_map};
 ghost use Rattle.yaml_parse.specs.Faults.{fault_of};
-ghost use Rattle.yaml_round.specs.FaultLine.{fault_line};
-ghost use Rattle.yaml_round_answers.specs.Told.{TellsText, TellsFault, TellsMisuse};
+ghost use Rattle.yaml_round_answers.specs.Told.{TellsText, TellsFault, TellsMisuse, LineTold, Refuses};
 
 use std::alloc::Global;
 use yaml_round::{yaml_fault_line, yaml_fault_t};
@@ -28,7 +27,7 @@ pub struct yaml_c_answer {
     pub context: &'static [u8],
     /// A block that the caller frees, where it has any byte.
     pub text: &'static [u8],
-    /// The fault as a line. A block that the caller frees, where it has any byte.
+    /// The fault as a line, which want of memory alone may lack. A block that the caller frees, where it has any byte.
     pub line: &'static [u8],
 }
 
@@ -91,18 +90,9 @@ fn context_of(context: Option<&'static str>) -> &'static [u8]
     }
 }
 
-// The fault in words, where memory for that is there.
-fn line_of(alloc: Global, fault: &yaml_fault_t) -> &'static [u8]
-    ensures { (result.now ≡ fault_line (fault_of fault.now)) ⊎ (result.now ≡ []) }
-{
-    match yaml_fault_line(alloc, fault) {
-        Ok(line) => handed_out(line),
-        Err(_) => b"",
-    }
-}
-
-/// An answer that is a fault; `second` tells whose.
-pub(crate) fn refused(alloc: Global, fault: &yaml_fault_t, second: i32) -> yaml_c_answer
+// A fault with its line.
+fn fault_told(fault: &yaml_fault_t, second: i32, line: &'static [u8]) -> yaml_c_answer
+    requires { LineTold (fault_of fault.now) line.now }
     ensures { TellsFault (fault_of fault.now) second result }
 {
     yaml_c_answer {
@@ -116,7 +106,17 @@ pub(crate) fn refused(alloc: Global, fault: &yaml_fault_t, second: i32) -> yaml_
         problem: fault.problem.as_bytes(),
         context: context_of(fault.context),
         text: b"",
-        line: line_of(alloc, fault),
+        line,
+    }
+}
+
+/// An answer that is a fault; `second` tells whose. Where memory for its line is refused, that is told in its place.
+pub(crate) fn refused(alloc: Global, fault: &yaml_fault_t, second: i32) -> yaml_c_answer
+    ensures { Refuses (fault_of fault.now) second result }
+{
+    match yaml_fault_line(alloc, fault) {
+        Ok(line) => fault_told(fault, second, handed_out(line)),
+        Err(refusal) => fault_told(&refusal, second, b""),
     }
 }
 

@@ -1,11 +1,11 @@
 //! The text of an input.
 
 ghost use Rattle.std.specs.Prelude.{◌≡◌};
-ghost use Rattle.yaml_parse.specs.Faults.{Answers, scan_layers};
+ghost use Rattle.yaml_parse.specs.Faults.{Answers};
 ghost use Rattle.yaml_round_records.specs.Leading.{bytes_of};
 ghost use Rattle.yaml_round_records.specs.Numbers.{encoding_meant};
 ghost use Rattle.yaml_round_answers.specs.Told.{AnswersMeant};
-ghost use Rattle.yaml_round_answers.specs.Decodes.{IsDecoded, Decodes};
+ghost use Rattle.yaml_round_answers.specs.Decodes.{decode_layers, IsDecoded, Decodes};
 
 use crate::answer::{misused, refused, told, yaml_c_answer};
 use std::alloc::Global;
@@ -15,7 +15,7 @@ use yaml_scan::{yaml_decode, yaml_memory_fault, yaml_origin_t};
 
 // The text that the bytes spell, in a block of its own.
 fn text_of(alloc: Global, input: &[u8], from: yaml_encoding_t) -> Result<Vec<u8>, yaml_fault_t>
-    ensures { Answers scan_layers bytes_of (IsDecoded from input.now) result }
+    ensures { Answers decode_layers bytes_of (IsDecoded from input.now) result }
 {
     match yaml_decode(alloc, input, from) {
         Ok(text) => match Vec::from_slice(alloc, text.as_slice()) {

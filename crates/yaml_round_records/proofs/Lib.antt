@@ -5,3 +5,5 @@ pub mod Placing
 pub mod Directing
 pub mod Recording
 pub mod Saying
+pub mod Offsets
+pub mod Rows

@@ -6,7 +6,7 @@ use Rattle.std.specs.Prelude.{slice_range, nat_le}
 use Rattle.std.proofs.lemmas.Grind.{common_steps}
 use Rattle.std.proofs.lemmas.List.{append-nil}
 use Rattle.yaml_round_records.specs.declared.record.yaml_c_span.{yaml_c_span}
-use Rattle.yaml_round_records.specs.Records.{part_at, optional_at}
+use Rattle.yaml_round_records.specs.Records.{part_at, optional_at, no_span}
 use Rattle.yaml_round_records.specs.declared.record.yaml_c_event.{yaml_c_event}
 use Rattle.yaml_round_records.specs.Numbers.{is_set, flag_told}
 use Rattle.yaml_round_records.specs.Listing.{Grows, PutsText, PutsOptional, PutsProperties, HoldsText, HoldsOptional}
@@ -63,10 +63,10 @@ unfolding is_set
 absent bytes s more = refl
 
 pub put_some : (old text new : List ℕ) (s : yaml_c_span) → PutsText old text new s → PutsOptional old (Some text) new (pos 1) s
-put_some old text new s p = record { grows = puts_grows old text new s p; put = p.bytes; flag = refl; holds = there new s text (puts_holds old text new s p) }
+put_some old text new s p = record { grows = puts_grows old text new s p; put = p.bytes; flag = refl; span = refl; holds = there new s text (puts_holds old text new s p) }
 
-pub put_none : (old : List ℕ) (s : yaml_c_span) → PutsOptional old None old (pos 0) s
-put_none old s = record { grows = grows_itself old; put = sym (append-nil old); flag = refl; holds = absent old s }
+pub put_none : (old : List ℕ) → PutsOptional old None old (pos 0) no_span
+put_none old = record { grows = grows_itself old; put = sym (append-nil old); flag = refl; span = refl; holds = absent old no_span }
 
 -- a flag as the machine keeps it
 pub told_back : (b : Bool) (z : ℤ) → z ≡ flag_told b → to_z w32 (of_z w32 z) ≡ z
@@ -84,5 +84,7 @@ put_properties old mid new base a t m n x y s u e f p q = record {
   tag = subst (λ z. HoldsOptional new z u t) (sym f) q.holds;
   has_anchor = e ∙ p.flag;
   has_tag = f ∙ q.flag;
+  anchor_span = p.span;
+  tag_span = q.span;
   same = refl;
 }

@@ -10,11 +10,12 @@ use Rattle.yaml_parse.specs.declared.yaml_version_directive_t.{yaml_version_dire
 use Rattle.yaml_parse.specs.Events.{Event, EventBody, TagDirective}
 use Rattle.yaml_parse.specs.Events as event
 use Rattle.yaml_round_records.specs.declared.record.yaml_c_mark.{yaml_c_mark}
+use Rattle.yaml_round_records.specs.declared.record.yaml_c_span.{yaml_c_span}
 use Rattle.yaml_round_records.specs.declared.record.yaml_c_directive.{yaml_c_directive}
 use Rattle.yaml_round_records.specs.declared.record.yaml_c_event.{yaml_c_event}
 use Rattle.yaml_round_records.specs.declared.listing.Listing.{Listing}
 use Rattle.yaml_round_records.specs.Numbers.{is_set, flag_told, kind_meant, encoding_meant, scalar_style_meant, sequence_style_meant, mapping_style_meant}
-use Rattle.yaml_round_records.specs.Records.{mark_told, part_at, optional_at, directives_at, version_by, document_by, body_by, bare, node_told, plain, body_meant}
+use Rattle.yaml_round_records.specs.Records.{mark_told, part_at, optional_at, directives_at, version_by, document_by, body_by, span_told, number_told, bare, node_told, plain, body_meant}
 use Rattle.yaml_round_records.specs.Blocks.{body_texts, body_directives}
 use Rattle.yaml_round_records.specs.Listing.{IsBase, PutsAnchor, PutsScalar, PutsProperties, PutsDocument, AppendsDirectives, Records}
 use Rattle.yaml_round_records.proofs.Placing.{grows_itself}
@@ -35,6 +36,10 @@ four f a b c d s t u v p q m n = rw (p, q, m, n) refl
 five : (f : ℤ → ℤ → ℤ → yaml_c_mark → yaml_c_mark → yaml_c_event) (a b c d g h : ℤ) (s t u v : yaml_c_mark) → a ≡ b → c ≡ d → g ≡ h → s ≡ t
     → u ≡ v → f a c g s u ≡ f b d h t v
 five f a b c d g h s t u v p q o m n = rw (p, q, o, m, n) refl
+
+-- the same of the spans of an anchor and a tag
+spanned : (f : yaml_c_span → yaml_c_span → yaml_c_event) (s t u v : yaml_c_span) → s ≡ t → u ≡ v → f s u ≡ f t v
+spanned f s t u v p q = ap (λ z. f z u) p ∙ ap (λ z. f t z) q
 
 -- the body's texts and directives stand behind the old ones
 put_as : (old new : List ℕ) (b d : EventBody) → d ≡ b → new ≡ old ++ body_texts b → new ≡ old ++ body_texts d
@@ -179,8 +184,9 @@ only_alias base r a s t w b =
 only_node : (k : ℤ) (base r : yaml_c_event) (a t : Option (List ℕ)) (i : Bool)
     → r ≡ record base { has_anchor = r.has_anchor; anchor = r.anchor; has_tag = r.has_tag; tag = r.tag }
     → base ≡ record (plain k base.start base.end) { implicit = flag_told i; style = base.style }
-    → r.has_anchor ≡ flag_told (is_some a) → r.has_tag ≡ flag_told (is_some t) → r ≡ node_told k a t i r
-only_node k base r a t i w b ha ht =
+    → r.has_anchor ≡ flag_told (is_some a) → r.has_tag ≡ flag_told (is_some t) → r.anchor ≡ span_told a r.anchor → r.tag ≡ span_told t r.tag
+    → r ≡ node_told k a t i r
+only_node k base r a t i w b ha ht sa st =
     let e : r ≡ record (plain k base.start base.end) {
       implicit = flag_told i;
       style = base.style;
@@ -192,12 +198,22 @@ only_node k base r a t i w b ha ht =
     e ∙ five (λ x y z m n. record (plain k m n) { implicit = flag_told i; style = x; has_anchor = y; anchor = r.anchor; has_tag = z; tag = r.tag })
     base.style r.style r.has_anchor (flag_told (is_some a)) r.has_tag (flag_told (is_some t)) base.start r.start base.end r.end
     (sym (ap (λ (z : yaml_c_event). z.style) w)) ha ht (sym (ap (λ (z : yaml_c_event). z.start) w)) (sym (ap (λ (z : yaml_c_event). z.end) w))
+    ∙ spanned (λ x y. record (plain k r.start r.end) {
+      implicit = flag_told i;
+      style = r.style;
+      has_anchor = flag_told (is_some a);
+      anchor = x;
+      has_tag = flag_told (is_some t);
+      tag = y;
+    })
+    r.anchor (span_told a r.anchor) r.tag (span_told t r.tag) sa st
 
 only_scalar : (base r : yaml_c_event) (a t : Option (List ℕ)) (v : List ℕ) (p q : Bool) (s : yaml_scalar_style_t)
     → r ≡ record base { has_anchor = r.has_anchor; anchor = r.anchor; has_tag = r.has_tag; tag = r.tag; value = r.value }
     → base ≡ record (plain (pos 6) base.start base.end) { implicit = flag_told p; quoted_implicit = flag_told q; style = base.style }
-    → r.has_anchor ≡ flag_told (is_some a) → r.has_tag ≡ flag_told (is_some t) → r ≡ bare (event.scalar a t v p q s) r
-only_scalar base r a t v p q s w b ha ht =
+    → r.has_anchor ≡ flag_told (is_some a) → r.has_tag ≡ flag_told (is_some t) → r.anchor ≡ span_told a r.anchor → r.tag ≡ span_told t r.tag
+    → r ≡ bare (event.scalar a t v p q s) r
+only_scalar base r a t v p q s w b ha ht sa st =
     let e : r ≡ record (plain (pos 6) base.start base.end) {
       implicit = flag_told p;
       quoted_implicit = flag_told q;
@@ -220,20 +236,31 @@ only_scalar base r a t v p q s w b ha ht =
     })
     base.style r.style r.has_anchor (flag_told (is_some a)) r.has_tag (flag_told (is_some t)) base.start r.start base.end r.end
     (sym (ap (λ (z : yaml_c_event). z.style) w)) ha ht (sym (ap (λ (z : yaml_c_event). z.start) w)) (sym (ap (λ (z : yaml_c_event). z.end) w))
+    ∙ spanned (λ x y. record (plain (pos 6) r.start r.end) {
+      implicit = flag_told p;
+      quoted_implicit = flag_told q;
+      style = r.style;
+      has_anchor = flag_told (is_some a);
+      anchor = x;
+      has_tag = flag_told (is_some t);
+      tag = y;
+      value = r.value;
+    })
+    r.anchor (span_told a r.anchor) r.tag (span_told t r.tag) sa st
 
 only_document : (base r : yaml_c_event) (v : Option yaml_version_directive_t) (ts : List TagDirective) (i : Bool)
     → r ≡ record base { directives = r.directives }
-    → base ≡ record (plain (pos 3) base.start base.end) { implicit = flag_told i; has_version = flag_told (is_some v); major = base.major; minor = base.minor }
+    → base ≡ record (plain (pos 3) base.start base.end) { implicit = flag_told i; has_version = flag_told (is_some v); major = number_told v base.major; minor = number_told v base.minor }
     → r ≡ bare (event.document_start v ts i) r
 only_document base r v ts i w b =
     let e : r ≡ record (plain (pos 3) base.start base.end) {
       implicit = flag_told i;
       has_version = flag_told (is_some v);
-      major = base.major;
-      minor = base.minor;
+      major = number_told v base.major;
+      minor = number_told v base.minor;
       directives = r.directives;
     } = w ∙ ap (λ (z : yaml_c_event). record z { directives = r.directives }) b in
-    e ∙ four (λ x y m n. record (plain (pos 3) m n) { implicit = flag_told i; has_version = flag_told (is_some v); major = x; minor = y; directives = r.directives })
+    e ∙ four (λ x y m n. record (plain (pos 3) m n) { implicit = flag_told i; has_version = flag_told (is_some v); major = number_told v x; minor = number_told v y; directives = r.directives })
     base.major r.major base.minor r.minor base.start r.start base.end r.end (sym (ap (λ (z : yaml_c_event). z.major) w))
     (sym (ap (λ (z : yaml_c_event). z.minor) w)) (sym (ap (λ (z : yaml_c_event). z.start) w)) (sym (ap (λ (z : yaml_c_event). z.end) w))
 
@@ -272,7 +299,7 @@ scalar_recorded old new e base r a t v p q s is b hp hq hs only w ds es = record
       (ap (λ (z : yaml_c_event). is_set z.quoted_implicit) w.same ∙ hq));
   start = ap (λ (z : yaml_c_event). z.start) w.same ∙ b.start;
   end = ap (λ (z : yaml_c_event). z.end) w.same ∙ b.end;
-  alone = bare_at r _ e.body is (only_scalar base r a t v p q s w.same only w.has_anchor w.has_tag);
+  alone = bare_at r _ e.body is (only_scalar base r a t v p q s w.same only w.has_anchor w.has_tag w.anchor_span w.tag_span);
 }
 
 pub sequence_recorded : (old new : Listing) (e : Event) (base r : yaml_c_event) (a t : Option (List ℕ)) (i : Bool) (s : yaml_sequence_style_t)
@@ -292,7 +319,7 @@ sequence_recorded old new e base r a t i s is b hi hs only w ds es = record {
       (ap (λ (z : yaml_c_event). sequence_style_meant z.style) w.same ∙ hs) (ap (λ (z : yaml_c_event). is_set z.implicit) w.same ∙ hi));
   start = ap (λ (z : yaml_c_event). z.start) w.same ∙ b.start;
   end = ap (λ (z : yaml_c_event). z.end) w.same ∙ b.end;
-  alone = bare_at r _ e.body is (only_node (pos 7) base r a t i w.same only w.has_anchor w.has_tag);
+  alone = bare_at r _ e.body is (only_node (pos 7) base r a t i w.same only w.has_anchor w.has_tag w.anchor_span w.tag_span);
 }
 
 pub mapping_recorded : (old new : Listing) (e : Event) (base r : yaml_c_event) (a t : Option (List ℕ)) (i : Bool) (s : yaml_mapping_style_t)
@@ -312,12 +339,12 @@ mapping_recorded old new e base r a t i s is b hi hs only w ds es = record {
       (ap (λ (z : yaml_c_event). mapping_style_meant z.style) w.same ∙ hs) (ap (λ (z : yaml_c_event). is_set z.implicit) w.same ∙ hi));
   start = ap (λ (z : yaml_c_event). z.start) w.same ∙ b.start;
   end = ap (λ (z : yaml_c_event). z.end) w.same ∙ b.end;
-  alone = bare_at r _ e.body is (only_node (pos 9) base r a t i w.same only w.has_anchor w.has_tag);
+  alone = bare_at r _ e.body is (only_node (pos 9) base r a t i w.same only w.has_anchor w.has_tag w.anchor_span w.tag_span);
 }
 
 pub document_recorded : (old new : Listing) (e : Event) (base r : yaml_c_event) (v : Option yaml_version_directive_t) (ts : List TagDirective) (i : Bool)
     → e.body ≡ event.document_start v ts i → IsBase (pos 3) e base → version_by (is_set base.has_version) base ≡ v → is_set base.implicit ≡ i
-    → base ≡ record (plain (pos 3) base.start base.end) { implicit = flag_told i; has_version = flag_told (is_some v); major = base.major; minor = base.minor }
+    → base ≡ record (plain (pos 3) base.start base.end) { implicit = flag_told i; has_version = flag_told (is_some v); major = number_told v base.major; minor = number_told v base.minor }
     → PutsDocument old base ts new r → Records old e new r
 document_recorded old new e base r v ts i is b hv hi only w = record {
   bytes = w.bytes;

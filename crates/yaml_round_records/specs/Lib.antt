@@ -1,5 +1,6 @@
 pub mod Numbers
 pub mod Records
+pub mod Offsets
 pub mod Blocks
 pub mod Meaning
 pub mod Checking

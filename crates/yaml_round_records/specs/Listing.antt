@@ -11,7 +11,7 @@ use Rattle.yaml_round_records.specs.declared.record.yaml_c_directive.{yaml_c_dir
 use Rattle.yaml_round_records.specs.declared.record.yaml_c_event.{yaml_c_event}
 use Rattle.yaml_round_records.specs.declared.listing.Listing.{Listing}
 use Rattle.yaml_round_records.specs.Numbers.{flag_told}
-use Rattle.yaml_round_records.specs.Records.{mark_told, part_at, optional_at, all_directives, directives_at, bare, body_meant, AllSay}
+use Rattle.yaml_round_records.specs.Records.{mark_told, part_at, optional_at, all_directives, directives_at, span_told, bare, body_meant, AllSay}
 use Rattle.yaml_round_records.specs.Blocks.{optional_text, directive_texts, body_texts, body_directives, all_texts, listed_directives}
 
 -- ---- what grows
@@ -39,6 +39,7 @@ pub record PutsOptional (old : List ℕ) (text : Option (List ℕ)) (new : List 
   pub grows : Grows old new
   pub put : new ≡ old ++ optional_text text
   pub flag : has ≡ flag_told (is_some text)
+  pub span : s ≡ span_told text s
   pub holds : HoldsOptional new has s text
 
 -- a node's properties stand there
@@ -50,6 +51,8 @@ pub record PutsProperties (old : List ℕ) (base : yaml_c_event) (a t : Option (
   pub tag : HoldsOptional new r.has_tag r.tag t
   pub has_anchor : r.has_anchor ≡ flag_told (is_some a)
   pub has_tag : r.has_tag ≡ flag_told (is_some t)
+  pub anchor_span : r.anchor ≡ span_told a r.anchor
+  pub tag_span : r.tag ≡ span_told t r.tag
   pub same : r ≡ record base {
     has_anchor = r.has_anchor;
     anchor = r.anchor;
@@ -74,6 +77,8 @@ pub record PutsScalar (old : List ℕ) (base : yaml_c_event) (a t : Option (List
   pub tag : HoldsOptional new r.has_tag r.tag t
   pub has_anchor : r.has_anchor ≡ flag_told (is_some a)
   pub has_tag : r.has_tag ≡ flag_told (is_some t)
+  pub anchor_span : r.anchor ≡ span_told a r.anchor
+  pub tag_span : r.tag ≡ span_told t r.tag
   pub value : HoldsText new r.value v
   pub same : r ≡ record base {
     has_anchor = r.has_anchor;

@@ -1,5 +1,5 @@
 -- What numbers mean: those of libyaml's enums. A number beside them means nothing.
-use Rattle.std.specs.Prelude.{ℤ, pos, Bool, true, false, not, if◌then◌else◌, Option, None, Some}
+use Rattle.std.specs.Prelude.{ℕ, zero, suc, ℤ, pos, negsuc, Bool, true, false, not, if◌then◌else◌, List, [], ◌∷◌, Option, None, Some}
 use Rattle.std.specs.Ordering.{int_eq}
 use Rattle.yaml_parse.specs.declared.yaml_encoding_t.{yaml_encoding_t}
 use Rattle.yaml_parse.specs.declared.yaml_encoding_t.TheVariants as encoding
@@ -91,3 +91,47 @@ error_number error.YAML_PARSER_ERROR = pos 4
 error_number error.YAML_COMPOSER_ERROR = pos 5
 error_number error.YAML_WRITER_ERROR = pos 6
 error_number error.YAML_EMITTER_ERROR = pos 7
+
+-- ---- the same by rows: the constants of each enum in their order, the first of which has the number 0
+
+abbrev pub entry_at : {X : Type 0} → List X → ℕ → Option X
+entry_at [] n = None
+entry_at (x ∷ xs) zero = Some x
+entry_at (x ∷ xs) (suc n) = entry_at xs n
+
+-- the constant that has this number
+abbrev pub numbered : {X : Type 0} → List X → ℤ → Option X
+numbered xs (pos n) = entry_at xs n
+numbered xs (negsuc n) = None
+
+abbrev pub encodings : List yaml_encoding_t
+encodings = encoding.YAML_ANY_ENCODING ∷ encoding.YAML_UTF8_ENCODING
+    ∷ encoding.YAML_UTF16LE_ENCODING ∷ encoding.YAML_UTF16BE_ENCODING ∷ []
+
+abbrev pub breaks : List yaml_break_t
+breaks = line_break.YAML_ANY_BREAK ∷ line_break.YAML_CR_BREAK ∷ line_break.YAML_LN_BREAK
+    ∷ line_break.YAML_CRLN_BREAK ∷ []
+
+abbrev pub kinds : List yaml_event_type_t
+kinds = kind.YAML_NO_EVENT ∷ kind.YAML_STREAM_START_EVENT ∷ kind.YAML_STREAM_END_EVENT
+    ∷ kind.YAML_DOCUMENT_START_EVENT ∷ kind.YAML_DOCUMENT_END_EVENT ∷ kind.YAML_ALIAS_EVENT
+    ∷ kind.YAML_SCALAR_EVENT ∷ kind.YAML_SEQUENCE_START_EVENT ∷ kind.YAML_SEQUENCE_END_EVENT
+    ∷ kind.YAML_MAPPING_START_EVENT ∷ kind.YAML_MAPPING_END_EVENT ∷ []
+
+abbrev pub scalar_styles : List yaml_scalar_style_t
+scalar_styles = scalar.YAML_ANY_SCALAR_STYLE ∷ scalar.YAML_PLAIN_SCALAR_STYLE
+    ∷ scalar.YAML_SINGLE_QUOTED_SCALAR_STYLE ∷ scalar.YAML_DOUBLE_QUOTED_SCALAR_STYLE
+    ∷ scalar.YAML_LITERAL_SCALAR_STYLE ∷ scalar.YAML_FOLDED_SCALAR_STYLE ∷ []
+
+abbrev pub sequence_styles : List yaml_sequence_style_t
+sequence_styles = sequence.YAML_ANY_SEQUENCE_STYLE ∷ sequence.YAML_BLOCK_SEQUENCE_STYLE
+    ∷ sequence.YAML_FLOW_SEQUENCE_STYLE ∷ []
+
+abbrev pub mapping_styles : List yaml_mapping_style_t
+mapping_styles = mapping.YAML_ANY_MAPPING_STYLE ∷ mapping.YAML_BLOCK_MAPPING_STYLE
+    ∷ mapping.YAML_FLOW_MAPPING_STYLE ∷ []
+
+abbrev pub errors : List yaml_error_type_t
+errors = error.YAML_NO_ERROR ∷ error.YAML_MEMORY_ERROR ∷ error.YAML_READER_ERROR
+    ∷ error.YAML_SCANNER_ERROR ∷ error.YAML_PARSER_ERROR ∷ error.YAML_COMPOSER_ERROR
+    ∷ error.YAML_WRITER_ERROR ∷ error.YAML_EMITTER_ERROR ∷ []

@@ -130,6 +130,9 @@ body_in_front (Some b) (Some bs) = Some (b ∷ bs)
 
 -- ---- records that are handed out
 
+abbrev pub no_span : yaml_c_span
+no_span = record { at = 0; len = 0 }
+
 -- a record of that kind with those marks, and 0 in all else
 abbrev pub plain : ℤ → yaml_c_mark → yaml_c_mark → yaml_c_event
 plain kind start end = record {
@@ -143,13 +146,23 @@ plain kind start end = record {
   has_version = pos 0;
   major = pos 0;
   minor = pos 0;
-  directives = record { at = 0; len = 0 };
-  anchor = record { at = 0; len = 0 };
-  tag = record { at = 0; len = 0 };
-  value = record { at = 0; len = 0 };
+  directives = no_span;
+  anchor = no_span;
+  tag = no_span;
+  value = no_span;
   start = start;
   end = end;
 }
+
+-- the span of what may be left out: nothing at 0 where it is
+abbrev pub span_told : {X : Type 0} → Option X → yaml_c_span → yaml_c_span
+span_told None s = no_span
+span_told (Some x) s = s
+
+-- a number of what may be left out: 0 where it is
+abbrev pub number_told : {X : Type 0} → Option X → ℤ → ℤ
+number_told None n = pos 0
+number_told (Some x) n = n
 
 abbrev pub node_told : ℤ → Option (List ℕ) → Option (List ℕ) → Bool → yaml_c_event → yaml_c_event
 node_told kind a t i r = record (plain kind r.start r.end) {
@@ -157,11 +170,12 @@ node_told kind a t i r = record (plain kind r.start r.end) {
   implicit = flag_told i;
   has_anchor = flag_told (is_some a);
   has_tag = flag_told (is_some t);
-  anchor = r.anchor;
-  tag = r.tag;
+  anchor = span_told a r.anchor;
+  tag = span_told t r.tag;
 }
 
--- A record of an event with what its kind names, flags as 0 or 1, and 0 in place of all else.
+-- A record of an event with what its kind names, flags as 0 or 1, and 0 in place of all else, also of an anchor, a tag or a
+-- version that isn't there.
 abbrev pub bare : EventBody → yaml_c_event → yaml_c_event
 bare event.no r = plain (pos 0) r.start r.end
 bare (event.stream_start x) r = record (plain (pos 1) r.start r.end) { encoding = r.encoding }
@@ -169,8 +183,8 @@ bare event.stream_end r = plain (pos 2) r.start r.end
 bare (event.document_start v ds i) r = record (plain (pos 3) r.start r.end) {
   implicit = flag_told i;
   has_version = flag_told (is_some v);
-  major = r.major;
-  minor = r.minor;
+  major = number_told v r.major;
+  minor = number_told v r.minor;
   directives = r.directives;
 }
 bare (event.document_end i) r = record (plain (pos 4) r.start r.end) { implicit = flag_told i }

@@ -4,7 +4,7 @@ ghost use Rattle.std.specs.Prelude.{◌≡◌, [], Some, pos, IfOk, map};
 ghost use Rattle.yaml_parse.specs.Events.{event_of, directive_of, text_of};
 ghost use Rattle.std.specs.Option.{is_some};
 ghost use Rattle.yaml_round_records.specs.Numbers.{is_set, flag_told, encoding_meant, scalar_style_meant, sequence_style_meant, mapping_style_meant};
-ghost use Rattle.yaml_round_records.specs.Records.{mark_told, plain, version_by};
+ghost use Rattle.yaml_round_records.specs.Records.{mark_told, plain, version_by, number_told};
 ghost use Rattle.yaml_round_records.specs.Listing.{PutsText, PutsOptional, PutsProperties, PutsAnchor, PutsScalar, PutsDirective, PutsDirectives, PutsDocument, IsBase, Records, AddsRecord};
 
 use crate::number::{
@@ -217,8 +217,8 @@ fn document_start_base(
     ensures bare { result ≡ record (plain (pos 3) result.start result.end) {
       implicit = flag_told implicit;
       has_version = flag_told (is_some version);
-      major = result.major;
-      minor = result.minor;
+      major = number_told version result.major;
+      minor = number_told version result.minor;
     } }
 {
     let mut record = plain(3, event);

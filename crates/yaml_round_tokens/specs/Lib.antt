@@ -1,3 +1,5 @@
 pub mod Listed
+pub mod Offsets
+pub mod Rows
 -- what it speaks of, for those above
 pub use Rattle.yaml_scan.specs.Scanned

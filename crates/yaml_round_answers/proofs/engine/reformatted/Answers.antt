@@ -1,11 +1,15 @@
 -- What the call answers is what C is told.
 use mir.Syntax.{w32}
 use mir.Val.{SFits, to_z, of_z}
-use Rattle.std.proofs.Common.{◌≡◌, ◌∙◌, subst, rules}
+use Rattle.std.proofs.Common.{◌≡◌, ◌∙◌, inl, refl, subst, rules}
 use Rattle.std.proofs.lemmas.Int.{to_z-of_z}
-use Rattle.std.specs.Prelude.{Ok, Err}
+use Rattle.std.specs.Prelude.{Ok}
 use Rattle.yaml_parse.specs.Faults.{fault_of}
-use Rattle.yaml_round_answers.specs.Told.{TellsText, form_number}
+use Rattle.yaml_parse.specs.declared.yaml_origin_t.TheVariants.{Emitter}
+use Rattle.yaml_round.specs.Layers.{reformat_layers}
+use Rattle.yaml_round.specs.Answers.{IsReformatted}
+use Rattle.yaml_round_answers.specs.Told.{TellsText, TellsForm, form_number}
+use Rattle.yaml_round_answers.proofs.Refusing.{refused_answer}
 use Rattle.yaml_round_answers.proofs.engine.reformatted.Goals as goal
 
 pub returns-in-Ok : goal.returns-in-Ok
@@ -20,4 +24,6 @@ returns-in-Ok c =
     }
 
 pub returns-in-Err : goal.returns-in-Err
-returns-in-Err c = record { result = Err (fault_of c.in-Err.fault); is = c.in-Err.ensures; told = c.refused.ensures }
+returns-in-Err c =
+    refused_answer reformat_layers Emitter (IsReformatted c.args.from c.args.settings.now c.args.input.now) TellsForm (fault_of c.in-Err.fault) _ (inl refl)
+    (λ g t. t) c.in-Err.ensures c.refused.ensures

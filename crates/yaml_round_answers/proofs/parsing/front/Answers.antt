@@ -1,10 +1,9 @@
 -- What stands in front of the end is what C is told.
 use Rattle.std.proofs.Common.{refl}
-use Rattle.std.specs.Prelude.{Ok, Err}
-use Rattle.yaml_parse.specs.Faults.{fault_of}
+use Rattle.std.specs.Prelude.{Ok}
 use Rattle.yaml_round.specs.Input.{events_of}
 use Rattle.yaml_round.proofs.Plain.{has_events}
-use Rattle.yaml_round_answers.proofs.Handing.{handed_says, front_fault, front_says}
+use Rattle.yaml_round_answers.proofs.Handing.{handed_says, refused_front}
 use Rattle.yaml_round_answers.proofs.parsing.front.Goals as goal
 
 pub returns-in-Ok : goal.returns-in-Ok
@@ -17,8 +16,5 @@ returns-in-Ok c =
 
 pub returns-in-Err : goal.returns-in-Err
 returns-in-Err c =
-    let e = rw c.in-Err.is at c.fronted-end.ensures in record {
-      result = Err (fault_of c.in-Err.fault);
-      is = front_fault c.args.from c.args.input.now c.in-Err.fault _ e;
-      told = (c.refused.ensures, front_says c.args.from c.args.input.now c.in-Err.fault _ _ c.blocks_of.ensures e);
-    }
+    let e = rw c.in-Err.is at c.fronted-end.ensures in
+    refused_front c.args.from c.args.input.now c.in-Err.fault _ _ _ c.blocks_of.ensures e c.refused.ensures

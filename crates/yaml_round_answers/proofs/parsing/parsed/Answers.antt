@@ -1,10 +1,9 @@
 -- What was collected is what C is told.
 use Rattle.std.proofs.Common.{refl}
-use Rattle.std.specs.Prelude.{Ok, Err}
-use Rattle.yaml_parse.specs.Faults.{fault_of}
+use Rattle.std.specs.Prelude.{Ok}
 use Rattle.yaml_round.specs.Input.{events_of}
 use Rattle.yaml_round.proofs.Plain.{has_events}
-use Rattle.yaml_round_answers.proofs.Handing.{handed_says, fault_plain}
+use Rattle.yaml_round_answers.proofs.Handing.{handed_says, refused_parse}
 use Rattle.yaml_round_answers.proofs.parsing.parsed.Goals as goal
 
 pub returns-in-Ok-clause-told : goal.returns-in-Ok-clause-told
@@ -15,8 +14,4 @@ returns-in-Ok-clause-told c = record {
 }
 
 pub returns-in-Err-clause-told : goal.returns-in-Err-clause-told
-returns-in-Err-clause-told c = record {
-  result = Err (fault_of c.in-Err.fault);
-  is = fault_plain c.args.from c.args.input.now c.in-Err.fault c.in-Err.ensures;
-  told = (c.refused.ensures, c.nothing.ensures);
-}
+returns-in-Err-clause-told c = refused_parse c.args.from c.args.input.now c.in-Err.fault _ _ c.nothing.ensures c.in-Err.ensures c.refused.ensures

@@ -9,4 +9,4 @@ returns-in_ok-span-in-Some c = rw c.in-Some.is
     (put_some _ _ _ _ c.in_ok-span-in-Some.ensures))
 
 pub returns-in-None : goal.returns-in-None
-returns-in-None c = rw c.in-None.is (put_none _ _)
+returns-in-None c = rw c.in-None.is (put_none _)

@@ -14,6 +14,8 @@ returns c =
       anchor = holds_optional_on _ _ r.has_anchor r.anchor _ (puts_grows _ _ _ _ p) w.anchor;
       has_anchor = w.has_anchor;
       has_tag = w.has_tag;
+      anchor_span = w.anchor_span;
+      tag_span = w.tag_span;
       tag = holds_optional_on _ _ r.has_tag r.tag _ (puts_grows _ _ _ _ p) w.tag;
       value = puts_holds _ _ _ _ p;
       same = ap (λ (z : yaml_c_event). record z { value = c.in_ok-record-2.field-0 }) w.same;

@@ -1,0 +1,31 @@
+-- Each field lies where the header says.
+use Rattle.std.proofs.Common.{refl}
+use Rattle.yaml_round_answers.specs.Offsets.{AnswerLies, ParsedLies, ScannedLies}
+
+pub answer_lies : AnswerLies
+answer_lies = record {
+  kind = record { is = λ d. refl; begins = refl };
+  is = record { is = λ d. refl; begins = refl };
+  second = record { is = λ d. refl; begins = refl };
+  value = record { is = λ d. refl; begins = refl };
+  offset = record { is = λ d. refl; begins = refl };
+  problem_mark = record { is = λ d. refl; begins = refl };
+  context_mark = record { is = λ d. refl; begins = refl };
+  problem = record { is = λ d. refl; begins = refl };
+  context = record { is = λ d. refl; begins = refl };
+  text = record { is = λ d. refl; begins = refl };
+  line = record { is = λ d. refl; begins = refl };
+}
+
+pub parsed_lies : ParsedLies
+parsed_lies = record {
+  events = record { is = λ d. refl; begins = refl };
+  directives = record { is = λ d. refl; begins = refl };
+  bytes = record { is = λ d. refl; begins = refl };
+}
+
+pub scanned_lies : ScannedLies
+scanned_lies = record {
+  tokens = record { is = λ d. refl; begins = refl };
+  bytes = record { is = λ d. refl; begins = refl };
+}

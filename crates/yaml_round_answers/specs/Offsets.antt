@@ -1,0 +1,29 @@
+-- Where the fields of what a call answers and hands out lie.
+use Rattle.yaml_round_records.specs.Offsets.{LiesAt}
+use Rattle.yaml_round_answers.specs.contracts.answer.yaml_c_answer as answer
+use Rattle.yaml_round_answers.specs.contracts.parsing.yaml_c_parsed as parsed
+use Rattle.yaml_round_answers.specs.contracts.scanning.yaml_c_scanned as scanned
+
+-- ---- the layouts, which are those that the header asserts: a list is a pointer with its length behind it
+
+pub record AnswerLies : Type 0 where
+  pub kind : LiesAt answer.the_type 0 (λ d. d.kind) 0
+  pub is : LiesAt answer.the_type 1 (λ d. d.is) 4
+  pub second : LiesAt answer.the_type 2 (λ d. d.second) 8
+  pub value : LiesAt answer.the_type 3 (λ d. d.value) 12
+  pub offset : LiesAt answer.the_type 4 (λ d. d.offset) 16
+  pub problem_mark : LiesAt answer.the_type 5 (λ d. d.problem_mark) 24
+  pub context_mark : LiesAt answer.the_type 6 (λ d. d.context_mark) 48
+  pub problem : LiesAt answer.the_type 7 (λ d. d.problem) 72
+  pub context : LiesAt answer.the_type 8 (λ d. d.context) 88
+  pub text : LiesAt answer.the_type 9 (λ d. d.text) 104
+  pub line : LiesAt answer.the_type 10 (λ d. d.line) 120
+
+pub record ParsedLies : Type 0 where
+  pub events : LiesAt parsed.the_type 0 (λ d. d.events) 0
+  pub directives : LiesAt parsed.the_type 1 (λ d. d.directives) 16
+  pub bytes : LiesAt parsed.the_type 2 (λ d. d.bytes) 32
+
+pub record ScannedLies : Type 0 where
+  pub tokens : LiesAt scanned.the_type 0 (λ d. d.tokens) 0
+  pub bytes : LiesAt scanned.the_type 1 (λ d. d.bytes) 16

@@ -66,10 +66,12 @@ static size_t characters_before(layer_reading *reading, uint64_t byte)
 
 yaml_mark_t layer_mark(layer_reading *reading, yaml_c_mark mark)
 {
-    if (mark.index < reading->stand_in) /* of the stand-in its beginning is named alone */
-        return reading->root_mark;
+    if (mark.index < reading->stand_in) /* of the stand-in the beginnings of collections are named alone */
+        return reading->within == LAYER_FLOW ? layer_opened_at(reading, mark.index) : reading->root_mark;
     yaml_mark_t found = {reading->chars_to_window + characters_before(reading, mark.index),
                          reading->lines_to_window + mark.line, mark.column};
+    if (mark.line == reading->first_line)
+        found.column += reading->column_before;
     return found;
 }
 
@@ -116,6 +118,19 @@ static int has_utf8_mark(const layer_reading *reading)
     return reading->given >= 3 && !memcmp(reading->bytes, "\xEF\xBB\xBF", 3);
 }
 
+/* The last place in that many bytes behind which a character begins, as far as a document in flow style may be looked at: more is
+ * known to come. 0: there is none. */
+static size_t end_in_flow(layer_reading *reading, size_t len)
+{
+    if (!reading->flow_len)
+        reading->flow_len = LAYER_WINDOW;
+    if (len < reading->flow_len || len >= reading->given)
+        return 0;
+    while (len > 0 && (reading->bytes[len] & 0xC0) == 0x80)
+        len--;
+    return len;
+}
+
 /* The window ends at a cut behind `from`, where one is found in that many bytes. */
 static int ends_at_cut(const yaml_parser_t *parser, layer_reading *reading, size_t from, size_t len)
 {
@@ -126,7 +141,8 @@ static int ends_at_cut(const yaml_parser_t *parser, layer_reading *reading, size
         if (!reading->front && !reading->bytes_before && has_utf8_mark(reading))
             reading->front = 3;
         reading->cut_in = reading->within ? reading->within : layer_root_of(reading->bytes, len, &reading->front);
-        cut = layer_last_item(reading->bytes, len, from, reading->cut_in);
+        cut = reading->cut_in == LAYER_FLOW ? end_in_flow(reading, len)
+                                            : layer_last_item(reading->bytes, len, from, reading->cut_in);
     }
     if (cut)
         reading->len = cut;
@@ -184,22 +200,30 @@ static int window_by_handler(yaml_parser_t *parser, layer_reading *reading)
     return take_all(parser, reading);
 }
 
-/* What is to be parsed: the window, within a root behind its stand-in. */
+/* Puts the stand-in before what is parsed. 0: memory was refused. */
+static int put_stand_in(layer_reading *reading)
+{
+    switch (reading->within) {
+    case LAYER_SEQUENCE: reading->stand_in_events = 4; return layer_put(&reading->joined, "- x\n", 4);
+    case LAYER_MAPPING: reading->stand_in_events = 5; return layer_put(&reading->joined, "x: x\n", 5);
+    case LAYER_FLOW: return layer_put_opens(reading);
+    default: reading->stand_in_events = reading->bytes_before != 0; return 1;
+    }
+}
+
+/* What is to be parsed: the window, within a root behind its stand-in, which is a line. */
 static int join(yaml_parser_t *parser, layer_reading *reading)
 {
-    const char *stand_in = reading->within == LAYER_SEQUENCE ? "- x\n" : reading->within == LAYER_MAPPING ? "x: x\n" : "";
-    reading->read = reading->bytes;
-    reading->read_len = reading->len;
-    reading->stand_in = strlen(stand_in);
+    reading->joined.len = 0;
+    if (!put_stand_in(reading) || (reading->within && !layer_put(&reading->joined, reading->bytes, reading->len)))
+        return layer_no_memory(parser);
+    reading->read = reading->within ? reading->joined.at : reading->bytes;
+    reading->stand_in = reading->within ? reading->joined.len - reading->len : 0;
+    reading->read_len = reading->stand_in + reading->len;
+    reading->mark_len = !reading->bytes_before && !parser->encoding && has_utf8_mark(reading) ? 3 : 0;
     reading->chars_to_window = reading->chars_before - reading->stand_in;
     reading->lines_to_window = reading->lines_before - (reading->within != LAYER_NO_ROOT);
-    if (!reading->within)
-        return 1;
-    reading->joined.len = 0;
-    if (!layer_put(&reading->joined, stand_in, reading->stand_in) || !layer_put(&reading->joined, reading->bytes, reading->len))
-        return layer_no_memory(parser);
-    reading->read = reading->joined.at;
-    reading->read_len = reading->joined.len;
+    reading->first_line = reading->within == LAYER_FLOW ? 1 : SIZE_MAX;
     return 1;
 }
 
@@ -213,19 +237,32 @@ int layer_widen(yaml_parser_t *parser, layer_reading *reading)
 {
     if (!reading->cut_in)
         return take_all(parser, reading) && join(parser, reading);
+    if (reading->cut_in == LAYER_FLOW)
+        reading->flow_len *= 8;
+    else
+        reading->is_uncut = 1;
     reading->cut_in = LAYER_NO_ROOT;
-    reading->is_uncut = 1;
     return find_window(parser, reading);
+}
+
+/* Puts the window's places behind. */
+static void leave_places(layer_reading *reading)
+{
+    if (reading->cut_in == LAYER_FLOW) {
+        layer_leave_flow(reading);
+        return;
+    }
+    if (reading->cut_in && !reading->within)
+        reading->root_mark = layer_mark(reading, reading->root);
+    reading->chars_before = reading->chars_to_window + characters_before(reading, reading->text_len);
+    reading->lines_before = reading->lines_to_window + reading->lines;
 }
 
 /* Puts the window's bytes behind. */
 static void leave_window(layer_reading *reading)
 {
-    if (reading->cut_in && !reading->within)
-        reading->root_mark = layer_mark(reading, reading->root);
+    leave_places(reading);
     reading->bytes_before += reading->len;
-    reading->chars_before = reading->chars_to_window + characters_before(reading, reading->text_len);
-    reading->lines_before = reading->lines_to_window + reading->lines;
     reading->at_byte = reading->at_char = 0;
     reading->given -= reading->len;
     reading->checked -= reading->checked < reading->len ? reading->checked : reading->len;
@@ -235,7 +272,7 @@ static void leave_window(layer_reading *reading)
         reading->input.len = reading->given;
         memmove(reading->input.at, reading->input.at + reading->len, reading->given);
     }
-    reading->len = reading->front = 0;
+    reading->len = reading->front = reading->flow_len = 0;
     reading->within = reading->cut_in;
     reading->cut_in = LAYER_NO_ROOT;
     reading->is_uncut &= reading->within != LAYER_NO_ROOT;

@@ -80,8 +80,17 @@ static inline void layer_clear(yaml_event_t *event)
 #define LAYER_STATE(type, of) ((type *)(void *)(of)->raw_buffer.start)
 #define LAYER_SET_STATE(of, state) ((of)->raw_buffer.start = (unsigned char *)(void *)(state))
 
-/* The collection at column 0 that is a document's root, where the input may be cut within it; or none. */
-enum layer_root { LAYER_NO_ROOT, LAYER_SEQUENCE, LAYER_MAPPING };
+/* A document's root, where the input may be cut within it: a collection at column 0, or one in flow style; or none. */
+enum layer_root { LAYER_NO_ROOT, LAYER_SEQUENCE, LAYER_MAPPING, LAYER_FLOW };
+
+/* A collection in flow style that is open at a cut, and how many of them at most. */
+enum { LAYER_OPENS = 16 };
+typedef struct {
+    yaml_c_mark start; /* its bracket, in its window, in the input, and in the stand-in for it */
+    yaml_mark_t mark;
+    size_t at;
+    int is_mapping;
+} layer_open;
 
 /* What was asked of a parser. */
 enum layer_asked { LAYER_NOTHING, LAYER_EVENTS, LAYER_TOKENS };
@@ -100,13 +109,18 @@ typedef struct {
     enum layer_root within;   /* the root in which the window begins */
     enum layer_root cut_in;   /* and that in which it ends */
     size_t front;             /* of the window, in front of its first content */
-    yaml_c_mark root;         /* where that begins, in its window, and in the input */
+    yaml_c_mark root;         /* where that begins, in its window, and in the input; in flow style, where the window ends */
     yaml_mark_t root_mark;
+    layer_open opens[LAYER_OPENS]; /* in flow style, what is open in front of the window, and once that is cut, where it ends */
+    size_t opens_len;
+    size_t flow_len;          /* how much of such a document is looked at next */
     int is_uncut;             /* the document isn't cut, since its root is none of these */
     layer_bytes joined;       /* a root's beginning, as a stand-in, and the window behind it */
     const uint8_t *read;      /* what is parsed: that or the window, how much, and how much of it is the stand-in */
     size_t read_len;
+    size_t mark_len; /* of its byte order mark */
     size_t stand_in;
+    size_t stand_in_events;
     int is_whole; /* the window is to be the whole input */
     int is_last;  /* the window ends with the input */
     int is_wrong; /* the window has a wrong byte, and ends with what was read by then */
@@ -115,6 +129,8 @@ typedef struct {
     size_t lines_before;
     size_t chars_to_window; /* what is added to places of what is parsed: these, less those of the stand-in */
     size_t lines_to_window;
+    size_t column_before; /* in flow style the window begins within a line, which is that line of what is parsed */
+    size_t first_line;
     size_t lines; /* of the window, where it isn't the last */
     size_t at_byte; /* a place of the window's text, and the window's characters in front of it */
     size_t at_char;
@@ -138,6 +154,14 @@ int layer_asks(yaml_parser_t *parser, layer_reading *reading, enum layer_asked a
 int layer_fault(yaml_parser_t *parser, layer_reading *reading);
 int layer_no_memory(yaml_parser_t *parser);
 yaml_mark_t layer_mark(layer_reading *reading, yaml_c_mark mark);
+/* Cuts what was parsed of a document in flow style, whose events end there. 0: it can't be cut. */
+int layer_cut_in_flow(layer_reading *reading);
+/* Puts the places of that cut right. */
+void layer_leave_flow(layer_reading *reading);
+/* Puts the stand-in for what is open before what is parsed. 0: memory was refused. */
+int layer_put_opens(layer_reading *reading);
+/* The place of what begins in the stand-in there. */
+yaml_mark_t layer_opened_at(const layer_reading *reading, uint64_t index);
 /* Goes on to the next window. 0: the parser tells why. */
 int layer_next_window(yaml_parser_t *parser, layer_reading *reading);
 /* Has the window end further on: with its document, where it ends within one, or with the input. 0: the parser tells why. */

@@ -70,11 +70,12 @@ static void take_events(layer_reading *reading)
 {
     yaml_c_parsed *parsed = &reading->parsed;
     size_t len = parsed->events_len;
-    reading->next = reading->within ? 3 + reading->within : reading->bytes_before != 0;
-    reading->end = len;
+    reading->next = reading->stand_in_events;
     if (!len)
         return;
-    if (!reading->is_last) {
+    if (reading->cut_in != LAYER_FLOW)
+        reading->end = len;
+    if (!reading->is_last && reading->cut_in != LAYER_FLOW) {
         reading->lines = parsed->events[len - 1].start.line;
         reading->end -= reading->cut_in ? 3 : 1;
         if (reading->cut_in)
@@ -103,9 +104,17 @@ static void parse(const yaml_parser_t *parser, layer_reading *reading)
     yaml_c_front(reading->read, reading->read_len, parser->encoding, &reading->parsed, &reading->answer);
 }
 
-static int is_doubtful(const layer_reading *reading)
+/* Whether the window's events may not be the input's. Of a document in flow style those in front of its cut are. */
+static int is_doubtful(layer_reading *reading)
 {
-    return layer_is_doubtful(reading) || (!reading->answer.kind && reading->cut_in && !ends_in_root(reading));
+    if (reading->cut_in != LAYER_FLOW)
+        return layer_is_doubtful(reading) || (!reading->answer.kind && reading->cut_in && !ends_in_root(reading));
+    if (reading->answer.kind == YAML_C_MEMORY_ERROR)
+        return 0;
+    if (!layer_cut_in_flow(reading))
+        return 1;
+    yaml_c_answer_free(&reading->answer);
+    return 0;
 }
 
 /* Reads the events of the next window, and where they may not be the input's, those of more. */
@@ -185,9 +194,11 @@ static int copied(const layer_reading *reading, yaml_char_t **to, yaml_c_span sp
     return (*to = layer_copy(reading->parsed.bytes.at + span.at, span.len)) != NULL;
 }
 
-/* The anchor and the tag of a node. */
-static int properties_copied(const layer_reading *reading, const yaml_c_event *it, yaml_char_t **anchor, yaml_char_t **tag)
+/* The anchor and the tag of a node, which most have none of. */
+static inline int properties_copied(const layer_reading *reading, const yaml_c_event *it, yaml_char_t **anchor, yaml_char_t **tag)
 {
+    if (!(it->has_anchor | it->has_tag))
+        return 1;
     return (!it->has_anchor || copied(reading, anchor, it->anchor)) && (!it->has_tag || copied(reading, tag, it->tag));
 }
 
@@ -314,11 +325,12 @@ static int misses_start(const layer_reading *reading)
     return reading->last == YAML_C_STREAM_START_EVENT && told->len == sizeof problem - 1 && !memcmp(told->at, problem, told->len);
 }
 
-static yaml_mark_t mark_of(layer_reading *reading, const yaml_c_mark *mark)
+static inline yaml_mark_t mark_of(layer_reading *reading, const yaml_c_mark *mark)
 {
     if (!reading->is_ascii || mark->index < reading->stand_in)
         return layer_mark(reading, *mark);
-    yaml_mark_t found = {reading->chars_to_window + mark->index, reading->lines_to_window + mark->line, mark->column};
+    size_t column = mark->column + (mark->line == reading->first_line ? reading->column_before : 0);
+    yaml_mark_t found = {reading->chars_to_window + mark->index, reading->lines_to_window + mark->line, column};
     return found;
 }
 

@@ -98,6 +98,8 @@ enum layer_root layer_root_of(const uint8_t *text, size_t len, size_t *from)
             return LAYER_NO_ROOT;
         *from = (size_t)(end - text) + 1;
     }
+    if (*from < len && (text[*from] == '[' || text[*from] == '{'))
+        return LAYER_FLOW;
     return *from < len ? root_with(text, len, *from) : LAYER_NO_ROOT;
 }
 

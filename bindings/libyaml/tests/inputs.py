@@ -28,6 +28,8 @@ CUT = [
     b"- a\n- b\n- - c\n  - d\n- |\n e\n\n- k: v\n- 'f\n- g'\n- h\n i\n]\n", b"--- !t\na: b\nc: d\n", b"- a\n- b\n- c\nd: e\n",
     b"? a\n: b\nc: d\n? e\nf: g\nh\ni: j\n", b"%TAG !a! b\n---\n- !a!c d\n- !a!e f\n", b"a: b\r\nc: d\r\ne:\r\n- f\r\ng: h\ri: j\n",
     b"# c\n---\na: \xc3\xa9\nb: ! c\n\xc3\xa9: d\ne: &f g\nh: *f\ni: \"\\q\"\n", b"a: b\nc: d\n--- e\n---\n- f\n- g\n",
+    b"[a,\n{b: c,\nd: [e,\nf], 'g':\nh},\n[i,\nj]: k,\n? l : m,\nn\n,o # p\n, q]\n", b"{a: [b,\nc,\nd],\ne,\n? [f,\ng]: h,\ni: {j:\n\nk},\nl: m}: n\n",
+    b"--- [a,\n[[b,\nc],\n{d: e}, f],\n\xc3\xa9, g\n, h\n--- i\n", b"[a,\nb,\n&c [d,\ne], !f [g,\nh],\n{i: &j {k: l,\nm: n},\no: p},\nq,\n{r: s,\nt: u\n",
     b"a:\n- b\n- &c\n  - d\n  - e\n- {f: g, h: [i]}\n- []\n- |\n  j\n- k: >-\n    l\n  m: n\no: p\n",
 ]
 

@@ -1,4 +1,4 @@
-/* Documents, and the items of a long one, come before the reader is asked for more than what follows them, and within a document
+/* Documents, and the items of a long one, in flow style too, come before the reader is asked for more than what follows them, and within a document
  * output comes before it ends.
  * Linked with Debian's libyaml it tells the same of that.
  *
@@ -78,6 +78,41 @@ static void reads_items(void)
     yaml_parser_delete(&parser);
 }
 
+/* Gives 4,096 bytes of pairs in lines at each call, 100 times, behind a bracket, and what ends them. */
+static int give_flow(void *data, unsigned char *buffer, size_t size, size_t *size_read)
+{
+    int *given = data;
+    *size_read = *given < 100 && size >= 4096 ? 4096 : 0;
+    for (size_t i = 0; i < *size_read; i += 8)
+        memcpy(buffer + i, "\n{a: b},", 8);
+    if (*size_read && *given == 0)
+        memcpy(buffer, "[{a: b},", 8);
+    if (*size_read && *given == 99)
+        buffer[4095] = ']';
+    ++*given;
+    return 1;
+}
+
+static void reads_flow(void)
+{
+    yaml_parser_t parser;
+    yaml_event_t event;
+    int given = 0, pairs = 0;
+    yaml_parser_initialize(&parser);
+    yaml_parser_set_input(&parser, give_flow, &given);
+    while (!parser.stream_end_produced && yaml_parser_parse(&parser, &event)) {
+        if (event.type == YAML_MAPPING_START_EVENT) {
+            EXPECT(event.start_mark.line == (size_t)pairs && event.start_mark.index == (size_t)pairs * 8 + 1);
+            EXPECT(event.start_mark.column == (pairs ? 0 : 1));
+            pairs++;
+            EXPECT((size_t)given * 4096 <= event.end_mark.index + (1 << 15));
+        }
+        yaml_event_delete(&event);
+    }
+    EXPECT(!parser.error && pairs == 51200);
+    yaml_parser_delete(&parser);
+}
+
 static int take(void *data, unsigned char *buffer, size_t size)
 {
     (void)buffer;
@@ -118,6 +153,7 @@ int main(void)
 {
     reads();
     reads_items();
+    reads_flow();
     writes();
     printf("promptly: %d wrong\n", wrong);
     return wrong != 0;

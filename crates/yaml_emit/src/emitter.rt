@@ -6,7 +6,7 @@ ghost use Rattle.yaml_scan_model.specs.declared.yaml_origin_t.TheVariants as fro
 ghost use Rattle.yaml_parse_model.specs.Events.{event_of};
 ghost use Rattle.yaml_parse_model.specs.Constructors.{HasUtf8};
 ghost use Rattle.yaml_emit_machine.specs.emit_layout.Content.{emitter_event};
-ghost use Rattle.yaml_emit_machine.specs.Emitter.{stop_of, IsNew, IsLimited, ShowsFront, IsWhole, Answers, Stays};
+ghost use Rattle.yaml_emit_machine.specs.Emitter.{IsNew, IsLimited, ShowsFront, IsWhole, Answers, Stays};
 ghost use Rattle.yaml_emit_machine.specs.Within.{IsWithin};
 ghost use Rattle.yaml_emit_machine.specs.Verdict.{TellsOutcome};
 ghost use Rattle.yaml_emit_machine.specs.Taking.{TakesEvents, GivesText, NotesMemoryOf};
@@ -144,7 +144,6 @@ pub fn yaml_emitter_opened(emitter: &yaml_emitter_t) -> bool
 /// was refused by then, what stopped the output. With no fault the text has all events that were let out.
 pub fn yaml_emitter_fault(emitter: &yaml_emitter_t) -> Option<&yaml_fault_t>
     ensures is { option_map (λ f. fault_of f.now) result ≡ emitter.now.fault }
-    ensures because { emitter.now.fault ≡ stop_of emitter.now }
     ensures tells { TellsOutcome emitter.now }
     ensures limited { (f : Fault) → emitter.now.fault ≡ Some f → IsLimited emitter.now f }
 {

@@ -75,18 +75,18 @@ stopped_completes e f x xs ys whole b h c =
     let P : Bool → Type 0 = λ z. CompletesBy z e x xs whole in
     let Q : Bool → Type 0 = λ z. CompletesBy z e x ys whole in
     let k = subst P b c in
-    subst Q (sym b) (k.0, finishes_stopped e.status e.settings e.state (text_of e) e.starved f _ _ whole h k.1)
+    subst Q (sym b) (k.0, finishes_stopped e.status e.course.settings e.course.state (text_of e) e.starved f _ _ whole h k.1)
 
 -- an event was given
 pub lay_completes : (old new : Emitter) (e : Event) (h : List Event) (x : Encoding) (es : List Event) (whole : List Item) → old.fresh ≡ false → new.fresh ≡ false → h ≡ old.held
-    → (Finishes old.settings old.state (text_of old) ((h ++ e ∷ []) ++ es) whole → Finishes new.settings new.state (text_of new) (new.held ++ es) whole) → new.settings.encoding ≡ old.settings.encoding
+    → (Finishes old.course.settings old.course.state (text_of old) ((h ++ e ∷ []) ++ es) whole → Finishes new.course.settings new.course.state (text_of new) (new.held ++ es) whole) → new.course.settings.encoding ≡ old.course.settings.encoding
     → Completes old x (e ∷ es) whole → Completes new x es whole
 unfolding Completes
 lay_completes old new e h x es whole a b same on coded c =
     let P : Bool → Type 0 = λ z. CompletesBy z old x (e ∷ es) whole in
     let Q : Bool → Type 0 = λ z. CompletesBy z new x es whole in
     let k = subst P a c in
-    let R : List Event → Type 0 = λ t. Finishes old.settings old.state (text_of old) t whole in
+    let R : List Event → Type 0 = λ t. Finishes old.course.settings old.course.state (text_of old) t whole in
     let move : old.held ++ (e ∷ es) ≡ (h ++ e ∷ []) ++ es = ap (λ z. z ++ (e ∷ es)) (sym same) ∙ sym (append_assoc h (e ∷ []) es) in
     subst Q (sym b) (coded ∙ k.0, on (subst R move k.1))
 
@@ -134,7 +134,7 @@ unfolding Finishes
 completes_written true e x es whole same n h = fresh_written e.status e.limit e.output (encode x whole) (is_deep whole) (n same).1 (n same).0
 completes_written false e x es whole same n h =
     let Q : Encoding → Type 0 = λ z. HasWritten e.status e.limit e.output (encode z whole) (is_deep whole) in
-    subst Q h.0 (finishes_written e.status e.settings e.state (text_of e) _ whole refl h.1)
+    subst Q h.0 (finishes_written e.status e.course.settings e.course.state (text_of e) _ whole refl h.1)
 
 pub front_written : (e : Emitter) (x : Encoding) (es : List Event) (whole : List Item) → (e.fresh ≡ true → (e.output ≡ []) × (e.status ≡ Going))
     → Completes e x es whole → HasWritten e.status e.limit e.output (encode x whole) (is_deep whole)
@@ -145,20 +145,20 @@ some_same : (g f : Fault) → Some g ≡ Some f → f ≡ g
 some_same g f h = cc
 
 -- going on, an emitter with a fault completes no text
-going_never : (e : Emitter) (f : Fault) (x : Encoding) (es : List Event) (whole : List Item) → e.fresh ≡ false → e.status ≡ Going → option_map problem_fault (refused_at e.state.place) ≡ Some f → Completes e x es whole → ⊥
+going_never : (e : Emitter) (f : Fault) (x : Encoding) (es : List Event) (whole : List Item) → e.fresh ≡ false → e.status ≡ Going → option_map problem_fault (refused_at e.course.state.place) ≡ Some f → Completes e x es whole → ⊥
 unfolding Completes Finishes
 going_never e f x es whole b g h c =
     let P : Bool → Type 0 = λ z. CompletesBy z e x es whole in
-    let S : Status → Type 0 = λ z. FinishesAt z e.settings e.state (text_of e) (e.held ++ es) whole in
+    let S : Status → Type 0 = λ z. FinishesAt z e.course.settings e.course.state (text_of e) (e.held ++ es) whole in
     let k = subst P b c in
-    let r : FinishesBy e.settings e.state (text_of e) (e.held ++ es) whole = subst S g k.1 in
-    going_refused e.state.place f e.state r.rest refl h r.fits
+    let r : FinishesBy e.course.settings e.course.state (text_of e) (e.held ++ es) whole = subst S g k.1 in
+    going_refused e.course.state.place f e.course.state r.rest refl h r.fits
 
 starved_fault : (levels : Bool) (f : Fault) → f ≡ memory_fault (memory_origin levels) → IsMemoryFault emit_layers f
 starved_fault true f h = inl h
 starved_fault false f h = inr h
 
-limited_by : (s : Status) (e : Emitter) (f : Fault) → e.status ≡ s → e.fresh ≡ false → refusal_by e.state.place s e.starved ≡ Some f
+limited_by : (s : Status) (e : Emitter) (f : Fault) → e.status ≡ s → e.fresh ≡ false → refusal_by e.course.state.place s e.starved ≡ Some f
     → ((x : Encoding) (es : List Event) (whole : List Item) → Completes e x es whole → HasWritten s e.limit e.output (encode x whole) (is_deep whole)) → IsLimited e f
 limited_by Going e f s b h w = inr (λ x es whole c. absurd (going_never e f x es whole b s h c))
 limited_by Full e f s b h w = inr (λ x es whole c. inl (some_same write_error f h, (w x es whole c).1))

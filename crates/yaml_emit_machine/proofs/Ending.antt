@@ -135,7 +135,7 @@ unfolding Finishes
 written_by_fresh true e x whole g w h = absurd (no_stream e x whole h)
 written_by_fresh false e x whole g w h =
     let P : Encoding → Type 0 = λ z. e.output ≡ encode z whole in
-    subst P h.0 (written_at e.status e.settings e.state (text_of e) e.held whole refl g w h.1)
+    subst P h.0 (written_at e.status e.course.settings e.course.state (text_of e) e.held whole refl g w h.1)
 
 -- with no event to come, the output is the whole
 pub all_written : (e : Emitter) (x : Encoding) (whole : List Item) → e.status ≡ Going → is_ready e.held ≡ false → Completes e x [] whole → e.output ≡ encode x whole

@@ -102,38 +102,38 @@ notes_on a b c p q m n = λ h. let k = notes_both true a.status b.status c.statu
 -- ---- an event was given
 
 lay_refuses : (old new : Emitter) (e : Event) (h es : List Event) → old.fresh ≡ false → new.fresh ≡ false → h ≡ old.held
-    → refusal_behind new.settings new.state (new.held ++ es) ≡ refusal_behind old.settings old.state ((h ++ e ∷ []) ++ es) → verdict new es ≡ verdict old (e ∷ es)
+    → refusal_behind new.course.settings new.course.state (new.held ++ es) ≡ refusal_behind old.course.settings old.course.state ((h ++ e ∷ []) ++ es) → verdict new es ≡ verdict old (e ∷ es)
 unfolding verdict
 lay_refuses old new e h es a b same j =
     let move : old.held ++ (e ∷ es) ≡ (h ++ e ∷ []) ++ es = ap (λ z. z ++ (e ∷ es)) (sym same) ∙ sym (append_assoc h (e ∷ []) es) in
-    ap (λ z. verdict_by z new es) b ∙ (j ∙ (ap (refusal_behind old.settings old.state) (sym move) ∙ sym (ap (λ z. verdict_by z old (e ∷ es)) a)))
+    ap (λ z. verdict_by z new es) b ∙ (j ∙ (ap (refusal_behind old.course.settings old.course.state) (sym move) ∙ sym (ap (λ z. verdict_by z old (e ∷ es)) a)))
 
 lay_writes : (old new : Emitter) (e : Event) (h : List Event) (x : Encoding) (es : List Event) (whole : List Item) → old.fresh ≡ false → new.fresh ≡ false → h ≡ old.held
-    → (LetsOut old.settings old.state (text_of old) ((h ++ e ∷ []) ++ es) whole → LetsOut new.settings new.state (text_of new) (new.held ++ es) whole) → new.settings.encoding ≡ old.settings.encoding → Writes old x (e ∷ es) whole → Writes new x es whole
+    → (LetsOut old.course.settings old.course.state (text_of old) ((h ++ e ∷ []) ++ es) whole → LetsOut new.course.settings new.course.state (text_of new) (new.held ++ es) whole) → new.course.settings.encoding ≡ old.course.settings.encoding → Writes old x (e ∷ es) whole → Writes new x es whole
 unfolding Writes
 lay_writes old new e h x es whole a b same on coded c =
     let P : Bool → Type 0 = λ z. WritesBy z old x (e ∷ es) whole in
     let Q : Bool → Type 0 = λ z. WritesBy z new x es whole in
     let k = subst P a c in
-    let R : List Event → Type 0 = λ t. LetsOut old.settings old.state (text_of old) t whole in
+    let R : List Event → Type 0 = λ t. LetsOut old.course.settings old.course.state (text_of old) t whole in
     let move : old.held ++ (e ∷ es) ≡ (h ++ e ∷ []) ++ es = ap (λ z. z ++ (e ∷ es)) (sym same) ∙ sym (append_assoc h (e ∷ []) es) in
     subst Q (sym b) (coded ∙ k.0, on (subst R move k.1))
 
 pub lay_wrong : (old new : Emitter) (e : Event) (h es : List Event) → old.fresh ≡ false → new.fresh ≡ false → h ≡ old.held
-    → first_wrong new.settings new.state (new.held ++ es) ≡ first_wrong old.settings old.state ((h ++ e ∷ []) ++ es) → wrong new es ≡ wrong old (e ∷ es)
+    → first_wrong new.course.settings new.course.state (new.held ++ es) ≡ first_wrong old.course.settings old.course.state ((h ++ e ∷ []) ++ es) → wrong new es ≡ wrong old (e ∷ es)
 unfolding wrong
 lay_wrong old new e h es a b same j =
     let move : old.held ++ (e ∷ es) ≡ (h ++ e ∷ []) ++ es = ap (λ z. z ++ (e ∷ es)) (sym same) ∙ sym (append_assoc h (e ∷ []) es) in
-    ap (λ z. wrong_by z new es) b ∙ (j ∙ (ap (first_wrong old.settings old.state) (sym move) ∙ sym (ap (λ z. wrong_by z old (e ∷ es)) a)))
+    ap (λ z. wrong_by z new es) b ∙ (j ∙ (ap (first_wrong old.course.settings old.course.state) (sym move) ∙ sym (ap (λ z. wrong_by z old (e ∷ es)) a)))
 
 pub lay_lays : (old new : Emitter) (e : Event) (h : List Event) (x : Encoding) (es : List Event) (whole : List Item) → old.fresh ≡ false → new.fresh ≡ false → h ≡ old.held
-    → (LaysAll old.settings old.state (text_of old) ((h ++ e ∷ []) ++ es) whole → LaysAll new.settings new.state (text_of new) (new.held ++ es) whole) → new.settings.encoding ≡ old.settings.encoding → Lays old x (e ∷ es) whole → Lays new x es whole
+    → (LaysAll old.course.settings old.course.state (text_of old) ((h ++ e ∷ []) ++ es) whole → LaysAll new.course.settings new.course.state (text_of new) (new.held ++ es) whole) → new.course.settings.encoding ≡ old.course.settings.encoding → Lays old x (e ∷ es) whole → Lays new x es whole
 unfolding Lays
 lay_lays old new e h x es whole a b same on coded c =
     let P : Bool → Type 0 = λ z. LaysBy z old x (e ∷ es) whole in
     let Q : Bool → Type 0 = λ z. LaysBy z new x es whole in
     let k = subst P a c in
-    let R : List Event → Type 0 = λ t. LaysAll old.settings old.state (text_of old) t whole in
+    let R : List Event → Type 0 = λ t. LaysAll old.course.settings old.course.state (text_of old) t whole in
     let move : old.held ++ (e ∷ es) ≡ (h ++ e ∷ []) ++ es = ap (λ z. z ++ (e ∷ es)) (sym same) ∙ sym (append_assoc h (e ∷ []) es) in
     subst Q (sym b) (coded ∙ k.0, on (subst R move k.1))
 
@@ -308,7 +308,7 @@ stuck_lets_out s st o levels f xs ys whole h e = stuck_all s st o levels f (let_
 
 stuck_wrong : (e : Emitter) (f : Fault) (xs ys : List Event) → e.fresh ≡ false → stop_of e ≡ Some f → e.status ≡ Going → wrong e xs ≡ wrong e ys
 unfolding wrong
-stuck_wrong e f xs ys b h g = ap (λ z. wrong_by z e xs) b ∙ (stuck_first e.settings e.state e.status e.starved f _ _ h g ∙ sym (ap (λ z. wrong_by z e ys) b))
+stuck_wrong e f xs ys b h g = ap (λ z. wrong_by z e xs) b ∙ (stuck_first e.course.settings e.course.state e.status e.starved f _ _ h g ∙ sym (ap (λ z. wrong_by z e ys) b))
 
 stuck_lays : (e : Emitter) (f : Fault) (x : Encoding) (xs ys : List Event) (whole : List Item) → e.fresh ≡ false → stop_of e ≡ Some f → Lays e x xs whole → Lays e x ys whole
 unfolding Lays
@@ -316,11 +316,11 @@ stuck_lays e f x xs ys whole b h c =
     let P : Bool → Type 0 = λ z. LaysBy z e x xs whole in
     let Q : Bool → Type 0 = λ z. LaysBy z e x ys whole in
     let k = subst P b c in
-    subst Q (sym b) (k.0, stuck_all e.settings e.state (text_of e) e.starved f _ _ whole h k.1)
+    subst Q (sym b) (k.0, stuck_all e.course.settings e.course.state (text_of e) e.starved f _ _ whole h k.1)
 
 stuck_verdict : (e : Emitter) (f : Fault) (xs ys : List Event) → e.fresh ≡ false → stop_of e ≡ Some f → e.status ≡ Going → verdict e xs ≡ verdict e ys
 unfolding verdict
-stuck_verdict e f xs ys b h g = ap (λ z. verdict_by z e xs) b ∙ (stuck_refuses e.settings e.state e.status e.starved f _ _ h g ∙ sym (ap (λ z. verdict_by z e ys) b))
+stuck_verdict e f xs ys b h g = ap (λ z. verdict_by z e xs) b ∙ (stuck_refuses e.course.settings e.course.state e.status e.starved f _ _ h g ∙ sym (ap (λ z. verdict_by z e ys) b))
 
 stuck_writes : (e : Emitter) (f : Fault) (x : Encoding) (xs ys : List Event) (whole : List Item) → e.fresh ≡ false → stop_of e ≡ Some f → Writes e x xs whole → Writes e x ys whole
 unfolding Writes
@@ -328,7 +328,7 @@ stuck_writes e f x xs ys whole b h c =
     let P : Bool → Type 0 = λ z. WritesBy z e x xs whole in
     let Q : Bool → Type 0 = λ z. WritesBy z e x ys whole in
     let k = subst P b c in
-    subst Q (sym b) (k.0, stuck_lets_out e.settings e.state (text_of e) e.starved f _ _ whole h k.1)
+    subst Q (sym b) (k.0, stuck_lets_out e.course.settings e.course.state (text_of e) e.starved f _ _ whole h k.1)
 
 pub inside_stuck : (i : Inside) → IsEmitter i → (f : Fault) → option_map fault_of i.fault ≡ Some f → Stuck (emitter_of i)
 inside_stuck i inv f is = λ es left.

@@ -17,9 +17,11 @@ seen w core held fresh opened closed fault = record {
   opened = opened;
   closed = closed;
   fault = fault;
-  settings = settings_of core;
-  state = state_of core;
-  cursor = core.sink.cursor;
+  course = record {
+    settings = settings_of core;
+    state = state_of core;
+    cursor = core.sink.cursor;
+  };
   status = core.sink.status;
   starved = core.starved;
 }

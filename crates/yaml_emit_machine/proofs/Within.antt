@@ -44,7 +44,7 @@ unfolding Finishes
 fits_by_fresh true e x whole g w h = absurd (no_stream e x whole h)
 fits_by_fresh false e x whole g w h =
     let P : Encoding → Type 0 = λ z. Fits e.limit z whole in
-    subst P h.0 (fits_at e.status e.settings e.state (text_of e) e.held whole refl g w h.1)
+    subst P h.0 (fits_at e.status e.course.settings e.course.state (text_of e) e.held whole refl g w h.1)
 
 fits : (e : Emitter) (x : Encoding) (whole : List Item) → e.status ≡ Going → is_ready e.held ≡ false → Completes e x [] whole → Fits e.limit x whole
 unfolding Completes

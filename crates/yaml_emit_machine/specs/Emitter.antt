@@ -38,6 +38,16 @@ use Rattle.yaml_emit_state.specs.Finish.{Finishes}
 use Rattle.yaml_emit_held.specs.Judged.{refused_at}
 use Rattle.yaml_emit_graph.specs.Graph.{dumped}
 
+-- How the text goes on behind the output, from the first event on. No clause of a call speaks of its parts: what it makes of the
+-- events that follow is all that is said of it.
+pub record Course : Type 0 where
+  -- the settings in force
+  pub settings : Settings
+  -- what is expected next, the open collections, and the directives of the document
+  pub state : State
+  -- where the next character stands
+  pub cursor : Cursor
+
 -- What a clause sees of an emitter.
 pub record Emitter : Type 0 where
   -- the settings that were set, and the limit
@@ -53,13 +63,7 @@ pub record Emitter : Type 0 where
   pub closed : Bool
   -- the first fault
   pub fault : Option Fault
-  -- ---- how the text goes on behind the output, from the first event on
-  -- the settings in force
-  pub settings : Settings
-  -- what is expected next, the open collections, and the directives of the document
-  pub state : State
-  -- where the next character stands
-  pub cursor : Cursor
+  pub course : Course
   -- that the output goes on, or what has stopped it: the limit, an indentation that is too deep, or want of memory
   pub status : Status
   -- it was stopped by memory that was refused for the open collections, the directives or a dump, and not for the text
@@ -70,9 +74,9 @@ abbrev pub text_of : Emitter → Output
 text_of e = record {
   bytes = e.output;
   limit = e.limit;
-  encoding = e.settings.encoding;
+  encoding = e.course.settings.encoding;
   status = e.status;
-  cursor = e.cursor;
+  cursor = e.course.cursor;
 }
 
 abbrev pub plain_fault : yaml_error_type_t → List ℕ → yaml_origin_t → Fault
@@ -125,7 +129,7 @@ refusal_by place s levels = fault_by s levels (refused_at place)
 
 -- the fault of what has stopped an emitter
 abbrev pub stop_of : Emitter → Option Fault
-stop_of e = refusal_by e.state.place e.status e.starved
+stop_of e = refusal_by e.course.state.place e.status e.starved
 
 -- the encoding of a stream that begins so
 abbrev pub stream_encoding : Event → yaml_encoding_t
@@ -134,8 +138,8 @@ stream_encoding e = YAML_ANY_ENCODING
 
 abbrev pub CompletesBy : Bool → Emitter → Encoding → List Event → List Item → Type 0
 CompletesBy true e x es whole = IsStream e.requested_settings x es whole
-CompletesBy false e x es whole = (e.settings.encoding ≡ x)
-    × Finishes e.settings e.state (text_of e) (e.held ++ es) whole
+CompletesBy false e x es whole = (e.course.settings.encoding ≡ x)
+    × Finishes e.course.settings e.course.state (text_of e) (e.held ++ es) whole
 
 -- With these events to come up to the stream's end, and nothing wrong in them, the whole text is `whole`, in that encoding.
 unfoldable pub Completes : Emitter → Encoding → List Event → List Item → Type 0

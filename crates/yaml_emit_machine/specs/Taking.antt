@@ -51,7 +51,7 @@ pub record GivesText (old : Emitter) (e : Event) (new : Emitter) : Type 0 where
 pub record LaysAtOnce (e : Emitter) : Type 0 where
   pub right : e.fault ≡ None
   pub begun : e.fresh ≡ false
-  pub form : e.settings.canonical ≡ true
+  pub form : e.course.settings.canonical ≡ true
   pub none : e.held ≡ []
 
 -- What is given behind a refusal counts for nothing: with any events to come it is the same as with any others.

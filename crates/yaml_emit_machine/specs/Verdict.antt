@@ -19,7 +19,7 @@ use Rattle.yaml_emit_machine.specs.Emitter.{Emitter, text_of, stream_encoding, f
 
 abbrev pub verdict_by : Bool → Emitter → List Event → Option Problem
 verdict_by true e es = first_refusal e.requested_settings.canonical first_progress (let_out es)
-verdict_by false e es = refusal_behind e.settings e.state (e.held ++ es)
+verdict_by false e es = refusal_behind e.course.settings e.course.state (e.held ++ es)
 
 -- The problem of the first event that is refused, among those that are let out once these are given too.
 unfoldable pub verdict : Emitter → List Event → Option Problem
@@ -38,8 +38,8 @@ pub record IsLetOut (w : RequestedSettings) (x : Encoding) (es : List Event)
 
 abbrev pub WritesBy : Bool → Emitter → Encoding → List Event → List Item → Type 0
 WritesBy true e x es whole = IsLetOut e.requested_settings x es whole
-WritesBy false e x es whole = (e.settings.encoding ≡ x)
-    × LetsOut e.settings e.state (text_of e) (e.held ++ es) whole
+WritesBy false e x es whole = (e.course.settings.encoding ≡ x)
+    × LetsOut e.course.settings e.course.state (text_of e) (e.held ++ es) whole
 
 -- Once these events are given too, `whole` is what is written, in that encoding: all events that are let out, up to the first
 -- one that is refused.
@@ -50,7 +50,7 @@ Writes e x es whole = WritesBy e.fresh e x es whole
 
 abbrev pub wrong_by : Bool → Emitter → List Event → Option Problem
 wrong_by true e es = first_refusal e.requested_settings.canonical first_progress es
-wrong_by false e es = first_wrong e.settings e.state (e.held ++ es)
+wrong_by false e es = first_wrong e.course.settings e.course.state (e.held ++ es)
 
 -- The problem of the first event that is wrong, once these are given too: the one that is refused when all of them are let out.
 unfoldable pub wrong : Emitter → List Event → Option Problem
@@ -64,8 +64,8 @@ pub record IsLaid (w : RequestedSettings) (x : Encoding) (es : List Event)
 
 abbrev pub LaysBy : Bool → Emitter → Encoding → List Event → List Item → Type 0
 LaysBy true e x es whole = IsLaid e.requested_settings x es whole
-LaysBy false e x es whole = (e.settings.encoding ≡ x)
-    × LaysAll e.settings e.state (text_of e) (e.held ++ es) whole
+LaysBy false e x es whole = (e.course.settings.encoding ≡ x)
+    × LaysAll e.course.settings e.course.state (text_of e) (e.held ++ es) whole
 
 -- `whole` is what is written when all of them are let out, in that encoding: up to the first one that is wrong.
 unfoldable pub Lays : Emitter → Encoding → List Event → List Item → Type 0

@@ -18,9 +18,11 @@ emitter_of e = record {
   closed = e.closed;
   fault = option_map
       fault_of e.fault;
-  settings = settings_of e.core;
-  state = state_of e.core;
-  cursor = e.core.sink.cursor;
+  course = record {
+    settings = settings_of e.core;
+    state = state_of e.core;
+    cursor = e.core.sink.cursor;
+  };
   status = e.core.sink.status;
   starved = e.core.starved;
 }

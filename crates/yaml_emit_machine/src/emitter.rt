@@ -5,7 +5,7 @@ ghost use Rattle.yaml_scan_model.specs.Faults.{Fault, fault_of};
 ghost use Rattle.yaml_parse_model.specs.Events.{body_of};
 ghost use Rattle.yaml_parse_model.specs.Constructors.{HasUtf8};
 ghost use Rattle.yaml_emit_layout.specs.Content.{emitter_event};
-ghost use Rattle.yaml_emit_machine.specs.Emitter.{stream_encoding, stop_of, IsNew, IsLimited, ShowsFront, IsWhole, Answers, Stays};
+ghost use Rattle.yaml_emit_machine.specs.Emitter.{stream_encoding, IsNew, IsLimited, ShowsFront, IsWhole, Answers, Stays};
 ghost use Rattle.yaml_emit_machine.specs.Within.{IsWithin};
 ghost use Rattle.yaml_emit_machine.specs.Verdict.{TellsOutcome};
 ghost use Rattle.yaml_emit_machine.specs.Taking.{TakesEvents, GivesText, LaysAtOnce, Stuck, NotesMemoryOf, ComesIntoForce};
@@ -149,7 +149,6 @@ pub fn set_closed(emitter: &mut yaml_emitter_t, closed: bool)
 #[inline(always)]
 pub fn first_fault(emitter: &yaml_emitter_t) -> Option<&yaml_fault_t>
     ensures is { option_map (λ f. fault_of f.now) result ≡ emitter.now.fault }
-    ensures because { emitter.now.fault ≡ stop_of emitter.now }
     ensures tells { TellsOutcome emitter.now }
     ensures limited { (f : Fault) → emitter.now.fault ≡ Some f → IsLimited emitter.now f }
 {

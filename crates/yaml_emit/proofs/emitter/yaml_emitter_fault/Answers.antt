@@ -3,9 +3,6 @@ use Rattle.yaml_emit.proofs.emitter.yaml_emitter_fault.Goals as goal
 pub returns-clause-is : goal.returns-clause-is
 returns-clause-is c = c.first_fault.ensures.is
 
-pub returns-clause-because : goal.returns-clause-because
-returns-clause-because c = c.first_fault.ensures.because
-
 pub returns-clause-tells : goal.returns-clause-tells
 returns-clause-tells c = c.first_fault.ensures.tells
 

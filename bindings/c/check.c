@@ -173,6 +173,7 @@ static void is_in_order(int call, int kind, const records *r)
     EXPECT(call == SCAN || (r->scanned.tokens_len == 0 && r->scanned.bytes.len == 0));
     if (kind) {
         EXPECT(answer->text.len == 0 && answer->is == 0 && answer->problem.len > 0);
+        EXPECT(kind == YAML_C_MEMORY_ERROR || answer->line.len > 0);
         EXPECT(call == FRONT || (parsed->events_len == 0 && parsed->directives_len == 0 && parsed->bytes.len == 0));
     } else {
         EXPECT(answer->problem.len == 0 && answer->context.len == 0 && answer->line.len == 0);

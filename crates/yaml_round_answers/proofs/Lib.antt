@@ -5,3 +5,4 @@ mod ScanTelling
 pub mod Exact
 pub mod NormalExact
 pub mod Offsets
+pub mod Rows

@@ -1,5 +1,5 @@
 -- The settings that C's record means.
-use Rattle.std.specs.Prelude.{ℤ, pos, if◌then◌else◌, Option, None, Some}
+use Rattle.std.specs.Prelude.{ℤ, pos, if◌then◌else◌, List, [], ◌∷◌, Option, None, Some}
 use Rattle.std.specs.Ordering.{int_eq}
 use Rattle.yaml_parse.specs.declared.yaml_break_t.{yaml_break_t}
 use Rattle.yaml_round.specs.declared.yaml_settings_t.{yaml_settings_t}
@@ -18,6 +18,10 @@ output_meant n =
     else if int_eq n (pos 2) then Some output.Utf16Le
     else if int_eq n (pos 3) then Some output.Utf16Be
     else None
+
+-- the same by rows, in the order of libyaml's enum
+abbrev pub outputs : List yaml_output_encoding_t
+outputs = output.Utf8 ∷ output.Utf8 ∷ output.Utf16Le ∷ output.Utf16Be ∷ []
 
 abbrev pub settings_by : Option yaml_output_encoding_t → Option yaml_break_t → yaml_c_settings
     → Option yaml_settings_t

@@ -128,6 +128,7 @@ static int lay_out(yaml_emitter_t *emitter, layer_writing *w)
     if (emit(w, layer_events_len(w), &answer))
         return fault(emitter, w, &answer);
     size_t from = w->cut + w->written;
+    w->column = layer_last_column(answer.text.at, answer.text.len);
     if (answer.text.len > from) {
         assert(emitter->write_handler);
         unsigned char *rest = (unsigned char *)answer.text.at + from;
@@ -165,12 +166,13 @@ static int is_kept(const yaml_event_t *event)
            && (len == 1 || value[len - 1] >= 0x80 || is_break_byte(value[len - 2]));
 }
 
-/* A collection begins. A stand-in replaces none in flow style, and none in a key. */
+/* A collection begins. A stand-in replaces none in a key, and in flow style only those of which all around them are so too. */
 static int open_level(layer_writing *w, int is_mapping, int is_flow)
 {
     layer_level *around = layer_innermost(w);
     int is_due = !around || (around->is_replaced && (!around->is_mapping || (around->is_value && around->key)));
-    layer_level level = {layer_events_len(w), 0, is_mapping, 0, is_flow, is_due && !is_flow};
+    int is_deep_flow = around ? around->is_deep_flow : is_flow;
+    layer_level level = {layer_events_len(w), 0, is_mapping, 0, is_flow, is_due && (!is_flow || is_deep_flow), is_deep_flow};
     w->is_line_next = 0;
     return layer_put(&w->levels, &level, sizeof level);
 }
@@ -311,7 +313,9 @@ static int take(yaml_emitter_t *emitter, layer_writing *w, const yaml_event_t *e
         return lay_out(emitter, w);
     if (w->place != LAYER_IN_DOCUMENT || !is_enough(emitter, w))
         return 1;
-    return lay_out(emitter, w) && (layer_replace_levels(w) || no_memory(emitter));
+    if (!lay_out(emitter, w))
+        return 0;
+    return !layer_reaches_column(w) || layer_replace_levels(w) || no_memory(emitter);
 }
 
 YAML_DECLARE(int) yaml_emitter_emit(yaml_emitter_t *emitter, yaml_event_t *event)

@@ -185,6 +185,7 @@ typedef struct {
     int is_value;    /* a value is due or open */
     int is_flow;
     int is_replaced; /* a stand-in can replace what was laid out of it: see stand_in.c */
+    int is_deep_flow; /* it and all around it is flow */
 } layer_level;
 
 enum layer_place { LAYER_BEFORE_STREAM, LAYER_BETWEEN_DOCUMENTS, LAYER_IN_DOCUMENT, LAYER_BEHIND_STREAM };
@@ -201,6 +202,7 @@ typedef struct {
     size_t stand_in_bytes;
     size_t cut;
     size_t written;         /* how much of the text behind it the handler has taken */
+    size_t column;          /* where the text that was laid out ends: characters of its last line */
     int has_cut[2];         /* whether a stand-in's length is known that replaces documents, by how it ends */
     size_t cuts[2];         /* that length */
     yaml_c_settings cut_by; /* the settings that give it */
@@ -222,6 +224,10 @@ layer_level *layer_innermost(const layer_writing *w);
  * refused. */
 int layer_replace_documents(layer_writing *w);
 int layer_replace_levels(layer_writing *w);
+/* Whether a stand-in can end in that column, where the innermost collection is in flow style. */
+int layer_reaches_column(const layer_writing *w);
+/* The column in which a text in UTF-8 ends. */
+size_t layer_last_column(const uint8_t *text, size_t len);
 
 /* Adds a node, whose tag and value are the document's then. Its number; 0: memory was refused, and both are freed. */
 int layer_add_node(yaml_document_t *document, const yaml_node_t *node);

@@ -127,7 +127,7 @@ static void item(yaml_emitter_t *emitter, const char *text)
     EXPECT(yaml_emitter_emit(emitter, &event));
 }
 
-static void writes(void)
+static void writes(yaml_mapping_style_t style)
 {
     yaml_emitter_t emitter;
     yaml_event_t event;
@@ -138,7 +138,7 @@ static void writes(void)
     EXPECT(yaml_emitter_emit(&emitter, &event));
     yaml_document_start_event_initialize(&event, NULL, NULL, NULL, 1);
     EXPECT(yaml_emitter_emit(&emitter, &event));
-    yaml_mapping_start_event_initialize(&event, NULL, NULL, 1, YAML_BLOCK_MAPPING_STYLE);
+    yaml_mapping_start_event_initialize(&event, NULL, NULL, 1, style);
     EXPECT(yaml_emitter_emit(&emitter, &event));
     for (size_t i = 1; i <= 20000; i++) {
         item(&emitter, "key");
@@ -154,7 +154,8 @@ int main(void)
     reads();
     reads_items();
     reads_flow();
-    writes();
+    writes(YAML_BLOCK_MAPPING_STYLE);
+    writes(YAML_FLOW_MAPPING_STYLE);
     printf("promptly: %d wrong\n", wrong);
     return wrong != 0;
 }

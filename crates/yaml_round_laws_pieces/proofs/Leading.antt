@@ -1,0 +1,221 @@
+-- Events are let out one by one, each with its text; the others wait.
+use Rattle.std.proofs.Common.{◌≡◌, Bool, true, false, List, [], ◌∷◌, ◌++◌, refl, sym, ap, ◌∙◌, append_assoc, Option, Some, None}
+use Rattle.yaml_emit_text.specs.declared.Cursor.{Cursor}
+use Rattle.yaml_emit_text.specs.declared.Settings.{Settings}
+use Rattle.yaml_emit_text.specs.Layout.{Rest, nothing_more}
+use Rattle.yaml_emit_layout.specs.declared.Level.{Level}
+use Rattle.yaml_emit_layout.specs.declared.Problem.{Problem}
+use Rattle.yaml_emit_layout.specs.declared.Expected.{Expected}
+use Rattle.yaml_emit_layout.specs.declared.Expected.TheVariants as at
+use Rattle.yaml_emit_layout.specs.Content.{Event, no_event, stream_start, stream_end, document_start, document_end, alias, scalar, sequence_start, sequence_end, mapping_start, mapping_end}
+use Rattle.yaml_emit_layout.specs.Grammar.{or_else}
+use Rattle.yaml_emit_layout.specs.Nodes.{Context, context_of}
+use Rattle.yaml_emit_layout.specs.Progress.{problem_in, progress_after, first_refusal}
+use Rattle.yaml_emit_layout.specs.State.{State, piece, next, next_at, problem_at, opens_empty, begins_by, is_sequence_end, is_mapping_end, top_of, outer_of, place_at, levels_behind}
+use Rattle.yaml_emit_held.specs.Held.{is_ready}
+use Rattle.yaml_emit_held.specs.Judged.{let_out, unless, laid, refused_at, shape_of, refusal_from, text_from, refusal_behind}
+use Rattle.yaml_emit_held.proofs.Holding.{ready_empty, none_needed}
+use Rattle.yaml_emit_held.proofs.Judging.{ready_more, same_problem, shape_next, or_none, or_some, unless_none, unless_some}
+use Rattle.yaml_round_laws_pieces.specs.Pieces.{Stand, added, Leads}
+use Rattle.yaml_round_laws_pieces.proofs.Regular.{Written}
+use Rattle.yaml_round_laws_pieces.proofs.Events.{piece_regular}
+
+-- ---- what is let out
+
+first_out : (e : Event) (es : List Event) → is_ready (e ∷ es) ≡ true → let_out (e ∷ es) ≡ e ∷ let_out es
+unfolding let_out
+first_out e es r = rw r refl
+
+none_out : (e : Event) (es : List Event) → is_ready (e ∷ es) ≡ false → let_out (e ∷ es) ≡ []
+unfolding let_out
+none_out e es r = rw r refl
+
+out_begins : (p : Event → Bool) (b : Bool) (f : Event) (es : List Event) → is_ready (f ∷ es) ≡ b → (b ≡ false → p f ≡ false) → begins_by p (let_out (f ∷ es)) ≡ p f
+out_begins p true f es r n = ap (begins_by p) (first_out f es r)
+out_begins p false f es r n = ap (begins_by p) (none_out f es r) ∙ sym (n refl)
+
+end_sequence : (f : Event) (es : List Event) → is_ready (f ∷ es) ≡ false → is_sequence_end f ≡ false
+end_sequence sequence_end es r = let k = none_needed sequence_end es refl in absurd (cc)
+end_sequence f es r = refl
+
+end_mapping : (f : Event) (es : List Event) → is_ready (f ∷ es) ≡ false → is_mapping_end f ≡ false
+end_mapping mapping_end es r = let k = none_needed mapping_end es refl in absurd (cc)
+end_mapping f es r = refl
+
+sequence_begins : (es : List Event) → begins_by is_sequence_end (let_out es) ≡ begins_by is_sequence_end es
+unfolding let_out
+sequence_begins [] = refl
+sequence_begins (f ∷ es) = out_begins is_sequence_end (is_ready (f ∷ es)) f es refl (end_sequence f es)
+
+mapping_begins : (es : List Event) → begins_by is_mapping_end (let_out es) ≡ begins_by is_mapping_end es
+unfolding let_out
+mapping_begins [] = refl
+mapping_begins (f ∷ es) = out_begins is_mapping_end (is_ready (f ∷ es)) f es refl (end_mapping f es)
+
+empty_out : (e : Event) (es : List Event) → opens_empty e (let_out es) ≡ opens_empty e es
+unfolding opens_empty
+empty_out (sequence_start p) es = sequence_begins es
+empty_out (mapping_start p) es = mapping_begins es
+empty_out no_event es = refl
+empty_out (stream_start x) es = refl
+empty_out stream_end es = refl
+empty_out (document_start o) es = refl
+empty_out (document_end implicit) es = refl
+empty_out (alias name) es = refl
+empty_out (scalar x) es = refl
+empty_out sequence_end es = refl
+empty_out mapping_end es = refl
+
+-- ---- a right event leads on
+
+place_open : (l : Option Level) → refused_at (place_at l) ≡ None
+place_open None = refl
+place_open (Some l) = refl
+
+open_at : (p : Context) (place : Expected) (ls : List Level) (e : Event) (empty : Bool) (d : Cursor) → refused_at place ≡ None → refused_at (next_at p place ls e empty d).place ≡ None
+unfolding next_at
+open_at p place ls no_event empty d h = h
+open_at p place ls (stream_start x) empty d h = refl
+open_at p place ls stream_end empty d h = refl
+open_at p place ls (document_start o) empty d h = refl
+open_at p place ls (document_end implicit) empty d h = refl
+open_at p place ls (alias name) empty d h = place_open (top_of (levels_behind ls _))
+open_at p place ls (scalar v) empty d h = place_open (top_of (levels_behind ls _))
+open_at p place ls (sequence_start q) empty d h = refl
+open_at p place ls (mapping_start q) empty d h = refl
+open_at p place ls sequence_end empty d h = place_open (top_of (outer_of ls))
+open_at p place ls mapping_end empty d h = place_open (top_of (outer_of ls))
+
+open_next : (s : Settings) (st : State) (e : Event) (empty : Bool) (d : Cursor) → refused_at st.place ≡ None → refused_at (next s st e empty d).place ≡ None
+open_next s st e empty d h = open_at (context_of s st.directives) st.place st.levels e empty d h
+
+first_judged : (canonical : Bool) (st : State) (e : Event) (es : List Event) → refused_at st.place ≡ None → is_ready (e ∷ es) ≡ true
+    → refusal_from canonical st (e ∷ es) ≡ or_else (problem_in canonical (shape_of st) e) (first_refusal canonical (progress_after (shape_of st) e) (let_out es))
+unfolding first_refusal
+first_judged canonical st e es o r = or_none (refused_at st.place) _ o ∙ ap (first_refusal canonical (shape_of st)) (first_out e es r)
+
+-- behind a right event the others are judged from where it leads
+right_judged : (s : Settings) (st : State) (e : Event) (es : List Event) (empty : Bool) (d : Cursor) → refused_at st.place ≡ None → is_ready (e ∷ es) ≡ true → problem_at s st e ≡ None
+    → refusal_behind s st (e ∷ es) ≡ refusal_behind s (next s st e empty d) es
+unfolding refusal_behind
+right_judged s st e es empty d o r p =
+    first_judged s.canonical st e es o r ∙ (or_none _ _ (sym (same_problem s st e) ∙ p)
+    ∙ (sym (ap (λ z. first_refusal s.canonical z (let_out es)) (shape_next s st e empty d)) ∙ sym (or_none _ _ (open_next s st e empty d o))))
+
+wrong_judged : (s : Settings) (st : State) (e : Event) (es : List Event) (x : Problem) → refused_at st.place ≡ None → is_ready (e ∷ es) ≡ true → problem_at s st e ≡ Some x → refusal_behind s st (e ∷ es) ≡ Some x
+unfolding refusal_behind
+wrong_judged s st e es x o r p = first_judged s.canonical st e es o r ∙ or_some _ _ x (sym (same_problem s st e) ∙ p)
+
+-- what comes of a list behind its first event
+behind : Settings → State → Event → Bool → List Event → Rest
+behind s st e empty es d = text_from s (next s st e empty d) es d nothing_more
+
+right_text : (s : Settings) (st : State) (e : Event) (es : List Event) (c : Cursor) → refused_at st.place ≡ None → is_ready (e ∷ es) ≡ true → problem_at s st e ≡ None
+    → text_from s st (e ∷ es) c nothing_more ≡ piece s st e (opens_empty e es) c (λ d. laid s (next s st e (opens_empty e es) d) (let_out es) d nothing_more)
+unfolding laid
+right_text s st e es c o r p =
+    unless_none (refused_at st.place) _ c nothing_more o
+    ∙ (ap (λ z. laid s st z c nothing_more) (first_out e es r)
+    ∙ (unless_none (problem_at s st e) _ c nothing_more p ∙ ap (λ b. piece s st e b c (λ d. laid s (next s st e b d) (let_out es) d nothing_more)) (empty_out e es)))
+
+wrong_text : (s : Settings) (st : State) (e : Event) (es : List Event) (c : Cursor) (x : Problem) → refused_at st.place ≡ None → is_ready (e ∷ es) ≡ true → problem_at s st e ≡ Some x → text_from s st (e ∷ es) c nothing_more ≡ []
+unfolding laid
+wrong_text s st e es c x o r p =
+    unless_none (refused_at st.place) _ c nothing_more o ∙ (ap (λ z. laid s st z c nothing_more) (first_out e es r) ∙ unless_some (problem_at s st e) x _ c nothing_more p)
+
+held_text : (s : Settings) (st : State) (xs : List Event) (c : Cursor) → let_out xs ≡ [] → text_from s st xs c nothing_more ≡ []
+unfolding laid
+held_text s st xs c h = ap (λ z. unless (refused_at st.place) (laid s st z) c nothing_more) h ∙ nothing_by (refused_at st.place) c
+  where
+    nothing_by : (p : Option Problem) (c : Cursor) → unless p (λ d rest. rest d) c nothing_more ≡ []
+    nothing_by None c = refl
+    nothing_by (Some x) c = refl
+
+-- ---- where a list leads, all of it waiting
+
+pub record Led (s : Settings) (st : State) (c : Cursor) (xs : List Event) : Type 0 where
+  pub to : Stand
+  pub texts : (more : List Event) → text_from s st (xs ++ more) c nothing_more ≡ text_from s st xs c nothing_more ++ added s to more
+  pub refusals : (more : List Event) → refusal_behind s st (xs ++ more) ≡ refusal_behind s to.state (to.held ++ more)
+
+-- nothing is let out by now
+waiting : (s : Settings) (st : State) (c : Cursor) (xs : List Event) → let_out xs ≡ [] → Led s st c xs
+waiting s st c xs h = record {
+  to = record { state = st; cursor = c; held = xs };
+  texts = λ more. sym (ap (λ z. z ++ text_from s st (xs ++ more) c nothing_more) (held_text s st xs c h));
+  refusals = λ more. refl;
+}
+
+-- behind a refusal nothing counts
+abbrev refused : Problem → State → State
+refused x st = record { place = at.Refused x; levels = st.levels; directives = st.directives }
+
+lost : (s : Settings) (st : State) (c : Cursor) (xs : List Event) (x : Problem) → ((more : List Event) → text_from s st (xs ++ more) c nothing_more ≡ [])
+    → text_from s st xs c nothing_more ≡ [] → ((more : List Event) → refusal_behind s st (xs ++ more) ≡ Some x) → Led s st c xs
+unfolding refusal_behind
+lost s st c xs x all now told = record {
+  to = record { state = refused x st; cursor = c; held = [] };
+  texts = λ more. all more ∙ sym (ap (λ z. z ++ []) now);
+  refusals = λ more. told more;
+}
+
+stuck : (s : Settings) (st : State) (c : Cursor) (xs : List Event) (x : Problem) → refused_at st.place ≡ Some x → Led s st c xs
+unfolding refusal_behind
+stuck s st c xs x o =
+    lost s st c xs x (λ more. unless_some (refused_at st.place) x _ c nothing_more o) (unless_some (refused_at st.place) x _ c nothing_more o) (λ more. or_some (refused_at st.place) _ x o)
+
+-- the first event is right, and written
+goes : (s : Settings) (st : State) (c : Cursor) (e : Event) (es : List Event) → refused_at st.place ≡ None → is_ready (e ∷ es) ≡ true → problem_at s st e ≡ None
+    → ((st' : State) (d : Cursor) → Led s st' d es) → Led s st c (e ∷ es)
+goes s st c e es o r p rest =
+    let b : Bool = opens_empty e es in
+    let w : Written (piece s st e b) c = piece_regular (context_of s st.directives) st.place (top_of st.levels) e b c in
+    let d : Cursor = w.behind in
+    let st' : State = next s st e b d in
+    let l : Led s st' d es = rest st' d in
+    let free : refused_at st'.place ≡ None = open_next s st e b d o in
+    let same : (ys : List Event) → laid s st' (let_out ys) d nothing_more ≡ text_from s st' ys d nothing_more = λ ys. sym (unless_none (refused_at st'.place) _ d nothing_more free) in
+    let now : text_from s st (e ∷ es) c nothing_more ≡ w.text ++ text_from s st' es d nothing_more =
+    right_text s st e es c o r p ∙ (w.is (λ k. laid s (next s st e b k) (let_out es) k nothing_more) ∙ ap (λ z. w.text ++ z) (same es)) in
+    let then : (more : List Event) → text_from s st (e ∷ (es ++ more)) c nothing_more ≡ w.text ++ text_from s st' (es ++ more) d nothing_more = λ more.
+    right_text s st e (es ++ more) c o (ready_more e es more r) p
+    ∙ (ap (λ z. piece s st e z c (λ k. laid s (next s st e z k) (let_out (es ++ more)) k nothing_more)) (ready_empty e es more r)
+    ∙ (w.is (λ k. laid s (next s st e b k) (let_out (es ++ more)) k nothing_more) ∙ ap (λ z. w.text ++ z) (same (es ++ more)))) in
+    record {
+      to = l.to;
+      texts = λ more. then more
+          ∙ (ap (λ z. w.text ++ z) (l.texts more)
+          ∙ (sym (append_assoc w.text (text_from s st' es d nothing_more) (added s l.to more)) ∙ sym (ap (λ z. z ++ added s l.to more) now)));
+      refusals = λ more. right_judged s st e (es ++ more) b d o (ready_more e es more r) p ∙ l.refusals more;
+    }
+
+by_problem : (s : Settings) (st : State) (c : Cursor) (e : Event) (es : List Event) (q : Option Problem) → refused_at st.place ≡ None → is_ready (e ∷ es) ≡ true → problem_at s st e ≡ q
+    → ((st' : State) (d : Cursor) → Led s st' d es) → Led s st c (e ∷ es)
+by_problem s st c e es None o r p rest = goes s st c e es o r p rest
+by_problem s st c e es (Some x) o r p rest =
+    lost s st c (e ∷ es) x (λ more. wrong_text s st e (es ++ more) c x o (ready_more e es more r) p) (wrong_text s st e es c x o r p) (λ more. wrong_judged s st e (es ++ more) x o (ready_more e es more r) p)
+
+by_ready : (s : Settings) (st : State) (c : Cursor) (e : Event) (es : List Event) (b : Bool) → refused_at st.place ≡ None → is_ready (e ∷ es) ≡ b
+    → ((st' : State) (d : Cursor) → Led s st' d es) → Led s st c (e ∷ es)
+by_ready s st c e es true o r rest = by_problem s st c e es (problem_at s st e) o r refl rest
+by_ready s st c e es false o r rest = waiting s st c (e ∷ es) (none_out e es r)
+
+by_place : (s : Settings) (st : State) (c : Cursor) (e : Event) (es : List Event) (q : Option Problem) → refused_at st.place ≡ q
+    → ((st' : State) (d : Cursor) → Led s st' d es) → Led s st c (e ∷ es)
+by_place s st c e es None o rest = by_ready s st c e es (is_ready (e ∷ es)) o refl rest
+by_place s st c e es (Some x) o rest = stuck s st c (e ∷ es) x o
+
+pub led : (s : Settings) (xs : List Event) (st : State) (c : Cursor) → Led s st c xs
+unfolding let_out
+led s [] st c = waiting s st c [] refl
+led s (e ∷ es) st c = by_place s st c e es (refused_at st.place) refl (λ st' d. led s es st' d)
+
+pub there : (s : Settings) (a : Stand) (es : List Event) → (b : Stand) × Leads s a es b
+there s a es =
+    let l : Led s a.state a.cursor (a.held ++ es) = led s (a.held ++ es) a.state a.cursor in (
+      l.to,
+      record {
+        texts = λ more. ap (λ z. text_from s a.state z a.cursor nothing_more) (sym (append_assoc a.held es more)) ∙ l.texts more;
+        refusals = λ more. ap (refusal_behind s a.state) (sym (append_assoc a.held es more)) ∙ l.refusals more;
+      },
+    )

@@ -1,0 +1,5 @@
+mod Regular
+mod Events
+mod Leading
+mod Joining
+mod Blocks

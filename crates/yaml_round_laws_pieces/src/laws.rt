@@ -1,0 +1,33 @@
+//! Each function's contract is a law.
+
+ghost use Rattle.yaml_round_laws_pieces.specs.Laws.{StandsAreThere, CuttingsAreWholes, CutsAreThere, FrontsAreShown, StandInsStand, BlocksStandByLevels};
+
+/// From each stand each list of events leads to one.
+pub fn stands_are_there()
+    ensures { StandsAreThere }
+{}
+
+/// However a list of events is cut, the texts of its pieces, one behind another, are the text of the whole.
+pub fn cuttings_are_wholes()
+    ensures { CuttingsAreWholes }
+{}
+
+/// Each cutting has such texts.
+pub fn cuts_are_there()
+    ensures { CutsAreThere }
+{}
+
+/// What was written for a front of a list is a front of the text of all.
+pub fn fronts_are_shown()
+    ensures { FrontsAreShown }
+{}
+
+/// What follows adds the same behind events and behind others that lead to a stand that is alike.
+pub fn stand_ins_stand()
+    ensures { StandInsStand }
+{}
+
+/// Within block collections the open ones with their indentations tell what is added.
+pub fn blocks_stand_by_levels()
+    ensures { BlocksStandByLevels }
+{}

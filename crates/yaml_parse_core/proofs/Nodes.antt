@@ -1,5 +1,6 @@
 -- Nodes: what contents owe is what nodes and states owe.
 use Rattle.std.proofs.Common.{◌≡◌, ◌∙◌, ◌++◌, List, ℕ, Bool, true, false, if◌then◌else◌, ◌||◌, None, Some, refl, sym, ap, subst}
+use Rattle.std.proofs.lemmas.Bool.{false≢true}
 use Rattle.yaml_parse_model.specs.declared.yaml_mark_t.{yaml_mark_t}
 use Rattle.yaml_parse_core.specs.Extra.{Extra}
 use Rattle.yaml_parse_model.specs.declared.yaml_token_type_t.{yaml_token_type_t}
@@ -12,13 +13,18 @@ use Rattle.yaml_parse_grammar.specs.States.{State, Taken}
 use Rattle.yaml_parse_grammar.specs.States as state
 use Rattle.yaml_parse_grammar.specs.Machine.{joins, with_properties_taken, starts_content, starts_node, content_taken, node_taken, no_node, choice_at, left_at, follows, wants_of}
 use Rattle.yaml_parse_grammar.specs.declared.name.Site.{Site}
+use Rattle.yaml_parse_grammar.specs.declared.name.Site.TheVariants as site
+use Rattle.yaml_parse_grammar.specs.declared.name.Side.TheVariants as side
+use Rattle.yaml_parse_grammar.specs.declared.name.Brackets.TheVariants as brackets
+use Rattle.yaml_parse_core.specs.declared.level.Await.{Await}
+use Rattle.yaml_parse_core.specs.declared.level.Await.TheVariants as await
 use Rattle.yaml_parse_grammar.specs.declared.name.Choice.{Choice}
 use Rattle.yaml_parse_grammar.specs.declared.name.Choice.TheVariants.{Refuse, Take, Leave}
 use Rattle.yaml_parse_core.specs.Seen.{Seen}
 use Rattle.yaml_parse_core.specs.Seen as turn
 use Rattle.yaml_parse_core.specs.declared.told.Shape.{Shape}
-use Rattle.yaml_parse_core.specs.Views.{Around, body_by, token_at, named_item, implied_item}
-use Rattle.yaml_parse_core.specs.Turns.{Contents, Nodes, Turns, Takes, LeavesOut, context_if}
+use Rattle.yaml_parse_core.specs.Views.{Around, await_of, is_begun, body_by, token_at, named_item, implied_item}
+use Rattle.yaml_parse_core.specs.Turns.{Contents, Nodes, Turns, TurnsOn, Takes, LeavesOut, context_if}
 
 -- the kind isn't that of a property or an alias
 abbrev pub IsBare : yaml_token_type_t → Type 0
@@ -219,3 +225,88 @@ left_optional p b t s new turn.opened a f h e n = absurd h
 left_optional p b t s new (turn.refused k) a f h e n = absurd h
 left_optional p b t s new turn.memory a f h e n = absurd h
 left_optional p b t s new turn.over a f h e n = absurd h
+
+-- ---- a content that may stand anywhere
+
+abbrev pub begins_content : yaml_token_type_t → Bool
+begins_content kind.YAML_SCALAR_TOKEN = true
+begins_content kind.YAML_FLOW_SEQUENCE_START_TOKEN = true
+begins_content kind.YAML_FLOW_MAPPING_START_TOKEN = true
+begins_content k = false
+
+starts_anywhere : (w : Wants) (k : yaml_token_type_t) (x y : List ℕ) (st : Extra) → begins_content k ≡ true → starts_content w (type_of (body_by k x y st)) ≡ true
+starts_anywhere w kind.YAML_SCALAR_TOKEN x y st h = refl
+starts_anywhere w kind.YAML_FLOW_SEQUENCE_START_TOKEN x y st h = refl
+starts_anywhere w kind.YAML_FLOW_MAPPING_START_TOKEN x y st h = refl
+starts_anywhere w k x y st h = absurd (false≢true h)
+
+taken_anywhere : (w : Wants) (k : yaml_token_type_t) (x y : List ℕ) (st : Extra) (p : Properties) (from to : yaml_mark_t) → begins_content k ≡ true
+    → content_taken Flow (Some p) from to (body_by k x y st) ≡ content_taken w (Some p) from to (body_by k x y st)
+taken_anywhere w kind.YAML_SCALAR_TOKEN x y st p from to h = refl
+taken_anywhere w kind.YAML_FLOW_SEQUENCE_START_TOKEN x y st p from to h = refl
+taken_anywhere w kind.YAML_FLOW_MAPPING_START_TOKEN x y st p from to h = refl
+taken_anywhere w k x y st p from to h = absurd (false≢true h)
+
+bare_anywhere : (k : yaml_token_type_t) → begins_content k ≡ true → IsBare k
+bare_anywhere kind.YAML_SCALAR_TOKEN h = tt
+bare_anywhere kind.YAML_FLOW_SEQUENCE_START_TOKEN h = tt
+bare_anywhere kind.YAML_FLOW_MAPPING_START_TOKEN h = tt
+bare_anywhere k h = absurd (false≢true h)
+
+none_follows : (p : Site) (k : yaml_token_type_t) (x y : List ℕ) (st : Extra) → begins_content k ≡ true → follows p (type_of (body_by k x y st)) ≡ false
+none_follows site.Root kind.YAML_SCALAR_TOKEN x y st h = refl
+none_follows site.Root kind.YAML_FLOW_SEQUENCE_START_TOKEN x y st h = refl
+none_follows site.Root kind.YAML_FLOW_MAPPING_START_TOKEN x y st h = refl
+none_follows site.Entry kind.YAML_SCALAR_TOKEN x y st h = refl
+none_follows site.Entry kind.YAML_FLOW_SEQUENCE_START_TOKEN x y st h = refl
+none_follows site.Entry kind.YAML_FLOW_MAPPING_START_TOKEN x y st h = refl
+none_follows (site.IndentlessEntry z) kind.YAML_SCALAR_TOKEN x y st h = refl
+none_follows (site.IndentlessEntry z) kind.YAML_FLOW_SEQUENCE_START_TOKEN x y st h = refl
+none_follows (site.IndentlessEntry z) kind.YAML_FLOW_MAPPING_START_TOKEN x y st h = refl
+none_follows (site.BlockPair z) kind.YAML_SCALAR_TOKEN x y st h = refl
+none_follows (site.BlockPair z) kind.YAML_FLOW_SEQUENCE_START_TOKEN x y st h = refl
+none_follows (site.BlockPair z) kind.YAML_FLOW_MAPPING_START_TOKEN x y st h = refl
+none_follows (site.FlowPair brackets.Sequence z) kind.YAML_SCALAR_TOKEN x y st h = refl
+none_follows (site.FlowPair brackets.Sequence z) kind.YAML_FLOW_SEQUENCE_START_TOKEN x y st h = refl
+none_follows (site.FlowPair brackets.Sequence z) kind.YAML_FLOW_MAPPING_START_TOKEN x y st h = refl
+none_follows (site.FlowPair brackets.Mapping z) kind.YAML_SCALAR_TOKEN x y st h = refl
+none_follows (site.FlowPair brackets.Mapping z) kind.YAML_FLOW_SEQUENCE_START_TOKEN x y st h = refl
+none_follows (site.FlowPair brackets.Mapping z) kind.YAML_FLOW_MAPPING_START_TOKEN x y st h = refl
+none_follows p k x y st h = absurd (false≢true h)
+
+same_content : (w : Wants) (k : yaml_token_type_t) (x y : List ℕ) (st : Extra) (from to : yaml_mark_t) (s : List State) (new : Properties → List State) (r : Seen) → begins_content k ≡ true
+    → Contents Flow (token_at (body_by k x y st) from to) s r new → Contents w (token_at (body_by k x y st) from to) s r new
+same_content w k x y st from to s new (turn.node j) b h =
+    (starts_anywhere w k x y st b, λ p q. ((h.1 p q).0 ∙ ap (λ (t : Taken). t.item) (taken_anywhere w k x y st p from to b), (h.1 p q).1 ∙ ap (λ (t : Taken). t.above ++ s) (taken_anywhere w k x y st p from to b)))
+same_content w k x y st from to s new (turn.named j) b h = absurd h
+same_content w k x y st from to s new (turn.given j) b h = absurd h
+same_content w k x y st from to s new turn.silent b h = absurd h
+same_content w k x y st from to s new (turn.left j) b h = absurd h
+same_content w k x y st from to s new turn.opened b h = absurd h
+same_content w k x y st from to s new turn.over b h = absurd h
+same_content w k x y st from to s new (turn.refused q) b h = absurd (false≢true (sym h.0 ∙ starts_anywhere Flow k x y st b))
+same_content w k x y st from to s new turn.memory b h = tt
+
+at_site : (p : Site) (b : yaml_mark_t) (k : yaml_token_type_t) (x y : List ℕ) (st : Extra) (from to : yaml_mark_t) (s : List State) (new : Properties → List State) (r : Seen) (a : Around) → begins_content k ≡ true
+    → Contents Flow (token_at (body_by k x y st) from to) s r new → Turns (state.optional p b) (token_at (body_by k x y st) from to) s r a new
+at_site p b k x y st from to s new r a h c =
+    optional_node p b (wants_of p) (token_at (body_by k x y st) from to) s new r a (none_follows p k x y st h) refl
+    (bare_node (wants_of p) k x y st from to s new r a (bare_anywhere k h) (same_content (wants_of p) k x y st from to s new r h c))
+
+pub anywhere : (z : Await) (b : yaml_mark_t) (q : Properties) (k : yaml_token_type_t) (x y : List ℕ) (st : Extra) (from to : yaml_mark_t) (s : List State) (new : Properties → List State) (r : Seen) (a : Around)
+    → is_begun z ≡ false → begins_content k ≡ true → Contents Flow (token_at (body_by k x y st) from to) s r new → TurnsOn (await_of z b q ++ s) (token_at (body_by k x y st) from to) r a new
+anywhere await.Root b q k x y st from to s new r a e h c = at_site site.Root b k x y st from to s new r a h c
+anywhere await.Entry b q k x y st from to s new r a e h c = at_site site.Entry b k x y st from to s new r a h c
+anywhere await.LooseKey b q k x y st from to s new r a e h c = at_site (site.IndentlessEntry side.Key) b k x y st from to s new r a h c
+anywhere await.LooseValue b q k x y st from to s new r a e h c = at_site (site.IndentlessEntry side.Value) b k x y st from to s new r a h c
+anywhere await.Key b q k x y st from to s new r a e h c = at_site (site.BlockPair side.Key) b k x y st from to s new r a h c
+anywhere await.Value b q k x y st from to s new r a e h c = at_site (site.BlockPair side.Value) b k x y st from to s new r a h c
+anywhere await.SequenceKey b q k x y st from to s new r a e h c = at_site (site.FlowPair brackets.Sequence side.Key) b k x y st from to s new r a h c
+anywhere await.SequenceValue b q k x y st from to s new r a e h c = at_site (site.FlowPair brackets.Sequence side.Value) b k x y st from to s new r a h c
+anywhere await.MappingKey b q k x y st from to s new r a e h c = at_site (site.FlowPair brackets.Mapping side.Key) b k x y st from to s new r a h c
+anywhere await.MappingValue b q k x y st from to s new r a e h c = at_site (site.FlowPair brackets.Mapping side.Value) b k x y st from to s new r a h c
+anywhere await.Nothing b q k x y st from to s new r a e h c = absurd (false≢true (sym e))
+anywhere await.Rest b q k x y st from to s new r a e h c = absurd (false≢true (sym e))
+anywhere await.RestOfKey b q k x y st from to s new r a e h c = absurd (false≢true (sym e))
+anywhere await.RestOfValue b q k x y st from to s new r a e h c = absurd (false≢true (sym e))
+anywhere await.RestInside b q k x y st from to s new r a e h c = absurd (false≢true (sym e))

@@ -103,6 +103,15 @@ await_of await.RestOfKey b p = state.with_properties (Block (Some side.Key)) p �
 await_of await.RestOfValue b p = state.with_properties (Block (Some side.Value)) p ∷ []
 await_of await.RestInside b p = state.with_properties Flow p ∷ []
 
+-- no node is awaited, or properties of it have come
+abbrev pub is_begun : Await → Bool
+is_begun await.Nothing = true
+is_begun await.Rest = true
+is_begun await.RestOfKey = true
+is_begun await.RestOfValue = true
+is_begun await.RestInside = true
+is_begun a = false
+
 -- the states of kept levels, the topmost first
 unfoldable pub levels_of : {P : Type 0} → (P → yaml_mark_t) → List (Kept P) → List State
 levels_of mark [] = []

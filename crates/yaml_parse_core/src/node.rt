@@ -58,7 +58,7 @@ fn open_others<T: yaml_lent_token_t>(
 
 // The content of a node.
 #[inline(always)]
-fn content<T: yaml_lent_token_t>(
+pub(crate) fn content<T: yaml_lent_token_t>(
     machine: &mut Machine<T::Place>,
     token: &T,
     kind: yaml_token_type_t,
@@ -98,7 +98,8 @@ fn content<T: yaml_lent_token_t>(
 }
 
 // The same, of a block collection.
-#[inline(always)]
+// Out of line: it isn't met once a line.
+#[inline(never)]
 fn block_content<T: yaml_lent_token_t>(
     machine: &mut Machine<T::Place>,
     token: &T,
@@ -189,8 +190,8 @@ fn rest_of(wants: Wants) -> Await
 }
 
 // The properties of a node whose first token is that anchor.
-// Inlined, and apart from any choice: see `await_behind`.
-#[inline(always)]
+// Out of line: few nodes have properties.
+#[inline(never)]
 fn wait_by_anchor<T: yaml_lent_token_t>(waiting: &mut Waiting<T::Text, T::Place>, token: &mut T)
     ensures { (s : List ℕ) → properties_of (T.bytes s) (T.mark s) waiting.new
         ≡ record {
@@ -208,8 +209,8 @@ fn wait_by_anchor<T: yaml_lent_token_t>(waiting: &mut Waiting<T::Text, T::Place>
 }
 
 // The properties of a node whose first token is that tag.
-// Inlined, and apart from any choice: see `await_behind`.
-#[inline(always)]
+// Out of line: see `wait_by_anchor`.
+#[inline(never)]
 fn wait_by_tag<T: yaml_lent_token_t>(waiting: &mut Waiting<T::Text, T::Place>, token: &mut T)
     ensures { (s : List ℕ) → properties_of (T.bytes s) (T.mark s) waiting.new
         ≡ record {

@@ -3,13 +3,14 @@
 ghost use Rattle.std.specs.Prelude.{◌≡◌, true, ℕ, List};
 ghost use Rattle.yaml_parse_core.specs.declared.level.Await.TheVariants.{Nothing};
 ghost use Rattle.yaml_parse_core.specs.Views.{around_of, states_of, states_by, whole_of};
+ghost use Rattle.yaml_parse_core.specs.Views as views;
 ghost use Rattle.yaml_parse_core.specs.Seen.{seen};
 ghost use Rattle.yaml_parse_core.specs.Turns.{keeps, TurnsOn};
 
 use crate::document::{at_directives, at_document, at_documents, at_first, at_stream};
 use crate::level::{Await, Level};
 use crate::machine::{Machine, Turn};
-use crate::node::at_rest;
+use crate::node::{at_rest, content};
 use crate::part::{
     at_colon, at_entries, at_mapping_colon, at_mapping_lone, at_mapping_more, at_other_keys,
     at_other_values, at_pairs, at_sequence_colon, at_sequence_more, at_sequence_pair,
@@ -62,7 +63,8 @@ fn at_level<T: yaml_lent_token_t>(
 
 // The topmost state at a token of that kind.
 // It is long: a row for each of what may be awaited, and nothing besides.
-#[inline(always)]
+// Out of line: what is met most stands in line in `turn`.
+#[inline(never)]
 fn at_kind<T: yaml_lent_token_t>(
     machine: &mut Machine<T::Place>,
     waiting: &mut Waiting<T::Text, T::Place>,
@@ -138,10 +140,22 @@ fn at_kind<T: yaml_lent_token_t>(
     }
 }
 
-// The same, by the kinds that are met most: of each the compiler makes a way of its own.
+// Whether no node is awaited, or properties of it have come.
+#[inline(always)]
+fn is_begun(awaited: Await) -> bool
+    ensures { result ≡ views.is_begun awaited }
+{
+    match awaited {
+        Await::Nothing | Await::Rest | Await::RestOfKey | Await::RestOfValue | Await::RestInside =>
+            true,
+        _ => false,
+    }
+}
+
+// The node that is awaited. In line are the contents that may stand at each place, which are met most.
 // It is long: an arm for each of these kinds, which all say the same.
 #[inline(always)]
-fn at_seen<T: yaml_lent_token_t>(
+fn at_awaited<T: yaml_lent_token_t>(
     machine: &mut Machine<T::Place>,
     waiting: &mut Waiting<T::Text, T::Place>,
     token: &mut T,
@@ -155,42 +169,27 @@ fn at_seen<T: yaml_lent_token_t>(
         (states_by (T.mark s) machine.new) }
     ensures kept { keeps (seen result) ≡ true → token.new ≡ token.old }
 {
+    if is_begun(machine.awaited) {
+        return at_kind(machine, waiting, token, kind);
+    }
     match kind {
-        yaml_token_type_t::YAML_SCALAR_TOKEN => at_kind(
+        yaml_token_type_t::YAML_SCALAR_TOKEN => content(
             machine,
-            waiting,
             token,
             yaml_token_type_t::YAML_SCALAR_TOKEN,
+            Wants::Flow,
         ),
-        yaml_token_type_t::YAML_KEY_TOKEN => at_kind(
+        yaml_token_type_t::YAML_FLOW_SEQUENCE_START_TOKEN => content(
             machine,
-            waiting,
-            token,
-            yaml_token_type_t::YAML_KEY_TOKEN,
-        ),
-        yaml_token_type_t::YAML_VALUE_TOKEN => at_kind(
-            machine,
-            waiting,
-            token,
-            yaml_token_type_t::YAML_VALUE_TOKEN,
-        ),
-        yaml_token_type_t::YAML_FLOW_ENTRY_TOKEN => at_kind(
-            machine,
-            waiting,
-            token,
-            yaml_token_type_t::YAML_FLOW_ENTRY_TOKEN,
-        ),
-        yaml_token_type_t::YAML_FLOW_SEQUENCE_START_TOKEN => at_kind(
-            machine,
-            waiting,
             token,
             yaml_token_type_t::YAML_FLOW_SEQUENCE_START_TOKEN,
+            Wants::Flow,
         ),
-        yaml_token_type_t::YAML_FLOW_SEQUENCE_END_TOKEN => at_kind(
+        yaml_token_type_t::YAML_FLOW_MAPPING_START_TOKEN => content(
             machine,
-            waiting,
             token,
-            yaml_token_type_t::YAML_FLOW_SEQUENCE_END_TOKEN,
+            yaml_token_type_t::YAML_FLOW_MAPPING_START_TOKEN,
+            Wants::Flow,
         ),
         _ => at_kind(machine, waiting, token, kind),
     }
@@ -213,5 +212,8 @@ pub fn turn<T: yaml_lent_token_t>(
     ensures kept { keeps (seen result) ≡ true → token.new ≡ token.old }
 {
     let kind = token.kind();
-    at_seen(machine, waiting, token, kind)
+    match machine.awaited {
+        Await::Nothing => at_level(machine, waiting, token, kind),
+        _ => at_awaited(machine, waiting, token, kind),
+    }
 }

@@ -51,8 +51,8 @@ fn tell_no_scalar(waiting: &mut Waiting<Vec<u8>, yaml_mark_t>, event: &mut yaml_
 }
 
 // A sequence begins without properties.
-// Inlined: its style is known.
-#[inline(always)]
+// Out of line: in line the addresses of the slot's parts would be put aside in front of the loop over turns, for each event.
+#[inline(never)]
 fn tell_sequence(
     token: &mut yaml_token_body_t,
     style: yaml_sequence_style_t,
@@ -65,8 +65,8 @@ fn tell_sequence(
 }
 
 // A mapping begins without properties.
-// Inlined: its style is known.
-#[inline(always)]
+// Out of line: see `tell_sequence`.
+#[inline(never)]
 fn tell_mapping(
     token: &mut yaml_token_body_t,
     style: yaml_mapping_style_t,

@@ -24,8 +24,8 @@ pub(crate) fn put(slot: &mut yaml_event_body_t, event: yaml_event_body_t)
 }
 
 /// A sequence ends.
-// Out of line: in line the addresses of the slot's parts would be put aside in front of the loop over turns, for each event.
-#[inline(never)]
+// Inlined into its one caller, which is out of line.
+#[inline(always)]
 pub(crate) fn end_sequence(slot: &mut yaml_event_body_t)
     requires { OwnsNothing slot.old }
     ensures { body_of slot.new ≡ told.sequence_end }
@@ -34,8 +34,8 @@ pub(crate) fn end_sequence(slot: &mut yaml_event_body_t)
 }
 
 /// A mapping ends.
-// Out of line: see `end_sequence`.
-#[inline(never)]
+// Inlined: see `end_sequence`.
+#[inline(always)]
 pub(crate) fn end_mapping(slot: &mut yaml_event_body_t)
     requires { OwnsNothing slot.old }
     ensures { body_of slot.new ≡ told.mapping_end }
@@ -44,7 +44,7 @@ pub(crate) fn end_mapping(slot: &mut yaml_event_body_t)
 }
 
 /// An alias. The room of a text that the slot of events has from an earlier one is left in place of the name.
-// Out of line: see `end_sequence`.
+// Out of line: in line the addresses of the slot's parts would be put aside in front of the loop over turns, for each event.
 #[inline(never)]
 pub(crate) fn put_alias(slot: &mut yaml_event_body_t, name: &mut Vec<u8>)
     ensures { body_of slot.new ≡ told.alias name.old.items }
@@ -54,8 +54,8 @@ pub(crate) fn put_alias(slot: &mut yaml_event_body_t, name: &mut Vec<u8>)
 }
 
 /// A sequence begins without properties.
-// Out of line: see `end_sequence`.
-#[inline(never)]
+// Inlined: see `end_sequence`.
+#[inline(always)]
 pub(crate) fn start_sequence(slot: &mut yaml_event_body_t, style: yaml_sequence_style_t)
     requires { OwnsNothing slot.old }
     ensures { body_of slot.new ≡ node_event None None (item.sequence style) }
@@ -70,8 +70,8 @@ pub(crate) fn start_sequence(slot: &mut yaml_event_body_t, style: yaml_sequence_
 }
 
 /// A mapping begins without properties.
-// Out of line: see `end_sequence`.
-#[inline(never)]
+// Inlined: see `end_sequence`.
+#[inline(always)]
 pub(crate) fn start_mapping(slot: &mut yaml_event_body_t, style: yaml_mapping_style_t)
     requires { OwnsNothing slot.old }
     ensures { body_of slot.new ≡ node_event None None (item.mapping style) }

@@ -107,8 +107,8 @@ fn tell_no_alias(alloc: Global, event: &mut yaml_event_body_t)
 }
 
 // A sequence ends.
-// Inlined: mostly the slot holds no text.
-#[inline(always)]
+// Out of line: in line the addresses of the slot's parts would be put aside in front of the loop over turns, for each event.
+#[inline(never)]
 fn tell_sequence_end(token: &mut yaml_token_body_t, event: &mut yaml_event_body_t)
     ensures { body_of event.new ≡ told.sequence_end }
 {
@@ -117,8 +117,8 @@ fn tell_sequence_end(token: &mut yaml_token_body_t, event: &mut yaml_event_body_
 }
 
 // A mapping ends.
-// Inlined: mostly the slot holds no text.
-#[inline(always)]
+// Out of line: see `tell_sequence_end`.
+#[inline(never)]
 fn tell_mapping_end(token: &mut yaml_token_body_t, event: &mut yaml_event_body_t)
     ensures { body_of event.new ≡ told.mapping_end }
 {

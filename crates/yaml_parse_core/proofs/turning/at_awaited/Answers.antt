@@ -1,0 +1,27 @@
+use Rattle.yaml_parse_core.specs.Seen.{seen}
+use Rattle.std.proofs.Common.{◌∙◌, sym, refl}
+use Rattle.yaml_parse_model.specs.declared.yaml_token_type_t.TheVariants as kinds
+use Rattle.yaml_parse_core.specs.Views.{properties_of}
+use Rattle.yaml_parse_core.proofs.Nodes.{anywhere}
+use Rattle.yaml_parse_core.proofs.turning.at_awaited.Goals as goal
+
+pub returns-in-YAML_SCALAR_TOKEN-clause-turns : goal.returns-in-YAML_SCALAR_TOKEN-clause-turns
+returns-in-YAML_SCALAR_TOKEN-clause-turns g c = λ s.
+    rw (c.in-YAML_SCALAR_TOKEN.is) (anywhere c.args.machine.now.awaited (g.T.yaml_lent_token_t.mark s c.args.machine.now.before) (properties_of (g.T.yaml_lent_token_t.bytes s) (g.T.yaml_lent_token_t.mark s) c.args.waiting.now)
+    kinds.YAML_SCALAR_TOKEN (g.T.yaml_lent_token_t.text s c.args.token.now) (g.T.yaml_lent_token_t.other s c.args.token.now) (g.T.yaml_lent_token_t.extra c.args.token.now)
+    (g.T.yaml_lent_token_t.mark s (g.T.yaml_lent_token_t.from c.args.token.now)) (g.T.yaml_lent_token_t.mark s (g.T.yaml_lent_token_t.to c.args.token.now)) _ _ (seen c.content.result) _
+    (sym c.is_begun.ensures ∙ c.if-is_begun.false) refl (c.content.ensures.content s))
+
+pub returns-in-YAML_FLOW_SEQUENCE_START_TOKEN-clause-turns : goal.returns-in-YAML_FLOW_SEQUENCE_START_TOKEN-clause-turns
+returns-in-YAML_FLOW_SEQUENCE_START_TOKEN-clause-turns g c = λ s.
+    rw (c.in-YAML_FLOW_SEQUENCE_START_TOKEN.is) (anywhere c.args.machine.now.awaited (g.T.yaml_lent_token_t.mark s c.args.machine.now.before) (properties_of (g.T.yaml_lent_token_t.bytes s) (g.T.yaml_lent_token_t.mark s) c.args.waiting.now)
+    kinds.YAML_FLOW_SEQUENCE_START_TOKEN (g.T.yaml_lent_token_t.text s c.args.token.now) (g.T.yaml_lent_token_t.other s c.args.token.now) (g.T.yaml_lent_token_t.extra c.args.token.now)
+    (g.T.yaml_lent_token_t.mark s (g.T.yaml_lent_token_t.from c.args.token.now)) (g.T.yaml_lent_token_t.mark s (g.T.yaml_lent_token_t.to c.args.token.now)) _ _ (seen c.content-in-YAML_FLOW_SEQUENCE_START_TOKEN.result) _
+    (sym c.is_begun.ensures ∙ c.if-is_begun.false) refl (c.content-in-YAML_FLOW_SEQUENCE_START_TOKEN.ensures.content s))
+
+pub returns-in-YAML_FLOW_MAPPING_START_TOKEN-clause-turns : goal.returns-in-YAML_FLOW_MAPPING_START_TOKEN-clause-turns
+returns-in-YAML_FLOW_MAPPING_START_TOKEN-clause-turns g c = λ s.
+    rw (c.in-YAML_FLOW_MAPPING_START_TOKEN.is) (anywhere c.args.machine.now.awaited (g.T.yaml_lent_token_t.mark s c.args.machine.now.before) (properties_of (g.T.yaml_lent_token_t.bytes s) (g.T.yaml_lent_token_t.mark s) c.args.waiting.now)
+    kinds.YAML_FLOW_MAPPING_START_TOKEN (g.T.yaml_lent_token_t.text s c.args.token.now) (g.T.yaml_lent_token_t.other s c.args.token.now) (g.T.yaml_lent_token_t.extra c.args.token.now)
+    (g.T.yaml_lent_token_t.mark s (g.T.yaml_lent_token_t.from c.args.token.now)) (g.T.yaml_lent_token_t.mark s (g.T.yaml_lent_token_t.to c.args.token.now)) _ _ (seen c.content-in-YAML_FLOW_MAPPING_START_TOKEN.result) _
+    (sym c.is_begun.ensures ∙ c.if-is_begun.false) refl (c.content-in-YAML_FLOW_MAPPING_START_TOKEN.ensures.content s))

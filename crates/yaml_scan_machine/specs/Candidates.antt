@@ -1,9 +1,9 @@
 -- A stack of keys as the candidates of a history.
-use Rattle.std.specs.Prelude.{ℕ, ◌+◌, ◌-◌, ◌≡◌, ◌≤◌, ◌<◌, Bool, true, false, ◌&&◌, if◌then◌else◌, List, ◌∷◌, length, slice_index_or, Option, Some, None}
+use Rattle.std.specs.Prelude.{ℕ, ◌+◌, ◌-◌, ◌≡◌, ◌≤◌, ◌<◌, ◌==◌, ◌⊎◌, Bool, true, false, ◌&&◌, if◌then◌else◌, List, ◌∷◌, length, slice_index_or, Option, Some, None}
 use Rattle.yaml_scan_model.specs.declared.record.yaml_mark_t.{yaml_mark_t}
 use Rattle.yaml_scan_history.specs.declared.kind.Kind.{Kind}
 use Rattle.yaml_scan_history.specs.declared.lexeme.Lexeme.{Lexeme}
-use Rattle.yaml_scan_history.specs.History.{Candidate, candidate, depth, is_fresh}
+use Rattle.yaml_scan_history.specs.History.{Candidate, candidate, depth, fresh, is_fresh}
 use Rattle.yaml_scan_history.specs.Kinds.{cancels, depth_after}
 use Rattle.yaml_scan_history.specs.Laws.{Upto}
 use Rattle.yaml_scan_machine.specs.declared.keys.Key.{Key}
@@ -11,18 +11,25 @@ use Rattle.yaml_scan_machine.specs.declared.keys.Keys.{Keys}
 use Rattle.yaml_scan_machine.specs.declared.keys.Effect.{Effect}
 use Rattle.yaml_scan_machine.specs.declared.keys.Effect.TheVariants as effects
 
--- the keys of the depths outside, the outermost first, that of the open depth, and how many of the outermost are stale
+-- how many of the outermost depths are forgotten, the keys of the others outside, the outermost first, that of the open
+-- depth, and how many of the outermost keys are stale
 pub record KeyStack : Type 0 where
+  pub gone : ℕ
   pub outer : List Key
   pub innermost : Key
   pub stale : ℕ
 
 abbrev pub stack_of : Keys → KeyStack
-stack_of k = record { outer = k.outer.items; innermost = k.innermost; stale = k.stale }
+stack_of k = record {
+  gone = k.gone;
+  outer = k.outer.items;
+  innermost = k.innermost;
+  stale = k.stale;
+}
 
--- the key of a depth
+-- the key at a place, the outermost one first
 abbrev pub key_at : KeyStack → ℕ → Key
-key_at s d = slice_index_or s.outer d s.innermost
+key_at s i = slice_index_or s.outer i s.innermost
 
 -- what is read of a candidate
 pub record KeyView : Type 0 where
@@ -55,20 +62,36 @@ abbrev pub required_view : Option KeyView → Option yaml_mark_t
 required_view None = None
 required_view (Some v) = if v.required then Some v.start else None
 
+-- the start of the candidate outside all brackets, where its `:` must come
+abbrev pub required_at : KeyStack → Option yaml_mark_t
+required_at s = if s.gone == 0 then required_view (key_view (key_at s 0)) else None
+
 -- so many of the outermost keys are none, or stale there
 abbrev pub AreStale : KeyStack → yaml_mark_t → Type 0
-AreStale s place = (d : ℕ) → d < s.stale → fresh_key (key_at s d) place ≡ None
+AreStale s place = (i : ℕ) → i < s.stale → fresh_key (key_at s i) place ≡ None
 
--- The keys are the candidates of the depths up to that one, and so many of the outermost are stale at a place.
+-- A key is a candidate, or there is none, and the candidate is stale at a place.
+abbrev pub IsKey : Key → Option Candidate → yaml_mark_t → Type 0
+IsKey k o place = (key_view k ≡ view_of o) ⊎ ((key_view k ≡ None) × (fresh o place ≡ None))
+
+-- The keys are the candidates of the depths up to that one, but for the outermost ones that are forgotten, which are stale at
+-- a place, as are so many of the outermost keys.
 pub record AreKeysTo (n : ℕ) (s : KeyStack) (h : List Lexeme) (place : yaml_mark_t) : Type 0 where
-  pub long : length s.outer ≡ n
+  pub long : s.gone + length s.outer ≡ n
   pub inside : s.stale ≤ length s.outer
-  pub agrees : (d : ℕ) → d ≤ n → key_view (key_at s d) ≡ view_of (candidate d h)
+  pub gone : (d : ℕ) → d < s.gone → fresh (candidate d h) place ≡ None
+  pub agrees : (i : ℕ) → i ≤ length s.outer
+      → IsKey (key_at s i) (candidate (s.gone + i) h) place
   pub stale : AreStale s place
 
 -- the same of all open depths
 abbrev pub AreKeys : KeyStack → List Lexeme → yaml_mark_t → Type 0
 AreKeys s h place = AreKeysTo (depth h) s h place
+
+-- What were the keys still are, whichever of them are forgotten.
+abbrev pub Forgets : KeyStack → KeyStack → Type 0
+Forgets old new = (n : ℕ) (h : List Lexeme) (p : yaml_mark_t) → AreKeysTo n old h p
+    → AreKeysTo n new h p
 
 -- A lexeme, in front of which so many stand, makes the old keys of one depth the new ones of another.
 abbrev pub Turns : Lexeme → ℕ → (ℕ → ℕ) → KeyStack → KeyStack → Type 0

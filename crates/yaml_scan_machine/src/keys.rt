@@ -1,13 +1,16 @@
 //! The candidate of each open depth.
 
-ghost use Rattle.std.specs.Prelude.{◌≡◌, ◌+◌, ◌-◌, ◌≤◌, ◌&&◌, [], OnOk, None, true, false, length};
+ghost use Rattle.std.specs.Prelude.{◌≡◌, ◌+◌, ◌-◌, ◌≤◌, ◌<◌, ◌^◌, ◌&&◌, [], OnOk, None, true, false, length};
 ghost use Rattle.yaml_scan_history.specs.History as history;
 ghost use Rattle.yaml_scan_history.specs.Kinds.{cancels};
-ghost use Rattle.yaml_scan_machine.specs.Candidates.{AreStale, HasEffect, IsPut, Turns, fresh_key, key_at, key_view, number_in, required_view, stack_of};
+ghost use Rattle.yaml_scan_machine.specs.Candidates.{AreStale, Forgets, HasEffect, IsPut, Turns, fresh_key, key_at, key_view, number_in, required_at, required_view, stack_of};
 
 use std::alloc::{AllocError, Global};
 use yaml_scan_history::{Kind, Lexeme, is_fresh};
-use yaml_scan_model::yaml_mark_t;
+use yaml_scan_model::{mark_again, yaml_mark_t};
+
+/// So many stale candidates are forgotten at once: about as many as there are others at most.
+const STALE_KEPT: usize = 1024;
 
 /// A lexeme that may still become a key: how many stand before it, and where it starts.
 #[derive(Clone, Copy)]
@@ -20,13 +23,17 @@ pub struct Key {
     pub required: bool,
 }
 
-/// The candidate of each open depth. That of the innermost one stands apart, so that a change of it is a store.
+/// The candidate of each open depth. That of the innermost one stands apart, so that a change of it is a store. Since a
+/// candidate is stale 1,024 bytes on, few of them can still be found: the others are forgotten, so that open brackets take
+/// no room here.
 #[derive(Drop)]
 pub struct Keys {
-    /// The candidates of the depths outside, the outermost first.
+    /// So many of the outermost depths have no candidate, or had one that is stale, and are forgotten.
+    pub gone: usize,
+    /// The candidates of the other depths outside, the outermost first.
     pub outer: Vec<Key>,
     pub innermost: Key,
-    /// So many of the outermost ones are none, or stale.
+    /// So many of the outermost ones that are kept are none, or stale.
     pub stale: usize,
 }
 
@@ -100,6 +107,7 @@ impl Key {
 impl Keys {
     /// No bracket is open, and there is no candidate.
     pub(crate) fn new(alloc: Global) -> Keys
+        ensures gone { result.gone ≡ 0 }
         ensures outer { result.outer.items ≡ [] }
         ensures none { result.innermost.possible ≡ false }
         ensures stale { result.stale ≡ 0 }
@@ -110,6 +118,7 @@ impl Keys {
             column: 0,
         };
         Keys {
+            gone: 0,
             outer: Vec::new(alloc),
             innermost: Key {
                 number: 0,
@@ -121,16 +130,20 @@ impl Keys {
         }
     }
 
-    /// The start of the candidate outside all brackets, where its `:` must come.
+    /// The start of the candidate outside all brackets, of which so many are open, where its `:` must come.
     // Inlined: mostly two comparisons, asked for each lexeme.
     #[inline(always)]
-    pub(crate) fn must_come(&self) -> Option<yaml_mark_t>
-        ensures { result ≡ required_view (key_view (key_at (stack_of self.now) 0)) }
+    pub(crate) fn must_come(&self, depth: usize) -> Option<yaml_mark_t>
+        requires { depth ≡ self.now.gone + length self.now.outer.items }
+        ensures { result ≡ required_at (stack_of self.now) }
     {
-        if self.outer.len() == 0 {
+        if depth == 0 {
             return self.innermost.must_come();
         }
-        self.outer[0].must_come()
+        if self.gone == 0 {
+            return self.outer[0].must_come();
+        }
+        None
     }
 
     /// The number of the earliest candidate that isn't stale at that place, if there is one. Each that is passed is passed
@@ -159,7 +172,9 @@ impl Keys {
     // Inlined: the kind is known where it is called.
     #[inline(always)]
     pub(crate) fn put(&mut self, lexeme: Lexeme, number: usize) -> Result<(), AllocError>
-        requires { (lexeme.saved && cancels lexeme.kind) ≡ false }
+        requires one { (lexeme.saved && cancels lexeme.kind) ≡ false }
+        requires inside { self.old.stale ≤ length self.old.outer.items }
+        requires room { self.old.gone + length self.old.outer.items < 2 ^ 64 }
         ensures { OnOk result (IsPut lexeme number (stack_of self.old) (stack_of self.new)) }
     {
         match effect_of(lexeme.kind) {
@@ -187,12 +202,7 @@ impl Keys {
         ensures { Turns lexeme number (λ n. n) (stack_of self.old) (stack_of self.new) }
     {
         if lexeme.saved {
-            self.innermost = Key {
-                number,
-                start: lexeme.start,
-                possible: true,
-                required: lexeme.required,
-            };
+            put_key(&mut self.innermost, number, lexeme);
         }
     }
 
@@ -211,17 +221,50 @@ impl Keys {
     // Inlined: some stores.
     #[inline(always)]
     fn open(&mut self, lexeme: Lexeme, number: usize) -> Result<(), AllocError>
-        requires { cancels lexeme.kind ≡ false }
+        requires cancels { cancels lexeme.kind ≡ false }
+        requires inside { self.old.stale ≤ length self.old.outer.items }
+        requires room { self.old.gone + length self.old.outer.items < 2 ^ 64 }
         ensures { OnOk result (Turns lexeme number (λ n. n + 1) (stack_of self.old)
             (stack_of self.new)) }
     {
+        self.spare();
         self.save(lexeme, number);
         self.outer.push(self.innermost)?;
         self.innermost.possible = false;
         Ok(())
     }
 
-    /// A bracket closes: its own depth's candidate is gone.
+    /// Forgets the outermost candidates that are none, or stale, where they are many: of the others there are few, so each
+    /// move of one is paid for by some that are forgotten.
+    // Inlined: a comparison.
+    #[inline(always)]
+    fn spare(&mut self)
+        requires inside { self.old.stale ≤ length self.old.outer.items }
+        requires room { self.old.gone + length self.old.outer.items < 2 ^ 64 }
+        ensures { Forgets (stack_of self.old) (stack_of self.new) }
+    {
+        if STALE_KEPT <= self.stale {
+            self.forget();
+        }
+    }
+
+    /// Forgets the outermost candidates that are none, or stale.
+    // Out of line and cold: it is rare.
+    #[cold]
+    #[inline(never)]
+    fn forget(&mut self)
+        requires inside { self.old.stale ≤ length self.old.outer.items }
+        requires room { self.old.gone + length self.old.outer.items < 2 ^ 64 }
+        ensures { Forgets (stack_of self.old) (stack_of self.new) }
+    {
+        let left = self.outer.len() - self.stale;
+        self.outer.rotate_left(self.stale);
+        self.outer.truncate(left);
+        self.gone += self.stale;
+        self.stale = 0;
+    }
+
+    /// A bracket closes: its own depth's candidate is gone. Of one that is forgotten there is none any more.
     // Inlined: some stores.
     #[inline(always)]
     fn close(&mut self, lexeme: Lexeme, number: usize)
@@ -234,9 +277,30 @@ impl Keys {
                 self.innermost = key;
                 self.stale = least(self.stale, self.outer.len());
             }
-            None => self.cancel(lexeme, number),
+            None => {
+                self.innermost.possible = false;
+                self.gone = self.gone.saturating_sub(1);
+            }
         }
     }
+}
+
+/// Puts the key that a lexeme may become to a place, field by field: of one that is moved whole the gaps between the fields
+/// are set too.
+// Inlined: some stores.
+#[inline(always)]
+fn put_key(key: &mut Key, number: usize, lexeme: Lexeme)
+    ensures { key.new ≡ record {
+      number = number;
+      start = lexeme.start;
+      possible = true;
+      required = lexeme.required;
+    } }
+{
+    key.number = number;
+    key.start = mark_again(&lexeme.start);
+    key.possible = true;
+    key.required = lexeme.required;
 }
 
 /// The lesser one.

@@ -280,7 +280,7 @@ impl<'a> Machine<'a> {
         ensures { result ≡ required_in (fresh (candidate 0 (history_of self.now))
             (reached (history_of self.now))) }
     {
-        self.keys.must_come()
+        self.keys.must_come(self.depth)
     }
 
     /// The start of the required candidate that is open, where it is known whether one is.

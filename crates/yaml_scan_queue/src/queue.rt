@@ -303,8 +303,8 @@ fn put(slot: &mut Waiting, waiting: Waiting)
         key,
         body,
     } = waiting;
-    slot.start = start;
-    slot.end = end;
+    slot.start = mark_again(&start);
+    slot.end = mark_again(&end);
     slot.ends = ends;
     slot.opens = opens;
     slot.key = key;

@@ -8,4 +8,4 @@ pub returns : goal.returns
 returns c =
     let s = stack_of c.args.self.now in
     let k : Key = record s.innermost { possible = false } in
-    cancelled_turns c.args.lexeme c.args.number s record { outer = s.outer; innermost = k; stale = s.stale } k c.requires.saved c.requires.cancels refl refl
+    cancelled_turns c.args.lexeme c.args.number s record { gone = s.gone; outer = s.outer; innermost = k; stale = s.stale } k c.requires.saved c.requires.cancels refl refl

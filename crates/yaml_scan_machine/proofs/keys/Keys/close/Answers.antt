@@ -1,15 +1,18 @@
-use Rattle.std.proofs.Common.{refl, arith}
+use Rattle.std.proofs.Common.{false, refl, arith}
 use Rattle.yaml_scan_machine.specs.Candidates.{KeyStack, stack_of}
+use Rattle.yaml_scan_machine.specs.declared.keys.Key.{Key}
 use Rattle.yaml_scan_machine.proofs.KeysLemmas.{popped_turns, bare_turns}
 use Rattle.yaml_scan_machine.proofs.keys.Keys.close.Goals as goal
 
 pub returns-in-Some : goal.returns-in-Some
 returns-in-Some c =
-    let t : KeyStack = record { outer = c.pop.new.self.items; innermost = c.in-Some.key; stale = c.least-self.result } in
-    popped_turns c.args.lexeme c.args.number (stack_of c.args.self.now) t c.in-Some.ensures.items c.least-self.ensures.first (omega (arith, c.least-self.ensures.second, c.len.ensures))
+    let s = stack_of c.args.self.now in
+    let t : KeyStack = record { gone = s.gone; outer = c.pop.new.self.items; innermost = c.in-Some.key; stale = c.least-self.result } in
+    popped_turns c.args.lexeme c.args.number s t c.in-Some.ensures.items refl c.least-self.ensures.first (omega (arith, c.least-self.ensures.second, c.len.ensures))
 
 pub returns-in-None : goal.returns-in-None
 returns-in-None c =
     let s = stack_of c.args.self.now in
-    let m : KeyStack = record { outer = c.pop.new.self.items; innermost = s.innermost; stale = s.stale } in
-    bare_turns c.args.lexeme c.args.number s m (stack_of c.cancel.new.self) (omega (arith, c.in-None.ensures.cases.0, c.args.self.now.outer.ok.0)) (omega (arith, c.in-None.ensures.cases.1, c.pop.new.self.ok.0)) refl c.cancel.ensures
+    let k : Key = record s.innermost { possible = false } in
+    let t : KeyStack = record { gone = c.saturating_sub-self.result; outer = c.pop.new.self.items; innermost = k; stale = s.stale } in
+    bare_turns c.args.lexeme c.args.number s t c.requires.saved c.requires.cancels (omega (arith, c.in-None.ensures.cases.0, c.args.self.now.outer.ok.0)) (omega (arith, c.in-None.ensures.cases.1, c.pop.new.self.ok.0)) c.saturating_sub-self.ensures refl refl

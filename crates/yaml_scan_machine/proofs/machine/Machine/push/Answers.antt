@@ -1,4 +1,4 @@
-use Rattle.std.proofs.Common.{true, false, ◌≡◌, ◌≤◌, ℕ, Bool, List, ◌∷◌, [], ◌++◌, sym, ap, subst, ◌∙◌, refl, arith, ◌+◌, ◌&&◌, ◌||◌, not, ltb, eqb, length, length-append}
+use Rattle.std.proofs.Common.{true, false, ◌≡◌, ◌≤◌, ◌<◌, ℕ, Bool, List, ◌∷◌, [], ◌++◌, sym, ap, subst, ◌∙◌, refl, arith, ◌+◌, ◌^◌, ◌&&◌, ◌||◌, not, ltb, eqb, length, length-append}
 use Rattle.std.specs.Prelude.{map}
 use Rattle.yaml_scan_model.specs.Tokens.{body_of}
 use Rattle.yaml_scan_history.specs.Kinds.{is_start, allows_key}
@@ -11,7 +11,7 @@ use Rattle.yaml_scan_machine.specs.State.{IsMachine, GoesOn, AreInside, IsNarrow
 use Rattle.yaml_scan_history.specs.declared.lexeme.Lexeme.{Lexeme}
 use Rattle.yaml_scan_history.specs.History.{inside, left_by, entry_of, reached}
 use Rattle.yaml_scan_laws_order.proofs.HistoryForward.{goes_forward}
-use Rattle.yaml_scan_machine.specs.Candidates.{stack_of, AreKeys}
+use Rattle.yaml_scan_machine.specs.Candidates.{KeyStack, stack_of, AreKeys}
 use Rattle.yaml_scan_machine.specs.Shows.{Fields, fields_of, history_of, kept_in, stream_of}
 use Rattle.yaml_scan_machine.specs.Reads.{opens_for}
 use Rattle.yaml_scan_machine.proofs.SafeLemmas.{inside_push, depth_after-le, narrow_by}
@@ -74,11 +74,24 @@ settle-self-requires c =
       omega (arith, number, c.requires.stands.shown.count, ap (λ (y : List Lexeme). length y) more),
     )
 
-pub put-requires : goal.put-requires
-put-requires c =
+pub put-requires-clause-one : goal.put-requires-clause-one
+put-requires-clause-one c =
     let m = c.args.self.now in
     let (e, spoken, key) = ok_read m c.args.read _ c.requires.next.exact in
     saved_keeps (text_bytes m.text) (history_of m) c.args.read.lexeme e
+
+pub put-requires-clause-inside : goal.put-requires-clause-inside
+put-requires-clause-inside c =
+    let m = c.args.self.now in
+    let keyed : stack_of c.mark_key.new.self.keys ≡ stack_of m.keys = ap (λ (x : Machine). stack_of x.keys) c.mark_key.ensures.same ∙ ap (λ (x : Machine). stack_of x.keys) c.in_ok-opens.ensures.same ∙ ap (λ (x : Machine). stack_of x.keys) c.close_levels-ends.ensures.same in
+    subst (λ (k : KeyStack). k.stale ≤ length k.outer) (sym keyed) c.requires.stands.shown.keys.inside
+
+pub put-requires-clause-room : goal.put-requires-clause-room
+put-requires-clause-room c =
+    let m = c.args.self.now in
+    let i = c.requires.stands in
+    let keyed : stack_of c.mark_key.new.self.keys ≡ stack_of m.keys = ap (λ (x : Machine). stack_of x.keys) c.mark_key.ensures.same ∙ ap (λ (x : Machine). stack_of x.keys) c.in_ok-opens.ensures.same ∙ ap (λ (x : Machine). stack_of x.keys) c.close_levels-ends.ensures.same in
+    subst (λ (k : KeyStack). k.gone + length k.outer < 2 ^ 64) (sym keyed) (omega (arith, i.shown.keys.long, i.shown.depth, i.depth, i.few, i.long))
 
 pub returns-clause-ok : goal.returns-clause-ok
 returns-clause-ok c =

@@ -44,14 +44,14 @@ pub keep_most : (x : Encoding) (n : ℕ) (b : Bool) → AtMost x n (keep b)
 keep_most x n b m rest h c = let i : size x (rest (record { column = c.column; white = c.white; bare = c.bare; kept = b })) ≤ m = h _ in omega arith
 
 -- a letter, and what follows it
-put_most : (x : Encoding) (i n m : ℕ) (t : List Item) → length (char_bytes x i) ≤ n → size x t ≤ m → size x (letter i ∷ t) ≤ n + m
+pub put_most : (x : Encoding) (i n m : ℕ) (t : List Item) → length (char_bytes x i) ≤ n → size x t ≤ m → size x (letter i ∷ t) ≤ n + m
 unfolding encode
 put_most x i n m t w h = omega (arith, length-append (char_bytes x i) (encode x t))
 
 pub char_most : (x : Encoding) (i n : ℕ) → length (char_bytes x i) ≤ n → AtMost x n (char i)
 char_most x i n w m rest h c = put_most x i n m (rest _) w (h _)
 
-break_most : (x : Encoding) (i n : ℕ) → length (char_bytes x i) ≤ n → AtMost x n (break i)
+pub break_most : (x : Encoding) (i n : ℕ) → length (char_bytes x i) ≤ n → AtMost x n (break i)
 break_most x i n w m rest h c = put_most x i n m (rest _) w (h _)
 
 pub letters_most : (x : Encoding) (t : List ℕ) → AtMost x (text_bytes x t) (letters t)

@@ -8,3 +8,4 @@ mod Values
 pub mod Counting
 pub mod Escapes
 pub mod Sizes
+pub mod Laid

@@ -1,4 +1,4 @@
--- Canonical text has no more bytes than its nodes, lines and texts tell.
+-- Canonical text has no more bytes than its nodes, lines and texts tell; what of it pretty text has too.
 use Rattle.std.proofs.Common.{◌≡◌, ℕ, ◌+◌, ◌-◌, ◌*◌, ◌≤◌, Bool, true, false, not, ◌&&◌, ◌==◌, nat_lt, List, [], ◌∷◌, length, Option, Some, None, pos, refl, sym, subst, ap, codes, arith, inl, inr, le_refl, mul-le-mul_left, sub-le}
 use Rattle.std.proofs.lemmas.Bool.{cases_Bool, eqb-true}
 use Rattle.std.specs.Ordering.{int_eq}
@@ -17,8 +17,7 @@ use Rattle.yaml_emit_layout.specs.declared.level.Spot.{Spot}
 use Rattle.yaml_emit_layout.specs.Content.{Scalar, Node, alias_node, scalar_node, sequence_node, mapping_node, Nodes, no_nodes, node, Pairs, no_pairs, pair, Opening, Document}
 use Rattle.yaml_emit_layout.specs.Grammar.{has, scalar_tag, start_tag}
 use Rattle.yaml_emit_layout.specs.Nodes.{Context, context_of, root_spot, spot, is_simple_part, deeper, checked, line_at, anchor_text, tag_text, properties_text, mark_text, style_of, page_at, scalar_layout, alias_layout, comma, turned, before_item, question, before_key, before_value, closer, key_part, is_simple, node_layout, items_layout, pairs_layout, dots, version_word, version_text, directive_text, directives_text, is_directed, dashes, is_marked, start_layout, end_layout, is_kept, stop_layout, documents_layout, stream_layout}
-use Rattle.yaml_emit_laws_columns.specs.Sizes.{unit, ascii, text_bytes, anchor_bytes, tag_bytes, properties_bytes, most_of_char, most_of_value, most_of_line, most_of_node, most_of_items, most_of_pairs, directives_bytes, most_of_documents, most_bytes}
-use Rattle.yaml_emit_laws_columns.specs.Laws.{SizesAreByContent}
+use Rattle.yaml_emit_laws_columns.specs.Sizes.{unit, ascii, text_bytes, anchor_bytes, tag_bytes, properties_bytes, most_of_quoted, most_of_char, most_of_value, most_of_line, most_of_node, most_of_items, most_of_pairs, directives_bytes, most_of_documents, most_bytes}
 use Rattle.yaml_emit_laws_columns.proofs.Counting.{size, AtMost, joined, widened, stay_most, when_most, choose_most, keep_most, char_most, letters_most, ascii_most, blanks_most, gap_most, word_most, ascii_word_most, opener_most, new_line_most, line_most, mark_most, checked_most}
 
 abbrev form : Settings → Settings
@@ -28,7 +27,7 @@ abbrev at_form : Settings → List TagDirective → Context
 at_form s ds = context_of (form s) ds
 
 -- layouts under settings
-abbrev Takes : Settings → ℕ → Layout → Type 0
+abbrev pub Takes : Settings → ℕ → Layout → Type 0
 Takes s n a = AtMost s.encoding n a
 
 line_at_most : (s : Settings) (n : ℕ) → Takes s (ascii s (n + 2)) (line_at s n)
@@ -56,7 +55,7 @@ tag_most s ds (Some t) =
     widened s.encoding (unit s.encoding + text_bytes s.encoding (tag_spelling ds t)) (ascii s 1 + text_bytes s.encoding (tag_spelling ds t)) (word (tag_spelling ds t))
     (word_most s.encoding (tag_spelling ds t)) (omega arith)
 
-properties_most : (s : Settings) (ds : List TagDirective) (anchor tag : Option (List ℕ)) → Takes s (properties_bytes (at_form s ds) anchor tag) (properties_text (at_form s ds) anchor tag)
+pub properties_most : (s : Settings) (ds : List TagDirective) (anchor tag : Option (List ℕ)) → Takes s (properties_bytes (at_form s ds) anchor tag) (properties_text (at_form s ds) anchor tag)
 properties_most s ds anchor tag =
     joined s.encoding (anchor_bytes s anchor) (tag_bytes (at_form s ds) tag) (properties_bytes (at_form s ds) anchor tag) (anchor_text anchor) (tag_text (at_form s ds) tag)
     (anchor_most s anchor) (tag_most s ds tag) (le_refl _)
@@ -67,7 +66,7 @@ star_most s name =
     joined s.encoding u (u + text_bytes s.encoding name) (ascii s 2 + text_bytes s.encoding name) gap (letters (42 ∷ name)) (gap_most s.encoding) (led_most s 42 name refl)
     (omega arith)
 
-alias_most : (s : Settings) (at : Spot) (name : List ℕ) → Takes s (ascii s 3 + text_bytes s.encoding name) (alias_layout at name)
+pub alias_most : (s : Settings) (at : Spot) (name : List ℕ) → Takes s (ascii s 3 + text_bytes s.encoding name) (alias_layout at name)
 unfolding alias_layout
 alias_most s at name =
     joined s.encoding (ascii s 2 + text_bytes s.encoding name) (unit s.encoding) (ascii s 3 + text_bytes s.encoding name) (word (42 ∷ name)) (when (is_simple_part at.part) (char 32))
@@ -105,7 +104,7 @@ never_folds : (a b c : Bool) → b ≡ false → (a && (b && c)) ≡ false
 never_folds true b c e = rw e refl
 never_folds false b c e = refl
 
-other_most : (s : Settings) (at : Spot) (before i : ℕ) (rest : List ℕ) → (i == 32) ≡ false → Takes s (most_of_char s (deeper s at.around) i) (quoted_char (page_at s at) before i rest)
+other_most : (s : Settings) (at : Spot) (before i : ℕ) (rest : List ℕ) → (i == 32) ≡ false → Takes s (most_of_quoted s (deeper s at.around) i) (quoted_char (page_at s at) before i rest)
 unfolding quoted_char
 other_most s at before i rest e =
     rw (never_folds (not (is_simple_part at.part)) (i == 32) (not (before == 32) && not (is_empty rest)) e) (rw e
@@ -114,29 +113,32 @@ other_most s at before i rest e =
       | inr w ↦ rw w (char_most s.encoding i (length (char_bytes s.encoding i)) (le_refl _))
     ]))
 
-quoted_char_most : (s : Settings) (at : Spot) (before i : ℕ) (rest : List ℕ) → Takes s (most_of_char s (deeper s at.around) i) (quoted_char (page_at s at) before i rest)
+quoted_char_most : (s : Settings) (at : Spot) (before i : ℕ) (rest : List ℕ) → Takes s (most_of_quoted s (deeper s at.around) i) (quoted_char (page_at s at) before i rest)
 quoted_char_most s at before i rest =
     elim (cases_Bool (i == 32)) [
       | inl e ↦ rw e (subst (λ k. Takes s (ascii s (deeper s at.around + 3)) (quoted_char (page_at s at) before k rest)) (sym (eqb-true i 32 e)) (space_most s at before rest))
       | inr e ↦ other_most s at before i rest e
     ]
 
-body_most : (s : Settings) (at : Spot) (before : ℕ) (value : List ℕ) → Takes s (most_of_value s (deeper s at.around) value) (quoted_body (page_at s at) before value)
+-- under settings by which a character counts no less
+body_most : (s z : Settings) (at : Spot) (before : ℕ) (value : List ℕ) → ((c : ℕ) → most_of_quoted s (deeper s at.around) c ≤ most_of_char z (deeper s at.around) c)
+    → Takes s (most_of_value z (deeper s at.around) value) (quoted_body (page_at s at) before value)
 unfolding quoted_body most_of_value
-body_most s at before [] = stay_most s.encoding 0
-body_most s at before (i ∷ is) =
+body_most s z at before [] f = stay_most s.encoding 0
+body_most s z at before (i ∷ is) f =
     let n = deeper s at.around in
-    joined s.encoding (most_of_char s n i) (most_of_value s n is) (most_of_char s n i + most_of_value s n is) (quoted_char (page_at s at) before i is) (quoted_body (page_at s at) i is)
-    (quoted_char_most s at before i is) (body_most s at i is) (le_refl _)
+    joined s.encoding (most_of_quoted s n i) (most_of_value z n is) (most_of_char z n i + most_of_value z n is) (quoted_char (page_at s at) before i is) (quoted_body (page_at s at) i is)
+    (quoted_char_most s at before i is) (body_most s z at i is f) (omega (arith, f i))
 
-quoted_most : (s : Settings) (at : Spot) (value : List ℕ) → Takes s (ascii s 3 + most_of_value s (deeper s at.around) value) (double_quoted (page_at s at) value)
-quoted_most s at value =
+pub quoted_most : (s z : Settings) (at : Spot) (value : List ℕ) → ((c : ℕ) → most_of_quoted s (deeper s at.around) c ≤ most_of_char z (deeper s at.around) c)
+    → Takes s (ascii s 3 + most_of_value z (deeper s at.around) value) (double_quoted (page_at s at) value)
+quoted_most s z at value f =
     let x = s.encoding in
     let u = unit x in
-    let k = most_of_value s (deeper s at.around) value in
+    let k = most_of_value z (deeper s at.around) value in
     let body = quoted_body (page_at s at) 32 value in
     joined x u (u + (k + u)) (ascii s 3 + k) gap (char 34 ▹ (body ▹ char 34)) (gap_most x)
-    (joined x u (k + u) (u + (k + u)) (char 34) (body ▹ char 34) (ascii_most x 34 refl) (joined x k u (k + u) body (char 34) (body_most s at 32 value) (ascii_most x 34 refl) (le_refl _)) (le_refl _))
+    (joined x u (k + u) (u + (k + u)) (char 34) (body ▹ char 34) (ascii_most x 34 refl) (joined x k u (k + u) body (char 34) (body_most s z at 32 value f) (ascii_most x 34 refl) (le_refl _)) (le_refl _))
     (omega arith)
 
 scalar_most : (s : Settings) (ds : List TagDirective) (at : Spot) (x : Scalar) → Takes s (most_of_node (at_form s ds) (deeper s at.around) (scalar_node x)) (scalar_layout (at_form s ds) at x)
@@ -151,7 +153,7 @@ scalar_most s ds at x =
     joined s.encoding props (ascii s 5 + k) (props + ascii s 5 + k) (properties_text p x.anchor (scalar_tag true x)) (mark ▹ (checked n ▹ text)) (properties_most s ds x.anchor (scalar_tag true x))
     (joined s.encoding (ascii s 2) (ascii s 3 + k) (ascii s 5 + k) mark (checked n ▹ text)
     (when_most s.encoding (ascii s 2) (not (has (scalar_tag true x)) && (not x.quoted && true)) (word (33 ∷ [])) (ascii_word_most s.encoding (33 ∷ []) (ascii s 2) refl (omega arith)))
-    (joined s.encoding 0 (ascii s 3 + k) (ascii s 3 + k) (checked n) text (checked_most s.encoding 0 n) (quoted_most (form s) at (chars x.value)) (omega arith))
+    (joined s.encoding 0 (ascii s 3 + k) (ascii s 3 + k) (checked n) text (checked_most s.encoding 0 n) (quoted_most (form s) (form s) at (chars x.value) (λ c. le_refl _)) (omega arith))
     (omega arith))
     (omega arith)
 
@@ -298,7 +300,7 @@ dashes_most s =
     (ascii_word_most s.encoding (45 ∷ 45 ∷ 45 ∷ []) (ascii s 4) refl (omega arith)) (when_most s.encoding (ascii s 2) s.canonical (line_at s 0) (line_at_most s 0)) (omega arith))
     (omega arith)
 
-start_most : (s : Settings) (first unended : Bool) (o : Opening) → Takes s (ascii s 26 + directives_bytes s o.directives) (start_layout s first unended o)
+pub start_most : (s : Settings) (first unended : Bool) (o : Opening) → Takes s (ascii s 26 + directives_bytes s o.directives) (start_layout s first unended o)
 unfolding start_layout
 start_most s first unended o =
     let x = s.encoding in
@@ -314,12 +316,12 @@ start_most s first unended o =
     (omega arith))
     (omega arith)
 
-end_most : (s : Settings) (implicit : Bool) → Takes s (ascii s 8) (end_layout s implicit)
+pub end_most : (s : Settings) (implicit : Bool) → Takes s (ascii s 8) (end_layout s implicit)
 unfolding end_layout
 end_most s implicit =
     joined s.encoding (ascii s 2) (ascii s 6) (ascii s 8) (line_at s 0) (when (not implicit) (dots s)) (line_at_most s 0) (when_most s.encoding (ascii s 6) (not implicit) (dots s) (dots_most s)) (omega arith)
 
-stop_most : (s : Settings) (unended : Bool) → Takes s (ascii s 6) (stop_layout s unended)
+pub stop_most : (s : Settings) (unended : Bool) → Takes s (ascii s 6) (stop_layout s unended)
 unfolding stop_layout
 stop_most s unended =
     when_most s.encoding (ascii s 6) unended (choose is_kept (dots s) stay) (choose_most s.encoding (ascii s 6) is_kept (dots s) stay (dots_most s) (stay_most s.encoding (ascii s 6)))
@@ -357,5 +359,5 @@ form_size s ds =
 form_is : (s : Settings) → s.canonical ≡ true → form s ≡ s
 form_is s e = ap (λ (c : Bool). record s { canonical = c }) (sym e)
 
-pub by_content : SizesAreByContent
-by_content s e ds = subst (λ (z : Settings). size z.encoding (written (stream_layout z ds)) ≤ most_bytes z ds) (form_is s e) (form_size s ds)
+pub canonical_size : (s : Settings) → s.canonical ≡ true → (ds : List Document) → size s.encoding (written (stream_layout s ds)) ≤ most_bytes s ds
+canonical_size s e ds = subst (λ (z : Settings). size z.encoding (written (stream_layout z ds)) ≤ most_bytes z ds) (form_is s e) (form_size s ds)

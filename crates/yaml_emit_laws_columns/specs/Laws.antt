@@ -13,7 +13,7 @@ use Rattle.yaml_emit_layout.specs.Nodes.{Context, spot, is_flow, are_none, prope
 use Rattle.yaml_emit_layout.specs.ToCome.{Frame, frames, layout}
 use Rattle.yaml_emit_laws_columns.specs.Depths.{IsTooDeep}
 use Rattle.yaml_emit_laws_columns.specs.Forgetting.{are_block, Forgets}
-use Rattle.yaml_emit_laws_columns.specs.Sizes.{ascii, most_of_char, most_of_escape, most_bytes}
+use Rattle.yaml_emit_laws_columns.specs.Sizes.{ascii, most_of_quoted, most_of_escape, most_bytes}
 
 -- In canonical form, whatever the other settings, the layout of these documents marks an indentation
 -- of too many columns exactly where one of their nodes that are no alias stands too deep.
@@ -27,15 +27,15 @@ EventsTellColumns = (x y : yaml_encoding_t) (ds es : List Document)
     → stream_events x ds ≡ stream_events y es → (indent : ℕ)
     → IsTooDeep indent ds ↔ IsTooDeep indent es
 
--- In canonical form the text of these documents has at most as many bytes as its nodes, lines and texts tell.
+-- In either form the text of these documents has at most as many bytes as its nodes, lines and texts tell.
 abbrev pub SizesAreByContent : Type 0
-SizesAreByContent = (s : Settings) → s.canonical ≡ true → (ds : List Document)
+SizesAreByContent = (s : Settings) (ds : List Document)
     → length (encode s.encoding (written (stream_layout s ds))) ≤ most_bytes s ds
 
--- Of a value a character but a space takes at most 4, 6 or 10 of ASCII, by its number.
+-- In double quotes a character but a space takes at most 4, 6 or 10 of ASCII, by its number.
 abbrev pub EscapesAreShort : Type 0
 EscapesAreShort = (s : Settings) (n c : ℕ) → c < 0x1_0000_0000 → (c == 32) ≡ false
-    → most_of_char s n c ≤ ascii s (most_of_escape c)
+    → most_of_quoted s n c ≤ ascii s (most_of_escape c)
 
 -- Within block collections, where an item, a key or an end is next, what is still to come of a stream is laid out without a look at
 -- the column or at what stands in the line: the collections with their indentations, the directives, and whether breaks are kept

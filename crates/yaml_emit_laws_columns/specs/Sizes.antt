@@ -1,5 +1,5 @@
--- How many bytes canonical text has at most, by what it says.
-use Rattle.std.specs.Prelude.{ℕ, ◌+◌, ◌*◌, true, ◌==◌, nat_lt, if◌then◌else◌, List, [], ◌∷◌, length, Option, Some, None}
+-- How many bytes a text has at most, in canonical and in pretty form, by what it says.
+use Rattle.std.specs.Prelude.{ℕ, ◌+◌, ◌*◌, true, ◌==◌, nat_lt, nat_le, if◌then◌else◌, List, [], ◌∷◌, length, Option, Some, None}
 use Rattle.std.specs.Str.{chars}
 use Rattle.yaml_emit_layout.specs.parse.Events.{TagDirective}
 use Rattle.yaml_emit_layout.specs.emit_text.declared.Settings.{Settings}
@@ -43,13 +43,22 @@ tag_bytes p (Some tag) = ascii p.settings 1
 abbrev pub properties_bytes : Context → Option (List ℕ) → Option (List ℕ) → ℕ
 properties_bytes p anchor tag = anchor_bytes p.settings anchor + tag_bytes p tag
 
--- A character of a value whose lines are indented by n: at a space the line may be folded, with a break of two characters, the
--- indentation and a backslash; another character is written as it is, or escaped.
-abbrev pub most_of_char : Settings → ℕ → ℕ → ℕ
-most_of_char s n c =
+-- A character of a value in double quotes whose lines are indented by n: at a space the line may be folded, with a break of two
+-- characters, the indentation and a backslash; another character is written as it is, or escaped.
+abbrev pub most_of_quoted : Settings → ℕ → ℕ → ℕ
+most_of_quoted s n c =
     if c == 32 then ascii s (n + 3)
     else if needs_escape s.unicode c then text_bytes s.encoding (escape_text c)
     else length (char_bytes s.encoding c)
+
+abbrev pub larger : ℕ → ℕ → ℕ
+larger a b = if nat_le a b then b else a
+
+-- In canonical form each value is in double quotes; in pretty form a character is in these, or takes a line at most, as where a break
+-- of the value or a fold stands.
+abbrev pub most_of_char : Settings → ℕ → ℕ → ℕ
+most_of_char s n c = if s.canonical then most_of_quoted s n c
+    else larger (most_of_quoted s n c) (ascii s (n + 10))
 
 -- how long an escape is at most: `\x`, `\u` or `\U` with its digits
 abbrev pub most_of_escape : ℕ → ℕ
@@ -65,7 +74,8 @@ abbrev pub most_of_line : Settings → ℕ → ℕ
 most_of_line s n = ascii s (n + 5)
 
 -- A node whose lines are indented by n: the properties, and a name behind a space and `*`; a value in quotes, a space before it,
--- and `!` behind one; or a bracket behind a space, and a line for each item, key and value, and for the closing bracket.
+-- and `!` behind one; or a bracket behind a space, and a line for each item, key and value, and for the closing bracket. In pretty
+-- form some of this isn't written.
 unfoldable mutual
   pub most_of_node : Context → ℕ → Node → ℕ
   most_of_node p n (alias_node name) = ascii p.settings 3 + text_bytes p.settings.encoding name

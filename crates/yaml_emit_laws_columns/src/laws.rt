@@ -28,12 +28,12 @@ pub fn values_stand_by_keys()
     ensures { ValuesStandByKeys }
 {}
 
-/// In canonical form a text has at most as many bytes as its nodes, lines and texts tell.
+/// In either form a text has at most as many bytes as its nodes, lines and texts tell.
 pub fn sizes_are_by_content()
     ensures { SizesAreByContent }
 {}
 
-/// A character of a value, spaces aside, takes at most 4, 6 or 10 characters of ASCII.
+/// A character in double quotes, spaces aside, takes at most 4, 6 or 10 characters of ASCII.
 pub fn escapes_are_short()
     ensures { EscapesAreShort }
 {}

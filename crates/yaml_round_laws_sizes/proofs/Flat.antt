@@ -1,13 +1,13 @@
 -- What canonical text takes at most, where every line is indented alike: as much as the deepest one.
-use Rattle.std.proofs.Common.{ℕ, suc, ◌+◌, ◌*◌, ◌≤◌, true, ◌==◌, List, [], ◌∷◌, arith, inl, inr, le_refl, mul-le-mul_left, suc-mul}
-use Rattle.std.proofs.lemmas.Bool.{cases_Bool}
+use Rattle.std.proofs.Common.{ℕ, suc, ◌+◌, ◌*◌, ◌≤◌, true, List, [], ◌∷◌, arith, inl, inr, le_refl, suc-mul}
 use Rattle.std.specs.Str.{chars}
 use Rattle.yaml_emit_laws_columns.specs.emit_layout.emit_text.declared.Settings.{Settings}
 use Rattle.yaml_emit_laws_columns.specs.emit_layout.Content.{Node, alias_node, scalar_node, sequence_node, mapping_node, Nodes, no_nodes, node, Pairs, no_pairs, pair, Document}
 use Rattle.yaml_emit_laws_columns.specs.emit_layout.Grammar.{scalar_tag, start_tag}
 use Rattle.yaml_emit_laws_columns.specs.emit_layout.Nodes.{Context, context_of}
 use Rattle.yaml_emit_laws_columns.specs.Depths.{StandsAt, ItemStandsAt, PartStandsAt, RootStandsAt}
-use Rattle.yaml_emit_laws_columns.specs.Sizes.{unit, ascii, text_bytes, properties_bytes, most_of_char, most_of_value, most_of_line, most_of_node, most_of_items, most_of_pairs, directives_bytes, most_of_documents}
+use Rattle.yaml_emit_laws_columns.proofs.Laid.{value_grows, line_grows}
+use Rattle.yaml_emit_laws_columns.specs.Sizes.{ascii, text_bytes, properties_bytes, most_of_value, most_of_line, most_of_node, most_of_items, most_of_pairs, directives_bytes, most_of_documents}
 
 abbrev mutual
   pub flat_node : Context → ℕ → Node → ℕ
@@ -29,24 +29,6 @@ flat_documents s i [] = 0
 flat_documents s i (d ∷ ds) = ascii s 34 + directives_bytes s d.opening.directives + flat_node (context_of s d.opening.directives) i d.root + flat_documents s i ds
 
 -- ---- no line is indented more
-
-ascii_grows : (s : Settings) (n m : ℕ) → n ≤ m → ascii s n ≤ ascii s m
-ascii_grows s n m w = mul-le-mul_left (unit s.encoding) w
-
-char_grows : (s : Settings) (n m c : ℕ) → n ≤ m → most_of_char s n c ≤ most_of_char s m c
-char_grows s n m c w =
-    elim (cases_Bool (c == 32)) [
-      | inl e ↦ rw e (ascii_grows s (n + 3) (m + 3) (omega (arith, w)))
-      | inr e ↦ rw e (le_refl _)
-    ]
-
-value_grows : (s : Settings) (n m : ℕ) (v : List ℕ) → n ≤ m → most_of_value s n v ≤ most_of_value s m v
-unfolding most_of_value
-value_grows s n m [] w = le_refl _
-value_grows s n m (c ∷ cs) w = omega (arith, char_grows s n m c w, value_grows s n m cs w)
-
-line_grows : (s : Settings) (n m : ℕ) → n ≤ m → most_of_line s n ≤ most_of_line s m
-line_grows s n m w = ascii_grows s (n + 5) (m + 5) (omega (arith, w))
 
 -- a step further in
 inward : (n step i d : ℕ) → n + suc d * step ≤ i → (n + step) + d * step ≤ i

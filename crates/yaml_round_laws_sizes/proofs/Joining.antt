@@ -13,8 +13,11 @@ use Rattle.yaml_round_content.specs.scan_history.Remaining.{SpelledText, offline
 use Rattle.yaml_round_content.specs.scan_history.Scanned.{scanned_in}
 use Rattle.yaml_round_content.specs.emit_text.declared.Settings.{Settings}
 use Rattle.yaml_round_content.specs.emit_text.Settings.{settled, settled_indent}
-use Rattle.yaml_round_content.specs.emit_text.Text.{is_deep}
-use Rattle.yaml_round_content.specs.emit_layout.Nodes.{MOST}
+use Rattle.yaml_round_content.specs.emit_text.Text.{encode, is_deep}
+use Rattle.yaml_round_content.specs.emit_text.Layout.{written}
+use Rattle.yaml_round_content.specs.Input.{events_of}
+use Rattle.yaml_round_content.proofs.Joining.{read_said}
+use Rattle.yaml_round_content.specs.emit_layout.Nodes.{MOST, stream_layout}
 use Rattle.yaml_round_content.specs.parse_grammar.Trees.{Stream, spell}
 use Rattle.yaml_round_content.specs.Said.{Document}
 use Rattle.yaml_round_content.specs.Reading.{HaveContent}
@@ -25,8 +28,8 @@ use Rattle.yaml_scan_laws_texts.proofs.TokensUtf8.{remaining_sound}
 use Rattle.yaml_emit_laws_columns.specs.Depths.{RootStandsAt}
 use Rattle.yaml_emit_laws_columns.specs.Sizes.{unit, ascii, most_of_documents, most_bytes}
 use Rattle.yaml_emit_laws_columns.proofs.Depths.{by_depth}
-use Rattle.yaml_emit_laws_columns.proofs.Sizes.{by_content}
-use Rattle.yaml_round_laws_sizes.specs.Laws.{text_times, most_of_read, DepthsTakeBytes, DeepInputsAreLong, ShortInputsKeepColumns, CanonicalTextsAreBounded, ContentsAreBounded, CanonicalTextsAreShort}
+use Rattle.yaml_emit_laws_columns.proofs.Laid.{by_content}
+use Rattle.yaml_round_laws_sizes.specs.Laws.{text_times, most_of_read, DepthsTakeBytes, DeepInputsAreLong, ShortInputsKeepColumns, CanonicalTextsAreBounded, ContentsAreBounded, CanonicalTextsAreShort, LayoutsAreShort}
 use Rattle.yaml_round_laws_sizes.proofs.Leads.{Few, few_decoded, leads_few}
 use Rattle.yaml_round_laws_sizes.proofs.Tokens.{count, count_append, tokens_few, cut_most}
 use Rattle.yaml_round_laws_sizes.proofs.Trees.{tree_deep}
@@ -36,6 +39,7 @@ use Rattle.yaml_round_laws_sizes.proofs.Costs.{broad, cost, lends, tree_cost}
 use Rattle.yaml_round_laws_sizes.proofs.Prices.{by_length, tokens_cost, tokens_mark}
 use Rattle.yaml_round_laws_sizes.proofs.Lengths.{tags, lengths, cut_costs, cut_lends, all_marked}
 use Rattle.yaml_round_laws_sizes.proofs.Bounds.{squares, all_in_all, most_columns, columns_fit}
+use Rattle.yaml_round_laws_sizes.proofs.Tally.{tallies_agree}
 use Rattle.yaml_round_laws_sizes.proofs.Decoded.{IsTextAny, input_text}
 
 nothing_said : {A : Type 0} (t : Stream) (rest : List Token) → [] ≡ spell t [] ++ rest → A
@@ -82,7 +86,7 @@ short_keeps from input c k short w canonical two =
     ]
 
 pub bounded : CanonicalTextsAreBounded
-bounded w canonical c = by_content (settled w YAML_ANY_ENCODING) canonical (written_documents c)
+bounded w canonical c = by_content (settled w YAML_ANY_ENCODING) (written_documents c)
 
 -- ---- by the input's length
 
@@ -91,7 +95,7 @@ front_weighs w ts xs ys e = rw e (omega (arith, weigh_append w xs ys))
 
 -- of a text in UTF-8
 text_bounded : (s : Settings) (x : yaml_encoding_t) (cs : List ℕ) (c : List Document) → 2 ≤ s.indent → IsUtf8 (encode_utf8_all cs) → HaveContent (adapted (scanned_in x (in_utf8 (Ok cs)))).tokens c
-    → most_bytes s (written_documents c) ≤ most_of_read s (length (encode_utf8_all cs))
+    → most_bytes s (written_documents c) ≤ most_of_read s.encoding s.indent (length (encode_utf8_all cs))
 text_bounded s x cs c two utf8 k =
     let t : SpelledText = record { encoding = x; text = encode_utf8_all cs } in
     let m = length t.text in
@@ -118,14 +122,14 @@ text_bounded s x cs c two utf8 k =
     let n = all_in_all u m s.indent i g b two (most_columns m s.indent) few in
     omega (arith, a, same, e, whole (cost s i room), f, p, n)
 
-read_grows : (s : Settings) (n m : ℕ) → n ≤ m → most_of_read s n ≤ most_of_read s m
+read_grows : (s : Settings) (n m : ℕ) → n ≤ m → most_of_read s.encoding s.indent n ≤ most_of_read s.encoding s.indent m
 read_grows s n m w =
     let a : (n + 8) * (n + 8) ≤ (m + 8) * (m + 8) = squares (n + 8) (m + 8) (omega (arith, w)) in
     let b : s.indent * ((n + 8) * (n + 8)) ≤ s.indent * ((m + 8) * (m + 8)) = mul-le-mul_left s.indent a in
     mul-le-mul_left (unit s.encoding) (omega (arith, b))
 
 decoded_bounded : (s : Settings) (x : yaml_encoding_t) (r : Result (List ℕ) Offence) (k n : ℕ) (c : List Document) → 2 ≤ s.indent → IsTextAny k n r → HaveContent (adapted (scanned_in x (in_utf8 r))).tokens c
-    → most_bytes s (written_documents c) ≤ most_of_read s (k * n)
+    → most_bytes s (written_documents c) ≤ most_of_read s.encoding s.indent (k * n)
 decoded_bounded s x (Err o) k n c two t h = nothing_said h.sentence.tree h.sentence.rest h.sentence.same
 decoded_bounded s x (Ok cs) k n c two t h =
     let a = text_bounded s x cs c two t.utf8 h in
@@ -150,3 +154,12 @@ contents_bounded from input c k w =
 
 pub texts_short : CanonicalTextsAreShort
 texts_short from input c k w canonical = omega (arith, bounded w canonical c, contents_bounded from input c k w)
+
+pub layouts_short : LayoutsAreShort
+layouts_short from input c k w ends x whole h =
+    let s = settled w h.encoding in
+    let a : length (encode s.encoding (written (stream_layout s h.documents))) ≤ most_bytes s h.documents = by_content s h.documents in
+    let b = tallies_agree s ends h.encoding h.documents (events_of from input) c h.same (read_said from input c k).says in
+    let d = decoded_bounded s (encoding_of from input) (decoded_characters from input) (text_times (encoding_of from input)) (length input) c (indent_two w.indent) (input_text from input) k in
+    let e : length (encode s.encoding (written (stream_layout s h.documents))) ≤ most_of_read s.encoding s.indent (text_times (encoding_of from input) * length input) = omega (arith, a, b, d) in
+    rw h.coded (rw h.is e)

@@ -1,5 +1,5 @@
 -- What tokens cost is told by the lengths of what they carry, where that is UTF-8, and by how many tags there are.
-use Rattle.std.proofs.Common.{◌≡◌, ℕ, ◌+◌, ◌*◌, ◌<◌, ◌≤◌, Bool, true, false, ◌&&◌, ◌==◌, nat_lt, List, [], ◌∷◌, ◌++◌, length, Option, refl, subst, arith, inl, inr, IsUtf8, All, mul-le-mul_left}
+use Rattle.std.proofs.Common.{◌≡◌, ℕ, ◌+◌, ◌*◌, ◌<◌, ◌≤◌, Bool, true, false, ◌&&◌, ◌==◌, nat_lt, nat_le, List, [], ◌∷◌, ◌++◌, length, Option, refl, subst, arith, inl, inr, IsUtf8, All, le_refl, mul-le-mul_left}
 use Rattle.std.proofs.lemmas.Bool.{cases_Bool, ltb-true, lt-ltb}
 use Rattle.std.proofs.lemmas.List.Elements.{All-head, All-tail}
 use Rattle.std.proofs.lemmas.Str.{encodes-chars, scalars-chars, length-le-encodes, IsUtf8-from_is_utf8}
@@ -16,7 +16,7 @@ use Rattle.yaml_emit_laws_columns.specs.emit_layout.emit_text.declared.Settings.
 use Rattle.yaml_emit_laws_columns.specs.emit_layout.emit_text.Text.{char_bytes}
 use Rattle.yaml_emit_laws_columns.specs.emit_layout.emit_text.Hex.{hex_2}
 use Rattle.yaml_emit_laws_columns.specs.emit_layout.emit_tags.Tags.{suffix_keeps, uri_byte, uri_text}
-use Rattle.yaml_emit_laws_columns.specs.Sizes.{unit, ascii, text_bytes, most_of_char, most_of_escape, most_of_value}
+use Rattle.yaml_emit_laws_columns.specs.Sizes.{unit, ascii, larger, text_bytes, most_of_quoted, most_of_char, most_of_escape, most_of_value}
 use Rattle.yaml_emit_laws_columns.proofs.Counting.{ascii_bytes}
 use Rattle.yaml_emit_laws_columns.proofs.Escapes.{raw_most, two_small, short}
 use Rattle.yaml_round_laws_adapted.specs.Adapted.{spells_text, cut}
@@ -113,14 +113,28 @@ escape_ten c =
       ])
     ]
 
-char_most : (s : Settings) (i c : ℕ) → c < 1114112 → most_of_char s i c ≤ broad s i
-char_most s i c w =
+quoted_most : (s : Settings) (i c : ℕ) → c < 1114112 → most_of_quoted s i c ≤ broad s i
+quoted_most s i c w =
     elim (cases_Bool (c == 32)) [
       | inl e ↦ rw e (ascii_more s (i + 3) (i + 10) (omega arith))
       | inr e ↦
           let a = short s i c (omega (arith, w)) e in
           let b = ascii_more s (most_of_escape c) (i + 10) (omega (arith, escape_ten c)) in
           omega (arith, a, b)
+    ]
+
+larger_most : (a b n : ℕ) → a ≤ n → b ≤ n → larger a b ≤ n
+larger_most a b n w v =
+    elim (cases_Bool (nat_le a b)) [
+      | inl e ↦ rw e v
+      | inr e ↦ rw e w
+    ]
+
+char_most : (s : Settings) (i c : ℕ) → c < 1114112 → most_of_char s i c ≤ broad s i
+char_most s i c w =
+    elim (cases_Bool s.canonical) [
+      | inl e ↦ rw e (quoted_most s i c w)
+      | inr e ↦ rw e (larger_most (most_of_quoted s i c) (broad s i) (broad s i) (quoted_most s i c w) (le_refl _))
     ]
 
 value_most : (s : Settings) (i : ℕ) (cs : List ℕ) → scalars cs ≡ true → most_of_value s i cs ≤ broad s i * length cs

@@ -14,4 +14,5 @@ mod Prices
 mod Lengths
 mod Bounds
 mod Decoded
-mod Joining
+mod Tally
+pub mod Joining

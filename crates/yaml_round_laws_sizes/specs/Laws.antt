@@ -1,18 +1,21 @@
 -- How deep an input's nodes can stand, how long an input passes no column, and how long canonical text can be.
-use Rattle.std.specs.Prelude.{◌≡◌, ℕ, ◌+◌, ◌*◌, ◌<◌, ◌≤◌, true, false, List, length, Ok}
+use Rattle.std.specs.Prelude.{◌≡◌, ℕ, ◌+◌, ◌*◌, ◌<◌, ◌≤◌, Bool, true, false, List, length, Ok}
 use Rattle.yaml_round_content.specs.scan_model.declared.yaml_encoding_t.{yaml_encoding_t}
 use Rattle.yaml_round_content.specs.scan_model.declared.yaml_encoding_t.TheVariants.{YAML_ANY_ENCODING, YAML_UTF8_ENCODING, YAML_UTF16LE_ENCODING, YAML_UTF16BE_ENCODING}
 use Rattle.yaml_round_content.specs.scan_history.scan_decode.Encodings.{encoding_of}
+use Rattle.yaml_round_content.specs.emit_text.declared.Encoding.{Encoding}
 use Rattle.yaml_round_content.specs.emit_text.declared.RequestedSettings.{RequestedSettings}
-use Rattle.yaml_round_content.specs.emit_text.declared.Settings.{Settings}
 use Rattle.yaml_round_content.specs.emit_text.Settings.{settled, settled_indent}
-use Rattle.yaml_round_content.specs.emit_text.Text.{is_deep}
+use Rattle.yaml_round_content.specs.emit_text.Text.{Item, encode, is_deep}
 use Rattle.yaml_round_content.specs.emit_layout.Nodes.{MOST}
+use Rattle.yaml_round_content.specs.emit_layout.Streams.{IsStream}
+use Rattle.yaml_round_content.specs.Input.{events_of}
+use Rattle.yaml_round_content.specs.Events.{emitter_events}
 use Rattle.yaml_round_content.specs.Said.{Document}
-use Rattle.yaml_round_content.specs.Canon.{written_documents, canon_items, canon}
+use Rattle.yaml_round_content.specs.Canon.{written_documents, canon_encoding, canon_items, canon}
 use Rattle.yaml_round_content.specs.Reading.{PlainReading}
 use Rattle.yaml_emit_laws_columns.specs.Depths.{RootStandsAt, IsTooDeep}
-use Rattle.yaml_emit_laws_columns.specs.Sizes.{ascii, most_bytes}
+use Rattle.yaml_emit_laws_columns.specs.Sizes.{unit, most_bytes}
 
 -- A node at depth d takes one and a half bytes of its input for each level: three times the depth is at most twice the bytes, and
 -- two.
@@ -52,18 +55,28 @@ abbrev pub read_bytes : yaml_encoding_t → List ℕ → ℕ
 read_bytes from input = text_times (encoding_of from input) * length input
 
 -- Of n bytes that are read: twice the indent times (n + 8) squared characters of ASCII, in the encoding of the answer.
-abbrev pub most_of_read : Settings → ℕ → ℕ
-most_of_read s n = ascii s (2 * (s.indent * ((n + 8) * (n + 8))))
+abbrev pub most_of_read : Encoding → ℕ → ℕ → ℕ
+most_of_read x indent n = unit x * (2 * (indent * ((n + 8) * (n + 8))))
+
+abbrev pub most_of_input : RequestedSettings → Encoding → yaml_encoding_t → List ℕ → ℕ
+most_of_input w x from input = most_of_read x (settled_indent w.indent) (read_bytes from input)
 
 -- The nodes, lines and texts of what an input says tell no more than that.
 abbrev pub ContentsAreBounded : Type 0
 ContentsAreBounded = (from : yaml_encoding_t) (input : List ℕ) (c : List Document)
     → PlainReading from input (Ok c) → (w : RequestedSettings)
     → most_bytes (settled w YAML_ANY_ENCODING) (written_documents c)
-    ≤ most_of_read (settled w YAML_ANY_ENCODING) (read_bytes from input)
+    ≤ most_of_input w (canon_encoding w) from input
 
 -- So its canonical text has at most so many bytes.
 abbrev pub CanonicalTextsAreShort : Type 0
 CanonicalTextsAreShort = (from : yaml_encoding_t) (input : List ℕ) (c : List Document)
     → PlainReading from input (Ok c) → (w : RequestedSettings) → w.canonical ≡ true
-    → length (canon w c) ≤ most_of_read (settled w YAML_ANY_ENCODING) (read_bytes from input)
+    → length (canon w c) ≤ most_of_input w (canon_encoding w) from input
+
+-- And so has what is laid out for its events in either form, whatever their styles are.
+abbrev pub LayoutsAreShort : Type 0
+LayoutsAreShort = (from : yaml_encoding_t) (input : List ℕ) (c : List Document)
+    → PlainReading from input (Ok c) → (w : RequestedSettings) (ends : Bool) (x : Encoding)
+    (whole : List Item) → IsStream w x (emitter_events ends (events_of from input)) whole
+    → length (encode x whole) ≤ most_of_input w x from input

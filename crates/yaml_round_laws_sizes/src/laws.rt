@@ -6,6 +6,7 @@ ghost use Rattle.yaml_round_laws_sizes.specs.Laws.{
   ContentsAreBounded,
   DeepInputsAreLong,
   DepthsTakeBytes,
+  LayoutsAreShort,
   ShortInputsKeepColumns,
 };
 
@@ -37,4 +38,9 @@ pub fn contents_are_bounded()
 /// So canonical text of what an input says has at most as many bytes, in UTF-16 twice as many.
 pub fn canonical_texts_are_short()
     ensures { CanonicalTextsAreShort }
+{}
+
+/// And so has what is laid out for its events in either form, pretty or canonical, whatever their styles are.
+pub fn layouts_are_short()
+    ensures { LayoutsAreShort }
 {}

@@ -1,4 +1,4 @@
-use Rattle.yaml_emit_laws_columns.proofs.Sizes.{by_content}
+use Rattle.yaml_emit_laws_columns.proofs.Laid.{by_content}
 use Rattle.yaml_emit_laws_columns.proofs.laws.sizes_are_by_content.Goals as goal
 
 pub returns : goal.returns

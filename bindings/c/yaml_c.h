@@ -160,7 +160,7 @@ typedef struct {
     yaml_c_bytes problem;     /* what is wrong, a constant; empty for kind 0 */
     yaml_c_bytes context;     /* what was being read, a constant; empty where none is told */
     yaml_c_bytes text;        /* the text that the call answers; empty where it is refused */
-    yaml_c_bytes line;        /* the fault in words, in one line without its end, places counted from 1; a kind of 1 may lack it */
+    yaml_c_bytes line;        /* the fault in words, in one line without its end, places counted from 1; kind 1 may lack it */
 } yaml_c_answer;
 
 /* A part of a block of bytes, or of a list of directives: `len` items from `at` on. */

@@ -77,7 +77,8 @@ class Layout(unittest.TestCase):
         # the length of a list lies behind its pointer
         lengths = {it: at for it, at in places.items() if it not in proved}
         self.assertEqual(lengths.pop(("bytes", "len")), 8)
-        self.assertEqual(lengths, {(record, field): proved[record, field.removesuffix("_len")] + 8 for record, field in lengths})
+        behind = {(record, field): proved[record, field.removesuffix("_len")] + 8 for record, field in lengths}
+        self.assertEqual(lengths, behind)
 
     def test_events_are_the_headers(self) -> None:
         with open(HEADER, encoding="utf-8") as file:

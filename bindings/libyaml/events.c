@@ -1,6 +1,13 @@
 /* Events are made and deleted, tokens deleted. */
 #include "layer.h"
 
+/* Most nodes have no anchor and no tag. */
+static void free_if(void *block)
+{
+    if (block)
+        free(block);
+}
+
 static void free_directives(yaml_tag_directive_t *start, yaml_tag_directive_t *end)
 {
     for (yaml_tag_directive_t *it = start; it != end; it++) {
@@ -20,17 +27,17 @@ YAML_DECLARE(void) yaml_event_delete(yaml_event_t *event)
         break;
     case YAML_ALIAS_EVENT: free(event->data.alias.anchor); break;
     case YAML_SCALAR_EVENT:
-        free(event->data.scalar.anchor);
-        free(event->data.scalar.tag);
+        free_if(event->data.scalar.anchor);
+        free_if(event->data.scalar.tag);
         free(event->data.scalar.value);
         break;
     case YAML_SEQUENCE_START_EVENT:
-        free(event->data.sequence_start.anchor);
-        free(event->data.sequence_start.tag);
+        free_if(event->data.sequence_start.anchor);
+        free_if(event->data.sequence_start.tag);
         break;
     case YAML_MAPPING_START_EVENT:
-        free(event->data.mapping_start.anchor);
-        free(event->data.mapping_start.tag);
+        free_if(event->data.mapping_start.anchor);
+        free_if(event->data.mapping_start.tag);
         break;
     default: break;
     }

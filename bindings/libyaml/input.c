@@ -136,7 +136,9 @@ static int ends_at_cut(const yaml_parser_t *parser, layer_reading *reading, size
 {
     if (!may_be_cut(parser, reading))
         return 0;
-    size_t cut = layer_last_cut(reading->bytes, len, from);
+    /* what goes on in flow style is looked at first as it goes on */
+    int is_going_on = reading->within == LAYER_FLOW && reading->flow_len <= LAYER_WINDOW;
+    size_t cut = is_going_on ? 0 : layer_last_cut(reading->bytes, len, from);
     if (!cut && !reading->is_uncut && reading->asked == LAYER_EVENTS) {
         if (!reading->front && !reading->bytes_before && has_utf8_mark(reading))
             reading->front = 3;

@@ -338,6 +338,7 @@ static inline yaml_mark_t mark_of(layer_reading *reading, const yaml_c_mark *mar
 static int hand_out(yaml_parser_t *parser, layer_reading *reading, const yaml_c_event *it, yaml_event_t *event)
 {
     event->type = (yaml_event_type_t)it->kind;
+    memset(&event->data, 0, sizeof event->data);
     if (!made(reading, it, event)) {
         yaml_event_delete(event);
         return layer_no_memory(parser);
@@ -351,31 +352,40 @@ static int hand_out(yaml_parser_t *parser, layer_reading *reading, const yaml_c_
     return 1;
 }
 
-/* What comes where no event is left: the fault, or in front of it the document's start that the core doesn't tell. */
-static int end_of_events(yaml_parser_t *parser, layer_reading *reading, yaml_event_t *event)
+/* The next event, where none is at hand; in front of a fault also the document's start that the core doesn't tell, which is put
+ * there. NULL: there is none, and the parser tells why. */
+static const yaml_c_event *read_on(yaml_parser_t *parser, layer_reading *reading, yaml_c_event *missed)
 {
-    if (!misses_start(reading))
-        return layer_fault(parser, reading);
-    yaml_c_event start = {.kind = YAML_C_DOCUMENT_START_EVENT, .implicit = 1};
-    start.start = start.end = reading->answer.problem_mark;
-    return hand_out(parser, reading, &start, event);
+    if (!layer_read(parser, reading))
+        return NULL;
+    if (reading->next < reading->end)
+        return &reading->events[reading->next++];
+    if (!misses_start(reading)) {
+        layer_fault(parser, reading);
+        return NULL;
+    }
+    memset(missed, 0, sizeof *missed);
+    missed->kind = YAML_C_DOCUMENT_START_EVENT;
+    missed->implicit = 1;
+    missed->start = missed->end = reading->answer.problem_mark;
+    return missed;
 }
 
 YAML_DECLARE(int) yaml_parser_parse(yaml_parser_t *parser, yaml_event_t *event)
 {
     assert(parser && event);
     layer_reading *reading = LAYER_STATE(layer_reading, parser);
-    layer_clear(event);
-    if (parser->error || parser->stream_end_produced)
+    yaml_c_event missed;
+    if (parser->error || parser->stream_end_produced) {
+        layer_clear(event);
         return 1;
+    }
     int is_there = reading->asked == LAYER_EVENTS && reading->next < reading->end;
-    if (!is_there && !layer_read(parser, reading))
-        return 0;
-    if (reading->next >= reading->end)
-        return end_of_events(parser, reading, event);
-    if (!hand_out(parser, reading, &reading->events[reading->next], event))
-        return 0;
-    reading->next++;
-    give_back(reading);
-    return 1;
+    if (is_there)
+        give_back(reading);
+    const yaml_c_event *it = is_there ? &reading->events[reading->next++] : read_on(parser, reading, &missed);
+    if (it)
+        return hand_out(parser, reading, it, event);
+    layer_clear(event);
+    return 0;
 }

@@ -53,12 +53,12 @@ cuts s a [] = ([], no_piece a)
 cuts s a (es ∷ pieces) =
     let l = there s a es in
     let k = cuts s l.0 pieces in
-    (added s a es ∷ k.0, piece a l.0 es pieces k.0 l.1 k.1)
+    (added s a es ∷ k.0, piece a l.0 es pieces k.0 l.1.0 k.1)
 
 pub shown : FrontsAreShown
 shown s es more =
     let l = there s first_stand es in
-    (added s l.0 more, l.1.texts more)
+    (added s l.0 more, l.1.0.texts more)
 
 pub stands : StandInsStand
 stands s es others a b l m k more = (added s a more, (l.texts more, m.texts more ∙ ap (λ z. whole s others ++ z) (sym (k more))))

@@ -1,5 +1,6 @@
 -- Events are let out one by one, each with its text; the others wait.
-use Rattle.std.proofs.Common.{◌≡◌, Bool, true, false, List, [], ◌∷◌, ◌++◌, refl, sym, ap, ◌∙◌, append_assoc, Option, Some, None}
+use Rattle.std.specs.Prelude.{◌≤◌}
+use Rattle.std.proofs.Common.{◌≡◌, Bool, true, false, List, [], ◌∷◌, ◌++◌, refl, sym, ap, ◌∙◌, append_assoc, Option, Some, None, length, arith, append-nil}
 use Rattle.yaml_emit_text.specs.declared.Cursor.{Cursor}
 use Rattle.yaml_emit_text.specs.declared.Settings.{Settings}
 use Rattle.yaml_emit_text.specs.Layout.{Rest, nothing_more}
@@ -14,9 +15,10 @@ use Rattle.yaml_emit_layout.specs.Progress.{problem_in, progress_after, first_re
 use Rattle.yaml_emit_layout.specs.State.{State, piece, next, next_at, problem_at, opens_empty, begins_by, is_sequence_end, is_mapping_end, top_of, outer_of, place_at, levels_behind}
 use Rattle.yaml_emit_held.specs.Held.{is_ready}
 use Rattle.yaml_emit_held.specs.Judged.{let_out, unless, laid, refused_at, shape_of, refusal_from, text_from, refusal_behind}
-use Rattle.yaml_emit_held.proofs.Holding.{ready_empty, none_needed}
+use Rattle.yaml_emit_held.proofs.Holding.{ready_empty, none_needed, few_short}
 use Rattle.yaml_emit_held.proofs.Judging.{ready_more, same_problem, shape_next, or_none, or_some, unless_none, unless_some}
-use Rattle.yaml_round_laws_pieces.specs.Pieces.{Stand, added, Leads}
+use Rattle.yaml_round_laws_pieces.specs.Pieces.{Stand, added}
+use Rattle.yaml_round_laws_pieces.specs.Laws.{StandsAreThere}
 use Rattle.yaml_round_laws_pieces.proofs.Regular.{Written}
 use Rattle.yaml_round_laws_pieces.proofs.Events.{piece_regular}
 
@@ -137,13 +139,19 @@ pub record Led (s : Settings) (st : State) (c : Cursor) (xs : List Event) : Type
   pub to : Stand
   pub texts : (more : List Event) → text_from s st (xs ++ more) c nothing_more ≡ text_from s st xs c nothing_more ++ added s to more
   pub refusals : (more : List Event) → refusal_behind s st (xs ++ more) ≡ refusal_behind s to.state (to.held ++ more)
+  pub few : length to.held ≤ 3
+  pub front : List Event
+  pub last : xs ≡ front ++ to.held
 
 -- nothing is let out by now
-waiting : (s : Settings) (st : State) (c : Cursor) (xs : List Event) → let_out xs ≡ [] → Led s st c xs
-waiting s st c xs h = record {
+waiting : (s : Settings) (st : State) (c : Cursor) (xs : List Event) → let_out xs ≡ [] → length xs ≤ 3 → Led s st c xs
+waiting s st c xs h n = record {
   to = record { state = st; cursor = c; held = xs };
   texts = λ more. sym (ap (λ z. z ++ text_from s st (xs ++ more) c nothing_more) (held_text s st xs c h));
   refusals = λ more. refl;
+  few = n;
+  front = [];
+  last = refl;
 }
 
 -- behind a refusal nothing counts
@@ -157,6 +165,9 @@ lost s st c xs x all now told = record {
   to = record { state = refused x st; cursor = c; held = [] };
   texts = λ more. all more ∙ sym (ap (λ z. z ++ []) now);
   refusals = λ more. told more;
+  few = omega arith;
+  front = xs;
+  last = sym (append-nil xs);
 }
 
 stuck : (s : Settings) (st : State) (c : Cursor) (xs : List Event) (x : Problem) → refused_at st.place ≡ Some x → Led s st c xs
@@ -187,6 +198,9 @@ goes s st c e es o r p rest =
           ∙ (ap (λ z. w.text ++ z) (l.texts more)
           ∙ (sym (append_assoc w.text (text_from s st' es d nothing_more) (added s l.to more)) ∙ sym (ap (λ z. z ++ added s l.to more) now)));
       refusals = λ more. right_judged s st e (es ++ more) b d o (ready_more e es more r) p ∙ l.refusals more;
+      few = l.few;
+      front = e ∷ l.front;
+      last = ap (λ z. e ∷ z) l.last;
     }
 
 by_problem : (s : Settings) (st : State) (c : Cursor) (e : Event) (es : List Event) (q : Option Problem) → refused_at st.place ≡ None → is_ready (e ∷ es) ≡ true → problem_at s st e ≡ q
@@ -198,7 +212,7 @@ by_problem s st c e es (Some x) o r p rest =
 by_ready : (s : Settings) (st : State) (c : Cursor) (e : Event) (es : List Event) (b : Bool) → refused_at st.place ≡ None → is_ready (e ∷ es) ≡ b
     → ((st' : State) (d : Cursor) → Led s st' d es) → Led s st c (e ∷ es)
 by_ready s st c e es true o r rest = by_problem s st c e es (problem_at s st e) o r refl rest
-by_ready s st c e es false o r rest = waiting s st c (e ∷ es) (none_out e es r)
+by_ready s st c e es false o r rest = waiting s st c (e ∷ es) (none_out e es r) (few_short (e ∷ es) r)
 
 by_place : (s : Settings) (st : State) (c : Cursor) (e : Event) (es : List Event) (q : Option Problem) → refused_at st.place ≡ q
     → ((st' : State) (d : Cursor) → Led s st' d es) → Led s st c (e ∷ es)
@@ -207,15 +221,18 @@ by_place s st c e es (Some x) o rest = stuck s st c (e ∷ es) x o
 
 pub led : (s : Settings) (xs : List Event) (st : State) (c : Cursor) → Led s st c xs
 unfolding let_out
-led s [] st c = waiting s st c [] refl
+led s [] st c = waiting s st c [] refl (omega arith)
 led s (e ∷ es) st c = by_place s st c e es (refused_at st.place) refl (λ st' d. led s es st' d)
 
-pub there : (s : Settings) (a : Stand) (es : List Event) → (b : Stand) × Leads s a es b
+pub there : StandsAreThere
 there s a es =
     let l : Led s a.state a.cursor (a.held ++ es) = led s (a.held ++ es) a.state a.cursor in (
       l.to,
-      record {
-        texts = λ more. ap (λ z. text_from s a.state z a.cursor nothing_more) (sym (append_assoc a.held es more)) ∙ l.texts more;
-        refusals = λ more. ap (refusal_behind s a.state) (sym (append_assoc a.held es more)) ∙ l.refusals more;
-      },
+      (
+        record {
+          texts = λ more. ap (λ z. text_from s a.state z a.cursor nothing_more) (sym (append_assoc a.held es more)) ∙ l.texts more;
+          refusals = λ more. ap (refusal_behind s a.state) (sym (append_assoc a.held es more)) ∙ l.refusals more;
+        },
+        record { few = l.few; front = l.front; last = l.last },
+      ),
     )

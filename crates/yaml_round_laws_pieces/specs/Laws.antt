@@ -13,11 +13,12 @@ use Rattle.yaml_emit_layout.specs.parse.Events.{TagDirective}
 use Rattle.yaml_emit_layout.specs.Content.{Event}
 use Rattle.yaml_emit_layout.specs.State.{placed, among}
 use Rattle.yaml_emit_held.specs.Judged.{let_out, laid}
-use Rattle.yaml_round_laws_pieces.specs.Pieces.{Stand, first_stand, whole, Leads, joined, Cuts, Alike}
+use Rattle.yaml_round_laws_pieces.specs.Pieces.{Stand, first_stand, whole, Leads, Waits, joined, Cuts, Alike}
 
--- From each stand each list of events leads to one.
+-- From each stand each list of events leads to one, where at most three of them wait.
 abbrev pub StandsAreThere : Type 0
-StandsAreThere = (s : Settings) (a : Stand) (es : List Event) → (b : Stand) × Leads s a es b
+StandsAreThere = (s : Settings) (a : Stand) (es : List Event) → (b : Stand)
+    × (Leads s a es b × Waits a es b)
 
 -- However a list is cut, the texts of its pieces, one behind another, are the text of the whole, in bytes too.
 abbrev pub CuttingsAreWholes : Type 0

@@ -1,5 +1,5 @@
 -- An emitter that goes on from call to call: what is known behind some events, and what others add to their text.
-use Rattle.std.specs.Prelude.{◌≡◌, List, [], ◌∷◌, ◌++◌}
+use Rattle.std.specs.Prelude.{◌≡◌, ◌≤◌, length, List, [], ◌∷◌, ◌++◌}
 use Rattle.yaml_emit_text.specs.declared.Cursor.{Cursor}
 use Rattle.yaml_emit_text.specs.declared.Settings.{Settings}
 use Rattle.yaml_emit_text.specs.Text.{Item}
@@ -34,6 +34,12 @@ pub record Leads (s : Settings) (a : Stand) (es : List Event) (b : Stand) : Type
   pub texts : (more : List Event) → added s a (es ++ more) ≡ added s a es ++ added s b more
   pub refusals : (more : List Event) → refusal_behind s a.state (a.held ++ (es ++ more))
       ≡ refusal_behind s b.state (b.held ++ more)
+
+-- Those that wait are the last of these, at most three, and the caller can give them again.
+pub record Waits (a : Stand) (es : List Event) (b : Stand) : Type 0 where
+  pub few : length b.held ≤ 3
+  pub front : List Event
+  pub last : a.held ++ es ≡ front ++ b.held
 
 -- lists one behind another
 unfoldable pub joined : {A : Type 0} → List (List A) → List A

@@ -234,19 +234,6 @@ begins_content kind.YAML_FLOW_SEQUENCE_START_TOKEN = true
 begins_content kind.YAML_FLOW_MAPPING_START_TOKEN = true
 begins_content k = false
 
-starts_anywhere : (w : Wants) (k : yaml_token_type_t) (x y : List ℕ) (st : Extra) → begins_content k ≡ true → starts_content w (type_of (body_by k x y st)) ≡ true
-starts_anywhere w kind.YAML_SCALAR_TOKEN x y st h = refl
-starts_anywhere w kind.YAML_FLOW_SEQUENCE_START_TOKEN x y st h = refl
-starts_anywhere w kind.YAML_FLOW_MAPPING_START_TOKEN x y st h = refl
-starts_anywhere w k x y st h = absurd (false≢true h)
-
-taken_anywhere : (w : Wants) (k : yaml_token_type_t) (x y : List ℕ) (st : Extra) (p : Properties) (from to : yaml_mark_t) → begins_content k ≡ true
-    → content_taken Flow (Some p) from to (body_by k x y st) ≡ content_taken w (Some p) from to (body_by k x y st)
-taken_anywhere w kind.YAML_SCALAR_TOKEN x y st p from to h = refl
-taken_anywhere w kind.YAML_FLOW_SEQUENCE_START_TOKEN x y st p from to h = refl
-taken_anywhere w kind.YAML_FLOW_MAPPING_START_TOKEN x y st p from to h = refl
-taken_anywhere w k x y st p from to h = absurd (false≢true h)
-
 bare_anywhere : (k : yaml_token_type_t) → begins_content k ≡ true → IsBare k
 bare_anywhere kind.YAML_SCALAR_TOKEN h = tt
 bare_anywhere kind.YAML_FLOW_SEQUENCE_START_TOKEN h = tt
@@ -274,27 +261,14 @@ none_follows (site.FlowPair brackets.Mapping z) kind.YAML_FLOW_SEQUENCE_START_TO
 none_follows (site.FlowPair brackets.Mapping z) kind.YAML_FLOW_MAPPING_START_TOKEN x y st h = refl
 none_follows p k x y st h = absurd (false≢true h)
 
-same_content : (w : Wants) (k : yaml_token_type_t) (x y : List ℕ) (st : Extra) (from to : yaml_mark_t) (s : List State) (new : Properties → List State) (r : Seen) → begins_content k ≡ true
-    → Contents Flow (token_at (body_by k x y st) from to) s r new → Contents w (token_at (body_by k x y st) from to) s r new
-same_content w k x y st from to s new (turn.node j) b h =
-    (starts_anywhere w k x y st b, λ p q. ((h.1 p q).0 ∙ ap (λ (t : Taken). t.item) (taken_anywhere w k x y st p from to b), (h.1 p q).1 ∙ ap (λ (t : Taken). t.above ++ s) (taken_anywhere w k x y st p from to b)))
-same_content w k x y st from to s new (turn.named j) b h = absurd h
-same_content w k x y st from to s new (turn.given j) b h = absurd h
-same_content w k x y st from to s new turn.silent b h = absurd h
-same_content w k x y st from to s new (turn.left j) b h = absurd h
-same_content w k x y st from to s new turn.opened b h = absurd h
-same_content w k x y st from to s new turn.over b h = absurd h
-same_content w k x y st from to s new (turn.refused q) b h = absurd (false≢true (sym h.0 ∙ starts_anywhere Flow k x y st b))
-same_content w k x y st from to s new turn.memory b h = tt
-
 at_site : (p : Site) (b : yaml_mark_t) (k : yaml_token_type_t) (x y : List ℕ) (st : Extra) (from to : yaml_mark_t) (s : List State) (new : Properties → List State) (r : Seen) (a : Around) → begins_content k ≡ true
-    → Contents Flow (token_at (body_by k x y st) from to) s r new → Turns (state.optional p b) (token_at (body_by k x y st) from to) s r a new
+    → ((w : Wants) → Contents w (token_at (body_by k x y st) from to) s r new) → Turns (state.optional p b) (token_at (body_by k x y st) from to) s r a new
 at_site p b k x y st from to s new r a h c =
     optional_node p b (wants_of p) (token_at (body_by k x y st) from to) s new r a (none_follows p k x y st h) refl
-    (bare_node (wants_of p) k x y st from to s new r a (bare_anywhere k h) (same_content (wants_of p) k x y st from to s new r h c))
+    (bare_node (wants_of p) k x y st from to s new r a (bare_anywhere k h) (c (wants_of p)))
 
 pub anywhere : (z : Await) (b : yaml_mark_t) (q : Properties) (k : yaml_token_type_t) (x y : List ℕ) (st : Extra) (from to : yaml_mark_t) (s : List State) (new : Properties → List State) (r : Seen) (a : Around)
-    → is_begun z ≡ false → begins_content k ≡ true → Contents Flow (token_at (body_by k x y st) from to) s r new → TurnsOn (await_of z b q ++ s) (token_at (body_by k x y st) from to) r a new
+    → is_begun z ≡ false → begins_content k ≡ true → ((w : Wants) → Contents w (token_at (body_by k x y st) from to) s r new) → TurnsOn (await_of z b q ++ s) (token_at (body_by k x y st) from to) r a new
 anywhere await.Root b q k x y st from to s new r a e h c = at_site site.Root b k x y st from to s new r a h c
 anywhere await.Entry b q k x y st from to s new r a e h c = at_site site.Entry b k x y st from to s new r a h c
 anywhere await.LooseKey b q k x y st from to s new r a e h c = at_site (site.IndentlessEntry side.Key) b k x y st from to s new r a h c

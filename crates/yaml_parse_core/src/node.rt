@@ -11,6 +11,7 @@ ghost use Rattle.yaml_parse_grammar.specs.States as state;
 ghost use Rattle.yaml_parse_grammar.specs.Items.{Properties};
 ghost use Rattle.yaml_parse_grammar.specs.Machine.{tag_at};
 ghost use Rattle.yaml_parse_model.specs.declared.yaml_token_type_t.TheVariants as kinds;
+ghost use Rattle.yaml_parse_grammar.specs.declared.name.Wants.{Wants};
 ghost use Rattle.yaml_parse_grammar.specs.declared.name.Wants.TheVariants as wants;
 
 use crate::level::{Await, Level};
@@ -56,9 +57,61 @@ fn open_others<T: yaml_lent_token_t>(
     begin(machine, level, token)
 }
 
+// A scalar, the content of any node.
+#[inline(always)]
+pub(crate) fn scalar<T: yaml_lent_token_t>(machine: &mut Machine<T::Place>, token: &T) -> Turn
+    ensures content { (s : List ℕ) (w : Wants) → Contents w
+        (whole_of (T.mark s) kinds.YAML_SCALAR_TOKEN (T.extra token.now)
+        (T.from token.now) (T.to token.now) (T.text s token.now) (T.other s token.now))
+        (level_over machine.old.top.level (T.mark s machine.old.top.opener)
+        (stack_of (T.mark s) machine.old.below.items)) (seen result)
+        (states_by (T.mark s) machine.new) }
+    ensures same { IfRefused (seen result) (machine.new ≡ machine.old) }
+{
+    machine.awaited = Await::Nothing;
+    Turn::Scalar
+}
+
+// The start of a sequence in brackets, the content of any node.
+#[inline(always)]
+pub(crate) fn flow_sequence<T: yaml_lent_token_t>(
+    machine: &mut Machine<T::Place>,
+    token: &T,
+) -> Turn
+    ensures content { (s : List ℕ) (w : Wants) → Contents w
+        (whole_of (T.mark s) kinds.YAML_FLOW_SEQUENCE_START_TOKEN (T.extra token.now)
+        (T.from token.now) (T.to token.now) (T.text s token.now) (T.other s token.now))
+        (level_over machine.old.top.level (T.mark s machine.old.top.opener)
+        (stack_of (T.mark s) machine.old.below.items)) (seen result)
+        (states_by (T.mark s) machine.new) }
+    ensures same { IfRefused (seen result) (machine.new ≡ machine.old) }
+{
+    match open(machine, Level::SequenceItems, token) {
+        Ok(()) => Turn::FlowSequence,
+        Err(_) => Turn::Memory,
+    }
+}
+
+// The start of a mapping in brackets, the content of any node.
+#[inline(always)]
+pub(crate) fn flow_mapping<T: yaml_lent_token_t>(machine: &mut Machine<T::Place>, token: &T) -> Turn
+    ensures content { (s : List ℕ) (w : Wants) → Contents w
+        (whole_of (T.mark s) kinds.YAML_FLOW_MAPPING_START_TOKEN (T.extra token.now)
+        (T.from token.now) (T.to token.now) (T.text s token.now) (T.other s token.now))
+        (level_over machine.old.top.level (T.mark s machine.old.top.opener)
+        (stack_of (T.mark s) machine.old.below.items)) (seen result)
+        (states_by (T.mark s) machine.new) }
+    ensures same { IfRefused (seen result) (machine.new ≡ machine.old) }
+{
+    match open(machine, Level::MappingItems, token) {
+        Ok(()) => Turn::FlowMapping,
+        Err(_) => Turn::Memory,
+    }
+}
+
 // The content of a node.
 #[inline(always)]
-pub(crate) fn content<T: yaml_lent_token_t>(
+fn content<T: yaml_lent_token_t>(
     machine: &mut Machine<T::Place>,
     token: &T,
     kind: yaml_token_type_t,
@@ -73,26 +126,9 @@ pub(crate) fn content<T: yaml_lent_token_t>(
     ensures same { IfRefused (seen result) (machine.new ≡ machine.old) }
 {
     match kind {
-        yaml_token_type_t::YAML_SCALAR_TOKEN => {
-            machine.awaited = Await::Nothing;
-            Turn::Scalar
-        }
-        yaml_token_type_t::YAML_FLOW_SEQUENCE_START_TOKEN => match open(
-            machine,
-            Level::SequenceItems,
-            token,
-        ) {
-            Ok(()) => Turn::FlowSequence,
-            Err(_) => Turn::Memory,
-        },
-        yaml_token_type_t::YAML_FLOW_MAPPING_START_TOKEN => match open(
-            machine,
-            Level::MappingItems,
-            token,
-        ) {
-            Ok(()) => Turn::FlowMapping,
-            Err(_) => Turn::Memory,
-        },
+        yaml_token_type_t::YAML_SCALAR_TOKEN => scalar(machine, token),
+        yaml_token_type_t::YAML_FLOW_SEQUENCE_START_TOKEN => flow_sequence(machine, token),
+        yaml_token_type_t::YAML_FLOW_MAPPING_START_TOKEN => flow_mapping(machine, token),
         _ => block_content(machine, token, kind, wants),
     }
 }
@@ -296,7 +332,10 @@ pub(crate) fn node<T: yaml_lent_token_t>(
             wait_by_tag(waiting, token);
             Turn::Silent
         }
-        _ => content(machine, token, kind, wants),
+        yaml_token_type_t::YAML_SCALAR_TOKEN => scalar(machine, token),
+        yaml_token_type_t::YAML_FLOW_SEQUENCE_START_TOKEN => flow_sequence(machine, token),
+        yaml_token_type_t::YAML_FLOW_MAPPING_START_TOKEN => flow_mapping(machine, token),
+        _ => block_content(machine, token, kind, wants),
     }
 }
 

@@ -38,6 +38,7 @@ pub(crate) fn at_sequence_items<T: yaml_lent_token_t>(
         (states_by (T.mark s) machine.new) }
     ensures kept { keeps (seen result) ≡ true → token.new ≡ token.old }
 {
+    machine.top.level = Level::SequenceMore;
     match kind {
         yaml_token_type_t::YAML_KEY_TOKEN => {
             machine.top.level = Level::SequenceColon;
@@ -48,10 +49,7 @@ pub(crate) fn at_sequence_items<T: yaml_lent_token_t>(
             come_back(machine);
             Turn::SequenceEnd
         }
-        _ => {
-            machine.top.level = Level::SequenceMore;
-            node(machine, waiting, token, kind, Wants::Flow)
-        }
+        _ => node(machine, waiting, token, kind, Wants::Flow),
     }
 }
 
@@ -73,6 +71,7 @@ pub(crate) fn at_mapping_items<T: yaml_lent_token_t>(
         (states_by (T.mark s) machine.new) }
     ensures kept { keeps (seen result) ≡ true → token.new ≡ token.old }
 {
+    machine.top.level = Level::MappingLone;
     match kind {
         yaml_token_type_t::YAML_KEY_TOKEN => {
             machine.top.level = Level::MappingColon;
@@ -83,10 +82,7 @@ pub(crate) fn at_mapping_items<T: yaml_lent_token_t>(
             come_back(machine);
             Turn::MappingEnd
         }
-        _ => {
-            machine.top.level = Level::MappingLone;
-            node(machine, waiting, token, kind, Wants::Flow)
-        }
+        _ => node(machine, waiting, token, kind, Wants::Flow),
     }
 }
 

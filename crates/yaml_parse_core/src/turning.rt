@@ -10,7 +10,7 @@ ghost use Rattle.yaml_parse_core.specs.Turns.{keeps, TurnsOn};
 use crate::document::{at_directives, at_document, at_documents, at_first, at_stream};
 use crate::level::{Await, Level};
 use crate::machine::{Machine, Turn};
-use crate::node::{at_rest, content};
+use crate::node::{at_rest, flow_mapping, flow_sequence, scalar};
 use crate::part::{
     at_colon, at_entries, at_mapping_colon, at_mapping_lone, at_mapping_more, at_other_keys,
     at_other_values, at_pairs, at_sequence_colon, at_sequence_more, at_sequence_pair,
@@ -153,7 +153,6 @@ fn is_begun(awaited: Await) -> bool
 }
 
 // The node that is awaited. In line are the contents that may stand at each place, which are met most.
-// It is long: an arm for each of these kinds, which all say the same.
 #[inline(always)]
 fn at_awaited<T: yaml_lent_token_t>(
     machine: &mut Machine<T::Place>,
@@ -173,24 +172,9 @@ fn at_awaited<T: yaml_lent_token_t>(
         return at_kind(machine, waiting, token, kind);
     }
     match kind {
-        yaml_token_type_t::YAML_SCALAR_TOKEN => content(
-            machine,
-            token,
-            yaml_token_type_t::YAML_SCALAR_TOKEN,
-            Wants::Flow,
-        ),
-        yaml_token_type_t::YAML_FLOW_SEQUENCE_START_TOKEN => content(
-            machine,
-            token,
-            yaml_token_type_t::YAML_FLOW_SEQUENCE_START_TOKEN,
-            Wants::Flow,
-        ),
-        yaml_token_type_t::YAML_FLOW_MAPPING_START_TOKEN => content(
-            machine,
-            token,
-            yaml_token_type_t::YAML_FLOW_MAPPING_START_TOKEN,
-            Wants::Flow,
-        ),
+        yaml_token_type_t::YAML_SCALAR_TOKEN => scalar(machine, token),
+        yaml_token_type_t::YAML_FLOW_SEQUENCE_START_TOKEN => flow_sequence(machine, token),
+        yaml_token_type_t::YAML_FLOW_MAPPING_START_TOKEN => flow_mapping(machine, token),
         _ => at_kind(machine, waiting, token, kind),
     }
 }

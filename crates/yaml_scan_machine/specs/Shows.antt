@@ -1,5 +1,5 @@
 -- What the fields of a machine say of the lexemes that were read.
-use Rattle.std.specs.Prelude.{ℕ, ◌+◌, ◌-◌, ◌≡◌, ◌<◌, ◌≤◌, Bool, if◌then◌else◌, map, Option, Some, None, List, length, drop, slice_index_or}
+use Rattle.std.specs.Prelude.{ℕ, ◌+◌, ◌≡◌, ◌<◌, ◌≤◌, Bool, if◌then◌else◌, map, Option, Some, None, List, length, drop, slice_index_or}
 use Rattle.yaml_scan_model.specs.declared.record.yaml_mark_t.{yaml_mark_t}
 use Rattle.yaml_scan_model.specs.declared.name.yaml_encoding_t.{yaml_encoding_t}
 use Rattle.yaml_scan_decode.specs.DecodedText.{text_bytes}

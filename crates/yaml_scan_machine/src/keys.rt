@@ -218,6 +218,7 @@ impl Keys {
     }
 
     /// A bracket opens: the depth inside it has no candidate.
+    // Room comes first: a push that may fail hands its key back, by way of the stack.
     // Inlined: some stores.
     #[inline(always)]
     fn open(&mut self, lexeme: Lexeme, number: usize) -> Result<(), AllocError>
@@ -229,7 +230,8 @@ impl Keys {
     {
         self.spare();
         self.save(lexeme, number);
-        self.outer.push(self.innermost)?;
+        self.outer.reserve(1)?;
+        self.outer.push_reserved(self.innermost);
         self.innermost.possible = false;
         Ok(())
     }

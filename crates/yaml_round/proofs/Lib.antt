@@ -1,4 +1,5 @@
 mod Running
+mod Diffing
 pub use Rattle.yaml_round_compare.proofs.Walks as Pathing
 pub use Rattle.yaml_round_writing.proofs.Normal
 pub use Rattle.yaml_round_writing.proofs.Plain

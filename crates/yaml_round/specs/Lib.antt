@@ -13,6 +13,7 @@ pub use Rattle.yaml_round_compare.specs.Compare
 pub use Rattle.yaml_round_compare.specs.Places
 pub use Rattle.yaml_round_compare.specs.Differences
 pub use Rattle.yaml_round_compare.specs.Walking
+pub use Rattle.yaml_round_compare.specs.Loaded
 pub use Rattle.yaml_round_device.specs.Settings
 pub use Rattle.yaml_round_device.specs.Run
 pub use Rattle.yaml_round_device.specs.StdDevices

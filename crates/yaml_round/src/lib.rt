@@ -10,7 +10,7 @@ mod run;
 mod same;
 
 pub use check::yaml_check;
-pub use diff::yaml_diff;
+pub use diff::{yaml_diff, yaml_diff_documents};
 pub use engine::{yaml_events, yaml_reformat};
 pub use normalize::yaml_normalize;
 pub use reload::yaml_reload;

@@ -6,4 +6,5 @@ mod Parting
 mod Comparing
 mod Mapped
 mod Dumping
+mod Telling
 pub mod Inputs

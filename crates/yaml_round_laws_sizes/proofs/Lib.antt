@@ -14,5 +14,5 @@ mod Prices
 mod Lengths
 mod Bounds
 mod Decoded
-mod Tally
+pub mod Tally
 pub mod Joining

@@ -170,13 +170,25 @@ more_lines : (s : Settings) (k : ℕ) → lines_of s 1 k ≡ lines_of s 0 k + k
 more_lines s zero = refl
 more_lines s (suc k) = omega (arith, more_lines s k)
 
+-- so many lines and documents on either side
+without_lines : (s : Settings) (a b k l : ℕ) → ((w : ℕ) → a + lines_of s w k ≡ b + lines_of s w l) → a ≡ b
+without_lines s a b k l same =
+    let none : a + lines_of s 0 k ≡ b + lines_of s 0 l = same 0 in
+    let one : a + lines_of s 1 k ≡ b + lines_of s 1 l = same 1 in
+    let many : k ≡ l = omega (arith, none, one, more_lines s k, more_lines s l) in
+    let lines : lines_of s 0 k ≡ lines_of s 0 l = ap (lines_of s 0) many in
+    omega (arith, none, lines)
+
 -- documents whose events say the content
 pub tallies_agree : (s : Settings) (ends : Bool) (x : yaml_encoding_t) (ds : List emit.Document) (es : List Told) (c : List Document) → emitter_events ends es ≡ stream_events x ds → contents es ≡ stream_says c
     → most_bytes s ds ≡ most_bytes s (written_documents c)
 tallies_agree s ends x ds es c e f =
-    let same = λ (w : ℕ). sym (stream_tally s w x ds) ∙ ap (tally s w [] s.indent) (sym e) ∙ events_count s w ends [] s.indent es ∙ ap (λ (z : List EventBody). tally s w [] s.indent (map emitter_event z)) f ∙ said_tally s w c in
-    let none : most_of_documents s ds + lines_of s 0 (length ds) ≡ most_of_documents s (written_documents c) + lines_of s 0 (length c) = same 0 in
-    let one : most_of_documents s ds + lines_of s 1 (length ds) ≡ most_of_documents s (written_documents c) + lines_of s 1 (length c) = same 1 in
-    let many : length ds ≡ length c = omega (arith, none, one, more_lines s (length ds), more_lines s (length c)) in
-    let lines : lines_of s 0 (length ds) ≡ lines_of s 0 (length c) = ap (lines_of s 0) many in
-    omega (arith, none, lines)
+    let k = without_lines s (most_of_documents s ds) (most_of_documents s (written_documents c)) (length ds) (length c)
+    (λ w. sym (stream_tally s w x ds) ∙ ap (tally s w [] s.indent) (sym e) ∙ events_count s w ends [] s.indent es ∙ ap (λ (z : List EventBody). tally s w [] s.indent (map emitter_event z)) f ∙ said_tally s w c) in
+    omega (arith, k)
+
+-- and documents with the same events
+pub tallies_same : (s : Settings) (x y : yaml_encoding_t) (ds es : List emit.Document) → stream_events x ds ≡ stream_events y es → most_bytes s ds ≡ most_bytes s es
+tallies_same s x y ds es e =
+    let k = without_lines s (most_of_documents s ds) (most_of_documents s es) (length ds) (length es) (λ w. sym (stream_tally s w x ds) ∙ ap (tally s w [] s.indent) e ∙ stream_tally s w y es) in
+    omega (arith, k)

@@ -8,3 +8,4 @@ mod Loads
 mod Limits
 mod Readings
 mod Partings
+mod Fitting

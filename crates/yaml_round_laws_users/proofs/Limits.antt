@@ -68,7 +68,7 @@ deep_stream w canonical x e ds whole h deep =
 
 -- ---- rewriting
 
-read_once : (from : yaml_encoding_t) (input : List ℕ) (c : List Document) (f : Fault) → PlainReading from input (Ok c) → IsFaulty from input f → ⊥
+pub read_once : (from : yaml_encoding_t) (input : List ℕ) (c : List Document) (f : Fault) → PlainReading from input (Ok c) → IsFaulty from input f → ⊥
 unfolding IsFaulty
 read_once from input c f h k = let e : Ok c ≡ Err f = one_reading from input (Ok c) (Err f) h k in absurd cc
 
@@ -128,13 +128,13 @@ keeps from s input text c h k deep =
 
 -- ---- reloading
 
-loaded_once : (from : yaml_encoding_t) (input : List ℕ) (ds : List documents.Document) (f : Fault) → PlainLoading from input (Ok ds) → PlainLoading from input (Err f) → ⊥
+pub loaded_once : (from : yaml_encoding_t) (input : List ℕ) (ds : List documents.Document) (f : Fault) → PlainLoading from input (Ok ds) → PlainLoading from input (Err f) → ⊥
 loaded_once from input ds f h k = let e : Ok ds ≡ Err f = one_loading from input (Ok ds) (Err f) h k in absurd cc
 
 same_ok : (r q : Result (List documents.Document) Fault) (ds es : List documents.Document) → r ≡ Ok ds → q ≡ Ok es → r ≡ q → ds ≡ es
 same_ok r q ds es e f h = let k : Ok ds ≡ Ok es = sym e ∙ h ∙ f in cc
 
-same_loading : (from : yaml_encoding_t) (input : List ℕ) (ds es : List documents.Document) → PlainLoading from input (Ok ds) → PlainLoading from input (Ok es) → es ≡ ds
+pub same_loading : (from : yaml_encoding_t) (input : List ℕ) (ds es : List documents.Document) → PlainLoading from input (Ok ds) → PlainLoading from input (Ok es) → es ≡ ds
 same_loading from input ds es h k = same_ok (Ok es) (Ok ds) es ds refl refl (one_loading from input (Ok es) (Ok ds) k h)
 
 unfaulty : (ds es : List documents.Document) (o : Option Fault) → unless_faulty ds o ≡ Ok es → ds ≡ es

@@ -5,3 +5,4 @@ pub mod Loads
 pub mod Limits
 pub mod Plain
 pub mod Partings
+pub mod Sizes

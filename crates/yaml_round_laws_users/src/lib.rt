@@ -8,6 +8,7 @@ mod normalizing;
 mod parting;
 mod plain;
 mod reload;
+mod size;
 
 pub use column::{
     canonical_answers_keep_columns, canonical_form_passes_columns, reformats_name_columns,
@@ -24,3 +25,4 @@ pub use reload::{
     answers_and_reloads_agree, names_leave_reloads, reloads_are_normal_of_loads,
     reloads_are_of_loads, reloads_tell_documents,
 };
+pub use size::{limits_of_content_suffice, normal_forms_fit, reformats_fit, reloads_fit_documents};

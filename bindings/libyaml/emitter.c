@@ -303,9 +303,8 @@ static int is_enough(const yaml_emitter_t *emitter, const layer_writing *w)
 
 static int take(yaml_emitter_t *emitter, layer_writing *w, const yaml_event_t *event)
 {
-    yaml_c_event record;
     enum due due = due_with(emitter, w, event);
-    if (due == NO_MEMORY || !layer_record(w, &record, event) || !layer_keep(w, &record))
+    if (due == NO_MEMORY || !layer_record(w, event))
         return no_memory(emitter);
     if (event->type == YAML_DOCUMENT_START_EVENT)
         w->head = w->bytes.len;

@@ -36,8 +36,19 @@ typedef struct {
     size_t room;
 } layer_bytes;
 
-/* Puts bytes behind the others. 0: memory was refused, and nothing has changed. */
-int layer_put(layer_bytes *bytes, const void *text, size_t len);
+/* Makes room for so many bytes behind the others. 0: memory was refused, and nothing has changed. */
+int layer_make_room(layer_bytes *bytes, size_t len);
+
+/* Puts bytes behind the others. 0: as above. */
+static inline int layer_put(layer_bytes *bytes, const void *text, size_t len)
+{
+    if (len > bytes->room - bytes->len && !layer_make_room(bytes, len))
+        return 0;
+    if (len)
+        memcpy(bytes->at + bytes->len, text, len);
+    bytes->len += len;
+    return 1;
+}
 
 /* A block with room for at least one item more than `len`, which replaces the old one, and how many it has room for. NULL:
  * memory was refused, or there are INT_MAX items; then the old block is as it was. */
@@ -213,13 +224,22 @@ typedef struct {
     char *problem;
 } layer_writing;
 
-/* The event as a record. 0: memory was refused. */
-int layer_record(layer_writing *w, yaml_c_event *record, const yaml_event_t *event);
-size_t layer_events_len(const layer_writing *w);
+/* Keeps the event as a record. 0: memory was refused, and none is kept. */
+int layer_record(layer_writing *w, const yaml_event_t *event);
 yaml_c_event layer_event_at(const layer_writing *w, size_t number);
 int layer_keep(layer_writing *w, const yaml_c_event *record);
+
+static inline size_t layer_events_len(const layer_writing *w)
+{
+    return w->events.len / sizeof(yaml_c_event);
+}
+
 /* The collection that was opened last; NULL: none is open. */
-layer_level *layer_innermost(const layer_writing *w);
+static inline layer_level *layer_innermost(const layer_writing *w)
+{
+    return w->levels.len ? (layer_level *)(void *)(w->levels.at + w->levels.len) - 1 : NULL;
+}
+
 /* Replace what is kept by a stand-in: all documents, in front of one that begins, or all that was laid out of one. 0: memory was
  * refused. */
 int layer_replace_documents(layer_writing *w);

@@ -44,24 +44,21 @@ yaml_char_t *layer_copy(const void *text, size_t len)
     return copy;
 }
 
-int layer_put(layer_bytes *bytes, const void *text, size_t len)
+int layer_make_room(layer_bytes *bytes, size_t len)
 {
-    if (len > bytes->room - bytes->len) {
-        size_t room = bytes->room ? bytes->room : 256;
-        while (room - bytes->len < len) {
-            if (room > SIZE_MAX / 2)
-                return 0;
-            room *= 2;
-        }
-        uint8_t *at = realloc(bytes->at, room);
-        if (!at)
+    size_t room = bytes->room ? bytes->room : 256;
+    while (room - bytes->len < len) {
+        if (room > SIZE_MAX / 2)
             return 0;
-        bytes->at = at;
-        bytes->room = room;
+        room *= 2;
     }
-    if (len)
-        memcpy(bytes->at + bytes->len, text, len);
-    bytes->len += len;
+    if (room == bytes->room)
+        return 1;
+    uint8_t *at = realloc(bytes->at, room);
+    if (!at)
+        return 0;
+    bytes->at = at;
+    bytes->room = room;
     return 1;
 }
 

@@ -51,10 +51,9 @@ static int put_scalar(layer_writing *w, yaml_c_event *record, const yaml_event_t
            && put(w, &record->value, event->data.scalar.value, event->data.scalar.length);
 }
 
-int layer_record(layer_writing *w, yaml_c_event *record, const yaml_event_t *event)
+/* Fills what the event's kind has. 0: memory was refused. */
+static int filled(layer_writing *w, yaml_c_event *record, const yaml_event_t *event)
 {
-    memset(record, 0, sizeof *record);
-    record->kind = (int32_t)event->type;
     switch (event->type) {
     case YAML_STREAM_START_EVENT: record->encoding = (int32_t)event->data.stream_start.encoding; return 1;
     case YAML_DOCUMENT_START_EVENT: return put_document_start(w, record, event);
@@ -71,4 +70,22 @@ int layer_record(layer_writing *w, yaml_c_event *record, const yaml_event_t *eve
         return put_properties(w, record, event->data.mapping_start.anchor, event->data.mapping_start.tag);
     default: return 1;
     }
+}
+
+int layer_record(layer_writing *w, const yaml_event_t *event)
+{
+    yaml_c_event *record;
+    if (sizeof *record > w->events.room - w->events.len && !layer_make_room(&w->events, sizeof *record))
+        return 0;
+    record = (void *)(w->events.at + w->events.len);
+    /* part by part, as in layer_clear */
+    memset(record, 0, offsetof(yaml_c_event, anchor));
+    memset(&record->anchor, 0, offsetof(yaml_c_event, start) - offsetof(yaml_c_event, anchor));
+    memset(&record->start, 0, sizeof record->start);
+    memset(&record->end, 0, sizeof record->end);
+    record->kind = (int32_t)event->type;
+    if (!filled(w, record, event))
+        return 0;
+    w->events.len += sizeof *record;
+    return 1;
 }

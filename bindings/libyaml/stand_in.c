@@ -16,11 +16,6 @@
 
 static const yaml_c_event any_scalar = {.kind = YAML_C_SCALAR_EVENT, .implicit = 1, .quoted_implicit = 1, .value = {0, 1}};
 
-size_t layer_events_len(const layer_writing *w)
-{
-    return w->events.len / sizeof(yaml_c_event);
-}
-
 yaml_c_event layer_event_at(const layer_writing *w, size_t number)
 {
     yaml_c_event event;
@@ -31,11 +26,6 @@ yaml_c_event layer_event_at(const layer_writing *w, size_t number)
 int layer_keep(layer_writing *w, const yaml_c_event *record)
 {
     return layer_put(&w->events, record, sizeof *record);
-}
-
-layer_level *layer_innermost(const layer_writing *w)
-{
-    return w->levels.len ? (layer_level *)(void *)(w->levels.at + w->levels.len) - 1 : NULL;
 }
 
 static int keep_any(layer_writing *w)

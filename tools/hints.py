@@ -21,14 +21,14 @@ SYMBOL = re.compile(r"\w+ (\w+) \w (yaml_\w+)::(.+)")
 
 
 def hinted(crate):
-    """The names of a crate's functions that are to be inlined always."""
+    """The functions of a crate that are to be inlined always: the front of their path, and their name."""
     for path in repo.sources(crate):
-        is_hinted = False
+        is_hinted, module = False, re.sub(r".*/src/((lib|main)(?=\.rt$))?|\.rt$", "", path).replace("/", "::")
         for line in repo.read(path).split("\n"):
             is_hinted = is_hinted or line.strip() == HINT
             function = FUNCTION.match(line)
             if function and is_hinted:
-                yield function[1]
+                yield module and f"{module}::", function[1]
             is_hinted = is_hinted and not function
 
 
@@ -41,10 +41,16 @@ def standing(program):
             yield int(symbol[1], 16), symbol[2], re.sub(r"::<.*", "", symbol[3])
 
 
+def is_of(path, functions):
+    """Whether a path is that of one of these functions, maybe behind a type."""
+    *modules, name = path.split("::")
+    return any(it == name and "::".join([*modules, ""]).startswith(module) for module, it in functions)
+
+
 def main():
     program = sys.argv[1] if sys.argv[1:] else f"{repo.TOP}/{PROGRAM}"
     names = {crate: set(hinted(crate)) for crate in repo.crates()}
-    found = sorted(it for it in standing(program) if it[2].split("::")[-1] in names.get(it[1], ()))
+    found = sorted(it for it in standing(program) if is_of(it[2], names.get(it[1], ())))
     for size, crate, path in reversed(found):
         print(f"hints: {crate}::{path} stands, {size} bytes")
     if not found:

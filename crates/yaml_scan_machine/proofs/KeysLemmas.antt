@@ -517,9 +517,14 @@ key_waits m ws p n s wait more u is =
     let inside : c.number < length (entries h) = omega (arith, below, length-entries h) in (
       low,
       room,
-      (c, here, at, λ w.
-          let there : g (get_or ws i w) ≡ f (get_or (entries h) c.number z) = sym (get_or-map g ws i w (f z) room) ∙ ap (λ (ks : List Kept). get_or ks i (f z)) (sym wait ∙ s.waiting) ∙ get_or-drop m.dropped (map f (entries h)) i (f z) ∙ ap (λ k. get_or (map f (entries h)) k (f z)) (sym at) ∙ get_or-map f (entries h) c.number z (f z) inside in
-          ap (λ (k : Kept). k.start) there ∙ ap (λ (l : Lexeme). l.start) (start_is m.depth h c z isc)),
+      (
+        c,
+        here,
+        at,
+        λ w.
+            let there : g (get_or ws i w) ≡ f (get_or (entries h) c.number z) = sym (get_or-map g ws i w (f z) room) ∙ ap (λ (ks : List Kept). get_or ks i (f z)) (sym wait ∙ s.waiting) ∙ get_or-drop m.dropped (map f (entries h)) i (f z) ∙ ap (λ k. get_or (map f (entries h)) k (f z)) (sym at) ∙ get_or-map f (entries h) c.number z (f z) inside in
+            ap (λ (k : Kept). k.start) there ∙ ap (λ (l : Lexeme). l.start) (start_is m.depth h c z isc),
+      ),
     )
 
 -- the keys behind one more lexeme

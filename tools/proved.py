@@ -5,7 +5,7 @@
     tools/proved.py --check     writes nothing, and fails where the page differs
 
 Both fail where a crate lacks its README.md, where one has more than 15 lines or not the form that all have, where an item
-that it names doesn't stand in the crate's src/ or specs/, and where that of a crate of laws doesn't name one of its public laws.
+that it names doesn't stand in the crate's src/, specs/ or proofs/, and where that of a crate of laws doesn't name one of its public laws.
 
 A README.md is: the crate's name; a line on what it holds; where its calls have contracts, a table of these calls and of what
 the contracts say; and a line on what no clause says.
@@ -29,7 +29,7 @@ Written by `tools/proved.py` from `crates/CRATE/README.md`; not by hand.
 
 Proved with `rattle-kit-13f`, logic `dac8208d650f15bf` (`rt version`; `rattle-kit-13b` has the same logic). 'Proved' says what the contracts say, and no more; want of memory is an answer that each clause allows beside, told with nothing else in it and of one of the layers that the clause lists. Every function of every crate is proved safe (no index out of range, no overflow, no use after free) and to end, for all inputs.
 
-An item is a function, a method (`TYPE::METHOD`), a type or a trait of the crate's `src`; a law is a function without code, whose clause is the statement, or a file of `specs` that is proved as it stands. The crates stand in the order of `crates.txt`, by member, the lowest first; the member's own crate (`yaml_scan` of the first) hands out what callers need of the others.
+An item is a function, a method (`TYPE::METHOD`), a type or a trait of the crate's `src`; a law is a function without code, whose clause is the statement, or a file of `specs` or `proofs` that states it. The crates stand in the order of `crates.txt`, by member, the lowest first; the member's own crate (`yaml_scan` of the first) hands out what callers need of the others.
 """
 
 
@@ -46,9 +46,9 @@ def members():
 
 
 def known(crate):
-    """What a row may name: functions, also as methods, types, traits, constants, what the crate hands out, and files of specs/."""
+    """What a row may name: functions, also as methods, types, traits, constants, what the crate hands out, and files of laws."""
     found = {*repo.handed_out(crate), *repo.declared_in(crate)}
-    found.update(os.path.basename(it)[: -len(".antt")] for it in glob.glob(f"{repo.TOP}/crates/{crate}/specs/*.antt"))
+    found.update(os.path.basename(it)[: -len(".antt")] for it in glob.glob(f"{repo.TOP}/crates/{crate}/[sp]*s/*.antt"))
     for path in repo.sources(crate):
         found.update(re.findall(r"^pub (?:trait|const) (\w+)", repo.read(path), re.M))
         for it in repo.functions(path):
@@ -96,7 +96,7 @@ def faults(crate):
     if not os.path.isfile(f"{repo.TOP}/{path}"):
         return [f"{path} isn't there"]
     lines = repo.read(path).rstrip("\n").split("\n")
-    found = [f"{path}: no item of this name stands in src/ or specs/: {it}" for it in unknown(crate, lines)]
+    found = [f"{path}: no item of this name stands in the crate: {it}" for it in unknown(crate, lines)]
     found += [f"{path}: no row names this law: {it}" for it in unnamed(crate, lines)]
     if len(lines) > MOST_LINES:
         found.append(f"{path}: {len(lines)} lines, of {MOST_LINES} at most")

@@ -85,7 +85,7 @@ static int is_end(const yaml_c_event *it)
 
 /* The last cut but for a few: all among the last events are looked at, and some in front of them. Its number of events in front,
  * and what is open there; 0: there is none. */
-static size_t last_cut(walk *open, const layer_reading *reading)
+static size_t last_cut(walk *open, layer_reading *reading)
 {
     const yaml_c_event *events = reading->parsed.events;
     size_t len = reading->parsed.events_len, last = 0;
@@ -96,6 +96,7 @@ static size_t last_cut(walk *open, const layer_reading *reading)
             *open = w;
             last = i + 1;
         }
+    reading->is_uncut = !last && w.depth > 64 * LAYER_OPENS; /* it is too deep to be looked at again and again */
     return last;
 }
 

@@ -3,3 +3,4 @@ mod Events
 mod Leading
 mod Joining
 mod Blocks
+mod Between

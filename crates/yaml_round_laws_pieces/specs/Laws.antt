@@ -1,5 +1,5 @@
 -- A list of events may be given in pieces, and what was laid out replaced by what leads to the same stand.
-use Rattle.std.specs.Prelude.{◌≡◌, Bool, true, false, ◌&&◌, not, List, [], ◌∷◌, ◌++◌, map}
+use Rattle.std.specs.Prelude.{◌≡◌, ℕ, Bool, true, false, ◌&&◌, not, List, [], ◌∷◌, ◌++◌, map}
 use Rattle.yaml_emit_text.specs.declared.Cursor.{Cursor}
 use Rattle.yaml_emit_text.specs.declared.Encoding.{Encoding}
 use Rattle.yaml_emit_text.specs.declared.Settings.{Settings}
@@ -10,10 +10,10 @@ use Rattle.yaml_emit_layout.specs.declared.Phase.{Phase}
 use Rattle.yaml_emit_layout.specs.declared.Phase.TheVariants.{Items, Keys, Value}
 use Rattle.yaml_emit_layout.specs.declared.Expected.TheVariants as at
 use Rattle.yaml_emit_layout.specs.parse.Events.{TagDirective}
-use Rattle.yaml_emit_layout.specs.Content.{Event}
+use Rattle.yaml_emit_layout.specs.Content.{Opening, Event, document_start}
 use Rattle.yaml_emit_layout.specs.State.{placed, among}
 use Rattle.yaml_emit_held.specs.Judged.{let_out, laid}
-use Rattle.yaml_round_laws_pieces.specs.Pieces.{Stand, first_stand, whole, Leads, Waits, joined, Cuts, Alike}
+use Rattle.yaml_round_laws_pieces.specs.Pieces.{Stand, first_stand, added, whole, Leads, Waits, joined, Cuts, Alike}
 
 -- From each stand each list of events leads to one, where at most three of them wait.
 abbrev pub StandsAreThere : Type 0
@@ -63,3 +63,18 @@ BlocksStandByLevels = (s : Settings) (directives : List TagDirective) (ls : List
     (c d : Cursor) → are_between ls ≡ true → c.bare ≡ false → d.bare ≡ false → c.kept ≡ d.kept
     → Alike s (record { state = among directives ls; cursor = c; held = [] })
     (record { state = among directives ls; cursor = d; held = [] })
+
+abbrev pub between_documents : Bool → Bool → ℕ → Bool → Bool → Bool → Stand
+between_documents first unended column white bare kept = record {
+  state = placed (at.Documents first unended);
+  cursor = record { column = column; white = white; bare = bare; kept = kept };
+  held = [];
+}
+
+-- In front of a document it doesn't count whether the last one's breaks are kept: a document that stands in for others has to end as
+-- the last of them did, and that is all.
+abbrev pub DocumentsStandByEnds : Type 0
+DocumentsStandByEnds = (s : Settings) (first unended : Bool) (column : ℕ) (white bare k l : Bool)
+    (o : Opening) (more : List Event)
+    → added s (between_documents first unended column white bare k) (document_start o ∷ more)
+    ≡ added s (between_documents first unended column white bare l) (document_start o ∷ more)

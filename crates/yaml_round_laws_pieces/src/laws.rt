@@ -1,6 +1,6 @@
 //! Each function's contract is a law.
 
-ghost use Rattle.yaml_round_laws_pieces.specs.Laws.{StandsAreThere, CuttingsAreWholes, CutsAreThere, FrontsAreShown, StandInsStand, BlocksStandByLevels};
+ghost use Rattle.yaml_round_laws_pieces.specs.Laws.{StandsAreThere, CuttingsAreWholes, CutsAreThere, FrontsAreShown, StandInsStand, BlocksStandByLevels, DocumentsStandByEnds};
 
 /// From each stand each list of events leads to one.
 pub fn stands_are_there()
@@ -30,4 +30,9 @@ pub fn stand_ins_stand()
 /// Within block collections the open ones with their indentations tell what is added.
 pub fn blocks_stand_by_levels()
     ensures { BlocksStandByLevels }
+{}
+
+/// In front of a document it counts how the last one ended, and not whether its breaks are kept.
+pub fn documents_stand_by_ends()
+    ensures { DocumentsStandByEnds }
 {}

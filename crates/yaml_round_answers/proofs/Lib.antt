@@ -3,3 +3,4 @@ mod Handing
 mod ScanTelling
 pub mod Exact
 pub mod NormalExact
+pub mod PartingExact

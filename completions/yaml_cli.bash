@@ -25,7 +25,7 @@ _yaml_cli() {
         docs) options='--from --indent --width --ascii --break --encoding --limit -h --help' ;;
         events) options='--from -h --help' ;;
         same) options='--from -h --help' ;;
-        diff) options='--from -h --help' ;;
+        diff) options='--from --documents -h --help' ;;
         check) options='--from --quiet --files0-from -h --help' ;;
         help) COMPREPLY=($(compgen -W 'fmt norm docs events same diff check help' -- "$now")); return ;;
         *) return ;;

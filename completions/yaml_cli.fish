@@ -46,6 +46,7 @@ complete -c yaml_cli -n '__fish_seen_subcommand_from same' -l from -x -a 'auto u
 complete -c yaml_cli -n '__fish_seen_subcommand_from same' -s h -l help -d 'Print help'
 complete -c yaml_cli -n '__fish_seen_subcommand_from same' -F
 complete -c yaml_cli -n '__fish_seen_subcommand_from diff' -l from -x -a 'auto utf8 utf16le utf16be' -d 'How the input is encoded: auto, utf8, utf16le or utf16be'
+complete -c yaml_cli -n '__fish_seen_subcommand_from diff' -l documents -d 'Compare the loaded documents: names of anchors and quotes don\'t count, sharing does'
 complete -c yaml_cli -n '__fish_seen_subcommand_from diff' -s h -l help -d 'Print help'
 complete -c yaml_cli -n '__fish_seen_subcommand_from diff' -F
 complete -c yaml_cli -n '__fish_seen_subcommand_from check' -l from -x -a 'auto utf8 utf16le utf16be' -d 'How the input is encoded: auto, utf8, utf16le or utf16be'

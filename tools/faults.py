@@ -100,6 +100,10 @@ CASES = [
     Case("diff long", ["diff", "a", "b"], files={"a": MAPPING + b"- a", "b": MAPPING + b"- b"}),
     Case("diff short", ["diff", "-", "a"], b"a: {b c: [d]}", {"a": b"a:\n  b c:\n  - d\n  - e\n"}),
     Case("diff refused", ["diff", "a", "b"], files={"a": b"a", "b": b"a: [b\nc: d\n"}),
+    Case("diff documents equal", ["diff", "--documents", "a", "b"], files={"a": TAGGED, "b": TAGGED}),
+    Case("diff documents long", ["diff", "--documents", "a", "b"], files={"a": MAPPING + b"- a", "b": MAPPING + b"- b"}),
+    Case("diff documents short", ["diff", "--documents", "-", "a"], b"[&x a, *x]", {"a": b"- a\n- a\n"}),
+    Case("diff documents refused", ["diff", "--documents", "a", "b"], files={"a": b"a", "b": b"- *x\n"}),
     Case("dash", ["same", "-", "a"], b"a: b", {"a": b"{a: b}"}),
     Case("dash twice", ["same", "-", "-"], b"a: b"),
     Case("one file too many", ["fmt", "a", "b"]),
@@ -338,6 +342,7 @@ def real_runs(bench):
         (["diff", "in.yaml", "other.yaml"], pipe, 1, b""),
         (["diff", "in.yaml", "in.yaml"], full, 0, b""),
         (["diff", "in.yaml", "."], none, 2, b".: Is a directory (os error 21)"),
+        (["diff", "--documents", "in.yaml", "other.yaml"], full, 2, no_space),
     ]:
         with unread_pipe() if output == pipe else open(output, "wb") as stdout:
             how = {"cwd": folder, "stdout": stdout, "stderr": subprocess.PIPE, "timeout": SECONDS}

@@ -65,6 +65,7 @@ LAYERS = {
     "loads": LOAD,
     "same": PARSE,
     "diff": PARSE,
+    "diff_documents": LOAD,
     "events": PARSE | {"Emitter"},
     "reformat": PARSE | EMIT,
     "normalize": PARSE | EMIT,
@@ -249,7 +250,7 @@ def judge_fault(vector, got):
     line, rest = vector.line, dict(got)
     fault, front, told, side = (rest.pop(it, None) for it in ("fault", "answer", "fault_line", "side"))
     # the second input's comes only where the first is accepted
-    sides = [None] if vector.call not in ("same", "diff") else ["First"] if line.get("side") == "First" else ["First", "Second"]
+    sides = [None] if vector.call not in ("same", "diff", "diff_documents") else ["First"] if line.get("side") == "First" else ["First", "Second"]
     is_listed = front is None or vector.call in ("scan", "load", "load_tokens") and is_front(front, line["answer"])
     return fault if not rest and is_listed and told in (None, LINE) and side in sides else None
 

@@ -14,7 +14,8 @@ Judged of each text:
     fmt             its answer is `same` as the text, and rewriting it changes no byte, under settings that change too
     fmt --pretty    its answer is `same` as the text
     norm            its answer is `same` as the text, and is that of its canonical text and its own, under settings that change
-    diff            of the text and its first half: nothing exactly where they are `same`, a path exactly where they aren't
+    diff            of the text and its first half: nothing exactly where they are `same`, a path exactly where they aren't; with
+                    --documents: where `docs` writes one text for both
     docs            rewriting its answer changes no byte; it accepts only what events accepts
     events, docs    the lines of the events, or the fault's line, are those of libyaml's parser, and the fault's line of docs
                     is its loader's, where a C compiler and libyaml's header are there
@@ -329,6 +330,10 @@ class Judge:
         wanted = {b"equal\n": 0, b"different\n": 1}.get(same.output, 2)
         told = (ran.status, bool(ran.output), bool(ran.errors))
         wrong_unless(told == (wanted, wanted == 1, wanted == 2), f"same says {same}, and diff {ran}")
+        docs, ran = [self.ours("docs", it) for it in (path, half)], self.ours("diff", "--documents", path, half)
+        wanted = 2 if any(it.status for it in docs) else int(docs[0].output != docs[1].output)
+        told = (ran.status, bool(ran.output), bool(ran.errors))
+        wrong_unless(told == (wanted, wanted == 1, wanted == 2), f"docs says {docs}, and diff --documents {ran}")
 
     def loaded(self, number, docs, settings):
         """The loaded documents' text."""

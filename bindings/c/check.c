@@ -218,6 +218,62 @@ static void refuse_in_turn(int call, int text)
             ;
 }
 
+/* Where the first text and that one part, or their documents. */
+static int part(int documents, int text, yaml_c_parting *parting)
+{
+    size_t len = strlen(TEXTS[text]);
+    calls++;
+    return documents ? yaml_c_diff_documents(bytes_of(0), strlen(TEXTS[0]), 0, bytes_of(text), len, 0, parting)
+                     : yaml_c_diff(bytes_of(0), strlen(TEXTS[0]), 0, bytes_of(text), len, 0, parting);
+}
+
+/* A parting with allocations refused after the first `number`. Whether any was refused. */
+static int is_parted(int documents, int text, long number, int all, int usual)
+{
+    yaml_c_parting parting;
+    long before = blocks, refused = refusals;
+    int kind;
+    yaml_c_parting_init(&parting);
+    left = number;
+    all_refused = all;
+    kind = part(documents, text, &parting);
+    left = -1;
+    EXPECT(kind == parting.answer.kind && (kind == usual || (kind == YAML_C_MEMORY_ERROR && refusals > refused)));
+    EXPECT(kind == 0 || (parting.answer.text.len == 0 && parting.first_kind == 0 && parting.document == 0));
+    yaml_c_parting_free(&parting);
+    EXPECT(blocks == before);
+    refused_calls += refusals > refused;
+    return refusals > refused;
+}
+
+static void partings(void)
+{
+    static const int kinds[TEXT_NUMBER] = {0, 0, 0, 0, YAML_C_PARSER_ERROR, 0, YAML_C_READER_ERROR, YAML_C_READER_ERROR};
+    static const char first[] = "a: {b c: [&x d, *x]}", second[] = "a: {b c: [&y d, *y, e]}", path[] = ".0:1:a.0:3:b c[2]";
+    yaml_c_parting parting;
+    yaml_c_parting_init(&parting);
+    for (int documents = 0; documents < 2; documents++) {
+        for (int text = 0; text < TEXT_NUMBER; text++) {
+            int usual = documents && text == 5 ? YAML_C_COMPOSER_ERROR : kinds[text];
+            EXPECT(part(documents, text, &parting) == usual && parting.answer.is == (text == 0) && parting.answer.second == (usual != 0));
+            EXPECT(usual || text == 0 || (parting.first_kind == YAML_C_DOCUMENT_START_EVENT && parting.answer.text.len == 0));
+            yaml_c_parting_free(&parting);
+            for (int all = 0; all < 2; all++)
+                for (long number = 0; is_parted(documents, text, number, all, usual); number++)
+                    ;
+        }
+        calls++;
+        EXPECT(yaml_c_diff(bytes_of(2), 1, 0, bytes_of(2), 1, 4, &parting) == YAML_C_REFUSED_ARGUMENT);
+        yaml_c_parting_free(&parting);
+    }
+    calls++;
+    EXPECT(yaml_c_diff_documents((const uint8_t *)first, strlen(first), 0, (const uint8_t *)second, strlen(second), 0, &parting) == 0);
+    EXPECT(parting.answer.text.len == strlen(path) && memcmp(parting.answer.text.at, path, strlen(path)) == 0);
+    EXPECT(parting.first_kind == YAML_C_SEQUENCE_END_EVENT && parting.second_kind == YAML_C_SCALAR_EVENT);
+    EXPECT(parting.document == 0 && parting.first_mark.column == 18 && parting.second_mark.index == 20);
+    yaml_c_parting_free(&parting);
+}
+
 /* The calls that read, with an encoding. */
 static void read_as(int from, const yaml_c_settings *settings, int wanted)
 {
@@ -506,6 +562,7 @@ int main(void)
     numbers();
     emitted();
     emitted_again();
+    partings();
     wrong_events();
     for (int text = 0; text < TEXT_NUMBER; text++)
         yaml_c_parsed_free(&parsed_texts[text]);

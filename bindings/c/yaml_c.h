@@ -24,9 +24,9 @@
  * What nothing checks, and the caller keeps:
  *  - a pointer with a length names that many readable bytes (or records), fewer than 2^63 bytes in all, which nothing
  *    writes while the call runs. It isn't NULL, even where the length is 0: pass YAML_C_NOTHING or any other pointer;
- *  - the records that a call writes are writable, set up once by yaml_c_answer_init, yaml_c_parsed_init and
- *    yaml_c_scanned_init, and neither read nor written by others while the call runs; they don't overlap one another or
- *    the inputs;
+ *  - the records that a call writes are writable, set up once by yaml_c_answer_init, yaml_c_parting_init,
+ *    yaml_c_parsed_init and yaml_c_scanned_init, and neither read nor written by others while the call runs; they don't
+ *    overlap one another or the inputs;
  *  - malloc, realloc and free are one allocator's, of blocks aligned as C's are;
  *  - no call is made from a signal handler, or in the forked child of a process with threads.
  *
@@ -163,6 +163,16 @@ typedef struct {
     yaml_c_bytes line;        /* the fault in words, in one line without its end, places counted from 1; kind 1 may lack it */
 } yaml_c_answer;
 
+/* Where two inputs part. The fields behind `answer` are 0 but where a difference is told. */
+typedef struct {
+    yaml_c_answer answer;    /* `is`: 1 where they don't part, else 0; `second` as of yaml_c_same; `text`: the path */
+    uint64_t document;       /* so many documents end in front of the place */
+    int32_t first_kind;      /* what the first input's event there is, as an event's kind */
+    int32_t second_kind;     /* the second input's */
+    yaml_c_mark first_mark;  /* where it begins */
+    yaml_c_mark second_mark;
+} yaml_c_parting;
+
 /* A part of a block of bytes, or of a list of directives: `len` items from `at` on. */
 typedef struct {
     uint64_t at;
@@ -252,6 +262,19 @@ int32_t yaml_c_check(const uint8_t *input, size_t len, int32_t from, yaml_c_answ
 int32_t yaml_c_same(const uint8_t *first, size_t first_len, int32_t first_from, const uint8_t *second,
                     size_t second_len, int32_t second_from, yaml_c_answer *answer);
 
+/* The first place at which the contents of two inputs part; none exactly where yaml_c_same answers equal. In front of it both
+ * say the same, event by event, and their next events don't. `answer.text` is the path to it from the document's root inwards,
+ * a step for each open collection, one behind another: `[N]` an item, `<N>` the key itself of a pair, `.N` a pair's value, or
+ * `.N:LENGTH:TEXT` where its key is a scalar of that text, of LENGTH bytes; numbers are decimal and count from 0. It is empty at
+ * a root, and where a document or its directives differ. Refused as yaml_c_same. */
+int32_t yaml_c_diff(const uint8_t *first, size_t first_len, int32_t first_from, const uint8_t *second, size_t second_len,
+                    int32_t second_from, yaml_c_parting *parting);
+
+/* The same of the documents that both inputs load, compared as yaml_c_reload writes them: names of anchors don't count, what
+ * they share does. Refused also by 5. */
+int32_t yaml_c_diff_documents(const uint8_t *first, size_t first_len, int32_t first_from, const uint8_t *second,
+                              size_t second_len, int32_t second_from, yaml_c_parting *parting);
+
 /* A line for each event of the input. */
 int32_t yaml_c_events(const uint8_t *input, size_t len, int32_t from, yaml_c_answer *answer);
 
@@ -303,6 +326,18 @@ static inline void yaml_c_answer_free(yaml_c_answer *answer) {
     if (answer->text.len) free((void *)answer->text.at);
     if (answer->line.len) free((void *)answer->line.at);
     yaml_c_answer_init(answer);
+}
+
+/* No difference. Before the first call with the record. */
+static inline void yaml_c_parting_init(yaml_c_parting *parting) {
+    memset(parting, 0, sizeof *parting);
+    yaml_c_answer_init(&parting->answer);
+}
+
+/* Frees the blocks of its answer. After each call; a second time does nothing. */
+static inline void yaml_c_parting_free(yaml_c_parting *parting) {
+    yaml_c_answer_free(&parting->answer);
+    yaml_c_parting_init(parting);
 }
 
 /* No events. Before the first call with the record. */
@@ -361,6 +396,9 @@ YAML_C_ASSERT(offsetof(yaml_c_answer, offset) == 16 && offsetof(yaml_c_answer, p
 YAML_C_ASSERT(offsetof(yaml_c_answer, context_mark) == 48 && offsetof(yaml_c_answer, problem) == 72);
 YAML_C_ASSERT(offsetof(yaml_c_answer, context) == 88 && offsetof(yaml_c_answer, text) == 104);
 YAML_C_ASSERT(offsetof(yaml_c_answer, line) == 120);
+YAML_C_ASSERT(sizeof(yaml_c_parting) == 200 && offsetof(yaml_c_parting, document) == 136);
+YAML_C_ASSERT(offsetof(yaml_c_parting, first_kind) == 144 && offsetof(yaml_c_parting, second_kind) == 148);
+YAML_C_ASSERT(offsetof(yaml_c_parting, first_mark) == 152 && offsetof(yaml_c_parting, second_mark) == 176);
 YAML_C_ASSERT(sizeof(yaml_c_span) == 16 && offsetof(yaml_c_span, len) == 8);
 YAML_C_ASSERT(sizeof(yaml_c_directive) == 32 && offsetof(yaml_c_directive, prefix) == 16);
 YAML_C_ASSERT(sizeof(yaml_c_event) == 152 && offsetof(yaml_c_event, style) == 4);

@@ -126,7 +126,7 @@ class Others(unittest.TestCase):
 
     def test_documented_examples(self) -> None:
         finder = doctest.DocTestFinder(exclude_empty=True)
-        modules = (yaml_c, yaml_c._documents, yaml_c._dump)
+        modules = (yaml_c, yaml_c._diff, yaml_c._documents, yaml_c._dump)
         tests = [it for module in modules for it in finder.find(module) if it.examples]
         self.assertGreater(len(tests), 8)
         runner = doctest.DocTestRunner()

@@ -26,6 +26,7 @@ from collections.abc import Iterable
 from . import _library
 from ._calls import Form, LineBreak, Settings, Text, ask, input_of, parsed, record_of
 from ._convert import Packed, unpacked
+from ._diff import Difference, ItemStep, KeyStep, Step, ValueStep, diff
 from ._documents import (
     Loaded,
     MappingNode,
@@ -74,12 +75,13 @@ from ._faults import (
 from ._version import VERSION
 
 __all__ = [
-    "Alias", "ArgumentRefused", "ComposerFault", "DocumentEnd", "DocumentStart", "EmitterFault", "Encoding", "Event",
-    "Form", "KeyRefused", "Kind", "LineBreak", "LoadRefused", "Loaded", "ManyDocuments", "MappingEnd", "MappingNode",
-    "MappingStart", "Mark", "MemoryFault", "Node", "ParserFault", "ReaderFault", "Scalar", "ScalarNode", "ScalarStyle",
-    "ScannerFault", "SequenceEnd", "SequenceNode", "SequenceStart", "Settings", "StreamEnd", "StreamStart", "Style", "Text",
-    "WriterFault", "YamlFault", "check", "compose", "compose_all", "dump", "dump_all", "emit", "events", "load", "load_all",
-    "normalize", "parse", "reformat", "reformat_with_form", "reload", "same",
+    "Alias", "ArgumentRefused", "ComposerFault", "Difference", "DocumentEnd", "DocumentStart", "EmitterFault",
+    "Encoding", "Event", "Form", "ItemStep", "KeyRefused", "KeyStep", "Kind", "LineBreak", "LoadRefused", "Loaded",
+    "ManyDocuments", "MappingEnd", "MappingNode", "MappingStart", "Mark", "MemoryFault", "Node", "ParserFault",
+    "ReaderFault", "Scalar", "ScalarNode", "ScalarStyle", "ScannerFault", "SequenceEnd", "SequenceNode", "SequenceStart",
+    "Settings", "Step", "StreamEnd", "StreamStart", "Style", "Text", "ValueStep", "WriterFault", "YamlFault", "check",
+    "compose", "compose_all", "diff", "dump", "dump_all", "emit", "events", "load", "load_all", "normalize", "parse",
+    "reformat", "reformat_with_form", "reload", "same",
 ]  # fmt: skip
 
 #: The version of the package, and of the repository that it stands in.

@@ -86,7 +86,7 @@ def input_of(text: Text, encoding: Encoding) -> tuple[bytes, int, int]:
     return it, len(it), number
 
 
-def _mark(record: _library.MarkRecord) -> Mark:
+def mark_of(record: _library.MarkRecord) -> Mark:
     return Mark(record.index, record.line, record.column)
 
 
@@ -99,24 +99,28 @@ def _fault(answer: _library.AnswerRecord) -> YamlFault:
         text,
         kind=kind,
         problem=problem,
-        problem_mark=_mark(answer.problem_mark) if has_place else None,
+        problem_mark=mark_of(answer.problem_mark) if has_place else None,
         context=context or None,
-        context_mark=_mark(answer.context_mark) if context else None,
+        context_mark=mark_of(answer.context_mark) if context else None,
         offset=answer.offset if kind is Kind.READER else None,
         value=answer.value if kind is Kind.READER and answer.value != -1 else None,
         second=bool(answer.second),
     )
 
 
+def judge_kind(kind: int, answer: _library.AnswerRecord) -> None:
+    """Raises the fault that a call tells."""
+    if kind == -1:
+        raise ArgumentRefused("a number among the arguments means nothing")
+    if kind:
+        raise _fault(answer)
+
+
 def ask(call: Any, *arguments: Any) -> tuple[bytes, int]:
     """What a call answers: its text, and its yes or no. All that it hands out is freed."""
     answer = _library.new_answer()
     try:
-        kind = call(*arguments, ctypes.byref(answer))
-        if kind == -1:
-            raise ArgumentRefused("a number among the arguments means nothing")
-        if kind:
-            raise _fault(answer)
+        judge_kind(call(*arguments, ctypes.byref(answer)), answer)
         return answer.text.get(), answer.is_
     finally:
         _library.free(answer)

@@ -66,6 +66,19 @@ class AnswerRecord(ctypes.Structure):
         return [(it.at, it.len) for it in (self.text, self.line) if it.len]
 
 
+class PartingRecord(ctypes.Structure):
+    """Where two inputs part."""
+
+    _fields_ = [
+        ("answer", AnswerRecord),
+        ("document", ctypes.c_uint64),
+        ("first_kind", ctypes.c_int32),
+        ("second_kind", ctypes.c_int32),
+        ("first_mark", MarkRecord),
+        ("second_mark", MarkRecord),
+    ]
+
+
 class ParsedRecord(ctypes.Structure):
     """Events, directives, and the bytes of their texts."""
 
@@ -94,6 +107,11 @@ def new_answer() -> AnswerRecord:
     for it in (answer.problem, answer.context, answer.text, answer.line):
         it.at = _AT
     return answer
+
+
+def new_parting() -> PartingRecord:
+    """No difference."""
+    return PartingRecord(answer=new_answer())
 
 
 def new_parsed() -> ParsedRecord:
@@ -134,7 +152,14 @@ def _call(name: str, *types: Any) -> Any:
     return found
 
 
-_SIZES = [(SettingsRecord, 32), (AnswerRecord, 136), (ParsedRecord, 48), (MarkRecord, 24), (Bytes, 16)]
+_SIZES = [
+    (SettingsRecord, 32),
+    (AnswerRecord, 136),
+    (PartingRecord, 200),
+    (ParsedRecord, 48),
+    (MarkRecord, 24),
+    (Bytes, 16),
+]
 if any(ctypes.sizeof(it) != size for it, size in _SIZES):
     raise ImportError("the records of the library aren't laid out here as in its header: it needs a machine of 64 bits")
 
@@ -150,6 +175,8 @@ reload = _call("yaml_c_reload", *_INPUT, _POINTER, _POINTER)
 normalize = _call("yaml_c_normalize", *_INPUT, _POINTER, _POINTER)
 check = _call("yaml_c_check", *_INPUT, _POINTER)
 same = _call("yaml_c_same", *_INPUT, *_INPUT, _POINTER)
+diff = _call("yaml_c_diff", *_INPUT, *_INPUT, _POINTER)
+diff_documents = _call("yaml_c_diff_documents", *_INPUT, *_INPUT, _POINTER)
 events = _call("yaml_c_events", *_INPUT, _POINTER)
 parse = _call("yaml_c_parse", *_INPUT, _POINTER, _POINTER)
 emit = _call("yaml_c_emit", *_LIST, *_LIST, *_LIST, _POINTER, _POINTER)

@@ -3,13 +3,13 @@
 use std::alloc::{AllocError, Global};
 use std::io::{Read, Write};
 use yaml_cli_program::{
-    Compared, Difference, Ended, Engine, INPUT_LIMIT, Judging, Manner, Met, Parted, Question, Side,
-    Step, Task, push_step,
+    Compared, Difference, Ended, Engine, INPUT_LIMIT, Judging, Manner, Measure, Met, Parted,
+    Question, Side, Step, Task, push_step,
 };
 use yaml_round::{
-    yaml_check, yaml_diff, yaml_difference_t, yaml_encoding_t, yaml_fault_t, yaml_normalize,
-    yaml_reformat, yaml_run, yaml_run_fault_t, yaml_same, yaml_side_t, yaml_std_input_t,
-    yaml_std_output_t, yaml_step_t,
+    yaml_check, yaml_diff, yaml_diff_documents, yaml_difference_t, yaml_encoding_t, yaml_fault_t,
+    yaml_normalize, yaml_reformat, yaml_run, yaml_run_fault_t, yaml_same, yaml_side_t,
+    yaml_std_input_t, yaml_std_output_t, yaml_step_t,
 };
 
 /// The engine of `yaml_round`, with the program's limit.
@@ -109,8 +109,13 @@ impl Engine for Rounds {
         }
     }
 
-    fn diff(&self, alloc: Global, from: yaml_encoding_t, first: &[u8], second: &[u8]) -> Parted {
-        match yaml_diff(alloc, first, from, second, from) {
+    fn diff(&self, alloc: Global, by: Measure, first: &[u8], second: &[u8]) -> Parted {
+        let difference = if by.documents {
+            yaml_diff_documents(alloc, first, by.from, second, by.from)
+        } else {
+            yaml_diff(alloc, first, by.from, second, by.from)
+        };
+        match difference {
             Ok(None) => Ok(None),
             Ok(Some(difference)) => Ok(Some(difference_of(alloc, &difference))),
             Err((side, fault)) => Err((side_of(side), fault)),

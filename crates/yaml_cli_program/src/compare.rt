@@ -3,7 +3,7 @@
 use crate::engine::{Compared, Difference, Engine, Met, Side};
 use crate::fault::{FAILED, UNJUDGED, run_failed, shown, unread};
 use crate::file::{STANDARD, bytes_of, whole_of, write_answer, write_text};
-use crate::order::Pair;
+use crate::order::{Measure, Pair};
 use std::alloc::Global;
 use std::io::{Read, Write};
 use std::rt::Files;
@@ -31,10 +31,10 @@ fn same_with<G: Engine, H: Files + AllocGlobal, R: Read>(
     reader: &mut R,
 ) -> Compared {
     if is_itself(pair) {
-        return engine.same(rt.alloc(), pair.from, first, first);
+        return engine.same(rt.alloc(), pair.by.from, first, first);
     }
     match bytes_of(rt, pair.second, reader) {
-        Ok(second) => engine.same(rt.alloc(), pair.from, first, second.as_slice()),
+        Ok(second) => engine.same(rt.alloc(), pair.by.from, first, second.as_slice()),
         Err(fault) => Err((Side::Second, fault)),
     }
 }
@@ -107,11 +107,12 @@ fn told(alloc: Global, difference: &Difference, first: Source<'_>, second: Sourc
 fn diff_texts<G: Engine, E: Write>(
     engine: &G,
     alloc: Global,
+    by: Measure,
     first: Source<'_>,
     second: Source<'_>,
     errors: &mut E,
 ) -> Found {
-    match engine.diff(alloc, first.from, first.input, second.input) {
+    match engine.diff(alloc, by, first.input, second.input) {
         Ok(None) => Found::Nothing,
         Ok(Some(difference)) => told(alloc, &difference, first, second),
         Err((side, fault)) => {
@@ -135,16 +136,16 @@ fn diff_with<G: Engine, H: Files + AllocGlobal, R: Read, E: Write>(
     errors: &mut E,
 ) -> Found {
     if is_itself(pair) {
-        return diff_texts(engine, rt.alloc(), first, first, errors);
+        return diff_texts(engine, rt.alloc(), pair.by, first, first, errors);
     }
     match whole_of(rt, pair.second, reader) {
         Ok(second) => {
             let second = Source {
                 name: pair.second,
                 input: second.as_slice(),
-                from: pair.from,
+                from: pair.by.from,
             };
-            diff_texts(engine, rt.alloc(), first, second, errors)
+            diff_texts(engine, rt.alloc(), pair.by, first, second, errors)
         }
         Err(why) => {
             unread(errors, pair.second, &why);
@@ -165,7 +166,7 @@ fn find<G: Engine, H: Files + AllocGlobal, R: Read, E: Write>(
             let first = Source {
                 name: pair.first,
                 input: first.as_slice(),
-                from: pair.from,
+                from: pair.by.from,
             };
             diff_with(engine, rt, first, pair, reader, errors)
         }
@@ -176,8 +177,8 @@ fn find<G: Engine, H: Files + AllocGlobal, R: Read, E: Write>(
     }
 }
 
-/// Tells where two files part; answers the status, as diff's: 0 where they have the same content, 1 where they don't, 2 where
-/// they couldn't be compared.
+/// Tells where two files part; answers the status, as diff's: 0 where they don't, 1 where they do, 2 where they couldn't be
+/// compared.
 pub(crate) fn run_diff<G: Engine, H: Files + AllocGlobal, R: Read, W: Write, E: Write>(
     engine: &G,
     rt: &H,

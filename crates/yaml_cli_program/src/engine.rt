@@ -1,6 +1,6 @@
 //! What the program asks of an engine. It rests on nothing that an engine's contract says, so it is proved before the engine is.
 
-use crate::order::{Judging, Manner, Task};
+use crate::order::{Judging, Manner, Measure, Task};
 use std::alloc::Global;
 use std::io::{Read, Write};
 use yaml_parse_types::yaml_event_type_t;
@@ -27,7 +27,7 @@ pub struct Met {
     pub kind: yaml_event_type_t,
 }
 
-/// The first place at which the contents of two inputs part.
+/// The first place at which two inputs part.
 #[derive(Drop)]
 pub struct Difference {
     /// The path to it, as people are shown it, where there is room for it.
@@ -36,7 +36,7 @@ pub struct Difference {
     pub second: Met,
 }
 
-/// Where two inputs part, nothing where they have the same content, or the fault of one of them.
+/// Where two inputs part, nothing where they don't, or the fault of one of them.
 pub type Parted = Result<Option<Difference>, (Side, yaml_fault_t)>;
 
 /// An engine.
@@ -64,6 +64,6 @@ pub trait Engine {
     /// Whether two inputs have the same content.
     fn same(&self, alloc: Global, from: yaml_encoding_t, first: &[u8], second: &[u8]) -> Compared;
 
-    /// Where two inputs part.
-    fn diff(&self, alloc: Global, from: yaml_encoding_t, first: &[u8], second: &[u8]) -> Parted;
+    /// Where two inputs part, by that measure.
+    fn diff(&self, alloc: Global, by: Measure, first: &[u8], second: &[u8]) -> Parted;
 }

@@ -18,6 +18,6 @@ mod words;
 
 pub use engine::{Compared, Difference, Ended, Engine, Met, Parted, Side};
 pub use fault::INPUT_LIMIT;
-pub use order::{Judging, Manner, Question, Task};
+pub use order::{Judging, Manner, Measure, Question, Task};
 pub use program::main_by;
 pub use yaml_cli_places::{Step, push_step};

@@ -42,10 +42,17 @@ pub struct Judging {
     pub quiet: bool,
 }
 
+/// By what two inputs are compared: how both are encoded, and whether by their loaded documents or by their contents.
+#[derive(Clone, Copy)]
+pub struct Measure {
+    pub from: yaml_encoding_t,
+    pub documents: bool,
+}
+
 /// Two files that are to be compared.
 #[derive(Clone, Copy)]
 pub(crate) struct Pair<'a> {
-    pub(crate) from: yaml_encoding_t,
+    pub(crate) by: Measure,
     pub(crate) first: &'a str,
     pub(crate) second: &'a str,
 }
@@ -99,7 +106,7 @@ pub(crate) enum Order<'a> {
     Normalize(Rewriting<'a>),
     /// Whether they have the same content.
     Same(Pair<'a>),
-    /// Where their contents part.
+    /// Where they part.
     Diff(Pair<'a>),
     Judge(Judged<'a>),
     /// The words say nothing that can be done.

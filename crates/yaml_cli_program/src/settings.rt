@@ -1,8 +1,8 @@
 //! The words of a command, as they stand among the matches.
 
 use crate::order::{
-    Judged, Judging, Manner, Order, Pair, Question, Rewriting, Run, Task, Unknown, Words, Wrong,
-    from_named, manner_of,
+    Judged, Judging, Manner, Measure, Order, Pair, Question, Rewriting, Run, Task, Unknown, Words,
+    Wrong, from_named, manner_of,
 };
 use clap::ArgMatches;
 use std::alloc::{AllocError, Global};
@@ -107,7 +107,10 @@ fn rewriting_in<'a>(
 fn pair_in<'a>(matches: &ArgMatches<'a>) -> Result<Pair<'a>, Unknown<'a>> {
     let from = from_named(word_of(matches, "from", "auto"))?;
     Ok(Pair {
-        from,
+        by: Measure {
+            from,
+            documents: matches.get_flag("documents"),
+        },
         first: word_of(matches, "first", ""),
         second: word_of(matches, "second", ""),
     })

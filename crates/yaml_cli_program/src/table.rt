@@ -138,11 +138,12 @@ Status:
         name: "diff",
         about: "Shows where the contents of two files part, and writes nothing where they don't",
         after: "\
-Example:
+Examples:
   yaml_cli diff old.yaml new.yaml
+  yaml_cli diff --documents old.yaml new.yaml
 
 Status:
-  0  The files have the same content
+  0  The files have the same content, or the same documents
   1  They haven't: the path to the first difference was written, and its place in both
   2  The words are wrong, or a file is refused or can't be read",
         bit: DIFF,
@@ -164,7 +165,7 @@ Status:
 ];
 
 /// The arguments, in the order in which a command lists those that it takes.
-pub(crate) const ROWS: [Row; 16] = [
+pub(crate) const ROWS: [Row; 17] = [
     Row {
         name: "file",
         kind: Kind::Place,
@@ -220,6 +221,14 @@ pub(crate) const ROWS: [Row; 16] = [
         usual: "false",
         help: "Write no text, but the names of the files that haven't this form already",
         of: FMT | NORM,
+    },
+    Row {
+        name: "documents",
+        kind: Kind::Flag,
+        value: "",
+        usual: "false",
+        help: "Compare the loaded documents: names of anchors and quotes don't count, sharing does",
+        of: DIFF,
     },
     Row {
         name: "quiet",

@@ -1,4 +1,4 @@
-//! The calls of the engine: events, reformat, reload, same, diff, and the line that tells a fault.
+//! The calls of the engine: events, reformat, reload, same, both diffs, and the line that tells a fault.
 
 use crate::difference::put_difference;
 use crate::given::{Given, given_of, input_of};
@@ -7,8 +7,9 @@ use serde_json::Value;
 use yaml_cli_vector_calls::own_fault;
 use yaml_cli_vector_lines::Reply;
 use yaml_round::{
-    yaml_check, yaml_diff, yaml_events, yaml_fault_line, yaml_fault_t, yaml_normalize,
-    yaml_reformat, yaml_reload, yaml_same, yaml_settings_t, yaml_side_t,
+    yaml_check, yaml_diff, yaml_diff_documents, yaml_difference_t, yaml_events, yaml_fault_line,
+    yaml_fault_t, yaml_normalize, yaml_reformat, yaml_reload, yaml_same, yaml_settings_t,
+    yaml_side_t,
 };
 
 /// The event lines of the line's input.
@@ -105,24 +106,30 @@ pub fn same(reply: &mut Reply, line: &Value) {
     put_same(reply, line, same);
 }
 
-/// Where the line's inputs part, null where they don't, or the side that is refused and its fault.
-pub fn diff(reply: &mut Reply, line: &Value) {
+type Parted = Result<Option<yaml_difference_t>, (yaml_side_t, yaml_fault_t)>;
+
+fn put_parted(reply: &mut Reply, line: &Value, parted: &Parted) {
+    reply.begin();
+    match parted {
+        Ok(difference) => put_difference(reply, difference),
+        Err((side, fault)) => put_side(reply, line, *side, fault),
+    }
+    reply.end();
+}
+
+/// Where the line's inputs part, or their documents, null where they don't, or the side that is refused and its fault.
+pub fn diff(reply: &mut Reply, line: &Value, documents: bool) {
     let from = reply.encoding(line, "from");
     let from2 = reply.encoding(line, "from2");
     let first = input_of(reply, line, "input");
     let second = input_of(reply, line, "input2");
-    reply.begin();
-    match yaml_diff(
-        reply.alloc(),
-        first.as_slice(),
-        from,
-        second.as_slice(),
-        from2,
-    ) {
-        Ok(difference) => put_difference(reply, &difference),
-        Err((side, fault)) => put_side(reply, line, side, &fault),
-    }
-    reply.end();
+    let alloc = reply.alloc();
+    let parted = if documents {
+        yaml_diff_documents(alloc, first.as_slice(), from, second.as_slice(), from2)
+    } else {
+        yaml_diff(alloc, first.as_slice(), from, second.as_slice(), from2)
+    };
+    put_parted(reply, line, &parted);
 }
 
 /// The line that tells the fault.

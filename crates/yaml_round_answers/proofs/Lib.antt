@@ -6,3 +6,4 @@ pub mod Exact
 pub mod NormalExact
 pub mod Offsets
 pub mod Rows
+pub mod PartingExact

@@ -8,3 +8,5 @@ pub mod Decodes
 pub mod Normalizes
 -- what it speaks of, for the crate that exports its calls
 pub use Rattle.yaml_round_records.specs.Numbers
+pub mod Path
+pub mod Parting

@@ -7,6 +7,8 @@ mod emitting;
 mod engine;
 mod normalizing;
 mod parsing;
+mod parting;
+mod path;
 mod scanning;
 mod settings;
 
@@ -16,6 +18,7 @@ pub use emitting::answered_by;
 pub use engine::{compared_by, listed_by, reformatted_by, reloaded_by};
 pub use normalizing::{checked_by, normalized_by};
 pub use parsing::{front_by, parsed_by, yaml_c_parsed};
+pub use parting::{documents_parted_by, parted_by, yaml_c_parting};
 pub use scanning::{scanned_by, yaml_c_scanned};
 pub use yaml_round_records::{
     yaml_c_directive, yaml_c_event, yaml_c_mark, yaml_c_settings, yaml_c_span,

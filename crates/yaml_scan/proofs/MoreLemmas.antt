@@ -16,7 +16,6 @@ use Rattle.yaml_scan_model.specs.declared.problem.ScanFault.{ScanFault}
 use Rattle.yaml_scan_history.specs.declared.kind.Kind.{Kind}
 use Rattle.yaml_scan_history.specs.declared.lexeme.Entry.{Entry}
 use Rattle.yaml_scan_history.specs.declared.lexeme.Lexeme.{Lexeme}
-use Rattle.yaml_scan_history.specs.declared.lexeme.Opens.TheVariants as opening
 use Rattle.yaml_scan_history.specs.History.{ended, entries}
 use Rattle.yaml_scan_history.specs.Next.{Next, Read, Fails, Ends, first_lexeme, kind_behind, place_behind, lexeme_behind, no_start, stale_before, faults, first_fault_or, coming, next, history}
 use Rattle.yaml_scan_history.specs.Remaining.{SpelledText, Remaining, all, fault_in, remaining, offline}
@@ -25,6 +24,7 @@ use Rattle.yaml_scan_laws_order.proofs.HistoryForward.{all_ends, stays_all, hist
 use Rattle.yaml_scan_laws_order.proofs.RemainingForward.{SameEnds, entries_ends, fault_is, last_comes}
 use Rattle.yaml_scan_machine.specs.declared.machine.Machine.{Machine}
 use Rattle.yaml_scan_machine.specs.scan_queue.declared.waiting.Waiting.{Waiting}
+use Rattle.yaml_scan_machine.specs.scan_queue.Waits.{Kept, kept_of}
 use Rattle.yaml_scan_machine.specs.Comes.{to_come}
 use Rattle.yaml_scan_machine.specs.Left.{left_in}
 use Rattle.yaml_scan_machine.specs.Shows.{fields_of, read, history_of, stream_of}
@@ -32,7 +32,7 @@ use Rattle.yaml_scan_machine.specs.State.{IsMachine, ready_in, is_ready}
 use Rattle.yaml_scan_machine.specs.Taken.{given_in, front_count}
 use Rattle.yaml_scan_machine.proofs.ComesLemmas.{left_is, left_whole}
 use Rattle.yaml_scan_machine.proofs.SpellLemmas.{spell_length}
-use Rattle.yaml_scan_machine.proofs.GivenLemmas.{front_is}
+use Rattle.yaml_scan_machine.proofs.GivenLemmas.{front_is, no_entry}
 use Rattle.yaml_scan.specs.Session.{HasMore}
 
 -- further lexemes leave how many levels a lexeme closes
@@ -114,9 +114,6 @@ unfolding next
 open_next text [] e p = read_open first_lexeme p
 open_next text (l ∷ h) e p = coming_open (kind_behind text (l ∷ h)) text (l ∷ h) (rw e at p)
 
-no_entry : Entry
-no_entry = record { lexeme = first_lexeme; ends = 0; opens = opening.Nothing; key = false }
-
 not_settled : (d s g : ℕ) (w : Waiting) (ws : List Waiting) → ready_in d s g (w ∷ ws) ≡ false → d < s → ⊥
 not_settled d s g w ws e low =
     let a : ltb d s ≡ true = grind (arith, nat_tests) in
@@ -127,22 +124,22 @@ unfolding read
 by_waiting m [] items i stuck unended =
     let s = i.shown in
     let n : ℕ = m.dropped + length (fields_of m).waiting in
-    let wait : (fields_of m).waiting ≡ [] = ap (λ (ws : List Waiting). map (λ (x : Waiting). x.entry) ws) items in
-    more_comes (stream_of m) n m.dropped m.given no_entry unended (omega (arith, s.count)) (inr (subst (λ (es : List Entry). given_in m.dropped m.settled m.given es) wait i.given))
+    let wait : (fields_of m).waiting ≡ [] = ap (λ (ws : List Waiting). map (λ (x : Waiting). kept_of x) ws) items in
+    more_comes (stream_of m) n m.dropped m.given no_entry unended (omega (arith, s.count)) (inr (subst (λ (ks : List Kept). given_in m.dropped m.settled m.given ks) wait i.given))
 by_waiting m (w ∷ ws) items i stuck unended =
     let f = fields_of m in
     let s = i.shown in
     let n : ℕ = m.dropped + length f.waiting in
-    let es = map (λ (x : Waiting). x.entry) ws in
-    let wait : f.waiting ≡ w.entry ∷ es = ap (λ (ws : List Waiting). map (λ (x : Waiting). x.entry) ws) items in
+    let ks = map (λ (x : Waiting). kept_of x) ws in
+    let wait : f.waiting ≡ kept_of w ∷ ks = ap (λ (ws : List Waiting). map (λ (x : Waiting). kept_of x) ws) items in
     let first : ready_in m.dropped m.settled m.given (w ∷ ws) ≡ false = ap (λ (ws : List Waiting). ready_in m.dropped m.settled m.given ws) (sym items) ∙ stuck in
-    let (here, inside) = front_is f w.entry es w.entry s wait in
-    let ends : (get_or (entries (history_of m)) m.dropped w.entry).ends ≡ w.entry.ends = ap (λ (x : Entry). x.ends) here in
-    let few : m.given ≤ w.entry.ends = elim (subst (λ (es : List Entry). given_in m.dropped m.settled m.given es) wait i.given) [
+    let (here, inside) = front_is f (kept_of w) ks no_entry s wait in
+    let ends : (get_or (entries (history_of m)) m.dropped no_entry).ends ≡ w.ends = ap (λ (k : Kept). k.ends) here in
+    let few : m.given ≤ w.ends = elim (subst (λ (ks : List Kept). given_in m.dropped m.settled m.given ks) wait i.given) [
       | inl upto ↦ upto
       | inr (low, more) ↦ absurd (not_settled m.dropped m.settled m.given w ws first low)
     ] in
-    more_comes (stream_of m) n m.dropped m.given w.entry unended (omega (arith, s.count)) (inl (inside, omega (arith, ends, few)))
+    more_comes (stream_of m) n m.dropped m.given no_entry unended (omega (arith, s.count)) (inl (inside, omega (arith, ends, few)))
 
 machine_more : (m : Machine) → IsMachine m → is_ready m ≡ false → m.ended ≡ false → HasMore (to_come m).tokens (to_come m).fault
 machine_more m i stuck more = by_waiting m m.waiting.items refl i stuck (open_next (text_bytes m.text) (history_of m) (sym i.shown.ended ∙ more))

@@ -3,23 +3,28 @@ use Rattle.std.proofs.Common.{◌≡◌, inl, inr, sym, subst, ℕ, ℤ, pos, ne
 use Rattle.yaml_parse.specs.declared.yaml_encoding_t.{yaml_encoding_t}
 use Rattle.yaml_parse.specs.declared.yaml_fault_t.{yaml_fault_t}
 use Rattle.yaml_parse.specs.declared.yaml_origin_t.TheVariants.{Parser}
-use Rattle.yaml_parse.specs.Faults.{fault_of, memory_fault}
+use Rattle.yaml_parse.specs.Faults.{Fault, fault_of, memory_fault}
 use Rattle.yaml_round.specs.declared.yaml_side_t.{yaml_side_t}
 use Rattle.yaml_round.specs.declared.yaml_difference_t.{yaml_difference_t}
 use Rattle.yaml_round_records.specs.Numbers.{encoding_meant}
+use Rattle.yaml_round_answers.specs.declared.answer.yaml_c_answer.{yaml_c_answer}
 use Rattle.yaml_round_answers.specs.declared.parting.yaml_c_parting.{yaml_c_parting}
-use Rattle.yaml_round_answers.specs.Told.{IsExact, both, side_number}
+use Rattle.yaml_round_answers.specs.Told.{IsExact, Refuses, both, side_number}
 use Rattle.yaml_round_answers.specs.Path.{path_spelled}
 use Rattle.yaml_round_answers.specs.Parting.{TellsParting, PartingMeant, Parts, PartsDocuments}
 use Rattle.yaml_round_answers.proofs.Exact.{text_kind, fault_kind}
+
+refusal_kind : (f : Fault) (whose : ℤ) (a : yaml_c_answer) → Refuses f whose a → ¬ (a.kind ≡ negsuc 0)
+refusal_kind f whose a (inl t) = fault_kind f whose a t
+refusal_kind f whose a (inr s) = fault_kind (memory_fault Parser) whose a (s.told Parser)
 
 parting_kind : (r : Result (Option yaml_difference_t) (yaml_side_t × yaml_fault_t)) (p : yaml_c_parting) → TellsParting r p → ¬ (p.answer.kind ≡ negsuc 0)
 parting_kind (Ok None) p h = text_kind [] (pos 1) p.answer h.0
 parting_kind (Ok (Some d)) p h = elim h [
   | inl t ↦ text_kind (path_spelled d.path.items) (pos 0) p.answer t.answer
-  | inr m ↦ fault_kind (memory_fault Parser) (pos 0) p.answer m.0
+  | inr m ↦ refusal_kind (memory_fault Parser) (pos 0) p.answer m.0
 ]
-parting_kind (Err f) p h = fault_kind (fault_of f.1) (side_number f.0) p.answer h.0
+parting_kind (Err f) p h = refusal_kind (fault_of f.1) (side_number f.0) p.answer h.0
 
 -- numbers of encodings, known by other names
 told_as : (m n first_from second_from : ℤ) (Is : yaml_encoding_t × yaml_encoding_t → yaml_c_parting → Type 0) (p : yaml_c_parting) → m ≡ first_from → n ≡ second_from

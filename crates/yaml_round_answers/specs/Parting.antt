@@ -13,7 +13,7 @@ use Rattle.yaml_round.specs.Loaded.{IsDocumentsDiff}
 use Rattle.yaml_round_records.specs.Records.{mark_told}
 use Rattle.yaml_round_answers.specs.declared.answer.yaml_c_answer.{yaml_c_answer}
 use Rattle.yaml_round_answers.specs.declared.parting.yaml_c_parting.{yaml_c_parting}
-use Rattle.yaml_round_answers.specs.Told.{no_mark, TellsText, TellsFault, TellsMisuse, side_number}
+use Rattle.yaml_round_answers.specs.Told.{no_mark, TellsText, Refuses, TellsMisuse, side_number}
 use Rattle.yaml_round_answers.specs.Path.{path_spelled}
 
 abbrev pub kind_number : yaml_event_type_t → ℤ
@@ -50,13 +50,13 @@ pub record TellsPlace (path : List ℕ) (d : yaml_difference_t) (p : yaml_c_part
 abbrev pub NoPlaceBeside : (yaml_c_answer → Type 0) → yaml_c_parting → Type 0
 NoPlaceBeside Tells p = Tells p.answer × TellsNoPlace p
 
--- nowhere, a place, or a fault; want of memory where the path has no room
+-- nowhere, a place, or a fault; want of memory where the path has no room, or a fault's line
 abbrev pub TellsParting : Result (Option yaml_difference_t) (yaml_side_t × yaml_fault_t)
     → yaml_c_parting → Type 0
 TellsParting (Ok None) p = NoPlaceBeside (TellsText [] (pos 1)) p
 TellsParting (Ok (Some d)) p = TellsPlace (path_spelled d.path.items) d p
-    ⊎ NoPlaceBeside (TellsFault (memory_fault Parser) (pos 0)) p
-TellsParting (Err f) p = NoPlaceBeside (TellsFault (fault_of f.1) (side_number f.0)) p
+    ⊎ NoPlaceBeside (Refuses (memory_fault Parser) (pos 0)) p
+TellsParting (Err f) p = NoPlaceBeside (Refuses (fault_of f.1) (side_number f.0)) p
 
 -- C is told what the relation allows.
 pub record IsParted

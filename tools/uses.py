@@ -5,8 +5,8 @@
 
 A path begins with a crate that stands in the crate's line of crates.txt, and goes through the modules that a `Lib.antt` hands
 on; it ends in a file there, and the names behind it are those of its public definitions, or in a type that the crate's code
-declares or hands out. What std and the kit hold isn't looked at. A `Lib.antt` may hand on a module under one name alone. Nothing
-is proved here: it takes seconds.
+declares or hands out. What std and the kit hold isn't looked at. A `Lib.antt` may hand on a module under one name alone, and all
+of a crate's under the crate's own, without `yaml_`. Nothing is proved here: it takes seconds.
 """
 import functools
 import glob
@@ -98,10 +98,21 @@ def twice(crate, tree):
     return found
 
 
+def misnamed(crate, tree):
+    """The names of crates, whose modules a crate hands on, that aren't theirs."""
+    for name, path in handed_on(crate, tree)[2].items():
+        at, _, left = walked(path, crate) or ("", "", ["?"])
+        if not left and at != f"yaml_{name}":
+            yield f"{name}: isn't the name of {at}"
+
+
 def main():
     found = 0
     for crate in repo.crates():
         for tree in ("specs", "proofs"):
+            for said in misnamed(crate, tree):
+                found += 1
+                print(f"crates/{crate}/{tree}/Lib.antt: {said}")
             for name in twice(crate, tree):
                 found += 1
                 print(f"crates/{crate}/{tree}/Lib.antt: {name}: is handed on under another name too")

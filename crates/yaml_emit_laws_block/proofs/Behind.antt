@@ -17,8 +17,8 @@ use Rattle.yaml_emit_laws_text.specs.emit_text.Layout.{Rest, line}
 use Rattle.yaml_emit_laws_text.specs.emit_text.Style.{allowed, plain_fits, single_or, block_or, plain_or, taken}
 use Rattle.yaml_emit_laws_text.specs.emit_text.Scalars.{chomp, ends_in_break}
 use Rattle.yaml_emit_laws_text.specs.emit_text.Spelling.{in_front, break_text}
-use Rattle.yaml_emit_laws_text.specs.emit_layout.scan.declared.yaml_scalar_style_t.{yaml_scalar_style_t}
-use Rattle.yaml_emit_laws_text.specs.emit_layout.scan.declared.yaml_scalar_style_t.TheVariants as asked
+use Rattle.yaml_emit_laws_text.specs.emit_layout.scan_model.declared.yaml_scalar_style_t.{yaml_scalar_style_t}
+use Rattle.yaml_emit_laws_text.specs.emit_layout.scan_model.declared.yaml_scalar_style_t.TheVariants as asked
 use Rattle.yaml_emit_laws_text.specs.emit_layout.declared.level.Spot.{Spot}
 use Rattle.yaml_emit_laws_text.specs.emit_layout.Content.{Scalar}
 use Rattle.yaml_emit_laws_text.specs.emit_layout.Grammar.{has as is_some, scalar_tag}

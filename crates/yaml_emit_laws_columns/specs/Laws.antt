@@ -1,7 +1,7 @@
 -- Which columns canonical layout passes, how many bytes it takes, and where a column counts for nothing.
 use Rattle.std.specs.Prelude.{◌≡◌, ◌↔◌, ℕ, ◌<◌, ◌≤◌, ◌==◌, Bool, true, false, List, length}
-use Rattle.yaml_emit_layout.specs.parse.Events.{TagDirective}
-use Rattle.yaml_emit_layout.specs.scan.declared.yaml_encoding_t.{yaml_encoding_t}
+use Rattle.yaml_emit_layout.specs.parse_model.Events.{TagDirective}
+use Rattle.yaml_emit_layout.specs.scan_model.declared.yaml_encoding_t.{yaml_encoding_t}
 use Rattle.yaml_emit_layout.specs.emit_text.declared.Settings.{Settings}
 use Rattle.yaml_emit_layout.specs.emit_text.Text.{encode, is_deep}
 use Rattle.yaml_emit_layout.specs.emit_text.declared.Cursor.{Cursor}

@@ -1,7 +1,7 @@
 -- How many bytes a text has at most, in canonical and in pretty form, by what it says.
 use Rattle.std.specs.Prelude.{ℕ, ◌+◌, ◌*◌, true, ◌==◌, nat_lt, nat_le, if◌then◌else◌, List, [], ◌∷◌, length, Option, Some, None}
 use Rattle.std.specs.Str.{chars}
-use Rattle.yaml_emit_layout.specs.parse.Events.{TagDirective}
+use Rattle.yaml_emit_layout.specs.parse_model.Events.{TagDirective}
 use Rattle.yaml_emit_layout.specs.emit_text.declared.Settings.{Settings}
 use Rattle.yaml_emit_layout.specs.emit_text.declared.Encoding.{Encoding}
 use Rattle.yaml_emit_layout.specs.emit_text.declared.Encoding.TheVariants.{Utf8, Utf16Le, Utf16Be}

@@ -2,12 +2,12 @@
 use Rattle.std.proofs.Common.{◌≡◌, ◌<◌, ℕ, zero, suc, subst, Bool, true, false, List, [], ◌∷◌, ◌++◌, length, Option, Some, None, refl, arith}
 use Rattle.std.specs.Prelude.{◌==◌, cond, if◌then◌else◌}
 use Rattle.std.proofs.lemmas.Bool.Decides.{nat_tests}
-use Rattle.yaml_emit_graph.specs.emit_layout.scan.declared.yaml_mark_t.{yaml_mark_t}
-use Rattle.yaml_emit_graph.specs.emit_layout.scan.Faults.{Fault}
-use Rattle.yaml_emit_graph.specs.emit_layout.parse.Events as event
-use Rattle.yaml_emit_graph.specs.emit_layout.parse.Nodes as model
+use Rattle.yaml_emit_graph.specs.emit_layout.scan_model.declared.yaml_mark_t.{yaml_mark_t}
+use Rattle.yaml_emit_graph.specs.emit_layout.scan_model.Faults.{Fault}
+use Rattle.yaml_emit_graph.specs.emit_layout.parse_model.Events as event
+use Rattle.yaml_emit_graph.specs.emit_layout.parse_model.Nodes as model
 use Rattle.yaml_parse_laws_trees.specs.parse_document.Documents.{Document, with_node, change_place, str_tag, seq_tag, map_tag, no_document}
-use Rattle.yaml_parse_laws_trees.specs.grammar.Resolve.{Told}
+use Rattle.yaml_parse_laws_trees.specs.parse_grammar.Resolve.{Told}
 use Rattle.yaml_parse_laws_trees.specs.parse_loader.Numbering.{loaded_tag, is_bang}
 use Rattle.yaml_parse_laws_trees.specs.parse_loader.Loading.{Open, Loading, LoadStep, goes_on, loaded, refused, nothing_loaded, step, step_body, aliased, closed, filled}
 use Rattle.yaml_parse_laws_trees.specs.NextLoad.{NextLoad, next_document, next_fault, next_none}

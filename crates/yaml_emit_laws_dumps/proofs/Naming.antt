@@ -6,7 +6,7 @@ use Rattle.std.specs.Fmt.{digits, digits_onto, digit_glyph}
 use Rattle.std.proofs.lemmas.Bool.{cases_Bool}
 use Rattle.std.proofs.lemmas.Bool.Decides.{nat_tests}
 use Rattle.std.proofs.lemmas.List.Folds.{list_all-append}
-use Rattle.yaml_emit_graph.specs.emit_layout.scan.Classes.{is_digit_byte, is_alpha_byte}
+use Rattle.yaml_emit_graph.specs.emit_layout.scan_model.Classes.{is_digit_byte, is_alpha_byte}
 use Rattle.yaml_emit_graph.specs.emit_layout.declared.Problem.{Problem}
 use Rattle.yaml_emit_graph.specs.emit_layout.Grammar.{name_problem, anchor_problem}
 use Rattle.yaml_emit_graph.specs.Graph.{lead, name_of, anchor_of}

@@ -1,8 +1,8 @@
 -- A list of events of which none is refused goes on to the end of a stream.
 use Rattle.std.proofs.Common.{◌≡◌, Bool, true, false, List, [], ◌∷◌, ◌++◌, Option, Some, None, refl, sym, ap, ◌∙◌, subst, append-nil}
-use Rattle.yaml_emit_graph.specs.emit_layout.scan.declared.yaml_encoding_t.{yaml_encoding_t}
-use Rattle.yaml_emit_graph.specs.emit_layout.scan.declared.yaml_encoding_t.TheVariants.{YAML_ANY_ENCODING}
-use Rattle.yaml_emit_graph.specs.emit_layout.scan.declared.yaml_scalar_style_t.TheVariants.{YAML_ANY_SCALAR_STYLE}
+use Rattle.yaml_emit_graph.specs.emit_layout.scan_model.declared.yaml_encoding_t.{yaml_encoding_t}
+use Rattle.yaml_emit_graph.specs.emit_layout.scan_model.declared.yaml_encoding_t.TheVariants.{YAML_ANY_ENCODING}
+use Rattle.yaml_emit_graph.specs.emit_layout.scan_model.declared.yaml_scalar_style_t.TheVariants.{YAML_ANY_SCALAR_STYLE}
 use Rattle.yaml_emit_graph.specs.emit_layout.emit_text.Layout.{written}
 use Rattle.yaml_emit_graph.specs.emit_layout.emit_text.Settings.{settled}
 use Rattle.yaml_emit_graph.specs.emit_layout.Nodes.{stream_layout}

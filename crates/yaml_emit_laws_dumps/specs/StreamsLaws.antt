@@ -1,11 +1,11 @@
 -- Which lists of events are a stream's, and that what a document says is right.
 use Rattle.std.specs.Prelude.{◌≡◌, ◌<◌, ℕ, Bool, true, List, [], ◌∷◌, ◌++◌, length, map, Option, Some, None}
-use Rattle.yaml_emit_graph.specs.emit_layout.scan.declared.yaml_encoding_t.{yaml_encoding_t}
-use Rattle.yaml_emit_graph.specs.emit_layout.scan.Faults.{Fault}
-use Rattle.yaml_emit_graph.specs.emit_layout.parse.Events as event
-use Rattle.yaml_emit_graph.specs.emit_layout.parse.Nodes as model
+use Rattle.yaml_emit_graph.specs.emit_layout.scan_model.declared.yaml_encoding_t.{yaml_encoding_t}
+use Rattle.yaml_emit_graph.specs.emit_layout.scan_model.Faults.{Fault}
+use Rattle.yaml_emit_graph.specs.emit_layout.parse_model.Events as event
+use Rattle.yaml_emit_graph.specs.emit_layout.parse_model.Nodes as model
 use Rattle.yaml_parse_laws_trees.specs.parse_document.Documents as documents
-use Rattle.yaml_parse_laws_trees.specs.grammar.Resolve.{Told}
+use Rattle.yaml_parse_laws_trees.specs.parse_grammar.Resolve.{Told}
 use Rattle.yaml_parse_laws_trees.specs.parse_loader.Loading.{Loading, LoadStep, goes_on, loaded, refused, step}
 use Rattle.yaml_parse_laws_trees.specs.NextLoad.{NextLoad, next_document, next_fault, next_none, IsLoadOf}
 use Rattle.yaml_emit_graph.specs.emit_layout.emit_text.declared.Encoding.{Encoding}

@@ -5,7 +5,7 @@ use Rattle.std.specs.Ordering.{int_eq}
 use Rattle.std.specs.Cmp.{signed_Decides}
 use Rattle.std.proofs.lemmas.Bool.{cases_Bool}
 use Rattle.std.proofs.lemmas.Bool.Decides.{nat_tests}
-use Rattle.yaml_emit_laws_text.specs.emit_layout.scan.declared.yaml_encoding_t.{yaml_encoding_t}
+use Rattle.yaml_emit_laws_text.specs.emit_layout.scan_model.declared.yaml_encoding_t.{yaml_encoding_t}
 use Rattle.yaml_emit_laws_text.specs.scan_history.scan_model.Marks.{byte, break_of, break_width, column_at}
 use Rattle.yaml_emit_laws_text.specs.scan_history.scan_model.Classes.{is_break}
 use Rattle.yaml_emit_laws_text.specs.scan_history.scan_words.Directives as directives
@@ -13,10 +13,10 @@ use Rattle.yaml_emit_laws_text.specs.scan_history.scan_words.Directives.{Said, d
 use Rattle.yaml_emit_laws_text.specs.scan_history.scan_words.Written.{HasAt, are_gap, begins_lexeme}
 use Rattle.yaml_emit_laws_text.specs.scan_history.declared.kind.Kind.TheVariants as kinds
 use Rattle.yaml_emit_laws_text.specs.scan_history.Words.{WordText, kind_at, word_at, body_said}
-use Rattle.yaml_emit_laws_text.specs.scan.Tokens as tokens
-use Rattle.yaml_emit_laws_text.specs.scan.Tokens.{TokenBody}
-use Rattle.yaml_emit_laws_text.specs.scan.declared.yaml_version_directive_t.{yaml_version_directive_t}
-use Rattle.yaml_emit_laws_text.specs.emit_layout.parse.Events.{TagDirective}
+use Rattle.yaml_emit_laws_text.specs.scan_model.Tokens as tokens
+use Rattle.yaml_emit_laws_text.specs.scan_model.Tokens.{TokenBody}
+use Rattle.yaml_emit_laws_text.specs.scan_model.declared.yaml_version_directive_t.{yaml_version_directive_t}
+use Rattle.yaml_emit_laws_text.specs.emit_layout.parse_model.Events.{TagDirective}
 use Rattle.yaml_emit_laws_text.specs.emit_layout.declared.problem.Problem.{Problem}
 use Rattle.yaml_emit_laws_text.specs.emit_layout.emit_text.declared.Cursor.{Cursor}
 use Rattle.yaml_emit_laws_text.specs.emit_layout.emit_text.declared.Settings.{Settings}

@@ -15,7 +15,7 @@ use Rattle.yaml_emit_laws_text.specs.emit_layout.emit_text.Spelling.{break_text}
 use Rattle.yaml_emit_laws_text.specs.emit_layout.emit_text.Scalars.{scalar_text, flow_body, block_body, digit_mark, chomp_mark, chomp}
 use Rattle.yaml_emit_laws_text.specs.emit_layout.emit_text.Quoted.{quoted_body}
 use Rattle.yaml_emit_laws_text.specs.emit_layout.emit_tags.Tags.{tag_spelling}
-use Rattle.yaml_emit_laws_text.specs.emit_layout.parse.Events.{TagDirective}
+use Rattle.yaml_emit_laws_text.specs.emit_layout.parse_model.Events.{TagDirective}
 use Rattle.yaml_emit_laws_text.specs.emit_layout.Content.{Nodes, no_nodes, node, Pairs, no_pairs, pair}
 use Rattle.yaml_emit_laws_text.specs.emit_layout.Nodes.{Context, checked, MOST, properties_text, items_layout, pairs_layout, before_item, before_key, closer}
 use Rattle.yaml_emit_laws_text.specs.Walk.{bytes, first}

@@ -3,9 +3,9 @@ use Rattle.std.proofs.Common.{◌≡◌, ℕ, ◌+◌, ◌<◌, ◌≤◌, ◌==
 use Rattle.std.specs.Prelude.{if◌then◌else◌, IsUtf8}
 use Rattle.std.specs.Str.{chars}
 use Rattle.std.proofs.lemmas.Bool.{cases_Bool}
-use Rattle.yaml_emit_laws_text.specs.emit_layout.scan.declared.yaml_scalar_style_t.TheVariants.{YAML_PLAIN_SCALAR_STYLE}
-use Rattle.yaml_emit_laws_text.specs.emit_layout.scan.Tokens as tokens
-use Rattle.yaml_emit_laws_text.specs.emit_layout.scan.Tokens.{TokenBody}
+use Rattle.yaml_emit_laws_text.specs.emit_layout.scan_model.declared.yaml_scalar_style_t.TheVariants.{YAML_PLAIN_SCALAR_STYLE}
+use Rattle.yaml_emit_laws_text.specs.emit_layout.scan_model.Tokens as tokens
+use Rattle.yaml_emit_laws_text.specs.emit_layout.scan_model.Tokens.{TokenBody}
 use Rattle.yaml_emit_laws_text.specs.scan_history.scan_model.Marks.{byte, column_at, is_blank, break_width}
 use Rattle.yaml_emit_laws_text.specs.scan_history.History.{indent}
 use Rattle.yaml_emit_laws_text.specs.scan_history.Kinds.{depth_after}

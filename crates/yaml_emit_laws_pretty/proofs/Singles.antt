@@ -2,8 +2,8 @@
 use Rattle.std.proofs.Common.{◌≡◌, ℕ, ◌+◌, ◌<◌, ◌≤◌, Bool, true, false, List, [], ◌∷◌, length, refl, sym, ap, subst, ◌∙◌, inr, arith}
 use Rattle.std.specs.Prelude.{IsUtf8}
 use Rattle.std.specs.Str.{chars}
-use Rattle.yaml_emit_laws_text.specs.emit_layout.scan.declared.yaml_scalar_style_t.TheVariants.{YAML_SINGLE_QUOTED_SCALAR_STYLE}
-use Rattle.yaml_emit_laws_text.specs.emit_layout.scan.Tokens as tokens
+use Rattle.yaml_emit_laws_text.specs.emit_layout.scan_model.declared.yaml_scalar_style_t.TheVariants.{YAML_SINGLE_QUOTED_SCALAR_STYLE}
+use Rattle.yaml_emit_laws_text.specs.emit_layout.scan_model.Tokens as tokens
 use Rattle.yaml_emit_laws_text.specs.scan_history.scan_model.Marks.{column_at}
 use Rattle.yaml_emit_laws_text.specs.scan_history.History.{indent}
 use Rattle.yaml_emit_laws_text.specs.scan_history.Words.{WordText, kind_at, word_at}

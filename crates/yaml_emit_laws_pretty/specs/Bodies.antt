@@ -1,10 +1,10 @@
 -- The tokens of pretty text by structure alone, without their marks, in front of those that follow.
 use Rattle.std.specs.Prelude.{ℕ, Bool, true, false, not, ◌&&◌, List, [], ◌∷◌, Option, None}
 use Rattle.std.specs.Str.{chars}
-use Rattle.yaml_emit_laws_text.specs.emit_layout.scan.declared.yaml_scalar_style_t.{yaml_scalar_style_t}
-use Rattle.yaml_emit_laws_text.specs.emit_layout.scan.declared.yaml_scalar_style_t.TheVariants.{YAML_PLAIN_SCALAR_STYLE, YAML_SINGLE_QUOTED_SCALAR_STYLE, YAML_DOUBLE_QUOTED_SCALAR_STYLE, YAML_LITERAL_SCALAR_STYLE, YAML_FOLDED_SCALAR_STYLE}
-use Rattle.yaml_emit_laws_text.specs.emit_layout.scan.Tokens as tokens
-use Rattle.yaml_emit_laws_text.specs.emit_layout.scan.Tokens.{TokenBody}
+use Rattle.yaml_emit_laws_text.specs.emit_layout.scan_model.declared.yaml_scalar_style_t.{yaml_scalar_style_t}
+use Rattle.yaml_emit_laws_text.specs.emit_layout.scan_model.declared.yaml_scalar_style_t.TheVariants.{YAML_PLAIN_SCALAR_STYLE, YAML_SINGLE_QUOTED_SCALAR_STYLE, YAML_DOUBLE_QUOTED_SCALAR_STYLE, YAML_LITERAL_SCALAR_STYLE, YAML_FOLDED_SCALAR_STYLE}
+use Rattle.yaml_emit_laws_text.specs.emit_layout.scan_model.Tokens as tokens
+use Rattle.yaml_emit_laws_text.specs.emit_layout.scan_model.Tokens.{TokenBody}
 use Rattle.yaml_emit_laws_text.specs.emit_layout.emit_text.declared.Settings.{Settings}
 use Rattle.yaml_emit_laws_text.specs.emit_layout.emit_text.declared.Style.{Style}
 use Rattle.yaml_emit_laws_text.specs.emit_layout.emit_text.declared.Style.TheVariants as style

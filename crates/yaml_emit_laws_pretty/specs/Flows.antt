@@ -1,8 +1,8 @@
 -- Collections in brackets, and what stands in them, at any depth.
 use Rattle.std.specs.Prelude.{◌≡◌, ◌⊎◌, ◌≤◌, ℕ, nat_lt, Bool, true, false, List, [], ◌∷◌, None}
-use Rattle.yaml_emit_laws_text.specs.emit_layout.scan.declared.yaml_encoding_t.{yaml_encoding_t}
-use Rattle.yaml_emit_laws_text.specs.emit_layout.scan.Tokens as tokens
-use Rattle.yaml_emit_laws_text.specs.emit_layout.scan.Tokens.{TokenBody}
+use Rattle.yaml_emit_laws_text.specs.emit_layout.scan_model.declared.yaml_encoding_t.{yaml_encoding_t}
+use Rattle.yaml_emit_laws_text.specs.emit_layout.scan_model.Tokens as tokens
+use Rattle.yaml_emit_laws_text.specs.emit_layout.scan_model.Tokens.{TokenBody}
 use Rattle.yaml_emit_laws_text.specs.scan_history.History.{indent}
 use Rattle.yaml_emit_laws_text.specs.emit_layout.emit_text.declared.Cursor.{Cursor}
 use Rattle.yaml_emit_laws_text.specs.emit_layout.emit_text.declared.Settings.{Settings}

@@ -1,8 +1,8 @@
 -- Nodes in a block: each is walked with the line behind it.
 use Rattle.std.specs.Prelude.{◌≡◌, ◌≤◌, ◌+◌, ℕ, Bool, true, false, not, ◌||◌, List, [], ◌∷◌, Option, Some, None}
-use Rattle.yaml_emit_laws_text.specs.emit_layout.scan.declared.yaml_encoding_t.{yaml_encoding_t}
-use Rattle.yaml_emit_laws_text.specs.emit_layout.scan.Tokens as tokens
-use Rattle.yaml_emit_laws_text.specs.emit_layout.scan.Tokens.{TokenBody}
+use Rattle.yaml_emit_laws_text.specs.emit_layout.scan_model.declared.yaml_encoding_t.{yaml_encoding_t}
+use Rattle.yaml_emit_laws_text.specs.emit_layout.scan_model.Tokens as tokens
+use Rattle.yaml_emit_laws_text.specs.emit_layout.scan_model.Tokens.{TokenBody}
 use Rattle.yaml_emit_laws_text.specs.scan_history.scan_model.Marks.{column_at}
 use Rattle.yaml_emit_laws_text.specs.scan_history.History.{indent, opened, start_of}
 use Rattle.yaml_emit_laws_text.specs.scan_history.declared.lexeme.Opens.{Opens}

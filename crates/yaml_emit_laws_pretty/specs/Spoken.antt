@@ -1,6 +1,6 @@
 -- Words that a layout writes for a node, one behind the other: as content or as a key, at any depth.
 use Rattle.std.specs.Prelude.{◌≡◌, ◌+◌, ℕ, ◌==◌, ◌||◌, nat_lt, if◌then◌else◌, Bool, true, false, List, [], ◌∷◌, ◌++◌, length, None, Some, Ok}
-use Rattle.yaml_emit_laws_text.specs.emit_layout.scan.Tokens.{TokenBody}
+use Rattle.yaml_emit_laws_text.specs.emit_layout.scan_model.Tokens.{TokenBody}
 use Rattle.yaml_emit_laws_text.specs.scan_history.declared.kind.Kind.{Kind}
 use Rattle.yaml_emit_laws_text.specs.scan_history.declared.kind.Kind.TheVariants as kinds
 use Rattle.yaml_emit_laws_text.specs.scan_history.scan_words.Written.{begins_lexeme}

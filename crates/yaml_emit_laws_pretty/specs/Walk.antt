@@ -1,8 +1,8 @@
 -- A walk at a cursor of a layout, outside of brackets.
 use Rattle.std.specs.Prelude.{◌≡◌, ◌<◌, ◌≤◌, ◌+◌, ℕ, ◌==◌, Bool, true, false, not, if◌then◌else◌, List, [], ◌∷◌, length, None, IsUtf8}
 use Rattle.std.specs.Str.{chars}
-use Rattle.yaml_emit_laws_text.specs.emit_layout.scan.declared.yaml_scalar_style_t.TheVariants.{YAML_PLAIN_SCALAR_STYLE, YAML_SINGLE_QUOTED_SCALAR_STYLE}
-use Rattle.yaml_emit_laws_text.specs.emit_layout.scan.Tokens as tokens
+use Rattle.yaml_emit_laws_text.specs.emit_layout.scan_model.declared.yaml_scalar_style_t.TheVariants.{YAML_PLAIN_SCALAR_STYLE, YAML_SINGLE_QUOTED_SCALAR_STYLE}
+use Rattle.yaml_emit_laws_text.specs.emit_layout.scan_model.Tokens as tokens
 use Rattle.yaml_emit_laws_text.specs.emit_layout.emit_text.declared.Page.{Page}
 use Rattle.yaml_emit_laws_text.specs.emit_layout.emit_text.Scalars.{plain, single_quoted}
 use Rattle.yaml_emit_laws_text.specs.emit_layout.emit_text.Style.{allowed}
@@ -11,8 +11,8 @@ use Rattle.yaml_emit_laws_text.specs.scan_history.declared.lexeme.Opens.TheVaria
 use Rattle.yaml_scan_laws_levels.specs.Fronts.{Rises}
 use Rattle.yaml_scan_laws_levels.specs.Tokens.{start_bodies}
 use Rattle.yaml_emit_laws_scalars.specs.PlainLaws.{may_be_plain}
-use Rattle.yaml_emit_laws_text.specs.emit_layout.scan.declared.yaml_encoding_t.{yaml_encoding_t}
-use Rattle.yaml_emit_laws_text.specs.emit_layout.scan.Tokens.{TokenBody}
+use Rattle.yaml_emit_laws_text.specs.emit_layout.scan_model.declared.yaml_encoding_t.{yaml_encoding_t}
+use Rattle.yaml_emit_laws_text.specs.emit_layout.scan_model.Tokens.{TokenBody}
 use Rattle.yaml_emit_laws_text.specs.scan_history.scan_model.Marks.{column_at, line_at}
 use Rattle.yaml_emit_laws_text.specs.scan_history.History.{indent, opened, start_of}
 use Rattle.yaml_emit_laws_text.specs.emit_layout.emit_text.declared.Cursor.{Cursor}

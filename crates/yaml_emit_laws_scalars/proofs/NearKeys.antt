@@ -8,8 +8,8 @@ use Rattle.std.proofs.lemmas.Str.{scalars-chars, encodes-chars}
 use Rattle.std.specs.Str.{chars}
 use Rattle.yaml_scan_history.specs.scan_model.Classes.{is_alpha_byte, is_digit_byte}
 use Rattle.yaml_scan_history.specs.scan_words.Written.{are_alphas}
-use Rattle.yaml_emit_layout.specs.scan.declared.yaml_scalar_style_t.{yaml_scalar_style_t}
-use Rattle.yaml_emit_layout.specs.scan.declared.yaml_scalar_style_t.TheVariants as asked
+use Rattle.yaml_emit_layout.specs.scan_model.declared.yaml_scalar_style_t.{yaml_scalar_style_t}
+use Rattle.yaml_emit_layout.specs.scan_model.declared.yaml_scalar_style_t.TheVariants as asked
 use Rattle.yaml_emit_layout.specs.emit_text.declared.Cursor.{Cursor}
 use Rattle.yaml_emit_layout.specs.emit_text.declared.Page.{Page}
 use Rattle.yaml_emit_layout.specs.emit_text.declared.Settings.{Settings}

@@ -2,8 +2,8 @@
 use Rattle.std.proofs.Common.{◌≡◌, Bool, true, false, not, ◌&&◌, ◌||◌, ◌==◌, length, sym, subst, ℕ, ◌<◌, ◌≤◌, Option, Some, None, arith}
 use Rattle.std.specs.Prelude.{if◌then◌else◌}
 use Rattle.std.specs.Str.{chars}
-use Rattle.yaml_emit_layout.specs.scan.declared.yaml_scalar_style_t.{yaml_scalar_style_t}
-use Rattle.yaml_emit_layout.specs.scan.declared.yaml_scalar_style_t.TheVariants as asked
+use Rattle.yaml_emit_layout.specs.scan_model.declared.yaml_scalar_style_t.{yaml_scalar_style_t}
+use Rattle.yaml_emit_layout.specs.scan_model.declared.yaml_scalar_style_t.TheVariants as asked
 use Rattle.yaml_emit_layout.specs.emit_text.declared.Allowed.{Allowed}
 use Rattle.yaml_emit_layout.specs.emit_text.declared.Style.{Style}
 use Rattle.yaml_emit_layout.specs.emit_text.declared.Style.TheVariants as style

@@ -5,8 +5,8 @@ use Rattle.yaml_scan_history.specs.scan_words.Written.{has_break, begins_lexeme}
 use Rattle.yaml_scan_history.specs.scan_scalars.Quoted.{single_quoted_at}
 use Rattle.yaml_scan_history.specs.declared.kind.Kind.TheVariants as kinds
 use Rattle.yaml_scan_history.specs.Words.{word_at, kind_at}
-use Rattle.yaml_emit_layout.specs.scan.declared.yaml_scalar_style_t.TheVariants.{YAML_PLAIN_SCALAR_STYLE, YAML_SINGLE_QUOTED_SCALAR_STYLE}
-use Rattle.yaml_emit_layout.specs.scan.Tokens as tokens
+use Rattle.yaml_emit_layout.specs.scan_model.declared.yaml_scalar_style_t.TheVariants.{YAML_PLAIN_SCALAR_STYLE, YAML_SINGLE_QUOTED_SCALAR_STYLE}
+use Rattle.yaml_emit_layout.specs.scan_model.Tokens as tokens
 use Rattle.yaml_emit_layout.specs.emit_text.declared.LineBreak.{LineBreak}
 use Rattle.yaml_emit_layout.specs.emit_text.declared.Cursor.{Cursor}
 use Rattle.yaml_emit_layout.specs.emit_text.declared.Page.{Page}

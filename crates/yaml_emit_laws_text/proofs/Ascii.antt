@@ -6,7 +6,7 @@ use Rattle.yaml_scan_words.specs.Uris.{is_punctuation, is_wide_punctuation}
 use Rattle.yaml_scan_words.specs.Written as written
 use Rattle.yaml_scan_words.specs.Written.{are_alphas, UriPiece, raw, escape, capital, is_kept, IsUri}
 use Rattle.std.specs.Str.{IsUtf8}
-use Rattle.yaml_emit_layout.specs.parse.Events.{TagDirective}
+use Rattle.yaml_emit_layout.specs.parse_model.Events.{TagDirective}
 use Rattle.yaml_emit_layout.specs.emit_tags.Tags.{Split, shorthand, verbatim, spelled, uri_text}
 use Rattle.yaml_emit_laws_text.specs.TagsLaws.{IsShaped, IsReadable, are_ascii, IsMarked, IsReadableDirective}
 use Rattle.yaml_emit_laws_text.proofs.Pieces.{pieces_of, text_is, text_uri}

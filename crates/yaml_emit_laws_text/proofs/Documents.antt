@@ -2,9 +2,9 @@
 use Rattle.std.proofs.Common.{◌≡◌, ℕ, ◌+◌, ◌<◌, ◌&&◌, not, nat_lt, Bool, true, false, List, [], ◌∷◌, ◌++◌, length, map, reverse, Some, Ok, refl, sym, ap, subst, ◌∙◌, arith, get_or, append_assoc, append-nil}
 use Rattle.std.specs.Prelude.{if◌then◌else◌}
 use Rattle.std.proofs.lemmas.List.{get_or_past, reverse-append}
-use Rattle.yaml_emit_laws_text.specs.scan.declared.yaml_encoding_t.{yaml_encoding_t}
-use Rattle.yaml_emit_laws_text.specs.scan.Tokens as tokens
-use Rattle.yaml_emit_laws_text.specs.scan.Tokens.{Token, TokenBody}
+use Rattle.yaml_emit_laws_text.specs.scan_model.declared.yaml_encoding_t.{yaml_encoding_t}
+use Rattle.yaml_emit_laws_text.specs.scan_model.Tokens as tokens
+use Rattle.yaml_emit_laws_text.specs.scan_model.Tokens.{Token, TokenBody}
 use Rattle.yaml_emit_laws_text.specs.scan_history.scan_model.Marks.{byte, break_of, column_at, is_blank_or_end}
 use Rattle.yaml_emit_laws_text.specs.scan_history.scan_words.Between.{Gap}
 use Rattle.yaml_emit_laws_text.specs.scan_history.scan_words.Indicators.{is_document_start, is_document_end}
@@ -16,7 +16,7 @@ use Rattle.yaml_emit_laws_text.specs.scan_history.Kinds.{depth_after, is_end}
 use Rattle.yaml_emit_laws_text.specs.scan_history.History.{reached, depth, key_allowed}
 use Rattle.yaml_emit_laws_text.specs.scan_history.Words.{WordText, kind_at, word_at}
 use Rattle.yaml_emit_laws_text.specs.scan_history.Remaining.{SpelledText}
-use Rattle.yaml_emit_laws_text.specs.scan_laws_keys.KeysTexts.{Word, lexemes, Stand, word_kinds, token_of, first_token}
+use Rattle.yaml_emit_laws_text.specs.scan_laws_texts.KeysTexts.{Word, lexemes, Stand, word_kinds, token_of, first_token}
 use Rattle.yaml_emit_laws_text.specs.emit_layout.emit_text.declared.Cursor.{Cursor}
 use Rattle.yaml_emit_laws_text.specs.emit_layout.emit_text.declared.Settings.{Settings}
 use Rattle.yaml_emit_laws_text.specs.emit_layout.emit_text.declared.LineBreak.{LineBreak}

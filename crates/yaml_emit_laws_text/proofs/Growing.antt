@@ -5,8 +5,8 @@ use Rattle.yaml_scan_laws_texts.specs.scan_history.declared.kind.Kind.{Kind}
 use Rattle.yaml_scan_laws_texts.specs.scan_history.declared.kind.Kind.TheVariants as kinds
 use Rattle.yaml_scan_laws_texts.specs.scan_history.Kinds.{is_end}
 use Rattle.yaml_scan_laws_texts.specs.scan_history.Remaining.{SpelledText, offline}
-use Rattle.yaml_emit_layout.specs.scan.declared.yaml_version_directive_t.{yaml_version_directive_t}
-use Rattle.yaml_emit_layout.specs.parse.Events.{TagDirective}
+use Rattle.yaml_emit_layout.specs.scan_model.declared.yaml_version_directive_t.{yaml_version_directive_t}
+use Rattle.yaml_emit_layout.specs.parse_model.Events.{TagDirective}
 use Rattle.yaml_scan_laws_texts.specs.KeyFree.{asked_after, asked, fits, is_key_free}
 use Rattle.yaml_scan_laws_texts.specs.KeysTexts.{Word, Stand, word_kinds, token_of, first_token, ReachEnd}
 use Rattle.yaml_scan_laws_texts.proofs.TextLemmas.{words_read}

@@ -5,10 +5,10 @@ use Rattle.std.specs.Str.{chars}
 use Rattle.yaml_emit_laws_text.specs.scan_history.scan_words.Laws.{GapReads, AnchorReads}
 use Rattle.yaml_emit_laws_text.specs.scan_history.declared.kind.Kind.{Kind}
 use Rattle.yaml_emit_laws_text.specs.scan_history.declared.kind.Kind.TheVariants as kinds
-use Rattle.yaml_emit_laws_text.specs.scan.declared.yaml_scalar_style_t.TheVariants.{YAML_DOUBLE_QUOTED_SCALAR_STYLE}
-use Rattle.yaml_emit_laws_text.specs.scan.Tokens as tokens
-use Rattle.yaml_emit_laws_text.specs.scan.Tokens.{TokenBody}
-use Rattle.yaml_emit_laws_text.specs.emit_layout.parse.Events.{TagDirective}
+use Rattle.yaml_emit_laws_text.specs.scan_model.declared.yaml_scalar_style_t.TheVariants.{YAML_DOUBLE_QUOTED_SCALAR_STYLE}
+use Rattle.yaml_emit_laws_text.specs.scan_model.Tokens as tokens
+use Rattle.yaml_emit_laws_text.specs.scan_model.Tokens.{TokenBody}
+use Rattle.yaml_emit_laws_text.specs.emit_layout.parse_model.Events.{TagDirective}
 use Rattle.yaml_emit_laws_text.specs.emit_layout.emit_text.declared.Cursor.{Cursor}
 use Rattle.yaml_emit_laws_text.specs.emit_layout.emit_text.declared.Settings.{Settings}
 use Rattle.yaml_emit_laws_text.specs.emit_layout.emit_text.declared.LineBreak.{LineBreak}

@@ -4,8 +4,8 @@ use Rattle.std.proofs.lemmas.Bool.{cases_lt}
 use Rattle.std.proofs.lemmas.Bool.Decides.{nat_tests}
 use Rattle.std.specs.Char.{IsScalar}
 use Rattle.std.proofs.Math.Utf8.{scalar_cases}
-use Rattle.yaml_emit_layout.specs.scan.Classes.{is_printable_by, is_special}
-use Rattle.yaml_emit_layout.specs.scan.Classes as bytes
+use Rattle.yaml_emit_layout.specs.scan_model.Classes.{is_printable_by, is_special}
+use Rattle.yaml_emit_layout.specs.scan_model.Classes as bytes
 use Rattle.yaml_emit_text.specs.Quoted.{is_printable}
 use Rattle.yaml_emit_laws_text.specs.Printing.{PrintableIsOfCharacters}
 use Rattle.yaml_emit_laws_text.proofs.Pieces.{encode_1, encode_2, encode_3, encode_4}

@@ -6,7 +6,7 @@ use Rattle.std.proofs.lemmas.Slice.Eq.{bytes_eq-Decides}
 use Rattle.std.specs.List.{list_any}
 use Rattle.std.specs.Prelude.{option_map}
 use Rattle.std.specs.Str.{bytes_eq}
-use Rattle.yaml_emit_layout.specs.parse.Events.{TagDirective}
+use Rattle.yaml_emit_layout.specs.parse_model.Events.{TagDirective}
 use Rattle.yaml_parse_grammar.specs.Resolve as reader
 use Rattle.yaml_parse_grammar.specs.Resolve.{resolved, or_default, default_prefix}
 use Rattle.yaml_emit_layout.specs.emit_tags.Tags.{has_shorter_prefix, directive_for, defines, primary, secondary, unless_defined, defaults, in_force, split_by, split_tag}

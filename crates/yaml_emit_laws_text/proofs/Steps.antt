@@ -12,9 +12,9 @@ use Rattle.yaml_emit_laws_text.specs.scan_history.declared.kind.Kind.{Kind}
 use Rattle.yaml_emit_laws_text.specs.scan_history.Kinds.{depth_after, is_end}
 use Rattle.yaml_emit_laws_text.specs.scan_history.History.{reached, depth, key_allowed}
 use Rattle.yaml_emit_laws_text.specs.scan_history.Words.{WordText, indicator_of, kind_at, word_at}
-use Rattle.yaml_emit_laws_text.specs.scan_laws_keys.KeysLaws.{gap_in, end_in}
-use Rattle.yaml_emit_laws_text.specs.scan_laws_keys.KeysTexts.{Word, lexemes, Stand, word_kinds}
-use Rattle.yaml_emit_laws_text.specs.scan.Tokens.{TokenBody}
+use Rattle.yaml_emit_laws_text.specs.scan_laws_texts.KeysLaws.{gap_in, end_in}
+use Rattle.yaml_emit_laws_text.specs.scan_laws_texts.KeysTexts.{Word, lexemes, Stand, word_kinds}
+use Rattle.yaml_emit_laws_text.specs.scan_model.Tokens.{TokenBody}
 use Rattle.yaml_emit_laws_text.specs.emit_layout.emit_text.declared.Cursor.{Cursor}
 use Rattle.yaml_emit_laws_text.specs.emit_layout.emit_text.declared.LineBreak.{LineBreak}
 use Rattle.yaml_emit_laws_text.specs.emit_layout.emit_text.declared.LineBreak.TheVariants.{Lf, Cr, CrLf}

@@ -8,7 +8,7 @@ use Rattle.yaml_scan_words.specs.Directives.{directive_at}
 use Rattle.yaml_scan_words.specs.Written as written
 use Rattle.yaml_scan_words.specs.Written.{HasAt}
 use Rattle.yaml_scan_laws_texts.proofs.Directives.{tag_directive_is_read}
-use Rattle.yaml_emit_layout.specs.parse.Events.{TagDirective}
+use Rattle.yaml_emit_layout.specs.parse_model.Events.{TagDirective}
 use Rattle.yaml_emit_laws_text.specs.TagsLaws.{IsReadableDirective, directive_bytes}
 use Rattle.yaml_emit_laws_text.proofs.Pieces.{pieces_of, text_is, bytes_are, many_are, text_uri}
 

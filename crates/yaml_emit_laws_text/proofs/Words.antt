@@ -17,9 +17,9 @@ use Rattle.yaml_emit_laws_text.specs.scan_history.declared.kind.Kind.{Kind}
 use Rattle.yaml_emit_laws_text.specs.scan_history.declared.kind.Kind.TheVariants as kinds
 use Rattle.yaml_emit_laws_text.specs.scan_history.Kinds.{depth_after, is_end}
 use Rattle.yaml_emit_laws_text.specs.scan_history.Words.{WordText, indicator_of, word_at, valued}
-use Rattle.yaml_emit_laws_text.specs.scan.declared.yaml_scalar_style_t.TheVariants.{YAML_DOUBLE_QUOTED_SCALAR_STYLE}
-use Rattle.yaml_emit_laws_text.specs.scan.Tokens as tokens
-use Rattle.yaml_emit_laws_text.specs.scan.Tokens.{TokenBody}
+use Rattle.yaml_emit_laws_text.specs.scan_model.declared.yaml_scalar_style_t.TheVariants.{YAML_DOUBLE_QUOTED_SCALAR_STYLE}
+use Rattle.yaml_emit_laws_text.specs.scan_model.Tokens as tokens
+use Rattle.yaml_emit_laws_text.specs.scan_model.Tokens.{TokenBody}
 use Rattle.yaml_emit_laws_text.specs.emit_layout.emit_text.declared.Cursor.{Cursor}
 use Rattle.yaml_emit_laws_text.specs.emit_layout.emit_text.declared.Page.{Page}
 use Rattle.yaml_emit_laws_text.specs.emit_layout.emit_text.Text.{Item, letter, encode, char_bytes}

@@ -2,8 +2,8 @@
 use Rattle.std.specs.Prelude.{ℕ, Bool, true, false, not, ◌&&◌, List, [], ◌∷◌, Option, Some, None}
 use Rattle.yaml_scan_laws_texts.specs.scan_history.declared.kind.Kind.{Kind}
 use Rattle.yaml_scan_laws_texts.specs.scan_history.declared.kind.Kind.TheVariants as kinds
-use Rattle.yaml_emit_layout.specs.scan.declared.yaml_version_directive_t.{yaml_version_directive_t}
-use Rattle.yaml_emit_layout.specs.parse.Events.{TagDirective}
+use Rattle.yaml_emit_layout.specs.scan_model.declared.yaml_version_directive_t.{yaml_version_directive_t}
+use Rattle.yaml_emit_layout.specs.parse_model.Events.{TagDirective}
 use Rattle.yaml_emit_layout.specs.Content.{Scalar, Node, alias_node, scalar_node, sequence_node, mapping_node, Nodes, no_nodes, node, Pairs, no_pairs, pair, Opening, Document}
 use Rattle.yaml_emit_layout.specs.Grammar.{has, scalar_tag, start_tag}
 use Rattle.yaml_emit_layout.specs.Nodes.{is_directed}

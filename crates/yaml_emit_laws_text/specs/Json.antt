@@ -1,7 +1,7 @@
 -- Documents shaped as JSON is: collections in brackets, keys that are scalars, and scalars that are
 -- double quoted or plain.
 use Rattle.std.specs.Prelude.{◌≡◌, ◌⊎◌, true, false, List, [], ◌∷◌, None}
-use Rattle.yaml_emit_layout.specs.scan.declared.yaml_scalar_style_t.TheVariants.{YAML_PLAIN_SCALAR_STYLE, YAML_DOUBLE_QUOTED_SCALAR_STYLE}
+use Rattle.yaml_emit_layout.specs.scan_model.declared.yaml_scalar_style_t.TheVariants.{YAML_PLAIN_SCALAR_STYLE, YAML_DOUBLE_QUOTED_SCALAR_STYLE}
 use Rattle.yaml_emit_layout.specs.Content.{Scalar, Start, Node, alias_node, scalar_node, sequence_node, mapping_node, Nodes, no_nodes, node, Pairs, no_pairs, pair, Document}
 use Rattle.yaml_scan_laws_texts.specs.Values.{is_plain_value}
 

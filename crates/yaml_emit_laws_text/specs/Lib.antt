@@ -14,7 +14,7 @@ pub mod PrettyBodies
 pub mod Printing
 -- what it stands on, for crates that name this one alone
 pub use Rattle.yaml_emit_text.specs as emit_text
-pub use Rattle.yaml_scan_laws_texts.specs as scan_laws_keys
+pub use Rattle.yaml_scan_laws_texts.specs as scan_laws_texts
 pub use Rattle.yaml_scan_laws_texts.specs.scan_history
 pub use Rattle.yaml_emit_layout.specs as emit_layout
-pub use Rattle.yaml_emit_layout.specs.scan
+pub use Rattle.yaml_emit_layout.specs.scan_model

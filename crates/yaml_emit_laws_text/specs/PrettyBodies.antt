@@ -1,8 +1,8 @@
 -- The tokens that pretty layout writes for nodes shaped as JSON, without their marks, in front of those
 -- that follow.
 use Rattle.std.specs.Prelude.{Bool, true, false, List, [], ◌∷◌}
-use Rattle.yaml_emit_layout.specs.scan.Tokens as tokens
-use Rattle.yaml_emit_layout.specs.scan.Tokens.{TokenBody}
+use Rattle.yaml_emit_layout.specs.scan_model.Tokens as tokens
+use Rattle.yaml_emit_layout.specs.scan_model.Tokens.{TokenBody}
 use Rattle.yaml_emit_layout.specs.Content.{Document, Node, alias_node, scalar_node, sequence_node, mapping_node, Nodes, no_nodes, node, Pairs, no_pairs, pair}
 
 -- a comma stands before all but the first

@@ -1,7 +1,7 @@
 -- Which characters are printable: the byte classes say what code points say.
 use Rattle.std.specs.Prelude.{◌≡◌, ℕ, List, ◌++◌, encode_utf8}
 use Rattle.std.specs.Char.{IsScalar}
-use Rattle.yaml_emit_layout.specs.scan.Classes as bytes
+use Rattle.yaml_emit_layout.specs.scan_model.Classes as bytes
 use Rattle.yaml_emit_text.specs.Quoted.{is_printable}
 
 -- A character's bytes begin a printable one exactly if its code point is printable, whatever follows.

@@ -6,7 +6,7 @@ use Rattle.yaml_scan_words.specs.Tags.{TagText, tag_at, may_end_tag}
 use Rattle.yaml_scan_words.specs.Directives.{directive_at}
 use Rattle.yaml_scan_words.specs.Written.{HasAt, are_alphas}
 use Rattle.yaml_scan_laws_texts.specs.WordsLaws.{tag_line}
-use Rattle.yaml_emit_layout.specs.parse.Events.{TagDirective}
+use Rattle.yaml_emit_layout.specs.parse_model.Events.{TagDirective}
 use Rattle.yaml_parse_grammar.specs.Resolve.{resolved}
 use Rattle.yaml_emit_layout.specs.emit_tags.Tags.{Split, shorthand, verbatim, spelled, split_tag, tag_spelling, uri_text}
 use Rattle.yaml_emit_layout.specs.Content.{Opening}

@@ -1,7 +1,7 @@
 -- Canonical text is words, and they are read as the tokens of its documents.
 use Rattle.std.specs.Prelude.{◌≡◌, ℕ, ◌<◌, true, false, List, ◌∷◌, map, None}
-use Rattle.yaml_emit_laws_text.specs.scan.declared.yaml_encoding_t.{yaml_encoding_t}
-use Rattle.yaml_emit_laws_text.specs.scan.Tokens.{TokenBody, Token, stream_start}
+use Rattle.yaml_emit_laws_text.specs.scan_model.declared.yaml_encoding_t.{yaml_encoding_t}
+use Rattle.yaml_emit_laws_text.specs.scan_model.Tokens.{TokenBody, Token, stream_start}
 use Rattle.yaml_emit_laws_text.specs.scan_history.Remaining.{SpelledText, offline}
 use Rattle.yaml_emit_laws_text.specs.emit_layout.emit_text.declared.Cursor.{Cursor}
 use Rattle.yaml_emit_laws_text.specs.emit_layout.emit_text.declared.Settings.{Settings}

@@ -1,11 +1,11 @@
 -- A text that goes on as a layout writes it, behind words that stand in it.
 use Rattle.std.specs.Prelude.{◌≡◌, ℕ, ◌+◌, ◌==◌, ◌||◌, Bool, true, false, List, [], ◌∷◌, length}
-use Rattle.yaml_emit_laws_text.specs.scan.Tokens.{TokenBody}
+use Rattle.yaml_emit_laws_text.specs.scan_model.Tokens.{TokenBody}
 use Rattle.yaml_emit_laws_text.specs.scan_history.scan_model.Marks.{byte, column_at}
 use Rattle.yaml_emit_laws_text.specs.scan_history.scan_words.Written.{are_gap}
 use Rattle.yaml_emit_laws_text.specs.scan_history.declared.kind.Kind.{Kind}
 use Rattle.yaml_emit_laws_text.specs.scan_history.History.{reached, depth}
-use Rattle.yaml_emit_laws_text.specs.scan_laws_keys.KeysTexts.{Word, lexemes, Stand, word_kinds}
+use Rattle.yaml_emit_laws_text.specs.scan_laws_texts.KeysTexts.{Word, lexemes, Stand, word_kinds}
 use Rattle.yaml_emit_laws_text.specs.emit_layout.emit_text.declared.Cursor.{Cursor}
 use Rattle.yaml_emit_laws_text.specs.emit_layout.emit_text.declared.Encoding.TheVariants.{Utf8}
 use Rattle.yaml_emit_laws_text.specs.emit_layout.emit_text.Text.{Item, encode}

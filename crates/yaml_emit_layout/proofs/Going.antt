@@ -1,6 +1,6 @@
 -- Whatever may come, its first event leads on.
 use Rattle.std.proofs.Common.{◌≡◌, ℕ, List, [], ◌∷◌, Bool, true, false, refl, sym, subst, ◌∙◌, ap, Option, Some, None}
-use Rattle.yaml_emit_tags.specs.parse.Events.{TagDirective}
+use Rattle.yaml_emit_tags.specs.parse_model.Events.{TagDirective}
 use Rattle.yaml_emit_text.specs.declared.Cursor.{Cursor}
 use Rattle.yaml_emit_text.specs.declared.Settings.{Settings}
 use Rattle.yaml_emit_text.specs.Layout.{Rest}

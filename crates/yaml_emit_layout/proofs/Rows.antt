@@ -2,10 +2,10 @@
 use Rattle.std.proofs.Common.{◌≡◌, ℕ, List, [], ◌∷◌, refl, true, false, Bool, Option, Some, None, pos}
 use Rattle.std.specs.Prelude.{codes}
 use Rattle.std.specs.Str.{chars}
-use Rattle.yaml_emit_tags.specs.scan.declared.yaml_scalar_style_t.{yaml_scalar_style_t}
-use Rattle.yaml_emit_tags.specs.scan.declared.yaml_scalar_style_t.TheVariants as asked
-use Rattle.yaml_emit_tags.specs.scan.Classes.{is_alpha_byte, is_digit_byte}
-use Rattle.yaml_emit_tags.specs.parse.Events.{TagDirective}
+use Rattle.yaml_emit_tags.specs.scan_model.declared.yaml_scalar_style_t.{yaml_scalar_style_t}
+use Rattle.yaml_emit_tags.specs.scan_model.declared.yaml_scalar_style_t.TheVariants as asked
+use Rattle.yaml_emit_tags.specs.scan_model.Classes.{is_alpha_byte, is_digit_byte}
+use Rattle.yaml_emit_tags.specs.parse_model.Events.{TagDirective}
 use Rattle.yaml_emit_text.specs.declared.Settings.{Settings}
 use Rattle.yaml_emit_text.specs.declared.Encoding.TheVariants.{Utf8, Utf16Le}
 use Rattle.yaml_emit_text.specs.declared.LineBreak.TheVariants.{Lf, CrLf}

@@ -8,5 +8,5 @@ pub mod ToCome
 -- what it stands on, for crates of laws that name this one alone
 pub use Rattle.yaml_emit_text.specs as emit_text
 pub use Rattle.yaml_emit_tags.specs as emit_tags
-pub use Rattle.yaml_emit_tags.specs.scan
-pub use Rattle.yaml_emit_tags.specs.parse
+pub use Rattle.yaml_emit_tags.specs.scan_model
+pub use Rattle.yaml_emit_tags.specs.parse_model

@@ -1,6 +1,6 @@
 -- What a stream is laid out as.
 use Rattle.std.specs.Prelude.{◌≡◌, List, None}
-use Rattle.yaml_emit_tags.specs.scan.declared.yaml_encoding_t.{yaml_encoding_t}
+use Rattle.yaml_emit_tags.specs.scan_model.declared.yaml_encoding_t.{yaml_encoding_t}
 use Rattle.yaml_emit_text.specs.declared.Encoding.{Encoding}
 use Rattle.yaml_emit_text.specs.declared.RequestedSettings.{RequestedSettings}
 use Rattle.yaml_emit_text.specs.Text.{Item}

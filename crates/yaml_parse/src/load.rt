@@ -3,7 +3,7 @@
 ghost use Rattle.std.specs.Prelude.{◌≡◌, ◌≤◌, true, IfOk, IfErr};
 ghost use Rattle.yaml_scan_model.specs.Faults.{fault_of};
 ghost use Rattle.yaml_parse_document.specs.Sizes.{IsSized};
-ghost use Rattle.yaml_parse_step.specs.parse_laws_given.NextLoad.{AreLoadsByContent, FrontsLoadByContent, LoadIsNext, RefusalIsNext};
+ghost use Rattle.yaml_parse_step.specs.parse_laws_trees.NextLoad.{AreLoadsByContent, FrontsLoadByContent, LoadIsNext, RefusalIsNext};
 
 use crate::parser::{yaml_parser_parse_into, yaml_parser_t};
 use yaml_parse_document::{no_document, yaml_document_t};

@@ -11,13 +11,13 @@ ghost use Rattle.yaml_parse_step.specs.parse_grammar.TreeEvents.{given_of};
 ghost use Rattle.yaml_parse_step.specs.parse_grammar.Resolve.{reading, no_directives};
 ghost use Rattle.yaml_parse_step.specs.parse_grammar.Remaining.{EventOf, FaultOf, IsFinished};
 ghost use Rattle.yaml_parse_model.specs.Constructors.{HasUtf8};
-ghost use Rattle.yaml_parse_step.specs.parse_laws_given.Places.{FaultOfTokens, IsToldWith};
-ghost use Rattle.yaml_parse_step.specs.parse_laws_given.Given.{EventsOfTokens};
+ghost use Rattle.yaml_parse_step.specs.parse_laws_trees.Places.{FaultOfTokens, IsToldWith};
+ghost use Rattle.yaml_parse_step.specs.parse_laws_trees.Given.{EventsOfTokens};
 ghost use Rattle.yaml_parse_step.specs.Finds.{Finds, IsUtf8Found, IsStackFound};
 ghost use Rattle.yaml_parse_step.specs.Steps.{Turns, IsUtf8Turn, IsStackTurn};
 ghost use Rattle.yaml_parse_step.specs.Turned.{turned};
-ghost use Rattle.yaml_parse_step.specs.parse_laws_given.NextLoad.{AreLoadsByContent};
-ghost use Rattle.yaml_parse_step.specs.parse_laws_given.Falling.{AreFalling};
+ghost use Rattle.yaml_parse_step.specs.parse_laws_trees.NextLoad.{AreLoadsByContent};
+ghost use Rattle.yaml_parse_step.specs.parse_laws_trees.Falling.{AreFalling};
 ghost use Rattle.yaml_parse_step.specs.parse_grammar.Stacks.{parts_documents_behind};
 
 use std::alloc::Global;

@@ -1,9 +1,9 @@
 -- What a load gives, by the loader's steps: how it is proved.
 use Rattle.std.proofs.Common.{◌≡◌, ◌⊎◌, ℕ, List, [], ◌∷◌, Option, Some, None}
-use Rattle.yaml_parse_laws_trees.specs.grammar.parse_model.Faults.{Fault, IsMemoryFault, load_layers}
+use Rattle.yaml_parse_laws_trees.specs.parse_grammar.parse_model.Faults.{Fault, IsMemoryFault, load_layers}
 use Rattle.yaml_parse_document.specs.Documents.{Document, no_document}
-use Rattle.yaml_parse_laws_trees.specs.grammar.Resolve.{Told}
-use Rattle.yaml_parse_laws_trees.specs.grammar.Remaining.{ParserRemaining, IsFinished}
+use Rattle.yaml_parse_laws_trees.specs.parse_grammar.Resolve.{Told}
+use Rattle.yaml_parse_laws_trees.specs.parse_grammar.Remaining.{ParserRemaining, IsFinished}
 use Rattle.yaml_parse_loader.specs.Loading.{Loading, LoadStep, goes_on, loaded, refused, nothing_loaded, step, Loaded}
 use Rattle.yaml_parse_loader.specs.Loading as loading
 use Rattle.yaml_parse_laws_trees.specs.NextLoad.{told_events, left_behind, GivesDocument, GivesNoDocument}

@@ -1,25 +1,25 @@
 -- Tokens that close all that is open. What is given at a refused token is given at these too.
 use Rattle.std.proofs.Common.{◌≡◌, Bool, true, false, if◌then◌else◌, ◌||◌, List, [], ◌∷◌, Some, None, refl, ap, subst, ◌∙◌}
-use Rattle.yaml_parse_laws_trees.specs.grammar.parse_model.declared.yaml_mark_t.{yaml_mark_t}
-use Rattle.yaml_parse_laws_trees.specs.grammar.parse_model.declared.yaml_encoding_t.TheVariants.{YAML_ANY_ENCODING}
-use Rattle.yaml_parse_laws_trees.specs.grammar.parse_model.declared.yaml_token_type_t.{yaml_token_type_t}
-use Rattle.yaml_parse_laws_trees.specs.grammar.parse_model.declared.yaml_token_type_t.TheVariants as kind
-use Rattle.yaml_parse_laws_trees.specs.grammar.parse_model.Tokens.{Token, TokenBody, type_of}
-use Rattle.yaml_parse_laws_trees.specs.grammar.parse_model.Tokens as token
-use Rattle.yaml_parse_laws_trees.specs.grammar.parse_model.Faults.{Fault}
-use Rattle.yaml_parse_laws_trees.specs.grammar.declared.name.Wants.TheVariants.{Flow, Block}
-use Rattle.yaml_parse_laws_trees.specs.grammar.declared.name.Brackets.TheVariants as brackets
-use Rattle.yaml_parse_laws_trees.specs.grammar.declared.name.Site.{Site}
-use Rattle.yaml_parse_laws_trees.specs.grammar.declared.name.Choice.{Choice}
-use Rattle.yaml_parse_laws_trees.specs.grammar.declared.name.Choice.TheVariants.{Refuse, Take, Leave, Open}
-use Rattle.yaml_parse_laws_trees.specs.grammar.declared.problem.ParseProblem.{ParseProblem}
-use Rattle.yaml_parse_laws_trees.specs.grammar.declared.problem.ParseProblem.TheVariants as problem
-use Rattle.yaml_parse_laws_trees.specs.grammar.Items.{RawEvent}
-use Rattle.yaml_parse_laws_trees.specs.grammar.States.{State}
-use Rattle.yaml_parse_laws_trees.specs.grammar.States as state
-use Rattle.yaml_parse_laws_trees.specs.grammar.Trees.{Span, closing, token_at}
-use Rattle.yaml_parse_laws_trees.specs.grammar.Trees as tree
-use Rattle.yaml_parse_laws_trees.specs.grammar.Machine.{starts_node, wants_of, follows, no_node, closes, no_end, parts_documents, choice_at, left_at, Fed, stop, go, with_item, turn, feed, Outcome, run}
+use Rattle.yaml_parse_laws_trees.specs.parse_grammar.parse_model.declared.yaml_mark_t.{yaml_mark_t}
+use Rattle.yaml_parse_laws_trees.specs.parse_grammar.parse_model.declared.yaml_encoding_t.TheVariants.{YAML_ANY_ENCODING}
+use Rattle.yaml_parse_laws_trees.specs.parse_grammar.parse_model.declared.yaml_token_type_t.{yaml_token_type_t}
+use Rattle.yaml_parse_laws_trees.specs.parse_grammar.parse_model.declared.yaml_token_type_t.TheVariants as kind
+use Rattle.yaml_parse_laws_trees.specs.parse_grammar.parse_model.Tokens.{Token, TokenBody, type_of}
+use Rattle.yaml_parse_laws_trees.specs.parse_grammar.parse_model.Tokens as token
+use Rattle.yaml_parse_laws_trees.specs.parse_grammar.parse_model.Faults.{Fault}
+use Rattle.yaml_parse_laws_trees.specs.parse_grammar.declared.name.Wants.TheVariants.{Flow, Block}
+use Rattle.yaml_parse_laws_trees.specs.parse_grammar.declared.name.Brackets.TheVariants as brackets
+use Rattle.yaml_parse_laws_trees.specs.parse_grammar.declared.name.Site.{Site}
+use Rattle.yaml_parse_laws_trees.specs.parse_grammar.declared.name.Choice.{Choice}
+use Rattle.yaml_parse_laws_trees.specs.parse_grammar.declared.name.Choice.TheVariants.{Refuse, Take, Leave, Open}
+use Rattle.yaml_parse_laws_trees.specs.parse_grammar.declared.problem.ParseProblem.{ParseProblem}
+use Rattle.yaml_parse_laws_trees.specs.parse_grammar.declared.problem.ParseProblem.TheVariants as problem
+use Rattle.yaml_parse_laws_trees.specs.parse_grammar.Items.{RawEvent}
+use Rattle.yaml_parse_laws_trees.specs.parse_grammar.States.{State}
+use Rattle.yaml_parse_laws_trees.specs.parse_grammar.States as state
+use Rattle.yaml_parse_laws_trees.specs.parse_grammar.Trees.{Span, closing, token_at}
+use Rattle.yaml_parse_laws_trees.specs.parse_grammar.Trees as tree
+use Rattle.yaml_parse_laws_trees.specs.parse_grammar.Machine.{starts_node, wants_of, follows, no_node, closes, no_end, parts_documents, choice_at, left_at, Fed, stop, go, with_item, turn, feed, Outcome, run}
 use Rattle.yaml_parse_laws_trees.proofs.Complete.{leaves_at}
 use Rattle.yaml_parse_laws_trees.specs.SoundLaws.{bare, BeginsWithItems}
 use Rattle.yaml_parse_laws_trees.proofs.Left.{Left, Over, properties_alone, not_left, not_left_first}

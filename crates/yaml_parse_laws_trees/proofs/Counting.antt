@@ -1,13 +1,13 @@
 -- Which items come with so many tokens unasked for, and what they mean.
 use Rattle.std.proofs.Common.{◌≡◌, ◌+◌, ◌-◌, ◌≤◌, ◌<◌, nat_le, ℕ, Bool, true, false, if◌then◌else◌, List, [], ◌∷◌, ◌++◌, length, Option, None, refl, ap, ◌∙◌, arith}
 use Rattle.std.proofs.lemmas.Bool.Decides.{nat_tests}
-use Rattle.yaml_parse_laws_trees.specs.grammar.parse_model.Tokens.{Token, no_token}
-use Rattle.yaml_parse_laws_trees.specs.grammar.parse_model.Faults.{Fault}
-use Rattle.yaml_parse_laws_trees.specs.grammar.Items.{RawEvent}
-use Rattle.yaml_parse_laws_trees.specs.grammar.States.{State}
-use Rattle.yaml_parse_laws_trees.specs.grammar.Trees.{Given}
-use Rattle.yaml_parse_laws_trees.specs.grammar.Machine.{Fed, stop, go, feed, Outcome, finished, carry, run}
-use Rattle.yaml_parse_laws_trees.specs.grammar.Resolve.{Directives, Settled, refused, gave, noted, settle, Reading, Told, placed, read_on, reading}
+use Rattle.yaml_parse_laws_trees.specs.parse_grammar.parse_model.Tokens.{Token, no_token}
+use Rattle.yaml_parse_laws_trees.specs.parse_grammar.parse_model.Faults.{Fault}
+use Rattle.yaml_parse_laws_trees.specs.parse_grammar.Items.{RawEvent}
+use Rattle.yaml_parse_laws_trees.specs.parse_grammar.States.{State}
+use Rattle.yaml_parse_laws_trees.specs.parse_grammar.Trees.{Given}
+use Rattle.yaml_parse_laws_trees.specs.parse_grammar.Machine.{Fed, stop, go, feed, Outcome, finished, carry, run}
+use Rattle.yaml_parse_laws_trees.specs.parse_grammar.Resolve.{Directives, Settled, refused, gave, noted, settle, Reading, Told, placed, read_on, reading}
 use Rattle.yaml_parse_laws_trees.specs.Given.{first_items, but_last, BeginsWith}
 use Rattle.yaml_parse_laws_trees.proofs.Walking.{raised, numbered}
 

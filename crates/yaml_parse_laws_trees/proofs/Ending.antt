@@ -1,16 +1,16 @@
 -- The machine ends in the fault of the list.
 use Rattle.std.proofs.Common.{◌≡◌, ◌-◌, ◌+◌, inl, inr, ℕ, suc, List, [], ◌∷◌, ◌++◌, length, Option, Some, None, refl, ap, sym, subst, ◌∙◌, arith}
-use Rattle.yaml_parse_laws_trees.specs.grammar.parse_model.declared.yaml_mark_t.{yaml_mark_t}
-use Rattle.yaml_parse_laws_trees.specs.grammar.parse_model.Tokens.{Token, no_token, zero_mark}
-use Rattle.yaml_parse_laws_trees.specs.grammar.parse_model.Faults.{Fault}
-use Rattle.yaml_parse_laws_trees.specs.grammar.Items.{RawEvent}
-use Rattle.yaml_parse_laws_trees.specs.grammar.States.{State}
-use Rattle.yaml_parse_laws_trees.specs.grammar.States as state
-use Rattle.yaml_parse_laws_trees.specs.grammar.Stacks.{IsStack}
-use Rattle.yaml_parse_laws_trees.specs.grammar.Trees.{Stream, spell}
-use Rattle.yaml_parse_laws_trees.specs.grammar.Machine.{Fed, stop, go, feed, Outcome, finished, carry, run, initial, left_where_stopped, unasked_at_stop}
-use Rattle.yaml_parse_laws_trees.specs.grammar.Resolve.{Directives, no_directives, reading, unasked_at_fault}
-use Rattle.yaml_parse_laws_trees.specs.grammar.Remaining.{reading_of, unasked_of}
+use Rattle.yaml_parse_laws_trees.specs.parse_grammar.parse_model.declared.yaml_mark_t.{yaml_mark_t}
+use Rattle.yaml_parse_laws_trees.specs.parse_grammar.parse_model.Tokens.{Token, no_token, zero_mark}
+use Rattle.yaml_parse_laws_trees.specs.parse_grammar.parse_model.Faults.{Fault}
+use Rattle.yaml_parse_laws_trees.specs.parse_grammar.Items.{RawEvent}
+use Rattle.yaml_parse_laws_trees.specs.parse_grammar.States.{State}
+use Rattle.yaml_parse_laws_trees.specs.parse_grammar.States as state
+use Rattle.yaml_parse_laws_trees.specs.parse_grammar.Stacks.{IsStack}
+use Rattle.yaml_parse_laws_trees.specs.parse_grammar.Trees.{Stream, spell}
+use Rattle.yaml_parse_laws_trees.specs.parse_grammar.Machine.{Fed, stop, go, feed, Outcome, finished, carry, run, initial, left_where_stopped, unasked_at_stop}
+use Rattle.yaml_parse_laws_trees.specs.parse_grammar.Resolve.{Directives, no_directives, reading, unasked_at_fault}
+use Rattle.yaml_parse_laws_trees.specs.parse_grammar.Remaining.{reading_of, unasked_of}
 use Rattle.yaml_parse_laws_trees.proofs.CompleteStream.{stream_runs, nothing_runs}
 use Rattle.yaml_parse_laws_trees.specs.SoundLaws.{TreeGoesOn}
 use Rattle.yaml_parse_laws_trees.proofs.Left.{Over}

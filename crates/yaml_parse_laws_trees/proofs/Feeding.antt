@@ -1,22 +1,22 @@
 -- One token: what a stack gives is loaded, and the stack behind it fits the tokens from then on.
 use Rattle.std.proofs.Common.{◌≡◌, ℕ, Bool, true, false, if◌then◌else◌, ◌||◌, List, [], ◌∷◌, Option, Some, None, refl, sym, subst}
-use Rattle.yaml_parse_laws_trees.specs.grammar.parse_model.declared.yaml_mark_t.{yaml_mark_t}
-use Rattle.yaml_parse_laws_trees.specs.grammar.parse_model.declared.yaml_token_type_t.{yaml_token_type_t}
-use Rattle.yaml_parse_laws_trees.specs.grammar.parse_model.declared.yaml_token_type_t.TheVariants as kind
-use Rattle.yaml_parse_laws_trees.specs.grammar.parse_model.Tokens.{Token, type_of}
-use Rattle.yaml_parse_laws_trees.specs.grammar.declared.name.Wants.TheVariants.{Flow, Block}
-use Rattle.yaml_parse_laws_trees.specs.grammar.declared.name.Site.TheVariants.{Root}
-use Rattle.yaml_parse_laws_trees.specs.grammar.declared.name.Choice.{Choice}
-use Rattle.yaml_parse_laws_trees.specs.grammar.declared.name.Choice.TheVariants.{Refuse, Take, Leave, Open}
-use Rattle.yaml_parse_laws_trees.specs.grammar.declared.problem.ParseProblem.{ParseProblem}
-use Rattle.yaml_parse_laws_trees.specs.grammar.declared.problem.ParseProblem.TheVariants as problem
-use Rattle.yaml_parse_laws_trees.specs.grammar.Items.{RawEvent, item_at, blank}
-use Rattle.yaml_parse_laws_trees.specs.grammar.Items as item
-use Rattle.yaml_parse_laws_trees.specs.grammar.States.{State}
-use Rattle.yaml_parse_laws_trees.specs.grammar.States as state
-use Rattle.yaml_parse_laws_trees.specs.grammar.Stacks.{IsInside, IsStack}
-use Rattle.yaml_parse_laws_trees.specs.grammar.Machine.{parts_documents, follows, wants_of, starts_node, starts_content, joins, closes, no_node, no_end, choice_at, taken_at, left_at, Fed, with_item, given_by, turn, feed}
-use Rattle.yaml_parse_laws_trees.specs.grammar.Resolve.{Directives, settle}
+use Rattle.yaml_parse_laws_trees.specs.parse_grammar.parse_model.declared.yaml_mark_t.{yaml_mark_t}
+use Rattle.yaml_parse_laws_trees.specs.parse_grammar.parse_model.declared.yaml_token_type_t.{yaml_token_type_t}
+use Rattle.yaml_parse_laws_trees.specs.parse_grammar.parse_model.declared.yaml_token_type_t.TheVariants as kind
+use Rattle.yaml_parse_laws_trees.specs.parse_grammar.parse_model.Tokens.{Token, type_of}
+use Rattle.yaml_parse_laws_trees.specs.parse_grammar.declared.name.Wants.TheVariants.{Flow, Block}
+use Rattle.yaml_parse_laws_trees.specs.parse_grammar.declared.name.Site.TheVariants.{Root}
+use Rattle.yaml_parse_laws_trees.specs.parse_grammar.declared.name.Choice.{Choice}
+use Rattle.yaml_parse_laws_trees.specs.parse_grammar.declared.name.Choice.TheVariants.{Refuse, Take, Leave, Open}
+use Rattle.yaml_parse_laws_trees.specs.parse_grammar.declared.problem.ParseProblem.{ParseProblem}
+use Rattle.yaml_parse_laws_trees.specs.parse_grammar.declared.problem.ParseProblem.TheVariants as problem
+use Rattle.yaml_parse_laws_trees.specs.parse_grammar.Items.{RawEvent, item_at, blank}
+use Rattle.yaml_parse_laws_trees.specs.parse_grammar.Items as item
+use Rattle.yaml_parse_laws_trees.specs.parse_grammar.States.{State}
+use Rattle.yaml_parse_laws_trees.specs.parse_grammar.States as state
+use Rattle.yaml_parse_laws_trees.specs.parse_grammar.Stacks.{IsInside, IsStack}
+use Rattle.yaml_parse_laws_trees.specs.parse_grammar.Machine.{parts_documents, follows, wants_of, starts_node, starts_content, joins, closes, no_node, no_end, choice_at, taken_at, left_at, Fed, with_item, given_by, turn, feed}
+use Rattle.yaml_parse_laws_trees.specs.parse_grammar.Resolve.{Directives, settle}
 use Rattle.yaml_parse_laws_trees.proofs.Single.{opens_node}
 use Rattle.yaml_parse_laws_trees.proofs.FaultsStanding.{Plain}
 use Rattle.yaml_parse_laws_trees.proofs.Taking.{solid_left}

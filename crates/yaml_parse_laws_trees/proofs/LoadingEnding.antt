@@ -1,14 +1,14 @@
 -- Loads end in the fault of the list.
 use Rattle.std.proofs.Common.{◌≡◌, inl, inr, ℕ, List, [], ◌∷◌, ◌++◌, length, Option, Some, None, refl, ap, sym, subst, ◌∙◌}
-use Rattle.yaml_parse_laws_trees.specs.grammar.parse_model.Tokens.{Token, no_token}
-use Rattle.yaml_parse_laws_trees.specs.grammar.parse_model.Faults.{Fault}
-use Rattle.yaml_parse_laws_trees.specs.grammar.Items.{RawEvent}
-use Rattle.yaml_parse_laws_trees.specs.grammar.States.{State}
-use Rattle.yaml_parse_laws_trees.specs.grammar.States as state
-use Rattle.yaml_parse_laws_trees.specs.grammar.Trees.{Stream, spell}
-use Rattle.yaml_parse_laws_trees.specs.grammar.Machine.{Fed, stop, go, feed, Outcome, finished, carry, run, initial}
-use Rattle.yaml_parse_laws_trees.specs.grammar.Resolve.{Directives, no_directives, Reading, reading}
-use Rattle.yaml_parse_laws_trees.specs.grammar.Remaining.{reading_of}
+use Rattle.yaml_parse_laws_trees.specs.parse_grammar.parse_model.Tokens.{Token, no_token}
+use Rattle.yaml_parse_laws_trees.specs.parse_grammar.parse_model.Faults.{Fault}
+use Rattle.yaml_parse_laws_trees.specs.parse_grammar.Items.{RawEvent}
+use Rattle.yaml_parse_laws_trees.specs.parse_grammar.States.{State}
+use Rattle.yaml_parse_laws_trees.specs.parse_grammar.States as state
+use Rattle.yaml_parse_laws_trees.specs.parse_grammar.Trees.{Stream, spell}
+use Rattle.yaml_parse_laws_trees.specs.parse_grammar.Machine.{Fed, stop, go, feed, Outcome, finished, carry, run, initial}
+use Rattle.yaml_parse_laws_trees.specs.parse_grammar.Resolve.{Directives, no_directives, Reading, reading}
+use Rattle.yaml_parse_laws_trees.specs.parse_grammar.Remaining.{reading_of}
 use Rattle.yaml_parse_laws_trees.proofs.CompleteStream.{nothing_runs}
 use Rattle.yaml_parse_laws_trees.specs.LookBack.{followed_by}
 use Rattle.yaml_parse_laws_trees.specs.Wrong.{handle_fault}

@@ -3,35 +3,35 @@ use Rattle.std.proofs.Common.{◌≡◌, ℕ, ℤ, Bool, true, false, if◌then�
 use Rattle.std.specs.FinMap as map
 use Rattle.std.specs.Ordering.{nat_cmp}
 use Rattle.std.specs.Cmp.Lexicographic.{slice_cmp}
-use Rattle.yaml_parse_laws_trees.specs.grammar.parse_model.declared.yaml_mark_t.{yaml_mark_t}
-use Rattle.yaml_parse_laws_trees.specs.grammar.parse_model.declared.yaml_version_directive_t.{yaml_version_directive_t}
-use Rattle.yaml_parse_laws_trees.specs.grammar.parse_model.declared.yaml_sequence_style_t.TheVariants.{YAML_BLOCK_SEQUENCE_STYLE}
-use Rattle.yaml_parse_laws_trees.specs.grammar.parse_model.declared.yaml_mapping_style_t.TheVariants.{YAML_BLOCK_MAPPING_STYLE, YAML_FLOW_MAPPING_STYLE}
-use Rattle.yaml_parse_laws_trees.specs.grammar.parse_model.Tokens.{Token, TokenBody, type_of}
-use Rattle.yaml_parse_laws_trees.specs.grammar.parse_model.Tokens as token
-use Rattle.yaml_parse_laws_trees.specs.grammar.parse_model.Faults.{Fault}
-use Rattle.yaml_parse_laws_trees.specs.grammar.parse_model.Events.{TagDirective}
-use Rattle.yaml_parse_laws_trees.specs.grammar.parse_model.Events as event
-use Rattle.yaml_parse_laws_trees.specs.grammar.declared.name.Wants.{Wants}
-use Rattle.yaml_parse_laws_trees.specs.grammar.declared.name.Wants.TheVariants.{Flow, Block}
-use Rattle.yaml_parse_laws_trees.specs.grammar.declared.name.Side.{Side}
-use Rattle.yaml_parse_laws_trees.specs.grammar.declared.name.Side.TheVariants.{Key, Value}
-use Rattle.yaml_parse_laws_trees.specs.grammar.declared.name.Brackets.{Brackets}
-use Rattle.yaml_parse_laws_trees.specs.grammar.declared.name.Brackets.TheVariants as brackets
-use Rattle.yaml_parse_laws_trees.specs.grammar.declared.name.Site.{Site}
-use Rattle.yaml_parse_laws_trees.specs.grammar.declared.name.Site.TheVariants.{Root, Entry, IndentlessEntry, BlockPair, FlowPair}
-use Rattle.yaml_parse_laws_trees.specs.grammar.declared.name.Choice.{Choice}
-use Rattle.yaml_parse_laws_trees.specs.grammar.declared.name.Choice.TheVariants.{Refuse, Take, Leave}
-use Rattle.yaml_parse_laws_trees.specs.grammar.declared.problem.ParseProblem.{ParseProblem}
-use Rattle.yaml_parse_laws_trees.specs.grammar.declared.problem.ParseProblem.TheVariants as problem
-use Rattle.yaml_parse_laws_trees.specs.grammar.Items.{RawEvent, Properties, Tag, Shape, item_at, node_at}
-use Rattle.yaml_parse_laws_trees.specs.grammar.Items as item
-use Rattle.yaml_parse_laws_trees.specs.grammar.States.{State, Taken}
-use Rattle.yaml_parse_laws_trees.specs.grammar.States as state
-use Rattle.yaml_parse_laws_trees.specs.grammar.Trees.{flow_shape, event_at}
-use Rattle.yaml_parse_laws_trees.specs.grammar.Machine.{starts_content, starts_node, wants_of, follows, no_node, choice_at, taken, documents_taken, content_taken, node_taken, with_properties_taken, items_taken, more_taken, entries_taken, pairs_taken, stream_taken, lone_below, taken_at, tag_at, Fed, go, given_by}
-use Rattle.yaml_parse_laws_trees.specs.grammar.Resolve.{Directives, Settled, noted, with_version, with_tag, directive_for, is_known_version}
-use Rattle.yaml_parse_laws_trees.specs.grammar.Resolve as resolve
+use Rattle.yaml_parse_laws_trees.specs.parse_grammar.parse_model.declared.yaml_mark_t.{yaml_mark_t}
+use Rattle.yaml_parse_laws_trees.specs.parse_grammar.parse_model.declared.yaml_version_directive_t.{yaml_version_directive_t}
+use Rattle.yaml_parse_laws_trees.specs.parse_grammar.parse_model.declared.yaml_sequence_style_t.TheVariants.{YAML_BLOCK_SEQUENCE_STYLE}
+use Rattle.yaml_parse_laws_trees.specs.parse_grammar.parse_model.declared.yaml_mapping_style_t.TheVariants.{YAML_BLOCK_MAPPING_STYLE, YAML_FLOW_MAPPING_STYLE}
+use Rattle.yaml_parse_laws_trees.specs.parse_grammar.parse_model.Tokens.{Token, TokenBody, type_of}
+use Rattle.yaml_parse_laws_trees.specs.parse_grammar.parse_model.Tokens as token
+use Rattle.yaml_parse_laws_trees.specs.parse_grammar.parse_model.Faults.{Fault}
+use Rattle.yaml_parse_laws_trees.specs.parse_grammar.parse_model.Events.{TagDirective}
+use Rattle.yaml_parse_laws_trees.specs.parse_grammar.parse_model.Events as event
+use Rattle.yaml_parse_laws_trees.specs.parse_grammar.declared.name.Wants.{Wants}
+use Rattle.yaml_parse_laws_trees.specs.parse_grammar.declared.name.Wants.TheVariants.{Flow, Block}
+use Rattle.yaml_parse_laws_trees.specs.parse_grammar.declared.name.Side.{Side}
+use Rattle.yaml_parse_laws_trees.specs.parse_grammar.declared.name.Side.TheVariants.{Key, Value}
+use Rattle.yaml_parse_laws_trees.specs.parse_grammar.declared.name.Brackets.{Brackets}
+use Rattle.yaml_parse_laws_trees.specs.parse_grammar.declared.name.Brackets.TheVariants as brackets
+use Rattle.yaml_parse_laws_trees.specs.parse_grammar.declared.name.Site.{Site}
+use Rattle.yaml_parse_laws_trees.specs.parse_grammar.declared.name.Site.TheVariants.{Root, Entry, IndentlessEntry, BlockPair, FlowPair}
+use Rattle.yaml_parse_laws_trees.specs.parse_grammar.declared.name.Choice.{Choice}
+use Rattle.yaml_parse_laws_trees.specs.parse_grammar.declared.name.Choice.TheVariants.{Refuse, Take, Leave}
+use Rattle.yaml_parse_laws_trees.specs.parse_grammar.declared.problem.ParseProblem.{ParseProblem}
+use Rattle.yaml_parse_laws_trees.specs.parse_grammar.declared.problem.ParseProblem.TheVariants as problem
+use Rattle.yaml_parse_laws_trees.specs.parse_grammar.Items.{RawEvent, Properties, Tag, Shape, item_at, node_at}
+use Rattle.yaml_parse_laws_trees.specs.parse_grammar.Items as item
+use Rattle.yaml_parse_laws_trees.specs.parse_grammar.States.{State, Taken}
+use Rattle.yaml_parse_laws_trees.specs.parse_grammar.States as state
+use Rattle.yaml_parse_laws_trees.specs.parse_grammar.Trees.{flow_shape, event_at}
+use Rattle.yaml_parse_laws_trees.specs.parse_grammar.Machine.{starts_content, starts_node, wants_of, follows, no_node, choice_at, taken, documents_taken, content_taken, node_taken, with_properties_taken, items_taken, more_taken, entries_taken, pairs_taken, stream_taken, lone_below, taken_at, tag_at, Fed, go, given_by}
+use Rattle.yaml_parse_laws_trees.specs.parse_grammar.Resolve.{Directives, Settled, noted, with_version, with_tag, directive_for, is_known_version}
+use Rattle.yaml_parse_laws_trees.specs.parse_grammar.Resolve as resolve
 use Rattle.yaml_parse_laws_trees.proofs.FaultsStanding.{Plain}
 use Rattle.yaml_parse_loader.specs.Loading.{Loading, nothing_loaded, started, aliased}
 use Rattle.yaml_parse_laws_trees.specs.Aliases.{has_anchor, undefined, alias_fault}

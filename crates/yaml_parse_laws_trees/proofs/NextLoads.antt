@@ -3,15 +3,15 @@ use Rattle.std.proofs.Common.{◌≡◌, ◌⊎◌, ◌<◌, ◌≤◌, ◌+◌,
 use Rattle.std.specs.FinMap as map
 use Rattle.std.specs.Ordering.{nat_cmp}
 use Rattle.std.specs.Cmp.Lexicographic.{slice_cmp, nat_list_cmp_total}
-use Rattle.yaml_parse_laws_trees.specs.grammar.parse_model.declared.yaml_mark_t.{yaml_mark_t}
-use Rattle.yaml_parse_laws_trees.specs.grammar.parse_model.Faults.{Fault, IsMemoryFault, scan_layers}
-use Rattle.yaml_parse_laws_trees.specs.grammar.parse_model.Source.{HasMore}
-use Rattle.yaml_parse_laws_trees.specs.grammar.parse_model.Events.{Event, EventBody}
-use Rattle.yaml_parse_laws_trees.specs.grammar.parse_model.Events as event
-use Rattle.yaml_parse_laws_trees.specs.grammar.parse_model.Prefix.{no_fault}
+use Rattle.yaml_parse_laws_trees.specs.parse_grammar.parse_model.declared.yaml_mark_t.{yaml_mark_t}
+use Rattle.yaml_parse_laws_trees.specs.parse_grammar.parse_model.Faults.{Fault, IsMemoryFault, scan_layers}
+use Rattle.yaml_parse_laws_trees.specs.parse_grammar.parse_model.Source.{HasMore}
+use Rattle.yaml_parse_laws_trees.specs.parse_grammar.parse_model.Events.{Event, EventBody}
+use Rattle.yaml_parse_laws_trees.specs.parse_grammar.parse_model.Events as event
+use Rattle.yaml_parse_laws_trees.specs.parse_grammar.parse_model.Prefix.{no_fault}
 use Rattle.yaml_parse_document.specs.Documents.{Document}
-use Rattle.yaml_parse_laws_trees.specs.grammar.Resolve.{Told}
-use Rattle.yaml_parse_laws_trees.specs.grammar.Remaining.{ParserRemaining}
+use Rattle.yaml_parse_laws_trees.specs.parse_grammar.Resolve.{Told}
+use Rattle.yaml_parse_laws_trees.specs.parse_grammar.Remaining.{ParserRemaining}
 use Rattle.yaml_parse_loader.specs.Anchors.{Anchors}
 use Rattle.yaml_parse_loader.specs.Numbering.{is_same, spanning, Content, Contents, Pairs, alias, scalar, sequence, mapping, no_items, item, no_pairs, pair, events, item_events, pair_events, DocumentContent, document_events, document_of}
 use Rattle.yaml_parse_loader.specs.Loading.{Open, Loading, LoadStep, goes_on, loaded, refused, nothing_loaded, named, closed, aliased, step, step_body, load, turn, behind}

@@ -3,12 +3,12 @@ use Rattle.std.proofs.Common.{◌≡◌, ℤ, pos, List, [], ◌∷◌, Option, 
 use Rattle.std.specs.FinMap as map
 use Rattle.std.specs.Ordering.{nat_cmp}
 use Rattle.std.specs.Cmp.Lexicographic.{slice_cmp, nat_list_cmp_total}
-use Rattle.yaml_parse_laws_trees.specs.grammar.parse_model.declared.yaml_mark_t.{yaml_mark_t}
-use Rattle.yaml_parse_laws_trees.specs.grammar.parse_model.Faults.{Fault}
-use Rattle.yaml_parse_laws_trees.specs.grammar.Problems.{problem_text_of, context_text_of, context_place}
-use Rattle.yaml_parse_laws_trees.specs.grammar.Machine.{feed, run, initial}
-use Rattle.yaml_parse_laws_trees.specs.grammar.Resolve.{no_directives, reading, directive_for}
-use Rattle.yaml_parse_laws_trees.specs.grammar.Remaining.{reading_of}
+use Rattle.yaml_parse_laws_trees.specs.parse_grammar.parse_model.declared.yaml_mark_t.{yaml_mark_t}
+use Rattle.yaml_parse_laws_trees.specs.parse_grammar.parse_model.Faults.{Fault}
+use Rattle.yaml_parse_laws_trees.specs.parse_grammar.Problems.{problem_text_of, context_text_of, context_place}
+use Rattle.yaml_parse_laws_trees.specs.parse_grammar.Machine.{feed, run, initial}
+use Rattle.yaml_parse_laws_trees.specs.parse_grammar.Resolve.{no_directives, reading, directive_for}
+use Rattle.yaml_parse_laws_trees.specs.parse_grammar.Remaining.{reading_of}
 use Rattle.yaml_parse_laws_trees.specs.FaultsRows.{FaultRow, column}
 use Rattle.yaml_parse_loader.specs.Numbering.{undefined_alias}
 use Rattle.yaml_parse_loader.specs.Loading.{Loading, nothing_loaded, attach, aliased}

@@ -1,23 +1,23 @@
 -- What the items of a step do to the directives, and which faults they have.
 use Rattle.std.proofs.Common.{◌≡◌, ℕ, ℤ, Bool, true, false, if◌then◌else◌, ◌||◌, List, [], ◌∷◌, ◌++◌, Option, Some, None, is_some, option_map, codes, refl, ap, sym, ◌∙◌}
 use Rattle.std.specs.Str.{bytes_eq}
-use Rattle.yaml_parse_laws_trees.specs.grammar.parse_model.declared.yaml_mark_t.{yaml_mark_t}
-use Rattle.yaml_parse_laws_trees.specs.grammar.parse_model.declared.yaml_version_directive_t.{yaml_version_directive_t}
-use Rattle.yaml_parse_laws_trees.specs.grammar.parse_model.Tokens.{Token, TokenBody}
-use Rattle.yaml_parse_laws_trees.specs.grammar.parse_model.Tokens as token
-use Rattle.yaml_parse_laws_trees.specs.grammar.parse_model.Faults.{Fault}
-use Rattle.yaml_parse_laws_trees.specs.grammar.parse_model.Events.{TagDirective}
-use Rattle.yaml_parse_laws_trees.specs.grammar.declared.name.Wants.{Wants}
-use Rattle.yaml_parse_laws_trees.specs.grammar.declared.name.Wants.TheVariants.{Flow, Block}
-use Rattle.yaml_parse_laws_trees.specs.grammar.declared.name.Brackets.{Brackets}
-use Rattle.yaml_parse_laws_trees.specs.grammar.declared.name.Brackets.TheVariants as brackets
-use Rattle.yaml_parse_laws_trees.specs.grammar.Problems.{problem_text_of, context_text_of, context_place}
-use Rattle.yaml_parse_laws_trees.specs.grammar.Items.{RawEvent, RawEventBody, Properties, Tag, Shape, item_at}
-use Rattle.yaml_parse_laws_trees.specs.grammar.Items as item
-use Rattle.yaml_parse_laws_trees.specs.grammar.States.{State}
-use Rattle.yaml_parse_laws_trees.specs.grammar.States as state
-use Rattle.yaml_parse_laws_trees.specs.grammar.Machine.{content_taken, node_taken, items_taken, more_taken, entries_taken, pairs_taken, taken_at, left_at}
-use Rattle.yaml_parse_laws_trees.specs.grammar.Resolve.{Directives, no_directives, Settled, refused, gave, noted, settle, directive_for, or_default, default_prefix, with_resolved, with_tag, with_version, is_known_version}
+use Rattle.yaml_parse_laws_trees.specs.parse_grammar.parse_model.declared.yaml_mark_t.{yaml_mark_t}
+use Rattle.yaml_parse_laws_trees.specs.parse_grammar.parse_model.declared.yaml_version_directive_t.{yaml_version_directive_t}
+use Rattle.yaml_parse_laws_trees.specs.parse_grammar.parse_model.Tokens.{Token, TokenBody}
+use Rattle.yaml_parse_laws_trees.specs.parse_grammar.parse_model.Tokens as token
+use Rattle.yaml_parse_laws_trees.specs.parse_grammar.parse_model.Faults.{Fault}
+use Rattle.yaml_parse_laws_trees.specs.parse_grammar.parse_model.Events.{TagDirective}
+use Rattle.yaml_parse_laws_trees.specs.parse_grammar.declared.name.Wants.{Wants}
+use Rattle.yaml_parse_laws_trees.specs.parse_grammar.declared.name.Wants.TheVariants.{Flow, Block}
+use Rattle.yaml_parse_laws_trees.specs.parse_grammar.declared.name.Brackets.{Brackets}
+use Rattle.yaml_parse_laws_trees.specs.parse_grammar.declared.name.Brackets.TheVariants as brackets
+use Rattle.yaml_parse_laws_trees.specs.parse_grammar.Problems.{problem_text_of, context_text_of, context_place}
+use Rattle.yaml_parse_laws_trees.specs.parse_grammar.Items.{RawEvent, RawEventBody, Properties, Tag, Shape, item_at}
+use Rattle.yaml_parse_laws_trees.specs.parse_grammar.Items as item
+use Rattle.yaml_parse_laws_trees.specs.parse_grammar.States.{State}
+use Rattle.yaml_parse_laws_trees.specs.parse_grammar.States as state
+use Rattle.yaml_parse_laws_trees.specs.parse_grammar.Machine.{content_taken, node_taken, items_taken, more_taken, entries_taken, pairs_taken, taken_at, left_at}
+use Rattle.yaml_parse_laws_trees.specs.parse_grammar.Resolve.{Directives, no_directives, Settled, refused, gave, noted, settle, directive_for, or_default, default_prefix, with_resolved, with_tag, with_version, is_known_version}
 use Rattle.yaml_parse_laws_trees.specs.LookBack.{directives_before, has_version, has_handle, NodeTag}
 use Rattle.yaml_parse_laws_trees.specs.Wrong.{version_fault, handle_twice, directive_fault, undefined_handle, is_version_1}
 

@@ -1,18 +1,18 @@
 -- One token: what the stack gives is read, and the directives agree with the tokens from then on.
 use Rattle.std.proofs.Common.{◌≡◌, Bool, true, false, if◌then◌else◌, List, [], ◌∷◌, ◌++◌, Option, Some, None, refl, ap, sym, subst}
-use Rattle.yaml_parse_laws_trees.specs.grammar.parse_model.declared.yaml_mark_t.{yaml_mark_t}
-use Rattle.yaml_parse_laws_trees.specs.grammar.parse_model.Tokens.{Token, TokenBody, type_of}
-use Rattle.yaml_parse_laws_trees.specs.grammar.parse_model.Tokens as token
-use Rattle.yaml_parse_laws_trees.specs.grammar.parse_model.Events as event
-use Rattle.yaml_parse_laws_trees.specs.grammar.declared.name.Choice.{Choice}
-use Rattle.yaml_parse_laws_trees.specs.grammar.declared.name.Choice.TheVariants.{Refuse, Take, Leave, Open}
-use Rattle.yaml_parse_laws_trees.specs.grammar.Items.{RawEvent, Properties, item_at, properties_alone}
-use Rattle.yaml_parse_laws_trees.specs.grammar.Items as item
-use Rattle.yaml_parse_laws_trees.specs.grammar.States.{State}
-use Rattle.yaml_parse_laws_trees.specs.grammar.States as state
-use Rattle.yaml_parse_laws_trees.specs.grammar.Stacks.{IsInner, InsideAt, IsInside}
-use Rattle.yaml_parse_laws_trees.specs.grammar.Machine.{choice_at, taken_at, left_at, Fed, stop, go, with_item, given_by, turn, feed}
-use Rattle.yaml_parse_laws_trees.specs.grammar.Resolve.{Directives, no_directives}
+use Rattle.yaml_parse_laws_trees.specs.parse_grammar.parse_model.declared.yaml_mark_t.{yaml_mark_t}
+use Rattle.yaml_parse_laws_trees.specs.parse_grammar.parse_model.Tokens.{Token, TokenBody, type_of}
+use Rattle.yaml_parse_laws_trees.specs.parse_grammar.parse_model.Tokens as token
+use Rattle.yaml_parse_laws_trees.specs.parse_grammar.parse_model.Events as event
+use Rattle.yaml_parse_laws_trees.specs.parse_grammar.declared.name.Choice.{Choice}
+use Rattle.yaml_parse_laws_trees.specs.parse_grammar.declared.name.Choice.TheVariants.{Refuse, Take, Leave, Open}
+use Rattle.yaml_parse_laws_trees.specs.parse_grammar.Items.{RawEvent, Properties, item_at, properties_alone}
+use Rattle.yaml_parse_laws_trees.specs.parse_grammar.Items as item
+use Rattle.yaml_parse_laws_trees.specs.parse_grammar.States.{State}
+use Rattle.yaml_parse_laws_trees.specs.parse_grammar.States as state
+use Rattle.yaml_parse_laws_trees.specs.parse_grammar.Stacks.{IsInner, InsideAt, IsInside}
+use Rattle.yaml_parse_laws_trees.specs.parse_grammar.Machine.{choice_at, taken_at, left_at, Fed, stop, go, with_item, given_by, turn, feed}
+use Rattle.yaml_parse_laws_trees.specs.parse_grammar.Resolve.{Directives, no_directives}
 use Rattle.yaml_parse_laws_trees.specs.LookBack.{directives_before, document_directives, is_directive, starts_document}
 use Rattle.yaml_parse_laws_trees.specs.Wrong.{directive_fault}
 use Rattle.yaml_parse_laws_trees.proofs.FaultsStanding.{Sign, open_in, directive, other, last_of, last_in, told, Plain, Nested}

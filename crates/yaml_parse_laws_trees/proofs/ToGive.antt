@@ -1,28 +1,28 @@
 -- What a state still gives: the events of a part of some documents, and what follows them.
 use Rattle.std.proofs.Common.{◌≡◌, ℕ, Bool, true, false, if◌then◌else◌, ◌||◌, List, [], ◌∷◌, ◌++◌, Option, Some, None, refl, sym, ap, subst, ◌∙◌}
-use Rattle.yaml_parse_laws_trees.specs.grammar.parse_model.declared.yaml_mark_t.{yaml_mark_t}
-use Rattle.yaml_parse_laws_trees.specs.grammar.parse_model.declared.yaml_encoding_t.{yaml_encoding_t}
-use Rattle.yaml_parse_laws_trees.specs.grammar.parse_model.declared.yaml_encoding_t.TheVariants.{YAML_ANY_ENCODING}
-use Rattle.yaml_parse_laws_trees.specs.grammar.parse_model.declared.yaml_token_type_t.{yaml_token_type_t}
-use Rattle.yaml_parse_laws_trees.specs.grammar.parse_model.declared.yaml_token_type_t.TheVariants as kind
-use Rattle.yaml_parse_laws_trees.specs.grammar.parse_model.declared.yaml_version_directive_t.{yaml_version_directive_t}
-use Rattle.yaml_parse_laws_trees.specs.grammar.parse_model.Tokens.{Token, TokenBody, type_of, zero_mark}
-use Rattle.yaml_parse_laws_trees.specs.grammar.parse_model.Tokens as token
-use Rattle.yaml_parse_laws_trees.specs.grammar.parse_model.Events.{Event, EventBody, TagDirective}
-use Rattle.yaml_parse_laws_trees.specs.grammar.parse_model.Events as event
-use Rattle.yaml_parse_laws_trees.specs.grammar.declared.Wants.{Wants}
-use Rattle.yaml_parse_laws_trees.specs.grammar.declared.Wants.TheVariants.{Flow, Block}
-use Rattle.yaml_parse_laws_trees.specs.grammar.declared.Brackets.{Brackets}
-use Rattle.yaml_parse_laws_trees.specs.grammar.declared.Brackets.TheVariants as brackets
-use Rattle.yaml_parse_laws_trees.specs.grammar.declared.Choice.TheVariants.{Refuse, Take, Leave, Open}
-use Rattle.yaml_parse_laws_trees.specs.grammar.declared.ParseProblem.{ParseProblem}
-use Rattle.yaml_parse_laws_trees.specs.grammar.declared.ParseProblem.TheVariants as problem
-use Rattle.yaml_parse_laws_trees.specs.grammar.Items.{RawEvent, RawEventBody, Properties, Shape}
-use Rattle.yaml_parse_laws_trees.specs.grammar.Items as item
-use Rattle.yaml_parse_laws_trees.specs.grammar.States.{State}
-use Rattle.yaml_parse_laws_trees.specs.grammar.States as state
-use Rattle.yaml_parse_laws_trees.specs.grammar.Machine.{choice_at, taken_at, documents_taken, content_taken, node_taken, with_properties_taken, items_taken, more_taken, stream_taken, entries_taken, pairs_taken, lone_below, left_at, parts_documents, starts_node, starts_content, follows, joins, closes, no_node, no_end, wants_of}
-use Rattle.yaml_parse_laws_trees.specs.grammar.Resolve.{placed}
+use Rattle.yaml_parse_laws_trees.specs.parse_grammar.parse_model.declared.yaml_mark_t.{yaml_mark_t}
+use Rattle.yaml_parse_laws_trees.specs.parse_grammar.parse_model.declared.yaml_encoding_t.{yaml_encoding_t}
+use Rattle.yaml_parse_laws_trees.specs.parse_grammar.parse_model.declared.yaml_encoding_t.TheVariants.{YAML_ANY_ENCODING}
+use Rattle.yaml_parse_laws_trees.specs.parse_grammar.parse_model.declared.yaml_token_type_t.{yaml_token_type_t}
+use Rattle.yaml_parse_laws_trees.specs.parse_grammar.parse_model.declared.yaml_token_type_t.TheVariants as kind
+use Rattle.yaml_parse_laws_trees.specs.parse_grammar.parse_model.declared.yaml_version_directive_t.{yaml_version_directive_t}
+use Rattle.yaml_parse_laws_trees.specs.parse_grammar.parse_model.Tokens.{Token, TokenBody, type_of, zero_mark}
+use Rattle.yaml_parse_laws_trees.specs.parse_grammar.parse_model.Tokens as token
+use Rattle.yaml_parse_laws_trees.specs.parse_grammar.parse_model.Events.{Event, EventBody, TagDirective}
+use Rattle.yaml_parse_laws_trees.specs.parse_grammar.parse_model.Events as event
+use Rattle.yaml_parse_laws_trees.specs.parse_grammar.declared.Wants.{Wants}
+use Rattle.yaml_parse_laws_trees.specs.parse_grammar.declared.Wants.TheVariants.{Flow, Block}
+use Rattle.yaml_parse_laws_trees.specs.parse_grammar.declared.Brackets.{Brackets}
+use Rattle.yaml_parse_laws_trees.specs.parse_grammar.declared.Brackets.TheVariants as brackets
+use Rattle.yaml_parse_laws_trees.specs.parse_grammar.declared.Choice.TheVariants.{Refuse, Take, Leave, Open}
+use Rattle.yaml_parse_laws_trees.specs.parse_grammar.declared.ParseProblem.{ParseProblem}
+use Rattle.yaml_parse_laws_trees.specs.parse_grammar.declared.ParseProblem.TheVariants as problem
+use Rattle.yaml_parse_laws_trees.specs.parse_grammar.Items.{RawEvent, RawEventBody, Properties, Shape}
+use Rattle.yaml_parse_laws_trees.specs.parse_grammar.Items as item
+use Rattle.yaml_parse_laws_trees.specs.parse_grammar.States.{State}
+use Rattle.yaml_parse_laws_trees.specs.parse_grammar.States as state
+use Rattle.yaml_parse_laws_trees.specs.parse_grammar.Machine.{choice_at, taken_at, documents_taken, content_taken, node_taken, with_properties_taken, items_taken, more_taken, stream_taken, entries_taken, pairs_taken, lone_below, left_at, parts_documents, starts_node, starts_content, follows, joins, closes, no_node, no_end, wants_of}
+use Rattle.yaml_parse_laws_trees.specs.parse_grammar.Resolve.{placed}
 use Rattle.yaml_parse_loader.specs.Numbering.{Head, Span, spanning, Content, Contents, Pairs, alias, scalar, sequence, mapping, no_items, item, no_pairs, pair, events, item_events, pair_events, DocumentContent, document_events}
 
 -- ---- parts

@@ -1,9 +1,9 @@
 -- A list of tokens has one fault of loading at most.
 use Rattle.std.proofs.Common.{◌≡◌, ◌⊎◌, inl, inr, ℕ, ◌<◌, List, [], ◌∷◌, Option, Some, None, refl, ap, sym, subst, ◌∙◌}
 use Rattle.std.proofs.lemmas.Bool.{cases_order}
-use Rattle.yaml_parse_laws_trees.specs.grammar.parse_model.Tokens.{Token}
-use Rattle.yaml_parse_laws_trees.specs.grammar.parse_model.Faults.{Fault}
-use Rattle.yaml_parse_laws_trees.specs.grammar.Trees.{Stream, spell}
+use Rattle.yaml_parse_laws_trees.specs.parse_grammar.parse_model.Tokens.{Token}
+use Rattle.yaml_parse_laws_trees.specs.parse_grammar.parse_model.Faults.{Fault}
+use Rattle.yaml_parse_laws_trees.specs.parse_grammar.Trees.{Stream, spell}
 use Rattle.yaml_parse_laws_trees.specs.Places.{of_handle, of_token, BeginsWithSentence, with_end}
 use Rattle.yaml_parse_laws_trees.proofs.CountsUnique.{one_tree}
 use Rattle.yaml_parse_laws_trees.proofs.Cuts.{SameCut, same_cut}

@@ -1,7 +1,7 @@
 -- How the numbers fall that stand with the events to come.
 use Rattle.std.specs.Prelude.{ℕ, ◌≤◌, List, [], ◌∷◌}
-use Rattle.yaml_parse_laws_trees.specs.grammar.Resolve.{Told}
-use Rattle.yaml_parse_laws_trees.specs.grammar.Remaining.{next_unasked}
+use Rattle.yaml_parse_laws_trees.specs.parse_grammar.Resolve.{Told}
+use Rattle.yaml_parse_laws_trees.specs.parse_grammar.Remaining.{next_unasked}
 
 -- as each event is given, no fewer tokens are left unasked for than as the next one is, or the fault behind all
 abbrev pub AreFalling : List Told → ℕ → Type 0

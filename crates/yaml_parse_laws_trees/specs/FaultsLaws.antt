@@ -1,10 +1,10 @@
 -- The machine's fault is the list's.
 use Rattle.std.specs.Prelude.{◌≡◌, List, Option, Some}
-use Rattle.yaml_parse_laws_trees.specs.grammar.parse_model.Tokens.{Token}
-use Rattle.yaml_parse_laws_trees.specs.grammar.parse_model.Faults.{Fault}
-use Rattle.yaml_parse_laws_trees.specs.grammar.Machine.{run, initial}
-use Rattle.yaml_parse_laws_trees.specs.grammar.Resolve.{no_directives}
-use Rattle.yaml_parse_laws_trees.specs.grammar.Remaining.{reading_of, unasked_of}
+use Rattle.yaml_parse_laws_trees.specs.parse_grammar.parse_model.Tokens.{Token}
+use Rattle.yaml_parse_laws_trees.specs.parse_grammar.parse_model.Faults.{Fault}
+use Rattle.yaml_parse_laws_trees.specs.parse_grammar.Machine.{run, initial}
+use Rattle.yaml_parse_laws_trees.specs.parse_grammar.Resolve.{no_directives}
+use Rattle.yaml_parse_laws_trees.specs.parse_grammar.Remaining.{reading_of, unasked_of}
 use Rattle.yaml_parse_laws_trees.specs.Places.{FaultOfTokens, IsToldWith}
 
 -- A list has one fault at most.

@@ -1,12 +1,12 @@
 -- The events of a list of tokens, said of trees: those that come before its fault too.
 use Rattle.std.specs.Prelude.{◌≡◌, ℕ, ◌+◌, ◌-◌, nat_le, Bool, true, false, if◌then◌else◌, ◌||◌, List, [], ◌∷◌, ◌++◌, length, Option, Some, None}
-use Rattle.yaml_parse_laws_trees.specs.grammar.parse_model.declared.yaml_mark_t.{yaml_mark_t}
-use Rattle.yaml_parse_laws_trees.specs.grammar.parse_model.Tokens.{Token, TokenBody}
-use Rattle.yaml_parse_laws_trees.specs.grammar.parse_model.Tokens as token
-use Rattle.yaml_parse_laws_trees.specs.grammar.parse_model.Faults.{Fault}
-use Rattle.yaml_parse_laws_trees.specs.grammar.Trees.{Stream, spell, Given, next}
-use Rattle.yaml_parse_laws_trees.specs.grammar.TreeEvents.{given_of}
-use Rattle.yaml_parse_laws_trees.specs.grammar.Resolve.{Told, reading, no_directives}
+use Rattle.yaml_parse_laws_trees.specs.parse_grammar.parse_model.declared.yaml_mark_t.{yaml_mark_t}
+use Rattle.yaml_parse_laws_trees.specs.parse_grammar.parse_model.Tokens.{Token, TokenBody}
+use Rattle.yaml_parse_laws_trees.specs.parse_grammar.parse_model.Tokens as token
+use Rattle.yaml_parse_laws_trees.specs.parse_grammar.parse_model.Faults.{Fault}
+use Rattle.yaml_parse_laws_trees.specs.parse_grammar.Trees.{Stream, spell, Given, next}
+use Rattle.yaml_parse_laws_trees.specs.parse_grammar.TreeEvents.{given_of}
+use Rattle.yaml_parse_laws_trees.specs.parse_grammar.Resolve.{Told, reading, no_directives}
 use Rattle.yaml_parse_laws_trees.specs.SoundLaws.{TreeGoesOn, BeginsWithTree}
 use Rattle.yaml_parse_laws_trees.specs.LookBack.{asks_for_node, is_directive}
 

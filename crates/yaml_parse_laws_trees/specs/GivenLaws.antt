@@ -1,11 +1,11 @@
 -- The machine's events are the list's.
 use Rattle.std.specs.Prelude.{◌≡◌, false, List, Option}
-use Rattle.yaml_parse_laws_trees.specs.grammar.parse_model.Tokens.{Token}
-use Rattle.yaml_parse_laws_trees.specs.grammar.parse_model.Faults.{Fault}
-use Rattle.yaml_parse_laws_trees.specs.grammar.Trees.{next}
-use Rattle.yaml_parse_laws_trees.specs.grammar.Machine.{run, initial}
-use Rattle.yaml_parse_laws_trees.specs.grammar.Resolve.{Told, no_directives}
-use Rattle.yaml_parse_laws_trees.specs.grammar.Remaining.{reading_of}
+use Rattle.yaml_parse_laws_trees.specs.parse_grammar.parse_model.Tokens.{Token}
+use Rattle.yaml_parse_laws_trees.specs.parse_grammar.parse_model.Faults.{Fault}
+use Rattle.yaml_parse_laws_trees.specs.parse_grammar.Trees.{next}
+use Rattle.yaml_parse_laws_trees.specs.parse_grammar.Machine.{run, initial}
+use Rattle.yaml_parse_laws_trees.specs.parse_grammar.Resolve.{Told, no_directives}
+use Rattle.yaml_parse_laws_trees.specs.parse_grammar.Remaining.{reading_of}
 use Rattle.yaml_parse_laws_trees.specs.SoundLaws.{BeginsWithTree}
 use Rattle.yaml_parse_laws_trees.specs.Given.{LongestFront, gives_no_more, EndsAt, GivesLeast, EventsOfTokens}
 

@@ -1,10 +1,10 @@
 -- What loads end in is the list's fault.
 use Rattle.std.specs.Prelude.{◌≡◌, List, Option}
-use Rattle.yaml_parse_laws_trees.specs.grammar.parse_model.Tokens.{Token}
-use Rattle.yaml_parse_laws_trees.specs.grammar.parse_model.Faults.{Fault}
-use Rattle.yaml_parse_laws_trees.specs.grammar.Machine.{run, initial}
-use Rattle.yaml_parse_laws_trees.specs.grammar.Resolve.{no_directives, Reading}
-use Rattle.yaml_parse_laws_trees.specs.grammar.Remaining.{reading_of}
+use Rattle.yaml_parse_laws_trees.specs.parse_grammar.parse_model.Tokens.{Token}
+use Rattle.yaml_parse_laws_trees.specs.parse_grammar.parse_model.Faults.{Fault}
+use Rattle.yaml_parse_laws_trees.specs.parse_grammar.Machine.{run, initial}
+use Rattle.yaml_parse_laws_trees.specs.parse_grammar.Resolve.{no_directives, Reading}
+use Rattle.yaml_parse_laws_trees.specs.parse_grammar.Remaining.{reading_of}
 use Rattle.yaml_parse_loader.specs.Loading.{nothing_loaded}
 use Rattle.yaml_parse_laws_trees.specs.AllLoads.{load_all}
 use Rattle.yaml_parse_laws_trees.specs.Faults.{FaultOfLoading}

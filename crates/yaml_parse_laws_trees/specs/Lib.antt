@@ -16,7 +16,7 @@ pub mod Rows
 pub mod NextLoad
 pub mod Falling
 -- what it stands on, for crates that name this one alone
-pub use Rattle.yaml_parse_grammar.specs as grammar
+pub use Rattle.yaml_parse_grammar.specs as parse_grammar
 -- what it stands on, for crates of laws that name this one alone
 pub use Rattle.yaml_parse_document.specs as parse_document
 pub use Rattle.yaml_parse_loader.specs as parse_loader

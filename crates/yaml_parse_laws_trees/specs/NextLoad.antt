@@ -1,13 +1,13 @@
 -- What a load comes to, said by content: by that of the document whose events come next.
 use Rattle.std.specs.Prelude.{◌≡◌, ◌⊎◌, ◌≤◌, ℕ, Bool, true, false, ◌||◌, List, [], ◌∷◌, ◌++◌, map, Option, Some, None, Ok}
-use Rattle.yaml_parse_laws_trees.specs.grammar.parse_model.declared.yaml_mark_t.{yaml_mark_t}
-use Rattle.yaml_parse_laws_trees.specs.grammar.parse_model.Faults.{Fault, IsMemoryFault, scan_layers, load_layers}
-use Rattle.yaml_parse_laws_trees.specs.grammar.parse_model.Source.{HasMore}
-use Rattle.yaml_parse_laws_trees.specs.grammar.parse_model.Events.{Event, EventBody}
-use Rattle.yaml_parse_laws_trees.specs.grammar.parse_model.Events as event
+use Rattle.yaml_parse_laws_trees.specs.parse_grammar.parse_model.declared.yaml_mark_t.{yaml_mark_t}
+use Rattle.yaml_parse_laws_trees.specs.parse_grammar.parse_model.Faults.{Fault, IsMemoryFault, scan_layers, load_layers}
+use Rattle.yaml_parse_laws_trees.specs.parse_grammar.parse_model.Source.{HasMore}
+use Rattle.yaml_parse_laws_trees.specs.parse_grammar.parse_model.Events.{Event, EventBody}
+use Rattle.yaml_parse_laws_trees.specs.parse_grammar.parse_model.Events as event
 use Rattle.yaml_parse_document.specs.Documents.{Document, no_document}
-use Rattle.yaml_parse_laws_trees.specs.grammar.Resolve.{Told}
-use Rattle.yaml_parse_laws_trees.specs.grammar.Remaining.{ParserRemaining, IsFinished}
+use Rattle.yaml_parse_laws_trees.specs.parse_grammar.Resolve.{Told}
+use Rattle.yaml_parse_laws_trees.specs.parse_grammar.Remaining.{ParserRemaining, IsFinished}
 use Rattle.yaml_parse_loader.specs.Numbering.{is_same, undefined_alias, DocumentContent, document_events, document_of}
 
 -- ---- told events

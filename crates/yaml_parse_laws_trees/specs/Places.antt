@@ -1,8 +1,8 @@
 -- The fault of a list of tokens: the one of the least place.
 use Rattle.std.specs.Prelude.{◌≡◌, ◌⊎◌, ℕ, suc, ◌<◌, ◌-◌, List, [], ◌∷◌, ◌++◌, length, Option, Some, None}
-use Rattle.yaml_parse_laws_trees.specs.grammar.parse_model.Tokens.{Token, no_token}
-use Rattle.yaml_parse_laws_trees.specs.grammar.parse_model.Faults.{Fault}
-use Rattle.yaml_parse_laws_trees.specs.grammar.Trees.{Stream, spell}
+use Rattle.yaml_parse_laws_trees.specs.parse_grammar.parse_model.Tokens.{Token, no_token}
+use Rattle.yaml_parse_laws_trees.specs.parse_grammar.parse_model.Faults.{Fault}
+use Rattle.yaml_parse_laws_trees.specs.parse_grammar.Trees.{Stream, spell}
 use Rattle.yaml_parse_laws_trees.specs.SoundLaws.{TreeGoesOn}
 use Rattle.yaml_parse_laws_trees.specs.LookBack.{followed_by}
 use Rattle.yaml_parse_laws_trees.specs.Wrong.{grammar_fault, directive_fault, handle_fault}

@@ -1,17 +1,17 @@
 -- Which lists of tokens the machine accepts.
 use Rattle.std.specs.Prelude.{◌≡◌, ◌⊎◌, List, [], ◌∷◌, ◌++◌, length, Option, Some, None}
-use Rattle.yaml_parse_laws_trees.specs.grammar.parse_model.declared.yaml_mark_t.{yaml_mark_t}
-use Rattle.yaml_parse_laws_trees.specs.grammar.parse_model.declared.yaml_error_type_t.TheVariants.{YAML_PARSER_ERROR}
-use Rattle.yaml_parse_laws_trees.specs.grammar.parse_model.declared.yaml_origin_t.TheVariants.{Parser}
-use Rattle.yaml_parse_laws_trees.specs.grammar.parse_model.Tokens.{Token, zero_mark}
-use Rattle.yaml_parse_laws_trees.specs.grammar.parse_model.Faults.{Fault}
-use Rattle.yaml_parse_laws_trees.specs.grammar.parse_model.Events.{Event}
-use Rattle.yaml_parse_laws_trees.specs.grammar.Items.{RawEvent}
-use Rattle.yaml_parse_laws_trees.specs.grammar.Trees.{Stream, spell, Given}
-use Rattle.yaml_parse_laws_trees.specs.grammar.TreeEvents.{given_of}
-use Rattle.yaml_parse_laws_trees.specs.grammar.Machine.{run, initial}
-use Rattle.yaml_parse_laws_trees.specs.grammar.Resolve.{Told, Directives, reading, no_directives}
-use Rattle.yaml_parse_laws_trees.specs.grammar.Remaining.{reading_of}
+use Rattle.yaml_parse_laws_trees.specs.parse_grammar.parse_model.declared.yaml_mark_t.{yaml_mark_t}
+use Rattle.yaml_parse_laws_trees.specs.parse_grammar.parse_model.declared.yaml_error_type_t.TheVariants.{YAML_PARSER_ERROR}
+use Rattle.yaml_parse_laws_trees.specs.parse_grammar.parse_model.declared.yaml_origin_t.TheVariants.{Parser}
+use Rattle.yaml_parse_laws_trees.specs.parse_grammar.parse_model.Tokens.{Token, zero_mark}
+use Rattle.yaml_parse_laws_trees.specs.parse_grammar.parse_model.Faults.{Fault}
+use Rattle.yaml_parse_laws_trees.specs.parse_grammar.parse_model.Events.{Event}
+use Rattle.yaml_parse_laws_trees.specs.parse_grammar.Items.{RawEvent}
+use Rattle.yaml_parse_laws_trees.specs.parse_grammar.Trees.{Stream, spell, Given}
+use Rattle.yaml_parse_laws_trees.specs.parse_grammar.TreeEvents.{given_of}
+use Rattle.yaml_parse_laws_trees.specs.parse_grammar.Machine.{run, initial}
+use Rattle.yaml_parse_laws_trees.specs.parse_grammar.Resolve.{Told, Directives, reading, no_directives}
+use Rattle.yaml_parse_laws_trees.specs.parse_grammar.Remaining.{reading_of}
 
 -- the list begins with the tokens of a tree
 pub record BeginsWithTree (ts : List Token) : Type 0 where

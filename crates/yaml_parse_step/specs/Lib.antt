@@ -7,4 +7,4 @@ pub mod Kept
 pub mod Finds
 -- what it stands on, for crates that name this one alone
 pub use Rattle.yaml_parse_grammar.specs as parse_grammar
-pub use Rattle.yaml_parse_laws_trees.specs as parse_laws_given
+pub use Rattle.yaml_parse_laws_trees.specs as parse_laws_trees

@@ -7,12 +7,12 @@ use Rattle.yaml_scan_model.specs.declared.yaml_break_t.TheVariants.{YAML_LN_BREA
 use Rattle.yaml_scan_model.specs.declared.yaml_fault_t.{yaml_fault_t}
 use Rattle.yaml_scan_model.specs.Faults.{fault_of, IsMemoryFault, load_layers}
 use Rattle.yaml_round_writing.specs.emit.emit_text.declared.RequestedSettings.{RequestedSettings}
-use Rattle.yaml_round_writing.specs.round_laws_documents.content.parse_laws_loading.parse_document.Documents.{Document}
-use Rattle.yaml_round_writing.specs.round_laws_documents.content.Loads.{loads_of}
-use Rattle.yaml_round_writing.specs.round_laws_documents.content.Said as content
-use Rattle.yaml_round_writing.specs.round_laws_documents.content.Canon.{canon}
-use Rattle.yaml_round_writing.specs.round_laws_documents.content.Agree.{AreAgreeing}
-use Rattle.yaml_round_writing.specs.round_laws_documents.content.DumpsEvents.{trees_of_dumps, AreNumerable}
+use Rattle.yaml_round_writing.specs.round_laws_documents.round_content.parse_laws_trees.parse_document.Documents.{Document}
+use Rattle.yaml_round_writing.specs.round_laws_documents.round_content.Loads.{loads_of}
+use Rattle.yaml_round_writing.specs.round_laws_documents.round_content.Said as content
+use Rattle.yaml_round_writing.specs.round_laws_documents.round_content.Canon.{canon}
+use Rattle.yaml_round_writing.specs.round_laws_documents.round_content.Agree.{AreAgreeing}
+use Rattle.yaml_round_writing.specs.round_laws_documents.round_content.DumpsEvents.{trees_of_dumps, AreNumerable}
 use Rattle.yaml_round_writing.specs.round_laws_documents.Normal.{ended}
 use Rattle.yaml_round_writing.specs.Reload.{AreLoaded, IsLoaded}
 use Rattle.yaml_round_writing.proofs.Whole.{loads_are, texts_tell}

@@ -21,7 +21,7 @@ pub use Rattle.yaml_round_device.specs.FaultLine
 -- the laws beneath, for crates of laws that name this one alone
 pub use Rattle.yaml_round_writing.specs.round_laws_documents
 pub use Rattle.yaml_round_writing.specs.emit
-pub use Rattle.yaml_round_writing.specs.round_laws_documents.content as round_laws_reading
-pub use Rattle.yaml_round_writing.specs.round_laws_documents.content.Input
-pub use Rattle.yaml_round_writing.specs.round_laws_documents.content.Normalize
-pub use Rattle.yaml_round_writing.specs.round_laws_documents.content.Content
+pub use Rattle.yaml_round_writing.specs.round_laws_documents.round_content as round_content
+pub use Rattle.yaml_round_writing.specs.round_laws_documents.round_content.Input
+pub use Rattle.yaml_round_writing.specs.round_laws_documents.round_content.Normalize
+pub use Rattle.yaml_round_writing.specs.round_laws_documents.round_content.Content

@@ -9,7 +9,7 @@ use Rattle.yaml_scan.specs.scan_decode.Encodings.{encoding_of}
 use Rattle.yaml_scan.specs.scan_decode.Decoding.{decoded_text}
 use Rattle.yaml_scan.proofs.DecodeLemmas.{AreBytes}
 use Rattle.yaml_scan.proofs.CompleteLemmas.{decoded_spells}
-use Rattle.yaml_round_laws_adapted.specs.scan_laws_utf8.Utf8Texts.{HasTexts}
+use Rattle.yaml_round_laws_adapted.specs.scan_laws_texts.Utf8Texts.{HasTexts}
 use Rattle.yaml_round_laws_adapted.proofs.Decoded.{spelled_utf8}
 use Rattle.yaml_round_laws_adapted.proofs.TokensUtf8.{remaining_sound}
 use Rattle.yaml_scan.specs.scan_history.Remaining.{Remaining}

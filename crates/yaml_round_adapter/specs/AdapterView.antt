@@ -1,7 +1,7 @@
 -- What a clause sees of an adapter.
 use Rattle.std.specs.Prelude.{◌≡◌, Bool, true, false, All}
 use Rattle.yaml_scan.specs.scan_history.Remaining.{Remaining, nothing}
-use Rattle.yaml_round_laws_adapted.specs.scan_laws_utf8.Utf8Texts.{HasTexts}
+use Rattle.yaml_round_laws_adapted.specs.scan_laws_texts.Utf8Texts.{HasTexts}
 use Rattle.yaml_round_adapter.specs.Adapted.{adapted}
 use Rattle.yaml_round_adapter.specs.declared.adapter.yaml_adapter_t.TheInside.{Inside}
 

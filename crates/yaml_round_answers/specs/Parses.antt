@@ -6,7 +6,7 @@ use Rattle.yaml_parse.specs.Faults.{Fault, fault_of, IsMemoryFault, parse_layers
 use Rattle.yaml_parse.specs.Resolve.{Told}
 use Rattle.yaml_round.specs.Answers.{IsFaulty}
 use Rattle.yaml_round.specs.Input.{events_of, ending_of}
-use Rattle.yaml_round.specs.round_laws_reading.Reading.{HasEvents}
+use Rattle.yaml_round.specs.round_content.Reading.{HasEvents}
 use Rattle.yaml_round_answers.specs.declared.answer.yaml_c_answer.{yaml_c_answer}
 use Rattle.yaml_round_records.specs.declared.Listing.{Listing}
 use Rattle.yaml_round_answers.specs.declared.parsing.yaml_c_parsed.{yaml_c_parsed}

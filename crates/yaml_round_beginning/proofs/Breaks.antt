@@ -5,7 +5,7 @@ use Rattle.std.proofs.lemmas.Bool.{cases_eq}
 use Rattle.std.proofs.Math.Bool.{or-true}
 use Rattle.std.proofs.lemmas.Bool.Decides.{nat_tests}
 use Rattle.yaml_emit_layout.specs.Nodes.{any_below}
-use Rattle.yaml_round_laws_normal.specs.content.emit_text.Style.{last_or}
+use Rattle.yaml_round_laws_normal.specs.round_content.emit_text.Style.{last_or}
 
 -- a test of the first numbers
 pub below_found : (p : ℕ → Bool) (n i : ℕ) → i < n → p i ≡ true → any_below n p ≡ true

@@ -1,6 +1,6 @@
 -- Before the first event it is the input that begins with nothing.
 use Rattle.std.proofs.Common.{◌≡◌, ◌&&◌, not, Bool, true, false, List, [], ◌∷◌, refl}
-use Rattle.yaml_emit_layout.specs.scan.declared.yaml_encoding_t.{yaml_encoding_t}
+use Rattle.yaml_emit_layout.specs.scan_model.declared.yaml_encoding_t.{yaml_encoding_t}
 use Rattle.yaml_emit_layout.specs.Content.{Event, Opening, no_event, stream_start, stream_end, document_start, document_end, alias, scalar, sequence_start, sequence_end, mapping_start, mapping_end}
 use Rattle.yaml_emit_layout.specs.Nodes.{is_directed}
 use Rattle.yaml_round_laws_pretty.specs.Flags.{begins_with_nothing}

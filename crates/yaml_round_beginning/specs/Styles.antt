@@ -6,8 +6,8 @@ use Rattle.yaml_scan_model.specs.declared.yaml_version_directive_t.{yaml_version
 use Rattle.yaml_parse_model.specs.Events.{EventBody, TagDirective}
 use Rattle.yaml_emit_layout.specs.Content.{Event}
 use Rattle.yaml_emit_layout.specs.Nodes.{has_version, has_directives}
-use Rattle.yaml_round_laws_normal.specs.content.Content.{content_of}
-use Rattle.yaml_round_laws_normal.specs.content.emit_text.Style.{last_or}
+use Rattle.yaml_round_laws_normal.specs.round_content.Content.{content_of}
+use Rattle.yaml_round_laws_normal.specs.round_content.emit_text.Style.{last_or}
 use Rattle.yaml_round_laws_normal.specs.Readable.{readable_style}
 use Rattle.yaml_round_laws_normal.specs.Restyled as restyled
 use Rattle.yaml_round_laws_normal.specs.Restyled.{mark_by, is_first, is_start, next_place, readable_event}

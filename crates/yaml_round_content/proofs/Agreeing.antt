@@ -2,7 +2,7 @@
 use Rattle.std.proofs.Common.{◌≡◌, ℕ, zero, suc, ℤ, List, [], ◌∷◌, length, map, Some, None, refl, sym, ap, subst, ◌∙◌}
 use Rattle.std.specs.Prelude.{false, slice_get, pos}
 use Rattle.yaml_round_content.specs.parse_model.Nodes as model
-use Rattle.yaml_round_content.specs.parse_laws_loading.parse_document.Documents as documents
+use Rattle.yaml_round_content.specs.parse_laws_trees.parse_document.Documents as documents
 use Rattle.yaml_parse_loader.specs.Numbering.{is_bang}
 use Rattle.yaml_parse_loader.specs.Order.{VisitsInPreorder, done, again, first, children}
 use Rattle.yaml_round_content.specs.Input.{events_of, ending_of}

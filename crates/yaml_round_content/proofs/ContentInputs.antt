@@ -3,7 +3,7 @@ use Rattle.std.proofs.Common.{◌≡◌, ◌||◌, ℕ, List, map, Bool, true, f
 use Rattle.yaml_round_content.specs.scan_model.declared.yaml_encoding_t.{yaml_encoding_t}
 use Rattle.yaml_round_content.specs.scan_model.declared.yaml_scalar_style_t.{yaml_scalar_style_t}
 use Rattle.yaml_round_content.specs.parse_model.Events as event
-use Rattle.yaml_round_content.specs.emit_laws_streams.StreamsLaws.{RightStream}
+use Rattle.yaml_round_content.specs.emit_laws_dumps.StreamsLaws.{RightStream}
 use Rattle.yaml_round_content.specs.Normalized.{IsNormalized, IsNormalizing}
 use Rattle.yaml_round_content.proofs.StreamsInputs.{inputs_are_streams, inputs_are_fronts}
 use Rattle.yaml_round_content.specs.Normalize.{is_lone_mark, normalize_scalar, normalize_body}

@@ -15,7 +15,7 @@ use Rattle.yaml_round_content.specs.parse_model.Events.{EventBody, TagDirective}
 use Rattle.yaml_round_content.specs.parse_model.Events as event
 use Rattle.yaml_round_content.specs.parse_model.Nodes.{Node, NodeBody}
 use Rattle.yaml_round_content.specs.parse_model.Nodes as node
-use Rattle.yaml_round_content.specs.parse_laws_loading.parse_document.Documents.{Document, change_place, str_tag, seq_tag, map_tag}
+use Rattle.yaml_round_content.specs.parse_laws_trees.parse_document.Documents.{Document, change_place, str_tag, seq_tag, map_tag}
 use Rattle.yaml_round_content.specs.parse_grammar.Resolve.{Told}
 use Rattle.yaml_parse_loader.specs.Numbering.{loaded_tag}
 use Rattle.yaml_parse_loader.specs.Loading.{Open, open_sequence, open_mapping, Loading, nothing_loaded, attach, named, filled, filled_body, place_of, closed, aliased, enter_leaf, enter_open, LoadStep, goes_on, loaded, refused, step, step_body}

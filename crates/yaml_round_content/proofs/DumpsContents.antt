@@ -6,7 +6,7 @@ use Rattle.yaml_round_content.specs.scan_model.declared.yaml_scalar_style_t.{yam
 use Rattle.yaml_round_content.specs.scan_model.Faults.{Fault}
 use Rattle.yaml_round_content.specs.parse_model.Events.{EventBody}
 use Rattle.yaml_round_content.specs.parse_model.Events as event
-use Rattle.yaml_round_content.specs.parse_laws_loading.parse_document.Documents.{str_tag}
+use Rattle.yaml_round_content.specs.parse_laws_trees.parse_document.Documents.{str_tag}
 use Rattle.yaml_round_content.specs.parse_grammar.Resolve.{Told}
 use Rattle.yaml_parse_loader.specs.Numbering.{is_bang, loaded_tag}
 use Rattle.yaml_parse_loader.specs.Loading.{nothing_loaded}

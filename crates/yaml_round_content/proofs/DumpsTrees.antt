@@ -7,11 +7,11 @@ use Rattle.yaml_round_content.specs.parse_model.declared.yaml_node_pair_t.{yaml_
 use Rattle.yaml_round_content.specs.scan_model.Tokens.{zero_mark}
 use Rattle.yaml_round_content.specs.scan_model.Faults.{Fault}
 use Rattle.yaml_round_content.specs.parse_model.Nodes as model
-use Rattle.yaml_round_content.specs.parse_laws_loading.parse_document.Documents as documents
+use Rattle.yaml_round_content.specs.parse_laws_trees.parse_document.Documents as documents
 use Rattle.yaml_parse_loader.specs.Numbering.{Anchored, Numbered, ◌>>=◌, and_node, number, number_items, number_pairs, sequence_node, mapping_node, document_of}
 use Rattle.yaml_parse_loader.specs.Order.{VisitsInPreorder, again, first}
 use Rattle.yaml_round_content.specs.emit_layout.Content as emit
-use Rattle.yaml_round_content.specs.emit_laws_streams.emit_graph.Graph.{graph_content}
+use Rattle.yaml_round_content.specs.emit_laws_dumps.emit_graph.Graph.{graph_content}
 use Rattle.yaml_round_content.specs.Trees.{tree_of, trees_of, pair_trees_of, document_tree}
 use Rattle.yaml_round_content.specs.Canon.{written_node, written_nodes, written_pairs}
 use Rattle.yaml_round_content.specs.Loads.{Loads, in_front}

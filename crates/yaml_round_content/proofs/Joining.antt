@@ -9,7 +9,7 @@ use Rattle.yaml_round_content.specs.parse_grammar.Machine.{Outcome, run, initial
 use Rattle.yaml_round_content.specs.parse_grammar.Resolve.{Reading, reading, no_directives}
 use Rattle.yaml_round_content.specs.parse_grammar.Remaining.{reading_of}
 use Rattle.yaml_round_content.proofs.CompleteStream.{stream_runs}
-use Rattle.yaml_round_content.specs.parse_laws_loading.Places.{BeginsWithSentence, FaultOfTokens}
+use Rattle.yaml_round_content.specs.parse_laws_trees.Places.{BeginsWithSentence, FaultOfTokens}
 use Rattle.yaml_round_content.proofs.TreesEnding.{ends_in_fault, fault_ends}
 use Rattle.yaml_round_content.proofs.Turns.{items_given}
 use Rattle.yaml_round_content.specs.Events.{contents}

@@ -16,7 +16,7 @@ use Rattle.yaml_round_content.specs.emit_text.Layout.{Layout, ◌▹◌, order_m
 use Rattle.yaml_round_content.specs.emit_layout.Streams.{IsStream}
 use Rattle.yaml_round_content.specs.emit_layout.Content as emit
 use Rattle.yaml_round_content.specs.emit_layout.Nodes.{root_spot, node_layout, start_layout, end_layout, documents_layout, stream_layout}
-use Rattle.yaml_round_content.specs.emit_laws_streams.StreamsLaws.{RightStream}
+use Rattle.yaml_round_content.specs.emit_laws_dumps.StreamsLaws.{RightStream}
 use Rattle.yaml_round_content.specs.Normalize.{is_lone_mark, normalize_scalar, normalize_body}
 use Rattle.yaml_round_content.specs.Events.{emitter_events}
 use Rattle.yaml_round_content.specs.Input.{events_of}

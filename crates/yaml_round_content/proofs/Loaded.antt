@@ -4,10 +4,10 @@ use Rattle.yaml_round_content.specs.scan_model.declared.yaml_encoding_t.{yaml_en
 use Rattle.yaml_round_content.specs.scan_model.Tokens.{Token}
 use Rattle.yaml_round_content.specs.scan_model.Faults.{Fault}
 use Rattle.yaml_round_content.specs.parse_grammar.Resolve.{Reading}
-use Rattle.yaml_round_content.specs.parse_laws_loading.Places.{BeginsWithSentence}
-use Rattle.yaml_round_content.specs.parse_laws_loading.parse_document.Documents.{Document}
+use Rattle.yaml_round_content.specs.parse_laws_trees.Places.{BeginsWithSentence}
+use Rattle.yaml_round_content.specs.parse_laws_trees.parse_document.Documents.{Document}
 use Rattle.yaml_parse_loader.specs.Loading.{nothing_loaded}
-use Rattle.yaml_round_content.specs.parse_laws_loading.Faults.{LoadsSentence, FaultOfLoading}
+use Rattle.yaml_round_content.specs.parse_laws_trees.Faults.{LoadsSentence, FaultOfLoading}
 use Rattle.yaml_round_content.proofs.Unique.{one_load_fault}
 use Rattle.yaml_round_content.proofs.Ending.{loads_end_in_fault}
 use Rattle.yaml_round_content.specs.Input.{tokens_of}

@@ -3,7 +3,7 @@ use Rattle.std.proofs.Common.{◌≡◌, List, [], ◌∷◌, Option, Some, None
 use Rattle.yaml_round_content.specs.scan_model.Faults.{Fault}
 use Rattle.yaml_round_content.specs.parse_model.Events.{Event}
 use Rattle.yaml_round_content.specs.parse_model.Nodes as model
-use Rattle.yaml_round_content.specs.parse_laws_loading.parse_document.Documents as documents
+use Rattle.yaml_round_content.specs.parse_laws_trees.parse_document.Documents as documents
 use Rattle.yaml_parse_loader.specs.Numbering.{DocumentContent, document_events, document_of}
 use Rattle.yaml_parse_loader.specs.Loading.{Loading, LoadStep, goes_on, loaded, refused, nothing_loaded, step, turn, load, behind}
 use Rattle.yaml_parse_loader.specs.Loading as loading

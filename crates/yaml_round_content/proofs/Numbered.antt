@@ -6,13 +6,13 @@ use Rattle.yaml_round_content.specs.parse_model.Events.{Event}
 use Rattle.yaml_round_content.specs.parse_grammar.Trees.{Span, Stream}
 use Rattle.yaml_round_content.specs.parse_grammar.TreeSteps.{items}
 use Rattle.yaml_round_content.specs.parse_grammar.Resolve.{Reading, Told, reading, no_directives}
-use Rattle.yaml_round_content.specs.parse_laws_loading.Places.{BeginsWithSentence}
+use Rattle.yaml_round_content.specs.parse_laws_trees.Places.{BeginsWithSentence}
 use Rattle.yaml_round_content.proofs.TreesEnding.{fault_ends}
-use Rattle.yaml_round_content.specs.parse_laws_loading.parse_document.Documents as documents
+use Rattle.yaml_round_content.specs.parse_laws_trees.parse_document.Documents as documents
 use Rattle.yaml_parse_loader.specs.Numbering.{DocumentContent, document_events, document_of}
 use Rattle.yaml_parse_loader.specs.Loading.{Loading, LoadStep, goes_on, loaded, refused, nothing_loaded, step, turn, load, behind}
 use Rattle.yaml_parse_loader.specs.Loading as loading
-use Rattle.yaml_round_content.specs.parse_laws_loading.NextLoad.{NextLoad, next_document, next_fault, next_none}
+use Rattle.yaml_round_content.specs.parse_laws_trees.NextLoad.{NextLoad, next_document, next_fault, next_none}
 use Rattle.yaml_round_content.proofs.ByStep as parse
 use Rattle.yaml_round_content.proofs.NextLoads.{IsOf, load_is}
 use Rattle.yaml_round_content.specs.Input.{tokens_of}

@@ -4,7 +4,7 @@ use Rattle.yaml_round_content.specs.scan_model.Tokens.{Token}
 use Rattle.yaml_round_content.specs.scan_model.Faults.{Fault}
 use Rattle.yaml_round_content.specs.parse_grammar.Machine.{feed, run}
 use Rattle.yaml_round_content.specs.parse_grammar.Resolve.{reading, directive_for}
-use Rattle.yaml_round_content.specs.parse_laws_loading.Places.{BeginsWithSentence, FaultOfTokens}
+use Rattle.yaml_round_content.specs.parse_laws_trees.Places.{BeginsWithSentence, FaultOfTokens}
 use Rattle.yaml_round_content.proofs.TreesEnding.{ends_in_fault}
 use Rattle.yaml_round_content.specs.Events.{contents}
 use Rattle.yaml_round_content.specs.Said.{Document, node_says, items_say, pairs_say, documents_say, stream_says}

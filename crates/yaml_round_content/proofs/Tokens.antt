@@ -7,7 +7,7 @@ use Rattle.yaml_round_content.specs.scan_model.Faults.{Fault}
 use Rattle.yaml_round_content.specs.scan_history.Scanned.{scanned}
 use Rattle.yaml_round_content.specs.Input.{tokens_of}
 use Rattle.yaml_round_content.specs.round_laws_adapted.Adapted.{spells_text, cut}
-use Rattle.yaml_round_content.specs.scan_laws_names.Spelled.{AreSpelled}
+use Rattle.yaml_round_content.specs.scan_laws_texts.Spelled.{AreSpelled}
 use Rattle.yaml_round_content.proofs.Inputs.{scanned_spelled}
 
 cut_spelled : (fault : Option Fault) (ts : List Token) → AreSpelled ts → AreSpelled (cut fault ts).tokens

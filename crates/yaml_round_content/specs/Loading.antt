@@ -9,9 +9,9 @@ use Rattle.yaml_round_content.specs.parse_grammar.Trees as tree
 use Rattle.yaml_round_content.specs.parse_grammar.Machine.{run, initial}
 use Rattle.yaml_round_content.specs.parse_grammar.Resolve.{Reading, Told, no_directives}
 use Rattle.yaml_round_content.specs.parse_grammar.Remaining.{reading_of}
-use Rattle.yaml_round_content.specs.parse_laws_loading.Places.{BeginsWithSentence}
+use Rattle.yaml_round_content.specs.parse_laws_trees.Places.{BeginsWithSentence}
 use Rattle.yaml_parse_loader.specs.Loading.{nothing_loaded}
-use Rattle.yaml_round_content.specs.parse_laws_loading.NextLoad.{NextLoad, next_document, next_fault, next_none, IsLoadOf}
+use Rattle.yaml_round_content.specs.parse_laws_trees.NextLoad.{NextLoad, next_document, next_fault, next_none, IsLoadOf}
 use Rattle.yaml_parse_loader.specs.Numbering.{DocumentContent, spanning, document_events}
 use Rattle.yaml_round_content.specs.Input.{tokens_of}
 use Rattle.yaml_round_content.specs.Loads.{Loads, no_more, in_front, load_all, loads_of}

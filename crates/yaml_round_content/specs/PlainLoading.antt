@@ -4,9 +4,9 @@ use Rattle.yaml_round_content.specs.scan_model.declared.yaml_encoding_t.{yaml_en
 use Rattle.yaml_round_content.specs.scan_model.Tokens.{Token}
 use Rattle.yaml_round_content.specs.scan_model.Faults.{Fault}
 use Rattle.yaml_round_content.specs.parse_grammar.Trees.{spell}
-use Rattle.yaml_round_content.specs.parse_laws_loading.Places.{BeginsWithSentence}
-use Rattle.yaml_round_content.specs.parse_laws_loading.parse_document.Documents.{Document}
-use Rattle.yaml_round_content.specs.parse_laws_loading.Faults.{IsLoadable, FaultOfLoading}
+use Rattle.yaml_round_content.specs.parse_laws_trees.Places.{BeginsWithSentence}
+use Rattle.yaml_round_content.specs.parse_laws_trees.parse_document.Documents.{Document}
+use Rattle.yaml_round_content.specs.parse_laws_trees.Faults.{IsLoadable, FaultOfLoading}
 use Rattle.yaml_round_content.specs.Input.{tokens_of}
 use Rattle.yaml_parse_loader.specs.Loading.{nothing_loaded}
 use Rattle.yaml_round_content.specs.Loads.{Loads, load_all, loads_of}

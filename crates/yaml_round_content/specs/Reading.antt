@@ -5,7 +5,7 @@ use Rattle.yaml_round_content.specs.scan_model.Tokens.{Token}
 use Rattle.yaml_round_content.specs.scan_model.Faults.{Fault}
 use Rattle.yaml_round_content.specs.parse_grammar.TreeEvents.{given_of}
 use Rattle.yaml_round_content.specs.parse_grammar.Resolve.{Told, reading, no_directives}
-use Rattle.yaml_round_content.specs.parse_laws_loading.Places.{BeginsWithSentence, FaultOfTokens}
+use Rattle.yaml_round_content.specs.parse_laws_trees.Places.{BeginsWithSentence, FaultOfTokens}
 use Rattle.yaml_round_content.specs.Input.{tokens_of, events_of, ending_of}
 use Rattle.yaml_round_content.specs.Said.{Document, HasContent}
 use Rattle.yaml_round_content.specs.TreeContent.{tree_content}

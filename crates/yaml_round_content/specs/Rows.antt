@@ -3,7 +3,7 @@ use Rattle.std.specs.Prelude.{pos, true, false, List, [], ◌∷◌, Some, None,
 use Rattle.yaml_round_content.specs.scan_model.declared.yaml_scalar_style_t.TheVariants.{YAML_DOUBLE_QUOTED_SCALAR_STYLE}
 use Rattle.yaml_round_content.specs.scan_model.Tokens.{Token, TokenBody}
 use Rattle.yaml_round_content.specs.scan_model.Tokens as token
-use Rattle.yaml_round_content.specs.parse_laws_loading.FaultsRows.{in_column, stream, word, handle_e, tag_e, version}
+use Rattle.yaml_round_content.specs.parse_laws_trees.FaultsRows.{in_column, stream, word, handle_e, tag_e, version}
 use Rattle.yaml_round_content.specs.Said.{Node, Document, untagged, tagged, alias, scalar, sequence, mapping, no_nodes, node, no_pairs, pair}
 use Rattle.yaml_round_content.specs.Reading.{TokensRead}
 

@@ -4,7 +4,7 @@ use Rattle.std.specs.Str.{bytes_eq}
 use Rattle.yaml_round_content.specs.scan_model.declared.yaml_encoding_t.{yaml_encoding_t}
 use Rattle.yaml_round_content.specs.parse_grammar.declared.Wants.{Wants}
 use Rattle.yaml_round_content.specs.parse_grammar.Trees as tree
-use Rattle.yaml_round_content.specs.parse_laws_loading.Places.{BeginsWithSentence}
+use Rattle.yaml_round_content.specs.parse_laws_trees.Places.{BeginsWithSentence}
 use Rattle.yaml_round_content.specs.Events.{emitter_events}
 use Rattle.yaml_round_content.specs.Input.{tokens_of, events_of}
 use Rattle.yaml_round_laws_pretty.specs.Flags.{begins_with_nothing}

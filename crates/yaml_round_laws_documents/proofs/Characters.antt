@@ -6,7 +6,7 @@ use Rattle.std.proofs.lemmas.List.Elements.{All-nil, All-cons}
 use Rattle.std.proofs.lemmas.Bool.{cases_Bool, cases_lt}
 use Rattle.std.proofs.lemmas.Bool.Decides.{nat_tests}
 use lib.Utf8.{scalar, scalars, encode}
-use Rattle.yaml_emit_layout.specs.scan.Classes.{is_alpha_byte, is_digit_byte}
+use Rattle.yaml_emit_layout.specs.scan_model.Classes.{is_alpha_byte, is_digit_byte}
 use Rattle.yaml_scan_decode.specs.Characters.{is_allowed}
 use Rattle.yaml_emit_layout.specs.emit_text.Text.{is_break}
 use Rattle.yaml_emit_layout.specs.emit_text.Quoted.{is_printable, needs_escape, escape_letter, escape_text, hex_4, hex_8}

@@ -1,13 +1,13 @@
 -- The documents of any input are as loading makes them: they are those of a content, as far as the input goes.
 use Rattle.std.proofs.Common.{◌≡◌, ◌++◌, ℕ, Bool, true, false, List, [], ◌∷◌, map, Option, None, refl, sym, ap, ◌∙◌}
-use Rattle.yaml_round_laws_documents.specs.back_canon.scan.declared.yaml_encoding_t.TheVariants.{YAML_ANY_ENCODING}
-use Rattle.yaml_round_laws_documents.specs.back_canon.scan.declared.yaml_sequence_style_t.TheVariants.{YAML_ANY_SEQUENCE_STYLE}
-use Rattle.yaml_round_laws_documents.specs.back_canon.scan.declared.yaml_mapping_style_t.TheVariants.{YAML_ANY_MAPPING_STYLE}
+use Rattle.yaml_round_laws_documents.specs.emit_laws_text.scan_model.declared.yaml_encoding_t.TheVariants.{YAML_ANY_ENCODING}
+use Rattle.yaml_round_laws_documents.specs.emit_laws_text.scan_model.declared.yaml_sequence_style_t.TheVariants.{YAML_ANY_SEQUENCE_STYLE}
+use Rattle.yaml_round_laws_documents.specs.emit_laws_text.scan_model.declared.yaml_mapping_style_t.TheVariants.{YAML_ANY_MAPPING_STYLE}
 use Rattle.yaml_round_laws_documents.specs.parse_grammar.parse_model.Events.{Event, EventBody}
 use Rattle.yaml_round_laws_documents.specs.parse_grammar.parse_model.Events as event
-use Rattle.yaml_round_content.specs.parse_laws_loading.parse_document.Documents as documents
-use Rattle.yaml_round_content.specs.parse_laws_loading.parse_loader.Loading.{nothing_loaded}
-use Rattle.yaml_round_content.specs.parse_laws_loading.parse_loader.Numbering.{events, item_events, pair_events}
+use Rattle.yaml_round_content.specs.parse_laws_trees.parse_document.Documents as documents
+use Rattle.yaml_round_content.specs.parse_laws_trees.parse_loader.Loading.{nothing_loaded}
+use Rattle.yaml_round_content.specs.parse_laws_trees.parse_loader.Numbering.{events, item_events, pair_events}
 use Rattle.yaml_round_content.specs.Input.{events_of, ending_of}
 use Rattle.yaml_round_content.specs.Events.{contents}
 use Rattle.yaml_round_content.specs.Said.{Mark, untagged, tagged, Node, alias, scalar, sequence, mapping, Nodes, no_nodes, node, Pairs, no_pairs, pair, Document, scalar_says, node_says, items_say, pairs_say, documents_say, stream_says}
@@ -17,7 +17,7 @@ use Rattle.yaml_round_content.specs.Loads.{Loads, loads_of}
 use Rattle.yaml_round_content.specs.Agree.{Core, CoreNode, core_of}
 use Rattle.yaml_round_content.proofs.Core.{CoreLoading, CoreFed, core_goes_on, core_loaded, core_refused, CoreLoads, core_step, core_nothing, core_in_front, core_on, core_loads, is_fault, bodies, load_cores}
 use Rattle.yaml_round_content.proofs.DumpsContents.{on_same, loads_said}
-use Rattle.yaml_round_content.specs.emit_laws_streams.Dumps.{as_content, as_contents, as_pairs}
+use Rattle.yaml_round_content.specs.emit_laws_dumps.Dumps.{as_content, as_contents, as_pairs}
 use Rattle.yaml_round_content.specs.DumpsEvents.{unplaced, content_events, told_by, events_saying, load_each, AreLoadedDocuments}
 use Rattle.yaml_round_content.specs.DumpsLaws.{ContentIsLoaded, ContentLoadsDocuments}
 use Rattle.yaml_round_content.proofs.Agreeing.{document_loaded}

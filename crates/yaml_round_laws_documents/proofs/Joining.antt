@@ -1,12 +1,12 @@
 -- Canonical bytes decode to a text of words, whose tokens pass the adapter and are parsed as the content.
 use Rattle.std.proofs.Common.{◌≡◌, ℕ, ◌<◌, ◌&&◌, nat_le, if◌then◌else◌, List, Ok, refl, sym, ap, ◌∙◌, ℤ, pos, negsuc, arith}
 use Rattle.std.proofs.lemmas.Bool.Decides.{nat_tests}
-use Rattle.yaml_round_laws_documents.specs.back_canon.scan.declared.yaml_encoding_t.{yaml_encoding_t}
-use Rattle.yaml_round_laws_documents.specs.back_canon.scan.declared.yaml_encoding_t.TheVariants.{YAML_ANY_ENCODING}
+use Rattle.yaml_round_laws_documents.specs.emit_laws_text.scan_model.declared.yaml_encoding_t.{yaml_encoding_t}
+use Rattle.yaml_round_laws_documents.specs.emit_laws_text.scan_model.declared.yaml_encoding_t.TheVariants.{YAML_ANY_ENCODING}
 use Rattle.yaml_round_laws_documents.specs.scan_decode.Decoding.{decoded_text}
-use Rattle.yaml_round_laws_documents.specs.back_canon.scan_history.Remaining.{Remaining}
-use Rattle.yaml_round_laws_documents.specs.back_canon.scan_history.Scanned.{scanned, scanned_in}
-use Rattle.yaml_round_laws_documents.specs.back_canon.emit_layout.emit_text.Settings.{settled, settled_indent}
+use Rattle.yaml_round_laws_documents.specs.emit_laws_text.scan_history.Remaining.{Remaining}
+use Rattle.yaml_round_laws_documents.specs.emit_laws_text.scan_history.Scanned.{scanned, scanned_in}
+use Rattle.yaml_round_laws_documents.specs.emit_laws_text.emit_layout.emit_text.Settings.{settled, settled_indent}
 use Rattle.yaml_round_laws_documents.specs.round_laws_adapted.Adapted.{adapted}
 use Rattle.yaml_round_content.specs.Events.{contents}
 use Rattle.yaml_round_content.specs.Input.{events_of, ending_of, read, parsed, tokens_of}

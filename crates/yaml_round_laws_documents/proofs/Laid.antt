@@ -1,19 +1,19 @@
 -- For the dumps of loaded documents the canonical text of what they say is laid out.
 use Rattle.std.proofs.Common.{◌≡◌, ℕ, zero, suc, ℤ, pos, Bool, true, false, if◌then◌else◌, List, [], ◌∷◌, length, map, Option, None, refl, sym, ap, subst, ◌∙◌}
-use Rattle.yaml_round_laws_documents.specs.back_canon.scan.declared.yaml_encoding_t.TheVariants.{YAML_ANY_ENCODING}
-use Rattle.yaml_round_laws_documents.specs.back_canon.scan.declared.yaml_scalar_style_t.{yaml_scalar_style_t}
-use Rattle.yaml_round_laws_documents.specs.back_canon.scan.declared.yaml_scalar_style_t.TheVariants.{YAML_ANY_SCALAR_STYLE}
+use Rattle.yaml_round_laws_documents.specs.emit_laws_text.scan_model.declared.yaml_encoding_t.TheVariants.{YAML_ANY_ENCODING}
+use Rattle.yaml_round_laws_documents.specs.emit_laws_text.scan_model.declared.yaml_scalar_style_t.{yaml_scalar_style_t}
+use Rattle.yaml_round_laws_documents.specs.emit_laws_text.scan_model.declared.yaml_scalar_style_t.TheVariants.{YAML_ANY_SCALAR_STYLE}
 use Rattle.yaml_round_laws_documents.specs.parse_grammar.parse_model.declared.yaml_node_pair_t.{yaml_node_pair_t}
 use Rattle.yaml_round_laws_documents.specs.parse_grammar.parse_model.Nodes as model
-use Rattle.yaml_round_content.specs.parse_laws_loading.parse_document.Documents.{Document, seq_tag, map_tag}
-use Rattle.yaml_round_laws_documents.specs.back_canon.emit_layout.emit_text.Layout.{Layout, written}
-use Rattle.yaml_round_laws_documents.specs.back_canon.emit_layout.Content as emit
-use Rattle.yaml_round_laws_documents.specs.back_canon.emit_layout.Content.{is_flow_sequence, is_flow_mapping}
-use Rattle.yaml_round_laws_documents.specs.back_canon.emit_layout.Grammar.{own_problems}
-use Rattle.yaml_round_content.specs.emit_laws_streams.emit_graph.Graph.{Met, is_met, meet, body_of_id, tag_of_id, number_at, numbers, name_of, anchor_of, graph_scalar, graph_start, none_met, graph_root, graph_content}
-use Rattle.yaml_round_content.specs.emit_laws_streams.emit_graph.Onward.{items_by, pairs_by, node_by, content_by, itself, root_onward}
+use Rattle.yaml_round_content.specs.parse_laws_trees.parse_document.Documents.{Document, seq_tag, map_tag}
+use Rattle.yaml_round_laws_documents.specs.emit_laws_text.emit_layout.emit_text.Layout.{Layout, written}
+use Rattle.yaml_round_laws_documents.specs.emit_laws_text.emit_layout.Content as emit
+use Rattle.yaml_round_laws_documents.specs.emit_laws_text.emit_layout.Content.{is_flow_sequence, is_flow_mapping}
+use Rattle.yaml_round_laws_documents.specs.emit_laws_text.emit_layout.Grammar.{own_problems}
+use Rattle.yaml_round_content.specs.emit_laws_dumps.emit_graph.Graph.{Met, is_met, meet, body_of_id, tag_of_id, number_at, numbers, name_of, anchor_of, graph_scalar, graph_start, none_met, graph_root, graph_content}
+use Rattle.yaml_round_content.specs.emit_laws_dumps.emit_graph.Onward.{items_by, pairs_by, node_by, content_by, itself, root_onward}
 use Rattle.yaml_round_content.proofs.ContentJoining.{root_joined}
-use Rattle.yaml_round_content.specs.emit_laws_streams.StreamsLaws.{AreRight}
+use Rattle.yaml_round_content.specs.emit_laws_dumps.StreamsLaws.{AreRight}
 use Rattle.yaml_round_content.specs.Said as content
 use Rattle.yaml_round_content.specs.Trees.{document_tree}
 use Rattle.yaml_round_content.specs.Canon.{canon_items}

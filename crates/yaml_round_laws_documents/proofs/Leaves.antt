@@ -4,9 +4,9 @@ use Rattle.std.specs.Prelude.{if◌then◌else◌, IsUtf8, codes}
 use Rattle.std.specs.List.{list_all}
 use Rattle.std.specs.Str.{chars}
 use Rattle.std.proofs.lemmas.Str.{scalars-chars}
-use Rattle.yaml_emit_layout.specs.scan.Classes.{is_alpha_byte}
-use Rattle.yaml_emit_layout.specs.scan.declared.yaml_version_directive_t.{yaml_version_directive_t}
-use Rattle.yaml_emit_layout.specs.parse.Events.{TagDirective}
+use Rattle.yaml_emit_layout.specs.scan_model.Classes.{is_alpha_byte}
+use Rattle.yaml_emit_layout.specs.scan_model.declared.yaml_version_directive_t.{yaml_version_directive_t}
+use Rattle.yaml_emit_layout.specs.parse_model.Events.{TagDirective}
 use Rattle.yaml_emit_layout.specs.emit_text.declared.Settings.{Settings}
 use Rattle.yaml_emit_layout.specs.emit_text.declared.page.Page.{Page}
 use Rattle.yaml_emit_layout.specs.emit_text.Layout.{Layout, ◌▹◌, choose, when, char, letters, blanks, new_line, gap, word, is_past}

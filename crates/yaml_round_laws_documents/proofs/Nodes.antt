@@ -1,7 +1,7 @@
 -- The canonical layout of documents.
 use Rattle.std.proofs.Common.{ℕ, ◌-◌, Bool, true, false, not, ◌&&◌, nat_lt, List, [], ◌∷◌, Option, arith}
 use Rattle.std.specs.Str.{chars}
-use Rattle.yaml_emit_layout.specs.parse.Events.{TagDirective}
+use Rattle.yaml_emit_layout.specs.parse_model.Events.{TagDirective}
 use Rattle.yaml_emit_layout.specs.emit_text.declared.Settings.{Settings}
 use Rattle.yaml_emit_layout.specs.emit_text.Layout.{◌▹◌, stay, choose, when, char, word, opener, keep}
 use Rattle.yaml_emit_layout.specs.emit_text.Quoted.{double_quoted}

@@ -4,11 +4,11 @@ use Rattle.std.specs.List.{list_all}
 use Rattle.std.specs.Str.{IsUtf8, bytes_eq}
 use Rattle.std.proofs.lemmas.Bool.{cases_Bool}
 use Rattle.std.proofs.lemmas.Slice.Eq.{bytes_eq-Decides}
-use Rattle.yaml_round_laws_documents.specs.back_canon.scan.Classes.{is_alpha_byte}
-use Rattle.yaml_round_laws_documents.specs.back_canon.scan_history.scan_words.Written.{are_alphas}
+use Rattle.yaml_round_laws_documents.specs.emit_laws_text.scan_model.Classes.{is_alpha_byte}
+use Rattle.yaml_round_laws_documents.specs.emit_laws_text.scan_history.scan_words.Written.{are_alphas}
 use Rattle.yaml_round_laws_documents.specs.parse_grammar.parse_model.Events.{TagDirective}
-use Rattle.yaml_round_laws_documents.specs.back_canon.emit_layout.Content.{Opening}
-use Rattle.yaml_round_laws_documents.specs.back_canon.emit_layout.Grammar.{opening_problem}
+use Rattle.yaml_round_laws_documents.specs.emit_laws_text.emit_layout.Content.{Opening}
+use Rattle.yaml_round_laws_documents.specs.emit_laws_text.emit_layout.Grammar.{opening_problem}
 use Rattle.yaml_round_content.specs.Said.{Mark, untagged, tagged, Node, alias, scalar, sequence, mapping, Nodes, no_nodes, node, Pairs, no_pairs, pair, Document}
 use Rattle.yaml_round_content.specs.Canon.{written_scalar, written_node, written_nodes, written_pairs, written_document, written_documents}
 use Rattle.yaml_emit_laws_text.specs.TagsLaws.{HaveUtf8, WrittenTagsAreReadable}

@@ -1,5 +1,5 @@
 -- The laws of canonical text, joined from the laws beneath.
-use Rattle.yaml_round_laws_documents.specs.back_canon.scan.declared.yaml_encoding_t.TheVariants.{YAML_ANY_ENCODING}
+use Rattle.yaml_round_laws_documents.specs.emit_laws_text.scan_model.declared.yaml_encoding_t.TheVariants.{YAML_ANY_ENCODING}
 use Rattle.yaml_round_content.specs.Canon.{canon}
 use Rattle.yaml_round_content.specs.WritableLaws.{LayoutIsOfInputsContent, InputsContentIsLaidOut}
 use Rattle.yaml_round_content.proofs.Injective.{says_injective}

@@ -1,15 +1,15 @@
 -- Every document that an input loads is sound.
 use Rattle.std.proofs.Common.{ℕ, List, [], ◌∷◌, Option, All}
 use Rattle.std.proofs.lemmas.List.Elements.{All-nil, All-cons}
-use Rattle.yaml_round_laws_documents.specs.back_canon.scan.declared.yaml_encoding_t.{yaml_encoding_t}
-use Rattle.yaml_round_laws_documents.specs.back_canon.scan.Faults.{Fault}
+use Rattle.yaml_round_laws_documents.specs.emit_laws_text.scan_model.declared.yaml_encoding_t.{yaml_encoding_t}
+use Rattle.yaml_round_laws_documents.specs.emit_laws_text.scan_model.Faults.{Fault}
 use Rattle.yaml_round_laws_documents.specs.parse_grammar.parse_model.Nodes as model
-use Rattle.yaml_round_content.specs.parse_laws_loading.parse_document.Documents.{Document, IsDocument}
-use Rattle.yaml_round_content.specs.parse_laws_loading.parse_loader.Order.{IsInPreorder}
+use Rattle.yaml_round_content.specs.parse_laws_trees.parse_document.Documents.{Document, IsDocument}
+use Rattle.yaml_round_content.specs.parse_laws_trees.parse_loader.Order.{IsInPreorder}
 use Rattle.yaml_round_laws_documents.specs.parse_grammar.Resolve.{Told}
-use Rattle.yaml_round_content.specs.parse_laws_loading.parse_loader.Loading.{Loading, LoadStep, goes_on, loaded, refused, nothing_loaded, step}
-use Rattle.yaml_round_content.specs.emit_laws_streams.StreamsLaws.{RightDocument, AreRight, AreRightTold, RightFed}
-use Rattle.yaml_round_content.specs.parse_laws_loading.parse_loader.Sound.{IsLoading}
+use Rattle.yaml_round_content.specs.parse_laws_trees.parse_loader.Loading.{Loading, LoadStep, goes_on, loaded, refused, nothing_loaded, step}
+use Rattle.yaml_round_content.specs.emit_laws_dumps.StreamsLaws.{RightDocument, AreRight, AreRightTold, RightFed}
+use Rattle.yaml_round_content.specs.parse_laws_trees.parse_loader.Sound.{IsLoading}
 use Rattle.yaml_round_content.proofs.Keeps.{FedSound, nothing_sound, step_sound}
 use Rattle.yaml_round_content.specs.Input.{events_of, ending_of, read}
 use Rattle.yaml_round_content.specs.Loads.{Loads, in_front, load_on, load_all, loads_of}

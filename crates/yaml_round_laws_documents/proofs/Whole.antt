@@ -1,12 +1,12 @@
 -- The laws of loaded documents and of their texts, joined from the laws beneath.
 use Rattle.std.proofs.Common.{◌≡◌, ℕ, List, map, Option, Some, None, Ok, sym, ap, subst, ◌∙◌}
-use Rattle.yaml_round_laws_documents.specs.back_canon.scan.declared.yaml_encoding_t.TheVariants.{YAML_ANY_ENCODING}
-use Rattle.yaml_round_laws_documents.specs.back_canon.scan.Faults.{Fault}
-use Rattle.yaml_round_content.specs.parse_laws_loading.parse_document.Documents.{Document}
-use Rattle.yaml_round_content.specs.parse_laws_loading.parse_loader.Loading.{nothing_loaded}
+use Rattle.yaml_round_laws_documents.specs.emit_laws_text.scan_model.declared.yaml_encoding_t.TheVariants.{YAML_ANY_ENCODING}
+use Rattle.yaml_round_laws_documents.specs.emit_laws_text.scan_model.Faults.{Fault}
+use Rattle.yaml_round_content.specs.parse_laws_trees.parse_document.Documents.{Document}
+use Rattle.yaml_round_content.specs.parse_laws_trees.parse_loader.Loading.{nothing_loaded}
 use Rattle.yaml_round_content.proofs.Loads.{loads_document}
 use Rattle.yaml_round_content.proofs.Visited.{numbered_in_order}
-use Rattle.yaml_round_content.specs.emit_laws_streams.DumpsLaws.{DumpsNumberBack}
+use Rattle.yaml_round_content.specs.emit_laws_dumps.DumpsLaws.{DumpsNumberBack}
 use Rattle.yaml_round_content.proofs.Apart.{apart_all, again_all}
 use Rattle.yaml_round_content.proofs.Again.{again_turns}
 use Rattle.yaml_round_content.proofs.Back.{numbered_back}

@@ -4,29 +4,29 @@ use Rattle.std.specs.Prelude.{slice_get}
 use Rattle.std.specs.List.{list_all}
 use Rattle.std.proofs.lemmas.Str.{IsUtf8-nil}
 use Rattle.std.proofs.lemmas.Bool.Decides.{nat_tests}
-use Rattle.yaml_round_laws_documents.specs.back_canon.scan.Classes.{is_alpha_byte}
+use Rattle.yaml_round_laws_documents.specs.emit_laws_text.scan_model.Classes.{is_alpha_byte}
 use Rattle.yaml_round_laws_documents.specs.parse_grammar.parse_model.declared.yaml_node_pair_t.{yaml_node_pair_t}
 use Rattle.yaml_round_laws_documents.specs.parse_grammar.parse_model.Constructors.{AreUtf8}
 use Rattle.yaml_round_laws_documents.specs.parse_grammar.parse_model.Events.{TagDirective}
 use Rattle.yaml_round_laws_documents.specs.parse_grammar.parse_model.Nodes as model
-use Rattle.yaml_round_content.specs.parse_laws_loading.parse_document.Documents.{IsSoundBody, AreSound, str_tag, seq_tag, map_tag}
-use Rattle.yaml_round_content.specs.parse_laws_loading.parse_document.Documents as documents
-use Rattle.yaml_round_content.specs.parse_laws_loading.parse_loader.Numbering.{is_bang}
-use Rattle.yaml_round_laws_documents.specs.back_canon.emit_layout.declared.Problem.{Problem}
-use Rattle.yaml_round_laws_documents.specs.back_canon.emit_layout.declared.Problem.TheVariants as problem
-use Rattle.yaml_round_laws_documents.specs.back_canon.emit_layout.Content as emit
-use Rattle.yaml_round_laws_documents.specs.back_canon.emit_layout.Content.{is_flow_sequence, is_flow_mapping}
-use Rattle.yaml_round_content.specs.emit_laws_streams.emit_graph.Graph.{Met, is_met, meet, body_at, tag_at, body_of_id, tag_of_id, number_at, numbers, name_of, anchor_of, graph_start, none_met, graph_root, graph_content}
-use Rattle.yaml_round_content.specs.emit_laws_streams.emit_graph.Onward.{items_by, pairs_by, node_by, content_by, itself, root_onward}
+use Rattle.yaml_round_content.specs.parse_laws_trees.parse_document.Documents.{IsSoundBody, AreSound, str_tag, seq_tag, map_tag}
+use Rattle.yaml_round_content.specs.parse_laws_trees.parse_document.Documents as documents
+use Rattle.yaml_round_content.specs.parse_laws_trees.parse_loader.Numbering.{is_bang}
+use Rattle.yaml_round_laws_documents.specs.emit_laws_text.emit_layout.declared.Problem.{Problem}
+use Rattle.yaml_round_laws_documents.specs.emit_laws_text.emit_layout.declared.Problem.TheVariants as problem
+use Rattle.yaml_round_laws_documents.specs.emit_laws_text.emit_layout.Content as emit
+use Rattle.yaml_round_laws_documents.specs.emit_laws_text.emit_layout.Content.{is_flow_sequence, is_flow_mapping}
+use Rattle.yaml_round_content.specs.emit_laws_dumps.emit_graph.Graph.{Met, is_met, meet, body_at, tag_at, body_of_id, tag_of_id, number_at, numbers, name_of, anchor_of, graph_start, none_met, graph_root, graph_content}
+use Rattle.yaml_round_content.specs.emit_laws_dumps.emit_graph.Onward.{items_by, pairs_by, node_by, content_by, itself, root_onward}
 use Rattle.yaml_round_content.proofs.ContentJoining.{root_joined}
-use Rattle.yaml_round_content.specs.emit_laws_streams.StreamsLaws.{AreTagged, RightDocument, AreRight}
+use Rattle.yaml_round_content.specs.emit_laws_dumps.StreamsLaws.{AreTagged, RightDocument, AreRight}
 use Rattle.yaml_round_content.proofs.Sound.{str_utf8}
 use Rattle.yaml_round_content.proofs.Naming.{name_right}
 use Rattle.yaml_round_content.specs.Loads.{loads_of}
 use Rattle.yaml_round_content.specs.Trees.{tree_of, trees_of, pair_trees_of, document_tree}
 use Rattle.yaml_round_content.specs.WritableLaws.{InputsHaveUtf8}
 use Rattle.yaml_round_content.specs.Writable.{IsName, IsAnchor, IsWritable, AreItemsWritable, ArePairsWritable, HavePrefixes, IsWritableDocument, AreWritable}
-use Rattle.yaml_round_content.specs.emit_laws_streams.Dumps.{IsLoadedDocument}
+use Rattle.yaml_round_content.specs.emit_laws_dumps.Dumps.{IsLoadedDocument}
 use Rattle.yaml_round_content.specs.DumpsEvents.{trees_of_dumps, AreLoadedDocuments}
 use Rattle.yaml_round_laws_documents.specs.Laws.{AllLoadDocuments, LoadedAreWritable}
 use Rattle.yaml_round_laws_documents.proofs.Sound.{AreDocuments, documents_sound, documents_right}

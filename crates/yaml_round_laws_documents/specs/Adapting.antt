@@ -1,10 +1,10 @@
 -- What an adapter makes of the tokens of canonical documents.
 use Rattle.std.specs.Prelude.{◌≡◌, ℕ, false, List, [], ◌∷◌, Option, Some, None}
-use Rattle.yaml_emit_laws_text.specs.emit_layout.scan.declared.yaml_encoding_t.{yaml_encoding_t}
-use Rattle.yaml_emit_laws_text.specs.emit_layout.scan.Tokens.{Token}
-use Rattle.yaml_emit_laws_text.specs.emit_layout.scan.Tokens as token
+use Rattle.yaml_emit_laws_text.specs.emit_layout.scan_model.declared.yaml_encoding_t.{yaml_encoding_t}
+use Rattle.yaml_emit_laws_text.specs.emit_layout.scan_model.Tokens.{Token}
+use Rattle.yaml_emit_laws_text.specs.emit_layout.scan_model.Tokens as token
 use Rattle.yaml_emit_laws_text.specs.scan_history.Remaining.{Remaining}
-use Rattle.yaml_emit_laws_text.specs.emit_layout.parse.Events.{TagDirective}
+use Rattle.yaml_emit_laws_text.specs.emit_layout.parse_model.Events.{TagDirective}
 use Rattle.yaml_emit_laws_text.specs.emit_layout.emit_tags.Tags.{split_tag}
 use Rattle.yaml_emit_laws_text.specs.emit_layout.Content.{Document, Node, alias_node, scalar_node, sequence_node, mapping_node, Nodes, no_nodes, node, Pairs, no_pairs, pair}
 use Rattle.yaml_emit_laws_text.specs.TagsLaws.{IsReadable, HaveUtf8}

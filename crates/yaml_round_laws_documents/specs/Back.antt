@@ -1,12 +1,12 @@
 -- Canonical text reads back, and is a normal form of what inputs say.
 use Rattle.std.specs.Prelude.{◌≡◌, ℕ, true, false, List, ◌∷◌}
-use Rattle.yaml_round_laws_documents.specs.back_canon.scan.declared.yaml_encoding_t.{yaml_encoding_t}
-use Rattle.yaml_round_laws_documents.specs.back_canon.scan.declared.yaml_encoding_t.TheVariants.{YAML_ANY_ENCODING}
-use Rattle.yaml_round_laws_documents.specs.back_canon.scan.Tokens.{Token, TokenBody}
-use Rattle.yaml_round_laws_documents.specs.back_canon.scan.Tokens as token
-use Rattle.yaml_round_laws_documents.specs.back_canon.scan_history.Scanned.{scanned}
-use Rattle.yaml_round_laws_documents.specs.back_canon.emit_layout.emit_text.declared.RequestedSettings.{RequestedSettings}
-use Rattle.yaml_round_laws_documents.specs.back_canon.emit_layout.Streams.{IsStream}
+use Rattle.yaml_round_laws_documents.specs.emit_laws_text.scan_model.declared.yaml_encoding_t.{yaml_encoding_t}
+use Rattle.yaml_round_laws_documents.specs.emit_laws_text.scan_model.declared.yaml_encoding_t.TheVariants.{YAML_ANY_ENCODING}
+use Rattle.yaml_round_laws_documents.specs.emit_laws_text.scan_model.Tokens.{Token, TokenBody}
+use Rattle.yaml_round_laws_documents.specs.emit_laws_text.scan_model.Tokens as token
+use Rattle.yaml_round_laws_documents.specs.emit_laws_text.scan_history.Scanned.{scanned}
+use Rattle.yaml_round_laws_documents.specs.emit_laws_text.emit_layout.emit_text.declared.RequestedSettings.{RequestedSettings}
+use Rattle.yaml_round_laws_documents.specs.emit_laws_text.emit_layout.Streams.{IsStream}
 use Rattle.yaml_round_content.specs.Said.{Document, HasContent}
 use Rattle.yaml_round_content.specs.Events.{emitter_events}
 use Rattle.yaml_round_content.specs.Input.{events_of}
@@ -15,7 +15,7 @@ use Rattle.yaml_round_content.specs.Canon.{written_documents, canon, canon_encod
 use Rattle.yaml_round_laws_documents.specs.BytesLaws.{encoding_named}
 use Rattle.yaml_round_laws_documents.specs.TreeLaws.{token_bodies}
 use Rattle.yaml_round_laws_documents.specs.Adapting.{without_fault}
-use Rattle.yaml_round_laws_documents.specs.back_canon.Bodies.{documents_bodies}
+use Rattle.yaml_round_laws_documents.specs.emit_laws_text.Bodies.{documents_bodies}
 use Rattle.yaml_round_content.specs.Writable.{AreWritable}
 
 -- With the encoding detected, the bytes are scanned as tokens with these bodies, without fault.

@@ -2,12 +2,12 @@
 use Rattle.std.specs.Prelude.{◌≡◌, ℕ, true, false, List, [], ◌∷◌, Option, Some, None, Ok}
 use Rattle.std.specs.List.{list_all}
 use Rattle.std.specs.Str.{IsUtf8}
-use Rattle.yaml_emit_layout.specs.scan.Classes.{is_alpha_byte}
+use Rattle.yaml_emit_layout.specs.scan_model.Classes.{is_alpha_byte}
 use Rattle.yaml_scan_decode.specs.Encodings.{encoding_of}
 use Rattle.yaml_scan_decode.specs.Decoding.{decoded_text}
-use Rattle.yaml_emit_layout.specs.scan.declared.yaml_encoding_t.{yaml_encoding_t}
-use Rattle.yaml_emit_layout.specs.scan.declared.yaml_encoding_t.TheVariants.{YAML_ANY_ENCODING, YAML_UTF8_ENCODING, YAML_UTF16LE_ENCODING, YAML_UTF16BE_ENCODING}
-use Rattle.yaml_emit_layout.specs.parse.Events.{TagDirective}
+use Rattle.yaml_emit_layout.specs.scan_model.declared.yaml_encoding_t.{yaml_encoding_t}
+use Rattle.yaml_emit_layout.specs.scan_model.declared.yaml_encoding_t.TheVariants.{YAML_ANY_ENCODING, YAML_UTF8_ENCODING, YAML_UTF16LE_ENCODING, YAML_UTF16BE_ENCODING}
+use Rattle.yaml_emit_layout.specs.parse_model.Events.{TagDirective}
 use Rattle.yaml_emit_layout.specs.emit_text.declared.Encoding.{Encoding}
 use Rattle.yaml_emit_layout.specs.emit_text.declared.Encoding.TheVariants.{Utf8, Utf16Le, Utf16Be}
 use Rattle.yaml_emit_layout.specs.emit_text.declared.Settings.{Settings}

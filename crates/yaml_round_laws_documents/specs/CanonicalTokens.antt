@@ -1,13 +1,13 @@
 -- What the tokens of a content's canonical documents say.
 use Rattle.std.specs.Prelude.{◌≡◌, false, List, ◌∷◌, None}
-use Rattle.yaml_round_laws_documents.specs.back_canon.scan.declared.yaml_encoding_t.{yaml_encoding_t}
-use Rattle.yaml_round_laws_documents.specs.back_canon.scan.Tokens.{Token}
-use Rattle.yaml_round_laws_documents.specs.back_canon.scan.Tokens as token
+use Rattle.yaml_round_laws_documents.specs.emit_laws_text.scan_model.declared.yaml_encoding_t.{yaml_encoding_t}
+use Rattle.yaml_round_laws_documents.specs.emit_laws_text.scan_model.Tokens.{Token}
+use Rattle.yaml_round_laws_documents.specs.emit_laws_text.scan_model.Tokens as token
 use Rattle.yaml_round_content.specs.Events.{contents}
 use Rattle.yaml_round_content.specs.Said.{Document, stream_says}
 use Rattle.yaml_round_content.specs.Canon.{written_documents}
 use Rattle.yaml_round_laws_documents.specs.TreeLaws.{token_bodies, AreParsable, parsed_of}
-use Rattle.yaml_round_laws_documents.specs.back_canon.Bodies.{documents_bodies}
+use Rattle.yaml_round_laws_documents.specs.emit_laws_text.Bodies.{documents_bodies}
 
 -- They are parsed without fault, and their events say the content.
 abbrev pub CanonicalTokensSayContent : Type 0

@@ -1,6 +1,6 @@
 -- Inputs shaped as JSON.
 use Rattle.std.specs.Prelude.{◌≡◌, ℕ, false, List, [], ◌∷◌}
-use Rattle.yaml_round_laws_documents.specs.back_canon.scan.declared.yaml_encoding_t.{yaml_encoding_t}
+use Rattle.yaml_round_laws_documents.specs.emit_laws_text.scan_model.declared.yaml_encoding_t.{yaml_encoding_t}
 use Rattle.yaml_round_content.specs.Events.{emitter_events}
 use Rattle.yaml_round_laws_documents.specs.parse_grammar.Resolve.{Told}
 use Rattle.yaml_round_content.specs.Reading.{HasEvents}

@@ -9,9 +9,9 @@ pub mod Adapting
 pub mod Stays
 pub mod KeptLaws
 -- what they speak of, and the laws beneath, for crates that name this one alone
-pub use Rattle.yaml_round_content.specs as content
+pub use Rattle.yaml_round_content.specs as round_content
 -- what it stands on, for crates that name this one alone
 pub use Rattle.yaml_scan_decode.specs as scan_decode
-pub use Rattle.yaml_emit_laws_text.specs as back_canon
+pub use Rattle.yaml_emit_laws_text.specs as emit_laws_text
 pub use Rattle.yaml_round_laws_adapted.specs as round_laws_adapted
 pub use Rattle.yaml_parse_grammar.specs as parse_grammar

@@ -1,12 +1,12 @@
 -- The canonical text of what documents say: it is laid out for their dumps, and loads documents that agree with them.
 use Rattle.std.specs.Prelude.{◌≡◌, ◌↔◌, ℕ, true, List, map, None, Ok}
-use Rattle.yaml_round_laws_documents.specs.back_canon.scan.declared.yaml_encoding_t.{yaml_encoding_t}
-use Rattle.yaml_round_laws_documents.specs.back_canon.scan.declared.yaml_encoding_t.TheVariants.{YAML_ANY_ENCODING}
-use Rattle.yaml_round_content.specs.parse_laws_loading.parse_document.Documents.{Document}
-use Rattle.yaml_round_laws_documents.specs.back_canon.emit_layout.emit_text.declared.RequestedSettings.{RequestedSettings}
-use Rattle.yaml_round_content.specs.emit_laws_streams.emit_graph.Graph.{graph_content}
-use Rattle.yaml_round_laws_documents.specs.back_canon.emit_layout.Content.{Event, stream_events}
-use Rattle.yaml_round_laws_documents.specs.back_canon.emit_layout.Streams.{IsStream}
+use Rattle.yaml_round_laws_documents.specs.emit_laws_text.scan_model.declared.yaml_encoding_t.{yaml_encoding_t}
+use Rattle.yaml_round_laws_documents.specs.emit_laws_text.scan_model.declared.yaml_encoding_t.TheVariants.{YAML_ANY_ENCODING}
+use Rattle.yaml_round_content.specs.parse_laws_trees.parse_document.Documents.{Document}
+use Rattle.yaml_round_laws_documents.specs.emit_laws_text.emit_layout.emit_text.declared.RequestedSettings.{RequestedSettings}
+use Rattle.yaml_round_content.specs.emit_laws_dumps.emit_graph.Graph.{graph_content}
+use Rattle.yaml_round_laws_documents.specs.emit_laws_text.emit_layout.Content.{Event, stream_events}
+use Rattle.yaml_round_laws_documents.specs.emit_laws_text.emit_layout.Streams.{IsStream}
 use Rattle.yaml_round_content.specs.Said as content
 use Rattle.yaml_round_content.specs.Said.{HasContent}
 use Rattle.yaml_round_content.specs.Loads.{with_implicit_end, loads_of}

@@ -1,10 +1,10 @@
 -- The events that are read of a canonical node.
 use Rattle.std.specs.Prelude.{ℕ, Bool, false, not, ◌&&◌, List, [], ◌∷◌, Option, Some, None}
-use Rattle.yaml_emit_laws_text.specs.emit_layout.scan.declared.yaml_scalar_style_t.TheVariants.{YAML_DOUBLE_QUOTED_SCALAR_STYLE}
-use Rattle.yaml_emit_laws_text.specs.emit_layout.scan.declared.yaml_sequence_style_t.TheVariants.{YAML_FLOW_SEQUENCE_STYLE}
-use Rattle.yaml_emit_laws_text.specs.emit_layout.scan.declared.yaml_mapping_style_t.TheVariants.{YAML_FLOW_MAPPING_STYLE}
-use Rattle.yaml_emit_laws_text.specs.emit_layout.parse.Events.{EventBody}
-use Rattle.yaml_emit_laws_text.specs.emit_layout.parse.Events as event
+use Rattle.yaml_emit_laws_text.specs.emit_layout.scan_model.declared.yaml_scalar_style_t.TheVariants.{YAML_DOUBLE_QUOTED_SCALAR_STYLE}
+use Rattle.yaml_emit_laws_text.specs.emit_layout.scan_model.declared.yaml_sequence_style_t.TheVariants.{YAML_FLOW_SEQUENCE_STYLE}
+use Rattle.yaml_emit_laws_text.specs.emit_layout.scan_model.declared.yaml_mapping_style_t.TheVariants.{YAML_FLOW_MAPPING_STYLE}
+use Rattle.yaml_emit_laws_text.specs.emit_layout.parse_model.Events.{EventBody}
+use Rattle.yaml_emit_laws_text.specs.emit_layout.parse_model.Events as event
 use Rattle.yaml_parse_grammar.specs.Resolve.{is_missing}
 use Rattle.yaml_emit_laws_text.specs.emit_layout.Nodes.{is_directed}
 use Rattle.yaml_emit_laws_text.specs.emit_layout.Content.{Document, Node, alias_node, scalar_node, sequence_node, mapping_node, Nodes, no_nodes, node, Pairs, no_pairs, pair}

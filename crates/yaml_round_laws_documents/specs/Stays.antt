@@ -1,7 +1,7 @@
 -- A text that says what an input says.
 use Rattle.std.specs.Prelude.{◌≡◌, ℕ, List, None}
-use Rattle.yaml_round_laws_documents.specs.back_canon.scan.declared.yaml_encoding_t.{yaml_encoding_t}
-use Rattle.yaml_round_laws_documents.specs.back_canon.scan.declared.yaml_encoding_t.TheVariants.{YAML_ANY_ENCODING}
+use Rattle.yaml_round_laws_documents.specs.emit_laws_text.scan_model.declared.yaml_encoding_t.{yaml_encoding_t}
+use Rattle.yaml_round_laws_documents.specs.emit_laws_text.scan_model.declared.yaml_encoding_t.TheVariants.{YAML_ANY_ENCODING}
 use Rattle.yaml_round_content.specs.Events.{contents}
 use Rattle.yaml_round_content.specs.Input.{events_of, ending_of}
 

@@ -9,7 +9,7 @@ use Rattle.yaml_emit_laws_text.specs.emit_layout.declared.problem.Problem.{Probl
 use Rattle.yaml_emit_laws_text.specs.emit_layout.declared.problem.Problem.TheVariants as problem
 use Rattle.yaml_emit_laws_text.specs.emit_layout.Content as emit
 use Rattle.yaml_emit_laws_text.specs.emit_layout.Grammar.{or_else, kept_tag, name_problem, anchor_problem, tag_problem, event_problem, last_problem, own_problem, own_problems}
-use Rattle.yaml_round_laws_documents.specs.back_canon.scan.Classes.{is_alpha_byte}
+use Rattle.yaml_round_laws_documents.specs.emit_laws_text.scan_model.Classes.{is_alpha_byte}
 use Rattle.yaml_round_content.specs.Said.{Mark, untagged, tagged, Node, alias, scalar, sequence, mapping, Nodes, no_nodes, node, Pairs, no_pairs, pair, Document, scalar_says, node_says, items_say, pairs_say, documents_say, stream_says}
 use Rattle.yaml_round_content.specs.Writable.{IsName, IsAnchor, IsTag, IsMark, IsWritable, AreItemsWritable, ArePairsWritable, AreWritable}
 use Rattle.yaml_round_content.proofs.WritableContents.{are_writable as inputs_writable}

@@ -9,7 +9,7 @@ use Rattle.yaml_emit_layout.specs.declared.Level.{Level}
 use Rattle.yaml_emit_layout.specs.declared.Phase.{Phase}
 use Rattle.yaml_emit_layout.specs.declared.Phase.TheVariants.{Items, Keys, Value}
 use Rattle.yaml_emit_layout.specs.declared.Expected.TheVariants as at
-use Rattle.yaml_emit_layout.specs.parse.Events.{TagDirective}
+use Rattle.yaml_emit_layout.specs.parse_model.Events.{TagDirective}
 use Rattle.yaml_emit_layout.specs.Content.{Opening, Event, document_start}
 use Rattle.yaml_emit_layout.specs.State.{placed, among}
 use Rattle.yaml_emit_held.specs.Judged.{let_out, laid}

@@ -2,7 +2,7 @@
 use Rattle.std.proofs.Common.{◌≡◌, ℕ, ◌+◌, ◌-◌, ◌/◌, ◌%◌, Bool, true, false, nat_lt, List, [], ◌∷◌, ◌++◌, refl, ap, ◌∙◌, encode_utf8, encode_utf8_all}
 use Rattle.std.specs.Prelude.{if◌then◌else◌}
 use lib.Utf8.{encode as encode_char}
-use Rattle.yaml_emit_laws_text.specs.emit_layout.scan.declared.yaml_encoding_t.TheVariants.{YAML_UTF8_ENCODING, YAML_UTF16LE_ENCODING, YAML_UTF16BE_ENCODING}
+use Rattle.yaml_emit_laws_text.specs.emit_layout.scan_model.declared.yaml_encoding_t.TheVariants.{YAML_UTF8_ENCODING, YAML_UTF16LE_ENCODING, YAML_UTF16BE_ENCODING}
 use Rattle.yaml_scan_decode.specs.Spelling.{spelling, spellings, units_bytes}
 use Rattle.yaml_scan_decode.specs.declared.utf16.ByteOrder.TheVariants.{LowFirst, HighFirst}
 use Rattle.yaml_emit_laws_text.specs.emit_layout.emit_text.declared.Encoding.TheVariants.{Utf8, Utf16Le, Utf16Be}

@@ -18,7 +18,7 @@ use Rattle.yaml_parse_grammar.specs.Machine.{run, initial}
 use Rattle.yaml_parse_grammar.specs.Resolve.{Directives, no_directives, Settled, refused, gave, noted, settle, settle_body, resolved, directive_for, with_resolved, with_tag, with_version, is_known_version, is_plain, is_missing, node_event, Reading, read_on, reading}
 use Rattle.yaml_round_content.specs.scan_history.Scanned.{scanned}
 use Rattle.yaml_round_content.specs.round_laws_adapted.Adapted.{spells_text, cut}
-use Rattle.yaml_round_content.specs.scan_laws_names.Spelled.{AreSpelled}
+use Rattle.yaml_round_content.specs.scan_laws_texts.Spelled.{AreSpelled}
 use Rattle.yaml_round_content.specs.Normalize.{is_lone_mark, normalize_scalar, normalize_body}
 use Rattle.yaml_round_content.specs.Events.{emitter_events}
 use Rattle.yaml_round_content.specs.Input.{tokens_of, events_of, read}

@@ -7,7 +7,7 @@ use Rattle.yaml_parse_grammar.specs.parse_model.Constructors.{IsUtf8Option, AreU
 use Rattle.yaml_parse_grammar.specs.parse_model.Events.{EventBody, TagDirective}
 use Rattle.yaml_parse_grammar.specs.parse_model.Events as event
 use Rattle.yaml_parse_grammar.specs.Resolve.{Told}
-use Rattle.yaml_emit_laws_text.specs.emit_layout.scan.Classes.{is_alpha_byte}
+use Rattle.yaml_emit_laws_text.specs.emit_layout.scan_model.Classes.{is_alpha_byte}
 use Rattle.yaml_emit_laws_text.specs.scan_history.scan_words.Written.{are_alphas}
 use Rattle.yaml_emit_laws_text.specs.emit_layout.declared.problem.Problem.{Problem}
 use Rattle.yaml_emit_laws_text.specs.emit_layout.Content as emit

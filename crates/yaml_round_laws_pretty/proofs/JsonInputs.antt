@@ -5,7 +5,7 @@ use Rattle.yaml_parse_grammar.specs.Resolve.{Told}
 use Rattle.yaml_emit_laws_text.specs.emit_layout.Content.{Event, stream_start, document_start, Scalar, Document, Node, alias_node, scalar_node, sequence_node, mapping_node, Opening, node_events, documents_events, stream_events}
 use Rattle.yaml_emit_laws_text.specs.emit_layout.Nodes.{is_directed}
 use Rattle.yaml_emit_laws_text.specs.Json.{IsJsonScalar, IsJsonNode}
-use Rattle.yaml_emit_laws_text.specs.scan_laws_keys.Values.{is_plain_value}
+use Rattle.yaml_emit_laws_text.specs.scan_laws_texts.Values.{is_plain_value}
 use Rattle.yaml_round_content.specs.Events.{emitter_events}
 use Rattle.yaml_round_content.proofs.Joining.{events_of_tree}
 use Rattle.yaml_emit_laws_pretty.specs.Bodies.{is_bare, is_empty}

@@ -1,7 +1,7 @@
 -- Flags as a reader gives them, and the beginning for which no text is written.
 use Rattle.std.specs.Prelude.{◌≡◌, ℕ, Bool, true, false, not, ◌&&◌, List, [], ◌∷◌, Option, Some, None}
-use Rattle.yaml_emit_laws_text.specs.emit_layout.scan.declared.yaml_scalar_style_t.{yaml_scalar_style_t}
-use Rattle.yaml_emit_laws_text.specs.emit_layout.scan.declared.yaml_scalar_style_t.TheVariants as asked
+use Rattle.yaml_emit_laws_text.specs.emit_layout.scan_model.declared.yaml_scalar_style_t.{yaml_scalar_style_t}
+use Rattle.yaml_emit_laws_text.specs.emit_layout.scan_model.declared.yaml_scalar_style_t.TheVariants as asked
 use Rattle.yaml_emit_laws_text.specs.emit_layout.Content.{Scalar, Document, Node, alias_node, scalar_node, sequence_node, mapping_node, Nodes, no_nodes, node, Pairs, no_pairs, pair, Event, stream_start, document_start, scalar}
 use Rattle.yaml_emit_laws_text.specs.emit_layout.Grammar.{has}
 use Rattle.yaml_emit_laws_text.specs.emit_layout.Nodes.{is_directed}

@@ -1,11 +1,11 @@
 -- The events that are read of pretty text.
 use Rattle.std.specs.Prelude.{ℕ, Bool, true, false, not, ◌&&◌, ◌||◌, List, [], ◌∷◌, Option, Some, None}
-use Rattle.yaml_emit_laws_text.specs.emit_layout.scan.declared.yaml_sequence_style_t.{yaml_sequence_style_t}
-use Rattle.yaml_emit_laws_text.specs.emit_layout.scan.declared.yaml_sequence_style_t.TheVariants.{YAML_BLOCK_SEQUENCE_STYLE, YAML_FLOW_SEQUENCE_STYLE}
-use Rattle.yaml_emit_laws_text.specs.emit_layout.scan.declared.yaml_mapping_style_t.{yaml_mapping_style_t}
-use Rattle.yaml_emit_laws_text.specs.emit_layout.scan.declared.yaml_mapping_style_t.TheVariants.{YAML_BLOCK_MAPPING_STYLE, YAML_FLOW_MAPPING_STYLE}
-use Rattle.yaml_emit_laws_text.specs.emit_layout.parse.Events.{EventBody}
-use Rattle.yaml_emit_laws_text.specs.emit_layout.parse.Events as event
+use Rattle.yaml_emit_laws_text.specs.emit_layout.scan_model.declared.yaml_sequence_style_t.{yaml_sequence_style_t}
+use Rattle.yaml_emit_laws_text.specs.emit_layout.scan_model.declared.yaml_sequence_style_t.TheVariants.{YAML_BLOCK_SEQUENCE_STYLE, YAML_FLOW_SEQUENCE_STYLE}
+use Rattle.yaml_emit_laws_text.specs.emit_layout.scan_model.declared.yaml_mapping_style_t.{yaml_mapping_style_t}
+use Rattle.yaml_emit_laws_text.specs.emit_layout.scan_model.declared.yaml_mapping_style_t.TheVariants.{YAML_BLOCK_MAPPING_STYLE, YAML_FLOW_MAPPING_STYLE}
+use Rattle.yaml_emit_laws_text.specs.emit_layout.parse_model.Events.{EventBody}
+use Rattle.yaml_emit_laws_text.specs.emit_layout.parse_model.Events as event
 use Rattle.yaml_emit_laws_text.specs.emit_layout.emit_text.declared.Settings.{Settings}
 use Rattle.yaml_emit_laws_text.specs.emit_layout.emit_text.declared.Style.{Style}
 use Rattle.yaml_emit_laws_text.specs.emit_layout.declared.level.Part.{Part}

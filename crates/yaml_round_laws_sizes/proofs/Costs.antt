@@ -10,7 +10,7 @@ use Rattle.yaml_parse_grammar.specs.declared.Brackets.TheVariants as brackets
 use Rattle.yaml_parse_grammar.specs.Items.{Properties}
 use Rattle.yaml_parse_grammar.specs.Trees as tree
 use Rattle.yaml_parse_grammar.specs.Trees.{PropertyTokens, token_at, closing, properties_of, spell_properties, spell_node, spell_content, spell_maybe, spell_colon, spell_items, spell_more, spell_entries, spell_others, spell_pairs, spell_directives, spell_ends, spell_documents, spell_first, spell}
-use Rattle.yaml_emit_laws_columns.specs.emit_layout.parse.Events.{TagDirective}
+use Rattle.yaml_emit_laws_columns.specs.emit_layout.parse_model.Events.{TagDirective}
 use Rattle.yaml_emit_laws_columns.specs.emit_layout.emit_text.declared.Encoding.{Encoding}
 use Rattle.yaml_emit_laws_columns.specs.emit_layout.emit_text.declared.Settings.{Settings}
 use Rattle.yaml_emit_laws_columns.specs.emit_layout.Content.{scalar_node}

@@ -20,7 +20,7 @@ use Rattle.yaml_emit_laws_columns.specs.Sizes.{unit, ascii, larger, text_bytes, 
 use Rattle.yaml_emit_laws_columns.proofs.Counting.{ascii_bytes}
 use Rattle.yaml_emit_laws_columns.proofs.Escapes.{raw_most, two_small, short}
 use Rattle.yaml_round_laws_adapted.specs.Adapted.{spells_text, cut}
-use Rattle.yaml_round_content.specs.scan_laws_names.Utf8Texts.{HasTexts}
+use Rattle.yaml_round_content.specs.scan_laws_texts.Utf8Texts.{HasTexts}
 use Rattle.yaml_round_laws_sizes.proofs.Weights.{Weight, weigh}
 use Rattle.yaml_round_laws_sizes.proofs.Spellings.{uri_bytes, text_append}
 use Rattle.yaml_round_laws_sizes.proofs.Costs.{broad, cost, lends}

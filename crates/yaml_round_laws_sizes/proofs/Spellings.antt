@@ -2,7 +2,7 @@
 use Rattle.std.proofs.Common.{◌≡◌, ℕ, zero, suc, ◌+◌, ◌*◌, ◌≤◌, true, false, ◌==◌, List, [], ◌∷◌, ◌++◌, length, drop, codes, Option, Some, None, refl, arith, inl, inr, le_refl}
 use Rattle.std.proofs.lemmas.Bool.{cases_Bool, eqb-true}
 use Rattle.std.specs.Str.{bytes_eq}
-use Rattle.yaml_emit_laws_columns.specs.emit_layout.parse.Events.{TagDirective}
+use Rattle.yaml_emit_laws_columns.specs.emit_layout.parse_model.Events.{TagDirective}
 use Rattle.yaml_emit_laws_columns.specs.emit_layout.emit_text.declared.Encoding.{Encoding}
 use Rattle.yaml_emit_laws_columns.specs.emit_layout.emit_text.declared.Encoding.TheVariants.{Utf8, Utf16Le, Utf16Be}
 use Rattle.yaml_emit_laws_columns.specs.emit_layout.emit_text.declared.Settings.{Settings}

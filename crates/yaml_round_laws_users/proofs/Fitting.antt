@@ -4,23 +4,23 @@ use Rattle.yaml_round.specs.declared.yaml_encoding_t.{yaml_encoding_t}
 use Rattle.yaml_round.specs.declared.yaml_encoding_t.TheVariants.{YAML_ANY_ENCODING}
 use Rattle.yaml_round.specs.declared.yaml_output_encoding_t.{yaml_output_encoding_t}
 use Rattle.yaml_round.specs.declared.yaml_output_encoding_t.TheVariants.{Utf8, Utf16Le, Utf16Be}
-use Rattle.yaml_emit_laws_columns.specs.emit_layout.scan.Faults.{Fault}
-use Rattle.yaml_round.specs.round_laws_documents.content.parse_grammar.Resolve.{Told}
+use Rattle.yaml_emit_laws_columns.specs.emit_layout.scan_model.Faults.{Fault}
+use Rattle.yaml_round.specs.round_laws_documents.round_content.parse_grammar.Resolve.{Told}
 use Rattle.yaml_round.specs.emit.Text.{Item, encode, is_deep}
 use Rattle.yaml_round.specs.emit.Settings.{settled, settled_encoding}
 use Rattle.yaml_emit_laws_columns.specs.emit_layout.emit_text.declared.Encoding.{Encoding}
 use Rattle.yaml_emit_laws_columns.specs.emit_layout.emit_text.declared.Settings.{Settings}
 use Rattle.yaml_emit_laws_columns.specs.emit_layout.Nodes.{Context, context_of, stream_layout}
 use Rattle.yaml_emit_laws_columns.specs.emit_layout.emit_text.Layout.{written}
-use Rattle.yaml_round.specs.round_laws_documents.content.parse_laws_loading.parse_document.Documents as documents
+use Rattle.yaml_round.specs.round_laws_documents.round_content.parse_laws_trees.parse_document.Documents as documents
 use Rattle.yaml_round.specs.emit.emit_graph.Graph.{graph_content}
 use Rattle.yaml_round.specs.round_laws_documents.Normal.{ended}
 use Rattle.yaml_round.specs.Reload.{IsReloaded, IsDumped}
 use Rattle.yaml_round.specs.emit.Emitter.{Passes, write_error, too_deep}
-use Rattle.yaml_round.specs.round_laws_documents.content.Said.{Document}
-use Rattle.yaml_round.specs.round_laws_documents.content.Canon.{written_node, written_nodes, written_pairs, written_documents, canon_encoding, canon}
-use Rattle.yaml_round.specs.round_laws_documents.content.Said as content
-use Rattle.yaml_round.specs.round_laws_reading.Reading.{PlainReading}
+use Rattle.yaml_round.specs.round_laws_documents.round_content.Said.{Document}
+use Rattle.yaml_round.specs.round_laws_documents.round_content.Canon.{written_node, written_nodes, written_pairs, written_documents, canon_encoding, canon}
+use Rattle.yaml_round.specs.round_laws_documents.round_content.Said as content
+use Rattle.yaml_round.specs.round_content.Reading.{PlainReading}
 use Rattle.yaml_round.specs.declared.yaml_settings_t.{yaml_settings_t}
 use Rattle.yaml_round.specs.Reading.{emitter_events}
 use Rattle.yaml_round.specs.Writing.{encoding_under, requested_under}

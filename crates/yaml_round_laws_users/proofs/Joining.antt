@@ -2,13 +2,13 @@
 use Rattle.std.proofs.Common.{◌≡◌, ℕ, true, List, Ok, map, sym, ap, subst, ◌∙◌}
 use Rattle.yaml_round.specs.declared.yaml_encoding_t.{yaml_encoding_t}
 use Rattle.yaml_round.specs.declared.yaml_encoding_t.TheVariants.{YAML_ANY_ENCODING}
-use Rattle.yaml_round.specs.round_laws_documents.content.Loads.{loads_of}
-use Rattle.yaml_round.specs.round_laws_documents.content.Said as content
-use Rattle.yaml_round.specs.round_laws_documents.content.parse_laws_loading.parse_document.Documents.{Document}
-use Rattle.yaml_round.specs.round_laws_documents.content.PlainLoading.{PlainLoading}
-use Rattle.yaml_round.specs.round_laws_documents.content.Agree.{core_of}
-use Rattle.yaml_round.specs.round_laws_documents.content.Renamed.{renamed}
-use Rattle.yaml_round.specs.round_laws_documents.content.DumpsEvents.{trees_of_dumps}
+use Rattle.yaml_round.specs.round_laws_documents.round_content.Loads.{loads_of}
+use Rattle.yaml_round.specs.round_laws_documents.round_content.Said as content
+use Rattle.yaml_round.specs.round_laws_documents.round_content.parse_laws_trees.parse_document.Documents.{Document}
+use Rattle.yaml_round.specs.round_laws_documents.round_content.PlainLoading.{PlainLoading}
+use Rattle.yaml_round.specs.round_laws_documents.round_content.Agree.{core_of}
+use Rattle.yaml_round.specs.round_laws_documents.round_content.Renamed.{renamed}
+use Rattle.yaml_round.specs.round_laws_documents.round_content.DumpsEvents.{trees_of_dumps}
 use Rattle.yaml_round.proofs.Loaded.{faultless_load}
 use Rattle.yaml_round.proofs.Whole.{inputs_load_alike, names_do_not_matter}
 use Rattle.yaml_round.proofs.Walks.{agreeing_said}

@@ -2,9 +2,9 @@
 use Rattle.std.proofs.Common.{◌≡◌, inl, inr, ℕ, Bool, true, false, true≢false, List, [], ◌∷◌, Option, Some, None, Result, Ok, Err, map, refl, sym, ap, subst, ◌∙◌}
 use Rattle.yaml_round.specs.declared.yaml_encoding_t.{yaml_encoding_t}
 use Rattle.yaml_round.specs.declared.yaml_encoding_t.TheVariants.{YAML_ANY_ENCODING}
-use Rattle.yaml_emit_laws_columns.specs.emit_layout.scan.Faults.{Fault}
-use Rattle.yaml_round.specs.round_laws_documents.content.parse_laws_loading.parse_document.Documents as documents
-use Rattle.yaml_round.specs.round_laws_documents.content.parse_grammar.Resolve.{Told}
+use Rattle.yaml_emit_laws_columns.specs.emit_layout.scan_model.Faults.{Fault}
+use Rattle.yaml_round.specs.round_laws_documents.round_content.parse_laws_trees.parse_document.Documents as documents
+use Rattle.yaml_round.specs.round_laws_documents.round_content.parse_grammar.Resolve.{Told}
 use Rattle.yaml_round.specs.emit.Text.{Item, encode, is_deep}
 use Rattle.yaml_round.specs.emit.Settings.{settled, settled_indent}
 use Rattle.yaml_round.specs.emit.Content.{stream_events}
@@ -14,13 +14,13 @@ use Rattle.yaml_round.specs.emit.Emitter.{Passes, write_error, too_deep}
 use Rattle.yaml_round.specs.emit.emit_graph.Graph.{graph_content}
 use Rattle.yaml_emit_laws_columns.specs.emit_layout.emit_text.declared.Encoding.{Encoding}
 use Rattle.yaml_emit_laws_columns.specs.emit_layout.emit_text.declared.RequestedSettings.{RequestedSettings}
-use Rattle.yaml_round.specs.round_laws_documents.content.Input.{events_of}
-use Rattle.yaml_round.specs.round_laws_documents.content.Loads.{loads_of}
-use Rattle.yaml_round.specs.round_laws_documents.content.Said.{Document}
-use Rattle.yaml_round.specs.round_laws_documents.content.Canon.{written_documents, canon_items, canon_encoding}
-use Rattle.yaml_round.specs.round_laws_reading.Reading.{PlainReading}
-use Rattle.yaml_round.specs.round_laws_reading.PlainLoading.{PlainLoading, unless_faulty}
-use Rattle.yaml_round.specs.round_laws_documents.content.DumpsEvents.{trees_of_dumps}
+use Rattle.yaml_round.specs.round_laws_documents.round_content.Input.{events_of}
+use Rattle.yaml_round.specs.round_laws_documents.round_content.Loads.{loads_of}
+use Rattle.yaml_round.specs.round_laws_documents.round_content.Said.{Document}
+use Rattle.yaml_round.specs.round_laws_documents.round_content.Canon.{written_documents, canon_items, canon_encoding}
+use Rattle.yaml_round.specs.round_content.Reading.{PlainReading}
+use Rattle.yaml_round.specs.round_content.PlainLoading.{PlainLoading, unless_faulty}
+use Rattle.yaml_round.specs.round_laws_documents.round_content.DumpsEvents.{trees_of_dumps}
 use Rattle.yaml_round.specs.round_laws_documents.Normal.{ended}
 use Rattle.yaml_round.specs.declared.yaml_settings_t.{yaml_settings_t}
 use Rattle.yaml_round.specs.Reading.{emitter_events}

@@ -2,11 +2,11 @@
 use Rattle.std.proofs.Common.{◌≡◌, ◌∙◌, inl, inr, ℕ, List, Result, Ok, Err, sym, ap, subst}
 use Rattle.yaml_round.specs.declared.yaml_encoding_t.{yaml_encoding_t}
 use Rattle.yaml_round.specs.declared.yaml_encoding_t.TheVariants.{YAML_ANY_ENCODING}
-use Rattle.yaml_emit_laws_columns.specs.emit_layout.scan.Faults.{Fault}
+use Rattle.yaml_emit_laws_columns.specs.emit_layout.scan_model.Faults.{Fault}
 use Rattle.yaml_round.specs.emit.Text.{is_deep}
 use Rattle.yaml_round.specs.emit.Emitter.{Passes}
-use Rattle.yaml_round.specs.round_laws_documents.content.Said.{Document}
-use Rattle.yaml_round.specs.round_laws_reading.Reading.{PlainReading}
+use Rattle.yaml_round.specs.round_laws_documents.round_content.Said.{Document}
+use Rattle.yaml_round.specs.round_content.Reading.{PlainReading}
 use Rattle.yaml_round.specs.declared.yaml_settings_t.{yaml_settings_t}
 use Rattle.yaml_round.specs.Answers.{SameContent}
 use Rattle.yaml_round.specs.Readable.{IsReadableForm, IsReadablePast, IsReadableAnswer, readable_text, readable_layout, readable_encoding}

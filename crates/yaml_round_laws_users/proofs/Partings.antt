@@ -3,8 +3,8 @@ use Rattle.std.proofs.Common.{◌≡◌, ◌∙◌, sym, ap, refl, ℕ, List, []
 use Rattle.std.proofs.lemmas.List.{map-append}
 use Rattle.yaml_round.specs.declared.yaml_encoding_t.{yaml_encoding_t}
 use Rattle.yaml_round.specs.declared.yaml_difference_t.{yaml_difference_t}
-use Rattle.yaml_round.specs.round_laws_documents.content.parse_grammar.Resolve.{Told}
-use Rattle.yaml_round.specs.round_laws_documents.content.parse_model.Events.{EventBody, type_of}
+use Rattle.yaml_round.specs.round_laws_documents.round_content.parse_grammar.Resolve.{Told}
+use Rattle.yaml_round.specs.round_laws_documents.round_content.parse_model.Events.{EventBody, type_of}
 use Rattle.yaml_round.specs.Reading.{contents}
 use Rattle.yaml_round.specs.Answers.{IsCompared, SameContent}
 use Rattle.yaml_round.specs.Places.{Place, place_says, path_to, path_of}

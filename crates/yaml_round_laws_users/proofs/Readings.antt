@@ -7,11 +7,11 @@ use Rattle.yaml_emit_laws_columns.specs.emit_layout.emit_text.declared.Requested
 use Rattle.yaml_emit_laws_columns.specs.emit_layout.Streams.{IsStream}
 use Rattle.yaml_round.specs.round_laws_documents.parse_grammar.Resolve.{Told}
 use Rattle.yaml_round.specs.round_laws_documents.Stays.{SaysInput}
-use Rattle.yaml_round.specs.round_laws_reading.Said.{Document, HasContent}
-use Rattle.yaml_round.specs.round_laws_reading.Canon.{canon}
-use Rattle.yaml_round.specs.round_laws_reading.Events.{emitter_events}
-use Rattle.yaml_round.specs.round_laws_reading.Input.{events_of}
-use Rattle.yaml_round.specs.round_laws_reading.Reading.{PlainReading}
+use Rattle.yaml_round.specs.round_content.Said.{Document, HasContent}
+use Rattle.yaml_round.specs.round_content.Canon.{canon}
+use Rattle.yaml_round.specs.round_content.Events.{emitter_events}
+use Rattle.yaml_round.specs.round_content.Input.{events_of}
+use Rattle.yaml_round.specs.round_content.Reading.{PlainReading}
 use Rattle.yaml_round.specs.Flags.{begins_with_nothing}
 use Rattle.yaml_round.proofs.ReadBack.{inputs_read_back, tells_inputs}
 use Rattle.yaml_round.proofs.Joining.{read_said, said_read}

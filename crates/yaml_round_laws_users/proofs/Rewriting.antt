@@ -3,16 +3,16 @@ use Rattle.std.proofs.Common.{◌≡◌, inl, inr, ℕ, true, List, Some, None, 
 use Rattle.std.proofs.lemmas.Bool.{true≢false}
 use Rattle.yaml_round.specs.declared.yaml_encoding_t.{yaml_encoding_t}
 use Rattle.yaml_round.specs.declared.yaml_encoding_t.TheVariants.{YAML_ANY_ENCODING}
-use Rattle.yaml_emit_laws_columns.specs.emit_layout.scan.Faults.{Fault}
+use Rattle.yaml_emit_laws_columns.specs.emit_layout.scan_model.Faults.{Fault}
 use Rattle.yaml_round.specs.emit.Text.{Item, encode, is_deep}
 use Rattle.yaml_round.specs.emit.Within.{Fits}
 use Rattle.yaml_round.specs.emit.Emitter.{Passes}
 use Rattle.yaml_emit_laws_columns.specs.emit_layout.emit_text.declared.Encoding.{Encoding}
-use Rattle.yaml_round.specs.round_laws_documents.content.Input.{ending_of, events_of}
-use Rattle.yaml_round.specs.round_laws_documents.content.Said.{Document, HasContent}
-use Rattle.yaml_round.specs.round_laws_documents.content.parse_grammar.Resolve.{Told}
-use Rattle.yaml_round.specs.round_laws_reading.Reading.{PlainReading}
-use Rattle.yaml_round.specs.round_laws_documents.content.Canon.{canon_items, canon_encoding}
+use Rattle.yaml_round.specs.round_laws_documents.round_content.Input.{ending_of, events_of}
+use Rattle.yaml_round.specs.round_laws_documents.round_content.Said.{Document, HasContent}
+use Rattle.yaml_round.specs.round_laws_documents.round_content.parse_grammar.Resolve.{Told}
+use Rattle.yaml_round.specs.round_content.Reading.{PlainReading}
+use Rattle.yaml_round.specs.round_laws_documents.round_content.Canon.{canon_items, canon_encoding}
 use Rattle.yaml_round.specs.declared.yaml_settings_t.{yaml_settings_t}
 use Rattle.yaml_round.specs.declared.yaml_form_t.{yaml_form_t}
 use Rattle.yaml_round.specs.declared.yaml_form_t.TheVariants.{Canonical, Pretty}

@@ -2,10 +2,10 @@
 use Rattle.std.specs.Prelude.{◌≡◌, ◌↔◌, ◌⊎◌, ℕ, List, Some, None, Result, Ok, Err}
 use Rattle.yaml_round.specs.declared.yaml_encoding_t.{yaml_encoding_t}
 use Rattle.yaml_round.specs.declared.yaml_encoding_t.TheVariants.{YAML_ANY_ENCODING}
-use Rattle.yaml_emit_laws_columns.specs.emit_layout.scan.Faults.{Fault}
-use Rattle.yaml_round.specs.round_laws_documents.content.Loads.{loads_of}
-use Rattle.yaml_round.specs.round_laws_documents.content.Agree.{AreAgreeing}
-use Rattle.yaml_round.specs.round_laws_documents.content.DumpsEvents.{trees_of_dumps, AreNumerable}
+use Rattle.yaml_emit_laws_columns.specs.emit_layout.scan_model.Faults.{Fault}
+use Rattle.yaml_round.specs.round_laws_documents.round_content.Loads.{loads_of}
+use Rattle.yaml_round.specs.round_laws_documents.round_content.Agree.{AreAgreeing}
+use Rattle.yaml_round.specs.round_laws_documents.round_content.DumpsEvents.{trees_of_dumps, AreNumerable}
 use Rattle.yaml_round.specs.declared.yaml_settings_t.{yaml_settings_t}
 use Rattle.yaml_round.specs.Answers.{canonical_text}
 use Rattle.yaml_round.specs.Reload.{IsDumped, IsNormalOfDocuments, IsReloaded}

@@ -7,10 +7,10 @@ use Rattle.yaml_emit_laws_columns.specs.emit_layout.emit_text.declared.Encoding.
 use Rattle.yaml_emit_laws_columns.specs.emit_layout.emit_text.declared.RequestedSettings.{RequestedSettings}
 use Rattle.yaml_emit_laws_columns.specs.emit_layout.Streams.{IsStream}
 use Rattle.yaml_round.specs.round_laws_documents.parse_grammar.Resolve.{Told}
-use Rattle.yaml_round.specs.round_laws_reading.Said.{Document}
-use Rattle.yaml_round.specs.round_laws_reading.Canon.{canon}
-use Rattle.yaml_round.specs.round_laws_reading.Events.{emitter_events}
-use Rattle.yaml_round.specs.round_laws_reading.Reading.{PlainReading, HasEvents}
+use Rattle.yaml_round.specs.round_content.Said.{Document}
+use Rattle.yaml_round.specs.round_content.Canon.{canon}
+use Rattle.yaml_round.specs.round_content.Events.{emitter_events}
+use Rattle.yaml_round.specs.round_content.Reading.{PlainReading, HasEvents}
 use Rattle.yaml_round.specs.Flags.{begins_with_nothing}
 
 -- ---- canonical text

@@ -2,12 +2,12 @@
 use Rattle.std.specs.Prelude.{◌≡◌, ◌↔◌, ℕ, List, Ok}
 use Rattle.yaml_round.specs.declared.yaml_encoding_t.{yaml_encoding_t}
 use Rattle.yaml_round.specs.declared.yaml_encoding_t.TheVariants.{YAML_ANY_ENCODING}
-use Rattle.yaml_round.specs.round_laws_documents.content.parse_laws_loading.parse_document.Documents.{Document}
-use Rattle.yaml_round.specs.round_laws_documents.content.PlainLoading.{PlainLoading}
-use Rattle.yaml_round.specs.round_laws_documents.content.Said as content
-use Rattle.yaml_round.specs.round_laws_documents.content.Reading.{PlainReading}
-use Rattle.yaml_round.specs.round_laws_documents.content.Agree.{AreAgreeing}
-use Rattle.yaml_round.specs.round_laws_documents.content.Renamed.{Renaming, renamed, AreOneToOne}
+use Rattle.yaml_round.specs.round_laws_documents.round_content.parse_laws_trees.parse_document.Documents.{Document}
+use Rattle.yaml_round.specs.round_laws_documents.round_content.PlainLoading.{PlainLoading}
+use Rattle.yaml_round.specs.round_laws_documents.round_content.Said as content
+use Rattle.yaml_round.specs.round_laws_documents.round_content.Reading.{PlainReading}
+use Rattle.yaml_round.specs.round_laws_documents.round_content.Agree.{AreAgreeing}
+use Rattle.yaml_round.specs.round_laws_documents.round_content.Renamed.{Renaming, renamed, AreOneToOne}
 use Rattle.yaml_round.specs.declared.yaml_settings_t.{yaml_settings_t}
 use Rattle.yaml_round.specs.declared.yaml_form_t.{yaml_form_t}
 use Rattle.yaml_round.specs.Answers.{IsReformatted}

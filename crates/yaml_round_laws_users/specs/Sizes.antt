@@ -2,14 +2,14 @@
 use Rattle.std.specs.Prelude.{ℕ, ◌≤◌, true, List, map, Ok, Err}
 use Rattle.yaml_round.specs.declared.yaml_encoding_t.{yaml_encoding_t}
 use Rattle.yaml_round.specs.declared.yaml_encoding_t.TheVariants.{YAML_ANY_ENCODING}
-use Rattle.yaml_round.specs.round_laws_documents.content.parse_laws_loading.parse_document.Documents as documents
+use Rattle.yaml_round.specs.round_laws_documents.round_content.parse_laws_trees.parse_document.Documents as documents
 use Rattle.yaml_round.specs.emit.Emitter.{write_error}
 use Rattle.yaml_round.specs.emit.emit_graph.Graph.{graph_content}
 use Rattle.yaml_round.specs.emit.Settings.{settled, settled_indent}
-use Rattle.yaml_round.specs.round_laws_documents.content.Said.{Document}
-use Rattle.yaml_round.specs.round_laws_documents.content.Canon.{written_documents, canon_encoding}
-use Rattle.yaml_round.specs.round_laws_reading.Reading.{PlainReading}
-use Rattle.yaml_round.specs.round_laws_reading.PlainLoading.{PlainLoading}
+use Rattle.yaml_round.specs.round_laws_documents.round_content.Said.{Document}
+use Rattle.yaml_round.specs.round_laws_documents.round_content.Canon.{written_documents, canon_encoding}
+use Rattle.yaml_round.specs.round_content.Reading.{PlainReading}
+use Rattle.yaml_round.specs.round_content.PlainLoading.{PlainLoading}
 use Rattle.yaml_round.specs.declared.yaml_settings_t.{yaml_settings_t}
 use Rattle.yaml_round.specs.Writing.{requested_under}
 use Rattle.yaml_round.specs.Answers.{IsTooLong, IsReformatted}

@@ -12,8 +12,8 @@ use Rattle.yaml_parse.specs.Resolve.{Told}
 use Rattle.yaml_parse.specs.Remaining.{ParserRemaining}
 use Rattle.yaml_parse.specs.Finds.{GivesNext}
 use Rattle.yaml_parse.specs.Loading.{Loading, Open, nothing_loaded, step_body, closed, started, filled, place_of}
-use Rattle.yaml_round_laws_documents.specs.content.Input.{Reads}
-use Rattle.yaml_round_laws_documents.specs.content.Loads.{Loads, no_more, in_front, load_on, load_all, loads_of}
+use Rattle.yaml_round_laws_documents.specs.round_content.Input.{Reads}
+use Rattle.yaml_round_laws_documents.specs.round_content.Loads.{Loads, no_more, in_front, load_on, load_all, loads_of}
 use Rattle.yaml_round_laws_documents.proofs.Loaded.{faultless_load, faulty_load}
 use Rattle.yaml_round_writing.specs.Reload.{to_load}
 use Rattle.yaml_round_writing.specs.Checking.{IsChecked, IsSeen, rooted_by, HasNodes, IsRooted, LoadsOn}

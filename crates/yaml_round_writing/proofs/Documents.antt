@@ -4,10 +4,10 @@ use Rattle.yaml_scan.specs.declared.yaml_encoding_t.{yaml_encoding_t}
 use Rattle.yaml_scan.specs.declared.yaml_encoding_t.TheVariants.{YAML_ANY_ENCODING}
 use Rattle.yaml_emit.specs.Text.{encode}
 use Rattle.yaml_emit.specs.Within.{Fits}
-use Rattle.yaml_round_laws_documents.specs.content.Said as content
-use Rattle.yaml_round_laws_documents.specs.content.Loads.{loads_of}
-use Rattle.yaml_round_laws_documents.specs.content.Canon.{canon_items, canon_encoding}
-use Rattle.yaml_round_laws_documents.specs.content.DumpsEvents.{trees_of_dumps, AreNumerable}
+use Rattle.yaml_round_laws_documents.specs.round_content.Said as content
+use Rattle.yaml_round_laws_documents.specs.round_content.Loads.{loads_of}
+use Rattle.yaml_round_laws_documents.specs.round_content.Canon.{canon_items, canon_encoding}
+use Rattle.yaml_round_laws_documents.specs.round_content.DumpsEvents.{trees_of_dumps, AreNumerable}
 use Rattle.yaml_round_laws_documents.specs.Normal.{ended, LoadsAgain}
 use Rattle.yaml_round_laws_documents.proofs.Laid.{laid_out}
 use Rattle.yaml_round_laws_documents.proofs.Whole.{loads_are, plain_documents, texts_load_again, texts_tell}

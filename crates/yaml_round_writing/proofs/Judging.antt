@@ -15,7 +15,7 @@ use Rattle.yaml_round_reading.specs.Reading.{GivesNextEvent, IsFaultOf, EndsWith
 use Rattle.yaml_round_writing.specs.Lines.{event_lines}
 use Rattle.yaml_round_writing.specs.declared.writing.Form.{Form}
 use Rattle.yaml_round_writing.specs.Writing.{LeadsOn, WritesAll}
-use Rattle.yaml_round_laws_documents.specs.content.Input.{Reads, ending_of}
+use Rattle.yaml_round_laws_documents.specs.round_content.Input.{Reads, ending_of}
 use Rattle.yaml_round_reading.proofs.Plain.{faulty, faulty_ending, fault_met, right, has_events}
 use Rattle.yaml_round_reading.specs.Answers.{IsFaulty}
 use Rattle.yaml_round_writing.specs.Answers.{IsJudged, IsWrittenPast, HasLines}

@@ -21,11 +21,11 @@ use Rattle.yaml_round_beginning.specs.declared.beginning.Beginning.{Beginning}
 use Rattle.yaml_round_writing.specs.declared.writing.Form.{Form}
 use Rattle.yaml_round_writing.specs.declared.writing.Form.TheVariants as form
 use Rattle.yaml_round_writing.specs.Writing.{IsUnder, LeadsOn, FinishesText, requested_under, requested_in, given_in, comes_to_nothing, IsText, IsEachLayout, IsPastEach}
-use Rattle.yaml_round_laws_documents.specs.content.Input.{Reads, events_of, ending_of}
+use Rattle.yaml_round_laws_documents.specs.round_content.Input.{Reads, events_of, ending_of}
 use Rattle.yaml_round_writing.specs.Answers.{IsLayout, IsPast, IsLaidOut, IsTooLong, IsWritten, IsWrittenIn, bytes_of}
 use Rattle.yaml_round_reading.proofs.Plain.{has_events, events_right, right, right_ending}
 use Rattle.yaml_round_reading.specs.Answers.{IsRight}
-use Rattle.yaml_round_laws_documents.specs.content.emit_laws_streams.StreamsLaws.{HasText}
+use Rattle.yaml_round_laws_documents.specs.round_content.emit_laws_dumps.StreamsLaws.{HasText}
 use Rattle.yaml_round_writing.proofs.Streams.{input_text}
 
 -- a fresh emitter completes the streams of its settings

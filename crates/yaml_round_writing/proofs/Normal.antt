@@ -6,10 +6,10 @@ use Rattle.yaml_emit.specs.Text.{Item, encode}
 use Rattle.yaml_emit.specs.Within.{Fits}
 use Rattle.yaml_emit.specs.emit_text.declared.Encoding.{Encoding}
 use Rattle.yaml_parse.specs.Resolve.{Told}
-use Rattle.yaml_round_laws_documents.specs.content.Input.{events_of}
-use Rattle.yaml_round_laws_documents.specs.content.Said.{Document, HasContent}
-use Rattle.yaml_round_laws_documents.specs.content.Canon.{canon_items, canon_encoding}
-use Rattle.yaml_round_laws_documents.specs.content.ContentLaws.{IsSet, AreCanonical}
+use Rattle.yaml_round_laws_documents.specs.round_content.Input.{events_of}
+use Rattle.yaml_round_laws_documents.specs.round_content.Said.{Document, HasContent}
+use Rattle.yaml_round_laws_documents.specs.round_content.Canon.{canon_items, canon_encoding}
+use Rattle.yaml_round_laws_documents.specs.round_content.ContentLaws.{IsSet, AreCanonical}
 use Rattle.yaml_round_laws_documents.proofs.ContentInputs.{have_content}
 use Rattle.yaml_round_laws_documents.proofs.ReadBack.{inputs_read_back, tells_inputs, layout_is_of_input, is_laid_out_again}
 use Rattle.yaml_round_device.specs.declared.yaml_settings_t.{yaml_settings_t}

@@ -5,8 +5,8 @@ use Rattle.yaml_scan.specs.declared.yaml_encoding_t.TheVariants.{YAML_ANY_ENCODI
 use Rattle.yaml_scan.specs.Faults.{Fault, IsMemoryFault}
 use Rattle.yaml_emit.specs.Streams.{IsStream}
 use Rattle.yaml_round_device.specs.declared.yaml_settings_t.{yaml_settings_t}
-use Rattle.yaml_round_laws_documents.specs.content.Input.{events_of}
-use Rattle.yaml_round_laws_documents.specs.content.Said.{Document, HasContent}
+use Rattle.yaml_round_laws_documents.specs.round_content.Input.{events_of}
+use Rattle.yaml_round_laws_documents.specs.round_content.Said.{Document, HasContent}
 use Rattle.yaml_round_laws_documents.proofs.ContentInputs.{have_content}
 use Rattle.yaml_round_laws_documents.proofs.ReadingJoining.{said_read, read_said}
 use Rattle.yaml_round_laws_normal.specs.Restyled.{Before, readable_events}

@@ -21,18 +21,18 @@ use Rattle.yaml_emit.specs.Emitter.{Emitter, dump_events, document_events_by, op
 use Rattle.yaml_emit.specs.Taking.{TakesEvents}
 use Rattle.yaml_emit.specs.emit_text.declared.RequestedSettings.{RequestedSettings}
 use Rattle.yaml_round_device.specs.declared.yaml_settings_t.{yaml_settings_t}
-use Rattle.yaml_round_laws_documents.specs.content.Input.{Reads}
+use Rattle.yaml_round_laws_documents.specs.round_content.Input.{Reads}
 use Rattle.yaml_round_writing.specs.Writing.{IsUnder, FinishesText, requested_under}
 use Rattle.yaml_round_writing.specs.Layers.{reload_layers}
 use Rattle.yaml_round_writing.specs.Answers.{bytes_of}
-use Rattle.yaml_round_laws_documents.specs.content.Loads.{Loads, no_more, with_implicit_end, in_front, load_on, load_all, loads_of}
+use Rattle.yaml_round_laws_documents.specs.round_content.Loads.{Loads, no_more, with_implicit_end, in_front, load_on, load_all, loads_of}
 use Rattle.yaml_round_laws_documents.specs.Normal.{ended}
 use Rattle.yaml_round_writing.specs.Reload.{to_write, to_load, HasRoot, LoadsDocument, IsLoaded, AreLoaded, stream_of, written_events, FeedsEmitter, IsWithinStream, DumpsAll, DumpsStream, IsEachDump, IsDumped, LaysOutLoading, IsReloaded}
 use Rattle.yaml_round_laws_documents.proofs.Loaded.{faultless_load, faulty_load}
 use Rattle.yaml_round_writing.proofs.Laying.{Led, starts, layout, past, one_layout, one_past}
 use Rattle.yaml_round_writing.proofs.Streams.{loaded_text}
 use Rattle.yaml_round_writing.proofs.Documents.{in_normal_documents}
-use Rattle.yaml_round_laws_documents.specs.content.DumpsEvents.{AreNumerable}
+use Rattle.yaml_round_laws_documents.specs.round_content.DumpsEvents.{AreNumerable}
 
 -- ---- the next document
 

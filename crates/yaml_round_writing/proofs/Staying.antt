@@ -6,7 +6,7 @@ use Rattle.yaml_parse.specs.Resolve.{Told}
 use Rattle.yaml_emit.specs.Streams.{IsStream}
 use Rattle.yaml_emit.specs.Text.{encode}
 use Rattle.yaml_round_laws_documents.specs.Stays.{SaysInput}
-use Rattle.yaml_round_laws_documents.specs.content.Input.{events_of}
+use Rattle.yaml_round_laws_documents.specs.round_content.Input.{events_of}
 use Rattle.yaml_round_laws_pretty.specs.Flags.{begins_with_nothing}
 use Rattle.yaml_round_laws_pretty.proofs.Theorem.{pretty_reads_back}
 use Rattle.yaml_round_device.specs.declared.yaml_settings_t.{yaml_settings_t}

@@ -9,15 +9,15 @@ use Rattle.yaml_parse.specs.Resolve.{Told}
 use Rattle.yaml_parse.specs.Loading.{Loading, LoadStep, goes_on, loaded, refused, nothing_loaded, step}
 use Rattle.yaml_emit.specs.emit_graph.Graph.{graph_content}
 use Rattle.yaml_emit.specs.emit_text.declared.RequestedSettings.{RequestedSettings}
-use Rattle.yaml_round_laws_documents.specs.content.emit_laws_streams.StreamsLaws.{RightStream, HasText, RightDocument, AreRight, AreRightTold, RightFed}
+use Rattle.yaml_round_laws_documents.specs.round_content.emit_laws_dumps.StreamsLaws.{RightStream, HasText, RightDocument, AreRight, AreRightTold, RightFed}
 use Rattle.yaml_round_laws_documents.proofs.DocumentsPassing.{texts}
 use Rattle.yaml_round_laws_documents.proofs.DocumentsContents.{dumped_streams}
 use Rattle.yaml_round_laws_documents.proofs.Loading.{empty_right, steps}
 use Rattle.yaml_round_laws_documents.proofs.ContentInputs.{input_stream}
 use Rattle.yaml_round_laws_documents.proofs.StreamsInputs.{inputs_load_right}
 use Rattle.yaml_round_reading.specs.Reading.{emitter_events}
-use Rattle.yaml_round_laws_documents.specs.content.Input.{events_of, ending_of, read}
-use Rattle.yaml_round_laws_documents.specs.content.Loads.{Loads, in_front, load_on, load_all, loads_of}
+use Rattle.yaml_round_laws_documents.specs.round_content.Input.{events_of, ending_of, read}
+use Rattle.yaml_round_laws_documents.specs.round_content.Loads.{Loads, in_front, load_on, load_all, loads_of}
 use Rattle.yaml_round_laws_documents.specs.Normal.{ended}
 use Rattle.yaml_round_laws_documents.proofs.Laid.{ended_right}
 use Rattle.yaml_round_writing.specs.Reload.{written_events}

@@ -17,11 +17,11 @@ use Rattle.yaml_round_reading.specs.Reading.{emitter_events}
 use Rattle.yaml_round_writing.specs.Lines.{event_lines}
 use Rattle.yaml_round_writing.specs.declared.writing.Form.{Form}
 use Rattle.yaml_round_writing.specs.Writing.{requested_under, requested_in, given_in, IsEachLayout, IsPastEach}
-use Rattle.yaml_round_laws_documents.specs.content.Input.{events_of}
+use Rattle.yaml_round_laws_documents.specs.round_content.Input.{events_of}
 use Rattle.yaml_parse.specs.Resolve.{Told}
-use Rattle.yaml_round_laws_documents.specs.content.Said.{Document}
-use Rattle.yaml_round_laws_documents.specs.content.Reading.{PlainReading, HasEvents}
-use Rattle.yaml_round_laws_documents.specs.content.Canon.{canon}
+use Rattle.yaml_round_laws_documents.specs.round_content.Said.{Document}
+use Rattle.yaml_round_laws_documents.specs.round_content.Reading.{PlainReading, HasEvents}
+use Rattle.yaml_round_laws_documents.specs.round_content.Canon.{canon}
 use Rattle.yaml_round_laws_pretty.specs.Flags.{begins_with_nothing}
 unfoldable pub use Rattle.yaml_round_reading.specs.Answers.{IsRight, IsFaulty}
 pub use Rattle.yaml_round_reading.specs.Answers.{SameContent, IsCompared, IsSideFaulty, IsSideStarved, IsSame, ReadsBack}

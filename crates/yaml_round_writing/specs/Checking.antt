@@ -8,8 +8,8 @@ use Rattle.yaml_parse.specs.Nodes.{Node}
 use Rattle.yaml_parse.specs.Documents.{Document}
 use Rattle.yaml_parse.specs.Remaining.{ParserRemaining}
 use Rattle.yaml_parse.specs.Loading.{Loading}
-use Rattle.yaml_round_laws_documents.specs.content.Loads.{load_all}
-use Rattle.yaml_round_laws_documents.specs.content.PlainLoading.{PlainLoading}
+use Rattle.yaml_round_laws_documents.specs.round_content.Loads.{load_all}
+use Rattle.yaml_round_laws_documents.specs.round_content.PlainLoading.{PlainLoading}
 
 -- The input loads, or the fault that loading its tokens ends in, the one of the least place.
 abbrev pub IsChecked : yaml_encoding_t → List ℕ → Result (Unit {0}) Fault → Type 0

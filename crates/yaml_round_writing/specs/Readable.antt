@@ -8,9 +8,9 @@ use Rattle.yaml_emit.specs.Emitter.{Passes}
 use Rattle.yaml_emit.specs.Within.{Fits}
 use Rattle.yaml_emit.specs.emit_text.declared.Encoding.{Encoding}
 use Rattle.yaml_round_device.specs.declared.yaml_settings_t.{yaml_settings_t}
-use Rattle.yaml_round_laws_documents.specs.content.Said.{Document}
-use Rattle.yaml_round_laws_documents.specs.content.Reading.{PlainReading}
-use Rattle.yaml_round_laws_documents.specs.content.Canon.{canon_encoding}
+use Rattle.yaml_round_laws_documents.specs.round_content.Said.{Document}
+use Rattle.yaml_round_laws_documents.specs.round_content.Reading.{PlainReading}
+use Rattle.yaml_round_laws_documents.specs.round_content.Canon.{canon_encoding}
 use Rattle.yaml_round_laws_normal.specs.Readable.{readable, readable_items}
 use Rattle.yaml_round_reading.specs.Answers.{IsFaulty}
 use Rattle.yaml_round_writing.specs.Writing.{requested_under}

@@ -13,11 +13,11 @@ use Rattle.yaml_emit.specs.Text.{Item}
 use Rattle.yaml_emit.specs.Emitter.{Emitter, Completes}
 use Rattle.yaml_emit.specs.emit_text.declared.Encoding.{Encoding}
 use Rattle.yaml_round_device.specs.declared.yaml_settings_t.{yaml_settings_t}
-use Rattle.yaml_round_laws_documents.specs.content.Loads.{Loads, no_more, load_all, loads_of}
-use Rattle.yaml_round_laws_documents.specs.content.PlainLoading.{PlainLoading}
+use Rattle.yaml_round_laws_documents.specs.round_content.Loads.{Loads, no_more, load_all, loads_of}
+use Rattle.yaml_round_laws_documents.specs.round_content.PlainLoading.{PlainLoading}
 use Rattle.yaml_round_writing.specs.Writing.{requested_under, IsEachLayout, IsPastEach}
-use Rattle.yaml_round_laws_documents.specs.content.Agree.{AreAgreeing}
-use Rattle.yaml_round_laws_documents.specs.content.DumpsEvents.{trees_of_dumps, AreNumerable}
+use Rattle.yaml_round_laws_documents.specs.round_content.Agree.{AreAgreeing}
+use Rattle.yaml_round_laws_documents.specs.round_content.DumpsEvents.{trees_of_dumps, AreNumerable}
 use Rattle.yaml_round_laws_documents.specs.Normal.{ended, AreWritableDocuments}
 use Rattle.yaml_round_writing.specs.Answers.{IsLayout, IsPast, canonical_text}
 

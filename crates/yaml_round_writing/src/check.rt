@@ -1,7 +1,7 @@
 //! Whether an input loads. Where no alias is among its events these tell that by themselves, and no document is made.
 
 ghost use Rattle.std.specs.Prelude.{◌≡◌, ℕ, List, true};
-ghost use Rattle.yaml_round_laws_documents.specs.content.Input.{Reads};
+ghost use Rattle.yaml_round_laws_documents.specs.round_content.Input.{Reads};
 ghost use Rattle.yaml_scan.specs.Faults.{Answers, load_layers};
 ghost use Rattle.yaml_parse.specs.Events.{event_of};
 ghost use Rattle.yaml_round_writing.specs.Checking.{IsChecked, IsSeen, rooted_by};

@@ -2,7 +2,7 @@
 
 ghost use Rattle.std.specs.Prelude.{ℕ, List};
 ghost use Rattle.yaml_scan.specs.Faults.{Answers};
-ghost use Rattle.yaml_round_laws_documents.specs.content.Input.{Reads};
+ghost use Rattle.yaml_round_laws_documents.specs.round_content.Input.{Reads};
 ghost use Rattle.yaml_round_reading.specs.Reading.{AreReal};
 ghost use Rattle.yaml_round_writing.specs.Layers.{list_layers};
 ghost use Rattle.yaml_round_writing.specs.Lines.{AddsLines};

@@ -1,7 +1,7 @@
 //! Documents loaded and written again.
 
 ghost use Rattle.std.specs.Prelude.{◌≡◌, ℕ, List, true, false, All};
-ghost use Rattle.yaml_round_laws_documents.specs.content.Input.{Reads};
+ghost use Rattle.yaml_round_laws_documents.specs.round_content.Input.{Reads};
 ghost use Rattle.yaml_scan.specs.Faults.{Answers, load_layers, emit_layers};
 ghost use Rattle.yaml_round_writing.specs.Answers.{bytes_of};
 ghost use Rattle.yaml_round_writing.specs.Reload.{LoadsNext, IsLoaded, HasRoot, IsWithinStream, DumpsAll, DumpsStream, IsEachDump};

@@ -3,7 +3,7 @@
 ghost use Rattle.std.specs.Prelude.{◌≡◌, [], IfOk};
 ghost use Rattle.yaml_scan.specs.Faults.{Answers, parse_layers};
 ghost use Rattle.yaml_round_writing.specs.Layers.{reformat_layers};
-ghost use Rattle.yaml_round_laws_documents.specs.content.Input.{Reads, ending_of, events_of};
+ghost use Rattle.yaml_round_laws_documents.specs.round_content.Input.{Reads, ending_of, events_of};
 ghost use Rattle.yaml_round_reading.specs.Reading.{AreReal};
 ghost use Rattle.yaml_round_writing.specs.Answers.{IsInPrettyForm, IsJudged, IsWrittenIn, text_and_whether, bytes_of};
 ghost use Rattle.yaml_round_writing.specs.Writing.{WritesAll, comes_to_nothing};

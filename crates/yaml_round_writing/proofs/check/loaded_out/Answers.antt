@@ -1,6 +1,6 @@
 -- The next document was loaded, and the fault that ends the loads is left.
 use Rattle.std.proofs.Common.{refl, ◌∙◌, ap}
-use Rattle.yaml_round_laws_documents.specs.content.Loads.{Loads}
+use Rattle.yaml_round_laws_documents.specs.round_content.Loads.{Loads}
 use Rattle.yaml_round_writing.proofs.Reloading.{fault_on, reads_to_load}
 use Rattle.yaml_round_writing.proofs.Checking.{loads_out, loads_no_more}
 use Rattle.yaml_round_writing.proofs.check.loaded_out.Goals as goal

@@ -1,6 +1,6 @@
 -- What is to come ends in the fault that all events end in.
 use Rattle.std.proofs.Common.{length}
-use Rattle.yaml_round_laws_documents.specs.content.Loads.{load_all}
+use Rattle.yaml_round_laws_documents.specs.round_content.Loads.{load_all}
 use Rattle.yaml_parse.specs.Loading.{nothing_loaded}
 use Rattle.yaml_round_writing.specs.Checking.{LoadsOn}
 use Rattle.yaml_round_writing.proofs.check.look_through.Given as goal

@@ -1,6 +1,6 @@
 -- The next document was loaded, and the others are left.
 use Rattle.std.proofs.Common.{refl, ◌∙◌, ap}
-use Rattle.yaml_round_laws_documents.specs.content.Loads.{Loads}
+use Rattle.yaml_round_laws_documents.specs.round_content.Loads.{Loads}
 use Rattle.yaml_round_writing.proofs.Reloading.{documents_on, fault_on, documents_read, documents_refused, reads_to_load, small_on, none_small}
 use Rattle.yaml_round_writing.proofs.reload.documents_from.Goals as goal
 

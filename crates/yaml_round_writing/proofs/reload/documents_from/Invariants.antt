@@ -1,7 +1,7 @@
 -- What was loaded is a front, and the others are left.
 use Rattle.std.proofs.Common.{◌≡◌, ◌++◌, length, true}
 use Rattle.yaml_round_writing.specs.Reload.{to_load}
-use Rattle.yaml_round_laws_documents.specs.content.DumpsEvents.{AreNumerable}
+use Rattle.yaml_round_laws_documents.specs.round_content.DumpsEvents.{AreNumerable}
 use Rattle.yaml_round_writing.proofs.reload.documents_from.Given as goal
 
 abbrev pub invariant-documents : goal.invariant-documents

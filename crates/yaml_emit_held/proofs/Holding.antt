@@ -66,14 +66,6 @@ pub none_needed : (e : Event) (es : List Event) → needs e ≡ 0 → is_ready (
 unfolding is_ready
 none_needed e es h = let k : nat_le (needs e) (length es) ≡ true = rw h (grind (arith, nat_tests)) in ap (λ v. v || closes es) k
 
-pub both_left : (a b : Bool) → (a && b) ≡ true → a ≡ true
-both_left true b h = refl
-both_left false b h = absurd (cc)
-
-pub both_right : (a b : Bool) → (a && b) ≡ true → b ≡ true
-both_right true b h = h
-both_right false b h = absurd (cc)
-
 pub both_false : (a b : Bool) → b ≡ true → (a && b) ≡ false → a ≡ false
 both_false false b g h = refl
 both_false true true g h = absurd (cc)

@@ -1,5 +1,6 @@
 -- A block scalar that stands behind the gap is the next lexeme.
 use Rattle.std.proofs.Common.{◌≡◌, ℕ, ◌+◌, ◌<◌, Bool, true, false, not, ◌&&◌, ◌==◌, nat_lt, List, [], ◌∷◌, length, Option, Some, None, Ok, refl, ap, ◌∙◌, arith}
+use Rattle.std.proofs.Math.Bool.{and-false}
 use Rattle.yaml_scan_history.specs.scan_model.Marks.{mark_at}
 use Rattle.yaml_scan_history.specs.scan_model.Tokens.{scalar}
 use Rattle.yaml_scan_history.specs.scan_model.declared.problem.ScanFault.{ScanFault}
@@ -31,20 +32,16 @@ block_lexeme folded text h end k = record {
 abbrev block_word : Bool → List ℕ → ℕ → ℕ → WordText
 block_word folded value end k = record { body = scalar value (read_style folded); end = end; reached = end + k; broke = false }
 
-and_none : (a : Bool) → (a && false) ≡ false
-and_none true = refl
-and_none false = refl
-
 -- it is no key
 begun_is : (folded : Bool) (text : List ℕ) (h : List Lexeme) (value : List ℕ) (end k : ℕ) → with_end text (begun_behind (kind_of folded) text h) (Ok (block_word folded value end k)) ≡ block_lexeme folded text h end k
 begun_is true text h value end k =
     let m = place_behind text h in
     ap (λ (b : Bool). let l : Lexeme = record { kind = kind_of true; start = m; end = mark_at text end; reached = mark_at text (end + k); depth = depth h; level = level_in (kind_of true) m.column h; saved = b; required = b && (depth h == 0 && level_in (kind_of true) m.column h == m.column + 1); broke = false } in l)
-    (and_none (allowed_behind h (gap_behind text h)))
+    (and-false (allowed_behind h (gap_behind text h)))
 begun_is false text h value end k =
     let m = place_behind text h in
     ap (λ (b : Bool). let l : Lexeme = record { kind = kind_of false; start = m; end = mark_at text end; reached = mark_at text (end + k); depth = depth h; level = level_in (kind_of false) m.column h; saved = b; required = b && (depth h == 0 && level_in (kind_of false) m.column h == m.column + 1); broke = false } in l)
-    (and_none (allowed_behind h (gap_behind text h)))
+    (and-false (allowed_behind h (gap_behind text h)))
 
 level_is : (folded : Bool) (text : List ℕ) (h : List Lexeme) → (begun_behind (kind_of folded) text h).level ≡ level_in (kind_of folded) (place_behind text h).column h
 level_is true text h = refl
@@ -61,8 +58,8 @@ word_is folded text h value end k o s =
     ∙ ap (λ (n : ℕ). word_at (kind_of folded) false n text (gap_behind text h).place) (level_is folded text h) ∙ s.word
 
 not_misplaced : (folded : Bool) (text : List ℕ) (h : List Lexeme) → indicator_misplaced (kind_of folded) text h ≡ None
-not_misplaced true text h = cond_false (misplaced (kind_of true) (place_behind text h) (allowed_behind h (gap_behind text h)) h) _ None (and_none (not (in_flow h) && not (allowed_behind h (gap_behind text h))))
-not_misplaced false text h = cond_false (misplaced (kind_of false) (place_behind text h) (allowed_behind h (gap_behind text h)) h) _ None (and_none (not (in_flow h) && not (allowed_behind h (gap_behind text h))))
+not_misplaced true text h = cond_false (misplaced (kind_of true) (place_behind text h) (allowed_behind h (gap_behind text h)) h) _ None (and-false (not (in_flow h) && not (allowed_behind h (gap_behind text h))))
+not_misplaced false text h = cond_false (misplaced (kind_of false) (place_behind text h) (allowed_behind h (gap_behind text h)) h) _ None (and-false (not (in_flow h) && not (allowed_behind h (gap_behind text h))))
 
 block_cancels : (folded : Bool) → cancels (kind_of folded) ≡ true
 block_cancels true = refl

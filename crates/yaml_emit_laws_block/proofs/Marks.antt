@@ -1,6 +1,6 @@
 -- Breaks at the ends of lines, and characters between them.
 use Rattle.std.proofs.Common.{◌≡◌, ◌≢◌, ℕ, ◌+◌, ◌<◌, ◌≤◌, true, false, ◌||◌, ◌==◌, List, [], ◌∷◌, ◌++◌, length, refl, sym, ap, ◌∙◌, inl, inr, arith, encode_utf8, encode_utf8_all}
-use Rattle.std.proofs.lemmas.Bool.{cases_lt, cases_eq}
+use Rattle.std.proofs.lemmas.Bool.{cases_lt, cases_eq, ne_eqb}
 use lib.Utf8.{encode}
 use Rattle.yaml_scan_history.specs.scan_model.Marks.{byte, break_of, break_width, is_blank}
 use Rattle.yaml_scan_history.specs.scan_model.Breaks.{break_value, is_feed}
@@ -11,7 +11,7 @@ use Rattle.yaml_emit_laws_text.specs.emit_text.declared.LineBreak.TheVariants.{L
 use Rattle.yaml_emit_laws_text.specs.emit_text.Text.{is_break}
 use Rattle.yaml_emit_laws_text.specs.emit_text.Quoted.{is_printable}
 use Rattle.yaml_emit_laws_text.proofs.Chars.{encode_1, encode_2, encode_3, encode_4}
-use Rattle.yaml_emit_laws_text.proofs.Bytes.{high_blank, differs}
+use Rattle.yaml_emit_laws_text.proofs.Bytes.{high_blank}
 use Rattle.yaml_emit_laws_block.specs.Lines.{LineMark, own, separator, paragraph, mark_char, mark_text, mark_bytes, mark_means}
 
 -- behind CR no LF may stand
@@ -51,7 +51,7 @@ not_printed : (x k : ℕ) → is_printable x ≡ true → is_printable k ≡ fal
 not_printed x k s n = λ e. cc (sym s ∙ ap (λ t. is_printable t) e ∙ n)
 
 no_break : (x : ℕ) → x ≢ 10 → x ≢ 13 → x ≢ 0x85 → x ≢ 0x2028 → x ≢ 0x2029 → is_break x ≡ false
-no_break x a b c d e = rw (differs x 10 a, differs x 13 b, differs x 0x85 c, differs x 0x2028 d, differs x 0x2029 e) refl
+no_break x a b c d e = rw (ne_eqb x 10 a, ne_eqb x 13 b, ne_eqb x 0x85 c, ne_eqb x 0x2028 d, ne_eqb x 0x2029 e) refl
 
 no_mark : (x : ℕ) → is_break x ≡ true → is_break x ≡ false → IsMark x
 no_mark x e f = absurd (cc (sym e ∙ f))
@@ -97,7 +97,7 @@ feed_breaks text p e = record { width = rw e refl; value = rw e refl; some = ome
 
 return_of : (c d : ℕ) → c ≢ 10 → break_of 13 c d ≡ 1
 unfolding break_of
-return_of c d h = rw (differs c 10 h) refl
+return_of c d h = rw (ne_eqb c 10 h) refl
 
 return_value : (text : List ℕ) (p : ℕ) → break_width text p ≡ 1 → break_value text p ≡ 10 ∷ []
 unfolding break_value

@@ -1,6 +1,6 @@
 -- A text that goes on with a block scalar goes on behind it.
 use Rattle.std.proofs.Common.{◌≡◌, ℕ, ◌+◌, ◌-◌, ◌≤◌, Bool, false, ◌==◌, nat_lt, List, [], ◌∷◌, ◌++◌, length, get_or, refl, sym, ap, subst, ◌∙◌, inl, inr, arith, append_assoc, encode_utf8, encode_utf8_all}
-use Rattle.std.proofs.lemmas.Bool.{cases_lt}
+use Rattle.std.proofs.lemmas.Bool.{cases_lt, or_parts, eqb-false}
 use Rattle.std.proofs.lemmas.Bool.Decides.{nat_tests}
 use Rattle.std.proofs.lemmas.List.{length-append, get_or_past}
 use lib.Utf8.{encode as encode_char}
@@ -14,7 +14,6 @@ use Rattle.yaml_emit_laws_text.specs.emit_text.Spelling.{in_front}
 use Rattle.yaml_emit_laws_text.specs.emit_layout.Nodes.{page_at}
 use Rattle.yaml_emit_laws_text.specs.emit_text.declared.page.Page.{Page}
 use Rattle.yaml_emit_laws_text.specs.Walk.{Left, bytes}
-use Rattle.yaml_emit_laws_text.proofs.Bytes.{or_left, or_right, apart}
 use Rattle.yaml_emit_laws_block.specs.Lines.{NoWhite}
 use Rattle.yaml_emit_laws_block.specs.Laws.{margin_round, BlockAndLineRead, BlockAtSpot}
 use Rattle.yaml_emit_laws_block.specs.Passed.{begins_white, behind_line, BlockPassed, BlockIsPassed}
@@ -48,11 +47,11 @@ left_white text p bs l e =
     let a : byte text p ≡ get_or bs 0 0 = ap (λ q. byte text q) (sym z) ∙ left_byte text p bs 0 l in
     let b = left_byte text p bs 1 l in
     let c = left_byte text p bs 2 l in
-    let blank = or_left (is_blank (get_or bs 0 0)) _ e in
-    let none = or_right (is_blank (get_or bs 0 0)) _ e in
+    let blank = (or_parts (is_blank (get_or bs 0 0)) _ e).0 in
+    let none = (or_parts (is_blank (get_or bs 0 0)) _ e).1 in
     record {
-      no_space = λ f. apart (get_or bs 0 0) 32 (or_left (get_or bs 0 0 == 32) (get_or bs 0 0 == 9) blank) (sym a ∙ f);
-      no_tab = λ f. apart (get_or bs 0 0) 9 (or_right (get_or bs 0 0 == 32) (get_or bs 0 0 == 9) blank) (sym a ∙ f);
+      no_space = λ f. eqb-false (get_or bs 0 0) 32 (or_parts (get_or bs 0 0 == 32) (get_or bs 0 0 == 9) blank).0 (sym a ∙ f);
+      no_tab = λ f. eqb-false (get_or bs 0 0) 9 (or_parts (get_or bs 0 0 == 32) (get_or bs 0 0 == 9) blank).1 (sym a ∙ f);
       no_break = ap (λ x. break_of x (byte text (p + 1)) (byte text (p + 2))) a ∙ ap (λ x. break_of (get_or bs 0 0) x (byte text (p + 2))) b ∙ ap (λ x. break_of (get_or bs 0 0) (get_or bs 1 0) x) c
           ∙ no_width (break_of (get_or bs 0 0) (get_or bs 1 0) (get_or bs 2 0)) none;
     }

@@ -1,6 +1,6 @@
 -- Lines of a block scalar that stand in a text are read.
 use Rattle.std.proofs.Common.{◌≡◌, ◌≢◌, ℕ, zero, suc, ◌+◌, ◌-◌, ◌/◌, ◌%◌, ◌<◌, ◌≤◌, true, false, not, ◌&&◌, ◌||◌, ◌==◌, nat_lt, List, [], ◌∷◌, ◌++◌, length, replicate, slice_range, Result, Ok, refl, sym, ap, subst, ◌∙◌, inl, inr, arith, add-zero, encode_utf8, encode_utf8_all}
-use Rattle.std.proofs.lemmas.Bool.{cases_lt}
+use Rattle.std.proofs.lemmas.Bool.{cases_lt, and_parts, not-true, eqb-false}
 use Rattle.std.proofs.lemmas.Bool.Decides.{nat_tests}
 use Rattle.std.proofs.lemmas.List.{length-append}
 use Rattle.std.proofs.lemmas.Str.{encode_ascii, encodes-append}
@@ -19,7 +19,7 @@ use Rattle.yaml_emit_laws_text.specs.emit_text.declared.LineBreak.TheVariants.{L
 use Rattle.yaml_emit_laws_text.specs.emit_text.Text.{is_break}
 use Rattle.yaml_emit_laws_text.proofs.Values.{cond_true}
 use Rattle.yaml_emit_laws_text.proofs.Chars.{encode_1, encode_2, encode_3, encode_4}
-use Rattle.yaml_emit_laws_text.proofs.Bytes.{and_left, and_right, not_true, apart, low_break, two_break, three_break, four_break, later_break}
+use Rattle.yaml_emit_laws_text.proofs.Bytes.{low_break, two_break, three_break, four_break, later_break}
 use Rattle.yaml_emit_laws_block.specs.Lines.{LineMark, own, separator, paragraph, mark_text, mark_bytes, mark_means, BodyLine, bare, full, line_text, body_text, line_bytes, body_bytes, read_line, read_lines, are_inside, AreInside, StandsLeft}
 use Rattle.yaml_emit_laws_block.proofs.Marks.{NoFeed, breaks, text_encodes}
 
@@ -61,7 +61,7 @@ above_zero c h = omega arith
 
 inside_of : (c : ℕ) → is_break c ≡ false → (c == 0) ≡ false → Inside c
 inside_of c h z = record {
-  some = above_zero c (apart c 0 z);
+  some = above_zero c (eqb-false c 0 z);
   feed = λ e. absurd (grind (arith, nat_tests));
   return = λ e. absurd (grind (arith, nat_tests));
   next_line = λ e. absurd (grind (arith, nat_tests));
@@ -109,9 +109,9 @@ all_append text p (x ∷ xs) ys (e, a) b =
 pub chars_text : (text : List ℕ) (p : ℕ) (xs : List ℕ) → are_inside xs ≡ true → Has text p (encode_utf8_all xs) → AllText text p (encode_utf8_all xs)
 chars_text text p [] a h = tt
 chars_text text p (x ∷ xs) a h =
-    let here = and_left (not (is_break x) && not (x == 0)) (are_inside xs) a in
-    let more = and_right (not (is_break x) && not (x == 0)) (are_inside xs) a in
-    let s = inside_of x (not_true (is_break x) (and_left (not (is_break x)) (not (x == 0)) here)) (not_true (x == 0) (and_right (not (is_break x)) (not (x == 0)) here)) in
+    let here = (and_parts (not (is_break x) && not (x == 0)) (are_inside xs) a).0 in
+    let more = (and_parts (not (is_break x) && not (x == 0)) (are_inside xs) a).1 in
+    let s = inside_of x (not-true (is_break x) (and_parts (not (is_break x)) (not (x == 0)) here).0) (not-true (x == 0) (and_parts (not (is_break x)) (not (x == 0)) here).1) in
     let bs = encode_utf8 x in
     let cs = encode_utf8_all xs in
     all_append text p bs cs (char_text text p x s (has_front text p bs cs h)) (chars_text text (p + length bs) xs more (has_rest text p bs cs h))

@@ -1,7 +1,7 @@
 -- The body of a block scalar is lines, and they are read as the value: by its characters.
 use Rattle.std.proofs.Common.{◌≡◌, ℕ, Bool, true, false, not, ◌&&◌, ◌||◌, ◌==◌, List, [], ◌∷◌, ◌++◌, replicate, refl, sym, ap, subst, ◌∙◌, arith, append-nil, append_assoc, encode_utf8, encode_utf8_all}
-use Rattle.std.proofs.lemmas.Bool.Decides.{nat_tests}
 use Rattle.std.proofs.lemmas.Str.{encode_ascii}
+use Rattle.std.proofs.lemmas.Bool.{false≢true, true≢false, eqb-true, and_from, and_parts, not-true, ne_eqb}
 use Rattle.yaml_scan_block.specs.Header.{chomp_of as chomp_at}
 use Rattle.yaml_scan_block.specs.Value.{BlockLine, Words, texts_of, starts_blank, between, at_end, behind_text}
 use Rattle.yaml_scan_block.specs.Stacked.{stacked_with}
@@ -15,7 +15,6 @@ use Rattle.yaml_emit_laws_text.specs.emit_text.Style.{is_blank, last_or}
 use Rattle.yaml_emit_laws_text.specs.emit_text.Scalars.{behind_breaks, adds_break, cuts_block, line_blank, block_body, chomp}
 use Rattle.yaml_emit_laws_text.specs.emit_text.Spelling.{in_front, break_text}
 use Rattle.yaml_emit_laws_text.proofs.Back.{front_append, moved_by}
-use Rattle.yaml_emit_laws_text.proofs.Bytes.{and_left, and_right, not_true, differs}
 use Rattle.yaml_emit_laws_block.specs.Lines.{LineMark, own, mark_char, mark_text, mark_means, BodyLine, bare, full, body_text, read_lines, are_inside, AreInside, closing}
 use Rattle.yaml_emit_laws_block.proofs.Marks.{mark_breaks, mark_encodes, mark_some, mark_feed, mark_of, text_blank}
 use Rattle.yaml_emit_laws_block.proofs.Layouts.{start_at, after_blanks, blanks_kept, break_is, none_added, first_is, char_is, cut_is, blank_break, blank_first, blank_in}
@@ -32,20 +31,11 @@ bool_cases : {P : Type 0} (b : Bool) → (b ≡ true → P) → (b ≡ false →
 bool_cases true p q = p refl
 bool_cases false p q = q refl
 
-never : (b : Bool) → b ≡ true → b ≡ false → ⊥
-never b e f = cc (sym e ∙ f)
-
-equal_from : (c k : ℕ) → (c == k) ≡ true → c ≡ k
-equal_from c k e = grind (arith, nat_tests)
-
 not_printed : (x k : ℕ) → is_printable x ≡ true → is_printable k ≡ false → (x == k) ≡ false
-not_printed x k s n = differs x k (λ e. cc (sym s ∙ ap (λ t. is_printable t) e ∙ n))
+not_printed x k s n = ne_eqb x k (λ e. cc (sym s ∙ ap (λ t. is_printable t) e ∙ n))
 
 both_not : (a b : Bool) → a ≡ false → b ≡ false → (not a && not b) ≡ true
 both_not a b e f = rw (e, f) refl
-
-both_true : (a b : Bool) → a ≡ true → b ≡ true → (a && b) ≡ true
-both_true a b e f = rw (e, f) refl
 
 neither : (a b : Bool) → a ≡ false → b ≡ false → (a || b) ≡ false
 neither a b e f = rw (e, f) refl
@@ -113,7 +103,7 @@ goes_none page folded blank broken k before kept c e f g h = record {
   inside = refl;
   sound = tt;
   means = ap (λ (j : ℕ). at_end (chomp_at j) (10 ∷ []) []) e;
-  ends = record { at_start = λ t. absurd (never (is_break before) t f); in_line = λ t. g; same = h };
+  ends = record { at_start = λ t. absurd (true≢false (sym t ∙ f)); in_line = λ t. g; same = h };
 }
 
 starts_none : (page : Page) (folded any blank more : Bool) (feed empties : List ℕ) (broken : Bool) (k before : ℕ) (kept : Bool) → k ≡ read_chomp (chomp broken true []) → is_break before ≡ true
@@ -128,7 +118,7 @@ starts_none page folded any blank more feed empties broken k before kept e f w =
   sound = tt;
   begins = tt;
   means = ap (λ (j : ℕ). stacked_so folded any blank feed empties j []) e ∙ waits_end folded any blank more feed empties broken w ∙ sym (append-nil (owed more feed empties));
-  ends = record { at_start = λ t. refl; in_line = λ t. absurd (never (is_break before) f t); same = refl };
+  ends = record { at_start = λ t. refl; in_line = λ t. absurd (true≢false (sym f ∙ t)); same = refl };
 }
 
 -- ---- breaks
@@ -197,7 +187,7 @@ starts_break page folded any blank more feed empties k before m xs kept e s =
           ∙ ap (in_front (mark_text b m)) (break_rest page folded blank before (mark_char m) xs kept kept rest (mark_breaks m) refl ∙ s.text rest) ∙ sym (front_append (mark_text b m) s.letters (rest s.behind));
       whole = append_assoc (mark_text b m) s.letters _ ∙ ap (λ (t : List ℕ). mark_text b m ++ t) s.whole;
       sound = s.sound;
-      begins = λ h. absurd (never (is_break (mark_char m)) (mark_breaks m) h);
+      begins = λ h. absurd (true≢false (sym (mark_breaks m) ∙ h));
       means = sym (stack_empty folded [] any blank feed empties (mark_means m) (chomp_at k) (read_lines s.lines)) ∙ s.means ∙ break_owed more feed empties (mark_means m) (encode_utf8_all xs)
           ∙ ap (λ (t : List ℕ). owed more feed empties ++ (t ++ encode_utf8_all xs)) (sym (mark_encodes m));
       ends = s.ends;
@@ -218,7 +208,7 @@ goes_char page folded blank k before x xs kept c s e f u g = record {
       char_is page folded blank before x xs c (λ d. block_body page folded (line_blank blank before x) x xs d rest) e f u
       ∙ ap (λ t. letter x ∷ t) (ap (λ t. block_body page folded t x xs (moved_by c) rest) (blank_in blank before x e f) ∙ g.text rest);
   whole = ap (λ (t : List ℕ). x ∷ t) g.whole;
-  inside = both_true (not (is_break x) && not (x == 0)) (are_inside g.head) (inside_one x s e) g.inside;
+  inside = and_from (not (is_break x) && not (x == 0)) (are_inside g.head) (inside_one x s e) g.inside;
   sound = g.sound;
   means = append_assoc (encode_utf8 x) (encode_utf8_all g.head) _ ∙ ap (λ (t : List ℕ). encode_utf8 x ++ t) g.means;
   ends = g.ends;
@@ -246,7 +236,7 @@ starts_text page folded any blank more feed empties broken k before x xs kept s 
       whole =
           append_assoc (spaces ++ x ∷ []) g.letters _ ∙ ap (λ (t : List ℕ). (spaces ++ x ∷ []) ++ t) g.whole ∙ append_assoc spaces (x ∷ []) (g.head ++ rest_of)
           ∙ ap (λ (t : List ℕ). spaces ++ t) (sym (append_assoc (x ∷ g.head) (mark_text b g.mark) body)) ∙ sym (append_assoc spaces ((x ∷ g.head) ++ mark_text b g.mark) body);
-      sound = (both_true (not (is_break x) && not (x == 0)) (are_inside g.head) (inside_one x s e) g.inside, g.sound);
+      sound = (and_from (not (is_break x) && not (x == 0)) (are_inside g.head) (inside_one x s e) g.inside, g.sound);
       begins = λ h. refl;
       means =
           waits_text folded any blank more feed empties broken x xs k words (mark_means g.mark) (read_lines g.lines) w e (text_blank x g.head)
@@ -265,10 +255,10 @@ record Cuts (folded blank : Bool) (x : ℕ) (xs : List ℕ) : Type 0 where
 
 cuts_need : (folded blank : Bool) (before x : ℕ) (xs : List ℕ) → cuts_block folded blank before x xs ≡ true → Cuts folded blank x xs
 cuts_need folded blank before x xs e =
-    let a = and_right folded _ e in
-    let b = and_right (x == 32) _ a in
-    let d = and_right (not blank) _ b in
-    record { folds = and_left folded _ e; space = equal_from x 32 (and_left (x == 32) _ a); text = not_true blank (and_left (not blank) _ b); next = not_true (first xs == 32) (and_right (not (is_break before)) _ d) }
+    let a = (and_parts folded _ e).1 in
+    let b = (and_parts (x == 32) _ a).1 in
+    let d = (and_parts (not blank) _ b).1 in
+    record { folds = (and_parts folded _ e).0; space = eqb-true x 32 (and_parts (x == 32) _ a).0; text = not-true blank (and_parts (not blank) _ b).0; next = not-true (first xs == 32) (and_parts (not (is_break before)) _ d).1 }
 
 no_cuts : (a b c d e p : Bool) → b ≡ false → ((a && (b && (c && (d && e)))) && p) ≡ false
 no_cuts false b c d e p h = refl
@@ -282,8 +272,8 @@ cut_means : (folded blank : Bool) (k : ℕ) (words next : List ℕ) (ls : List B
     → behind_text folded (chomp_at k) blank (10 ∷ []) (texts_of (Words words next ∷ ls)).lead (texts_of (Words words next ∷ ls)).lines
     ≡ 32 ∷ (words ++ behind_text folded (chomp_at k) blank next (texts_of ls).lead (texts_of ls).lines)
 unfolding between
-cut_means false blank k words next ls e f g = absurd (never false e refl)
-cut_means true true k words next ls e f g = absurd (never true refl f)
+cut_means false blank k words next ls e f g = absurd (false≢true e)
+cut_means true true k words next ls e f g = absurd (true≢false f)
 cut_means true false k words next ls e f g =
     ap (λ (b : Bool). between true (not false && not b) (10 ∷ []) [] ++ (words ++ behind_text true (chomp_at k) b next (texts_of ls).lead (texts_of ls).lines)) g
 
@@ -331,7 +321,7 @@ goes_cut page folded blank k before x y ys kept c e f s i t p bar same g =
           ∙ ap (λ (u : List ℕ). break_text b ++ (spaces ++ u)) (sym (append_assoc (y ∷ g.head) (mark_text b g.mark) body))
           ∙ ap (λ (u : List ℕ). break_text b ++ u) (sym (append_assoc spaces ((y ∷ g.head) ++ mark_text b g.mark) body));
       inside = refl;
-      sound = (both_true (not (is_break y) && not (y == 0)) (are_inside g.head) (inside_one y s i) g.inside, g.sound);
+      sound = (and_from (not (is_break y) && not (y == 0)) (are_inside g.head) (inside_one y s i) g.inside, g.sound);
       means =
           cut_means folded blank k words (mark_means g.mark) (read_lines g.lines) n.folds n.text (text_blank y g.head ∙ unblank y s n.next)
           ∙ ap (λ (u : List ℕ). 32 ∷ u) (append_assoc (encode_utf8 y) (encode_utf8_all g.head) _ ∙ ap (λ (u : List ℕ). encode_utf8 y ++ u) g.means)
@@ -343,14 +333,14 @@ goes_cut page folded blank k before x y ys kept c e f s i t p bar same g =
 
 adds_waits : (folded blank : Bool) (before : ℕ) (m : LineMark) (xs : List ℕ) → adds_break folded blank before (mark_char m) xs ≡ true → Waits folded true blank true (10 ∷ []) (mark_means m) false xs
 adds_waits folded blank before m xs e =
-    let a = and_right folded _ e in
-    let b = and_right (mark_char m == 10) _ a in
-    let d = and_right (not (is_break before)) _ b in
+    let a = (and_parts folded _ e).1 in
+    let b = (and_parts (mark_char m == 10) _ a).1 in
+    let d = (and_parts (not (is_break before)) _ b).1 in
     record {
-      first = λ t. absurd (never true refl t);
-      folds = λ t. (and_left folded _ e, not_true blank (and_left (not blank) _ d), refl, mark_some m, not_true (is_blank (behind_breaks xs)) (and_right (not blank) _ d));
-      stays = λ t. absurd (never true refl t);
-      alone = λ t u. absurd (never true refl u);
+      first = λ t. absurd (true≢false t);
+      folds = λ t. ((and_parts folded _ e).0, not-true blank (and_parts (not blank) _ d).0, refl, mark_some m, not-true (is_blank (behind_breaks xs)) (and_parts (not blank) _ d).1);
+      stays = λ t. absurd (true≢false t);
+      alone = λ t u. absurd (true≢false u);
     }
 
 stays_by : (f t b p q : Bool) → b ≡ false → (f && (t && (not b && (p && q)))) ≡ false → (f && ((p && q) && t)) ≡ false
@@ -365,13 +355,13 @@ stays_by true false b p q h e = and_none (p && q)
     and_none : (a : Bool) → (a && false) ≡ false
     and_none false = refl
     and_none true = refl
-stays_by true true true p q h e = absurd (never true refl h)
+stays_by true true true p q h e = absurd (true≢false h)
 
 plain_waits : (folded blank : Bool) (before : ℕ) (m : LineMark) (xs : List ℕ) → is_break before ≡ false → adds_break folded blank before (mark_char m) xs ≡ false
     → Waits folded true blank false (mark_means m) [] false xs
 plain_waits folded blank before m xs f e = record {
-  first = λ t. absurd (never true refl t);
-  folds = λ t. absurd (never false t refl);
+  first = λ t. absurd (true≢false t);
+  folds = λ t. absurd (false≢true t);
   stays = λ t u. ap (λ (b : Bool). folded && ((not blank && not (is_blank (behind_breaks xs))) && b)) (mark_feed m)
       ∙ stays_by folded (mark_char m == 10) (is_break before) (not blank) (not (is_blank (behind_breaks xs))) f e;
   alone = λ t u. refl;
@@ -385,7 +375,7 @@ chomp_to broken last b x xs k e h = e ∙ ap (λ (t : Bool). read_chomp (chomp l
 
 no_last : (before x : ℕ) → x ≡ 32 → (last_or before (x ∷ []) == 32) ≡ false → ⊥
 unfolding last_or
-no_last before x e h = never (x == 32) (ap (λ (y : ℕ). y == 32) e) h
+no_last before x e h = true≢false (sym (ap (λ (y : ℕ). y == 32) e) ∙ h)
 
 last_next : (before x : ℕ) (xs : List ℕ) → (last_or before (x ∷ xs) == 32) ≡ false → (last_or x xs == 32) ≡ false
 unfolding last_or
@@ -427,16 +417,16 @@ mutual
       (λ more feed empties w. starts page folded true blank more feed empties false k x [] kept (chomp_to broken false true x [] k e h) h g (last_next before x [] l) w))
       (λ h. goes_char page folded blank k before x [] kept c s h f
       (bool_cases (cuts_block folded blank before x [] && is_past page.width c)
-      (λ t. absurd (no_last before x (cuts_need folded blank before x [] (and_left (cuts_block folded blank before x []) (is_past page.width c) t)).space l)) (λ t. t))
+      (λ t. absurd (no_last before x (cuts_need folded blank before x [] (and_parts (cuts_block folded blank before x []) (is_past page.width c) t).0).space l)) (λ t. t))
       (goes page folded blank false k x [] kept (moved_by c) (chomp_to broken false false x [] k e h) h g (last_next before x [] l) refl same))
   goes page folded blank broken k before (x ∷ y ∷ ys) kept c e f (s, n, (t, o, g)) l bar same =
       bool_cases (is_break x)
       (λ h. goes_break page folded blank k before x (y ∷ ys) kept c s h f same
       (λ more feed empties w. starts page folded true blank more feed empties false k x (y ∷ ys) kept (chomp_to broken false true x (y ∷ ys) k e h) h (t, o, g) (last_next before x (y ∷ ys) l) w))
       (λ h. bool_cases (cuts_block folded blank before x (y ∷ ys) && is_past page.width c)
-      (λ u. let cuts = and_left (cuts_block folded blank before x (y ∷ ys)) (is_past page.width c) u in
+      (λ u. let cuts = (and_parts (cuts_block folded blank before x (y ∷ ys)) (is_past page.width c) u).0 in
       let i = unbroken x y (cuts_need folded blank before x (y ∷ ys) cuts).space n in
-      goes_cut page folded blank k before x y ys kept c h f t i cuts (and_right (cuts_block folded blank before x (y ∷ ys)) (is_past page.width c) u) bar same
+      goes_cut page folded blank k before x y ys kept c h f t i cuts (and_parts (cuts_block folded blank before x (y ∷ ys)) (is_past page.width c) u).1 bar same
       (goes page folded blank false k y ys kept (moved_by (behind_cut page kept)) (chomp_to false false false y ys k (chomp_to broken false false x (y ∷ ys) k e h) i) i g
       (last_next x y ys (last_next before x (y ∷ ys) l)) refl (blanks_kept page.indentation (start_at kept))))
       (λ u. goes_char page folded blank k before x (y ∷ ys) kept c s h f u

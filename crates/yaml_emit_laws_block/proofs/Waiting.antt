@@ -1,6 +1,7 @@
 -- What a reader owes at the start of a line, where the emitter has written breaks and no text yet.
 use Rattle.std.proofs.Common.{◌≡◌, ℕ, ◌<◌, Bool, true, false, not, ◌&&◌, List, [], ◌∷◌, ◌++◌, length, refl, sym, ap, ◌∙◌, arith, append-nil, append_assoc}
 use Rattle.std.specs.Prelude.{if◌then◌else◌}
+use Rattle.std.proofs.lemmas.Bool.{true≢false}
 use Rattle.yaml_scan_history.specs.scan_model.Breaks.{is_feed}
 use Rattle.yaml_scan_block.specs.Header.{chomp_of as chomp_at}
 use Rattle.yaml_scan_block.specs.Value.{BlockLine, Words, texts_of, starts_blank, space_or, between, behind_text, value_with}
@@ -36,9 +37,6 @@ stacked_so folded any blank feed empties k ls = stacked_with folded [] any blank
 
 -- ---- the end
 
-never : (b : Bool) → b ≡ true → b ≡ false → ⊥
-never b e f = cc (sym e ∙ f)
-
 end_stays : (folded any blank : Bool) (feed empties : List ℕ) (broken : Bool) → Waits folded any blank false feed empties broken []
     → stacked_so folded any blank feed empties (read_chomp (chomp_of broken true)) [] ≡ feed ++ empties
 unfolding stacked_with chomp_at
@@ -50,7 +48,7 @@ end_stays folded true blank feed empties false w = sym (append-nil feed) ∙ ap 
 
 no_end : (folded any blank : Bool) (feed empties : List ℕ) (broken : Bool) → Waits folded any blank true feed empties broken [] → ⊥
 unfolding behind_breaks
-no_end folded any blank feed empties broken w = let (a, b, c, d, e) = w.folds refl in never (is_blank 32) refl e
+no_end folded any blank feed empties broken w = let (a, b, c, d, e) = w.folds refl in true≢false e
 
 pub waits_end : (folded any blank more : Bool) (feed empties : List ℕ) (broken : Bool) → Waits folded any blank more feed empties broken []
     → stacked_so folded any blank feed empties (read_chomp (chomp_of broken true)) [] ≡ owed more feed empties
@@ -90,7 +88,7 @@ text_is folded false blank feed empties k words next ls after e =
 
 text_owed : (folded any blank more after : Bool) (feed empties words behind : List ℕ) (broken : Bool) (value : List ℕ) → Waits folded any blank more feed empties broken value → is_blank (behind_breaks value) ≡ after
     → from_text folded any blank after feed empties words behind ≡ owed more feed empties ++ (words ++ behind)
-text_owed folded false blank true after feed empties words behind broken value w e = let (none, b, n) = w.first refl in absurd (never true refl n)
+text_owed folded false blank true after feed empties words behind broken value w e = let (none, b, n) = w.first refl in absurd (true≢false n)
 text_owed folded false blank false after feed empties words behind broken value w e =
     let (none, b, n) = w.first refl in
     ap (λ (t : List ℕ). t ++ (words ++ behind)) (append-nil empties ∙ ap (λ (f : List ℕ). f ++ empties) (sym none))
@@ -126,7 +124,7 @@ waits_break folded any blank more feed empties e broken x xs h w =
       first = λ a. let (n, b, m) = w.first a in (n, refl, m);
       folds = λ m. let (a, b, c, d, f) = w.folds m in (a, b, c, longer empties e d, ap (λ (y : ℕ). is_blank y) (sym same) ∙ f);
       stays = λ m a. ap (λ (y : ℕ). folded && ((not blank && not (is_blank y)) && is_feed feed)) (sym same) ∙ w.stays m a;
-      alone = λ b m. absurd (never true refl b);
+      alone = λ b m. absurd (true≢false b);
     }
 
 owed_break : (more : Bool) (feed empties e : List ℕ) → owed more feed (empties ++ e) ≡ owed more feed empties ++ e

@@ -5,6 +5,7 @@ use Rattle.std.specs.Str.{chars}
 use Rattle.std.proofs.lemmas.Bool.Decides.{nat_tests}
 use Rattle.std.proofs.lemmas.List.{length-append}
 use Rattle.std.proofs.lemmas.Str.{encode_ascii, encodes-append, encodes-chars}
+use Rattle.std.proofs.lemmas.Bool.{false≢true, true≢false, not-true, or_parts, eqb-false}
 use Rattle.yaml_scan_history.specs.scan_model.Marks.{byte, break_width, column_at, is_blank}
 use Rattle.yaml_scan_history.specs.scan_model.Wrong.{Wrong}
 use Rattle.yaml_scan_history.specs.scan_words.Written.{HasAt}
@@ -31,7 +32,6 @@ use Rattle.yaml_emit_laws_text.specs.emit_text.Scalars.{digit_char, chomp_mark, 
 use Rattle.yaml_emit_laws_text.specs.emit_text.Spelling.{in_front, break_text}
 use Rattle.yaml_emit_laws_text.proofs.Values.{cond_true}
 use Rattle.yaml_emit_laws_text.proofs.Back.{front_append, moved_by}
-use Rattle.yaml_emit_laws_text.proofs.Bytes.{not_true, or_left, or_right, apart}
 use Rattle.yaml_emit_laws_block.specs.Lines.{own, mark_bytes, BodyLine, bare, full, body_text, body_bytes, read_lines, AreInside, closing, StandsLeft}
 use Rattle.yaml_emit_laws_block.specs.Laws.{from_indicator, is_keep, kind_of, read_style, BlockStands, BlockIsReadBack, BlockIsLaidOut}
 use Rattle.yaml_emit_laws_block.proofs.Marks.{text_encodes, text_blank}
@@ -52,8 +52,8 @@ all_good : (unicode : Bool) (before : ℕ) (xs : List ℕ) → somewhere (is_spe
 unfolding somewhere
 all_good unicode before [] e = tt
 all_good unicode before (x ∷ xs) e =
-    let here : is_special unicode before x (first xs) ≡ false = or_left _ _ e in
-    (special_left (is_printable x) _ (or_left _ (x == 32 && is_break (first xs)) here), or_right _ (x == 32 && is_break (first xs)) here, all_good unicode x xs (or_right (is_special unicode before x (first xs)) _ e))
+    let here : is_special unicode before x (first xs) ≡ false = (or_parts _ _ e).0 in
+    (special_left (is_printable x) _ (or_parts _ (x == 32 && is_break (first xs)) here).0, (or_parts _ (x == 32 && is_break (first xs)) here).1, all_good unicode x xs (or_parts (is_special unicode before x (first xs)) _ e).1)
 
 -- its first character and others
 record Allows (cs : List ℕ) : Type 0 where
@@ -67,18 +67,15 @@ allows : (unicode : Bool) (cs : List ℕ) → (allowed unicode cs).block ≡ tru
 unfolding allowed last_or
 allows unicode [] e = absurd (cc)
 allows unicode (x ∷ xs) e =
-    let none = not_true _ e in
-    record { first = x; others = xs; is = refl; good = all_good unicode 32 (x ∷ xs) (or_left _ (ends_in_space (x ∷ xs)) none); last = or_right (somewhere (is_special unicode) 32 (x ∷ xs)) _ none }
-
-never : (b : Bool) → b ≡ true → b ≡ false → ⊥
-never b e f = cc (sym e ∙ f)
+    let none = not-true _ e in
+    record { first = x; others = xs; is = refl; good = all_good unicode 32 (x ∷ xs) (or_parts _ (ends_in_space (x ∷ xs)) none).0; last = (or_parts (somewhere (is_special unicode) 32 (x ∷ xs)) _ none).1 }
 
 nothing_waits : (folded : Bool) (cs : List ℕ) → Waits folded false true false [] [] true cs
 nothing_waits folded cs = record {
   first = λ a. (refl, refl, refl);
-  folds = λ t. absurd (never false t refl);
-  stays = λ m a. absurd (never false a refl);
-  alone = λ b m. absurd (never true refl b);
+  folds = λ t. absurd (false≢true t);
+  stays = λ m a. absurd (false≢true a);
+  alone = λ b m. absurd (true≢false b);
 }
 
 -- ---- the header is written
@@ -167,7 +164,7 @@ blank_here text q [] l h = absurd (omega (arith, l))
 blank_here text q (b ∷ bs) l (e, h) = ap (λ x. is_blank x) e
 
 no_blank : (b : ℕ) → (b == 32 || b == 9) ≡ false → (b ≢ 32) × (b ≢ 9)
-no_blank b e = (apart b 32 (or_left (b == 32) (b == 9) e), apart b 9 (or_right (b == 32) (b == 9) e))
+no_blank b e = (eqb-false b 32 (or_parts (b == 32) (b == 9) e).0, eqb-false b 9 (or_parts (b == 32) (b == 9) e).1)
 
 text_here : (text : List ℕ) (q : ℕ) (bs : List ℕ) → 0 < length bs → AllText text q bs → break_width text q ≡ 0
 text_here text q [] l h = absurd (omega (arith, l))
@@ -197,7 +194,7 @@ column_is b true level n digit cs ls text p a s some e c f i h = column_by_digit
 column_is b false level n digit [] ls text p a s some e c f i h = let bad = a.is in absurd (cc)
 column_is b false level n digit (x ∷ xs) ls text p a s some e c f i h =
     let (good, part, more) = a.good in
-    column_first b level n x ls text p (omega (arith, e, some)) (omega (arith, e, some)) c (f (or_right (x == 32) (is_break x) s)) (unblank x good (or_left (x == 32) (is_break x) s)) i h
+    column_first b level n x ls text p (omega (arith, e, some)) (omega (arith, e, some)) c (f (or_parts (x == 32) (is_break x) s).1) (unblank x good (or_parts (x == 32) (is_break x) s).0) i h
 
 -- ---- kind and word
 

@@ -23,10 +23,6 @@ pub or_assoc : (a b c : Bool) → (a || (b || c)) ≡ ((a || b) || c)
 or_assoc true b c = refl
 or_assoc false b c = refl
 
-pub or_false : (a : Bool) → (a || false) ≡ a
-or_false true = refl
-or_false false = refl
-
 pub both : (d e : Bool) (a b : Layout) → Marks d a → Marks e b → Marks (d || e) (a ▹ b)
 both d e a b x y m rest h c = x (e || m) (λ k. b k rest) (λ k. y m rest h k) c ∙ or_assoc d e m
 

@@ -1,6 +1,6 @@
 -- Layouts of at most so many bytes, whatever follows.
 use Rattle.std.proofs.Common.{◌≡◌, ℕ, zero, suc, ◌+◌, ◌-◌, ◌*◌, ◌<◌, ◌≤◌, Bool, true, false, ◌&&◌, nat_lt, List, [], ◌∷◌, length, refl, arith, length-append, inl, inr, le_refl, mul-suc, mul-le-mul_left, sub-le}
-use Rattle.std.proofs.lemmas.Bool.{cases_Bool, ltb-true, lt-ltb}
+use Rattle.std.proofs.lemmas.Bool.{cases_Bool, ltb-true, lt-ltb, and_parts}
 use Rattle.yaml_emit_layout.specs.emit_text.declared.Cursor.{Cursor}
 use Rattle.yaml_emit_layout.specs.emit_text.declared.Encoding.{Encoding}
 use Rattle.yaml_emit_layout.specs.emit_text.declared.Encoding.TheVariants.{Utf8, Utf16Le, Utf16Be}
@@ -75,19 +75,11 @@ abbrev pub all_ascii : List ℕ → Bool
 all_ascii [] = true
 all_ascii (i ∷ t) = nat_lt i 128 && all_ascii t
 
-both_are : (a b : Bool) → (a && b) ≡ true → (a ≡ true) × (b ≡ true)
-both_are true true e = (refl, refl)
-both_are true false e = (refl, e)
-both_are false b e = (e, absurd_of e)
-  where
-    absurd_of : false ≡ true → b ≡ true
-    absurd_of w = cc
-
 pub ascii_bytes : (x : Encoding) (t : List ℕ) → all_ascii t ≡ true → text_bytes x t ≤ unit x * length t
 unfolding text_bytes
 ascii_bytes x [] e = omega arith
 ascii_bytes x (i ∷ t) e =
-    let s = both_are (nat_lt i 128) (all_ascii t) e in
+    let s = and_parts (nat_lt i 128) (all_ascii t) e in
     let j : length (char_bytes x i) ≤ unit x = unit_size x i s.0 in
     let k : text_bytes x t ≤ unit x * length t = ascii_bytes x t s.1 in
     omega (arith, mul-suc (unit x) (length t))

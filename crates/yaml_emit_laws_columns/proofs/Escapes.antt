@@ -1,6 +1,6 @@
 -- How long an escape is.
 use Rattle.std.proofs.Common.{◌≡◌, ℕ, ◌+◌, ◌*◌, ◌/◌, ◌%◌, ◌<◌, ◌≤◌, Bool, true, false, ◌&&◌, ◌==◌, nat_lt, if◌then◌else◌, List, [], ◌∷◌, ◌++◌, length, refl, arith, inl, inr, le_refl, mul-le-mul_left}
-use Rattle.std.proofs.lemmas.Bool.{cases_Bool, ltb-true, lt-ltb}
+use Rattle.std.proofs.lemmas.Bool.{cases_Bool, ltb-true, lt-ltb, and_from}
 use Rattle.yaml_emit_layout.specs.emit_text.declared.Encoding.{Encoding}
 use Rattle.yaml_emit_layout.specs.emit_text.declared.Encoding.TheVariants.{Utf8, Utf16Le, Utf16Be}
 use Rattle.yaml_emit_layout.specs.emit_text.Text.{char_bytes}
@@ -47,12 +47,9 @@ letter_small c =
     (small_if (c == 0x0C) _ _ refl (small_if (c == 0x0D) _ _ refl (small_if (c == 0x1B) _ _ refl (small_if (c == 34) _ _ refl (small_if (c == 92) _ _ refl (small_if (c == 0x85) _ _ refl
     (small_if (c == 0xA0) _ _ refl (small_if (c == 0x2028) _ _ refl (small_if (c == 0x2029) _ _ refl refl))))))))))))))
 
-both_true : (a b : Bool) → a ≡ true → b ≡ true → (a && b) ≡ true
-both_true a b e f = rw e f
-
 all_append : (xs ys : List ℕ) → all_ascii xs ≡ true → all_ascii ys ≡ true → all_ascii (xs ++ ys) ≡ true
 all_append [] ys e f = f
-all_append (x ∷ xs) ys e f = let s = parts (nat_lt x 128) (all_ascii xs) e in both_true (nat_lt x 128) (all_ascii (xs ++ ys)) s.0 (all_append xs ys s.1 f)
+all_append (x ∷ xs) ys e f = let s = parts (nat_lt x 128) (all_ascii xs) e in and_from (nat_lt x 128) (all_ascii (xs ++ ys)) s.0 (all_append xs ys s.1 f)
   where
     parts : (a b : Bool) → (a && b) ≡ true → (a ≡ true) × (b ≡ true)
     parts true b e = (refl, e)
@@ -66,7 +63,7 @@ pub two_small : (n : ℕ) → n < 256 → all_ascii (hex_2 n) ≡ true
 two_small n w =
     let h : n / 16 < 16 = omega arith in
     let l : n % 16 < 16 = omega arith in
-    both_true (nat_lt (hex_digit (n / 16)) 128) (nat_lt (hex_digit (n % 16)) 128 && true) (digit_small (n / 16) h) (both_true (nat_lt (hex_digit (n % 16)) 128) true (digit_small (n % 16) l) refl)
+    and_from (nat_lt (hex_digit (n / 16)) 128) (nat_lt (hex_digit (n % 16)) 128 && true) (digit_small (n / 16) h) (and_from (nat_lt (hex_digit (n % 16)) 128) true (digit_small (n % 16) l) refl)
 
 four_small : (n : ℕ) → n < 65536 → all_ascii (hex_4 n) ≡ true
 four_small n w =
@@ -99,7 +96,7 @@ escape_most : (x : Encoding) (c : ℕ) → c < 0x1_0000_0000 → text_bytes x (e
 unfolding escape_text
 escape_most x c w =
     elim (cases_Bool (escape_letter c == 0)) [
-      | inr e ↦ rw e (four_most x (text_bytes x (92 ∷ escape_letter c ∷ [])) c (let k = ascii_bytes x (92 ∷ escape_letter c ∷ []) (both_true (nat_lt (escape_letter c) 128) true (letter_small c) refl) in omega (arith, k)))
+      | inr e ↦ rw e (four_most x (text_bytes x (92 ∷ escape_letter c ∷ [])) c (let k = ascii_bytes x (92 ∷ escape_letter c ∷ []) (and_from (nat_lt (escape_letter c) 128) true (letter_small c) refl) in omega (arith, k)))
       | inl e ↦ rw e (elim (cases_Bool (nat_lt c 0x100)) [
         | inl f ↦ rw f (ascii_bytes x (92 ∷ 120 ∷ hex_2 c) (two_small c (ltb-true c 0x100 f)))
         | inr f ↦ rw f (elim (cases_Bool (nat_lt c 0x1_0000)) [

@@ -1,6 +1,6 @@
 -- Pretty text has no more bytes than its nodes, lines and texts tell either.
 use Rattle.std.proofs.Common.{◌≡◌, ℕ, ◌+◌, ◌*◌, ◌<◌, ◌≤◌, Bool, true, false, true≢false, not, ◌&&◌, ◌||◌, ◌==◌, nat_lt, nat_le, if◌then◌else◌, List, [], ◌∷◌, length, Option, Some, None, refl, sym, subst, ap, arith, inl, inr, le_refl, mul-le-mul_left, mul-le-mul_right, ◌∙◌}
-use Rattle.std.proofs.lemmas.Bool.{cases_Bool, lt-ltb, leb-true, leb-false, ltb-true}
+use Rattle.std.proofs.lemmas.Bool.{cases_Bool, lt-ltb, leb-true, leb-false, ltb-true, and_parts}
 use Rattle.std.specs.Str.{chars}
 use Rattle.yaml_emit_layout.specs.scan_model.declared.yaml_scalar_style_t.{yaml_scalar_style_t}
 use Rattle.yaml_emit_layout.specs.scan_model.declared.yaml_scalar_style_t.TheVariants as asked
@@ -115,10 +115,6 @@ run_most s b false x f =
 first_of : (a b : Bool) → (a && b) ≡ true → a ≡ true
 first_of true b e = refl
 first_of false b e = cc
-
-second_of : (a b : Bool) → (a && b) ≡ true → b ≡ true
-second_of true b e = e
-second_of false b e = cc
 
 line_at_most : (s : Settings) (n : ℕ) → Takes s (ascii s (n + 2)) (line s.line_break n)
 line_at_most s n = line_most s.encoding s.line_break n
@@ -241,7 +237,7 @@ block_most s at folded blank before (x ∷ xs) =
     let adds = adds_break folded blank before x xs in
     elim (cases_Bool (is_break x)) [
       | inl e ↦ rw e (joined s.encoding (ascii s 4) k (bodied s n (x ∷ xs)) (when adds (new_line s.line_break) ▹ value_break s.line_break x) (block_body page folded blank x xs)
-          (run_most s s.line_break adds x (λ a. first_of (x == 10) _ (second_of folded _ a))) (block_most s at folded blank x xs) (omega arith))
+          (run_most s s.line_break adds x (λ a. first_of (x == 10) _ (and_parts folded _ a).1)) (block_most s at folded blank x xs) (omega arith))
       | inr e ↦ rw e (joined s.encoding (ascii s (n + 6)) k (bodied s n (x ∷ xs)) (when (is_break before) (line s.line_break n) ▹ block_text page (cuts_block folded blank before x xs) x)
           (block_body page folded (if is_break before then _ else blank) x xs)
           (spoken_most s at folded blank before x xs) (block_most s at folded _ x xs) (omega arith))

@@ -1,6 +1,7 @@
 -- Where canonical layout marks an indentation as too deep.
 use Rattle.std.proofs.Common.{◌≡◌, ℕ, ◌+◌, ◌-◌, Bool, true, false, not, ◌||◌, ◌&&◌, nat_lt, List, [], ◌∷◌, Option, Some, None, refl, ap, ◌∙◌, codes}
 use Rattle.std.specs.Str.{chars}
+use Rattle.std.proofs.Math.Bool.{or-false}
 use Rattle.yaml_emit_layout.specs.scan_model.declared.yaml_version_directive_t.{yaml_version_directive_t}
 use Rattle.yaml_emit_layout.specs.parse_model.Events.{TagDirective}
 use Rattle.yaml_emit_layout.specs.emit_text.declared.Settings.{Settings}
@@ -15,7 +16,7 @@ use Rattle.yaml_emit_layout.specs.declared.level.Spot.{Spot}
 use Rattle.yaml_emit_layout.specs.Content.{Scalar, Node, alias_node, scalar_node, sequence_node, mapping_node, Nodes, no_nodes, node, Pairs, no_pairs, pair, Opening, Document}
 use Rattle.yaml_emit_layout.specs.Grammar.{has, scalar_tag, start_tag}
 use Rattle.yaml_emit_layout.specs.Nodes.{Context, context_of, root_spot, spot, is_simple_part, MOST, deeper, checked, line_at, anchor_text, tag_text, properties_text, mark_text, style_of, page_at, scalar_layout, alias_layout, comma, turned, before_item, question, before_key, before_value, closer, key_part, is_simple, node_layout, items_layout, pairs_layout, dots, version_word, version_text, directive_text, directives_text, is_directed, dashes, is_marked, start_layout, end_layout, is_kept, stop_layout, documents_layout, stream_layout}
-use Rattle.yaml_emit_laws_columns.proofs.Calm.{Marks, Calm, both, calms, calm_then, then_calm, stay_calm, when_calm, choose_calm, char_calm, keep_calm, mark_calm, word_calm, opener_calm, line_calm, quoted_calm, checked_marks, or_false}
+use Rattle.yaml_emit_laws_columns.proofs.Calm.{Marks, Calm, both, calms, calm_then, then_calm, stay_calm, when_calm, choose_calm, char_calm, keep_calm, mark_calm, word_calm, opener_calm, line_calm, quoted_calm, checked_marks}
 
 -- ---- what is marked, by the indentation of a node
 
@@ -224,4 +225,4 @@ form_is s e = ap (λ (c : Bool). record s { canonical = c }) e
 pub written_marks : (s : Settings) (ds : List Document) → s.canonical ≡ true → is_deep (written (stream_layout s ds)) ≡ documents_marks s.indent ds
 unfolding is_deep
 written_marks s ds e =
-    ap (λ (z : Settings). is_deep (written (stream_layout z ds))) (form_is s e) ∙ stream_marks s ds false nothing_more (λ c. refl) start ∙ or_false (documents_marks s.indent ds)
+    ap (λ (z : Settings). is_deep (written (stream_layout z ds))) (form_is s e) ∙ stream_marks s ds false nothing_more (λ c. refl) start ∙ or-false (documents_marks s.indent ds)

@@ -35,9 +35,6 @@ TellsTexts false a b = a ≡ b → ⊥
 same_name : (a : List ℕ) → is_same a a ≡ true
 same_name a = sym (texts_ties a a) ∙ (bytes_decides a a).1 refl
 
-true_false : true ≡ false → ⊥
-true_false e = cc
-
 other_name : (a b : List ℕ) → (a ≡ b → ⊥) → is_same a b ≡ false
 other_name a b h =
     elim (cases_Bool (is_same a b)) [

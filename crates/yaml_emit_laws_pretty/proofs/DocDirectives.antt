@@ -3,7 +3,7 @@ use Rattle.std.proofs.Common.{◌≡◌, ◌⊎◌, ℕ, ◌+◌, ◌<◌, ◌==
 use Rattle.std.specs.Prelude.{ℤ, pos, codes, if◌then◌else◌}
 use Rattle.std.specs.Ordering.{int_eq}
 use Rattle.std.specs.Cmp.{signed_Decides}
-use Rattle.std.proofs.lemmas.Bool.{cases_Bool}
+use Rattle.std.proofs.lemmas.Bool.{cases_Bool, lt-ltb, and_parts}
 use Rattle.std.proofs.lemmas.Bool.Decides.{nat_tests}
 use Rattle.yaml_emit_laws_text.specs.emit_layout.scan_model.declared.yaml_encoding_t.{yaml_encoding_t}
 use Rattle.yaml_emit_laws_text.specs.scan_history.scan_model.Marks.{byte, break_of, break_width, column_at}
@@ -35,7 +35,6 @@ use Rattle.yaml_emit_laws_text.specs.Writable.{IsWritableOpening}
 use Rattle.yaml_emit_laws_text.specs.Walk.{Left, bytes, first}
 use Rattle.yaml_emit_laws_text.proofs.Places.{has_front, has_at, left_first, left_more, left_rest}
 use Rattle.yaml_emit_laws_text.proofs.Steps.{left_letter, behind_feed, behind_return}
-use Rattle.yaml_emit_laws_text.proofs.Words.{and_left, and_right}
 use Rattle.yaml_scan_laws_levels.specs.White.{IsGap}
 use Rattle.yaml_scan_laws_levels.specs.Steps.{Comes}
 use Rattle.yaml_scan_laws_levels.specs.Walks.{behind}
@@ -128,9 +127,6 @@ line_broken b text c q rest e next l =
 abbrev pub WalksOver : Layout → (List TokenBody → List TokenBody) → Rest → Type 0
 WalksOver a B rest = (x : yaml_encoding_t) (text : List ℕ) (T : List TokenBody → List TokenBody) → OnLine x text (λ e. a e rest) false T → OnLine x text rest false (λ bs. T (B bs))
 
-broken_is : (n : ℕ) → 0 < n → nat_lt 0 n ≡ true
-broken_is n e = grind (arith, nat_tests)
-
 line_walks : (a : Layout) (b : LineBreak) (xs : List ℕ) (said : Said) → WritesLine a b xs false → ReadsLine xs said → (rest : Rest) → IsNext (first (bytes (rest (line_start false)))) → WalksOver a (λ bs. body_said said ∷ bs) rest
 line_walks a b xs said w reads rest next x text T s =
     let o = s.place in
@@ -142,7 +138,7 @@ line_walks a b xs said w reads rest next x text T s =
     let l : Left text q tail = left_rest text p (37 ∷ xs) tail m in
     let there = subst (λ (k : Bool). IsNext (first (bytes (rest (line_start k))))) (sym w.still) next in
     let broken = line_broken b text w.behind q rest w.bare there l in
-    let is : is_break text q ≡ true = broken_is (break_width text q) (subst (λ n. 0 < n) (sym broken.width) broken.some) in
+    let is : is_break text q ≡ true = lt-ltb 0 (break_width text q) (subst (λ n. 0 < n) (sym broken.width) broken.some) in
     let place = q + break_width text q in
     let read = reads text p (has_front text p (37 ∷ xs) tail m.has) is in
     let here : WordText = record { body = body_said said; end = q; reached = place; broke = false } in
@@ -195,8 +191,8 @@ version_walks : VersionReads → (s : Settings) (version : Option yaml_version_d
 version_walks versions s None right rest next = nothing_walks rest
 version_walks versions s (Some v) right rest next =
     let is = none_true (is_version v) _ right in
-    let major = (signed_Decides v.major (pos 1)).0 (and_left (int_eq v.major (pos 1)) (int_eq v.minor (pos 1) || int_eq v.minor (pos 2)) is) in
-    let either = and_right (int_eq v.major (pos 1)) (int_eq v.minor (pos 1) || int_eq v.minor (pos 2)) is in
+    let major = (signed_Decides v.major (pos 1)).0 (and_parts (int_eq v.major (pos 1)) (int_eq v.minor (pos 1) || int_eq v.minor (pos 2)) is).0 in
+    let either = (and_parts (int_eq v.major (pos 1)) (int_eq v.minor (pos 1) || int_eq v.minor (pos 2)) is).1 in
     elim (cases_Bool (int_eq v.minor (pos 1))) [
       | inl e ↦ version_so versions s.line_break v 1 (omega arith) refl major ((signed_Decides v.minor (pos 1)).0 e) (ap (λ (t : Bool). if t then codes "1.1" else codes "1.2") e) rest next
       | inr e ↦

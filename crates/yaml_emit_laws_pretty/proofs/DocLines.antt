@@ -1,5 +1,6 @@
 -- Document marks.
 use Rattle.std.proofs.Common.{◌≡◌, ℕ, ◌+◌, ◌&&◌, not, nat_lt, Bool, true, false, List, [], ◌∷◌, refl, sym, ap, subst, ◌∙◌, arith}
+use Rattle.std.proofs.lemmas.Bool.{false≢true}
 use Rattle.yaml_emit_laws_text.specs.emit_layout.scan_model.declared.yaml_encoding_t.{yaml_encoding_t}
 use Rattle.yaml_emit_laws_text.specs.emit_layout.scan_model.Tokens as tokens
 use Rattle.yaml_emit_laws_text.specs.emit_layout.scan_model.Tokens.{TokenBody}
@@ -22,9 +23,6 @@ use Rattle.yaml_scan_laws_levels.proofs.Walking.{walk_outer}
 use Rattle.yaml_emit_laws_pretty.specs.Walk.{Stage, NoFeed}
 use Rattle.yaml_emit_laws_pretty.proofs.Entries.{no_gap}
 use Rattle.yaml_emit_laws_pretty.proofs.DocStarts.{line_start, AtLine, OnLine, on_from, line_lands}
-
-never : false ≡ true → ⊥
-never e = cc
 
 -- what is left of the text behind three equal signs at the start of a line
 record Threes (text : List ℕ) (p x : ℕ) (kept : Bool) (rest : Rest) : Type 0 where
@@ -70,7 +68,7 @@ three_walks s k body t outer x text rest kept T alone h =
     let r = walk_outer x text o h.more T k [] w (p + 3) (allows_key k true false) true h.reads h.flat comes outer (words_leave.all text 0 (allows_key k true false) w refl) in
     record {
       place = behind text (p + 0) (p + 3) 0 (allows_key k true false) true;
-      stage = record { reads = r; flat = refl; broken = refl; bare = λ b. absurd (never b); line = line_at-grows text (p + 0) (p + 3) (omega arith) };
+      stage = record { reads = r; flat = refl; broken = refl; bare = λ b. absurd (false≢true b); line = line_at-grows text (p + 0) (p + 3) (omega arith) };
       left = m.left;
     }
 

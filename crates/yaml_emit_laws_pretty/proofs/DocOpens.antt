@@ -1,6 +1,6 @@
 -- What opens a document is walked.
 use Rattle.std.proofs.Common.{◌≡◌, ℕ, ◌&&◌, not, Bool, true, false, List, [], ◌∷◌, Option, Some, None, refl, sym, ap, subst, ◌∙◌, inl, inr}
-use Rattle.std.proofs.lemmas.Bool.{cases_Bool}
+use Rattle.std.proofs.lemmas.Bool.{cases_Bool, true≢false}
 use Rattle.yaml_emit_laws_text.specs.emit_layout.scan_model.declared.yaml_encoding_t.{yaml_encoding_t}
 use Rattle.yaml_emit_laws_text.specs.emit_layout.scan_model.declared.yaml_version_directive_t.{yaml_version_directive_t}
 use Rattle.yaml_emit_laws_text.specs.emit_layout.scan_model.Tokens as tokens
@@ -82,21 +82,18 @@ marked_opens laws s o right dotted x text rest kept T a white =
 
 -- ---- without
 
-never : true ≡ false → ⊥
-never e = cc
-
 -- the first document alone, without directives
 plain_opens : (s : Settings) (fresh : Bool) (version : Option yaml_version_directive_t) (directives : List TagDirective) (implicit : Bool) → is_marked (pretty s) fresh (record { version = version; directives = directives; implicit = implicit }) ≡ false
     → (x : yaml_encoding_t) (text : List ℕ) (rest : Rest) (kept : Bool) (T : List TokenBody → List TokenBody) (place : Where)
     → Stage x text (line_start kept) place [] [] T → Left text place.at (bytes (start_layout (pretty s) fresh false (record { version = version; directives = directives; implicit = implicit }) (line_start kept) rest))
     → Opens x text rest (λ bs. T (opening_bodies (pretty s) fresh (record { version = version; directives = directives; implicit = implicit }) bs))
 unfolding start_layout directives_text directives_bodies
-plain_opens s false version directives implicit e x text rest kept T place st l = absurd (never e)
-plain_opens s true (Some v) directives true e x text rest kept T place st l = absurd (never e)
-plain_opens s true (Some v) directives false e x text rest kept T place st l = absurd (never e)
-plain_opens s true None (d ∷ ds) true e x text rest kept T place st l = absurd (never e)
-plain_opens s true None (d ∷ ds) false e x text rest kept T place st l = absurd (never e)
-plain_opens s true None [] false e x text rest kept T place st l = absurd (never e)
+plain_opens s false version directives implicit e x text rest kept T place st l = absurd (true≢false e)
+plain_opens s true (Some v) directives true e x text rest kept T place st l = absurd (true≢false e)
+plain_opens s true (Some v) directives false e x text rest kept T place st l = absurd (true≢false e)
+plain_opens s true None (d ∷ ds) true e x text rest kept T place st l = absurd (true≢false e)
+plain_opens s true None (d ∷ ds) false e x text rest kept T place st l = absurd (true≢false e)
+plain_opens s true None [] false e x text rest kept T place st l = absurd (true≢false e)
 plain_opens s true None [] true e x text rest kept T place st l = record {
   cursor = line_start false;
   kept = refl;
@@ -114,7 +111,7 @@ pub record Fresh (more : List ℕ) (unended : Bool) : Type 0 where
 
 unmarked_fresh : (s : Settings) (fresh : Bool) (o : Opening) → is_marked (pretty s) fresh o ≡ false → fresh ≡ true
 unmarked_fresh s true o e = refl
-unmarked_fresh s false o e = absurd (never e)
+unmarked_fresh s false o e = absurd (true≢false e)
 
 pub opening_walks : Directing → (s : Settings) (o : Opening) → IsWritableOpening o → (fresh unended : Bool) (x : yaml_encoding_t) (text : List ℕ) (rest : Rest) (kept : Bool) (T : List TokenBody → List TokenBody) (place : Where) (more : List ℕ)
     → (fresh ≡ true → Fresh more unended) → Stage x text (line_start kept) place [] more T → Left text place.at (bytes (start_layout (pretty s) fresh unended o (line_start kept) rest)) → begins_white (bytes (rest (behind_three false))) ≡ true

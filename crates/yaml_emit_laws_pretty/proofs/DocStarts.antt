@@ -1,7 +1,7 @@
 -- The start of a line outside of all levels, and what may stand there behind a root.
 use Rattle.std.proofs.Common.{◌≡◌, ◌⊎◌, ℕ, ◌==◌, ◌&&◌, ◌||◌, Bool, true, false, List, [], ◌∷◌, ◌++◌, Some, None, refl, sym, ap, subst, ◌∙◌, inl, inr, arith}
 use Rattle.std.specs.Prelude.{if◌then◌else◌}
-use Rattle.std.proofs.lemmas.Bool.Decides.{nat_tests}
+use Rattle.std.proofs.lemmas.Bool.{false≢true, eqb-true, and_parts}
 use Rattle.yaml_emit_laws_text.specs.emit_layout.scan_model.declared.yaml_encoding_t.{yaml_encoding_t}
 use Rattle.yaml_emit_laws_text.specs.emit_layout.scan_model.Tokens.{TokenBody}
 use Rattle.yaml_emit_laws_text.specs.scan_history.scan_model.Marks.{column_at, break_of}
@@ -12,16 +12,12 @@ use Rattle.yaml_emit_laws_text.specs.emit_layout.emit_text.Layout.{Rest, line, b
 use Rattle.yaml_emit_laws_text.specs.emit_layout.emit_text.Spelling.{break_text}
 use Rattle.yaml_emit_laws_text.specs.Walk.{Left, bytes, first}
 use Rattle.yaml_emit_laws_text.proofs.Steps.{letter_low}
-use Rattle.yaml_emit_laws_text.proofs.Words.{and_left}
 use Rattle.yaml_scan_laws_levels.specs.Walks.{Where, Reads}
 use Rattle.yaml_emit_laws_scalars.specs.Stops.{begins_white, begins_mark, stops_plain_at}
 use Rattle.yaml_emit_laws_block.specs.Passed.{begins_white as begins_blank}
 use Rattle.yaml_emit_laws_pretty.specs.Walk.{Stage, Lined, NoFeed, no_comment}
 use Rattle.yaml_emit_laws_pretty.specs.Nodes.{Ending}
 use Rattle.yaml_emit_laws_pretty.proofs.Lining.{line_on}
-
-never : false ≡ true → ⊥
-never e = cc
 
 -- the cursor at the start of a line
 abbrev pub line_start : Bool → Cursor
@@ -79,17 +75,14 @@ EndsRoot after = (kept : Bool) → is_outer (bytes (after (line_start kept))) �
 pick : (p q r u v w : Bool) → (((p && q) && r) || ((u && v) && w)) ≡ true → (p ≡ true) ⊎ (u ≡ true)
 pick true q r u v w h = inl refl
 pick false q r true v w h = inr refl
-pick false q r false v w h = absurd (never h)
-
-same_number : (a b : ℕ) → (a == b) ≡ true → a ≡ b
-same_number a b e = grind (arith, nat_tests)
+pick false q r false v w h = absurd (false≢true h)
 
 pub mark_first : (a : ℕ) (bs : List ℕ) → begins_mark a bs ≡ true → (a ≡ 45) ⊎ (a ≡ 46)
-mark_first a [] h = absurd (never h)
-mark_first a (b ∷ []) h = absurd (never h)
-mark_first a (b ∷ c ∷ bs) h = elim (pick (a == 45) (b == 45) (c == 45) (a == 46) (b == 46) (c == 46) (and_left (((a == 45 && b == 45) && c == 45) || ((a == 46 && b == 46) && c == 46)) (begins_white bs) h)) [
-  | inl e ↦ inl (same_number a 45 e)
-  | inr e ↦ inr (same_number a 46 e)
+mark_first a [] h = absurd (false≢true h)
+mark_first a (b ∷ []) h = absurd (false≢true h)
+mark_first a (b ∷ c ∷ bs) h = elim (pick (a == 45) (b == 45) (c == 45) (a == 46) (b == 46) (c == 46) (and_parts (((a == 45 && b == 45) && c == 45) || ((a == 46 && b == 46) && c == 46)) (begins_white bs) h).0) [
+  | inl e ↦ inl (eqb-true a 45 e)
+  | inr e ↦ inr (eqb-true a 46 e)
 ]
 
 pub outer_calm : (bs : List ℕ) → is_outer bs ≡ true → first bs ≡ 10 → ⊥

@@ -1,5 +1,6 @@
 -- Documents are walked, and so is their whole text.
 use Rattle.std.proofs.Common.{◌≡◌, ℕ, ◌+◌, ◌&&◌, not, Bool, true, false, List, [], ◌∷◌, None, refl, ap, subst, ◌∙◌, arith}
+use Rattle.std.proofs.lemmas.Bool.{false≢true}
 use Rattle.yaml_emit_laws_text.specs.emit_layout.scan_model.declared.yaml_encoding_t.{yaml_encoding_t}
 use Rattle.yaml_emit_laws_text.specs.emit_layout.scan_model.Tokens as tokens
 use Rattle.yaml_emit_laws_text.specs.emit_layout.scan_model.Tokens.{TokenBody}
@@ -29,9 +30,6 @@ use Rattle.yaml_emit_laws_pretty.proofs.DocLines.{dots_walk}
 use Rattle.yaml_emit_laws_pretty.proofs.DocEnds.{RootsWalk, behind_root, from_root, root_white, root_ends, nothing_outer}
 use Rattle.yaml_emit_laws_pretty.proofs.DocOpens.{Directing, Fresh, feed_at, dashes_next, opening_walks}
 use Rattle.yaml_emit_laws_pretty.proofs.DocDirectives.{next_calm, directives_next}
-
-never : false ≡ true → ⊥
-never e = cc
 
 -- ---- the end
 
@@ -119,7 +117,7 @@ documents_walk laws s roots (d ∷ ds) (right, root, good) fresh unended kept x 
     let r = root_walks s roots d ds (right, root, good) x text begin.cursor begin.place U begin.kept begin.stage begin.left in
     let V : List TokenBody → List TokenBody = λ bs. U (root_bodies z d bs) in
     let e = end_walks s d.implicit_end ds x text (is_root_kept z d) V r in
-    documents_walk laws s roots ds good false d.implicit_end (is_root_kept z d) x text e.place e.more (λ bs. V (end_bodies (not d.implicit_end) bs)) (λ f. absurd (never f)) e.stage e.left
+    documents_walk laws s roots ds good false d.implicit_end (is_root_kept z d) x text e.place e.more (λ bs. V (end_bodies (not d.implicit_end) bs)) (λ f. absurd (false≢true f)) e.stage e.left
 
 -- ---- the whole text
 

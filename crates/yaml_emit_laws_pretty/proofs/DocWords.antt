@@ -1,6 +1,7 @@
 -- The lines that are written for directives, and how they are read.
 use Rattle.std.proofs.Common.{◌≡◌, ℕ, ◌+◌, nat_lt, Bool, true, false, List, [], ◌∷◌, ◌++◌, length, Some, Result, Ok, refl, sym, ap, subst, ◌∙◌, append_assoc}
 use Rattle.std.specs.Prelude.{codes, if◌then◌else◌}
+use Rattle.std.proofs.lemmas.Bool.{and_parts}
 use Rattle.yaml_emit_laws_text.specs.scan_history.scan_model.Marks.{byte, break_of, break_width, column_at}
 use Rattle.yaml_emit_laws_text.specs.scan_history.scan_model.Classes.{is_break}
 use Rattle.yaml_emit_laws_text.specs.scan_history.scan_model.Wrong.{Wrong}
@@ -15,7 +16,7 @@ use Rattle.yaml_emit_laws_text.specs.emit_layout.emit_text.Layout.{Layout, Rest,
 use Rattle.yaml_emit_laws_text.specs.TagsLaws.{are_ascii, IsMarked}
 use Rattle.yaml_emit_laws_text.specs.Walk.{Has, bytes}
 use Rattle.yaml_emit_laws_text.proofs.Steps.{sign_starts, letter_low}
-use Rattle.yaml_emit_laws_text.proofs.Words.{and_left, and_right, lettered_on}
+use Rattle.yaml_emit_laws_text.proofs.Words.{lettered_on}
 use Rattle.yaml_emit_laws_pretty.proofs.DocStarts.{line_start}
 
 -- ---- `%`
@@ -70,10 +71,10 @@ letters_are : (xs : List ℕ) → are_ascii xs ≡ true → (c : Cursor) → Let
 unfolding letters
 letters_are [] are c = record { behind = c; same = λ rest. refl; white = λ e. e; bare = λ e. e; kept = refl }
 letters_are (x ∷ xs) are c =
-    let r = letters_are xs (and_right (nat_lt x 128) (are_ascii xs) are) (lettered_on c) in
+    let r = letters_are xs (and_parts (nat_lt x 128) (are_ascii xs) are).1 (lettered_on c) in
     record {
       behind = r.behind;
-      same = λ rest. letter_low x (letters xs (lettered_on c) rest) (and_left (nat_lt x 128) (are_ascii xs) are) ∙ ap (λ (t : List ℕ). x ∷ t) (r.same rest);
+      same = λ rest. letter_low x (letters xs (lettered_on c) rest) (and_parts (nat_lt x 128) (are_ascii xs) are).0 ∙ ap (λ (t : List ℕ). x ∷ t) (r.same rest);
       white = λ e. r.white refl;
       bare = λ e. r.bare refl;
       kept = r.kept;

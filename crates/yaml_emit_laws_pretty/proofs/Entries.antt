@@ -2,6 +2,7 @@
 use Rattle.std.proofs.Common.{◌≡◌, ℕ, ◌+◌, ◌<◌, ◌==◌, ◌&&◌, ◌||◌, nat_lt, Bool, true, false, List, [], ◌∷◌, refl, sym, ap, subst, ◌∙◌, inr, arith}
 use Rattle.std.specs.Prelude.{if◌then◌else◌}
 use Rattle.std.proofs.lemmas.Bool.Decides.{nat_tests}
+use Rattle.std.proofs.lemmas.Bool.{false≢true, or_left}
 use Rattle.yaml_emit_laws_text.specs.scan_history.scan_model.Marks.{byte, column_at, line_at, is_blank_or_end, break_of}
 use Rattle.yaml_emit_laws_text.specs.scan_history.History.{indent, margin_at, opened, start_of, level_of}
 use Rattle.yaml_emit_laws_text.specs.scan_history.Kinds.{is_start, is_value, allows_key}
@@ -26,10 +27,7 @@ use Rattle.yaml_scan_laws_levels.proofs.Stepping.{words_leave}
 use Rattle.yaml_scan_laws_levels.proofs.Walking.{walk_mark}
 use Rattle.yaml_emit_laws_scalars.specs.Stops.{begins_white, is_gap_byte}
 use Rattle.yaml_emit_laws_pretty.specs.Walk.{Mark, Entry, Question, Answer, mark_byte, mark_body, mark_level, IsLone, MarkIsWalked}
-use Rattle.yaml_emit_laws_pretty.proofs.Lining.{first_byte, or_left}
-
-never : false ≡ true → ⊥
-never e = cc
+use Rattle.yaml_emit_laws_pretty.proofs.Lining.{first_byte}
 
 pub no_gap : (text : List ℕ) (p : ℕ) → begins_lexeme text p ≡ true → IsGap text p []
 no_gap text p e = let z : p + 0 ≡ p = omega arith in record { has = λ k few. absurd (omega (arith, few)); blank = refl; ends = ap (λ n. begins_lexeme text n) z ∙ e }
@@ -72,8 +70,8 @@ mark_starts Question = (refl, refl, refl)
 mark_starts Answer = (refl, refl, refl)
 
 lone_at : (k : Mark) (text : List ℕ) (o : Where) (q : ℕ) → q ≡ o.at → IsLone k text o → is_value (mark_kind k) ≡ true → o.line < line_at text q
-lone_at Entry text o q e l v = absurd (never v)
-lone_at Question text o q e l v = absurd (never v)
+lone_at Entry text o q e l v = absurd (false≢true v)
+lone_at Question text o q e l v = absurd (false≢true v)
 lone_at Answer text o q e l v = subst (λ n. o.line < line_at text n) (sym e) l
 
 pub mark_on : MarkIsWalked

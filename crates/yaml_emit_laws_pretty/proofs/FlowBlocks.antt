@@ -1,6 +1,7 @@
 -- Collections in brackets at spots of a block.
 use Rattle.std.proofs.Common.{◌≡◌, ℕ, ◌+◌, ◌≤◌, ◌||◌, not, nat_lt, Bool, true, false, List, [], ◌∷◌, refl, sym, ap, subst, ◌∙◌, inl, inr, arith, None, Some}
 use Rattle.std.specs.Prelude.{Option}
+use Rattle.std.proofs.lemmas.Bool.{false≢true}
 use Rattle.yaml_emit_laws_text.specs.emit_layout.scan_model.declared.yaml_encoding_t.{yaml_encoding_t}
 use Rattle.yaml_emit_laws_text.specs.emit_layout.scan_model.Tokens as tokens
 use Rattle.yaml_emit_laws_text.specs.emit_layout.scan_model.Tokens.{TokenBody}
@@ -32,11 +33,8 @@ use Rattle.yaml_emit_laws_pretty.proofs.FlowFollows.{pretty_of, prettily, space_
 use Rattle.yaml_emit_laws_pretty.proofs.FlowItems.{BodyIn, opened_in}
 use Rattle.yaml_emit_laws_pretty.proofs.FlowNodes.{body_checked, pretty_fine, first_in, first_pairs_in, items_keep, pairs_keep}
 
-never : false ≡ true → ⊥
-never e = cc
-
 bare_off : (b : Bool) → b ≡ false → b ≡ true → ⊥
-bare_off b e f = never (sym e ∙ f)
+bare_off b e f = false≢true (sym e ∙ f)
 
 abbrev bracket : ℕ → Layout
 bracket x c rest = letter x ∷ rest (record { column = c.column + 1; white = true; bare = false; kept = c.kept })
@@ -157,8 +155,8 @@ bracketed law s d is around q bare y anchor tag good fine mapping a B body laid 
 }
 
 node_brackets : WordLaws → KeysAreWalkedIn → PropertiesAreWalked → (s : Settings) (d : Opening) → IsPretty s d → (y : Node) → IsWritable y → is_bracketed (prettily s d.directives) y ≡ true → (around : Option ℕ) (q : Part) (bare : Bool) → NodeWalks (prettily s d.directives) around q bare y
-node_brackets laws keys law s d is (alias_node name) good flow around q bare = absurd (never flow)
-node_brackets laws keys law s d is (scalar_node v) good flow around q bare = absurd (never flow)
+node_brackets laws keys law s d is (alias_node name) good flow around q bare = absurd (false≢true flow)
+node_brackets laws keys law s d is (scalar_node v) good flow around q bare = absurd (false≢true flow)
 node_brackets laws keys law s d is (sequence_node o items) (anchor, tag, all) flow around q bare =
     let p = prettily s d.directives in
     let m = deeper (pretty_of s) around in

@@ -1,7 +1,7 @@
 -- What follows nodes in brackets, and what they begin with.
 use Rattle.std.proofs.Common.{◌≡◌, ℕ, ◌+◌, ◌==◌, ◌||◌, nat_lt, Bool, true, false, List, [], ◌∷◌, ◌++◌, refl, sym, ap, subst, ◌∙◌, inl, inr, arith, replicate, None, Some}
 use Rattle.std.specs.Prelude.{if◌then◌else◌, Option}
-use Rattle.std.proofs.lemmas.Bool.{cases_Bool}
+use Rattle.std.proofs.lemmas.Bool.{cases_Bool, or_left, or_right}
 use Rattle.std.proofs.lemmas.Bool.Decides.{nat_tests}
 use Rattle.yaml_emit_laws_text.specs.scan_history.scan_scalars.Plain.{is_bracket}
 use Rattle.yaml_emit_laws_text.specs.emit_layout.emit_text.declared.Cursor.{Cursor}
@@ -28,7 +28,6 @@ use Rattle.yaml_emit_laws_pretty.specs.Walk.{no_comment}
 use Rattle.yaml_emit_laws_pretty.specs.Spoken.{ends_name}
 use Rattle.yaml_emit_laws_pretty.specs.Flows.{FollowsIn}
 use Rattle.yaml_emit_laws_pretty.specs.Nodes.{PartedBehind}
-use Rattle.yaml_emit_laws_pretty.proofs.Lining.{or_left, or_right}
 use Rattle.yaml_emit_laws_pretty.proofs.Following.{line_bytes, line_calm, line_white, blanks_white}
 
 -- settings of pretty form

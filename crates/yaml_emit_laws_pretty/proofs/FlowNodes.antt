@@ -11,6 +11,7 @@ use Rattle.yaml_emit_laws_text.specs.emit_layout.emit_text.Layout.{Layout, Rest,
 use Rattle.yaml_emit_laws_text.specs.emit_layout.emit_text.Scalars.{scalar_text}
 use Rattle.yaml_emit_laws_text.proofs.Steps.{deep_bytes}
 use Rattle.std.specs.Str.{chars}
+use Rattle.std.proofs.lemmas.Bool.{true≢false}
 use Rattle.yaml_emit_laws_text.specs.emit_layout.declared.level.Part.{Part}
 use Rattle.yaml_emit_laws_text.specs.emit_layout.declared.level.Part.TheVariants as part
 use Rattle.yaml_emit_laws_text.specs.emit_layout.Content.{Scalar, Start, Opening, Node, alias_node, scalar_node, sequence_node, mapping_node, Nodes, no_nodes, node, Pairs, no_pairs, pair}
@@ -119,9 +120,6 @@ mutual
 
 -- ---- no block scalar stands in brackets
 
-true_is_false : true ≡ false → ⊥
-true_is_false e = cc
-
 style_same : (p : Context) (q : Part) (x : Scalar) → style_of p (place true q) x ≡ style_at p true q x
 style_same p q x = refl
 
@@ -129,8 +127,8 @@ scalar_keeps : StylesAreAllowed → (p : Context) (q : Part) (x : Scalar) (st : 
 scalar_keeps styles p q x style.Plain same kept = refl
 scalar_keeps styles p q x style.Single same kept = refl
 scalar_keeps styles p q x style.Double same kept = refl
-scalar_keeps styles p q x style.Literal same kept = let no_flow = ((styles p (place true q) x).2 same).1 in absurd (true_is_false no_flow)
-scalar_keeps styles p q x style.Folded same kept = let no_flow = ((styles p (place true q) x).3 same).1 in absurd (true_is_false no_flow)
+scalar_keeps styles p q x style.Literal same kept = let no_flow = ((styles p (place true q) x).2 same).1 in absurd (true≢false no_flow)
+scalar_keeps styles p q x style.Folded same kept = let no_flow = ((styles p (place true q) x).3 same).1 in absurd (true≢false no_flow)
 
 mutual
   unfolding node_kept items_kept pairs_kept

@@ -2,6 +2,7 @@
 use Rattle.std.proofs.Common.{◌≡◌, ℕ, ◌+◌, ◌<◌, ◌≤◌, ◌&&◌, ◌||◌, not, nat_lt, Bool, true, false, List, [], ◌∷◌, length, refl, sym, subst, arith, None, Some}
 use Rattle.std.specs.Prelude.{IsUtf8, Option}
 use Rattle.std.specs.Str.{chars}
+use Rattle.std.proofs.lemmas.Bool.{true≢false}
 use Rattle.yaml_emit_laws_text.specs.emit_layout.scan_model.Tokens as tokens
 use Rattle.yaml_emit_laws_text.specs.emit_layout.scan_model.Tokens.{TokenBody}
 use Rattle.yaml_emit_laws_text.specs.emit_layout.parse_model.Events.{TagDirective}
@@ -117,9 +118,6 @@ quote_unlike (b ∷ bs) h e = let k : ends_name (39 ∷ bs) ≡ true = subst (λ
     never : false ≡ true → ⊥
     never e = cc
 
-true_is_false : true ≡ false → ⊥
-true_is_false e = cc
-
 -- the text of a scalar, by its style
 text_in : WordLaws → (p : Context) (n : ℕ) (q : Part) (x : Scalar) → IsUtf8 x.value → 0 < p.settings.indent → (ls : List ℕ) → indent ls ≤ n → (rest : Rest) → FollowsIn rest → (s : Style) → style_of p (spot true n q) x ≡ s → (c : Cursor)
     → WalksIn (scalar_text (page_at p.settings (spot true n q)) p.settings.indent true s (chars x.value)) (λ bs. tokens.scalar x.value (style_named s) ∷ bs) ls c rest
@@ -145,8 +143,8 @@ text_in laws p n q x u deep ls low rest follows style.Double same c =
     let deeper : 0 < page.indentation = omega (arith, deep) in
     let says = double_says laws.quoted true (indent ls) page x.value u deeper c in
     word_walks ls (double_quoted page (chars x.value)) c (double_word true (indent ls) (not c.white) page (behind_gap c.white c) x.value (laws.quoted page (behind_gap c.white c) x.value u (λ cuts. deeper))) says rest tt
-text_in laws p n q x u deep ls low rest follows style.Literal same c = let no_flow = ((laws.styles p (spot true n q) x).2 same).1 in absurd (true_is_false no_flow)
-text_in laws p n q x u deep ls low rest follows style.Folded same c = let no_flow = ((laws.styles p (spot true n q) x).3 same).1 in absurd (true_is_false no_flow)
+text_in laws p n q x u deep ls low rest follows style.Literal same c = let no_flow = ((laws.styles p (spot true n q) x).2 same).1 in absurd (true≢false no_flow)
+text_in laws p n q x u deep ls low rest follows style.Folded same c = let no_flow = ((laws.styles p (spot true n q) x).3 same).1 in absurd (true≢false no_flow)
 
 style_same : (p : Context) (n : ℕ) (q : Part) (x : Scalar) → style_of p (spot true n q) x ≡ style_at p true q x
 unfolding style_of

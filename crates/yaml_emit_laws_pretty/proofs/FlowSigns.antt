@@ -1,7 +1,7 @@
 -- Lines, commas, brackets, `?` and its `:` in brackets.
 use Rattle.std.proofs.Common.{◌≡◌, ℕ, ◌+◌, ◌-◌, ◌<◌, ◌&&◌, ◌||◌, not, nat_lt, Bool, true, false, List, [], ◌∷◌, ◌++◌, length, zero, suc, refl, sym, ap, subst, ◌∙◌, inl, inr, arith, replicate, append_assoc}
 use Rattle.std.specs.Prelude.{if◌then◌else◌}
-use Rattle.std.proofs.lemmas.Bool.{cases_Bool}
+use Rattle.std.proofs.lemmas.Bool.{cases_Bool, false≢true, or_left, or_right}
 use Rattle.std.proofs.lemmas.Bool.Decides.{nat_tests}
 use Rattle.yaml_emit_laws_text.specs.emit_layout.scan_model.declared.yaml_encoding_t.{yaml_encoding_t}
 use Rattle.yaml_emit_laws_text.specs.emit_layout.scan_model.Tokens as tokens
@@ -27,13 +27,9 @@ use Rattle.yaml_scan_laws_levels.proofs.Walking.{walk_white, walk_word, walk_ask
 use Rattle.yaml_emit_laws_scalars.specs.Stops.{begins_white}
 use Rattle.yaml_emit_laws_scalars.proofs.Lines.{line_start, after_blanks, blanks_kept}
 use Rattle.yaml_emit_laws_pretty.specs.Flows.{IsClear}
-use Rattle.yaml_emit_laws_pretty.proofs.Lining.{or_left, or_right}
 use Rattle.yaml_emit_laws_pretty.proofs.Entries.{no_gap, white_stands}
 use Rattle.yaml_emit_laws_pretty.proofs.Following.{line_bytes}
 use Rattle.yaml_emit_laws_pretty.proofs.FlowSteps.{leave_clear}
-
-never : false ≡ true → ⊥
-never e = cc
 
 -- ---- lines
 
@@ -128,7 +124,7 @@ comma_on x text bs o cs ls T r deep out l =
     record {
       place = behind text q (q + 1) o.depth true (not (nat_lt 0 o.depth));
       reads = walk_word x text o cs ls T kinds.FlowEntry [] w (q + 1) true (not (nat_lt 0 o.depth)) r (deeper_leaves kinds.FlowEntry o.depth (o.now || (false && o.broken)) cs out)
-          (signs_come.comma text p o.depth (indent ls) [] none at) (or_right (nat_lt 0 o.depth) true refl) (inl deep) (λ v. absurd (never v)) (words_leave.all text o.depth true w refl);
+          (signs_come.comma text p o.depth (indent ls) [] none at) (or_right (nat_lt 0 o.depth) true refl) (inl deep) (λ v. absurd (false≢true v)) (words_leave.all text o.depth true w refl);
       deep = refl;
       begin = refl;
       broken = refl;
@@ -169,7 +165,7 @@ opener_on true x text bs o cs ls T r right clear l =
     record {
       place = behind text q (q + 1) (d + 1) true (not (nat_lt 0 (d + 1)));
       reads = walk_word x text o cs ls T kinds.FlowMappingStart [] w (q + 1) true (not (nat_lt 0 (d + 1))) r (leave_clear kinds.FlowMappingStart o (o.now || (false && o.broken)) cs refl (off_or o.now o.broken) clear)
-          (signs_come.mapping text p d (indent ls) [] none at) (or_right (nat_lt 0 d) true refl) (subst (λ (n : ℕ). IsRight d ls (column_at text n)) (sym z) right) (λ v. absurd (never v)) (words_leave.all text (d + 1) true w refl);
+          (signs_come.mapping text p d (indent ls) [] none at) (or_right (nat_lt 0 d) true refl) (subst (λ (n : ℕ). IsRight d ls (column_at text n)) (sym z) right) (λ v. absurd (false≢true v)) (words_leave.all text (d + 1) true w refl);
       deep = refl;
       begin = refl;
       broken = refl;
@@ -190,7 +186,7 @@ opener_on false x text bs o cs ls T r right clear l =
     record {
       place = behind text q (q + 1) (d + 1) true (not (nat_lt 0 (d + 1)));
       reads = walk_word x text o cs ls T kinds.FlowSequenceStart [] w (q + 1) true (not (nat_lt 0 (d + 1))) r (leave_clear kinds.FlowSequenceStart o (o.now || (false && o.broken)) cs refl (off_or o.now o.broken) clear)
-          (signs_come.sequence text p d (indent ls) [] none at) (or_right (nat_lt 0 d) true refl) (subst (λ (n : ℕ). IsRight d ls (column_at text n)) (sym z) right) (λ v. absurd (never v)) (words_leave.all text (d + 1) true w refl);
+          (signs_come.sequence text p d (indent ls) [] none at) (or_right (nat_lt 0 d) true refl) (subst (λ (n : ℕ). IsRight d ls (column_at text n)) (sym z) right) (λ v. absurd (false≢true v)) (words_leave.all text (d + 1) true w refl);
       deep = refl;
       begin = refl;
       broken = refl;
@@ -216,7 +212,7 @@ closer_on true x text bs o d cs ls T r deep out l =
     record {
       place = behind text q (q + 1) f false (not (nat_lt 0 f));
       reads = walk_word x text o cs ls T kinds.FlowMappingEnd [] w (q + 1) false (not (nat_lt 0 f)) r (deeper_leaves kinds.FlowMappingEnd o.depth (o.now || (false && o.broken)) cs (subst (λ (n : ℕ). Outside n cs) (sym deep) out))
-          (signs_come.mapping_end text p o.depth (indent ls) [] none at) (or_right (nat_lt 0 o.depth) true refl) (inl inside) (λ v. absurd (never v)) (words_leave.all text f false w refl);
+          (signs_come.mapping_end text p o.depth (indent ls) [] none at) (or_right (nat_lt 0 o.depth) true refl) (inl inside) (λ v. absurd (false≢true v)) (words_leave.all text f false w refl);
       deep = less;
       begin = refl;
       broken = ap (λ (n : ℕ). not (nat_lt 0 n)) less;
@@ -236,7 +232,7 @@ closer_on false x text bs o d cs ls T r deep out l =
     record {
       place = behind text q (q + 1) f false (not (nat_lt 0 f));
       reads = walk_word x text o cs ls T kinds.FlowSequenceEnd [] w (q + 1) false (not (nat_lt 0 f)) r (deeper_leaves kinds.FlowSequenceEnd o.depth (o.now || (false && o.broken)) cs (subst (λ (n : ℕ). Outside n cs) (sym deep) out))
-          (signs_come.sequence_end text p o.depth (indent ls) [] none at) (or_right (nat_lt 0 o.depth) true refl) (inl inside) (λ v. absurd (never v)) (words_leave.all text f false w refl);
+          (signs_come.sequence_end text p o.depth (indent ls) [] none at) (or_right (nat_lt 0 o.depth) true refl) (inl inside) (λ v. absurd (false≢true v)) (words_leave.all text f false w refl);
       deep = less;
       begin = refl;
       broken = ap (λ (n : ℕ). not (nat_lt 0 n)) less;

@@ -1,6 +1,7 @@
 -- White and words in brackets.
 use Rattle.std.proofs.Common.{◌≡◌, ℕ, ◌+◌, ◌≤◌, ◌==◌, ◌&&◌, ◌||◌, nat_lt, Bool, true, false, List, [], ◌∷◌, ◌++◌, length, Some, Ok, refl, sym, ap, subst, ◌∙◌, inl, inr, arith, append_assoc}
 use Rattle.std.specs.Prelude.{if◌then◌else◌}
+use Rattle.std.proofs.lemmas.Bool.{false≢true, or_right}
 use Rattle.yaml_emit_laws_text.specs.emit_layout.scan_model.declared.yaml_encoding_t.{yaml_encoding_t}
 use Rattle.yaml_emit_laws_text.specs.emit_layout.scan_model.Tokens.{TokenBody}
 use Rattle.yaml_emit_laws_text.specs.scan_history.scan_model.Marks.{column_at}
@@ -20,11 +21,7 @@ use Rattle.yaml_scan_laws_levels.proofs.Slotting.{letter_columns}
 use Rattle.yaml_scan_laws_levels.proofs.Walking.{walk_white, walk_word, deeper_leaves}
 use Rattle.yaml_emit_laws_pretty.specs.Spoken.{is_text, Fits, Spoken, Says}
 use Rattle.yaml_emit_laws_pretty.specs.Flows.{IsClear, WalksIn}
-use Rattle.yaml_emit_laws_pretty.proofs.Lining.{or_right}
 use Rattle.yaml_emit_laws_pretty.proofs.Entries.{no_gap}
-
-never : false ≡ true → ⊥
-never e = cc
 
 -- ---- kinds
 
@@ -65,7 +62,7 @@ text_stays kinds.Plain d e = or_right (nat_lt 0 d) true refl
 text_stays k d e = absurd (cc)
 
 text_no_value : (k : Kind) → is_text k ≡ true → is_value k ≡ true → ⊥
-text_no_value kinds.ValueMark e v = never e
+text_no_value kinds.ValueMark e v = false≢true e
 text_no_value k e v = cc
 
 -- ---- depths of a `?`

@@ -2,6 +2,7 @@
 use Rattle.std.proofs.Common.{◌≡◌, ◌⊎◌, ℕ, suc, ◌+◌, ◌-◌, ◌<◌, ◌≤◌, ◌&&◌, not, nat_lt, nat_le, Bool, true, false, List, [], ◌∷◌, ◌++◌, length, refl, sym, ap, subst, ◌∙◌, inl, inr, arith, append_assoc, length-append, encode_utf8_all}
 use Rattle.std.specs.Prelude.{if◌then◌else◌}
 use Rattle.std.proofs.lemmas.Bool.Decides.{nat_tests}
+use Rattle.std.proofs.lemmas.List.{append-nil}
 use Rattle.yaml_emit_laws_text.specs.emit_layout.scan_model.declared.yaml_encoding_t.{yaml_encoding_t}
 use Rattle.yaml_emit_laws_text.specs.emit_layout.scan_model.Tokens as tokens
 use Rattle.yaml_emit_laws_text.specs.emit_layout.scan_model.Tokens.{TokenBody}
@@ -72,9 +73,6 @@ pub record KeyForm (flow : Bool) (level : ℕ) (a : Layout) (c : Cursor) (B : Li
   pub kept : behind.kept ≡ c.kept
 
 -- ---- the end of a key
-
-never : false ≡ true → ⊥
-never e = cc
 
 -- behind words
 ends_more : (k : KeyEnd) (d : ℕ) (ls tail : List ℕ) (x : yaml_encoding_t) (text : List ℕ) (p q end : ℕ) (cs : List ℕ) (T K : List TokenBody → List TokenBody) → Frame text d p end cs ls → p < q → q + length (end_bytes k) ≤ end
@@ -183,10 +181,6 @@ key_starts (w ∷ ws) k b (same, some, starts_by) tail text o l =
 
 -- ---- the key and its `:`
 
-append_none : (xs : List ℕ) → xs ++ [] ≡ xs
-append_none [] = refl
-append_none (x ∷ xs) = ap (λ (ys : List ℕ). x ∷ ys) (append_none xs)
-
 no_bytes : bytes [] ≡ []
 unfolding encode
 no_bytes = refl
@@ -218,7 +212,7 @@ key_done d ls a c B form near x text o line broken cs more new what T rest reads
     let own = all_bytes form.words ++ end_bytes form.end in
     let shown = encode_utf8_all near.shown in
     let laid : (R : Rest) → bytes (a c R) ≡ own ++ bytes (R form.behind) = λ R. form.written R ∙ sym (append_assoc (all_bytes form.words) (end_bytes form.end) (bytes (R form.behind))) in
-    let same : shown ≡ own = sym (append_none shown) ∙ ap (λ bs. shown ++ bs) (sym no_bytes) ∙ sym (near.written none) ∙ laid none ∙ ap (λ bs. own ++ bs) no_bytes ∙ append_none own in
+    let same : shown ≡ own = sym (append-nil shown) ∙ ap (λ bs. shown ++ bs) (sym no_bytes) ∙ sym (near.written none) ∙ laid none ∙ ap (λ bs. own ++ bs) no_bytes ∙ append-nil own in
     let R : Rest = λ e. char 58 e rest in
     let f = behind_colon form.behind in
     let tail = bytes (rest f) in

@@ -2,7 +2,7 @@
 use Rattle.std.proofs.Common.{◌≡◌, ◌⊎◌, ℕ, ◌+◌, ◌-◌, ◌<◌, ◌≤◌, ◌==◌, ◌&&◌, ◌||◌, not, nat_lt, Bool, true, false, List, [], ◌∷◌, ◌++◌, length, Option, Some, None, refl, sym, ap, subst, ◌∙◌, inl, inr, arith, append_assoc, encode_utf8_all, IsUtf8}
 use Rattle.std.specs.Prelude.{if◌then◌else◌}
 use Rattle.std.specs.Str.{chars}
-use Rattle.std.proofs.lemmas.Bool.{cases_Bool}
+use Rattle.std.proofs.lemmas.Bool.{cases_Bool, false≢true}
 use Rattle.std.proofs.lemmas.Str.{encode_ascii}
 use Rattle.yaml_emit_laws_text.specs.emit_layout.scan_model.Tokens as tokens
 use Rattle.yaml_emit_laws_text.specs.emit_layout.scan_model.Tokens.{TokenBody}
@@ -53,9 +53,6 @@ use Rattle.yaml_emit_laws_pretty.proofs.KeyColumns.{letters_start, low_starts}
 use Rattle.yaml_emit_laws_pretty.proofs.KeySteps.{KeyFit}
 use Rattle.yaml_emit_laws_pretty.proofs.KeyForms.{KeyForm, KeyEnd, at_once, spaced, squares, curlies, end_bytes, end_bodies, StartsEnd, LeadsKey}
 use Rattle.yaml_emit_laws_pretty.proofs.LeafProps.{Dress, Moved, Leads, NonePlain, has_some, dress_all}
-
-never : false ≡ true → ⊥
-never e = cc
 
 -- ---- lists of words
 
@@ -308,7 +305,7 @@ empty_style p flow n x pretty none same =
     let e : is_plain (style_of p (spot flow n part.SimpleKey) x) ≡ false =
     ap (λ (b : Bool). is_plain (if b then style.Double else taken a x.style untagged flow true (length x.value == 0))) pretty
     ∙ ap (λ (v : List ℕ). is_plain (taken a x.style untagged flow true (length v == 0))) none ∙ taken_empty a x.style untagged flow in
-    never (sym e ∙ ap is_plain same)
+    false≢true (sym e ∙ ap is_plain same)
 
 last_of : Scalars → (flow : Bool) (level : ℕ) (p : Context) (n : ℕ) (x : Scalar) (c : Cursor) (chosen : Style) → p.settings.canonical ≡ false → style_of p (spot flow n part.SimpleKey) x ≡ chosen → IsUtf8 x.value → 0 < n + p.settings.indent → level ≤ n + p.settings.indent
     → LastOf flow level (scalar_text (page_at p.settings (spot flow n part.SimpleKey)) p.settings.indent flow chosen (chars x.value)) c x chosen
@@ -319,15 +316,15 @@ last_of law flow level p n x c style.Plain pretty same u deep far = plain_by x.v
     plain_by (b ∷ bs) e = last_plain law flow level p.settings (spot flow n part.SimpleKey) x c b bs e u ((law.styles p (spot flow n part.SimpleKey) x).0 same) deep far
 last_of law flow level p n x c style.Single pretty same u deep far = last_single law flow level p.settings (spot flow n part.SimpleKey) x c u ((law.styles p (spot flow n part.SimpleKey) x).1 same) deep
 last_of law flow level p n x c style.Double pretty same u deep far = last_double flow level p.settings (spot flow n part.SimpleKey) x c u deep
-last_of law flow level p n x c style.Literal pretty same u deep far = let (may, out, whole) = (law.styles p (spot flow n part.SimpleKey) x).2 same in absurd (never (sym whole))
-last_of law flow level p n x c style.Folded pretty same u deep far = let (may, out, whole) = (law.styles p (spot flow n part.SimpleKey) x).3 same in absurd (never (sym whole))
+last_of law flow level p n x c style.Literal pretty same u deep far = let (may, out, whole) = (law.styles p (spot flow n part.SimpleKey) x).2 same in absurd (false≢true (sym whole))
+last_of law flow level p n x c style.Folded pretty same u deep far = let (may, out, whole) = (law.styles p (spot flow n part.SimpleKey) x).3 same in absurd (false≢true (sym whole))
 
 kept_writable : (b : Bool) (tag : Option (List ℕ)) → IsWritableTag tag → IsWritableTag (kept_if b tag)
 kept_writable true tag h = h
 kept_writable false tag h = tt
 
 value_is : (b : Bool) (s : Style) (value : List ℕ) (bs : List TokenBody) → b ≡ false → value_bodies b s value bs ≡ tokens.scalar value (style_named s) ∷ bs
-value_is true s value bs e = absurd (never (sym e))
+value_is true s value bs e = absurd (false≢true (sym e))
 value_is false s value bs e = refl
 
 spot_style : (p : Context) (flow : Bool) (n : ℕ) (x : Scalar) → style_of p (spot flow n part.SimpleKey) x ≡ style_at p flow part.SimpleKey x
@@ -533,8 +530,8 @@ mapping_form s d good q (wa, wt, all) flow level n c =
 -- ---- all
 
 not_simple : (a : Bool) → (a && false) ≡ true → ⊥
-not_simple true e = never e
-not_simple false e = never e
+not_simple true e = false≢true e
+not_simple false e = false≢true e
 
 pub some_items : (p : Context) (q : Start) (x : Node) (xs : Nodes) → is_simple p (sequence_node q (node x xs)) ≡ true → ⊥
 unfolding is_simple is_simple_start

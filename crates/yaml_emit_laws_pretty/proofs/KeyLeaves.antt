@@ -1,6 +1,7 @@
 -- Simple keys of every kind and their `:` are walked, in a block and in brackets.
 use Rattle.std.proofs.Common.{◌≡◌, ℕ, ◌+◌, ◌<◌, ◌≤◌, not, nat_lt, Bool, true, false, List, [], ◌∷◌, ◌++◌, length, Some, refl, sym, ap, subst, ◌∙◌, inl, inr, arith, append_assoc, length-append}
 use Rattle.std.specs.Prelude.{if◌then◌else◌}
+use Rattle.std.proofs.lemmas.Bool.{false≢true}
 use Rattle.yaml_emit_laws_text.specs.emit_layout.scan_model.declared.yaml_encoding_t.{yaml_encoding_t}
 use Rattle.yaml_emit_laws_text.specs.emit_layout.scan_model.Tokens as tokens
 use Rattle.yaml_emit_laws_text.specs.emit_layout.scan_model.Tokens.{TokenBody}
@@ -39,9 +40,6 @@ use Rattle.yaml_emit_laws_pretty.proofs.KeyKinds.{Scalars, key_form, some_items,
 use Rattle.yaml_emit_laws_pretty.proofs.KeySteps.{front, spot_at}
 use Rattle.yaml_emit_laws_pretty.proofs.KeysShow.{left_self, lexeme_solid, lexeme_calm}
 
-never : false ≡ true → ⊥
-never e = cc
-
 -- ---- in a block
 
 key_walks : Scalars → (s : Settings) (d : Opening) → IsPretty s d → (k : Node) → IsWritable k → is_simple (context_of s d.directives) k ≡ true → (x : yaml_encoding_t) (text : List ℕ) (n : ℕ) (kept : Bool) (ls more new : List ℕ) (what : Opens) (T : List TokenBody → List TokenBody) (rest : Rest)
@@ -71,7 +69,7 @@ key_walks law s d good k w simple x text n kept ls more new what T rest here low
     record {
       cursor = behind_colon done.behind;
       place = spot_at (done.at + 1) (line_at text done.at) 0 false true;
-      stage = record { reads = done.reads; flat = refl; broken = refl; bare = λ b. absurd (never b); line = line_at-grows text done.at (done.at + 1) (omega arith) };
+      stage = record { reads = done.reads; flat = refl; broken = refl; bare = λ b. absurd (false≢true b); line = line_at-grows text done.at (done.at + 1) (omega arith) };
       left = done.left;
       bare = refl;
       white = refl;
@@ -126,8 +124,8 @@ style_kept : Scalars → (p : Context) (x : Scalar) (kept : Bool) (chosen : Styl
 style_kept law p x kept style.Plain same = refl
 style_kept law p x kept style.Single same = refl
 style_kept law p x kept style.Double same = refl
-style_kept law p x kept style.Literal same = let (may, out, whole) = (law.styles p (spot false 0 part.SimpleKey) x).2 (spot_style p 0 x ∙ same) in absurd (never (sym whole))
-style_kept law p x kept style.Folded same = let (may, out, whole) = (law.styles p (spot false 0 part.SimpleKey) x).3 (spot_style p 0 x ∙ same) in absurd (never (sym whole))
+style_kept law p x kept style.Literal same = let (may, out, whole) = (law.styles p (spot false 0 part.SimpleKey) x).2 (spot_style p 0 x ∙ same) in absurd (false≢true (sym whole))
+style_kept law p x kept style.Folded same = let (may, out, whole) = (law.styles p (spot false 0 part.SimpleKey) x).3 (spot_style p 0 x ∙ same) in absurd (false≢true (sym whole))
 
 key_kept : Scalars → (p : Context) (k : Node) → is_simple p k ≡ true → (kept : Bool) → node_kept p false part.SimpleKey k kept ≡ kept
 unfolding node_kept items_kept pairs_kept

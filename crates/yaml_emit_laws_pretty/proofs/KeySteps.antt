@@ -2,6 +2,7 @@
 use Rattle.std.proofs.Common.{◌≡◌, ℕ, ◌+◌, ◌-◌, ◌<◌, ◌≤◌, ◌==◌, ◌&&◌, ◌||◌, not, nat_lt, Bool, true, false, List, [], ◌∷◌, ◌++◌, length, refl, sym, ap, subst, ◌∙◌, inl, inr, arith, append_assoc, length-append}
 use Rattle.std.specs.Prelude.{if◌then◌else◌}
 use Rattle.std.proofs.lemmas.Bool.Decides.{nat_tests}
+use Rattle.std.proofs.lemmas.Bool.{false≢true, or_right}
 use Rattle.yaml_emit_laws_text.specs.emit_layout.scan_model.declared.yaml_encoding_t.{yaml_encoding_t}
 use Rattle.yaml_emit_laws_text.specs.emit_layout.scan_model.Tokens as tokens
 use Rattle.yaml_emit_laws_text.specs.emit_layout.scan_model.Tokens.{TokenBody}
@@ -25,16 +26,12 @@ use Rattle.yaml_scan_laws_levels.proofs.Stepping.{words_leave}
 use Rattle.yaml_scan_laws_levels.proofs.Walking.{walk_white, walk_key_starts, walk_key_goes, walk_key_stops, walk_says, deeper_leaves}
 use Rattle.yaml_emit_laws_scalars.specs.Stops.{begins_white, white_of}
 use Rattle.yaml_emit_laws_pretty.specs.Spoken.{is_text, Fits, WordStands, Spoken, spoken_bytes, all_bytes, all_bodies, AllFit}
-use Rattle.yaml_emit_laws_pretty.proofs.Lining.{or_right}
 use Rattle.yaml_emit_laws_pretty.proofs.Entries.{no_gap, white_stands}
-
-never : false ≡ true → ⊥
-never e = cc
 
 pub both : (a b : Bool) → a ≡ true → b ≡ false → (a && not b) ≡ true
 both true false e f = refl
-both true true e f = absurd (never (sym f))
-both false b e f = absurd (never e)
+both true true e f = absurd (false≢true (sym f))
+both false b e f = absurd (false≢true e)
 
 -- ---- kinds of text
 
@@ -57,21 +54,21 @@ texty kinds.Alias e = record { begins = refl; stays = stay; calm = refl; lone = 
 texty kinds.SingleQuoted e = record { begins = refl; stays = stay; calm = refl; lone = refl; same = λ d. refl; quiet = λ b. refl }
 texty kinds.DoubleQuoted e = record { begins = refl; stays = stay; calm = refl; lone = refl; same = λ d. refl; quiet = λ b. refl }
 texty kinds.Plain e = record { begins = refl; stays = stay; calm = refl; lone = refl; same = λ d. refl; quiet = λ b. refl }
-texty kinds.StreamStart e = absurd (never e)
-texty kinds.StreamEnd e = absurd (never e)
-texty kinds.Directive e = absurd (never e)
-texty kinds.DocumentStart e = absurd (never e)
-texty kinds.DocumentEnd e = absurd (never e)
-texty kinds.FlowSequenceStart e = absurd (never e)
-texty kinds.FlowMappingStart e = absurd (never e)
-texty kinds.FlowSequenceEnd e = absurd (never e)
-texty kinds.FlowMappingEnd e = absurd (never e)
-texty kinds.FlowEntry e = absurd (never e)
-texty kinds.BlockEntry e = absurd (never e)
-texty kinds.KeyMark e = absurd (never e)
-texty kinds.ValueMark e = absurd (never e)
-texty kinds.Literal e = absurd (never e)
-texty kinds.Folded e = absurd (never e)
+texty kinds.StreamStart e = absurd (false≢true e)
+texty kinds.StreamEnd e = absurd (false≢true e)
+texty kinds.Directive e = absurd (false≢true e)
+texty kinds.DocumentStart e = absurd (false≢true e)
+texty kinds.DocumentEnd e = absurd (false≢true e)
+texty kinds.FlowSequenceStart e = absurd (false≢true e)
+texty kinds.FlowMappingStart e = absurd (false≢true e)
+texty kinds.FlowSequenceEnd e = absurd (false≢true e)
+texty kinds.FlowMappingEnd e = absurd (false≢true e)
+texty kinds.FlowEntry e = absurd (false≢true e)
+texty kinds.BlockEntry e = absurd (false≢true e)
+texty kinds.KeyMark e = absurd (false≢true e)
+texty kinds.ValueMark e = absurd (false≢true e)
+texty kinds.Literal e = absurd (false≢true e)
+texty kinds.Folded e = absurd (false≢true e)
 
 -- ---- places
 

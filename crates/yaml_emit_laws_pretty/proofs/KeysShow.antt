@@ -2,10 +2,10 @@
 use Rattle.std.proofs.Common.{◌≡◌, ℕ, ◌+◌, ◌==◌, ◌&&◌, ◌||◌, not, nat_lt, Bool, true, false, List, [], ◌∷◌, ◌++◌, length, refl, subst, arith, append_assoc}
 use Rattle.std.specs.Prelude.{if◌then◌else◌}
 use Rattle.std.proofs.lemmas.Bool.Decides.{nat_tests}
+use Rattle.std.proofs.lemmas.Bool.{not-true, and_parts}
 use Rattle.yaml_emit_laws_text.specs.scan_history.scan_model.Marks.{byte, break_of}
 use Rattle.yaml_emit_laws_text.specs.scan_history.scan_words.Written.{begins_lexeme}
 use Rattle.yaml_emit_laws_text.specs.Walk.{Has, Left}
-use Rattle.yaml_scan_laws_levels.proofs.Whites.{pair}
 use Rattle.yaml_emit_laws_scalars.specs.Stops.{begins_solid, is_gap_byte}
 use Rattle.yaml_emit_laws_pretty.specs.Walk.{no_comment}
 
@@ -31,17 +31,13 @@ no_width : (b c d : ℕ) → (b == 32) ≡ false → (b == 9) ≡ false → nat_
 unfolding break_of
 no_width b c d s t h = grind (arith, nat_tests)
 
-off : (a : Bool) → not a ≡ true → a ≡ false
-off true e = absurd (cc)
-off false e = refl
-
 solid_by : (b c d : ℕ) (rest : Bool) → (not (b == 32) && (not (b == 9) && (not (b == 35) && (not (nat_lt 0 (break_of b c d)) && rest)))) ≡ true → (not (b == 32 || (b == 10 || b == 13)) && (not (b == 9) && break_of b c d == 0)) ≡ true
 solid_by b c d rest h =
-    let (s, h1) = pair (not (b == 32)) (not (b == 9) && (not (b == 35) && (not (nat_lt 0 (break_of b c d)) && rest))) h in
-    let (t, h2) = pair (not (b == 9)) (not (b == 35) && (not (nat_lt 0 (break_of b c d)) && rest)) h1 in
-    let (k, h3) = pair (not (b == 35)) (not (nat_lt 0 (break_of b c d)) && rest) h2 in
-    let (w, h4) = pair (not (nat_lt 0 (break_of b c d))) rest h3 in
-    no_width b c d (off (b == 32) s) (off (b == 9) t) (off (nat_lt 0 (break_of b c d)) w)
+    let (s, h1) = and_parts (not (b == 32)) (not (b == 9) && (not (b == 35) && (not (nat_lt 0 (break_of b c d)) && rest))) h in
+    let (t, h2) = and_parts (not (b == 9)) (not (b == 35) && (not (nat_lt 0 (break_of b c d)) && rest)) h1 in
+    let (k, h3) = and_parts (not (b == 35)) (not (nat_lt 0 (break_of b c d)) && rest) h2 in
+    let (w, h4) = and_parts (not (nat_lt 0 (break_of b c d))) rest h3 in
+    no_width b c d (not-true (b == 32) s) (not-true (b == 9) t) (not-true (nat_lt 0 (break_of b c d)) w)
 
 -- bytes with which a lexeme begins are solid
 pub lexeme_solid : (b : ℕ) (bs : List ℕ) → begins_lexeme (b ∷ bs) 0 ≡ true → begins_solid (b ∷ bs) ≡ true
@@ -57,8 +53,8 @@ calm_by false b m e h = h
 pub lexeme_calm : (b : ℕ) (bs : List ℕ) → begins_lexeme (b ∷ bs) 0 ≡ true → no_comment (b ∷ bs) ≡ true
 unfolding no_comment
 lexeme_calm b bs h =
-    let (gap, more) = pair (not (is_gap_byte b)) _ (lexeme_solid b bs h) in
-    let (s, h1) = pair (not (b == 32)) _ h in
-    let (t, h2) = pair (not (b == 9)) _ h1 in
-    let (k, h3) = pair (not (b == 35)) _ h2 in
-    calm_by (is_gap_byte b) b (no_comment bs) (off (is_gap_byte b) gap) k
+    let (gap, more) = and_parts (not (is_gap_byte b)) _ (lexeme_solid b bs h) in
+    let (s, h1) = and_parts (not (b == 32)) _ h in
+    let (t, h2) = and_parts (not (b == 9)) _ h1 in
+    let (k, h3) = and_parts (not (b == 35)) _ h2 in
+    calm_by (is_gap_byte b) b (no_comment bs) (not-true (is_gap_byte b) gap) k

@@ -2,7 +2,7 @@
 use Rattle.std.proofs.Common.{◌≡◌, ℕ, ◌+◌, ◌-◌, ◌<◌, ◌≤◌, ◌&&◌, ◌||◌, not, nat_lt, Bool, true, false, List, [], ◌∷◌, length, suc, Option, Some, None, Result, Ok, refl, sym, ap, subst, ◌∙◌, inl, inr, arith}
 use Rattle.std.specs.Prelude.{if◌then◌else◌, IsUtf8}
 use Rattle.std.specs.Str.{chars}
-use Rattle.std.proofs.lemmas.Bool.{cases_Bool, cases_lt}
+use Rattle.std.proofs.lemmas.Bool.{cases_Bool, cases_lt, false≢true, or_left}
 use Rattle.yaml_emit_laws_text.specs.emit_layout.scan_model.declared.yaml_encoding_t.{yaml_encoding_t}
 use Rattle.yaml_emit_laws_text.specs.emit_layout.scan_model.Tokens as tokens
 use Rattle.yaml_emit_laws_text.specs.emit_layout.scan_model.Tokens.{TokenBody}
@@ -42,7 +42,6 @@ use Rattle.yaml_scan_laws_levels.proofs.Walking.{walk_white, walk_word}
 use Rattle.yaml_emit_laws_pretty.specs.Bodies.{is_keep}
 use Rattle.yaml_emit_laws_pretty.specs.Walk.{Stage, LinedUp}
 use Rattle.yaml_emit_laws_pretty.specs.Nodes.{Ending, block_spot, column_round}
-use Rattle.yaml_emit_laws_pretty.proofs.Lining.{or_left}
 use Rattle.yaml_emit_laws_pretty.proofs.Entries.{no_gap}
 use Rattle.yaml_emit_laws_pretty.proofs.KeyColumns.{columns_grow, low_starts}
 
@@ -90,14 +89,11 @@ record IsBlock (k : Kind) : Type 0 where
   allows : allows_key k true false ≡ true
   value : is_value k ≡ true → ⊥
 
-never : false ≡ true → ⊥
-never e = cc
-
 folded_is : IsBlock kinds.Folded
-folded_is = record { flat = refl; stays = refl; allows = refl; value = λ e. never e }
+folded_is = record { flat = refl; stays = refl; allows = refl; value = λ e. false≢true e }
 
 literal_is : IsBlock kinds.Literal
-literal_is = record { flat = refl; stays = refl; allows = refl; value = λ e. never e }
+literal_is = record { flat = refl; stays = refl; allows = refl; value = λ e. false≢true e }
 
 -- text in a line takes a column at least
 same_line : (text : List ℕ) (p e b m : ℕ) → byte text p ≡ b → b < 127 → p < e → line_at text e ≤ line_at text p → column_at text e ≡ m → m ≤ column_at text p → ⊥

@@ -1,6 +1,8 @@
 -- Words as content of a block: properties with the `!`, and single words.
 use Rattle.std.proofs.Common.{◌≡◌, ℕ, ◌+◌, ◌≤◌, ◌||◌, Bool, true, false, List, [], ◌∷◌, ◌++◌, length, refl, sym, ap, subst, ◌∙◌, inr, arith, Option, Some, None}
 use Rattle.std.specs.Prelude.{if◌then◌else◌}
+use Rattle.std.proofs.lemmas.Bool.{false≢true}
+use Rattle.std.proofs.lemmas.List.{append-nil}
 use Rattle.yaml_emit_laws_text.specs.emit_layout.scan_model.declared.yaml_encoding_t.{yaml_encoding_t}
 use Rattle.yaml_emit_laws_text.specs.emit_layout.scan_model.Tokens.{TokenBody}
 use Rattle.yaml_emit_laws_text.specs.scan_history.scan_model.Marks.{column_at}
@@ -28,15 +30,8 @@ use Rattle.yaml_emit_laws_pretty.proofs.KeySteps.{spot_at, front}
 use Rattle.yaml_emit_laws_pretty.proofs.LeafWords.{WordsRun, ClearFor, outside_clear, content_word, content_words}
 use Rattle.yaml_emit_laws_pretty.proofs.LeafProps.{Moved, has_words, has_some, dress_all}
 
-never : false ≡ true → ⊥
-never e = cc
-
 bare_off : (b : Bool) → b ≡ false → b ≡ true → ⊥
-bare_off b e f = never (sym e ∙ f)
-
-append_none : (xs : List ℕ) → xs ++ [] ≡ xs
-append_none [] = refl
-append_none (x ∷ xs) = ap (λ (ys : List ℕ). x ∷ ys) (append_none xs)
+bare_off b e f = false≢true (sym e ∙ f)
 
 -- ---- stages
 
@@ -60,7 +55,7 @@ pub word_walks : (a : Layout) (c : Cursor) (ls : List ℕ) (w : Spoken false (in
 word_walks a c ls w says rest fits x text o T s right l =
     let own = spoken_bytes w in
     let bs = bytes (rest says.behind) in
-    let m : Left text o.at (own ++ bs) = subst (λ ys. Left text o.at ys) (says.written rest ∙ ap (λ (ys : List ℕ). ys ++ bs) (append_none own)) l in
+    let m : Left text o.at (own ++ bs) = subst (λ ys. Left text o.at ys) (says.written rest ∙ ap (λ (ys : List ℕ). ys ++ bs) (append-nil own)) l in
     let r = content_word 0 ls w bs x text o.at o.line o.now o.broken [] T (stage_reads x text c o ls T s) (all_clear o.now) (inr (spaced_right text o.at (indent ls) w.spaced w.own bs right m)) m fits in
     record {
       behind = says.behind;
@@ -95,7 +90,7 @@ dress_run ls [] c e some moved is calm kept rest fits x text o T s right l = rec
   right = right;
   same = refl;
   none = λ h. refl;
-  text_before = λ h. absurd (never (is ∙ h));
+  text_before = λ h. absurd (false≢true (is ∙ h));
 }
 dress_run ls (w ∷ ws) c e some (bare, white) is calm kept rest fits x text o T s right l =
     let own = all_bytes (w ∷ ws) in
@@ -110,7 +105,7 @@ dress_run ls (w ∷ ws) c e some (bare, white) is calm kept rest fits x text o T
       left = left_rest text o.at own bs l;
       right = omega (arith, last, right);
       same = kept;
-      none = λ h. absurd (never (sym h ∙ sym is));
+      none = λ h. absurd (false≢true (sym h ∙ sym is));
       text_before = λ h. (bare, white);
     }
 
@@ -138,10 +133,10 @@ dressed s o pretty a t m good fine ls c rest white space x text w T st right l =
 some_words : (a t : Option (List ℕ)) → (has a || has t) ≡ true → has_some a (has_some t false) ≡ true
 some_words (Some a) t e = refl
 some_words None (Some t) e = refl
-some_words None None e = absurd (never e)
+some_words None None e = absurd (false≢true e)
 
 pub properties_on : PropertiesAreWalked
 properties_on s o pretty a t good fine some ls c rest parted x text w T st right l =
-    let r = dressed s o pretty a t false good fine ls c rest parted (λ h. absurd (never h)) x text w T st right l in
+    let r = dressed s o pretty a t false good fine ls c rest parted (λ h. absurd (false≢true h)) x text w T st right l in
     let (bare, white) = r.text_before (some_words a t some) in
     record { cursor = r.cursor; place = r.place; stage = r.stage; left = r.left; bare = bare; white = white; right = r.right; same = r.same }

@@ -2,6 +2,7 @@
 use Rattle.std.proofs.Common.{◌≡◌, ℕ, ◌+◌, ◌<◌, ◌≤◌, ◌==◌, ◌&&◌, ◌||◌, not, nat_lt, Bool, true, false, List, [], ◌∷◌, refl, sym, ap, subst, ◌∙◌, arith, Option, Some, None}
 use Rattle.std.specs.Prelude.{if◌then◌else◌, IsUtf8}
 use Rattle.std.specs.Str.{chars}
+use Rattle.std.proofs.lemmas.Bool.{false≢true}
 use Rattle.yaml_emit_laws_text.specs.emit_layout.scan_model.declared.yaml_encoding_t.{yaml_encoding_t}
 use Rattle.yaml_emit_laws_text.specs.emit_layout.scan_model.Tokens as tokens
 use Rattle.yaml_emit_laws_text.specs.emit_layout.scan_model.Tokens.{TokenBody}
@@ -45,9 +46,6 @@ use Rattle.yaml_emit_laws_pretty.proofs.SpokenLayouts.{alias_says, double_says, 
 use Rattle.yaml_emit_laws_pretty.proofs.LeafBlocks.{block_line}
 use Rattle.yaml_emit_laws_pretty.proofs.LeafDress.{dressed, word_walks}
 
-never : false ≡ true → ⊥
-never e = cc
-
 -- ---- white
 
 -- behind text a line begins with a break
@@ -62,7 +60,7 @@ gap_bytes a e R white =
 -- all but plain scalars have a space in front, where one is due
 spaced_text : (page : Page) (digit : ℕ) (v : List ℕ) (st : Style) → is_plain st ≡ false → (e : Cursor) (R : Rest) → e.white ≡ false → first (bytes (scalar_text page digit false st v e R)) ≡ 32
 unfolding scalar_text
-spaced_text page digit v style.Plain some e R white = absurd (never (sym some))
+spaced_text page digit v style.Plain some e R white = absurd (false≢true (sym some))
 spaced_text page digit v style.Single some e R white = ap (λ (bs : List ℕ). first bs) (gap_bytes (between_single page v) e R white)
 spaced_text page digit v style.Double some e R white = ap (λ (bs : List ℕ). first bs) (gap_bytes (between_quotes page v) e R white)
 spaced_text page digit v style.Literal some e R white = ap (λ (bs : List ℕ). first bs) (gap_bytes (from_indicator page digit false v) e R white)
@@ -157,14 +155,14 @@ block_lines s o pretty around q v u style.Folded some is ls c m after level up e
     let least = pretty.least in
     let most = pretty.most in
     block_line p around q v true (omega (arith, least)) (omega (arith, most)) u (spot_style p around q v ∙ is) ls c m after level up ending x text w T st right l
-block_lines s o pretty around q v u style.Plain some is ls c m after level up ending x text w T st right l = absurd (never some)
-block_lines s o pretty around q v u style.Single some is ls c m after level up ending x text w T st right l = absurd (never some)
-block_lines s o pretty around q v u style.Double some is ls c m after level up ending x text w T st right l = absurd (never some)
+block_lines s o pretty around q v u style.Plain some is ls c m after level up ending x text w T st right l = absurd (false≢true some)
+block_lines s o pretty around q v u style.Single some is ls c m after level up ending x text w T st right l = absurd (false≢true some)
+block_lines s o pretty around q v u style.Double some is ls c m after level up ending x text w T st right l = absurd (false≢true some)
 
 -- ---- scalars with their properties
 
 mark_plain : (a b : Bool) (st : Style) → (a && (b && not (is_plain st))) ≡ true → is_plain st ≡ false
-mark_plain a b style.Plain e = absurd (never (sym (off a b) ∙ e))
+mark_plain a b style.Plain e = absurd (false≢true (sym (off a b) ∙ e))
   where
     off : (a b : Bool) → (a && (b && false)) ≡ false
     off true true = refl
@@ -258,15 +256,15 @@ style_lines : PlainIsWalked → SingleIsWalked → QuotedIsReadBack → StylesAr
 style_lines plains singles doubles styles s o pretty around q v u style.Plain is none = plain_lines plains styles s o pretty around q v u is
 style_lines plains singles doubles styles s o pretty around q v u style.Single is none = single_lines singles styles s o pretty around q v u is
 style_lines plains singles doubles styles s o pretty around q v u style.Double is none = double_lines doubles s o pretty around q v u
-style_lines plains singles doubles styles s o pretty around q v u style.Literal is none = absurd (never (sym none))
-style_lines plains singles doubles styles s o pretty around q v u style.Folded is none = absurd (never (sym none))
+style_lines plains singles doubles styles s o pretty around q v u style.Literal is none = absurd (false≢true (sym none))
+style_lines plains singles doubles styles s o pretty around q v u style.Folded is none = absurd (false≢true (sym none))
 
 pub leaves_on : PlainIsWalked → SingleIsWalked → QuotedIsReadBack → StylesAreAllowed → PlainHasGap → LeavesAreWalked
 leaves_on plains singles doubles styles gaps s o pretty (alias_node name) fine around q bare whole leaf none = alias_walks s o pretty around q bare name fine whole
 leaves_on plains singles doubles styles gaps s o pretty (scalar_node v) (anchor, tag, u) around q bare whole leaf none =
     scalar_walks gaps s o pretty around q bare v (anchor, tag, u) (style_lines plains singles doubles styles s o pretty around q v u (style_at (context_of s o.directives) false q v) refl none)
-leaves_on plains singles doubles styles gaps s o pretty (sequence_node a items) fine around q bare whole leaf none = absurd (never leaf)
-leaves_on plains singles doubles styles gaps s o pretty (mapping_node a pairs) fine around q bare whole leaf none = absurd (never leaf)
+leaves_on plains singles doubles styles gaps s o pretty (sequence_node a items) fine around q bare whole leaf none = absurd (false≢true leaf)
+leaves_on plains singles doubles styles gaps s o pretty (mapping_node a pairs) fine around q bare whole leaf none = absurd (false≢true leaf)
 
 pub blocks_on : PlainHasGap → BlockScalarsAreWalked
 blocks_on gaps s o pretty v (anchor, tag, u) around q bare whole some =

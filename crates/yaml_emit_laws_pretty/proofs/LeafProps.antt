@@ -1,7 +1,7 @@
 -- Properties as words: an anchor, a tag, and the `!` of an untagged scalar.
 use Rattle.std.proofs.Common.{◌≡◌, ℕ, ◌+◌, ◌/◌, ◌%◌, ◌<◌, not, nat_lt, Bool, true, false, List, [], ◌∷◌, ◌++◌, length, Option, Some, None, refl, sym, ap, subst, ◌∙◌, inl, inr, arith, append_assoc}
 use Rattle.std.specs.Prelude.{if◌then◌else◌}
-use Rattle.std.proofs.lemmas.Bool.{cases_Bool}
+use Rattle.std.proofs.lemmas.Bool.{cases_Bool, and_parts}
 use Rattle.std.proofs.lemmas.Bool.Decides.{nat_tests}
 use Rattle.yaml_emit_laws_text.specs.emit_layout.scan_model.Tokens.{TokenBody}
 use Rattle.yaml_emit_laws_text.specs.scan_history.declared.kind.Kind.TheVariants as kinds
@@ -19,7 +19,7 @@ use Rattle.yaml_emit_laws_text.specs.TagsLaws.{IsShaped, IsReadable, are_ascii, 
 use Rattle.yaml_emit_laws_text.specs.Walk.{bytes, first}
 use Rattle.yaml_emit_laws_text.specs.Writable.{IsWritableAnchor, IsWritableTag, IsWritableOpening}
 use Rattle.yaml_emit_laws_text.proofs.Ascii.{spelled_ascii}
-use Rattle.yaml_emit_laws_text.proofs.Bytes.{and_left, and_right, AreCalm, calm_from}
+use Rattle.yaml_emit_laws_text.proofs.Bytes.{AreCalm, calm_from}
 use Rattle.yaml_emit_laws_text.proofs.Joining.{written_readable}
 use Rattle.yaml_emit_laws_text.proofs.Steps.{letter_low}
 use Rattle.yaml_emit_laws_text.proofs.TagsReading.{split_read}
@@ -50,7 +50,7 @@ low x h = grind (arith, nat_tests)
 
 calm_all : (xs : List ℕ) → Above xs → are_ascii xs ≡ true → AreCalm xs
 calm_all [] h a = tt
-calm_all (x ∷ xs) (b, h) a = (calm_from x b (less x (and_left (nat_lt x 128) (are_ascii xs) a)), calm_all xs h (and_right (nat_lt x 128) (are_ascii xs) a))
+calm_all (x ∷ xs) (b, h) a = (calm_from x b (less x (and_parts (nat_lt x 128) (are_ascii xs) a).0), calm_all xs h (and_parts (nat_lt x 128) (are_ascii xs) a).1)
 
 alpha_above : (b : ℕ) → is_alpha_byte b ≡ true → (13 < b) × (b < 128)
 unfolding is_alpha_byte is_digit_byte
@@ -58,11 +58,11 @@ alpha_above b h = (grind (arith, nat_tests), grind (arith, nat_tests))
 
 pub alphas_calm : (name : List ℕ) → are_alphas name ≡ true → AreCalm name
 alphas_calm [] h = tt
-alphas_calm (b ∷ bs) h = let a = alpha_above b (and_left (is_alpha_byte b) (are_alphas bs) h) in (calm_from b a.0 a.1, alphas_calm bs (and_right (is_alpha_byte b) (are_alphas bs) h))
+alphas_calm (b ∷ bs) h = let a = alpha_above b (and_parts (is_alpha_byte b) (are_alphas bs) h).0 in (calm_from b a.0 a.1, alphas_calm bs (and_parts (is_alpha_byte b) (are_alphas bs) h).1)
 
 alphas_above : (name : List ℕ) → are_alphas name ≡ true → Above name
 alphas_above [] h = tt
-alphas_above (b ∷ bs) h = ((alpha_above b (and_left (is_alpha_byte b) (are_alphas bs) h)).0, alphas_above bs (and_right (is_alpha_byte b) (are_alphas bs) h))
+alphas_above (b ∷ bs) h = ((alpha_above b (and_parts (is_alpha_byte b) (are_alphas bs) h).0).0, alphas_above bs (and_parts (is_alpha_byte b) (are_alphas bs) h).1)
 
 kept_above : (flow : Bool) (b : ℕ) → keeps_byte flow b ≡ true → 13 < b
 unfolding suffix_keeps

@@ -1,6 +1,7 @@
 -- Words as content, one behind the other: at any depth.
 use Rattle.std.proofs.Common.{◌≡◌, ℕ, ◌+◌, ◌≤◌, ◌&&◌, ◌||◌, nat_lt, Bool, true, false, List, [], ◌∷◌, ◌++◌, length, suc, refl, sym, subst, ◌∙◌, arith, append_assoc, length-append}
 use Rattle.std.specs.Prelude.{if◌then◌else◌}
+use Rattle.std.proofs.lemmas.Bool.{false≢true}
 use Rattle.yaml_emit_laws_text.specs.emit_layout.scan_model.declared.yaml_encoding_t.{yaml_encoding_t}
 use Rattle.yaml_emit_laws_text.specs.emit_layout.scan_model.Tokens.{TokenBody}
 use Rattle.yaml_emit_laws_text.specs.scan_history.scan_model.Marks.{column_at, line_at}
@@ -16,9 +17,6 @@ use Rattle.yaml_scan_laws_levels.proofs.Walking.{walk_white, walk_word, deeper_l
 use Rattle.yaml_emit_laws_pretty.specs.Spoken.{is_text, Fits, Spoken, spoken_bytes, all_bytes, all_bodies, AllFit}
 use Rattle.yaml_emit_laws_pretty.proofs.KeySteps.{texty, stands_comes, stands_leaves, spot_at, front}
 
-never : false ≡ true → ⊥
-never e = cc
-
 -- words of text leave the depths without candidates so, where a key may begin as it may now
 abbrev pub ClearFor : Bool → ℕ → List ℕ → Type 0
 ClearFor now d cs = (a : Bool) → (now ≡ false → a ≡ false) → (k : Kind) → is_text k ≡ true → LeaveClear k d a cs
@@ -27,7 +25,7 @@ pub outside_clear : (now : Bool) (d : ℕ) (cs : List ℕ) → Outside d cs → 
 outside_clear now d cs out a h k is = deeper_leaves k d a cs out
 
 no_more : (a b : Bool) → a ≡ false → (a || (false && b)) ≡ false
-no_more true b e = absurd (never (sym e))
+no_more true b e = absurd (false≢true (sym e))
 no_more false b e = refl
 
 still : (now b : Bool) (d : ℕ) (cs : List ℕ) → ClearFor now d cs → ClearFor (now || (false && b)) d cs
@@ -56,7 +54,7 @@ word_here d ls w bs x text q line now broken cs T reads clear right l fits =
     let said : WordText = record { body = w.body; end = s.end; reached = s.reached; broke = s.broke } in
     let r = walk_word x text (spot_at q line d now broken) cs ls T w.kind [] said e false s.wide reads (clear (now || (false && broken)) (λ h. no_more now broken h) w.kind w.plain)
     (stands_comes d (indent ls) w.kind w.body text q e bs (omega arith) s) (t.stays d) (subst (λ i. IsRight d ls (column_at text i)) (sym z) right)
-    (λ v. absurd (never (sym t.lone ∙ v))) (stands_leaves d (indent ls) w.kind w.body text q e bs t s) in
+    (λ v. absurd (false≢true (sym t.lone ∙ v))) (stands_leaves d (indent ls) w.kind w.body text q e bs t s) in
     record {
       line = line_at text (q + 0);
       wide = s.wide;

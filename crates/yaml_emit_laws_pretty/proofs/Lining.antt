@@ -1,7 +1,7 @@
 -- Spaces and lines.
 use Rattle.std.proofs.Common.{◌≡◌, ℕ, ◌-◌, ◌+◌, ◌≤◌, ◌<◌, ◌==◌, ◌&&◌, ◌||◌, not, nat_lt, Bool, true, false, List, [], ◌∷◌, zero, suc, refl, sym, ap, subst, ◌∙◌, inl, inr, arith}
 use Rattle.std.specs.Prelude.{if◌then◌else◌}
-use Rattle.std.proofs.lemmas.Bool.{cases_Bool}
+use Rattle.std.proofs.lemmas.Bool.{cases_Bool, or_left, or_right, not-false, ltb-false, eq-eqb}
 use Rattle.std.proofs.lemmas.Bool.Decides.{nat_tests}
 use Rattle.std.proofs.lemmas.List.{get_or_past}
 use Rattle.yaml_emit_laws_text.specs.emit_layout.scan_model.declared.yaml_encoding_t.{yaml_encoding_t}
@@ -25,14 +25,6 @@ use Rattle.yaml_emit_laws_pretty.specs.Walk.{Stage, NoFeed, Lined, LineIsWalked,
 pub first_byte : (text : List ℕ) (p : ℕ) (bs : List ℕ) → Left text p bs → byte text p ≡ first bs
 first_byte text p [] l = let e = l.ends in get_or_past text p 0 (omega (arith, e))
 first_byte text p (b ∷ bs) l = left_first text p b bs l
-
-pub or_left : (a b : Bool) → a ≡ true → (a || b) ≡ true
-or_left true b e = refl
-or_left false b e = absurd (cc)
-
-pub or_right : (a b : Bool) → b ≡ true → (a || b) ≡ true
-or_right true b e = refl
-or_right false b e = e
 
 -- ---- spaces
 
@@ -138,20 +130,10 @@ all_false false true d e = absurd (cc)
 all_false false false true e = absurd (cc)
 all_false false false false e = (refl, refl, refl)
 
-not_false : (a : Bool) → not a ≡ false → a ≡ true
-not_false true e = refl
-not_false false e = absurd (cc)
-
 white_so : (a w : Bool) → a ≡ true → (a && not w) ≡ false → w ≡ true
 white_so true true e f = refl
 white_so true false e f = absurd (cc)
 white_so false w e f = absurd (cc)
-
-up_to : (n m : ℕ) → nat_lt n m ≡ false → m ≤ n
-up_to n m e = grind (arith, nat_tests)
-
-equal : (n m : ℕ) → n ≡ m → (n == m) ≡ true
-equal n m e = grind (arith, nat_tests)
 
 pub line_on : LineIsWalked
 unfolding line
@@ -164,8 +146,8 @@ line_on b n x text c o ls more T rest s none l =
           record { cursor = all.cursor; place = all.place; stage = all.stage; left = all.left; bare = all.bare; white = all.white; column = all.column ∙ omega arith; same = all.same }
       | inr e ↦
           let (bare, right, late) = all_false (not c.bare) (nat_lt n c.column) (c.column == n && not c.white) e in
-          let most = up_to n c.column right in
-          let all = blanks_on (n - c.column) x text c o ls more T rest s (not_false c.bare bare) (λ z. white_so (c.column == n) c.white (equal c.column n (omega (arith, z, most))) late)
+          let most = ltb-false n c.column right in
+          let all = blanks_on (n - c.column) x text c o ls more T rest s (not-false c.bare bare) (λ z. white_so (c.column == n) c.white (eq-eqb c.column n (omega (arith, z, most))) late)
           (subst (λ (t : Bool). Left text o.at (bytes (if t then new_line b c after else after c))) e l) in
           record { cursor = all.cursor; place = all.place; stage = all.stage; left = all.left; bare = all.bare; white = all.white; column = all.column ∙ omega (arith, most); same = all.same }
     ]

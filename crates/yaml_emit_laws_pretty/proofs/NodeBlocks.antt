@@ -1,5 +1,6 @@
 -- Block collections with their properties.
 use Rattle.std.proofs.Common.{◌≡◌, ℕ, ◌+◌, ◌<◌, ◌≤◌, ◌&&◌, ◌||◌, not, nat_lt, Bool, true, false, List, [], ◌∷◌, refl, sym, ap, subst, ◌∙◌, arith, Option, Some, None}
+use Rattle.std.proofs.Math.Bool.{and-false, and-true}
 use Rattle.yaml_emit_laws_text.specs.emit_layout.scan_model.declared.yaml_encoding_t.{yaml_encoding_t}
 use Rattle.yaml_emit_laws_text.specs.emit_layout.scan_model.Tokens as tokens
 use Rattle.yaml_emit_laws_text.specs.emit_layout.scan_model.Tokens.{TokenBody}
@@ -40,24 +41,16 @@ record Opened (x : yaml_encoding_t) (text : List ℕ) (rest : Rest) (kept bare :
   same : cursor.kept ≡ kept
   is : cursor.bare ≡ bare
 
-and_off : (a : Bool) → (a && false) ≡ false
-and_off true = refl
-and_off false = refl
-
-and_on : (a : Bool) → (a && true) ≡ a
-and_on true = refl
-and_on false = refl
-
 opens_on : PropertiesAreWalked → (s : Settings) (d : Opening) → IsPretty s d → (a t : Option (List ℕ)) → IsWritableAnchor a → IsWritableTag t → (ls : List ℕ) (c : Cursor) (rest : Rest) → PartedBehind rest
     → (x : yaml_encoding_t) (text : List ℕ) (o : Where) (T : List TokenBody → List TokenBody) → Stage x text c o ls [] T → indent ls ≤ column_at text o.at → Left text o.at (bytes (properties_text (context_of s d.directives) a t c rest))
     → Opened x text rest c.kept (c.bare && is_bare a t) ls (λ bs. T (anchor_bodies a (tag_bodies d.directives t bs)))
-opens_on law s d pretty None None good fine ls c rest parted x text o T st right l = record { cursor = c; place = o; stage = st; left = l; right = right; same = refl; is = sym (and_on c.bare) }
+opens_on law s d pretty None None good fine ls c rest parted x text o T st right l = record { cursor = c; place = o; stage = st; left = l; right = right; same = refl; is = sym (and-true c.bare) }
 opens_on law s d pretty (Some a) t good fine ls c rest parted x text o T st right l =
     let h = law s d pretty (Some a) t good fine refl ls c rest parted x text o T st right l in
-    record { cursor = h.cursor; place = h.place; stage = h.stage; left = h.left; right = h.right; same = h.same; is = h.bare ∙ sym (and_off c.bare) }
+    record { cursor = h.cursor; place = h.place; stage = h.stage; left = h.left; right = h.right; same = h.same; is = h.bare ∙ sym (and-false c.bare) }
 opens_on law s d pretty None (Some t) good fine ls c rest parted x text o T st right l =
     let h = law s d pretty None (Some t) good fine refl ls c rest parted x text o T st right l in
-    record { cursor = h.cursor; place = h.place; stage = h.stage; left = h.left; right = h.right; same = h.same; is = h.bare ∙ sym (and_off c.bare) }
+    record { cursor = h.cursor; place = h.place; stage = h.stage; left = h.left; right = h.right; same = h.same; is = h.bare ∙ sym (and-false c.bare) }
 
 properties_white : (p : Context) (a t : Option (List ℕ)) (c : Cursor) (rest : Rest) → c.white ≡ false → begins_white (bytes (rest c)) ≡ true → begins_white (bytes (properties_text p a t c rest)) ≡ true
 properties_white p None None c rest white next = next

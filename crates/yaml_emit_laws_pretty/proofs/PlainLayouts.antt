@@ -1,7 +1,8 @@
 -- Plain scalars as content, empty ones too.
-use Rattle.std.proofs.Common.{◌≡◌, ℕ, ◌+◌, ◌<◌, ◌≤◌, Bool, true, false, List, [], ◌∷◌, refl, sym, ap, subst, ◌∙◌, arith}
+use Rattle.std.proofs.Common.{◌≡◌, ℕ, ◌+◌, ◌<◌, ◌≤◌, Bool, true, false, List, [], ◌∷◌, refl, ap, subst, ◌∙◌, arith}
 use Rattle.std.specs.Prelude.{if◌then◌else◌, IsUtf8}
 use Rattle.std.specs.Str.{chars}
+use Rattle.std.proofs.lemmas.Bool.{false≢true}
 use Rattle.yaml_emit_laws_text.specs.emit_layout.scan_model.declared.yaml_encoding_t.{yaml_encoding_t}
 use Rattle.yaml_emit_laws_text.specs.emit_layout.scan_model.Tokens.{TokenBody}
 use Rattle.yaml_emit_laws_text.specs.scan_history.History.{indent}
@@ -39,12 +40,6 @@ walks_as a b B C ls c rest same e w x text o T s right l =
 
 -- ---- plain scalars
 
-bare_off : (b : Bool) → b ≡ false → b ≡ true → ⊥
-bare_off b e f = never (sym e ∙ f)
-  where
-    never : false ≡ true → ⊥
-    never e = cc
-
 -- an empty one is nothing
 pub empty_layout : (page : Page) (c : Cursor) (rest : Rest) → plain page false (chars []) c rest ≡ after_text c rest
 unfolding flow_body chars
@@ -55,7 +50,7 @@ empty_walks ls c rest x text o T s right l = record {
   behind = record { column = c.column; white = false; bare = false; kept = c.kept };
   place = o;
   more = [];
-  stage = record { reads = s.reads; flat = s.flat; broken = s.broken; bare = λ b. absurd (bare_off false refl b); line = s.line };
+  stage = record { reads = s.reads; flat = s.flat; broken = s.broken; bare = λ b. absurd (false≢true b); line = s.line };
   left = l;
   bare = refl;
   same = refl;

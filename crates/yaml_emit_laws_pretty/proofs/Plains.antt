@@ -2,7 +2,7 @@
 use Rattle.std.proofs.Common.{◌≡◌, ℕ, ◌+◌, ◌<◌, ◌≤◌, ◌==◌, ◌&&◌, ◌||◌, not, nat_lt, Bool, true, false, List, [], ◌∷◌, length, zero, suc, refl, sym, ap, subst, ◌∙◌, inl, inr, arith}
 use Rattle.std.specs.Prelude.{if◌then◌else◌, IsUtf8}
 use Rattle.std.specs.Str.{chars}
-use Rattle.std.proofs.lemmas.Bool.{cases_Bool}
+use Rattle.std.proofs.lemmas.Bool.{cases_Bool, or_left, or_right, false≢true, and_parts}
 use Rattle.yaml_emit_laws_text.specs.emit_layout.scan_model.declared.yaml_scalar_style_t.TheVariants.{YAML_PLAIN_SCALAR_STYLE}
 use Rattle.yaml_emit_laws_text.specs.emit_layout.scan_model.Tokens as tokens
 use Rattle.yaml_emit_laws_text.specs.emit_layout.scan_model.Tokens.{TokenBody}
@@ -23,7 +23,6 @@ use Rattle.std.proofs.lemmas.Bool.Decides.{nat_tests}
 use Rattle.yaml_scan_laws_texts.specs.PlainLaws.{ends_plain}
 use Rattle.yaml_emit_laws_text.specs.scan_history.scan_scalars.Plain.{ends_at}
 use Rattle.yaml_emit_laws_text.specs.scan_history.scan_model.Classes.{is_bom}
-use Rattle.yaml_scan_laws_levels.proofs.Whites.{pair}
 use Rattle.yaml_scan_laws_order.proofs.MarksForward.{line_at-grows}
 use Rattle.yaml_scan_laws_levels.specs.Steps.{Comes}
 use Rattle.yaml_scan_laws_levels.specs.Walks.{Where, LeaveClear, behind}
@@ -35,7 +34,7 @@ use Rattle.yaml_emit_laws_scalars.specs.PlainLaws.{may_be_plain}
 use Rattle.yaml_emit_laws_scalars.specs.StandsLaws.{PlainHasGap, PlainStands, ScalarsAreWords}
 use Rattle.yaml_emit_laws_scalars.proofs.Stopping.{stops_end}
 use Rattle.yaml_emit_laws_pretty.specs.Walk.{Stage, Walks, Follows, no_comment, PlainIsWalked}
-use Rattle.yaml_emit_laws_pretty.proofs.Lining.{or_left, or_right, first_byte, line_on_to}
+use Rattle.yaml_emit_laws_pretty.proofs.Lining.{first_byte, line_on_to}
 use Rattle.yaml_emit_laws_pretty.proofs.Entries.{no_gap}
 
 -- a space, where one is due
@@ -56,9 +55,6 @@ walks_gap a B ls c rest w x text o T s right l =
 
 never : (false ≡ true) → ⊥
 never e = cc
-
-bare_off : (b : Bool) → b ≡ false → b ≡ true → ⊥
-bare_off b e f = never (sym e ∙ f)
 
 -- ---- a lexeme begins behind the white
 
@@ -98,8 +94,8 @@ unfolding ends_plain
 ends_begins level text p zero h begins hash up = let z : p ≡ 0 = omega (arith, up) in subst (λ n. begins_lexeme text n ≡ true) z begins
 ends_begins level text p (suc q) h begins hash up =
     let n = suc q in
-    let (blank, more) = pair (not (is_blank (byte text n))) (not (nat_lt 0 (break_width text n)) && ends_at false level text n) h in
-    let (wide, ends) = pair (not (nat_lt 0 (break_width text n))) (ends_at false level text n) more in
+    let (blank, more) = and_parts (not (is_blank (byte text n))) (not (nat_lt 0 (break_width text n)) && ends_at false level text n) h in
+    let (wide, ends) = and_parts (not (nat_lt 0 (break_width text n))) (ends_at false level text n) more in
     begins_by text n (off (is_blank (byte text n)) blank) (off (nat_lt 0 (break_width text n)) wide) (apart (byte text n) hash) (ap (λ b. b && is_bom text n) (positive q))
   where
     positive : (q : ℕ) → (suc q == 0) ≡ false
@@ -142,7 +138,7 @@ body_walks stands are_words page ls value rest u some may deep far follows c x t
       behind = g.behind;
       place = behind text (p + 0) e o.depth false true;
       more = [];
-      stage = record { reads = r; flat = s.flat; broken = refl; bare = λ b. absurd (bare_off g.behind.bare g.fine.bare b); line = line_at-grows text (p + 0) e (omega arith) };
+      stage = record { reads = r; flat = s.flat; broken = refl; bare = λ b. absurd (false≢true (sym g.fine.bare ∙ b)); line = line_at-grows text (p + 0) e (omega arith) };
       left = g.left;
       bare = g.fine.bare;
       same = g.fine.kept;

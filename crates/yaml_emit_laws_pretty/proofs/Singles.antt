@@ -2,6 +2,7 @@
 use Rattle.std.proofs.Common.{◌≡◌, ℕ, ◌+◌, ◌<◌, ◌≤◌, Bool, true, false, List, [], ◌∷◌, length, refl, sym, ap, subst, ◌∙◌, inr, arith}
 use Rattle.std.specs.Prelude.{IsUtf8}
 use Rattle.std.specs.Str.{chars}
+use Rattle.std.proofs.lemmas.Bool.{false≢true}
 use Rattle.yaml_emit_laws_text.specs.emit_layout.scan_model.declared.yaml_scalar_style_t.TheVariants.{YAML_SINGLE_QUOTED_SCALAR_STYLE}
 use Rattle.yaml_emit_laws_text.specs.emit_layout.scan_model.Tokens as tokens
 use Rattle.yaml_emit_laws_text.specs.scan_history.scan_model.Marks.{column_at}
@@ -25,15 +26,12 @@ use Rattle.yaml_emit_laws_pretty.specs.Walk.{Walks, Follows, SingleIsWalked}
 use Rattle.yaml_emit_laws_pretty.proofs.Entries.{no_gap}
 use Rattle.yaml_emit_laws_pretty.proofs.Plains.{walks_gap}
 
-never : false ≡ true → ⊥
-never e = cc
-
 no_quote : (bs : List ℕ) → begins_white bs ≡ true → first bs ≡ 39 → ⊥
 no_quote [] h e = absurd (omega (arith, e))
-no_quote (b ∷ bs) h e = let k : begins_white (39 ∷ bs) ≡ true = subst (λ x. begins_white (x ∷ bs) ≡ true) e h in absurd (never k)
+no_quote (b ∷ bs) h e = let k : begins_white (39 ∷ bs) ≡ true = subst (λ x. begins_white (x ∷ bs) ≡ true) e h in absurd (false≢true k)
 
 bare_off : (b : Bool) → b ≡ false → b ≡ true → ⊥
-bare_off b e f = never (sym e ∙ f)
+bare_off b e f = false≢true (sym e ∙ f)
 
 quotes_walk : SingleStands → ScalarsAreWords → (page : Page) (ls : List ℕ) (value : List ℕ) (rest : Rest) → IsUtf8 value → (allowed page.unicode (chars value)).single ≡ true → 0 < page.indentation → Follows (indent ls) rest
     → (c : Cursor) → Walks (between_single page (chars value)) (λ bs. tokens.scalar value YAML_SINGLE_QUOTED_SCALAR_STYLE ∷ bs) ls c rest
@@ -54,7 +52,7 @@ quotes_walk stands words page ls value rest u may deep follows c x text o T s ri
     } in
     let u0 : Where = record { at = p; line = o.line; depth = 0; now = o.now; broken = o.broken } in
     let reads : Reads x text u0 [] ls [] T = subst (λ i. Reads x text (record { at = p; line = o.line; depth = i; now = o.now; broken = o.broken }) [] ls [] T) s.flat s.reads in
-    let r = walk_word x text u0 [] ls T kinds.SingleQuoted [] w e false true reads tt comes refl (inr (subst (λ n. level ≤ column_at text n) (sym z) right)) (λ v. absurd (never v)) (words_leave.all text 0 false w refl) in
+    let r = walk_word x text u0 [] ls T kinds.SingleQuoted [] w e false true reads tt comes refl (inr (subst (λ n. level ≤ column_at text n) (sym z) right)) (λ v. absurd (false≢true v)) (words_leave.all text 0 false w refl) in
     record {
       behind = g.behind;
       place = behind text (p + 0) e 0 false true;

@@ -3,6 +3,8 @@ use Rattle.std.proofs.Common.{◌≡◌, ℕ, ◌+◌, ◌<◌, ◌≤◌, not, 
 use Rattle.std.specs.Prelude.{if◌then◌else◌, IsUtf8}
 use Rattle.std.specs.Str.{chars}
 use Rattle.std.proofs.lemmas.Bool.Decides.{nat_tests}
+use Rattle.std.proofs.lemmas.List.{append-nil}
+use Rattle.std.proofs.lemmas.Bool.{and_parts}
 use Rattle.yaml_emit_laws_text.specs.scan_history.scan_model.Classes.{is_alpha_byte, is_digit_byte}
 use Rattle.yaml_emit_laws_text.specs.scan_history.scan_words.Written.{are_alphas}
 use Rattle.yaml_emit_laws_text.specs.scan_history.scan_words.Laws.{AnchorReads}
@@ -24,7 +26,7 @@ use Rattle.yaml_scan_laws_texts.specs.WordsLaws.{LoneMarkReads}
 use Rattle.yaml_emit_laws_text.specs.Walk.{bytes}
 use Rattle.yaml_emit_laws_text.specs.Writable.{IsWritableName, IsWritableOpening, IsWritableTag}
 use Rattle.yaml_emit_laws_text.proofs.Steps.{letter_low}
-use Rattle.yaml_emit_laws_text.proofs.Words.{and_left, and_right, front_encodes}
+use Rattle.yaml_emit_laws_text.proofs.Words.{front_encodes}
 use Rattle.yaml_emit_laws_scalars.specs.PlainLaws.{PlainIsReadBack, may_be_plain}
 use Rattle.yaml_emit_laws_scalars.specs.SingleLaws.{SingleLinesAreReadBack}
 use Rattle.yaml_emit_laws_scalars.specs.StandsLaws.{PlainHasGap, ScalarsAreWords}
@@ -41,10 +43,6 @@ pub record Wrote (a : Layout) (c : Cursor) (own : List ℕ) : Type 0 where
 
 -- ---- the space in front
 
-append_none : (xs : List ℕ) → xs ++ [] ≡ xs
-append_none [] = refl
-append_none (x ∷ xs) = ap (λ (ys : List ℕ). x ∷ ys) (append_none xs)
-
 -- the cursor behind that space, by whether white was last
 abbrev pub behind_gap : Bool → Cursor → Cursor
 behind_gap true c = c
@@ -58,7 +56,7 @@ gap_case flow level a make spaced wrote c true =
     let none : (if w.spaced then 32 ∷ w.own else w.own) ≡ w.own = ap (λ (s : Bool). if s then 32 ∷ w.own else w.own) (spaced false c) in
     record {
       behind = r.behind;
-      written = λ rest. r.written rest ∙ sym (ap (λ (xs : List ℕ). xs ++ bytes (rest r.behind)) (append_none _ ∙ none));
+      written = λ rest. r.written rest ∙ sym (ap (λ (xs : List ℕ). xs ++ bytes (rest r.behind)) (append-nil _ ∙ none));
       bare = r.bare;
       white = r.white;
       kept = r.kept;
@@ -70,7 +68,7 @@ gap_case flow level a make spaced wrote c false =
     let one : (if w.spaced then 32 ∷ w.own else w.own) ≡ 32 ∷ w.own = ap (λ (s : Bool). if s then 32 ∷ w.own else w.own) (spaced true d) in
     record {
       behind = r.behind;
-      written = λ rest. letter_low 32 (a d rest) refl ∙ ap (λ (xs : List ℕ). 32 ∷ xs) (r.written rest) ∙ sym (ap (λ (xs : List ℕ). xs ++ bytes (rest r.behind)) (append_none _ ∙ one));
+      written = λ rest. letter_low 32 (a d rest) refl ∙ ap (λ (xs : List ℕ). 32 ∷ xs) (r.written rest) ∙ sym (ap (λ (xs : List ℕ). xs ++ bytes (rest r.behind)) (append-nil _ ∙ one));
       bare = r.bare;
       white = r.white;
       kept = r.kept;
@@ -100,10 +98,10 @@ letters_are : (xs : List ℕ) → are_ascii xs ≡ true → (c : Cursor) → Let
 unfolding letters
 letters_are [] are c = record { behind = c; same = λ rest. refl; white = λ e. e; bare = λ e. e; kept = refl }
 letters_are (x ∷ xs) are c =
-    let r = letters_are xs (and_right (nat_lt x 128) (are_ascii xs) are) (lettered_on c) in
+    let r = letters_are xs (and_parts (nat_lt x 128) (are_ascii xs) are).1 (lettered_on c) in
     record {
       behind = r.behind;
-      same = λ rest. letter_low x (letters xs (lettered_on c) rest) (and_left (nat_lt x 128) (are_ascii xs) are) ∙ ap (λ (t : List ℕ). x ∷ t) (r.same rest);
+      same = λ rest. letter_low x (letters xs (lettered_on c) rest) (and_parts (nat_lt x 128) (are_ascii xs) are).0 ∙ ap (λ (t : List ℕ). x ∷ t) (r.same rest);
       white = λ e. r.white refl;
       bare = λ e. r.bare refl;
       kept = r.kept;
@@ -112,10 +110,10 @@ letters_are (x ∷ xs) are c =
 letters_wrote : (x : ℕ) (xs : List ℕ) → are_ascii (x ∷ xs) ≡ true → (c : Cursor) → Wrote (letters (x ∷ xs)) c (x ∷ xs)
 unfolding letters
 letters_wrote x xs low c =
-    let r = letters_are xs (and_right (nat_lt x 128) (are_ascii xs) low) (lettered_on c) in
+    let r = letters_are xs (and_parts (nat_lt x 128) (are_ascii xs) low).1 (lettered_on c) in
     record {
       behind = r.behind;
-      written = λ rest. letter_low x (letters xs (lettered_on c) rest) (and_left (nat_lt x 128) (are_ascii xs) low) ∙ ap (λ (t : List ℕ). x ∷ t) (r.same rest);
+      written = λ rest. letter_low x (letters xs (lettered_on c) rest) (and_parts (nat_lt x 128) (are_ascii xs) low).0 ∙ ap (λ (t : List ℕ). x ∷ t) (r.same rest);
       bare = r.bare refl;
       white = r.white refl;
       kept = r.kept;
@@ -127,7 +125,7 @@ alpha_low b h = grind (arith, nat_tests)
 
 alphas_ascii : (xs : List ℕ) → are_alphas xs ≡ true → are_ascii xs ≡ true
 alphas_ascii [] are = refl
-alphas_ascii (x ∷ xs) are = rw (alpha_low x (and_left (is_alpha_byte x) (are_alphas xs) are)) (alphas_ascii xs (and_right (is_alpha_byte x) (are_alphas xs) are))
+alphas_ascii (x ∷ xs) are = rw (alpha_low x (and_parts (is_alpha_byte x) (are_alphas xs) are).0) (alphas_ascii xs (and_parts (is_alpha_byte x) (are_alphas xs) are).1)
 
 pub anchor_says : (names : AnchorReads) (flow : Bool) (level : ℕ) (name : List ℕ) (good : IsWritableName name) (c : Cursor) → Says flow level (word (38 ∷ name)) c (anchor_word names flow level (not c.white) name good ∷ [])
 anchor_says names flow level name good c = gap_says flow level (letters (38 ∷ name)) (λ b d. anchor_word names flow level b name good) (λ b d. refl) (λ b d. letters_wrote 38 name (alphas_ascii name good.1) d) c

@@ -1,8 +1,8 @@
 -- The words of a node: each is read wherever its bytes stand before what fits.
-use Rattle.std.proofs.Common.{◌≡◌, ℕ, ◌+◌, ◌≤◌, ◌==◌, ◌&&◌, ◌||◌, not, nat_lt, Bool, true, false, List, [], ◌∷◌, ◌++◌, length, zero, suc, Some, Result, Ok, refl, sym, ap, subst, ◌∙◌, inl, inr, ◌⊎◌, arith, encode_utf8, encode_utf8_all}
+use Rattle.std.proofs.Common.{◌≡◌, ℕ, ◌+◌, ◌≤◌, ◌==◌, ◌&&◌, ◌||◌, not, nat_lt, Bool, true, false, List, [], ◌∷◌, ◌++◌, length, zero, suc, Some, Result, Ok, refl, sym, ap, subst, ◌∙◌, inl, inr, arith, encode_utf8, encode_utf8_all}
 use Rattle.std.specs.Prelude.{if◌then◌else◌}
 use Rattle.std.specs.Str.{chars}
-use Rattle.std.proofs.lemmas.Bool.{cases_Bool}
+use Rattle.std.proofs.lemmas.Bool.{cases_Bool, or_left, or_right, or_cases, and_parts}
 use Rattle.std.proofs.lemmas.Bool.Decides.{nat_tests}
 use Rattle.std.proofs.lemmas.Str.{encode_ascii}
 use Rattle.yaml_emit_laws_text.specs.emit_layout.scan_model.declared.yaml_scalar_style_t.TheVariants.{YAML_PLAIN_SCALAR_STYLE, YAML_SINGLE_QUOTED_SCALAR_STYLE, YAML_DOUBLE_QUOTED_SCALAR_STYLE}
@@ -39,7 +39,6 @@ use Rattle.yaml_emit_laws_text.proofs.Steps.{Sign, sign_begins, sign_kind}
 use Rattle.yaml_emit_laws_text.proofs.Words.{sign, named, quote_sign, quote_kind, quote_first}
 use Rattle.yaml_scan_laws_levels.specs.Steps.{WordLeaves}
 use Rattle.yaml_scan_laws_levels.proofs.Stepping.{words_leave}
-use Rattle.yaml_scan_laws_levels.proofs.Whites.{pair}
 use Rattle.yaml_emit_laws_scalars.specs.Stops.{begins_white, white_of, is_gap_byte}
 use Rattle.yaml_emit_laws_scalars.specs.PlainLaws.{PlainIsBack}
 use Rattle.yaml_emit_laws_scalars.specs.SingleLaws.{SingleIsBack}
@@ -47,7 +46,7 @@ use Rattle.yaml_emit_laws_scalars.specs.StandsLaws.{ScalarsAreWords}
 use Rattle.yaml_emit_laws_scalars.proofs.Stopping.{goes_on, stops_end}
 use Rattle.yaml_emit_laws_pretty.specs.Walk.{no_comment}
 use Rattle.yaml_emit_laws_pretty.specs.Spoken.{Spoken, WordStands, Fits, anything, space, white, name_end, unquoted, stop, ends_name}
-use Rattle.yaml_emit_laws_pretty.proofs.Lining.{first_byte, or_left, or_right}
+use Rattle.yaml_emit_laws_pretty.proofs.Lining.{first_byte}
 use Rattle.yaml_emit_laws_pretty.proofs.Entries.{white_stands}
 
 -- a word that takes no white
@@ -109,10 +108,6 @@ alias_at_word flow level text p = refl
 white_ends : (text : List ℕ) (p : ℕ) (bs : List ℕ) → Left text p bs → begins_white bs ≡ true → may_end_name text p ≡ true
 unfolding may_end_name
 white_ends text p bs l e = or_left (is_blank_or_end text p) _ (white_stands text p bs l e)
-
-or_cases : (a b : Bool) → (a || b) ≡ true → (a ≡ true) ⊎ (b ≡ true)
-or_cases true b e = inl refl
-or_cases false b e = inr e
 
 bracket_ends : (text : List ℕ) (p b : ℕ) → byte text p ≡ b → (b == 44 || (b == 93 || b == 125)) ≡ true → may_end_name text p ≡ true
 unfolding may_end_name
@@ -323,8 +318,8 @@ unfolding ends_plain
 ends_begins flow level text p zero h begins hash up = let z : p ≡ 0 = omega (arith, up) in subst (λ n. begins_lexeme text n ≡ true) z begins
 ends_begins flow level text p (suc q) h begins hash up =
     let n = suc q in
-    let (blank, more) = pair (not (is_blank (byte text n))) (not (nat_lt 0 (break_width text n)) && ends_at flow level text n) h in
-    let (wide, ends) = pair (not (nat_lt 0 (break_width text n))) (ends_at flow level text n) more in
+    let (blank, more) = and_parts (not (is_blank (byte text n))) (not (nat_lt 0 (break_width text n)) && ends_at flow level text n) h in
+    let (wide, ends) = and_parts (not (nat_lt 0 (break_width text n))) (ends_at flow level text n) more in
     begins_by text n (off (is_blank (byte text n)) blank) (off (nat_lt 0 (break_width text n)) wide) (apart (byte text n) hash) (ap (λ b. b && is_bom text n) (positive q))
   where
     positive : (q : ℕ) → (suc q == 0) ≡ false

@@ -1,6 +1,6 @@
 -- The gap behind a plain scalar, and the end that it comes before.
-use Rattle.std.proofs.Common.{◌≡◌, ◌≢◌, ℕ, zero, suc, ◌+◌, ◌<◌, ◌≤◌, ◌==◌, ◌&&◌, ◌||◌, nat_lt, not, Bool, true, false, List, [], ◌∷◌, length, Result, Ok, refl, sym, ap, subst, ◌∙◌, inl, inr, ◌⊎◌, arith}
-use Rattle.std.proofs.lemmas.Bool.{true≢false}
+use Rattle.std.proofs.Common.{◌≡◌, ◌≢◌, ℕ, zero, suc, ◌+◌, ◌<◌, ◌≤◌, ◌==◌, ◌&&◌, ◌||◌, nat_lt, not, Bool, true, false, List, [], ◌∷◌, length, Result, Ok, refl, ap, subst, ◌∙◌, inl, inr, ◌⊎◌, arith}
+use Rattle.std.proofs.lemmas.Bool.{not-true, and_parts}
 use Rattle.std.proofs.lemmas.Bool.Decides.{nat_tests}
 use Rattle.yaml_scan_history.specs.scan_model.Marks.{byte, break_of, break_width, column_at, is_blank}
 use Rattle.yaml_scan_history.specs.scan_model.Breaks.{feed_at}
@@ -17,14 +17,6 @@ use Rattle.yaml_scan_laws_texts.specs.PlainLaws.{ends_plain}
 abbrev pub none_to : ℕ → Bool → Words
 none_to place broke = record { pieces = []; end = place; place = place; broke = broke }
 
-pub negated : (a : Bool) → not a ≡ true → a ≡ false
-negated true h = absurd (true≢false (sym h))
-negated false h = refl
-
-pub pair : (a b : Bool) → (a && b) ≡ true → (a ≡ true) × (b ≡ true)
-pair true b h = (refl, h)
-pair false b h = absurd (true≢false (sym h))
-
 none : (n : ℕ) → nat_lt 0 n ≡ false → n ≡ 0
 none n h = grind (arith, nat_tests)
 
@@ -37,9 +29,9 @@ pub record Stops (flow : Bool) (level : ℕ) (text : List ℕ) (p : ℕ) : Type 
 pub stops : (flow : Bool) (level : ℕ) (text : List ℕ) (p : ℕ) → ends_plain flow level text p ≡ true → Stops flow level text p
 unfolding ends_plain
 stops flow level text p h =
-    let (blank, more) = pair (not (is_blank (byte text p))) (not (nat_lt 0 (break_width text p)) && ends_at flow level text p) h in
-    let (width, ends) = pair (not (nat_lt 0 (break_width text p))) (ends_at flow level text p) more in
-    record { blank = negated (is_blank (byte text p)) blank; width = none (break_width text p) (negated (nat_lt 0 (break_width text p)) width); ends = ends }
+    let (blank, more) = and_parts (not (is_blank (byte text p))) (not (nat_lt 0 (break_width text p)) && ends_at flow level text p) h in
+    let (width, ends) = and_parts (not (nat_lt 0 (break_width text p))) (ends_at flow level text p) more in
+    record { blank = not-true (is_blank (byte text p)) blank; width = none (break_width text p) (not-true (nat_lt 0 (break_width text p)) width); ends = ends }
 
 step : (n : ℕ) (flow : Bool) (level : ℕ) (text : List ℕ) (p : ℕ) (s : PlainSpot) → spot_at flow level text p ≡ s → words (suc n) flow level text p ≡ follows (words n flow level text) p s
 unfolding words
@@ -101,7 +93,7 @@ returns k all n flow level text p [] few room e h are stop =
     let width : break_width text p ≡ 1 = rw e (cr_width (byte text (p + 1)) (byte text (p + 2)) (no_feed _ _ _ here.width)) in
     single k all n flow level text p [] few room width h are stop
 returns k all n flow level text p (c ∷ cs) few room e (f, h) are stop =
-    let (front, back) = pair (c == 32 || (c == 10 || c == 13)) (are_gap cs) are in
+    let (front, back) = and_parts (c == 32 || (c == 10 || c == 13)) (are_gap cs) are in
     let two : p + 1 + 1 ≡ p + 2 = omega arith in
     let far : Has text (p + 2) cs = rw two at h in
     let end : p + 1 + suc (length cs) ≡ p + 2 + length cs = omega arith in
@@ -126,7 +118,7 @@ reads k (suc n) flow level text p [] few room h are stop =
     rw z (step n flow level text p Ends (spot_ends flow level text p here.width here.blank here.ends))
 reads zero (suc n) flow level text p (b ∷ bs) few room h are stop = absurd (omega arith)
 reads (suc k) (suc n) flow level text p (b ∷ bs) few room (e, h) are stop =
-    let (front, back) = pair (b == 32 || (b == 10 || b == 13)) (are_gap bs) are in
+    let (front, back) = and_parts (b == 32 || (b == 10 || b == 13)) (are_gap bs) are in
     let end : p + suc (length bs) ≡ p + 1 + length bs = omega arith in
     let after = subst (λ q. Stops flow level text q) end stop in
     elim (byte_cases b front) [

@@ -1,7 +1,6 @@
 -- What is written for a character inside a plain or single quoted scalar is a part of a spelling.
 use Rattle.std.proofs.Common.{◌≡◌, ℕ, ◌+◌, ◌<◌, Bool, true, false, not, ◌&&◌, ◌||◌, ◌==◌, nat_lt, List, [], ◌∷◌, ◌++◌, replicate, refl, sym, ap, ◌∙◌, inl, inr, ◌⊎◌, arith, append-nil, encode_utf8, encode_utf8_all}
-use Rattle.std.proofs.lemmas.Bool.{true≢false}
-use Rattle.std.proofs.lemmas.Bool.Decides.{nat_tests}
+use Rattle.std.proofs.lemmas.Bool.{true≢false, lt-ltb, eqb-true, and_parts, not-true, or_parts, ne_eqb, eqb-false}
 use Rattle.std.proofs.lemmas.Str.{encode_ascii}
 use lib.Utf8.{scalar}
 use Rattle.yaml_scan_history.specs.scan_model.Marks.{is_blank}
@@ -16,10 +15,9 @@ use Rattle.yaml_emit_layout.specs.emit_text.Scalars.{cuts_at, text_char}
 use Rattle.yaml_emit_layout.specs.emit_text.Spelling.{in_front, break_text}
 use Rattle.yaml_emit_laws_text.specs.Spelling.{may_turn, QuotedPart, raw, doubled, fold, may_be_raw, MayStand, spelled, meant, is_raw_blank, is_fold, is_turn, may_follow}
 use Rattle.yaml_emit_laws_text.proofs.Values.{cond_true, cond_false}
-use Rattle.yaml_emit_laws_text.proofs.Bytes.{and_left, and_right, not_true, or_left, or_right, differs, apart}
 use Rattle.yaml_emit_laws_text.proofs.Escapes.{low_encodes, end_of, fold_bytes, fold_means, space_encodes}
 use Rattle.yaml_emit_laws_text.proofs.Back.{moved_by}
-use Rattle.yaml_emit_laws_scalars.proofs.Lines.{bool_cases, equal_from, line_start, after_blanks, blanks_column, blanks_kept, line_is}
+use Rattle.yaml_emit_laws_scalars.proofs.Lines.{bool_cases, line_start, after_blanks, blanks_column, blanks_kept, line_is}
 use Rattle.yaml_emit_laws_scalars.proofs.PlainParts.{IsOne, is_plain_end}
 
 -- ---- characters
@@ -42,7 +40,7 @@ quote_byte true = 39
 quote_byte false = 0
 
 no_printable : (x k : ℕ) → is_printable x ≡ true → is_printable k ≡ false → (x == k) ≡ false
-no_printable x k s n = differs x k (λ e. true≢false (sym s ∙ ap (λ t. is_printable t) e ∙ n))
+no_printable x k s n = ne_eqb x k (λ e. true≢false (sym s ∙ ap (λ t. is_printable t) e ∙ n))
 
 raw_test : (s a b d e f z q k m : Bool) → s ≡ true → a ≡ false → b ≡ false → d ≡ false → e ≡ false → f ≡ false → z ≡ false → q ≡ false → m ≡ false
     → (s && not ((a || (b || (d || (e || f)))) || (z || (q || (m && k))))) ≡ true
@@ -50,13 +48,13 @@ raw_test s a b d e f z q k m g h i j l r n o t = rw (g, h, i, j, l, r, n, o, t) 
 
 raw_may : (quote : Bool) (x : ℕ) → scalar x ≡ true → is_printable x ≡ true → is_break x ≡ false → (quote && x == 39) ≡ false → may_be_raw (quote_byte quote) x ≡ true
 raw_may quote x s p inside q =
-    let p29 = or_right _ (x == 0x2029) inside in
-    let t29 = or_left _ (x == 0x2029) inside in
-    let p28 = or_right _ (x == 0x2028) t29 in
-    let t28 = or_left _ (x == 0x2028) t29 in
-    let p85 = or_right _ (x == 0x85) t28 in
-    let t85 = or_left _ (x == 0x85) t28 in
-    raw_test (scalar x) (x == 10) (x == 13) (x == 0x85) (x == 0x2028) (x == 0x2029) (x == 0) (x == quote_byte quote) (x == 92) (quote_byte quote == 34) s (or_left (x == 10) _ t85) (or_right _ (x == 13) t85) p85 p28 p29 (no_printable x 0 p refl) (no_quote quote q) (no_double quote)
+    let p29 = (or_parts _ (x == 0x2029) inside).1 in
+    let t29 = (or_parts _ (x == 0x2029) inside).0 in
+    let p28 = (or_parts _ (x == 0x2028) t29).1 in
+    let t28 = (or_parts _ (x == 0x2028) t29).0 in
+    let p85 = (or_parts _ (x == 0x85) t28).1 in
+    let t85 = (or_parts _ (x == 0x85) t28).0 in
+    raw_test (scalar x) (x == 10) (x == 13) (x == 0x85) (x == 0x2028) (x == 0x2029) (x == 0) (x == quote_byte quote) (x == 92) (quote_byte quote == 34) s (or_parts (x == 10) _ t85).0 (or_parts _ (x == 13) t85).1 p85 p28 p29 (no_printable x 0 p refl) (no_quote quote q) (no_double quote)
   where
     no_quote : (quote : Bool) → (quote && x == 39) ≡ false → (x == quote_byte quote) ≡ false
     no_quote true h = h
@@ -112,9 +110,6 @@ pub record Behind (before : ℕ) (c : Cursor) (last : QuotedPart) (value : List 
   pub turn : is_turn last ≡ true → ((before ≡ 32) ⊎ (is_break before ≡ true)) × ((first value == 32) ≡ false)
   pub bare : (before == 32) ≡ false → is_break before ≡ false → c.bare ≡ false
 
-pub some_spaces : (n : ℕ) → 0 < n → nat_lt 0 n ≡ true
-some_spaces n h = grind (arith, nat_tests)
-
 fold_may : (quote : Bool) (b : LineBreak) (n : ℕ) → nat_lt 0 n ≡ true → MayStand (quote_byte quote) (fold (record { end = end_of b; spaces = n }) [])
 unfolding may_turn
 fold_may quote b n h = h
@@ -128,10 +123,10 @@ record CutNeeds (page : Page) (before x : ℕ) (xs : List ℕ) : Type 0 where
 
 cut_needs : (page : Page) (before x : ℕ) (xs : List ℕ) → cuts_at page before x xs ≡ true → CutNeeds page before x xs
 cut_needs page before x xs e =
-    let a = and_right page.cuts _ e in
-    let b = and_right (x == 32) _ a in
-    let d = and_right (not (before == 32)) _ b in
-    record { cuts = and_left page.cuts _ e; space = equal_from x 32 (and_left (x == 32) _ a); behind = not_true (before == 32) (and_left (not (before == 32)) _ b); next = not_true (first xs == 32) (and_left (not (first xs == 32)) _ d) }
+    let a = (and_parts page.cuts _ e).1 in
+    let b = (and_parts (x == 32) _ a).1 in
+    let d = (and_parts (not (before == 32)) _ b).1 in
+    record { cuts = (and_parts page.cuts _ e).0; space = eqb-true x 32 (and_parts (x == 32) _ a).0; behind = not-true (before == 32) (and_parts (not (before == 32)) _ b).0; next = not-true (first xs == 32) (and_parts (not (first xs == 32)) _ d).0 }
 
 pub fold_follows : (last q : QuotedPart) → is_fold q ≡ true → is_raw_blank q ≡ false → is_raw_blank last ≡ false → is_turn last ≡ false → may_follow last q ≡ true
 fold_follows last q a b d e = rw (a, b, d, e) refl
@@ -160,13 +155,13 @@ step_cut page quote before x xs c last deep s h inside m p =
     let needs = cut_needs page before x xs m in
     let n = page.indentation in
     let b = page.line_break in
-    let apart_from = apart before 32 needs.behind in
+    let apart_from = eqb-false before 32 needs.behind in
     let no_turn : is_turn last ≡ false = bool_cases (is_turn last) (λ t. elim ((h.turn t).0) [ inl e ↦ absurd (apart_from e) | inr e ↦ absurd (true≢false (sym e ∙ inside)) ]) (λ f. f) in
     record {
       part = fold (record { end = end_of b; spaces = n }) [];
       letters = break_text b ++ replicate n 32;
       after = after_blanks n (line_start c);
-      stand = fold_may quote b n (some_spaces n (deep needs.cuts));
+      stand = fold_may quote b n (lt-ltb 0 n (deep needs.cuts));
       follow = fold_follows last (fold (record { end = end_of page.line_break; spaces = page.indentation }) []) refl refl (bool_cases (is_raw_blank last) (λ t. absurd (apart_from (h.blank t))) (λ f. f)) no_turn;
       text = λ rest. cut_is page quote (cuts_at page before x xs) x c rest m p ∙ line_is b n c rest (h.bare needs.behind inside);
       bytes = fold_bytes b n;
@@ -185,8 +180,8 @@ moved_on n e = omega (arith, e)
 step_doubled : (page : Page) (quote : Bool) (before x : ℕ) (xs : List ℕ) (c : Cursor) (last : QuotedPart) → (quote && x == 39) ≡ true → cuts_at page before x xs ≡ false → Step page quote before x xs c last
 unfolding in_front
 step_doubled page quote before x xs c last q m =
-    let same = equal_from x 39 (and_right quote (x == 39) q) in
-    let on = and_left quote (x == 39) q in
+    let same = eqb-true x 39 (and_parts quote (x == 39) q).1 in
+    let on = (and_parts quote (x == 39) q).0 in
     let small : encode_utf8 39 ≡ 39 ∷ [] = encode_ascii 39 (omega arith) in
     record {
       part = doubled;
@@ -218,7 +213,7 @@ step_raw page quote before x xs c last s inside h q m = record {
   text = λ rest. uncut_is page quote (cuts_at page before x xs) x c rest m q;
   bytes = append-nil (encode_utf8 x);
   means = refl;
-  blank = λ t. bool_cases (x == 32) (λ e. equal_from x 32 e) (λ f. absurd (true≢false (sym t ∙ unblank x s.printable f)));
+  blank = λ t. bool_cases (x == 32) (λ e. eqb-true x 32 e) (λ f. absurd (true≢false (sym t ∙ unblank x s.printable f)));
   turn = λ t. absurd (true≢false (sym t));
   bare = λ f. refl;
   one = λ f. refl;
@@ -229,19 +224,19 @@ step_raw page quote before x xs c last s inside h q m = record {
 quote_uncut : (page : Page) (quote : Bool) (before x : ℕ) (xs : List ℕ) → (quote && x == 39) ≡ true → cuts_at page before x xs ≡ false
 quote_uncut page quote before x xs q =
     bool_cases (cuts_at page before x xs)
-    (λ t. let needs = cut_needs page before x xs t in absurd (true≢false (sym (and_right quote (x == 39) q) ∙ ap (λ k. k == 39) needs.space)))
+    (λ t. let needs = cut_needs page before x xs t in absurd (true≢false (sym (and_parts quote (x == 39) q).1 ∙ ap (λ k. k == 39) needs.space)))
     (λ f. f)
 
 space_first : (page : Page) (before x : ℕ) (xs : List ℕ) → (x == 32) ≡ false → cuts_at page before x xs ≡ false
 space_first page before x xs n = bool_cases (cuts_at page before x xs) (λ t. let needs = cut_needs page before x xs t in absurd (true≢false (sym (ap (λ k. k == 32) needs.space) ∙ n))) (λ f. f)
 
 pub step : (page : Page) (quote : Bool) (before x : ℕ) (xs : List ℕ) (c : Cursor) (last : QuotedPart) → (page.cuts ≡ true → 0 < page.indentation) → Shows x (first xs) → is_break x ≡ false → Behind before c last (x ∷ xs) → (is_break before && x == 32) ≡ false → Step page quote before x xs c last
-step page quote before x xs c last deep s inside h apart =
+step page quote before x xs c last deep s inside h eqb-false =
     bool_cases (quote && x == 39)
     (λ q. step_doubled page quote before x xs c last q (quote_uncut page quote before x xs q))
     (λ q. bool_cases (cuts_at page before x xs && is_past page.width c)
-    (λ m. let cuts = and_left (cuts_at page before x xs) (is_past page.width c) m in
+    (λ m. let cuts = (and_parts (cuts_at page before x xs) (is_past page.width c) m).0 in
     let needs = cut_needs page before x xs cuts in
-    let no_break : is_break before ≡ false = bool_cases (is_break before) (λ t. absurd (true≢false (sym (rw t (ap (λ k. k == 32) needs.space)) ∙ apart))) (λ f. f) in
-    step_cut page quote before x xs c last deep s h no_break cuts (and_right (cuts_at page before x xs) (is_past page.width c) m))
+    let no_break : is_break before ≡ false = bool_cases (is_break before) (λ t. absurd (true≢false (sym (rw t (ap (λ k. k == 32) needs.space)) ∙ eqb-false))) (λ f. f) in
+    step_cut page quote before x xs c last deep s h no_break cuts (and_parts (cuts_at page before x xs) (is_past page.width c) m).1)
     (λ m. step_raw page quote before x xs c last s inside h q m))

@@ -1,7 +1,8 @@
 -- Lines and breaks that a layout writes inside a scalar.
 use Rattle.std.proofs.Common.{◌≡◌, ℕ, zero, suc, ◌+◌, ◌-◌, Bool, true, false, not, ◌&&◌, ◌||◌, ◌==◌, nat_lt, List, [], ◌∷◌, ◌++◌, replicate, refl, sym, ap, subst, ◌∙◌, inl, inr, ◌⊎◌, arith, append-nil, encode_utf8, encode_utf8_all}
-use Rattle.std.proofs.lemmas.Bool.{true≢false}
+use Rattle.std.proofs.lemmas.Bool.{true≢false, eqb-true, ne_eqb}
 use Rattle.std.proofs.lemmas.Bool.Decides.{nat_tests}
+use Rattle.std.proofs.Math.Bool.{and-false}
 use Rattle.yaml_scan_history.specs.scan_scalars.Pieces.{gap}
 use Rattle.yaml_emit_layout.specs.emit_text.declared.Cursor.{Cursor}
 use Rattle.yaml_emit_layout.specs.emit_text.declared.LineBreak.{LineBreak}
@@ -14,16 +15,12 @@ use Rattle.yaml_emit_layout.specs.emit_text.Spelling.{in_front, break_text}
 use Rattle.yaml_emit_laws_text.specs.Spelling.{LineEnd, line_separator, paragraph_separator, end_bytes, end_means, is_return, is_feed_end}
 use Rattle.yaml_emit_laws_text.proofs.Chars.{encode_1, encode_3}
 use Rattle.yaml_emit_laws_text.proofs.Values.{cond_true, cond_false}
-use Rattle.yaml_emit_laws_text.proofs.Bytes.{differs}
 use Rattle.yaml_emit_laws_text.proofs.Escapes.{low_encodes, end_of}
 use Rattle.yaml_emit_laws_text.proofs.Back.{front_append, spaced_by}
 
 pub bool_cases : {P : Type 0} (b : Bool) → (b ≡ true → P) → (b ≡ false → P) → P
 bool_cases true p q = p refl
 bool_cases false p q = q refl
-
-pub equal_from : (c k : ℕ) → (c == k) ≡ true → c ≡ k
-equal_from c k e = grind (arith, nat_tests)
 
 -- ---- lines
 
@@ -137,10 +134,6 @@ lf_is b = record {
   stays = λ e ts. absurd (true≢false e);
 }
 
-and_none : (a : Bool) → (a && false) ≡ false
-and_none true = refl
-and_none false = refl
-
 ls_encodes : encode_utf8 0x2028 ≡ 0xE2 ∷ 0x80 ∷ 0xA8 ∷ []
 ls_encodes = encode_3 0x2028 (omega arith) (omega arith)
 
@@ -160,7 +153,7 @@ ls_is b = record {
   bytes = append-nil (encode_utf8 0x2028) ∙ ls_encodes;
   means = sym ls_encodes;
   fits = refl;
-  apart = λ e f. and_none (is_return e);
+  apart = λ e f. and-false (is_return e);
   stays = λ e ts. gap_stays 0xA8 ts;
 }
 
@@ -173,17 +166,17 @@ ps_is b = record {
   bytes = append-nil (encode_utf8 0x2029) ∙ ps_encodes;
   means = sym ps_encodes;
   fits = refl;
-  apart = λ e f. and_none (is_return e);
+  apart = λ e f. and-false (is_return e);
   stays = λ e ts. gap_stays 0xA9 ts;
 }
 
 which_break : (x : ℕ) → is_break x ≡ true → is_printable x ≡ true → (x ≡ 10) ⊎ ((x ≡ 0x2028) ⊎ (x ≡ 0x2029))
 which_break x h p =
-    bool_cases (x == 10) (λ e. inl (equal_from x 10 e)) (λ a.
-    bool_cases (x == 0x2028) (λ e. inr (inl (equal_from x 0x2028 e))) (λ b.
-    bool_cases (x == 0x2029) (λ e. inr (inr (equal_from x 0x2029 e))) (λ c.
-    let no13 : (x == 13) ≡ false = differs x 13 (λ e. true≢false (sym p ∙ ap (λ k. is_printable k) e)) in
-    let no85 : (x == 0x85) ≡ false = differs x 0x85 (λ e. true≢false (sym p ∙ ap (λ k. is_printable k) e)) in
+    bool_cases (x == 10) (λ e. inl (eqb-true x 10 e)) (λ a.
+    bool_cases (x == 0x2028) (λ e. inr (inl (eqb-true x 0x2028 e))) (λ b.
+    bool_cases (x == 0x2029) (λ e. inr (inr (eqb-true x 0x2029 e))) (λ c.
+    let no13 : (x == 13) ≡ false = ne_eqb x 13 (λ e. true≢false (sym p ∙ ap (λ k. is_printable k) e)) in
+    let no85 : (x == 0x85) ≡ false = ne_eqb x 0x85 (λ e. true≢false (sym p ∙ ap (λ k. is_printable k) e)) in
     let none : is_break x ≡ false = rw (a, no13, no85, b, c) refl in
     absurd (true≢false (sym h ∙ none)))))
 

@@ -1,6 +1,6 @@
 -- Layouts that stay in their line, by how many bytes they write.
 use Rattle.std.proofs.Common.{◌≡◌, ℕ, suc, ◌+◌, ◌*◌, ◌<◌, ◌≤◌, Bool, true, false, not, ◌&&◌, ◌==◌, nat_lt, List, [], ◌∷◌, ◌++◌, length, refl, sym, ap, subst, ◌∙◌, inl, inr, arith, append-nil, append_assoc, encode_utf8, encode_utf8_all}
-use Rattle.std.proofs.lemmas.Bool.{cases_Bool, cases_lt, cases_eq, true≢false}
+use Rattle.std.proofs.lemmas.Bool.{cases_Bool, cases_lt, cases_eq, true≢false, and_parts, not-true, and_from}
 use Rattle.std.proofs.lemmas.List.{length-append}
 use Rattle.std.proofs.lemmas.Str.{encodes-append}
 use Rattle.std.specs.Str.{all_scalars}
@@ -17,10 +17,10 @@ use Rattle.yaml_emit_laws_text.specs.ReadBack.{is_one_line}
 use Rattle.yaml_emit_laws_text.specs.Walk.{bytes}
 use Rattle.yaml_emit_laws_text.proofs.Chars.{encode_1, encode_2, encode_3, encode_4}
 use Rattle.yaml_emit_laws_text.proofs.Values.{cond_true, cond_false}
-use Rattle.yaml_emit_laws_text.proofs.Bytes.{and_left, and_right, not_true, AreCalm}
+use Rattle.yaml_emit_laws_text.proofs.Bytes.{AreCalm}
 use Rattle.yaml_emit_laws_text.proofs.Escapes.{escape_by_letter, escape_by_2, escape_by_4, escape_by_8, escape_calm}
 use Rattle.yaml_emit_laws_text.proofs.Back.{front_one, char_escaped, moved_by, spaced_by}
-use Rattle.yaml_emit_laws_text.proofs.Keys.{both_true, line_append, calm_line, raw_inside}
+use Rattle.yaml_emit_laws_text.proofs.Keys.{line_append, calm_line, raw_inside}
 use Rattle.yaml_emit_laws_text.proofs.Steps.{deep_bytes}
 use Rattle.yaml_emit_laws_text.proofs.Words.{front_encodes}
 use Rattle.yaml_emit_laws_scalars.specs.KeysLaws.{StaysNear}
@@ -74,7 +74,7 @@ calm_size (x ∷ xs) (a, b) =
 
 -- a character
 pub near_char : (x : ℕ) (c : Cursor) → is_break x ≡ false → StaysNear (char x) c (length (encode_utf8 x))
-near_char x c e = let same = one_size x in near_shown (char x) c (moved_by c) (x ∷ []) (length (encode_utf8 x)) (λ rest. sym (front_one x (rest (moved_by c)))) (both_true (not (is_break x)) true (ap not e) refl) (omega (arith, same))
+near_char x c e = let same = one_size x in near_shown (char x) c (moved_by c) (x ∷ []) (length (encode_utf8 x)) (λ rest. sym (front_one x (rest (moved_by c)))) (and_from (not (is_break x)) true (ap not e) refl) (omega (arith, same))
 
 pub near_sign : (x : ℕ) (c : Cursor) → is_break x ≡ false → x < 128 → StaysNear (char x) c 1
 near_sign x c e l = subst (λ n. StaysNear (char x) c n) (ap (λ (bs : List ℕ). length bs) (encode_1 x l)) (near_char x c e)
@@ -117,7 +117,7 @@ near_opener x c e l =
     let d : Cursor = record { column = g.behind.column + 1; white = true; bare = false; kept = g.behind.kept } in
     let b : Layout = λ k rest. letter x ∷ rest (record { column = k.column + 1; white = true; bare = false; kept = k.kept }) in
     let one = low_size x l in
-    near_on gap b c 1 1 g (near_shown b g.behind d (x ∷ []) 1 (λ rest. sym (front_one x (rest d))) (both_true (not (is_break x)) true (ap not e) refl) (omega (arith, one)))
+    near_on gap b c 1 1 g (near_shown b g.behind d (x ∷ []) 1 (λ rest. sym (front_one x (rest d))) (and_from (not (is_break x)) true (ap not e) refl) (omega (arith, one)))
 
 -- ---- between single quotes, and plain
 
@@ -156,10 +156,10 @@ pub near_flow : (page : Page) (quote : Bool) (before : ℕ) (xs : List ℕ) (c :
 unfolding flow_body
 near_flow page quote before [] c g f l = near_when (is_break before) (line page.line_break page.indentation) c (2 * 0) (λ t. absurd (true≢false (sym t ∙ f)))
 near_flow page quote before (x ∷ xs) c g f l =
-    let here = not_true (is_break x) (and_left (not (is_break x)) (is_one_line xs) l) in
+    let here = not-true (is_break x) (and_parts (not (is_break x)) (is_one_line xs) l).0 in
     let n = 2 * length (encode_utf8 x) in
     let one = subst (λ (a : Layout). StaysNear a c n) (sym (flow_is page quote before x xs here f g)) (near_quoted quote x c here) in
-    let more = near_flow page quote x xs one.behind g here (and_right (not (is_break x)) (is_one_line xs) l) in
+    let more = near_flow page quote x xs one.behind g here (and_parts (not (is_break x)) (is_one_line xs) l).1 in
     let e = more_size x xs in
     near_most (flow_char page quote before x xs ▹ flow_body page quote x xs) c (n + 2 * size xs) (2 * size (x ∷ xs)) (omega (arith, e)) (near_on (flow_char page quote before x xs) (flow_body page quote x xs) c n (2 * size xs) one more)
 
@@ -201,7 +201,7 @@ near_escaped unicode x c s =
       | inl e ↦ subst (λ (a : Layout). StaysNear a c n) (sym (cond_true (needs_escape unicode x) (letters (escape_text x)) (char x) e))
           (near_most (letters (escape_text x)) c (length (escape_text x)) n (escape_length x) (near_letters (escape_text x) c (escape_calm x s)))
       | inr e ↦ subst (λ (a : Layout). StaysNear a c n) (sym (cond_false (needs_escape unicode x) (letters (escape_text x)) (char x) e))
-          (near_most (char x) c (length (encode_utf8 x)) n (omega arith) (near_char x c (not_true (is_break x) (raw_inside unicode x e))))
+          (near_most (char x) c (length (encode_utf8 x)) n (omega arith) (near_char x c (not-true (is_break x) (raw_inside unicode x e))))
     ]
 
 pub near_body : (page : Page) (before : ℕ) (xs : List ℕ) (c : Cursor) → page.cuts ≡ false → all_scalars xs ≡ true → StaysNear (quoted_body page before xs) c (4 * size xs)
@@ -209,7 +209,7 @@ unfolding quoted_body
 near_body page before [] c e g = near_to stay c c (λ rest. refl) (4 * 0)
 near_body page before (x ∷ xs) c e g =
     let n = 4 * length (encode_utf8 x) in
-    let one = subst (λ (a : Layout). StaysNear a c n) (sym (char_escaped page before x xs e)) (near_escaped page.unicode x c (and_left (scalar x) (all_scalars xs) g)) in
-    let more = near_body page x xs one.behind e (and_right (scalar x) (all_scalars xs) g) in
+    let one = subst (λ (a : Layout). StaysNear a c n) (sym (char_escaped page before x xs e)) (near_escaped page.unicode x c (and_parts (scalar x) (all_scalars xs) g).0) in
+    let more = near_body page x xs one.behind e (and_parts (scalar x) (all_scalars xs) g).1 in
     let l = more_size x xs in
     near_most (quoted_char page before x xs ▹ quoted_body page x xs) c (n + 4 * size xs) (4 * size (x ∷ xs)) (omega (arith, l)) (near_on (quoted_char page before x xs) (quoted_body page x xs) c n (4 * size xs) one more)

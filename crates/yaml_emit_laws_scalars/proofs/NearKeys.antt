@@ -1,7 +1,7 @@
 -- Simple keys, with their properties, stay in their line.
 use Rattle.std.proofs.Common.{◌≡◌, ℕ, suc, ◌+◌, ◌-◌, ◌*◌, ◌/◌, ◌%◌, ◌<◌, ◌≤◌, Bool, true, false, not, ◌&&◌, ◌||◌, ◌==◌, nat_le, nat_lt, List, [], ◌∷◌, ◌++◌, length, Option, Some, None, refl, sym, ap, subst, ◌∙◌, inl, inr, arith, encode_utf8_all, IsUtf8}
 use Rattle.std.specs.Prelude.{if◌then◌else◌}
-use Rattle.std.proofs.lemmas.Bool.{cases_Bool, true≢false}
+use Rattle.std.proofs.lemmas.Bool.{cases_Bool, true≢false, and_parts, not-true, ne_eqb}
 use Rattle.std.proofs.lemmas.Bool.Decides.{nat_tests}
 use Rattle.std.proofs.lemmas.List.{length-append}
 use Rattle.std.proofs.lemmas.Str.{scalars-chars, encodes-chars}
@@ -31,7 +31,7 @@ use Rattle.yaml_emit_laws_text.specs.ReadBack.{is_one_line}
 use Rattle.yaml_emit_laws_text.specs.TagsLaws.{IsShaped, IsReadable, are_ascii, IsMarked}
 use Rattle.yaml_emit_laws_text.specs.Writable.{IsWritableName, IsWritableAnchor, IsWritableTag, IsWritableOpening}
 use Rattle.yaml_emit_laws_text.proofs.Values.{cond_true, cond_false}
-use Rattle.yaml_emit_laws_text.proofs.Bytes.{and_left, and_right, not_true, differs, AreCalm, calm_from}
+use Rattle.yaml_emit_laws_text.proofs.Bytes.{AreCalm, calm_from}
 use Rattle.yaml_emit_laws_text.proofs.Joining.{written_readable}
 use Rattle.yaml_emit_laws_text.proofs.Ascii.{spelled_ascii}
 use Rattle.yaml_emit_laws_scalars.specs.KeysLaws.{StaysNear, SimpleKeysAreNear}
@@ -51,7 +51,7 @@ above_append (x ∷ xs) ys (a, h) k = (a, above_append xs ys h k)
 
 calm_all : (xs : List ℕ) → Above xs → are_ascii xs ≡ true → AreCalm xs
 calm_all [] h a = tt
-calm_all (x ∷ xs) (b, h) a = (calm_from x b (less x (and_left (nat_lt x 128) (are_ascii xs) a)), calm_all xs h (and_right (nat_lt x 128) (are_ascii xs) a))
+calm_all (x ∷ xs) (b, h) a = (calm_from x b (less x (and_parts (nat_lt x 128) (are_ascii xs) a).0), calm_all xs h (and_parts (nat_lt x 128) (are_ascii xs) a).1)
   where
     less : (x : ℕ) → nat_lt x 128 ≡ true → x < 128
     less x h = grind (arith, nat_tests)
@@ -62,11 +62,11 @@ alpha_above b h = (grind (arith, nat_tests), grind (arith, nat_tests))
 
 alphas_above : (name : List ℕ) → are_alphas name ≡ true → Above name
 alphas_above [] h = tt
-alphas_above (b ∷ bs) h = ((alpha_above b (and_left (is_alpha_byte b) (are_alphas bs) h)).0, alphas_above bs (and_right (is_alpha_byte b) (are_alphas bs) h))
+alphas_above (b ∷ bs) h = ((alpha_above b (and_parts (is_alpha_byte b) (are_alphas bs) h).0).0, alphas_above bs (and_parts (is_alpha_byte b) (are_alphas bs) h).1)
 
 alphas_calm : (name : List ℕ) → are_alphas name ≡ true → AreCalm name
 alphas_calm [] h = tt
-alphas_calm (b ∷ bs) h = let a = alpha_above b (and_left (is_alpha_byte b) (are_alphas bs) h) in (calm_from b a.0 a.1, alphas_calm bs (and_right (is_alpha_byte b) (are_alphas bs) h))
+alphas_calm (b ∷ bs) h = let a = alpha_above b (and_parts (is_alpha_byte b) (are_alphas bs) h).0 in (calm_from b a.0 a.1, alphas_calm bs (and_parts (is_alpha_byte b) (are_alphas bs) h).1)
 
 kept_above : (flow : Bool) (b : ℕ) → keeps_byte flow b ≡ true → 13 < b
 unfolding suffix_keeps
@@ -180,7 +180,7 @@ style_key p flow n x = elim (cases_Bool p.settings.canonical) [ inl e ↦ rw e r
 -- ---- scalars
 
 low_inside : (q : ℕ) → q < 128 → 13 < q → is_break q ≡ false
-low_inside q l h = rw (differs q 10 (λ e. omega (arith, e, h)), differs q 13 (λ e. omega (arith, e, h)), differs q 0x85 (λ e. omega (arith, e, l)), differs q 0x2028 (λ e. omega (arith, e, l)), differs q 0x2029 (λ e. omega (arith, e, l))) refl
+low_inside q l h = rw (ne_eqb q 10 (λ e. omega (arith, e, h)), ne_eqb q 13 (λ e. omega (arith, e, h)), ne_eqb q 0x85 (λ e. omega (arith, e, l)), ne_eqb q 0x2028 (λ e. omega (arith, e, l)), ne_eqb q 0x2029 (λ e. omega (arith, e, l))) refl
 
 near_between : (body : Layout) (q : ℕ) (c : Cursor) (n : ℕ) → q < 128 → 13 < q → ((d : Cursor) → StaysNear body d n) → StaysNear (gap ▹ (char q ▹ (body ▹ char q))) c (n + 3)
 near_between body q c n low high f =
@@ -227,11 +227,11 @@ at_most a b h = grind (arith, nat_tests)
 simply : (p : Context) (x : Scalar) → is_simple_scalar p x ≡ true → Simply p x
 unfolding is_simple_scalar
 simply p x h =
-    let more = and_right (not p.settings.canonical) _ h in
+    let more = (and_parts (not p.settings.canonical) _ h).1 in
     record {
-      canonical = not_true p.settings.canonical (and_left (not p.settings.canonical) _ h);
-      breaks = not_true (has_break x.value) (and_left (not (has_break x.value)) _ more);
-      few = at_most _ 128 (and_right (not (has_break x.value)) (nat_le (properties_size p x.anchor (scalar_tag false x) + length x.value) 128) more);
+      canonical = not-true p.settings.canonical (and_parts (not p.settings.canonical) _ h).0;
+      breaks = not-true (has_break x.value) (and_parts (not (has_break x.value)) _ more).0;
+      few = at_most _ 128 (and_parts (not (has_break x.value)) (nat_le (properties_size p x.anchor (scalar_tag false x) + length x.value) 128) more).1;
     }
 
 near_scalar : (s : Settings) (o : Opening) → IsWritableOpening o → (x : Scalar) → IsWritableAnchor x.anchor → IsWritableTag x.tag → IsUtf8 x.value → is_simple_scalar (context_of s o.directives) x ≡ true → (flow : Bool) (n : ℕ) (c : Cursor)
@@ -262,7 +262,7 @@ near_scalar s o good x a t u simple flow n c =
 near_alias : (p : Context) (name : List ℕ) → IsWritableName name → is_simple_alias p name ≡ true → (flow : Bool) (n : ℕ) (c : Cursor) → StaysNear (alias_layout (spot flow n part.SimpleKey) name) c 530
 unfolding alias_layout is_simple_alias
 near_alias p name (some, are) simple flow n c =
-    let few = at_most (length name) 128 (and_right (not p.settings.canonical) (nat_le (length name) 128) simple) in
+    let few = at_most (length name) 128 (and_parts (not p.settings.canonical) (nat_le (length name) 128) simple).1 in
     let one = near_word (42 ∷ name) c (calm_from 42 (omega arith) (omega arith), alphas_calm name are) in
     near_most _ c (1 + suc (length name) + 1) 530 (omega (arith, few)) (near_on (word (42 ∷ name)) (char 32) c (1 + suc (length name)) 1 one (near_sign 32 one.behind refl (omega arith)))
 
@@ -286,8 +286,8 @@ near_empty : (s : Settings) (o : Opening) → IsWritableOpening o → (q : Start
 unfolding is_simple_start
 near_empty s o good q a t simple op x flow is f close ends sign c =
     let p = context_of s o.directives in
-    let plain = not_true s.canonical (and_left (not s.canonical) _ simple) in
-    let few = at_most (properties_size p q.anchor (start_tag false q)) 128 (and_right (not s.canonical) (nat_le (properties_size p q.anchor (start_tag false q)) 128) simple) in
+    let plain = not-true s.canonical (and_parts (not s.canonical) _ simple).0 in
+    let few = at_most (properties_size p q.anchor (start_tag false q)) 128 (and_parts (not s.canonical) (nat_le (properties_size p q.anchor (start_tag false q)) 128) simple).1 in
     let tag = start_tag s.canonical q in
     let same : start_tag false q ≡ tag = ap (λ b. start_tag b q) (sym plain) in
     let fits : properties_size p q.anchor tag ≤ 128 = subst (λ (t : Option (List ℕ)). properties_size p q.anchor t ≤ 128) same few in
@@ -335,7 +335,7 @@ no_more p n c b e = in_brackets b (λ k. StaysNear (pairs_layout p k n true no_p
 
 some_start : (p : Context) (q : Start) → is_simple_start p q false ≡ true → ⊥
 unfolding is_simple_start
-some_start p q h = true≢false (sym (and_right (not p.settings.canonical) _ h))
+some_start p q h = true≢false (sym (and_parts (not p.settings.canonical) _ h).1)
 
 pub keys_near : SimpleKeysAreNear
 unfolding is_simple node_layout

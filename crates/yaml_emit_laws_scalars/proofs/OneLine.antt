@@ -1,6 +1,6 @@
 -- Texts without breaks: characters of a value that has none, and places on one line.
 use Rattle.std.proofs.Common.{◌≡◌, ℕ, zero, suc, ◌+◌, ◌-◌, ◌/◌, ◌%◌, ◌<◌, ◌≤◌, Bool, true, false, not, ◌==◌, nat_le, nat_lt, List, [], ◌∷◌, ◌++◌, length, refl, sym, ap, subst, ◌∙◌, inl, inr, ◌⊎◌, arith, add-one, add-zero, encode_utf8, encode_utf8_all, IsUtf8}
-use Rattle.std.proofs.lemmas.Bool.{cases_lt, true≢false}
+use Rattle.std.proofs.lemmas.Bool.{cases_lt, true≢false, eqb-true, and_parts, not-true, or_parts}
 use Rattle.std.proofs.lemmas.Bool.Decides.{nat_tests}
 use Rattle.std.proofs.lemmas.List.{length-append}
 use Rattle.std.proofs.lemmas.Str.{encodes-chars}
@@ -13,9 +13,9 @@ use Rattle.yaml_emit_layout.specs.emit_text.Text.{is_break}
 use Rattle.yaml_emit_layout.specs.Nodes.{any_below, has_break}
 use Rattle.yaml_emit_laws_text.specs.ReadBack.{is_one_line}
 use Rattle.yaml_emit_laws_text.proofs.Chars.{encode_1, encode_2, encode_3, encode_4}
-use Rattle.yaml_emit_laws_text.proofs.Bytes.{and_left, and_right, not_true, or_left, or_right, low_end, first_end, second_end, third_end}
+use Rattle.yaml_emit_laws_text.proofs.Bytes.{low_end, first_end, second_end, third_end}
 use Rattle.yaml_emit_laws_scalars.specs.KeysLaws.{NearIsFresh}
-use Rattle.yaml_emit_laws_scalars.proofs.Lines.{bool_cases, equal_from}
+use Rattle.yaml_emit_laws_scalars.proofs.Lines.{bool_cases}
 
 -- ---- a value without breaks
 
@@ -24,8 +24,8 @@ unfolding any_below
 none_below zero p k h l = absurd (omega (arith, l))
 none_below (suc n) p k h l =
     elim (cases_lt k n) [
-      | inl m ↦ none_below n p k (or_left (any_below n p) (p n) h) m
-      | inr m ↦ let e : n ≡ k = omega (arith, l, m) in ap p (sym e) ∙ or_right (any_below n p) (p n) h
+      | inl m ↦ none_below n p k (or_parts (any_below n p) (p n) h).0 m
+      | inr m ↦ let e : n ≡ k = omega (arith, l, m) in ap p (sym e) ∙ (or_parts (any_below n p) (p n) h).1
     ]
 
 low_break : (b c d : ℕ) → (b ≡ 10) ⊎ (b ≡ 13) → nat_lt 0 (break_of b c d) ≡ true
@@ -56,11 +56,11 @@ wide_here text p d h (a, (b, (e, u))) =
 -- where such a character stands, a break does
 break_here : (text : List ℕ) (p x : ℕ) → is_break x ≡ true → Has text p (encode_utf8 x) → breaks_at text p ≡ true
 break_here text p x h at =
-    bool_cases (x == 10) (λ e. let k = (subst (λ (bs : List ℕ). Has text p bs) (encode_1 x (let f = equal_from x 10 e in omega (arith, f))) at).0 in low_break (byte text p) _ _ (inl (k ∙ equal_from x 10 e))) (λ a.
-    bool_cases (x == 13) (λ e. let k = (subst (λ (bs : List ℕ). Has text p bs) (encode_1 x (let f = equal_from x 13 e in omega (arith, f))) at).0 in low_break (byte text p) _ _ (inr (k ∙ equal_from x 13 e))) (λ b.
-    bool_cases (x == 0x85) (λ e. nel_here text p (subst (λ (bs : List ℕ). Has text p bs) (ap (λ k. encode_utf8 k) (equal_from x 0x85 e) ∙ encode_2 0x85 (omega arith) (omega arith)) at)) (λ c.
-    bool_cases (x == 0x2028) (λ e. wide_here text p 0xA8 ls_break (subst (λ (bs : List ℕ). Has text p bs) (ap (λ k. encode_utf8 k) (equal_from x 0x2028 e) ∙ encode_3 0x2028 (omega arith) (omega arith)) at)) (λ d.
-    bool_cases (x == 0x2029) (λ e. wide_here text p 0xA9 ps_break (subst (λ (bs : List ℕ). Has text p bs) (ap (λ k. encode_utf8 k) (equal_from x 0x2029 e) ∙ encode_3 0x2029 (omega arith) (omega arith)) at)) (λ f.
+    bool_cases (x == 10) (λ e. let k = (subst (λ (bs : List ℕ). Has text p bs) (encode_1 x (let f = eqb-true x 10 e in omega (arith, f))) at).0 in low_break (byte text p) _ _ (inl (k ∙ eqb-true x 10 e))) (λ a.
+    bool_cases (x == 13) (λ e. let k = (subst (λ (bs : List ℕ). Has text p bs) (encode_1 x (let f = eqb-true x 13 e in omega (arith, f))) at).0 in low_break (byte text p) _ _ (inr (k ∙ eqb-true x 13 e))) (λ b.
+    bool_cases (x == 0x85) (λ e. nel_here text p (subst (λ (bs : List ℕ). Has text p bs) (ap (λ k. encode_utf8 k) (eqb-true x 0x85 e) ∙ encode_2 0x85 (omega arith) (omega arith)) at)) (λ c.
+    bool_cases (x == 0x2028) (λ e. wide_here text p 0xA8 ls_break (subst (λ (bs : List ℕ). Has text p bs) (ap (λ k. encode_utf8 k) (eqb-true x 0x2028 e) ∙ encode_3 0x2028 (omega arith) (omega arith)) at)) (λ d.
+    bool_cases (x == 0x2029) (λ e. wide_here text p 0xA9 ps_break (subst (λ (bs : List ℕ). Has text p bs) (ap (λ k. encode_utf8 k) (eqb-true x 0x2029 e) ∙ encode_3 0x2029 (omega arith) (omega arith)) at)) (λ f.
     let none : is_break x ≡ false = rw (a, b, c, d, f) refl in
     absurd (true≢false (sym h ∙ none)))))))
 
@@ -154,8 +154,8 @@ line_char text p c calm =
 line_chars : (text : List ℕ) (p : ℕ) (xs : List ℕ) → is_one_line xs ≡ true → Has text p (encode_utf8_all xs) → line_at text (p + length (encode_utf8_all xs)) ≡ line_at text p
 line_chars text p [] all h = rw add-zero refl
 line_chars text p (x ∷ xs) all h =
-    let here = not_true (is_break x) (and_left (not (is_break x)) (is_one_line xs) all) in
-    let more = and_right (not (is_break x)) (is_one_line xs) all in
+    let here = not-true (is_break x) (and_parts (not (is_break x)) (is_one_line xs) all).0 in
+    let more = (and_parts (not (is_break x)) (is_one_line xs) all).1 in
     let bs = encode_utf8 x in
     let cs = encode_utf8_all xs in
     let n : length (bs ++ cs) ≡ length bs + length cs = length-append bs cs in

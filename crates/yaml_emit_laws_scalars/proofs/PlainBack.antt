@@ -1,6 +1,6 @@
 -- A plain scalar's parts, one behind the other, are read as one scalar.
 use Rattle.std.proofs.Common.{◌≡◌, ◌≢◌, ℕ, zero, suc, ◌+◌, ◌<◌, ◌≤◌, Bool, true, false, ◌||◌, ◌==◌, List, [], ◌∷◌, ◌++◌, length, replicate, Result, Ok, refl, sym, ap, subst, ◌∙◌, inl, inr, arith, append-nil, encode_utf8}
-use Rattle.std.proofs.lemmas.Bool.{cases_Bool, true≢false}
+use Rattle.std.proofs.lemmas.Bool.{cases_Bool, true≢false, and_parts, ne_eqb}
 use Rattle.std.proofs.lemmas.Bool.Decides.{nat_tests}
 use Rattle.std.proofs.lemmas.List.{length-append}
 use Rattle.yaml_scan_history.specs.scan_model.Marks.{byte, starts}
@@ -15,9 +15,8 @@ use Rattle.yaml_emit_layout.specs.emit_text.Style.{last_or}
 use Rattle.yaml_emit_laws_text.specs.Spelling.{end_bytes, end_means, LineTurn, turn_bytes, QuotedPart, raw, doubled, named, numbered, fold, joint, spelling, meaning, IsSpelling}
 use Rattle.yaml_emit_laws_text.proofs.Chars.{encode_1}
 use Rattle.yaml_emit_laws_text.proofs.Values.{keeps, blanks_of, turns_read, read_as, all_read_as, read_kept as raw_kept, read_blank as raw_blank, spelling_value}
-use Rattle.yaml_emit_laws_text.proofs.Bytes.{differs}
 use Rattle.yaml_emit_laws_scalars.proofs.Standing.{sealed, Read, read_blank, Stand, column_start, stand_behind, char_at, kept_sealed}
-use Rattle.yaml_emit_laws_scalars.proofs.GapWords.{Stops, gap_words, pair}
+use Rattle.yaml_emit_laws_scalars.proofs.GapWords.{Stops, gap_words}
 use Rattle.yaml_emit_laws_scalars.proofs.PlainParts.{Spells, Good, AreGood, firm, FirmNext, char_through, space_spot, spaced, stand_space, folded_at, behind_white, colon_next}
 
 -- ---- all parts
@@ -97,7 +96,7 @@ parts_read flow level m text p before (raw c ∷ ps) (x ∷ xs) deep (e, s) (g, 
           let q = p + length (encode_utf8 x) in
           let st2 : Stand level text q x = record { column = one.stand.column; inner = one.stand.inner; white = λ w. absurd (no_zero 0 refl (one.stand.white w)) } in
           let more = parts_read flow level m text q x ps xs deep s gs l st2 rest in
-          let pieces : read_as (raw x) ≡ keeps (encode_utf8 x) = raw_kept x (rw (k, differs x 9 g.tab) refl) in
+          let pieces : read_as (raw x) ≡ keeps (encode_utf8 x) = raw_kept x (rw (k, ne_eqb x 9 g.tab) refl) in
           subst (λ i. ReadsOn flow level text p (p + length (encode_utf8 i ++ spelling ps)) (read_as (raw i) ++ all_read_as ps)) (sym e)
           (subst (λ (rs : List Piece). ReadsOn flow level text p (p + length (encode_utf8 x ++ spelling ps)) (rs ++ all_read_as ps)) (sym pieces)
           (subst (λ k. ReadsOn flow level text p k (keeps (encode_utf8 x) ++ all_read_as ps)) (append_long p (encode_utf8 x) (spelling ps))
@@ -136,7 +135,7 @@ some_gap b h = grind (arith, nat_tests)
 gap_inside : (text : List ℕ) (p : ℕ) (gap : List ℕ) → p ≤ length text → Has text p gap → are_gap gap ≡ true → p + length gap ≤ length text
 gap_inside text p [] l h are = omega arith
 gap_inside text p (b ∷ bs) l (e, h) are =
-    let (front, back) = pair (b == 32 || (b == 10 || b == 13)) (are_gap bs) are in
+    let (front, back) = and_parts (b == 32 || (b == 10 || b == 13)) (are_gap bs) are in
     let some = some_gap b front in
     let here = within text p (omega (arith, e, some)) in
     let more = gap_inside text (p + 1) bs (omega (arith, here)) h back in
@@ -190,7 +189,7 @@ scalar_read flow level m quote text p c ps xs place broke deep right s space (g,
     let all = tail.reads (all_read_as ps) (q + length (spelling ps)) place broke more in
     let whole = begun flow level text p at.first (keeps at.rest ++ all_read_as ps) (q + length (spelling ps)) place broke at.here (within text p (positive (byte text p) (f.some g.some))) all in
     let same : keeps at.rest ≡ keeps at.rest = refl in
-    let pieces : read_as (raw c) ≡ Kept (at.first ∷ []) ∷ keeps at.rest = raw_kept c (rw (differs c 32 space, differs c 9 g.tab) refl) ∙ ap (λ (bs : List ℕ). keeps bs) at.is in
+    let pieces : read_as (raw c) ≡ Kept (at.first ∷ []) ∷ keeps at.rest = raw_kept c (rw (ne_eqb c 32 space, ne_eqb c 9 g.tab) refl) ∙ ap (λ (bs : List ℕ). keeps bs) at.is in
     whole
     ∙ ap (λ (rs : List Piece). let y : Result PlainText Wrong = Ok (said (value_of (rs ++ all_read_as ps)) (q + length (spelling ps)) place broke) in y) (sym pieces)
     ∙ ap (λ (v : List ℕ). let y : Result PlainText Wrong = Ok (said v (q + length (spelling ps)) place broke) in y) (spelling_value quote (raw c ∷ ps) right)

@@ -1,7 +1,6 @@
 -- What an emitter writes for a plain value is read back.
 use Rattle.std.proofs.Common.{◌≡◌, ◌≢◌, ℕ, suc, ◌+◌, ◌-◌, ◌<◌, ◌≤◌, Bool, true, false, not, ◌&&◌, ◌||◌, ◌==◌, List, [], ◌∷◌, ◌++◌, length, Result, Ok, refl, sym, ap, subst, ◌∙◌, inl, inr, ◌⊎◌, arith, encode_utf8_all}
-use Rattle.std.proofs.lemmas.Bool.{true≢false}
-use Rattle.std.proofs.lemmas.Bool.Decides.{nat_tests}
+use Rattle.std.proofs.lemmas.Bool.{true≢false, eq-eqb, or_right, and_parts, not-true, or_parts, eqb-false}
 use Rattle.std.proofs.lemmas.Str.{encodes-chars, scalars-chars}
 use Rattle.std.specs.Str.{all_scalars, chars}
 use lib.Utf8.{scalar, scalar_cases}
@@ -19,7 +18,6 @@ use Rattle.yaml_emit_layout.specs.emit_text.Scalars.{flow_body}
 use Rattle.yaml_emit_layout.specs.emit_text.Style.{behind, is_blank as is_white, ends_word, somewhere, is_special, is_break_space, is_not_plain, is_not_flow, last_or, ends_in_space, is_indicator, starts_badly, allowed}
 use Rattle.yaml_emit_laws_text.specs.Spelling.{QuotedPart, raw, doubled, spelling, meaning, IsSpelling}
 use Rattle.yaml_emit_laws_text.specs.ReadBack.{is_one_line}
-use Rattle.yaml_emit_laws_text.proofs.Bytes.{and_left, and_right, not_true, or_left, or_right, apart}
 use Rattle.yaml_emit_laws_scalars.specs.PlainLaws.{IsReadPlain, PlainIsBack, may_be_plain, PlainIsReadBack}
 use Rattle.yaml_emit_laws_scalars.proofs.Standing.{Plainly}
 use Rattle.yaml_emit_laws_scalars.proofs.GapWords.{stops}
@@ -43,23 +41,23 @@ pub record MayBe (unicode flow : Bool) (value : List ℕ) : Type 0 where
 
 by_flow : (unicode flow : Bool) (x : ℕ) (xs : List ℕ) → may_be_plain unicode flow (x ∷ xs) ≡ true → ((allowed unicode (x ∷ xs)).plain ≡ true) × (flow ≡ true → somewhere is_not_flow 32 (x ∷ xs) ≡ false)
 unfolding allowed
-by_flow unicode true x xs h = (and_left _ _ h, λ e. not_true _ (and_right _ (not (somewhere is_not_flow 32 (x ∷ xs))) h))
+by_flow unicode true x xs h = ((and_parts _ _ h).0, λ e. not-true _ (and_parts _ (not (somewhere is_not_flow 32 (x ∷ xs))) h).1)
 by_flow unicode false x xs h = (h, λ e. absurd (true≢false (sym e)))
 
 pub may_be : (unicode flow : Bool) (x : ℕ) (xs : List ℕ) → may_be_plain unicode flow (x ∷ xs) ≡ true → MayBe unicode flow (x ∷ xs)
 unfolding allowed
 may_be unicode flow x xs h =
     let (p, f) = by_flow unicode flow x xs h in
-    let a = not_true _ p in
-    let b = or_left _ (somewhere is_not_plain 32 (x ∷ xs)) a in
-    let c = or_left _ (starts_badly (x ∷ xs)) b in
-    let d = or_left _ (ends_in_space (x ∷ xs)) c in
+    let a = not-true _ p in
+    let b = (or_parts _ (somewhere is_not_plain 32 (x ∷ xs)) a).0 in
+    let c = (or_parts _ (starts_badly (x ∷ xs)) b).0 in
+    let d = (or_parts _ (ends_in_space (x ∷ xs)) c).0 in
     record {
-      special = or_left _ (somewhere is_break_space 32 (x ∷ xs)) d;
-      broken = or_right (somewhere (is_special unicode) 32 (x ∷ xs)) _ d;
-      ends = or_right _ (ends_in_space (x ∷ xs)) c;
-      starts = or_right _ (starts_badly (x ∷ xs)) b;
-      plain = or_right _ (somewhere is_not_plain 32 (x ∷ xs)) a;
+      special = (or_parts _ (somewhere is_break_space 32 (x ∷ xs)) d).0;
+      broken = (or_parts (somewhere (is_special unicode) 32 (x ∷ xs)) _ d).1;
+      ends = (or_parts _ (ends_in_space (x ∷ xs)) c).1;
+      starts = (or_parts _ (starts_badly (x ∷ xs)) b).1;
+      plain = (or_parts _ (somewhere is_not_plain 32 (x ∷ xs)) a).1;
       flow_too = f;
     }
 
@@ -67,9 +65,9 @@ one_line : (before : ℕ) (xs : List ℕ) → somewhere is_not_plain before xs �
 unfolding somewhere
 one_line before [] h = refl
 one_line before (x ∷ xs) h =
-    let here = or_left (is_not_plain before x (first xs)) _ h in
-    let inside : is_break x ≡ false = or_left (is_break x) _ (or_left _ (x == 35 && ends_word before) here) in
-    both (is_break x) (is_one_line xs) inside (one_line x xs (or_right (is_not_plain before x (first xs)) _ h))
+    let here = (or_parts (is_not_plain before x (first xs)) _ h).0 in
+    let inside : is_break x ≡ false = (or_parts (is_break x) _ (or_parts _ (x == 35 && ends_word before) here).0).0 in
+    both (is_break x) (is_one_line xs) inside (one_line x xs (or_parts (is_not_plain before x (first xs)) _ h).1)
   where
     both : (a b : Bool) → a ≡ false → b ≡ true → (not a && b) ≡ true
     both a b p q = rw (p, q) refl
@@ -79,27 +77,24 @@ scalar_top c h = elim (scalar_cases c h) [ inl a ↦ omega arith | inr a ↦ a.1
 
 plainly_is : (x : ℕ) → is_break x ≡ false → scalar x ≡ true → Plainly x
 plainly_is x h s =
-    let t29 = or_left _ (x == 0x2029) h in
-    let t28 = or_left _ (x == 0x2028) t29 in
-    let t85 = or_left _ (x == 0x85) t28 in
+    let t29 = (or_parts _ (x == 0x2029) h).0 in
+    let t28 = (or_parts _ (x == 0x2028) t29).0 in
+    let t85 = (or_parts _ (x == 0x85) t28).0 in
     record {
-      no_feed = apart x 10 (or_left (x == 10) _ t85);
-      no_return = apart x 13 (or_right _ (x == 13) t85);
-      no_next_line = apart x 0x85 (or_right _ (x == 0x85) t28);
-      no_line = apart x 0x2028 (or_right _ (x == 0x2028) t29);
-      no_paragraph = apart x 0x2029 (or_right _ (x == 0x2029) h);
+      no_feed = eqb-false x 10 (or_parts (x == 10) _ t85).0;
+      no_return = eqb-false x 13 (or_parts _ (x == 13) t85).1;
+      no_next_line = eqb-false x 0x85 (or_parts _ (x == 0x85) t28).1;
+      no_line = eqb-false x 0x2028 (or_parts _ (x == 0x2028) t29).1;
+      no_paragraph = eqb-false x 0x2029 (or_parts _ (x == 0x2029) h).1;
       top = scalar_top x s;
     }
-
-same_is : (b k : ℕ) → b ≡ k → (b == k) ≡ true
-same_is b k e = grind (arith, nat_tests)
 
 -- no end of a word
 word_on : (c : ℕ) → ends_word c ≡ false → (c ≢ 0) × (c ≢ 32) × (c ≢ 9)
 word_on c h =
-    let a = or_left _ (c == 0) h in
-    let b = or_left (is_white c) _ a in
-    (apart c 0 (or_right _ (c == 0) h), apart c 32 (or_left (c == 32) _ b), apart c 9 (or_right (c == 32) _ b))
+    let a = (or_parts _ (c == 0) h).0 in
+    let b = (or_parts (is_white c) _ a).0 in
+    (eqb-false c 0 (or_parts _ (c == 0) h).1, eqb-false c 32 (or_parts (c == 32) _ b).0, eqb-false c 9 (or_parts (c == 32) _ b).1)
 
 on_and : (a b : Bool) → (a && b) ≡ false → a ≡ true → b ≡ false
 on_and true b h e = h
@@ -115,68 +110,64 @@ flow_is false b h = refl
 not_flow : (before x next : ℕ) → is_not_flow before x next ≡ false → (is_bracket x ≡ false) × ((x == 58) ≡ false) × ((x == 63) ≡ false)
 unfolding is_bracket
 not_flow before x next h =
-    let h125 = or_right _ (x == 125) h in
-    let a = or_left _ (x == 125) h in
-    let h123 = or_right _ (x == 123) a in
-    let b = or_left _ (x == 123) a in
-    let h93 = or_right _ (x == 93) b in
-    let c = or_left _ (x == 93) b in
-    let h91 = or_right _ (x == 91) c in
-    let d = or_left _ (x == 91) c in
-    let h58 = or_right _ (x == 58) d in
-    let e = or_left _ (x == 58) d in
-    let h63 = or_right _ (x == 63) e in
-    let h44 = or_left (x == 44) _ e in
+    let h125 = (or_parts _ (x == 125) h).1 in
+    let a = (or_parts _ (x == 125) h).0 in
+    let h123 = (or_parts _ (x == 123) a).1 in
+    let b = (or_parts _ (x == 123) a).0 in
+    let h93 = (or_parts _ (x == 93) b).1 in
+    let c = (or_parts _ (x == 93) b).0 in
+    let h91 = (or_parts _ (x == 91) c).1 in
+    let d = (or_parts _ (x == 91) c).0 in
+    let h58 = (or_parts _ (x == 58) d).1 in
+    let e = (or_parts _ (x == 58) d).0 in
+    let h63 = (or_parts _ (x == 63) e).1 in
+    let h44 = (or_parts (x == 44) _ e).0 in
     (rw (h44, h91, h93, h123, h125) refl, h58, h63)
 
 pub are_good : (flow : Bool) (before : ℕ) (xs : List ℕ) → AllShow xs → somewhere is_not_plain before xs ≡ false → (flow ≡ true → somewhere is_not_flow before xs ≡ false) → AreGood flow before xs
 unfolding somewhere
 are_good flow before [] a h f = tt
 are_good flow before (x ∷ xs) (s, a) h f =
-    let here = or_left (is_not_plain before x (first xs)) _ h in
-    let hash = or_right _ (x == 35 && ends_word before) here in
-    let more = or_left _ (x == 35 && ends_word before) here in
-    let colon = or_right (is_break x) (x == 58 && ends_word (first xs)) more in
-    let there : flow ≡ true → is_not_flow before x (first xs) ≡ false = λ e. or_left (is_not_flow before x (first xs)) _ (f e) in (
+    let here = (or_parts (is_not_plain before x (first xs)) _ h).0 in
+    let hash = (or_parts _ (x == 35 && ends_word before) here).1 in
+    let more = (or_parts _ (x == 35 && ends_word before) here).0 in
+    let colon = (or_parts (is_break x) (x == 58 && ends_word (first xs)) more).1 in
+    let there : flow ≡ true → is_not_flow before x (first xs) ≡ false = λ e. (or_parts (is_not_flow before x (first xs)) _ (f e)).0 in (
       record {
-        plainly = plainly_is x (or_left (is_break x) _ more) s.scalar;
+        plainly = plainly_is x (or_parts (is_break x) _ more).0 s.scalar;
         some = no_printable x 0 s.printable refl;
         tab = no_printable x 9 s.printable refl;
-        colon = λ e. word_on (first xs) (on_and (x == 58) (ends_word (first xs)) colon (same_is x 58 e));
-        hash = λ e. (word_on before (on_and (x == 35) (ends_word before) hash (same_is x 35 e))).1;
+        colon = λ e. word_on (first xs) (on_and (x == 58) (ends_word (first xs)) colon (eq-eqb x 58 e));
+        hash = λ e. (word_on before (on_and (x == 35) (ends_word before) hash (eq-eqb x 35 e))).1;
         bracket = flow_is flow (is_bracket x) (λ e. (not_flow before x (first xs) (there e)).0);
         odd = flow_is flow (x == 58) (λ e. (not_flow before x (first xs) (there e)).1);
         ask = flow_is flow (x == 63) (λ e. (not_flow before x (first xs) (there e)).2);
       },
-      are_good flow x xs a (or_right (is_not_plain before x (first xs)) _ h) (λ e. or_right (is_not_flow before x (first xs)) _ (f e)),
+      are_good flow x xs a (or_parts (is_not_plain before x (first xs)) _ h).1 (λ e. (or_parts (is_not_flow before x (first xs)) _ (f e)).1),
     )
-
-or_on : (a b : Bool) → b ≡ true → (a || b) ≡ true
-or_on true b e = refl
-or_on false b e = e
 
 begun_is : (flow : Bool) (x : ℕ) (xs : List ℕ) → starts_badly (x ∷ xs) ≡ false → Shows x (first xs) → Good flow 32 x (first xs) → Begun flow x xs
 begun_is flow x xs h s g =
     let y = first xs in
     let z = first (behind xs) in
-    let dots = or_right _ (x == 46 && y == 46 && z == 46) h in
-    let a = or_left _ (x == 46 && y == 46 && z == 46) h in
-    let dashes = or_right _ (x == 45 && y == 45 && z == 45) a in
-    let b = or_left _ (x == 45 && y == 45 && z == 45) a in
-    let alone = or_right (is_indicator x) ((x == 45 || x == 63) && ends_word y) b in
+    let dots = (or_parts _ (x == 46 && y == 46 && z == 46) h).1 in
+    let a = (or_parts _ (x == 46 && y == 46 && z == 46) h).0 in
+    let dashes = (or_parts _ (x == 45 && y == 45 && z == 45) a).1 in
+    let b = (or_parts _ (x == 45 && y == 45 && z == 45) a).0 in
+    let alone = (or_parts (is_indicator x) ((x == 45 || x == 63) && ends_word y) b).1 in
     record {
-      indicator = or_left (is_indicator x) _ b;
+      indicator = (or_parts (is_indicator x) _ b).0;
       alone = λ w. lone w alone;
       thrice = λ k w e i j. elim w [
-        | inl is ↦ true≢false (sym (rw (same_is x 45 (e ∙ is), same_is y 45 (i ∙ is), same_is z 45 (j ∙ is)) refl) ∙ dashes)
-        | inr is ↦ true≢false (sym (rw (same_is x 46 (e ∙ is), same_is y 46 (i ∙ is), same_is z 46 (j ∙ is)) refl) ∙ dots)
+        | inl is ↦ true≢false (sym (rw (eq-eqb x 45 (e ∙ is), eq-eqb y 45 (i ∙ is), eq-eqb z 45 (j ∙ is)) refl) ∙ dashes)
+        | inr is ↦ true≢false (sym (rw (eq-eqb x 46 (e ∙ is), eq-eqb y 46 (i ∙ is), eq-eqb z 46 (j ∙ is)) refl) ∙ dots)
       ];
       mark = no_printable x 0xFEFF s.printable refl;
     }
   where
     lone : (x ≡ 45) ⊎ ((x ≡ 63) ⊎ (x ≡ 58)) → ((x == 45 || x == 63) && ends_word (first xs)) ≡ false → (first xs ≢ 0) × (first xs ≢ 32) × (first xs ≢ 9)
-    lone (inl e) h = word_on (first xs) (on_and (x == 45 || x == 63) (ends_word (first xs)) h (rw (same_is x 45 e) refl))
-    lone (inr (inl e)) h = word_on (first xs) (on_and (x == 45 || x == 63) (ends_word (first xs)) h (or_on (x == 45) (x == 63) (same_is x 63 e)))
+    lone (inl e) h = word_on (first xs) (on_and (x == 45 || x == 63) (ends_word (first xs)) h (rw (eq-eqb x 45 e) refl))
+    lone (inr (inl e)) h = word_on (first xs) (on_and (x == 45 || x == 63) (ends_word (first xs)) h (or_right (x == 45) (x == 63) (eq-eqb x 63 e)))
     lone (inr (inr e)) h = g.colon e
 
 -- ---- the law

@@ -1,6 +1,6 @@
 -- How a plain scalar's parts are read: characters, single spaces and folds.
 use Rattle.std.proofs.Common.{◌≡◌, ◌≢◌, ℕ, zero, suc, ◌+◌, ◌<◌, ◌≤◌, Bool, true, false, ◌&&◌, ◌==◌, nat_lt, List, [], ◌∷◌, ◌++◌, length, replicate, refl, sym, ap, subst, ◌∙◌, inl, inr, arith, add-zero, encode_utf8}
-use Rattle.std.proofs.lemmas.Bool.{cases_Bool, cases_lt, true≢false}
+use Rattle.std.proofs.lemmas.Bool.{cases_Bool, cases_lt, true≢false, le-ltb, ne_eqb}
 use Rattle.std.proofs.lemmas.Bool.Decides.{nat_tests}
 use Rattle.yaml_scan_history.specs.scan_model.Marks.{byte, break_of, break_width, ends_break, column_at, is_blank, is_blank_or_end}
 use Rattle.yaml_scan_history.specs.scan_model.Breaks.{break_value, feed_at}
@@ -14,7 +14,7 @@ use Rattle.yaml_emit_layout.specs.emit_text.Style.{last_or}
 use Rattle.yaml_emit_laws_text.specs.Spelling.{LineEnd, feed, return, return_feed, next_line, line_separator, paragraph_separator, end_bytes, end_means, QuotedPart, raw, doubled, named, numbered, fold, joint, spelling}
 use Rattle.yaml_emit_laws_text.proofs.Chars.{encode_1, encode_2, encode_3, encode_4}
 use Rattle.yaml_emit_laws_text.proofs.Values.{keeps, blanks_of, read_as, all_read_as, read_kept as raw_kept, read_blank as raw_blank}
-use Rattle.yaml_emit_laws_text.proofs.Bytes.{differs, calm_end, calm_break, calm_from}
+use Rattle.yaml_emit_laws_text.proofs.Bytes.{calm_end, calm_break, calm_from}
 use Rattle.yaml_emit_laws_scalars.proofs.Standing.{Read, read_blank, read_break, Stand, column_on, Stays, Through, CharAt, Plainly, char_at, through_byte, through_both}
 
 -- ---- what the parts say
@@ -62,7 +62,7 @@ AreGood flow before (x ∷ xs) = Good flow before x (first xs) × AreGood flow x
 -- ---- a character
 
 not_blank : (x : ℕ) → x ≢ 32 → x ≢ 9 → is_blank x ≡ false
-not_blank x m n = rw (differs x 32 m, differs x 9 n) refl
+not_blank x m n = rw (ne_eqb x 32 m, ne_eqb x 9 n) refl
 
 high_blank : (b : ℕ) → 192 ≤ b → is_blank b ≡ false
 high_blank b h = grind (arith, nat_tests)
@@ -81,14 +81,14 @@ firm flow level text p x bytes c =
           let e : byte text p ≡ x = here ∙ c.low l in
           record {
             blank = λ m n. ap (λ k. is_blank k) e ∙ not_blank x m n;
-            some = λ m. ap (λ k. k == 0) e ∙ differs x 0 m;
+            some = λ m. ap (λ k. k == 0) e ∙ ne_eqb x 0 m;
             same = λ k small f. sym e ∙ f;
           }
       | inr l ↦
           let big = c.high l in
           record {
             blank = λ m n. ap (λ k. is_blank k) here ∙ high_blank c.first big;
-            some = λ m. ap (λ k. k == 0) here ∙ differs c.first 0 (λ f. omega arith);
+            some = λ m. ap (λ k. k == 0) here ∙ ne_eqb c.first 0 (λ f. omega arith);
             same = λ k small f. absurd (omega (arith, here, big, f, small));
           }
     ]
@@ -110,12 +110,12 @@ bracket_is : (flow : Bool) (text : List ℕ) (p x : ℕ) → Firm text p x → (
 unfolding is_bracket
 bracket_is false text p x f h = refl
 bracket_is true text p x f h =
-    let no : (k : ℕ) → k < 128 → is_bracket k ≡ true → (byte text p == k) ≡ false = λ k small e. differs (byte text p) k (λ g. true≢false (sym (ap (λ y. is_bracket y) (f.same k small g) ∙ e) ∙ h)) in
+    let no : (k : ℕ) → k < 128 → is_bracket k ≡ true → (byte text p == k) ≡ false = λ k small e. ne_eqb (byte text p) k (λ g. true≢false (sym (ap (λ y. is_bracket y) (f.same k small g) ∙ e) ∙ h)) in
     rw (no 44 (omega arith) refl, no 91 (omega arith) refl, no 93 (omega arith) refl, no 123 (omega arith) refl, no 125 (omega arith) refl) refl
 
 colon_is : (flow : Bool) (text : List ℕ) (p x : ℕ) → Firm text p x → (flow && x == 58) ≡ false → (flow && byte text p == 58) ≡ false
 colon_is false text p x f h = refl
-colon_is true text p x f h = differs (byte text p) 58 (λ g. true≢false (sym (ap (λ k. k == 58) (f.same 58 (omega arith) g)) ∙ h))
+colon_is true text p x f h = ne_eqb (byte text p) 58 (λ g. true≢false (sym (ap (λ k. k == 58) (f.same 58 (omega arith) g)) ∙ h))
 
 pub stays_at : (flow : Bool) (level : ℕ) (text : List ℕ) (p before x next : ℕ) → Firm text p x → Good flow before x next → FirmNext text p x → Stand level text p before → Stays flow text p
 stays_at flow level text p before x next f g n s = record {
@@ -239,9 +239,6 @@ some_blanks : (n : ℕ) (ps : List Piece) → is_nothing ps ≡ false → is_not
 some_blanks zero ps h = h
 some_blanks (suc n) ps h = refl
 
-not_less : (n level : ℕ) → level ≤ n → nat_lt n level ≡ false
-not_less n level h = grind (arith, nat_tests)
-
 pub folded_at : (flow : Bool) (level : ℕ) (text : List ℕ) (p m : ℕ) (e : LineEnd) → is_plain_end e ≡ true → level ≤ suc m → Has text p (end_bytes e ++ replicate (suc m) 32) → Folded flow level text p (suc m) e
 folded_at flow level text p m e good deep h =
     let n = suc m in
@@ -262,7 +259,7 @@ folded_at flow level text p m e good deep h =
           (blanks_read flow level text q n ps f place broke blanks nonempty r);
       stand = record {
         column = omega (arith, col);
-        inner = ap (λ k. leads text (q + n) && nat_lt k level) col ∙ ap (λ t. leads text (q + n) && t) (not_less n level deep) ∙ and_none (leads text (q + n));
+        inner = ap (λ k. leads text (q + n) && nat_lt k level) col ∙ ap (λ t. leads text (q + n) && t) (le-ltb n level deep) ∙ and_none (leads text (q + n));
         white = λ w. refl;
       };
     }

@@ -1,7 +1,8 @@
 -- Where a text has a plain scalar's parts, a plain scalar begins.
 use Rattle.std.proofs.Common.{◌≡◌, ◌≢◌, ℕ, suc, ◌+◌, ◌%◌, ◌<◌, ◌≤◌, Bool, true, false, not, ◌&&◌, ◌||◌, ◌==◌, nat_lt, List, [], ◌∷◌, ◌++◌, length, replicate, Some, None, refl, sym, ap, subst, ◌∙◌, inl, inr, ◌⊎◌, nat_le, arith, append_assoc, encode_utf8}
-use Rattle.std.proofs.lemmas.Bool.{cases_lt, true≢false}
+use Rattle.std.proofs.lemmas.Bool.{cases_lt, true≢false, and_parts, eqb-true, or_parts, ne_eqb}
 use Rattle.std.proofs.lemmas.Bool.Decides.{nat_tests}
+use Rattle.std.proofs.Math.Bool.{or-true}
 use Rattle.yaml_scan_history.specs.scan_model.Marks.{byte, break_width, ends_break, is_blank, is_blank_or_end}
 use Rattle.yaml_scan_history.specs.scan_model.Classes.{is_bom}
 use Rattle.yaml_scan_history.specs.scan_words.Written.{are_gap, begins_lexeme}
@@ -14,10 +15,10 @@ use Rattle.yaml_emit_layout.specs.emit_text.Quoted.{first}
 use Rattle.yaml_emit_layout.specs.emit_text.Style.{behind, is_indicator}
 use Rattle.yaml_emit_laws_text.specs.Spelling.{LineEnd, feed, return, return_feed, next_line, line_separator, paragraph_separator, end_bytes, LineTurn, turn_bytes, QuotedPart, raw, doubled, named, numbered, fold, joint, spelling}
 use Rattle.yaml_emit_laws_text.proofs.Chars.{encode_1, encode_2, encode_3, encode_4}
-use Rattle.yaml_emit_laws_text.proofs.Bytes.{or_right, differs, calm_end, calm_from}
+use Rattle.yaml_emit_laws_text.proofs.Bytes.{calm_end, calm_from}
 use Rattle.yaml_emit_laws_scalars.proofs.Standing.{Stand, column_start, stand_behind, Stays, not_ended, char_at}
-use Rattle.yaml_emit_laws_scalars.proofs.GapWords.{Stops, pair}
-use Rattle.yaml_emit_laws_scalars.proofs.Lines.{bool_cases, equal_from}
+use Rattle.yaml_emit_laws_scalars.proofs.GapWords.{Stops}
+use Rattle.yaml_emit_laws_scalars.proofs.Lines.{bool_cases}
 use Rattle.yaml_emit_laws_scalars.proofs.PlainParts.{is_plain_end, Spells, AreGood, firm, when_is, colon_next}
 
 -- ---- what the first character isn't
@@ -62,8 +63,8 @@ no_stop flow level text r b which here stop next =
     low (inr e) = rw e refl
 
     none : (b ≡ 45) ⊎ (b ≡ 46) → (k : ℕ) → 45 ≢ k → 46 ≢ k → (b == k) ≡ false
-    none (inl e) k m n = differs b k (λ f. m (sym e ∙ f))
-    none (inr e) k m n = differs b k (λ f. n (sym e ∙ f))
+    none (inl e) k m n = ne_eqb b k (λ f. m (sym e ∙ f))
+    none (inr e) k m n = ne_eqb b k (λ f. n (sym e ∙ f))
 
     no_bracket : (b ≡ 45) ⊎ (b ≡ 46) → is_bracket b ≡ false
     no_bracket (inl e) = rw e bracket_45
@@ -85,7 +86,7 @@ gap_byte b h = grind (arith, nat_tests)
 no_end : (flow : Bool) (level : ℕ) (text : List ℕ) (r b : ℕ) (gap : List ℕ) → (b ≡ 45) ⊎ (b ≡ 46) → byte text r ≡ b → Ended flow level text (r + 1) gap → byte text (r + 1) ≡ b → ⊥
 no_end flow level text r b [] which here e next = let z : r + 1 + 0 ≡ r + 1 = omega arith in no_stop flow level text r b which here (subst (λ q. Stops flow level text q) z e.stop) next
 no_end flow level text r b (g ∷ gap) which here e next =
-    let low = gap_byte g (pair (g == 32 || (g == 10 || g == 13)) (are_gap gap) e.blank).0 in
+    let low = gap_byte g (and_parts (g == 32 || (g == 10 || g == 13)) (are_gap gap) e.blank).0 in
     let h = e.has.0 in
     elim which [ inl w ↦ absurd (omega (arith, low, h, next, w)) | inr w ↦ absurd (omega (arith, low, h, next, w)) ]
 
@@ -179,7 +180,7 @@ Not text p k = (byte text p == k) ≡ false
 not_thrice : (text : List ℕ) (p b : ℕ) → (byte text p ≡ b → byte text (p + 1) ≡ b → byte text (p + 1 + 1) ≡ b → ⊥) → is_thrice b text p ≡ false
 not_thrice text p b f =
     let two : p + 2 ≡ p + 1 + 1 = omega arith in
-    when_is (byte text p) b _ (λ e. when_is (byte text (p + 1)) b (byte text (p + 2) == b) (λ g. differs (byte text (p + 2)) b (λ h. f e g (ap (λ k. byte text k) (sym two) ∙ h))))
+    when_is (byte text p) b _ (λ e. when_is (byte text (p + 1)) b (byte text (p + 2) == b) (λ g. ne_eqb (byte text (p + 2)) b (λ h. f e g (ap (λ k. byte text k) (sym two) ∙ h))))
 
 is_one : (b k : ℕ) (a : Bool) → (b ≡ k → a ≡ false) → (b == k && a) ≡ false
 is_one b k a f = when_is b k a f
@@ -198,10 +199,6 @@ unfolding indicator_of
 none_is flow alone b none dash ask colon =
     rw (none 91 (omega arith) refl, none 123 (omega arith) refl, none 93 (omega arith) refl, none 125 (omega arith) refl, none 44 (omega arith) refl, dash, ask, colon, none 42 (omega arith) refl, none 38 (omega arith) refl, none 33 (omega arith) refl, none 124 (omega arith) refl, none 62 (omega arith) refl, none 39 (omega arith) refl, none 34 (omega arith) refl) refl
 
-or_true : (a : Bool) → (a || true) ≡ true
-or_true true = refl
-or_true false = refl
-
 other_byte : (b : ℕ) → ((k : ℕ) → k < 128 → is_indicator k ≡ true → (b == k) ≡ false) → (b == 45) ≡ false → (b == 63) ≡ false → (b == 58) ≡ false → is_indicator_byte b ≡ false
 unfolding is_indicator_byte is_bracket
 other_byte b none d a c =
@@ -216,11 +213,11 @@ begins : (flow : Bool) (text : List ℕ) (p : ℕ) → is_blank_or_end text p �
 unfolding starts_plain
 begins flow text p white none dash ask colon =
     bool_cases (byte text p == 45)
-    (λ e. rw (white, e, blank_of (is_blank (byte text (p + 1))) (byte text (p + 1) == 0) (nat_lt 0 (break_width text (p + 1))) (dash (equal_from (byte text p) 45 e))) (by_dash (is_indicator_byte (byte text p)) _))
+    (λ e. rw (white, e, blank_of (is_blank (byte text (p + 1))) (byte text (p + 1) == 0) (nat_lt 0 (break_width text (p + 1))) (dash (eqb-true (byte text p) 45 e))) (by_dash (is_indicator_byte (byte text p)) _))
     (λ d. bool_cases (byte text p == 63)
-    (λ e. let k = ask (equal_from (byte text p) 63 e) in rw (white, e, k.0, k.1) (or_true _))
+    (λ e. let k = ask (eqb-true (byte text p) 63 e) in rw (white, e, k.0, k.1) (or-true _))
     (λ a. bool_cases (byte text p == 58)
-    (λ e. let k = colon (equal_from (byte text p) 58 e) in rw (white, a, e, k.0, k.1) (or_true _))
+    (λ e. let k = colon (eqb-true (byte text p) 58 e) in rw (white, a, e, k.0, k.1) (or-true _))
     (λ c. rw (white, other_byte (byte text p) none d a c) refl)))
   where
     by_dash : (i x : Bool) → ((not i || true) || x) ≡ true
@@ -237,7 +234,7 @@ in_flow true b k h e = absurd (true≢false (sym (same b k e) ∙ h))
 -- no mark of byte order
 no_bom : (text : List ℕ) (p x : ℕ) → x ≢ 0xFEFF → x < 1114112 → Has text p (encode_utf8 x) → is_bom text p ≡ false
 no_bom text p x m top h =
-    when_is (byte text p) 0xEF _ (λ a. when_is (byte text (p + 1)) 0xBB (byte text (p + 2) == 0xBF) (λ b. differs (byte text (p + 2)) 0xBF (λ d. m (is_mark text p x top a b d h))))
+    when_is (byte text p) 0xEF _ (λ a. when_is (byte text (p + 1)) 0xBB (byte text (p + 2) == 0xBF) (λ b. ne_eqb (byte text (p + 2)) 0xBF (λ d. m (is_mark text p x top a b d h))))
   where
     is_mark : (text : List ℕ) (p x : ℕ) → x < 1114112 → byte text p ≡ 0xEF → byte text (p + 1) ≡ 0xBB → byte text (p + 2) ≡ 0xBF → Has text p (encode_utf8 x) → x ≡ 0xFEFF
     is_mark text p x top a b d h =
@@ -284,7 +281,7 @@ opens flow level n text p x ps xs gap b (g, gs) space s h e =
     let behind_it = has_rest text p (encode_utf8 x) (spelling ps) h1 in
     let at = char_at flow level text p x g.plainly own in
     let f = firm flow level text p x (encode_utf8 x) at in
-    let none : (k : ℕ) → k < 128 → is_indicator k ≡ true → (byte text p == k) ≡ false = λ k small i. differs (byte text p) k (λ j. no_indicator x k i b.indicator (f.same k small j)) in
+    let none : (k : ℕ) → k < 128 → is_indicator k ≡ true → (byte text p == k) ≡ false = λ k small i. ne_eqb (byte text p) k (λ j. no_indicator x k i b.indicator (f.same k small j)) in
     let one : x < 128 → encode_utf8 x ≡ x ∷ [] = λ l. encode_1 x l in
     let at_next : x < 128 → Has text (p + 1) (spelling ps) = λ l. subst (λ k. Has text (p + k) (spelling ps)) (ap (λ (bs : List ℕ). length bs) (one l)) behind_it in
     let end_next : x < 128 → Ended flow level text (p + 1 + length (spelling ps)) gap = λ l.
@@ -308,6 +305,6 @@ opens flow level n text p x ps xs gap b (g, gs) space s h e =
     let nothing = none_is flow (is_blank_or_end text (p + 1)) (byte text p) none (when_is (byte text p) 45 (is_blank_or_end text (p + 1)) a45) (off 63 f63 a63) (off 58 f58 a58) in
     let white : is_blank_or_end text p ≡ false = rw (f.blank space g.tab, f.some g.some, at.width) refl in
     record {
-      begins = begun_by text p (none 32 (omega arith) refl) (or_right (byte text p == 32) (byte text p == 9) (f.blank space g.tab)) (none 35 (omega arith) refl) at.width (no_bom text p x b.mark (g.plainly.top) own);
+      begins = begun_by text p (none 32 (omega arith) refl) (or_parts (byte text p == 32) (byte text p == 9) (f.blank space g.tab)).1 (none 35 (omega arith) refl) at.width (no_bom text p x b.mark (g.plainly.top) own);
       kind = kind_by flow text p (f.some g.some) (none 37 (omega arith) refl) (three 45 (inl refl)) (three 46 (inr refl)) nothing (begins flow text p white none a45 (λ j. (f63 j, a63 j)) (λ j. (f58 j, a58 j)));
     }

@@ -1,12 +1,11 @@
 -- What an emitter finds in a value whose style it allows.
 use Rattle.std.proofs.Common.{◌≡◌, ℕ, Bool, true, false, not, ◌&&◌, ◌||◌, ◌==◌, nat_le, List, [], ◌∷◌, refl}
-use Rattle.std.proofs.lemmas.Bool.{true≢false}
+use Rattle.std.proofs.lemmas.Bool.{true≢false, and_parts, not-true, or_parts}
 use Rattle.std.specs.Str.{all_scalars}
 use lib.Utf8.{scalar}
 use Rattle.yaml_emit_layout.specs.emit_text.Text.{is_break}
 use Rattle.yaml_emit_layout.specs.emit_text.Quoted.{is_printable, first}
 use Rattle.yaml_emit_layout.specs.emit_text.Style.{somewhere, is_special, is_break_space, allowed}
-use Rattle.yaml_emit_laws_text.proofs.Bytes.{and_left, and_right, not_true, or_left, or_right}
 use Rattle.yaml_emit_laws_scalars.proofs.Letters.{AllShow}
 
 special_left : (p b : Bool) → (not p || b) ≡ false → p ≡ true
@@ -15,21 +14,21 @@ special_left false b e = absurd (true≢false e)
 
 shown_first : (unicode : Bool) (before x next : ℕ) → is_special unicode before x next ≡ false → is_printable x ≡ true
 shown_first unicode before x next e =
-    let a = or_left _ (x == 32 && is_break next) e in
+    let a = (or_parts _ (x == 32 && is_break next) e).0 in
     special_left (is_printable x) (not unicode && nat_le 0x80 x) a
 
 pub all_show : (unicode : Bool) (before : ℕ) (xs : List ℕ) → somewhere (is_special unicode) before xs ≡ false → somewhere is_break_space before xs ≡ false → all_scalars xs ≡ true → AllShow xs
 unfolding somewhere
 all_show unicode before [] e b g = tt
 all_show unicode before (x ∷ xs) e b g =
-    let here = or_left (is_special unicode before x (first xs)) _ e in (
+    let here = (or_parts (is_special unicode before x (first xs)) _ e).0 in (
       record {
-        scalar = and_left (scalar x) (all_scalars xs) g;
+        scalar = (and_parts (scalar x) (all_scalars xs) g).0;
         printable = shown_first unicode before x (first xs) here;
-        space = or_right _ (x == 32 && is_break (first xs)) here;
-        broken = or_left (is_break_space before x (first xs)) _ b;
+        space = (or_parts _ (x == 32 && is_break (first xs)) here).1;
+        broken = (or_parts (is_break_space before x (first xs)) _ b).0;
       },
-      all_show unicode x xs (or_right (is_special unicode before x (first xs)) _ e) (or_right (is_break_space before x (first xs)) _ b) (and_right (scalar x) (all_scalars xs) g),
+      all_show unicode x xs (or_parts (is_special unicode before x (first xs)) _ e).1 (or_parts (is_break_space before x (first xs)) _ b).1 (and_parts (scalar x) (all_scalars xs) g).1,
     )
 
 nothing_there : (f : ℕ → ℕ → ℕ → Bool) → somewhere f 32 [] ≡ false
@@ -40,5 +39,5 @@ pub single_show : (unicode : Bool) (xs : List ℕ) → (allowed unicode xs).sing
 unfolding allowed
 single_show unicode [] e g = tt
 single_show unicode (x ∷ xs) e g =
-    let a = not_true _ e in
-    all_show unicode 32 (x ∷ xs) (or_left _ (somewhere is_break_space 32 (x ∷ xs)) a) (or_right (somewhere (is_special unicode) 32 (x ∷ xs)) _ a) g
+    let a = not-true _ e in
+    all_show unicode 32 (x ∷ xs) (or_parts _ (somewhere is_break_space 32 (x ∷ xs)) a).0 (or_parts (somewhere (is_special unicode) 32 (x ∷ xs)) _ a).1 g

@@ -1,7 +1,8 @@
 -- What stops a plain scalar, clause by clause.
 use Rattle.std.proofs.Common.{◌≡◌, ◌≢◌, ℕ, ◌+◌, ◌/◌, ◌%◌, ◌<◌, ◌≤◌, Bool, true, false, not, ◌&&◌, ◌||◌, ◌==◌, nat_lt, List, [], ◌∷◌, ◌++◌, Option, Some, refl, sym, ap, subst, ◌∙◌, inl, inr, arith}
-use Rattle.std.proofs.lemmas.Bool.{cases_lt, true≢false}
+use Rattle.std.proofs.lemmas.Bool.{cases_lt, true≢false, and_parts, not-true, ne_eqb}
 use Rattle.std.proofs.lemmas.Bool.Decides.{nat_tests}
+use Rattle.std.proofs.Math.Bool.{and-false}
 use lib.Utf8.{scalar, scalar_cases}
 use Rattle.yaml_scan_history.specs.scan_model.Marks.{break_of}
 use Rattle.yaml_scan_history.specs.scan_scalars.Plain.{is_bracket}
@@ -9,7 +10,7 @@ use Rattle.yaml_emit_layout.specs.emit_text.Text.{is_break}
 use Rattle.yaml_emit_layout.specs.emit_text.Quoted.{first, is_printable}
 use Rattle.yaml_emit_layout.specs.emit_text.Style.{behind}
 use Rattle.yaml_emit_laws_text.proofs.Chars.{encode_1, encode_2, encode_3, encode_4}
-use Rattle.yaml_emit_laws_text.proofs.Bytes.{and_left, and_right, not_true, differs, low_break, two_break, three_break, four_break}
+use Rattle.yaml_emit_laws_text.proofs.Bytes.{low_break, two_break, three_break, four_break}
 use Rattle.yaml_emit_laws_scalars.specs.Stops.{is_gap_byte, begins_white, begins_mark, stops_here, stops_plain_at, begins_solid, WhatStopsPlain, CharactersAreSolid}
 use Rattle.yaml_emit_laws_scalars.proofs.Stopping.{stop_other}
 
@@ -62,25 +63,21 @@ dot_bracket : is_bracket 46 ≡ false
 unfolding is_bracket
 dot_bracket = refl
 
-off : (a : Bool) → (a && false) ≡ false
-off true = refl
-off false = refl
-
 dashes_stop : (flow : Bool) (level : ℕ) (bs : List ℕ) → begins_white bs ≡ true → stops_plain_at flow level (Some 0) (45 ∷ 45 ∷ 45 ∷ bs) ≡ true
 dashes_stop flow level bs h =
-    let here : stops_here flow level (Some 0) 45 (45 ∷ 45 ∷ bs) ≡ true = rw (dash_width 45 45, dash_bracket, off flow, h) refl in
+    let here : stops_here flow level (Some 0) 45 (45 ∷ 45 ∷ bs) ≡ true = rw (dash_width 45 45, dash_bracket, and-false flow, h) refl in
     stop_other flow level (Some 0) 45 (45 ∷ 45 ∷ bs) refl ∙ here
 
 dots_stop : (flow : Bool) (level : ℕ) (bs : List ℕ) → begins_white bs ≡ true → stops_plain_at flow level (Some 0) (46 ∷ 46 ∷ 46 ∷ bs) ≡ true
 dots_stop flow level bs h =
-    let here : stops_here flow level (Some 0) 46 (46 ∷ 46 ∷ bs) ≡ true = rw (dot_width 46 46, dot_bracket, off flow, h) refl in
+    let here : stops_here flow level (Some 0) 46 (46 ∷ 46 ∷ bs) ≡ true = rw (dot_width 46 46, dot_bracket, and-false flow, h) refl in
     stop_other flow level (Some 0) 46 (46 ∷ 46 ∷ bs) refl ∙ here
 
 solid_stops : (level n : ℕ) (bs : List ℕ) → n < level → begins_solid bs ≡ true → stops_plain_at false level (Some n) bs ≡ true
 solid_stops level n [] l h = absurd (true≢false (sym h))
 solid_stops level n (b ∷ bs) l h =
-    let gap = not_true (is_gap_byte b) (and_left (not (is_gap_byte b)) _ h) in
-    let front = and_right (not (is_gap_byte b)) _ h in
+    let gap = not-true (is_gap_byte b) (and_parts (not (is_gap_byte b)) _ h).0 in
+    let front = (and_parts (not (is_gap_byte b)) _ h).1 in
     let less : nat_lt n level ≡ true = grind (arith, nat_tests) in
     let here : stops_here false level (Some n) b bs ≡ true = rw (front, less) (ends (b == 58 && begins_white bs) (n == 0 && begins_mark b bs)) in
     stop_other false level (Some n) b bs gap ∙ here
@@ -115,10 +112,10 @@ chars_solid x bs s p calm space =
     let next_line : x ≢ 0x85 = apart_break x 0x85 calm refl in
     let line : x ≢ 0x2028 = apart_break x 0x2028 calm refl in
     let paragraph : x ≢ 0x2029 = apart_break x 0x2029 calm refl in
-    let tab : (x == 9) ≡ false = differs x 9 (λ e. true≢false (sym p ∙ ap (λ k. is_printable k) e)) in
+    let tab : (x == 9) ≡ false = ne_eqb x 9 (λ e. true≢false (sym p ∙ ap (λ k. is_printable k) e)) in
     let top = scalar_top x s in
     elim (cases_lt x 128) [
-      | inl u ↦ subst P (sym (encode_1 x u)) (solid_by x bs space (differs x 10 feed) (differs x 13 return) tab (low_break x (first bs) (first (behind bs)) u feed return))
+      | inl u ↦ subst P (sym (encode_1 x u)) (solid_by x bs space (ne_eqb x 10 feed) (ne_eqb x 13 return) tab (low_break x (first bs) (first (behind bs)) u feed return))
       | inr u ↦ elim (cases_lt x 2048) [
         | inl v ↦
             let a = 192 + x / 64 in
@@ -144,4 +141,4 @@ chars_solid x bs s p calm space =
     scalar_top c h = elim (scalar_cases c h) [ inl a ↦ omega arith | inr a ↦ a.1 ]
 
     high_solid : (b : ℕ) (bs : List ℕ) → 128 ≤ b → break_of b (first bs) (first (behind bs)) ≡ 0 → begins_solid (b ∷ bs) ≡ true
-    high_solid b bs h w = solid_by b bs (differs b 32 (λ e. omega (arith, e, h))) (differs b 10 (λ e. omega (arith, e, h))) (differs b 13 (λ e. omega (arith, e, h))) (differs b 9 (λ e. omega (arith, e, h))) w
+    high_solid b bs h w = solid_by b bs (ne_eqb b 32 (λ e. omega (arith, e, h))) (ne_eqb b 10 (λ e. omega (arith, e, h))) (ne_eqb b 13 (λ e. omega (arith, e, h))) (ne_eqb b 9 (λ e. omega (arith, e, h))) w

@@ -1,7 +1,8 @@
 -- How the bytes of a plain scalar are read, one by one.
 use Rattle.std.proofs.Common.{◌≡◌, ◌≢◌, ℕ, zero, suc, ◌+◌, ◌-◌, ◌/◌, ◌%◌, ◌<◌, ◌≤◌, Bool, true, false, ◌&&◌, ◌==◌, nat_lt, List, [], ◌∷◌, ◌++◌, length, Result, Ok, refl, sym, ap, subst, ◌∙◌, inl, inr, arith, add-one, append_assoc, encode_utf8}
-use Rattle.std.proofs.lemmas.Bool.{cases_lt, true≢false}
+use Rattle.std.proofs.lemmas.Bool.{cases_lt, true≢false, ne_eqb}
 use Rattle.std.proofs.lemmas.Bool.Decides.{nat_tests}
+use Rattle.std.proofs.Math.Bool.{and-false}
 use Rattle.yaml_scan_history.specs.scan_model.Marks.{byte, ends_of, break_width, ends_break, starts, column_at, is_blank, is_blank_or_end}
 use Rattle.yaml_scan_history.specs.scan_model.Breaks.{is_document_indicator}
 use Rattle.yaml_scan_history.specs.scan_model.Wrong.{Wrong}
@@ -12,7 +13,7 @@ use Rattle.yaml_scan_history.proofs.MarksLemmas.{within}
 use Rattle.yaml_scan_history.proofs.HasLemmas.{Has}
 use Rattle.yaml_emit_laws_text.proofs.Chars.{encode_1, encode_2, encode_3, encode_4}
 use Rattle.yaml_emit_laws_text.proofs.Values.{keeps}
-use Rattle.yaml_emit_laws_text.proofs.Bytes.{differs, low_end, low_break, first_end, second_end, third_end, later_break, two_break, three_break, four_break, high_blank}
+use Rattle.yaml_emit_laws_text.proofs.Bytes.{low_end, low_break, first_end, second_end, third_end, later_break, two_break, three_break, four_break, high_blank}
 
 -- ---- readings, from the right
 
@@ -174,19 +175,15 @@ through_byte flow level text p b before s k e blank ends width = record {
 
 high_bracket : (b : ℕ) → 128 ≤ b → is_bracket b ≡ false
 unfolding is_bracket
-high_bracket b h = rw (differs b 44 (λ e. omega arith), differs b 91 (λ e. omega arith), differs b 93 (λ e. omega arith), differs b 123 (λ e. omega arith), differs b 125 (λ e. omega arith)) refl
-
-and_none : (a : Bool) → (a && false) ≡ false
-and_none true = refl
-and_none false = refl
+high_bracket b h = rw (ne_eqb b 44 (λ e. omega arith), ne_eqb b 91 (λ e. omega arith), ne_eqb b 93 (λ e. omega arith), ne_eqb b 123 (λ e. omega arith), ne_eqb b 125 (λ e. omega arith)) refl
 
 high_stays : (flow : Bool) (text : List ℕ) (p : ℕ) → 128 ≤ byte text p → Stays flow text p
 high_stays flow text p h = record {
-  some = differs (byte text p) 0 (λ e. omega arith);
-  hash = ap (λ t. t && after_white text p) (differs (byte text p) 35 (λ e. omega arith));
-  colon = ap (λ t. t && is_blank_or_end text (p + 1)) (differs (byte text p) 58 (λ e. omega arith));
-  bracket = ap (λ t. flow && t) (high_bracket (byte text p) h) ∙ and_none flow;
-  odd = ap (λ t. flow && t) (differs (byte text p) 58 (λ e. omega arith)) ∙ and_none flow;
+  some = ne_eqb (byte text p) 0 (λ e. omega arith);
+  hash = ap (λ t. t && after_white text p) (ne_eqb (byte text p) 35 (λ e. omega arith));
+  colon = ap (λ t. t && is_blank_or_end text (p + 1)) (ne_eqb (byte text p) 58 (λ e. omega arith));
+  bracket = ap (λ t. flow && t) (high_bracket (byte text p) h) ∙ and-false flow;
+  odd = ap (λ t. flow && t) (ne_eqb (byte text p) 58 (λ e. omega arith)) ∙ and-false flow;
 }
 
 high : (flow : Bool) (level : ℕ) (text : List ℕ) (p b before : ℕ) → Stand level text p before → byte text p ≡ b → 128 ≤ b → ends_break text p ≡ false → break_width text p ≡ 0 → Through flow level text p (Kept (b ∷ []) ∷ []) (p + 1)

@@ -1,6 +1,6 @@
 -- Bytes that stop a plain scalar.
-use Rattle.std.proofs.Common.{◌≡◌, ℕ, zero, suc, ◌+◌, ◌<◌, Bool, true, false, not, ◌&&◌, ◌||◌, ◌==◌, nat_lt, List, [], ◌∷◌, ◌++◌, length, Option, Some, None, replicate, refl, sym, ap, subst, ◌∙◌, inl, inr, ◌⊎◌, arith, encode_utf8_all}
-use Rattle.std.proofs.lemmas.Bool.{true≢false}
+use Rattle.std.proofs.Common.{◌≡◌, ℕ, zero, suc, ◌+◌, ◌<◌, Bool, true, false, not, ◌&&◌, ◌||◌, ◌==◌, nat_lt, List, [], ◌∷◌, ◌++◌, length, Option, Some, None, replicate, refl, sym, ap, subst, ◌∙◌, inl, inr, arith, encode_utf8_all}
+use Rattle.std.proofs.lemmas.Bool.{true≢false, eqb-true, or_cases, or_left, or_right, and_parts, not-true, or_parts, ne_eqb}
 use Rattle.std.proofs.lemmas.List.{get_or_past}
 use Rattle.yaml_scan_history.specs.scan_model.Marks.{byte, break_of, break_width, column_at, is_blank, is_blank_or_end}
 use Rattle.yaml_scan_history.specs.scan_model.Breaks.{is_document_indicator}
@@ -17,9 +17,8 @@ use Rattle.yaml_emit_layout.specs.emit_text.Style.{behind}
 use Rattle.yaml_emit_laws_text.specs.Walk.{Has, Left}
 use Rattle.yaml_emit_laws_text.proofs.Places.{has_front, has_at, left_first, left_more, left_rest}
 use Rattle.yaml_emit_laws_text.proofs.Values.{cond_true, cond_false}
-use Rattle.yaml_emit_laws_text.proofs.Bytes.{differs, and_left, and_right, not_true, or_left, or_right}
 use Rattle.yaml_emit_laws_scalars.specs.Stops.{is_gap_byte, white_of, begins_white, begins_mark, stops_line, stops_here, one_more, column_behind, stops_plain_at, StopsEndPlain, PlainGoesOn, StopsBehindLines}
-use Rattle.yaml_emit_laws_scalars.proofs.Lines.{bool_cases, equal_from}
+use Rattle.yaml_emit_laws_scalars.proofs.Lines.{bool_cases}
 use Rattle.yaml_emit_laws_scalars.proofs.PlainParts.{spaced}
 
 -- ---- bytes that are left
@@ -35,18 +34,6 @@ left_behind : (text : List ℕ) (p : ℕ) (bs : List ℕ) → Left text p bs →
 left_behind text p [] l = let e = l.ends in get_or_past text (p + 1) 0 (omega (arith, e))
 left_behind text p (b ∷ bs) l = next_byte text (p + 1) bs (left_more text p b bs l)
 
-or_cases : (a b : Bool) → (a || b) ≡ true → (a ≡ true) ⊎ (b ≡ true)
-or_cases true b e = inl refl
-or_cases false b e = inr e
-
-or_one : (a b : Bool) → a ≡ true → (a || b) ≡ true
-or_one true b e = refl
-or_one false b e = absurd (true≢false (sym e))
-
-or_two : (a b : Bool) → b ≡ true → (a || b) ≡ true
-or_two true b e = refl
-or_two false b e = e
-
 by_feed : (b c d : ℕ) → b ≡ 10 → nat_lt 0 (break_of b c d) ≡ true
 unfolding break_of
 by_feed b c d e = rw e refl
@@ -59,11 +46,11 @@ gap_white : (text : List ℕ) (p : ℕ) → is_gap_byte (byte text p) ≡ true �
 gap_white text p h =
     elim (or_cases (byte text p == 32) _ h) [
       | inl e ↦ rw e refl
-      | inr e ↦ or_two ((is_blank (byte text p)) || byte text p == 0) (nat_lt 0 (break_width text p)) (some_break (byte text p) (byte text (p + 1)) (byte text (p + 2)) e)
+      | inr e ↦ or_right ((is_blank (byte text p)) || byte text p == 0) (nat_lt 0 (break_width text p)) (some_break (byte text p) (byte text (p + 1)) (byte text (p + 2)) e)
     ]
   where
     some_break : (b c d : ℕ) → (b == 10 || b == 13) ≡ true → nat_lt 0 (break_of b c d) ≡ true
-    some_break b c d h = elim (or_cases (b == 10) (b == 13) h) [ inl e ↦ by_feed b c d (equal_from b 10 e) | inr e ↦ by_return b c d (equal_from b 13 e) ]
+    some_break b c d h = elim (or_cases (b == 10) (b == 13) h) [ inl e ↦ by_feed b c d (eqb-true b 10 e) | inr e ↦ by_return b c d (eqb-true b 13 e) ]
 
 white_next : (text : List ℕ) (p : ℕ) (bs : List ℕ) → Left text p bs → begins_white bs ≡ true → is_blank_or_end text p ≡ true
 white_next text p [] l h = let z = past_end text p l.ends in rw z refl
@@ -86,32 +73,32 @@ mark_here text p a (b ∷ d ∷ bs) l c h =
     let l3 = left_more text (p + 1 + 1) d bs l2 in
     let two : p + 2 ≡ p + 1 + 1 = omega arith in
     let three : p + 3 ≡ p + 1 + 1 + 1 = omega arith in
-    let marks = and_left _ (begins_white bs) h in
-    let white = white_next text (p + 1 + 1 + 1) bs l3 (and_right (((a == 45 && b == 45) && d == 45) || ((a == 46 && b == 46) && d == 46)) (begins_white bs) h) in
+    let marks = (and_parts _ (begins_white bs) h).0 in
+    let white = white_next text (p + 1 + 1 + 1) bs l3 (and_parts (((a == 45 && b == 45) && d == 45) || ((a == 46 && b == 46) && d == 46)) (begins_white bs) h).1 in
     rw (c, two, three, left_first text p a _ l, left_first text (p + 1) b _ l1, left_first text (p + 1 + 1) d bs l2, marks, white) refl
 
 colon_ends : (flow : Bool) (level : ℕ) (text : List ℕ) (p : ℕ) → byte text p ≡ 58 → is_blank_or_end text (p + 1) ≡ true → ends_at flow level text p ≡ true
 unfolding ends_at
 colon_ends flow level text p h w =
-    or_two (byte text p == 0 || is_document_indicator text p) _ (or_two (byte text p == 35 && after_white text p) _ (or_one (byte text p == 58 && is_blank_or_end text (p + 1)) _ (rw (h, w) refl)))
+    or_right (byte text p == 0 || is_document_indicator text p) _ (or_right (byte text p == 35 && after_white text p) _ (or_left (byte text p == 58 && is_blank_or_end text (p + 1)) _ (rw (h, w) refl)))
 
 bracket_ends : (flow : Bool) (level : ℕ) (text : List ℕ) (p : ℕ) → flow ≡ true → is_bracket (byte text p) ≡ true → ends_at flow level text p ≡ true
 unfolding ends_at
 bracket_ends flow level text p f h =
-    or_two (byte text p == 0 || is_document_indicator text p) _ (or_two (byte text p == 35 && after_white text p) _ (or_two (byte text p == 58 && is_blank_or_end text (p + 1)) _ (rw f h)))
+    or_right (byte text p == 0 || is_document_indicator text p) _ (or_right (byte text p == 35 && after_white text p) _ (or_right (byte text p == 58 && is_blank_or_end text (p + 1)) _ (rw f h)))
 
 mark_ends : (flow : Bool) (level : ℕ) (text : List ℕ) (p : ℕ) → is_document_indicator text p ≡ true → ends_at flow level text p ≡ true
 unfolding ends_at
-mark_ends flow level text p h = or_one (byte text p == 0 || is_document_indicator text p) _ (or_two (byte text p == 0) (is_document_indicator text p) h)
+mark_ends flow level text p h = or_left (byte text p == 0 || is_document_indicator text p) _ (or_right (byte text p == 0) (is_document_indicator text p) h)
 
 zero_ends : (flow : Bool) (level : ℕ) (text : List ℕ) (p : ℕ) → byte text p ≡ 0 → ends_at flow level text p ≡ true
 unfolding ends_at
-zero_ends flow level text p h = or_one (byte text p == 0 || is_document_indicator text p) _ (or_one (byte text p == 0) (is_document_indicator text p) (rw h refl))
+zero_ends flow level text p h = or_left (byte text p == 0 || is_document_indicator text p) _ (or_left (byte text p == 0) (is_document_indicator text p) (rw h refl))
 
 left_ends : (flow : Bool) (level n : ℕ) (text : List ℕ) (p : ℕ) → flow ≡ false → column_at text p ≡ n → leads text p ≡ true → nat_lt n level ≡ true → ends_at flow level text p ≡ true
 unfolding ends_at
 left_ends flow level n text p f c l h =
-    or_two (byte text p == 0 || is_document_indicator text p) _ (or_two (byte text p == 35 && after_white text p) _ (or_two (byte text p == 58 && is_blank_or_end text (p + 1)) _ (rw (f, l, c) h)))
+    or_right (byte text p == 0 || is_document_indicator text p) _ (or_right (byte text p == 35 && after_white text p) _ (or_right (byte text p == 58 && is_blank_or_end text (p + 1)) _ (rw (f, l, c) h)))
 
 ends_by : (flow : Bool) (level : ℕ) (text : List ℕ) (p : ℕ) → is_blank (byte text p) ≡ false → break_width text p ≡ 0 → ends_at flow level text p ≡ true → ends_plain flow level text p ≡ true
 unfolding ends_plain
@@ -123,29 +110,29 @@ line_ends flow level (Some n) text p b bs l not_feed here h =
     let e = left_first text p b bs l in
     let a = here (λ f. true≢false (sym (ap (λ k. k == 10) (sym e ∙ f)) ∙ not_feed)) in
     elim (or_cases (n == 0 && begins_mark b bs) (not flow && nat_lt n level) h) [
-      | inl m ↦ mark_ends flow level text p (mark_here text p b bs l (a.0 ∙ equal_from n 0 (and_left (n == 0) (begins_mark b bs) m)) (and_right (n == 0) (begins_mark b bs) m))
-      | inr m ↦ left_ends flow level n text p (not_true flow (and_left (not flow) (nat_lt n level) m)) a.0 a.1 (and_right (not flow) (nat_lt n level) m)
+      | inl m ↦ mark_ends flow level text p (mark_here text p b bs l (a.0 ∙ eqb-true n 0 (and_parts (n == 0) (begins_mark b bs) m).0) (and_parts (n == 0) (begins_mark b bs) m).1)
+      | inr m ↦ left_ends flow level n text p (not-true flow (and_parts (not flow) (nat_lt n level) m).0) a.0 a.1 (and_parts (not flow) (nat_lt n level) m).1
     ]
 
 here_ends : (flow : Bool) (level : ℕ) (at : Option ℕ) (text : List ℕ) (p b : ℕ) (bs : List ℕ) → Left text p (b ∷ bs) → is_gap_byte b ≡ false → At text p at → stops_here flow level at b bs ≡ true → ends_plain flow level text p ≡ true
 here_ends flow level at text p b bs l gap here h =
     let e = left_first text p b bs l in
     let l1 = left_more text p b bs l in
-    let front = and_left _ ((b == 58 && begins_white bs) || ((flow && is_bracket b) || stops_line flow level at b bs)) h in
-    let more = and_right (not (b == 9) && break_of b (first bs) (first (behind bs)) == 0) _ h in
-    let tab = not_true (b == 9) (and_left (not (b == 9)) _ front) in
-    let width : break_of b (first bs) (first (behind bs)) ≡ 0 = equal_from _ 0 (and_right (not (b == 9)) (break_of b (first bs) (first (behind bs)) == 0) front) in
+    let front = (and_parts _ ((b == 58 && begins_white bs) || ((flow && is_bracket b) || stops_line flow level at b bs)) h).0 in
+    let more = (and_parts (not (b == 9) && break_of b (first bs) (first (behind bs)) == 0) _ h).1 in
+    let tab = not-true (b == 9) (and_parts (not (b == 9)) _ front).0 in
+    let width : break_of b (first bs) (first (behind bs)) ≡ 0 = eqb-true _ 0 (and_parts (not (b == 9)) (break_of b (first bs) (first (behind bs)) == 0) front).1 in
     let two : p + 2 ≡ p + 1 + 1 = omega arith in
     let next = next_byte text (p + 1) bs l1 in
     let far = left_behind text (p + 1) bs l1 in
     let none : break_width text p ≡ 0 = rw (two, e, next, far) width in
-    let blank : is_blank (byte text p) ≡ false = rw (e, or_left (b == 32) _ gap, tab) refl in
-    let feed : (b == 10) ≡ false = or_left (b == 10) (b == 13) (or_right (b == 32) _ gap) in
+    let blank : is_blank (byte text p) ≡ false = rw (e, (or_parts (b == 32) _ gap).0, tab) refl in
+    let feed : (b == 10) ≡ false = (or_parts (b == 10) (b == 13) (or_parts (b == 32) _ gap).1).0 in
     ends_by flow level text p blank none
     (elim (or_cases (b == 58 && begins_white bs) _ more) [
-      | inl m ↦ colon_ends flow level text p (e ∙ equal_from b 58 (and_left (b == 58) (begins_white bs) m)) (white_next text (p + 1) bs l1 (and_right (b == 58) (begins_white bs) m))
+      | inl m ↦ colon_ends flow level text p (e ∙ eqb-true b 58 (and_parts (b == 58) (begins_white bs) m).0) (white_next text (p + 1) bs l1 (and_parts (b == 58) (begins_white bs) m).1)
       | inr m ↦ elim (or_cases (flow && is_bracket b) (stops_line flow level at b bs) m) [
-        | inl k ↦ bracket_ends flow level text p (and_left flow (is_bracket b) k) (ap (λ x. is_bracket x) e ∙ and_right flow (is_bracket b) k)
+        | inl k ↦ bracket_ends flow level text p (and_parts flow (is_bracket b) k).0 (ap (λ x. is_bracket x) e ∙ (and_parts flow (is_bracket b) k).1)
         | inr k ↦ line_ends flow level at text p b bs l feed here k
       ]
     ])
@@ -182,11 +169,11 @@ at_space text p (Some n) e h =
 at_next : (text : List ℕ) (p b : ℕ) (at : Option ℕ) → byte text p ≡ b → is_gap_byte b ≡ true → At text p at → At text (p + 1) (column_behind b at)
 at_next text p b at e h here =
     bool_cases (b == 32)
-    (λ s. subst (λ o. At text (p + 1) o) (sym (cond_true (b == 32) (one_more at) (Some 0) s)) (at_space text p at (e ∙ equal_from b 32 s) here))
+    (λ s. subst (λ o. At text (p + 1) o) (sym (cond_true (b == 32) (one_more at) (Some 0) s)) (at_space text p at (e ∙ eqb-true b 32 s) here))
     (λ s. subst (λ o. At text (p + 1) o) (sym (cond_false (b == 32) (one_more at) (Some 0) s))
     (λ g. elim (or_cases (b == 10) (b == 13) (sym (ap (λ t. t || (b == 10 || b == 13)) s) ∙ h)) [
-      | inl f ↦ line_begins text p (feed_one (byte text p) (byte text (p + 1)) (byte text (p + 2)) (e ∙ equal_from b 10 f))
-      | inr f ↦ line_begins text p (return_one (byte text p) (byte text (p + 1)) (byte text (p + 2)) (e ∙ equal_from b 13 f) (differs (byte text (p + 1)) 10 g))
+      | inl f ↦ line_begins text p (feed_one (byte text p) (byte text (p + 1)) (byte text (p + 2)) (e ∙ eqb-true b 10 f))
+      | inr f ↦ line_begins text p (return_one (byte text p) (byte text (p + 1)) (byte text (p + 2)) (e ∙ eqb-true b 13 f) (ne_eqb (byte text (p + 1)) 10 g))
     ]))
 
 -- the white, and what is known of it

@@ -2,6 +2,7 @@
 use Rattle.std.proofs.Common.{◌≡◌, Bool, true, false, not, ◌&&◌, ◌||◌, ◌==◌, length, sym, subst, ℕ, ◌<◌, ◌≤◌, Option, Some, None, arith}
 use Rattle.std.specs.Prelude.{if◌then◌else◌}
 use Rattle.std.specs.Str.{chars}
+use Rattle.std.proofs.lemmas.Bool.{and_parts, not-true, or_parts}
 use Rattle.yaml_emit_layout.specs.scan_model.declared.yaml_scalar_style_t.{yaml_scalar_style_t}
 use Rattle.yaml_emit_layout.specs.scan_model.declared.yaml_scalar_style_t.TheVariants as asked
 use Rattle.yaml_emit_layout.specs.emit_text.declared.Allowed.{Allowed}
@@ -12,7 +13,6 @@ use Rattle.yaml_emit_layout.specs.declared.level.Spot.{Spot}
 use Rattle.yaml_emit_layout.specs.Content.{Scalar}
 use Rattle.yaml_emit_layout.specs.Grammar.{has, scalar_tag}
 use Rattle.yaml_emit_layout.specs.Nodes.{Context, is_simple_part, style_of, deeper}
-use Rattle.yaml_emit_laws_text.proofs.Bytes.{and_left, and_right, not_true, or_left, or_right}
 use Rattle.yaml_emit_laws_scalars.specs.StylesLaws.{StylesAreAllowed, level_of, PagesIndent}
 use Rattle.yaml_emit_layout.specs.emit_text.declared.Settings.{Settings}
 use Rattle.yaml_emit_laws_scalars.proofs.Lines.{bool_cases}
@@ -31,15 +31,15 @@ single_fits a flow simple = bool_cases a.single (λ e. subst (λ b. Fits a flow 
 plain_is : (a : Allowed) (untagged flow simple empty : Bool) → Fits a flow simple (plain_or a untagged flow simple empty)
 plain_is a untagged flow simple empty =
     bool_cases (plain_fits a untagged flow simple empty)
-    (λ e. subst (λ b. Fits a flow simple (if b then style.Plain else single_or a)) (sym e) (and_left (if flow then a.flow_plain else a.plain) (not (empty && simple) && untagged) e))
+    (λ e. subst (λ b. Fits a flow simple (if b then style.Plain else single_or a)) (sym e) (and_parts (if flow then a.flow_plain else a.plain) (not (empty && simple) && untagged) e).0)
     (λ e. subst (λ b. Fits a flow simple (if b then style.Plain else single_or a)) (sym e) (single_fits a flow simple))
 
 block_is : (a : Allowed) (flow simple : Bool) (s : Style) → ((a.block ≡ true) × (flow ≡ false) × (simple ≡ false) → Fits a flow simple s) → Fits a flow simple (block_or a flow simple s)
 block_is a flow simple s f =
     bool_cases (a.block && not (flow || simple))
     (λ e.
-    let n = not_true (flow || simple) (and_right a.block (not (flow || simple)) e) in
-    subst (λ b. Fits a flow simple (if b then s else style.Double)) (sym e) (f (and_left a.block (not (flow || simple)) e, or_left flow simple n, or_right flow simple n)))
+    let n = not-true (flow || simple) (and_parts a.block (not (flow || simple)) e).1 in
+    subst (λ b. Fits a flow simple (if b then s else style.Double)) (sym e) (f ((and_parts a.block (not (flow || simple)) e).0, (or_parts flow simple n).0, (or_parts flow simple n).1)))
     (λ e. subst (λ b. Fits a flow simple (if b then s else style.Double)) (sym e) tt)
 
 taken_fits : (a : Allowed) (s : yaml_scalar_style_t) (untagged flow simple empty : Bool) → Fits a flow simple (taken a s untagged flow simple empty)

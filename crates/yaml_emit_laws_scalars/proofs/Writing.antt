@@ -1,7 +1,8 @@
 -- What is written for a value inside a plain or single quoted scalar is a spelling of it.
 use Rattle.std.proofs.Common.{◌≡◌, ℕ, zero, suc, ◌<◌, Bool, true, false, not, ◌&&◌, ◌==◌, List, [], ◌∷◌, ◌++◌, replicate, refl, sym, ap, ◌∙◌, inl, inr, arith, append-nil, append_assoc, encode_utf8, encode_utf8_all}
-use Rattle.std.proofs.lemmas.Bool.{true≢false}
+use Rattle.std.proofs.lemmas.Bool.{true≢false, lt-ltb, eqb-true, and_parts, eqb-false}
 use Rattle.std.proofs.lemmas.Str.{encode_ascii, encodes-append}
+use Rattle.std.proofs.Math.Bool.{and-false}
 use Rattle.yaml_emit_layout.specs.emit_text.declared.Cursor.{Cursor}
 use Rattle.yaml_emit_layout.specs.emit_text.declared.LineBreak.{LineBreak}
 use Rattle.yaml_emit_layout.specs.emit_text.Text.{is_break}
@@ -13,12 +14,11 @@ use Rattle.yaml_emit_layout.specs.emit_text.Spelling.{in_front, break_text}
 use Rattle.yaml_emit_laws_text.specs.Spelling.{LineEnd, end_bytes, end_means, is_return, is_feed_end, LineTurn, turn_bytes, turn_means, may_turn, QuotedPart, fold, MayStand, spelled, meant, spelling, meaning, is_raw_blank, is_turn, may_be_next, IsSpelling}
 use Rattle.yaml_emit_laws_text.specs.ReadBack.{is_one_line}
 use Rattle.yaml_emit_laws_text.proofs.Values.{cond_true, cond_false}
-use Rattle.yaml_emit_laws_text.proofs.Bytes.{and_right, apart}
 use Rattle.yaml_emit_laws_text.proofs.Escapes.{end_of, space_encodes}
 use Rattle.yaml_emit_laws_text.proofs.Back.{front_append}
-use Rattle.yaml_emit_laws_scalars.proofs.Lines.{bool_cases, equal_from, line_start, after_blanks, blanks_column, blanks_kept, new_line_is, Starts, start_is, break_is, own_fits, own_means, own_bytes}
+use Rattle.yaml_emit_laws_scalars.proofs.Lines.{bool_cases, line_start, after_blanks, blanks_column, blanks_kept, new_line_is, Starts, start_is, break_is, own_fits, own_means, own_bytes}
 use Rattle.yaml_emit_laws_scalars.proofs.PlainParts.{Spells}
-use Rattle.yaml_emit_laws_scalars.proofs.Letters.{AllShow, quote_byte, seat, Step, step, Behind, some_spaces, fold_follows}
+use Rattle.yaml_emit_laws_scalars.proofs.Letters.{AllShow, quote_byte, seat, Step, step, Behind, fold_follows}
 
 -- ---- all characters
 
@@ -141,7 +141,7 @@ right_none k = tt
 
 may_one : (e : LineEnd) (n : ℕ) → 0 < n → may_turn (record { end = e; spaces = n }) [] ≡ true
 unfolding may_turn
-may_one e n some = some_spaces n some
+may_one e n some = lt-ltb 0 n some
 
 may_more : (e : LineEnd) (n : ℕ) (u : LineTurn) (us : List LineTurn) → (is_return e && is_feed_end u.end) ≡ false → may_turn u us ≡ true → may_turn (record { end = e; spaces = n }) (u ∷ us) ≡ true
 unfolding may_turn
@@ -282,7 +282,7 @@ left_feed page quote before x xs c last inside no_blank no_turn ends p feed r =
     let e = end_of page.line_break in
     let u : LineTurn = record { end = k.end; spaces = r.spaces } in
     let t : LineTurn = record { end = e; spaces = 0 } in
-    let x10 = equal_from x 10 feed in
+    let x10 = eqb-true x 10 feed in
     let ten : encode_utf8 x ≡ 10 ∷ [] = ap (λ i. encode_utf8 i) x10 ∙ encode_ascii 10 (omega arith) in
     record {
       parts = fold t (u ∷ r.turns) ∷ r.parts;
@@ -365,7 +365,7 @@ left_char page quote before x xs c last inside here s m = record {
       ∙ s.text (λ j. flow_body page quote x xs j rest) ∙ ap (in_front s.letters) (m.text rest) ∙ front_more s.letters m.letters m.behind rest;
   bytes = encodes-append s.letters m.letters ∙ ap (λ (ys : List ℕ). ys ++ encode_utf8_all m.letters) s.bytes ∙ ap (λ (ys : List ℕ). spelled s.part ++ ys) m.bytes ∙ sym (spelling_more s.part m.parts);
   means = meaning_more s.part m.parts ∙ ap (λ (ys : List ℕ). ys ++ meaning m.parts) s.means ∙ ap (λ (ys : List ℕ). encode_utf8 x ++ ys) m.means;
-  ones = λ f l. (s.one f, m.ones f (and_right (not (is_break x)) (is_one_line xs) l));
+  ones = λ f l. (s.one f, m.ones f (and_parts (not (is_break x)) (is_one_line xs) l).1);
   column = λ z. absurd (s.column (m.column z).0);
   kept = m.kept ∙ s.kept;
 }
@@ -396,24 +396,20 @@ abbrev pub Free : QuotedPart → List ℕ → Type 0
 Free last value = is_break (first value) ≡ true → (is_raw_blank last ≡ false) × (is_turn last ≡ false)
 
 free_step : (page : Page) (quote : Bool) (before x : ℕ) (xs : List ℕ) (c : Cursor) (last : QuotedPart) → (s : Step page quote before x xs c last) → (x == 32 && is_break (first xs)) ≡ false → Free s.part xs
-free_step page quote before x xs c last s apart ends =
-    let no32 : x ≡ 32 → ⊥ = λ e. true≢false (sym (rw (ends, e) refl) ∙ apart) in (
+free_step page quote before x xs c last s eqb-false ends =
+    let no32 : x ≡ 32 → ⊥ = λ e. true≢false (sym (rw (ends, e) refl) ∙ eqb-false) in (
       bool_cases (is_raw_blank s.part) (λ t. absurd (no32 (s.blank t))) (λ f. f),
       bool_cases (is_turn s.part) (λ t. absurd (no32 (s.turn t).0)) (λ f. f),
     )
 
-and_off : (a : Bool) → (a && false) ≡ false
-and_off true = refl
-and_off false = refl
-
 mutual
   -- the character before ends no line, and is no space where a break follows
   pub left : (page : Page) (quote : Bool) (before : ℕ) (c : Cursor) (last : QuotedPart) (value : List ℕ) → Deep page value → AllShow value → Behind before c last value → Free last value → is_break before ≡ false → Left page quote before c last value
-  left page quote before c last [] deep a h apart inside = left_end page quote before c last inside
-  left page quote before c last (x ∷ xs) deep (s, a) h apart inside =
+  left page quote before c last [] deep a h eqb-false inside = left_end page quote before c last inside
+  left page quote before c last (x ∷ xs) deep (s, a) h eqb-false inside =
       bool_cases (is_break x)
       (λ ends.
-      let (no_blank, no_turn) = apart ends in
+      let (no_blank, no_turn) = eqb-false ends in
       let some = deep.lines (ap (λ b. not b && is_one_line xs) ends) in
       let next : (first xs == 32) ≡ false = sym (ap (λ b. b && first xs == 32) ends) ∙ s.broken in
       bool_cases (x == 10)
@@ -431,6 +427,6 @@ mutual
       (λ ends. run_more page quote before x xs c b ends s.printable (run page quote x (line_start c) xs some a ends (sym (ap (λ t. t && first xs == 32) ends) ∙ s.broken) (starts_line c)))
       (λ here.
       run_char page quote before x xs c some b here st
-      (λ last h. step page quote before x xs (after_blanks page.indentation c) last (λ e. some) s here h (ap (λ t. is_break before && t) space ∙ and_off (is_break before)))
+      (λ last h. step page quote before x xs (after_blanks page.indentation c) last (λ e. some) s here h (ap (λ t. is_break before && t) space ∙ and-false (is_break before)))
       space
       (λ one. left page quote x one.after one.part xs (deep_all page xs some) a (behind_step page quote before x xs (after_blanks page.indentation c) (fold (any_turn page.line_break) []) one) (free_step page quote before x xs (after_blanks page.indentation c) (fold (any_turn page.line_break) []) one s.space) here))

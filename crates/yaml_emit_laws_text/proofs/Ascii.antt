@@ -1,30 +1,20 @@
 -- What is written for tags and directives is ASCII.
-use Rattle.std.proofs.Common.{◌≡◌, inl, inr, ℕ, ◌/◌, ◌%◌, ◌<◌, Bool, true, false, ◌&&◌, nat_lt, List, [], ◌∷◌, ◌++◌, refl, ap, subst, arith}
+use Rattle.std.proofs.Common.{◌≡◌, inl, inr, ℕ, ◌/◌, ◌%◌, ◌<◌, Bool, true, false, nat_lt, List, [], ◌∷◌, ◌++◌, refl, ap, subst, arith}
 use Rattle.std.proofs.lemmas.Bool.Decides.{nat_tests}
 use Rattle.yaml_scan_model.specs.Classes.{is_alpha_byte, is_digit_byte}
 use Rattle.yaml_scan_words.specs.Uris.{is_punctuation, is_wide_punctuation}
 use Rattle.yaml_scan_words.specs.Written as written
 use Rattle.yaml_scan_words.specs.Written.{are_alphas, UriPiece, raw, escape, capital, is_kept, IsUri}
 use Rattle.std.specs.Str.{IsUtf8}
+use Rattle.std.proofs.lemmas.Bool.{and_from, and_parts}
 use Rattle.yaml_emit_layout.specs.parse_model.Events.{TagDirective}
 use Rattle.yaml_emit_layout.specs.emit_tags.Tags.{Split, shorthand, verbatim, spelled, uri_text}
 use Rattle.yaml_emit_laws_text.specs.TagsLaws.{IsShaped, IsReadable, are_ascii, IsMarked, IsReadableDirective}
 use Rattle.yaml_emit_laws_text.proofs.Pieces.{pieces_of, text_is, text_uri}
 
-and_both : (a b : Bool) → a ≡ true → b ≡ true → (a && b) ≡ true
-and_both a b e f = rw (e, f) refl
-
-and_left : (a b : Bool) → (a && b) ≡ true → a ≡ true
-and_left true b e = refl
-and_left false b e = absurd (cc)
-
-and_right : (a b : Bool) → (a && b) ≡ true → b ≡ true
-and_right true b e = e
-and_right false b e = absurd (cc)
-
 append_ascii : (xs ys : List ℕ) → are_ascii xs ≡ true → are_ascii ys ≡ true → are_ascii (xs ++ ys) ≡ true
 append_ascii [] ys e f = f
-append_ascii (x ∷ xs) ys e f = and_both (nat_lt x 128) (are_ascii (xs ++ ys)) (and_left (nat_lt x 128) (are_ascii xs) e) (append_ascii xs ys (and_right (nat_lt x 128) (are_ascii xs) e) f)
+append_ascii (x ∷ xs) ys e f = and_from (nat_lt x 128) (are_ascii (xs ++ ys)) (and_parts (nat_lt x 128) (are_ascii xs) e).0 (append_ascii xs ys (and_parts (nat_lt x 128) (are_ascii xs) e).1 f)
 
 kept_ascii : (wide : Bool) (b : ℕ) → is_kept wide b ≡ true → nat_lt b 128 ≡ true
 unfolding is_alpha_byte is_digit_byte is_punctuation is_wide_punctuation
@@ -37,7 +27,7 @@ capital_ascii d h = grind (arith, nat_tests)
 
 pieces_ascii : (wide : Bool) (due : ℕ) (pieces : List UriPiece) → IsUri wide due pieces → are_ascii (written.uri_text pieces) ≡ true
 pieces_ascii wide due [] is = refl
-pieces_ascii wide due (raw b ∷ pieces) (none, kept, is) = and_both (nat_lt b 128) (are_ascii (written.uri_text pieces)) (kept_ascii wide b kept) (pieces_ascii wide 0 pieces is)
+pieces_ascii wide due (raw b ∷ pieces) (none, kept, is) = and_from (nat_lt b 128) (are_ascii (written.uri_text pieces)) (kept_ascii wide b kept) (pieces_ascii wide 0 pieces is)
 pieces_ascii wide due (escape b ∷ pieces) (small, (next, due_is, is)) =
     let high = capital_ascii (b / 16) (omega (arith, small)) in
     let low = capital_ascii (b % 16) (omega arith) in
@@ -53,7 +43,7 @@ alpha_ascii b h = grind (arith, nat_tests)
 alphas_ascii : (name : List ℕ) → are_alphas name ≡ true → are_ascii name ≡ true
 alphas_ascii [] e = refl
 alphas_ascii (b ∷ bs) e =
-    and_both (nat_lt b 128) (are_ascii bs) (alpha_ascii b (and_left (is_alpha_byte b) (are_alphas bs) e)) (alphas_ascii bs (and_right (is_alpha_byte b) (are_alphas bs) e))
+    and_from (nat_lt b 128) (are_ascii bs) (alpha_ascii b (and_parts (is_alpha_byte b) (are_alphas bs) e).0) (alphas_ascii bs (and_parts (is_alpha_byte b) (are_alphas bs) e).1)
 
 pub handle_ascii : (handle : List ℕ) → IsShaped handle → IsMarked handle
 handle_ascii handle (inl e) = record { more = []; begins = e; ascii = refl }

@@ -1,39 +1,13 @@
 -- Bytes of quoted text: which end no line, and which digits spell a number.
-use Rattle.std.proofs.Common.{◌≡◌, ◌≢◌, ℕ, suc, ◌+◌, ◌*◌, ◌<◌, ◌≤◌, Bool, true, false, not, ◌&&◌, ◌||◌, ◌==◌, nat_le, List, [], ◌∷◌, length, Option, Some, None, refl, sym, ap, subst, ◌∙◌, inl, inr, ◌⊎◌, arith, add-zero}
+use Rattle.std.proofs.Common.{◌≡◌, ◌≢◌, ℕ, suc, ◌+◌, ◌*◌, ◌<◌, ◌≤◌, Bool, true, false, ◌&&◌, ◌==◌, nat_le, List, [], ◌∷◌, length, Option, Some, None, refl, sym, ap, subst, ◌∙◌, inl, inr, ◌⊎◌, arith, add-zero}
 use Rattle.std.specs.Prelude.{option_and_then}
-use Rattle.std.proofs.lemmas.Bool.{cases_lt, cases_eq}
+use Rattle.std.proofs.lemmas.Bool.{cases_lt, cases_eq, ne_eqb}
 use Rattle.std.proofs.lemmas.Bool.Decides.{nat_tests}
 use Rattle.yaml_scan_scalars.specs.scan_model.Marks.{byte, break_of, ends_of, is_blank}
 use Rattle.yaml_scan_scalars.specs.Quoted.{hex_digit, hex_value, hex_len, simple_escape}
 use Rattle.yaml_emit_laws_text.specs.Spelling.{number_behind}
 
 -- ---- tests
-
-pub and_left : (a b : Bool) → (a && b) ≡ true → a ≡ true
-and_left true b e = refl
-and_left false b e = absurd (cc)
-
-pub and_right : (a b : Bool) → (a && b) ≡ true → b ≡ true
-and_right true b e = e
-and_right false b e = absurd (cc)
-
-pub not_true : (a : Bool) → not a ≡ true → a ≡ false
-not_true false e = refl
-not_true true e = absurd (cc)
-
-pub or_left : (a b : Bool) → (a || b) ≡ false → a ≡ false
-or_left false b e = refl
-or_left true b e = absurd (cc)
-
-pub or_right : (a b : Bool) → (a || b) ≡ false → b ≡ false
-or_right false b e = e
-or_right true b e = absurd (cc)
-
-pub differs : (b n : ℕ) → b ≢ n → (b == n) ≡ false
-differs b n h = grind (arith, nat_tests)
-
-pub apart : (b n : ℕ) → (b == n) ≡ false → b ≢ n
-apart b n h = grind (arith, nat_tests)
 
 pub same_test : (n : ℕ) → (n == n) ≡ true
 same_test n = grind (arith, nat_tests)
@@ -44,15 +18,15 @@ abbrev pub IsQuote : ℕ → Type 0
 IsQuote q = (q ≡ 34) ⊎ (q ≡ 39)
 
 pub no_quote : (q b : ℕ) → IsQuote q → b ≢ 34 → b ≢ 39 → (b == q) ≡ false
-no_quote q b (inl e) m n = differs b q (λ f. m (f ∙ e))
-no_quote q b (inr e) m n = differs b q (λ f. n (f ∙ e))
+no_quote q b (inl e) m n = ne_eqb b q (λ f. m (f ∙ e))
+no_quote q b (inr e) m n = ne_eqb b q (λ f. n (f ∙ e))
 
 pub quote_some : (q : ℕ) → IsQuote q → (q == 0) ≡ false
 quote_some q (inl e) = rw e refl
 quote_some q (inr e) = rw e refl
 
 pub no_slash : (q b : ℕ) → b ≢ 92 → (q == 34 && b == 92) ≡ false
-no_slash q b n = ap (λ t. q == 34 && t) (differs b 92 n) ∙ and_false (q == 34)
+no_slash q b n = ap (λ t. q == 34 && t) (ne_eqb b 92 n) ∙ and_false (q == 34)
   where
     and_false : (a : Bool) → (a && false) ≡ false
     and_false true = refl
@@ -176,7 +150,7 @@ digits text p k v w (d ∷ ds) e (b, h) n =
 no_name : (b : ℕ) → 128 ≤ b → simple_escape b ≡ None
 unfolding simple_escape
 no_name b h =
-    rw (differs b 0x30 (λ e. omega arith), differs b 0x61 (λ e. omega arith), differs b 0x62 (λ e. omega arith), differs b 0x74 (λ e. omega arith), differs b 9 (λ e. omega arith), differs b 0x6E (λ e. omega arith), differs b 0x76 (λ e. omega arith), differs b 0x66 (λ e. omega arith), differs b 0x72 (λ e. omega arith), differs b 0x65 (λ e. omega arith), differs b 0x20 (λ e. omega arith), differs b 0x22 (λ e. omega arith), differs b 0x2F (λ e. omega arith), differs b 0x5C (λ e. omega arith), differs b 0x4E (λ e. omega arith), differs b 0x5F (λ e. omega arith), differs b 0x4C (λ e. omega arith), differs b 0x50 (λ e. omega arith)) refl
+    rw (ne_eqb b 0x30 (λ e. omega arith), ne_eqb b 0x61 (λ e. omega arith), ne_eqb b 0x62 (λ e. omega arith), ne_eqb b 0x74 (λ e. omega arith), ne_eqb b 9 (λ e. omega arith), ne_eqb b 0x6E (λ e. omega arith), ne_eqb b 0x76 (λ e. omega arith), ne_eqb b 0x66 (λ e. omega arith), ne_eqb b 0x72 (λ e. omega arith), ne_eqb b 0x65 (λ e. omega arith), ne_eqb b 0x20 (λ e. omega arith), ne_eqb b 0x22 (λ e. omega arith), ne_eqb b 0x2F (λ e. omega arith), ne_eqb b 0x5C (λ e. omega arith), ne_eqb b 0x4E (λ e. omega arith), ne_eqb b 0x5F (λ e. omega arith), ne_eqb b 0x4C (λ e. omega arith), ne_eqb b 0x50 (λ e. omega arith)) refl
 
 none_at : (k : ℕ) (bs : List ℕ) (b : ℕ) → simple_escape k ≡ None → simple_escape b ≡ Some bs → b ≢ k
 none_at k bs b n h e = none_some (simple_escape b) bs (ap (λ x. simple_escape x) e ∙ n) h
@@ -188,7 +162,7 @@ pub record Named (b : ℕ) : Type 0 where
 
 no_number : (b : ℕ) → b ≢ 0x78 → b ≢ 0x75 → b ≢ 0x55 → hex_len b ≡ 0
 unfolding hex_len
-no_number b x u v = rw (differs b 0x78 x, differs b 0x75 u, differs b 0x55 v) refl
+no_number b x u v = rw (ne_eqb b 0x78 x, ne_eqb b 0x75 u, ne_eqb b 0x55 v) refl
 
 pub named_is : (b : ℕ) (bs : List ℕ) → simple_escape b ≡ Some bs → Named b
 unfolding simple_escape

@@ -3,7 +3,7 @@ use Rattle.std.proofs.Common.{◌≡◌, ℕ, ◌+◌, ◌<◌, ◌||◌, nat_lt
 use Rattle.std.specs.Prelude.{ℤ, pos, codes, if◌then◌else◌}
 use Rattle.std.specs.Ordering.{int_eq}
 use Rattle.std.specs.Cmp.{signed_Decides}
-use Rattle.std.proofs.lemmas.Bool.{cases_Bool}
+use Rattle.std.proofs.lemmas.Bool.{cases_Bool, and_parts}
 use Rattle.yaml_emit_laws_text.specs.scan_history.scan_model.Marks.{byte, break_of, break_width, column_at}
 use Rattle.yaml_emit_laws_text.specs.scan_history.scan_model.Classes.{is_break}
 use Rattle.yaml_emit_laws_text.specs.scan_history.scan_model.Wrong.{Wrong}
@@ -36,7 +36,7 @@ use Rattle.yaml_emit_laws_text.specs.Walk.{Has, Left, bytes, first}
 use Rattle.yaml_emit_laws_text.proofs.Forms.{at_line, LinesWalkTo, NoFeed, DirectivesWalk}
 use Rattle.yaml_emit_laws_text.proofs.Places.{has_front, has_at, left_first, left_rest}
 use Rattle.yaml_emit_laws_text.proofs.Steps.{sign_starts, letter_low, push_to, word_of}
-use Rattle.yaml_emit_laws_text.proofs.Words.{and_left, and_right, lettered_on}
+use Rattle.yaml_emit_laws_text.proofs.Words.{lettered_on}
 use Rattle.yaml_emit_laws_text.proofs.Tags.{letters_are}
 use Rattle.yaml_emit_laws_text.proofs.TextLines.{line_broken}
 
@@ -131,8 +131,8 @@ version_lands : GapReads → VersionReads → (s : Settings) (version : Option y
 version_lands law versions s None right rest calm = λ kept text p ws st l. record { kept = kept; place = p; words = ws; stage = st; left = l; kinds = refl; bodies = λ bs. refl }
 version_lands law versions s (Some v) right rest calm =
     let is = none_true (is_version v) _ right in
-    let major = (signed_Decides v.major (pos 1)).0 (and_left (int_eq v.major (pos 1)) (int_eq v.minor (pos 1) || int_eq v.minor (pos 2)) is) in
-    let either = and_right (int_eq v.major (pos 1)) (int_eq v.minor (pos 1) || int_eq v.minor (pos 2)) is in
+    let major = (signed_Decides v.major (pos 1)).0 (and_parts (int_eq v.major (pos 1)) (int_eq v.minor (pos 1) || int_eq v.minor (pos 2)) is).0 in
+    let either = (and_parts (int_eq v.major (pos 1)) (int_eq v.minor (pos 1) || int_eq v.minor (pos 2)) is).1 in
     elim (cases_Bool (int_eq v.minor (pos 1))) [
       | inl e ↦ version_so law versions s.line_break v 1 (omega arith) refl major ((signed_Decides v.minor (pos 1)).0 e) (ap (λ (t : Bool). if t then codes "1.1" else codes "1.2") e) rest calm
       | inr e ↦

@@ -1,6 +1,6 @@
 -- The parts of what an emitter writes between double quotes, as a reader's parts.
 use Rattle.std.proofs.Common.{◌≡◌, ◌≢◌, ℕ, zero, suc, ◌+◌, ◌*◌, ◌/◌, ◌%◌, ◌<◌, ◌≤◌, Bool, true, false, not, ◌&&◌, ◌||◌, ◌==◌, nat_lt, nat_le, List, [], ◌∷◌, ◌++◌, length, replicate, Some, refl, sym, ap, subst, ◌∙◌, inl, inr, arith, append-nil, encode_utf8, encode_utf8_all}
-use Rattle.std.proofs.lemmas.Bool.{cases_lt, cases_eq}
+use Rattle.std.proofs.lemmas.Bool.{cases_lt, cases_eq, and_parts, not-true, or_parts, ne_eqb}
 use Rattle.std.proofs.lemmas.Bool.Decides.{nat_tests}
 use Rattle.std.proofs.lemmas.Str.{encode_ascii, encodes-append}
 use lib.Utf8.{scalar, scalar_cases, encode}
@@ -11,7 +11,7 @@ use Rattle.yaml_emit_text.specs.Quoted.{escape_letter, escape_text, hex_4, hex_8
 use Rattle.yaml_emit_text.specs.Hex.{hex_2, hex_digit as digit_of}
 use Rattle.yaml_emit_text.specs.Spelling as emitted
 use Rattle.yaml_emit_laws_text.specs.Spelling.{LineEnd, feed, return, return_feed, turn_bytes, turn_means, may_turn, QuotedPart, raw, named, numbered, fold, spelled, meant, spelling, meaning, number_behind, may_be_raw, MayStand, is_raw_blank, is_fold, is_turn, may_follow, may_be_next, IsSpelling}
-use Rattle.yaml_emit_laws_text.proofs.Bytes.{and_left, and_right, not_true, or_left, or_right, differs, AreCalm, calm_from, digit_calm, named_is}
+use Rattle.yaml_emit_laws_text.proofs.Bytes.{AreCalm, calm_from, digit_calm, named_is}
 
 -- ---- digits
 
@@ -85,7 +85,7 @@ no_letter : (c : ℕ) → c ≢ 0 → c ≢ 7 → c ≢ 8 → c ≢ 9 → c ≢ 
     → escape_letter c ≡ 0
 unfolding escape_letter
 no_letter c a b d e f g h i j k l m n o p =
-    rw (differs _ _ a, differs _ _ b, differs _ _ d, differs _ _ e, differs _ _ f, differs _ _ g, differs _ _ h, differs _ _ i, differs _ _ j, differs _ _ k, differs _ _ l, differs _ _ m, differs _ _ n, differs _ _ o, differs _ _ p) refl
+    rw (ne_eqb _ _ a, ne_eqb _ _ b, ne_eqb _ _ d, ne_eqb _ _ e, ne_eqb _ _ f, ne_eqb _ _ g, ne_eqb _ _ h, ne_eqb _ _ i, ne_eqb _ _ j, ne_eqb _ _ k, ne_eqb _ _ l, ne_eqb _ _ m, ne_eqb _ _ n, ne_eqb _ _ o, ne_eqb _ _ p) refl
 
 abbrev Names : ℕ → Type 0
 Names c = simple_escape (escape_letter c) ≡ Some (encode_utf8 c)
@@ -213,21 +213,21 @@ raw_test s a b d e f z q k g h i j l m n o p = rw (g, h, i, j, l, m, n, o, p) re
 
 raw_may : (c : ℕ) → emitted.may_stand (emitted.raw c) ≡ true → may_be_raw 34 c ≡ true
 raw_may c h =
-    let s = and_left (scalar c) _ h in
-    let all = not_true _ (and_right (scalar c) _ h) in
-    let z = or_right _ (c == 0) all in
-    let x = or_left _ (c == 0) all in
-    let k = or_right _ (c == 92) x in
-    let y = or_left _ (c == 92) x in
-    let q = or_right _ (c == 34) y in
-    let ends = or_left _ (c == 34) y in
-    let p29 = or_right _ (c == 0x2029) ends in
-    let t29 = or_left _ (c == 0x2029) ends in
-    let p28 = or_right _ (c == 0x2028) t29 in
-    let t28 = or_left _ (c == 0x2028) t29 in
-    let p85 = or_right _ (c == 0x85) t28 in
-    let t85 = or_left _ (c == 0x85) t28 in
-    raw_test (scalar c) (c == 10) (c == 13) (c == 0x85) (c == 0x2028) (c == 0x2029) (c == 0) (c == 34) (c == 92) s (or_left (c == 10) _ t85) (or_right _ (c == 13) t85) p85 p28 p29 z q k
+    let s = (and_parts (scalar c) _ h).0 in
+    let all = not-true _ (and_parts (scalar c) _ h).1 in
+    let z = (or_parts _ (c == 0) all).1 in
+    let x = (or_parts _ (c == 0) all).0 in
+    let k = (or_parts _ (c == 92) x).1 in
+    let y = (or_parts _ (c == 92) x).0 in
+    let q = (or_parts _ (c == 34) y).1 in
+    let ends = (or_parts _ (c == 34) y).0 in
+    let p29 = (or_parts _ (c == 0x2029) ends).1 in
+    let t29 = (or_parts _ (c == 0x2029) ends).0 in
+    let p28 = (or_parts _ (c == 0x2028) t29).1 in
+    let t28 = (or_parts _ (c == 0x2028) t29).0 in
+    let p85 = (or_parts _ (c == 0x85) t28).1 in
+    let t85 = (or_parts _ (c == 0x85) t28).0 in
+    raw_test (scalar c) (c == 10) (c == 13) (c == 0x85) (c == 0x2028) (c == 0x2029) (c == 0) (c == 34) (c == 92) s (or_parts (c == 10) _ t85).0 (or_parts _ (c == 13) t85).1 p85 p28 p29 z q k
 
 escape_named : (c : ℕ) → escape_letter c ≢ 0 → PartOf (emitted.escape c)
 escape_named c n =

@@ -1,6 +1,7 @@
 -- Canonical words are key-free.
 use Rattle.std.proofs.Common.{◌≡◌, ℕ, Bool, true, false, not, ◌&&◌, List, [], ◌∷◌, map, reverse, Option, Some, None, refl, ap, ◌∙◌}
 use Rattle.std.specs.List.{list_all}
+use Rattle.std.proofs.lemmas.Bool.{and_from}
 use Rattle.yaml_scan_laws_texts.specs.scan_history.declared.kind.Kind.{Kind}
 use Rattle.yaml_scan_laws_texts.specs.scan_history.declared.kind.Kind.TheVariants as kinds
 use Rattle.yaml_scan_laws_texts.specs.scan_history.Kinds.{is_end}
@@ -34,16 +35,12 @@ both a b c ks ls ms g h = record {
 nothing : (a : List Bool) (ks : List Kind) → Grows a a ks ks
 nothing a ks = record { free = λ e f. f; at = λ e. e; on = λ x. x }
 
-more_free : (a b : Bool) → a ≡ true → b ≡ true → (a && b) ≡ true
-more_free true b e f = f
-more_free false b e f = e
-
 one : (k : Kind) (a : List Bool) (ks : List Kind) → fits k a ≡ true → not (is_end k) ≡ true → Grows a (asked_after k a) ks (k ∷ ks)
 unfolding asked is_key_free
 one k a ks fit more = record {
-  free = λ e f. more_free (fits k (asked ks)) (is_key_free ks) (ap (λ (qs : List Bool). fits k qs) e ∙ fit) f;
+  free = λ e f. and_from (fits k (asked ks)) (is_key_free ks) (ap (λ (qs : List Bool). fits k qs) e ∙ fit) f;
   at = λ e. ap (λ (qs : List Bool). asked_after k qs) e;
-  on = λ x. more_free (not (is_end k)) (list_all (λ (k : Kind). not (is_end k)) ks) more x;
+  on = λ x. and_from (not (is_end k)) (list_all (λ (k : Kind). not (is_end k)) ks) more x;
 }
 
 tag_if : (b : Bool) (a : List Bool) (ks : List Kind) → Grows a a ks (put_if b kinds.Tag ks)

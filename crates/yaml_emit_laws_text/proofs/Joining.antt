@@ -1,6 +1,6 @@
 -- What is written for a tag is read and resolved to it.
-use Rattle.std.proofs.Common.{◌≡◌, inl, inr, ℕ, suc, ◌+◌, ◌-◌, ◌<◌, Bool, true, false, not, ◌&&◌, ◌==◌, nat_lt, if◌then◌else◌, List, [], ◌∷◌, ◌++◌, length, take, drop, get_or, Option, Some, None, refl, sym, ap, subst, ◌∙◌, arith, rules, length-drop}
-use Rattle.std.proofs.lemmas.Bool.{cases_Bool}
+use Rattle.std.proofs.Common.{◌≡◌, inl, inr, ℕ, suc, ◌+◌, ◌-◌, ◌<◌, Bool, true, false, not, ◌==◌, nat_lt, if◌then◌else◌, List, [], ◌∷◌, ◌++◌, length, take, drop, get_or, Option, Some, None, refl, sym, ap, subst, ◌∙◌, arith, rules, length-drop}
+use Rattle.std.proofs.lemmas.Bool.{cases_Bool, not-false, eqb-true, and_parts, ltb-true}
 use Rattle.std.proofs.lemmas.Bool.Decides.{nat_tests}
 use Rattle.std.proofs.lemmas.List.{take_all, append_cancel_left}
 use Rattle.std.proofs.lemmas.Str.{IsUtf8-from_ascii, IsUtf8-append, chars-append, scalars-chars, encodes-chars, encodes-append}
@@ -19,7 +19,7 @@ use Rattle.yaml_emit_layout.specs.declared.problem.Problem.{Problem}
 use Rattle.yaml_emit_layout.specs.Content.{Opening}
 use Rattle.yaml_emit_layout.specs.Grammar.{or_else, between, inner_problem, ends_problem, handle_problem, prefix_problem, twice_problem, directive_problem, directives_problem, version_problem, opening_problem}
 use Rattle.yaml_emit_laws_text.specs.TagsLaws.{resolved_split, IsShaped, IsReadable, tag_text, HaveUtf8, IsTagReadBack, AreReadable}
-use Rattle.yaml_emit_laws_text.proofs.Resolving.{or_first, or_second, and_right, whole, tags_resolve}
+use Rattle.yaml_emit_laws_text.proofs.Resolving.{or_first, or_second, whole, tags_resolve}
 use Rattle.yaml_emit_laws_text.proofs.TagsReading.{split_read}
 
 -- Handles.
@@ -27,10 +27,6 @@ use Rattle.yaml_emit_laws_text.proofs.TagsReading.{split_read}
 if_none : (b : Bool) (p : Problem) (o : Option Problem) → (if b then Some p else o) ≡ None → (b ≡ false) × (o ≡ None)
 if_none false p o e = (refl, e)
 if_none true p o e = absurd (cc)
-
-not_not : (b : Bool) → not b ≡ false → b ≡ true
-not_not true e = refl
-not_not false e = absurd (cc)
 
 none_all : (b : Bool) (p : Problem) → (if b then None else Some p) ≡ None → b ≡ true
 none_all true p e = refl
@@ -51,9 +47,6 @@ record Held (h : List ℕ) : Type 0 where
   pub last : get_or h (length h - 1) 0 ≡ 33
   pub inner : are_alphas (between h) ≡ true
 
-equal_of : (a b : ℕ) → (a == b) ≡ true → a ≡ b
-equal_of a b h = grind (arith, nat_tests)
-
 held : (h : List ℕ) → handle_problem h ≡ None → Held h
 unfolding handle_problem
 held h e =
@@ -62,8 +55,8 @@ held h e =
     let (stop, inner) = if_none (not (get_or h (length h - 1) 0 == 33)) _ (inner_problem h) behind in
     record {
       some = some;
-      first = equal_of (get_or h 0 0) 33 (not_not (get_or h 0 0 == 33) start);
-      last = equal_of (get_or h (length h - 1) 0) 33 (not_not (get_or h (length h - 1) 0 == 33) stop);
+      first = eqb-true (get_or h 0 0) 33 (not-false (get_or h 0 0 == 33) start);
+      last = eqb-true (get_or h (length h - 1) 0) 33 (not-false (get_or h (length h - 1) 0 == 33) stop);
       inner = alphas_of (between h) (none_all (list_all is_alpha_byte (between h)) _ inner);
     }
 
@@ -151,7 +144,7 @@ fine_found (x ∷ ds) tag d (own, f) e =
 
 scalars_behind : (xs ys : List ℕ) → scalars (xs ++ ys) ≡ true → scalars ys ≡ true
 scalars_behind [] ys e = e
-scalars_behind (x ∷ xs) ys e = scalars_behind xs ys (and_right (scalar x) (scalars (xs ++ ys)) e)
+scalars_behind (x ∷ xs) ys e = scalars_behind xs ys (and_parts (scalar x) (scalars (xs ++ ys)) e).1
 
 utf8_behind : (xs ys : List ℕ) → IsUtf8 xs → IsUtf8 (xs ++ ys) → IsUtf8 ys
 utf8_behind xs ys a b =
@@ -161,16 +154,9 @@ utf8_behind xs ys a b =
     sym (encodes-append (chars xs) (chars ys) ∙ ap (λ (x : List ℕ). x ++ encode_utf8_all (chars ys)) (encodes-chars xs a)) ∙ sym (ap (λ (cs : List ℕ). encode_utf8_all cs) parts) ∙ encodes-chars (xs ++ ys) b in
     (chars ys, (right, append_cancel_left xs (encode_utf8_all (chars ys)) ys same))
 
-and_left : (a b : Bool) → (a && b) ≡ true → a ≡ true
-and_left true b e = refl
-and_left false b e = absurd (cc)
-
-less_of : (a b : ℕ) → nat_lt a b ≡ true → a < b
-less_of a b e = grind (arith, nat_tests)
-
 suffix_some : (prefix tag : List ℕ) → has_shorter_prefix prefix tag ≡ true → 0 < length (drop (length prefix) tag)
 suffix_some prefix tag e =
-    let less = less_of (length prefix) (length tag) (and_left (nat_lt (length prefix) (length tag)) (bytes_eq (take (length prefix) tag) prefix) e) in
+    let less = ltb-true (length prefix) (length tag) (and_parts (nat_lt (length prefix) (length tag)) (bytes_eq (take (length prefix) tag) prefix) e).0 in
     omega (arith, less, length-drop (length prefix) tag)
 
 readable : (ds : List TagDirective) (tag : List ℕ) (o : Option TagDirective) → IsUtf8 tag → 0 < length tag → ((d : TagDirective) → o ≡ Some d → Fine d × (has_shorter_prefix d.prefix tag ≡ true)) → IsReadable (split_by o tag)

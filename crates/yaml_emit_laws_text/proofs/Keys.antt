@@ -1,6 +1,6 @@
 -- A simple key in double quotes stays in its line.
 use Rattle.std.proofs.Common.{◌≡◌, ℕ, suc, ◌+◌, Bool, true, false, not, ◌&&◌, ◌==◌, List, [], ◌∷◌, ◌++◌, length, refl, sym, ap, subst, ◌∙◌, inl, inr, arith, IsUtf8}
-use Rattle.std.proofs.lemmas.Bool.{cases_Bool}
+use Rattle.std.proofs.lemmas.Bool.{cases_Bool, or_parts, ne_eqb, and_from}
 use Rattle.std.proofs.lemmas.List.{length-append}
 use Rattle.std.proofs.lemmas.Str.{scalars-chars}
 use Rattle.std.specs.Str.{all_scalars, chars}
@@ -13,13 +13,9 @@ use Rattle.yaml_emit_text.specs.Quoted.{needs_escape, escape_text, escaped, quot
 use Rattle.yaml_emit_text.specs.Spelling.{in_front}
 use Rattle.yaml_emit_laws_text.specs.ReadBack.{is_one_line, StaysInLine, between_quotes}
 use Rattle.yaml_emit_laws_text.proofs.Values.{cond_true, cond_false}
-use Rattle.yaml_emit_laws_text.proofs.Bytes.{or_left, or_right, differs, Calm, AreCalm}
+use Rattle.yaml_emit_laws_text.proofs.Bytes.{Calm, AreCalm}
 use Rattle.yaml_emit_laws_text.proofs.Escapes.{escape_calm}
 use Rattle.yaml_emit_laws_text.proofs.Back.{front_append, char_escaped, moved_by}
-
-pub both_true : (a b : Bool) → a ≡ true → b ≡ true → (a && b) ≡ true
-both_true true b p q = q
-both_true false b p q = absurd (cc)
 
 line_more : (a b r : Bool) → (a && b) ≡ true → (b ≡ true → r ≡ true) → (a && r) ≡ true
 line_more true b r h f = f h
@@ -32,11 +28,11 @@ line_append (x ∷ xs) ys h k = line_more (not (is_break x)) (is_one_line xs) (i
 calm_inside : (x : ℕ) → Calm x → not (is_break x) ≡ true
 calm_inside x a =
     let l = a.low in
-    rw (differs x 10 a.no_feed, differs x 13 a.no_return, differs x 0x85 (λ e. omega arith), differs x 0x2028 (λ e. omega arith), differs x 0x2029 (λ e. omega arith)) refl
+    rw (ne_eqb x 10 a.no_feed, ne_eqb x 13 a.no_return, ne_eqb x 0x85 (λ e. omega arith), ne_eqb x 0x2028 (λ e. omega arith), ne_eqb x 0x2029 (λ e. omega arith)) refl
 
 pub calm_line : (xs : List ℕ) → AreCalm xs → is_one_line xs ≡ true
 calm_line [] a = refl
-calm_line (x ∷ xs) (a, b) = both_true (not (is_break x)) (is_one_line xs) (calm_inside x a) (calm_line xs b)
+calm_line (x ∷ xs) (a, b) = and_from (not (is_break x)) (is_one_line xs) (calm_inside x a) (calm_line xs b)
 
 -- a layout that writes letters, each in a column of its own
 record Moves (a : Layout) (c : Cursor) : Type 0 where
@@ -57,15 +53,15 @@ letters_move (x ∷ xs) c (a, b) =
       shown = x ∷ r.shown;
       behind = r.behind;
       written = λ rest. ap (λ t. letter x ∷ t) (r.written rest);
-      inside = both_true (not (is_break x)) (is_one_line r.shown) (calm_inside x a) r.inside;
+      inside = and_from (not (is_break x)) (is_one_line r.shown) (calm_inside x a) r.inside;
       column = e;
     }
 
 pub raw_inside : (unicode : Bool) (x : ℕ) → needs_escape unicode x ≡ false → not (is_break x) ≡ true
 unfolding needs_escape
 raw_inside unicode x e =
-    let a = or_left _ (x == 34) (or_left _ (x == 92) e) in
-    ap not (or_right _ (is_break x) a)
+    let a = (or_parts _ (x == 34) (or_parts _ (x == 92) e).0).0 in
+    ap not (or_parts _ (is_break x) a).1
 
 escaped_moves : (unicode : Bool) (x : ℕ) (c : Cursor) → scalar x ≡ true → Moves (escaped unicode x) c
 unfolding in_front
@@ -73,7 +69,7 @@ escaped_moves unicode x c s =
     elim (cases_Bool (needs_escape unicode x)) [
       | inl e ↦ subst (λ (a : Layout). Moves a c) (sym (cond_true (needs_escape unicode x) (letters (escape_text x)) (char x) e)) (letters_move (escape_text x) c (escape_calm x s))
       | inr e ↦ subst (λ (a : Layout). Moves a c) (sym (cond_false (needs_escape unicode x) (letters (escape_text x)) (char x) e))
-          (record { shown = x ∷ []; behind = moved_by c; written = λ rest. refl; inside = both_true (not (is_break x)) true (raw_inside unicode x e) refl; column = refl })
+          (record { shown = x ∷ []; behind = moved_by c; written = λ rest. refl; inside = and_from (not (is_break x)) true (raw_inside unicode x e) refl; column = refl })
     ]
 
 moves_on : (a b : Layout) (c : Cursor) (r : Moves a c) → Moves b r.behind → Moves (a ▹ b) c

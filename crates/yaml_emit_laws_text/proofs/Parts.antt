@@ -1,6 +1,6 @@
 -- All parts of a spelling are read, and what they mean.
 use Rattle.std.proofs.Common.{◌≡◌, ℕ, zero, suc, ◌+◌, ◌<◌, ◌≤◌, true, false, ◌==◌, List, [], ◌∷◌, ◌++◌, length, Result, Ok, Err, refl, sym, ap, subst, ◌∙◌, inl, inr, arith, append_assoc, encode_utf8}
-use Rattle.std.proofs.lemmas.Bool.{cases_Bool, cases_lt}
+use Rattle.std.proofs.lemmas.Bool.{cases_Bool, cases_lt, and_parts, not-true, or_parts, ne_eqb, eqb-false}
 use Rattle.std.proofs.lemmas.Bool.Decides.{nat_tests}
 use Rattle.std.proofs.lemmas.List.{length-append, get_or_past}
 use lib.Utf8.{scalar, scalar_cases}
@@ -13,7 +13,7 @@ use Rattle.yaml_emit_laws_text.specs.Stands.{HasAt}
 use Rattle.yaml_emit_laws_text.specs.Spelling.{QuotedPart, raw, doubled, named, numbered, fold, joint, spelled, spelling, meaning, is_line_end, may_be_raw, MayStand, IsSpelling, quoted}
 use Rattle.yaml_emit_laws_text.proofs.Chars.{encode_1}
 use Rattle.yaml_emit_laws_text.proofs.Values.{read_as, all_read_as, read_blank, read_kept, spelling_value}
-use Rattle.yaml_emit_laws_text.proofs.Bytes.{and_left, and_right, not_true, or_left, or_right, apart, differs, same_test, IsQuote, quote_some, calm_end, calm_from, Has}
+use Rattle.yaml_emit_laws_text.proofs.Bytes.{same_test, IsQuote, quote_some, calm_end, calm_from, Has}
 use Rattle.yaml_emit_laws_text.proofs.QuotedReading.{has, has_front, has_rest, Read, Through, through_one, in_line, column_more, column_start, blank_through, Raw, raw_through}
 use Rattle.yaml_emit_laws_text.proofs.Turns.{named_through, numbered_through, fold_through, joint_through}
 
@@ -24,23 +24,23 @@ scalar_top c h = elim (scalar_cases c h) [ inl a ↦ omega arith | inr a ↦ a.1
 
 raw_is : (quote c : ℕ) → may_be_raw quote c ≡ true → Raw quote c
 raw_is quote c h =
-    let s = and_left (scalar c) _ h in
-    let all = not_true _ (and_right (scalar c) _ h) in
-    let ends = or_left (is_line_end c) _ all in
-    let more = or_right (is_line_end c) _ all in
-    let e13 = or_right (c == 10) _ ends in
-    let e85 = or_right (c == 13) _ e13 in
-    let e28 = or_right (c == 0x85) _ e85 in
-    let past_end = or_right (c == 0) _ more in
+    let s = (and_parts (scalar c) _ h).0 in
+    let all = not-true _ (and_parts (scalar c) _ h).1 in
+    let ends = (or_parts (is_line_end c) _ all).0 in
+    let more = (or_parts (is_line_end c) _ all).1 in
+    let e13 = (or_parts (c == 10) _ ends).1 in
+    let e85 = (or_parts (c == 13) _ e13).1 in
+    let e28 = (or_parts (c == 0x85) _ e85).1 in
+    let past_end = (or_parts (c == 0) _ more).1 in
     record {
-      no_feed = apart c 10 (or_left (c == 10) _ ends);
-      no_return = apart c 13 (or_left (c == 13) _ e13);
-      no_next_line = apart c 0x85 (or_left (c == 0x85) _ e85);
-      no_line = apart c 0x2028 (or_left (c == 0x2028) _ e28);
-      no_paragraph = apart c 0x2029 (or_right (c == 0x2028) _ e28);
-      no_end = or_left (c == 0) _ more;
-      no_quote = or_left (c == quote) _ past_end;
-      no_slash = or_right (c == quote) _ past_end;
+      no_feed = eqb-false c 10 (or_parts (c == 10) _ ends).0;
+      no_return = eqb-false c 13 (or_parts (c == 13) _ e13).0;
+      no_next_line = eqb-false c 0x85 (or_parts (c == 0x85) _ e85).0;
+      no_line = eqb-false c 0x2028 (or_parts (c == 0x2028) _ e28).0;
+      no_paragraph = eqb-false c 0x2029 (or_parts (c == 0x2028) _ e28).1;
+      no_end = (or_parts (c == 0) _ more).0;
+      no_quote = (or_parts (c == quote) _ past_end).0;
+      no_slash = (or_parts (c == quote) _ past_end).1;
       top = scalar_top c s;
     }
 
@@ -175,4 +175,4 @@ pub single_spelling_reads : (parts : List QuotedPart) (text : List ℕ) (p : ℕ
 single_spelling_reads parts text p s at n =
     let all : length (spelling parts ++ 39 ∷ []) ≡ length (spelling parts) + 1 = length-append (spelling parts) (39 ∷ []) in
     let same : p + 1 + length (spelling parts) + 1 ≡ p + length (quoted 39 parts) = omega (arith, all) in
-    quoted_reads 39 parts text p (inr refl) s at (single_closing text _ (differs _ 39 (λ e. n (sym (ap (λ k. byte text k) same) ∙ e))))
+    quoted_reads 39 parts text p (inr refl) s at (single_closing text _ (ne_eqb _ 39 (λ e. n (sym (ap (λ k. byte text k) same) ∙ e))))

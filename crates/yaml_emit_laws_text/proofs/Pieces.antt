@@ -1,6 +1,6 @@
 -- The URIs that an emitter writes, as pieces.
 use Rattle.std.proofs.Common.{◌≡◌, inl, inr, ℕ, suc, ◌+◌, ◌-◌, ◌/◌, ◌%◌, ◌<◌, ◌≤◌, Bool, true, false, ◌&&◌, ◌||◌, ◌==◌, nat_lt, nat_le, if◌then◌else◌, List, [], ◌∷◌, ◌++◌, length, Ok, refl, sym, ap, subst, ◌∙◌, arith, encode_utf8}
-use Rattle.std.proofs.lemmas.Bool.{cases_Bool, cases_lt}
+use Rattle.std.proofs.lemmas.Bool.{cases_Bool, cases_lt, lt-ltb, le-ltb, and_parts}
 use Rattle.std.proofs.lemmas.Bool.Decides.{nat_tests}
 use Rattle.std.specs.Prelude.{encode_utf8_all}
 use Rattle.std.specs.Str.{IsUtf8}
@@ -167,27 +167,21 @@ trail wide due next b pieces h g e is =
     let d : due_behind b due ≡ Ok next = due_trail b due h g (omega (arith, e)) ∙ ap (λ (n : ℕ). Ok n) (omega (arith, e)) in
     high wide due next b pieces h (omega (arith, g)) d is
 
-below : (c n : ℕ) → c < n → nat_lt c n ≡ true
-below c n h = grind (arith, nat_tests)
-
-above : (c n : ℕ) → n ≤ c → nat_lt c n ≡ false
-above c n h = grind (arith, nat_tests)
-
 pub encode_1 : (c : ℕ) → c < 128 → encode_utf8 c ≡ c ∷ []
 unfolding encode
-encode_1 c a = rw (below c 128 a) refl
+encode_1 c a = rw (lt-ltb c 128 a) refl
 
 pub encode_2 : (c : ℕ) → 128 ≤ c → c < 2048 → encode_utf8 c ≡ (192 + c / 64) ∷ (128 + c % 64) ∷ []
 unfolding encode
-encode_2 c a b = rw (above c 128 a, below c 2048 b) refl
+encode_2 c a b = rw (le-ltb c 128 a, lt-ltb c 2048 b) refl
 
 pub encode_3 : (c : ℕ) → 2048 ≤ c → c < 65536 → encode_utf8 c ≡ (224 + c / 4096) ∷ (128 + c / 64 % 64) ∷ (128 + c % 64) ∷ []
 unfolding encode
-encode_3 c a b = rw (above c 128 (omega arith), above c 2048 a, below c 65536 b) refl
+encode_3 c a b = rw (le-ltb c 128 (omega arith), le-ltb c 2048 a, lt-ltb c 65536 b) refl
 
 pub encode_4 : (c : ℕ) → 65536 ≤ c → encode_utf8 c ≡ (240 + c / 262144) ∷ (128 + c / 4096 % 64) ∷ (128 + c / 64 % 64) ∷ (128 + c % 64) ∷ []
 unfolding encode
-encode_4 c a = rw (above c 128 (omega arith), above c 2048 (omega arith), above c 65536 a) refl
+encode_4 c a = rw (le-ltb c 128 (omega arith), le-ltb c 2048 (omega arith), le-ltb c 65536 a) refl
 
 top_of : (c : ℕ) → scalar c ≡ true → c < 1114112
 top_of c e = elim (scalar_cases c e) [ inl low ↦ omega (arith, low) | inr (from, to) ↦ to ]
@@ -215,18 +209,10 @@ char_uri wide c bs top is =
       ]
     ]
 
-and_left : (a b : Bool) → (a && b) ≡ true → a ≡ true
-and_left true b e = refl
-and_left false b e = absurd (cc)
-
-and_right : (a b : Bool) → (a && b) ≡ true → b ≡ true
-and_right true b e = e
-and_right false b e = absurd (cc)
-
 chars_uri : (wide : Bool) (cs : List ℕ) → scalars cs ≡ true → IsUri wide 0 (pieces_of wide (encode_utf8_all cs))
 chars_uri wide [] e = refl
 chars_uri wide (c ∷ cs) e =
-    char_uri wide c (encode_utf8_all cs) (top_of c (and_left (scalar c) (scalars cs) e)) (chars_uri wide cs (and_right (scalar c) (scalars cs) e))
+    char_uri wide c (encode_utf8_all cs) (top_of c (and_parts (scalar c) (scalars cs) e).0) (chars_uri wide cs (and_parts (scalar c) (scalars cs) e).1)
 
 -- UTF-8 is written as a URI
 pub text_uri : (wide : Bool) (bs : List ℕ) → IsUtf8 bs → IsUri wide 0 (pieces_of wide bs)

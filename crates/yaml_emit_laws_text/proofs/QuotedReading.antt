@@ -1,7 +1,8 @@
 -- How characters that stand for themselves are read inside the quotes.
-use Rattle.std.proofs.Common.{◌≡◌, ◌≢◌, ℕ, suc, ◌+◌, ◌-◌, ◌/◌, ◌%◌, ◌<◌, ◌≤◌, Bool, true, false, ◌&&◌, ◌==◌, List, [], ◌∷◌, ◌++◌, length, Ok, refl, sym, ap, subst, ◌∙◌, inl, inr, arith, add-one, add-zero, append_assoc, encode_utf8}
-use Rattle.std.proofs.lemmas.Bool.{cases_lt}
+use Rattle.std.proofs.Common.{◌≡◌, ◌≢◌, ℕ, suc, ◌+◌, ◌-◌, ◌/◌, ◌%◌, ◌<◌, ◌≤◌, true, false, ◌&&◌, ◌==◌, List, [], ◌∷◌, ◌++◌, length, Ok, refl, sym, ap, subst, ◌∙◌, inl, inr, arith, add-one, add-zero, append_assoc, encode_utf8}
+use Rattle.std.proofs.lemmas.Bool.{cases_lt, ne_eqb}
 use Rattle.std.proofs.lemmas.Bool.Decides.{nat_tests}
+use Rattle.std.proofs.Math.Bool.{and-false}
 use Rattle.yaml_scan_scalars.specs.scan_model.Marks.{byte, ends_of, break_width, ends_break, starts, column_at, is_blank}
 use Rattle.yaml_scan_scalars.specs.scan_model.Breaks.{is_document_indicator}
 use Rattle.yaml_scan_scalars.specs.Pieces.{Piece, Kept, Blank}
@@ -9,7 +10,7 @@ use Rattle.yaml_scan_scalars.specs.Quoted.{Pieces, standing_at, pieces}
 use Rattle.yaml_emit_laws_text.specs.Stands.{HasAt}
 use Rattle.yaml_emit_laws_text.proofs.Chars.{encode_1, encode_2, encode_3, encode_4}
 use Rattle.yaml_emit_laws_text.proofs.Values.{keeps}
-use Rattle.yaml_emit_laws_text.proofs.Bytes.{differs, IsQuote, no_quote, no_slash, low_end, low_break, Calm, calm_end, calm_break, calm_from, Has, first_end, second_end, third_end, later_break, two_break, three_break, four_break, high_blank}
+use Rattle.yaml_emit_laws_text.proofs.Bytes.{IsQuote, no_quote, no_slash, low_end, low_break, Calm, calm_end, calm_break, calm_from, Has, first_end, second_end, third_end, later_break, two_break, three_break, four_break, high_blank}
 
 pub has : (text : List ℕ) (p : ℕ) (xs : List ℕ) → HasAt text p xs → Has text p xs
 has text p [] h = tt
@@ -66,13 +67,9 @@ in_line text p h =
     let e : (column_at text p == 0) ≡ false = grind (arith, nat_tests) in
     rw e refl
 
-and_false : (a : Bool) → (a && false) ≡ false
-and_false true = refl
-and_false false = refl
-
 pub no_mark : (text : List ℕ) (p b : ℕ) → byte text p ≡ b → b ≢ 45 → b ≢ 46 → is_document_indicator text p ≡ false
 unfolding is_document_indicator
-no_mark text p b e m n = rw (e, differs b 45 m, differs b 46 n, and_false) refl
+no_mark text p b e m n = rw (e, ne_eqb b 45 m, ne_eqb b 46 n, and-false) refl
 
 -- ---- columns
 
@@ -118,7 +115,7 @@ pub blank_through : (quote : ℕ) (text : List ℕ) (p b : ℕ) → IsQuote quot
 blank_through quote text p b q c k e =
     let calm = blank_calm b k in
     through_one quote text p (p + 1) (Blank b ∷ [])
-    (blank_standing quote text p b (in_line text p c) e (rw e (calm_break b _ _ calm)) (differs b 0 (blank_no b 0 k refl)) (no_quote quote b q (blank_no b 34 k refl) (blank_no b 39 k refl)) k)
+    (blank_standing quote text p b (in_line text p c) e (rw e (calm_break b _ _ calm)) (ne_eqb b 0 (blank_no b 0 k refl)) (no_quote quote b q (blank_no b 34 k refl) (blank_no b 39 k refl)) k)
     (omega arith) (column_more text p (rw e (calm_end _ _ b _ calm)) c)
 
 space_calm : Calm 32
@@ -147,7 +144,7 @@ ends_2 text p x y b g h k f =
 
 high_ordinary : (quote b : ℕ) → IsQuote quote → 128 ≤ b → Ordinary quote b
 high_ordinary quote b q h = record {
-  no_end = differs b 0 (λ e. omega arith);
+  no_end = ne_eqb b 0 (λ e. omega arith);
   no_quote = no_quote quote b q (λ e. omega arith) (λ e. omega arith);
   no_slash = no_slash quote b (λ e. omega arith);
   no_blank = high_blank b h;

@@ -1,6 +1,6 @@
 -- Handles and suffixes resolve to their tags.
-use Rattle.std.proofs.Common.{◌≡◌, inl, inr, ◌⊎◌, ℕ, Bool, true, false, ◌&&◌, ◌||◌, ◌==◌, nat_lt, cond, if◌then◌else◌, List, [], ◌∷◌, ◌++◌, length, take, drop, Option, Some, None, refl, sym, ap, subst, ◌∙◌}
-use Rattle.std.proofs.lemmas.Bool.{cases_Bool}
+use Rattle.std.proofs.Common.{◌≡◌, inl, inr, ℕ, Bool, true, false, ◌||◌, ◌==◌, nat_lt, cond, if◌then◌else◌, List, [], ◌∷◌, ◌++◌, length, take, drop, Option, Some, None, refl, sym, ap, subst, ◌∙◌}
+use Rattle.std.proofs.lemmas.Bool.{cases_Bool, or_cases, true≢false, and_parts}
 use Rattle.std.proofs.lemmas.List.{take-append-drop}
 use Rattle.std.proofs.lemmas.Slice.Eq.{bytes_eq-Decides}
 use Rattle.std.specs.List.{list_any}
@@ -35,17 +35,10 @@ none_true : (b : Bool) (p : Problem) → (if b then Some p else None) ≡ None �
 none_true false p e = refl
 none_true true p e = absurd (cc)
 
-either : (a b : Bool) → (a || b) ≡ true → (a ≡ true) ⊎ (b ≡ true)
-either true b e = inl refl
-either false b e = inr e
-
 neither : (a b : Bool) → (a ≡ true → ⊥) → (b ≡ true → ⊥) → (a || b) ≡ false
 neither true b f g = absurd (f refl)
 neither false true f g = absurd (g refl)
 neither false false f g = refl
-
-not_false : (b : Bool) → b ≡ true → b ≡ false → ⊥
-not_false b e f = cc
 
 any_left : (test : TagDirective → Bool) (xs ys : List TagDirective) → list_any test xs ≡ true → list_any test (xs ++ ys) ≡ true
 any_left test [] ys e = absurd (cc)
@@ -94,12 +87,12 @@ none_defined h e = cc
 apart : (before ds : List TagDirective) (h : List ℕ) → directives_problem before ds ≡ None → list_any (has_handle h) before ≡ true → defines ds h ≡ true → ⊥
 apart before [] h e f t = none_defined h t
 apart before (d ∷ ds) h e f t =
-    elim (either (bytes_eq d.handle h) (defines ds h) (sym (defines_one d ds h) ∙ t)) [
+    elim (or_cases (bytes_eq d.handle h) (defines ds h) (sym (defines_one d ds h) ∙ t)) [
       | inr more ↦ apart (before ++ d ∷ []) ds h (rest_none before d ds e) (any_left (has_handle h) before (d ∷ []) f) more
       | inl here ↦
           let same = same_of d.handle h here in
           let P : List ℕ → Type 0 = λ x. list_any (has_handle x) before ≡ true in
-          not_false (list_any (has_handle d.handle) before) (subst P (sym same) f) (twice_none before d ds e)
+          true≢false (sym (subst P (sym same) f) ∙ (twice_none before d ds e))
     ]
 
 -- What a directive's handle stands for.
@@ -247,13 +240,9 @@ resolved_named : (ds : List TagDirective) (h suffix prefix : List ℕ) → (leng
 resolved_named ds [] suffix prefix e f = absurd (cc)
 resolved_named ds (c ∷ h) suffix prefix e f = ap (λ (o : Option (List ℕ)). option_map (λ p. p ++ suffix) o) f
 
-pub and_right : (a b : Bool) → (a && b) ≡ true → b ≡ true
-and_right true b e = e
-and_right false b e = absurd (cc)
-
 pub whole : (prefix tag : List ℕ) → has_shorter_prefix prefix tag ≡ true → prefix ++ drop (length prefix) tag ≡ tag
 whole prefix tag e =
-    let same = same_of (take (length prefix) tag) prefix (and_right (nat_lt (length prefix) (length tag)) (bytes_eq (take (length prefix) tag) prefix) e) in
+    let same = same_of (take (length prefix) tag) prefix (and_parts (nat_lt (length prefix) (length tag)) (bytes_eq (take (length prefix) tag) prefix) e).1 in
     ap (λ (x : List ℕ). x ++ drop (length prefix) tag) (sym same) ∙ take-append-drop (length prefix) tag
 
 split_resolves : (ds : List TagDirective) (tag : List ℕ) (o : Option TagDirective) → FoundAny ds tag o → resolved_split ds (split_by o tag) ≡ Some tag

@@ -1,8 +1,8 @@
 -- What an emitter writes between single quotes in one line, or cuts at spaces, is read back.
 use Rattle.std.proofs.Common.{◌≡◌, ℕ, zero, suc, ◌+◌, ◌-◌, ◌<◌, Bool, true, false, not, ◌&&◌, ◌||◌, ◌==◌, nat_lt, nat_le, List, [], ◌∷◌, ◌++◌, length, replicate, Ok, refl, sym, ap, subst, ◌∙◌, arith, append-nil, encode_utf8, encode_utf8_all, IsUtf8}
-use Rattle.std.proofs.lemmas.Bool.Decides.{nat_tests}
 use Rattle.std.proofs.lemmas.Str.{encode_ascii, encodes-append, encodes-chars, scalars-chars}
 use Rattle.std.specs.Str.{all_scalars, chars}
+use Rattle.std.proofs.lemmas.Bool.{and_parts, not-true, or_parts, ne_eqb, eqb-false, eqb-true, lt-ltb}
 use lib.Utf8.{scalar}
 use Rattle.yaml_scan_scalars.specs.scan_model.Marks.{byte, is_blank}
 use Rattle.yaml_scan_scalars.specs.Quoted.{single_quoted_at}
@@ -20,7 +20,6 @@ use Rattle.yaml_emit_laws_text.specs.Stands.{HasAt}
 use Rattle.yaml_emit_laws_text.specs.Spelling.{QuotedPart, raw, doubled, fold, may_turn, may_be_raw, MayStand, spelled, meant, spelling, meaning, is_raw_blank, is_fold, is_turn, may_follow, may_be_next, IsSpelling, quoted}
 use Rattle.yaml_emit_laws_text.specs.ReadBack.{ValueIsReadBackBefore, between_single, is_one_line}
 use Rattle.yaml_emit_laws_text.proofs.Values.{cond_true, cond_false}
-use Rattle.yaml_emit_laws_text.proofs.Bytes.{and_left, and_right, not_true, or_left, or_right, differs, apart}
 use Rattle.yaml_emit_laws_text.proofs.Parts.{single_spelling_reads}
 use Rattle.yaml_emit_laws_text.proofs.Escapes.{low_encodes, end_of, fold_bytes, fold_means, space_encodes}
 use Rattle.yaml_emit_laws_text.proofs.Back.{front_append, front_one, front_more, moved_by, spaced_by}
@@ -72,7 +71,7 @@ record Shows (x : ℕ) : Type 0 where
   inside : is_break x ≡ false
 
 no_printable : (x k : ℕ) → Shows x → is_printable k ≡ false → (x == k) ≡ false
-no_printable x k s n = differs x k (λ e. cc (sym s.printable ∙ ap (λ t. is_printable t) e ∙ n))
+no_printable x k s n = ne_eqb x k (λ e. cc (sym s.printable ∙ ap (λ t. is_printable t) e ∙ n))
 
 raw_test : (s a b d e f z q k : Bool) → s ≡ true → a ≡ false → b ≡ false → d ≡ false → e ≡ false → f ≡ false → z ≡ false → q ≡ false
     → (s && not ((a || (b || (d || (e || f)))) || (z || (q || (false && k))))) ≡ true
@@ -80,13 +79,13 @@ raw_test s a b d e f z q k g h i j l m n o = rw (g, h, i, j, l, m, n, o) refl
 
 raw_may : (x : ℕ) → Shows x → (x == 39) ≡ false → may_be_raw 39 x ≡ true
 raw_may x s q =
-    let p29 = or_right _ (x == 0x2029) s.inside in
-    let t29 = or_left _ (x == 0x2029) s.inside in
-    let p28 = or_right _ (x == 0x2028) t29 in
-    let t28 = or_left _ (x == 0x2028) t29 in
-    let p85 = or_right _ (x == 0x85) t28 in
-    let t85 = or_left _ (x == 0x85) t28 in
-    raw_test (scalar x) (x == 10) (x == 13) (x == 0x85) (x == 0x2028) (x == 0x2029) (x == 0) (x == 39) (x == 92) s.scalar (or_left (x == 10) _ t85) (or_right _ (x == 13) t85) p85 p28 p29 (no_printable x 0 s refl) q
+    let p29 = (or_parts _ (x == 0x2029) s.inside).1 in
+    let t29 = (or_parts _ (x == 0x2029) s.inside).0 in
+    let p28 = (or_parts _ (x == 0x2028) t29).1 in
+    let t28 = (or_parts _ (x == 0x2028) t29).0 in
+    let p85 = (or_parts _ (x == 0x85) t28).1 in
+    let t85 = (or_parts _ (x == 0x85) t28).0 in
+    raw_test (scalar x) (x == 10) (x == 13) (x == 0x85) (x == 0x2028) (x == 0x2029) (x == 0) (x == 39) (x == 92) s.scalar (or_parts (x == 10) _ t85).0 (or_parts _ (x == 13) t85).1 p85 p28 p29 (no_printable x 0 s refl) q
 
 unblank : (x : ℕ) → Shows x → (x == 32) ≡ false → is_blank x ≡ false
 unblank x s n = both (x == 32) (x == 9) n (no_printable x 9 s refl)
@@ -141,12 +140,6 @@ bool_cases : {P : Type 0} (b : Bool) → (b ≡ true → P) → (b ≡ false →
 bool_cases true p q = p refl
 bool_cases false p q = q refl
 
-equal_from : (c k : ℕ) → (c == k) ≡ true → c ≡ k
-equal_from c k e = grind (arith, nat_tests)
-
-some_spaces : (n : ℕ) → 0 < n → nat_lt 0 n ≡ true
-some_spaces n h = grind (arith, nat_tests)
-
 fold_may : (b : LineBreak) (n : ℕ) → nat_lt 0 n ≡ true → MayStand 39 (fold (record { end = end_of b; spaces = n }) [])
 unfolding may_turn
 fold_may b n h = h
@@ -160,10 +153,10 @@ record CutNeeds (page : Page) (before x : ℕ) (xs : List ℕ) : Type 0 where
 
 cut_needs : (page : Page) (before x : ℕ) (xs : List ℕ) → cuts_at page before x xs ≡ true → CutNeeds page before x xs
 cut_needs page before x xs e =
-    let a = and_right page.cuts _ e in
-    let b = and_right (x == 32) _ a in
-    let d = and_right (not (before == 32)) _ b in
-    record { cuts = and_left page.cuts _ e; space = equal_from x 32 (and_left (x == 32) _ a); behind = not_true (before == 32) (and_left (not (before == 32)) _ b); next = not_true (first xs == 32) (and_left (not (first xs == 32)) _ d) }
+    let a = (and_parts page.cuts _ e).1 in
+    let b = (and_parts (x == 32) _ a).1 in
+    let d = (and_parts (not (before == 32)) _ b).1 in
+    record { cuts = (and_parts page.cuts _ e).0; space = eqb-true x 32 (and_parts (x == 32) _ a).0; behind = not-true (before == 32) (and_parts (not (before == 32)) _ b).0; next = not-true (first xs == 32) (and_parts (not (first xs == 32)) _ d).0 }
 
 fold_follows : (last q : QuotedPart) → is_fold q ≡ true → is_raw_blank q ≡ false → is_raw_blank last ≡ false → is_turn last ≡ false → may_follow last q ≡ true
 fold_follows last q a b d e = rw (a, b, d, e) refl
@@ -183,12 +176,12 @@ step_cut page before x xs c last deep s h m p =
     let needs = cut_needs page before x xs m in
     let n = page.indentation in
     let b = page.line_break in
-    let apart_from = apart before 32 needs.behind in
+    let apart_from = eqb-false before 32 needs.behind in
     record {
       part = fold (record { end = end_of b; spaces = n }) [];
       letters = break_text b ++ replicate n 32;
       after = after_blanks n (line_start c);
-      stand = fold_may b n (some_spaces n (deep needs.cuts));
+      stand = fold_may b n (lt-ltb 0 n (deep needs.cuts));
       follow = fold_follows last (fold (record { end = end_of page.line_break; spaces = page.indentation }) []) refl refl (bool_cases (is_raw_blank last) (λ t. absurd (apart_from (h.blank t))) (λ f. f)) (bool_cases (is_turn last) (λ t. absurd (apart_from (h.turn t).0)) (λ f. f));
       text = λ rest. char_is page before x xs c rest s.inside h.inside ∙ cut_is page (cuts_at page before x xs) x c rest m p ∙ line_is b n c rest (h.bare needs.behind);
       bytes = fold_bytes b n;
@@ -201,7 +194,7 @@ step_cut page before x xs c last deep s h m p =
 step_doubled : (page : Page) (before x : ℕ) (xs : List ℕ) (c : Cursor) (last : QuotedPart) → Shows x → Behind before c last (x ∷ xs) → (x == 39) ≡ true → cuts_at page before x xs ≡ false → Step page before x xs c last
 unfolding in_front
 step_doubled page before x xs c last s h q m =
-    let same = equal_from x 39 q in
+    let same = eqb-true x 39 q in
     let small : encode_utf8 39 ≡ 39 ∷ [] = encode_ascii 39 (omega arith) in
     record {
       part = doubled;
@@ -230,7 +223,7 @@ step_raw page before x xs c last s h q m = record {
   text = λ rest. char_is page before x xs c rest s.inside h.inside ∙ uncut_is page (cuts_at page before x xs) x c rest m q;
   bytes = append-nil (encode_utf8 x);
   means = refl;
-  blank = λ t. bool_cases (x == 32) (λ e. equal_from x 32 e) (λ f. absurd (cc (sym t ∙ unblank x s f)));
+  blank = λ t. bool_cases (x == 32) (λ e. eqb-true x 32 e) (λ f. absurd (cc (sym t ∙ unblank x s f)));
   turn = λ t. absurd (cc);
   bare = λ f. refl;
 }
@@ -246,7 +239,7 @@ step page before x xs c last deep s h =
     bool_cases (x == 39)
     (λ q. step_doubled page before x xs c last s h q (quote_uncut page before x xs q))
     (λ q. bool_cases (cuts_at page before x xs && is_past page.width c)
-    (λ m. step_cut page before x xs c last deep s h (and_left (cuts_at page before x xs) (is_past page.width c) m) (and_right (cuts_at page before x xs) (is_past page.width c) m))
+    (λ m. step_cut page before x xs c last deep s h (and_parts (cuts_at page before x xs) (is_past page.width c) m).0 (and_parts (cuts_at page before x xs) (is_past page.width c) m).1)
     (λ m. step_raw page before x xs c last s h q m))
 
 -- ---- all characters
@@ -299,15 +292,15 @@ special_left false b e = absurd (cc)
 
 shown_first : (unicode : Bool) (before x next : ℕ) → is_special unicode before x next ≡ false → is_printable x ≡ true
 shown_first unicode before x next e =
-    let a = or_left _ (x == 32 && is_break next) e in
+    let a = (or_parts _ (x == 32 && is_break next) e).0 in
     special_left (is_printable x) (not unicode && nat_le 0x80 x) a
 
 all_show : (unicode : Bool) (before : ℕ) (xs : List ℕ) → somewhere (is_special unicode) before xs ≡ false → is_one_line xs ≡ true → all_scalars xs ≡ true → AllShow xs
 unfolding somewhere
 all_show unicode before [] e l g = tt
 all_show unicode before (x ∷ xs) e l g = (
-  record { scalar = and_left (scalar x) (all_scalars xs) g; printable = shown_first unicode before x (first xs) (or_left _ _ e); inside = not_true (is_break x) (and_left (not (is_break x)) (is_one_line xs) l) },
-  all_show unicode x xs (or_right (is_special unicode before x (first xs)) _ e) (and_right (not (is_break x)) (is_one_line xs) l) (and_right (scalar x) (all_scalars xs) g),
+  record { scalar = (and_parts (scalar x) (all_scalars xs) g).0; printable = shown_first unicode before x (first xs) (or_parts _ _ e).0; inside = not-true (is_break x) (and_parts (not (is_break x)) (is_one_line xs) l).0 },
+  all_show unicode x xs (or_parts (is_special unicode before x (first xs)) _ e).1 (and_parts (not (is_break x)) (is_one_line xs) l).1 (and_parts (scalar x) (all_scalars xs) g).1,
 )
 
 nothing_special : (unicode : Bool) → somewhere (is_special unicode) 32 [] ≡ false
@@ -317,7 +310,7 @@ nothing_special unicode = refl
 no_special : (unicode : Bool) (xs : List ℕ) → (allowed unicode xs).single ≡ true → somewhere (is_special unicode) 32 xs ≡ false
 unfolding allowed
 no_special unicode [] e = nothing_special unicode
-no_special unicode (x ∷ xs) e = or_left _ (somewhere is_break_space 32 (x ∷ xs)) (not_true _ e)
+no_special unicode (x ∷ xs) e = (or_parts _ (somewhere is_break_space 32 (x ∷ xs)) (not-true _ e)).0
 
 -- ---- single quoted text
 

@@ -1,5 +1,6 @@
 -- Tags as words.
 use Rattle.std.proofs.Common.{◌≡◌, ℕ, ◌+◌, nat_lt, Bool, true, false, List, [], ◌∷◌, ◌++◌, length, Some, Result, Ok, refl, sym, ap, subst, ◌∙◌}
+use Rattle.std.proofs.lemmas.Bool.{and_parts}
 use Rattle.yaml_emit_laws_text.specs.scan_history.scan_model.Marks.{byte}
 use Rattle.yaml_emit_laws_text.specs.scan_history.scan_model.Wrong.{Wrong}
 use Rattle.yaml_emit_laws_text.specs.scan_history.scan_words.Tags.{TagText, tag_at, may_end_tag}
@@ -21,7 +22,7 @@ use Rattle.yaml_emit_laws_text.specs.Walk.{Has, Left, bytes, Walks}
 use Rattle.yaml_emit_laws_text.proofs.Forms.{BeginsBlank, TagWalks, MarkWalks}
 use Rattle.yaml_emit_laws_text.proofs.Places.{has_front, has_at, left_first, left_rest}
 use Rattle.yaml_emit_laws_text.proofs.Steps.{Sign, sign_begins, sign_kind, push, word_of, walks_gap, letter_low}
-use Rattle.yaml_emit_laws_text.proofs.Words.{sign, and_left, and_right, more_than, lettered_on}
+use Rattle.yaml_emit_laws_text.proofs.Words.{sign, more_than, lettered_on}
 
 -- letters in ASCII, and the cursor behind them
 pub record Letters (xs : List ℕ) (c : Cursor) : Type 0 where
@@ -36,10 +37,10 @@ pub letters_are : (xs : List ℕ) → are_ascii xs ≡ true → (c : Cursor) →
 unfolding letters
 letters_are [] are c = record { behind = c; same = λ rest. refl; white = λ e. e; bare = λ e. e; column = λ h z. h z; kept = refl }
 letters_are (x ∷ xs) are c =
-    let r = letters_are xs (and_right (nat_lt x 128) (are_ascii xs) are) (lettered_on c) in
+    let r = letters_are xs (and_parts (nat_lt x 128) (are_ascii xs) are).1 (lettered_on c) in
     record {
       behind = r.behind;
-      same = λ rest. letter_low x (letters xs (lettered_on c) rest) (and_left (nat_lt x 128) (are_ascii xs) are) ∙ ap (λ (t : List ℕ). x ∷ t) (r.same rest);
+      same = λ rest. letter_low x (letters xs (lettered_on c) rest) (and_parts (nat_lt x 128) (are_ascii xs) are).0 ∙ ap (λ (t : List ℕ). x ∷ t) (r.same rest);
       white = λ e. r.white refl;
       bare = λ e. r.bare refl;
       column = λ h. r.column (λ z. more_than c.column z);

@@ -2,6 +2,7 @@
 use Rattle.std.proofs.Common.{◌≡◌, ◌≢◌, ℕ, zero, suc, ◌+◌, ◌<◌, true, false, ◌&&◌, ◌==◌, nat_lt, List, [], ◌∷◌, ◌++◌, length, replicate, Some, refl, sym, ap, subst, ◌∙◌, inl, inr, arith, add-zero, append_assoc, append-nil, encode_utf8}
 use Rattle.std.proofs.lemmas.Bool.Decides.{nat_tests}
 use Rattle.std.proofs.lemmas.List.{length-append}
+use Rattle.std.proofs.lemmas.Bool.{and_parts, not-true, lt-ltb}
 use lib.Utf8.{scalar, scalar_cases}
 use Rattle.yaml_scan_scalars.specs.scan_model.Marks.{byte, break_of, break_width, column_at}
 use Rattle.yaml_scan_scalars.specs.scan_model.Breaks.{break_value, is_document_indicator}
@@ -9,7 +10,7 @@ use Rattle.yaml_scan_scalars.specs.Pieces.{Piece, Kept, Blank, Break}
 use Rattle.yaml_scan_scalars.specs.Quoted.{Pieces, hex_value, hex_len, simple_escape, is_scalar, escape_at, standing_at}
 use Rattle.yaml_emit_laws_text.specs.Spelling.{LineEnd, feed, return, return_feed, next_line, line_separator, paragraph_separator, end_bytes, end_means, LineTurn, turn_bytes, is_return, is_feed_end, may_turn, number_behind}
 use Rattle.yaml_emit_laws_text.proofs.Values.{blanks_of, turns_read, turn_read}
-use Rattle.yaml_emit_laws_text.proofs.Bytes.{and_left, and_right, not_true, IsQuote, no_quote, Calm, AreCalm, calm_end, calm_break, calm_from, hex_start, Has, digits, named_is, number_calm}
+use Rattle.yaml_emit_laws_text.proofs.Bytes.{IsQuote, no_quote, Calm, AreCalm, calm_end, calm_break, calm_from, hex_start, Has, digits, named_is, number_calm}
 use Rattle.yaml_emit_laws_text.proofs.QuotedReading.{has_front, has_rest, Read, Through, read_step, through_one, through_at, in_line, no_mark, column_more, space_standing, space_column}
 
 -- ---- escapes
@@ -56,9 +57,6 @@ named_through text p b bs c s h =
 scalar_is : (c : ℕ) → scalar c ≡ true → is_scalar c ≡ true
 scalar_is c h = elim (scalar_cases c h) [ inl a ↦ grind (arith, nat_tests) | inr a ↦ let x = a.0 in let y = a.1 in grind (arith, nat_tests) ]
 
-some_less : (n : ℕ) → 0 < n → nat_lt 0 n ≡ true
-some_less n h = grind (arith, nat_tests)
-
 pub numbered_through : (text : List ℕ) (p b c : ℕ) (ds : List ℕ) → 0 < column_at text p → 0 < length ds → hex_len b ≡ length ds → number_behind 0 ds ≡ Some c → scalar c ≡ true
     → Has text p (92 ∷ b ∷ ds) → Through 34 text p (Kept (encode_utf8 c) ∷ []) (p + length (92 ∷ b ∷ ds))
 numbered_through text p b c ds col some l n s (e, (f, h)) =
@@ -68,7 +66,7 @@ numbered_through text p b c ds col some l n s (e, (f, h)) =
     let same : p + 2 + length ds ≡ p + suc (suc (length ds)) = omega arith in
     let plain : length ds ≡ 0 + length ds = omega arith in
     escape_run text p (b ∷ ds) (encode_utf8 c) col (calm, d.calm) (e, (f, h))
-    (numbered_at text p b (length ds) c f calm l (some_less (length ds) some) (ap (λ k. hex_value text (p + 2) k) plain ∙ d.value) (scalar_is c s) ∙ ap (λ q. Pieces (Kept (encode_utf8 c) ∷ []) q) same)
+    (numbered_at text p b (length ds) c f calm l (lt-ltb 0 (length ds) some) (ap (λ k. hex_value text (p + 2) k) plain ∙ d.value) (scalar_is c s) ∙ ap (λ q. Pieces (Kept (encode_utf8 c) ∷ []) q) same)
 
 -- ---- ends of lines
 
@@ -114,7 +112,7 @@ break_standing quote text p b n bs i e z q w some v = rw (i, w, v, e, z, q, some
 
 end_standing : (quote : ℕ) (text : List ℕ) (p : ℕ) (e : LineEnd) → IsQuote quote → EndAt text p e → standing_at quote text p ≡ Pieces (Break (end_means e) ∷ []) (p + length (end_bytes e))
 end_standing quote text p e q a =
-    break_standing quote text p a.first (length (end_bytes e)) (end_means e) (no_mark text p a.first a.is a.no_dash a.no_dot) a.is a.some (no_quote quote a.first q a.no_double a.no_single) a.width (some_less (length (end_bytes e)) (end_some e)) a.read
+    break_standing quote text p a.first (length (end_bytes e)) (end_means e) (no_mark text p a.first a.is a.no_dash a.no_dot) a.is a.some (no_quote quote a.first q a.no_double a.no_single) a.width (lt-ltb 0 (length (end_bytes e)) (end_some e)) a.read
 
 joint_standing : (text : List ℕ) (p n : ℕ) → break_width text (p + 1) ≡ n → nat_lt 0 n ≡ true → escape_at text p ≡ Pieces (Kept [] ∷ Break [] ∷ []) (p + 1 + n)
 unfolding escape_at
@@ -141,7 +139,7 @@ unfolding may_turn turn_bytes
 no_split text p (suc n) r ts i m h = spaces_first text p n (turn_bytes ts) h
 no_split text p zero r [] i m h = absurd (cc)
 no_split text p zero r (u ∷ us) i m h =
-    let a : (is_return r && is_feed_end u.end) ≡ false = not_true _ (and_left _ _ m) in
+    let a : (is_return r && is_feed_end u.end) ≡ false = not-true _ (and_parts _ _ m).0 in
     let b : is_feed_end u.end ≡ false = sym (ap (λ t. t && is_feed_end u.end) i) ∙ a in
     end_first text p u.end (after_end u us) b h
 
@@ -203,7 +201,7 @@ tail_through quote text r t [] q m h =
 tail_through quote text r t (u ∷ us) q m h =
     let n = t.spaces in
     let behind = subst (λ k. Has text (r + k) (turn_bytes (u ∷ us))) (length_spaces n) (has_rest text r (replicate n 32) (turn_bytes (u ∷ us)) h) in
-    let later = and_right _ (may_turn u us) m in
+    let later = (and_parts _ (may_turn u us) m).1 in
     let at = turn_at text (r + n) u us later behind in
     let w = length (end_bytes u.end) in
     let some = end_some u.end in
@@ -248,7 +246,7 @@ joint_through text p t ts c m (e, h) =
     let some = end_some t.end in
     let at = turn_at text (p + 1) t ts m h in
     let all : length (end_bytes t.end ++ after_end t ts) ≡ length (end_bytes t.end) + length (after_end t ts) = length-append (end_bytes t.end) (after_end t ts) in
-    let st = backslash text p c e ∙ joint_standing text p (length (end_bytes t.end)) at.width (some_less (length (end_bytes t.end)) some) in
+    let st = backslash text p c e ∙ joint_standing text p (length (end_bytes t.end)) at.width (lt-ltb 0 (length (end_bytes t.end)) some) in
     through_at 34 text p (p + 1 + length (end_bytes t.end) + length (after_end t ts)) _ _ (omega (arith, all))
     (first_through 34 text p (p + 1 + length (end_bytes t.end)) (Kept [] ∷ Break [] ∷ []) t ts (inl refl) m st (omega (arith, some))
     (has_rest text (p + 1) (end_bytes t.end) (after_end t ts) h))

@@ -1,9 +1,10 @@
 -- The words of canonical layout.
-use Rattle.std.proofs.Common.{◌≡◌, ℕ, suc, ◌+◌, ◌-◌, ◌<◌, ◌==◌, ◌&&◌, ◌||◌, nat_lt, Bool, true, false, List, [], ◌∷◌, ◌++◌, length, Some, Result, Ok, refl, sym, ap, subst, ◌∙◌, inl, inr, ◌⊎◌, arith, append_assoc, IsUtf8, encode_utf8, encode_utf8_all}
+use Rattle.std.proofs.Common.{◌≡◌, ℕ, suc, ◌+◌, ◌-◌, ◌<◌, ◌==◌, nat_lt, Bool, true, false, List, [], ◌∷◌, ◌++◌, length, Some, Result, Ok, refl, sym, ap, subst, ◌∙◌, inl, inr, ◌⊎◌, arith, append_assoc, IsUtf8, encode_utf8, encode_utf8_all}
 use Rattle.std.specs.Str.{chars}
-use Rattle.std.proofs.lemmas.Bool.{cases_Bool}
+use Rattle.std.proofs.lemmas.Bool.{cases_Bool, and_parts}
 use Rattle.std.proofs.lemmas.Bool.Decides.{nat_tests}
 use Rattle.std.proofs.lemmas.Str.{encode_ascii}
+use Rattle.std.proofs.Math.Bool.{or-true}
 use lib.Utf8.{encode as encode_char}
 use Rattle.yaml_emit_laws_text.specs.scan_history.scan_model.Marks.{byte, break_of}
 use Rattle.yaml_emit_laws_text.specs.scan_history.scan_model.Classes.{is_alpha_byte, is_digit_byte}
@@ -159,14 +160,6 @@ alpha_low : (b : ℕ) → is_alpha_byte b ≡ true → nat_lt b 128 ≡ true
 unfolding is_alpha_byte is_digit_byte
 alpha_low b h = grind (arith, nat_tests)
 
-pub and_left : (a b : Bool) → (a && b) ≡ true → a ≡ true
-and_left true b e = refl
-and_left false b e = absurd (cc)
-
-pub and_right : (a b : Bool) → (a && b) ≡ true → b ≡ true
-and_right true b e = e
-and_right false b e = absurd (cc)
-
 low_letter : (x : ℕ) (t : List Item) → nat_lt x 128 ≡ true → bytes (letter x ∷ t) ≡ x ∷ bytes t
 unfolding encode char_bytes
 low_letter x t e = rw e refl
@@ -175,10 +168,10 @@ lettered : (xs : List ℕ) → are_alphas xs ≡ true → (c : Cursor) (rest : R
 unfolding letters
 lettered [] are c rest = record { behind = c; same = refl; bare = λ e. e; column = λ h z. h z; kept = refl }
 lettered (x ∷ xs) are c rest =
-    let r = lettered xs (and_right (is_alpha_byte x) (are_alphas xs) are) (lettered_on c) rest in
+    let r = lettered xs (and_parts (is_alpha_byte x) (are_alphas xs) are).1 (lettered_on c) rest in
     record {
       behind = r.behind;
-      same = low_letter x (letters xs (lettered_on c) rest) (alpha_low x (and_left (is_alpha_byte x) (are_alphas xs) are)) ∙ ap (λ (t : List ℕ). x ∷ t) r.same;
+      same = low_letter x (letters xs (lettered_on c) rest) (alpha_low x (and_parts (is_alpha_byte x) (are_alphas xs) are).0) ∙ ap (λ (t : List ℕ). x ∷ t) r.same;
       bare = λ e. r.bare refl;
       column = λ h. r.column (λ z. more_than c.column z);
       kept = r.kept;
@@ -195,16 +188,12 @@ pub line_break : (c d : ℕ) → nat_lt 0 (break_of 10 c d) ≡ true
 unfolding break_of
 line_break c d = refl
 
-or_true : (a : Bool) → (a || true) ≡ true
-or_true true = refl
-or_true false = refl
-
 -- a comma or a break ends a name
 parts_end : (text : List ℕ) (p b : ℕ) → byte text p ≡ b → parts b ≡ true → may_end_name text p ≡ true
 unfolding may_end_name
 parts_end text p b h e =
     elim (part_cases b e) [
-      | inl f ↦ rw (h, f, or_true) refl
+      | inl f ↦ rw (h, f, or-true) refl
       | inr (inl f) ↦ rw (h, f, line_break) refl
       | inr (inr f) ↦ rw (h, f, some_break) refl
     ]
@@ -283,10 +272,10 @@ letters_are : (xs : List ℕ) → are_alphas xs ≡ true → (c : Cursor) → Le
 unfolding letters
 letters_are [] are c = record { behind = c; same = λ rest. refl; bare = λ e. e; white = λ e. e; column = λ h z. h z; kept = refl }
 letters_are (x ∷ xs) are c =
-    let r = letters_are xs (and_right (is_alpha_byte x) (are_alphas xs) are) (lettered_on c) in
+    let r = letters_are xs (and_parts (is_alpha_byte x) (are_alphas xs) are).1 (lettered_on c) in
     record {
       behind = r.behind;
-      same = λ rest. low_letter x (letters xs (lettered_on c) rest) (alpha_low x (and_left (is_alpha_byte x) (are_alphas xs) are)) ∙ ap (λ (t : List ℕ). x ∷ t) (r.same rest);
+      same = λ rest. low_letter x (letters xs (lettered_on c) rest) (alpha_low x (and_parts (is_alpha_byte x) (are_alphas xs) are).0) ∙ ap (λ (t : List ℕ). x ∷ t) (r.same rest);
       bare = λ e. r.bare refl;
       white = λ e. r.white refl;
       column = λ h. r.column (λ z. more_than c.column z);

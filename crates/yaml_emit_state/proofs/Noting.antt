@@ -6,10 +6,6 @@ use Rattle.yaml_emit_text.specs.declared.Status.TheVariants.{Going, Full, Deep, 
 use Rattle.yaml_emit_state.specs.declared.state.Core.{Core}
 use Rattle.yaml_emit_state.specs.Steps.{is_going, may_note, Notes, Starves}
 
-pub neither : (a b : Bool) → (a || b) ≡ false → (a ≡ false) × (b ≡ false)
-neither false b h = (refl, h)
-neither true b h = absurd (cc)
-
 -- an output that went on behind a part of it
 pub notes_behind : (takes : Bool) (a b c : Status) → (b ≡ Going → a ≡ Going) → may_note takes a c ≡ false → may_note takes b c ≡ false
 notes_behind false a b c p h = refl

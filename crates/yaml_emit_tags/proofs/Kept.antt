@@ -1,6 +1,5 @@
 -- A part of a tag whose bytes are all kept.
 use Rattle.std.proofs.Common.{◌≡◌, ℕ, ◌<◌, List, [], ◌∷◌, ◌++◌, Bool, true, false, cond, refl, sym, subst, ◌∙◌, ap, arith}
-use Rattle.std.specs.Prelude.{◌&&◌}
 use Rattle.std.specs.List.{list_all}
 use Rattle.std.specs.Str.{IsAscii}
 use Rattle.std.proofs.lemmas.Bool.Decides.{nat_tests}
@@ -8,18 +7,11 @@ use Rattle.std.proofs.lemmas.List.{append-nil}
 use Rattle.std.proofs.lemmas.List.Sums.{AllPass-from_list_all}
 use Rattle.std.proofs.lemmas.Str.{IsAscii-append}
 use Rattle.std.proofs.lemmas.Str.Ascii.{IsAscii-from_all, IsAscii-cons, IsAscii-nil}
+use Rattle.std.proofs.lemmas.Bool.{and_parts}
 use Rattle.yaml_emit_sink.specs.Layout.{Layout, letters, word}
 use Rattle.yaml_emit_sink.specs.Sink.{Output, Puts}
 use Rattle.yaml_emit_sink.specs.Hex.{hex_2}
 use Rattle.yaml_emit_tags.specs.Tags.{suffix_keeps, prefix_keeps, keeps_byte, uri_byte, uri_text, shorthand, spelled}
-
-and_left : (a b : Bool) → (a && b) ≡ true → a ≡ true
-and_left true b e = refl
-and_left false b e = absurd (cc)
-
-and_right : (a b : Bool) → (a && b) ≡ true → b ≡ true
-and_right true b e = e
-and_right false b e = absurd (cc)
 
 suffix_low : (b : ℕ) → suffix_keeps b ≡ true → b < 128
 unfolding suffix_keeps
@@ -43,7 +35,7 @@ kept_text : (flow : Bool) (xs : List ℕ) → list_all (keeps_byte flow) xs ≡ 
 unfolding uri_text
 kept_text flow [] h = refl
 kept_text flow (x ∷ xs) h =
-    ap (λ (t : List ℕ). x ∷ t) (kept_text flow xs (and_right (keeps_byte flow x) _ h)) ∙ ap (λ (t : List ℕ). t ++ uri_text flow xs) (sym (kept_byte flow x (and_left (keeps_byte flow x) _ h)))
+    ap (λ (t : List ℕ). x ∷ t) (kept_text flow xs (and_parts (keeps_byte flow x) _ h).1) ∙ ap (λ (t : List ℕ). t ++ uri_text flow xs) (sym (kept_byte flow x (and_parts (keeps_byte flow x) _ h).0))
 
 pub puts_kept : (flow : Bool) (a b : Output) (xs : List ℕ) → list_all (keeps_byte flow) xs ≡ true → Puts a b (letters xs) → Puts a b (letters (uri_text flow xs))
 puts_kept flow a b xs h p = let P : List ℕ → Type 0 = λ t. Puts a b (letters t) in subst P (kept_text flow xs h) p

@@ -1,6 +1,6 @@
 -- Sorted prefixes, and the search for those that a tag begins with.
 use Rattle.std.proofs.Common.{◌≡◌, ◌≢◌, ℕ, ◌+◌, ◌-◌, ◌<◌, ◌≤◌, List, [], ◌∷◌, ◌++◌, length, take, drop, get_or, map, Bool, true, false, refl, sym, ◌∙◌, ap, arith, subst, inl, inr, Option, None, Some}
-use Rattle.std.specs.Prelude.{zero, suc, Vec, nat_lt, nat_le, ◌==◌, ◌&&◌, ◌⊎◌, if◌then◌else◌}
+use Rattle.std.specs.Prelude.{zero, suc, Vec, nat_lt, nat_le, ◌==◌, ◌⊎◌, if◌then◌else◌}
 use Rattle.std.specs.Global.{Global}
 use Rattle.std.specs.Str.{bytes_eq}
 use Rattle.std.specs.declared.cmp.Ordering.{Ordering}
@@ -9,7 +9,7 @@ use Rattle.std.specs.Ordering.{nat_cmp, ordering_then, is_lt, on}
 use Rattle.std.specs.Cmp.Lexicographic.{slice_cmp}
 use Rattle.std.specs.Cmp.{IsTotalOrder, IsStrictWeakOrder}
 use Rattle.std.specs.List.Sorted.{IsPermutation, IsSorted}
-use Rattle.std.proofs.lemmas.Bool.{ltb-true, ltb-false, cases_eq}
+use Rattle.std.proofs.lemmas.Bool.{ltb-true, ltb-false, cases_eq, and_parts}
 use Rattle.std.proofs.lemmas.Bool.Decides.{nat_tests}
 use Rattle.std.proofs.lemmas.Cmp.{then_total, on_total, nat_list_cmp_total, nat_cmp_total, tied_itself}
 use Rattle.std.proofs.lemmas.List.{length-map, take_more}
@@ -50,13 +50,9 @@ pub record Begins (p t : List ℕ) : Type 0 where
   pub shorter : length p < length t
   pub same : take (length p) t ≡ p
 
-both : (a b : Bool) → (a && b) ≡ true → (a ≡ true) × (b ≡ true)
-both true b e = (refl, e)
-both false b e = absurd (cc)
-
 pub begins : (p t : List ℕ) → has_shorter_prefix p t ≡ true → Begins p t
 begins p t e =
-    let s = both (nat_lt (length p) (length t)) (bytes_eq (take (length p) t) p) e in
+    let s = and_parts (nat_lt (length p) (length t)) (bytes_eq (take (length p) t) p) e in
     record { shorter = ltb-true (length p) (length t) s.0; same = (bytes_eq-Decides (take (length p) t) p).0 s.1 }
 
 pub begun : (p t : List ℕ) → length p < length t → take (length p) t ≡ p → has_shorter_prefix p t ≡ true

@@ -1,6 +1,7 @@
 -- Walks that look for something in a value.
 use Rattle.std.proofs.Common.{◌≡◌, ℕ, List, [], ◌∷◌, ◌++◌, Bool, true, false, cond, refl, sym, ◌∙◌, ap}
 use Rattle.std.specs.Prelude.{◌||◌}
+use Rattle.std.proofs.Math.Bool.{or-false}
 use Rattle.yaml_emit_text.specs.declared.page.Seen.{Seen}
 use Rattle.yaml_emit_sink.specs.Text.{is_break}
 use Rattle.yaml_emit_text.specs.Quoted.{first}
@@ -50,10 +51,6 @@ or_assoc : (a b c : Bool) → (a || (b || c)) ≡ ((a || b) || c)
 or_assoc true b c = refl
 or_assoc false b c = refl
 
-or_false : (a : Bool) → (a || false) ≡ a
-or_false true = refl
-or_false false = refl
-
 joined_assoc : (a b c : Seen) → joined a (joined b c) ≡ joined (joined a b) c
 joined_assoc a b c = rw (or_assoc a.special b.special c.special, or_assoc a.broken b.broken c.broken, or_assoc a.not_plain b.not_plain c.not_plain, or_assoc a.not_flow b.not_flow c.not_flow) refl
 
@@ -63,7 +60,7 @@ looked_at unicode before y xs = refl
 
 looked_none : (all : Seen) (unicode : Bool) (before : ℕ) → joined all (looked unicode before []) ≡ all
 unfolding somewhere
-looked_none all unicode before = rw (or_false all.special, or_false all.broken, or_false all.not_plain, or_false all.not_flow) refl
+looked_none all unicode before = rw (or-false all.special, or-false all.broken, or-false all.not_plain, or-false all.not_flow) refl
 
 pub look_more : (k all all' : Seen) (unicode : Bool) (before y : ℕ) (left xs : List ℕ) → left ≡ y ∷ xs → k ≡ joined all (looked unicode before left) → all' ≡ joined all (seen unicode before y (first xs)) → k ≡ joined all' (looked unicode y xs)
 look_more k all all' unicode before y left xs e h f =

@@ -1,6 +1,6 @@
 -- Bytes in front that pass a test, and runs that are written as they are.
 use Rattle.std.proofs.Common.{◌≡◌, ℕ, zero, suc, ◌+◌, ◌-◌, ◌<◌, ◌≤◌, List, [], ◌∷◌, ◌++◌, length, take, drop, get_or, Bool, true, false, cond, IsUtf8, refl, sym, subst, ◌∙◌, ap, arith, length-drop}
-use Rattle.std.specs.Prelude.{if◌then◌else◌, not, nat_le, ◌==◌, ◌||◌, ◌&&◌}
+use Rattle.std.specs.Prelude.{if◌then◌else◌, not, nat_le, ◌==◌, ◌||◌}
 use Rattle.std.specs.Str.{chars, IsAscii}
 use Rattle.std.specs.List.{All}
 use Rattle.std.proofs.lemmas.Bool.Decides.{nat_tests}
@@ -8,6 +8,7 @@ use Rattle.std.proofs.lemmas.List.{take-append-drop, take_all, drop_more, drop_a
 use Rattle.std.proofs.lemmas.Str.{chars-append, chars-IsAscii, IsUtf8-from_ascii, IsUtf8-past_char, IsAscii-drop, chars_past_char, chars-nil, encode_ascii}
 use Rattle.std.proofs.lemmas.Str.Ascii.{IsAscii-from_all}
 use Rattle.std.proofs.lemmas.List.Elements.{All-from_get_or}
+use Rattle.std.proofs.lemmas.Bool.{and_parts, and_from, not-true}
 use Rattle.yaml_emit_text.specs.declared.run.Bounds.{Bounds}
 use Rattle.yaml_emit_text.specs.Quoted.{first, is_empty}
 use Rattle.yaml_emit_text.specs.Style.{last_or}
@@ -16,18 +17,6 @@ use Rattle.yaml_emit_text.specs.Runs.{front, all_pass, runs_on, is_calm, calm, m
 bool_cases : {P : Type 0} (b : Bool) → (b ≡ true → P) → (b ≡ false → P) → P
 bool_cases true p q = p refl
 bool_cases false p q = q refl
-
-pub and_left : (a b : Bool) → (a && b) ≡ true → a ≡ true
-and_left true b e = refl
-and_left false b e = absurd (cc)
-
-pub and_right : (a b : Bool) → (a && b) ≡ true → b ≡ true
-and_right true b e = e
-and_right false b e = absurd (cc)
-
-pub both : (a b : Bool) → a ≡ true → b ≡ true → (a && b) ≡ true
-both true b p q = q
-both false b p q = absurd (cc)
 
 -- the number of bytes in front
 
@@ -72,7 +61,7 @@ front_pass test k zero xs h = refl
 front_pass test k (suc m) [] h = refl
 front_pass test k (suc m) (b ∷ bs) h =
     bool_cases (test k b)
-    (λ t. let q = front_yes test k b bs t in both (test k b) (all_pass test (k + 1) (take m bs)) t (front_pass test (k + 1) m bs (omega (arith, h, q))))
+    (λ t. let q = front_yes test k b bs t in and_from (test k b) (all_pass test (k + 1) (take m bs)) t (front_pass test (k + 1) m bs (omega (arith, h, q))))
     (λ f. let q = front_no test k b bs f in absurd (omega (arith, h, q)))
 
 pub front_byte : (test : ℕ → ℕ → Bool) (k m : ℕ) (xs : List ℕ) → m < front test k xs → test (k + m) (get_or xs m 0) ≡ true
@@ -93,8 +82,8 @@ front_byte test k (suc m) (b ∷ bs) h =
 below_at : (test : ℕ → ℕ → Bool) → ((k b : ℕ) → test k b ≡ true → b < 128) → (k : ℕ) (bs : List ℕ) (i : ℕ) → all_pass test k bs ≡ true → i < length bs → get_or bs i 0 < 128
 unfolding all_pass
 below_at test low k [] i h l = absurd (omega (arith, l))
-below_at test low k (b ∷ bs) zero h l = low k b (and_left (test k b) (all_pass test (k + 1) bs) h)
-below_at test low k (b ∷ bs) (suc i) h l = below_at test low (k + 1) bs i (and_right (test k b) (all_pass test (k + 1) bs) h) (omega (arith, l))
+below_at test low k (b ∷ bs) zero h l = low k b (and_parts (test k b) (all_pass test (k + 1) bs) h).0
+below_at test low k (b ∷ bs) (suc i) h l = below_at test low (k + 1) bs i (and_parts (test k b) (all_pass test (k + 1) bs) h).1 (omega (arith, l))
 
 below_all : (test : ℕ → ℕ → Bool) → ((k b : ℕ) → test k b ≡ true → b < 128) → (k : ℕ) (bs : List ℕ) → all_pass test k bs ≡ true → All (λ b. b < 128) bs
 below_all test low k bs h = All-from_get_or (λ b. b < 128) bs 0 (λ i l. below_at test low k bs i h l)
@@ -110,22 +99,18 @@ pub record RunsOn (e : Bounds) (k b : ℕ) : Type 0 where
   pub slash : (b == e.slash) ≡ false
   pub space : (not (b == 32) || (not e.cuts || nat_le k e.width)) ≡ true
 
-not_true : (a : Bool) → not a ≡ true → a ≡ false
-not_true false e = refl
-not_true true e = absurd (cc)
-
 pub run_byte : (e : Bounds) (k b : ℕ) → runs_on e k b ≡ true → RunsOn e k b
 unfolding runs_on
 run_byte e k b h =
-    let a = and_right (nat_le 32 b) _ h in
-    let q = and_right (nat_le b 126) _ a in
-    let s = and_right (not (b == e.quote)) _ q in
+    let a = (and_parts (nat_le 32 b) _ h).1 in
+    let q = (and_parts (nat_le b 126) _ a).1 in
+    let s = (and_parts (not (b == e.quote)) _ q).1 in
     record {
-      low = at_most 32 b (and_left (nat_le 32 b) _ h);
-      high = at_most b 126 (and_left (nat_le b 126) _ a);
-      quote = not_true (b == e.quote) (and_left (not (b == e.quote)) _ q);
-      slash = not_true (b == e.slash) (and_left (not (b == e.slash)) _ s);
-      space = and_right (not (b == e.slash)) _ s;
+      low = at_most 32 b (and_parts (nat_le 32 b) _ h).0;
+      high = at_most b 126 (and_parts (nat_le b 126) _ a).0;
+      quote = not-true (b == e.quote) (and_parts (not (b == e.quote)) _ q).0;
+      slash = not-true (b == e.slash) (and_parts (not (b == e.slash)) _ s).0;
+      space = (and_parts (not (b == e.slash)) _ s).1;
     }
 
 run_low : (e : Bounds) (k b : ℕ) → runs_on e k b ≡ true → b < 128
@@ -133,7 +118,7 @@ run_low e k b h = let r = (run_byte e k b h).high in omega (arith, r)
 
 pub calm_low : (k b : ℕ) → calm k b ≡ true → b < 128
 unfolding is_calm
-calm_low k b h = let r = at_most b 126 (and_left (nat_le b 126) _ (and_right (nat_le 32 b) _ h)) in omega (arith, r)
+calm_low k b h = let r = at_most b 126 (and_parts (nat_le b 126) _ (and_parts (nat_le 32 b) _ h).1).0 in omega (arith, r)
 
 pub run_ascii : (e : Bounds) (k : ℕ) (bs : List ℕ) → all_pass (runs_on e) k bs ≡ true → IsAscii bs
 run_ascii e k bs h = IsAscii-from_all bs (below_all (runs_on e) (run_low e) k bs h)
@@ -249,8 +234,8 @@ all_calm n bs p e =
 -- what a calm byte is
 pub calm_least : (b : ℕ) → is_calm b ≡ true → nat_le 32 b ≡ true
 unfolding is_calm
-calm_least b h = and_left (nat_le 32 b) _ h
+calm_least b h = (and_parts (nat_le 32 b) _ h).0
 
 pub calm_largest : (b : ℕ) → is_calm b ≡ true → nat_le b 126 ≡ true
 unfolding is_calm
-calm_largest b h = and_left (nat_le b 126) _ (and_right (nat_le 32 b) _ h)
+calm_largest b h = (and_parts (nat_le b 126) _ (and_parts (nat_le 32 b) _ h).1).0

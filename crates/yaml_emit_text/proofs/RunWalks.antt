@@ -5,6 +5,7 @@ use Rattle.std.proofs.lemmas.Bool.Decides.{nat_tests}
 use Rattle.std.proofs.lemmas.List.{append-nil}
 use Rattle.std.proofs.lemmas.Str.{chars-IsAscii}
 use Rattle.std.specs.Str.{chars}
+use Rattle.std.proofs.lemmas.Bool.{and_parts, and_from}
 use Rattle.yaml_emit_sink.specs.declared.Cursor.{Cursor}
 use Rattle.yaml_emit_sink.specs.Text.{Item, letter, is_break}
 use Rattle.yaml_emit_sink.specs.Layout.{Layout, Rest, ◌▹◌, stay, choose, when, char, letters, new_line, line, is_past}
@@ -16,7 +17,7 @@ use Rattle.yaml_emit_text.specs.Quoted.{needs_escape, escape_text, first, is_emp
 use Rattle.yaml_emit_text.specs.Scalars.{value_break, cuts_at, text_char, flow_char, flow_body, adds_break, cuts_block, line_blank, block_text, block_char, block_body}
 use Rattle.yaml_emit_text.specs.Style.{last_or, seen, looked, joined, is_special, is_break_space, is_not_plain, is_not_flow}
 use Rattle.yaml_emit_text.specs.Runs.{all_pass, runs_on, is_calm, calm, may_follow, quoted_bounds, flow_bounds, block_bounds}
-use Rattle.yaml_emit_text.proofs.RunLemmas.{and_left, and_right, both, calm_ascii, calm_least, calm_largest, run_byte, last_append}
+use Rattle.yaml_emit_text.proofs.RunLemmas.{calm_ascii, calm_least, calm_largest, run_byte, last_append}
 use Rattle.yaml_emit_text.proofs.Walks.{walk_end, flow_end}
 use Rattle.yaml_emit_text.specs.Tame.{IsTame}
 use Rattle.yaml_emit_text.proofs.Looks.{looked_at}
@@ -54,9 +55,9 @@ run_walk : (body : ℕ → List ℕ → Layout) (test : ℕ → ℕ → Bool) (b
 unfolding letters last_or all_pass
 run_walk body test behind step more before [] xs c rest g h = refl
 run_walk body test behind step more before (b ∷ bs) xs c rest g h =
-    let t = and_left (test c.column b) (all_pass test (c.column + 1) bs) h in
+    let t = (and_parts (test c.column b) (all_pass test (c.column + 1) bs) h).0 in
     step before b (bs ++ xs) c rest g t
-    ∙ ap (λ t. letter b ∷ t) (run_walk body test behind step more b bs xs (record { column = c.column + 1; white = false; bare = false; kept = c.kept }) rest (more c.column b t) (and_right (test c.column b) (all_pass test (c.column + 1) bs) h))
+    ∙ ap (λ t. letter b ∷ t) (run_walk body test behind step more b bs xs (record { column = c.column + 1; white = false; bare = false; kept = c.kept }) rest (more c.column b t) (and_parts (test c.column b) (all_pass test (c.column + 1) bs) h).1)
 
 -- what a byte of a run is, in the words of each style
 
@@ -81,7 +82,7 @@ quoted_raw : (page : Page) (before b : ℕ) (ys : List ℕ) (c : Cursor) (rest :
 unfolding quoted_char
 quoted_raw page before b ys c rest h =
     let r = run_byte (quoted_bounds page) c.column b h in
-    let folds : may_fold page before b ys ≡ true → nat_lt page.width c.column ≡ false = λ m. space_stays (b == 32) page.cuts page.width c.column r.space (and_left (b == 32) _ (and_right page.cuts _ m)) (and_left page.cuts _ m) in
+    let folds : may_fold page before b ys ≡ true → nat_lt page.width c.column ≡ false = λ m. space_stays (b == 32) page.cuts page.width c.column r.space (and_parts (b == 32) _ (and_parts page.cuts _ m).1).0 (and_parts page.cuts _ m).0 in
     bool_cases (may_fold page before b ys)
     (λ m. ap (λ v. (cond v (choose (is_past page.width) (fold page ys) (char b)) (escaped page.unicode b)) c rest) m ∙ ap (λ v. cond v (fold page ys c rest) (char b c rest)) (folds m))
     (λ m. ap (λ v. (cond v (choose (is_past page.width) (fold page ys) (char b)) (escaped page.unicode b)) c rest) m ∙ ap (λ v. (cond v (letters (escape_text b)) (char b)) c rest) (printable_needs page.unicode b r.low r.high r.quote r.slash))
@@ -135,7 +136,7 @@ flow_raw page quote before b ys c rest g h =
     let text = text_char page quote (cuts_at page before b ys) b in
     let broken = when (b == 10 && not (is_break before)) (new_line page.line_break) ▹ value_break page.line_break b in
     let lined = line page.line_break page.indentation in
-    let cuts : cuts_at page before b ys ≡ true → nat_lt page.width c.column ≡ false = λ m. space_stays (b == 32) page.cuts page.width c.column r.space (and_left (b == 32) _ (and_right page.cuts _ m)) (and_left page.cuts _ m) in
+    let cuts : cuts_at page before b ys ≡ true → nat_lt page.width c.column ≡ false = λ m. space_stays (b == 32) page.cuts page.width c.column r.space (and_parts (b == 32) _ (and_parts page.cuts _ m).1).0 (and_parts page.cuts _ m).0 in
     ap (λ v. (cond v broken (when (is_break before) lined ▹ text)) c rest) (no_break b r.low r.high) ∙ ap (λ v. (when v lined ▹ text) c rest) g
     ∙ bool_cases (cuts_at page before b ys)
     (λ m. ap (λ v. text_char page quote v b c rest) m ∙ ap (λ v. cond v (lined c rest) (char b c rest)) (cuts m))
@@ -161,7 +162,7 @@ block_raw page folded blank before b ys c rest g h =
     let text = block_text page (cuts_block folded blank before b ys) b in
     let broken = when (adds_break folded blank before b ys) (new_line page.line_break) ▹ value_break page.line_break b in
     let lined = line page.line_break page.indentation in
-    let cuts : cuts_block folded blank before b ys ≡ true → nat_lt page.width c.column ≡ false = λ m. space_stays (b == 32) folded page.width c.column r.space (and_left (b == 32) _ (and_right folded _ m)) (and_left folded _ m) in
+    let cuts : cuts_block folded blank before b ys ≡ true → nat_lt page.width c.column ≡ false = λ m. space_stays (b == 32) folded page.width c.column r.space (and_parts (b == 32) _ (and_parts folded _ m).1).0 (and_parts folded _ m).0 in
     ap (λ v. (cond v broken (when (is_break before) lined ▹ text)) c rest) (no_break b r.low r.high) ∙ ap (λ v. (when v lined ▹ text) c rest) g
     ∙ bool_cases (cuts_block folded blank before b ys)
     (λ m. ap (λ v. block_text page v b c rest) m ∙ ap (λ v. cond v (lined c rest) (char b c rest)) (cuts m))
@@ -211,7 +212,7 @@ calm_seen unicode before b next h n = rw (calm_special unicode before b next h n
 next_calm : (b : ℕ) (bs xs : List ℕ) (k : ℕ) → all_pass calm k bs ≡ true → (is_empty (b ∷ bs) || may_follow (first xs)) ≡ true → may_follow (first (bs ++ xs)) ≡ true
 unfolding all_pass
 next_calm b [] xs k h n = n
-next_calm b (y ∷ ys) xs k h n = ap (λ v. v || y == 0) (and_left (calm k y) (all_pass calm (k + 1) ys) h)
+next_calm b (y ∷ ys) xs k h n = ap (λ v. v || y == 0) (and_parts (calm k y) (all_pass calm (k + 1) ys) h).0
 
 calm_still : (bs xs : List ℕ) → may_follow (first xs) ≡ true → (is_empty bs || may_follow (first xs)) ≡ true
 calm_still [] xs n = refl
@@ -221,8 +222,8 @@ calm_looked : (unicode : Bool) (before k : ℕ) (bs xs : List ℕ) → all_pass 
 unfolding all_pass last_or
 calm_looked unicode before k [] xs h n = refl
 calm_looked unicode before k (b ∷ bs) xs h n =
-    let c = and_left (calm k b) (all_pass calm (k + 1) bs) h in
-    let d = and_right (calm k b) (all_pass calm (k + 1) bs) h in
+    let c = (and_parts (calm k b) (all_pass calm (k + 1) bs) h).0 in
+    let d = (and_parts (calm k b) (all_pass calm (k + 1) bs) h).1 in
     let e = calm_seen unicode before b (first (bs ++ xs)) c (next_calm b bs xs (k + 1) d n) in
     looked_at unicode before b (bs ++ xs) ∙ ap (λ z. joined z (looked unicode b (bs ++ xs))) e ∙ calm_looked unicode b (k + 1) bs xs d (calm_still bs xs n)
 
@@ -252,18 +253,18 @@ calm_runs : (page : Page) (j k : ℕ) (bs : List ℕ) → k + length bs ≤ page
 unfolding all_pass
 calm_runs page j k [] w h = refl
 calm_runs page j k (b ∷ bs) w h =
-    both (runs_on (flow_bounds page false) k b) (all_pass (runs_on (flow_bounds page false)) (k + 1) bs)
-    (calm_run page k b (omega (arith, w)) (and_left (calm j b) (all_pass calm (j + 1) bs) h))
-    (calm_runs page (j + 1) (k + 1) bs (omega (arith, w)) (and_right (calm j b) (all_pass calm (j + 1) bs) h))
+    and_from (runs_on (flow_bounds page false) k b) (all_pass (runs_on (flow_bounds page false)) (k + 1) bs)
+    (calm_run page k b (omega (arith, w)) (and_parts (calm j b) (all_pass calm (j + 1) bs) h).0)
+    (calm_runs page (j + 1) (k + 1) bs (omega (arith, w)) (and_parts (calm j b) (all_pass calm (j + 1) bs) h).1)
 
 calm_ends : (before j : ℕ) (bs : List ℕ) → is_break before ≡ false → all_pass calm j bs ≡ true → is_break (last_or before bs) ≡ false
 unfolding all_pass last_or
 calm_ends before j [] g h = g
 calm_ends before j (b ∷ bs) g h =
-    let c = and_left (calm j b) (all_pass calm (j + 1) bs) h in
+    let c = (and_parts (calm j b) (all_pass calm (j + 1) bs) h).0 in
     let low = calm_least b c in
     let high = calm_largest b c in
-    calm_ends b (j + 1) bs (no_break b (grind (arith, nat_tests, low)) (grind (arith, nat_tests, high))) (and_right (calm j b) (all_pass calm (j + 1) bs) h)
+    calm_ends b (j + 1) bs (no_break b (grind (arith, nat_tests, low)) (grind (arith, nat_tests, high))) (and_parts (calm j b) (all_pass calm (j + 1) bs) h).1
 
 -- its characters are its bytes
 pub tame_letters : (v : List ℕ) → IsTame v → chars v ≡ v

@@ -5,6 +5,7 @@ use Rattle.std.specs.Str.{chars, IsAscii}
 use Rattle.std.proofs.lemmas.Bool.Decides.{nat_tests}
 use Rattle.std.proofs.lemmas.Str.{chars-IsAscii, IsAscii-append}
 use Rattle.std.proofs.lemmas.Str.Ascii.{IsAscii-cons, IsAscii-nil}
+use Rattle.std.proofs.lemmas.Bool.{and_parts}
 use Rattle.yaml_emit_sink.specs.declared.Cursor.{Cursor}
 use Rattle.yaml_emit_sink.specs.Text.{letter}
 use Rattle.yaml_emit_sink.specs.Layout.{Layout, Rest, ◌▹◌, char, letters, gap, word}
@@ -13,7 +14,6 @@ use Rattle.yaml_emit_sink.proofs.Sinks.{puts_as}
 use Rattle.yaml_emit_text.specs.declared.page.Page.{Page}
 use Rattle.yaml_emit_text.specs.Quoted.{quoted_body, double_quoted}
 use Rattle.yaml_emit_text.specs.Runs.{runs_on, is_solid, quoted_bounds}
-use Rattle.yaml_emit_text.proofs.RunLemmas.{and_left, and_right}
 use Rattle.yaml_emit_text.proofs.RunWalks.{quoted_step}
 
 solid_runs : (page : Page) (column b : ℕ) → is_solid b ≡ true → runs_on (quoted_bounds page) column b ≡ true
@@ -26,7 +26,7 @@ small b h = grind (arith, nat_tests, h)
 
 solid_ascii : (bs : List ℕ) → list_all is_solid bs ≡ true → IsAscii bs
 solid_ascii [] h = IsAscii-nil
-solid_ascii (b ∷ bs) h = IsAscii-cons b bs (small b (and_left (is_solid b) _ h)) (solid_ascii bs (and_right (is_solid b) _ h))
+solid_ascii (b ∷ bs) h = IsAscii-cons b bs (small b (and_parts (is_solid b) _ h).0) (solid_ascii bs (and_parts (is_solid b) _ h).1)
 
 behind_ascii : (bs : List ℕ) → list_all is_solid bs ≡ true → IsAscii (bs ++ 34 ∷ [])
 behind_ascii bs h = IsAscii-append bs (34 ∷ []) (solid_ascii bs h) (IsAscii-cons 34 [] (omega arith) IsAscii-nil)
@@ -42,8 +42,8 @@ body_is : (page : Page) (before : ℕ) (bs : List ℕ) (c : Cursor) (rest : Rest
 unfolding quoted_body letters
 body_is page before [] c rest h = refl
 body_is page before (b ∷ bs) c rest h =
-    quoted_step page before b bs c (λ d. char 34 d rest) (solid_runs page c.column b (and_left (is_solid b) _ h))
-    ∙ ap (λ t. letter b ∷ t) (body_is page b bs (record { column = c.column + 1; white = false; bare = false; kept = c.kept }) rest (and_right (is_solid b) _ h))
+    quoted_step page before b bs c (λ d. char 34 d rest) (solid_runs page c.column b (and_parts (is_solid b) _ h).0)
+    ∙ ap (λ t. letter b ∷ t) (body_is page b bs (record { column = c.column + 1; white = false; bare = false; kept = c.kept }) rest (and_parts (is_solid b) _ h).1)
 
 -- what stands in front of it
 quoted_at : (white : Bool) (page : Page) (bs : List ℕ) (column : ℕ) (bare kept : Bool) (rest : Rest) → list_all is_solid bs ≡ true

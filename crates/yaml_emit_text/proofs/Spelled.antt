@@ -1,8 +1,8 @@
 -- Double quoted text is a spelling.
-use Rattle.std.proofs.Common.{◌≡◌, ◌≢◌, ℕ, zero, suc, ◌+◌, ◌<◌, List, [], ◌∷◌, ◌++◌, Bool, true, false, cond, refl, sym, subst, ◌∙◌, ap, arith}
-use Rattle.std.specs.Prelude.{if◌then◌else◌, replicate, not, nat_lt, ◌==◌, ◌||◌, ◌&&◌}
+use Rattle.std.proofs.Common.{◌≡◌, ◌≢◌, ℕ, zero, suc, ◌+◌, ◌<◌, List, [], ◌∷◌, ◌++◌, Bool, true, false, cond, refl, sym, subst, ◌∙◌, ap}
+use Rattle.std.specs.Prelude.{if◌then◌else◌, replicate, not, ◌==◌, ◌||◌, ◌&&◌}
 use Rattle.std.specs.Str.{all_scalars}
-use Rattle.std.proofs.lemmas.Bool.Decides.{nat_tests}
+use Rattle.std.proofs.lemmas.Bool.{and_parts, and_from, not-true, eqb-true, ne_eqb, eqb-false, or_parts, lt-ltb}
 use lib.Utf8.{scalar}
 use Rattle.yaml_emit_sink.specs.declared.Cursor.{Cursor}
 use Rattle.yaml_emit_text.specs.declared.page.Page.{Page}
@@ -123,59 +123,26 @@ bool_cases : {P : Type 0} (b : Bool) → (b ≡ true → P) → (b ≡ false →
 bool_cases true p q = p refl
 bool_cases false p q = q refl
 
-and_left : (a b : Bool) → (a && b) ≡ true → a ≡ true
-and_left true b e = refl
-and_left false b e = absurd (cc)
-
-and_right : (a b : Bool) → (a && b) ≡ true → b ≡ true
-and_right true b e = e
-and_right false b e = absurd (cc)
-
-both_true : (a b : Bool) → a ≡ true → b ≡ true → (a && b) ≡ true
-both_true true b p q = q
-both_true false b p q = absurd (cc)
-
-not_true : (a : Bool) → not a ≡ true → a ≡ false
-not_true false e = refl
-not_true true e = absurd (cc)
-
 -- what a fold needs
 record FoldNeeds (before x : ℕ) (cs : List ℕ) : Type 0 where
   space : x ≡ 32
   behind : before ≢ 32
   more : is_empty cs ≡ false
 
-equal_from : (c k : ℕ) → (c == k) ≡ true → c ≡ k
-equal_from c k e = grind (arith, nat_tests)
-
-apart_from : (c k : ℕ) → c ≢ k → (c == k) ≡ false
-apart_from c k n = grind (arith, nat_tests)
-
-differs_from : (c k : ℕ) → (c == k) ≡ false → c ≢ k
-differs_from c k e = grind (arith, nat_tests)
-
 fold_needs : (page : Page) (before x : ℕ) (cs : List ℕ) → may_fold page before x cs ≡ true → FoldNeeds before x cs
 fold_needs page before x cs e =
-    let a = and_right page.cuts (x == 32 && (not (before == 32) && not (is_empty cs))) e in
-    let b = and_right (x == 32) (not (before == 32) && not (is_empty cs)) a in
+    let a = (and_parts page.cuts (x == 32 && (not (before == 32) && not (is_empty cs))) e).1 in
+    let b = (and_parts (x == 32) (not (before == 32) && not (is_empty cs)) a).1 in
     record {
-      space = equal_from x 32 (and_left (x == 32) (not (before == 32) && not (is_empty cs)) a);
-      behind = differs_from before 32 (not_true (before == 32) (and_left (not (before == 32)) (not (is_empty cs)) b));
-      more = not_true (is_empty cs) (and_right (not (before == 32)) (not (is_empty cs)) b);
+      space = eqb-true x 32 (and_parts (x == 32) (not (before == 32) && not (is_empty cs)) a).0;
+      behind = eqb-false before 32 (not-true (before == 32) (and_parts (not (before == 32)) (not (is_empty cs)) b).0);
+      more = not-true (is_empty cs) (and_parts (not (before == 32)) (not (is_empty cs)) b).1;
     }
 
 space_needs_none : (unicode : Bool) → needs_escape unicode 32 ≡ false
 unfolding needs_escape
 space_needs_none true = refl
 space_needs_none false = refl
-
-or_left : (a b : Bool) → (a || b) ≡ false → a ≡ false
-or_left false b e = refl
-or_left true b e = absurd (cc)
-
-or_right : (a b : Bool) → (a || b) ≡ false → b ≡ false
-or_right false b e = e
-or_right true b e = absurd (cc)
 
 both_false : (a b : Bool) → a ≡ false → b ≡ false → (a || b) ≡ false
 both_false false b p q = q
@@ -195,7 +162,7 @@ raw_no_zero : (unicode : Bool) (c : ℕ) → needs_escape unicode c ≡ false �
 raw_no_zero unicode c e =
     bool_cases (c == 0)
     (λ t. let P : ℕ → Type 0 = λ k. needs_escape unicode k ≡ false in
-    let g : needs_escape unicode 0 ≡ false = subst P (equal_from c 0 t) e in
+    let g : needs_escape unicode 0 ≡ false = subst P (eqb-true c 0 t) e in
     let h = zero_needs unicode in absurd (cc (sym h ∙ g)))
     (λ f. f)
 
@@ -205,23 +172,20 @@ four_stand s a b d f o p q r t = rw (o, p, q, r, t) refl
 raw_stands : (unicode : Bool) (c : ℕ) → scalar c ≡ true → needs_escape unicode c ≡ false → may_stand (raw c) ≡ true
 unfolding needs_escape
 raw_stands unicode c s e =
-    let no_slash = or_right _ (c == 92) e in
-    let a = or_left _ (c == 92) e in
-    let no_quote = or_right _ (c == 34) a in
-    let b = or_left _ (c == 34) a in
-    let no_break = or_right _ (is_break c) b in
+    let no_slash = (or_parts _ (c == 92) e).1 in
+    let a = (or_parts _ (c == 92) e).0 in
+    let no_quote = (or_parts _ (c == 34) a).1 in
+    let b = (or_parts _ (c == 34) a).0 in
+    let no_break = (or_parts _ (is_break c) b).1 in
     four_stand (scalar c) (is_break c) (c == 34) (c == 92) (c == 0) s no_break no_quote no_slash (raw_no_zero unicode c e)
-
-indents : (n : ℕ) → 0 < n → nat_lt 0 n ≡ true
-indents n h = grind (arith, nat_tests)
 
 raw_no_tab : (unicode : Bool) (c : ℕ) → needs_escape unicode c ≡ false → c ≢ 32 → is_raw_blank (raw c) ≡ false
 raw_no_tab unicode c e n =
-    let no_space = apart_from c 32 n in
+    let no_space = ne_eqb c 32 n in
     let no_tab : (c == 9) ≡ false = bool_cases (c == 9)
     (λ t. let P : ℕ → Type 0 = λ k. needs_escape unicode k ≡ false in
     let Q : needs_escape unicode 9 ≡ true = tab_needs unicode in
-    let R : needs_escape unicode 9 ≡ false = subst P (equal_from c 9 t) e in absurd (cc (sym Q ∙ R)))
+    let R : needs_escape unicode 9 ≡ false = subst P (eqb-true c 9 t) e in absurd (cc (sym Q ∙ R)))
     (λ f. f) in
     both_false (c == 32) (c == 9) no_space no_tab
 
@@ -289,13 +253,13 @@ space_char : (page : Page) (before x : ℕ) (cs : List ℕ) (c : Cursor) → x �
 space_char page before x cs c e f rest =
     let P : ℕ → Type 0 = λ k. needs_escape page.unicode k ≡ false in
     bool_cases (may_fold page before x cs)
-    (λ m. bool_cases (is_past page.width c) (λ p. let g = both_true (may_fold page before x cs) (is_past page.width c) m p in absurd (cc (sym g ∙ f))) (λ p. char_not_past page before x cs c rest m p))
+    (λ m. bool_cases (is_past page.width c) (λ p. let g = and_from (may_fold page before x cs) (is_past page.width c) m p in absurd (cc (sym g ∙ f))) (λ p. char_not_past page before x cs c rest m p))
     (λ m. char_plain page before x cs c rest m (subst P (sym e) (space_needs_none page.unicode)))
 
 no_fold : (page : Page) (before x : ℕ) (cs : List ℕ) → (x == 32) ≡ false → may_fold page before x cs ≡ false
 no_fold page before x cs e =
     bool_cases (may_fold page before x cs)
-    (λ t. let needs = fold_needs page before x cs t in absurd (differs_from x 32 e needs.space))
+    (λ t. let needs = fold_needs page before x cs t in absurd (eqb-false x 32 e needs.space))
     (λ f. f)
 
 left : (page : Page) (before : ℕ) (c : Cursor) (slash : Bool) (last : SpelledPart) (value : List ℕ) → all_scalars value ≡ true → 0 < page.indentation → Behind before slash last value → Left page before c slash last value
@@ -304,24 +268,24 @@ left page before c slash last [] good deep h =
     let unfolded : is_fold last ≡ false = bool_cases (is_fold last) (λ t. let k = (h.folded t).1 in absurd (cc k)) (λ f. f) in
     record { parts = []; behind = c; right = unfolded; text = λ rest. slashed_by slash (rest c) (h.unfolded unfolded); means = refl }
 left page before c slash last (x ∷ cs) good deep h =
-    let one : scalar x ≡ true = and_left (scalar x) (all_scalars cs) good in
-    let more : all_scalars cs ≡ true = and_right (scalar x) (all_scalars cs) good in
+    let one : scalar x ≡ true = (and_parts (scalar x) (all_scalars cs) good).0 in
+    let more : all_scalars cs ≡ true = (and_parts (scalar x) (all_scalars cs) good).1 in
     bool_cases (may_fold page before x cs && is_past page.width c)
     (λ f.
-    let m = and_left (may_fold page before x cs) (is_past page.width c) f in
-    let p = and_right (may_fold page before x cs) (is_past page.width c) f in
+    let m = (and_parts (may_fold page before x cs) (is_past page.width c) f).0 in
+    let p = (and_parts (may_fold page before x cs) (is_past page.width c) f).1 in
     let needs = fold_needs page before x cs m in
     let unfolded : is_fold last ≡ false = bool_cases (is_fold last) (λ t. absurd (needs.behind (sym h.same ∙ fold_means last t))) (λ u. u) in
     let unblank : is_raw_blank last ≡ false = bool_cases (is_raw_blank last) (λ t. absurd (needs.behind (h.blank t))) (λ u. u) in
     part_more page before x c (after_fold page cs c) cs slash (first cs == 32) last (fold page.line_break page.indentation)
-    (follow_fold last page.line_break page.indentation unblank unfolded) (indents page.indentation deep) (sym needs.space)
+    (follow_fold last page.line_break page.indentation unblank unfolded) (lt-ltb 0 page.indentation deep) (sym needs.space)
     (step_fold page before x c cs slash (h.unfolded unfolded) m p)
     (left page x (after_fold page cs c) (first cs == 32) (fold page.line_break page.indentation) cs more deep
     (record { same = sym needs.space; folded = λ t. (refl, needs.more); unfolded = λ t. absurd (cc); blank = λ t. needs.space })))
     (λ f.
     bool_cases (x == 32)
     (λ sp.
-    let space = equal_from x 32 sp in
+    let space = eqb-true x 32 sp in
     let P : ℕ → Type 0 = λ k. needs_escape page.unicode k ≡ false in
     bool_cases (is_fold last)
     (λ t.
@@ -333,7 +297,7 @@ left page before c slash last (x ∷ cs) good deep h =
     (step_char page before x c cs slash (h.unfolded u) (space_char page before x cs c space f))
     (left page x (moved_by c) false (raw x) cs more deep (record { same = refl; folded = λ e. absurd (cc); unfolded = λ e. refl; blank = λ e. space }))))
     (λ ns.
-    let apart = differs_from x 32 ns in
+    let apart = eqb-false x 32 ns in
     let m = no_fold page before x cs ns in
     let unslashed : slash ≡ false = bool_cases (is_fold last) (λ t. (h.folded t).0 ∙ ns) (λ u. h.unfolded u) in
     bool_cases (needs_escape page.unicode x)

@@ -1,6 +1,7 @@
 -- The machine gives the items of a tree, and goes on behind it.
-use Rattle.std.proofs.Common.{◌≡◌, ℕ, Bool, true, false, if◌then◌else◌, ◌||◌, List, [], ◌∷◌, ◌++◌, length, Option, Some, None, refl, ap, subst, ◌∙◌}
+use Rattle.std.proofs.Common.{◌≡◌, ℕ, Bool, true, false, if◌then◌else◌, List, [], ◌∷◌, ◌++◌, length, Option, Some, None, refl, ap, subst, ◌∙◌}
 use Rattle.std.proofs.lemmas.List.{append_assoc}
+use Rattle.std.proofs.Math.Bool.{or-true}
 use Rattle.yaml_parse_model.specs.declared.yaml_mark_t.{yaml_mark_t}
 use Rattle.yaml_parse_model.specs.declared.yaml_token_type_t.{yaml_token_type_t}
 use Rattle.yaml_parse_model.specs.declared.yaml_token_type_t.TheVariants as kind
@@ -248,18 +249,14 @@ optional_wanted : (place : Site) (w : Wants) → wants_of place ≡ w → (befor
 optional_wanted place w e before ts s f =
     subst (λ (v : Wants). Starts v ts → run ts (state.optional place before ∷ s) f ≡ run_node v ts s f) e (optional_node place before ts s f)
 
-or_true : (x : Bool) → (x || true) ≡ true
-or_true true = refl
-or_true false = refl
-
 items_takes : (b : Brackets) (opener : yaml_mark_t) (k : yaml_token_type_t) → starts_node Flow k ≡ true → choice_at (state.items b opener) k ≡ Take
 items_takes b opener kind.YAML_KEY_TOKEN h = refl
-items_takes b opener kind.YAML_ALIAS_TOKEN h = ap (λ (x : Bool). if x then Take else Refuse problem.NoFlowNode None) (or_true (closes b kind.YAML_ALIAS_TOKEN))
-items_takes b opener kind.YAML_ANCHOR_TOKEN h = ap (λ (x : Bool). if x then Take else Refuse problem.NoFlowNode None) (or_true (closes b kind.YAML_ANCHOR_TOKEN))
-items_takes b opener kind.YAML_TAG_TOKEN h = ap (λ (x : Bool). if x then Take else Refuse problem.NoFlowNode None) (or_true (closes b kind.YAML_TAG_TOKEN))
-items_takes b opener kind.YAML_SCALAR_TOKEN h = ap (λ (x : Bool). if x then Take else Refuse problem.NoFlowNode None) (or_true (closes b kind.YAML_SCALAR_TOKEN))
-items_takes b opener kind.YAML_FLOW_SEQUENCE_START_TOKEN h = ap (λ (x : Bool). if x then Take else Refuse problem.NoFlowNode None) (or_true (closes b kind.YAML_FLOW_SEQUENCE_START_TOKEN))
-items_takes b opener kind.YAML_FLOW_MAPPING_START_TOKEN h = ap (λ (x : Bool). if x then Take else Refuse problem.NoFlowNode None) (or_true (closes b kind.YAML_FLOW_MAPPING_START_TOKEN))
+items_takes b opener kind.YAML_ALIAS_TOKEN h = ap (λ (x : Bool). if x then Take else Refuse problem.NoFlowNode None) (or-true (closes b kind.YAML_ALIAS_TOKEN))
+items_takes b opener kind.YAML_ANCHOR_TOKEN h = ap (λ (x : Bool). if x then Take else Refuse problem.NoFlowNode None) (or-true (closes b kind.YAML_ANCHOR_TOKEN))
+items_takes b opener kind.YAML_TAG_TOKEN h = ap (λ (x : Bool). if x then Take else Refuse problem.NoFlowNode None) (or-true (closes b kind.YAML_TAG_TOKEN))
+items_takes b opener kind.YAML_SCALAR_TOKEN h = ap (λ (x : Bool). if x then Take else Refuse problem.NoFlowNode None) (or-true (closes b kind.YAML_SCALAR_TOKEN))
+items_takes b opener kind.YAML_FLOW_SEQUENCE_START_TOKEN h = ap (λ (x : Bool). if x then Take else Refuse problem.NoFlowNode None) (or-true (closes b kind.YAML_FLOW_SEQUENCE_START_TOKEN))
+items_takes b opener kind.YAML_FLOW_MAPPING_START_TOKEN h = ap (λ (x : Bool). if x then Take else Refuse problem.NoFlowNode None) (or-true (closes b kind.YAML_FLOW_MAPPING_START_TOKEN))
 items_takes b opener _ h = cc
 
 items_node_taken : (b : Brackets) (opener start end : yaml_mark_t) (body : TokenBody) → starts_node Flow (type_of body) ≡ true

@@ -1,5 +1,6 @@
 -- The machine gives the events of a list, and a list has no others.
 use Rattle.std.proofs.Common.{◌≡◌, ◌⊎◌, inl, inr, ◌+◌, ◌-◌, ◌≤◌, ℕ, suc, Bool, true, false, ◌||◌, List, [], ◌∷◌, ◌++◌, length, Option, Some, None, refl, ap, sym, subst, ◌∙◌, arith, append_assoc, append-nil, le_refl}
+use Rattle.std.proofs.lemmas.Bool.{true≢false, false≢true, or_cases}
 use Rattle.yaml_parse_laws_trees.specs.parse_grammar.parse_model.declared.yaml_mark_t.{yaml_mark_t}
 use Rattle.yaml_parse_laws_trees.specs.parse_grammar.parse_model.Tokens.{Token, no_token, zero_mark}
 use Rattle.yaml_parse_laws_trees.specs.parse_grammar.parse_model.Faults.{Fault}
@@ -80,17 +81,11 @@ own_items : (x : State) (s : List State) (f : Fault) → (run [] (x ∷ s) (Some
 unfolding run
 own_items x s f = refl
 
-true_false : true ≡ false → ⊥
-true_false h = cc
-
-false_true : false ≡ true → ⊥
-false_true h = cc
-
 refused_end : (x : State) (s : List State) (fed : Fed) → feed (x ∷ s) no_token ≡ fed → Stops fed → Refused (x ∷ s) [] None
 refused_end x s (stop is e) p h = record {
   items = is;
   given = ap (λ (o : Outcome). o.items) (runs_out (x ∷ s) (stop is e) p);
-  silent = λ q. absurd (false_true q);
+  silent = λ q. absurd (false≢true q);
   stopped = λ q. record { token = no_token; fault = e; start = refl; same = p };
 }
 refused_end x s (go is s') p h = absurd h
@@ -99,7 +94,7 @@ refused_token : (s : List State) (t : Token) (ts : List Token) (own : Option Fau
 refused_token s t ts own (stop is e) p h = record {
   items = is;
   given = ap (λ (o : Outcome). o.items) (runs_fed s t ts own (stop is e) p) ∙ ap (λ (k : ℕ). numbered k is) counted;
-  silent = λ q. absurd (false_true q);
+  silent = λ q. absurd (false≢true q);
   stopped = λ q. record { token = t; fault = e; start = refl; same = p };
 }
   where
@@ -115,7 +110,7 @@ goes_further front w t is s' p =
     record { tree = h.tree; more = us; same = append_assoc front (t ∷ []) us ∙ h.same ∙ ap (spell h.tree) h.goes }
 
 refused : (front behind : List Token) (own : Option Fault) (w : Here front) → IsLongest front behind → Refused (w.top ∷ w.below) behind own
-refused front [] (Some f) w h = record { items = []; given = own_items w.top w.below f; silent = λ q. refl; stopped = λ q. absurd (true_false q) }
+refused front [] (Some f) w h = record { items = []; given = own_items w.top w.below f; silent = λ q. refl; stopped = λ q. absurd (true≢false q) }
 refused front [] None w h = refused_end w.top w.below (feed (w.top ∷ w.below) no_token) refl (stops_at_none (w.top ∷ w.below) (stack_solid w.top w.below w.knows.stack))
 refused front (t ∷ ts) own w h = refused_token (w.top ∷ w.below) t ts own (feed (w.top ∷ w.below) t) refl (λ js s' p. h (goes_further front w t js s' p))
 
@@ -161,10 +156,6 @@ front_given ts l w =
 
 -- ---- where nothing is given behind the front
 
-either_true : (a b : Bool) → (a || b) ≡ true → (a ≡ true) ⊎ (b ≡ true)
-either_true true b h = inl refl
-either_true false b h = inr h
-
 none_stopped : (s : List State) (t : Token) (is : List RawEvent) (e : Fault) → feed s t ≡ stop is e → GivesNone (feed s t) → is ≡ []
 none_stopped s t is e p h = subst GivesNone p h
 
@@ -185,7 +176,7 @@ gives_front : (ts : List Token) (own : Option Fault) (l : LongestFront ts) (w : 
 gives_front ts own l w r q =
     run_events ts own (first_items (length l.more) (length l.more) (length l.behind) (given_of l.tree 0))
     (run_items ts own l w r
-    ∙ ap (λ (z : List RawEvent). raised (length l.behind) w.items ++ numbered (length l.behind - 1) z) (nothing_given l.front l.behind own w r (either_true (last_leaves_open true l.front) (has_fault l.behind own) q))
+    ∙ ap (λ (z : List RawEvent). raised (length l.behind) w.items ++ numbered (length l.behind - 1) z) (nothing_given l.front l.behind own w r (or_cases (last_leaves_open true l.front) (has_fault l.behind own) q))
     ∙ append-nil (raised (length l.behind) w.items)
     ∙ sym (front_given ts l w)
     ∙ ap (first_items (length l.more) (length l.more) (length l.behind)) (items_given l.tree []))
@@ -244,7 +235,7 @@ end_items front u us t b w d is i p l k q =
     ∙ sym (append_assoc (raised b w.items) (numbered (b - 1) is) ((i, b - 1) ∷ []))
 
 either_false : (a b : Bool) → (a || b) ≡ false → (a ≡ false) × (b ≡ false)
-either_false true b h = absurd (true_false h)
+either_false true b h = absurd (true≢false h)
 either_false false b h = (refl, h)
 
 one_more : (s : List State) (t u : Token) (is js : List RawEvent) (e : Fault) (s' : List State) → feed s t ≡ stop is e → feed s u ≡ go js s' → Alike (feed s t) (feed s u) → OneMore is js

@@ -1,5 +1,6 @@
 -- What a state still waits for: the tokens of part of a tree, and what follows them.
 use Rattle.std.proofs.Common.{◌≡◌, ℕ, Bool, true, false, if◌then◌else◌, ◌||◌, List, [], ◌∷◌, ◌++◌, Option, Some, None, refl, sym, ap, subst, ◌∙◌}
+use Rattle.std.proofs.lemmas.Bool.{false≢true}
 use Rattle.yaml_parse_laws_trees.specs.parse_grammar.parse_model.declared.yaml_mark_t.{yaml_mark_t}
 use Rattle.yaml_parse_laws_trees.specs.parse_grammar.parse_model.declared.yaml_token_type_t.{yaml_token_type_t}
 use Rattle.yaml_parse_laws_trees.specs.parse_grammar.parse_model.declared.yaml_token_type_t.TheVariants as kind
@@ -82,9 +83,6 @@ over_both [] ys P = refl
 over_both (x ∷ xs) ys P = ap (Left x) (over_both xs ys P)
 
 -- ---- what can't be: each arm for a token of another kind is answered by computing
-
-pub never : false ≡ true → ⊥
-never e = cc
 
 abbrev pub IsTake : Choice → Type 0
 IsTake Take = Unit {0}
@@ -172,11 +170,11 @@ content_left (Block (Some side)) p start end token.block_entry c P ts h = record
   same = ap (λ us. token_at token.block_entry (span start end) ∷ us) (h.same ∙ ap (spell_maybe h.tree) h.goes.same);
   goes = h.goes.goes;
 }
-content_left Flow p start end token.block_sequence_start c P ts h = absurd (never c)
-content_left Flow p start end token.block_mapping_start c P ts h = absurd (never c)
-content_left Flow p start end token.block_entry c P ts h = absurd (never c)
-content_left (Block None) p start end token.block_entry c P ts h = absurd (never c)
-content_left w p start end _ c P ts h = absurd (never c)
+content_left Flow p start end token.block_sequence_start c P ts h = absurd (false≢true c)
+content_left Flow p start end token.block_mapping_start c P ts h = absurd (false≢true c)
+content_left Flow p start end token.block_entry c P ts h = absurd (false≢true c)
+content_left (Block None) p start end token.block_entry c P ts h = absurd (false≢true c)
+content_left w p start end _ c P ts h = absurd (false≢true c)
 
 bare_left : (w : Wants) (P : List Token → Type 0) (ts : List Token) → Spelled (Content w) spell_content P ts → Spelled (Node w) spell_node P ts
 bare_left w P ts h = record { tree = tree.bare h.tree; rest = h.rest; same = h.same; goes = h.goes }
@@ -204,11 +202,11 @@ with_properties_left : (w : Wants) (anchor : Option (List ℕ)) (tag : Option Ta
     → WithPropertiesLeft w anchor tag P (token_at b (span start end) ∷ ts)
 with_properties_left w None None from to start end (token.anchor name) c P ts h = tt
 with_properties_left w None (Some t) from to start end (token.anchor name) c P ts h = λ x. h (tree.tag_anchor x (record { name = name; span = span start end }))
-with_properties_left w (Some a) tag from to start end (token.anchor name) c P ts h = absurd (never c)
+with_properties_left w (Some a) tag from to start end (token.anchor name) c P ts h = absurd (false≢true c)
 with_properties_left w None None from to start end (token.tag handle suffix) c P ts h = tt
 with_properties_left w (Some a) None from to start end (token.tag handle suffix) c P ts h =
     λ x. h (tree.anchor_tag x (record { handle = handle; suffix = suffix; span = span start end }))
-with_properties_left w anchor (Some t) from to start end (token.tag handle suffix) c P ts h = absurd (never c)
+with_properties_left w anchor (Some t) from to start end (token.tag handle suffix) c P ts h = absurd (false≢true c)
 with_properties_left w anchor tag from to start end b c P ts h =
     content_with_properties w anchor tag P _ (content_left w (Some (record { anchor = anchor; tag = tag; from = from; to = to })) start end b c P ts h)
 
@@ -267,7 +265,7 @@ parting_left start end token.stream_end c P ts h = record { tree = tree.end_stre
 parting_left start end (token.version_directive major minor) c P ts h = opened_document P _ (opening_left start start end (token.version_directive major minor) refl P ts h)
 parting_left start end (token.tag_directive name prefix) c P ts h = opened_document P _ (opening_left start start end (token.tag_directive name prefix) refl P ts h)
 parting_left start end token.document_start c P ts h = opened_document P _ (opening_left start start end token.document_start refl P ts h)
-parting_left start end _ c P ts h = absurd (never c)
+parting_left start end _ c P ts h = absurd (false≢true c)
 
 documents_left : (start end : yaml_mark_t) (b : TokenBody) → choice_at state.documents (type_of b) ≡ Take
     → (P : List Token → Type 0) (ts : List Token) → Over (documents_taken start start end b).above P ts → Left state.documents P (token_at b (span start end) ∷ ts)

@@ -3,6 +3,7 @@ use Rattle.std.proofs.Common.{◌≡◌, ℕ, ℤ, Bool, true, false, if◌then�
 use Rattle.std.specs.FinMap as map
 use Rattle.std.specs.Ordering.{nat_cmp}
 use Rattle.std.specs.Cmp.Lexicographic.{slice_cmp}
+use Rattle.std.proofs.lemmas.Bool.{false≢true}
 use Rattle.yaml_parse_laws_trees.specs.parse_grammar.parse_model.declared.yaml_mark_t.{yaml_mark_t}
 use Rattle.yaml_parse_laws_trees.specs.parse_grammar.parse_model.declared.yaml_version_directive_t.{yaml_version_directive_t}
 use Rattle.yaml_parse_laws_trees.specs.parse_grammar.parse_model.declared.yaml_sequence_style_t.TheVariants.{YAML_BLOCK_SEQUENCE_STYLE}
@@ -43,9 +44,6 @@ tok b start end = record { body = b; start_mark = start; end_mark = end }
 
 -- ---- what can't be
 
-never : false ≡ true → ⊥
-never e = cc
-
 abbrev IsTake : Choice → Type 0
 IsTake Take = Unit {0}
 IsTake _ = ⊥
@@ -79,9 +77,9 @@ content_loads w p start end token.block_mapping_start s past ds l c pl o =
     content_given past (tok token.block_mapping_start start end) ds l p (item.mapping YAML_BLOCK_MAPPING_STYLE) (state.pairs start ∷ []) s refl o (λ m n r. (n, r))
 content_loads (Block (Some side)) p start end token.block_entry s past ds l c pl o =
     content_given past (tok token.block_entry start end) ds l p (item.sequence YAML_BLOCK_SEQUENCE_STYLE) (state.optional (IndentlessEntry side) end ∷ state.others side ∷ []) s refl o (λ m n r. (n, held m r))
-content_loads (Block None) p start end token.block_entry s past ds l c pl o = absurd (never c)
-content_loads Flow p start end token.block_entry s past ds l c pl o = absurd (never c)
-content_loads w p start end _ s past ds l c pl o = absurd (never c)
+content_loads (Block None) p start end token.block_entry s past ds l c pl o = absurd (false≢true c)
+content_loads Flow p start end token.block_entry s past ds l c pl o = absurd (false≢true c)
+content_loads w p start end _ s past ds l c pl o = absurd (false≢true c)
 
 -- an alias names a node, or none
 alias_at : (name : List ℕ) (start end : yaml_mark_t) (s : List State) (past : List Token) (ds : Directives) (l : Loading) (o : Option ℤ) (b : Bool) → map.get l.anchors name ≡ o → is_some o ≡ b → has_anchor name past ≡ b
@@ -90,13 +88,13 @@ alias_at : (name : List ℕ) (start end : yaml_mark_t) (s : List State) (past : 
 alias_at name start end s past ds l None b e f g pl n r = rw (e, g) (none b f)
   where
     none : (b : Bool) → false ≡ b → AtAlias (undefined b start) ds (then_fed (aliased None start l) (λ m. onward ds m)) s (tok (token.alias name) start end ∷ past)
-    none true f = absurd (never f)
+    none true f = absurd (false≢true f)
     none false f = refl
 alias_at name start end s past ds l (Some k) b e f g pl n r = rw (e, g) (some b f)
   where
     some : (b : Bool) → true ≡ b → AtAlias (undefined b start) ds (then_fed (aliased (Some k) start l) (λ m. onward ds m)) s (tok (token.alias name) start end ∷ past)
     some true f = (_, refl, fits_below s (tok (token.alias name) start end ∷ past) _ pl n (r refl))
-    some false f = absurd (never (sym f))
+    some false f = absurd (false≢true (sym f))
 
 pub node_loads : (w : Wants) (start end : yaml_mark_t) (b : TokenBody) (s : List State) (past : List Token) (ds : Directives) (l : Loading) → starts_node w (type_of b) ≡ true → Plain s → Names past l → Held l
     → FedLoads past (tok b start end) ds l (given_by (node_taken w start end b) s)
@@ -153,7 +151,7 @@ nothing_known : (name : List ℕ) → known name nothing_loaded ≡ false
 nothing_known name = ap (λ (o : Option ℤ). is_some o) (map.get-empty (slice_cmp nat_cmp) name)
 
 none_held : (b : Bool) (A : Type 0) → b ≡ false → b ≡ true → A
-none_held true A e h = absurd (never (sym e))
+none_held true A e h = absurd (false≢true (sym e))
 none_held false A e h = cc
 
 -- a document that starts

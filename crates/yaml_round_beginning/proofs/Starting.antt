@@ -1,5 +1,6 @@
 -- Before the first event it is the input that begins with nothing.
-use Rattle.std.proofs.Common.{◌≡◌, ◌&&◌, not, Bool, true, false, List, [], ◌∷◌, refl}
+use Rattle.std.proofs.Common.{◌≡◌, ◌&&◌, not, List, [], ◌∷◌, refl}
+use Rattle.std.proofs.Math.Bool.{and-false}
 use Rattle.yaml_emit_layout.specs.scan_model.declared.yaml_encoding_t.{yaml_encoding_t}
 use Rattle.yaml_emit_layout.specs.Content.{Event, Opening, no_event, stream_start, stream_end, document_start, document_end, alias, scalar, sequence_start, sequence_end, mapping_start, mapping_end}
 use Rattle.yaml_emit_layout.specs.Nodes.{is_directed}
@@ -7,23 +8,19 @@ use Rattle.yaml_round_laws_pretty.specs.Flags.{begins_with_nothing}
 use Rattle.yaml_round_beginning.specs.declared.beginning.Beginning.TheVariants as known
 use Rattle.yaml_round_beginning.specs.Beginning.{nothing_comes}
 
-none_next : (b : Bool) → (b && false) ≡ false
-none_next true = refl
-none_next false = refl
-
 behind_opening : (x : yaml_encoding_t) (o : Opening) (es : List Event) → nothing_comes known.Start (stream_start x ∷ document_start o ∷ es) ≡ begins_with_nothing (stream_start x ∷ document_start o ∷ es)
-behind_opening x o [] = none_next (o.implicit && not (is_directed o))
+behind_opening x o [] = and-false (o.implicit && not (is_directed o))
 behind_opening x o (scalar v ∷ es) = refl
-behind_opening x o (no_event ∷ es) = none_next (o.implicit && not (is_directed o))
-behind_opening x o (stream_start y ∷ es) = none_next (o.implicit && not (is_directed o))
-behind_opening x o (stream_end ∷ es) = none_next (o.implicit && not (is_directed o))
-behind_opening x o (document_start d ∷ es) = none_next (o.implicit && not (is_directed o))
-behind_opening x o (document_end b ∷ es) = none_next (o.implicit && not (is_directed o))
-behind_opening x o (alias name ∷ es) = none_next (o.implicit && not (is_directed o))
-behind_opening x o (sequence_start q ∷ es) = none_next (o.implicit && not (is_directed o))
-behind_opening x o (sequence_end ∷ es) = none_next (o.implicit && not (is_directed o))
-behind_opening x o (mapping_start q ∷ es) = none_next (o.implicit && not (is_directed o))
-behind_opening x o (mapping_end ∷ es) = none_next (o.implicit && not (is_directed o))
+behind_opening x o (no_event ∷ es) = and-false (o.implicit && not (is_directed o))
+behind_opening x o (stream_start y ∷ es) = and-false (o.implicit && not (is_directed o))
+behind_opening x o (stream_end ∷ es) = and-false (o.implicit && not (is_directed o))
+behind_opening x o (document_start d ∷ es) = and-false (o.implicit && not (is_directed o))
+behind_opening x o (document_end b ∷ es) = and-false (o.implicit && not (is_directed o))
+behind_opening x o (alias name ∷ es) = and-false (o.implicit && not (is_directed o))
+behind_opening x o (sequence_start q ∷ es) = and-false (o.implicit && not (is_directed o))
+behind_opening x o (sequence_end ∷ es) = and-false (o.implicit && not (is_directed o))
+behind_opening x o (mapping_start q ∷ es) = and-false (o.implicit && not (is_directed o))
+behind_opening x o (mapping_end ∷ es) = and-false (o.implicit && not (is_directed o))
 
 behind_start : (x : yaml_encoding_t) (es : List Event) → nothing_comes known.Start (stream_start x ∷ es) ≡ begins_with_nothing (stream_start x ∷ es)
 behind_start x [] = refl

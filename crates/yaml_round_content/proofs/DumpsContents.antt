@@ -2,6 +2,7 @@
 use Rattle.std.proofs.Common.{◌≡◌, ◌↔◌, ℕ, Bool, true, false, ◌==◌, ◌&&◌, cond, List, [], ◌∷◌, length, Option, Some, None, refl, sym, ap, ◌∙◌, arith}
 use Rattle.std.specs.Prelude.{slice_index}
 use Rattle.std.proofs.lemmas.Bool.Decides.{nat_tests}
+use Rattle.std.proofs.lemmas.Bool.{and_parts}
 use Rattle.yaml_round_content.specs.scan_model.declared.yaml_scalar_style_t.{yaml_scalar_style_t}
 use Rattle.yaml_round_content.specs.scan_model.Faults.{Fault}
 use Rattle.yaml_round_content.specs.parse_model.Events.{EventBody}
@@ -20,11 +21,6 @@ use Rattle.yaml_round_content.proofs.Core.{CoreLoading, CoreFed, core_goes_on, C
 
 -- ---- the lone tag `!` loads as no tag
 
-both_of : (a b : Bool) → (a && b) ≡ true → (a ≡ true) × (b ≡ true)
-both_of true true e = (refl, refl)
-both_of true false e = absurd (cc)
-both_of false b e = absurd (cc)
-
 one_is_one : (c d : ℕ) (more : List ℕ) → (length (c ∷ d ∷ more) == 1) ≡ true → ⊥
 one_is_one c d more e = grind (arith, nat_tests)
 
@@ -36,8 +32,8 @@ bang_of (c ∷ d ∷ more) e f = absurd (one_is_one c d more e)
 lone_tag : (tag : Option (List ℕ)) (value default : List ℕ) → is_lone_mark tag value ≡ true → loaded_tag tag default ≡ default
 lone_tag None value default e = absurd (cc)
 lone_tag (Some t) value default e =
-    let (front, last) = both_of (length value == 0 && length t == 1) (slice_index t 0 == 33) e in
-    let (none, one) = both_of (length value == 0) (length t == 1) front in
+    let (front, last) = and_parts (length value == 0 && length t == 1) (slice_index t 0 == 33) e in
+    let (none, one) = and_parts (length value == 0) (length t == 1) front in
     ap (λ (b : Bool). cond b default t) (bang_of t one last)
 
 -- ---- an event and what it says

@@ -3,6 +3,7 @@ use Rattle.std.proofs.Common.{◌≡◌, ◌==◌, ℕ, suc, Bool, true, false, 
 use Rattle.std.proofs.lemmas.Bool.{cases_Bool}
 use Rattle.std.proofs.lemmas.Bool.Decides.{nat_tests}
 use Rattle.std.specs.Prelude.{slice_index}
+use Rattle.std.proofs.Math.Bool.{and-false}
 use Rattle.yaml_round_content.specs.scan_model.declared.yaml_scalar_style_t.TheVariants.{YAML_ANY_SCALAR_STYLE}
 use Rattle.yaml_round_content.specs.scan_model.declared.yaml_sequence_style_t.TheVariants.{YAML_ANY_SEQUENCE_STYLE}
 use Rattle.yaml_round_content.specs.scan_model.declared.yaml_mapping_style_t.TheVariants.{YAML_ANY_MAPPING_STYLE}
@@ -22,10 +23,6 @@ use Rattle.yaml_round_content.specs.DumpsLaws.{ContentIsSaid}
 
 -- ---- a tag that isn't `!`
 
-never : (b : Bool) → (b && false) ≡ false
-never true = refl
-never false = refl
-
 longer : (n : ℕ) → (suc (suc n) == 1) ≡ false
 longer n = grind (arith, nat_tests)
 
@@ -33,14 +30,14 @@ is_it : (c : ℕ) → (c == 33) ≡ true → c ≡ 33
 is_it c h = grind (arith, nat_tests)
 
 other_mark : (t value : List ℕ) → (t ≡ codes "!" → ⊥) → is_lone_mark (Some t) value ≡ false
-other_mark [] value h = let none : List ℕ = [] in ap (λ (b : Bool). b && slice_index none 0 == 33) (never (length value == 0))
+other_mark [] value h = let none : List ℕ = [] in ap (λ (b : Bool). b && slice_index none 0 == 33) (and-false (length value == 0))
 other_mark (c ∷ []) value h =
     elim (cases_Bool (c == 33)) [
       | inl e ↦ absurd (h (ap (λ (x : ℕ). x ∷ []) (is_it c e)))
-      | inr e ↦ ap (λ (b : Bool). (length value == 0 && true) && b) e ∙ never (length value == 0 && true)
+      | inr e ↦ ap (λ (b : Bool). (length value == 0 && true) && b) e ∙ and-false (length value == 0 && true)
     ]
 other_mark (c ∷ d ∷ more) value h =
-    ap (λ (b : Bool). (length value == 0 && b) && c == 33) (longer (length more)) ∙ ap (λ (b : Bool). b && c == 33) (never (length value == 0))
+    ap (λ (b : Bool). (length value == 0 && b) && c == 33) (longer (length more)) ∙ ap (λ (b : Bool). b && c == 33) (and-false (length value == 0))
 
 -- ---- nodes
 

@@ -1,9 +1,9 @@
 -- What an input's event says may be written.
-use Rattle.std.proofs.Common.{◌≡◌, ℕ, ◌<◌, Bool, true, false, ◌==◌, if◌then◌else◌, List, [], ◌∷◌, length, Option, Some, None, IsUtf8, refl, codes, arith}
+use Rattle.std.proofs.Common.{◌≡◌, ℕ, ◌<◌, Bool, true, false, ◌==◌, if◌then◌else◌, List, [], ◌∷◌, length, Option, Some, None, IsUtf8, refl, codes, arith, sym, ◌∙◌}
 use Rattle.std.proofs.lemmas.Bool.Decides.{nat_tests}
 use Rattle.std.proofs.lemmas.Slice.Eq.{bytes_eq-Decides}
 use Rattle.std.specs.List.{list_all}
-use Rattle.std.specs.Str.{bytes_eq}
+use Rattle.std.proofs.lemmas.Bool.{true≢false}
 use Rattle.yaml_round_content.specs.scan_model.declared.yaml_scalar_style_t.{yaml_scalar_style_t}
 use Rattle.yaml_round_content.specs.scan_model.Classes.{is_alpha_byte}
 use Rattle.yaml_round_content.specs.parse_model.Constructors.{HasUtf8, IsUtf8Option, AreUtf8}
@@ -75,11 +75,8 @@ tag_writable : (tag : Option (List ℕ)) → tag_problem tag ≡ None → IsUtf8
 tag_writable None e u = tt
 tag_writable (Some t) e u = (some_tag t e, u)
 
-not_both : (b : Bool) → b ≡ true → b ≡ false → ⊥
-not_both b e f = cc
-
 other_tag : (t : List ℕ) → IsNoMark t → t ≡ codes "!" → ⊥
-other_tag t h e = not_both (bytes_eq t (codes "!")) ((bytes_eq-Decides t (codes "!")).1 e) h
+other_tag t h e = true≢false (sym ((bytes_eq-Decides t (codes "!")).1 e) ∙ h)
 
 scalar_tag_writable : (tag : Option (List ℕ)) (value : List ℕ) (plain quoted : Bool) → tag_problem tag ≡ None → IsUtf8Option tag → is_lone_mark tag value ≡ false → IsScalarRight tag value plain quoted
     → IsScalarTag tag

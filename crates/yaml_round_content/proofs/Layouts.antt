@@ -1,5 +1,6 @@
 -- The canonical layout of a stream is that of its content.
-use Rattle.std.proofs.Common.{◌≡◌, ◌||◌, ℕ, Bool, true, false, not, List, [], ◌∷◌, Option, Some, None, refl, sym, ap, subst, ◌∙◌}
+use Rattle.std.proofs.Common.{◌≡◌, ℕ, Bool, true, false, not, List, [], ◌∷◌, Option, Some, None, refl, sym, ap, subst, ◌∙◌}
+use Rattle.std.proofs.Math.Bool.{or-true}
 use Rattle.yaml_round_content.specs.scan_model.declared.yaml_encoding_t.{yaml_encoding_t}
 use Rattle.yaml_round_content.specs.scan_model.declared.yaml_encoding_t.TheVariants.{YAML_ANY_ENCODING, YAML_UTF8_ENCODING, YAML_UTF16LE_ENCODING, YAML_UTF16BE_ENCODING}
 use Rattle.yaml_round_content.specs.scan_model.declared.yaml_scalar_style_t.{yaml_scalar_style_t}
@@ -113,10 +114,6 @@ abbrev AreImplicit : List emit.Event → Type 0
 AreImplicit [] = Unit {0}
 AreImplicit (e ∷ es) = IsImplicit e × AreImplicit es
 
-or_true : (b : Bool) → (b || true) ≡ true
-or_true true = refl
-or_true false = refl
-
 normalized_implicit : (lone : Bool) (anchor tag : Option (List ℕ)) (value : List ℕ) (plain quoted : Bool) (style : yaml_scalar_style_t) → IsImplicit (emit.emitter_event (normalize_scalar lone anchor tag value plain quoted style))
 normalized_implicit true anchor tag value plain quoted style = tt
 normalized_implicit false anchor tag value plain quoted style = tt
@@ -126,7 +123,7 @@ body_implicit event.no = tt
 body_implicit (event.stream_start encoding) = tt
 body_implicit event.stream_end = tt
 body_implicit (event.document_start version directives implicit) = tt
-body_implicit (event.document_end implicit) = or_true implicit
+body_implicit (event.document_end implicit) = or-true implicit
 body_implicit (event.alias name) = tt
 body_implicit (event.scalar anchor tag value plain quoted style) = normalized_implicit (is_lone_mark tag value) anchor tag value plain quoted style
 body_implicit (event.sequence_start anchor tag implicit style) = tt

@@ -1,7 +1,7 @@
 -- The flags of a scalar that an item settles to, and its tag: it is `!` only where the scalar is empty.
-use Rattle.std.proofs.Common.{◌≡◌, ℕ, ℤ, Bool, true, false, not, if◌then◌else◌, List, [], ◌∷◌, Option, Some, None, codes, refl, inl, inr}
+use Rattle.std.proofs.Common.{◌≡◌, ℕ, ℤ, Bool, true, false, not, if◌then◌else◌, List, [], ◌∷◌, Option, Some, None, codes, refl, inl, inr, sym, ◌∙◌}
 use Rattle.std.specs.Str.{bytes_eq}
-use Rattle.std.proofs.lemmas.Bool.{cases_Bool}
+use Rattle.std.proofs.lemmas.Bool.{cases_Bool, true≢false}
 use Rattle.std.proofs.lemmas.Slice.Eq.{bytes_eq-Decides}
 use Rattle.yaml_round_content.specs.scan_model.declared.yaml_encoding_t.{yaml_encoding_t}
 use Rattle.yaml_round_content.specs.scan_model.declared.yaml_mark_t.{yaml_mark_t}
@@ -35,9 +35,6 @@ abbrev pub IsRight : EventBody → Type 0
 IsRight (event.scalar anchor tag value plain quoted style) = IsScalarRight tag value plain quoted
 IsRight _ = Unit {0}
 
-not_both : (b : Bool) → b ≡ true → b ≡ false → ⊥
-not_both b e f = cc
-
 mark_alone : is_lone_mark (Some (codes "!")) [] ≡ true
 mark_alone = refl
 
@@ -45,7 +42,7 @@ empty_right : (tag : List ℕ) → is_lone_mark (Some tag) [] ≡ false → IsNo
 empty_right tag e =
     elim (cases_Bool (bytes_eq tag (codes "!"))) [
       | inr h ↦ h
-      | inl h ↦ absurd (not_both (is_lone_mark (Some tag) []) (marked h) e)
+      | inl h ↦ absurd (true≢false (sym (marked h) ∙ e))
     ]
   where
     marked : bytes_eq tag (codes "!") ≡ true → is_lone_mark (Some tag) [] ≡ true

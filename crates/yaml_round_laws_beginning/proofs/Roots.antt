@@ -2,9 +2,10 @@
 use Rattle.std.proofs.Common.{◌≡◌, ℕ, ℤ, ◌+◌, ◌==◌, ◌&&◌, not, if◌then◌else◌, Bool, true, false, List, [], ◌∷◌, ◌++◌, length, Option, Some, None, codes, refl, sym, ap, subst, ◌∙◌, inl, inr, arith}
 use Rattle.std.specs.Prelude.{slice_index, option_map}
 use Rattle.std.specs.Str.{bytes_eq}
-use Rattle.std.proofs.lemmas.Bool.{cases_Bool}
+use Rattle.std.proofs.lemmas.Bool.{cases_Bool, true≢false}
 use Rattle.std.proofs.lemmas.Bool.Decides.{nat_tests}
 use Rattle.std.proofs.lemmas.Slice.Eq.{bytes_eq-Decides}
+use Rattle.std.proofs.Math.Bool.{and-false}
 use Rattle.yaml_round_content.specs.scan_model.declared.yaml_encoding_t.{yaml_encoding_t}
 use Rattle.yaml_round_content.specs.scan_model.declared.yaml_mark_t.{yaml_mark_t}
 use Rattle.yaml_round_content.specs.scan_model.declared.yaml_scalar_style_t.{yaml_scalar_style_t}
@@ -43,10 +44,6 @@ use Rattle.yaml_round_beginning.proofs.Starting.{from_start}
 use Rattle.yaml_round_laws_beginning.specs.MarkAlone.{is_mark, is_mark_alone, is_mark_node, begins_with_mark, BeginningIsAMark}
 use Rattle.yaml_round_laws_beginning.proofs.Full.{AreFull, tokens_full}
 
-and_off : (a : Bool) → (a && false) ≡ false
-and_off true = refl
-and_off false = refl
-
 -- ---- one event
 
 -- the event comes next, whatever follows
@@ -71,8 +68,8 @@ filled : (bare plain : Bool) (value : List ℕ) (style : yaml_scalar_style_t) �
     → (bare && (is_empty value && (plain && is_asked_plain style))) ≡ false
 filled bare plain value style h =
     elim (cases_Bool (is_asked_plain style)) [
-      | inl e ↦ rw (h e) (and_off bare)
-      | inr e ↦ rw (e, and_off plain, and_off (is_empty value)) (and_off bare)
+      | inl e ↦ rw (h e) (and-false bare)
+      | inr e ↦ rw (e, and-false plain, and-false (is_empty value)) (and-false bare)
     ]
 
 not_bare : (anchor : Option (List ℕ)) (tag : List ℕ) (more : Bool) → (is_bare anchor (Some tag) && more) ≡ false
@@ -119,15 +116,12 @@ lone_tag [] h = absurd (cc)
 lone_tag (b ∷ []) h = let e : b ≡ 33 = grind (arith, nat_tests, h) in ap (λ (x : ℕ). x ∷ []) e
 lone_tag (b ∷ c ∷ bs) h = absurd (grind (arith, nat_tests, h))
 
-not_both : (b : Bool) → b ≡ true → b ≡ false → ⊥
-not_both b e f = cc
-
 lone_is : (tag : List ℕ) → is_lone_mark (Some tag) [] ≡ bytes_eq tag (codes "!")
 lone_is tag =
     elim (cases_Bool (bytes_eq tag (codes "!"))) [
       | inl e ↦ rw ((bytes_eq-Decides tag (codes "!")).0 e) refl
       | inr e ↦ elim (cases_Bool (is_lone_mark (Some tag) [])) [
-        | inl h ↦ absurd (not_both (bytes_eq tag (codes "!")) ((bytes_eq-Decides tag (codes "!")).1 (lone_tag tag h)) e)
+        | inl h ↦ absurd (true≢false (sym ((bytes_eq-Decides tag (codes "!")).1 (lone_tag tag h)) ∙ e))
         | inr h ↦ h ∙ sym e
       ]
     ]

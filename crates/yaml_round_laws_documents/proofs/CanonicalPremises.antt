@@ -1,7 +1,8 @@
 -- What a parser asks of directives, and that those that may be written have it.
-use Rattle.std.proofs.Common.{◌≡◌, ℕ, Bool, true, false, ◌||◌, if◌then◌else◌, List, [], ◌∷◌, ◌++◌, Option, Some, None, refl}
+use Rattle.std.proofs.Common.{◌≡◌, ℕ, Bool, true, false, if◌then◌else◌, List, [], ◌∷◌, ◌++◌, Option, Some, None, refl}
 use Rattle.std.specs.List.{list_any}
 use Rattle.std.specs.Str.{bytes_eq}
+use Rattle.std.proofs.lemmas.Bool.{or_parts}
 use Rattle.yaml_parse_grammar.specs.parse_model.declared.yaml_version_directive_t.{yaml_version_directive_t}
 use Rattle.yaml_parse_grammar.specs.parse_model.Events.{TagDirective}
 use Rattle.yaml_parse_grammar.specs.Resolve.{is_known_version, directive_for}
@@ -40,18 +41,10 @@ none_false : (b : Bool) (p : Problem) → (if b then None else Some p) ≡ None 
 none_false true p e = refl
 none_false false p e = absurd (cc)
 
-or_left : (a b : Bool) → (a || b) ≡ false → a ≡ false
-or_left true b e = absurd (cc)
-or_left false b e = refl
-
-or_right : (a b : Bool) → (a || b) ≡ false → b ≡ false
-or_right true b e = absurd (cc)
-or_right false b e = e
-
 none_has : (h : List ℕ) (before : List TagDirective) → list_any (has_handle h) before ≡ false → directive_for h before ≡ None
 unfolding directive_for
 none_has h [] e = refl
-none_has h (d ∷ ds) e = rw (or_left (bytes_eq d.handle h) (list_any (has_handle h) ds) e) (none_has h ds (or_right (bytes_eq d.handle h) (list_any (has_handle h) ds) e))
+none_has h (d ∷ ds) e = rw (or_parts (bytes_eq d.handle h) (list_any (has_handle h) ds) e).0 (none_has h ds (or_parts (bytes_eq d.handle h) (list_any (has_handle h) ds) e).1)
 
 tags_fine : (before ds : List TagDirective) → directives_problem before ds ≡ None → AreFineTags before ds
 unfolding directives_problem

@@ -3,7 +3,7 @@ use Rattle.std.proofs.Common.{◌≡◌, ◌⊎◌, inl, inr, ℕ, zero, suc, �
 use Rattle.std.specs.Prelude.{if◌then◌else◌, IsUtf8}
 use Rattle.std.specs.List.{AllPass, list_all}
 use Rattle.std.proofs.lemmas.List.Elements.{All-nil, All-cons}
-use Rattle.std.proofs.lemmas.Bool.{cases_Bool, cases_lt}
+use Rattle.std.proofs.lemmas.Bool.{cases_Bool, cases_lt, and_parts, or_parts, not-false, eqb-true, ltb-true}
 use Rattle.std.proofs.lemmas.Bool.Decides.{nat_tests}
 use lib.Utf8.{scalar, scalars, encode}
 use Rattle.yaml_emit_layout.specs.scan_model.Classes.{is_alpha_byte, is_digit_byte}
@@ -46,39 +46,20 @@ return_fits = refl
 
 -- ---- tests
 
-pub and_left : (a b : Bool) → (a && b) ≡ true → a ≡ true
-and_left true b e = refl
-and_left false b e = absurd (cc)
-
-pub and_right : (a b : Bool) → (a && b) ≡ true → b ≡ true
-and_right true b e = e
-and_right false b e = absurd (cc)
-
-or_left : (a b : Bool) → (a || b) ≡ false → a ≡ false
-or_left true b e = absurd (cc)
-or_left false b e = refl
-
 either : (P : Type 0) (a b : Bool) → (a ≡ true → P) → (b ≡ true → P) → (a || b) ≡ true → P
 either P true b f g e = f refl
 either P false b f g e = g e
 
-not_off : (b : Bool) → not b ≡ false → b ≡ true
-not_off true e = refl
-not_off false e = absurd (cc)
-
 within : (lo hi b : ℕ) → 32 ≤ lo → hi ≤ 126 → (nat_le lo b && nat_le b hi) ≡ true → Fits b
 within lo hi b low high e =
-    let from : nat_le lo b ≡ true = and_left (nat_le lo b) (nat_le b hi) e in
-    let to : nat_le b hi ≡ true = and_right (nat_le lo b) (nat_le b hi) e in
+    let from : nat_le lo b ≡ true = (and_parts (nat_le lo b) (nat_le b hi) e).0 in
+    let to : nat_le b hi ≡ true = (and_parts (nat_le lo b) (nat_le b hi) e).1 in
     let f : lo ≤ b = grind (arith, nat_tests) in
     let t : b ≤ hi = grind (arith, nat_tests) in
     graphic b (omega (arith, f, low)) (omega (arith, t, high))
 
-pub equals : (a b : ℕ) → (a == b) ≡ true → a ≡ b
-equals a b e = grind (arith, nat_tests)
-
 sign : (k b : ℕ) → 32 ≤ k → k ≤ 126 → (b == k) ≡ true → Fits b
-sign k b low high e = subst (λ (x : ℕ). Fits x) (sym (equals b k e)) (graphic k low high)
+sign k b low high e = subst (λ (x : ℕ). Fits x) (sym (eqb-true b k e)) (graphic k low high)
 
 -- ---- names
 
@@ -159,16 +140,13 @@ pub fit_by : (b : Bool) (x y : List ℕ) → (b ≡ true → AllFit x) → (b �
 fit_by true x y f g = f refl
 fit_by false x y f g = g refl
 
-below_of : (a b : ℕ) → nat_lt a b ≡ true → a < b
-below_of a b e = grind (arith, nat_tests)
-
 pub escape_fits : (c : ℕ) → c < 1114112 → AllFit (escape_text c)
 unfolding escape_text
 escape_fits c h =
     let slash : Fits 92 = graphic 92 (omega arith) (omega arith) in
     fit_by (not (escape_letter c == 0)) (92 ∷ escape_letter c ∷ []) _ (λ e. (slash, (letter_fits c (off_of (escape_letter c == 0) e), tt)))
-    (λ _. fit_by (nat_lt c 0x100) (92 ∷ 120 ∷ hex_2 c) _ (λ e. (slash, (graphic 120 (omega arith) (omega arith), two_fit c (below_of c 0x100 e))))
-    (λ _. fit_by (nat_lt c 0x1_0000) (92 ∷ 117 ∷ hex_4 c) (92 ∷ 85 ∷ hex_8 c) (λ e. (slash, (graphic 117 (omega arith) (omega arith), four_fit c (below_of c 0x1_0000 e))))
+    (λ _. fit_by (nat_lt c 0x100) (92 ∷ 120 ∷ hex_2 c) _ (λ e. (slash, (graphic 120 (omega arith) (omega arith), two_fit c (ltb-true c 0x100 e))))
+    (λ _. fit_by (nat_lt c 0x1_0000) (92 ∷ 117 ∷ hex_4 c) (92 ∷ 85 ∷ hex_8 c) (λ e. (slash, (graphic 117 (omega arith) (omega arith), four_fit c (ltb-true c 0x1_0000 e))))
     (λ _. (slash, (graphic 85 (omega arith) (omega arith), eight_fit c h)))))
   where
     off_of : (b : Bool) → not b ≡ true → b ≡ false
@@ -182,7 +160,7 @@ printed c e = grind (arith, nat_tests)
 
 pub raw_fits : (unicode : Bool) (c : ℕ) → needs_escape unicode c ≡ false → Fits c
 unfolding needs_escape
-raw_fits unicode c e = printed c (not_off (is_printable c) (or_left _ (not unicode && nat_le 0x80 c) (or_left _ (is_break c) (or_left _ (c == 34) (or_left _ (c == 92) e)))))
+raw_fits unicode c e = printed c (not-false (is_printable c) (or_parts _ (not unicode && nat_le 0x80 c) (or_parts _ (is_break c) (or_parts _ (c == 34) (or_parts _ (c == 92) e).0).0).0).0)
 
 -- ---- URIs
 
@@ -288,7 +266,7 @@ scalar_below c e = grind (arith, nat_tests)
 
 pub scalars_below : (cs : List ℕ) → scalars cs ≡ true → AreChars cs
 scalars_below [] e = tt
-scalars_below (c ∷ cs) e = (scalar_below c (and_left (scalar c) (scalars cs) e), scalars_below cs (and_right (scalar c) (scalars cs) e))
+scalars_below (c ∷ cs) e = (scalar_below c (and_parts (scalar c) (scalars cs) e).0, scalars_below cs (and_parts (scalar c) (scalars cs) e).1)
 
 chars_bytes : (cs : List ℕ) → AreChars cs → AreBytes (encode_utf8_all cs)
 chars_bytes [] h = tt

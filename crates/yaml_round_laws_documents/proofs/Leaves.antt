@@ -4,6 +4,7 @@ use Rattle.std.specs.Prelude.{if◌then◌else◌, IsUtf8, codes}
 use Rattle.std.specs.List.{list_all}
 use Rattle.std.specs.Str.{chars}
 use Rattle.std.proofs.lemmas.Str.{scalars-chars}
+use Rattle.std.proofs.lemmas.Bool.{and_parts, eqb-true, not-false}
 use Rattle.yaml_emit_layout.specs.scan_model.Classes.{is_alpha_byte}
 use Rattle.yaml_emit_layout.specs.scan_model.declared.yaml_version_directive_t.{yaml_version_directive_t}
 use Rattle.yaml_emit_layout.specs.parse_model.Events.{TagDirective}
@@ -16,7 +17,7 @@ use Rattle.yaml_emit_layout.specs.declared.problem.Problem.{Problem}
 use Rattle.yaml_emit_layout.specs.Grammar.{or_else, between, inner_problem, ends_problem, handle_problem, prefix_problem, twice_problem, directive_problem, directives_problem}
 use Rattle.yaml_emit_layout.specs.Nodes.{Context, anchor_text, tag_text, version_word, version_text, directive_text, directives_text, line_at}
 use Rattle.yaml_round_laws_documents.specs.BytesLaws.{IsNameOption, IsTextOption, HavePrefixes}
-use Rattle.yaml_round_laws_documents.proofs.Characters.{Fits, AllFit, AreChars, AreBytes, all_append, graphic, is_32, and_left, and_right, equals, names_fit, escape_fits, raw_fits, uri_fits, bytes_drop, utf8_bytes, scalars_below}
+use Rattle.yaml_round_laws_documents.proofs.Characters.{Fits, AllFit, AreChars, AreBytes, all_append, graphic, is_32, names_fit, escape_fits, raw_fits, uri_fits, bytes_drop, utf8_bytes, scalars_below}
 use Rattle.yaml_round_laws_documents.proofs.Layouts.{Tame, both, stay_tame, choose_tame, when_tame, char_tame, letters_tame, blanks_tame, new_line_tame, gap_tame, word_tame, line_tame}
 
 -- ---- handles
@@ -28,10 +29,6 @@ if_none true p o e = absurd (cc)
 none_all : (b : Bool) (p : Problem) → (if b then None else Some p) ≡ None → b ≡ true
 none_all true p e = refl
 none_all false p e = absurd (cc)
-
-not_not : (b : Bool) → not b ≡ false → b ≡ true
-not_not true e = refl
-not_not false e = absurd (cc)
 
 pub or_first : (p q : Option Problem) → or_else p q ≡ None → p ≡ None
 or_first None q e = refl
@@ -69,7 +66,7 @@ handle_fits h e =
     let (some, ends) = if_none (length h == 0) _ (ends_problem h) e in
     let (start, behind) = if_none (not (get_or h 0 0 == 33)) _ _ ends in
     let (stop, inner) = if_none (not (get_or h (length h - 1) 0 == 33)) _ (inner_problem h) behind in
-    handle_by h (equals (get_or h 0 0) 33 (not_not (get_or h 0 0 == 33) start)) (equals (get_or h (length h - 1) 0) 33 (not_not (get_or h (length h - 1) 0 == 33) stop))
+    handle_by h (eqb-true (get_or h 0 0) 33 (not-false (get_or h 0 0 == 33) start)) (eqb-true (get_or h (length h - 1) 0) 33 (not-false (get_or h (length h - 1) 0 == 33) stop))
     (none_all (list_all is_alpha_byte (between h)) _ inner)
 
 -- ---- directives
@@ -161,11 +158,11 @@ char_quoted : (page : Page) (before x : ℕ) (rest : List ℕ) → x < 1114112 �
 unfolding quoted_char
 char_quoted page before x rest h =
     tame_by (may_fold page before x rest) (choose (is_past page.width) (fold page rest) (char x)) (escaped page.unicode x)
-    (λ e. choose_tame (is_past page.width) (fold page rest) (char x) (fold_tame page rest) (char_tame x (space x (and_left (x == 32) (not (before == 32) && not (is_empty rest)) (and_right page.cuts _ e)))))
+    (λ e. choose_tame (is_past page.width) (fold page rest) (char x) (fold_tame page rest) (char_tame x (space x (and_parts (x == 32) (not (before == 32) && not (is_empty rest)) (and_parts page.cuts _ e).1).0)))
     (λ _. escaped_tame page.unicode x h)
   where
     space : (x : ℕ) → (x == 32) ≡ true → Fits x
-    space x e = subst (λ (y : ℕ). Fits y) (sym (equals x 32 e)) is_32
+    space x e = subst (λ (y : ℕ). Fits y) (sym (eqb-true x 32 e)) is_32
 
 body_tame : (page : Page) (before : ℕ) (cs : List ℕ) → AreChars cs → Tame (quoted_body page before cs)
 unfolding quoted_body

@@ -1,8 +1,7 @@
 -- The events that are read of a content's canonical documents say the content.
-use Rattle.std.proofs.Common.{◌≡◌, inl, inr, ℕ, Bool, true, false, not, ◌&&◌, ◌==◌, List, [], ◌∷◌, length, map, Option, Some, refl, ap, ◌∙◌, codes, arith}
+use Rattle.std.proofs.Common.{◌≡◌, inl, inr, ℕ, Bool, true, false, not, ◌&&◌, ◌==◌, List, [], ◌∷◌, length, map, Option, Some, refl, ap, ◌∙◌, codes, arith, sym}
 use Rattle.std.specs.Str.{bytes_eq}
-use Rattle.std.proofs.lemmas.Bool.{cases_Bool}
-use Rattle.std.proofs.lemmas.Bool.Decides.{nat_tests}
+use Rattle.std.proofs.lemmas.Bool.{cases_Bool, eqb-true, and_parts, true≢false}
 use Rattle.std.proofs.lemmas.Slice.Eq.{bytes_eq-Decides}
 use Rattle.yaml_round_laws_documents.specs.emit_laws_text.scan_model.declared.yaml_scalar_style_t.TheVariants.{YAML_DOUBLE_QUOTED_SCALAR_STYLE}
 use Rattle.yaml_round_laws_documents.specs.emit_laws_text.scan_model.declared.yaml_sequence_style_t.TheVariants.{YAML_ANY_SEQUENCE_STYLE}
@@ -26,36 +25,22 @@ says b = content_of (normalize_body true b)
 
 -- ---- scalars
 
-equals : (a b : ℕ) → (a == b) ≡ true → a ≡ b
-equals a b e = grind (arith, nat_tests)
-
-and_left : (a b : Bool) → (a && b) ≡ true → a ≡ true
-and_left true b e = refl
-and_left false b e = absurd (cc)
-
-and_right : (a b : Bool) → (a && b) ≡ true → b ≡ true
-and_right true b e = e
-and_right false b e = absurd (cc)
-
 long : (a b : ℕ) (t : List ℕ) → (length (a ∷ b ∷ t) == 1) ≡ true → ⊥
-long a b t e = let h = equals (length (a ∷ b ∷ t)) 1 e in omega (arith, h)
+long a b t e = let h = eqb-true (length (a ∷ b ∷ t)) 1 e in omega (arith, h)
 
 is_mark : (t value : List ℕ) → is_lone_mark (Some t) value ≡ true → t ≡ 33 ∷ []
-is_mark [] value e = absurd (none (and_right (length value == 0) false (and_left (length value == 0 && false) _ e)))
+is_mark [] value e = absurd (none (and_parts (length value == 0) false (and_parts (length value == 0 && false) _ e).0).1)
   where
     none : false ≡ true → ⊥
     none h = absurd (cc)
-is_mark (a ∷ []) value e = ap (λ (b : ℕ). b ∷ []) (equals a 33 (and_right (length value == 0 && true) (a == 33) e))
-is_mark (a ∷ b ∷ t) value e = absurd (long a b t (and_right (length value == 0) (length (a ∷ b ∷ t) == 1) (and_left (length value == 0 && length (a ∷ b ∷ t) == 1) _ e)))
-
-not_both : (b : Bool) → b ≡ true → b ≡ false → ⊥
-not_both b e f = cc
+is_mark (a ∷ []) value e = ap (λ (b : ℕ). b ∷ []) (eqb-true a 33 (and_parts (length value == 0 && true) (a == 33) e).1)
+is_mark (a ∷ b ∷ t) value e = absurd (long a b t (and_parts (length value == 0) (length (a ∷ b ∷ t) == 1) (and_parts (length value == 0 && length (a ∷ b ∷ t) == 1) _ e).0).1)
 
 no_mark : (t value : List ℕ) → bytes_eq t (codes "!") ≡ false → is_lone_mark (Some t) value ≡ false
 no_mark t value e =
     elim (cases_Bool (is_lone_mark (Some t) value)) [
       | inr h ↦ h
-      | inl h ↦ absurd (not_both (bytes_eq t (codes "!")) ((bytes_eq-Decides t (codes "!")).1 (is_mark t value h)) e)
+      | inl h ↦ absurd (true≢false (sym ((bytes_eq-Decides t (codes "!")).1 (is_mark t value h)) ∙ e))
     ]
 
 scalar_said : (anchor : Option (List ℕ)) (mark : Mark) (value : List ℕ) → IsNoMark (written_scalar anchor mark value).tag

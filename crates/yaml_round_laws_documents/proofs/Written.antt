@@ -1,9 +1,10 @@
 -- What a document says that an input loads may be written.
-use Rattle.std.proofs.Common.{subst, ◌≡◌, ◌<◌, ℕ, zero, suc, ℤ, pos, negsuc, Bool, true, false, ◌==◌, if◌then◌else◌, List, [], ◌∷◌, length, Option, Some, None, IsUtf8, refl, ap, codes, arith}
+use Rattle.std.proofs.Common.{subst, ◌≡◌, ◌<◌, ℕ, zero, suc, ℤ, pos, negsuc, Bool, true, false, ◌==◌, if◌then◌else◌, List, [], ◌∷◌, length, Option, Some, None, IsUtf8, refl, ap, codes, arith, sym, ◌∙◌}
 use Rattle.std.specs.Prelude.{slice_get}
 use Rattle.std.specs.List.{list_all}
 use Rattle.std.proofs.lemmas.Str.{IsUtf8-nil}
 use Rattle.std.proofs.lemmas.Bool.Decides.{nat_tests}
+use Rattle.std.proofs.lemmas.Bool.{true≢false}
 use Rattle.yaml_round_laws_documents.specs.emit_laws_text.scan_model.Classes.{is_alpha_byte}
 use Rattle.yaml_round_laws_documents.specs.parse_grammar.parse_model.declared.yaml_node_pair_t.{yaml_node_pair_t}
 use Rattle.yaml_round_laws_documents.specs.parse_grammar.parse_model.Constructors.{AreUtf8}
@@ -74,11 +75,8 @@ text_of count (model.scalar value style) h = h
 text_of count (model.sequence items style) h = tt
 text_of count (model.mapping pairs style) h = tt
 
-not_both : (b : Bool) → b ≡ true → b ≡ false → ⊥
-not_both b e f = cc
-
 no_bang : (t : List ℕ) → is_bang t ≡ false → t ≡ codes "!" → ⊥
-no_bang t h e = not_both (is_bang t) (ap is_bang e) h
+no_bang t h e = true≢false (sym (ap is_bang e) ∙ h)
 
 str_fine : IsFine str_tag model.no
 str_fine = record { some = omega arith; utf8 = str_utf8; other = no_bang str_tag refl; text = tt }

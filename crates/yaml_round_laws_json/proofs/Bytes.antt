@@ -2,7 +2,7 @@
 use Rattle.std.proofs.Common.{◌≡◌, ℕ, ◌<◌, ◌≤◌, ◌==◌, ◌&&◌, ◌||◌, not, nat_lt, nat_le, Bool, true, false, List, [], ◌∷◌, ◌++◌, drop, refl, sym, ap, subst, ◌∙◌, inl, inr, arith, append-nil, encode_utf8, encode_utf8_all}
 use Rattle.std.specs.Prelude.{nat_eq}
 use Rattle.std.specs.List.{list_all}
-use Rattle.std.proofs.lemmas.Bool.{true≢false}
+use Rattle.std.proofs.lemmas.Bool.{true≢false, and_parts}
 use Rattle.std.proofs.lemmas.Bool.Decides.{nat_tests}
 use Rattle.std.proofs.lemmas.List.Sums.{AllPass-from_list_all}
 use Rattle.std.proofs.Math.Utf8.{scalar_cases}
@@ -15,7 +15,6 @@ use Rattle.yaml_round_content.specs.scan_history.scan_decode.Spelling.{Spells, s
 use Rattle.yaml_round_laws_json.specs.Grammar.{is_white, are_white, Value, literal, number, string, empty_array, array, empty_object, object, Elements, last_element, element, Members, last_member, member, literal_bytes, number_bytes, value_bytes, elements_bytes, members_bytes, IsValue, AreElements, AreMembers, Text, IsJsonText}
 use Rattle.yaml_round_laws_json.specs.Exceptions.{is_refused, ends_line, IsUsual, AreUsual, MembersAreUsual, IsUsualText}
 use Rattle.yaml_round_laws_json.specs.Laws.{may_be_utf8}
-use Rattle.yaml_round_laws_json.proofs.Whites.{pair}
 use Rattle.yaml_round_laws_json.proofs.Numbers.{begins_solid, is_solid, plain_bytes, literal_plain, number_plain, value_begins}
 use Rattle.yaml_round_laws_json.proofs.Characters.{Spelled, Passes, no_bytes, byte_before, string_before, white_before}
 
@@ -45,7 +44,7 @@ white_allowed b h = grind (arith, nat_tests)
 
 whites_allowed : (ws : List ℕ) → are_white ws ≡ true → list_all is_allowed ws ≡ true
 whites_allowed [] h = refl
-whites_allowed (w ∷ ws) h = let (here, rest) = pair (is_white w) (are_white ws) h in rw (white_allowed w here) (whites_allowed ws rest)
+whites_allowed (w ∷ ws) h = let (here, rest) = and_parts (is_white w) (are_white ws) h in rw (white_allowed w here) (whites_allowed ws rest)
 
 abbrev Fine : List ℕ → Type 0
 Fine bs = Spelled is_allowed bs
@@ -67,7 +66,7 @@ sign_on b bs h s = byte_before is_allowed b bs (small b h) (printed_allowed b (l
 
 signs_on : (value bs : List ℕ) → list_all is_solid value ≡ true → Fine bs → Fine (value ++ bs)
 signs_on [] bs h s = s
-signs_on (b ∷ value) bs h s = let (here, rest) = pair (is_solid b) (list_all is_solid value) h in sign_on b (value ++ bs) here (signs_on value bs rest s)
+signs_on (b ∷ value) bs h s = let (here, rest) = and_parts (is_solid b) (list_all is_solid value) h in sign_on b (value ++ bs) here (signs_on value bs rest s)
 
 mutual
   unfolding value_bytes elements_bytes members_bytes
@@ -120,7 +119,7 @@ low_by (b ∷ bs) h = solid_low b h
 
 text_low : (front : List ℕ) (v : Value) (back : List ℕ) → are_white front ≡ true → IsValue v → begins_low (front ++ value_bytes v back) ≡ true
 text_low [] v back h is = low_by (value_bytes v back) (value_begins v is back)
-text_low (w ∷ front) v back h is = white_low w (pair (is_white w) (are_white front) h).0
+text_low (w ∷ front) v back h is = white_low w (and_parts (is_white w) (are_white front) h).0
 
 no_mark : (bs : List ℕ) → begins_low bs ≡ true → (begins_low_first bs ≡ false) × (begins_high_first bs ≡ false) × (begins_utf8 bs ≡ false)
 no_mark [] h = absurd (true≢false (sym h))

@@ -2,13 +2,12 @@
 use Rattle.std.proofs.Common.{◌≡◌, ℕ, ◌+◌, ◌<◌, ◌≤◌, ◌==◌, ◌&&◌, ◌||◌, not, nat_lt, nat_le, Bool, true, false, List, [], ◌∷◌, ◌++◌, refl, sym, ap, subst, inl, inr, arith, append_assoc, encode_utf8, encode_utf8_all}
 use Rattle.std.specs.Prelude.{if◌then◌else◌}
 use Rattle.std.specs.List.{list_all}
-use Rattle.std.proofs.lemmas.Bool.{cases_Bool}
+use Rattle.std.proofs.lemmas.Bool.{cases_Bool, and_parts}
 use Rattle.std.proofs.lemmas.Bool.Decides.{nat_tests}
 use lib.Utf8.{scalar}
 use Rattle.yaml_emit_laws_text.proofs.Chars.{encode_1}
 use Rattle.yaml_round_laws_json.specs.Grammar.{is_white, are_white, Short, quote, backslash, slash, backspace, form_feed, line_feed, carriage_return, tab, short_byte, HexDigit, hex_byte, Letter, raw, short, coded, letter_bytes, letters_bytes, string_bytes, IsLetter, AreLetters}
 use Rattle.yaml_round_laws_json.specs.Exceptions.{is_refused, ends_line, is_kept, are_kept}
-use Rattle.yaml_round_laws_json.proofs.Whites.{pair}
 
 -- bytes that spell characters which all pass a test
 pub record Spelled (test : ℕ → Bool) (bs : List ℕ) : Type 0 where
@@ -55,7 +54,7 @@ short_printed tab = (omega arith, omega arith)
 
 letter_before : (test : ℕ → Bool) → Passes test → (l : Letter) (bs : List ℕ) → IsLetter l → is_kept l ≡ true → Spelled test bs → Spelled test (letter_bytes l ++ bs)
 letter_before test p (raw c) bs h k s =
-    let (char, own) = pair (scalar c) (nat_le 32 c && not (c == 34 || c == 92)) h in
+    let (char, own) = and_parts (scalar c) (nat_le 32 c && not (c == 34 || c == 92)) h in
     char_before test c bs (p.kept c char own k) s
 letter_before test p (short t) bs h k s = printed_before test p 92 (short_byte t ∷ bs) (omega arith, omega arith) (printed_before test p (short_byte t) bs (short_printed t) s)
 letter_before test p (coded a b c d) bs (ha, hb, hc, hd) k s =
@@ -69,7 +68,7 @@ letter_before test p (coded a b c d) bs (ha, hb, hc, hd) k s =
 letters_before : (test : ℕ → Bool) → Passes test → (ls : List Letter) (bs : List ℕ) → AreLetters ls → are_kept ls ≡ true → Spelled test bs → Spelled test (letters_bytes ls ++ bs)
 letters_before test p [] bs h k s = s
 letters_before test p (l ∷ ls) bs (h, hs) k s =
-    let (here, rest) = pair (is_kept l) (are_kept ls) k in
+    let (here, rest) = and_parts (is_kept l) (are_kept ls) k in
     subst (λ (ys : List ℕ). Spelled test ys) (sym (append_assoc (letter_bytes l) (letters_bytes ls) bs)) (letter_before test p l (letters_bytes ls ++ bs) h here (letters_before test p ls bs hs rest s))
 
 pub string_before : (test : ℕ → Bool) → Passes test → (ls : List Letter) (bs : List ℕ) → AreLetters ls → are_kept ls ≡ true → Spelled test bs → Spelled test (string_bytes ls ++ bs)
@@ -83,6 +82,6 @@ white_small b h = grind (arith, nat_tests)
 pub white_before : (test : ℕ → Bool) (ws bs : List ℕ) → are_white ws ≡ true → list_all test ws ≡ true → Spelled test bs → Spelled test (ws ++ bs)
 white_before test [] bs h k s = s
 white_before test (w ∷ ws) bs h k s =
-    let (here, rest) = pair (is_white w) (are_white ws) h in
-    let (own, more) = pair (test w) (list_all test ws) k in
+    let (here, rest) = and_parts (is_white w) (are_white ws) h in
+    let (own, more) = and_parts (test w) (list_all test ws) k in
     byte_before test w (ws ++ bs) (white_small w here) own (white_before test ws bs rest more s)

@@ -1,7 +1,7 @@
 -- Keys are near their `:`.
 use Rattle.std.proofs.Common.{◌≡◌, ℕ, ◌+◌, ◌<◌, ◌≤◌, ◌==◌, ◌&&◌, ◌||◌, not, nat_le, Bool, true, false, List, [], ◌∷◌, ◌++◌, length, refl, sym, ap, subst, arith, append-nil, encode_utf8_all}
 use Rattle.std.specs.List.{list_all}
-use Rattle.std.proofs.lemmas.Bool.{true≢false}
+use Rattle.std.proofs.lemmas.Bool.{or_parts, and_parts}
 use Rattle.std.proofs.lemmas.Bool.Decides.{nat_tests}
 use Rattle.yaml_scan_history.specs.scan_model.Marks.{mark_at}
 use Rattle.yaml_scan_history.specs.scan_words.Written.{HasAt}
@@ -16,7 +16,6 @@ use Rattle.yaml_emit_laws_text.proofs.Words.{front_encodes}
 use Rattle.yaml_emit_laws_scalars.proofs.OneLine.{near_fresh}
 use Rattle.yaml_round_laws_json.specs.Grammar.{is_white, are_white, Letter, string_bytes, AreLetters}
 use Rattle.yaml_round_laws_json.specs.Exceptions.{is_refused, ends_line, is_break, has_break, are_kept, is_near}
-use Rattle.yaml_round_laws_json.proofs.Whites.{pair}
 use Rattle.yaml_round_laws_json.proofs.Characters.{Spelled, Passes, no_bytes, string_before, white_before}
 
 -- a character that ends no line
@@ -35,20 +34,16 @@ passes = record { printed = printed_on; kept = λ c s h k. kept_on c h k }
 blank_on : (b : ℕ) → is_white b ≡ true → is_break b ≡ false → goes_on b ≡ true
 blank_on b h k = grind (arith, nat_tests)
 
-neither : (a b : Bool) → (a || b) ≡ false → (a ≡ false) × (b ≡ false)
-neither false b h = (refl, h)
-neither true b h = absurd (true≢false h)
-
 white_on : (ws : List ℕ) → are_white ws ≡ true → has_break ws ≡ false → list_all goes_on ws ≡ true
 white_on [] h k = refl
 white_on (w ∷ ws) h k =
-    let (here, rest) = pair (is_white w) (are_white ws) h in
-    let (calm, more) = neither (is_break w) (has_break ws) k in
+    let (here, rest) = and_parts (is_white w) (are_white ws) h in
+    let (calm, more) = or_parts (is_break w) (has_break ws) k in
     rw (blank_on w here calm) (white_on ws rest more)
 
 one_line : (cs : List ℕ) → list_all goes_on cs ≡ true → is_one_line cs ≡ true
 one_line [] h = refl
-one_line (c ∷ cs) h = let (here, rest) = pair (goes_on c) (list_all goes_on cs) h in rw here (one_line cs rest)
+one_line (c ∷ cs) h = let (here, rest) = and_parts (goes_on c) (list_all goes_on cs) h in rw here (one_line cs rest)
 
 -- a cursor, whichever
 start : Cursor

@@ -2,11 +2,10 @@
 use Rattle.std.proofs.Common.{◌≡◌, ℕ, ◌==◌, ◌&&◌, ◌||◌, not, nat_lt, Bool, true, false, List, [], ◌∷◌, ◌++◌, Option, None, Some, refl, sym, arith}
 use Rattle.std.specs.Prelude.{if◌then◌else◌}
 use Rattle.std.specs.List.{list_all}
-use Rattle.std.proofs.lemmas.Bool.{true≢false}
+use Rattle.std.proofs.lemmas.Bool.{true≢false, and_parts}
 use Rattle.std.proofs.lemmas.Bool.Decides.{nat_tests}
 use Rattle.yaml_scan_laws_texts.specs.Values.{is_letter_or_digit, is_value_byte, begins_value, is_plain_value}
 use Rattle.yaml_round_laws_json.specs.Grammar.{Literal, named_false, named_null, named_true, literal_bytes, Sign, no_sign, plus, minus, sign_bytes, Exponent, Number, fraction_bytes, exponent_bytes, number_bytes, is_digit, are_digits, is_whole, IsFraction, IsExponent, IsNumber, Value, literal, number, string, empty_array, array, empty_object, object, Elements, last_element, element, Members, last_member, member, value_bytes, elements_bytes, members_bytes, IsValue, AreElements}
-use Rattle.yaml_round_laws_json.proofs.Whites.{pair}
 
 pub literal_plain : (l : Literal) → is_plain_value (literal_bytes l) ≡ true
 unfolding is_plain_value is_letter_or_digit is_value_byte
@@ -18,7 +17,7 @@ literal_plain named_true = refl
 
 all_more : (test : ℕ → Bool) (xs ys : List ℕ) → list_all test xs ≡ true → list_all test ys ≡ true → list_all test (xs ++ ys) ≡ true
 all_more test [] ys h k = k
-all_more test (x ∷ xs) ys h k = let (here, rest) = pair (test x) (list_all test xs) h in rw here (all_more test xs ys rest k)
+all_more test (x ∷ xs) ys h k = let (here, rest) = and_parts (test x) (list_all test xs) h in rw here (all_more test xs ys rest k)
 
 digit_letter : (d : ℕ) → is_digit d ≡ true → is_letter_or_digit d ≡ true
 unfolding is_letter_or_digit
@@ -38,7 +37,7 @@ sign_value b h = or_more (is_letter_or_digit b) _ h
 
 digits_value : (ds : List ℕ) → list_all is_digit ds ≡ true → list_all is_value_byte ds ≡ true
 digits_value [] h = refl
-digits_value (d ∷ ds) h = let (here, rest) = pair (is_digit d) (list_all is_digit ds) h in rw (letter_value d (digit_letter d here)) (digits_value ds rest)
+digits_value (d ∷ ds) h = let (here, rest) = and_parts (is_digit d) (list_all is_digit ds) h in rw (letter_value d (digit_letter d here)) (digits_value ds rest)
 
 all_digits : (ds : List ℕ) → are_digits ds ≡ true → list_all is_digit ds ≡ true
 all_digits [] h = absurd (true≢false (sym h))
@@ -47,8 +46,8 @@ all_digits (d ∷ ds) h = h
 whole_first : (d : ℕ) (ds : List ℕ) → is_whole (d ∷ ds) ≡ true → (is_digit d ≡ true) × (list_all is_digit ds ≡ true)
 whole_first d [] h = (h, refl)
 whole_first d (e ∷ ds) h =
-    let (front, rest) = pair (is_digit d && not (d == 48)) (list_all is_digit (e ∷ ds)) h in
-    ((pair (is_digit d) (not (d == 48)) front).0, rest)
+    let (front, rest) = and_parts (is_digit d && not (d == 48)) (list_all is_digit (e ∷ ds)) h in
+    ((and_parts (is_digit d) (not (d == 48)) front).0, rest)
 
 whole_digits : (ds : List ℕ) → is_whole ds ≡ true → list_all is_digit ds ≡ true
 whole_digits [] h = absurd (true≢false (sym h))
@@ -105,18 +104,18 @@ value_solid b h = grind (arith, nat_tests)
 
 all_solid : (value : List ℕ) → list_all is_value_byte value ≡ true → list_all is_solid value ≡ true
 all_solid [] h = refl
-all_solid (b ∷ value) h = let (here, rest) = pair (is_value_byte b) (list_all is_value_byte value) h in rw (value_solid b here) (all_solid value rest)
+all_solid (b ∷ value) h = let (here, rest) = and_parts (is_value_byte b) (list_all is_value_byte value) h in rw (value_solid b here) (all_solid value rest)
 
 pub plain_bytes : (value : List ℕ) → is_plain_value value ≡ true → list_all is_solid value ≡ true
 unfolding is_plain_value
-plain_bytes value h = all_solid value (pair (begins_value value) (list_all is_value_byte value) h).1
+plain_bytes value h = all_solid value (and_parts (begins_value value) (list_all is_value_byte value) h).1
 
 plain_solid : (value bs : List ℕ) → is_plain_value value ≡ true → begins_solid (value ++ bs) ≡ true
 unfolding is_plain_value
 plain_solid [] bs h = absurd (true≢false (sym h))
 plain_solid (b ∷ value) bs h =
-    let (begins, all) = pair (begins_value (b ∷ value)) (list_all is_value_byte (b ∷ value)) h in
-    let (here, rest) = pair (is_value_byte b) (list_all is_value_byte value) all in
+    let (begins, all) = and_parts (begins_value (b ∷ value)) (list_all is_value_byte (b ∷ value)) h in
+    let (here, rest) = and_parts (is_value_byte b) (list_all is_value_byte value) all in
     value_solid b here
 
 pub value_begins : (v : Value) → IsValue v → (bs : List ℕ) → begins_solid (value_bytes v bs) ≡ true

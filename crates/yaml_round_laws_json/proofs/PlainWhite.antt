@@ -1,6 +1,6 @@
 -- The white behind a plain scalar, with tabs, where no level is open, and the end that it comes before.
 use Rattle.std.proofs.Common.{◌≡◌, ◌≢◌, ℕ, zero, suc, ◌+◌, ◌<◌, ◌≤◌, ◌==◌, ◌&&◌, nat_lt, Bool, true, false, List, [], ◌∷◌, length, Result, Ok, refl, sym, ap, subst, ◌∙◌, inl, inr, arith}
-use Rattle.std.proofs.lemmas.Bool.{true≢false, cases_Bool}
+use Rattle.std.proofs.lemmas.Bool.{true≢false, cases_Bool, and_parts}
 use Rattle.std.proofs.lemmas.Bool.Decides.{nat_tests}
 use Rattle.yaml_scan_history.specs.scan_model.Marks.{byte, break_of, break_width, column_at, is_blank}
 use Rattle.yaml_scan_history.specs.scan_model.Breaks.{feed_at}
@@ -12,7 +12,7 @@ use Rattle.yaml_scan_history.specs.scan_scalars.Plain.{leads, PlainSpot, Ends, T
 use Rattle.yaml_scan_history.proofs.PlainLemmas.{spot_break, spot_blank, spot_ends}
 use Rattle.yaml_round_laws_json.specs.Grammar.{is_white, are_white}
 use Rattle.yaml_round_laws_json.specs.Exceptions.{has_break}
-use Rattle.yaml_round_laws_json.proofs.Whites.{pair, byte_cases, lf_width, cr_width, crlf_width}
+use Rattle.yaml_round_laws_json.proofs.Whites.{byte_cases, lf_width, cr_width, crlf_width}
 
 -- no word more: what is left ends at the place
 abbrev pub none_to : ℕ → Bool → Words
@@ -76,7 +76,7 @@ returns k all n flow text p [] few room e h are stop =
     let width : break_width text p ≡ 1 = rw e (cr_width (byte text (p + 1)) (byte text (p + 2)) (no_feed _ _ _ here.width)) in
     single k all n flow text p [] few room width h are stop
 returns k all n flow text p (c ∷ cs) few room e (f, h) are stop =
-    let (front, back) = pair (is_white c) (are_white cs) are in
+    let (front, back) = and_parts (is_white c) (are_white cs) are in
     let two : p + 1 + 1 ≡ p + 2 = omega arith in
     let far : Has text (p + 2) cs = rw two at h in
     let end : p + 1 + suc (length cs) ≡ p + 2 + length cs = omega arith in
@@ -100,7 +100,7 @@ reads k (suc n) flow text p [] few room h are stop =
     rw z (step n flow text p Ends (spot_ends flow 0 text p here.width here.blank here.ends))
 reads zero (suc n) flow text p (b ∷ bs) few room h are stop = absurd (omega (arith, few))
 reads (suc k) (suc n) flow text p (b ∷ bs) few room (e, h) are stop =
-    let (front, back) = pair (is_white b) (are_white bs) are in
+    let (front, back) = and_parts (is_white b) (are_white bs) are in
     let end : p + suc (length bs) ≡ p + 1 + length bs = omega arith in
     let after = subst (λ q. Stops flow text q) end stop in
     let more = reads k n flow text (p + 1) bs (omega (arith, few)) (omega (arith, room)) h back after in

@@ -2,6 +2,7 @@
 use Rattle.std.proofs.Common.{◌≡◌, ℕ, zero, suc, ◌+◌, ◌<◌, ◌≤◌, ◌==◌, ◌&&◌, ◌||◌, Bool, true, false, List, [], ◌∷◌, ◌++◌, length, Some, None, Result, Ok, refl, sym, ap, subst, ◌∙◌, inl, inr, ◌⊎◌, arith, add-zero}
 use Rattle.std.specs.List.{list_all}
 use Rattle.std.proofs.lemmas.Bool.Decides.{nat_tests}
+use Rattle.std.proofs.lemmas.Bool.{or_cases, or_left, or_right, and_parts}
 use Rattle.yaml_scan_history.specs.scan_model.Marks.{byte, break_of, is_blank, is_blank_or_end}
 use Rattle.yaml_scan_history.specs.scan_model.Breaks.{is_document_indicator}
 use Rattle.yaml_scan_history.specs.scan_model.Wrong.{Wrong}
@@ -16,7 +17,6 @@ use Rattle.yaml_scan_history.specs.Words.{indicator_of, kind_at}
 use Rattle.yaml_scan_laws_texts.specs.Values.{is_letter_or_digit, is_value_byte, first, begins_value, is_plain_value}
 use Rattle.yaml_round_laws_json.specs.Grammar.{is_white, are_white}
 use Rattle.yaml_round_laws_json.specs.Exceptions.{has_break}
-use Rattle.yaml_round_laws_json.proofs.Whites.{pair}
 use Rattle.yaml_round_laws_json.proofs.ValueBytes.{IsCalm, calm, kept_next}
 use Rattle.yaml_round_laws_json.proofs.PlainWhite.{none_to, Stops, white_words}
 
@@ -61,7 +61,7 @@ words_read n flow text p [] gap c room h all are stop =
     rw z (white_words n flow text (p + 1) gap (omega arith) h are (subst (λ q. Stops flow text (q + length gap)) z stop))
 words_read zero flow text p (b ∷ bs) gap c room (e, h) all are stop = absurd (omega arith)
 words_read (suc n) flow text p (b ∷ bs) gap c room (e, h) all are stop =
-    let (here, rest) = pair (is_value_byte b) (list_all is_value_byte bs) all in
+    let (here, rest) = and_parts (is_value_byte b) (list_all is_value_byte bs) all in
     let d = calm text (p + 1) (byte_here text (p + 1) b e here) in
     let far : p + 1 + suc (length bs) ≡ p + 1 + 1 + length bs = omega arith in
     let more = words_read n flow text (p + 1) bs gap d (omega arith) h rest are (subst (λ q. Stops flow text (q + length gap)) far stop) in
@@ -78,7 +78,7 @@ some_gap b h = grind (arith, nat_tests)
 gap_inside : (text : List ℕ) (p : ℕ) (gap : List ℕ) → p ≤ length text → Has text p gap → are_white gap ≡ true → p + length gap ≤ length text
 gap_inside text p [] l h are = omega arith
 gap_inside text p (b ∷ bs) l (e, h) are =
-    let (front, back) = pair (is_white b) (are_white bs) are in
+    let (front, back) = and_parts (is_white b) (are_white bs) are in
     let some = some_gap b front in
     let here = within text p (omega (arith, e, some)) in
     let more = gap_inside text (p + 1) bs (omega (arith, here)) h back in
@@ -87,7 +87,7 @@ gap_inside text p (b ∷ bs) l (e, h) are =
 inside : (text : List ℕ) (p : ℕ) (bs gap : List ℕ) → p ≤ length text → Has text p (bs ++ gap) → list_all is_value_byte bs ≡ true → are_white gap ≡ true → p + length bs + length gap ≤ length text
 inside text p [] gap l h all are = let m = gap_inside text p gap l h are in omega (arith, m)
 inside text p (b ∷ bs) gap l (e, h) all are =
-    let (here, rest) = pair (is_value_byte b) (list_all is_value_byte bs) all in
+    let (here, rest) = and_parts (is_value_byte b) (list_all is_value_byte bs) all in
     let c = calm text p (byte_here text p b e here) in
     let some = c.some in
     let one = within text p some in
@@ -101,7 +101,7 @@ read_by : (flow : Bool) (text : List ℕ) (p : ℕ) (value gap : List ℕ) → b
     → plain_at flow 0 text p ≡ Ok (record { value = value; end = p + length value; place = p + length value + length gap; broke = has_break gap })
 read_by flow text p [] gap begins all h are stop = absurd (cc)
 read_by flow text p (b ∷ bs) gap begins all (e, h) are stop =
-    let (here, rest) = pair (is_value_byte b) (list_all is_value_byte bs) all in
+    let (here, rest) = and_parts (is_value_byte b) (list_all is_value_byte bs) all in
     let c = calm text p (byte_here text p b e here) in
     let some = c.some in
     let one = within text p some in
@@ -119,7 +119,7 @@ pub plain_read : (flow : Bool) (text : List ℕ) (p : ℕ) (value gap : List ℕ
     → plain_at flow 0 text p ≡ Ok (record { value = value; end = p + length value; place = p + length value + length gap; broke = has_break gap })
 unfolding is_plain_value
 plain_read flow text p value gap is h are ends =
-    let (begins, all) = pair (begins_value value) (list_all is_value_byte value) is in
+    let (begins, all) = and_parts (begins_value value) (list_all is_value_byte value) is in
     read_by flow text p value gap begins all h are ends
 
 -- ---- where it ends
@@ -127,18 +127,6 @@ plain_read flow text p value gap is h are ends =
 -- the end of the text, and in brackets a comma or a closing one
 abbrev pub IsStop : Bool → ℕ → Type 0
 IsStop flow b = (b ≡ 0) ⊎ ((flow ≡ true) × ((b ≡ 44) ⊎ ((b ≡ 93) ⊎ (b ≡ 125))))
-
-or_cases : (a b : Bool) → (a || b) ≡ true → (a ≡ true) ⊎ (b ≡ true)
-or_cases true b e = inl refl
-or_cases false b e = inr e
-
-or_left : (a b : Bool) → a ≡ true → (a || b) ≡ true
-or_left true b e = refl
-or_left false b e = absurd (cc)
-
-or_right : (a b : Bool) → b ≡ true → (a || b) ≡ true
-or_right true b e = refl
-or_right false b e = e
 
 calm_width : (b c d : ℕ) → (b ≡ 0) ⊎ ((b ≡ 44) ⊎ ((b ≡ 93) ⊎ (b ≡ 125))) → break_of b c d ≡ 0
 unfolding break_of
@@ -259,7 +247,7 @@ begin_by flow text p (b ∷ bs) h (e, more) =
           let here = subst (λ x. Letter x) (sym e) (letter b l) in
           (letter_begins text p here, letter_kind flow text p here)
       | inr d ↦
-          let (dash, second) = pair (b == 45) (is_letter_or_digit (first bs)) d in
+          let (dash, second) = and_parts (b == 45) (is_letter_or_digit (first bs)) d in
           let here : byte text p ≡ 45 = grind (arith, nat_tests) in
           (dash_begins text p here, dash_kind flow text p here (next_letter text (p + 1) bs second more))
     ]
@@ -267,5 +255,5 @@ begin_by flow text p (b ∷ bs) h (e, more) =
 pub plain_begins : (flow : Bool) (text : List ℕ) (p : ℕ) (value : List ℕ) → is_plain_value value ≡ true → Has text p value → (begins_lexeme text p ≡ true) × (kind_at flow text p ≡ Some kinds.Plain)
 unfolding is_plain_value
 plain_begins flow text p value is h =
-    let (begins, all) = pair (begins_value value) (list_all is_value_byte value) is in
+    let (begins, all) = and_parts (begins_value value) (list_all is_value_byte value) is in
     begin_by flow text p value begins h

@@ -4,6 +4,7 @@ use Rattle.std.specs.Prelude.{if◌then◌else◌}
 use Rattle.std.proofs.lemmas.Bool.{true≢false}
 use Rattle.std.proofs.lemmas.Bool.Decides.{nat_tests}
 use Rattle.std.proofs.lemmas.List.{length-append, get_or_past}
+use Rattle.std.proofs.Math.Bool.{or-true}
 use Rattle.yaml_scan_history.specs.scan_model.declared.name.yaml_encoding_t.{yaml_encoding_t}
 use Rattle.yaml_scan_history.specs.scan_model.declared.name.yaml_scalar_style_t.TheVariants.{YAML_PLAIN_SCALAR_STYLE, YAML_DOUBLE_QUOTED_SCALAR_STYLE}
 use Rattle.yaml_scan_history.specs.scan_model.Marks.{byte, column_at, mark_at, is_blank_or_end}
@@ -118,9 +119,6 @@ indent_none = refl
 
 right_none : (d c : ℕ) → IsRight d [] c
 right_none d c = inr (let z = indent_none in omega (arith, z))
-
-never : false ≡ true → ⊥
-never e = cc
 
 -- a lexeme stands at the place
 record Stands (text : List ℕ) (p d : ℕ) (k : Kind) (w : WordText) : Type 0 where
@@ -250,10 +248,6 @@ sign_step x text b f T k body ws bs o r is stays plain deep white fits l starts 
     let leaves = white_leaves text (depth_after k o.depth) (allows_key k (o.depth == 0) false) w ws (has_of text (p + 1) ws bs more) white fits (starts (p + 1 + length ws) left) in
     step x text bs o.depth f T k w (p + 1 + length ws) _ o r (sign_stands b k body o.depth is text p (left_first text p b (ws ++ bs) l)) (omega arith) stays plain leaves deep left
 
-or_true : (a : Bool) → (a || true) ≡ true
-or_true true = refl
-or_true false = refl
-
 deeper : (d : ℕ) → nat_lt 0 (d + 1) ≡ true
 deeper d = grind (arith, nat_tests)
 
@@ -268,12 +262,12 @@ pub opener_step : (mapping : Bool) (x : yaml_encoding_t) (text ws bs : List ℕ)
 opener_step true x text ws bs d T a white solid =
     let o = a.place in
     let same = a.deep in
-    (sign_step x text 123 (d + 1) T kinds.FlowMappingStart tokens.flow_mapping_start ws bs o a.reads (opener_sign true o.depth) (or_true (nat_lt 0 o.depth)) refl (ap (λ (n : ℕ). n + 1) same) white
+    (sign_step x text 123 (d + 1) T kinds.FlowMappingStart tokens.flow_mapping_start ws bs o a.reads (opener_sign true o.depth) (or-true (nat_lt 0 o.depth)) refl (ap (λ (n : ℕ). n + 1) same) white
     (flow_fits (nat_lt 0 (o.depth + 1)) true ws (deeper o.depth)) a.left (λ q l. left_starts text q bs l solid)).0 refl
 opener_step false x text ws bs d T a white solid =
     let o = a.place in
     let same = a.deep in
-    (sign_step x text 91 (d + 1) T kinds.FlowSequenceStart tokens.flow_sequence_start ws bs o a.reads (opener_sign false o.depth) (or_true (nat_lt 0 o.depth)) refl (ap (λ (n : ℕ). n + 1) same) white
+    (sign_step x text 91 (d + 1) T kinds.FlowSequenceStart tokens.flow_sequence_start ws bs o a.reads (opener_sign false o.depth) (or-true (nat_lt 0 o.depth)) refl (ap (λ (n : ℕ). n + 1) same) white
     (flow_fits (nat_lt 0 (o.depth + 1)) true ws (deeper o.depth)) a.left (λ q l. left_starts text q bs l solid)).0 refl
 
 fits_so : (n d : ℕ) (ws : List ℕ) → n ≡ d → tabs_fit (nat_lt 0 d) false ws ≡ true → tabs_fit (nat_lt 0 n) false ws ≡ true
@@ -285,19 +279,19 @@ closer_step true x text ws bs d T a white fits next =
     let o = a.place in
     let same = a.deep in
     let less : o.depth - 1 ≡ d = omega (arith, same) in
-    (sign_step x text 125 d T kinds.FlowMappingEnd tokens.flow_mapping_end ws bs o a.reads (closer_sign true o.depth) (or_true (nat_lt 0 o.depth)) refl less white
+    (sign_step x text 125 d T kinds.FlowMappingEnd tokens.flow_mapping_end ws bs o a.reads (closer_sign true o.depth) (or-true (nat_lt 0 o.depth)) refl less white
     (fits_so (o.depth - 1) d ws less fits) a.left (λ q l. behind_starts d bs text q next l)).1
 closer_step false x text ws bs d T a white fits next =
     let o = a.place in
     let same = a.deep in
     let less : o.depth - 1 ≡ d = omega (arith, same) in
-    (sign_step x text 93 d T kinds.FlowSequenceEnd tokens.flow_sequence_end ws bs o a.reads (closer_sign false o.depth) (or_true (nat_lt 0 o.depth)) refl less white
+    (sign_step x text 93 d T kinds.FlowSequenceEnd tokens.flow_sequence_end ws bs o a.reads (closer_sign false o.depth) (or-true (nat_lt 0 o.depth)) refl less white
     (fits_so (o.depth - 1) d ws less fits) a.left (λ q l. behind_starts d bs text q next l)).1
 
 pub comma_step : (x : yaml_encoding_t) (text ws bs : List ℕ) (d : ℕ) (T : Tell) → At x text (44 ∷ (ws ++ bs)) d T → nat_lt 0 d ≡ true → are_white ws ≡ true → begins_solid bs ≡ true → Ready x text bs d (λ es. T (tokens.flow_entry ∷ es))
 comma_step x text ws bs d T a deep white solid =
     let o = a.place in
-    (sign_step x text 44 d T kinds.FlowEntry tokens.flow_entry ws bs o a.reads (comma_sign o.depth) (or_true (nat_lt 0 o.depth)) refl a.deep white
+    (sign_step x text 44 d T kinds.FlowEntry tokens.flow_entry ws bs o a.reads (comma_sign o.depth) (or-true (nat_lt 0 o.depth)) refl a.deep white
     (flow_fits (nat_lt 0 o.depth) true ws (ap (λ (n : ℕ). nat_lt 0 n) a.deep ∙ deep)) a.left (λ q l. left_starts text q bs l solid)).0 refl
 
 -- ---- literals and numbers
@@ -320,7 +314,7 @@ plain_step x text value ws bs d T is a white next =
     let (starts, kind) = plain_begins flow text p value is (has_front text p value ws both) in
     let w : WordText = record { body = tokens.scalar value YAML_PLAIN_SCALAR_STYLE; end = p + length value; reached = e; broke = has_break ws } in
     let stands : Stands text p o.depth kinds.Plain w = record { starts = starts; kind = kind; word = plain_word flow text p _ (plain_read flow text p value ws is both white (stops_at flow text e stop)) } in
-    (step x text bs o.depth d T kinds.Plain w e _ o a.reads stands (omega arith) (or_true (nat_lt 0 o.depth)) refl (word_leaves text o.depth false w (behind_starts d bs text e next left)) a.deep left).1
+    (step x text bs o.depth d T kinds.Plain w e _ o a.reads stands (omega arith) (or-true (nat_lt 0 o.depth)) refl (word_leaves text o.depth false w (behind_starts d bs text e next left)) a.deep left).1
 
 -- ---- strings
 
@@ -348,7 +342,7 @@ string_step x text ls ws bs d T h k a white fits next =
     let more = left_rest text p (string_bytes ls) (ws ++ bs) a.left in
     let left = left_rest text q ws bs more in
     let leaves = white_leaves text o.depth false w ws (has_of text q ws bs more) white (fits_so o.depth d ws a.deep fits) (behind_starts d bs text (q + length ws) next left) in
-    (step x text bs o.depth d T kinds.DoubleQuoted w (q + length ws) _ o a.reads (string_stands ls text (ws ++ bs) p o.depth h k a.left) (omega arith) (or_true (nat_lt 0 o.depth)) refl leaves a.deep left).1
+    (step x text bs o.depth d T kinds.DoubleQuoted w (q + length ws) _ o a.reads (string_stands ls text (ws ++ bs) p o.depth h k a.left) (omega arith) (or-true (nat_lt 0 o.depth)) refl leaves a.deep left).1
 
 -- ---- keys
 

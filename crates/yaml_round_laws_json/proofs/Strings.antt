@@ -1,8 +1,9 @@
 -- Strings are spellings between double quotes.
 use Rattle.std.proofs.Common.{◌≡◌, ℕ, ◌+◌, ◌-◌, ◌*◌, ◌<◌, ◌≤◌, ◌==◌, ◌&&◌, ◌||◌, not, nat_lt, nat_le, Bool, true, false, List, [], ◌∷◌, ◌++◌, length, Option, Some, Ok, refl, sym, ap, subst, ◌∙◌, inl, inr, arith}
 use Rattle.std.specs.Prelude.{if◌then◌else◌, option_and_then}
-use Rattle.std.proofs.lemmas.Bool.{cases_Bool}
+use Rattle.std.proofs.lemmas.Bool.{cases_Bool, and_parts}
 use Rattle.std.proofs.lemmas.Bool.Decides.{nat_tests}
+use Rattle.std.proofs.Math.Bool.{and-false}
 use lib.Utf8.{scalar}
 use Rattle.yaml_scan_history.specs.scan_words.Written.{HasAt}
 use Rattle.yaml_scan_history.specs.scan_scalars.Quoted.{hex_digit, hex_len, simple_escape, double_quoted_at}
@@ -12,7 +13,6 @@ use Rattle.yaml_emit_laws_text.proofs.Parts.{spelling_reads}
 use Rattle.yaml_round_laws_json.specs.Grammar.{Short, quote, backslash, slash, backspace, form_feed, line_feed, carriage_return, tab, short_byte, short_means, HexDigit, hex_byte, Letter, raw, short, coded, code, letter_bytes, letters_bytes, string_bytes, IsLetter, AreLetters}
 use Rattle.yaml_round_laws_json.specs.Values.{letter_means, letters_mean}
 use Rattle.yaml_round_laws_json.specs.Exceptions.{is_refused, ends_line, is_surrogate, is_kept, are_kept}
-use Rattle.yaml_round_laws_json.proofs.Whites.{pair}
 
 -- ---- digits
 
@@ -139,7 +139,7 @@ raw_stands c h k = grind (arith, nat_tests)
 part_stands : (l : Letter) → IsLetter l → is_kept l ≡ true → MayStand 34 (part_of l)
 unfolding part_of
 part_stands (raw c) h k =
-    let (char, own) = pair (scalar c) (nat_le 32 c && not (c == 34 || c == 92)) h in
+    let (char, own) = and_parts (scalar c) (nat_le 32 c && not (c == 34 || c == 92)) h in
     rw char (raw_stands c own k)
 part_stands (short s) h k = (refl, short_reads s)
 part_stands (coded a b c d) (ha, hb, hc, hd) k =
@@ -157,12 +157,8 @@ no_fold (raw c) = refl
 no_fold (short s) = refl
 no_fold (coded a b c d) = refl
 
-and_false : (a : Bool) → (a && false) ≡ false
-and_false true = refl
-and_false false = refl
-
 follows : (l m : Letter) → may_follow (part_of l) (part_of m) ≡ true
-follows l m = rw (no_fold m, no_turn l, and_false (is_raw_blank (part_of m))) refl
+follows l m = rw (no_fold m, no_turn l, and-false (is_raw_blank (part_of m))) refl
 
 next_follows : (l : Letter) (ls : List Letter) → may_be_next (part_of l) (parts_of ls) ≡ true
 unfolding parts_of
@@ -173,7 +169,7 @@ parts_stand : (ls : List Letter) → AreLetters ls → are_kept ls ≡ true → 
 unfolding IsSpelling parts_of
 parts_stand [] h k = tt
 parts_stand (l ∷ ls) (h, hs) k =
-    let (here, rest) = pair (is_kept l) (are_kept ls) k in
+    let (here, rest) = and_parts (is_kept l) (are_kept ls) k in
     (part_stands l h here, next_follows l ls, parts_stand ls hs rest)
 
 -- ---- and are read

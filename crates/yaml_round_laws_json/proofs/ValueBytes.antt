@@ -1,6 +1,7 @@
 -- What the bytes of plain values are not.
 use Rattle.std.proofs.Common.{◌≡◌, ◌≢◌, ℕ, ◌+◌, ◌-◌, ◌<◌, ◌==◌, ◌&&◌, Bool, true, false, List, [], ◌∷◌, refl, arith}
 use Rattle.std.proofs.lemmas.Bool.Decides.{nat_tests}
+use Rattle.std.proofs.lemmas.Bool.{ne_eqb}
 use Rattle.yaml_scan_history.specs.scan_model.Marks.{byte, break_width, ends_of, ends_break, column_at, is_blank, starts}
 use Rattle.yaml_scan_history.specs.scan_model.Breaks.{is_document_indicator}
 use Rattle.yaml_scan_history.proofs.MarksLemmas.{no_break_between, column_more}
@@ -36,9 +37,6 @@ ends_none x y b c h i = grind (arith, nat_tests)
 
 ascii_starts : (b : ℕ) → b < 123 → starts b ≡ true
 ascii_starts b h = grind (arith, nat_tests)
-
-pub differs : (b n : ℕ) → b ≢ n → (b == n) ≡ false
-differs b n h = grind (arith, nat_tests)
 
 -- a byte of such a value
 pub record IsCalm (text : List ℕ) (p : ℕ) : Type 0 where
@@ -80,10 +78,10 @@ not_ended : (flow : Bool) (level : ℕ) (text : List ℕ) (p : ℕ) → IsCalm t
 unfolding ends_at
 not_ended true level text p c d =
     let some = d.some in
-    rw (no_indicator text p c, differs (byte text (p + 1)) 0 (omega (arith, some)), differs (byte text (p + 1)) 35 d.hash, differs (byte text (p + 1)) 58 d.colon, d.bracket) refl
+    rw (no_indicator text p c, ne_eqb (byte text (p + 1)) 0 (omega (arith, some)), ne_eqb (byte text (p + 1)) 35 d.hash, ne_eqb (byte text (p + 1)) 58 d.colon, d.bracket) refl
 not_ended false level text p c d =
     let some = d.some in
-    rw (no_indicator text p c, differs (byte text (p + 1)) 0 (omega (arith, some)), differs (byte text (p + 1)) 35 d.hash, differs (byte text (p + 1)) 58 d.colon, leads-text text p c.blank c.ends) refl
+    rw (no_indicator text p c, ne_eqb (byte text (p + 1)) 0 (omega (arith, some)), ne_eqb (byte text (p + 1)) 35 d.hash, ne_eqb (byte text (p + 1)) 58 d.colon, leads-text text p c.blank c.ends) refl
 
 no_colon : (flow : Bool) (b : ℕ) (x : Bool) → b ≢ 58 → (flow && (b == 58 && x)) ≡ false
 no_colon flow b x h = grind (arith, nat_tests)

@@ -1,6 +1,6 @@
 -- A JSON text is walked: its tokens are those of its value.
 use Rattle.std.proofs.Common.{◌≡◌, ℕ, ◌+◌, ◌==◌, ◌||◌, not, nat_lt, Bool, true, false, List, [], ◌∷◌, ◌++◌, length, refl, sym, ap, subst, ◌∙◌, inl, inr, arith, append-nil}
-use Rattle.std.proofs.lemmas.Bool.{true≢false}
+use Rattle.std.proofs.lemmas.Bool.{true≢false, or_parts, and_parts}
 use Rattle.std.proofs.lemmas.Bool.Decides.{nat_tests}
 use Rattle.yaml_scan_history.specs.scan_model.declared.name.yaml_encoding_t.{yaml_encoding_t}
 use Rattle.yaml_scan_history.specs.scan_model.Marks.{byte}
@@ -20,7 +20,7 @@ use Rattle.yaml_round_laws_json.specs.Grammar.{is_white, are_white, Value, liter
 use Rattle.yaml_round_laws_json.specs.Values.{Json, json_value, json_node, json_nodes, json_document}
 use Rattle.yaml_round_laws_json.specs.Values as values
 use Rattle.yaml_round_laws_json.specs.Exceptions.{is_bare, has_tab, has_tab_below, IsUsual, AreUsual, MembersAreUsual, IsUsualText}
-use Rattle.yaml_round_laws_json.proofs.Whites.{pair, tabs_fit}
+use Rattle.yaml_round_laws_json.proofs.Whites.{tabs_fit}
 use Rattle.yaml_round_laws_json.proofs.Numbers.{literal_plain, number_plain, value_begins, elements_begin, members_begin}
 use Rattle.yaml_round_laws_json.proofs.Steps.{Tell, Behind, At, Ready, nothing_left, no_gap, opener_step, closer_step, comma_step, plain_step, string_step, key_step}
 
@@ -159,15 +159,11 @@ mutual
 white_gap : (b : ℕ) → is_white b ≡ true → (b == 9) ≡ false → (b == 32 || (b == 10 || b == 13)) ≡ true
 white_gap b h k = grind (arith, nat_tests)
 
-neither : (a b : Bool) → (a || b) ≡ false → (a ≡ false) × (b ≡ false)
-neither false b h = (refl, h)
-neither true b h = absurd (true≢false h)
-
 front_gap : (ws : List ℕ) → are_white ws ≡ true → has_tab ws ≡ false → are_gap ws ≡ true
 front_gap [] h k = refl
 front_gap (w ∷ ws) h k =
-    let (here, rest) = pair (is_white w) (are_white ws) h in
-    let (none, more) = neither (w == 9) (has_tab ws) k in
+    let (here, rest) = and_parts (is_white w) (are_white ws) h in
+    let (none, more) = or_parts (w == 9) (has_tab ws) k in
     rw (white_gap w here none) (front_gap ws rest more)
 
 -- the first word of the text

@@ -1,6 +1,6 @@
 -- The white of JSON, with tabs, between lexemes.
 use Rattle.std.proofs.Common.{◌≡◌, ◌≢◌, ℕ, zero, suc, ◌+◌, ◌<◌, ◌≤◌, ◌==◌, ◌&&◌, ◌||◌, not, nat_lt, Bool, true, false, List, [], ◌∷◌, length, refl, sym, ap, subst, ◌∙◌, inl, inr, ◌⊎◌, arith}
-use Rattle.std.proofs.lemmas.Bool.{true≢false, cases_Bool}
+use Rattle.std.proofs.lemmas.Bool.{true≢false, cases_Bool, and_parts, not-true, ne_eqb, lt-ltb}
 use Rattle.std.proofs.lemmas.Bool.Decides.{nat_tests}
 use Rattle.yaml_scan_history.specs.scan_model.Marks.{byte, break_of, break_width}
 use Rattle.yaml_scan_history.specs.scan_model.Classes.{is_bom}
@@ -18,14 +18,6 @@ use Rattle.yaml_round_laws_json.specs.Grammar.{is_white, are_white}
 use Rattle.yaml_round_laws_json.specs.Exceptions.{is_break, has_tab, has_tab_below}
 
 -- ---- one step
-
-pub pair : (a b : Bool) → (a && b) ≡ true → (a ≡ true) × (b ≡ true)
-pair true b h = (refl, h)
-pair false b h = absurd (true≢false (sym h))
-
-negated : (a : Bool) → not a ≡ true → a ≡ false
-negated true h = absurd (true≢false (sym h))
-negated false h = refl
 
 not_first : (first : Bool) (a b c : ℕ) → a ≢ 0xEF → (first && (a == 0xEF && (b == 0xBB && c == 0xBF))) ≡ false
 not_first true a b c h = grind (arith, nat_tests)
@@ -56,12 +48,6 @@ no_skip : (tabs : Bool) (b : ℕ) → b ≢ 32 → b ≢ 9 → (b == 32 || (tabs
 no_skip true b h i = grind (arith, nat_tests)
 no_skip false b h i = grind (arith, nat_tests)
 
-differs : (b n : ℕ) → b ≢ n → (b == n) ≡ false
-differs b n h = grind (arith, nat_tests)
-
-positive : (n : ℕ) → 0 < n → nat_lt 0 n ≡ true
-positive n h = grind (arith, nat_tests)
-
 break_parts : (b c d : ℕ) → 0 < break_of b c d → (b ≢ 0xEF) × (b ≢ 32) × (b ≢ 9) × (b ≢ 35)
 unfolding break_of
 break_parts b c d h = (grind (arith, nat_tests), grind (arith, nat_tests), grind (arith, nat_tests), grind (arith, nat_tests))
@@ -73,8 +59,8 @@ step_break n flow allowed text p w width room =
     let (bom, space, tab, hash) = break_parts _ _ _ some in
     let first : (p == 0 && is_bom text p) ≡ false = no_bom text p bom in
     let second : is_skipped (flow || not allowed) text p ≡ false = no_skip (flow || not allowed) (byte text p) space tab in
-    let third : (byte text p == 35) ≡ false = differs (byte text p) 35 hash in
-    let (m, more, far, inside, same) = gap_break n flow allowed text p (p + break_width text p) (rw (first, second, third, positive (break_width text p) some) refl) room in
+    let third : (byte text p == 35) ≡ false = ne_eqb (byte text p) 35 hash in
+    let (m, more, far, inside, same) = gap_break n flow allowed text p (p + break_width text p) (rw (first, second, third, lt-ltb 0 (break_width text p) some) refl) room in
     let same_place : (gap_within n flow allowed text p).place ≡ (gap_within m flow (allowed || not flow) text (p + break_width text p)).place = ap (λ (g : Gap). g.place) same in
     let P : ℕ → Type 0 = λ k. (length text ≤ p + k + m) × ((gap_within n flow allowed text p).place ≡ (gap_within m flow (allowed || not flow) text (p + k)).place) in
     let (room_left, place) = subst P width (more, same_place) in
@@ -85,18 +71,18 @@ unequal b n h = grind (arith, nat_tests)
 
 lexeme_parts : (b c : Bool) (d : ℕ) → (not (d == 32) && (not (d == 9) && (not (d == 35) && (not b && not c)))) ≡ true → (d ≢ 32) × (d ≢ 9) × (d ≢ 35) × (b ≡ false) × (c ≡ false)
 lexeme_parts b c d h =
-    let (space, h1) = pair (not (d == 32)) (not (d == 9) && (not (d == 35) && (not b && not c))) h in
-    let (tab, h2) = pair (not (d == 9)) (not (d == 35) && (not b && not c)) h1 in
-    let (hash, h3) = pair (not (d == 35)) (not b && not c) h2 in
-    let (none, first) = pair (not b) (not c) h3 in
-    (unequal d 32 space, unequal d 9 tab, unequal d 35 hash, negated b none, negated c first)
+    let (space, h1) = and_parts (not (d == 32)) (not (d == 9) && (not (d == 35) && (not b && not c))) h in
+    let (tab, h2) = and_parts (not (d == 9)) (not (d == 35) && (not b && not c)) h1 in
+    let (hash, h3) = and_parts (not (d == 35)) (not b && not c) h2 in
+    let (none, first) = and_parts (not b) (not c) h3 in
+    (unequal d 32 space, unequal d 9 tab, unequal d 35 hash, not-true b none, not-true c first)
 
 step_lexeme : (n : ℕ) (flow allowed : Bool) (text : List ℕ) (p : ℕ) → begins_lexeme text p ≡ true → length text ≤ p + n → (gap_within n flow allowed text p).place ≡ p
 unfolding step_at
 step_lexeme n flow allowed text p h room =
     let (space, tab, hash, none, first) = lexeme_parts (nat_lt 0 (break_width text p)) (p == 0 && is_bom text p) (byte text p) h in
     let second : is_skipped (flow || not allowed) text p ≡ false = no_skip (flow || not allowed) (byte text p) space tab in
-    let third : (byte text p == 35) ≡ false = differs (byte text p) 35 hash in
+    let third : (byte text p == 35) ≡ false = ne_eqb (byte text p) 35 hash in
     ap (λ (g : Gap). g.place) (gap_stop n flow allowed text p p (rw (first, second, third, none) refl) room)
 
 -- ---- widths of breaks
@@ -127,10 +113,6 @@ abbrev pub tabs_fit : Bool → Bool → List ℕ → Bool
 tabs_fit true allowed ws = true
 tabs_fit false true ws = not (has_tab ws)
 tabs_fit false false ws = not (has_tab_below ws)
-
-or_right : (a b : Bool) → b ≡ true → (a || b) ≡ true
-or_right true b e = refl
-or_right false b e = e
 
 -- a tab that fits is skipped, and the others fit
 fits_tab : (flow allowed : Bool) (bs : List ℕ) → tabs_fit flow allowed (9 ∷ bs) ≡ true → ((flow || not allowed) ≡ true) × (tabs_fit flow allowed bs ≡ true)
@@ -192,7 +174,7 @@ returns k all n flow allowed text p [] few e h are fits stop room =
     let width : break_width text p ≡ 1 = rw e (cr_width (byte text (p + 1)) (byte text (p + 2)) (some_width _ _ _ none)) in
     single k all n flow allowed text p [] few width h are fits stop room
 returns k all n flow allowed text p (c ∷ cs) few e (f, h) are fits stop room =
-    let (front, back) = pair (is_white c) (are_white cs) are in
+    let (front, back) = and_parts (is_white c) (are_white cs) are in
     let two : p + 1 + 1 ≡ p + 2 = omega arith in
     let far : Has text (p + 2) cs = rw two at h in
     let end : p + 1 + suc (length cs) ≡ p + 2 + length cs = omega arith in
@@ -217,7 +199,7 @@ leads k n flow allowed text p [] few h are fits stop room =
     step_lexeme n flow allowed text p here room ∙ sym z
 leads zero n flow allowed text p (b ∷ bs) few h are fits stop room = absurd (omega (arith, few))
 leads (suc k) n flow allowed text p (b ∷ bs) few (e, h) are fits stop room =
-    let (front, back) = pair (is_white b) (are_white bs) are in
+    let (front, back) = and_parts (is_white b) (are_white bs) are in
     let end : p + suc (length bs) ≡ p + 1 + length bs = omega arith in
     let after : begins_lexeme text (p + 1 + length bs) ≡ true = rw end at stop in
     elim (byte_cases b front) [
@@ -246,7 +228,7 @@ white_leads flow allowed text p ws h are fits stop = leads (length ws) (length t
 nothing_more : (text : List ℕ) (p : ℕ) (gap : List ℕ) → begins_lexeme text p ≡ true → IsGap text p gap → gap ≡ []
 nothing_more text p [] e g = refl
 nothing_more text p (x ∷ gap) e g =
-    let (here, rest) = pair (x == 32 || (x == 10 || x == 13)) (are_gap gap) g.blank in
+    let (here, rest) = and_parts (x == 32 || (x == 10 || x == 13)) (are_gap gap) g.blank in
     absurd (no_white text p x (has_first text p x gap g.has) here e)
 
 -- whether a key may begin behind white

@@ -1,6 +1,7 @@
 -- The documents don't start with nothing: what would be nothing there is quoted.
 use Rattle.std.proofs.Common.{◌≡◌, ℕ, ◌==◌, Bool, true, false, not, ◌&&◌, ◌||◌, if◌then◌else◌, List, [], ◌∷◌, length, Option, Some, None, refl, ap, ◌∙◌}
 use Rattle.std.specs.Str.{chars}
+use Rattle.std.proofs.Math.Bool.{and-false}
 use Rattle.yaml_emit_laws_text.specs.emit_layout.emit_text.declared.Settings.{Settings}
 use Rattle.yaml_emit_laws_text.specs.emit_layout.emit_text.declared.Allowed.{Allowed}
 use Rattle.yaml_emit_laws_text.specs.emit_layout.emit_text.declared.Style.{Style}
@@ -17,10 +18,6 @@ use Rattle.yaml_emit_laws_pretty.specs.Bodies as bodies
 use Rattle.yaml_emit_laws_pretty.specs.Bodies.{style_at, is_bare, is_empty, is_left_out, context_in, starts_with_nothing}
 use Rattle.yaml_round_laws_pretty.proofs.Contents.{style_not_plain}
 use Rattle.yaml_round_laws_normal.specs.Readable.{readable_scalar, readable_node, is_unmarked, documents_from, readable_documents}
-
-and_off : (a : Bool) → (a && false) ≡ false
-and_off true = refl
-and_off false = refl
 
 single_not_plain : (a : Allowed) → is_plain (single_or a) ≡ false
 single_not_plain a = by a.single
@@ -63,7 +60,7 @@ scalar_left p pretty anchor (untagged true) (b ∷ bs) = filled (is_plain (style
 scalar_left p pretty None (untagged true) [] =
     let x = readable_scalar true None (untagged true) [] in
     nothing_left (is_plain (style_at p false part.Item x)) true true (asked_single p x pretty refl)
-scalar_left p pretty (Some name) (untagged true) [] = and_off (bodies.is_nothing false (style_at p false part.Item (readable_scalar true (Some name) (untagged true) [])) [])
+scalar_left p pretty (Some name) (untagged true) [] = and-false (bodies.is_nothing false (style_at p false part.Item (readable_scalar true (Some name) (untagged true) [])) [])
 
 root_left : (p : Context) → p.settings.canonical ≡ false → (n : Node) → is_left_out p false part.Item (readable_node true n) ≡ false
 root_left p pretty (alias name) = refl

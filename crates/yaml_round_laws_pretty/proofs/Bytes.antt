@@ -1,7 +1,7 @@
 -- Bytes of pretty text are decoded to it.
 use Rattle.std.proofs.Common.{◌≡◌, ℕ, ◌+◌, ◌/◌, ◌%◌, ◌<◌, Bool, true, false, ◌&&◌, nat_lt, if◌then◌else◌, List, [], ◌∷◌, ◌++◌, drop, refl, sym, ap, ◌∙◌, arith, inl, inr}
 use Rattle.std.specs.Prelude.{nat_eq}
-use Rattle.std.proofs.lemmas.Bool.{cases_Bool}
+use Rattle.std.proofs.lemmas.Bool.{cases_Bool, ltb-true, and_parts, ne_eqb, eqb-true}
 use Rattle.std.proofs.lemmas.Bool.Decides.{nat_tests}
 use Rattle.yaml_parse_grammar.specs.parse_model.declared.yaml_encoding_t.{yaml_encoding_t}
 use Rattle.yaml_parse_grammar.specs.parse_model.declared.yaml_encoding_t.TheVariants.{YAML_ANY_ENCODING, YAML_UTF8_ENCODING, YAML_UTF16LE_ENCODING, YAML_UTF16BE_ENCODING}
@@ -23,13 +23,13 @@ use Rattle.yaml_round_laws_pretty.specs.Laws.{PrettyBytesDecode}
 use Rattle.yaml_round_laws_pretty.proofs.Layouts.{documents_tame}
 use Rattle.yaml_round_laws_documents.proofs.Layouts.{Allowed, nothing_allowed}
 use Rattle.yaml_round_laws_documents.proofs.Marks.{Told, low_told, low_behind, high_told, high_behind}
-use Rattle.yaml_round_laws_pretty.proofs.Marks.{NoMark, Begins, begins_nothing, told_one, told_three, differs, equals, documents_heads}
+use Rattle.yaml_round_laws_pretty.proofs.Marks.{NoMark, Begins, begins_nothing, told_one, told_three, documents_heads}
 
 off_by : (a b : ℕ) → b < a → nat_eq a b ≡ false
-off_by a b h = differs a b (λ e. omega (arith, h, e))
+off_by a b h = ne_eqb a b (λ e. omega (arith, h, e))
 
 above_by : (a b : ℕ) → a < b → nat_eq a b ≡ false
-above_by a b h = differs a b (λ e. omega (arith, h, e))
+above_by a b h = ne_eqb a b (λ e. omega (arith, h, e))
 
 test_one : (c : ℕ) → c < 128 → (bs : List ℕ) → Told (c ∷ bs)
 test_one c h bs = told_one c bs (off_by 0xFF c (omega (arith, h))) (off_by 0xFE c (omega (arith, h))) (off_by 0xEF c (omega (arith, h)))
@@ -53,17 +53,6 @@ bound : (c : ℕ) → Fits c → c < 0x11_0000
 unfolding is_allowed
 bound c f = grind (arith, nat_tests)
 
-below : (a b : ℕ) → nat_lt a b ≡ true → a < b
-below a b e = grind (arith, nat_tests)
-
-and_left : (a b : Bool) → (a && b) ≡ true → a ≡ true
-and_left true b e = refl
-and_left false b e = absurd (cc)
-
-and_right : (a b : Bool) → (a && b) ≡ true → b ≡ true
-and_right true b e = e
-and_right false b e = absurd (cc)
-
 not_all : (c : ℕ) → NoMark c → (nat_eq 0xEF (0xE0 + c / 0x1000) && (nat_eq 0xBB (0x80 + c / 0x40 % 0x40) && nat_eq 0xBF (0x80 + c % 0x40))) ≡ false
 not_all c h =
     let x = nat_eq 0xEF (0xE0 + c / 0x1000) in
@@ -71,17 +60,17 @@ not_all c h =
     let z = nat_eq 0xBF (0x80 + c % 0x40) in
     elim (cases_Bool (x && (y && z))) [
       | inr e ↦ e
-      | inl e ↦ absurd (h (is_mark c (equals _ _ (and_left x (y && z) e)) (equals _ _ (and_left y z (and_right x (y && z) e))) (equals _ _ (and_right y z (and_right x (y && z) e)))))
+      | inl e ↦ absurd (h (is_mark c (eqb-true _ _ (and_parts x (y && z) e).0) (eqb-true _ _ (and_parts y z (and_parts x (y && z) e).1).0) (eqb-true _ _ (and_parts y z (and_parts x (y && z) e).1).1)))
     ]
 
 told_by : (c : ℕ) (bs : List ℕ) → c < 0x11_0000 → NoMark c → (p q r : Bool) → nat_lt c 0x80 ≡ p → nat_lt c 0x800 ≡ q → nat_lt c 0x1_0000 ≡ r
     → Told ((if p then c ∷ [] else if q then (0xC0 + c / 0x40) ∷ (0x80 + c % 0x40) ∷ [] else if r then (0xE0 + c / 0x1000) ∷ (0x80 + c / 0x40 % 0x40) ∷ (0x80 + c % 0x40) ∷ [] else (0xF0 + c / 0x4_0000) ∷ (0x80 + c / 0x1000 % 0x40) ∷ (0x80 + c / 0x40 % 0x40) ∷ (0x80 + c % 0x40) ∷ []) ++ bs)
-told_by c bs least h true q r x y z = test_one c (below c 0x80 x) bs
+told_by c bs least h true q r x y z = test_one c (ltb-true c 0x80 x) bs
 told_by c bs least h false true r x y z =
-    let b = two_low c (below c 0x800 y) in
+    let b = two_low c (ltb-true c 0x800 y) in
     told_one (0xC0 + c / 0x40) _ (off_by 0xFF _ (omega (arith, b))) (off_by 0xFE _ (omega (arith, b))) (off_by 0xEF _ (omega (arith, b)))
 told_by c bs least h false false true x y z =
-    let b = three_low c (below c 0x1_0000 z) in
+    let b = three_low c (ltb-true c 0x1_0000 z) in
     told_three (0xE0 + c / 0x1000) (0x80 + c / 0x40 % 0x40) (0x80 + c % 0x40) bs (off_by 0xFF _ (omega (arith, b))) (off_by 0xFE _ (omega (arith, b)))
     (nat_eq 0xEF (0xE0 + c / 0x1000)) (nat_eq 0xBB (0x80 + c / 0x40 % 0x40)) (nat_eq 0xBF (0x80 + c % 0x40)) refl refl refl (not_all c h)
 told_by c bs least h false false false x y z =

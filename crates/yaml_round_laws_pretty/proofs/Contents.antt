@@ -1,9 +1,9 @@
 -- What the events say that are read of pretty text.
-use Rattle.std.proofs.Common.{◌≡◌, ℕ, Bool, true, false, not, ◌&&◌, ◌||◌, ◌==◌, if◌then◌else◌, List, [], ◌∷◌, length, map, Option, Some, None, refl, ap, ◌∙◌, inl, inr, codes, arith}
+use Rattle.std.proofs.Common.{◌≡◌, ℕ, Bool, true, false, not, ◌&&◌, ◌||◌, ◌==◌, if◌then◌else◌, List, [], ◌∷◌, length, map, Option, Some, None, refl, ap, ◌∙◌, inl, inr, codes, arith, sym}
 use Rattle.std.specs.Str.{bytes_eq, chars}
-use Rattle.std.proofs.lemmas.Bool.{cases_Bool}
-use Rattle.std.proofs.lemmas.Bool.Decides.{nat_tests}
+use Rattle.std.proofs.lemmas.Bool.{cases_Bool, eqb-true, false≢true, true≢false}
 use Rattle.std.proofs.lemmas.Slice.Eq.{bytes_eq-Decides}
+use Rattle.std.proofs.Math.Bool.{and-false}
 use Rattle.yaml_parse_grammar.specs.parse_model.declared.yaml_encoding_t.{yaml_encoding_t}
 use Rattle.yaml_parse_grammar.specs.parse_model.declared.yaml_encoding_t.TheVariants.{YAML_ANY_ENCODING}
 use Rattle.yaml_parse_grammar.specs.parse_model.declared.yaml_scalar_style_t.{yaml_scalar_style_t}
@@ -80,47 +80,34 @@ contents_by (t ∷ ts) = ap (λ (bs : List EventBody). content t.0.body ∷ bs) 
 
 -- ---- the tag `!`
 
-equals : (a b : ℕ) → (a == b) ≡ true → a ≡ b
-equals a b e = grind (arith, nat_tests)
-
-no_truth : false ≡ true → ⊥
-no_truth e = absurd (cc)
-
 and_left : (a b : Bool) → (a && b) ≡ true → a ≡ true
 and_left true b e = refl
-and_left false b e = absurd (no_truth e)
+and_left false b e = absurd (false≢true e)
 
 and_right : (a b : Bool) → (a && b) ≡ true → b ≡ true
 and_right true b e = e
-and_right false b e = absurd (no_truth e)
+and_right false b e = absurd (false≢true e)
 
 long : (a b : ℕ) (t : List ℕ) → (length (a ∷ b ∷ t) == 1) ≡ true → ⊥
-long a b t e = let h = equals (length (a ∷ b ∷ t)) 1 e in omega (arith, h)
+long a b t e = let h = eqb-true (length (a ∷ b ∷ t)) 1 e in omega (arith, h)
 
 is_mark : (t value : List ℕ) → is_lone_mark (Some t) value ≡ true → t ≡ 33 ∷ []
-is_mark [] value e = absurd (no_truth (and_right (length value == 0) false (and_left (length value == 0 && false) _ e)))
-is_mark (a ∷ []) value e = ap (λ (b : ℕ). b ∷ []) (equals a 33 (and_right (length value == 0 && true) (a == 33) e))
+is_mark [] value e = absurd (false≢true (and_right (length value == 0) false (and_left (length value == 0 && false) _ e)))
+is_mark (a ∷ []) value e = ap (λ (b : ℕ). b ∷ []) (eqb-true a 33 (and_right (length value == 0 && true) (a == 33) e))
 is_mark (a ∷ b ∷ t) value e = absurd (long a b t (and_right (length value == 0) (length (a ∷ b ∷ t) == 1) (and_left (length value == 0 && length (a ∷ b ∷ t) == 1) _ e)))
-
-not_both : (b : Bool) → b ≡ true → b ≡ false → ⊥
-not_both b e f = cc
 
 no_mark : (t value : List ℕ) → bytes_eq t (codes "!") ≡ false → is_lone_mark (Some t) value ≡ false
 no_mark t value e =
     elim (cases_Bool (is_lone_mark (Some t) value)) [
       | inr h ↦ h
-      | inl h ↦ absurd (not_both (bytes_eq t (codes "!")) ((bytes_eq-Decides t (codes "!")).1 (is_mark t value h)) e)
+      | inl h ↦ absurd (true≢false (sym ((bytes_eq-Decides t (codes "!")).1 (is_mark t value h)) ∙ e))
     ]
 
 -- ---- styles: plain is taken where the scalar is tagged or plain-implicit
 
-and_false : (a : Bool) → (a && false) ≡ false
-and_false true = refl
-and_false false = refl
-
 no_fit : (a : Allowed) (flow simple empty : Bool) → plain_fits a false flow simple empty ≡ false
 no_fit a flow simple empty =
-    ap (λ (b : Bool). (if flow then a.flow_plain else a.plain) && b) (and_false (not (empty && simple))) ∙ and_false (if flow then a.flow_plain else a.plain)
+    ap (λ (b : Bool). (if flow then a.flow_plain else a.plain) && b) (and-false (not (empty && simple))) ∙ and-false (if flow then a.flow_plain else a.plain)
 
 single_not_plain : (b : Bool) → is_plain (if b then style.Single else style.Double) ≡ false
 single_not_plain true = refl

@@ -1,5 +1,6 @@
 -- Trees of documents.
 use Rattle.std.proofs.Common.{◌≡◌, Bool, true, false, not, ◌&&◌, ◌||◌, List, [], ◌∷◌, length, Option, Some, None, refl, sym, ap, ◌∙◌}
+use Rattle.std.proofs.Math.Bool.{or-true}
 use Rattle.yaml_parse_grammar.specs.parse_model.declared.yaml_encoding_t.{yaml_encoding_t}
 use Rattle.yaml_parse_grammar.specs.parse_model.declared.yaml_version_directive_t.{yaml_version_directive_t}
 use Rattle.yaml_parse_grammar.specs.parse_model.Tokens.{Token, TokenBody}
@@ -162,16 +163,12 @@ behind_root s false kept ds ts rest e =
     let x = rest t.rest t.left in
     record { ends = t.span ∷ x.ends; documents = x.documents; rest = x.rest; same = t.same ∙ ap (λ (y : List Token). token_at token.document_end t.span ∷ y) x.same; none = refl; gives = x.gives }
 
-later_marked : (canonical : Bool) → (canonical || true) ≡ true
-later_marked true = refl
-later_marked false = refl
-
 pub documents_parsed : (s : Settings) (unended kept : Bool) (ds : List Document) → AreParsable ds → (ts : List Token) → token_bodies ts ≡ documents_bodies s false unended kept ds → Parsed s false unended kept ds ts
 unfolding documents_bodies
 documents_parsed s unended kept [] fine ts e = at_end s unended kept (unended && kept) refl ts e
 documents_parsed s unended kept (d ∷ ds) ((opening, root), fine) ts e =
     begun s unended kept (unended && is_directed d.opening) d ds (opening_bodies s false d.opening (root_bodies s d (After s d ds))) refl
-    (λ us x. one_document s false d ds (later_marked s.canonical) opening root (λ vs y. behind_root s d.implicit_end (is_root_kept s d) ds vs (documents_parsed s d.implicit_end (is_root_kept s d) ds fine) y) us x) ts e
+    (λ us x. one_document s false d ds (or-true s.canonical) opening root (λ vs y. behind_root s d.implicit_end (is_root_kept s d) ds vs (documents_parsed s d.implicit_end (is_root_kept s d) ds fine) y) us x) ts e
 
 -- ---- the stream
 

@@ -2,6 +2,7 @@
 use Rattle.std.proofs.Common.{◌≡◌, ℕ, Bool, true, false, not, ◌&&◌, ◌||◌, List, [], ◌∷◌, length, Option, Some, None, refl, sym, ap, subst, ◌∙◌, codes}
 use Rattle.std.specs.Prelude.{if◌then◌else◌}
 use Rattle.std.specs.Str.{bytes_eq}
+use Rattle.std.proofs.lemmas.Bool.{false≢true, true≢false}
 use Rattle.yaml_parse_grammar.specs.parse_model.declared.yaml_mark_t.{yaml_mark_t}
 use Rattle.yaml_parse_grammar.specs.parse_model.declared.yaml_scalar_style_t.{yaml_scalar_style_t}
 use Rattle.yaml_parse_grammar.specs.parse_model.Tokens.{Token, TokenBody}
@@ -221,15 +222,9 @@ dressed w ds r anchor tag shape R cs bs inner ts e =
 
 -- ---- scalars
 
-no_truth : false ≡ true → ⊥
-no_truth e = absurd (cc)
-
-no_lie : true ≡ false → ⊥
-no_lie e = absurd (cc)
-
 tagged_event : (b : Bool) (anchor : Option (List ℕ)) (t value : List ℕ) (s : yaml_scalar_style_t) → b ≡ false
     → (if b then event.scalar anchor None value true false s else event.scalar anchor (Some t) value false false s) ≡ event.scalar anchor (Some t) value false false s
-tagged_event true anchor t value s e = absurd (no_lie e)
+tagged_event true anchor t value s e = absurd (true≢false e)
 tagged_event false anchor t value s e = refl
 
 untagged_event : (anchor : Option (List ℕ)) (value : List ℕ) (s : Style) → node_event anchor None (item.scalar value (style_named s)) ≡ scalar_reads anchor None value false s
@@ -269,7 +264,7 @@ worded w ds r anchor tag fine value marked s bs ts e =
 -- properties alone
 alone_by : (w : Wants) (ds : List TagDirective) (anchor tag : Option (List ℕ)) (d : Option PropertyTokens) → some_tokens d ≡ true → (ts rest : List Token) (bs : List TokenBody) → ts ≡ spell_if d rest → token_bodies rest ≡ bs
     → ((from to : yaml_mark_t) (D : Directives) → D.tags ≡ ds → settle (node_at (properties_if d) item.empty from to) D ≡ gave (node_event anchor tag item.empty) D) → Grown w ds (λ es. node_event anchor tag item.empty ∷ es) ts bs
-alone_by w ds anchor tag None some ts rest bs same left gives = absurd (no_truth some)
+alone_by w ds anchor tag None some ts rest bs same left gives = absurd (false≢true some)
 alone_by w ds anchor tag (Some d) some ts rest bs same left gives = record {
   tree = trees.only_properties d;
   rest = rest;
@@ -279,7 +274,7 @@ alone_by w ds anchor tag (Some d) some ts rest bs same left gives = record {
 }
 
 some_either : (ds : List TagDirective) (anchor tag : Option (List ℕ)) → is_bare anchor tag ≡ false → (has anchor || some_named (tag_named ds tag)) ≡ true
-some_either ds None None h = absurd (no_lie h)
+some_either ds None None h = absurd (true≢false h)
 some_either ds None (Some t) h = refl
 some_either ds (Some a) tag h = refl
 
@@ -337,12 +332,12 @@ nothing_held w at before ds quoted bs ts e = record {
 -- a scalar for which nothing stands
 pub scalar_left_out : (w : Wants) (at : Site) (before : yaml_mark_t) (ds : List TagDirective) (flow : Bool) (s : Style) (anchor tag : Option (List ℕ)) (value : List ℕ) (quoted : Bool) → (is_nothing flow s value && is_bare anchor tag) ≡ true → (bs : List TokenBody) (ts : List Token)
     → token_bodies ts ≡ ScalarBodies ds flow s anchor tag value quoted bs → MaybeGrown w at before ds (λ es. scalar_reads anchor tag value (takes_mark quoted s) s ∷ es) ts bs
-scalar_left_out w at before ds true s anchor tag value quoted none bs ts e = absurd (no_truth none)
+scalar_left_out w at before ds true s anchor tag value quoted none bs ts e = absurd (false≢true none)
 scalar_left_out w at before ds false style.Plain None None [] quoted none bs ts e = nothing_held w at before ds quoted bs ts (e ∙ ap (λ (b : Bool). mark_bodies b bs) (unmarked_too false quoted))
-scalar_left_out w at before ds false style.Plain None (Some t) [] quoted none bs ts e = absurd (no_truth none)
-scalar_left_out w at before ds false style.Plain (Some a) tag [] quoted none bs ts e = absurd (no_truth none)
-scalar_left_out w at before ds false style.Plain anchor tag (c ∷ cs) quoted none bs ts e = absurd (no_truth none)
-scalar_left_out w at before ds false style.Single anchor tag value quoted none bs ts e = absurd (no_truth none)
-scalar_left_out w at before ds false style.Double anchor tag value quoted none bs ts e = absurd (no_truth none)
-scalar_left_out w at before ds false style.Literal anchor tag value quoted none bs ts e = absurd (no_truth none)
-scalar_left_out w at before ds false style.Folded anchor tag value quoted none bs ts e = absurd (no_truth none)
+scalar_left_out w at before ds false style.Plain None (Some t) [] quoted none bs ts e = absurd (false≢true none)
+scalar_left_out w at before ds false style.Plain (Some a) tag [] quoted none bs ts e = absurd (false≢true none)
+scalar_left_out w at before ds false style.Plain anchor tag (c ∷ cs) quoted none bs ts e = absurd (false≢true none)
+scalar_left_out w at before ds false style.Single anchor tag value quoted none bs ts e = absurd (false≢true none)
+scalar_left_out w at before ds false style.Double anchor tag value quoted none bs ts e = absurd (false≢true none)
+scalar_left_out w at before ds false style.Literal anchor tag value quoted none bs ts e = absurd (false≢true none)
+scalar_left_out w at before ds false style.Folded anchor tag value quoted none bs ts e = absurd (false≢true none)

@@ -2,6 +2,7 @@
 use Rattle.std.proofs.Common.{◌≡◌, ℕ, ◌+◌, ◌<◌, Bool, true, false, not, ◌&&◌, ◌||◌, ◌==◌, nat_lt, nat_le, if◌then◌else◌, List, [], ◌∷◌, refl, arith, IsUtf8}
 use Rattle.std.specs.Str.{chars}
 use Rattle.std.proofs.lemmas.Bool.Decides.{nat_tests}
+use Rattle.std.proofs.lemmas.Bool.{or_parts, not-false, and_parts, not-true}
 use Rattle.yaml_parse_grammar.specs.parse_model.declared.yaml_scalar_style_t.{yaml_scalar_style_t}
 use Rattle.yaml_parse_grammar.specs.parse_model.declared.yaml_scalar_style_t.TheVariants as asked
 use Rattle.yaml_round_laws_documents.specs.scan_decode.Characters.{is_allowed}
@@ -31,27 +32,15 @@ pub printed : (c : ℕ) → is_printable c ≡ true → Fits c
 unfolding is_allowed
 printed c e = grind (arith, nat_tests)
 
-off_first : (a b : Bool) → (a || b) ≡ false → a ≡ false
-off_first true b e = absurd (cc)
-off_first false b e = refl
-
-off_last : (a b : Bool) → (a || b) ≡ false → b ≡ false
-off_last true b e = absurd (cc)
-off_last false b e = e
-
-not_off : (b : Bool) → not b ≡ false → b ≡ true
-not_off true e = refl
-not_off false e = absurd (cc)
-
 plainly : (unicode : Bool) (before c next : ℕ) → is_special unicode before c next ≡ false → is_printable c ≡ true
-plainly unicode before c next e = not_off (is_printable c) (off_first _ (not unicode && nat_le 0x80 c) (off_first _ _ e))
+plainly unicode before c next e = not-false (is_printable c) (or_parts _ (not unicode && nat_le 0x80 c) (or_parts _ _ e).0).0
 
 printable : (unicode : Bool) (before : ℕ) (cs : List ℕ) → somewhere (is_special unicode) before cs ≡ false → ArePrintable cs
 unfolding somewhere
 printable unicode before [] e = tt
 printable unicode before (c ∷ cs) e =
-    let here = off_first (is_special unicode before c (first cs)) (somewhere (is_special unicode) c cs) e in
-    (plainly unicode before c (first cs) here, printable unicode c cs (off_last (is_special unicode before c (first cs)) (somewhere (is_special unicode) c cs) e))
+    let here = (or_parts (is_special unicode before c (first cs)) (somewhere (is_special unicode) c cs) e).0 in
+    (plainly unicode before c (first cs) here, printable unicode c cs (or_parts (is_special unicode before c (first cs)) (somewhere (is_special unicode) c cs) e).1)
 
 -- ---- all styles but double quotes take such values alone
 
@@ -79,17 +68,9 @@ needs_if : (b : Bool) (s : Style) (P : Type 0) → (b ≡ true → P) → Needs 
 needs_if true s P f = needs_any s P (f refl)
 needs_if false s P f = tt
 
-on_first : (a b : Bool) → (a && b) ≡ true → a ≡ true
-on_first true b e = refl
-on_first false b e = absurd (cc)
-
-on_last : (a b : Bool) → (a && b) ≡ true → b ≡ true
-on_last true b e = e
-on_last false b e = absurd (cc)
-
 fits_by : (a : Allowed) (P : Type 0) → Clear a P → (flow b : Bool) → ((if flow then a.flow_plain else a.plain) && b) ≡ true → P
-fits_by a P h true b e = h.flow_plain (on_first a.flow_plain b e)
-fits_by a P h false b e = h.plain (on_first a.plain b e)
+fits_by a P h true b e = h.flow_plain (and_parts a.flow_plain b e).0
+fits_by a P h false b e = h.plain (and_parts a.plain b e).0
 
 needs_single : (a : Allowed) (P : Type 0) → Clear a P → Needs (single_or a) P
 needs_single a P h = needs_if a.single style.Single P h.single
@@ -107,24 +88,20 @@ needs_taken a P h asked.YAML_ANY_SCALAR_STYLE untagged flow simple empty = needs
 needs_taken a P h asked.YAML_PLAIN_SCALAR_STYLE untagged flow simple empty = needs_plain a P h untagged flow simple empty
 needs_taken a P h asked.YAML_SINGLE_QUOTED_SCALAR_STYLE untagged flow simple empty = needs_single a P h
 needs_taken a P h asked.YAML_DOUBLE_QUOTED_SCALAR_STYLE untagged flow simple empty = tt
-needs_taken a P h asked.YAML_LITERAL_SCALAR_STYLE untagged flow simple empty = needs_if (a.block && not (flow || simple)) style.Literal P (λ e. h.block (on_first a.block (not (flow || simple)) e))
-needs_taken a P h asked.YAML_FOLDED_SCALAR_STYLE untagged flow simple empty = needs_if (a.block && not (flow || simple)) style.Folded P (λ e. h.block (on_first a.block (not (flow || simple)) e))
-
-not_on : (b : Bool) → not b ≡ true → b ≡ false
-not_on true e = absurd (cc)
-not_on false e = refl
+needs_taken a P h asked.YAML_LITERAL_SCALAR_STYLE untagged flow simple empty = needs_if (a.block && not (flow || simple)) style.Literal P (λ e. h.block (and_parts a.block (not (flow || simple)) e).0)
+needs_taken a P h asked.YAML_FOLDED_SCALAR_STYLE untagged flow simple empty = needs_if (a.block && not (flow || simple)) style.Folded P (λ e. h.block (and_parts a.block (not (flow || simple)) e).0)
 
 clear_text : (unicode : Bool) (cs : List ℕ) → Clear (allowed_text unicode cs) (ArePrintable cs)
 clear_text unicode cs =
     let special = somewhere (is_special unicode) 32 cs in
     let broken = somewhere is_break_space 32 cs in
     let shown : special ≡ false → ArePrintable cs = printable unicode 32 cs in
-    let none : not (special || broken || ends_in_space cs || starts_badly cs || somewhere is_not_plain 32 cs) ≡ true → ArePrintable cs = λ e. shown (off_first special broken (off_first _ (ends_in_space cs) (off_first _ (starts_badly cs) (off_first _ (somewhere is_not_plain 32 cs) (not_on _ e))))) in
+    let none : not (special || broken || ends_in_space cs || starts_badly cs || somewhere is_not_plain 32 cs) ≡ true → ArePrintable cs = λ e. shown (or_parts special broken (or_parts _ (ends_in_space cs) (or_parts _ (starts_badly cs) (or_parts _ (somewhere is_not_plain 32 cs) (not-true _ e)).0).0).0).0 in
     record {
       plain = none;
-      flow_plain = λ e. none (on_first _ (not (somewhere is_not_flow 32 cs)) e);
-      single = λ e. shown (off_first special broken (not_on (special || broken) e));
-      block = λ e. shown (off_first special (ends_in_space cs) (not_on (special || ends_in_space cs) e));
+      flow_plain = λ e. none (and_parts _ (not (somewhere is_not_flow 32 cs)) e).0;
+      single = λ e. shown (or_parts special broken (not-true (special || broken) e)).0;
+      block = λ e. shown (or_parts special (ends_in_space cs) (not-true (special || ends_in_space cs) e)).0;
     }
 
 clear : (unicode : Bool) (cs : List ℕ) → Clear (allowed unicode cs) (ArePrintable cs)

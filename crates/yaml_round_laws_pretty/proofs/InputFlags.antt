@@ -1,7 +1,7 @@
 -- The flags and tags of an input's normalized events.
-use Rattle.std.proofs.Common.{◌≡◌, ℕ, ℤ, Bool, true, false, not, if◌then◌else◌, List, [], ◌∷◌, Option, Some, None, codes, refl, subst, inl, inr}
+use Rattle.std.proofs.Common.{◌≡◌, ℕ, ℤ, Bool, true, false, not, if◌then◌else◌, List, [], ◌∷◌, Option, Some, None, codes, refl, subst, inl, inr, sym, ◌∙◌}
 use Rattle.std.specs.Str.{bytes_eq}
-use Rattle.std.proofs.lemmas.Bool.{cases_Bool}
+use Rattle.std.proofs.lemmas.Bool.{cases_Bool, true≢false}
 use Rattle.std.proofs.lemmas.Slice.Eq.{bytes_eq-Decides}
 use Rattle.yaml_parse_grammar.specs.parse_model.declared.yaml_encoding_t.{yaml_encoding_t}
 use Rattle.yaml_parse_grammar.specs.parse_model.declared.yaml_mark_t.{yaml_mark_t}
@@ -46,9 +46,6 @@ AreRight (e ∷ es) = IsRight e × AreRight es
 abbrev BodyRight : EventBody → Type 0
 BodyRight b = IsRight (emit.emitter_event (normalize_body false b))
 
-not_both : (b : Bool) → b ≡ true → b ≡ false → ⊥
-not_both b e f = cc
-
 lone : is_lone_mark (Some (codes "!")) [] ≡ true
 lone = refl
 
@@ -57,7 +54,7 @@ empty_no_mark : (tag : List ℕ) → is_lone_mark (Some tag) [] ≡ false → Is
 empty_no_mark tag e =
     elim (cases_Bool (bytes_eq tag (codes "!"))) [
       | inr h ↦ h
-      | inl h ↦ absurd (not_both (is_lone_mark (Some tag) []) (marked h) e)
+      | inl h ↦ absurd (true≢false (sym (marked h) ∙ e))
     ]
   where
     marked : bytes_eq tag (codes "!") ≡ true → is_lone_mark (Some tag) [] ≡ true

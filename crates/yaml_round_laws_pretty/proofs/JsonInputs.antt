@@ -1,5 +1,7 @@
 -- Inputs shaped as JSON don't begin with nothing.
 use Rattle.std.proofs.Common.{◌≡◌, ℕ, Bool, true, false, not, ◌&&◌, List, [], ◌∷◌, refl, sym, ap, ◌∙◌, inl, inr}
+use Rattle.std.proofs.lemmas.Bool.{false≢true}
+use Rattle.std.proofs.Math.Bool.{and-false}
 use Rattle.yaml_parse_grammar.specs.parse_model.declared.yaml_encoding_t.{yaml_encoding_t}
 use Rattle.yaml_parse_grammar.specs.Resolve.{Told}
 use Rattle.yaml_emit_laws_text.specs.emit_layout.Content.{Event, stream_start, document_start, Scalar, Document, Node, alias_node, scalar_node, sequence_node, mapping_node, Opening, node_events, documents_events, stream_events}
@@ -12,26 +14,19 @@ use Rattle.yaml_emit_laws_pretty.specs.Bodies.{is_bare, is_empty}
 use Rattle.yaml_round_laws_pretty.specs.Flags.{is_asked_plain, says_nothing, begins_with_nothing}
 use Rattle.yaml_round_laws_pretty.specs.InputLaws.{JsonBeginsWithSomething}
 
-no_truth : false ≡ true → ⊥
-no_truth e = absurd (cc)
-
-and_false : (a : Bool) → (a && false) ≡ false
-and_false true = refl
-and_false false = refl
-
 some_value : (value : List ℕ) → is_plain_value value ≡ true → is_empty value ≡ false
 unfolding is_plain_value
-some_value [] h = absurd (no_truth h)
+some_value [] h = absurd (false≢true h)
 some_value (b ∷ bs) h = refl
 
 scalar_says : (x : Scalar) → IsJsonScalar x → says_nothing x ≡ false
-scalar_says x (inl is) = ap (λ (p : Bool). is_bare x.anchor x.tag && (is_empty x.value && (p && is_asked_plain x.style))) is.plain ∙ ap (λ (b : Bool). is_bare x.anchor x.tag && b) (and_false (is_empty x.value)) ∙ and_false (is_bare x.anchor x.tag)
-scalar_says x (inr is) = ap (λ (e : Bool). is_bare x.anchor x.tag && (e && (x.plain && is_asked_plain x.style))) (some_value x.value is.value) ∙ and_false (is_bare x.anchor x.tag)
+scalar_says x (inl is) = ap (λ (p : Bool). is_bare x.anchor x.tag && (is_empty x.value && (p && is_asked_plain x.style))) is.plain ∙ ap (λ (b : Bool). is_bare x.anchor x.tag && b) (and-false (is_empty x.value)) ∙ and-false (is_bare x.anchor x.tag)
+scalar_says x (inr is) = ap (λ (e : Bool). is_bare x.anchor x.tag && (e && (x.plain && is_asked_plain x.style))) (some_value x.value is.value) ∙ and-false (is_bare x.anchor x.tag)
 
 root_begins : (x : yaml_encoding_t) (o : Opening) (n : Node) (es : List Event) → IsJsonNode n → begins_with_nothing (stream_start x ∷ document_start o ∷ node_events n es) ≡ false
 unfolding node_events
 root_begins x o (alias_node name) es is = refl
-root_begins x o (scalar_node v) es is = ap (λ (b : Bool). (o.implicit && not (is_directed o)) && b) (scalar_says v is) ∙ and_false (o.implicit && not (is_directed o))
+root_begins x o (scalar_node v) es is = ap (λ (b : Bool). (o.implicit && not (is_directed o)) && b) (scalar_says v is) ∙ and-false (o.implicit && not (is_directed o))
 root_begins x o (sequence_node q items) es is = refl
 root_begins x o (mapping_node q pairs) es is = refl
 

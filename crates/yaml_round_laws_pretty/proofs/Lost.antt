@@ -1,6 +1,8 @@
 -- Documents that start with nothing: how they are told, and that their tokens don't say them.
 use Rattle.std.proofs.Common.{◌≡◌, ℕ, Bool, true, false, not, ◌&&◌, ◌||◌, ◌==◌, if◌then◌else◌, List, [], ◌∷◌, length, map, Option, Some, None, refl, sym, ap, subst, ◌∙◌, arith}
 use Rattle.std.specs.Str.{chars}
+use Rattle.std.proofs.lemmas.Bool.{false≢true}
+use Rattle.std.proofs.Math.Bool.{and-false, and-true}
 use Rattle.yaml_parse_grammar.specs.parse_model.declared.yaml_encoding_t.{yaml_encoding_t}
 use Rattle.yaml_parse_grammar.specs.parse_model.declared.yaml_encoding_t.TheVariants.{YAML_ANY_ENCODING}
 use Rattle.yaml_parse_grammar.specs.parse_model.declared.yaml_scalar_style_t.{yaml_scalar_style_t}
@@ -33,18 +35,7 @@ use Rattle.yaml_round_laws_pretty.specs.TokenLaws.{BeginningIsTold, PrettyTokens
 use Rattle.yaml_round_laws_pretty.proofs.Contents.{says, content, contents_said, contents_by, documents_same}
 use Rattle.yaml_round_laws_pretty.proofs.Documents.{Parsed, After, behind_root, documents_parsed, undirected, marked_stream}
 
-no_truth : false ≡ true → ⊥
-no_truth e = absurd (cc)
-
 -- ---- told by the first events
-
-and_false : (a : Bool) → (a && false) ≡ false
-and_false true = refl
-and_false false = refl
-
-and_true : (a : Bool) → (a && true) ≡ a
-and_true true = refl
-and_true false = refl
 
 -- an empty value is plain where that is asked and it is plain-implicit
 abbrev no_bytes : List ℕ
@@ -79,10 +70,10 @@ LeftOut canonical unicode anchor tag value plain k =
     is_nothing false (if canonical then style.Double else taken (allowed unicode (chars value)) k (has tag || plain) false false (length value == 0)) value && is_bare anchor tag
 
 told_by : (unicode : Bool) (anchor tag : Option (List ℕ)) (value : List ℕ) (plain : Bool) (k : yaml_scalar_style_t) → (is_bare anchor tag && (is_empty value && (plain && is_asked_plain k))) ≡ LeftOut false unicode anchor tag value plain k
-told_by unicode None None [] plain k = sym (empty_style unicode plain k) ∙ sym (and_true _) ∙ sym (and_true _)
-told_by unicode None None (c ∷ cs) plain k = sym (ap (λ (b : Bool). b && true) (and_false _))
-told_by unicode None (Some t) value plain k = sym (and_false _)
-told_by unicode (Some a) tag value plain k = sym (and_false _)
+told_by unicode None None [] plain k = sym (empty_style unicode plain k) ∙ sym (and-true _) ∙ sym (and-true _)
+told_by unicode None None (c ∷ cs) plain k = sym (ap (λ (b : Bool). b && true) (and-false _))
+told_by unicode None (Some t) value plain k = sym (and-false _)
+told_by unicode (Some a) tag value plain k = sym (and-false _)
 
 told_scalar : (canonical unicode : Bool) → canonical ≡ false → (anchor tag written : Option (List ℕ)) → written ≡ tag → (value : List ℕ) (plain : Bool) (k : yaml_scalar_style_t)
     → (is_bare anchor tag && (is_empty value && (plain && is_asked_plain k))) ≡ LeftOut canonical unicode anchor written value plain k
@@ -96,9 +87,9 @@ told_opening false false n pretty = refl
 
 told_root : (s : Settings) → s.canonical ≡ false → (x : yaml_encoding_t) (d : Document) (ds : List Document) (n : Node) → d.root ≡ n → HaveReaderFlags (d ∷ ds) → begins_with_nothing (stream_events x (d ∷ ds)) ≡ starts_with_nothing s (d ∷ ds)
 unfolding documents_events node_events style_of
-told_root s pretty x d ds (alias_node name) is (f, fs) = rw is (sym (and_false _))
-told_root s pretty x d ds (sequence_node o items) is (f, fs) = rw is (sym (and_false _))
-told_root s pretty x d ds (mapping_node o pairs) is (f, fs) = rw is (sym (and_false _))
+told_root s pretty x d ds (alias_node name) is (f, fs) = rw is (sym (and-false _))
+told_root s pretty x d ds (sequence_node o items) is (f, fs) = rw is (sym (and-false _))
+told_root s pretty x d ds (mapping_node o pairs) is (f, fs) = rw is (sym (and-false _))
 told_root s pretty x d ds (scalar_node v) is (f, fs) =
     let flags : HasScalarFlags v.tag v.plain v.quoted = subst (λ (m : Node). HasFlags m) is f in
     rw is (told_opening s.canonical (d.opening.implicit && not (is_directed d.opening)) (says_nothing v) pretty
@@ -116,19 +107,19 @@ nothing_stands : (ds : List TagDirective) (s : Style) (anchor tag : Option (List
     → (anchor_bodies anchor (tag_bodies ds tag (mark_bodies (not (has tag) && takes_mark quoted s) (scalar_bodies false s value bs)))) ≡ bs
 nothing_stands ds style.Plain None None [] true bs none = refl
 nothing_stands ds style.Plain None None [] false bs none = refl
-nothing_stands ds style.Plain None (Some t) [] quoted bs none = absurd (no_truth none)
-nothing_stands ds style.Plain (Some a) tag [] quoted bs none = absurd (no_truth none)
-nothing_stands ds style.Plain anchor tag (c ∷ cs) quoted bs none = absurd (no_truth none)
-nothing_stands ds style.Single anchor tag value quoted bs none = absurd (no_truth none)
-nothing_stands ds style.Double anchor tag value quoted bs none = absurd (no_truth none)
-nothing_stands ds style.Literal anchor tag value quoted bs none = absurd (no_truth none)
-nothing_stands ds style.Folded anchor tag value quoted bs none = absurd (no_truth none)
+nothing_stands ds style.Plain None (Some t) [] quoted bs none = absurd (false≢true none)
+nothing_stands ds style.Plain (Some a) tag [] quoted bs none = absurd (false≢true none)
+nothing_stands ds style.Plain anchor tag (c ∷ cs) quoted bs none = absurd (false≢true none)
+nothing_stands ds style.Single anchor tag value quoted bs none = absurd (false≢true none)
+nothing_stands ds style.Double anchor tag value quoted bs none = absurd (false≢true none)
+nothing_stands ds style.Literal anchor tag value quoted bs none = absurd (false≢true none)
+nothing_stands ds style.Folded anchor tag value quoted bs none = absurd (false≢true none)
 
 root_stands : (s : Settings) (d : Document) (bs : List TokenBody) (n : Node) → d.root ≡ n → is_left_out (context_in s d) false part.Item n ≡ true → node_bodies (context_in s d) false part.Item true n bs ≡ bs
 unfolding node_bodies
-root_stands s d bs (alias_node name) is none = absurd (no_truth none)
-root_stands s d bs (sequence_node o items) is none = absurd (no_truth none)
-root_stands s d bs (mapping_node o pairs) is none = absurd (no_truth none)
+root_stands s d bs (alias_node name) is none = absurd (false≢true none)
+root_stands s d bs (sequence_node o items) is none = absurd (false≢true none)
+root_stands s d bs (mapping_node o pairs) is none = absurd (false≢true none)
 root_stands s d bs (scalar_node v) is none = nothing_stands d.opening.directives (style_at (context_in s d) false part.Item v) v.anchor (scalar_tag false v) v.value v.quoted bs none
 
 -- such a root has one event
@@ -136,9 +127,9 @@ abbrev HasOneEvent : Node → Type 0
 HasOneEvent n = (v : Scalar) × (n ≡ scalar_node v)
 
 root_one : (s : Settings) (d : Document) (n : Node) → is_left_out (context_in s d) false part.Item n ≡ true → HasOneEvent n
-root_one s d (alias_node name) none = absurd (no_truth none)
-root_one s d (sequence_node o items) none = absurd (no_truth none)
-root_one s d (mapping_node o pairs) none = absurd (no_truth none)
+root_one s d (alias_node name) none = absurd (false≢true none)
+root_one s d (sequence_node o items) none = absurd (false≢true none)
+root_one s d (mapping_node o pairs) none = absurd (false≢true none)
 root_one s d (scalar_node v) none = (v, refl)
 
 -- a `...` where a document must come is refused
@@ -150,7 +141,7 @@ unfolding run feed reading
 dots_refused x a b rest e = absurd (cc)
 
 both_are : (m n : Bool) → (not m && n) ≡ true → (m ≡ false) × (n ≡ true)
-both_are true n e = absurd (no_truth e)
+both_are true n e = absurd (false≢true e)
 both_are false n e = (refl, e)
 
 -- the tokens behind the stream's start are those behind the root
@@ -195,7 +186,7 @@ lost_by s es x y d ds same flags fine v root explicit unended kept span ts us st
 
 pub tokens_lost : PrettyTokensAreLost
 unfolding documents_bodies
-tokens_lost s es x y [] same flags fine nothing ts e said ending = no_truth nothing
+tokens_lost s es x y [] same flags fine nothing ts e said ending = false≢true nothing
 tokens_lost s es x y (d ∷ ds) same (f, flags) ((opening, g), fine) nothing ts e said ending =
     let (bare, none) = both_are (is_marked s true d.opening) (is_left_out (context_in s d) false part.Item d.root) nothing in
     let t = take ts (token.stream_start y) (opening_bodies s true d.opening (root_bodies s d (After s d ds))) e in

@@ -2,7 +2,7 @@
 use Rattle.std.proofs.Common.{◌≡◌, ℕ, zero, suc, ◌-◌, ◌<◌, Bool, true, false, not, ◌&&◌, ◌||◌, ◌==◌, nat_lt, if◌then◌else◌, List, [], ◌∷◌, ◌++◌, length, Option, Some, None, refl, sym, ap, subst, ◌∙◌, arith, codes, inl, inr}
 use Rattle.std.specs.Prelude.{nat_eq}
 use Rattle.std.specs.Str.{chars}
-use Rattle.std.proofs.lemmas.Bool.Decides.{nat_tests}
+use Rattle.std.proofs.lemmas.Bool.{false≢true}
 use Rattle.yaml_emit_laws_text.specs.emit_layout.scan_model.declared.yaml_version_directive_t.{yaml_version_directive_t}
 use Rattle.yaml_emit_laws_text.specs.emit_layout.parse_model.Events.{TagDirective}
 use Rattle.yaml_emit_laws_text.specs.emit_layout.emit_tags.Tags.{Split, shorthand, verbatim, spelled, split_tag, tag_spelling, uri_text}
@@ -56,14 +56,11 @@ begins_nothing = tt
 low : (x : ℕ) → x < 128 → NoMark x
 low x h e = omega (arith, h, e)
 
-no_truth : false ≡ true → ⊥
-no_truth e = absurd (cc)
-
 mark_hidden : is_printable 0xFEFF ≡ false
 mark_hidden = refl
 
 printed : (x : ℕ) → is_printable x ≡ true → NoMark x
-printed x h e = no_truth (sym mark_hidden ∙ ap (λ (y : ℕ). is_printable y) (sym e) ∙ h)
+printed x h e = false≢true (sym mark_hidden ∙ ap (λ (y : ℕ). is_printable y) (sym e) ∙ h)
 
 -- what follows may begin so, or it doesn't matter
 abbrev Heads : Layout → Type 0
@@ -375,10 +372,4 @@ unfolding encoding_of mark_length
 told_three b c d bs x y false f g z u v none = (rw (x, y) refl, rw (x, y, z) refl)
 told_three b c d bs x y true false g z u v none = (rw (x, y) refl, rw (x, y, z, u) refl)
 told_three b c d bs x y true true false z u v none = (rw (x, y) refl, rw (x, y, z, u, v) refl)
-told_three b c d bs x y true true true z u v none = absurd (no_truth (sym none))
-
-pub differs : (a b : ℕ) → (a ≡ b → ⊥) → nat_eq a b ≡ false
-differs a b h = grind (arith, nat_tests)
-
-pub equals : (a b : ℕ) → nat_eq a b ≡ true → a ≡ b
-equals a b e = grind (arith, nat_tests)
+told_three b c d bs x y true true true z u v none = absurd (false≢true (sym none))

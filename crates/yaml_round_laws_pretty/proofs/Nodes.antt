@@ -1,5 +1,6 @@
 -- Trees from the bodies of tokens.
 use Rattle.std.proofs.Common.{◌≡◌, ℕ, Bool, true, false, not, ◌&&◌, ◌||◌, List, ◌∷◌, length, Option, Some, None, refl, ap, ◌∙◌}
+use Rattle.std.proofs.lemmas.Bool.{false≢true, true≢false}
 use Rattle.yaml_parse_grammar.specs.parse_model.declared.yaml_mark_t.{yaml_mark_t}
 use Rattle.yaml_parse_grammar.specs.parse_model.declared.yaml_sequence_style_t.TheVariants.{YAML_FLOW_SEQUENCE_STYLE, YAML_BLOCK_SEQUENCE_STYLE}
 use Rattle.yaml_parse_grammar.specs.parse_model.declared.yaml_mapping_style_t.TheVariants.{YAML_FLOW_MAPPING_STYLE, YAML_BLOCK_MAPPING_STYLE}
@@ -104,12 +105,6 @@ PairsGrow p ps = (fresh : Bool) (ts : List Token) (bs : List TokenBody) → toke
 
 -- ---- nodes
 
-no_truth : false ≡ true → ⊥
-no_truth e = absurd (cc)
-
-no_lie : true ≡ false → ⊥
-no_lie e = absurd (cc)
-
 alias_grows : (p : Context) (name : List ℕ) → NodeGrows p (alias_node name)
 unfolding node_bodies node_reads
 alias_grows p name flow q bare some ts bs e =
@@ -141,9 +136,9 @@ maybe_by : (p : Context) (n : Node) → NodeGrows p n → (flow : Bool) (q : Par
     → MaybeGrown (wants flow q) at before p.directives (node_reads p flow q n) ts bs
 maybe_by p n grows flow q bare at before ts bs false some e = held (wants flow q) at before p.directives (node_reads p flow q n) ts bs (grows flow q bare some ts bs e)
 maybe_by p (scalar_node x) grows flow q bare at before ts bs true none e = scalar_left p x flow q bare at before ts bs none e
-maybe_by p (alias_node name) grows flow q bare at before ts bs true none e = absurd (no_truth none)
-maybe_by p (sequence_node o items) grows flow q bare at before ts bs true none e = absurd (no_truth none)
-maybe_by p (mapping_node o pairs) grows flow q bare at before ts bs true none e = absurd (no_truth none)
+maybe_by p (alias_node name) grows flow q bare at before ts bs true none e = absurd (false≢true none)
+maybe_by p (sequence_node o items) grows flow q bare at before ts bs true none e = absurd (false≢true none)
+maybe_by p (mapping_node o pairs) grows flow q bare at before ts bs true none e = absurd (false≢true none)
 
 maybe_grows : (p : Context) (n : Node) → NodeGrows p n → MaybeGrows p n
 maybe_grows p n grows flow q bare at before ts bs e = maybe_by p n grows flow q bare at before ts bs (is_left_out p flow q n) refl e
@@ -238,12 +233,12 @@ loose_sequence p x xs one others some side us bs e =
 -- ---- sequences and mappings
 
 flow_then : (canonical flow asked : Bool) → (canonical || (flow || asked)) ≡ false → (flow ≡ false) × (asked ≡ false)
-flow_then true flow asked e = absurd (no_lie e)
-flow_then false true asked e = absurd (no_lie e)
+flow_then true flow asked e = absurd (true≢false e)
+flow_then false true asked e = absurd (true≢false e)
 flow_then false false asked e = (refl, e)
 
 or_last : (a b : Bool) → (a || b) ≡ false → b ≡ false
-or_last true b e = absurd (no_lie e)
+or_last true b e = absurd (true≢false e)
 or_last false b e = e
 
 sequence_by : (flow f k : Bool) (q : Part) (p : Context) → Resolves p.directives → (ns : Nodes) → ItemsFill p ns → EntriesGrow p ns → LooseGrows p ns → (f ≡ false → (flow ≡ false) × (are_none ns ≡ false)) → (k ≡ true → is_of_mapping q ≡ true)
@@ -253,12 +248,12 @@ sequence_by flow true k q p r ns fill entries loose free may anchor tag ts bs e 
     let cs = items_bodies p true true ns (token.flow_sequence_end ∷ bs) in
     let R : Reads = λ es. items_reads p true ns (event.sequence_end ∷ es) in
     dressed (wants flow q) p.directives r anchor tag (item.sequence YAML_FLOW_SEQUENCE_STYLE) R (token.flow_sequence_start ∷ cs) bs (λ us x. flow_sequence (wants flow q) p.directives R us cs bs (λ vs y. fill vs bs y) x) ts e
-sequence_by true false k q p r ns fill entries loose free may anchor tag ts bs e = absurd (no_lie (free refl).0)
+sequence_by true false k q p r ns fill entries loose free may anchor tag ts bs e = absurd (true≢false (free refl).0)
 sequence_by false false false q p r ns fill entries loose free may anchor tag ts bs e =
     let cs = items_bodies p false true ns (token.block_end ∷ bs) in
     let R : Reads = λ es. items_reads p false ns (event.sequence_end ∷ es) in
     dressed (Block (side_of q)) p.directives r anchor tag (item.sequence YAML_BLOCK_SEQUENCE_STYLE) R (token.block_sequence_start ∷ cs) bs (λ us x. block_sequence (side_of q) p.directives R us cs bs (λ vs y. entries true vs bs y) x) ts e
-sequence_by false false true part.Item p r ns fill entries loose free may anchor tag ts bs e = absurd (no_truth (may refl))
+sequence_by false false true part.Item p r ns fill entries loose free may anchor tag ts bs e = absurd (false≢true (may refl))
 sequence_by false false true part.Key p r ns fill entries loose free may anchor tag ts bs e =
     dressed (Block (Some Key)) p.directives r anchor tag (item.sequence YAML_BLOCK_SEQUENCE_STYLE) (λ es. items_reads p false ns (event.sequence_end ∷ es)) (items_bodies p false true ns bs) bs (λ us x. loose (free refl).1 Key us bs x) ts e
 sequence_by false false true part.SimpleKey p r ns fill entries loose free may anchor tag ts bs e =
@@ -268,7 +263,7 @@ sequence_by false false true part.Value p r ns fill entries loose free may ancho
 
 kept_there : (a b : Bool) → (a && b) ≡ true → a ≡ true
 kept_there true b e = refl
-kept_there false b e = absurd (no_truth e)
+kept_there false b e = absurd (false≢true e)
 
 sequence_grows : (p : Context) → Resolves p.directives → (o : Start) (ns : Nodes) → ItemsFill p ns → EntriesGrow p ns → LooseGrows p ns → NodeGrows p (sequence_node o ns)
 unfolding node_bodies node_reads
@@ -284,7 +279,7 @@ mapping_by flow true q p r ps fill pairs free anchor tag ts bs e =
     let cs = pairs_bodies p true true ps (token.flow_mapping_end ∷ bs) in
     let R : Reads = λ es. pairs_reads p true ps (event.mapping_end ∷ es) in
     dressed (wants flow q) p.directives r anchor tag (item.mapping YAML_FLOW_MAPPING_STYLE) R (token.flow_mapping_start ∷ cs) bs (λ us x. flow_mapping (wants flow q) p.directives R us cs bs (λ vs y. fill vs bs y) x) ts e
-mapping_by true false q p r ps fill pairs free anchor tag ts bs e = absurd (no_lie (free refl))
+mapping_by true false q p r ps fill pairs free anchor tag ts bs e = absurd (true≢false (free refl))
 mapping_by false false q p r ps fill pairs free anchor tag ts bs e =
     let cs = pairs_bodies p false true ps (token.block_end ∷ bs) in
     let R : Reads = λ es. pairs_reads p false ps (event.mapping_end ∷ es) in
@@ -496,7 +491,7 @@ mutual
   others_grow p r (node x xs) (fx, fine) = other_grows p x xs (maybe_grows p x (node_grows p r x fx)) (others_grow p r xs fine)
 
   loose_grow : (p : Context) → Resolves p.directives → (ns : Nodes) → HaveNoMark ns → LooseGrows p ns
-  loose_grow p r no_nodes fine = λ some. absurd (no_lie some)
+  loose_grow p r no_nodes fine = λ some. absurd (true≢false some)
   loose_grow p r (node x xs) (fx, fine) = loose_sequence p x xs (maybe_grows p x (node_grows p r x fx)) (others_grow p r xs fine)
 
   parts_fill : (p : Context) → Resolves p.directives → (ps : Pairs) → PairsHaveNoMark ps → PartsFill p ps

@@ -1,6 +1,6 @@
 -- What tokens cost is told by the lengths of what they carry, where that is UTF-8, and by how many tags there are.
-use Rattle.std.proofs.Common.{◌≡◌, ℕ, ◌+◌, ◌*◌, ◌<◌, ◌≤◌, Bool, true, false, ◌&&◌, ◌==◌, nat_lt, nat_le, List, [], ◌∷◌, ◌++◌, length, Option, refl, subst, arith, inl, inr, IsUtf8, All, le_refl, mul-le-mul_left}
-use Rattle.std.proofs.lemmas.Bool.{cases_Bool, ltb-true, lt-ltb}
+use Rattle.std.proofs.Common.{◌≡◌, ℕ, ◌+◌, ◌*◌, ◌<◌, ◌≤◌, true, false, ◌==◌, nat_lt, nat_le, List, [], ◌∷◌, ◌++◌, length, Option, refl, subst, arith, inl, inr, IsUtf8, All, le_refl, mul-le-mul_left}
+use Rattle.std.proofs.lemmas.Bool.{cases_Bool, ltb-true, lt-ltb, and_parts}
 use Rattle.std.proofs.lemmas.List.Elements.{All-head, All-tail}
 use Rattle.std.proofs.lemmas.Str.{encodes-chars, scalars-chars, length-le-encodes, IsUtf8-from_is_utf8}
 use Rattle.std.proofs.Math.Utf8.{scalar_cases}
@@ -59,14 +59,10 @@ encode_small c w =
       ])
     ]
 
-both : (a b : Bool) → (a && b) ≡ true → (a ≡ true) × (b ≡ true)
-both true b e = (refl, e)
-both false b e = cc
-
 encodes_small : (cs : List ℕ) → scalars cs ≡ true → AreSmall (encodes cs)
 encodes_small [] h = tt
 encodes_small (c ∷ cs) h =
-    let (own, rest) = both (scalar c) (scalars cs) h in
+    let (own, rest) = and_parts (scalar c) (scalars cs) h in
     small_append (encode c) (encodes cs) (encode_small c (scalar_bound c own)) (encodes_small cs rest)
 
 utf8_small : (bs : List ℕ) → IsUtf8 bs → AreSmall bs
@@ -141,7 +137,7 @@ value_most : (s : Settings) (i : ℕ) (cs : List ℕ) → scalars cs ≡ true �
 unfolding most_of_value
 value_most s i [] h = omega arith
 value_most s i (c ∷ cs) h =
-    let (own, rest) = both (scalar c) (scalars cs) h in
+    let (own, rest) = and_parts (scalar c) (scalars cs) h in
     omega (arith, char_most s i c (scalar_bound c own), value_most s i cs rest)
 
 chars_few : (v : List ℕ) → IsUtf8 v → length (chars v) ≤ length v

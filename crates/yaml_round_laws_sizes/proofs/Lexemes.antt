@@ -1,6 +1,6 @@
 -- Indicators, and the blanks behind those of blocks, take a character each.
 use Rattle.std.proofs.Common.{◌≡◌, ℕ, zero, suc, ◌+◌, ◌<◌, ◌≤◌, Bool, true, false, not, ◌&&◌, ◌||◌, ◌==◌, nat_lt, if◌then◌else◌, List, [], ◌∷◌, Option, Some, None, refl, sym, ap, subst, ◌∙◌, arith, inl, inr, le_refl}
-use Rattle.std.proofs.lemmas.Bool.{cases_Bool, ltb-false, ne_eqb}
+use Rattle.std.proofs.lemmas.Bool.{cases_Bool, ltb-false, ne_eqb, or_parts}
 use Rattle.yaml_scan_history.specs.scan_model.Marks.{byte, starts, column_at, break_of, is_blank_or_end}
 use Rattle.yaml_scan_history.specs.scan_words.Indicators.{is_thrice, is_document_start, is_document_end}
 use Rattle.yaml_scan_history.specs.scan_scalars.Plain.{starts_plain}
@@ -120,14 +120,6 @@ begins flow text p k e =
 
 unfoldable pub white : ℕ → Bool
 white b = b == 32 || (b == 9 || (b == 0 || (b == 13 || (b == 10 || (b == 0xC2 || b == 0xE2)))))
-
-or_parts : (a b : Bool) → (a || b) ≡ false → (a ≡ false) × (b ≡ false)
-or_parts true b e = cc
-or_parts false b e = (refl, e)
-
-and_parts : (a b : Bool) → (a && b) ≡ true → (a ≡ true) × (b ≡ true)
-and_parts true b e = (refl, e)
-and_parts false b e = cc
 
 black : (text : List ℕ) (p : ℕ) → white (byte text p) ≡ false → is_blank_or_end text p ≡ false
 unfolding white break_of

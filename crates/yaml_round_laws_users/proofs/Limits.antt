@@ -1,5 +1,6 @@
 -- From the columns that a layout passes to the answers of two calls.
 use Rattle.std.proofs.Common.{◌≡◌, inl, inr, ℕ, Bool, true, false, true≢false, List, [], ◌∷◌, Option, Some, None, Result, Ok, Err, map, refl, sym, ap, subst, ◌∙◌}
+use Rattle.std.proofs.lemmas.Bool.{false≢true}
 use Rattle.yaml_round.specs.declared.yaml_encoding_t.{yaml_encoding_t}
 use Rattle.yaml_round.specs.declared.yaml_encoding_t.TheVariants.{YAML_ANY_ENCODING}
 use Rattle.yaml_emit_laws_columns.specs.emit_layout.scan_model.Faults.{Fault}
@@ -48,9 +49,6 @@ not_size e = let k : too_deep.kind ≡ write_error.kind = ap (λ (f : Fault). f.
 past_columns : (limit : ℕ) (bytes : List ℕ) (deep : Bool) → Passes limit bytes deep too_deep → deep ≡ true
 past_columns limit bytes deep (inl p) = absurd (not_size p.0)
 past_columns limit bytes deep (inr p) = p.1
-
-kept_columns : (d : Bool) → d ≡ false → d ≡ true → ⊥
-kept_columns d e h = true≢false (sym (sym e ∙ h))
 
 -- ---- a stream's layout
 
@@ -124,7 +122,7 @@ pub keeps : CanonicalAnswersKeepColumns
 unfolding IsReformatted
 keeps from s input text c h k deep =
     let fits = text_fits from input s c text (read_said from input c h) (laid_of from s input text true k.1.0) in
-    kept_columns (is_deep (canon_items (requested_under s true) c)) fits.columns (deep_content s c deep)
+    false≢true (sym fits.columns ∙ (deep_content s c deep))
 
 -- ---- reloading
 
@@ -191,7 +189,7 @@ reloads from s input ds h = (
 
 laid_shallow : (s : yaml_settings_t) (ds : List documents.Document) (text : List ℕ) → IsDumped s ds (Ok text) → AreDumpsTooDeep s ds → ⊥
 laid_shallow s ds text k deep =
-    kept_columns (is_deep k.whole) k.fits.columns (deep_stream (requested_under s true) refl k.encoding YAML_ANY_ENCODING (map graph_content (ended ds)) k.whole k.stream (deep_ended (settled_indent s.indent) ds deep))
+    false≢true (sym k.fits.columns ∙ (deep_stream (requested_under s true) refl k.encoding YAML_ANY_ENCODING (map graph_content (ended ds)) k.whole k.stream (deep_ended (settled_indent s.indent) ds deep)))
 
 pub reloads_keep : ReloadsKeepColumns
 unfolding IsReloaded

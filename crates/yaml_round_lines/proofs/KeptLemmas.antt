@@ -1,14 +1,11 @@
 -- Runs of bytes that are added as they are.
-use Rattle.std.proofs.Common.{◌≡◌, ℕ, zero, suc, ◌+◌, ◌-◌, ◌<◌, ◌≤◌, Bool, true, false, ◌&&◌, List, [], ◌∷◌, ◌++◌, take, drop, length, slice_index, refl, sym, ap, subst, ◌∙◌, arith, add-zero, add-one, append_assoc, length-drop}
+use Rattle.std.proofs.Common.{◌≡◌, ℕ, zero, suc, ◌+◌, ◌-◌, ◌<◌, ◌≤◌, Bool, true, ◌&&◌, List, [], ◌∷◌, ◌++◌, take, drop, length, slice_index, refl, sym, ap, subst, ◌∙◌, arith, add-zero, add-one, append_assoc, length-drop}
 use Rattle.std.proofs.lemmas.Bool.Decides.{nat_tests}
 use Rattle.std.proofs.lemmas.List.{take_more, take_all, drop_more, take-append-drop}
 use Rattle.std.proofs.lemmas.Grind.{flat_map-append}
+use Rattle.std.proofs.lemmas.Bool.{and_parts}
 use Rattle.yaml_round_lines.specs.EventLine.{escaped_byte, escaped}
 use Rattle.yaml_round_lines.specs.Runs.{is_kept, kept_run}
-
-both : (a b : Bool) → (a && b) ≡ true → (a ≡ true) × (b ≡ true)
-both true b h = (refl, h)
-both false b h = cc
 
 kept_byte : (b : ℕ) → is_kept b ≡ true → escaped_byte b ≡ b ∷ []
 unfolding is_kept escaped_byte
@@ -35,9 +32,9 @@ pub kept_leap : (k : ℕ) (text : List ℕ) (n : ℕ) → Kept text n → n + k 
 unfolding kept_run
 kept_leap zero text n kept inside h = rw add-zero kept
 kept_leap (suc k) text n kept inside h =
-    let front = kept_leap k text n kept (omega arith) (both _ _ h).0 in
+    let front = kept_leap k text n kept (omega arith) (and_parts _ _ h).0 in
     let next : n + suc k ≡ n + k + 1 = omega arith in
-    rw next (kept_more text (n + k) front (omega arith) (both _ _ h).1)
+    rw next (kept_more text (n + k) front (omega arith) (and_parts _ _ h).1)
 
 -- the text is its kept front, and what is behind it
 pub kept_front : (text : List ℕ) (n : ℕ) → Kept text n → escaped text ≡ take n text ++ escaped (drop n text)
@@ -60,14 +57,14 @@ run_less m zero text p h = subst (λ (z : ℕ). kept_run z text p ≡ true) (add
 run_less m (suc k) text p h =
     let next : m + suc k ≡ suc (m + k) = omega arith in
     let longer : kept_run (suc (m + k)) text p ≡ true = subst (λ (z : ℕ). kept_run z text p ≡ true) next h in
-    run_less m k text p (both (kept_run (m + k) text p) (is_kept (slice_index text (p + (m + k)))) longer).0
+    run_less m k text p (and_parts (kept_run (m + k) text p) (is_kept (slice_index text (p + (m + k)))) longer).0
 
 -- a text whose front and end are kept, which may have bytes in common
 pub ends_kept : (k : ℕ) (text : List ℕ) → k ≤ length text → length text ≤ k + k → (kept_run k text 0 && kept_run k text (length text - k)) ≡ true → escaped text ≡ text
 ends_kept k text least most h =
     let n : ℕ = length text in
     let m : ℕ = n - k in
-    let s = both (kept_run k text 0) (kept_run k text m) h in
+    let s = and_parts (kept_run k text 0) (kept_run k text m) h in
     let parts : m + (k - m) ≡ k = omega arith in
     let whole : m + k ≡ n = omega arith in
     let front : Kept text (0 + m) = kept_leap m text 0 (kept_none text) (omega arith) (run_less m (k - m) text 0 (ap (λ (z : ℕ). kept_run z text 0) parts ∙ s.0)) in

@@ -10,20 +10,13 @@ use Rattle.yaml_parse.specs.Events.{Event, EventBody, TagDirective, directive_of
 use Rattle.yaml_parse.specs.Events as event
 use Rattle.yaml_round_records.proofs.Checked.{left_cons}
 use Rattle.std.proofs.lemmas.List.{drop_all}
+use Rattle.std.proofs.lemmas.Bool.{and_parts}
 use Rattle.yaml_round_records.specs.declared.record.yaml_c_directive.{yaml_c_directive}
 use Rattle.yaml_round_records.specs.declared.record.yaml_c_event.{yaml_c_event}
 use Rattle.yaml_round_records.specs.Records.{directive_at, in_front, all_directives, body_meant}
 use Rattle.yaml_round_records.specs.Meaning.{is_utf8_option, are_utf8, may_give, given_if, given, event_meant}
 
 -- ---- an event that can be given has its texts in UTF-8
-
-and_left : (a b : Bool) → (a && b) ≡ true → a ≡ true
-and_left true b h = refl
-and_left false b h = h
-
-and_right : (a b : Bool) → (a && b) ≡ true → b ≡ true
-and_right true b h = h
-and_right false b h = absurd (cc)
 
 option_utf8 : (t : Option (List ℕ)) → is_utf8_option t ≡ true → IsUtf8Option t
 option_utf8 None h = tt
@@ -32,18 +25,18 @@ option_utf8 (Some t) h = IsUtf8-from_is_utf8 t h
 directives_utf8 : (ds : List TagDirective) → are_utf8 ds ≡ true → AreUtf8 ds
 directives_utf8 [] h = tt
 directives_utf8 (d ∷ ds) h =
-    let front = and_left (is_utf8 d.handle && is_utf8 d.prefix) (are_utf8 ds) h in (
-      (IsUtf8-from_is_utf8 d.handle (and_left (is_utf8 d.handle) (is_utf8 d.prefix) front), IsUtf8-from_is_utf8 d.prefix (and_right (is_utf8 d.handle) (is_utf8 d.prefix) front)),
-      directives_utf8 ds (and_right (is_utf8 d.handle && is_utf8 d.prefix) (are_utf8 ds) h),
+    let front = (and_parts (is_utf8 d.handle && is_utf8 d.prefix) (are_utf8 ds) h).0 in (
+      (IsUtf8-from_is_utf8 d.handle (and_parts (is_utf8 d.handle) (is_utf8 d.prefix) front).0, IsUtf8-from_is_utf8 d.prefix (and_parts (is_utf8 d.handle) (is_utf8 d.prefix) front).1),
+      directives_utf8 ds (and_parts (is_utf8 d.handle && is_utf8 d.prefix) (are_utf8 ds) h).1,
     )
 
 properties_utf8 : (a t : Option (List ℕ)) → (is_utf8_option a && is_utf8_option t) ≡ true → IsUtf8Option a × IsUtf8Option t
-properties_utf8 a t h = (option_utf8 a (and_left (is_utf8_option a) (is_utf8_option t) h), option_utf8 t (and_right (is_utf8_option a) (is_utf8_option t) h))
+properties_utf8 a t h = (option_utf8 a (and_parts (is_utf8_option a) (is_utf8_option t) h).0, option_utf8 t (and_parts (is_utf8_option a) (is_utf8_option t) h).1)
 
 scalar_utf8 : (a t : Option (List ℕ)) (v : List ℕ) → (is_utf8_option a && (is_utf8_option t && is_utf8 v)) ≡ true → IsUtf8Option a × IsUtf8Option t × IsUtf8 v
 scalar_utf8 a t v h =
-    let rest = and_right (is_utf8_option a) (is_utf8_option t && is_utf8 v) h in
-    (option_utf8 a (and_left (is_utf8_option a) (is_utf8_option t && is_utf8 v) h), option_utf8 t (and_left (is_utf8_option t) (is_utf8 v) rest), IsUtf8-from_is_utf8 v (and_right (is_utf8_option t) (is_utf8 v) rest))
+    let rest = (and_parts (is_utf8_option a) (is_utf8_option t && is_utf8 v) h).1 in
+    (option_utf8 a (and_parts (is_utf8_option a) (is_utf8_option t && is_utf8 v) h).0, option_utf8 t (and_parts (is_utf8_option t) (is_utf8 v) rest).0, IsUtf8-from_is_utf8 v (and_parts (is_utf8_option t) (is_utf8 v) rest).1)
 
 pub has_utf8 : (b : EventBody) → may_give b ≡ true → HasUtf8 b
 has_utf8 event.no h = tt

@@ -6,6 +6,7 @@ use Rattle.std.proofs.Math.Seq.{drop-cons}
 use Rattle.std.proofs.lemmas.List.{drop_all}
 use Rattle.std.proofs.lemmas.Bool.{false≢true}
 use Rattle.std.proofs.lemmas.Str.{IsUtf8-from_is_utf8, is_utf8-from_IsUtf8}
+use Rattle.std.proofs.Math.Bool.{and-false}
 use Rattle.yaml_parse.specs.Events.{EventBody, TagDirective}
 use Rattle.yaml_parse.specs.declared.yaml_scalar_style_t.{yaml_scalar_style_t}
 use Rattle.yaml_parse.specs.declared.yaml_sequence_style_t.{yaml_sequence_style_t}
@@ -15,10 +16,6 @@ use Rattle.yaml_round_records.specs.declared.record.yaml_c_event.{yaml_c_event}
 use Rattle.yaml_round_records.specs.Records.{directive_at, in_front, all_directives, scalar_by, sequence_by, mapping_by, body_meant, body_in_front}
 use Rattle.yaml_round_records.specs.Meaning.{is_utf8_option, may_give, given_if, given, event_meant, events_meant}
 use Rattle.yaml_round_records.specs.Checking.{is_text, is_optional, is_directive, are_directives, is_event}
-
-pub and_false : (b : Bool) → (b && false) ≡ false
-and_false true = refl
-and_false false = refl
 
 pub and_assoc : (a b c : Bool) → ((a && b) && c) ≡ (a && (b && c))
 and_assoc true b c = refl
@@ -37,7 +34,7 @@ readable false t h = unreadable (is_utf8 t) t refl (λ u. false≢true (h.1 u))
 
 front_directives : (d : Option TagDirective) (ds : Option (List TagDirective)) → are_directives (in_front d ds) ≡ (is_directive d && are_directives ds)
 front_directives None ds = refl
-front_directives (Some d) None = sym (and_false (is_utf8 d.handle && is_utf8 d.prefix))
+front_directives (Some d) None = sym (and-false (is_utf8 d.handle && is_utf8 d.prefix))
 front_directives (Some d) (Some ds) = refl
 
 pub more_directives : (bytes : List ℕ) (d : yaml_c_directive) (ds : List yaml_c_directive) → are_directives (all_directives bytes (d ∷ ds)) ≡ (is_directive (directive_at bytes d) && are_directives (all_directives bytes ds))
@@ -59,7 +56,7 @@ unstyled true false v = refl
 unstyled false t v = refl
 
 unvalued : (a t : Bool) → false ≡ ((a && t) && false)
-unvalued a t = sym (and_false (a && t))
+unvalued a t = sym (and-false (a && t))
 
 untagged : (a b : Bool) → false ≡ ((a && false) && b)
 untagged true b = refl

@@ -2,6 +2,7 @@
 use Rattle.std.proofs.Common.{◌≡◌, ◌≢◌, ℕ, zero, suc, ◌+◌, ◌-◌, ◌<◌, ◌≤◌, ◌==◌, nat_lt, ◌&&◌, ◌||◌, true, false, not, List, refl, inl, inr, ◌⊎◌, arith}
 use Rattle.std.specs.Prelude.{slice_range}
 use Rattle.std.proofs.lemmas.Bool.Decides.{nat_tests}
+use Rattle.std.proofs.lemmas.Bool.{lt-ltb}
 use Rattle.yaml_scan_model.specs.Marks.{byte, break_width, column_at, ends_break}
 use Rattle.yaml_scan_model.specs.Breaks.{break_value, feed_at}
 use Rattle.yaml_scan_model.specs.Runs.{is_text, line_end}
@@ -10,9 +11,6 @@ use Rattle.yaml_scan_model.proofs.BreaksLemmas.{no_end-blank}
 use Rattle.yaml_scan_model.proofs.RunsLemmas.{past_some}
 use Rattle.yaml_scan_block.specs.Value.{Empty, Words}
 use Rattle.yaml_scan_block.specs.Lines.{spaces, spot_behind, Stops, Line, Tab}
-
-positive : (n : ℕ) → 0 < n → nat_lt 0 n ≡ true
-positive n h = grind (arith, nat_tests)
 
 space_end : (text : List ℕ) (p : ℕ) → byte text p ≡ 32 → ends_break text p ≡ false
 space_end text p h = no_end-blank _ _ _ _ (rw h refl)
@@ -63,7 +61,7 @@ tab_spot c text q t = rw t refl
 pub empty_spot : (c : ℕ) (text : List ℕ) (q : ℕ) → (byte text q == 9 && nat_lt (column_at text q) c) ≡ false → 0 < break_width text q
     → spot_behind c text q ≡ Line (Empty (break_value text q)) (q + break_width text q)
 unfolding spot_behind
-empty_spot c text q t h = rw (t, positive (break_width text q) h) refl
+empty_spot c text q t h = rw (t, lt-ltb 0 (break_width text q) h) refl
 
 pub end_spot : (c : ℕ) (text : List ℕ) (q : ℕ) → (byte text q == 9 && nat_lt (column_at text q) c) ≡ false → break_width text q ≡ 0
     → (byte text q == 0 || not (column_at text q == c)) ≡ true → spot_behind c text q ≡ Stops q

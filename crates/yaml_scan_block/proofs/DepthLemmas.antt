@@ -1,6 +1,7 @@
 -- The column of a block scalar's text, a line at a time.
-use Rattle.std.proofs.Common.{◌≡◌, ◌≢◌, ℕ, zero, suc, ◌+◌, ◌-◌, ◌<◌, ◌≤◌, ◌==◌, nat_lt, true, false, List, length, Result, Ok, Err, refl, sym, ap, ◌∙◌, arith}
+use Rattle.std.proofs.Common.{◌≡◌, ◌≢◌, ℕ, zero, suc, ◌+◌, ◌-◌, ◌<◌, ◌≤◌, ◌==◌, false, List, length, Result, Ok, Err, refl, sym, ap, ◌∙◌, arith}
 use Rattle.std.proofs.lemmas.Bool.Decides.{nat_tests}
+use Rattle.std.proofs.lemmas.Bool.{eq-eqb, ne_eqb, lt-ltb}
 use Rattle.yaml_scan_model.specs.declared.problem.Problem.TheVariants as problems
 use Rattle.yaml_scan_model.specs.Marks.{byte, break_width, column_at}
 use Rattle.yaml_scan_model.specs.Runs.{past_spaces, is_space_there}
@@ -26,42 +27,33 @@ larger_more : (a b : ℕ) (r : Result ℕ Wrong) → larger_of a (larger_of b r)
 larger_more a b (Ok c) = ap (λ x. Ok x) (larger_both a b c)
 larger_more a b (Err w) = refl
 
-same : (b n : ℕ) → b ≡ n → (b == n) ≡ true
-same b n h = grind (arith, nat_tests)
-
-differs : (b n : ℕ) → b ≢ n → (b == n) ≡ false
-differs b n h = grind (arith, nat_tests)
-
-positive : (n : ℕ) → 0 < n → nat_lt 0 n ≡ true
-positive n h = grind (arith, nat_tests)
-
 pub depth_tab : (n : ℕ) (text : List ℕ) (p d : ℕ) → byte text (past_spaces text p) ≡ 9 → larger_of d (deepest (suc n) text p) ≡ Err (in_block problems.TabForSpace (past_spaces text p))
 unfolding deepest
-depth_tab n text p d h = rw (same (byte text (past_spaces text p)) 9 h) refl
+depth_tab n text p d h = rw (eq-eqb (byte text (past_spaces text p)) 9 h) refl
 
 pub depth_done : (n : ℕ) (text : List ℕ) (p d : ℕ) → byte text (past_spaces text p) ≢ 9 → break_width text (past_spaces text p) ≡ 0
     → larger_of d (deepest (suc n) text p) ≡ Ok (larger d (column_at text (past_spaces text p)))
 unfolding deepest
-depth_done n text p d h z = rw (differs (byte text (past_spaces text p)) 9 h, z) refl
+depth_done n text p d h z = rw (ne_eqb (byte text (past_spaces text p)) 9 h, z) refl
 
 depth_line : (n : ℕ) (text : List ℕ) (p : ℕ) → byte text (past_spaces text p) ≢ 9 → 0 < break_width text (past_spaces text p)
     → deepest (suc n) text p ≡ larger_of (column_at text (past_spaces text p)) (deepest n text (past_spaces text p + break_width text (past_spaces text p)))
 unfolding deepest
-depth_line n text p h w = rw (differs (byte text (past_spaces text p)) 9 h, positive (break_width text (past_spaces text p)) w) refl
+depth_line n text p h w = rw (ne_eqb (byte text (past_spaces text p)) 9 h, lt-ltb 0 (break_width text (past_spaces text p)) w) refl
 
 pub depth_more : (n : ℕ) (text : List ℕ) (p d : ℕ) (whole : Result ℕ Wrong) → length text ≤ p + n → whole ≡ larger_of d (deepest (suc n) text p)
     → byte text (past_spaces text p) ≢ 9 → 0 < break_width text (past_spaces text p)
     → (m : ℕ) × (length text ≤ past_spaces text p + break_width text (past_spaces text p) + m)
     × (whole ≡ larger_of (larger d (column_at text (past_spaces text p))) (deepest (suc m) text (past_spaces text p + break_width text (past_spaces text p))))
-depth_more zero text p d whole room same h w =
+depth_more zero text p d whole room eq-eqb h w =
     let le = past-le is_space_there (length text) text p in
     let end = past_break text (past_spaces text p) w in
     absurd (omega (arith, end.inside))
-depth_more (suc n) text p d whole room same h w =
+depth_more (suc n) text p d whole room eq-eqb h w =
     let le = past-le is_space_there (length text) text p in (
       n,
       omega arith,
-      same ∙ ap (λ r. larger_of d r) (depth_line (suc n) text p h w)
+      eq-eqb ∙ ap (λ r. larger_of d r) (depth_line (suc n) text p h w)
           ∙ larger_more d (column_at text (past_spaces text p)) (deepest (suc n) text (past_spaces text p + break_width text (past_spaces text p))),
     )
 

@@ -1,6 +1,7 @@
 -- Headers of block scalars, a byte at a time.
-use Rattle.std.proofs.Common.{◌≡◌, ◌≢◌, ℕ, ◌+◌, ◌<◌, ◌==◌, Bool, true, false, List, if◌then◌else◌, Ok, Err, refl, arith}
+use Rattle.std.proofs.Common.{◌≡◌, ◌≢◌, ℕ, ◌+◌, ◌<◌, Bool, true, false, List, if◌then◌else◌, Ok, Err, refl, arith}
 use Rattle.std.proofs.lemmas.Bool.Decides.{nat_tests}
+use Rattle.std.proofs.lemmas.Bool.{eq-eqb, ne_eqb}
 use Rattle.yaml_scan_model.specs.declared.problem.Problem.TheVariants as problems
 use Rattle.yaml_scan_model.specs.Marks.{byte, break_of, break_width}
 use Rattle.yaml_scan_model.specs.Classes.{is_digit_byte}
@@ -47,19 +48,13 @@ digit_there text p = at_either text (is_chomping (byte text p)) (p + 1) p
 pub chomping_there : (text : List ℕ) (p : ℕ) → (if is_digit_byte (byte text p) then byte text (p + 1) else byte text p) ≡ byte text (chomping_place text p)
 chomping_there text p = at_either text (is_digit_byte (byte text p)) (p + 1) p
 
-same : (b n : ℕ) → b ≡ n → (b == n) ≡ true
-same b n h = grind (arith, nat_tests)
-
-differs : (b n : ℕ) → b ≢ n → (b == n) ≡ false
-differs b n h = grind (arith, nat_tests)
-
 pub zero_header : (text : List ℕ) (p : ℕ) → byte text (digit_place text p) ≡ 48 → header_at text p ≡ Err (in_block problems.ZeroIndentation (digit_place text p))
 unfolding header_at
-zero_header text p h = rw (same (byte text (digit_place text p)) 48 h) refl
+zero_header text p h = rw (eq-eqb (byte text (digit_place text p)) 48 h) refl
 
 pub wrong_header : (text : List ℕ) (p : ℕ) → byte text (digit_place text p) ≢ 48 → is_text text (header_end text p) ≡ true → header_at text p ≡ Err (in_block problems.NoCommentOrBreak (header_end text p))
 unfolding header_at
-wrong_header text p h k = rw (differs (byte text (digit_place text p)) 48 h, k) refl
+wrong_header text p h k = rw (ne_eqb (byte text (digit_place text p)) 48 h, k) refl
 
 pub whole_header : (text : List ℕ) (p : ℕ) → byte text (digit_place text p) ≢ 48 → is_text text (header_end text p) ≡ false
     → header_at text p ≡ Ok record {
@@ -68,4 +63,4 @@ pub whole_header : (text : List ℕ) (p : ℕ) → byte text (digit_place text p
       place = header_end text p + break_width text (header_end text p);
     }
 unfolding header_at
-whole_header text p h k = rw (differs (byte text (digit_place text p)) 48 h, k) refl
+whole_header text p h k = rw (ne_eqb (byte text (digit_place text p)) 48 h, k) refl

@@ -6,6 +6,7 @@ use Rattle.std.proofs.lemmas.List.Elements.{All-nil, All-cons}
 use Rattle.std.specs.List.{AllPass}
 use Rattle.std.specs.Char.{IsScalar}
 use Rattle.std.specs.Prelude.{encode_utf8, encode_utf8_all}
+use Rattle.std.proofs.lemmas.Bool.{lt-ltb, le-ltb, and_parts}
 use Rattle.yaml_scan_model.specs.declared.name.yaml_encoding_t.{yaml_encoding_t}
 use Rattle.yaml_scan_model.specs.declared.name.yaml_encoding_t.TheVariants.{YAML_UTF8_ENCODING}
 use Rattle.yaml_scan_model.specs.Marks.{byte}
@@ -21,12 +22,6 @@ use Rattle.yaml_scan_decode.specs.Spelling.{spelling, spellings}
 use Rattle.yaml_scan_decode.specs.Steps.{plain_run, outcome, outcome_at, behind}
 use Rattle.yaml_scan_decode.proofs.DecodeLemmas.{AreBytes, utf8_stands, character_stands}
 
-below : (m n : ℕ) → m < n → nat_lt m n ≡ true
-below m n h = grind (arith, nat_tests)
-
-above : (m n : ℕ) → n ≤ m → nat_lt m n ≡ false
-above m n h = grind (arith, nat_tests)
-
 -- a character that a stream may hold is a Unicode scalar value
 pub allowed_scalar : (c : ℕ) → is_allowed c ≡ true → IsScalar c
 unfolding is_allowed
@@ -40,7 +35,7 @@ character_by HighFirst bytes p = refl
 pub ended : (n : ℕ) (e : yaml_encoding_t) (bytes : List ℕ) (p : ℕ) → length bytes ≤ p → characters n e bytes p ≡ Ok []
 unfolding characters
 ended zero e bytes p h = refl
-ended (suc n) e bytes p h = rw (above p (length bytes) h) refl
+ended (suc n) e bytes p h = rw (le-ltb p (length bytes) h) refl
 
 -- a character, and those behind it
 pub record GoesOn (n : ℕ) (e : yaml_encoding_t) (bytes : List ℕ) (p : ℕ) (ch : Character) : Type 0 where
@@ -51,12 +46,12 @@ pub record GoesOn (n : ℕ) (e : yaml_encoding_t) (bytes : List ℕ) (p : ℕ) (
 pub turn : (n : ℕ) (e : yaml_encoding_t) (bytes : List ℕ) (p : ℕ) (ch : Character) → p < length bytes → length bytes ≤ p + n → 0 < ch.width → character_at e bytes p ≡ Ok ch → GoesOn n e bytes p ch
 unfolding characters
 turn zero e bytes p ch inside room some h = absurd (omega arith)
-turn (suc n) e bytes p ch inside room some h = record { fuel = n; enough = omega arith; same = rw (below p (length bytes) inside, h) refl }
+turn (suc n) e bytes p ch inside room some h = record { fuel = n; enough = omega arith; same = rw (lt-ltb p (length bytes) inside, h) refl }
 
 pub refused : (n : ℕ) (e : yaml_encoding_t) (bytes : List ℕ) (p : ℕ) (o : Offence) → p < length bytes → length bytes ≤ p + n → character_at e bytes p ≡ Err o → characters n e bytes p ≡ Err o
 unfolding characters
 refused zero e bytes p o inside room h = absurd (omega arith)
-refused (suc n) e bytes p o inside room h = rw (below p (length bytes) inside, h) refl
+refused (suc n) e bytes p o inside room h = rw (lt-ltb p (length bytes) inside, h) refl
 
 -- a plain byte is a character of its own
 pub plain_stands : (bytes : List ℕ) (p : ℕ) → p < length bytes → is_plain (byte bytes p) ≡ true → utf8_at bytes p ≡ Ok record { code = byte bytes p; width = 1 }
@@ -77,14 +72,6 @@ in_utf8-before xs c (Err o) = refl
 pub behind-nothing : (r : Result (List ℕ) Offence) → behind [] r ≡ r
 behind-nothing (Ok cs) = refl
 behind-nothing (Err o) = refl
-
-and_left : (a b : Bool) → (a && b) ≡ true → a ≡ true
-and_left true b h = refl
-and_left false b h = cc
-
-and_right : (a b : Bool) → (a && b) ≡ true → b ≡ true
-and_right true b h = h
-and_right false b h = cc
 
 -- the characters from p on are checked up to q
 pub record Checks (n : ℕ) (e : yaml_encoding_t) (bytes : List ℕ) (p q : ℕ) : Type 0 where
@@ -112,10 +99,10 @@ pub checks_run : (k n : ℕ) (bytes : List ℕ) (p q : ℕ) → Checks n YAML_UT
 unfolding plain_run
 checks_run zero n bytes p q c inside h = rw add-zero c
 checks_run (suc k) n bytes p q c inside h =
-    let front = checks_run k n bytes p q c (omega arith) (and_left _ _ h) in
+    let front = checks_run k n bytes p q c (omega arith) (and_parts _ _ h).0 in
     let here : q + k < length bytes = omega arith in
     let next : q + suc k ≡ q + k + 1 = omega arith in
-    rw next (checks_more n YAML_UTF8_ENCODING bytes p (q + k) record { code = byte bytes (q + k); width = 1 } front here (omega arith) (plain_stands bytes (q + k) here (and_right _ _ h)))
+    rw next (checks_more n YAML_UTF8_ENCODING bytes p (q + k) record { code = byte bytes (q + k); width = 1 } front here (omega arith) (plain_stands bytes (q + k) here (and_parts _ _ h).1))
 
 -- no more characters are asked for than bytes are left
 fuel_enough : (n m : ℕ) (bytes : List ℕ) (p : ℕ) → length bytes ≤ p + n → length bytes ≤ p + m → characters n YAML_UTF8_ENCODING bytes p ≡ characters m YAML_UTF8_ENCODING bytes p

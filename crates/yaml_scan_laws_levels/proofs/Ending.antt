@@ -1,6 +1,7 @@
 -- A text begins with the stream's start, and ends with its end.
 use Rattle.std.proofs.Common.{◌≡◌, ◌≢◌, ℕ, ◌+◌, ◌-◌, ◌==◌, ◌&&◌, not, nat_lt, cond, Bool, true, false, List, [], ◌∷◌, ◌++◌, length, flat_map, Option, Some, None, Result, Ok, refl, sym, ap, ◌∙◌, arith}
 use Rattle.std.proofs.lemmas.List.{append-nil}
+use Rattle.std.proofs.Math.Bool.{and-false}
 use Rattle.yaml_scan_history.specs.scan_model.declared.record.yaml_mark_t.{yaml_mark_t}
 use Rattle.yaml_scan_history.specs.scan_model.Marks.{mark_at}
 use Rattle.yaml_scan_history.specs.scan_model.Tokens.{Token, TokenBody, stream_end}
@@ -45,10 +46,6 @@ start_stands text = record {
 
 -- ---- the end
 
-no_start : (b : Bool) → (b && false) ≡ false
-no_start true = refl
-no_start false = refl
-
 end_read : (text : List ℕ) (gap : Gap) (h : List Lexeme) (q : ℕ) (a : Bool) (w : WordText) → gap.place ≡ q → allowed_behind h gap ≡ a
     → let m = mark_at text q in let l = end_at text h q a in
     kind_at (nat_lt 0 (depth h)) text q ≡ Some kinds.StreamEnd
@@ -69,7 +66,7 @@ end_read text gap h q a w place allowed kind said none lost time =
     ∙ ap (λ (p : ℕ). cond (misplaced k (mark_at text p) (allowed_behind h gap) h) (not_allowed k (mark_at text p))
     (unless_lost (lost_by (begun k (placed k (mark_at text p)) (allowed_behind h gap) h) (fresh (candidate (depth h) h) (mark_at text p))) text p (begun k (placed k (mark_at text p)) (allowed_behind h gap) h) h)) place
     ∙ ap (λ (x : Bool). cond (misplaced k m x h) (not_allowed k m) (unless_lost (lost_by (begun k (placed k m) x h) (fresh (candidate (depth h) h) m)) text q (begun k (placed k m) x h) h)) allowed
-    ∙ unless_so (misplaced k m a h) (not_allowed k m) _ (no_start (not flow && not a))
+    ∙ unless_so (misplaced k m a h) (not_allowed k m) _ (and-false (not flow && not a))
     ∙ ap (λ (o : Option yaml_mark_t). unless_lost o text q l h) lost
     ∙ ap (λ (r : Result WordText Wrong). unless_wrong r text l h) said
     ∙ tested_read l h time

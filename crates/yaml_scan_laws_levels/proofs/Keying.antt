@@ -1,7 +1,8 @@
 -- Keys of one word or several are held, and marked by their `:`.
 use Rattle.std.proofs.Common.{◌≡◌, ◌⊎◌, ℕ, zero, suc, ◌-◌, ◌<◌, ◌==◌, ◌&&◌, ◌||◌, not, nat_lt, cond, Bool, true, false, List, [], ◌∷◌, ◌++◌, length, Option, Some, None, refl, sym, ap, subst, ◌∙◌, inl, inr, arith}
-use Rattle.std.proofs.lemmas.Bool.{cases_Bool}
+use Rattle.std.proofs.lemmas.Bool.{cases_Bool, eq-eqb}
 use Rattle.std.proofs.lemmas.Bool.Decides.{nat_tests}
+use Rattle.std.proofs.Math.Bool.{and-false}
 use Rattle.yaml_scan_history.specs.scan_model.declared.record.yaml_mark_t.{yaml_mark_t}
 use Rattle.yaml_scan_history.specs.scan_model.Marks.{column_at, mark_at}
 use Rattle.yaml_scan_history.specs.declared.kind.Kind.{Kind}
@@ -38,15 +39,12 @@ other_more : (same saved cancel below : Bool) (o rest : Option Candidate) → sa
 other_more same saved cancel true o rest e f = rw e tt
 other_more same saved cancel false o rest e f = rw e f
 
-same_depth : (a b : ℕ) → a ≡ b → (a == b) ≡ true
-same_depth a b e = grind (arith, nat_tests)
-
 apart : (a b : ℕ) → (b ≡ a → ⊥) → (a == b) ≡ false
 apart a b f = elim (cases_Bool (a == b)) [ inl e ↦ let g : b ≡ a = grind (arith, nat_tests) in absurd (f g) | inr e ↦ e ]
 
 saved_slot : (l : Lexeme) (h : List Lexeme) (d : ℕ) → l.depth ≡ d → l.saved ≡ true → candidate d (l ∷ h) ≡ Some (record { number = length h; lexeme = l })
 unfolding candidate
-saved_slot l h d e s = saved_more (l.depth == d) l.saved (cancels l.kind) (nat_lt l.depth d) (record { number = length h; lexeme = l }) (candidate d h) (same_depth l.depth d e) s
+saved_slot l h d e s = saved_more (l.depth == d) l.saved (cancels l.kind) (nat_lt l.depth d) (record { number = length h; lexeme = l }) (candidate d h) (eq-eqb l.depth d e) s
 
 other_slot : (l : Lexeme) (h : List Lexeme) (e : ℕ) → (e ≡ l.depth → ⊥) → IsFree (candidate e h) → IsFree (candidate e (l ∷ h))
 unfolding candidate
@@ -54,12 +52,12 @@ other_slot l h e f r = other_more (l.depth == e) l.saved (cancels l.kind) (nat_l
 
 kept_slot : (l : Lexeme) (h : List Lexeme) (d : ℕ) → ((l.depth ≡ d) × (l.saved ≡ false) × (cancels l.kind ≡ false)) ⊎ (d < l.depth) → candidate d (l ∷ h) ≡ candidate d h
 unfolding candidate
-kept_slot l h d (inl (e, f, g)) = kept_more (l.depth == d) l.saved (cancels l.kind) (nat_lt l.depth d) (Some (record { number = length h; lexeme = l })) (candidate d h) (inl (same_depth l.depth d e, f, g))
+kept_slot l h d (inl (e, f, g)) = kept_more (l.depth == d) l.saved (cancels l.kind) (nat_lt l.depth d) (Some (record { number = length h; lexeme = l })) (candidate d h) (inl (eq-eqb l.depth d e, f, g))
 kept_slot l h d (inr e) = kept_more (l.depth == d) l.saved (cancels l.kind) (nat_lt l.depth d) (Some (record { number = length h; lexeme = l })) (candidate d h) (inr (grind (arith, nat_tests), grind (arith, nat_tests)))
 
 pub cancelled_slot : (l : Lexeme) (h : List Lexeme) (d : ℕ) → l.depth ≡ d → l.saved ≡ false → cancels l.kind ≡ true → candidate d (l ∷ h) ≡ None
 unfolding candidate
-cancelled_slot l h d e f g = cancelled_more (l.depth == d) l.saved (cancels l.kind) (nat_lt l.depth d) (Some (record { number = length h; lexeme = l })) (candidate d h) (same_depth l.depth d e) f g
+cancelled_slot l h d e f g = cancelled_more (l.depth == d) l.saved (cancels l.kind) (nat_lt l.depth d) (Some (record { number = length h; lexeme = l })) (candidate d h) (eq-eqb l.depth d e) f g
 
 some_in_time : (o : Option Candidate) (c : Candidate) (m : yaml_mark_t) → o ≡ Some c → is_fresh c.lexeme.start m ≡ true → InTime o m
 some_in_time o c m e f = let P : Option Candidate → Type 0 = λ x. InTime x m in subst P (sym e) (inr f)
@@ -190,10 +188,6 @@ mark_there ls (x ∷ xs) first rest = ap (λ (zs : List Entry). x ∷ zs) (mark_
 pub still_fresh : (o : Option Candidate) (c : Candidate) (m : yaml_mark_t) → o ≡ Some c → is_fresh c.lexeme.start m ≡ true → fresh o m ≡ Some c
 still_fresh o c m e f = ap (λ (x : Option Candidate). fresh x m) e ∙ ap (λ (b : Bool). cond b (Some c) None) f
 
-and_false : (a : Bool) → (a && false) ≡ false
-and_false true = refl
-and_false false = refl
-
 no_save : (a : Bool) → ((a && false) || false) ≡ true → ⊥
 no_save true e = cc
 no_save false e = cc
@@ -204,7 +198,7 @@ gone o e = let P : Option Candidate → Type 0 = λ x. IsFree x in subst P (sym 
 idle_behind : (l : Lexeme) (h : List Lexeme) (d : ℕ) (c : Candidate) → Holds h d c → l.depth ≡ d → candidate d (l ∷ h) ≡ None → Idle (l ∷ h)
 idle_behind l h d c holds deep none = λ e. elim (cases_Bool (d == e)) [
   | inl x ↦ let same : d ≡ e = grind (arith, nat_tests) in let P : ℕ → Type 0 = λ i. IsFree (candidate i (l ∷ h)) in subst P same (gone (candidate d (l ∷ h)) none)
-  | inr x ↦ let far : d ≡ e → ⊥ = λ y. let z = same_depth d e y in cc in other_slot l h e (λ y. far (sym (y ∙ deep))) (holds.others e far)
+  | inr x ↦ let far : d ≡ e → ⊥ = λ y. let z = eq-eqb d e y in cc in other_slot l h e (λ y. far (sym (y ∙ deep))) (holds.others e far)
 ]
 
 pub key_ends : KeyEnds
@@ -216,7 +210,7 @@ key_ends text h d ms done first rest q a w f holds meets right near =
     let c : Candidate = record { number = length done; lexeme = first.lexeme } in
     let left = stays_right k d col ms refl f.rises right in
     let found_is = still_fresh (candidate d h) c (mark_at text q) holds.slot near in
-    let none : candidate d (l ∷ h) ≡ None = cancelled_slot l h d f.depth (and_false a) refl in
+    let none : candidate d (l ∷ h) ≡ None = cancelled_slot l h d f.depth (and-false a) refl in
     let still : Idle (l ∷ h) = idle_behind l h d c holds f.depth none in
     let taken : has (fresh (candidate d h) (mark_at text q)) ≡ true = ap (λ (o : Option Candidate). has o) found_is in
     let read = met_is_read text h d ms es k q a w f refl (meets_level text h d (indent ms) k q a w (indent (left_by k d col ms)) meets (ap (λ (x : List ℕ). indent x) (sym left)))

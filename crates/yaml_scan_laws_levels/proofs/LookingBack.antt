@@ -1,9 +1,10 @@
 -- What looking back gives is what marking entries gives.
 use Rattle.std.proofs.Common.{◌≡◌, ℕ, zero, suc, ◌+◌, ◌-◌, ◌<◌, ◌≤◌, ◌==◌, ◌&&◌, not, nat_lt, cond, Bool, true, false, List, [], ◌∷◌, ◌++◌, length, take, drop, flat_map, Option, Some, None, Result, Ok, Err, refl, sym, ap, ◌∙◌, inl, inr, ◌⊎◌, arith, append_assoc, length-append}
-use Rattle.std.proofs.lemmas.Bool.{cases_Bool, cases_lt}
+use Rattle.std.proofs.lemmas.Bool.{cases_Bool, cases_lt, and_parts}
 use Rattle.std.proofs.lemmas.Bool.Decides.{nat_tests}
 use Rattle.std.proofs.lemmas.Grind.{flat_map-append}
 use Rattle.std.proofs.lemmas.List.{append-nil}
+use Rattle.std.proofs.Math.Bool.{and-false}
 use Rattle.yaml_scan_history.specs.scan_model.declared.problem.ScanFault.{ScanFault}
 use Rattle.yaml_scan_history.specs.scan_model.Tokens.{Token}
 use Rattle.yaml_scan_history.specs.scan_model.Wrong.{Wrong}
@@ -49,15 +50,11 @@ word_may text l (Ok w) m =
       | inr e ↦ rw e m
     ]
 
-and_last : (a b : Bool) → (a && b) ≡ true → b ≡ true
-and_last true b e = e
-and_last false b e = absurd (cc)
-
 coming_may : (o : Option Kind) (text : List ℕ) (h : List Lexeme) → NextMay (coming o text h)
 coming_may None text h = first_may (stale_before text h ∷ []) (Fails (no_start (place_behind text h))) tt
 coming_may (Some k) text h =
     first_may (faults k text h) (Read (lexeme_behind k text h))
-    (word_may text (begun_behind k text h) (word_behind k text h) (λ s. and_last _ (may_be_key k) s))
+    (word_may text (begun_behind k text h) (word_behind k text h) (λ s. (and_parts _ (may_be_key k) s).1))
 
 next_may : (text : List ℕ) (h : List Lexeme) → NextMay (next text h)
 unfolding next
@@ -132,10 +129,6 @@ level_none n (l ∷ h) le =
 eq_self : (n : ℕ) → (n == n) ≡ true
 eq_self n = grind (arith, nat_tests)
 
-and_not : (a : Bool) → (a && false) ≡ false
-and_not true = refl
-and_not false = refl
-
 own_by : (o : Option Candidate) (l : Lexeme) (ls : List ℕ) (n : ℕ) → ((c : Candidate) → o ≡ Some c → c.number < n)
     → cond (((is_start l.kind && not (nat_lt 0 l.depth)) && nat_lt (indent ls) (opens_at o l.kind l.start.column)) && cond (is_value l.kind) (number_or o n) n == n) (level_of l.kind) opening.Nothing
     ≡ opens_of o l ls
@@ -161,7 +154,7 @@ own_by (Some c) l ls n f =
     elim (cases_Bool (is_start l.kind)) [
       | inr s ↦ rw s refl
       | inl s ↦ elim (cases_Bool (is_value l.kind)) [
-        | inl v ↦ rw (s, v, far, and_not (not (nat_lt 0 l.depth) && nat_lt (indent ls) (margin_at c.lexeme.start.column))) refl
+        | inl v ↦ rw (s, v, far, and-false (not (nat_lt 0 l.depth) && nat_lt (indent ls) (margin_at c.lexeme.start.column))) refl
         | inr v ↦ elim (cases_Bool (not (nat_lt 0 l.depth) && nat_lt (indent ls) (margin_at l.start.column))) [
           | inl r ↦ rw (s, v, here, r) refl
           | inr r ↦ rw (s, v, here, r) refl
@@ -233,7 +226,7 @@ unlevelled d (y ∷ t) c e (m, a) =
         | inr inner ↦
             let before = rw (other, inner) at e in
             let deep : nat_lt 0 y.depth ≡ true = grind (arith, nat_tests) in
-            other_level c.number y t (rw (deep, and_not (is_start y.kind)) refl) ∙ unlevelled d t c before a
+            other_level c.number y t (rw (deep, and-false (is_start y.kind)) refl) ∙ unlevelled d t c before a
       ]
     ]
 

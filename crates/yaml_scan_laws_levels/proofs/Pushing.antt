@@ -1,6 +1,6 @@
 -- What is known behind one lexeme more.
 use Rattle.std.proofs.Common.{◌≡◌, ◌⊎◌, ℕ, ◌+◌, ◌-◌, ◌≤◌, ◌==◌, ◌&&◌, ◌||◌, not, nat_lt, cond, Bool, true, false, List, [], ◌∷◌, ◌++◌, length, Option, Some, None, Result, Ok, refl, sym, ap, subst, ◌∙◌, inl, inr, arith}
-use Rattle.std.proofs.lemmas.Bool.{cases_Bool}
+use Rattle.std.proofs.lemmas.Bool.{cases_Bool, not-true, and_parts}
 use Rattle.std.proofs.lemmas.Bool.Decides.{nat_tests}
 use Rattle.yaml_scan_history.specs.scan_model.declared.record.yaml_mark_t.{yaml_mark_t}
 use Rattle.yaml_scan_history.specs.scan_model.Marks.{column_at, mark_at}
@@ -161,18 +161,6 @@ pub calm_levels : (flag : Bool) (m : ℕ) (ls : List ℕ) → flag ≡ false →
 calm_levels false m ls e = refl
 calm_levels true m ls e = absurd (cc)
 
-not_true : (x : Bool) → not x ≡ true → x ≡ false
-not_true false e = refl
-not_true true e = absurd (cc)
-
-left_true : (x y : Bool) → (x && y) ≡ true → x ≡ true
-left_true true y e = refl
-left_true false y e = absurd (cc)
-
-right_true : (x y : Bool) → (x && y) ≡ true → y ≡ true
-right_true true y e = e
-right_true false y e = absurd (cc)
-
 calm_flag : (deep start : Bool) → (deep || not start) ≡ true → (start && not deep) ≡ false
 calm_flag true true e = refl
 calm_flag true false e = refl
@@ -180,10 +168,10 @@ calm_flag false false e = refl
 calm_flag false true e = absurd (cc)
 
 pub stays_inside : (k : Kind) (d : ℕ) → stays_level k d ≡ true → is_outside k ≡ false
-stays_inside k d e = not_true (is_outside k) (left_true (not (is_outside k)) (nat_lt 0 d || not (is_start k)) e)
+stays_inside k d e = not-true (is_outside k) (and_parts (not (is_outside k)) (nat_lt 0 d || not (is_start k)) e).0
 
 pub stays_calm : (k : Kind) (d : ℕ) → stays_level k d ≡ true → (is_start k && not (nat_lt 0 d)) ≡ false
-stays_calm k d e = calm_flag (nat_lt 0 d) (is_start k) (right_true (not (is_outside k)) (nat_lt 0 d || not (is_start k)) e)
+stays_calm k d e = calm_flag (nat_lt 0 d) (is_start k) (and_parts (not (is_outside k)) (nat_lt 0 d || not (is_start k)) e).1
 
 placed_calm : (start deep a taken : Bool) → (start && not deep) ≡ false → (start ≡ false) ⊎ ((deep ≡ true) ⊎ ((a ≡ true) ⊎ (taken ≡ true)))
 placed_calm false deep a taken e = inl refl

@@ -1,6 +1,7 @@
 -- A text of four lines, lexeme by lexeme: a key of two words with a sequence at its column, in it one of its own, and a
 -- further key with brackets.
 use Rattle.std.proofs.Common.{◌≡◌, ℕ, suc, zero, ◌+◌, true, false, List, [], ◌∷◌, refl, ap, ◌∙◌, inl, inr, arith}
+use Rattle.std.proofs.lemmas.Bool.{false≢true}
 use Rattle.yaml_scan_history.specs.scan_model.Marks.{byte, line_at, column_at, break_of, ends_of}
 use Rattle.yaml_scan_history.specs.scan_model.Classes.{is_digit_byte, is_alpha_byte}
 use Rattle.yaml_scan_history.specs.scan_model.Breaks.{is_document_indicator, break_value}
@@ -96,9 +97,6 @@ cd = record { behind = record { has = one_has 22 10 refl; blank = refl; ends = r
 white_at : (p : ℕ) → byte row_of_blocks p ≡ 10 → begins_lexeme row_of_blocks (p + 1) ≡ true → IsGap row_of_blocks p (10 ∷ [])
 white_at p e f = record { has = one_has p 10 e; blank = refl; ends = f }
 
-never : false ≡ true → ⊥
-never e = cc
-
 pub blocks_are_read : BlocksAreRead
 unfolding kind_at word_at indicator_of break_of is_document_start is_document_end column_at line_at ends_of starts_plain words joined spot_at ends_at leads is_bracket is_indicator_byte is_document_indicator break_value is_alpha_byte is_digit_byte run_within belongs may_end_name indent Rises LeaveClear
 blocks_are_read x =
@@ -106,16 +104,16 @@ blocks_are_read x =
     let r1 = walk_key_starts x row_of_blocks _ [] [] [] _ kinds.Anchor [] _ 2 false true r0 tt c0 refl refl (inr (refl, omega arith, tt)) refl (words_leave.all row_of_blocks 0 false (short (tokens.anchor (120 ∷ [])) 2) refl) in
     let r2 = walk_key_goes x row_of_blocks _ 0 _ [] [] _ _ kinds.Plain (32 ∷ []) _ 4 false true r1 tt c1 refl (inr (omega arith)) (inl (refl, refl, refl)) refl refl (words_leave.all row_of_blocks 0 false (short (plain (107 ∷ [])) 4) refl) in
     let r3 = walk_key_stops x row_of_blocks _ _ [] [] (1 ∷ []) opening.Mapping _ _ [] _ 5 false true r2 tt c2 (inr (omega arith)) refl refl refl (words_leave.all row_of_blocks 0 false (short tokens.value 5) refl) in
-    let r4 = walk_mark x row_of_blocks _ (1 ∷ []) [] (1 ∷ []) opening.Nothing _ kinds.BlockEntry (10 ∷ []) _ 7 true true r3 refl c3 refl refl (inr (refl, omega arith, tt)) (λ v. absurd (never v)) refl refl (words_leave.all row_of_blocks 0 true (short tokens.block_entry 7) refl) in
-    let r5 = walk_word x row_of_blocks _ [] (1 ∷ []) _ kinds.Plain (32 ∷ []) _ 9 false true r4 tt c4 refl (inr (omega arith)) (λ v. absurd (never v)) (words_leave.none row_of_blocks 0 (long (97 ∷ []) 9 10) 9 (10 ∷ []) (white_at 9 refl refl) refl refl) in
-    let r6 = walk_mark x row_of_blocks _ (1 ∷ []) [] (1 ∷ []) opening.Nothing _ kinds.BlockEntry (10 ∷ []) _ 11 true true r5 refl c5 refl refl (inr (refl, omega arith, tt)) (λ v. absurd (never v)) refl refl (words_leave.all row_of_blocks 0 true (short tokens.block_entry 11) refl) in
-    let r7 = walk_mark x row_of_blocks _ (1 ∷ []) [] (1 ∷ 3 ∷ []) opening.Sequence _ kinds.BlockEntry (32 ∷ []) _ 13 true true r6 refl c6 refl refl (inr (refl, omega arith, tt)) (λ v. absurd (never v)) refl refl (words_leave.all row_of_blocks 0 true (short tokens.block_entry 13) refl) in
-    let r8 = walk_word x row_of_blocks _ [] (1 ∷ 3 ∷ []) _ kinds.Plain (32 ∷ []) _ 15 false true r7 tt c7 refl (inr (omega arith)) (λ v. absurd (never v)) (words_leave.none row_of_blocks 0 (long (98 ∷ []) 15 16) 15 (10 ∷ []) (white_at 15 refl refl) refl refl) in
+    let r4 = walk_mark x row_of_blocks _ (1 ∷ []) [] (1 ∷ []) opening.Nothing _ kinds.BlockEntry (10 ∷ []) _ 7 true true r3 refl c3 refl refl (inr (refl, omega arith, tt)) (λ v. absurd (false≢true v)) refl refl (words_leave.all row_of_blocks 0 true (short tokens.block_entry 7) refl) in
+    let r5 = walk_word x row_of_blocks _ [] (1 ∷ []) _ kinds.Plain (32 ∷ []) _ 9 false true r4 tt c4 refl (inr (omega arith)) (λ v. absurd (false≢true v)) (words_leave.none row_of_blocks 0 (long (97 ∷ []) 9 10) 9 (10 ∷ []) (white_at 9 refl refl) refl refl) in
+    let r6 = walk_mark x row_of_blocks _ (1 ∷ []) [] (1 ∷ []) opening.Nothing _ kinds.BlockEntry (10 ∷ []) _ 11 true true r5 refl c5 refl refl (inr (refl, omega arith, tt)) (λ v. absurd (false≢true v)) refl refl (words_leave.all row_of_blocks 0 true (short tokens.block_entry 11) refl) in
+    let r7 = walk_mark x row_of_blocks _ (1 ∷ []) [] (1 ∷ 3 ∷ []) opening.Sequence _ kinds.BlockEntry (32 ∷ []) _ 13 true true r6 refl c6 refl refl (inr (refl, omega arith, tt)) (λ v. absurd (false≢true v)) refl refl (words_leave.all row_of_blocks 0 true (short tokens.block_entry 13) refl) in
+    let r8 = walk_word x row_of_blocks _ [] (1 ∷ 3 ∷ []) _ kinds.Plain (32 ∷ []) _ 15 false true r7 tt c7 refl (inr (omega arith)) (λ v. absurd (false≢true v)) (words_leave.none row_of_blocks 0 (long (98 ∷ []) 15 16) 15 (10 ∷ []) (white_at 15 refl refl) refl refl) in
     let r9 = walk_ends x row_of_blocks _ 3 [] (1 ∷ []) [] _ r8 in
     let s0 = walk_key_starts x row_of_blocks _ [] (1 ∷ []) (3 ∷ []) _ kinds.Plain (10 ∷ []) _ 17 false true r9 tt c8 refl refl (inr (refl, omega arith, (omega arith, tt))) refl (words_leave.all row_of_blocks 0 false (short (plain (113 ∷ [])) 17) refl) in
     let s1 = walk_key_stops x row_of_blocks _ _ [] (1 ∷ []) (1 ∷ []) opening.Nothing _ _ [] _ 18 false true s0 tt c9 (inr (omega arith)) refl refl refl (words_leave.all row_of_blocks 0 false (short tokens.value 18) refl) in
-    let s2 = walk_word x row_of_blocks _ [] (1 ∷ []) _ kinds.FlowSequenceStart (32 ∷ []) _ 20 true false s1 tt ca refl (inr (omega arith)) (λ v. absurd (never v)) (words_leave.all row_of_blocks 1 true (short tokens.flow_sequence_start 20) refl) in
-    let s3 = walk_word x row_of_blocks _ [] (1 ∷ []) _ kinds.Plain [] _ 21 false false s2 tt cb refl (inl refl) (λ v. absurd (never v)) (words_leave.all row_of_blocks 1 false (short (plain (99 ∷ [])) 21) refl) in
-    let s4 = walk_word x row_of_blocks _ [] (1 ∷ []) _ kinds.FlowSequenceEnd [] _ 22 false true s3 tt cc2 refl (inl refl) (λ v. absurd (never v)) (words_leave.all row_of_blocks 0 false (short tokens.flow_sequence_end 22) refl) in
+    let s2 = walk_word x row_of_blocks _ [] (1 ∷ []) _ kinds.FlowSequenceStart (32 ∷ []) _ 20 true false s1 tt ca refl (inr (omega arith)) (λ v. absurd (false≢true v)) (words_leave.all row_of_blocks 1 true (short tokens.flow_sequence_start 20) refl) in
+    let s3 = walk_word x row_of_blocks _ [] (1 ∷ []) _ kinds.Plain [] _ 21 false false s2 tt cb refl (inl refl) (λ v. absurd (false≢true v)) (words_leave.all row_of_blocks 1 false (short (plain (99 ∷ [])) 21) refl) in
+    let s4 = walk_word x row_of_blocks _ [] (1 ∷ []) _ kinds.FlowSequenceEnd [] _ 22 false true s3 tt cc2 refl (inl refl) (λ v. absurd (false≢true v)) (words_leave.all row_of_blocks 0 false (short tokens.flow_sequence_end 22) refl) in
     let s5 = walk_ends x row_of_blocks _ 1 [] [] [] _ s4 in
     walk_stops x row_of_blocks _ (1 ∷ []) _ (10 ∷ []) _ 23 s5 refl cd

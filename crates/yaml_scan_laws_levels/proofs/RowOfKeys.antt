@@ -1,5 +1,6 @@
 -- A text of five lines, lexeme by lexeme: marks of a document, a `?` with a block scalar, and in brackets a key of either kind.
 use Rattle.std.proofs.Common.{◌≡◌, ℕ, suc, zero, ◌+◌, true, false, List, [], ◌∷◌, refl, ap, ◌∙◌, inl, inr, arith}
+use Rattle.std.proofs.lemmas.Bool.{false≢true}
 use Rattle.yaml_scan_history.specs.scan_model.declared.name.yaml_scalar_style_t.TheVariants as styles
 use Rattle.yaml_scan_history.specs.scan_model.Marks.{byte, line_at, column_at, break_of, ends_of}
 use Rattle.yaml_scan_history.specs.scan_model.Classes.{is_digit_byte, is_alpha_byte}
@@ -105,27 +106,24 @@ c15 : Comes row_of_keys 33 0 0 kinds.StreamEnd (10 ∷ []) (short tokens.stream_
 unfolding kind_at word_at indicator_of break_of is_document_start is_document_end column_at line_at ends_of starts_plain words joined spot_at ends_at leads is_bracket is_indicator_byte is_document_indicator break_value is_alpha_byte is_digit_byte run_within belongs may_end_name indent
 c15 = record { behind = record { has = one_has 33 10 refl; blank = refl; ends = refl }; kind = refl; word = refl; up = omega arith }
 
-never : false ≡ true → ⊥
-never e = cc
-
 pub keys_are_read : KeysAreRead
 unfolding kind_at word_at indicator_of break_of is_document_start is_document_end column_at line_at ends_of starts_plain words joined spot_at ends_at leads is_bracket is_indicator_byte is_document_indicator break_value is_alpha_byte is_digit_byte run_within belongs may_end_name indent Rises LeaveClear
 keys_are_read x =
     let r0 = walk_starts x row_of_keys in
     let r1 = walk_outer x row_of_keys _ [] _ kinds.DocumentStart [] _ 3 false true r0 refl c00 refl (words_leave.all row_of_keys 0 false (short tokens.document_start 3) refl) in
-    let r2 = walk_mark x row_of_keys _ [] [] (1 ∷ []) opening.Mapping _ kinds.KeyMark (10 ∷ []) _ 5 true true r1 refl c01 refl refl (inr (refl, omega arith, tt)) (λ v. absurd (never v)) refl refl (words_leave.all row_of_keys 0 true (short tokens.key 5) refl) in
-    let r3 = walk_word x row_of_keys _ [] (1 ∷ []) _ kinds.Literal (32 ∷ []) _ 12 true true r2 tt c02 refl (inr (omega arith)) (λ v. absurd (never v)) (words_leave.some row_of_keys 0 (short (tokens.scalar (97 ∷ 10 ∷ []) styles.YAML_LITERAL_SCALAR_STYLE) 12) 12 [] true (nothing_has 12) refl refl) in
+    let r2 = walk_mark x row_of_keys _ [] [] (1 ∷ []) opening.Mapping _ kinds.KeyMark (10 ∷ []) _ 5 true true r1 refl c01 refl refl (inr (refl, omega arith, tt)) (λ v. absurd (false≢true v)) refl refl (words_leave.all row_of_keys 0 true (short tokens.key 5) refl) in
+    let r3 = walk_word x row_of_keys _ [] (1 ∷ []) _ kinds.Literal (32 ∷ []) _ 12 true true r2 tt c02 refl (inr (omega arith)) (λ v. absurd (false≢true v)) (words_leave.some row_of_keys 0 (short (tokens.scalar (97 ∷ 10 ∷ []) styles.YAML_LITERAL_SCALAR_STYLE) 12) 12 [] true (nothing_has 12) refl refl) in
     let r4 = walk_mark x row_of_keys _ (1 ∷ []) [] (1 ∷ []) opening.Nothing _ kinds.ValueMark [] _ 13 true true r3 refl c03 refl refl (inr (refl, omega arith, tt)) (λ v. omega arith) refl refl (words_leave.all row_of_keys 0 true (short tokens.value 13) refl) in
-    let r5 = walk_word x row_of_keys _ [] (1 ∷ []) _ kinds.FlowMappingStart (32 ∷ []) _ 15 true false r4 tt c04 refl (inr (omega arith)) (λ v. absurd (never v)) (words_leave.all row_of_keys 1 true (short tokens.flow_mapping_start 15) refl) in
+    let r5 = walk_word x row_of_keys _ [] (1 ∷ []) _ kinds.FlowMappingStart (32 ∷ []) _ 15 true false r4 tt c04 refl (inr (omega arith)) (λ v. absurd (false≢true v)) (words_leave.all row_of_keys 1 true (short tokens.flow_mapping_start 15) refl) in
     let r6 = walk_key_starts x row_of_keys _ [] (1 ∷ []) [] _ kinds.Plain [] _ 16 false false r5 tt c05 refl refl (inl (refl, refl)) refl (words_leave.all row_of_keys 1 false (short (plain (98 ∷ [])) 16) refl) in
     let r7 = walk_key_stops x row_of_keys _ _ [] (1 ∷ []) (1 ∷ []) opening.Nothing _ _ [] _ 17 false false r6 tt c06 (inl refl) refl refl refl (words_leave.all row_of_keys 1 false (short tokens.value 17) refl) in
-    let r8 = walk_word x row_of_keys _ [] (1 ∷ []) _ kinds.Plain (32 ∷ []) _ 19 false false r7 tt c07 refl (inl refl) (λ v. absurd (never v)) (words_leave.all row_of_keys 1 false (short (plain (99 ∷ [])) 19) refl) in
-    let r9 = walk_word x row_of_keys _ [] (1 ∷ []) _ kinds.FlowEntry [] _ 20 true false r8 tt c08 refl (inl refl) (λ v. absurd (never v)) (words_leave.all row_of_keys 1 true (short tokens.flow_entry 20) refl) in
+    let r8 = walk_word x row_of_keys _ [] (1 ∷ []) _ kinds.Plain (32 ∷ []) _ 19 false false r7 tt c07 refl (inl refl) (λ v. absurd (false≢true v)) (words_leave.all row_of_keys 1 false (short (plain (99 ∷ [])) 19) refl) in
+    let r9 = walk_word x row_of_keys _ [] (1 ∷ []) _ kinds.FlowEntry [] _ 20 true false r8 tt c08 refl (inl refl) (λ v. absurd (false≢true v)) (words_leave.all row_of_keys 1 true (short tokens.flow_entry 20) refl) in
     let s0 = walk_asks x row_of_keys _ [] (1 ∷ []) _ (32 ∷ []) _ 22 false false r9 tt refl c09 (words_leave.all row_of_keys 1 false (short tokens.key 22) refl) in
-    let s1 = walk_word x row_of_keys _ (1 ∷ []) (1 ∷ []) _ kinds.Plain (32 ∷ []) _ 24 false true s0 (inl (refl, refl, refl), tt) c10 refl (inl refl) (λ v. absurd (never v)) (words_leave.none row_of_keys 1 (record { body = plain (100 ∷ []); end = 24; reached = 25; broke = false }) 24 (32 ∷ []) (record { has = one_has 24 32 refl; blank = refl; ends = refl }) refl refl) in
+    let s1 = walk_word x row_of_keys _ (1 ∷ []) (1 ∷ []) _ kinds.Plain (32 ∷ []) _ 24 false true s0 (inl (refl, refl, refl), tt) c10 refl (inl refl) (λ v. absurd (false≢true v)) (words_leave.none row_of_keys 1 (record { body = plain (100 ∷ []); end = 24; reached = 25; broke = false }) 24 (32 ∷ []) (record { has = one_has 24 32 refl; blank = refl; ends = refl }) refl refl) in
     let s2 = walk_answers x row_of_keys _ [] (1 ∷ []) _ (32 ∷ []) _ 26 false false s1 tt refl c11 (words_leave.all row_of_keys 1 false (short tokens.value 26) refl) in
-    let s3 = walk_word x row_of_keys _ [] (1 ∷ []) _ kinds.Plain (32 ∷ []) _ 28 false false s2 tt c12 refl (inl refl) (λ v. absurd (never v)) (words_leave.all row_of_keys 1 false (short (plain (101 ∷ [])) 28) refl) in
-    let s4 = walk_word x row_of_keys _ [] (1 ∷ []) _ kinds.FlowMappingEnd [] _ 29 false true s3 tt c13 refl (inl refl) (λ v. absurd (never v)) (words_leave.all row_of_keys 0 false (short tokens.flow_mapping_end 29) refl) in
+    let s3 = walk_word x row_of_keys _ [] (1 ∷ []) _ kinds.Plain (32 ∷ []) _ 28 false false s2 tt c12 refl (inl refl) (λ v. absurd (false≢true v)) (words_leave.all row_of_keys 1 false (short (plain (101 ∷ [])) 28) refl) in
+    let s4 = walk_word x row_of_keys _ [] (1 ∷ []) _ kinds.FlowMappingEnd [] _ 29 false true s3 tt c13 refl (inl refl) (λ v. absurd (false≢true v)) (words_leave.all row_of_keys 0 false (short tokens.flow_mapping_end 29) refl) in
     let s5 = walk_ends x row_of_keys _ 1 [] [] [] _ s4 in
     let s6 = walk_outer x row_of_keys _ (1 ∷ []) _ kinds.DocumentEnd (10 ∷ []) _ 33 false true s5 refl c14 refl (words_leave.all row_of_keys 0 false (short tokens.document_end 33) refl) in
     walk_stops x row_of_keys _ [] _ (10 ∷ []) _ 34 s6 refl c15

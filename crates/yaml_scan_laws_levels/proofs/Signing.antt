@@ -86,10 +86,6 @@ blank_apart : (b c d : ℕ) → (((b == 32 || b == 9) || b == 0) || nat_lt 0 (br
 unfolding break_of
 blank_apart b c d h = grind (arith, nat_tests)
 
-or_true : (a : Bool) → (a || true) ≡ true
-or_true true = refl
-or_true false = refl
-
 entry_alone : (flow alone : Bool) → alone ≡ true → indicator_of flow alone 45 ≡ Some kinds.BlockEntry
 unfolding indicator_of
 entry_alone flow true e = refl

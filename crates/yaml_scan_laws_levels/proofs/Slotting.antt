@@ -1,7 +1,7 @@
 -- Where candidates stand, levels that open, and columns behind white.
-use Rattle.std.proofs.Common.{◌≡◌, ◌⊎◌, ℕ, suc, ◌+◌, ◌-◌, ◌<◌, ◌≤◌, ◌==◌, ◌&&◌, ◌||◌, not, nat_lt, nat_le, cond, Bool, true, false, List, [], ◌∷◌, ◌++◌, length, Option, Some, None, refl, sym, ap, ◌∙◌, inl, inr, arith}
+use Rattle.std.proofs.Common.{◌≡◌, ◌⊎◌, ℕ, suc, ◌+◌, ◌-◌, ◌<◌, ◌≤◌, ◌==◌, ◌||◌, not, nat_lt, nat_le, cond, Bool, true, false, List, [], ◌∷◌, ◌++◌, length, Option, Some, None, refl, sym, ap, ◌∙◌, inl, inr, arith}
 use Rattle.std.specs.Prelude.{if◌then◌else◌}
-use Rattle.std.proofs.lemmas.Bool.{cases_Bool}
+use Rattle.std.proofs.lemmas.Bool.{cases_Bool, and_parts}
 use Rattle.std.proofs.lemmas.Bool.Decides.{nat_tests}
 use Rattle.yaml_scan_history.specs.scan_model.Marks.{byte, ends_of, ends_break, starts, line_at, column_at, mark_at}
 use Rattle.yaml_scan_history.specs.scan_words.Written.{are_gap, has_break, begins_lexeme}
@@ -16,7 +16,7 @@ use Rattle.yaml_scan_laws_levels.specs.Fronts.{read_at}
 use Rattle.yaml_scan_laws_levels.specs.White.{IsGap}
 use Rattle.yaml_scan_laws_levels.specs.Slots.{StartsBy, Started, StartedGoesOn, LaterIsLone, BreakEndsLine, NearBefore, SlotsGoOn, NoneIsLone, LevelOpens, column_behind, WhiteColumns, LetterColumns}
 use Rattle.yaml_scan_laws_levels.proofs.Keying.{kept_in, cancelled_slot}
-use Rattle.yaml_scan_laws_levels.proofs.Whites.{pair, has_first, has_rest, no_white}
+use Rattle.yaml_scan_laws_levels.proofs.Whites.{has_first, has_rest, no_white}
 
 -- ---- candidates on earlier lines
 
@@ -81,12 +81,12 @@ gap_cases b h = grind (arith, nat_tests)
 
 rest_gap : (text : List ℕ) (p b : ℕ) (bs : List ℕ) → IsGap text p (b ∷ bs) → IsGap text (p + 1) bs
 rest_gap text p b bs g =
-    let (here, rest) = pair (b == 32 || (b == 10 || b == 13)) (are_gap bs) g.blank in
+    let (here, rest) = and_parts (b == 32 || (b == 10 || b == 13)) (are_gap bs) g.blank in
     let z : p + 1 + length bs ≡ p + suc (length bs) = omega arith in
     record { has = has_rest text p b bs g.has; blank = rest; ends = ap (λ (n : ℕ). begins_lexeme text n) z ∙ g.ends }
 
 first_gap : (text : List ℕ) (p b : ℕ) (bs : List ℕ) → IsGap text p (b ∷ bs) → (byte text p ≡ b) × ((b == 32 || (b == 10 || b == 13)) ≡ true)
-first_gap text p b bs g = let (here, rest) = pair (b == 32 || (b == 10 || b == 13)) (are_gap bs) g.blank in (has_first text p b bs g.has, here)
+first_gap text p b bs g = let (here, rest) = and_parts (b == 32 || (b == 10 || b == 13)) (are_gap bs) g.blank in (has_first text p b bs g.has, here)
 
 -- a break ends there, unless LF follows CR
 pub feed_line : (text : List ℕ) (p : ℕ) → byte text p ≡ 10 → ends_break text p ≡ true
@@ -141,13 +141,9 @@ breaks_line text p (b ∷ bs) g e =
 pub break_ends_line : BreakEndsLine
 break_ends_line text p gap g e = breaks_line text p gap g e
 
-near_place : (a b : Bool) → (a && b) ≡ true → (a ≡ true) × (b ≡ true)
-near_place true b h = (refl, h)
-near_place false b h = absurd (cc)
-
 pub near_before : NearBefore
 near_before text start p q e f =
-    let (line, index) = near_place (nat_le (line_at text q) start.line) (nat_le q (start.index + 1024)) f in
+    let (line, index) = and_parts (nat_le (line_at text q) start.line) (nat_le q (start.index + 1024)) f in
     let low = line_at-grows text p q e in
     let first : nat_le (line_at text p) start.line ≡ true = grind (arith, nat_tests) in
     let second : nat_le p (start.index + 1024) ≡ true = grind (arith, nat_tests) in

@@ -1,5 +1,6 @@
 -- One lexeme more behind lexemes at a place.
 use Rattle.std.proofs.Common.{◌≡◌, ℕ, ◌+◌, ◌≤◌, ◌==◌, ◌&&◌, ◌||◌, not, nat_lt, Bool, true, false, List, [], ◌∷◌, length, Option, refl, sym, ap, subst, ◌∙◌, arith}
+use Rattle.std.proofs.Math.Bool.{or-false}
 use Rattle.yaml_scan_history.specs.scan_model.Marks.{line_at, mark_at}
 use Rattle.yaml_scan_history.specs.declared.kind.Kind.{Kind}
 use Rattle.yaml_scan_history.specs.declared.kind.Kind.TheVariants as kinds
@@ -21,18 +22,14 @@ use Rattle.yaml_scan_laws_levels.proofs.Whites.{white_begins, white_goes_on, whi
 use Rattle.yaml_scan_laws_levels.proofs.Slotting.{started_goes_on}
 use Rattle.yaml_scan_laws_levels.proofs.Ending.{start_stands}
 
-or_false : (a : Bool) → (a || false) ≡ a
-or_false true = refl
-or_false false = refl
-
 pub words_leave : WordsLeave
 words_leave = record {
   all = λ text d allows w plain h place key deep.
       let P : Bool → Type 0 = λ b. White text h w.reached allows b in
-      subst P (ap (λ (n : ℕ). not (nat_lt 0 n)) deep) (white_begins text h w.reached allows place (key ∙ ap (λ (b : Bool). allows || b) plain ∙ or_false allows));
+      subst P (ap (λ (n : ℕ). not (nat_lt 0 n)) deep) (white_begins text h w.reached allows place (key ∙ ap (λ (b : Bool). allows || b) plain ∙ or-false allows));
   none = λ text d w e white g end broke h place key deep. white_is_taken text h e white g (place ∙ end) (key ∙ broke);
   some = λ text d w e white broken at blank end h place key deep. white_is_passed text h e white broken at blank (place ∙ end) key;
-  over = λ text d allows w e white g end plain h place key deep. white_is_over text h e allows white g (place ∙ end) (key ∙ ap (λ (b : Bool). allows || b) plain ∙ or_false allows);
+  over = λ text d allows w e white g end plain h place key deep. white_is_over text h e allows white g (place ∙ end) (key ∙ ap (λ (b : Bool). allows || b) plain ∙ or-false allows);
 }
 
 meets_of : (text : List ℕ) (p : ℕ) (h : List Lexeme) (d level : ℕ) (now broken : Bool) (k : Kind) (gap : List ℕ) (w : WordText) (e : ℕ) → White text h p now broken → Comes text p d level k gap w e

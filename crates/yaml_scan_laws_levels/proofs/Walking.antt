@@ -2,6 +2,8 @@
 use Rattle.std.proofs.Common.{◌≡◌, ℕ, ◌+◌, ◌==◌, ◌&&◌, ◌||◌, not, nat_lt, Bool, true, false, List, [], ◌∷◌, ◌++◌, length, flat_map, None, refl, sym, ap, subst, ◌∙◌, inl, inr, arith, append_assoc}
 use Rattle.std.proofs.lemmas.Bool.Decides.{nat_tests}
 use Rattle.std.proofs.lemmas.List.{append-nil}
+use Rattle.std.proofs.lemmas.Bool.{and_parts}
+use Rattle.std.proofs.Math.Bool.{and-false}
 use Rattle.yaml_scan_history.specs.scan_model.declared.record.yaml_mark_t.{yaml_mark_t}
 use Rattle.yaml_scan_history.specs.scan_model.declared.name.yaml_encoding_t.{yaml_encoding_t}
 use Rattle.yaml_scan_history.specs.scan_model.Marks.{line_at, column_at, mark_at}
@@ -234,10 +236,6 @@ walk_key_starts x text o cs ls more T k gap w e then wide r leave c may allowed 
 fresh_from : (a b m : yaml_mark_t) → a ≡ b → is_fresh b m ≡ true → is_fresh a m ≡ true
 fresh_from a b m e f = ap (λ (y : yaml_mark_t). is_fresh y m) e ∙ f
 
-left_true : (a b : Bool) → (a && b) ≡ true → a ≡ true
-left_true true b e = refl
-left_true false b e = absurd (cc)
-
 not_value : (a v : Bool) → (a && not v) ≡ true → v ≡ true → ⊥
 not_value true true e v = cc
 not_value false v e f = cc
@@ -249,7 +247,7 @@ walk_key_goes x text o d start cs ls T K k gap w e then wide r leave c stays rig
     let l = read_at text r.lexemes k q (may_begin o.now o.broken gap) w in
     let held : Candidate = record { number = length r.done; lexeme = r.first } in
     let es = r.done ++ entry r.first r.closed opening.Nothing ∷ r.rest in
-    let (s, holds) = key_steps text o.at o.line r.lexemes d o.depth held ls es o.now o.broken k gap w e then wide r.stands r.holds c (left_true (stays_level k o.depth) (not (is_value k)) stays) right
+    let (s, holds) = key_steps text o.at o.line r.lexemes d o.depth held ls es o.now o.broken k gap w e then wide r.stands r.holds c (and_parts (stays_level k o.depth) (not (is_value k)) stays).0 right
     (λ v. absurd (not_value (stays_level k o.depth) (is_value k) stays v)) is_in (fresh_from r.first.start start (mark_at text q) r.starts near) (fresh_from r.first.start start (mark_at text w.reached) r.starts far) leaves in
     let same : es ++ entry l 0 opening.Nothing ∷ [] ≡ r.done ++ entry r.first r.closed opening.Nothing ∷ (r.rest ++ entry l 0 opening.Nothing ∷ []) = append_assoc r.done (entry r.first r.closed opening.Nothing ∷ r.rest) (entry l 0 opening.Nothing ∷ []) in
     let J : List TokenBody → List TokenBody = λ bs. told (text_in x text) r.done r.closed (K bs) in
@@ -299,10 +297,6 @@ deep_stays false start e = absurd (cc)
 deep_block : (d : ℕ) → nat_lt 0 d ≡ true → (d == 0) ≡ false
 deep_block d e = grind (arith, nat_tests)
 
-and_off : (a : Bool) → (a && false) ≡ false
-and_off true = refl
-and_off false = refl
-
 leaves_off : (text : List ℕ) (d : ℕ) (b : Bool) (w : WordText) (e : ℕ) (then wide : Bool) → b ≡ false → WordLeaves text d false w e then wide → WordLeaves text d b w e then wide
 leaves_off text d b w e then wide off leaves = let P : Bool → Type 0 = λ y. WordLeaves text d y w e then wide in subst P (sym off) leaves
 
@@ -317,7 +311,7 @@ walk_asks x text o cs ls T gap w e then wide r leave deep c leaves =
     let a = may_begin o.now o.broken gap in
     let off = deep_block o.depth deep in
     let l = read_at text r.lexemes k q a w in
-    let none = slots_go_on.goes text r.lexemes o.depth k q a w r.stands.front.depth (and_off a) refl in
+    let none = slots_go_on.goes text r.lexemes o.depth k q a w r.stands.front.depth (and-false a) refl in
     let clear = clear_more (l ∷ r.lexemes) o.depth cs none (still_clear text r.lexemes o.depth k q a w cs r.stands.front.depth r.clear leave) in
     word_on x text o cs (o.depth ∷ cs) ls T k gap w e then wide r clear c (deep_stays (nat_lt 0 o.depth) true deep) (inl deep) (λ v. absurd (cc)) (leaves_off text o.depth (o.depth == 0) w e then wide off leaves)
 
@@ -335,7 +329,7 @@ walk_answers x text o cs ls T gap w e then wide r leave deep c leaves =
 
 pub walk_goes : WalkGoes
 walk_goes Content x text o cs ls T K k gap w e then wide r leave c stays right may leaves =
-    walk_word x text o cs ls (λ bs. T (K bs)) k gap w e then wide r leave c (left_true (stays_level k o.depth) (not (is_value k)) stays) right
+    walk_word x text o cs ls (λ bs. T (K bs)) k gap w e then wide r leave c (and_parts (stays_level k o.depth) (not (is_value k)) stays).0 right
     (λ v. absurd (not_value (stays_level k o.depth) (is_value k) stays v)) leaves
 walk_goes (Key d start) x text o cs ls T K k gap w e then wide r leave c stays right (is_in, near, far) leaves =
     walk_key_goes x text o d start cs ls T K k gap w e then wide r leave c stays right is_in near far leaves

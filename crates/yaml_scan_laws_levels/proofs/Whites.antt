@@ -1,7 +1,8 @@
 -- The white behind lexemes.
 use Rattle.std.proofs.Common.{◌≡◌, ℕ, zero, suc, ◌+◌, ◌-◌, ◌<◌, ◌≤◌, ◌==◌, ◌&&◌, ◌||◌, not, nat_lt, Bool, true, false, List, [], ◌∷◌, ◌++◌, length, get_or, refl, sym, ap, subst, ◌∙◌, inl, inr, ◌⊎◌, arith}
-use Rattle.std.proofs.lemmas.Bool.{cases_Bool}
+use Rattle.std.proofs.lemmas.Bool.{cases_Bool, and_parts, not-true}
 use Rattle.std.proofs.lemmas.Bool.Decides.{nat_tests}
+use Rattle.std.proofs.lemmas.List.{append-nil}
 use Rattle.yaml_scan_history.specs.scan_model.Marks.{byte, break_of, break_width, mark_at}
 use Rattle.yaml_scan_history.specs.scan_model.Classes.{is_bom}
 use Rattle.yaml_scan_history.specs.scan_words.Between.{Gap, gap_at}
@@ -17,13 +18,9 @@ use Rattle.yaml_scan_laws_levels.specs.White.{IsGap, WhiteBegins, WhiteGoesOn, W
 
 -- ---- gaps of several parts
 
-pub pair : (a b : Bool) → (a && b) ≡ true → (a ≡ true) × (b ≡ true)
-pair true b h = (refl, h)
-pair false b h = absurd (cc)
-
 gap_more : (xs ys : List ℕ) → are_gap xs ≡ true → are_gap ys ≡ true → are_gap (xs ++ ys) ≡ true
 gap_more [] ys e f = f
-gap_more (x ∷ xs) ys e f = let (here, rest) = pair (x == 32 || (x == 10 || x == 13)) (are_gap xs) e in rw here (gap_more xs ys rest f)
+gap_more (x ∷ xs) ys e f = let (here, rest) = and_parts (x == 32 || (x == 10 || x == 13)) (are_gap xs) e in rw here (gap_more xs ys rest f)
 
 or_more : (a b c : Bool) → ((a || b) || c) ≡ (a || (b || c))
 or_more true b c = refl
@@ -96,10 +93,6 @@ white_goes_on text h p now broken white w f e = record {
 
 -- ---- white that was taken
 
-negated : (a : Bool) → not a ≡ true → a ≡ false
-negated false h = refl
-negated true h = absurd (cc)
-
 feeds : (b c d : ℕ) → (b == 32 || (b == 10 || b == 13)) ≡ true → ((b == 32) ≡ true) ⊎ (nat_lt 0 (break_of b c d) ≡ true)
 unfolding break_of
 feeds b c d h =
@@ -113,13 +106,13 @@ feeds b c d h =
 
 pub no_white : (text : List ℕ) (p b : ℕ) → byte text p ≡ b → (b == 32 || (b == 10 || b == 13)) ≡ true → begins_lexeme text p ≡ true → ⊥
 no_white text p b e f g =
-    let (space, more) = pair (not (byte text p == 32)) (not (byte text p == 9) && (not (byte text p == 35) && (not (nat_lt 0 (break_width text p)) && not (p == 0 && is_bom text p)))) g in
-    let (tab, rest) = pair (not (byte text p == 9)) (not (byte text p == 35) && (not (nat_lt 0 (break_width text p)) && not (p == 0 && is_bom text p))) more in
-    let (hash, last) = pair (not (byte text p == 35)) (not (nat_lt 0 (break_width text p)) && not (p == 0 && is_bom text p)) rest in
-    let (wide, bom) = pair (not (nat_lt 0 (break_width text p))) (not (p == 0 && is_bom text p)) last in
+    let (space, more) = and_parts (not (byte text p == 32)) (not (byte text p == 9) && (not (byte text p == 35) && (not (nat_lt 0 (break_width text p)) && not (p == 0 && is_bom text p)))) g in
+    let (tab, rest) = and_parts (not (byte text p == 9)) (not (byte text p == 35) && (not (nat_lt 0 (break_width text p)) && not (p == 0 && is_bom text p))) more in
+    let (hash, last) = and_parts (not (byte text p == 35)) (not (nat_lt 0 (break_width text p)) && not (p == 0 && is_bom text p)) rest in
+    let (wide, bom) = and_parts (not (nat_lt 0 (break_width text p))) (not (p == 0 && is_bom text p)) last in
     elim (feeds (byte text p) (byte text (p + 1)) (byte text (p + 2)) (ap (λ (x : ℕ). x == 32 || (x == 10 || x == 13)) e ∙ f)) [
-      | inl x ↦ let y = negated (byte text p == 32) space in cc
-      | inr x ↦ let y = negated (nat_lt 0 (break_width text p)) wide in cc
+      | inl x ↦ let y = not-true (byte text p == 32) space in cc
+      | inr x ↦ let y = not-true (nat_lt 0 (break_width text p)) wide in cc
     ]
 
 -- what is left of a gap behind its first part
@@ -140,12 +133,12 @@ parted text p [] gap f e g =
     let P : ℕ → Type 0 = λ n. IsGap text n gap in
     record { more = gap; same = refl; is = subst P (sym z) g }
 parted text p (x ∷ white) [] f e g =
-    let (here, rest) = pair (x == 32 || (x == 10 || x == 13)) (are_gap white) e in
+    let (here, rest) = and_parts (x == 32 || (x == 10 || x == 13)) (are_gap white) e in
     let z : p + 0 ≡ p = omega arith in
     absurd (no_white text p x (has_first text p x white f) here (sym (ap (λ (n : ℕ). begins_lexeme text n) z) ∙ g.ends))
 parted text p (x ∷ white) (y ∷ gap) f e g =
-    let (here, rest) = pair (x == 32 || (x == 10 || x == 13)) (are_gap white) e in
-    let (there, left) = pair (y == 32 || (y == 10 || y == 13)) (are_gap gap) g.blank in
+    let (here, rest) = and_parts (x == 32 || (x == 10 || x == 13)) (are_gap white) e in
+    let (there, left) = and_parts (y == 32 || (y == 10 || y == 13)) (are_gap gap) g.blank in
     let same : y ≡ x = sym (has_first text p y gap g.has) ∙ has_first text p x white f in
     let z : p + suc (length gap) ≡ p + 1 + length gap = omega arith in
     let far : p + 1 + length white ≡ p + suc (length white) = omega arith in
@@ -170,12 +163,8 @@ white_is_passed text h p white broken f e there key = record {
 nothing_more : (text : List ℕ) (p : ℕ) (more : List ℕ) → begins_lexeme text p ≡ true → IsGap text p more → more ≡ []
 nothing_more text p [] e g = refl
 nothing_more text p (x ∷ more) e g =
-    let (here, rest) = pair (x == 32 || (x == 10 || x == 13)) (are_gap more) g.blank in
+    let (here, rest) = and_parts (x == 32 || (x == 10 || x == 13)) (are_gap more) g.blank in
     absurd (no_white text p x (has_first text p x more g.has) here e)
-
-append_none : (xs : List ℕ) → xs ++ [] ≡ xs
-append_none [] = refl
-append_none (x ∷ xs) = ap (λ (ys : List ℕ). x ∷ ys) (append_none xs)
 
 or_none : (a b : Bool) → (a || (false && b)) ≡ a
 or_none true b = refl
@@ -189,7 +178,7 @@ taken_allowed : (text : List ℕ) (h : List Lexeme) (p : ℕ) (white gap : List 
     → allowed_behind h (gap_behind text h) ≡ (false || (has_break gap && true))
 taken_allowed text h p white gap ends there key parts =
     let none = nothing_more text (p + length white) parts.more ends parts.is in
-    let whole : gap ≡ white = parts.same ∙ ap (λ (bs : List ℕ). white ++ bs) none ∙ append_none white in
+    let whole : gap ≡ white = parts.same ∙ ap (λ (bs : List ℕ). white ++ bs) none ∙ append-nil white in
     ap (λ (x : Gap). key_allowed h || (x.broke && not (in_flow h))) (gap_there text h (p + length white) parts.more there parts.is)
     ∙ ap (λ (bs : List ℕ). key_allowed h || (has_break bs && not (in_flow h))) none
     ∙ or_none (key_allowed h) (not (in_flow h)) ∙ key ∙ sym (ap (λ (bs : List ℕ). has_break bs) whole) ∙ and_true (has_break gap)

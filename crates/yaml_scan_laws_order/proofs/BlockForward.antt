@@ -1,6 +1,6 @@
 -- Block scalars end behind their start, inside the text.
 use Rattle.std.proofs.Common.{◌≡◌, ℕ, zero, suc, ◌+◌, ◌-◌, ◌<◌, ◌≤◌, ◌==◌, ◌&&◌, ◌||◌, not, nat_lt, Bool, true, List, length, Result, Ok, Err, inl, inr, ◌⊎◌, arith}
-use Rattle.std.proofs.lemmas.Bool.{cases_Bool, cases_lt}
+use Rattle.std.proofs.lemmas.Bool.{cases_Bool, cases_lt, eqb-true}
 use Rattle.std.proofs.lemmas.Bool.Decides.{nat_tests}
 use Rattle.yaml_scan_history.specs.scan_model.Marks.{byte, break_width, column_at, is_blank}
 use Rattle.yaml_scan_history.specs.scan_model.Classes.{is_digit_byte}
@@ -13,12 +13,6 @@ use Rattle.yaml_scan_history.specs.scan_block.Value.{BlockLine, block_value}
 use Rattle.yaml_scan_history.specs.scan_block.Lines.{spaces, LineSpot, Stops, Line, Tab, spot_behind, line_spot, Lines, with_line, line_then, lines_from}
 use Rattle.yaml_scan_history.specs.scan_block.Header.{HeaderText, is_chomping, indicators, digit_place, past_comment, header_end, header_at}
 use Rattle.yaml_scan_history.specs.scan_block.Block.{BlockText, column_of, block_with, block_lines, block_behind, block_at}
-
-less_of : (a b : ℕ) → nat_lt a b ≡ true → a < b
-less_of a b h = grind (arith, nat_tests)
-
-equal_of : (a b : ℕ) → (a == b) ≡ true → a ≡ b
-equal_of a b h = grind (arith, nat_tests)
 
 past-inside : (kind : List ℕ → ℕ → Bool) (n : ℕ) (text : List ℕ) (p : ℕ) → ((q : ℕ) → kind text q ≡ true → 0 < byte text q) → p ≤ length text → past kind n text p ≤ length text
 unfolding past
@@ -104,7 +98,7 @@ spaces-inside zero text p l = omega (arith, l)
 spaces-inside (suc n) text p l =
     elim (cases_Bool (byte text p == 32)) [
       | inl h ↦
-          let b : byte text p ≡ 32 = equal_of _ _ h in
+          let b : byte text p ≡ 32 = eqb-true _ _ h in
           let here = within text p (omega (arith, b)) in
           let more = spaces-inside n text (p + 1) (omega (arith, here)) in
           rw h (omega (arith, more))

@@ -1,6 +1,6 @@
 -- What is held back is short.
 use Rattle.std.proofs.Common.{◌≡◌, ℕ, zero, suc, ◌+◌, ◌<◌, ◌≤◌, ◌==◌, nat_lt, Bool, true, false, if◌then◌else◌, List, [], ◌∷◌, ◌++◌, length, Option, Some, None, refl, sym, ap, subst, ◌∙◌, inl, inr, arith, length-append}
-use Rattle.std.proofs.lemmas.Bool.{cases_Bool, cases_lt, true≢false}
+use Rattle.std.proofs.lemmas.Bool.{cases_Bool, cases_lt, true≢false, eqb-true}
 use Rattle.std.proofs.lemmas.Bool.Decides.{nat_tests}
 use Rattle.yaml_scan_history.specs.scan_model.declared.record.yaml_mark_t.{yaml_mark_t}
 use Rattle.yaml_scan_history.specs.declared.lexeme.Lexeme.{Lexeme}
@@ -111,14 +111,11 @@ found_by_tests d l h c rest true false false below y s more e = found_further d 
 found_by_tests d l h c rest false saved stops true y s more e = found_nowhere d (l ∷ h) c e
 found_by_tests d l h c rest false saved stops false y s more e = found_further d l h c (more e)
 
-equal_of : (a b : ℕ) → (a == b) ≡ true → a ≡ b
-equal_of a b h = grind (arith, nat_tests)
-
 candidate_found : (d : ℕ) (h : List Lexeme) (c : Candidate) → candidate d h ≡ Some c → IsFound d h c
 unfolding candidate
 candidate_found d [] c e = found_nowhere d [] c e
 candidate_found d (l ∷ h) c e =
-    found_by_tests d l h c (candidate d h) (l.depth == d) l.saved (cancels l.kind) (nat_lt l.depth d) (equal_of l.depth d) (λ s. s) (candidate_found d h c) e
+    found_by_tests d l h c (candidate d h) (l.depth == d) l.saved (cancels l.kind) (nat_lt l.depth d) (eqb-true l.depth d) (λ s. s) (candidate_found d h c) e
 
 fresh_near : (o : Option Candidate) (m : yaml_mark_t) (c : Candidate) → fresh o m ≡ Some c → is_fresh c.lexeme.start m ≡ true
 fresh_near None m c e = let bad : None ≡ Some c = e in absurd cc

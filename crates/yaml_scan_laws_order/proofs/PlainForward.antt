@@ -1,16 +1,12 @@
 -- Plain scalars, and the white behind them, end behind their start, inside the text.
-use Rattle.std.proofs.Common.{◌≡◌, ℕ, zero, suc, ◌+◌, ◌<◌, ◌≤◌, ◌==◌, ◌&&◌, ◌||◌, nat_lt, Bool, true, List, [], ◌∷◌, length, Result, Ok, Err, inl, inr, arith}
-use Rattle.std.proofs.lemmas.Bool.{cases_Bool}
-use Rattle.std.proofs.lemmas.Bool.Decides.{nat_tests}
+use Rattle.std.proofs.Common.{ℕ, zero, suc, ◌+◌, ◌<◌, ◌≤◌, ◌==◌, ◌&&◌, ◌||◌, nat_lt, Bool, List, [], ◌∷◌, length, Result, Ok, Err, inl, inr, arith}
+use Rattle.std.proofs.lemmas.Bool.{cases_Bool, ltb-true}
 use Rattle.yaml_scan_history.specs.scan_model.Marks.{byte, break_width, column_at, is_blank}
 use Rattle.yaml_scan_history.specs.scan_model.Wrong.{Wrong}
 use Rattle.yaml_scan_history.proofs.MarksLemmas.{within, past_break}
 use Rattle.yaml_scan_history.specs.scan_scalars.Pieces.{Piece, Kept, Blank, Break}
 use Rattle.yaml_scan_history.specs.scan_scalars.Plain.{is_bracket, leads, PlainSpot, Ends, Takes, Faulty, ends_at, spot_at, Words, is_nothing, with_piece, words_from, follows, words, PlainText, plain_with, plain_text, plain_at}
 use Rattle.yaml_scan_history.proofs.PlainLemmas.{not_ended, blank_inside}
-
-less_of : (a b : ℕ) → nat_lt a b ≡ true → a < b
-less_of a b h = grind (arith, nat_tests)
 
 abbrev Fits : List ℕ → ℕ → PlainSpot → Type 0
 Fits text p Ends = Unit {0}
@@ -22,7 +18,7 @@ unfolding spot_at
 spot_fits flow level text p =
     elim (cases_Bool (nat_lt 0 (break_width text p))) [
       | inl h ↦
-          let some = less_of _ _ h in
+          let some = ltb-true _ _ h in
           let past = past_break text p some in
           rw h (omega (arith, some), past.inside)
       | inr h ↦ elim (cases_Bool (is_blank (byte text p))) [

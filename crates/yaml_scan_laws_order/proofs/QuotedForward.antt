@@ -1,6 +1,6 @@
 -- Quoted scalars end behind their start, inside the text.
-use Rattle.std.proofs.Common.{◌≡◌, ℕ, zero, suc, ◌+◌, ◌*◌, ◌<◌, ◌≤◌, ◌==◌, ◌&&◌, nat_lt, Bool, true, false, List, length, Option, Some, None, option_and_then, option_map, Result, Ok, Err, refl, inl, inr, arith}
-use Rattle.std.proofs.lemmas.Bool.{cases_Bool}
+use Rattle.std.proofs.Common.{◌≡◌, ℕ, zero, suc, ◌+◌, ◌*◌, ◌<◌, ◌≤◌, ◌==◌, ◌&&◌, nat_lt, false, List, length, Option, Some, None, option_and_then, option_map, Result, Ok, Err, inl, inr, arith}
+use Rattle.std.proofs.lemmas.Bool.{cases_Bool, ltb-true, eqb-true, and_parts}
 use Rattle.std.proofs.lemmas.Bool.Decides.{nat_tests}
 use Rattle.yaml_scan_history.specs.scan_model.Marks.{byte, break_width, is_blank}
 use Rattle.yaml_scan_history.specs.scan_model.Breaks.{is_document_indicator}
@@ -11,19 +11,8 @@ use Rattle.yaml_scan_history.proofs.PlacesLemmas.{Lands}
 use Rattle.yaml_scan_history.specs.scan_scalars.Pieces.{Piece, value}
 use Rattle.yaml_scan_history.specs.scan_scalars.Quoted.{Standing, Closing, Pieces, Bad, hex_digit, hex_value, is_scalar, coded, hex_len, simple_escape, escaped, escape_at, quote_at, standing_at, with_front, followed, pieces, valued, quoted_at}
 
-less_of : (a b : ℕ) → nat_lt a b ≡ true → a < b
-less_of a b h = grind (arith, nat_tests)
-
-equal_of : (a b : ℕ) → (a == b) ≡ true → a ≡ b
-equal_of a b h = grind (arith, nat_tests)
-
 some_of : (b : ℕ) → (b == 0) ≡ false → 0 < b
 some_of b h = grind (arith, nat_tests)
-
-second_of : (a b : Bool) → (a && b) ≡ true → b ≡ true
-second_of true b h = h
-second_of false true h = refl
-second_of false false h = h
 
 -- there is a value
 abbrev IsThere : {A : Type 0} → Option A → Type 0
@@ -78,11 +67,11 @@ escape_fits : (text : List ℕ) (p : ℕ) → Fits text p (escape_at text p)
 unfolding escape_at
 escape_fits text p =
     elim (cases_Bool (nat_lt 0 (break_width text (p + 1)))) [
-      | inl h ↦ let past = past_break text (p + 1) (less_of _ _ h) in rw h (omega arith, past.inside)
+      | inl h ↦ let past = past_break text (p + 1) (ltb-true _ _ h) in rw h (omega arith, past.inside)
       | inr h ↦ elim (cases_Bool (nat_lt 0 (hex_len (byte text (p + 1))))) [
         | inl i ↦
             let n = hex_len (byte text (p + 1)) in
-            rw (h, i) (coded_fits text p (p + 2) (p + 2 + n) (hex_value text (p + 2) n) (λ s. (omega arith, hex_inside n text (p + 2) (less_of _ _ i) s)))
+            rw (h, i) (coded_fits text p (p + 2) (p + 2 + n) (hex_value text (p + 2) n) (λ s. (omega arith, hex_inside n text (p + 2) (ltb-true _ _ i) s)))
         | inr i ↦ rw (h, i) (escaped_fits text p (simple_escape (byte text (p + 1))) (simple_inside text p))
       ]
     ]
@@ -92,7 +81,7 @@ unfolding quote_at
 quote_fits quote text p l =
     elim (cases_Bool (quote == 39 && byte text (p + 1) == 39)) [
       | inl h ↦
-          let b : byte text (p + 1) ≡ 39 = equal_of _ _ (second_of (quote == 39) (byte text (p + 1) == 39) h) in
+          let b : byte text (p + 1) ≡ 39 = eqb-true _ _ (and_parts (quote == 39) (byte text (p + 1) == 39) h).1 in
           let here = within text (p + 1) (omega (arith, b)) in
           rw h (omega arith, omega (arith, here))
       | inr h ↦ rw h l
@@ -111,7 +100,7 @@ standing_fits quote text p =
               | inl j ↦ rw (h, i, j) (quote_fits quote text p here)
               | inr j ↦ elim (cases_Bool (nat_lt 0 (break_width text p))) [
                 | inl k ↦
-                    let some = less_of _ _ k in
+                    let some = ltb-true _ _ k in
                     let past = past_break text p some in
                     rw (h, i, j, k) (omega (arith, some), past.inside)
                 | inr k ↦ elim (cases_Bool (is_blank (byte text p))) [

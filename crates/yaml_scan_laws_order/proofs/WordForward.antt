@@ -1,6 +1,6 @@
 -- Lexemes of every kind end behind their start, inside the text.
 use Rattle.std.proofs.Common.{◌≡◌, ℕ, ◌+◌, ◌<◌, ◌≤◌, ◌==◌, ◌&&◌, ◌||◌, not, nat_lt, Bool, true, false, if◌then◌else◌, List, length, Option, Some, None, Result, Ok, Err, inl, inr, arith}
-use Rattle.std.proofs.lemmas.Bool.{cases_Bool, true≢false}
+use Rattle.std.proofs.lemmas.Bool.{cases_Bool, true≢false, ltb-true}
 use Rattle.std.proofs.lemmas.Bool.Decides.{nat_tests}
 use Rattle.yaml_scan_history.specs.scan_model.declared.name.yaml_scalar_style_t.{yaml_scalar_style_t}
 use Rattle.yaml_scan_history.specs.scan_model.declared.name.yaml_scalar_style_t.TheVariants as styles
@@ -26,9 +26,6 @@ use Rattle.yaml_scan_history.specs.Words.{indicator_of, or_plain, kind_at, WordT
 use Rattle.yaml_scan_laws_order.proofs.QuotedForward.{quoted_place}
 use Rattle.yaml_scan_laws_order.proofs.PlainForward.{LandsPlain, plain_place}
 use Rattle.yaml_scan_laws_order.proofs.BlockForward.{LandsBlock, block_place}
-
-less_of : (a b : ℕ) → nat_lt a b ≡ true → a < b
-less_of a b h = grind (arith, nat_tests)
 
 some_of : (b : ℕ) → (b == 0) ≡ false → 0 < b
 some_of b h = grind (arith, nat_tests)
@@ -149,7 +146,7 @@ break_place : (text : List ℕ) (o p : ℕ) → o ≤ p → p ≤ length text �
 break_place text o p f l =
     elim (cases_Bool (nat_lt 0 (break_width text p))) [
       | inl h ↦
-          let past = past_break text p (less_of _ _ h) in
+          let past = past_break text p (ltb-true _ _ h) in
           rw h record { forward = omega (arith, f); inside = past.inside }
       | inr h ↦ elim (cases_Bool (byte text p == 0)) [
         | inl i ↦ rw (h, i) record { forward = f; inside = l }

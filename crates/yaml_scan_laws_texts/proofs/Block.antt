@@ -1,7 +1,6 @@
 -- The value of a block scalar is UTF-8, and the text may be cut behind it.
-use Rattle.std.proofs.Common.{◌≡◌, ℕ, zero, suc, ◌+◌, ◌-◌, ◌<◌, ◌≤◌, ◌==◌, ◌&&◌, ◌||◌, not, nat_lt, Bool, true, false, List, [], ◌∷◌, length, Result, Ok, Err, refl, true≢false, inl, inr, arith, IsUtf8}
-use Rattle.std.proofs.lemmas.Bool.{cases_Bool, cases_lt}
-use Rattle.std.proofs.lemmas.Bool.Decides.{nat_tests}
+use Rattle.std.proofs.Common.{◌≡◌, ℕ, zero, suc, ◌+◌, ◌-◌, ◌≤◌, ◌==◌, ◌&&◌, ◌||◌, not, nat_lt, Bool, true, false, List, [], ◌∷◌, length, Result, Ok, Err, refl, true≢false, inl, inr, arith, IsUtf8}
+use Rattle.std.proofs.lemmas.Bool.{cases_Bool, cases_lt, ltb-true, eqb-true}
 use Rattle.std.proofs.lemmas.Str.{IsUtf8-nil, IsUtf8-append}
 use Rattle.yaml_scan_history.specs.scan_model.Marks.{byte, break_width, column_at}
 use Rattle.yaml_scan_history.specs.scan_model.Breaks.{feed_at, is_feed}
@@ -12,12 +11,6 @@ use Rattle.yaml_scan_history.specs.scan_block.Lines.{spaces, LineSpot, Stops, Li
 use Rattle.yaml_scan_history.specs.scan_block.Header.{HeaderText, chomp_of, digit_place, chomping_place, header_end, header_at}
 use Rattle.yaml_scan_history.specs.scan_block.Block.{BlockText, column_of, block_with, block_lines, block_behind, block_at}
 use Rattle.yaml_scan_laws_texts.proofs.Whole.{IsWhole, whole_past, whole_ascii, whole_after, whole_before, whole_behind, ascii_utf8, break_utf8, slice_utf8}
-
-less_of : (a b : ℕ) → nat_lt a b ≡ true → a < b
-less_of a b h = grind (arith, nat_tests)
-
-equal_of : (a b : ℕ) → (a == b) ≡ true → a ≡ b
-equal_of a b h = grind (arith, nat_tests)
 
 -- Values.
 
@@ -90,9 +83,9 @@ block_value_utf8 folded b ls h = let s = texts_sound ls h in with_utf8 folded b 
 stop_whole : (text : List ℕ) (p : ℕ) → IsUtf8 text → is_text text p ≡ false → IsWhole text p
 stop_whole text p t h =
     elim (cases_Bool (byte text p == 0)) [
-      | inl z ↦ let same = equal_of _ _ z in whole_ascii text p t (omega (arith, same))
+      | inl z ↦ let same = eqb-true _ _ z in whole_ascii text p t (omega (arith, same))
       | inr z ↦ elim (cases_Bool (nat_lt 0 (break_width text p))) [
-        | inl b ↦ whole_before text p t (less_of _ _ b)
+        | inl b ↦ whole_before text p t (ltb-true _ _ b)
         | inr b ↦ let bad : true ≡ false = rw (z, b) at h in absurd (true≢false bad)
       ]
     ]
@@ -138,7 +131,7 @@ spaces_whole zero text p t w = let e : p + 0 ≡ p = omega arith in rw e w
 spaces_whole (suc n) text p t w =
     elim (cases_Bool (byte text p == 32)) [
       | inl h ↦
-          let b : byte text p ≡ 32 = equal_of _ _ h in
+          let b : byte text p ≡ 32 = eqb-true _ _ h in
           let more = spaces_whole n text (p + 1) t (whole_after text p t (omega (arith, b))) in
           let e : p + 1 + spaces n text (p + 1) ≡ p + suc (spaces n text (p + 1)) = omega arith in
           rw h (rw e at more)
@@ -163,7 +156,7 @@ spot_fits c text q t w =
     elim (cases_Bool (byte text q == 9 && nat_lt (column_at text q) c)) [
       | inl h ↦ rw h tt
       | inr h ↦ elim (cases_Bool (nat_lt 0 (break_width text q))) [
-        | inl i ↦ rw (h, i) (break_utf8 text q t, whole_behind text q t (less_of _ _ i))
+        | inl i ↦ rw (h, i) (break_utf8 text q t, whole_behind text q t (ltb-true _ _ i))
         | inr i ↦ elim (cases_Bool (byte text q == 0 || not (column_at text q == c))) [
           | inl j ↦ rw (h, i, j) w
           | inr j ↦

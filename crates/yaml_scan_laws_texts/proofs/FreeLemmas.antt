@@ -1,6 +1,6 @@
 -- Key-free lexemes.
 use Rattle.std.proofs.Common.{◌≡◌, ℕ, suc, ◌+◌, ◌-◌, ◌<◌, ◌==◌, ◌&&◌, not, nat_lt, cond, Bool, true, false, List, [], ◌∷◌, ◌++◌, length, map, reverse, flat_map, Option, None, refl, sym, ap, ◌∙◌, inl, inr, arith}
-use Rattle.std.proofs.lemmas.Bool.{cases_Bool}
+use Rattle.std.proofs.lemmas.Bool.{cases_Bool, and_parts}
 use Rattle.std.proofs.lemmas.Bool.Decides.{nat_tests}
 use Rattle.std.proofs.lemmas.List.{reverse-append}
 use Rattle.yaml_scan_laws_order.specs.scan_model.Tokens.{Token}
@@ -16,25 +16,17 @@ use Rattle.yaml_scan_laws_order.specs.scan_history.Remaining.{SpelledText, token
 use Rattle.yaml_scan_laws_texts.specs.KeyFree.{innermost, around, marked_so, is_inside, asked_after, asked, fits, is_key_free, keeps_level, is_level_free, kinds_of}
 use Rattle.yaml_scan_laws_texts.proofs.MadeLemmas.{is_plain, MadeBehind, AllMade}
 
-pub and_left : (a b : Bool) → (a && b) ≡ true → a ≡ true
-and_left true b e = refl
-and_left false b e = absurd (cc)
-
-pub and_right : (a b : Bool) → (a && b) ≡ true → b ≡ true
-and_right true b e = e
-and_right false b e = absurd (cc)
-
 unsaved : (s : Bool) → (s ≡ true → ⊥) → s ≡ false
 unsaved false n = refl
 unsaved true n = absurd (n refl)
 
 pub free_head : (l : Lexeme) (h : List Lexeme) → is_key_free (kinds_of (l ∷ h)) ≡ true → fits l.kind (asked (kinds_of h)) ≡ true
 unfolding is_key_free
-free_head l h e = and_left (fits l.kind (asked (kinds_of h))) (is_key_free (kinds_of h)) e
+free_head l h e = (and_parts (fits l.kind (asked (kinds_of h))) (is_key_free (kinds_of h)) e).0
 
 pub free_rest : (l : Lexeme) (h : List Lexeme) → is_key_free (kinds_of (l ∷ h)) ≡ true → is_key_free (kinds_of h) ≡ true
 unfolding is_key_free
-free_rest l h e = and_right (fits l.kind (asked (kinds_of h))) (is_key_free (kinds_of h)) e
+free_rest l h e = (and_parts (fits l.kind (asked (kinds_of h))) (is_key_free (kinds_of h)) e).1
 
 -- Depths.
 
@@ -219,16 +211,16 @@ pub level_free : (ks : List Kind) → is_key_free ks ≡ true → is_level_free 
 unfolding is_key_free is_level_free
 level_free [] free = refl
 level_free (k ∷ ks) free =
-    let here = fits_keeps k (asked ks) (and_left (fits k (asked ks)) (is_key_free ks) free) in
-    rw here (level_free ks (and_right (fits k (asked ks)) (is_key_free ks) free))
+    let here = fits_keeps k (asked ks) (and_parts (fits k (asked ks)) (is_key_free ks) free).0 in
+    rw here (level_free ks (and_parts (fits k (asked ks)) (is_key_free ks) free).1)
 
 pub level_head : (k : Kind) (ks : List Kind) → is_level_free (k ∷ ks) ≡ true → keeps_level k (asked ks) ≡ true
 unfolding is_level_free
-level_head k ks e = and_left (keeps_level k (asked ks)) (is_level_free ks) e
+level_head k ks e = (and_parts (keeps_level k (asked ks)) (is_level_free ks) e).0
 
 pub level_rest : (k : Kind) (ks : List Kind) → is_level_free (k ∷ ks) ≡ true → is_level_free ks ≡ true
 unfolding is_level_free
-level_rest k ks e = and_right (keeps_level k (asked ks)) (is_level_free ks) e
+level_rest k ks e = (and_parts (keeps_level k (asked ks)) (is_level_free ks) e).1
 
 pub starts_none : (k : Kind) (qs : List Bool) (n : ℕ) → keeps_level k qs ≡ true → n ≡ length qs → (is_start k && not (nat_lt 0 n)) ≡ false
 starts_none kinds.BlockEntry qs n f e = deep_inside qs n f e

@@ -1,6 +1,6 @@
 -- The text may be cut where a gap ends.
-use Rattle.std.proofs.Common.{◌≡◌, ℕ, zero, suc, ◌+◌, ◌<◌, ◌≤◌, ◌==◌, ◌&&◌, ◌||◌, not, nat_lt, Bool, true, false, List, length, refl, true≢false, inl, inr, arith, IsUtf8}
-use Rattle.std.proofs.lemmas.Bool.{cases_Bool}
+use Rattle.std.proofs.Common.{◌≡◌, ℕ, zero, suc, ◌+◌, ◌<◌, ◌≤◌, ◌==◌, ◌&&◌, ◌||◌, not, nat_lt, Bool, true, List, length, refl, inl, inr, arith, IsUtf8}
+use Rattle.std.proofs.lemmas.Bool.{cases_Bool, ltb-true, eqb-true, and_parts, not-false}
 use Rattle.std.proofs.lemmas.Bool.Decides.{nat_tests}
 use Rattle.yaml_scan_history.specs.scan_model.Marks.{byte, break_width}
 use Rattle.yaml_scan_history.specs.scan_model.Classes.{is_bom, is_breakz}
@@ -10,28 +10,13 @@ use Rattle.yaml_scan_history.specs.scan_words.Directives.{comment_end}
 use Rattle.yaml_scan_history.proofs.BetweenLemmas.{bom_bytes}
 use Rattle.yaml_scan_laws_texts.proofs.Whole.{IsWhole, whole_past, whole_ascii, whole_after, whole_before, whole_behind, whole_bom}
 
-less_of : (a b : ℕ) → nat_lt a b ≡ true → a < b
-less_of a b h = grind (arith, nat_tests)
-
-equal_of : (a b : ℕ) → (a == b) ≡ true → a ≡ b
-equal_of a b h = grind (arith, nat_tests)
-
-second_of : (a b : Bool) → (a && b) ≡ true → b ≡ true
-second_of true b h = h
-second_of false true h = refl
-second_of false false h = h
-
 -- at the end or before a break
 stop_whole : (text : List ℕ) (p : ℕ) → IsUtf8 text → is_breakz text p ≡ true → IsWhole text p
 stop_whole text p t h =
     elim (cases_Bool (nat_lt 0 (break_width text p))) [
-      | inl b ↦ whole_before text p t (less_of _ _ b)
-      | inr b ↦ let z : (byte text p == 0) ≡ true = rw b at h in let same = equal_of _ _ z in whole_ascii text p t (omega (arith, same))
+      | inl b ↦ whole_before text p t (ltb-true _ _ b)
+      | inr b ↦ let z : (byte text p == 0) ≡ true = rw b at h in let same = eqb-true _ _ z in whole_ascii text p t (omega (arith, same))
     ]
-
-not_false : (a : Bool) → not a ≡ false → a ≡ true
-not_false true h = refl
-not_false false h = absurd (true≢false h)
 
 -- the end of a run that holds all but breaks
 run_whole : (run : _) (text : List ℕ) → IsUtf8 text → ((p : ℕ) → belongs run text p ≡ not (is_breakz text p)) → (n p : ℕ) → length text ≤ p + n → IsWhole text (run_within n run text p)
@@ -40,7 +25,7 @@ run_whole run text t is zero p l = whole_past text p (omega (arith, l))
 run_whole run text t is (suc n) p l =
     elim (cases_Bool (belongs run text p)) [
       | inl e ↦ rw e (run_whole run text t is n (p + 1) (omega (arith, l)))
-      | inr e ↦ rw e (stop_whole text p t (not_false (is_breakz text p) (rw (is p) at e)))
+      | inr e ↦ rw e (stop_whole text p t (not-false (is_breakz text p) (rw (is p) at e)))
     ]
 
 -- the end of the comment there
@@ -57,14 +42,14 @@ gap_whole zero flow allowed text p t w = w
 gap_whole (suc n) flow allowed text p t w =
     elim (cases_Bool (p == 0 && is_bom text p)) [
       | inl h ↦
-          let (a, b, c) = bom_bytes text p (second_of (p == 0) (is_bom text p) h) in
+          let (a, b, c) = bom_bytes text p (and_parts (p == 0) (is_bom text p) h).1 in
           rw h (gap_whole n flow allowed text (p + 3) t (whole_bom text p t a b c))
       | inr h ↦ elim (cases_Bool (is_skipped (flow || not allowed) text p)) [
         | inl i ↦ rw (h, i) (gap_whole n flow allowed text (p + 1) t (whole_after text p t (skipped_small (byte text p) (flow || not allowed) i)))
         | inr i ↦ elim (cases_Bool (byte text p == 35)) [
           | inl j ↦ rw (h, i, j) (gap_whole n flow allowed text _ t (rw j at (comment_whole text p t j)))
           | inr j ↦ elim (cases_Bool (nat_lt 0 (break_width text p))) [
-            | inl k ↦ rw (h, i, j, k) (gap_whole n flow (allowed || not flow) text (p + break_width text p) t (whole_behind text p t (less_of _ _ k)))
+            | inl k ↦ rw (h, i, j, k) (gap_whole n flow (allowed || not flow) text (p + break_width text p) t (whole_behind text p t (ltb-true _ _ k)))
             | inr k ↦ rw (h, i, j, k) w
           ]
         ]

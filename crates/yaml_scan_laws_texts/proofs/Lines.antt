@@ -1,7 +1,8 @@
 -- What stands at the end of a word, and runs of one byte or none.
 use Rattle.std.proofs.Common.{◌≡◌, ◌≢◌, ℕ, ◌+◌, ◌<◌, ◌≤◌, ◌==◌, ◌&&◌, ◌||◌, nat_lt, Bool, true, false, List, [], ◌∷◌, length, Ok, refl, ◌∙◌, inl, inr, arith, add-zero}
-use Rattle.std.proofs.lemmas.Bool.{cases_Bool}
+use Rattle.std.proofs.lemmas.Bool.{cases_Bool, eqb-true}
 use Rattle.std.proofs.lemmas.Bool.Decides.{nat_tests}
+use Rattle.std.proofs.Math.Bool.{or-true}
 use Rattle.yaml_scan_model.specs.declared.problem.Context.TheVariants as contexts
 use Rattle.yaml_scan_model.specs.Marks.{byte, break_of, break_width, is_blank as is_blank_byte, is_blank_or_end}
 use Rattle.yaml_scan_model.specs.Classes.{is_alpha_byte, is_digit_byte, is_blank, is_digit, is_break}
@@ -62,12 +63,8 @@ space_ends text p h = rw h refl
 
 -- ---- breaks
 
-or_true : (a : Bool) → (a || true) ≡ true
-or_true true = refl
-or_true false = refl
-
 pub break_ends : (text : List ℕ) (p : ℕ) → is_break text p ≡ true → is_blank_or_end text p ≡ true
-break_ends text p h = rw (h, or_true) refl
+break_ends text p h = rw (h, or-true) refl
 
 broken : (w : ℕ) → w ≡ 0 → nat_lt 0 w ≡ true → ⊥
 broken w e h = grind (arith, nat_tests)
@@ -102,13 +99,10 @@ break_no_digit text p h =
       | inr e ↦ e
     ]
 
-equal_of : (a b : ℕ) → (a == b) ≡ true → a ≡ b
-equal_of a b h = grind (arith, nat_tests)
-
 pub break_no_uri : (text : List ℕ) (p : ℕ) → is_break text p ≡ true → (byte text p == 37 || is_uri true text p) ≡ false
 break_no_uri text p h =
     elim (cases_Bool (byte text p == 37)) [
-      | inl e ↦ absurd (break_no_printed text p 37 h (equal_of _ _ e) (omega arith) (omega arith))
+      | inl e ↦ absurd (break_no_printed text p 37 h (eqb-true _ _ e) (omega arith) (omega arith))
       | inr e ↦ elim (cases_Bool (is_uri true text p)) [
         | inl u ↦ let (low, high) = uri_range true text p u in absurd (break_no_printed text p (byte text p) h refl low high)
         | inr u ↦ rw (e, u) refl
@@ -118,7 +112,7 @@ break_no_uri text p h =
 no_hash : (text : List ℕ) (p : ℕ) → is_break text p ≡ true → (byte text p == 35) ≡ false
 no_hash text p h =
     elim (cases_Bool (byte text p == 35)) [
-      | inl e ↦ absurd (break_no_printed text p 35 h (equal_of _ _ e) (omega arith) (omega arith))
+      | inl e ↦ absurd (break_no_printed text p 35 h (eqb-true _ _ e) (omega arith) (omega arith))
       | inr e ↦ e
     ]
 

@@ -1,6 +1,6 @@
 -- What steps make of a lexeme.
 use Rattle.std.proofs.Common.{◌≡◌, ℕ, zero, suc, ◌+◌, ◌==◌, ◌&&◌, ◌||◌, not, nat_lt, Bool, true, false, List, [], ◌∷◌, Option, Some, None, Result, Ok, Err, refl, sym, subst, inl, inr, arith}
-use Rattle.std.proofs.lemmas.Bool.{cases_Bool}
+use Rattle.std.proofs.lemmas.Bool.{cases_Bool, and_parts}
 use Rattle.std.proofs.lemmas.Bool.Decides.{nat_tests}
 use Rattle.yaml_scan_laws_order.specs.scan_model.declared.record.yaml_mark_t.{yaml_mark_t}
 use Rattle.yaml_scan_laws_order.specs.scan_model.declared.name.yaml_scalar_style_t.{yaml_scalar_style_t}
@@ -84,10 +84,6 @@ saved_allowed false true may true f e = absurd (cc)
 saved_allowed false false may true f e = absurd (cc)
 saved_allowed false broke may false f e = absurd (cc)
 
-saved_may : (allowed may : Bool) → (allowed && may) ≡ true → may ≡ true
-saved_may true may e = e
-saved_may false may e = absurd (cc)
-
 no_level : (k : Kind) (d column : ℕ) (ls : List ℕ) → ls ≡ [] → indent (left_by k d column ls) ≡ 0
 unfolding indent
 no_level k d column [] e =
@@ -108,7 +104,7 @@ not_level saved outside n column e =
 pub begun_made : (k : Kind) (start : yaml_mark_t) (gap : Gap) (h : List Lexeme) → MadeBehind h (begun k start (allowed_behind h gap) h)
 begun_made k start gap h = record {
   at = refl;
-  kind = λ s. saved_may (allowed_behind h gap) (may_be_key k) s;
+  kind = λ s. (and_parts (allowed_behind h gap) (may_be_key k) s).1;
   allowed = λ f s. saved_allowed (key_allowed h) gap.broke (may_be_key k) (nat_lt 0 (depth h)) f s;
   level = λ e. no_level k (depth h) start.column (levels h) e;
   required = λ e. not_level (allowed_behind h gap && may_be_key k) (depth h == 0) (level_in k start.column h) start.column (no_level k (depth h) start.column (levels h) e);

@@ -1,6 +1,6 @@
 -- Names and handles as they are read.
-use Rattle.std.proofs.Common.{◌≡◌, ℕ, zero, suc, ◌+◌, ◌≤◌, ◌<◌, ◌==◌, ◌||◌, ◌&&◌, not, Bool, true, false, List, [], ◌∷◌, ◌++◌, length, slice_range, Result, Ok, Err, refl, sym, ◌∙◌, true≢false, inl, inr, arith, add-zero, length-append, subst}
-use Rattle.std.proofs.lemmas.Bool.{cases_Bool}
+use Rattle.std.proofs.Common.{◌≡◌, ℕ, zero, suc, ◌+◌, ◌≤◌, ◌<◌, ◌==◌, ◌||◌, not, true, false, List, [], ◌∷◌, ◌++◌, length, slice_range, Result, Ok, Err, refl, sym, ◌∙◌, inl, inr, arith, add-zero, length-append, subst}
+use Rattle.std.proofs.lemmas.Bool.{cases_Bool, and_parts, or_parts, eqb-true}
 use Rattle.std.proofs.lemmas.Bool.Decides.{nat_tests}
 use Rattle.yaml_scan_history.specs.scan_model.declared.Context.{Context}
 use Rattle.yaml_scan_history.specs.scan_model.Marks.{byte}
@@ -14,17 +14,6 @@ use Rattle.yaml_scan_history.specs.scan_words.Directives.{handle_between, handle
 use Rattle.yaml_scan_history.proofs.WordsRunsLemmas.{run_within-le}
 use Rattle.yaml_scan_history.proofs.HasLemmas.{Has, range_reads}
 use Rattle.yaml_scan_laws_texts.specs.Spelled.{AreAlphas, IsName, IsHandle}
-
-pair : (a b : Bool) → (a && b) ≡ true → (a ≡ true) × (b ≡ true)
-pair true b h = (refl, h)
-pair false b h = absurd (true≢false (sym h))
-
-no_first : (a b : Bool) → (a || b) ≡ false → a ≡ false
-no_first true b h = absurd (true≢false h)
-no_first false b h = refl
-
-equal_of : (a b : ℕ) → (a == b) ≡ true → a ≡ b
-equal_of a b h = grind (arith, nat_tests)
 
 same_test : (a b : ℕ) → a ≡ b → (a == b) ≡ false → ⊥
 same_test a b e h = grind (arith, nat_tests)
@@ -73,7 +62,7 @@ name_by : (name : List ℕ) (text : List ℕ) (p q : ℕ) → Has text p name �
     → IsName (slice_range text p q)
 name_by [] text p q h e are l some = absurd (same_test p q (sym (e ∙ add-zero p)) some)
 name_by (b ∷ bs) text p q (first, h) e are l some =
-    let (front, back) = pair _ _ are in
+    let (front, back) = and_parts _ _ are in
     let some_byte = some_alpha b front in
     let here = within text p (omega (arith, first, some_byte)) in
     let there = l (omega (arith, here)) in
@@ -92,7 +81,7 @@ name_good : (context : Context) (text : List ℕ) (p q : ℕ) → Spans text p q
 name_good context text p q s =
     elim (cases_Bool (p == q || not (may_end_name text q))) [
       | inl e ↦ rw e tt
-      | inr e ↦ rw e (span_name text p q s (no_first (p == q) (not (may_end_name text q)) e))
+      | inr e ↦ rw e (span_name text p q s (or_parts (p == q) (not (may_end_name text q)) e).0)
     ]
 
 -- an anchor's or alias's name
@@ -127,9 +116,9 @@ HasHandle (Err w) = Unit {0}
 handle_between_good : (text : List ℕ) (p q : ℕ) → byte text p ≡ 33 → Spans text (p + 1) q → HasHandle (handle_between text p q)
 handle_between_good text p q mark s =
     elim (cases_Bool (byte text q == 33)) [
-      | inl h ↦ rw h (closed_handle text p q mark (equal_of _ _ h) s)
+      | inl h ↦ rw h (closed_handle text p q mark (eqb-true _ _ h) s)
       | inr h ↦ elim (cases_Bool (q == p + 1)) [
-        | inl i ↦ let e = equal_of _ _ i in rw (h, i) (rw e (open_handle text p mark))
+        | inl i ↦ let e = eqb-true _ _ i in rw (h, i) (rw e (open_handle text p mark))
         | inr i ↦ rw (h, i) tt
       ]
     ]
@@ -138,6 +127,6 @@ handle_between_good text p q mark s =
 pub handle_good : (text : List ℕ) (p : ℕ) → HasHandle (handle_at text p)
 handle_good text p =
     elim (cases_Bool (byte text p == 33)) [
-      | inl h ↦ rw h (handle_between_good text p (name_end text p) (equal_of _ _ h) (name_spans text p))
+      | inl h ↦ rw h (handle_between_good text p (name_end text p) (eqb-true _ _ h) (name_spans text p))
       | inr h ↦ rw h tt
     ]

@@ -1,7 +1,6 @@
 -- What each lexeme carries is well spelled.
-use Rattle.std.proofs.Common.{◌≡◌, ℕ, ◌+◌, ◌-◌, ◌==◌, ◌&&◌, not, if◌then◌else◌, Bool, true, false, List, length, slice_range, Result, Ok, Err, refl, inl, inr, arith}
-use Rattle.std.proofs.lemmas.Bool.{cases_Bool}
-use Rattle.std.proofs.lemmas.Bool.Decides.{nat_tests}
+use Rattle.std.proofs.Common.{◌≡◌, ℕ, ◌+◌, ◌-◌, ◌==◌, ◌&&◌, not, if◌then◌else◌, Bool, true, false, List, length, slice_range, Result, Ok, Err, refl, inl, inr}
+use Rattle.std.proofs.lemmas.Bool.{cases_Bool, eqb-true}
 use Rattle.yaml_scan_history.specs.scan_model.declared.Context.{Context}
 use Rattle.yaml_scan_history.specs.scan_model.declared.Context.TheVariants as contexts
 use Rattle.yaml_scan_history.specs.scan_model.declared.Problem.TheVariants as problems
@@ -23,9 +22,6 @@ use Rattle.yaml_scan_history.specs.declared.Kind.TheVariants as kinds
 use Rattle.yaml_scan_history.specs.Words.{WordText, valued, tagged, body_said, directed, blocked, plainly, word_at}
 use Rattle.yaml_scan_laws_texts.specs.Spelled.{IsSome, IsHandle, IsSpelled}
 use Rattle.yaml_scan_laws_texts.proofs.Names.{HasName, anchor_good, name_spans, closed_handle, HasHandle, handle_good}
-
-equal_of : (a b : ℕ) → (a == b) ≡ true → a ≡ b
-equal_of a b h = grind (arith, nat_tests)
 
 abbrev pub HasWord : Result WordText Wrong → Type 0
 HasWord (Ok w) = IsSpelled w.body
@@ -104,7 +100,7 @@ parts_good text p mark =
       | inl h ↦ rw h (bracketed_good text (some_uri_at contexts.TagUri true text (p + 2)) (uri_good contexts.TagUri true text (p + 2)))
       | inr h ↦ elim (cases_Bool (byte text (name_end text p) == 33)) [
         | inl i ↦
-            let handle = closed_handle text p (name_end text p) mark (equal_of _ _ i) (name_spans text p) in
+            let handle = closed_handle text p (name_end text p) mark (eqb-true _ _ i) (name_spans text p) in
             rw (h, i) (handle_tag (slice_range text p (name_end text p + 1)) (some_uri_at contexts.TagUri false text (name_end text p + 1)) handle
             (uri_good contexts.TagUri false text (name_end text p + 1)))
         | inr i ↦ rw (h, i) (bare_good (uri_at contexts.TagUri false text (p + 1)))

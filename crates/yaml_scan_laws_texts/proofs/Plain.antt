@@ -1,6 +1,6 @@
 -- The value of a plain scalar is UTF-8, and the text may be cut behind it.
-use Rattle.std.proofs.Common.{◌≡◌, ℕ, zero, suc, ◌+◌, ◌<◌, ◌==◌, ◌&&◌, ◌||◌, nat_lt, if◌then◌else◌, Bool, true, false, List, [], ◌∷◌, ◌++◌, length, drop, Result, Ok, Err, refl, sym, true≢false, inl, inr, ◌⊎◌, arith, IsUtf8}
-use Rattle.std.proofs.lemmas.Bool.{cases_Bool}
+use Rattle.std.proofs.Common.{◌≡◌, ℕ, zero, suc, ◌+◌, ◌<◌, ◌==◌, ◌&&◌, ◌||◌, nat_lt, if◌then◌else◌, Bool, true, false, List, [], ◌∷◌, ◌++◌, length, drop, Result, Ok, Err, refl, sym, true≢false, inl, inr, arith, IsUtf8}
+use Rattle.std.proofs.lemmas.Bool.{cases_Bool, ltb-true, and_parts, or_cases}
 use Rattle.std.proofs.lemmas.Bool.Decides.{nat_tests}
 use Rattle.yaml_scan_history.specs.scan_model.Marks.{byte, break_width, column_at, is_blank, is_blank_or_end}
 use Rattle.yaml_scan_history.specs.scan_model.Breaks.{is_document_indicator}
@@ -12,17 +12,6 @@ use Rattle.yaml_scan_history.proofs.PlainLemmas.{not_ended}
 use Rattle.yaml_scan_laws_texts.proofs.Whole.{IsWhole, whole_ascii, whole_after, whole_before, whole_behind, leads_whole, blank_small, cut, break_utf8, indicator_small}
 use Rattle.yaml_scan_laws_texts.proofs.Values.{Goes, value_utf8}
 use Rattle.yaml_scan_laws_texts.proofs.Quoted.{Waits, kept_waits}
-
-less_of : (a b : ℕ) → nat_lt a b ≡ true → a < b
-less_of a b h = grind (arith, nat_tests)
-
-first_true : (a b : Bool) → (a && b) ≡ true → a ≡ true
-first_true true b h = refl
-first_true false b h = h
-
-either_true : (a b : Bool) → (a || b) ≡ true → (a ≡ true) ⊎ (b ≡ true)
-either_true true b h = inl refl
-either_true false b h = inr h
 
 small_zero : (b : ℕ) → (b == 0) ≡ true → b < 128
 small_zero b h = grind (arith, nat_tests)
@@ -40,20 +29,20 @@ small_bracket b h = grind (arith, nat_tests)
 last_whole : (flow : Bool) (level : ℕ) (text : List ℕ) (p : ℕ) → IsUtf8 text
     → (if flow then is_bracket (byte text p) else leads text p && nat_lt (column_at text p) level) ≡ true → IsWhole text p
 last_whole true level text p t h = whole_ascii text p t (small_bracket (byte text p) h)
-last_whole false level text p t h = leads_whole text p t (first_true (leads text p) (nat_lt (column_at text p) level) h)
+last_whole false level text p t h = leads_whole text p t (and_parts (leads text p) (nat_lt (column_at text p) level) h).0
 
 -- where a plain scalar ends
 ends_whole : (flow : Bool) (level : ℕ) (text : List ℕ) (p : ℕ) → IsUtf8 text → ends_at flow level text p ≡ true → IsWhole text p
 unfolding ends_at
 ends_whole flow level text p t h =
-    elim (either_true (byte text p == 0 || is_document_indicator text p) _ h) [
-      | inl a ↦ elim (either_true (byte text p == 0) (is_document_indicator text p) a) [
+    elim (or_cases (byte text p == 0 || is_document_indicator text p) _ h) [
+      | inl a ↦ elim (or_cases (byte text p == 0) (is_document_indicator text p) a) [
         | inl z ↦ whole_ascii text p t (small_zero (byte text p) z)
         | inr i ↦ whole_ascii text p t (indicator_small text p i)
       ]
-      | inr a ↦ elim (either_true (byte text p == 35 && after_white text p) _ a) [
+      | inr a ↦ elim (or_cases (byte text p == 35 && after_white text p) _ a) [
         | inl b ↦ whole_ascii text p t (small_hash (byte text p) (after_white text p) b)
-        | inr b ↦ elim (either_true (byte text p == 58 && is_blank_or_end text (p + 1)) _ b) [
+        | inr b ↦ elim (or_cases (byte text p == 58 && is_blank_or_end text (p + 1)) _ b) [
           | inl c ↦ whole_ascii text p t (small_colon (byte text p) (is_blank_or_end text (p + 1)) c)
           | inr c ↦ last_whole flow level text p t c
         ]
@@ -76,7 +65,7 @@ unfolding spot_at
 spot_fits u text flow level p t w =
     elim (cases_Bool (nat_lt 0 (break_width text p))) [
       | inl h ↦
-          let some = less_of _ _ h in
+          let some = ltb-true _ _ h in
           rw h (cut u (drop p text) w (whole_before text p t some), break_utf8 text p t, whole_behind text p t some)
       | inr h ↦ elim (cases_Bool (is_blank (byte text p))) [
         | inl i ↦

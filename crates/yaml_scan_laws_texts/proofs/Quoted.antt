@@ -1,7 +1,7 @@
 -- The value of a quoted scalar is UTF-8, and so is what stands behind it.
 use Rattle.std.proofs.Common.{◌≡◌, ℕ, zero, suc, ◌+◌, ◌*◌, ◌<◌, ◌==◌, ◌&&◌, nat_lt, if◌then◌else◌, ◌||◌, Bool, true, false, List, [], ◌∷◌, ◌++◌, length, drop, Option, Some, None, option_and_then, option_map, Result, Ok, Err, refl, inl, inr, arith, IsUtf8, append-nil, append_assoc}
 use Rattle.std.specs.Char.{encode_utf8, IsScalar}
-use Rattle.std.proofs.lemmas.Bool.{cases_Bool}
+use Rattle.std.proofs.lemmas.Bool.{cases_Bool, ltb-true, eqb-true, and_parts}
 use Rattle.std.proofs.lemmas.Bool.Decides.{nat_tests}
 use Rattle.std.proofs.lemmas.List.{drop_more}
 use Rattle.std.proofs.lemmas.Str.{IsUtf8-nil, IsUtf8-append, IsUtf8-encode}
@@ -14,19 +14,8 @@ use Rattle.yaml_scan_history.specs.scan_scalars.Quoted.{Standing, Closing, Piece
 use Rattle.yaml_scan_laws_texts.proofs.Whole.{IsWhole, whole_ascii, whole_after, whole_before, whole_behind, blank_small, ascii_utf8, cut, break_utf8, nel_char, nbsp_char, ls_char, ps_char}
 use Rattle.yaml_scan_laws_texts.proofs.Values.{Goes, value_utf8}
 
-less_of : (a b : ℕ) → nat_lt a b ≡ true → a < b
-less_of a b h = grind (arith, nat_tests)
-
-equal_of : (a b : ℕ) → (a == b) ≡ true → a ≡ b
-equal_of a b h = grind (arith, nat_tests)
-
 some_of : (b : ℕ) → (b == 0) ≡ false → 0 < b
 some_of b h = grind (arith, nat_tests)
-
-second_of : (a b : Bool) → (a && b) ≡ true → b ≡ true
-second_of true b h = h
-second_of false true h = refl
-second_of false false h = h
 
 -- Bytes that wait, and the text from a place on, are UTF-8 together.
 abbrev pub Waits : List ℕ → List ℕ → ℕ → Type 0
@@ -87,7 +76,7 @@ no_digit b h = grind (arith, nat_tests)
 digit_small : (b : ℕ) → IsThere (hex_digit b) → b < 128
 digit_small b h =
     elim (cases_Bool (nat_lt b 128)) [
-      | inl e ↦ less_of b 128 e
+      | inl e ↦ ltb-true b 128 e
       | inr e ↦ absurd (rw (no_digit b e) at h)
     ]
 
@@ -160,11 +149,11 @@ escape_fits : (u text : List ℕ) (p : ℕ) → IsUtf8 text → IsUtf8 u → Fit
 unfolding escape_at
 escape_fits u text p t a =
     elim (cases_Bool (nat_lt 0 (break_width text (p + 1)))) [
-      | inl h ↦ rw h (empty_break_fits u text (p + 1 + break_width text (p + 1)) a (whole_behind text (p + 1) t (less_of _ _ h)))
+      | inl h ↦ rw h (empty_break_fits u text (p + 1 + break_width text (p + 1)) a (whole_behind text (p + 1) t (ltb-true _ _ h)))
       | inr h ↦ elim (cases_Bool (nat_lt 0 (hex_len (byte text (p + 1))))) [
         | inl i ↦
             let n = hex_len (byte text (p + 1)) in
-            rw (h, i) (coded_fits u text p (p + 2) (p + 2 + n) (hex_value text (p + 2) n) a (λ c e. hex_whole n text (p + 2) t (less_of _ _ i) (there_of _ c e)))
+            rw (h, i) (coded_fits u text p (p + 2) (p + 2 + n) (hex_value text (p + 2) n) a (λ c e. hex_whole n text (p + 2) t (ltb-true _ _ i) (there_of _ c e)))
         | inr i ↦ rw (h, i) (escaped_fits u text p (simple_escape (byte text (p + 1))) t a (simple_is (byte text (p + 1))))
       ]
     ]
@@ -174,7 +163,7 @@ unfolding quote_at
 quote_fits u text quote p t a s =
     elim (cases_Bool (quote == 39 && byte text (p + 1) == 39)) [
       | inl h ↦
-          let b : byte text (p + 1) ≡ 39 = equal_of _ _ (second_of (quote == 39) (byte text (p + 1) == 39) h) in
+          let b : byte text (p + 1) ≡ 39 = eqb-true _ _ (and_parts (quote == 39) (byte text (p + 1) == 39) h).1 in
           let e : p + 1 + 1 ≡ p + 2 = omega arith in
           rw h (kept_fits u text (39 ∷ []) (p + 2) a (ascii_utf8 39 (omega arith)) (rw e at (whole_after text (p + 1) t (omega (arith, b)))))
       | inr h ↦ rw h (a, whole_after text p t s)
@@ -192,12 +181,12 @@ standing_fits u text quote p small t w =
         | inl i ↦ rw (h, i) tt
         | inr i ↦ elim (cases_Bool (byte text p == quote)) [
           | inl j ↦
-              let same = equal_of _ _ j in
+              let same = eqb-true _ _ j in
               let s : byte text p < 128 = omega (arith, same, small) in
               rw (h, i, j) (quote_fits u text quote p t (cut u (drop p text) w (whole_ascii text p t s)) s)
           | inr j ↦ elim (cases_Bool (nat_lt 0 (break_width text p))) [
             | inl k ↦
-                let some = less_of _ _ k in
+                let some = ltb-true _ _ k in
                 rw (h, i, j, k) (break_fits u text (break_value text p) (p + break_width text p) (cut u (drop p text) w (whole_before text p t some))
                 (break_utf8 text p t) (whole_behind text p t some))
             | inr k ↦ elim (cases_Bool (is_blank (byte text p))) [

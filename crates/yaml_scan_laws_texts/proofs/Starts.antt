@@ -1,7 +1,6 @@
 -- Each tag of a text starts with `!`.
-use Rattle.std.proofs.Common.{◌≡◌, ℕ, zero, suc, ◌+◌, ◌==◌, ◌&&◌, ◌||◌, not, nat_lt, if◌then◌else◌, Bool, true, false, List, [], ◌∷◌, Option, Some, None, Result, Ok, Err, refl, sym, subst, inl, inr, arith}
-use Rattle.std.proofs.lemmas.Bool.{cases_Bool}
-use Rattle.std.proofs.lemmas.Bool.Decides.{nat_tests}
+use Rattle.std.proofs.Common.{◌≡◌, ℕ, zero, suc, ◌+◌, ◌==◌, ◌&&◌, ◌||◌, not, nat_lt, if◌then◌else◌, Bool, true, false, List, [], ◌∷◌, Option, Some, None, Result, Ok, Err, refl, sym, subst, inl, inr}
+use Rattle.std.proofs.lemmas.Bool.{cases_Bool, eqb-true}
 use Rattle.yaml_scan_history.specs.scan_model.declared.yaml_mark_t.{yaml_mark_t}
 use Rattle.yaml_scan_history.specs.scan_model.Marks.{byte, mark_at, column_at, is_blank_or_end}
 use Rattle.yaml_scan_history.specs.scan_model.Wrong.{Wrong}
@@ -18,9 +17,6 @@ use Rattle.yaml_scan_history.specs.Next.{Next, Read, Fails, Ends, begun, finishe
 use Rattle.yaml_scan_history.specs.Stepwise.{no_colon, tested, unless_wrong, unless_lost, of_kind, unless_missed}
 use Rattle.yaml_scan_history.proofs.StepwiseLemmas.{stepwise}
 use Rattle.yaml_scan_laws_texts.proofs.NamesWords.{Marked}
-
-equal_of : (a b : ℕ) → (a == b) ≡ true → a ≡ b
-equal_of a b h = grind (arith, nat_tests)
 
 -- Kinds.
 
@@ -46,7 +42,7 @@ indicator_marked flow alone text p =
     (pick text p (b == 58 && (flow || alone)) kinds.ValueMark _ (λ h. tt)
     (pick text p (b == 42) kinds.Alias _ (λ h. tt)
     (pick text p (b == 38) kinds.Anchor _ (λ h. tt)
-    (pick text p (b == 33) kinds.Tag _ (equal_of b 33)
+    (pick text p (b == 33) kinds.Tag _ (eqb-true b 33)
     (pick text p (b == 124 && not flow) kinds.Literal _ (λ h. tt)
     (pick text p (b == 62 && not flow) kinds.Folded _ (λ h. tt)
     (pick text p (b == 39) kinds.SingleQuoted _ (λ h. tt)

@@ -1,6 +1,6 @@
 -- Texts of key-free words.
 use Rattle.std.proofs.Common.{◌≡◌, ◌≢◌, ℕ, suc, ◌&&◌, not, nat_lt, if◌then◌else◌, Bool, true, false, List, [], ◌∷◌, ◌++◌, length, map, reverse, Option, Some, None, Result, Ok, refl, sym, ap, subst, ◌∙◌, inl, inr}
-use Rattle.std.proofs.lemmas.Bool.{cases_Bool}
+use Rattle.std.proofs.lemmas.Bool.{cases_Bool, and_parts, not-true}
 use Rattle.std.proofs.lemmas.List.{reverse-append}
 use Rattle.std.specs.List.{list_all}
 use Rattle.yaml_scan_laws_order.specs.scan_model.declared.record.yaml_mark_t.{yaml_mark_t}
@@ -21,7 +21,7 @@ use Rattle.yaml_scan_laws_texts.specs.KeyFree.{asked_after, asked, fits, is_key_
 use Rattle.yaml_scan_laws_texts.specs.KeysLaws.{gap_in, end_in, lexeme_of}
 use Rattle.yaml_scan_laws_texts.specs.KeysTexts.{Word, lexemes, StandsBehind, Stand, word_kinds, token_of, first_token, ReachEnd}
 use Rattle.yaml_scan_laws_texts.proofs.MadeLemmas.{AllMade, history_made}
-use Rattle.yaml_scan_laws_texts.proofs.FreeLemmas.{and_left, and_right, level_free, level_rest}
+use Rattle.yaml_scan_laws_texts.proofs.FreeLemmas.{level_free, level_rest}
 use Rattle.yaml_scan_laws_texts.proofs.StepLemmas.{remaining_bare, step_reads}
 
 -- the stream's start changes nothing
@@ -46,10 +46,6 @@ level_with : (text : List ℕ) (w : Word) (ws : List Word) → is_level_free (w.
 unfolding lexemes
 level_with text w ws free = level_first text (w ∷ ws) ∙ free
 
-not_true : (a : Bool) → not a ≡ true → a ≡ false
-not_true false e = refl
-not_true true e = absurd (cc)
-
 -- none of the words ends the stream
 abbrev GoOn : List Word → Type 0
 GoOn ws = list_all (λ (x : Word). not (is_end x.kind)) ws ≡ true
@@ -57,10 +53,10 @@ GoOn ws = list_all (λ (x : Word). not (is_end x.kind)) ws ≡ true
 goes_on : (text : List ℕ) (ws : List Word) → GoOn ws → ended (lexemes text ws) ≡ false
 unfolding lexemes
 goes_on text [] g = refl
-goes_on text (w ∷ ws) g = not_true (is_end w.kind) (and_left (not (is_end w.kind)) (list_all (λ (x : Word). not (is_end x.kind)) ws) g)
+goes_on text (w ∷ ws) g = not-true (is_end w.kind) (and_parts (not (is_end w.kind)) (list_all (λ (x : Word). not (is_end x.kind)) ws) g).0
 
 goes_behind : (w : Word) (ws : List Word) → GoOn (w ∷ ws) → GoOn ws
-goes_behind w ws g = and_right (not (is_end w.kind)) (list_all (λ (x : Word). not (is_end x.kind)) ws) g
+goes_behind w ws g = (and_parts (not (is_end w.kind)) (list_all (λ (x : Word). not (is_end x.kind)) ws) g).1
 
 -- as many steps as there are words, and the first, read them
 words_history : (text : List ℕ) (w : Word) (ws : List Word) → Stand text (w ∷ ws) → is_level_free (w.kind ∷ word_kinds ws) ≡ true → GoOn ws

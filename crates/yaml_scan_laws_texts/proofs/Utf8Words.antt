@@ -1,6 +1,6 @@
 -- What each lexeme carries is UTF-8, but for what escapes spell, and the text may be cut behind it.
-use Rattle.std.proofs.Common.{◌≡◌, ℕ, ◌+◌, ◌-◌, ◌<◌, ◌==◌, ◌&&◌, ◌||◌, not, nat_lt, if◌then◌else◌, Bool, true, false, List, length, slice_range, Option, Some, None, Result, Ok, Err, refl, true≢false, inl, inr, ◌⊎◌, arith, IsUtf8}
-use Rattle.std.proofs.lemmas.Bool.{cases_Bool}
+use Rattle.std.proofs.Common.{◌≡◌, ℕ, ◌+◌, ◌-◌, ◌<◌, ◌==◌, ◌&&◌, ◌||◌, not, nat_lt, if◌then◌else◌, Bool, true, false, List, length, slice_range, Option, Some, None, Result, Ok, Err, refl, inl, inr, arith, IsUtf8}
+use Rattle.std.proofs.lemmas.Bool.{cases_Bool, ltb-true, eqb-true, or_cases, not-false, or_parts}
 use Rattle.std.proofs.lemmas.Bool.Decides.{nat_tests}
 use Rattle.std.proofs.lemmas.Str.{IsUtf8-nil}
 use Rattle.yaml_scan_history.specs.scan_model.declared.problem.Context.{Context}
@@ -29,25 +29,15 @@ use Rattle.yaml_scan_laws_texts.proofs.Quoted.{HasQuoted, quoted_utf8}
 use Rattle.yaml_scan_laws_texts.proofs.Plain.{HasPlain, plain_utf8}
 use Rattle.yaml_scan_laws_texts.proofs.Block.{HasBlock, block_utf8}
 
-less_of : (a b : ℕ) → nat_lt a b ≡ true → a < b
-less_of a b h = grind (arith, nat_tests)
-
-equal_of : (a b : ℕ) → (a == b) ≡ true → a ≡ b
-equal_of a b h = grind (arith, nat_tests)
-
-either_true : (a b : Bool) → (a || b) ≡ true → (a ≡ true) ⊎ (b ≡ true)
-either_true true b h = inl refl
-either_true false b h = inr h
-
 -- a blank, a break or the end
 pub end_whole : (text : List ℕ) (p : ℕ) → IsUtf8 text → is_blank_or_end text p ≡ true → IsWhole text p
 end_whole text p t h =
-    elim (either_true (is_blank (byte text p) || byte text p == 0) (nat_lt 0 (break_width text p)) h) [
-      | inl a ↦ elim (either_true (is_blank (byte text p)) (byte text p == 0) a) [
+    elim (or_cases (is_blank (byte text p) || byte text p == 0) (nat_lt 0 (break_width text p)) h) [
+      | inl a ↦ elim (or_cases (is_blank (byte text p)) (byte text p == 0) a) [
         | inl b ↦ whole_ascii text p t (blank_small (byte text p) b)
-        | inr z ↦ let same = equal_of _ _ z in whole_ascii text p t (omega (arith, same))
+        | inr z ↦ let same = eqb-true _ _ z in whole_ascii text p t (omega (arith, same))
       ]
-      | inr b ↦ whole_before text p t (less_of _ _ b)
+      | inr b ↦ whole_before text p t (ltb-true _ _ b)
     ]
 
 name_end_small : (b : ℕ) → is_name_end b ≡ true → b < 128
@@ -56,7 +46,7 @@ name_end_small b h = grind (arith, nat_tests)
 name_whole : (text : List ℕ) (p : ℕ) → IsUtf8 text → may_end_name text p ≡ true → IsWhole text p
 unfolding may_end_name
 name_whole text p t h =
-    elim (either_true (is_blank_or_end text p) (is_name_end (byte text p)) h) [
+    elim (or_cases (is_blank_or_end text p) (is_name_end (byte text p)) h) [
       | inl a ↦ end_whole text p t a
       | inr b ↦ whole_ascii text p t (name_end_small (byte text p) b)
     ]
@@ -66,7 +56,7 @@ comma_small flow b h = grind (arith, nat_tests)
 
 tag_end_whole : (flow : Bool) (text : List ℕ) (p : ℕ) → IsUtf8 text → may_end_tag flow text p ≡ true → IsWhole text p
 tag_end_whole flow text p t h =
-    elim (either_true (is_blank_or_end text p) (flow && byte text p == 44) h) [
+    elim (or_cases (is_blank_or_end text p) (flow && byte text p == 44) h) [
       | inl a ↦ end_whole text p t a
       | inr b ↦ whole_ascii text p t (comma_small flow (byte text p) b)
     ]
@@ -85,20 +75,12 @@ abbrev HasName : List ℕ → Result (List ℕ × ℕ) Wrong → Type 0
 HasName text (Ok x) = IsUtf8 x.0 × IsWhole text x.1
 HasName text (Err w) = Unit {0}
 
-not_false : (a : Bool) → not a ≡ false → a ≡ true
-not_false true h = refl
-not_false false h = absurd (true≢false h)
-
-second_false : (a b : Bool) → (a || b) ≡ false → b ≡ false
-second_false true b h = absurd (true≢false h)
-second_false false b h = h
-
 between_good : (context : Context) (text : List ℕ) (p q : ℕ) → IsUtf8 text → IsWhole text p → HasName text (name_between context text p q)
 between_good context text p q t w =
     elim (cases_Bool (p == q || not (may_end_name text q))) [
       | inl h ↦ rw h tt
       | inr h ↦
-          let there = name_whole text q t (not_false (may_end_name text q) (second_false (p == q) (not (may_end_name text q)) h)) in
+          let there = name_whole text q t (not-false (may_end_name text q) (or_parts (p == q) (not (may_end_name text q)) h).1) in
           rw h (slice_utf8 text p q t w there, there)
     ]
 
@@ -158,7 +140,7 @@ parts_good text p t w =
       | inl h ↦ rw h (bracketed_handle text (some_uri_at contexts.TagUri true text (p + 2)))
       | inr h ↦ elim (cases_Bool (byte text (name_end text p) == 33)) [
         | inl i ↦
-            let same = equal_of _ _ i in
+            let same = eqb-true _ _ i in
             rw (h, i) (with_handle_good (slice_range text p (name_end text p + 1)) (some_uri_at contexts.TagUri false text (name_end text p + 1))
             (slice_utf8 text p (name_end text p + 1) t w (whole_after text (name_end text p) t (omega (arith, same)))))
         | inr i ↦ rw (h, i) (bare_good (uri_at contexts.TagUri false text (p + 1)))
@@ -201,9 +183,9 @@ minor_good text major q =
 handle_between_good : (text : List ℕ) (p q : ℕ) → IsUtf8 text → byte text p < 128 → HasText (handle_between text p q)
 handle_between_good text p q t s =
     elim (cases_Bool (byte text q == 33)) [
-      | inl h ↦ let same = equal_of _ _ h in rw h (slice_utf8 text p (q + 1) t (whole_ascii text p t s) (whole_after text q t (omega (arith, same))))
+      | inl h ↦ let same = eqb-true _ _ h in rw h (slice_utf8 text p (q + 1) t (whole_ascii text p t s) (whole_after text q t (omega (arith, same))))
       | inr h ↦ elim (cases_Bool (q == p + 1)) [
-        | inl i ↦ let e = equal_of _ _ i in rw (h, i) (slice_utf8 text p q t (whole_ascii text p t s) (rw e (whole_after text p t s)))
+        | inl i ↦ let e = eqb-true _ _ i in rw (h, i) (slice_utf8 text p q t (whole_ascii text p t s) (rw e (whole_after text p t s)))
         | inr i ↦ rw (h, i) tt
       ]
     ]
@@ -211,7 +193,7 @@ handle_between_good text p q t s =
 handle_good : (text : List ℕ) (p : ℕ) → IsUtf8 text → HasText (handle_at text p)
 handle_good text p t =
     elim (cases_Bool (byte text p == 33)) [
-      | inl h ↦ let same = equal_of _ _ h in rw h (handle_between_good text p (name_end text p) t (omega (arith, same)))
+      | inl h ↦ let same = eqb-true _ _ h in rw h (handle_between_good text p (name_end text p) t (omega (arith, same)))
       | inr h ↦ rw h tt
     ]
 
@@ -252,9 +234,9 @@ HasPlace text (Err w) = Unit {0}
 break_end_good : (text : List ℕ) (p : ℕ) → IsUtf8 text → HasPlace text (break_end text p)
 break_end_good text p t =
     elim (cases_Bool (nat_lt 0 (break_width text p))) [
-      | inl h ↦ rw h (whole_behind text p t (less_of _ _ h))
+      | inl h ↦ rw h (whole_behind text p t (ltb-true _ _ h))
       | inr h ↦ elim (cases_Bool (byte text p == 0)) [
-        | inl i ↦ let same = equal_of _ _ i in rw (h, i) (whole_ascii text p t (omega (arith, same)))
+        | inl i ↦ let same = eqb-true _ _ i in rw (h, i) (whole_ascii text p t (omega (arith, same)))
         | inr i ↦ rw (h, i) tt
       ]
     ]

@@ -1,6 +1,6 @@
 -- A gap that is nothing or one space, and a kind that the first byte tells.
 use Rattle.std.proofs.Common.{◌≡◌, ◌≢◌, ℕ, ◌+◌, ◌==◌, ◌&&◌, ◌||◌, ltb, not, Bool, true, false, List, length, Some, None, refl, ap, ◌∙◌, arith}
-use Rattle.std.proofs.lemmas.Bool.Decides.{nat_tests}
+use Rattle.std.proofs.lemmas.Bool.{ne_eqb, eqb-true}
 use Rattle.yaml_scan_model.specs.Marks.{byte, break_of, break_width, column_at, is_blank_or_end}
 use Rattle.yaml_scan_model.proofs.MarksLemmas.{no_break}
 use Rattle.yaml_scan_model.specs.Classes.{is_bom}
@@ -75,12 +75,6 @@ tells_no_dash : (flow : Bool) → indicator_of flow false 45 ≡ None
 unfolding indicator_of
 tells_no_dash flow = refl
 
-differs : (b n : ℕ) → b ≢ n → (b == n) ≡ false
-differs b n h = grind (arith, nat_tests)
-
-equal_of : (a b : ℕ) → (a == b) ≡ true → a ≡ b
-equal_of a b h = grind (arith, nat_tests)
-
 dash_follows : (text : List ℕ) (p : ℕ) → byte text p ≡ 45 → is_blank_or_end text p ≡ false
 dash_follows text p h =
     let none : break_width text p ≡ 0 = no_break _ _ _ (omega arith) (omega arith) (omega arith) (omega arith) in
@@ -101,12 +95,12 @@ no_start : (flow : Bool) (text : List ℕ) (p : ℕ) (k : Kind) → indicator_of
 unfolding is_document_start
 no_start flow text p k some =
     no_thrice (column_at text p == 0) (byte text p == 45) (byte text (p + 1) == 45) (byte text (p + 2) == 45) (is_blank_or_end text (p + 3)) (not_both _ _ (λ second.
-    let alone : is_blank_or_end text (p + 1) ≡ false = dash_follows text (p + 1) (equal_of _ _ second) in
-    differs _ _ (none_by flow false (byte text p) 45 k (rw alone at some) (tells_no_dash flow))))
+    let alone : is_blank_or_end text (p + 1) ≡ false = dash_follows text (p + 1) (eqb-true _ _ second) in
+    ne_eqb _ _ (none_by flow false (byte text p) 45 k (rw alone at some) (tells_no_dash flow))))
 
 no_end : (text : List ℕ) (p : ℕ) → byte text p ≢ 46 → is_document_end text p ≡ false
 unfolding is_document_end
-no_end text p h = no_thrice (column_at text p == 0) (byte text p == 46) (byte text (p + 1) == 46) (byte text (p + 2) == 46) (is_blank_or_end text (p + 3)) (rw (differs _ _ h) refl)
+no_end text p h = no_thrice (column_at text p == 0) (byte text p == 46) (byte text (p + 1) == 46) (byte text (p + 2) == 46) (is_blank_or_end text (p + 3)) (rw (ne_eqb _ _ h) refl)
 
 -- what an indicator tells is the kind
 pub told_kind : (flow : Bool) (text : List ℕ) (p : ℕ) (k : Kind) → indicator_of flow (is_blank_or_end text (p + 1)) (byte text p) ≡ Some k → kind_at flow text p ≡ Some k
@@ -115,8 +109,8 @@ told_kind flow text p k some =
     let alone = is_blank_or_end text (p + 1) in
     let b = byte text p in
     rw (
-      differs b 0 (none_by flow alone b 0 k some (tells_no_end flow alone)),
-      differs b 37 (none_by flow alone b 37 k some (tells_no_percent flow alone)),
+      ne_eqb b 0 (none_by flow alone b 0 k some (tells_no_end flow alone)),
+      ne_eqb b 37 (none_by flow alone b 37 k some (tells_no_percent flow alone)),
       no_start flow text p k some,
       no_end text p (none_by flow alone b 46 k some (tells_no_dot flow alone)),
       some,

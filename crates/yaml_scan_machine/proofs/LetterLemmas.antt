@@ -1,6 +1,7 @@
 -- A letter starts a plain scalar.
 use Rattle.std.proofs.Common.{◌≡◌, ◌≢◌, ℕ, ◌+◌, ◌<◌, ◌==◌, ◌&&◌, Bool, true, false, List, Some, None, refl, arith}
 use Rattle.std.proofs.lemmas.Bool.Decides.{nat_tests}
+use Rattle.std.proofs.lemmas.Bool.{ne_eqb}
 use Rattle.yaml_scan_model.specs.Marks.{byte, break_width, column_at, is_blank, is_blank_or_end}
 use Rattle.yaml_scan_model.proofs.MarksLemmas.{no_break}
 use Rattle.yaml_scan_words.specs.Indicators.{is_document_start, is_document_end}
@@ -41,9 +42,6 @@ tells_none : (flow alone : Bool) (b : ℕ) → is_letter b ≡ true → indicato
 unfolding is_letter indicator_of
 tells_none flow alone b h = grind (arith, nat_tests)
 
-differs : (b n : ℕ) → b ≢ n → (b == n) ≡ false
-differs b n h = grind (arith, nat_tests)
-
 no_mark : (b n c d : ℕ) (first last : Bool) → b ≢ n → ((first && (b == n && (c == n && d == n))) && last) ≡ false
 no_mark b n c d first last h = grind (arith, nat_tests)
 
@@ -61,11 +59,11 @@ letter_starts flow text p h =
     let l = letter_is (byte text p) h in
     let some = l.some in
     let z : break_width text p ≡ 0 = no_break _ _ _ l.no_cr l.no_feed l.no_c2 l.no_e2 in
-    rw (l.no_blank, differs (byte text p) 0 (omega arith), z, l.no_indicator) refl
+    rw (l.no_blank, ne_eqb (byte text p) 0 (omega arith), z, l.no_indicator) refl
 
 pub letter_kind : (flow : Bool) (text : List ℕ) (p : ℕ) → is_letter (byte text p) ≡ true → kind_at flow text p ≡ Some kinds.Plain
 unfolding kind_at
 letter_kind flow text p h =
     let l = letter_is (byte text p) h in
     let some = l.some in
-    rw (differs (byte text p) 0 (omega arith), differs (byte text p) 37 l.no_percent, no_start text p l.no_dash, no_end text p l.no_dot, tells_none flow _ (byte text p) h, letter_starts flow text p h) refl
+    rw (ne_eqb (byte text p) 0 (omega arith), ne_eqb (byte text p) 37 l.no_percent, no_start text p l.no_dash, no_end text p l.no_dot, tells_none flow _ (byte text p) h, letter_starts flow text p h) refl

@@ -1,13 +1,10 @@
 -- Breaks: what they read as, and where they end.
-use Rattle.std.proofs.Common.{◌≡◌, ◌≢◌, ℕ, ◌+◌, ◌-◌, ◌<◌, ◌≤◌, ◌==◌, nat_lt, true, false, List, [], ◌∷◌, length, refl, sym, inl, inr, arith}
-use Rattle.std.proofs.lemmas.Bool.{cases_Bool}
+use Rattle.std.proofs.Common.{◌≡◌, ◌≢◌, ℕ, ◌+◌, ◌-◌, ◌<◌, ◌≤◌, ◌==◌, true, false, List, [], ◌∷◌, length, refl, sym, inl, inr, arith}
+use Rattle.std.proofs.lemmas.Bool.{cases_Bool, lt-ltb}
 use Rattle.std.proofs.lemmas.Bool.Decides.{nat_tests}
 use Rattle.yaml_scan_model.specs.Marks.{byte, break_of, ends_of, break_width, ends_break, is_blank}
 use Rattle.yaml_scan_model.specs.Breaks.{break_value, feed_at}
 use Rattle.yaml_scan_model.proofs.MarksLemmas.{widths, one, two, three}
-
-positive : (n : ℕ) → 0 < n → nat_lt 0 n ≡ true
-positive n h = grind (arith, nat_tests)
 
 pub value_three : (text : List ℕ) (p : ℕ) → break_width text p ≡ 3 → break_value text p ≡ 0xE2 ∷ 0x80 ∷ byte text (p + 2) ∷ []
 unfolding break_value
@@ -28,10 +25,10 @@ pub feed_second : (text : List ℕ) (p : ℕ) → break_width text p ≡ 3 → b
 feed_second text p w h = let e : byte text (p + 2) ≡ 169 = second _ _ _ w h in rw (value_three text p w, w, e) refl
 
 pub feed_other : (text : List ℕ) (p : ℕ) → 0 < break_width text p → break_width text p ≢ 3 → 10 ∷ [] ≡ feed_at text p
-feed_other text p w h = rw (value_other text p h, positive (break_width text p) w) refl
+feed_other text p w h = rw (value_other text p h, lt-ltb 0 (break_width text p) w) refl
 
 pub feed_some : (text : List ℕ) (p : ℕ) → 0 < break_width text p → feed_at text p ≡ break_value text p
-feed_some text p h = rw (positive (break_width text p) h) refl
+feed_some text p h = rw (lt-ltb 0 (break_width text p) h) refl
 
 pub value_long : (text : List ℕ) (p : ℕ) → 0 < length (break_value text p)
 unfolding break_value

@@ -1,6 +1,6 @@
 -- Runs of printed bytes: printed ASCII, the space too.
 use Rattle.std.proofs.Common.{◌≡◌, ℕ, zero, suc, ◌+◌, ◌-◌, ◌<◌, ◌≤◌, ◌==◌, ◌&&◌, ◌||◌, nat_lt, not, Bool, true, false, List, length, refl, inl, inr, ◌∙◌, sym, arith, add-one, true≢false}
-use Rattle.std.proofs.lemmas.Bool.{cases_Bool, cases_lt}
+use Rattle.std.proofs.lemmas.Bool.{cases_Bool, cases_lt, and_parts}
 use Rattle.std.proofs.lemmas.Bool.Decides.{nat_tests}
 use Rattle.yaml_scan_model.specs.Marks.{byte, break_of, break_width, splits_break, starts, line_at, column_at}
 use Rattle.yaml_scan_model.specs.Runs.{is_text, is_printed, are_printed}
@@ -79,10 +79,6 @@ printed_start text p q forward each =
     let count : p + (q - p) ≡ q = omega arith in
     rw count at (printed_run (q - p) text p p (run_start is_text text p) (λ k after less. each k after (omega arith)))
 
-both : (a b : Bool) → (a && b) ≡ true → (a ≡ true) × (b ≡ true)
-both true b h = (refl, h)
-both false b h = cc
-
 -- the byte behind
 pub printed_more : (n : ℕ) (text : List ℕ) (p : ℕ) (row own : Bool) → row ≡ are_printed n text p → own ≡ is_printed (byte text (p + n)) → (row && own) ≡ are_printed (n + 1) text p
 unfolding are_printed
@@ -93,7 +89,7 @@ pub printed_each : (n : ℕ) (text : List ℕ) (p : ℕ) → are_printed n text 
 unfolding are_printed
 printed_each zero text p h k after before = absurd (omega arith)
 printed_each (suc n) text p h k after before =
-    let (front, last) = both (are_printed n text p) (is_printed (byte text (p + n))) h in
+    let (front, last) = and_parts (are_printed n text p) (is_printed (byte text (p + n))) h in
     elim (cases_lt k (p + n)) [
       | inl less ↦ printed_each n text p front k after less
       | inr more ↦ let same : k ≡ p + n = omega arith in rw same last

@@ -136,10 +136,6 @@ bracket_ends level text p h =
 pub own_mark : (text : List ℕ) (p : ℕ) (m : yaml_mark_t) → m ≡ mark_at text p → (m ≡ mark_at text m.index) × (m.index ≡ p)
 own_mark text p m h = rw h (refl, refl)
 
-pub both_true : (x y : Bool) → (x && y) ≡ true → (x ≡ true) × (y ≡ true)
-both_true true y h = (refl, h)
-both_true false y h = cc
-
 pub some_quote : (quote b : ℕ) → b ≡ quote → (quote ≡ 34) ⊎ (quote ≡ 39) → (b ≡ 34) ⊎ (b ≡ 39)
 some_quote quote b e q = rw e q
 
@@ -256,9 +252,6 @@ line_in text p m new place r x e f h = subst (λ (t : List ℕ). ReadsPlain t p 
 
 pub feed_breaks : (b c d : ℕ) → b ≡ 10 → 0 < break_of b c d
 feed_breaks b c d h = rw (feed_width b c d h) (omega arith)
-
-pub less_of : (a b : ℕ) → nat_lt a b ≡ true → a < b
-less_of a b h = grind (arith, nat_tests)
 
 pub no_space : (b : ℕ) → is_blank b ≡ false → (b == 32) ≡ false
 no_space b h = grind (arith, nat_tests)

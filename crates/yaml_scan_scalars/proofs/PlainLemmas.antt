@@ -1,8 +1,9 @@
 -- Plain scalars, a step at a time.
 use Rattle.std.proofs.Common.{◌≡◌, ℕ, zero, suc, ◌+◌, ◌-◌, ◌<◌, ◌≤◌, Bool, true, false, List, [], ◌∷◌, length, take, Result, Ok, Err, refl, sym, ap, ◌∙◌, inl, inr, ◌==◌, nat_lt, ◌||◌, ◌&&◌, not, if◌then◌else◌, arith, add-one}
-use Rattle.std.proofs.lemmas.Bool.{cases_lt, true≢false}
+use Rattle.std.proofs.lemmas.Bool.{cases_lt, true≢false, lt-ltb}
 use Rattle.std.proofs.lemmas.Bool.Decides.{nat_tests}
 use Rattle.std.proofs.lemmas.List.{take_all}
+use Rattle.std.proofs.Math.Bool.{or-false, or-true}
 use Rattle.yaml_scan_scalars.specs.Pieces.{Piece, Kept, Blank, Break, value}
 use Rattle.yaml_scan_scalars.specs.Resume.{resume}
 use Rattle.yaml_scan_model.specs.Marks.{Place, byte, mark_at, break_width, ends_break, is_blank, column_at}
@@ -20,14 +21,6 @@ use Rattle.yaml_scan_scalars.specs.Joined.{joined, IsJoining, Steps, ReadsPlain}
 use Rattle.yaml_scan_model.proofs.MarksLemmas.{within, past_break}
 use Rattle.yaml_scan_model.proofs.BreaksLemmas.{end_not_blank, last_of}
 use Rattle.yaml_scan_scalars.proofs.FoldingLemmas.{end_line}
-
-or_false : (b : Bool) → (b || false) ≡ b
-or_false true = refl
-or_false false = refl
-
-or_true : (b : Bool) → (b || true) ≡ true
-or_true true = refl
-or_true false = refl
 
 blank_parts : (old : Joining) (f : Folding) (b q e place : ℕ) (broke : Bool) (ps : List Piece) → old.kept ≤ length old.folding.done.items
     → ((qs : List Piece) → resume f qs ≡ resume old.folding (Blank b ∷ qs))
@@ -50,7 +43,7 @@ break_parts : (old : Joining) (f : Folding) (b : List ℕ) (q e place : ℕ) (br
     → joined (record { folding = f; kept = old.kept; end = old.end; broke = true; white = true }) (record { pieces = ps; end = e; place = place; broke = broke })
     ≡ joined old (with_piece (Break b) q (record { pieces = ps; end = e; place = place; broke = broke }))
 unfolding joined
-break_parts old f b q e place broke [] k h g = rw (g old.kept k, or_true old.broke) refl
+break_parts old f b q e place broke [] k h g = rw (g old.kept k, or-true old.broke) refl
 break_parts old f b q e place broke (x ∷ xs) k h g = rw (h (x ∷ xs)) refl
 
 pub join_break : (old : Joining) (f : Folding) (b : List ℕ) (q : ℕ) (w : Words) → old.kept ≤ length old.folding.done.items
@@ -130,13 +123,10 @@ seat_break text p h =
 
 -- what stands at a place
 
-positive : (n : ℕ) → 0 < n → nat_lt 0 n ≡ true
-positive n h = grind (arith, nat_tests)
-
 pub spot_break : (flow : Bool) (level : ℕ) (text : List ℕ) (p : ℕ) → 0 < break_width text p
     → spot_at flow level text p ≡ Takes (Break (feed_at text p)) (p + break_width text p)
 unfolding spot_at
-spot_break flow level text p h = rw (positive _ h) refl
+spot_break flow level text p h = rw (lt-ltb 0 _ h) refl
 
 pub spot_blank : (flow : Bool) (level : ℕ) (text : List ℕ) (p : ℕ) → break_width text p ≡ 0 → is_blank (byte text p) ≡ true
     → (byte text p == 9 && (leads text p && nat_lt (column_at text p) level)) ≡ false
@@ -217,7 +207,7 @@ done : (text : List ℕ) (start : yaml_mark_t) (p : ℕ) (old new : Joining) (pl
 unfolding joined
 done text start p old new place (Takes x q) more h = absurd h
 done text start p old new place (Faulty w) more h = absurd h
-done text start p old new place Ends more (e, f) = (e, f, rw (or_false old.broke) refl)
+done text start p old new place Ends more (e, f) = (e, f, rw (or-false old.broke) refl)
 
 pub turn_done : (flow : Bool) (level : ℕ) (text : List ℕ) (start : yaml_mark_t) (p n : ℕ) (old new : Joining) (place : Place)
     → Steps text start p old new place (Ok false) (spot_at flow level text p)

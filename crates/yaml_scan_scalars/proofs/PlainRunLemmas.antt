@@ -1,6 +1,6 @@
 -- Runs of ordinary bytes in plain scalars.
 use Rattle.std.proofs.Common.{◌≡◌, ◌≢◌, ℕ, zero, suc, ◌+◌, ◌-◌, ◌<◌, ◌≤◌, ◌==◌, ◌&&◌, if◌then◌else◌, Bool, true, false, List, [], ◌∷◌, ◌++◌, length, Result, Ok, Err, refl, sym, ap, ◌∙◌, inl, inr, ◌⊎◌, arith}
-use Rattle.std.proofs.lemmas.Bool.{cases_Bool}
+use Rattle.std.proofs.lemmas.Bool.{cases_Bool, ne_eqb}
 use Rattle.std.proofs.lemmas.Bool.Decides.{nat_tests}
 use Rattle.yaml_scan_model.specs.Marks.{Place, byte, ends_break, is_blank}
 use Rattle.yaml_scan_model.specs.Wrong.{Wrong}
@@ -73,19 +73,16 @@ no_bracket : (b : ℕ) → is_ordinary b ≡ true → is_bracket b ≡ false
 unfolding is_ordinary is_bracket
 no_bracket b h = grind (arith, nat_tests)
 
-differs : (b n : ℕ) → b ≢ n → (b == n) ≡ false
-differs b n h = grind (arith, nat_tests)
-
 ends_ordinary : (flow : Bool) (level : ℕ) (text : List ℕ) (p : ℕ) → is_ordinary (byte text p) ≡ true → leads text p ≡ false → ends_at flow level text p ≡ false
 unfolding ends_at
 ends_ordinary true level text p h l =
     let o = ordinary_is (byte text p) h in
     let some = o.some in
-    rw (ordinary_no_mark text p h, differs (byte text p) 0 (omega arith), differs (byte text p) 35 o.no_hash, differs (byte text p) 58 o.no_colon, no_bracket (byte text p) h) refl
+    rw (ordinary_no_mark text p h, ne_eqb (byte text p) 0 (omega arith), ne_eqb (byte text p) 35 o.no_hash, ne_eqb (byte text p) 58 o.no_colon, no_bracket (byte text p) h) refl
 ends_ordinary false level text p h l =
     let o = ordinary_is (byte text p) h in
     let some = o.some in
-    rw (ordinary_no_mark text p h, differs (byte text p) 0 (omega arith), differs (byte text p) 35 o.no_hash, differs (byte text p) 58 o.no_colon, l) refl
+    rw (ordinary_no_mark text p h, ne_eqb (byte text p) 0 (omega arith), ne_eqb (byte text p) 35 o.no_hash, ne_eqb (byte text p) 58 o.no_colon, l) refl
 
 no_colon_test : (flow : Bool) (b : ℕ) (x : Bool) → b ≢ 58 → (flow && (b == 58 && x)) ≡ false
 no_colon_test flow b x h = grind (arith, nat_tests)

@@ -1,6 +1,7 @@
 -- Quoted scalars, a step at a time.
-use Rattle.std.proofs.Common.{◌≡◌, ◌≢◌, ℕ, zero, suc, ◌+◌, ◌<◌, ◌≤◌, true, false, List, [], ◌∷◌, ◌++◌, length, Result, Ok, Err, refl, ap, inl, inr, ◌⊎◌, ◌==◌, ◌&&◌, nat_lt, arith}
+use Rattle.std.proofs.Common.{◌≡◌, ◌≢◌, ℕ, zero, suc, ◌+◌, ◌<◌, ◌≤◌, true, false, List, [], ◌∷◌, ◌++◌, length, Result, Ok, Err, refl, ap, inl, inr, ◌⊎◌, ◌==◌, ◌&&◌, arith}
 use Rattle.std.proofs.lemmas.Bool.Decides.{nat_tests}
+use Rattle.std.proofs.lemmas.Bool.{ne_eqb, lt-ltb}
 use Rattle.yaml_scan_model.specs.declared.record.yaml_mark_t.{yaml_mark_t}
 use Rattle.yaml_scan_model.specs.declared.problem.ScanError.{ScanError}
 use Rattle.yaml_scan_model.specs.declared.problem.ScanError.TheVariants as errors
@@ -97,12 +98,6 @@ doubled_next quote next h = grind (arith, nat_tests)
 
 -- what stands inside the quotes
 
-differs : (b n : ℕ) → b ≢ n → (b == n) ≡ false
-differs b n h = grind (arith, nat_tests)
-
-positive : (n : ℕ) → 0 < n → nat_lt 0 n ≡ true
-positive n h = grind (arith, nat_tests)
-
 pub standing_indicator : (quote : ℕ) (text : List ℕ) (p : ℕ) → is_document_indicator text p ≡ true → standing_at quote text p ≡ in_quotes problems.DocumentIndicator p
 unfolding standing_at
 standing_indicator quote text p h = rw h refl
@@ -117,7 +112,7 @@ same b n h = grind (arith, nat_tests)
 pub standing_quote : (quote : ℕ) (text : List ℕ) (p : ℕ) → is_document_indicator text p ≡ false → byte text p ≢ 0 → byte text p ≡ quote → standing_at quote text p ≡ quote_at quote text p
 unfolding standing_at
 standing_quote quote text p h z e =
-    let f : (byte text p == 0) ≡ false = differs (byte text p) 0 z in
+    let f : (byte text p == 0) ≡ false = ne_eqb (byte text p) 0 z in
     let g : (byte text p == quote) ≡ true = same (byte text p) quote e in
     rw (h, f, g) refl
 
@@ -125,32 +120,32 @@ pub standing_break : (quote : ℕ) (text : List ℕ) (p : ℕ) → is_document_i
     → standing_at quote text p ≡ Pieces (Break (feed_at text p) ∷ []) (p + break_width text p)
 unfolding standing_at
 standing_break quote text p h z e w =
-    let f : (byte text p == 0) ≡ false = differs (byte text p) 0 z in
-    let g : (byte text p == quote) ≡ false = differs (byte text p) quote e in
-    rw (h, f, g, positive (break_width text p) w) refl
+    let f : (byte text p == 0) ≡ false = ne_eqb (byte text p) 0 z in
+    let g : (byte text p == quote) ≡ false = ne_eqb (byte text p) quote e in
+    rw (h, f, g, lt-ltb 0 (break_width text p) w) refl
 
 pub standing_blank : (quote : ℕ) (text : List ℕ) (p : ℕ) → is_document_indicator text p ≡ false → byte text p ≢ 0 → byte text p ≢ quote → break_width text p ≡ 0 → is_blank (byte text p) ≡ true
     → standing_at quote text p ≡ Pieces (Blank (byte text p) ∷ []) (p + 1)
 unfolding standing_at
 standing_blank quote text p h z e w k =
-    let f : (byte text p == 0) ≡ false = differs (byte text p) 0 z in
-    let g : (byte text p == quote) ≡ false = differs (byte text p) quote e in
+    let f : (byte text p == 0) ≡ false = ne_eqb (byte text p) 0 z in
+    let g : (byte text p == quote) ≡ false = ne_eqb (byte text p) quote e in
     rw (h, f, g, w, k) refl
 
 pub standing_escape : (quote : ℕ) (text : List ℕ) (p : ℕ) → is_document_indicator text p ≡ false → byte text p ≢ 0 → byte text p ≢ quote → break_width text p ≡ 0 → is_blank (byte text p) ≡ false
     → (quote == 34 && byte text p == 92) ≡ true → standing_at quote text p ≡ escape_at text p
 unfolding standing_at
 standing_escape quote text p h z e w k x =
-    let f : (byte text p == 0) ≡ false = differs (byte text p) 0 z in
-    let g : (byte text p == quote) ≡ false = differs (byte text p) quote e in
+    let f : (byte text p == 0) ≡ false = ne_eqb (byte text p) 0 z in
+    let g : (byte text p == quote) ≡ false = ne_eqb (byte text p) quote e in
     rw (h, f, g, w, k, x) refl
 
 pub standing_kept : (quote : ℕ) (text : List ℕ) (p : ℕ) → is_document_indicator text p ≡ false → byte text p ≢ 0 → byte text p ≢ quote → break_width text p ≡ 0 → is_blank (byte text p) ≡ false
     → (quote == 34 && byte text p == 92) ≡ false → standing_at quote text p ≡ Pieces (Kept (byte text p ∷ []) ∷ []) (p + 1)
 unfolding standing_at
 standing_kept quote text p h z e w k x =
-    let f : (byte text p == 0) ≡ false = differs (byte text p) 0 z in
-    let g : (byte text p == quote) ≡ false = differs (byte text p) quote e in
+    let f : (byte text p == 0) ≡ false = ne_eqb (byte text p) 0 z in
+    let g : (byte text p == quote) ≡ false = ne_eqb (byte text p) quote e in
     rw (h, f, g, w, k, x) refl
 
 pub inside : (text : List ℕ) (p : ℕ) → byte text p ≢ 0 → p < length text

@@ -1,6 +1,6 @@
 -- Runs of ordinary bytes.
 use Rattle.std.proofs.Common.{◌≡◌, ◌≢◌, ℕ, zero, suc, ◌+◌, ◌-◌, ◌<◌, ◌≤◌, ◌==◌, ◌&&◌, ◌||◌, Bool, true, false, List, [], ◌∷◌, ◌++◌, length, take, drop, Result, Ok, Err, refl, sym, ap, ◌∙◌, inl, inr, ◌⊎◌, not, append_assoc, arith}
-use Rattle.std.proofs.lemmas.Bool.{cases_Bool}
+use Rattle.std.proofs.lemmas.Bool.{cases_Bool, or_right, not-true}
 use Rattle.std.proofs.lemmas.Bool.Decides.{nat_tests}
 use Rattle.std.proofs.lemmas.List.{drop_more, length-drop, length-take-le}
 use Rattle.yaml_scan_model.specs.Marks.{Place, byte, break_of, ends_of, is_blank}
@@ -82,13 +82,9 @@ pub ordinary_in : (text : List ℕ) (p : ℕ) → is_ordinary (byte text p) ≡ 
 unfolding in_run
 ordinary_in text p h = rw h refl
 
-or_more : (a b : Bool) → b ≡ true → (a || b) ≡ true
-or_more true b h = refl
-or_more false b h = h
-
 pub spaced_in : (text : List ℕ) (p : ℕ) → is_spaced text p ≡ true → in_run text p ≡ true
 unfolding in_run
-spaced_in text p h = or_more (is_ordinary (byte text p)) (is_spaced text p) h
+spaced_in text p h = or_right (is_ordinary (byte text p)) (is_spaced text p) h
 
 -- bytes of the text
 
@@ -242,12 +238,8 @@ starts_bytes text p (suc d) h = rw (bytes_more text p d) (starts_first (byte tex
 is_kept : (b : ℕ) → (b == 32) ≡ false → piece_of b ≡ Kept (b ∷ [])
 is_kept b h = rw h refl
 
-not_true : (b : Bool) → not b ≡ true → b ≡ false
-not_true true h = cc
-not_true false h = refl
-
 kept_some : (b : ℕ) (bs : List ℕ) (ps : List Piece) → ends_kept (b ∷ bs) ≡ true → is_empty (lines (run_pieces (b ∷ bs) ++ ps)).first ≡ false
-kept_some b [] ps h = rw (not_true (b == 32) h) refl
+kept_some b [] ps h = rw (not-true (b == 32) h) refl
 kept_some b (c ∷ bs) ps h = elim (cases_Bool (b == 32)) [
   | inl s ↦ let more = kept_some c bs ps h in rw s more
   | inr n ↦ rw n refl
@@ -271,7 +263,7 @@ value_blanks (b ∷ bl) ps h = value_blank b (blanks_of bl ++ ps) (blanks_some b
 pub value_run : (bs : List ℕ) (ps : List Piece) → ends_kept bs ≡ true → value (run_pieces bs ++ ps) ≡ bs ++ value ps
 value_run [] ps h = refl
 value_run (b ∷ []) ps h =
-    let n = not_true (b == 32) h in
+    let n = not-true (b == 32) h in
     rw n (value-kept [] (b ∷ []) ps)
 value_run (b ∷ c ∷ bs) ps h =
     let more = value_run (c ∷ bs) ps h in
@@ -323,7 +315,7 @@ resume_line f b bs ps g h =
 pub resume_run : (f : Folding) (b : ℕ) (bs : List ℕ) (ps : List Piece) → (f.gap ≡ gaps.Line) ⊎ (starts_kept (b ∷ bs) ≡ true) → ends_kept (b ∷ bs) ≡ true
     → resume f (Kept (b ∷ bs) ∷ ps) ≡ resume f (run_pieces (b ∷ bs) ++ ps)
 resume_run f b bs ps (inl g) h = resume_line f b bs ps g h
-resume_run f b bs ps (inr s) h = resume_kept f b bs ps (not_true (b == 32) s) (ends_tail b bs h)
+resume_run f b bs ps (inr s) h = resume_kept f b bs ps (not-true (b == 32) s) (ends_tail b bs h)
 
 pub resume_bytes : (f : Folding) (bs : List ℕ) (ps : List Piece) → (f.gap ≡ gaps.Line) ⊎ (starts_kept bs ≡ true) → ends_kept bs ≡ true → 0 < length bs
     → resume f (Kept bs ∷ ps) ≡ resume f (run_pieces bs ++ ps)

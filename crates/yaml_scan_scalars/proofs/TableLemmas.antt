@@ -2,7 +2,7 @@
 use Rattle.std.proofs.Common.{◌≡◌, ℕ, zero, suc, ◌+◌, ◌<◌, ◌≤◌, if◌then◌else◌, Bool, true, false, ◌&&◌, ◌||◌, ◌==◌, ◌-◌, ◌∙◌, List, length, nat_lt, refl, sym, inl, inr, ◌⊎◌, arith}
 use Rattle.std.proofs.lemmas.Bool.Decides.{nat_tests}
 use Rattle.std.specs.Bool.{beq}
-use Rattle.std.proofs.lemmas.Bool.{cases_Bool, cases_eq, cases_lt, and_parts, true≢false}
+use Rattle.std.proofs.lemmas.Bool.{cases_Bool, cases_eq, cases_lt, and_parts, true≢false, or_cases, or_parts}
 use Rattle.yaml_scan_model.specs.Marks.{byte, break_of, ends_break, splits_break, starts, line_at, column_at}
 use Rattle.yaml_scan_model.proofs.MarksLemmas.{within, end_next, split_next, line_more, column_more, column_same}
 use Rattle.yaml_scan_scalars.specs.Ordinary.{is_ordinary, is_narrow, is_spaced, in_run, IsRun}
@@ -51,9 +51,6 @@ pub ordinary_end : is_ordinary 0 ≡ false
 unfolding is_ordinary
 ordinary_end = refl
 
-pub no_less : (a b : ℕ) → b ≤ a → nat_lt a b ≡ false
-no_less a b h = grind (arith, nat_tests)
-
 -- behind the end
 pub past_ordinary : (text : List ℕ) (p : ℕ) → length text ≤ p → is_ordinary (byte text p) ≡ false
 past_ordinary text p h =
@@ -97,14 +94,6 @@ past_spaced text p h =
       | inr none ↦ let z : byte text p ≡ 0 = omega arith in rw z refl
     ]
 
-or_cases : (a b : Bool) → (a || b) ≡ true → (a ≡ true) ⊎ (b ≡ true)
-or_cases true b h = inl refl
-or_cases false b h = inr h
-
-first_false : (a b : Bool) → (a || b) ≡ false → a ≡ false
-first_false true b h = cc
-first_false false b h = refl
-
 -- a byte of ASCII in a run
 pub record Passes (text : List ℕ) (p : ℕ) : Type 0 where
   pub each : in_run text p ≡ true
@@ -145,7 +134,7 @@ run_of text p q after each stops = record {
   same = refl;
   after = after;
   each = each;
-  last = λ l. last_ordinary text q (omega arith) (each (q - 1) (omega arith) (omega arith)) (first_false _ _ stops);
+  last = λ l. last_ordinary text q (omega arith) (each (q - 1) (omega arith) (omega arith)) (or_parts _ _ stops).0;
 }
 
 -- narrow bytes, one after another

@@ -3,11 +3,8 @@ use Rattle.std.proofs.Common.{◌≡◌, ◌≢◌, ℕ, zero, suc, ◌+◌, ◌
 use Rattle.std.proofs.lemmas.Bool.Decides.{nat_tests}
 use Rattle.std.proofs.lemmas.List.{take_more, take_all, take-append-drop, take-append-le, drop-take, get_or-drop, length-take-le, append_assoc, get_or_append_left}
 use Rattle.std.proofs.Math.Seq.{take-append-add}
+use Rattle.std.proofs.lemmas.Bool.{and_parts}
 use Rattle.yaml_scan_types.specs.Ends.{bytes_at, same_run}
-
-both : (a b : Bool) → (a && b) ≡ true → (a ≡ true) × (b ≡ true)
-both true b h = (refl, h)
-both false b h = cc
 
 -- ---- parts
 
@@ -55,7 +52,7 @@ same_bytes : (n : ℕ) (a : List ℕ) (p : ℕ) (b : List ℕ) (q : ℕ) → sam
 unfolding same_run bytes_at
 same_bytes zero a p b q h = refl
 same_bytes (suc n) a p b q h =
-    let s = both (same_run n a p b q) (slice_index a (p + n) == slice_index b (q + n)) h in
+    let s = and_parts (same_run n a p b q) (slice_index a (p + n) == slice_index b (q + n)) h in
     let last : slice_index a (p + n) ≡ slice_index b (q + n) = grind (arith, nat_tests, s.1) in
     rw (same_bytes n a p b q s.0, last) refl
 
@@ -64,7 +61,7 @@ pub stands : (k : ℕ) (left text : List ℕ) → k ≤ length text → length t
     → (same_run k left 0 text 0 && same_run k left (length text - k) text (length text - k)) ≡ true → left ≡ text ++ drop (length text) left
 stands k left text least most long h =
     let n : ℕ = length text in
-    let s = both (same_run k left 0 text 0) (same_run k left (n - k) text (n - k)) h in
+    let s = and_parts (same_run k left 0 text 0) (same_run k left (n - k) text (n - k)) h in
     let own : take n left ≡ text =
     sym (ends_are k n left least most long)
     ∙ ap (λ (z : List ℕ). take (n - k) z ++ bytes_at k left (n - k)) (same_bytes k left 0 text 0 s.0)

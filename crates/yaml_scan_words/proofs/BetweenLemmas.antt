@@ -1,6 +1,6 @@
 -- Gaps between lexemes, a step at a time.
 use Rattle.std.proofs.Common.{◌≡◌, ℕ, zero, suc, ◌+◌, ◌<◌, ◌≤◌, ◌==◌, ◌&&◌, ◌||◌, nat_lt, if◌then◌else◌, Bool, true, false, not, List, length, refl, sym, ap, ◌∙◌, inl, inr, ◌⊎◌, arith}
-use Rattle.std.proofs.lemmas.Bool.{cases_Bool, true≢false}
+use Rattle.std.proofs.lemmas.Bool.{cases_Bool, and_parts, eqb-true, ltb-true}
 use Rattle.std.proofs.lemmas.Bool.Decides.{nat_tests}
 use Rattle.yaml_scan_model.specs.Marks.{byte, break_of, break_width}
 use Rattle.yaml_scan_model.specs.Classes.{is_bom}
@@ -13,16 +13,6 @@ use Rattle.yaml_scan_words.specs.Between.{Step, step_at, is_skipped, Gap, with_b
 
 bom_parts : (a b c : ℕ) → (a == 0xEF && (b == 0xBB && c == 0xBF)) ≡ true → (a ≡ 0xEF) × (b ≡ 0xBB) × (c ≡ 0xBF)
 bom_parts a b c h = (grind (arith, nat_tests), grind (arith, nat_tests), grind (arith, nat_tests))
-
-second_of : (a b : Bool) → (a && b) ≡ true → b ≡ true
-second_of true b h = h
-second_of false b h = absurd (true≢false (sym h))
-
-equal_of : (a b : ℕ) → (a == b) ≡ true → a ≡ b
-equal_of a b h = grind (arith, nat_tests)
-
-less_of : (a b : ℕ) → nat_lt a b ≡ true → a < b
-less_of a b h = grind (arith, nat_tests)
 
 break_first : (b c d : ℕ) → 0 < break_of b c d → 0 < b
 unfolding break_of
@@ -107,7 +97,7 @@ skipped_here tabs text p h =
     ]
 
 pub bom_first : (text : List ℕ) (p : ℕ) → (p == 0 && is_bom text p) ≡ true → is_bom text p ≡ true
-bom_first text p h = second_of (p == 0) (is_bom text p) h
+bom_first text p h = (and_parts (p == 0) (is_bom text p) h).1
 
 hash_inside : (text : List ℕ) (p : ℕ) → byte text p ≡ 35 → (p < run_end runs.Line text p) × (p < length text)
 hash_inside text p h =
@@ -124,9 +114,9 @@ step_moves tabs text p =
       | inr h ↦ elim (cases_Bool (is_skipped tabs text p)) [
         | inl i ↦ let (some, none) = skipped_here tabs text p i in rw (h, i) (inr (omega arith, within text p some))
         | inr i ↦ elim (cases_Bool (byte text p == 35)) [
-          | inl j ↦ rw (h, i, j) (inr (hash_inside text p (equal_of _ _ j)))
+          | inl j ↦ rw (h, i, j) (inr (hash_inside text p (eqb-true _ _ j)))
           | inr j ↦ elim (cases_Bool (nat_lt 0 (break_width text p))) [
-            | inl k ↦ let some : 0 < break_width text p = less_of _ _ k in rw (h, i, j, k) (inr (omega arith, break_inside text p some))
+            | inl k ↦ let some : 0 < break_width text p = ltb-true _ _ k in rw (h, i, j, k) (inr (omega arith, break_inside text p some))
             | inr k ↦ rw (h, i, j, k) (inl refl)
           ]
         ]

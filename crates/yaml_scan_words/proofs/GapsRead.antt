@@ -1,6 +1,6 @@
 -- Gaps that are written.
-use Rattle.std.proofs.Common.{◌≡◌, ◌≢◌, ℕ, zero, suc, ◌+◌, ◌<◌, ◌≤◌, ◌==◌, ◌&&◌, ◌||◌, nat_lt, Bool, true, false, not, List, [], ◌∷◌, length, refl, sym, ap, ◌∙◌, inl, inr, ◌⊎◌, arith}
-use Rattle.std.proofs.lemmas.Bool.{true≢false}
+use Rattle.std.proofs.Common.{◌≡◌, ◌≢◌, ℕ, zero, suc, ◌+◌, ◌<◌, ◌≤◌, ◌==◌, ◌&&◌, ◌||◌, nat_lt, Bool, true, false, not, List, [], ◌∷◌, length, refl, ap, ◌∙◌, inl, inr, ◌⊎◌, arith}
+use Rattle.std.proofs.lemmas.Bool.{ne_eqb, lt-ltb, not-true, and_parts}
 use Rattle.std.proofs.lemmas.Bool.Decides.{nat_tests}
 use Rattle.yaml_scan_model.specs.Marks.{byte, break_of, break_width}
 use Rattle.yaml_scan_model.specs.Classes.{is_bom}
@@ -16,12 +16,6 @@ not_first false a b c h = refl
 
 no_bom : (text : List ℕ) (p : ℕ) → byte text p ≢ 0xEF → (p == 0 && is_bom text p) ≡ false
 no_bom text p h = not_first (p == 0) (byte text p) (byte text (p + 1)) (byte text (p + 2)) h
-
-differs : (b n : ℕ) → b ≢ n → (b == n) ≡ false
-differs b n h = grind (arith, nat_tests)
-
-positive : (n : ℕ) → 0 < n → nat_lt 0 n ≡ true
-positive n h = grind (arith, nat_tests)
 
 step_space : (tabs : Bool) (text : List ℕ) (p : ℕ) → byte text p ≡ 32 → step_at tabs text p ≡ record { standing = standings.Blank; place = p + 1 }
 unfolding step_at
@@ -43,34 +37,26 @@ step_break tabs text p h =
     let (bom, space, tab, hash) = break_parts _ _ _ h in
     let first : (p == 0 && is_bom text p) ≡ false = no_bom text p bom in
     let second : is_skipped tabs text p ≡ false = no_skip tabs (byte text p) space tab in
-    let third : (byte text p == 35) ≡ false = differs (byte text p) 35 hash in
-    rw (first, second, third, positive (break_width text p) h) refl
-
-negated : (a : Bool) → not a ≡ true → a ≡ false
-negated true h = absurd (true≢false (sym h))
-negated false h = refl
-
-pair : (a b : Bool) → (a && b) ≡ true → (a ≡ true) × (b ≡ true)
-pair true b h = (refl, h)
-pair false b h = absurd (true≢false (sym h))
+    let third : (byte text p == 35) ≡ false = ne_eqb (byte text p) 35 hash in
+    rw (first, second, third, lt-ltb 0 (break_width text p) h) refl
 
 unequal : (b n : ℕ) → not (b == n) ≡ true → b ≢ n
 unequal b n h = grind (arith, nat_tests)
 
 lexeme_parts : (b c : Bool) (d : ℕ) → (not (d == 32) && (not (d == 9) && (not (d == 35) && (not b && not c)))) ≡ true → (d ≢ 32) × (d ≢ 9) × (d ≢ 35) × (b ≡ false) × (c ≡ false)
 lexeme_parts b c d h =
-    let (space, h1) = pair (not (d == 32)) (not (d == 9) && (not (d == 35) && (not b && not c))) h in
-    let (tab, h2) = pair (not (d == 9)) (not (d == 35) && (not b && not c)) h1 in
-    let (hash, h3) = pair (not (d == 35)) (not b && not c) h2 in
-    let (none, first) = pair (not b) (not c) h3 in
-    (unequal d 32 space, unequal d 9 tab, unequal d 35 hash, negated b none, negated c first)
+    let (space, h1) = and_parts (not (d == 32)) (not (d == 9) && (not (d == 35) && (not b && not c))) h in
+    let (tab, h2) = and_parts (not (d == 9)) (not (d == 35) && (not b && not c)) h1 in
+    let (hash, h3) = and_parts (not (d == 35)) (not b && not c) h2 in
+    let (none, first) = and_parts (not b) (not c) h3 in
+    (unequal d 32 space, unequal d 9 tab, unequal d 35 hash, not-true b none, not-true c first)
 
 step_lexeme : (tabs : Bool) (text : List ℕ) (p : ℕ) → begins_lexeme text p ≡ true → step_at tabs text p ≡ record { standing = standings.Lexeme; place = p }
 unfolding step_at
 step_lexeme tabs text p h =
     let (space, tab, hash, none, first) = lexeme_parts (nat_lt 0 (break_width text p)) (p == 0 && is_bom text p) (byte text p) h in
     let second : is_skipped tabs text p ≡ false = no_skip tabs (byte text p) space tab in
-    let third : (byte text p == 35) ≡ false = differs (byte text p) 35 hash in
+    let third : (byte text p == 35) ≡ false = ne_eqb (byte text p) 35 hash in
     rw (first, second, third, none) refl
 
 lf_width : (c d : ℕ) → break_of 10 c d ≡ 1
@@ -128,7 +114,7 @@ returns k all n flow allowed text p [] few e h are stop room =
     let width : break_width text p ≡ 1 = rw e (cr_width (byte text (p + 1)) (byte text (p + 2)) (some_width _ _ _ none)) in
     single k all n flow allowed text p [] few width h are stop room
 returns k all n flow allowed text p (c ∷ cs) few e (f, h) are stop room =
-    let (front, back) = pair (c == 32 || (c == 10 || c == 13)) (are_gap cs) are in
+    let (front, back) = and_parts (c == 32 || (c == 10 || c == 13)) (are_gap cs) are in
     let two : p + 1 + 1 ≡ p + 2 = omega arith in
     let far : Has text (p + 2) cs = rw two at h in
     let end : p + 1 + suc (length cs) ≡ p + 2 + length cs = omega arith in
@@ -152,7 +138,7 @@ reads k n flow allowed text p [] few h are stop room =
     rw z (gap_stop n flow allowed text p p (step_lexeme (flow || not allowed) text p here) room)
 reads zero n flow allowed text p (b ∷ bs) few h are stop room = absurd (omega arith)
 reads (suc k) n flow allowed text p (b ∷ bs) few (e, h) are stop room =
-    let (front, back) = pair (b == 32 || (b == 10 || b == 13)) (are_gap bs) are in
+    let (front, back) = and_parts (b == 32 || (b == 10 || b == 13)) (are_gap bs) are in
     let end : p + suc (length bs) ≡ p + 1 + length bs = omega arith in
     let after : begins_lexeme text (p + 1 + length bs) ≡ true = rw end at stop in
     elim (byte_cases b front) [

@@ -1,6 +1,6 @@
 -- Names that are written.
-use Rattle.std.proofs.Common.{◌≡◌, ℕ, suc, ◌+◌, ◌<◌, ◌≤◌, ◌==◌, ◌&&◌, ◌||◌, Bool, true, false, List, [], ◌∷◌, length, Ok, refl, sym, ◌∙◌, inl, inr, arith}
-use Rattle.std.proofs.lemmas.Bool.{cases_Bool, true≢false}
+use Rattle.std.proofs.Common.{◌≡◌, ℕ, suc, ◌+◌, ◌<◌, ◌≤◌, ◌==◌, ◌||◌, true, false, List, [], ◌∷◌, length, Ok, refl, sym, ◌∙◌, inl, inr, arith}
+use Rattle.std.proofs.lemmas.Bool.{cases_Bool, true≢false, and_parts}
 use Rattle.std.proofs.lemmas.Bool.Decides.{nat_tests}
 use Rattle.yaml_scan_model.specs.declared.problem.Context.{Context}
 use Rattle.yaml_scan_model.specs.Marks.{byte, break_of, is_blank, is_blank_or_end}
@@ -11,10 +11,6 @@ use Rattle.yaml_scan_words.specs.Anchors.{anchor_at, is_name_end, may_end_name}
 use Rattle.yaml_scan_words.specs.Written.{HasAt, are_alphas}
 use Rattle.yaml_scan_words.proofs.RunsLemmas.{belongs_inside, run_more, run_stop}
 use Rattle.yaml_scan_words.proofs.HasLemmas.{Has, has, range_reads}
-
-pair : (a b : Bool) → (a && b) ≡ true → (a ≡ true) × (b ≡ true)
-pair true b h = (refl, h)
-pair false b h = absurd (true≢false (sym h))
 
 pub alpha_at : (text : List ℕ) (p b : ℕ) → byte text p ≡ b → is_alpha_byte b ≡ true → belongs runs.Alphas text p ≡ true
 unfolding belongs
@@ -32,7 +28,7 @@ alphas_run [] n text p h are stop room =
     let here : belongs runs.Alphas text p ≡ false = rw z at stop in
     rw z (run_stop n runs.Alphas text p here)
 alphas_run (b ∷ bs) n text p (e, h) are stop room =
-    let (front, back) = pair (is_alpha_byte b) (are_alphas bs) are in
+    let (front, back) = and_parts (is_alpha_byte b) (are_alphas bs) are in
     let end : p + suc (length bs) ≡ p + 1 + length bs = omega arith in
     let after : belongs runs.Alphas text (p + 1 + length bs) ≡ false = rw end at stop in
     let (m, more, same) = run_more n runs.Alphas text p (alpha_at text p b e front) room in
@@ -41,7 +37,7 @@ alphas_run (b ∷ bs) n text p (e, h) are stop room =
 pub alphas_inside : (name : List ℕ) (text : List ℕ) (p : ℕ) → Has text p name → are_alphas name ≡ true → p ≤ length text → p + length name ≤ length text
 alphas_inside [] text p h are l = omega arith
 alphas_inside (b ∷ bs) text p (e, h) are l =
-    let (front, back) = pair (is_alpha_byte b) (are_alphas bs) are in
+    let (front, back) = and_parts (is_alpha_byte b) (are_alphas bs) are in
     let here = belongs_inside runs.Alphas text p (alpha_at text p b e front) in
     let rest = alphas_inside bs text (p + 1) h back (omega arith) in
     omega arith
@@ -79,7 +75,7 @@ anchor_is_read context text p [] h some are stop = absurd (omega arith)
 anchor_is_read context text p (b ∷ bs) h some are stop =
     let q = p + 1 in
     let all = has text q (b ∷ bs) h in
-    let (front, back) = pair (is_alpha_byte b) (are_alphas bs) are in
+    let (front, back) = and_parts (is_alpha_byte b) (are_alphas bs) are in
     let here = belongs_inside runs.Alphas text q (alpha_at text q b all.0 front) in
     let run : run_end runs.Alphas text q ≡ q + length (b ∷ bs) = alphas_run (b ∷ bs) (length text) text q all are (name_stops text (q + length (b ∷ bs)) stop) (omega arith) in
     let inside = alphas_inside (b ∷ bs) text q all are (omega arith) in

@@ -1,7 +1,6 @@
 -- Where lexemes and gaps end: behind their start, and inside the text.
 use Rattle.std.proofs.Common.{◌≡◌, ℕ, zero, suc, ◌+◌, ◌-◌, ◌<◌, ◌≤◌, ◌==◌, ◌&&◌, ◌||◌, nat_lt, Bool, true, false, not, List, [], ◌∷◌, length, Option, Some, None, IsSome, Result, Ok, Err, refl, inl, inr, arith}
-use Rattle.std.proofs.lemmas.Bool.{cases_Bool}
-use Rattle.std.proofs.lemmas.Bool.Decides.{nat_tests}
+use Rattle.std.proofs.lemmas.Bool.{cases_Bool, eqb-true, ltb-true}
 use Rattle.yaml_scan_model.specs.declared.problem.Context.{Context}
 use Rattle.yaml_scan_model.specs.declared.problem.Context.TheVariants as contexts
 use Rattle.yaml_scan_model.specs.declared.problem.Problem.{Problem}
@@ -25,12 +24,6 @@ use Rattle.yaml_scan_words.specs.Directives.{ValueText, value_end, directive_pla
 use Rattle.yaml_scan_words.proofs.RunsLemmas.{run_within-ge, run_within-le}
 use Rattle.yaml_scan_words.proofs.BetweenLemmas.{bom_bytes, bom_first, skipped_here}
 use Rattle.yaml_scan_words.proofs.UrisLemmas.{uri_range, octet_digits}
-
-equal_of : (a b : ℕ) → (a == b) ≡ true → a ≡ b
-equal_of a b h = grind (arith, nat_tests)
-
-less_of : (a b : ℕ) → nat_lt a b ≡ true → a < b
-less_of a b h = grind (arith, nat_tests)
 
 -- a place behind another one or at it, and inside the text or at its end
 pub record IsFrom (text : List ℕ) (p q : ℕ) : Type 0 where
@@ -60,7 +53,7 @@ step_place tabs text p l =
           | inl j ↦ rw (h, i, j) (run_place runs.Line text p l)
           | inr j ↦ elim (cases_Bool (nat_lt 0 (break_width text p))) [
             | inl k ↦
-                let past = past_break text p (less_of _ _ k) in
+                let past = past_break text p (ltb-true _ _ k) in
                 rw (h, i, j, k) record { forward = omega arith; inside = past.inside }
             | inr k ↦ rw (h, i, j, k) record { forward = omega arith; inside = l }
           ]
@@ -178,7 +171,7 @@ bracketed_place : (text : List ℕ) (p : ℕ) (r : Result (List ℕ × ℕ) Wron
 bracketed_place text p (Ok u) h =
     elim (cases_Bool (byte text u.1 == 62)) [
       | inl e ↦
-          let b : byte text u.1 ≡ 62 = equal_of _ _ e in
+          let b : byte text u.1 ≡ 62 = eqb-true _ _ e in
           let here = within text u.1 (omega (arith, b)) in
           rw e record { forward = omega (arith, h.forward); inside = omega (arith, here) }
       | inr e ↦ rw e tt
@@ -203,12 +196,12 @@ parts_place text p l =
     let name = run_place runs.Alphas text (p + 1) (omega arith) in
     elim (cases_Bool (byte text (p + 1) == 60)) [
       | inl h ↦
-          let b : byte text (p + 1) ≡ 60 = equal_of _ _ h in
+          let b : byte text (p + 1) ≡ 60 = eqb-true _ _ h in
           let here = within text (p + 1) (omega (arith, b)) in
           rw h (lands_further tag_end text (p + 1) (p + 2) (verbatim_at text p) (omega arith) (bracketed_place text (p + 2) (some_uri_at contexts.TagUri true text (p + 2)) (some_uri_place contexts.TagUri true text (p + 2) (omega arith))))
       | inr h ↦ elim (cases_Bool (byte text (name_end text p) == 33)) [
         | inl i ↦
-            let b : byte text (name_end text p) ≡ 33 = equal_of _ _ i in
+            let b : byte text (name_end text p) ≡ 33 = eqb-true _ _ i in
             let here = within text (name_end text p) (omega (arith, b)) in
             rw (h, i) (lands_further tag_end text (p + 1) (name_end text p + 1) (named_at text p) (omega (arith, name.forward))
             (handle_place text (name_end text p + 1) _ (some_uri_at contexts.TagUri false text (name_end text p + 1)) (some_uri_place contexts.TagUri false text (name_end text p + 1) (omega (arith, here)))))
@@ -262,7 +255,7 @@ minor_place : (text : List ℕ) (major q : ℕ) → Lands value_end text q (mino
 minor_place text major q =
     elim (cases_Bool (byte text q == 46)) [
       | inl h ↦
-          let b : byte text q ≡ 46 = equal_of _ _ h in
+          let b : byte text q ≡ 46 = eqb-true _ _ h in
           let here = within text q (omega (arith, b)) in
           rw h (lands_further value_end text q (q + 1) (with_major major (number_at text (q + 1))) (omega arith)
           (major_place text (q + 1) major (number_at text (q + 1)) (number_place text (q + 1) (run_end runs.Digits text (q + 1)) (run_place runs.Digits text (q + 1) (omega (arith, here))))))
@@ -284,7 +277,7 @@ handle_between_place : (text : List ℕ) (p q : ℕ) → IsFrom text (p + 1) q �
 handle_between_place text p q f =
     elim (cases_Bool (byte text q == 33)) [
       | inl h ↦
-          let b : byte text q ≡ 33 = equal_of _ _ h in
+          let b : byte text q ≡ 33 = eqb-true _ _ h in
           let here = within text q (omega (arith, b)) in
           rw h record { forward = omega (arith, f.forward); inside = omega (arith, here) }
       | inr h ↦ elim (cases_Bool (q == p + 1)) [
@@ -297,7 +290,7 @@ tag_handle_place : (text : List ℕ) (p : ℕ) → Lands behind_bytes text p (ha
 tag_handle_place text p =
     elim (cases_Bool (byte text p == 33)) [
       | inl h ↦
-          let b : byte text p ≡ 33 = equal_of _ _ h in
+          let b : byte text p ≡ 33 = eqb-true _ _ h in
           let here = within text p (omega (arith, b)) in
           rw h (handle_between_place text p (run_end runs.Alphas text (p + 1)) (run_place runs.Alphas text (p + 1) (omega (arith, here))))
       | inr h ↦ rw h tt
@@ -361,7 +354,7 @@ break_place : (text : List ℕ) (p : ℕ) → p ≤ length text → Lands line_p
 break_place text p l =
     elim (cases_Bool (nat_lt 0 (break_width text p))) [
       | inl h ↦
-          let past = past_break text p (less_of _ _ h) in
+          let past = past_break text p (ltb-true _ _ h) in
           rw h record { forward = omega arith; inside = past.inside }
       | inr h ↦ elim (cases_Bool (byte text p == 0)) [
         | inl i ↦ rw (h, i) record { forward = omega arith; inside = l }

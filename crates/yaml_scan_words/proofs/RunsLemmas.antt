@@ -119,6 +119,3 @@ past_alphas text p past =
       | inl h ↦ let inside = belongs_inside runs.Alphas text p h in absurd {0} (omega arith)
       | inr h ↦ h
     ]
-
-pub no_less : (a b : ℕ) → b ≤ a → nat_lt a b ≡ false
-no_less a b h = grind (arith, nat_tests)

@@ -1,6 +1,6 @@
 -- Tags in a short form without escapes.
 use Rattle.std.proofs.Common.{◌≡◌, ℕ, zero, suc, ◌+◌, ◌-◌, ◌<◌, ◌≤◌, ◌==◌, ◌&&◌, Bool, true, false, not, List, [], ◌∷◌, length, take, drop, slice_range, Ok, refl, sym, inl, inr, ◌⊎◌, arith}
-use Rattle.std.proofs.lemmas.Bool.{cases_Bool, cases_lt, true≢false}
+use Rattle.std.proofs.lemmas.Bool.{cases_Bool, cases_lt, true≢false, eqb-true}
 use Rattle.std.proofs.lemmas.Bool.Decides.{nat_tests}
 use Rattle.std.proofs.lemmas.List.{length-drop, length-take-le}
 use Rattle.yaml_scan_model.specs.declared.problem.Context.TheVariants as contexts
@@ -35,9 +35,6 @@ within_kept (suc n) text p k after before =
           ]
       | inr e ↦ let less : k < p = rw e at before in absurd (omega arith)
     ]
-
-equal_of : (a b : ℕ) → (a == b) ≡ true → a ≡ b
-equal_of a b h = grind (arith, nat_tests)
 
 handle_cases : (text : List ℕ) (p : ℕ)
     → ((byte text (name_end text p) == 33) ≡ true × (handle_end text p ≡ name_end text p + 1)) ⊎ ((byte text (name_end text p) == 33) ≡ false × (handle_end text p ≡ p + 1))
@@ -79,7 +76,7 @@ short_printed text p q k first s after before =
           | inl name ↦ name_printed text p k (omega arith, omega arith) after name
           | inr last ↦
               let same : k ≡ name_end text p = omega arith in
-              let is = equal_of _ _ mark in
+              let is = eqb-true _ _ mark in
               rw same (omega arith, omega arith)
         ]
       ]

@@ -1,6 +1,6 @@
 -- Tags that are written.
-use Rattle.std.proofs.Common.{◌≡◌, ◌≢◌, ℕ, suc, ◌+◌, ◌<◌, ◌≤◌, ◌==◌, ◌&&◌, ◌||◌, Bool, true, false, not, List, [], ◌∷◌, ◌++◌, length, slice_range, Ok, refl, sym, ◌∙◌, inl, inr, ◌⊎◌, append_assoc, arith, length-append}
-use Rattle.std.proofs.lemmas.Bool.{cases_Bool, true≢false}
+use Rattle.std.proofs.Common.{◌≡◌, ◌≢◌, ℕ, suc, ◌+◌, ◌<◌, ◌≤◌, ◌==◌, ◌&&◌, ◌||◌, Bool, true, false, not, List, [], ◌∷◌, ◌++◌, length, slice_range, Ok, refl, sym, ◌∙◌, inl, inr, append_assoc, arith, length-append}
+use Rattle.std.proofs.lemmas.Bool.{cases_Bool, true≢false, or_cases, and_parts, eqb-true, ne_eqb}
 use Rattle.std.proofs.lemmas.Bool.Decides.{nat_tests}
 use Rattle.yaml_scan_model.specs.declared.problem.Context.TheVariants as contexts
 use Rattle.yaml_scan_model.specs.Marks.{byte, break_width, is_blank}
@@ -17,17 +17,6 @@ use Rattle.yaml_scan_words.proofs.HasLemmas.{Has, has, has_front, has_rest, rang
 use Rattle.yaml_scan_words.proofs.NamesRead.{alpha_at, no_alpha_at, alphas_run}
 use Rattle.yaml_scan_words.proofs.UrisRead.{uri_is_read}
 
-either : (a b : Bool) → (a || b) ≡ true → (a ≡ true) ⊎ (b ≡ true)
-either true b h = inl refl
-either false b h = inr h
-
-pair : (a b : Bool) → (a && b) ≡ true → (a ≡ true) × (b ≡ true)
-pair true b h = (refl, h)
-pair false b h = absurd (true≢false (sym h))
-
-equal_of : (a b : ℕ) → (a == b) ≡ true → a ≡ b
-equal_of a b h = grind (arith, nat_tests)
-
 alpha_none : (b : ℕ) → is_alpha_byte b ≡ true → (b ≢ 44) × (b ≢ 60) × (32 < b) × (b < 127)
 unfolding is_alpha_byte is_digit_byte
 alpha_none b h = (grind (arith, nat_tests), grind (arith, nat_tests), grind (arith, nat_tests), grind (arith, nat_tests))
@@ -39,9 +28,9 @@ punctuation_none b h = (grind (arith, nat_tests), grind (arith, nat_tests))
 -- what is kept in a shorthand tag is neither `,` nor `<`
 kept_none : (b : ℕ) → is_kept false b ≡ true → (b ≢ 44) × (b ≢ 60)
 kept_none b h =
-    elim (either (is_alpha_byte b) (is_punctuation b || false) h) [
+    elim (or_cases (is_alpha_byte b) (is_punctuation b || false) h) [
       | inl a ↦ let (comma, angle, low, high) = alpha_none b a in (comma, angle)
-      | inr more ↦ elim (either (is_punctuation b) false more) [
+      | inr more ↦ elim (or_cases (is_punctuation b) false more) [
         | inl s ↦ punctuation_none b s
         | inr w ↦ absurd (true≢false (sym w))
       ]
@@ -66,7 +55,7 @@ ends_other flow text p b h e low high comma = true≢false (sym h ∙ goes_on fl
 uri_stops : (flow : Bool) (text : List ℕ) (p : ℕ) → may_end_tag flow text p ≡ true → (byte text p == 37 || is_uri false text p) ≡ false
 uri_stops flow text p h =
     elim (cases_Bool (byte text p == 37)) [
-      | inl e ↦ absurd (ends_other flow text p 37 h (equal_of _ _ e) (omega arith) (omega arith) (omega arith))
+      | inl e ↦ absurd (ends_other flow text p 37 h (eqb-true _ _ e) (omega arith) (omega arith) (omega arith))
       | inr e ↦ elim (cases_Bool (is_uri false text p)) [
         | inl u ↦
             let (low, high) = uri_range false text p u in
@@ -105,7 +94,7 @@ unmarked [] n text p h free mark stop room =
     let here : belongs runs.Alphas text p ≡ false = rw z at stop in
     rw (run_stop n runs.Alphas text p here) (rw z at mark)
 unmarked (raw b ∷ pieces) n text p (e, h) free mark stop room =
-    let (first, rest) = pair (not (b == 33)) (has_no_mark pieces) free in
+    let (first, rest) = and_parts (not (b == 33)) (has_no_mark pieces) free in
     let end : p + suc (length (uri_text pieces)) ≡ p + 1 + length (uri_text pieces) = omega arith in
     elim (cases_Bool (is_alpha_byte b)) [
       | inl a ↦
@@ -119,12 +108,9 @@ unmarked (escape b ∷ pieces) n text p (e, h) free mark stop room =
     let none : belongs runs.Alphas text p ≡ false = no_alpha_at text p (rw e percent_alpha) in
     rw (run_stop n runs.Alphas text p none, e) (omega arith)
 
-differs : (b n : ℕ) → b ≢ n → (b == n) ≡ false
-differs b n h = grind (arith, nat_tests)
-
 some_bytes : (pieces : List UriPiece) → 0 < length pieces → (length (uri_bytes pieces) == 0) ≡ false
 some_bytes [] h = absurd (omega arith)
-some_bytes (piece ∷ pieces) h = differs (suc (length (uri_bytes pieces))) 0 (omega arith)
+some_bytes (piece ∷ pieces) h = ne_eqb (suc (length (uri_bytes pieces))) 0 (omega arith)
 
 no_angle : (pieces : List UriPiece) (text : List ℕ) (p : ℕ) → 0 < length pieces → Has text p (uri_text pieces) → IsUri false 0 pieces → byte text p ≢ 60
 no_angle [] text p some h is = absurd (omega arith)
@@ -138,10 +124,10 @@ unfolding parts_at
 bare_is_read flow text p pieces h some is free stop =
     let (mark, all) = has text p (33 ∷ uri_text pieces) h in
     let e = p + 1 + length (uri_text pieces) in
-    let angle : (byte text (p + 1) == 60) ≡ false = differs _ _ (no_angle pieces text (p + 1) some all is) in
+    let angle : (byte text (p + 1) == 60) ≡ false = ne_eqb _ _ (no_angle pieces text (p + 1) some all is) in
     let last : byte text (p + 1 + length (uri_text pieces)) ≢ 33 = λ m. ends_other flow text e 33 stop m (omega arith) (omega arith) (omega arith) in
     let here = within text p (omega (arith, mark)) in
-    let name : (byte text (name_end text p) == 33) ≡ false = differs _ _ (unmarked pieces (length text) text (p + 1) all free last (alpha_stops flow text e stop) (omega arith)) in
+    let name : (byte text (name_end text p) == 33) ≡ false = ne_eqb _ _ (unmarked pieces (length text) text (p + 1) all free last (alpha_stops flow text e stop) (omega arith)) in
     let read = uri_is_read contexts.TagUri false text (p + 1) pieces all is (uri_stops flow text e stop) in
     rw (angle, name, read, some_bytes pieces some, stop) refl
 
@@ -167,7 +153,7 @@ verbatim_is_read flow text p pieces h some is stop =
 no_angle_name : (name rest : List ℕ) (text : List ℕ) (p : ℕ) → Has text p (name ++ (33 ∷ rest)) → are_alphas name ≡ true → byte text p ≢ 60
 no_angle_name [] rest text p (e, h) are = rw e (omega arith)
 no_angle_name (b ∷ bs) rest text p (e, h) are =
-    let (front, back) = pair (is_alpha_byte b) (are_alphas bs) are in
+    let (front, back) = and_parts (is_alpha_byte b) (are_alphas bs) are in
     let (comma, angle, low, high) = alpha_none b front in
     rw e angle
 
@@ -185,7 +171,7 @@ named_is_read flow text p name pieces h are some is stop =
     let (close, body) = has_rest text (p + 1) name (33 ∷ uri_text pieces) all in
     let none : belongs runs.Alphas text (p + 1 + length name) ≡ false = no_alpha_at text q (rw close mark_alpha) in
     let name_is : name_end text p ≡ p + 1 + length name = alphas_run name (length text) text (p + 1) front are none (omega arith) in
-    let angle : (byte text (p + 1) == 60) ≡ false = differs _ _ (no_angle_name name (uri_text pieces) text (p + 1) all are) in
+    let angle : (byte text (p + 1) == 60) ≡ false = ne_eqb _ _ (no_angle_name name (uri_text pieces) text (p + 1) all are) in
     let inside = within text q (omega (arith, close)) in
     let regroup : (name ++ (33 ∷ [])) ++ uri_text pieces ≡ name ++ (33 ∷ uri_text pieces) = append_assoc name (33 ∷ []) (uri_text pieces) in
     let handle : Has text (p + 1) (name ++ (33 ∷ [])) = has_front text (p + 1) (name ++ (33 ∷ [])) (uri_text pieces) (rw regroup all) in

@@ -1,6 +1,6 @@
 -- URIs, a byte at a time.
-use Rattle.std.proofs.Common.{◌≡◌, ℕ, zero, suc, ◌+◌, ◌<◌, ◌≤◌, ◌==◌, ◌&&◌, ◌||◌, nat_lt, Bool, true, false, List, [], ◌∷◌, ◌++◌, length, take, drop, slice_range, Option, Some, None, IsSome, Result, Ok, Err, refl, sym, ap, ◌∙◌, ◌-◌, inl, inr, ◌⊎◌, append_assoc, append-nil, arith}
-use Rattle.std.proofs.lemmas.Bool.{cases_Bool, true≢false}
+use Rattle.std.proofs.Common.{◌≡◌, ℕ, zero, suc, ◌+◌, ◌<◌, ◌≤◌, ◌==◌, ◌&&◌, ◌||◌, nat_lt, Bool, true, false, List, [], ◌∷◌, ◌++◌, length, take, drop, slice_range, Option, Some, None, IsSome, Result, Ok, Err, refl, sym, ap, ◌∙◌, ◌-◌, inl, inr, append_assoc, append-nil, arith}
+use Rattle.std.proofs.lemmas.Bool.{cases_Bool, true≢false, or_cases, and_parts, eqb-true}
 use Rattle.std.proofs.lemmas.Bool.Decides.{nat_tests}
 use Rattle.std.proofs.lemmas.List.{drop_more}
 use Rattle.yaml_scan_model.specs.declared.problem.Context.{Context}
@@ -27,22 +27,14 @@ digit_range : (b : ℕ) → IsSome (hex_digit b) → (32 < b) × (b < 127)
 unfolding hex_digit
 digit_range b h = (grind (arith, nat_tests), grind (arith, nat_tests))
 
-either : (a b : Bool) → (a || b) ≡ true → (a ≡ true) ⊎ (b ≡ true)
-either true b h = inl refl
-either false b h = inr h
-
-second_of : (a b : Bool) → (a && b) ≡ true → b ≡ true
-second_of true b h = h
-second_of false b h = absurd (true≢false (sym h))
-
 -- what a URI holds as it is, is printed ASCII
 pub uri_range : (wide : Bool) (text : List ℕ) (p : ℕ) → is_uri wide text p ≡ true → (32 < byte text p) × (byte text p < 127)
 uri_range wide text p h =
-    elim (either (is_alpha_byte (byte text p)) (is_punctuation (byte text p) || (wide && is_wide_punctuation (byte text p))) h) [
+    elim (or_cases (is_alpha_byte (byte text p)) (is_punctuation (byte text p) || (wide && is_wide_punctuation (byte text p))) h) [
       | inl a ↦ alpha_range (byte text p) a
-      | inr more ↦ elim (either (is_punctuation (byte text p)) (wide && is_wide_punctuation (byte text p)) more) [
+      | inr more ↦ elim (or_cases (is_punctuation (byte text p)) (wide && is_wide_punctuation (byte text p)) more) [
         | inl s ↦ punctuation_range (byte text p) s
-        | inr w ↦ wide_range (byte text p) (second_of wide (is_wide_punctuation (byte text p)) w)
+        | inr w ↦ wide_range (byte text p) (and_parts wide (is_wide_punctuation (byte text p)) w).1
       ]
     ]
 
@@ -74,14 +66,11 @@ octet_moves : (text : List ℕ) (p due : ℕ) (o : Option ℕ) → p < length te
 octet_moves text p due (Some b) h = escape_moves text p b (due_behind b due) h
 octet_moves text p due None h = tt
 
-equal_of : (a b : ℕ) → (a == b) ≡ true → a ≡ b
-equal_of a b h = grind (arith, nat_tests)
-
 moves : (wide : Bool) (due : ℕ) (text : List ℕ) (p : ℕ) → Moves text p (spot_at wide due text p)
 unfolding spot_at
 moves wide due text p =
     elim (cases_Bool (byte text p == 37)) [
-      | inl h ↦ let e : byte text p ≡ 37 = equal_of _ _ h in rw h (octet_moves text p due (octet_at text p) (within text p (omega arith)))
+      | inl h ↦ let e : byte text p ≡ 37 = eqb-true _ _ h in rw h (octet_moves text p due (octet_at text p) (within text p (omega arith)))
       | inr h ↦ elim (cases_Bool (nat_lt 0 due)) [
         | inl i ↦ rw (h, i) tt
         | inr i ↦ elim (cases_Bool (is_uri wide text p)) [
@@ -136,11 +125,11 @@ wide_no_mark b h = grind (arith, nat_tests)
 -- what a URI holds as it is, begins no escape
 kept_no_mark : (wide : Bool) (text : List ℕ) (p : ℕ) → is_uri wide text p ≡ true → (byte text p == 37) ≡ false
 kept_no_mark wide text p h =
-    elim (either (is_alpha_byte (byte text p)) (is_punctuation (byte text p) || (wide && is_wide_punctuation (byte text p))) h) [
+    elim (or_cases (is_alpha_byte (byte text p)) (is_punctuation (byte text p) || (wide && is_wide_punctuation (byte text p))) h) [
       | inl a ↦ alpha_no_mark (byte text p) a
-      | inr more ↦ elim (either (is_punctuation (byte text p)) (wide && is_wide_punctuation (byte text p)) more) [
+      | inr more ↦ elim (or_cases (is_punctuation (byte text p)) (wide && is_wide_punctuation (byte text p)) more) [
         | inl s ↦ punctuation_no_mark (byte text p) s
-        | inr w ↦ wide_no_mark (byte text p) (second_of wide (is_wide_punctuation (byte text p)) w)
+        | inr w ↦ wide_no_mark (byte text p) (and_parts wide (is_wide_punctuation (byte text p)) w).1
       ]
     ]
 
@@ -201,7 +190,7 @@ uri_behind context wide text p q forward kept =
 other : (b : ℕ) → (b ≡ 37 → ⊥) → (b == 37) ≡ false
 other b h =
     elim (cases_Bool (b == 37)) [
-      | inl e ↦ absurd {0} (h (equal_of b 37 e))
+      | inl e ↦ absurd {0} (h (eqb-true b 37 e))
       | inr e ↦ e
     ]
 

@@ -1,6 +1,6 @@
 -- URIs that are written.
-use Rattle.std.proofs.Common.{◌≡◌, ◌≢◌, ℕ, suc, ◌+◌, ◌*◌, ◌/◌, ◌%◌, ◌<◌, ◌≤◌, ◌==◌, ◌&&◌, ◌||◌, Bool, true, false, List, [], ◌∷◌, length, Some, Ok, refl, sym, ap, ◌∙◌, inl, inr, ◌⊎◌, arith}
-use Rattle.std.proofs.lemmas.Bool.{cases_Bool, true≢false}
+use Rattle.std.proofs.Common.{◌≡◌, ◌≢◌, ℕ, suc, ◌+◌, ◌*◌, ◌/◌, ◌%◌, ◌<◌, ◌≤◌, ◌==◌, ◌&&◌, ◌||◌, Bool, true, false, List, [], ◌∷◌, length, Some, Ok, refl, ap, ◌∙◌, inl, inr, arith}
+use Rattle.std.proofs.lemmas.Bool.{cases_Bool, true≢false, or_cases, and_parts}
 use Rattle.std.proofs.lemmas.Bool.Decides.{nat_tests}
 use Rattle.yaml_scan_model.specs.declared.problem.Context.{Context}
 use Rattle.yaml_scan_model.specs.Marks.{byte}
@@ -26,22 +26,14 @@ kept_wide : (b : ℕ) → is_wide_punctuation b ≡ true → b ≢ 37
 unfolding is_wide_punctuation
 kept_wide b h = grind (arith, nat_tests)
 
-either : (a b : Bool) → (a || b) ≡ true → (a ≡ true) ⊎ (b ≡ true)
-either true b h = inl refl
-either false b h = inr h
-
-second_of : (a b : Bool) → (a && b) ≡ true → b ≡ true
-second_of true b h = h
-second_of false b h = absurd (true≢false (sym h))
-
 -- what is kept is no `%`
 pub kept_plain : (wide : Bool) (b : ℕ) → is_kept wide b ≡ true → b ≢ 37
 kept_plain wide b h =
-    elim (either (is_alpha_byte b) (is_punctuation b || (wide && is_wide_punctuation b)) h) [
+    elim (or_cases (is_alpha_byte b) (is_punctuation b || (wide && is_wide_punctuation b)) h) [
       | inl a ↦ kept_alpha b a
-      | inr more ↦ elim (either (is_punctuation b) (wide && is_wide_punctuation b) more) [
+      | inr more ↦ elim (or_cases (is_punctuation b) (wide && is_wide_punctuation b) more) [
         | inl s ↦ kept_punctuation b s
-        | inr w ↦ kept_wide b (second_of wide (is_wide_punctuation b) w)
+        | inr w ↦ kept_wide b (and_parts wide (is_wide_punctuation b) w).1
       ]
     ]
 

@@ -1,5 +1,6 @@
 use Rattle.std.proofs.Common.{sym, ◌∙◌, arith}
-use Rattle.yaml_emit_held.proofs.Holding.{few_short, pushed_most, both_left, both_right, both_false, passed_waits, pushed_waits}
+use Rattle.std.proofs.lemmas.Bool.{and_parts}
+use Rattle.yaml_emit_held.proofs.Holding.{few_short, pushed_most, both_false, passed_waits, pushed_waits}
 use Rattle.yaml_emit_held.proofs.Judging.{lays_past, lays_held}
 use Rattle.yaml_emit_held.proofs.release.give.Goals as goal
 
@@ -12,13 +13,13 @@ push-requires-clause-few c = let room = c.release.ensures.room in omega (arith, 
 pub returns-then-passes-clause-lays : goal.returns-then-passes-clause-lays
 returns-then-passes-clause-lays c =
     let e = sym c.passes.ensures ∙ c.if-passes.true in
-    lays_past _ _ _ _ _ _ c.release.ensures.lays (both_right _ _ e) (both_left _ _ e) c.lay_out.ensures
+    lays_past _ _ _ _ _ _ c.release.ensures.lays (and_parts _ _ e).1 (and_parts _ _ e).0 c.lay_out.ensures
 
 pub returns-then-passes-clause-short : goal.returns-then-passes-clause-short
 returns-then-passes-clause-short c = let room = c.release.ensures.room in omega (arith, room)
 
 pub returns-then-passes-clause-waits : goal.returns-then-passes-clause-waits
-returns-then-passes-clause-waits c = λ g. passed_waits _ _ (both_left _ _ (sym c.passes.ensures ∙ c.if-passes.true))
+returns-then-passes-clause-waits c = λ g. passed_waits _ _ (and_parts _ _ (sym c.passes.ensures ∙ c.if-passes.true)).0
 
 pub returns-else-passes-clause-lays : goal.returns-else-passes-clause-lays
 returns-else-passes-clause-lays c = lays_held _ _ _ _ _ c.push.ensures.events c.release.ensures.lays

@@ -1,10 +1,11 @@
 use Rattle.std.proofs.Common.{sym, refl, ◌∙◌}
-use Rattle.yaml_emit_held.proofs.Holding.{both_left, both_right, both_false, less_most, one_less, one_gone, released_ready, room_held}
+use Rattle.std.proofs.lemmas.Bool.{and_parts}
+use Rattle.yaml_emit_held.proofs.Holding.{both_false, less_most, one_less, one_gone, released_ready, room_held}
 use Rattle.yaml_emit_held.proofs.Judging.{lays_none, lays_more}
 use Rattle.yaml_emit_held.proofs.release.release.Goals as goal
 
 pub lay_oldest-requires-clause-ready : goal.lay_oldest-requires-clause-ready
-lay_oldest-requires-clause-ready c = both_left _ _ (sym c.is_due.ensures ∙ c.loop-held-test.true)
+lay_oldest-requires-clause-ready c = (and_parts _ _ (sym c.is_due.ensures ∙ c.loop-held-test.true)).0
 
 pub loop-held-init : goal.loop-held-init
 loop-held-init c = record { lays = lays_none _ _; utf8 = c.requires.utf8; most = c.requires.most; short = λ off. absurd (let on = c.requires.going in cc) }
@@ -13,7 +14,7 @@ pub loop-held-preserved : goal.loop-held-preserved
 loop-held-preserved c =
     let due = sym c.is_due.ensures ∙ c.loop-held-test.true in
     record {
-      lays = lays_more _ _ _ _ _ _ _ _ c.loop-held.invariant.lays (one_gone _ _ _ _ c.lay_oldest.ensures.events) (both_right _ _ due) (released_ready _ _ (both_left _ _ due)) refl c.lay_oldest.ensures.laid;
+      lays = lays_more _ _ _ _ _ _ _ _ c.loop-held.invariant.lays (one_gone _ _ _ _ c.lay_oldest.ensures.events) (and_parts _ _ due).1 (released_ready _ _ (and_parts _ _ due).0) refl c.lay_oldest.ensures.laid;
       utf8 = c.lay_oldest.ensures.utf8;
       most = less_most _ _ _ c.lay_oldest.ensures.events c.loop-held.invariant.most;
       short = λ off. one_less _ _ _ c.lay_oldest.ensures.events c.loop-held.invariant.most;

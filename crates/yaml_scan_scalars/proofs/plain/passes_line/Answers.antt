@@ -1,8 +1,9 @@
 use Rattle.std.proofs.Common.{◌≡◌, ◌∙◌, ◌+◌, ◌<◌, ℕ, ap, sym, arith}
+use Rattle.std.proofs.lemmas.Bool.{ltb-true}
 use Rattle.yaml_scan_model.specs.declared.record.yaml_mark_t.{yaml_mark_t}
 use Rattle.yaml_scan_model.specs.Marks.{Place, byte, break_width, column_at}
 use Rattle.yaml_scan_model.specs.Runs.{past_spaces}
-use Rattle.yaml_scan_scalars.proofs.OneRunLemmas.{less_of, line_ends}
+use Rattle.yaml_scan_scalars.proofs.OneRunLemmas.{line_ends}
 use Rattle.yaml_scan_scalars.proofs.plain.passes_line.Goals as goal
 
 pub pass_feed-requires : goal.pass_feed-requires
@@ -20,5 +21,5 @@ returns-then-begins_word-clause-ends c = λ less n room.
     let low : 33 < byte text q = rw here at (c.begins_word.ensures.low c.if-begins_word.true) in
     let high : byte text q < 128 = rw here at (c.begins_word.ensures.high c.if-begins_word.true) in
     let column : c.mark.result.column ≡ column_at text q = rw held at (ap (λ (m : yaml_mark_t). m.column) c.mark.ensures) in
-    let before : column_at text q < c.args.level = rw column at (less_of _ _ less) in
+    let before : column_at text q < c.args.level = rw column at (ltb-true _ _ less) in
     line_ends c.args.level text p q (sym c.here.ensures ∙ omega arith) e low high before n room

@@ -2,7 +2,8 @@
 """Lists what breaks the rules of the house in CONTRIBUTING.md, by reading text. It fails where there is any.
 
     tools/house.py             files of more than 600 lines; in src/ and specs/ clauses, code and definitions over 100
-                               columns (`use` lines, comments, texts and `#[tactic(..)]` aside); bodies of more than 40 lines
+                               columns (`use` lines, comments, texts and `#[tactic(..)]` aside), and in proofs/ lemmas'
+                               statements; bodies of more than 40 lines
                                without `long` in the comment above; functions of more than 6 arguments, without `arguments`
                                there; laws that code calls; hints of inlining and reads that nothing uses, without a reason;
                                public items without a doc comment
@@ -18,6 +19,8 @@ import sys
 import repository as repo
 
 USE = re.compile(r"\s*(?:(?:pub|unfoldable|ghost) )*use\b")
+# Where a lemma's statement begins in a file of proofs.
+STATEMENT = re.compile(r"(?:(?:pub|abbrev|opaque|unfoldable) )*[^\s:({=]+(?: [({][^=]*)? : ")
 ITEM = re.compile(r"\s*pub (?:fn|struct|enum|trait|const|extern|type)\b")
 
 
@@ -43,6 +46,12 @@ def wide_lines(path, lines):
         if not in_use and len(plain) > 100 and not line.lstrip().startswith(("//", "--", "#[tactic")):
             yield f"{path}:{number}: {len(plain)} columns"
         in_use = in_use and ";" not in line and not (path.endswith(".antt") and "}" in line)
+
+
+def wide_statements(path, lines):
+    for number, line in enumerate(lines, 1):
+        if len(line) > 100 and STATEMENT.match(line):
+            yield f"{path}:{number}: a statement of {len(line)} columns"
 
 
 def unexplained(path, lines):
@@ -127,7 +136,7 @@ def main():
     for path in files():
         lines = repo.read(path).split("\n")
         wrong += [f"{path}: {len(lines) - 1} lines"] if len(lines) > 601 else []
-        wrong += [] if "/proofs/" in path else wide_lines(path, lines)
+        wrong += wide_statements(path, lines) if "/proofs/" in path else wide_lines(path, lines)
         wrong += unexplained(path, lines) if path.endswith(".rt") else []
     wrong += wrong_functions()
     print("\n".join(wrong) if wrong else "house: in order")

@@ -20,15 +20,18 @@ use Rattle.yaml_cli_lookup.specs.Lookup.{IsDue}
 use Rattle.yaml_cli_lookup.specs.Input.{tokens_of, IsReadingOf, outcome, IsFirstDocument}
 
 -- the first load of a parser of these tokens is that of the input
-first_load : (encoding : yaml_encoding_t) (input : List ℕ) (c : scan.Remaining) (p : ParserRemaining) (first : Result Document Fault) (n : NextLoad)
-    → c ≡ tokens_of encoding input → EventsOfTokens c.tokens c.fault p.events → FaultOfTokens c.tokens c.fault p.ending
+first_load : (encoding : yaml_encoding_t) (input : List ℕ) (c : scan.Remaining)
+    (p : ParserRemaining) (first : Result Document Fault) (n : NextLoad)
+    → c ≡ tokens_of encoding input → EventsOfTokens c.tokens c.fault p.events
+    → FaultOfTokens c.tokens c.fault p.ending
     → IsNextLoad p n → first ≡ outcome n → IsFirstDocument encoding input first
 first_load encoding input c p first n is events ending next same =
     let r : Reading = record { events = p.events; ending = p.ending } in
     let parsed : IsReadingOf c r = record { events = events; ending = ending } in
     record { reading = r; parsed = subst (λ (z : scan.Remaining). IsReadingOf z r) is parsed; load = n; unasked = p.ending_unasked; is = next; same = same }
 
-gives : (n : NextLoad) (d : Document) (old new : ParserRemaining) → GivesLoad n d old new → Ok d ≡ outcome n
+gives : (n : NextLoad) (d : Document) (old new : ParserRemaining) → GivesLoad n d old new
+    → Ok d ≡ outcome n
 gives (next_document e left unasked) d old new g = ap Ok g.0
 gives next_none d old new g = ap Ok g.0
 gives (next_fault f unasked) d old new g = absurd g
@@ -38,10 +41,13 @@ refuses (next_document e left count) f unasked h = absurd h
 refuses next_none f unasked h = absurd h
 refuses (next_fault g count) f unasked h = ap Err h.0
 
-pub first_answers : (encoding : yaml_encoding_t) (input : List ℕ) (c : scan.Remaining) (p q : ParserRemaining)
+pub first_answers : (encoding : yaml_encoding_t) (input : List ℕ) (c : scan.Remaining)
+    (p q : ParserRemaining)
     (r : Result Document yaml_fault_t)
-    → c ≡ tokens_of encoding input → EventsOfTokens c.tokens c.fault p.events → FaultOfTokens c.tokens c.fault p.ending
-    → AreLoadsByContent p → IfOk r (λ d. LoadIsNext p d q) → IfErr r (λ f. RefusalIsNext p (fault_of f) q)
+    → c ≡ tokens_of encoding input → EventsOfTokens c.tokens c.fault p.events
+    → FaultOfTokens c.tokens c.fault p.ending
+    → AreLoadsByContent p → IfOk r (λ d. LoadIsNext p d q)
+    → IfErr r (λ f. RefusalIsNext p (fault_of f) q)
     → Answers load_layers (λ d. d) (IsFirstDocument encoding input) r
 first_answers encoding input c p q (Ok d) is events ending loads g h =
     let n = next_load p.ending p.ending_unasked p.events loads in
@@ -55,12 +61,14 @@ first_answers encoding input c p q (Err f) is events ending loads g h =
 
 -- ---- the error that a fault is
 
-memory_kind : (layers : List yaml_origin_t) (f : Fault) → IsMemoryFault layers f → f.kind ≡ YAML_MEMORY_ERROR
+memory_kind : (layers : List yaml_origin_t) (f : Fault) → IsMemoryFault layers f
+    → f.kind ≡ YAML_MEMORY_ERROR
 memory_kind [] f h = absurd h
 memory_kind (o ∷ []) f h = ap (λ (x : Fault). x.kind) h
 memory_kind (o ∷ (p ∷ os)) f h = elim h [ inl e ↦ ap (λ (x : Fault). x.kind) e | inr k ↦ memory_kind (p ∷ os) f k ]
 
-pub due : (First : Result Document Fault → Type 0) (f : yaml_fault_t) (e : LookupError) → IsErrorOf f e
+pub due : (First : Result Document Fault → Type 0) (f : yaml_fault_t) (e : LookupError)
+    → IsErrorOf f e
     → IsMemoryFault load_layers (fault_of f) ⊎ First (Err (fault_of f)) → IsDue First e
 due First f (Unreadable g) h k = elim k [
   | inl m ↦ absurd (h.1 (memory_kind load_layers (fault_of f) m))

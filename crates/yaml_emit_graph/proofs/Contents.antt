@@ -16,22 +16,29 @@ abbrev emitter_events : List ℕ → List model.Node → List Event → List Tur
 emitter_events table nodes es ts = map (turn_event table nodes) ts ++ es
 
 -- the content that one visit gives is that which another one's turns say
-abbrev Follows : (List Turn → List Event) → (ℤ → (Node → Met → Node) → Met → Node) → (ℤ → Rest → Rest) → Type 0
+abbrev Follows : (List Turn → List Event) → (ℤ → (Node → Met → Node) → Met → Node)
+    → (ℤ → Rest → Rest) → Type 0
 Follows says content turning = (id : ℤ) (met : Met) (k : Node → Met → Node) (r : Rest) (g : Node → List Event) (f : List Event → List Event)
     → ((v : Node) (m : Met) → g (k v m) ≡ f (node_events v (says (r m)))) → g (content id k met) ≡ f (says (turning id r met))
 
-items_follow : (says : List Turn → List Event) (content : ℤ → (Node → Met → Node) → Met → Node) (turning : ℤ → Rest → Rest) → Follows says content turning
-    → (ids : List ℤ) (k : Nodes → Met → Node) (r : Rest) (g : Node → List Event) (f : List Event → List Event) (met : Met)
-    → ((vs : Nodes) (m : Met) → g (k vs m) ≡ f (items_events vs (says (r m)))) → g (items_by content ids k met) ≡ f (says (over turning ids r met))
+items_follow : (says : List Turn → List Event) (content : ℤ → (Node → Met → Node) → Met → Node)
+    (turning : ℤ → Rest → Rest) → Follows says content turning
+    → (ids : List ℤ) (k : Nodes → Met → Node) (r : Rest) (g : Node → List Event)
+    (f : List Event → List Event) (met : Met)
+    → ((vs : Nodes) (m : Met) → g (k vs m) ≡ f (items_events vs (says (r m))))
+    → g (items_by content ids k met) ≡ f (says (over turning ids r met))
 unfolding items_by over items_events
 items_follow says content turning p [] k r g f met h = h no_nodes met
 items_follow says content turning p (id ∷ ids) k r g f met h =
     p id met (λ v m. items_by content ids (λ vs n. k (node v vs) n) m) (over turning ids r) g f
     (λ v m. items_follow says content turning p ids (λ vs n. k (node v vs) n) r g (λ t. f (node_events v t)) m (λ vs n. h (node v vs) n))
 
-pairs_follow : (says : List Turn → List Event) (content : ℤ → (Node → Met → Node) → Met → Node) (turning : ℤ → Rest → Rest) → Follows says content turning
-    → (ps : List yaml_node_pair_t) (k : Pairs → Met → Node) (r : Rest) (g : Node → List Event) (f : List Event → List Event) (met : Met)
-    → ((vs : Pairs) (m : Met) → g (k vs m) ≡ f (pairs_events vs (says (r m)))) → g (pairs_by content ps k met) ≡ f (says (over turning (pair_ids ps) r met))
+pairs_follow : (says : List Turn → List Event) (content : ℤ → (Node → Met → Node) → Met → Node)
+    (turning : ℤ → Rest → Rest) → Follows says content turning
+    → (ps : List yaml_node_pair_t) (k : Pairs → Met → Node) (r : Rest) (g : Node → List Event)
+    (f : List Event → List Event) (met : Met)
+    → ((vs : Pairs) (m : Met) → g (k vs m) ≡ f (pairs_events vs (says (r m))))
+    → g (pairs_by content ps k met) ≡ f (says (over turning (pair_ids ps) r met))
 unfolding pairs_by over pairs_events pair_ids
 pairs_follow says content turning p [] k r g f met h = h no_pairs met
 pairs_follow says content turning p (x ∷ xs) k r g f met h =
@@ -39,14 +46,22 @@ pairs_follow says content turning p (x ∷ xs) k r g f met h =
     (λ u m. p x.value m (λ v n. pairs_by content xs (λ vs o. k (pair u v vs) o) n) (over turning (pair_ids xs) r) g (λ t. f (node_events u t))
     (λ v n. pairs_follow says content turning p xs (λ vs o. k (pair u v vs) o) r g (λ t. f (node_events u (node_events v t))) n (λ vs o. h (pair u v vs) o)))
 
-pick : (b : Bool) (g : Node → List Event) (f : List Event → List Event) (says : List Turn → List Event) (u v : Node) (ts us : List Turn) → g u ≡ f (says ts) → g v ≡ f (says us)
+pick : (b : Bool) (g : Node → List Event) (f : List Event → List Event)
+    (says : List Turn → List Event) (u v : Node) (ts us : List Turn) → g u ≡ f (says ts)
+    → g v ≡ f (says us)
     → g (if b then u else v) ≡ f (says (if b then ts else us))
 pick true g f says u v ts us p q = p
 pick false g f says u v ts us p q = q
 
-node_follows : (table : List ℕ) (nodes : List model.Node) (es : List Event) (content : ℤ → (Node → Met → Node) → Met → Node) (turning : ℤ → Rest → Rest) → Follows (emitter_events table nodes es) content turning
-    → (b : model.NodeBody) (id : ℤ) (anchor : Option (List ℕ)) (tag : List ℕ) (met : Met) (k : Node → Met → Node) (r : Rest) (g : Node → List Event) (f : List Event → List Event) → body_of_id nodes id ≡ b
-    → ((v : Node) (m : Met) → g (k v m) ≡ f (node_events v (emitter_events table nodes es (r m)))) → g (node_by content anchor tag b k met) ≡ f (opening_event anchor tag b ∷ emitter_events table nodes es (inside turning id b r met))
+node_follows : (table : List ℕ) (nodes : List model.Node) (es : List Event)
+    (content : ℤ → (Node → Met → Node) → Met → Node) (turning : ℤ → Rest → Rest)
+    → Follows (emitter_events table nodes es) content turning
+    → (b : model.NodeBody) (id : ℤ) (anchor : Option (List ℕ)) (tag : List ℕ) (met : Met)
+    (k : Node → Met → Node) (r : Rest) (g : Node → List Event) (f : List Event → List Event)
+    → body_of_id nodes id ≡ b
+    → ((v : Node) (m : Met) → g (k v m) ≡ f (node_events v (emitter_events table nodes es (r m))))
+    → g (node_by content anchor tag b k met)
+    ≡ f (opening_event anchor tag b ∷ emitter_events table nodes es (inside turning id b r met))
 unfolding node_events turn_event
 node_follows table nodes es content turning p model.no id anchor tag met k r g f e h = h _ met
 node_follows table nodes es content turning p (model.scalar value style) id anchor tag met k r g f e h = h _ met
@@ -57,7 +72,8 @@ node_follows table nodes es content turning p (model.mapping pairs style) id anc
     pairs_follow (emitter_events table nodes es) content turning p pairs _ (λ m. Leave id ∷ r m) g (λ t. f (mapping_start (graph_start anchor tag map_tag (is_flow_mapping style)) ∷ t)) met
     (λ vs m. h _ m ∙ ap (λ z. f (mapping_start (graph_start anchor tag map_tag (is_flow_mapping style)) ∷ pairs_events vs (z ∷ emitter_events table nodes es (r m)))) (sym (ap closing_event e)))
 
-visit_follows : (n : ℕ) (table : List ℕ) (nodes : List model.Node) (es : List Event) → Follows (emitter_events table nodes es) (content_by n table nodes) (visits n nodes)
+visit_follows : (n : ℕ) (table : List ℕ) (nodes : List model.Node) (es : List Event)
+    → Follows (emitter_events table nodes es) (content_by n table nodes) (visits n nodes)
 unfolding content_by visits node_events turn_event
 visit_follows zero table nodes es = λ id met k r g f h. h _ met
 visit_follows (suc n) table nodes es = λ id met k r g f h.
@@ -65,7 +81,10 @@ visit_follows (suc n) table nodes es = λ id met k r g f h.
     (node_follows table nodes es (content_by n table nodes) (visits n nodes) (visit_follows n table nodes es) (body_of_id nodes id) id (anchor_of (number_at table id)) (tag_of_id nodes id) (meet met id) k r g f refl h)
 
 -- the events of a dump are the document's start, those of the turns of the walk, and the document's end
-pub dumped_turns : (d : Document) → dumped d ≡ document_start (graph_opening d) ∷ (map (turn_event (numbers d.nodes) d.nodes) (turns_onward d.nodes) ++ document_end d.end_implicit ∷ [])
+pub dumped_turns : (d : Document)
+    → dumped d ≡ document_start (graph_opening d)
+    ∷ (map (turn_event (numbers d.nodes) d.nodes) (turns_onward d.nodes)
+    ++ document_end d.end_implicit ∷ [])
 unfolding dumped root_onward turns_onward
 dumped_turns d =
     let es : List Event = document_end d.end_implicit ∷ [] in

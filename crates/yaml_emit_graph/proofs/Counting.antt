@@ -21,7 +21,8 @@ room (suc n ∷ t) zero d h e = absurd (cc)
 room (zero ∷ t) (suc k) d h e = let m = room t k d (omega arith) e in omega arith
 room (suc n ∷ t) (suc k) d h e = let m = room t k d (omega arith) e in omega arith
 
-counted_set : (t : List ℕ) (k n : ℕ) → get_or t k 1 ≡ 0 → counted (set t k (suc n)) ≡ suc (counted t)
+counted_set : (t : List ℕ) (k n : ℕ) → get_or t k 1 ≡ 0
+    → counted (set t k (suc n)) ≡ suc (counted t)
 counted_set [] k n e = absurd (omega arith)
 counted_set (zero ∷ t) zero n e = refl
 counted_set (suc m ∷ t) zero n e = absurd (omega arith)
@@ -34,7 +35,8 @@ same_default (x ∷ t) zero d e h = refl
 same_default (x ∷ t) (suc k) d e h = same_default t k d e (omega arith)
 
 -- a node gets the next number
-pub counted_next : (t : List ℕ) (k g r : ℕ) → k < length t → r ≡ get_or t k r → r ≡ 0 → g ≡ counted t → g + 1 ≡ counted (set t k (g + 1))
+pub counted_next : (t : List ℕ) (k g r : ℕ) → k < length t → r ≡ get_or t k r → r ≡ 0
+    → g ≡ counted t → g + 1 ≡ counted (set t k (g + 1))
 counted_next t k g r h is z e =
     let a : get_or t k 1 ≡ 0 = same_default t k 1 r h ∙ sym is ∙ z in
     rw add-one (ap suc e ∙ sym (counted_set t k g a))
@@ -49,14 +51,19 @@ none_numbers n = record { counts = sym (none_counted n) }
 pub numbered_start : (a : Numbering) (count : ℕ) → a ≡ none_numbered count → IsNumbering a
 numbered_start a count e = let P : Numbering → Type 0 = λ z. IsNumbering z in subst P (sym e) (none_numbers count)
 
-pub numbers_start : (nodes : List Node) (a : Numbering) (ts : List Turn) (count : ℕ) → a ≡ none_numbered count → count ≡ length nodes → ts ≡ turns_onward nodes → numbers nodes ≡ (numbered a ts).table
+pub numbers_start : (nodes : List Node) (a : Numbering) (ts : List Turn) (count : ℕ)
+    → a ≡ none_numbered count → count ≡ length nodes → ts ≡ turns_onward nodes
+    → numbers nodes ≡ (numbered a ts).table
 unfolding numbers
 numbers_start nodes a ts count e n t = rw (e, n, t ∙ turns_joined nodes) refl
 
-pub numbers_more : (table : List ℕ) (a b : Numbering) (t : Turn) (ts us : List Turn) → table ≡ (numbered a ts).table → ts ≡ t ∷ us → b ≡ numbered_by t a → table ≡ (numbered b us).table
+pub numbers_more : (table : List ℕ) (a b : Numbering) (t : Turn) (ts us : List Turn)
+    → table ≡ (numbered a ts).table → ts ≡ t ∷ us → b ≡ numbered_by t a
+    → table ≡ (numbered b us).table
 unfolding numbered
 numbers_more table a b t ts us h e n = h ∙ ap (λ z. (numbered a z).table) e ∙ ap (λ z. (numbered z us).table) (sym n)
 
-pub numbers_done : (table : List ℕ) (a : Numbering) (ts : List Turn) → table ≡ (numbered a ts).table → ts ≡ [] → a.table ≡ table
+pub numbers_done : (table : List ℕ) (a : Numbering) (ts : List Turn) → table ≡ (numbered a ts).table
+    → ts ≡ [] → a.table ≡ table
 unfolding numbered
 numbers_done table a ts h e = sym (h ∙ ap (λ z. (numbered a z).table) e)

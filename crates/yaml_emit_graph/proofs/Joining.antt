@@ -29,12 +29,14 @@ grows_on a b c g h = let m = g.more in let n = h.more in record { size = h.size 
 meets : (met : Met) (id : ℤ) → is_met met id ≡ false → Grows met (meet met id)
 meets met id h = let e = sum_meet_at met (place_at id) h in record { size = length_meet_at met (place_at id); more = omega (arith, e) }
 
-all_grow : (one : ℤ → Met → Visit × Met) → ((id : ℤ) (met : Met) → Grows met (one id met).1) → (ids : List ℤ) (met : Met) → Grows met (visit_all one ids met).1
+all_grow : (one : ℤ → Met → Visit × Met) → ((id : ℤ) (met : Met) → Grows met (one id met).1)
+    → (ids : List ℤ) (met : Met) → Grows met (visit_all one ids met).1
 unfolding visit_all
 all_grow one h [] met = stays met
 all_grow one h (id ∷ ids) met = grows_on met (one id met).1 (visit_all one ids (one id met).1).1 (h id met) (all_grow one h ids (one id met).1)
 
-node_grows : (n : ℕ) (nodes : List model.Node) (id : ℤ) (met : Met) → Grows met (visit_node n nodes id met).1
+node_grows : (n : ℕ) (nodes : List model.Node) (id : ℤ) (met : Met)
+    → Grows met (visit_node n nodes id met).1
 unfolding visit_node
 node_grows zero nodes id met = stays met
 node_grows (suc n) nodes id met = elim (cases_Bool (is_met met id)) [
@@ -51,7 +53,8 @@ IsEnough n met = length met < n + marked met
 enough_on : (n : ℕ) (a b : Met) → IsEnough n a → Grows a b → IsEnough n b
 enough_on n a b h g = let s = g.size in let m = g.more in omega (arith, h, s, m)
 
-enough_below : (n : ℕ) (met : Met) (id : ℤ) → is_met met id ≡ false → IsEnough (suc n) met → IsEnough n (meet met id)
+enough_below : (n : ℕ) (met : Met) (id : ℤ) → is_met met id ≡ false → IsEnough (suc n) met
+    → IsEnough n (meet met id)
 enough_below n met id e h = let m = sum_meet_at met (place_at id) e in let s = length_meet_at met (place_at id) in omega (arith, h, m, s)
 
 none_enough : (A : Type 0) (met : Met) → IsEnough zero met → A
@@ -60,18 +63,22 @@ none_enough A met h = let m = sum_most met in absurd (omega (arith, h, m))
 enough_first : (nodes : List model.Node) → IsEnough (suc (length nodes)) (none_met nodes)
 enough_first nodes = let e = length-replicate (length nodes) false in omega (arith, e)
 
-behind : (n : ℕ) (nodes : List model.Node) (id : ℤ) (met : Met) → IsEnough n met → IsEnough n (visit_node n nodes id met).1
+behind : (n : ℕ) (nodes : List model.Node) (id : ℤ) (met : Met) → IsEnough n met
+    → IsEnough n (visit_node n nodes id met).1
 behind n nodes id met h = enough_on n met (visit_node n nodes id met).1 h (node_grows n nodes id met)
 
 -- ---- no visit is cut off
 
-all_whole : (n : ℕ) (nodes : List model.Node) → ((id : ℤ) (met : Met) → IsEnough n met → IsWhole (visit_node n nodes id met).0) → (ids : List ℤ) (met : Met) → IsEnough n met
+all_whole : (n : ℕ) (nodes : List model.Node)
+    → ((id : ℤ) (met : Met) → IsEnough n met → IsWhole (visit_node n nodes id met).0)
+    → (ids : List ℤ) (met : Met) → IsEnough n met
     → AreWhole (visit_all (visit_node n nodes) ids met).0
 unfolding visit_all
 all_whole n nodes h [] met e = tt
 all_whole n nodes h (id ∷ ids) met e = (h id met e, all_whole n nodes h ids (visit_node n nodes id met).1 (behind n nodes id met e))
 
-node_whole : (n : ℕ) (nodes : List model.Node) (id : ℤ) (met : Met) → IsEnough n met → IsWhole (visit_node n nodes id met).0
+node_whole : (n : ℕ) (nodes : List model.Node) (id : ℤ) (met : Met) → IsEnough n met
+    → IsWhole (visit_node n nodes id met).0
 unfolding visit_node
 node_whole zero nodes id met h = none_enough _ met h
 node_whole (suc n) nodes id met h = elim (cases_Bool (is_met met id)) [
@@ -88,8 +95,10 @@ walk_whole nodes = node_whole (suc (length nodes)) nodes (pos 1) (none_met nodes
 abbrev TurnsJoin : ℕ → List model.Node → Type 0
 TurnsJoin n nodes = (id : ℤ) (rest : Rest) (met : Met) → IsEnough n met → visits n nodes id rest met ≡ turns_of nodes (visit_node n nodes id met).0 ++ rest (visit_node n nodes id met).1
 
-all_turns : (n : ℕ) (nodes : List model.Node) → TurnsJoin n nodes → (ids : List ℤ) (rest : Rest) (met : Met) → IsEnough n met
-    → over (visits n nodes) ids rest met ≡ turns_in nodes (visit_all (visit_node n nodes) ids met).0 ++ rest (visit_all (visit_node n nodes) ids met).1
+all_turns : (n : ℕ) (nodes : List model.Node) → TurnsJoin n nodes
+    → (ids : List ℤ) (rest : Rest) (met : Met) → IsEnough n met
+    → over (visits n nodes) ids rest met ≡ turns_in nodes (visit_all (visit_node n nodes) ids met).0
+    ++ rest (visit_all (visit_node n nodes) ids met).1
 unfolding over visit_all
 all_turns n nodes h [] rest met e = refl
 all_turns n nodes h (id ∷ ids) rest met e =
@@ -99,8 +108,11 @@ all_turns n nodes h (id ∷ ids) rest met e =
     ∙ ap (λ (ts : List Turn). turns_of nodes r.0 ++ ts) (all_turns n nodes h ids rest r.1 (behind n nodes id met e))
     ∙ sym (append_assoc (turns_of nodes r.0) (turns_in nodes s.0) (rest s.1))
 
-inside_turns : (n : ℕ) (nodes : List model.Node) → TurnsJoin n nodes → (b : model.NodeBody) (id : ℤ) (rest : Rest) (met : Met) → IsEnough n met
-    → inside (visits n nodes) id b rest met ≡ turns_in nodes (visit_all (visit_node n nodes) (child_ids b) met).0 ++ (leaving id b ++ rest (visit_all (visit_node n nodes) (child_ids b) met).1)
+inside_turns : (n : ℕ) (nodes : List model.Node) → TurnsJoin n nodes
+    → (b : model.NodeBody) (id : ℤ) (rest : Rest) (met : Met) → IsEnough n met
+    → inside (visits n nodes) id b rest met
+    ≡ turns_in nodes (visit_all (visit_node n nodes) (child_ids b) met).0
+    ++ (leaving id b ++ rest (visit_all (visit_node n nodes) (child_ids b) met).1)
 unfolding visit_all
 inside_turns n nodes h model.no id rest met e = refl
 inside_turns n nodes h (model.scalar value style) id rest met e = refl
@@ -134,8 +146,11 @@ abbrev ContentJoins : ℕ → List ℕ → List model.Node → Type 0
 ContentJoins n table nodes = (id : ℤ) (rest : Node → Met → Node) (met : Met) → IsEnough n met
     → content_by n table nodes id rest met ≡ rest (node_said table nodes (visit_node n nodes id met).0) (visit_node n nodes id met).1
 
-all_items : (n : ℕ) (table : List ℕ) (nodes : List model.Node) → ContentJoins n table nodes → (ids : List ℤ) (rest : Nodes → Met → Node) (met : Met) → IsEnough n met
-    → items_by (content_by n table nodes) ids rest met ≡ rest (nodes_said table nodes (visit_all (visit_node n nodes) ids met).0) (visit_all (visit_node n nodes) ids met).1
+all_items : (n : ℕ) (table : List ℕ) (nodes : List model.Node) → ContentJoins n table nodes
+    → (ids : List ℤ) (rest : Nodes → Met → Node) (met : Met) → IsEnough n met
+    → items_by (content_by n table nodes) ids rest met
+    ≡ rest (nodes_said table nodes (visit_all (visit_node n nodes) ids met).0)
+    (visit_all (visit_node n nodes) ids met).1
 unfolding items_by visit_all
 all_items n table nodes h [] rest met e = refl
 all_items n table nodes h (id ∷ ids) rest met e =
@@ -143,9 +158,12 @@ all_items n table nodes h (id ∷ ids) rest met e =
     h id (λ v m. items_by (content_by n table nodes) ids (λ vs o. rest (node v vs) o) m) met e
     ∙ all_items n table nodes h ids (λ vs o. rest (node (node_said table nodes r.0) vs) o) r.1 (behind n nodes id met e)
 
-all_pairs : (n : ℕ) (table : List ℕ) (nodes : List model.Node) → ContentJoins n table nodes → (ps : List yaml_node_pair_t) (rest : Pairs → Met → Node) (met : Met) → IsEnough n met
+all_pairs : (n : ℕ) (table : List ℕ) (nodes : List model.Node) → ContentJoins n table nodes
+    → (ps : List yaml_node_pair_t) (rest : Pairs → Met → Node) (met : Met) → IsEnough n met
     → pairs_by (content_by n table nodes) ps rest met
-    ≡ rest (two_by_two (nodes_said table nodes (visit_all (visit_node n nodes) (pair_ids ps) met).0)) (visit_all (visit_node n nodes) (pair_ids ps) met).1
+    ≡ rest (two_by_two (nodes_said table nodes
+    (visit_all (visit_node n nodes) (pair_ids ps) met).0))
+    (visit_all (visit_node n nodes) (pair_ids ps) met).1
 unfolding pairs_by visit_all pair_ids
 all_pairs n table nodes h [] rest met e = refl
 all_pairs n table nodes h (p ∷ ps) rest met e =
@@ -156,9 +174,13 @@ all_pairs n table nodes h (p ∷ ps) rest met e =
     ∙ h p.value (λ v o. pairs_by (content_by n table nodes) ps (λ vs q. rest (pair (node_said table nodes r.0) v vs) q) o) r.1 f
     ∙ all_pairs n table nodes h ps (λ vs q. rest (pair (node_said table nodes r.0) (node_said table nodes s.0) vs) q) s.1 (behind n nodes p.value r.1 f)
 
-held_content : (n : ℕ) (table : List ℕ) (nodes : List model.Node) → ContentJoins n table nodes → (b : model.NodeBody) (anchor : Option (List ℕ)) (tag : List ℕ) (rest : Node → Met → Node) (met : Met) → IsEnough n met
+held_content : (n : ℕ) (table : List ℕ) (nodes : List model.Node) → ContentJoins n table nodes
+    → (b : model.NodeBody) (anchor : Option (List ℕ)) (tag : List ℕ) (rest : Node → Met → Node)
+    (met : Met) → IsEnough n met
     → node_by (content_by n table nodes) anchor tag b rest met
-    ≡ rest (with_held anchor tag b (nodes_said table nodes (visit_all (visit_node n nodes) (child_ids b) met).0)) (visit_all (visit_node n nodes) (child_ids b) met).1
+    ≡ rest (with_held anchor tag b (nodes_said table nodes
+    (visit_all (visit_node n nodes) (child_ids b) met).0))
+    (visit_all (visit_node n nodes) (child_ids b) met).1
 unfolding visit_all
 held_content n table nodes h model.no anchor tag rest met e = refl
 held_content n table nodes h (model.scalar value style) anchor tag rest met e = refl

@@ -12,16 +12,23 @@ use Rattle.yaml_emit_graph.specs.Events.{remaining_events, IsEvents}
 use Rattle.yaml_emit_graph.proofs.Walking.{fresh_walk}
 use Rattle.yaml_emit_graph.proofs.Contents.{dumped_turns}
 
-pub turn_comes : (d : Document) (old new : Events) (t : Turn) (e : Event) → old.place ≡ at.Nodes → new.numbers ≡ old.numbers → new.place ≡ old.place → remaining_turns d.nodes old.walk ≡ t ∷ remaining_turns d.nodes new.walk
-    → e ≡ turn_event old.numbers.items d.nodes t → remaining_events d old ≡ e ∷ remaining_events d new
+pub turn_comes : (d : Document) (old new : Events) (t : Turn) (e : Event) → old.place ≡ at.Nodes
+    → new.numbers ≡ old.numbers → new.place ≡ old.place
+    → remaining_turns d.nodes old.walk ≡ t ∷ remaining_turns d.nodes new.walk
+    → e ≡ turn_event old.numbers.items d.nodes t
+    → remaining_events d old ≡ e ∷ remaining_events d new
 unfolding remaining_events
 turn_comes d old new t e p n q c s = rw (q, p, n, c, s) refl
 
-pub end_comes : (d : Document) (old new : Events) (b : Bool) → old.place ≡ at.Nodes → new.place ≡ at.End → remaining_turns d.nodes old.walk ≡ [] → b ≡ d.end_implicit → remaining_events d old ≡ document_end b ∷ remaining_events d new
+pub end_comes : (d : Document) (old new : Events) (b : Bool) → old.place ≡ at.Nodes
+    → new.place ≡ at.End → remaining_turns d.nodes old.walk ≡ [] → b ≡ d.end_implicit
+    → remaining_events d old ≡ document_end b ∷ remaining_events d new
 unfolding remaining_events
 end_comes d old new b p q c e = rw (p, q, c, e) refl
 
-pub start_comes : (d : Document) (old new : Events) (e : Event) → old.place ≡ at.Start → new.place ≡ at.Nodes → new.numbers ≡ old.numbers → new.walk ≡ old.walk → e ≡ document_start (graph_opening d)
+pub start_comes : (d : Document) (old new : Events) (e : Event) → old.place ≡ at.Start
+    → new.place ≡ at.Nodes → new.numbers ≡ old.numbers → new.walk ≡ old.walk
+    → e ≡ document_start (graph_opening d)
     → remaining_events d old ≡ e ∷ remaining_events d new
 unfolding remaining_events
 start_comes d old new e p q n k s = rw (p, q, n, k, s) refl
@@ -30,7 +37,9 @@ pub none_comes : (d : Document) (e : Events) → e.place ≡ at.End → remainin
 unfolding remaining_events
 none_comes d e p = rw p refl
 
-pub begin_comes : (d : Document) (e : Events) (count : ℕ) → count ≡ length d.nodes → e.numbers.items ≡ numbers d.nodes → e.place ≡ at.Start → e.walk.started ≡ false → stack_of e.walk ≡ [] → e.walk.met.items ≡ replicate count false
+pub begin_comes : (d : Document) (e : Events) (count : ℕ) → count ≡ length d.nodes
+    → e.numbers.items ≡ numbers d.nodes → e.place ≡ at.Start → e.walk.started ≡ false
+    → stack_of e.walk ≡ [] → e.walk.met.items ≡ replicate count false
     → IsEvents d e × (remaining_events d e ≡ dumped d)
 unfolding remaining_events
 begin_comes d e count n t p s k m =

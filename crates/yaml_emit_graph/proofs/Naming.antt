@@ -20,7 +20,8 @@ pub name_utf8 : (number : ℕ) → number < 2 ^ 64 → IsUtf8 (name_of number)
 unfolding name_of
 name_utf8 number h = IsUtf8-append (lead (length (decimal number))) (decimal number) (lead_utf8 (length (decimal number))) (IsUtf8-from_ascii (decimal number) (IsAscii-decimal number h))
 
-pub name_made : (number size : ℕ) (items digits front : List ℕ) → digits ≡ decimal number → size ≡ length digits → front ≡ lead size → items ≡ front ++ digits → items ≡ name_of number
+pub name_made : (number size : ℕ) (items digits front : List ℕ) → digits ≡ decimal number
+    → size ≡ length digits → front ≡ lead size → items ≡ front ++ digits → items ≡ name_of number
 unfolding name_of
 name_made number size items digits front d n f e = rw (e, f, n, d) refl
 
@@ -31,7 +32,8 @@ body_utf8 n (model.sequence items style) h = tt
 body_utf8 n (model.mapping pairs style) h = tt
 
 -- the texts of a document's node
-pub utf8_at : (n : ℕ) (r : Option model.Node) (m : model.Node) → IsSoundAt n r → Some m ≡ r → IsUtf8 m.tag × IsUtf8Body m.body
+pub utf8_at : (n : ℕ) (r : Option model.Node) (m : model.Node) → IsSoundAt n r → Some m ≡ r
+    → IsUtf8 m.tag × IsUtf8Body m.body
 utf8_at n None m s e = absurd (cc)
 utf8_at n (Some x) m s e =
     let same : x ≡ m = cc in

@@ -13,11 +13,15 @@ use Rattle.yaml_emit_graph.specs.Graph.{Met, place_at, met_at, meet_at, is_met, 
 use Rattle.yaml_emit_graph.specs.Onward.{Rest, over, inside, visits, nothing_left, turns_onward}
 use Rattle.yaml_emit_graph.specs.Walk.{pairs_left, left_of, NextChild, next_of_pair, rest_of, stack, stack_of, opened, frames, remaining_by, remaining_turns, marked, IsWalk, with_opened, Visited, Comes}
 
-visit_again : (n : ℕ) (nodes : List model.Node) (id : ℤ) (r : Rest) (met : Met) → is_met met id ≡ true → visits (suc n) nodes id r met ≡ Again id ∷ r met
+visit_again : (n : ℕ) (nodes : List model.Node) (id : ℤ) (r : Rest) (met : Met)
+    → is_met met id ≡ true → visits (suc n) nodes id r met ≡ Again id ∷ r met
 unfolding visits
 visit_again n nodes id r met h = rw h refl
 
-visit_first : (n : ℕ) (nodes : List model.Node) (id : ℤ) (r : Rest) (met : Met) → is_met met id ≡ false → visits (suc n) nodes id r met ≡ First id ∷ inside (visits n nodes) id (body_of_id nodes id) r (meet met id)
+visit_first : (n : ℕ) (nodes : List model.Node) (id : ℤ) (r : Rest) (met : Met)
+    → is_met met id ≡ false
+    → visits (suc n) nodes id r met ≡ First id
+    ∷ inside (visits n nodes) id (body_of_id nodes id) r (meet met id)
 unfolding visits
 visit_first n nodes id r met h = rw h refl
 
@@ -27,8 +31,10 @@ left_opened (model.scalar value style) id = refl
 left_opened (model.sequence items style) id = refl
 left_opened (model.mapping pairs style) id = refl
 
-inside_frames : (b : model.NodeBody) (n : ℕ) (nodes : List model.Node) (id : ℤ) (os : List Open) (met : Met) → body_of_id nodes id ≡ b → n ≡ length nodes - length os
-    → inside (visits n nodes) id b (frames nodes os) met ≡ frames nodes (with_opened (is_collection b) id os) met
+inside_frames : (b : model.NodeBody) (n : ℕ) (nodes : List model.Node) (id : ℤ) (os : List Open)
+    (met : Met) → body_of_id nodes id ≡ b → n ≡ length nodes - length os
+    → inside (visits n nodes) id b (frames nodes os) met
+    ≡ frames nodes (with_opened (is_collection b) id os) met
 unfolding frames
 inside_frames model.no n nodes id os met e k = refl
 inside_frames (model.scalar value style) n nodes id os met e k = refl
@@ -41,14 +47,16 @@ inside_frames (model.mapping pairs style) n nodes id os met e k =
     ap (λ z. over (visits z nodes) (child_ids (model.mapping pairs style)) r met) k
     ∙ ap (λ z. over (visits (length nodes - length os) nodes) z r met) (sym (ap (λ z. left_of z (opened id)) e ∙ left_opened (model.mapping pairs style) id))
 
-sum_set : (met : Met) (k : ℕ) → get_or met k true ≡ false → marked (set met k true) ≡ suc (marked met)
+sum_set : (met : Met) (k : ℕ) → get_or met k true ≡ false
+    → marked (set met k true) ≡ suc (marked met)
 sum_set [] k h = absurd (cc)
 sum_set (true ∷ xs) zero h = absurd (cc)
 sum_set (false ∷ xs) zero h = refl
 sum_set (true ∷ xs) (suc k) h = ap suc (sum_set xs k h)
 sum_set (false ∷ xs) (suc k) h = sum_set xs k h
 
-pub sum_meet_at : (met : Met) (p : Option ℕ) → met_at met p ≡ false → marked (meet_at met p) ≡ suc (marked met)
+pub sum_meet_at : (met : Met) (p : Option ℕ) → met_at met p ≡ false
+    → marked (meet_at met p) ≡ suc (marked met)
 sum_meet_at met None h = absurd (cc)
 sum_meet_at met (Some k) h = sum_set met k h
 
@@ -61,12 +69,16 @@ sum_most [] = omega arith
 sum_most (true ∷ xs) = let e = sum_most xs in omega arith
 sum_most (false ∷ xs) = let e = sum_most xs in omega arith
 
-length_opened : (b : Bool) (id : ℤ) (os : List Open) → length (with_opened b id os) ≤ suc (length os)
+length_opened : (b : Bool) (id : ℤ) (os : List Open)
+    → length (with_opened b id os) ≤ suc (length os)
 length_opened true id os = omega arith
 length_opened false id os = omega arith
 
-first_walk : (nodes : List model.Node) (old new : Walk) (id : ℤ) → IsWalk nodes old → old.started ≡ true → is_met old.met.items id ≡ false → new.met.items ≡ meet old.met.items id → new.started ≡ old.started
-    → stack_of new ≡ with_opened (is_collection (body_of_id nodes id)) id (stack_of old) → IsWalk nodes new
+first_walk : (nodes : List model.Node) (old new : Walk) (id : ℤ) → IsWalk nodes old
+    → old.started ≡ true → is_met old.met.items id ≡ false → new.met.items ≡ meet old.met.items id
+    → new.started ≡ old.started
+    → stack_of new ≡ with_opened (is_collection (body_of_id nodes id)) id (stack_of old)
+    → IsWalk nodes new
 first_walk nodes old new id w s h m t k = record {
   sized = ap length m ∙ length_meet_at old.met.items (place_at id) ∙ w.sized;
   deep =
@@ -80,8 +92,11 @@ first_walk nodes old new id w s h m t k = record {
 }
 
 -- a node was visited, with the open nodes to come
-pub visited : (nodes : List model.Node) (mid new : Walk) (id : ℤ) (t : Turn) (n : ℕ) → mid.started ≡ true → IsWalk nodes mid → n ≡ length nodes - length (stack_of mid) → Visited nodes id mid (Ok t) new
-    → (visits (suc n) nodes id (frames nodes (stack_of mid)) mid.met.items ≡ t ∷ remaining_turns nodes new) × IsWalk nodes new
+pub visited : (nodes : List model.Node) (mid new : Walk) (id : ℤ) (t : Turn) (n : ℕ)
+    → mid.started ≡ true → IsWalk nodes mid → n ≡ length nodes - length (stack_of mid)
+    → Visited nodes id mid (Ok t) new
+    → (visits (suc n) nodes id (frames nodes (stack_of mid)) mid.met.items ≡ t
+    ∷ remaining_turns nodes new) × IsWalk nodes new
 unfolding remaining_turns
 visited nodes mid new id (Again i) n s w k v =
     let a = visit_again n nodes id (frames nodes (stack_of mid)) mid.met.items v.1 in
@@ -97,8 +112,11 @@ visited nodes mid new id (First i) n s w k v =
 visited nodes mid new id (Leave i) n s w k v = absurd v
 
 -- the next child of an open node
-pub child_comes : (nodes : List model.Node) (old : Walk) (o p : Open) (os : List Open) (id : ℤ) (n : ℕ) → old.started ≡ true → stack_of old ≡ o ∷ os → length nodes - length os ≡ suc n
-    → left_of (body_of_id nodes o.node) o ≡ id ∷ left_of (body_of_id nodes o.node) p → p.node ≡ o.node → remaining_turns nodes old ≡ visits (suc n) nodes id (frames nodes (p ∷ os)) old.met.items
+pub child_comes : (nodes : List model.Node) (old : Walk) (o p : Open) (os : List Open) (id : ℤ)
+    (n : ℕ) → old.started ≡ true → stack_of old ≡ o ∷ os → length nodes - length os ≡ suc n
+    → left_of (body_of_id nodes o.node) o ≡ id ∷ left_of (body_of_id nodes o.node) p
+    → p.node ≡ o.node
+    → remaining_turns nodes old ≡ visits (suc n) nodes id (frames nodes (p ∷ os)) old.met.items
 unfolding remaining_turns frames over
 child_comes nodes old o p os id n s k f l e =
     let met : Met = old.met.items in
@@ -111,7 +129,8 @@ child_comes nodes old o p os id n s k f l e =
     a ∙ b ∙ c ∙ ap (λ z. visits z nodes id (frames nodes (p ∷ os)) met) f
 
 -- the depth is less than the number of nodes
-pub depth_left : (nodes : List model.Node) (w : Walk) (o : Open) (os : List Open) → IsWalk nodes w → stack_of w ≡ o ∷ os → length nodes - length os ≡ suc (length nodes - length (o ∷ os))
+pub depth_left : (nodes : List model.Node) (w : Walk) (o : Open) (os : List Open) → IsWalk nodes w
+    → stack_of w ≡ o ∷ os → length nodes - length os ≡ suc (length nodes - length (o ∷ os))
 depth_left nodes w o os h k =
     let a = sum_most w.met.items in
     let b = h.deep in
@@ -119,8 +138,11 @@ depth_left nodes w o os h k =
     let d : length (stack_of w) ≡ length (o ∷ os) = ap length k in
     omega (arith, a, b, c, d)
 
-pairs_by : (v : Bool) (ps : List yaml_node_pair_t) (o : Open) (d : yaml_node_pair_t) → o.index < length ps
-    → (pairs_left v (drop o.index ps) ≡ (next_of_pair v (get_or ps o.index d) o).0 ∷ pairs_left (next_of_pair v (get_or ps o.index d) o).1.value (drop (next_of_pair v (get_or ps o.index d) o).1.index ps))
+pairs_by : (v : Bool) (ps : List yaml_node_pair_t) (o : Open) (d : yaml_node_pair_t)
+    → o.index < length ps
+    → (pairs_left v (drop o.index ps) ≡ (next_of_pair v (get_or ps o.index d) o).0
+    ∷ pairs_left (next_of_pair v (get_or ps o.index d) o).1.value
+    (drop (next_of_pair v (get_or ps o.index d) o).1.index ps))
     × ((next_of_pair v (get_or ps o.index d) o).1.node ≡ o.node)
 unfolding pair_ids
 pairs_by true ps o d h = (ap (pairs_left true) (drop_more ps o.index d h), refl)
@@ -129,8 +151,10 @@ pairs_by false ps o d h =
     (ap (pairs_left false) e ∙ ap (λ z. (get_or ps o.index d).key ∷ z) (sym (ap (pairs_left true) e)), refl)
 
 -- the next child of a mapping
-pub pair_next : (ps : List yaml_node_pair_t) (o : Open) (d : yaml_node_pair_t) (r : ℤ × Open) → o.index < length ps → r ≡ next_of_pair o.value (get_or ps o.index d) o
-    → (pairs_left o.value (drop o.index ps) ≡ r.0 ∷ pairs_left r.1.value (drop r.1.index ps)) × (r.1.node ≡ o.node)
+pub pair_next : (ps : List yaml_node_pair_t) (o : Open) (d : yaml_node_pair_t) (r : ℤ × Open)
+    → o.index < length ps → r ≡ next_of_pair o.value (get_or ps o.index d) o
+    → (pairs_left o.value (drop o.index ps) ≡ r.0 ∷ pairs_left r.1.value (drop r.1.index ps))
+    × (r.1.node ≡ o.node)
 pair_next ps o d r h e =
     let P : ℤ × Open → Type 0 = λ z. (pairs_left o.value (drop o.index ps) ≡ z.0 ∷ pairs_left z.1.value (drop z.1.index ps)) × (z.1.node ≡ o.node) in
     subst P (sym e) (pairs_by o.value ps o d h)
@@ -140,16 +164,19 @@ unfolding pair_ids
 no_pairs_left true = refl
 no_pairs_left false = refl
 
-pub pair_none : (v : Bool) (ps : List yaml_node_pair_t) (i : ℕ) → length ps ≤ i → pairs_left v (drop i ps) ≡ []
+pub pair_none : (v : Bool) (ps : List yaml_node_pair_t) (i : ℕ) → length ps ≤ i
+    → pairs_left v (drop i ps) ≡ []
 pair_none v ps i h = ap (pairs_left v) (drop_all i ps h) ∙ no_pairs_left v
 
 -- no node is open
-pub none_comes : (nodes : List model.Node) (w : Walk) → w.started ≡ true → w.top ≡ None → remaining_turns nodes w ≡ []
+pub none_comes : (nodes : List model.Node) (w : Walk) → w.started ≡ true → w.top ≡ None
+    → remaining_turns nodes w ≡ []
 unfolding remaining_turns frames
 none_comes nodes w s t = rw (s, t) refl
 
 -- a walk with the same marks and no more open nodes
-same_walk : (nodes : List model.Node) (old new : Walk) → IsWalk nodes old → new.started ≡ true → new.met ≡ old.met → length (stack_of new) ≤ length (stack_of old) → IsWalk nodes new
+same_walk : (nodes : List model.Node) (old new : Walk) → IsWalk nodes old → new.started ≡ true
+    → new.met ≡ old.met → length (stack_of new) ≤ length (stack_of old) → IsWalk nodes new
 same_walk nodes old new w s m l = record {
   sized = ap (λ (z : Vec Bool Global). length z.items) m ∙ w.sized;
   deep =
@@ -160,8 +187,10 @@ same_walk nodes old new w s m l = record {
 }
 
 -- an open node ends
-pub leave_comes : (nodes : List model.Node) (old new : Walk) (o : Open) → old.started ≡ true → old.top ≡ Some o → IsWalk nodes old → left_of (body_of_id nodes o.node) o ≡ []
-    → stack_of new ≡ rest_of (stack_of old) → new.met ≡ old.met → new.started ≡ old.started → (remaining_turns nodes old ≡ Leave o.node ∷ remaining_turns nodes new) × IsWalk nodes new
+pub leave_comes : (nodes : List model.Node) (old new : Walk) (o : Open) → old.started ≡ true
+    → old.top ≡ Some o → IsWalk nodes old → left_of (body_of_id nodes o.node) o ≡ []
+    → stack_of new ≡ rest_of (stack_of old) → new.met ≡ old.met → new.started ≡ old.started
+    → (remaining_turns nodes old ≡ Leave o.node ∷ remaining_turns nodes new) × IsWalk nodes new
 unfolding remaining_turns frames over
 leave_comes nodes old new o s t w l k m b =
     let os : List Open = reverse old.outer.items in
@@ -177,8 +206,11 @@ leave_comes nodes old new o s t w l k m b =
     (a ∙ c ∙ ap (λ z. Leave o.node ∷ z) d, same_walk nodes old new w (b ∙ s) m (omega (arith, g, h)))
 
 -- the next child of the innermost open node is visited
-pub child_met : (nodes : List model.Node) (old mid new : Walk) (o p : Open) (id : ℤ) (t : Turn) → old.started ≡ true → old.top ≡ Some o → IsWalk nodes old
-    → mid.top ≡ Some p → mid.outer ≡ old.outer → mid.met ≡ old.met → mid.started ≡ true → NextChild (body_of_id nodes o.node) o (Some (id, p)) → (i : ℤ) → i ≡ id → Visited nodes i mid (Ok t) new
+pub child_met : (nodes : List model.Node) (old mid new : Walk) (o p : Open) (id : ℤ) (t : Turn)
+    → old.started ≡ true → old.top ≡ Some o → IsWalk nodes old
+    → mid.top ≡ Some p → mid.outer ≡ old.outer → mid.met ≡ old.met → mid.started ≡ true
+    → NextChild (body_of_id nodes o.node) o (Some (id, p)) → (i : ℤ) → i ≡ id
+    → Visited nodes i mid (Ok t) new
     → (remaining_turns nodes old ≡ t ∷ remaining_turns nodes new) × IsWalk nodes new
 child_met nodes old mid new o p id t s k w km out m sm next i same u =
     let V : ℤ → Type 0 = λ z. Visited nodes z mid (Ok t) new in
@@ -196,8 +228,10 @@ child_met nodes old mid new o p id t s k w km out m sm next i same u =
     (a ∙ b ∙ c.0, c.1)
 
 -- the root is visited
-pub root_met : (nodes : List model.Node) (old mid new : Walk) (t : Turn) → old.started ≡ false → IsWalk nodes old
-    → mid.top ≡ old.top → mid.outer ≡ old.outer → mid.met ≡ old.met → mid.started ≡ true → Visited nodes (pos 1) mid (Ok t) new
+pub root_met : (nodes : List model.Node) (old mid new : Walk) (t : Turn) → old.started ≡ false
+    → IsWalk nodes old
+    → mid.top ≡ old.top → mid.outer ≡ old.outer → mid.met ≡ old.met → mid.started ≡ true
+    → Visited nodes (pos 1) mid (Ok t) new
     → (remaining_turns nodes old ≡ t ∷ remaining_turns nodes new) × IsWalk nodes new
 unfolding remaining_turns frames
 root_met nodes old mid new t s w km out m sm v =
@@ -211,7 +245,8 @@ root_met nodes old mid new t s w km out m sm v =
     (a ∙ b ∙ c.0, c.1)
 
 -- nothing was met
-pub fresh_walk : (nodes : List model.Node) (w : Walk) (count : ℕ) → count ≡ length nodes → w.started ≡ false → stack_of w ≡ [] → w.met.items ≡ replicate count false
+pub fresh_walk : (nodes : List model.Node) (w : Walk) (count : ℕ) → count ≡ length nodes
+    → w.started ≡ false → stack_of w ≡ [] → w.met.items ≡ replicate count false
     → IsWalk nodes w × (remaining_turns nodes w ≡ turns_onward nodes)
 unfolding remaining_turns turns_onward
 fresh_walk nodes w count n s k m = (
@@ -224,6 +259,7 @@ fresh_walk nodes w count n s k m = (
 )
 
 -- no turn was given
-pub none_left : (nodes : List model.Node) (old new : Walk) (r : Option Turn) → ((t : Turn) → r ≡ Some t → ⊥) → Comes nodes old (Ok r) new → remaining_turns nodes old ≡ []
+pub none_left : (nodes : List model.Node) (old new : Walk) (r : Option Turn)
+    → ((t : Turn) → r ≡ Some t → ⊥) → Comes nodes old (Ok r) new → remaining_turns nodes old ≡ []
 none_left nodes old new None n h = h.0
 none_left nodes old new (Some t) n h = absurd (n t refl)

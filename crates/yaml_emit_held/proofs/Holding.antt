@@ -12,7 +12,8 @@ use Rattle.yaml_emit_held.specs.declared.held.Seat.{Seat}
 use Rattle.yaml_emit_held.specs.declared.held.Seat.TheVariants.{First, Second, Third}
 use Rattle.yaml_emit_held.specs.Held.{is_ready, needs, closes, ends_level, releases, passes, next, less, stands, seated, held_events, oldest_event}
 
-pub ready_empty : (e : Event) (es more : List Event) → is_ready (e ∷ es) ≡ true → opens_empty e (es ++ more) ≡ opens_empty e es
+pub ready_empty : (e : Event) (es more : List Event) → is_ready (e ∷ es) ≡ true
+    → opens_empty e (es ++ more) ≡ opens_empty e es
 unfolding is_ready opens_empty
 ready_empty (sequence_start p) [] more h = absurd (cc)
 ready_empty (mapping_start p) [] more h = absurd (cc)
@@ -75,7 +76,8 @@ both_false true false g h = absurd (cc)
 pub few_short : (xs : List Event) → is_ready xs ≡ false → length xs ≤ 3
 few_short xs h = let few = waits_few xs h in omega (arith, few)
 
-pub pushed_most : (xs ys : List Event) (e : Event) → ys ≡ xs ++ e ∷ [] → length xs ≤ 2 → length ys ≤ 3
+pub pushed_most : (xs ys : List Event) (e : Event) → ys ≡ xs ++ e ∷ [] → length xs ≤ 2
+    → length ys ≤ 3
 pushed_most xs ys e same few =
     let more : length ys ≡ length xs + 1 = ap (λ (zs : List Event). length zs) same ∙ length-append xs (e ∷ []) in
     omega (arith, more, few)
@@ -92,7 +94,8 @@ less_most xs ys e same most = let few = one_less xs ys e same most in omega (ari
 pub one_gone : (xs ys : List Event) (e f : Event) → xs ≡ e ∷ ys → xs ++ f ∷ [] ≡ e ∷ ys ++ f ∷ []
 one_gone xs ys e f same = ap (λ (zs : List Event). zs ++ f ∷ []) same
 
-pub released_ready : (xs : List Event) (f : Event) → releases xs f ≡ true → is_ready (xs ++ f ∷ []) ≡ true
+pub released_ready : (xs : List Event) (f : Event) → releases xs f ≡ true
+    → is_ready (xs ++ f ∷ []) ≡ true
 released_ready [] f h = absurd (cc)
 released_ready (e ∷ es) f h = h
 
@@ -105,12 +108,14 @@ few_room (a ∷ b ∷ c ∷ []) f h m = let k = four_ready a b c f [] in absurd 
 few_room (a ∷ b ∷ c ∷ d ∷ xs) f h m = absurd (omega (arith, m))
 
 -- behind the last that is laid out two are left: they wait, or the output has stopped
-pub room_held : (b : Bool) (xs : List Event) (f : Event) → (releases xs f && b) ≡ false → (b ≡ false → length xs ≤ 2) → length xs ≤ 3 → length xs ≤ 2
+pub room_held : (b : Bool) (xs : List Event) (f : Event) → (releases xs f && b) ≡ false
+    → (b ≡ false → length xs ≤ 2) → length xs ≤ 3 → length xs ≤ 2
 room_held true xs f h s m = few_room xs f (both_false _ true refl h) m
 room_held false xs f h s m = s refl
 
 -- an event that neither releases others nor passes is held behind them
-pub pushed_waits : (xs ys : List Event) (f : Event) → ys ≡ xs ++ f ∷ [] → releases xs f ≡ false → passes xs f ≡ false → is_ready ys ≡ false
+pub pushed_waits : (xs ys : List Event) (f : Event) → ys ≡ xs ++ f ∷ [] → releases xs f ≡ false
+    → passes xs f ≡ false → is_ready ys ≡ false
 pushed_waits [] ys f same r p = ap is_ready same ∙ p
 pushed_waits (e ∷ es) ys f same r p = ap is_ready same ∙ r
 
@@ -126,7 +131,8 @@ passed_waits (e ∷ es) f h = absurd (cc)
 in_seats : Count → Seat → yaml_event_body_t → yaml_event_body_t → yaml_event_body_t → Held
 in_seats k s a b c = record { count = k; oldest = s; first = a; second = b; third = c }
 
-front_left : (k : Count) (s : Seat) (a b c x : yaml_event_body_t) (f : Event) → releases (held_events (in_seats k s a b c)) f ≡ true
+front_left : (k : Count) (s : Seat) (a b c x : yaml_event_body_t) (f : Event)
+    → releases (held_events (in_seats k s a b c)) f ≡ true
     → let m = seated s x (in_seats k s a b c) in
     held_events (in_seats k s a b c) ≡ oldest_event (in_seats k s a b c) ∷ held_events (record m { oldest = next m.oldest; count = less m.count })
 unfolding in_seats
@@ -136,8 +142,10 @@ front_left k Second a b c x f r = refl
 front_left k Third a b c x f r = refl
 
 -- the oldest is gone, whatever stands in its seat
-pub left_behind : (old mid : Held) (k : Count) (s : Seat) (f : Event) → mid ≡ seated old.oldest (stands old.oldest mid) old → s ≡ next mid.oldest → k ≡ less mid.count
-    → releases (held_events old) f ≡ true → held_events old ≡ oldest_event old ∷ held_events (record mid { oldest = s; count = k })
+pub left_behind : (old mid : Held) (k : Count) (s : Seat) (f : Event)
+    → mid ≡ seated old.oldest (stands old.oldest mid) old → s ≡ next mid.oldest → k ≡ less mid.count
+    → releases (held_events old) f ≡ true
+    → held_events old ≡ oldest_event old ∷ held_events (record mid { oldest = s; count = k })
 unfolding in_seats
 left_behind old mid k s f m e n r =
     let P : Held → Type 0 = λ z. held_events old ≡ oldest_event old ∷ held_events (record z { oldest = next z.oldest; count = less z.count }) in

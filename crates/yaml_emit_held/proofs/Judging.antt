@@ -36,7 +36,8 @@ use Rattle.yaml_emit_held.proofs.Holding.{ready_empty, none_needed}
 
 -- ---- what is ready stays so
 
-or_more : (a c b d : Bool) → (a ≡ true → c ≡ true) → (b ≡ true → d ≡ true) → (a || b) ≡ true → (c || d) ≡ true
+or_more : (a c b d : Bool) → (a ≡ true → c ≡ true) → (b ≡ true → d ≡ true) → (a || b) ≡ true
+    → (c || d) ≡ true
 or_more true c b d f g h = ap (λ z. z || d) (f refl)
 or_more false c b d f g h = or_right c d (g h)
 
@@ -51,10 +52,12 @@ closes_more (e ∷ es) more h = or_more (ends_level e) (ends_level e) (not (open
 le_longer : (n a b : ℕ) → nat_le n a ≡ true → nat_le n (a + b) ≡ true
 le_longer n a b h = grind (arith, nat_tests)
 
-longer : (n : ℕ) (es more : List Event) → nat_le n (length es) ≡ true → nat_le n (length (es ++ more)) ≡ true
+longer : (n : ℕ) (es more : List Event) → nat_le n (length es) ≡ true
+    → nat_le n (length (es ++ more)) ≡ true
 longer n es more h = ap (nat_le n) (length-append es more) ∙ le_longer n (length es) (length more) h
 
-pub ready_more : (e : Event) (es more : List Event) → is_ready (e ∷ es) ≡ true → is_ready (e ∷ (es ++ more)) ≡ true
+pub ready_more : (e : Event) (es more : List Event) → is_ready (e ∷ es) ≡ true
+    → is_ready (e ∷ (es ++ more)) ≡ true
 unfolding is_ready
 ready_more e es more h = or_more (nat_le (needs e) (length es)) (nat_le (needs e) (length (es ++ more))) (closes es) (closes (es ++ more)) (longer (needs e) es more) (closes_more es more) h
 
@@ -65,14 +68,17 @@ same_ends (Items fresh) e = refl
 same_ends (Keys fresh) e = refl
 same_ends (Value simple) e = refl
 
-same_may : (ls : List Level) (e : Event) → may_come (top_of ls) e ≡ may_come (level_due (due_of ls)) e
+same_may : (ls : List Level) (e : Event)
+    → may_come (top_of ls) e ≡ may_come (level_due (due_of ls)) e
 same_may [] e = refl
 same_may (l ∷ ls) e = ap (λ z. begins_node e || z) (same_ends l.phase e)
 
-same_node : (ls : List Level) (e : Event) → node_problem (top_of ls) e ≡ node_problem (level_due (due_of ls)) e
+same_node : (ls : List Level) (e : Event)
+    → node_problem (top_of ls) e ≡ node_problem (level_due (due_of ls)) e
 same_node ls e = rw (same_may ls e) refl
 
-same_place : (p : Expected) (ls : List Level) (e : Event) → place_problem p (top_of ls) e ≡ place_problem p (level_due (due_of ls)) e
+same_place : (p : Expected) (ls : List Level) (e : Event)
+    → place_problem p (top_of ls) e ≡ place_problem p (level_due (due_of ls)) e
 unfolding place_problem
 same_place at.StreamStart ls e = refl
 same_place (at.Documents first unended) ls e = refl
@@ -81,7 +87,8 @@ same_place at.DocumentEnd ls e = refl
 same_place at.End ls e = refl
 same_place (at.Refused p) ls e = refl
 
-pub same_problem : (s : Settings) (st : State) (e : Event) → problem_at s st e ≡ problem_in s.canonical (shape_of st) e
+pub same_problem : (s : Settings) (st : State) (e : Event)
+    → problem_at s st e ≡ problem_in s.canonical (shape_of st) e
 unfolding problem_by
 same_problem s st e = ap (λ z. or_else (event_problem s.canonical e) (or_else z (last_problem e))) (same_place st.place st.levels e)
 
@@ -89,13 +96,15 @@ among_shape : (g : List TagDirective) (ls : List Level) → shape_of (among g ls
 among_shape g [] = refl
 among_shape g (l ∷ ls) = refl
 
-due_behind : (p : Phase) (simple : Bool) (ds : List Due) → due_in (phase_behind p simple) ∷ ds ≡ behind_node (due_in p ∷ ds)
+due_behind : (p : Phase) (simple : Bool) (ds : List Due)
+    → due_in (phase_behind p simple) ∷ ds ≡ behind_node (due_in p ∷ ds)
 unfolding phase_behind
 due_behind (Items fresh) simple ds = refl
 due_behind (Keys fresh) simple ds = refl
 due_behind (Value was) simple ds = refl
 
-dues_behind : (ls : List Level) (simple : Bool) → due_of (levels_behind ls simple) ≡ behind_node (due_of ls)
+dues_behind : (ls : List Level) (simple : Bool)
+    → due_of (levels_behind ls simple) ≡ behind_node (due_of ls)
 dues_behind [] simple = refl
 dues_behind (l ∷ ls) simple = due_behind l.phase simple (due_of ls)
 
@@ -103,7 +112,10 @@ dues_outer : (ls : List Level) → due_of (outer_of ls) ≡ outer_due (due_of ls
 dues_outer [] = refl
 dues_outer (l ∷ ls) = refl
 
-shape_at : (p : Context) (place : Expected) (ls : List Level) (e : Event) (empty : Bool) (d : Cursor) → shape_of (next_at p place ls e empty d) ≡ progress_after (record { place = place; due = due_of ls }) e
+shape_at : (p : Context) (place : Expected) (ls : List Level) (e : Event) (empty : Bool)
+    (d : Cursor)
+    → shape_of (next_at p place ls e empty d)
+    ≡ progress_after (record { place = place; due = due_of ls }) e
 unfolding next_at progress_after
 shape_at p place ls no_event empty d = refl
 shape_at p place ls (stream_start x) empty d = refl
@@ -117,7 +129,8 @@ shape_at p place ls (mapping_start q) empty d = ap (λ z. inside (key_due ∷ z)
 shape_at p place ls sequence_end empty d = among_shape p.directives (outer_of ls) ∙ ap inside (dues_outer ls)
 shape_at p place ls mapping_end empty d = among_shape p.directives (outer_of ls) ∙ ap inside (dues_outer ls)
 
-pub shape_next : (s : Settings) (st : State) (e : Event) (empty : Bool) (d : Cursor) → shape_of (next s st e empty d) ≡ progress_after (shape_of st) e
+pub shape_next : (s : Settings) (st : State) (e : Event) (empty : Bool) (d : Cursor)
+    → shape_of (next s st e empty d) ≡ progress_after (shape_of st) e
 shape_next s st e empty d = shape_at (context_of s st.directives) st.place st.levels e empty d
 
 -- ---- behind an event in its right place nothing is refused
@@ -126,7 +139,8 @@ place_open : (l : Option Level) → refused_at (place_at l) ≡ None
 place_open None = refl
 place_open (Some l) = refl
 
-open_at : (p : Context) (place : Expected) (ls : List Level) (e : Event) (empty : Bool) (d : Cursor) → refused_at place ≡ None → refused_at (next_at p place ls e empty d).place ≡ None
+open_at : (p : Context) (place : Expected) (ls : List Level) (e : Event) (empty : Bool) (d : Cursor)
+    → refused_at place ≡ None → refused_at (next_at p place ls e empty d).place ≡ None
 unfolding next_at
 open_at p place ls no_event empty d h = h
 open_at p place ls (stream_start x) empty d h = refl
@@ -140,7 +154,8 @@ open_at p place ls (mapping_start q) empty d h = refl
 open_at p place ls sequence_end empty d h = place_open (top_of (outer_of ls))
 open_at p place ls mapping_end empty d h = place_open (top_of (outer_of ls))
 
-open_next : (s : Settings) (st : State) (e : Event) (empty : Bool) (d : Cursor) → refused_at st.place ≡ None → refused_at (next s st e empty d).place ≡ None
+open_next : (s : Settings) (st : State) (e : Event) (empty : Bool) (d : Cursor)
+    → refused_at st.place ≡ None → refused_at (next s st e empty d).place ≡ None
 open_next s st e empty d h = open_at (context_of s st.directives) st.place st.levels e empty d h
 
 pub going_open : (s : Status) (p : Expected) → goes_on s p ≡ true → refused_at p ≡ None
@@ -161,12 +176,15 @@ pub or_some : (p q : Option Problem) (x : Problem) → p ≡ Some x → or_else 
 or_some None q x e = absurd (cc)
 or_some (Some y) q x e = e
 
-first_out : (e : Event) (es : List Event) → is_ready (e ∷ es) ≡ true → let_out (e ∷ es) ≡ e ∷ let_out es
+first_out : (e : Event) (es : List Event) → is_ready (e ∷ es) ≡ true
+    → let_out (e ∷ es) ≡ e ∷ let_out es
 unfolding let_out
 first_out e es r = rw r refl
 
-among_step : (s : Settings) (st new : State) (e : Event) (empty : Bool) (d : Cursor) (es : List Event) (p : Option Problem) → p ≡ problem_at s st e → refused_at st.place ≡ None
-    → new ≡ next_state p st (next s st e empty d) → refusal_among s.canonical new es ≡ refusal_among s.canonical st (e ∷ es)
+among_step : (s : Settings) (st new : State) (e : Event) (empty : Bool) (d : Cursor)
+    (es : List Event) (p : Option Problem) → p ≡ problem_at s st e → refused_at st.place ≡ None
+    → new ≡ next_state p st (next s st e empty d)
+    → refusal_among s.canonical new es ≡ refusal_among s.canonical st (e ∷ es)
 unfolding first_refusal
 among_step s st new e empty d es None pe o same =
     let right : problem_in s.canonical (shape_of st) e ≡ None = sym (same_problem s st e) ∙ sym pe in
@@ -181,18 +199,23 @@ among_step s st new e empty d es (Some x) pe o same =
     or_none (refused_at st.place) _ o ∙ or_some _ _ x wrong in
     ap (λ z. refusal_among s.canonical z es) same ∙ sym front
 
-refusal_step : (s : Settings) (st new : State) (e : Event) (empty : Bool) (d : Cursor) (es : List Event) (p : Option Problem) → p ≡ problem_at s st e → refused_at st.place ≡ None → is_ready (e ∷ es) ≡ true
-    → new ≡ next_state p st (next s st e empty d) → refusal_from s.canonical new es ≡ refusal_from s.canonical st (e ∷ es)
+refusal_step : (s : Settings) (st new : State) (e : Event) (empty : Bool) (d : Cursor)
+    (es : List Event) (p : Option Problem) → p ≡ problem_at s st e → refused_at st.place ≡ None
+    → is_ready (e ∷ es) ≡ true
+    → new ≡ next_state p st (next s st e empty d)
+    → refusal_from s.canonical new es ≡ refusal_from s.canonical st (e ∷ es)
 refusal_step s st new e empty d es p pe o r same =
     among_step s st new e empty d (let_out es) p pe o same ∙ ap (λ z. refusal_among s.canonical st z) (sym (first_out e es r))
 
 -- ---- what is written
 
-pub unless_none : (p : Option Problem) (a : Layout) (c : Cursor) (rest : Rest) → p ≡ None → unless p a c rest ≡ a c rest
+pub unless_none : (p : Option Problem) (a : Layout) (c : Cursor) (rest : Rest) → p ≡ None
+    → unless p a c rest ≡ a c rest
 unless_none None a c rest e = refl
 unless_none (Some x) a c rest e = absurd (cc)
 
-pub unless_some : (p : Option Problem) (x : Problem) (a : Layout) (c : Cursor) (rest : Rest) → p ≡ Some x → unless p a c rest ≡ rest c
+pub unless_some : (p : Option Problem) (x : Problem) (a : Layout) (c : Cursor) (rest : Rest)
+    → p ≡ Some x → unless p a c rest ≡ rest c
 unless_some None x a c rest e = absurd (cc)
 unless_some (Some y) x a c rest e = refl
 
@@ -200,7 +223,8 @@ held_none : (f : Event) (es : List Event) → is_ready (f ∷ es) ≡ false → 
 unfolding let_out
 held_none f es r = rw r refl
 
-out_begins : (p : Event → Bool) (b : Bool) (f : Event) (es : List Event) → is_ready (f ∷ es) ≡ b → (b ≡ false → p f ≡ false) → begins_by p (let_out (f ∷ es)) ≡ p f
+out_begins : (p : Event → Bool) (b : Bool) (f : Event) (es : List Event) → is_ready (f ∷ es) ≡ b
+    → (b ≡ false → p f ≡ false) → begins_by p (let_out (f ∷ es)) ≡ p f
 out_begins p true f es r n = ap (begins_by p) (first_out f es r)
 out_begins p false f es r n = ap (begins_by p) (held_none f es r) ∙ sym (n refl)
 
@@ -213,12 +237,14 @@ end_mapping : (f : Event) (es : List Event) → is_ready (f ∷ es) ≡ false �
 end_mapping mapping_end es r = let k = none_needed mapping_end es refl in absurd (cc)
 end_mapping f es r = refl
 
-sequence_begins : (es : List Event) → begins_by is_sequence_end (let_out es) ≡ begins_by is_sequence_end es
+sequence_begins : (es : List Event)
+    → begins_by is_sequence_end (let_out es) ≡ begins_by is_sequence_end es
 unfolding let_out
 sequence_begins [] = refl
 sequence_begins (f ∷ es) = out_begins is_sequence_end (is_ready (f ∷ es)) f es refl (end_sequence f es)
 
-mapping_begins : (es : List Event) → begins_by is_mapping_end (let_out es) ≡ begins_by is_mapping_end es
+mapping_begins : (es : List Event)
+    → begins_by is_mapping_end (let_out es) ≡ begins_by is_mapping_end es
 unfolding let_out
 mapping_begins [] = refl
 mapping_begins (f ∷ es) = out_begins is_mapping_end (is_ready (f ∷ es)) f es refl (end_mapping f es)
@@ -241,36 +267,50 @@ empty_out mapping_end es = refl
 behind : Settings → State → Event → Bool → List Event → Rest → Rest
 behind s st e empty es rest d = laid s (next s st e empty d) es d rest
 
-laid_right : (s : Settings) (st : State) (e : Event) (es : List Event) (c : Cursor) (rest : Rest) → problem_at s st e ≡ None → laid s st (e ∷ es) c rest ≡ piece s st e (opens_empty e es) c (behind s st e (opens_empty e es) es rest)
+laid_right : (s : Settings) (st : State) (e : Event) (es : List Event) (c : Cursor) (rest : Rest)
+    → problem_at s st e ≡ None
+    → laid s st (e ∷ es) c rest ≡ piece s st e (opens_empty e es) c
+    (behind s st e (opens_empty e es) es rest)
 unfolding laid behind
 laid_right s st e es c rest p = unless_none (problem_at s st e) _ c rest p
 
-text_right : (s : Settings) (st : State) (e : Event) (es : List Event) (c : Cursor) (rest : Rest) → refused_at st.place ≡ None → problem_at s st e ≡ None
-    → text_among s st (e ∷ es) c rest ≡ piece s st e (opens_empty e es) c (behind s st e (opens_empty e es) es rest)
+text_right : (s : Settings) (st : State) (e : Event) (es : List Event) (c : Cursor) (rest : Rest)
+    → refused_at st.place ≡ None → problem_at s st e ≡ None
+    → text_among s st (e ∷ es) c rest
+    ≡ piece s st e (opens_empty e es) c (behind s st e (opens_empty e es) es rest)
 text_right s st e es c rest o p = unless_none (refused_at st.place) _ c rest o ∙ laid_right s st e es c rest p
 
-laid_wrong : (s : Settings) (st : State) (e : Event) (es : List Event) (c : Cursor) (rest : Rest) (x : Problem) → problem_at s st e ≡ Some x → laid s st (e ∷ es) c rest ≡ rest c
+laid_wrong : (s : Settings) (st : State) (e : Event) (es : List Event) (c : Cursor) (rest : Rest)
+    (x : Problem) → problem_at s st e ≡ Some x → laid s st (e ∷ es) c rest ≡ rest c
 unfolding laid
 laid_wrong s st e es c rest x p = unless_some (problem_at s st e) x _ c rest p
 
-text_wrong : (s : Settings) (st : State) (e : Event) (es : List Event) (c : Cursor) (rest : Rest) (x : Problem) → refused_at st.place ≡ None → problem_at s st e ≡ Some x
+text_wrong : (s : Settings) (st : State) (e : Event) (es : List Event) (c : Cursor) (rest : Rest)
+    (x : Problem) → refused_at st.place ≡ None → problem_at s st e ≡ Some x
     → text_among s st (e ∷ es) c rest ≡ rest c
 text_wrong s st e es c rest x o p = unless_none (refused_at st.place) _ c rest o ∙ laid_wrong s st e es c rest x p
 
-same_settings : (old new : Core) → new.settings ≡ old.settings → new.sink.encoding ≡ old.sink.encoding → settings_of new ≡ settings_of old
+same_settings : (old new : Core) → new.settings ≡ old.settings
+    → new.sink.encoding ≡ old.sink.encoding → settings_of new ≡ settings_of old
 same_settings old new e x = rw (e, x) refl
 
 -- what an event that was laid out has done, by what was wrong with it
 record Done (old new : Core) (e : Event) (empty : Bool) (p : Option Problem) : Type 0 where
   problem : problem_at (settings_of old) (state_of old) e ≡ p
   settings : settings_of new ≡ settings_of old
-  state : new.sink.status ≡ Going → state_of new ≡ next_state p (state_of old) (next (settings_of old) (state_of old) e empty new.sink.cursor)
+  state : new.sink.status ≡ Going
+      → state_of new ≡ next_state p (state_of old)
+      (next (settings_of old) (state_of old) e empty new.sink.cursor)
   text : Puts old.sink new.sink (next_piece p (piece (settings_of old) (state_of old) e empty))
 
-done : (old new : Core) (e : Event) (empty : Bool) → LaysOut old new e empty → Done old new e empty (problem_at (settings_of old) (state_of old) e)
+done : (old new : Core) (e : Event) (empty : Bool) → LaysOut old new e empty
+    → Done old new e empty (problem_at (settings_of old) (state_of old) e)
 done old new e empty l = record { problem = refl; settings = same_settings old new l.settings l.text.encoding; state = l.state; text = l.text }
 
-all_step : (p : Option Problem) (old new : Core) (e : Event) (es : List Event) (whole : List Item) → refused_at old.place ≡ None → Done old new e (opens_empty e es) p → LaysAll (settings_of old) (state_of old) old.sink (e ∷ es) whole → LaysAll (settings_of new) (state_of new) new.sink es whole
+all_step : (p : Option Problem) (old new : Core) (e : Event) (es : List Event) (whole : List Item)
+    → refused_at old.place ≡ None → Done old new e (opens_empty e es) p
+    → LaysAll (settings_of old) (state_of old) old.sink (e ∷ es) whole
+    → LaysAll (settings_of new) (state_of new) new.sink es whole
 unfolding LaysAll behind
 all_step None old new e es whole o l h =
     let s : Settings = settings_of old in
@@ -300,7 +340,10 @@ all_step (Some x) old new e es whole o l h =
     (λ n. ends_other new.sink _ _ whole n back)
 
 -- the same of those that are let out
-text_step : (old new : Core) (e : Event) (es : List Event) (whole : List Item) → refused_at old.place ≡ None → is_ready (e ∷ es) ≡ true → LaysOut old new e (opens_empty e es) → LetsOut (settings_of old) (state_of old) old.sink (e ∷ es) whole → LetsOut (settings_of new) (state_of new) new.sink es whole
+text_step : (old new : Core) (e : Event) (es : List Event) (whole : List Item)
+    → refused_at old.place ≡ None → is_ready (e ∷ es) ≡ true → LaysOut old new e (opens_empty e es)
+    → LetsOut (settings_of old) (state_of old) old.sink (e ∷ es) whole
+    → LetsOut (settings_of new) (state_of new) new.sink es whole
 unfolding LetsOut LaysAll
 text_step old new e es whole o r l h =
     let R : Bool → Type 0 = λ v. LaysOut old new e v in
@@ -324,27 +367,39 @@ lays_none a h = record {
   left = λ n. n;
 }
 
-refusal_on : (b c : Core) (e : Event) (es : List Event) (empty : Bool) → refused_at b.place ≡ None → is_ready (e ∷ es) ≡ true → LaysOut b c e empty → c.sink.status ≡ Going → refusal_behind (settings_of c) (state_of c) es ≡ refusal_behind (settings_of b) (state_of b) (e ∷ es)
+refusal_on : (b c : Core) (e : Event) (es : List Event) (empty : Bool) → refused_at b.place ≡ None
+    → is_ready (e ∷ es) ≡ true → LaysOut b c e empty → c.sink.status ≡ Going
+    → refusal_behind (settings_of c) (state_of c) es
+    ≡ refusal_behind (settings_of b) (state_of b) (e ∷ es)
 unfolding refusal_behind
 refusal_on b c e es empty o r l g =
     ap (λ (z : Settings). refusal_from z.canonical (state_of c) es) (same_settings b c l.settings l.text.encoding)
     ∙ refusal_step (settings_of b) (state_of b) (state_of c) e empty c.sink.cursor es (problem_at (settings_of b) (state_of b) e) refl o r (l.state g)
 
-pub wrong_on : (b c : Core) (e : Event) (es : List Event) (empty : Bool) → refused_at b.place ≡ None → LaysOut b c e empty → c.sink.status ≡ Going → first_wrong (settings_of c) (state_of c) es ≡ first_wrong (settings_of b) (state_of b) (e ∷ es)
+pub wrong_on : (b c : Core) (e : Event) (es : List Event) (empty : Bool) → refused_at b.place ≡ None
+    → LaysOut b c e empty → c.sink.status ≡ Going
+    → first_wrong (settings_of c) (state_of c) es
+    ≡ first_wrong (settings_of b) (state_of b) (e ∷ es)
 unfolding first_wrong
 wrong_on b c e es empty o l g =
     ap (λ (z : Settings). refusal_among z.canonical (state_of c) es) (same_settings b c l.settings l.text.encoding)
     ∙ among_step (settings_of b) (state_of b) (state_of c) e empty c.sink.cursor es (problem_at (settings_of b) (state_of b) e) refl o (l.state g)
 
 -- an event that is laid out before those behind it are known
-pub lays_first : (b c : Core) (e : Event) (es : List Event) (whole : List Item) → refused_at b.place ≡ None → LaysOut b c e (opens_empty e es) → LaysAll (settings_of b) (state_of b) b.sink (e ∷ es) whole → LaysAll (settings_of c) (state_of c) c.sink es whole
+pub lays_first : (b c : Core) (e : Event) (es : List Event) (whole : List Item)
+    → refused_at b.place ≡ None → LaysOut b c e (opens_empty e es)
+    → LaysAll (settings_of b) (state_of b) b.sink (e ∷ es) whole
+    → LaysAll (settings_of c) (state_of c) c.sink es whole
 lays_first b c e es whole o l h = all_step (problem_at (settings_of b) (state_of b) e) b c e es whole o (done b c e _ l) h
 
 -- no event of a list takes memory outside the output
-none_takes : (e : Event) (es : List Event) → take_memory (e ∷ es) ≡ false → (takes_memory e ≡ false) × (take_memory es ≡ false)
+none_takes : (e : Event) (es : List Event) → take_memory (e ∷ es) ≡ false
+    → (takes_memory e ≡ false) × (take_memory es ≡ false)
 none_takes e es h = or_parts (takes_memory e) (take_memory es) h
 
-pub lays_more : (a b c : Core) (h x y : List Event) (e : Event) (empty : Bool) → LaysEvents a h b x → x ≡ e ∷ y → goes_on b.sink.status b.place ≡ true → is_ready x ≡ true → empty ≡ opens_empty e y → LaysOut b c e empty → LaysEvents a h c y
+pub lays_more : (a b c : Core) (h x y : List Event) (e : Event) (empty : Bool) → LaysEvents a h b x
+    → x ≡ e ∷ y → goes_on b.sink.status b.place ≡ true → is_ready x ≡ true → empty ≡ opens_empty e y
+    → LaysOut b c e empty → LaysEvents a h c y
 lays_more a b c h x y e empty p same goes r is l =
     let Q : List Event → Type 0 = λ z. is_ready z ≡ true in
     let r' : is_ready (e ∷ y) ≡ true = subst Q same r in
@@ -380,7 +435,9 @@ lays_more a b c h x y e empty p same goes r is l =
     }
 
 -- an event that isn't held
-pub lays_past : (a b c : Core) (x h : List Event) (e : Event) → LaysEvents a x b (h ++ e ∷ []) → goes_on b.sink.status b.place ≡ true → passes h e ≡ true → LaysOut b c e false → LaysEvents a x c h
+pub lays_past : (a b c : Core) (x h : List Event) (e : Event) → LaysEvents a x b (h ++ e ∷ [])
+    → goes_on b.sink.status b.place ≡ true → passes h e ≡ true → LaysOut b c e false
+    → LaysEvents a x c h
 lays_past a b c x [] e j g p l = lays_more a b c x (e ∷ []) [] e false j refl g p (sym (opens_none e)) l
 lays_past a b c x (f ∷ fs) e j g p l = absurd (cc)
 
@@ -401,5 +458,7 @@ going_notes true Deep b g = refl
 going_notes true Starved b g = refl
 
 -- while the output goes on, none was refused outside it
-pub lays_unnoted : (old new : Core) (before after : List Event) → LaysEvents old before new after → (old.sink.status ≡ Going → old.starved ≡ false) → new.sink.status ≡ Going → new.starved ≡ false
+pub lays_unnoted : (old new : Core) (before after : List Event) → LaysEvents old before new after
+    → (old.sink.status ≡ Going → old.starved ≡ false) → new.sink.status ≡ Going
+    → new.starved ≡ false
 lays_unnoted old new before after j n g = j.memory (going_notes _ old.sink.status new.sink.status g) ∙ n (j.going g)

@@ -31,20 +31,24 @@ use Rattle.yaml_emit_laws_block.proofs.Reading.{spaces_encode, length_spaces}
 
 -- ---- the line behind
 
-spaced_cursor : (m k : ℕ) (kept : Bool) → after_blanks m (record { column = k; white = true; bare = true; kept = kept }) ≡ record { column = k + m; white = true; bare = true; kept = kept }
+spaced_cursor : (m k : ℕ) (kept : Bool)
+    → after_blanks m (record { column = k; white = true; bare = true; kept = kept })
+    ≡ record { column = k + m; white = true; bare = true; kept = kept }
 spaced_cursor zero k kept = let e : k ≡ k + 0 = omega arith in ap (λ j. record { column = j; white = true; bare = true; kept = kept }) e
 spaced_cursor (suc m) k kept =
     let e : k + 1 + m ≡ k + suc m = omega arith in
     spaced_cursor m (k + 1) kept ∙ ap (λ j. record { column = j; white = true; bare = true; kept = kept }) e
 
-spaced_start : (m : ℕ) (kept : Bool) → after_blanks m (start_at kept) ≡ record { column = m; white = true; bare = true; kept = kept }
+spaced_start : (m : ℕ) (kept : Bool)
+    → after_blanks m (start_at kept) ≡ record { column = m; white = true; bare = true; kept = kept }
 spaced_start m kept = let e : 0 + m ≡ m = omega arith in spaced_cursor m 0 kept ∙ ap (λ j. record { column = j; white = true; bare = true; kept = kept }) e
 
 -- the cursor behind a line's spaces
 abbrev line_cursor : ℕ → Bool → Cursor
 line_cursor m kept = record { column = m; white = true; bare = true; kept = kept }
 
-line_behind : (b : LineBreak) (ended : Bool) (kept : Bool) (d : Cursor) (m : ℕ) (rest : Rest) → (ended ≡ true → d ≡ start_at kept) → (ended ≡ false → d.bare ≡ false) → d.kept ≡ kept
+line_behind : (b : LineBreak) (ended : Bool) (kept : Bool) (d : Cursor) (m : ℕ) (rest : Rest)
+    → (ended ≡ true → d ≡ start_at kept) → (ended ≡ false → d.bare ≡ false) → d.kept ≡ kept
     → line b m d rest ≡ in_front (closing b ended ++ replicate m 32) (rest (line_cursor m kept))
 line_behind b true kept d m rest f g h =
     ap (λ e. line b m e rest) (f refl) ∙ start_is b m kept rest ∙ ap (λ e. in_front (replicate m 32) (rest e)) (spaced_start m kept)
@@ -59,15 +63,22 @@ has_at text p (x ∷ xs) (e, h) (suc k) l =
     let same : p + 1 + k ≡ p + suc k = omega arith in
     subst (λ q. byte text q ≡ get_or xs k 0) same (has_at text (p + 1) xs h k (omega arith))
 
-line_bytes_are : (letters close : List ℕ) (m : ℕ) → encode_utf8_all (letters ++ (close ++ replicate m 32)) ≡ encode_utf8_all (letters ++ close) ++ replicate m 32
+line_bytes_are : (letters close : List ℕ) (m : ℕ)
+    → encode_utf8_all (letters ++ (close ++ replicate m 32)) ≡ encode_utf8_all (letters ++ close)
+    ++ replicate m 32
 line_bytes_are letters close m =
     ap (λ (t : List ℕ). encode_utf8_all t) (sym (append_assoc letters close (replicate m 32))) ∙ encodes-append (letters ++ close) (replicate m 32)
     ∙ ap (λ (t : List ℕ). encode_utf8_all (letters ++ close) ++ t) (spaces_encode m)
 
-read_line_behind : (page : Page) (digit : ℕ) (folded : Bool) (level : ℕ) (c : Cursor) (value : List ℕ) (m : ℕ) (r : BlockReads page digit folded level c value) → m < page.indentation → (text : List ℕ) (p end : ℕ)
-    → HasAt text p (encode_utf8_all (r.letters ++ closing page.line_break (ends_in_break (chars value))) ++ replicate m 32)
-    → NoWhite text (p + length (encode_utf8_all (r.letters ++ closing page.line_break (ends_in_break (chars value))) ++ replicate m 32))
-    → end + m ≡ p + length (encode_utf8_all (r.letters ++ closing page.line_break (ends_in_break (chars value))) ++ replicate m 32)
+read_line_behind : (page : Page) (digit : ℕ) (folded : Bool) (level : ℕ) (c : Cursor)
+    (value : List ℕ) (m : ℕ) (r : BlockReads page digit folded level c value) → m < page.indentation
+    → (text : List ℕ) (p end : ℕ)
+    → HasAt text p (encode_utf8_all (r.letters
+    ++ closing page.line_break (ends_in_break (chars value))) ++ replicate m 32)
+    → NoWhite text (p + length (encode_utf8_all
+    (r.letters ++ closing page.line_break (ends_in_break (chars value))) ++ replicate m 32))
+    → end + m ≡ p + length (encode_utf8_all
+    (r.letters ++ closing page.line_break (ends_in_break (chars value))) ++ replicate m 32)
     → BlockStands folded level text p value end m
 read_line_behind page digit folded level c value m r left text p end h n e =
     let bs = encode_utf8_all (r.letters ++ closing page.line_break (ends_in_break (chars value))) in
@@ -128,23 +139,28 @@ single_not a h = by a.single h
     by true f = f
     by false f = f
 
-plain_not : (a : Allowed) (untagged flow simple empty : Bool) → IsBlock (plain_or a untagged flow simple empty) → ⊥
+plain_not : (a : Allowed) (untagged flow simple empty : Bool)
+    → IsBlock (plain_or a untagged flow simple empty) → ⊥
 plain_not a untagged flow simple empty = by (plain_fits a untagged flow simple empty)
   where
     by : (b : Bool) → IsBlock (if b then style.Plain else single_or a) → ⊥
     by true f = f
     by false f = single_not a f
 
-block_by : (a : Allowed) (flow simple : Bool) (s : Style) → IsBlock (block_or a flow simple s) → (a.block ≡ true) × (flow ≡ false) × (simple ≡ false)
+block_by : (a : Allowed) (flow simple : Bool) (s : Style) → IsBlock (block_or a flow simple s)
+    → (a.block ≡ true) × (flow ≡ false) × (simple ≡ false)
 block_by a flow simple s h = by a.block flow simple h
   where
-    by : (b f g : Bool) → IsBlock (if b && not (f || g) then s else style.Double) → (b ≡ true) × (f ≡ false) × (g ≡ false)
+    by : (b f g : Bool) → IsBlock (if b && not (f || g) then s else style.Double)
+        → (b ≡ true) × (f ≡ false) × (g ≡ false)
     by true false false i = (refl, refl, refl)
     by true true g i = absurd i
     by true false true i = absurd i
     by false f g i = absurd i
 
-taken_block : (a : Allowed) (s : yaml_scalar_style_t) (untagged flow simple empty : Bool) → IsBlock (taken a s untagged flow simple empty) → (a.block ≡ true) × (flow ≡ false) × (simple ≡ false)
+taken_block : (a : Allowed) (s : yaml_scalar_style_t) (untagged flow simple empty : Bool)
+    → IsBlock (taken a s untagged flow simple empty)
+    → (a.block ≡ true) × (flow ≡ false) × (simple ≡ false)
 unfolding taken
 taken_block a asked.YAML_ANY_SCALAR_STYLE untagged flow simple empty h = absurd (plain_not a untagged flow simple empty h)
 taken_block a asked.YAML_PLAIN_SCALAR_STYLE untagged flow simple empty h = absurd (plain_not a untagged flow simple empty h)
@@ -153,7 +169,8 @@ taken_block a asked.YAML_DOUBLE_QUOTED_SCALAR_STYLE untagged flow simple empty h
 taken_block a asked.YAML_LITERAL_SCALAR_STYLE untagged flow simple empty h = block_by a flow simple style.Literal h
 taken_block a asked.YAML_FOLDED_SCALAR_STYLE untagged flow simple empty h = block_by a flow simple style.Folded h
 
-pretty_block : (canonical : Bool) (s : Style) → IsBlock (if canonical then style.Double else s) → (canonical ≡ false) × IsBlock s
+pretty_block : (canonical : Bool) (s : Style) → IsBlock (if canonical then style.Double else s)
+    → (canonical ≡ false) × IsBlock s
 pretty_block true s h = absurd h
 pretty_block false s h = (refl, h)
 
@@ -164,7 +181,8 @@ chosen p at x h =
     let (allows, outside, whole) = taken_block (allowed p.settings.unicode (chars x.value)) x.style (is_some (scalar_tag false x) || x.plain) at.flow (is_simple_part at.part) (length x.value == 0) block in
     record { outside = outside; whole = whole; pretty = pretty; allows = allows }
 
-column_round : (p : Context) (o : Option ℕ) → (margin_round o - 1) + p.settings.indent ≡ deeper p.settings o
+column_round : (p : Context) (o : Option ℕ)
+    → (margin_round o - 1) + p.settings.indent ≡ deeper p.settings o
 column_round p None = omega arith
 column_round p (Some n) = omega arith
 

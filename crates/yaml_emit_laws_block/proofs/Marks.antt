@@ -107,7 +107,8 @@ both_value : (text : List ℕ) (p : ℕ) → break_width text p ≡ 2 → break_
 unfolding break_value
 both_value text p h = rw h refl
 
-return_breaks : (text : List ℕ) (p : ℕ) → byte text p ≡ 13 → byte text (p + 1) ≢ 10 → Breaks text p own 1
+return_breaks : (text : List ℕ) (p : ℕ) → byte text p ≡ 13 → byte text (p + 1) ≢ 10
+    → Breaks text p own 1
 return_breaks text p e n =
     let w : break_width text p ≡ 1 = ap (λ b. break_of b (byte text (p + 1)) (byte text (p + 2))) e ∙ return_of (byte text (p + 1)) (byte text (p + 2)) n in
     record { width = w; value = return_value text p w; some = omega (arith, e); no_space = λ f. omega (arith, e, f); no_tab = λ f. omega (arith, e, f) }
@@ -116,7 +117,8 @@ both_of : (d : ℕ) → break_of 13 10 d ≡ 2
 unfolding break_of
 both_of d = refl
 
-both_breaks : (text : List ℕ) (p : ℕ) → byte text p ≡ 13 → byte text (p + 1) ≡ 10 → Breaks text p own 2
+both_breaks : (text : List ℕ) (p : ℕ) → byte text p ≡ 13 → byte text (p + 1) ≡ 10
+    → Breaks text p own 2
 both_breaks text p e f =
     let w : break_width text p ≡ 2 = ap (λ b. break_of b (byte text (p + 1)) (byte text (p + 2))) e ∙ ap (λ c. break_of 13 c (byte text (p + 2))) f ∙ both_of (byte text (p + 2)) in
     record { width = w; value = both_value text p w; some = omega (arith, e); no_space = λ f. omega (arith, e, f); no_tab = λ f. omega (arith, e, f) }
@@ -125,11 +127,14 @@ wide_of : (d : ℕ) → (d == 0xA8 || d == 0xA9) ≡ true → break_of 0xE2 0x80
 unfolding break_of
 wide_of d h = rw h refl
 
-wide_value : (text : List ℕ) (p : ℕ) → break_width text p ≡ 3 → break_value text p ≡ 0xE2 ∷ 0x80 ∷ byte text (p + 2) ∷ []
+wide_value : (text : List ℕ) (p : ℕ) → break_width text p ≡ 3
+    → break_value text p ≡ 0xE2 ∷ 0x80 ∷ byte text (p + 2) ∷ []
 unfolding break_value
 wide_value text p h = rw h refl
 
-wide_breaks : (text : List ℕ) (p d : ℕ) (m : LineMark) → mark_means m ≡ 0xE2 ∷ 0x80 ∷ d ∷ [] → (d == 0xA8 || d == 0xA9) ≡ true → byte text p ≡ 0xE2 → byte text (p + 1) ≡ 0x80 → byte text (p + 1 + 1) ≡ d → Breaks text p m 3
+wide_breaks : (text : List ℕ) (p d : ℕ) (m : LineMark) → mark_means m ≡ 0xE2 ∷ 0x80 ∷ d ∷ []
+    → (d == 0xA8 || d == 0xA9) ≡ true → byte text p ≡ 0xE2 → byte text (p + 1) ≡ 0x80
+    → byte text (p + 1 + 1) ≡ d → Breaks text p m 3
 wide_breaks text p d m means t e f g =
     let two : p + 1 + 1 ≡ p + 2 = omega arith in
     let h : byte text (p + 2) ≡ d = ap (λ q. byte text q) (sym two) ∙ g in
@@ -137,22 +142,27 @@ wide_breaks text p d m means t e f g =
     ap (λ b. break_of b (byte text (p + 1)) (byte text (p + 2))) e ∙ ap (λ c. break_of 0xE2 c (byte text (p + 2))) f ∙ ap (λ c. break_of 0xE2 0x80 c) h ∙ wide_of d t in
     record { width = w; value = wide_value text p w ∙ ap (λ c. 0xE2 ∷ 0x80 ∷ c ∷ []) h ∙ sym means; some = omega (arith, e); no_space = λ i. omega (arith, e, i); no_tab = λ i. omega (arith, e, i) }
 
-own_breaks : (b : LineBreak) (text : List ℕ) (p : ℕ) → Has text p (mark_bytes b own) → NoFeed b (byte text (p + length (mark_bytes b own))) → Breaks text p own (length (mark_bytes b own))
+own_breaks : (b : LineBreak) (text : List ℕ) (p : ℕ) → Has text p (mark_bytes b own)
+    → NoFeed b (byte text (p + length (mark_bytes b own)))
+    → Breaks text p own (length (mark_bytes b own))
 own_breaks Lf text p (e, h) n = feed_breaks text p e
 own_breaks Cr text p (e, h) n = return_breaks text p e n
 own_breaks CrLf text p (e, (f, h)) n = both_breaks text p e f
 
-pub breaks : (b : LineBreak) (m : LineMark) (text : List ℕ) (p : ℕ) → Has text p (mark_bytes b m) → NoFeed b (byte text (p + length (mark_bytes b m))) → Breaks text p m (length (mark_bytes b m))
+pub breaks : (b : LineBreak) (m : LineMark) (text : List ℕ) (p : ℕ) → Has text p (mark_bytes b m)
+    → NoFeed b (byte text (p + length (mark_bytes b m))) → Breaks text p m (length (mark_bytes b m))
 breaks b own text p h n = own_breaks b text p h n
 breaks b separator text p (e, (f, (g, h))) n = wide_breaks text p 0xA8 separator refl refl e f g
 breaks b paragraph text p (e, (f, (g, h))) n = wide_breaks text p 0xA9 paragraph refl refl e f g
 
 -- ---- the first byte of a text
 
-front_blank : (bs cs : List ℕ) (a : ℕ) (t : List ℕ) → bs ≡ a ∷ t → starts_blank (bs ++ cs) ≡ is_blank a
+front_blank : (bs cs : List ℕ) (a : ℕ) (t : List ℕ) → bs ≡ a ∷ t
+    → starts_blank (bs ++ cs) ≡ is_blank a
 front_blank bs cs a t e = ap (λ (xs : List ℕ). starts_blank (xs ++ cs)) e
 
-high : (x a : ℕ) (bs cs t : List ℕ) → 128 ≤ x → 128 ≤ a → bs ≡ a ∷ t → starts_blank (bs ++ cs) ≡ is_blank x
+high : (x a : ℕ) (bs cs t : List ℕ) → 128 ≤ x → 128 ≤ a → bs ≡ a ∷ t
+    → starts_blank (bs ++ cs) ≡ is_blank x
 high x a bs cs t h k e = front_blank bs cs a t e ∙ high_blank a k ∙ sym (high_blank x h)
 
 pub text_blank : (x : ℕ) (xs : List ℕ) → starts_blank (encode_utf8_all (x ∷ xs)) ≡ is_blank x

@@ -23,14 +23,16 @@ char_encodes : (c : ℕ) → char_bytes Utf8 c ≡ encode_utf8 c
 unfolding char_bytes encode_char
 char_encodes c = refl
 
-front_encodes : (xs : List ℕ) (t : List Item) → bytes (in_front xs t) ≡ encode_utf8_all xs ++ bytes t
+front_encodes : (xs : List ℕ) (t : List Item)
+    → bytes (in_front xs t) ≡ encode_utf8_all xs ++ bytes t
 unfolding in_front encode
 front_encodes [] t = refl
 front_encodes (x ∷ xs) t =
     ap (λ b. b ++ encode Utf8 (in_front xs t)) (char_encodes x) ∙ ap (λ b. encode_utf8 x ++ b) (front_encodes xs t) ∙ sym (append_assoc (encode_utf8 x) (encode_utf8_all xs) (encode Utf8 t))
 
 -- each byte that is left, and 0 behind the end
-left_byte : (text : List ℕ) (p : ℕ) (bs : List ℕ) (k : ℕ) → Left text p bs → byte text (p + k) ≡ get_or bs k 0
+left_byte : (text : List ℕ) (p : ℕ) (bs : List ℕ) (k : ℕ) → Left text p bs
+    → byte text (p + k) ≡ get_or bs k 0
 left_byte text p bs k l =
     let ends = l.ends in
     elim (cases_lt k (length bs)) [
@@ -41,7 +43,8 @@ left_byte text p bs k l =
 no_width : (w : ℕ) → nat_lt 0 w ≡ false → w ≡ 0
 no_width w h = grind (arith, nat_tests)
 
-left_white : (text : List ℕ) (p : ℕ) (bs : List ℕ) → Left text p bs → begins_white bs ≡ false → NoWhite text p
+left_white : (text : List ℕ) (p : ℕ) (bs : List ℕ) → Left text p bs → begins_white bs ≡ false
+    → NoWhite text p
 left_white text p bs l e =
     let z : p + 0 ≡ p = omega arith in
     let a : byte text p ≡ get_or bs 0 0 = ap (λ q. byte text q) (sym z) ∙ left_byte text p bs 0 l in
@@ -56,7 +59,8 @@ left_white text p bs l e =
           ∙ no_width (break_of (get_or bs 0 0) (get_or bs 1 0) (get_or bs 2 0)) none;
     }
 
-left_rest : (text : List ℕ) (p : ℕ) (xs ys : List ℕ) → Left text p (xs ++ ys) → Left text (p + length xs) ys
+left_rest : (text : List ℕ) (p : ℕ) (xs ys : List ℕ) → Left text p (xs ++ ys)
+    → Left text (p + length xs) ys
 left_rest text p xs ys l =
     let ends = l.ends in
     let size = length-append xs ys in
@@ -66,8 +70,10 @@ left_rest text p xs ys l =
 before_spaces : (p n m : ℕ) → m ≤ n → p + n - m + m ≡ p + n
 before_spaces p n m h = omega (arith, h)
 
-passed : (page : Page) (digit : ℕ) (folded : Bool) (level : ℕ) (c : Cursor) (value : List ℕ) (m : ℕ) (r : BlockAndLineRead page digit folded level c value m) (rest : Rest)
-    → begins_white (bytes (rest (behind_line m value))) ≡ false → (text : List ℕ) (q : ℕ) → Left text q (encode_utf8_all r.letters ++ bytes (rest (behind_line m value)))
+passed : (page : Page) (digit : ℕ) (folded : Bool) (level : ℕ) (c : Cursor) (value : List ℕ) (m : ℕ)
+    (r : BlockAndLineRead page digit folded level c value m) (rest : Rest)
+    → begins_white (bytes (rest (behind_line m value))) ≡ false → (text : List ℕ) (q : ℕ)
+    → Left text q (encode_utf8_all r.letters ++ bytes (rest (behind_line m value)))
     → BlockPassed folded level text q value m (bytes (rest (behind_line m value)))
 passed page digit folded level c value m r rest white text q l =
     let bs = encode_utf8_all r.letters in

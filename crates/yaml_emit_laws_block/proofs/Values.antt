@@ -40,7 +40,8 @@ both_not a b e f = rw (e, f) refl
 neither : (a b : Bool) → a ≡ false → b ≡ false → (a || b) ≡ false
 neither a b e f = rw (e, f) refl
 
-inside_one : (x : ℕ) → is_printable x ≡ true → is_break x ≡ false → (not (is_break x) && not (x == 0)) ≡ true
+inside_one : (x : ℕ) → is_printable x ≡ true → is_break x ≡ false
+    → (not (is_break x) && not (x == 0)) ≡ true
 inside_one x s e = both_not (is_break x) (x == 0) e (not_printed x 0 s refl)
 
 -- ---- what is behind
@@ -57,11 +58,14 @@ pub record Goes (page : Page) (folded blank : Bool) (k : ℕ) (before : ℕ) (va
   pub lines : List BodyLine
   pub letters : List ℕ
   pub behind : Cursor
-  pub text : (rest : Rest) → block_body page folded blank before value c rest ≡ in_front letters (rest behind)
-  pub whole : letters ++ closing page.line_break (is_break (last_or before value)) ≡ head ++ (mark_text page.line_break mark ++ body_text page.line_break page.indentation lines)
+  pub text : (rest : Rest)
+      → block_body page folded blank before value c rest ≡ in_front letters (rest behind)
+  pub whole : letters ++ closing page.line_break (is_break (last_or before value)) ≡ head
+      ++ (mark_text page.line_break mark ++ body_text page.line_break page.indentation lines)
   pub inside : are_inside head ≡ true
   pub sound : AreInside lines
-  pub means : encode_utf8_all head ++ behind_text folded (chomp_at k) blank (mark_means mark) (texts_of (read_lines lines)).lead (texts_of (read_lines lines)).lines ≡ encode_utf8_all value
+  pub means : encode_utf8_all head ++ behind_text folded (chomp_at k) blank (mark_means mark)
+      (texts_of (read_lines lines)).lead (texts_of (read_lines lines)).lines ≡ encode_utf8_all value
   pub ends : Ends kept behind (is_break (last_or before value))
 
 -- the first line has a text that begins with this character
@@ -80,16 +84,22 @@ pub record Starts (page : Page) (folded any blank more : Bool) (feed empties : L
   pub lines : List BodyLine
   pub letters : List ℕ
   pub behind : Cursor
-  pub text : (rest : Rest) → block_body page folded blank before value (start_at kept) rest ≡ in_front letters (rest behind)
-  pub whole : letters ++ closing page.line_break (is_break (last_or before value)) ≡ body_text page.line_break page.indentation lines
+  pub text : (rest : Rest)
+      → block_body page folded blank before value (start_at kept) rest
+      ≡ in_front letters (rest behind)
+  pub whole : letters ++ closing page.line_break (is_break (last_or before value))
+      ≡ body_text page.line_break page.indentation lines
   pub sound : AreInside lines
   pub begins : Begins value lines
-  pub means : stacked_so folded any blank feed empties k (read_lines lines) ≡ owed more feed empties ++ encode_utf8_all value
+  pub means : stacked_so folded any blank feed empties k (read_lines lines) ≡ owed more feed empties
+      ++ encode_utf8_all value
   pub ends : Ends kept behind (is_break (last_or before value))
 
 -- ---- the end
 
-goes_none : (page : Page) (folded blank broken : Bool) (k before : ℕ) (kept : Bool) (c : Cursor) → k ≡ read_chomp (chomp broken false []) → is_break before ≡ false → c.bare ≡ false → c.kept ≡ kept
+goes_none : (page : Page) (folded blank broken : Bool) (k before : ℕ) (kept : Bool) (c : Cursor)
+    → k ≡ read_chomp (chomp broken false []) → is_break before ≡ false → c.bare ≡ false
+    → c.kept ≡ kept
     → Goes page folded blank k before [] kept c
 unfolding block_body body_text in_front chomp chomp_at last_or
 goes_none page folded blank broken k before kept c e f g h = record {
@@ -106,8 +116,10 @@ goes_none page folded blank broken k before kept c e f g h = record {
   ends = record { at_start = λ t. absurd (true≢false (sym t ∙ f)); in_line = λ t. g; same = h };
 }
 
-starts_none : (page : Page) (folded any blank more : Bool) (feed empties : List ℕ) (broken : Bool) (k before : ℕ) (kept : Bool) → k ≡ read_chomp (chomp broken true []) → is_break before ≡ true
-    → Waits folded any blank more feed empties broken [] → Starts page folded any blank more feed empties k before [] kept
+starts_none : (page : Page) (folded any blank more : Bool) (feed empties : List ℕ) (broken : Bool)
+    (k before : ℕ) (kept : Bool) → k ≡ read_chomp (chomp broken true []) → is_break before ≡ true
+    → Waits folded any blank more feed empties broken []
+    → Starts page folded any blank more feed empties k before [] kept
 unfolding block_body body_text in_front chomp last_or
 starts_none page folded any blank more feed empties broken k before kept e f w = record {
   lines = [];
@@ -123,13 +135,18 @@ starts_none page folded any blank more feed empties broken k before kept e f w =
 
 -- ---- breaks
 
-break_rest : (page : Page) (folded blank : Bool) (before x : ℕ) (xs : List ℕ) (was kept : Bool) (rest : Rest) → is_break x ≡ true → was ≡ kept
-    → block_body page folded (line_blank blank before x) x xs (start_at was) rest ≡ block_body page folded blank x xs (start_at kept) rest
+break_rest : (page : Page) (folded blank : Bool) (before x : ℕ) (xs : List ℕ) (was kept : Bool)
+    (rest : Rest) → is_break x ≡ true → was ≡ kept
+    → block_body page folded (line_blank blank before x) x xs (start_at was) rest
+    ≡ block_body page folded blank x xs (start_at kept) rest
 break_rest page folded blank before x xs was kept rest e f =
     ap (λ t. block_body page folded t x xs (start_at was) rest) (blank_break blank before x e) ∙ ap (λ u. block_body page folded blank x xs (start_at u) rest) f
 
-goes_added : (page : Page) (folded blank : Bool) (k before : ℕ) (m : LineMark) (xs : List ℕ) (kept : Bool) (c : Cursor) → c.kept ≡ kept → adds_break folded blank before (mark_char m) xs ≡ true
-    → Starts page folded true blank true (10 ∷ []) (mark_means m) k (mark_char m) xs kept → Goes page folded blank k before (mark_char m ∷ xs) kept c
+goes_added : (page : Page) (folded blank : Bool) (k before : ℕ) (m : LineMark) (xs : List ℕ)
+    (kept : Bool) (c : Cursor) → c.kept ≡ kept
+    → adds_break folded blank before (mark_char m) xs ≡ true
+    → Starts page folded true blank true (10 ∷ []) (mark_means m) k (mark_char m) xs kept
+    → Goes page folded blank k before (mark_char m ∷ xs) kept c
 unfolding block_body body_text last_or stacked_with
 goes_added page folded blank k before m xs kept c h a s =
     let b = page.line_break in
@@ -151,8 +168,11 @@ goes_added page folded blank k before m xs kept c h a s =
       ends = s.ends;
     }
 
-goes_plain : (page : Page) (folded blank : Bool) (k before : ℕ) (m : LineMark) (xs : List ℕ) (kept : Bool) (c : Cursor) → c.kept ≡ kept → adds_break folded blank before (mark_char m) xs ≡ false
-    → Starts page folded true blank false (mark_means m) [] k (mark_char m) xs kept → Goes page folded blank k before (mark_char m ∷ xs) kept c
+goes_plain : (page : Page) (folded blank : Bool) (k before : ℕ) (m : LineMark) (xs : List ℕ)
+    (kept : Bool) (c : Cursor) → c.kept ≡ kept
+    → adds_break folded blank before (mark_char m) xs ≡ false
+    → Starts page folded true blank false (mark_means m) [] k (mark_char m) xs kept
+    → Goes page folded blank k before (mark_char m ∷ xs) kept c
 unfolding block_body body_text last_or stacked_with
 goes_plain page folded blank k before m xs kept c h a s =
     let b = page.line_break in
@@ -172,8 +192,10 @@ goes_plain page folded blank k before m xs kept c h a s =
       ends = s.ends;
     }
 
-starts_break : (page : Page) (folded any blank more : Bool) (feed empties : List ℕ) (k before : ℕ) (m : LineMark) (xs : List ℕ) (kept : Bool) → is_break before ≡ true
-    → Starts page folded any blank more feed (empties ++ mark_means m) k (mark_char m) xs kept → Starts page folded any blank more feed empties k before (mark_char m ∷ xs) kept
+starts_break : (page : Page) (folded any blank more : Bool) (feed empties : List ℕ) (k before : ℕ)
+    (m : LineMark) (xs : List ℕ) (kept : Bool) → is_break before ≡ true
+    → Starts page folded any blank more feed (empties ++ mark_means m) k (mark_char m) xs kept
+    → Starts page folded any blank more feed empties k before (mark_char m ∷ xs) kept
 unfolding block_body body_text last_or
 starts_break page folded any blank more feed empties k before m xs kept e s =
     let b = page.line_break in
@@ -195,8 +217,11 @@ starts_break page folded any blank more feed empties k before m xs kept e s =
 
 -- ---- characters
 
-goes_char : (page : Page) (folded blank : Bool) (k before x : ℕ) (xs : List ℕ) (kept : Bool) (c : Cursor) → is_printable x ≡ true → is_break x ≡ false → is_break before ≡ false
-    → (cuts_block folded blank before x xs && is_past page.width c) ≡ false → Goes page folded blank k x xs kept (moved_by c) → Goes page folded blank k before (x ∷ xs) kept c
+goes_char : (page : Page) (folded blank : Bool) (k before x : ℕ) (xs : List ℕ) (kept : Bool)
+    (c : Cursor) → is_printable x ≡ true → is_break x ≡ false → is_break before ≡ false
+    → (cuts_block folded blank before x xs && is_past page.width c) ≡ false
+    → Goes page folded blank k x xs kept (moved_by c)
+    → Goes page folded blank k before (x ∷ xs) kept c
 unfolding block_body in_front last_or
 goes_char page folded blank k before x xs kept c s e f u g = record {
   head = x ∷ g.head;
@@ -214,8 +239,12 @@ goes_char page folded blank k before x xs kept c s e f u g = record {
   ends = g.ends;
 }
 
-starts_text : (page : Page) (folded any blank more : Bool) (feed empties : List ℕ) (broken : Bool) (k before x : ℕ) (xs : List ℕ) (kept : Bool) → is_printable x ≡ true → is_break x ≡ false → is_break before ≡ true
-    → Waits folded any blank more feed empties broken (x ∷ xs) → Goes page folded (is_blank x) k x xs kept (moved_by (after_blanks page.indentation (start_at kept)))
+starts_text : (page : Page) (folded any blank more : Bool) (feed empties : List ℕ) (broken : Bool)
+    (k before x : ℕ) (xs : List ℕ) (kept : Bool) → is_printable x ≡ true → is_break x ≡ false
+    → is_break before ≡ true
+    → Waits folded any blank more feed empties broken (x ∷ xs)
+    → Goes page folded (is_blank x) k x xs kept
+    (moved_by (after_blanks page.indentation (start_at kept)))
     → Starts page folded any blank more feed empties k before (x ∷ xs) kept
 unfolding block_body body_text last_or
 starts_text page folded any blank more feed empties broken k before x xs kept s e f w g =
@@ -253,7 +282,8 @@ record Cuts (folded blank : Bool) (x : ℕ) (xs : List ℕ) : Type 0 where
   text : blank ≡ false
   next : (first xs == 32) ≡ false
 
-cuts_need : (folded blank : Bool) (before x : ℕ) (xs : List ℕ) → cuts_block folded blank before x xs ≡ true → Cuts folded blank x xs
+cuts_need : (folded blank : Bool) (before x : ℕ) (xs : List ℕ)
+    → cuts_block folded blank before x xs ≡ true → Cuts folded blank x xs
 cuts_need folded blank before x xs e =
     let a = (and_parts folded _ e).1 in
     let b = (and_parts (x == 32) _ a).1 in
@@ -268,9 +298,12 @@ pub unblank : (x : ℕ) → is_printable x ≡ true → (x == 32) ≡ false → 
 unblank x s e = neither (x == 32) (x == 9) e (not_printed x 9 s refl)
 
 -- a line feed that a reader folds
-cut_means : (folded blank : Bool) (k : ℕ) (words next : List ℕ) (ls : List BlockLine) → folded ≡ true → blank ≡ false → starts_blank words ≡ false
-    → behind_text folded (chomp_at k) blank (10 ∷ []) (texts_of (Words words next ∷ ls)).lead (texts_of (Words words next ∷ ls)).lines
-    ≡ 32 ∷ (words ++ behind_text folded (chomp_at k) blank next (texts_of ls).lead (texts_of ls).lines)
+cut_means : (folded blank : Bool) (k : ℕ) (words next : List ℕ) (ls : List BlockLine)
+    → folded ≡ true → blank ≡ false → starts_blank words ≡ false
+    → behind_text folded (chomp_at k) blank (10 ∷ []) (texts_of (Words words next ∷ ls)).lead
+    (texts_of (Words words next ∷ ls)).lines
+    ≡ 32 ∷ (words ++ behind_text folded (chomp_at k) blank next (texts_of ls).lead
+    (texts_of ls).lines)
 unfolding between
 cut_means false blank k words next ls e f g = absurd (false≢true e)
 cut_means true true k words next ls e f g = absurd (true≢false f)
@@ -283,8 +316,11 @@ space_encodes x e = ap (λ y. encode_utf8 y) e ∙ encode_ascii 32 (omega arith)
 abbrev behind_cut : Page → Bool → Cursor
 behind_cut page kept = after_blanks page.indentation (start_at kept)
 
-cut_rest : (page : Page) (folded blank : Bool) (before x y : ℕ) (ys : List ℕ) (was kept : Bool) (rest : Rest) → is_break x ≡ false → is_break before ≡ false → is_break y ≡ false → (y == 32) ≡ false → was ≡ kept
-    → block_body page folded (line_blank blank before x) x (y ∷ ys) (behind_cut page was) rest ≡ letter y ∷ block_body page folded blank y ys (moved_by (behind_cut page kept)) rest
+cut_rest : (page : Page) (folded blank : Bool) (before x y : ℕ) (ys : List ℕ) (was kept : Bool)
+    (rest : Rest) → is_break x ≡ false → is_break before ≡ false → is_break y ≡ false
+    → (y == 32) ≡ false → was ≡ kept
+    → block_body page folded (line_blank blank before x) x (y ∷ ys) (behind_cut page was) rest
+    ≡ letter y ∷ block_body page folded blank y ys (moved_by (behind_cut page kept)) rest
 unfolding block_body
 cut_rest page folded blank before x y ys was kept rest e f g h i =
     let d = behind_cut page kept in
@@ -294,8 +330,12 @@ cut_rest page folded blank before x y ys was kept rest e f g h i =
     (no_cuts folded (y == 32) (not blank) (not (is_break x)) (not (first ys == 32)) (is_past page.width d) h)
     ∙ ap (λ t. letter y ∷ block_body page folded t y ys (moved_by d) rest) (blank_in blank x y g e)
 
-goes_cut : (page : Page) (folded blank : Bool) (k before x y : ℕ) (ys : List ℕ) (kept : Bool) (c : Cursor) → is_break x ≡ false → is_break before ≡ false → is_printable y ≡ true → is_break y ≡ false
-    → cuts_block folded blank before x (y ∷ ys) ≡ true → is_past page.width c ≡ true → c.bare ≡ false → c.kept ≡ kept → Goes page folded blank k y ys kept (moved_by (behind_cut page kept))
+goes_cut : (page : Page) (folded blank : Bool) (k before x y : ℕ) (ys : List ℕ) (kept : Bool)
+    (c : Cursor) → is_break x ≡ false → is_break before ≡ false → is_printable y ≡ true
+    → is_break y ≡ false
+    → cuts_block folded blank before x (y ∷ ys) ≡ true → is_past page.width c ≡ true
+    → c.bare ≡ false → c.kept ≡ kept
+    → Goes page folded blank k y ys kept (moved_by (behind_cut page kept))
     → Goes page folded blank k before (x ∷ y ∷ ys) kept c
 unfolding block_body body_text in_front last_or
 goes_cut page folded blank k before x y ys kept c e f s i t p bar same g =
@@ -331,7 +371,9 @@ goes_cut page folded blank k before x y ys kept c e f s i t p bar same g =
 
 -- ---- what waits behind the end of a line
 
-adds_waits : (folded blank : Bool) (before : ℕ) (m : LineMark) (xs : List ℕ) → adds_break folded blank before (mark_char m) xs ≡ true → Waits folded true blank true (10 ∷ []) (mark_means m) false xs
+adds_waits : (folded blank : Bool) (before : ℕ) (m : LineMark) (xs : List ℕ)
+    → adds_break folded blank before (mark_char m) xs ≡ true
+    → Waits folded true blank true (10 ∷ []) (mark_means m) false xs
 adds_waits folded blank before m xs e =
     let a = (and_parts folded _ e).1 in
     let b = (and_parts (mark_char m == 10) _ a).1 in
@@ -343,7 +385,8 @@ adds_waits folded blank before m xs e =
       alone = λ t u. absurd (true≢false u);
     }
 
-stays_by : (f t b p q : Bool) → b ≡ false → (f && (t && (not b && (p && q)))) ≡ false → (f && ((p && q) && t)) ≡ false
+stays_by : (f t b p q : Bool) → b ≡ false → (f && (t && (not b && (p && q)))) ≡ false
+    → (f && ((p && q) && t)) ≡ false
 stays_by false t b p q h e = refl
 stays_by true true false p q h e = and_so (p && q) e
   where
@@ -357,7 +400,8 @@ stays_by true false b p q h e = and_none (p && q)
     and_none true = refl
 stays_by true true true p q h e = absurd (true≢false h)
 
-plain_waits : (folded blank : Bool) (before : ℕ) (m : LineMark) (xs : List ℕ) → is_break before ≡ false → adds_break folded blank before (mark_char m) xs ≡ false
+plain_waits : (folded blank : Bool) (before : ℕ) (m : LineMark) (xs : List ℕ)
+    → is_break before ≡ false → adds_break folded blank before (mark_char m) xs ≡ false
     → Waits folded true blank false (mark_means m) [] false xs
 plain_waits folded blank before m xs f e = record {
   first = λ t. absurd (true≢false t);
@@ -369,7 +413,9 @@ plain_waits folded blank before m xs f e = record {
 
 -- ---- all characters
 
-chomp_to : (broken last b : Bool) (x : ℕ) (xs : List ℕ) (k : ℕ) → k ≡ read_chomp (chomp broken last (x ∷ xs)) → is_break x ≡ b → k ≡ read_chomp (chomp last b xs)
+chomp_to : (broken last b : Bool) (x : ℕ) (xs : List ℕ) (k : ℕ)
+    → k ≡ read_chomp (chomp broken last (x ∷ xs)) → is_break x ≡ b
+    → k ≡ read_chomp (chomp last b xs)
 unfolding chomp
 chomp_to broken last b x xs k e h = e ∙ ap (λ (t : Bool). read_chomp (chomp last t xs)) h
 
@@ -377,7 +423,8 @@ no_last : (before x : ℕ) → x ≡ 32 → (last_or before (x ∷ []) == 32) �
 unfolding last_or
 no_last before x e h = true≢false (sym (ap (λ (y : ℕ). y == 32) e) ∙ h)
 
-last_next : (before x : ℕ) (xs : List ℕ) → (last_or before (x ∷ xs) == 32) ≡ false → (last_or x xs == 32) ≡ false
+last_next : (before x : ℕ) (xs : List ℕ) → (last_or before (x ∷ xs) == 32) ≡ false
+    → (last_or x xs == 32) ≡ false
 unfolding last_or
 last_next before x xs h = h
 
@@ -385,8 +432,11 @@ unbroken : (x y : ℕ) → x ≡ 32 → (x == 32 && is_break y) ≡ false → is
 unbroken x y e h = ap (λ (z : ℕ). z == 32 && is_break y) (sym e) ∙ h
 
 -- where a line ends
-goes_break : (page : Page) (folded blank : Bool) (k before x : ℕ) (xs : List ℕ) (kept : Bool) (c : Cursor) → is_printable x ≡ true → is_break x ≡ true → is_break before ≡ false → c.kept ≡ kept
-    → ((more : Bool) (feed empties : List ℕ) → Waits folded true blank more feed empties false xs → Starts page folded true blank more feed empties k x xs kept)
+goes_break : (page : Page) (folded blank : Bool) (k before x : ℕ) (xs : List ℕ) (kept : Bool)
+    (c : Cursor) → is_printable x ≡ true → is_break x ≡ true → is_break before ≡ false
+    → c.kept ≡ kept
+    → ((more : Bool) (feed empties : List ℕ) → Waits folded true blank more feed empties false xs
+    → Starts page folded true blank more feed empties k x xs kept)
     → Goes page folded blank k before (x ∷ xs) kept c
 goes_break page folded blank k before x xs kept c s e f same starts =
     let m = mark_of x s e in
@@ -397,8 +447,12 @@ goes_break page folded blank k before x xs kept c s e f same starts =
     (λ a. goes_plain page folded blank k before m.mark xs kept c same a (go false (mark_means m.mark) [] (plain_waits folded blank before m.mark xs f a)))) in
     from x m.is starts
 
-starts_more : (page : Page) (folded any blank more : Bool) (feed empties : List ℕ) (broken : Bool) (k before x : ℕ) (xs : List ℕ) (kept : Bool) → is_printable x ≡ true → is_break x ≡ true → is_break before ≡ true
-    → Waits folded any blank more feed empties broken (x ∷ xs) → ((es : List ℕ) → Waits folded any blank more feed es true xs → Starts page folded any blank more feed es k x xs kept)
+starts_more : (page : Page) (folded any blank more : Bool) (feed empties : List ℕ) (broken : Bool)
+    (k before x : ℕ) (xs : List ℕ) (kept : Bool) → is_printable x ≡ true → is_break x ≡ true
+    → is_break before ≡ true
+    → Waits folded any blank more feed empties broken (x ∷ xs)
+    → ((es : List ℕ) → Waits folded any blank more feed es true xs
+    → Starts page folded any blank more feed es k x xs kept)
     → Starts page folded any blank more feed empties k before (x ∷ xs) kept
 starts_more page folded any blank more feed empties broken k before x xs kept s e f w starts =
     let m = mark_of x s e in
@@ -408,8 +462,11 @@ starts_more page folded any blank more feed empties broken k before x xs kept s 
     from x m.is (starts (empties ++ mark_means m.mark) (waits_break folded any blank more feed empties (mark_means m.mark) broken x xs e w))
 
 mutual
-  pub goes : (page : Page) (folded blank broken : Bool) (k before : ℕ) (value : List ℕ) (kept : Bool) (c : Cursor) → k ≡ read_chomp (chomp broken false value) → is_break before ≡ false → AreGood value
-      → (last_or before value == 32) ≡ false → c.bare ≡ false → c.kept ≡ kept → Goes page folded blank k before value kept c
+  pub goes : (page : Page) (folded blank broken : Bool) (k before : ℕ) (value : List ℕ)
+      (kept : Bool) (c : Cursor) → k ≡ read_chomp (chomp broken false value)
+      → is_break before ≡ false → AreGood value
+      → (last_or before value == 32) ≡ false → c.bare ≡ false → c.kept ≡ kept
+      → Goes page folded blank k before value kept c
   goes page folded blank broken k before [] kept c e f g l bar same = goes_none page folded blank broken k before kept c e f bar same
   goes page folded blank broken k before (x ∷ []) kept c e f (s, n, g) l bar same =
       bool_cases (is_break x)
@@ -432,8 +489,11 @@ mutual
       (λ u. goes_char page folded blank k before x (y ∷ ys) kept c s h f u
       (goes page folded blank false k x (y ∷ ys) kept (moved_by c) (chomp_to broken false false x (y ∷ ys) k e h) h (t, o, g) (last_next before x (y ∷ ys) l) refl same)))
 
-  pub starts : (page : Page) (folded any blank more : Bool) (feed empties : List ℕ) (broken : Bool) (k before : ℕ) (value : List ℕ) (kept : Bool) → k ≡ read_chomp (chomp broken true value) → is_break before ≡ true → AreGood value
-      → (last_or before value == 32) ≡ false → Waits folded any blank more feed empties broken value → Starts page folded any blank more feed empties k before value kept
+  pub starts : (page : Page) (folded any blank more : Bool) (feed empties : List ℕ) (broken : Bool)
+      (k before : ℕ) (value : List ℕ) (kept : Bool) → k ≡ read_chomp (chomp broken true value)
+      → is_break before ≡ true → AreGood value
+      → (last_or before value == 32) ≡ false → Waits folded any blank more feed empties broken value
+      → Starts page folded any blank more feed empties k before value kept
   starts page folded any blank more feed empties broken k before [] kept e f g l w = starts_none page folded any blank more feed empties broken k before kept e f w
   starts page folded any blank more feed empties broken k before (x ∷ xs) kept e f (s, n, g) l w =
       bool_cases (is_break x)

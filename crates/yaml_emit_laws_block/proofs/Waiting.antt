@@ -24,8 +24,11 @@ read_chomp chomping.Keep = 43
 -- was written, or none. `broken`: another break stands before the last one.
 pub record Waits (folded any blank more : Bool) (feed empties : List ℕ) (broken : Bool) (value : List ℕ) : Type 0 where
   pub first : any ≡ false → (feed ≡ []) × (broken ≡ true) × (more ≡ false)
-  pub folds : more ≡ true → (folded ≡ true) × (blank ≡ false) × (is_feed feed ≡ true) × (0 < length empties) × (is_blank (behind_breaks value) ≡ false)
-  pub stays : more ≡ false → any ≡ true → (folded && ((not blank && not (is_blank (behind_breaks value))) && is_feed feed)) ≡ false
+  pub folds : more ≡ true
+      → (folded ≡ true) × (blank ≡ false) × (is_feed feed ≡ true) × (0 < length empties)
+      × (is_blank (behind_breaks value) ≡ false)
+  pub stays : more ≡ false → any ≡ true
+      → (folded && ((not blank && not (is_blank (behind_breaks value))) && is_feed feed)) ≡ false
   pub alone : broken ≡ false → more ≡ false → empties ≡ []
 
 -- what the breaks come to
@@ -37,8 +40,10 @@ stacked_so folded any blank feed empties k ls = stacked_with folded [] any blank
 
 -- ---- the end
 
-end_stays : (folded any blank : Bool) (feed empties : List ℕ) (broken : Bool) → Waits folded any blank false feed empties broken []
-    → stacked_so folded any blank feed empties (read_chomp (chomp_of broken true)) [] ≡ feed ++ empties
+end_stays : (folded any blank : Bool) (feed empties : List ℕ) (broken : Bool)
+    → Waits folded any blank false feed empties broken []
+    → stacked_so folded any blank feed empties (read_chomp (chomp_of broken true)) [] ≡ feed
+    ++ empties
 unfolding stacked_with chomp_at
 end_stays folded false blank feed empties broken w =
     let (none, e, n) = w.first refl in
@@ -46,12 +51,15 @@ end_stays folded false blank feed empties broken w =
 end_stays folded true blank feed empties true w = ap (λ (t : List ℕ). feed ++ t) (append-nil empties)
 end_stays folded true blank feed empties false w = sym (append-nil feed) ∙ ap (λ (t : List ℕ). feed ++ t) (sym (w.alone refl refl))
 
-no_end : (folded any blank : Bool) (feed empties : List ℕ) (broken : Bool) → Waits folded any blank true feed empties broken [] → ⊥
+no_end : (folded any blank : Bool) (feed empties : List ℕ) (broken : Bool)
+    → Waits folded any blank true feed empties broken [] → ⊥
 unfolding behind_breaks
 no_end folded any blank feed empties broken w = let (a, b, c, d, e) = w.folds refl in true≢false e
 
-pub waits_end : (folded any blank more : Bool) (feed empties : List ℕ) (broken : Bool) → Waits folded any blank more feed empties broken []
-    → stacked_so folded any blank feed empties (read_chomp (chomp_of broken true)) [] ≡ owed more feed empties
+pub waits_end : (folded any blank more : Bool) (feed empties : List ℕ) (broken : Bool)
+    → Waits folded any blank more feed empties broken []
+    → stacked_so folded any blank feed empties (read_chomp (chomp_of broken true)) []
+    ≡ owed more feed empties
 waits_end folded any blank false feed empties broken w = end_stays folded any blank feed empties broken w
 waits_end folded any blank true feed empties broken w = absurd (no_end folded any blank feed empties broken w)
 
@@ -65,11 +73,15 @@ next_break : (x : ℕ) (xs : List ℕ) → is_break x ≡ true → behind_breaks
 unfolding behind_breaks
 next_break x xs e = cond_true (is_break x) _ _ e
 
-between_stays : (folded blank after : Bool) (feed empties : List ℕ) → (folded && ((not blank && not after) && is_feed feed)) ≡ false → between folded (not blank && not after) feed empties ≡ feed ++ empties
+between_stays : (folded blank after : Bool) (feed empties : List ℕ)
+    → (folded && ((not blank && not after) && is_feed feed)) ≡ false
+    → between folded (not blank && not after) feed empties ≡ feed ++ empties
 unfolding between
 between_stays folded blank after feed empties e = cond_false (folded && ((not blank && not after) && is_feed feed)) (space_or empties) (feed ++ empties) e
 
-between_folds : (folded blank after : Bool) (feed empties : List ℕ) → folded ≡ true → blank ≡ false → after ≡ false → is_feed feed ≡ true → between folded (not blank && not after) feed empties ≡ space_or empties
+between_folds : (folded blank after : Bool) (feed empties : List ℕ) → folded ≡ true → blank ≡ false
+    → after ≡ false → is_feed feed ≡ true
+    → between folded (not blank && not after) feed empties ≡ space_or empties
 unfolding between
 between_folds folded blank after feed empties e f g h = rw (e, f, g, h) refl
 
@@ -77,17 +89,22 @@ between_folds folded blank after feed empties e f g h = rw (e, f, g, h) refl
 abbrev from_text : Bool → Bool → Bool → Bool → List ℕ → List ℕ → List ℕ → List ℕ → List ℕ
 from_text folded any blank after feed empties words behind = if any then between folded (not blank && not after) feed (empties ++ []) ++ (words ++ behind) else (empties ++ []) ++ (words ++ behind)
 
-text_is : (folded any blank : Bool) (feed empties : List ℕ) (k : ℕ) (words next : List ℕ) (ls : List BlockLine) (after : Bool) → starts_blank words ≡ after
+text_is : (folded any blank : Bool) (feed empties : List ℕ) (k : ℕ) (words next : List ℕ)
+    (ls : List BlockLine) (after : Bool) → starts_blank words ≡ after
     → stacked_so folded any blank feed empties k (Words words next ∷ ls)
-    ≡ from_text folded any blank after feed empties words (behind_text folded (chomp_at k) after next (texts_of ls).lead (texts_of ls).lines)
+    ≡ from_text folded any blank after feed empties words
+    (behind_text folded (chomp_at k) after next (texts_of ls).lead (texts_of ls).lines)
 unfolding stacked_with
 text_is folded true blank feed empties k words next ls after e =
     ap (λ (b : Bool). between folded (not blank && not b) feed (empties ++ []) ++ (words ++ behind_text folded (chomp_at k) b next (texts_of ls).lead (texts_of ls).lines)) e
 text_is folded false blank feed empties k words next ls after e =
     ap (λ (b : Bool). (empties ++ []) ++ (words ++ behind_text folded (chomp_at k) b next (texts_of ls).lead (texts_of ls).lines)) e
 
-text_owed : (folded any blank more after : Bool) (feed empties words behind : List ℕ) (broken : Bool) (value : List ℕ) → Waits folded any blank more feed empties broken value → is_blank (behind_breaks value) ≡ after
-    → from_text folded any blank after feed empties words behind ≡ owed more feed empties ++ (words ++ behind)
+text_owed : (folded any blank more after : Bool) (feed empties words behind : List ℕ)
+    (broken : Bool) (value : List ℕ) → Waits folded any blank more feed empties broken value
+    → is_blank (behind_breaks value) ≡ after
+    → from_text folded any blank after feed empties words behind ≡ owed more feed empties
+    ++ (words ++ behind)
 text_owed folded false blank true after feed empties words behind broken value w e = let (none, b, n) = w.first refl in absurd (true≢false n)
 text_owed folded false blank false after feed empties words behind broken value w e =
     let (none, b, n) = w.first refl in
@@ -101,10 +118,13 @@ text_owed folded true blank true after feed empties words behind broken value w 
     ap (λ (t : List ℕ). between folded (not blank && not after) feed t ++ (words ++ behind)) (append-nil empties)
     ∙ ap (λ (t : List ℕ). t ++ (words ++ behind)) (between_folds folded blank after feed empties a b (sym e ∙ f) c ∙ space_or_some empties d)
 
-pub waits_text : (folded any blank more : Bool) (feed empties : List ℕ) (broken : Bool) (x : ℕ) (xs : List ℕ) (k : ℕ) (words next : List ℕ) (ls : List BlockLine)
-    → Waits folded any blank more feed empties broken (x ∷ xs) → is_break x ≡ false → starts_blank words ≡ is_blank x
+pub waits_text : (folded any blank more : Bool) (feed empties : List ℕ) (broken : Bool) (x : ℕ)
+    (xs : List ℕ) (k : ℕ) (words next : List ℕ) (ls : List BlockLine)
+    → Waits folded any blank more feed empties broken (x ∷ xs) → is_break x ≡ false
+    → starts_blank words ≡ is_blank x
     → stacked_so folded any blank feed empties k (Words words next ∷ ls)
-    ≡ owed more feed empties ++ (words ++ behind_text folded (chomp_at k) (is_blank x) next (texts_of ls).lead (texts_of ls).lines)
+    ≡ owed more feed empties ++ (words
+    ++ behind_text folded (chomp_at k) (is_blank x) next (texts_of ls).lead (texts_of ls).lines)
 waits_text folded any blank more feed empties broken x xs k words next ls w e s =
     text_is folded any blank feed empties k words next ls (is_blank x) s
     ∙ text_owed folded any blank more (is_blank x) feed empties words (behind_text folded (chomp_at k) (is_blank x) next (texts_of ls).lead (texts_of ls).lines) broken (x ∷ xs) w
@@ -116,7 +136,8 @@ longer : (xs ys : List ℕ) → 0 < length xs → 0 < length (xs ++ ys)
 longer [] ys h = absurd (omega (arith, h))
 longer (x ∷ xs) ys h = omega arith
 
-pub waits_break : (folded any blank more : Bool) (feed empties e : List ℕ) (broken : Bool) (x : ℕ) (xs : List ℕ) → is_break x ≡ true → Waits folded any blank more feed empties broken (x ∷ xs)
+pub waits_break : (folded any blank more : Bool) (feed empties e : List ℕ) (broken : Bool) (x : ℕ)
+    (xs : List ℕ) → is_break x ≡ true → Waits folded any blank more feed empties broken (x ∷ xs)
     → Waits folded any blank more feed (empties ++ e) true xs
 waits_break folded any blank more feed empties e broken x xs h w =
     let same = next_break x xs h in
@@ -127,9 +148,11 @@ waits_break folded any blank more feed empties e broken x xs h w =
       alone = λ b m. absurd (true≢false b);
     }
 
-owed_break : (more : Bool) (feed empties e : List ℕ) → owed more feed (empties ++ e) ≡ owed more feed empties ++ e
+owed_break : (more : Bool) (feed empties e : List ℕ)
+    → owed more feed (empties ++ e) ≡ owed more feed empties ++ e
 owed_break true feed empties e = refl
 owed_break false feed empties e = sym (append_assoc feed empties e)
 
-pub break_owed : (more : Bool) (feed empties e rest : List ℕ) → owed more feed (empties ++ e) ++ rest ≡ owed more feed empties ++ (e ++ rest)
+pub break_owed : (more : Bool) (feed empties e rest : List ℕ)
+    → owed more feed (empties ++ e) ++ rest ≡ owed more feed empties ++ (e ++ rest)
 break_owed more feed empties e rest = ap (λ (t : List ℕ). t ++ rest) (owed_break more feed empties e) ∙ append_assoc (owed more feed empties) e rest

@@ -48,7 +48,8 @@ special_left : (p b : Bool) → (not p || b) ≡ false → p ≡ true
 special_left true b e = refl
 special_left false b e = absurd (cc)
 
-all_good : (unicode : Bool) (before : ℕ) (xs : List ℕ) → somewhere (is_special unicode) before xs ≡ false → AreGood xs
+all_good : (unicode : Bool) (before : ℕ) (xs : List ℕ)
+    → somewhere (is_special unicode) before xs ≡ false → AreGood xs
 unfolding somewhere
 all_good unicode before [] e = tt
 all_good unicode before (x ∷ xs) e =
@@ -91,7 +92,9 @@ after_digit false c = c
 digit_char_is : (d : ℕ) → d < 10 → digit_char d ≡ 48 + d
 digit_char_is d h = let e : nat_lt d 10 ≡ true = grind (arith, nat_tests) in cond_true (nat_lt d 10) (48 + d) 50 e
 
-digit_is : (shown : Bool) (d : ℕ) (c : Cursor) (rest : Rest) → d < 10 → when shown (char (digit_char d)) c rest ≡ in_front (digit_text shown d) (rest (after_digit shown c))
+digit_is : (shown : Bool) (d : ℕ) (c : Cursor) (rest : Rest) → d < 10
+    → when shown (char (digit_char d)) c rest
+    ≡ in_front (digit_text shown d) (rest (after_digit shown c))
 unfolding in_front
 digit_is true d c rest h = ap (λ x. letter x ∷ rest (moved_by c)) (digit_char_is d h)
 digit_is false d c rest h = refl
@@ -101,7 +104,8 @@ after_chomp chomping.Strip c = record { column = c.column + 1; white = false; ba
 after_chomp chomping.Clip c = record { column = c.column; white = c.white; bare = c.bare; kept = false }
 after_chomp chomping.Keep c = record { column = c.column + 1; white = false; bare = false; kept = true }
 
-chomp_is : (k : Chomp) (c : Cursor) (rest : Rest) → chomp_mark k c rest ≡ in_front (chomp_text k) (rest (after_chomp k c))
+chomp_is : (k : Chomp) (c : Cursor) (rest : Rest)
+    → chomp_mark k c rest ≡ in_front (chomp_text k) (rest (after_chomp k c))
 unfolding in_front
 chomp_is chomping.Strip c rest = refl
 chomp_is chomping.Clip c rest = refl
@@ -116,7 +120,8 @@ abbrev header_text : Bool → ℕ → Chomp → LineBreak → List ℕ
 header_text shown d k b = digit_text shown d ++ (chomp_text k ++ break_text b)
 
 header_is : (shown : Bool) (d : ℕ) (k : Chomp) (b : LineBreak) (c : Cursor) (rest : Rest) → d < 10
-    → when shown (char (digit_char d)) c (λ e. chomp_mark k e (λ f. new_line b f rest)) ≡ in_front (header_text shown d k b) (rest (start_at (is_keep k)))
+    → when shown (char (digit_char d)) c (λ e. chomp_mark k e (λ f. new_line b f rest))
+    ≡ in_front (header_text shown d k b) (rest (start_at (is_keep k)))
 header_is shown d k b c rest h =
     let e = after_digit shown c in
     let f = after_chomp k e in
@@ -129,7 +134,8 @@ header_is shown d k b c rest h =
 
 -- ---- its bytes
 
-digit_encodes : (shown : Bool) (d : ℕ) → d < 10 → encode_utf8_all (digit_text shown d) ≡ digit_text shown d
+digit_encodes : (shown : Bool) (d : ℕ) → d < 10
+    → encode_utf8_all (digit_text shown d) ≡ digit_text shown d
 digit_encodes true d h = ap (λ (t : List ℕ). t ++ []) (encode_ascii (48 + d) (omega (arith, h)))
 digit_encodes false d h = refl
 
@@ -138,7 +144,8 @@ chomp_encodes chomping.Strip = ap (λ (t : List ℕ). t ++ []) (encode_ascii 45 
 chomp_encodes chomping.Clip = refl
 chomp_encodes chomping.Keep = ap (λ (t : List ℕ). t ++ []) (encode_ascii 43 (omega arith))
 
-header_encodes : (shown : Bool) (d : ℕ) (k : Chomp) (b : LineBreak) → d < 10 → encode_utf8_all (header_text shown d k b) ≡ header_text shown d k b
+header_encodes : (shown : Bool) (d : ℕ) (k : Chomp) (b : LineBreak) → d < 10
+    → encode_utf8_all (header_text shown d k b) ≡ header_text shown d k b
 header_encodes shown d k b h =
     encodes-append (digit_text shown d) (chomp_text k ++ break_text b) ∙ ap (λ (t : List ℕ). t ++ encode_utf8_all (chomp_text k ++ break_text b)) (digit_encodes shown d h)
     ∙ ap (λ (t : List ℕ). digit_text shown d ++ t) (encodes-append (chomp_text k) (break_text b) ∙ ap (λ (t : List ℕ). t ++ encode_utf8_all (break_text b)) (chomp_encodes k) ∙ ap (λ (t : List ℕ). chomp_text k ++ t) (text_encodes b own))
@@ -150,8 +157,10 @@ sign_encodes : (folded : Bool) → encode_utf8 (sign folded) ≡ sign folded ∷
 sign_encodes true = encode_ascii 62 (omega arith)
 sign_encodes false = encode_ascii 124 (omega arith)
 
-bytes_are : (folded : Bool) (header letters close body bytes : List ℕ) → encode_utf8_all header ≡ header → letters ++ close ≡ body → encode_utf8_all body ≡ bytes
-    → encode_utf8_all ((sign folded ∷ (header ++ letters)) ++ close) ≡ sign folded ∷ (header ++ bytes)
+bytes_are : (folded : Bool) (header letters close body bytes : List ℕ)
+    → encode_utf8_all header ≡ header → letters ++ close ≡ body → encode_utf8_all body ≡ bytes
+    → encode_utf8_all ((sign folded ∷ (header ++ letters)) ++ close) ≡ sign folded
+    ∷ (header ++ bytes)
 bytes_are folded header letters close body bytes e f g =
     ap (λ (t : List ℕ). encode_utf8_all (sign folded ∷ t)) (append_assoc header letters close ∙ ap (λ (t : List ℕ). header ++ t) f)
     ∙ ap (λ (t : List ℕ). t ++ encode_utf8_all (header ++ body)) (sign_encodes folded)
@@ -159,19 +168,23 @@ bytes_are folded header letters close body bytes e f g =
 
 -- ---- the column
 
-blank_here : (text : List ℕ) (q : ℕ) (bs : List ℕ) → 0 < length bs → Has text q bs → is_blank (byte text q) ≡ starts_blank bs
+blank_here : (text : List ℕ) (q : ℕ) (bs : List ℕ) → 0 < length bs → Has text q bs
+    → is_blank (byte text q) ≡ starts_blank bs
 blank_here text q [] l h = absurd (omega (arith, l))
 blank_here text q (b ∷ bs) l (e, h) = ap (λ x. is_blank x) e
 
 no_blank : (b : ℕ) → (b == 32 || b == 9) ≡ false → (b ≢ 32) × (b ≢ 9)
 no_blank b e = (eqb-false b 32 (or_parts (b == 32) (b == 9) e).0, eqb-false b 9 (or_parts (b == 32) (b == 9) e).1)
 
-text_here : (text : List ℕ) (q : ℕ) (bs : List ℕ) → 0 < length bs → AllText text q bs → break_width text q ≡ 0
+text_here : (text : List ℕ) (q : ℕ) (bs : List ℕ) → 0 < length bs → AllText text q bs
+    → break_width text q ≡ 0
 text_here text q [] l h = absurd (omega (arith, l))
 text_here text q (b ∷ bs) l (e, h) = let (some, none) = text_parts text q e in none
 
 -- the first line has a text, which begins with no blank
-column_first : (b : LineBreak) (level n x : ℕ) (ls : List BodyLine) (text : List ℕ) (p : ℕ) → level ≤ n → 0 < n → column_at text p ≡ 0 → HasFirst x ls → is_blank x ≡ false → AreInside ls → Has text p (body_bytes b n ls)
+column_first : (b : LineBreak) (level n x : ℕ) (ls : List BodyLine) (text : List ℕ) (p : ℕ)
+    → level ≤ n → 0 < n → column_at text p ≡ 0 → HasFirst x ls → is_blank x ≡ false → AreInside ls
+    → Has text p (body_bytes b n ls)
     → column_of level text 0 p ≡ Ok n
 unfolding body_bytes
 column_first b level n x [] text p l some c f e i h = absurd f
@@ -188,8 +201,11 @@ column_first b level n x (full y ys m ∷ ls) text p l some c f e (j, i) h =
     let (space, tab) = no_blank (byte text (p + n)) (blank_here text (p + n) words long w ∙ text_blank y ys ∙ ap (λ z. is_blank z) (sym f) ∙ e) in
     column_by_text level n text p l some c sp space tab (text_here text (p + n) words long (chars_text text (p + n) (y ∷ ys) j w))
 
-column_is : (b : LineBreak) (shown : Bool) (level n digit : ℕ) (cs : List ℕ) (ls : List BodyLine) (text : List ℕ) (p : ℕ) → Allows cs → is_shown cs ≡ shown → 0 < digit → (level - 1) + digit ≡ n → column_at text p ≡ 0
-    → Begins cs ls → AreInside ls → Has text p (body_bytes b n ls) → column_of level text (digit_value shown digit) p ≡ Ok n
+column_is : (b : LineBreak) (shown : Bool) (level n digit : ℕ) (cs : List ℕ) (ls : List BodyLine)
+    (text : List ℕ) (p : ℕ) → Allows cs → is_shown cs ≡ shown → 0 < digit → (level - 1) + digit ≡ n
+    → column_at text p ≡ 0
+    → Begins cs ls → AreInside ls → Has text p (body_bytes b n ls)
+    → column_of level text (digit_value shown digit) p ≡ Ok n
 column_is b true level n digit cs ls text p a s some e c f i h = column_by_digit level n digit text p some e
 column_is b false level n digit [] ls text p a s some e c f i h = let bad = a.is in absurd (cc)
 column_is b false level n digit (x ∷ xs) ls text p a s some e c f i h =
@@ -202,34 +218,44 @@ none_there : (a b : Bool) → (a && false && b) ≡ false
 none_there true b = refl
 none_there false b = refl
 
-no_start : (folded : Bool) (text : List ℕ) (p : ℕ) → byte text p ≡ sign folded → is_document_start text p ≡ false
+no_start : (folded : Bool) (text : List ℕ) (p : ℕ) → byte text p ≡ sign folded
+    → is_document_start text p ≡ false
 unfolding is_document_start
 no_start true text p e = rw e (none_there (column_at text p == 0) _)
 no_start false text p e = rw e (none_there (column_at text p == 0) _)
 
-no_document_end : (folded : Bool) (text : List ℕ) (p : ℕ) → byte text p ≡ sign folded → is_document_end text p ≡ false
+no_document_end : (folded : Bool) (text : List ℕ) (p : ℕ) → byte text p ≡ sign folded
+    → is_document_end text p ≡ false
 unfolding is_document_end
 no_document_end true text p e = rw e (none_there (column_at text p == 0) _)
 no_document_end false text p e = rw e (none_there (column_at text p == 0) _)
 
-kind_by : (folded : Bool) (text : List ℕ) (p : ℕ) → byte text p ≡ sign folded → is_document_start text p ≡ false → is_document_end text p ≡ false → kind_at false text p ≡ Some (kind_of folded)
+kind_by : (folded : Bool) (text : List ℕ) (p : ℕ) → byte text p ≡ sign folded
+    → is_document_start text p ≡ false → is_document_end text p ≡ false
+    → kind_at false text p ≡ Some (kind_of folded)
 unfolding kind_at indicator_of
 kind_by true text p e s f = rw (e, s, f) refl
 kind_by false text p e s f = rw (e, s, f) refl
 
-kind_is : (folded : Bool) (text : List ℕ) (p : ℕ) → byte text p ≡ sign folded → kind_at false text p ≡ Some (kind_of folded)
+kind_is : (folded : Bool) (text : List ℕ) (p : ℕ) → byte text p ≡ sign folded
+    → kind_at false text p ≡ Some (kind_of folded)
 kind_is folded text p e = kind_by folded text p e (no_start folded text p e) (no_document_end folded text p e)
 
-style_is : (folded : Bool) (text : List ℕ) (p : ℕ) → byte text p ≡ sign folded → style_at text p ≡ read_style folded
+style_is : (folded : Bool) (text : List ℕ) (p : ℕ) → byte text p ≡ sign folded
+    → style_at text p ≡ read_style folded
 style_is true text p e = rw e refl
 style_is false text p e = rw e refl
 
-word_is : (folded : Bool) (level : ℕ) (text : List ℕ) (p : ℕ) → word_at (kind_of folded) false level text p ≡ blocked (style_at text p) (block_at level text p)
+word_is : (folded : Bool) (level : ℕ) (text : List ℕ) (p : ℕ)
+    → word_at (kind_of folded) false level text p
+    ≡ blocked (style_at text p) (block_at level text p)
 unfolding word_at
 word_is true level text p = refl
 word_is false level text p = refl
 
-stands_by : (folded : Bool) (level : ℕ) (text : List ℕ) (p : ℕ) (value : List ℕ) (end k : ℕ) → byte text p ≡ sign folded → column_at text (end + k) ≡ k → block_at level text p ≡ Ok record { value = value; end = end; place = end + k }
+stands_by : (folded : Bool) (level : ℕ) (text : List ℕ) (p : ℕ) (value : List ℕ) (end k : ℕ)
+    → byte text p ≡ sign folded → column_at text (end + k) ≡ k
+    → block_at level text p ≡ Ok record { value = value; end = end; place = end + k }
     → BlockStands folded level text p value end k
 stands_by folded level text p value end k e c h = record {
   block = h;
@@ -254,10 +280,16 @@ record Body (page : Page) (digit : ℕ) (folded : Bool) (level : ℕ) (cs value 
   sound : AreInside ls
   means : block_value folded (chomp_at (read_chomp (chomp true true cs))) (read_lines ls) ≡ value
 
-body_stands : (page : Page) (digit : ℕ) (folded : Bool) (level : ℕ) (cs value : List ℕ) (ls : List BodyLine) → Body page digit folded level cs value ls → (text : List ℕ) (p k : ℕ)
-    → Has text p (sign folded ∷ (header_text (is_shown cs) digit (chomp true true cs) page.line_break ++ body_bytes page.line_break page.indentation ls))
-    → StandsLeft text (p + length (sign folded ∷ (header_text (is_shown cs) digit (chomp true true cs) page.line_break ++ body_bytes page.line_break page.indentation ls))) page.indentation k
-    → BlockStands folded level text p value (p + length (sign folded ∷ (header_text (is_shown cs) digit (chomp true true cs) page.line_break ++ body_bytes page.line_break page.indentation ls))) k
+body_stands : (page : Page) (digit : ℕ) (folded : Bool) (level : ℕ) (cs value : List ℕ)
+    (ls : List BodyLine) → Body page digit folded level cs value ls → (text : List ℕ) (p k : ℕ)
+    → Has text p (sign folded ∷ (header_text (is_shown cs) digit (chomp true true cs)
+    page.line_break ++ body_bytes page.line_break page.indentation ls))
+    → StandsLeft text (p + length (sign folded
+    ∷ (header_text (is_shown cs) digit (chomp true true cs) page.line_break
+    ++ body_bytes page.line_break page.indentation ls))) page.indentation k
+    → BlockStands folded level text p value
+    (p + length (sign folded ∷ (header_text (is_shown cs) digit (chomp true true cs) page.line_break
+    ++ body_bytes page.line_break page.indentation ls))) k
 body_stands page digit folded level cs value ls d text p k (here, h) left =
     let b = page.line_break in
     let n = page.indentation in
@@ -281,7 +313,8 @@ body_stands page digit folded level cs value ls d text p k (here, h) left =
     ∙ ap (λ (s : Result Lines Wrong). block_with (block_value folded (chomp_at (read_chomp (chomp true true cs)))) s) lines
     ∙ ap (λ (v : List ℕ). let x : Result BlockText Wrong = Ok record { value = v; end = end; place = end + k } in x) d.means)
 
-value_means : (page : Page) (folded : Bool) (k : ℕ) (cs value : List ℕ) (kept : Bool) (s : Starts page folded false true false [] [] k 10 cs kept) → encode_utf8_all cs ≡ value
+value_means : (page : Page) (folded : Bool) (k : ℕ) (cs value : List ℕ) (kept : Bool)
+    (s : Starts page folded false true false [] [] k 10 cs kept) → encode_utf8_all cs ≡ value
     → block_value folded (chomp_at k) (read_lines s.lines) ≡ value
 unfolding stacked_with
 value_means page folded k cs value kept s e = s.means ∙ e
@@ -289,8 +322,12 @@ value_means page folded k cs value kept s e = s.means ∙ e
 abbrev behind_block : Cursor → Cursor
 behind_block d = record { column = d.column; white = true; bare = d.bare; kept = d.kept }
 
-written_by : (page : Page) (digit : ℕ) (folded : Bool) (cs : List ℕ) (c : Cursor) (rest : Rest) (s : Starts page folded false true false [] [] (read_chomp (chomp true true cs)) 10 cs (is_keep (chomp true true cs))) → digit < 10
-    → from_indicator page digit folded cs c rest ≡ in_front (sign folded ∷ (header_text (is_shown cs) digit (chomp true true cs) page.line_break ++ s.letters)) (rest (behind_block s.behind))
+written_by : (page : Page) (digit : ℕ) (folded : Bool) (cs : List ℕ) (c : Cursor) (rest : Rest)
+    (s : Starts page folded false true false [] [] (read_chomp (chomp true true cs)) 10 cs
+    (is_keep (chomp true true cs))) → digit < 10
+    → from_indicator page digit folded cs c rest
+    ≡ in_front (sign folded ∷ (header_text (is_shown cs) digit (chomp true true cs) page.line_break
+    ++ s.letters)) (rest (behind_block s.behind))
 unfolding in_front
 written_by page digit folded cs c rest s small =
     let header = header_text (is_shown cs) digit (chomp true true cs) page.line_break in

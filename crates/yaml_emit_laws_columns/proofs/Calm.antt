@@ -122,7 +122,8 @@ escaped_calm unicode x =
       | inr e ↦ rw e (char_calm x)
     ]
 
-quoted_char_calm : (page : Page) (before x : ℕ) (rest : List ℕ) → Calm (quoted_char page before x rest)
+quoted_char_calm : (page : Page) (before x : ℕ) (rest : List ℕ)
+    → Calm (quoted_char page before x rest)
 unfolding quoted_char
 quoted_char_calm page before x rest =
     elim (cases_Bool (may_fold page before x rest)) [

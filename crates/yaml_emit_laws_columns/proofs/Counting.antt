@@ -18,7 +18,8 @@ size x t = length (encode x t)
 abbrev pub AtMost : Encoding → ℕ → Layout → Type 0
 AtMost x n a = (m : ℕ) (rest : Rest) → ((c : Cursor) → size x (rest c) ≤ m) → (c : Cursor) → size x (a c rest) ≤ n + m
 
-pub joined : (x : Encoding) (k l n : ℕ) (a b : Layout) → AtMost x k a → AtMost x l b → k + l ≤ n → AtMost x n (a ▹ b)
+pub joined : (x : Encoding) (k l n : ℕ) (a b : Layout) → AtMost x k a → AtMost x l b → k + l ≤ n
+    → AtMost x n (a ▹ b)
 joined x k l n a b f g w m rest h c =
     let i : size x (a c (λ d. b d rest)) ≤ k + (l + m) = f (l + m) (λ d. b d rest) (λ d. g m rest h d) c in
     omega arith
@@ -29,11 +30,13 @@ widened x k n a f w m rest h c = let i : size x (a c rest) ≤ k + m = f m rest 
 pub stay_most : (x : Encoding) (n : ℕ) → AtMost x n stay
 stay_most x n m rest h c = let i : size x (rest c) ≤ m = h c in omega arith
 
-pub when_most : (x : Encoding) (n : ℕ) (b : Bool) (a : Layout) → AtMost x n a → AtMost x n (when b a)
+pub when_most : (x : Encoding) (n : ℕ) (b : Bool) (a : Layout) → AtMost x n a
+    → AtMost x n (when b a)
 when_most x n true a f = f
 when_most x n false a f = stay_most x n
 
-pub choose_most : (x : Encoding) (n : ℕ) (test : Cursor → Bool) (a b : Layout) → AtMost x n a → AtMost x n b → AtMost x n (choose test a b)
+pub choose_most : (x : Encoding) (n : ℕ) (test : Cursor → Bool) (a b : Layout) → AtMost x n a
+    → AtMost x n b → AtMost x n (choose test a b)
 choose_most x n test a b f g m rest h c =
     elim (cases_Bool (test c)) [
       | inl e ↦ rw e (f m rest h c)
@@ -44,7 +47,8 @@ pub keep_most : (x : Encoding) (n : ℕ) (b : Bool) → AtMost x n (keep b)
 keep_most x n b m rest h c = let i : size x (rest (record { column = c.column; white = c.white; bare = c.bare; kept = b })) ≤ m = h _ in omega arith
 
 -- a letter, and what follows it
-pub put_most : (x : Encoding) (i n m : ℕ) (t : List Item) → length (char_bytes x i) ≤ n → size x t ≤ m → size x (letter i ∷ t) ≤ n + m
+pub put_most : (x : Encoding) (i n m : ℕ) (t : List Item) → length (char_bytes x i) ≤ n
+    → size x t ≤ m → size x (letter i ∷ t) ≤ n + m
 unfolding encode
 put_most x i n m t w h = omega (arith, length-append (char_bytes x i) (encode x t))
 
@@ -75,7 +79,8 @@ abbrev pub all_ascii : List ℕ → Bool
 all_ascii [] = true
 all_ascii (i ∷ t) = nat_lt i 128 && all_ascii t
 
-pub ascii_bytes : (x : Encoding) (t : List ℕ) → all_ascii t ≡ true → text_bytes x t ≤ unit x * length t
+pub ascii_bytes : (x : Encoding) (t : List ℕ) → all_ascii t ≡ true
+    → text_bytes x t ≤ unit x * length t
 unfolding text_bytes
 ascii_bytes x [] e = omega arith
 ascii_bytes x (i ∷ t) e =
@@ -99,7 +104,8 @@ gap_most x = choose_most x (unit x) is_white stay blank (stay_most x (unit x)) (
 pub word_most : (x : Encoding) (t : List ℕ) → AtMost x (unit x + text_bytes x t) (word t)
 word_most x t = joined x (unit x) (text_bytes x t) (unit x + text_bytes x t) gap (letters t) (gap_most x) (letters_most x t) (le_refl _)
 
-pub ascii_word_most : (x : Encoding) (t : List ℕ) (n : ℕ) → all_ascii t ≡ true → unit x + unit x * length t ≤ n → AtMost x n (word t)
+pub ascii_word_most : (x : Encoding) (t : List ℕ) (n : ℕ) → all_ascii t ≡ true
+    → unit x + unit x * length t ≤ n → AtMost x n (word t)
 ascii_word_most x t n e w = widened x (unit x + text_bytes x t) n (word t) (word_most x t) (let j : text_bytes x t ≤ unit x * length t = ascii_bytes x t e in omega arith)
 
 pub opener_most : (x : Encoding) (i : ℕ) → nat_lt i 128 ≡ true → AtMost x (unit x * 2) (opener i)

@@ -49,7 +49,8 @@ mutual
         | inr k ↦ let r = pairs_past i (m + i) pairs k in record { depth = suc r.depth; stands = r.stands; past = deeper_past i m r.depth r.past }
       ]
 
-  items_past : (i m : ℕ) (ns : Nodes) → items_marks i m ns ≡ true → Past i m (λ d. ItemStandsAt d ns)
+  items_past : (i m : ℕ) (ns : Nodes) → items_marks i m ns ≡ true
+      → Past i m (λ d. ItemStandsAt d ns)
   items_past i m no_nodes h = absurd (true≢false (sym h))
   items_past i m (node x xs) h =
       elim (or_cases (node_marks i m x) (items_marks i m xs) h) [
@@ -57,7 +58,8 @@ mutual
         | inr k ↦ let r = items_past i m xs k in record { depth = r.depth; stands = inr r.stands; past = r.past }
       ]
 
-  pairs_past : (i m : ℕ) (ps : Pairs) → pairs_marks i m ps ≡ true → Past i m (λ d. PartStandsAt d ps)
+  pairs_past : (i m : ℕ) (ps : Pairs) → pairs_marks i m ps ≡ true
+      → Past i m (λ d. PartStandsAt d ps)
   pairs_past i m no_pairs h = absurd (true≢false (sym h))
   pairs_past i m (pair k v ps) h =
       elim (or_cases (node_marks i m k) (node_marks i m v || pairs_marks i m ps) h) [
@@ -68,7 +70,8 @@ mutual
         ]
       ]
 
-documents_past : (i : ℕ) (ds : List Document) → documents_marks i ds ≡ true → Past i i (λ d. RootStandsAt d ds)
+documents_past : (i : ℕ) (ds : List Document) → documents_marks i ds ≡ true
+    → Past i i (λ d. RootStandsAt d ds)
 unfolding documents_marks RootStandsAt
 documents_past i [] h = absurd (true≢false (sym h))
 documents_past i (x ∷ xs) h =
@@ -91,12 +94,14 @@ mutual
   node_marked i m zero (mapping_node q pairs) h p = or_left (nat_lt MOST m) (pairs_marks i (m + i) pairs) (marked_here i m p)
   node_marked i m (suc d) (mapping_node q pairs) h p = or_right (nat_lt MOST m) (pairs_marks i (m + i) pairs) (pairs_marked i (m + i) d pairs h (shallower_past i m d p))
 
-  items_marked : (i m d : ℕ) (ns : Nodes) → ItemStandsAt d ns → MOST < m + d * i → items_marks i m ns ≡ true
+  items_marked : (i m d : ℕ) (ns : Nodes) → ItemStandsAt d ns → MOST < m + d * i
+      → items_marks i m ns ≡ true
   items_marked i m d no_nodes h p = absurd h
   items_marked i m d (node x xs) (inl h) p = or_left (node_marks i m x) (items_marks i m xs) (node_marked i m d x h p)
   items_marked i m d (node x xs) (inr h) p = or_right (node_marks i m x) (items_marks i m xs) (items_marked i m d xs h p)
 
-  pairs_marked : (i m d : ℕ) (ps : Pairs) → PartStandsAt d ps → MOST < m + d * i → pairs_marks i m ps ≡ true
+  pairs_marked : (i m d : ℕ) (ps : Pairs) → PartStandsAt d ps → MOST < m + d * i
+      → pairs_marks i m ps ≡ true
   pairs_marked i m d no_pairs h p = absurd h
   pairs_marked i m d (pair k v ps) (inl h) p = or_left (node_marks i m k) (node_marks i m v || pairs_marks i m ps) (node_marked i m d k h p)
   pairs_marked i m d (pair k v ps) (inr (inl h)) p =
@@ -104,7 +109,8 @@ mutual
   pairs_marked i m d (pair k v ps) (inr (inr h)) p =
       or_right (node_marks i m k) (node_marks i m v || pairs_marks i m ps) (or_right (node_marks i m v) (pairs_marks i m ps) (pairs_marked i m d ps h p))
 
-documents_marked : (i d : ℕ) (ds : List Document) → RootStandsAt d ds → MOST < i + d * i → documents_marks i ds ≡ true
+documents_marked : (i d : ℕ) (ds : List Document) → RootStandsAt d ds → MOST < i + d * i
+    → documents_marks i ds ≡ true
 unfolding documents_marks RootStandsAt
 documents_marked i d [] h p = absurd h
 documents_marked i d (x ∷ xs) (inl h) p = or_left (node_marks i i x.root) (documents_marks i xs) (node_marked i i d x.root h p)

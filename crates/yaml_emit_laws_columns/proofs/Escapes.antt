@@ -36,7 +36,8 @@ raw_most Utf16Be c =
 
 -- ---- letters and digits
 
-small_if : (b : Bool) (x y : ℕ) → nat_lt x 128 ≡ true → nat_lt y 128 ≡ true → nat_lt (if b then x else y) 128 ≡ true
+small_if : (b : Bool) (x y : ℕ) → nat_lt x 128 ≡ true → nat_lt y 128 ≡ true
+    → nat_lt (if b then x else y) 128 ≡ true
 small_if true x y e f = e
 small_if false x y e f = f
 
@@ -47,7 +48,8 @@ letter_small c =
     (small_if (c == 0x0C) _ _ refl (small_if (c == 0x0D) _ _ refl (small_if (c == 0x1B) _ _ refl (small_if (c == 34) _ _ refl (small_if (c == 92) _ _ refl (small_if (c == 0x85) _ _ refl
     (small_if (c == 0xA0) _ _ refl (small_if (c == 0x2028) _ _ refl (small_if (c == 0x2029) _ _ refl refl))))))))))))))
 
-all_append : (xs ys : List ℕ) → all_ascii xs ≡ true → all_ascii ys ≡ true → all_ascii (xs ++ ys) ≡ true
+all_append : (xs ys : List ℕ) → all_ascii xs ≡ true → all_ascii ys ≡ true
+    → all_ascii (xs ++ ys) ≡ true
 all_append [] ys e f = f
 all_append (x ∷ xs) ys e f = let s = parts (nat_lt x 128) (all_ascii xs) e in and_from (nat_lt x 128) (all_ascii (xs ++ ys)) s.0 (all_append xs ys s.1 f)
   where
@@ -92,7 +94,8 @@ least c =
 four_most : (x : Encoding) (n c : ℕ) → n ≤ unit x * 4 → n ≤ unit x * most_of_escape c
 four_most x n c w = let k : unit x * 4 ≤ unit x * most_of_escape c = mul-le-mul_left (unit x) (least c) in omega arith
 
-escape_most : (x : Encoding) (c : ℕ) → c < 0x1_0000_0000 → text_bytes x (escape_text c) ≤ unit x * most_of_escape c
+escape_most : (x : Encoding) (c : ℕ) → c < 0x1_0000_0000
+    → text_bytes x (escape_text c) ≤ unit x * most_of_escape c
 unfolding escape_text
 escape_most x c w =
     elim (cases_Bool (escape_letter c == 0)) [

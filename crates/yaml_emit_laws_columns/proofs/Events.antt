@@ -43,13 +43,15 @@ back : (i m : ℕ) → m + i - i ≡ m
 back i m = omega (arith)
 
 -- behind a collection the indentation is what it was
-closed : (i m : ℕ) (d : Bool) (es : List Event) → (d || events_mark i (m + i - i) es) ≡ (d || events_mark i m es)
+closed : (i m : ℕ) (d : Bool) (es : List Event)
+    → (d || events_mark i (m + i - i) es) ≡ (d || events_mark i m es)
 closed i m d es = ap (λ n. d || events_mark i n es) (back i m)
 
 mutual
   unfolding events_mark node_events items_events pairs_events node_marks items_marks pairs_marks
 
-  of_node : (i m : ℕ) (n : Node) (es : List Event) → events_mark i m (node_events n es) ≡ (node_marks i m n || events_mark i m es)
+  of_node : (i m : ℕ) (n : Node) (es : List Event)
+      → events_mark i m (node_events n es) ≡ (node_marks i m n || events_mark i m es)
   of_node i m (alias_node name) es = refl
   of_node i m (scalar_node x) es = refl
   of_node i m (sequence_node q items) es =
@@ -59,12 +61,14 @@ mutual
       ap (λ b. nat_lt MOST m || b) (of_pairs i (m + i) pairs (mapping_end ∷ es) ∙ closed i m (pairs_marks i (m + i) pairs) es)
       ∙ or_assoc (nat_lt MOST m) (pairs_marks i (m + i) pairs) (events_mark i m es)
 
-  of_items : (i m : ℕ) (ns : Nodes) (es : List Event) → events_mark i m (items_events ns es) ≡ (items_marks i m ns || events_mark i m es)
+  of_items : (i m : ℕ) (ns : Nodes) (es : List Event)
+      → events_mark i m (items_events ns es) ≡ (items_marks i m ns || events_mark i m es)
   of_items i m no_nodes es = refl
   of_items i m (node x xs) es =
       of_node i m x (items_events xs es) ∙ ap (λ b. node_marks i m x || b) (of_items i m xs es) ∙ or_assoc (node_marks i m x) (items_marks i m xs) (events_mark i m es)
 
-  of_pairs : (i m : ℕ) (ps : Pairs) (es : List Event) → events_mark i m (pairs_events ps es) ≡ (pairs_marks i m ps || events_mark i m es)
+  of_pairs : (i m : ℕ) (ps : Pairs) (es : List Event)
+      → events_mark i m (pairs_events ps es) ≡ (pairs_marks i m ps || events_mark i m es)
   of_pairs i m no_pairs es = refl
   of_pairs i m (pair k v ps) es =
       of_node i m k (node_events v (pairs_events ps es))
@@ -72,17 +76,21 @@ mutual
       (of_node i m v (pairs_events ps es) ∙ ap (λ b. node_marks i m v || b) (of_pairs i m ps es) ∙ or_assoc (node_marks i m v) (pairs_marks i m ps) (events_mark i m es))
       ∙ or_assoc (node_marks i m k) (node_marks i m v || pairs_marks i m ps) (events_mark i m es)
 
-of_documents : (i : ℕ) (ds : List Document) → events_mark i i (documents_events ds) ≡ documents_marks i ds
+of_documents : (i : ℕ) (ds : List Document)
+    → events_mark i i (documents_events ds) ≡ documents_marks i ds
 unfolding events_mark documents_events documents_marks
 of_documents i [] = refl
 of_documents i (d ∷ ds) = of_node i i d.root (document_end d.implicit_end ∷ documents_events ds) ∙ ap (λ b. node_marks i i d.root || b) (of_documents i ds)
 
-of_stream : (i : ℕ) (x : yaml_encoding_t) (ds : List Document) → events_mark i i (stream_events x ds) ≡ documents_marks i ds
+of_stream : (i : ℕ) (x : yaml_encoding_t) (ds : List Document)
+    → events_mark i i (stream_events x ds) ≡ documents_marks i ds
 unfolding events_mark
 of_stream i x ds = of_documents i ds
 
 -- documents with the same events mark alike
-pub marks_same : (x y : yaml_encoding_t) (ds es : List Document) → stream_events x ds ≡ stream_events y es → (i : ℕ) → documents_marks i ds ≡ documents_marks i es
+pub marks_same : (x y : yaml_encoding_t) (ds es : List Document)
+    → stream_events x ds ≡ stream_events y es → (i : ℕ)
+    → documents_marks i ds ≡ documents_marks i es
 marks_same x y ds es e i = sym (of_stream i x ds) ∙ ap (events_mark i i) e ∙ of_stream i y es
 
 pub events_tell : EventsTellColumns

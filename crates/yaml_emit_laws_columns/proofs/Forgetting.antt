@@ -16,7 +16,8 @@ line_forgets Lf n c d rest x y k = rw x (rw y (rw k refl))
 line_forgets Cr n c d rest x y k = rw x (rw y (rw k refl))
 line_forgets CrLf n c d rest x y k = rw x (rw y (rw k refl))
 
-frames_forget : (p : Context) (more : Layout) → Forgets more → (fs : List Frame) → are_block fs ≡ true → Forgets (frames_layout p fs ▹ more)
+frames_forget : (p : Context) (more : Layout) → Forgets more → (fs : List Frame)
+    → are_block fs ≡ true → Forgets (frames_layout p fs ▹ more)
 unfolding frames_layout frame_layout items_layout pairs_layout before_item before_key closer are_block is_block
 frames_forget p more h [] w = h
 frames_forget p more h (items_left true n fresh ns ∷ fs) w = absurd (true≢false (sym w))
@@ -27,7 +28,8 @@ frames_forget p more h (pairs_left false n fresh no_pairs ∷ fs) w = frames_for
 frames_forget p more h (pairs_left false n fresh (pair k v ps) ∷ fs) w = λ c d rest. line_forgets p.settings.line_break n c d _
 frames_forget p more h (value_left flow n simple v ps ∷ fs) w = absurd (true≢false (sym w))
 
-ending_forgets : (s : Settings) (implicit : Bool) (ds : List Document) → Forgets (ending_layout s implicit ds)
+ending_forgets : (s : Settings) (implicit : Bool) (ds : List Document)
+    → Forgets (ending_layout s implicit ds)
 unfolding end_layout
 ending_forgets s implicit ds c d rest = line_forgets s.line_break 0 c d _
 

@@ -77,7 +77,8 @@ char_grows s n m c w =
     ]
 
 -- a value in lines that are indented more
-pub value_grows : (s : Settings) (n m : ℕ) (v : List ℕ) → n ≤ m → most_of_value s n v ≤ most_of_value s m v
+pub value_grows : (s : Settings) (n m : ℕ) (v : List ℕ) → n ≤ m
+    → most_of_value s n v ≤ most_of_value s m v
 unfolding most_of_value
 value_grows s n m [] w = le_refl _
 value_grows s n m (c ∷ cs) w = omega (arith, char_grows s n m c w, value_grows s n m cs w)
@@ -86,7 +87,8 @@ pub line_grows : (s : Settings) (n m : ℕ) → n ≤ m → most_of_line s n ≤
 line_grows s n m w = ascii_grows s (n + 5) (m + 5) (omega (arith, w))
 
 -- each has room for a line
-roomy : (s : Settings) (n : ℕ) (v : List ℕ) → ascii s (n + 10) * length v ≤ most_of_value (easy s) n v
+roomy : (s : Settings) (n : ℕ) (v : List ℕ)
+    → ascii s (n + 10) * length v ≤ most_of_value (easy s) n v
 unfolding most_of_value
 roomy s n [] = omega arith
 roomy s n (c ∷ cs) = omega (arith, larger_right (most_of_quoted (easy s) n c) (ascii s (n + 10)), roomy s n cs)
@@ -101,7 +103,8 @@ after_block_most : (x : Encoding) (n : ℕ) → AtMost x n after_block
 after_block_most x n m rest h c = let i : size x (rest (record { column = c.column; white = true; bare = c.bare; kept = c.kept })) ≤ m = h _ in omega arith
 
 -- a break of a value, and one in front of a line feed alone
-run_most : (s : Settings) (b : LineBreak) (w : Bool) (x : ℕ) → (w ≡ true → (x == 10) ≡ true) → Takes s (ascii s 4) (when w (new_line b) ▹ value_break b x)
+run_most : (s : Settings) (b : LineBreak) (w : Bool) (x : ℕ) → (w ≡ true → (x == 10) ≡ true)
+    → Takes s (ascii s 4) (when w (new_line b) ▹ value_break b x)
 run_most s b true x f =
     let e = f refl in
     joined s.encoding (ascii s 2) (ascii s 2) (ascii s 4) (new_line b) (value_break b x) (new_line_most s.encoding b) (rw e (new_line_most s.encoding b)) (omega arith)
@@ -119,7 +122,8 @@ first_of false b e = cc
 line_at_most : (s : Settings) (n : ℕ) → Takes s (ascii s (n + 2)) (line s.line_break n)
 line_at_most s n = line_most s.encoding s.line_break n
 
-cut_most : (s : Settings) (at : Spot) (x : ℕ) → Takes s (ascii s (deeper (easy s) at.around + 4)) (cut (page_at (easy s) at) x)
+cut_most : (s : Settings) (at : Spot) (x : ℕ)
+    → Takes s (ascii s (deeper (easy s) at.around + 4)) (cut (page_at (easy s) at) x)
 cut_most s at x =
     let n = deeper (easy s) at.around in
     choose_most s.encoding (ascii s (n + 4)) (is_past s.width) (line s.line_break n) (char x)
@@ -128,7 +132,9 @@ cut_most s at x =
 
 -- ---- plain, and in single quotes
 
-text_char_most : (s : Settings) (at : Spot) (quote cuts : Bool) (x : ℕ) → Takes s (ascii s (deeper (easy s) at.around + 6)) (text_char (page_at (easy s) at) quote cuts x)
+text_char_most : (s : Settings) (at : Spot) (quote cuts : Bool) (x : ℕ)
+    → Takes s (ascii s (deeper (easy s) at.around + 6))
+    (text_char (page_at (easy s) at) quote cuts x)
 text_char_most s at quote true x =
     let n = deeper (easy s) at.around in
     widened s.encoding (ascii s (n + 4)) (ascii s (n + 6)) (cut (page_at (easy s) at) x) (cut_most s at x) (omega arith)
@@ -141,7 +147,8 @@ text_char_most s at quote false x =
 abbrev due : Settings → ℕ → ℕ → ℕ
 due s n before = if is_break before then ascii s (n + 2) else 0
 
-due_most : (s : Settings) (n before : ℕ) → Takes s (due s n before) (when (is_break before) (line s.line_break n))
+due_most : (s : Settings) (n before : ℕ)
+    → Takes s (due s n before) (when (is_break before) (line s.line_break n))
 due_most s n before =
     elim (cases_Bool (is_break before)) [
       | inl e ↦ rw e (line_at_most s n)
@@ -149,7 +156,8 @@ due_most s n before =
     ]
 
 flow_most : (s : Settings) (at : Spot) (quote : Bool) (before : ℕ) (v : List ℕ)
-    → Takes s (due s (deeper (easy s) at.around) before + ascii s (deeper (easy s) at.around + 6) * length v) (flow_body (page_at (easy s) at) quote before v)
+    → Takes s (due s (deeper (easy s) at.around) before + ascii s (deeper (easy s) at.around + 6) *
+    length v) (flow_body (page_at (easy s) at) quote before v)
 unfolding flow_body flow_char
 flow_most s at quote before [] =
     let n = deeper (easy s) at.around in
@@ -178,12 +186,15 @@ abbrev bodied : Settings → ℕ → List ℕ → ℕ
 bodied s n v = ascii s (n + 6) * length v
 
 -- at the start no line is due
-first_most : (s : Settings) (at : Spot) (quote : Bool) (v : List ℕ) → Takes s (bodied s (deeper (easy s) at.around) v) (flow_body (page_at (easy s) at) quote 32 v)
+first_most : (s : Settings) (at : Spot) (quote : Bool) (v : List ℕ)
+    → Takes s (bodied s (deeper (easy s) at.around) v) (flow_body (page_at (easy s) at) quote 32 v)
 first_most s at quote v =
     let n = deeper (easy s) at.around in
     widened s.encoding (due s n 32 + bodied s n v) (bodied s n v) (flow_body (page_at (easy s) at) quote 32 v) (flow_most s at quote 32 v) (omega arith)
 
-plain_most : (s : Settings) (at : Spot) (flow : Bool) (v : List ℕ) → Takes s (ascii s 1 + bodied s (deeper (easy s) at.around) v) (plain (page_at (easy s) at) flow v)
+plain_most : (s : Settings) (at : Spot) (flow : Bool) (v : List ℕ)
+    → Takes s (ascii s 1 + bodied s (deeper (easy s) at.around) v)
+    (plain (page_at (easy s) at) flow v)
 plain_most s at flow v =
     let n = deeper (easy s) at.around in
     let k = bodied s n v in
@@ -192,7 +203,9 @@ plain_most s at flow v =
     (when_most s.encoding (ascii s 1) (flow || not (is_empty v)) gap (widened s.encoding (unit s.encoding) (ascii s 1) gap (gap_most s.encoding) (omega arith)))
     (joined s.encoding k 0 k body after_text (first_most s at false v) (after_text_most s.encoding 0) (omega arith)) (le_refl _)
 
-single_most : (s : Settings) (at : Spot) (v : List ℕ) → Takes s (ascii s 3 + bodied s (deeper (easy s) at.around) v) (single_quoted (page_at (easy s) at) v)
+single_most : (s : Settings) (at : Spot) (v : List ℕ)
+    → Takes s (ascii s 3 + bodied s (deeper (easy s) at.around) v)
+    (single_quoted (page_at (easy s) at) v)
 single_most s at v =
     let x = s.encoding in
     let u = unit x in
@@ -212,7 +225,9 @@ not_cut true true true d = refl
 
 -- a character behind a break has a line before it, and isn't cut
 spoken_most : (s : Settings) (at : Spot) (folded blank : Bool) (before x : ℕ) (rest : List ℕ)
-    → Takes s (ascii s (deeper (easy s) at.around + 6)) (when (is_break before) (line s.line_break (deeper (easy s) at.around)) ▹ block_text (page_at (easy s) at) (cuts_block folded blank before x rest) x)
+    → Takes s (ascii s (deeper (easy s) at.around + 6))
+    (when (is_break before) (line s.line_break (deeper (easy s) at.around)) ▹ block_text
+    (page_at (easy s) at) (cuts_block folded blank before x rest) x)
 spoken_most s at folded blank before x rest =
     let n = deeper (easy s) at.around in
     let page = page_at (easy s) at in
@@ -221,11 +236,15 @@ spoken_most s at folded blank before x rest =
       | inr e ↦ rw e (joined s.encoding 0 (ascii s (n + 6)) (ascii s (n + 6)) stay (block_text page _ x) (stay_most s.encoding 0) (text_most _) (omega arith))
     ]
   where
-    text_most : (cuts : Bool) → Takes s (ascii s (deeper (easy s) at.around + 6)) (block_text (page_at (easy s) at) cuts x)
+    text_most : (cuts : Bool)
+        → Takes s (ascii s (deeper (easy s) at.around + 6))
+        (block_text (page_at (easy s) at) cuts x)
     text_most true = widened s.encoding (ascii s (deeper (easy s) at.around + 4)) (ascii s (deeper (easy s) at.around + 6)) (cut (page_at (easy s) at) x) (cut_most s at x) (omega arith)
     text_most false = widened s.encoding (ascii s 4) (ascii s (deeper (easy s) at.around + 6)) (char x) (raw_char s x) (omega arith)
 
-block_most : (s : Settings) (at : Spot) (folded blank : Bool) (before : ℕ) (v : List ℕ) → Takes s (bodied s (deeper (easy s) at.around) v) (block_body (page_at (easy s) at) folded blank before v)
+block_most : (s : Settings) (at : Spot) (folded blank : Bool) (before : ℕ) (v : List ℕ)
+    → Takes s (bodied s (deeper (easy s) at.around) v)
+    (block_body (page_at (easy s) at) folded blank before v)
 unfolding block_body block_char
 block_most s at folded blank before [] = stay_most s.encoding _
 block_most s at folded blank before (x ∷ xs) =
@@ -261,7 +280,8 @@ sign_small : (folded : Bool) → nat_lt (if folded then 62 else 124) 128 ≡ tru
 sign_small true = refl
 sign_small false = refl
 
-header_most : (s : Settings) (digit : ℕ) (folded : Bool) (v : List ℕ) → Takes s (ascii s 4) (block_header digit folded v)
+header_most : (s : Settings) (digit : ℕ) (folded : Bool) (v : List ℕ)
+    → Takes s (ascii s 4) (block_header digit folded v)
 header_most s digit folded v =
     let x = s.encoding in
     let u = unit x in
@@ -272,7 +292,9 @@ header_most s digit folded v =
     (joined x u (ascii s 1) (ascii s 2) (when test (char (digit_char digit))) (chomp_mark (chomp true true v)) (when_most x u test (char (digit_char digit)) (ascii_most x (digit_char digit) (digit_small digit)))
     (mark_most_of s (chomp true true v)) (omega arith)) (omega arith)) (omega arith)
 
-blocked_most : (s : Settings) (at : Spot) (digit : ℕ) (folded : Bool) (v : List ℕ) → Takes s (ascii s 6 + bodied s (deeper (easy s) at.around) v) (block (page_at (easy s) at) digit folded v)
+blocked_most : (s : Settings) (at : Spot) (digit : ℕ) (folded : Bool) (v : List ℕ)
+    → Takes s (ascii s 6 + bodied s (deeper (easy s) at.around) v)
+    (block (page_at (easy s) at) digit folded v)
 blocked_most s at digit folded v =
     let x = s.encoding in
     let k = bodied s (deeper (easy s) at.around) v in
@@ -291,7 +313,8 @@ is_block style.Single = false
 is_block style.Double = false
 
 -- nothing at all has no block
-none_in_blocks : (unicode : Bool) (a : yaml_scalar_style_t) (untagged flow simple empty : Bool) → is_block (taken (allowed unicode []) a untagged flow simple empty) ≡ false
+none_in_blocks : (unicode : Bool) (a : yaml_scalar_style_t) (untagged flow simple empty : Bool)
+    → is_block (taken (allowed unicode []) a untagged flow simple empty) ≡ false
 unfolding taken allowed
 none_in_blocks unicode asked.YAML_SINGLE_QUOTED_SCALAR_STYLE untagged flow simple empty = refl
 none_in_blocks unicode asked.YAML_DOUBLE_QUOTED_SCALAR_STYLE untagged flow simple empty = refl
@@ -306,20 +329,24 @@ none_in_blocks unicode _ untagged flow simple empty =
 abbrev HasText : Style → List ℕ → Type 0
 HasText t v = is_block t ≡ true → 0 < length v
 
-room_for : (s : Settings) (n k : ℕ) (v : List ℕ) → k ≤ 3 → ascii s k + bodied s n v ≤ ascii s 3 + most_of_value (easy s) n v
+room_for : (s : Settings) (n k : ℕ) (v : List ℕ) → k ≤ 3
+    → ascii s k + bodied s n v ≤ ascii s 3 + most_of_value (easy s) n v
 room_for s n k v w =
     let a = roomy s n v in
     let b : bodied s n v ≤ ascii s (n + 10) * length v = mul-le-mul_right (length v) (ascii_grows s (n + 6) (n + 10) (omega arith)) in
     omega (arith, a, b, ascii_grows s k 3 w)
 
-room_for_block : (s : Settings) (n : ℕ) (v : List ℕ) → 0 < length v → ascii s 6 + bodied s n v ≤ ascii s 3 + most_of_value (easy s) n v
+room_for_block : (s : Settings) (n : ℕ) (v : List ℕ) → 0 < length v
+    → ascii s 6 + bodied s n v ≤ ascii s 3 + most_of_value (easy s) n v
 room_for_block s n v some =
     let a = roomy s n v in
     let b : ascii s 4 * 1 ≤ ascii s 4 * length v = mul-le-mul_left (ascii s 4) some in
     omega (arith, a, b)
 
-text_most : (s : Settings) (at : Spot) (digit : ℕ) (flow : Bool) (t : Style) (v : List ℕ) → HasText t v
-    → Takes s (ascii s 3 + most_of_value (easy s) (deeper (easy s) at.around) v) (scalar_text (page_at (easy s) at) digit flow t v)
+text_most : (s : Settings) (at : Spot) (digit : ℕ) (flow : Bool) (t : Style) (v : List ℕ)
+    → HasText t v
+    → Takes s (ascii s 3 + most_of_value (easy s) (deeper (easy s) at.around) v)
+    (scalar_text (page_at (easy s) at) digit flow t v)
 unfolding scalar_text
 text_most s at digit flow style.Plain v h =
     let n = deeper (easy s) at.around in
@@ -337,19 +364,23 @@ text_most s at digit flow style.Folded v h =
     let n = deeper (easy s) at.around in
     widened s.encoding (ascii s 6 + bodied s n v) (ascii s 3 + most_of_value (easy s) n v) (block (page_at (easy s) at) digit true v) (blocked_most s at digit true v) (room_for_block s n v (h refl))
 
-chosen_text : (unicode : Bool) (a : yaml_scalar_style_t) (untagged flow simple empty : Bool) (v : List ℕ) → HasText (taken (allowed unicode v) a untagged flow simple empty) v
+chosen_text : (unicode : Bool) (a : yaml_scalar_style_t) (untagged flow simple empty : Bool)
+    (v : List ℕ) → HasText (taken (allowed unicode v) a untagged flow simple empty) v
 chosen_text unicode a untagged flow simple empty [] h =
     absurd (true≢false (sym h ∙ none_in_blocks unicode a untagged flow simple empty))
 chosen_text unicode a untagged flow simple empty (c ∷ cs) h = omega arith
 
 -- ---- properties
 
-tag_less : (s : Settings) (ds : List TagDirective) (out : Bool) (tag : Option (List ℕ)) → tag_bytes (at_easy s ds) (kept_if (not out) tag) ≤ tag_bytes (at_easy s ds) tag
+tag_less : (s : Settings) (ds : List TagDirective) (out : Bool) (tag : Option (List ℕ))
+    → tag_bytes (at_easy s ds) (kept_if (not out) tag) ≤ tag_bytes (at_easy s ds) tag
 tag_less s ds true None = le_refl _
 tag_less s ds true (Some t) = omega arith
 tag_less s ds false tag = le_refl _
 
-scalar_most : (s : Settings) (ds : List TagDirective) (at : Spot) (x : Scalar) → Takes s (most_of_node (at_easy s ds) (deeper (easy s) at.around) (scalar_node x)) (scalar_layout (at_easy s ds) at x)
+scalar_most : (s : Settings) (ds : List TagDirective) (at : Spot) (x : Scalar)
+    → Takes s (most_of_node (at_easy s ds) (deeper (easy s) at.around) (scalar_node x))
+    (scalar_layout (at_easy s ds) at x)
 unfolding scalar_layout style_of most_of_node
 scalar_most s ds at x =
     let p = at_easy s ds in
@@ -381,10 +412,12 @@ turned_most : (s : Settings) (n : ℕ) → Takes s (ascii s (n + 2)) (turned (ea
 unfolding turned
 turned_most s n = choose_most s.encoding (ascii s (n + 2)) (is_past s.width) (line s.line_break n) stay (line_at_most s n) (stay_most s.encoding (ascii s (n + 2)))
 
-parted_most : (s : Settings) (n : ℕ) (fresh : Bool) → Takes s (ascii s (n + 3)) (comma fresh ▹ turned (easy s) n)
+parted_most : (s : Settings) (n : ℕ) (fresh : Bool)
+    → Takes s (ascii s (n + 3)) (comma fresh ▹ turned (easy s) n)
 parted_most s n fresh = joined s.encoding (unit s.encoding) (ascii s (n + 2)) (ascii s (n + 3)) (comma fresh) (turned (easy s) n) (when_most s.encoding (unit s.encoding) (not fresh) (char 44) (ascii_most s.encoding 44 refl)) (turned_most s n) (omega arith)
 
-before_item_most : (s : Settings) (flow : Bool) (n : ℕ) (fresh : Bool) → Takes s (most_of_line s n) (before_item (easy s) flow n fresh)
+before_item_most : (s : Settings) (flow : Bool) (n : ℕ) (fresh : Bool)
+    → Takes s (most_of_line s n) (before_item (easy s) flow n fresh)
 unfolding before_item
 before_item_most s true n fresh = widened s.encoding (ascii s (n + 3)) (most_of_line s n) (comma fresh ▹ turned (easy s) n) (parted_most s n fresh) (omega arith)
 before_item_most s false n fresh = joined s.encoding (ascii s (n + 2)) (ascii s 2) (most_of_line s n) (line s.line_break n) (indicator 45) (line_at_most s n) (indicator_most s.encoding 45 refl) (omega arith)
@@ -393,7 +426,8 @@ question_most : (s : Settings) (flow : Bool) → Takes s (ascii s 2) (question f
 question_most s true = ascii_word_most s.encoding (63 ∷ []) (ascii s 2) refl (omega arith)
 question_most s false = indicator_most s.encoding 63 refl
 
-before_key_most : (s : Settings) (flow : Bool) (n : ℕ) (fresh simple : Bool) → Takes s (most_of_line s n) (before_key (easy s) flow n fresh simple)
+before_key_most : (s : Settings) (flow : Bool) (n : ℕ) (fresh simple : Bool)
+    → Takes s (most_of_line s n) (before_key (easy s) flow n fresh simple)
 unfolding before_key
 before_key_most s true n fresh simple =
     joined s.encoding (ascii s (n + 3)) (ascii s 2) (most_of_line s n) (comma fresh ▹ turned (easy s) n) (when (not simple) (question true)) (parted_most s n fresh)
@@ -402,7 +436,8 @@ before_key_most s false n fresh simple =
     joined s.encoding (ascii s (n + 2)) (ascii s 2) (most_of_line s n) (line s.line_break n) (when (not simple) (question false)) (line_at_most s n)
     (when_most s.encoding (ascii s 2) (not simple) (question false) (question_most s false)) (omega arith)
 
-before_value_most : (s : Settings) (flow : Bool) (n : ℕ) (simple : Bool) → Takes s (most_of_line s n) (before_value (easy s) flow n simple)
+before_value_most : (s : Settings) (flow : Bool) (n : ℕ) (simple : Bool)
+    → Takes s (most_of_line s n) (before_value (easy s) flow n simple)
 unfolding before_value
 before_value_most s true n true = widened s.encoding (unit s.encoding) (most_of_line s n) (char 58) (ascii_most s.encoding 58 refl) (omega arith)
 before_value_most s false n true = widened s.encoding (unit s.encoding) (most_of_line s n) (char 58) (ascii_most s.encoding 58 refl) (omega arith)
@@ -412,7 +447,8 @@ before_value_most s true n false =
 before_value_most s false n false =
     joined s.encoding (ascii s (n + 2)) (ascii s 2) (most_of_line s n) (line s.line_break n) (indicator 58) (line_at_most s n) (indicator_most s.encoding 58 refl) (omega arith)
 
-closer_most : (s : Settings) (flow : Bool) (n : ℕ) (fresh : Bool) (i : ℕ) → nat_lt i 128 ≡ true → Takes s (most_of_line s n) (closer (easy s) flow n fresh i)
+closer_most : (s : Settings) (flow : Bool) (n : ℕ) (fresh : Bool) (i : ℕ) → nat_lt i 128 ≡ true
+    → Takes s (most_of_line s n) (closer (easy s) flow n fresh i)
 unfolding closer
 closer_most s true n fresh i e =
     joined s.encoding 0 (unit s.encoding) (most_of_line s n) stay (char i) (stay_most s.encoding 0) (ascii_most s.encoding i e) (omega arith)
@@ -421,20 +457,27 @@ closer_most s false n fresh i e = stay_most s.encoding (most_of_line s n)
 -- ---- nodes
 
 -- at an indentation that is found, whatever it is
-indented_most : (x : Encoding) (k : ℕ) (f : Cursor → ℕ) (g : ℕ → Layout) → ((c : Cursor) → AtMost x k (g (f c))) → AtMost x k (indented f g)
+indented_most : (x : Encoding) (k : ℕ) (f : Cursor → ℕ) (g : ℕ → Layout)
+    → ((c : Cursor) → AtMost x k (g (f c))) → AtMost x k (indented f g)
 indented_most x k f g h m rest w c = h c m rest w c
 
-block_indent_most : (s : Settings) (around : Option ℕ) (keeps : Bool) → block_indent_in (easy s) around keeps ≤ deeper (easy s) around
+block_indent_most : (s : Settings) (around : Option ℕ) (keeps : Bool)
+    → block_indent_in (easy s) around keeps ≤ deeper (easy s) around
 block_indent_most s None keeps = omega arith
 block_indent_most s (Some n) true = omega arith
 block_indent_most s (Some n) false = le_refl _
 
-indent_most : (s : Settings) (at : Spot) (sequence flow : Bool) (c : Cursor) → indent_of (easy s) at sequence flow c ≤ deeper (easy s) at.around
+indent_most : (s : Settings) (at : Spot) (sequence flow : Bool) (c : Cursor)
+    → indent_of (easy s) at sequence flow c ≤ deeper (easy s) at.around
 indent_most s at sequence true c = le_refl _
 indent_most s at sequence false c = block_indent_most s at.around (sequence && (is_of_mapping at.part && not c.bare))
 
-opened_most : (s : Settings) (ds : List TagDirective) (q : Start) (flow : Bool) (i k : ℕ) (f : Cursor → ℕ) (held : ℕ → Layout) → nat_lt i 128 ≡ true → ((c : Cursor) → Takes s k (held (f c)))
-    → Takes s (properties_bytes (at_easy s ds) q.anchor (start_tag true q) + ascii s 2 + k) (properties_text (at_easy s ds) q.anchor (start_tag false q) ▹ (when flow (opener i) ▹ indented f (λ n. checked n ▹ held n)))
+opened_most : (s : Settings) (ds : List TagDirective) (q : Start) (flow : Bool) (i k : ℕ)
+    (f : Cursor → ℕ) (held : ℕ → Layout) → nat_lt i 128 ≡ true
+    → ((c : Cursor) → Takes s k (held (f c)))
+    → Takes s (properties_bytes (at_easy s ds) q.anchor (start_tag true q) + ascii s 2 + k)
+    (properties_text (at_easy s ds) q.anchor (start_tag false q) ▹
+    (when flow (opener i) ▹ indented f (λ n. checked n ▹ held n)))
 opened_most s ds q flow i k f held e h =
     let p = at_easy s ds in
     let props = properties_bytes p q.anchor (start_tag false q) in
@@ -449,7 +492,9 @@ opened_most s ds q flow i k f held e h =
 mutual
   unfolding node_layout items_layout pairs_layout most_of_node most_of_items most_of_pairs
 
-  node_is : (s : Settings) (ds : List TagDirective) (at : Spot) (n : ℕ) (x : Node) → deeper (easy s) at.around ≤ n → Takes s (most_of_node (at_easy s ds) n x) (node_layout (at_easy s ds) at x)
+  node_is : (s : Settings) (ds : List TagDirective) (at : Spot) (n : ℕ) (x : Node)
+      → deeper (easy s) at.around ≤ n
+      → Takes s (most_of_node (at_easy s ds) n x) (node_layout (at_easy s ds) at x)
   node_is s ds at n (alias_node name) w = alias_most s at name
   node_is s ds at n (scalar_node x) w =
       let m = deeper (easy s) at.around in
@@ -464,7 +509,9 @@ mutual
       opened_most s ds q flow 123 (most_of_pairs (at_easy s ds) n pairs) (indent_of (easy s) at false flow) (λ m. pairs_layout (at_easy s ds) flow m true pairs) refl
       (λ c. pairs_are s ds flow (indent_of (easy s) at false flow c) n true pairs (omega (arith, w, indent_most s at false flow c)))
 
-  items_are : (s : Settings) (ds : List TagDirective) (flow : Bool) (m n : ℕ) (fresh : Bool) (ns : Nodes) → m ≤ n → Takes s (most_of_items (at_easy s ds) n ns) (items_layout (at_easy s ds) flow m fresh ns)
+  items_are : (s : Settings) (ds : List TagDirective) (flow : Bool) (m n : ℕ) (fresh : Bool)
+      (ns : Nodes) → m ≤ n
+      → Takes s (most_of_items (at_easy s ds) n ns) (items_layout (at_easy s ds) flow m fresh ns)
   items_are s ds flow m n fresh no_nodes w = widened s.encoding (most_of_line s m) (most_of_line s n) (closer (easy s) flow m fresh 93) (closer_most s flow m fresh 93 refl) (line_grows s m n w)
   items_are s ds flow m n fresh (node x xs) w =
       let p = at_easy s ds in
@@ -476,7 +523,9 @@ mutual
       joined s.encoding l (i + j) (l + i + j) (before_item (easy s) flow m fresh) (a ▹ more) (widened s.encoding (most_of_line s m) l (before_item (easy s) flow m fresh) (before_item_most s flow m fresh) (line_grows s m n w))
       (joined s.encoding i j (i + j) a more (node_is s ds (spot flow m part.Item) (n + s.indent) x (omega (arith, w))) (items_are s ds flow m n false xs w) (le_refl _)) (omega arith)
 
-  pairs_are : (s : Settings) (ds : List TagDirective) (flow : Bool) (m n : ℕ) (fresh : Bool) (ps : Pairs) → m ≤ n → Takes s (most_of_pairs (at_easy s ds) n ps) (pairs_layout (at_easy s ds) flow m fresh ps)
+  pairs_are : (s : Settings) (ds : List TagDirective) (flow : Bool) (m n : ℕ) (fresh : Bool)
+      (ps : Pairs) → m ≤ n
+      → Takes s (most_of_pairs (at_easy s ds) n ps) (pairs_layout (at_easy s ds) flow m fresh ps)
   pairs_are s ds flow m n fresh no_pairs w = widened s.encoding (most_of_line s m) (most_of_line s n) (closer (easy s) flow m fresh 125) (closer_most s flow m fresh 125 refl) (line_grows s m n w)
   pairs_are s ds flow m n fresh (pair k v ps) w =
       let p = at_easy s ds in
@@ -498,7 +547,9 @@ mutual
 
 -- ---- documents
 
-documents_are : (s : Settings) (first unended : Bool) (ds : List Document) → Takes s (ascii s 6 + most_of_documents (easy s) ds) (documents_layout (easy s) first unended ds)
+documents_are : (s : Settings) (first unended : Bool) (ds : List Document)
+    → Takes s (ascii s 6 + most_of_documents (easy s) ds)
+    (documents_layout (easy s) first unended ds)
 unfolding documents_layout most_of_documents
 documents_are s first unended [] = widened s.encoding (ascii s 6) (ascii s 6 + 0) (stop_layout (easy s) unended) (stop_most (easy s) unended) (omega arith)
 documents_are s first unended (d ∷ ds) =
@@ -515,13 +566,15 @@ documents_are s first unended (d ∷ ds) =
     (joined x (ascii s 8) (ascii s 6 + m) (ascii s 8 + (ascii s 6 + m)) ended left (end_most (easy s) d.implicit_end) (documents_are s false d.implicit_end ds) (le_refl _)) (le_refl _))
     (omega arith)
 
-stream_most : (s : Settings) (ds : List Document) → Takes s (most_bytes (easy s) ds) (stream_layout (easy s) ds)
+stream_most : (s : Settings) (ds : List Document)
+    → Takes s (most_bytes (easy s) ds) (stream_layout (easy s) ds)
 unfolding stream_layout
 stream_most s ds =
     joined s.encoding (unit s.encoding) (ascii s 6 + most_of_documents (easy s) ds) (most_bytes (easy s) ds) (order_mark s.encoding) (documents_layout (easy s) true false ds)
     (mark_most s.encoding) (documents_are s true false ds) (omega arith)
 
-easy_size : (s : Settings) (ds : List Document) → size s.encoding (written (stream_layout (easy s) ds)) ≤ most_bytes (easy s) ds
+easy_size : (s : Settings) (ds : List Document)
+    → size s.encoding (written (stream_layout (easy s) ds)) ≤ most_bytes (easy s) ds
 unfolding encode
 easy_size s ds =
     let i : size s.encoding (written (stream_layout (easy s) ds)) ≤ most_bytes (easy s) ds + 0 = stream_most s ds 0 nothing_more (λ c. (le_refl _)) start in

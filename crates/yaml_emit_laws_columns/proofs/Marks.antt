@@ -66,7 +66,8 @@ unfolding alias_layout
 alias_calm at name =
     calms (word (42 ∷ name)) (when (is_simple_part at.part) (char 32)) (word_calm (42 ∷ name)) (when_calm (is_simple_part at.part) (char 32) (char_calm 32))
 
-scalar_marks : (s : Settings) (ds : List TagDirective) (at : Spot) (x : Scalar) → Marks (nat_lt MOST (deeper (form s) at.around)) (scalar_layout (at_form s ds) at x)
+scalar_marks : (s : Settings) (ds : List TagDirective) (at : Spot) (x : Scalar)
+    → Marks (nat_lt MOST (deeper (form s) at.around)) (scalar_layout (at_form s ds) at x)
 unfolding scalar_layout style_of scalar_text
 scalar_marks s ds at x =
     let p = at_form s ds in
@@ -90,13 +91,15 @@ before_item_calm : (s : Settings) (n : ℕ) (fresh : Bool) → Calm (before_item
 unfolding before_item
 before_item_calm s n fresh = calms (comma fresh) (turned (form s) n) (comma_calm fresh) (turned_calm s n)
 
-before_key_calm : (s : Settings) (n : ℕ) (fresh simple : Bool) → Calm (before_key (form s) true n fresh simple)
+before_key_calm : (s : Settings) (n : ℕ) (fresh simple : Bool)
+    → Calm (before_key (form s) true n fresh simple)
 unfolding before_key
 before_key_calm s n fresh simple =
     calms (comma fresh ▹ turned (form s) n) (when (not simple) (question true)) (calms (comma fresh) (turned (form s) n) (comma_calm fresh) (turned_calm s n))
     (when_calm (not simple) (question true) (word_calm (63 ∷ [])))
 
-before_value_calm : (s : Settings) (n : ℕ) (simple : Bool) → Calm (before_value (form s) true n simple)
+before_value_calm : (s : Settings) (n : ℕ) (simple : Bool)
+    → Calm (before_value (form s) true n simple)
 unfolding before_value
 before_value_calm s n true = char_calm 58
 before_value_calm s n false = calms (turned (form s) n) (word (58 ∷ [])) (turned_calm s n) (word_calm (58 ∷ []))
@@ -110,7 +113,8 @@ closer_calm s n fresh x =
 -- ---- nodes
 
 -- what opens a collection, the depth, and what it holds
-opened_marks : (p : Context) (anchor tag : Option (List ℕ)) (x m : ℕ) (d : Bool) (held : Layout) → Marks d held
+opened_marks : (p : Context) (anchor tag : Option (List ℕ)) (x m : ℕ) (d : Bool) (held : Layout)
+    → Marks d held
     → Marks (nat_lt MOST m || d) (properties_text p anchor tag ▹ (opener x ▹ (checked m ▹ held)))
 opened_marks p anchor tag x m d held h =
     let e = nat_lt MOST m || d in
@@ -120,7 +124,8 @@ opened_marks p anchor tag x m d held h =
 mutual
   unfolding node_layout items_layout pairs_layout node_marks items_marks pairs_marks
 
-  pub node_is : (s : Settings) (ds : List TagDirective) (at : Spot) (n : Node) → Marks (node_marks s.indent (deeper (form s) at.around) n) (node_layout (at_form s ds) at n)
+  pub node_is : (s : Settings) (ds : List TagDirective) (at : Spot) (n : Node)
+      → Marks (node_marks s.indent (deeper (form s) at.around) n) (node_layout (at_form s ds) at n)
   node_is s ds at (alias_node name) = alias_calm at name
   node_is s ds at (scalar_node x) = scalar_marks s ds at x
   node_is s ds at (sequence_node q items) =
@@ -130,7 +135,8 @@ mutual
       let m = deeper (form s) at.around in
       opened_marks (at_form s ds) q.anchor (start_tag true q) 123 m (pairs_marks s.indent (m + s.indent) pairs) (pairs_layout (at_form s ds) true m true pairs) (pairs_are s ds m true pairs)
 
-  pub items_are : (s : Settings) (ds : List TagDirective) (n : ℕ) (fresh : Bool) (ns : Nodes) → Marks (items_marks s.indent (n + s.indent) ns) (items_layout (at_form s ds) true n fresh ns)
+  pub items_are : (s : Settings) (ds : List TagDirective) (n : ℕ) (fresh : Bool) (ns : Nodes)
+      → Marks (items_marks s.indent (n + s.indent) ns) (items_layout (at_form s ds) true n fresh ns)
   items_are s ds n fresh no_nodes = closer_calm s n fresh 93
   items_are s ds n fresh (node x xs) =
       let p = at_form s ds in
@@ -140,7 +146,8 @@ mutual
       let e = items_marks s.indent (n + s.indent) xs in
       calm_then (d || e) (before_item (form s) true n fresh) (a ▹ more) (before_item_calm s n fresh) (both d e a more (node_is s ds (spot true n part.Item) x) (items_are s ds n false xs))
 
-  pub pairs_are : (s : Settings) (ds : List TagDirective) (n : ℕ) (fresh : Bool) (ps : Pairs) → Marks (pairs_marks s.indent (n + s.indent) ps) (pairs_layout (at_form s ds) true n fresh ps)
+  pub pairs_are : (s : Settings) (ds : List TagDirective) (n : ℕ) (fresh : Bool) (ps : Pairs)
+      → Marks (pairs_marks s.indent (n + s.indent) ps) (pairs_layout (at_form s ds) true n fresh ps)
   pairs_are s ds n fresh no_pairs = closer_calm s n fresh 125
   pairs_are s ds n fresh (pair k v ps) =
       let p = at_form s ds in
@@ -182,7 +189,8 @@ dashes_calm s =
     calms (line_at s 0) (word (45 ∷ 45 ∷ 45 ∷ []) ▹ when s.canonical (line_at s 0)) (line_at_calm s 0)
     (calms (word (45 ∷ 45 ∷ 45 ∷ [])) (when s.canonical (line_at s 0)) (word_calm (45 ∷ 45 ∷ 45 ∷ [])) (when_calm s.canonical (line_at s 0) (line_at_calm s 0)))
 
-start_calm : (s : Settings) (first unended : Bool) (o : Opening) → Calm (start_layout s first unended o)
+start_calm : (s : Settings) (first unended : Bool) (o : Opening)
+    → Calm (start_layout s first unended o)
 unfolding start_layout
 start_calm s first unended o =
     let parted = when (unended && is_directed o) (dots s) in
@@ -201,7 +209,8 @@ stop_calm : (s : Settings) (unended : Bool) → Calm (stop_layout s unended)
 unfolding stop_layout
 stop_calm s unended = when_calm unended (choose is_kept (dots s) stay) (choose_calm is_kept (dots s) stay (dots_calm s) stay_calm)
 
-documents_are : (s : Settings) (first unended : Bool) (ds : List Document) → Marks (documents_marks s.indent ds) (documents_layout (form s) first unended ds)
+documents_are : (s : Settings) (first unended : Bool) (ds : List Document)
+    → Marks (documents_marks s.indent ds) (documents_layout (form s) first unended ds)
 unfolding documents_layout documents_marks
 documents_are s first unended [] = stop_calm (form s) unended
 documents_are s first unended (d ∷ ds) =
@@ -213,7 +222,8 @@ documents_are s first unended (d ∷ ds) =
     calm_then (m || more) (start_layout (form s) first unended d.opening) (root ▹ (ended ▹ left)) (start_calm (form s) first unended d.opening)
     (both m more root (ended ▹ left) (node_is s d.opening.directives root_spot d.root) (calm_then more ended left (end_calm (form s) d.implicit_end) (documents_are s false d.implicit_end ds)))
 
-stream_marks : (s : Settings) (ds : List Document) → Marks (documents_marks s.indent ds) (stream_layout (form s) ds)
+stream_marks : (s : Settings) (ds : List Document)
+    → Marks (documents_marks s.indent ds) (stream_layout (form s) ds)
 unfolding stream_layout
 stream_marks s ds =
     calm_then (documents_marks s.indent ds) (order_mark s.encoding) (documents_layout (form s) true false ds) (mark_calm s.encoding) (documents_are s true false ds)
@@ -222,7 +232,8 @@ form_is : (s : Settings) → s.canonical ≡ true → s ≡ form s
 form_is s e = ap (λ (c : Bool). record s { canonical = c }) e
 
 -- what the whole text marks
-pub written_marks : (s : Settings) (ds : List Document) → s.canonical ≡ true → is_deep (written (stream_layout s ds)) ≡ documents_marks s.indent ds
+pub written_marks : (s : Settings) (ds : List Document) → s.canonical ≡ true
+    → is_deep (written (stream_layout s ds)) ≡ documents_marks s.indent ds
 unfolding is_deep
 written_marks s ds e =
     ap (λ (z : Settings). is_deep (written (stream_layout z ds))) (form_is s e) ∙ stream_marks s ds false nothing_more (λ c. refl) start ∙ or-false (documents_marks s.indent ds)

@@ -36,37 +36,44 @@ line_at_most s n = line_most s.encoding s.line_break n
 -- ---- properties
 
 -- a character in front of a name
-led_most : (s : Settings) (i : ℕ) (name : List ℕ) → nat_lt i 128 ≡ true → Takes s (unit s.encoding + text_bytes s.encoding name) (letters (i ∷ name))
+led_most : (s : Settings) (i : ℕ) (name : List ℕ) → nat_lt i 128 ≡ true
+    → Takes s (unit s.encoding + text_bytes s.encoding name) (letters (i ∷ name))
 unfolding letters
 led_most s i name e =
     joined s.encoding (unit s.encoding) (text_bytes s.encoding name) (unit s.encoding + text_bytes s.encoding name) (char i) (letters name) (ascii_most s.encoding i e)
     (letters_most s.encoding name) (le_refl _)
 
-anchor_most : (s : Settings) (anchor : Option (List ℕ)) → Takes s (anchor_bytes s anchor) (anchor_text anchor)
+anchor_most : (s : Settings) (anchor : Option (List ℕ))
+    → Takes s (anchor_bytes s anchor) (anchor_text anchor)
 anchor_most s None = stay_most s.encoding 0
 anchor_most s (Some name) =
     let u = unit s.encoding in
     joined s.encoding u (u + text_bytes s.encoding name) (ascii s 2 + text_bytes s.encoding name) gap (letters (38 ∷ name)) (gap_most s.encoding)
     (led_most s 38 name refl) (omega arith)
 
-tag_most : (s : Settings) (ds : List TagDirective) (tag : Option (List ℕ)) → Takes s (tag_bytes (at_form s ds) tag) (tag_text (at_form s ds) tag)
+tag_most : (s : Settings) (ds : List TagDirective) (tag : Option (List ℕ))
+    → Takes s (tag_bytes (at_form s ds) tag) (tag_text (at_form s ds) tag)
 tag_most s ds None = stay_most s.encoding 0
 tag_most s ds (Some t) =
     widened s.encoding (unit s.encoding + text_bytes s.encoding (tag_spelling ds t)) (ascii s 1 + text_bytes s.encoding (tag_spelling ds t)) (word (tag_spelling ds t))
     (word_most s.encoding (tag_spelling ds t)) (omega arith)
 
-pub properties_most : (s : Settings) (ds : List TagDirective) (anchor tag : Option (List ℕ)) → Takes s (properties_bytes (at_form s ds) anchor tag) (properties_text (at_form s ds) anchor tag)
+pub properties_most : (s : Settings) (ds : List TagDirective) (anchor tag : Option (List ℕ))
+    → Takes s (properties_bytes (at_form s ds) anchor tag)
+    (properties_text (at_form s ds) anchor tag)
 properties_most s ds anchor tag =
     joined s.encoding (anchor_bytes s anchor) (tag_bytes (at_form s ds) tag) (properties_bytes (at_form s ds) anchor tag) (anchor_text anchor) (tag_text (at_form s ds) tag)
     (anchor_most s anchor) (tag_most s ds tag) (le_refl _)
 
-star_most : (s : Settings) (name : List ℕ) → Takes s (ascii s 2 + text_bytes s.encoding name) (word (42 ∷ name))
+star_most : (s : Settings) (name : List ℕ)
+    → Takes s (ascii s 2 + text_bytes s.encoding name) (word (42 ∷ name))
 star_most s name =
     let u = unit s.encoding in
     joined s.encoding u (u + text_bytes s.encoding name) (ascii s 2 + text_bytes s.encoding name) gap (letters (42 ∷ name)) (gap_most s.encoding) (led_most s 42 name refl)
     (omega arith)
 
-pub alias_most : (s : Settings) (at : Spot) (name : List ℕ) → Takes s (ascii s 3 + text_bytes s.encoding name) (alias_layout at name)
+pub alias_most : (s : Settings) (at : Spot) (name : List ℕ)
+    → Takes s (ascii s 3 + text_bytes s.encoding name) (alias_layout at name)
 unfolding alias_layout
 alias_most s at name =
     joined s.encoding (ascii s 2 + text_bytes s.encoding name) (unit s.encoding) (ascii s 3 + text_bytes s.encoding name) (word (42 ∷ name)) (when (is_simple_part at.part) (char 32))
@@ -74,7 +81,8 @@ alias_most s at name =
 
 -- ---- values
 
-fold_most : (s : Settings) (at : Spot) (rest : List ℕ) → Takes s (ascii s (deeper s at.around + 3)) (fold (page_at s at) rest)
+fold_most : (s : Settings) (at : Spot) (rest : List ℕ)
+    → Takes s (ascii s (deeper s at.around + 3)) (fold (page_at s at) rest)
 fold_most s at rest =
     let x = s.encoding in
     let u = unit x in
@@ -91,7 +99,8 @@ space_escaped false = refl
 plain_space : (s : Settings) (n : ℕ) → Takes s (ascii s (n + 3)) (char 32)
 plain_space s n = widened s.encoding (unit s.encoding) (ascii s (n + 3)) (char 32) (ascii_most s.encoding 32 refl) (omega arith)
 
-space_most : (s : Settings) (at : Spot) (before : ℕ) (rest : List ℕ) → Takes s (ascii s (deeper s at.around + 3)) (quoted_char (page_at s at) before 32 rest)
+space_most : (s : Settings) (at : Spot) (before : ℕ) (rest : List ℕ)
+    → Takes s (ascii s (deeper s at.around + 3)) (quoted_char (page_at s at) before 32 rest)
 unfolding quoted_char
 space_most s at before rest =
     let n = deeper s at.around in
@@ -104,7 +113,8 @@ never_folds : (a b c : Bool) → b ≡ false → (a && (b && c)) ≡ false
 never_folds true b c e = rw e refl
 never_folds false b c e = refl
 
-other_most : (s : Settings) (at : Spot) (before i : ℕ) (rest : List ℕ) → (i == 32) ≡ false → Takes s (most_of_quoted s (deeper s at.around) i) (quoted_char (page_at s at) before i rest)
+other_most : (s : Settings) (at : Spot) (before i : ℕ) (rest : List ℕ) → (i == 32) ≡ false
+    → Takes s (most_of_quoted s (deeper s at.around) i) (quoted_char (page_at s at) before i rest)
 unfolding quoted_char
 other_most s at before i rest e =
     rw (never_folds (not (is_simple_part at.part)) (i == 32) (not (before == 32) && not (is_empty rest)) e) (rw e
@@ -113,7 +123,8 @@ other_most s at before i rest e =
       | inr w ↦ rw w (char_most s.encoding i (length (char_bytes s.encoding i)) (le_refl _))
     ]))
 
-quoted_char_most : (s : Settings) (at : Spot) (before i : ℕ) (rest : List ℕ) → Takes s (most_of_quoted s (deeper s at.around) i) (quoted_char (page_at s at) before i rest)
+quoted_char_most : (s : Settings) (at : Spot) (before i : ℕ) (rest : List ℕ)
+    → Takes s (most_of_quoted s (deeper s at.around) i) (quoted_char (page_at s at) before i rest)
 quoted_char_most s at before i rest =
     elim (cases_Bool (i == 32)) [
       | inl e ↦ rw e (subst (λ k. Takes s (ascii s (deeper s at.around + 3)) (quoted_char (page_at s at) before k rest)) (sym (eqb-true i 32 e)) (space_most s at before rest))
@@ -121,7 +132,8 @@ quoted_char_most s at before i rest =
     ]
 
 -- under settings by which a character counts no less
-body_most : (s z : Settings) (at : Spot) (before : ℕ) (value : List ℕ) → ((c : ℕ) → most_of_quoted s (deeper s at.around) c ≤ most_of_char z (deeper s at.around) c)
+body_most : (s z : Settings) (at : Spot) (before : ℕ) (value : List ℕ)
+    → ((c : ℕ) → most_of_quoted s (deeper s at.around) c ≤ most_of_char z (deeper s at.around) c)
     → Takes s (most_of_value z (deeper s at.around) value) (quoted_body (page_at s at) before value)
 unfolding quoted_body most_of_value
 body_most s z at before [] f = stay_most s.encoding 0
@@ -130,8 +142,10 @@ body_most s z at before (i ∷ is) f =
     joined s.encoding (most_of_quoted s n i) (most_of_value z n is) (most_of_char z n i + most_of_value z n is) (quoted_char (page_at s at) before i is) (quoted_body (page_at s at) i is)
     (quoted_char_most s at before i is) (body_most s z at i is f) (omega (arith, f i))
 
-pub quoted_most : (s z : Settings) (at : Spot) (value : List ℕ) → ((c : ℕ) → most_of_quoted s (deeper s at.around) c ≤ most_of_char z (deeper s at.around) c)
-    → Takes s (ascii s 3 + most_of_value z (deeper s at.around) value) (double_quoted (page_at s at) value)
+pub quoted_most : (s z : Settings) (at : Spot) (value : List ℕ)
+    → ((c : ℕ) → most_of_quoted s (deeper s at.around) c ≤ most_of_char z (deeper s at.around) c)
+    → Takes s (ascii s 3 + most_of_value z (deeper s at.around) value)
+    (double_quoted (page_at s at) value)
 quoted_most s z at value f =
     let x = s.encoding in
     let u = unit x in
@@ -141,7 +155,9 @@ quoted_most s z at value f =
     (joined x u (k + u) (u + (k + u)) (char 34) (body ▹ char 34) (ascii_most x 34 refl) (joined x k u (k + u) body (char 34) (body_most s z at 32 value f) (ascii_most x 34 refl) (le_refl _)) (le_refl _))
     (omega arith)
 
-scalar_most : (s : Settings) (ds : List TagDirective) (at : Spot) (x : Scalar) → Takes s (most_of_node (at_form s ds) (deeper s at.around) (scalar_node x)) (scalar_layout (at_form s ds) at x)
+scalar_most : (s : Settings) (ds : List TagDirective) (at : Spot) (x : Scalar)
+    → Takes s (most_of_node (at_form s ds) (deeper s at.around) (scalar_node x))
+    (scalar_layout (at_form s ds) at x)
 unfolding scalar_layout style_of scalar_text most_of_node
 scalar_most s ds at x =
     let p = at_form s ds in
@@ -166,34 +182,40 @@ turned_most s n = line_at_most s n
 comma_most : (s : Settings) (fresh : Bool) → Takes s (unit s.encoding) (comma fresh)
 comma_most s fresh = when_most s.encoding (unit s.encoding) (not fresh) (char 44) (ascii_most s.encoding 44 refl)
 
-parted_most : (s : Settings) (n : ℕ) (fresh : Bool) → Takes s (ascii s (n + 3)) (comma fresh ▹ turned (form s) n)
+parted_most : (s : Settings) (n : ℕ) (fresh : Bool)
+    → Takes s (ascii s (n + 3)) (comma fresh ▹ turned (form s) n)
 parted_most s n fresh = joined s.encoding (unit s.encoding) (ascii s (n + 2)) (ascii s (n + 3)) (comma fresh) (turned (form s) n) (comma_most s fresh) (turned_most s n) (omega arith)
 
-before_item_most : (s : Settings) (n : ℕ) (fresh : Bool) → Takes s (most_of_line s n) (before_item (form s) true n fresh)
+before_item_most : (s : Settings) (n : ℕ) (fresh : Bool)
+    → Takes s (most_of_line s n) (before_item (form s) true n fresh)
 unfolding before_item
 before_item_most s n fresh = widened s.encoding (ascii s (n + 3)) (most_of_line s n) (comma fresh ▹ turned (form s) n) (parted_most s n fresh) (omega arith)
 
-before_key_most : (s : Settings) (n : ℕ) (fresh simple : Bool) → Takes s (most_of_line s n) (before_key (form s) true n fresh simple)
+before_key_most : (s : Settings) (n : ℕ) (fresh simple : Bool)
+    → Takes s (most_of_line s n) (before_key (form s) true n fresh simple)
 unfolding before_key
 before_key_most s n fresh simple =
     joined s.encoding (ascii s (n + 3)) (ascii s 2) (most_of_line s n) (comma fresh ▹ turned (form s) n) (when (not simple) (question true)) (parted_most s n fresh)
     (when_most s.encoding (ascii s 2) (not simple) (question true) (ascii_word_most s.encoding (63 ∷ []) (ascii s 2) refl (omega arith)))
     (omega arith)
 
-before_value_most : (s : Settings) (n : ℕ) (simple : Bool) → Takes s (most_of_line s n) (before_value (form s) true n simple)
+before_value_most : (s : Settings) (n : ℕ) (simple : Bool)
+    → Takes s (most_of_line s n) (before_value (form s) true n simple)
 unfolding before_value
 before_value_most s n true = widened s.encoding (unit s.encoding) (most_of_line s n) (char 58) (ascii_most s.encoding 58 refl) (omega arith)
 before_value_most s n false =
     joined s.encoding (ascii s (n + 2)) (ascii s 2) (most_of_line s n) (turned (form s) n) (word (58 ∷ [])) (turned_most s n)
     (ascii_word_most s.encoding (58 ∷ []) (ascii s 2) refl (omega arith)) (omega arith)
 
-outer_line_most : (s : Settings) (n : ℕ) → Takes s (ascii s (n + 3)) (char 44 ▹ line_at (form s) (n - s.indent))
+outer_line_most : (s : Settings) (n : ℕ)
+    → Takes s (ascii s (n + 3)) (char 44 ▹ line_at (form s) (n - s.indent))
 outer_line_most s n =
     let u = unit s.encoding in
     let j : u * (n - s.indent) ≤ u * n = mul-le-mul_left u (sub-le n s.indent) in
     joined s.encoding u (ascii s ((n - s.indent) + 2)) (ascii s (n + 3)) (char 44) (line_at (form s) (n - s.indent)) (ascii_most s.encoding 44 refl) (line_at_most s (n - s.indent)) (omega arith)
 
-closer_most : (s : Settings) (n : ℕ) (fresh : Bool) (i : ℕ) → nat_lt i 128 ≡ true → Takes s (most_of_line s n) (closer (form s) true n fresh i)
+closer_most : (s : Settings) (n : ℕ) (fresh : Bool) (i : ℕ) → nat_lt i 128 ≡ true
+    → Takes s (most_of_line s n) (closer (form s) true n fresh i)
 unfolding closer
 closer_most s n fresh i e =
     let due = char 44 ▹ line_at (form s) (n - s.indent) in
@@ -203,8 +225,10 @@ closer_most s n fresh i e =
 -- ---- nodes
 
 -- what opens a collection, and what it holds
-opened_most : (s : Settings) (ds : List TagDirective) (anchor tag : Option (List ℕ)) (i n k : ℕ) (held : Layout) → nat_lt i 128 ≡ true → Takes s k held
-    → Takes s (properties_bytes (at_form s ds) anchor tag + ascii s 2 + k) (properties_text (at_form s ds) anchor tag ▹ (opener i ▹ (checked n ▹ held)))
+opened_most : (s : Settings) (ds : List TagDirective) (anchor tag : Option (List ℕ)) (i n k : ℕ)
+    (held : Layout) → nat_lt i 128 ≡ true → Takes s k held
+    → Takes s (properties_bytes (at_form s ds) anchor tag + ascii s 2 + k)
+    (properties_text (at_form s ds) anchor tag ▹ (opener i ▹ (checked n ▹ held)))
 opened_most s ds anchor tag i n k held e h =
     let props = properties_bytes (at_form s ds) anchor tag in
     joined s.encoding props (ascii s 2 + k) (props + ascii s 2 + k) (properties_text (at_form s ds) anchor tag) (opener i ▹ (checked n ▹ held)) (properties_most s ds anchor tag)
@@ -215,7 +239,9 @@ opened_most s ds anchor tag i n k held e h =
 mutual
   unfolding node_layout items_layout pairs_layout most_of_node most_of_items most_of_pairs
 
-  node_is : (s : Settings) (ds : List TagDirective) (at : Spot) (n : Node) → Takes s (most_of_node (at_form s ds) (deeper (form s) at.around) n) (node_layout (at_form s ds) at n)
+  node_is : (s : Settings) (ds : List TagDirective) (at : Spot) (n : Node)
+      → Takes s (most_of_node (at_form s ds) (deeper (form s) at.around) n)
+      (node_layout (at_form s ds) at n)
   node_is s ds at (alias_node name) = alias_most s at name
   node_is s ds at (scalar_node x) = scalar_most s ds at x
   node_is s ds at (sequence_node q items) =
@@ -225,7 +251,8 @@ mutual
       let n = deeper (form s) at.around in
       opened_most s ds q.anchor (start_tag true q) 123 n (most_of_pairs (at_form s ds) n pairs) (pairs_layout (at_form s ds) true n true pairs) refl (pairs_are s ds n true pairs)
 
-  items_are : (s : Settings) (ds : List TagDirective) (n : ℕ) (fresh : Bool) (ns : Nodes) → Takes s (most_of_items (at_form s ds) n ns) (items_layout (at_form s ds) true n fresh ns)
+  items_are : (s : Settings) (ds : List TagDirective) (n : ℕ) (fresh : Bool) (ns : Nodes)
+      → Takes s (most_of_items (at_form s ds) n ns) (items_layout (at_form s ds) true n fresh ns)
   items_are s ds n fresh no_nodes = closer_most s n fresh 93 refl
   items_are s ds n fresh (node x xs) =
       let p = at_form s ds in
@@ -237,7 +264,8 @@ mutual
       joined s.encoding l (i + j) (l + i + j) (before_item (form s) true n fresh) (a ▹ more) (before_item_most s n fresh)
       (joined s.encoding i j (i + j) a more (node_is s ds (spot true n part.Item) x) (items_are s ds n false xs) (le_refl _)) (omega arith)
 
-  pairs_are : (s : Settings) (ds : List TagDirective) (n : ℕ) (fresh : Bool) (ps : Pairs) → Takes s (most_of_pairs (at_form s ds) n ps) (pairs_layout (at_form s ds) true n fresh ps)
+  pairs_are : (s : Settings) (ds : List TagDirective) (n : ℕ) (fresh : Bool) (ps : Pairs)
+      → Takes s (most_of_pairs (at_form s ds) n ps) (pairs_layout (at_form s ds) true n fresh ps)
   pairs_are s ds n fresh no_pairs = closer_most s n fresh 125 refl
   pairs_are s ds n fresh (pair k v ps) =
       let p = at_form s ds in
@@ -263,21 +291,24 @@ dots_most s =
     joined s.encoding (ascii s 4) (ascii s 2) (ascii s 6) (word (46 ∷ 46 ∷ 46 ∷ [])) (line_at s 0) (ascii_word_most s.encoding (46 ∷ 46 ∷ 46 ∷ []) (ascii s 4) refl (omega arith)) (line_at_most s 0)
     (omega arith)
 
-number_most : (s : Settings) (v : yaml_version_directive_t) → Takes s (ascii s 4) (word (version_word v))
+number_most : (s : Settings) (v : yaml_version_directive_t)
+    → Takes s (ascii s 4) (word (version_word v))
 number_most s v =
     elim (cases_Bool (int_eq v.minor (pos 1))) [
       | inl e ↦ rw e (ascii_word_most s.encoding (codes "1.1") (ascii s 4) refl (omega arith))
       | inr e ↦ rw e (ascii_word_most s.encoding (codes "1.2") (ascii s 4) refl (omega arith))
     ]
 
-version_most : (s : Settings) (v : Option yaml_version_directive_t) → Takes s (ascii s 12) (version_text s v)
+version_most : (s : Settings) (v : Option yaml_version_directive_t)
+    → Takes s (ascii s 12) (version_text s v)
 version_most s None = stay_most s.encoding (ascii s 12)
 version_most s (Some v) =
     joined s.encoding (ascii s 6) (ascii s 6) (ascii s 12) (word (codes "%YAML")) (word (version_word v) ▹ line_at s 0) (ascii_word_most s.encoding (codes "%YAML") (ascii s 6) refl (omega arith))
     (joined s.encoding (ascii s 4) (ascii s 2) (ascii s 6) (word (version_word v)) (line_at s 0) (number_most s v) (line_at_most s 0) (omega arith))
     (omega arith)
 
-directives_most : (s : Settings) (ds : List TagDirective) → Takes s (directives_bytes s ds) (directives_text s ds)
+directives_most : (s : Settings) (ds : List TagDirective)
+    → Takes s (directives_bytes s ds) (directives_text s ds)
 unfolding directives_text directives_bytes
 directives_most s [] = stay_most s.encoding 0
 directives_most s (d ∷ ds) =
@@ -300,7 +331,8 @@ dashes_most s =
     (ascii_word_most s.encoding (45 ∷ 45 ∷ 45 ∷ []) (ascii s 4) refl (omega arith)) (when_most s.encoding (ascii s 2) s.canonical (line_at s 0) (line_at_most s 0)) (omega arith))
     (omega arith)
 
-pub start_most : (s : Settings) (first unended : Bool) (o : Opening) → Takes s (ascii s 26 + directives_bytes s o.directives) (start_layout s first unended o)
+pub start_most : (s : Settings) (first unended : Bool) (o : Opening)
+    → Takes s (ascii s 26 + directives_bytes s o.directives) (start_layout s first unended o)
 unfolding start_layout
 start_most s first unended o =
     let x = s.encoding in
@@ -326,7 +358,9 @@ unfolding stop_layout
 stop_most s unended =
     when_most s.encoding (ascii s 6) unended (choose is_kept (dots s) stay) (choose_most s.encoding (ascii s 6) is_kept (dots s) stay (dots_most s) (stay_most s.encoding (ascii s 6)))
 
-documents_are : (s : Settings) (first unended : Bool) (ds : List Document) → Takes s (ascii s 6 + most_of_documents (form s) ds) (documents_layout (form s) first unended ds)
+documents_are : (s : Settings) (first unended : Bool) (ds : List Document)
+    → Takes s (ascii s 6 + most_of_documents (form s) ds)
+    (documents_layout (form s) first unended ds)
 unfolding documents_layout most_of_documents
 documents_are s first unended [] = widened s.encoding (ascii s 6) (ascii s 6 + 0) (stop_layout (form s) unended) (stop_most (form s) unended) (omega arith)
 documents_are s first unended (d ∷ ds) =
@@ -343,14 +377,16 @@ documents_are s first unended (d ∷ ds) =
     (joined x (ascii s 8) (ascii s 6 + m) (ascii s 8 + (ascii s 6 + m)) ended left (end_most (form s) d.implicit_end) (documents_are s false d.implicit_end ds) (le_refl _)) (le_refl _))
     (omega arith)
 
-stream_most : (s : Settings) (ds : List Document) → Takes s (most_bytes (form s) ds) (stream_layout (form s) ds)
+stream_most : (s : Settings) (ds : List Document)
+    → Takes s (most_bytes (form s) ds) (stream_layout (form s) ds)
 unfolding stream_layout
 stream_most s ds =
     joined s.encoding (unit s.encoding) (ascii s 6 + most_of_documents (form s) ds) (most_bytes (form s) ds) (order_mark s.encoding) (documents_layout (form s) true false ds)
     (mark_most s.encoding) (documents_are s true false ds) (omega arith)
 
 -- of the whole text
-form_size : (s : Settings) (ds : List Document) → size s.encoding (written (stream_layout (form s) ds)) ≤ most_bytes (form s) ds
+form_size : (s : Settings) (ds : List Document)
+    → size s.encoding (written (stream_layout (form s) ds)) ≤ most_bytes (form s) ds
 unfolding encode
 form_size s ds =
     let i : size s.encoding (written (stream_layout (form s) ds)) ≤ most_bytes (form s) ds + 0 = stream_most s ds 0 nothing_more (λ c. (le_refl _)) start in
@@ -359,5 +395,6 @@ form_size s ds =
 form_is : (s : Settings) → s.canonical ≡ true → form s ≡ s
 form_is s e = ap (λ (c : Bool). record s { canonical = c }) (sym e)
 
-pub canonical_size : (s : Settings) → s.canonical ≡ true → (ds : List Document) → size s.encoding (written (stream_layout s ds)) ≤ most_bytes s ds
+pub canonical_size : (s : Settings) → s.canonical ≡ true → (ds : List Document)
+    → size s.encoding (written (stream_layout s ds)) ≤ most_bytes s ds
 canonical_size s e ds = subst (λ (z : Settings). size z.encoding (written (stream_layout z ds)) ≤ most_bytes z ds) (form_is s e) (form_size s ds)

@@ -34,14 +34,16 @@ unfolding blanks
 blanks_lead x zero = stay_leads x
 blanks_lead x (suc n) = leads_on x x x blank (blanks n) (blank_leads x) (blanks_lead x n)
 
-choose_leads : (x y : Bool) (test : Cursor → Bool) (a b : Layout) → Leads x y a → Leads x y b → Leads x y (choose test a b)
+choose_leads : (x y : Bool) (test : Cursor → Bool) (a b : Layout) → Leads x y a → Leads x y b
+    → Leads x y (choose test a b)
 choose_leads x y test a b f g k l h c w =
     elim (cases_Bool (test c)) [
       | inl e ↦ rw e (f k l h c w)
       | inr e ↦ rw e (g k l h c w)
     ]
 
-first_leads : (x y : Bool) (test : Cursor → Bool) (a b : Layout) → ((c : Cursor) → c.bare ≡ x → test c ≡ true) → Leads x y a → Leads x y (choose test a b)
+first_leads : (x y : Bool) (test : Cursor → Bool) (a b : Layout)
+    → ((c : Cursor) → c.bare ≡ x → test c ≡ true) → Leads x y a → Leads x y (choose test a b)
 first_leads x y test a b t f k l h c w = rw (t c w) (f k l h c w)
 
 gap_leads : (x : Bool) → Leads x x gap
@@ -77,18 +79,21 @@ abbrev marked : Option (List ℕ) → Option (List ℕ)
 marked None = None
 marked (Some t) = Some (38 ∷ t)
 
-anchor_leads : (x : Bool) (anchor : Option (List ℕ)) → Leads x (behind_if x (marked anchor)) (anchor_text anchor)
+anchor_leads : (x : Bool) (anchor : Option (List ℕ))
+    → Leads x (behind_if x (marked anchor)) (anchor_text anchor)
 anchor_leads x None = stay_leads x
 anchor_leads x (Some t) = word_leads x (38 ∷ t)
 
-tag_leads : (x : Bool) (p : Context) (tag : Option (List ℕ)) → Leads x (behind_if x (spelled p tag)) (tag_text p tag)
+tag_leads : (x : Bool) (p : Context) (tag : Option (List ℕ))
+    → Leads x (behind_if x (spelled p tag)) (tag_text p tag)
 tag_leads x p None = stay_leads x
 tag_leads x p (Some t) = word_leads x (tag_spelling p.directives t)
 
 abbrev behind_properties : Bool → Context → Option (List ℕ) → Option (List ℕ) → Bool
 behind_properties x p anchor tag = behind_if (behind_if x (marked anchor)) (spelled p tag)
 
-properties_lead : (x : Bool) (p : Context) (anchor tag : Option (List ℕ)) → Leads x (behind_properties x p anchor tag) (properties_text p anchor tag)
+properties_lead : (x : Bool) (p : Context) (anchor tag : Option (List ℕ))
+    → Leads x (behind_properties x p anchor tag) (properties_text p anchor tag)
 properties_lead x p anchor tag = leads_on x _ _ (anchor_text anchor) (tag_text p tag) (anchor_leads x anchor) (tag_leads _ p tag)
 
 indicator_leads : (x : Bool) (i : ℕ) → Leads x x (indicator i)
@@ -113,7 +118,8 @@ line_leads true b n = leads_on true true true (choose (must_break n) (new_line b
     (choose_leads true true (must_break n) (new_line b) stay (new_line_leads true b) (stay_leads true)) (indent_leads n)
 
 -- in front of a value's properties
-value_leads : (x : Bool) (p : Context) (n : ℕ) (simple : Bool) → Leads x (not simple) (before_value p.settings false n simple)
+value_leads : (x : Bool) (p : Context) (n : ℕ) (simple : Bool)
+    → Leads x (not simple) (before_value p.settings false n simple)
 unfolding before_value
 value_leads x p n true = char_leads x 58
 value_leads x p n false = leads_on x true true (line p.settings.line_break n) (indicator 58) (line_leads x p.settings.line_break n) (indicator_leads true 58)
@@ -127,8 +133,10 @@ indent_at p n simple q = block_indent_in p.settings (Some n) (not (bare_at p sim
 value_stands : (p : Context) (n : ℕ) (simple : Bool) (q : Start) (items : Nodes)
     → is_flow p.settings (spot false n part.Value) q (are_none items) ≡ false
     → (c : Cursor) (rest : Rest)
-    → (before_value p.settings false n simple ▹ node_layout p (spot false n part.Value) (sequence_node q items)) c rest
-    ≡ (before_value p.settings false n simple ▹ properties_text p q.anchor (start_tag p.settings.canonical q)
+    → (before_value p.settings false n simple ▹ node_layout p (spot false n part.Value)
+    (sequence_node q items)) c rest
+    ≡ (before_value p.settings false n simple ▹ properties_text p q.anchor
+    (start_tag p.settings.canonical q)
     ▹ checked (indent_at p n simple q) ▹ items_layout p false (indent_at p n simple q) true items) c rest
 unfolding node_layout
 value_stands p n simple q items w c rest =

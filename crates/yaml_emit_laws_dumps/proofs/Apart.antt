@@ -36,7 +36,8 @@ within (x ∷ t) (suc k) h = let w = within t k h in omega (arith, w)
 
 -- ---- one number more
 
-more_apart : (s : Numbering) (k : ℕ) → get_or s.table k 1 ≡ 0 → AreApart s → AreApart (record { given = suc s.given; table = set s.table k (suc s.given) })
+more_apart : (s : Numbering) (k : ℕ) → get_or s.table k 1 ≡ 0 → AreApart s
+    → AreApart (record { given = suc s.given; table = set s.table k (suc s.given) })
 more_apart s k free a =
     let inside = within s.table k free in
     let own = set_same s.table k (suc s.given) 0 inside in
@@ -82,7 +83,8 @@ is_zero n h = grind (arith, nat_tests)
 no_zero : (n : ℕ) → (n == 0) ≡ false → n ≡ 0 → ⊥
 no_zero n h e = grind (arith, nat_tests)
 
-next_apart_by : (b : Bool) (s : Numbering) (k : ℕ) → (get_or s.table k 1 == 0) ≡ b → AreApart s → AreApart (next_by b s k)
+next_apart_by : (b : Bool) (s : Numbering) (k : ℕ) → (get_or s.table k 1 == 0) ≡ b → AreApart s
+    → AreApart (next_by b s k)
 next_apart_by true s k h a = more_apart s k (is_zero (get_or s.table k 1) h) a
 next_apart_by false s k h a = a
 
@@ -121,7 +123,8 @@ default_same [] k h = absurd (omega (arith, h))
 default_same (x ∷ t) zero h = refl
 default_same (x ∷ t) (suc k) h = default_same t k (omega (arith, h))
 
-next_keeps_by : (b : Bool) (s : Numbering) (j k : ℕ) → (get_or s.table j 1 == 0) ≡ b → Has k s → Has k (next_by b s j)
+next_keeps_by : (b : Bool) (s : Numbering) (j k : ℕ) → (get_or s.table j 1 == 0) ≡ b → Has k s
+    → Has k (next_by b s j)
 next_keeps_by false s j k h has = has
 next_keeps_by true s j k h has =
     elim (cases_eq k j) [
@@ -134,7 +137,8 @@ next_keeps_by true s j k h has =
 next_keeps : (s : Numbering) (j k : ℕ) → Has k s → Has k (next_number s j)
 next_keeps s j k has = let P : Numbering → Type 0 = λ x. Has k x in subst P (sym (next_is s j)) (next_keeps_by (get_or s.table j 1 == 0) s j k refl has)
 
-next_has_by : (b : Bool) (s : Numbering) (k : ℕ) → (get_or s.table k 1 == 0) ≡ b → k < length s.table → Has k (next_by b s k)
+next_has_by : (b : Bool) (s : Numbering) (k : ℕ) → (get_or s.table k 1 == 0) ≡ b
+    → k < length s.table → Has k (next_by b s k)
 next_has_by true s k h w = λ z. let own = set_same s.table k (suc s.given) 0 w in omega (arith, own, z)
 next_has_by false s k h w = λ z. no_zero (get_or s.table k 1) h (default_same s.table k w ∙ z)
 
@@ -168,7 +172,8 @@ turn_length (First id) s = refl
 turn_length (Again id) s = again_length (place_at id) s
 turn_length (Leave id) s = refl
 
-again_numbered : (ts : List Turn) (s : Numbering) (k : ℕ) → k < length s.table → MeetsAgain k ts → Has k (numbered s ts)
+again_numbered : (ts : List Turn) (s : Numbering) (k : ℕ) → k < length s.table → MeetsAgain k ts
+    → Has k (numbered s ts)
 unfolding numbered
 again_numbered [] s k w m = absurd m
 again_numbered (t ∷ ts) s k w (inl e) = turns_keep ts (numbered_by t s) k (let P : Turn → Type 0 = λ x. Has k (numbered_by x s) in subst P (sym e) (next_has s k w))
@@ -188,7 +193,8 @@ counted_most [] = omega arith
 counted_most (zero ∷ t) = let e = counted_most t in omega (arith, e)
 counted_most (suc n ∷ t) = let e = counted_most t in omega (arith, e)
 
-counted_set : (t : List ℕ) (k n : ℕ) → get_or t k 1 ≡ 0 → counted (set t k (suc n)) ≡ suc (counted t)
+counted_set : (t : List ℕ) (k n : ℕ) → get_or t k 1 ≡ 0
+    → counted (set t k (suc n)) ≡ suc (counted t)
 counted_set [] k n e = absurd (omega (arith, e))
 counted_set (zero ∷ t) zero n e = refl
 counted_set (suc m ∷ t) zero n e = absurd (omega (arith, e))
@@ -202,7 +208,8 @@ none_counted (suc n) = none_counted n
 abbrev Counts : Numbering → Type 0
 Counts s = s.given ≡ counted s.table
 
-next_counts_by : (b : Bool) (s : Numbering) (k : ℕ) → (get_or s.table k 1 == 0) ≡ b → Counts s → Counts (next_by b s k)
+next_counts_by : (b : Bool) (s : Numbering) (k : ℕ) → (get_or s.table k 1 == 0) ≡ b → Counts s
+    → Counts (next_by b s k)
 next_counts_by true s k h c = ap (λ i. suc i) c ∙ sym (counted_set s.table k s.given (is_zero (get_or s.table k 1) h))
 next_counts_by false s k h c = c
 

@@ -14,7 +14,9 @@ use Rattle.yaml_emit_laws_dumps.specs.DumpsLaws.{NamesAreApart}
 -- ---- names
 
 -- behind `id` stand the digits of the number, zeros in front
-lead_value : (b c : Bool) (ds : List ℕ) → digits_value 10 (drop 2 ((if b then codes "id00" else if c then codes "id0" else codes "id") ++ ds)) ≡ digits_value 10 ds
+lead_value : (b c : Bool) (ds : List ℕ)
+    → digits_value 10 (drop 2 ((if b then codes "id00" else if c then codes "id0" else codes "id")
+    ++ ds)) ≡ digits_value 10 ds
 lead_value true c ds = refl
 lead_value false true ds = refl
 lead_value false false ds = refl
@@ -46,24 +48,31 @@ no_zero : (n : ℕ) → (n ≡ 0 → ⊥) → (n == 0) ≡ false
 no_zero n h = grind (arith, nat_tests)
 
 -- a node with a number is found behind itself
-found_here : (number : ℕ) (id : ℤ) (before : Anchored) → (number ≡ 0 → ⊥) → last_with (name_of number) (and_node (anchor_of number) id before) ≡ Some id
+found_here : (number : ℕ) (id : ℤ) (before : Anchored) → (number ≡ 0 → ⊥)
+    → last_with (name_of number) (and_node (anchor_of number) id before) ≡ Some id
 found_here number id before h =
     ap (λ (b : Bool). last_with (name_of number) (and_node (if b then None else Some (name_of number)) id before)) (no_zero number h)
     ∙ ap (λ (b : Bool). cond b (Some id) (last_with (name_of number) before)) (same_name (name_of number))
 
 -- another node doesn't hide it
-by_test : (b : Bool) (name other : List ℕ) (id : ℤ) (before : Anchored) → is_same name other ≡ false → last_with name (and_node (if b then None else Some other) id before) ≡ last_with name before
+by_test : (b : Bool) (name other : List ℕ) (id : ℤ) (before : Anchored) → is_same name other ≡ false
+    → last_with name (and_node (if b then None else Some other) id before) ≡ last_with name before
 by_test true name other id before h = refl
 by_test false name other id before h = ap (λ (b : Bool). cond b (Some id) (last_with name before)) h
 
-found_there : (number other : ℕ) (id : ℤ) (before : Anchored) → number < 2 ^ 64 → other < 2 ^ 64 → (number ≡ other → ⊥)
-    → last_with (name_of number) (and_node (anchor_of other) id before) ≡ last_with (name_of number) before
+found_there : (number other : ℕ) (id : ℤ) (before : Anchored) → number < 2 ^ 64 → other < 2 ^ 64
+    → (number ≡ other → ⊥)
+    → last_with (name_of number) (and_node (anchor_of other) id before)
+    ≡ last_with (name_of number) before
 found_there number other id before p q h =
     by_test (other == 0) (name_of number) (name_of other) id before (other_name (name_of number) (name_of other) (λ e. h (names_apart number other p q e)))
 
 -- numbers that are apart and small are found
-pub found : (table : List ℕ) → ((k : ℕ) → get_or table k 0 < 2 ^ 64) → ((j k : ℕ) → get_or table j 0 ≡ get_or table k 0 → IsNumbered table j → j ≡ k)
-    → (seen k : ℕ) → k < seen → IsNumbered table k → last_with (name_of (number_at table (pos (suc k)))) (before_at table seen) ≡ Some (pos (suc k))
+pub found : (table : List ℕ) → ((k : ℕ) → get_or table k 0 < 2 ^ 64)
+    → ((j k : ℕ) → get_or table j 0 ≡ get_or table k 0 → IsNumbered table j → j ≡ k)
+    → (seen k : ℕ) → k < seen → IsNumbered table k
+    → last_with (name_of (number_at table (pos (suc k)))) (before_at table seen)
+    ≡ Some (pos (suc k))
 unfolding before_at
 found table small apart zero k h some = absurd (omega (arith, h))
 found table small apart (suc j) k h some =

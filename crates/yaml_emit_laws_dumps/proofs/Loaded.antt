@@ -15,7 +15,8 @@ abbrev Good : {A : Type 0} → Result A Fault → (A → Type 0) → Type 0
 Good (Ok x) P = P x
 Good (Err e) P = Unit {0}
 
-good_then : {A B : Type 0} (r : Result A Fault) (f : A → Result B Fault) (P : A → Type 0) (Q : B → Type 0) → Good r P → ((x : A) → P x → Good (f x) Q) → Good (r >>= f) Q
+good_then : {A B : Type 0} (r : Result A Fault) (f : A → Result B Fault) (P : A → Type 0)
+    (Q : B → Type 0) → Good r P → ((x : A) → P x → Good (f x) Q) → Good (r >>= f) Q
 good_then (Ok x) f P Q g h = h x g
 good_then (Err e) f P Q g h = tt
 
@@ -37,17 +38,20 @@ all_at (m ∷ ns) h (suc k) n e = all_at ns h.1 k n e
 
 -- ---- tags
 
-tag_by : (b : Bool) (tag default : List ℕ) → is_bang tag ≡ b → is_bang default ≡ false → is_bang (cond b default tag) ≡ false
+tag_by : (b : Bool) (tag default : List ℕ) → is_bang tag ≡ b → is_bang default ≡ false
+    → is_bang (cond b default tag) ≡ false
 tag_by true tag default e h = h
 tag_by false tag default e h = e
 
-no_bang : (tag : Option (List ℕ)) (default : List ℕ) → is_bang default ≡ false → is_bang (loaded_tag tag default) ≡ false
+no_bang : (tag : Option (List ℕ)) (default : List ℕ) → is_bang default ≡ false
+    → is_bang (loaded_tag tag default) ≡ false
 no_bang None default h = h
 no_bang (Some tag) default h = tag_by (is_bang tag) tag default refl h
 
 -- ---- content
 
-alias_all : (o : Option ℤ) (at : yaml_mark_t) (before : Anchored) → Good (alias_number o at before) AllOf
+alias_all : (o : Option ℤ) (at : yaml_mark_t) (before : Anchored)
+    → Good (alias_number o at before) AllOf
 alias_all None at before = tt
 alias_all (Some n) at before = tt
 
@@ -62,14 +66,16 @@ mutual
   all (mapping h implicit style pairs at) count before =
       good_then (number_pairs pairs (suc count) (and_node h.anchor (pos (suc count)) before)) _ AllOf _ (all_pairs pairs (suc count) (and_node h.anchor (pos (suc count)) before)) (λ r p. ((tt, no_bang h.tag map_tag refl), p))
 
-  all_items : (cs : Contents) (count : ℕ) (before : Anchored) → Good (number_items cs count before) AllOf
+  all_items : (cs : Contents) (count : ℕ) (before : Anchored)
+      → Good (number_items cs count before) AllOf
   all_items no_items count before = tt
   all_items (item c more) count before =
       good_then (number c count before) _ AllOf _ (all c count before) (λ r p.
       good_then (number_items more (count + length r.nodes) r.before) _ AllOf _ (all_items more (count + length r.nodes) r.before) (λ s q.
       all_both r.nodes s.nodes p q))
 
-  all_pairs : (cs : Pairs) (count : ℕ) (before : Anchored) → Good (number_pairs cs count before) AllOf
+  all_pairs : (cs : Pairs) (count : ℕ) (before : Anchored)
+      → Good (number_pairs cs count before) AllOf
   all_pairs no_pairs count before = tt
   all_pairs (pair key value more) count before =
       good_then (number key count before) _ AllOf _ (all key count before) (λ r p.
@@ -90,9 +96,12 @@ made d r = record {
   nodes = r.nodes;
 }
 
-with_order : (c : DocumentContent) (r : Result (Numbered ℤ) Fault) → Good r AllOf → IfOk (r >>= λ x. Ok (made c x)) (λ e. IsInPreorder e.nodes) → IfOk (r >>= λ x. Ok (made c x)) IsLoadedDocument
+with_order : (c : DocumentContent) (r : Result (Numbered ℤ) Fault) → Good r AllOf
+    → IfOk (r >>= λ x. Ok (made c x)) (λ e. IsInPreorder e.nodes)
+    → IfOk (r >>= λ x. Ok (made c x)) IsLoadedDocument
 with_order c (Ok x) h o = record { order = o; nodes = all_at x.nodes h }
 with_order c (Err e) h o = tt
 
-pub loaded : ((c : DocumentContent) → IfOk (document_of c) (λ e. IsInPreorder e.nodes)) → DocumentsAreLoaded
+pub loaded : ((c : DocumentContent) → IfOk (document_of c) (λ e. IsInPreorder e.nodes))
+    → DocumentsAreLoaded
 loaded order c = with_order c (number c.root 0 []) (all c.root 0 []) (order c)

@@ -24,7 +24,8 @@ not_twice : (b : Bool) → not (not b) ≡ b
 not_twice true = refl
 not_twice false = refl
 
-node_met : (n : ℕ) (even : Bool) (ds : List Due) → due_at n (met n even) ds ≡ due_at n even (behind_node ds)
+node_met : (n : ℕ) (even : Bool) (ds : List Due)
+    → due_at n (met n even) ds ≡ due_at n even (behind_node ds)
 node_met n even [] = refl
 node_met zero even (item_due ∷ ds) = refl
 node_met zero even (key_due ∷ ds) = refl
@@ -33,7 +34,8 @@ node_met (suc n) even (item_due ∷ ds) = refl
 node_met (suc n) even (key_due ∷ ds) = refl
 node_met (suc n) even (value_due ∷ ds) = refl
 
-end_met : (n : ℕ) (even : Bool) (ds : List Due) → due_at (suc n) even ds ≡ due_at n even (outer_due ds)
+end_met : (n : ℕ) (even : Bool) (ds : List Due)
+    → due_at (suc n) even ds ≡ due_at n even (outer_due ds)
 end_met n even [] = refl
 end_met n even (d ∷ ds) = refl
 
@@ -49,7 +51,8 @@ HasPlace h past = (e : Event) → place_problem h.place (level_due h.due) e ≡ 
 abbrev HasDue : Progress → List Event → Type 0
 HasDue h past = (n : ℕ) (even : Bool) → innermost n even past ≡ due_at n even h.due
 
-inside_place : (ds : List Due) (e : Event) → place_problem (inside ds).place (level_due (inside ds).due) e ≡ wrong_in (due_at 0 true ds) e
+inside_place : (ds : List Due) (e : Event)
+    → place_problem (inside ds).place (level_due (inside ds).due) e ≡ wrong_in (due_at 0 true ds) e
 unfolding place_problem
 inside_place [] no_event = refl
 inside_place [] (stream_start x) = refl
@@ -64,7 +67,8 @@ inside_place [] (mapping_start p) = refl
 inside_place [] mapping_end = refl
 inside_place (item_due ∷ ds) e = in_items e
   where
-    in_items : (x : Event) → node_problem (level_due (item_due ∷ ds)) x ≡ wrong_in (Some in_sequence) x
+    in_items : (x : Event)
+        → node_problem (level_due (item_due ∷ ds)) x ≡ wrong_in (Some in_sequence) x
     in_items no_event = refl
     in_items (stream_start x) = refl
     in_items stream_end = refl
@@ -78,7 +82,8 @@ inside_place (item_due ∷ ds) e = in_items e
     in_items mapping_end = refl
 inside_place (key_due ∷ ds) e = at_key e
   where
-    at_key : (x : Event) → node_problem (level_due (key_due ∷ ds)) x ≡ wrong_in (Some (in_mapping true)) x
+    at_key : (x : Event)
+        → node_problem (level_due (key_due ∷ ds)) x ≡ wrong_in (Some (in_mapping true)) x
     at_key no_event = refl
     at_key (stream_start x) = refl
     at_key stream_end = refl
@@ -92,7 +97,8 @@ inside_place (key_due ∷ ds) e = at_key e
     at_key mapping_end = refl
 inside_place (value_due ∷ ds) e = at_value e
   where
-    at_value : (x : Event) → node_problem (level_due (value_due ∷ ds)) x ≡ wrong_in (Some (in_mapping false)) x
+    at_value : (x : Event)
+        → node_problem (level_due (value_due ∷ ds)) x ≡ wrong_in (Some (in_mapping false)) x
     at_value no_event = refl
     at_value (stream_start x) = refl
     at_value stream_end = refl
@@ -119,7 +125,9 @@ start_place sequence_end = refl
 start_place (mapping_start p) = refl
 start_place mapping_end = refl
 
-documents_place : (first unended : Bool) (e : Event) → place_problem (at.Documents first unended) None e ≡ unless_so (begins_document e || ends_stream e) problem.ExpectedDocumentStartOrStreamEnd
+documents_place : (first unended : Bool) (e : Event)
+    → place_problem (at.Documents first unended) None e
+    ≡ unless_so (begins_document e || ends_stream e) problem.ExpectedDocumentStartOrStreamEnd
 unfolding place_problem
 documents_place first unended no_event = refl
 documents_place first unended (stream_start x) = refl
@@ -157,7 +165,8 @@ ends_none (Keys fresh) = refl
 ends_none (Value simple) = refl
 
 -- no event is none
-none_misplaced : (place : Expected) (top : Option Level) → place_problem place top no_event ≡ None → ⊥
+none_misplaced : (place : Expected) (top : Option Level) → place_problem place top no_event ≡ None
+    → ⊥
 unfolding place_problem
 none_misplaced at.StreamStart top h = cc
 none_misplaced (at.Documents first unended) top h = cc
@@ -195,17 +204,20 @@ end_fits : (h : Progress) (past : List Event) → Fits h past → (last : Event)
 end_fits h past f last one place =
     inside_fits (outer_due h.due) last past (λ n even. one n even ∙ f.due (suc n) even ∙ end_met n even h.due) place
 
-sequence_due : (h : Progress) (past : List Event) (p : _) → Fits h past → (n : ℕ) (even : Bool) → innermost n even (sequence_start p ∷ past) ≡ due_at n even (item_due ∷ behind_node h.due)
+sequence_due : (h : Progress) (past : List Event) (p : _) → Fits h past → (n : ℕ) (even : Bool)
+    → innermost n even (sequence_start p ∷ past) ≡ due_at n even (item_due ∷ behind_node h.due)
 unfolding innermost
 sequence_due h past p f zero even = refl
 sequence_due h past p f (suc n) even = f.due n (met n even) ∙ node_met n even h.due
 
-mapping_due : (h : Progress) (past : List Event) (p : _) → Fits h past → (n : ℕ) (even : Bool) → innermost n even (mapping_start p ∷ past) ≡ due_at n even (key_due ∷ behind_node h.due)
+mapping_due : (h : Progress) (past : List Event) (p : _) → Fits h past → (n : ℕ) (even : Bool)
+    → innermost n even (mapping_start p ∷ past) ≡ due_at n even (key_due ∷ behind_node h.due)
 unfolding innermost
 mapping_due h past p f zero even = refl
 mapping_due h past p f (suc n) even = f.due n (met n even) ∙ node_met n even h.due
 
-step_fits : (h : Progress) (past : List Event) (e : Event) → Fits h past → place_problem h.place (level_due h.due) e ≡ None → Fits (progress_after h e) (e ∷ past)
+step_fits : (h : Progress) (past : List Event) (e : Event) → Fits h past
+    → place_problem h.place (level_due h.due) e ≡ None → Fits (progress_after h e) (e ∷ past)
 unfolding progress_after innermost
 step_fits h past no_event f r = absurd (none_misplaced h.place (level_due h.due) r)
 step_fits h past (stream_start x) f r = record { place = documents_place true false; due = λ n even. refl }
@@ -233,7 +245,8 @@ or_last : (p q : Option Problem) → or_else p q ≡ None → q ≡ None
 or_last (Some x) q e = absurd (cc)
 or_last None q e = e
 
-refusals_are : (canonical : Bool) (h : Progress) (past es : List Event) → Fits h past → first_refusal canonical h es ≡ first_wrong canonical past es
+refusals_are : (canonical : Bool) (h : Progress) (past es : List Event) → Fits h past
+    → first_refusal canonical h es ≡ first_wrong canonical past es
 unfolding first_refusal first_wrong problem_by
 refusals_are canonical h past [] f = refl
 refusals_are canonical h past (e ∷ es) f =

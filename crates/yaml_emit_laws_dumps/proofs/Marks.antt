@@ -6,20 +6,25 @@ use Rattle.yaml_parse_model.specs.Nodes.{Node}
 use Rattle.yaml_emit_graph.specs.Graph.{Met, is_met, meet, none_met}
 use Rattle.yaml_emit_laws_dumps.specs.Dumps.{met_so}
 
-pub met_old : (nodes : List Node) (seen k : ℕ) → k < seen → is_met (met_so nodes seen) (pos (suc k)) ≡ true
+pub met_old : (nodes : List Node) (seen k : ℕ) → k < seen
+    → is_met (met_so nodes seen) (pos (suc k)) ≡ true
 met_old nodes seen k h =
     get_or_append_left (replicate seen true) (replicate (length nodes - seen) false) true k (omega (arith, h, length-replicate seen true)) ∙ get_or-replicate seen k true true h
 
-pub met_new : (nodes : List Node) (seen : ℕ) → seen < length nodes → is_met (met_so nodes seen) (pos (suc seen)) ≡ false
+pub met_new : (nodes : List Node) (seen : ℕ) → seen < length nodes
+    → is_met (met_so nodes seen) (pos (suc seen)) ≡ false
 met_new nodes seen h =
     get_or-append_right (replicate seen true) (replicate (length nodes - seen) false) seen seen true (length-replicate seen true) (omega arith)
     ∙ get_or-replicate (length nodes - seen) (seen - seen) false true (omega (arith, h))
 
-set_next : (s m : ℕ) → set (replicate s true ++ replicate (suc m) false) s true ≡ replicate (suc s) true ++ replicate m false
+set_next : (s m : ℕ)
+    → set (replicate s true ++ replicate (suc m) false) s true ≡ replicate (suc s) true
+    ++ replicate m false
 set_next zero m = refl
 set_next (suc s) m = ap (λ (xs : Met). true ∷ xs) (set_next s m)
 
-pub meets : (nodes : List Node) (seen : ℕ) → seen < length nodes → meet (met_so nodes seen) (pos (suc seen)) ≡ met_so nodes (suc seen)
+pub meets : (nodes : List Node) (seen : ℕ) → seen < length nodes
+    → meet (met_so nodes seen) (pos (suc seen)) ≡ met_so nodes (suc seen)
 meets nodes seen h =
     let e : length nodes - seen ≡ suc (length nodes - suc seen) = omega (arith, h) in
     ap (λ (m : ℕ). set (replicate seen true ++ replicate m false) seen true) e ∙ set_next seen (length nodes - suc seen)

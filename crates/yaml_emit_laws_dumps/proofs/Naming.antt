@@ -17,7 +17,8 @@ glyph_alpha : (d : ℕ) → d < 10 → is_alpha_byte (digit_glyph false d) ≡ t
 unfolding is_alpha_byte is_digit_byte
 glyph_alpha d h = grind (arith, nat_tests)
 
-digits_alpha : (k n : ℕ) (more : List ℕ) → list_all is_alpha_byte more ≡ true → list_all is_alpha_byte (digits_onto k 10 false n more) ≡ true
+digits_alpha : (k n : ℕ) (more : List ℕ) → list_all is_alpha_byte more ≡ true
+    → list_all is_alpha_byte (digits_onto k 10 false n more) ≡ true
 digits_alpha zero n more h = h
 digits_alpha (suc k) n more h =
     let first : is_alpha_byte (digit_glyph false (n % 10)) ≡ true = glyph_alpha (n % 10) (omega arith) in
@@ -49,7 +50,8 @@ lead_right n =
 pub not_zero : (n : ℕ) → 0 < n → (n == 0) ≡ false
 not_zero n h = grind (arith, nat_tests)
 
-pub name_right : (empty characters : Problem) (n : ℕ) → name_problem empty characters (name_of n) ≡ None
+pub name_right : (empty characters : Problem) (n : ℕ)
+    → name_problem empty characters (name_of n) ≡ None
 unfolding name_of
 name_right empty characters n =
     let l = lead_right (length (decimal n)) in

@@ -86,28 +86,36 @@ from_inside [] es k = k
 from_inside (d ∷ due) es k = k
 
 -- a node in front of what follows it
-put : (due : List Due) (n : Node) (es : List Event) → Left (behind_node due) es → GoesOn at.Node due (node_events n es)
+put : (due : List Due) (n : Node) (es : List Event) → Left (behind_node due) es
+    → GoesOn at.Node due (node_events n es)
 unfolding items_events pairs_events
 put [] n es k = record { root = n; rest = es; same = refl; goes = k }
 put (item_due ∷ due) n es k = record { nodes = node n k.nodes; rest = k.rest; same = ap (node_events n) k.same; goes = k.goes }
 put (key_due ∷ due) n es k = record { pairs = pair n k.value k.pairs; rest = k.rest; same = ap (node_events n) k.same; goes = k.goes }
 put (value_due ∷ due) n es k = record { value = n; pairs = k.pairs; rest = k.rest; same = ap (node_events n) k.same; goes = k.goes }
 
-close_sequence : (due : List Due) (es : List Event) → node_problem (level_due due) sequence_end ≡ None → From (progress_after (record { place = at.Node; due = due }) sequence_end) es → GoesOn at.Node due (sequence_end ∷ es)
+close_sequence : (due : List Due) (es : List Event)
+    → node_problem (level_due due) sequence_end ≡ None
+    → From (progress_after (record { place = at.Node; due = due }) sequence_end) es
+    → GoesOn at.Node due (sequence_end ∷ es)
 unfolding progress_after items_events
 close_sequence [] es h k = absurd (cc)
 close_sequence (item_due ∷ due) es h k = record { nodes = no_nodes; rest = es; same = refl; goes = from_inside due es k }
 close_sequence (key_due ∷ due) es h k = absurd (cc)
 close_sequence (value_due ∷ due) es h k = absurd (cc)
 
-close_mapping : (due : List Due) (es : List Event) → node_problem (level_due due) mapping_end ≡ None → From (progress_after (record { place = at.Node; due = due }) mapping_end) es → GoesOn at.Node due (mapping_end ∷ es)
+close_mapping : (due : List Due) (es : List Event) → node_problem (level_due due) mapping_end ≡ None
+    → From (progress_after (record { place = at.Node; due = due }) mapping_end) es
+    → GoesOn at.Node due (mapping_end ∷ es)
 unfolding progress_after pairs_events
 close_mapping [] es h k = absurd (cc)
 close_mapping (item_due ∷ due) es h k = absurd (cc)
 close_mapping (key_due ∷ due) es h k = record { pairs = no_pairs; rest = es; same = refl; goes = from_inside due es k }
 close_mapping (value_due ∷ due) es h k = absurd (cc)
 
-at_node : (due : List Due) (e : Event) (es : List Event) → node_problem (level_due due) e ≡ None → From (progress_after (record { place = at.Node; due = due }) e) es → GoesOn at.Node due (e ∷ es)
+at_node : (due : List Due) (e : Event) (es : List Event) → node_problem (level_due due) e ≡ None
+    → From (progress_after (record { place = at.Node; due = due }) e) es
+    → GoesOn at.Node due (e ∷ es)
 unfolding progress_after node_events
 at_node due (alias name) es h k = put due (alias_node name) es (from_inside (behind_node due) es k)
 at_node due (scalar x) es h k = put due (scalar_node x) es (from_inside (behind_node due) es k)
@@ -124,7 +132,9 @@ at_node (item_due ∷ due) _ es h k = absurd (cc)
 at_node (key_due ∷ due) _ es h k = absurd (cc)
 at_node (value_due ∷ due) _ es h k = absurd (cc)
 
-in_front : (p : Expected) (due : List Due) (e : Event) (es : List Event) → place_problem p (level_due due) e ≡ None → From (progress_after (record { place = p; due = due }) e) es → GoesOn p due (e ∷ es)
+in_front : (p : Expected) (due : List Due) (e : Event) (es : List Event)
+    → place_problem p (level_due due) e ≡ None
+    → From (progress_after (record { place = p; due = due }) e) es → GoesOn p due (e ∷ es)
 unfolding place_problem progress_after documents_events
 in_front at.StreamStart due (stream_start x) es h k = record { encoding = x; documents = k.documents; same = ap (λ t. stream_start x ∷ t) k.same }
 in_front at.StreamStart due _ es h k = absurd (cc)
@@ -184,7 +194,8 @@ closes at.DocumentEnd due = ends
 closes at.End due = refl
 closes (at.Refused p) due = tt
 
-inside_right : (canonical : Bool) (due : List Due) → own_problems canonical (closing_inside due) ≡ None
+inside_right : (canonical : Bool) (due : List Due)
+    → own_problems canonical (closing_inside due) ≡ None
 unfolding own_problems event_problem last_problem
 inside_right canonical [] = refl
 inside_right canonical (item_due ∷ due) = inside_right canonical due
@@ -192,7 +203,8 @@ inside_right canonical (key_due ∷ due) = inside_right canonical due
 inside_right true (value_due ∷ due) = inside_right true due
 inside_right false (value_due ∷ due) = inside_right false due
 
-closing_right : (canonical : Bool) (p : Expected) (due : List Due) → own_problems canonical (closing p due) ≡ None
+closing_right : (canonical : Bool) (p : Expected) (due : List Due)
+    → own_problems canonical (closing p due) ≡ None
 unfolding own_problems event_problem last_problem
 closing_right canonical at.StreamStart due = refl
 closing_right canonical (at.Documents first unended) due = refl
@@ -218,7 +230,8 @@ record Passes (canonical : Bool) (h : Progress) (e : Event) : Type 0 where
   there : place_problem h.place (level_due h.due) e ≡ None
   right : own_problem canonical e ≡ None
 
-passes : (canonical : Bool) (h : Progress) (e : Event) → problem_in canonical h e ≡ None → Passes canonical h e
+passes : (canonical : Bool) (h : Progress) (e : Event) → problem_in canonical h e ≡ None
+    → Passes canonical h e
 unfolding problem_by
 passes canonical h e r =
     let a = or_both (event_problem canonical e) _ r in
@@ -228,7 +241,8 @@ passes canonical h e r =
 abbrev closing_behind : Progress → List Event → List Event
 closing_behind h es = closing (progress_behind h es).place (progress_behind h es).due
 
-goes_on : (canonical : Bool) (h : Progress) (es : List Event) → first_refusal canonical h es ≡ None → From h (es ++ closing_behind h es)
+goes_on : (canonical : Bool) (h : Progress) (es : List Event) → first_refusal canonical h es ≡ None
+    → From h (es ++ closing_behind h es)
 unfolding first_refusal progress_behind
 goes_on canonical h [] r = closes h.place h.due
 goes_on canonical h (e ∷ es) r =
@@ -236,19 +250,22 @@ goes_on canonical h (e ∷ es) r =
     in_front h.place h.due e _ (passes canonical h e a.0).there (goes_on canonical (progress_after h e) es a.1)
 
 -- nothing is wrong with the events of a list that passes
-pub own_right : (canonical : Bool) (h : Progress) (es : List Event) → first_refusal canonical h es ≡ None → own_problems canonical es ≡ None
+pub own_right : (canonical : Bool) (h : Progress) (es : List Event)
+    → first_refusal canonical h es ≡ None → own_problems canonical es ≡ None
 unfolding first_refusal own_problems
 own_right canonical h [] r = refl
 own_right canonical h (e ∷ es) r =
     let a = or_both (problem_in canonical h e) (first_refusal canonical (progress_after h e) es) r in
     or_none _ _ (passes canonical h e a.0).right (own_right canonical (progress_after h e) es a.1)
 
-own_append : (canonical : Bool) (es more : List Event) → own_problems canonical es ≡ None → own_problems canonical more ≡ None → own_problems canonical (es ++ more) ≡ None
+own_append : (canonical : Bool) (es more : List Event) → own_problems canonical es ≡ None
+    → own_problems canonical more ≡ None → own_problems canonical (es ++ more) ≡ None
 unfolding own_problems
 own_append canonical [] more r q = q
 own_append canonical (e ∷ es) more r q = let a = or_both (own_problem canonical e) (own_problems canonical es) r in or_none _ _ a.0 (own_append canonical es more a.1 q)
 
-whole : (canonical : Bool) (es : List Event) → first_refusal canonical first_progress es ≡ None → RightStream canonical (es ++ closing_behind first_progress es)
+whole : (canonical : Bool) (es : List Event) → first_refusal canonical first_progress es ≡ None
+    → RightStream canonical (es ++ closing_behind first_progress es)
 whole canonical es r =
     let k = goes_on canonical first_progress es r in
     record { encoding = k.encoding; documents = k.documents; same = k.same; right = own_append canonical es (closing_behind first_progress es) (own_right canonical first_progress es r) (closing_right canonical (progress_behind first_progress es).place (progress_behind first_progress es).due) }

@@ -74,15 +74,19 @@ feed_width : (text : List ℕ) (q : ℕ) → byte text q ≡ 10 → break_width 
 unfolding break_of
 feed_width text q h = rw h refl
 
-return_width : (text : List ℕ) (q : ℕ) → byte text q ≡ 13 → (byte text (q + 1) ≡ 10 → ⊥) → break_width text q ≡ 1
+return_width : (text : List ℕ) (q : ℕ) → byte text q ≡ 13 → (byte text (q + 1) ≡ 10 → ⊥)
+    → break_width text q ≡ 1
 unfolding break_of
 return_width text q h calm = let e : (byte text (q + 1) == 10) ≡ false = grind (arith, nat_tests) in rw (h, e) refl
 
-both_width : (text : List ℕ) (q : ℕ) → byte text q ≡ 13 → byte text (q + 1) ≡ 10 → break_width text q ≡ 2
+both_width : (text : List ℕ) (q : ℕ) → byte text q ≡ 13 → byte text (q + 1) ≡ 10
+    → break_width text q ≡ 2
 unfolding break_of
 both_width text q h k = rw (h, k) refl
 
-new_line_broken : (b : LineBreak) (text : List ℕ) (c : Cursor) (q : ℕ) (rest : Rest) → IsNext (first (bytes (rest (line_start c.kept)))) → Left text q (bytes (new_line b c rest)) → Broken text q rest c.kept
+new_line_broken : (b : LineBreak) (text : List ℕ) (c : Cursor) (q : ℕ) (rest : Rest)
+    → IsNext (first (bytes (rest (line_start c.kept)))) → Left text q (bytes (new_line b c rest))
+    → Broken text q rest c.kept
 new_line_broken Lf text c q rest next l =
     let m = left_letter text q 10 (rest (line_start c.kept)) refl l in
     let h = left_first text q 10 (bytes (rest (line_start c.kept))) m in
@@ -113,7 +117,9 @@ new_line_broken CrLf text c q rest next l =
       left = subst (λ n. Left text n (bytes (rest (line_start c.kept)))) two n;
     }
 
-line_broken : (b : LineBreak) (text : List ℕ) (c : Cursor) (q : ℕ) (rest : Rest) → c.bare ≡ false → IsNext (first (bytes (rest (line_start c.kept)))) → Left text q (bytes (line b 0 c rest)) → Broken text q rest c.kept
+line_broken : (b : LineBreak) (text : List ℕ) (c : Cursor) (q : ℕ) (rest : Rest) → c.bare ≡ false
+    → IsNext (first (bytes (rest (line_start c.kept)))) → Left text q (bytes (line b 0 c rest))
+    → Broken text q rest c.kept
 unfolding line blanks
 line_broken b text c q rest e next l =
     let must : must_break 0 c ≡ true = rw e refl in
@@ -127,7 +133,9 @@ line_broken b text c q rest e next l =
 abbrev pub WalksOver : Layout → (List TokenBody → List TokenBody) → Rest → Type 0
 WalksOver a B rest = (x : yaml_encoding_t) (text : List ℕ) (T : List TokenBody → List TokenBody) → OnLine x text (λ e. a e rest) false T → OnLine x text rest false (λ bs. T (B bs))
 
-line_walks : (a : Layout) (b : LineBreak) (xs : List ℕ) (said : Said) → WritesLine a b xs false → ReadsLine xs said → (rest : Rest) → IsNext (first (bytes (rest (line_start false)))) → WalksOver a (λ bs. body_said said ∷ bs) rest
+line_walks : (a : Layout) (b : LineBreak) (xs : List ℕ) (said : Said) → WritesLine a b xs false
+    → ReadsLine xs said → (rest : Rest) → IsNext (first (bytes (rest (line_start false))))
+    → WalksOver a (λ bs. body_said said ∷ bs) rest
 line_walks a b xs said w reads rest next x text T s =
     let o = s.place in
     let p = o.at in
@@ -169,13 +177,20 @@ nothing_walks rest x text T s = s
 
 -- ---- versions
 
-version_line_walks : VersionReads → (b : LineBreak) (n : ℕ) → n < 10 → nat_lt (48 + n) 128 ≡ true → (rest : Rest) → IsNext (first (bytes (rest (line_start false)))) → WalksOver (version_line b (49 ∷ 46 ∷ (48 + n) ∷ [])) (λ bs. tokens.version_directive (pos 1) (pos n) ∷ bs) rest
+version_line_walks : VersionReads → (b : LineBreak) (n : ℕ) → n < 10 → nat_lt (48 + n) 128 ≡ true
+    → (rest : Rest) → IsNext (first (bytes (rest (line_start false))))
+    → WalksOver (version_line b (49 ∷ 46 ∷ (48 + n) ∷ []))
+    (λ bs. tokens.version_directive (pos 1) (pos n) ∷ bs) rest
 version_line_walks versions b n small low rest next =
     line_walks (version_line b (49 ∷ 46 ∷ (48 + n) ∷ [])) b (89 ∷ 65 ∷ 77 ∷ 76 ∷ 32 ∷ 49 ∷ 46 ∷ (48 + n) ∷ []) (directives.version 1 n) (version_writes b (48 + n) low false)
     (λ text p has stop. versions text p n small (has_at text p (37 ∷ 89 ∷ 65 ∷ 77 ∷ 76 ∷ 32 ∷ 49 ∷ 46 ∷ (48 + n) ∷ []) has) stop) rest next
 
-version_so : VersionReads → (b : LineBreak) (v : yaml_version_directive_t) (n : ℕ) → n < 10 → nat_lt (48 + n) 128 ≡ true → v.major ≡ pos 1 → v.minor ≡ pos n → version_word v ≡ 49 ∷ 46 ∷ (48 + n) ∷ [] → (rest : Rest) → IsNext (first (bytes (rest (line_start false))))
-    → WalksOver (version_line b (version_word v)) (λ bs. tokens.version_directive v.major v.minor ∷ bs) rest
+version_so : VersionReads → (b : LineBreak) (v : yaml_version_directive_t) (n : ℕ) → n < 10
+    → nat_lt (48 + n) 128 ≡ true → v.major ≡ pos 1 → v.minor ≡ pos n
+    → version_word v ≡ 49 ∷ 46 ∷ (48 + n) ∷ [] → (rest : Rest)
+    → IsNext (first (bytes (rest (line_start false))))
+    → WalksOver (version_line b (version_word v))
+    (λ bs. tokens.version_directive v.major v.minor ∷ bs) rest
 version_so versions b v n small low major minor says rest next =
     let P : List ℕ → ℤ → ℤ → Type 0 = λ (t : List ℕ) (x y : ℤ). WalksOver (version_line b t) (λ bs. tokens.version_directive x y ∷ bs) rest in
     let base : P (49 ∷ 46 ∷ (48 + n) ∷ []) (pos 1) (pos n) = version_line_walks versions b n small low rest next in
@@ -187,7 +202,10 @@ none_true : (b : Bool) (p : Problem) → (if b then None else Some p) ≡ None �
 none_true true p e = refl
 none_true false p e = absurd (cc)
 
-version_walks : VersionReads → (s : Settings) (version : Option yaml_version_directive_t) → version_problem version ≡ None → (rest : Rest) → IsNext (first (bytes (rest (line_start false)))) → WalksOver (version_text s version) (λ bs. version_bodies version bs) rest
+version_walks : VersionReads → (s : Settings) (version : Option yaml_version_directive_t)
+    → version_problem version ≡ None → (rest : Rest)
+    → IsNext (first (bytes (rest (line_start false))))
+    → WalksOver (version_text s version) (λ bs. version_bodies version bs) rest
 version_walks versions s None right rest next = nothing_walks rest
 version_walks versions s (Some v) right rest next =
     let is = none_true (is_version v) _ right in
@@ -200,32 +218,43 @@ version_walks versions s (Some v) right rest next =
           version_so versions s.line_break v 2 (omega arith) refl major ((signed_Decides v.minor (pos 2)).0 second) (ap (λ (t : Bool). if t then codes "1.1" else codes "1.2") e) rest next
     ]
 
-version_front : (kept : Bool) (rest : Rest) → bytes (letters (codes "%YAML") (line_start kept) rest) ≡ 37 ∷ 89 ∷ 65 ∷ 77 ∷ 76 ∷ bytes (rest (record { column = 5; white = false; bare = false; kept = kept }))
+version_front : (kept : Bool) (rest : Rest)
+    → bytes (letters (codes "%YAML") (line_start kept) rest) ≡ 37 ∷ 89 ∷ 65 ∷ 77 ∷ 76
+    ∷ bytes (rest (record { column = 5; white = false; bare = false; kept = kept }))
 unfolding letters encode char_bytes
 version_front kept rest = refl
 
-version_next : (s : Settings) (version : Option yaml_version_directive_t) (rest : Rest) → IsNext (first (bytes (rest (line_start false)))) → IsNext (first (bytes (version_text s version (line_start false) rest)))
+version_next : (s : Settings) (version : Option yaml_version_directive_t) (rest : Rest)
+    → IsNext (first (bytes (rest (line_start false))))
+    → IsNext (first (bytes (version_text s version (line_start false) rest)))
 version_next s None rest next = next
 version_next s (Some v) rest next = inl (ap (λ (bs : List ℕ). first bs) (version_front false (λ c. (word (version_word v) ▹ line s.line_break 0) c rest)))
 
 -- ---- tags
 
-tag_walks : DirectivesAreRead → ReadableDirectivesAreAscii → (s : Settings) (d : TagDirective) → IsReadableDirective d → (rest : Rest) → IsNext (first (bytes (rest (line_start false)))) → WalksOver (directive_text s d) (λ bs. tokens.tag_directive d.handle d.prefix ∷ bs) rest
+tag_walks : DirectivesAreRead → ReadableDirectivesAreAscii → (s : Settings) (d : TagDirective)
+    → IsReadableDirective d → (rest : Rest) → IsNext (first (bytes (rest (line_start false))))
+    → WalksOver (directive_text s d) (λ bs. tokens.tag_directive d.handle d.prefix ∷ bs) rest
 tag_walks reads ascii s d may rest next =
     let (marked, low) = ascii d may in
     let xs = 84 ∷ 65 ∷ 71 ∷ 32 ∷ (d.handle ++ (32 ∷ uri_text true d.prefix)) in
     line_walks (directive_text s d) s.line_break xs (directives.tag d.handle d.prefix) (tag_writes s.line_break d.handle (uri_text true d.prefix) marked low false)
     (λ text p has stop. reads d may text p (has_at text p (37 ∷ xs) has) stop) rest next
 
-tag_next : (s : Settings) (d : TagDirective) (rest : Rest) → IsNext (first (bytes (directive_text s d (line_start false) rest)))
+tag_next : (s : Settings) (d : TagDirective) (rest : Rest)
+    → IsNext (first (bytes (directive_text s d (line_start false) rest)))
 tag_next s d rest = inl (ap (λ (bs : List ℕ). first bs) (tag_front false (λ c. (word d.handle ▹ (word (uri_text true d.prefix) ▹ line s.line_break 0)) c rest)))
 
-tags_next : (s : Settings) (ds : List TagDirective) (rest : Rest) → IsNext (first (bytes (rest (line_start false)))) → IsNext (first (bytes (directives_text s ds (line_start false) rest)))
+tags_next : (s : Settings) (ds : List TagDirective) (rest : Rest)
+    → IsNext (first (bytes (rest (line_start false))))
+    → IsNext (first (bytes (directives_text s ds (line_start false) rest)))
 unfolding directives_text
 tags_next s [] rest next = next
 tags_next s (d ∷ ds) rest next = tag_next s d (λ c. directives_text s ds c rest)
 
-tags_walk : DirectivesAreRead → ReadableDirectivesAreAscii → (s : Settings) (ds : List TagDirective) → AreReadable ds → (rest : Rest) → IsNext (first (bytes (rest (line_start false)))) → WalksOver (directives_text s ds) (λ bs. directives_bodies ds bs) rest
+tags_walk : DirectivesAreRead → ReadableDirectivesAreAscii → (s : Settings) (ds : List TagDirective)
+    → AreReadable ds → (rest : Rest) → IsNext (first (bytes (rest (line_start false))))
+    → WalksOver (directives_text s ds) (λ bs. directives_bodies ds bs) rest
 unfolding directives_text directives_bodies
 tags_walk reads ascii s [] may rest next x text T st = st
 tags_walk reads ascii s (d ∷ ds) (own, may) rest next x text T st =
@@ -238,12 +267,18 @@ or_first None b e = refl
 or_first (Some p) b e = absurd (cc)
 
 -- they begin as directives do, or as what follows
-pub directives_next : (s : Settings) (o : Opening) (rest : Rest) → IsNext (first (bytes (rest (line_start false)))) → IsNext (first (bytes ((version_text s o.version ▹ directives_text s o.directives) (line_start false) rest)))
+pub directives_next : (s : Settings) (o : Opening) (rest : Rest)
+    → IsNext (first (bytes (rest (line_start false))))
+    → IsNext (first (bytes ((version_text s o.version ▹ directives_text s o.directives)
+    (line_start false) rest)))
 directives_next s o rest next = version_next s o.version (λ c. directives_text s o.directives c rest) (tags_next s o.directives rest next)
 
 -- the lines of a document's directives
-pub directives_walk : VersionReads → DirectivesAreRead → ReadableDirectivesAreAscii → WrittenDirectivesAreReadable → (s : Settings) (o : Opening) → IsWritableOpening o → (rest : Rest) → IsNext (first (bytes (rest (line_start false))))
-    → WalksOver (version_text s o.version ▹ directives_text s o.directives) (λ bs. version_bodies o.version (directives_bodies o.directives bs)) rest
+pub directives_walk : VersionReads → DirectivesAreRead → ReadableDirectivesAreAscii
+    → WrittenDirectivesAreReadable → (s : Settings) (o : Opening) → IsWritableOpening o
+    → (rest : Rest) → IsNext (first (bytes (rest (line_start false))))
+    → WalksOver (version_text s o.version ▹ directives_text s o.directives)
+    (λ bs. version_bodies o.version (directives_bodies o.directives bs)) rest
 directives_walk versions reads ascii readable s o (right, utf8) rest next x text T st =
     let known = or_first (version_problem o.version) (directives_problem [] o.directives) right in
     let may = readable o right utf8 in

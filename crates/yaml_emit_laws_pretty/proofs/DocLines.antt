@@ -31,7 +31,8 @@ record Threes (text : List ℕ) (p x : ℕ) (kept : Bool) (rest : Rest) : Type 0
   third : byte text (p + 2) ≡ x
   left : Left text (p + 3) (bytes (rest (behind_three kept)))
 
-threes : (text : List ℕ) (p x : ℕ) → nat_lt x 128 ≡ true → (kept : Bool) (rest : Rest) → Left text p (bytes (word (x ∷ x ∷ x ∷ []) (line_start kept) rest)) → Threes text p x kept rest
+threes : (text : List ℕ) (p x : ℕ) → nat_lt x 128 ≡ true → (kept : Bool) (rest : Rest)
+    → Left text p (bytes (word (x ∷ x ∷ x ∷ []) (line_start kept) rest)) → Threes text p x kept rest
 threes text p x low kept rest l =
     let m = subst (λ (bs : List ℕ). Left text p bs) (three x low kept rest) l in
     let m1 = left_more text p x _ m in
@@ -51,8 +52,13 @@ pub record Marked (x : yaml_encoding_t) (text : List ℕ) (rest : Rest) (kept : 
   pub stage : Stage x text (behind_three kept) place [] [] T
   pub left : Left text place.at (bytes (rest (behind_three kept)))
 
-three_walks : (s : ℕ) (k : Kind) (body : TokenBody) → Thrice s k body → (is_outside k && not (is_end k)) ≡ true → (x : yaml_encoding_t) (text : List ℕ) (rest : Rest) (kept : Bool) (T : List TokenBody → List TokenBody)
-    → ((q : ℕ) → Left text q (bytes (rest (behind_three kept))) → is_blank_or_end text q ≡ true) → OnLine x text (λ e. word (s ∷ s ∷ s ∷ []) e rest) kept T → Marked x text rest kept (λ bs. T (body ∷ bs))
+three_walks : (s : ℕ) (k : Kind) (body : TokenBody) → Thrice s k body
+    → (is_outside k && not (is_end k)) ≡ true
+    → (x : yaml_encoding_t) (text : List ℕ) (rest : Rest) (kept : Bool)
+    (T : List TokenBody → List TokenBody)
+    → ((q : ℕ) → Left text q (bytes (rest (behind_three kept))) → is_blank_or_end text q ≡ true)
+    → OnLine x text (λ e. word (s ∷ s ∷ s ∷ []) e rest) kept T
+    → Marked x text rest kept (λ bs. T (body ∷ bs))
 three_walks s k body t outer x text rest kept T alone h =
     let o = h.place in
     let p = o.at in
@@ -72,12 +78,17 @@ three_walks s k body t outer x text rest kept T alone h =
       left = m.left;
     }
 
-pub dashes_walk : (x : yaml_encoding_t) (text : List ℕ) (rest : Rest) (kept : Bool) (T : List TokenBody → List TokenBody) → ((q : ℕ) → Left text q (bytes (rest (behind_three kept))) → is_blank_or_end text q ≡ true)
-    → OnLine x text (λ e. word (45 ∷ 45 ∷ 45 ∷ []) e rest) kept T → Marked x text rest kept (λ bs. T (tokens.document_start ∷ bs))
+pub dashes_walk : (x : yaml_encoding_t) (text : List ℕ) (rest : Rest) (kept : Bool)
+    (T : List TokenBody → List TokenBody)
+    → ((q : ℕ) → Left text q (bytes (rest (behind_three kept))) → is_blank_or_end text q ≡ true)
+    → OnLine x text (λ e. word (45 ∷ 45 ∷ 45 ∷ []) e rest) kept T
+    → Marked x text rest kept (λ bs. T (tokens.document_start ∷ bs))
 dashes_walk = three_walks 45 kinds.DocumentStart tokens.document_start thrice_dash refl
 
 -- with its line
-pub dots_walk : (s : Settings) (x : yaml_encoding_t) (text : List ℕ) (rest : Rest) (kept : Bool) (T : List TokenBody → List TokenBody) → NoFeed 0 rest → AtLine x text (λ e. dots s e rest) kept T
+pub dots_walk : (s : Settings) (x : yaml_encoding_t) (text : List ℕ) (rest : Rest) (kept : Bool)
+    (T : List TokenBody → List TokenBody) → NoFeed 0 rest
+    → AtLine x text (λ e. dots s e rest) kept T
     → AtLine x text rest kept (λ bs. T (tokens.document_end ∷ bs))
 dots_walk s x text rest kept T calm a =
     let after : Rest = λ e. line s.line_break 0 e rest in

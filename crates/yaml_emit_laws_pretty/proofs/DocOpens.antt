@@ -44,28 +44,40 @@ pub record Directing : Type 0 where
   pub ascii : ReadableDirectivesAreAscii
   pub readable : WrittenDirectivesAreReadable
 
-pub feed_at : (rest : Rest) → ((kept : Bool) → first (bytes (rest (line_start kept))) ≡ 10 → ⊥) → NoFeed 0 rest
+pub feed_at : (rest : Rest) → ((kept : Bool) → first (bytes (rest (line_start kept))) ≡ 10 → ⊥)
+    → NoFeed 0 rest
 feed_at rest calm e bare white column f = calm e.kept (sym (ap (λ (c : Cursor). first (bytes (rest c))) (at_start e e.kept bare white column refl)) ∙ f)
 
-dots_if : (s : Settings) (b : Bool) (x : yaml_encoding_t) (text : List ℕ) (rest : Rest) (kept : Bool) (T : List TokenBody → List TokenBody) → NoFeed 0 rest → AtLine x text (λ e. when b (dots s) e rest) kept T → AtLine x text rest kept (λ bs. T (end_bodies b bs))
+dots_if : (s : Settings) (b : Bool) (x : yaml_encoding_t) (text : List ℕ) (rest : Rest)
+    (kept : Bool) (T : List TokenBody → List TokenBody) → NoFeed 0 rest
+    → AtLine x text (λ e. when b (dots s) e rest) kept T
+    → AtLine x text rest kept (λ bs. T (end_bodies b bs))
 dots_if s true x text rest kept T calm a = dots_walk s x text rest kept T calm a
 dots_if s false x text rest kept T calm a = a
 
 -- ---- with `---`
 
-pub dashes_next : (s : Settings) (rest : Rest) → IsNext (first (bytes (dashes (pretty s) (line_start false) rest)))
+pub dashes_next : (s : Settings) (rest : Rest)
+    → IsNext (first (bytes (dashes (pretty s) (line_start false) rest)))
 dashes_next s rest = inr (ap (λ (bs : List ℕ). first bs) (dashes_are s false rest))
 
-dashed : (s : Settings) (x : yaml_encoding_t) (text : List ℕ) (rest : Rest) (T : List TokenBody → List TokenBody) → OnLine x text (λ e. dashes (pretty s) e rest) false T → begins_white (bytes (rest (behind_three false))) ≡ true
+dashed : (s : Settings) (x : yaml_encoding_t) (text : List ℕ) (rest : Rest)
+    (T : List TokenBody → List TokenBody) → OnLine x text (λ e. dashes (pretty s) e rest) false T
+    → begins_white (bytes (rest (behind_three false))) ≡ true
     → Opens x text rest (λ bs. T (tokens.document_start ∷ bs))
 unfolding line blanks
 dashed s x text rest T h white =
     let m = dashes_walk x text rest false T (λ q l. white_stands text q (bytes (rest (behind_three false))) l white) (record { place = h.place; more = h.more; reads = h.reads; flat = h.flat; column = h.column; left = h.left }) in
     record { cursor = behind_three false; kept = refl; place = m.place; stage = m.stage; left = m.left }
 
-marked_opens : Directing → (s : Settings) (o : Opening) → IsWritableOpening o → (dotted : Bool) (x : yaml_encoding_t) (text : List ℕ) (rest : Rest) (kept : Bool) (T : List TokenBody → List TokenBody)
-    → AtLine x text (λ e. (when dotted (dots (pretty s)) ▹ keep false ▹ version_text (pretty s) o.version ▹ directives_text (pretty s) o.directives ▹ dashes (pretty s)) e rest) kept T
-    → begins_white (bytes (rest (behind_three false))) ≡ true → Opens x text rest (λ bs. T (end_bodies dotted (version_bodies o.version (directives_bodies o.directives (tokens.document_start ∷ bs)))))
+marked_opens : Directing → (s : Settings) (o : Opening) → IsWritableOpening o
+    → (dotted : Bool) (x : yaml_encoding_t) (text : List ℕ) (rest : Rest) (kept : Bool)
+    (T : List TokenBody → List TokenBody)
+    → AtLine x text (λ e. (when dotted (dots (pretty s)) ▹ keep false ▹ version_text (pretty s)
+    o.version ▹ directives_text (pretty s) o.directives ▹ dashes (pretty s)) e rest) kept T
+    → begins_white (bytes (rest (behind_three false))) ≡ true
+    → Opens x text rest (λ bs. T (end_bodies dotted
+    (version_bodies o.version (directives_bodies o.directives (tokens.document_start ∷ bs)))))
 marked_opens laws s o right dotted x text rest kept T a white =
     let z = pretty s in
     let after : Rest = λ e. dashes z e rest in
@@ -83,10 +95,18 @@ marked_opens laws s o right dotted x text rest kept T a white =
 -- ---- without
 
 -- the first document alone, without directives
-plain_opens : (s : Settings) (fresh : Bool) (version : Option yaml_version_directive_t) (directives : List TagDirective) (implicit : Bool) → is_marked (pretty s) fresh (record { version = version; directives = directives; implicit = implicit }) ≡ false
-    → (x : yaml_encoding_t) (text : List ℕ) (rest : Rest) (kept : Bool) (T : List TokenBody → List TokenBody) (place : Where)
-    → Stage x text (line_start kept) place [] [] T → Left text place.at (bytes (start_layout (pretty s) fresh false (record { version = version; directives = directives; implicit = implicit }) (line_start kept) rest))
-    → Opens x text rest (λ bs. T (opening_bodies (pretty s) fresh (record { version = version; directives = directives; implicit = implicit }) bs))
+plain_opens : (s : Settings) (fresh : Bool) (version : Option yaml_version_directive_t)
+    (directives : List TagDirective) (implicit : Bool)
+    → is_marked (pretty s) fresh (record
+    { version = version; directives = directives; implicit = implicit }) ≡ false
+    → (x : yaml_encoding_t) (text : List ℕ) (rest : Rest) (kept : Bool)
+    (T : List TokenBody → List TokenBody) (place : Where)
+    → Stage x text (line_start kept) place [] [] T
+    → Left text place.at (bytes (start_layout (pretty s) fresh false
+    (record { version = version; directives = directives; implicit = implicit }) (line_start kept)
+    rest))
+    → Opens x text rest (λ bs. T (opening_bodies (pretty s) fresh
+    (record { version = version; directives = directives; implicit = implicit }) bs))
 unfolding start_layout directives_text directives_bodies
 plain_opens s false version directives implicit e x text rest kept T place st l = absurd (true≢false e)
 plain_opens s true (Some v) directives true e x text rest kept T place st l = absurd (true≢false e)
@@ -109,13 +129,19 @@ pub record Fresh (more : List ℕ) (unended : Bool) : Type 0 where
   pub none : more ≡ []
   pub ended : unended ≡ false
 
-unmarked_fresh : (s : Settings) (fresh : Bool) (o : Opening) → is_marked (pretty s) fresh o ≡ false → fresh ≡ true
+unmarked_fresh : (s : Settings) (fresh : Bool) (o : Opening) → is_marked (pretty s) fresh o ≡ false
+    → fresh ≡ true
 unmarked_fresh s true o e = refl
 unmarked_fresh s false o e = absurd (true≢false e)
 
-pub opening_walks : Directing → (s : Settings) (o : Opening) → IsWritableOpening o → (fresh unended : Bool) (x : yaml_encoding_t) (text : List ℕ) (rest : Rest) (kept : Bool) (T : List TokenBody → List TokenBody) (place : Where) (more : List ℕ)
-    → (fresh ≡ true → Fresh more unended) → Stage x text (line_start kept) place [] more T → Left text place.at (bytes (start_layout (pretty s) fresh unended o (line_start kept) rest)) → begins_white (bytes (rest (behind_three false))) ≡ true
-    → Opens x text rest (λ bs. T (end_bodies (unended && is_directed o) (opening_bodies (pretty s) fresh o bs)))
+pub opening_walks : Directing → (s : Settings) (o : Opening) → IsWritableOpening o
+    → (fresh unended : Bool) (x : yaml_encoding_t) (text : List ℕ) (rest : Rest) (kept : Bool)
+    (T : List TokenBody → List TokenBody) (place : Where) (more : List ℕ)
+    → (fresh ≡ true → Fresh more unended) → Stage x text (line_start kept) place [] more T
+    → Left text place.at (bytes (start_layout (pretty s) fresh unended o (line_start kept) rest))
+    → begins_white (bytes (rest (behind_three false))) ≡ true
+    → Opens x text rest (λ bs. T (end_bodies (unended && is_directed o)
+    (opening_bodies (pretty s) fresh o bs)))
 unfolding start_layout
 opening_walks laws s o right fresh unended x text rest kept T place more first st l white =
     let z = pretty s in

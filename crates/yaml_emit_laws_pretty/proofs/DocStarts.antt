@@ -23,7 +23,8 @@ use Rattle.yaml_emit_laws_pretty.proofs.Lining.{line_on}
 abbrev pub line_start : Bool → Cursor
 line_start kept = record { column = 0; white = true; bare = true; kept = kept }
 
-pub at_start : (e : Cursor) (kept : Bool) → e.bare ≡ true → e.white ≡ true → e.column ≡ 0 → e.kept ≡ kept → e ≡ line_start kept
+pub at_start : (e : Cursor) (kept : Bool) → e.bare ≡ true → e.white ≡ true → e.column ≡ 0
+    → e.kept ≡ kept → e ≡ line_start kept
 at_start e kept bare white column same =
     ap (λ (b : Bool). let c : Cursor = record { column = e.column; white = e.white; bare = b; kept = e.kept } in c) bare
     ∙ ap (λ (w : Bool). let c : Cursor = record { column = e.column; white = w; bare = true; kept = e.kept } in c) white
@@ -37,7 +38,9 @@ pub record AtLine (x : yaml_encoding_t) (text : List ℕ) (after : Rest) (kept :
   pub stage : Stage x text (line_start kept) place [] more T
   pub left : Left text place.at (bytes (after (line_start kept)))
 
-pub from_lined : (x : yaml_encoding_t) (text : List ℕ) (after : Rest) (kept : Bool) (more : List ℕ) (T : List TokenBody → List TokenBody) → Lined x text after 0 kept [] more T → AtLine x text after kept T
+pub from_lined : (x : yaml_encoding_t) (text : List ℕ) (after : Rest) (kept : Bool) (more : List ℕ)
+    (T : List TokenBody → List TokenBody) → Lined x text after 0 kept [] more T
+    → AtLine x text after kept T
 from_lined x text after kept more T h =
     let same = at_start h.cursor kept h.bare h.white h.column h.same in
     record {
@@ -56,7 +59,8 @@ pub record OnLine (x : yaml_encoding_t) (text : List ℕ) (rest : Rest) (kept : 
   pub column : column_at text place.at ≡ 0
   pub left : Left text place.at (bytes (rest (line_start kept)))
 
-pub on_from : (x : yaml_encoding_t) (text : List ℕ) (rest : Rest) (kept : Bool) (T : List TokenBody → List TokenBody) → AtLine x text rest kept T → OnLine x text rest kept T
+pub on_from : (x : yaml_encoding_t) (text : List ℕ) (rest : Rest) (kept : Bool)
+    (T : List TokenBody → List TokenBody) → AtLine x text rest kept T → OnLine x text rest kept T
 on_from x text rest kept T a =
     let (now, column) = a.stage.bare refl in
     record { place = a.place; more = a.more; reads = a.stage.reads; flat = a.stage.flat; column = column; left = a.left }
@@ -94,12 +98,14 @@ outer_calm (b ∷ bs) h e = elim (mark_first b bs h) [
 
 -- ---- what such a line does to what stands before it
 
-stops_so : (level b : ℕ) (bs : List ℕ) → (b ≡ 45) ⊎ (b ≡ 46) → begins_mark b bs ≡ true → stops_plain_at false level (Some 0) (b ∷ bs) ≡ true
+stops_so : (level b : ℕ) (bs : List ℕ) → (b ≡ 45) ⊎ (b ≡ 46) → begins_mark b bs ≡ true
+    → stops_plain_at false level (Some 0) (b ∷ bs) ≡ true
 unfolding stops_plain_at break_of
 stops_so level b bs (inl e) h = let k = subst (λ x. begins_mark x bs ≡ true) e h in subst (λ x. stops_plain_at false level (Some 0) (x ∷ bs) ≡ true) (sym e) (rw k refl)
 stops_so level b bs (inr e) h = let k = subst (λ x. begins_mark x bs ≡ true) e h in subst (λ x. stops_plain_at false level (Some 0) (x ∷ bs) ≡ true) (sym e) (rw k refl)
 
-outer_stops : (level : ℕ) (bs : List ℕ) → is_outer bs ≡ true → stops_plain_at false level (Some 0) bs ≡ true
+outer_stops : (level : ℕ) (bs : List ℕ) → is_outer bs ≡ true
+    → stops_plain_at false level (Some 0) bs ≡ true
 unfolding stops_plain_at
 outer_stops level [] h = refl
 outer_stops level (b ∷ bs) h = stops_so level b bs (mark_first b bs h) h
@@ -121,20 +127,24 @@ outer_solid (b ∷ bs) h = elim (mark_first b bs h) [
 ]
 
 -- a line behind text, in bytes
-new_line_bytes : (b : LineBreak) (c : Cursor) (rest : Rest) → bytes (new_line b c (λ k. indent_to 0 k rest)) ≡ break_text b ++ bytes (rest (line_start c.kept))
+new_line_bytes : (b : LineBreak) (c : Cursor) (rest : Rest)
+    → bytes (new_line b c (λ k. indent_to 0 k rest)) ≡ break_text b
+    ++ bytes (rest (line_start c.kept))
 unfolding blanks
 new_line_bytes Lf c rest = letter_low 10 _ refl
 new_line_bytes Cr c rest = letter_low 13 _ refl
 new_line_bytes CrLf c rest = letter_low 13 _ refl ∙ ap (λ (bs : List ℕ). 13 ∷ bs) (letter_low 10 _ refl)
 
-line_bytes : (b : LineBreak) (c : Cursor) (rest : Rest) → c.bare ≡ false → bytes (line b 0 c rest) ≡ break_text b ++ bytes (rest (line_start c.kept))
+line_bytes : (b : LineBreak) (c : Cursor) (rest : Rest) → c.bare ≡ false
+    → bytes (line b 0 c rest) ≡ break_text b ++ bytes (rest (line_start c.kept))
 unfolding line
 line_bytes b c rest bare =
     let must : must_break 0 c ≡ true = rw bare refl in
     let k : Rest = λ x. indent_to 0 x rest in
     ap (λ (t : Bool). bytes (if t then new_line b c k else k c)) must ∙ new_line_bytes b c rest
 
-break_stops : (level : ℕ) (b : LineBreak) (bs : List ℕ) → stops_plain_at false level None (break_text b ++ bs) ≡ stops_plain_at false level (Some 0) bs
+break_stops : (level : ℕ) (b : LineBreak) (bs : List ℕ)
+    → stops_plain_at false level None (break_text b ++ bs) ≡ stops_plain_at false level (Some 0) bs
 unfolding stops_plain_at
 break_stops level Lf bs = refl
 break_stops level Cr bs = refl
@@ -151,7 +161,8 @@ break_white Lf bs = refl
 break_white Cr bs = refl
 break_white CrLf bs = refl
 
-pub line_white : (b : LineBreak) (c : Cursor) (rest : Rest) → c.bare ≡ false → begins_white (bytes (line b 0 c rest)) ≡ true
+pub line_white : (b : LineBreak) (c : Cursor) (rest : Rest) → c.bare ≡ false
+    → begins_white (bytes (line b 0 c rest)) ≡ true
 line_white b c rest bare = ap (λ bs. begins_white bs) (line_bytes b c rest bare) ∙ break_white b (bytes (rest (line_start c.kept)))
 
 pub outer_feed : (after : Rest) → EndsRoot after → NoFeed 0 after
@@ -171,6 +182,8 @@ root_ending b after ends = record {
 
 -- ---- the line behind text
 
-pub line_lands : (b : LineBreak) (x : yaml_encoding_t) (text : List ℕ) (c : Cursor) (o : Where) (more : List ℕ) (T : List TokenBody → List TokenBody) (rest : Rest) → Stage x text c o [] more T → NoFeed 0 rest
+pub line_lands : (b : LineBreak) (x : yaml_encoding_t) (text : List ℕ) (c : Cursor) (o : Where)
+    (more : List ℕ) (T : List TokenBody → List TokenBody) (rest : Rest) → Stage x text c o [] more T
+    → NoFeed 0 rest
     → Left text o.at (bytes (line b 0 c rest)) → AtLine x text rest c.kept T
 line_lands b x text c o more T rest s calm l = from_lined x text rest c.kept more T (line_on b 0 x text c o [] more T rest s calm l)

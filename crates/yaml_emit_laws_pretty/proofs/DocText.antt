@@ -33,7 +33,9 @@ use Rattle.yaml_emit_laws_pretty.proofs.DocDirectives.{next_calm, directives_nex
 
 -- ---- the end
 
-ended : (x : yaml_encoding_t) (text : List ℕ) (c : Cursor) (o : Where) (more : List ℕ) (T : List TokenBody → List TokenBody) → Stage x text c o [] more T → Left text o.at (bytes []) → Done x text (T (tokens.stream_end ∷ []))
+ended : (x : yaml_encoding_t) (text : List ℕ) (c : Cursor) (o : Where) (more : List ℕ)
+    (T : List TokenBody → List TokenBody) → Stage x text c o [] more T → Left text o.at (bytes [])
+    → Done x text (T (tokens.stream_end ∷ []))
 ended x text c o more T s l =
     let p = o.at in
     let z : p + 0 ≡ p = omega arith in
@@ -41,8 +43,11 @@ ended x text c o more T s l =
     let comes = marks_come.stops text p 0 [] (no_gap text p (end_begins text p zero_byte)) (ap (λ n. byte text n) z ∙ zero_byte) in
     walk_stops x text o more T [] _ _ s.reads s.flat comes
 
-stop_walks : (s : Settings) (unended kept : Bool) (x : yaml_encoding_t) (text : List ℕ) (o : Where) (more : List ℕ) (T : List TokenBody → List TokenBody) → Stage x text (line_start kept) o [] more T
-    → Left text o.at (bytes (stop_layout s unended (line_start kept) nothing_more)) → Done x text (T (end_bodies (unended && kept) (tokens.stream_end ∷ [])))
+stop_walks : (s : Settings) (unended kept : Bool) (x : yaml_encoding_t) (text : List ℕ) (o : Where)
+    (more : List ℕ) (T : List TokenBody → List TokenBody)
+    → Stage x text (line_start kept) o [] more T
+    → Left text o.at (bytes (stop_layout s unended (line_start kept) nothing_more))
+    → Done x text (T (end_bodies (unended && kept) (tokens.stream_end ∷ [])))
 unfolding stop_layout
 stop_walks s false kept x text o more T st l = ended x text (line_start kept) o more T st l
 stop_walks s true false x text o more T st l = ended x text (line_start false) o more T st l
@@ -53,14 +58,17 @@ stop_walks s true true x text o more T st l =
 -- ---- a document
 
 -- whether its line is bare decides nothing of an item
-item_bodies_same : (p : Context) (flow bare : Bool) (n : Node) (bs : List TokenBody) → node_bodies p flow part.Item bare n bs ≡ node_bodies p flow part.Item true n bs
+item_bodies_same : (p : Context) (flow bare : Bool) (n : Node) (bs : List TokenBody)
+    → node_bodies p flow part.Item bare n bs ≡ node_bodies p flow part.Item true n bs
 unfolding node_bodies
 item_bodies_same p flow bare (alias_node name) bs = refl
 item_bodies_same p flow bare (scalar_node v) bs = refl
 item_bodies_same p flow bare (sequence_node q items) bs = refl
 item_bodies_same p flow bare (mapping_node q pairs) bs = refl
 
-says_as : (x : yaml_encoding_t) (text : List ℕ) (after : Rest) (kept : Bool) (T U : List TokenBody → List TokenBody) → ((bs : List TokenBody) → T bs ≡ U bs) → AtLine x text after kept T → AtLine x text after kept U
+says_as : (x : yaml_encoding_t) (text : List ℕ) (after : Rest) (kept : Bool)
+    (T U : List TokenBody → List TokenBody) → ((bs : List TokenBody) → T bs ≡ U bs)
+    → AtLine x text after kept T → AtLine x text after kept U
 says_as x text after kept T U e a =
     let s = a.stage in
     record {
@@ -71,8 +79,13 @@ says_as x text after kept T U e a =
     }
 
 -- its root and the line behind it
-root_walks : (s : Settings) → RootsWalk (pretty s) → (d : Document) (ds : List Document) → AreWritable (d ∷ ds) → (x : yaml_encoding_t) (text : List ℕ) (c : Cursor) (o : Where) (T : List TokenBody → List TokenBody) → c.kept ≡ false → Stage x text c o [] [] T
-    → Left text o.at (bytes (from_root (pretty s) d ds c)) → AtLine x text (behind_root (pretty s) d.implicit_end ds) (is_root_kept (pretty s) d) (λ bs. T (root_bodies (pretty s) d bs))
+root_walks : (s : Settings) → RootsWalk (pretty s) → (d : Document) (ds : List Document)
+    → AreWritable (d ∷ ds)
+    → (x : yaml_encoding_t) (text : List ℕ) (c : Cursor) (o : Where)
+    (T : List TokenBody → List TokenBody) → c.kept ≡ false → Stage x text c o [] [] T
+    → Left text o.at (bytes (from_root (pretty s) d ds c))
+    → AtLine x text (behind_root (pretty s) d.implicit_end ds) (is_root_kept (pretty s) d)
+    (λ bs. T (root_bodies (pretty s) d bs))
 unfolding indent
 root_walks s roots d ds (right, root, good) x text c o T kept st l =
     let z = pretty s in
@@ -85,7 +98,9 @@ root_walks s roots d ds (right, root, good) x text c o T kept st l =
     subst (λ (b : Bool). AtLine x text after (node_kept p false part.Item d.root b) (λ bs. T (root_bodies z d bs))) kept k
 
 -- behind `...` comes nothing, a directive or `---`
-explicit_calm : (s : Settings) (ds : List Document) (kept : Bool) → first (bytes (documents_layout (pretty s) false false ds (line_start kept) nothing_more)) ≡ 10 → ⊥
+explicit_calm : (s : Settings) (ds : List Document) (kept : Bool)
+    → first (bytes (documents_layout (pretty s) false false ds (line_start kept) nothing_more)) ≡ 10
+    → ⊥
 unfolding documents_layout start_layout stop_layout
 explicit_calm s [] kept = outer_calm (bytes []) nothing_outer
 explicit_calm s (d ∷ ds) kept =
@@ -95,8 +110,11 @@ explicit_calm s (d ∷ ds) kept =
     next_calm _ (directives_next z o (λ e. dashes z e rest) (dashes_next s rest))
 
 -- an explicit end
-end_walks : (s : Settings) (implicit : Bool) (ds : List Document) (x : yaml_encoding_t) (text : List ℕ) (kept : Bool) (T : List TokenBody → List TokenBody) → AtLine x text (behind_root (pretty s) implicit ds) kept T
-    → AtLine x text (λ e. documents_layout (pretty s) false implicit ds e nothing_more) kept (λ bs. T (end_bodies (not implicit) bs))
+end_walks : (s : Settings) (implicit : Bool) (ds : List Document) (x : yaml_encoding_t)
+    (text : List ℕ) (kept : Bool) (T : List TokenBody → List TokenBody)
+    → AtLine x text (behind_root (pretty s) implicit ds) kept T
+    → AtLine x text (λ e. documents_layout (pretty s) false implicit ds e nothing_more) kept
+    (λ bs. T (end_bodies (not implicit) bs))
 end_walks s true ds x text kept T a = a
 end_walks s false ds x text kept T a =
     let rest : Rest = λ e. documents_layout (pretty s) false false ds e nothing_more in
@@ -104,8 +122,13 @@ end_walks s false ds x text kept T a =
 
 -- ---- documents
 
-documents_walk : Directing → (s : Settings) → RootsWalk (pretty s) → (ds : List Document) → AreWritable ds → (fresh unended kept : Bool) (x : yaml_encoding_t) (text : List ℕ) (place : Where) (more : List ℕ) (T : List TokenBody → List TokenBody)
-    → (fresh ≡ true → Fresh more unended) → Stage x text (line_start kept) place [] more T → Left text place.at (bytes (documents_layout (pretty s) fresh unended ds (line_start kept) nothing_more))
+documents_walk : Directing → (s : Settings) → RootsWalk (pretty s) → (ds : List Document)
+    → AreWritable ds
+    → (fresh unended kept : Bool) (x : yaml_encoding_t) (text : List ℕ) (place : Where)
+    (more : List ℕ) (T : List TokenBody → List TokenBody)
+    → (fresh ≡ true → Fresh more unended) → Stage x text (line_start kept) place [] more T
+    → Left text place.at (bytes (documents_layout (pretty s) fresh unended ds (line_start kept)
+    nothing_more))
     → Done x text (T (documents_bodies (pretty s) fresh unended kept ds))
 unfolding documents_layout end_layout documents_bodies
 documents_walk laws s roots [] good fresh unended kept x text place more T first st l = stop_walks (pretty s) unended kept x text place more T st l
@@ -121,11 +144,15 @@ documents_walk laws s roots (d ∷ ds) (right, root, good) fresh unended kept x 
 
 -- ---- the whole text
 
-start_stage : (x : yaml_encoding_t) (text : List ℕ) → Stage x text start (record { at = 0; line = 0; depth = 0; now = true; broken = true }) [] [] (λ bs. tokens.stream_start x ∷ bs)
+start_stage : (x : yaml_encoding_t) (text : List ℕ)
+    → Stage x text start (record { at = 0; line = 0; depth = 0; now = true; broken = true }) [] []
+    (λ bs. tokens.stream_start x ∷ bs)
 unfolding column_at
 start_stage x text = record { reads = walk_starts x text; flat = refl; broken = refl; bare = λ b. (refl, refl); line = omega arith }
 
-text_done : Directing → (s : Settings) → RootsWalk (pretty s) → (x : yaml_encoding_t) (ds : List Document) → AreWritable ds → Done x (text_of_documents (pretty s) ds) (tokens.stream_start x ∷ stream_bodies (pretty s) ds)
+text_done : Directing → (s : Settings) → RootsWalk (pretty s)
+    → (x : yaml_encoding_t) (ds : List Document) → AreWritable ds
+    → Done x (text_of_documents (pretty s) ds) (tokens.stream_start x ∷ stream_bodies (pretty s) ds)
 text_done laws s roots x ds good =
     let text = text_of_documents (pretty s) ds in
     documents_walk laws s roots ds good true false false x text (record { at = 0; line = 0; depth = 0; now = true; broken = true }) [] (λ bs. tokens.stream_start x ∷ bs) (λ f. record { none = refl; ended = refl }) (start_stage x text)

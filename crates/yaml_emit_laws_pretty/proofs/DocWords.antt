@@ -25,21 +25,31 @@ pub percent_begins : (text : List ℕ) (p : ℕ) → byte text p ≡ 37 → begi
 unfolding break_of
 percent_begins text p h = sign_starts text p 37 h refl refl refl refl (λ c d. refl)
 
-pub percent_kind : (text : List ℕ) (p : ℕ) → byte text p ≡ 37 → column_at text p ≡ 0 → kind_at false text p ≡ Some kinds.Directive
+pub percent_kind : (text : List ℕ) (p : ℕ) → byte text p ≡ 37 → column_at text p ≡ 0
+    → kind_at false text p ≡ Some kinds.Directive
 unfolding kind_at
 percent_kind text p h z = rw (h, z) refl
 
-pub directive_word : (text : List ℕ) (p : ℕ) → word_at kinds.Directive false 0 text p ≡ directed (directive_at text p)
+pub directive_word : (text : List ℕ) (p : ℕ)
+    → word_at kinds.Directive false 0 text p ≡ directed (directive_at text p)
 unfolding word_at
 directive_word text p = refl
 
-pub said_directive : (r : Result DirectiveText Wrong) (d : DirectiveText) → r ≡ Ok d → directed r ≡ Ok (record { body = body_said d.said; end = d.end; reached = d.place; broke = false })
+pub said_directive : (r : Result DirectiveText Wrong) (d : DirectiveText) → r ≡ Ok d
+    → directed r ≡ Ok (record {
+      body = body_said d.said;
+      end = d.end;
+      reached = d.place;
+      broke =
+          false;
+    })
 said_directive r d e = rw e refl
 
 -- From a line's start the layout writes `%`, these bytes and the line's end.
 pub record WritesLine (a : Layout) (b : LineBreak) (xs : List ℕ) (kept : Bool) : Type 0 where
   pub behind : Cursor
-  pub same : (rest : Rest) → bytes (a (line_start kept) rest) ≡ 37 ∷ (xs ++ bytes (line b 0 behind rest))
+  pub same : (rest : Rest)
+      → bytes (a (line_start kept) rest) ≡ 37 ∷ (xs ++ bytes (line b 0 behind rest))
   pub bare : behind.bare ≡ false
   pub still : behind.kept ≡ kept
 
@@ -53,7 +63,9 @@ ReadsLine xs said = (text : List ℕ) (p : ℕ) → Has text p (37 ∷ xs) → i
 abbrev pub version_line : LineBreak → List ℕ → Layout
 version_line b t = word (codes "%YAML") ▹ (word t ▹ line b 0)
 
-pub version_writes : (b : LineBreak) (x : ℕ) → nat_lt x 128 ≡ true → (kept : Bool) → WritesLine (version_line b (49 ∷ 46 ∷ x ∷ [])) b (89 ∷ 65 ∷ 77 ∷ 76 ∷ 32 ∷ 49 ∷ 46 ∷ x ∷ []) kept
+pub version_writes : (b : LineBreak) (x : ℕ) → nat_lt x 128 ≡ true → (kept : Bool)
+    → WritesLine (version_line b (49 ∷ 46 ∷ x ∷ [])) b (89 ∷ 65 ∷ 77 ∷ 76 ∷ 32 ∷ 49 ∷ 46 ∷ x ∷ [])
+    kept
 unfolding letters encode char_bytes
 version_writes b x low kept = record { behind = record { column = 9; white = false; bare = false; kept = kept }; same = λ rest. rw low refl; bare = refl; still = refl }
 
@@ -80,7 +92,9 @@ letters_are (x ∷ xs) are c =
       kept = r.kept;
     }
 
-pub tag_front : (kept : Bool) (rest : Rest) → bytes (letters (codes "%TAG") (line_start kept) rest) ≡ 37 ∷ 84 ∷ 65 ∷ 71 ∷ bytes (rest (record { column = 4; white = false; bare = false; kept = kept }))
+pub tag_front : (kept : Bool) (rest : Rest)
+    → bytes (letters (codes "%TAG") (line_start kept) rest) ≡ 37 ∷ 84 ∷ 65 ∷ 71
+    ∷ bytes (rest (record { column = 4; white = false; bare = false; kept = kept }))
 unfolding letters encode char_bytes
 tag_front kept rest = refl
 
@@ -94,11 +108,13 @@ record Spaces (xs : List ℕ) (c : Cursor) : Type 0 where
 abbrev spaced : Cursor → Cursor
 spaced c = record { column = c.column + 1; white = true; bare = c.bare; kept = c.kept }
 
-space_here : (xs : List ℕ) (c : Cursor) → c.white ≡ false → (rest : Rest) → bytes (word xs c rest) ≡ 32 ∷ bytes (letters xs (spaced c) rest)
+space_here : (xs : List ℕ) (c : Cursor) → c.white ≡ false → (rest : Rest)
+    → bytes (word xs c rest) ≡ 32 ∷ bytes (letters xs (spaced c) rest)
 space_here xs c white rest =
     ap (λ (t : Bool). bytes (if t then letters xs c rest else blank c (λ e. letters xs e rest))) white ∙ letter_low 32 (letters xs (spaced c) rest) refl
 
-spaces : (xs : List ℕ) → are_ascii xs ≡ true → (c : Cursor) → c.white ≡ false → c.bare ≡ false → Spaces xs c
+spaces : (xs : List ℕ) → are_ascii xs ≡ true → (c : Cursor) → c.white ≡ false → c.bare ≡ false
+    → Spaces xs c
 spaces xs low c white bare =
     let r = letters_are xs low (spaced c) in
     record { behind = r.behind; same = λ rest. space_here xs c white rest ∙ ap (λ (t : List ℕ). 32 ∷ t) (r.same rest); bare = r.bare bare; kept = r.kept }
@@ -111,7 +127,8 @@ record Handles (xs : List ℕ) (c : Cursor) : Type 0 where
   bare : behind.bare ≡ false
   kept : behind.kept ≡ c.kept
 
-handle_spaced : (more : List ℕ) → are_ascii more ≡ true → (c : Cursor) → c.white ≡ false → Handles (33 ∷ more) c
+handle_spaced : (more : List ℕ) → are_ascii more ≡ true → (c : Cursor) → c.white ≡ false
+    → Handles (33 ∷ more) c
 unfolding letters
 handle_spaced more low c white =
     let r = letters_are more low (lettered_on (spaced c)) in
@@ -129,7 +146,9 @@ handles xs h c white = subst (λ (ys : List ℕ). Handles ys c) (sym h.begins) (
 abbrev pub tag_line : LineBreak → List ℕ → List ℕ → Layout
 tag_line b handle uri = word (codes "%TAG") ▹ (word handle ▹ (word uri ▹ line b 0))
 
-pub tag_writes : (b : LineBreak) (handle uri : List ℕ) → IsMarked handle → are_ascii uri ≡ true → (kept : Bool) → WritesLine (tag_line b handle uri) b (84 ∷ 65 ∷ 71 ∷ 32 ∷ (handle ++ (32 ∷ uri))) kept
+pub tag_writes : (b : LineBreak) (handle uri : List ℕ) → IsMarked handle → are_ascii uri ≡ true
+    → (kept : Bool)
+    → WritesLine (tag_line b handle uri) b (84 ∷ 65 ∷ 71 ∷ 32 ∷ (handle ++ (32 ∷ uri))) kept
 tag_writes b handle uri marked low kept =
     let c : Cursor = record { column = 4; white = false; bare = false; kept = kept } in
     let h = handles handle marked c refl in

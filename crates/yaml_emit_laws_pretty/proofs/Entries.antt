@@ -34,11 +34,13 @@ no_gap text p e = let z : p + 0 ≡ p = omega arith in record { has = λ k few. 
 
 -- ---- white in bytes is white in the text
 
-space_white : (c d b : ℕ) → (b == 32 || (b == 10 || b == 13)) ≡ true → (((b == 32 || b == 9) || b == 0) || nat_lt 0 (break_of b c d)) ≡ true
+space_white : (c d b : ℕ) → (b == 32 || (b == 10 || b == 13)) ≡ true
+    → (((b == 32 || b == 9) || b == 0) || nat_lt 0 (break_of b c d)) ≡ true
 unfolding break_of
 space_white c d b e = grind (arith, nat_tests)
 
-pub white_stands : (text : List ℕ) (p : ℕ) (bs : List ℕ) → Left text p bs → begins_white bs ≡ true → is_blank_or_end text p ≡ true
+pub white_stands : (text : List ℕ) (p : ℕ) (bs : List ℕ) → Left text p bs → begins_white bs ≡ true
+    → is_blank_or_end text p ≡ true
 white_stands text p [] l e = let z = first_byte text p [] l in rw z refl
 white_stands text p (b ∷ bs) l e = space_white (byte text (p + 1)) (byte text (p + 2)) (byte text p) (ap (λ x. is_gap_byte x) (left_first text p b bs l) ∙ e)
 
@@ -64,12 +66,15 @@ mark_prints Entry = (omega arith, omega arith, λ y. omega (arith, y))
 mark_prints Question = (omega arith, omega arith, λ y. omega (arith, y))
 mark_prints Answer = (omega arith, omega arith, λ y. omega (arith, y))
 
-mark_starts : (k : Mark) → (is_start (mark_kind k) ≡ true) × (level_of (mark_kind k) ≡ mark_level k) × (allows_key (mark_kind k) true false ≡ true)
+mark_starts : (k : Mark)
+    → (is_start (mark_kind k) ≡ true) × (level_of (mark_kind k) ≡ mark_level k)
+    × (allows_key (mark_kind k) true false ≡ true)
 mark_starts Entry = (refl, refl, refl)
 mark_starts Question = (refl, refl, refl)
 mark_starts Answer = (refl, refl, refl)
 
-lone_at : (k : Mark) (text : List ℕ) (o : Where) (q : ℕ) → q ≡ o.at → IsLone k text o → is_value (mark_kind k) ≡ true → o.line < line_at text q
+lone_at : (k : Mark) (text : List ℕ) (o : Where) (q : ℕ) → q ≡ o.at → IsLone k text o
+    → is_value (mark_kind k) ≡ true → o.line < line_at text q
 lone_at Entry text o q e l v = absurd (false≢true v)
 lone_at Question text o q e l v = absurd (false≢true v)
 lone_at Answer text o q e l v = subst (λ n. o.line < line_at text n) (sym e) l

@@ -50,7 +50,8 @@ bracket_is : (b : ℕ) → (b == 44 || (b == 93 || b == 125)) ≡ true → is_br
 unfolding is_bracket
 bracket_is b e = grind (arith, nat_tests)
 
-bracket_calm : (b : ℕ) (bs : List ℕ) → (b == 44 || (b == 93 || b == 125)) ≡ true → no_comment (b ∷ bs) ≡ true
+bracket_calm : (b : ℕ) (bs : List ℕ) → (b == 44 || (b == 93 || b == 125)) ≡ true
+    → no_comment (b ∷ bs) ≡ true
 unfolding no_comment
 bracket_calm b bs e =
     let a : (b == 32 || (b == 10 || b == 13)) ≡ false = grind (arith, nat_tests) in
@@ -67,14 +68,16 @@ bracket_follows rest b = record {
 abbrev lettered_on : Cursor → Cursor
 lettered_on c = record { column = c.column + 1; white = false; bare = false; kept = c.kept }
 
-pub items_follow_in : (s : Settings) (ds : List TagDirective) (n : ℕ) (xs : Nodes) (rest : Rest) → FollowsIn (λ c. items_layout (prettily s ds) true n false xs c rest)
+pub items_follow_in : (s : Settings) (ds : List TagDirective) (n : ℕ) (xs : Nodes) (rest : Rest)
+    → FollowsIn (λ c. items_layout (prettily s ds) true n false xs c rest)
 unfolding items_layout before_item closer
 items_follow_in s ds n no_nodes rest = bracket_follows (λ c. char 93 c rest) (record { byte = 93; is = refl; more = λ e. bytes (rest (lettered_on e)); same = λ e. letter_low 93 (rest (lettered_on e)) refl })
 items_follow_in s ds n (node x xs) rest =
     let after : Rest = λ d. items_layout (prettily s ds) true n true (node x xs) d rest in
     bracket_follows (λ c. char 44 c after) (record { byte = 44; is = refl; more = λ e. bytes (after (lettered_on e)); same = λ e. letter_low 44 (after (lettered_on e)) refl })
 
-pub pairs_follow_in : (s : Settings) (ds : List TagDirective) (n : ℕ) (ps : Pairs) (rest : Rest) → FollowsIn (λ c. pairs_layout (prettily s ds) true n false ps c rest)
+pub pairs_follow_in : (s : Settings) (ds : List TagDirective) (n : ℕ) (ps : Pairs) (rest : Rest)
+    → FollowsIn (λ c. pairs_layout (prettily s ds) true n false ps c rest)
 unfolding pairs_layout before_key closer
 pairs_follow_in s ds n no_pairs rest = bracket_follows (λ c. char 125 c rest) (record { byte = 125; is = refl; more = λ e. bytes (rest (lettered_on e)); same = λ e. letter_low 125 (rest (lettered_on e)) refl })
 pairs_follow_in s ds n (pair k v ps) rest =
@@ -92,12 +95,16 @@ unfolding no_comment
 space_calm bs = refl
 
 -- behind white
-colon_bytes : (d : Cursor) (after : Rest) → d.white ≡ true → bytes (word (58 ∷ []) d after) ≡ 58 ∷ bytes (after (lettered_on d))
+colon_bytes : (d : Cursor) (after : Rest) → d.white ≡ true
+    → bytes (word (58 ∷ []) d after) ≡ 58 ∷ bytes (after (lettered_on d))
 unfolding letters
 colon_bytes d after white = ap (λ (b : Bool). bytes (if b then char 58 d after else blank d (λ k. char 58 k after))) white ∙ letter_low 58 (after (lettered_on d)) refl
 
 -- behind text
-spaced_bytes : (d : Cursor) (after : Rest) → d.white ≡ false → bytes (word (58 ∷ []) d after) ≡ 32 ∷ 58 ∷ bytes (after (lettered_on (record { column = d.column + 1; white = true; bare = d.bare; kept = d.kept })))
+spaced_bytes : (d : Cursor) (after : Rest) → d.white ≡ false
+    → bytes (word (58 ∷ []) d after) ≡ 32 ∷ 58
+    ∷ bytes (after (lettered_on (record
+    { column = d.column + 1; white = true; bare = d.bare; kept = d.kept })))
 unfolding letters
 spaced_bytes d after white =
     let e : Cursor = record { column = d.column + 1; white = true; bare = d.bare; kept = d.kept } in
@@ -112,7 +119,8 @@ white_ends : (bs : List ℕ) → begins_white bs ≡ true → ends_name bs ≡ t
 white_ends [] e = refl
 white_ends (b ∷ bs) e = or_left (begins_white (b ∷ bs)) (b == 44 || (b == 93 || b == 125)) e
 
-answer_line : (b : LineBreak) (n : ℕ) (e : Cursor) (after : Rest) → PartedBehind after → e.bare ≡ false → AnswerBytes (bytes (line b n e (λ d. word (58 ∷ []) d after)))
+answer_line : (b : LineBreak) (n : ℕ) (e : Cursor) (after : Rest) → PartedBehind after
+    → e.bare ≡ false → AnswerBytes (bytes (line b n e (λ d. word (58 ∷ []) d after)))
 answer_line b n e after parted bare =
     let d = after_blanks n (line_start e) in
     let tail = bytes (after (lettered_on d)) in
@@ -124,7 +132,8 @@ answer_line b n e after parted bare =
       name = white_ends (bytes (line b n e (λ k. word (58 ∷ []) k after))) (ap (λ bs. begins_white bs) same ∙ line_white b (replicate n 32 ++ (58 ∷ tail)));
     }
 
-answer_here : (e : Cursor) (after : Rest) → PartedBehind after → e.white ≡ false → AnswerBytes (bytes (word (58 ∷ []) e after))
+answer_here : (e : Cursor) (after : Rest) → PartedBehind after → e.white ≡ false
+    → AnswerBytes (bytes (word (58 ∷ []) e after))
 answer_here e after parted white =
     let d : Cursor = record { column = e.column + 1; white = true; bare = e.bare; kept = e.kept } in
     let tail = bytes (after (lettered_on d)) in
@@ -135,7 +144,9 @@ answer_here e after parted white =
       name = ap (λ bs. ends_name bs) same;
     }
 
-answer_bytes : (width : ℕ) (b : LineBreak) (n : ℕ) (e : Cursor) (after : Rest) → PartedBehind after → e.bare ≡ false → e.white ≡ false → AnswerBytes (bytes (wrap width b n e (λ d. word (58 ∷ []) d after)))
+answer_bytes : (width : ℕ) (b : LineBreak) (n : ℕ) (e : Cursor) (after : Rest) → PartedBehind after
+    → e.bare ≡ false → e.white ≡ false
+    → AnswerBytes (bytes (wrap width b n e (λ d. word (58 ∷ []) d after)))
 answer_bytes width b n e after parted bare white =
     let k : Rest = λ d. word (58 ∷ []) d after in
     elim (cases_Bool (is_past width e)) [
@@ -143,7 +154,8 @@ answer_bytes width b n e after parted bare white =
       | inr h ↦ subst (λ (t : Bool). AnswerBytes (bytes (if t then line b n e k else k e))) (sym h) (answer_here e after parted white)
     ]
 
-pub answer_follows : (width : ℕ) (b : LineBreak) (n : ℕ) (after : Rest) → PartedBehind after → FollowsIn (λ e. wrap width b n e (λ d. word (58 ∷ []) d after))
+pub answer_follows : (width : ℕ) (b : LineBreak) (n : ℕ) (after : Rest) → PartedBehind after
+    → FollowsIn (λ e. wrap width b n e (λ d. word (58 ∷ []) d after))
 answer_follows width b n after parted = record {
   stops = λ level e bare white. (answer_bytes width b n e after parted bare white).stops level;
   calm = λ e bare white. (answer_bytes width b n e after parted bare white).calm;
@@ -165,18 +177,22 @@ gap_spaced a rest e white =
     let k : Rest = λ c. a c rest in
     ap (λ (t : Bool). first (bytes (if t then k e else blank e k))) white ∙ ap (λ (bs : List ℕ). first bs) (letter_low 32 _ refl)
 
-pub checked_spaced : (n : ℕ) (a : Layout) (rest : Rest) → Spaced (λ e. a e rest) → Spaced (λ e. (checked n ▹ a) e rest)
+pub checked_spaced : (n : ℕ) (a : Layout) (rest : Rest) → Spaced (λ e. a e rest)
+    → Spaced (λ e. (checked n ▹ a) e rest)
 checked_spaced n a rest h e white = ap (λ (bs : List ℕ). first bs) (deep_bytes (nat_lt MOST n) (a e rest)) ∙ h e white
 
-pub tag_spaced : (p : Context) (tag : Option (List ℕ)) (a : Layout) (rest : Rest) → Spaced (λ e. a e rest) → Spaced (λ e. (properties_text p None tag ▹ a) e rest)
+pub tag_spaced : (p : Context) (tag : Option (List ℕ)) (a : Layout) (rest : Rest)
+    → Spaced (λ e. a e rest) → Spaced (λ e. (properties_text p None tag ▹ a) e rest)
 tag_spaced p None a rest h = h
 tag_spaced p (Some t) a rest h = gap_spaced (letters (tag_spelling p.directives t) ▹ a) rest
 
-pub properties_spaced : (p : Context) (anchor tag : Option (List ℕ)) (a : Layout) (rest : Rest) → Spaced (λ e. a e rest) → Spaced (λ e. (properties_text p anchor tag ▹ a) e rest)
+pub properties_spaced : (p : Context) (anchor tag : Option (List ℕ)) (a : Layout) (rest : Rest)
+    → Spaced (λ e. a e rest) → Spaced (λ e. (properties_text p anchor tag ▹ a) e rest)
 properties_spaced p None tag a rest h = tag_spaced p tag a rest h
 properties_spaced p (Some name) tag a rest h = gap_spaced (letters (38 ∷ name) ▹ (properties_text p None tag ▹ a)) rest
 
-pub mark_spaced : (b : Bool) (a : Layout) (rest : Rest) → Spaced (λ e. a e rest) → Spaced (λ e. (when b (word (33 ∷ [])) ▹ a) e rest)
+pub mark_spaced : (b : Bool) (a : Layout) (rest : Rest) → Spaced (λ e. a e rest)
+    → Spaced (λ e. (when b (word (33 ∷ [])) ▹ a) e rest)
 mark_spaced true a rest h = gap_spaced (letters (33 ∷ []) ▹ a) rest
 mark_spaced false a rest h = h
 
@@ -184,7 +200,8 @@ abbrev from_sign : Page → ℕ → Bool → List ℕ → Layout
 from_sign page digit folded value = (char (if folded then 62 else 124) ▹ (digit_mark digit value ▹ chomp_mark (chomp true true value))) ▹ (new_line page.line_break ▹ (block_body page folded true 10 value ▹ after_block))
 
 -- in brackets a space stands in front of a scalar of every style
-pub text_spaced : (page : Page) (digit : ℕ) (s : Style) (value : List ℕ) (rest : Rest) → Spaced (λ e. scalar_text page digit true s value e rest)
+pub text_spaced : (page : Page) (digit : ℕ) (s : Style) (value : List ℕ) (rest : Rest)
+    → Spaced (λ e. scalar_text page digit true s value e rest)
 unfolding scalar_text
 text_spaced page digit style.Plain value rest = gap_spaced (flow_body page false 32 value ▹ after_text) rest
 text_spaced page digit style.Single value rest = gap_spaced (char 39 ▹ (flow_body page true 32 value ▹ char 39)) rest

@@ -67,25 +67,30 @@ inside_so n d e = grind (arith, nat_tests)
 out_at : (n d : ℕ) (cs : List ℕ) → n ≡ d + 1 → Outside (d + 1) cs → Outside n cs
 out_at n d cs e out = subst (λ (m : ℕ). Outside m cs) (sym e) out
 
-kept_as : (x : yaml_encoding_t) (text : List ℕ) (rest : Rest) (a b : Bool) (d : ℕ) (cs ls : List ℕ) (T : List TokenBody → List TokenBody) → a ≡ b → Closed x text rest a d cs ls T → Closed x text rest b d cs ls T
+kept_as : (x : yaml_encoding_t) (text : List ℕ) (rest : Rest) (a b : Bool) (d : ℕ) (cs ls : List ℕ)
+    (T : List TokenBody → List TokenBody) → a ≡ b → Closed x text rest a d cs ls T
+    → Closed x text rest b d cs ls T
 kept_as x text rest a b d cs ls T e g = subst (λ (k : Bool). Closed x text rest k d cs ls T) e g
 
 -- ---- the closing bracket
 
-sequence_shut : (ls : List ℕ) (rest : Rest) → MoreIn (char 93) (λ bs. tokens.flow_sequence_end ∷ bs) ls rest
+sequence_shut : (ls : List ℕ) (rest : Rest)
+    → MoreIn (char 93) (λ bs. tokens.flow_sequence_end ∷ bs) ls rest
 sequence_shut ls rest c bare x text o d cs T r deep out l =
     let e = lettered_on c in
     let g = closer_on false x text (bytes (rest e)) o d cs ls T r deep out (left_letter text o.at 93 (rest e) refl l) in
     record { behind = e; place = g.place; reads = g.reads; deep = g.deep; now = g.begin; broken = g.broken; left = g.left; bare = refl; white = refl; same = refl }
 
-mapping_shut : (ls : List ℕ) (rest : Rest) → MoreIn (char 125) (λ bs. tokens.flow_mapping_end ∷ bs) ls rest
+mapping_shut : (ls : List ℕ) (rest : Rest)
+    → MoreIn (char 125) (λ bs. tokens.flow_mapping_end ∷ bs) ls rest
 mapping_shut ls rest c bare x text o d cs T r deep out l =
     let e = lettered_on c in
     let g = closer_on true x text (bytes (rest e)) o d cs ls T r deep out (left_letter text o.at 125 (rest e) refl l) in
     record { behind = e; place = g.place; reads = g.reads; deep = g.deep; now = g.begin; broken = g.broken; left = g.left; bare = refl; white = refl; same = refl }
 
 -- behind a comma a key may begin
-comma_then : (a : Layout) (B : List TokenBody → List TokenBody) (ls : List ℕ) (rest : Rest) → BodyIn a B ls rest → MoreIn (char 44 ▹ a) (λ bs. tokens.flow_entry ∷ B bs) ls rest
+comma_then : (a : Layout) (B : List TokenBody → List TokenBody) (ls : List ℕ) (rest : Rest)
+    → BodyIn a B ls rest → MoreIn (char 44 ▹ a) (λ bs. tokens.flow_entry ∷ B bs) ls rest
 comma_then a B ls rest body c bare x text o d cs T r deep out l =
     let e = lettered_on c in
     let g = comma_on x text (bytes (a e rest)) o cs ls T r (inside_so o.depth d deep) (out_at o.depth d cs deep out) (left_letter text o.at 44 (a e rest) refl l) in
@@ -107,7 +112,8 @@ pub items_closed : (s : Settings) (ds : List TagDirective) → MoreItems s ds no
 unfolding items_layout closer items_bodies
 items_closed s ds n ls low rest c bare x text o d cs T r deep out l = sequence_shut ls rest c bare x text o d cs T r deep out l
 
-pub items_first : (s : Settings) (ds : List TagDirective) (y : Node) (xs : Nodes) → NodeIn s ds y → MoreItems s ds xs → FirstItems s ds (node y xs)
+pub items_first : (s : Settings) (ds : List TagDirective) (y : Node) (xs : Nodes) → NodeIn s ds y
+    → MoreItems s ds xs → FirstItems s ds (node y xs)
 unfolding items_layout before_item turned items_bodies
 items_first s ds y xs one more n ls low rest c bare x text o d cs T r deep now out l =
     let p = prettily s ds in
@@ -119,7 +125,8 @@ items_first s ds y xs one more n ls low rest c bare x text o d cs T r deep now o
     let h = more n ls low rest g.behind g.bare x text g.place d cs (λ bs. T (node_bodies p true part.Item true y bs)) g.reads (g.deep ∙ deep1) out g.left in
     kept_as x text rest g.behind.kept c.kept d cs ls (λ bs. T (node_bodies p true part.Item true y (items_bodies p true false xs (tokens.flow_sequence_end ∷ bs)))) (g.same ∙ t.same) h
 
-pub items_more : (s : Settings) (ds : List TagDirective) (y : Node) (xs : Nodes) → FirstItems s ds (node y xs) → MoreItems s ds (node y xs)
+pub items_more : (s : Settings) (ds : List TagDirective) (y : Node) (xs : Nodes)
+    → FirstItems s ds (node y xs) → MoreItems s ds (node y xs)
 unfolding items_layout before_item items_bodies
 items_more s ds y xs whole n ls low rest =
     let p = prettily s ds in
@@ -142,8 +149,11 @@ unfolding pairs_layout closer pairs_bodies
 pairs_closed s ds n ls low rest c bare x text o d cs T r deep out l = mapping_shut ls rest c bare x text o d cs T r deep out l
 
 -- a value, and the pairs behind it
-value_in : (s : Settings) (ds : List TagDirective) (v : Node) (ps : Pairs) → NodeIn s ds v → MorePairs s ds ps → (bare : Bool) (n : ℕ) (ls : List ℕ) → indent ls ≤ n → (rest : Rest)
-    → MoreIn (node_layout (prettily s ds) (spot true n part.Value) v ▹ pairs_layout (prettily s ds) true n false ps) (λ bs. node_bodies (prettily s ds) true part.Value bare v (pairs_bodies (prettily s ds) true false ps (tokens.flow_mapping_end ∷ bs))) ls rest
+value_in : (s : Settings) (ds : List TagDirective) (v : Node) (ps : Pairs) → NodeIn s ds v
+    → MorePairs s ds ps → (bare : Bool) (n : ℕ) (ls : List ℕ) → indent ls ≤ n → (rest : Rest)
+    → MoreIn (node_layout (prettily s ds) (spot true n part.Value) v ▹ pairs_layout (prettily s ds)
+    true n false ps) (λ bs. node_bodies (prettily s ds) true part.Value bare v
+    (pairs_bodies (prettily s ds) true false ps (tokens.flow_mapping_end ∷ bs))) ls rest
 value_in s ds v ps value more b n ls low rest c bare x text o d cs T r deep out l =
     let p = prettily s ds in
     let after : Rest = λ k. pairs_layout p true n false ps k rest in
@@ -154,7 +164,10 @@ value_in s ds v ps value more b n ls low rest c bare x text o d cs T r deep out 
 -- ---- a `?`, its key and its `:`
 
 -- a byte that is a word, behind the space that is due
-sign_left : (b : ℕ) → nat_lt b 128 ≡ true → (x : yaml_encoding_t) (text : List ℕ) (c : Cursor) (rest : Rest) (o : Where) (cs ls : List ℕ) (T : List TokenBody → List TokenBody) → Reads x text o cs ls [] T → Left text o.at (bytes (word (b ∷ []) c rest))
+sign_left : (b : ℕ) → nat_lt b 128 ≡ true
+    → (x : yaml_encoding_t) (text : List ℕ) (c : Cursor) (rest : Rest) (o : Where) (cs ls : List ℕ)
+    (T : List TokenBody → List TokenBody) → Reads x text o cs ls [] T
+    → Left text o.at (bytes (word (b ∷ []) c rest))
     → Space x text (b ∷ bytes (rest (lettered_on (behind_gap c.white c)))) o cs ls [] T
 unfolding letters
 sign_left b low x text c rest o cs ls T r l =
@@ -174,7 +187,9 @@ record Asked (x : yaml_encoding_t) (text : List ℕ) (rest : Rest) (kept : Bool)
   bare : cursor.bare ≡ false
   same : cursor.kept ≡ kept
 
-ask_then : (x : yaml_encoding_t) (text : List ℕ) (c : Cursor) (rest : Rest) (o : Where) (d : ℕ) (cs ls : List ℕ) (T : List TokenBody → List TokenBody) → Spaced rest → Reads x text o cs ls [] T → o.depth ≡ d + 1 → Outside (d + 1) cs → Left text o.at (bytes (word (63 ∷ []) c rest))
+ask_then : (x : yaml_encoding_t) (text : List ℕ) (c : Cursor) (rest : Rest) (o : Where) (d : ℕ)
+    (cs ls : List ℕ) (T : List TokenBody → List TokenBody) → Spaced rest → Reads x text o cs ls [] T
+    → o.depth ≡ d + 1 → Outside (d + 1) cs → Left text o.at (bytes (word (63 ∷ []) c rest))
     → Asked x text rest c.kept d ((d + 1) ∷ cs) ls (λ bs. T (tokens.key ∷ bs))
 ask_then x text c rest o d cs ls T spaced r deep out l =
     let e = lettered_on (behind_gap c.white c) in
@@ -192,7 +207,10 @@ ask_then x text c rest o d cs ls T spaced r deep out l =
       same = gap_kept c.white c;
     }
 
-answer_then : (x : yaml_encoding_t) (text : List ℕ) (c : Cursor) (rest : Rest) (o : Where) (d : ℕ) (cs ls : List ℕ) (T : List TokenBody → List TokenBody) → Spaced rest → Reads x text o ((d + 1) ∷ cs) ls [] T → o.depth ≡ d + 1 → Outside (d + 1) cs → Left text o.at (bytes (word (58 ∷ []) c rest))
+answer_then : (x : yaml_encoding_t) (text : List ℕ) (c : Cursor) (rest : Rest) (o : Where) (d : ℕ)
+    (cs ls : List ℕ) (T : List TokenBody → List TokenBody) → Spaced rest
+    → Reads x text o ((d + 1) ∷ cs) ls [] T → o.depth ≡ d + 1 → Outside (d + 1) cs
+    → Left text o.at (bytes (word (58 ∷ []) c rest))
     → Asked x text rest c.kept d cs ls (λ bs. T (tokens.value ∷ bs))
 answer_then x text c rest o d cs ls T spaced r deep out l =
     let e = lettered_on (behind_gap c.white c) in
@@ -212,23 +230,40 @@ answer_then x text c rest o d cs ls T spaced r deep out l =
     }
 
 -- the key of a `?`
-asked_key : (s : Settings) (ds : List TagDirective) (k : Node) → NodeIn s ds k → (n : ℕ) (ls : List ℕ) → indent ls ≤ n → (after : Rest) → Spaced after → (x : yaml_encoding_t) (text : List ℕ) (c : Cursor) (o : Where) (d : ℕ) (cs : List ℕ) (T : List TokenBody → List TokenBody)
-    → Reads x text o ((d + 1) ∷ cs) ls [] T → o.depth ≡ d + 1 → o.now ≡ false → Outside (d + 1) cs → Left text o.at (bytes (node_layout (prettily s ds) (spot true n part.Key) k c (λ e. wrap s.width s.line_break n e (λ f. word (58 ∷ []) f after))))
-    → GoesIn x text (λ e. wrap s.width s.line_break n e (λ f. word (58 ∷ []) f after)) c.kept o.depth ((d + 1) ∷ cs) ls (λ bs. T (node_bodies (prettily s ds) true part.Key true k bs))
+asked_key : (s : Settings) (ds : List TagDirective) (k : Node) → NodeIn s ds k
+    → (n : ℕ) (ls : List ℕ) → indent ls ≤ n → (after : Rest) → Spaced after
+    → (x : yaml_encoding_t) (text : List ℕ) (c : Cursor) (o : Where) (d : ℕ) (cs : List ℕ)
+    (T : List TokenBody → List TokenBody)
+    → Reads x text o ((d + 1) ∷ cs) ls [] T → o.depth ≡ d + 1 → o.now ≡ false → Outside (d + 1) cs
+    → Left text o.at (bytes (node_layout (prettily s ds) (spot true n part.Key) k c
+    (λ e. wrap s.width s.line_break n e (λ f. word (58 ∷ []) f after))))
+    → GoesIn x text (λ e. wrap s.width s.line_break n e (λ f. word (58 ∷ []) f after)) c.kept
+    o.depth ((d + 1) ∷ cs) ls (λ bs. T (node_bodies (prettily s ds) true part.Key true k bs))
 asked_key s ds k key n ls low after parted x text c o d cs T r deep now out l =
     key n part.Key refl true ls low (λ e. wrap s.width s.line_break n e (λ f. word (58 ∷ []) f after)) (answer_follows s.width s.line_break n after (λ e f w. space_parts (bytes (after e)) (parted e w))) c x text o ((d + 1) ∷ cs) T r (inside_so o.depth d deep)
     (inr (cs, ap (λ (i : ℕ). i ∷ cs) (sym deep), out_at o.depth d cs deep out, now)) l
 
 -- its `:`, on the same line or a later one
-asked_answer : (s : Settings) (n : ℕ) (after : Rest) → Spaced after → (x : yaml_encoding_t) (text : List ℕ) (c : Cursor) (o : Where) (d : ℕ) (cs ls : List ℕ) (T : List TokenBody → List TokenBody) → c.bare ≡ false → Reads x text o ((d + 1) ∷ cs) ls [] T → o.depth ≡ d + 1 → Outside (d + 1) cs
-    → Left text o.at (bytes (wrap s.width s.line_break n c (λ f. word (58 ∷ []) f after))) → Asked x text after c.kept d cs ls (λ bs. T (tokens.value ∷ bs))
+asked_answer : (s : Settings) (n : ℕ) (after : Rest) → Spaced after
+    → (x : yaml_encoding_t) (text : List ℕ) (c : Cursor) (o : Where) (d : ℕ) (cs ls : List ℕ)
+    (T : List TokenBody → List TokenBody) → c.bare ≡ false → Reads x text o ((d + 1) ∷ cs) ls [] T
+    → o.depth ≡ d + 1 → Outside (d + 1) cs
+    → Left text o.at (bytes (wrap s.width s.line_break n c (λ f. word (58 ∷ []) f after)))
+    → Asked x text after c.kept d cs ls (λ bs. T (tokens.value ∷ bs))
 asked_answer s n after parted x text c o d cs ls T bare r deep out l =
     let t = wrap_in s.width s.line_break n x text c (λ f. word (58 ∷ []) f after) o ((d + 1) ∷ cs) ls T bare r l in
     let v = answer_then x text t.cursor after t.place d cs ls T parted t.reads (t.deep ∙ deep) out t.left in
     record { cursor = v.cursor; place = v.place; reads = v.reads; deep = v.deep; now = v.now; left = v.left; bare = v.bare; same = v.same ∙ t.same }
 
-asked_in : (s : Settings) (ds : List TagDirective) (k : Node) → NodeIn s ds k → (n : ℕ) (ls : List ℕ) → indent ls ≤ n → (a : Layout) (B : List TokenBody → List TokenBody) (rest : Rest) → Spaced (λ e. a e rest) → ((r : Rest) → Spaced (λ e. node_layout (prettily s ds) (spot true n part.Key) k e r)) → MoreIn a B ls rest
-    → PairIn (word (63 ∷ []) ▹ (node_layout (prettily s ds) (spot true n part.Key) k ▹ ((wrap s.width s.line_break n ▹ word (58 ∷ [])) ▹ a))) (λ bs. tokens.key ∷ node_bodies (prettily s ds) true part.Key true k (tokens.value ∷ B bs)) ls rest
+asked_in : (s : Settings) (ds : List TagDirective) (k : Node) → NodeIn s ds k
+    → (n : ℕ) (ls : List ℕ) → indent ls ≤ n
+    → (a : Layout) (B : List TokenBody → List TokenBody) (rest : Rest) → Spaced (λ e. a e rest)
+    → ((r : Rest) → Spaced (λ e. node_layout (prettily s ds) (spot true n part.Key) k e r))
+    → MoreIn a B ls rest
+    → PairIn (word (63 ∷ []) ▹ (node_layout (prettily s ds) (spot true n part.Key) k ▹
+    ((wrap s.width s.line_break n ▹ word (58 ∷ [])) ▹ a)))
+    (λ bs. tokens.key ∷ node_bodies (prettily s ds) true part.Key true k (tokens.value ∷ B bs)) ls
+    rest
 asked_in s ds k key n ls low a B rest parted starts value c x text o d cs T r deep now out l =
     let p = prettily s ds in
     let after : Rest = λ e. a e rest in
@@ -240,8 +275,13 @@ asked_in s ds k key n ls low a B rest parted starts value c x text o d cs T r de
     kept_as x text rest v.cursor.kept c.kept d cs ls (λ bs. T (tokens.key ∷ node_bodies p true part.Key true k (tokens.value ∷ B bs))) (v.same ∙ (g.same ∙ q.same)) h
 
 -- a simple key and its `:`
-keyed_in : (s : Settings) (ds : List TagDirective) (k : Node) → KeyWalksIn (prettily s ds) k → (n : ℕ) (ls : List ℕ) → indent ls ≤ n → (a : Layout) (B : List TokenBody → List TokenBody) (rest : Rest) → Spaced (λ e. a e rest) → MoreIn a B ls rest
-    → PairIn (node_layout (prettily s ds) (spot true n part.SimpleKey) k ▹ (char 58 ▹ a)) (λ bs. tokens.key ∷ node_bodies (prettily s ds) true part.SimpleKey false k (tokens.value ∷ B bs)) ls rest
+keyed_in : (s : Settings) (ds : List TagDirective) (k : Node) → KeyWalksIn (prettily s ds) k
+    → (n : ℕ) (ls : List ℕ) → indent ls ≤ n
+    → (a : Layout) (B : List TokenBody → List TokenBody) (rest : Rest) → Spaced (λ e. a e rest)
+    → MoreIn a B ls rest
+    → PairIn (node_layout (prettily s ds) (spot true n part.SimpleKey) k ▹ (char 58 ▹ a))
+    (λ bs. tokens.key ∷ node_bodies (prettily s ds) true part.SimpleKey false k
+    (tokens.value ∷ B bs)) ls rest
 keyed_in s ds k key n ls low a B rest parted value c x text o d cs T r deep now out l =
     let p = prettily s ds in
     let after : Rest = λ e. a e rest in
@@ -253,9 +293,13 @@ keyed_in s ds k key n ls low a B rest parted value c x text o d cs T r deep now 
 pub record KeyIn (s : Settings) (ds : List TagDirective) (k : Node) : Type 0 where
   pub simple : is_simple (prettily s ds) k ≡ true → KeyWalksIn (prettily s ds) k
   pub node : NodeIn s ds k
-  pub starts : (n : ℕ) (rest : Rest) → Spaced (λ e. node_layout (prettily s ds) (spot true n part.Key) k e rest)
+  pub starts : (n : ℕ) (rest : Rest)
+      → Spaced (λ e. node_layout (prettily s ds) (spot true n part.Key) k e rest)
 
-pub pairs_first : (s : Settings) (ds : List TagDirective) (k v : Node) (ps : Pairs) → KeyIn s ds k → ((n : ℕ) (rest : Rest) → Spaced (λ e. node_layout (prettily s ds) (spot true n part.Value) v e rest)) → NodeIn s ds v → MorePairs s ds ps → FirstPairs s ds (pair k v ps)
+pub pairs_first : (s : Settings) (ds : List TagDirective) (k v : Node) (ps : Pairs) → KeyIn s ds k
+    → ((n : ℕ) (rest : Rest) → Spaced
+    (λ e. node_layout (prettily s ds) (spot true n part.Value) v e rest)) → NodeIn s ds v
+    → MorePairs s ds ps → FirstPairs s ds (pair k v ps)
 unfolding pairs_layout before_key before_value turned pairs_bodies
 pairs_first s ds k v ps key starts value more n ls low rest c bare x text o d cs T r deep now out l =
     let p = prettily s ds in
@@ -273,7 +317,8 @@ pairs_first s ds k v ps key starts value more n ls low rest c bare x text o d cs
     let h = walk (is_simple p k) refl t.cursor x text t.place d cs T t.reads (t.deep ∙ deep) (t.now now) out t.left in
     kept_as x text rest t.cursor.kept c.kept d cs ls (λ bs. T (W (is_simple p k) bs)) t.same h
 
-pub pairs_more : (s : Settings) (ds : List TagDirective) (k v : Node) (ps : Pairs) → FirstPairs s ds (pair k v ps) → MorePairs s ds (pair k v ps)
+pub pairs_more : (s : Settings) (ds : List TagDirective) (k v : Node) (ps : Pairs)
+    → FirstPairs s ds (pair k v ps) → MorePairs s ds (pair k v ps)
 unfolding pairs_layout before_key pairs_bodies
 pairs_more s ds k v ps whole n ls low rest =
     let p = prettily s ds in
@@ -302,13 +347,19 @@ clear_out : (o : Where) (cs : List ℕ) → IsClear o cs → Outside (o.depth + 
 clear_out o cs (inl out) = out_deeper o.depth cs out
 clear_out o cs (inr (ds, same, out, off)) = subst (λ (es : List ℕ). Outside (o.depth + 1) es) (sym same) (out_next o.depth ds out)
 
-clear_there : (o u : Where) (cs : List ℕ) → u.depth ≡ o.depth → u.now ≡ o.now → IsClear o cs → IsClear u cs
+clear_there : (o u : Where) (cs : List ℕ) → u.depth ≡ o.depth → u.now ≡ o.now → IsClear o cs
+    → IsClear u cs
 clear_there o u cs deep now (inl out) = inl (subst (λ (d : ℕ). Outside d cs) (sym deep) out)
 clear_there o u cs deep now (inr (ds, same, out, off)) = inr (ds, same ∙ ap (λ (d : ℕ). d ∷ ds) (sym deep), subst (λ (d : ℕ). Outside d ds) (sym deep) out, now ∙ off)
 
 -- a collection's brackets, at any depth
-pub opened_in : (mapping : Bool) (a : Layout) (B : List TokenBody → List TokenBody) (ls : List ℕ) (rest : Rest) → BodyIn a B ls rest → (c : Cursor) (x : yaml_encoding_t) (text : List ℕ) (o : Where) (cs : List ℕ) (T : List TokenBody → List TokenBody) → Reads x text o cs ls [] T
-    → IsRight o.depth ls (column_at text o.at) → IsClear o cs → Left text o.at (bytes ((opener (opening_of mapping) ▹ a) c rest)) → Closed x text rest c.kept o.depth cs ls (λ bs. T (opens mapping ∷ B bs))
+pub opened_in : (mapping : Bool) (a : Layout) (B : List TokenBody → List TokenBody) (ls : List ℕ)
+    (rest : Rest) → BodyIn a B ls rest
+    → (c : Cursor) (x : yaml_encoding_t) (text : List ℕ) (o : Where) (cs : List ℕ)
+    (T : List TokenBody → List TokenBody) → Reads x text o cs ls [] T
+    → IsRight o.depth ls (column_at text o.at) → IsClear o cs
+    → Left text o.at (bytes ((opener (opening_of mapping) ▹ a) c rest))
+    → Closed x text rest c.kept o.depth cs ls (λ bs. T (opens mapping ∷ B bs))
 opened_in mapping a B ls rest body c x text o cs T r right clear l =
     let K : Rest = λ e. letter (opening_of mapping) ∷ a (record { column = e.column + 1; white = true; bare = false; kept = e.kept }) rest in
     let e = behind_gap c.white c in
@@ -323,7 +374,9 @@ opened_in mapping a B ls rest body c x text o cs T r right clear l =
     kept_as x text rest e.kept c.kept o.depth cs ls (λ bs. T (opens mapping ∷ B bs)) (gap_kept c.white c) h
 
 -- as content in brackets
-pub bracket_in : (mapping : Bool) (a : Layout) (B : List TokenBody → List TokenBody) (ls : List ℕ) (rest : Rest) → BodyIn a B ls rest → (c : Cursor) → WalksIn (opener (opening_of mapping) ▹ a) (λ bs. opens mapping ∷ B bs) ls c rest
+pub bracket_in : (mapping : Bool) (a : Layout) (B : List TokenBody → List TokenBody) (ls : List ℕ)
+    (rest : Rest) → BodyIn a B ls rest → (c : Cursor)
+    → WalksIn (opener (opening_of mapping) ▹ a) (λ bs. opens mapping ∷ B bs) ls c rest
 bracket_in mapping a B ls rest body c x text o cs T r deep clear l =
     let g = opened_in mapping a B ls rest body c x text o cs T r (inl deep) clear l in
     record { behind = g.behind; place = g.place; reads = g.reads; deep = g.deep; now = g.now; left = g.left; bare = g.bare; white = g.white; same = g.same }

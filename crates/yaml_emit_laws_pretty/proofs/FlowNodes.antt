@@ -32,7 +32,8 @@ use Rattle.yaml_emit_laws_pretty.proofs.FlowItems.{NodeIn, BodyIn, KeyIn, FirstI
 abbrev bracket : ℕ → Layout
 bracket x c rest = letter x ∷ rest (record { column = c.column + 1; white = true; bare = false; kept = c.kept })
 
-pub node_spaced : (s : Settings) (ds : List TagDirective) (y : Node) (n : ℕ) (q : Part) (rest : Rest) → Spaced (λ e. node_layout (prettily s ds) (spot true n q) y e rest)
+pub node_spaced : (s : Settings) (ds : List TagDirective) (y : Node) (n : ℕ) (q : Part)
+    (rest : Rest) → Spaced (λ e. node_layout (prettily s ds) (spot true n q) y e rest)
 unfolding node_layout alias_layout scalar_layout
 node_spaced s ds (alias_node name) n q rest = gap_spaced (letters (42 ∷ name) ▹ when (is_simple_part q) (char 32)) rest
 node_spaced s ds (scalar_node x) n q rest =
@@ -57,10 +58,13 @@ node_spaced s ds (mapping_node o pairs) n q rest =
 
 -- ---- nodes
 
-pub body_checked : (n : ℕ) (a : Layout) (B : List TokenBody → List TokenBody) (ls : List ℕ) (rest : Rest) → BodyIn a B ls rest → BodyIn (checked n ▹ a) B ls rest
+pub body_checked : (n : ℕ) (a : Layout) (B : List TokenBody → List TokenBody) (ls : List ℕ)
+    (rest : Rest) → BodyIn a B ls rest → BodyIn (checked n ▹ a) B ls rest
 body_checked n a B ls rest body c bare x text o d cs T r deep now out l = body c bare x text o d cs T r deep now out (subst (λ (bs : List ℕ). Left text o.at bs) (deep_bytes (nat_lt MOST n) (a c rest)) l)
 
-sequence_in : WordLaws → (d : Opening) → IsWritableOpening d → (s : Settings) (o : Start) (items : Nodes) → IsWritableAnchor o.anchor → IsWritableTag o.tag → FirstItems s d.directives items → NodeIn s d.directives (sequence_node o items)
+sequence_in : WordLaws → (d : Opening) → IsWritableOpening d
+    → (s : Settings) (o : Start) (items : Nodes) → IsWritableAnchor o.anchor → IsWritableTag o.tag
+    → FirstItems s d.directives items → NodeIn s d.directives (sequence_node o items)
 unfolding node_layout node_bodies
 sequence_in laws d fine s o items anchor tag all n q part bare ls low rest follows c =
     let p = prettily s d.directives in
@@ -71,7 +75,9 @@ sequence_in laws d fine s o items anchor tag all n q part bare ls low rest follo
     properties_in laws d fine s ls o.anchor (start_tag false o) anchor (kept_good (not o.implicit) o.tag tag) (opener 91 ▹ a) (λ bs. tokens.flow_sequence_start ∷ B bs) rest (gap_spaced (bracket 91 ▹ a) rest)
     (λ e. bracket_in false a B ls rest body e) c
 
-mapping_in : WordLaws → (d : Opening) → IsWritableOpening d → (s : Settings) (o : Start) (pairs : Pairs) → IsWritableAnchor o.anchor → IsWritableTag o.tag → FirstPairs s d.directives pairs → NodeIn s d.directives (mapping_node o pairs)
+mapping_in : WordLaws → (d : Opening) → IsWritableOpening d
+    → (s : Settings) (o : Start) (pairs : Pairs) → IsWritableAnchor o.anchor → IsWritableTag o.tag
+    → FirstPairs s d.directives pairs → NodeIn s d.directives (mapping_node o pairs)
 unfolding node_layout node_bodies
 mapping_in laws d fine s o pairs anchor tag all n q part bare ls low rest follows c =
     let p = prettily s d.directives in
@@ -85,7 +91,8 @@ mapping_in laws d fine s o pairs anchor tag all n q part bare ls low rest follow
 pub pretty_fine : (s : Settings) (d : Opening) → IsPretty s d → IsPretty (pretty_of s) d
 pretty_fine s d is = record { pretty = refl; least = is.least; most = is.most; fine = is.fine }
 
-key_in : WordLaws → KeysAreWalkedIn → (s : Settings) (d : Opening) → IsPretty s d → (k : Node) → IsWritable k → NodeIn s d.directives k → KeyIn s d.directives k
+key_in : WordLaws → KeysAreWalkedIn → (s : Settings) (d : Opening) → IsPretty s d → (k : Node)
+    → IsWritable k → NodeIn s d.directives k → KeyIn s d.directives k
 key_in laws keys s d is k good walks = record {
   simple = λ e. keys (pretty_of s) d (pretty_fine s d is) k good e;
   node = walks;
@@ -93,26 +100,31 @@ key_in laws keys s d is k good walks = record {
 }
 
 mutual
-  pub node_in : WordLaws → KeysAreWalkedIn → (s : Settings) (d : Opening) → IsPretty s d → (y : Node) → IsWritable y → NodeIn s d.directives y
+  pub node_in : WordLaws → KeysAreWalkedIn → (s : Settings) (d : Opening) → IsPretty s d
+      → (y : Node) → IsWritable y → NodeIn s d.directives y
   node_in laws keys s d is (alias_node name) good = λ n q part bare ls low rest follows c. alias_in laws s d.directives name good n q part bare ls rest follows c
   node_in laws keys s d is (scalar_node x) (anchor, tag, u) = λ n q part bare ls low rest follows c. let least = is.least in scalar_in laws d is.fine s (omega (arith, least)) x anchor tag u n q bare ls low rest follows c
   node_in laws keys s d is (sequence_node o items) (anchor, tag, all) = sequence_in laws d is.fine s o items anchor tag (first_in laws keys s d is items all)
   node_in laws keys s d is (mapping_node o pairs) (anchor, tag, all) = mapping_in laws d is.fine s o pairs anchor tag (first_pairs_in laws keys s d is pairs all)
 
-  pub first_in : WordLaws → KeysAreWalkedIn → (s : Settings) (d : Opening) → IsPretty s d → (xs : Nodes) → AreItemsWritable xs → FirstItems s d.directives xs
+  pub first_in : WordLaws → KeysAreWalkedIn → (s : Settings) (d : Opening) → IsPretty s d
+      → (xs : Nodes) → AreItemsWritable xs → FirstItems s d.directives xs
   first_in laws keys s d is no_nodes good = items_none s d.directives
   first_in laws keys s d is (node y ys) (one, all) = items_first s d.directives y ys (node_in laws keys s d is y one) (more_in laws keys s d is ys all)
 
-  more_in : WordLaws → KeysAreWalkedIn → (s : Settings) (d : Opening) → IsPretty s d → (xs : Nodes) → AreItemsWritable xs → MoreItems s d.directives xs
+  more_in : WordLaws → KeysAreWalkedIn → (s : Settings) (d : Opening) → IsPretty s d → (xs : Nodes)
+      → AreItemsWritable xs → MoreItems s d.directives xs
   more_in laws keys s d is no_nodes good = items_closed s d.directives
   more_in laws keys s d is (node y ys) (one, all) = items_more s d.directives y ys (items_first s d.directives y ys (node_in laws keys s d is y one) (more_in laws keys s d is ys all))
 
-  pub first_pairs_in : WordLaws → KeysAreWalkedIn → (s : Settings) (d : Opening) → IsPretty s d → (ps : Pairs) → ArePairsWritable ps → FirstPairs s d.directives ps
+  pub first_pairs_in : WordLaws → KeysAreWalkedIn → (s : Settings) (d : Opening) → IsPretty s d
+      → (ps : Pairs) → ArePairsWritable ps → FirstPairs s d.directives ps
   first_pairs_in laws keys s d is no_pairs good = pairs_none s d.directives
   first_pairs_in laws keys s d is (pair k v ps) (gk, gv, all) =
       pairs_first s d.directives k v ps (key_in laws keys s d is k gk (node_in laws keys s d is k gk)) (λ n rest. node_spaced s d.directives v n part.Value rest) (node_in laws keys s d is v gv) (more_pairs_in laws keys s d is ps all)
 
-  more_pairs_in : WordLaws → KeysAreWalkedIn → (s : Settings) (d : Opening) → IsPretty s d → (ps : Pairs) → ArePairsWritable ps → MorePairs s d.directives ps
+  more_pairs_in : WordLaws → KeysAreWalkedIn → (s : Settings) (d : Opening) → IsPretty s d
+      → (ps : Pairs) → ArePairsWritable ps → MorePairs s d.directives ps
   more_pairs_in laws keys s d is no_pairs good = pairs_closed s d.directives
   more_pairs_in laws keys s d is (pair k v ps) (gk, gv, all) =
       pairs_more s d.directives k v ps
@@ -120,10 +132,12 @@ mutual
 
 -- ---- no block scalar stands in brackets
 
-style_same : (p : Context) (q : Part) (x : Scalar) → style_of p (place true q) x ≡ style_at p true q x
+style_same : (p : Context) (q : Part) (x : Scalar)
+    → style_of p (place true q) x ≡ style_at p true q x
 style_same p q x = refl
 
-scalar_keeps : StylesAreAllowed → (p : Context) (q : Part) (x : Scalar) (st : Style) → style_at p true q x ≡ st → (kept : Bool) → scalar_kept st x.value kept ≡ kept
+scalar_keeps : StylesAreAllowed → (p : Context) (q : Part) (x : Scalar) (st : Style)
+    → style_at p true q x ≡ st → (kept : Bool) → scalar_kept st x.value kept ≡ kept
 scalar_keeps styles p q x style.Plain same kept = refl
 scalar_keeps styles p q x style.Single same kept = refl
 scalar_keeps styles p q x style.Double same kept = refl
@@ -133,17 +147,23 @@ scalar_keeps styles p q x style.Folded same kept = let no_flow = ((styles p (pla
 mutual
   unfolding node_kept items_kept pairs_kept
 
-  node_keeps : StylesAreAllowed → (s : Settings) (ds : List TagDirective) (y : Node) (q : Part) (kept : Bool) → node_kept (prettily s ds) true q y kept ≡ kept
+  node_keeps : StylesAreAllowed
+      → (s : Settings) (ds : List TagDirective) (y : Node) (q : Part) (kept : Bool)
+      → node_kept (prettily s ds) true q y kept ≡ kept
   node_keeps styles s ds (alias_node name) q kept = refl
   node_keeps styles s ds (scalar_node x) q kept = scalar_keeps styles (prettily s ds) q x (style_at (prettily s ds) true q x) refl kept
   node_keeps styles s ds (sequence_node o items) q kept = items_keep styles s ds items kept
   node_keeps styles s ds (mapping_node o pairs) q kept = pairs_keep styles s ds pairs kept
 
-  pub items_keep : StylesAreAllowed → (s : Settings) (ds : List TagDirective) (xs : Nodes) (kept : Bool) → items_kept (prettily s ds) true xs kept ≡ kept
+  pub items_keep : StylesAreAllowed
+      → (s : Settings) (ds : List TagDirective) (xs : Nodes) (kept : Bool)
+      → items_kept (prettily s ds) true xs kept ≡ kept
   items_keep styles s ds no_nodes kept = refl
   items_keep styles s ds (node y ys) kept = items_keep styles s ds ys (node_kept (prettily s ds) true part.Item y kept) ∙ node_keeps styles s ds y part.Item kept
 
-  pub pairs_keep : StylesAreAllowed → (s : Settings) (ds : List TagDirective) (ps : Pairs) (kept : Bool) → pairs_kept (prettily s ds) true ps kept ≡ kept
+  pub pairs_keep : StylesAreAllowed
+      → (s : Settings) (ds : List TagDirective) (ps : Pairs) (kept : Bool)
+      → pairs_kept (prettily s ds) true ps kept ≡ kept
   pairs_keep styles s ds no_pairs kept = refl
   pairs_keep styles s ds (pair k v ps) kept =
       let p = prettily s ds in

@@ -55,15 +55,19 @@ pub record WordLaws : Type 0 where
   pub styles : StylesAreAllowed
 
 -- a layout for another
-pub walks_as : (ls : List ℕ) (a b : Layout) (B C : List TokenBody → List TokenBody) (c : Cursor) (rest : Rest) → a ≡ b → B ≡ C → WalksIn b C ls c rest → WalksIn a B ls c rest
+pub walks_as : (ls : List ℕ) (a b : Layout) (B C : List TokenBody → List TokenBody) (c : Cursor)
+    (rest : Rest) → a ≡ b → B ≡ C → WalksIn b C ls c rest → WalksIn a B ls c rest
 walks_as ls a b B C c rest e f w = subst (λ (y : Layout). WalksIn y B ls c rest) (sym e) (subst (λ (D : List TokenBody → List TokenBody). WalksIn b D ls c rest) (sym f) w)
 
-pub walks_checked : (ls : List ℕ) (n : ℕ) (a : Layout) (B : List TokenBody → List TokenBody) (c : Cursor) (rest : Rest) → WalksIn a B ls c rest → WalksIn (checked n ▹ a) B ls c rest
+pub walks_checked : (ls : List ℕ) (n : ℕ) (a : Layout) (B : List TokenBody → List TokenBody)
+    (c : Cursor) (rest : Rest) → WalksIn a B ls c rest → WalksIn (checked n ▹ a) B ls c rest
 walks_checked ls n a B c rest w x text o cs T r deep clear l = w x text o cs T r deep clear (subst (λ (bs : List ℕ). Left text o.at bs) (deep_bytes (nat_lt MOST n) (a c rest)) l)
 
 -- ---- properties
 
-pub anchor_in : WordLaws → (ls : List ℕ) (anchor : Option (List ℕ)) → IsWritableAnchor anchor → (b : Layout) (B : List TokenBody → List TokenBody) (rest : Rest) → Spaced (λ e. b e rest) → ((e : Cursor) → WalksIn b B ls e rest) → (c : Cursor)
+pub anchor_in : WordLaws → (ls : List ℕ) (anchor : Option (List ℕ)) → IsWritableAnchor anchor
+    → (b : Layout) (B : List TokenBody → List TokenBody) (rest : Rest) → Spaced (λ e. b e rest)
+    → ((e : Cursor) → WalksIn b B ls e rest) → (c : Cursor)
     → WalksIn (anchor_text anchor ▹ b) (λ bs. anchor_bodies anchor (B bs)) ls c rest
 anchor_in laws ls None good b B rest spaced w c = w c
 anchor_in laws ls (Some name) good b B rest spaced w c =
@@ -72,8 +76,12 @@ anchor_in laws ls (Some name) good b B rest spaced w c =
     both ls (word (38 ∷ name)) b (λ bs. tokens.anchor name ∷ bs) B c rest
     (word_walks ls (word (38 ∷ name)) c (anchor_word laws.names true (indent ls) (not c.white) name good) says k (space_parts (bytes (k says.behind)) (spaced says.behind says.white))) (λ e bare white. w e)
 
-pub tag_in : WordLaws → (o : Opening) → IsWritableOpening o → (s : Settings) (ls : List ℕ) (tag : Option (List ℕ)) → IsWritableTag tag → (b : Layout) (B : List TokenBody → List TokenBody) (rest : Rest) → Spaced (λ e. b e rest) → ((e : Cursor) → WalksIn b B ls e rest) → (c : Cursor)
-    → WalksIn (tag_text (prettily s o.directives) tag ▹ b) (λ bs. tag_bodies o.directives tag (B bs)) ls c rest
+pub tag_in : WordLaws → (o : Opening) → IsWritableOpening o
+    → (s : Settings) (ls : List ℕ) (tag : Option (List ℕ)) → IsWritableTag tag
+    → (b : Layout) (B : List TokenBody → List TokenBody) (rest : Rest) → Spaced (λ e. b e rest)
+    → ((e : Cursor) → WalksIn b B ls e rest) → (c : Cursor)
+    → WalksIn (tag_text (prettily s o.directives) tag ▹ b)
+    (λ bs. tag_bodies o.directives tag (B bs)) ls c rest
 tag_in laws o fine s ls None good b B rest spaced w c = w c
 tag_in laws o fine s ls (Some t) good b B rest spaced w c =
     let says = tag_says laws.split laws.ascii laws.readable true (indent ls) o fine t good c in
@@ -81,7 +89,9 @@ tag_in laws o fine s ls (Some t) good b B rest spaced w c =
     both ls (word (tag_spelling o.directives t)) b (λ bs. tag_body (split_tag o.directives t) ∷ bs) B c rest
     (word_walks ls (word (tag_spelling o.directives t)) c (tag_word laws.split laws.ascii laws.readable true (indent ls) (not c.white) o fine t good) says k (space_parts (bytes (k says.behind)) (spaced says.behind says.white))) (λ e bare white. w e)
 
-pub mark_in : WordLaws → (ls : List ℕ) (m : Bool) (b : Layout) (B : List TokenBody → List TokenBody) (rest : Rest) → Spaced (λ e. b e rest) → ((e : Cursor) → WalksIn b B ls e rest) → (c : Cursor)
+pub mark_in : WordLaws
+    → (ls : List ℕ) (m : Bool) (b : Layout) (B : List TokenBody → List TokenBody) (rest : Rest)
+    → Spaced (λ e. b e rest) → ((e : Cursor) → WalksIn b B ls e rest) → (c : Cursor)
     → WalksIn (when m (word (33 ∷ [])) ▹ b) (λ bs. mark_bodies m (B bs)) ls c rest
 mark_in laws ls false b B rest spaced w c = w c
 mark_in laws ls true b B rest spaced w c =
@@ -90,12 +100,18 @@ mark_in laws ls true b B rest spaced w c =
     both ls (word (33 ∷ [])) b (λ bs. tokens.tag [] (33 ∷ []) ∷ bs) B c rest
     (word_walks ls (word (33 ∷ [])) c (mark_word laws.lone true (indent ls) (not c.white)) says k (spaced says.behind says.white)) (λ e bare white. w e)
 
-tag_spaced : (p : Context) (tag : Option (List ℕ)) (a : Layout) (rest : Rest) → Spaced (λ e. a e rest) → Spaced (λ e. (tag_text p tag ▹ a) e rest)
+tag_spaced : (p : Context) (tag : Option (List ℕ)) (a : Layout) (rest : Rest)
+    → Spaced (λ e. a e rest) → Spaced (λ e. (tag_text p tag ▹ a) e rest)
 tag_spaced p None a rest h = h
 tag_spaced p (Some t) a rest h = gap_spaced (letters (tag_spelling p.directives t) ▹ a) rest
 
-pub properties_in : WordLaws → (o : Opening) → IsWritableOpening o → (s : Settings) (ls : List ℕ) (anchor tag : Option (List ℕ)) → IsWritableAnchor anchor → IsWritableTag tag → (b : Layout) (B : List TokenBody → List TokenBody) (rest : Rest) → Spaced (λ e. b e rest)
-    → ((e : Cursor) → WalksIn b B ls e rest) → (c : Cursor) → WalksIn (properties_text (prettily s o.directives) anchor tag ▹ b) (λ bs. anchor_bodies anchor (tag_bodies o.directives tag (B bs))) ls c rest
+pub properties_in : WordLaws → (o : Opening) → IsWritableOpening o
+    → (s : Settings) (ls : List ℕ) (anchor tag : Option (List ℕ)) → IsWritableAnchor anchor
+    → IsWritableTag tag → (b : Layout) (B : List TokenBody → List TokenBody) (rest : Rest)
+    → Spaced (λ e. b e rest)
+    → ((e : Cursor) → WalksIn b B ls e rest) → (c : Cursor)
+    → WalksIn (properties_text (prettily s o.directives) anchor tag ▹ b)
+    (λ bs. anchor_bodies anchor (tag_bodies o.directives tag (B bs))) ls c rest
 properties_in laws o fine s ls anchor tag good right b B rest spaced w c =
     let p = prettily s o.directives in
     anchor_in laws ls anchor good (tag_text p tag ▹ b) (λ bs. tag_bodies o.directives tag (B bs)) rest (tag_spaced p tag b rest spaced) (λ e. tag_in laws o fine s ls tag right b B rest spaced w e) c
@@ -106,7 +122,8 @@ kept_good false t good = tt
 
 -- ---- scalars
 
-filled : (unicode : Bool) (value : List ℕ) → may_be_plain unicode true (chars value) ≡ true → 0 < length value
+filled : (unicode : Bool) (value : List ℕ) → may_be_plain unicode true (chars value) ≡ true
+    → 0 < length value
 unfolding allowed chars
 filled unicode [] e = absurd (cc)
 filled unicode (b ∷ bs) e = omega arith
@@ -119,8 +136,11 @@ quote_unlike (b ∷ bs) h e = let k : ends_name (39 ∷ bs) ≡ true = subst (λ
     never e = cc
 
 -- the text of a scalar, by its style
-text_in : WordLaws → (p : Context) (n : ℕ) (q : Part) (x : Scalar) → IsUtf8 x.value → 0 < p.settings.indent → (ls : List ℕ) → indent ls ≤ n → (rest : Rest) → FollowsIn rest → (s : Style) → style_of p (spot true n q) x ≡ s → (c : Cursor)
-    → WalksIn (scalar_text (page_at p.settings (spot true n q)) p.settings.indent true s (chars x.value)) (λ bs. tokens.scalar x.value (style_named s) ∷ bs) ls c rest
+text_in : WordLaws → (p : Context) (n : ℕ) (q : Part) (x : Scalar) → IsUtf8 x.value
+    → 0 < p.settings.indent → (ls : List ℕ) → indent ls ≤ n → (rest : Rest) → FollowsIn rest
+    → (s : Style) → style_of p (spot true n q) x ≡ s → (c : Cursor)
+    → WalksIn (scalar_text (page_at p.settings (spot true n q)) p.settings.indent true s
+    (chars x.value)) (λ bs. tokens.scalar x.value (style_named s) ∷ bs) ls c rest
 unfolding scalar_text
 text_in laws p n q x u deep ls low rest follows style.Plain same c =
     let page = page_at p.settings (spot true n q) in
@@ -146,12 +166,17 @@ text_in laws p n q x u deep ls low rest follows style.Double same c =
 text_in laws p n q x u deep ls low rest follows style.Literal same c = let no_flow = ((laws.styles p (spot true n q) x).2 same).1 in absurd (true≢false no_flow)
 text_in laws p n q x u deep ls low rest follows style.Folded same c = let no_flow = ((laws.styles p (spot true n q) x).3 same).1 in absurd (true≢false no_flow)
 
-style_same : (p : Context) (n : ℕ) (q : Part) (x : Scalar) → style_of p (spot true n q) x ≡ style_at p true q x
+style_same : (p : Context) (n : ℕ) (q : Part) (x : Scalar)
+    → style_of p (spot true n q) x ≡ style_at p true q x
 unfolding style_of
 style_same p n q x = refl
 
-pub scalar_in : WordLaws → (o : Opening) → IsWritableOpening o → (s : Settings) → 0 < s.indent → (x : Scalar) → IsWritableAnchor x.anchor → IsWritableTag x.tag → IsUtf8 x.value → (n : ℕ) (q : Part) (bare : Bool) (ls : List ℕ) → indent ls ≤ n → (rest : Rest) → FollowsIn rest → (c : Cursor)
-    → WalksIn (node_layout (prettily s o.directives) (spot true n q) (scalar_node x)) (node_bodies (prettily s o.directives) true q bare (scalar_node x)) ls c rest
+pub scalar_in : WordLaws → (o : Opening) → IsWritableOpening o → (s : Settings) → 0 < s.indent
+    → (x : Scalar) → IsWritableAnchor x.anchor → IsWritableTag x.tag → IsUtf8 x.value
+    → (n : ℕ) (q : Part) (bare : Bool) (ls : List ℕ) → indent ls ≤ n → (rest : Rest)
+    → FollowsIn rest → (c : Cursor)
+    → WalksIn (node_layout (prettily s o.directives) (spot true n q) (scalar_node x))
+    (node_bodies (prettily s o.directives) true q bare (scalar_node x)) ls c rest
 unfolding node_layout scalar_layout node_bodies
 scalar_in laws o fine s deep x anchor tag u n q bare ls low rest follows c =
     let p = prettily s o.directives in
@@ -168,8 +193,11 @@ scalar_in laws o fine s deep x anchor tag u n q bare ls low rest follows c =
     (properties_in laws o fine s ls x.anchor (scalar_tag false x) anchor (kept_good (not (x.plain || x.quoted)) x.tag tag) (when m (word (33 ∷ [])) ▹ (checked k ▹ text)) (λ bs. mark_bodies m (B bs)) rest (mark_spaced m (checked k ▹ text) rest spaced)
     (λ e. mark_in laws ls m (checked k ▹ text) B rest spaced content e) c)
 
-pub alias_in : WordLaws → (s : Settings) (ds : List TagDirective) (name : List ℕ) → IsWritableName name → (n : ℕ) (q : Part) → is_simple_part q ≡ false → (bare : Bool) (ls : List ℕ) (rest : Rest) → FollowsIn rest → (c : Cursor)
-    → WalksIn (node_layout (prettily s ds) (spot true n q) (alias_node name)) (node_bodies (prettily s ds) true q bare (alias_node name)) ls c rest
+pub alias_in : WordLaws → (s : Settings) (ds : List TagDirective) (name : List ℕ)
+    → IsWritableName name → (n : ℕ) (q : Part) → is_simple_part q ≡ false
+    → (bare : Bool) (ls : List ℕ) (rest : Rest) → FollowsIn rest → (c : Cursor)
+    → WalksIn (node_layout (prettily s ds) (spot true n q) (alias_node name))
+    (node_bodies (prettily s ds) true q bare (alias_node name)) ls c rest
 unfolding node_layout alias_layout node_bodies
 alias_in laws s ds name good n q part bare ls rest follows c =
     let says = alias_says laws.names true (indent ls) name good c in

@@ -52,7 +52,10 @@ break_gap Lf n = spaces_gap n
 break_gap Cr n = spaces_gap n
 break_gap CrLf n = spaces_gap n
 
-line_in : (b : LineBreak) (n : ℕ) (x : yaml_encoding_t) (text : List ℕ) (c : Cursor) (rest : Rest) (o : Where) (cs ls : List ℕ) (T : List TokenBody → List TokenBody) → c.bare ≡ false → Reads x text o cs ls [] T → Left text o.at (bytes (line b n c rest)) → Turned x text rest c.kept o cs ls T
+line_in : (b : LineBreak) (n : ℕ) (x : yaml_encoding_t) (text : List ℕ) (c : Cursor) (rest : Rest)
+    (o : Where) (cs ls : List ℕ) (T : List TokenBody → List TokenBody) → c.bare ≡ false
+    → Reads x text o cs ls [] T → Left text o.at (bytes (line b n c rest))
+    → Turned x text rest c.kept o cs ls T
 line_in b n x text c rest o cs ls T bare r l =
     let e = after_blanks n (line_start c) in
     let white = break_text b ++ replicate n 32 in
@@ -68,7 +71,10 @@ line_in b n x text c rest o cs ls T bare r l =
     }
 
 -- past the width a line, else nothing
-pub wrap_in : (width : ℕ) (b : LineBreak) (n : ℕ) (x : yaml_encoding_t) (text : List ℕ) (c : Cursor) (rest : Rest) (o : Where) (cs ls : List ℕ) (T : List TokenBody → List TokenBody) → c.bare ≡ false → Reads x text o cs ls [] T → Left text o.at (bytes (wrap width b n c rest)) → Turned x text rest c.kept o cs ls T
+pub wrap_in : (width : ℕ) (b : LineBreak) (n : ℕ) (x : yaml_encoding_t) (text : List ℕ) (c : Cursor)
+    (rest : Rest) (o : Where) (cs ls : List ℕ) (T : List TokenBody → List TokenBody)
+    → c.bare ≡ false → Reads x text o cs ls [] T → Left text o.at (bytes (wrap width b n c rest))
+    → Turned x text rest c.kept o cs ls T
 wrap_in width b n x text c rest o cs ls T bare r l =
     elim (cases_Bool (is_past width c)) [
       | inl e ↦ line_in b n x text c rest o cs ls T bare r (subst (λ (t : Bool). Left text o.at (bytes (if t then line b n c rest else rest c))) e l)
@@ -89,7 +95,10 @@ abbrev pub behind_gap : Bool → Cursor → Cursor
 behind_gap true c = c
 behind_gap false c = record { column = c.column + 1; white = true; bare = c.bare; kept = c.kept }
 
-pub gap_left : (text : List ℕ) (p : ℕ) (b : Bool) (c : Cursor) (rest : Rest) → Left text p (bytes (if b then rest c else blank c rest)) → Left text p (if not b then 32 ∷ bytes (rest (behind_gap b c)) else bytes (rest (behind_gap b c)))
+pub gap_left : (text : List ℕ) (p : ℕ) (b : Bool) (c : Cursor) (rest : Rest)
+    → Left text p (bytes (if b then rest c else blank c rest))
+    → Left text p (if not b then 32 ∷ bytes (rest (behind_gap b c)) else bytes
+    (rest (behind_gap b c)))
 gap_left text p true c rest l = l
 gap_left text p false c rest l = left_letter text p 32 (rest (behind_gap false c)) refl l
 
@@ -108,10 +117,13 @@ pub record Signed (x : yaml_encoding_t) (text bs : List ℕ) (d : ℕ) (now : Bo
   pub broken : place.broken ≡ not (nat_lt 0 d)
   pub left : Left text place.at bs
 
-printed : (text : List ℕ) (p b : ℕ) → byte text p ≡ b → 32 < b → b < 127 → (b ≡ 35 → ⊥) → begins_lexeme text p ≡ true
+printed : (text : List ℕ) (p b : ℕ) → byte text p ≡ b → 32 < b → b < 127 → (b ≡ 35 → ⊥)
+    → begins_lexeme text p ≡ true
 printed text p b e low high hash = printed_begins text p b e low high hash
 
-pub comma_on : (x : yaml_encoding_t) (text bs : List ℕ) (o : Where) (cs ls : List ℕ) (T : List TokenBody → List TokenBody) → Reads x text o cs ls [] T → nat_lt 0 o.depth ≡ true → Outside o.depth cs → Left text o.at (44 ∷ bs)
+pub comma_on : (x : yaml_encoding_t) (text bs : List ℕ) (o : Where) (cs ls : List ℕ)
+    (T : List TokenBody → List TokenBody) → Reads x text o cs ls [] T → nat_lt 0 o.depth ≡ true
+    → Outside o.depth cs → Left text o.at (44 ∷ bs)
     → Signed x text bs o.depth true cs ls (λ ds. T (tokens.flow_entry ∷ ds))
 comma_on x text bs o cs ls T r deep out l =
     let p = o.at in
@@ -151,7 +163,10 @@ closes false = tokens.flow_sequence_end
 more_open : (d : ℕ) → not (nat_lt 0 (d + 1)) ≡ false
 more_open d = grind (arith, nat_tests)
 
-pub opener_on : (mapping : Bool) (x : yaml_encoding_t) (text bs : List ℕ) (o : Where) (cs ls : List ℕ) (T : List TokenBody → List TokenBody) → Reads x text o cs ls [] T → IsRight o.depth ls (column_at text o.at) → IsClear o cs → Left text o.at (opening_of mapping ∷ bs)
+pub opener_on : (mapping : Bool) (x : yaml_encoding_t) (text bs : List ℕ) (o : Where)
+    (cs ls : List ℕ) (T : List TokenBody → List TokenBody) → Reads x text o cs ls [] T
+    → IsRight o.depth ls (column_at text o.at) → IsClear o cs
+    → Left text o.at (opening_of mapping ∷ bs)
     → Signed x text bs (o.depth + 1) true cs ls (λ ds. T (opens mapping ∷ ds))
 opener_on true x text bs o cs ls T r right clear l =
     let p = o.at in
@@ -196,7 +211,9 @@ opener_on false x text bs o cs ls T r right clear l =
     off_or : (a b : Bool) → a ≡ false → (a || (false && b)) ≡ false
     off_or a b e = rw e refl
 
-pub closer_on : (mapping : Bool) (x : yaml_encoding_t) (text bs : List ℕ) (o : Where) (d : ℕ) (cs ls : List ℕ) (T : List TokenBody → List TokenBody) → Reads x text o cs ls [] T → o.depth ≡ d + 1 → Outside (d + 1) cs → Left text o.at (closing_of mapping ∷ bs)
+pub closer_on : (mapping : Bool) (x : yaml_encoding_t) (text bs : List ℕ) (o : Where) (d : ℕ)
+    (cs ls : List ℕ) (T : List TokenBody → List TokenBody) → Reads x text o cs ls [] T
+    → o.depth ≡ d + 1 → Outside (d + 1) cs → Left text o.at (closing_of mapping ∷ bs)
     → Signed x text bs d false cs ls (λ ds. T (closes mapping ∷ ds))
 closer_on true x text bs o d cs ls T r deep out l =
     let p = o.at in
@@ -241,7 +258,9 @@ closer_on false x text bs o d cs ls T r deep out l =
 
 -- ---- a `?` and its `:`
 
-pub question_on : (x : yaml_encoding_t) (text bs : List ℕ) (o : Where) (cs ls : List ℕ) (T : List TokenBody → List TokenBody) → Reads x text o cs ls [] T → nat_lt 0 o.depth ≡ true → Outside o.depth cs → begins_white bs ≡ true → Left text o.at (63 ∷ bs)
+pub question_on : (x : yaml_encoding_t) (text bs : List ℕ) (o : Where) (cs ls : List ℕ)
+    (T : List TokenBody → List TokenBody) → Reads x text o cs ls [] T → nat_lt 0 o.depth ≡ true
+    → Outside o.depth cs → begins_white bs ≡ true → Left text o.at (63 ∷ bs)
     → Signed x text bs o.depth false (o.depth ∷ cs) ls (λ ds. T (tokens.key ∷ ds))
 question_on x text bs o cs ls T r deep out white l =
     let p = o.at in
@@ -263,7 +282,10 @@ question_on x text bs o cs ls T r deep out white l =
       left = subst (λ (n : ℕ). Left text (n + 1) bs) (sym z) next;
     }
 
-pub answer_on : (x : yaml_encoding_t) (text bs : List ℕ) (o : Where) (cs ls : List ℕ) (T : List TokenBody → List TokenBody) → Reads x text o (o.depth ∷ cs) ls [] T → nat_lt 0 o.depth ≡ true → Outside o.depth cs → begins_white bs ≡ true → Left text o.at (58 ∷ bs)
+pub answer_on : (x : yaml_encoding_t) (text bs : List ℕ) (o : Where) (cs ls : List ℕ)
+    (T : List TokenBody → List TokenBody) → Reads x text o (o.depth ∷ cs) ls [] T
+    → nat_lt 0 o.depth ≡ true → Outside o.depth cs → begins_white bs ≡ true
+    → Left text o.at (58 ∷ bs)
     → Signed x text bs o.depth false cs ls (λ ds. T (tokens.value ∷ ds))
 answer_on x text bs o cs ls T r deep out white l =
     let p = o.at in

@@ -67,7 +67,8 @@ text_no_value k e v = cc
 
 -- ---- depths of a `?`
 
-pub leave_clear : (k : Kind) (o : Where) (a : Bool) (cs : List ℕ) → cancels k ≡ false → (o.now ≡ false → a ≡ false) → IsClear o cs → LeaveClear k o.depth a cs
+pub leave_clear : (k : Kind) (o : Where) (a : Bool) (cs : List ℕ) → cancels k ≡ false
+    → (o.now ≡ false → a ≡ false) → IsClear o cs → LeaveClear k o.depth a cs
 unfolding LeaveClear
 leave_clear k o a cs keeps bars (inl out) = deeper_leaves k o.depth a cs out
 leave_clear k o a cs keeps bars (inr (ds, same, out, off)) =
@@ -91,7 +92,9 @@ same_or : (a b : Bool) → (a || (false && b)) ≡ a
 same_or true b = refl
 same_or false b = refl
 
-pub space_on : (b : Bool) (x : yaml_encoding_t) (text bs : List ℕ) (o : Where) (cs ls more : List ℕ) (T : List TokenBody → List TokenBody) → Reads x text o cs ls more T → Left text o.at (if b then 32 ∷ bs else bs) → Space x text bs o cs ls more T
+pub space_on : (b : Bool) (x : yaml_encoding_t) (text bs : List ℕ) (o : Where) (cs ls more : List ℕ)
+    (T : List TokenBody → List TokenBody) → Reads x text o cs ls more T
+    → Left text o.at (if b then 32 ∷ bs else bs) → Space x text bs o cs ls more T
 space_on true x text bs o cs ls more T r l =
     let here = left_first text o.at 32 bs l in
     record {
@@ -105,7 +108,8 @@ space_on true x text bs o cs ls more T r l =
     }
 space_on false x text bs o cs ls more T r l = record { place = o; reads = r; deep = refl; same = refl; broken = refl; right = omega arith; left = l }
 
-pub clear_same : (o u : Where) (cs : List ℕ) → u.depth ≡ o.depth → u.now ≡ o.now → IsClear o cs → IsClear u cs
+pub clear_same : (o u : Where) (cs : List ℕ) → u.depth ≡ o.depth → u.now ≡ o.now → IsClear o cs
+    → IsClear u cs
 clear_same o u cs deep now (inl out) = inl (subst (λ (d : ℕ). Outside d cs) (sym deep) out)
 clear_same o u cs deep now (inr (ds, same, out, off)) = inr (ds, same ∙ ap (λ (d : ℕ). d ∷ ds) (sym deep), subst (λ (d : ℕ). Outside d ds) (sym deep) out, now ∙ off)
 
@@ -118,7 +122,9 @@ pub record Worded (x : yaml_encoding_t) (text bs : List ℕ) (o : Where) (cs ls 
   pub now : place.now ≡ false
   pub left : Left text place.at bs
 
-here_on : (x : yaml_encoding_t) (text bs : List ℕ) (o : Where) (cs ls : List ℕ) (T : List TokenBody → List TokenBody) (w : Spoken true (indent ls)) → Reads x text o cs ls [] T → nat_lt 0 o.depth ≡ true → IsClear o cs → Left text o.at (w.own ++ bs)
+here_on : (x : yaml_encoding_t) (text bs : List ℕ) (o : Where) (cs ls : List ℕ)
+    (T : List TokenBody → List TokenBody) (w : Spoken true (indent ls)) → Reads x text o cs ls [] T
+    → nat_lt 0 o.depth ≡ true → IsClear o cs → Left text o.at (w.own ++ bs)
     → Fits w.wants true (indent ls) bs → Worded x text bs o cs ls (λ ds. T (w.body ∷ ds))
 here_on x text bs o cs ls T w r deep clear l fits =
     let p = o.at in
@@ -146,7 +152,9 @@ here_on x text bs o cs ls T w r deep clear l fits =
       left = left_rest text p w.own bs l;
     }
 
-spoken_left : (text : List ℕ) (p : ℕ) (b : Bool) (own bs : List ℕ) → Left text p ((if b then 32 ∷ own else own) ++ bs) → Left text p (if b then 32 ∷ (own ++ bs) else own ++ bs)
+spoken_left : (text : List ℕ) (p : ℕ) (b : Bool) (own bs : List ℕ)
+    → Left text p ((if b then 32 ∷ own else own) ++ bs)
+    → Left text p (if b then 32 ∷ (own ++ bs) else own ++ bs)
 spoken_left text p true own bs l = l
 spoken_left text p false own bs l = l
 
@@ -154,7 +162,10 @@ append_none : (xs ys : List ℕ) → (xs ++ []) ++ ys ≡ xs ++ ys
 append_none xs ys = append_assoc xs [] ys
 
 -- a layout that says one word is walked as content
-pub word_walks : (ls : List ℕ) (a : Layout) (c : Cursor) (w : Spoken true (indent ls)) (says : Says true (indent ls) a c (w ∷ [])) (rest : Rest) → Fits w.wants true (indent ls) (bytes (rest says.behind)) → WalksIn a (λ bs. w.body ∷ bs) ls c rest
+pub word_walks : (ls : List ℕ) (a : Layout) (c : Cursor) (w : Spoken true (indent ls))
+    (says : Says true (indent ls) a c (w ∷ [])) (rest : Rest)
+    → Fits w.wants true (indent ls) (bytes (rest says.behind))
+    → WalksIn a (λ bs. w.body ∷ bs) ls c rest
 word_walks ls a c w says rest fits x text o cs T r deep clear l =
     let tail = bytes (rest says.behind) in
     let m = spoken_left text o.at w.spaced w.own tail (subst (λ (bs : List ℕ). Left text o.at bs) (says.written rest ∙ append_none (if w.spaced then 32 ∷ w.own else w.own) tail) l) in
@@ -173,7 +184,10 @@ word_walks ls a c w says rest fits x text o cs T r deep clear l =
     }
 
 -- one behind the other
-pub both : (ls : List ℕ) (a b : Layout) (B C : List TokenBody → List TokenBody) (c : Cursor) (rest : Rest) → WalksIn a B ls c (λ k. b k rest) → ((k : Cursor) → k.bare ≡ false → k.white ≡ false → WalksIn b C ls k rest) → WalksIn (a ▹ b) (λ bs. B (C bs)) ls c rest
+pub both : (ls : List ℕ) (a b : Layout) (B C : List TokenBody → List TokenBody) (c : Cursor)
+    (rest : Rest) → WalksIn a B ls c (λ k. b k rest)
+    → ((k : Cursor) → k.bare ≡ false → k.white ≡ false → WalksIn b C ls k rest)
+    → WalksIn (a ▹ b) (λ bs. B (C bs)) ls c rest
 both ls a b B C c rest w v x text o cs T r deep clear l =
     let g = w x text o cs T r deep clear l in
     let h = v g.behind g.bare g.white x text g.place cs (λ bs. T (B bs)) g.reads (ap (λ (d : ℕ). nat_lt 0 d) g.deep ∙ deep) (clear_behind g.place clear g.deep g.now) g.left in

@@ -41,7 +41,8 @@ unfolding no_comment
 spaces_calm zero bs = refl
 spaces_calm (suc n) bs = spaces_calm n bs
 
-pub line_calm : (b : LineBreak) (n : ℕ) (bs : List ℕ) → no_comment (break_text b ++ (replicate n 32 ++ bs)) ≡ no_comment bs
+pub line_calm : (b : LineBreak) (n : ℕ) (bs : List ℕ)
+    → no_comment (break_text b ++ (replicate n 32 ++ bs)) ≡ no_comment bs
 unfolding no_comment
 line_calm Lf n bs = spaces_calm n bs
 line_calm Cr n bs = spaces_calm n bs
@@ -59,13 +60,16 @@ blanks_column (suc n) c = let e = blanks_column n (spaced_by c) in omega (arith,
 start_column : (n : ℕ) (e : Cursor) → (after_blanks n (line_start e)).column ≡ n
 start_column n e = let z = blanks_column n (line_start e) in omega (arith, z)
 
-pub line_bytes : (b : LineBreak) (n : ℕ) (c : Cursor) (rest : Rest) → c.bare ≡ false → bytes (line b n c rest) ≡ break_text b ++ (replicate n 32 ++ bytes (rest (after_blanks n (line_start c))))
+pub line_bytes : (b : LineBreak) (n : ℕ) (c : Cursor) (rest : Rest) → c.bare ≡ false
+    → bytes (line b n c rest) ≡ break_text b
+    ++ (replicate n 32 ++ bytes (rest (after_blanks n (line_start c))))
 line_bytes b n c rest bare =
     let e = after_blanks n (line_start c) in
     ap (λ t. bytes t) (line_is b n c rest bare) ∙ front_encodes (break_text b ++ replicate n 32) (rest e)
     ∙ ap (λ (bs : List ℕ). bs ++ bytes (rest e)) (low_encodes (break_text b ++ replicate n 32) (break_low b n)) ∙ append_assoc (break_text b) (replicate n 32) (bytes (rest e))
 
-pub follows_line : (b : LineBreak) (n : ℕ) (rest : Rest) → Shows n rest → Follows (n + 1) (λ e. line b n e rest)
+pub follows_line : (b : LineBreak) (n : ℕ) (rest : Rest) → Shows n rest
+    → Follows (n + 1) (λ e. line b n e rest)
 follows_line b n rest shows = record {
   stops = λ level low e bare. let d = after_blanks n (line_start e) in
       ap (λ bs. stops_plain_at false level None bs) (line_bytes b n e rest bare) ∙ (behind_lines false level n (bytes (rest d))).0 b None
@@ -93,7 +97,9 @@ follows_up m n rest up f = record { stops = λ level low e bare. f.stops level (
 
 -- ---- the end of a node
 
-no_blank : (b c d : ℕ) → (not (b == 32 || (b == 10 || b == 13)) && (not (b == 9) && break_of b c d == 0)) ≡ true → ((b == 32 || b == 9) || nat_lt 0 (break_of b c d)) ≡ false
+no_blank : (b c d : ℕ)
+    → (not (b == 32 || (b == 10 || b == 13)) && (not (b == 9) && break_of b c d == 0)) ≡ true
+    → ((b == 32 || b == 9) || nat_lt 0 (break_of b c d)) ≡ false
 unfolding break_of
 no_blank b c d h = grind (arith, nat_tests)
 
@@ -111,5 +117,6 @@ shown_ends b n after shows = record {
 }
 
 -- in deeper levels too
-pub ending_up : (b : LineBreak) (m level deeper : ℕ) (after : Rest) → level ≤ deeper → Ending b m level after → Ending b m deeper after
+pub ending_up : (b : LineBreak) (m level deeper : ℕ) (after : Rest) → level ≤ deeper
+    → Ending b m level after → Ending b m deeper after
 ending_up b m level deeper after up e = record { follows = follows_up level deeper (λ k. line b m k after) up e.follows; feed = e.feed; solid = e.solid }

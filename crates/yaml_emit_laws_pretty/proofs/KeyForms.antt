@@ -65,9 +65,11 @@ pub record KeyForm (flow : Bool) (level : ℕ) (a : Layout) (c : Cursor) (B : Li
   pub words : List (Spoken flow level)
   pub end : KeyEnd
   pub behind : Cursor
-  pub written : (rest : Rest) → bytes (a c rest) ≡ all_bytes words ++ (end_bytes end ++ bytes (rest behind))
+  pub written : (rest : Rest)
+      → bytes (a c rest) ≡ all_bytes words ++ (end_bytes end ++ bytes (rest behind))
   pub bodies : (bs : List TokenBody) → all_bodies words (end_bodies end bs) ≡ B bs
-  pub fits : (tail : List ℕ) → begins_white tail ≡ true → AllFit words (end_bytes end ++ (58 ∷ tail))
+  pub fits : (tail : List ℕ) → begins_white tail ≡ true
+      → AllFit words (end_bytes end ++ (58 ∷ tail))
   pub plains : (tail : List ℕ) → KeyFit words (end_bytes end ++ (58 ∷ tail))
   pub leads : LeadsKey words end (not c.white)
   pub kept : behind.kept ≡ c.kept
@@ -75,8 +77,11 @@ pub record KeyForm (flow : Bool) (level : ℕ) (a : Layout) (c : Cursor) (B : Li
 -- ---- the end of a key
 
 -- behind words
-ends_more : (k : KeyEnd) (d : ℕ) (ls tail : List ℕ) (x : yaml_encoding_t) (text : List ℕ) (p q end : ℕ) (cs : List ℕ) (T K : List TokenBody → List TokenBody) → Frame text d p end cs ls → p < q → q + length (end_bytes k) ≤ end
-    → KeyRuns x text q d p cs ls T K → Left text q (end_bytes k ++ tail) → KeyRuns x text (q + length (end_bytes k)) d p cs ls T (λ bs. K (end_bodies k bs))
+ends_more : (k : KeyEnd) (d : ℕ) (ls tail : List ℕ) (x : yaml_encoding_t) (text : List ℕ)
+    (p q end : ℕ) (cs : List ℕ) (T K : List TokenBody → List TokenBody) → Frame text d p end cs ls
+    → p < q → q + length (end_bytes k) ≤ end
+    → KeyRuns x text q d p cs ls T K → Left text q (end_bytes k ++ tail)
+    → KeyRuns x text (q + length (end_bytes k)) d p cs ls T (λ bs. K (end_bodies k bs))
 ends_more at_once d ls tail x text p q end cs T K f more few r l = let z : q ≡ q + 0 = omega arith in subst (λ i. KeyRuns x text i d p cs ls T K) z r
 ends_more spaced d ls tail x text p q end cs T K f more few r l = record { line = r.line; wide = r.wide; reads = key_space x text p q r.line d false r.wide cs ls tail T K r.reads l }
 ends_more (squares b) d ls tail x text p q end cs T K f more few r l =
@@ -92,19 +97,27 @@ ends_more (curlies b) d ls tail x text p q end cs T K f more few r l =
     let s = brackets_more 123 125 kinds.FlowMappingStart kinds.FlowMappingEnd tokens.flow_mapping_start tokens.flow_mapping_end curly d ls tail x text p g.at end cs T K g.runs f (omega (arith, more, up)) (omega (arith, few, far)) g.left in
     subst (λ i. KeyRuns x text i d p cs ls T (λ bs. K (tokens.flow_mapping_start ∷ tokens.flow_mapping_end ∷ bs))) far s
 
-two_behind : (b : Bool) (o first last : ℕ) → o + front b + 2 ≡ o + length (if b then 32 ∷ (first ∷ last ∷ []) else first ∷ last ∷ [])
+two_behind : (b : Bool) (o first last : ℕ)
+    → o + front b + 2 ≡ o + length (if b then 32 ∷ (first ∷ last ∷ []) else first ∷ last ∷ [])
 two_behind true o first last = omega arith
 two_behind false o first last = omega arith
 
 -- at the key's start
-ends_first : (k : KeyEnd) (b : Bool) → StartsEnd k b → (d : ℕ) (ls tail : List ℕ) (x : yaml_encoding_t) (text : List ℕ) (o line end : ℕ) (broken : Bool) (cs more : List ℕ) (T : List TokenBody → List TokenBody)
-    → Reads x text (spot_at o line d true broken) cs ls more T → ClosesAt d (column_at text (o + front b)) ls more → Frame text d (o + front b) end cs ls → o + length (end_bytes k) ≤ end → Left text o (end_bytes k ++ tail)
+ends_first : (k : KeyEnd) (b : Bool) → StartsEnd k b
+    → (d : ℕ) (ls tail : List ℕ) (x : yaml_encoding_t) (text : List ℕ) (o line end : ℕ)
+    (broken : Bool) (cs more : List ℕ) (T : List TokenBody → List TokenBody)
+    → Reads x text (spot_at o line d true broken) cs ls more T
+    → ClosesAt d (column_at text (o + front b)) ls more → Frame text d (o + front b) end cs ls
+    → o + length (end_bytes k) ≤ end → Left text o (end_bytes k ++ tail)
     → KeyRuns x text (o + length (end_bytes k)) d (o + front b) cs ls T (λ bs. end_bodies k bs)
 ends_first at_once b none d ls tail x text o line end broken cs more T reads closes f few l = absurd none
 ends_first spaced b none d ls tail x text o line end broken cs more T reads closes f few l = absurd none
 ends_first (squares s) b same d ls tail x text o line end broken cs more T reads closes f few l = by s (sym same) few l
   where
-    by : (s : Bool) → b ≡ s → o + length (end_bytes (squares s)) ≤ end → Left text o (end_bytes (squares s) ++ tail) → KeyRuns x text (o + length (end_bytes (squares s))) d (o + front b) cs ls T (λ bs. tokens.flow_sequence_start ∷ tokens.flow_sequence_end ∷ bs)
+    by : (s : Bool) → b ≡ s → o + length (end_bytes (squares s)) ≤ end
+        → Left text o (end_bytes (squares s) ++ tail)
+        → KeyRuns x text (o + length (end_bytes (squares s))) d (o + front b) cs ls T
+        (λ bs. tokens.flow_sequence_start ∷ tokens.flow_sequence_end ∷ bs)
     by s e few l =
         let g = key_begun x text o line d broken cs ls more T s (91 ∷ 93 ∷ []) tail reads l in
         let two = two_behind s o 91 93 in
@@ -115,7 +128,10 @@ ends_first (squares s) b same d ls tail x text o line end broken cs more T reads
         (subst (λ i. KeyRuns x text i d (o + front s) cs ls T (λ bs. tokens.flow_sequence_start ∷ tokens.flow_sequence_end ∷ bs)) two r)
 ends_first (curlies s) b same d ls tail x text o line end broken cs more T reads closes f few l = by s (sym same) few l
   where
-    by : (s : Bool) → b ≡ s → o + length (end_bytes (curlies s)) ≤ end → Left text o (end_bytes (curlies s) ++ tail) → KeyRuns x text (o + length (end_bytes (curlies s))) d (o + front b) cs ls T (λ bs. tokens.flow_mapping_start ∷ tokens.flow_mapping_end ∷ bs)
+    by : (s : Bool) → b ≡ s → o + length (end_bytes (curlies s)) ≤ end
+        → Left text o (end_bytes (curlies s) ++ tail)
+        → KeyRuns x text (o + length (end_bytes (curlies s))) d (o + front b) cs ls T
+        (λ bs. tokens.flow_mapping_start ∷ tokens.flow_mapping_end ∷ bs)
     by s e few l =
         let g = key_begun x text o line d broken cs ls more T s (123 ∷ 125 ∷ []) tail reads l in
         let two = two_behind s o 123 125 in
@@ -128,10 +144,17 @@ ends_first (curlies s) b same d ls tail x text o line end broken cs more T reads
 -- ---- all words of a key
 
 -- a key's words up to its `:`
-key_runs : (d : ℕ) (ls : List ℕ) (words : List (Spoken (nat_lt 0 d) (indent ls))) (k : KeyEnd) (b : Bool) → LeadsKey words k b → (tail : List ℕ) (x : yaml_encoding_t) (text : List ℕ) (o line end : ℕ) (broken : Bool) (cs more : List ℕ) (T : List TokenBody → List TokenBody)
-    → Reads x text (spot_at o line d true broken) cs ls more T → ClosesAt d (column_at text (o + front b)) ls more → Frame text d (o + front b) end cs ls → o + length (all_bytes words ++ end_bytes k) ≤ end
-    → Left text o (all_bytes words ++ (end_bytes k ++ tail)) → AllFit words (end_bytes k ++ tail) → KeyFit words (end_bytes k ++ tail)
-    → KeyRuns x text (o + length (all_bytes words ++ end_bytes k)) d (o + front b) cs ls T (λ bs. all_bodies words (end_bodies k bs))
+key_runs : (d : ℕ) (ls : List ℕ) (words : List (Spoken (nat_lt 0 d) (indent ls))) (k : KeyEnd)
+    (b : Bool) → LeadsKey words k b
+    → (tail : List ℕ) (x : yaml_encoding_t) (text : List ℕ) (o line end : ℕ) (broken : Bool)
+    (cs more : List ℕ) (T : List TokenBody → List TokenBody)
+    → Reads x text (spot_at o line d true broken) cs ls more T
+    → ClosesAt d (column_at text (o + front b)) ls more → Frame text d (o + front b) end cs ls
+    → o + length (all_bytes words ++ end_bytes k) ≤ end
+    → Left text o (all_bytes words ++ (end_bytes k ++ tail)) → AllFit words (end_bytes k ++ tail)
+    → KeyFit words (end_bytes k ++ tail)
+    → KeyRuns x text (o + length (all_bytes words ++ end_bytes k)) d (o + front b) cs ls T
+    (λ bs. all_bodies words (end_bodies k bs))
 key_runs d ls [] k b leads tail x text o line end broken cs more T reads closes f few l fits plains = ends_first k b leads d ls tail x text o line end broken cs more T reads closes f few l
 key_runs d ls (w ∷ ws) k b (same, some, starts) tail x text o line end broken cs more T reads closes f few l fits plains =
     let all = length-append (all_bytes (w ∷ ws)) (end_bytes k) in
@@ -145,7 +168,8 @@ key_runs d ls (w ∷ ws) k b (same, some, starts) tail x text o line end broken 
     subst (λ t. KeyRuns x text (o + length (all_bytes (w ∷ ws) ++ end_bytes k)) d (o + front t) cs ls T (λ bs. w.body ∷ all_bodies ws (end_bodies k bs))) same
     (subst (λ i. KeyRuns x text i d (o + front w.spaced) cs ls T (λ bs. w.body ∷ all_bodies ws (end_bodies k bs))) far s)
   where
-    leads_by : (b : Bool) (own more : List ℕ) → 0 < length own → front b < length ((if b then 32 ∷ own else own) ++ more)
+    leads_by : (b : Bool) (own more : List ℕ) → 0 < length own
+        → front b < length ((if b then 32 ∷ own else own) ++ more)
     leads_by true own more some = let e = length-append own more in omega (arith, e, some)
     leads_by false own more some = let e = length-append own more in omega (arith, e, some)
 
@@ -154,17 +178,22 @@ pub record KeyBegins (text : List ℕ) (o : ℕ) (b : Bool) (own : List ℕ) : T
   pub starts : starts (byte text (o + front b)) ≡ true
   pub some : front b < length own
 
-key_starts : {flow : Bool} {level : ℕ} (words : List (Spoken flow level)) (k : KeyEnd) (b : Bool) → LeadsKey words k b → (tail text : List ℕ) (o : ℕ) → Left text o (all_bytes words ++ (end_bytes k ++ tail)) → KeyBegins text o b (all_bytes words ++ end_bytes k)
+key_starts : {flow : Bool} {level : ℕ} (words : List (Spoken flow level)) (k : KeyEnd) (b : Bool)
+    → LeadsKey words k b → (tail text : List ℕ) (o : ℕ)
+    → Left text o (all_bytes words ++ (end_bytes k ++ tail))
+    → KeyBegins text o b (all_bytes words ++ end_bytes k)
 key_starts [] at_once b none tail text o l = absurd none
 key_starts [] spaced b none tail text o l = absurd none
 key_starts [] (squares s) b same tail text o l = subst (λ t. KeyBegins text o t (end_bytes (squares s))) same (by s l)
   where
-    by : (s : Bool) → Left text o (end_bytes (squares s) ++ tail) → KeyBegins text o s (end_bytes (squares s))
+    by : (s : Bool) → Left text o (end_bytes (squares s) ++ tail)
+        → KeyBegins text o s (end_bytes (squares s))
     by true l = record { starts = ap (λ n. starts n) (left_first text (o + 1) 91 (93 ∷ tail) (left_more text o 32 (91 ∷ 93 ∷ tail) l)); some = omega arith }
     by false l = let z : o + 0 ≡ o = omega arith in record { starts = ap (λ i. starts (byte text i)) z ∙ ap (λ n. starts n) (left_first text o 91 (93 ∷ tail) l); some = omega arith }
 key_starts [] (curlies s) b same tail text o l = subst (λ t. KeyBegins text o t (end_bytes (curlies s))) same (by s l)
   where
-    by : (s : Bool) → Left text o (end_bytes (curlies s) ++ tail) → KeyBegins text o s (end_bytes (curlies s))
+    by : (s : Bool) → Left text o (end_bytes (curlies s) ++ tail)
+        → KeyBegins text o s (end_bytes (curlies s))
     by true l = record { starts = ap (λ n. starts n) (left_first text (o + 1) 123 (125 ∷ tail) (left_more text o 32 (123 ∷ 125 ∷ tail) l)); some = omega arith }
     by false l = let z : o + 0 ≡ o = omega arith in record { starts = ap (λ i. starts (byte text i)) z ∙ ap (λ n. starts n) (left_first text o 123 (125 ∷ tail) l); some = omega arith }
 key_starts (w ∷ ws) k b (same, some, starts_by) tail text o l =
@@ -175,7 +204,10 @@ key_starts (w ∷ ws) k b (same, some, starts_by) tail text o l =
     let e2 = length-append (spoken_bytes w ++ all_bytes ws) (end_bytes k) in
     subst (λ t. KeyBegins text o t (all_bytes (w ∷ ws) ++ end_bytes k)) same (record { starts = here.starts; some = omega (arith, s, e1, e2) })
   where
-    by : (s : Bool) (own : List ℕ) → 0 < length own → ((text : List ℕ) (p : ℕ) → Has text p own → starts (byte text p) ≡ true) → Left text o ((if s then 32 ∷ own else own) ++ (all_bytes ws ++ (end_bytes k ++ tail))) → KeyBegins text o s (if s then 32 ∷ own else own)
+    by : (s : Bool) (own : List ℕ) → 0 < length own
+        → ((text : List ℕ) (p : ℕ) → Has text p own → starts (byte text p) ≡ true)
+        → Left text o ((if s then 32 ∷ own else own) ++ (all_bytes ws ++ (end_bytes k ++ tail)))
+        → KeyBegins text o s (if s then 32 ∷ own else own)
     by true own some f l = let m = left_more text o 32 (own ++ (all_bytes ws ++ (end_bytes k ++ tail))) l in record { starts = f text (o + 1) (has_front text (o + 1) own (all_bytes ws ++ (end_bytes k ++ tail)) m.has); some = omega (arith, some) }
     by false own some f l = let z : o + 0 ≡ o = omega arith in record { starts = ap (λ i. starts (byte text i)) z ∙ f text o (has_front text o own (all_bytes ws ++ (end_bytes k ++ tail)) l.has); some = omega (arith, some) }
 
@@ -191,22 +223,34 @@ same_line a b c d e = grind (arith, nat_tests)
 abbrev pub behind_colon : Cursor → Cursor
 behind_colon b = record { column = b.column + 1; white = false; bare = false; kept = b.kept }
 
-reads_as : (x : yaml_encoding_t) (text : List ℕ) (o : Where) (cs ls : List ℕ) (T U : List TokenBody → List TokenBody) → Reads x text o cs ls [] T → ((bs : List TokenBody) → T bs ≡ U bs) → Reads x text o cs ls [] U
+reads_as : (x : yaml_encoding_t) (text : List ℕ) (o : Where) (cs ls : List ℕ)
+    (T U : List TokenBody → List TokenBody) → Reads x text o cs ls [] T
+    → ((bs : List TokenBody) → T bs ≡ U bs) → Reads x text o cs ls [] U
 reads_as x text o cs ls T U r e = walk_says.other x text o cs ls [] T U r e
 
 -- Behind a key's `:`, at that depth.
 pub record KeyDone (x : yaml_encoding_t) (text : List ℕ) (rest : Rest) (c : Cursor) (o d : ℕ) (cs ls : List ℕ) (T : List TokenBody → List TokenBody) : Type 0 where
   pub behind : Cursor
   pub at : ℕ
-  pub reads : Reads x text (spot_at (at + 1) (line_at text at) d false (not (nat_lt 0 d))) cs ls [] T
+  pub reads : Reads x text (spot_at (at + 1) (line_at text at) d false (not (nat_lt 0 d))) cs ls []
+      T
   pub left : Left text (at + 1) (bytes (rest (behind_colon behind)))
   pub kept : behind.kept ≡ c.kept
   pub grown : column_at text (o + front (not c.white)) + 2 ≤ column_at text (at + 1)
 
-pub key_done : (d : ℕ) (ls : List ℕ) (a : Layout) (c : Cursor) (B : List TokenBody → List TokenBody) → KeyForm (nat_lt 0 d) (indent ls) a c B → StaysNear a c 530 → (x : yaml_encoding_t) (text : List ℕ) (o line : ℕ) (broken : Bool) (cs more new : List ℕ) (what : Opens) (T : List TokenBody → List TokenBody) (rest : Rest)
-    → Reads x text (spot_at o line d true broken) cs ls more T → Outside d cs → (let at = column_at text (o + front (not c.white)) in ClosesAt d at ls more × ((nat_lt 0 d ≡ true) ⊎ (indent ls ≤ at + 1)) × (opened (not (nat_lt 0 d)) (margin_at at) ls ≡ new) × (start_of d (margin_at at) ls opening.Mapping ≡ what))
-    → ((e : Cursor) → e.bare ≡ false → e.white ≡ false → begins_white (bytes (rest e)) ≡ true) → Left text o (bytes ((a ▹ char 58) c rest))
-    → KeyDone x text rest c o d cs new (λ bs. T (start_bodies what (tokens.key ∷ B (tokens.value ∷ bs))))
+pub key_done : (d : ℕ) (ls : List ℕ) (a : Layout) (c : Cursor) (B : List TokenBody → List TokenBody)
+    → KeyForm (nat_lt 0 d) (indent ls) a c B → StaysNear a c 530
+    → (x : yaml_encoding_t) (text : List ℕ) (o line : ℕ) (broken : Bool) (cs more new : List ℕ)
+    (what : Opens) (T : List TokenBody → List TokenBody) (rest : Rest)
+    → Reads x text (spot_at o line d true broken) cs ls more T → Outside d cs
+    → (let at = column_at text (o + front (not c.white)) in ClosesAt d at ls more
+    × ((nat_lt 0 d ≡ true) ⊎ (indent ls ≤ at + 1))
+    × (opened (not (nat_lt 0 d)) (margin_at at) ls ≡ new)
+    × (start_of d (margin_at at) ls opening.Mapping ≡ what))
+    → ((e : Cursor) → e.bare ≡ false → e.white ≡ false → begins_white (bytes (rest e)) ≡ true)
+    → Left text o (bytes ((a ▹ char 58) c rest))
+    → KeyDone x text rest c o d cs new
+    (λ bs. T (start_bodies what (tokens.key ∷ B (tokens.value ∷ bs))))
 key_done d ls a c B form near x text o line broken cs more new what T rest reads out (closes, deep, opens, begins) parted l =
     let none : Rest = λ e. [] in
     let own = all_bytes form.words ++ end_bytes form.end in

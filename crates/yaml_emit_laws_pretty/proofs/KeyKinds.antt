@@ -1,5 +1,5 @@
 -- Simple keys of every kind: scalars in the three styles that a key can have, aliases, and empty collections, with their properties.
-use Rattle.std.proofs.Common.{◌≡◌, ◌⊎◌, ℕ, ◌+◌, ◌-◌, ◌<◌, ◌≤◌, ◌==◌, ◌&&◌, ◌||◌, not, nat_lt, Bool, true, false, List, [], ◌∷◌, ◌++◌, length, Option, Some, None, refl, sym, ap, subst, ◌∙◌, inl, inr, arith, append_assoc, encode_utf8_all, IsUtf8}
+use Rattle.std.proofs.Common.{◌≡◌, ◌⊎◌, ℕ, ◌+◌, ◌-◌, ◌<◌, ◌≤◌, ◌==◌, ◌&&◌, ◌||◌, not, nat_lt, Bool, true, false, List, [], ◌∷◌, ◌++◌, length, Option, Some, None, refl, sym, ap, subst, ◌∙◌, inl, inr, arith, encode_utf8_all, IsUtf8}
 use Rattle.std.specs.Prelude.{if◌then◌else◌}
 use Rattle.std.specs.Str.{chars}
 use Rattle.std.proofs.lemmas.Bool.{cases_Bool, false≢true}
@@ -8,7 +8,7 @@ use Rattle.yaml_emit_laws_text.specs.emit_layout.scan_model.Tokens as tokens
 use Rattle.yaml_emit_laws_text.specs.emit_layout.scan_model.Tokens.{TokenBody}
 use Rattle.yaml_emit_laws_text.specs.emit_layout.scan_model.declared.yaml_scalar_style_t.{yaml_scalar_style_t}
 use Rattle.yaml_emit_laws_text.specs.emit_layout.scan_model.declared.yaml_scalar_style_t.TheVariants as asked
-use Rattle.yaml_emit_laws_text.specs.scan_history.scan_model.Marks.{byte, starts}
+use Rattle.yaml_emit_laws_text.specs.scan_history.scan_model.Marks.{starts}
 use Rattle.yaml_emit_laws_text.specs.scan_history.declared.kind.Kind.TheVariants as kinds
 use Rattle.yaml_emit_laws_text.specs.scan_history.Words.{kind_at}
 use Rattle.yaml_emit_laws_text.specs.emit_layout.emit_text.declared.Allowed.{Allowed}
@@ -27,13 +27,12 @@ use Rattle.yaml_emit_laws_text.specs.emit_layout.Content.{Opening, Scalar, Start
 use Rattle.yaml_emit_laws_text.specs.emit_layout.Grammar.{has, kept_if, scalar_tag, start_tag}
 use Rattle.yaml_emit_laws_text.specs.emit_layout.Nodes.{Context, context_of, spot, style_of, is_plain, is_flow, is_simple, is_simple_start, anchor_text, tag_text, properties_text, page_at, deeper, checked, MOST, indented, indent_of, scalar_layout, alias_layout, closer, node_layout, items_layout, pairs_layout}
 use Rattle.yaml_emit_laws_text.specs.Bodies.{anchor_bodies, tag_bodies, mark_bodies}
-use Rattle.yaml_emit_laws_text.specs.Walk.{Has, Left, bytes, first}
+use Rattle.yaml_emit_laws_text.specs.Walk.{Left, bytes, first}
 use Rattle.yaml_emit_laws_text.specs.Writable.{IsWritable, IsWritableTag}
-use Rattle.yaml_emit_laws_text.proofs.Bytes.{AreCalm}
 use Rattle.yaml_emit_laws_text.proofs.QuotedWhole.{quoted_is_back}
 use Rattle.yaml_emit_laws_text.proofs.Steps.{letter_low, deep_bytes}
 use Rattle.yaml_scan_laws_texts.proofs.NamesRead.{anchor_is_read}
-use Rattle.yaml_emit_laws_scalars.specs.Stops.{begins_white, white_of}
+use Rattle.yaml_emit_laws_scalars.specs.Stops.{begins_white}
 use Rattle.yaml_emit_laws_scalars.specs.PlainLaws.{may_be_plain}
 use Rattle.yaml_emit_laws_scalars.specs.SingleLaws.{SingleLinesAreReadBack}
 use Rattle.yaml_emit_laws_scalars.specs.StandsLaws.{PlainHasGap, ScalarsAreWords}
@@ -45,98 +44,14 @@ use Rattle.yaml_scan_laws_levels.proofs.Signing.{signs_come, printed_begins}
 use Rattle.yaml_emit_laws_pretty.specs.Bodies.{place, style_at, is_empty, is_nothing, style_named, takes_mark, value_bodies, scalar_bodies, node_bodies, sequence_opens, sequence_closes, mapping_opens, mapping_closes, items_bodies, pairs_bodies, keeps}
 use Rattle.yaml_emit_laws_pretty.specs.Nodes.{IsPretty}
 use Rattle.yaml_emit_laws_pretty.specs.Walk.{no_comment}
-use Rattle.yaml_emit_laws_pretty.specs.Spoken.{Spoken, Says, Fits, spoken_bytes, all_bytes, all_bodies, AllFit}
+use Rattle.yaml_emit_laws_pretty.specs.Spoken.{Spoken, Fits, all_bytes}
 use Rattle.yaml_emit_laws_pretty.proofs.Entries.{no_gap}
 use Rattle.yaml_emit_laws_pretty.proofs.SpokenWords.{alias_word, double_word, single_word, plain_word}
 use Rattle.yaml_emit_laws_pretty.proofs.SpokenLayouts.{behind_gap, alias_says, double_says, single_says, plain_says}
 use Rattle.yaml_emit_laws_pretty.proofs.KeyColumns.{letters_start, low_starts}
-use Rattle.yaml_emit_laws_pretty.proofs.KeySteps.{KeyFit}
-use Rattle.yaml_emit_laws_pretty.proofs.KeyForms.{KeyForm, KeyEnd, at_once, spaced, squares, curlies, end_bytes, end_bodies, StartsEnd, LeadsKey}
-use Rattle.yaml_emit_laws_pretty.proofs.LeafProps.{Dress, Moved, Leads, NonePlain, has_some, dress_all}
-
--- ---- lists of words
-
-all_append : {flow : Bool} {level : ℕ} (xs ys : List (Spoken flow level)) → all_bytes (xs ++ ys) ≡ all_bytes xs ++ all_bytes ys
-all_append [] ys = refl
-all_append (x ∷ xs) ys = ap (λ (bs : List ℕ). spoken_bytes x ++ bs) (all_append xs ys) ∙ sym (append_assoc (spoken_bytes x) (all_bytes xs) (all_bytes ys))
-
-bodies_append : {flow : Bool} {level : ℕ} (xs ys : List (Spoken flow level)) (bs : List TokenBody) → all_bodies (xs ++ ys) bs ≡ all_bodies xs (all_bodies ys bs)
-bodies_append [] ys bs = refl
-bodies_append (x ∷ xs) ys bs = ap (λ (ds : List TokenBody). x.body ∷ ds) (bodies_append xs ys bs)
-
-behind_append : {flow : Bool} {level : ℕ} (xs ys : List (Spoken flow level)) (bs : List ℕ) → all_bytes (xs ++ ys) ++ bs ≡ all_bytes xs ++ (all_bytes ys ++ bs)
-behind_append xs ys bs = ap (λ (zs : List ℕ). zs ++ bs) (all_append xs ys) ∙ append_assoc (all_bytes xs) (all_bytes ys) bs
-
-fit_append : (flow : Bool) (level : ℕ) (xs ys : List (Spoken flow level)) (bs : List ℕ) → AllFit xs (all_bytes ys ++ bs) → AllFit ys bs → AllFit (xs ++ ys) bs
-fit_append flow level [] ys bs f g = g
-fit_append flow level (x ∷ xs) ys bs (f, fs) g = (subst (λ (zs : List ℕ). Fits x.wants flow level zs) (sym (behind_append xs ys bs)) f, fit_append flow level xs ys bs fs g)
-
-plains_append : (flow : Bool) (level : ℕ) (xs ys : List (Spoken flow level)) (bs : List ℕ) → NonePlain xs → KeyFit ys bs → KeyFit (xs ++ ys) bs
-plains_append flow level [] ys bs f g = g
-plains_append flow level (x ∷ xs) ys bs (f, fs) g = (λ e. absurd (f e), plains_append flow level xs ys bs fs g)
-
-plains_none : (flow : Bool) (level : ℕ) (xs : List (Spoken flow level)) (bs : List ℕ) → NonePlain xs → KeyFit xs bs
-plains_none flow level [] bs f = tt
-plains_none flow level (x ∷ xs) bs (f, fs) = (λ e. absurd (f e), plains_none flow level xs bs fs)
-
--- ---- a last word behind properties
-
-calm_starts : (own : List ℕ) → 0 < length own → AreCalm own → (text : List ℕ) (p : ℕ) → Has text p own → starts (byte text p) ≡ true
-calm_starts [] some a text p h = absurd (omega (arith, some))
-calm_starts (x ∷ xs) some (a, all) text p (e, h) = ap (λ n. starts n) e ∙ low_starts x a.low
-
--- the last word of a key, before the `:`
-pub record LastWord (flow : Bool) (level : ℕ) (a : Layout) (c : Cursor) (w : Spoken flow level) : Type 0 where
-  pub says : Says flow level a c (w ∷ [])
-  pub spaced : w.spaced ≡ not c.white
-  pub some : 0 < length w.own
-  pub starts : (text : List ℕ) (p : ℕ) → Has text p w.own → starts (byte text p) ≡ true
-  pub fits : (tail : List ℕ) → begins_white tail ≡ true → Fits w.wants flow level (58 ∷ tail)
-
-spaced_first : (flow : Bool) (level : ℕ) (w : Spoken flow level) (b : Bool) (bs : List ℕ) → w.spaced ≡ not b → b ≡ false → first (all_bytes (w ∷ []) ++ bs) ≡ 32
-spaced_first flow level w b bs e f = ap (λ (t : Bool). first (((if t then 32 ∷ w.own else w.own) ++ []) ++ bs)) (e ∙ ap not f)
-
-spaced_white : (flow : Bool) (level : ℕ) (w : Spoken flow level) (b : Bool) (bs : List ℕ) → w.spaced ≡ not b → b ≡ false → begins_white (all_bytes (w ∷ []) ++ bs) ≡ true
-spaced_white flow level w b bs e f = ap (λ (t : Bool). begins_white (((if t then 32 ∷ w.own else w.own) ++ []) ++ bs)) (e ∙ ap not f)
-
-fits_moved : (flow : Bool) (level : ℕ) (ws : List (Spoken flow level)) (c e : Cursor) (bs : List ℕ) → Moved ws c e → (e.white ≡ false → AllFit ws bs) → AllFit ws bs
-fits_moved flow level [] c e bs m f = tt
-fits_moved flow level (w ∷ ws) c e bs m f = f m.1
-
-leads_last : (flow : Bool) (level : ℕ) (ws : List (Spoken flow level)) (w : Spoken flow level) (c e : Cursor) → Leads ws c → Moved ws c e → w.spaced ≡ not e.white → 0 < length w.own → ((text : List ℕ) (p : ℕ) → Has text p w.own → starts (byte text p) ≡ true) → LeadsKey (ws ++ (w ∷ [])) at_once (not c.white)
-leads_last flow level [] w c e leads m same some begins = (same ∙ ap (λ (x : Cursor). not x.white) m, some, begins)
-leads_last flow level (v ∷ ws) w c e (gap, own, calm) m same some begins = (gap, own, calm_starts v.own own calm)
-
-form_words : (flow : Bool) (level : ℕ) (a b : Layout) (c : Cursor) (has marked : Bool) (B : List TokenBody → List TokenBody) (r : Dress flow level a c has marked B) (w : Spoken flow level) → LastWord flow level b r.behind w → KeyForm flow level (a ▹ b) c (λ bs. B (w.body ∷ bs))
-unfolding white_of
-form_words flow level a b c has marked B r w last =
-    let one = w ∷ [] in
-    record {
-      words = r.words ++ one;
-      end = at_once;
-      behind = last.says.behind;
-      written = λ rest. r.written (λ d. b d rest) ∙ ap (λ (bs : List ℕ). all_bytes r.words ++ bs) (last.says.written rest) ∙ sym (behind_append r.words one (bytes (rest last.says.behind)));
-      bodies = λ bs. bodies_append r.words one bs ∙ r.bodies (w.body ∷ bs);
-      fits = λ tail h. fit_append flow level r.words one (58 ∷ tail)
-          (fits_moved flow level r.words c r.behind (all_bytes one ++ (58 ∷ tail)) r.moved (λ e. r.fits (all_bytes one ++ (58 ∷ tail)) (spaced_white flow level w r.behind.white (58 ∷ tail) last.spaced e) (λ k. spaced_first flow level w r.behind.white (58 ∷ tail) last.spaced e)))
-          (last.fits tail h, tt);
-      plains = λ tail. plains_append flow level r.words one (58 ∷ tail) r.named (λ e. refl, tt);
-      leads = leads_last flow level r.words w c r.behind r.leads r.moved last.spaced last.some last.starts;
-      kept = last.says.kept ∙ r.kept;
-    }
-
-form_as : (flow : Bool) (level : ℕ) (a b : Layout) (c : Cursor) (B C : List TokenBody → List TokenBody) → a ≡ b → ((bs : List TokenBody) → B bs ≡ C bs) → KeyForm flow level b c B → KeyForm flow level a c C
-form_as flow level a b c B C same e f = record {
-  words = f.words;
-  end = f.end;
-  behind = f.behind;
-  written = λ rest. ap (λ (l : Layout). bytes (l c rest)) same ∙ f.written rest;
-  bodies = λ bs. f.bodies bs ∙ e bs;
-  fits = f.fits;
-  plains = f.plains;
-  leads = f.leads;
-  kept = f.kept;
-}
+use Rattle.yaml_emit_laws_pretty.proofs.KeyForms.{KeyForm, KeyEnd, spaced, squares, curlies, end_bytes, end_bodies, StartsEnd, LeadsKey}
+use Rattle.yaml_emit_laws_pretty.proofs.LeafProps.{Dress, Moved, Leads, has_some, dress_all}
+use Rattle.yaml_emit_laws_pretty.proofs.KeyWords.{plains_none, calm_starts, fits_moved, form_words, form_as, LastWord}
 
 -- ---- scalars
 
@@ -144,21 +59,29 @@ form_as flow level a b c B C same e f = record {
 abbrev pub marked_as : Scalar → Style → Bool
 marked_as x chosen = not (has (scalar_tag false x)) && (not x.quoted && not (is_plain chosen))
 
-pub scalar_laid : (p : Context) (at : Spot) (x : Scalar) (chosen : Style) → p.settings.canonical ≡ false → style_of p at x ≡ chosen
-    → node_layout p at (scalar_node x) ≡ ((anchor_text x.anchor ▹ (tag_text p (scalar_tag false x) ▹ when (marked_as x chosen) (word (33 ∷ [])))) ▹ (checked (deeper p.settings at.around) ▹ scalar_text (page_at p.settings at) p.settings.indent at.flow chosen (chars x.value)))
+pub scalar_laid : (p : Context) (at : Spot) (x : Scalar) (chosen : Style)
+    → p.settings.canonical ≡ false → style_of p at x ≡ chosen
+    → node_layout p at (scalar_node x)
+    ≡ ((anchor_text x.anchor ▹ (tag_text p (scalar_tag false x) ▹ when (marked_as x chosen)
+    (word (33 ∷ [])))) ▹ (checked (deeper p.settings at.around) ▹ scalar_text
+    (page_at p.settings at) p.settings.indent at.flow chosen (chars x.value)))
 unfolding node_layout scalar_layout
 scalar_laid p at x chosen pretty same =
     let last : Style → Layout = λ s. checked (deeper p.settings at.around) ▹ scalar_text (page_at p.settings at) p.settings.indent at.flow s (chars x.value) in
     ap (λ (b : Bool). properties_text p x.anchor (scalar_tag b x) ▹ (when (not (has (scalar_tag b x)) && (not x.quoted && not (is_plain (style_of p at x)))) (word (33 ∷ [])) ▹ last (style_of p at x))) pretty
     ∙ ap (λ (s : Style). properties_text p x.anchor (scalar_tag false x) ▹ (when (not (has (scalar_tag false x)) && (not x.quoted && not (is_plain s))) (word (33 ∷ [])) ▹ last s)) same
 
-pub scalar_says : (p : Context) (flow : Bool) (q : Part) (bare : Bool) (x : Scalar) (chosen : Style) → style_at p flow q x ≡ chosen → (bs : List TokenBody)
-    → node_bodies p flow q bare (scalar_node x) bs ≡ anchor_bodies x.anchor (tag_bodies p.directives (scalar_tag false x) (mark_bodies (marked_as x chosen) (scalar_bodies flow chosen x.value bs)))
+pub scalar_says : (p : Context) (flow : Bool) (q : Part) (bare : Bool) (x : Scalar) (chosen : Style)
+    → style_at p flow q x ≡ chosen → (bs : List TokenBody)
+    → node_bodies p flow q bare (scalar_node x) bs
+    ≡ anchor_bodies x.anchor (tag_bodies p.directives (scalar_tag false x)
+    (mark_bodies (marked_as x chosen) (scalar_bodies flow chosen x.value bs)))
 unfolding node_bodies
 scalar_says p flow q bare x chosen same bs =
     ap (λ (s : Style). anchor_bodies x.anchor (tag_bodies p.directives (scalar_tag false x) (mark_bodies (not (has (scalar_tag false x)) && takes_mark x.quoted s) (scalar_bodies flow s x.value bs)))) same
 
-last_checked : (flow : Bool) (level n : ℕ) (a : Layout) (c : Cursor) (w : Spoken flow level) → LastWord flow level a c w → LastWord flow level (checked n ▹ a) c w
+last_checked : (flow : Bool) (level n : ℕ) (a : Layout) (c : Cursor) (w : Spoken flow level)
+    → LastWord flow level a c w → LastWord flow level (checked n ▹ a) c w
 last_checked flow level n a c w l = record {
   says = record { behind = l.says.behind; written = λ rest. deep_bytes (nat_lt MOST n) (a c rest) ∙ l.says.written rest; bare = l.says.bare; white = l.says.white; kept = l.says.kept };
   spaced = l.spaced;
@@ -167,7 +90,8 @@ last_checked flow level n a c w l = record {
   fits = l.fits;
 }
 
-quote_some : (q : ℕ) (letters inside : List ℕ) → q < 128 → letters ≡ q ∷ inside → 0 < length (encode_utf8_all letters)
+quote_some : (q : ℕ) (letters inside : List ℕ) → q < 128 → letters ≡ q ∷ inside
+    → 0 < length (encode_utf8_all letters)
 quote_some q letters inside low e =
     let same : encode_utf8_all letters ≡ (q ∷ []) ++ encode_utf8_all inside = ap (λ (xs : List ℕ). encode_utf8_all xs) e ∙ ap (λ (bs : List ℕ). bs ++ encode_utf8_all inside) (encode_ascii q low) in
     let l = ap (λ (bs : List ℕ). length bs) same in
@@ -215,8 +139,13 @@ not_empty : (flow : Bool) (b : ℕ) (bs : List ℕ) → (not flow && false) ≡ 
 not_empty true b bs = refl
 not_empty false b bs = refl
 
-last_plain : Scalars → (flow : Bool) (level : ℕ) (s : Settings) (at : Spot) (x : Scalar) (c : Cursor) (b : ℕ) (bs : List ℕ) → x.value ≡ b ∷ bs → IsUtf8 x.value → may_be_plain s.unicode flow (chars x.value) ≡ true → 0 < deeper s at.around → level ≤ deeper s at.around
-    → LastOf flow level (scalar_text (page_at s at) s.indent flow style.Plain (chars x.value)) c x style.Plain
+last_plain : Scalars
+    → (flow : Bool) (level : ℕ) (s : Settings) (at : Spot) (x : Scalar) (c : Cursor) (b : ℕ)
+    (bs : List ℕ) → x.value ≡ b ∷ bs → IsUtf8 x.value
+    → may_be_plain s.unicode flow (chars x.value) ≡ true → 0 < deeper s at.around
+    → level ≤ deeper s at.around
+    → LastOf flow level (scalar_text (page_at s at) s.indent flow style.Plain (chars x.value)) c x
+    style.Plain
 unfolding scalar_text
 last_plain law flow level s at x c b bs same u may deep far =
     let page = page_at s at in
@@ -238,8 +167,11 @@ no_plain : (flow : Bool) → (not flow && false) ≡ false
 no_plain true = refl
 no_plain false = refl
 
-last_single : Scalars → (flow : Bool) (level : ℕ) (s : Settings) (at : Spot) (x : Scalar) (c : Cursor) → IsUtf8 x.value → (allowed s.unicode (chars x.value)).single ≡ true → 0 < deeper s at.around
-    → LastOf flow level (scalar_text (page_at s at) s.indent flow style.Single (chars x.value)) c x style.Single
+last_single : Scalars
+    → (flow : Bool) (level : ℕ) (s : Settings) (at : Spot) (x : Scalar) (c : Cursor)
+    → IsUtf8 x.value → (allowed s.unicode (chars x.value)).single ≡ true → 0 < deeper s at.around
+    → LastOf flow level (scalar_text (page_at s at) s.indent flow style.Single (chars x.value)) c x
+    style.Single
 unfolding scalar_text
 last_single law flow level s at x c u may deep =
     let page = page_at s at in
@@ -253,8 +185,10 @@ last_single law flow level s at x c u may deep =
       some = no_plain flow;
     }
 
-last_double : (flow : Bool) (level : ℕ) (s : Settings) (at : Spot) (x : Scalar) (c : Cursor) → IsUtf8 x.value → 0 < deeper s at.around
-    → LastOf flow level (scalar_text (page_at s at) s.indent flow style.Double (chars x.value)) c x style.Double
+last_double : (flow : Bool) (level : ℕ) (s : Settings) (at : Spot) (x : Scalar) (c : Cursor)
+    → IsUtf8 x.value → 0 < deeper s at.around
+    → LastOf flow level (scalar_text (page_at s at) s.indent flow style.Double (chars x.value)) c x
+    style.Double
 unfolding scalar_text
 last_double flow level s at x c u deep =
     let page = page_at s at in
@@ -280,15 +214,18 @@ fits_none a untagged flow = none (if flow then a.flow_plain else a.plain)
     none true = refl
     none false = refl
 
-plain_empty : (a : Allowed) (untagged flow : Bool) → is_plain (if plain_fits a untagged flow true true then style.Plain else single_or a) ≡ false
+plain_empty : (a : Allowed) (untagged flow : Bool)
+    → is_plain (if plain_fits a untagged flow true true then style.Plain else single_or a) ≡ false
 plain_empty a untagged flow = rw (fits_none a untagged flow) (is_plain_single a)
 
-block_empty : (b flow : Bool) (s : Style) → is_plain s ≡ false → is_plain (if b && not (flow || true) then s else style.Double) ≡ false
+block_empty : (b flow : Bool) (s : Style) → is_plain s ≡ false
+    → is_plain (if b && not (flow || true) then s else style.Double) ≡ false
 block_empty true true s e = refl
 block_empty true false s e = refl
 block_empty false flow s e = refl
 
-taken_empty : (a : Allowed) (s : yaml_scalar_style_t) (untagged flow : Bool) → is_plain (taken a s untagged flow true true) ≡ false
+taken_empty : (a : Allowed) (s : yaml_scalar_style_t) (untagged flow : Bool)
+    → is_plain (taken a s untagged flow true true) ≡ false
 unfolding taken
 taken_empty a asked.YAML_ANY_SCALAR_STYLE untagged flow = plain_empty a untagged flow
 taken_empty a asked.YAML_PLAIN_SCALAR_STYLE untagged flow = plain_empty a untagged flow
@@ -297,7 +234,8 @@ taken_empty a asked.YAML_DOUBLE_QUOTED_SCALAR_STYLE untagged flow = refl
 taken_empty a asked.YAML_LITERAL_SCALAR_STYLE untagged flow = block_empty a.block flow style.Literal refl
 taken_empty a asked.YAML_FOLDED_SCALAR_STYLE untagged flow = block_empty a.block flow style.Folded refl
 
-empty_style : (p : Context) (flow : Bool) (n : ℕ) (x : Scalar) → p.settings.canonical ≡ false → x.value ≡ [] → style_of p (spot flow n part.SimpleKey) x ≡ style.Plain → ⊥
+empty_style : (p : Context) (flow : Bool) (n : ℕ) (x : Scalar) → p.settings.canonical ≡ false
+    → x.value ≡ [] → style_of p (spot flow n part.SimpleKey) x ≡ style.Plain → ⊥
 unfolding style_of
 empty_style p flow n x pretty none same =
     let a = allowed p.settings.unicode (chars x.value) in
@@ -307,11 +245,17 @@ empty_style p flow n x pretty none same =
     ∙ ap (λ (v : List ℕ). is_plain (taken a x.style untagged flow true (length v == 0))) none ∙ taken_empty a x.style untagged flow in
     false≢true (sym e ∙ ap is_plain same)
 
-last_of : Scalars → (flow : Bool) (level : ℕ) (p : Context) (n : ℕ) (x : Scalar) (c : Cursor) (chosen : Style) → p.settings.canonical ≡ false → style_of p (spot flow n part.SimpleKey) x ≡ chosen → IsUtf8 x.value → 0 < n + p.settings.indent → level ≤ n + p.settings.indent
-    → LastOf flow level (scalar_text (page_at p.settings (spot flow n part.SimpleKey)) p.settings.indent flow chosen (chars x.value)) c x chosen
+last_of : Scalars
+    → (flow : Bool) (level : ℕ) (p : Context) (n : ℕ) (x : Scalar) (c : Cursor) (chosen : Style)
+    → p.settings.canonical ≡ false → style_of p (spot flow n part.SimpleKey) x ≡ chosen
+    → IsUtf8 x.value → 0 < n + p.settings.indent → level ≤ n + p.settings.indent
+    → LastOf flow level (scalar_text (page_at p.settings (spot flow n part.SimpleKey))
+    p.settings.indent flow chosen (chars x.value)) c x chosen
 last_of law flow level p n x c style.Plain pretty same u deep far = plain_by x.value refl
   where
-    plain_by : (v : List ℕ) → x.value ≡ v → LastOf flow level (scalar_text (page_at p.settings (spot flow n part.SimpleKey)) p.settings.indent flow style.Plain (chars x.value)) c x style.Plain
+    plain_by : (v : List ℕ) → x.value ≡ v
+        → LastOf flow level (scalar_text (page_at p.settings (spot flow n part.SimpleKey))
+        p.settings.indent flow style.Plain (chars x.value)) c x style.Plain
     plain_by [] e = absurd (empty_style p flow n x pretty e same)
     plain_by (b ∷ bs) e = last_plain law flow level p.settings (spot flow n part.SimpleKey) x c b bs e u ((law.styles p (spot flow n part.SimpleKey) x).0 same) deep far
 last_of law flow level p n x c style.Single pretty same u deep far = last_single law flow level p.settings (spot flow n part.SimpleKey) x c u ((law.styles p (spot flow n part.SimpleKey) x).1 same) deep
@@ -319,20 +263,26 @@ last_of law flow level p n x c style.Double pretty same u deep far = last_double
 last_of law flow level p n x c style.Literal pretty same u deep far = let (may, out, whole) = (law.styles p (spot flow n part.SimpleKey) x).2 same in absurd (false≢true (sym whole))
 last_of law flow level p n x c style.Folded pretty same u deep far = let (may, out, whole) = (law.styles p (spot flow n part.SimpleKey) x).3 same in absurd (false≢true (sym whole))
 
-kept_writable : (b : Bool) (tag : Option (List ℕ)) → IsWritableTag tag → IsWritableTag (kept_if b tag)
+kept_writable : (b : Bool) (tag : Option (List ℕ)) → IsWritableTag tag
+    → IsWritableTag (kept_if b tag)
 kept_writable true tag h = h
 kept_writable false tag h = tt
 
-value_is : (b : Bool) (s : Style) (value : List ℕ) (bs : List TokenBody) → b ≡ false → value_bodies b s value bs ≡ tokens.scalar value (style_named s) ∷ bs
+value_is : (b : Bool) (s : Style) (value : List ℕ) (bs : List TokenBody) → b ≡ false
+    → value_bodies b s value bs ≡ tokens.scalar value (style_named s) ∷ bs
 value_is true s value bs e = absurd (false≢true (sym e))
 value_is false s value bs e = refl
 
-spot_style : (p : Context) (flow : Bool) (n : ℕ) (x : Scalar) → style_of p (spot flow n part.SimpleKey) x ≡ style_at p flow part.SimpleKey x
+spot_style : (p : Context) (flow : Bool) (n : ℕ) (x : Scalar)
+    → style_of p (spot flow n part.SimpleKey) x ≡ style_at p flow part.SimpleKey x
 unfolding style_of
 spot_style p flow n x = refl
 
-scalar_form : Scalars → (s : Settings) (d : Opening) → IsPretty s d → (x : Scalar) → IsWritable (scalar_node x) → (flow : Bool) (level n : ℕ) → level ≤ n + s.indent → (c : Cursor)
-    → KeyForm flow level (node_layout (context_of s d.directives) (spot flow n part.SimpleKey) (scalar_node x)) c (node_bodies (context_of s d.directives) flow part.SimpleKey false (scalar_node x))
+scalar_form : Scalars → (s : Settings) (d : Opening) → IsPretty s d → (x : Scalar)
+    → IsWritable (scalar_node x) → (flow : Bool) (level n : ℕ) → level ≤ n + s.indent → (c : Cursor)
+    → KeyForm flow level (node_layout (context_of s d.directives) (spot flow n part.SimpleKey)
+    (scalar_node x)) c (node_bodies (context_of s d.directives) flow part.SimpleKey false
+    (scalar_node x))
 scalar_form law s d good x (wa, wt, u) flow level n far c =
     let p = context_of s d.directives in
     let at = spot flow n part.SimpleKey in
@@ -351,7 +301,10 @@ scalar_form law s d good x (wa, wt, u) flow level n far c =
 
 -- ---- aliases
 
-alias_form : (p : Context) (name : List ℕ) → IsWritable (alias_node name) → (flow : Bool) (level n : ℕ) (c : Cursor) → KeyForm flow level (node_layout p (spot flow n part.SimpleKey) (alias_node name)) c (node_bodies p flow part.SimpleKey false (alias_node name))
+alias_form : (p : Context) (name : List ℕ) → IsWritable (alias_node name)
+    → (flow : Bool) (level n : ℕ) (c : Cursor)
+    → KeyForm flow level (node_layout p (spot flow n part.SimpleKey) (alias_node name)) c
+    (node_bodies p flow part.SimpleKey false (alias_node name))
 unfolding node_layout alias_layout node_bodies
 alias_form p name good flow level n c =
     let says = alias_says anchor_is_read flow level name good c in
@@ -374,11 +327,14 @@ alias_form p name good flow level n c =
 
 -- ---- empty collections
 
-ends_white : (b : Bool) (k : KeyEnd) (tail : List ℕ) → (k ≡ squares (not b)) ⊎ (k ≡ curlies (not b)) → b ≡ false → (begins_white (end_bytes k ++ tail) ≡ true) × (first (end_bytes k ++ tail) ≡ 32)
+ends_white : (b : Bool) (k : KeyEnd) (tail : List ℕ) → (k ≡ squares (not b)) ⊎ (k ≡ curlies (not b))
+    → b ≡ false → (begins_white (end_bytes k ++ tail) ≡ true) × (first (end_bytes k ++ tail) ≡ 32)
 ends_white b k tail (inl e) f = let g : k ≡ squares true = e ∙ ap (λ t. squares (not t)) f in (ap (λ i. begins_white (end_bytes i ++ tail)) g, ap (λ i. first (end_bytes i ++ tail)) g)
 ends_white b k tail (inr e) f = let g : k ≡ curlies true = e ∙ ap (λ t. curlies (not t)) f in (ap (λ i. begins_white (end_bytes i ++ tail)) g, ap (λ i. first (end_bytes i ++ tail)) g)
 
-leads_ends : (flow : Bool) (level : ℕ) (ws : List (Spoken flow level)) (k : KeyEnd) (c e : Cursor) → Leads ws c → Moved ws c e → (k ≡ squares (not e.white)) ⊎ (k ≡ curlies (not e.white)) → LeadsKey ws k (not c.white)
+leads_ends : (flow : Bool) (level : ℕ) (ws : List (Spoken flow level)) (k : KeyEnd) (c e : Cursor)
+    → Leads ws c → Moved ws c e → (k ≡ squares (not e.white)) ⊎ (k ≡ curlies (not e.white))
+    → LeadsKey ws k (not c.white)
 leads_ends flow level [] k c e leads m (inl same) = subst (λ i. StartsEnd i (not c.white)) (sym same) (ap (λ (x : Cursor). not x.white) m)
 leads_ends flow level [] k c e leads m (inr same) = subst (λ i. StartsEnd i (not c.white)) (sym same) (ap (λ (x : Cursor). not x.white) m)
 leads_ends flow level (w ∷ ws) k c e (gap, own, calm) m same = (gap, own, calm_starts w.own own calm)
@@ -389,7 +345,9 @@ record Closed (a : Layout) (c : Cursor) (k : KeyEnd) : Type 0 where
   written : (rest : Rest) → bytes (a c rest) ≡ end_bytes k ++ bytes (rest behind)
   kept : behind.kept ≡ c.kept
 
-form_ends : (flow : Bool) (level : ℕ) (a b : Layout) (c : Cursor) (has : Bool) (B : List TokenBody → List TokenBody) (r : Dress flow level a c has false B) (k : KeyEnd) → (k ≡ squares (not r.behind.white)) ⊎ (k ≡ curlies (not r.behind.white)) → Closed b r.behind k
+form_ends : (flow : Bool) (level : ℕ) (a b : Layout) (c : Cursor) (has : Bool)
+    (B : List TokenBody → List TokenBody) (r : Dress flow level a c has false B) (k : KeyEnd)
+    → (k ≡ squares (not r.behind.white)) ⊎ (k ≡ curlies (not r.behind.white)) → Closed b r.behind k
     → KeyForm flow level (a ▹ b) c (λ bs. B (end_bodies k bs))
 form_ends flow level a b c has B r k same s = record {
   words = r.words;
@@ -413,8 +371,12 @@ empty_flow s at q = all s.canonical at.flow q.flow
     all false false false = refl
 
 -- an opener and a closer directly behind it
-closed_by : (first last : ℕ) → nat_lt first 128 ≡ true → (body : Layout) → ((d : Cursor) (rest : Rest) → bytes (body d rest) ≡ last ∷ bytes (rest (record { column = d.column + 1; white = false; bare = false; kept = d.kept }))) → (c : Cursor) (k : KeyEnd)
-    → end_bytes k ≡ (if not c.white then 32 ∷ (first ∷ last ∷ []) else first ∷ last ∷ []) → Closed (opener first ▹ body) c k
+closed_by : (first last : ℕ) → nat_lt first 128 ≡ true → (body : Layout)
+    → ((d : Cursor) (rest : Rest) → bytes (body d rest) ≡ last
+    ∷ bytes (rest (record { column = d.column + 1; white = false; bare = false; kept = d.kept })))
+    → (c : Cursor) (k : KeyEnd)
+    → end_bytes k ≡ (if not c.white then 32 ∷ (first ∷ last ∷ []) else first ∷ last ∷ [])
+    → Closed (opener first ▹ body) c k
 closed_by first last low body closes c k same = elim (cases_Bool c.white) [
   | inl e ↦
       let d : Cursor = record { column = c.column + 1; white = true; bare = false; kept = c.kept } in
@@ -438,7 +400,10 @@ closed_by first last low body closes c k same = elim (cases_Bool c.white) [
 ]
 
 -- the closer of nothing
-closer_bytes : (s : Settings) (n x : ℕ) → s.canonical ≡ false → nat_lt x 128 ≡ true → (d : Cursor) (rest : Rest) → bytes (closer s true n true x d rest) ≡ x ∷ bytes (rest (record { column = d.column + 1; white = false; bare = false; kept = d.kept }))
+closer_bytes : (s : Settings) (n x : ℕ) → s.canonical ≡ false → nat_lt x 128 ≡ true
+    → (d : Cursor) (rest : Rest)
+    → bytes (closer s true n true x d rest) ≡ x
+    ∷ bytes (rest (record { column = d.column + 1; white = false; bare = false; kept = d.kept }))
 unfolding closer
 closer_bytes s n x pretty low d rest =
     ap (λ (b : Bool). bytes ((when (b && false) (char 44 ▹ line s.line_break (n - s.indent)) ▹ char x) d rest)) pretty ∙ letter_low x (rest (record { column = d.column + 1; white = false; bare = false; kept = d.kept })) low
@@ -449,31 +414,40 @@ abbrev sequence_rest : Context → Spot → Bool → Layout
 sequence_rest p at flow = when flow (opener 91) ▹ indented (indent_of p.settings at true flow) (λ n. checked n ▹ items_layout p flow n true no_nodes)
 
 sequence_laid : (p : Context) (at : Spot) (q : Start) → p.settings.canonical ≡ false
-    → node_layout p at (sequence_node q no_nodes) ≡ ((anchor_text q.anchor ▹ (tag_text p (start_tag false q) ▹ when false (word (33 ∷ [])))) ▹ sequence_rest p at true)
+    → node_layout p at (sequence_node q no_nodes)
+    ≡ ((anchor_text q.anchor ▹ (tag_text p (start_tag false q) ▹ when false (word (33 ∷ [])))) ▹
+    sequence_rest p at true)
 unfolding node_layout
 sequence_laid p at q pretty =
     ap (λ (b : Bool). properties_text p q.anchor (start_tag b q) ▹ sequence_rest p at (is_flow p.settings at q true)) pretty
     ∙ ap (λ (b : Bool). properties_text p q.anchor (start_tag false q) ▹ sequence_rest p at b) (empty_flow p.settings at q)
 
-items_none : (p : Context) (n : ℕ) → items_layout p true n true no_nodes ≡ closer p.settings true n true 93
+items_none : (p : Context) (n : ℕ)
+    → items_layout p true n true no_nodes ≡ closer p.settings true n true 93
 unfolding items_layout
 items_none p n = refl
 
-sequence_closed : (p : Context) (at : Spot) → p.settings.canonical ≡ false → (c : Cursor) → Closed (sequence_rest p at true) c (squares (not c.white))
+sequence_closed : (p : Context) (at : Spot) → p.settings.canonical ≡ false → (c : Cursor)
+    → Closed (sequence_rest p at true) c (squares (not c.white))
 sequence_closed p at pretty c =
     let N = deeper p.settings at.around in
     closed_by 91 93 refl (indented (indent_of p.settings at true true) (λ n. checked n ▹ items_layout p true n true no_nodes))
     (λ d rest. deep_bytes (nat_lt MOST N) (items_layout p true N true no_nodes d rest) ∙ ap (λ (l : Layout). bytes (l d rest)) (items_none p N) ∙ closer_bytes p.settings N 93 pretty refl d rest) c (squares (not c.white)) refl
 
 sequence_tokens : (p : Context) (flow : Bool) (q : Start) (bs : List TokenBody)
-    → node_bodies p flow part.SimpleKey false (sequence_node q no_nodes) bs ≡ anchor_bodies q.anchor (tag_bodies p.directives (start_tag false q) (tokens.flow_sequence_start ∷ tokens.flow_sequence_end ∷ bs))
+    → node_bodies p flow part.SimpleKey false (sequence_node q no_nodes) bs
+    ≡ anchor_bodies q.anchor (tag_bodies p.directives (start_tag false q)
+    (tokens.flow_sequence_start ∷ tokens.flow_sequence_end ∷ bs))
 unfolding node_bodies items_bodies
 sequence_tokens p flow q bs =
     ap (λ (b : Bool). anchor_bodies q.anchor (tag_bodies p.directives (start_tag false q) (sequence_opens b (keeps part.SimpleKey false q) (items_bodies p b true no_nodes (sequence_closes b (keeps part.SimpleKey false q) bs)))))
     (empty_flow p.settings (place flow part.Item) q)
 
-sequence_form : (s : Settings) (d : Opening) → IsPretty s d → (q : Start) → IsWritable (sequence_node q no_nodes) → (flow : Bool) (level n : ℕ) (c : Cursor)
-    → KeyForm flow level (node_layout (context_of s d.directives) (spot flow n part.SimpleKey) (sequence_node q no_nodes)) c (node_bodies (context_of s d.directives) flow part.SimpleKey false (sequence_node q no_nodes))
+sequence_form : (s : Settings) (d : Opening) → IsPretty s d → (q : Start)
+    → IsWritable (sequence_node q no_nodes) → (flow : Bool) (level n : ℕ) (c : Cursor)
+    → KeyForm flow level (node_layout (context_of s d.directives) (spot flow n part.SimpleKey)
+    (sequence_node q no_nodes)) c (node_bodies (context_of s d.directives) flow part.SimpleKey false
+    (sequence_node q no_nodes))
 sequence_form s d good q (wa, wt, all) flow level n c =
     let p = context_of s d.directives in
     let at = spot flow n part.SimpleKey in
@@ -491,31 +465,40 @@ abbrev mapping_rest : Context → Spot → Bool → Layout
 mapping_rest p at flow = when flow (opener 123) ▹ indented (indent_of p.settings at false flow) (λ n. checked n ▹ pairs_layout p flow n true no_pairs)
 
 mapping_laid : (p : Context) (at : Spot) (q : Start) → p.settings.canonical ≡ false
-    → node_layout p at (mapping_node q no_pairs) ≡ ((anchor_text q.anchor ▹ (tag_text p (start_tag false q) ▹ when false (word (33 ∷ [])))) ▹ mapping_rest p at true)
+    → node_layout p at (mapping_node q no_pairs)
+    ≡ ((anchor_text q.anchor ▹ (tag_text p (start_tag false q) ▹ when false (word (33 ∷ [])))) ▹
+    mapping_rest p at true)
 unfolding node_layout
 mapping_laid p at q pretty =
     ap (λ (b : Bool). properties_text p q.anchor (start_tag b q) ▹ mapping_rest p at (is_flow p.settings at q true)) pretty
     ∙ ap (λ (b : Bool). properties_text p q.anchor (start_tag false q) ▹ mapping_rest p at b) (empty_flow p.settings at q)
 
-pairs_none : (p : Context) (n : ℕ) → pairs_layout p true n true no_pairs ≡ closer p.settings true n true 125
+pairs_none : (p : Context) (n : ℕ)
+    → pairs_layout p true n true no_pairs ≡ closer p.settings true n true 125
 unfolding pairs_layout
 pairs_none p n = refl
 
-mapping_closed : (p : Context) (at : Spot) → p.settings.canonical ≡ false → (c : Cursor) → Closed (mapping_rest p at true) c (curlies (not c.white))
+mapping_closed : (p : Context) (at : Spot) → p.settings.canonical ≡ false → (c : Cursor)
+    → Closed (mapping_rest p at true) c (curlies (not c.white))
 mapping_closed p at pretty c =
     let N = deeper p.settings at.around in
     closed_by 123 125 refl (indented (indent_of p.settings at false true) (λ n. checked n ▹ pairs_layout p true n true no_pairs))
     (λ d rest. deep_bytes (nat_lt MOST N) (pairs_layout p true N true no_pairs d rest) ∙ ap (λ (l : Layout). bytes (l d rest)) (pairs_none p N) ∙ closer_bytes p.settings N 125 pretty refl d rest) c (curlies (not c.white)) refl
 
 mapping_tokens : (p : Context) (flow : Bool) (q : Start) (bs : List TokenBody)
-    → node_bodies p flow part.SimpleKey false (mapping_node q no_pairs) bs ≡ anchor_bodies q.anchor (tag_bodies p.directives (start_tag false q) (tokens.flow_mapping_start ∷ tokens.flow_mapping_end ∷ bs))
+    → node_bodies p flow part.SimpleKey false (mapping_node q no_pairs) bs
+    ≡ anchor_bodies q.anchor (tag_bodies p.directives (start_tag false q)
+    (tokens.flow_mapping_start ∷ tokens.flow_mapping_end ∷ bs))
 unfolding node_bodies pairs_bodies
 mapping_tokens p flow q bs =
     ap (λ (b : Bool). anchor_bodies q.anchor (tag_bodies p.directives (start_tag false q) (mapping_opens b (pairs_bodies p b true no_pairs (mapping_closes b bs)))))
     (empty_flow p.settings (place flow part.Item) q)
 
-mapping_form : (s : Settings) (d : Opening) → IsPretty s d → (q : Start) → IsWritable (mapping_node q no_pairs) → (flow : Bool) (level n : ℕ) (c : Cursor)
-    → KeyForm flow level (node_layout (context_of s d.directives) (spot flow n part.SimpleKey) (mapping_node q no_pairs)) c (node_bodies (context_of s d.directives) flow part.SimpleKey false (mapping_node q no_pairs))
+mapping_form : (s : Settings) (d : Opening) → IsPretty s d → (q : Start)
+    → IsWritable (mapping_node q no_pairs) → (flow : Bool) (level n : ℕ) (c : Cursor)
+    → KeyForm flow level (node_layout (context_of s d.directives) (spot flow n part.SimpleKey)
+    (mapping_node q no_pairs)) c (node_bodies (context_of s d.directives) flow part.SimpleKey false
+    (mapping_node q no_pairs))
 mapping_form s d good q (wa, wt, all) flow level n c =
     let p = context_of s d.directives in
     let at = spot flow n part.SimpleKey in
@@ -533,17 +516,22 @@ not_simple : (a : Bool) → (a && false) ≡ true → ⊥
 not_simple true e = false≢true e
 not_simple false e = false≢true e
 
-pub some_items : (p : Context) (q : Start) (x : Node) (xs : Nodes) → is_simple p (sequence_node q (node x xs)) ≡ true → ⊥
+pub some_items : (p : Context) (q : Start) (x : Node) (xs : Nodes)
+    → is_simple p (sequence_node q (node x xs)) ≡ true → ⊥
 unfolding is_simple is_simple_start
 some_items p q x xs e = not_simple (not p.settings.canonical) e
 
-pub some_pairs : (p : Context) (q : Start) (k v : Node) (ps : Pairs) → is_simple p (mapping_node q (pair k v ps)) ≡ true → ⊥
+pub some_pairs : (p : Context) (q : Start) (k v : Node) (ps : Pairs)
+    → is_simple p (mapping_node q (pair k v ps)) ≡ true → ⊥
 unfolding is_simple is_simple_start
 some_pairs p q k v ps e = not_simple (not p.settings.canonical) e
 
 -- what each simple key writes, in brackets or not
-pub key_form : Scalars → (s : Settings) (d : Opening) → IsPretty s d → (k : Node) → IsWritable k → is_simple (context_of s d.directives) k ≡ true → (flow : Bool) (level n : ℕ) → level ≤ n + s.indent → (c : Cursor)
-    → KeyForm flow level (node_layout (context_of s d.directives) (spot flow n part.SimpleKey) k) c (node_bodies (context_of s d.directives) flow part.SimpleKey false k)
+pub key_form : Scalars → (s : Settings) (d : Opening) → IsPretty s d → (k : Node) → IsWritable k
+    → is_simple (context_of s d.directives) k ≡ true → (flow : Bool) (level n : ℕ)
+    → level ≤ n + s.indent → (c : Cursor)
+    → KeyForm flow level (node_layout (context_of s d.directives) (spot flow n part.SimpleKey) k) c
+    (node_bodies (context_of s d.directives) flow part.SimpleKey false k)
 key_form law s d good (alias_node name) w simple flow level n far c = alias_form (context_of s d.directives) name w flow level n c
 key_form law s d good (scalar_node x) w simple flow level n far c = scalar_form law s d good x w flow level n far c
 key_form law s d good (sequence_node q no_nodes) w simple flow level n far c = sequence_form s d good q w flow level n c

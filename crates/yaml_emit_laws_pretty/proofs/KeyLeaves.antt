@@ -42,9 +42,17 @@ use Rattle.yaml_emit_laws_pretty.proofs.KeysShow.{left_self, lexeme_solid, lexem
 
 -- ---- in a block
 
-key_walks : Scalars → (s : Settings) (d : Opening) → IsPretty s d → (k : Node) → IsWritable k → is_simple (context_of s d.directives) k ≡ true → (x : yaml_encoding_t) (text : List ℕ) (n : ℕ) (kept : Bool) (ls more new : List ℕ) (what : Opens) (T : List TokenBody → List TokenBody) (rest : Rest)
-    → Lined x text (λ e. (node_layout (context_of s d.directives) (block_spot (Some n) part.SimpleKey) k ▹ char 58) e rest) n kept ls more T → indent ls ≤ n + 1 → Rises (n + 1) more → opened true (n + 1) ls ≡ new → start_of 0 (n + 1) ls opening.Mapping ≡ what → PartedBehind rest
-    → Keyed x text rest n kept new (λ bs. T (start_bodies what (tokens.key ∷ node_bodies (context_of s d.directives) false part.SimpleKey false k (tokens.value ∷ bs))))
+key_walks : Scalars → (s : Settings) (d : Opening) → IsPretty s d → (k : Node) → IsWritable k
+    → is_simple (context_of s d.directives) k ≡ true
+    → (x : yaml_encoding_t) (text : List ℕ) (n : ℕ) (kept : Bool) (ls more new : List ℕ)
+    (what : Opens) (T : List TokenBody → List TokenBody) (rest : Rest)
+    → Lined x text (λ e. (node_layout (context_of s d.directives)
+    (block_spot (Some n) part.SimpleKey) k ▹ char 58) e rest) n kept ls more T → indent ls ≤ n + 1
+    → Rises (n + 1) more → opened true (n + 1) ls ≡ new
+    → start_of 0 (n + 1) ls opening.Mapping ≡ what → PartedBehind rest
+    → Keyed x text rest n kept new (λ bs. T
+    (start_bodies what (tokens.key ∷ node_bodies (context_of s d.directives) false part.SimpleKey
+    false k (tokens.value ∷ bs))))
 unfolding Outside
 key_walks law s d good k w simple x text n kept ls more new what T rest here low rises opens begins parted =
     let p = context_of s d.directives in
@@ -79,14 +87,19 @@ key_walks law s d good k w simple x text n kept ls more new what T rest here low
 
 -- ---- what a key writes on a bare line
 
-both_of : (bs : List ℕ) → 0 < length bs → begins_lexeme bs 0 ≡ true → (begins_solid bs ≡ true) × (no_comment bs ≡ true)
+both_of : (bs : List ℕ) → 0 < length bs → begins_lexeme bs 0 ≡ true
+    → (begins_solid bs ≡ true) × (no_comment bs ≡ true)
 both_of [] some h = absurd (omega (arith, some))
 both_of (b ∷ bs) some h = (lexeme_solid b bs h, lexeme_calm b bs h)
 
-sign_shows : (b : ℕ) (bs : List ℕ) → 32 < b → b < 127 → (b ≡ 35 → ⊥) → (begins_solid (b ∷ bs) ≡ true) × (no_comment (b ∷ bs) ≡ true)
+sign_shows : (b : ℕ) (bs : List ℕ) → 32 < b → b < 127 → (b ≡ 35 → ⊥)
+    → (begins_solid (b ∷ bs) ≡ true) × (no_comment (b ∷ bs) ≡ true)
 sign_shows b bs low high hash = both_of (b ∷ bs) (omega arith) (printed_begins (b ∷ bs) 0 b refl low high hash)
 
-form_shows : (level : ℕ) (words : List (Spoken false level)) (k : KeyEnd) (tail : List ℕ) → LeadsKey words k false → AllFit words (end_bytes k ++ tail) → let bs = all_bytes words ++ (end_bytes k ++ tail) in (begins_solid bs ≡ true) × (no_comment bs ≡ true)
+form_shows : (level : ℕ) (words : List (Spoken false level)) (k : KeyEnd) (tail : List ℕ)
+    → LeadsKey words k false → AllFit words (end_bytes k ++ tail)
+    → let bs = all_bytes words ++ (end_bytes k ++ tail) in
+    (begins_solid bs ≡ true) × (no_comment bs ≡ true)
 form_shows level [] at_once tail leads fits = absurd leads
 form_shows level [] spaced tail leads fits = absurd leads
 form_shows level [] (squares b) tail leads fits = let (solid, calm) = sign_shows 91 (93 ∷ tail) (omega arith) (omega arith) (λ h. omega (arith, h)) in
@@ -102,8 +115,11 @@ form_shows level (w ∷ ws) k tail (gap, some, begins) (fit, fits) =
     let (solid, calm) = both_of bs (omega (arith, e, some)) s.begins in
     (ap (λ ys. begins_solid ys) laid ∙ solid, ap (λ ys. no_comment ys) laid ∙ calm)
 
-key_shows : Scalars → (s : Settings) (d : Opening) → IsPretty s d → (k : Node) → IsWritable k → is_simple (context_of s d.directives) k ≡ true → (n : ℕ) (rest : Rest) → PartedBehind rest → (e : Cursor) → e.white ≡ true
-    → let bs = bytes ((node_layout (context_of s d.directives) (block_spot (Some n) part.SimpleKey) k ▹ char 58) e rest) in (begins_solid bs ≡ true) × (no_comment bs ≡ true)
+key_shows : Scalars → (s : Settings) (d : Opening) → IsPretty s d → (k : Node) → IsWritable k
+    → is_simple (context_of s d.directives) k ≡ true → (n : ℕ) (rest : Rest) → PartedBehind rest
+    → (e : Cursor) → e.white ≡ true
+    → let bs = bytes ((node_layout (context_of s d.directives) (block_spot (Some n) part.SimpleKey)
+    k ▹ char 58) e rest) in (begins_solid bs ≡ true) × (no_comment bs ≡ true)
 key_shows law s d good k w simple n rest parted e pale =
     let p = context_of s d.directives in
     let form = key_form law s d good k w simple false 0 n (omega arith) e in
@@ -116,18 +132,21 @@ key_shows law s d good k w simple n rest parted e pale =
 
 -- ---- no block scalar is a key
 
-spot_style : (p : Context) (n : ℕ) (x : Scalar) → style_of p (spot false n part.SimpleKey) x ≡ style_at p false part.SimpleKey x
+spot_style : (p : Context) (n : ℕ) (x : Scalar)
+    → style_of p (spot false n part.SimpleKey) x ≡ style_at p false part.SimpleKey x
 unfolding style_of
 spot_style p n x = refl
 
-style_kept : Scalars → (p : Context) (x : Scalar) (kept : Bool) (chosen : Style) → style_at p false part.SimpleKey x ≡ chosen → scalar_kept chosen x.value kept ≡ kept
+style_kept : Scalars → (p : Context) (x : Scalar) (kept : Bool) (chosen : Style)
+    → style_at p false part.SimpleKey x ≡ chosen → scalar_kept chosen x.value kept ≡ kept
 style_kept law p x kept style.Plain same = refl
 style_kept law p x kept style.Single same = refl
 style_kept law p x kept style.Double same = refl
 style_kept law p x kept style.Literal same = let (may, out, whole) = (law.styles p (spot false 0 part.SimpleKey) x).2 (spot_style p 0 x ∙ same) in absurd (false≢true (sym whole))
 style_kept law p x kept style.Folded same = let (may, out, whole) = (law.styles p (spot false 0 part.SimpleKey) x).3 (spot_style p 0 x ∙ same) in absurd (false≢true (sym whole))
 
-key_kept : Scalars → (p : Context) (k : Node) → is_simple p k ≡ true → (kept : Bool) → node_kept p false part.SimpleKey k kept ≡ kept
+key_kept : Scalars → (p : Context) (k : Node) → is_simple p k ≡ true → (kept : Bool)
+    → node_kept p false part.SimpleKey k kept ≡ kept
 unfolding node_kept items_kept pairs_kept
 key_kept law p (alias_node name) simple kept = refl
 key_kept law p (scalar_node x) simple kept = style_kept law p x kept (style_at p false part.SimpleKey x) refl

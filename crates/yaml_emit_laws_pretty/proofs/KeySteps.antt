@@ -78,10 +78,14 @@ spot_at p line d now broken = record { at = p; line = line; depth = d; now = now
 -- ---- a word that stands comes
 
 -- the word that a spoken one is there
-abbrev pub said_by : {flow : Bool} {level : ℕ} {k : Kind} {body : TokenBody} {text : List ℕ} {p e : ℕ} {bs : List ℕ} → WordStands flow level k body text p e bs → WordText
+abbrev pub said_by : {flow : Bool} {level : ℕ} {k : Kind} {body : TokenBody} {text : List ℕ}
+    {p e : ℕ} {bs : List ℕ} → WordStands flow level k body text p e bs → WordText
 said_by {flow} {level} {k} {body} s = record { body = body; end = s.end; reached = s.reached; broke = s.broke }
 
-pub stands_comes : (d level : ℕ) (k : Kind) (body : TokenBody) (text : List ℕ) (p e : ℕ) (bs : List ℕ) → p ≤ e → (s : WordStands (nat_lt 0 d) level k body text p e bs) → Comes text p d level k [] (record { body = body; end = s.end; reached = s.reached; broke = s.broke }) e
+pub stands_comes : (d level : ℕ) (k : Kind) (body : TokenBody) (text : List ℕ) (p e : ℕ)
+    (bs : List ℕ) → p ≤ e → (s : WordStands (nat_lt 0 d) level k body text p e bs)
+    → Comes text p d level k [] (record
+    { body = body; end = s.end; reached = s.reached; broke = s.broke }) e
 stands_comes d level k body text p e bs up s =
     let z : p + 0 ≡ p = omega arith in
     record {
@@ -91,8 +95,10 @@ stands_comes d level k body text p e bs up s =
       up = omega (arith, up);
     }
 
-pub stands_leaves : (d level : ℕ) (k : Kind) (body : TokenBody) (text : List ℕ) (p e : ℕ) (bs : List ℕ) → Texty k → (s : WordStands (nat_lt 0 d) level k body text p e bs)
-    → WordLeaves text (depth_after k d) (allows_key k (d == 0) false) (record { body = body; end = s.end; reached = s.reached; broke = s.broke }) e false s.wide
+pub stands_leaves : (d level : ℕ) (k : Kind) (body : TokenBody) (text : List ℕ) (p e : ℕ)
+    (bs : List ℕ) → Texty k → (s : WordStands (nat_lt 0 d) level k body text p e bs)
+    → WordLeaves text (depth_after k d) (allows_key k (d == 0) false)
+    (record { body = body; end = s.end; reached = s.reached; broke = s.broke }) e false s.wide
 stands_leaves d level k body text p e bs t s =
     let said : WordText = record { body = body; end = s.end; reached = s.reached; broke = s.broke } in
     subst (λ i. WordLeaves text i (allows_key k (d == 0) false) said e false s.wide) (sym (t.same d)) (subst (λ a. WordLeaves text d a said e false s.wide) (sym (t.quiet (d == 0))) (s.leaves d refl))
@@ -106,9 +112,14 @@ pub record KeyRuns (x : yaml_encoding_t) (text : List ℕ) (e d p : ℕ) (cs ls 
   pub reads : ReadsKey x text (spot_at e line d false wide) d (mark_at text p) cs ls T K
 
 -- the first word
-pub key_first : (d : ℕ) (ls : List ℕ) (w : Spoken (nat_lt 0 d) (indent ls)) (bs : List ℕ) (x : yaml_encoding_t) (text : List ℕ) (p line : ℕ) (broken : Bool) (cs more : List ℕ) (T : List TokenBody → List TokenBody)
-    → Reads x text (spot_at p line d true broken) cs ls more T → Outside d cs → ClosesAt d (column_at text p) ls more → Left text p (w.own ++ bs) → Fits w.wants (nat_lt 0 d) (indent ls) bs → (w.kind ≡ kinds.Plain → white_of bs ≡ [])
-    → is_fresh (mark_at text p) (mark_at text (p + length w.own)) ≡ true → KeyRuns x text (p + length w.own) d p cs ls T (λ bs. w.body ∷ bs)
+pub key_first : (d : ℕ) (ls : List ℕ) (w : Spoken (nat_lt 0 d) (indent ls)) (bs : List ℕ)
+    (x : yaml_encoding_t) (text : List ℕ) (p line : ℕ) (broken : Bool) (cs more : List ℕ)
+    (T : List TokenBody → List TokenBody)
+    → Reads x text (spot_at p line d true broken) cs ls more T → Outside d cs
+    → ClosesAt d (column_at text p) ls more → Left text p (w.own ++ bs)
+    → Fits w.wants (nat_lt 0 d) (indent ls) bs → (w.kind ≡ kinds.Plain → white_of bs ≡ [])
+    → is_fresh (mark_at text p) (mark_at text (p + length w.own)) ≡ true
+    → KeyRuns x text (p + length w.own) d p cs ls T (λ bs. w.body ∷ bs)
 key_first d ls w bs x text p line broken cs more T reads out closes l fits plain near =
     let e = p + length w.own in
     let s = w.stands text p bs l fits in
@@ -130,9 +141,15 @@ key_first d ls w bs x text p line broken cs more T reads out closes l fits plain
     line_of q text = (mark_at text q).line
 
 -- a further one
-pub key_more : (d : ℕ) (ls : List ℕ) (w : Spoken (nat_lt 0 d) (indent ls)) (bs : List ℕ) (x : yaml_encoding_t) (text : List ℕ) (p q line : ℕ) (wide : Bool) (cs : List ℕ) (T K : List TokenBody → List TokenBody)
-    → ReadsKey x text (spot_at q line d false wide) d (mark_at text p) cs ls T K → Outside d cs → IsRight d ls (column_at text q) → Left text q (w.own ++ bs) → Fits w.wants (nat_lt 0 d) (indent ls) bs → (w.kind ≡ kinds.Plain → white_of bs ≡ [])
-    → is_fresh (mark_at text p) (mark_at text q) ≡ true → is_fresh (mark_at text p) (mark_at text (q + length w.own)) ≡ true → KeyRuns x text (q + length w.own) d p cs ls T (λ bs. K (w.body ∷ bs))
+pub key_more : (d : ℕ) (ls : List ℕ) (w : Spoken (nat_lt 0 d) (indent ls)) (bs : List ℕ)
+    (x : yaml_encoding_t) (text : List ℕ) (p q line : ℕ) (wide : Bool) (cs : List ℕ)
+    (T K : List TokenBody → List TokenBody)
+    → ReadsKey x text (spot_at q line d false wide) d (mark_at text p) cs ls T K → Outside d cs
+    → IsRight d ls (column_at text q) → Left text q (w.own ++ bs)
+    → Fits w.wants (nat_lt 0 d) (indent ls) bs → (w.kind ≡ kinds.Plain → white_of bs ≡ [])
+    → is_fresh (mark_at text p) (mark_at text q) ≡ true
+    → is_fresh (mark_at text p) (mark_at text (q + length w.own)) ≡ true
+    → KeyRuns x text (q + length w.own) d p cs ls T (λ bs. K (w.body ∷ bs))
 key_more d ls w bs x text p q line wide cs T K reads out right l fits plain here near =
     let e = q + length w.own in
     let s = w.stands text q bs l fits in
@@ -154,7 +171,10 @@ key_more d ls w bs x text p q line wide cs T K reads out right l fits plain here
     line_of q text = (mark_at text q).line
 
 -- the space in front of a word
-pub key_space : (x : yaml_encoding_t) (text : List ℕ) (p e line d : ℕ) (now wide : Bool) (cs ls bs : List ℕ) (T K : List TokenBody → List TokenBody) → ReadsKey x text (spot_at e line d false wide) d (mark_at text p) cs ls T K → Left text e (32 ∷ bs)
+pub key_space : (x : yaml_encoding_t) (text : List ℕ) (p e line d : ℕ) (now wide : Bool)
+    (cs ls bs : List ℕ) (T K : List TokenBody → List TokenBody)
+    → ReadsKey x text (spot_at e line d false wide) d (mark_at text p) cs ls T K
+    → Left text e (32 ∷ bs)
     → ReadsKey x text (spot_at (e + 1) line d false wide) d (mark_at text p) cs ls T K
 key_space x text p e line d now wide cs ls bs T K reads l =
     walk_says.white x text (spot_at e line d false wide) d (mark_at text p) cs ls T K (32 ∷ []) reads (has_at text e (32 ∷ []) (left_first text e 32 bs l, tt)) refl
@@ -183,7 +203,10 @@ pub record Fronted (x : yaml_encoding_t) (text : List ℕ) (q d p : ℕ) (cs ls 
   pub runs : KeyRuns x text at d p cs ls T K
   pub left : Left text at (own ++ bs)
 
-pub key_front : (x : yaml_encoding_t) (text : List ℕ) (q d p : ℕ) (cs ls : List ℕ) (T K : List TokenBody → List TokenBody) (spaced : Bool) (own bs : List ℕ) → KeyRuns x text q d p cs ls T K → Left text q ((if spaced then 32 ∷ own else own) ++ bs) → Fronted x text q d p cs ls T K spaced own bs
+pub key_front : (x : yaml_encoding_t) (text : List ℕ) (q d p : ℕ) (cs ls : List ℕ)
+    (T K : List TokenBody → List TokenBody) (spaced : Bool) (own bs : List ℕ)
+    → KeyRuns x text q d p cs ls T K → Left text q ((if spaced then 32 ∷ own else own) ++ bs)
+    → Fronted x text q d p cs ls T K spaced own bs
 key_front x text q d p cs ls T K false own bs r l = record { at = q; up = omega arith; far = refl; runs = r; left = l }
 key_front x text q d p cs ls T K true own bs r l = record {
   at = q + 1;
@@ -193,8 +216,12 @@ key_front x text q d p cs ls T K true own bs r l = record {
   left = left_more text q 32 (own ++ bs) l;
 }
 
-pub key_list : (d : ℕ) (ls : List ℕ) (ws : List (Spoken (nat_lt 0 d) (indent ls))) (bs : List ℕ) (x : yaml_encoding_t) (text : List ℕ) (p q end : ℕ) (cs : List ℕ) (T K : List TokenBody → List TokenBody)
-    → Frame text d p end cs ls → p < q → q + length (all_bytes ws) ≤ end → KeyRuns x text q d p cs ls T K → Left text q (all_bytes ws ++ bs) → AllFit ws bs → KeyFit ws bs
+pub key_list : (d : ℕ) (ls : List ℕ) (ws : List (Spoken (nat_lt 0 d) (indent ls))) (bs : List ℕ)
+    (x : yaml_encoding_t) (text : List ℕ) (p q end : ℕ) (cs : List ℕ)
+    (T K : List TokenBody → List TokenBody)
+    → Frame text d p end cs ls → p < q → q + length (all_bytes ws) ≤ end
+    → KeyRuns x text q d p cs ls T K → Left text q (all_bytes ws ++ bs) → AllFit ws bs
+    → KeyFit ws bs
     → KeyRuns x text (q + length (all_bytes ws)) d p cs ls T (λ bs. K (all_bodies ws bs))
 key_list d ls [] bs x text p q end cs T K f more few r l fits plains = let z : q ≡ q + 0 = omega arith in subst (λ i. KeyRuns x text i d p cs ls T K) z r
 key_list d ls (w ∷ ws) bs x text p q end cs T K f more few r l (fit, fits) (plain, plains) =
@@ -217,8 +244,11 @@ pub record Begun (x : yaml_encoding_t) (text : List ℕ) (p line d : ℕ) (cs ls
   pub reads : Reads x text (spot_at p line d true broken) cs ls more T
   pub left : Left text p bs
 
-pub key_begun : (x : yaml_encoding_t) (text : List ℕ) (o line d : ℕ) (broken : Bool) (cs ls more : List ℕ) (T : List TokenBody → List TokenBody) (spaced : Bool) (own bs : List ℕ) → Reads x text (spot_at o line d true broken) cs ls more T
-    → Left text o ((if spaced then 32 ∷ own else own) ++ bs) → Begun x text (o + front spaced) line d cs ls more T (own ++ bs)
+pub key_begun : (x : yaml_encoding_t) (text : List ℕ) (o line d : ℕ) (broken : Bool)
+    (cs ls more : List ℕ) (T : List TokenBody → List TokenBody) (spaced : Bool) (own bs : List ℕ)
+    → Reads x text (spot_at o line d true broken) cs ls more T
+    → Left text o ((if spaced then 32 ∷ own else own) ++ bs)
+    → Begun x text (o + front spaced) line d cs ls more T (own ++ bs)
 key_begun x text o line d broken cs ls more T false own bs r l = let z : o ≡ o + 0 = omega arith in subst (λ i. Begun x text i line d cs ls more T (own ++ bs)) z (record { broken = broken; reads = r; left = l })
 key_begun x text o line d broken cs ls more T true own bs r l = record {
   broken = broken;
@@ -226,10 +256,17 @@ key_begun x text o line d broken cs ls more T true own bs r l = record {
   left = left_more text o 32 (own ++ bs) l;
 }
 
-pub key_words : (d : ℕ) (ls : List ℕ) (w : Spoken (nat_lt 0 d) (indent ls)) (ws : List (Spoken (nat_lt 0 d) (indent ls))) (bs : List ℕ) (x : yaml_encoding_t) (text : List ℕ) (o line end : ℕ) (broken : Bool) (cs more : List ℕ) (T : List TokenBody → List TokenBody)
-    → Reads x text (spot_at o line d true broken) cs ls more T → ClosesAt d (column_at text (o + front w.spaced)) ls more → Frame text d (o + front w.spaced) end cs ls → 0 < length w.own
-    → o + length (all_bytes (w ∷ ws)) ≤ end → Left text o (all_bytes (w ∷ ws) ++ bs) → AllFit (w ∷ ws) bs → KeyFit (w ∷ ws) bs
-    → KeyRuns x text (o + length (all_bytes (w ∷ ws))) d (o + front w.spaced) cs ls T (λ bs. w.body ∷ all_bodies ws bs)
+pub key_words : (d : ℕ) (ls : List ℕ) (w : Spoken (nat_lt 0 d) (indent ls))
+    (ws : List (Spoken (nat_lt 0 d) (indent ls))) (bs : List ℕ) (x : yaml_encoding_t)
+    (text : List ℕ) (o line end : ℕ) (broken : Bool) (cs more : List ℕ)
+    (T : List TokenBody → List TokenBody)
+    → Reads x text (spot_at o line d true broken) cs ls more T
+    → ClosesAt d (column_at text (o + front w.spaced)) ls more
+    → Frame text d (o + front w.spaced) end cs ls → 0 < length w.own
+    → o + length (all_bytes (w ∷ ws)) ≤ end → Left text o (all_bytes (w ∷ ws) ++ bs)
+    → AllFit (w ∷ ws) bs → KeyFit (w ∷ ws) bs
+    → KeyRuns x text (o + length (all_bytes (w ∷ ws))) d (o + front w.spaced) cs ls T
+    (λ bs. w.body ∷ all_bodies ws bs)
 key_words d ls w ws bs x text o line end broken cs more T reads closes f some few l (fit, fits) (plain, plains) =
     let rest = all_bytes ws in
     let m = subst (λ ys. Left text o ys) (append_assoc (spoken_bytes w) rest bs) l in
@@ -243,16 +280,21 @@ key_words d ls w ws bs x text o line end broken cs more T reads closes f some fe
     let same : e + length rest ≡ o + length (spoken_bytes w ++ rest) = omega (arith, far, all) in
     subst (λ i. KeyRuns x text i d p cs ls T (λ bs. w.body ∷ all_bodies ws bs)) same tail
   where
-    fronted : (b : Bool) (o : ℕ) (own : List ℕ) → o + front b + length own ≡ o + length (if b then 32 ∷ own else own)
+    fronted : (b : Bool) (o : ℕ) (own : List ℕ)
+        → o + front b + length own ≡ o + length (if b then 32 ∷ own else own)
     fronted true o own = omega arith
     fronted false o own = omega arith
 
 -- ---- the `:`
 
-pub key_colon : (d : ℕ) (ls new : List ℕ) (what : Opens) (tail : List ℕ) (x : yaml_encoding_t) (text : List ℕ) (p e end : ℕ) (cs : List ℕ) (T K : List TokenBody → List TokenBody)
-    → Frame text d p end cs ls → p < e → e ≤ end → KeyRuns x text e d p cs ls T K → Left text e (58 ∷ tail) → begins_white tail ≡ true
-    → opened (not (nat_lt 0 d)) (margin_at (column_at text p)) ls ≡ new → start_of d (margin_at (column_at text p)) ls opening.Mapping ≡ what
-    → Reads x text (behind text e (e + 1) d false (not (nat_lt 0 d))) cs new [] (λ bs. T (start_bodies what (tokens.key ∷ K (tokens.value ∷ bs))))
+pub key_colon : (d : ℕ) (ls new : List ℕ) (what : Opens) (tail : List ℕ) (x : yaml_encoding_t)
+    (text : List ℕ) (p e end : ℕ) (cs : List ℕ) (T K : List TokenBody → List TokenBody)
+    → Frame text d p end cs ls → p < e → e ≤ end → KeyRuns x text e d p cs ls T K
+    → Left text e (58 ∷ tail) → begins_white tail ≡ true
+    → opened (not (nat_lt 0 d)) (margin_at (column_at text p)) ls ≡ new
+    → start_of d (margin_at (column_at text p)) ls opening.Mapping ≡ what
+    → Reads x text (behind text e (e + 1) d false (not (nat_lt 0 d))) cs new []
+    (λ bs. T (start_bodies what (tokens.key ∷ K (tokens.value ∷ bs))))
 key_colon d ls new what tail x text p e end cs T K f some few r l white opens starts =
     let z : e + 0 ≡ e = omega arith in
     let first = left_first text e 58 tail l in
@@ -284,7 +326,8 @@ pub record Brackets (first last : ℕ) (k l : Kind) (opens closes : TokenBody) :
   pub shown : (32 < first) × (first < 127) × (first ≡ 35 → ⊥)
   pub shown_last : (32 < last) × (last < 127) × (last ≡ 35 → ⊥)
 
-pub square : Brackets 91 93 kinds.FlowSequenceStart kinds.FlowSequenceEnd tokens.flow_sequence_start tokens.flow_sequence_end
+pub square : Brackets 91 93 kinds.FlowSequenceStart kinds.FlowSequenceEnd tokens.flow_sequence_start
+    tokens.flow_sequence_end
 square = record {
   opening = signs_come.sequence;
   closing = signs_come.sequence_end;
@@ -301,7 +344,8 @@ square = record {
   shown_last = (omega arith, omega arith, λ h. omega (arith, h));
 }
 
-pub curly : Brackets 123 125 kinds.FlowMappingStart kinds.FlowMappingEnd tokens.flow_mapping_start tokens.flow_mapping_end
+pub curly : Brackets 123 125 kinds.FlowMappingStart kinds.FlowMappingEnd tokens.flow_mapping_start
+    tokens.flow_mapping_end
 curly = record {
   opening = signs_come.mapping;
   closing = signs_come.mapping_end;
@@ -334,8 +378,12 @@ deep_in : (d : ℕ) → nat_lt 0 (d + 1) ≡ true
 deep_in d = grind (arith, nat_tests)
 
 -- the closer
-bracket_closes : (first last : ℕ) (k l : Kind) (opens closes : TokenBody) → Brackets first last k l opens closes → (d : ℕ) (ls bs : List ℕ) (x : yaml_encoding_t) (text : List ℕ) (p q end : ℕ) (cs : List ℕ) (T K : List TokenBody → List TokenBody)
-    → Frame text d p end cs ls → q + 1 ≤ end → Opened x text q d p cs ls T K → Left text q (last ∷ bs) → KeyRuns x text (q + 1) d p cs ls T (λ bs. K (closes ∷ bs))
+bracket_closes : (first last : ℕ) (k l : Kind) (opens closes : TokenBody)
+    → Brackets first last k l opens closes
+    → (d : ℕ) (ls bs : List ℕ) (x : yaml_encoding_t) (text : List ℕ) (p q end : ℕ) (cs : List ℕ)
+    (T K : List TokenBody → List TokenBody)
+    → Frame text d p end cs ls → q + 1 ≤ end → Opened x text q d p cs ls T K
+    → Left text q (last ∷ bs) → KeyRuns x text (q + 1) d p cs ls T (λ bs. K (closes ∷ bs))
 bracket_closes first last k l opens closes b d ls bs x text p q end cs T K f few r left =
     let z : q + 0 ≡ q = omega arith in
     let here = left_first text q last bs left in
@@ -357,8 +405,14 @@ bracket_closes first last k l opens closes b d ls bs x text p q end cs T K f few
     })
 
 -- as the first words
-pub brackets_first : (first last : ℕ) (k l : Kind) (opens closes : TokenBody) → Brackets first last k l opens closes → (d : ℕ) (ls bs : List ℕ) (x : yaml_encoding_t) (text : List ℕ) (p line end : ℕ) (broken : Bool) (cs more : List ℕ) (T : List TokenBody → List TokenBody)
-    → Reads x text (spot_at p line d true broken) cs ls more T → ClosesAt d (column_at text p) ls more → Frame text d p end cs ls → p + 2 ≤ end → Left text p (first ∷ last ∷ bs) → KeyRuns x text (p + 2) d p cs ls T (λ bs. opens ∷ closes ∷ bs)
+pub brackets_first : (first last : ℕ) (k l : Kind) (opens closes : TokenBody)
+    → Brackets first last k l opens closes
+    → (d : ℕ) (ls bs : List ℕ) (x : yaml_encoding_t) (text : List ℕ) (p line end : ℕ)
+    (broken : Bool) (cs more : List ℕ) (T : List TokenBody → List TokenBody)
+    → Reads x text (spot_at p line d true broken) cs ls more T
+    → ClosesAt d (column_at text p) ls more → Frame text d p end cs ls → p + 2 ≤ end
+    → Left text p (first ∷ last ∷ bs)
+    → KeyRuns x text (p + 2) d p cs ls T (λ bs. opens ∷ closes ∷ bs)
 brackets_first first last k l opens closes b d ls bs x text p line end broken cs more T reads close f few left =
     let z : p + 0 ≡ p = omega arith in
     let here = left_first text p first (last ∷ bs) left in
@@ -377,8 +431,13 @@ brackets_first first last k l opens closes b d ls bs x text p line end broken cs
     (bracket_closes first last k l opens closes b d ls bs x text p (p + 1) end cs T (λ bs. opens ∷ bs) f (omega (arith, few)) o (left_more text p first (last ∷ bs) left))
 
 -- behind properties
-pub brackets_more : (first last : ℕ) (k l : Kind) (opens closes : TokenBody) → Brackets first last k l opens closes → (d : ℕ) (ls bs : List ℕ) (x : yaml_encoding_t) (text : List ℕ) (p q end : ℕ) (cs : List ℕ) (T K : List TokenBody → List TokenBody)
-    → KeyRuns x text q d p cs ls T K → Frame text d p end cs ls → p < q → q + 2 ≤ end → Left text q (first ∷ last ∷ bs) → KeyRuns x text (q + 2) d p cs ls T (λ bs. K (opens ∷ closes ∷ bs))
+pub brackets_more : (first last : ℕ) (k l : Kind) (opens closes : TokenBody)
+    → Brackets first last k l opens closes
+    → (d : ℕ) (ls bs : List ℕ) (x : yaml_encoding_t) (text : List ℕ) (p q end : ℕ) (cs : List ℕ)
+    (T K : List TokenBody → List TokenBody)
+    → KeyRuns x text q d p cs ls T K → Frame text d p end cs ls → p < q → q + 2 ≤ end
+    → Left text q (first ∷ last ∷ bs)
+    → KeyRuns x text (q + 2) d p cs ls T (λ bs. K (opens ∷ closes ∷ bs))
 brackets_more first last k l opens closes b d ls bs x text p q end cs T K r f more few left =
     let z : q + 0 ≡ q = omega arith in
     let here = left_first text q first (last ∷ bs) left in

@@ -27,11 +27,15 @@ has_self pre (x ∷ xs) =
 pub left_self : (bs : List ℕ) → Left bs 0 bs
 left_self bs = record { has = has_self [] bs; ends = omega arith }
 
-no_width : (b c d : ℕ) → (b == 32) ≡ false → (b == 9) ≡ false → nat_lt 0 (break_of b c d) ≡ false → (not (b == 32 || (b == 10 || b == 13)) && (not (b == 9) && break_of b c d == 0)) ≡ true
+no_width : (b c d : ℕ) → (b == 32) ≡ false → (b == 9) ≡ false → nat_lt 0 (break_of b c d) ≡ false
+    → (not (b == 32 || (b == 10 || b == 13)) && (not (b == 9) && break_of b c d == 0)) ≡ true
 unfolding break_of
 no_width b c d s t h = grind (arith, nat_tests)
 
-solid_by : (b c d : ℕ) (rest : Bool) → (not (b == 32) && (not (b == 9) && (not (b == 35) && (not (nat_lt 0 (break_of b c d)) && rest)))) ≡ true → (not (b == 32 || (b == 10 || b == 13)) && (not (b == 9) && break_of b c d == 0)) ≡ true
+solid_by : (b c d : ℕ) (rest : Bool)
+    → (not (b == 32) && (not (b == 9)
+    && (not (b == 35) && (not (nat_lt 0 (break_of b c d)) && rest)))) ≡ true
+    → (not (b == 32 || (b == 10 || b == 13)) && (not (b == 9) && break_of b c d == 0)) ≡ true
 solid_by b c d rest h =
     let (s, h1) = and_parts (not (b == 32)) (not (b == 9) && (not (b == 35) && (not (nat_lt 0 (break_of b c d)) && rest))) h in
     let (t, h2) = and_parts (not (b == 9)) (not (b == 35) && (not (nat_lt 0 (break_of b c d)) && rest)) h1 in
@@ -40,17 +44,20 @@ solid_by b c d rest h =
     no_width b c d (not-true (b == 32) s) (not-true (b == 9) t) (not-true (nat_lt 0 (break_of b c d)) w)
 
 -- bytes with which a lexeme begins are solid
-pub lexeme_solid : (b : ℕ) (bs : List ℕ) → begins_lexeme (b ∷ bs) 0 ≡ true → begins_solid (b ∷ bs) ≡ true
+pub lexeme_solid : (b : ℕ) (bs : List ℕ) → begins_lexeme (b ∷ bs) 0 ≡ true
+    → begins_solid (b ∷ bs) ≡ true
 lexeme_solid b [] h = solid_by b 0 0 _ h
 lexeme_solid b (c ∷ []) h = solid_by b c 0 _ h
 lexeme_solid b (c ∷ d ∷ ds) h = solid_by b c d _ h
 
-calm_by : (g : Bool) (b : ℕ) (m : Bool) → g ≡ false → not (b == 35) ≡ true → (if g then m else not (b == 35)) ≡ true
+calm_by : (g : Bool) (b : ℕ) (m : Bool) → g ≡ false → not (b == 35) ≡ true
+    → (if g then m else not (b == 35)) ≡ true
 calm_by true b m e h = absurd (cc)
 calm_by false b m e h = h
 
 -- and no comment
-pub lexeme_calm : (b : ℕ) (bs : List ℕ) → begins_lexeme (b ∷ bs) 0 ≡ true → no_comment (b ∷ bs) ≡ true
+pub lexeme_calm : (b : ℕ) (bs : List ℕ) → begins_lexeme (b ∷ bs) 0 ≡ true
+    → no_comment (b ∷ bs) ≡ true
 unfolding no_comment
 lexeme_calm b bs h =
     let (gap, more) = and_parts (not (is_gap_byte b)) _ (lexeme_solid b bs h) in

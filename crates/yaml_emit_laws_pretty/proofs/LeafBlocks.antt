@@ -54,7 +54,10 @@ record Gapped (x : yaml_encoding_t) (text : List ℕ) (ls : List ℕ) (T : List 
   right : indent ls ≤ column_at text place.at
   left : Left text place.at (bytes (rest cursor))
 
-gap_on : (x : yaml_encoding_t) (text : List ℕ) (c : Cursor) (o : Where) (ls : List ℕ) (T : List TokenBody → List TokenBody) (rest : Rest) → Stage x text c o ls [] T → indent ls ≤ column_at text o.at → Left text o.at (bytes (gap c rest)) → Gapped x text ls T rest
+gap_on : (x : yaml_encoding_t) (text : List ℕ) (c : Cursor) (o : Where) (ls : List ℕ)
+    (T : List TokenBody → List TokenBody) (rest : Rest) → Stage x text c o ls [] T
+    → indent ls ≤ column_at text o.at → Left text o.at (bytes (gap c rest))
+    → Gapped x text ls T rest
 gap_on x text c o ls T rest s right l =
     elim (cases_Bool c.white) [
       | inl e ↦ record { cursor = c; place = o; stage = s; right = right; left = subst (λ (b : Bool). Left text o.at (bytes (if b then rest c else blank c rest))) e l }
@@ -96,7 +99,8 @@ literal_is : IsBlock kinds.Literal
 literal_is = record { flat = refl; stays = refl; allows = refl; value = λ e. false≢true e }
 
 -- text in a line takes a column at least
-same_line : (text : List ℕ) (p e b m : ℕ) → byte text p ≡ b → b < 127 → p < e → line_at text e ≤ line_at text p → column_at text e ≡ m → m ≤ column_at text p → ⊥
+same_line : (text : List ℕ) (p e b m : ℕ) → byte text p ≡ b → b < 127 → p < e
+    → line_at text e ≤ line_at text p → column_at text e ≡ m → m ≤ column_at text p → ⊥
 same_line text p e b m here high far u column left_of =
     let k = e - (p + 1) in
     let is : e ≡ p + suc k = omega (arith, far) in
@@ -105,9 +109,15 @@ same_line text p e b m here high far u column left_of =
     omega (arith, grows, same, column, left_of)
 
 -- from an indicator on, up to a place on a later line, where only spaces stand
-word_on : (k : Kind) → IsBlock k → (x : yaml_encoding_t) (text : List ℕ) (c d : Cursor) (o : Where) (ls : List ℕ) (T : List TokenBody → List TokenBody) (b e : ℕ) (w : WordText) (m : ℕ) (rest : Rest) → Stage x text c o ls [] T → indent ls ≤ column_at text o.at
-    → byte text o.at ≡ b → 32 < b → b < 127 → (b ≡ 35 → ⊥) → kind_at false text o.at ≡ Some k → word_at k false (indent ls) text o.at ≡ Ok w → w.reached ≡ e → w.broke ≡ false → o.at < e → column_at text e ≡ m → m ≤ column_at text o.at
-    → d.column ≡ m → d.bare ≡ true → d.white ≡ true → (kept : Bool) → d.kept ≡ kept → Left text e (bytes (rest d)) → LinedUp x text rest m kept ls (λ bs. T (w.body ∷ bs))
+word_on : (k : Kind) → IsBlock k
+    → (x : yaml_encoding_t) (text : List ℕ) (c d : Cursor) (o : Where) (ls : List ℕ)
+    (T : List TokenBody → List TokenBody) (b e : ℕ) (w : WordText) (m : ℕ) (rest : Rest)
+    → Stage x text c o ls [] T → indent ls ≤ column_at text o.at
+    → byte text o.at ≡ b → 32 < b → b < 127 → (b ≡ 35 → ⊥) → kind_at false text o.at ≡ Some k
+    → word_at k false (indent ls) text o.at ≡ Ok w → w.reached ≡ e → w.broke ≡ false → o.at < e
+    → column_at text e ≡ m → m ≤ column_at text o.at
+    → d.column ≡ m → d.bare ≡ true → d.white ≡ true → (kept : Bool) → d.kept ≡ kept
+    → Left text e (bytes (rest d)) → LinedUp x text rest m kept ls (λ bs. T (w.body ∷ bs))
 unfolding LeaveClear
 word_on k is x text c d o ls T b e w m rest s right here low high hash kind word reached broke far column left_of at_column at_bare at_white kept same l =
     let p = o.at in
@@ -156,11 +166,13 @@ keep_same chomping.Keep = refl
 keep_same chomping.Clip = refl
 keep_same chomping.Strip = refl
 
-below : (p : Context) (around : Option ℕ) (m : ℕ) → m ≤ column_round around → 0 < p.settings.indent → m < deeper p.settings around
+below : (p : Context) (around : Option ℕ) (m : ℕ) → m ≤ column_round around → 0 < p.settings.indent
+    → m < deeper p.settings around
 below p None m low some = omega (arith, low, some)
 below p (Some n) m low some = omega (arith, low, some)
 
-not_right : (around : Option ℕ) (m level column : ℕ) → m ≤ column_round around → level ≡ margin_round around → level ≤ column → m ≤ column
+not_right : (around : Option ℕ) (m level column : ℕ) → m ≤ column_round around
+    → level ≡ margin_round around → level ≤ column → m ≤ column
 not_right None m level column low same right = omega (arith, low)
 not_right (Some n) m level column low same right = omega (arith, low, same, right)
 
@@ -168,16 +180,22 @@ inside : (text : List ℕ) (p b : ℕ) (bs : List ℕ) → Left text p (b ∷ bs
 inside text p b bs l = let e = l.ends in omega (arith, e)
 
 -- it is behind its start
-lands : (k : Kind) (text : List ℕ) (p level : ℕ) (w : WordText) → is_end k ≡ false → Fits k text p → word_at k false level text p ≡ Ok w → p < w.reached
+lands : (k : Kind) (text : List ℕ) (p level : ℕ) (w : WordText) → is_end k ≡ false → Fits k text p
+    → word_at k false level text p ≡ Ok w → p < w.reached
 lands k text p level w no_end fits e =
     let h : IsWordFrom text p w = subst (λ (r : Result WordText Wrong). LandsWord text p r) e (word_lands k false level text p no_end fits) in
     let far = h.end in
     let more = h.place in
     omega (arith, far, more)
 
-block_from : (folded : Bool) (page : Page) (digit : ℕ) (x : yaml_encoding_t) (text : List ℕ) (c : Cursor) (o : Where) (ls : List ℕ) (T : List TokenBody → List TokenBody) (value : List ℕ) (m : ℕ) (rest k : Rest) → Stage x text c o ls [] T → indent ls ≤ column_at text o.at → m ≤ column_at text o.at
-    → Left text o.at (bytes (from_indicator page digit folded (chars value) c k)) → BlockPassed folded (indent ls) text o.at value m (bytes (rest (behind_line m value)))
-    → LinedUp x text rest m (is_keep (chomp true true (chars value))) ls (λ bs. T (tokens.scalar value (read_style folded) ∷ bs))
+block_from : (folded : Bool) (page : Page) (digit : ℕ) (x : yaml_encoding_t) (text : List ℕ)
+    (c : Cursor) (o : Where) (ls : List ℕ) (T : List TokenBody → List TokenBody) (value : List ℕ)
+    (m : ℕ) (rest k : Rest) → Stage x text c o ls [] T → indent ls ≤ column_at text o.at
+    → m ≤ column_at text o.at
+    → Left text o.at (bytes (from_indicator page digit folded (chars value) c k))
+    → BlockPassed folded (indent ls) text o.at value m (bytes (rest (behind_line m value)))
+    → LinedUp x text rest m (is_keep (chomp true true (chars value))) ls
+    (λ bs. T (tokens.scalar value (read_style folded) ∷ bs))
 block_from true page digit x text c o ls T value m rest k s right low l passed =
     let sign = left_letter text o.at 62 _ refl l in
     let e = passed.end + m in
@@ -194,10 +212,18 @@ block_from false page digit x text c o ls T value m rest k s right low l passed 
     (is_keep (chomp true true (chars value))) (keep_same (chomp true true (chars value))) passed.left
 
 -- A block scalar with the space in front and the line behind it, at each spot where a layout chooses its style.
-pub block_line : (p : Context) (around : Option ℕ) (q : Part) (v : Scalar) (folded : Bool) → 0 < p.settings.indent → p.settings.indent < 10 → IsUtf8 v.value → style_of p (block_spot around q) v ≡ block_style folded → (ls : List ℕ) (c : Cursor) (m : ℕ) (after : Rest)
-    → indent ls ≡ margin_round around → m ≤ column_round around → Ending p.settings.line_break m (indent ls) after → (x : yaml_encoding_t) (text : List ℕ) (o : Where) (T : List TokenBody → List TokenBody) → Stage x text c o ls [] T → indent ls ≤ column_at text o.at
-    → Left text o.at (bytes ((gap ▹ from_indicator (page_at p.settings (block_spot around q)) p.settings.indent folded (chars v.value)) c (λ e. line p.settings.line_break m e after)))
-    → LinedUp x text after m (is_keep (chomp true true (chars v.value))) ls (λ bs. T (tokens.scalar v.value (read_style folded) ∷ bs))
+pub block_line : (p : Context) (around : Option ℕ) (q : Part) (v : Scalar) (folded : Bool)
+    → 0 < p.settings.indent → p.settings.indent < 10 → IsUtf8 v.value
+    → style_of p (block_spot around q) v ≡ block_style folded
+    → (ls : List ℕ) (c : Cursor) (m : ℕ) (after : Rest)
+    → indent ls ≡ margin_round around → m ≤ column_round around
+    → Ending p.settings.line_break m (indent ls) after
+    → (x : yaml_encoding_t) (text : List ℕ) (o : Where) (T : List TokenBody → List TokenBody)
+    → Stage x text c o ls [] T → indent ls ≤ column_at text o.at
+    → Left text o.at (bytes ((gap ▹ from_indicator (page_at p.settings (block_spot around q))
+    p.settings.indent folded (chars v.value)) c (λ e. line p.settings.line_break m e after)))
+    → LinedUp x text after m (is_keep (chomp true true (chars v.value))) ls
+    (λ bs. T (tokens.scalar v.value (read_style folded) ∷ bs))
 block_line p around q v folded some few utf8 chosen ls c m after level low ending x text o T s right l =
     let at = block_spot around q in
     let page = page_at p.settings at in

@@ -35,10 +35,14 @@ bare_off b e f = false≢true (sym e ∙ f)
 
 -- ---- stages
 
-stage_reads : (x : yaml_encoding_t) (text : List ℕ) (c : Cursor) (o : Where) (ls : List ℕ) (T : List TokenBody → List TokenBody) → Stage x text c o ls [] T → Reads x text (spot_at o.at o.line 0 o.now o.broken) [] ls [] T
+stage_reads : (x : yaml_encoding_t) (text : List ℕ) (c : Cursor) (o : Where) (ls : List ℕ)
+    (T : List TokenBody → List TokenBody) → Stage x text c o ls [] T
+    → Reads x text (spot_at o.at o.line 0 o.now o.broken) [] ls [] T
 stage_reads x text c o ls T s = subst (λ i. Reads x text (spot_at o.at o.line i o.now o.broken) [] ls [] T) s.flat s.reads
 
-run_stage : (x : yaml_encoding_t) (text : List ℕ) (e : ℕ) (ls : List ℕ) (T : List TokenBody → List TokenBody) (r : WordsRun x text e 0 [] ls T) (c : Cursor) → c.bare ≡ false → Stage x text c (spot_at e r.line 0 false r.wide) ls [] T
+run_stage : (x : yaml_encoding_t) (text : List ℕ) (e : ℕ) (ls : List ℕ)
+    (T : List TokenBody → List TokenBody) (r : WordsRun x text e 0 [] ls T) (c : Cursor)
+    → c.bare ≡ false → Stage x text c (spot_at e r.line 0 false r.wide) ls [] T
 run_stage x text e ls T r c bare = record { reads = r.reads; flat = refl; broken = r.block refl; bare = λ b. absurd (bare_off c.bare bare b); line = r.before }
 
 all_clear : (now : Bool) → ClearFor now 0 []
@@ -47,11 +51,15 @@ all_clear now = outside_clear now 0 [] tt
 
 -- ---- one word
 
-spaced_right : (text : List ℕ) (p n : ℕ) (b : Bool) (own bs : List ℕ) → n ≤ column_at text p → Left text p ((if b then 32 ∷ own else own) ++ bs) → n ≤ column_at text (p + front b)
+spaced_right : (text : List ℕ) (p n : ℕ) (b : Bool) (own bs : List ℕ) → n ≤ column_at text p
+    → Left text p ((if b then 32 ∷ own else own) ++ bs) → n ≤ column_at text (p + front b)
 spaced_right text p n false own bs right l = let z : p + 0 ≡ p = omega arith in subst (λ i. n ≤ column_at text i) (sym z) right
 spaced_right text p n true own bs right l = let (next, line) = letter_columns text p 32 (left_first text p 32 (own ++ bs) l) (omega arith) (omega arith) in omega (arith, next, right)
 
-pub word_walks : (a : Layout) (c : Cursor) (ls : List ℕ) (w : Spoken false (indent ls)) (says : Says false (indent ls) a c (w ∷ [])) (rest : Rest) → Fits w.wants false (indent ls) (bytes (rest says.behind)) → Walks a (λ bs. w.body ∷ bs) ls c rest
+pub word_walks : (a : Layout) (c : Cursor) (ls : List ℕ) (w : Spoken false (indent ls))
+    (says : Says false (indent ls) a c (w ∷ [])) (rest : Rest)
+    → Fits w.wants false (indent ls) (bytes (rest says.behind))
+    → Walks a (λ bs. w.body ∷ bs) ls c rest
 word_walks a c ls w says rest fits x text o T s right l =
     let own = spoken_bytes w in
     let bs = bytes (rest says.behind) in
@@ -80,8 +88,13 @@ pub record Dressing (x : yaml_encoding_t) (text : List ℕ) (rest : Rest) (c : C
   pub none : some ≡ false → cursor ≡ c
   pub text_before : some ≡ true → (cursor.bare ≡ false) × (cursor.white ≡ false)
 
-dress_run : (ls : List ℕ) (ws : List (Spoken false (indent ls))) (c e : Cursor) (some : Bool) → Moved ws c e → has_words ws ≡ some → AreCalm (all_bytes ws) → e.kept ≡ c.kept → (rest : Rest) → (e.bare ≡ false → e.white ≡ false → AllFit ws (bytes (rest e)))
-    → (x : yaml_encoding_t) (text : List ℕ) (o : Where) (T : List TokenBody → List TokenBody) → Stage x text c o ls [] T → indent ls ≤ column_at text o.at → Left text o.at (all_bytes ws ++ bytes (rest e)) → Dressing x text rest c some ls (λ bs. T (all_bodies ws bs))
+dress_run : (ls : List ℕ) (ws : List (Spoken false (indent ls))) (c e : Cursor) (some : Bool)
+    → Moved ws c e → has_words ws ≡ some → AreCalm (all_bytes ws) → e.kept ≡ c.kept → (rest : Rest)
+    → (e.bare ≡ false → e.white ≡ false → AllFit ws (bytes (rest e)))
+    → (x : yaml_encoding_t) (text : List ℕ) (o : Where) (T : List TokenBody → List TokenBody)
+    → Stage x text c o ls [] T → indent ls ≤ column_at text o.at
+    → Left text o.at (all_bytes ws ++ bytes (rest e))
+    → Dressing x text rest c some ls (λ bs. T (all_bodies ws bs))
 dress_run ls [] c e some moved is calm kept rest fits x text o T s right l = record {
   cursor = c;
   place = o;
@@ -109,7 +122,9 @@ dress_run ls (w ∷ ws) c e some (bare, white) is calm kept rest fits x text o T
       text_before = λ h. (bare, white);
     }
 
-dressing_says : (x : yaml_encoding_t) (text : List ℕ) (rest : Rest) (c : Cursor) (some : Bool) (ls : List ℕ) (T U : List TokenBody → List TokenBody) → Dressing x text rest c some ls T → ((bs : List TokenBody) → T bs ≡ U bs) → Dressing x text rest c some ls U
+dressing_says : (x : yaml_encoding_t) (text : List ℕ) (rest : Rest) (c : Cursor) (some : Bool)
+    (ls : List ℕ) (T U : List TokenBody → List TokenBody) → Dressing x text rest c some ls T
+    → ((bs : List TokenBody) → T bs ≡ U bs) → Dressing x text rest c some ls U
 dressing_says x text rest c some ls T U d e = record {
   cursor = d.cursor;
   place = d.place;
@@ -121,16 +136,24 @@ dressing_says x text rest c some ls T U d e = record {
   text_before = d.text_before;
 }
 
-pub dressed : (s : Settings) (o : Opening) → IsPretty s o → (a t : Option (List ℕ)) (m : Bool) → IsWritableAnchor a → IsWritableTag t → (ls : List ℕ) (c : Cursor) (rest : Rest) → ((e : Cursor) → e.bare ≡ false → e.white ≡ false → begins_white (bytes (rest e)) ≡ true)
-    → (m ≡ true → (e : Cursor) → e.bare ≡ false → e.white ≡ false → first (bytes (rest e)) ≡ 32) → (x : yaml_encoding_t) (text : List ℕ) (w : Where) (T : List TokenBody → List TokenBody) → Stage x text c w ls [] T → indent ls ≤ column_at text w.at
-    → Left text w.at (bytes ((anchor_text a ▹ (tag_text (context_of s o.directives) t ▹ when m (word (33 ∷ [])))) c rest)) → Dressing x text rest c (has_some a (has_some t m)) ls (λ bs. T (anchor_bodies a (tag_bodies o.directives t (mark_bodies m bs))))
+pub dressed : (s : Settings) (o : Opening) → IsPretty s o → (a t : Option (List ℕ)) (m : Bool)
+    → IsWritableAnchor a → IsWritableTag t → (ls : List ℕ) (c : Cursor) (rest : Rest)
+    → ((e : Cursor) → e.bare ≡ false → e.white ≡ false → begins_white (bytes (rest e)) ≡ true)
+    → (m ≡ true → (e : Cursor) → e.bare ≡ false → e.white ≡ false → first (bytes (rest e)) ≡ 32)
+    → (x : yaml_encoding_t) (text : List ℕ) (w : Where) (T : List TokenBody → List TokenBody)
+    → Stage x text c w ls [] T → indent ls ≤ column_at text w.at
+    → Left text w.at (bytes ((anchor_text a ▹
+    (tag_text (context_of s o.directives) t ▹ when m (word (33 ∷ [])))) c rest))
+    → Dressing x text rest c (has_some a (has_some t m)) ls
+    (λ bs. T (anchor_bodies a (tag_bodies o.directives t (mark_bodies m bs))))
 dressed s o pretty a t m good fine ls c rest white space x text w T st right l =
     let r = dress_all false (indent ls) o pretty.fine s a t good fine m c in
     dressing_says x text rest c (has_some a (has_some t m)) ls (λ bs. T (all_bodies r.words bs)) (λ bs. T (anchor_bodies a (tag_bodies o.directives t (mark_bodies m bs))))
     (dress_run ls r.words c r.behind (has_some a (has_some t m)) r.moved r.has r.calm r.kept rest (λ b v. r.fits (bytes (rest r.behind)) (white r.behind b v) (λ h. space h r.behind b v)) x text w T st right (subst (λ ys. Left text w.at ys) (r.written rest) l))
     (λ bs. ap (λ ds. T ds) (r.bodies bs))
 
-some_words : (a t : Option (List ℕ)) → (has a || has t) ≡ true → has_some a (has_some t false) ≡ true
+some_words : (a t : Option (List ℕ)) → (has a || has t) ≡ true
+    → has_some a (has_some t false) ≡ true
 some_words (Some a) t e = refl
 some_words None (Some t) e = refl
 some_words None None e = absurd (false≢true e)

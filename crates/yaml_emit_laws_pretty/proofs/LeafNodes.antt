@@ -49,16 +49,21 @@ use Rattle.yaml_emit_laws_pretty.proofs.LeafDress.{dressed, word_walks}
 -- ---- white
 
 -- behind text a line begins with a break
-text_line_white : (b : LineBreak) (m : ℕ) (after : Rest) (e : Cursor) → e.bare ≡ false → begins_white (bytes (line b m e after)) ≡ true
+text_line_white : (b : LineBreak) (m : ℕ) (after : Rest) (e : Cursor) → e.bare ≡ false
+    → begins_white (bytes (line b m e after)) ≡ true
 text_line_white b m after e bare = ap (λ bs. begins_white bs) (line_bytes b m e after bare) ∙ line_white b _
 
-gap_bytes : (a : Layout) (e : Cursor) (R : Rest) → e.white ≡ false → bytes ((gap ▹ a) e R) ≡ 32 ∷ bytes (a (record { column = e.column + 1; white = true; bare = e.bare; kept = e.kept }) R)
+gap_bytes : (a : Layout) (e : Cursor) (R : Rest) → e.white ≡ false
+    → bytes ((gap ▹ a) e R) ≡ 32 ∷ bytes
+    (a (record { column = e.column + 1; white = true; bare = e.bare; kept = e.kept }) R)
 gap_bytes a e R white =
     let k : Rest = λ d. a d R in
     ap (λ (b : Bool). bytes (if b then k e else blank e k)) white ∙ letter_low 32 (k (record { column = e.column + 1; white = true; bare = e.bare; kept = e.kept })) refl
 
 -- all but plain scalars have a space in front, where one is due
-spaced_text : (page : Page) (digit : ℕ) (v : List ℕ) (st : Style) → is_plain st ≡ false → (e : Cursor) (R : Rest) → e.white ≡ false → first (bytes (scalar_text page digit false st v e R)) ≡ 32
+spaced_text : (page : Page) (digit : ℕ) (v : List ℕ) (st : Style) → is_plain st ≡ false
+    → (e : Cursor) (R : Rest) → e.white ≡ false
+    → first (bytes (scalar_text page digit false st v e R)) ≡ 32
 unfolding scalar_text
 spaced_text page digit v style.Plain some e R white = absurd (false≢true (sym some))
 spaced_text page digit v style.Single some e R white = ap (λ (bs : List ℕ). first bs) (gap_bytes (between_single page v) e R white)
@@ -70,7 +75,10 @@ space_white : (bs : List ℕ) → first bs ≡ 32 → begins_white bs ≡ true
 space_white [] e = refl
 space_white (b ∷ bs) e = subst (λ x. begins_white (x ∷ bs) ≡ true) (sym e) refl
 
-text_white : PlainHasGap → (page : Page) (digit : ℕ) (v : List ℕ) → IsUtf8 v → (st : Style) → (b : LineBreak) (m : ℕ) (after : Rest) (e : Cursor) → e.white ≡ false → begins_white (bytes (scalar_text page digit false st (chars v) e (λ i. line b m i after))) ≡ true
+text_white : PlainHasGap → (page : Page) (digit : ℕ) (v : List ℕ) → IsUtf8 v → (st : Style)
+    → (b : LineBreak) (m : ℕ) (after : Rest) (e : Cursor) → e.white ≡ false
+    → begins_white (bytes (scalar_text page digit false st (chars v) e (λ i. line b m i after)))
+    ≡ true
 unfolding scalar_text
 text_white gaps page digit v u style.Plain b m after e white = plain_white gaps page e v (λ i. line b m i after) u white (λ i bare. text_line_white b m after i bare)
 text_white gaps page digit v u style.Single b m after e white = space_white (bytes (scalar_text page digit false style.Single (chars v) e (λ i. line b m i after))) (spaced_text page digit (chars v) style.Single refl e (λ i. line b m i after) white)
@@ -80,7 +88,8 @@ text_white gaps page digit v u style.Folded b m after e white = space_white (byt
 
 -- ---- pages
 
-page_deep : (s : Settings) → 2 ≤ s.indent → (around : Option ℕ) → (0 < deeper s around) × (margin_round around ≤ deeper s around)
+page_deep : (s : Settings) → 2 ≤ s.indent → (around : Option ℕ)
+    → (0 < deeper s around) × (margin_round around ≤ deeper s around)
 page_deep s least None = (omega (arith, least), omega arith)
 page_deep s least (Some n) = (omega (arith, least), omega (arith, least))
 
@@ -89,11 +98,15 @@ page_deep s least (Some n) = (omega (arith, least), omega (arith, least))
 abbrev marked : Context → Part → Scalar → Bool
 marked p q v = not (has (scalar_tag false v)) && takes_mark v.quoted (style_at p false q v)
 
-spot_style : (p : Context) (around : Option ℕ) (q : Part) (v : Scalar) → style_of p (block_spot around q) v ≡ style_at p false q v
+spot_style : (p : Context) (around : Option ℕ) (q : Part) (v : Scalar)
+    → style_of p (block_spot around q) v ≡ style_at p false q v
 unfolding style_of
 spot_style p around q v = refl
 
-scalar_shape : (s : Settings) (o : Opening) → s.canonical ≡ false → (around : Option ℕ) (q : Part) (v : Scalar) (c : Cursor) (R : Rest) → let p = context_of s o.directives in let at = block_spot around q in let st = style_at p false q v in
+scalar_shape : (s : Settings) (o : Opening) → s.canonical ≡ false
+    → (around : Option ℕ) (q : Part) (v : Scalar) (c : Cursor) (R : Rest)
+    → let p = context_of s o.directives in let at = block_spot around q in
+    let st = style_at p false q v in
     node_layout p at (scalar_node v) c R ≡ (anchor_text v.anchor ▹ (tag_text p (scalar_tag false v) ▹ when (marked p q v) (word (33 ∷ [])))) c (λ e. (checked (deeper s around) ▹ scalar_text (page_at s at) s.indent false st (chars v.value)) e R)
 unfolding node_layout scalar_layout
 scalar_shape s o pretty around q v c R =
@@ -116,7 +129,10 @@ TextLines s o around q v st = (ls : List ℕ) (c : Cursor) (m : ℕ) (after : Re
     → Left text w.at (bytes (scalar_text (page_at s (block_spot around q)) s.indent false st (chars v.value) c (λ e. line s.line_break m e after)))
     → LinedUp x text after m (scalar_kept st v.value c.kept) ls (λ bs. T (scalar_bodies false st v.value bs))
 
-plain_lines : PlainIsWalked → StylesAreAllowed → (s : Settings) (o : Opening) → IsPretty s o → (around : Option ℕ) (q : Part) (v : Scalar) → IsUtf8 v.value → style_at (context_of s o.directives) false q v ≡ style.Plain → TextLines s o around q v style.Plain
+plain_lines : PlainIsWalked → StylesAreAllowed → (s : Settings) (o : Opening) → IsPretty s o
+    → (around : Option ℕ) (q : Part) (v : Scalar) → IsUtf8 v.value
+    → style_at (context_of s o.directives) false q v ≡ style.Plain
+    → TextLines s o around q v style.Plain
 unfolding scalar_text
 plain_lines law styles s o pretty around q v u is ls c m after level up ending x text w T st right l =
     let p = context_of s o.directives in
@@ -125,7 +141,10 @@ plain_lines law styles s o pretty around q v u is ls c m after level up ending x
     line_ends s.line_break m x text c.kept ls (λ bs. T (scalar_bodies false style.Plain v.value bs)) after ending.feed
     (plain_walks law (page_at s at) ls c v.value (λ e. line s.line_break m e after) u ((styles p at v).0 (spot_style p around q v ∙ is)) deep (omega (arith, level, far)) ending.follows x text w T st right l)
 
-single_lines : SingleIsWalked → StylesAreAllowed → (s : Settings) (o : Opening) → IsPretty s o → (around : Option ℕ) (q : Part) (v : Scalar) → IsUtf8 v.value → style_at (context_of s o.directives) false q v ≡ style.Single → TextLines s o around q v style.Single
+single_lines : SingleIsWalked → StylesAreAllowed → (s : Settings) (o : Opening) → IsPretty s o
+    → (around : Option ℕ) (q : Part) (v : Scalar) → IsUtf8 v.value
+    → style_at (context_of s o.directives) false q v ≡ style.Single
+    → TextLines s o around q v style.Single
 unfolding scalar_text
 single_lines law styles s o pretty around q v u is ls c m after level up ending x text w T st right l =
     let p = context_of s o.directives in
@@ -134,7 +153,9 @@ single_lines law styles s o pretty around q v u is ls c m after level up ending 
     line_ends s.line_break m x text c.kept ls (λ bs. T (scalar_bodies false style.Single v.value bs)) after ending.feed
     (law (page_at s at) ls c v.value (λ e. line s.line_break m e after) u ((styles p at v).1 (spot_style p around q v ∙ is)) deep ending.follows x text w T st right l)
 
-double_lines : QuotedIsReadBack → (s : Settings) (o : Opening) → IsPretty s o → (around : Option ℕ) (q : Part) (v : Scalar) → IsUtf8 v.value → TextLines s o around q v style.Double
+double_lines : QuotedIsReadBack → (s : Settings) (o : Opening) → IsPretty s o
+    → (around : Option ℕ) (q : Part) (v : Scalar) → IsUtf8 v.value
+    → TextLines s o around q v style.Double
 unfolding scalar_text
 double_lines law s o pretty around q v u ls c m after level up ending x text w T st right l =
     let page = page_at s (block_spot around q) in
@@ -143,7 +164,10 @@ double_lines law s o pretty around q v u ls c m after level up ending x text w T
     line_ends s.line_break m x text c.kept ls (λ bs. T (scalar_bodies false style.Double v.value bs)) after ending.feed
     (word_walks (double_quoted page (chars v.value)) c ls (double_word false (indent ls) (not c.white) page (behind_gap c.white c) v.value (law page (behind_gap c.white c) v.value u (λ cuts. deep))) says (λ e. line s.line_break m e after) tt x text w T st right l)
 
-block_lines : (s : Settings) (o : Opening) → IsPretty s o → (around : Option ℕ) (q : Part) (v : Scalar) → IsUtf8 v.value → (st : Style) → is_block st ≡ true → style_at (context_of s o.directives) false q v ≡ st → TextLines s o around q v st
+block_lines : (s : Settings) (o : Opening) → IsPretty s o
+    → (around : Option ℕ) (q : Part) (v : Scalar) → IsUtf8 v.value → (st : Style)
+    → is_block st ≡ true → style_at (context_of s o.directives) false q v ≡ st
+    → TextLines s o around q v st
 unfolding scalar_text
 block_lines s o pretty around q v u style.Literal some is ls c m after level up ending x text w T st right l =
     let p = context_of s o.directives in
@@ -161,7 +185,8 @@ block_lines s o pretty around q v u style.Double some is ls c m after level up e
 
 -- ---- scalars with their properties
 
-mark_plain : (a b : Bool) (st : Style) → (a && (b && not (is_plain st))) ≡ true → is_plain st ≡ false
+mark_plain : (a b : Bool) (st : Style) → (a && (b && not (is_plain st))) ≡ true
+    → is_plain st ≡ false
 mark_plain a b style.Plain e = absurd (false≢true (sym (off a b) ∙ e))
   where
     off : (a b : Bool) → (a && (b && false)) ≡ false
@@ -173,21 +198,31 @@ mark_plain a b style.Double e = refl
 mark_plain a b style.Literal e = refl
 mark_plain a b style.Folded e = refl
 
-scalar_said : (p : Context) (q : Part) (bare : Bool) (v : Scalar) (bs : List TokenBody) → anchor_bodies v.anchor (tag_bodies p.directives (scalar_tag false v) (mark_bodies (marked p q v) (scalar_bodies false (style_at p false q v) v.value bs))) ≡ node_bodies p false q bare (scalar_node v) bs
+scalar_said : (p : Context) (q : Part) (bare : Bool) (v : Scalar) (bs : List TokenBody)
+    → anchor_bodies v.anchor (tag_bodies p.directives (scalar_tag false v)
+    (mark_bodies (marked p q v) (scalar_bodies false (style_at p false q v) v.value bs)))
+    ≡ node_bodies p false q bare (scalar_node v) bs
 unfolding node_bodies
 scalar_said p q bare v bs = refl
 
-scalar_keeps : (p : Context) (q : Part) (v : Scalar) (kept : Bool) → scalar_kept (style_at p false q v) v.value kept ≡ node_kept p false q (scalar_node v) kept
+scalar_keeps : (p : Context) (q : Part) (v : Scalar) (kept : Bool)
+    → scalar_kept (style_at p false q v) v.value kept ≡ node_kept p false q (scalar_node v) kept
 unfolding node_kept
 scalar_keeps p q v kept = refl
 
-dress_white : (p : Context) (a t : Option (List ℕ)) (m : Bool) (c : Cursor) (rest : Rest) → c.white ≡ false → begins_white (bytes (rest c)) ≡ true → begins_white (bytes ((anchor_text a ▹ (tag_text p t ▹ when m (word (33 ∷ [])))) c rest)) ≡ true
+dress_white : (p : Context) (a t : Option (List ℕ)) (m : Bool) (c : Cursor) (rest : Rest)
+    → c.white ≡ false → begins_white (bytes (rest c)) ≡ true
+    → begins_white (bytes ((anchor_text a ▹ (tag_text p t ▹ when m (word (33 ∷ [])))) c rest))
+    ≡ true
 dress_white p (Some a) t m c rest white next = word_begins_white (38 ∷ a) c (λ e. (tag_text p t ▹ when m (word (33 ∷ []))) e rest) white
 dress_white p None (Some t) m c rest white next = word_begins_white _ c (λ e. when m (word (33 ∷ [])) e rest) white
 dress_white p None None true c rest white next = word_begins_white (33 ∷ []) c rest white
 dress_white p None None false c rest white next = next
 
-scalar_walks : PlainHasGap → (s : Settings) (o : Opening) → IsPretty s o → (around : Option ℕ) (q : Part) (bare : Bool) (v : Scalar) → IsWritable (scalar_node v) → TextLines s o around q v (style_at (context_of s o.directives) false q v) → NodeWalks (context_of s o.directives) around q bare (scalar_node v)
+scalar_walks : PlainHasGap → (s : Settings) (o : Opening) → IsPretty s o
+    → (around : Option ℕ) (q : Part) (bare : Bool) (v : Scalar) → IsWritable (scalar_node v)
+    → TextLines s o around q v (style_at (context_of s o.directives) false q v)
+    → NodeWalks (context_of s o.directives) around q bare (scalar_node v)
 scalar_walks gaps s o pretty around q bare v (anchor, tag, u) lines = record {
   walks = λ ls c m after is level up ending x text w T st right l.
       let p = context_of s o.directives in
@@ -224,19 +259,26 @@ white_ends : (bs : List ℕ) → begins_white bs ≡ true → ends_name bs ≡ t
 white_ends [] e = refl
 white_ends (b ∷ bs) e = ap (λ (t : Bool). t || (b == 44 || (b == 93 || b == 125))) e
 
-alias_shape : (p : Context) (around : Option ℕ) (q : Part) (name : List ℕ) → is_simple_part q ≡ false → (c : Cursor) (R : Rest) → node_layout p (block_spot around q) (alias_node name) c R ≡ word (42 ∷ name) c R
+alias_shape : (p : Context) (around : Option ℕ) (q : Part) (name : List ℕ)
+    → is_simple_part q ≡ false → (c : Cursor) (R : Rest)
+    → node_layout p (block_spot around q) (alias_node name) c R ≡ word (42 ∷ name) c R
 unfolding node_layout alias_layout
 alias_shape p around q name whole c R = ap (λ (b : Bool). (word (42 ∷ name) ▹ when b (char 32)) c R) whole
 
-alias_said : (p : Context) (q : Part) (bare : Bool) (name : List ℕ) (bs : List TokenBody) → tokens.alias name ∷ bs ≡ node_bodies p false q bare (alias_node name) bs
+alias_said : (p : Context) (q : Part) (bare : Bool) (name : List ℕ) (bs : List TokenBody)
+    → tokens.alias name ∷ bs ≡ node_bodies p false q bare (alias_node name) bs
 unfolding node_bodies
 alias_said p q bare name bs = refl
 
-alias_keeps : (p : Context) (q : Part) (name : List ℕ) (kept : Bool) → kept ≡ node_kept p false q (alias_node name) kept
+alias_keeps : (p : Context) (q : Part) (name : List ℕ) (kept : Bool)
+    → kept ≡ node_kept p false q (alias_node name) kept
 unfolding node_kept
 alias_keeps p q name kept = refl
 
-alias_walks : (s : Settings) (o : Opening) → IsPretty s o → (around : Option ℕ) (q : Part) (bare : Bool) (name : List ℕ) → IsWritable (alias_node name) → is_simple_part q ≡ false → NodeWalks (context_of s o.directives) around q bare (alias_node name)
+alias_walks : (s : Settings) (o : Opening) → IsPretty s o
+    → (around : Option ℕ) (q : Part) (bare : Bool) (name : List ℕ) → IsWritable (alias_node name)
+    → is_simple_part q ≡ false
+    → NodeWalks (context_of s o.directives) around q bare (alias_node name)
 alias_walks s o pretty around q bare name good whole = record {
   walks = λ ls c m after is level up ending x text w T st right l.
       let p = context_of s o.directives in
@@ -252,14 +294,18 @@ alias_walks s o pretty around q bare name good whole = record {
 
 -- ---- both
 
-style_lines : PlainIsWalked → SingleIsWalked → QuotedIsReadBack → StylesAreAllowed → (s : Settings) (o : Opening) → IsPretty s o → (around : Option ℕ) (q : Part) (v : Scalar) → IsUtf8 v.value → (st : Style) → style_at (context_of s o.directives) false q v ≡ st → is_block st ≡ false → TextLines s o around q v st
+style_lines : PlainIsWalked → SingleIsWalked → QuotedIsReadBack → StylesAreAllowed
+    → (s : Settings) (o : Opening) → IsPretty s o → (around : Option ℕ) (q : Part) (v : Scalar)
+    → IsUtf8 v.value → (st : Style) → style_at (context_of s o.directives) false q v ≡ st
+    → is_block st ≡ false → TextLines s o around q v st
 style_lines plains singles doubles styles s o pretty around q v u style.Plain is none = plain_lines plains styles s o pretty around q v u is
 style_lines plains singles doubles styles s o pretty around q v u style.Single is none = single_lines singles styles s o pretty around q v u is
 style_lines plains singles doubles styles s o pretty around q v u style.Double is none = double_lines doubles s o pretty around q v u
 style_lines plains singles doubles styles s o pretty around q v u style.Literal is none = absurd (false≢true (sym none))
 style_lines plains singles doubles styles s o pretty around q v u style.Folded is none = absurd (false≢true (sym none))
 
-pub leaves_on : PlainIsWalked → SingleIsWalked → QuotedIsReadBack → StylesAreAllowed → PlainHasGap → LeavesAreWalked
+pub leaves_on : PlainIsWalked → SingleIsWalked → QuotedIsReadBack → StylesAreAllowed → PlainHasGap
+    → LeavesAreWalked
 leaves_on plains singles doubles styles gaps s o pretty (alias_node name) fine around q bare whole leaf none = alias_walks s o pretty around q bare name fine whole
 leaves_on plains singles doubles styles gaps s o pretty (scalar_node v) (anchor, tag, u) around q bare whole leaf none =
     scalar_walks gaps s o pretty around q bare v (anchor, tag, u) (style_lines plains singles doubles styles s o pretty around q v u (style_at (context_of s o.directives) false q v) refl none)

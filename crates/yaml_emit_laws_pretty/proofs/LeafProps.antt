@@ -97,13 +97,15 @@ split_above (verbatim tag) u = (omega arith, (omega arith, above_append (uri_tex
 marked_ascii : (xs : List ℕ) → IsMarked xs → are_ascii xs ≡ true
 marked_ascii xs m = subst (λ (ys : List ℕ). are_ascii ys ≡ true) (sym m.begins) m.ascii
 
-tag_calm : (o : Opening) → IsWritableOpening o → (t : List ℕ) → IsWritableTag (Some t) → AreCalm (spelled (split_tag o.directives t))
+tag_calm : (o : Opening) → IsWritableOpening o → (t : List ℕ) → IsWritableTag (Some t)
+    → AreCalm (spelled (split_tag o.directives t))
 tag_calm o (fine, u) t (some, utf8) =
     let split = split_tag o.directives t in
     let readable = written_readable o fine u t utf8 some in
     calm_all (spelled split) (split_above split readable) (marked_ascii (spelled split) (spelled_ascii split readable))
 
-tag_some : (o : Opening) → IsWritableOpening o → (t : List ℕ) → IsWritableTag (Some t) → 0 < length (spelled (split_tag o.directives t))
+tag_some : (o : Opening) → IsWritableOpening o → (t : List ℕ) → IsWritableTag (Some t)
+    → 0 < length (spelled (split_tag o.directives t))
 tag_some o (fine, u) t (some, utf8) =
     let split = split_tag o.directives t in
     let m = spelled_ascii split (written_readable o fine u t utf8 some) in
@@ -138,7 +140,8 @@ letters_are (x ∷ xs) (a, are) c =
 -- a word, with the space that is due
 pub record Wrote (xs : List ℕ) (c : Cursor) : Type 0 where
   pub behind : Cursor
-  pub written : (rest : Rest) → bytes (word xs c rest) ≡ (if not c.white then 32 ∷ xs else xs) ++ bytes (rest behind)
+  pub written : (rest : Rest)
+      → bytes (word xs c rest) ≡ (if not c.white then 32 ∷ xs else xs) ++ bytes (rest behind)
   pub bare : behind.bare ≡ false
   pub white : behind.white ≡ false
   pub kept : behind.kept ≡ c.kept
@@ -197,8 +200,10 @@ pub record Dress (flow : Bool) (level : ℕ) (a : Layout) (c : Cursor) (some mar
   pub written : (rest : Rest) → bytes (a c rest) ≡ all_bytes words ++ bytes (rest behind)
   pub kept : behind.kept ≡ c.kept
   pub calm : AreCalm (all_bytes words)
-  pub begins : c.white ≡ false → (bs : List ℕ) → begins_white bs ≡ true → begins_white (all_bytes words ++ bs) ≡ true
-  pub fits : (bs : List ℕ) → begins_white bs ≡ true → (marked ≡ true → first bs ≡ 32) → AllFit words bs
+  pub begins : c.white ≡ false → (bs : List ℕ) → begins_white bs ≡ true
+      → begins_white (all_bytes words ++ bs) ≡ true
+  pub fits : (bs : List ℕ) → begins_white bs ≡ true → (marked ≡ true → first bs ≡ 32)
+      → AllFit words bs
   pub spaced : c.white ≡ false → (bs : List ℕ) → first bs ≡ 32 → first (all_bytes words ++ bs) ≡ 32
   pub bodies : (bs : List TokenBody) → all_bodies words bs ≡ B bs
   pub moved : Moved words c behind
@@ -206,7 +211,8 @@ pub record Dress (flow : Bool) (level : ℕ) (a : Layout) (c : Cursor) (some mar
   pub named : NonePlain words
   pub has : has_words words ≡ some
 
-dress_none : (flow : Bool) (level : ℕ) (c : Cursor) (marked : Bool) → Dress flow level stay c false marked (λ bs. bs)
+dress_none : (flow : Bool) (level : ℕ) (c : Cursor) (marked : Bool)
+    → Dress flow level stay c false marked (λ bs. bs)
 dress_none flow level c marked = record {
   words = [];
   behind = c;
@@ -231,14 +237,19 @@ calm_spaced : (b : Bool) (xs : List ℕ) → AreCalm xs → AreCalm (if b then 3
 calm_spaced true xs h = (calm_from 32 (omega arith) (omega arith), h)
 calm_spaced false xs h = h
 
-moved_on : {flow : Bool} {level : ℕ} (ws : List (Spoken flow level)) (c e : Cursor) → c.bare ≡ false → c.white ≡ false → Moved ws c e → (e.bare ≡ false) × (e.white ≡ false)
+moved_on : {flow : Bool} {level : ℕ} (ws : List (Spoken flow level)) (c e : Cursor) → c.bare ≡ false
+    → c.white ≡ false → Moved ws c e → (e.bare ≡ false) × (e.white ≡ false)
 moved_on [] c e bare white m = (ap (λ (x : Cursor). x.bare) m ∙ bare, ap (λ (x : Cursor). x.white) m ∙ white)
 moved_on (w ∷ ws) c e bare white m = m
 
 -- one word in front of others
-dress_word : (flow : Bool) (level : ℕ) (w : Spoken flow level) (xs : List ℕ) (c : Cursor) → AreCalm xs → (some : 0 < length xs) → w.spaced ≡ not c.white → w.own ≡ xs → (r : Wrote xs c) → (b : Layout) (more marked : Bool) (B : List TokenBody → List TokenBody)
+dress_word : (flow : Bool) (level : ℕ) (w : Spoken flow level) (xs : List ℕ) (c : Cursor)
+    → AreCalm xs → (some : 0 < length xs) → w.spaced ≡ not c.white → w.own ≡ xs → (r : Wrote xs c)
+    → (b : Layout) (more marked : Bool) (B : List TokenBody → List TokenBody)
     → (s : Dress flow level b r.behind more marked B)
-    → ((bs : List ℕ) → begins_white bs ≡ true → (marked ≡ true → first bs ≡ 32) → begins_white (all_bytes s.words ++ bs) ≡ true → Fits w.wants flow level (all_bytes s.words ++ bs)) → (w.kind ≡ kinds.Plain → ⊥)
+    → ((bs : List ℕ) → begins_white bs ≡ true → (marked ≡ true → first bs ≡ 32)
+    → begins_white (all_bytes s.words ++ bs) ≡ true
+    → Fits w.wants flow level (all_bytes s.words ++ bs)) → (w.kind ≡ kinds.Plain → ⊥)
     → Dress flow level (word xs ▹ b) c true marked (λ bs. w.body ∷ B bs)
 dress_word flow level w xs c calm some spaced own r b more marked B s fit name =
     let own_bytes : spoken_bytes w ≡ (if not c.white then 32 ∷ xs else xs) = ap (λ (t : Bool). if t then 32 ∷ w.own else w.own) spaced ∙ ap (λ (ys : List ℕ). if not c.white then 32 ∷ ys else ys) own in
@@ -265,7 +276,8 @@ no_tag e = cc
 no_anchor : kinds.Anchor ≡ kinds.Plain → ⊥
 no_anchor e = cc
 
-dress_mark : (flow : Bool) (level : ℕ) (m : Bool) (c : Cursor) → Dress flow level (when m (word (33 ∷ []))) c m m (λ bs. mark_bodies m bs)
+dress_mark : (flow : Bool) (level : ℕ) (m : Bool) (c : Cursor)
+    → Dress flow level (when m (word (33 ∷ []))) c m m (λ bs. mark_bodies m bs)
 unfolding dress_none
 dress_mark flow level false c = dress_none flow level c false
 dress_mark flow level true c =
@@ -277,8 +289,10 @@ abbrev pub has_some : Option (List ℕ) → Bool → Bool
 has_some None b = b
 has_some (Some t) b = true
 
-dress_tag : (flow : Bool) (level : ℕ) (o : Opening) → IsWritableOpening o → (s : Settings) (tag : Option (List ℕ)) → IsWritableTag tag → (m : Bool) (c : Cursor)
-    → Dress flow level (tag_text (context_of s o.directives) tag ▹ when m (word (33 ∷ []))) c (has_some tag m) m (λ bs. tag_bodies o.directives tag (mark_bodies m bs))
+dress_tag : (flow : Bool) (level : ℕ) (o : Opening) → IsWritableOpening o
+    → (s : Settings) (tag : Option (List ℕ)) → IsWritableTag tag → (m : Bool) (c : Cursor)
+    → Dress flow level (tag_text (context_of s o.directives) tag ▹ when m (word (33 ∷ []))) c
+    (has_some tag m) m (λ bs. tag_bodies o.directives tag (mark_bodies m bs))
 dress_tag flow level o good s None w m c = dress_mark flow level m c
 dress_tag flow level o good s (Some t) w m c =
     let xs = spelled (split_tag o.directives t) in
@@ -288,8 +302,13 @@ dress_tag flow level o good s (Some t) w m c =
     dress_word flow level (tag_word split_read spelled_ascii written_readable flow level (not c.white) o good t w) xs c calm some refl refl r (when m (word (33 ∷ []))) m m (λ bs. mark_bodies m bs) (dress_mark flow level m r.behind) (λ bs h k f. f) no_tag
 
 -- an anchor, a tag and the `!`
-pub dress_all : (flow : Bool) (level : ℕ) (o : Opening) → IsWritableOpening o → (s : Settings) (anchor tag : Option (List ℕ)) → IsWritableAnchor anchor → IsWritableTag tag → (m : Bool) (c : Cursor)
-    → Dress flow level (anchor_text anchor ▹ (tag_text (context_of s o.directives) tag ▹ when m (word (33 ∷ [])))) c (has_some anchor (has_some tag m)) m (λ bs. anchor_bodies anchor (tag_bodies o.directives tag (mark_bodies m bs)))
+pub dress_all : (flow : Bool) (level : ℕ) (o : Opening) → IsWritableOpening o
+    → (s : Settings) (anchor tag : Option (List ℕ)) → IsWritableAnchor anchor → IsWritableTag tag
+    → (m : Bool) (c : Cursor)
+    → Dress flow level (anchor_text anchor ▹
+    (tag_text (context_of s o.directives) tag ▹ when m (word (33 ∷ [])))) c
+    (has_some anchor (has_some tag m)) m
+    (λ bs. anchor_bodies anchor (tag_bodies o.directives tag (mark_bodies m bs)))
 dress_all flow level o good s None tag a t m c = dress_tag flow level o good s tag t m c
 dress_all flow level o good s (Some name) tag (some, are) t m c =
     let calm : AreCalm (38 ∷ name) = (calm_from 38 (omega arith) (omega arith), alphas_calm name are) in

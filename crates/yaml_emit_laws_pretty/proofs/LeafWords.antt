@@ -28,7 +28,8 @@ no_more : (a b : Bool) → a ≡ false → (a || (false && b)) ≡ false
 no_more true b e = absurd (false≢true (sym e))
 no_more false b e = refl
 
-still : (now b : Bool) (d : ℕ) (cs : List ℕ) → ClearFor now d cs → ClearFor (now || (false && b)) d cs
+still : (now b : Bool) (d : ℕ) (cs : List ℕ) → ClearFor now d cs
+    → ClearFor (now || (false && b)) d cs
 still now b d cs f a h k is = f a (λ e. h (no_more now b e)) k is
 
 quiet : (now : Bool) (d : ℕ) (cs : List ℕ) → ClearFor now d cs → ClearFor false d cs
@@ -43,8 +44,12 @@ pub record WordsRun (x : yaml_encoding_t) (text : List ℕ) (e d : ℕ) (cs ls :
   pub before : line ≤ line_at text e
 
 -- a word where it stands
-word_here : (d : ℕ) (ls : List ℕ) (w : Spoken (nat_lt 0 d) (indent ls)) (bs : List ℕ) (x : yaml_encoding_t) (text : List ℕ) (q line : ℕ) (now broken : Bool) (cs : List ℕ) (T : List TokenBody → List TokenBody)
-    → Reads x text (spot_at q line d now broken) cs ls [] T → ClearFor now d cs → IsRight d ls (column_at text q) → Left text q (w.own ++ bs) → Fits w.wants (nat_lt 0 d) (indent ls) bs
+word_here : (d : ℕ) (ls : List ℕ) (w : Spoken (nat_lt 0 d) (indent ls)) (bs : List ℕ)
+    (x : yaml_encoding_t) (text : List ℕ) (q line : ℕ) (now broken : Bool) (cs : List ℕ)
+    (T : List TokenBody → List TokenBody)
+    → Reads x text (spot_at q line d now broken) cs ls [] T → ClearFor now d cs
+    → IsRight d ls (column_at text q) → Left text q (w.own ++ bs)
+    → Fits w.wants (nat_lt 0 d) (indent ls) bs
     → WordsRun x text (q + length w.own) d cs ls (λ bs. T (w.body ∷ bs))
 word_here d ls w bs x text q line now broken cs T reads clear right l fits =
     let e = q + length w.own in
@@ -64,12 +69,19 @@ word_here d ls w bs x text q line now broken cs T reads clear right l fits =
     }
 
 -- a word with the space in front, if any
-pub content_word : (d : ℕ) (ls : List ℕ) (w : Spoken (nat_lt 0 d) (indent ls)) (bs : List ℕ) (x : yaml_encoding_t) (text : List ℕ) (o line : ℕ) (now broken : Bool) (cs : List ℕ) (T : List TokenBody → List TokenBody)
-    → Reads x text (spot_at o line d now broken) cs ls [] T → ClearFor now d cs → IsRight d ls (column_at text (o + front w.spaced)) → Left text o (spoken_bytes w ++ bs) → Fits w.wants (nat_lt 0 d) (indent ls) bs
+pub content_word : (d : ℕ) (ls : List ℕ) (w : Spoken (nat_lt 0 d) (indent ls)) (bs : List ℕ)
+    (x : yaml_encoding_t) (text : List ℕ) (o line : ℕ) (now broken : Bool) (cs : List ℕ)
+    (T : List TokenBody → List TokenBody)
+    → Reads x text (spot_at o line d now broken) cs ls [] T → ClearFor now d cs
+    → IsRight d ls (column_at text (o + front w.spaced)) → Left text o (spoken_bytes w ++ bs)
+    → Fits w.wants (nat_lt 0 d) (indent ls) bs
     → WordsRun x text (o + length (spoken_bytes w)) d cs ls (λ bs. T (w.body ∷ bs))
 content_word d ls w bs x text o line now broken cs T reads clear right l fits = by w.spaced right l
   where
-    by : (b : Bool) → IsRight d ls (column_at text (o + front b)) → Left text o ((if b then 32 ∷ w.own else w.own) ++ bs) → WordsRun x text (o + length (if b then 32 ∷ w.own else w.own)) d cs ls (λ bs. T (w.body ∷ bs))
+    by : (b : Bool) → IsRight d ls (column_at text (o + front b))
+        → Left text o ((if b then 32 ∷ w.own else w.own) ++ bs)
+        → WordsRun x text (o + length (if b then 32 ∷ w.own else w.own)) d cs ls
+        (λ bs. T (w.body ∷ bs))
     by false right l = let z : o + 0 ≡ o = omega arith in word_here d ls w bs x text o line now broken cs T reads clear (subst (λ i. IsRight d ls (column_at text i)) z right) l fits
     by true right l =
         let r = walk_white x text (spot_at o line d now broken) cs ls [] T (32 ∷ []) reads (has_at text o (32 ∷ []) (left_first text o 32 (w.own ++ bs) l, tt)) refl in
@@ -77,8 +89,12 @@ content_word d ls w bs x text o line now broken cs T reads clear right l fits = 
         let far : o + 1 + length w.own ≡ o + suc (length w.own) = omega arith in
         subst (λ i. WordsRun x text i d cs ls (λ bs. T (w.body ∷ bs))) far s
 
-pub content_list : (d : ℕ) (ls : List ℕ) (ws : List (Spoken (nat_lt 0 d) (indent ls))) (bs : List ℕ) (x : yaml_encoding_t) (text : List ℕ) (o : ℕ) (cs : List ℕ) (T : List TokenBody → List TokenBody)
-    → WordsRun x text o d cs ls T → ClearFor false d cs → ((q : ℕ) → o ≤ q → q ≤ o + length (all_bytes ws) → IsRight d ls (column_at text q)) → Left text o (all_bytes ws ++ bs) → AllFit ws bs
+pub content_list : (d : ℕ) (ls : List ℕ) (ws : List (Spoken (nat_lt 0 d) (indent ls))) (bs : List ℕ)
+    (x : yaml_encoding_t) (text : List ℕ) (o : ℕ) (cs : List ℕ)
+    (T : List TokenBody → List TokenBody)
+    → WordsRun x text o d cs ls T → ClearFor false d cs
+    → ((q : ℕ) → o ≤ q → q ≤ o + length (all_bytes ws) → IsRight d ls (column_at text q))
+    → Left text o (all_bytes ws ++ bs) → AllFit ws bs
     → WordsRun x text (o + length (all_bytes ws)) d cs ls (λ bs. T (all_bodies ws bs))
 content_list d ls [] bs x text o cs T r clear right l fits = let z : o ≡ o + 0 = omega arith in subst (λ i. WordsRun x text i d cs ls T) z r
 content_list d ls (w ∷ ws) bs x text o cs T r clear right l (fit, fits) =
@@ -97,9 +113,15 @@ content_list d ls (w ∷ ws) bs x text o cs T r clear right l (fit, fits) =
     fronted false own = omega arith
 
 -- one word at least
-pub content_words : (d : ℕ) (ls : List ℕ) (w : Spoken (nat_lt 0 d) (indent ls)) (ws : List (Spoken (nat_lt 0 d) (indent ls))) (bs : List ℕ) (x : yaml_encoding_t) (text : List ℕ) (o line : ℕ) (now broken : Bool) (cs : List ℕ) (T : List TokenBody → List TokenBody)
-    → Reads x text (spot_at o line d now broken) cs ls [] T → ClearFor now d cs → ((q : ℕ) → o ≤ q → q ≤ o + length (all_bytes (w ∷ ws)) → IsRight d ls (column_at text q)) → Left text o (all_bytes (w ∷ ws) ++ bs) → AllFit (w ∷ ws) bs
-    → WordsRun x text (o + length (all_bytes (w ∷ ws))) d cs ls (λ bs. T (w.body ∷ all_bodies ws bs))
+pub content_words : (d : ℕ) (ls : List ℕ) (w : Spoken (nat_lt 0 d) (indent ls))
+    (ws : List (Spoken (nat_lt 0 d) (indent ls))) (bs : List ℕ) (x : yaml_encoding_t)
+    (text : List ℕ) (o line : ℕ) (now broken : Bool) (cs : List ℕ)
+    (T : List TokenBody → List TokenBody)
+    → Reads x text (spot_at o line d now broken) cs ls [] T → ClearFor now d cs
+    → ((q : ℕ) → o ≤ q → q ≤ o + length (all_bytes (w ∷ ws)) → IsRight d ls (column_at text q))
+    → Left text o (all_bytes (w ∷ ws) ++ bs) → AllFit (w ∷ ws) bs
+    → WordsRun x text (o + length (all_bytes (w ∷ ws))) d cs ls
+    (λ bs. T (w.body ∷ all_bodies ws bs))
 content_words d ls w ws bs x text o line now broken cs T reads clear right l (fit, fits) =
     let rest = all_bytes ws in
     let all = length-append (spoken_bytes w) rest in

@@ -31,6 +31,7 @@ pub mod KeySteps
 pub mod LeafWords
 pub mod LeafProps
 pub mod KeyForms
+mod KeyWords
 pub mod KeyKinds
 pub mod KeyLeaves
 pub mod LeafDress

@@ -32,7 +32,9 @@ first_byte text p (b ∷ bs) l = left_first text p b bs l
 pub line_on_to : (text : List ℕ) (p q i : ℕ) → i ≤ line_at text p → p ≤ q → i ≤ line_at text q
 line_on_to text p q i low up = let more = line_at-grows text p q up in omega (arith, low, more)
 
-pub blanks_on : (n : ℕ) (x : yaml_encoding_t) (text : List ℕ) (c : Cursor) (o : Where) (ls more : List ℕ) (T : List TokenBody → List TokenBody) (rest : Rest) → Stage x text c o ls more T → c.bare ≡ true → (n ≡ 0 → c.white ≡ true)
+pub blanks_on : (n : ℕ) (x : yaml_encoding_t) (text : List ℕ) (c : Cursor) (o : Where)
+    (ls more : List ℕ) (T : List TokenBody → List TokenBody) (rest : Rest)
+    → Stage x text c o ls more T → c.bare ≡ true → (n ≡ 0 → c.white ≡ true)
     → Left text o.at (bytes (blanks n c rest)) → Lined x text rest (c.column + n) c.kept ls more T
 unfolding blanks
 blanks_on zero x text c o ls more T rest s bare white l = record { cursor = c; place = o; stage = s; left = l; bare = bare; white = white refl; column = omega arith; same = refl }
@@ -49,13 +51,18 @@ blanks_on (suc n) x text c o ls more T rest s bare white l =
     record { cursor = all.cursor; place = all.place; stage = all.stage; left = all.left; bare = all.bare; white = all.white; column = all.column ∙ omega arith; same = all.same }
 
 -- spaces stay on later lines
-blanks_later : (n : ℕ) (x : yaml_encoding_t) (text : List ℕ) (c : Cursor) (o : Where) (ls more : List ℕ) (T : List TokenBody → List TokenBody) (rest : Rest) (s : Stage x text c o ls more T) (bare : c.bare ≡ true) (white : n ≡ 0 → c.white ≡ true)
-    (l : Left text o.at (bytes (blanks n c rest))) → o.line < line_at text o.at → let all = blanks_on n x text c o ls more T rest s bare white l in all.place.line < line_at text all.place.at
+blanks_later : (n : ℕ) (x : yaml_encoding_t) (text : List ℕ) (c : Cursor) (o : Where)
+    (ls more : List ℕ) (T : List TokenBody → List TokenBody) (rest : Rest)
+    (s : Stage x text c o ls more T) (bare : c.bare ≡ true) (white : n ≡ 0 → c.white ≡ true)
+    (l : Left text o.at (bytes (blanks n c rest))) → o.line < line_at text o.at
+    → let all = blanks_on n x text c o ls more T rest s bare white l in
+    all.place.line < line_at text all.place.at
 unfolding blanks blanks_on
 blanks_later zero x text c o ls more T rest s bare white l late = late
 blanks_later (suc n) x text c o ls more T rest s bare white l late = blanks_later n x text _ _ ls more T rest _ bare _ _ (line_on_to text o.at (o.at + 1) (suc o.line) late (omega arith))
 
-first_blank : (n : ℕ) (c : Cursor) (m : ℕ) (rest : Rest) → NoFeed m rest → c.bare ≡ true → c.white ≡ true → c.column + n ≡ m → first (bytes (blanks n c rest)) ≡ 10 → ⊥
+first_blank : (n : ℕ) (c : Cursor) (m : ℕ) (rest : Rest) → NoFeed m rest → c.bare ≡ true
+    → c.white ≡ true → c.column + n ≡ m → first (bytes (blanks n c rest)) ≡ 10 → ⊥
 unfolding blanks
 first_blank zero c m rest none bare white column e = none c bare white (omega (arith, column)) e
 first_blank (suc n) c m rest none bare white column e =
@@ -79,13 +86,16 @@ alone_ends : (b c d : ℕ) → (d ≡ 10 → ⊥) → ends_of b c 13 d ≡ true
 unfolding ends_of
 alone_ends b c d f = grind (arith, nat_tests)
 
-return_ends_line : (text : List ℕ) (p : ℕ) → byte text p ≡ 13 → (byte text (p + 1) ≡ 10 → ⊥) → ends_break text p ≡ true
+return_ends_line : (text : List ℕ) (p : ℕ) → byte text p ≡ 13 → (byte text (p + 1) ≡ 10 → ⊥)
+    → ends_break text p ≡ true
 return_ends_line text p e f = ap (λ (b : ℕ). ends_of (byte text (p - 2)) (byte text (p - 1)) b (byte text (p + 1))) e ∙ alone_ends (byte text (p - 2)) (byte text (p - 1)) (byte text (p + 1)) f
 
 abbrev behind_white : Where → ℕ → Where
 behind_white o n = record { at = o.at + n; line = o.line; depth = o.depth; now = o.now || (true && o.broken); broken = o.broken }
 
-break_on : (b : LineBreak) (x : yaml_encoding_t) (text : List ℕ) (c : Cursor) (o : Where) (ls more : List ℕ) (T : List TokenBody → List TokenBody) (rest : Rest) → Stage x text c o ls more T → (first (bytes (rest (line_start c))) ≡ 10 → ⊥)
+break_on : (b : LineBreak) (x : yaml_encoding_t) (text : List ℕ) (c : Cursor) (o : Where)
+    (ls more : List ℕ) (T : List TokenBody → List TokenBody) (rest : Rest)
+    → Stage x text c o ls more T → (first (bytes (rest (line_start c))) ≡ 10 → ⊥)
     → Left text o.at (bytes (new_line b c rest)) → Broken x text c rest ls more T
 break_on Lf x text c o ls more T rest s none l =
     let m = left_letter text o.at 10 _ refl l in

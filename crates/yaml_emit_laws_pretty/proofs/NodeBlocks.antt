@@ -41,9 +41,14 @@ record Opened (x : yaml_encoding_t) (text : List ℕ) (rest : Rest) (kept bare :
   same : cursor.kept ≡ kept
   is : cursor.bare ≡ bare
 
-opens_on : PropertiesAreWalked → (s : Settings) (d : Opening) → IsPretty s d → (a t : Option (List ℕ)) → IsWritableAnchor a → IsWritableTag t → (ls : List ℕ) (c : Cursor) (rest : Rest) → PartedBehind rest
-    → (x : yaml_encoding_t) (text : List ℕ) (o : Where) (T : List TokenBody → List TokenBody) → Stage x text c o ls [] T → indent ls ≤ column_at text o.at → Left text o.at (bytes (properties_text (context_of s d.directives) a t c rest))
-    → Opened x text rest c.kept (c.bare && is_bare a t) ls (λ bs. T (anchor_bodies a (tag_bodies d.directives t bs)))
+opens_on : PropertiesAreWalked → (s : Settings) (d : Opening) → IsPretty s d
+    → (a t : Option (List ℕ)) → IsWritableAnchor a → IsWritableTag t
+    → (ls : List ℕ) (c : Cursor) (rest : Rest) → PartedBehind rest
+    → (x : yaml_encoding_t) (text : List ℕ) (o : Where) (T : List TokenBody → List TokenBody)
+    → Stage x text c o ls [] T → indent ls ≤ column_at text o.at
+    → Left text o.at (bytes (properties_text (context_of s d.directives) a t c rest))
+    → Opened x text rest c.kept (c.bare && is_bare a t) ls
+    (λ bs. T (anchor_bodies a (tag_bodies d.directives t bs)))
 opens_on law s d pretty None None good fine ls c rest parted x text o T st right l = record { cursor = c; place = o; stage = st; left = l; right = right; same = refl; is = sym (and-true c.bare) }
 opens_on law s d pretty (Some a) t good fine ls c rest parted x text o T st right l =
     let h = law s d pretty (Some a) t good fine refl ls c rest parted x text o T st right l in
@@ -52,7 +57,9 @@ opens_on law s d pretty None (Some t) good fine ls c rest parted x text o T st r
     let h = law s d pretty None (Some t) good fine refl ls c rest parted x text o T st right l in
     record { cursor = h.cursor; place = h.place; stage = h.stage; left = h.left; right = h.right; same = h.same; is = h.bare ∙ sym (and-false c.bare) }
 
-properties_white : (p : Context) (a t : Option (List ℕ)) (c : Cursor) (rest : Rest) → c.white ≡ false → begins_white (bytes (rest c)) ≡ true → begins_white (bytes (properties_text p a t c rest)) ≡ true
+properties_white : (p : Context) (a t : Option (List ℕ)) (c : Cursor) (rest : Rest)
+    → c.white ≡ false → begins_white (bytes (rest c)) ≡ true
+    → begins_white (bytes (properties_text p a t c rest)) ≡ true
 properties_white p None None c rest white next = next
 properties_white p (Some a) t c rest white next = word_begins_white (38 ∷ a) c (λ e. tag_text p t e rest) white
 properties_white p None (Some t) c rest white next = word_begins_white _ c rest white
@@ -63,9 +70,13 @@ kept_tag false t fine = tt
 
 -- ---- layouts
 
-sequence_layout : (s : Settings) (ds : List TagDirective) (around : Option ℕ) (q : Part) (o : Start) (y : Node) (ys : Nodes) → s.canonical ≡ false → is_flow_at (context_of s ds) false o false ≡ false → (c : Cursor) (R : Rest)
+sequence_layout : (s : Settings) (ds : List TagDirective) (around : Option ℕ) (q : Part) (o : Start)
+    (y : Node) (ys : Nodes) → s.canonical ≡ false
+    → is_flow_at (context_of s ds) false o false ≡ false → (c : Cursor) (R : Rest)
     → node_layout (context_of s ds) (block_spot around q) (sequence_node o (node y ys)) c R
-    ≡ properties_text (context_of s ds) o.anchor (start_tag false o) c (λ e. indented (indent_of s (block_spot around q) true false) (λ n. checked n ▹ items_layout (context_of s ds) false n true (node y ys)) e R)
+    ≡ properties_text (context_of s ds) o.anchor (start_tag false o) c
+    (λ e. indented (indent_of s (block_spot around q) true false)
+    (λ n. checked n ▹ items_layout (context_of s ds) false n true (node y ys)) e R)
 unfolding node_layout
 sequence_layout s ds around q o y ys pretty block c R =
     let p = context_of s ds in
@@ -74,9 +85,13 @@ sequence_layout s ds around q o y ys pretty block c R =
     ap (λ (t : Bool). (properties_text p o.anchor (start_tag t o) ▹ body (is_flow s at o false)) c R) pretty
     ∙ ap (λ (b : Bool). (properties_text p o.anchor (start_tag false o) ▹ body b) c R) block
 
-mapping_layout : (s : Settings) (ds : List TagDirective) (around : Option ℕ) (q : Part) (o : Start) (k v : Node) (ps : Pairs) → s.canonical ≡ false → is_flow_at (context_of s ds) false o false ≡ false → (c : Cursor) (R : Rest)
+mapping_layout : (s : Settings) (ds : List TagDirective) (around : Option ℕ) (q : Part) (o : Start)
+    (k v : Node) (ps : Pairs) → s.canonical ≡ false
+    → is_flow_at (context_of s ds) false o false ≡ false → (c : Cursor) (R : Rest)
     → node_layout (context_of s ds) (block_spot around q) (mapping_node o (pair k v ps)) c R
-    ≡ properties_text (context_of s ds) o.anchor (start_tag false o) c (λ e. indented (indent_of s (block_spot around q) false false) (λ n. checked n ▹ pairs_layout (context_of s ds) false n true (pair k v ps)) e R)
+    ≡ properties_text (context_of s ds) o.anchor (start_tag false o) c
+    (λ e. indented (indent_of s (block_spot around q) false false)
+    (λ n. checked n ▹ pairs_layout (context_of s ds) false n true (pair k v ps)) e R)
 unfolding node_layout
 mapping_layout s ds around q o k v ps pretty block c R =
     let p = context_of s ds in
@@ -85,23 +100,35 @@ mapping_layout s ds around q o k v ps pretty block c R =
     ap (λ (t : Bool). (properties_text p o.anchor (start_tag t o) ▹ body (is_flow s at o false)) c R) pretty
     ∙ ap (λ (b : Bool). (properties_text p o.anchor (start_tag false o) ▹ body b) c R) block
 
-sequence_said : (p : Context) (q : Part) (bare : Bool) (o : Start) (y : Node) (ys : Nodes) → is_flow_at p false o false ≡ false → (bs : List TokenBody)
-    → anchor_bodies o.anchor (tag_bodies p.directives (start_tag false o) (sequence_opens false (keeps q bare o) (items_bodies p false true (node y ys) (sequence_closes false (keeps q bare o) bs)))) ≡ node_bodies p false q bare (sequence_node o (node y ys)) bs
+sequence_said : (p : Context) (q : Part) (bare : Bool) (o : Start) (y : Node) (ys : Nodes)
+    → is_flow_at p false o false ≡ false → (bs : List TokenBody)
+    → anchor_bodies o.anchor (tag_bodies p.directives (start_tag false o)
+    (sequence_opens false (keeps q bare o)
+    (items_bodies p false true (node y ys) (sequence_closes false (keeps q bare o) bs))))
+    ≡ node_bodies p false q bare (sequence_node o (node y ys)) bs
 unfolding node_bodies
 sequence_said p q bare o y ys block bs =
     sym (ap (λ (b : Bool). anchor_bodies o.anchor (tag_bodies p.directives (start_tag false o) (sequence_opens b (keeps q bare o) (items_bodies p b true (node y ys) (sequence_closes b (keeps q bare o) bs))))) block)
 
-mapping_said : (p : Context) (q : Part) (bare : Bool) (o : Start) (k v : Node) (ps : Pairs) → is_flow_at p false o false ≡ false → (bs : List TokenBody)
-    → anchor_bodies o.anchor (tag_bodies p.directives (start_tag false o) (mapping_opens false (pairs_bodies p false true (pair k v ps) (mapping_closes false bs)))) ≡ node_bodies p false q bare (mapping_node o (pair k v ps)) bs
+mapping_said : (p : Context) (q : Part) (bare : Bool) (o : Start) (k v : Node) (ps : Pairs)
+    → is_flow_at p false o false ≡ false → (bs : List TokenBody)
+    → anchor_bodies o.anchor (tag_bodies p.directives (start_tag false o)
+    (mapping_opens false (pairs_bodies p false true (pair k v ps) (mapping_closes false bs))))
+    ≡ node_bodies p false q bare (mapping_node o (pair k v ps)) bs
 unfolding node_bodies
 mapping_said p q bare o k v ps block bs =
     sym (ap (λ (b : Bool). anchor_bodies o.anchor (tag_bodies p.directives (start_tag false o) (mapping_opens b (pairs_bodies p b true (pair k v ps) (mapping_closes b bs))))) block)
 
-sequence_keeps : (p : Context) (q : Part) (o : Start) (y : Node) (ys : Nodes) (kept : Bool) → is_flow_at p false o false ≡ false → items_kept p false (node y ys) kept ≡ node_kept p false q (sequence_node o (node y ys)) kept
+sequence_keeps : (p : Context) (q : Part) (o : Start) (y : Node) (ys : Nodes) (kept : Bool)
+    → is_flow_at p false o false ≡ false
+    → items_kept p false (node y ys) kept ≡ node_kept p false q (sequence_node o (node y ys)) kept
 unfolding node_kept
 sequence_keeps p q o y ys kept block = sym (ap (λ (b : Bool). items_kept p b (node y ys) kept) block)
 
-mapping_keeps : (p : Context) (q : Part) (o : Start) (k v : Node) (ps : Pairs) (kept : Bool) → is_flow_at p false o false ≡ false → pairs_kept p false (pair k v ps) kept ≡ node_kept p false q (mapping_node o (pair k v ps)) kept
+mapping_keeps : (p : Context) (q : Part) (o : Start) (k v : Node) (ps : Pairs) (kept : Bool)
+    → is_flow_at p false o false ≡ false
+    → pairs_kept p false (pair k v ps) kept
+    ≡ node_kept p false q (mapping_node o (pair k v ps)) kept
 unfolding node_kept
 mapping_keeps p q o k v ps kept block = sym (ap (λ (b : Bool). pairs_kept p b (pair k v ps) kept) block)
 
@@ -113,10 +140,17 @@ pub record ItemsWalk (p : Context) (y : Node) (ys : Nodes) : Type 0 where
   pub others : (n : ℕ) → MoreItems p n ys
 
 -- by whether it keeps the indentation round it
-items_on : (p : Context) (around : Option ℕ) (q : Part) (loose : Bool) (y : Node) (ys : Nodes) → 1 < p.settings.indent → is_place around q ≡ true → ItemsWalk p y ys → (x : yaml_encoding_t) (text : List ℕ) (c : Cursor) (o : Where) (ls : List ℕ) (m : ℕ) (after : Rest) (T : List TokenBody → List TokenBody)
-    → Stage x text c o ls [] T → indent ls ≡ margin_round around → m ≤ column_round around → Ending p.settings.line_break m (indent ls) after → (is_of_mapping q && not c.bare) ≡ loose
-    → Left text o.at (bytes (items_layout p false (block_indent_in p.settings around loose) true (node y ys) c (λ e. line p.settings.line_break m e after)))
-    → LinedUp x text after m (items_kept p false (node y ys) c.kept) ls (λ bs. T (sequence_opens false loose (items_bodies p false true (node y ys) (sequence_closes false loose bs))))
+items_on : (p : Context) (around : Option ℕ) (q : Part) (loose : Bool) (y : Node) (ys : Nodes)
+    → 1 < p.settings.indent → is_place around q ≡ true → ItemsWalk p y ys
+    → (x : yaml_encoding_t) (text : List ℕ) (c : Cursor) (o : Where) (ls : List ℕ) (m : ℕ)
+    (after : Rest) (T : List TokenBody → List TokenBody)
+    → Stage x text c o ls [] T → indent ls ≡ margin_round around → m ≤ column_round around
+    → Ending p.settings.line_break m (indent ls) after → (is_of_mapping q && not c.bare) ≡ loose
+    → Left text o.at (bytes (items_layout p false (block_indent_in p.settings around loose) true
+    (node y ys) c (λ e. line p.settings.line_break m e after)))
+    → LinedUp x text after m (items_kept p false (node y ys) c.kept) ls
+    (λ bs. T (sequence_opens false loose
+    (items_bodies p false true (node y ys) (sequence_closes false loose bs))))
 items_on p None q false y ys deep place walk x text c o ls m after T s level up ending loose l = sequence_walks p 0 y ys (walk.first 0) (walk.others 0) x text c o ls m after T s (omega (arith, level)) up ending l
 items_on p (Some n) q false y ys deep place walk x text c o ls m after T s level up ending loose l =
     let k = n + p.settings.indent in
@@ -130,8 +164,12 @@ items_on p (Some n) q true y ys deep place walk x text c o ls m after T s level 
 
 -- ---- block sequences
 
-pub block_sequence : PropertiesAreWalked → (s : Settings) (d : Opening) → IsPretty s d → (around : Option ℕ) (q : Part) (bare : Bool) → is_place around q ≡ true → (o : Start) (y : Node) (ys : Nodes) → IsWritableAnchor o.anchor → IsWritableTag o.tag
-    → is_flow_at (context_of s d.directives) false o false ≡ false → ItemsWalk (context_of s d.directives) y ys → NodeWalks (context_of s d.directives) around q bare (sequence_node o (node y ys))
+pub block_sequence : PropertiesAreWalked → (s : Settings) (d : Opening) → IsPretty s d
+    → (around : Option ℕ) (q : Part) (bare : Bool) → is_place around q ≡ true
+    → (o : Start) (y : Node) (ys : Nodes) → IsWritableAnchor o.anchor → IsWritableTag o.tag
+    → is_flow_at (context_of s d.directives) false o false ≡ false
+    → ItemsWalk (context_of s d.directives) y ys
+    → NodeWalks (context_of s d.directives) around q bare (sequence_node o (node y ys))
 unfolding items_layout before_item
 block_sequence law s d pretty around q bare place o y ys good fine block walk = record {
   walks = λ ls c m after is level up ending x text w T st right l.
@@ -158,8 +196,11 @@ block_sequence law s d pretty around q bare place o y ys good fine block walk = 
       ∙ properties_white p o.anchor (start_tag false o) c (λ e. indented (indent_of s (block_spot around q) true false) (λ n. checked n ▹ items_layout p false n true (node y ys)) e R) white (inside_white p around q y ys c m after white);
 }
   where
-    inside_white : (p : Context) (around : Option ℕ) (q : Part) (y : Node) (ys : Nodes) (e : Cursor) (m : ℕ) (after : Rest) → e.white ≡ false
-        → begins_white (bytes (indented (indent_of p.settings (block_spot around q) true false) (λ n. checked n ▹ items_layout p false n true (node y ys)) e (λ i. line p.settings.line_break m i after))) ≡ true
+    inside_white : (p : Context) (around : Option ℕ) (q : Part) (y : Node) (ys : Nodes) (e : Cursor)
+        (m : ℕ) (after : Rest) → e.white ≡ false
+        → begins_white (bytes (indented (indent_of p.settings (block_spot around q) true false)
+        (λ n. checked n ▹ items_layout p false n true (node y ys)) e
+        (λ i. line p.settings.line_break m i after))) ≡ true
     inside_white p around q y ys e m after white =
         let n = block_indent_in p.settings around (is_of_mapping q && not e.bare) in
         let R : Rest = λ i. line p.settings.line_break m i after in
@@ -172,17 +213,28 @@ pub record BothWalk (p : Context) (k v : Node) (ps : Pairs) : Type 0 where
   pub first : (n : ℕ) → PairWalks p n k v
   pub others : (n : ℕ) → PairsWalk p n ps
 
-pairs_on : (p : Context) (around : Option ℕ) (k v : Node) (ps : Pairs) → 1 < p.settings.indent → BothWalk p k v ps → (x : yaml_encoding_t) (text : List ℕ) (c : Cursor) (o : Where) (ls : List ℕ) (m : ℕ) (after : Rest) (T : List TokenBody → List TokenBody)
-    → Stage x text c o ls [] T → indent ls ≡ margin_round around → m ≤ column_round around → Ending p.settings.line_break m (indent ls) after
-    → Left text o.at (bytes (pairs_layout p false (block_indent_in p.settings around false) true (pair k v ps) c (λ e. line p.settings.line_break m e after)))
-    → LinedUp x text after m (pairs_kept p false (pair k v ps) c.kept) ls (λ bs. T (tokens.block_mapping_start ∷ pairs_bodies p false true (pair k v ps) (tokens.block_end ∷ bs)))
+pairs_on : (p : Context) (around : Option ℕ) (k v : Node) (ps : Pairs) → 1 < p.settings.indent
+    → BothWalk p k v ps
+    → (x : yaml_encoding_t) (text : List ℕ) (c : Cursor) (o : Where) (ls : List ℕ) (m : ℕ)
+    (after : Rest) (T : List TokenBody → List TokenBody)
+    → Stage x text c o ls [] T → indent ls ≡ margin_round around → m ≤ column_round around
+    → Ending p.settings.line_break m (indent ls) after
+    → Left text o.at (bytes (pairs_layout p false (block_indent_in p.settings around false) true
+    (pair k v ps) c (λ e. line p.settings.line_break m e after)))
+    → LinedUp x text after m (pairs_kept p false (pair k v ps) c.kept) ls
+    (λ bs. T (tokens.block_mapping_start
+    ∷ pairs_bodies p false true (pair k v ps) (tokens.block_end ∷ bs)))
 pairs_on p None k v ps deep walk x text c o ls m after T s level up ending l = mapping_walks p 0 k v ps (walk.first 0) (walk.others 0) x text c o ls m after T s (omega (arith, level)) up ending l
 pairs_on p (Some n) k v ps deep walk x text c o ls m after T s level up ending l =
     let i = n + p.settings.indent in
     mapping_walks p i k v ps (walk.first i) (walk.others i) x text c o ls m after T s (omega (arith, level, deep)) (omega (arith, up)) ending l
 
-pub block_mapping : PropertiesAreWalked → (s : Settings) (d : Opening) → IsPretty s d → (around : Option ℕ) (q : Part) (bare : Bool) → (o : Start) (k v : Node) (ps : Pairs) → IsWritableAnchor o.anchor → IsWritableTag o.tag
-    → is_flow_at (context_of s d.directives) false o false ≡ false → BothWalk (context_of s d.directives) k v ps → NodeWalks (context_of s d.directives) around q bare (mapping_node o (pair k v ps))
+pub block_mapping : PropertiesAreWalked → (s : Settings) (d : Opening) → IsPretty s d
+    → (around : Option ℕ) (q : Part) (bare : Bool) → (o : Start) (k v : Node) (ps : Pairs)
+    → IsWritableAnchor o.anchor → IsWritableTag o.tag
+    → is_flow_at (context_of s d.directives) false o false ≡ false
+    → BothWalk (context_of s d.directives) k v ps
+    → NodeWalks (context_of s d.directives) around q bare (mapping_node o (pair k v ps))
 unfolding pairs_layout before_key
 block_mapping law s d pretty around q bare o k v ps good fine block walk = record {
   walks = λ ls c m after is level up ending x text w T st right l.
@@ -207,8 +259,11 @@ block_mapping law s d pretty around q bare o k v ps good fine block walk = recor
       ∙ properties_white p o.anchor (start_tag false o) c (λ e. indented (indent_of s (block_spot around q) false false) (λ n. checked n ▹ pairs_layout p false n true (pair k v ps)) e R) white (inside_white p around q k v ps c m after white);
 }
   where
-    inside_white : (p : Context) (around : Option ℕ) (q : Part) (k v : Node) (ps : Pairs) (e : Cursor) (m : ℕ) (after : Rest) → e.white ≡ false
-        → begins_white (bytes (indented (indent_of p.settings (block_spot around q) false false) (λ n. checked n ▹ pairs_layout p false n true (pair k v ps)) e (λ i. line p.settings.line_break m i after))) ≡ true
+    inside_white : (p : Context) (around : Option ℕ) (q : Part) (k v : Node) (ps : Pairs)
+        (e : Cursor) (m : ℕ) (after : Rest) → e.white ≡ false
+        → begins_white (bytes (indented (indent_of p.settings (block_spot around q) false false)
+        (λ n. checked n ▹ pairs_layout p false n true (pair k v ps)) e
+        (λ i. line p.settings.line_break m i after))) ≡ true
     inside_white p around q k v ps e m after white =
         let n = block_indent_in p.settings around false in
         let R : Rest = λ i. line p.settings.line_break m i after in

@@ -36,7 +36,10 @@ abbrev pub items_after : Context → ℕ → ℕ → Rest → Nodes → Rest
 items_after p n m after no_nodes = after
 items_after p n m after (node y ys) = λ d. indicator 45 d (λ h. node_layout p (spot false n part.Item) y h (λ k. items_layout p false n false ys k (λ e. line p.settings.line_break m e after)))
 
-items_line : (p : Context) (n m : ℕ) (after : Rest) (xs : Nodes) → ◌≡◌ {A = Rest} (λ k. items_layout p false n false xs k (λ e. line p.settings.line_break m e after)) (λ k. line p.settings.line_break (items_column n m xs) k (items_after p n m after xs))
+items_line : (p : Context) (n m : ℕ) (after : Rest) (xs : Nodes)
+    → ◌≡◌ {A = Rest} (λ k. items_layout p false n false xs k
+    (λ e. line p.settings.line_break m e after))
+    (λ k. line p.settings.line_break (items_column n m xs) k (items_after p n m after xs))
 unfolding items_layout before_item closer
 items_line p n m after no_nodes = refl
 items_line p n m after (node y ys) = refl
@@ -45,7 +48,9 @@ items_up : (n m : ℕ) (xs : Nodes) → m ≤ n → items_column n m xs ≤ n
 items_up n m no_nodes up = up
 items_up n m (node y ys) up = omega arith
 
-items_ending : (p : Context) (n m : ℕ) (after : Rest) (xs : Nodes) → Ending p.settings.line_break m (n + 1) after → Ending p.settings.line_break (items_column n m xs) (n + 1) (items_after p n m after xs)
+items_ending : (p : Context) (n m : ℕ) (after : Rest) (xs : Nodes)
+    → Ending p.settings.line_break m (n + 1) after
+    → Ending p.settings.line_break (items_column n m xs) (n + 1) (items_after p n m after xs)
 items_ending p n m after no_nodes e = e
 items_ending p n m after (node y ys) e =
     let R : Rest = λ h. node_layout p (spot false n part.Item) y h (λ k. items_layout p false n false ys k (λ e. line p.settings.line_break m e after)) in
@@ -58,9 +63,16 @@ abbrev pub MoreItems : Context → ℕ → Nodes → Type 0
 MoreItems p n xs = (x : yaml_encoding_t) (text : List ℕ) (kept : Bool) (now : List ℕ) (m : ℕ) (after : Rest) (T : List TokenBody → List TokenBody) → indent now ≡ n + 1 → m ≤ n → Ending p.settings.line_break m (n + 1) after
     → LinedUp x text (items_after p n m after xs) (items_column n m xs) kept now T → LinedUp x text after m (items_kept p false xs kept) now (λ bs. T (items_bodies p false false xs bs))
 
-pub item_on : (p : Context) (n : ℕ) (y : Node) (xs : Nodes) → NodeWalks p (Some n) part.Item true y → MoreItems p n xs → (x : yaml_encoding_t) (text : List ℕ) (kept : Bool) (now more new : List ℕ) (what : Opens) (m : ℕ) (after : Rest) (T : List TokenBody → List TokenBody)
-    → Lined x text (items_after p n m after (node y xs)) n kept now more T → indent now ≤ n + 1 → Rises (n + 1) more → opened true (n + 1) now ≡ new → start_of 0 (n + 1) now opening.Sequence ≡ what → indent new ≡ n + 1 → m ≤ n → Ending p.settings.line_break m (n + 1) after
-    → LinedUp x text after m (items_kept p false (node y xs) kept) new (λ bs. T (start_bodies what (items_bodies p false false (node y xs) bs)))
+pub item_on : (p : Context) (n : ℕ) (y : Node) (xs : Nodes) → NodeWalks p (Some n) part.Item true y
+    → MoreItems p n xs
+    → (x : yaml_encoding_t) (text : List ℕ) (kept : Bool) (now more new : List ℕ) (what : Opens)
+    (m : ℕ) (after : Rest) (T : List TokenBody → List TokenBody)
+    → Lined x text (items_after p n m after (node y xs)) n kept now more T → indent now ≤ n + 1
+    → Rises (n + 1) more → opened true (n + 1) now ≡ new
+    → start_of 0 (n + 1) now opening.Sequence ≡ what → indent new ≡ n + 1 → m ≤ n
+    → Ending p.settings.line_break m (n + 1) after
+    → LinedUp x text after m (items_kept p false (node y xs) kept) new
+    (λ bs. T (start_bodies what (items_bodies p false false (node y xs) bs)))
 unfolding items_kept items_bodies
 item_on p n y xs walk others x text kept now more new what m after T here low rises opens starts last up ending =
     let b = p.settings.line_break in
@@ -82,7 +94,8 @@ pub more_none : (p : Context) (n : ℕ) → MoreItems p n no_nodes
 unfolding items_kept items_bodies
 more_none p n x text kept now m after T last up ending line = line
 
-pub more_item : (p : Context) (n : ℕ) (y : Node) (xs : Nodes) → NodeWalks p (Some n) part.Item true y → MoreItems p n xs → MoreItems p n (node y xs)
+pub more_item : (p : Context) (n : ℕ) (y : Node) (xs : Nodes)
+    → NodeWalks p (Some n) part.Item true y → MoreItems p n xs → MoreItems p n (node y xs)
 more_item p n y xs walk others x text kept now m after T last up ending line =
     let (below, above) = levels_part now line.more line.lined.stage.reads.stands.front.rises in
     let (opens, starts) = level_opens.stays (n + 1) now opening.Sequence (omega (arith, last)) in
@@ -91,8 +104,12 @@ more_item p n y xs walk others x text kept now m after T last up ending line =
 -- ---- sequences
 
 -- from the line of the first item on
-sequence_line : (p : Context) (n : ℕ) (y : Node) (xs : Nodes) (x : yaml_encoding_t) (text : List ℕ) (c : Cursor) (o : Where) (ls : List ℕ) (m : ℕ) (after : Rest) (T : List TokenBody → List TokenBody) → Stage x text c o ls [] T
-    → Left text o.at (bytes (items_layout p false n true (node y xs) c (λ e. line p.settings.line_break m e after))) → Lined x text (items_after p n m after (node y xs)) n c.kept ls [] T
+sequence_line : (p : Context) (n : ℕ) (y : Node) (xs : Nodes) (x : yaml_encoding_t) (text : List ℕ)
+    (c : Cursor) (o : Where) (ls : List ℕ) (m : ℕ) (after : Rest)
+    (T : List TokenBody → List TokenBody) → Stage x text c o ls [] T
+    → Left text o.at (bytes (items_layout p false n true (node y xs) c
+    (λ e. line p.settings.line_break m e after)))
+    → Lined x text (items_after p n m after (node y xs)) n c.kept ls [] T
 unfolding items_layout before_item
 sequence_line p n y xs x text c o ls m after T s l =
     let R : Rest = λ h. node_layout p (spot false n part.Item) y h (λ k. items_layout p false n false xs k (λ e. line p.settings.line_break m e after)) in
@@ -103,9 +120,17 @@ unfolding Rises
 none_rise b = tt
 
 -- one with a level of its own
-pub sequence_walks : (p : Context) (n : ℕ) (y : Node) (xs : Nodes) → NodeWalks p (Some n) part.Item true y → MoreItems p n xs → (x : yaml_encoding_t) (text : List ℕ) (c : Cursor) (o : Where) (ls : List ℕ) (m : ℕ) (after : Rest) (T : List TokenBody → List TokenBody)
-    → Stage x text c o ls [] T → indent ls < n + 1 → m ≤ n → Ending p.settings.line_break m (indent ls) after → Left text o.at (bytes (items_layout p false n true (node y xs) c (λ e. line p.settings.line_break m e after)))
-    → LinedUp x text after m (items_kept p false (node y xs) c.kept) ls (λ bs. T (tokens.block_sequence_start ∷ items_bodies p false true (node y xs) (tokens.block_end ∷ bs)))
+pub sequence_walks : (p : Context) (n : ℕ) (y : Node) (xs : Nodes)
+    → NodeWalks p (Some n) part.Item true y → MoreItems p n xs
+    → (x : yaml_encoding_t) (text : List ℕ) (c : Cursor) (o : Where) (ls : List ℕ) (m : ℕ)
+    (after : Rest) (T : List TokenBody → List TokenBody)
+    → Stage x text c o ls [] T → indent ls < n + 1 → m ≤ n
+    → Ending p.settings.line_break m (indent ls) after
+    → Left text o.at (bytes (items_layout p false n true (node y xs) c
+    (λ e. line p.settings.line_break m e after)))
+    → LinedUp x text after m (items_kept p false (node y xs) c.kept) ls
+    (λ bs. T (tokens.block_sequence_start
+    ∷ items_bodies p false true (node y xs) (tokens.block_end ∷ bs)))
 unfolding items_bodies
 sequence_walks p n y xs walk others x text c o ls m after T s low up ending l =
     let (opens, starts) = level_opens.opens (n + 1) ls opening.Sequence low in
@@ -115,9 +140,16 @@ sequence_walks p n y xs walk others x text c o ls m after T s low up ending l =
     (item_on p n y xs walk others x text c.kept ls [] (ls ++ (n + 1) ∷ []) opening.Sequence m after T here (omega (arith, low)) (none_rise (n + 1)) opens starts last up (ending_up p.settings.line_break m (indent ls) (n + 1) after (omega (arith, low)) ending))
 
 -- one that keeps the indentation round it
-pub loose_walks : (p : Context) (n : ℕ) (y : Node) (xs : Nodes) → NodeWalks p (Some n) part.Item true y → MoreItems p n xs → (x : yaml_encoding_t) (text : List ℕ) (c : Cursor) (o : Where) (ls : List ℕ) (m : ℕ) (after : Rest) (T : List TokenBody → List TokenBody)
-    → Stage x text c o ls [] T → indent ls ≡ n + 1 → m ≤ n → Ending p.settings.line_break m (indent ls) after → Left text o.at (bytes (items_layout p false n true (node y xs) c (λ e. line p.settings.line_break m e after)))
-    → LinedUp x text after m (items_kept p false (node y xs) c.kept) ls (λ bs. T (items_bodies p false true (node y xs) bs))
+pub loose_walks : (p : Context) (n : ℕ) (y : Node) (xs : Nodes)
+    → NodeWalks p (Some n) part.Item true y → MoreItems p n xs
+    → (x : yaml_encoding_t) (text : List ℕ) (c : Cursor) (o : Where) (ls : List ℕ) (m : ℕ)
+    (after : Rest) (T : List TokenBody → List TokenBody)
+    → Stage x text c o ls [] T → indent ls ≡ n + 1 → m ≤ n
+    → Ending p.settings.line_break m (indent ls) after
+    → Left text o.at (bytes (items_layout p false n true (node y xs) c
+    (λ e. line p.settings.line_break m e after)))
+    → LinedUp x text after m (items_kept p false (node y xs) c.kept) ls
+    (λ bs. T (items_bodies p false true (node y xs) bs))
 unfolding items_bodies
 loose_walks p n y xs walk others x text c o ls m after T s last up ending l =
     let (opens, starts) = level_opens.stays (n + 1) ls opening.Sequence (omega (arith, last)) in

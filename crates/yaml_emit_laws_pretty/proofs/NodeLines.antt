@@ -21,25 +21,29 @@ use Rattle.yaml_emit_laws_pretty.specs.Nodes.{Shows}
 
 -- ---- white
 
-spaces_some : (m : ℕ) (c : Cursor) (rest : Rest) → 0 < m → begins_white (bytes (blanks m c rest)) ≡ true
+spaces_some : (m : ℕ) (c : Cursor) (rest : Rest) → 0 < m
+    → begins_white (bytes (blanks m c rest)) ≡ true
 unfolding blanks
 spaces_some zero c rest few = absurd (omega (arith, few))
 spaces_some (suc m) c rest few =
     let k : Rest = λ d. blanks m d rest in
     ap (λ xs. begins_white xs) (letter_low 32 (k (record { column = c.column + 1; white = true; bare = c.bare; kept = c.kept })) refl)
 
-break_white : (b : LineBreak) (c : Cursor) (rest : Rest) → begins_white (bytes (new_line b c rest)) ≡ true
+break_white : (b : LineBreak) (c : Cursor) (rest : Rest)
+    → begins_white (bytes (new_line b c rest)) ≡ true
 break_white Lf c rest = ap (λ xs. begins_white xs) (letter_low 10 (rest (record { column = 0; white = true; bare = true; kept = c.kept })) refl)
 break_white Cr c rest = ap (λ xs. begins_white xs) (letter_low 13 (rest (record { column = 0; white = true; bare = true; kept = c.kept })) refl)
 break_white CrLf c rest = ap (λ xs. begins_white xs) (letter_low 13 (letter 10 ∷ rest (record { column = 0; white = true; bare = true; kept = c.kept })) refl)
 
-space_due : (column n : ℕ) (bare white : Bool) → white ≡ false → (not bare || nat_lt n column || (column == n && not white)) ≡ false → 0 < n - column
+space_due : (column n : ℕ) (bare white : Bool) → white ≡ false
+    → (not bare || nat_lt n column || (column == n && not white)) ≡ false → 0 < n - column
 space_due column n true true w e = absurd (cc)
 space_due column n false white w e = absurd (cc)
 space_due column n true false w e = grind (arith, nat_tests)
 
 -- behind what isn't white a line begins with a break or a space
-pub line_begins_white : (b : LineBreak) (n : ℕ) (c : Cursor) (rest : Rest) → c.white ≡ false → begins_white (bytes (line b n c rest)) ≡ true
+pub line_begins_white : (b : LineBreak) (n : ℕ) (c : Cursor) (rest : Rest) → c.white ≡ false
+    → begins_white (bytes (line b n c rest)) ≡ true
 unfolding line
 line_begins_white b n c rest white =
     let after : Rest = λ k. indent_to n k rest in
@@ -49,7 +53,8 @@ line_begins_white b n c rest white =
     ]
 
 -- so does a word
-pub word_begins_white : (t : List ℕ) (c : Cursor) (rest : Rest) → c.white ≡ false → begins_white (bytes (word t c rest)) ≡ true
+pub word_begins_white : (t : List ℕ) (c : Cursor) (rest : Rest) → c.white ≡ false
+    → begins_white (bytes (word t c rest)) ≡ true
 word_begins_white t c rest white =
     let k : Rest = λ d. letters t d rest in
     ap (λ (b : Bool). begins_white (bytes (if b then k c else blank c k))) white
@@ -57,7 +62,9 @@ word_begins_white t c rest white =
 
 -- ---- indicators show
 
-indicator_bytes : (b : ℕ) (rest : Rest) (e : Cursor) → nat_lt b 128 ≡ true → e.white ≡ true → bytes (indicator b e rest) ≡ b ∷ bytes (rest (record { column = e.column + 1; white = false; bare = e.bare; kept = e.kept }))
+indicator_bytes : (b : ℕ) (rest : Rest) (e : Cursor) → nat_lt b 128 ≡ true → e.white ≡ true
+    → bytes (indicator b e rest) ≡ b ∷ bytes
+    (rest (record { column = e.column + 1; white = false; bare = e.bare; kept = e.kept }))
 indicator_bytes b rest e low white =
     let k : Rest = λ c. letter b ∷ rest (record { column = c.column + 1; white = false; bare = c.bare; kept = c.kept }) in
     ap (λ (t : Bool). bytes (if t then k e else blank e k)) white ∙ letter_low b (rest (record { column = e.column + 1; white = false; bare = e.bare; kept = e.kept })) low
@@ -88,7 +95,10 @@ mark_shows k n rest = record {
 -- ---- behind a line
 
 -- the innermost level is left to whoever opened the others
-pub up_ends : (x : yaml_encoding_t) (text : List ℕ) (rest : Rest) (n : ℕ) (kept : Bool) (l : ℕ) (ls : List ℕ) (T : List TokenBody → List TokenBody) → LinedUp x text rest n kept (ls ++ l ∷ []) T → LinedUp x text rest n kept ls (λ bs. T (tokens.block_end ∷ bs))
+pub up_ends : (x : yaml_encoding_t) (text : List ℕ) (rest : Rest) (n : ℕ) (kept : Bool) (l : ℕ)
+    (ls : List ℕ) (T : List TokenBody → List TokenBody)
+    → LinedUp x text rest n kept (ls ++ l ∷ []) T
+    → LinedUp x text rest n kept ls (λ bs. T (tokens.block_end ∷ bs))
 up_ends x text rest n kept l ls T up =
     let h = up.lined in
     let s = h.stage in
@@ -108,7 +118,9 @@ up_ends x text rest n kept l ls T up =
     }
 
 -- the same tokens in other words
-pub up_says : (x : yaml_encoding_t) (text : List ℕ) (rest : Rest) (n : ℕ) (kept : Bool) (ls : List ℕ) (T U : List TokenBody → List TokenBody) → LinedUp x text rest n kept ls T → ((bs : List TokenBody) → T bs ≡ U bs) → LinedUp x text rest n kept ls U
+pub up_says : (x : yaml_encoding_t) (text : List ℕ) (rest : Rest) (n : ℕ) (kept : Bool)
+    (ls : List ℕ) (T U : List TokenBody → List TokenBody) → LinedUp x text rest n kept ls T
+    → ((bs : List TokenBody) → T bs ≡ U bs) → LinedUp x text rest n kept ls U
 up_says x text rest n kept ls T U up e =
     let h = up.lined in
     let s = h.stage in

@@ -43,7 +43,10 @@ abbrev pub pairs_after : Context → ℕ → ℕ → Rest → Pairs → Rest
 pairs_after p n m after no_pairs = after
 pairs_after p n m after (pair k v ps) = pair_rest p n m after k v ps (is_simple p k)
 
-pairs_line : (p : Context) (n m : ℕ) (after : Rest) (ps : Pairs) → ◌≡◌ {A = Rest} (λ k. pairs_layout p false n false ps k (λ e. line p.settings.line_break m e after)) (λ k. line p.settings.line_break (pairs_column n m ps) k (pairs_after p n m after ps))
+pairs_line : (p : Context) (n m : ℕ) (after : Rest) (ps : Pairs)
+    → ◌≡◌ {A = Rest} (λ k. pairs_layout p false n false ps k
+    (λ e. line p.settings.line_break m e after))
+    (λ k. line p.settings.line_break (pairs_column n m ps) k (pairs_after p n m after ps))
 unfolding pairs_layout before_key closer
 pairs_line p n m after no_pairs = refl
 pairs_line p n m after (pair k v ps) = refl
@@ -67,12 +70,15 @@ answer_rest p n m after v ps = λ d. indicator 58 d (value_rest p n m after v ps
 abbrev asked_rest : Context → ℕ → ℕ → Rest → Node → Node → Pairs → Rest
 asked_rest p n m after k v ps = λ h. node_layout p (spot false n part.Key) k h (λ e. line p.settings.line_break n e (answer_rest p n m after v ps))
 
-pair_simple : (p : Context) (n m : ℕ) (after : Rest) (k v : Node) (ps : Pairs) (b : Bool) → b ≡ true → ◌≡◌ {A = Rest} (pair_rest p n m after k v ps b) (simple_rest p n m after k v ps)
+pair_simple : (p : Context) (n m : ℕ) (after : Rest) (k v : Node) (ps : Pairs) (b : Bool) → b ≡ true
+    → ◌≡◌ {A = Rest} (pair_rest p n m after k v ps b) (simple_rest p n m after k v ps)
 unfolding before_value
 pair_simple p n m after k v ps true e = refl
 pair_simple p n m after k v ps false e = absurd (cc)
 
-pair_asks : (p : Context) (n m : ℕ) (after : Rest) (k v : Node) (ps : Pairs) (b : Bool) → b ≡ false → ◌≡◌ {A = Rest} (pair_rest p n m after k v ps b) (λ d. indicator 63 d (asked_rest p n m after k v ps))
+pair_asks : (p : Context) (n m : ℕ) (after : Rest) (k v : Node) (ps : Pairs) (b : Bool) → b ≡ false
+    → ◌≡◌ {A = Rest} (pair_rest p n m after k v ps b)
+    (λ d. indicator 63 d (asked_rest p n m after k v ps))
 unfolding before_value
 pair_asks p n m after k v ps true e = absurd (cc)
 pair_asks p n m after k v ps false e = refl
@@ -85,11 +91,13 @@ pub record PairWalks (p : Context) (n : ℕ) (k v : Node) : Type 0 where
   pub asked : NodeWalks p (Some n) part.Key true k
   pub value : (bare : Bool) → NodeWalks p (Some n) part.Value bare v
 
-value_parted : (p : Context) (n m : ℕ) (after : Rest) (k v : Node) (ps : Pairs) → PairWalks p n k v → (e : Cursor) → e.white ≡ false → begins_white (bytes (value_rest p n m after v ps e)) ≡ true
+value_parted : (p : Context) (n m : ℕ) (after : Rest) (k v : Node) (ps : Pairs) → PairWalks p n k v
+    → (e : Cursor) → e.white ≡ false → begins_white (bytes (value_rest p n m after v ps e)) ≡ true
 value_parted p n m after k v ps walk e white =
     ap (λ (r : Rest). begins_white (bytes (node_layout p (spot false n part.Value) v e r))) (pairs_line p n m after ps) ∙ (walk.value false).white e (pairs_column n m ps) (pairs_after p n m after ps) white
 
-pair_shows : (p : Context) (n m : ℕ) (after : Rest) (k v : Node) (ps : Pairs) → PairWalks p n k v → Shows n (pair_rest p n m after k v ps (is_simple p k))
+pair_shows : (p : Context) (n m : ℕ) (after : Rest) (k v : Node) (ps : Pairs) → PairWalks p n k v
+    → Shows n (pair_rest p n m after k v ps (is_simple p k))
 pair_shows p n m after k v ps walk = elim (cases_Bool (is_simple p k)) [
   | inl e ↦ subst (λ (r : Rest). Shows n r) (sym (pair_simple p n m after k v ps (is_simple p k) e)) ((walk.simple e).shows n (value_rest p n m after v ps) (λ d bare white. value_parted p n m after k v ps walk d white))
   | inr e ↦ subst (λ (r : Rest). Shows n r) (sym (pair_asks p n m after k v ps (is_simple p k) e)) (mark_shows Question n (asked_rest p n m after k v ps))
@@ -100,16 +108,24 @@ abbrev pub PairsWalk : Context → ℕ → Pairs → Type 0
 PairsWalk p n no_pairs = Unit {0}
 PairsWalk p n (pair k v ps) = PairWalks p n k v × PairsWalk p n ps
 
-pairs_ending : (p : Context) (n m : ℕ) (after : Rest) (ps : Pairs) → PairsWalk p n ps → Ending p.settings.line_break m (n + 1) after → Ending p.settings.line_break (pairs_column n m ps) (n + 1) (pairs_after p n m after ps)
+pairs_ending : (p : Context) (n m : ℕ) (after : Rest) (ps : Pairs) → PairsWalk p n ps
+    → Ending p.settings.line_break m (n + 1) after
+    → Ending p.settings.line_break (pairs_column n m ps) (n + 1) (pairs_after p n m after ps)
 pairs_ending p n m after no_pairs all e = e
 pairs_ending p n m after (pair k v ps) (one, all) e = shown_ends p.settings.line_break n (pair_rest p n m after k v ps (is_simple p k)) (pair_shows p n m after k v ps one)
 
 -- ---- values
 
 -- a value up to the line behind it
-value_on : (p : Context) (n : ℕ) (k v : Node) (ps : Pairs) (bare : Bool) → PairWalks p n k v → PairsWalk p n ps → (x : yaml_encoding_t) (text : List ℕ) (c : Cursor) (o : Where) (kept : Bool) (new : List ℕ) (m : ℕ) (after : Rest) (U : List TokenBody → List TokenBody)
-    → Stage x text c o new [] U → c.bare ≡ bare → c.kept ≡ kept → indent new ≤ column_at text o.at → indent new ≡ n + 1 → m ≤ n → Ending p.settings.line_break m (n + 1) after → Left text o.at (bytes (value_rest p n m after v ps c))
-    → LinedUp x text (pairs_after p n m after ps) (pairs_column n m ps) (node_kept p false part.Value v kept) new (λ bs. U (node_bodies p false part.Value bare v bs))
+value_on : (p : Context) (n : ℕ) (k v : Node) (ps : Pairs) (bare : Bool) → PairWalks p n k v
+    → PairsWalk p n ps
+    → (x : yaml_encoding_t) (text : List ℕ) (c : Cursor) (o : Where) (kept : Bool) (new : List ℕ)
+    (m : ℕ) (after : Rest) (U : List TokenBody → List TokenBody)
+    → Stage x text c o new [] U → c.bare ≡ bare → c.kept ≡ kept → indent new ≤ column_at text o.at
+    → indent new ≡ n + 1 → m ≤ n → Ending p.settings.line_break m (n + 1) after
+    → Left text o.at (bytes (value_rest p n m after v ps c))
+    → LinedUp x text (pairs_after p n m after ps) (pairs_column n m ps)
+    (node_kept p false part.Value v kept) new (λ bs. U (node_bodies p false part.Value bare v bs))
 value_on p n k v ps bare walk all x text c o kept new m after U s is same right last up ending l =
     let b = p.settings.line_break in
     let next = pairs_column n m ps in
@@ -132,9 +148,16 @@ pair_said p k v ps simple bs = tokens.key ∷ node_bodies p false (key_part simp
 abbrev pair_kept : Context → Node → Node → Pairs → Bool → Bool → Bool
 pair_kept p k v ps simple kept = pairs_kept p false ps (node_kept p false part.Value v (node_kept p false (key_part simple) k kept))
 
-simple_on : (p : Context) (n : ℕ) (k v : Node) (ps : Pairs) → is_simple p k ≡ true → PairWalks p n k v → PairsWalk p n ps → MorePairs p n ps → (x : yaml_encoding_t) (text : List ℕ) (kept : Bool) (now more new : List ℕ) (what : Opens) (m : ℕ) (after : Rest) (T : List TokenBody → List TokenBody)
-    → Lined x text (simple_rest p n m after k v ps) n kept now more T → indent now ≤ n + 1 → Rises (n + 1) more → opened true (n + 1) now ≡ new → start_of 0 (n + 1) now opening.Mapping ≡ what → indent new ≡ n + 1 → m ≤ n → Ending p.settings.line_break m (n + 1) after
-    → LinedUp x text after m (pair_kept p k v ps true kept) new (λ bs. T (start_bodies what (pair_said p k v ps true bs)))
+simple_on : (p : Context) (n : ℕ) (k v : Node) (ps : Pairs) → is_simple p k ≡ true
+    → PairWalks p n k v → PairsWalk p n ps → MorePairs p n ps
+    → (x : yaml_encoding_t) (text : List ℕ) (kept : Bool) (now more new : List ℕ) (what : Opens)
+    (m : ℕ) (after : Rest) (T : List TokenBody → List TokenBody)
+    → Lined x text (simple_rest p n m after k v ps) n kept now more T → indent now ≤ n + 1
+    → Rises (n + 1) more → opened true (n + 1) now ≡ new
+    → start_of 0 (n + 1) now opening.Mapping ≡ what → indent new ≡ n + 1 → m ≤ n
+    → Ending p.settings.line_break m (n + 1) after
+    → LinedUp x text after m (pair_kept p k v ps true kept) new
+    (λ bs. T (start_bodies what (pair_said p k v ps true bs)))
 simple_on p n k v ps is walk all others x text kept now more new what m after T here low rises opens starts last up ending =
     let V = value_rest p n m after v ps in
     let key = walk.simple is in
@@ -146,9 +169,16 @@ simple_on p n k v ps is walk all others x text kept now more new what m after T 
     others x text (node_kept p false part.Value v (node_kept p false part.SimpleKey k kept)) new m after (λ bs. U (node_bodies p false part.Value false v bs)) last up ending
     (subst (λ t. LinedUp x text (pairs_after p n m after ps) (pairs_column n m ps) t new (λ bs. U (node_bodies p false part.Value false v bs))) same one)
 
-asked_on : (p : Context) (n : ℕ) (k v : Node) (ps : Pairs) → PairWalks p n k v → PairsWalk p n ps → MorePairs p n ps → (x : yaml_encoding_t) (text : List ℕ) (kept : Bool) (now more new : List ℕ) (what : Opens) (m : ℕ) (after : Rest) (T : List TokenBody → List TokenBody)
-    → Lined x text (λ d. indicator 63 d (asked_rest p n m after k v ps)) n kept now more T → indent now ≤ n + 1 → Rises (n + 1) more → opened true (n + 1) now ≡ new → start_of 0 (n + 1) now opening.Mapping ≡ what → indent new ≡ n + 1 → m ≤ n → Ending p.settings.line_break m (n + 1) after
-    → LinedUp x text after m (pair_kept p k v ps false kept) new (λ bs. T (start_bodies what (pair_said p k v ps false bs)))
+asked_on : (p : Context) (n : ℕ) (k v : Node) (ps : Pairs) → PairWalks p n k v → PairsWalk p n ps
+    → MorePairs p n ps
+    → (x : yaml_encoding_t) (text : List ℕ) (kept : Bool) (now more new : List ℕ) (what : Opens)
+    (m : ℕ) (after : Rest) (T : List TokenBody → List TokenBody)
+    → Lined x text (λ d. indicator 63 d (asked_rest p n m after k v ps)) n kept now more T
+    → indent now ≤ n + 1 → Rises (n + 1) more → opened true (n + 1) now ≡ new
+    → start_of 0 (n + 1) now opening.Mapping ≡ what → indent new ≡ n + 1 → m ≤ n
+    → Ending p.settings.line_break m (n + 1) after
+    → LinedUp x text after m (pair_kept p k v ps false kept) new
+    (λ bs. T (start_bodies what (pair_said p k v ps false bs)))
 asked_on p n k v ps walk all others x text kept now more new what m after T here low rises opens starts last up ending =
     let b = p.settings.line_break in
     let V = value_rest p n m after v ps in
@@ -168,9 +198,16 @@ asked_on p n k v ps walk all others x text kept now more new what m after T here
     let one = value_on p n k v ps true walk all x text answer.cursor answer.place (node_kept p false part.Key k kept) new m after X answer.stage answer.bare same (omega (arith, last, right2)) last up ending answer.left in
     others x text (node_kept p false part.Value v (node_kept p false part.Key k kept)) new m after (λ bs. X (node_bodies p false part.Value true v bs)) last up ending one
 
-pub pair_on : (p : Context) (n : ℕ) (k v : Node) (ps : Pairs) → PairWalks p n k v → PairsWalk p n ps → MorePairs p n ps → (x : yaml_encoding_t) (text : List ℕ) (kept : Bool) (now more new : List ℕ) (what : Opens) (m : ℕ) (after : Rest) (T : List TokenBody → List TokenBody)
-    → Lined x text (pairs_after p n m after (pair k v ps)) n kept now more T → indent now ≤ n + 1 → Rises (n + 1) more → opened true (n + 1) now ≡ new → start_of 0 (n + 1) now opening.Mapping ≡ what → indent new ≡ n + 1 → m ≤ n → Ending p.settings.line_break m (n + 1) after
-    → LinedUp x text after m (pairs_kept p false (pair k v ps) kept) new (λ bs. T (start_bodies what (pairs_bodies p false false (pair k v ps) bs)))
+pub pair_on : (p : Context) (n : ℕ) (k v : Node) (ps : Pairs) → PairWalks p n k v → PairsWalk p n ps
+    → MorePairs p n ps
+    → (x : yaml_encoding_t) (text : List ℕ) (kept : Bool) (now more new : List ℕ) (what : Opens)
+    (m : ℕ) (after : Rest) (T : List TokenBody → List TokenBody)
+    → Lined x text (pairs_after p n m after (pair k v ps)) n kept now more T → indent now ≤ n + 1
+    → Rises (n + 1) more → opened true (n + 1) now ≡ new
+    → start_of 0 (n + 1) now opening.Mapping ≡ what → indent new ≡ n + 1 → m ≤ n
+    → Ending p.settings.line_break m (n + 1) after
+    → LinedUp x text after m (pairs_kept p false (pair k v ps) kept) new
+    (λ bs. T (start_bodies what (pairs_bodies p false false (pair k v ps) bs)))
 unfolding pairs_kept pairs_bodies
 pair_on p n k v ps walk all others x text kept now more new what m after T here low rises opens starts last up ending = elim (cases_Bool (is_simple p k)) [
   | inl e ↦ subst (λ b. LinedUp x text after m (pair_kept p k v ps b kept) new (λ bs. T (start_bodies what (pair_said p k v ps b bs)))) (sym e)
@@ -183,7 +220,8 @@ pub pairs_none : (p : Context) (n : ℕ) → MorePairs p n no_pairs
 unfolding pairs_kept pairs_bodies
 pairs_none p n x text kept now m after T last up ending line = line
 
-pub pairs_more : (p : Context) (n : ℕ) (k v : Node) (ps : Pairs) → PairWalks p n k v → PairsWalk p n ps → MorePairs p n ps → MorePairs p n (pair k v ps)
+pub pairs_more : (p : Context) (n : ℕ) (k v : Node) (ps : Pairs) → PairWalks p n k v
+    → PairsWalk p n ps → MorePairs p n ps → MorePairs p n (pair k v ps)
 pairs_more p n k v ps walk all others x text kept now m after T last up ending line =
     let (below, above) = levels_part now line.more line.lined.stage.reads.stands.front.rises in
     let (opens, starts) = level_opens.stays (n + 1) now opening.Mapping (omega (arith, last)) in
@@ -199,16 +237,28 @@ none_rise : (b : ℕ) → Rises b []
 unfolding Rises
 none_rise b = tt
 
-mapping_line : (p : Context) (n : ℕ) (k v : Node) (ps : Pairs) → PairWalks p n k v → (x : yaml_encoding_t) (text : List ℕ) (c : Cursor) (o : Where) (ls : List ℕ) (m : ℕ) (after : Rest) (T : List TokenBody → List TokenBody) → Stage x text c o ls [] T
-    → Left text o.at (bytes (pairs_layout p false n true (pair k v ps) c (λ e. line p.settings.line_break m e after))) → Lined x text (pairs_after p n m after (pair k v ps)) n c.kept ls [] T
+mapping_line : (p : Context) (n : ℕ) (k v : Node) (ps : Pairs) → PairWalks p n k v
+    → (x : yaml_encoding_t) (text : List ℕ) (c : Cursor) (o : Where) (ls : List ℕ) (m : ℕ)
+    (after : Rest) (T : List TokenBody → List TokenBody) → Stage x text c o ls [] T
+    → Left text o.at (bytes (pairs_layout p false n true (pair k v ps) c
+    (λ e. line p.settings.line_break m e after)))
+    → Lined x text (pairs_after p n m after (pair k v ps)) n c.kept ls [] T
 unfolding pairs_layout before_key
 mapping_line p n k v ps walk x text c o ls m after T s l =
     let R = pair_rest p n m after k v ps (is_simple p k) in
     line_on p.settings.line_break n x text c o ls [] T R s (shows_no_feed n R (pair_shows p n m after k v ps walk)) l
 
-pub mapping_walks : (p : Context) (n : ℕ) (k v : Node) (ps : Pairs) → PairWalks p n k v → PairsWalk p n ps → (x : yaml_encoding_t) (text : List ℕ) (c : Cursor) (o : Where) (ls : List ℕ) (m : ℕ) (after : Rest) (T : List TokenBody → List TokenBody)
-    → Stage x text c o ls [] T → indent ls < n + 1 → m ≤ n → Ending p.settings.line_break m (indent ls) after → Left text o.at (bytes (pairs_layout p false n true (pair k v ps) c (λ e. line p.settings.line_break m e after)))
-    → LinedUp x text after m (pairs_kept p false (pair k v ps) c.kept) ls (λ bs. T (tokens.block_mapping_start ∷ pairs_bodies p false true (pair k v ps) (tokens.block_end ∷ bs)))
+pub mapping_walks : (p : Context) (n : ℕ) (k v : Node) (ps : Pairs) → PairWalks p n k v
+    → PairsWalk p n ps
+    → (x : yaml_encoding_t) (text : List ℕ) (c : Cursor) (o : Where) (ls : List ℕ) (m : ℕ)
+    (after : Rest) (T : List TokenBody → List TokenBody)
+    → Stage x text c o ls [] T → indent ls < n + 1 → m ≤ n
+    → Ending p.settings.line_break m (indent ls) after
+    → Left text o.at (bytes (pairs_layout p false n true (pair k v ps) c
+    (λ e. line p.settings.line_break m e after)))
+    → LinedUp x text after m (pairs_kept p false (pair k v ps) c.kept) ls
+    (λ bs. T (tokens.block_mapping_start
+    ∷ pairs_bodies p false true (pair k v ps) (tokens.block_end ∷ bs)))
 unfolding pairs_bodies
 mapping_walks p n k v ps walk all x text c o ls m after T s low up ending l =
     let (opens, starts) = level_opens.opens (n + 1) ls opening.Mapping low in

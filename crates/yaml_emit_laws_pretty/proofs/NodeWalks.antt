@@ -39,7 +39,9 @@ none_flows false false true e = absurd (cc)
 none_flows false false false e = absurd (cc)
 
 mutual
-  node_on : Parts → (s : Settings) (d : Opening) → IsPretty s d → (y : Node) → IsWritable y → (around : Option ℕ) (q : Part) (bare : Bool) → is_place around q ≡ true → NodeWalks (context_of s d.directives) around q bare y
+  node_on : Parts → (s : Settings) (d : Opening) → IsPretty s d → (y : Node) → IsWritable y
+      → (around : Option ℕ) (q : Part) (bare : Bool) → is_place around q ≡ true
+      → NodeWalks (context_of s d.directives) around q bare y
   node_on laws s d pretty (alias_node name) fine around q bare place = laws.leaves s d pretty (alias_node name) fine around q bare (place_whole around q place) refl refl
   node_on laws s d pretty (scalar_node v) fine around q bare place = elim (cases_Bool (is_block (style_at (context_of s d.directives) false q v))) [
     | inl e ↦ laws.blocks s d pretty v fine around q bare (place_whole around q place) e
@@ -69,11 +71,13 @@ mutual
     })
   ]
 
-  items_on : Parts → (s : Settings) (d : Opening) → IsPretty s d → (ys : Nodes) → AreItemsWritable ys → (n : ℕ) → MoreItems (context_of s d.directives) n ys
+  items_on : Parts → (s : Settings) (d : Opening) → IsPretty s d → (ys : Nodes)
+      → AreItemsWritable ys → (n : ℕ) → MoreItems (context_of s d.directives) n ys
   items_on laws s d pretty no_nodes fine n = more_none (context_of s d.directives) n
   items_on laws s d pretty (node y ys) (one, all) n = more_item (context_of s d.directives) n y ys (node_on laws s d pretty y one (Some n) part.Item true refl) (items_on laws s d pretty ys all n)
 
-  pairs_on : Parts → (s : Settings) (d : Opening) → IsPretty s d → (ps : Pairs) → ArePairsWritable ps → (n : ℕ) → PairsWalk (context_of s d.directives) n ps
+  pairs_on : Parts → (s : Settings) (d : Opening) → IsPretty s d → (ps : Pairs)
+      → ArePairsWritable ps → (n : ℕ) → PairsWalk (context_of s d.directives) n ps
   pairs_on laws s d pretty no_pairs fine n = tt
   pairs_on laws s d pretty (pair k v ps) (key, value, all) n = (
     record {
@@ -84,5 +88,6 @@ mutual
     pairs_on laws s d pretty ps all n,
   )
 
-pub nodes_walk : LeavesAreWalked → BlockScalarsAreWalked → BracketsAreWalked → PropertiesAreWalked → SimpleKeysAreWalked → NodesAreWalked
+pub nodes_walk : LeavesAreWalked → BlockScalarsAreWalked → BracketsAreWalked → PropertiesAreWalked
+    → SimpleKeysAreWalked → NodesAreWalked
 nodes_walk leaves blocks brackets properties keys s d pretty y fine around q bare place = node_on (record { leaves = leaves; blocks = blocks; brackets = brackets; properties = properties; keys = keys }) s d pretty y fine around q bare place

@@ -23,7 +23,9 @@ use Rattle.yaml_emit_laws_pretty.specs.Walk.{Goes, Walks, Follows, PlainIsWalked
 
 -- ---- the same tokens, the same layout
 
-says_as : (x : yaml_encoding_t) (text : List ℕ) (rest : Rest) (kept : Bool) (ls : List ℕ) (T U : List TokenBody → List TokenBody) → Goes x text rest kept ls T → ((bs : List TokenBody) → T bs ≡ U bs) → Goes x text rest kept ls U
+says_as : (x : yaml_encoding_t) (text : List ℕ) (rest : Rest) (kept : Bool) (ls : List ℕ)
+    (T U : List TokenBody → List TokenBody) → Goes x text rest kept ls T
+    → ((bs : List TokenBody) → T bs ≡ U bs) → Goes x text rest kept ls U
 says_as x text rest kept ls T U g e = record {
   behind = g.behind;
   place = g.place;
@@ -34,14 +36,17 @@ says_as x text rest kept ls T U g e = record {
   same = g.same;
 }
 
-walks_as : (a b : Layout) (B C : List TokenBody → List TokenBody) (ls : List ℕ) (c : Cursor) (rest : Rest) → a c rest ≡ b c rest → ((bs : List TokenBody) → B bs ≡ C bs) → Walks b B ls c rest → Walks a C ls c rest
+walks_as : (a b : Layout) (B C : List TokenBody → List TokenBody) (ls : List ℕ) (c : Cursor)
+    (rest : Rest) → a c rest ≡ b c rest → ((bs : List TokenBody) → B bs ≡ C bs)
+    → Walks b B ls c rest → Walks a C ls c rest
 walks_as a b B C ls c rest same e w x text o T s right l =
     says_as x text rest c.kept ls (λ bs. T (B bs)) (λ bs. T (C bs)) (w x text o T s right (subst (λ (t : List Item). Left text o.at (bytes t)) same l)) (λ bs. ap (λ ds. T ds) (e bs))
 
 -- ---- plain scalars
 
 -- an empty one is nothing
-pub empty_layout : (page : Page) (c : Cursor) (rest : Rest) → plain page false (chars []) c rest ≡ after_text c rest
+pub empty_layout : (page : Page) (c : Cursor) (rest : Rest)
+    → plain page false (chars []) c rest ≡ after_text c rest
 unfolding flow_body chars
 empty_layout page c rest = refl
 
@@ -57,12 +62,20 @@ empty_walks ls c rest x text o T s right l = record {
 }
 
 -- any one, empty or not
-pub plain_walks : PlainIsWalked → (page : Page) (ls : List ℕ) (c : Cursor) (value : List ℕ) (rest : Rest) → IsUtf8 value → may_be_plain page.unicode false (chars value) ≡ true → 0 < page.indentation → indent ls ≤ page.indentation
-    → Follows (indent ls) rest → Walks (plain page false (chars value)) (λ bs. scalar_bodies false style.Plain value bs) ls c rest
+pub plain_walks : PlainIsWalked
+    → (page : Page) (ls : List ℕ) (c : Cursor) (value : List ℕ) (rest : Rest) → IsUtf8 value
+    → may_be_plain page.unicode false (chars value) ≡ true → 0 < page.indentation
+    → indent ls ≤ page.indentation
+    → Follows (indent ls) rest
+    → Walks (plain page false (chars value)) (λ bs. scalar_bodies false style.Plain value bs) ls c
+    rest
 plain_walks law page ls c [] rest u may deep far follows = walks_as (plain page false (chars [])) after_text (λ bs. bs) (λ bs. bs) ls c rest (empty_layout page c rest) (λ bs. refl) (empty_walks ls c rest)
 plain_walks law page ls c (b ∷ bs) rest u may deep far follows = law page ls c (b ∷ bs) rest u (omega arith) may deep far follows
 
-pub plain_white : PlainHasGap → (page : Page) (c : Cursor) (value : List ℕ) (rest : Rest) → IsUtf8 value → c.white ≡ false → ((e : Cursor) → e.bare ≡ false → begins_white (bytes (rest e)) ≡ true) → begins_white (bytes (plain page false (chars value) c rest)) ≡ true
+pub plain_white : PlainHasGap → (page : Page) (c : Cursor) (value : List ℕ) (rest : Rest)
+    → IsUtf8 value → c.white ≡ false
+    → ((e : Cursor) → e.bare ≡ false → begins_white (bytes (rest e)) ≡ true)
+    → begins_white (bytes (plain page false (chars value) c rest)) ≡ true
 plain_white law page c [] rest u white f = ap (λ t. begins_white (bytes t)) (empty_layout page c rest) ∙ f (record { column = c.column; white = false; bare = false; kept = c.kept }) refl
 plain_white law page c (b ∷ bs) rest u white f =
     let body : Layout = flow_body page false 32 (chars (b ∷ bs)) ▹ after_text in

@@ -38,7 +38,8 @@ use Rattle.yaml_emit_laws_pretty.proofs.Lining.{first_byte, line_on_to}
 use Rattle.yaml_emit_laws_pretty.proofs.Entries.{no_gap}
 
 -- a space, where one is due
-pub walks_gap : (a : Layout) (B : List TokenBody → List TokenBody) (ls : List ℕ) (c : Cursor) (rest : Rest) → ((c : Cursor) → Walks a B ls c rest) → Walks (gap ▹ a) B ls c rest
+pub walks_gap : (a : Layout) (B : List TokenBody → List TokenBody) (ls : List ℕ) (c : Cursor)
+    (rest : Rest) → ((c : Cursor) → Walks a B ls c rest) → Walks (gap ▹ a) B ls c rest
 walks_gap a B ls c rest w x text o T s right l =
     elim (cases_Bool c.white) [
       | inl e ↦ w c x text o T s right (subst (λ (b : Bool). Left text o.at (bytes (if b then a c rest else blank c (λ k. a k rest)))) e l)
@@ -58,7 +59,8 @@ never e = cc
 
 -- ---- a lexeme begins behind the white
 
-no_hash : (text : List ℕ) (p : ℕ) (bs : List ℕ) → Left text p bs → no_comment bs ≡ true → byte text (p + length (white_of bs)) ≡ 35 → ⊥
+no_hash : (text : List ℕ) (p : ℕ) (bs : List ℕ) → Left text p bs → no_comment bs ≡ true
+    → byte text (p + length (white_of bs)) ≡ 35 → ⊥
 unfolding no_comment white_of
 no_hash text p [] l h e =
     let z : p + 0 ≡ p = omega arith in
@@ -81,7 +83,9 @@ no_hash text p (b ∷ bs) l h e = elim (cases_Bool (is_gap_byte b)) [
     differs : (b : ℕ) → b ≡ 35 → not (b == 35) ≡ true → ⊥
     differs b e f = grind (arith, nat_tests)
 
-begins_by : (text : List ℕ) (q : ℕ) → (is_blank (byte text q)) ≡ false → nat_lt 0 (break_width text q) ≡ false → (byte text q == 35) ≡ false → (q == 0 && is_bom text q) ≡ false → begins_lexeme text q ≡ true
+begins_by : (text : List ℕ) (q : ℕ) → (is_blank (byte text q)) ≡ false
+    → nat_lt 0 (break_width text q) ≡ false → (byte text q == 35) ≡ false
+    → (q == 0 && is_bom text q) ≡ false → begins_lexeme text q ≡ true
 begins_by text q blank wide hash bom = let (space, tab) = either (byte text q == 32) (byte text q == 9) blank in rw (space, tab, hash, wide, bom) refl
   where
     either : (a b : Bool) → (a || b) ≡ false → (a ≡ false) × (b ≡ false)
@@ -89,7 +93,8 @@ begins_by text q blank wide hash bom = let (space, tab) = either (byte text q ==
     either false true e = absurd (cc)
     either false false e = (refl, refl)
 
-ends_begins : (level : ℕ) (text : List ℕ) (p q : ℕ) → ends_plain false level text q ≡ true → begins_lexeme text p ≡ true → (byte text q ≡ 35 → ⊥) → p ≤ q → begins_lexeme text q ≡ true
+ends_begins : (level : ℕ) (text : List ℕ) (p q : ℕ) → ends_plain false level text q ≡ true
+    → begins_lexeme text p ≡ true → (byte text q ≡ 35 → ⊥) → p ≤ q → begins_lexeme text q ≡ true
 unfolding ends_plain
 ends_begins level text p zero h begins hash up = let z : p ≡ 0 = omega (arith, up) in subst (λ n. begins_lexeme text n ≡ true) z begins
 ends_begins level text p (suc q) h begins hash up =
@@ -108,8 +113,13 @@ ends_begins level text p (suc q) h begins hash up =
     apart : (b : ℕ) → (b ≡ 35 → ⊥) → (b == 35) ≡ false
     apart b f = grind (arith, nat_tests)
 
-body_walks : PlainStands → ScalarsAreWords → (page : Page) (ls : List ℕ) (value : List ℕ) (rest : Rest) → IsUtf8 value → 0 < length value → may_be_plain page.unicode false (chars value) ≡ true → 0 < page.indentation → indent ls ≤ page.indentation → Follows (indent ls) rest
-    → (c : Cursor) → Walks (flow_body page false 32 (chars value) ▹ after_text) (λ bs. tokens.scalar value YAML_PLAIN_SCALAR_STYLE ∷ bs) ls c rest
+body_walks : PlainStands → ScalarsAreWords
+    → (page : Page) (ls : List ℕ) (value : List ℕ) (rest : Rest) → IsUtf8 value → 0 < length value
+    → may_be_plain page.unicode false (chars value) ≡ true → 0 < page.indentation
+    → indent ls ≤ page.indentation → Follows (indent ls) rest
+    → (c : Cursor)
+    → Walks (flow_body page false 32 (chars value) ▹ after_text)
+    (λ bs. tokens.scalar value YAML_PLAIN_SCALAR_STYLE ∷ bs) ls c rest
 unfolding LeaveClear
 body_walks stands are_words page ls value rest u some may deep far follows c x text o T s right l =
     let p = o.at in

@@ -33,8 +33,13 @@ no_quote (b ∷ bs) h e = let k : begins_white (39 ∷ bs) ≡ true = subst (λ 
 bare_off : (b : Bool) → b ≡ false → b ≡ true → ⊥
 bare_off b e f = false≢true (sym e ∙ f)
 
-quotes_walk : SingleStands → ScalarsAreWords → (page : Page) (ls : List ℕ) (value : List ℕ) (rest : Rest) → IsUtf8 value → (allowed page.unicode (chars value)).single ≡ true → 0 < page.indentation → Follows (indent ls) rest
-    → (c : Cursor) → Walks (between_single page (chars value)) (λ bs. tokens.scalar value YAML_SINGLE_QUOTED_SCALAR_STYLE ∷ bs) ls c rest
+quotes_walk : SingleStands → ScalarsAreWords
+    → (page : Page) (ls : List ℕ) (value : List ℕ) (rest : Rest) → IsUtf8 value
+    → (allowed page.unicode (chars value)).single ≡ true → 0 < page.indentation
+    → Follows (indent ls) rest
+    → (c : Cursor)
+    → Walks (between_single page (chars value))
+    (λ bs. tokens.scalar value YAML_SINGLE_QUOTED_SCALAR_STYLE ∷ bs) ls c rest
 unfolding LeaveClear
 quotes_walk stands words page ls value rest u may deep follows c x text o T s right l =
     let p = o.at in

@@ -48,8 +48,11 @@ abbrev pub behind_gap : Bool → Cursor → Cursor
 behind_gap true c = c
 behind_gap false c = record { column = c.column + 1; white = true; bare = c.bare; kept = c.kept }
 
-gap_case : (flow : Bool) (level : ℕ) (a : Layout) (make : Bool → Cursor → Spoken flow level) → ((b : Bool) (d : Cursor) → (make b d).spaced ≡ b) → ((b : Bool) (d : Cursor) → Wrote a d (make b d).own) → (c : Cursor) (b : Bool)
-    → Says flow level (λ e rest. if b then a e rest else blank e (λ d. a d rest)) c (make (not b) (behind_gap b c) ∷ [])
+gap_case : (flow : Bool) (level : ℕ) (a : Layout) (make : Bool → Cursor → Spoken flow level)
+    → ((b : Bool) (d : Cursor) → (make b d).spaced ≡ b)
+    → ((b : Bool) (d : Cursor) → Wrote a d (make b d).own) → (c : Cursor) (b : Bool)
+    → Says flow level (λ e rest. if b then a e rest else blank e (λ d. a d rest)) c
+    (make (not b) (behind_gap b c) ∷ [])
 gap_case flow level a make spaced wrote c true =
     let w = make false c in
     let r = wrote false c in
@@ -75,7 +78,9 @@ gap_case flow level a make spaced wrote c false =
     }
 
 -- a word behind the space that is due
-pub gap_says : (flow : Bool) (level : ℕ) (a : Layout) (make : Bool → Cursor → Spoken flow level) → ((b : Bool) (d : Cursor) → (make b d).spaced ≡ b) → ((b : Bool) (d : Cursor) → Wrote a d (make b d).own) → (c : Cursor)
+pub gap_says : (flow : Bool) (level : ℕ) (a : Layout) (make : Bool → Cursor → Spoken flow level)
+    → ((b : Bool) (d : Cursor) → (make b d).spaced ≡ b)
+    → ((b : Bool) (d : Cursor) → Wrote a d (make b d).own) → (c : Cursor)
     → Says flow level (gap ▹ a) c (make (not c.white) (behind_gap c.white c) ∷ [])
 gap_says flow level a make spaced wrote c =
     let r = gap_case flow level a make spaced wrote c c.white in
@@ -107,7 +112,8 @@ letters_are (x ∷ xs) are c =
       kept = r.kept;
     }
 
-letters_wrote : (x : ℕ) (xs : List ℕ) → are_ascii (x ∷ xs) ≡ true → (c : Cursor) → Wrote (letters (x ∷ xs)) c (x ∷ xs)
+letters_wrote : (x : ℕ) (xs : List ℕ) → are_ascii (x ∷ xs) ≡ true → (c : Cursor)
+    → Wrote (letters (x ∷ xs)) c (x ∷ xs)
 unfolding letters
 letters_wrote x xs low c =
     let r = letters_are xs (and_parts (nat_lt x 128) (are_ascii xs) low).1 (lettered_on c) in
@@ -127,17 +133,27 @@ alphas_ascii : (xs : List ℕ) → are_alphas xs ≡ true → are_ascii xs ≡ t
 alphas_ascii [] are = refl
 alphas_ascii (x ∷ xs) are = rw (alpha_low x (and_parts (is_alpha_byte x) (are_alphas xs) are).0) (alphas_ascii xs (and_parts (is_alpha_byte x) (are_alphas xs) are).1)
 
-pub anchor_says : (names : AnchorReads) (flow : Bool) (level : ℕ) (name : List ℕ) (good : IsWritableName name) (c : Cursor) → Says flow level (word (38 ∷ name)) c (anchor_word names flow level (not c.white) name good ∷ [])
+pub anchor_says : (names : AnchorReads) (flow : Bool) (level : ℕ) (name : List ℕ)
+    (good : IsWritableName name) (c : Cursor)
+    → Says flow level (word (38 ∷ name)) c
+    (anchor_word names flow level (not c.white) name good ∷ [])
 anchor_says names flow level name good c = gap_says flow level (letters (38 ∷ name)) (λ b d. anchor_word names flow level b name good) (λ b d. refl) (λ b d. letters_wrote 38 name (alphas_ascii name good.1) d) c
 
-pub alias_says : (names : AnchorReads) (flow : Bool) (level : ℕ) (name : List ℕ) (good : IsWritableName name) (c : Cursor) → Says flow level (word (42 ∷ name)) c (alias_word names flow level (not c.white) name good ∷ [])
+pub alias_says : (names : AnchorReads) (flow : Bool) (level : ℕ) (name : List ℕ)
+    (good : IsWritableName name) (c : Cursor)
+    → Says flow level (word (42 ∷ name)) c
+    (alias_word names flow level (not c.white) name good ∷ [])
 alias_says names flow level name good c = gap_says flow level (letters (42 ∷ name)) (λ b d. alias_word names flow level b name good) (λ b d. refl) (λ b d. letters_wrote 42 name (alphas_ascii name good.1) d) c
 
-pub mark_says : (lone : LoneMarkReads) (flow : Bool) (level : ℕ) (c : Cursor) → Says flow level (word (33 ∷ [])) c (mark_word lone flow level (not c.white) ∷ [])
+pub mark_says : (lone : LoneMarkReads) (flow : Bool) (level : ℕ) (c : Cursor)
+    → Says flow level (word (33 ∷ [])) c (mark_word lone flow level (not c.white) ∷ [])
 mark_says lone flow level c = gap_says flow level (letters (33 ∷ [])) (λ b d. mark_word lone flow level b) (λ b d. refl) (λ b d. letters_wrote 33 [] refl d) c
 
-pub tag_says : (split : SplitTagsAreRead) (ascii : ReadableTagsAreAscii) (readable : WrittenTagsAreReadable) (flow : Bool) (level : ℕ) (o : Opening) (fine : IsWritableOpening o) (t : List ℕ) (good : IsWritableTag (Some t)) (c : Cursor)
-    → Says flow level (word (tag_spelling o.directives t)) c (tag_word split ascii readable flow level (not c.white) o fine t good ∷ [])
+pub tag_says : (split : SplitTagsAreRead) (ascii : ReadableTagsAreAscii)
+    (readable : WrittenTagsAreReadable) (flow : Bool) (level : ℕ) (o : Opening)
+    (fine : IsWritableOpening o) (t : List ℕ) (good : IsWritableTag (Some t)) (c : Cursor)
+    → Says flow level (word (tag_spelling o.directives t)) c
+    (tag_word split ascii readable flow level (not c.white) o fine t good ∷ [])
 tag_says split ascii readable flow level o fine t good c =
     let s = split_tag o.directives t in
     let x = ascii s (readable o fine.0 fine.1 t good.1 good.0) in
@@ -160,13 +176,17 @@ not_white : (b : Bool) → (if b then letter 1 ∷ [] else []) ≡ [] → b ≡ 
 not_white true e = absurd (cc)
 not_white false e = refl
 
-double_white : (page : Page) (c : Cursor) (value : List ℕ) (r : ValueIsReadBack double_quoted_at (between_quotes page (chars value)) c value) → r.behind.white ≡ false
+double_white : (page : Page) (c : Cursor) (value : List ℕ)
+    (r : ValueIsReadBack double_quoted_at (between_quotes page (chars value)) c value)
+    → r.behind.white ≡ false
 double_white page c value r =
     let probe : Rest = λ e. if e.white then letter 1 ∷ [] else [] in
     let none : Rest = λ e. [] in
     not_white r.behind.white (cancelled r.letters (probe r.behind) (none r.behind) (sym (r.written probe) ∙ r.written none))
 
-double_wrote : (page : Page) (c : Cursor) (value : List ℕ) (r : ValueIsReadBack double_quoted_at (between_quotes page (chars value)) c value) → Wrote (between_quotes page (chars value)) c (encode_utf8_all r.letters)
+double_wrote : (page : Page) (c : Cursor) (value : List ℕ)
+    (r : ValueIsReadBack double_quoted_at (between_quotes page (chars value)) c value)
+    → Wrote (between_quotes page (chars value)) c (encode_utf8_all r.letters)
 double_wrote page c value r = record {
   behind = r.behind;
   written = λ rest. ap (λ (t : List Item). bytes t) (r.written rest) ∙ front_encodes r.letters (rest r.behind);
@@ -175,20 +195,32 @@ double_wrote page c value r = record {
   kept = r.kept;
 }
 
-pub double_says : (quoted : QuotedIsReadBack) (flow : Bool) (level : ℕ) (page : Page) (value : List ℕ) (u : IsUtf8 value) (deep : 0 < page.indentation) (c : Cursor)
-    → Says flow level (double_quoted page (chars value)) c (double_word flow level (not c.white) page (behind_gap c.white c) value (quoted page (behind_gap c.white c) value u (λ cuts. deep)) ∷ [])
+pub double_says : (quoted : QuotedIsReadBack) (flow : Bool) (level : ℕ) (page : Page)
+    (value : List ℕ) (u : IsUtf8 value) (deep : 0 < page.indentation) (c : Cursor)
+    → Says flow level (double_quoted page (chars value)) c
+    (double_word flow level (not c.white) page (behind_gap c.white c) value
+    (quoted page (behind_gap c.white c) value u (λ cuts. deep)) ∷ [])
 double_says quoted flow level page value u deep c =
     gap_says flow level (between_quotes page (chars value)) (λ b d. double_word flow level b page d value (quoted page d value u (λ cuts. deep))) (λ b d. refl) (λ b d. double_wrote page d value (quoted page d value u (λ cuts. deep))) c
 
-pub single_says : (singles : SingleLinesAreReadBack) (words : ScalarsAreWords) (flow : Bool) (level : ℕ) (page : Page) (value : List ℕ) (u : IsUtf8 value) (deep : 0 < page.indentation) (may : (allowed page.unicode (chars value)).single ≡ true) (c : Cursor)
-    → Says flow level (single_quoted page (chars value)) c (single_word words flow level (not c.white) page (behind_gap c.white c) value (singles page (behind_gap c.white c) value u (λ cuts. deep) (λ lines. deep) may) ∷ [])
+pub single_says : (singles : SingleLinesAreReadBack) (words : ScalarsAreWords) (flow : Bool)
+    (level : ℕ) (page : Page) (value : List ℕ) (u : IsUtf8 value) (deep : 0 < page.indentation)
+    (may : (allowed page.unicode (chars value)).single ≡ true) (c : Cursor)
+    → Says flow level (single_quoted page (chars value)) c
+    (single_word words flow level (not c.white) page (behind_gap c.white c) value
+    (singles page (behind_gap c.white c) value u (λ cuts. deep) (λ lines. deep) may) ∷ [])
 single_says singles words flow level page value u deep may c =
     gap_says flow level (between_single page (chars value)) (λ b d. single_word words flow level b page d value (singles page d value u (λ cuts. deep) (λ lines. deep) may)) (λ b d. refl)
     (λ b d. let r = singles page d value u (λ cuts. deep) (λ lines. deep) may in
     record { behind = r.behind; written = λ rest. ap (λ (t : List Item). bytes t) (r.written rest) ∙ front_encodes r.letters (rest r.behind); bare = r.bare; white = r.white; kept = r.kept }) c
 
-pub plain_says : (gaps : PlainHasGap) (plains : PlainIsReadBack) (words : ScalarsAreWords) (flow : Bool) (level : ℕ) (page : Page) (value : List ℕ) (u : IsUtf8 value) (some : 0 < length value) (may : may_be_plain page.unicode flow (chars value) ≡ true) (deep : 0 < page.indentation) (far : level ≤ page.indentation) (c : Cursor)
-    → Says flow level (plain page flow (chars value)) c (plain_word words flow level (not c.white) page (behind_gap c.white c) value (plains page flow level (behind_gap c.white c) value u some may deep far) ∷ [])
+pub plain_says : (gaps : PlainHasGap) (plains : PlainIsReadBack) (words : ScalarsAreWords)
+    (flow : Bool) (level : ℕ) (page : Page) (value : List ℕ) (u : IsUtf8 value)
+    (some : 0 < length value) (may : may_be_plain page.unicode flow (chars value) ≡ true)
+    (deep : 0 < page.indentation) (far : level ≤ page.indentation) (c : Cursor)
+    → Says flow level (plain page flow (chars value)) c
+    (plain_word words flow level (not c.white) page (behind_gap c.white c) value
+    (plains page flow level (behind_gap c.white c) value u some may deep far) ∷ [])
 plain_says gaps plains words flow level page value u some may deep far c =
     subst (λ (a : Layout). Says flow level a c (plain_word words flow level (not c.white) page (behind_gap c.white c) value (plains page flow level (behind_gap c.white c) value u some may deep far) ∷ [])) (sym (gaps page flow value u some))
     (gap_says flow level (flow_body page false 32 (chars value) ▹ after_text) (λ b d. plain_word words flow level b page d value (plains page flow level d value u some may deep far)) (λ b d. refl)

@@ -50,8 +50,10 @@ use Rattle.yaml_emit_laws_pretty.proofs.Lining.{first_byte}
 use Rattle.yaml_emit_laws_pretty.proofs.Entries.{white_stands}
 
 -- a word that takes no white
-in_line : (flow : Bool) (level : ℕ) (k : Kind) (body : TokenBody) (text : List ℕ) (p e : ℕ) (bs : List ℕ) → begins_lexeme text p ≡ true → kind_at flow text p ≡ Some k
-    → word_at k flow level text p ≡ Ok (record { body = body; end = e; reached = e; broke = false }) → WordStands flow level k body text p e bs
+in_line : (flow : Bool) (level : ℕ) (k : Kind) (body : TokenBody) (text : List ℕ) (p e : ℕ)
+    (bs : List ℕ) → begins_lexeme text p ≡ true → kind_at flow text p ≡ Some k
+    → word_at k flow level text p ≡ Ok (record { body = body; end = e; reached = e; broke = false })
+    → WordStands flow level k body text p e bs
 in_line flow level k body text p e bs begins kind word =
     let w : WordText = record { body = body; end = e; reached = e; broke = false } in
     record {
@@ -97,33 +99,44 @@ single_kind : (flow alone : Bool) → indicator_of flow alone 39 ≡ Some kinds.
 unfolding indicator_of
 single_kind flow alone = refl
 
-anchor_at_word : (flow : Bool) (level : ℕ) (text : List ℕ) (p : ℕ) → word_at kinds.Anchor flow level text p ≡ valued tokens.anchor (anchor_at contexts.Anchor text p)
+anchor_at_word : (flow : Bool) (level : ℕ) (text : List ℕ) (p : ℕ)
+    → word_at kinds.Anchor flow level text p
+    ≡ valued tokens.anchor (anchor_at contexts.Anchor text p)
 unfolding word_at
 anchor_at_word flow level text p = refl
 
-alias_at_word : (flow : Bool) (level : ℕ) (text : List ℕ) (p : ℕ) → word_at kinds.Alias flow level text p ≡ valued tokens.alias (anchor_at contexts.Alias text p)
+alias_at_word : (flow : Bool) (level : ℕ) (text : List ℕ) (p : ℕ)
+    → word_at kinds.Alias flow level text p ≡ valued tokens.alias (anchor_at contexts.Alias text p)
 unfolding word_at
 alias_at_word flow level text p = refl
 
-white_ends : (text : List ℕ) (p : ℕ) (bs : List ℕ) → Left text p bs → begins_white bs ≡ true → may_end_name text p ≡ true
+white_ends : (text : List ℕ) (p : ℕ) (bs : List ℕ) → Left text p bs → begins_white bs ≡ true
+    → may_end_name text p ≡ true
 unfolding may_end_name
 white_ends text p bs l e = or_left (is_blank_or_end text p) _ (white_stands text p bs l e)
 
-bracket_ends : (text : List ℕ) (p b : ℕ) → byte text p ≡ b → (b == 44 || (b == 93 || b == 125)) ≡ true → may_end_name text p ≡ true
+bracket_ends : (text : List ℕ) (p b : ℕ) → byte text p ≡ b
+    → (b == 44 || (b == 93 || b == 125)) ≡ true → may_end_name text p ≡ true
 unfolding may_end_name
 bracket_ends text p b h e = or_right (is_blank_or_end text p) _ (ends (byte text p) (subst (λ (n : ℕ). (n == 44 || (n == 93 || n == 125)) ≡ true) (sym h) e))
   where
-    ends : (b : ℕ) → (b == 44 || (b == 93 || b == 125)) ≡ true → (b == 63 || (b == 58 || (b == 44 || (b == 93 || (b == 125 || (b == 37 || (b == 64 || b == 96))))))) ≡ true
+    ends : (b : ℕ) → (b == 44 || (b == 93 || b == 125)) ≡ true
+        → (b == 63 || (b == 58 || (b == 44
+        || (b == 93 || (b == 125 || (b == 37 || (b == 64 || b == 96))))))) ≡ true
     ends b e = grind (arith, nat_tests)
 
-name_ends : (text : List ℕ) (p : ℕ) (bs : List ℕ) → Left text p bs → ends_name bs ≡ true → may_end_name text p ≡ true
+name_ends : (text : List ℕ) (p : ℕ) (bs : List ℕ) → Left text p bs → ends_name bs ≡ true
+    → may_end_name text p ≡ true
 name_ends text p [] l e = white_ends text p [] l refl
 name_ends text p (b ∷ bs) l e = elim (or_cases (begins_white (b ∷ bs)) (b == 44 || (b == 93 || b == 125)) e) [
   | inl h ↦ white_ends text p (b ∷ bs) l h
   | inr h ↦ bracket_ends text p b (left_first text p b bs l) h
 ]
 
-pub anchor_stands : AnchorReads → (flow : Bool) (level : ℕ) (name : List ℕ) → IsWritableName name → (text : List ℕ) (p : ℕ) (bs : List ℕ) → Left text p (38 ∷ name ++ bs) → Fits white flow level bs → WordStands flow level kinds.Anchor (tokens.anchor name) text p (p + length (38 ∷ name)) bs
+pub anchor_stands : AnchorReads → (flow : Bool) (level : ℕ) (name : List ℕ) → IsWritableName name
+    → (text : List ℕ) (p : ℕ) (bs : List ℕ) → Left text p (38 ∷ name ++ bs)
+    → Fits white flow level bs
+    → WordStands flow level kinds.Anchor (tokens.anchor name) text p (p + length (38 ∷ name)) bs
 anchor_stands names flow level name (some, are) text p bs l fits =
     let h = left_first text p 38 (name ++ bs) l in
     let n = left_more text p 38 (name ++ bs) l in
@@ -135,7 +148,8 @@ anchor_stands names flow level name (some, are) text p bs l fits =
     (in_line flow level kinds.Anchor (tokens.anchor name) text p q bs (sign_begins text p 38 anchor_sign h) (sign_kind flow text p 38 kinds.Anchor anchor_sign h (λ a. anchor_kind flow a))
     (anchor_at_word flow level text p ∙ named tokens.anchor (anchor_at contexts.Anchor text p) name q reads))
 
-abbrev pub anchor_word : AnchorReads → (flow : Bool) (level : ℕ) (spaced : Bool) (name : List ℕ) → IsWritableName name → Spoken flow level
+abbrev pub anchor_word : AnchorReads → (flow : Bool) (level : ℕ) (spaced : Bool) (name : List ℕ)
+    → IsWritableName name → Spoken flow level
 anchor_word names flow level spaced name good = record {
   spaced = spaced;
   own = 38 ∷ name;
@@ -146,7 +160,10 @@ anchor_word names flow level spaced name good = record {
   stands = anchor_stands names flow level name good;
 }
 
-pub alias_stands : AnchorReads → (flow : Bool) (level : ℕ) (name : List ℕ) → IsWritableName name → (text : List ℕ) (p : ℕ) (bs : List ℕ) → Left text p (42 ∷ name ++ bs) → Fits name_end flow level bs → WordStands flow level kinds.Alias (tokens.alias name) text p (p + length (42 ∷ name)) bs
+pub alias_stands : AnchorReads → (flow : Bool) (level : ℕ) (name : List ℕ) → IsWritableName name
+    → (text : List ℕ) (p : ℕ) (bs : List ℕ) → Left text p (42 ∷ name ++ bs)
+    → Fits name_end flow level bs
+    → WordStands flow level kinds.Alias (tokens.alias name) text p (p + length (42 ∷ name)) bs
 alias_stands names flow level name (some, are) text p bs l fits =
     let h = left_first text p 42 (name ++ bs) l in
     let n = left_more text p 42 (name ++ bs) l in
@@ -158,7 +175,8 @@ alias_stands names flow level name (some, are) text p bs l fits =
     (in_line flow level kinds.Alias (tokens.alias name) text p q bs (sign_begins text p 42 alias_sign h) (sign_kind flow text p 42 kinds.Alias alias_sign h (λ a. alias_kind flow a))
     (alias_at_word flow level text p ∙ named tokens.alias (anchor_at contexts.Alias text p) name q reads))
 
-abbrev pub alias_word : AnchorReads → (flow : Bool) (level : ℕ) (spaced : Bool) (name : List ℕ) → IsWritableName name → Spoken flow level
+abbrev pub alias_word : AnchorReads → (flow : Bool) (level : ℕ) (spaced : Bool) (name : List ℕ)
+    → IsWritableName name → Spoken flow level
 alias_word names flow level spaced name good = record {
   spaced = spaced;
   own = 42 ∷ name;
@@ -171,22 +189,35 @@ alias_word names flow level spaced name good = record {
 
 -- ---- tags
 
-tag_at_word : (flow : Bool) (level : ℕ) (text : List ℕ) (p : ℕ) → word_at kinds.Tag flow level text p ≡ tagged (tag_at flow text p)
+tag_at_word : (flow : Bool) (level : ℕ) (text : List ℕ) (p : ℕ)
+    → word_at kinds.Tag flow level text p ≡ tagged (tag_at flow text p)
 unfolding word_at
 tag_at_word flow level text p = refl
 
-said_tag : (r : Result TagText Wrong) (t : TagText) → r ≡ Ok t → tagged r ≡ Ok (record { body = tokens.tag t.handle t.suffix; end = t.end; reached = t.end; broke = false })
+said_tag : (r : Result TagText Wrong) (t : TagText) → r ≡ Ok t
+    → tagged r ≡ Ok (record {
+      body = tokens.tag t.handle t.suffix;
+      end = t.end;
+      reached = t.end;
+      broke = false;
+    })
 said_tag r t e = rw e refl
 
-text_is : (s : Split) (e : ℕ) → tagged (Ok (tag_text s e)) ≡ Ok (record { body = tag_body s; end = e; reached = e; broke = false })
+text_is : (s : Split) (e : ℕ)
+    → tagged (Ok (tag_text s e)) ≡ Ok
+    (record { body = tag_body s; end = e; reached = e; broke = false })
 text_is (shorthand handle suffix) e = refl
 text_is (verbatim t) e = refl
 
-tag_ends : (flow : Bool) (text : List ℕ) (p : ℕ) (bs : List ℕ) → Left text p bs → begins_white bs ≡ true → may_end_tag flow text p ≡ true
+tag_ends : (flow : Bool) (text : List ℕ) (p : ℕ) (bs : List ℕ) → Left text p bs
+    → begins_white bs ≡ true → may_end_tag flow text p ≡ true
 tag_ends flow text p bs l e = or_left (is_blank_or_end text p) (flow && byte text p == 44) (white_stands text p bs l e)
 
 -- a tag that can be read, in its spelling
-pub split_stands : SplitTagsAreRead → ReadableTagsAreAscii → (flow : Bool) (level : ℕ) (s : Split) → IsReadable s → (text : List ℕ) (p : ℕ) (bs : List ℕ) → Left text p (spelled s ++ bs) → Fits white flow level bs → WordStands flow level kinds.Tag (tag_body s) text p (p + length (spelled s)) bs
+pub split_stands : SplitTagsAreRead → ReadableTagsAreAscii → (flow : Bool) (level : ℕ) (s : Split)
+    → IsReadable s → (text : List ℕ) (p : ℕ) (bs : List ℕ) → Left text p (spelled s ++ bs)
+    → Fits white flow level bs
+    → WordStands flow level kinds.Tag (tag_body s) text p (p + length (spelled s)) bs
 split_stands split ascii flow level s may text p bs l fits =
     let x = ascii s may in
     let q = p + length (spelled s) in
@@ -196,7 +227,8 @@ split_stands split ascii flow level s may text p bs l fits =
     in_line flow level kinds.Tag (tag_body s) text p q bs (sign_begins text p 33 mark_sign h) (sign_kind flow text p 33 kinds.Tag mark_sign h (λ a. mark_kind flow a))
     (tag_at_word flow level text p ∙ ap (λ (r : Result TagText Wrong). tagged r) read ∙ text_is s q)
 
-abbrev pub split_word : SplitTagsAreRead → ReadableTagsAreAscii → (flow : Bool) (level : ℕ) (spaced : Bool) (s : Split) → IsReadable s → Spoken flow level
+abbrev pub split_word : SplitTagsAreRead → ReadableTagsAreAscii
+    → (flow : Bool) (level : ℕ) (spaced : Bool) (s : Split) → IsReadable s → Spoken flow level
 split_word split ascii flow level spaced s may = record {
   spaced = spaced;
   own = spelled s;
@@ -207,11 +239,15 @@ split_word split ascii flow level spaced s may = record {
   stands = split_stands split ascii flow level s may;
 }
 
-abbrev pub tag_word : SplitTagsAreRead → ReadableTagsAreAscii → WrittenTagsAreReadable → (flow : Bool) (level : ℕ) (spaced : Bool) (o : Opening) → IsWritableOpening o → (t : List ℕ) → IsWritableTag (Some t) → Spoken flow level
+abbrev pub tag_word : SplitTagsAreRead → ReadableTagsAreAscii → WrittenTagsAreReadable
+    → (flow : Bool) (level : ℕ) (spaced : Bool) (o : Opening) → IsWritableOpening o → (t : List ℕ)
+    → IsWritableTag (Some t) → Spoken flow level
 tag_word split ascii readable flow level spaced o fine t good = split_word split ascii flow level spaced (split_tag o.directives t) (readable o fine.0 fine.1 t good.1 good.0)
 
 -- the `!` of an untagged scalar
-pub mark_stands : LoneMarkReads → (flow : Bool) (level : ℕ) → (text : List ℕ) (p : ℕ) (bs : List ℕ) → Left text p (33 ∷ [] ++ bs) → Fits space flow level bs → WordStands flow level kinds.Tag (tokens.tag [] (33 ∷ [])) text p (p + 1) bs
+pub mark_stands : LoneMarkReads → (flow : Bool) (level : ℕ) → (text : List ℕ) (p : ℕ) (bs : List ℕ)
+    → Left text p (33 ∷ [] ++ bs) → Fits space flow level bs
+    → WordStands flow level kinds.Tag (tokens.tag [] (33 ∷ [])) text p (p + 1) bs
 mark_stands lone flow level text p bs l fits =
     let h = left_first text p 33 bs l in
     let o = left_more text p 33 bs l in
@@ -232,11 +268,18 @@ mark_word lone flow level spaced = record {
 
 -- ---- quotes
 
-double_at_word : (flow : Bool) (level : ℕ) (text : List ℕ) (p : ℕ) → word_at kinds.DoubleQuoted flow level text p ≡ valued (λ v. tokens.scalar v YAML_DOUBLE_QUOTED_SCALAR_STYLE) (double_quoted_at text p)
+double_at_word : (flow : Bool) (level : ℕ) (text : List ℕ) (p : ℕ)
+    → word_at kinds.DoubleQuoted flow level text p
+    ≡ valued (λ v. tokens.scalar v YAML_DOUBLE_QUOTED_SCALAR_STYLE) (double_quoted_at text p)
 unfolding word_at
 double_at_word flow level text p = refl
 
-pub double_stands : (flow : Bool) (level : ℕ) (page : Page) (c : Cursor) (value : List ℕ) (r : ValueIsReadBack double_quoted_at (between_quotes page (chars value)) c value) → (text : List ℕ) (p : ℕ) (bs : List ℕ) → Left text p (encode_utf8_all r.letters ++ bs) → Fits anything flow level bs → WordStands flow level kinds.DoubleQuoted (tokens.scalar value YAML_DOUBLE_QUOTED_SCALAR_STYLE) text p (p + length (encode_utf8_all r.letters)) bs
+pub double_stands : (flow : Bool) (level : ℕ) (page : Page) (c : Cursor) (value : List ℕ)
+    (r : ValueIsReadBack double_quoted_at (between_quotes page (chars value)) c value)
+    → (text : List ℕ) (p : ℕ) (bs : List ℕ) → Left text p (encode_utf8_all r.letters ++ bs)
+    → Fits anything flow level bs
+    → WordStands flow level kinds.DoubleQuoted (tokens.scalar value YAML_DOUBLE_QUOTED_SCALAR_STYLE)
+    text p (p + length (encode_utf8_all r.letters)) bs
 double_stands flow level page c value r text p bs l fits =
     let own = encode_utf8_all r.letters in
     let begins : own ≡ 34 ∷ encode_utf8_all r.inside = ap (λ (ys : List ℕ). encode_utf8_all ys) r.begins ∙ quote_first r.inside in
@@ -245,7 +288,9 @@ double_stands flow level page c value r text p bs l fits =
     in_line flow level kinds.DoubleQuoted (tokens.scalar value YAML_DOUBLE_QUOTED_SCALAR_STYLE) text p q bs (sign_begins text p 34 quote_sign h) (sign_kind flow text p 34 kinds.DoubleQuoted quote_sign h (λ a. quote_kind flow a))
     (double_at_word flow level text p ∙ named (λ v. tokens.scalar v YAML_DOUBLE_QUOTED_SCALAR_STYLE) (double_quoted_at text p) value q (r.read text p (has_at text p own (has_front text p own bs l.has))))
 
-abbrev pub double_word : (flow : Bool) (level : ℕ) (spaced : Bool) (page : Page) (c : Cursor) (value : List ℕ) → ValueIsReadBack double_quoted_at (between_quotes page (chars value)) c value → Spoken flow level
+abbrev pub double_word : (flow : Bool) (level : ℕ) (spaced : Bool) (page : Page) (c : Cursor)
+    (value : List ℕ) → ValueIsReadBack double_quoted_at (between_quotes page (chars value)) c value
+    → Spoken flow level
 double_word flow level spaced page c value r = record {
   spaced = spaced;
   own = encode_utf8_all r.letters;
@@ -259,7 +304,13 @@ double_word flow level spaced page c value r = record {
 single_first : (xs : List ℕ) → encode_utf8_all (39 ∷ xs) ≡ 39 ∷ encode_utf8_all xs
 single_first xs = let e : encode_utf8 39 ≡ 39 ∷ [] = encode_ascii 39 (omega arith) in rw e refl
 
-pub single_stands : ScalarsAreWords → (flow : Bool) (level : ℕ) (page : Page) (c : Cursor) (value : List ℕ) (r : SingleIsBack (between_single page (chars value)) c value) → (text : List ℕ) (p : ℕ) (bs : List ℕ) → Left text p (encode_utf8_all r.letters ++ bs) → Fits unquoted flow level bs → WordStands flow level kinds.SingleQuoted (tokens.scalar value YAML_SINGLE_QUOTED_SCALAR_STYLE) text p (p + length (encode_utf8_all r.letters)) bs
+pub single_stands : ScalarsAreWords
+    → (flow : Bool) (level : ℕ) (page : Page) (c : Cursor) (value : List ℕ)
+    (r : SingleIsBack (between_single page (chars value)) c value)
+    → (text : List ℕ) (p : ℕ) (bs : List ℕ) → Left text p (encode_utf8_all r.letters ++ bs)
+    → Fits unquoted flow level bs
+    → WordStands flow level kinds.SingleQuoted (tokens.scalar value YAML_SINGLE_QUOTED_SCALAR_STYLE)
+    text p (p + length (encode_utf8_all r.letters)) bs
 single_stands words flow level page c value r text p bs l fits =
     let own = encode_utf8_all r.letters in
     let begins : own ≡ 39 ∷ encode_utf8_all r.inside = ap (λ (ys : List ℕ). encode_utf8_all ys) r.begins ∙ single_first r.inside in
@@ -269,7 +320,9 @@ single_stands words flow level page c value r text p bs l fits =
     in_line flow level kinds.SingleQuoted (tokens.scalar value YAML_SINGLE_QUOTED_SCALAR_STYLE) text p q bs (sign_begins text p 39 single_sign h) (sign_kind flow text p 39 kinds.SingleQuoted single_sign h (λ a. single_kind flow a))
     ((words flow level text p value).1 q (r.read text p (has_at text p own (has_front text p own bs l.has)) (λ e. fits (sym (first_byte text q bs o) ∙ e))))
 
-abbrev pub single_word : ScalarsAreWords → (flow : Bool) (level : ℕ) (spaced : Bool) (page : Page) (c : Cursor) (value : List ℕ) → SingleIsBack (between_single page (chars value)) c value → Spoken flow level
+abbrev pub single_word : ScalarsAreWords
+    → (flow : Bool) (level : ℕ) (spaced : Bool) (page : Page) (c : Cursor) (value : List ℕ)
+    → SingleIsBack (between_single page (chars value)) c value → Spoken flow level
 single_word words flow level spaced page c value r = record {
   spaced = spaced;
   own = encode_utf8_all r.letters;
@@ -282,7 +335,8 @@ single_word words flow level spaced page c value r = record {
 
 -- ---- plain scalars
 
-no_hash : (text : List ℕ) (p : ℕ) (bs : List ℕ) → Left text p bs → no_comment bs ≡ true → byte text (p + length (white_of bs)) ≡ 35 → ⊥
+no_hash : (text : List ℕ) (p : ℕ) (bs : List ℕ) → Left text p bs → no_comment bs ≡ true
+    → byte text (p + length (white_of bs)) ≡ 35 → ⊥
 unfolding no_comment white_of
 no_hash text p [] l h e =
     let z : p + 0 ≡ p = omega arith in
@@ -305,7 +359,9 @@ no_hash text p (b ∷ bs) l h e = elim (cases_Bool (is_gap_byte b)) [
     differs : (b : ℕ) → b ≡ 35 → not (b == 35) ≡ true → ⊥
     differs b e f = grind (arith, nat_tests)
 
-begins_by : (text : List ℕ) (q : ℕ) → (is_blank (byte text q)) ≡ false → nat_lt 0 (break_width text q) ≡ false → (byte text q == 35) ≡ false → (q == 0 && is_bom text q) ≡ false → begins_lexeme text q ≡ true
+begins_by : (text : List ℕ) (q : ℕ) → (is_blank (byte text q)) ≡ false
+    → nat_lt 0 (break_width text q) ≡ false → (byte text q == 35) ≡ false
+    → (q == 0 && is_bom text q) ≡ false → begins_lexeme text q ≡ true
 begins_by text q blank wide hash bom = let (gap, tab) = either (byte text q == 32) (byte text q == 9) blank in rw (gap, tab, hash, wide, bom) refl
   where
     either : (a b : Bool) → (a || b) ≡ false → (a ≡ false) × (b ≡ false)
@@ -313,7 +369,9 @@ begins_by text q blank wide hash bom = let (gap, tab) = either (byte text q == 3
     either false true e = absurd (cc)
     either false false e = (refl, refl)
 
-ends_begins : (flow : Bool) (level : ℕ) (text : List ℕ) (p q : ℕ) → ends_plain flow level text q ≡ true → begins_lexeme text p ≡ true → (byte text q ≡ 35 → ⊥) → p ≤ q → begins_lexeme text q ≡ true
+ends_begins : (flow : Bool) (level : ℕ) (text : List ℕ) (p q : ℕ)
+    → ends_plain flow level text q ≡ true → begins_lexeme text p ≡ true → (byte text q ≡ 35 → ⊥)
+    → p ≤ q → begins_lexeme text q ≡ true
 unfolding ends_plain
 ends_begins flow level text p zero h begins hash up = let z : p ≡ 0 = omega (arith, up) in subst (λ n. begins_lexeme text n ≡ true) z begins
 ends_begins flow level text p (suc q) h begins hash up =
@@ -332,7 +390,13 @@ ends_begins flow level text p (suc q) h begins hash up =
     apart : (b : ℕ) → (b ≡ 35 → ⊥) → (b == 35) ≡ false
     apart b f = grind (arith, nat_tests)
 
-pub plain_stands : ScalarsAreWords → (flow : Bool) (level : ℕ) (page : Page) (c : Cursor) (value : List ℕ) (r : PlainIsBack flow level (flow_body page false 32 (chars value) ▹ after_text) c value) → (text : List ℕ) (p : ℕ) (bs : List ℕ) → Left text p (encode_utf8_all r.letters ++ bs) → Fits stop flow level bs → WordStands flow level kinds.Plain (tokens.scalar value YAML_PLAIN_SCALAR_STYLE) text p (p + length (encode_utf8_all r.letters)) bs
+pub plain_stands : ScalarsAreWords
+    → (flow : Bool) (level : ℕ) (page : Page) (c : Cursor) (value : List ℕ)
+    (r : PlainIsBack flow level (flow_body page false 32 (chars value) ▹ after_text) c value)
+    → (text : List ℕ) (p : ℕ) (bs : List ℕ) → Left text p (encode_utf8_all r.letters ++ bs)
+    → Fits stop flow level bs
+    → WordStands flow level kinds.Plain (tokens.scalar value YAML_PLAIN_SCALAR_STYLE) text p
+    (p + length (encode_utf8_all r.letters)) bs
 plain_stands words flow level page c value r text p bs l fits =
     let own = encode_utf8_all r.letters in
     let (stops, calm) = fits in
@@ -359,7 +423,10 @@ plain_stands words flow level page c value r text p bs l fits =
     none_more : (e : ℕ) (gap : List ℕ) → gap ≡ [] → e + length gap ≡ e
     none_more e gap h = let z : length gap ≡ 0 = ap (λ (xs : List ℕ). length xs) h in omega (arith, z)
 
-abbrev pub plain_word : ScalarsAreWords → (flow : Bool) (level : ℕ) (spaced : Bool) (page : Page) (c : Cursor) (value : List ℕ) → PlainIsBack flow level (flow_body page false 32 (chars value) ▹ after_text) c value → Spoken flow level
+abbrev pub plain_word : ScalarsAreWords
+    → (flow : Bool) (level : ℕ) (spaced : Bool) (page : Page) (c : Cursor) (value : List ℕ)
+    → PlainIsBack flow level (flow_body page false 32 (chars value) ▹ after_text) c value
+    → Spoken flow level
 plain_word words flow level spaced page c value r = record {
   spaced = spaced;
   own = encode_utf8_all r.letters;

@@ -26,14 +26,17 @@ pub record Stops (flow : Bool) (level : ℕ) (text : List ℕ) (p : ℕ) : Type 
   pub width : break_width text p ≡ 0
   pub ends : ends_at flow level text p ≡ true
 
-pub stops : (flow : Bool) (level : ℕ) (text : List ℕ) (p : ℕ) → ends_plain flow level text p ≡ true → Stops flow level text p
+pub stops : (flow : Bool) (level : ℕ) (text : List ℕ) (p : ℕ) → ends_plain flow level text p ≡ true
+    → Stops flow level text p
 unfolding ends_plain
 stops flow level text p h =
     let (blank, more) = and_parts (not (is_blank (byte text p))) (not (nat_lt 0 (break_width text p)) && ends_at flow level text p) h in
     let (width, ends) = and_parts (not (nat_lt 0 (break_width text p))) (ends_at flow level text p) more in
     record { blank = not-true (is_blank (byte text p)) blank; width = none (break_width text p) (not-true (nat_lt 0 (break_width text p)) width); ends = ends }
 
-step : (n : ℕ) (flow : Bool) (level : ℕ) (text : List ℕ) (p : ℕ) (s : PlainSpot) → spot_at flow level text p ≡ s → words (suc n) flow level text p ≡ follows (words n flow level text) p s
+step : (n : ℕ) (flow : Bool) (level : ℕ) (text : List ℕ) (p : ℕ) (s : PlainSpot)
+    → spot_at flow level text p ≡ s
+    → words (suc n) flow level text p ≡ follows (words n flow level text) p s
 unfolding words
 step n flow level text p s h = ap (λ x. follows (words n flow level text) p x) h
 
@@ -43,13 +46,17 @@ no_tab b x h = grind (arith, nat_tests)
 space_blank : (b : ℕ) → b ≡ 32 → is_blank b ≡ true
 space_blank b h = grind (arith, nat_tests)
 
-with_space : (n : ℕ) (flow : Bool) (level : ℕ) (text : List ℕ) (p e : ℕ) (broke : Bool) → byte text p ≡ 32 → words n flow level text (p + 1) ≡ Ok (none_to e broke) → words (suc n) flow level text p ≡ Ok (none_to e broke)
+with_space : (n : ℕ) (flow : Bool) (level : ℕ) (text : List ℕ) (p e : ℕ) (broke : Bool)
+    → byte text p ≡ 32 → words n flow level text (p + 1) ≡ Ok (none_to e broke)
+    → words (suc n) flow level text p ≡ Ok (none_to e broke)
 with_space n flow level text p e broke h rest =
     let parts = space_parts (byte text p) (byte text (p + 1)) (byte text (p + 2)) h in
     step n flow level text p (Takes (Blank (byte text p)) (p + 1)) (spot_blank flow level text p parts.1 (space_blank (byte text p) h) (no_tab (byte text p) (leads text p && nat_lt (column_at text p) level) h))
     ∙ ap (λ (r : Result Words Wrong). words_from (Blank (byte text p)) (p + 1) r) rest
 
-with_width : (n : ℕ) (flow : Bool) (level : ℕ) (text : List ℕ) (p w e : ℕ) (broke : Bool) → break_width text p ≡ suc w → words n flow level text (p + suc w) ≡ Ok (none_to e broke) → words (suc n) flow level text p ≡ Ok (none_to e true)
+with_width : (n : ℕ) (flow : Bool) (level : ℕ) (text : List ℕ) (p w e : ℕ) (broke : Bool)
+    → break_width text p ≡ suc w → words n flow level text (p + suc w) ≡ Ok (none_to e broke)
+    → words (suc n) flow level text p ≡ Ok (none_to e true)
 with_width n flow level text p w e broke h rest =
     let some : 0 < break_width text p = omega (arith, h) in
     let q = p + break_width text p in
@@ -80,13 +87,19 @@ abbrev Reads : ℕ → Type 0
 Reads k = (n : ℕ) (flow : Bool) (level : ℕ) (text : List ℕ) (p : ℕ) (gap : List ℕ) → length gap ≤ k → length gap < n → Has text p gap → are_gap gap ≡ true → Stops flow level text (p + length gap)
     → words n flow level text p ≡ Ok (none_to (p + length gap) (has_break gap))
 
-single : (k : ℕ) → Reads k → (n : ℕ) (flow : Bool) (level : ℕ) (text : List ℕ) (p : ℕ) (bs : List ℕ) → length bs ≤ k → length bs < n → break_width text p ≡ 1 → Has text (p + 1) bs → are_gap bs ≡ true
-    → Stops flow level text (p + 1 + length bs) → words (suc n) flow level text p ≡ Ok (none_to (p + 1 + length bs) true)
+single : (k : ℕ) → Reads k → (n : ℕ) (flow : Bool) (level : ℕ) (text : List ℕ) (p : ℕ) (bs : List ℕ)
+    → length bs ≤ k → length bs < n → break_width text p ≡ 1 → Has text (p + 1) bs
+    → are_gap bs ≡ true
+    → Stops flow level text (p + 1 + length bs)
+    → words (suc n) flow level text p ≡ Ok (none_to (p + 1 + length bs) true)
 single k all n flow level text p bs few room width h are stop =
     with_width n flow level text p 0 (p + 1 + length bs) (has_break bs) width (all n flow level text (p + 1) bs few room h are stop)
 
-returns : (k : ℕ) → Reads k → (n : ℕ) (flow : Bool) (level : ℕ) (text : List ℕ) (p : ℕ) (bs : List ℕ) → length bs ≤ k → length bs < n → byte text p ≡ 13 → Has text (p + 1) bs → are_gap bs ≡ true
-    → Stops flow level text (p + 1 + length bs) → words (suc n) flow level text p ≡ Ok (none_to (p + 1 + length bs) true)
+returns : (k : ℕ) → Reads k
+    → (n : ℕ) (flow : Bool) (level : ℕ) (text : List ℕ) (p : ℕ) (bs : List ℕ) → length bs ≤ k
+    → length bs < n → byte text p ≡ 13 → Has text (p + 1) bs → are_gap bs ≡ true
+    → Stops flow level text (p + 1 + length bs)
+    → words (suc n) flow level text p ≡ Ok (none_to (p + 1 + length bs) true)
 returns k all n flow level text p [] few room e h are stop =
     let z : p + 1 + 0 ≡ p + 1 = omega arith in
     let here = subst (λ q. Stops flow level text q) z stop in
@@ -129,6 +142,7 @@ reads (suc k) (suc n) flow level text p (b ∷ bs) few room (e, h) are stop =
       | inr (inr s) ↦ rw (s, end) (returns k (reads k) n flow level text p bs (omega arith) (omega arith) (e ∙ s) h back after)
     ]
 
-pub gap_words : (n : ℕ) (flow : Bool) (level : ℕ) (text : List ℕ) (p : ℕ) (gap : List ℕ) → length gap < n → Has text p gap → are_gap gap ≡ true → Stops flow level text (p + length gap)
+pub gap_words : (n : ℕ) (flow : Bool) (level : ℕ) (text : List ℕ) (p : ℕ) (gap : List ℕ)
+    → length gap < n → Has text p gap → are_gap gap ≡ true → Stops flow level text (p + length gap)
     → words n flow level text p ≡ Ok (none_to (p + length gap) (has_break gap))
 gap_words n flow level text p gap room h are stop = reads (length gap) n flow level text p gap (omega arith) room h are stop

@@ -42,11 +42,13 @@ quote_byte false = 0
 no_printable : (x k : ℕ) → is_printable x ≡ true → is_printable k ≡ false → (x == k) ≡ false
 no_printable x k s n = ne_eqb x k (λ e. true≢false (sym s ∙ ap (λ t. is_printable t) e ∙ n))
 
-raw_test : (s a b d e f z q k m : Bool) → s ≡ true → a ≡ false → b ≡ false → d ≡ false → e ≡ false → f ≡ false → z ≡ false → q ≡ false → m ≡ false
+raw_test : (s a b d e f z q k m : Bool) → s ≡ true → a ≡ false → b ≡ false → d ≡ false → e ≡ false
+    → f ≡ false → z ≡ false → q ≡ false → m ≡ false
     → (s && not ((a || (b || (d || (e || f)))) || (z || (q || (m && k))))) ≡ true
 raw_test s a b d e f z q k m g h i j l r n o t = rw (g, h, i, j, l, r, n, o, t) refl
 
-raw_may : (quote : Bool) (x : ℕ) → scalar x ≡ true → is_printable x ≡ true → is_break x ≡ false → (quote && x == 39) ≡ false → may_be_raw (quote_byte quote) x ≡ true
+raw_may : (quote : Bool) (x : ℕ) → scalar x ≡ true → is_printable x ≡ true → is_break x ≡ false
+    → (quote && x == 39) ≡ false → may_be_raw (quote_byte quote) x ≡ true
 raw_may quote x s p inside q =
     let p29 = (or_parts _ (x == 0x2029) inside).1 in
     let t29 = (or_parts _ (x == 0x2029) inside).0 in
@@ -76,15 +78,21 @@ unblank x p n = both (x == 32) (x == 9) n (no_printable x 9 p refl)
 abbrev pub seat : Page → Bool → ℕ → ℕ → List ℕ → Layout
 seat page quote before x xs = text_char page quote (cuts_at page before x xs) x
 
-cut_is : (page : Page) (quote b : Bool) (x : ℕ) (c : Cursor) (rest : Rest) → b ≡ true → is_past page.width c ≡ true → text_char page quote b x c rest ≡ line page.line_break page.indentation c rest
+cut_is : (page : Page) (quote b : Bool) (x : ℕ) (c : Cursor) (rest : Rest) → b ≡ true
+    → is_past page.width c ≡ true
+    → text_char page quote b x c rest ≡ line page.line_break page.indentation c rest
 cut_is page quote true x c rest e p = cond_true (is_past page.width c) (line page.line_break page.indentation c rest) (char x c rest) p
 cut_is page quote false x c rest e p = absurd (true≢false (sym e))
 
-uncut_is : (page : Page) (quote b : Bool) (x : ℕ) (c : Cursor) (rest : Rest) → (b && is_past page.width c) ≡ false → (quote && x == 39) ≡ false → text_char page quote b x c rest ≡ char x c rest
+uncut_is : (page : Page) (quote b : Bool) (x : ℕ) (c : Cursor) (rest : Rest)
+    → (b && is_past page.width c) ≡ false → (quote && x == 39) ≡ false
+    → text_char page quote b x c rest ≡ char x c rest
 uncut_is page quote true x c rest e q = cond_false (is_past page.width c) (line page.line_break page.indentation c rest) (char x c rest) e
 uncut_is page quote false x c rest e q = ap (λ t. when t (char 39) c (λ d. char x d rest)) q
 
-doubled_is : (page : Page) (quote b : Bool) (x : ℕ) (c : Cursor) (rest : Rest) → b ≡ false → (quote && x == 39) ≡ true → text_char page quote b x c rest ≡ letter 39 ∷ letter x ∷ rest (moved_by (moved_by c))
+doubled_is : (page : Page) (quote b : Bool) (x : ℕ) (c : Cursor) (rest : Rest) → b ≡ false
+    → (quote && x == 39) ≡ true
+    → text_char page quote b x c rest ≡ letter 39 ∷ letter x ∷ rest (moved_by (moved_by c))
 doubled_is page quote true x c rest e q = absurd (true≢false e)
 doubled_is page quote false x c rest e q = ap (λ t. when t (char 39) c (λ d. char x d rest)) q
 
@@ -107,10 +115,12 @@ pub record Step (page : Page) (quote : Bool) (before x : ℕ) (xs : List ℕ) (c
 -- how the last part stands to the character before
 pub record Behind (before : ℕ) (c : Cursor) (last : QuotedPart) (value : List ℕ) : Type 0 where
   pub blank : is_raw_blank last ≡ true → before ≡ 32
-  pub turn : is_turn last ≡ true → ((before ≡ 32) ⊎ (is_break before ≡ true)) × ((first value == 32) ≡ false)
+  pub turn : is_turn last ≡ true
+      → ((before ≡ 32) ⊎ (is_break before ≡ true)) × ((first value == 32) ≡ false)
   pub bare : (before == 32) ≡ false → is_break before ≡ false → c.bare ≡ false
 
-fold_may : (quote : Bool) (b : LineBreak) (n : ℕ) → nat_lt 0 n ≡ true → MayStand (quote_byte quote) (fold (record { end = end_of b; spaces = n }) [])
+fold_may : (quote : Bool) (b : LineBreak) (n : ℕ) → nat_lt 0 n ≡ true
+    → MayStand (quote_byte quote) (fold (record { end = end_of b; spaces = n }) [])
 unfolding may_turn
 fold_may quote b n h = h
 
@@ -121,20 +131,24 @@ record CutNeeds (page : Page) (before x : ℕ) (xs : List ℕ) : Type 0 where
   behind : (before == 32) ≡ false
   next : (first xs == 32) ≡ false
 
-cut_needs : (page : Page) (before x : ℕ) (xs : List ℕ) → cuts_at page before x xs ≡ true → CutNeeds page before x xs
+cut_needs : (page : Page) (before x : ℕ) (xs : List ℕ) → cuts_at page before x xs ≡ true
+    → CutNeeds page before x xs
 cut_needs page before x xs e =
     let a = (and_parts page.cuts _ e).1 in
     let b = (and_parts (x == 32) _ a).1 in
     let d = (and_parts (not (before == 32)) _ b).1 in
     record { cuts = (and_parts page.cuts _ e).0; space = eqb-true x 32 (and_parts (x == 32) _ a).0; behind = not-true (before == 32) (and_parts (not (before == 32)) _ b).0; next = not-true (first xs == 32) (and_parts (not (first xs == 32)) _ d).0 }
 
-pub fold_follows : (last q : QuotedPart) → is_fold q ≡ true → is_raw_blank q ≡ false → is_raw_blank last ≡ false → is_turn last ≡ false → may_follow last q ≡ true
+pub fold_follows : (last q : QuotedPart) → is_fold q ≡ true → is_raw_blank q ≡ false
+    → is_raw_blank last ≡ false → is_turn last ≡ false → may_follow last q ≡ true
 fold_follows last q a b d e = rw (a, b, d, e) refl
 
-other_follows : (last q : QuotedPart) → is_fold q ≡ false → is_raw_blank q ≡ false → may_follow last q ≡ true
+other_follows : (last q : QuotedPart) → is_fold q ≡ false → is_raw_blank q ≡ false
+    → may_follow last q ≡ true
 other_follows last q a b = rw (a, b) refl
 
-blank_follows : (last q : QuotedPart) → is_fold q ≡ false → is_turn last ≡ false → may_follow last q ≡ true
+blank_follows : (last q : QuotedPart) → is_fold q ≡ false → is_turn last ≡ false
+    → may_follow last q ≡ true
 blank_follows last q a e = rw (a, e) (no_and (is_raw_blank q))
   where
     no_and : (b : Bool) → not (b && false) ≡ true
@@ -149,7 +163,10 @@ own_plain CrLf = refl
 lined_column : (n : ℕ) (c : Cursor) → 0 < n → (after_blanks n (line_start c)).column ≡ 0 → ⊥
 lined_column n c some z = let e = blanks_column n (line_start c) in omega (arith, some, z, e)
 
-step_cut : (page : Page) (quote : Bool) (before x : ℕ) (xs : List ℕ) (c : Cursor) (last : QuotedPart) → (page.cuts ≡ true → 0 < page.indentation) → Shows x (first xs) → Behind before c last (x ∷ xs) → is_break before ≡ false → cuts_at page before x xs ≡ true → is_past page.width c ≡ true
+step_cut : (page : Page) (quote : Bool) (before x : ℕ) (xs : List ℕ) (c : Cursor)
+    (last : QuotedPart) → (page.cuts ≡ true → 0 < page.indentation) → Shows x (first xs)
+    → Behind before c last (x ∷ xs) → is_break before ≡ false → cuts_at page before x xs ≡ true
+    → is_past page.width c ≡ true
     → Step page quote before x xs c last
 step_cut page quote before x xs c last deep s h inside m p =
     let needs = cut_needs page before x xs m in
@@ -177,7 +194,9 @@ step_cut page quote before x xs c last deep s h inside m p =
 moved_on : (n : ℕ) → n + 1 ≡ 0 → ⊥
 moved_on n e = omega (arith, e)
 
-step_doubled : (page : Page) (quote : Bool) (before x : ℕ) (xs : List ℕ) (c : Cursor) (last : QuotedPart) → (quote && x == 39) ≡ true → cuts_at page before x xs ≡ false → Step page quote before x xs c last
+step_doubled : (page : Page) (quote : Bool) (before x : ℕ) (xs : List ℕ) (c : Cursor)
+    (last : QuotedPart) → (quote && x == 39) ≡ true → cuts_at page before x xs ≡ false
+    → Step page quote before x xs c last
 unfolding in_front
 step_doubled page quote before x xs c last q m =
     let same = eqb-true x 39 (and_parts quote (x == 39) q).1 in
@@ -200,7 +219,10 @@ step_doubled page quote before x xs c last q m =
       kept = refl;
     }
 
-step_raw : (page : Page) (quote : Bool) (before x : ℕ) (xs : List ℕ) (c : Cursor) (last : QuotedPart) → Shows x (first xs) → is_break x ≡ false → Behind before c last (x ∷ xs) → (quote && x == 39) ≡ false → (cuts_at page before x xs && is_past page.width c) ≡ false → Step page quote before x xs c last
+step_raw : (page : Page) (quote : Bool) (before x : ℕ) (xs : List ℕ) (c : Cursor)
+    (last : QuotedPart) → Shows x (first xs) → is_break x ≡ false → Behind before c last (x ∷ xs)
+    → (quote && x == 39) ≡ false → (cuts_at page before x xs && is_past page.width c) ≡ false
+    → Step page quote before x xs c last
 unfolding in_front
 step_raw page quote before x xs c last s inside h q m = record {
   part = raw x;
@@ -221,16 +243,21 @@ step_raw page quote before x xs c last s inside h q m = record {
   kept = refl;
 }
 
-quote_uncut : (page : Page) (quote : Bool) (before x : ℕ) (xs : List ℕ) → (quote && x == 39) ≡ true → cuts_at page before x xs ≡ false
+quote_uncut : (page : Page) (quote : Bool) (before x : ℕ) (xs : List ℕ) → (quote && x == 39) ≡ true
+    → cuts_at page before x xs ≡ false
 quote_uncut page quote before x xs q =
     bool_cases (cuts_at page before x xs)
     (λ t. let needs = cut_needs page before x xs t in absurd (true≢false (sym (and_parts quote (x == 39) q).1 ∙ ap (λ k. k == 39) needs.space)))
     (λ f. f)
 
-space_first : (page : Page) (before x : ℕ) (xs : List ℕ) → (x == 32) ≡ false → cuts_at page before x xs ≡ false
+space_first : (page : Page) (before x : ℕ) (xs : List ℕ) → (x == 32) ≡ false
+    → cuts_at page before x xs ≡ false
 space_first page before x xs n = bool_cases (cuts_at page before x xs) (λ t. let needs = cut_needs page before x xs t in absurd (true≢false (sym (ap (λ k. k == 32) needs.space) ∙ n))) (λ f. f)
 
-pub step : (page : Page) (quote : Bool) (before x : ℕ) (xs : List ℕ) (c : Cursor) (last : QuotedPart) → (page.cuts ≡ true → 0 < page.indentation) → Shows x (first xs) → is_break x ≡ false → Behind before c last (x ∷ xs) → (is_break before && x == 32) ≡ false → Step page quote before x xs c last
+pub step : (page : Page) (quote : Bool) (before x : ℕ) (xs : List ℕ) (c : Cursor)
+    (last : QuotedPart) → (page.cuts ≡ true → 0 < page.indentation) → Shows x (first xs)
+    → is_break x ≡ false → Behind before c last (x ∷ xs) → (is_break before && x == 32) ≡ false
+    → Step page quote before x xs c last
 step page quote before x xs c last deep s inside h eqb-false =
     bool_cases (quote && x == 39)
     (λ q. step_doubled page quote before x xs c last q (quote_uncut page quote before x xs q))

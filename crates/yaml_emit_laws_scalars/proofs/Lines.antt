@@ -42,18 +42,21 @@ pub blanks_kept : (n : ℕ) (c : Cursor) → (after_blanks n c).kept ≡ c.kept
 blanks_kept zero c = refl
 blanks_kept (suc n) c = blanks_kept n (spaced_by c)
 
-blanks_are : (n : ℕ) (c : Cursor) (rest : Rest) → blanks n c rest ≡ in_front (replicate n 32) (rest (after_blanks n c))
+blanks_are : (n : ℕ) (c : Cursor) (rest : Rest)
+    → blanks n c rest ≡ in_front (replicate n 32) (rest (after_blanks n c))
 unfolding blanks in_front
 blanks_are zero c rest = refl
 blanks_are (suc n) c rest = ap (λ t. letter 32 ∷ t) (blanks_are n (spaced_by c) rest)
 
-pub new_line_is : (b : LineBreak) (c : Cursor) (rest : Rest) → new_line b c rest ≡ in_front (break_text b) (rest (line_start c))
+pub new_line_is : (b : LineBreak) (c : Cursor) (rest : Rest)
+    → new_line b c rest ≡ in_front (break_text b) (rest (line_start c))
 unfolding in_front
 new_line_is Lf c rest = refl
 new_line_is Cr c rest = refl
 new_line_is CrLf c rest = refl
 
-indent_is : (n : ℕ) (c : Cursor) (rest : Rest) → c.column ≡ 0 → indent_to n c rest ≡ in_front (replicate n 32) (rest (after_blanks n c))
+indent_is : (n : ℕ) (c : Cursor) (rest : Rest) → c.column ≡ 0
+    → indent_to n c rest ≡ in_front (replicate n 32) (rest (after_blanks n c))
 indent_is n c rest e =
     let z : n - c.column ≡ n = omega (arith, e) in
     ap (λ k. blanks k c rest) z ∙ blanks_are n c rest
@@ -63,7 +66,9 @@ broken false b d e = refl
 broken true b d e = absurd (true≢false e)
 
 -- behind a character a line begins with a break
-pub line_is : (b : LineBreak) (n : ℕ) (c : Cursor) (rest : Rest) → c.bare ≡ false → line b n c rest ≡ in_front (break_text b ++ replicate n 32) (rest (after_blanks n (line_start c)))
+pub line_is : (b : LineBreak) (n : ℕ) (c : Cursor) (rest : Rest) → c.bare ≡ false
+    → line b n c rest ≡ in_front (break_text b ++ replicate n 32)
+    (rest (after_blanks n (line_start c)))
 unfolding line
 line_is b n c rest e =
     let due : must_break n c ≡ true = broken c.bare (nat_lt n c.column) (c.column == n && not c.white) e in
@@ -87,7 +92,8 @@ none_less : (n m : ℕ) → m ≡ 0 → nat_lt n m ≡ false
 none_less n m e = grind (arith, nat_tests)
 
 -- there it is spaces alone
-pub start_is : (b : LineBreak) (n : ℕ) (c : Cursor) (rest : Rest) → Starts c → line b n c rest ≡ in_front (replicate n 32) (rest (after_blanks n c))
+pub start_is : (b : LineBreak) (n : ℕ) (c : Cursor) (rest : Rest) → Starts c
+    → line b n c rest ≡ in_front (replicate n 32) (rest (after_blanks n c))
 unfolding line
 start_is b n c rest s =
     let none : must_break n c ≡ false = unbroken c.bare (nat_lt n c.column) c.white (c.column == n) s.bare (none_less n c.column s.column) s.white in
@@ -99,11 +105,13 @@ start_is b n c rest s =
 pub record BreakOf (b : LineBreak) (x : ℕ) : Type 0 where
   pub end : LineEnd
   pub letters : List ℕ
-  pub writes : (c : Cursor) (rest : Rest) → value_break b x c rest ≡ in_front letters (rest (line_start c))
+  pub writes : (c : Cursor) (rest : Rest)
+      → value_break b x c rest ≡ in_front letters (rest (line_start c))
   pub bytes : encode_utf8_all letters ≡ end_bytes end
   pub means : end_means end ≡ encode_utf8 x
   pub fits : (is_return end && is_feed_end (end_of b)) ≡ false
-  pub apart : (e : LineEnd) → (is_return e && is_feed_end (end_of b)) ≡ false → (is_return e && is_feed_end end) ≡ false
+  pub apart : (e : LineEnd) → (is_return e && is_feed_end (end_of b)) ≡ false
+      → (is_return e && is_feed_end end) ≡ false
   -- one that doesn't read as LF stays in front of others
   pub stays : (x == 10) ≡ false → (ts : List ℕ) → gap (end_means end) ts ≡ end_means end ++ ts
 
@@ -170,7 +178,8 @@ ps_is b = record {
   stays = λ e ts. gap_stays 0xA9 ts;
 }
 
-which_break : (x : ℕ) → is_break x ≡ true → is_printable x ≡ true → (x ≡ 10) ⊎ ((x ≡ 0x2028) ⊎ (x ≡ 0x2029))
+which_break : (x : ℕ) → is_break x ≡ true → is_printable x ≡ true
+    → (x ≡ 10) ⊎ ((x ≡ 0x2028) ⊎ (x ≡ 0x2029))
 which_break x h p =
     bool_cases (x == 10) (λ e. inl (eqb-true x 10 e)) (λ a.
     bool_cases (x == 0x2028) (λ e. inr (inl (eqb-true x 0x2028 e))) (λ b.

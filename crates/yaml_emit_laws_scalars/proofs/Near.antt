@@ -30,7 +30,8 @@ size xs = length (encode_utf8_all xs)
 
 -- ---- composed
 
-pub near_on : (a b : Layout) (c : Cursor) (n m : ℕ) (r : StaysNear a c n) → StaysNear b r.behind m → StaysNear (a ▹ b) c (n + m)
+pub near_on : (a b : Layout) (c : Cursor) (n m : ℕ) (r : StaysNear a c n) → StaysNear b r.behind m
+    → StaysNear (a ▹ b) c (n + m)
 near_on a b c n m r s =
     let k = r.few in
     let l = s.few in
@@ -49,13 +50,17 @@ near_on a b c n m r s =
 pub near_most : (a : Layout) (c : Cursor) (n m : ℕ) → n ≤ m → StaysNear a c n → StaysNear a c m
 near_most a c n m l r = record { shown = r.shown; behind = r.behind; written = r.written; inside = r.inside; few = let k = r.few in omega (arith, k, l) }
 
-pub near_to : (a : Layout) (c d : Cursor) → ((rest : Rest) → a c rest ≡ rest d) → (n : ℕ) → StaysNear a c n
+pub near_to : (a : Layout) (c d : Cursor) → ((rest : Rest) → a c rest ≡ rest d) → (n : ℕ)
+    → StaysNear a c n
 near_to a c d e n = record { shown = []; behind = d; written = λ rest. ap (λ t. bytes t) (e rest); inside = refl; few = omega arith }
 
-pub near_shown : (a : Layout) (c d : Cursor) (xs : List ℕ) (n : ℕ) → ((rest : Rest) → a c rest ≡ in_front xs (rest d)) → is_one_line xs ≡ true → size xs ≤ n → StaysNear a c n
+pub near_shown : (a : Layout) (c d : Cursor) (xs : List ℕ) (n : ℕ)
+    → ((rest : Rest) → a c rest ≡ in_front xs (rest d)) → is_one_line xs ≡ true → size xs ≤ n
+    → StaysNear a c n
 near_shown a c d xs n e l f = record { shown = xs; behind = d; written = λ rest. ap (λ t. bytes t) (e rest) ∙ front_encodes xs (rest d); inside = l; few = f }
 
-pub near_when : (b : Bool) (a : Layout) (c : Cursor) (n : ℕ) → (b ≡ true → StaysNear a c n) → StaysNear (when b a) c n
+pub near_when : (b : Bool) (a : Layout) (c : Cursor) (n : ℕ) → (b ≡ true → StaysNear a c n)
+    → StaysNear (when b a) c n
 near_when true a c n f = f refl
 near_when false a c n f = near_to stay c c (λ rest. refl) n
 
@@ -73,7 +78,8 @@ calm_size (x ∷ xs) (a, b) =
     ap (λ (bs : List ℕ). length (bs ++ encode_utf8_all xs)) one ∙ ap (λ n. suc n) more
 
 -- a character
-pub near_char : (x : ℕ) (c : Cursor) → is_break x ≡ false → StaysNear (char x) c (length (encode_utf8 x))
+pub near_char : (x : ℕ) (c : Cursor) → is_break x ≡ false
+    → StaysNear (char x) c (length (encode_utf8 x))
 near_char x c e = let same = one_size x in near_shown (char x) c (moved_by c) (x ∷ []) (length (encode_utf8 x)) (λ rest. sym (front_one x (rest (moved_by c)))) (and_from (not (is_break x)) true (ap not e) refl) (omega (arith, same))
 
 pub near_sign : (x : ℕ) (c : Cursor) → is_break x ≡ false → x < 128 → StaysNear (char x) c 1
@@ -135,14 +141,17 @@ some_bytes c =
       ]
     ]
 
-flow_is : (page : Page) (quote : Bool) (before x : ℕ) (xs : List ℕ) → is_break x ≡ false → is_break before ≡ false → page.cuts ≡ false → flow_char page quote before x xs ≡ (stay ▹ quote_char quote x)
+flow_is : (page : Page) (quote : Bool) (before x : ℕ) (xs : List ℕ) → is_break x ≡ false
+    → is_break before ≡ false → page.cuts ≡ false
+    → flow_char page quote before x xs ≡ (stay ▹ quote_char quote x)
 unfolding flow_char
 flow_is page quote before x xs e f g =
     cond_false (is_break x) _ _ e
     ∙ ap (λ t. when t (line page.line_break page.indentation) ▹ text_char page quote (cuts_at page before x xs) x) f
     ∙ ap (λ t. stay ▹ text_char page quote t x) (ap (λ t. t && (x == 32 && (not (before == 32) && (not (first xs == 32) && not (is_empty xs))))) g)
 
-near_quoted : (quote : Bool) (x : ℕ) (c : Cursor) → is_break x ≡ false → StaysNear (stay ▹ quote_char quote x) c (2 * length (encode_utf8 x))
+near_quoted : (quote : Bool) (x : ℕ) (c : Cursor) → is_break x ≡ false
+    → StaysNear (stay ▹ quote_char quote x) c (2 * length (encode_utf8 x))
 near_quoted quote x c e =
     let some = some_bytes x in
     let n = length (encode_utf8 x) in
@@ -152,7 +161,9 @@ near_quoted quote x c e =
 more_size : (x : ℕ) (xs : List ℕ) → size (x ∷ xs) ≡ length (encode_utf8 x) + size xs
 more_size x xs = length-append (encode_utf8 x) (encode_utf8_all xs)
 
-pub near_flow : (page : Page) (quote : Bool) (before : ℕ) (xs : List ℕ) (c : Cursor) → page.cuts ≡ false → is_break before ≡ false → is_one_line xs ≡ true → StaysNear (flow_body page quote before xs) c (2 * size xs)
+pub near_flow : (page : Page) (quote : Bool) (before : ℕ) (xs : List ℕ) (c : Cursor)
+    → page.cuts ≡ false → is_break before ≡ false → is_one_line xs ≡ true
+    → StaysNear (flow_body page quote before xs) c (2 * size xs)
 unfolding flow_body
 near_flow page quote before [] c g f l = near_when (is_break before) (line page.line_break page.indentation) c (2 * 0) (λ t. absurd (true≢false (sym t ∙ f)))
 near_flow page quote before (x ∷ xs) c g f l =
@@ -194,7 +205,8 @@ escape_length c =
       ]
     ]
 
-near_escaped : (unicode : Bool) (x : ℕ) (c : Cursor) → scalar x ≡ true → StaysNear (escaped unicode x) c (4 * length (encode_utf8 x))
+near_escaped : (unicode : Bool) (x : ℕ) (c : Cursor) → scalar x ≡ true
+    → StaysNear (escaped unicode x) c (4 * length (encode_utf8 x))
 near_escaped unicode x c s =
     let n = 4 * length (encode_utf8 x) in
     elim (cases_Bool (needs_escape unicode x)) [
@@ -204,7 +216,8 @@ near_escaped unicode x c s =
           (near_most (char x) c (length (encode_utf8 x)) n (omega arith) (near_char x c (not-true (is_break x) (raw_inside unicode x e))))
     ]
 
-pub near_body : (page : Page) (before : ℕ) (xs : List ℕ) (c : Cursor) → page.cuts ≡ false → all_scalars xs ≡ true → StaysNear (quoted_body page before xs) c (4 * size xs)
+pub near_body : (page : Page) (before : ℕ) (xs : List ℕ) (c : Cursor) → page.cuts ≡ false
+    → all_scalars xs ≡ true → StaysNear (quoted_body page before xs) c (4 * size xs)
 unfolding quoted_body
 near_body page before [] c e g = near_to stay c c (λ rest. refl) (4 * 0)
 near_body page before (x ∷ xs) c e g =

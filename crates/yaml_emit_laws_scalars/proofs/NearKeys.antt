@@ -84,7 +84,8 @@ byte_above flow b =
       | inr e ↦ subst (λ (xs : List ℕ). Above xs × (length xs ≤ 3)) (sym (cond_false (keeps_byte flow b) (b ∷ []) (37 ∷ hex_2 b) e)) ((omega arith, (digit_above (b / 16), (digit_above (b % 16), tt))), omega arith)
     ]
 
-uri_above : (flow : Bool) (bs : List ℕ) → Above (uri_text flow bs) × (length (uri_text flow bs) ≤ 3 * length bs)
+uri_above : (flow : Bool) (bs : List ℕ)
+    → Above (uri_text flow bs) × (length (uri_text flow bs) ≤ 3 * length bs)
 unfolding uri_text
 uri_above flow [] = (tt, omega arith)
 uri_above flow (b ∷ bs) =
@@ -99,7 +100,8 @@ handle_above : (handle : List ℕ) → IsShaped handle → Above handle
 handle_above handle (inl e) = subst (λ (xs : List ℕ). Above xs) (sym e) (omega arith, tt)
 handle_above handle (inr (name, e, are)) = subst (λ (xs : List ℕ). Above xs) (sym e) (omega arith, above_append name (33 ∷ []) (alphas_above name are) (omega arith, tt))
 
-split_above : (split : Split) → IsReadable split → Above (spelled split) × (length (spelled split) ≤ 3 * split_size split + 3)
+split_above : (split : Split) → IsReadable split
+    → Above (spelled split) × (length (spelled split) ≤ 3 * split_size split + 3)
 unfolding spelled
 split_above (shorthand handle suffix) (shaped, u, some) =
     let uri = uri_above false suffix in
@@ -117,11 +119,15 @@ marked_ascii xs m = subst (λ (ys : List ℕ). are_ascii ys ≡ true) (sym m.beg
 
 -- ---- properties
 
-near_anchor : (anchor : Option (List ℕ)) (c : Cursor) → IsWritableAnchor anchor → StaysNear (anchor_text anchor) c (2 + text_size anchor)
+near_anchor : (anchor : Option (List ℕ)) (c : Cursor) → IsWritableAnchor anchor
+    → StaysNear (anchor_text anchor) c (2 + text_size anchor)
 near_anchor None c h = near_to stay c c (λ rest. refl) (2 + 0)
 near_anchor (Some name) c (some, are) = near_most (word (38 ∷ name)) c (1 + suc (length name)) (2 + length name) (omega arith) (near_word (38 ∷ name) c (calm_from 38 (omega arith) (omega arith), alphas_calm name are))
 
-near_tag : (s : Settings) (o : Opening) → IsWritableOpening o → (tag : Option (List ℕ)) (c : Cursor) → IsWritableTag tag → StaysNear (tag_text (context_of s o.directives) tag) c (4 + 3 * written_size (context_of s o.directives) tag)
+near_tag : (s : Settings) (o : Opening) → IsWritableOpening o → (tag : Option (List ℕ)) (c : Cursor)
+    → IsWritableTag tag
+    → StaysNear (tag_text (context_of s o.directives) tag) c
+    (4 + 3 * written_size (context_of s o.directives) tag)
 near_tag s o good None c h = near_to stay c c (λ rest. refl) (4 + 3 * 0)
 near_tag s o (fine, u) (Some t) c (some, utf8) =
     let ds = o.directives in
@@ -131,13 +137,16 @@ near_tag s o (fine, u) (Some t) c (some, utf8) =
     let calm = calm_all (spelled (split_tag ds t)) a.0 (marked_ascii (spelled (split_tag ds t)) (spelled_ascii (split_tag ds t) readable)) in
     near_most (word (tag_spelling ds t)) c (1 + length (spelled (split_tag ds t))) (4 + 3 * split_size (split_tag ds t)) (omega (arith, l)) (near_word (spelled (split_tag ds t)) c calm)
 
-near_properties : (s : Settings) (o : Opening) → IsWritableOpening o → (anchor tag : Option (List ℕ)) (c : Cursor) → IsWritableAnchor anchor → IsWritableTag tag
-    → StaysNear (properties_text (context_of s o.directives) anchor tag) c ((2 + text_size anchor) + (4 + 3 * written_size (context_of s o.directives) tag))
+near_properties : (s : Settings) (o : Opening) → IsWritableOpening o
+    → (anchor tag : Option (List ℕ)) (c : Cursor) → IsWritableAnchor anchor → IsWritableTag tag
+    → StaysNear (properties_text (context_of s o.directives) anchor tag) c
+    ((2 + text_size anchor) + (4 + 3 * written_size (context_of s o.directives) tag))
 near_properties s o good anchor tag c a t =
     let one = near_anchor anchor c a in
     near_on (anchor_text anchor) (tag_text (context_of s o.directives) tag) c (2 + text_size anchor) (4 + 3 * written_size (context_of s o.directives) tag) one (near_tag s o good tag one.behind t)
 
-kept_writable : (b : Bool) (tag : Option (List ℕ)) → IsWritableTag tag → IsWritableTag (kept_if b tag)
+kept_writable : (b : Bool) (tag : Option (List ℕ)) → IsWritableTag tag
+    → IsWritableTag (kept_if b tag)
 kept_writable true tag h = h
 kept_writable false tag h = tt
 
@@ -156,15 +165,19 @@ or_double b s = if b then s else style.Double
 single_key : (a : Allowed) → is_key_style (single_or a) ≡ true
 single_key a = elim (cases_Bool a.single) [ inl e ↦ rw e refl | inr e ↦ rw e refl ]
 
-plain_key : (a : Allowed) (untagged flow empty : Bool) → is_key_style (if plain_fits a untagged flow true empty then style.Plain else single_or a) ≡ true
+plain_key : (a : Allowed) (untagged flow empty : Bool)
+    → is_key_style (if plain_fits a untagged flow true empty then style.Plain else single_or a)
+    ≡ true
 plain_key a untagged flow empty = elim (cases_Bool (plain_fits a untagged flow true empty)) [ inl e ↦ rw e refl | inr e ↦ rw e (single_key a) ]
 
-block_key : (b flow : Bool) (s : Style) → is_key_style (if b && not (flow || true) then s else style.Double) ≡ true
+block_key : (b flow : Bool) (s : Style)
+    → is_key_style (if b && not (flow || true) then s else style.Double) ≡ true
 block_key true true s = refl
 block_key true false s = refl
 block_key false flow s = refl
 
-taken_key : (a : Allowed) (s : yaml_scalar_style_t) (untagged flow empty : Bool) → is_key_style (taken a s untagged flow true empty) ≡ true
+taken_key : (a : Allowed) (s : yaml_scalar_style_t) (untagged flow empty : Bool)
+    → is_key_style (taken a s untagged flow true empty) ≡ true
 unfolding taken
 taken_key a asked.YAML_ANY_SCALAR_STYLE untagged flow empty = plain_key a untagged flow empty
 taken_key a asked.YAML_PLAIN_SCALAR_STYLE untagged flow empty = plain_key a untagged flow empty
@@ -173,7 +186,8 @@ taken_key a asked.YAML_DOUBLE_QUOTED_SCALAR_STYLE untagged flow empty = refl
 taken_key a asked.YAML_LITERAL_SCALAR_STYLE untagged flow empty = block_key a.block flow style.Literal
 taken_key a asked.YAML_FOLDED_SCALAR_STYLE untagged flow empty = block_key a.block flow style.Folded
 
-style_key : (p : Context) (flow : Bool) (n : ℕ) (x : Scalar) → is_key_style (style_of p (spot flow n part.SimpleKey) x) ≡ true
+style_key : (p : Context) (flow : Bool) (n : ℕ) (x : Scalar)
+    → is_key_style (style_of p (spot flow n part.SimpleKey) x) ≡ true
 unfolding style_of
 style_key p flow n x = elim (cases_Bool p.settings.canonical) [ inl e ↦ rw e refl | inr e ↦ rw e (taken_key (allowed p.settings.unicode (chars x.value)) x.style _ flow (length x.value == 0)) ]
 
@@ -182,7 +196,8 @@ style_key p flow n x = elim (cases_Bool p.settings.canonical) [ inl e ↦ rw e r
 low_inside : (q : ℕ) → q < 128 → 13 < q → is_break q ≡ false
 low_inside q l h = rw (ne_eqb q 10 (λ e. omega (arith, e, h)), ne_eqb q 13 (λ e. omega (arith, e, h)), ne_eqb q 0x85 (λ e. omega (arith, e, l)), ne_eqb q 0x2028 (λ e. omega (arith, e, l)), ne_eqb q 0x2029 (λ e. omega (arith, e, l))) refl
 
-near_between : (body : Layout) (q : ℕ) (c : Cursor) (n : ℕ) → q < 128 → 13 < q → ((d : Cursor) → StaysNear body d n) → StaysNear (gap ▹ (char q ▹ (body ▹ char q))) c (n + 3)
+near_between : (body : Layout) (q : ℕ) (c : Cursor) (n : ℕ) → q < 128 → 13 < q
+    → ((d : Cursor) → StaysNear body d n) → StaysNear (gap ▹ (char q ▹ (body ▹ char q))) c (n + 3)
 near_between body q c n low high f =
     let g = near_gap c in
     let inside = low_inside q low high in
@@ -192,7 +207,9 @@ near_between body q c n low high f =
     near_most (gap ▹ (char q ▹ (body ▹ char q))) c (1 + (1 + (n + 1))) (n + 3) (omega arith)
     (near_on gap (char q ▹ (body ▹ char q)) c 1 (1 + (n + 1)) g (near_on (char q) (body ▹ char q) g.behind 1 (n + 1) one (near_on body (char q) one.behind n 1 b last)))
 
-near_text : (page : Page) (digit : ℕ) (flow : Bool) (s : Style) (value : List ℕ) (c : Cursor) → is_key_style s ≡ true → page.cuts ≡ false → IsUtf8 value → is_one_line (chars value) ≡ true → StaysNear (scalar_text page digit flow s (chars value)) c (4 * length value + 3)
+near_text : (page : Page) (digit : ℕ) (flow : Bool) (s : Style) (value : List ℕ) (c : Cursor)
+    → is_key_style s ≡ true → page.cuts ≡ false → IsUtf8 value → is_one_line (chars value) ≡ true
+    → StaysNear (scalar_text page digit flow s (chars value)) c (4 * length value + 3)
 unfolding scalar_text
 near_text page digit flow style.Plain value c k g u l =
     let cs = chars value in
@@ -234,7 +251,9 @@ simply p x h =
       few = at_most _ 128 (and_parts (not (has_break x.value)) (nat_le (properties_size p x.anchor (scalar_tag false x) + length x.value) 128) more).1;
     }
 
-near_scalar : (s : Settings) (o : Opening) → IsWritableOpening o → (x : Scalar) → IsWritableAnchor x.anchor → IsWritableTag x.tag → IsUtf8 x.value → is_simple_scalar (context_of s o.directives) x ≡ true → (flow : Bool) (n : ℕ) (c : Cursor)
+near_scalar : (s : Settings) (o : Opening) → IsWritableOpening o → (x : Scalar)
+    → IsWritableAnchor x.anchor → IsWritableTag x.tag → IsUtf8 x.value
+    → is_simple_scalar (context_of s o.directives) x ≡ true → (flow : Bool) (n : ℕ) (c : Cursor)
     → StaysNear (scalar_layout (context_of s o.directives) (spot flow n part.SimpleKey) x) c 530
 unfolding scalar_layout
 near_scalar s o good x a t u simple flow n c =
@@ -259,7 +278,9 @@ near_scalar s o good x a t u simple flow n c =
 
 -- ---- aliases and empty collections
 
-near_alias : (p : Context) (name : List ℕ) → IsWritableName name → is_simple_alias p name ≡ true → (flow : Bool) (n : ℕ) (c : Cursor) → StaysNear (alias_layout (spot flow n part.SimpleKey) name) c 530
+near_alias : (p : Context) (name : List ℕ) → IsWritableName name → is_simple_alias p name ≡ true
+    → (flow : Bool) (n : ℕ) (c : Cursor)
+    → StaysNear (alias_layout (spot flow n part.SimpleKey) name) c 530
 unfolding alias_layout is_simple_alias
 near_alias p name (some, are) simple flow n c =
     let few = at_most (length name) 128 (and_parts (not p.settings.canonical) (nat_le (length name) 128) simple).1 in
@@ -280,9 +301,14 @@ near_sign_opener : (x : ℕ) (c : Cursor) → is_sign x ≡ true → StaysNear (
 near_sign_opener x c h = let s = sign_is x h in near_opener x c (low_inside x s.1 s.0) s.1
 
 -- an empty collection between brackets
-near_empty : (s : Settings) (o : Opening) → IsWritableOpening o → (q : Start) → IsWritableAnchor q.anchor → IsWritableTag q.tag → is_simple_start (context_of s o.directives) q true ≡ true → (op x : ℕ) (flow : Bool) → flow ≡ true → (f : Cursor → ℕ) (close : ℕ → Layout)
-    → ((n : ℕ) (d : Cursor) → s.canonical ≡ false → StaysNear (close n) d 1) → is_sign op ≡ true → (c : Cursor)
-    → StaysNear (properties_text (context_of s o.directives) q.anchor (start_tag s.canonical q) ▹ when flow (opener op) ▹ indented f (λ n. checked n ▹ close n)) c 530
+near_empty : (s : Settings) (o : Opening) → IsWritableOpening o → (q : Start)
+    → IsWritableAnchor q.anchor → IsWritableTag q.tag
+    → is_simple_start (context_of s o.directives) q true ≡ true → (op x : ℕ) (flow : Bool)
+    → flow ≡ true → (f : Cursor → ℕ) (close : ℕ → Layout)
+    → ((n : ℕ) (d : Cursor) → s.canonical ≡ false → StaysNear (close n) d 1) → is_sign op ≡ true
+    → (c : Cursor)
+    → StaysNear (properties_text (context_of s o.directives) q.anchor (start_tag s.canonical q) ▹
+    when flow (opener op) ▹ indented f (λ n. checked n ▹ close n)) c 530
 unfolding is_simple_start
 near_empty s o good q a t simple op x flow is f close ends sign c =
     let p = context_of s o.directives in
@@ -302,7 +328,8 @@ near_empty s o good q a t simple op x flow is f close ends sign c =
     (near_on (properties_text p q.anchor tag) (when flow (opener op) ▹ indented f (λ n. checked n ▹ close n)) c i (2 + 1) l
     (near_on (when flow (opener op)) (indented f (λ n. checked n ▹ close n)) l.behind 2 1 b inner))
 
-near_close : (s : Settings) (n x : ℕ) (c : Cursor) → is_sign x ≡ true → StaysNear (closer s true n true x) c 1
+near_close : (s : Settings) (n x : ℕ) (c : Cursor) → is_sign x ≡ true
+    → StaysNear (closer s true n true x) c 1
 unfolding closer
 near_close s n x c sign =
     let one = near_when (s.canonical && not true) (char 44 ▹ line s.line_break (n - s.indent)) c 0 (λ e. absurd (true≢false (sym e ∙ and_none s.canonical))) in
@@ -312,7 +339,8 @@ near_close s n x c sign =
     and_none true = refl
     and_none false = refl
 
-empty_flow : (s : Settings) (flow : Bool) (n : ℕ) (q : Start) → is_flow s (spot flow n part.SimpleKey) q true ≡ true
+empty_flow : (s : Settings) (flow : Bool) (n : ℕ) (q : Start)
+    → is_flow s (spot flow n part.SimpleKey) q true ≡ true
 empty_flow s flow n q = all s.canonical flow q.flow
   where
     all : (a b d : Bool) → (a || (b || (d || true))) ≡ true
@@ -325,11 +353,13 @@ in_brackets : (b : Bool) (P : Bool → Type 0) → b ≡ true → P true → P b
 in_brackets true P e h = h
 in_brackets false P e h = absurd (true≢false (sym e))
 
-no_items : (p : Context) (n : ℕ) (c : Cursor) (b : Bool) → b ≡ true → StaysNear (items_layout p b n true no_nodes) c 1
+no_items : (p : Context) (n : ℕ) (c : Cursor) (b : Bool) → b ≡ true
+    → StaysNear (items_layout p b n true no_nodes) c 1
 unfolding items_layout
 no_items p n c b e = in_brackets b (λ k. StaysNear (items_layout p k n true no_nodes) c 1) e (near_close p.settings n 93 c refl)
 
-no_more : (p : Context) (n : ℕ) (c : Cursor) (b : Bool) → b ≡ true → StaysNear (pairs_layout p b n true no_pairs) c 1
+no_more : (p : Context) (n : ℕ) (c : Cursor) (b : Bool) → b ≡ true
+    → StaysNear (pairs_layout p b n true no_pairs) c 1
 unfolding pairs_layout
 no_more p n c b e = in_brackets b (λ k. StaysNear (pairs_layout p k n true no_pairs) c 1) e (near_close p.settings n 125 c refl)
 

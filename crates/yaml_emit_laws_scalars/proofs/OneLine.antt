@@ -48,13 +48,15 @@ ps_break = refl
 nel_here : (text : List ℕ) (p : ℕ) → Has text p (0xC2 ∷ 0x85 ∷ []) → breaks_at text p ≡ true
 nel_here text p (a, (b, u)) = rw (a, b) (nel_break _)
 
-wide_here : (text : List ℕ) (p d : ℕ) → nat_lt 0 (break_of 0xE2 0x80 d) ≡ true → Has text p (0xE2 ∷ 0x80 ∷ d ∷ []) → breaks_at text p ≡ true
+wide_here : (text : List ℕ) (p d : ℕ) → nat_lt 0 (break_of 0xE2 0x80 d) ≡ true
+    → Has text p (0xE2 ∷ 0x80 ∷ d ∷ []) → breaks_at text p ≡ true
 wide_here text p d h (a, (b, (e, u))) =
     let two : p + 2 ≡ p + 1 + 1 = omega arith in
     rw (two, a, b, e) h
 
 -- where such a character stands, a break does
-break_here : (text : List ℕ) (p x : ℕ) → is_break x ≡ true → Has text p (encode_utf8 x) → breaks_at text p ≡ true
+break_here : (text : List ℕ) (p x : ℕ) → is_break x ≡ true → Has text p (encode_utf8 x)
+    → breaks_at text p ≡ true
 break_here text p x h at =
     bool_cases (x == 10) (λ e. let k = (subst (λ (bs : List ℕ). Has text p bs) (encode_1 x (let f = eqb-true x 10 e in omega (arith, f))) at).0 in low_break (byte text p) _ _ (inl (k ∙ eqb-true x 10 e))) (λ a.
     bool_cases (x == 13) (λ e. let k = (subst (λ (bs : List ℕ). Has text p bs) (encode_1 x (let f = eqb-true x 13 e in omega (arith, f))) at).0 in low_break (byte text p) _ _ (inr (k ∙ eqb-true x 13 e))) (λ b.
@@ -78,7 +80,9 @@ some_bytes c =
       ]
     ]
 
-one_by : (value : List ℕ) (p : ℕ) (cs : List ℕ) → ((k : ℕ) → k < length value → breaks_at value k ≡ false) → Has value p (encode_utf8_all cs) → p + length (encode_utf8_all cs) ≤ length value → is_one_line cs ≡ true
+one_by : (value : List ℕ) (p : ℕ) (cs : List ℕ)
+    → ((k : ℕ) → k < length value → breaks_at value k ≡ false) → Has value p (encode_utf8_all cs)
+    → p + length (encode_utf8_all cs) ≤ length value → is_one_line cs ≡ true
 one_by value p [] none h l = refl
 one_by value p (x ∷ xs) none h l =
     let some = some_bytes x in
@@ -87,7 +91,8 @@ one_by value p (x ∷ xs) none h l =
     let more = one_by value (p + length (encode_utf8 x)) xs none (has_rest value p (encode_utf8 x) (encode_utf8_all xs) h) (omega (arith, l, all)) in
     rw (here, more) refl
 
-pub no_breaks : (value : List ℕ) → IsUtf8 value → has_break value ≡ false → is_one_line (chars value) ≡ true
+pub no_breaks : (value : List ℕ) → IsUtf8 value → has_break value ≡ false
+    → is_one_line (chars value) ≡ true
 no_breaks value u h =
     let e = encodes-chars value u in
     let own : Has value 0 value = has value 0 value (λ k l. let z : 0 + k ≡ k = omega arith in ap (λ q. byte value q) z) in
@@ -96,39 +101,47 @@ no_breaks value u h =
 
 -- ---- places on one line
 
-ends_1 : (text : List ℕ) (p y b : ℕ) → byte text p ≡ y → byte text (p + 1) ≡ b → ((x c : ℕ) → ends_of x y b c ≡ false) → ends_break text (p + 1) ≡ false
+ends_1 : (text : List ℕ) (p y b : ℕ) → byte text p ≡ y → byte text (p + 1) ≡ b
+    → ((x c : ℕ) → ends_of x y b c ≡ false) → ends_break text (p + 1) ≡ false
 ends_1 text p y b h k f =
     let e : p + 1 - 1 ≡ p = omega arith in
     rw (e, h, k) (f (byte text (p + 1 - 2)) (byte text (p + 1 + 1)))
 
-ends_2 : (text : List ℕ) (p x y b : ℕ) → byte text p ≡ x → byte text (p + 1) ≡ y → byte text (p + 1 + 1) ≡ b → ((c : ℕ) → ends_of x y b c ≡ false) → ends_break text (p + 1 + 1) ≡ false
+ends_2 : (text : List ℕ) (p x y b : ℕ) → byte text p ≡ x → byte text (p + 1) ≡ y
+    → byte text (p + 1 + 1) ≡ b → ((c : ℕ) → ends_of x y b c ≡ false)
+    → ends_break text (p + 1 + 1) ≡ false
 ends_2 text p x y b g h k f =
     let e : p + 1 + 1 - 1 ≡ p + 1 = omega arith in
     let d : p + 1 + 1 - 2 ≡ p = omega arith in
     rw (e, d, g, h, k) (f (byte text (p + 1 + 1 + 1)))
 
-two : (text : List ℕ) (p a b : ℕ) → 192 ≤ a → 128 ≤ b → b < 192 → (b ≡ 0x85 → a ≡ 0xC2 → ⊥) → Has text p (a ∷ b ∷ []) → line_at text (p + 1 + 1) ≡ line_at text p
+two : (text : List ℕ) (p a b : ℕ) → 192 ≤ a → 128 ≤ b → b < 192 → (b ≡ 0x85 → a ≡ 0xC2 → ⊥)
+    → Has text p (a ∷ b ∷ []) → line_at text (p + 1 + 1) ≡ line_at text p
 two text p a b l n o z (h, (k, u)) =
     line_more text (p + 1) (ends_1 text p a b h k (λ x d. second_end x a b d n o l z)) ∙ line_more text p (rw h (first_end _ _ a _ l))
 
-three : (text : List ℕ) (p a b d : ℕ) → 224 ≤ a → 128 ≤ b → b < 192 → 128 ≤ d → d < 192 → (d ≡ 0xA8 → b ≡ 0x80 → a ≡ 0xE2 → ⊥) → (d ≡ 0xA9 → b ≡ 0x80 → a ≡ 0xE2 → ⊥)
+three : (text : List ℕ) (p a b d : ℕ) → 224 ≤ a → 128 ≤ b → b < 192 → 128 ≤ d → d < 192
+    → (d ≡ 0xA8 → b ≡ 0x80 → a ≡ 0xE2 → ⊥) → (d ≡ 0xA9 → b ≡ 0x80 → a ≡ 0xE2 → ⊥)
     → Has text p (a ∷ b ∷ d ∷ []) → line_at text (p + 1 + 1 + 1) ≡ line_at text p
 three text p a b d l n o q r x y (h, (k, (i, u))) =
     line_more text (p + 1 + 1) (ends_2 text p a b d h k i (λ w. third_end a b d w q r n o x y))
     ∙ two text p a b (omega (arith, l)) n o (λ e f. omega (arith, f, l)) (h, (k, tt))
 
-four : (text : List ℕ) (p a b d g : ℕ) → 240 ≤ a → 128 ≤ b → b < 192 → 128 ≤ d → d < 192 → 128 ≤ g → g < 192 → Has text p (a ∷ b ∷ d ∷ g ∷ []) → line_at text (p + 1 + 1 + 1 + 1) ≡ line_at text p
+four : (text : List ℕ) (p a b d g : ℕ) → 240 ≤ a → 128 ≤ b → b < 192 → 128 ≤ d → d < 192 → 128 ≤ g
+    → g < 192 → Has text p (a ∷ b ∷ d ∷ g ∷ []) → line_at text (p + 1 + 1 + 1 + 1) ≡ line_at text p
 four text p a b d g l n o q r s t (h, (k, (i, (j, u)))) =
     line_more text (p + 1 + 1 + 1) (ends_2 text (p + 1) b d g k i j (λ w. third_end b d g w s t q r (λ e f x. omega (arith, x, o)) (λ e f x. omega (arith, x, o))))
     ∙ three text p a b d (omega (arith, l)) n o q r (λ e f x. omega (arith, x, l)) (λ e f x. omega (arith, x, l)) (h, (k, (i, tt)))
 
-at_far : (text : List ℕ) (p q r : ℕ) → q ≡ r → line_at text q ≡ line_at text p → line_at text r ≡ line_at text p
+at_far : (text : List ℕ) (p q r : ℕ) → q ≡ r → line_at text q ≡ line_at text p
+    → line_at text r ≡ line_at text p
 at_far text p q r e h = ap (λ x. line_at text x) (sym e) ∙ h
 
 apart_break : (c k : ℕ) → is_break c ≡ false → is_break k ≡ true → c ≡ k → ⊥
 apart_break c k h i e = true≢false (sym i ∙ ap (λ t. is_break t) (sym e) ∙ h)
 
-line_char : (text : List ℕ) (p c : ℕ) → is_break c ≡ false → Has text p (encode_utf8 c) → line_at text (p + length (encode_utf8 c)) ≡ line_at text p
+line_char : (text : List ℕ) (p c : ℕ) → is_break c ≡ false → Has text p (encode_utf8 c)
+    → line_at text (p + length (encode_utf8 c)) ≡ line_at text p
 line_char text p c calm =
     let P : List ℕ → Type 0 = λ bs. Has text p bs → line_at text (p + length bs) ≡ line_at text p in
     let feed : c ≡ 10 → ⊥ = apart_break c 10 calm refl in
@@ -151,7 +164,9 @@ line_char text p c calm =
       ]
     ]
 
-line_chars : (text : List ℕ) (p : ℕ) (xs : List ℕ) → is_one_line xs ≡ true → Has text p (encode_utf8_all xs) → line_at text (p + length (encode_utf8_all xs)) ≡ line_at text p
+line_chars : (text : List ℕ) (p : ℕ) (xs : List ℕ) → is_one_line xs ≡ true
+    → Has text p (encode_utf8_all xs)
+    → line_at text (p + length (encode_utf8_all xs)) ≡ line_at text p
 line_chars text p [] all h = rw add-zero refl
 line_chars text p (x ∷ xs) all h =
     let here = not-true (is_break x) (and_parts (not (is_break x)) (is_one_line xs) all).0 in

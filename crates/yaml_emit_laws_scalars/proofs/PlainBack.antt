@@ -24,7 +24,9 @@ use Rattle.yaml_emit_laws_scalars.proofs.PlainParts.{Spells, Good, AreGood, firm
 no_zero : (n : ℕ) → n ≡ 0 → n ≡ 32 → ⊥
 no_zero n e f = omega (arith, e, f)
 
-next_firm : (flow : Bool) (level n : ℕ) (text : List ℕ) (p before x : ℕ) (ps : List QuotedPart) (xs : List ℕ) → Good flow before x (first xs) → Spells n ps xs → AreGood flow x xs → Has text (p + length (encode_utf8 x)) (spelling ps) → FirmNext text p x
+next_firm : (flow : Bool) (level n : ℕ) (text : List ℕ) (p before x : ℕ) (ps : List QuotedPart)
+    (xs : List ℕ) → Good flow before x (first xs) → Spells n ps xs → AreGood flow x xs
+    → Has text (p + length (encode_utf8 x)) (spelling ps) → FirmNext text p x
 next_firm flow level n text p before x ps xs g s gs h e =
     let one : length (encode_utf8 x) ≡ 1 = ap (λ k. length (encode_utf8 k)) e ∙ ap (λ (t : List ℕ). length t) (encode_1 58 (omega arith)) in
     colon_next flow level n text (p + 1) x ps xs s gs (subst (λ k. Has text (p + k) (spelling ps)) one h) (g.colon e)
@@ -33,7 +35,9 @@ next_firm flow level n text p before x ps xs g s gs h e =
 abbrev ReadsOn : Bool → ℕ → List ℕ → ℕ → ℕ → List Piece → Type 0
 ReadsOn flow level text p q ps = (place : ℕ) (broke : Bool) → Read flow level text q [] q place broke → Read flow level text p ps q place broke
 
-space_on : (flow : Bool) (level : ℕ) (text : List ℕ) (p q : ℕ) (ps : List Piece) → byte text p ≡ 32 → is_nothing ps ≡ false → ReadsOn flow level text (p + 1) q ps → ReadsOn flow level text p q (Blank 32 ∷ ps)
+space_on : (flow : Bool) (level : ℕ) (text : List ℕ) (p q : ℕ) (ps : List Piece) → byte text p ≡ 32
+    → is_nothing ps ≡ false → ReadsOn flow level text (p + 1) q ps
+    → ReadsOn flow level text p q (Blank 32 ∷ ps)
 space_on flow level text p q ps h some more place broke r = let d = spaced text p h in read_blank flow level text p 32 ps q place broke (space_spot flow level text p h) d.inside some (more place broke r)
 
 encoded_space : encode_utf8 32 ≡ 32 ∷ []
@@ -42,11 +46,13 @@ encoded_space = encode_1 32 (omega arith)
 space_read : read_as (raw 32) ≡ Blank 32 ∷ []
 space_read = raw_blank 32 refl
 
-turn_is : (t : LineTurn) (n : ℕ) → t.spaces ≡ n → turn_bytes (t ∷ []) ≡ end_bytes t.end ++ replicate n 32
+turn_is : (t : LineTurn) (n : ℕ) → t.spaces ≡ n
+    → turn_bytes (t ∷ []) ≡ end_bytes t.end ++ replicate n 32
 unfolding turn_bytes
 turn_is t n e = ap (λ (xs : List ℕ). end_bytes t.end ++ xs) (append-nil (replicate t.spaces 32)) ∙ ap (λ k. end_bytes t.end ++ replicate k 32) e
 
-fold_read : (t : LineTurn) (n : ℕ) → t.spaces ≡ n → read_as (fold t []) ≡ Break (end_means t.end) ∷ blanks_of n
+fold_read : (t : LineTurn) (n : ℕ) → t.spaces ≡ n
+    → read_as (fold t []) ≡ Break (end_means t.end) ∷ blanks_of n
 unfolding turns_read
 fold_read t n e = ap (λ (xs : List Piece). Break (end_means t.end) ∷ xs) (append-nil (blanks_of t.spaces)) ∙ ap (λ k. Break (end_means t.end) ∷ blanks_of k) e
 
@@ -66,8 +72,11 @@ same_space c x e h = e ∙ equal x 32 h
 no_space : (x : ℕ) → (x == 32) ≡ false → x ≢ 32
 no_space x h e = true≢false (sym (ap (λ k. k == 32) e) ∙ h)
 
-pub parts_read : (flow : Bool) (level m : ℕ) (text : List ℕ) (p before : ℕ) (ps : List QuotedPart) (xs : List ℕ) → level ≤ suc m → Spells (suc m) ps xs → AreGood flow before xs → (last_or before xs == 32) ≡ false → Stand level text p before
-    → Has text p (spelling ps) → ReadsOn flow level text p (p + length (spelling ps)) (all_read_as ps)
+pub parts_read : (flow : Bool) (level m : ℕ) (text : List ℕ) (p before : ℕ) (ps : List QuotedPart)
+    (xs : List ℕ) → level ≤ suc m → Spells (suc m) ps xs → AreGood flow before xs
+    → (last_or before xs == 32) ≡ false → Stand level text p before
+    → Has text p (spelling ps)
+    → ReadsOn flow level text p (p + length (spelling ps)) (all_read_as ps)
 unfolding all_read_as spelling last_or
 parts_read flow level m text p before [] [] deep s g l st h = λ place broke r. let z : p + 0 ≡ p = omega arith in subst (λ k. Read flow level text k [] (p + 0) place broke) z r
 parts_read flow level m text p before [] (x ∷ xs) deep s g l st h = absurd s
@@ -132,7 +141,8 @@ parts_read flow level m text p before (joint t ts ∷ ps) (x ∷ xs) deep (e, s)
 some_gap : (b : ℕ) → (b == 32 || (b == 10 || b == 13)) ≡ true → 0 < b
 some_gap b h = grind (arith, nat_tests)
 
-gap_inside : (text : List ℕ) (p : ℕ) (gap : List ℕ) → p ≤ length text → Has text p gap → are_gap gap ≡ true → p + length gap ≤ length text
+gap_inside : (text : List ℕ) (p : ℕ) (gap : List ℕ) → p ≤ length text → Has text p gap
+    → are_gap gap ≡ true → p + length gap ≤ length text
 gap_inside text p [] l h are = omega arith
 gap_inside text p (b ∷ bs) l (e, h) are =
     let (front, back) = and_parts (b == 32 || (b == 10 || b == 13)) (are_gap bs) are in
@@ -141,7 +151,9 @@ gap_inside text p (b ∷ bs) l (e, h) are =
     let more = gap_inside text (p + 1) bs (omega (arith, here)) h back in
     omega (arith, more)
 
-pub gap_read : (flow : Bool) (level : ℕ) (text : List ℕ) (p : ℕ) (gap : List ℕ) → Has text p gap → are_gap gap ≡ true → Stops flow level text (p + length gap) → Read flow level text p [] p (p + length gap) (has_break gap)
+pub gap_read : (flow : Bool) (level : ℕ) (text : List ℕ) (p : ℕ) (gap : List ℕ) → Has text p gap
+    → are_gap gap ≡ true → Stops flow level text (p + length gap)
+    → Read flow level text p [] p (p + length gap) (has_break gap)
 gap_read flow level text p gap h are stop = record {
   here = λ e. refl;
   at = omega arith;
@@ -154,10 +166,13 @@ gap_read flow level text p gap h are stop = record {
 abbrev pub said : List ℕ → ℕ → ℕ → Bool → PlainText
 said value e place broke = record { value = value; end = e; place = place; broke = broke }
 
-sealed_text : (x : Piece) (ps : List Piece) (e place : ℕ) (broke : Bool) → plain_text (sealed (x ∷ ps) e place broke) ≡ said (value_of (x ∷ ps)) e place broke
+sealed_text : (x : Piece) (ps : List Piece) (e place : ℕ) (broke : Bool)
+    → plain_text (sealed (x ∷ ps) e place broke) ≡ said (value_of (x ∷ ps)) e place broke
 sealed_text x ps e place broke = refl
 
-begun : (flow : Bool) (level : ℕ) (text : List ℕ) (p b : ℕ) (ps : List Piece) (e place : ℕ) (broke : Bool) → byte text p ≡ b → p < length text → Read flow level text (p + 1) ps e place broke
+begun : (flow : Bool) (level : ℕ) (text : List ℕ) (p b : ℕ) (ps : List Piece) (e place : ℕ)
+    (broke : Bool) → byte text p ≡ b → p < length text
+    → Read flow level text (p + 1) ps e place broke
     → plain_at flow level text p ≡ Ok (said (value_of (Kept (b ∷ []) ∷ ps)) e place broke)
 begun flow level text p b ps e place broke h i r =
     let inside = r.inside (omega (arith, i)) in
@@ -170,9 +185,14 @@ positive : (b : ℕ) → (b == 0) ≡ false → 0 < b
 positive b h = grind (arith, nat_tests)
 
 -- a character, which isn't white, and parts behind it
-pub scalar_read : (flow : Bool) (level m quote : ℕ) (text : List ℕ) (p c : ℕ) (ps : List QuotedPart) (xs : List ℕ) (place : ℕ) (broke : Bool) → level ≤ suc m → IsSpelling quote (raw c ∷ ps) → Spells (suc m) ps xs → c ≢ 32 → AreGood flow 32 (c ∷ xs) → (last_or c xs == 32) ≡ false
-    → Has text p (spelling (raw c ∷ ps)) → Read flow level text (p + length (spelling (raw c ∷ ps))) [] (p + length (spelling (raw c ∷ ps))) place broke
-    → plain_at flow level text p ≡ Ok (said (meaning (raw c ∷ ps)) (p + length (spelling (raw c ∷ ps))) place broke)
+pub scalar_read : (flow : Bool) (level m quote : ℕ) (text : List ℕ) (p c : ℕ) (ps : List QuotedPart)
+    (xs : List ℕ) (place : ℕ) (broke : Bool) → level ≤ suc m → IsSpelling quote (raw c ∷ ps)
+    → Spells (suc m) ps xs → c ≢ 32 → AreGood flow 32 (c ∷ xs) → (last_or c xs == 32) ≡ false
+    → Has text p (spelling (raw c ∷ ps))
+    → Read flow level text (p + length (spelling (raw c ∷ ps))) []
+    (p + length (spelling (raw c ∷ ps))) place broke
+    → plain_at flow level text p ≡ Ok
+    (said (meaning (raw c ∷ ps)) (p + length (spelling (raw c ∷ ps))) place broke)
 unfolding spelling all_read_as
 scalar_read flow level m quote text p c ps xs place broke deep right s space (g, gs) l h r =
     let at = char_at flow level text p c g.plainly (has_front text p (encode_utf8 c) (spelling ps) h) in

@@ -39,12 +39,15 @@ pub record MayBe (unicode flow : Bool) (value : List ℕ) : Type 0 where
   pub plain : somewhere is_not_plain 32 value ≡ false
   pub flow_too : flow ≡ true → somewhere is_not_flow 32 value ≡ false
 
-by_flow : (unicode flow : Bool) (x : ℕ) (xs : List ℕ) → may_be_plain unicode flow (x ∷ xs) ≡ true → ((allowed unicode (x ∷ xs)).plain ≡ true) × (flow ≡ true → somewhere is_not_flow 32 (x ∷ xs) ≡ false)
+by_flow : (unicode flow : Bool) (x : ℕ) (xs : List ℕ) → may_be_plain unicode flow (x ∷ xs) ≡ true
+    → ((allowed unicode (x ∷ xs)).plain ≡ true)
+    × (flow ≡ true → somewhere is_not_flow 32 (x ∷ xs) ≡ false)
 unfolding allowed
 by_flow unicode true x xs h = ((and_parts _ _ h).0, λ e. not-true _ (and_parts _ (not (somewhere is_not_flow 32 (x ∷ xs))) h).1)
 by_flow unicode false x xs h = (h, λ e. absurd (true≢false (sym e)))
 
-pub may_be : (unicode flow : Bool) (x : ℕ) (xs : List ℕ) → may_be_plain unicode flow (x ∷ xs) ≡ true → MayBe unicode flow (x ∷ xs)
+pub may_be : (unicode flow : Bool) (x : ℕ) (xs : List ℕ) → may_be_plain unicode flow (x ∷ xs) ≡ true
+    → MayBe unicode flow (x ∷ xs)
 unfolding allowed
 may_be unicode flow x xs h =
     let (p, f) = by_flow unicode flow x xs h in
@@ -61,7 +64,8 @@ may_be unicode flow x xs h =
       flow_too = f;
     }
 
-one_line : (before : ℕ) (xs : List ℕ) → somewhere is_not_plain before xs ≡ false → is_one_line xs ≡ true
+one_line : (before : ℕ) (xs : List ℕ) → somewhere is_not_plain before xs ≡ false
+    → is_one_line xs ≡ true
 unfolding somewhere
 one_line before [] h = refl
 one_line before (x ∷ xs) h =
@@ -107,7 +111,8 @@ flow_is : (flow : Bool) (b : Bool) → (flow ≡ true → b ≡ false) → (flow
 flow_is true b h = h refl
 flow_is false b h = refl
 
-not_flow : (before x next : ℕ) → is_not_flow before x next ≡ false → (is_bracket x ≡ false) × ((x == 58) ≡ false) × ((x == 63) ≡ false)
+not_flow : (before x next : ℕ) → is_not_flow before x next ≡ false
+    → (is_bracket x ≡ false) × ((x == 58) ≡ false) × ((x == 63) ≡ false)
 unfolding is_bracket
 not_flow before x next h =
     let h125 = (or_parts _ (x == 125) h).1 in
@@ -124,7 +129,9 @@ not_flow before x next h =
     let h44 = (or_parts (x == 44) _ e).0 in
     (rw (h44, h91, h93, h123, h125) refl, h58, h63)
 
-pub are_good : (flow : Bool) (before : ℕ) (xs : List ℕ) → AllShow xs → somewhere is_not_plain before xs ≡ false → (flow ≡ true → somewhere is_not_flow before xs ≡ false) → AreGood flow before xs
+pub are_good : (flow : Bool) (before : ℕ) (xs : List ℕ) → AllShow xs
+    → somewhere is_not_plain before xs ≡ false
+    → (flow ≡ true → somewhere is_not_flow before xs ≡ false) → AreGood flow before xs
 unfolding somewhere
 are_good flow before [] a h f = tt
 are_good flow before (x ∷ xs) (s, a) h f =
@@ -146,7 +153,8 @@ are_good flow before (x ∷ xs) (s, a) h f =
       are_good flow x xs a (or_parts (is_not_plain before x (first xs)) _ h).1 (λ e. (or_parts (is_not_flow before x (first xs)) _ (f e)).1),
     )
 
-begun_is : (flow : Bool) (x : ℕ) (xs : List ℕ) → starts_badly (x ∷ xs) ≡ false → Shows x (first xs) → Good flow 32 x (first xs) → Begun flow x xs
+begun_is : (flow : Bool) (x : ℕ) (xs : List ℕ) → starts_badly (x ∷ xs) ≡ false → Shows x (first xs)
+    → Good flow 32 x (first xs) → Begun flow x xs
 begun_is flow x xs h s g =
     let y = first xs in
     let z = first (behind xs) in
@@ -165,7 +173,8 @@ begun_is flow x xs h s g =
       mark = no_printable x 0xFEFF s.printable refl;
     }
   where
-    lone : (x ≡ 45) ⊎ ((x ≡ 63) ⊎ (x ≡ 58)) → ((x == 45 || x == 63) && ends_word (first xs)) ≡ false → (first xs ≢ 0) × (first xs ≢ 32) × (first xs ≢ 9)
+    lone : (x ≡ 45) ⊎ ((x ≡ 63) ⊎ (x ≡ 58)) → ((x == 45 || x == 63) && ends_word (first xs)) ≡ false
+        → (first xs ≢ 0) × (first xs ≢ 32) × (first xs ≢ 9)
     lone (inl e) h = word_on (first xs) (on_and (x == 45 || x == 63) (ends_word (first xs)) h (rw (eq-eqb x 45 e) refl))
     lone (inr (inl e)) h = word_on (first xs) (on_and (x == 45 || x == 63) (ends_word (first xs)) h (or_right (x == 45) (x == 63) (eq-eqb x 63 e)))
     lone (inr (inr e)) h = g.colon e
@@ -182,7 +191,10 @@ last_is x xs h = h
 abbrev Goal : Bool → ℕ → List ℕ → List ℕ → Type 0
 Goal flow level value bs = (text : List ℕ) (p : ℕ) (gap : List ℕ) → HasAt text p (bs ++ gap) → are_gap gap ≡ true → ends_plain flow level text (p + length bs + length gap) ≡ true → IsReadPlain flow level value bs gap text p
 
-parts_back : (flow : Bool) (level m x : ℕ) (xs value : List ℕ) (ps : List QuotedPart) → level ≤ suc m → IsSpelling 0 (raw x ∷ ps) → Spells (suc m) ps xs → x ≢ 32 → AreGood flow 32 (x ∷ xs) → Begun flow x xs → (last_or x xs == 32) ≡ false → meaning (raw x ∷ ps) ≡ value
+parts_back : (flow : Bool) (level m x : ℕ) (xs value : List ℕ) (ps : List QuotedPart)
+    → level ≤ suc m → IsSpelling 0 (raw x ∷ ps) → Spells (suc m) ps xs → x ≢ 32
+    → AreGood flow 32 (x ∷ xs) → Begun flow x xs → (last_or x xs == 32) ≡ false
+    → meaning (raw x ∷ ps) ≡ value
     → Goal flow level value (spelling (raw x ∷ ps))
 parts_back flow level m x xs value ps deep right s space good b last means text p gap h are ends =
     let bs = spelling (raw x ∷ ps) in
@@ -199,7 +211,10 @@ parts_back flow level m x xs value ps deep right s space good b last means text 
           ∙ ap (λ (v : List ℕ). let y : Result PlainText Wrong = Ok (said v q (q + length gap) (has_break gap)) in y) means;
     }
 
-plain_by : (page : Page) (flow : Bool) (level : ℕ) (c : Cursor) (value cs : List ℕ) → encode_utf8_all cs ≡ value → all_scalars cs ≡ true → 0 < length value → may_be_plain page.unicode flow cs ≡ true → 0 < page.indentation → level ≤ page.indentation → PlainIsBack flow level (flow_body page false 32 cs ▹ after_text) c value
+plain_by : (page : Page) (flow : Bool) (level : ℕ) (c : Cursor) (value cs : List ℕ)
+    → encode_utf8_all cs ≡ value → all_scalars cs ≡ true → 0 < length value
+    → may_be_plain page.unicode flow cs ≡ true → 0 < page.indentation → level ≤ page.indentation
+    → PlainIsBack flow level (flow_body page false 32 cs ▹ after_text) c value
 plain_by page flow level c value [] e g some may deep far = let z : length value ≡ 0 = ap (λ (bs : List ℕ). length bs) (sym e) in absurd (omega (arith, some, z))
 plain_by page flow level c value (x ∷ xs) e g some may deep far =
     let f = may_be page.unicode flow x xs may in

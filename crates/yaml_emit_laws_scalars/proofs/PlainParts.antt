@@ -73,7 +73,8 @@ pub record Firm (text : List ℕ) (p x : ℕ) : Type 0 where
   pub some : x ≢ 0 → (byte text p == 0) ≡ false
   pub same : (k : ℕ) → k < 128 → byte text p ≡ k → x ≡ k
 
-pub firm : (flow : Bool) (level : ℕ) (text : List ℕ) (p x : ℕ) (bytes : List ℕ) → CharAt flow level text p x bytes → Firm text p x
+pub firm : (flow : Bool) (level : ℕ) (text : List ℕ) (p x : ℕ) (bytes : List ℕ)
+    → CharAt flow level text p x bytes → Firm text p x
 firm flow level text p x bytes c =
     let here = c.here in
     elim (cases_lt x 128) [
@@ -106,18 +107,21 @@ when_is b k t f = elim (cases_Bool (b == k)) [
     equal : (b k : ℕ) → (b == k) ≡ true → b ≡ k
     equal b k e = grind (arith, nat_tests)
 
-bracket_is : (flow : Bool) (text : List ℕ) (p x : ℕ) → Firm text p x → (flow && is_bracket x) ≡ false → (flow && is_bracket (byte text p)) ≡ false
+bracket_is : (flow : Bool) (text : List ℕ) (p x : ℕ) → Firm text p x
+    → (flow && is_bracket x) ≡ false → (flow && is_bracket (byte text p)) ≡ false
 unfolding is_bracket
 bracket_is false text p x f h = refl
 bracket_is true text p x f h =
     let no : (k : ℕ) → k < 128 → is_bracket k ≡ true → (byte text p == k) ≡ false = λ k small e. ne_eqb (byte text p) k (λ g. true≢false (sym (ap (λ y. is_bracket y) (f.same k small g) ∙ e) ∙ h)) in
     rw (no 44 (omega arith) refl, no 91 (omega arith) refl, no 93 (omega arith) refl, no 123 (omega arith) refl, no 125 (omega arith) refl) refl
 
-colon_is : (flow : Bool) (text : List ℕ) (p x : ℕ) → Firm text p x → (flow && x == 58) ≡ false → (flow && byte text p == 58) ≡ false
+colon_is : (flow : Bool) (text : List ℕ) (p x : ℕ) → Firm text p x → (flow && x == 58) ≡ false
+    → (flow && byte text p == 58) ≡ false
 colon_is false text p x f h = refl
 colon_is true text p x f h = ne_eqb (byte text p) 58 (λ g. true≢false (sym (ap (λ k. k == 58) (f.same 58 (omega arith) g)) ∙ h))
 
-pub stays_at : (flow : Bool) (level : ℕ) (text : List ℕ) (p before x next : ℕ) → Firm text p x → Good flow before x next → FirmNext text p x → Stand level text p before → Stays flow text p
+pub stays_at : (flow : Bool) (level : ℕ) (text : List ℕ) (p before x next : ℕ) → Firm text p x
+    → Good flow before x next → FirmNext text p x → Stand level text p before → Stays flow text p
 stays_at flow level text p before x next f g n s = record {
   some = f.some g.some;
   hash = when_is (byte text p) 35 (after_white text p) (λ e. no_white (after_white text p) (λ w. g.hash (f.same 35 (omega arith) e) (s.white w)));
@@ -130,7 +134,9 @@ stays_at flow level text p before x next f g n s = record {
     no_white true h = absurd (h refl)
     no_white false h = refl
 
-pub char_through : (flow : Bool) (level : ℕ) (text : List ℕ) (p before x next : ℕ) → Good flow before x next → x ≢ 32 → FirmNext text p x → Stand level text p before → Has text p (encode_utf8 x)
+pub char_through : (flow : Bool) (level : ℕ) (text : List ℕ) (p before x next : ℕ)
+    → Good flow before x next → x ≢ 32 → FirmNext text p x → Stand level text p before
+    → Has text p (encode_utf8 x)
     → Through flow level text p (keeps (encode_utf8 x)) (p + length (encode_utf8 x))
 char_through flow level text p before x next g space n s h =
     let c = char_at flow level text p x g.plainly h in
@@ -148,7 +154,8 @@ no_tab b x h = grind (arith, nat_tests)
 space_blank : (b : ℕ) → b ≡ 32 → is_blank b ≡ true
 space_blank b h = grind (arith, nat_tests)
 
-pub space_spot : (flow : Bool) (level : ℕ) (text : List ℕ) (p : ℕ) → byte text p ≡ 32 → spot_at flow level text p ≡ Takes (Blank 32) (p + 1)
+pub space_spot : (flow : Bool) (level : ℕ) (text : List ℕ) (p : ℕ) → byte text p ≡ 32
+    → spot_at flow level text p ≡ Takes (Blank 32) (p + 1)
 space_spot flow level text p h =
     let calm = calm_from 32 (omega arith) (omega arith) in
     spot_blank flow level text p (rw h (calm_break 32 _ _ calm)) (space_blank (byte text p) h) (no_tab (byte text p) (leads text p && nat_lt (column_at text p) level) h)
@@ -169,11 +176,13 @@ spaced text p h =
     let blank = space_blank (byte text p) h in
     record { ends = ends; column = column_more text p ends (rw h refl); leading = leads-blank text p blank; white = white-blank text p blank; inside = blank_inside text p blank }
 
-further : (b : Bool) (m n level : ℕ) → n ≡ m + 1 → (b && nat_lt m level) ≡ false → (b && nat_lt n level) ≡ false
+further : (b : Bool) (m n level : ℕ) → n ≡ m + 1 → (b && nat_lt m level) ≡ false
+    → (b && nat_lt n level) ≡ false
 further false m n level e h = refl
 further true m n level e h = grind (arith, nat_tests)
 
-pub stand_space : (level : ℕ) (text : List ℕ) (p before : ℕ) → byte text p ≡ 32 → Stand level text p before → Stand level text (p + 1) 32
+pub stand_space : (level : ℕ) (text : List ℕ) (p before : ℕ) → byte text p ≡ 32
+    → Stand level text p before → Stand level text (p + 1) 32
 stand_space level text p before h s =
     let d = spaced text p h in
     record {
@@ -190,7 +199,8 @@ pub record LinedUp (text : List ℕ) (q n : ℕ) : Type 0 where
   pub leading : leads text (q + n) ≡ true
   pub inside : q ≤ length text → q + n ≤ length text
 
-lined_up : (text : List ℕ) (q k n : ℕ) → Has text q (replicate n 32) → column_at text q ≡ k → leads text q ≡ true → (column_at text (q + n) ≡ k + n) × (leads text (q + n) ≡ true)
+lined_up : (text : List ℕ) (q k n : ℕ) → Has text q (replicate n 32) → column_at text q ≡ k
+    → leads text q ≡ true → (column_at text (q + n) ≡ k + n) × (leads text (q + n) ≡ true)
 lined_up text q k zero h c l =
     let z : q + 0 ≡ q = omega arith in
     let y : k + 0 ≡ k = omega arith in
@@ -201,8 +211,10 @@ lined_up text q k (suc n) (e, h) c l =
     let deep : k + suc n ≡ k + 1 + n = omega arith in
     rw (far, deep) (lined_up text (q + 1) (k + 1) n h (d.column ∙ ap (λ i. i + 1) c) (d.leading ∙ l))
 
-blanks_read : (flow : Bool) (level : ℕ) (text : List ℕ) (q n : ℕ) (ps : List Piece) (e place : ℕ) (broke : Bool) → Has text q (replicate n 32) → is_nothing ps ≡ false
-    → Read flow level text (q + n) ps e place broke → Read flow level text q (blanks_of n ++ ps) e place broke
+blanks_read : (flow : Bool) (level : ℕ) (text : List ℕ) (q n : ℕ) (ps : List Piece) (e place : ℕ)
+    (broke : Bool) → Has text q (replicate n 32) → is_nothing ps ≡ false
+    → Read flow level text (q + n) ps e place broke
+    → Read flow level text q (blanks_of n ++ ps) e place broke
 blanks_read flow level text q zero ps e place broke h some r = rw add-zero at r
 blanks_read flow level text q (suc n) ps e place broke (b, h) some r =
     let d = spaced text q b in
@@ -210,7 +222,8 @@ blanks_read flow level text q (suc n) ps e place broke (b, h) some r =
     read_blank flow level text q 32 (blanks_of n ++ ps) e place broke (space_spot flow level text q b) d.inside (some_behind n ps some)
     (blanks_read flow level text (q + 1) n ps e place broke h some (subst (λ k. Read flow level text k ps e place broke) far r))
   where
-    some_behind : (n : ℕ) (ps : List Piece) → is_nothing ps ≡ false → is_nothing (blanks_of n ++ ps) ≡ false
+    some_behind : (n : ℕ) (ps : List Piece) → is_nothing ps ≡ false
+        → is_nothing (blanks_of n ++ ps) ≡ false
     some_behind zero ps h = h
     some_behind (suc n) ps h = refl
 
@@ -220,7 +233,8 @@ pub record EndAt (text : List ℕ) (p : ℕ) (e : LineEnd) : Type 0 where
   some : 0 < length (end_bytes e)
   read : feed_at text p ≡ end_means e
 
-end_at : (text : List ℕ) (p : ℕ) (e : LineEnd) (xs : List ℕ) → is_plain_end e ≡ true → Has text p (end_bytes e ++ 32 ∷ xs) → EndAt text p e
+end_at : (text : List ℕ) (p : ℕ) (e : LineEnd) (xs : List ℕ) → is_plain_end e ≡ true
+    → Has text p (end_bytes e ++ 32 ∷ xs) → EndAt text p e
 unfolding break_value break_of
 end_at text p feed xs good (a, (b, h)) = record { width = rw a refl; some = omega arith; read = rw a refl }
 end_at text p return xs good (a, (b, h)) = record { width = rw (a, b) refl; some = omega arith; read = rw (a, b) refl }
@@ -231,15 +245,19 @@ end_at text p paragraph_separator xs good h = absurd (true≢false (sym good))
 
 -- a fold, and what stands behind it
 pub record Folded (flow : Bool) (level : ℕ) (text : List ℕ) (p n : ℕ) (e : LineEnd) : Type 0 where
-  pub reads : (ps : List Piece) (f place : ℕ) (broke : Bool) → is_nothing ps ≡ false → Read flow level text (p + length (end_bytes e) + n) ps f place broke
+  pub reads : (ps : List Piece) (f place : ℕ) (broke : Bool) → is_nothing ps ≡ false
+      → Read flow level text (p + length (end_bytes e) + n) ps f place broke
       → Read flow level text p (Break (end_means e) ∷ (blanks_of n ++ ps)) f place broke
   pub stand : Stand level text (p + length (end_bytes e) + n) 32
 
-some_blanks : (n : ℕ) (ps : List Piece) → is_nothing ps ≡ false → is_nothing (blanks_of n ++ ps) ≡ false
+some_blanks : (n : ℕ) (ps : List Piece) → is_nothing ps ≡ false
+    → is_nothing (blanks_of n ++ ps) ≡ false
 some_blanks zero ps h = h
 some_blanks (suc n) ps h = refl
 
-pub folded_at : (flow : Bool) (level : ℕ) (text : List ℕ) (p m : ℕ) (e : LineEnd) → is_plain_end e ≡ true → level ≤ suc m → Has text p (end_bytes e ++ replicate (suc m) 32) → Folded flow level text p (suc m) e
+pub folded_at : (flow : Bool) (level : ℕ) (text : List ℕ) (p m : ℕ) (e : LineEnd)
+    → is_plain_end e ≡ true → level ≤ suc m → Has text p (end_bytes e ++ replicate (suc m) 32)
+    → Folded flow level text p (suc m) e
 folded_at flow level text p m e good deep h =
     let n = suc m in
     let a = end_at text p e (replicate m 32) good h in
@@ -288,7 +306,8 @@ encoded c =
       ]
     ]
 
-some_part : (n x : ℕ) (q : QuotedPart) (ps : List Piece) → IsOne n q x → is_nothing (read_as q ++ ps) ≡ false
+some_part : (n x : ℕ) (q : QuotedPart) (ps : List Piece) → IsOne n q x
+    → is_nothing (read_as q ++ ps) ≡ false
 some_part n x (raw c) ps e =
     elim (cases_Bool (is_blank c)) [
       | inl b ↦ subst (λ (t : List Piece). is_nothing (t ++ ps) ≡ false) (sym (raw_blank c b)) refl
@@ -300,19 +319,22 @@ some_part n x (numbered b digits c) ps e = absurd e
 some_part n x (fold t ts) ps e = refl
 some_part n x (joint t ts) ps e = absurd e
 
-some_parts : (n : ℕ) (ps : List QuotedPart) (x : ℕ) (xs : List ℕ) → Spells n ps (x ∷ xs) → is_nothing (all_read_as ps) ≡ false
+some_parts : (n : ℕ) (ps : List QuotedPart) (x : ℕ) (xs : List ℕ) → Spells n ps (x ∷ xs)
+    → is_nothing (all_read_as ps) ≡ false
 unfolding all_read_as
 some_parts n [] x xs h = absurd h
 some_parts n (p ∷ ps) x xs (a, h) = some_part n x p (all_read_as ps) a
 
 -- what follows a part that is white
-pub behind_white : (n : ℕ) (ps : List QuotedPart) (xs : List ℕ) → Spells n ps xs → (last_or 32 xs == 32) ≡ false → is_nothing (all_read_as ps) ≡ false
+pub behind_white : (n : ℕ) (ps : List QuotedPart) (xs : List ℕ) → Spells n ps xs
+    → (last_or 32 xs == 32) ≡ false → is_nothing (all_read_as ps) ≡ false
 unfolding last_or
 behind_white n ps [] h l = absurd (true≢false l)
 behind_white n ps (x ∷ xs) h l = some_parts n ps x xs h
 
 -- the character behind a colon
-pub colon_next : (flow : Bool) (level n : ℕ) (text : List ℕ) (p before : ℕ) (ps : List QuotedPart) (xs : List ℕ) → Spells n ps xs → AreGood flow before xs → Has text p (spelling ps)
+pub colon_next : (flow : Bool) (level n : ℕ) (text : List ℕ) (p before : ℕ) (ps : List QuotedPart)
+    (xs : List ℕ) → Spells n ps xs → AreGood flow before xs → Has text p (spelling ps)
     → (first xs ≢ 0) × (first xs ≢ 32) × (first xs ≢ 9) → is_blank_or_end text p ≡ false
 unfolding spelling
 colon_next flow level n text p before ps [] s g h (a, b, c) = absurd (a refl)

@@ -32,7 +32,8 @@ unfolding is_bracket
 bracket_46 = refl
 
 -- b is one of `- .`, and stands there; then it doesn't stand behind the scalar
-no_stop : (flow : Bool) (level : ℕ) (text : List ℕ) (r b : ℕ) → (b ≡ 45) ⊎ (b ≡ 46) → byte text r ≡ b → Stops flow level text (r + 1) → byte text (r + 1) ≡ b → ⊥
+no_stop : (flow : Bool) (level : ℕ) (text : List ℕ) (r b : ℕ) → (b ≡ 45) ⊎ (b ≡ 46)
+    → byte text r ≡ b → Stops flow level text (r + 1) → byte text (r + 1) ≡ b → ⊥
 no_stop flow level text r b which here stop next =
     let calm = calm_from b (some which) (small which) in
     let ends : ends_break text r ≡ false = rw here (calm_end _ _ b _ calm) in
@@ -83,14 +84,16 @@ pub record Ended (flow : Bool) (level : ℕ) (text : List ℕ) (q : ℕ) (gap : 
 gap_byte : (b : ℕ) → (b == 32 || (b == 10 || b == 13)) ≡ true → b < 33
 gap_byte b h = grind (arith, nat_tests)
 
-no_end : (flow : Bool) (level : ℕ) (text : List ℕ) (r b : ℕ) (gap : List ℕ) → (b ≡ 45) ⊎ (b ≡ 46) → byte text r ≡ b → Ended flow level text (r + 1) gap → byte text (r + 1) ≡ b → ⊥
+no_end : (flow : Bool) (level : ℕ) (text : List ℕ) (r b : ℕ) (gap : List ℕ) → (b ≡ 45) ⊎ (b ≡ 46)
+    → byte text r ≡ b → Ended flow level text (r + 1) gap → byte text (r + 1) ≡ b → ⊥
 no_end flow level text r b [] which here e next = let z : r + 1 + 0 ≡ r + 1 = omega arith in no_stop flow level text r b which here (subst (λ q. Stops flow level text q) z e.stop) next
 no_end flow level text r b (g ∷ gap) which here e next =
     let low = gap_byte g (and_parts (g == 32 || (g == 10 || g == 13)) (are_gap gap) e.blank).0 in
     let h = e.has.0 in
     elim which [ inl w ↦ absurd (omega (arith, low, h, next, w)) | inr w ↦ absurd (omega (arith, low, h, next, w)) ]
 
-end_low : (text : List ℕ) (q : ℕ) (e : LineEnd) (xs : List ℕ) → is_plain_end e ≡ true → Has text q (end_bytes e ++ xs) → byte text q < 14
+end_low : (text : List ℕ) (q : ℕ) (e : LineEnd) (xs : List ℕ) → is_plain_end e ≡ true
+    → Has text q (end_bytes e ++ xs) → byte text q < 14
 end_low text q feed xs good (h, more) = omega (arith, h)
 end_low text q return xs good (h, more) = omega (arith, h)
 end_low text q return_feed xs good (h, more) = omega (arith, h)
@@ -98,7 +101,8 @@ end_low text q next_line xs good h = absurd (true≢false (sym good))
 end_low text q line_separator xs good h = absurd (true≢false (sym good))
 end_low text q paragraph_separator xs good h = absurd (true≢false (sym good))
 
-fold_low : (text : List ℕ) (q : ℕ) (t : LineTurn) (ts : List LineTurn) (xs : List ℕ) → is_plain_end t.end ≡ true → Has text q (turn_bytes (t ∷ ts) ++ xs) → byte text q < 14
+fold_low : (text : List ℕ) (q : ℕ) (t : LineTurn) (ts : List LineTurn) (xs : List ℕ)
+    → is_plain_end t.end ≡ true → Has text q (turn_bytes (t ∷ ts) ++ xs) → byte text q < 14
 unfolding turn_bytes
 fold_low text q t ts xs good h = end_low text q t.end ((replicate t.spaces 32 ++ turn_bytes ts) ++ xs) good (subst (λ (ys : List ℕ). Has text q ys) (append_assoc (end_bytes t.end) (replicate t.spaces 32 ++ turn_bytes ts) xs) h)
 
@@ -107,8 +111,11 @@ dash_small b (inl e) = (omega (arith, e), omega (arith, e))
 dash_small b (inr e) = (omega (arith, e), omega (arith, e))
 
 -- where the byte stands twice, the value has it there
-next_is : (flow : Bool) (level n : ℕ) (text : List ℕ) (r b before : ℕ) (ps : List QuotedPart) (xs gap : List ℕ) → (b ≡ 45) ⊎ (b ≡ 46) → byte text r ≡ b → Spells n ps xs → AreGood flow before xs → Has text (r + 1) (spelling ps)
-    → Ended flow level text (r + 1 + length (spelling ps)) gap → byte text (r + 1) ≡ b → first xs ≡ b
+next_is : (flow : Bool) (level n : ℕ) (text : List ℕ) (r b before : ℕ) (ps : List QuotedPart)
+    (xs gap : List ℕ) → (b ≡ 45) ⊎ (b ≡ 46) → byte text r ≡ b → Spells n ps xs
+    → AreGood flow before xs → Has text (r + 1) (spelling ps)
+    → Ended flow level text (r + 1 + length (spelling ps)) gap → byte text (r + 1) ≡ b
+    → first xs ≡ b
 unfolding spelling
 next_is flow level n text r b before [] [] gap which here s g h e next = let z : r + 1 + 0 ≡ r + 1 = omega arith in absurd (no_end flow level text r b gap which here (subst (λ q. Ended flow level text q gap) z e) next)
 next_is flow level n text r b before [] (x ∷ xs) gap which here s g h e next = absurd s
@@ -132,7 +139,8 @@ pub record RawFirst (n x : ℕ) (ps : List QuotedPart) (xs : List ℕ) : Type 0 
   pub is : ps ≡ raw x ∷ rest
   pub spells : Spells n rest xs
 
-pub raw_first : (n x : ℕ) (ps : List QuotedPart) (xs : List ℕ) → x ≢ 32 → Spells n ps (x ∷ xs) → RawFirst n x ps xs
+pub raw_first : (n x : ℕ) (ps : List QuotedPart) (xs : List ℕ) → x ≢ 32 → Spells n ps (x ∷ xs)
+    → RawFirst n x ps xs
 raw_first n x [] xs m s = absurd s
 raw_first n x (raw c ∷ ps) xs m (e, s) = record { rest = ps; is = ap (λ k. raw k ∷ ps) e; spells = s }
 raw_first n x (doubled ∷ ps) xs m (e, s) = absurd e
@@ -146,8 +154,11 @@ unfolding spelling
 raw_spelling x ps = refl
 
 -- so it is with three
-third_is : (flow : Bool) (level n : ℕ) (text : List ℕ) (r b before : ℕ) (ps : List QuotedPart) (xs gap : List ℕ) → (b ≡ 45) ⊎ (b ≡ 46) → byte text r ≡ b → Spells n ps xs → AreGood flow before xs → Has text (r + 1) (spelling ps)
-    → Ended flow level text (r + 1 + length (spelling ps)) gap → byte text (r + 1) ≡ b → byte text (r + 1 + 1) ≡ b → (first xs ≡ b) × (first (behind xs) ≡ b)
+third_is : (flow : Bool) (level n : ℕ) (text : List ℕ) (r b before : ℕ) (ps : List QuotedPart)
+    (xs gap : List ℕ) → (b ≡ 45) ⊎ (b ≡ 46) → byte text r ≡ b → Spells n ps xs
+    → AreGood flow before xs → Has text (r + 1) (spelling ps)
+    → Ended flow level text (r + 1 + length (spelling ps)) gap → byte text (r + 1) ≡ b
+    → byte text (r + 1 + 1) ≡ b → (first xs ≡ b) × (first (behind xs) ≡ b)
 third_is flow level n text r b before ps [] gap which here s g h e next last = let z = next_is flow level n text r b before ps [] gap which here s g h e next in absurd (let d = (dash_small b which).1 in omega (arith, z, d))
 third_is flow level n text r b before ps (y ∷ ys) gap which here s (g, gs) h e next last =
     let is = next_is flow level n text r b before ps (y ∷ ys) gap which here s (g, gs) h e next in
@@ -177,7 +188,9 @@ pub record Begun (flow : Bool) (x : ℕ) (xs : List ℕ) : Type 0 where
 abbrev pub Not : List ℕ → ℕ → ℕ → Type 0
 Not text p k = (byte text p == k) ≡ false
 
-not_thrice : (text : List ℕ) (p b : ℕ) → (byte text p ≡ b → byte text (p + 1) ≡ b → byte text (p + 1 + 1) ≡ b → ⊥) → is_thrice b text p ≡ false
+not_thrice : (text : List ℕ) (p b : ℕ)
+    → (byte text p ≡ b → byte text (p + 1) ≡ b → byte text (p + 1 + 1) ≡ b → ⊥)
+    → is_thrice b text p ≡ false
 not_thrice text p b f =
     let two : p + 2 ≡ p + 1 + 1 = omega arith in
     when_is (byte text p) b _ (λ e. when_is (byte text (p + 1)) b (byte text (p + 2) == b) (λ g. ne_eqb (byte text (p + 2)) b (λ h. f e g (ap (λ k. byte text k) (sym two) ∙ h))))
@@ -186,7 +199,8 @@ is_one : (b k : ℕ) (a : Bool) → (b ≡ k → a ≡ false) → (b == k && a) 
 is_one b k a f = when_is b k a f
 
 -- in flow context it isn't that byte, and else nothing white follows
-either : (flow alone : Bool) (b k : ℕ) → (flow && b == k) ≡ false → (b ≡ k → alone ≡ false) → (b == k && (flow || alone)) ≡ false
+either : (flow alone : Bool) (b k : ℕ) → (flow && b == k) ≡ false → (b ≡ k → alone ≡ false)
+    → (b == k && (flow || alone)) ≡ false
 either true alone b k h f = ap (λ t. t && true) h
 either false alone b k h f = when_is b k alone f
 
@@ -194,12 +208,16 @@ either false alone b k h f = when_is b k alone f
 no_indicator : (x : ℕ) (k : ℕ) → is_indicator k ≡ true → is_indicator x ≡ false → x ≢ k
 no_indicator x k h i e = true≢false (sym h ∙ ap (λ t. is_indicator t) (sym e) ∙ i)
 
-none_is : (flow alone : Bool) (b : ℕ) → ((k : ℕ) → k < 128 → is_indicator k ≡ true → (b == k) ≡ false) → (b == 45 && alone) ≡ false → (b == 63 && (flow || alone)) ≡ false → (b == 58 && (flow || alone)) ≡ false → indicator_of flow alone b ≡ None
+none_is : (flow alone : Bool) (b : ℕ)
+    → ((k : ℕ) → k < 128 → is_indicator k ≡ true → (b == k) ≡ false) → (b == 45 && alone) ≡ false
+    → (b == 63 && (flow || alone)) ≡ false → (b == 58 && (flow || alone)) ≡ false
+    → indicator_of flow alone b ≡ None
 unfolding indicator_of
 none_is flow alone b none dash ask colon =
     rw (none 91 (omega arith) refl, none 123 (omega arith) refl, none 93 (omega arith) refl, none 125 (omega arith) refl, none 44 (omega arith) refl, dash, ask, colon, none 42 (omega arith) refl, none 38 (omega arith) refl, none 33 (omega arith) refl, none 124 (omega arith) refl, none 62 (omega arith) refl, none 39 (omega arith) refl, none 34 (omega arith) refl) refl
 
-other_byte : (b : ℕ) → ((k : ℕ) → k < 128 → is_indicator k ≡ true → (b == k) ≡ false) → (b == 45) ≡ false → (b == 63) ≡ false → (b == 58) ≡ false → is_indicator_byte b ≡ false
+other_byte : (b : ℕ) → ((k : ℕ) → k < 128 → is_indicator k ≡ true → (b == k) ≡ false)
+    → (b == 45) ≡ false → (b == 63) ≡ false → (b == 58) ≡ false → is_indicator_byte b ≡ false
 unfolding is_indicator_byte is_bracket
 other_byte b none d a c =
     rw (none 44 (omega arith) refl, none 91 (omega arith) refl, none 93 (omega arith) refl, none 123 (omega arith) refl, none 125 (omega arith) refl, d, a, c, none 35 (omega arith) refl, none 38 (omega arith) refl, none 42 (omega arith) refl, none 33 (omega arith) refl, none 124 (omega arith) refl, none 62 (omega arith) refl, none 39 (omega arith) refl, none 34 (omega arith) refl, none 37 (omega arith) refl, none 64 (omega arith) refl, none 96 (omega arith) refl) refl
@@ -208,8 +226,12 @@ blank_of : (a b c : Bool) → ((a || b) || c) ≡ false → a ≡ false
 blank_of false b c e = refl
 blank_of true b c e = absurd (true≢false e)
 
-begins : (flow : Bool) (text : List ℕ) (p : ℕ) → is_blank_or_end text p ≡ false → ((k : ℕ) → k < 128 → is_indicator k ≡ true → (byte text p == k) ≡ false)
-    → (byte text p ≡ 45 → is_blank_or_end text (p + 1) ≡ false) → (byte text p ≡ 63 → (flow ≡ false) × (is_blank_or_end text (p + 1) ≡ false)) → (byte text p ≡ 58 → (flow ≡ false) × (is_blank_or_end text (p + 1) ≡ false)) → starts_plain flow text p ≡ true
+begins : (flow : Bool) (text : List ℕ) (p : ℕ) → is_blank_or_end text p ≡ false
+    → ((k : ℕ) → k < 128 → is_indicator k ≡ true → (byte text p == k) ≡ false)
+    → (byte text p ≡ 45 → is_blank_or_end text (p + 1) ≡ false)
+    → (byte text p ≡ 63 → (flow ≡ false) × (is_blank_or_end text (p + 1) ≡ false))
+    → (byte text p ≡ 58 → (flow ≡ false) × (is_blank_or_end text (p + 1) ≡ false))
+    → starts_plain flow text p ≡ true
 unfolding starts_plain
 begins flow text p white none dash ask colon =
     bool_cases (byte text p == 45)
@@ -232,11 +254,14 @@ in_flow true b k h e = absurd (true≢false (sym (same b k e) ∙ h))
     same b k e = grind (arith, nat_tests)
 
 -- no mark of byte order
-no_bom : (text : List ℕ) (p x : ℕ) → x ≢ 0xFEFF → x < 1114112 → Has text p (encode_utf8 x) → is_bom text p ≡ false
+no_bom : (text : List ℕ) (p x : ℕ) → x ≢ 0xFEFF → x < 1114112 → Has text p (encode_utf8 x)
+    → is_bom text p ≡ false
 no_bom text p x m top h =
     when_is (byte text p) 0xEF _ (λ a. when_is (byte text (p + 1)) 0xBB (byte text (p + 2) == 0xBF) (λ b. ne_eqb (byte text (p + 2)) 0xBF (λ d. m (is_mark text p x top a b d h))))
   where
-    is_mark : (text : List ℕ) (p x : ℕ) → x < 1114112 → byte text p ≡ 0xEF → byte text (p + 1) ≡ 0xBB → byte text (p + 2) ≡ 0xBF → Has text p (encode_utf8 x) → x ≡ 0xFEFF
+    is_mark : (text : List ℕ) (p x : ℕ) → x < 1114112 → byte text p ≡ 0xEF
+        → byte text (p + 1) ≡ 0xBB → byte text (p + 2) ≡ 0xBF → Has text p (encode_utf8 x)
+        → x ≡ 0xFEFF
     is_mark text p x top a b d h =
         elim (cases_lt x 128) [
           | inl u ↦ let k = (subst (λ (bs : List ℕ). Has text p bs) (encode_1 x u) h).0 in absurd (omega (arith, k, a, u))
@@ -259,7 +284,10 @@ pub record Opens (flow : Bool) (text : List ℕ) (p : ℕ) : Type 0 where
   pub begins : begins_lexeme text p ≡ true
   pub kind : kind_at flow text p ≡ Some kinds.Plain
 
-kind_by : (flow : Bool) (text : List ℕ) (p : ℕ) → (byte text p == 0) ≡ false → (byte text p == 37) ≡ false → is_thrice 45 text p ≡ false → is_thrice 46 text p ≡ false → indicator_of flow (is_blank_or_end text (p + 1)) (byte text p) ≡ None → starts_plain flow text p ≡ true → kind_at flow text p ≡ Some kinds.Plain
+kind_by : (flow : Bool) (text : List ℕ) (p : ℕ) → (byte text p == 0) ≡ false
+    → (byte text p == 37) ≡ false → is_thrice 45 text p ≡ false → is_thrice 46 text p ≡ false
+    → indicator_of flow (is_blank_or_end text (p + 1)) (byte text p) ≡ None
+    → starts_plain flow text p ≡ true → kind_at flow text p ≡ Some kinds.Plain
 unfolding kind_at is_document_start is_document_end
 kind_by flow text p z d a b n s = rw (z, d, a, b, and_none, n, s) refl
   where
@@ -267,14 +295,19 @@ kind_by flow text p z d a b n s = rw (z, d, a, b, and_none, n, s) refl
     and_none true = refl
     and_none false = refl
 
-begun_by : (text : List ℕ) (p : ℕ) → (byte text p == 32) ≡ false → (byte text p == 9) ≡ false → (byte text p == 35) ≡ false → break_width text p ≡ 0 → is_bom text p ≡ false → begins_lexeme text p ≡ true
+begun_by : (text : List ℕ) (p : ℕ) → (byte text p == 32) ≡ false → (byte text p == 9) ≡ false
+    → (byte text p == 35) ≡ false → break_width text p ≡ 0 → is_bom text p ≡ false
+    → begins_lexeme text p ≡ true
 begun_by text p a b d w m = rw (a, b, d, w, m) (no_and (p == 0))
   where
     no_and : (t : Bool) → not (t && false) ≡ true
     no_and true = refl
     no_and false = refl
 
-pub opens : (flow : Bool) (level n : ℕ) (text : List ℕ) (p x : ℕ) (ps : List QuotedPart) (xs gap : List ℕ) → Begun flow x xs → AreGood flow 32 (x ∷ xs) → x ≢ 32 → Spells n ps xs → Has text p (spelling (raw x ∷ ps)) → Ended flow level text (p + length (spelling (raw x ∷ ps))) gap → Opens flow text p
+pub opens : (flow : Bool) (level n : ℕ) (text : List ℕ) (p x : ℕ) (ps : List QuotedPart)
+    (xs gap : List ℕ) → Begun flow x xs → AreGood flow 32 (x ∷ xs) → x ≢ 32 → Spells n ps xs
+    → Has text p (spelling (raw x ∷ ps))
+    → Ended flow level text (p + length (spelling (raw x ∷ ps))) gap → Opens flow text p
 opens flow level n text p x ps xs gap b (g, gs) space s h e =
     let h1 = subst (λ (bs : List ℕ). Has text p bs) (raw_spelling x ps) h in
     let own = has_front text p (encode_utf8 x) (spelling ps) h1 in

@@ -12,12 +12,15 @@ special_left : (p b : Bool) → (not p || b) ≡ false → p ≡ true
 special_left true b e = refl
 special_left false b e = absurd (true≢false e)
 
-shown_first : (unicode : Bool) (before x next : ℕ) → is_special unicode before x next ≡ false → is_printable x ≡ true
+shown_first : (unicode : Bool) (before x next : ℕ) → is_special unicode before x next ≡ false
+    → is_printable x ≡ true
 shown_first unicode before x next e =
     let a = (or_parts _ (x == 32 && is_break next) e).0 in
     special_left (is_printable x) (not unicode && nat_le 0x80 x) a
 
-pub all_show : (unicode : Bool) (before : ℕ) (xs : List ℕ) → somewhere (is_special unicode) before xs ≡ false → somewhere is_break_space before xs ≡ false → all_scalars xs ≡ true → AllShow xs
+pub all_show : (unicode : Bool) (before : ℕ) (xs : List ℕ)
+    → somewhere (is_special unicode) before xs ≡ false → somewhere is_break_space before xs ≡ false
+    → all_scalars xs ≡ true → AllShow xs
 unfolding somewhere
 all_show unicode before [] e b g = tt
 all_show unicode before (x ∷ xs) e b g =
@@ -35,7 +38,8 @@ nothing_there : (f : ℕ → ℕ → ℕ → Bool) → somewhere f 32 [] ≡ fal
 unfolding somewhere
 nothing_there f = refl
 
-pub single_show : (unicode : Bool) (xs : List ℕ) → (allowed unicode xs).single ≡ true → all_scalars xs ≡ true → AllShow xs
+pub single_show : (unicode : Bool) (xs : List ℕ) → (allowed unicode xs).single ≡ true
+    → all_scalars xs ≡ true → AllShow xs
 unfolding allowed
 single_show unicode [] e g = tt
 single_show unicode (x ∷ xs) e g =

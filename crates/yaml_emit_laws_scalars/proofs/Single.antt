@@ -22,7 +22,8 @@ use Rattle.yaml_emit_laws_scalars.proofs.Letters.{Behind}
 use Rattle.yaml_emit_laws_scalars.proofs.Writing.{left}
 use Rattle.yaml_emit_laws_scalars.proofs.Shown.{single_show}
 
-between : (xs bs : List ℕ) → encode_utf8_all xs ≡ bs → encode_utf8_all (39 ∷ (xs ++ 39 ∷ [])) ≡ 39 ∷ (bs ++ 39 ∷ [])
+between : (xs bs : List ℕ) → encode_utf8_all xs ≡ bs
+    → encode_utf8_all (39 ∷ (xs ++ 39 ∷ [])) ≡ 39 ∷ (bs ++ 39 ∷ [])
 between xs bs e =
     let one : encode_utf8_all (39 ∷ []) ≡ 39 ∷ [] = low_encodes (39 ∷ []) (omega arith, tt) in
     rw (encode_ascii 39 (omega arith), encodes-append xs (39 ∷ []), e) (ap (λ t. 39 ∷ (bs ++ t)) one)
@@ -34,7 +35,11 @@ start_behind c value = record { blank = λ t. absurd (true≢false (sym t)); tur
 moved_on : (n : ℕ) → n + 1 ≡ 0 → ⊥
 moved_on n e = omega (arith, e)
 
-pub single_back : SingleSpellingReads → (page : Page) (c : Cursor) (value : List ℕ) → IsUtf8 value → (page.cuts ≡ true → 0 < page.indentation) → (is_one_line (chars value) ≡ false → 0 < page.indentation) → (allowed page.unicode (chars value)).single ≡ true → SingleIsBack (between_single page (chars value)) c value
+pub single_back : SingleSpellingReads → (page : Page) (c : Cursor) (value : List ℕ) → IsUtf8 value
+    → (page.cuts ≡ true → 0 < page.indentation)
+    → (is_one_line (chars value) ≡ false → 0 < page.indentation)
+    → (allowed page.unicode (chars value)).single ≡ true
+    → SingleIsBack (between_single page (chars value)) c value
 single_back law page c value u cuts lines a =
     let good = single_show page.unicode (chars value) a (scalars-chars value u) in
     let r = left page true 32 (moved_by c) doubled (chars value) (record { cuts = cuts; lines = lines }) good (start_behind (moved_by c) (chars value)) (λ e. (refl, refl)) refl in

@@ -28,7 +28,8 @@ bracket : (b : ℕ) → is_bracket b ≡ true → Bracket b
 unfolding is_bracket break_of
 bracket b h = record { gap = grind (arith, nat_tests); tab = grind (arith, nat_tests); width = λ c d. grind (arith, nat_tests) }
 
-bracket_stops : (level : ℕ) (at : Option ℕ) (b : ℕ) (bs : List ℕ) → is_bracket b ≡ true → stops_plain_at true level at (b ∷ bs) ≡ true
+bracket_stops : (level : ℕ) (at : Option ℕ) (b : ℕ) (bs : List ℕ) → is_bracket b ≡ true
+    → stops_plain_at true level at (b ∷ bs) ≡ true
 bracket_stops level at b bs h =
     let k = bracket b h in
     let here : stops_here true level at b bs ≡ true = rw (k.tab, k.width (first bs) (first (behind bs)), h) (or_true (b == 58 && begins_white bs)) in
@@ -42,7 +43,8 @@ colon_width : (c d : ℕ) → break_of 58 c d ≡ 0
 unfolding break_of
 colon_width c d = refl
 
-colon_stops : (flow : Bool) (level : ℕ) (at : Option ℕ) (bs : List ℕ) → begins_white bs ≡ true → stops_plain_at flow level at (58 ∷ bs) ≡ true
+colon_stops : (flow : Bool) (level : ℕ) (at : Option ℕ) (bs : List ℕ) → begins_white bs ≡ true
+    → stops_plain_at flow level at (58 ∷ bs) ≡ true
 colon_stops flow level at bs h =
     let here : stops_here flow level at 58 bs ≡ true = rw (colon_width (first bs) (first (behind bs)), h) refl in
     stop_other flow level at 58 bs refl ∙ here
@@ -63,17 +65,20 @@ dot_bracket : is_bracket 46 ≡ false
 unfolding is_bracket
 dot_bracket = refl
 
-dashes_stop : (flow : Bool) (level : ℕ) (bs : List ℕ) → begins_white bs ≡ true → stops_plain_at flow level (Some 0) (45 ∷ 45 ∷ 45 ∷ bs) ≡ true
+dashes_stop : (flow : Bool) (level : ℕ) (bs : List ℕ) → begins_white bs ≡ true
+    → stops_plain_at flow level (Some 0) (45 ∷ 45 ∷ 45 ∷ bs) ≡ true
 dashes_stop flow level bs h =
     let here : stops_here flow level (Some 0) 45 (45 ∷ 45 ∷ bs) ≡ true = rw (dash_width 45 45, dash_bracket, and-false flow, h) refl in
     stop_other flow level (Some 0) 45 (45 ∷ 45 ∷ bs) refl ∙ here
 
-dots_stop : (flow : Bool) (level : ℕ) (bs : List ℕ) → begins_white bs ≡ true → stops_plain_at flow level (Some 0) (46 ∷ 46 ∷ 46 ∷ bs) ≡ true
+dots_stop : (flow : Bool) (level : ℕ) (bs : List ℕ) → begins_white bs ≡ true
+    → stops_plain_at flow level (Some 0) (46 ∷ 46 ∷ 46 ∷ bs) ≡ true
 dots_stop flow level bs h =
     let here : stops_here flow level (Some 0) 46 (46 ∷ 46 ∷ bs) ≡ true = rw (dot_width 46 46, dot_bracket, and-false flow, h) refl in
     stop_other flow level (Some 0) 46 (46 ∷ 46 ∷ bs) refl ∙ here
 
-solid_stops : (level n : ℕ) (bs : List ℕ) → n < level → begins_solid bs ≡ true → stops_plain_at false level (Some n) bs ≡ true
+solid_stops : (level n : ℕ) (bs : List ℕ) → n < level → begins_solid bs ≡ true
+    → stops_plain_at false level (Some n) bs ≡ true
 solid_stops level n [] l h = absurd (true≢false (sym h))
 solid_stops level n (b ∷ bs) l h =
     let gap = not-true (is_gap_byte b) (and_parts (not (is_gap_byte b)) _ h).0 in
@@ -98,7 +103,9 @@ what_stops flow level at = (
 
 -- ---- characters
 
-solid_by : (b : ℕ) (bs : List ℕ) → (b == 32) ≡ false → (b == 10) ≡ false → (b == 13) ≡ false → (b == 9) ≡ false → break_of b (first bs) (first (behind bs)) ≡ 0 → begins_solid (b ∷ bs) ≡ true
+solid_by : (b : ℕ) (bs : List ℕ) → (b == 32) ≡ false → (b == 10) ≡ false → (b == 13) ≡ false
+    → (b == 9) ≡ false → break_of b (first bs) (first (behind bs)) ≡ 0
+    → begins_solid (b ∷ bs) ≡ true
 solid_by b bs s f r t w = rw (s, f, r, t, w) refl
 
 apart_break : (c k : ℕ) → is_break c ≡ false → is_break k ≡ true → c ≢ k
@@ -140,5 +147,6 @@ chars_solid x bs s p calm space =
     scalar_top : (c : ℕ) → scalar c ≡ true → c < 1114112
     scalar_top c h = elim (scalar_cases c h) [ inl a ↦ omega arith | inr a ↦ a.1 ]
 
-    high_solid : (b : ℕ) (bs : List ℕ) → 128 ≤ b → break_of b (first bs) (first (behind bs)) ≡ 0 → begins_solid (b ∷ bs) ≡ true
+    high_solid : (b : ℕ) (bs : List ℕ) → 128 ≤ b → break_of b (first bs) (first (behind bs)) ≡ 0
+        → begins_solid (b ∷ bs) ≡ true
     high_solid b bs h w = solid_by b bs (ne_eqb b 32 (λ e. omega (arith, e, h))) (ne_eqb b 10 (λ e. omega (arith, e, h))) (ne_eqb b 13 (λ e. omega (arith, e, h))) (ne_eqb b 9 (λ e. omega (arith, e, h))) w

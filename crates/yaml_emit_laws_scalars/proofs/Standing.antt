@@ -29,11 +29,14 @@ pub record Read (flow : Bool) (level : ℕ) (text : List ℕ) (p : ℕ) (ps : Li
   pub inside : p ≤ length text → place ≤ length text
   pub gives : (n : ℕ) → place < n + p → words n flow level text p ≡ Ok (sealed ps e place broke)
 
-words_next : (n : ℕ) (flow : Bool) (level : ℕ) (text : List ℕ) (p : ℕ) (s : PlainSpot) → spot_at flow level text p ≡ s → words (suc n) flow level text p ≡ follows (words n flow level text) p s
+words_next : (n : ℕ) (flow : Bool) (level : ℕ) (text : List ℕ) (p : ℕ) (s : PlainSpot)
+    → spot_at flow level text p ≡ s
+    → words (suc n) flow level text p ≡ follows (words n flow level text) p s
 unfolding words
 words_next n flow level text p s h = ap (λ x. follows (words n flow level text) p x) h
 
-step_gives : (flow : Bool) (level : ℕ) (text : List ℕ) (p q place : ℕ) (x : Piece) (v w : Words) → spot_at flow level text p ≡ Takes x q → p < q → q ≤ place
+step_gives : (flow : Bool) (level : ℕ) (text : List ℕ) (p q place : ℕ) (x : Piece) (v w : Words)
+    → spot_at flow level text p ≡ Takes x q → p < q → q ≤ place
     → ((n : ℕ) → place < n + q → words n flow level text q ≡ Ok v) → with_piece x q v ≡ w
     → (n : ℕ) → place < n + p → words n flow level text p ≡ Ok w
 step_gives flow level text p q place x v w s more l g e zero room = absurd (omega arith)
@@ -42,20 +45,28 @@ step_gives flow level text p q place x v w s more l g e (suc n) room =
     ∙ ap (λ (r : Result Words Wrong). words_from x q r) (g n (omega arith))
     ∙ ap (λ (y : Words). let r : Result Words Wrong = Ok y in r) e
 
-pub kept_sealed : (bytes : List ℕ) (q e place : ℕ) (broke : Bool) (ps : List Piece) → (is_nothing ps ≡ true → e ≡ q) → with_piece (Kept bytes) q (sealed ps e place broke) ≡ sealed (Kept bytes ∷ ps) e place broke
+pub kept_sealed : (bytes : List ℕ) (q e place : ℕ) (broke : Bool) (ps : List Piece)
+    → (is_nothing ps ≡ true → e ≡ q)
+    → with_piece (Kept bytes) q (sealed ps e place broke) ≡ sealed (Kept bytes ∷ ps) e place broke
 kept_sealed bytes q e place broke [] h = let same = h refl in rw same refl
 kept_sealed bytes q e place broke (x ∷ xs) h = refl
 
-blank_sealed : (b q e place : ℕ) (broke : Bool) (ps : List Piece) → is_nothing ps ≡ false → with_piece (Blank b) q (sealed ps e place broke) ≡ sealed (Blank b ∷ ps) e place broke
+blank_sealed : (b q e place : ℕ) (broke : Bool) (ps : List Piece) → is_nothing ps ≡ false
+    → with_piece (Blank b) q (sealed ps e place broke) ≡ sealed (Blank b ∷ ps) e place broke
 blank_sealed b q e place broke [] h = absurd (true≢false h)
 blank_sealed b q e place broke (x ∷ xs) h = refl
 
-break_sealed : (bytes : List ℕ) (q e place : ℕ) (broke : Bool) (ps : List Piece) → is_nothing ps ≡ false → with_piece (Break bytes) q (sealed ps e place broke) ≡ sealed (Break bytes ∷ ps) e place broke
+break_sealed : (bytes : List ℕ) (q e place : ℕ) (broke : Bool) (ps : List Piece)
+    → is_nothing ps ≡ false
+    → with_piece (Break bytes) q (sealed ps e place broke) ≡ sealed (Break bytes ∷ ps) e place broke
 break_sealed bytes q e place broke [] h = absurd (true≢false h)
 break_sealed bytes q e place broke (x ∷ xs) h = refl
 
-pub read_kept : (flow : Bool) (level : ℕ) (text : List ℕ) (p : ℕ) (bytes : List ℕ) (ps : List Piece) (e place : ℕ) (broke : Bool) → spot_at flow level text p ≡ Takes (Kept bytes) (p + 1) → p < length text
-    → Read flow level text (p + 1) ps e place broke → Read flow level text p (Kept bytes ∷ ps) e place broke
+pub read_kept : (flow : Bool) (level : ℕ) (text : List ℕ) (p : ℕ) (bytes : List ℕ) (ps : List Piece)
+    (e place : ℕ) (broke : Bool) → spot_at flow level text p ≡ Takes (Kept bytes) (p + 1)
+    → p < length text
+    → Read flow level text (p + 1) ps e place broke
+    → Read flow level text p (Kept bytes ∷ ps) e place broke
 read_kept flow level text p bytes ps e place broke s i r =
     let at = r.at in
     let inside = r.inside (omega (arith, i)) in
@@ -66,8 +77,11 @@ read_kept flow level text p bytes ps e place broke s i r =
       gives = step_gives flow level text p (p + 1) place (Kept bytes) (sealed ps e place broke) (sealed (Kept bytes ∷ ps) e place broke) s (omega arith) at r.gives (kept_sealed bytes (p + 1) e place broke ps r.here);
     }
 
-pub read_blank : (flow : Bool) (level : ℕ) (text : List ℕ) (p b : ℕ) (ps : List Piece) (e place : ℕ) (broke : Bool) → spot_at flow level text p ≡ Takes (Blank b) (p + 1) → p < length text → is_nothing ps ≡ false
-    → Read flow level text (p + 1) ps e place broke → Read flow level text p (Blank b ∷ ps) e place broke
+pub read_blank : (flow : Bool) (level : ℕ) (text : List ℕ) (p b : ℕ) (ps : List Piece) (e place : ℕ)
+    (broke : Bool) → spot_at flow level text p ≡ Takes (Blank b) (p + 1) → p < length text
+    → is_nothing ps ≡ false
+    → Read flow level text (p + 1) ps e place broke
+    → Read flow level text p (Blank b ∷ ps) e place broke
 read_blank flow level text p b ps e place broke s i some r =
     let at = r.at in
     let inside = r.inside (omega (arith, i)) in
@@ -78,8 +92,12 @@ read_blank flow level text p b ps e place broke s i some r =
       gives = step_gives flow level text p (p + 1) place (Blank b) (sealed ps e place broke) (sealed (Blank b ∷ ps) e place broke) s (omega arith) at r.gives (blank_sealed b (p + 1) e place broke ps some);
     }
 
-pub read_break : (flow : Bool) (level : ℕ) (text : List ℕ) (p q : ℕ) (bytes : List ℕ) (ps : List Piece) (e place : ℕ) (broke : Bool) → spot_at flow level text p ≡ Takes (Break bytes) q → p < q → q ≤ length text → is_nothing ps ≡ false
-    → Read flow level text q ps e place broke → Read flow level text p (Break bytes ∷ ps) e place broke
+pub read_break : (flow : Bool) (level : ℕ) (text : List ℕ) (p q : ℕ) (bytes : List ℕ)
+    (ps : List Piece) (e place : ℕ) (broke : Bool)
+    → spot_at flow level text p ≡ Takes (Break bytes) q → p < q → q ≤ length text
+    → is_nothing ps ≡ false
+    → Read flow level text q ps e place broke
+    → Read flow level text p (Break bytes ∷ ps) e place broke
 read_break flow level text p q bytes ps e place broke s more i some r =
     let at = r.at in
     let inside = r.inside i in
@@ -104,16 +122,19 @@ in_line text p h =
     let e : (column_at text p == 0) ≡ false = grind (arith, nat_tests) in
     rw e refl
 
-pub column_on : (text : List ℕ) (p : ℕ) → ends_break text p ≡ false → 0 < column_at text p → 0 < column_at text (p + 1)
+pub column_on : (text : List ℕ) (p : ℕ) → ends_break text p ≡ false → 0 < column_at text p
+    → 0 < column_at text (p + 1)
 unfolding column_at
 column_on text p h c = rw (add-one, h) (omega arith)
 
-pub column_start : (text : List ℕ) (p : ℕ) → ends_break text p ≡ false → starts (byte text p) ≡ true → 0 < column_at text (p + 1)
+pub column_start : (text : List ℕ) (p : ℕ) → ends_break text p ≡ false → starts (byte text p) ≡ true
+    → 0 < column_at text (p + 1)
 unfolding column_at
 column_start text p h s = rw (add-one, h, s) (omega arith)
 
 -- behind a byte that isn't white
-pub stand_behind : (level : ℕ) (text : List ℕ) (p x : ℕ) → is_blank (byte text p) ≡ false → ends_break text p ≡ false → 0 < column_at text (p + 1) → Stand level text (p + 1) x
+pub stand_behind : (level : ℕ) (text : List ℕ) (p x : ℕ) → is_blank (byte text p) ≡ false
+    → ends_break text p ≡ false → 0 < column_at text (p + 1) → Stand level text (p + 1) x
 stand_behind level text p x b e c = record {
   column = c;
   inner = ap (λ t. t && nat_lt (column_at text (p + 1)) level) (leads-text text p b e);
@@ -128,7 +149,8 @@ pub record Stays (flow : Bool) (text : List ℕ) (p : ℕ) : Type 0 where
   pub bracket : (flow && is_bracket (byte text p)) ≡ false
   pub odd : (flow && byte text p == 58) ≡ false
 
-pub not_ended : (flow : Bool) (level : ℕ) (text : List ℕ) (p before : ℕ) → Stand level text p before → Stays flow text p → ends_at flow level text p ≡ false
+pub not_ended : (flow : Bool) (level : ℕ) (text : List ℕ) (p before : ℕ) → Stand level text p before
+    → Stays flow text p → ends_at flow level text p ≡ false
 unfolding ends_at
 not_ended true level text p before s b = rw (b.some, in_line text p s.column, b.hash, b.colon) b.bracket
 not_ended false level text p before s b = rw (b.some, in_line text p s.column, b.hash, b.colon) s.inner
@@ -138,7 +160,9 @@ no_odd false b c h = refl
 no_odd true false c h = refl
 no_odd true true c h = absurd (true≢false h)
 
-pub kept_spot : (flow : Bool) (level : ℕ) (text : List ℕ) (p b before : ℕ) → Stand level text p before → Stays flow text p → byte text p ≡ b → is_blank b ≡ false → break_width text p ≡ 0 → spot_at flow level text p ≡ Takes (Kept (b ∷ [])) (p + 1)
+pub kept_spot : (flow : Bool) (level : ℕ) (text : List ℕ) (p b before : ℕ)
+    → Stand level text p before → Stays flow text p → byte text p ≡ b → is_blank b ≡ false
+    → break_width text p ≡ 0 → spot_at flow level text p ≡ Takes (Kept (b ∷ [])) (p + 1)
 kept_spot flow level text p b before s k e blank width =
     spot_kept flow level text p width (ap (λ x. is_blank x) e ∙ blank) (not_ended flow level text p before s k) (no_odd flow (byte text p == 58) _ k.odd)
     ∙ ap (λ x. Takes (Kept (x ∷ [])) (p + 1)) e
@@ -146,25 +170,32 @@ kept_spot flow level text p b before s k e blank width =
 -- ---- bytes that are kept
 
 pub record Through (flow : Bool) (level : ℕ) (text : List ℕ) (p : ℕ) (qs : List Piece) (q : ℕ) : Type 0 where
-  pub reads : (ps : List Piece) (e place : ℕ) (broke : Bool) → Read flow level text q ps e place broke → Read flow level text p (qs ++ ps) e place broke
+  pub reads : (ps : List Piece) (e place : ℕ) (broke : Bool)
+      → Read flow level text q ps e place broke → Read flow level text p (qs ++ ps) e place broke
   pub stand : Stand level text q 0
 
-pub through_both : (flow : Bool) (level : ℕ) (text : List ℕ) (p q r : ℕ) (qs rs : List Piece) → Through flow level text p qs q → Through flow level text q rs r → Through flow level text p (qs ++ rs) r
+pub through_both : (flow : Bool) (level : ℕ) (text : List ℕ) (p q r : ℕ) (qs rs : List Piece)
+    → Through flow level text p qs q → Through flow level text q rs r
+    → Through flow level text p (qs ++ rs) r
 through_both flow level text p q r qs rs a b = record {
   reads = λ ps e place broke x. subst (λ (t : List Piece). Read flow level text p t e place broke) (sym (append_assoc qs rs ps)) (a.reads (rs ++ ps) e place broke (b.reads ps e place broke x));
   stand = b.stand;
 }
 
-pub through_at : (flow : Bool) (level : ℕ) (text : List ℕ) (p q r : ℕ) (qs : List Piece) → q ≡ r → Through flow level text p qs q → Through flow level text p qs r
+pub through_at : (flow : Bool) (level : ℕ) (text : List ℕ) (p q r : ℕ) (qs : List Piece) → q ≡ r
+    → Through flow level text p qs q → Through flow level text p qs r
 through_at flow level text p q r qs e t = subst (λ k. Through flow level text p qs k) e t
 
-through_none : (flow : Bool) (level : ℕ) (text : List ℕ) (p : ℕ) → Stand level text p 0 → Through flow level text p [] p
+through_none : (flow : Bool) (level : ℕ) (text : List ℕ) (p : ℕ) → Stand level text p 0
+    → Through flow level text p [] p
 through_none flow level text p s = record { reads = λ ps e place broke r. r; stand = s }
 
 positive : (b : ℕ) → (b == 0) ≡ false → 0 < b
 positive b h = grind (arith, nat_tests)
 
-pub through_byte : (flow : Bool) (level : ℕ) (text : List ℕ) (p b before : ℕ) → Stand level text p before → Stays flow text p → byte text p ≡ b → is_blank b ≡ false → ends_break text p ≡ false → break_width text p ≡ 0
+pub through_byte : (flow : Bool) (level : ℕ) (text : List ℕ) (p b before : ℕ)
+    → Stand level text p before → Stays flow text p → byte text p ≡ b → is_blank b ≡ false
+    → ends_break text p ≡ false → break_width text p ≡ 0
     → Through flow level text p (Kept (b ∷ []) ∷ []) (p + 1)
 through_byte flow level text p b before s k e blank ends width = record {
   reads = λ ps f place broke r. read_kept flow level text p (b ∷ []) ps f place broke (kept_spot flow level text p b before s k e blank width) (within text p (positive (byte text p) k.some)) r;
@@ -186,15 +217,20 @@ high_stays flow text p h = record {
   odd = ap (λ t. flow && t) (ne_eqb (byte text p) 58 (λ e. omega arith)) ∙ and-false flow;
 }
 
-high : (flow : Bool) (level : ℕ) (text : List ℕ) (p b before : ℕ) → Stand level text p before → byte text p ≡ b → 128 ≤ b → ends_break text p ≡ false → break_width text p ≡ 0 → Through flow level text p (Kept (b ∷ []) ∷ []) (p + 1)
+high : (flow : Bool) (level : ℕ) (text : List ℕ) (p b before : ℕ) → Stand level text p before
+    → byte text p ≡ b → 128 ≤ b → ends_break text p ≡ false → break_width text p ≡ 0
+    → Through flow level text p (Kept (b ∷ []) ∷ []) (p + 1)
 high flow level text p b before s e h ends width = through_byte flow level text p b before s (high_stays flow text p (rw e h)) e (high_blank b h) ends width
 
-ends_1 : (text : List ℕ) (p y b : ℕ) → byte text p ≡ y → byte text (p + 1) ≡ b → ((x c : ℕ) → ends_of x y b c ≡ false) → ends_break text (p + 1) ≡ false
+ends_1 : (text : List ℕ) (p y b : ℕ) → byte text p ≡ y → byte text (p + 1) ≡ b
+    → ((x c : ℕ) → ends_of x y b c ≡ false) → ends_break text (p + 1) ≡ false
 ends_1 text p y b h k f =
     let e : p + 1 - 1 ≡ p = omega arith in
     rw (e, h, k) (f (byte text (p + 1 - 2)) (byte text (p + 1 + 1)))
 
-ends_2 : (text : List ℕ) (p x y b : ℕ) → byte text p ≡ x → byte text (p + 1) ≡ y → byte text (p + 1 + 1) ≡ b → ((c : ℕ) → ends_of x y b c ≡ false) → ends_break text (p + 1 + 1) ≡ false
+ends_2 : (text : List ℕ) (p x y b : ℕ) → byte text p ≡ x → byte text (p + 1) ≡ y
+    → byte text (p + 1 + 1) ≡ b → ((c : ℕ) → ends_of x y b c ≡ false)
+    → ends_break text (p + 1 + 1) ≡ false
 ends_2 text p x y b g h k f =
     let e : p + 1 + 1 - 1 ≡ p + 1 = omega arith in
     let d : p + 1 + 1 - 2 ≡ p = omega arith in
@@ -211,7 +247,8 @@ pub record CharAt (flow : Bool) (level : ℕ) (text : List ℕ) (p c : ℕ) (byt
   pub starts : starts first ≡ true
   pub low : c < 128 → first ≡ c
   pub high : 128 ≤ c → 192 ≤ first
-  pub tail : Stand level text (p + 1) 0 → Through flow level text (p + 1) (keeps rest) (p + length bytes)
+  pub tail : Stand level text (p + 1) 0
+      → Through flow level text (p + 1) (keeps rest) (p + length bytes)
 
 high_starts : (b : ℕ) → 192 ≤ b → starts b ≡ true
 high_starts b h = grind (arith, nat_tests)
@@ -219,7 +256,8 @@ high_starts b h = grind (arith, nat_tests)
 low_starts : (b : ℕ) → b < 128 → starts b ≡ true
 low_starts b h = grind (arith, nat_tests)
 
-one_at : (flow : Bool) (level : ℕ) (text : List ℕ) (p c : ℕ) → c < 128 → c ≢ 10 → c ≢ 13 → Has text p (c ∷ []) → CharAt flow level text p c (c ∷ [])
+one_at : (flow : Bool) (level : ℕ) (text : List ℕ) (p c : ℕ) → c < 128 → c ≢ 10 → c ≢ 13
+    → Has text p (c ∷ []) → CharAt flow level text p c (c ∷ [])
 one_at flow level text p c l nf nr (h, t) = record {
   first = c;
   rest = [];
@@ -233,7 +271,9 @@ one_at flow level text p c l nf nr (h, t) = record {
   tail = λ s. through_none flow level text (p + 1) s;
 }
 
-two_at : (flow : Bool) (level : ℕ) (text : List ℕ) (p c a b : ℕ) → 128 ≤ c → 192 ≤ a → a < 224 → 128 ≤ b → b < 192 → (a ≡ 0xC2 → b ≡ 0x85 → ⊥) → Has text p (a ∷ b ∷ []) → CharAt flow level text p c (a ∷ b ∷ [])
+two_at : (flow : Bool) (level : ℕ) (text : List ℕ) (p c a b : ℕ) → 128 ≤ c → 192 ≤ a → a < 224
+    → 128 ≤ b → b < 192 → (a ≡ 0xC2 → b ≡ 0x85 → ⊥) → Has text p (a ∷ b ∷ [])
+    → CharAt flow level text p c (a ∷ b ∷ [])
 two_at flow level text p c a b big l m n o z (h, (k, u)) = record {
   first = a;
   rest = b ∷ [];
@@ -250,8 +290,10 @@ two_at flow level text p c a b big l m n o z (h, (k, u)) = record {
       (high flow level text (p + 1) b 0 s k n (ends_1 text p a b h k (λ x d. second_end x a b d n o l (λ e f. z f e))) (rw k (later_break b _ _ n o)));
 }
 
-three_at : (flow : Bool) (level : ℕ) (text : List ℕ) (p c a b d : ℕ) → 128 ≤ c → 224 ≤ a → a < 240 → 128 ≤ b → b < 192 → 128 ≤ d → d < 192
-    → (a ≡ 0xE2 → b ≡ 0x80 → d ≡ 0xA8 → ⊥) → (a ≡ 0xE2 → b ≡ 0x80 → d ≡ 0xA9 → ⊥) → Has text p (a ∷ b ∷ d ∷ []) → CharAt flow level text p c (a ∷ b ∷ d ∷ [])
+three_at : (flow : Bool) (level : ℕ) (text : List ℕ) (p c a b d : ℕ) → 128 ≤ c → 224 ≤ a → a < 240
+    → 128 ≤ b → b < 192 → 128 ≤ d → d < 192
+    → (a ≡ 0xE2 → b ≡ 0x80 → d ≡ 0xA8 → ⊥) → (a ≡ 0xE2 → b ≡ 0x80 → d ≡ 0xA9 → ⊥)
+    → Has text p (a ∷ b ∷ d ∷ []) → CharAt flow level text p c (a ∷ b ∷ d ∷ [])
 three_at flow level text p c a b d big l m n o q r x y (h, (k, (i, u))) = record {
   first = a;
   rest = b ∷ d ∷ [];
@@ -270,7 +312,9 @@ three_at flow level text p c a b d big l m n o q r x y (h, (k, (i, u))) = record
       (through_both flow level text (p + 1) (p + 1 + 1) (p + 1 + 1 + 1) (keeps (b ∷ [])) (keeps (d ∷ [])) second third);
 }
 
-four_at : (flow : Bool) (level : ℕ) (text : List ℕ) (p c a b d g : ℕ) → 128 ≤ c → 240 ≤ a → 128 ≤ b → b < 192 → 128 ≤ d → d < 192 → 128 ≤ g → g < 192 → Has text p (a ∷ b ∷ d ∷ g ∷ []) → CharAt flow level text p c (a ∷ b ∷ d ∷ g ∷ [])
+four_at : (flow : Bool) (level : ℕ) (text : List ℕ) (p c a b d g : ℕ) → 128 ≤ c → 240 ≤ a → 128 ≤ b
+    → b < 192 → 128 ≤ d → d < 192 → 128 ≤ g → g < 192 → Has text p (a ∷ b ∷ d ∷ g ∷ [])
+    → CharAt flow level text p c (a ∷ b ∷ d ∷ g ∷ [])
 four_at flow level text p c a b d g big l n o q r s t (h, (k, (i, (j, u)))) = record {
   first = a;
   rest = b ∷ d ∷ g ∷ [];
@@ -300,7 +344,8 @@ pub record Plainly (c : ℕ) : Type 0 where
   pub no_paragraph : c ≢ 0x2029
   pub top : c < 1114112
 
-pub char_at : (flow : Bool) (level : ℕ) (text : List ℕ) (p c : ℕ) → Plainly c → Has text p (encode_utf8 c) → CharAt flow level text p c (encode_utf8 c)
+pub char_at : (flow : Bool) (level : ℕ) (text : List ℕ) (p c : ℕ) → Plainly c
+    → Has text p (encode_utf8 c) → CharAt flow level text p c (encode_utf8 c)
 char_at flow level text p c s =
     let P : List ℕ → Type 0 = λ bs. Has text p bs → CharAt flow level text p c bs in
     let nf = s.no_feed in let nr = s.no_return in let nn = s.no_next_line in let nl = s.no_line in let np = s.no_paragraph in let top = s.top in

@@ -36,7 +36,8 @@ use Rattle.yaml_emit_laws_scalars.proofs.Stopping.{goes_on, behind_lines}
 
 -- ---- plain
 
-gap_by : (page : Page) (flow : Bool) (value cs : List ℕ) → encode_utf8_all cs ≡ value → 0 < length value → plain page flow cs ≡ (gap ▹ (flow_body page false 32 cs ▹ after_text))
+gap_by : (page : Page) (flow : Bool) (value cs : List ℕ) → encode_utf8_all cs ≡ value
+    → 0 < length value → plain page flow cs ≡ (gap ▹ (flow_body page false 32 cs ▹ after_text))
 gap_by page flow value [] e some = let z : length value ≡ 0 = ap (λ (bs : List ℕ). length bs) (sym e) in absurd (omega (arith, some, z))
 gap_by page flow value (x ∷ xs) e some = ap (λ (b : Bool). when b gap ▹ (flow_body page false 32 (x ∷ xs) ▹ after_text)) (or_true flow)
   where
@@ -96,11 +97,14 @@ quoted_stands law page c value u deep may rest none text p l =
 
 -- ---- words
 
-plain_word : (flow : Bool) (level : ℕ) (text : List ℕ) (p : ℕ) → word_at kinds.Plain flow level text p ≡ plainly (plain_at flow level text p)
+plain_word : (flow : Bool) (level : ℕ) (text : List ℕ) (p : ℕ)
+    → word_at kinds.Plain flow level text p ≡ plainly (plain_at flow level text p)
 unfolding word_at
 plain_word flow level text p = refl
 
-single_word : (flow : Bool) (level : ℕ) (text : List ℕ) (p : ℕ) → word_at kinds.SingleQuoted flow level text p ≡ valued (λ v. tokens.scalar v YAML_SINGLE_QUOTED_SCALAR_STYLE) (single_quoted_at text p)
+single_word : (flow : Bool) (level : ℕ) (text : List ℕ) (p : ℕ)
+    → word_at kinds.SingleQuoted flow level text p
+    ≡ valued (λ v. tokens.scalar v YAML_SINGLE_QUOTED_SCALAR_STYLE) (single_quoted_at text p)
 unfolding word_at
 single_word flow level text p = refl
 

@@ -28,13 +28,16 @@ Fits a flow simple style.Folded = (a.block ≡ true) × (flow ≡ false) × (sim
 single_fits : (a : Allowed) (flow simple : Bool) → Fits a flow simple (single_or a)
 single_fits a flow simple = bool_cases a.single (λ e. subst (λ b. Fits a flow simple (if b then style.Single else style.Double)) (sym e) e) (λ e. subst (λ b. Fits a flow simple (if b then style.Single else style.Double)) (sym e) tt)
 
-plain_is : (a : Allowed) (untagged flow simple empty : Bool) → Fits a flow simple (plain_or a untagged flow simple empty)
+plain_is : (a : Allowed) (untagged flow simple empty : Bool)
+    → Fits a flow simple (plain_or a untagged flow simple empty)
 plain_is a untagged flow simple empty =
     bool_cases (plain_fits a untagged flow simple empty)
     (λ e. subst (λ b. Fits a flow simple (if b then style.Plain else single_or a)) (sym e) (and_parts (if flow then a.flow_plain else a.plain) (not (empty && simple) && untagged) e).0)
     (λ e. subst (λ b. Fits a flow simple (if b then style.Plain else single_or a)) (sym e) (single_fits a flow simple))
 
-block_is : (a : Allowed) (flow simple : Bool) (s : Style) → ((a.block ≡ true) × (flow ≡ false) × (simple ≡ false) → Fits a flow simple s) → Fits a flow simple (block_or a flow simple s)
+block_is : (a : Allowed) (flow simple : Bool) (s : Style)
+    → ((a.block ≡ true) × (flow ≡ false) × (simple ≡ false) → Fits a flow simple s)
+    → Fits a flow simple (block_or a flow simple s)
 block_is a flow simple s f =
     bool_cases (a.block && not (flow || simple))
     (λ e.
@@ -42,7 +45,8 @@ block_is a flow simple s f =
     subst (λ b. Fits a flow simple (if b then s else style.Double)) (sym e) (f ((and_parts a.block (not (flow || simple)) e).0, (or_parts flow simple n).0, (or_parts flow simple n).1)))
     (λ e. subst (λ b. Fits a flow simple (if b then s else style.Double)) (sym e) tt)
 
-taken_fits : (a : Allowed) (s : yaml_scalar_style_t) (untagged flow simple empty : Bool) → Fits a flow simple (taken a s untagged flow simple empty)
+taken_fits : (a : Allowed) (s : yaml_scalar_style_t) (untagged flow simple empty : Bool)
+    → Fits a flow simple (taken a s untagged flow simple empty)
 unfolding taken
 taken_fits a asked.YAML_ANY_SCALAR_STYLE untagged flow simple empty = plain_is a untagged flow simple empty
 taken_fits a asked.YAML_PLAIN_SCALAR_STYLE untagged flow simple empty = plain_is a untagged flow simple empty
@@ -51,7 +55,9 @@ taken_fits a asked.YAML_DOUBLE_QUOTED_SCALAR_STYLE untagged flow simple empty = 
 taken_fits a asked.YAML_LITERAL_SCALAR_STYLE untagged flow simple empty = block_is a flow simple style.Literal (λ h. h)
 taken_fits a asked.YAML_FOLDED_SCALAR_STYLE untagged flow simple empty = block_is a flow simple style.Folded (λ h. h)
 
-style_fits : (p : Context) (at : Spot) (x : Scalar) → Fits (allowed p.settings.unicode (chars x.value)) at.flow (is_simple_part at.part) (style_of p at x)
+style_fits : (p : Context) (at : Spot) (x : Scalar)
+    → Fits (allowed p.settings.unicode (chars x.value)) at.flow (is_simple_part at.part)
+    (style_of p at x)
 unfolding style_of
 style_fits p at x =
     let a = allowed p.settings.unicode (chars x.value) in
@@ -72,7 +78,8 @@ styles_allowed p at x =
 
 -- ---- pages
 
-deep_by : (s : Settings) → 0 < s.indent → (around : Option ℕ) (level : ℕ) → level ≤ level_of around → (0 < deeper s around) × (level ≤ deeper s around)
+deep_by : (s : Settings) → 0 < s.indent → (around : Option ℕ) (level : ℕ) → level ≤ level_of around
+    → (0 < deeper s around) × (level ≤ deeper s around)
 deep_by s some None level h = (some, omega (arith, h))
 deep_by s some (Some n) level h = (omega (arith, some), omega (arith, some, h))
 

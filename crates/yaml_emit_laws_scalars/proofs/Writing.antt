@@ -29,7 +29,8 @@ pub record Left (page : Page) (quote : Bool) (before : ℕ) (c : Cursor) (last :
   pub behind : Cursor
   pub right : IsSpelling (quote_byte quote) parts
   pub next : may_be_next last parts ≡ true
-  pub text : (rest : Rest) → flow_body page quote before value c rest ≡ in_front letters (rest behind)
+  pub text : (rest : Rest)
+      → flow_body page quote before value c rest ≡ in_front letters (rest behind)
   pub bytes : encode_utf8_all letters ≡ spelling parts
   pub means : meaning parts ≡ encode_utf8_all value
   pub ones : quote ≡ false → is_one_line value ≡ true → Spells page.indentation parts value
@@ -45,7 +46,8 @@ record Run (page : Page) (quote : Bool) (before : ℕ) (c : Cursor) (value : Lis
   behind : Cursor
   right : IsSpelling (quote_byte quote) parts
   next : (t : LineTurn) (ts : List LineTurn) → may_be_next (fold t ts) parts ≡ true
-  may : (e : LineEnd) → (is_return e && is_feed_end (end_of page.line_break)) ≡ false → may_turn (record { end = e; spaces = spaces }) turns ≡ true
+  may : (e : LineEnd) → (is_return e && is_feed_end (end_of page.line_break)) ≡ false
+      → may_turn (record { end = e; spaces = spaces }) turns ≡ true
   text : (rest : Rest) → flow_body page quote before value c rest ≡ in_front letters (rest behind)
   bytes : encode_utf8_all letters ≡ replicate spaces 32 ++ (turn_bytes turns ++ spelling parts)
   means : turn_means turns ++ meaning parts ≡ encode_utf8_all value
@@ -57,50 +59,72 @@ spaces_low zero = refl
 spaces_low (suc n) = ap (λ t. encode_utf8 32 ++ t) (spaces_low n) ∙ ap (λ t. t ++ replicate n 32) space_encodes
 
 -- the layout of a character, by whether a line ends
-char_is : (page : Page) (quote : Bool) (before x : ℕ) (xs : List ℕ) (c : Cursor) (rest : Rest) → is_break x ≡ false → is_break before ≡ false → flow_char page quote before x xs c rest ≡ seat page quote before x xs c rest
+char_is : (page : Page) (quote : Bool) (before x : ℕ) (xs : List ℕ) (c : Cursor) (rest : Rest)
+    → is_break x ≡ false → is_break before ≡ false
+    → flow_char page quote before x xs c rest ≡ seat page quote before x xs c rest
 unfolding flow_char
 char_is page quote before x xs c rest e f =
     ap (λ (a : Layout). a c rest) (cond_false (is_break x) _ _ e) ∙ ap (λ t. when t (line page.line_break page.indentation) c (λ d. seat page quote before x xs d rest)) f
 
-lined_is : (page : Page) (quote : Bool) (before x : ℕ) (xs : List ℕ) (c : Cursor) (rest : Rest) → is_break x ≡ false → is_break before ≡ true → flow_char page quote before x xs c rest ≡ line page.line_break page.indentation c (λ d. seat page quote before x xs d rest)
+lined_is : (page : Page) (quote : Bool) (before x : ℕ) (xs : List ℕ) (c : Cursor) (rest : Rest)
+    → is_break x ≡ false → is_break before ≡ true
+    → flow_char page quote before x xs c rest
+    ≡ line page.line_break page.indentation c (λ d. seat page quote before x xs d rest)
 unfolding flow_char
 lined_is page quote before x xs c rest e f =
     ap (λ (a : Layout). a c rest) (cond_false (is_break x) _ _ e) ∙ ap (λ t. when t (line page.line_break page.indentation) c (λ d. seat page quote before x xs d rest)) f
 
-break_char : (page : Page) (quote : Bool) (before x : ℕ) (xs : List ℕ) (c : Cursor) (rest : Rest) → is_break x ≡ true
-    → flow_char page quote before x xs c rest ≡ when (x == 10 && not (is_break before)) (new_line page.line_break) c (λ d. value_break page.line_break x d rest)
+break_char : (page : Page) (quote : Bool) (before x : ℕ) (xs : List ℕ) (c : Cursor) (rest : Rest)
+    → is_break x ≡ true
+    → flow_char page quote before x xs c rest
+    ≡ when (x == 10 && not (is_break before)) (new_line page.line_break) c
+    (λ d. value_break page.line_break x d rest)
 unfolding flow_char
 break_char page quote before x xs c rest e = ap (λ (a : Layout). a c rest) (cond_true (is_break x) _ _ e)
 
 -- a first break
-one_more : (page : Page) (quote : Bool) (before x : ℕ) (xs : List ℕ) (c : Cursor) (rest : Rest) → is_break x ≡ true → is_break before ≡ false → (x == 10) ≡ true → flow_char page quote before x xs c rest ≡ new_line page.line_break c (λ d. value_break page.line_break x d rest)
+one_more : (page : Page) (quote : Bool) (before x : ℕ) (xs : List ℕ) (c : Cursor) (rest : Rest)
+    → is_break x ≡ true → is_break before ≡ false → (x == 10) ≡ true
+    → flow_char page quote before x xs c rest
+    ≡ new_line page.line_break c (λ d. value_break page.line_break x d rest)
 one_more page quote before x xs c rest e f g = break_char page quote before x xs c rest e ∙ ap (λ t. when t (new_line page.line_break) c (λ d. value_break page.line_break x d rest)) (both (x == 10) (is_break before) g f)
   where
     both : (a b : Bool) → a ≡ true → b ≡ false → (a && not b) ≡ true
     both a b p q = rw (p, q) refl
 
-none_more : (page : Page) (quote : Bool) (before x : ℕ) (xs : List ℕ) (c : Cursor) (rest : Rest) → is_break x ≡ true → (x == 10 && not (is_break before)) ≡ false → flow_char page quote before x xs c rest ≡ value_break page.line_break x c rest
+none_more : (page : Page) (quote : Bool) (before x : ℕ) (xs : List ℕ) (c : Cursor) (rest : Rest)
+    → is_break x ≡ true → (x == 10 && not (is_break before)) ≡ false
+    → flow_char page quote before x xs c rest ≡ value_break page.line_break x c rest
 none_more page quote before x xs c rest e f = break_char page quote before x xs c rest e ∙ ap (λ t. when t (new_line page.line_break) c (λ d. value_break page.line_break x d rest)) f
 
-end_is : (page : Page) (quote : Bool) (before : ℕ) (c : Cursor) (rest : Rest) (b : Bool) → is_break before ≡ b → flow_body page quote before [] c rest ≡ when b (line page.line_break page.indentation) c rest
+end_is : (page : Page) (quote : Bool) (before : ℕ) (c : Cursor) (rest : Rest) (b : Bool)
+    → is_break before ≡ b
+    → flow_body page quote before [] c rest ≡ when b (line page.line_break page.indentation) c rest
 unfolding flow_body
 end_is page quote before c rest b e = ap (λ t. when t (line page.line_break page.indentation) c rest) e
 
-body_is : (page : Page) (quote : Bool) (before x : ℕ) (xs : List ℕ) (c : Cursor) (rest : Rest) → flow_body page quote before (x ∷ xs) c rest ≡ flow_char page quote before x xs c (λ d. flow_body page quote x xs d rest)
+body_is : (page : Page) (quote : Bool) (before x : ℕ) (xs : List ℕ) (c : Cursor) (rest : Rest)
+    → flow_body page quote before (x ∷ xs) c rest
+    ≡ flow_char page quote before x xs c (λ d. flow_body page quote x xs d rest)
 unfolding flow_body
 body_is page quote before x xs c rest = refl
 
-front_more : (xs ys : List ℕ) (t : Cursor) (rest : Rest) → in_front xs (in_front ys (rest t)) ≡ in_front (xs ++ ys) (rest t)
+front_more : (xs ys : List ℕ) (t : Cursor) (rest : Rest)
+    → in_front xs (in_front ys (rest t)) ≡ in_front (xs ++ ys) (rest t)
 front_more xs ys t rest = sym (front_append xs ys (rest t))
 
 -- the spelling of a first break and what follows
-turn_one : (t : LineTurn) (ts : List LineTurn) (ps : List QuotedPart) → spelling (fold t ts ∷ ps) ≡ end_bytes t.end ++ (replicate t.spaces 32 ++ (turn_bytes ts ++ spelling ps))
+turn_one : (t : LineTurn) (ts : List LineTurn) (ps : List QuotedPart)
+    → spelling (fold t ts ∷ ps) ≡ end_bytes t.end
+    ++ (replicate t.spaces 32 ++ (turn_bytes ts ++ spelling ps))
 unfolding spelling turn_bytes
 turn_one t ts ps =
     append_assoc (end_bytes t.end) (replicate t.spaces 32 ++ turn_bytes ts) (spelling ps)
     ∙ ap (λ (xs : List ℕ). end_bytes t.end ++ xs) (append_assoc (replicate t.spaces 32) (turn_bytes ts) (spelling ps))
 
-turn_two : (e : LineEnd) (u : LineTurn) (ts : List LineTurn) (ps : List QuotedPart) → spelling (fold (record { end = e; spaces = 0 }) (u ∷ ts) ∷ ps) ≡ end_bytes e ++ (end_bytes u.end ++ (replicate u.spaces 32 ++ (turn_bytes ts ++ spelling ps)))
+turn_two : (e : LineEnd) (u : LineTurn) (ts : List LineTurn) (ps : List QuotedPart)
+    → spelling (fold (record { end = e; spaces = 0 }) (u ∷ ts) ∷ ps) ≡ end_bytes e
+    ++ (end_bytes u.end ++ (replicate u.spaces 32 ++ (turn_bytes ts ++ spelling ps)))
 unfolding turn_bytes
 turn_two e u ts ps =
     turn_one (record { end = e; spaces = 0 }) (u ∷ ts) ps
@@ -108,13 +132,16 @@ turn_two e u ts ps =
     (append_assoc (end_bytes u.end) (replicate u.spaces 32 ++ turn_bytes ts) (spelling ps)
     ∙ ap (λ (xs : List ℕ). end_bytes u.end ++ xs) (append_assoc (replicate u.spaces 32) (turn_bytes ts) (spelling ps)))
 
-turns_more : (u : LineTurn) (ts : List LineTurn) (ps : List QuotedPart) → turn_bytes (u ∷ ts) ++ spelling ps ≡ end_bytes u.end ++ (replicate u.spaces 32 ++ (turn_bytes ts ++ spelling ps))
+turns_more : (u : LineTurn) (ts : List LineTurn) (ps : List QuotedPart)
+    → turn_bytes (u ∷ ts) ++ spelling ps ≡ end_bytes u.end
+    ++ (replicate u.spaces 32 ++ (turn_bytes ts ++ spelling ps))
 unfolding turn_bytes
 turns_more u ts ps =
     append_assoc (end_bytes u.end) (replicate u.spaces 32 ++ turn_bytes ts) (spelling ps)
     ∙ ap (λ (xs : List ℕ). end_bytes u.end ++ xs) (append_assoc (replicate u.spaces 32) (turn_bytes ts) (spelling ps))
 
-means_more : (u : LineTurn) (ts : List LineTurn) (ps : List QuotedPart) → turn_means (u ∷ ts) ++ meaning ps ≡ end_means u.end ++ (turn_means ts ++ meaning ps)
+means_more : (u : LineTurn) (ts : List LineTurn) (ps : List QuotedPart)
+    → turn_means (u ∷ ts) ++ meaning ps ≡ end_means u.end ++ (turn_means ts ++ meaning ps)
 unfolding turn_means
 means_more u ts ps = append_assoc (end_means u.end) (turn_means ts) (meaning ps)
 
@@ -122,16 +149,20 @@ meaning_more : (q : QuotedPart) (ps : List QuotedPart) → meaning (q ∷ ps) �
 unfolding meaning
 meaning_more q ps = refl
 
-spelling_more : (q : QuotedPart) (ps : List QuotedPart) → spelling (q ∷ ps) ≡ spelled q ++ spelling ps
+spelling_more : (q : QuotedPart) (ps : List QuotedPart)
+    → spelling (q ∷ ps) ≡ spelled q ++ spelling ps
 unfolding spelling
 spelling_more q ps = refl
 
 -- a line feed in front of others is lost
-feed_lost : (e : LineEnd) (u : LineTurn) (ts : List LineTurn) → end_means e ≡ 10 ∷ [] → end_means u.end ≡ 10 ∷ [] → meant (fold (record { end = e; spaces = 0 }) (u ∷ ts)) ≡ 10 ∷ turn_means ts
+feed_lost : (e : LineEnd) (u : LineTurn) (ts : List LineTurn) → end_means e ≡ 10 ∷ []
+    → end_means u.end ≡ 10 ∷ []
+    → meant (fold (record { end = e; spaces = 0 }) (u ∷ ts)) ≡ 10 ∷ turn_means ts
 unfolding turn_means
 feed_lost e u ts a b = rw (a, b) refl
 
-right_more : (k : ℕ) (q : QuotedPart) (ps : List QuotedPart) → MayStand k q → may_be_next q ps ≡ true → IsSpelling k ps → IsSpelling k (q ∷ ps)
+right_more : (k : ℕ) (q : QuotedPart) (ps : List QuotedPart) → MayStand k q
+    → may_be_next q ps ≡ true → IsSpelling k ps → IsSpelling k (q ∷ ps)
 unfolding IsSpelling
 right_more k q ps a b c = (a, b, c)
 
@@ -143,7 +174,9 @@ may_one : (e : LineEnd) (n : ℕ) → 0 < n → may_turn (record { end = e; spac
 unfolding may_turn
 may_one e n some = lt-ltb 0 n some
 
-may_more : (e : LineEnd) (n : ℕ) (u : LineTurn) (us : List LineTurn) → (is_return e && is_feed_end u.end) ≡ false → may_turn u us ≡ true → may_turn (record { end = e; spaces = n }) (u ∷ us) ≡ true
+may_more : (e : LineEnd) (n : ℕ) (u : LineTurn) (us : List LineTurn)
+    → (is_return e && is_feed_end u.end) ≡ false → may_turn u us ≡ true
+    → may_turn (record { end = e; spaces = n }) (u ∷ us) ≡ true
 unfolding may_turn
 may_more e n u us a b = both (is_return e) (n == 0) (is_feed_end u.end) (may_turn u us) a b
   where
@@ -172,14 +205,17 @@ front_none : (t : Cursor) (rest : Rest) → in_front [] (rest t) ≡ rest t
 unfolding in_front
 front_none t rest = refl
 
-fold_stands : (quote : Bool) (t : LineTurn) (ts : List LineTurn) → may_turn t ts ≡ true → MayStand (quote_byte quote) (fold t ts)
+fold_stands : (quote : Bool) (t : LineTurn) (ts : List LineTurn) → may_turn t ts ≡ true
+    → MayStand (quote_byte quote) (fold t ts)
 fold_stands quote t ts h = h
 
-fold_next : (last : QuotedPart) (t : LineTurn) (ts : List LineTurn) (ps : List QuotedPart) → is_raw_blank last ≡ false → is_turn last ≡ false → may_be_next last (fold t ts ∷ ps) ≡ true
+fold_next : (last : QuotedPart) (t : LineTurn) (ts : List LineTurn) (ps : List QuotedPart)
+    → is_raw_blank last ≡ false → is_turn last ≡ false → may_be_next last (fold t ts ∷ ps) ≡ true
 fold_next last t ts ps a b = fold_follows last (fold t ts) refl refl a b
 
 -- behind what a break is written as
-behind_run : (x : ℕ) (c : Cursor) (value : List ℕ) (t : LineTurn) (ts : List LineTurn) → is_break x ≡ true → (first value == 32) ≡ false → Behind x c (fold t ts) value
+behind_run : (x : ℕ) (c : Cursor) (value : List ℕ) (t : LineTurn) (ts : List LineTurn)
+    → is_break x ≡ true → (first value == 32) ≡ false → Behind x c (fold t ts) value
 behind_run x c value t ts b f = record { blank = λ h. absurd (true≢false (sym h)); turn = λ h. (inr b, f); bare = λ g h. absurd (true≢false (sym b ∙ h)) }
 
 starts_line : (c : Cursor) → Starts (line_start c)
@@ -189,7 +225,8 @@ any_turn : LineBreak → LineTurn
 any_turn b = record { end = end_of b; spaces = 0 }
 
 -- a run ends at the end
-run_end : (page : Page) (quote : Bool) (before : ℕ) (c : Cursor) → 0 < page.indentation → is_break before ≡ true → Starts c → Run page quote before c []
+run_end : (page : Page) (quote : Bool) (before : ℕ) (c : Cursor) → 0 < page.indentation
+    → is_break before ≡ true → Starts c → Run page quote before c []
 run_end page quote before c some b st =
     let n = page.indentation in
     record {
@@ -209,10 +246,13 @@ run_end page quote before c some b st =
     }
 
 -- a run ends before a character
-run_char : (page : Page) (quote : Bool) (before x : ℕ) (xs : List ℕ) (c : Cursor) → 0 < page.indentation → is_break before ≡ true → is_break x ≡ false → Starts c
-    → (one : (last : QuotedPart) → Behind before (after_blanks page.indentation c) last (x ∷ xs) → Step page quote before x xs (after_blanks page.indentation c) last)
+run_char : (page : Page) (quote : Bool) (before x : ℕ) (xs : List ℕ) (c : Cursor)
+    → 0 < page.indentation → is_break before ≡ true → is_break x ≡ false → Starts c
+    → (one : (last : QuotedPart) → Behind before (after_blanks page.indentation c) last (x ∷ xs)
+    → Step page quote before x xs (after_blanks page.indentation c) last)
     → ((first (x ∷ xs)) == 32) ≡ false
-    → (more : (s : Step page quote before x xs (after_blanks page.indentation c) (fold (any_turn page.line_break) [])) → Left page quote x s.after s.part xs)
+    → (more : (s : Step page quote before x xs (after_blanks page.indentation c)
+    (fold (any_turn page.line_break) [])) → Left page quote x s.after s.part xs)
     → Run page quote before c (x ∷ xs)
 run_char page quote before x xs c some b inside st one space more =
     let n = page.indentation in
@@ -246,7 +286,9 @@ run_char page quote before x xs c some b inside st one space more =
     }
 
 -- a run goes on
-run_more : (page : Page) (quote : Bool) (before x : ℕ) (xs : List ℕ) (c : Cursor) → is_break before ≡ true → is_break x ≡ true → is_printable x ≡ true → Run page quote x (line_start c) xs → Run page quote before c (x ∷ xs)
+run_more : (page : Page) (quote : Bool) (before x : ℕ) (xs : List ℕ) (c : Cursor)
+    → is_break before ≡ true → is_break x ≡ true → is_printable x ≡ true
+    → Run page quote x (line_start c) xs → Run page quote before c (x ∷ xs)
 run_more page quote before x xs c b ends p r =
     let k = break_is page.line_break x ends p in
     let u : LineTurn = record { end = k.end; spaces = r.spaces } in
@@ -275,7 +317,10 @@ run_more page quote before x xs c b ends p r =
     not_first false b e = refl
 
 -- a run begins with LF
-left_feed : (page : Page) (quote : Bool) (before x : ℕ) (xs : List ℕ) (c : Cursor) (last : QuotedPart) → is_break before ≡ false → is_raw_blank last ≡ false → is_turn last ≡ false → is_break x ≡ true → is_printable x ≡ true → (x == 10) ≡ true → Run page quote x (line_start (line_start c)) xs
+left_feed : (page : Page) (quote : Bool) (before x : ℕ) (xs : List ℕ) (c : Cursor)
+    (last : QuotedPart) → is_break before ≡ false → is_raw_blank last ≡ false → is_turn last ≡ false
+    → is_break x ≡ true → is_printable x ≡ true → (x == 10) ≡ true
+    → Run page quote x (line_start (line_start c)) xs
     → Left page quote before c last (x ∷ xs)
 left_feed page quote before x xs c last inside no_blank no_turn ends p feed r =
     let k = break_is page.line_break x ends p in
@@ -311,7 +356,9 @@ left_feed page quote before x xs c last inside no_blank no_turn ends p feed r =
     }
 
 -- a run begins with LS or PS
-left_other : (page : Page) (quote : Bool) (before x : ℕ) (xs : List ℕ) (c : Cursor) (last : QuotedPart) → is_raw_blank last ≡ false → is_turn last ≡ false → is_break x ≡ true → is_printable x ≡ true → (x == 10) ≡ false → Run page quote x (line_start c) xs
+left_other : (page : Page) (quote : Bool) (before x : ℕ) (xs : List ℕ) (c : Cursor)
+    (last : QuotedPart) → is_raw_blank last ≡ false → is_turn last ≡ false → is_break x ≡ true
+    → is_printable x ≡ true → (x == 10) ≡ false → Run page quote x (line_start c) xs
     → Left page quote before c last (x ∷ xs)
 left_other page quote before x xs c last no_blank no_turn ends p other r =
     let k = break_is page.line_break x ends p in
@@ -337,7 +384,8 @@ left_other page quote before x xs c last no_blank no_turn ends p other r =
       kept = r.kept;
     }
 
-left_end : (page : Page) (quote : Bool) (before : ℕ) (c : Cursor) (last : QuotedPart) → is_break before ≡ false → Left page quote before c last []
+left_end : (page : Page) (quote : Bool) (before : ℕ) (c : Cursor) (last : QuotedPart)
+    → is_break before ≡ false → Left page quote before c last []
 left_end page quote before c last inside = record {
   parts = [];
   letters = [];
@@ -352,7 +400,10 @@ left_end page quote before c last inside = record {
   kept = refl;
 }
 
-left_char : (page : Page) (quote : Bool) (before x : ℕ) (xs : List ℕ) (c : Cursor) (last : QuotedPart) → is_break before ≡ false → is_break x ≡ false → (s : Step page quote before x xs c last) → Left page quote x s.after s.part xs → Left page quote before c last (x ∷ xs)
+left_char : (page : Page) (quote : Bool) (before x : ℕ) (xs : List ℕ) (c : Cursor)
+    (last : QuotedPart) → is_break before ≡ false → is_break x ≡ false
+    → (s : Step page quote before x xs c last) → Left page quote x s.after s.part xs
+    → Left page quote before c last (x ∷ xs)
 left_char page quote before x xs c last inside here s m = record {
   parts = s.part ∷ m.parts;
   letters = s.letters ++ m.letters;
@@ -385,7 +436,8 @@ deep_more page x xs d = record { cuts = d.cuts; lines = λ e. d.lines (ap (λ b.
 pub deep_all : (page : Page) (value : List ℕ) → 0 < page.indentation → Deep page value
 deep_all page value h = record { cuts = λ e. h; lines = λ e. h }
 
-behind_step : (page : Page) (quote : Bool) (before x : ℕ) (xs : List ℕ) (c : Cursor) (last : QuotedPart) → (s : Step page quote before x xs c last) → Behind x s.after s.part xs
+behind_step : (page : Page) (quote : Bool) (before x : ℕ) (xs : List ℕ) (c : Cursor)
+    (last : QuotedPart) → (s : Step page quote before x xs c last) → Behind x s.after s.part xs
 behind_step page quote before x xs c last s = record { blank = s.blank; turn = λ t. (inl (s.turn t).0, (s.turn t).1); bare = λ f g. s.bare f }
 
 no_space : (before x : ℕ) → is_break before ≡ false → (is_break before && x == 32) ≡ false
@@ -395,7 +447,9 @@ no_space before x e = ap (λ b. b && x == 32) e
 abbrev pub Free : QuotedPart → List ℕ → Type 0
 Free last value = is_break (first value) ≡ true → (is_raw_blank last ≡ false) × (is_turn last ≡ false)
 
-free_step : (page : Page) (quote : Bool) (before x : ℕ) (xs : List ℕ) (c : Cursor) (last : QuotedPart) → (s : Step page quote before x xs c last) → (x == 32 && is_break (first xs)) ≡ false → Free s.part xs
+free_step : (page : Page) (quote : Bool) (before x : ℕ) (xs : List ℕ) (c : Cursor)
+    (last : QuotedPart) → (s : Step page quote before x xs c last)
+    → (x == 32 && is_break (first xs)) ≡ false → Free s.part xs
 free_step page quote before x xs c last s eqb-false ends =
     let no32 : x ≡ 32 → ⊥ = λ e. true≢false (sym (rw (ends, e) refl) ∙ eqb-false) in (
       bool_cases (is_raw_blank s.part) (λ t. absurd (no32 (s.blank t))) (λ f. f),
@@ -404,7 +458,9 @@ free_step page quote before x xs c last s eqb-false ends =
 
 mutual
   -- the character before ends no line, and is no space where a break follows
-  pub left : (page : Page) (quote : Bool) (before : ℕ) (c : Cursor) (last : QuotedPart) (value : List ℕ) → Deep page value → AllShow value → Behind before c last value → Free last value → is_break before ≡ false → Left page quote before c last value
+  pub left : (page : Page) (quote : Bool) (before : ℕ) (c : Cursor) (last : QuotedPart)
+      (value : List ℕ) → Deep page value → AllShow value → Behind before c last value
+      → Free last value → is_break before ≡ false → Left page quote before c last value
   left page quote before c last [] deep a h eqb-false inside = left_end page quote before c last inside
   left page quote before c last (x ∷ xs) deep (s, a) h eqb-false inside =
       bool_cases (is_break x)
@@ -420,7 +476,9 @@ mutual
       left_char page quote before x xs c last inside here one (left page quote x one.after one.part xs (deep_more page x xs deep) a (behind_step page quote before x xs c last one) (free_step page quote before x xs c last one s.space) here))
 
   -- the character before is a break
-  run : (page : Page) (quote : Bool) (before : ℕ) (c : Cursor) (value : List ℕ) → 0 < page.indentation → AllShow value → is_break before ≡ true → (first value == 32) ≡ false → Starts c → Run page quote before c value
+  run : (page : Page) (quote : Bool) (before : ℕ) (c : Cursor) (value : List ℕ)
+      → 0 < page.indentation → AllShow value → is_break before ≡ true → (first value == 32) ≡ false
+      → Starts c → Run page quote before c value
   run page quote before c [] some a b space st = run_end page quote before c some b st
   run page quote before c (x ∷ xs) some (s, a) b space st =
       bool_cases (is_break x)

@@ -12,7 +12,8 @@ use Rattle.yaml_emit_layout.specs.emit_tags.Tags.{Split, shorthand, verbatim, sp
 use Rattle.yaml_emit_laws_text.specs.TagsLaws.{IsShaped, IsReadable, are_ascii, IsMarked, IsReadableDirective}
 use Rattle.yaml_emit_laws_text.proofs.Pieces.{pieces_of, text_is, text_uri}
 
-append_ascii : (xs ys : List ℕ) → are_ascii xs ≡ true → are_ascii ys ≡ true → are_ascii (xs ++ ys) ≡ true
+append_ascii : (xs ys : List ℕ) → are_ascii xs ≡ true → are_ascii ys ≡ true
+    → are_ascii (xs ++ ys) ≡ true
 append_ascii [] ys e f = f
 append_ascii (x ∷ xs) ys e f = and_from (nat_lt x 128) (are_ascii (xs ++ ys)) (and_parts (nat_lt x 128) (are_ascii xs) e).0 (append_ascii xs ys (and_parts (nat_lt x 128) (are_ascii xs) e).1 f)
 
@@ -25,7 +26,8 @@ capital_ascii : (d : ℕ) → d < 16 → nat_lt (capital d) 128 ≡ true
 unfolding capital
 capital_ascii d h = grind (arith, nat_tests)
 
-pieces_ascii : (wide : Bool) (due : ℕ) (pieces : List UriPiece) → IsUri wide due pieces → are_ascii (written.uri_text pieces) ≡ true
+pieces_ascii : (wide : Bool) (due : ℕ) (pieces : List UriPiece) → IsUri wide due pieces
+    → are_ascii (written.uri_text pieces) ≡ true
 pieces_ascii wide due [] is = refl
 pieces_ascii wide due (raw b ∷ pieces) (none, kept, is) = and_from (nat_lt b 128) (are_ascii (written.uri_text pieces)) (kept_ascii wide b kept) (pieces_ascii wide 0 pieces is)
 pieces_ascii wide due (escape b ∷ pieces) (small, (next, due_is, is)) =
@@ -64,5 +66,6 @@ spelled_ascii (verbatim tag) (utf8, some) = record {
   ascii = append_ascii (uri_text true tag) (62 ∷ []) (uri_ascii true tag utf8) refl;
 }
 
-pub directive_ascii : (d : TagDirective) → IsReadableDirective d → IsMarked d.handle × (are_ascii (uri_text true d.prefix) ≡ true)
+pub directive_ascii : (d : TagDirective) → IsReadableDirective d
+    → IsMarked d.handle × (are_ascii (uri_text true d.prefix) ≡ true)
 directive_ascii d (shaped, utf8, some) = (handle_ascii d.handle shaped, uri_ascii true d.prefix utf8)

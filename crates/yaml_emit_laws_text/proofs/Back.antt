@@ -29,21 +29,25 @@ use Rattle.yaml_emit_laws_text.proofs.Kept.{body_keeps}
 abbrev flat : Page → Page
 flat page = record page { indentation = 1 }
 
-no_fold : (page : Page) (before x : ℕ) (xs : List ℕ) → page.cuts ≡ false → may_fold page before x xs ≡ false
+no_fold : (page : Page) (before x : ℕ) (xs : List ℕ) → page.cuts ≡ false
+    → may_fold page before x xs ≡ false
 no_fold page before x xs e = ap (λ t. t && (x == 32 && (not (before == 32) && not (is_empty xs)))) e
 
-pub char_escaped : (page : Page) (before x : ℕ) (xs : List ℕ) → page.cuts ≡ false → quoted_char page before x xs ≡ escaped page.unicode x
+pub char_escaped : (page : Page) (before x : ℕ) (xs : List ℕ) → page.cuts ≡ false
+    → quoted_char page before x xs ≡ escaped page.unicode x
 unfolding quoted_char
 char_escaped page before x xs e = cond_false (may_fold page before x xs) (choose (is_past page.width) (fold_layout page xs) (char x)) (escaped page.unicode x) (no_fold page before x xs e)
 
-body_flat : (page : Page) (before : ℕ) (xs : List ℕ) → page.cuts ≡ false → quoted_body (flat page) before xs ≡ quoted_body page before xs
+body_flat : (page : Page) (before : ℕ) (xs : List ℕ) → page.cuts ≡ false
+    → quoted_body (flat page) before xs ≡ quoted_body page before xs
 unfolding quoted_body
 body_flat page before [] e = refl
 body_flat page before (x ∷ xs) e =
     ap (λ (a : Layout). a ▹ quoted_body (flat page) x xs) (char_escaped (flat page) before x xs e ∙ sym (char_escaped page before x xs e))
     ∙ ap (λ (a : Layout). quoted_char page before x xs ▹ a) (body_flat page x xs e)
 
-body_spells : QuotedSpells → (page : Page) (c : Cursor) (cs : List ℕ) → all_scalars cs ≡ true → (page.cuts ≡ true → 0 < page.indentation) → WritesSpelling (quoted_body page 32 cs) c cs
+body_spells : QuotedSpells → (page : Page) (c : Cursor) (cs : List ℕ) → all_scalars cs ≡ true
+    → (page.cuts ≡ true → 0 < page.indentation) → WritesSpelling (quoted_body page 32 cs) c cs
 body_spells law page c cs good deep =
     elim (cases_Bool page.cuts) [
       | inl e ↦ law page c cs good (deep e)
@@ -52,7 +56,8 @@ body_spells law page c cs good deep =
 
 -- ---- characters and bytes
 
-pub front_append : (xs ys : List ℕ) (t : List Item) → in_front (xs ++ ys) t ≡ in_front xs (in_front ys t)
+pub front_append : (xs ys : List ℕ) (t : List Item)
+    → in_front (xs ++ ys) t ≡ in_front xs (in_front ys t)
 unfolding in_front
 front_append [] ys t = refl
 front_append (x ∷ xs) ys t = ap (λ u. letter x ∷ u) (front_append xs ys t)
@@ -61,7 +66,8 @@ pub front_one : (x : ℕ) (t : List Item) → in_front (x ∷ []) t ≡ letter x
 unfolding in_front
 front_one x t = refl
 
-pub front_more : (x : ℕ) (xs : List ℕ) (t : List Item) → in_front (x ∷ xs) t ≡ letter x ∷ in_front xs t
+pub front_more : (x : ℕ) (xs : List ℕ) (t : List Item)
+    → in_front (x ∷ xs) t ≡ letter x ∷ in_front xs t
 unfolding in_front
 front_more x xs t = refl
 
@@ -69,7 +75,8 @@ char_encodes : (c : ℕ) → char_bytes Utf8 c ≡ encode_utf8 c
 unfolding char_bytes encode_char
 char_encodes c = refl
 
-front_encodes : (xs : List ℕ) (t : List Item) → encode Utf8 (in_front xs t) ≡ encode_utf8_all xs ++ encode Utf8 t
+front_encodes : (xs : List ℕ) (t : List Item)
+    → encode Utf8 (in_front xs t) ≡ encode_utf8_all xs ++ encode Utf8 t
 unfolding in_front encode
 front_encodes [] t = refl
 front_encodes (x ∷ xs) t =
@@ -82,7 +89,8 @@ nothing_encodes = refl
 alone_encodes : (xs : List ℕ) → encode Utf8 (in_front xs []) ≡ encode_utf8_all xs
 alone_encodes xs = front_encodes xs [] ∙ ap (λ b. encode_utf8_all xs ++ b) nothing_encodes ∙ append-nil (encode_utf8_all xs)
 
-between : (xs bs : List ℕ) → encode_utf8_all xs ≡ bs → encode_utf8_all (34 ∷ (xs ++ 34 ∷ [])) ≡ 34 ∷ (bs ++ 34 ∷ [])
+between : (xs bs : List ℕ) → encode_utf8_all xs ≡ bs
+    → encode_utf8_all (34 ∷ (xs ++ 34 ∷ [])) ≡ 34 ∷ (bs ++ 34 ∷ [])
 between xs bs e =
     let one : encode_utf8_all (34 ∷ []) ≡ 34 ∷ [] = low_encodes (34 ∷ []) (omega arith, tt) in
     rw (encode_ascii 34 (omega arith), encodes-append xs (34 ∷ []), e) (ap (λ t. 34 ∷ (bs ++ t)) one)
@@ -95,13 +103,15 @@ moved_by c = record { column = c.column + 1; white = false; bare = false; kept =
 abbrev pub spaced_by : Cursor → Cursor
 spaced_by c = record { column = c.column + 1; white = true; bare = c.bare; kept = c.kept }
 
-reads_as : (xs ys : List ℕ) (reading : Result (List ℕ × ℕ) Wrong) (p n m : ℕ) → reading ≡ Ok (xs, p + n) → xs ≡ ys → n ≡ m → reading ≡ Ok (ys, p + m)
+reads_as : (xs ys : List ℕ) (reading : Result (List ℕ × ℕ) Wrong) (p n m : ℕ)
+    → reading ≡ Ok (xs, p + n) → xs ≡ ys → n ≡ m → reading ≡ Ok (ys, p + m)
 reads_as xs ys reading p n m r a b = r ∙ ap (λ v. Ok (v, p + n)) a ∙ ap (λ k. Ok (ys, p + k)) b
 
 moved_on : (n : ℕ) → n + 1 ≡ 0 → ⊥
 moved_on n e = omega arith
 
-pub quoted_back : QuotedSpells → (page : Page) (c : Cursor) (value : List ℕ) → IsUtf8 value → (page.cuts ≡ true → 0 < page.indentation)
+pub quoted_back : QuotedSpells → (page : Page) (c : Cursor) (value : List ℕ) → IsUtf8 value
+    → (page.cuts ≡ true → 0 < page.indentation)
     → ValueIsReadBack double_quoted_at (between_quotes page (chars value)) c value
 quoted_back law page c value u deep =
     let s = body_spells law page (moved_by c) (chars value) (scalars-chars value u) deep in
@@ -127,10 +137,12 @@ quoted_back law page c value u deep =
 
 -- ---- with the space in front
 
-stands_behind : (text : List ℕ) (p x : ℕ) (xs : List ℕ) → HasAt text p (x ∷ xs) → HasAt text (p + 1) xs
+stands_behind : (text : List ℕ) (p x : ℕ) (xs : List ℕ) → HasAt text p (x ∷ xs)
+    → HasAt text (p + 1) xs
 stands_behind text p x xs h = λ k l. let e : p + 1 + k ≡ p + suc k = omega arith in ap (λ q. byte text q) e ∙ h (suc k) (omega arith)
 
-read_white : (a : Layout) (c : Cursor) (value text : List ℕ) (p : ℕ) → ValueIsReadBack double_quoted_at a c value → HasAt text p (encode Utf8 (a c nothing_more))
+read_white : (a : Layout) (c : Cursor) (value text : List ℕ) (p : ℕ)
+    → ValueIsReadBack double_quoted_at a c value → HasAt text p (encode Utf8 (a c nothing_more))
     → double_quoted_at text (p + 0) ≡ Ok (value, p + length (encode Utf8 (a c nothing_more)))
 read_white a c value text p b h =
     let all : encode Utf8 (a c nothing_more) ≡ encode_utf8_all b.letters = ap (encode Utf8) (b.written nothing_more) ∙ alone_encodes b.letters in
@@ -142,8 +154,11 @@ space_encodes : (t : List Item) → encode Utf8 (letter 32 ∷ t) ≡ 32 ∷ enc
 unfolding encode
 space_encodes t = ap (λ b. b ++ encode Utf8 t) (char_encodes 32 ∙ encode_ascii 32 (omega arith))
 
-read_spaced : (a : Layout) (c d : Cursor) (value text : List ℕ) (p : ℕ) → ValueIsReadBack double_quoted_at a d value → HasAt text p (encode Utf8 (letter 32 ∷ a d nothing_more))
-    → double_quoted_at text (p + 1) ≡ Ok (value, p + length (encode Utf8 (letter 32 ∷ a d nothing_more)))
+read_spaced : (a : Layout) (c d : Cursor) (value text : List ℕ) (p : ℕ)
+    → ValueIsReadBack double_quoted_at a d value
+    → HasAt text p (encode Utf8 (letter 32 ∷ a d nothing_more))
+    → double_quoted_at text (p + 1) ≡ Ok
+    (value, p + length (encode Utf8 (letter 32 ∷ a d nothing_more)))
 read_spaced a c d value text p b h =
     let all : encode Utf8 (letter 32 ∷ a d nothing_more) ≡ 32 ∷ encode_utf8_all b.letters =
     space_encodes (a d nothing_more) ∙ ap (λ (t : List ℕ). 32 ∷ t) (ap (encode Utf8) (b.written nothing_more) ∙ alone_encodes b.letters) in
@@ -152,17 +167,23 @@ read_spaced a c d value text p b h =
     let same : p + 1 + n ≡ p + suc n = omega arith in
     r ∙ ap (λ k. Ok (value, k)) same ∙ ap (λ (t : List ℕ). Ok (value, p + length t)) (sym all)
 
-pub quoted_text_back : QuotedSpells → (page : Page) (c : Cursor) (value text : List ℕ) (p : ℕ) → IsUtf8 value → (page.cuts ≡ true → 0 < page.indentation)
+pub quoted_text_back : QuotedSpells → (page : Page) (c : Cursor) (value text : List ℕ) (p : ℕ)
+    → IsUtf8 value → (page.cuts ≡ true → 0 < page.indentation)
     → HasAt text p (encode Utf8 (double_quoted page (chars value) c nothing_more))
-    → double_quoted_at text (p + gap_width c) ≡ Ok (value, p + length (encode Utf8 (double_quoted page (chars value) c nothing_more)))
+    → double_quoted_at text (p + gap_width c)
+    ≡ Ok (value, p + length (encode Utf8 (double_quoted page (chars value) c nothing_more)))
 quoted_text_back law page c value text p u deep =
     by_gap c.white (between_quotes page (chars value) c nothing_more) (letter 32 ∷ between_quotes page (chars value) (spaced_by c) nothing_more)
     (read_white (between_quotes page (chars value)) c value text p (quoted_back law page c value u deep))
     (read_spaced (between_quotes page (chars value)) c (spaced_by c) value text p (quoted_back law page (spaced_by c) value u deep))
   where
     by_gap : (b : Bool) (t v : List Item)
-        → (HasAt text p (encode Utf8 t) → double_quoted_at text (p + 0) ≡ Ok (value, p + length (encode Utf8 t)))
-        → (HasAt text p (encode Utf8 v) → double_quoted_at text (p + 1) ≡ Ok (value, p + length (encode Utf8 v)))
-        → HasAt text p (encode Utf8 (if b then t else v)) → double_quoted_at text (p + (if b then 0 else 1)) ≡ Ok (value, p + length (encode Utf8 (if b then t else v)))
+        → (HasAt text p (encode Utf8 t) → double_quoted_at text (p + 0)
+        ≡ Ok (value, p + length (encode Utf8 t)))
+        → (HasAt text p (encode Utf8 v) → double_quoted_at text (p + 1)
+        ≡ Ok (value, p + length (encode Utf8 v)))
+        → HasAt text p (encode Utf8 (if b then t else v))
+        → double_quoted_at text (p + (if b then 0 else 1))
+        ≡ Ok (value, p + length (encode Utf8 (if b then t else v)))
     by_gap true t v f g = f
     by_gap false t v f g = g

@@ -92,7 +92,8 @@ digit_calm d v h = record {
   no_return = λ e. none_some (hex_digit d) v (ap (λ k. hex_digit k) e ∙ no_return_digit) h;
 }
 
-hex_more : (text : List ℕ) (p k v d : ℕ) → hex_value text p k ≡ Some v → hex_digit (byte text (p + k)) ≡ Some d → hex_value text p (suc k) ≡ Some (v * 16 + d)
+hex_more : (text : List ℕ) (p k v d : ℕ) → hex_value text p k ≡ Some v
+    → hex_digit (byte text (p + k)) ≡ Some d → hex_value text p (suc k) ≡ Some (v * 16 + d)
 unfolding hex_value
 hex_more text p k v d h e = rw (h, e) refl
 
@@ -110,10 +111,12 @@ pub record Digits (text : List ℕ) (p k w : ℕ) (ds : List ℕ) : Type 0 where
   pub calm : AreCalm ds
   pub value : hex_value text p (k + length ds) ≡ Some w
 
-next_digit : (text : List ℕ) (p k : ℕ) (ds : List ℕ) → Has text (p + k + 1) ds → Has text (p + suc k) ds
+next_digit : (text : List ℕ) (p k : ℕ) (ds : List ℕ) → Has text (p + k + 1) ds
+    → Has text (p + suc k) ds
 next_digit text p k ds h = let e : p + k + 1 ≡ p + suc k = omega arith in subst (λ q. Has text q ds) e h
 
-more_digits : (text : List ℕ) (p k w d : ℕ) (ds : List ℕ) → Calm d → Digits text p (suc k) w ds → Digits text p k w (d ∷ ds)
+more_digits : (text : List ℕ) (p k w d : ℕ) (ds : List ℕ) → Calm d → Digits text p (suc k) w ds
+    → Digits text p k w (d ∷ ds)
 more_digits text p k w d ds c r = record {
   calm = (c, r.calm);
   value = let e : k + suc (length ds) ≡ suc k + length ds = omega arith in ap (λ n. hex_value text p n) e ∙ r.value;
@@ -125,7 +128,8 @@ record FirstDigit (v w d : ℕ) (ds : List ℕ) : Type 0 where
   is : hex_digit d ≡ Some low
   rest : number_behind (v * 16 + low) ds ≡ Some w
 
-first_by : (v w d : ℕ) (ds : List ℕ) (r : Option ℕ) → hex_digit d ≡ r → option_and_then (λ low. number_behind (v * 16 + low) ds) r ≡ Some w → FirstDigit v w d ds
+first_by : (v w d : ℕ) (ds : List ℕ) (r : Option ℕ) → hex_digit d ≡ r
+    → option_and_then (λ low. number_behind (v * 16 + low) ds) r ≡ Some w → FirstDigit v w d ds
 first_by v w d ds None e h = absurd (cc)
 first_by v w d ds (Some low) e h = record { low = low; is = e; rest = h }
 
@@ -137,7 +141,8 @@ no_digits : (v w : ℕ) → number_behind v [] ≡ Some w → v ≡ w
 unfolding number_behind
 no_digits v w h = cc
 
-pub digits : (text : List ℕ) (p k v w : ℕ) (ds : List ℕ) → hex_value text p k ≡ Some v → Has text (p + k) ds → number_behind v ds ≡ Some w → Digits text p k w ds
+pub digits : (text : List ℕ) (p k v w : ℕ) (ds : List ℕ) → hex_value text p k ≡ Some v
+    → Has text (p + k) ds → number_behind v ds ≡ Some w → Digits text p k w ds
 digits text p k v w [] e h n = record { calm = tt; value = rw add-zero (e ∙ ap (λ x. Some x) (no_digits v w n)) }
 digits text p k v w (d ∷ ds) e (b, h) n =
     let f = first_digit v w d ds n in
@@ -197,7 +202,8 @@ pub first_end : (x y b c : ℕ) → 192 ≤ b → ends_of x y b c ≡ false
 unfolding ends_of
 first_end x y b c h = grind (arith, nat_tests)
 
-pub second_end : (x y b c : ℕ) → 128 ≤ b → b < 192 → 192 ≤ y → (b ≡ 0x85 → y ≡ 0xC2 → ⊥) → ends_of x y b c ≡ false
+pub second_end : (x y b c : ℕ) → 128 ≤ b → b < 192 → 192 ≤ y → (b ≡ 0x85 → y ≡ 0xC2 → ⊥)
+    → ends_of x y b c ≡ false
 unfolding ends_of
 second_end x y b c h k l m =
     elim (cases_eq b 0x85) [
@@ -208,7 +214,9 @@ second_end x y b c h k l m =
       | inr e ↦ grind (arith, nat_tests)
     ]
 
-pub third_end : (x y b c : ℕ) → 128 ≤ b → b < 192 → 128 ≤ y → y < 192 → (b ≡ 0xA8 → y ≡ 0x80 → x ≡ 0xE2 → ⊥) → (b ≡ 0xA9 → y ≡ 0x80 → x ≡ 0xE2 → ⊥) → ends_of x y b c ≡ false
+pub third_end : (x y b c : ℕ) → 128 ≤ b → b < 192 → 128 ≤ y → y < 192
+    → (b ≡ 0xA8 → y ≡ 0x80 → x ≡ 0xE2 → ⊥) → (b ≡ 0xA9 → y ≡ 0x80 → x ≡ 0xE2 → ⊥)
+    → ends_of x y b c ≡ false
 unfolding ends_of
 third_end x y b c h k l m n o =
     elim (cases_eq y 0x80) [
@@ -237,7 +245,8 @@ two_break b c d h k m =
       | inl e ↦ elim (cases_eq c 0x85) [ inl f ↦ absurd (m e f) | inr f ↦ grind (arith, nat_tests) ]
     ]
 
-pub three_break : (b c d : ℕ) → 224 ≤ b → b < 240 → (b ≡ 0xE2 → c ≡ 0x80 → d ≡ 0xA8 → ⊥) → (b ≡ 0xE2 → c ≡ 0x80 → d ≡ 0xA9 → ⊥) → break_of b c d ≡ 0
+pub three_break : (b c d : ℕ) → 224 ≤ b → b < 240 → (b ≡ 0xE2 → c ≡ 0x80 → d ≡ 0xA8 → ⊥)
+    → (b ≡ 0xE2 → c ≡ 0x80 → d ≡ 0xA9 → ⊥) → break_of b c d ≡ 0
 unfolding break_of
 three_break b c d h k n o =
     elim (cases_eq b 0xE2) [

@@ -46,15 +46,24 @@ percent_begins : (text : List ℕ) (p : ℕ) → byte text p ≡ 37 → begins_l
 unfolding break_of
 percent_begins text p h = sign_starts text p 37 h refl refl refl refl (λ c d. refl)
 
-percent_kind : (text : List ℕ) (p : ℕ) → byte text p ≡ 37 → column_at text p ≡ 0 → kind_at false text p ≡ Some kinds.Directive
+percent_kind : (text : List ℕ) (p : ℕ) → byte text p ≡ 37 → column_at text p ≡ 0
+    → kind_at false text p ≡ Some kinds.Directive
 unfolding kind_at
 percent_kind text p h z = rw (h, z) refl
 
-directive_word : (text : List ℕ) (p : ℕ) → word_at kinds.Directive false 0 text p ≡ directed (directive_at text p)
+directive_word : (text : List ℕ) (p : ℕ)
+    → word_at kinds.Directive false 0 text p ≡ directed (directive_at text p)
 unfolding word_at
 directive_word text p = refl
 
-said_directive : (r : Result DirectiveText Wrong) (d : DirectiveText) → r ≡ Ok d → directed r ≡ Ok (record { body = body_said d.said; end = d.end; reached = d.place; broke = false })
+said_directive : (r : Result DirectiveText Wrong) (d : DirectiveText) → r ≡ Ok d
+    → directed r ≡ Ok (record {
+      body = body_said d.said;
+      end = d.end;
+      reached = d.place;
+      broke =
+          false;
+    })
 said_directive r d e = rw e refl
 
 not_feed : (x : ℕ) → x ≡ 37 → x ≡ 10 → ⊥
@@ -72,7 +81,8 @@ abbrev ReadsLine : List ℕ → Said → Type 0
 ReadsLine xs said = (text : List ℕ) (p : ℕ) → Has text p (37 ∷ xs) → is_break text (p + length (37 ∷ xs)) ≡ true
     → let end = p + length (37 ∷ xs) in directive_at text p ≡ Ok (record { said = said; end = end; place = end + break_width text end })
 
-line_lands : GapReads → (a : Layout) (b : LineBreak) (xs : List ℕ) (said : Said) → ((kept : Bool) → WritesLine a b xs kept) → ReadsLine xs said → (rest : Rest) → NoFeed rest
+line_lands : GapReads → (a : Layout) (b : LineBreak) (xs : List ℕ) (said : Said)
+    → ((kept : Bool) → WritesLine a b xs kept) → ReadsLine xs said → (rest : Rest) → NoFeed rest
     → LinesWalkTo rest a (λ ks. kinds.Directive ∷ ks) (λ bs. body_said said ∷ bs)
 line_lands law a b xs said written reads rest calm kept text p ws s l =
     let w = written kept in
@@ -103,18 +113,25 @@ line_lands law a b xs said written reads rest calm kept text p ws s l =
 abbrev version_line : LineBreak → List ℕ → Layout
 version_line b t = word (codes "%YAML") ▹ (word t ▹ line b 0)
 
-version_writes : (b : LineBreak) (x : ℕ) → nat_lt x 128 ≡ true → (kept : Bool) → WritesLine (version_line b (49 ∷ 46 ∷ x ∷ [])) b (89 ∷ 65 ∷ 77 ∷ 76 ∷ 32 ∷ 49 ∷ 46 ∷ x ∷ []) kept
+version_writes : (b : LineBreak) (x : ℕ) → nat_lt x 128 ≡ true → (kept : Bool)
+    → WritesLine (version_line b (49 ∷ 46 ∷ x ∷ [])) b (89 ∷ 65 ∷ 77 ∷ 76 ∷ 32 ∷ 49 ∷ 46 ∷ x ∷ [])
+    kept
 unfolding letters encode char_bytes
 version_writes b x low kept = record { behind = record { column = 9; white = false; bare = false; kept = kept }; same = λ rest. rw low refl; bare = refl; still = refl }
 
-version_line_lands : GapReads → VersionReads → (b : LineBreak) (n : ℕ) → n < 10 → nat_lt (48 + n) 128 ≡ true → (rest : Rest) → NoFeed rest
-    → LinesWalkTo rest (version_line b (49 ∷ 46 ∷ (48 + n) ∷ [])) (λ ks. kinds.Directive ∷ ks) (λ bs. tokens.version_directive (pos 1) (pos n) ∷ bs)
+version_line_lands : GapReads → VersionReads → (b : LineBreak) (n : ℕ) → n < 10
+    → nat_lt (48 + n) 128 ≡ true → (rest : Rest) → NoFeed rest
+    → LinesWalkTo rest (version_line b (49 ∷ 46 ∷ (48 + n) ∷ [])) (λ ks. kinds.Directive ∷ ks)
+    (λ bs. tokens.version_directive (pos 1) (pos n) ∷ bs)
 version_line_lands law versions b n small low rest calm =
     line_lands law (version_line b (49 ∷ 46 ∷ (48 + n) ∷ [])) b (89 ∷ 65 ∷ 77 ∷ 76 ∷ 32 ∷ 49 ∷ 46 ∷ (48 + n) ∷ []) (directives.version 1 n) (λ kept. version_writes b (48 + n) low kept)
     (λ text p has stop. versions text p n small (has_at text p (37 ∷ 89 ∷ 65 ∷ 77 ∷ 76 ∷ 32 ∷ 49 ∷ 46 ∷ (48 + n) ∷ []) has) stop) rest calm
 
-version_so : GapReads → VersionReads → (b : LineBreak) (v : yaml_version_directive_t) (n : ℕ) → n < 10 → nat_lt (48 + n) 128 ≡ true → v.major ≡ pos 1 → v.minor ≡ pos n → version_word v ≡ 49 ∷ 46 ∷ (48 + n) ∷ [] → (rest : Rest) → NoFeed rest
-    → LinesWalkTo rest (version_line b (version_word v)) (λ ks. kinds.Directive ∷ ks) (λ bs. tokens.version_directive v.major v.minor ∷ bs)
+version_so : GapReads → VersionReads → (b : LineBreak) (v : yaml_version_directive_t) (n : ℕ)
+    → n < 10 → nat_lt (48 + n) 128 ≡ true → v.major ≡ pos 1 → v.minor ≡ pos n
+    → version_word v ≡ 49 ∷ 46 ∷ (48 + n) ∷ [] → (rest : Rest) → NoFeed rest
+    → LinesWalkTo rest (version_line b (version_word v)) (λ ks. kinds.Directive ∷ ks)
+    (λ bs. tokens.version_directive v.major v.minor ∷ bs)
 version_so law versions b v n small low major minor says rest calm =
     let P : List ℕ → ℤ → ℤ → Type 0 = λ (t : List ℕ) (x y : ℤ). LinesWalkTo rest (version_line b t) (λ ks. kinds.Directive ∷ ks) (λ bs. tokens.version_directive x y ∷ bs) in
     let base : P (49 ∷ 46 ∷ (48 + n) ∷ []) (pos 1) (pos n) = version_line_lands law versions b n small low rest calm in
@@ -126,8 +143,10 @@ none_true : (b : Bool) (p : Problem) → (if b then None else Some p) ≡ None �
 none_true true p e = refl
 none_true false p e = absurd (cc)
 
-version_lands : GapReads → VersionReads → (s : Settings) (version : Option yaml_version_directive_t) → version_problem version ≡ None → (rest : Rest) → NoFeed rest
-    → LinesWalkTo rest (version_text s version) (λ ks. version_kinds version ks) (λ bs. version_bodies version bs)
+version_lands : GapReads → VersionReads → (s : Settings) (version : Option yaml_version_directive_t)
+    → version_problem version ≡ None → (rest : Rest) → NoFeed rest
+    → LinesWalkTo rest (version_text s version) (λ ks. version_kinds version ks)
+    (λ bs. version_bodies version bs)
 version_lands law versions s None right rest calm = λ kept text p ws st l. record { kept = kept; place = p; words = ws; stage = st; left = l; kinds = refl; bodies = λ bs. refl }
 version_lands law versions s (Some v) right rest calm =
     let is = none_true (is_version v) _ right in
@@ -142,7 +161,9 @@ version_lands law versions s (Some v) right rest calm =
 
 -- ---- tags
 
-tag_front : (kept : Bool) (rest : Rest) → bytes (letters (codes "%TAG") (at_line kept) rest) ≡ 37 ∷ 84 ∷ 65 ∷ 71 ∷ bytes (rest (record { column = 4; white = false; bare = false; kept = kept }))
+tag_front : (kept : Bool) (rest : Rest)
+    → bytes (letters (codes "%TAG") (at_line kept) rest) ≡ 37 ∷ 84 ∷ 65 ∷ 71
+    ∷ bytes (rest (record { column = 4; white = false; bare = false; kept = kept }))
 unfolding letters encode char_bytes
 tag_front kept rest = refl
 
@@ -156,11 +177,13 @@ record Spaces (xs : List ℕ) (c : Cursor) : Type 0 where
 abbrev spaced : Cursor → Cursor
 spaced c = record { column = c.column + 1; white = true; bare = c.bare; kept = c.kept }
 
-space_here : (xs : List ℕ) (c : Cursor) → c.white ≡ false → (rest : Rest) → bytes (word xs c rest) ≡ 32 ∷ bytes (letters xs (spaced c) rest)
+space_here : (xs : List ℕ) (c : Cursor) → c.white ≡ false → (rest : Rest)
+    → bytes (word xs c rest) ≡ 32 ∷ bytes (letters xs (spaced c) rest)
 space_here xs c white rest =
     ap (λ (t : Bool). bytes (if t then letters xs c rest else blank c (λ e. letters xs e rest))) white ∙ letter_low 32 (letters xs (spaced c) rest) refl
 
-spaces : (xs : List ℕ) → are_ascii xs ≡ true → (c : Cursor) → c.white ≡ false → c.bare ≡ false → Spaces xs c
+spaces : (xs : List ℕ) → are_ascii xs ≡ true → (c : Cursor) → c.white ≡ false → c.bare ≡ false
+    → Spaces xs c
 spaces xs low c white bare =
     let r = letters_are xs low (spaced c) in
     record { behind = r.behind; same = λ rest. space_here xs c white rest ∙ ap (λ (t : List ℕ). 32 ∷ t) (r.same rest); bare = r.bare bare; kept = r.kept }
@@ -173,7 +196,8 @@ record Handles (xs : List ℕ) (c : Cursor) : Type 0 where
   bare : behind.bare ≡ false
   kept : behind.kept ≡ c.kept
 
-handle_spaced : (more : List ℕ) → are_ascii more ≡ true → (c : Cursor) → c.white ≡ false → Handles (33 ∷ more) c
+handle_spaced : (more : List ℕ) → are_ascii more ≡ true → (c : Cursor) → c.white ≡ false
+    → Handles (33 ∷ more) c
 unfolding letters
 handle_spaced more low c white =
     let r = letters_are more low (lettered_on (spaced c)) in
@@ -191,7 +215,9 @@ handles xs h c white = subst (λ (ys : List ℕ). Handles ys c) (sym h.begins) (
 abbrev tag_line : LineBreak → List ℕ → List ℕ → Layout
 tag_line b handle uri = word (codes "%TAG") ▹ (word handle ▹ (word uri ▹ line b 0))
 
-tag_writes : (b : LineBreak) (handle uri : List ℕ) → IsMarked handle → are_ascii uri ≡ true → (kept : Bool) → WritesLine (tag_line b handle uri) b (84 ∷ 65 ∷ 71 ∷ 32 ∷ (handle ++ (32 ∷ uri))) kept
+tag_writes : (b : LineBreak) (handle uri : List ℕ) → IsMarked handle → are_ascii uri ≡ true
+    → (kept : Bool)
+    → WritesLine (tag_line b handle uri) b (84 ∷ 65 ∷ 71 ∷ 32 ∷ (handle ++ (32 ∷ uri))) kept
 tag_writes b handle uri marked low kept =
     let c : Cursor = record { column = 4; white = false; bare = false; kept = kept } in
     let h = handles handle marked c refl in
@@ -208,8 +234,10 @@ tag_writes b handle uri marked low kept =
       still = u.kept ∙ h.kept;
     }
 
-tag_lands : GapReads → DirectivesAreRead → ReadableDirectivesAreAscii → (s : Settings) (d : TagDirective) → IsReadableDirective d → (rest : Rest) → NoFeed rest
-    → LinesWalkTo rest (directive_text s d) (λ ks. kinds.Directive ∷ ks) (λ bs. tokens.tag_directive d.handle d.prefix ∷ bs)
+tag_lands : GapReads → DirectivesAreRead → ReadableDirectivesAreAscii
+    → (s : Settings) (d : TagDirective) → IsReadableDirective d → (rest : Rest) → NoFeed rest
+    → LinesWalkTo rest (directive_text s d) (λ ks. kinds.Directive ∷ ks)
+    (λ bs. tokens.tag_directive d.handle d.prefix ∷ bs)
 tag_lands law reads ascii s d may rest calm =
     let (marked, low) = ascii d may in
     let xs = 84 ∷ 65 ∷ 71 ∷ 32 ∷ (d.handle ++ (32 ∷ uri_text true d.prefix)) in
@@ -218,19 +246,23 @@ tag_lands law reads ascii s d may rest calm =
 
 -- ---- one behind the other
 
-tag_first : (s : Settings) (d : TagDirective) (rest : Rest) → NoFeed (λ c. directive_text s d c rest)
+tag_first : (s : Settings) (d : TagDirective) (rest : Rest)
+    → NoFeed (λ c. directive_text s d c rest)
 tag_first s d rest kept e = differs _ e (ap (λ (bs : List ℕ). first bs) (tag_front kept (λ c. (word d.handle ▹ (word (uri_text true d.prefix) ▹ line s.line_break 0)) c rest)))
   where
     differs : (n : ℕ) → n ≡ 10 → n ≡ 37 → ⊥
     differs n e f = omega (arith, e, f)
 
-tags_first : (s : Settings) (ds : List TagDirective) (rest : Rest) → NoFeed rest → NoFeed (λ c. directives_text s ds c rest)
+tags_first : (s : Settings) (ds : List TagDirective) (rest : Rest) → NoFeed rest
+    → NoFeed (λ c. directives_text s ds c rest)
 unfolding directives_text
 tags_first s [] rest calm = calm
 tags_first s (d ∷ ds) rest calm = tag_first s d (λ c. directives_text s ds c rest)
 
-tags_land : GapReads → DirectivesAreRead → ReadableDirectivesAreAscii → (s : Settings) (ds : List TagDirective) → AreReadable ds → (rest : Rest) → NoFeed rest
-    → LinesWalkTo rest (directives_text s ds) (λ ks. directives_kinds ds ks) (λ bs. directives_bodies ds bs)
+tags_land : GapReads → DirectivesAreRead → ReadableDirectivesAreAscii
+    → (s : Settings) (ds : List TagDirective) → AreReadable ds → (rest : Rest) → NoFeed rest
+    → LinesWalkTo rest (directives_text s ds) (λ ks. directives_kinds ds ks)
+    (λ bs. directives_bodies ds bs)
 unfolding directives_text directives_kinds directives_bodies
 tags_land law reads ascii s [] may rest calm kept text p ws st l = record { kept = kept; place = p; words = ws; stage = st; left = l; kinds = refl; bodies = λ bs. refl }
 tags_land law reads ascii s (d ∷ ds) (own, may) rest calm kept text p ws st l =
@@ -243,7 +275,9 @@ or_first None b e = refl
 or_first (Some p) b e = absurd (cc)
 
 -- the lines of a document's directives
-pub directives_walk : GapReads → VersionReads → DirectivesAreRead → ReadableDirectivesAreAscii → WrittenDirectivesAreReadable → (s : Settings) (o : Opening) → IsWritableOpening o → DirectivesWalk s o
+pub directives_walk : GapReads → VersionReads → DirectivesAreRead → ReadableDirectivesAreAscii
+    → WrittenDirectivesAreReadable → (s : Settings) (o : Opening) → IsWritableOpening o
+    → DirectivesWalk s o
 directives_walk law versions reads ascii readable s o (right, utf8) rest calm kept text p ws st l =
     let known = or_first (version_problem o.version) (directives_problem [] o.directives) right in
     let may = readable o right utf8 in

@@ -45,7 +45,9 @@ pub record Lined (text : List ℕ) (rest : Rest) (kept : Bool) (ws : List Word) 
   pub stage : Stage text (at_line kept) place ws d
   pub left : Left text place (bytes (rest (at_line kept)))
 
-new_line_lined : (b : LineBreak) (text : List ℕ) (c : Cursor) (p : ℕ) (ws : List Word) (d : ℕ) (rest : Rest) → Stage text c p ws d → Left text p (bytes (new_line b c rest)) → Lined text rest c.kept ws d
+new_line_lined : (b : LineBreak) (text : List ℕ) (c : Cursor) (p : ℕ) (ws : List Word) (d : ℕ)
+    (rest : Rest) → Stage text c p ws d → Left text p (bytes (new_line b c rest))
+    → Lined text rest c.kept ws d
 new_line_lined Lf text c p ws d rest s l =
     let m = left_letter text p 10 (rest (at_line c.kept)) refl l in
     let h = left_first text p 10 (bytes (rest (at_line c.kept))) m in
@@ -65,7 +67,9 @@ new_line_lined CrLf text c p ws d rest s l =
     not_start : (n : ℕ) → n + 1 ≡ 0 → ⊥
     not_start n e = omega arith
 
-pub line_lined : (b : LineBreak) (text : List ℕ) (c : Cursor) (p : ℕ) (ws : List Word) (d : ℕ) (rest : Rest) → c.bare ≡ false → Stage text c p ws d → Left text p (bytes (line b 0 c rest)) → Lined text rest c.kept ws d
+pub line_lined : (b : LineBreak) (text : List ℕ) (c : Cursor) (p : ℕ) (ws : List Word) (d : ℕ)
+    (rest : Rest) → c.bare ≡ false → Stage text c p ws d → Left text p (bytes (line b 0 c rest))
+    → Lined text rest c.kept ws d
 unfolding line blanks
 line_lined b text c p ws d rest e s l =
     let must : must_break 0 c ≡ true = rw e refl in
@@ -75,7 +79,9 @@ line_lined b text c p ws d rest e s l =
 
 -- ---- `---` and `...`
 
-pub three : (x : ℕ) → nat_lt x 128 ≡ true → (kept : Bool) (rest : Rest) → bytes (letters (x ∷ x ∷ x ∷ []) (at_line kept) rest) ≡ x ∷ x ∷ x ∷ bytes (rest (record { column = 3; white = false; bare = false; kept = kept }))
+pub three : (x : ℕ) → nat_lt x 128 ≡ true → (kept : Bool) (rest : Rest)
+    → bytes (letters (x ∷ x ∷ x ∷ []) (at_line kept) rest) ≡ x ∷ x ∷ x
+    ∷ bytes (rest (record { column = 3; white = false; bare = false; kept = kept }))
 unfolding letters encode char_bytes
 three x e kept rest = rw e refl
 
@@ -88,12 +94,14 @@ feed_blank text q h = rw (h, line_break) refl
 return_blank : (text : List ℕ) (q : ℕ) → byte text q ≡ 13 → is_blank_or_end text q ≡ true
 return_blank text q h = rw (h, some_break) refl
 
-broken_blank : (b : LineBreak) (text : List ℕ) (c : Cursor) (q : ℕ) (k : Rest) → Left text q (bytes (new_line b c k)) → is_blank_or_end text q ≡ true
+broken_blank : (b : LineBreak) (text : List ℕ) (c : Cursor) (q : ℕ) (k : Rest)
+    → Left text q (bytes (new_line b c k)) → is_blank_or_end text q ≡ true
 broken_blank Lf text c q k l = feed_blank text q (left_first text q 10 _ (left_letter text q 10 (k (at_line c.kept)) refl l))
 broken_blank Cr text c q k l = return_blank text q (left_first text q 13 _ (left_letter text q 13 (k (at_line c.kept)) refl l))
 broken_blank CrLf text c q k l = return_blank text q (left_first text q 13 _ (left_letter text q 13 (letter 10 ∷ k (at_line c.kept)) refl l))
 
-pub line_blank : (b : LineBreak) (text : List ℕ) (c : Cursor) (q : ℕ) (rest : Rest) → c.bare ≡ false → Left text q (bytes (line b 0 c rest)) → is_blank_or_end text q ≡ true
+pub line_blank : (b : LineBreak) (text : List ℕ) (c : Cursor) (q : ℕ) (rest : Rest) → c.bare ≡ false
+    → Left text q (bytes (line b 0 c rest)) → is_blank_or_end text q ≡ true
 unfolding line
 line_blank b text c q rest e l =
     let must : must_break 0 c ≡ true = rw e refl in
@@ -104,17 +112,25 @@ line_blank b text c q rest e l =
 pub record Thrice (x : ℕ) (k : Kind) (body : TokenBody) : Type 0 where
   pub low : nat_lt x 128 ≡ true
   pub begins : (text : List ℕ) (p : ℕ) → byte text p ≡ x → begins_lexeme text p ≡ true
-  pub kind : (text : List ℕ) (p : ℕ) → byte text p ≡ x → byte text (p + 1) ≡ x → byte text (p + 2) ≡ x → is_blank_or_end text (p + 3) ≡ true → column_at text p ≡ 0 → kind_at false text p ≡ Some k
-  pub said : (text : List ℕ) (p : ℕ) → word_at k false 0 text p ≡ Ok (record { body = body; end = p + 3; reached = p + 3; broke = false })
+  pub kind : (text : List ℕ) (p : ℕ) → byte text p ≡ x → byte text (p + 1) ≡ x
+      → byte text (p + 2) ≡ x → is_blank_or_end text (p + 3) ≡ true → column_at text p ≡ 0
+      → kind_at false text p ≡ Some k
+  pub said : (text : List ℕ) (p : ℕ)
+      → word_at k false 0 text p ≡ Ok (record
+      { body = body; end = p + 3; reached = p + 3; broke = false })
   pub more : is_end k ≡ false
   pub flat : depth_after k 0 ≡ 0
   pub no_feed : x ≡ 10 → ⊥
 
-dash_kind : (text : List ℕ) (p : ℕ) → byte text p ≡ 45 → byte text (p + 1) ≡ 45 → byte text (p + 2) ≡ 45 → is_blank_or_end text (p + 3) ≡ true → column_at text p ≡ 0 → kind_at false text p ≡ Some kinds.DocumentStart
+dash_kind : (text : List ℕ) (p : ℕ) → byte text p ≡ 45 → byte text (p + 1) ≡ 45
+    → byte text (p + 2) ≡ 45 → is_blank_or_end text (p + 3) ≡ true → column_at text p ≡ 0
+    → kind_at false text p ≡ Some kinds.DocumentStart
 unfolding kind_at is_document_start
 dash_kind text p a b c e z = rw (a, b, c, e, z) refl
 
-dot_kind : (text : List ℕ) (p : ℕ) → byte text p ≡ 46 → byte text (p + 1) ≡ 46 → byte text (p + 2) ≡ 46 → is_blank_or_end text (p + 3) ≡ true → column_at text p ≡ 0 → kind_at false text p ≡ Some kinds.DocumentEnd
+dot_kind : (text : List ℕ) (p : ℕ) → byte text p ≡ 46 → byte text (p + 1) ≡ 46
+    → byte text (p + 2) ≡ 46 → is_blank_or_end text (p + 3) ≡ true → column_at text p ≡ 0
+    → kind_at false text p ≡ Some kinds.DocumentEnd
 unfolding kind_at is_document_start is_document_end
 dot_kind text p a b c e z = rw (a, b, c, e, z) refl
 
@@ -142,7 +158,8 @@ thrice_dot = record {
   no_feed = λ e. omega arith;
 }
 
-thrice_lands : GapReads → (x : ℕ) (k : Kind) (body : TokenBody) → Thrice x k body → (b : LineBreak) → LinesWalk (word (x ∷ x ∷ x ∷ []) ▹ line b 0) (λ ks. k ∷ ks) (λ bs. body ∷ bs)
+thrice_lands : GapReads → (x : ℕ) (k : Kind) (body : TokenBody) → Thrice x k body → (b : LineBreak)
+    → LinesWalk (word (x ∷ x ∷ x ∷ []) ▹ line b 0) (λ ks. k ∷ ks) (λ bs. body ∷ bs)
 thrice_lands law x k body t b rest kept text p ws s l =
     let r : Rest = λ c. line b 0 c rest in
     let m = subst (λ (bs : List ℕ). Left text p bs) (three x t.low kept r) l in
@@ -164,7 +181,8 @@ thrice_lands law x k body t b rest kept text p ws s l =
 
 -- ---- lines one behind another
 
-both_land : (a b : Layout) (K L : List Kind → List Kind) (B C : List TokenBody → List TokenBody) → LinesWalk a K B → LinesWalk b L C → LinesWalk (a ▹ b) (λ ks. L (K ks)) (λ bs. B (C bs))
+both_land : (a b : Layout) (K L : List Kind → List Kind) (B C : List TokenBody → List TokenBody)
+    → LinesWalk a K B → LinesWalk b L C → LinesWalk (a ▹ b) (λ ks. L (K ks)) (λ bs. B (C bs))
 both_land a b K L B C w v rest kept text p ws s l =
     let g = w (λ c. b c rest) kept text p ws s l in
     let h = v rest g.kept text g.place g.words g.stage g.left in
@@ -178,14 +196,18 @@ no_line_lands : (b : LineBreak) → LinesWalk (line b 0) (λ ks. ks) (λ bs. bs)
 unfolding line blanks
 no_line_lands b rest kept text p ws s l = record { kept = kept; place = p; words = ws; stage = s; left = l; kinds = refl; bodies = λ bs. refl }
 
-dots_land : GapReads → (s : Settings) → LinesWalk (dots s) (λ ks. kinds.DocumentEnd ∷ ks) (λ bs. tokens.document_end ∷ bs)
+dots_land : GapReads → (s : Settings)
+    → LinesWalk (dots s) (λ ks. kinds.DocumentEnd ∷ ks) (λ bs. tokens.document_end ∷ bs)
 dots_land law s = thrice_lands law 46 kinds.DocumentEnd tokens.document_end thrice_dot s.line_break
 
-dots_if : GapReads → (s : Settings) (b : Bool) → LinesWalk (when b (dots s)) (λ ks. put_if b kinds.DocumentEnd ks) (λ bs. end_bodies b bs)
+dots_if : GapReads → (s : Settings) (b : Bool)
+    → LinesWalk (when b (dots s)) (λ ks. put_if b kinds.DocumentEnd ks) (λ bs. end_bodies b bs)
 dots_if law s true = dots_land law s
 dots_if law s false = nothing_lands
 
-dashes_land : GapReads → (s : Settings) → LinesWalk (dashes (canonical_settings s)) (λ ks. kinds.DocumentStart ∷ ks) (λ bs. tokens.document_start ∷ bs)
+dashes_land : GapReads → (s : Settings)
+    → LinesWalk (dashes (canonical_settings s)) (λ ks. kinds.DocumentStart ∷ ks)
+    (λ bs. tokens.document_start ∷ bs)
 dashes_land law s =
     both_land (line s.line_break 0) (word (45 ∷ 45 ∷ 45 ∷ []) ▹ line s.line_break 0) (λ ks. ks) (λ ks. kinds.DocumentStart ∷ ks) (λ bs. bs) (λ bs. tokens.document_start ∷ bs) (no_line_lands s.line_break)
     (thrice_lands law 45 kinds.DocumentStart tokens.document_start thrice_dash s.line_break)
@@ -199,11 +221,15 @@ dash_first s rest kept e =
     differs : (n : ℕ) → n ≡ 10 → n ≡ 45 → ⊥
     differs n e f = omega (arith, e, f)
 
-unkept : (a : Layout) (K : List Kind → List Kind) (B : List TokenBody → List TokenBody) → LinesWalk a K B → LinesWalk (keep false ▹ a) K B
+unkept : (a : Layout) (K : List Kind → List Kind) (B : List TokenBody → List TokenBody)
+    → LinesWalk a K B → LinesWalk (keep false ▹ a) K B
 unkept a K B w rest kept text p ws s l =
     w rest false text p ws (record { stand = s.stand; gap = s.gap; from = s.from; stands = s.stands; blank = s.blank; deep = s.deep; column = s.column; plain = refl }) l
 
-opening_lands : GapReads → (s : Settings) (o : Opening) (fresh unended : Bool) → DirectivesWalk (canonical_settings s) o → LinesWalk (start_layout (canonical_settings s) fresh unended o) (λ ks. opening_kinds unended o ks) (λ bs. opening_bodies unended o bs)
+opening_lands : GapReads → (s : Settings) (o : Opening) (fresh unended : Bool)
+    → DirectivesWalk (canonical_settings s) o
+    → LinesWalk (start_layout (canonical_settings s) fresh unended o)
+    (λ ks. opening_kinds unended o ks) (λ bs. opening_bodies unended o bs)
 unfolding start_layout
 opening_lands law s o fresh unended directed =
     let z = canonical_settings s in
@@ -222,8 +248,11 @@ opening_lands law s o fresh unended directed =
 
 -- ---- a root, and its document's end
 
-root_lands : GapReads → AnchorReads → QuotedIsReadBack → MarkWalks → (s : Settings) → 0 < s.indent → (o : Opening) → TagWalks o.directives → (n : Node) → IsWritable n → (implicit : Bool)
-    → LinesWalk (node_layout (context_of (canonical_settings s) o.directives) root_spot n ▹ end_layout (canonical_settings s) implicit) (λ ks. put_if (not implicit) kinds.DocumentEnd (node_kinds n ks))
+root_lands : GapReads → AnchorReads → QuotedIsReadBack → MarkWalks → (s : Settings) → 0 < s.indent
+    → (o : Opening) → TagWalks o.directives → (n : Node) → IsWritable n → (implicit : Bool)
+    → LinesWalk (node_layout (context_of (canonical_settings s) o.directives) root_spot n ▹
+    end_layout (canonical_settings s) implicit)
+    (λ ks. put_if (not implicit) kinds.DocumentEnd (node_kinds n ks))
     (λ bs. node_bodies o.directives n (end_bodies (not implicit) bs))
 unfolding end_layout
 root_lands law names quoted mark s some o tags n good implicit rest kept text p ws stage l =
@@ -247,11 +276,14 @@ pub end_zero : (text : List ℕ) (p : ℕ) → Left text p (bytes []) → byte t
 unfolding encode
 end_zero text p l = let e = l.ends in get_or_past text p 0 (omega (arith, e))
 
-pub end_kind : (text : List ℕ) (p : ℕ) → byte text p ≡ 0 → kind_at false text p ≡ Some kinds.StreamEnd
+pub end_kind : (text : List ℕ) (p : ℕ) → byte text p ≡ 0
+    → kind_at false text p ≡ Some kinds.StreamEnd
 unfolding kind_at
 end_kind text p h = rw h refl
 
-pub end_word : (text : List ℕ) (p : ℕ) → word_at kinds.StreamEnd false 0 text p ≡ Ok (record { body = tokens.stream_end; end = p; reached = p; broke = false })
+pub end_word : (text : List ℕ) (p : ℕ)
+    → word_at kinds.StreamEnd false 0 text p
+    ≡ Ok (record { body = tokens.stream_end; end = p; reached = p; broke = false })
 unfolding word_at
 end_word text p = refl
 
@@ -259,7 +291,9 @@ pub end_begins : (text : List ℕ) (p : ℕ) → byte text p ≡ 0 → begins_le
 unfolding break_of
 end_begins text p h = sign_starts text p 0 h refl refl refl refl (λ c d. refl)
 
-ended : GapReads → (text : List ℕ) (c : Cursor) (p : ℕ) (ws : List Word) → Stage text c p ws 0 → Left text p (bytes []) → Ended text (kinds.StreamEnd ∷ word_kinds ws) ws (tokens.stream_end ∷ [])
+ended : GapReads → (text : List ℕ) (c : Cursor) (p : ℕ) (ws : List Word) → Stage text c p ws 0
+    → Left text p (bytes [])
+    → Ended text (kinds.StreamEnd ∷ word_kinds ws) ws (tokens.stream_end ∷ [])
 unfolding Stand
 ended law text c p ws s l =
     let h = lexemes text ws in
@@ -280,7 +314,9 @@ ended law text c p ws s l =
       bodies = refl;
     }
 
-kept_stop : (s : Settings) (unended kept : Bool) → kept ≡ false → (text : List ℕ) (p : ℕ) → Left text p (bytes (stop_layout s unended (at_line kept) nothing_more)) → Left text p (bytes [])
+kept_stop : (s : Settings) (unended kept : Bool) → kept ≡ false → (text : List ℕ) (p : ℕ)
+    → Left text p (bytes (stop_layout s unended (at_line kept) nothing_more))
+    → Left text p (bytes [])
 unfolding stop_layout
 kept_stop s unended true e text p l = absurd (cc)
 kept_stop s true false e text p l = l
@@ -291,8 +327,14 @@ kept_stop s false false e text p l = l
 abbrev pub OpeningsWalk : Settings → Type 0
 OpeningsWalk s = (o : Opening) → IsWritableOpening o → DirectivesWalk s o × TagWalks o.directives
 
-documents_end : GapReads → AnchorReads → QuotedIsReadBack → MarkWalks → (s : Settings) → 0 < s.indent → OpeningsWalk (canonical_settings s) → (ds : List Document) → AreWritable ds → (fresh unended kept : Bool) (text : List ℕ) (p : ℕ) (ws : List Word)
-    → Stage text (at_line kept) p ws 0 → Left text p (bytes (documents_layout (canonical_settings s) fresh unended ds (at_line kept) nothing_more)) → Ended text (kinds.StreamEnd ∷ documents_kinds unended ds (word_kinds ws)) ws (documents_bodies unended ds)
+documents_end : GapReads → AnchorReads → QuotedIsReadBack → MarkWalks → (s : Settings)
+    → 0 < s.indent → OpeningsWalk (canonical_settings s) → (ds : List Document) → AreWritable ds
+    → (fresh unended kept : Bool) (text : List ℕ) (p : ℕ) (ws : List Word)
+    → Stage text (at_line kept) p ws 0
+    → Left text p (bytes (documents_layout (canonical_settings s) fresh unended ds (at_line kept)
+    nothing_more))
+    → Ended text (kinds.StreamEnd ∷ documents_kinds unended ds (word_kinds ws)) ws
+    (documents_bodies unended ds)
 unfolding documents_layout documents_kinds documents_bodies
 documents_end law names quoted mark s some opens [] good fresh unended kept text p ws stage l = ended law text (at_line kept) p ws stage (kept_stop (canonical_settings s) unended kept stage.plain text p l)
 documents_end law names quoted mark s some opens (d ∷ ds) (right, root, good) fresh unended kept text p ws stage l =
@@ -308,7 +350,8 @@ documents_end law names quoted mark s some opens (d ∷ ds) (right, root, good) 
 
 -- ---- the whole text
 
-pub has_all : (text : List ℕ) (before rest : List ℕ) → text ≡ before ++ rest → Has text (length before) rest
+pub has_all : (text : List ℕ) (before rest : List ℕ) → text ≡ before ++ rest
+    → Has text (length before) rest
 has_all text before [] e = tt
 has_all text before (x ∷ rest) e =
     let P : List ℕ → Type 0 = λ (t : List ℕ). byte t (length before) ≡ x in
@@ -327,20 +370,26 @@ pub first_stage : (text : List ℕ) → Stage text start 0 [] 0
 unfolding Stand lexemes column_at
 first_stage text = record { stand = tt; gap = []; from = refl; stands = tt; blank = refl; deep = refl; column = λ z n. refl; plain = refl }
 
-told_reversed : (text : List ℕ) (ws : List Word) (bs : List TokenBody) → told ws bs ≡ map (λ (t : Token). t.body) (map (token_of text) (reverse ws)) ++ bs
+told_reversed : (text : List ℕ) (ws : List Word) (bs : List TokenBody)
+    → told ws bs ≡ map (λ (t : Token). t.body) (map (token_of text) (reverse ws)) ++ bs
 told_reversed text [] bs = refl
 told_reversed text (w ∷ ws) bs =
     told_reversed text ws (w.said.body ∷ bs) ∙ sym (ap (λ (xs : List Word). map (λ (t : Token). t.body) (map (token_of text) xs) ++ bs) (reverse-append (w ∷ []) ws) ∙ ap (λ (ts : List TokenBody). ts ++ bs) (map_more (reverse ws) w) ∙ append_assoc (map (λ (t : Token). t.body) (map (token_of text) (reverse ws))) (w.said.body ∷ []) bs)
   where
-    map_more : (xs : List Word) (w : Word) → map (λ (t : Token). t.body) (map (token_of text) (xs ++ w ∷ [])) ≡ map (λ (t : Token). t.body) (map (token_of text) xs) ++ w.said.body ∷ []
+    map_more : (xs : List Word) (w : Word)
+        → map (λ (t : Token). t.body) (map (token_of text) (xs ++ w ∷ []))
+        ≡ map (λ (t : Token). t.body) (map (token_of text) xs) ++ w.said.body ∷ []
     map_more [] w = refl
     map_more (x ∷ xs) w = ap (λ (ts : List TokenBody). x.said.body ∷ ts) (map_more xs w)
 
 same_settings : (s : Settings) → s.canonical ≡ true → canonical_settings s ≡ s
 same_settings s e = ap (λ (c : Bool). record { encoding = s.encoding; canonical = c; indent = s.indent; width = s.width; unicode = s.unicode; line_break = s.line_break }) (sym e)
 
-text_walked : CanonicalWordsAreRead → GapReads → AnchorReads → QuotedIsReadBack → MarkWalks → (s : Settings) → 0 < s.indent → OpeningsWalk (canonical_settings s) → (x : yaml_encoding_t) (ds : List Document) → AreWritable ds
-    → IsReadAs (record { encoding = x; text = text_of_documents (canonical_settings s) ds }) (tokens.stream_start x ∷ documents_bodies false ds)
+text_walked : CanonicalWordsAreRead → GapReads → AnchorReads → QuotedIsReadBack → MarkWalks
+    → (s : Settings) → 0 < s.indent → OpeningsWalk (canonical_settings s)
+    → (x : yaml_encoding_t) (ds : List Document) → AreWritable ds
+    → IsReadAs (record { encoding = x; text = text_of_documents (canonical_settings s) ds })
+    (tokens.stream_start x ∷ documents_bodies false ds)
 text_walked words law names quoted mark s some opens x ds good =
     let text = text_of_documents (canonical_settings s) ds in
     let whole : Left text 0 text = record { has = has_all text [] text refl; ends = omega arith } in
@@ -352,8 +401,11 @@ text_walked words law names quoted mark s some opens x ds good =
       same = ap (λ (ts : List TokenBody). tokens.stream_start x ∷ ts) (sym (told_reversed text e.words [] ∙ append-nil _) ∙ e.bodies);
     }
 
-pub text_read : CanonicalWordsAreRead → GapReads → AnchorReads → QuotedIsReadBack → MarkWalks → ((s : Settings) → OpeningsWalk s) → (s : Settings) → s.canonical ≡ true → 0 < s.indent → (x : yaml_encoding_t) (ds : List Document) → AreWritable ds
-    → IsReadAs (record { encoding = x; text = text_of_documents s ds }) (tokens.stream_start x ∷ documents_bodies false ds)
+pub text_read : CanonicalWordsAreRead → GapReads → AnchorReads → QuotedIsReadBack → MarkWalks
+    → ((s : Settings) → OpeningsWalk s) → (s : Settings) → s.canonical ≡ true → 0 < s.indent
+    → (x : yaml_encoding_t) (ds : List Document) → AreWritable ds
+    → IsReadAs (record { encoding = x; text = text_of_documents s ds })
+    (tokens.stream_start x ∷ documents_bodies false ds)
 text_read words law names quoted mark opens s canonical some x ds good =
     subst (λ (z : Settings). IsReadAs (record { encoding = x; text = text_of_documents z ds }) (tokens.stream_start x ∷ documents_bodies false ds)) (same_settings s canonical)
     (text_walked words law names quoted mark s some (opens (canonical_settings s)) x ds good)

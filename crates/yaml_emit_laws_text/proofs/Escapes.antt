@@ -40,7 +40,8 @@ low_digit n = omega arith
 two_digits : (v n : ℕ) → (v * 16 + n / 16) * 16 + n % 16 ≡ v * 256 + n
 two_digits v n = omega arith
 
-number_more : (v d n : ℕ) (rest : List ℕ) → hex_digit d ≡ Some n → number_behind v (d ∷ rest) ≡ number_behind (v * 16 + n) rest
+number_more : (v d n : ℕ) (rest : List ℕ) → hex_digit d ≡ Some n
+    → number_behind v (d ∷ rest) ≡ number_behind (v * 16 + n) rest
 unfolding number_behind
 number_more v d n rest h = rw h refl
 
@@ -48,7 +49,8 @@ number_end : (v : ℕ) → number_behind v [] ≡ Some v
 unfolding number_behind
 number_end v = refl
 
-number_2 : (v n : ℕ) (rest : List ℕ) → n < 256 → number_behind v (hex_2 n ++ rest) ≡ number_behind (v * 256 + n) rest
+number_2 : (v n : ℕ) (rest : List ℕ) → n < 256
+    → number_behind v (hex_2 n ++ rest) ≡ number_behind (v * 256 + n) rest
 number_2 v n rest h =
     number_more v (digit_of (n / 16)) (n / 16) (digit_of (n % 16) ∷ rest) (digit_back (n / 16) (high_digit n h))
     ∙ number_more (v * 16 + n / 16) (digit_of (n % 16)) (n % 16) rest (digit_back (n % 16) (low_digit n))
@@ -64,7 +66,9 @@ four_is c h =
     let e : (0 * 256 + c / 256) * 256 + c % 256 ≡ c = omega arith in
     number_2 0 (c / 256) (hex_2 (c % 256)) (omega arith) ∙ number_2 (0 * 256 + c / 256) (c % 256) [] (omega arith) ∙ number_end _ ∙ ap (λ k. Some k) e
 
-eight_digits : (c : ℕ) → c < 1114112 → (((0 * 256 + c / 65536 / 256) * 256 + c / 65536 % 256) * 256 + c % 65536 / 256) * 256 + c % 65536 % 256 ≡ c
+eight_digits : (c : ℕ) → c < 1114112
+    → (((0 * 256 + c / 65536 / 256) * 256 + c / 65536 % 256) * 256 + c % 65536 / 256) * 256 + c %
+    65536 % 256 ≡ c
 eight_digits c l = omega arith
 
 eight_is : (c : ℕ) → c < 1114112 → number_behind 0 (hex_8 c) ≡ Some c
@@ -81,7 +85,8 @@ two_calm n xs h a =
 
 -- ---- letters
 
-no_letter : (c : ℕ) → c ≢ 0 → c ≢ 7 → c ≢ 8 → c ≢ 9 → c ≢ 10 → c ≢ 11 → c ≢ 12 → c ≢ 13 → c ≢ 27 → c ≢ 34 → c ≢ 92 → c ≢ 0x85 → c ≢ 0xA0 → c ≢ 0x2028 → c ≢ 0x2029
+no_letter : (c : ℕ) → c ≢ 0 → c ≢ 7 → c ≢ 8 → c ≢ 9 → c ≢ 10 → c ≢ 11 → c ≢ 12 → c ≢ 13 → c ≢ 27
+    → c ≢ 34 → c ≢ 92 → c ≢ 0x85 → c ≢ 0xA0 → c ≢ 0x2028 → c ≢ 0x2029
     → escape_letter c ≡ 0
 unfolding escape_letter
 no_letter c a b d e f g h i j k l m n o p =
@@ -166,11 +171,13 @@ pub escape_by_2 : (c : ℕ) → escape_letter c ≡ 0 → c < 256 → escape_tex
 unfolding escape_text
 escape_by_2 c n h = grind arith
 
-pub escape_by_4 : (c : ℕ) → escape_letter c ≡ 0 → 256 ≤ c → c < 65536 → escape_text c ≡ 92 ∷ 117 ∷ hex_4 c
+pub escape_by_4 : (c : ℕ) → escape_letter c ≡ 0 → 256 ≤ c → c < 65536
+    → escape_text c ≡ 92 ∷ 117 ∷ hex_4 c
 unfolding escape_text
 escape_by_4 c n l h = grind arith
 
-pub escape_by_8 : (c : ℕ) → escape_letter c ≡ 0 → 256 ≤ c → 65536 ≤ c → escape_text c ≡ 92 ∷ 85 ∷ hex_8 c
+pub escape_by_8 : (c : ℕ) → escape_letter c ≡ 0 → 256 ≤ c → 65536 ≤ c
+    → escape_text c ≡ 92 ∷ 85 ∷ hex_8 c
 unfolding escape_text
 escape_by_8 c n l h = grind arith
 
@@ -207,7 +214,8 @@ record PartOf (x : emitted.SpelledPart) : Type 0 where
   turns : is_turn part ≡ emitted.is_fold x
   blank : is_raw_blank part ≡ emitted.is_raw_blank x
 
-raw_test : (s a b d e f z q k : Bool) → s ≡ true → a ≡ false → b ≡ false → d ≡ false → e ≡ false → f ≡ false → z ≡ false → q ≡ false → k ≡ false
+raw_test : (s a b d e f z q k : Bool) → s ≡ true → a ≡ false → b ≡ false → d ≡ false → e ≡ false
+    → f ≡ false → z ≡ false → q ≡ false → k ≡ false
     → (s && not ((a || (b || (d || (e || f)))) || (z || (q || k)))) ≡ true
 raw_test s a b d e f z q k g h i j l m n o p = rw (g, h, i, j, l, m, n, o, p) refl
 
@@ -243,7 +251,9 @@ escape_named c n =
       blank = refl;
     }
 
-escape_numbered : (b c : ℕ) (ds : List ℕ) → scalar c ≡ true → escape_text c ≡ 92 ∷ b ∷ ds → b < 128 → AreCalm ds → 0 < length ds → hex_len b ≡ length ds → number_behind 0 ds ≡ Some c → PartOf (emitted.escape c)
+escape_numbered : (b c : ℕ) (ds : List ℕ) → scalar c ≡ true → escape_text c ≡ 92 ∷ b ∷ ds → b < 128
+    → AreCalm ds → 0 < length ds → hex_len b ≡ length ds → number_behind 0 ds ≡ Some c
+    → PartOf (emitted.escape c)
 escape_numbered b c ds s e l a some h n = record {
   part = numbered b ds c;
   stand = (refl, some, h, n, s);
@@ -321,7 +331,9 @@ end_of Lf = feed
 end_of Cr = return
 end_of CrLf = return_feed
 
-pub fold_bytes : (b : LineBreak) (n : ℕ) → encode_utf8_all (emitted.break_text b ++ replicate n 32) ≡ turn_bytes (record { end = end_of b; spaces = n } ∷ [])
+pub fold_bytes : (b : LineBreak) (n : ℕ)
+    → encode_utf8_all (emitted.break_text b ++ replicate n 32)
+    ≡ turn_bytes (record { end = end_of b; spaces = n } ∷ [])
 unfolding turn_bytes
 fold_bytes Lf n = low_encodes (10 ∷ replicate n 32) (omega arith, spaces_low n) ∙ ap (λ (t : List ℕ). 10 ∷ t) (sym (append-nil (replicate n 32)))
 fold_bytes Cr n = low_encodes (13 ∷ replicate n 32) (omega arith, spaces_low n) ∙ ap (λ (t : List ℕ). 13 ∷ t) (sym (append-nil (replicate n 32)))
@@ -330,13 +342,15 @@ fold_bytes CrLf n = low_encodes (13 ∷ 10 ∷ replicate n 32) (omega arith, (om
 pub space_encodes : encode_utf8 32 ≡ 32 ∷ []
 space_encodes = encode_ascii 32 (omega arith)
 
-pub fold_means : (b : LineBreak) (n : ℕ) → meant (fold (record { end = end_of b; spaces = n }) []) ≡ 32 ∷ []
+pub fold_means : (b : LineBreak) (n : ℕ)
+    → meant (fold (record { end = end_of b; spaces = n }) []) ≡ 32 ∷ []
 unfolding turn_means
 fold_means Lf n = refl
 fold_means Cr n = refl
 fold_means CrLf n = refl
 
-fold_may : (b : LineBreak) (n : ℕ) → nat_lt 0 n ≡ true → MayStand 34 (fold (record { end = end_of b; spaces = n }) [])
+fold_may : (b : LineBreak) (n : ℕ) → nat_lt 0 n ≡ true
+    → MayStand 34 (fold (record { end = end_of b; spaces = n }) [])
 unfolding may_turn
 fold_may b n h = h
 
@@ -368,19 +382,24 @@ pub record PartsOf (before : emitted.SpelledPart) (xs : List emitted.SpelledPart
   pub right : IsSpelling 34 parts
   pub bytes : encode_utf8_all (emitted.spelling xs) ≡ spelling parts
   pub means : meaning parts ≡ encode_utf8_all (emitted.meaning xs)
-  pub next : (p : QuotedPart) → is_turn p ≡ emitted.is_fold before → is_raw_blank p ≡ emitted.is_raw_blank before → may_be_next p parts ≡ true
+  pub next : (p : QuotedPart) → is_turn p ≡ emitted.is_fold before
+      → is_raw_blank p ≡ emitted.is_raw_blank before → may_be_next p parts ≡ true
 
-follow_test : (fq bp fp bq : Bool) → (not (fq && (bp || fp)) && not (fp && bq)) ≡ true → (not (fq && (bp || fp)) && not (bq && fp)) ≡ true
+follow_test : (fq bp fp bq : Bool) → (not (fq && (bp || fp)) && not (fp && bq)) ≡ true
+    → (not (fq && (bp || fp)) && not (bq && fp)) ≡ true
 follow_test fq bp true true h = h
 follow_test fq bp true false h = h
 follow_test fq bp false true h = h
 follow_test fq bp false false h = h
 
-follow_is : (x y : emitted.SpelledPart) (p q : QuotedPart) → emitted.may_follow x y ≡ true → is_turn p ≡ emitted.is_fold x → is_raw_blank p ≡ emitted.is_raw_blank x → is_fold q ≡ emitted.is_fold y → is_raw_blank q ≡ emitted.is_raw_blank y
+follow_is : (x y : emitted.SpelledPart) (p q : QuotedPart) → emitted.may_follow x y ≡ true
+    → is_turn p ≡ emitted.is_fold x → is_raw_blank p ≡ emitted.is_raw_blank x
+    → is_fold q ≡ emitted.is_fold y → is_raw_blank q ≡ emitted.is_raw_blank y
     → may_follow p q ≡ true
 follow_is x y p q h a b d e = rw (a, b, d, e) (follow_test (emitted.is_fold y) (emitted.is_raw_blank x) (emitted.is_fold x) (emitted.is_raw_blank y) h)
 
-pub parts_of : (before : emitted.SpelledPart) (xs : List emitted.SpelledPart) → emitted.IsSpelling before xs → PartsOf before xs
+pub parts_of : (before : emitted.SpelledPart) (xs : List emitted.SpelledPart)
+    → emitted.IsSpelling before xs → PartsOf before xs
 unfolding emitted.IsSpelling emitted.spelling emitted.meaning IsSpelling spelling meaning
 parts_of before [] h = record { parts = []; right = tt; bytes = refl; means = refl; next = λ p a b. refl }
 parts_of before (x ∷ xs) (follow, stand, more) =

@@ -60,7 +60,8 @@ pub record Lands (text : List ℕ) (rest : Rest) (ks : List Kind) (B : List Toke
   pub kinds : word_kinds words ≡ ks
   pub bodies : (bs : List TokenBody) → told words bs ≡ told ws (B bs)
 
-abbrev pub LinesWalkTo : Rest → Layout → (List Kind → List Kind) → (List TokenBody → List TokenBody) → Type 0
+abbrev pub LinesWalkTo : Rest → Layout → (List Kind → List Kind) → (List TokenBody → List TokenBody)
+    → Type 0
 LinesWalkTo rest a K B = (kept : Bool) (text : List ℕ) (p : ℕ) (ws : List Word) → Stage text (at_line kept) p ws 0 → Left text p (bytes (a (at_line kept) rest)) → Lands text rest (K (word_kinds ws)) B ws
 
 abbrev pub LinesWalk : Layout → (List Kind → List Kind) → (List TokenBody → List TokenBody) → Type 0

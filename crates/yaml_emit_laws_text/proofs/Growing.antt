@@ -25,7 +25,8 @@ record Grows (old now : List Bool) (ks ms : List Kind) : Type 0 where
   pub at : asked ks ≡ old → asked ms ≡ now
   pub on : GoOn ks → GoOn ms
 
-both : (a b c : List Bool) (ks ls ms : List Kind) → Grows a b ks ls → Grows b c ls ms → Grows a c ks ms
+both : (a b c : List Bool) (ks ls ms : List Kind) → Grows a b ks ls → Grows b c ls ms
+    → Grows a c ks ms
 both a b c ks ls ms g h = record {
   free = λ e f. h.free (g.at e) (g.free e f);
   at = λ e. h.at (g.at e);
@@ -35,7 +36,8 @@ both a b c ks ls ms g h = record {
 nothing : (a : List Bool) (ks : List Kind) → Grows a a ks ks
 nothing a ks = record { free = λ e f. f; at = λ e. e; on = λ x. x }
 
-one : (k : Kind) (a : List Bool) (ks : List Kind) → fits k a ≡ true → not (is_end k) ≡ true → Grows a (asked_after k a) ks (k ∷ ks)
+one : (k : Kind) (a : List Bool) (ks : List Kind) → fits k a ≡ true → not (is_end k) ≡ true
+    → Grows a (asked_after k a) ks (k ∷ ks)
 unfolding asked is_key_free
 one k a ks fit more = record {
   free = λ e f. and_from (fits k (asked ks)) (is_key_free ks) (ap (λ (qs : List Bool). fits k qs) e ∙ fit) f;
@@ -51,11 +53,14 @@ anchor_if : (b : Bool) (a : List Bool) (ks : List Kind) → Grows a a ks (put_if
 anchor_if true a ks = one kinds.Anchor a ks refl refl
 anchor_if false a ks = nothing a ks
 
-properties_grow : (anchor tag : Option (List ℕ)) (a : List Bool) (ks : List Kind) → Grows a a ks (properties_kinds anchor tag ks)
+properties_grow : (anchor tag : Option (List ℕ)) (a : List Bool) (ks : List Kind)
+    → Grows a a ks (properties_kinds anchor tag ks)
 properties_grow anchor tag a ks =
     both a a a ks (put_if (has anchor) kinds.Anchor ks) _ (anchor_if (has anchor) a ks) (tag_if (has tag) a (put_if (has anchor) kinds.Anchor ks))
 
-scalar_grows : (x : Scalar) (a : List Bool) (ks : List Kind) → Grows a a ks (kinds.DoubleQuoted ∷ put_if (is_marked x) kinds.Tag (properties_kinds x.anchor (scalar_tag true x) ks))
+scalar_grows : (x : Scalar) (a : List Bool) (ks : List Kind)
+    → Grows a a ks (kinds.DoubleQuoted
+    ∷ put_if (is_marked x) kinds.Tag (properties_kinds x.anchor (scalar_tag true x) ks))
 scalar_grows x a ks =
     let front = properties_kinds x.anchor (scalar_tag true x) ks in
     let marked = put_if (is_marked x) kinds.Tag front in
@@ -85,7 +90,8 @@ mutual
       (both a a (false ∷ a) ks front opened (properties_grow q.anchor (start_tag true q) a ks) (one kinds.FlowMappingStart a front refl refl)) (pairs_grow pairs a opened))
       (one kinds.FlowMappingEnd (false ∷ a) filled refl refl)
 
-  items_grow : (ns : Nodes) (a : List Bool) (ks : List Kind) → Grows (false ∷ a) (false ∷ a) ks (items_kinds ns ks)
+  items_grow : (ns : Nodes) (a : List Bool) (ks : List Kind)
+      → Grows (false ∷ a) (false ∷ a) ks (items_kinds ns ks)
   items_grow no_nodes a ks = nothing (false ∷ a) ks
   items_grow (node x xs) a ks =
       let item = node_kinds x ks in
@@ -93,7 +99,8 @@ mutual
       both (false ∷ a) (false ∷ a) (false ∷ a) ks next _
       (both (false ∷ a) (false ∷ a) (false ∷ a) ks item next (node_grows x (false ∷ a) ks) (one kinds.FlowEntry (false ∷ a) item refl refl)) (items_grow xs a next)
 
-  pairs_grow : (ps : Pairs) (a : List Bool) (ks : List Kind) → Grows (false ∷ a) (false ∷ a) ks (pairs_kinds ps ks)
+  pairs_grow : (ps : Pairs) (a : List Bool) (ks : List Kind)
+      → Grows (false ∷ a) (false ∷ a) ks (pairs_kinds ps ks)
   pairs_grow no_pairs a ks = nothing (false ∷ a) ks
   pairs_grow (pair k v ps) a ks =
       let question = kinds.KeyMark ∷ ks in
@@ -117,16 +124,19 @@ end_if : (b : Bool) (ks : List Kind) → Grows [] [] ks (put_if b kinds.Document
 end_if true ks = one kinds.DocumentEnd [] ks refl refl
 end_if false ks = nothing [] ks
 
-version_grows : (v : Option yaml_version_directive_t) (ks : List Kind) → Grows [] [] ks (version_kinds v ks)
+version_grows : (v : Option yaml_version_directive_t) (ks : List Kind)
+    → Grows [] [] ks (version_kinds v ks)
 version_grows None ks = nothing [] ks
 version_grows (Some v) ks = one kinds.Directive [] ks refl refl
 
-directives_grow : (ds : List TagDirective) (ks : List Kind) → Grows [] [] ks (directives_kinds ds ks)
+directives_grow : (ds : List TagDirective) (ks : List Kind)
+    → Grows [] [] ks (directives_kinds ds ks)
 unfolding directives_kinds
 directives_grow [] ks = nothing [] ks
 directives_grow (d ∷ ds) ks = both [] [] [] ks (kinds.Directive ∷ ks) _ (one kinds.Directive [] ks refl refl) (directives_grow ds (kinds.Directive ∷ ks))
 
-opening_grows : (unended : Bool) (o : Opening) (ks : List Kind) → Grows [] [] ks (opening_kinds unended o ks)
+opening_grows : (unended : Bool) (o : Opening) (ks : List Kind)
+    → Grows [] [] ks (opening_kinds unended o ks)
 opening_grows unended o ks =
     let parted = put_if (unended && is_directed o) kinds.DocumentEnd ks in
     let version = version_kinds o.version parted in
@@ -135,7 +145,8 @@ opening_grows unended o ks =
     (both [] [] [] ks version directed (both [] [] [] ks parted version (end_if (unended && is_directed o) ks) (version_grows o.version parted)) (directives_grow o.directives version))
     (one kinds.DocumentStart [] directed refl refl)
 
-documents_grow : (unended : Bool) (ds : List Document) (ks : List Kind) → Grows [] [] ks (documents_kinds unended ds ks)
+documents_grow : (unended : Bool) (ds : List Document) (ks : List Kind)
+    → Grows [] [] ks (documents_kinds unended ds ks)
 unfolding documents_kinds
 documents_grow unended [] ks = nothing [] ks
 documents_grow unended (d ∷ ds) ks =
@@ -151,7 +162,9 @@ unfolding is_key_free asked
 canonical_free ds = (documents_grow false ds []).free refl refl
 
 -- the words of a canonical stream reach its end
-all_on : (ws : List Word) → list_all (λ (x : Word). not (is_end x.kind)) ws ≡ list_all (λ (k : Kind). not (is_end k)) (word_kinds ws)
+all_on : (ws : List Word)
+    → list_all (λ (x : Word). not (is_end x.kind)) ws
+    ≡ list_all (λ (k : Kind). not (is_end k)) (word_kinds ws)
 all_on [] = refl
 all_on (w ∷ ws) = ap (λ (b : Bool). not (is_end w.kind) && b) (all_on ws)
 
@@ -168,7 +181,12 @@ reaches (w ∷ ws) ds e =
     let ks = tail_is w.kind kinds.StreamEnd (word_kinds ws) (documents_kinds false ds []) e in
     (ap (λ (x : Kind). is_end x) k, all_on ws ∙ ap (λ (x : List Kind). list_all (λ (k : Kind). not (is_end k)) x) ks ∙ (documents_grow false ds []).on refl)
 
-pub canonical_read : (s : SpelledText) (ds : List Document) (ws : List Word) → Stand s.text ws → word_kinds ws ≡ stream_kinds ds
-    → offline s ≡ record { tokens = first_token s ∷ map (token_of s.text) (reverse ws); fault = None }
+pub canonical_read : (s : SpelledText) (ds : List Document) (ws : List Word) → Stand s.text ws
+    → word_kinds ws ≡ stream_kinds ds
+    → offline s ≡ record {
+      tokens = first_token s
+          ∷ map (token_of s.text) (reverse ws);
+      fault = None;
+    }
 canonical_read s ds ws stand e =
     words_read s ws stand (ap (λ (ks : List Kind). is_key_free ks) e ∙ canonical_free ds) (reaches ws ds e)

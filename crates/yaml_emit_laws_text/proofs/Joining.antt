@@ -24,7 +24,8 @@ use Rattle.yaml_emit_laws_text.proofs.TagsReading.{split_read}
 
 -- Handles.
 
-if_none : (b : Bool) (p : Problem) (o : Option Problem) → (if b then Some p else o) ≡ None → (b ≡ false) × (o ≡ None)
+if_none : (b : Bool) (p : Problem) (o : Option Problem) → (if b then Some p else o) ≡ None
+    → (b ≡ false) × (o ≡ None)
 if_none false p o e = (refl, e)
 if_none true p o e = absurd (cc)
 
@@ -87,7 +88,8 @@ abbrev AllFine : List TagDirective → Type 0
 AllFine [] = Unit {0}
 AllFine (d ∷ ds) = Fine d × AllFine ds
 
-fine_directives : (before ds : List TagDirective) → directives_problem before ds ≡ None → HaveUtf8 ds → AllFine ds
+fine_directives : (before ds : List TagDirective) → directives_problem before ds ≡ None
+    → HaveUtf8 ds → AllFine ds
 unfolding directives_problem
 fine_directives before [] e u = tt
 fine_directives before (d ∷ ds) e (own, u) =
@@ -128,7 +130,8 @@ some_is : (x d : TagDirective) → Some x ≡ Some d → x ≡ d
 some_is x d e = cc
 
 -- the directive that is found is fine, and begins the tag
-fine_found : (ds : List TagDirective) (tag : List ℕ) (d : TagDirective) → AllFine ds → directive_for ds tag ≡ Some d → Fine d × (has_shorter_prefix d.prefix tag ≡ true)
+fine_found : (ds : List TagDirective) (tag : List ℕ) (d : TagDirective) → AllFine ds
+    → directive_for ds tag ≡ Some d → Fine d × (has_shorter_prefix d.prefix tag ≡ true)
 unfolding directive_for
 fine_found [] tag d f e = absurd (cc)
 fine_found (x ∷ ds) tag d (own, f) e =
@@ -154,19 +157,24 @@ utf8_behind xs ys a b =
     sym (encodes-append (chars xs) (chars ys) ∙ ap (λ (x : List ℕ). x ++ encode_utf8_all (chars ys)) (encodes-chars xs a)) ∙ sym (ap (λ (cs : List ℕ). encode_utf8_all cs) parts) ∙ encodes-chars (xs ++ ys) b in
     (chars ys, (right, append_cancel_left xs (encode_utf8_all (chars ys)) ys same))
 
-suffix_some : (prefix tag : List ℕ) → has_shorter_prefix prefix tag ≡ true → 0 < length (drop (length prefix) tag)
+suffix_some : (prefix tag : List ℕ) → has_shorter_prefix prefix tag ≡ true
+    → 0 < length (drop (length prefix) tag)
 suffix_some prefix tag e =
     let less = ltb-true (length prefix) (length tag) (and_parts (nat_lt (length prefix) (length tag)) (bytes_eq (take (length prefix) tag) prefix) e).0 in
     omega (arith, less, length-drop (length prefix) tag)
 
-readable : (ds : List TagDirective) (tag : List ℕ) (o : Option TagDirective) → IsUtf8 tag → 0 < length tag → ((d : TagDirective) → o ≡ Some d → Fine d × (has_shorter_prefix d.prefix tag ≡ true)) → IsReadable (split_by o tag)
+readable : (ds : List TagDirective) (tag : List ℕ) (o : Option TagDirective) → IsUtf8 tag
+    → 0 < length tag
+    → ((d : TagDirective) → o ≡ Some d → Fine d × (has_shorter_prefix d.prefix tag ≡ true))
+    → IsReadable (split_by o tag)
 readable ds tag None u some f = (u, some)
 readable ds tag (Some d) u some f =
     let ((handle, prefix), begins) = f d refl in
     let parts = subst (λ (x : List ℕ). IsUtf8 x) (sym (whole d.prefix tag begins)) u in
     (shaped d.handle (held d.handle handle), utf8_behind d.prefix (drop (length d.prefix) tag) prefix parts, suffix_some d.prefix tag begins)
 
-text_resolves : (ds : List TagDirective) (split : Split) (e : ℕ) → resolved ds (tag_text split e).handle (tag_text split e).suffix ≡ resolved_split ds split
+text_resolves : (ds : List TagDirective) (split : Split) (e : ℕ)
+    → resolved ds (tag_text split e).handle (tag_text split e).suffix ≡ resolved_split ds split
 text_resolves ds (shorthand handle suffix) e = refl
 text_resolves ds (verbatim tag) e = refl
 
@@ -174,14 +182,16 @@ text_ends : (split : Split) (e : ℕ) → (tag_text split e).end ≡ e
 text_ends (shorthand handle suffix) e = refl
 text_ends (verbatim tag) e = refl
 
-pub written_readable : (o : Opening) → opening_problem o ≡ None → HaveUtf8 o.directives → (tag : List ℕ) → IsUtf8 tag → 0 < length tag → IsReadable (split_tag o.directives tag)
+pub written_readable : (o : Opening) → opening_problem o ≡ None → HaveUtf8 o.directives
+    → (tag : List ℕ) → IsUtf8 tag → 0 < length tag → IsReadable (split_tag o.directives tag)
 written_readable o e u tag utf8 some =
     let ds = o.directives in
     let right = or_second (version_problem o.version) (directives_problem [] ds) e in
     let fine = fine_append ds (defaults ds) (fine_directives [] ds right u) (fine_defaults ds) in
     readable ds tag (directive_for (in_force ds) tag) utf8 some (λ d found. fine_found (in_force ds) tag d fine found)
 
-readable_prefix : (before : List TagDirective) (d : TagDirective) → directive_problem before d ≡ None → 0 < length d.prefix
+readable_prefix : (before : List TagDirective) (d : TagDirective)
+    → directive_problem before d ≡ None → 0 < length d.prefix
 readable_prefix before d e =
     let behind = or_second (handle_problem d.handle) (or_else (prefix_problem d.prefix) (twice_problem before d.handle)) e in
     let here = or_first (prefix_problem d.prefix) (twice_problem before d.handle) behind in
@@ -191,7 +201,8 @@ readable_prefix before d e =
     above_none : (n : ℕ) → (n == 0) ≡ false → 0 < n
     above_none n e = grind (arith, nat_tests)
 
-readable_directives : (before ds : List TagDirective) → directives_problem before ds ≡ None → HaveUtf8 ds → AreReadable ds
+readable_directives : (before ds : List TagDirective) → directives_problem before ds ≡ None
+    → HaveUtf8 ds → AreReadable ds
 unfolding directives_problem
 readable_directives before [] e u = tt
 readable_directives before (d ∷ ds) e (own, u) =
@@ -201,11 +212,15 @@ readable_directives before (d ∷ ds) e (own, u) =
       readable_directives (before ++ d ∷ []) ds (or_second (directive_problem before d) (directives_problem (before ++ d ∷ []) ds) e) u,
     )
 
-pub written_directives : (o : Opening) → opening_problem o ≡ None → HaveUtf8 o.directives → AreReadable o.directives
+pub written_directives : (o : Opening) → opening_problem o ≡ None → HaveUtf8 o.directives
+    → AreReadable o.directives
 written_directives o e u = readable_directives [] o.directives (or_second (version_problem o.version) (directives_problem [] o.directives) e) u
 
-pub read_back : (o : Opening) → opening_problem o ≡ None → HaveUtf8 o.directives → (tag : List ℕ) → IsUtf8 tag → 0 < length tag → (flow : Bool) (text : List ℕ) (p : ℕ)
-    → HasAt text p (tag_spelling o.directives tag) → may_end_tag flow text (p + length (tag_spelling o.directives tag)) ≡ true → IsTagReadBack o.directives tag flow text p
+pub read_back : (o : Opening) → opening_problem o ≡ None → HaveUtf8 o.directives → (tag : List ℕ)
+    → IsUtf8 tag → 0 < length tag → (flow : Bool) (text : List ℕ) (p : ℕ)
+    → HasAt text p (tag_spelling o.directives tag)
+    → may_end_tag flow text (p + length (tag_spelling o.directives tag)) ≡ true
+    → IsTagReadBack o.directives tag flow text p
 read_back o e u tag utf8 some flow text p h stop =
     let ds = o.directives in
     let split = split_tag ds tag in

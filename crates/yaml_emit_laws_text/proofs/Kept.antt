@@ -41,11 +41,13 @@ if_leaves : (t : Bool) (a b : Layout) → Leaves a → Leaves b → Leaves (if t
 if_leaves true a b f g = f
 if_leaves false a b f g = g
 
-chosen : (t : Bool) (m : Bool) (x y : List Item) → is_deep x ≡ m → is_deep y ≡ m → is_deep (if t then x else y) ≡ m
+chosen : (t : Bool) (m : Bool) (x y : List Item) → is_deep x ≡ m → is_deep y ≡ m
+    → is_deep (if t then x else y) ≡ m
 chosen true m x y e f = e
 chosen false m x y e f = f
 
-choose_leaves : (test : Cursor → Bool) (a b : Layout) → Leaves a → Leaves b → Leaves (choose test a b)
+choose_leaves : (test : Cursor → Bool) (a b : Layout) → Leaves a → Leaves b
+    → Leaves (choose test a b)
 choose_leaves test a b f g c rest m h = chosen (test c) m (a c rest) (b c rest) (f c rest m h) (g c rest m h)
 
 letters_leave : (xs : List ℕ) → Leaves (letters xs)
@@ -68,7 +70,8 @@ fold_leaves page rest =
     then_leaves (new_line page.line_break) (blanks page.indentation ▹ when (first rest == 32) (char 92)) (line_leaves page.line_break)
     (then_leaves (blanks page.indentation) (when (first rest == 32) (char 92)) (blanks_leave page.indentation) (when_leaves (first rest == 32) (char 92) (char_leaves 92)))
 
-quoted_char_leaves : (page : Page) (before x : ℕ) (rest : List ℕ) → Leaves (quoted_char page before x rest)
+quoted_char_leaves : (page : Page) (before x : ℕ) (rest : List ℕ)
+    → Leaves (quoted_char page before x rest)
 unfolding quoted_char
 quoted_char_leaves page before x rest =
     if_leaves (may_fold page before x rest) (choose (is_past page.width) (fold page rest) (char x)) (escaped page.unicode x)
@@ -94,7 +97,9 @@ front_deep [] t = refl
 front_deep (x ∷ xs) t = front_deep xs t
 
 -- So the cursor behind quoted text keeps breaks where the one before it does.
-pub body_keeps : (page : Page) (before : ℕ) (xs : List ℕ) (c behind : Cursor) (front : List ℕ) → ((rest : Rest) → quoted_body page before xs c rest ≡ in_front front (rest behind)) → behind.kept ≡ c.kept
+pub body_keeps : (page : Page) (before : ℕ) (xs : List ℕ) (c behind : Cursor) (front : List ℕ)
+    → ((rest : Rest) → quoted_body page before xs c rest ≡ in_front front (rest behind))
+    → behind.kept ≡ c.kept
 body_keeps page before xs c behind front same =
     let left : is_deep (quoted_body page before xs c marks) ≡ c.kept = body_leaves page before xs c marks c.kept (λ d e. marks_tell d ∙ e) in
     let right : is_deep (quoted_body page before xs c marks) ≡ behind.kept = ap (λ (t : List Item). is_deep t) (same marks) ∙ front_deep front (marks behind) ∙ marks_tell behind in

@@ -21,7 +21,8 @@ line_more : (a b r : Bool) → (a && b) ≡ true → (b ≡ true → r ≡ true)
 line_more true b r h f = f h
 line_more false b r h f = absurd (cc)
 
-pub line_append : (xs ys : List ℕ) → is_one_line xs ≡ true → is_one_line ys ≡ true → is_one_line (xs ++ ys) ≡ true
+pub line_append : (xs ys : List ℕ) → is_one_line xs ≡ true → is_one_line ys ≡ true
+    → is_one_line (xs ++ ys) ≡ true
 line_append [] ys h k = k
 line_append (x ∷ xs) ys h k = line_more (not (is_break x)) (is_one_line xs) (is_one_line (xs ++ ys)) h (λ e. line_append xs ys e k)
 
@@ -63,7 +64,8 @@ raw_inside unicode x e =
     let a = (or_parts _ (x == 34) (or_parts _ (x == 92) e).0).0 in
     ap not (or_parts _ (is_break x) a).1
 
-escaped_moves : (unicode : Bool) (x : ℕ) (c : Cursor) → scalar x ≡ true → Moves (escaped unicode x) c
+escaped_moves : (unicode : Bool) (x : ℕ) (c : Cursor) → scalar x ≡ true
+    → Moves (escaped unicode x) c
 unfolding in_front
 escaped_moves unicode x c s =
     elim (cases_Bool (needs_escape unicode x)) [
@@ -85,7 +87,8 @@ moves_on a b c r s =
       column = omega (arith, k, l, n);
     }
 
-body_moves : (page : Page) (before : ℕ) (xs : List ℕ) (c : Cursor) → page.cuts ≡ false → all_scalars xs ≡ true → Moves (quoted_body page before xs) c
+body_moves : (page : Page) (before : ℕ) (xs : List ℕ) (c : Cursor) → page.cuts ≡ false
+    → all_scalars xs ≡ true → Moves (quoted_body page before xs) c
 unfolding quoted_body in_front
 body_moves page before [] c e g = record { shown = []; behind = c; written = λ rest. refl; inside = refl; column = omega arith }
 body_moves page before (x ∷ xs) c e g =
@@ -104,7 +107,8 @@ quote_moves : (c : Cursor) → Moves (char 34) c
 unfolding in_front
 quote_moves c = record { shown = 34 ∷ []; behind = moved_by c; written = λ rest. refl; inside = refl; column = refl }
 
-pub keys_stay : (page : Page) (c : Cursor) (value : List ℕ) → IsUtf8 value → page.cuts ≡ false → StaysInLine (between_quotes page (chars value)) c
+pub keys_stay : (page : Page) (c : Cursor) (value : List ℕ) → IsUtf8 value → page.cuts ≡ false
+    → StaysInLine (between_quotes page (chars value)) c
 unfolding quote_moves
 keys_stay page c value u e =
     let body = body_moves page 32 (chars value) (moved_by c) e (scalars-chars value u) in

@@ -42,40 +42,56 @@ gap_blank a rest e w =
       same = ap (λ (b : Bool). bytes (if b then a e rest else blank e (λ k. a k rest))) w ∙ letter_low 32 (a d rest) refl;
     }
 
-checked_blank : (n : ℕ) (a : Layout) (rest : Rest) → BeginsBlank a rest → BeginsBlank (checked n ▹ a) rest
+checked_blank : (n : ℕ) (a : Layout) (rest : Rest) → BeginsBlank a rest
+    → BeginsBlank (checked n ▹ a) rest
 checked_blank n a rest h e w = let s = h e w in record { more = s.more; same = deep_bytes (nat_lt MOST n) (a e rest) ∙ s.same }
 
-tag_blank : (p : Context) (tag : Option (List ℕ)) (a : Layout) (rest : Rest) → BeginsBlank a rest → BeginsBlank (tag_text p tag ▹ a) rest
+tag_blank : (p : Context) (tag : Option (List ℕ)) (a : Layout) (rest : Rest) → BeginsBlank a rest
+    → BeginsBlank (tag_text p tag ▹ a) rest
 tag_blank p None a rest h = h
 tag_blank p (Some t) a rest h = gap_blank (letters (tag_spelling p.directives t) ▹ a) rest
 
-mark_blank : (m : Bool) (a : Layout) (rest : Rest) → BeginsBlank a rest → BeginsBlank (when m (word (33 ∷ [])) ▹ a) rest
+mark_blank : (m : Bool) (a : Layout) (rest : Rest) → BeginsBlank a rest
+    → BeginsBlank (when m (word (33 ∷ [])) ▹ a) rest
 mark_blank true a rest h = gap_blank (letters (33 ∷ []) ▹ a) rest
 mark_blank false a rest h = h
 
 -- ---- properties
 
-anchor_if : GapReads → AnchorReads → (anchor : Option (List ℕ)) → IsWritableAnchor anchor → (b : Layout) (K : List Kind → List Kind) (B : List TokenBody → List TokenBody) (d e : ℕ) (rest : Rest)
+anchor_if : GapReads → AnchorReads → (anchor : Option (List ℕ)) → IsWritableAnchor anchor
+    → (b : Layout) (K : List Kind → List Kind) (B : List TokenBody → List TokenBody) (d e : ℕ)
+    (rest : Rest)
     → BeginsBlank b rest → ((c : Cursor) → Walks b K B d e c rest) → (c : Cursor)
-    → Walks (anchor_text anchor ▹ b) (λ ks. K (put_if (has anchor) kinds.Anchor ks)) (λ bs. anchor_bodies anchor (B bs)) d e c rest
+    → Walks (anchor_text anchor ▹ b) (λ ks. K (put_if (has anchor) kinds.Anchor ks))
+    (λ bs. anchor_bodies anchor (B bs)) d e c rest
 anchor_if law names None good b K B d e rest spaced w c = w c
 anchor_if law names (Some name) (some, are) b K B d e rest spaced w c = anchor_walks law names name some are b K B d e rest spaced w c
 
-tag_if : (p : Context) → TagWalks p.directives → (tag : Option (List ℕ)) → IsWritableTag tag → (b : Layout) (K : List Kind → List Kind) (B : List TokenBody → List TokenBody) (d e : ℕ) (rest : Rest)
+tag_if : (p : Context) → TagWalks p.directives → (tag : Option (List ℕ)) → IsWritableTag tag
+    → (b : Layout) (K : List Kind → List Kind) (B : List TokenBody → List TokenBody) (d e : ℕ)
+    (rest : Rest)
     → BeginsBlank b rest → ((c : Cursor) → Walks b K B d e c rest) → (c : Cursor)
-    → Walks (tag_text p tag ▹ b) (λ ks. K (put_if (has tag) kinds.Tag ks)) (λ bs. tag_bodies p.directives tag (B bs)) d e c rest
+    → Walks (tag_text p tag ▹ b) (λ ks. K (put_if (has tag) kinds.Tag ks))
+    (λ bs. tag_bodies p.directives tag (B bs)) d e c rest
 tag_if p tags None good b K B d e rest spaced w c = w c
 tag_if p tags (Some t) good b K B d e rest spaced w c = tags t good b K B d e rest spaced w c
 
-mark_if : MarkWalks → (m : Bool) (b : Layout) (K : List Kind → List Kind) (B : List TokenBody → List TokenBody) (d e : ℕ) (rest : Rest)
+mark_if : MarkWalks
+    → (m : Bool) (b : Layout) (K : List Kind → List Kind) (B : List TokenBody → List TokenBody)
+    (d e : ℕ) (rest : Rest)
     → BeginsBlank b rest → ((c : Cursor) → Walks b K B d e c rest) → (c : Cursor)
-    → Walks (when m (word (33 ∷ [])) ▹ b) (λ ks. K (put_if m kinds.Tag ks)) (λ bs. mark_bodies m (B bs)) d e c rest
+    → Walks (when m (word (33 ∷ [])) ▹ b) (λ ks. K (put_if m kinds.Tag ks))
+    (λ bs. mark_bodies m (B bs)) d e c rest
 mark_if mark true b K B d e rest spaced w c = mark b K B d e rest spaced w c
 mark_if mark false b K B d e rest spaced w c = w c
 
-properties_if : GapReads → AnchorReads → (p : Context) → TagWalks p.directives → (anchor tag : Option (List ℕ)) → IsWritableAnchor anchor → IsWritableTag tag → (b : Layout) (K : List Kind → List Kind) (B : List TokenBody → List TokenBody) (d e : ℕ) (rest : Rest)
+properties_if : GapReads → AnchorReads → (p : Context) → TagWalks p.directives
+    → (anchor tag : Option (List ℕ)) → IsWritableAnchor anchor → IsWritableTag tag
+    → (b : Layout) (K : List Kind → List Kind) (B : List TokenBody → List TokenBody) (d e : ℕ)
+    (rest : Rest)
     → BeginsBlank b rest → ((c : Cursor) → Walks b K B d e c rest) → (c : Cursor)
-    → Walks (anchor_text anchor ▹ (tag_text p tag ▹ b)) (λ ks. K (properties_kinds anchor tag ks)) (λ bs. anchor_bodies anchor (tag_bodies p.directives tag (B bs))) d e c rest
+    → Walks (anchor_text anchor ▹ (tag_text p tag ▹ b)) (λ ks. K (properties_kinds anchor tag ks))
+    (λ bs. anchor_bodies anchor (tag_bodies p.directives tag (B bs))) d e c rest
 properties_if law names p tags anchor tag ga gt b K B d e rest spaced w c =
     anchor_if law names anchor ga (tag_text p tag ▹ b) (λ ks. K (put_if (has tag) kinds.Tag ks)) (λ bs. tag_bodies p.directives tag (B bs)) d e rest (tag_blank p tag b rest spaced)
     (λ k. tag_if p tags tag gt b K B d e rest spaced w k) c
@@ -91,8 +107,12 @@ marked_so true true = refl
 marked_so true false = refl
 marked_so false b = refl
 
-scalar_walks : GapReads → AnchorReads → QuotedIsReadBack → MarkWalks → (s : Settings) (ds : List TagDirective) → TagWalks ds → 0 < s.indent → (x : Scalar) → IsWritable (scalar_node x) → (at : Spot)
-    → (d : ℕ) (c : Cursor) (rest : Rest) → Walks (scalar_layout (canonically s ds) at x) (node_kinds (scalar_node x)) (node_bodies ds (scalar_node x)) d d c rest
+scalar_walks : GapReads → AnchorReads → QuotedIsReadBack → MarkWalks
+    → (s : Settings) (ds : List TagDirective) → TagWalks ds → 0 < s.indent → (x : Scalar)
+    → IsWritable (scalar_node x) → (at : Spot)
+    → (d : ℕ) (c : Cursor) (rest : Rest)
+    → Walks (scalar_layout (canonically s ds) at x) (node_kinds (scalar_node x))
+    (node_bodies ds (scalar_node x)) d d c rest
 unfolding scalar_layout style_of scalar_text node_kinds node_bodies
 scalar_walks law names quoted mark s ds tags some x (ga, gt, utf8) at d c rest =
     let p = canonically s ds in
@@ -110,8 +130,10 @@ scalar_walks law names quoted mark s ds tags some x (ga, gt, utf8) at d c rest =
 when_off : (b : Bool) (a : Layout) → b ≡ false → when b a ≡ stay
 when_off b a e = rw e refl
 
-alias_goes : GapReads → AnchorReads → (name : List ℕ) → IsWritable (alias_node name) → (at : Spot) → is_simple_part at.part ≡ false → (d : ℕ) (c : Cursor) (rest : Rest) → Parts rest
-    → Walks (alias_layout at name) (λ ks. kinds.Alias ∷ ks) (λ bs. tokens.alias name ∷ bs) d d c rest
+alias_goes : GapReads → AnchorReads → (name : List ℕ) → IsWritable (alias_node name) → (at : Spot)
+    → is_simple_part at.part ≡ false → (d : ℕ) (c : Cursor) (rest : Rest) → Parts rest
+    → Walks (alias_layout at name) (λ ks. kinds.Alias ∷ ks) (λ bs. tokens.alias name ∷ bs) d d c
+    rest
 unfolding alias_layout
 alias_goes law names name (some, are) at off d c rest ends =
     subst (λ (a : Layout). Walks (word (42 ∷ name) ▹ a) (λ ks. kinds.Alias ∷ ks) (λ bs. tokens.alias name ∷ bs) d d c rest) (sym (when_off (is_simple_part at.part) (char 32) off))
@@ -119,7 +141,8 @@ alias_goes law names name (some, are) at off d c rest ends =
 
 -- ---- what follows
 
-pub line_parts : (b : LineBreak) (n : ℕ) (a : Layout) (rest : Rest) → Parts (λ c. (line b n ▹ a) c rest)
+pub line_parts : (b : LineBreak) (n : ℕ) (a : Layout) (rest : Rest)
+    → Parts (λ c. (line b n ▹ a) c rest)
 unfolding line
 line_parts b n a rest e bare =
     let must : must_break n e ≡ true = rw bare refl in
@@ -134,13 +157,15 @@ line_parts b n a rest e bare =
 comma_parts : (a : Layout) (rest : Rest) → Parts (λ c. (char 44 ▹ a) c rest)
 comma_parts a rest e bare = ap (λ (bs : List ℕ). parts (first bs)) (letter_low 44 _ refl)
 
-more_parts : (p : Context) → p.settings.canonical ≡ true → (n : ℕ) (ns : Nodes) (rest : Rest) → Parts (λ c. items_layout p true n false ns c rest)
+more_parts : (p : Context) → p.settings.canonical ≡ true → (n : ℕ) (ns : Nodes) (rest : Rest)
+    → Parts (λ c. items_layout p true n false ns c rest)
 unfolding items_layout before_item closer
 more_parts p canon n no_nodes rest =
     subst (λ (b : Bool). Parts (λ c. (when (b && true) (char 44 ▹ line p.settings.line_break (n - p.settings.indent)) ▹ char 93) c rest)) (sym canon) (comma_parts (line p.settings.line_break (n - p.settings.indent) ▹ char 93) rest)
 more_parts p canon n (node x xs) rest = comma_parts (turned p.settings n ▹ (node_layout p (spot true n part.Item) x ▹ items_layout p true n false xs)) rest
 
-more_pair_parts : (p : Context) → p.settings.canonical ≡ true → (n : ℕ) (ps : Pairs) (rest : Rest) → Parts (λ c. pairs_layout p true n false ps c rest)
+more_pair_parts : (p : Context) → p.settings.canonical ≡ true → (n : ℕ) (ps : Pairs) (rest : Rest)
+    → Parts (λ c. pairs_layout p true n false ps c rest)
 unfolding pairs_layout before_key closer
 more_pair_parts p canon n no_pairs rest =
     subst (λ (b : Bool). Parts (λ c. (when (b && true) (char 44 ▹ line p.settings.line_break (n - p.settings.indent)) ▹ char 125) c rest)) (sym canon) (comma_parts (line p.settings.line_break (n - p.settings.indent) ▹ char 125) rest)
@@ -150,7 +175,8 @@ more_pair_parts p canon n (pair k v ps) rest =
 
 -- ---- no key is simple
 
-not_simple : (s : Settings) (ds : List TagDirective) (n : Node) → is_simple (canonically s ds) n ≡ false
+not_simple : (s : Settings) (ds : List TagDirective) (n : Node)
+    → is_simple (canonically s ds) n ≡ false
 unfolding is_simple is_simple_scalar is_simple_alias is_simple_start
 not_simple s ds (alias_node name) = refl
 not_simple s ds (scalar_node x) = refl
@@ -178,7 +204,8 @@ abbrev MorePairsWalk : Settings → List TagDirective → Pairs → Type 0
 MorePairsWalk s ds ps = (n d : ℕ) (c : Cursor) (rest : Rest) → c.bare ≡ false
     → Walks (pairs_layout (canonically s ds) true n false ps) (λ ks. kinds.FlowMappingEnd ∷ pairs_kinds ps (kinds.FlowEntry ∷ ks)) (λ bs. tokens.flow_entry ∷ pairs_bodies ds ps (tokens.flow_mapping_end ∷ bs)) (suc d) d c rest
 
-items_first : GapReads → (s : Settings) (ds : List TagDirective) (x : Node) (xs : Nodes) → NodeWalks s ds x → MoreWalks s ds xs → FirstWalks s ds (node x xs)
+items_first : GapReads → (s : Settings) (ds : List TagDirective) (x : Node) (xs : Nodes)
+    → NodeWalks s ds x → MoreWalks s ds xs → FirstWalks s ds (node x xs)
 unfolding items_layout before_item turned items_kinds items_bodies
 items_first law s ds x xs one more n d c rest bare =
     let p = canonically s ds in
@@ -188,14 +215,17 @@ items_first law s ds x xs one more n d c rest bare =
     (λ bs. tokens.flow_entry ∷ items_bodies ds xs (tokens.flow_sequence_end ∷ bs)) (suc d) (suc d) d k rest
     (one (spot true n part.Item) refl (suc d) k (λ e. items_layout p true n false xs e rest) (more_parts p refl n xs rest)) (λ e off. more n d e rest off))
 
-items_more : GapReads → (s : Settings) (ds : List TagDirective) (x : Node) (xs : Nodes) → FirstWalks s ds (node x xs) → MoreWalks s ds (node x xs)
+items_more : GapReads → (s : Settings) (ds : List TagDirective) (x : Node) (xs : Nodes)
+    → FirstWalks s ds (node x xs) → MoreWalks s ds (node x xs)
 unfolding items_layout before_item
 items_more law s ds x xs whole n d c rest bare =
     let p = canonically s ds in
     both (char 44) (items_layout p true n true (node x xs)) (λ ks. kinds.FlowEntry ∷ ks) (λ ks. kinds.FlowSequenceEnd ∷ items_kinds (node x xs) ks) (λ bs. tokens.flow_entry ∷ bs)
     (λ bs. items_bodies ds (node x xs) (tokens.flow_sequence_end ∷ bs)) (suc d) (suc d) d c rest (comma_walks law (suc d) c (λ e. items_layout p true n true (node x xs) e rest)) (λ e off. whole n d e rest off)
 
-pairs_first : GapReads → (s : Settings) (ds : List TagDirective) (k v : Node) (ps : Pairs) → NodeWalks s ds k → NodeWalks s ds v → MorePairsWalk s ds ps → FirstPairsWalk s ds (pair k v ps)
+pairs_first : GapReads → (s : Settings) (ds : List TagDirective) (k v : Node) (ps : Pairs)
+    → NodeWalks s ds k → NodeWalks s ds v → MorePairsWalk s ds ps
+    → FirstPairsWalk s ds (pair k v ps)
 unfolding pairs_layout before_key before_value turned pairs_kinds pairs_bodies
 pairs_first law s ds k v ps key value more n d c rest bare =
     let p = canonically s ds in
@@ -227,7 +257,8 @@ pairs_first law s ds k v ps key value more n d c rest bare =
     (λ ks. kinds.FlowMappingEnd ∷ pairs_kinds (pair k v ps) ks) (λ bs. pairs_bodies ds (pair k v ps) (tokens.flow_mapping_end ∷ bs)) (suc d) d c rest)
     (sym (not_simple s ds k)) whole
 
-pairs_more : GapReads → (s : Settings) (ds : List TagDirective) (k v : Node) (ps : Pairs) → FirstPairsWalk s ds (pair k v ps) → MorePairsWalk s ds (pair k v ps)
+pairs_more : GapReads → (s : Settings) (ds : List TagDirective) (k v : Node) (ps : Pairs)
+    → FirstPairsWalk s ds (pair k v ps) → MorePairsWalk s ds (pair k v ps)
 unfolding pairs_layout before_key
 pairs_more law s ds k v ps whole n d c rest bare =
     let p = canonically s ds in
@@ -260,7 +291,9 @@ pairs_none : GapReads → (s : Settings) (ds : List TagDirective) → FirstPairs
 unfolding pairs_layout closer pairs_kinds pairs_bodies
 pairs_none law s ds n d c rest bare = mapping_closes law d c rest
 
-sequence_walks : GapReads → AnchorReads → (s : Settings) (ds : List TagDirective) → TagWalks ds → (q : Start) (items : Nodes) → IsWritableAnchor q.anchor → IsWritableTag q.tag → FirstWalks s ds items → NodeWalks s ds (sequence_node q items)
+sequence_walks : GapReads → AnchorReads → (s : Settings) (ds : List TagDirective) → TagWalks ds
+    → (q : Start) (items : Nodes) → IsWritableAnchor q.anchor → IsWritableTag q.tag
+    → FirstWalks s ds items → NodeWalks s ds (sequence_node q items)
 unfolding node_layout node_kinds node_bodies
 sequence_walks law names s ds tags q items ga gt all at off d c rest ends =
     let p = canonically s ds in
@@ -273,7 +306,9 @@ sequence_walks law names s ds tags q items ga gt all at off d c rest ends =
     (sequence_opens law d k (λ e. (checked n ▹ items_layout p true n true items) e rest))
     (λ e bare. walks_checked n (items_layout p true n true items) KI BI (suc d) d e rest (all n d e rest bare))) c
 
-mapping_walks : GapReads → AnchorReads → (s : Settings) (ds : List TagDirective) → TagWalks ds → (q : Start) (pairs : Pairs) → IsWritableAnchor q.anchor → IsWritableTag q.tag → FirstPairsWalk s ds pairs → NodeWalks s ds (mapping_node q pairs)
+mapping_walks : GapReads → AnchorReads → (s : Settings) (ds : List TagDirective) → TagWalks ds
+    → (q : Start) (pairs : Pairs) → IsWritableAnchor q.anchor → IsWritableTag q.tag
+    → FirstPairsWalk s ds pairs → NodeWalks s ds (mapping_node q pairs)
 unfolding node_layout node_kinds node_bodies
 mapping_walks law names s ds tags q pairs ga gt all at off d c rest ends =
     let p = canonically s ds in
@@ -286,49 +321,66 @@ mapping_walks law names s ds tags q pairs ga gt all at off d c rest ends =
     (mapping_opens law d k (λ e. (checked n ▹ pairs_layout p true n true pairs) e rest))
     (λ e bare. walks_checked n (pairs_layout p true n true pairs) KI BI (suc d) d e rest (all n d e rest bare))) c
 
-alias_node_walks : GapReads → AnchorReads → (s : Settings) (ds : List TagDirective) (name : List ℕ) → IsWritable (alias_node name) → NodeWalks s ds (alias_node name)
+alias_node_walks : GapReads → AnchorReads → (s : Settings) (ds : List TagDirective) (name : List ℕ)
+    → IsWritable (alias_node name) → NodeWalks s ds (alias_node name)
 unfolding node_layout node_kinds node_bodies
 alias_node_walks law names s ds name good at off d c rest ends = alias_goes law names name good at off d c rest ends
 
-scalar_node_walks : GapReads → AnchorReads → QuotedIsReadBack → MarkWalks → (s : Settings) (ds : List TagDirective) → TagWalks ds → 0 < s.indent → (x : Scalar) → IsWritable (scalar_node x) → NodeWalks s ds (scalar_node x)
+scalar_node_walks : GapReads → AnchorReads → QuotedIsReadBack → MarkWalks
+    → (s : Settings) (ds : List TagDirective) → TagWalks ds → 0 < s.indent → (x : Scalar)
+    → IsWritable (scalar_node x) → NodeWalks s ds (scalar_node x)
 unfolding node_layout
 scalar_node_walks law names quoted mark s ds tags some x good at off d c rest ends = scalar_walks law names quoted mark s ds tags some x good at d c rest
 
 mutual
-  node_walks : GapReads → AnchorReads → QuotedIsReadBack → MarkWalks → (s : Settings) (ds : List TagDirective) → TagWalks ds → 0 < s.indent → (n : Node) → IsWritable n → NodeWalks s ds n
+  node_walks : GapReads → AnchorReads → QuotedIsReadBack → MarkWalks
+      → (s : Settings) (ds : List TagDirective) → TagWalks ds → 0 < s.indent → (n : Node)
+      → IsWritable n → NodeWalks s ds n
   node_walks law names quoted mark s ds tags some (alias_node name) good = alias_node_walks law names s ds name good
   node_walks law names quoted mark s ds tags some (scalar_node x) good = scalar_node_walks law names quoted mark s ds tags some x good
   node_walks law names quoted mark s ds tags some (sequence_node q items) (ga, gt, good) = sequence_walks law names s ds tags q items ga gt (first_walk law names quoted mark s ds tags some items good)
   node_walks law names quoted mark s ds tags some (mapping_node q pairs) (ga, gt, good) = mapping_walks law names s ds tags q pairs ga gt (first_pairs_walk law names quoted mark s ds tags some pairs good)
 
-  first_walk : GapReads → AnchorReads → QuotedIsReadBack → MarkWalks → (s : Settings) (ds : List TagDirective) → TagWalks ds → 0 < s.indent → (ns : Nodes) → AreItemsWritable ns → FirstWalks s ds ns
+  first_walk : GapReads → AnchorReads → QuotedIsReadBack → MarkWalks
+      → (s : Settings) (ds : List TagDirective) → TagWalks ds → 0 < s.indent → (ns : Nodes)
+      → AreItemsWritable ns → FirstWalks s ds ns
   first_walk law names quoted mark s ds tags some no_nodes good = items_none law s ds
   first_walk law names quoted mark s ds tags some (node x xs) (gx, good) =
       items_first law s ds x xs (node_walks law names quoted mark s ds tags some x gx) (more_walk law names quoted mark s ds tags some xs good)
 
-  more_walk : GapReads → AnchorReads → QuotedIsReadBack → MarkWalks → (s : Settings) (ds : List TagDirective) → TagWalks ds → 0 < s.indent → (ns : Nodes) → AreItemsWritable ns → MoreWalks s ds ns
+  more_walk : GapReads → AnchorReads → QuotedIsReadBack → MarkWalks
+      → (s : Settings) (ds : List TagDirective) → TagWalks ds → 0 < s.indent → (ns : Nodes)
+      → AreItemsWritable ns → MoreWalks s ds ns
   more_walk law names quoted mark s ds tags some no_nodes good = items_closed law s ds
   more_walk law names quoted mark s ds tags some (node x xs) (gx, good) =
       items_more law s ds x xs (items_first law s ds x xs (node_walks law names quoted mark s ds tags some x gx) (more_walk law names quoted mark s ds tags some xs good))
 
-  first_pairs_walk : GapReads → AnchorReads → QuotedIsReadBack → MarkWalks → (s : Settings) (ds : List TagDirective) → TagWalks ds → 0 < s.indent → (ps : Pairs) → ArePairsWritable ps → FirstPairsWalk s ds ps
+  first_pairs_walk : GapReads → AnchorReads → QuotedIsReadBack → MarkWalks
+      → (s : Settings) (ds : List TagDirective) → TagWalks ds → 0 < s.indent → (ps : Pairs)
+      → ArePairsWritable ps → FirstPairsWalk s ds ps
   first_pairs_walk law names quoted mark s ds tags some no_pairs good = pairs_none law s ds
   first_pairs_walk law names quoted mark s ds tags some (pair k v ps) (gk, gv, good) =
       pairs_first law s ds k v ps (node_walks law names quoted mark s ds tags some k gk) (node_walks law names quoted mark s ds tags some v gv) (more_pairs_walk law names quoted mark s ds tags some ps good)
 
-  more_pairs_walk : GapReads → AnchorReads → QuotedIsReadBack → MarkWalks → (s : Settings) (ds : List TagDirective) → TagWalks ds → 0 < s.indent → (ps : Pairs) → ArePairsWritable ps → MorePairsWalk s ds ps
+  more_pairs_walk : GapReads → AnchorReads → QuotedIsReadBack → MarkWalks
+      → (s : Settings) (ds : List TagDirective) → TagWalks ds → 0 < s.indent → (ps : Pairs)
+      → ArePairsWritable ps → MorePairsWalk s ds ps
   more_pairs_walk law names quoted mark s ds tags some no_pairs good = pairs_closed law s ds
   more_pairs_walk law names quoted mark s ds tags some (pair k v ps) (gk, gv, good) =
       pairs_more law s ds k v ps
       (pairs_first law s ds k v ps (node_walks law names quoted mark s ds tags some k gk) (node_walks law names quoted mark s ds tags some v gv) (more_pairs_walk law names quoted mark s ds tags some ps good))
 
-pub canon_context : (s : Settings) (ds : List TagDirective) → s.canonical ≡ true → canonically s ds ≡ context_of s ds
+pub canon_context : (s : Settings) (ds : List TagDirective) → s.canonical ≡ true
+    → canonically s ds ≡ context_of s ds
 canon_context s ds e = ap (λ (c : Bool). context_of (record { encoding = s.encoding; canonical = c; indent = s.indent; width = s.width; unicode = s.unicode; line_break = s.line_break }) ds) (sym e)
 
-pub nodes_read : GapReads → AnchorReads → QuotedIsReadBack → MarkWalks → (s : Settings) (ds : List TagDirective) → TagWalks ds → 0 < s.indent → (n : Node) → IsWritable n → NodeWalks s ds n
+pub nodes_read : GapReads → AnchorReads → QuotedIsReadBack → MarkWalks
+    → (s : Settings) (ds : List TagDirective) → TagWalks ds → 0 < s.indent → (n : Node)
+    → IsWritable n → NodeWalks s ds n
 nodes_read law names quoted mark s ds tags some n good = node_walks law names quoted mark s ds tags some n good
 
-pub nodes_walk : GapReads → AnchorReads → QuotedIsReadBack → MarkWalks → ((o : Opening) → IsWritableOpening o → TagWalks o.directives) → NodesAreWords
+pub nodes_walk : GapReads → AnchorReads → QuotedIsReadBack → MarkWalks
+    → ((o : Opening) → IsWritableOpening o → TagWalks o.directives) → NodesAreWords
 nodes_walk law names quoted mark tags s canonical some o right n good at off d c rest ends =
     subst (λ (p : Context). Walks (node_layout p at n) (node_kinds n) (node_bodies o.directives n) d d c rest) (canon_context s o.directives canonical)
     (nodes_read law names quoted mark s o.directives (tags o right) some n good at off d c rest ends)

@@ -47,7 +47,9 @@ raw_is quote c h =
 blank_small : (b : ℕ) → is_blank b ≡ true → b < 128
 blank_small b h = grind (arith, nat_tests)
 
-raw_part : (quote : ℕ) (text : List ℕ) (p c : ℕ) → IsQuote quote → may_be_raw quote c ≡ true → 0 < column_at text p → Has text p (encode_utf8 c) → Through quote text p (read_as (raw c)) (p + length (encode_utf8 c))
+raw_part : (quote : ℕ) (text : List ℕ) (p c : ℕ) → IsQuote quote → may_be_raw quote c ≡ true
+    → 0 < column_at text p → Has text p (encode_utf8 c)
+    → Through quote text p (read_as (raw c)) (p + length (encode_utf8 c))
 raw_part quote text p c q s col h =
     elim (cases_Bool (is_blank c)) [
       | inr k ↦ subst (λ (qs : List Piece). Through quote text p qs (p + length (encode_utf8 c))) (sym (read_kept c k)) (raw_through quote text p c q col (raw_is quote c s) k h)
@@ -58,11 +60,13 @@ raw_part quote text p c q s col h =
     ]
 
 -- two single quotes
-doubled_standing : (text : List ℕ) (p : ℕ) → is_document_indicator text p ≡ false → byte text p ≡ 39 → byte text (p + 1) ≡ 39 → standing_at 39 text p ≡ Pieces (Kept (39 ∷ []) ∷ []) (p + 2)
+doubled_standing : (text : List ℕ) (p : ℕ) → is_document_indicator text p ≡ false → byte text p ≡ 39
+    → byte text (p + 1) ≡ 39 → standing_at 39 text p ≡ Pieces (Kept (39 ∷ []) ∷ []) (p + 2)
 unfolding standing_at quote_at
 doubled_standing text p i e f = rw (i, e, f) refl
 
-doubled_through : (text : List ℕ) (p : ℕ) → 0 < column_at text p → Has text p (39 ∷ 39 ∷ []) → Through 39 text p (Kept (39 ∷ []) ∷ []) (p + 2)
+doubled_through : (text : List ℕ) (p : ℕ) → 0 < column_at text p → Has text p (39 ∷ 39 ∷ [])
+    → Through 39 text p (Kept (39 ∷ []) ∷ []) (p + 2)
 doubled_through text p c (e, (f, u)) =
     let calm = calm_from 39 (omega arith) (omega arith) in
     let one = column_more text p (rw e (calm_end _ _ 39 _ calm)) c in
@@ -72,7 +76,9 @@ doubled_through text p c (e, (f, u)) =
 
 -- ---- parts
 
-part_through : (quote : ℕ) (text : List ℕ) (p : ℕ) (x : QuotedPart) → IsQuote quote → MayStand quote x → 0 < column_at text p → Has text p (spelled x) → Through quote text p (read_as x) (p + length (spelled x))
+part_through : (quote : ℕ) (text : List ℕ) (p : ℕ) (x : QuotedPart) → IsQuote quote
+    → MayStand quote x → 0 < column_at text p → Has text p (spelled x)
+    → Through quote text p (read_as x) (p + length (spelled x))
 part_through quote text p (raw c) q s col h = raw_part quote text p c q s col h
 part_through quote text p doubled q s col h = subst (λ k. Through k text p (Kept (39 ∷ []) ∷ []) (p + 2)) (sym s) (doubled_through text p col h)
 part_through quote text p (named b bs) q (s, n) col h = subst (λ k. Through k text p (Kept bs ∷ []) (p + 2)) (sym s) (named_through text p b bs col n h)
@@ -82,20 +88,25 @@ part_through quote text p (fold t ts) q s col h = fold_through quote text p t ts
 part_through quote text p (joint t ts) q (s, m) col h =
     subst (λ k. Through k text p (read_as (joint t ts)) (p + length (spelled (joint t ts)))) (sym s) (joint_through text p t ts col m h)
 
-read_at : (quote : ℕ) (text : List ℕ) (p d e : ℕ) (qs : List Piece) → d ≡ e → Read quote text p qs d → Read quote text p qs e
+read_at : (quote : ℕ) (text : List ℕ) (p d e : ℕ) (qs : List Piece) → d ≡ e → Read quote text p qs d
+    → Read quote text p qs e
 read_at quote text p d e qs same r = subst (λ k. Read quote text p qs k) same r
 
-close_standing : (quote : ℕ) (text : List ℕ) (p : ℕ) → IsQuote quote → 0 < column_at text p → byte text p ≡ quote → quote_at quote text p ≡ Closing → standing_at quote text p ≡ Closing
+close_standing : (quote : ℕ) (text : List ℕ) (p : ℕ) → IsQuote quote → 0 < column_at text p
+    → byte text p ≡ quote → quote_at quote text p ≡ Closing → standing_at quote text p ≡ Closing
 unfolding standing_at
 close_standing quote text p q c e k = rw (in_line text p c, e, quote_some quote q, same_test quote, k) refl
 
-read_close : (quote : ℕ) (text : List ℕ) (p : ℕ) → standing_at quote text p ≡ Closing → Read quote text p [] (p + 1)
+read_close : (quote : ℕ) (text : List ℕ) (p : ℕ) → standing_at quote text p ≡ Closing
+    → Read quote text p [] (p + 1)
 unfolding pieces
 read_close quote text p s = record { fuel = 1; few = omega arith; gives = rw s refl }
 
 -- a spelling and a closing quote
-parts_read : (quote : ℕ) (ps : List QuotedPart) (text : List ℕ) (p : ℕ) → IsQuote quote → IsSpelling quote ps → 0 < column_at text p → Has text p (spelling ps ++ quote ∷ [])
-    → quote_at quote text (p + length (spelling ps)) ≡ Closing → Read quote text p (all_read_as ps) (p + length (spelling ps) + 1)
+parts_read : (quote : ℕ) (ps : List QuotedPart) (text : List ℕ) (p : ℕ) → IsQuote quote
+    → IsSpelling quote ps → 0 < column_at text p → Has text p (spelling ps ++ quote ∷ [])
+    → quote_at quote text (p + length (spelling ps)) ≡ Closing
+    → Read quote text p (all_read_as ps) (p + length (spelling ps) + 1)
 unfolding IsSpelling all_read_as spelling
 parts_read quote [] text p q s c h k =
     let same : p + 0 ≡ p = omega arith in
@@ -110,16 +121,20 @@ parts_read quote (x ∷ ps) text p q (stand, follow, more) c h k =
 
 -- ---- as many steps as the text has bytes
 
-front_more : (qs : List Piece) (r s : Result (List Piece × ℕ) Wrong) (x : List Piece × ℕ) → ((y : List Piece × ℕ) → r ≡ Ok y → s ≡ Ok y) → with_front qs r ≡ Ok x → with_front qs s ≡ Ok x
+front_more : (qs : List Piece) (r s : Result (List Piece × ℕ) Wrong) (x : List Piece × ℕ)
+    → ((y : List Piece × ℕ) → r ≡ Ok y → s ≡ Ok y) → with_front qs r ≡ Ok x → with_front qs s ≡ Ok x
 front_more qs (Ok y) s x h e = rw (h y refl) e
 front_more qs (Err w) s x h e = absurd (cc)
 
-followed_more : (f g : ℕ → Result (List Piece × ℕ) Wrong) (p : ℕ) (st : Standing) (x : List Piece × ℕ) → ((q : ℕ) (y : List Piece × ℕ) → f q ≡ Ok y → g q ≡ Ok y) → followed f p st ≡ Ok x → followed g p st ≡ Ok x
+followed_more : (f g : ℕ → Result (List Piece × ℕ) Wrong) (p : ℕ) (st : Standing)
+    (x : List Piece × ℕ) → ((q : ℕ) (y : List Piece × ℕ) → f q ≡ Ok y → g q ≡ Ok y)
+    → followed f p st ≡ Ok x → followed g p st ≡ Ok x
 followed_more f g p Closing x h e = e
 followed_more f g p (Pieces qs q) x h e = front_more qs (f q) (g q) x (h q) e
 followed_more f g p (Bad w) x h e = absurd (cc)
 
-more_fuel : (n m quote : ℕ) (text : List ℕ) (p : ℕ) (x : List Piece × ℕ) → n ≤ m → pieces n quote text p ≡ Ok x → pieces m quote text p ≡ Ok x
+more_fuel : (n m quote : ℕ) (text : List ℕ) (p : ℕ) (x : List Piece × ℕ) → n ≤ m
+    → pieces n quote text p ≡ Ok x → pieces m quote text p ≡ Ok x
 unfolding pieces
 more_fuel zero m quote text p x l e = absurd (cc)
 more_fuel (suc n) zero quote text p x l e = absurd (omega arith)
@@ -132,7 +147,8 @@ within text p h =
       | inr past ↦ let e = get_or_past text p 0 past in absurd (omega (arith, e))
     ]
 
-valued_ok : (r : Result (List Piece × ℕ) Wrong) (qs : List Piece) (v : List ℕ) (d e : ℕ) → r ≡ Ok (qs, d) → value qs ≡ v → d ≡ e → valued value r ≡ Ok (v, e)
+valued_ok : (r : Result (List Piece × ℕ) Wrong) (qs : List Piece) (v : List ℕ) (d e : ℕ)
+    → r ≡ Ok (qs, d) → value qs ≡ v → d ≡ e → valued value r ≡ Ok (v, e)
 valued_ok r qs v d e a b c = rw (a, b, c) refl
 
 quote_low : (quote : ℕ) → IsQuote quote → (0 < quote) × (13 < quote) × (quote < 128)
@@ -143,7 +159,8 @@ quote_starts : (quote : ℕ) → IsQuote quote → starts quote ≡ true
 quote_starts quote (inl e) = rw e refl
 quote_starts quote (inr e) = rw e refl
 
-quoted_reads : (quote : ℕ) (ps : List QuotedPart) (text : List ℕ) (p : ℕ) → IsQuote quote → IsSpelling quote ps → HasAt text p (quoted quote ps)
+quoted_reads : (quote : ℕ) (ps : List QuotedPart) (text : List ℕ) (p : ℕ) → IsQuote quote
+    → IsSpelling quote ps → HasAt text p (quoted quote ps)
     → quote_at quote text (p + 1 + length (spelling ps)) ≡ Closing
     → quoted_at quote text p ≡ Ok (meaning ps, p + length (quoted quote ps))
 quoted_reads quote ps text p q s at k =
@@ -161,15 +178,18 @@ double_closing : (text : List ℕ) (p : ℕ) → quote_at 34 text p ≡ Closing
 unfolding quote_at
 double_closing text p = refl
 
-single_closing : (text : List ℕ) (p : ℕ) → (byte text (p + 1) == 39) ≡ false → quote_at 39 text p ≡ Closing
+single_closing : (text : List ℕ) (p : ℕ) → (byte text (p + 1) == 39) ≡ false
+    → quote_at 39 text p ≡ Closing
 unfolding quote_at
 single_closing text p n = rw n refl
 
-pub spelling_reads : (parts : List QuotedPart) (text : List ℕ) (p : ℕ) → IsSpelling 34 parts → HasAt text p (quoted 34 parts)
+pub spelling_reads : (parts : List QuotedPart) (text : List ℕ) (p : ℕ) → IsSpelling 34 parts
+    → HasAt text p (quoted 34 parts)
     → double_quoted_at text p ≡ Ok (meaning parts, p + length (quoted 34 parts))
 spelling_reads parts text p s at = quoted_reads 34 parts text p (inl refl) s at (double_closing text _)
 
-pub single_spelling_reads : (parts : List QuotedPart) (text : List ℕ) (p : ℕ) → IsSpelling 39 parts → HasAt text p (quoted 39 parts)
+pub single_spelling_reads : (parts : List QuotedPart) (text : List ℕ) (p : ℕ) → IsSpelling 39 parts
+    → HasAt text p (quoted 39 parts)
     → (byte text (p + length (quoted 39 parts)) ≡ 39 → ⊥)
     → single_quoted_at text p ≡ Ok (meaning parts, p + length (quoted 39 parts))
 single_spelling_reads parts text p s at n =

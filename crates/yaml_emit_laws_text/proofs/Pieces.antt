@@ -31,7 +31,8 @@ digit_same d =
       | inr t ↦ rw t (omega arith)
     ]
 
-text_by : (kept : Bool) (b : ℕ) → piece_text (piece_by kept b) ≡ (if kept then b ∷ [] else 37 ∷ hex_2 b)
+text_by : (kept : Bool) (b : ℕ)
+    → piece_text (piece_by kept b) ≡ (if kept then b ∷ [] else 37 ∷ hex_2 b)
 text_by true b = refl
 text_by false b =
     ap (λ (x : ℕ). 37 ∷ x ∷ capital (b % 16) ∷ []) (digit_same (b / 16)) ∙ ap (λ (x : ℕ). 37 ∷ hex_digit (b / 16) ∷ x ∷ []) (digit_same (b % 16))
@@ -70,7 +71,8 @@ mark_not b e =
           absurd (mark_unkept (subst P same e))
     ]
 
-unmarked_by : (kept : Bool) (b : ℕ) (pieces : List UriPiece) → (kept ≡ true → (b == 33) ≡ false) → has_no_mark pieces ≡ true → has_no_mark (piece_by kept b ∷ pieces) ≡ true
+unmarked_by : (kept : Bool) (b : ℕ) (pieces : List UriPiece) → (kept ≡ true → (b == 33) ≡ false)
+    → has_no_mark pieces ≡ true → has_no_mark (piece_by kept b ∷ pieces) ≡ true
 unmarked_by true b pieces f g = let e = f refl in rw e g
 unmarked_by false b pieces f g = g
 
@@ -84,7 +86,8 @@ kept_suffix : (b : ℕ) → suffix_keeps b ≡ true → (is_alpha_byte b || is_p
 unfolding suffix_keeps is_alpha_byte is_digit_byte is_punctuation
 kept_suffix b e = grind (arith, nat_tests)
 
-kept_prefix : (b : ℕ) → prefix_keeps b ≡ true → (is_alpha_byte b || (is_punctuation b || is_wide_punctuation b)) ≡ true
+kept_prefix : (b : ℕ) → prefix_keeps b ≡ true
+    → (is_alpha_byte b || (is_punctuation b || is_wide_punctuation b)) ≡ true
 unfolding suffix_keeps is_alpha_byte is_digit_byte is_punctuation is_wide_punctuation
 kept_prefix b e = grind (arith, nat_tests)
 
@@ -151,18 +154,25 @@ due_trail b due h g some =
     let v : nat_le b 0xBF ≡ true = grind (arith, nat_tests) in
     rw (t, u, v) refl
 
-low_by : (wide kept : Bool) (b : ℕ) (pieces : List UriPiece) → b < 128 → (kept ≡ true → is_kept wide b ≡ true) → IsUri wide 0 pieces → IsUri wide 0 (piece_by kept b ∷ pieces)
+low_by : (wide kept : Bool) (b : ℕ) (pieces : List UriPiece) → b < 128
+    → (kept ≡ true → is_kept wide b ≡ true) → IsUri wide 0 pieces
+    → IsUri wide 0 (piece_by kept b ∷ pieces)
 low_by wide true b pieces low f is = (refl, f refl, is)
 low_by wide false b pieces low f is = (omega (arith, low), (0, due_low b low, is))
 
-high_by : (wide kept : Bool) (due next b : ℕ) (pieces : List UriPiece) → kept ≡ false → b < 256 → due_behind b due ≡ Ok next → IsUri wide next pieces → IsUri wide due (piece_by kept b ∷ pieces)
+high_by : (wide kept : Bool) (due next b : ℕ) (pieces : List UriPiece) → kept ≡ false → b < 256
+    → due_behind b due ≡ Ok next → IsUri wide next pieces
+    → IsUri wide due (piece_by kept b ∷ pieces)
 high_by wide true due next b pieces e small d is = absurd (cc)
 high_by wide false due next b pieces e small d is = (small, (next, d, is))
 
-high : (wide : Bool) (due next b : ℕ) (pieces : List UriPiece) → 128 ≤ b → b < 256 → due_behind b due ≡ Ok next → IsUri wide next pieces → IsUri wide due (piece_by (keeps_byte wide b) b ∷ pieces)
+high : (wide : Bool) (due next b : ℕ) (pieces : List UriPiece) → 128 ≤ b → b < 256
+    → due_behind b due ≡ Ok next → IsUri wide next pieces
+    → IsUri wide due (piece_by (keeps_byte wide b) b ∷ pieces)
 high wide due next b pieces h small d is = high_by wide (keeps_byte wide b) due next b pieces (high_escaped wide b h) small d is
 
-trail : (wide : Bool) (due next b : ℕ) (pieces : List UriPiece) → 128 ≤ b → b ≤ 191 → due ≡ suc next → IsUri wide next pieces → IsUri wide due (piece_by (keeps_byte wide b) b ∷ pieces)
+trail : (wide : Bool) (due next b : ℕ) (pieces : List UriPiece) → 128 ≤ b → b ≤ 191 → due ≡ suc next
+    → IsUri wide next pieces → IsUri wide due (piece_by (keeps_byte wide b) b ∷ pieces)
 trail wide due next b pieces h g e is =
     let d : due_behind b due ≡ Ok next = due_trail b due h g (omega (arith, e)) ∙ ap (λ (n : ℕ). Ok n) (omega (arith, e)) in
     high wide due next b pieces h (omega (arith, g)) d is
@@ -175,18 +185,22 @@ pub encode_2 : (c : ℕ) → 128 ≤ c → c < 2048 → encode_utf8 c ≡ (192 +
 unfolding encode
 encode_2 c a b = rw (le-ltb c 128 a, lt-ltb c 2048 b) refl
 
-pub encode_3 : (c : ℕ) → 2048 ≤ c → c < 65536 → encode_utf8 c ≡ (224 + c / 4096) ∷ (128 + c / 64 % 64) ∷ (128 + c % 64) ∷ []
+pub encode_3 : (c : ℕ) → 2048 ≤ c → c < 65536
+    → encode_utf8 c ≡ (224 + c / 4096) ∷ (128 + c / 64 % 64) ∷ (128 + c % 64) ∷ []
 unfolding encode
 encode_3 c a b = rw (le-ltb c 128 (omega arith), le-ltb c 2048 a, lt-ltb c 65536 b) refl
 
-pub encode_4 : (c : ℕ) → 65536 ≤ c → encode_utf8 c ≡ (240 + c / 262144) ∷ (128 + c / 4096 % 64) ∷ (128 + c / 64 % 64) ∷ (128 + c % 64) ∷ []
+pub encode_4 : (c : ℕ) → 65536 ≤ c
+    → encode_utf8 c ≡ (240 + c / 262144) ∷ (128 + c / 4096 % 64) ∷ (128 + c / 64 % 64)
+    ∷ (128 + c % 64) ∷ []
 unfolding encode
 encode_4 c a = rw (le-ltb c 128 (omega arith), le-ltb c 2048 (omega arith), le-ltb c 65536 a) refl
 
 top_of : (c : ℕ) → scalar c ≡ true → c < 1114112
 top_of c e = elim (scalar_cases c e) [ inl low ↦ omega (arith, low) | inr (from, to) ↦ to ]
 
-char_uri : (wide : Bool) (c : ℕ) (bs : List ℕ) → c < 1114112 → IsUri wide 0 (pieces_of wide bs) → IsUri wide 0 (pieces_of wide (encode_utf8 c ++ bs))
+char_uri : (wide : Bool) (c : ℕ) (bs : List ℕ) → c < 1114112 → IsUri wide 0 (pieces_of wide bs)
+    → IsUri wide 0 (pieces_of wide (encode_utf8 c ++ bs))
 char_uri wide c bs top is =
     let P : List ℕ → Type 0 = λ xs. IsUri wide 0 (pieces_of wide (xs ++ bs)) in
     elim (cases_lt c 128) [
@@ -209,7 +223,8 @@ char_uri wide c bs top is =
       ]
     ]
 
-chars_uri : (wide : Bool) (cs : List ℕ) → scalars cs ≡ true → IsUri wide 0 (pieces_of wide (encode_utf8_all cs))
+chars_uri : (wide : Bool) (cs : List ℕ) → scalars cs ≡ true
+    → IsUri wide 0 (pieces_of wide (encode_utf8_all cs))
 chars_uri wide [] e = refl
 chars_uri wide (c ∷ cs) e =
     char_uri wide c (encode_utf8_all cs) (top_of c (and_parts (scalar c) (scalars cs) e).0) (chars_uri wide cs (and_parts (scalar c) (scalars cs) e).1)

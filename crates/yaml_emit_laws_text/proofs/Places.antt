@@ -8,13 +8,15 @@ pub has_front : (text : List ℕ) (p : ℕ) (xs ys : List ℕ) → Has text p (x
 has_front text p [] ys h = tt
 has_front text p (x ∷ xs) ys (e, h) = (e, has_front text (p + 1) xs ys h)
 
-pub has_rest : (text : List ℕ) (p : ℕ) (xs ys : List ℕ) → Has text p (xs ++ ys) → Has text (p + length xs) ys
+pub has_rest : (text : List ℕ) (p : ℕ) (xs ys : List ℕ) → Has text p (xs ++ ys)
+    → Has text (p + length xs) ys
 has_rest text p [] ys h = rw add-zero h
 has_rest text p (x ∷ xs) ys (e, h) =
     let same : p + 1 + length xs ≡ p + suc (length xs) = omega arith in
     subst (λ q. Has text q ys) same (has_rest text (p + 1) xs ys h)
 
-pub has_both : (text : List ℕ) (p : ℕ) (xs ys : List ℕ) → Has text p xs → Has text (p + length xs) ys → Has text p (xs ++ ys)
+pub has_both : (text : List ℕ) (p : ℕ) (xs ys : List ℕ) → Has text p xs
+    → Has text (p + length xs) ys → Has text p (xs ++ ys)
 has_both text p [] ys h k = rw add-zero at k
 has_both text p (x ∷ xs) ys (e, h) k =
     let same : p + suc (length xs) ≡ p + 1 + length xs = omega arith in
@@ -30,10 +32,12 @@ has_at text p (x ∷ xs) (e, h) (suc k) l =
 pub left_first : (text : List ℕ) (p b : ℕ) (bs : List ℕ) → Left text p (b ∷ bs) → byte text p ≡ b
 left_first text p b bs l = let (e, h) = l.has in e
 
-pub left_more : (text : List ℕ) (p b : ℕ) (bs : List ℕ) → Left text p (b ∷ bs) → Left text (p + 1) bs
+pub left_more : (text : List ℕ) (p b : ℕ) (bs : List ℕ) → Left text p (b ∷ bs)
+    → Left text (p + 1) bs
 left_more text p b bs l = let (e, h) = l.has in let x = l.ends in record { has = h; ends = omega arith }
 
-pub left_rest : (text : List ℕ) (p : ℕ) (xs ys : List ℕ) → Left text p (xs ++ ys) → Left text (p + length xs) ys
+pub left_rest : (text : List ℕ) (p : ℕ) (xs ys : List ℕ) → Left text p (xs ++ ys)
+    → Left text (p + length xs) ys
 left_rest text p [] ys l = rw add-zero l
 left_rest text p (x ∷ xs) ys l =
     let same : p + 1 + length xs ≡ p + suc (length xs) = omega arith in

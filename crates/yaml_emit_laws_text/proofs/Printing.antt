@@ -14,32 +14,39 @@ one : (c d e : ℕ) → c < 128 → is_printable_by c d e ≡ is_printable c
 unfolding is_printable_by
 one c d e h = grind (arith, nat_tests)
 
-two : (q s e : ℕ) → 2 ≤ q → q < 32 → s < 64 → is_printable_by (192 + q) (128 + s) e ≡ is_printable (64 * q + s)
+two : (q s e : ℕ) → 2 ≤ q → q < 32 → s < 64
+    → is_printable_by (192 + q) (128 + s) e ≡ is_printable (64 * q + s)
 unfolding is_printable_by
 two q s e a b h = grind (arith, nat_tests)
 
-three_low : (q r s : ℕ) → q < 13 → r < 64 → s < 64 → 2048 ≤ 4096 * q + 64 * r + s → is_printable_by (224 + q) (128 + r) (128 + s) ≡ is_printable (4096 * q + 64 * r + s)
+three_low : (q r s : ℕ) → q < 13 → r < 64 → s < 64 → 2048 ≤ 4096 * q + 64 * r + s
+    → is_printable_by (224 + q) (128 + r) (128 + s) ≡ is_printable (4096 * q + 64 * r + s)
 unfolding is_printable_by
 three_low q r s a b h g = grind (arith, nat_tests)
 
-three_near : (r s : ℕ) → r < 32 → s < 64 → is_printable_by 237 (128 + r) (128 + s) ≡ is_printable (53248 + 64 * r + s)
+three_near : (r s : ℕ) → r < 32 → s < 64
+    → is_printable_by 237 (128 + r) (128 + s) ≡ is_printable (53248 + 64 * r + s)
 unfolding is_printable_by
 three_near r s b h = grind (arith, nat_tests)
 
-three_private : (r s : ℕ) → r < 64 → s < 64 → is_printable_by 238 (128 + r) (128 + s) ≡ is_printable (57344 + 64 * r + s)
+three_private : (r s : ℕ) → r < 64 → s < 64
+    → is_printable_by 238 (128 + r) (128 + s) ≡ is_printable (57344 + 64 * r + s)
 unfolding is_printable_by
 three_private r s b h = grind (arith, nat_tests)
 
-three_last : (r s : ℕ) → r < 64 → s < 64 → is_printable_by 239 (128 + r) (128 + s) ≡ is_printable (61440 + 64 * r + s)
+three_last : (r s : ℕ) → r < 64 → s < 64
+    → is_printable_by 239 (128 + r) (128 + s) ≡ is_printable (61440 + 64 * r + s)
 unfolding is_printable_by is_special
 three_last r s b h = grind (arith, nat_tests)
 
-four : (q d e c : ℕ) → q ≤ 4 → 65536 ≤ c → c < 1114112 → is_printable_by (240 + q) d e ≡ is_printable c
+four : (q d e c : ℕ) → q ≤ 4 → 65536 ≤ c → c < 1114112
+    → is_printable_by (240 + q) d e ≡ is_printable c
 unfolding is_printable_by
 four q d e c a b h = grind (arith, nat_tests)
 
 -- by the three parts of its number
-three : (q r s : ℕ) → q < 16 → r < 64 → s < 64 → 2048 ≤ 4096 * q + 64 * r + s → (4096 * q + 64 * r + s < 55296) ⊎ (57344 ≤ 4096 * q + 64 * r + s)
+three : (q r s : ℕ) → q < 16 → r < 64 → s < 64 → 2048 ≤ 4096 * q + 64 * r + s
+    → (4096 * q + 64 * r + s < 55296) ⊎ (57344 ≤ 4096 * q + 64 * r + s)
     → is_printable_by (224 + q) (128 + r) (128 + s) ≡ is_printable (4096 * q + 64 * r + s)
 three q r s a b h g scalar =
     elim (cases_lt q 13) [
@@ -59,14 +66,16 @@ three q r s a b h g scalar =
 bounds : (c : ℕ) → IsScalar c → ((c < 55296) ⊎ (57344 ≤ c)) × (c < 1114112)
 bounds c e = elim (scalar_cases c e) [ inl low ↦ (inl low, omega (arith, low)) | inr (from, to) ↦ (inr from, to) ]
 
-two_bytes : (c : ℕ) (rest : List ℕ) → 128 ≤ c → c < 2048 → bytes.is_printable (encode_utf8 c ++ rest) 0 ≡ is_printable c
+two_bytes : (c : ℕ) (rest : List ℕ) → 128 ≤ c → c < 2048
+    → bytes.is_printable (encode_utf8 c ++ rest) 0 ≡ is_printable c
 two_bytes c rest a b =
     let q : ℕ = c / 64 in
     let s : ℕ = c % 64 in
     let same : 64 * q + s ≡ c = omega arith in
     rw (encode_2 c a b) (two q s _ (omega arith) (omega arith) (omega arith) ∙ ap is_printable same)
 
-three_bytes : (c : ℕ) (rest : List ℕ) → 2048 ≤ c → c < 65536 → (c < 55296) ⊎ (57344 ≤ c) → bytes.is_printable (encode_utf8 c ++ rest) 0 ≡ is_printable c
+three_bytes : (c : ℕ) (rest : List ℕ) → 2048 ≤ c → c < 65536 → (c < 55296) ⊎ (57344 ≤ c)
+    → bytes.is_printable (encode_utf8 c ++ rest) 0 ≡ is_printable c
 three_bytes c rest a b scalar =
     let q : ℕ = c / 4096 in
     let r : ℕ = c / 64 % 64 in

@@ -22,7 +22,8 @@ pub has_front : (text : List ℕ) (p : ℕ) (xs ys : List ℕ) → Has text p (x
 has_front text p [] ys h = tt
 has_front text p (x ∷ xs) ys (e, h) = (e, has_front text (p + 1) xs ys h)
 
-pub has_rest : (text : List ℕ) (p : ℕ) (xs ys : List ℕ) → Has text p (xs ++ ys) → Has text (p + length xs) ys
+pub has_rest : (text : List ℕ) (p : ℕ) (xs ys : List ℕ) → Has text p (xs ++ ys)
+    → Has text (p + length xs) ys
 has_rest text p [] ys h = rw add-zero h
 has_rest text p (x ∷ xs) ys (e, h) =
     let same : p + 1 + length xs ≡ p + suc (length xs) = omega arith in
@@ -41,22 +42,28 @@ pub record Through (quote : ℕ) (text : List ℕ) (p : ℕ) (qs : List Piece) (
   pub reads : (rs : List Piece) (e : ℕ) → Read quote text q rs e → Read quote text p (qs ++ rs) e
   pub column : 0 < column_at text q
 
-pub through_both : (quote : ℕ) (text : List ℕ) (p q r : ℕ) (qs rs : List Piece) → Through quote text p qs q → Through quote text q rs r → Through quote text p (qs ++ rs) r
+pub through_both : (quote : ℕ) (text : List ℕ) (p q r : ℕ) (qs rs : List Piece)
+    → Through quote text p qs q → Through quote text q rs r → Through quote text p (qs ++ rs) r
 through_both quote text p q r qs rs a b = record {
   reads = λ ps e x. subst (λ (t : List Piece). Read quote text p t e) (sym (append_assoc qs rs ps)) (a.reads (rs ++ ps) e (b.reads ps e x));
   column = b.column;
 }
 
-pub read_step : (quote : ℕ) (text : List ℕ) (p q e : ℕ) (qs rs : List Piece) → standing_at quote text p ≡ Pieces qs q → p < q → Read quote text q rs e → Read quote text p (qs ++ rs) e
+pub read_step : (quote : ℕ) (text : List ℕ) (p q e : ℕ) (qs rs : List Piece)
+    → standing_at quote text p ≡ Pieces qs q → p < q → Read quote text q rs e
+    → Read quote text p (qs ++ rs) e
 unfolding pieces
 read_step quote text p q e qs rs s l r =
     let few = r.few in
     record { fuel = suc r.fuel; few = omega arith; gives = rw (s, r.gives) refl }
 
-pub through_one : (quote : ℕ) (text : List ℕ) (p q : ℕ) (qs : List Piece) → standing_at quote text p ≡ Pieces qs q → p < q → 0 < column_at text q → Through quote text p qs q
+pub through_one : (quote : ℕ) (text : List ℕ) (p q : ℕ) (qs : List Piece)
+    → standing_at quote text p ≡ Pieces qs q → p < q → 0 < column_at text q
+    → Through quote text p qs q
 through_one quote text p q qs s l c = record { reads = λ rs e r. read_step quote text p q e qs rs s l r; column = c }
 
-pub through_at : (quote : ℕ) (text : List ℕ) (p q r : ℕ) (qs : List Piece) → q ≡ r → Through quote text p qs q → Through quote text p qs r
+pub through_at : (quote : ℕ) (text : List ℕ) (p q r : ℕ) (qs : List Piece) → q ≡ r
+    → Through quote text p qs q → Through quote text p qs r
 through_at quote text p q r qs e t = subst (λ k. Through quote text p qs k) e t
 
 -- ---- no document begins or ends
@@ -67,17 +74,20 @@ in_line text p h =
     let e : (column_at text p == 0) ≡ false = grind (arith, nat_tests) in
     rw e refl
 
-pub no_mark : (text : List ℕ) (p b : ℕ) → byte text p ≡ b → b ≢ 45 → b ≢ 46 → is_document_indicator text p ≡ false
+pub no_mark : (text : List ℕ) (p b : ℕ) → byte text p ≡ b → b ≢ 45 → b ≢ 46
+    → is_document_indicator text p ≡ false
 unfolding is_document_indicator
 no_mark text p b e m n = rw (e, ne_eqb b 45 m, ne_eqb b 46 n, and-false) refl
 
 -- ---- columns
 
-pub column_more : (text : List ℕ) (p : ℕ) → ends_break text p ≡ false → 0 < column_at text p → 0 < column_at text (p + 1)
+pub column_more : (text : List ℕ) (p : ℕ) → ends_break text p ≡ false → 0 < column_at text p
+    → 0 < column_at text (p + 1)
 unfolding column_at
 column_more text p h c = rw (add-one, h) (omega arith)
 
-pub column_start : (text : List ℕ) (p : ℕ) → ends_break text p ≡ false → starts (byte text p) ≡ true → 0 < column_at text (p + 1)
+pub column_start : (text : List ℕ) (p : ℕ) → ends_break text p ≡ false → starts (byte text p) ≡ true
+    → 0 < column_at text (p + 1)
 unfolding column_at
 column_start text p h s = rw (add-one, h, s) (omega arith)
 
@@ -90,17 +100,21 @@ pub record Ordinary (quote b : ℕ) : Type 0 where
   pub no_slash : (quote == 34 && b == 92) ≡ false
   pub no_blank : is_blank b ≡ false
 
-kept_standing : (quote : ℕ) (text : List ℕ) (p b : ℕ) → is_document_indicator text p ≡ false → byte text p ≡ b → break_width text p ≡ 0 → Ordinary quote b
+kept_standing : (quote : ℕ) (text : List ℕ) (p b : ℕ) → is_document_indicator text p ≡ false
+    → byte text p ≡ b → break_width text p ≡ 0 → Ordinary quote b
     → standing_at quote text p ≡ Pieces (Kept (b ∷ []) ∷ []) (p + 1)
 unfolding standing_at
 kept_standing quote text p b i e z o = rw (i, z, e, o.no_end, o.no_quote, o.no_blank, o.no_slash) refl
 
-pub stays : (quote : ℕ) (text : List ℕ) (p b : ℕ) → 0 < column_at text p → byte text p ≡ b → ends_break text p ≡ false → break_width text p ≡ 0 → Ordinary quote b
+pub stays : (quote : ℕ) (text : List ℕ) (p b : ℕ) → 0 < column_at text p → byte text p ≡ b
+    → ends_break text p ≡ false → break_width text p ≡ 0 → Ordinary quote b
     → Through quote text p (Kept (b ∷ []) ∷ []) (p + 1)
 stays quote text p b c e f z o =
     through_one quote text p (p + 1) (Kept (b ∷ []) ∷ []) (kept_standing quote text p b (in_line text p c) e z o) (omega arith) (column_more text p f c)
 
-blank_standing : (quote : ℕ) (text : List ℕ) (p b : ℕ) → is_document_indicator text p ≡ false → byte text p ≡ b → break_width text p ≡ 0 → (b == 0) ≡ false → (b == quote) ≡ false → is_blank b ≡ true
+blank_standing : (quote : ℕ) (text : List ℕ) (p b : ℕ) → is_document_indicator text p ≡ false
+    → byte text p ≡ b → break_width text p ≡ 0 → (b == 0) ≡ false → (b == quote) ≡ false
+    → is_blank b ≡ true
     → standing_at quote text p ≡ Pieces (Blank b ∷ []) (p + 1)
 unfolding standing_at
 blank_standing quote text p b i e z m n k = rw (i, z, e, m, n, k) refl
@@ -111,7 +125,8 @@ blank_calm b h = record { low = grind (arith, nat_tests); no_feed = λ e. let g 
 blank_no : (b n : ℕ) → is_blank b ≡ true → is_blank n ≡ false → b ≢ n
 blank_no b n h k e = cc (sym h ∙ ap (λ x. is_blank x) e ∙ k)
 
-pub blank_through : (quote : ℕ) (text : List ℕ) (p b : ℕ) → IsQuote quote → 0 < column_at text p → is_blank b ≡ true → byte text p ≡ b → Through quote text p (Blank b ∷ []) (p + 1)
+pub blank_through : (quote : ℕ) (text : List ℕ) (p b : ℕ) → IsQuote quote → 0 < column_at text p
+    → is_blank b ≡ true → byte text p ≡ b → Through quote text p (Blank b ∷ []) (p + 1)
 blank_through quote text p b q c k e =
     let calm = blank_calm b k in
     through_one quote text p (p + 1) (Blank b ∷ [])
@@ -122,7 +137,8 @@ space_calm : Calm 32
 space_calm = calm_from 32 (omega arith) (omega arith)
 
 -- a space at the start of a line
-pub space_standing : (quote : ℕ) (text : List ℕ) (p : ℕ) → IsQuote quote → byte text p ≡ 32 → standing_at quote text p ≡ Pieces (Blank 32 ∷ []) (p + 1)
+pub space_standing : (quote : ℕ) (text : List ℕ) (p : ℕ) → IsQuote quote → byte text p ≡ 32
+    → standing_at quote text p ≡ Pieces (Blank 32 ∷ []) (p + 1)
 space_standing quote text p q e =
     blank_standing quote text p 32 (no_mark text p 32 e (λ f. omega arith) (λ f. omega arith)) e (rw e (calm_break 32 _ _ space_calm)) refl (no_quote quote 32 q (λ f. omega arith) (λ f. omega arith)) refl
 
@@ -131,12 +147,15 @@ space_column text p e = column_start text p (rw e (calm_end _ _ 32 _ space_calm)
 
 -- ---- characters past ASCII
 
-ends_1 : (text : List ℕ) (p y b : ℕ) → byte text p ≡ y → byte text (p + 1) ≡ b → ((x c : ℕ) → ends_of x y b c ≡ false) → ends_break text (p + 1) ≡ false
+ends_1 : (text : List ℕ) (p y b : ℕ) → byte text p ≡ y → byte text (p + 1) ≡ b
+    → ((x c : ℕ) → ends_of x y b c ≡ false) → ends_break text (p + 1) ≡ false
 ends_1 text p y b h k f =
     let e : p + 1 - 1 ≡ p = omega arith in
     rw (e, h, k) (f (byte text (p + 1 - 2)) (byte text (p + 1 + 1)))
 
-ends_2 : (text : List ℕ) (p x y b : ℕ) → byte text p ≡ x → byte text (p + 1) ≡ y → byte text (p + 1 + 1) ≡ b → ((c : ℕ) → ends_of x y b c ≡ false) → ends_break text (p + 1 + 1) ≡ false
+ends_2 : (text : List ℕ) (p x y b : ℕ) → byte text p ≡ x → byte text (p + 1) ≡ y
+    → byte text (p + 1 + 1) ≡ b → ((c : ℕ) → ends_of x y b c ≡ false)
+    → ends_break text (p + 1 + 1) ≡ false
 ends_2 text p x y b g h k f =
     let e : p + 1 + 1 - 1 ≡ p + 1 = omega arith in
     let d : p + 1 + 1 - 2 ≡ p = omega arith in
@@ -150,17 +169,21 @@ high_ordinary quote b q h = record {
   no_blank = high_blank b h;
 }
 
-high : (quote : ℕ) (text : List ℕ) (p b : ℕ) → IsQuote quote → 0 < column_at text p → byte text p ≡ b → 128 ≤ b → ends_break text p ≡ false → break_width text p ≡ 0 → Through quote text p (Kept (b ∷ []) ∷ []) (p + 1)
+high : (quote : ℕ) (text : List ℕ) (p b : ℕ) → IsQuote quote → 0 < column_at text p
+    → byte text p ≡ b → 128 ≤ b → ends_break text p ≡ false → break_width text p ≡ 0
+    → Through quote text p (Kept (b ∷ []) ∷ []) (p + 1)
 high quote text p b q c e l f z = stays quote text p b c e f z (high_ordinary quote b q l)
 
-two : (quote : ℕ) (text : List ℕ) (p a b : ℕ) → IsQuote quote → 0 < column_at text p → 192 ≤ a → a < 224 → 128 ≤ b → b < 192 → (a ≡ 0xC2 → b ≡ 0x85 → ⊥)
+two : (quote : ℕ) (text : List ℕ) (p a b : ℕ) → IsQuote quote → 0 < column_at text p → 192 ≤ a
+    → a < 224 → 128 ≤ b → b < 192 → (a ≡ 0xC2 → b ≡ 0x85 → ⊥)
     → Has text p (a ∷ b ∷ []) → Through quote text p (keeps (a ∷ b ∷ [])) (p + 1 + 1)
 two quote text p a b qt c l m n o z (h, (k, u)) =
     let first = high quote text p a qt c h (omega arith) (rw h (first_end _ _ a _ l)) (rw (h, k) (two_break a b _ l m z)) in
     let second = high quote text (p + 1) b qt first.column k n (ends_1 text p a b h k (λ x d. second_end x a b d n o l (λ e f. z f e))) (rw k (later_break b _ _ n o)) in
     through_both quote text p (p + 1) (p + 1 + 1) (keeps (a ∷ [])) (keeps (b ∷ [])) first second
 
-three : (quote : ℕ) (text : List ℕ) (p a b d : ℕ) → IsQuote quote → 0 < column_at text p → 224 ≤ a → a < 240 → 128 ≤ b → b < 192 → 128 ≤ d → d < 192
+three : (quote : ℕ) (text : List ℕ) (p a b d : ℕ) → IsQuote quote → 0 < column_at text p → 224 ≤ a
+    → a < 240 → 128 ≤ b → b < 192 → 128 ≤ d → d < 192
     → (a ≡ 0xE2 → b ≡ 0x80 → d ≡ 0xA8 → ⊥) → (a ≡ 0xE2 → b ≡ 0x80 → d ≡ 0xA9 → ⊥)
     → Has text p (a ∷ b ∷ d ∷ []) → Through quote text p (keeps (a ∷ b ∷ d ∷ [])) (p + 1 + 1 + 1)
 three quote text p a b d qt c l m n o q r x y (h, (k, (i, u))) =
@@ -170,8 +193,10 @@ three quote text p a b d qt c l m n o q r x y (h, (k, (i, u))) =
     through_both quote text p (p + 1) (p + 1 + 1 + 1) (keeps (a ∷ [])) (keeps (b ∷ d ∷ [])) first
     (through_both quote text (p + 1) (p + 1 + 1) (p + 1 + 1 + 1) (keeps (b ∷ [])) (keeps (d ∷ [])) second third)
 
-four : (quote : ℕ) (text : List ℕ) (p a b d g : ℕ) → IsQuote quote → 0 < column_at text p → 240 ≤ a → 128 ≤ b → b < 192 → 128 ≤ d → d < 192 → 128 ≤ g → g < 192
-    → Has text p (a ∷ b ∷ d ∷ g ∷ []) → Through quote text p (keeps (a ∷ b ∷ d ∷ g ∷ [])) (p + 1 + 1 + 1 + 1)
+four : (quote : ℕ) (text : List ℕ) (p a b d g : ℕ) → IsQuote quote → 0 < column_at text p → 240 ≤ a
+    → 128 ≤ b → b < 192 → 128 ≤ d → d < 192 → 128 ≤ g → g < 192
+    → Has text p (a ∷ b ∷ d ∷ g ∷ [])
+    → Through quote text p (keeps (a ∷ b ∷ d ∷ g ∷ [])) (p + 1 + 1 + 1 + 1)
 four quote text p a b d g qt c l n o q r s t (h, (k, (i, (j, u)))) =
     let first = high quote text p a qt c h (omega arith) (rw h (first_end _ _ a _ (omega arith))) (rw h (four_break a _ _ l)) in
     let second = high quote text (p + 1) b qt first.column k n (ends_1 text p a b h k (λ v w. second_end v a b w n o (omega arith) (λ e f. omega arith))) (rw k (later_break b _ _ n o)) in
@@ -193,7 +218,9 @@ pub record Raw (quote c : ℕ) : Type 0 where
   pub no_slash : (quote == 34 && c == 92) ≡ false
   pub top : c < 1114112
 
-pub raw_through : (quote : ℕ) (text : List ℕ) (p c : ℕ) → IsQuote quote → 0 < column_at text p → Raw quote c → is_blank c ≡ false → Has text p (encode_utf8 c) → Through quote text p (keeps (encode_utf8 c)) (p + length (encode_utf8 c))
+pub raw_through : (quote : ℕ) (text : List ℕ) (p c : ℕ) → IsQuote quote → 0 < column_at text p
+    → Raw quote c → is_blank c ≡ false → Has text p (encode_utf8 c)
+    → Through quote text p (keeps (encode_utf8 c)) (p + length (encode_utf8 c))
 raw_through quote text p c q col s b =
     let P : List ℕ → Type 0 = λ bs. Has text p bs → Through quote text p (keeps bs) (p + length bs) in
     let nf = s.no_feed in let nr = s.no_return in let nn = s.no_next_line in let nl = s.no_line in let np = s.no_paragraph in let top = s.top in

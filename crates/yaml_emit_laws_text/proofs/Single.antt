@@ -33,12 +33,14 @@ abbrev after_blanks : ℕ → Cursor → Cursor
 after_blanks zero c = c
 after_blanks (suc n) c = after_blanks n (spaced_by c)
 
-blanks_are : (n : ℕ) (c : Cursor) (rest : Rest) → blanks n c rest ≡ in_front (replicate n 32) (rest (after_blanks n c))
+blanks_are : (n : ℕ) (c : Cursor) (rest : Rest)
+    → blanks n c rest ≡ in_front (replicate n 32) (rest (after_blanks n c))
 unfolding blanks in_front
 blanks_are zero c rest = refl
 blanks_are (suc n) c rest = ap (λ t. letter 32 ∷ t) (blanks_are n (spaced_by c) rest)
 
-new_line_is : (b : LineBreak) (c : Cursor) (rest : Rest) → new_line b c rest ≡ in_front (break_text b) (rest (line_start c))
+new_line_is : (b : LineBreak) (c : Cursor) (rest : Rest)
+    → new_line b c rest ≡ in_front (break_text b) (rest (line_start c))
 unfolding in_front
 new_line_is Lf c rest = refl
 new_line_is Cr c rest = refl
@@ -47,7 +49,9 @@ new_line_is CrLf c rest = refl
 from_start : (n : ℕ) → n - 0 ≡ n
 from_start n = omega arith
 
-indent_is : (n : ℕ) (c : Cursor) (rest : Rest) → indent_to n (line_start c) rest ≡ in_front (replicate n 32) (rest (after_blanks n (line_start c)))
+indent_is : (n : ℕ) (c : Cursor) (rest : Rest)
+    → indent_to n (line_start c) rest
+    ≡ in_front (replicate n 32) (rest (after_blanks n (line_start c)))
 indent_is n c rest = ap (λ k. blanks k (line_start c) rest) (from_start n) ∙ blanks_are n (line_start c) rest
 
 broken : (a b d : Bool) → a ≡ false → (not a || b || d) ≡ true
@@ -55,7 +59,9 @@ broken false b d e = refl
 broken true b d e = absurd (cc)
 
 -- behind a character a line begins with a break
-line_is : (b : LineBreak) (n : ℕ) (c : Cursor) (rest : Rest) → c.bare ≡ false → line b n c rest ≡ in_front (break_text b ++ replicate n 32) (rest (after_blanks n (line_start c)))
+line_is : (b : LineBreak) (n : ℕ) (c : Cursor) (rest : Rest) → c.bare ≡ false
+    → line b n c rest ≡ in_front (break_text b ++ replicate n 32)
+    (rest (after_blanks n (line_start c)))
 unfolding line
 line_is b n c rest e =
     let due : must_break n c ≡ true = broken c.bare (nat_lt n c.column) (c.column == n && not c.white) e in
@@ -73,7 +79,8 @@ record Shows (x : ℕ) : Type 0 where
 no_printable : (x k : ℕ) → Shows x → is_printable k ≡ false → (x == k) ≡ false
 no_printable x k s n = ne_eqb x k (λ e. cc (sym s.printable ∙ ap (λ t. is_printable t) e ∙ n))
 
-raw_test : (s a b d e f z q k : Bool) → s ≡ true → a ≡ false → b ≡ false → d ≡ false → e ≡ false → f ≡ false → z ≡ false → q ≡ false
+raw_test : (s a b d e f z q k : Bool) → s ≡ true → a ≡ false → b ≡ false → d ≡ false → e ≡ false
+    → f ≡ false → z ≡ false → q ≡ false
     → (s && not ((a || (b || (d || (e || f)))) || (z || (q || (false && k))))) ≡ true
 raw_test s a b d e f z q k g h i j l m n o = rw (g, h, i, j, l, m, n, o) refl
 
@@ -99,20 +106,28 @@ unblank x s n = both (x == 32) (x == 9) n (no_printable x 9 s refl)
 abbrev seat : Page → ℕ → ℕ → List ℕ → Layout
 seat page before x xs = text_char page true (cuts_at page before x xs) x
 
-char_is : (page : Page) (before x : ℕ) (xs : List ℕ) (c : Cursor) (rest : Rest) → is_break x ≡ false → is_break before ≡ false → flow_char page true before x xs c rest ≡ seat page before x xs c rest
+char_is : (page : Page) (before x : ℕ) (xs : List ℕ) (c : Cursor) (rest : Rest) → is_break x ≡ false
+    → is_break before ≡ false
+    → flow_char page true before x xs c rest ≡ seat page before x xs c rest
 unfolding flow_char
 char_is page before x xs c rest e f =
     ap (λ (a : Layout). a c rest) (cond_false (is_break x) _ _ e) ∙ ap (λ t. when t (line page.line_break page.indentation) c (λ d. seat page before x xs d rest)) f
 
-cut_is : (page : Page) (b : Bool) (x : ℕ) (c : Cursor) (rest : Rest) → b ≡ true → is_past page.width c ≡ true → text_char page true b x c rest ≡ line page.line_break page.indentation c rest
+cut_is : (page : Page) (b : Bool) (x : ℕ) (c : Cursor) (rest : Rest) → b ≡ true
+    → is_past page.width c ≡ true
+    → text_char page true b x c rest ≡ line page.line_break page.indentation c rest
 cut_is page true x c rest e p = cond_true (is_past page.width c) (line page.line_break page.indentation c rest) (char x c rest) p
 cut_is page false x c rest e p = absurd (cc)
 
-uncut_is : (page : Page) (b : Bool) (x : ℕ) (c : Cursor) (rest : Rest) → (b && is_past page.width c) ≡ false → (x == 39) ≡ false → text_char page true b x c rest ≡ char x c rest
+uncut_is : (page : Page) (b : Bool) (x : ℕ) (c : Cursor) (rest : Rest)
+    → (b && is_past page.width c) ≡ false → (x == 39) ≡ false
+    → text_char page true b x c rest ≡ char x c rest
 uncut_is page true x c rest e q = cond_false (is_past page.width c) (line page.line_break page.indentation c rest) (char x c rest) e
 uncut_is page false x c rest e q = ap (λ t. when t (char 39) c (λ d. char x d rest)) q
 
-doubled_is : (page : Page) (b : Bool) (x : ℕ) (c : Cursor) (rest : Rest) → b ≡ false → (x == 39) ≡ true → text_char page true b x c rest ≡ letter 39 ∷ letter x ∷ rest (moved_by (moved_by c))
+doubled_is : (page : Page) (b : Bool) (x : ℕ) (c : Cursor) (rest : Rest) → b ≡ false
+    → (x == 39) ≡ true
+    → text_char page true b x c rest ≡ letter 39 ∷ letter x ∷ rest (moved_by (moved_by c))
 doubled_is page true x c rest e q = absurd (cc)
 doubled_is page false x c rest e q = ap (λ t. when t (char 39) c (λ d. char x d rest)) q
 
@@ -140,7 +155,8 @@ bool_cases : {P : Type 0} (b : Bool) → (b ≡ true → P) → (b ≡ false →
 bool_cases true p q = p refl
 bool_cases false p q = q refl
 
-fold_may : (b : LineBreak) (n : ℕ) → nat_lt 0 n ≡ true → MayStand 39 (fold (record { end = end_of b; spaces = n }) [])
+fold_may : (b : LineBreak) (n : ℕ) → nat_lt 0 n ≡ true
+    → MayStand 39 (fold (record { end = end_of b; spaces = n }) [])
 unfolding may_turn
 fold_may b n h = h
 
@@ -151,27 +167,33 @@ record CutNeeds (page : Page) (before x : ℕ) (xs : List ℕ) : Type 0 where
   behind : (before == 32) ≡ false
   next : (first xs == 32) ≡ false
 
-cut_needs : (page : Page) (before x : ℕ) (xs : List ℕ) → cuts_at page before x xs ≡ true → CutNeeds page before x xs
+cut_needs : (page : Page) (before x : ℕ) (xs : List ℕ) → cuts_at page before x xs ≡ true
+    → CutNeeds page before x xs
 cut_needs page before x xs e =
     let a = (and_parts page.cuts _ e).1 in
     let b = (and_parts (x == 32) _ a).1 in
     let d = (and_parts (not (before == 32)) _ b).1 in
     record { cuts = (and_parts page.cuts _ e).0; space = eqb-true x 32 (and_parts (x == 32) _ a).0; behind = not-true (before == 32) (and_parts (not (before == 32)) _ b).0; next = not-true (first xs == 32) (and_parts (not (first xs == 32)) _ d).0 }
 
-fold_follows : (last q : QuotedPart) → is_fold q ≡ true → is_raw_blank q ≡ false → is_raw_blank last ≡ false → is_turn last ≡ false → may_follow last q ≡ true
+fold_follows : (last q : QuotedPart) → is_fold q ≡ true → is_raw_blank q ≡ false
+    → is_raw_blank last ≡ false → is_turn last ≡ false → may_follow last q ≡ true
 fold_follows last q a b d e = rw (a, b, d, e) refl
 
-other_follows : (last q : QuotedPart) → is_fold q ≡ false → is_raw_blank q ≡ false → may_follow last q ≡ true
+other_follows : (last q : QuotedPart) → is_fold q ≡ false → is_raw_blank q ≡ false
+    → may_follow last q ≡ true
 other_follows last q a b = rw (a, b) refl
 
-blank_follows : (last q : QuotedPart) → is_fold q ≡ false → is_turn last ≡ false → may_follow last q ≡ true
+blank_follows : (last q : QuotedPart) → is_fold q ≡ false → is_turn last ≡ false
+    → may_follow last q ≡ true
 blank_follows last q a e = rw (a, e) (no_and (is_raw_blank q))
   where
     no_and : (b : Bool) → not (b && false) ≡ true
     no_and true = refl
     no_and false = refl
 
-step_cut : (page : Page) (before x : ℕ) (xs : List ℕ) (c : Cursor) (last : QuotedPart) → (page.cuts ≡ true → 0 < page.indentation) → Shows x → Behind before c last (x ∷ xs) → cuts_at page before x xs ≡ true → is_past page.width c ≡ true → Step page before x xs c last
+step_cut : (page : Page) (before x : ℕ) (xs : List ℕ) (c : Cursor) (last : QuotedPart)
+    → (page.cuts ≡ true → 0 < page.indentation) → Shows x → Behind before c last (x ∷ xs)
+    → cuts_at page before x xs ≡ true → is_past page.width c ≡ true → Step page before x xs c last
 step_cut page before x xs c last deep s h m p =
     let needs = cut_needs page before x xs m in
     let n = page.indentation in
@@ -191,7 +213,9 @@ step_cut page before x xs c last deep s h m p =
       bare = λ f. absurd (cc (sym (ap (λ k. k == 32) needs.space) ∙ f));
     }
 
-step_doubled : (page : Page) (before x : ℕ) (xs : List ℕ) (c : Cursor) (last : QuotedPart) → Shows x → Behind before c last (x ∷ xs) → (x == 39) ≡ true → cuts_at page before x xs ≡ false → Step page before x xs c last
+step_doubled : (page : Page) (before x : ℕ) (xs : List ℕ) (c : Cursor) (last : QuotedPart) → Shows x
+    → Behind before c last (x ∷ xs) → (x == 39) ≡ true → cuts_at page before x xs ≡ false
+    → Step page before x xs c last
 unfolding in_front
 step_doubled page before x xs c last s h q m =
     let same = eqb-true x 39 q in
@@ -210,7 +234,9 @@ step_doubled page before x xs c last s h q m =
       bare = λ f. refl;
     }
 
-step_raw : (page : Page) (before x : ℕ) (xs : List ℕ) (c : Cursor) (last : QuotedPart) → Shows x → Behind before c last (x ∷ xs) → (x == 39) ≡ false → (cuts_at page before x xs && is_past page.width c) ≡ false → Step page before x xs c last
+step_raw : (page : Page) (before x : ℕ) (xs : List ℕ) (c : Cursor) (last : QuotedPart) → Shows x
+    → Behind before c last (x ∷ xs) → (x == 39) ≡ false
+    → (cuts_at page before x xs && is_past page.width c) ≡ false → Step page before x xs c last
 unfolding in_front
 step_raw page before x xs c last s h q m = record {
   part = raw x;
@@ -228,13 +254,16 @@ step_raw page before x xs c last s h q m = record {
   bare = λ f. refl;
 }
 
-quote_uncut : (page : Page) (before x : ℕ) (xs : List ℕ) → (x == 39) ≡ true → cuts_at page before x xs ≡ false
+quote_uncut : (page : Page) (before x : ℕ) (xs : List ℕ) → (x == 39) ≡ true
+    → cuts_at page before x xs ≡ false
 quote_uncut page before x xs q =
     bool_cases (cuts_at page before x xs)
     (λ t. let needs = cut_needs page before x xs t in absurd (cc (sym (ap (λ k. k == 39) needs.space) ∙ q)))
     (λ f. f)
 
-step : (page : Page) (before x : ℕ) (xs : List ℕ) (c : Cursor) (last : QuotedPart) → (page.cuts ≡ true → 0 < page.indentation) → Shows x → Behind before c last (x ∷ xs) → Step page before x xs c last
+step : (page : Page) (before x : ℕ) (xs : List ℕ) (c : Cursor) (last : QuotedPart)
+    → (page.cuts ≡ true → 0 < page.indentation) → Shows x → Behind before c last (x ∷ xs)
+    → Step page before x xs c last
 step page before x xs c last deep s h =
     bool_cases (x == 39)
     (λ q. step_doubled page before x xs c last s h q (quote_uncut page before x xs q))
@@ -258,7 +287,9 @@ record Left (page : Page) (before : ℕ) (c : Cursor) (last : QuotedPart) (value
   bytes : encode_utf8_all letters ≡ spelling parts
   means : meaning parts ≡ encode_utf8_all value
 
-left : (page : Page) (before : ℕ) (c : Cursor) (last : QuotedPart) (value : List ℕ) → (page.cuts ≡ true → 0 < page.indentation) → AllShow value → Behind before c last value → Left page before c last value
+left : (page : Page) (before : ℕ) (c : Cursor) (last : QuotedPart) (value : List ℕ)
+    → (page.cuts ≡ true → 0 < page.indentation) → AllShow value → Behind before c last value
+    → Left page before c last value
 unfolding flow_body in_front IsSpelling spelling meaning
 left page before c last [] deep a h = record {
   parts = [];
@@ -290,12 +321,15 @@ special_left : (p b : Bool) → (not p || b) ≡ false → p ≡ true
 special_left true b e = refl
 special_left false b e = absurd (cc)
 
-shown_first : (unicode : Bool) (before x next : ℕ) → is_special unicode before x next ≡ false → is_printable x ≡ true
+shown_first : (unicode : Bool) (before x next : ℕ) → is_special unicode before x next ≡ false
+    → is_printable x ≡ true
 shown_first unicode before x next e =
     let a = (or_parts _ (x == 32 && is_break next) e).0 in
     special_left (is_printable x) (not unicode && nat_le 0x80 x) a
 
-all_show : (unicode : Bool) (before : ℕ) (xs : List ℕ) → somewhere (is_special unicode) before xs ≡ false → is_one_line xs ≡ true → all_scalars xs ≡ true → AllShow xs
+all_show : (unicode : Bool) (before : ℕ) (xs : List ℕ)
+    → somewhere (is_special unicode) before xs ≡ false → is_one_line xs ≡ true
+    → all_scalars xs ≡ true → AllShow xs
 unfolding somewhere
 all_show unicode before [] e l g = tt
 all_show unicode before (x ∷ xs) e l g = (
@@ -307,14 +341,16 @@ nothing_special : (unicode : Bool) → somewhere (is_special unicode) 32 [] ≡ 
 unfolding somewhere
 nothing_special unicode = refl
 
-no_special : (unicode : Bool) (xs : List ℕ) → (allowed unicode xs).single ≡ true → somewhere (is_special unicode) 32 xs ≡ false
+no_special : (unicode : Bool) (xs : List ℕ) → (allowed unicode xs).single ≡ true
+    → somewhere (is_special unicode) 32 xs ≡ false
 unfolding allowed
 no_special unicode [] e = nothing_special unicode
 no_special unicode (x ∷ xs) e = (or_parts _ (somewhere is_break_space 32 (x ∷ xs)) (not-true _ e)).0
 
 -- ---- single quoted text
 
-between : (xs bs : List ℕ) → encode_utf8_all xs ≡ bs → encode_utf8_all (39 ∷ (xs ++ 39 ∷ [])) ≡ 39 ∷ (bs ++ 39 ∷ [])
+between : (xs bs : List ℕ) → encode_utf8_all xs ≡ bs
+    → encode_utf8_all (39 ∷ (xs ++ 39 ∷ [])) ≡ 39 ∷ (bs ++ 39 ∷ [])
 between xs bs e =
     let one : encode_utf8_all (39 ∷ []) ≡ 39 ∷ [] = low_encodes (39 ∷ []) (omega arith, tt) in
     rw (encode_ascii 39 (omega arith), encodes-append xs (39 ∷ []), e) (ap (λ t. 39 ∷ (bs ++ t)) one)
@@ -322,8 +358,11 @@ between xs bs e =
 start_behind : (c : Cursor) (value : List ℕ) → Behind 32 (moved_by c) doubled value
 start_behind c value = record { inside = refl; blank = λ t. absurd (cc); turn = λ t. absurd (cc); bare = λ f. refl }
 
-pub single_back : (page : Page) (c : Cursor) (value : List ℕ) → IsUtf8 value → (page.cuts ≡ true → 0 < page.indentation) → (allowed page.unicode (chars value)).single ≡ true → is_one_line (chars value) ≡ true
-    → ValueIsReadBackBefore (λ b. b ≡ 39 → ⊥) single_quoted_at (between_single page (chars value)) c value
+pub single_back : (page : Page) (c : Cursor) (value : List ℕ) → IsUtf8 value
+    → (page.cuts ≡ true → 0 < page.indentation) → (allowed page.unicode (chars value)).single ≡ true
+    → is_one_line (chars value) ≡ true
+    → ValueIsReadBackBefore (λ b. b ≡ 39 → ⊥) single_quoted_at (between_single page (chars value)) c
+    value
 single_back page c value u deep a l =
     let good = all_show page.unicode 32 (chars value) (no_special page.unicode (chars value) a) l (scalars-chars value u) in
     let r = left page 32 (moved_by c) doubled (chars value) deep good (start_behind c (chars value)) in

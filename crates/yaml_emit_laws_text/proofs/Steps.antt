@@ -30,7 +30,8 @@ and_false false = refl
 
 -- ---- a byte of a gap
 
-gap_more : (xs : List ℕ) (b : ℕ) → are_gap xs ≡ true → (b == 32 || (b == 10 || b == 13)) ≡ true → are_gap (xs ++ b ∷ []) ≡ true
+gap_more : (xs : List ℕ) (b : ℕ) → are_gap xs ≡ true → (b == 32 || (b == 10 || b == 13)) ≡ true
+    → are_gap (xs ++ b ∷ []) ≡ true
 gap_more [] b e f = rw f refl
 gap_more (x ∷ xs) b e f =
     let front = and_left (x == 32 || (x == 10 || x == 13)) (are_gap xs) e in
@@ -48,7 +49,9 @@ length_more : (xs : List ℕ) (b : ℕ) → length (xs ++ b ∷ []) ≡ length x
 length_more [] b = refl
 length_more (x ∷ xs) b = let e = length_more xs b in omega arith
 
-pub gap_byte : (text : List ℕ) (c e : Cursor) (p b : ℕ) (ws : List Word) (d : ℕ) → (b == 32 || (b == 10 || b == 13)) ≡ true → byte text p ≡ b → (e.column ≡ 0 → Starts text (p + 1)) → e.kept ≡ c.kept → Stage text c p ws d
+pub gap_byte : (text : List ℕ) (c e : Cursor) (p b : ℕ) (ws : List Word) (d : ℕ)
+    → (b == 32 || (b == 10 || b == 13)) ≡ true → byte text p ≡ b
+    → (e.column ≡ 0 → Starts text (p + 1)) → e.kept ≡ c.kept → Stage text c p ws d
     → Stage text e (p + 1) ws d
 gap_byte text c e p b ws d k h column same s =
     let r = (reached (lexemes text ws)).index in
@@ -69,7 +72,8 @@ pub letter_low : (x : ℕ) (t : List Item) → nat_lt x 128 ≡ true → bytes (
 unfolding encode char_bytes
 letter_low x t e = rw e refl
 
-pub left_letter : (text : List ℕ) (p x : ℕ) (t : List Item) → nat_lt x 128 ≡ true → Left text p (bytes (letter x ∷ t)) → Left text p (x ∷ bytes t)
+pub left_letter : (text : List ℕ) (p x : ℕ) (t : List Item) → nat_lt x 128 ≡ true
+    → Left text p (bytes (letter x ∷ t)) → Left text p (x ∷ bytes t)
 left_letter text p x t e l = subst (λ (bs : List ℕ). Left text p bs) (letter_low x t e) l
 
 -- a place: words up to it, what is left of the text, and where the layout is
@@ -85,7 +89,8 @@ not_start n e = omega arith
 -- ---- layouts of gaps
 
 -- a space, where one is due
-pub gap_here : (text : List ℕ) (c : Cursor) (p : ℕ) (ws : List Word) (d : ℕ) (rest : Rest) → Stage text c p ws d → Left text p (bytes (gap c rest)) → Here text rest ws d
+pub gap_here : (text : List ℕ) (c : Cursor) (p : ℕ) (ws : List Word) (d : ℕ) (rest : Rest)
+    → Stage text c p ws d → Left text p (bytes (gap c rest)) → Here text rest ws d
 gap_here text c p ws d rest s l =
     elim (cases_Bool c.white) [
       | inl e ↦ record { cursor = c; place = p; stage = s; left = subst (λ (b : Bool). Left text p (bytes (if b then rest c else blank c rest))) e l }
@@ -100,7 +105,9 @@ gap_here text c p ws d rest s l =
     ]
 
 -- spaces
-pub blanks_here : (n : ℕ) (text : List ℕ) (c : Cursor) (p : ℕ) (ws : List Word) (d : ℕ) (rest : Rest) → Stage text c p ws d → Left text p (bytes (blanks n c rest)) → Here text rest ws d
+pub blanks_here : (n : ℕ) (text : List ℕ) (c : Cursor) (p : ℕ) (ws : List Word) (d : ℕ)
+    (rest : Rest) → Stage text c p ws d → Left text p (bytes (blanks n c rest))
+    → Here text rest ws d
 unfolding blanks
 blanks_here zero text c p ws d rest s l = record { cursor = c; place = p; stage = s; left = l }
 blanks_here (suc n) text c p ws d rest s l =
@@ -127,7 +134,9 @@ pub behind_return : (text : List ℕ) (p : ℕ) → byte text p ≡ 13 → Start
 behind_return text p h n = behind_break text p (rw h (return_ends _ _ (byte text (p + 1)) n))
 
 -- the break that is set
-pub new_line_here : (b : LineBreak) (text : List ℕ) (c : Cursor) (p : ℕ) (ws : List Word) (d : ℕ) (rest : Rest) → Stage text c p ws d → Left text p (bytes (new_line b c rest)) → Here text rest ws d
+pub new_line_here : (b : LineBreak) (text : List ℕ) (c : Cursor) (p : ℕ) (ws : List Word) (d : ℕ)
+    (rest : Rest) → Stage text c p ws d → Left text p (bytes (new_line b c rest))
+    → Here text rest ws d
 new_line_here Lf text c p ws d rest s l =
     let m = left_letter text p 10 _ refl l in
     let h = left_first text p 10 _ m in
@@ -159,7 +168,9 @@ new_line_here CrLf text c p ws d rest s l =
     }
 
 -- a line, where the last one is not bare
-pub line_here : (b : LineBreak) (n : ℕ) (text : List ℕ) (c : Cursor) (p : ℕ) (ws : List Word) (d : ℕ) (rest : Rest) → c.bare ≡ false → Stage text c p ws d → Left text p (bytes (line b n c rest)) → Here text rest ws d
+pub line_here : (b : LineBreak) (n : ℕ) (text : List ℕ) (c : Cursor) (p : ℕ) (ws : List Word)
+    (d : ℕ) (rest : Rest) → c.bare ≡ false → Stage text c p ws d
+    → Left text p (bytes (line b n c rest)) → Here text rest ws d
 unfolding line
 line_here b n text c p ws d rest e s l =
     let must : must_break n c ≡ true = rw e refl in
@@ -168,14 +179,20 @@ line_here b n text c p ws d rest e s l =
     blanks_here (n - h.cursor.column) text h.cursor h.place ws d rest h.stage h.left
 
 -- what follows a gap walks from there
-pub from_here : (a : Layout) (K : List Kind → List Kind) (B : List TokenBody → List TokenBody) (d e : ℕ) (rest : Rest) (text : List ℕ) (ws : List Word) → Here text (λ c. a c rest) ws d → ((c : Cursor) → Walks a K B d e c rest)
+pub from_here : (a : Layout) (K : List Kind → List Kind) (B : List TokenBody → List TokenBody)
+    (d e : ℕ) (rest : Rest) (text : List ℕ) (ws : List Word) → Here text (λ c. a c rest) ws d
+    → ((c : Cursor) → Walks a K B d e c rest)
     → Goes text rest e (K (word_kinds ws)) B ws
 from_here a K B d e rest text ws h w = w h.cursor text h.place ws h.stage h.left
 
-pub walks_gap : (a : Layout) (K : List Kind → List Kind) (B : List TokenBody → List TokenBody) (d e : ℕ) (c : Cursor) (rest : Rest) → ((c : Cursor) → Walks a K B d e c rest) → Walks (gap ▹ a) K B d e c rest
+pub walks_gap : (a : Layout) (K : List Kind → List Kind) (B : List TokenBody → List TokenBody)
+    (d e : ℕ) (c : Cursor) (rest : Rest) → ((c : Cursor) → Walks a K B d e c rest)
+    → Walks (gap ▹ a) K B d e c rest
 walks_gap a K B d e c rest w text p ws s l = from_here a K B d e rest text ws (gap_here text c p ws d (λ k. a k rest) s l) w
 
-pub walks_line : (b : LineBreak) (n : ℕ) (a : Layout) (K : List Kind → List Kind) (B : List TokenBody → List TokenBody) (d e : ℕ) (c : Cursor) (rest : Rest) → c.bare ≡ false → ((c : Cursor) → Walks a K B d e c rest)
+pub walks_line : (b : LineBreak) (n : ℕ) (a : Layout) (K : List Kind → List Kind)
+    (B : List TokenBody → List TokenBody) (d e : ℕ) (c : Cursor) (rest : Rest) → c.bare ≡ false
+    → ((c : Cursor) → Walks a K B d e c rest)
     → Walks (line b n ▹ a) K B d e c rest
 walks_line b n a K B d e c rest bare w text p ws s l = from_here a K B d e rest text ws (line_here b n text c p ws d (λ k. a k rest) bare s l) w
 
@@ -185,11 +202,15 @@ deep_bytes true t = refl
 deep_bytes false t = refl
 
 -- the mark of an indentation that is too deep takes no byte
-pub walks_checked : (n : ℕ) (a : Layout) (K : List Kind → List Kind) (B : List TokenBody → List TokenBody) (d e : ℕ) (c : Cursor) (rest : Rest) → Walks a K B d e c rest → Walks (checked n ▹ a) K B d e c rest
+pub walks_checked : (n : ℕ) (a : Layout) (K : List Kind → List Kind)
+    (B : List TokenBody → List TokenBody) (d e : ℕ) (c : Cursor) (rest : Rest)
+    → Walks a K B d e c rest → Walks (checked n ▹ a) K B d e c rest
 walks_checked n a K B d e c rest w text p ws s l = w text p ws s (subst (λ (bs : List ℕ). Left text p bs) (deep_bytes (nat_lt MOST n) (a c rest)) l)
 
 -- one behind the other
-pub both : (a b : Layout) (K L : List Kind → List Kind) (B C : List TokenBody → List TokenBody) (d e f : ℕ) (c : Cursor) (rest : Rest) → Walks a K B d e c (λ k. b k rest) → ((k : Cursor) → k.bare ≡ false → Walks b L C e f k rest)
+pub both : (a b : Layout) (K L : List Kind → List Kind) (B C : List TokenBody → List TokenBody)
+    (d e f : ℕ) (c : Cursor) (rest : Rest) → Walks a K B d e c (λ k. b k rest)
+    → ((k : Cursor) → k.bare ≡ false → Walks b L C e f k rest)
     → Walks (a ▹ b) (λ ks. L (K ks)) (λ bs. B (C bs)) d f c rest
 both a b K L B C d e f c rest w v text p ws s l =
     let g = w text p ws s l in
@@ -210,12 +231,17 @@ both a b K L B C d e f c rest w v text p ws s l =
 abbrev pub word_of : Kind → ℕ → WordText → Word
 word_of k p said = record { kind = k; place = p; said = said }
 
-reached_index : (text : List ℕ) (k : Kind) (start end : ℕ) → is_end k ≡ false → (end_in text k start end).index ≡ end
+reached_index : (text : List ℕ) (k : Kind) (start end : ℕ) → is_end k ≡ false
+    → (end_in text k start end).index ≡ end
 reached_index text k start end e = rw e refl
 
 -- a word behind which a line may start
-pub push_to : GapReads → (text : List ℕ) (c e : Cursor) (p : ℕ) (ws : List Word) (d : ℕ) (k : Kind) (said : WordText) → Stage text c p ws d → begins_lexeme text p ≡ true → kind_at (nat_lt 0 d) text p ≡ Some k
-    → word_at k (nat_lt 0 d) 0 text p ≡ Ok said → is_end k ≡ false → (e.column ≡ 0 → Starts text said.reached) → e.kept ≡ c.kept → Stage text e said.reached (word_of k p said ∷ ws) (depth_after k d)
+pub push_to : GapReads
+    → (text : List ℕ) (c e : Cursor) (p : ℕ) (ws : List Word) (d : ℕ) (k : Kind) (said : WordText)
+    → Stage text c p ws d → begins_lexeme text p ≡ true → kind_at (nat_lt 0 d) text p ≡ Some k
+    → word_at k (nat_lt 0 d) 0 text p ≡ Ok said → is_end k ≡ false
+    → (e.column ≡ 0 → Starts text said.reached) → e.kept ≡ c.kept
+    → Stage text e said.reached (word_of k p said ∷ ws) (depth_after k d)
 unfolding lexemes Stand
 push_to law text c e p ws d k said s begins kind reads more column same =
     let h = lexemes text ws in
@@ -240,8 +266,11 @@ push_to law text c e p ws d k said s begins kind reads more column same =
     }
 
 -- one in the midst of a line
-pub push : GapReads → (text : List ℕ) (c e : Cursor) (p : ℕ) (ws : List Word) (d : ℕ) (k : Kind) (said : WordText) → Stage text c p ws d → begins_lexeme text p ≡ true → kind_at (nat_lt 0 d) text p ≡ Some k
-    → word_at k (nat_lt 0 d) 0 text p ≡ Ok said → is_end k ≡ false → (e.column ≡ 0 → ⊥) → e.kept ≡ c.kept → Stage text e said.reached (word_of k p said ∷ ws) (depth_after k d)
+pub push : GapReads
+    → (text : List ℕ) (c e : Cursor) (p : ℕ) (ws : List Word) (d : ℕ) (k : Kind) (said : WordText)
+    → Stage text c p ws d → begins_lexeme text p ≡ true → kind_at (nat_lt 0 d) text p ≡ Some k
+    → word_at k (nat_lt 0 d) 0 text p ≡ Ok said → is_end k ≡ false → (e.column ≡ 0 → ⊥)
+    → e.kept ≡ c.kept → Stage text e said.reached (word_of k p said ∷ ws) (depth_after k d)
 push law text c e p ws d k said s begins kind reads more column same = push_to law text c e p ws d k said s begins kind reads more (λ z. absurd (column z)) same
 
 -- ---- signs
@@ -262,9 +291,12 @@ pub record Sign (b : ℕ) : Type 0 where
 pub sign_begins : (text : List ℕ) (p b : ℕ) → Sign b → byte text p ≡ b → begins_lexeme text p ≡ true
 sign_begins text p b s h = rw (h, s.tab, s.space, s.hash, s.order, s.calm, and_false) refl
 
-pub sign_starts : (text : List ℕ) (p x : ℕ) → byte text p ≡ x → (x == 32) ≡ false → (x == 9) ≡ false → (x == 35) ≡ false → (x == 0xEF) ≡ false → ((c d : ℕ) → break_of x c d ≡ 0) → begins_lexeme text p ≡ true
+pub sign_starts : (text : List ℕ) (p x : ℕ) → byte text p ≡ x → (x == 32) ≡ false → (x == 9) ≡ false
+    → (x == 35) ≡ false → (x == 0xEF) ≡ false → ((c d : ℕ) → break_of x c d ≡ 0)
+    → begins_lexeme text p ≡ true
 sign_starts text p x h a b c d e = rw (h, a, b, c, d, e, and_false) refl
 
-pub sign_kind : (flow : Bool) (text : List ℕ) (p b : ℕ) (k : Kind) → Sign b → byte text p ≡ b → ((alone : Bool) → indicator_of flow alone b ≡ Some k) → kind_at flow text p ≡ Some k
+pub sign_kind : (flow : Bool) (text : List ℕ) (p b : ℕ) (k : Kind) → Sign b → byte text p ≡ b
+    → ((alone : Bool) → indicator_of flow alone b ≡ Some k) → kind_at flow text p ≡ Some k
 unfolding kind_at is_document_start is_document_end
 sign_kind flow text p b k s h is = rw (h, s.some, s.percent, s.dash, s.dot, and_false, is) refl

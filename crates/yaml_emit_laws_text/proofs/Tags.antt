@@ -54,25 +54,43 @@ mark_kind : (flow alone : Bool) → indicator_of flow alone 33 ≡ Some kinds.Ta
 unfolding indicator_of
 mark_kind flow alone = refl
 
-tag_word : (flow : Bool) (text : List ℕ) (p : ℕ) → word_at kinds.Tag flow 0 text p ≡ tagged (tag_at flow text p)
+tag_word : (flow : Bool) (text : List ℕ) (p : ℕ)
+    → word_at kinds.Tag flow 0 text p ≡ tagged (tag_at flow text p)
 unfolding word_at
 tag_word flow text p = refl
 
-said_tag : (r : Result TagText Wrong) (t : TagText) → r ≡ Ok t → tagged r ≡ Ok (record { body = tokens.tag t.handle t.suffix; end = t.end; reached = t.end; broke = false })
+said_tag : (r : Result TagText Wrong) (t : TagText) → r ≡ Ok t
+    → tagged r ≡ Ok (record {
+      body = tokens.tag t.handle t.suffix;
+      end = t.end;
+      reached = t.end;
+      broke = false;
+    })
 said_tag r t e = rw e refl
 
-space_ends : (flow : Bool) (text : List ℕ) (p : ℕ) → byte text p ≡ 32 → may_end_tag flow text p ≡ true
+space_ends : (flow : Bool) (text : List ℕ) (p : ℕ) → byte text p ≡ 32
+    → may_end_tag flow text p ≡ true
 space_ends flow text p h = rw h refl
 
-text_is : (s : Split) (e : ℕ) → tagged (Ok (tag_text s e)) ≡ Ok (record { body = tag_body s; end = e; reached = e; broke = false })
+text_is : (s : Split) (e : ℕ)
+    → tagged (Ok (tag_text s e)) ≡ Ok
+    (record { body = tag_body s; end = e; reached = e; broke = false })
 text_is (shorthand handle suffix) e = refl
 text_is (verbatim t) e = refl
 
 -- a word that begins with `!`, before a space
 word_walks : GapReads → (more : List ℕ) → are_ascii more ≡ true → (body : TokenBody)
-    → ((flow : Bool) (text : List ℕ) (p : ℕ) → Has text p (33 ∷ more) → byte text (p + length (33 ∷ more)) ≡ 32
-    → word_at kinds.Tag flow 0 text p ≡ Ok (record { body = body; end = p + length (33 ∷ more); reached = p + length (33 ∷ more); broke = false }))
-    → (b : Layout) (K : List Kind → List Kind) (B : List TokenBody → List TokenBody) (d e : ℕ) (rest : Rest) → BeginsBlank b rest → ((c : Cursor) → Walks b K B d e c rest) → (c : Cursor)
+    → ((flow : Bool) (text : List ℕ) (p : ℕ) → Has text p (33 ∷ more)
+    → byte text (p + length (33 ∷ more)) ≡ 32
+    → word_at kinds.Tag flow 0 text p
+    ≡ Ok (record {
+      body = body;
+      end = p + length (33 ∷ more);
+      reached = p + length (33 ∷ more);
+      broke = false;
+    }))
+    → (b : Layout) (K : List Kind → List Kind) (B : List TokenBody → List TokenBody) (d e : ℕ)
+    (rest : Rest) → BeginsBlank b rest → ((c : Cursor) → Walks b K B d e c rest) → (c : Cursor)
     → Walks (word (33 ∷ more) ▹ b) (λ ks. K (kinds.Tag ∷ ks)) (λ bs. body ∷ B bs) d e c rest
 unfolding letters
 word_walks law more low body reads b K B d e rest spaced w c =
@@ -99,7 +117,8 @@ mark_walks law lone b K B d e rest spaced w c =
     word_walks law [] refl (tokens.tag [] (33 ∷ []))
     (λ flow text p has space. let (h, more) = has in tag_word flow text p ∙ said_tag (tag_at flow text p) (record { handle = []; suffix = 33 ∷ []; end = p + 1 }) (lone flow text p h space)) b K B d e rest spaced w c
 
-pub tag_walks : GapReads → SplitTagsAreRead → WrittenTagsAreReadable → ReadableTagsAreAscii → (o : Opening) → IsWritableOpening o → TagWalks o.directives
+pub tag_walks : GapReads → SplitTagsAreRead → WrittenTagsAreReadable → ReadableTagsAreAscii
+    → (o : Opening) → IsWritableOpening o → TagWalks o.directives
 tag_walks law split readable ascii o (right, utf8) t (some, text_utf8) b K B d e rest spaced w c =
     let s = split_tag o.directives t in
     let may = readable o right utf8 t text_utf8 some in

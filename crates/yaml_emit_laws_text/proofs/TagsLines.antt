@@ -12,8 +12,15 @@ use Rattle.yaml_emit_layout.specs.parse_model.Events.{TagDirective}
 use Rattle.yaml_emit_laws_text.specs.TagsLaws.{IsReadableDirective, directive_bytes}
 use Rattle.yaml_emit_laws_text.proofs.Pieces.{pieces_of, text_is, bytes_are, many_are, text_uri}
 
-pub directive_read : (d : TagDirective) → IsReadableDirective d → (text : List ℕ) (p : ℕ) → HasAt text p (directive_bytes d) → is_break text (p + length (directive_bytes d)) ≡ true
-    → let end = p + length (directive_bytes d) in directive_at text p ≡ Ok record { said = directives.tag d.handle d.prefix; end = end; place = end + break_width text end }
+pub directive_read : (d : TagDirective) → IsReadableDirective d → (text : List ℕ) (p : ℕ)
+    → HasAt text p (directive_bytes d) → is_break text (p + length (directive_bytes d)) ≡ true
+    → let end = p + length (directive_bytes d) in
+    directive_at text p ≡ Ok record {
+      said = directives.tag d.handle d.prefix;
+      end = end;
+      place =
+          end + break_width text end;
+    }
 directive_read d (shaped, utf8, some) text p h stop =
     let pieces = pieces_of true d.prefix in
     let P : List ℕ → Type 0 =

@@ -15,7 +15,8 @@ ReadsBehind handle suffix front = (flow : Bool) (text : List ℕ) (p : ℕ) → 
     → tag_at flow text p ≡ Ok record { handle = handle; suffix = suffix; end = p + length front }
 
 tag_same : (handle s t : List ℕ) (e f : ℕ) → s ≡ t → e ≡ f
-    → let one : TagText = record { handle = handle; suffix = s; end = e } in let other : TagText = record { handle = handle; suffix = t; end = f } in
+    → let one : TagText = record { handle = handle; suffix = s; end = e } in
+    let other : TagText = record { handle = handle; suffix = t; end = f } in
     one ≡ other
 tag_same handle s t e f a b = rw (a, b) refl
 
@@ -34,7 +35,8 @@ spelt wide bs some = record {
   some = omega (arith, some, many_are wide bs);
 }
 
-ends_so : (flow : Bool) (text : List ℕ) (e f : ℕ) → e ≡ f → may_end_tag flow text e ≡ true → may_end_tag flow text f ≡ true
+ends_so : (flow : Bool) (text : List ℕ) (e f : ℕ) → e ≡ f → may_end_tag flow text e ≡ true
+    → may_end_tag flow text f ≡ true
 ends_so flow text e f same stop = subst (λ (n : ℕ). may_end_tag flow text n ≡ true) same stop
 
 -- The three spellings, of what a URI's text is.
@@ -60,13 +62,15 @@ verbatim_text uri = 33 ∷ 60 ∷ (uri ++ bracket)
 bare_length : (uri : List ℕ) → length (bare_text uri) ≡ suc (length uri)
 bare_length uri = refl
 
-named_length : (name uri : List ℕ) → length (named_text name uri) ≡ suc (length name + suc (length uri))
+named_length : (name uri : List ℕ)
+    → length (named_text name uri) ≡ suc (length name + suc (length uri))
 named_length name uri = ap suc (length-append name (bare_text uri))
 
 verbatim_length : (uri : List ℕ) → length (verbatim_text uri) ≡ suc (suc (length uri + 1))
 verbatim_length uri = ap (λ (n : ℕ). suc (suc n)) (length-append uri bracket)
 
-bare_read : (suffix : List ℕ) → IsUtf8 suffix → 0 < length suffix → ReadsBehind bare_handle suffix (bare_text (uri_text false suffix))
+bare_read : (suffix : List ℕ) → IsUtf8 suffix → 0 < length suffix
+    → ReadsBehind bare_handle suffix (bare_text (uri_text false suffix))
 bare_read suffix utf8 some flow text p h stop =
     let s = spelt false suffix some in
     let long = s.long in
@@ -76,7 +80,8 @@ bare_read suffix utf8 some flow text p h stop =
     bare_is_read flow text p (pieces_of false suffix) there s.some (text_uri false suffix utf8) (unmarked suffix) (ends_so flow text _ _ e stop)
     ∙ ap (λ (t : TagText). Ok t) (tag_same bare_handle (uri_bytes (pieces_of false suffix)) suffix _ _ s.bytes (sym e))
 
-named_read : (name suffix : List ℕ) → are_alphas name ≡ true → IsUtf8 suffix → 0 < length suffix → ReadsBehind (named_handle name) suffix (named_text name (uri_text false suffix))
+named_read : (name suffix : List ℕ) → are_alphas name ≡ true → IsUtf8 suffix → 0 < length suffix
+    → ReadsBehind (named_handle name) suffix (named_text name (uri_text false suffix))
 named_read name suffix alphas utf8 some flow text p h stop =
     let s = spelt false suffix some in
     let long = s.long in
@@ -86,7 +91,8 @@ named_read name suffix alphas utf8 some flow text p h stop =
     named_is_read flow text p name (pieces_of false suffix) there alphas s.some (text_uri false suffix utf8) (ends_so flow text _ _ e stop)
     ∙ ap (λ (t : TagText). Ok t) (tag_same (named_handle name) (uri_bytes (pieces_of false suffix)) suffix _ _ s.bytes (sym e))
 
-verbatim_read : (tag : List ℕ) → IsUtf8 tag → 0 < length tag → ReadsBehind [] tag (verbatim_text (uri_text true tag))
+verbatim_read : (tag : List ℕ) → IsUtf8 tag → 0 < length tag
+    → ReadsBehind [] tag (verbatim_text (uri_text true tag))
 verbatim_read tag utf8 some flow text p h stop =
     let s = spelt true tag some in
     let long = s.long in
@@ -99,14 +105,16 @@ verbatim_read tag utf8 some flow text p h stop =
 named_grouped : (name uri : List ℕ) → named_text name uri ≡ named_handle name ++ uri
 named_grouped name uri = ap bare_text (sym (append_assoc name bare_handle uri))
 
-shorthand_read : (handle suffix : List ℕ) → IsShaped handle → IsUtf8 suffix → 0 < length suffix → ReadsBehind handle suffix (handle ++ uri_text false suffix)
+shorthand_read : (handle suffix : List ℕ) → IsShaped handle → IsUtf8 suffix → 0 < length suffix
+    → ReadsBehind handle suffix (handle ++ uri_text false suffix)
 shorthand_read handle suffix (inl e) utf8 some =
     subst (λ (h : List ℕ). ReadsBehind h suffix (h ++ uri_text false suffix)) (sym e) (bare_read suffix utf8 some)
 shorthand_read handle suffix (inr (name, e, alphas)) utf8 some =
     let read = subst (λ (x : List ℕ). ReadsBehind (named_handle name) suffix x) (named_grouped name (uri_text false suffix)) (named_read name suffix alphas utf8 some) in
     subst (λ (h : List ℕ). ReadsBehind h suffix (h ++ uri_text false suffix)) (sym e) read
 
-pub split_read : (split : Split) → IsReadable split → (flow : Bool) (text : List ℕ) (p : ℕ) → HasAt text p (spelled split) → may_end_tag flow text (p + length (spelled split)) ≡ true
+pub split_read : (split : Split) → IsReadable split → (flow : Bool) (text : List ℕ) (p : ℕ)
+    → HasAt text p (spelled split) → may_end_tag flow text (p + length (spelled split)) ≡ true
     → tag_at flow text p ≡ Ok (tag_text split (p + length (spelled split)))
 unfolding spelled
 split_read (shorthand handle suffix) (shape, utf8, some) flow text p h stop = shorthand_read handle suffix shape utf8 some flow text p h stop

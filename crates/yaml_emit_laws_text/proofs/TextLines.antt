@@ -29,22 +29,27 @@ feed_width : (text : List ℕ) (q : ℕ) → byte text q ≡ 10 → break_width 
 unfolding break_of
 feed_width text q h = rw h refl
 
-return_width : (text : List ℕ) (q : ℕ) → byte text q ≡ 13 → (byte text (q + 1) ≡ 10 → ⊥) → break_width text q ≡ 1
+return_width : (text : List ℕ) (q : ℕ) → byte text q ≡ 13 → (byte text (q + 1) ≡ 10 → ⊥)
+    → break_width text q ≡ 1
 unfolding break_of
 return_width text q h calm = let e : (byte text (q + 1) == 10) ≡ false = grind (arith, nat_tests) in rw (h, e) refl
 
-both_width : (text : List ℕ) (q : ℕ) → byte text q ≡ 13 → byte text (q + 1) ≡ 10 → break_width text q ≡ 2
+both_width : (text : List ℕ) (q : ℕ) → byte text q ≡ 13 → byte text (q + 1) ≡ 10
+    → break_width text q ≡ 2
 unfolding break_of
 both_width text q h k = rw (h, k) refl
 
-broken_by : (text : List ℕ) (q : ℕ) (rest : Rest) (kept : Bool) (n : ℕ) → break_width text q ≡ n → nat_lt 0 n ≡ true → Starts text (q + n) → Left text (q + n) (bytes (rest (at_line kept))) → Broken text q rest kept
+broken_by : (text : List ℕ) (q : ℕ) (rest : Rest) (kept : Bool) (n : ℕ) → break_width text q ≡ n
+    → nat_lt 0 n ≡ true → Starts text (q + n) → Left text (q + n) (bytes (rest (at_line kept)))
+    → Broken text q rest kept
 broken_by text q rest kept n width some starts left = record {
   is = ap (λ k. nat_lt 0 k) width ∙ some;
   starts = subst (λ k. Starts text (q + k)) (sym width) starts;
   left = subst (λ k. Left text (q + k) (bytes (rest (at_line kept)))) (sym width) left;
 }
 
-new_line_broken : (b : LineBreak) (text : List ℕ) (c : Cursor) (q : ℕ) (rest : Rest) → NoFeed rest → Left text q (bytes (new_line b c rest)) → Broken text q rest c.kept
+new_line_broken : (b : LineBreak) (text : List ℕ) (c : Cursor) (q : ℕ) (rest : Rest) → NoFeed rest
+    → Left text q (bytes (new_line b c rest)) → Broken text q rest c.kept
 new_line_broken Lf text c q rest calm l =
     let m = left_letter text q 10 (rest (at_line c.kept)) refl l in
     let h = left_first text q 10 (bytes (rest (at_line c.kept))) m in
@@ -65,7 +70,9 @@ new_line_broken CrLf text c q rest calm l =
     (subst (λ n. Left text n (bytes (rest (at_line c.kept)))) two (left_more text (q + 1) 10 (bytes (rest (at_line c.kept))) k))
 
 -- the end of a line that isn't bare
-pub line_broken : (b : LineBreak) (text : List ℕ) (c : Cursor) (q : ℕ) (rest : Rest) → c.bare ≡ false → NoFeed rest → Left text q (bytes (line b 0 c rest)) → Broken text q rest c.kept
+pub line_broken : (b : LineBreak) (text : List ℕ) (c : Cursor) (q : ℕ) (rest : Rest)
+    → c.bare ≡ false → NoFeed rest → Left text q (bytes (line b 0 c rest))
+    → Broken text q rest c.kept
 unfolding line blanks
 line_broken b text c q rest e calm l =
     let must : must_break 0 c ≡ true = rw e refl in

@@ -15,7 +15,8 @@ use Rattle.yaml_emit_laws_text.proofs.QuotedReading.{has_front, has_rest, Read, 
 
 -- ---- escapes
 
-columns : (text : List ℕ) (p : ℕ) (xs : List ℕ) → AreCalm xs → Has text p xs → 0 < column_at text p → 0 < column_at text (p + length xs)
+columns : (text : List ℕ) (p : ℕ) (xs : List ℕ) → AreCalm xs → Has text p xs → 0 < column_at text p
+    → 0 < column_at text (p + length xs)
 columns text p [] a h c = rw add-zero c
 columns text p (x ∷ xs) (a, b) (e, h) c =
     let same : p + 1 + length xs ≡ p + suc (length xs) = omega arith in
@@ -24,19 +25,22 @@ columns text p (x ∷ xs) (a, b) (e, h) c =
 slash_calm : Calm 92
 slash_calm = calm_from 92 (omega arith) (omega arith)
 
-backslash : (text : List ℕ) (p : ℕ) → 0 < column_at text p → byte text p ≡ 92 → standing_at 34 text p ≡ escape_at text p
+backslash : (text : List ℕ) (p : ℕ) → 0 < column_at text p → byte text p ≡ 92
+    → standing_at 34 text p ≡ escape_at text p
 unfolding standing_at
 backslash text p c e =
     let z : break_width text p ≡ 0 = rw e (calm_break 92 _ _ slash_calm) in
     rw (in_line text p c, z, e) refl
 
-named_at : (text : List ℕ) (p l : ℕ) (bs : List ℕ) → byte text (p + 1) ≡ l → Calm l → hex_len l ≡ 0 → simple_escape l ≡ Some bs → escape_at text p ≡ Pieces (Kept bs ∷ []) (p + 2)
+named_at : (text : List ℕ) (p l : ℕ) (bs : List ℕ) → byte text (p + 1) ≡ l → Calm l → hex_len l ≡ 0
+    → simple_escape l ≡ Some bs → escape_at text p ≡ Pieces (Kept bs ∷ []) (p + 2)
 unfolding escape_at
 named_at text p l bs e a n s =
     let z : break_width text (p + 1) ≡ 0 = rw e (calm_break l _ _ a) in
     rw (z, e, n, s) refl
 
-numbered_at : (text : List ℕ) (p l n c : ℕ) → byte text (p + 1) ≡ l → Calm l → hex_len l ≡ n → nat_lt 0 n ≡ true → hex_value text (p + 2) n ≡ Some c → is_scalar c ≡ true
+numbered_at : (text : List ℕ) (p l n c : ℕ) → byte text (p + 1) ≡ l → Calm l → hex_len l ≡ n
+    → nat_lt 0 n ≡ true → hex_value text (p + 2) n ≡ Some c → is_scalar c ≡ true
     → escape_at text p ≡ Pieces (Kept (encode_utf8 c) ∷ []) (p + 2 + n)
 unfolding escape_at
 numbered_at text p l n c e a h more v s =
@@ -44,12 +48,16 @@ numbered_at text p l n c e a h more v s =
     rw (z, e, h, more, v, s) refl
 
 -- what stands behind a backslash
-escape_run : (text : List ℕ) (p : ℕ) (xs bs : List ℕ) → 0 < column_at text p → AreCalm xs → Has text p (92 ∷ xs)
-    → escape_at text p ≡ Pieces (Kept bs ∷ []) (p + length (92 ∷ xs)) → Through 34 text p (Kept bs ∷ []) (p + length (92 ∷ xs))
+escape_run : (text : List ℕ) (p : ℕ) (xs bs : List ℕ) → 0 < column_at text p → AreCalm xs
+    → Has text p (92 ∷ xs)
+    → escape_at text p ≡ Pieces (Kept bs ∷ []) (p + length (92 ∷ xs))
+    → Through 34 text p (Kept bs ∷ []) (p + length (92 ∷ xs))
 escape_run text p xs bs c a h e =
     through_one 34 text p (p + length (92 ∷ xs)) (Kept bs ∷ []) (backslash text p c h.0 ∙ e) (omega arith) (columns text p (92 ∷ xs) (slash_calm, a) h c)
 
-pub named_through : (text : List ℕ) (p b : ℕ) (bs : List ℕ) → 0 < column_at text p → simple_escape b ≡ Some bs → Has text p (92 ∷ b ∷ []) → Through 34 text p (Kept bs ∷ []) (p + 2)
+pub named_through : (text : List ℕ) (p b : ℕ) (bs : List ℕ) → 0 < column_at text p
+    → simple_escape b ≡ Some bs → Has text p (92 ∷ b ∷ [])
+    → Through 34 text p (Kept bs ∷ []) (p + 2)
 named_through text p b bs c s h =
     let n = named_is b bs s in
     escape_run text p (b ∷ []) bs c (n.calm, tt) h (named_at text p b bs h.1.0 n.calm n.number s)
@@ -57,8 +65,10 @@ named_through text p b bs c s h =
 scalar_is : (c : ℕ) → scalar c ≡ true → is_scalar c ≡ true
 scalar_is c h = elim (scalar_cases c h) [ inl a ↦ grind (arith, nat_tests) | inr a ↦ let x = a.0 in let y = a.1 in grind (arith, nat_tests) ]
 
-pub numbered_through : (text : List ℕ) (p b c : ℕ) (ds : List ℕ) → 0 < column_at text p → 0 < length ds → hex_len b ≡ length ds → number_behind 0 ds ≡ Some c → scalar c ≡ true
-    → Has text p (92 ∷ b ∷ ds) → Through 34 text p (Kept (encode_utf8 c) ∷ []) (p + length (92 ∷ b ∷ ds))
+pub numbered_through : (text : List ℕ) (p b c : ℕ) (ds : List ℕ) → 0 < column_at text p
+    → 0 < length ds → hex_len b ≡ length ds → number_behind 0 ds ≡ Some c → scalar c ≡ true
+    → Has text p (92 ∷ b ∷ ds)
+    → Through 34 text p (Kept (encode_utf8 c) ∷ []) (p + length (92 ∷ b ∷ ds))
 numbered_through text p b c ds col some l n s (e, (f, h)) =
     let at : p + 1 + 1 ≡ p + 2 + 0 = omega arith in
     let d = digits text (p + 2) 0 0 c ds (hex_start text (p + 2)) (subst (λ q. Has text q ds) at h) n in
@@ -82,7 +92,8 @@ record EndAt (text : List ℕ) (p : ℕ) (e : LineEnd) : Type 0 where
   width : break_width text p ≡ length (end_bytes e)
   read : break_value text p ≡ end_means e
 
-end_at : (text : List ℕ) (p : ℕ) (e : LineEnd) → Has text p (end_bytes e) → (is_return e ≡ true → (byte text (p + 1) == 10) ≡ false) → EndAt text p e
+end_at : (text : List ℕ) (p : ℕ) (e : LineEnd) → Has text p (end_bytes e)
+    → (is_return e ≡ true → (byte text (p + 1) == 10) ≡ false) → EndAt text p e
 unfolding break_value break_of
 end_at text p feed (a, u) n = record { first = 10; is = a; no_dash = λ f. omega arith; no_dot = λ f. omega arith; no_double = λ f. omega arith; no_single = λ f. omega arith; some = refl; width = rw a refl; read = rw a refl }
 end_at text p return (a, u) n =
@@ -105,24 +116,30 @@ end_some next_line = omega arith
 end_some line_separator = omega arith
 end_some paragraph_separator = omega arith
 
-break_standing : (quote : ℕ) (text : List ℕ) (p b n : ℕ) (bs : List ℕ) → is_document_indicator text p ≡ false → byte text p ≡ b → (b == 0) ≡ false → (b == quote) ≡ false → break_width text p ≡ n → nat_lt 0 n ≡ true → break_value text p ≡ bs
+break_standing : (quote : ℕ) (text : List ℕ) (p b n : ℕ) (bs : List ℕ)
+    → is_document_indicator text p ≡ false → byte text p ≡ b → (b == 0) ≡ false
+    → (b == quote) ≡ false → break_width text p ≡ n → nat_lt 0 n ≡ true → break_value text p ≡ bs
     → standing_at quote text p ≡ Pieces (Break bs ∷ []) (p + n)
 unfolding standing_at
 break_standing quote text p b n bs i e z q w some v = rw (i, w, v, e, z, q, some) refl
 
-end_standing : (quote : ℕ) (text : List ℕ) (p : ℕ) (e : LineEnd) → IsQuote quote → EndAt text p e → standing_at quote text p ≡ Pieces (Break (end_means e) ∷ []) (p + length (end_bytes e))
+end_standing : (quote : ℕ) (text : List ℕ) (p : ℕ) (e : LineEnd) → IsQuote quote → EndAt text p e
+    → standing_at quote text p ≡ Pieces (Break (end_means e) ∷ []) (p + length (end_bytes e))
 end_standing quote text p e q a =
     break_standing quote text p a.first (length (end_bytes e)) (end_means e) (no_mark text p a.first a.is a.no_dash a.no_dot) a.is a.some (no_quote quote a.first q a.no_double a.no_single) a.width (lt-ltb 0 (length (end_bytes e)) (end_some e)) a.read
 
-joint_standing : (text : List ℕ) (p n : ℕ) → break_width text (p + 1) ≡ n → nat_lt 0 n ≡ true → escape_at text p ≡ Pieces (Kept [] ∷ Break [] ∷ []) (p + 1 + n)
+joint_standing : (text : List ℕ) (p n : ℕ) → break_width text (p + 1) ≡ n → nat_lt 0 n ≡ true
+    → escape_at text p ≡ Pieces (Kept [] ∷ Break [] ∷ []) (p + 1 + n)
 unfolding escape_at
 joint_standing text p n w some = rw (w, some) refl
 
 -- CR has no LF behind it
-spaces_first : (text : List ℕ) (p n : ℕ) (xs : List ℕ) → Has text p (replicate (suc n) 32 ++ xs) → (byte text p == 10) ≡ false
+spaces_first : (text : List ℕ) (p n : ℕ) (xs : List ℕ) → Has text p (replicate (suc n) 32 ++ xs)
+    → (byte text p == 10) ≡ false
 spaces_first text p n xs (e, h) = rw e refl
 
-end_first : (text : List ℕ) (p : ℕ) (e : LineEnd) (xs : List ℕ) → is_feed_end e ≡ false → Has text p (end_bytes e ++ xs) → (byte text p == 10) ≡ false
+end_first : (text : List ℕ) (p : ℕ) (e : LineEnd) (xs : List ℕ) → is_feed_end e ≡ false
+    → Has text p (end_bytes e ++ xs) → (byte text p == 10) ≡ false
 end_first text p feed xs f h = absurd (cc)
 end_first text p return xs f (e, h) = rw e refl
 end_first text p return_feed xs f (e, h) = rw e refl
@@ -134,7 +151,9 @@ end_first text p paragraph_separator xs f (e, h) = rw e refl
 abbrev after_end : LineTurn → List LineTurn → List ℕ
 after_end t ts = replicate t.spaces 32 ++ turn_bytes ts
 
-no_split : (text : List ℕ) (p n : ℕ) (r : LineEnd) (ts : List LineTurn) → is_return r ≡ true → may_turn (record { end = r; spaces = n }) ts ≡ true → Has text p (replicate n 32 ++ turn_bytes ts) → (byte text p == 10) ≡ false
+no_split : (text : List ℕ) (p n : ℕ) (r : LineEnd) (ts : List LineTurn) → is_return r ≡ true
+    → may_turn (record { end = r; spaces = n }) ts ≡ true
+    → Has text p (replicate n 32 ++ turn_bytes ts) → (byte text p == 10) ≡ false
 unfolding may_turn turn_bytes
 no_split text p (suc n) r ts i m h = spaces_first text p n (turn_bytes ts) h
 no_split text p zero r [] i m h = absurd (cc)
@@ -144,12 +163,14 @@ no_split text p zero r (u ∷ us) i m h =
     end_first text p u.end (after_end u us) b h
 
 -- the byte behind CR
-behind_end : (text : List ℕ) (p : ℕ) (t : LineTurn) (ts : List LineTurn) → may_turn t ts ≡ true → Has text p (turn_bytes (t ∷ ts)) → is_return t.end ≡ true → (byte text (p + 1) == 10) ≡ false
+behind_end : (text : List ℕ) (p : ℕ) (t : LineTurn) (ts : List LineTurn) → may_turn t ts ≡ true
+    → Has text p (turn_bytes (t ∷ ts)) → is_return t.end ≡ true → (byte text (p + 1) == 10) ≡ false
 unfolding turn_bytes
 behind_end text p t ts m h i =
     no_split text (p + 1) t.spaces t.end ts i m (behind_return text p t.end (after_end t ts) i h)
   where
-    behind_return : (text : List ℕ) (p : ℕ) (e : LineEnd) (xs : List ℕ) → is_return e ≡ true → Has text p (end_bytes e ++ xs) → Has text (p + 1) xs
+    behind_return : (text : List ℕ) (p : ℕ) (e : LineEnd) (xs : List ℕ) → is_return e ≡ true
+        → Has text p (end_bytes e ++ xs) → Has text (p + 1) xs
     behind_return text p return xs i h = h.1
     behind_return text p feed xs i h = absurd (cc)
     behind_return text p return_feed xs i h = absurd (cc)
@@ -157,19 +178,23 @@ behind_end text p t ts m h i =
     behind_return text p line_separator xs i h = absurd (cc)
     behind_return text p paragraph_separator xs i h = absurd (cc)
 
-turn_at : (text : List ℕ) (p : ℕ) (t : LineTurn) (ts : List LineTurn) → may_turn t ts ≡ true → Has text p (turn_bytes (t ∷ ts)) → EndAt text p t.end
+turn_at : (text : List ℕ) (p : ℕ) (t : LineTurn) (ts : List LineTurn) → may_turn t ts ≡ true
+    → Has text p (turn_bytes (t ∷ ts)) → EndAt text p t.end
 unfolding turn_bytes
 turn_at text p t ts m h = end_at text p t.end (has_front text p (end_bytes t.end) (after_end t ts) h) (behind_end text p t ts m h)
 
 -- spaces at the start of a line
-spaces_read : (quote : ℕ) (text : List ℕ) (p n e : ℕ) (rs : List Piece) → IsQuote quote → Has text p (replicate n 32) → Read quote text (p + n) rs e → Read quote text p (blanks_of n ++ rs) e
+spaces_read : (quote : ℕ) (text : List ℕ) (p n e : ℕ) (rs : List Piece) → IsQuote quote
+    → Has text p (replicate n 32) → Read quote text (p + n) rs e
+    → Read quote text p (blanks_of n ++ rs) e
 spaces_read quote text p zero e rs q h r = rw add-zero at r
 spaces_read quote text p (suc n) e rs q (b, h) r =
     let same : p + suc n ≡ p + 1 + n = omega arith in
     read_step quote text p (p + 1) e (Blank 32 ∷ []) (blanks_of n ++ rs) (space_standing quote text p q b) (omega arith)
     (spaces_read quote text (p + 1) n e rs q h (subst (λ k. Read quote text k rs e) same r))
 
-spaces_column : (text : List ℕ) (p n : ℕ) → Has text p (replicate (suc n) 32) → 0 < column_at text (p + suc n)
+spaces_column : (text : List ℕ) (p n : ℕ) → Has text p (replicate (suc n) 32)
+    → 0 < column_at text (p + suc n)
 spaces_column text p zero (e, h) = space_column text p e
 spaces_column text p (suc n) (e, h) =
     let same : p + 1 + suc n ≡ p + suc (suc n) = omega arith in
@@ -183,14 +208,16 @@ length_spaces (suc n) = ap (λ k. suc k) (length_spaces n)
 abbrev pub tail_read : LineTurn → List LineTurn → List Piece
 tail_read t ts = blanks_of t.spaces ++ turns_read ts
 
-last_through : (quote : ℕ) (text : List ℕ) (r n : ℕ) → IsQuote quote → nat_lt 0 n ≡ true → Has text r (replicate n 32) → Through quote text r (blanks_of n) (r + n)
+last_through : (quote : ℕ) (text : List ℕ) (r n : ℕ) → IsQuote quote → nat_lt 0 n ≡ true
+    → Has text r (replicate n 32) → Through quote text r (blanks_of n) (r + n)
 last_through quote text r zero q m h = absurd (cc)
 last_through quote text r (suc n) q m h = record {
   reads = λ rs e x. spaces_read quote text r (suc n) e rs q h x;
   column = spaces_column text r n h;
 }
 
-tail_through : (quote : ℕ) (text : List ℕ) (r : ℕ) (t : LineTurn) (ts : List LineTurn) → IsQuote quote → may_turn t ts ≡ true → Has text r (after_end t ts)
+tail_through : (quote : ℕ) (text : List ℕ) (r : ℕ) (t : LineTurn) (ts : List LineTurn)
+    → IsQuote quote → may_turn t ts ≡ true → Has text r (after_end t ts)
     → Through quote text r (tail_read t ts) (r + length (after_end t ts))
 unfolding may_turn turn_bytes turns_read
 tail_through quote text r t [] q m h =
@@ -220,7 +247,9 @@ tail_through quote text r t (u ∷ us) q m h =
     })
 
 -- a step before the tail
-first_through : (quote : ℕ) (text : List ℕ) (p s : ℕ) (qs : List Piece) (t : LineTurn) (ts : List LineTurn) → IsQuote quote → may_turn t ts ≡ true → standing_at quote text p ≡ Pieces qs s → p < s → Has text s (after_end t ts)
+first_through : (quote : ℕ) (text : List ℕ) (p s : ℕ) (qs : List Piece) (t : LineTurn)
+    (ts : List LineTurn) → IsQuote quote → may_turn t ts ≡ true
+    → standing_at quote text p ≡ Pieces qs s → p < s → Has text s (after_end t ts)
     → Through quote text p (qs ++ tail_read t ts) (s + length (after_end t ts))
 first_through quote text p s qs t ts q m st l h =
     let rest = tail_through quote text s t ts q m h in
@@ -229,7 +258,8 @@ first_through quote text p s qs t ts q m st l h =
       column = rest.column;
     }
 
-pub fold_through : (quote : ℕ) (text : List ℕ) (p : ℕ) (t : LineTurn) (ts : List LineTurn) → IsQuote quote → may_turn t ts ≡ true → Has text p (turn_bytes (t ∷ ts))
+pub fold_through : (quote : ℕ) (text : List ℕ) (p : ℕ) (t : LineTurn) (ts : List LineTurn)
+    → IsQuote quote → may_turn t ts ≡ true → Has text p (turn_bytes (t ∷ ts))
     → Through quote text p (turn_read (end_means t.end) t ts) (p + length (turn_bytes (t ∷ ts)))
 unfolding turn_bytes
 fold_through quote text p t ts q m h =
@@ -239,7 +269,8 @@ fold_through quote text p t ts q m h =
     (first_through quote text p (p + length (end_bytes t.end)) (Break (end_means t.end) ∷ []) t ts q m (end_standing quote text p t.end q (turn_at text p t ts m h)) (omega (arith, some))
     (has_rest text p (end_bytes t.end) (after_end t ts) h))
 
-pub joint_through : (text : List ℕ) (p : ℕ) (t : LineTurn) (ts : List LineTurn) → 0 < column_at text p → may_turn t ts ≡ true → Has text p (92 ∷ turn_bytes (t ∷ ts))
+pub joint_through : (text : List ℕ) (p : ℕ) (t : LineTurn) (ts : List LineTurn)
+    → 0 < column_at text p → may_turn t ts ≡ true → Has text p (92 ∷ turn_bytes (t ∷ ts))
     → Through 34 text p (Kept [] ∷ turn_read [] t ts) (p + length (92 ∷ turn_bytes (t ∷ ts)))
 unfolding turn_bytes
 joint_through text p t ts c m (e, h) =

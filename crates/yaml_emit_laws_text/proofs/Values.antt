@@ -57,7 +57,8 @@ value_keeps : (bs : List ℕ) (ps : List Piece) → value (keeps bs ++ ps) ≡ b
 value_keeps [] ps = refl
 value_keeps (b ∷ bs) ps = value-kept [] (b ∷ []) (keeps bs ++ ps) ∙ ap (λ t. b ∷ t) (value_keeps bs ps)
 
-folded_blank : (b : ℕ) (l : Line) (ls : List (List ℕ × Line)) → (is_empty l ≡ true → ls ≡ []) → folded (Blank b ∷ l) ls ≡ b ∷ folded l ls
+folded_blank : (b : ℕ) (l : Line) (ls : List (List ℕ × Line)) → (is_empty l ≡ true → ls ≡ [])
+    → folded (Blank b ∷ l) ls ≡ b ∷ folded l ls
 folded_blank b l [] h = refl
 folded_blank b l (next ∷ ls) h =
     elim (cases_Bool (is_empty l)) [
@@ -121,7 +122,8 @@ firm_front ps qs f = subst (λ (t : List Piece). IsFirm (t ++ qs)) (sym f.is) (�
 firm_blank : (b : ℕ) (ps : List Piece) → IsFirm ps → IsFirm (Blank b ∷ ps)
 firm_blank b ps h = h
 
-follow_blank : (p q : QuotedPart) → is_raw_blank p ≡ true → may_follow p q ≡ true → is_fold q ≡ false
+follow_blank : (p q : QuotedPart) → is_raw_blank p ≡ true → may_follow p q ≡ true
+    → is_fold q ≡ false
 follow_blank p (fold t ts) b f = let g = rw b at f in absurd (cc)
 follow_blank p (raw c) b f = refl
 follow_blank p doubled b f = refl
@@ -130,7 +132,8 @@ follow_blank p (numbered k digits c) b f = refl
 follow_blank p (joint t ts) b f = refl
 
 -- what follows a raw blank
-firm : (quote : ℕ) (p : QuotedPart) (ps : List QuotedPart) → is_raw_blank p ≡ true → may_be_next p ps ≡ true → IsSpelling quote ps → IsFirm (all_read_as ps)
+firm : (quote : ℕ) (p : QuotedPart) (ps : List QuotedPart) → is_raw_blank p ≡ true
+    → may_be_next p ps ≡ true → IsSpelling quote ps → IsFirm (all_read_as ps)
 unfolding IsSpelling all_read_as
 firm quote p [] b next h = λ e. refl
 firm quote p (q ∷ ps) b next (stand, later, more) =
@@ -139,7 +142,8 @@ firm quote p (q ∷ ps) b next (stand, later, more) =
       | inl e ↦ firm_raw q e (firm quote q ps e later more)
     ]
   where
-    firm_raw : (q : QuotedPart) → is_raw_blank q ≡ true → IsFirm (all_read_as ps) → IsFirm (read_as q ++ all_read_as ps)
+    firm_raw : (q : QuotedPart) → is_raw_blank q ≡ true → IsFirm (all_read_as ps)
+        → IsFirm (read_as q ++ all_read_as ps)
     firm_raw (raw c) e h = subst (λ (t : List Piece). IsFirm (t ++ all_read_as ps)) (sym (read_blank c e)) (firm_blank c (all_read_as ps) h)
     firm_raw doubled e h = absurd (cc)
     firm_raw (named k bytes) e h = absurd (cc)
@@ -155,7 +159,8 @@ rest_after ps = rest_of (lines ps).first (lines ps).others
 abbrev settled : List ℕ → List Piece → Rest
 settled breaks ps = record { breaks = breaks; value = value ps }
 
-rest_blank : (b : ℕ) (l : Line) (ls : List (List ℕ × Line)) → rest_of (Blank b ∷ l) ls ≡ rest_of l ls
+rest_blank : (b : ℕ) (l : Line) (ls : List (List ℕ × Line))
+    → rest_of (Blank b ∷ l) ls ≡ rest_of l ls
 rest_blank b l [] = refl
 rest_blank b l (next ∷ ls) = refl
 
@@ -163,7 +168,8 @@ rest_blanks : (n : ℕ) (ps : List Piece) → rest_after (blanks_of n ++ ps) ≡
 rest_blanks zero ps = refl
 rest_blanks (suc n) ps = rest_blank 32 (lines (blanks_of n ++ ps)).first (lines (blanks_of n ++ ps)).others ∙ rest_blanks n ps
 
-rest_kept : (k : List ℕ) (l : Line) (ls : List (List ℕ × Line)) → rest_of (Kept k ∷ l) ls ≡ record { breaks = []; value = folded (Kept k ∷ l) ls }
+rest_kept : (k : List ℕ) (l : Line) (ls : List (List ℕ × Line))
+    → rest_of (Kept k ∷ l) ls ≡ record { breaks = []; value = folded (Kept k ∷ l) ls }
 rest_kept k l [] = refl
 rest_kept k l (next ∷ ls) = refl
 
@@ -172,27 +178,31 @@ rest_front ps qs f =
     let P : List Piece → Type 0 = λ t. rest_after (t ++ qs) ≡ settled [] (t ++ qs) in
     subst P (sym f.is) (rest_kept f.bytes (lines (f.rest ++ qs)).first (lines (f.rest ++ qs)).others)
 
-rest_turns : (ts : List LineTurn) (ps : List Piece) → rest_after ps ≡ settled [] ps → rest_after (turns_read ts ++ ps) ≡ settled (turn_means ts) ps
+rest_turns : (ts : List LineTurn) (ps : List Piece) → rest_after ps ≡ settled [] ps
+    → rest_after (turns_read ts ++ ps) ≡ settled (turn_means ts) ps
 unfolding turns_read turn_means
 rest_turns [] ps h = h
 rest_turns (t ∷ ts) ps h =
     let again = ap (λ (x : List Piece). rest_after x) (append_assoc (blanks_of t.spaces) (turns_read ts) ps) ∙ rest_blanks t.spaces (turns_read ts ++ ps) ∙ rest_turns ts ps h in
     ap (λ (r : Rest). record { breaks = end_means t.end ++ r.breaks; value = r.value }) again
 
-value_turns : (first : List ℕ) (t : LineTurn) (ts : List LineTurn) (ps : List Piece) → rest_after ps ≡ settled [] ps
+value_turns : (first : List ℕ) (t : LineTurn) (ts : List LineTurn) (ps : List Piece)
+    → rest_after ps ≡ settled [] ps
     → value (turn_read first t ts ++ ps) ≡ gap first (turn_means ts) ++ value ps
 value_turns first t ts ps h =
     let again = ap (λ (x : List Piece). rest_after x) (append_assoc (blanks_of t.spaces) (turns_read ts) ps) ∙ rest_blanks t.spaces (turns_read ts ++ ps) ∙ rest_turns ts ps h in
     ap (λ (r : Rest). gap first r.breaks ++ r.value) again
 
-follow_turn : (p q : QuotedPart) → is_turn p ≡ true → may_follow p q ≡ true → (is_fold q ≡ false) × (is_raw_blank q ≡ false)
+follow_turn : (p q : QuotedPart) → is_turn p ≡ true → may_follow p q ≡ true
+    → (is_fold q ≡ false) × (is_raw_blank q ≡ false)
 follow_turn p q t f = elim (cases_Bool (is_fold q)) [
   | inl a ↦ elim (cases_Bool (is_raw_blank p)) [ inl b ↦ let g = rw (a, b) at f in absurd (cc) | inr b ↦ let g = rw (a, b, t) at f in absurd (cc) ]
   | inr a ↦ elim (cases_Bool (is_raw_blank q)) [ inl b ↦ let g = rw (a, b, t) at f in absurd (cc) | inr b ↦ (a, b) ]
 ]
 
 -- what follows the ends of lines
-rest_parts : (quote : ℕ) (p : QuotedPart) (ps : List QuotedPart) → is_turn p ≡ true → may_be_next p ps ≡ true → rest_after (all_read_as ps) ≡ settled [] (all_read_as ps)
+rest_parts : (quote : ℕ) (p : QuotedPart) (ps : List QuotedPart) → is_turn p ≡ true
+    → may_be_next p ps ≡ true → rest_after (all_read_as ps) ≡ settled [] (all_read_as ps)
 unfolding all_read_as
 rest_parts quote p [] t next = refl
 rest_parts quote p (q ∷ ps) t next =
@@ -208,14 +218,17 @@ gap_joint (b ∷ bs) = refl
 blank_small : (c : ℕ) → is_blank c ≡ true → c < 128
 blank_small c h = grind (arith, nat_tests)
 
-raw_value : (c : ℕ) (ps : List Piece) → is_blank c ≡ false → value (read_as (raw c) ++ ps) ≡ encode_utf8 c ++ value ps
+raw_value : (c : ℕ) (ps : List Piece) → is_blank c ≡ false
+    → value (read_as (raw c) ++ ps) ≡ encode_utf8 c ++ value ps
 raw_value c ps e = ap (λ (t : List Piece). value (t ++ ps)) (read_kept c e) ∙ value_keeps (encode_utf8 c) ps
 
-blank_value : (c : ℕ) (ps : List Piece) → is_blank c ≡ true → IsFirm ps → value (read_as (raw c) ++ ps) ≡ encode_utf8 c ++ value ps
+blank_value : (c : ℕ) (ps : List Piece) → is_blank c ≡ true → IsFirm ps
+    → value (read_as (raw c) ++ ps) ≡ encode_utf8 c ++ value ps
 blank_value c ps e f =
     ap (λ (t : List Piece). value (t ++ ps)) (read_blank c e) ∙ value_blank c ps f ∙ ap (λ (t : List ℕ). t ++ value ps) (sym (encode_ascii c (blank_small c e)))
 
-part_value : (quote : ℕ) (p : QuotedPart) (ps : List QuotedPart) → may_be_next p ps ≡ true → IsSpelling quote ps → value (read_as p ++ all_read_as ps) ≡ meant p ++ value (all_read_as ps)
+part_value : (quote : ℕ) (p : QuotedPart) (ps : List QuotedPart) → may_be_next p ps ≡ true
+    → IsSpelling quote ps → value (read_as p ++ all_read_as ps) ≡ meant p ++ value (all_read_as ps)
 part_value quote (raw c) ps next h =
     elim (cases_Bool (is_blank c)) [
       | inl e ↦ blank_value c (all_read_as ps) e (firm quote (raw c) ps e next h)
@@ -230,7 +243,8 @@ part_value quote (joint t ts) ps next h =
     ∙ ap (λ (x : List ℕ). x ++ value (all_read_as ps)) (gap_joint (turn_means ts))
 
 -- the value of a spelling's pieces
-pub spelling_value : (quote : ℕ) (ps : List QuotedPart) → IsSpelling quote ps → value (all_read_as ps) ≡ meaning ps
+pub spelling_value : (quote : ℕ) (ps : List QuotedPart) → IsSpelling quote ps
+    → value (all_read_as ps) ≡ meaning ps
 unfolding IsSpelling all_read_as meaning
 spelling_value quote [] h = refl
 spelling_value quote (p ∷ ps) (stand, next, more) = part_value quote p ps next more ∙ ap (λ t. meant p ++ t) (spelling_value quote ps more)

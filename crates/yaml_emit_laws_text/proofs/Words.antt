@@ -36,7 +36,9 @@ use Rattle.yaml_emit_laws_text.proofs.Steps.{Sign, sign_begins, sign_kind, push,
 
 -- ---- words of one byte
 
-pub sign : (b : ℕ) → nat_lt b 128 ≡ true → (b == 0) ≡ false → (b == 9) ≡ false → (b == 32) ≡ false → (b == 35) ≡ false → (b == 37) ≡ false → (b == 45) ≡ false → (b == 46) ≡ false → (b == 10) ≡ false → (b == 13) ≡ false → Sign b
+pub sign : (b : ℕ) → nat_lt b 128 ≡ true → (b == 0) ≡ false → (b == 9) ≡ false → (b == 32) ≡ false
+    → (b == 35) ≡ false → (b == 37) ≡ false → (b == 45) ≡ false → (b == 46) ≡ false
+    → (b == 10) ≡ false → (b == 13) ≡ false → Sign b
 unfolding break_of
 sign b low some tab space hash percent dash dot feed return = record {
   low = low;
@@ -55,9 +57,13 @@ abbrev one_byte : TokenBody → ℕ → WordText
 one_byte body p = record { body = body; end = p + 1; reached = p + 1; broke = false }
 
 -- a character that is a word
-pub letter_walks : GapReads → (b : ℕ) (k : Kind) (body : TokenBody) (d : ℕ) (e : Cursor → Cursor) → Sign b → ((alone : Bool) → indicator_of (nat_lt 0 d) alone b ≡ Some k)
-    → ((text : List ℕ) (p : ℕ) → word_at k (nat_lt 0 d) 0 text p ≡ Ok (one_byte body p)) → is_end k ≡ false → ((c : Cursor) → (e c).column ≡ 0 → ⊥) → ((c : Cursor) → (e c).bare ≡ false) → ((c : Cursor) → (e c).kept ≡ c.kept) → (c : Cursor) (rest : Rest)
-    → Walks (λ c rest. letter b ∷ rest (e c)) (λ ks. k ∷ ks) (λ bs. body ∷ bs) d (depth_after k d) c rest
+pub letter_walks : GapReads → (b : ℕ) (k : Kind) (body : TokenBody) (d : ℕ) (e : Cursor → Cursor)
+    → Sign b → ((alone : Bool) → indicator_of (nat_lt 0 d) alone b ≡ Some k)
+    → ((text : List ℕ) (p : ℕ) → word_at k (nat_lt 0 d) 0 text p ≡ Ok (one_byte body p))
+    → is_end k ≡ false → ((c : Cursor) → (e c).column ≡ 0 → ⊥) → ((c : Cursor) → (e c).bare ≡ false)
+    → ((c : Cursor) → (e c).kept ≡ c.kept) → (c : Cursor) (rest : Rest)
+    → Walks (λ c rest. letter b ∷ rest (e c)) (λ ks. k ∷ ks) (λ bs. body ∷ bs) d (depth_after k d) c
+    rest
 letter_walks law b k body d e s is reads more column bare kept c rest text p ws stage l =
     let m = left_letter text p b (rest (e c)) s.low l in
     let h = left_first text p b (bytes (rest (e c))) m in
@@ -84,7 +90,8 @@ opened c = record { column = c.column + 1; white = true; bare = false; kept = c.
 comma_sign : Sign 44
 comma_sign = sign 44 refl refl refl refl refl refl refl refl refl refl
 
-pub comma_walks : GapReads → (d : ℕ) (c : Cursor) (rest : Rest) → Walks (char 44) (λ ks. kinds.FlowEntry ∷ ks) (λ bs. tokens.flow_entry ∷ bs) d d c rest
+pub comma_walks : GapReads → (d : ℕ) (c : Cursor) (rest : Rest)
+    → Walks (char 44) (λ ks. kinds.FlowEntry ∷ ks) (λ bs. tokens.flow_entry ∷ bs) d d c rest
 unfolding indicator_of word_at
 comma_walks law d c rest = letter_walks law 44 kinds.FlowEntry tokens.flow_entry d lettered_on comma_sign (λ a. refl) (λ t p. refl) refl (λ c z. more_than c.column z) (λ c. refl) (λ c. refl) c rest
 
@@ -94,29 +101,38 @@ down d = omega arith
 up : (d : ℕ) → d + 1 ≡ suc d
 up d = omega arith
 
-to_depth : (a : Layout) (K : List Kind → List Kind) (B : List TokenBody → List TokenBody) (d e f : ℕ) (c : Cursor) (rest : Rest) → e ≡ f → Walks a K B d e c rest → Walks a K B d f c rest
+to_depth : (a : Layout) (K : List Kind → List Kind) (B : List TokenBody → List TokenBody)
+    (d e f : ℕ) (c : Cursor) (rest : Rest) → e ≡ f → Walks a K B d e c rest → Walks a K B d f c rest
 to_depth a K B d e f c rest same w = subst (λ (n : ℕ). Walks a K B d n c rest) same w
 
-pub sequence_closes : GapReads → (d : ℕ) (c : Cursor) (rest : Rest) → Walks (char 93) (λ ks. kinds.FlowSequenceEnd ∷ ks) (λ bs. tokens.flow_sequence_end ∷ bs) (suc d) d c rest
+pub sequence_closes : GapReads → (d : ℕ) (c : Cursor) (rest : Rest)
+    → Walks (char 93) (λ ks. kinds.FlowSequenceEnd ∷ ks) (λ bs. tokens.flow_sequence_end ∷ bs)
+    (suc d) d c rest
 unfolding indicator_of word_at
 sequence_closes law d c rest =
     to_depth (char 93) (λ ks. kinds.FlowSequenceEnd ∷ ks) (λ bs. tokens.flow_sequence_end ∷ bs) (suc d) (suc d - 1) d c rest (down d)
     (letter_walks law 93 kinds.FlowSequenceEnd tokens.flow_sequence_end (suc d) lettered_on (sign 93 refl refl refl refl refl refl refl refl refl refl) (λ a. refl) (λ t p. refl) refl (λ c z. more_than c.column z) (λ c. refl) (λ c. refl) c rest)
 
-pub mapping_closes : GapReads → (d : ℕ) (c : Cursor) (rest : Rest) → Walks (char 125) (λ ks. kinds.FlowMappingEnd ∷ ks) (λ bs. tokens.flow_mapping_end ∷ bs) (suc d) d c rest
+pub mapping_closes : GapReads → (d : ℕ) (c : Cursor) (rest : Rest)
+    → Walks (char 125) (λ ks. kinds.FlowMappingEnd ∷ ks) (λ bs. tokens.flow_mapping_end ∷ bs)
+    (suc d) d c rest
 unfolding indicator_of word_at
 mapping_closes law d c rest =
     to_depth (char 125) (λ ks. kinds.FlowMappingEnd ∷ ks) (λ bs. tokens.flow_mapping_end ∷ bs) (suc d) (suc d - 1) d c rest (down d)
     (letter_walks law 125 kinds.FlowMappingEnd tokens.flow_mapping_end (suc d) lettered_on (sign 125 refl refl refl refl refl refl refl refl refl refl) (λ a. refl) (λ t p. refl) refl (λ c z. more_than c.column z) (λ c. refl) (λ c. refl) c rest)
 
-pub sequence_opens : GapReads → (d : ℕ) (c : Cursor) (rest : Rest) → Walks (opener 91) (λ ks. kinds.FlowSequenceStart ∷ ks) (λ bs. tokens.flow_sequence_start ∷ bs) d (suc d) c rest
+pub sequence_opens : GapReads → (d : ℕ) (c : Cursor) (rest : Rest)
+    → Walks (opener 91) (λ ks. kinds.FlowSequenceStart ∷ ks) (λ bs. tokens.flow_sequence_start ∷ bs)
+    d (suc d) c rest
 unfolding indicator_of word_at
 sequence_opens law d c rest =
     to_depth (opener 91) (λ ks. kinds.FlowSequenceStart ∷ ks) (λ bs. tokens.flow_sequence_start ∷ bs) d (d + 1) (suc d) c rest (up d)
     (walks_gap (λ c rest. letter 91 ∷ rest (opened c)) (λ ks. kinds.FlowSequenceStart ∷ ks) (λ bs. tokens.flow_sequence_start ∷ bs) d (d + 1) c rest
     (λ c. letter_walks law 91 kinds.FlowSequenceStart tokens.flow_sequence_start d opened (sign 91 refl refl refl refl refl refl refl refl refl refl) (λ a. refl) (λ t p. refl) refl (λ c z. more_than c.column z) (λ c. refl) (λ c. refl) c rest))
 
-pub mapping_opens : GapReads → (d : ℕ) (c : Cursor) (rest : Rest) → Walks (opener 123) (λ ks. kinds.FlowMappingStart ∷ ks) (λ bs. tokens.flow_mapping_start ∷ bs) d (suc d) c rest
+pub mapping_opens : GapReads → (d : ℕ) (c : Cursor) (rest : Rest)
+    → Walks (opener 123) (λ ks. kinds.FlowMappingStart ∷ ks) (λ bs. tokens.flow_mapping_start ∷ bs)
+    d (suc d) c rest
 unfolding indicator_of word_at
 mapping_opens law d c rest =
     to_depth (opener 123) (λ ks. kinds.FlowMappingStart ∷ ks) (λ bs. tokens.flow_mapping_start ∷ bs) d (d + 1) (suc d) c rest (up d)
@@ -126,21 +142,27 @@ mapping_opens law d c rest =
 pub inside : (d : ℕ) → nat_lt 0 (suc d) ≡ true
 inside d = grind (arith, nat_tests)
 
-pub key_indicator : (flow alone : Bool) → flow ≡ true → indicator_of flow alone 63 ≡ Some kinds.KeyMark
+pub key_indicator : (flow alone : Bool) → flow ≡ true
+    → indicator_of flow alone 63 ≡ Some kinds.KeyMark
 unfolding indicator_of
 key_indicator flow alone e = rw e refl
 
-pub value_indicator : (flow alone : Bool) → flow ≡ true → indicator_of flow alone 58 ≡ Some kinds.ValueMark
+pub value_indicator : (flow alone : Bool) → flow ≡ true
+    → indicator_of flow alone 58 ≡ Some kinds.ValueMark
 unfolding indicator_of
 value_indicator flow alone e = rw e refl
 
-pub key_walks : GapReads → (d : ℕ) (c : Cursor) (rest : Rest) → Walks (word (63 ∷ [])) (λ ks. kinds.KeyMark ∷ ks) (λ bs. tokens.key ∷ bs) (suc d) (suc d) c rest
+pub key_walks : GapReads → (d : ℕ) (c : Cursor) (rest : Rest)
+    → Walks (word (63 ∷ [])) (λ ks. kinds.KeyMark ∷ ks) (λ bs. tokens.key ∷ bs) (suc d) (suc d) c
+    rest
 unfolding word_at letters
 key_walks law d c rest =
     walks_gap (char 63) (λ ks. kinds.KeyMark ∷ ks) (λ bs. tokens.key ∷ bs) (suc d) (suc d) c rest
     (λ c. letter_walks law 63 kinds.KeyMark tokens.key (suc d) lettered_on (sign 63 refl refl refl refl refl refl refl refl refl refl) (λ a. key_indicator (nat_lt 0 (suc d)) a (inside d)) (λ t p. refl) refl (λ c z. more_than c.column z) (λ c. refl) (λ c. refl) c rest)
 
-pub value_walks : GapReads → (d : ℕ) (c : Cursor) (rest : Rest) → Walks (word (58 ∷ [])) (λ ks. kinds.ValueMark ∷ ks) (λ bs. tokens.value ∷ bs) (suc d) (suc d) c rest
+pub value_walks : GapReads → (d : ℕ) (c : Cursor) (rest : Rest)
+    → Walks (word (58 ∷ [])) (λ ks. kinds.ValueMark ∷ ks) (λ bs. tokens.value ∷ bs) (suc d) (suc d)
+    c rest
 unfolding word_at letters
 value_walks law d c rest =
     walks_gap (char 58) (λ ks. kinds.ValueMark ∷ ks) (λ bs. tokens.value ∷ bs) (suc d) (suc d) c rest
@@ -189,7 +211,8 @@ unfolding break_of
 line_break c d = refl
 
 -- a comma or a break ends a name
-parts_end : (text : List ℕ) (p b : ℕ) → byte text p ≡ b → parts b ≡ true → may_end_name text p ≡ true
+parts_end : (text : List ℕ) (p b : ℕ) → byte text p ≡ b → parts b ≡ true
+    → may_end_name text p ≡ true
 unfolding may_end_name
 parts_end text p b h e =
     elim (part_cases b e) [
@@ -198,17 +221,21 @@ parts_end text p b h e =
       | inr (inr f) ↦ rw (h, f, some_break) refl
     ]
 
-left_zero : (text : List ℕ) (p : ℕ) (bs : List ℕ) → Left text p bs → parts (first bs) ≡ true → byte text p ≡ first bs
+left_zero : (text : List ℕ) (p : ℕ) (bs : List ℕ) → Left text p bs → parts (first bs) ≡ true
+    → byte text p ≡ first bs
 left_zero text p [] l e = absurd (cc)
 left_zero text p (b ∷ bs) l e = left_first text p b bs l
 
-pub named : (f : List ℕ → TokenBody) (r : Result (List ℕ × ℕ) Wrong) (name : List ℕ) (q : ℕ) → r ≡ Ok (name, q) → valued f r ≡ Ok (record { body = f name; end = q; reached = q; broke = false })
+pub named : (f : List ℕ → TokenBody) (r : Result (List ℕ × ℕ) Wrong) (name : List ℕ) (q : ℕ)
+    → r ≡ Ok (name, q)
+    → valued f r ≡ Ok (record { body = f name; end = q; reached = q; broke = false })
 named f r name q e = rw e refl
 
 alias_sign : Sign 42
 alias_sign = sign 42 refl refl refl refl refl refl refl refl refl refl
 
-alias_word : (flow : Bool) (text : List ℕ) (p : ℕ) → word_at kinds.Alias flow 0 text p ≡ valued tokens.alias (anchor_at contexts.Alias text p)
+alias_word : (flow : Bool) (text : List ℕ) (p : ℕ)
+    → word_at kinds.Alias flow 0 text p ≡ valued tokens.alias (anchor_at contexts.Alias text p)
 unfolding word_at
 alias_word flow text p = refl
 
@@ -217,7 +244,8 @@ unfolding indicator_of
 alias_kind flow alone = refl
 
 -- an alias, before a comma or a break
-pub alias_walks : GapReads → AnchorReads → (name : List ℕ) → 0 < length name → are_alphas name ≡ true → (d : ℕ) (c : Cursor) (rest : Rest) → Parts rest
+pub alias_walks : GapReads → AnchorReads → (name : List ℕ) → 0 < length name
+    → are_alphas name ≡ true → (d : ℕ) (c : Cursor) (rest : Rest) → Parts rest
     → Walks (word (42 ∷ name)) (λ ks. kinds.Alias ∷ ks) (λ bs. tokens.alias name ∷ bs) d d c rest
 unfolding letters
 alias_walks law names name some are d c rest ends =
@@ -248,7 +276,8 @@ alias_walks law names name some are d c rest ends =
 anchor_sign : Sign 38
 anchor_sign = sign 38 refl refl refl refl refl refl refl refl refl refl
 
-anchor_word : (flow : Bool) (text : List ℕ) (p : ℕ) → word_at kinds.Anchor flow 0 text p ≡ valued tokens.anchor (anchor_at contexts.Anchor text p)
+anchor_word : (flow : Bool) (text : List ℕ) (p : ℕ)
+    → word_at kinds.Anchor flow 0 text p ≡ valued tokens.anchor (anchor_at contexts.Anchor text p)
 unfolding word_at
 anchor_word flow text p = refl
 
@@ -283,9 +312,13 @@ letters_are (x ∷ xs) are c =
     }
 
 -- an anchor before what begins with a space
-pub anchor_walks : GapReads → AnchorReads → (name : List ℕ) → 0 < length name → are_alphas name ≡ true → (b : Layout) (K : List Kind → List Kind) (B : List TokenBody → List TokenBody) (d e : ℕ) (rest : Rest)
+pub anchor_walks : GapReads → AnchorReads → (name : List ℕ) → 0 < length name
+    → are_alphas name ≡ true
+    → (b : Layout) (K : List Kind → List Kind) (B : List TokenBody → List TokenBody) (d e : ℕ)
+    (rest : Rest)
     → BeginsBlank b rest → ((c : Cursor) → Walks b K B d e c rest) → (c : Cursor)
-    → Walks (word (38 ∷ name) ▹ b) (λ ks. K (kinds.Anchor ∷ ks)) (λ bs. tokens.anchor name ∷ B bs) d e c rest
+    → Walks (word (38 ∷ name) ▹ b) (λ ks. K (kinds.Anchor ∷ ks)) (λ bs. tokens.anchor name ∷ B bs) d
+    e c rest
 unfolding letters
 anchor_walks law names name some are b K B d e rest spaced w c =
     walks_gap (letters (38 ∷ name) ▹ b) (λ ks. K (kinds.Anchor ∷ ks)) (λ bs. tokens.anchor name ∷ B bs) d e c rest
@@ -311,7 +344,9 @@ anchor_walks law names name some are b K B d e rest spaced w c =
 pub quote_sign : Sign 34
 quote_sign = sign 34 refl refl refl refl refl refl refl refl refl refl
 
-pub quote_word : (flow : Bool) (text : List ℕ) (p : ℕ) → word_at kinds.DoubleQuoted flow 0 text p ≡ valued (λ v. tokens.scalar v YAML_DOUBLE_QUOTED_SCALAR_STYLE) (double_quoted_at text p)
+pub quote_word : (flow : Bool) (text : List ℕ) (p : ℕ)
+    → word_at kinds.DoubleQuoted flow 0 text p
+    ≡ valued (λ v. tokens.scalar v YAML_DOUBLE_QUOTED_SCALAR_STYLE) (double_quoted_at text p)
 unfolding word_at
 quote_word flow text p = refl
 
@@ -323,7 +358,8 @@ char_encodes : (c : ℕ) (t : List Item) → bytes (letter c ∷ t) ≡ encode_u
 unfolding encode char_bytes encode_char
 char_encodes c t = refl
 
-pub front_encodes : (xs : List ℕ) (t : List Item) → bytes (in_front xs t) ≡ encode_utf8_all xs ++ bytes t
+pub front_encodes : (xs : List ℕ) (t : List Item)
+    → bytes (in_front xs t) ≡ encode_utf8_all xs ++ bytes t
 unfolding in_front
 front_encodes [] t = refl
 front_encodes (x ∷ xs) t =
@@ -332,8 +368,10 @@ front_encodes (x ∷ xs) t =
 pub quote_first : (xs : List ℕ) → encode_utf8_all (34 ∷ xs) ≡ 34 ∷ encode_utf8_all xs
 quote_first xs = let e : encode_utf8 34 ≡ 34 ∷ [] = encode_ascii 34 (omega arith) in rw e refl
 
-pub quoted_walks : GapReads → QuotedIsReadBack → (page : Page) (value : List ℕ) → IsUtf8 value → 0 < page.indentation → (d : ℕ) (c : Cursor) (rest : Rest)
-    → Walks (double_quoted page (chars value)) (λ ks. kinds.DoubleQuoted ∷ ks) (λ bs. tokens.scalar value YAML_DOUBLE_QUOTED_SCALAR_STYLE ∷ bs) d d c rest
+pub quoted_walks : GapReads → QuotedIsReadBack → (page : Page) (value : List ℕ) → IsUtf8 value
+    → 0 < page.indentation → (d : ℕ) (c : Cursor) (rest : Rest)
+    → Walks (double_quoted page (chars value)) (λ ks. kinds.DoubleQuoted ∷ ks)
+    (λ bs. tokens.scalar value YAML_DOUBLE_QUOTED_SCALAR_STYLE ∷ bs) d d c rest
 quoted_walks law quoted page value utf8 deep d c rest =
     walks_gap (between_quotes page (chars value)) (λ ks. kinds.DoubleQuoted ∷ ks) (λ bs. tokens.scalar value YAML_DOUBLE_QUOTED_SCALAR_STYLE ∷ bs) d d c rest
     (λ c text p ws stage l.

@@ -20,13 +20,15 @@ pub record Goes (s : Settings) (st : State) (e : Event) (empty : Bool) (es : Lis
   pub there : place_problem st.place (top_of st.levels) e ≡ None
   pub fits : (d : Cursor) → next s st e empty d ≡ state_of (rest d)
   pub same : (d : Cursor) → es ≡ events (rest d)
-  pub text : (c : Cursor) (f : Rest) → layout s k c f ≡ piece s st e empty c (λ d. layout s (rest d) d f)
+  pub text : (c : Cursor) (f : Rest)
+      → layout s k c f ≡ piece s st e empty c (λ d. layout s (rest d) d f)
 
 begins_here : (top : Option Level) (e : Event) → begins_node e ≡ true → node_problem top e ≡ None
 begins_here None e h = rw h refl
 begins_here (Some l) e h = rw h refl
 
-empty_items : (p : Start) (ns : Nodes) (es : List Event) → opens_empty (sequence_start p) (items_events ns (sequence_end ∷ es)) ≡ are_none ns
+empty_items : (p : Start) (ns : Nodes) (es : List Event)
+    → opens_empty (sequence_start p) (items_events ns (sequence_end ∷ es)) ≡ are_none ns
 unfolding opens_empty items_events node_events
 empty_items p no_nodes es = refl
 empty_items p (node (alias_node name) ns) es = refl
@@ -34,7 +36,8 @@ empty_items p (node (scalar_node v) ns) es = refl
 empty_items p (node (sequence_node q ms) ns) es = refl
 empty_items p (node (mapping_node q ps) ns) es = refl
 
-empty_pairs : (p : Start) (ps : Pairs) (es : List Event) → opens_empty (mapping_start p) (pairs_events ps (mapping_end ∷ es)) ≡ are_no_pairs ps
+empty_pairs : (p : Start) (ps : Pairs) (es : List Event)
+    → opens_empty (mapping_start p) (pairs_events ps (mapping_end ∷ es)) ≡ are_no_pairs ps
 unfolding opens_empty pairs_events node_events
 empty_pairs p no_pairs es = refl
 empty_pairs p (pair (alias_node name) v ps) es = refl
@@ -45,9 +48,14 @@ empty_pairs p (pair (mapping_node q ms) v ps) es = refl
 -- the place of a node: its levels, what is left of the open collections behind it, and what was to come with it
 record Spotted (s : Settings) (g : List TagDirective) (ls : List Level) (outer : List Frame) (implicit : Bool) (ds : List Document) (v : Node) (k : ToCome) : Type 0 where
   levels : levels_behind ls (is_simple (context_of s g) v) ≡ levels_of outer
-  text : (c : Cursor) (f : Rest) → layout s k c f ≡ before_node s (top_of ls) (is_simple (context_of s g) v) c (λ d. node_layout (context_of s g) (spot_of (top_of ls) (is_simple (context_of s g) v)) v d (λ d'. layout s (frames g outer implicit ds) d' f))
+  text : (c : Cursor) (f : Rest)
+      → layout s k c f ≡ before_node s (top_of ls) (is_simple (context_of s g) v) c
+      (λ d. node_layout (context_of s g) (spot_of (top_of ls) (is_simple (context_of s g) v)) v d
+      (λ d'. layout s (frames g outer implicit ds) d' f))
 
-from_same : (s : Settings) (st : State) (e e' : Event) (b : Bool) (es es' : List Event) (k : ToCome) → e ∷ es ≡ e' ∷ es' → opens_empty e' es' ≡ b → Goes s st e' b es' k → Goes s st e (opens_empty e es) es k
+from_same : (s : Settings) (st : State) (e e' : Event) (b : Bool) (es es' : List Event) (k : ToCome)
+    → e ∷ es ≡ e' ∷ es' → opens_empty e' es' ≡ b → Goes s st e' b es' k
+    → Goes s st e (opens_empty e es) es k
 from_same s st e e' b es es' k h w g =
     let head : e' ≡ e = cc in
     let tail : es' ≡ es = cc in
@@ -56,8 +64,11 @@ from_same s st e e' b es es' k h w g =
     let R : Bool → Type 0 = λ a. Goes s st e' a es' k in
     subst Q tail (subst P head (subst R (sym w) g))
 
-node_goes : (s : Settings) (g : List TagDirective) (ls : List Level) (outer : List Frame) (implicit : Bool) (ds : List Document) (e : Event) (es : List Event) (v : Node) (k : ToCome)
-    → Spotted s g ls outer implicit ds v k → e ∷ es ≡ node_events v (frames_events outer (ending_events implicit ds)) → Goes s (record { place = at.Node; levels = ls; directives = g }) e (opens_empty e es) es k
+node_goes : (s : Settings) (g : List TagDirective) (ls : List Level) (outer : List Frame)
+    (implicit : Bool) (ds : List Document) (e : Event) (es : List Event) (v : Node) (k : ToCome)
+    → Spotted s g ls outer implicit ds v k
+    → e ∷ es ≡ node_events v (frames_events outer (ending_events implicit ds))
+    → Goes s (record { place = at.Node; levels = ls; directives = g }) e (opens_empty e es) es k
 unfolding node_events is_simple is_simple_event node_layout text_at depth_at next_at state_of events layout place_problem opens_empty levels_of frames_events frames_layout frame_layout frame_events
 node_goes s g ls outer implicit ds e es (alias_node name) k h w =
     from_same s _ e (alias name) false es _ k w refl (record {
@@ -98,8 +109,11 @@ node_goes s g ls outer implicit ds e es (mapping_node q ps) k h w =
       text = h.text;
     })
 
-frame_goes : (s : Settings) (g : List TagDirective) (f : Frame) (fs : List Frame) (implicit : Bool) (ds : List Document) (e : Event) (es : List Event)
-    → e ∷ es ≡ events (frames g (f ∷ fs) implicit ds) → Goes s (state_of (frames g (f ∷ fs) implicit ds)) e (opens_empty e es) es (frames g (f ∷ fs) implicit ds)
+frame_goes : (s : Settings) (g : List TagDirective) (f : Frame) (fs : List Frame) (implicit : Bool)
+    (ds : List Document) (e : Event) (es : List Event)
+    → e ∷ es ≡ events (frames g (f ∷ fs) implicit ds)
+    → Goes s (state_of (frames g (f ∷ fs) implicit ds)) e (opens_empty e es) es
+    (frames g (f ∷ fs) implicit ds)
 unfolding state_of events layout levels_of frames_events frame_events frames_layout frame_layout items_events pairs_events items_layout pairs_layout next_at text_at depth_at place_problem phase_behind opens_empty
 frame_goes s g (items_left flow n fresh no_nodes) fs implicit ds e es w =
     from_same s _ e sequence_end false es _ _ w refl (record { rest = λ d. frames g fs implicit ds; there = refl; fits = λ d. refl; same = λ d. refl; text = λ c f. refl })
@@ -113,11 +127,13 @@ frame_goes s g (value_left flow n simple v ps) fs implicit ds e es w =
     node_goes s g _ (pairs_left flow n false ps ∷ fs) implicit ds e es v _ (record { levels = refl; text = λ c f. refl }) w
 
 document_goes : (s : Settings) (first unended : Bool) (d : Document) (ds : List Document)
-    → Goes s (state_of (documents first unended (d ∷ ds))) (document_start d.opening) false (node_events d.root (ending_events d.implicit_end ds)) (documents first unended (d ∷ ds))
+    → Goes s (state_of (documents first unended (d ∷ ds))) (document_start d.opening) false
+    (node_events d.root (ending_events d.implicit_end ds)) (documents first unended (d ∷ ds))
 unfolding state_of events layout text_at depth_at next_at place_problem documents_layout
 document_goes s first unended d ds = record { rest = λ c. root d.opening.directives d.root d.implicit_end ds; there = refl; fits = λ c. refl; same = λ c. refl; text = λ c f. refl }
 
-pub goes : (s : Settings) (e : Event) (es : List Event) (k : ToCome) → e ∷ es ≡ events k → Goes s (state_of k) e (opens_empty e es) es k
+pub goes : (s : Settings) (e : Event) (es : List Event) (k : ToCome) → e ∷ es ≡ events k
+    → Goes s (state_of k) e (opens_empty e es) es k
 unfolding state_of events layout levels_of frames_events frames_layout next_at text_at depth_at place_problem documents_events documents_layout stream_layout opens_empty
 goes s e es (stream x ds) w = from_same s _ e (stream_start x) false es _ _ w refl (record { rest = λ d. documents true false ds; there = refl; fits = λ d. refl; same = λ d. refl; text = λ c f. refl })
 goes s e es (documents first unended []) w = from_same s _ e stream_end false es _ _ w refl (record { rest = λ d. nothing; there = refl; fits = λ d. refl; same = λ d. refl; text = λ c f. refl })

@@ -39,15 +39,21 @@ implicit flow = record { anchor = None; tag = None; implicit = true; flow = flow
 abbrev bare : Node → Document
 bare n = record { opening = record { version = None; directives = []; implicit = true }; root = n; implicit_end = true }
 
-canonical_sequence : text_of (stream_layout canonical (bare (sequence_node (implicit true) (node (plain (codes "a")) (node (plain (codes "b")) no_nodes))) ∷ [])) ≡ codes "---\n[\n  \"a\",\n  \"b\",\n]\n"
+canonical_sequence : text_of (stream_layout canonical
+    (bare (sequence_node (implicit true)
+    (node (plain (codes "a")) (node (plain (codes "b")) no_nodes))) ∷ []))
+    ≡ codes "---\n[\n  \"a\",\n  \"b\",\n]\n"
 unfolding chars shown letters blanks line needs_escape escape_letter hex_digit escape_text quoted_char quoted_body somewhere last_or allowed taken flow_char flow_body behind_breaks block_char block_body chomp scalar_text style_of scalar_layout alias_layout is_simple_scalar is_simple_alias is_simple_start is_simple any_below turned before_item before_key before_value closer node_layout items_layout pairs_layout directives_text start_layout end_layout stop_layout documents_layout stream_layout
 canonical_sequence = refl
 
-canonical_mapping : text_of (stream_layout canonical (bare (mapping_node (implicit false) (pair (plain (codes "k")) (plain (codes "v")) no_pairs)) ∷ [])) ≡ codes "---\n{\n  ? \"k\"\n  : \"v\",\n}\n"
+canonical_mapping : text_of (stream_layout canonical
+    (bare (mapping_node (implicit false) (pair (plain (codes "k")) (plain (codes "v")) no_pairs))
+    ∷ [])) ≡ codes "---\n{\n  ? \"k\"\n  : \"v\",\n}\n"
 unfolding chars shown letters blanks line needs_escape escape_letter hex_digit escape_text quoted_char quoted_body somewhere last_or allowed taken flow_char flow_body behind_breaks block_char block_body chomp scalar_text style_of scalar_layout alias_layout is_simple_scalar is_simple_alias is_simple_start is_simple any_below turned before_item before_key before_value closer node_layout items_layout pairs_layout directives_text start_layout end_layout stop_layout documents_layout stream_layout
 canonical_mapping = refl
 
 -- the first thing wrong with a list of handles
-handle_twice : directives_problem [] (record { handle = codes "!a!"; prefix = codes "x" } ∷ record { handle = codes "!a!"; prefix = codes "y" } ∷ []) ≡ Some problem.HandleTwice
+handle_twice : directives_problem [] (record { handle = codes "!a!"; prefix = codes "x" }
+    ∷ record { handle = codes "!a!"; prefix = codes "y" } ∷ []) ≡ Some problem.HandleTwice
 unfolding directives_problem handle_problem is_alpha_byte is_digit_byte
 handle_twice = refl

@@ -33,45 +33,57 @@ use Rattle.yaml_emit_machine.proofs.Taking.{takes_none, takes_on, takes_first, t
 -- ---- the events of a document, one by one
 
 -- an event of those that are left was taken, and the others are left where the dump goes on
-pub takes_next : (going : Bool) (old new : Emitter) (before after : List Event) (e : Event) → before ≡ e ∷ after → ((es : List Event) → TakesEvents old (e ∷ es) new (left_if going es)) → TakesEvents old before new (left_if going after)
+pub takes_next : (going : Bool) (old new : Emitter) (before after : List Event) (e : Event)
+    → before ≡ e ∷ after → ((es : List Event) → TakesEvents old (e ∷ es) new (left_if going es))
+    → TakesEvents old before new (left_if going after)
 takes_next going old new before after e c t = let P : List Event → Type 0 = λ z. TakesEvents old z new (left_if going after) in subst P (sym c) (t after)
 
-pub one_less_left : (before after : List Event) (e : Event) → before ≡ e ∷ after → length after < length before
+pub one_less_left : (before after : List Event) (e : Event) → before ≡ e ∷ after
+    → length after < length before
 one_less_left before after e c = let P : List Event → Type 0 = λ z. length after < length z in subst P (sym c) (omega arith)
 
 -- memory is noted by both of two calls
-pub notes_through : (a b c : Emitter) (es fs gs hs : List Event) → TakesEvents a es b fs → TakesEvents b gs c hs → NotesMemory true a b → NotesMemory true b c → NotesMemory true a c
+pub notes_through : (a b c : Emitter) (es fs gs hs : List Event) → TakesEvents a es b fs
+    → TakesEvents b gs c hs → NotesMemory true a b → NotesMemory true b c → NotesMemory true a c
 notes_through a b c es fs gs hs p q m n = notes_on a b c p.going q.going m n
 
 -- ---- memory was refused for the dump
 
-going_at : (s : Status) (v : Settings) (st : State) (o : Output) (es : List Event) (whole : List Item) → s ≡ Going → FinishesAt s v st o es whole → FinishesBy v st o es whole
+going_at : (s : Status) (v : Settings) (st : State) (o : Output) (es : List Event)
+    (whole : List Item) → s ≡ Going → FinishesAt s v st o es whole → FinishesBy v st o es whole
 going_at Going v st o es whole g h = h
 going_at Full v st o es whole g h = absurd (cc)
 going_at Deep v st o es whole g h = absurd (cc)
 going_at Starved v st o es whole g h = absurd (cc)
 
-stopped_at : (s : Status) (v : Settings) (st : State) (o : Output) (es : List Event) (whole : List Item) → s ≢ Going → FinishesAt s v st o es whole → Ends o [] whole
+stopped_at : (s : Status) (v : Settings) (st : State) (o : Output) (es : List Event)
+    (whole : List Item) → s ≢ Going → FinishesAt s v st o es whole → Ends o [] whole
 stopped_at Going v st o es whole n h = absurd (n refl)
 stopped_at Full v st o es whole n h = h
 stopped_at Deep v st o es whole n h = h
 stopped_at Starved v st o es whole n h = h
 
-at_stopped : (s : Status) (v : Settings) (st : State) (o : Output) (es : List Event) (whole : List Item) → s ≢ Going → Ends o [] whole → FinishesAt s v st o es whole
+at_stopped : (s : Status) (v : Settings) (st : State) (o : Output) (es : List Event)
+    (whole : List Item) → s ≢ Going → Ends o [] whole → FinishesAt s v st o es whole
 at_stopped Going v st o es whole n h = absurd (n refl)
 at_stopped Full v st o es whole n h = h
 at_stopped Deep v st o es whole n h = h
 at_stopped Starved v st o es whole n h = h
 
-starved_finishes : (old new : Core) (xs ys : List Event) (whole : List Item) → Starves old new → Finishes (settings_of old) (state_of old) old.sink xs whole → Finishes (settings_of new) (state_of new) new.sink ys whole
+starved_finishes : (old new : Core) (xs ys : List Event) (whole : List Item) → Starves old new
+    → Finishes (settings_of old) (state_of old) old.sink xs whole
+    → Finishes (settings_of new) (state_of new) new.sink ys whole
 unfolding Finishes
 starved_finishes old new xs ys whole s h =
     at_stopped new.sink.status (settings_of new) (state_of new) new.sink ys whole s.stopped (status_cases old.sink.status
     (λ g. let f = going_at old.sink.status (settings_of old) (state_of old) old.sink xs whole g h in (s.text (layout (settings_of old) f.rest)).ends nothing_more whole f.ends)
     (λ n. (s.text stay).ends nothing_more whole (ends_other old.sink [] _ whole n (stopped_at old.sink.status (settings_of old) (state_of old) old.sink xs whole n h))))
 
-starved_completes : (i : Inside) (core : Core) (fault : Option Fault) (x : Encoding) (xs ys : List Event) (whole : List Item) → i.fresh ≡ false → Starves i.core core
-    → Completes (emitter_of i) x xs whole → Completes (seen i.requested_settings core (held_events i.held) i.fresh i.opened i.closed fault) x ys whole
+starved_completes : (i : Inside) (core : Core) (fault : Option Fault) (x : Encoding)
+    (xs ys : List Event) (whole : List Item) → i.fresh ≡ false → Starves i.core core
+    → Completes (emitter_of i) x xs whole
+    → Completes (seen i.requested_settings core (held_events i.held) i.fresh i.opened i.closed
+    fault) x ys whole
 unfolding Completes
 starved_completes i core fault x xs ys whole a s c =
     let P : Bool → Type 0 = λ z. CompletesBy z (emitter_of i) x xs whole in
@@ -79,18 +91,25 @@ starved_completes i core fault x xs ys whole a s c =
     let k = subst P a c in
     subst Q (sym a) ((s.text stay).encoding ∙ k.0, starved_finishes i.core core _ _ whole s k.1)
 
-starved_all : (old new : Core) (xs ys : List Event) (whole : List Item) → Starves old new → LaysAll (settings_of old) (state_of old) old.sink xs whole → LaysAll (settings_of new) (state_of new) new.sink ys whole
+starved_all : (old new : Core) (xs ys : List Event) (whole : List Item) → Starves old new
+    → LaysAll (settings_of old) (state_of old) old.sink xs whole
+    → LaysAll (settings_of new) (state_of new) new.sink ys whole
 unfolding LaysAll
 starved_all old new xs ys whole s h =
     let before : Layout = λ c rest. text_among (settings_of old) (state_of old) xs c nothing_more in
     (s.text before).ends (λ c. text_among (settings_of new) (state_of new) ys c nothing_more) whole h
 
-starved_lets_out : (old new : Core) (xs ys : List Event) (whole : List Item) → Starves old new → LetsOut (settings_of old) (state_of old) old.sink xs whole → LetsOut (settings_of new) (state_of new) new.sink ys whole
+starved_lets_out : (old new : Core) (xs ys : List Event) (whole : List Item) → Starves old new
+    → LetsOut (settings_of old) (state_of old) old.sink xs whole
+    → LetsOut (settings_of new) (state_of new) new.sink ys whole
 unfolding LetsOut LaysAll
 starved_lets_out old new xs ys whole s h = starved_all old new (let_out xs) (let_out ys) whole s h
 
-starved_lays : (i : Inside) (core : Core) (fault : Option Fault) (x : Encoding) (xs ys : List Event) (whole : List Item) → i.fresh ≡ false → Starves i.core core
-    → Lays (emitter_of i) x xs whole → Lays (seen i.requested_settings core (held_events i.held) i.fresh i.opened i.closed fault) x ys whole
+starved_lays : (i : Inside) (core : Core) (fault : Option Fault) (x : Encoding) (xs ys : List Event)
+    (whole : List Item) → i.fresh ≡ false → Starves i.core core
+    → Lays (emitter_of i) x xs whole
+    → Lays (seen i.requested_settings core (held_events i.held) i.fresh i.opened i.closed fault) x
+    ys whole
 unfolding Lays
 starved_lays i core fault x xs ys whole a s c =
     let P : Bool → Type 0 = λ z. LaysBy z (emitter_of i) x xs whole in
@@ -98,8 +117,11 @@ starved_lays i core fault x xs ys whole a s c =
     let k = subst P a c in
     subst Q (sym a) ((s.text stay).encoding ∙ k.0, starved_all i.core core _ _ whole s k.1)
 
-starved_writes : (i : Inside) (core : Core) (fault : Option Fault) (x : Encoding) (xs ys : List Event) (whole : List Item) → i.fresh ≡ false → Starves i.core core
-    → Writes (emitter_of i) x xs whole → Writes (seen i.requested_settings core (held_events i.held) i.fresh i.opened i.closed fault) x ys whole
+starved_writes : (i : Inside) (core : Core) (fault : Option Fault) (x : Encoding)
+    (xs ys : List Event) (whole : List Item) → i.fresh ≡ false → Starves i.core core
+    → Writes (emitter_of i) x xs whole
+    → Writes (seen i.requested_settings core (held_events i.held) i.fresh i.opened i.closed fault) x
+    ys whole
 unfolding Writes
 starved_writes i core fault x xs ys whole a s c =
     let P : Bool → Type 0 = λ z. WritesBy z (emitter_of i) x xs whole in
@@ -108,8 +130,10 @@ starved_writes i core fault x xs ys whole a s c =
     subst Q (sym a) ((s.text stay).encoding ∙ k.0, starved_lets_out i.core core _ _ whole s k.1)
 
 -- what follows counts for nothing
-pub inside_starves : (i : Inside) (core : Core) (fault : Option Fault) (es : List Event) → i.fresh ≡ false → Starves i.core core
-    → TakesEvents (emitter_of i) es (seen i.requested_settings core (held_events i.held) i.fresh i.opened i.closed fault) []
+pub inside_starves : (i : Inside) (core : Core) (fault : Option Fault) (es : List Event)
+    → i.fresh ≡ false → Starves i.core core
+    → TakesEvents (emitter_of i) es (seen i.requested_settings core (held_events i.held) i.fresh
+    i.opened i.closed fault) []
 inside_starves i core fault es fr s = record {
   completes = λ x more whole h. starved_completes i core fault x (es ++ more) more whole fr s h;
   refuses = λ g more. absurd (s.stopped g);
@@ -124,59 +148,81 @@ inside_starves i core fault es fr s = record {
 }
 
 pub inside_starves_notes : (i : Inside) (core : Core) (fault : Option Fault) → Starves i.core core
-    → NotesMemory true (emitter_of i) (seen i.requested_settings core (held_events i.held) i.fresh i.opened i.closed fault)
+    → NotesMemory true (emitter_of i)
+    (seen i.requested_settings core (held_events i.held) i.fresh i.opened i.closed fault)
 inside_starves_notes i core fault s = notes_starved i.core core s
 
 -- ---- the whole dump
 
 -- the end of the stream, unless it has come
-takes_closing : (closed : Bool) (old new : Emitter) → (closed ≡ true → new ≡ old) → (closed ≡ false → TakesEvents old (stream_end ∷ []) new []) → TakesEvents old (closing_events closed) new []
+takes_closing : (closed : Bool) (old new : Emitter) → (closed ≡ true → new ≡ old)
+    → (closed ≡ false → TakesEvents old (stream_end ∷ []) new [])
+    → TakesEvents old (closing_events closed) new []
 takes_closing true old new a t = let P : Emitter → Type 0 = λ z. TakesEvents old [] z [] in subst P (sym (a refl)) (takes_none old [])
 takes_closing false old new a t = t refl
 
-notes_closing : (closed : Bool) (old new : Emitter) → (closed ≡ true → new ≡ old) → (closed ≡ false → NotesMemoryOf stream_end old new) → NotesMemory true old new
+notes_closing : (closed : Bool) (old new : Emitter) → (closed ≡ true → new ≡ old)
+    → (closed ≡ false → NotesMemoryOf stream_end old new) → NotesMemory true old new
 notes_closing true old new a m = let P : Emitter → Type 0 = λ z. NotesMemory true old z in subst P (sym (a refl)) (λ n. refl)
 notes_closing false old new a m = notes_any stream_end old new (m refl)
 
-pub document_events_none : (ns : List Node) (closed : Bool) (d : Document) → length ns ≡ 0 → document_events_by closed ns d ≡ closing_events closed
+pub document_events_none : (ns : List Node) (closed : Bool) (d : Document) → length ns ≡ 0
+    → document_events_by closed ns d ≡ closing_events closed
 document_events_none [] closed d e = refl
 document_events_none (n ∷ ns) closed d e = absurd (omega arith)
 
-pub document_events_some : (ns : List Node) (closed : Bool) (d : Document) → length ns ≢ 0 → document_events_by closed ns d ≡ dumped d
+pub document_events_some : (ns : List Node) (closed : Bool) (d : Document) → length ns ≢ 0
+    → document_events_by closed ns d ≡ dumped d
 document_events_some [] closed d e = absurd (e refl)
 document_events_some (n ∷ ns) closed d e = refl
 
 -- the stream is open
-pub takes_opened : (e : Emitter) (es : List Event) → e.opened ≡ true → TakesEvents e (opening_events e.opened ++ es) e es
+pub takes_opened : (e : Emitter) (es : List Event) → e.opened ≡ true
+    → TakesEvents e (opening_events e.opened ++ es) e es
 takes_opened e es on = let P : Bool → Type 0 = λ b. TakesEvents e (opening_events b ++ es) e es in subst P (sym on) (takes_none e es)
 
 -- it was opened
-pub takes_opening : (old new : Emitter) (es : List Event) → old.opened ≡ false → TakesEvents old (opening_event ∷ []) new [] → TakesEvents old (opening_events old.opened ++ es) new es
+pub takes_opening : (old new : Emitter) (es : List Event) → old.opened ≡ false
+    → TakesEvents old (opening_event ∷ []) new []
+    → TakesEvents old (opening_events old.opened ++ es) new es
 takes_opening old new es off t = let P : Bool → Type 0 = λ b. TakesEvents old (opening_events b ++ es) new es in subst P (sym off) (takes_first old new opening_event es t)
 
 -- its start was refused
-pub takes_unopened : (old new : Emitter) (es : List Event) → old.opened ≡ false → TakesEvents old (opening_event ∷ []) new [] → Stuck new → TakesEvents old (opening_events old.opened ++ es) new []
+pub takes_unopened : (old new : Emitter) (es : List Event) → old.opened ≡ false
+    → TakesEvents old (opening_event ∷ []) new [] → Stuck new
+    → TakesEvents old (opening_events old.opened ++ es) new []
 takes_unopened old new es off t s = let P : Bool → Type 0 = λ b. TakesEvents old (opening_events b ++ es) new [] in subst P (sym off) (takes_stuck old new opening_event es t s)
 
 -- a document without a root ends the stream
-pub takes_end : (old new : Emitter) (d : Document) (count : ℕ) → count ≡ length d.nodes → count ≡ 0 → (old.closed ≡ true → new ≡ old) → (old.closed ≡ false → TakesEvents old (stream_end ∷ []) new []) → TakesEvents old (document_events old.closed d) new []
+pub takes_end : (old new : Emitter) (d : Document) (count : ℕ) → count ≡ length d.nodes → count ≡ 0
+    → (old.closed ≡ true → new ≡ old)
+    → (old.closed ≡ false → TakesEvents old (stream_end ∷ []) new [])
+    → TakesEvents old (document_events old.closed d) new []
 takes_end old new d count n h a t = let P : List Event → Type 0 = λ z. TakesEvents old z new [] in subst P (sym (document_events_none d.nodes old.closed d (sym n ∙ h))) (takes_closing old.closed old new a t)
 
-pub notes_end : (old new : Emitter) → (old.closed ≡ true → new ≡ old) → (old.closed ≡ false → NotesMemoryOf stream_end old new) → NotesMemory true old new
+pub notes_end : (old new : Emitter) → (old.closed ≡ true → new ≡ old)
+    → (old.closed ≡ false → NotesMemoryOf stream_end old new) → NotesMemory true old new
 notes_end old new a m = notes_closing old.closed old new a m
 
 -- one with a root is written
-pub takes_document : (old new : Emitter) (d : Document) (count : ℕ) → count ≡ length d.nodes → count ≢ 0 → TakesEvents old (dumped d) new [] → TakesEvents old (document_events old.closed d) new []
+pub takes_document : (old new : Emitter) (d : Document) (count : ℕ) → count ≡ length d.nodes
+    → count ≢ 0 → TakesEvents old (dumped d) new []
+    → TakesEvents old (document_events old.closed d) new []
 takes_document old new d count n h t = let P : List Event → Type 0 = λ z. TakesEvents old z new [] in subst P (sym (document_events_some d.nodes old.closed d (λ z. h (n ∙ z)))) t
 
 -- the stream is open, and the document follows
-pub dump_then : (old mid new : Emitter) (d : Document) (b : Bool) → b ≡ true → ((es : List Event) → TakesEvents old (opening_events old.opened ++ es) mid (left_if b es)) → mid.closed ≡ old.closed
-    → TakesEvents mid (document_events mid.closed d) new [] → TakesEvents old (dump_events old d) new []
+pub dump_then : (old mid new : Emitter) (d : Document) (b : Bool) → b ≡ true
+    → ((es : List Event) → TakesEvents old (opening_events old.opened ++ es) mid (left_if b es))
+    → mid.closed ≡ old.closed
+    → TakesEvents mid (document_events mid.closed d) new []
+    → TakesEvents old (dump_events old d) new []
 dump_then old mid new d true h t c n =
     let P : Bool → Type 0 = λ z. TakesEvents mid (document_events z d) new [] in
     takes_on old mid new _ _ _ (t (document_events old.closed d)) (subst P c n)
 dump_then old mid new d false h t c n = absurd (cc)
 
-pub dump_else : (old mid : Emitter) (d : Document) (b : Bool) → b ≡ false → ((es : List Event) → TakesEvents old (opening_events old.opened ++ es) mid (left_if b es)) → TakesEvents old (dump_events old d) mid []
+pub dump_else : (old mid : Emitter) (d : Document) (b : Bool) → b ≡ false
+    → ((es : List Event) → TakesEvents old (opening_events old.opened ++ es) mid (left_if b es))
+    → TakesEvents old (dump_events old d) mid []
 dump_else old mid d true h t = absurd (cc)
 dump_else old mid d false h t = t (document_events old.closed d)

@@ -35,7 +35,8 @@ formed core canonical = record {
   line_break = core.settings.line_break;
 }
 
-same_piece : (core : Core) (st : State) (e : Event) (empty : Bool) → piece (formed core true) st e false ≡ piece (formed core true) st e empty
+same_piece : (core : Core) (st : State) (e : Event) (empty : Bool)
+    → piece (formed core true) st e false ≡ piece (formed core true) st e empty
 unfolding text_at depth_at is_simple_event is_simple_scalar is_simple_alias is_simple_start
 same_piece core st no_event empty = refl
 same_piece core st (stream_start x) empty = refl
@@ -49,7 +50,8 @@ same_piece core st (mapping_start p) empty = refl
 same_piece core st sequence_end empty = refl
 same_piece core st mapping_end empty = refl
 
-same_next : (core : Core) (st : State) (e : Event) (empty : Bool) (c : Cursor) → next (formed core true) st e false c ≡ next (formed core true) st e empty c
+same_next : (core : Core) (st : State) (e : Event) (empty : Bool) (c : Cursor)
+    → next (formed core true) st e false c ≡ next (formed core true) st e empty c
 unfolding next_at is_simple_event is_simple_scalar is_simple_alias is_simple_start
 same_next core st no_event empty c = refl
 same_next core st (stream_start x) empty c = refl
@@ -63,7 +65,8 @@ same_next core st (mapping_start p) empty c = refl
 same_next core st sequence_end empty c = refl
 same_next core st mapping_end empty c = refl
 
-lays_either : (old new : Core) (e : Event) (empty : Bool) → (settings_of old).canonical ≡ true → LaysOut old new e false → LaysOut old new e empty
+lays_either : (old new : Core) (e : Event) (empty : Bool) → (settings_of old).canonical ≡ true
+    → LaysOut old new e false → LaysOut old new e empty
 lays_either old new e empty h l =
     let st : State = state_of old in
     let P : Bool → Type 0 = λ b. piece (formed old b) st e false ≡ piece (formed old b) st e empty in
@@ -76,8 +79,10 @@ lays_either old new e empty h l =
       memory = l.memory;
     }
 
-pub inside_gives : (i : Inside) (core : Core) (fault : Option Fault) (e : Event) → refused_at i.core.place ≡ None → LaysAtOnce (emitter_of i) → LaysOut i.core core e false
-    → GivesText (emitter_of i) e (seen i.requested_settings core (held_events i.held) i.fresh i.opened i.closed fault)
+pub inside_gives : (i : Inside) (core : Core) (fault : Option Fault) (e : Event)
+    → refused_at i.core.place ≡ None → LaysAtOnce (emitter_of i) → LaysOut i.core core e false
+    → GivesText (emitter_of i) e (seen i.requested_settings core (held_events i.held) i.fresh
+    i.opened i.closed fault)
 inside_gives i core fault e o once l =
     let new : Emitter = seen i.requested_settings core (held_events i.held) i.fresh i.opened i.closed fault in
     record {
@@ -102,8 +107,10 @@ alone_notes : (t : Bool) (a b : Status) → may_note (t || false) a b ≡ false 
 alone_notes true a b h = h
 alone_notes false a b h = h
 
-pub inside_notes_early : (i : Inside) (core : Core) (fault : Option Fault) (e : Event) → LaysAtOnce (emitter_of i) → LaysOut i.core core e false
-    → NotesMemoryOf e (emitter_of i) (seen i.requested_settings core (held_events i.held) i.fresh i.opened i.closed fault)
+pub inside_notes_early : (i : Inside) (core : Core) (fault : Option Fault) (e : Event)
+    → LaysAtOnce (emitter_of i) → LaysOut i.core core e false
+    → NotesMemoryOf e (emitter_of i) (seen i.requested_settings core (held_events i.held) i.fresh
+    i.opened i.closed fault)
 inside_notes_early i core fault e once l =
     let P : List Event → Type 0 = λ z. may_note (take_memory (z ++ e ∷ [])) i.core.sink.status core.sink.status ≡ false in
     λ h. l.memory (alone_notes (takes_memory e) i.core.sink.status core.sink.status (subst P once.none h))

@@ -32,7 +32,8 @@ use Rattle.yaml_emit_held.specs.Judged.{refused_at}
 use Rattle.yaml_emit_machine.proofs.Ending.{all_written}
 use Rattle.yaml_emit_machine.proofs.Viewing.{seen}
 
-pub refusal_none : (p : Expected) (s : Status) (b : Bool) → refusal_by p s b ≡ None → goes_on s p ≡ true
+pub refusal_none : (p : Expected) (s : Status) (b : Bool) → refusal_by p s b ≡ None
+    → goes_on s p ≡ true
 refusal_none at.StreamStart Going b h = refl
 refusal_none (at.Documents first unended) Going b h = refl
 refusal_none at.Node Going b h = refl
@@ -54,7 +55,8 @@ not_refused (frames g (f ∷ fs) implicit ds) p h = cc
 not_refused nothing p h = cc
 
 -- going on, a refusal is that of a refused event
-going_refused : (p : Expected) (f : Fault) (st : State) (k : ToCome) → st.place ≡ p → option_map problem_fault (refused_at p) ≡ Some f → st ≡ come.state_of k → ⊥
+going_refused : (p : Expected) (f : Fault) (st : State) (k : ToCome) → st.place ≡ p
+    → option_map problem_fault (refused_at p) ≡ Some f → st ≡ come.state_of k → ⊥
 going_refused (at.Refused q) f st k w h e = not_refused k q (sym w ∙ ap (λ (z : State). z.place) e)
 going_refused at.StreamStart f st k w h e = cc
 going_refused (at.Documents first unended) f st k w h e = cc
@@ -62,14 +64,18 @@ going_refused at.Node f st k w h e = cc
 going_refused at.DocumentEnd f st k w h e = cc
 going_refused at.End f st k w h e = cc
 
-finishes_stopped : (s : Status) (v : Settings) (st : State) (o : Output) (levels : Bool) (f : Fault) (xs ys : List Event) (whole : List Item) → refusal_by st.place s levels ≡ Some f → FinishesAt s v st o xs whole → FinishesAt s v st o ys whole
+finishes_stopped : (s : Status) (v : Settings) (st : State) (o : Output) (levels : Bool) (f : Fault)
+    (xs ys : List Event) (whole : List Item) → refusal_by st.place s levels ≡ Some f
+    → FinishesAt s v st o xs whole → FinishesAt s v st o ys whole
 finishes_stopped Going v st o levels f xs ys whole h r = absurd (going_refused st.place f st r.rest refl h r.fits)
 finishes_stopped Full v st o levels f xs ys whole h r = r
 finishes_stopped Deep v st o levels f xs ys whole h r = r
 finishes_stopped Starved v st o levels f xs ys whole h r = r
 
 -- behind a fault the events that come count for nothing
-pub stopped_completes : (e : Emitter) (f : Fault) (x : Encoding) (xs ys : List Event) (whole : List Item) → e.fresh ≡ false → stop_of e ≡ Some f → Completes e x xs whole → Completes e x ys whole
+pub stopped_completes : (e : Emitter) (f : Fault) (x : Encoding) (xs ys : List Event)
+    (whole : List Item) → e.fresh ≡ false → stop_of e ≡ Some f → Completes e x xs whole
+    → Completes e x ys whole
 unfolding Completes Finishes
 stopped_completes e f x xs ys whole b h c =
     let P : Bool → Type 0 = λ z. CompletesBy z e x xs whole in
@@ -78,8 +84,11 @@ stopped_completes e f x xs ys whole b h c =
     subst Q (sym b) (k.0, finishes_stopped e.status e.course.settings e.course.state (text_of e) e.starved f _ _ whole h k.1)
 
 -- an event was given
-pub lay_completes : (old new : Emitter) (e : Event) (h : List Event) (x : Encoding) (es : List Event) (whole : List Item) → old.fresh ≡ false → new.fresh ≡ false → h ≡ old.held
-    → (Finishes old.course.settings old.course.state (text_of old) ((h ++ e ∷ []) ++ es) whole → Finishes new.course.settings new.course.state (text_of new) (new.held ++ es) whole) → new.course.settings.encoding ≡ old.course.settings.encoding
+pub lay_completes : (old new : Emitter) (e : Event) (h : List Event) (x : Encoding)
+    (es : List Event) (whole : List Item) → old.fresh ≡ false → new.fresh ≡ false → h ≡ old.held
+    → (Finishes old.course.settings old.course.state (text_of old) ((h ++ e ∷ []) ++ es) whole
+    → Finishes new.course.settings new.course.state (text_of new) (new.held ++ es) whole)
+    → new.course.settings.encoding ≡ old.course.settings.encoding
     → Completes old x (e ∷ es) whole → Completes new x es whole
 unfolding Completes
 lay_completes old new e h x es whole a b same on coded c =
@@ -91,8 +100,12 @@ lay_completes old new e h x es whole a b same on coded c =
     subst Q (sym b) (coded ∙ k.0, on (subst R move k.1))
 
 -- the settings came into force
-pub begin_completes : (old : Emitter) (core : Core) (held : List Event) (opened closed : Bool) (fault : Option Fault) (e : Event) (x : Encoding) (es : List Event) (whole : List Item) → old.fresh ≡ true → held ≡ []
-    → IsFresh core (settled old.requested_settings (stream_encoding e)) → Completes old x (e ∷ es) whole → Completes (seen old.requested_settings core held false opened closed fault) x (e ∷ es) whole
+pub begin_completes : (old : Emitter) (core : Core) (held : List Event) (opened closed : Bool)
+    (fault : Option Fault) (e : Event) (x : Encoding) (es : List Event) (whole : List Item)
+    → old.fresh ≡ true → held ≡ []
+    → IsFresh core (settled old.requested_settings (stream_encoding e))
+    → Completes old x (e ∷ es) whole
+    → Completes (seen old.requested_settings core held false opened closed fault) x (e ∷ es) whole
 unfolding Completes
 begin_completes old core held opened closed fault e x es whole a none f c =
     let P : Bool → Type 0 = λ z. CompletesBy z old x (e ∷ es) whole in
@@ -106,37 +119,45 @@ begin_completes old core held opened closed fault e x es whole a none f c =
     let S : List Item → Type 0 = λ t. Finishes (settings_of core) (state_of core) core.sink (held ++ (e ∷ es)) t in
     (ap (λ (z : Settings). z.encoding) f'.settings ∙ sym k.coded, subst S (sym k.is) (subst R (sym (ap (λ z. z ++ (e ∷ es)) none ∙ k.same)) done))
 
-written_by : (s : Status) (limit : ℕ) (x : Encoding) (bytes : List ℕ) (text whole : List Item) → EndsBy s limit x bytes text whole → HasWritten s limit bytes (encode x whole) (is_deep whole)
+written_by : (s : Status) (limit : ℕ) (x : Encoding) (bytes : List ℕ) (text whole : List Item)
+    → EndsBy s limit x bytes text whole → HasWritten s limit bytes (encode x whole) (is_deep whole)
 written_by Going limit x bytes text whole h = (encode x text, h.0)
 written_by Full limit x bytes text whole h = h
 written_by Deep limit x bytes text whole h = (h.0, deep_written x bytes whole h.1)
 written_by Starved limit x bytes text whole h = h
 
-ends_written : (s : Status) (o : Output) (text whole : List Item) → s ≡ o.status → Ends o text whole → HasWritten s o.limit o.bytes (encode o.encoding whole) (is_deep whole)
+ends_written : (s : Status) (o : Output) (text whole : List Item) → s ≡ o.status → Ends o text whole
+    → HasWritten s o.limit o.bytes (encode o.encoding whole) (is_deep whole)
 unfolding Ends
 ends_written s o text whole e h = let P : Status → Type 0 = λ z. EndsBy z o.limit o.encoding o.bytes text whole in written_by s o.limit o.encoding o.bytes text whole (subst P (sym e) h)
 
-finishes_written : (s : Status) (v : Settings) (st : State) (o : Output) (es : List Event) (whole : List Item) → s ≡ o.status → FinishesAt s v st o es whole → HasWritten s o.limit o.bytes (encode o.encoding whole) (is_deep whole)
+finishes_written : (s : Status) (v : Settings) (st : State) (o : Output) (es : List Event)
+    (whole : List Item) → s ≡ o.status → FinishesAt s v st o es whole
+    → HasWritten s o.limit o.bytes (encode o.encoding whole) (is_deep whole)
 finishes_written Going v st o es whole e h = ends_written Going o _ whole e h.ends
 finishes_written Full v st o es whole e h = ends_written Full o [] whole e h
 finishes_written Deep v st o es whole e h = ends_written Deep o [] whole e h
 finishes_written Starved v st o es whole e h = ends_written Starved o [] whole e h
 
-fresh_written : (s : Status) (limit : ℕ) (output bytes : List ℕ) (deep : Bool) → s ≡ Going → output ≡ [] → HasWritten s limit output bytes deep
+fresh_written : (s : Status) (limit : ℕ) (output bytes : List ℕ) (deep : Bool) → s ≡ Going
+    → output ≡ [] → HasWritten s limit output bytes deep
 fresh_written Going limit output bytes deep g e = (bytes, rw e refl)
 fresh_written Full limit output bytes deep g e = absurd (cc)
 fresh_written Deep limit output bytes deep g e = absurd (cc)
 fresh_written Starved limit output bytes deep g e = absurd (cc)
 
-completes_written : (b : Bool) (e : Emitter) (x : Encoding) (es : List Event) (whole : List Item) → e.fresh ≡ b → (e.fresh ≡ true → (e.output ≡ []) × (e.status ≡ Going))
-    → CompletesBy b e x es whole → HasWritten e.status e.limit e.output (encode x whole) (is_deep whole)
+completes_written : (b : Bool) (e : Emitter) (x : Encoding) (es : List Event) (whole : List Item)
+    → e.fresh ≡ b → (e.fresh ≡ true → (e.output ≡ []) × (e.status ≡ Going))
+    → CompletesBy b e x es whole
+    → HasWritten e.status e.limit e.output (encode x whole) (is_deep whole)
 unfolding Finishes
 completes_written true e x es whole same n h = fresh_written e.status e.limit e.output (encode x whole) (is_deep whole) (n same).1 (n same).0
 completes_written false e x es whole same n h =
     let Q : Encoding → Type 0 = λ z. HasWritten e.status e.limit e.output (encode z whole) (is_deep whole) in
     subst Q h.0 (finishes_written e.status e.course.settings e.course.state (text_of e) _ whole refl h.1)
 
-pub front_written : (e : Emitter) (x : Encoding) (es : List Event) (whole : List Item) → (e.fresh ≡ true → (e.output ≡ []) × (e.status ≡ Going))
+pub front_written : (e : Emitter) (x : Encoding) (es : List Event) (whole : List Item)
+    → (e.fresh ≡ true → (e.output ≡ []) × (e.status ≡ Going))
     → Completes e x es whole → HasWritten e.status e.limit e.output (encode x whole) (is_deep whole)
 unfolding Completes
 front_written e x es whole n h = completes_written e.fresh e x es whole refl n h
@@ -145,7 +166,10 @@ some_same : (g f : Fault) → Some g ≡ Some f → f ≡ g
 some_same g f h = cc
 
 -- going on, an emitter with a fault completes no text
-going_never : (e : Emitter) (f : Fault) (x : Encoding) (es : List Event) (whole : List Item) → e.fresh ≡ false → e.status ≡ Going → option_map problem_fault (refused_at e.course.state.place) ≡ Some f → Completes e x es whole → ⊥
+going_never : (e : Emitter) (f : Fault) (x : Encoding) (es : List Event) (whole : List Item)
+    → e.fresh ≡ false → e.status ≡ Going
+    → option_map problem_fault (refused_at e.course.state.place) ≡ Some f → Completes e x es whole
+    → ⊥
 unfolding Completes Finishes
 going_never e f x es whole b g h c =
     let P : Bool → Type 0 = λ z. CompletesBy z e x es whole in
@@ -154,12 +178,15 @@ going_never e f x es whole b g h c =
     let r : FinishesBy e.course.settings e.course.state (text_of e) (e.held ++ es) whole = subst S g k.1 in
     going_refused e.course.state.place f e.course.state r.rest refl h r.fits
 
-starved_fault : (levels : Bool) (f : Fault) → f ≡ memory_fault (memory_origin levels) → IsMemoryFault emit_layers f
+starved_fault : (levels : Bool) (f : Fault) → f ≡ memory_fault (memory_origin levels)
+    → IsMemoryFault emit_layers f
 starved_fault true f h = inl h
 starved_fault false f h = inr h
 
-limited_by : (s : Status) (e : Emitter) (f : Fault) → e.status ≡ s → e.fresh ≡ false → refusal_by e.course.state.place s e.starved ≡ Some f
-    → ((x : Encoding) (es : List Event) (whole : List Item) → Completes e x es whole → HasWritten s e.limit e.output (encode x whole) (is_deep whole)) → IsLimited e f
+limited_by : (s : Status) (e : Emitter) (f : Fault) → e.status ≡ s → e.fresh ≡ false
+    → refusal_by e.course.state.place s e.starved ≡ Some f
+    → ((x : Encoding) (es : List Event) (whole : List Item) → Completes e x es whole
+    → HasWritten s e.limit e.output (encode x whole) (is_deep whole)) → IsLimited e f
 limited_by Going e f s b h w = inr (λ x es whole c. absurd (going_never e f x es whole b s h c))
 limited_by Full e f s b h w = inr (λ x es whole c. inl (some_same write_error f h, (w x es whole c).1))
 limited_by Deep e f s b h w = inr (λ x es whole c. inr (some_same too_deep f h, (w x es whole c).0))
@@ -195,14 +222,17 @@ going_none at.End b h = refl
 going_none (at.Refused p) b h = absurd (cc)
 
 -- going on, there is no fault
-pub unnoted : (core : Core) (f : Option Fault) → f ≡ None → goes_on core.sink.status core.place ≡ true → f ≡ refusal_by core.place core.sink.status core.starved
+pub unnoted : (core : Core) (f : Option Fault) → f ≡ None
+    → goes_on core.sink.status core.place ≡ true
+    → f ≡ refusal_by core.place core.sink.status core.starved
 unnoted core f none h =
     let g = goes_going core.sink.status core.place h in
     let P : Status → Type 0 = λ s. refusal_by core.place s core.starved ≡ None in
     let Q : Status → Type 0 = λ s. goes_on s core.place ≡ true in
     none ∙ sym (subst P (sym g) (going_none core.place core.starved (subst Q g h)))
 
-pub fresh_refusal : (core : Core) (s : Settings) → IsFresh core s → refusal_by core.place core.sink.status core.starved ≡ None
+pub fresh_refusal : (core : Core) (s : Settings) → IsFresh core s
+    → refusal_by core.place core.sink.status core.starved ≡ None
 fresh_refusal core s f = let k : core.place ≡ at.StreamStart = ap (λ (z : State). z.place) f.state in rw (k, f.status) refl
 
 pub inside_front : (i : Inside) → IsEmitter i → ShowsFront (emitter_of i) i.core.sink.bytes
@@ -218,7 +248,8 @@ not_true false n = refl
 not_true true n = absurd (n refl)
 
 -- why an emitter has a fault
-pub inside_limited : (i : Inside) → IsEmitter i → (f : Fault) → option_map fault_of i.fault ≡ Some f → IsLimited (emitter_of i) f
+pub inside_limited : (i : Inside) → IsEmitter i → (f : Fault) → option_map fault_of i.fault ≡ Some f
+    → IsLimited (emitter_of i) f
 inside_limited i inv f is =
     let fr : i.fresh ≡ false = not_true i.fresh (λ t. let k = (inv.begun t).1.0 in cc) in
     limited_by i.core.sink.status (emitter_of i) f refl fr (sym inv.faulty ∙ is) (inside_front i inv)

@@ -79,7 +79,8 @@ ready_frame (pairs_left flow n fresh (pair u v ps)) es h =
     ready_node u _ (omega (arith, k, l, h))
 ready_frame (value_left flow n simple v ps) es h = let k = long_pairs ps (mapping_end ∷ es) in ready_node v _ (omega (arith, k, h))
 
-ready_rest : (k : ToCome) (e : Event) (es : List Event) → e ∷ es ≡ events k → is_ready (events k) ≡ true
+ready_rest : (k : ToCome) (e : Event) (es : List Event) → e ∷ es ≡ events k
+    → is_ready (events k) ≡ true
 unfolding events documents_events frames_events
 ready_rest (stream x ds) e es h = none_needed _ _ refl
 ready_rest (documents first unended []) e es h = none_needed _ _ refl
@@ -113,7 +114,9 @@ pub nothing_held : (xs : List Event) (k : ToCome) → is_ready xs ≡ false → 
 nothing_held [] k w h = refl
 nothing_held (x ∷ xs) k w h = let r = ready_rest k x xs h in let P : List Event → Type 0 = λ z. is_ready z ≡ true in let r' : is_ready (x ∷ xs) ≡ true = subst P (sym h) r in absurd (cc)
 
-written_at : (s : Status) (v : Settings) (st : State) (o : Output) (xs : List Event) (whole : List Item) → s ≡ o.status → s ≡ Going → is_ready xs ≡ false → FinishesAt s v st o (xs ++ []) whole → o.bytes ≡ encode o.encoding whole
+written_at : (s : Status) (v : Settings) (st : State) (o : Output) (xs : List Event)
+    (whole : List Item) → s ≡ o.status → s ≡ Going → is_ready xs ≡ false
+    → FinishesAt s v st o (xs ++ []) whole → o.bytes ≡ encode o.encoding whole
 unfolding Ends layout encode
 written_at Going v st o xs whole same g w f =
     let all : xs ≡ events f.rest = sym (append-nil xs) ∙ f.same in
@@ -127,10 +130,12 @@ written_at Full v st o xs whole same g w f = absurd (cc)
 written_at Deep v st o xs whole same g w f = absurd (cc)
 written_at Starved v st o xs whole same g w f = absurd (cc)
 
-no_stream : (e : Emitter) (x : Encoding) (whole : List Item) → IsStream e.requested_settings x [] whole → ⊥
+no_stream : (e : Emitter) (x : Encoding) (whole : List Item)
+    → IsStream e.requested_settings x [] whole → ⊥
 no_stream e x whole h = let k = h.same in cc
 
-written_by_fresh : (b : Bool) (e : Emitter) (x : Encoding) (whole : List Item) → e.status ≡ Going → is_ready e.held ≡ false → CompletesBy b e x [] whole → e.output ≡ encode x whole
+written_by_fresh : (b : Bool) (e : Emitter) (x : Encoding) (whole : List Item) → e.status ≡ Going
+    → is_ready e.held ≡ false → CompletesBy b e x [] whole → e.output ≡ encode x whole
 unfolding Finishes
 written_by_fresh true e x whole g w h = absurd (no_stream e x whole h)
 written_by_fresh false e x whole g w h =
@@ -138,6 +143,7 @@ written_by_fresh false e x whole g w h =
     subst P h.0 (written_at e.status e.course.settings e.course.state (text_of e) e.held whole refl g w h.1)
 
 -- with no event to come, the output is the whole
-pub all_written : (e : Emitter) (x : Encoding) (whole : List Item) → e.status ≡ Going → is_ready e.held ≡ false → Completes e x [] whole → e.output ≡ encode x whole
+pub all_written : (e : Emitter) (x : Encoding) (whole : List Item) → e.status ≡ Going
+    → is_ready e.held ≡ false → Completes e x [] whole → e.output ≡ encode x whole
 unfolding Completes
 all_written e x whole g w h = written_by_fresh e.fresh e x whole g w h

@@ -17,17 +17,22 @@ or_both : (p q : Option Problem) → or_else p q ≡ None → (p ≡ None) × (q
 or_both None q e = (refl, e)
 or_both (Some x) q e = absurd (cc)
 
-pub first_right : (canonical : Bool) (e : Event) (es : List Event) → own_problems canonical (e ∷ es) ≡ None → (own_problem canonical e ≡ None) × (own_problems canonical es ≡ None)
+pub first_right : (canonical : Bool) (e : Event) (es : List Event)
+    → own_problems canonical (e ∷ es) ≡ None
+    → (own_problem canonical e ≡ None) × (own_problems canonical es ≡ None)
 unfolding own_problems
 first_right canonical e es h = or_both (own_problem canonical e) (own_problems canonical es) h
 
-pub right_there : (s : Settings) (st : State) (e : Event) → own_problem s.canonical e ≡ None → place_problem st.place (top_of st.levels) e ≡ None → problem_at s st e ≡ None
+pub right_there : (s : Settings) (st : State) (e : Event) → own_problem s.canonical e ≡ None
+    → place_problem st.place (top_of st.levels) e ≡ None → problem_at s st e ≡ None
 unfolding problem_by
 right_there s st e h k =
     let r = or_both (event_problem s.canonical e) (last_problem e) h in
     or_none (event_problem s.canonical e) _ r.0 ∙ (or_none (place_problem st.place (top_of st.levels) e) _ k ∙ r.1)
 
-no_refusal : (s : Settings) (es more : List Event) (k : ToCome) → es ++ more ≡ events k → own_problems s.canonical (es ++ more) ≡ None → first_refusal s.canonical (shape_of (come.state_of k)) es ≡ None
+no_refusal : (s : Settings) (es more : List Event) (k : ToCome) → es ++ more ≡ events k
+    → own_problems s.canonical (es ++ more) ≡ None
+    → first_refusal s.canonical (shape_of (come.state_of k)) es ≡ None
 unfolding first_refusal
 no_refusal s [] more k same right = refl
 no_refusal s (e ∷ es) more k same right =

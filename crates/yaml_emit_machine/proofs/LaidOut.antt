@@ -22,7 +22,8 @@ node_some (sequence_node o ns) es h = cc
 node_some (mapping_node o ps) es h = cc
 
 -- where no event is to come, nothing is
-nothing_left : (s : Settings) (k : ToCome) → events k ≡ [] → (c : Cursor) (f : Rest) → layout s k c f ≡ f c
+nothing_left : (s : Settings) (k : ToCome) → events k ≡ [] → (c : Cursor) (f : Rest)
+    → layout s k c f ≡ f c
 unfolding events layout frames_events frame_events items_events pairs_events documents_events
 nothing_left s (stream x ds) h c f = absurd (cc)
 nothing_left s (documents first unended []) h c f = absurd (cc)
@@ -36,12 +37,16 @@ nothing_left s (frames g (pairs_left flow n fresh (pair v u ps) ∷ fs) implicit
 nothing_left s (frames g (value_left flow n simple v ps ∷ fs) implicit ds) h c f = absurd (node_some v _ h)
 nothing_left s nothing h c f = refl
 
-laid_on : (s : Settings) (st : State) (e : Event) (es : List Event) (c : Cursor) (f : Rest) → problem_at s st e ≡ None
-    → laid s st (e ∷ es) c f ≡ piece s st e (opens_empty e es) c (λ d. laid s (next s st e (opens_empty e es) d) es d f)
+laid_on : (s : Settings) (st : State) (e : Event) (es : List Event) (c : Cursor) (f : Rest)
+    → problem_at s st e ≡ None
+    → laid s st (e ∷ es) c f ≡ piece s st e (opens_empty e es) c
+    (λ d. laid s (next s st e (opens_empty e es) d) es d f)
 unfolding laid
 laid_on s st e es c f h = rw h refl
 
-laid_is : (s : Settings) (es : List Event) (k : ToCome) → es ≡ events k → own_problems s.canonical es ≡ None → (c : Cursor) (f : Rest) → laid s (come.state_of k) es c f ≡ layout s k c f
+laid_is : (s : Settings) (es : List Event) (k : ToCome) → es ≡ events k
+    → own_problems s.canonical es ≡ None → (c : Cursor) (f : Rest)
+    → laid s (come.state_of k) es c f ≡ layout s k c f
 unfolding laid
 laid_is s [] k same right c f = sym (nothing_left s k (sym same) c f)
 laid_is s (e ∷ es) k same right c f =

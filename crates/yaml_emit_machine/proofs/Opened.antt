@@ -15,14 +15,17 @@ use Rattle.yaml_emit_machine.specs.Verdict.{verdict, HasLetOut, TellsOutcome}
 use Rattle.yaml_emit_machine.specs.Taking.{TakesEvents, NotesMemoryOf}
 use Rattle.yaml_emit_machine.specs.Dumping.{IsRightNext, OpensStream, opening_event}
 
-none_by : (s : Status) (b : Bool) (p : Option Problem) → fault_by s b p ≡ None → (s ≡ Going) × (p ≡ None)
+none_by : (s : Status) (b : Bool) (p : Option Problem) → fault_by s b p ≡ None
+    → (s ≡ Going) × (p ≡ None)
 none_by Going b None h = (refl, refl)
 none_by Going b (Some p) h = absurd (cc)
 none_by Full b p h = absurd (cc)
 none_by Deep b p h = absurd (cc)
 none_by Starved b p h = absurd (cc)
 
-fits_let_out : (s : Status) (old new : ℕ) (bytes : List ℕ) (x : Encoding) (whole : List Item) → s ≡ Going → new ≡ old → HasLetOut s new bytes (encode x whole) (is_deep whole) → Fits old x whole
+fits_let_out : (s : Status) (old new : ℕ) (bytes : List ℕ) (x : Encoding) (whole : List Item)
+    → s ≡ Going → new ≡ old → HasLetOut s new bytes (encode x whole) (is_deep whole)
+    → Fits old x whole
 fits_let_out Going old new bytes x whole g l h =
     let P : List ℕ → Type 0 = λ z. length z ≤ new in
     let Q : ℕ → Type 0 = λ n. length (encode x whole) ≤ n in
@@ -32,7 +35,8 @@ fits_let_out Deep old new bytes x whole g l h = absurd (cc)
 fits_let_out Starved old new bytes x whole g l h = absurd (cc)
 
 -- an event behind which there is no fault was right
-pub right_by : (old new : Emitter) (e : Event) → TakesEvents old (e ∷ []) new [] → TellsOutcome new → new.fault ≡ None → IsRightNext old e
+pub right_by : (old new : Emitter) (e : Event) → TakesEvents old (e ∷ []) new [] → TellsOutcome new
+    → new.fault ≡ None → IsRightNext old e
 right_by old new e taken tells none =
     let (going, free) = none_by new.status new.starved (verdict new []) (sym tells.fault ∙ none) in
     record {
@@ -43,16 +47,22 @@ right_by old new e taken tells none =
 pub opens_same : (e : Emitter) → e.opened ≡ true → OpensStream e e
 opens_same e on = record { kept = λ o. o; right = λ off o. absurd (cc); alone = λ none off. absurd (cc); memory = λ none off. absurd (cc) }
 
-pub opens_right : (old new : Emitter) → new.opened ≡ true → TakesEvents old (opening_event ∷ []) new [] → TellsOutcome new → new.fault ≡ None → OpensStream old new
+pub opens_right : (old new : Emitter) → new.opened ≡ true
+    → TakesEvents old (opening_event ∷ []) new [] → TellsOutcome new → new.fault ≡ None
+    → OpensStream old new
 opens_right old new on t tells none = record { kept = λ o. on; right = λ off o. right_by old new opening_event t tells none; alone = λ n off. absurd (cc); memory = λ n off. absurd (cc) }
 
-pub opens_alone : (old new : Emitter) → old.opened ≡ false → new.opened ≡ false → TakesEvents old (opening_event ∷ []) new [] → NotesMemoryOf opening_event old new → OpensStream old new
+pub opens_alone : (old new : Emitter) → old.opened ≡ false → new.opened ≡ false
+    → TakesEvents old (opening_event ∷ []) new [] → NotesMemoryOf opening_event old new
+    → OpensStream old new
 opens_alone old new before off t m = record { kept = λ o. absurd (cc); right = λ f o. absurd (cc); alone = λ n f. t; memory = λ n f. m }
 
-pub opens_on : (old mid new : Emitter) → mid.opened ≡ true → new.opened ≡ true → OpensStream old mid → OpensStream old new
+pub opens_on : (old mid new : Emitter) → mid.opened ≡ true → new.opened ≡ true → OpensStream old mid
+    → OpensStream old new
 opens_on old mid new on still p = record { kept = λ o. still; right = λ off o. p.right off on; alone = λ n off. absurd (cc); memory = λ n off. absurd (cc) }
 
 -- a refused close leaves the stream as it was
-pub refused_close : (fault : Option Fault) (old new : Bool) (r : Result (Unit {0}) yaml_fault_t) → Answers fault r → OnErr r (new ≡ old) → fault ≢ None → new ≡ old
+pub refused_close : (fault : Option Fault) (old new : Bool) (r : Result (Unit {0}) yaml_fault_t)
+    → Answers fault r → OnErr r (new ≡ old) → fault ≢ None → new ≡ old
 refused_close fault old new (Ok x) a k n = absurd (n a)
 refused_close fault old new (Err f) a k n = k

@@ -25,7 +25,9 @@ use Rattle.yaml_emit_machine.specs.Emitter.{Emitter, fault_by, problem_fault}
 use Rattle.yaml_emit_machine.specs.Views.{emitter_of, IsEmitter}
 use Rattle.yaml_emit_machine.specs.Verdict.{verdict_by, verdict, IsLetOut, WritesBy, Writes, wrong_by, wrong, LaysBy, Lays, HasLetOut, TellsOutcome}
 
-let_out_by : (s : Status) (limit : ℕ) (x : Encoding) (bytes : List ℕ) (text whole : List Item) → (s ≡ Going → text ≡ []) → EndsBy s limit x bytes text whole → HasLetOut s limit bytes (encode x whole) (is_deep whole)
+let_out_by : (s : Status) (limit : ℕ) (x : Encoding) (bytes : List ℕ) (text whole : List Item)
+    → (s ≡ Going → text ≡ []) → EndsBy s limit x bytes text whole
+    → HasLetOut s limit bytes (encode x whole) (is_deep whole)
 unfolding encode is_deep
 let_out_by Going limit x bytes text whole n h =
     let P : List Item → Type 0 = λ t. EndsBy Going limit x bytes t whole in
@@ -35,7 +37,9 @@ let_out_by Full limit x bytes text whole n h = h
 let_out_by Deep limit x bytes text whole n h = (h.0, deep_written x bytes whole h.1)
 let_out_by Starved limit x bytes text whole n h = h
 
-ends_let_out : (o : Output) (text whole : List Item) → (o.status ≡ Going → text ≡ []) → Ends o text whole → HasLetOut o.status o.limit o.bytes (encode o.encoding whole) (is_deep whole)
+ends_let_out : (o : Output) (text whole : List Item) → (o.status ≡ Going → text ≡ [])
+    → Ends o text whole
+    → HasLetOut o.status o.limit o.bytes (encode o.encoding whole) (is_deep whole)
 unfolding Ends
 ends_let_out o text whole n h = let_out_by o.status o.limit o.encoding o.bytes text whole n h
 
@@ -44,20 +48,24 @@ unfolding let_out
 held_stays [] r = refl
 held_stays (e ∷ es) r = rw r refl
 
-held_unjudged : (canonical : Bool) (h : Progress) (es : List Event) → is_ready es ≡ false → first_refusal canonical h (let_out es) ≡ None
+held_unjudged : (canonical : Bool) (h : Progress) (es : List Event) → is_ready es ≡ false
+    → first_refusal canonical h (let_out es) ≡ None
 unfolding first_refusal
 held_unjudged canonical h es r = ap (first_refusal canonical h) (held_stays es r)
 
-held_unwritten : (s : Settings) (st : State) (es : List Event) (c : Cursor) (rest : Rest) → is_ready es ≡ false → laid s st (let_out es) c rest ≡ rest c
+held_unwritten : (s : Settings) (st : State) (es : List Event) (c : Cursor) (rest : Rest)
+    → is_ready es ≡ false → laid s st (let_out es) c rest ≡ rest c
 unfolding laid
 held_unwritten s st es c rest r = ap (λ z. laid s st z c rest) (held_stays es r)
 
 -- nothing is to come behind a refusal, and what is held isn't let out
-refusal_now : (p : Option Problem) (canonical : Bool) (h : Progress) (es : List Event) → (p ≡ None → is_ready es ≡ false) → p ≡ or_else p (first_refusal canonical h (let_out es))
+refusal_now : (p : Option Problem) (canonical : Bool) (h : Progress) (es : List Event)
+    → (p ≡ None → is_ready es ≡ false) → p ≡ or_else p (first_refusal canonical h (let_out es))
 refusal_now None canonical h es w = sym (held_unjudged canonical h es (w refl))
 refusal_now (Some x) canonical h es w = refl
 
-text_now : (p : Option Problem) (s : Settings) (st : State) (es : List Event) (c : Cursor) → (p ≡ None → is_ready es ≡ false) → unless p (laid s st (let_out es)) c nothing_more ≡ []
+text_now : (p : Option Problem) (s : Settings) (st : State) (es : List Event) (c : Cursor)
+    → (p ≡ None → is_ready es ≡ false) → unless p (laid s st (let_out es)) c nothing_more ≡ []
 text_now None s st es c w = held_unwritten s st es c nothing_more (w refl)
 text_now (Some x) s st es c w = refl
 
@@ -72,21 +80,27 @@ open_goes Full p g h = absurd (cc)
 open_goes Deep p g h = absurd (cc)
 open_goes Starved p g h = absurd (cc)
 
-fault_now : (s : Status) (b : Bool) (p q : Option Problem) → (s ≡ Going → p ≡ q) → fault_by s b p ≡ fault_by s b q
+fault_now : (s : Status) (b : Bool) (p q : Option Problem) → (s ≡ Going → p ≡ q)
+    → fault_by s b p ≡ fault_by s b q
 fault_now Going b p q h = ap (option_map problem_fault) (h refl)
 fault_now Full b p q h = refl
 fault_now Deep b p q h = refl
 fault_now Starved b p q h = refl
 
-waits_now : (i : Inside) → IsEmitter i → i.core.sink.status ≡ Going → refused_at i.core.place ≡ None → is_ready (held_events i.held ++ []) ≡ false
+waits_now : (i : Inside) → IsEmitter i → i.core.sink.status ≡ Going → refused_at i.core.place ≡ None
+    → is_ready (held_events i.held ++ []) ≡ false
 waits_now i inv g o = ap is_ready (append-nil (held_events i.held)) ∙ inv.few (open_goes i.core.sink.status i.core.place g o)
 
-verdict_now : (i : Inside) → IsEmitter i → i.fresh ≡ false → i.core.sink.status ≡ Going → refused_at i.core.place ≡ verdict (emitter_of i) []
+verdict_now : (i : Inside) → IsEmitter i → i.fresh ≡ false → i.core.sink.status ≡ Going
+    → refused_at i.core.place ≡ verdict (emitter_of i) []
 unfolding verdict refusal_behind
 verdict_now i inv fr g =
     refusal_now (refused_at i.core.place) _ _ (held_events i.held ++ []) (waits_now i inv g) ∙ sym (ap (λ z. verdict_by z (emitter_of i) []) fr)
 
-output_now : (i : Inside) (x : Encoding) (whole : List Item) → IsEmitter i → i.fresh ≡ false → Writes (emitter_of i) x [] whole → HasLetOut i.core.sink.status i.core.sink.limit i.core.sink.bytes (encode x whole) (is_deep whole)
+output_now : (i : Inside) (x : Encoding) (whole : List Item) → IsEmitter i → i.fresh ≡ false
+    → Writes (emitter_of i) x [] whole
+    → HasLetOut i.core.sink.status i.core.sink.limit i.core.sink.bytes (encode x whole)
+    (is_deep whole)
 unfolding Writes LetsOut
 output_now i x whole inv fr h =
     let P : Bool → Type 0 = λ z. WritesBy z (emitter_of i) x [] whole in
@@ -94,17 +108,21 @@ output_now i x whole inv fr h =
     let R : Encoding → Type 0 = λ z. HasLetOut i.core.sink.status i.core.sink.limit i.core.sink.bytes (encode z whole) (is_deep whole) in
     subst R k.0 (ends_let_out i.core.sink _ whole (λ g. text_now (refused_at i.core.place) _ _ (held_events i.held ++ []) _ (waits_now i inv g)) k.1)
 
-deep_by : (s : Status) (limit : ℕ) (x : Encoding) (bytes : List ℕ) (text whole : List Item) → s ≡ Deep → EndsBy s limit x bytes text whole → bytes ≡ encode x (shallow whole)
+deep_by : (s : Status) (limit : ℕ) (x : Encoding) (bytes : List ℕ) (text whole : List Item)
+    → s ≡ Deep → EndsBy s limit x bytes text whole → bytes ≡ encode x (shallow whole)
 deep_by Deep limit x bytes text whole d h = h.1
 deep_by Going limit x bytes text whole d h = absurd (cc)
 deep_by Full limit x bytes text whole d h = absurd (cc)
 deep_by Starved limit x bytes text whole d h = absurd (cc)
 
-deep_ends : (o : Output) (text whole : List Item) → o.status ≡ Deep → Ends o text whole → o.bytes ≡ encode o.encoding (shallow whole)
+deep_ends : (o : Output) (text whole : List Item) → o.status ≡ Deep → Ends o text whole
+    → o.bytes ≡ encode o.encoding (shallow whole)
 unfolding Ends
 deep_ends o text whole d h = deep_by o.status o.limit o.encoding o.bytes text whole d h
 
-deep_now : (i : Inside) (x : Encoding) (whole : List Item) → i.fresh ≡ false → i.core.sink.status ≡ Deep → Writes (emitter_of i) x [] whole → i.core.sink.bytes ≡ encode x (shallow whole)
+deep_now : (i : Inside) (x : Encoding) (whole : List Item) → i.fresh ≡ false
+    → i.core.sink.status ≡ Deep → Writes (emitter_of i) x [] whole
+    → i.core.sink.bytes ≡ encode x (shallow whole)
 unfolding Writes LetsOut
 deep_now i x whole fr d h =
     let P : Bool → Type 0 = λ z. WritesBy z (emitter_of i) x [] whole in
@@ -114,18 +132,22 @@ deep_now i x whole fr d h =
 
 -- ---- behind a refused event
 
-refused_first : (i : Inside) (p : Problem) (more : List Event) → i.fresh ≡ false → refused_at i.core.place ≡ Some p → wrong (emitter_of i) more ≡ Some p
+refused_first : (i : Inside) (p : Problem) (more : List Event) → i.fresh ≡ false
+    → refused_at i.core.place ≡ Some p → wrong (emitter_of i) more ≡ Some p
 unfolding wrong first_wrong
 refused_first i p more fr r = ap (λ z. wrong_by z (emitter_of i) more) fr ∙ or_some (refused_at i.core.place) _ p r
 
-ends_all : (o : Output) (whole : List Item) → o.status ≡ Going → Ends o [] whole → o.bytes ≡ encode o.encoding whole
+ends_all : (o : Output) (whole : List Item) → o.status ≡ Going → Ends o [] whole
+    → o.bytes ≡ encode o.encoding whole
 unfolding Ends encode
 ends_all o whole g h =
     let P : Status → Type 0 = λ z. EndsBy z o.limit o.encoding o.bytes [] whole in
     let k : EndsBy Going o.limit o.encoding o.bytes [] whole = subst P g h in
     sym (k.0 ∙ append-nil o.bytes)
 
-refused_front : (i : Inside) (p : Problem) (x : Encoding) (more : List Event) (whole : List Item) → i.fresh ≡ false → i.core.sink.status ≡ Going → refused_at i.core.place ≡ Some p → Lays (emitter_of i) x more whole → i.core.sink.bytes ≡ encode x whole
+refused_front : (i : Inside) (p : Problem) (x : Encoding) (more : List Event) (whole : List Item)
+    → i.fresh ≡ false → i.core.sink.status ≡ Going → refused_at i.core.place ≡ Some p
+    → Lays (emitter_of i) x more whole → i.core.sink.bytes ≡ encode x whole
 unfolding Lays LaysAll
 refused_front i p x more whole fr g r h =
     let P : Bool → Type 0 = λ z. LaysBy z (emitter_of i) x more whole in
@@ -138,7 +160,9 @@ first_verdict : (e : Emitter) → e.fresh ≡ true → None ≡ verdict e []
 unfolding verdict first_refusal let_out
 first_verdict e fr = sym (ap (λ z. verdict_by z e []) fr)
 
-first_output : (e : Emitter) (x : Encoding) (whole : List Item) → e.fresh ≡ true → e.output ≡ [] → e.status ≡ Going → Writes e x [] whole → HasLetOut e.status e.limit e.output (encode x whole) (is_deep whole)
+first_output : (e : Emitter) (x : Encoding) (whole : List Item) → e.fresh ≡ true → e.output ≡ []
+    → e.status ≡ Going → Writes e x [] whole
+    → HasLetOut e.status e.limit e.output (encode x whole) (is_deep whole)
 unfolding Writes laid let_out encode is_deep
 first_output e x whole fr b g h =
     let P : Bool → Type 0 = λ z. WritesBy z e x [] whole in
@@ -147,7 +171,8 @@ first_output e x whole fr b g h =
     let W : List Item → Type 0 = λ t. HasLetOut Going e.limit e.output (encode x t) (is_deep t) in
     subst S (sym g) (subst W (sym k.is) (b, (rw b (omega arith), refl)))
 
-none_refused : (s : Status) (b : Bool) (p : Option Problem) → s ≡ Going → None ≡ fault_by s b p → p ≡ None
+none_refused : (s : Status) (b : Bool) (p : Option Problem) → s ≡ Going → None ≡ fault_by s b p
+    → p ≡ None
 none_refused Going b None g h = refl
 none_refused Going b (Some x) g h = absurd (cc)
 none_refused Full b p g h = absurd (cc)

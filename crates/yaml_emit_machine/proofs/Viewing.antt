@@ -7,7 +7,8 @@ use Rattle.yaml_emit_state.specs.declared.Core.{Core}
 use Rattle.yaml_emit_state.specs.Steps.{state_of, settings_of}
 use Rattle.yaml_emit_machine.specs.Emitter.{Emitter}
 
-abbrev pub seen : RequestedSettings → Core → List Event → Bool → Bool → Bool → Option Fault → Emitter
+abbrev pub seen : RequestedSettings → Core → List Event → Bool → Bool → Bool → Option Fault
+    → Emitter
 seen w core held fresh opened closed fault = record {
   requested_settings = w;
   limit = core.sink.limit;

@@ -21,7 +21,9 @@ use Rattle.yaml_emit_machine.specs.Within.{Fits, IsWithin}
 use Rattle.yaml_emit_machine.proofs.Ending.{nothing_held, no_event_left}
 use Rattle.yaml_emit_machine.proofs.Emitting.{refusal_none, goes_going}
 
-fits_at : (s : Status) (v : Settings) (st : State) (o : Output) (xs : List Event) (whole : List Item) → s ≡ o.status → s ≡ Going → is_ready xs ≡ false → FinishesAt s v st o (xs ++ []) whole → Fits o.limit o.encoding whole
+fits_at : (s : Status) (v : Settings) (st : State) (o : Output) (xs : List Event)
+    (whole : List Item) → s ≡ o.status → s ≡ Going → is_ready xs ≡ false
+    → FinishesAt s v st o (xs ++ []) whole → Fits o.limit o.encoding whole
 unfolding Ends layout encode is_deep
 fits_at Going v st o xs whole same g w f =
     let all : xs ≡ events f.rest = sym (append-nil xs) ∙ f.same in
@@ -36,17 +38,20 @@ fits_at Full v st o xs whole same g w f = absurd (cc)
 fits_at Deep v st o xs whole same g w f = absurd (cc)
 fits_at Starved v st o xs whole same g w f = absurd (cc)
 
-no_stream : (e : Emitter) (x : Encoding) (whole : List Item) → IsStream e.requested_settings x [] whole → ⊥
+no_stream : (e : Emitter) (x : Encoding) (whole : List Item)
+    → IsStream e.requested_settings x [] whole → ⊥
 no_stream e x whole h = let k = h.same in cc
 
-fits_by_fresh : (b : Bool) (e : Emitter) (x : Encoding) (whole : List Item) → e.status ≡ Going → is_ready e.held ≡ false → CompletesBy b e x [] whole → Fits e.limit x whole
+fits_by_fresh : (b : Bool) (e : Emitter) (x : Encoding) (whole : List Item) → e.status ≡ Going
+    → is_ready e.held ≡ false → CompletesBy b e x [] whole → Fits e.limit x whole
 unfolding Finishes
 fits_by_fresh true e x whole g w h = absurd (no_stream e x whole h)
 fits_by_fresh false e x whole g w h =
     let P : Encoding → Type 0 = λ z. Fits e.limit z whole in
     subst P h.0 (fits_at e.status e.course.settings e.course.state (text_of e) e.held whole refl g w h.1)
 
-fits : (e : Emitter) (x : Encoding) (whole : List Item) → e.status ≡ Going → is_ready e.held ≡ false → Completes e x [] whole → Fits e.limit x whole
+fits : (e : Emitter) (x : Encoding) (whole : List Item) → e.status ≡ Going → is_ready e.held ≡ false
+    → Completes e x [] whole → Fits e.limit x whole
 unfolding Completes
 fits e x whole g w h = fits_by_fresh e.fresh e x whole g w h
 

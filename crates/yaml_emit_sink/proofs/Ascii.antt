@@ -41,29 +41,35 @@ one_byte : (x : ℕ) → x < 0x80 → char_bytes Utf8 x ≡ x ∷ []
 unfolding char_bytes
 one_byte x h = grind arith
 
-letters_encode : (xs : List ℕ) (c : Cursor) (rest : Rest) → IsAscii xs → encode Utf8 (letters xs c rest) ≡ xs ++ encode Utf8 (rest (behind xs c))
+letters_encode : (xs : List ℕ) (c : Cursor) (rest : Rest) → IsAscii xs
+    → encode Utf8 (letters xs c rest) ≡ xs ++ encode Utf8 (rest (behind xs c))
 unfolding encode letters behind
 letters_encode [] c rest h = refl
 letters_encode (x ∷ xs) c rest h =
     let d : Cursor = record { column = c.column + 1; white = false; bare = false; kept = c.kept } in
     ap (λ b. b ++ encode Utf8 (letters xs d rest)) (one_byte x (first_byte x xs h)) ∙ ap (λ (t : List ℕ). x ∷ t) (letters_encode xs d rest (more_bytes x xs h))
 
-letters_deep : (xs : List ℕ) (c : Cursor) (rest : Rest) → is_deep (letters xs c rest) ≡ is_deep (rest (behind xs c))
+letters_deep : (xs : List ℕ) (c : Cursor) (rest : Rest)
+    → is_deep (letters xs c rest) ≡ is_deep (rest (behind xs c))
 unfolding is_deep letters behind
 letters_deep [] c rest = refl
 letters_deep (x ∷ xs) c rest = letters_deep xs (record { column = c.column + 1; white = false; bare = false; kept = c.kept }) rest
 
-letters_front : (xs : List ℕ) (c : Cursor) (rest : Rest) → IsAscii xs → encode Utf8 (shallow (letters xs c rest)) ≡ xs ++ encode Utf8 (shallow (rest (behind xs c)))
+letters_front : (xs : List ℕ) (c : Cursor) (rest : Rest) → IsAscii xs
+    → encode Utf8 (shallow (letters xs c rest)) ≡ xs ++ encode Utf8 (shallow (rest (behind xs c)))
 unfolding encode shallow letters behind
 letters_front [] c rest h = refl
 letters_front (x ∷ xs) c rest h =
     let d : Cursor = record { column = c.column + 1; white = false; bare = false; kept = c.kept } in
     ap (λ b. b ++ encode Utf8 (shallow (letters xs d rest))) (one_byte x (first_byte x xs h)) ∙ ap (λ (t : List ℕ). x ∷ t) (letters_front xs d rest (more_bytes x xs h))
 
-letters_lead : (xs : List ℕ) (c : Cursor) (rest : Rest) → IsAscii xs → Leads Utf8 (letters xs c rest) (rest (behind xs c)) xs
+letters_lead : (xs : List ℕ) (c : Cursor) (rest : Rest) → IsAscii xs
+    → Leads Utf8 (letters xs c rest) (rest (behind xs c)) xs
 letters_lead xs c rest h = record { all = letters_encode xs c rest h; deep = letters_deep xs c rest; front = letters_front xs c rest h }
 
-pub puts_ascii : (a b : Output) (xs : List ℕ) → IsAscii xs → 0 < length xs → a.status ≡ Going → a.encoding ≡ Utf8 → b.encoding ≡ a.encoding → b.limit ≡ a.limit → AppendsBy b.status a.limit a.bytes b.bytes xs
+pub puts_ascii : (a b : Output) (xs : List ℕ) → IsAscii xs → 0 < length xs → a.status ≡ Going
+    → a.encoding ≡ Utf8 → b.encoding ≡ a.encoding → b.limit ≡ a.limit
+    → AppendsBy b.status a.limit a.bytes b.bytes xs
     → (b.status ≡ Going → b.cursor ≡ lettered (length xs) a.cursor) → Puts a b (letters xs)
 puts_ascii a b [] s p g x e l h k = absurd (omega (arith, p))
 puts_ascii a b (y ∷ ys) s p g x e l h k =
@@ -71,27 +77,33 @@ puts_ascii a b (y ∷ ys) s p g x e l h k =
     (λ going. k going ∙ sym (behind_is y ys a.cursor))
 
 -- the same, all of them for certain
-pub puts_near : (a b : Output) (xs : List ℕ) → IsAscii xs → 0 < length xs → a.status ≡ Going → a.encoding ≡ Utf8 → b.status ≡ a.status → b.encoding ≡ a.encoding → b.limit ≡ a.limit
-    → b.bytes ≡ a.bytes ++ xs → length a.bytes + length xs ≤ a.limit → b.cursor ≡ lettered (length xs) a.cursor → Puts a b (letters xs)
+pub puts_near : (a b : Output) (xs : List ℕ) → IsAscii xs → 0 < length xs → a.status ≡ Going
+    → a.encoding ≡ Utf8 → b.status ≡ a.status → b.encoding ≡ a.encoding → b.limit ≡ a.limit
+    → b.bytes ≡ a.bytes ++ xs → length a.bytes + length xs ≤ a.limit
+    → b.cursor ≡ lettered (length xs) a.cursor → Puts a b (letters xs)
 puts_near a b xs s p g x t e l o r k =
     let P : Status → Type 0 = λ z. AppendsBy z a.limit a.bytes b.bytes xs in
     puts_ascii a b xs s p g x e l (subst P (sym (t ∙ g)) (o, rw o (omega (arith, r, length-append a.bytes xs)))) (λ _. k)
 
 -- a character of one byte was appended
-pub puts_byte : (a b : Output) (x : ℕ) (n : Cursor → Cursor) → a.status ≡ Going → a.encoding ≡ Utf8 → x < 0x80 → length a.bytes < a.limit → b.bytes ≡ a.bytes ++ x ∷ []
-    → b.status ≡ a.status → b.encoding ≡ a.encoding → b.limit ≡ a.limit → b.cursor ≡ n a.cursor → Puts a b (λ c rest. letter x ∷ rest (n c))
+pub puts_byte : (a b : Output) (x : ℕ) (n : Cursor → Cursor) → a.status ≡ Going → a.encoding ≡ Utf8
+    → x < 0x80 → length a.bytes < a.limit → b.bytes ≡ a.bytes ++ x ∷ []
+    → b.status ≡ a.status → b.encoding ≡ a.encoding → b.limit ≡ a.limit → b.cursor ≡ n a.cursor
+    → Puts a b (λ c rest. letter x ∷ rest (n c))
 puts_byte a b x n g u s r o t e l k =
     let P : Status → Type 0 = λ z. AppendsBy z a.limit a.bytes b.bytes (char_bytes a.encoding x) in
     let byte : char_bytes a.encoding x ≡ x ∷ [] = rw u (one_byte x s) in
     puts_stroke a b x n g e l (subst P (sym (t ∙ g)) (o ∙ ap (λ y. a.bytes ++ y) (sym byte), rw o (omega (arith, r, length-append a.bytes (x ∷ []))))) (λ _. k)
 
-letters_both : (xs ys : List ℕ) (c : Cursor) (rest : Rest) → letters (xs ++ ys) c rest ≡ letters xs c (λ d. letters ys d rest)
+letters_both : (xs ys : List ℕ) (c : Cursor) (rest : Rest)
+    → letters (xs ++ ys) c rest ≡ letters xs c (λ d. letters ys d rest)
 unfolding letters
 letters_both [] ys c rest = refl
 letters_both (x ∷ xs) ys c rest = ap (λ t. letter x ∷ t) (letters_both xs ys (record { column = c.column + 1; white = false; bare = false; kept = c.kept }) rest)
 
 -- one text behind another
-pub puts_joined : (a b c : Output) (xs ys : List ℕ) → Puts a b (letters xs) → Puts b c (letters ys) → Puts a c (letters (xs ++ ys))
+pub puts_joined : (a b c : Output) (xs ys : List ℕ) → Puts a b (letters xs) → Puts b c (letters ys)
+    → Puts a c (letters (xs ++ ys))
 puts_joined a b c xs ys p q = puts_as a c (letters xs ▹ letters ys) (letters (xs ++ ys)) (λ rest. letters_both xs ys a.cursor rest) (puts_both a b c (letters xs) (letters ys) p q)
 
 pub no_letters : (a : Output) (xs : List ℕ) → (length xs == 0) ≡ true → Puts a a (letters xs)
@@ -109,11 +121,13 @@ small b h = grind (arith, nat_tests)
 pub all_ascii : (xs : List ℕ) → list_all is_ascii xs ≡ true → IsAscii xs
 all_ascii xs h = IsAscii-from_all xs (λ k d l. small _ (AllPass-from_list_all is_ascii xs h k d l))
 
-parted : (t : List ℕ) (c : Cursor) (rest : Rest) → 0 < length t → c.white ≡ false → word t c rest ≡ letters (32 ∷ t) c rest
+parted : (t : List ℕ) (c : Cursor) (rest : Rest) → 0 < length t → c.white ≡ false
+    → word t c rest ≡ letters (32 ∷ t) c rest
 unfolding letters
 parted [] c rest p w = absurd (omega (arith, p))
 parted (x ∷ xs) c rest p w = cond_false c.white _ _ w
 
 -- a word with a space in front, where one is due
-pub puts_parted : (a b : Output) (t : List ℕ) → 0 < length t → a.cursor.white ≡ false → Puts a b (letters (32 ∷ t)) → Puts a b (word t)
+pub puts_parted : (a b : Output) (t : List ℕ) → 0 < length t → a.cursor.white ≡ false
+    → Puts a b (letters (32 ∷ t)) → Puts a b (word t)
 puts_parted a b t s w p = puts_as a b (letters (32 ∷ t)) (word t) (λ rest. parted t a.cursor rest s w) p

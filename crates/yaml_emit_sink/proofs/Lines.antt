@@ -25,21 +25,27 @@ stepped_home (suc n) c =
     let e : 0 + suc n ≡ suc n = omega arith in
     stepped_is n (home c) ∙ ap at e
 
-fresh_lead : (n : ℕ) (c : Cursor) (rest : Rest) → Leads Utf8 (fresh Lf n c rest) (rest (stepped n (home c))) (10 ∷ replicate n 32)
+fresh_lead : (n : ℕ) (c : Cursor) (rest : Rest)
+    → Leads Utf8 (fresh Lf n c rest) (rest (stepped n (home c))) (10 ∷ replicate n 32)
 unfolding encode char_bytes is_deep shallow
 fresh_lead n c rest =
     let l = blanks_lead n (home c) rest in
     record { all = ap (λ (t : List ℕ). 10 ∷ t) l.all; deep = l.deep; front = ap (λ (t : List ℕ). 10 ∷ t) l.front }
 
 -- a line feed and spaces of one byte were appended
-pub puts_fresh : (a b : Output) (n : ℕ) → a.status ≡ Going → a.encoding ≡ Utf8 → b.encoding ≡ a.encoding → b.limit ≡ a.limit → AppendsBy b.status a.limit a.bytes b.bytes (10 ∷ replicate n 32) → (b.status ≡ Going → b.cursor ≡ indented n a.cursor)
+pub puts_fresh : (a b : Output) (n : ℕ) → a.status ≡ Going → a.encoding ≡ Utf8
+    → b.encoding ≡ a.encoding → b.limit ≡ a.limit
+    → AppendsBy b.status a.limit a.bytes b.bytes (10 ∷ replicate n 32)
+    → (b.status ≡ Going → b.cursor ≡ indented n a.cursor)
     → Puts a b (fresh Lf n)
 puts_fresh a b n g x e l h k =
     puts_run a b (fresh Lf n) (10 ∷ replicate n 32) (λ c. stepped n (home c)) g e l (λ rest. rw x (fresh_lead n a.cursor rest)) h (λ going. k going ∙ sym (stepped_home n a.cursor))
 
 -- the same, all of them for certain
-pub puts_brief : (a b : Output) (n : ℕ) → a.status ≡ Going → a.encoding ≡ Utf8 → b.status ≡ a.status → b.encoding ≡ a.encoding → b.limit ≡ a.limit
-    → b.bytes ≡ a.bytes ++ 10 ∷ replicate n 32 → length a.bytes + (1 + n) ≤ a.limit → b.cursor ≡ indented n a.cursor → Puts a b (fresh Lf n)
+pub puts_brief : (a b : Output) (n : ℕ) → a.status ≡ Going → a.encoding ≡ Utf8 → b.status ≡ a.status
+    → b.encoding ≡ a.encoding → b.limit ≡ a.limit
+    → b.bytes ≡ a.bytes ++ 10 ∷ replicate n 32 → length a.bytes + (1 + n) ≤ a.limit
+    → b.cursor ≡ indented n a.cursor → Puts a b (fresh Lf n)
 puts_brief a b n g x t e l o r k =
     let P : Status → Type 0 = λ z. AppendsBy z a.limit a.bytes b.bytes (10 ∷ replicate n 32) in
     let many : length (replicate {A = ℕ} n 32) ≡ n = length-replicate n 32 in
@@ -48,24 +54,29 @@ puts_brief a b n g x t e l o r k =
 no_less : (n : ℕ) → n - 0 ≡ n
 no_less n = omega arith
 
-line_fresh : (k : LineBreak) (n : ℕ) (c : Cursor) (rest : Rest) → must_break n c ≡ true → line k n c rest ≡ fresh k n c rest
+line_fresh : (k : LineBreak) (n : ℕ) (c : Cursor) (rest : Rest) → must_break n c ≡ true
+    → line k n c rest ≡ fresh k n c rest
 unfolding line
 line_fresh Lf n c rest m = cond_true (must_break n c) _ _ m ∙ ap (λ v. letter 10 ∷ blanks v (home c) rest) (no_less n)
 line_fresh Cr n c rest m = cond_true (must_break n c) _ _ m ∙ ap (λ v. letter 13 ∷ blanks v (home c) rest) (no_less n)
 line_fresh CrLf n c rest m = cond_true (must_break n c) _ _ m ∙ ap (λ v. letter 13 ∷ letter 10 ∷ blanks v (home c) rest) (no_less n)
 
-line_stays : (k : LineBreak) (n : ℕ) (c : Cursor) (rest : Rest) → must_break n c ≡ false → line k n c rest ≡ indent_to n c rest
+line_stays : (k : LineBreak) (n : ℕ) (c : Cursor) (rest : Rest) → must_break n c ≡ false
+    → line k n c rest ≡ indent_to n c rest
 unfolding line
 line_stays k n c rest m = cond_false (must_break n c) _ _ m
 
 -- a line, by whether it is broken
-pub line_broken : (a b : Output) (k : LineBreak) (n : ℕ) → must_break n a.cursor ≡ true → Puts a b (fresh k n) → Puts a b (line k n)
+pub line_broken : (a b : Output) (k : LineBreak) (n : ℕ) → must_break n a.cursor ≡ true
+    → Puts a b (fresh k n) → Puts a b (line k n)
 line_broken a b k n m p = puts_as a b (fresh k n) (line k n) (λ rest. line_fresh k n a.cursor rest m) p
 
-pub line_joined : (a b : Output) (k : LineBreak) (n : ℕ) → must_break n a.cursor ≡ false → Puts a b (indent_to n) → Puts a b (line k n)
+pub line_joined : (a b : Output) (k : LineBreak) (n : ℕ) → must_break n a.cursor ≡ false
+    → Puts a b (indent_to n) → Puts a b (line k n)
 line_joined a b k n m p = puts_as a b (indent_to n) (line k n) (λ rest. line_stays k n a.cursor rest m) p
 
 -- a line feed and some of many spaces behind it
-pub line_behind : (old middle new : List ℕ) (n : ℕ) → n ≤ 128 → middle ≡ old ++ 10 ∷ [] → new ≡ middle ++ take {A = ℕ} n (replicate 128 32) → new ≡ old ++ 10 ∷ replicate n 32
+pub line_behind : (old middle new : List ℕ) (n : ℕ) → n ≤ 128 → middle ≡ old ++ 10 ∷ []
+    → new ≡ middle ++ take {A = ℕ} n (replicate 128 32) → new ≡ old ++ 10 ∷ replicate n 32
 line_behind old middle new n h m e =
     e ∙ ap (λ (t : List ℕ). middle ++ t) (take-replicate n 128 32 h) ∙ ap (λ (t : List ℕ). t ++ replicate n 32) m ∙ append_assoc old (10 ∷ []) (replicate n 32)

@@ -33,7 +33,8 @@ grows_both xs ys zs p q =
     let second : List ℕ = drop (length ys) zs in
     grows_by xs zs (first ++ second) (grows_rest ys zs q ∙ (ap (λ (t : List ℕ). t ++ second) (grows_rest xs ys p) ∙ append_assoc xs first second))
 
-appends_grows : (s : Status) (limit : ℕ) (old new bytes : List ℕ) → AppendsBy s limit old new bytes → Grows old new
+appends_grows : (s : Status) (limit : ℕ) (old new bytes : List ℕ) → AppendsBy s limit old new bytes
+    → Grows old new
 appends_grows Going limit old new bytes a = grows_by old new bytes a.0
 appends_grows Full limit old new bytes a =
     ap (take (length old)) a.0 ∙ (take-take (length old) limit (old ++ bytes) a.1.1 ∙ take-append_seam old bytes)
@@ -41,13 +42,15 @@ appends_grows Deep limit old new bytes a = absurd a
 appends_grows Starved limit old new bytes a = grows_same old new a
 
 -- a sink that has stopped takes every text
-ends_stopped : (s : Status) (limit : ℕ) (x : Encoding) (output : List ℕ) (t u whole : List Item) → s ≢ Going → EndsBy s limit x output t whole → EndsBy s limit x output u whole
+ends_stopped : (s : Status) (limit : ℕ) (x : Encoding) (output : List ℕ) (t u whole : List Item)
+    → s ≢ Going → EndsBy s limit x output t whole → EndsBy s limit x output u whole
 ends_stopped Going limit x output t u whole n h = absurd (n refl)
 ends_stopped Full limit x output t u whole n h = h
 ends_stopped Deep limit x output t u whole n h = h
 ends_stopped Starved limit x output t u whole n h = h
 
-pub ends_other : (a : Output) (t u whole : List Item) → a.status ≢ Going → Ends a t whole → Ends a u whole
+pub ends_other : (a : Output) (t u whole : List Item) → a.status ≢ Going → Ends a t whole
+    → Ends a u whole
 unfolding Ends
 ends_other a t u whole n h = ends_stopped a.status a.limit a.encoding a.bytes t u whole n h
 
@@ -83,7 +86,8 @@ puts_both a b c x y p q = record {
 }
 
 -- a layout that is another at the cursor
-pub puts_as : (a b : Output) (x y : Layout) → ((rest : Rest) → y a.cursor rest ≡ x a.cursor rest) → Puts a b x → Puts a b y
+pub puts_as : (a b : Output) (x y : Layout) → ((rest : Rest) → y a.cursor rest ≡ x a.cursor rest)
+    → Puts a b x → Puts a b y
 puts_as a b x y e p = record {
   ends = λ rest whole h. let P : List Item → Type 0 = λ t. Ends a t whole in p.ends rest whole (subst P (e rest) h);
   encoding = p.encoding;
@@ -94,7 +98,9 @@ puts_as a b x y e p = record {
 }
 
 -- the cursor alone is moved
-pub puts_moved : (a b : Output) (f : Cursor → Cursor) → b.bytes ≡ a.bytes → b.status ≡ a.status → b.encoding ≡ a.encoding → b.limit ≡ a.limit → b.cursor ≡ f a.cursor → Puts a b (λ c rest. rest (f c))
+pub puts_moved : (a b : Output) (f : Cursor → Cursor) → b.bytes ≡ a.bytes → b.status ≡ a.status
+    → b.encoding ≡ a.encoding → b.limit ≡ a.limit → b.cursor ≡ f a.cursor
+    → Puts a b (λ c rest. rest (f c))
 unfolding Ends
 puts_moved a b f o s e l k = record {
   ends = λ rest whole h. rw (o, s, e, l, k) h;
@@ -114,10 +120,12 @@ cond_false false x y e = refl
 cond_false true x y e = absurd (cc)
 
 -- by a test of the cursor
-pub puts_chosen : (a b : Output) (t : Cursor → Bool) (x y : Layout) → t a.cursor ≡ true → Puts a b x → Puts a b (choose t x y)
+pub puts_chosen : (a b : Output) (t : Cursor → Bool) (x y : Layout) → t a.cursor ≡ true → Puts a b x
+    → Puts a b (choose t x y)
 puts_chosen a b t x y e p = puts_as a b x (choose t x y) (λ rest. cond_true (t a.cursor) _ _ e) p
 
-pub puts_unchosen : (a b : Output) (t : Cursor → Bool) (x y : Layout) → t a.cursor ≡ false → Puts a b y → Puts a b (choose t x y)
+pub puts_unchosen : (a b : Output) (t : Cursor → Bool) (x y : Layout) → t a.cursor ≡ false
+    → Puts a b y → Puts a b (choose t x y)
 puts_unchosen a b t x y e p = puts_as a b y (choose t x y) (λ rest. cond_false (t a.cursor) _ _ e) p
 
 -- by a flag
@@ -127,10 +135,12 @@ puts_when a b t x e p = let P : Bool → Type 0 = λ v. Puts a b (when v x) in s
 pub puts_unless : (a : Output) (t : Bool) (x : Layout) → t ≡ false → Puts a a (when t x)
 puts_unless a t x e = let P : Bool → Type 0 = λ v. Puts a a (when v x) in subst P (sym e) (puts_nothing a)
 
-pub puts_if : (a b : Output) (t : Bool) (x y : Layout) → t ≡ true → Puts a b x → Puts a b (if t then x else y)
+pub puts_if : (a b : Output) (t : Bool) (x y : Layout) → t ≡ true → Puts a b x
+    → Puts a b (if t then x else y)
 puts_if a b t x y e p = let P : Bool → Type 0 = λ v. Puts a b (if v then x else y) in subst P (sym e) p
 
-pub puts_else : (a b : Output) (t : Bool) (x y : Layout) → t ≡ false → Puts a b y → Puts a b (if t then x else y)
+pub puts_else : (a b : Output) (t : Bool) (x y : Layout) → t ≡ false → Puts a b y
+    → Puts a b (if t then x else y)
 puts_else a b t x y e p = let P : Bool → Type 0 = λ v. Puts a b (if v then x else y) in subst P (sym e) p
 
 -- a text is those bytes and then `more`, and no place in front of `more` is too deep
@@ -140,8 +150,10 @@ pub record Leads (x : Encoding) (text more : List Item) (bytes : List ℕ) : Typ
   pub front : encode x (shallow text) ≡ bytes ++ encode x (shallow more)
 
 -- what is appended was to come
-appends_ends : (s : Status) (limit : ℕ) (x : Encoding) (old new bytes : List ℕ) (text more whole : List Item) → Leads x text more bytes
-    → AppendsBy s limit old new bytes → EndsBy Going limit x old text whole → EndsBy s limit x new more whole
+appends_ends : (s : Status) (limit : ℕ) (x : Encoding) (old new bytes : List ℕ)
+    (text more whole : List Item) → Leads x text more bytes
+    → AppendsBy s limit old new bytes → EndsBy Going limit x old text whole
+    → EndsBy s limit x new more whole
 appends_ends Going limit x old new bytes text more whole l a e =
     (e.0 ∙ rw (a.0, append_assoc, l.all) refl, (a.1, (e.1.1.0 ∙ l.deep, e.1.1.1 ∙ rw (a.0, append_assoc, l.front) refl)))
 appends_ends Full limit x old new bytes text more whole l a e =
@@ -157,7 +169,10 @@ status_cases Deep p q = q (λ e. cc)
 status_cases Starved p q = q (λ e. cc)
 
 -- a character's bytes were appended
-pub puts_stroke : (a b : Output) (x : ℕ) (n : Cursor → Cursor) → a.status ≡ Going → b.encoding ≡ a.encoding → b.limit ≡ a.limit → AppendsBy b.status a.limit a.bytes b.bytes (char_bytes a.encoding x) → (b.status ≡ Going → b.cursor ≡ n a.cursor)
+pub puts_stroke : (a b : Output) (x : ℕ) (n : Cursor → Cursor) → a.status ≡ Going
+    → b.encoding ≡ a.encoding → b.limit ≡ a.limit
+    → AppendsBy b.status a.limit a.bytes b.bytes (char_bytes a.encoding x)
+    → (b.status ≡ Going → b.cursor ≡ n a.cursor)
     → Puts a b (λ c rest. letter x ∷ rest (n c))
 unfolding Ends encode is_deep shallow
 puts_stroke a b x n g e l h k = record {
@@ -174,9 +189,11 @@ puts_stroke a b x n g e l h k = record {
 }
 
 -- a layout of those bytes was appended
-pub puts_run : (a b : Output) (y : Layout) (bytes : List ℕ) (n : Cursor → Cursor) → a.status ≡ Going → b.encoding ≡ a.encoding → b.limit ≡ a.limit
+pub puts_run : (a b : Output) (y : Layout) (bytes : List ℕ) (n : Cursor → Cursor) → a.status ≡ Going
+    → b.encoding ≡ a.encoding → b.limit ≡ a.limit
     → ((rest : Rest) → Leads a.encoding (y a.cursor rest) (rest (n a.cursor)) bytes)
-    → AppendsBy b.status a.limit a.bytes b.bytes bytes → (b.status ≡ Going → b.cursor ≡ n a.cursor) → Puts a b y
+    → AppendsBy b.status a.limit a.bytes b.bytes bytes → (b.status ≡ Going → b.cursor ≡ n a.cursor)
+    → Puts a b y
 unfolding Ends
 puts_run a b y bytes n g e l u h k = record {
   ends = λ rest whole w.
@@ -208,22 +225,27 @@ stepped_is (suc n) c =
     let e : c.column + 1 + suc n ≡ c.column + suc (suc n) = omega arith in
     stepped_is n (at (c.column + 1)) ∙ ap at e
 
-blanks_encode : (n : ℕ) (c : Cursor) (rest : Rest) → encode Utf8 (blanks n c rest) ≡ replicate n 32 ++ encode Utf8 (rest (stepped n c))
+blanks_encode : (n : ℕ) (c : Cursor) (rest : Rest)
+    → encode Utf8 (blanks n c rest) ≡ replicate n 32 ++ encode Utf8 (rest (stepped n c))
 unfolding encode char_bytes blanks stepped
 blanks_encode zero c rest = refl
 blanks_encode (suc n) c rest = ap (λ (t : List ℕ). 32 ∷ t) (blanks_encode n (record { column = c.column + 1; white = true; bare = c.bare; kept = c.kept }) rest)
 
-blanks_deep : (n : ℕ) (c : Cursor) (rest : Rest) → is_deep (blanks n c rest) ≡ is_deep (rest (stepped n c))
+blanks_deep : (n : ℕ) (c : Cursor) (rest : Rest)
+    → is_deep (blanks n c rest) ≡ is_deep (rest (stepped n c))
 unfolding is_deep blanks stepped
 blanks_deep zero c rest = refl
 blanks_deep (suc n) c rest = blanks_deep n (record { column = c.column + 1; white = true; bare = c.bare; kept = c.kept }) rest
 
-blanks_front : (n : ℕ) (c : Cursor) (rest : Rest) → encode Utf8 (shallow (blanks n c rest)) ≡ replicate n 32 ++ encode Utf8 (shallow (rest (stepped n c)))
+blanks_front : (n : ℕ) (c : Cursor) (rest : Rest)
+    → encode Utf8 (shallow (blanks n c rest)) ≡ replicate n 32
+    ++ encode Utf8 (shallow (rest (stepped n c)))
 unfolding encode char_bytes shallow blanks stepped
 blanks_front zero c rest = refl
 blanks_front (suc n) c rest = ap (λ (t : List ℕ). 32 ∷ t) (blanks_front n (record { column = c.column + 1; white = true; bare = c.bare; kept = c.kept }) rest)
 
-pub blanks_lead : (n : ℕ) (c : Cursor) (rest : Rest) → Leads Utf8 (blanks n c rest) (rest (stepped n c)) (replicate n 32)
+pub blanks_lead : (n : ℕ) (c : Cursor) (rest : Rest)
+    → Leads Utf8 (blanks n c rest) (rest (stepped n c)) (replicate n 32)
 blanks_lead n c rest = record { all = blanks_encode n c rest; deep = blanks_deep n c rest; front = blanks_front n c rest }
 
 pub no_blanks : (a : Output) (n : ℕ) → n ≡ 0 → Puts a a (blanks n)
@@ -231,12 +253,18 @@ unfolding blanks
 no_blanks a n e = rw e (puts_nothing a)
 
 -- spaces of one byte were appended
-spaces_more : (a b : Output) (n : ℕ) → a.status ≡ Going → a.encoding ≡ Utf8 → b.encoding ≡ a.encoding → b.limit ≡ a.limit → AppendsBy b.status a.limit a.bytes b.bytes (replicate (suc n) 32) → (b.status ≡ Going → b.cursor ≡ blanked (suc n) a.cursor)
+spaces_more : (a b : Output) (n : ℕ) → a.status ≡ Going → a.encoding ≡ Utf8
+    → b.encoding ≡ a.encoding → b.limit ≡ a.limit
+    → AppendsBy b.status a.limit a.bytes b.bytes (replicate (suc n) 32)
+    → (b.status ≡ Going → b.cursor ≡ blanked (suc n) a.cursor)
     → Puts a b (blanks (suc n))
 spaces_more a b n g x e l h k =
     puts_run a b (blanks (suc n)) (replicate (suc n) 32) (stepped (suc n)) g e l (λ rest. rw x (blanks_lead (suc n) a.cursor rest)) h (λ going. k going ∙ sym (stepped_is n a.cursor))
 
-pub puts_spaces : (a b : Output) (n : ℕ) → 0 < n → a.status ≡ Going → a.encoding ≡ Utf8 → b.encoding ≡ a.encoding → b.limit ≡ a.limit → AppendsBy b.status a.limit a.bytes b.bytes (replicate n 32) → (b.status ≡ Going → b.cursor ≡ blanked n a.cursor)
+pub puts_spaces : (a b : Output) (n : ℕ) → 0 < n → a.status ≡ Going → a.encoding ≡ Utf8
+    → b.encoding ≡ a.encoding → b.limit ≡ a.limit
+    → AppendsBy b.status a.limit a.bytes b.bytes (replicate n 32)
+    → (b.status ≡ Going → b.cursor ≡ blanked n a.cursor)
     → Puts a b (blanks n)
 puts_spaces a b zero p g x e l h k = absurd (omega (arith, p))
 puts_spaces a b (suc n) p g x e l h k = spaces_more a b n g x e l h k
@@ -245,27 +273,32 @@ pub puts_blank : (a b : Output) → Puts a b (stroke 32 false true a.cursor.bare
 puts_blank a b p = puts_as a b (stroke 32 false true a.cursor.bare) blank (λ rest. refl) p
 
 -- a space more of those that are owed
-pub blanks_more : (a b c : Output) (n i : ℕ) → i < n → Owes a b (blanks n) (blanks (n - i)) → Puts b c blank → Owes a c (blanks n) (blanks (n - (i + 1)))
+pub blanks_more : (a b c : Output) (n i : ℕ) → i < n → Owes a b (blanks n) (blanks (n - i))
+    → Puts b c blank → Owes a c (blanks n) (blanks (n - (i + 1)))
 unfolding blanks
 blanks_more a b c n i h p q =
     let e : n - i ≡ suc (n - (i + 1)) = omega arith in
     let P : ℕ → Type 0 = λ k. Owes a b (blanks n) (blanks k) in
     owes_more a b c (blanks n) blank (blanks (n - (i + 1))) (subst P e p) q
 
-pub blanks_all : (a b : Output) (n i : ℕ) → n ≤ i → Owes a b (blanks n) (blanks (n - i)) → Puts a b (blanks n)
+pub blanks_all : (a b : Output) (n i : ℕ) → n ≤ i → Owes a b (blanks n) (blanks (n - i))
+    → Puts a b (blanks n)
 unfolding blanks
 blanks_all a b n i h p =
     let e : n - i ≡ zero = omega arith in
     let P : ℕ → Type 0 = λ k. Owes a b (blanks n) (blanks k) in subst P e p
 
 -- a character more of a text
-pub letters_more : (a b c : Output) (xs : List ℕ) (i : ℕ) → i < length xs → Owes a b (letters xs) (letters (drop i xs)) → Puts b c (char (get_or xs i 0)) → Owes a c (letters xs) (letters (drop (i + 1) xs))
+pub letters_more : (a b c : Output) (xs : List ℕ) (i : ℕ) → i < length xs
+    → Owes a b (letters xs) (letters (drop i xs)) → Puts b c (char (get_or xs i 0))
+    → Owes a c (letters xs) (letters (drop (i + 1) xs))
 unfolding letters
 letters_more a b c xs i h p q =
     let P : List ℕ → Type 0 = λ t. Owes a b (letters xs) (letters t) in
     owes_more a b c (letters xs) (char (get_or xs i 0)) (letters (drop (i + 1) xs)) (subst P (drop_more xs i 0 h) p) q
 
-pub letters_all : (a b : Output) (xs : List ℕ) (i : ℕ) → length xs ≤ i → Owes a b (letters xs) (letters (drop i xs)) → Puts a b (letters xs)
+pub letters_all : (a b : Output) (xs : List ℕ) (i : ℕ) → length xs ≤ i
+    → Owes a b (letters xs) (letters (drop i xs)) → Puts a b (letters xs)
 unfolding letters
 letters_all a b xs i h p =
     let P : List ℕ → Type 0 = λ t. Owes a b (letters xs) (letters t) in subst P (drop_all _ _ h) p
@@ -274,7 +307,8 @@ pub blanks_start : (a : Output) (n : ℕ) → Owes a a (blanks n) (blanks (n - 0
 blanks_start a n = let e : n ≡ n - 0 = omega arith in let P : ℕ → Type 0 = λ k. Owes a a (blanks n) (blanks k) in subst P e (owes_same a (blanks n))
 
 -- what is in front of the first place that is too deep is a front
-pub shallow_front : (x : Encoding) (t : List Item) → (rest : List ℕ) × (encode x t ≡ encode x (shallow t) ++ rest)
+pub shallow_front : (x : Encoding) (t : List Item)
+    → (rest : List ℕ) × (encode x t ≡ encode x (shallow t) ++ rest)
 unfolding encode shallow
 shallow_front x [] = ([], refl)
 shallow_front x (letter c ∷ t) =
@@ -282,17 +316,20 @@ shallow_front x (letter c ∷ t) =
     (k.0, ap (λ (z : List ℕ). char_bytes x c ++ z) k.1 ∙ sym (append_assoc (char_bytes x c) (encode x (shallow t)) k.0))
 shallow_front x (deep ∷ t) = (encode x t, refl)
 
-pub deep_written : (x : Encoding) (output : List ℕ) (whole : List Item) → output ≡ encode x (shallow whole) → (rest : List ℕ) × (encode x whole ≡ output ++ rest)
+pub deep_written : (x : Encoding) (output : List ℕ) (whole : List Item)
+    → output ≡ encode x (shallow whole) → (rest : List ℕ) × (encode x whole ≡ output ++ rest)
 deep_written x output whole e = let k = shallow_front x whole in (k.0, k.1 ∙ ap (λ (z : List ℕ). z ++ k.0) (sym e))
 
 -- what is written is the front of the whole
-front_of : (status : Status) (limit : ℕ) (x : Encoding) (output : List ℕ) (text whole : List Item) → EndsBy status limit x output text whole → (rest : List ℕ) × (encode x whole ≡ output ++ rest)
+front_of : (status : Status) (limit : ℕ) (x : Encoding) (output : List ℕ) (text whole : List Item)
+    → EndsBy status limit x output text whole → (rest : List ℕ) × (encode x whole ≡ output ++ rest)
 front_of Going limit x output text whole h = (encode x text, h.0)
 front_of Full limit x output text whole h = (drop limit (encode x whole), sym (take-append-drop limit (encode x whole)) ∙ ap (λ t. t ++ drop limit (encode x whole)) (sym h.0))
 front_of Deep limit x output text whole h = deep_written x output whole h.1
 front_of Starved limit x output text whole h = h
 
-pub puts_starved : (a b : Output) (t : Layout) → b.bytes ≡ a.bytes → b.status ≡ Starved → a.status ≡ Going → b.encoding ≡ a.encoding → b.limit ≡ a.limit → Puts a b t
+pub puts_starved : (a b : Output) (t : Layout) → b.bytes ≡ a.bytes → b.status ≡ Starved
+    → a.status ≡ Going → b.encoding ≡ a.encoding → b.limit ≡ a.limit → Puts a b t
 unfolding Ends
 puts_starved a b t o s g e l = record {
   ends = λ rest whole h. rw (o, s, e) (front_of a.status a.limit a.encoding a.bytes _ whole h);
@@ -303,14 +340,17 @@ puts_starved a b t o s g e l = record {
   grows = grows_same a.bytes b.bytes o;
 }
 
-deep_front : (status : Status) (limit : ℕ) (x : Encoding) (output : List ℕ) (text whole : List Item) → status ≡ Going → EndsBy status limit x output (deep ∷ text) whole → (is_deep whole ≡ true) × (output ≡ encode x (shallow whole))
+deep_front : (status : Status) (limit : ℕ) (x : Encoding) (output : List ℕ) (text whole : List Item)
+    → status ≡ Going → EndsBy status limit x output (deep ∷ text) whole
+    → (is_deep whole ≡ true) × (output ≡ encode x (shallow whole))
 unfolding is_deep encode shallow
 deep_front Going limit x output text whole g h = (h.1.1.0, sym (append-nil output) ∙ sym h.1.1.1)
 deep_front Full limit x output text whole g h = absurd (cc g)
 deep_front Deep limit x output text whole g h = absurd (cc g)
 deep_front Starved limit x output text whole g h = absurd (cc g)
 
-pub puts_deep : (a b : Output) → b.bytes ≡ a.bytes → b.status ≡ Deep → a.status ≡ Going → b.encoding ≡ a.encoding → b.limit ≡ a.limit → Puts a b too_deep
+pub puts_deep : (a b : Output) → b.bytes ≡ a.bytes → b.status ≡ Deep → a.status ≡ Going
+    → b.encoding ≡ a.encoding → b.limit ≡ a.limit → Puts a b too_deep
 unfolding Ends
 puts_deep a b o s g e l = record {
   ends = λ rest whole h. rw (o, s, e) (deep_front a.status a.limit a.encoding a.bytes _ whole g h);
@@ -328,7 +368,8 @@ letters_append [] ys = refl
 letters_append (x ∷ xs) ys = ap (λ t. char x ▹ t) (letters_append xs ys)
 
 -- one text behind another
-pub puts_letters : (a b c : Output) (xs ys : List ℕ) → Puts a b (letters xs) → Puts b c (letters ys) → Puts a c (letters (xs ++ ys))
+pub puts_letters : (a b c : Output) (xs ys : List ℕ) → Puts a b (letters xs) → Puts b c (letters ys)
+    → Puts a c (letters (xs ++ ys))
 puts_letters a b c xs ys p q = let P : Layout → Type 0 = λ t. Puts a c t in subst P (sym (letters_append xs ys)) (puts_both a b c (letters xs) (letters ys) p q)
 
 pub puts_one : (a b : Output) (x : ℕ) → Puts a b (char x) → Puts a b (letters (x ∷ []))

@@ -18,7 +18,8 @@ use Rattle.yaml_emit_layout.specs.declared.Spot.{Spot}
 use Rattle.yaml_emit_state.specs.Stack.{within}
 
 -- canonical form has no simple keys
-pub no_keys : (p : Context) (e : Event) (empty : Bool) → p.settings.canonical ≡ true → false ≡ is_simple_event p e empty
+pub no_keys : (p : Context) (e : Event) (empty : Bool) → p.settings.canonical ≡ true
+    → false ≡ is_simple_event p e empty
 unfolding is_simple_event is_simple_scalar is_simple_alias is_simple_start
 no_keys p (alias name) empty h = rw h refl
 no_keys p (scalar x) empty h = rw h refl
@@ -32,19 +33,26 @@ no_keys p (document_end i) empty h = refl
 no_keys p sequence_end empty h = refl
 no_keys p mapping_end empty h = refl
 
-pub puts_tagged : (s : Settings) (ds : List TagDirective) (at : Spot) (x : Scalar) (tag : List ℕ) (a b c : Output) → s.canonical ≡ true → x.tag ≡ Some tag → Puts a b (anchor_text x.anchor)
-    → Puts b c (tag_text (context_of s ds) (Some tag) ▹ (checked (deeper s at.around) ▹ scalar_text (page_at s at) s.indent at.flow style.Double (chars x.value)))
+pub puts_tagged : (s : Settings) (ds : List TagDirective) (at : Spot) (x : Scalar) (tag : List ℕ)
+    (a b c : Output) → s.canonical ≡ true → x.tag ≡ Some tag → Puts a b (anchor_text x.anchor)
+    → Puts b c (tag_text (context_of s ds) (Some tag) ▹
+    (checked (deeper s at.around) ▹ scalar_text (page_at s at) s.indent at.flow style.Double
+    (chars x.value)))
     → Puts a c (scalar_layout (context_of s ds) at x)
 unfolding scalar_layout style_of
 puts_tagged s ds at x tag a b c e t p q = rw (e, t) (puts_both a b c _ _ p q)
 
 -- an untagged scalar that may not be quoted is marked
-marked : (b c : Output) (quoted : Bool) (y : Layout) → Puts b c (when (not quoted) (word (33 ∷ [])) ▹ y) → Puts b c (when (not quoted && true) (word (33 ∷ [])) ▹ y)
+marked : (b c : Output) (quoted : Bool) (y : Layout)
+    → Puts b c (when (not quoted) (word (33 ∷ [])) ▹ y)
+    → Puts b c (when (not quoted && true) (word (33 ∷ [])) ▹ y)
 marked b c true y p = p
 marked b c false y p = p
 
-pub puts_untagged : (s : Settings) (ds : List TagDirective) (at : Spot) (x : Scalar) (a b c : Output) → s.canonical ≡ true → x.tag ≡ None → Puts a b (anchor_text x.anchor)
-    → Puts b c (when (not x.quoted) (word (33 ∷ [])) ▹ (checked (deeper s at.around) ▹ double_quoted (page_at s at) (chars x.value)))
+pub puts_untagged : (s : Settings) (ds : List TagDirective) (at : Spot) (x : Scalar)
+    (a b c : Output) → s.canonical ≡ true → x.tag ≡ None → Puts a b (anchor_text x.anchor)
+    → Puts b c (when (not x.quoted) (word (33 ∷ [])) ▹
+    (checked (deeper s at.around) ▹ double_quoted (page_at s at) (chars x.value)))
     → Puts a c (scalar_layout (context_of s ds) at x)
 unfolding scalar_layout style_of scalar_text
 puts_untagged s ds at x a b c e t p q = rw (e, t) (puts_both a b c _ _ p (marked b c x.quoted _ q))
@@ -57,7 +65,8 @@ not_deep : (n : ℕ) → nat_le n MOST ≡ true → nat_lt MOST n ≡ false
 not_deep n h = grind (arith, nat_tests)
 
 -- what stands in a scalar that isn't too deep
-pub puts_shallow : (n i : ℕ) (a b : Output) (w : Layout) (inside : ℕ → Layout) → Some i ≡ within n → Puts a b (w ▹ inside i) → Puts a b (w ▹ (checked n ▹ inside n))
+pub puts_shallow : (n i : ℕ) (a b : Output) (w : Layout) (inside : ℕ → Layout) → Some i ≡ within n
+    → Puts a b (w ▹ inside i) → Puts a b (w ▹ (checked n ▹ inside n))
 puts_shallow n i a b w inside h p =
     let found = shallow (nat_le n MOST) n i h in
     let P : Bool → Type 0 = λ t. Puts a b (w ▹ ((λ k rest. deep_if t (rest k)) ▹ inside n)) in

@@ -20,25 +20,31 @@ use Rattle.yaml_emit_state.specs.declared.state.Core.{Core}
 use Rattle.yaml_emit_state.specs.Steps.{state_of, settings_of, next_state, next_piece, LaysOut, IsFresh}
 use Rattle.yaml_emit_state.specs.Finish.{Finishes, FinishesAt, FinishesBy}
 
-going_by : (s : Status) (core : Core) (es : List Event) (whole : List Item) → s ≡ Going → FinishesAt s (settings_of core) (state_of core) core.sink es whole → FinishesBy (settings_of core) (state_of core) core.sink es whole
+going_by : (s : Status) (core : Core) (es : List Event) (whole : List Item) → s ≡ Going
+    → FinishesAt s (settings_of core) (state_of core) core.sink es whole
+    → FinishesBy (settings_of core) (state_of core) core.sink es whole
 going_by Going core es whole g h = h
 going_by Full core es whole g h = absurd (cc)
 going_by Deep core es whole g h = absurd (cc)
 going_by Starved core es whole g h = absurd (cc)
 
-stopped_by : (s : Status) (core : Core) (es : List Event) (whole : List Item) → s ≢ Going → FinishesAt s (settings_of core) (state_of core) core.sink es whole → Ends core.sink [] whole
+stopped_by : (s : Status) (core : Core) (es : List Event) (whole : List Item) → s ≢ Going
+    → FinishesAt s (settings_of core) (state_of core) core.sink es whole → Ends core.sink [] whole
 stopped_by Going core es whole n h = absurd (n refl)
 stopped_by Full core es whole n h = h
 stopped_by Deep core es whole n h = h
 stopped_by Starved core es whole n h = h
 
-by_going : (s : Status) (core : Core) (es : List Event) (whole : List Item) → s ≡ Going → FinishesBy (settings_of core) (state_of core) core.sink es whole → FinishesAt s (settings_of core) (state_of core) core.sink es whole
+by_going : (s : Status) (core : Core) (es : List Event) (whole : List Item) → s ≡ Going
+    → FinishesBy (settings_of core) (state_of core) core.sink es whole
+    → FinishesAt s (settings_of core) (state_of core) core.sink es whole
 by_going Going core es whole g h = h
 by_going Full core es whole g h = absurd (cc)
 by_going Deep core es whole g h = absurd (cc)
 by_going Starved core es whole g h = absurd (cc)
 
-by_stopped : (s : Status) (core : Core) (es : List Event) (whole : List Item) → s ≢ Going → Ends core.sink [] whole → FinishesAt s (settings_of core) (state_of core) core.sink es whole
+by_stopped : (s : Status) (core : Core) (es : List Event) (whole : List Item) → s ≢ Going
+    → Ends core.sink [] whole → FinishesAt s (settings_of core) (state_of core) core.sink es whole
 by_stopped Going core es whole n h = absurd (n refl)
 by_stopped Full core es whole n h = h
 by_stopped Deep core es whole n h = h
@@ -52,11 +58,14 @@ none_or_else : (p q : Option Problem) → p ≡ None → q ≡ None → or_else 
 none_or_else None q e f = f
 none_or_else (Some x) q e f = absurd (cc)
 
-first_right : (canonical : Bool) (e : Event) (es : List Event) → own_problems canonical (e ∷ es) ≡ None → (own_problem canonical e ≡ None) × (own_problems canonical es ≡ None)
+first_right : (canonical : Bool) (e : Event) (es : List Event)
+    → own_problems canonical (e ∷ es) ≡ None
+    → (own_problem canonical e ≡ None) × (own_problems canonical es ≡ None)
 unfolding own_problems
 first_right canonical e es h = or_else_none (own_problem canonical e) (own_problems canonical es) h
 
-right_there : (s : Settings) (st : State) (e : Event) → own_problem s.canonical e ≡ None → place_problem st.place (top_of st.levels) e ≡ None → problem_at s st e ≡ None
+right_there : (s : Settings) (st : State) (e : Event) → own_problem s.canonical e ≡ None
+    → place_problem st.place (top_of st.levels) e ≡ None → problem_at s st e ≡ None
 unfolding problem_by
 right_there s st e h k =
     let r = or_else_none (event_problem s.canonical e) (last_problem e) h in
@@ -66,19 +75,26 @@ right_there s st e h k =
 -- what is known behind an event that is right
 record Stepped (old new : Core) (e : Event) (empty : Bool) : Type 0 where
   settings : settings_of new ≡ settings_of old
-  state : new.sink.status ≡ Going → state_of new ≡ next (settings_of old) (state_of old) e empty new.sink.cursor
+  state : new.sink.status ≡ Going
+      → state_of new ≡ next (settings_of old) (state_of old) e empty new.sink.cursor
   text : Puts old.sink new.sink (piece (settings_of old) (state_of old) e empty)
 
-same_settings : (old new : Core) → new.settings ≡ old.settings → new.sink.encoding ≡ old.sink.encoding → settings_of new ≡ settings_of old
+same_settings : (old new : Core) → new.settings ≡ old.settings
+    → new.sink.encoding ≡ old.sink.encoding → settings_of new ≡ settings_of old
 same_settings old new e x = rw (e, x) refl
 
-stepped : (old new : Core) (e : Event) (empty : Bool) → problem_at (settings_of old) (state_of old) e ≡ None → LaysOut old new e empty → Stepped old new e empty
+stepped : (old new : Core) (e : Event) (empty : Bool)
+    → problem_at (settings_of old) (state_of old) e ≡ None → LaysOut old new e empty
+    → Stepped old new e empty
 stepped old new e empty h l =
     let P : Option Problem → Type 0 = λ p. new.sink.status ≡ Going → state_of new ≡ next_state p (state_of old) (next (settings_of old) (state_of old) e empty new.sink.cursor) in
     let R : Option Problem → Type 0 = λ p. Puts old.sink new.sink (next_piece p (piece (settings_of old) (state_of old) e empty)) in
     record { settings = same_settings old new l.settings l.text.encoding; state = subst P h l.state; text = subst R h l.text }
 
-pub finishes_on : (old new : Core) (e : Event) (es : List Event) (whole : List Item) → LaysOut old new e (opens_empty e es) → Finishes (settings_of old) (state_of old) old.sink (e ∷ es) whole → Finishes (settings_of new) (state_of new) new.sink es whole
+pub finishes_on : (old new : Core) (e : Event) (es : List Event) (whole : List Item)
+    → LaysOut old new e (opens_empty e es)
+    → Finishes (settings_of old) (state_of old) old.sink (e ∷ es) whole
+    → Finishes (settings_of new) (state_of new) new.sink es whole
 unfolding Finishes
 finishes_on old new e es whole l h =
     status_cases old.sink.status
@@ -109,7 +125,10 @@ finishes_on old new e es whole l h =
     let back : Ends new.sink _ whole = l.text.ends nothing_more whole (ends_other old.sink [] _ whole n e') in
     by_stopped new.sink.status new es whole (λ g. n (l.text.going g)) back)
 
-pub fresh_finishes : (core : Core) (s : Settings) (x : yaml_encoding_t) (ds : List Document) → IsFresh core s → own_problems s.canonical (stream_events x ds) ≡ None → Finishes (settings_of core) (state_of core) core.sink (stream_events x ds) (written (stream_layout s ds))
+pub fresh_finishes : (core : Core) (s : Settings) (x : yaml_encoding_t) (ds : List Document)
+    → IsFresh core s → own_problems s.canonical (stream_events x ds) ≡ None
+    → Finishes (settings_of core) (state_of core) core.sink (stream_events x ds)
+    (written (stream_layout s ds))
 unfolding Finishes Ends events layout come.state_of
 fresh_finishes core s x ds f r =
     by_going core.sink.status core (stream_events x ds) _ f.status (record {

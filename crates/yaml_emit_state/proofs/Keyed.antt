@@ -15,12 +15,14 @@ use Rattle.yaml_emit_state.specs.Stack.{stack_of}
 use Rattle.yaml_emit_state.specs.Due.{is_key_in, is_key}
 use Rattle.yaml_emit_state.specs.Steps.{state_of, settings_of, StaysBut, LaysOutRight}
 
-before_in : (s : Settings) (p : Phase) (flow : Bool) (n : ℕ) (b : Bool) → before_at s p flow n (is_key_in p && b) ≡ before_at s p flow n b
+before_in : (s : Settings) (p : Phase) (flow : Bool) (n : ℕ) (b : Bool)
+    → before_at s p flow n (is_key_in p && b) ≡ before_at s p flow n b
 before_in s (Items fresh) flow n b = refl
 before_in s (Keys fresh) flow n b = refl
 before_in s (Value was_simple) flow n b = refl
 
-before_keyed : (s : Settings) (top : Option Level) (b : Bool) → before_node s top (is_key top && b) ≡ before_node s top b
+before_keyed : (s : Settings) (top : Option Level) (b : Bool)
+    → before_node s top (is_key top && b) ≡ before_node s top b
 before_keyed s None b = refl
 before_keyed s (Some l) b = before_in s l.phase l.flow l.indent b
 
@@ -39,15 +41,20 @@ phase_in (Items fresh) b = refl
 phase_in (Keys fresh) b = refl
 phase_in (Value was_simple) b = refl
 
-levels_keyed : (ls : List Level) (b : Bool) → levels_behind ls (is_key (top_of ls) && b) ≡ levels_behind ls b
+levels_keyed : (ls : List Level) (b : Bool)
+    → levels_behind ls (is_key (top_of ls) && b) ≡ levels_behind ls b
 levels_keyed [] b = refl
 levels_keyed (l ∷ ls) b = rw (phase_in l.phase b) refl
 
 -- a scalar was laid out, where only a key was asked whether it is simple
-pub lays_scalar : (old new : Core) (o : Output) (s : Settings) (top : Option Level) (v : Scalar) (simple empty : Bool)
-    → s ≡ settings_of old → top ≡ top_of (stack_of old.levels) → simple ≡ (is_key top && is_simple_scalar (context_of s old.directives) v)
-    → Puts old.sink o (before_node s top simple ▹ scalar_layout (context_of s old.directives) (spot_of top simple) v)
-    → state_of new ≡ among old.directives (levels_behind (stack_of old.levels) simple) → StaysBut (record old { sink = o }) new
+pub lays_scalar : (old new : Core) (o : Output) (s : Settings) (top : Option Level) (v : Scalar)
+    (simple empty : Bool)
+    → s ≡ settings_of old → top ≡ top_of (stack_of old.levels)
+    → simple ≡ (is_key top && is_simple_scalar (context_of s old.directives) v)
+    → Puts old.sink o (before_node s top simple ▹ scalar_layout (context_of s old.directives)
+    (spot_of top simple) v)
+    → state_of new ≡ among old.directives (levels_behind (stack_of old.levels) simple)
+    → StaysBut (record old { sink = o }) new
     → LaysOutRight old new (scalar v) empty
 unfolding text_at next_at depth_at is_simple_event
 lays_scalar old new o s top v simple empty settings upper asked put moved kept =
@@ -62,10 +69,13 @@ lays_scalar old new o s top v simple empty settings upper asked put moved kept =
     }
 
 -- an alias was laid out
-pub lays_alias : (old new : Core) (o : Output) (s : Settings) (top : Option Level) (name : List ℕ) (simple empty : Bool)
-    → s ≡ settings_of old → top ≡ top_of (stack_of old.levels) → simple ≡ is_simple_alias (context_of s old.directives) name
+pub lays_alias : (old new : Core) (o : Output) (s : Settings) (top : Option Level) (name : List ℕ)
+    (simple empty : Bool)
+    → s ≡ settings_of old → top ≡ top_of (stack_of old.levels)
+    → simple ≡ is_simple_alias (context_of s old.directives) name
     → Puts old.sink o (before_node s top simple ▹ alias_layout (spot_of top simple) name)
-    → state_of new ≡ among old.directives (levels_behind (stack_of old.levels) simple) → StaysBut (record old { sink = o }) new
+    → state_of new ≡ among old.directives (levels_behind (stack_of old.levels) simple)
+    → StaysBut (record old { sink = o }) new
     → LaysOutRight old new (alias name) empty
 unfolding text_at next_at depth_at is_simple_event
 lays_alias old new o s top name simple empty settings upper asked put moved kept =

@@ -24,7 +24,8 @@ alpha_low b h = grind (arith, nat_tests, h)
 alphas_ascii : (xs : List ℕ) → list_all is_alpha_byte xs ≡ true → IsAscii xs
 alphas_ascii xs h = IsAscii-from_all xs (λ k d l. alpha_low _ (AllPass-from_list_all is_alpha_byte xs h k d l))
 
-none_alphas : (v w : Bool) (a b : Problem) → (if v then Some a else if w then None else Some b) ≡ None → w ≡ true
+none_alphas : (v w : Bool) (a b : Problem)
+    → (if v then Some a else if w then None else Some b) ≡ None → w ≡ true
 none_alphas true w a b h = absurd (cc)
 none_alphas false true a b h = refl
 none_alphas false false a b h = absurd (cc)
@@ -49,7 +50,8 @@ anchor_named : (a : Option (List ℕ)) → anchor_problem a ≡ None → IsNamed
 anchor_named None h = none_named
 anchor_named (Some name) h = some_named _ _ name h
 
-event_named : (canonical : Bool) (e : said.Event) → event_problem canonical e ≡ None → IsNamed (name_of e)
+event_named : (canonical : Bool) (e : said.Event) → event_problem canonical e ≡ None
+    → IsNamed (name_of e)
 unfolding event_problem
 event_named canonical (said.alias name) h = some_named _ _ name h
 event_named canonical (said.scalar x) h = anchor_named x.anchor (first_none _ _ h)
@@ -63,7 +65,8 @@ event_named canonical (said.document_end implicit) h = none_named
 event_named canonical said.sequence_end h = none_named
 event_named canonical said.mapping_end h = none_named
 
-pub named_right : (canonical : Bool) (place : Expected) (top : Option Level) (e : said.Event) → problem_by canonical place top e ≡ None → IsNamed (name_of e)
+pub named_right : (canonical : Bool) (place : Expected) (top : Option Level) (e : said.Event)
+    → problem_by canonical place top e ≡ None → IsNamed (name_of e)
 unfolding problem_by
 named_right canonical place top e h = event_named canonical e (first_none _ _ h)
 
@@ -71,5 +74,6 @@ named_right canonical place top e h = event_named canonical e (first_none _ _ h)
 pub behind_ascii : (c : ℕ) (name : List ℕ) → c < 128 → IsAscii name → IsAscii (c ∷ (name ++ []))
 behind_ascii c name low h = IsAscii-cons c (name ++ []) low (rw (append-nil name) h)
 
-pub puts_name : (a b : Output) (c : ℕ) (name : List ℕ) → Puts a b (word (c ∷ (name ++ []))) → Puts a b (word (c ∷ name))
+pub puts_name : (a b : Output) (c : ℕ) (name : List ℕ) → Puts a b (word (c ∷ (name ++ [])))
+    → Puts a b (word (c ∷ name))
 puts_name a b c name p = let P : List ℕ → Type 0 = λ t. Puts a b (word (c ∷ t)) in subst P (append-nil name) p

@@ -7,7 +7,8 @@ use Rattle.yaml_emit_state.specs.declared.state.Core.{Core}
 use Rattle.yaml_emit_state.specs.Steps.{is_going, may_note, Notes, Starves}
 
 -- an output that went on behind a part of it
-pub notes_behind : (takes : Bool) (a b c : Status) → (b ≡ Going → a ≡ Going) → may_note takes a c ≡ false → may_note takes b c ≡ false
+pub notes_behind : (takes : Bool) (a b c : Status) → (b ≡ Going → a ≡ Going)
+    → may_note takes a c ≡ false → may_note takes b c ≡ false
 notes_behind false a b c p h = refl
 notes_behind true Going Going c p h = h
 notes_behind true Full Going c p h = let k = p refl in absurd (cc)
@@ -18,7 +19,8 @@ notes_behind true a Deep c p h = refl
 notes_behind true a Starved c p h = refl
 
 -- and in front of the other part
-notes_before : (takes : Bool) (a b c : Status) → (c ≡ Going → b ≡ Going) → may_note takes a c ≡ false → may_note takes a b ≡ false
+notes_before : (takes : Bool) (a b c : Status) → (c ≡ Going → b ≡ Going)
+    → may_note takes a c ≡ false → may_note takes a b ≡ false
 notes_before false a b c q h = refl
 notes_before true Full b c q h = refl
 notes_before true Deep b c q h = refl
@@ -37,19 +39,23 @@ notes_before true Going Starved Full q h = absurd (cc)
 notes_before true Going Starved Deep q h = absurd (cc)
 notes_before true Going Starved Starved q h = absurd (cc)
 
-pub notes_both : (takes : Bool) (a b c : Status) → (b ≡ Going → a ≡ Going) → (c ≡ Going → b ≡ Going) → may_note takes a c ≡ false → (may_note takes a b ≡ false) × (may_note takes b c ≡ false)
+pub notes_both : (takes : Bool) (a b c : Status) → (b ≡ Going → a ≡ Going) → (c ≡ Going → b ≡ Going)
+    → may_note takes a c ≡ false → (may_note takes a b ≡ false) × (may_note takes b c ≡ false)
 notes_both takes a b c p q h = (notes_before takes a b c q h, notes_behind takes a b c p h)
 
-pub notes_within : (some one : Bool) (a b : Status) → (some ≡ false → one ≡ false) → may_note some a b ≡ false → may_note one a b ≡ false
+pub notes_within : (some one : Bool) (a b : Status) → (some ≡ false → one ≡ false)
+    → may_note some a b ≡ false → may_note one a b ≡ false
 notes_within some false a b p h = refl
 notes_within true true a b p h = h
 notes_within false true a b p h = let k = p refl in absurd (cc)
 
-pub notes_some : (takes : Bool) (a b : Status) → may_note true a b ≡ false → may_note takes a b ≡ false
+pub notes_some : (takes : Bool) (a b : Status) → may_note true a b ≡ false
+    → may_note takes a b ≡ false
 notes_some false a b h = refl
 notes_some true a b h = h
 
-starved_by : (a b : Status) (old new : Bool) → b ≢ Going → new ≡ (is_going a || old) → may_note true a b ≡ false → new ≡ old
+starved_by : (a b : Status) (old new : Bool) → b ≢ Going → new ≡ (is_going a || old)
+    → may_note true a b ≡ false → new ≡ old
 starved_by Full b old new n e h = e
 starved_by Deep b old new n e h = e
 starved_by Starved b old new n e h = e
@@ -61,6 +67,7 @@ starved_by Going Starved old new n e h = absurd (cc)
 pub notes_starved : (old new : Core) → Starves old new → Notes true old new
 notes_starved old new s = λ h. starved_by old.sink.status new.sink.status old.starved new.starved s.stopped s.starved h
 
-pub notes_any : (takes : Bool) (old new : Core) → takes ≡ true → Notes true old new → Notes takes old new
+pub notes_any : (takes : Bool) (old new : Core) → takes ≡ true → Notes true old new
+    → Notes takes old new
 notes_any true old new t n = n
 notes_any false old new t n = absurd (cc)

@@ -12,19 +12,23 @@ use Rattle.yaml_emit_tags.proofs.Directives.{next_of, none_of}
 use Rattle.yaml_emit_tags.proofs.Sorting.{begins}
 use Rattle.yaml_emit_tags.proofs.Numbering.{taken, passed, number_by}
 
-pub none_defined : (ds : List yaml_tag_directive_t) (handle : List ℕ) → ds ≡ [] → false ≡ defines (map directive_of ds) handle
+pub none_defined : (ds : List yaml_tag_directive_t) (handle : List ℕ) → ds ≡ []
+    → false ≡ defines (map directive_of ds) handle
 unfolding defines
 none_defined ds handle e = sym (ap (λ t. defines (map directive_of t) handle) e)
 
-pub mapped_at : (ds : List yaml_tag_directive_t) (i : ℕ) (d : yaml_tag_directive_t) → i < length ds → d ≡ get_or ds i d → directive_at (map directive_of ds) i ≡ directive_of d
+pub mapped_at : (ds : List yaml_tag_directive_t) (i : ℕ) (d : yaml_tag_directive_t) → i < length ds
+    → d ≡ get_or ds i d → directive_at (map directive_of ds) i ≡ directive_of d
 mapped_at [] i d h is = absurd (omega arith)
 mapped_at (x ∷ ds) zero d h is = ap directive_of (sym is)
 mapped_at (x ∷ ds) (suc i) d h is = mapped_at ds i d (omega arith) is
 
 -- ---- one by one
 
-pub walk_found : (ds : List yaml_tag_directive_t) (i : ℕ) (d : yaml_tag_directive_t) (tag t : List ℕ) → i < length ds → d ≡ get_or ds i d → t ≡ (get_or ds i d).prefix.items
-    → directive_for (map directive_of ds) tag ≡ directive_for (map directive_of (drop i ds)) tag → has_shorter_prefix t tag ≡ true → IsNumber (map directive_of ds) tag (Some i)
+pub walk_found : (ds : List yaml_tag_directive_t) (i : ℕ) (d : yaml_tag_directive_t)
+    (tag t : List ℕ) → i < length ds → d ≡ get_or ds i d → t ≡ (get_or ds i d).prefix.items
+    → directive_for (map directive_of ds) tag ≡ directive_for (map directive_of (drop i ds)) tag
+    → has_shorter_prefix t tag ≡ true → IsNumber (map directive_of ds) tag (Some i)
 walk_found ds i d tag t h is te e f =
     let same : (directive_of d).prefix ≡ t = ap (λ (x : yaml_tag_directive_t). x.prefix.items) is ∙ sym te in
     let has : has_shorter_prefix (directive_of d).prefix tag ≡ true = ap (λ p. has_shorter_prefix p tag) same ∙ f in
@@ -35,20 +39,28 @@ walk_found ds i d tag t h is te e f =
       e ∙ ap (λ z. directive_for z tag) (next_of ds i d h is) ∙ taken (directive_of d) (map directive_of (drop (i + 1) ds)) tag has ∙ ap Some (sym there),
     )
 
-pub walk_more : (ds : List yaml_tag_directive_t) (i : ℕ) (d : yaml_tag_directive_t) (tag t : List ℕ) → i < length ds → d ≡ get_or ds i d → t ≡ (get_or ds i d).prefix.items
-    → directive_for (map directive_of ds) tag ≡ directive_for (map directive_of (drop i ds)) tag → has_shorter_prefix t tag ≡ false → directive_for (map directive_of ds) tag ≡ directive_for (map directive_of (drop (i + 1) ds)) tag
+pub walk_more : (ds : List yaml_tag_directive_t) (i : ℕ) (d : yaml_tag_directive_t) (tag t : List ℕ)
+    → i < length ds → d ≡ get_or ds i d → t ≡ (get_or ds i d).prefix.items
+    → directive_for (map directive_of ds) tag ≡ directive_for (map directive_of (drop i ds)) tag
+    → has_shorter_prefix t tag ≡ false
+    → directive_for (map directive_of ds) tag
+    ≡ directive_for (map directive_of (drop (i + 1) ds)) tag
 walk_more ds i d tag t h is te e f =
     let same : (directive_of d).prefix ≡ t = ap (λ (x : yaml_tag_directive_t). x.prefix.items) is ∙ sym te in
     let has : has_shorter_prefix (directive_of d).prefix tag ≡ false = ap (λ p. has_shorter_prefix p tag) same ∙ f in
     e ∙ ap (λ z. directive_for z tag) (next_of ds i d h is) ∙ passed (directive_of d) (map directive_of (drop (i + 1) ds)) tag has
 
-pub walk_none : (ds : List yaml_tag_directive_t) (i : ℕ) (tag : List ℕ) → length ds ≤ i → directive_for (map directive_of ds) tag ≡ directive_for (map directive_of (drop i ds)) tag → directive_for (map directive_of ds) tag ≡ None
+pub walk_none : (ds : List yaml_tag_directive_t) (i : ℕ) (tag : List ℕ) → length ds ≤ i
+    → directive_for (map directive_of ds) tag ≡ directive_for (map directive_of (drop i ds)) tag
+    → directive_for (map directive_of ds) tag ≡ None
 unfolding directive_for
 walk_none ds i tag h e = e ∙ ap (λ z. directive_for z tag) (none_of ds i h)
 
 -- ---- by the index
 
-pub number_indexed : (ds : List TagDirective) (s : Option (Vec (Vec ℕ Global × ℕ) Global)) (es : Vec (Vec ℕ Global × ℕ) Global) (items : List (Vec ℕ Global × ℕ)) (tag : List ℕ) (best : Option ℕ) → s ≡ Some es → items ≡ es.items → IsIndexed ds s
+pub number_indexed : (ds : List TagDirective) (s : Option (Vec (Vec ℕ Global × ℕ) Global))
+    (es : Vec (Vec ℕ Global × ℕ) Global) (items : List (Vec ℕ Global × ℕ)) (tag : List ℕ)
+    (best : Option ℕ) → s ≡ Some es → items ≡ es.items → IsIndexed ds s
     → IsFirst (map entry_of items) tag (length tag) best → IsNumber ds tag best
 number_indexed ds s es items tag best is same x f =
     let P : Option (Vec (Vec ℕ Global × ℕ) Global) → Type 0 = λ o. IsIndexed ds o in

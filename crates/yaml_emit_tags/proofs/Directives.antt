@@ -11,31 +11,43 @@ use Rattle.yaml_emit_tags.specs.Tags.{has_shorter_prefix, directive_for, defines
 pub rest_of_slice : (n : ℕ) (xs : List ℕ) → take (length xs - n) (drop n xs) ≡ drop n xs
 rest_of_slice n xs = take_all (length xs - n) (drop n xs) (omega (arith, length-drop n xs))
 
-pub next_of : (ds : List yaml_tag_directive_t) (i : ℕ) (d : yaml_tag_directive_t) → i < length ds → d ≡ get_or ds i d → map directive_of (drop i ds) ≡ directive_of d ∷ map directive_of (drop (i + 1) ds)
+pub next_of : (ds : List yaml_tag_directive_t) (i : ℕ) (d : yaml_tag_directive_t) → i < length ds
+    → d ≡ get_or ds i d
+    → map directive_of (drop i ds) ≡ directive_of d ∷ map directive_of (drop (i + 1) ds)
 next_of ds i d h is = ap (map directive_of) (drop_more ds i d h ∙ ap (λ z. z ∷ drop (i + 1) ds) (sym is))
 
-pub none_of : (ds : List yaml_tag_directive_t) (i : ℕ) → length ds ≤ i → map directive_of (drop i ds) ≡ []
+pub none_of : (ds : List yaml_tag_directive_t) (i : ℕ) → length ds ≤ i
+    → map directive_of (drop i ds) ≡ []
 none_of ds i h = ap (map directive_of) (drop_all _ _ h)
 
-defines_at : (d : TagDirective) (ds : List TagDirective) (handle : List ℕ) → defines (d ∷ ds) handle ≡ (bytes_eq d.handle handle || defines ds handle)
+defines_at : (d : TagDirective) (ds : List TagDirective) (handle : List ℕ)
+    → defines (d ∷ ds) handle ≡ (bytes_eq d.handle handle || defines ds handle)
 unfolding defines
 defines_at d ds handle = refl
 
-pub defines_more : (b : Bool) (ds : List yaml_tag_directive_t) (i : ℕ) (d : yaml_tag_directive_t) (handle : List ℕ) → i < length ds → d ≡ get_or ds i d → b ≡ defines (map directive_of (drop i ds)) handle
-    → bytes_eq d.handle.items handle ≡ false → b ≡ defines (map directive_of (drop (i + 1) ds)) handle
+pub defines_more : (b : Bool) (ds : List yaml_tag_directive_t) (i : ℕ) (d : yaml_tag_directive_t)
+    (handle : List ℕ) → i < length ds → d ≡ get_or ds i d
+    → b ≡ defines (map directive_of (drop i ds)) handle
+    → bytes_eq d.handle.items handle ≡ false
+    → b ≡ defines (map directive_of (drop (i + 1) ds)) handle
 defines_more b ds i d handle h is e f =
     e ∙ ap (λ t. defines t handle) (next_of ds i d h is) ∙ defines_at (directive_of d) (map directive_of (drop (i + 1) ds)) handle ∙ ap (λ v. v || defines (map directive_of (drop (i + 1) ds)) handle) f
 
-pub defines_found : (b : Bool) (ds : List yaml_tag_directive_t) (i : ℕ) (d : yaml_tag_directive_t) (handle : List ℕ) → i < length ds → d ≡ get_or ds i d → b ≡ defines (map directive_of (drop i ds)) handle
+pub defines_found : (b : Bool) (ds : List yaml_tag_directive_t) (i : ℕ) (d : yaml_tag_directive_t)
+    (handle : List ℕ) → i < length ds → d ≡ get_or ds i d
+    → b ≡ defines (map directive_of (drop i ds)) handle
     → bytes_eq d.handle.items handle ≡ true → true ≡ b
 defines_found b ds i d handle h is e f =
     sym (e ∙ ap (λ t. defines t handle) (next_of ds i d h is) ∙ defines_at (directive_of d) (map directive_of (drop (i + 1) ds)) handle ∙ ap (λ v. v || defines (map directive_of (drop (i + 1) ds)) handle) f)
 
-pub defines_none : (b : Bool) (ds : List yaml_tag_directive_t) (i : ℕ) (handle : List ℕ) → length ds ≤ i → b ≡ defines (map directive_of (drop i ds)) handle → false ≡ b
+pub defines_none : (b : Bool) (ds : List yaml_tag_directive_t) (i : ℕ) (handle : List ℕ)
+    → length ds ≤ i → b ≡ defines (map directive_of (drop i ds)) handle → false ≡ b
 unfolding defines
 defines_none b ds i handle h e = sym (e ∙ ap (λ t. defines t handle) (none_of ds i h))
 
-directive_at : (d : TagDirective) (ds : List TagDirective) (tag : List ℕ) → directive_for (d ∷ ds) tag ≡ cond (has_shorter_prefix d.prefix tag) (Some d) (directive_for ds tag)
+directive_at : (d : TagDirective) (ds : List TagDirective) (tag : List ℕ)
+    → directive_for (d ∷ ds) tag ≡ cond (has_shorter_prefix d.prefix tag) (Some d)
+    (directive_for ds tag)
 unfolding directive_for
 directive_at d ds tag = refl
 
@@ -44,11 +56,13 @@ abbrev o_else : Option TagDirective → Option TagDirective → Option TagDirect
 o_else None q = q
 o_else (Some d) q = Some d
 
-choice : (b : Bool) (d : TagDirective) (o q : Option TagDirective) → cond b (Some d) (o_else o q) ≡ o_else (cond b (Some d) o) q
+choice : (b : Bool) (d : TagDirective) (o q : Option TagDirective)
+    → cond b (Some d) (o_else o q) ≡ o_else (cond b (Some d) o) q
 choice true d o q = refl
 choice false d o q = refl
 
-both_for : (ds es : List TagDirective) (tag : List ℕ) → directive_for (ds ++ es) tag ≡ o_else (directive_for ds tag) (directive_for es tag)
+both_for : (ds es : List TagDirective) (tag : List ℕ)
+    → directive_for (ds ++ es) tag ≡ o_else (directive_for ds tag) (directive_for es tag)
 unfolding directive_for
 both_for [] es tag = refl
 both_for (d ∷ ds) es tag =
@@ -56,35 +70,52 @@ both_for (d ∷ ds) es tag =
     ∙ ap (λ o. cond (has_shorter_prefix d.prefix tag) (Some d) o) (both_for ds es tag)
     ∙ choice (has_shorter_prefix d.prefix tag) d (directive_for ds tag) (directive_for es tag)
 
-pub split_found : (ds es : List TagDirective) (d : TagDirective) (tag : List ℕ) → directive_for ds tag ≡ Some d → shorthand d.handle (drop (length d.prefix) tag) ≡ split_by (directive_for (ds ++ es) tag) tag
+pub split_found : (ds es : List TagDirective) (d : TagDirective) (tag : List ℕ)
+    → directive_for ds tag ≡ Some d
+    → shorthand d.handle (drop (length d.prefix) tag) ≡ split_by (directive_for (ds ++ es) tag) tag
 split_found ds es d tag e = sym (ap (λ o. split_by o tag) (both_for ds es tag ∙ ap (λ o. o_else o (directive_for es tag)) e))
 
-pub split_none : (ds es : List TagDirective) (tag : List ℕ) → directive_for ds tag ≡ None → split_by (directive_for es tag) tag ≡ split_by (directive_for (ds ++ es) tag) tag
+pub split_none : (ds es : List TagDirective) (tag : List ℕ) → directive_for ds tag ≡ None
+    → split_by (directive_for es tag) tag ≡ split_by (directive_for (ds ++ es) tag) tag
 split_none ds es tag e = sym (ap (λ o. split_by o tag) (both_for ds es tag ∙ ap (λ o. o_else o (directive_for es tag)) e))
 
-by_flags : (d : TagDirective) (es : List TagDirective) (tag : List ℕ) (b h : Bool) → has_shorter_prefix d.prefix tag ≡ h → directive_for ((if b then [] else d ∷ []) ++ es) tag ≡ cond (h && not b) (Some d) (directive_for es tag)
+by_flags : (d : TagDirective) (es : List TagDirective) (tag : List ℕ) (b h : Bool)
+    → has_shorter_prefix d.prefix tag ≡ h
+    → directive_for ((if b then [] else d ∷ []) ++ es) tag
+    ≡ cond (h && not b) (Some d) (directive_for es tag)
 by_flags d es tag true true e = refl
 by_flags d es tag true false e = refl
 by_flags d es tag false true e = directive_at d es tag ∙ ap (λ v. cond v (Some d) (directive_for es tag)) e
 by_flags d es tag false false e = directive_at d es tag ∙ ap (λ v. cond v (Some d) (directive_for es tag)) e
 
-unless_law : (ds es : List TagDirective) (d : TagDirective) (tag : List ℕ) → directive_for (unless_defined ds d ++ es) tag ≡ cond (stands_for ds d tag) (Some d) (directive_for es tag)
+unless_law : (ds es : List TagDirective) (d : TagDirective) (tag : List ℕ)
+    → directive_for (unless_defined ds d ++ es) tag
+    ≡ cond (stands_for ds d tag) (Some d) (directive_for es tag)
 unless_law ds es d tag = by_flags d es tag (defines ds d.handle) (has_shorter_prefix d.prefix tag) refl
 
-empty_behind : (ds : List TagDirective) (d : TagDirective) (tag : List ℕ) → directive_for (unless_defined ds d) tag ≡ cond (stands_for ds d tag) (Some d) None
+empty_behind : (ds : List TagDirective) (d : TagDirective) (tag : List ℕ)
+    → directive_for (unless_defined ds d) tag ≡ cond (stands_for ds d tag) (Some d) None
 unfolding directive_for
 empty_behind ds d tag = ap (λ t. directive_for t tag) (sym (append-nil (unless_defined ds d))) ∙ unless_law ds [] d tag
 
-defaults_law : (ds : List TagDirective) (tag : List ℕ) → directive_for (defaults ds) tag ≡ cond (stands_for ds primary tag) (Some primary) (cond (stands_for ds secondary tag) (Some secondary) None)
+defaults_law : (ds : List TagDirective) (tag : List ℕ)
+    → directive_for (defaults ds) tag
+    ≡ cond (stands_for ds primary tag) (Some primary)
+    (cond (stands_for ds secondary tag) (Some secondary) None)
 defaults_law ds tag = unless_law ds (unless_defined ds secondary) primary tag ∙ ap (λ o. cond (stands_for ds primary tag) (Some primary) o) (empty_behind ds secondary tag)
 
-pub by_primary : (ds : List TagDirective) (tag : List ℕ) → stands_for ds primary tag ≡ true → shorthand (33 ∷ []) (drop 1 tag) ≡ split_by (directive_for (defaults ds) tag) tag
+pub by_primary : (ds : List TagDirective) (tag : List ℕ) → stands_for ds primary tag ≡ true
+    → shorthand (33 ∷ []) (drop 1 tag) ≡ split_by (directive_for (defaults ds) tag) tag
 by_primary ds tag e = sym (ap (λ o. split_by o tag) (defaults_law ds tag ∙ ap (λ v. cond v (Some primary) (cond (stands_for ds secondary tag) (Some secondary) None)) e))
 
-pub by_secondary : (ds : List TagDirective) (tag : List ℕ) → stands_for ds primary tag ≡ false → stands_for ds secondary tag ≡ true → shorthand (33 ∷ 33 ∷ []) (drop 18 tag) ≡ split_by (directive_for (defaults ds) tag) tag
+pub by_secondary : (ds : List TagDirective) (tag : List ℕ) → stands_for ds primary tag ≡ false
+    → stands_for ds secondary tag ≡ true
+    → shorthand (33 ∷ 33 ∷ []) (drop 18 tag) ≡ split_by (directive_for (defaults ds) tag) tag
 by_secondary ds tag e f =
     sym (ap (λ o. split_by o tag) (defaults_law ds tag ∙ ap (λ v. cond v (Some primary) (cond (stands_for ds secondary tag) (Some secondary) None)) e ∙ ap (λ v. cond v (Some secondary) None) f))
 
-pub by_none : (ds : List TagDirective) (tag : List ℕ) → stands_for ds primary tag ≡ false → stands_for ds secondary tag ≡ false → verbatim tag ≡ split_by (directive_for (defaults ds) tag) tag
+pub by_none : (ds : List TagDirective) (tag : List ℕ) → stands_for ds primary tag ≡ false
+    → stands_for ds secondary tag ≡ false
+    → verbatim tag ≡ split_by (directive_for (defaults ds) tag) tag
 by_none ds tag e f =
     sym (ap (λ o. split_by o tag) (defaults_law ds tag ∙ ap (λ v. cond v (Some primary) (cond (stands_for ds secondary tag) (Some secondary) None)) e ∙ ap (λ v. cond v (Some secondary) None) f))

@@ -31,28 +31,34 @@ kept_ascii flow xs h = IsAscii-from_all xs (λ k d l. low flow _ (AllPass-from_l
 kept_byte : (flow : Bool) (b : ℕ) → keeps_byte flow b ≡ true → uri_byte flow b ≡ b ∷ []
 kept_byte flow b h = ap (λ v. cond v (b ∷ []) (37 ∷ hex_2 b)) h
 
-kept_text : (flow : Bool) (xs : List ℕ) → list_all (keeps_byte flow) xs ≡ true → xs ≡ uri_text flow xs
+kept_text : (flow : Bool) (xs : List ℕ) → list_all (keeps_byte flow) xs ≡ true
+    → xs ≡ uri_text flow xs
 unfolding uri_text
 kept_text flow [] h = refl
 kept_text flow (x ∷ xs) h =
     ap (λ (t : List ℕ). x ∷ t) (kept_text flow xs (and_parts (keeps_byte flow x) _ h).1) ∙ ap (λ (t : List ℕ). t ++ uri_text flow xs) (sym (kept_byte flow x (and_parts (keeps_byte flow x) _ h).0))
 
-pub puts_kept : (flow : Bool) (a b : Output) (xs : List ℕ) → list_all (keeps_byte flow) xs ≡ true → Puts a b (letters xs) → Puts a b (letters (uri_text flow xs))
+pub puts_kept : (flow : Bool) (a b : Output) (xs : List ℕ) → list_all (keeps_byte flow) xs ≡ true
+    → Puts a b (letters xs) → Puts a b (letters (uri_text flow xs))
 puts_kept flow a b xs h p = let P : List ℕ → Type 0 = λ t. Puts a b (letters t) in subst P (kept_text flow xs h) p
 
-behind_ascii : (handle xs : List ℕ) → IsAscii handle → list_all (keeps_byte false) xs ≡ true → IsAscii (handle ++ (xs ++ []))
+behind_ascii : (handle xs : List ℕ) → IsAscii handle → list_all (keeps_byte false) xs ≡ true
+    → IsAscii (handle ++ (xs ++ []))
 behind_ascii handle xs s h = IsAscii-append handle (xs ++ []) s (rw (append-nil xs) (kept_ascii false xs h))
 
 mark : IsAscii (33 ∷ [])
 mark = IsAscii-cons 33 [] (omega arith) IsAscii-nil
 
-pub primary_ascii : (xs : List ℕ) → list_all (keeps_byte false) xs ≡ true → IsAscii (33 ∷ (xs ++ []))
+pub primary_ascii : (xs : List ℕ) → list_all (keeps_byte false) xs ≡ true
+    → IsAscii (33 ∷ (xs ++ []))
 primary_ascii xs h = behind_ascii (33 ∷ []) xs mark h
 
-pub secondary_ascii : (xs : List ℕ) → list_all (keeps_byte false) xs ≡ true → IsAscii (33 ∷ 33 ∷ (xs ++ []))
+pub secondary_ascii : (xs : List ℕ) → list_all (keeps_byte false) xs ≡ true
+    → IsAscii (33 ∷ 33 ∷ (xs ++ []))
 secondary_ascii xs h = behind_ascii (33 ∷ 33 ∷ []) xs (IsAscii-cons 33 (33 ∷ []) (omega arith) mark) h
 
 -- a suffix that is kept behind its handle
-pub puts_behind : (a b : Output) (handle xs : List ℕ) → list_all (keeps_byte false) xs ≡ true → Puts a b (word (handle ++ (xs ++ []))) → Puts a b (word (spelled (shorthand handle xs)))
+pub puts_behind : (a b : Output) (handle xs : List ℕ) → list_all (keeps_byte false) xs ≡ true
+    → Puts a b (word (handle ++ (xs ++ []))) → Puts a b (word (spelled (shorthand handle xs)))
 unfolding spelled
 puts_behind a b handle xs h p = let P : List ℕ → Type 0 = λ t. Puts a b (word (handle ++ t)) in subst P (append-nil xs ∙ kept_text false xs h) p

@@ -37,14 +37,17 @@ behind_tie o r h e = let Q : Ordering → Type 0 = λ z. is_lt (ordering_then z 
 not_less : (m n : ℕ) (r : Ordering) → is_lt (ordering_then (nat_cmp n m) r) ≡ false → m ≤ n
 not_less m n r e = at_most m n (first_not_less (nat_cmp n m) r e)
 
-tied : (m n : ℕ) (r : Ordering) → m ≡ n → is_lt (ordering_then (nat_cmp n m) r) ≡ false → is_lt r ≡ false
+tied : (m n : ℕ) (r : Ordering) → m ≡ n → is_lt (ordering_then (nat_cmp n m) r) ≡ false
+    → is_lt r ≡ false
 tied m n r h e = behind_tie (nat_cmp n m) r (ap (nat_cmp n) h ∙ tied_itself nat_cmp_total n) e
 
-by_number : (p q : List ℕ) (m n : ℕ) → p ≡ q → is_lt (ordering_then (slice_cmp nat_cmp q p) (nat_cmp n m)) ≡ false → m ≤ n
+by_number : (p q : List ℕ) (m n : ℕ) → p ≡ q
+    → is_lt (ordering_then (slice_cmp nat_cmp q p) (nat_cmp n m)) ≡ false → m ≤ n
 by_number p q m n h e = at_most m n (behind_tie (slice_cmp nat_cmp q p) (nat_cmp n m) (ap (slice_cmp nat_cmp q) h ∙ tied_itself nat_list_cmp_total q) e)
 
 -- of two that agree in the first bytes, the later has no smaller key
-key_rises : (d : ℕ) (a b : List ℕ) → is_lt (slice_cmp nat_cmp b a) ≡ false → d ≤ length a → d ≤ length b → take d a ≡ take d b → key a d ≤ key b d
+key_rises : (d : ℕ) (a b : List ℕ) → is_lt (slice_cmp nat_cmp b a) ≡ false → d ≤ length a
+    → d ≤ length b → take d a ≡ take d b → key a d ≤ key b d
 unfolding key
 key_rises d [] b e h k s = omega arith
 key_rises zero (x ∷ a) [] e h k s = absurd (cc)
@@ -57,7 +60,8 @@ key_rises (suc d) (x ∷ a) (y ∷ b) e h k s = let same : (x ≡ y) × (take d 
 order_total : IsTotalOrder entry_cmp
 order_total = then_total (on_total (λ (x : Entry). x.0) nat_list_cmp_total) (on_total (λ (x : Entry). x.1) nat_cmp_total)
 
-far : (xs : List Entry) (i j : ℕ) → IsSorted entry_cmp xs → i ≤ j → j < length xs → is_lt (entry_cmp (at xs j) (at xs i)) ≡ false
+far : (xs : List Entry) (i j : ℕ) → IsSorted entry_cmp xs → i ≤ j → j < length xs
+    → is_lt (entry_cmp (at xs j) (at xs i)) ≡ false
 far xs i j s h k = sorted_far (λ x y. is_lt (entry_cmp x y)) (ranks_by order_total (λ (x : Entry). x)) xs s i j ([], 0) h k
 
 -- ---- an edge of a part
@@ -65,10 +69,12 @@ far xs i j s h k = sorted_far (λ x y. is_lt (entry_cmp x y)) (ranks_by order_to
 abbrev pub Rises : (ℕ → ℕ) → ℕ → ℕ → Type 0
 Rises f from to = (i j : ℕ) → from ≤ i → i ≤ j → j < to → f i ≤ f j
 
-pub below_up : (f : ℕ → ℕ) (from to middle least : ℕ) → Rises f from to → middle < to → f middle < least → (k : ℕ) → from ≤ k → k < middle + 1 → f k < least
+pub below_up : (f : ℕ → ℕ) (from to middle least : ℕ) → Rises f from to → middle < to
+    → f middle < least → (k : ℕ) → from ≤ k → k < middle + 1 → f k < least
 below_up f from to middle least r h e k a b = let l : f k ≤ f middle = r k middle a (omega arith) h in omega arith
 
-pub above_down : (f : ℕ → ℕ) (from to middle least : ℕ) → Rises f from to → from ≤ middle → least ≤ f middle → (k : ℕ) → middle ≤ k → k < to → least ≤ f k
+pub above_down : (f : ℕ → ℕ) (from to middle least : ℕ) → Rises f from to → from ≤ middle
+    → least ≤ f middle → (k : ℕ) → middle ≤ k → k < to → least ≤ f k
 above_down f from to middle least r h e k a b = let l : f middle ≤ f k = r middle k h a b in omega arith
 
 -- ---- the search
@@ -78,7 +84,8 @@ pub record Searching (xs : List Entry) (tag : List ℕ) (from to depth : ℕ) (b
   pub room : from ≤ to
   pub inside : to ≤ length xs
   pub agree : (k : ℕ) → from ≤ k → k < to → Agree depth (at xs k).0 tag
-  pub others : (k : ℕ) → k < length xs → has_shorter_prefix (at xs k).0 tag ≡ true → depth ≤ length (at xs k).0 → (from ≤ k) × (k < to)
+  pub others : (k : ℕ) → k < length xs → has_shorter_prefix (at xs k).0 tag ≡ true
+      → depth ≤ length (at xs k).0 → (from ≤ k) × (k < to)
   pub first : IsFirst xs tag depth best
 
 pub searching : (xs : List Entry) (tag : List ℕ) → Searching xs tag 0 (length xs) 0 None
@@ -91,7 +98,9 @@ searching xs tag = record {
 }
 
 -- the keys of the part rise
-pub part_rises : (xs : List Entry) (tag : List ℕ) (from to depth : ℕ) (best : Option ℕ) → IsSorted entry_cmp xs → Searching xs tag from to depth best → Rises (λ k. key (at xs k).0 depth) from to
+pub part_rises : (xs : List Entry) (tag : List ℕ) (from to depth : ℕ) (best : Option ℕ)
+    → IsSorted entry_cmp xs → Searching xs tag from to depth best
+    → Rises (λ k. key (at xs k).0 depth) from to
 part_rises xs tag from to depth best s w i j a b c =
     let ai = w.agree i a (omega arith) in
     let aj = w.agree j (omega arith) c in
@@ -121,11 +130,13 @@ right_most (Some x) (Some y) m h = right_by (nat_le x y) refl
     right_by true e = let l : x ≤ y = leb-true x y e in omega arith
     right_by false e = h
 
-picked : (xs : List Entry) (tag : List ℕ) (x y : ℕ) (b : Bool) → IsFound xs tag (Some x) → IsFound xs tag (Some y) → IsFound xs tag (Some (if b then x else y))
+picked : (xs : List Entry) (tag : List ℕ) (x y : ℕ) (b : Bool) → IsFound xs tag (Some x)
+    → IsFound xs tag (Some y) → IsFound xs tag (Some (if b then x else y))
 picked xs tag x y true f g = f
 picked xs tag x y false f g = g
 
-found_smaller : (xs : List Entry) (tag : List ℕ) (a b : Option ℕ) → IsFound xs tag a → IsFound xs tag b → IsFound xs tag (smaller a b)
+found_smaller : (xs : List Entry) (tag : List ℕ) (a b : Option ℕ) → IsFound xs tag a
+    → IsFound xs tag b → IsFound xs tag (smaller a b)
 found_smaller xs tag None b f g = g
 found_smaller xs tag (Some x) None f g = f
 found_smaller xs tag (Some x) (Some y) f g = picked xs tag x y (nat_le x y) f g
@@ -133,7 +144,9 @@ found_smaller xs tag (Some x) (Some y) f g = picked xs tag x y (nat_le x y) f g
 whole : (p t : List ℕ) (d : ℕ) → Agree d p t → length p ≤ d → take d t ≡ p
 whole p t d a h = sym a.same ∙ take_all d p h
 
-found_by : (xs : List Entry) (tag : List ℕ) (k depth : ℕ) (b : Bool) → k < length xs → Agree depth (at xs k).0 tag → depth < length tag → (length (at xs k).0 == depth) ≡ b → IsFound xs tag (if b then Some (at xs k).1 else None)
+found_by : (xs : List Entry) (tag : List ℕ) (k depth : ℕ) (b : Bool) → k < length xs
+    → Agree depth (at xs k).0 tag → depth < length tag → (length (at xs k).0 == depth) ≡ b
+    → IsFound xs tag (if b then Some (at xs k).1 else None)
 found_by xs tag k depth true h a l e =
     let same : length (at xs k).0 ≡ depth = eqb-true (length (at xs k).0) depth e in
     (k, h, begun (at xs k).0 tag (omega arith) (ap (λ n. take n tag) same ∙ whole (at xs k).0 tag depth a (omega arith)), refl)
@@ -143,7 +156,9 @@ ended_at : (x : Entry) (depth : ℕ) → length x.0 ≡ depth → ended x depth 
 ended_at x depth h = let e : (length x.0 == depth) ≡ true = eq-eqb (length x.0) depth h in rw e refl
 
 -- no prefix of the part that ends here comes before the part's first
-least_here : (xs : List Entry) (tag : List ℕ) (from to depth : ℕ) (best : Option ℕ) → IsSorted entry_cmp xs → Searching xs tag from to depth best → (k : ℕ) → from ≤ k → k < to → length (at xs k).0 ≤ depth
+least_here : (xs : List Entry) (tag : List ℕ) (from to depth : ℕ) (best : Option ℕ)
+    → IsSorted entry_cmp xs → Searching xs tag from to depth best → (k : ℕ) → from ≤ k → k < to
+    → length (at xs k).0 ≤ depth
     → IsAtMost (ended (at xs from) depth) (at xs k).1
 least_here xs tag from to depth best s w k a b h =
     let af = w.agree from (omega arith) (omega arith) in
@@ -159,7 +174,8 @@ least_here xs tag from to depth best s w k a b h =
     no_key : (p : List ℕ) (d : ℕ) → key p d ≤ 0 → length p ≤ d
     no_key p d h = elim (less_or d (length p)) [ inl l ↦ (let e = key_within p d l in absurd (omega (arith, e))) | inr m ↦ m ]
 
-pub better : (xs : List Entry) (tag : List ℕ) (from to depth : ℕ) (best : Option ℕ) → IsSorted entry_cmp xs → Searching xs tag from to depth best → from < to → depth < length tag
+pub better : (xs : List Entry) (tag : List ℕ) (from to depth : ℕ) (best : Option ℕ)
+    → IsSorted entry_cmp xs → Searching xs tag from to depth best → from < to → depth < length tag
     → IsFirst xs tag (depth + 1) (smaller best (ended (at xs from) depth))
 better xs tag from to depth best s w h l = record {
   found = found_smaller xs tag best (ended (at xs from) depth) w.first.found (found_by xs tag from depth (length (at xs from).0 == depth) (omega (arith, w.inside)) (w.agree from (omega arith) h) l refl);
@@ -171,9 +187,14 @@ better xs tag from to depth best s w h l = record {
 
 -- ---- narrowing
 
-pub narrowed : (xs : List Entry) (tag : List ℕ) (from to depth start end byte : ℕ) (best more : Option ℕ) → Searching xs tag from to depth best → depth < length tag → byte ≡ get_or tag depth 0 → IsFirst xs tag (depth + 1) more
-    → from ≤ start → start ≤ to → ((k : ℕ) → from ≤ k → k < start → key (at xs k).0 depth < byte + 1) → ((k : ℕ) → start ≤ k → k < to → byte + 1 ≤ key (at xs k).0 depth)
-    → start ≤ end → end ≤ to → ((k : ℕ) → start ≤ k → k < end → key (at xs k).0 depth < byte + 2) → ((k : ℕ) → end ≤ k → k < to → byte + 2 ≤ key (at xs k).0 depth)
+pub narrowed : (xs : List Entry) (tag : List ℕ) (from to depth start end byte : ℕ)
+    (best more : Option ℕ) → Searching xs tag from to depth best → depth < length tag
+    → byte ≡ get_or tag depth 0 → IsFirst xs tag (depth + 1) more
+    → from ≤ start → start ≤ to
+    → ((k : ℕ) → from ≤ k → k < start → key (at xs k).0 depth < byte + 1)
+    → ((k : ℕ) → start ≤ k → k < to → byte + 1 ≤ key (at xs k).0 depth)
+    → start ≤ end → end ≤ to → ((k : ℕ) → start ≤ k → k < end → key (at xs k).0 depth < byte + 2)
+    → ((k : ℕ) → end ≤ k → k < to → byte + 2 ≤ key (at xs k).0 depth)
     → Searching xs tag start end (depth + 1) more
 narrowed xs tag from to depth start end byte best more w l is f a b below above a2 b2 below2 above2 = record {
   room = a2;
@@ -194,7 +215,8 @@ narrowed xs tag from to depth start end byte best more w l is f a b below above 
 
 -- ---- the end of the search
 
-pub none_left : (xs : List Entry) (tag : List ℕ) (from to depth : ℕ) (best : Option ℕ) → Searching xs tag from to depth best → from ≡ to → IsFirst xs tag (length tag) best
+pub none_left : (xs : List Entry) (tag : List ℕ) (from to depth : ℕ) (best : Option ℕ)
+    → Searching xs tag from to depth best → from ≡ to → IsFirst xs tag (length tag) best
 none_left xs tag from to depth best w same = record {
   found = w.first.found;
   least = λ k r e m. elim (less_or (length (at xs k).0) depth) [
@@ -203,13 +225,17 @@ none_left xs tag from to depth best w same = record {
   ];
 }
 
-pub all_read : (xs : List Entry) (tag : List ℕ) (depth : ℕ) (best : Option ℕ) → IsFirst xs tag depth best → length tag ≤ depth → IsFirst xs tag (length tag) best
+pub all_read : (xs : List Entry) (tag : List ℕ) (depth : ℕ) (best : Option ℕ)
+    → IsFirst xs tag depth best → length tag ≤ depth → IsFirst xs tag (length tag) best
 all_read xs tag depth best f h = record { found = f.found; least = λ k r e m. f.least k r e (omega arith) }
 
 -- ---- what the code holds
 
-pub better_by : (es : List (Vec ℕ Global × ℕ)) (tag : List ℕ) (from to depth : ℕ) (best r more : Option ℕ) (e : Vec ℕ Global × ℕ) → IsSorted entry_cmp (map entry_of es) → Searching (map entry_of es) tag from to depth best → from < to → depth < length tag
-    → e ≡ get_or es from e → r ≡ ended (entry_of e) depth → more ≡ smaller best r → IsFirst (map entry_of es) tag (depth + 1) more
+pub better_by : (es : List (Vec ℕ Global × ℕ)) (tag : List ℕ) (from to depth : ℕ)
+    (best r more : Option ℕ) (e : Vec ℕ Global × ℕ) → IsSorted entry_cmp (map entry_of es)
+    → Searching (map entry_of es) tag from to depth best → from < to → depth < length tag
+    → e ≡ get_or es from e → r ≡ ended (entry_of e) depth → more ≡ smaller best r
+    → IsFirst (map entry_of es) tag (depth + 1) more
 better_by es tag from to depth best r more e s w h l is re me =
     let n : length (map entry_of es) ≡ length es = length-map es entry_of in
     let there : at (map entry_of es) from ≡ entry_of e = at_of es from e (omega (arith, w.inside)) is in

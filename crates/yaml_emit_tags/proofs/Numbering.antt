@@ -17,8 +17,11 @@ use Rattle.yaml_emit_tags.proofs.Sorting.{Begins, begins}
 
 -- ---- numbering
 
-pub numbered_more : (es after : List (Vec ℕ Global × ℕ)) (ds : List yaml_tag_directive_t) (all : List Entry) (i : ℕ) (d : yaml_tag_directive_t) (v : Vec ℕ Global) → i < length ds → d ≡ get_or ds i d → v.items ≡ (get_or ds i d).prefix.items → after ≡ es ++ (v, i) ∷ []
-    → map entry_of es ++ numbered i (map directive_of (drop i ds)) ≡ all → map entry_of after ++ numbered (i + 1) (map directive_of (drop (i + 1) ds)) ≡ all
+pub numbered_more : (es after : List (Vec ℕ Global × ℕ)) (ds : List yaml_tag_directive_t)
+    (all : List Entry) (i : ℕ) (d : yaml_tag_directive_t) (v : Vec ℕ Global) → i < length ds
+    → d ≡ get_or ds i d → v.items ≡ (get_or ds i d).prefix.items → after ≡ es ++ (v, i) ∷ []
+    → map entry_of es ++ numbered i (map directive_of (drop i ds)) ≡ all
+    → map entry_of after ++ numbered (i + 1) (map directive_of (drop (i + 1) ds)) ≡ all
 unfolding numbered
 numbered_more es after ds all i d v h is text more e =
     let rest : List Entry = numbered (i + 1) (map directive_of (drop (i + 1) ds)) in
@@ -29,7 +32,9 @@ numbered_more es after ds all i d v h is text more e =
     ∙ sym (ap (λ z. map entry_of es ++ numbered i (map directive_of z)) (drop_more ds i d h))
     ∙ e
 
-pub numbered_all : (es : List (Vec ℕ Global × ℕ)) (ds : List yaml_tag_directive_t) (all : List Entry) (i : ℕ) → length ds ≤ i → map entry_of es ++ numbered i (map directive_of (drop i ds)) ≡ all → map entry_of es ≡ all
+pub numbered_all : (es : List (Vec ℕ Global × ℕ)) (ds : List yaml_tag_directive_t)
+    (all : List Entry) (i : ℕ) → length ds ≤ i
+    → map entry_of es ++ numbered i (map directive_of (drop i ds)) ≡ all → map entry_of es ≡ all
 unfolding numbered
 numbered_all es ds all i h e = sym (append-nil (map entry_of es)) ∙ sym (ap (λ z. map entry_of es ++ numbered i (map directive_of z)) (drop_all i ds h)) ∙ e
 
@@ -38,23 +43,28 @@ unfolding numbered
 length_numbered n [] = refl
 length_numbered n (d ∷ ds) = ap suc (length_numbered (n + 1) ds)
 
-numbered_at : (n : ℕ) (ds : List TagDirective) (j : ℕ) (e : Entry) → j < length ds → get_or (numbered n ds) j e ≡ ((directive_at ds j).prefix, n + j)
+numbered_at : (n : ℕ) (ds : List TagDirective) (j : ℕ) (e : Entry) → j < length ds
+    → get_or (numbered n ds) j e ≡ ((directive_at ds j).prefix, n + j)
 unfolding numbered
 numbered_at n [] j e h = absurd (omega arith)
 numbered_at n (d ∷ ds) zero e h = let k : n ≡ n + 0 = omega arith in ap (λ z. (d.prefix, z)) k
 numbered_at n (d ∷ ds) (suc j) e h = let k : n + 1 + j ≡ n + suc j = omega arith in numbered_at (n + 1) ds j e (omega arith) ∙ ap (λ z. ((directive_at ds j).prefix, z)) k
 
-numbered_first : (ds : List TagDirective) (j : ℕ) (e : Entry) → j < length ds → get_or (numbered 0 ds) j e ≡ ((directive_at ds j).prefix, j)
+numbered_first : (ds : List TagDirective) (j : ℕ) (e : Entry) → j < length ds
+    → get_or (numbered 0 ds) j e ≡ ((directive_at ds j).prefix, j)
 numbered_first ds j e h = let z : 0 + j ≡ j = omega arith in numbered_at 0 ds j e h ∙ ap (λ k. ((directive_at ds j).prefix, k)) z
 
 -- ---- sorting
 
-map_at : (es : List (Vec ℕ Global × ℕ)) (k : ℕ) (d : Entry) (e : Vec ℕ Global × ℕ) → k < length es → get_or (map entry_of es) k d ≡ entry_of (get_or es k e)
+map_at : (es : List (Vec ℕ Global × ℕ)) (k : ℕ) (d : Entry) (e : Vec ℕ Global × ℕ) → k < length es
+    → get_or (map entry_of es) k d ≡ entry_of (get_or es k e)
 map_at [] k d e h = absurd (omega arith)
 map_at (x ∷ es) zero d e h = refl
 map_at (x ∷ es) (suc k) d e h = map_at es k d e (omega arith)
 
-pub sorted_mapped : (es : List (Vec ℕ Global × ℕ)) → IsSorted (λ (x y : Vec ℕ Global × ℕ). ordering_then (slice_cmp nat_cmp x.0.items y.0.items) (nat_cmp x.1 y.1)) es → IsSorted entry_cmp (map entry_of es)
+pub sorted_mapped : (es : List (Vec ℕ Global × ℕ))
+    → IsSorted (λ (x y : Vec ℕ Global × ℕ). ordering_then (slice_cmp nat_cmp x.0.items y.0.items)
+    (nat_cmp x.1 y.1)) es → IsSorted entry_cmp (map entry_of es)
 sorted_mapped [] s k d low h = absurd (omega arith)
 sorted_mapped (x ∷ es) s k d low h =
     let n : length (map entry_of (x ∷ es)) ≡ length (x ∷ es) = length-map (x ∷ es) entry_of in
@@ -65,8 +75,10 @@ sorted_mapped (x ∷ es) s k d low h =
     let R : Entry → Type 0 = λ b. P (entry_of (get_or (x ∷ es) (k + 1) x)) b in
     subst Q (sym (map_at (x ∷ es) (k + 1) d x k1)) (subst R (sym (map_at (x ∷ es) k d x k0)) (s k x low k1))
 
-pub index_made : (ds : List TagDirective) (before after : List (Vec ℕ Global × ℕ)) → map entry_of before ≡ numbered 0 ds → IsPermutation before after
-    → IsSorted (λ (x y : Vec ℕ Global × ℕ). ordering_then (slice_cmp nat_cmp x.0.items y.0.items) (nat_cmp x.1 y.1)) after → IsIndex ds (map entry_of after)
+pub index_made : (ds : List TagDirective) (before after : List (Vec ℕ Global × ℕ))
+    → map entry_of before ≡ numbered 0 ds → IsPermutation before after
+    → IsSorted (λ (x y : Vec ℕ Global × ℕ). ordering_then (slice_cmp nat_cmp x.0.items y.0.items)
+    (nat_cmp x.1 y.1)) after → IsIndex ds (map entry_of after)
 index_made ds before after e p s = record {
   all = let P : List Entry → Type 0 = λ z. IsPermutation z (map entry_of after) in subst P e (IsPermutation-map entry_of before after p);
   sorted = sorted_mapped after s;
@@ -84,7 +96,8 @@ names ds xs x = All-permutation (Names ds) (numbered 0 ds) xs x.all (All-from_ge
     let P : Entry → Type 0 = λ e. (e.1 < length ds) × ((directive_at ds e.1).prefix ≡ e.0) in
     subst P (sym (numbered_first ds j ([], 0) l)) (l, refl)))
 
-has : (ds : List TagDirective) (xs : List Entry) (j : ℕ) → IsIndex ds xs → j < length ds → Contains xs ((directive_at ds j).prefix, j)
+has : (ds : List TagDirective) (xs : List Entry) (j : ℕ) → IsIndex ds xs → j < length ds
+    → Contains xs ((directive_at ds j).prefix, j)
 has ds xs j x h = Contains-permutation (numbered 0 ds) xs ((directive_at ds j).prefix, j) x.all (j, omega (arith, length_numbered 0 ds), numbered_first ds j ((directive_at ds j).prefix, j) h)
 
 -- another default
@@ -94,7 +107,9 @@ at_default (x ∷ xs) zero d h = refl
 at_default (x ∷ xs) (suc k) d h = at_default xs k d (omega arith)
 
 -- a directive that the tag can be written by isn't before the first
-not_before : (ds : List TagDirective) (xs : List Entry) (tag : List ℕ) (best : Option ℕ) (j : ℕ) → IsIndex ds xs → IsFirst xs tag (length tag) best → j < length ds → has_shorter_prefix (directive_at ds j).prefix tag ≡ true → IsAtMost best j
+not_before : (ds : List TagDirective) (xs : List Entry) (tag : List ℕ) (best : Option ℕ) (j : ℕ)
+    → IsIndex ds xs → IsFirst xs tag (length tag) best → j < length ds
+    → has_shorter_prefix (directive_at ds j).prefix tag ≡ true → IsAtMost best j
 not_before ds xs tag best j x f h e =
     let c = has ds xs j x h in
     let is : at xs c.0 ≡ ((directive_at ds j).prefix, j) = sym (at_default xs c.0 ((directive_at ds j).prefix, j) c.1) ∙ c.2 in
@@ -103,7 +118,9 @@ not_before ds xs tag best j x f h e =
     let P : ℕ → Type 0 = λ n. IsAtMost best n in
     subst P (ap (λ (z : Entry). z.1) is) (f.least c.0 c.1 e' b.shorter)
 
-found_there : (ds : List TagDirective) (xs : List Entry) (tag : List ℕ) (n : ℕ) → IsIndex ds xs → IsFirst xs tag (length tag) (Some n) → (n < length ds) × (has_shorter_prefix (directive_at ds n).prefix tag ≡ true)
+found_there : (ds : List TagDirective) (xs : List Entry) (tag : List ℕ) (n : ℕ) → IsIndex ds xs
+    → IsFirst xs tag (length tag) (Some n)
+    → (n < length ds) × (has_shorter_prefix (directive_at ds n).prefix tag ≡ true)
 unfolding Names
 found_there ds xs tag n x f =
     let w = f.found in
@@ -113,26 +130,36 @@ found_there ds xs tag n x f =
 
 -- ---- the first directive
 
-head_of : (d : TagDirective) (ds : List TagDirective) (tag : List ℕ) → directive_for (d ∷ ds) tag ≡ cond (has_shorter_prefix d.prefix tag) (Some d) (directive_for ds tag)
+head_of : (d : TagDirective) (ds : List TagDirective) (tag : List ℕ)
+    → directive_for (d ∷ ds) tag ≡ cond (has_shorter_prefix d.prefix tag) (Some d)
+    (directive_for ds tag)
 unfolding directive_for
 head_of d ds tag = refl
 
-pub taken : (d : TagDirective) (ds : List TagDirective) (tag : List ℕ) → has_shorter_prefix d.prefix tag ≡ true → directive_for (d ∷ ds) tag ≡ Some d
+pub taken : (d : TagDirective) (ds : List TagDirective) (tag : List ℕ)
+    → has_shorter_prefix d.prefix tag ≡ true → directive_for (d ∷ ds) tag ≡ Some d
 taken d ds tag e = head_of d ds tag ∙ ap (λ v. cond v (Some d) (directive_for ds tag)) e
 
-pub passed : (d : TagDirective) (ds : List TagDirective) (tag : List ℕ) → has_shorter_prefix d.prefix tag ≡ false → directive_for (d ∷ ds) tag ≡ directive_for ds tag
+pub passed : (d : TagDirective) (ds : List TagDirective) (tag : List ℕ)
+    → has_shorter_prefix d.prefix tag ≡ false → directive_for (d ∷ ds) tag ≡ directive_for ds tag
 passed d ds tag e = head_of d ds tag ∙ ap (λ v. cond v (Some d) (directive_for ds tag)) e
 
-not_taken : (d : TagDirective) (ds : List TagDirective) (tag : List ℕ) (o : Option TagDirective) (b : Bool) → has_shorter_prefix d.prefix tag ≡ b → (has_shorter_prefix d.prefix tag ≡ true → ⊥) → directive_for ds tag ≡ o → directive_for (d ∷ ds) tag ≡ o
+not_taken : (d : TagDirective) (ds : List TagDirective) (tag : List ℕ) (o : Option TagDirective)
+    (b : Bool) → has_shorter_prefix d.prefix tag ≡ b → (has_shorter_prefix d.prefix tag ≡ true → ⊥)
+    → directive_for ds tag ≡ o → directive_for (d ∷ ds) tag ≡ o
 not_taken d ds tag o true e n k = absurd (n e)
 not_taken d ds tag o false e n k = passed d ds tag e ∙ k
 
-none_for : (ds : List TagDirective) (tag : List ℕ) → ((j : ℕ) → j < length ds → has_shorter_prefix (directive_at ds j).prefix tag ≡ true → ⊥) → directive_for ds tag ≡ None
+none_for : (ds : List TagDirective) (tag : List ℕ)
+    → ((j : ℕ) → j < length ds → has_shorter_prefix (directive_at ds j).prefix tag ≡ true → ⊥)
+    → directive_for ds tag ≡ None
 unfolding directive_for
 none_for [] tag h = refl
 none_for (d ∷ ds) tag h = not_taken d ds tag None (has_shorter_prefix d.prefix tag) refl (h 0 (omega arith)) (none_for ds tag (λ j l. h (suc j) (omega arith)))
 
-some_for : (ds : List TagDirective) (tag : List ℕ) (n : ℕ) → n < length ds → has_shorter_prefix (directive_at ds n).prefix tag ≡ true → ((j : ℕ) → j < length ds → has_shorter_prefix (directive_at ds j).prefix tag ≡ true → n ≤ j)
+some_for : (ds : List TagDirective) (tag : List ℕ) (n : ℕ) → n < length ds
+    → has_shorter_prefix (directive_at ds n).prefix tag ≡ true
+    → ((j : ℕ) → j < length ds → has_shorter_prefix (directive_at ds j).prefix tag ≡ true → n ≤ j)
     → directive_for ds tag ≡ Some (directive_at ds n)
 some_for [] tag n h e first = absurd (omega arith)
 some_for (d ∷ ds) tag zero h e first = taken d ds tag e
@@ -141,7 +168,8 @@ some_for (d ∷ ds) tag (suc n) h e first =
     (λ f. let l : suc n ≤ 0 = first 0 (omega arith) f in absurd (omega arith))
     (some_for ds tag n (omega arith) e (λ j l k. let m : suc n ≤ suc j = first (suc j) (omega arith) k in omega arith))
 
-pub number_by : (ds : List TagDirective) (xs : List Entry) (tag : List ℕ) (best : Option ℕ) → IsIndex ds xs → IsFirst xs tag (length tag) best → IsNumber ds tag best
+pub number_by : (ds : List TagDirective) (xs : List Entry) (tag : List ℕ) (best : Option ℕ)
+    → IsIndex ds xs → IsFirst xs tag (length tag) best → IsNumber ds tag best
 number_by ds xs tag None x f = none_for ds tag (λ j h e. not_before ds xs tag None j x f h e)
 number_by ds xs tag (Some n) x f =
     let k = found_there ds xs tag n x f in

@@ -20,7 +20,8 @@ use Rattle.yaml_emit_tags.specs.Prefixes.{Entry, entry_of, at, key}
 
 -- ---- an entry of the code's list
 
-pub at_of : (es : List (Vec ℕ Global × ℕ)) (k : ℕ) (e : Vec ℕ Global × ℕ) → k < length es → e ≡ get_or es k e → at (map entry_of es) k ≡ entry_of e
+pub at_of : (es : List (Vec ℕ Global × ℕ)) (k : ℕ) (e : Vec ℕ Global × ℕ) → k < length es
+    → e ≡ get_or es k e → at (map entry_of es) k ≡ entry_of e
 at_of [] k e h is = absurd (omega arith)
 at_of (x ∷ es) zero e h is = ap entry_of (sym is)
 at_of (x ∷ es) (suc k) e h is = at_of es k e (omega arith) is
@@ -55,7 +56,8 @@ begins p t e =
     let s = and_parts (nat_lt (length p) (length t)) (bytes_eq (take (length p) t) p) e in
     record { shorter = ltb-true (length p) (length t) s.0; same = (bytes_eq-Decides (take (length p) t) p).0 s.1 }
 
-pub begun : (p t : List ℕ) → length p < length t → take (length p) t ≡ p → has_shorter_prefix p t ≡ true
+pub begun : (p t : List ℕ) → length p < length t → take (length p) t ≡ p
+    → has_shorter_prefix p t ≡ true
 begun p t h e = let k : bytes_eq (take (length p) t) p ≡ true = (bytes_eq-Decides (take (length p) t) p).1 e in rw k (grind (arith, nat_tests))
 
 take_less : (d n : ℕ) (t : List ℕ) → d ≤ n → take d (take n t) ≡ take d t
@@ -88,7 +90,8 @@ less_or m n = less_by m n (nat_lt m n) refl
     less_by m n false e = inr (ltb-false m n e)
 
 -- agreeing by one byte more
-pub agree_more : (d b : ℕ) (p t : List ℕ) → Agree d p t → d < length t → b ≡ get_or t d 0 → b + 1 ≤ key p d → key p d < b + 2 → Agree (d + 1) p t
+pub agree_more : (d b : ℕ) (p t : List ℕ) → Agree d p t → d < length t → b ≡ get_or t d 0
+    → b + 1 ≤ key p d → key p d < b + 2 → Agree (d + 1) p t
 agree_more d b p t a h is low high =
     elim (less_or d (length p)) [
       | inl in_it ↦ (
@@ -100,5 +103,7 @@ agree_more d b p t a h is low high =
 
 -- ---- the key that the code reads
 
-pub key_read : (es : List (Vec ℕ Global × ℕ)) (k d r : ℕ) (e : Vec ℕ Global × ℕ) (t : List ℕ) → k < length es → e ≡ get_or es k e → t ≡ (get_or es k e).0.items → r ≡ key t d → key (at (map entry_of es) k).0 d ≡ r
+pub key_read : (es : List (Vec ℕ Global × ℕ)) (k d r : ℕ) (e : Vec ℕ Global × ℕ) (t : List ℕ)
+    → k < length es → e ≡ get_or es k e → t ≡ (get_or es k e).0.items → r ≡ key t d
+    → key (at (map entry_of es) k).0 d ≡ r
 key_read es k d r e t h is te re = ap (λ (x : Entry). key x.0 d) (at_of es k e h is) ∙ ap (λ (x : Vec ℕ Global × ℕ). key x.0.items d) is ∙ ap (λ z. key z d) (sym te) ∙ sym re

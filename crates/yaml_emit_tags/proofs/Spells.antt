@@ -7,7 +7,9 @@ use Rattle.yaml_emit_tags.specs.Tags.{uri_text, uri_byte}
 use Rattle.yaml_emit_sink.proofs.Sinks.{owes_more, letters_append}
 
 -- a byte more of an escaped text
-pub uri_more : (flow : Bool) (a b c : Output) (xs : List ℕ) (i : ℕ) → i < length xs → Owes a b (letters (uri_text flow xs)) (letters (uri_text flow (drop i xs))) → Puts b c (letters (uri_byte flow (get_or xs i 0)))
+pub uri_more : (flow : Bool) (a b c : Output) (xs : List ℕ) (i : ℕ) → i < length xs
+    → Owes a b (letters (uri_text flow xs)) (letters (uri_text flow (drop i xs)))
+    → Puts b c (letters (uri_byte flow (get_or xs i 0)))
     → Owes a c (letters (uri_text flow xs)) (letters (uri_text flow (drop (i + 1) xs)))
 unfolding uri_text
 uri_more flow a b c xs i h p q =
@@ -15,6 +17,8 @@ uri_more flow a b c xs i h p q =
     let e = ap (λ t. letters (uri_text flow t)) (drop_more xs i 0 h) ∙ letters_append (uri_byte flow (get_or xs i 0)) (uri_text flow (drop (i + 1) xs)) in
     owes_more a b c (letters (uri_text flow xs)) (letters (uri_byte flow (get_or xs i 0))) (letters (uri_text flow (drop (i + 1) xs))) (subst P e p) q
 
-pub uri_all : (flow : Bool) (a b : Output) (xs : List ℕ) (i : ℕ) → length xs ≤ i → Owes a b (letters (uri_text flow xs)) (letters (uri_text flow (drop i xs))) → Puts a b (letters (uri_text flow xs))
+pub uri_all : (flow : Bool) (a b : Output) (xs : List ℕ) (i : ℕ) → length xs ≤ i
+    → Owes a b (letters (uri_text flow xs)) (letters (uri_text flow (drop i xs)))
+    → Puts a b (letters (uri_text flow xs))
 unfolding uri_text letters
 uri_all flow a b xs i h p = let P : List ℕ → Type 0 = λ t. Owes a b (letters (uri_text flow xs)) (letters (uri_text flow t)) in subst P (drop_all _ _ h) p

@@ -8,11 +8,13 @@ use Rattle.yaml_emit_tags.specs.Tags.{directive_for, defines, suffix_keeps, uri_
 abbrev directive : List ℕ → List ℕ → TagDirective
 directive handle prefix = record { handle = handle; prefix = prefix }
 
-tag_by_directive : tag_spelling (directive (codes "!!") (codes "tag:x,2000:") ∷ []) (codes "tag:x,2000:a b") ≡ codes "!!a%20b"
+tag_by_directive : tag_spelling (directive (codes "!!") (codes "tag:x,2000:") ∷ [])
+    (codes "tag:x,2000:a b") ≡ codes "!!a%20b"
 unfolding directive_for defines suffix_keeps uri_text spelled hex_digit
 tag_by_directive = refl
 
-tag_of_redefined : tag_spelling (directive (codes "!!") (codes "tag:x,2000:") ∷ []) (codes "tag:yaml.org,2002:str") ≡ codes "!<tag:yaml.org,2002:str>"
+tag_of_redefined : tag_spelling (directive (codes "!!") (codes "tag:x,2000:") ∷ [])
+    (codes "tag:yaml.org,2002:str") ≡ codes "!<tag:yaml.org,2002:str>"
 unfolding directive_for defines suffix_keeps uri_text spelled hex_digit
 tag_of_redefined = refl
 
@@ -24,7 +26,8 @@ tag_not_shorter : tag_spelling [] (codes "!") ≡ codes "!<%21>"
 unfolding directive_for defines suffix_keeps uri_text spelled hex_digit
 tag_not_shorter = refl
 
-tag_whole_prefix : tag_spelling (directive (codes "!e!") (codes "tag:x,2000:") ∷ []) (codes "tag:x,2000:") ≡ codes "!<tag:x,2000:>"
+tag_whole_prefix : tag_spelling (directive (codes "!e!") (codes "tag:x,2000:") ∷ [])
+    (codes "tag:x,2000:") ≡ codes "!<tag:x,2000:>"
 unfolding directive_for defines suffix_keeps uri_text spelled hex_digit
 tag_whole_prefix = refl
 
@@ -32,7 +35,8 @@ tag_flow_indicators : tag_spelling [] (codes "tag:yaml.org,2002:a,[b]") ≡ code
 unfolding directive_for defines suffix_keeps uri_text spelled hex_digit
 tag_flow_indicators = refl
 
-tag_first : tag_spelling (directive (codes "!e!") (codes "!") ∷ directive (codes "!f!") (codes "!") ∷ []) (codes "!x") ≡ codes "!e!x"
+tag_first : tag_spelling (directive (codes "!e!") (codes "!") ∷ directive (codes "!f!") (codes "!")
+    ∷ []) (codes "!x") ≡ codes "!e!x"
 unfolding directive_for defines suffix_keeps uri_text spelled hex_digit
 tag_first = refl
 

@@ -13,15 +13,18 @@ pub escape_by_2 : (c : ℕ) → escape_letter c ≡ 0 → c < 256 → escape_tex
 unfolding escape_text
 escape_by_2 c n h = grind arith
 
-pub escape_by_4 : (c : ℕ) → escape_letter c ≡ 0 → 256 ≤ c → c < 65536 → escape_text c ≡ 92 ∷ 117 ∷ hex_4 c
+pub escape_by_4 : (c : ℕ) → escape_letter c ≡ 0 → 256 ≤ c → c < 65536
+    → escape_text c ≡ 92 ∷ 117 ∷ hex_4 c
 unfolding escape_text
 escape_by_4 c n l h = grind arith
 
-pub escape_by_8 : (c : ℕ) → escape_letter c ≡ 0 → 256 ≤ c → 65536 ≤ c → escape_text c ≡ 92 ∷ 85 ∷ hex_8 c
+pub escape_by_8 : (c : ℕ) → escape_letter c ≡ 0 → 256 ≤ c → 65536 ≤ c
+    → escape_text c ≡ 92 ∷ 85 ∷ hex_8 c
 unfolding escape_text
 escape_by_8 c n l h = grind arith
 
-pub quoted_law : (page : Page) (before x : ℕ) (xs : List ℕ) → quoted_body page before (x ∷ xs) ≡ (quoted_char page before x xs ▹ quoted_body page x xs)
+pub quoted_law : (page : Page) (before x : ℕ) (xs : List ℕ)
+    → quoted_body page before (x ∷ xs) ≡ (quoted_char page before x xs ▹ quoted_body page x xs)
 unfolding quoted_body
 quoted_law page before x xs = refl
 

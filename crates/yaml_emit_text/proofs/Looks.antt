@@ -12,23 +12,28 @@ breaks_at : (y : ℕ) (xs : List ℕ) → behind_breaks (y ∷ xs) ≡ cond (is_
 unfolding behind_breaks
 breaks_at y xs = refl
 
-pub breaks_more : (n : ℕ) (left xs : List ℕ) (y : ℕ) → left ≡ y ∷ xs → n ≡ behind_breaks left → is_break y ≡ true → n ≡ behind_breaks xs
+pub breaks_more : (n : ℕ) (left xs : List ℕ) (y : ℕ) → left ≡ y ∷ xs → n ≡ behind_breaks left
+    → is_break y ≡ true → n ≡ behind_breaks xs
 breaks_more n left xs y e h f = h ∙ ap behind_breaks e ∙ breaks_at y xs ∙ ap (λ v. cond v (behind_breaks xs) y) f
 
-pub breaks_found : (n : ℕ) (left xs : List ℕ) (y : ℕ) → left ≡ y ∷ xs → n ≡ behind_breaks left → is_break y ≡ false → y ≡ n
+pub breaks_found : (n : ℕ) (left xs : List ℕ) (y : ℕ) → left ≡ y ∷ xs → n ≡ behind_breaks left
+    → is_break y ≡ false → y ≡ n
 breaks_found n left xs y e h f = sym (h ∙ ap behind_breaks e ∙ breaks_at y xs ∙ ap (λ v. cond v (behind_breaks xs) y) f)
 
 pub breaks_none : (n : ℕ) (left : List ℕ) → left ≡ [] → n ≡ behind_breaks left → 32 ≡ n
 unfolding behind_breaks
 breaks_none n left e h = sym (h ∙ ap behind_breaks e)
 
-chomp_behind : (broken last : Bool) (z y : ℕ) (xs : List ℕ) → last ≡ is_break z → chomp broken last (xs ++ y ∷ []) ≡ chomp_of (is_break (last_or z xs)) (is_break y)
+chomp_behind : (broken last : Bool) (z y : ℕ) (xs : List ℕ) → last ≡ is_break z
+    → chomp broken last (xs ++ y ∷ []) ≡ chomp_of (is_break (last_or z xs)) (is_break y)
 unfolding chomp last_or
 chomp_behind broken last z y [] e = ap (λ v. chomp_of v (is_break y)) e
 chomp_behind broken last z y (x ∷ xs) e = chomp_behind last (is_break x) x y xs refl
 
 -- by the last two characters
-pub chomp_ends : (value front : List ℕ) (y : ℕ) (broken last : Bool) → value ≡ front ++ y ∷ [] → broken ≡ ends_in_break front → last ≡ is_break y → chomp_of broken last ≡ chomp true true value
+pub chomp_ends : (value front : List ℕ) (y : ℕ) (broken last : Bool) → value ≡ front ++ y ∷ []
+    → broken ≡ ends_in_break front → last ≡ is_break y
+    → chomp_of broken last ≡ chomp true true value
 chomp_ends value front y broken last v b l = ap (λ t. chomp_of t last) b ∙ ap (chomp_of (ends_in_break front)) l ∙ sym (ap (chomp true true) v ∙ chomp_behind true true 10 y front refl)
 
 pub chomp_none : (value : List ℕ) → value ≡ [] → chomp_of true true ≡ chomp true true value
@@ -40,7 +45,8 @@ unfolding last_or
 last_behind a y [] = refl
 last_behind a y (x ∷ xs) = last_behind x y xs
 
-pub ends_by : (text front : List ℕ) (y : ℕ) → text ≡ front ++ y ∷ [] → is_break y ≡ ends_in_break text
+pub ends_by : (text front : List ℕ) (y : ℕ) → text ≡ front ++ y ∷ []
+    → is_break y ≡ ends_in_break text
 ends_by text front y e = sym (ap (λ t. is_break (last_or 10 t)) e ∙ ap is_break (last_behind 10 y front))
 
 pub ends_none : (text : List ℕ) → text ≡ [] → true ≡ ends_in_break text
@@ -54,23 +60,30 @@ or_assoc false b c = refl
 joined_assoc : (a b c : Seen) → joined a (joined b c) ≡ joined (joined a b) c
 joined_assoc a b c = rw (or_assoc a.special b.special c.special, or_assoc a.broken b.broken c.broken, or_assoc a.not_plain b.not_plain c.not_plain, or_assoc a.not_flow b.not_flow c.not_flow) refl
 
-pub looked_at : (unicode : Bool) (before y : ℕ) (xs : List ℕ) → looked unicode before (y ∷ xs) ≡ joined (seen unicode before y (first xs)) (looked unicode y xs)
+pub looked_at : (unicode : Bool) (before y : ℕ) (xs : List ℕ)
+    → looked unicode before (y ∷ xs) ≡ joined (seen unicode before y (first xs))
+    (looked unicode y xs)
 unfolding somewhere
 looked_at unicode before y xs = refl
 
-looked_none : (all : Seen) (unicode : Bool) (before : ℕ) → joined all (looked unicode before []) ≡ all
+looked_none : (all : Seen) (unicode : Bool) (before : ℕ)
+    → joined all (looked unicode before []) ≡ all
 unfolding somewhere
 looked_none all unicode before = rw (or-false all.special, or-false all.broken, or-false all.not_plain, or-false all.not_flow) refl
 
-pub look_more : (k all all' : Seen) (unicode : Bool) (before y : ℕ) (left xs : List ℕ) → left ≡ y ∷ xs → k ≡ joined all (looked unicode before left) → all' ≡ joined all (seen unicode before y (first xs)) → k ≡ joined all' (looked unicode y xs)
+pub look_more : (k all all' : Seen) (unicode : Bool) (before y : ℕ) (left xs : List ℕ)
+    → left ≡ y ∷ xs → k ≡ joined all (looked unicode before left)
+    → all' ≡ joined all (seen unicode before y (first xs)) → k ≡ joined all' (looked unicode y xs)
 look_more k all all' unicode before y left xs e h f =
     h ∙ ap (λ t. joined all (looked unicode before t)) e ∙ ap (joined all) (looked_at unicode before y xs) ∙ joined_assoc all (seen unicode before y (first xs)) (looked unicode y xs)
     ∙ ap (λ t. joined t (looked unicode y xs)) (sym f)
 
-pub look_end : (k all : Seen) (unicode : Bool) (before : ℕ) (left : List ℕ) → left ≡ [] → k ≡ joined all (looked unicode before left) → all ≡ k
+pub look_end : (k all : Seen) (unicode : Bool) (before : ℕ) (left : List ℕ) → left ≡ []
+    → k ≡ joined all (looked unicode before left) → all ≡ k
 look_end k all unicode before left e h = sym (h ∙ ap (λ t. joined all (looked unicode before t)) e ∙ looked_none all unicode before)
 
-pub last_more : (n before y : ℕ) (left xs : List ℕ) → left ≡ y ∷ xs → n ≡ last_or before left → n ≡ last_or y xs
+pub last_more : (n before y : ℕ) (left xs : List ℕ) → left ≡ y ∷ xs → n ≡ last_or before left
+    → n ≡ last_or y xs
 unfolding last_or
 last_more n before y left xs e h = h ∙ ap (last_or before) e
 

@@ -20,23 +20,29 @@ bool_cases false p q = q refl
 
 -- the number of bytes in front
 
-front_at : (test : ℕ → ℕ → Bool) (k b : ℕ) (bs : List ℕ) → front test k (b ∷ bs) ≡ cond (test k b) (suc (front test (k + 1) bs)) 0
+front_at : (test : ℕ → ℕ → Bool) (k b : ℕ) (bs : List ℕ)
+    → front test k (b ∷ bs) ≡ cond (test k b) (suc (front test (k + 1) bs)) 0
 unfolding front
 front_at test k b bs = refl
 
-front_yes : (test : ℕ → ℕ → Bool) (k b : ℕ) (bs : List ℕ) → test k b ≡ true → front test k (b ∷ bs) ≡ suc (front test (k + 1) bs)
+front_yes : (test : ℕ → ℕ → Bool) (k b : ℕ) (bs : List ℕ) → test k b ≡ true
+    → front test k (b ∷ bs) ≡ suc (front test (k + 1) bs)
 front_yes test k b bs t = front_at test k b bs ∙ ap (λ v. cond v (suc (front test (k + 1) bs)) 0) t
 
-front_no : (test : ℕ → ℕ → Bool) (k b : ℕ) (bs : List ℕ) → test k b ≡ false → front test k (b ∷ bs) ≡ 0
+front_no : (test : ℕ → ℕ → Bool) (k b : ℕ) (bs : List ℕ) → test k b ≡ false
+    → front test k (b ∷ bs) ≡ 0
 front_no test k b bs t = front_at test k b bs ∙ ap (λ v. cond v (suc (front test (k + 1) bs)) 0) t
 
-pub front_more : (test : ℕ → ℕ → Bool) (k n i : ℕ) (xs : List ℕ) → i < length xs → n ≡ i + front test (k + i) (drop i xs) → test (k + i) (get_or xs i 0) ≡ true → n ≡ i + 1 + front test (k + (i + 1)) (drop (i + 1) xs)
+pub front_more : (test : ℕ → ℕ → Bool) (k n i : ℕ) (xs : List ℕ) → i < length xs
+    → n ≡ i + front test (k + i) (drop i xs) → test (k + i) (get_or xs i 0) ≡ true
+    → n ≡ i + 1 + front test (k + (i + 1)) (drop (i + 1) xs)
 front_more test k n i xs h p t =
     let q = ap (front test (k + i)) (drop_more xs i 0 h) ∙ front_yes test (k + i) (get_or xs i 0) (drop (i + 1) xs) t in
     let e : k + i + 1 ≡ k + (i + 1) = omega arith in
     let r = ap (λ j. front test j (drop (i + 1) xs)) e in omega (arith, p, q, r)
 
-pub front_found : (test : ℕ → ℕ → Bool) (k n i : ℕ) (xs : List ℕ) → i < length xs → n ≡ i + front test (k + i) (drop i xs) → test (k + i) (get_or xs i 0) ≡ false → i ≡ n
+pub front_found : (test : ℕ → ℕ → Bool) (k n i : ℕ) (xs : List ℕ) → i < length xs
+    → n ≡ i + front test (k + i) (drop i xs) → test (k + i) (get_or xs i 0) ≡ false → i ≡ n
 front_found test k n i xs h p t =
     let q = ap (front test (k + i)) (drop_more xs i 0 h) ∙ front_no test (k + i) (get_or xs i 0) (drop (i + 1) xs) t in omega (arith, p, q)
 
@@ -44,7 +50,8 @@ front_nil : (test : ℕ → ℕ → Bool) (k : ℕ) → front test k [] ≡ 0
 unfolding front
 front_nil test k = refl
 
-pub front_none : (test : ℕ → ℕ → Bool) (k n i : ℕ) (xs : List ℕ) → length xs ≤ i → n ≡ i + front test (k + i) (drop i xs) → i ≡ n
+pub front_none : (test : ℕ → ℕ → Bool) (k n i : ℕ) (xs : List ℕ) → length xs ≤ i
+    → n ≡ i + front test (k + i) (drop i xs) → i ≡ n
 front_none test k n i xs h p = let q = ap (front test (k + i)) (drop_all _ _ h) ∙ front_nil test (k + i) in omega (arith, p, q)
 
 pub front_inside : (test : ℕ → ℕ → Bool) (k : ℕ) (xs : List ℕ) → front test k xs ≤ length xs
@@ -55,7 +62,8 @@ front_inside test k (b ∷ bs) =
     (λ f. let q = front_no test k b bs f in omega (arith, q))
 
 -- what is in front passes
-pub front_pass : (test : ℕ → ℕ → Bool) (k m : ℕ) (xs : List ℕ) → m ≤ front test k xs → all_pass test k (take m xs) ≡ true
+pub front_pass : (test : ℕ → ℕ → Bool) (k m : ℕ) (xs : List ℕ) → m ≤ front test k xs
+    → all_pass test k (take m xs) ≡ true
 unfolding all_pass
 front_pass test k zero xs h = refl
 front_pass test k (suc m) [] h = refl
@@ -64,7 +72,8 @@ front_pass test k (suc m) (b ∷ bs) h =
     (λ t. let q = front_yes test k b bs t in and_from (test k b) (all_pass test (k + 1) (take m bs)) t (front_pass test (k + 1) m bs (omega (arith, h, q))))
     (λ f. let q = front_no test k b bs f in absurd (omega (arith, h, q)))
 
-pub front_byte : (test : ℕ → ℕ → Bool) (k m : ℕ) (xs : List ℕ) → m < front test k xs → test (k + m) (get_or xs m 0) ≡ true
+pub front_byte : (test : ℕ → ℕ → Bool) (k m : ℕ) (xs : List ℕ) → m < front test k xs
+    → test (k + m) (get_or xs m 0) ≡ true
 front_byte test k m [] h = let q = front_nil test k in absurd (omega (arith, h, q))
 front_byte test k zero (b ∷ bs) h =
     let e : k + zero ≡ k = omega arith in
@@ -79,13 +88,16 @@ front_byte test k (suc m) (b ∷ bs) h =
 
 -- ASCII
 
-below_at : (test : ℕ → ℕ → Bool) → ((k b : ℕ) → test k b ≡ true → b < 128) → (k : ℕ) (bs : List ℕ) (i : ℕ) → all_pass test k bs ≡ true → i < length bs → get_or bs i 0 < 128
+below_at : (test : ℕ → ℕ → Bool) → ((k b : ℕ) → test k b ≡ true → b < 128)
+    → (k : ℕ) (bs : List ℕ) (i : ℕ) → all_pass test k bs ≡ true → i < length bs
+    → get_or bs i 0 < 128
 unfolding all_pass
 below_at test low k [] i h l = absurd (omega (arith, l))
 below_at test low k (b ∷ bs) zero h l = low k b (and_parts (test k b) (all_pass test (k + 1) bs) h).0
 below_at test low k (b ∷ bs) (suc i) h l = below_at test low (k + 1) bs i (and_parts (test k b) (all_pass test (k + 1) bs) h).1 (omega (arith, l))
 
-below_all : (test : ℕ → ℕ → Bool) → ((k b : ℕ) → test k b ≡ true → b < 128) → (k : ℕ) (bs : List ℕ) → all_pass test k bs ≡ true → All (λ b. b < 128) bs
+below_all : (test : ℕ → ℕ → Bool) → ((k b : ℕ) → test k b ≡ true → b < 128) → (k : ℕ) (bs : List ℕ)
+    → all_pass test k bs ≡ true → All (λ b. b < 128) bs
 below_all test low k bs h = All-from_get_or (λ b. b < 128) bs 0 (λ i l. below_at test low k bs i h l)
 
 at_most : (b n : ℕ) → nat_le b n ≡ true → b ≤ n
@@ -131,7 +143,8 @@ pub rest_of_slice : (n : ℕ) (xs : List ℕ) → take (length xs - n) (drop n x
 rest_of_slice n xs = take_all (length xs - n) (drop n xs) (omega (arith, length-drop n xs))
 
 -- a text that is cut behind ASCII
-pub cut_letters : (n : ℕ) (bs : List ℕ) → IsAscii (take n bs) → chars bs ≡ take n bs ++ chars (drop n bs)
+pub cut_letters : (n : ℕ) (bs : List ℕ) → IsAscii (take n bs)
+    → chars bs ≡ take n bs ++ chars (drop n bs)
 cut_letters n bs a = ap chars (sym (take-append-drop n bs)) ∙ chars-append (take n bs) (drop n bs) (IsUtf8-from_ascii (take n bs) a) ∙ ap (λ t. t ++ chars (drop n bs)) (chars-IsAscii (take n bs) a)
 
 pub cut_utf8 : (n : ℕ) (bs : List ℕ) → IsUtf8 bs → IsAscii (take n bs) → IsUtf8 (drop n bs)
@@ -140,7 +153,8 @@ cut_utf8 (suc n) [] u a = u
 cut_utf8 (suc n) (b ∷ bs) u a = cut_utf8 n bs (IsUtf8-past_char (b ∷ bs) bs b u (ap (λ t. t ++ bs) (sym (encode_ascii b (a 0))))) (IsAscii-drop (b ∷ take n bs) 1 a)
 
 -- what stands behind some of the calm bytes in front, but not all
-pub calm_next : (m : ℕ) (bs : List ℕ) → m < front calm 0 bs → IsUtf8 (drop m bs) → is_calm (first (chars (drop m bs))) ≡ true
+pub calm_next : (m : ℕ) (bs : List ℕ) → m < front calm 0 bs → IsUtf8 (drop m bs)
+    → is_calm (first (chars (drop m bs))) ≡ true
 calm_next m bs h u =
     let i = front_inside calm 0 bs in
     let e = drop_more bs m 0 (omega (arith, h, i)) in
@@ -149,7 +163,8 @@ calm_next m bs h u =
     ap (λ t. is_calm (first t)) c ∙ y
 
 -- the last character of a run
-pub last_append : (before : ℕ) (xs ys : List ℕ) → last_or before (xs ++ ys) ≡ last_or (last_or before xs) ys
+pub last_append : (before : ℕ) (xs ys : List ℕ)
+    → last_or before (xs ++ ys) ≡ last_or (last_or before xs) ys
 unfolding last_or
 last_append before [] ys = refl
 last_append before (x ∷ xs) ys = last_append x xs ys
@@ -159,7 +174,8 @@ unfolding last_or
 last_at before x [] = refl
 last_at before x (y ∷ ys) = last_at x y ys
 
-pub last_is : (before : ℕ) (xs : List ℕ) → (length xs == 0) ≡ false → get_or xs (length xs - 1) 0 ≡ last_or before xs
+pub last_is : (before : ℕ) (xs : List ℕ) → (length xs == 0) ≡ false
+    → get_or xs (length xs - 1) 0 ≡ last_or before xs
 last_is before [] h = absurd (cc)
 last_is before (x ∷ xs) h = let e : length (x ∷ xs) - 1 ≡ length xs = omega arith in ap (λ i. get_or (x ∷ xs) i 0) e ∙ last_at before x xs
 
@@ -169,7 +185,8 @@ last_none before [] h = refl
 last_none before (x ∷ xs) h = absurd (grind (arith, nat_tests, h))
 
 -- the parts of a text that was cut
-pub run_most : (e : Bounds) (k n : ℕ) (xs bs : List ℕ) → xs ≡ bs → n ≡ front (runs_on e) k xs → n ≡ front (runs_on e) k bs
+pub run_most : (e : Bounds) (k n : ℕ) (xs bs : List ℕ) → xs ≡ bs → n ≡ front (runs_on e) k xs
+    → n ≡ front (runs_on e) k bs
 run_most e k n xs bs same p = p ∙ ap (front (runs_on e) k) same
 
 pub calm_most : (m : ℕ) (xs bs : List ℕ) → xs ≡ bs → m ≡ passed xs → m ≡ passed bs
@@ -188,10 +205,12 @@ run_inside e k n bs p = let h = front_inside (runs_on e) k bs in omega (arith, p
 pub calm_inside : (m : ℕ) (bs : List ℕ) → m ≡ passed bs → m ≤ length bs
 calm_inside m bs p = let h = front_inside calm 0 bs in let k = passed_under m bs p in omega (arith, k, h)
 
-pub run_passes : (e : Bounds) (k n : ℕ) (bs run : List ℕ) → n ≡ front (runs_on e) k bs → run ≡ take n bs → all_pass (runs_on e) k run ≡ true
+pub run_passes : (e : Bounds) (k n : ℕ) (bs run : List ℕ) → n ≡ front (runs_on e) k bs
+    → run ≡ take n bs → all_pass (runs_on e) k run ≡ true
 run_passes e k n bs run p r = ap (all_pass (runs_on e) k) r ∙ front_pass (runs_on e) k n bs (omega (arith, p))
 
-pub calm_passes : (m : ℕ) (bs run : List ℕ) → m ≡ passed bs → run ≡ take m bs → all_pass calm 0 run ≡ true
+pub calm_passes : (m : ℕ) (bs run : List ℕ) → m ≡ passed bs → run ≡ take m bs
+    → all_pass calm 0 run ≡ true
 calm_passes m bs run p r = ap (all_pass calm 0) r ∙ front_pass calm 0 m bs (passed_under m bs p)
 
 pub run_length_is : (n : ℕ) (bs run : List ℕ) → n ≤ length bs → run ≡ take n bs → length run ≡ n
@@ -206,7 +225,8 @@ unfolding is_calm
 ends true = refl
 ends false = ap (λ t. may_follow (first t)) chars-nil
 
-calm_most_behind : (m : ℕ) (bs run rest : List ℕ) → m ≡ front calm 0 bs - 1 → run ≡ take m bs → rest ≡ drop m bs → IsUtf8 rest → (is_empty run || is_calm (first (chars rest))) ≡ true
+calm_most_behind : (m : ℕ) (bs run rest : List ℕ) → m ≡ front calm 0 bs - 1 → run ≡ take m bs
+    → rest ≡ drop m bs → IsUtf8 rest → (is_empty run || is_calm (first (chars rest))) ≡ true
 calm_most_behind zero bs run rest p r e u = ap (λ t. is_empty t || is_calm (first (chars rest))) r
 calm_most_behind (suc m) bs run rest p r e u =
     let P : List ℕ → Type 0 = λ t. IsUtf8 t in
@@ -216,7 +236,8 @@ calm_most_behind (suc m) bs run rest p r e u =
 all_of : (n m l : ℕ) → m ≡ n → (n == l) ≡ true → l ≤ m
 all_of n m l p t = grind (arith, nat_tests, p, t)
 
-pub calm_behind : (m : ℕ) (bs run rest : List ℕ) → m ≡ passed bs → run ≡ take m bs → rest ≡ drop m bs → IsUtf8 rest → (is_empty run || may_follow (first (chars rest))) ≡ true
+pub calm_behind : (m : ℕ) (bs run rest : List ℕ) → m ≡ passed bs → run ≡ take m bs
+    → rest ≡ drop m bs → IsUtf8 rest → (is_empty run || may_follow (first (chars rest))) ≡ true
 calm_behind m bs run rest p r e u =
     let n : ℕ = front calm 0 bs in
     bool_cases (n == length bs)
@@ -226,7 +247,8 @@ calm_behind m bs run rest p r e u =
     follows (is_empty run) (first (chars rest)) (calm_most_behind m bs run rest q r e u))
 
 -- all bytes are calm
-pub all_calm : (n : ℕ) (bs : List ℕ) → n ≡ front calm 0 bs → (n == length bs) ≡ true → all_pass calm 0 bs ≡ true
+pub all_calm : (n : ℕ) (bs : List ℕ) → n ≡ front calm 0 bs → (n == length bs) ≡ true
+    → all_pass calm 0 bs ≡ true
 all_calm n bs p e =
     let m : n ≡ length bs = grind (arith, nat_tests, e) in
     ap (all_pass calm 0) (sym (take_all (length bs) bs (omega arith))) ∙ front_pass calm 0 (length bs) bs (omega (arith, p, m))

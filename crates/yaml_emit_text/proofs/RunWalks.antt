@@ -27,7 +27,8 @@ bool_cases true p q = p refl
 bool_cases false p q = q refl
 
 -- what is owed is owed in other words at the cursor
-owes_as : (a b : Output) (x y z : Layout) → ((rest : Rest) → x a.cursor rest ≡ (y ▹ z) a.cursor rest) → Puts a b y → Owes a b x z
+owes_as : (a b : Output) (x y z : Layout)
+    → ((rest : Rest) → x a.cursor rest ≡ (y ▹ z) a.cursor rest) → Puts a b y → Owes a b x z
 owes_as a b x y z e p = record {
   ends = λ rest whole h. let P : List Item → Type 0 = λ t. Ends a t whole in p.ends (λ d. z d rest) whole (subst P (e rest) h);
   encoding = p.encoding;
@@ -49,9 +50,12 @@ owes_then a b c x y z p q = record {
 
 -- Any walk: where each byte that passes is written as it is, all of them are.
 run_walk : (body : ℕ → List ℕ → Layout) (test : ℕ → ℕ → Bool) (behind : ℕ → Bool)
-    → ((before b : ℕ) (ys : List ℕ) (c : Cursor) (rest : Rest) → behind before ≡ true → test c.column b ≡ true → body before (b ∷ ys) c rest ≡ char b c (λ d. body b ys d rest))
+    → ((before b : ℕ) (ys : List ℕ) (c : Cursor) (rest : Rest) → behind before ≡ true
+    → test c.column b ≡ true → body before (b ∷ ys) c rest ≡ char b c (λ d. body b ys d rest))
     → ((k b : ℕ) → test k b ≡ true → behind b ≡ true)
-    → (before : ℕ) (bs xs : List ℕ) (c : Cursor) (rest : Rest) → behind before ≡ true → all_pass test c.column bs ≡ true → body before (bs ++ xs) c rest ≡ (letters bs ▹ body (last_or before bs) xs) c rest
+    → (before : ℕ) (bs xs : List ℕ) (c : Cursor) (rest : Rest) → behind before ≡ true
+    → all_pass test c.column bs ≡ true
+    → body before (bs ++ xs) c rest ≡ (letters bs ▹ body (last_or before bs) xs) c rest
 unfolding letters last_or all_pass
 run_walk body test behind step more before [] xs c rest g h = refl
 run_walk body test behind step more before (b ∷ bs) xs c rest g h =
@@ -64,7 +68,8 @@ run_walk body test behind step more before (b ∷ bs) xs c rest g h =
 no_break : (b : ℕ) → 32 ≤ b → b ≤ 126 → is_break b ≡ false
 no_break b l h = grind (arith, nat_tests)
 
-printable_needs : (unicode : Bool) (b : ℕ) → 32 ≤ b → b ≤ 126 → (b == 34) ≡ false → (b == 92) ≡ false → needs_escape unicode b ≡ false
+printable_needs : (unicode : Bool) (b : ℕ) → 32 ≤ b → b ≤ 126 → (b == 34) ≡ false
+    → (b == 92) ≡ false → needs_escape unicode b ≡ false
 unfolding needs_escape
 printable_needs true b l h q s = grind (arith, nat_tests, q, s)
 printable_needs false b l h q s = grind (arith, nat_tests, q, s)
@@ -73,12 +78,15 @@ not_past : (width k : ℕ) → nat_le k width ≡ true → nat_lt width k ≡ fa
 not_past width k h = grind (arith, nat_tests, h)
 
 -- a space that may be cut is not past the width
-space_stays : (s cuts : Bool) (width k : ℕ) → (not s || (not cuts || nat_le k width)) ≡ true → s ≡ true → cuts ≡ true → nat_lt width k ≡ false
+space_stays : (s cuts : Bool) (width k : ℕ) → (not s || (not cuts || nat_le k width)) ≡ true
+    → s ≡ true → cuts ≡ true → nat_lt width k ≡ false
 space_stays true true width k h p q = not_past width k h
 space_stays true false width k h p q = absurd (cc)
 space_stays false cuts width k h p q = absurd (cc)
 
-quoted_raw : (page : Page) (before b : ℕ) (ys : List ℕ) (c : Cursor) (rest : Rest) → runs_on (quoted_bounds page) c.column b ≡ true → quoted_char page before b ys c rest ≡ char b c rest
+quoted_raw : (page : Page) (before b : ℕ) (ys : List ℕ) (c : Cursor) (rest : Rest)
+    → runs_on (quoted_bounds page) c.column b ≡ true
+    → quoted_char page before b ys c rest ≡ char b c rest
 unfolding quoted_char
 quoted_raw page before b ys c rest h =
     let r = run_byte (quoted_bounds page) c.column b h in
@@ -88,23 +96,32 @@ quoted_raw page before b ys c rest h =
     (λ m. ap (λ v. (cond v (choose (is_past page.width) (fold page ys) (char b)) (escaped page.unicode b)) c rest) m ∙ ap (λ v. (cond v (letters (escape_text b)) (char b)) c rest) (printable_needs page.unicode b r.low r.high r.quote r.slash))
 
 -- a run is written, by a walk
-run_owes : (body : ℕ → List ℕ → Layout) (a b : Output) (before last : ℕ) (bs xs text : List ℕ) → ((rest : Rest) → body before (bs ++ xs) a.cursor rest ≡ (letters bs ▹ body (last_or before bs) xs) a.cursor rest)
-    → text ≡ bs ++ xs → last ≡ last_or before bs → Puts a b (letters bs) → Owes a b (body before text) (body last xs)
+run_owes : (body : ℕ → List ℕ → Layout) (a b : Output) (before last : ℕ) (bs xs text : List ℕ)
+    → ((rest : Rest) → body before (bs ++ xs) a.cursor rest
+    ≡ (letters bs ▹ body (last_or before bs) xs) a.cursor rest)
+    → text ≡ bs ++ xs → last ≡ last_or before bs → Puts a b (letters bs)
+    → Owes a b (body before text) (body last xs)
 run_owes body a b before last bs xs text e t l p =
     let P : List ℕ → Type 0 = λ z. Owes a b (body before z) (body last xs) in
     let Q : ℕ → Type 0 = λ z. Owes a b (body before (bs ++ xs)) (body z xs) in
     subst P (sym t) (subst Q (sym l) (owes_as a b (body before (bs ++ xs)) (letters bs) (body (last_or before bs) xs) e p))
 
 -- the bounds and the cursor that a run was found by
-pass_by : (e f : Bounds) (c d : Cursor) (bs : List ℕ) → e ≡ f → c ≡ d → all_pass (runs_on e) c.column bs ≡ true → all_pass (runs_on f) d.column bs ≡ true
+pass_by : (e f : Bounds) (c d : Cursor) (bs : List ℕ) → e ≡ f → c ≡ d
+    → all_pass (runs_on e) c.column bs ≡ true → all_pass (runs_on f) d.column bs ≡ true
 pass_by e f c d bs p q h = ap (λ z. all_pass (runs_on z) d.column bs) (sym p) ∙ ap (λ (z : Cursor). all_pass (runs_on e) z.column bs) (sym q) ∙ h
 
-pub quoted_step : (page : Page) (before b : ℕ) (ys : List ℕ) (c : Cursor) (rest : Rest) → runs_on (quoted_bounds page) c.column b ≡ true → quoted_body page before (b ∷ ys) c rest ≡ char b c (λ d. quoted_body page b ys d rest)
+pub quoted_step : (page : Page) (before b : ℕ) (ys : List ℕ) (c : Cursor) (rest : Rest)
+    → runs_on (quoted_bounds page) c.column b ≡ true
+    → quoted_body page before (b ∷ ys) c rest ≡ char b c (λ d. quoted_body page b ys d rest)
 unfolding quoted_body
 quoted_step page before b ys c rest h = quoted_raw page before b ys c (λ d. quoted_body page b ys d rest) h
 
-pub quoted_run : (page : Page) (e : Bounds) (at : Cursor) (a b : Output) (before last : ℕ) (bs xs text : List ℕ) → e ≡ quoted_bounds page → at ≡ a.cursor → all_pass (runs_on e) at.column bs ≡ true
-    → text ≡ bs ++ xs → last ≡ last_or before bs → Puts a b (letters bs) → Owes a b (quoted_body page before text) (quoted_body page last xs)
+pub quoted_run : (page : Page) (e : Bounds) (at : Cursor) (a b : Output) (before last : ℕ)
+    (bs xs text : List ℕ) → e ≡ quoted_bounds page → at ≡ a.cursor
+    → all_pass (runs_on e) at.column bs ≡ true
+    → text ≡ bs ++ xs → last ≡ last_or before bs → Puts a b (letters bs)
+    → Owes a b (quoted_body page before text) (quoted_body page last xs)
 quoted_run page e at a b before last bs xs text p q h t l w =
     run_owes (quoted_body page) a b before last bs xs text
     (λ rest. run_walk (quoted_body page) (runs_on (quoted_bounds page)) (λ _. true) (λ before b ys c rest _ h. quoted_step page before b ys c rest h) (λ k b h. refl) before bs xs a.cursor rest refl
@@ -125,11 +142,14 @@ unbroken_by b h = ap not h
 raw_unbroken : (e : Bounds) (k b : ℕ) → runs_on e k b ≡ true → unbroken b ≡ true
 raw_unbroken e k b h = let r = run_byte e k b h in unbroken_by b (no_break b r.low r.high)
 
-unquoted : (quote : Bool) (b : ℕ) → (b == (if quote then 39 else 0)) ≡ false → (quote && b == 39) ≡ false
+unquoted : (quote : Bool) (b : ℕ) → (b == (if quote then 39 else 0)) ≡ false
+    → (quote && b == 39) ≡ false
 unquoted true b h = h
 unquoted false b h = refl
 
-flow_raw : (page : Page) (quote : Bool) (before b : ℕ) (ys : List ℕ) (c : Cursor) (rest : Rest) → is_break before ≡ false → runs_on (flow_bounds page quote) c.column b ≡ true → flow_char page quote before b ys c rest ≡ char b c rest
+flow_raw : (page : Page) (quote : Bool) (before b : ℕ) (ys : List ℕ) (c : Cursor) (rest : Rest)
+    → is_break before ≡ false → runs_on (flow_bounds page quote) c.column b ≡ true
+    → flow_char page quote before b ys c rest ≡ char b c rest
 unfolding flow_char
 flow_raw page quote before b ys c rest g h =
     let r = run_byte (flow_bounds page quote) c.column b h in
@@ -142,20 +162,26 @@ flow_raw page quote before b ys c rest g h =
     (λ m. ap (λ v. text_char page quote v b c rest) m ∙ ap (λ v. cond v (lined c rest) (char b c rest)) (cuts m))
     (λ m. ap (λ v. text_char page quote v b c rest) m ∙ ap (λ v. (when v (char 39) ▹ char b) c rest) (unquoted quote b r.quote))
 
-flow_step : (page : Page) (quote : Bool) (before b : ℕ) (ys : List ℕ) (c : Cursor) (rest : Rest) → unbroken before ≡ true → runs_on (flow_bounds page quote) c.column b ≡ true
+flow_step : (page : Page) (quote : Bool) (before b : ℕ) (ys : List ℕ) (c : Cursor) (rest : Rest)
+    → unbroken before ≡ true → runs_on (flow_bounds page quote) c.column b ≡ true
     → flow_body page quote before (b ∷ ys) c rest ≡ char b c (λ d. flow_body page quote b ys d rest)
 unfolding flow_body
 flow_step page quote before b ys c rest g h = flow_raw page quote before b ys c (λ d. flow_body page quote b ys d rest) (unbroken_is before g) h
 
-pub flow_run : (page : Page) (quote : Bool) (e : Bounds) (at : Cursor) (a b : Output) (before last : ℕ) (bs xs text : List ℕ) → is_break before ≡ false → e ≡ flow_bounds page quote → at ≡ a.cursor → all_pass (runs_on e) at.column bs ≡ true
-    → text ≡ bs ++ xs → last ≡ last_or before bs → Puts a b (letters bs) → Owes a b (flow_body page quote before text) (flow_body page quote last xs)
+pub flow_run : (page : Page) (quote : Bool) (e : Bounds) (at : Cursor) (a b : Output)
+    (before last : ℕ) (bs xs text : List ℕ) → is_break before ≡ false → e ≡ flow_bounds page quote
+    → at ≡ a.cursor → all_pass (runs_on e) at.column bs ≡ true
+    → text ≡ bs ++ xs → last ≡ last_or before bs → Puts a b (letters bs)
+    → Owes a b (flow_body page quote before text) (flow_body page quote last xs)
 flow_run page quote e at a b before last bs xs text g p q h t l w =
     run_owes (flow_body page quote) a b before last bs xs text
     (λ rest. run_walk (flow_body page quote) (runs_on (flow_bounds page quote)) unbroken (flow_step page quote) (raw_unbroken (flow_bounds page quote)) before bs xs a.cursor rest (unbroken_by before g)
     (pass_by e (flow_bounds page quote) at a.cursor bs p q h))
     t l w
 
-block_raw : (page : Page) (folded blank : Bool) (before b : ℕ) (ys : List ℕ) (c : Cursor) (rest : Rest) → is_break before ≡ false → runs_on (block_bounds page folded) c.column b ≡ true → block_char page folded blank before b ys c rest ≡ char b c rest
+block_raw : (page : Page) (folded blank : Bool) (before b : ℕ) (ys : List ℕ) (c : Cursor)
+    (rest : Rest) → is_break before ≡ false → runs_on (block_bounds page folded) c.column b ≡ true
+    → block_char page folded blank before b ys c rest ≡ char b c rest
 unfolding block_char
 block_raw page folded blank before b ys c rest g h =
     let r = run_byte (block_bounds page folded) c.column b h in
@@ -168,19 +194,25 @@ block_raw page folded blank before b ys c rest g h =
     (λ m. ap (λ v. block_text page v b c rest) m ∙ ap (λ v. cond v (lined c rest) (char b c rest)) (cuts m))
     (λ m. ap (λ v. block_text page v b c rest) m)
 
-blank_stays : (blank : Bool) (before b : ℕ) → is_break before ≡ false → is_break b ≡ false → line_blank blank before b ≡ blank
+blank_stays : (blank : Bool) (before b : ℕ) → is_break before ≡ false → is_break b ≡ false
+    → line_blank blank before b ≡ blank
 blank_stays blank before b g h = rw (g, h) refl
 
-block_step : (page : Page) (folded blank : Bool) (before b : ℕ) (ys : List ℕ) (c : Cursor) (rest : Rest) → unbroken before ≡ true → runs_on (block_bounds page folded) c.column b ≡ true
-    → block_body page folded blank before (b ∷ ys) c rest ≡ char b c (λ d. block_body page folded blank b ys d rest)
+block_step : (page : Page) (folded blank : Bool) (before b : ℕ) (ys : List ℕ) (c : Cursor)
+    (rest : Rest) → unbroken before ≡ true → runs_on (block_bounds page folded) c.column b ≡ true
+    → block_body page folded blank before (b ∷ ys) c rest
+    ≡ char b c (λ d. block_body page folded blank b ys d rest)
 unfolding block_body
 block_step page folded blank before b ys c rest g h =
     let r = run_byte (block_bounds page folded) c.column b h in
     block_raw page folded blank before b ys c (λ d. block_body page folded (line_blank blank before b) b ys d rest) (unbroken_is before g) h
     ∙ ap (λ v. char b c (λ d. block_body page folded v b ys d rest)) (blank_stays blank before b (unbroken_is before g) (no_break b r.low r.high))
 
-pub block_run : (page : Page) (folded blank : Bool) (e : Bounds) (at : Cursor) (a b : Output) (before last : ℕ) (bs xs text : List ℕ) → is_break before ≡ false → e ≡ block_bounds page folded → at ≡ a.cursor → all_pass (runs_on e) at.column bs ≡ true
-    → text ≡ bs ++ xs → last ≡ last_or before bs → Puts a b (letters bs) → Owes a b (block_body page folded blank before text) (block_body page folded blank last xs)
+pub block_run : (page : Page) (folded blank : Bool) (e : Bounds) (at : Cursor) (a b : Output)
+    (before last : ℕ) (bs xs text : List ℕ) → is_break before ≡ false → e ≡ block_bounds page folded
+    → at ≡ a.cursor → all_pass (runs_on e) at.column bs ≡ true
+    → text ≡ bs ++ xs → last ≡ last_or before bs → Puts a b (letters bs)
+    → Owes a b (block_body page folded blank before text) (block_body page folded blank last xs)
 block_run page folded blank e at a b before last bs xs text g p q h t l w =
     run_owes (block_body page folded blank) a b before last bs xs text
     (λ rest. run_walk (block_body page folded blank) (runs_on (block_bounds page folded)) unbroken (block_step page folded blank) (raw_unbroken (block_bounds page folded)) before bs xs a.cursor rest (unbroken_by before g)
@@ -189,7 +221,8 @@ block_run page folded blank e at a b before last bs xs text g p q h t l w =
 
 -- what says nothing against a style
 
-calm_special : (unicode : Bool) (before b next : ℕ) → is_calm b ≡ true → may_follow next ≡ true → is_special unicode before b next ≡ false
+calm_special : (unicode : Bool) (before b next : ℕ) → is_calm b ≡ true → may_follow next ≡ true
+    → is_special unicode before b next ≡ false
 unfolding is_calm
 calm_special true before b next h n = grind (arith, nat_tests, h, n)
 calm_special false before b next h n = grind (arith, nat_tests, h, n)
@@ -206,19 +239,25 @@ calm_flow : (before b next : ℕ) → is_calm b ≡ true → is_not_flow before 
 unfolding is_calm
 calm_flow before b next h = grind (arith, nat_tests, h)
 
-calm_seen : (unicode : Bool) (before b next : ℕ) → is_calm b ≡ true → may_follow next ≡ true → seen unicode before b next ≡ record { special = false; broken = false; not_plain = false; not_flow = false }
+calm_seen : (unicode : Bool) (before b next : ℕ) → is_calm b ≡ true → may_follow next ≡ true
+    → seen unicode before b next ≡ record
+    { special = false; broken = false; not_plain = false; not_flow = false }
 calm_seen unicode before b next h n = rw (calm_special unicode before b next h n, calm_broken before b next h, calm_plain before b next h, calm_flow before b next h) refl
 
-next_calm : (b : ℕ) (bs xs : List ℕ) (k : ℕ) → all_pass calm k bs ≡ true → (is_empty (b ∷ bs) || may_follow (first xs)) ≡ true → may_follow (first (bs ++ xs)) ≡ true
+next_calm : (b : ℕ) (bs xs : List ℕ) (k : ℕ) → all_pass calm k bs ≡ true
+    → (is_empty (b ∷ bs) || may_follow (first xs)) ≡ true → may_follow (first (bs ++ xs)) ≡ true
 unfolding all_pass
 next_calm b [] xs k h n = n
 next_calm b (y ∷ ys) xs k h n = ap (λ v. v || y == 0) (and_parts (calm k y) (all_pass calm (k + 1) ys) h).0
 
-calm_still : (bs xs : List ℕ) → may_follow (first xs) ≡ true → (is_empty bs || may_follow (first xs)) ≡ true
+calm_still : (bs xs : List ℕ) → may_follow (first xs) ≡ true
+    → (is_empty bs || may_follow (first xs)) ≡ true
 calm_still [] xs n = refl
 calm_still (y ∷ ys) xs n = n
 
-calm_looked : (unicode : Bool) (before k : ℕ) (bs xs : List ℕ) → all_pass calm k bs ≡ true → (is_empty bs || may_follow (first xs)) ≡ true → looked unicode before (bs ++ xs) ≡ looked unicode (last_or before bs) xs
+calm_looked : (unicode : Bool) (before k : ℕ) (bs xs : List ℕ) → all_pass calm k bs ≡ true
+    → (is_empty bs || may_follow (first xs)) ≡ true
+    → looked unicode before (bs ++ xs) ≡ looked unicode (last_or before bs) xs
 unfolding all_pass last_or
 calm_looked unicode before k [] xs h n = refl
 calm_looked unicode before k (b ∷ bs) xs h n =
@@ -227,10 +266,13 @@ calm_looked unicode before k (b ∷ bs) xs h n =
     let e = calm_seen unicode before b (first (bs ++ xs)) c (next_calm b bs xs (k + 1) d n) in
     looked_at unicode before b (bs ++ xs) ∙ ap (λ z. joined z (looked unicode b (bs ++ xs))) e ∙ calm_looked unicode b (k + 1) bs xs d (calm_still bs xs n)
 
-pub look_calm : (unicode : Bool) (before last : ℕ) (bs xs text : List ℕ) → all_pass calm 0 bs ≡ true → (is_empty bs || may_follow (first xs)) ≡ true → text ≡ bs ++ xs → last ≡ last_or before bs → looked unicode before text ≡ looked unicode last xs
+pub look_calm : (unicode : Bool) (before last : ℕ) (bs xs text : List ℕ) → all_pass calm 0 bs ≡ true
+    → (is_empty bs || may_follow (first xs)) ≡ true → text ≡ bs ++ xs → last ≡ last_or before bs
+    → looked unicode before text ≡ looked unicode last xs
 look_calm unicode before last bs xs text h n t l = ap (looked unicode before) t ∙ calm_looked unicode before 0 bs xs h n ∙ ap (λ z. looked unicode z xs) (sym l)
 
-pub last_calm : (before last : ℕ) (bs xs text : List ℕ) → text ≡ bs ++ xs → last ≡ last_or before bs → last_or before text ≡ last_or last xs
+pub last_calm : (before last : ℕ) (bs xs text : List ℕ) → text ≡ bs ++ xs → last ≡ last_or before bs
+    → last_or before text ≡ last_or last xs
 last_calm before last bs xs text t l = ap (last_or before) t ∙ last_append before bs xs ∙ ap (λ z. last_or z xs) (sym l)
 
 -- a text of calm bytes that fits its line
@@ -240,7 +282,8 @@ free true true = refl
 free true false = refl
 free false y = refl
 
-calm_run : (page : Page) (k b : ℕ) → k ≤ page.width → is_calm b ≡ true → runs_on (flow_bounds page false) k b ≡ true
+calm_run : (page : Page) (k b : ℕ) → k ≤ page.width → is_calm b ≡ true
+    → runs_on (flow_bounds page false) k b ≡ true
 unfolding runs_on
 calm_run page k b h c =
     let low = calm_least b c in
@@ -249,7 +292,8 @@ calm_run page k b h c =
     let within : nat_le k page.width ≡ true = grind (arith, nat_tests, h) in
     rw (low, high, other, within) (free (b == 32) page.cuts)
 
-calm_runs : (page : Page) (j k : ℕ) (bs : List ℕ) → k + length bs ≤ page.width → all_pass calm j bs ≡ true → all_pass (runs_on (flow_bounds page false)) k bs ≡ true
+calm_runs : (page : Page) (j k : ℕ) (bs : List ℕ) → k + length bs ≤ page.width
+    → all_pass calm j bs ≡ true → all_pass (runs_on (flow_bounds page false)) k bs ≡ true
 unfolding all_pass
 calm_runs page j k [] w h = refl
 calm_runs page j k (b ∷ bs) w h =
@@ -257,7 +301,8 @@ calm_runs page j k (b ∷ bs) w h =
     (calm_run page k b (omega (arith, w)) (and_parts (calm j b) (all_pass calm (j + 1) bs) h).0)
     (calm_runs page (j + 1) (k + 1) bs (omega (arith, w)) (and_parts (calm j b) (all_pass calm (j + 1) bs) h).1)
 
-calm_ends : (before j : ℕ) (bs : List ℕ) → is_break before ≡ false → all_pass calm j bs ≡ true → is_break (last_or before bs) ≡ false
+calm_ends : (before j : ℕ) (bs : List ℕ) → is_break before ≡ false → all_pass calm j bs ≡ true
+    → is_break (last_or before bs) ≡ false
 unfolding all_pass last_or
 calm_ends before j [] g h = g
 calm_ends before j (b ∷ bs) g h =
@@ -270,11 +315,14 @@ calm_ends before j (b ∷ bs) g h =
 pub tame_letters : (v : List ℕ) → IsTame v → chars v ≡ v
 tame_letters v t = chars-IsAscii v (calm_ascii 0 v t.calm)
 
-ends_there : (page : Page) (before : ℕ) → is_break before ≡ false → flow_body page false before [] ≡ stay
+ends_there : (page : Page) (before : ℕ) → is_break before ≡ false
+    → flow_body page false before [] ≡ stay
 ends_there page before h = flow_end page false before ∙ ap (λ v. when v (line page.line_break page.indentation)) h
 
 -- and it is written as it is
-pub tame_written : (page : Page) (at : Cursor) (a b : Output) (v : List ℕ) → IsTame v → at ≡ a.cursor → at.column + length v ≤ page.width → Puts a b (letters v) → Puts a b (flow_body page false 32 (chars v))
+pub tame_written : (page : Page) (at : Cursor) (a b : Output) (v : List ℕ) → IsTame v
+    → at ≡ a.cursor → at.column + length v ≤ page.width → Puts a b (letters v)
+    → Puts a b (flow_body page false 32 (chars v))
 tame_written page at a b v t q w p =
     walk_end (flow_body page false) a b (flow_body page false 32 (chars v)) (last_or 32 v) [] refl (ends_there page (last_or 32 v) (calm_ends 32 0 v refl t.calm))
     (flow_run page false (flow_bounds page false) at a b 32 (last_or 32 v) v [] (chars v) refl refl q (calm_runs page 0 at.column v w t.calm) (tame_letters v t ∙ sym (append-nil v)) refl p)

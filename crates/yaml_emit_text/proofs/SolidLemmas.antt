@@ -16,7 +16,8 @@ use Rattle.yaml_emit_text.specs.Quoted.{quoted_body, double_quoted}
 use Rattle.yaml_emit_text.specs.Runs.{runs_on, is_solid, quoted_bounds}
 use Rattle.yaml_emit_text.proofs.RunWalks.{quoted_step}
 
-solid_runs : (page : Page) (column b : ℕ) → is_solid b ≡ true → runs_on (quoted_bounds page) column b ≡ true
+solid_runs : (page : Page) (column b : ℕ) → is_solid b ≡ true
+    → runs_on (quoted_bounds page) column b ≡ true
 unfolding is_solid runs_on
 solid_runs page column b h = grind (arith, nat_tests, h)
 
@@ -34,11 +35,14 @@ behind_ascii bs h = IsAscii-append bs (34 ∷ []) (solid_ascii bs h) (IsAscii-co
 pub quoted_ascii : (bs : List ℕ) → list_all is_solid bs ≡ true → IsAscii (34 ∷ (bs ++ 34 ∷ []))
 quoted_ascii bs h = IsAscii-cons 34 (bs ++ 34 ∷ []) (omega arith) (behind_ascii bs h)
 
-pub marked_ascii : (bs : List ℕ) → list_all is_solid bs ≡ true → IsAscii (33 ∷ 32 ∷ 34 ∷ (bs ++ 34 ∷ []))
+pub marked_ascii : (bs : List ℕ) → list_all is_solid bs ≡ true
+    → IsAscii (33 ∷ 32 ∷ 34 ∷ (bs ++ 34 ∷ []))
 marked_ascii bs h = IsAscii-cons 33 (32 ∷ 34 ∷ (bs ++ 34 ∷ [])) (omega arith) (IsAscii-cons 32 (34 ∷ (bs ++ 34 ∷ [])) (omega arith) (quoted_ascii bs h))
 
 -- with the quote behind it
-body_is : (page : Page) (before : ℕ) (bs : List ℕ) (c : Cursor) (rest : Rest) → list_all is_solid bs ≡ true → (quoted_body page before bs ▹ char 34) c rest ≡ letters (bs ++ 34 ∷ []) c rest
+body_is : (page : Page) (before : ℕ) (bs : List ℕ) (c : Cursor) (rest : Rest)
+    → list_all is_solid bs ≡ true
+    → (quoted_body page before bs ▹ char 34) c rest ≡ letters (bs ++ 34 ∷ []) c rest
 unfolding quoted_body letters
 body_is page before [] c rest h = refl
 body_is page before (b ∷ bs) c rest h =
@@ -46,29 +50,37 @@ body_is page before (b ∷ bs) c rest h =
     ∙ ap (λ t. letter b ∷ t) (body_is page b bs (record { column = c.column + 1; white = false; bare = false; kept = c.kept }) rest (and_parts (is_solid b) _ h).1)
 
 -- what stands in front of it
-quoted_at : (white : Bool) (page : Page) (bs : List ℕ) (column : ℕ) (bare kept : Bool) (rest : Rest) → list_all is_solid bs ≡ true
+quoted_at : (white : Bool) (page : Page) (bs : List ℕ) (column : ℕ) (bare kept : Bool) (rest : Rest)
+    → list_all is_solid bs ≡ true
     → let c : Cursor = record { column = column; white = white; bare = bare; kept = kept } in
-    (gap ▹ (char 34 ▹ (quoted_body page 32 bs ▹ char 34))) c rest ≡ word (34 ∷ (bs ++ 34 ∷ [])) c rest
+    (gap ▹ (char 34 ▹ (quoted_body page 32 bs ▹ char 34))) c rest
+    ≡ word (34 ∷ (bs ++ 34 ∷ [])) c rest
 unfolding letters
 quoted_at true page bs column bare kept rest h = ap (λ t. letter 34 ∷ t) (body_is page 32 bs _ rest h)
 quoted_at false page bs column bare kept rest h = ap (λ t. letter 32 ∷ letter 34 ∷ t) (body_is page 32 bs _ rest h)
 
-marked_at : (white : Bool) (page : Page) (bs : List ℕ) (column : ℕ) (bare kept : Bool) (rest : Rest) → list_all is_solid bs ≡ true
+marked_at : (white : Bool) (page : Page) (bs : List ℕ) (column : ℕ) (bare kept : Bool) (rest : Rest)
+    → list_all is_solid bs ≡ true
     → let c : Cursor = record { column = column; white = white; bare = bare; kept = kept } in
-    (word (33 ∷ []) ▹ (gap ▹ (char 34 ▹ (quoted_body page 32 bs ▹ char 34)))) c rest ≡ word (33 ∷ 32 ∷ 34 ∷ (bs ++ 34 ∷ [])) c rest
+    (word (33 ∷ []) ▹ (gap ▹ (char 34 ▹ (quoted_body page 32 bs ▹ char 34)))) c rest
+    ≡ word (33 ∷ 32 ∷ 34 ∷ (bs ++ 34 ∷ [])) c rest
 unfolding letters
 marked_at true page bs column bare kept rest h = ap (λ t. letter 33 ∷ letter 32 ∷ letter 34 ∷ t) (body_is page 32 bs _ rest h)
 marked_at false page bs column bare kept rest h = ap (λ t. letter 32 ∷ letter 33 ∷ letter 32 ∷ letter 34 ∷ t) (body_is page 32 bs _ rest h)
 
-chars_are : (page : Page) (bs : List ℕ) (a b : Output) (w : List ℕ → Layout) → list_all is_solid bs ≡ true → Puts a b (w bs) → Puts a b (w (chars bs))
+chars_are : (page : Page) (bs : List ℕ) (a b : Output) (w : List ℕ → Layout)
+    → list_all is_solid bs ≡ true → Puts a b (w bs) → Puts a b (w (chars bs))
 chars_are page bs a b w h p = let P : List ℕ → Type 0 = λ t. Puts a b (w t) in subst P (sym (chars-IsAscii bs (solid_ascii bs h))) p
 
-pub puts_solid : (page : Page) (bs : List ℕ) (a b : Output) → list_all is_solid bs ≡ true → Puts a b (word (34 ∷ (bs ++ 34 ∷ []))) → Puts a b (double_quoted page (chars bs))
+pub puts_solid : (page : Page) (bs : List ℕ) (a b : Output) → list_all is_solid bs ≡ true
+    → Puts a b (word (34 ∷ (bs ++ 34 ∷ []))) → Puts a b (double_quoted page (chars bs))
 puts_solid page bs a b h p =
     chars_are page bs a b (λ t. double_quoted page t) h
     (puts_as a b (word (34 ∷ (bs ++ 34 ∷ []))) (double_quoted page bs) (λ rest. quoted_at a.cursor.white page bs a.cursor.column a.cursor.bare a.cursor.kept rest h) p)
 
-pub puts_marked : (page : Page) (bs : List ℕ) (a b : Output) → list_all is_solid bs ≡ true → Puts a b (word (33 ∷ 32 ∷ 34 ∷ (bs ++ 34 ∷ []))) → Puts a b (word (33 ∷ []) ▹ double_quoted page (chars bs))
+pub puts_marked : (page : Page) (bs : List ℕ) (a b : Output) → list_all is_solid bs ≡ true
+    → Puts a b (word (33 ∷ 32 ∷ 34 ∷ (bs ++ 34 ∷ [])))
+    → Puts a b (word (33 ∷ []) ▹ double_quoted page (chars bs))
 puts_marked page bs a b h p =
     chars_are page bs a b (λ t. word (33 ∷ []) ▹ double_quoted page t) h
     (puts_as a b (word (33 ∷ 32 ∷ 34 ∷ (bs ++ 34 ∷ []))) (word (33 ∷ []) ▹ double_quoted page bs) (λ rest. marked_at a.cursor.white page bs a.cursor.column a.cursor.bare a.cursor.kept rest h) p)

@@ -32,23 +32,27 @@ abbrev after_blanks : ℕ → Cursor → Cursor
 after_blanks zero c = c
 after_blanks (suc n) c = after_blanks n (spaced_by c)
 
-letters_are : (xs : List ℕ) (c : Cursor) (rest : Rest) → letters xs c rest ≡ in_front xs (rest (after_letters xs c))
+letters_are : (xs : List ℕ) (c : Cursor) (rest : Rest)
+    → letters xs c rest ≡ in_front xs (rest (after_letters xs c))
 unfolding letters in_front
 letters_are [] c rest = refl
 letters_are (x ∷ xs) c rest = ap (λ t. letter x ∷ t) (letters_are xs (moved_by c) rest)
 
-blanks_are : (n : ℕ) (c : Cursor) (rest : Rest) → blanks n c rest ≡ in_front (replicate n 32) (rest (after_blanks n c))
+blanks_are : (n : ℕ) (c : Cursor) (rest : Rest)
+    → blanks n c rest ≡ in_front (replicate n 32) (rest (after_blanks n c))
 unfolding blanks in_front
 blanks_are zero c rest = refl
 blanks_are (suc n) c rest = ap (λ t. letter 32 ∷ t) (blanks_are n (spaced_by c) rest)
 
-new_line_is : (b : LineBreak) (c : Cursor) (rest : Rest) → new_line b c rest ≡ in_front (break_text b) (rest (line_start c))
+new_line_is : (b : LineBreak) (c : Cursor) (rest : Rest)
+    → new_line b c rest ≡ in_front (break_text b) (rest (line_start c))
 unfolding in_front
 new_line_is Lf c rest = refl
 new_line_is Cr c rest = refl
 new_line_is CrLf c rest = refl
 
-in_front_append : (xs ys : List ℕ) (t : List Item) → in_front (xs ++ ys) t ≡ in_front xs (in_front ys t)
+in_front_append : (xs ys : List ℕ) (t : List Item)
+    → in_front (xs ++ ys) t ≡ in_front xs (in_front ys t)
 unfolding in_front
 in_front_append [] ys t = refl
 in_front_append (x ∷ xs) ys t = ap (λ u. letter x ∷ u) (in_front_append xs ys t)
@@ -59,7 +63,8 @@ slashed b t = if b then letter 92 ∷ t else t
 abbrev after_slash : Bool → Cursor → Cursor
 after_slash b c = if b then moved_by c else c
 
-slash_is : (b : Bool) (c : Cursor) (rest : Rest) → when b (char 92) c rest ≡ slashed b (rest (after_slash b c))
+slash_is : (b : Bool) (c : Cursor) (rest : Rest)
+    → when b (char 92) c rest ≡ slashed b (rest (after_slash b c))
 slash_is true c rest = refl
 slash_is false c rest = refl
 
@@ -67,7 +72,8 @@ abbrev after_fold : Page → List ℕ → Cursor → Cursor
 after_fold page cs c = after_slash (first cs == 32) (after_blanks page.indentation (line_start c))
 
 fold_is : (page : Page) (cs : List ℕ) (c : Cursor) (rest : Rest)
-    → fold_layout page cs c rest ≡ in_front (spelled (fold page.line_break page.indentation)) (slashed (first cs == 32) (rest (after_fold page cs c)))
+    → fold_layout page cs c rest ≡ in_front (spelled (fold page.line_break page.indentation))
+    (slashed (first cs == 32) (rest (after_fold page cs c)))
 fold_is page cs c rest =
     new_line_is page.line_break c (λ d. blanks page.indentation d (λ k. when (first cs == 32) (char 92) k rest))
     ∙ ap (in_front (break_text page.line_break)) (blanks_are page.indentation (line_start c) (λ k. when (first cs == 32) (char 92) k rest)
@@ -84,22 +90,30 @@ cond_false true x y e = absurd (cc)
 
 -- what a character is written as
 
-char_fold : (page : Page) (before x : ℕ) (cs : List ℕ) (c : Cursor) (rest : Rest) → may_fold page before x cs ≡ true → is_past page.width c ≡ true → quoted_char page before x cs c rest ≡ fold_layout page cs c rest
+char_fold : (page : Page) (before x : ℕ) (cs : List ℕ) (c : Cursor) (rest : Rest)
+    → may_fold page before x cs ≡ true → is_past page.width c ≡ true
+    → quoted_char page before x cs c rest ≡ fold_layout page cs c rest
 unfolding quoted_char
 char_fold page before x cs c rest m p =
     ap (λ (a : Layout). a c rest) (cond_true (may_fold page before x cs) (choose (is_past page.width) (fold_layout page cs) (char x)) (escaped page.unicode x) m) ∙ cond_true (is_past page.width c) _ _ p
 
-char_not_past : (page : Page) (before x : ℕ) (cs : List ℕ) (c : Cursor) (rest : Rest) → may_fold page before x cs ≡ true → is_past page.width c ≡ false → quoted_char page before x cs c rest ≡ char x c rest
+char_not_past : (page : Page) (before x : ℕ) (cs : List ℕ) (c : Cursor) (rest : Rest)
+    → may_fold page before x cs ≡ true → is_past page.width c ≡ false
+    → quoted_char page before x cs c rest ≡ char x c rest
 unfolding quoted_char
 char_not_past page before x cs c rest m p =
     ap (λ (a : Layout). a c rest) (cond_true (may_fold page before x cs) (choose (is_past page.width) (fold_layout page cs) (char x)) (escaped page.unicode x) m) ∙ cond_false (is_past page.width c) _ _ p
 
-char_escape : (page : Page) (before x : ℕ) (cs : List ℕ) (c : Cursor) (rest : Rest) → may_fold page before x cs ≡ false → needs_escape page.unicode x ≡ true → quoted_char page before x cs c rest ≡ letters (escape_text x) c rest
+char_escape : (page : Page) (before x : ℕ) (cs : List ℕ) (c : Cursor) (rest : Rest)
+    → may_fold page before x cs ≡ false → needs_escape page.unicode x ≡ true
+    → quoted_char page before x cs c rest ≡ letters (escape_text x) c rest
 unfolding quoted_char
 char_escape page before x cs c rest m n =
     ap (λ (a : Layout). a c rest) (cond_false (may_fold page before x cs) (choose (is_past page.width) (fold_layout page cs) (char x)) (escaped page.unicode x) m ∙ cond_true (needs_escape page.unicode x) (letters (escape_text x)) (char x) n)
 
-char_plain : (page : Page) (before x : ℕ) (cs : List ℕ) (c : Cursor) (rest : Rest) → may_fold page before x cs ≡ false → needs_escape page.unicode x ≡ false → quoted_char page before x cs c rest ≡ char x c rest
+char_plain : (page : Page) (before x : ℕ) (cs : List ℕ) (c : Cursor) (rest : Rest)
+    → may_fold page before x cs ≡ false → needs_escape page.unicode x ≡ false
+    → quoted_char page before x cs c rest ≡ char x c rest
 unfolding quoted_char
 char_plain page before x cs c rest m n =
     ap (λ (a : Layout). a c rest) (cond_false (may_fold page before x cs) (choose (is_past page.width) (fold_layout page cs) (char x)) (escaped page.unicode x) m ∙ cond_false (needs_escape page.unicode x) (letters (escape_text x)) (char x) n)
@@ -109,7 +123,9 @@ record Left (page : Page) (before : ℕ) (c : Cursor) (slash : Bool) (last : Spe
   parts : List SpelledPart
   behind : Cursor
   right : IsSpelling last parts
-  text : (rest : Rest) → slashed slash (quoted_body page before value c rest) ≡ in_front (spelling parts) (rest behind)
+  text : (rest : Rest)
+      → slashed slash (quoted_body page before value c rest)
+      ≡ in_front (spelling parts) (rest behind)
   means : value ≡ meaning parts
 
 -- how the last part stands to the character before
@@ -129,7 +145,8 @@ record FoldNeeds (before x : ℕ) (cs : List ℕ) : Type 0 where
   behind : before ≢ 32
   more : is_empty cs ≡ false
 
-fold_needs : (page : Page) (before x : ℕ) (cs : List ℕ) → may_fold page before x cs ≡ true → FoldNeeds before x cs
+fold_needs : (page : Page) (before x : ℕ) (cs : List ℕ) → may_fold page before x cs ≡ true
+    → FoldNeeds before x cs
 fold_needs page before x cs e =
     let a = (and_parts page.cuts (x == 32 && (not (before == 32) && not (is_empty cs))) e).1 in
     let b = (and_parts (x == 32) (not (before == 32) && not (is_empty cs)) a).1 in
@@ -166,10 +183,12 @@ raw_no_zero unicode c e =
     let h = zero_needs unicode in absurd (cc (sym h ∙ g)))
     (λ f. f)
 
-four_stand : (s a b d f : Bool) → s ≡ true → a ≡ false → b ≡ false → d ≡ false → f ≡ false → (s && not (a || b || d || f)) ≡ true
+four_stand : (s a b d f : Bool) → s ≡ true → a ≡ false → b ≡ false → d ≡ false → f ≡ false
+    → (s && not (a || b || d || f)) ≡ true
 four_stand s a b d f o p q r t = rw (o, p, q, r, t) refl
 
-raw_stands : (unicode : Bool) (c : ℕ) → scalar c ≡ true → needs_escape unicode c ≡ false → may_stand (raw c) ≡ true
+raw_stands : (unicode : Bool) (c : ℕ) → scalar c ≡ true → needs_escape unicode c ≡ false
+    → may_stand (raw c) ≡ true
 unfolding needs_escape
 raw_stands unicode c s e =
     let no_slash = (or_parts _ (c == 92) e).1 in
@@ -179,7 +198,8 @@ raw_stands unicode c s e =
     let no_break = (or_parts _ (is_break c) b).1 in
     four_stand (scalar c) (is_break c) (c == 34) (c == 92) (c == 0) s no_break no_quote no_slash (raw_no_zero unicode c e)
 
-raw_no_tab : (unicode : Bool) (c : ℕ) → needs_escape unicode c ≡ false → c ≢ 32 → is_raw_blank (raw c) ≡ false
+raw_no_tab : (unicode : Bool) (c : ℕ) → needs_escape unicode c ≡ false → c ≢ 32
+    → is_raw_blank (raw c) ≡ false
 raw_no_tab unicode c e n =
     let no_space = ne_eqb c 32 n in
     let no_tab : (c == 9) ≡ false = bool_cases (c == 9)
@@ -189,17 +209,20 @@ raw_no_tab unicode c e n =
     (λ f. f) in
     both_false (c == 32) (c == 9) no_space no_tab
 
-follow_fold : (last : SpelledPart) (k : LineBreak) (n : ℕ) → is_raw_blank last ≡ false → is_fold last ≡ false → may_follow last (fold k n) ≡ true
+follow_fold : (last : SpelledPart) (k : LineBreak) (n : ℕ) → is_raw_blank last ≡ false
+    → is_fold last ≡ false → may_follow last (fold k n) ≡ true
 follow_fold last k n a b = rw (a, b) refl
 
 no_and : (a : Bool) → not (a && false) ≡ true
 no_and true = refl
 no_and false = refl
 
-follow_other : (last p : SpelledPart) → is_fold p ≡ false → is_raw_blank p ≡ false → may_follow last p ≡ true
+follow_other : (last p : SpelledPart) → is_fold p ≡ false → is_raw_blank p ≡ false
+    → may_follow last p ≡ true
 follow_other last p a b = rw (a, b) (no_and (is_fold last))
 
-follow_raw : (last p : SpelledPart) → is_fold p ≡ false → is_fold last ≡ false → may_follow last p ≡ true
+follow_raw : (last p : SpelledPart) → is_fold p ≡ false → is_fold last ≡ false
+    → may_follow last p ≡ true
 follow_raw last p a b = rw (a, b) refl
 
 fold_means : (p : SpelledPart) → is_fold p ≡ true → meant p ≡ 32
@@ -209,9 +232,11 @@ fold_means (escape c) e = absurd (cc)
 fold_means escaped_space e = refl
 
 -- a part more in front
-part_more : (page : Page) (before x : ℕ) (c d : Cursor) (cs : List ℕ) (slash slash' : Bool) (last p : SpelledPart)
+part_more : (page : Page) (before x : ℕ) (c d : Cursor) (cs : List ℕ) (slash slash' : Bool)
+    (last p : SpelledPart)
     → may_follow last p ≡ true → may_stand p ≡ true → meant p ≡ x
-    → ((rest : Rest) → slashed slash (quoted_char page before x cs c rest) ≡ in_front (spelled p) (slashed slash' (rest d)))
+    → ((rest : Rest) → slashed slash (quoted_char page before x cs c rest)
+    ≡ in_front (spelled p) (slashed slash' (rest d)))
     → Left page x d slash' p cs → Left page before c slash last (x ∷ cs)
 unfolding IsSpelling quoted_body spelling meaning
 part_more page before x c d cs slash slash' last p follow stand same step r = record {
@@ -230,39 +255,57 @@ slashed_is b t e = cond_true b (letter 92 ∷ t) t e
 
 -- steps of a part
 
-step_fold : (page : Page) (before x : ℕ) (c : Cursor) (cs : List ℕ) (slash : Bool) → slash ≡ false → may_fold page before x cs ≡ true → is_past page.width c ≡ true
-    → (rest : Rest) → slashed slash (quoted_char page before x cs c rest) ≡ in_front (spelled (fold page.line_break page.indentation)) (slashed (first cs == 32) (rest (after_fold page cs c)))
+step_fold : (page : Page) (before x : ℕ) (c : Cursor) (cs : List ℕ) (slash : Bool) → slash ≡ false
+    → may_fold page before x cs ≡ true → is_past page.width c ≡ true
+    → (rest : Rest)
+    → slashed slash (quoted_char page before x cs c rest)
+    ≡ in_front (spelled (fold page.line_break page.indentation))
+    (slashed (first cs == 32) (rest (after_fold page cs c)))
 step_fold page before x c cs slash s m p rest = slashed_by slash _ s ∙ char_fold page before x cs c rest m p ∙ fold_is page cs c rest
 
-step_char : (page : Page) (before x : ℕ) (c : Cursor) (cs : List ℕ) (slash : Bool) → slash ≡ false → ((rest : Rest) → quoted_char page before x cs c rest ≡ char x c rest)
-    → (rest : Rest) → slashed slash (quoted_char page before x cs c rest) ≡ in_front (spelled (raw x)) (slashed false (rest (moved_by c)))
+step_char : (page : Page) (before x : ℕ) (c : Cursor) (cs : List ℕ) (slash : Bool) → slash ≡ false
+    → ((rest : Rest) → quoted_char page before x cs c rest ≡ char x c rest)
+    → (rest : Rest)
+    → slashed slash (quoted_char page before x cs c rest)
+    ≡ in_front (spelled (raw x)) (slashed false (rest (moved_by c)))
 unfolding in_front
 step_char page before x c cs slash s plain rest = slashed_by slash _ s ∙ plain rest
 
-step_slash : (page : Page) (before x : ℕ) (c : Cursor) (cs : List ℕ) (slash : Bool) → slash ≡ true → x ≡ 32 → ((rest : Rest) → quoted_char page before x cs c rest ≡ char x c rest)
-    → (rest : Rest) → slashed slash (quoted_char page before x cs c rest) ≡ in_front (spelled escaped_space) (slashed false (rest (moved_by c)))
+step_slash : (page : Page) (before x : ℕ) (c : Cursor) (cs : List ℕ) (slash : Bool) → slash ≡ true
+    → x ≡ 32 → ((rest : Rest) → quoted_char page before x cs c rest ≡ char x c rest)
+    → (rest : Rest)
+    → slashed slash (quoted_char page before x cs c rest)
+    ≡ in_front (spelled escaped_space) (slashed false (rest (moved_by c)))
 unfolding in_front
 step_slash page before x c cs slash s e plain rest = slashed_is slash _ s ∙ ap (λ t. letter 92 ∷ t) (plain rest) ∙ ap (λ k. letter 92 ∷ letter k ∷ rest (moved_by c)) e
 
-step_escape : (page : Page) (before x : ℕ) (c : Cursor) (cs : List ℕ) (slash : Bool) → slash ≡ false → may_fold page before x cs ≡ false → needs_escape page.unicode x ≡ true
-    → (rest : Rest) → slashed slash (quoted_char page before x cs c rest) ≡ in_front (spelled (escape x)) (slashed false (rest (after_letters (escape_text x) c)))
+step_escape : (page : Page) (before x : ℕ) (c : Cursor) (cs : List ℕ) (slash : Bool) → slash ≡ false
+    → may_fold page before x cs ≡ false → needs_escape page.unicode x ≡ true
+    → (rest : Rest)
+    → slashed slash (quoted_char page before x cs c rest)
+    ≡ in_front (spelled (escape x)) (slashed false (rest (after_letters (escape_text x) c)))
 step_escape page before x c cs slash s m n rest = slashed_by slash _ s ∙ char_escape page before x cs c rest m n ∙ letters_are (escape_text x) c rest
 
 -- a space that is written as it is, or behind a backslash
-space_char : (page : Page) (before x : ℕ) (cs : List ℕ) (c : Cursor) → x ≡ 32 → (may_fold page before x cs && is_past page.width c) ≡ false → (rest : Rest) → quoted_char page before x cs c rest ≡ char x c rest
+space_char : (page : Page) (before x : ℕ) (cs : List ℕ) (c : Cursor) → x ≡ 32
+    → (may_fold page before x cs && is_past page.width c) ≡ false → (rest : Rest)
+    → quoted_char page before x cs c rest ≡ char x c rest
 space_char page before x cs c e f rest =
     let P : ℕ → Type 0 = λ k. needs_escape page.unicode k ≡ false in
     bool_cases (may_fold page before x cs)
     (λ m. bool_cases (is_past page.width c) (λ p. let g = and_from (may_fold page before x cs) (is_past page.width c) m p in absurd (cc (sym g ∙ f))) (λ p. char_not_past page before x cs c rest m p))
     (λ m. char_plain page before x cs c rest m (subst P (sym e) (space_needs_none page.unicode)))
 
-no_fold : (page : Page) (before x : ℕ) (cs : List ℕ) → (x == 32) ≡ false → may_fold page before x cs ≡ false
+no_fold : (page : Page) (before x : ℕ) (cs : List ℕ) → (x == 32) ≡ false
+    → may_fold page before x cs ≡ false
 no_fold page before x cs e =
     bool_cases (may_fold page before x cs)
     (λ t. let needs = fold_needs page before x cs t in absurd (eqb-false x 32 e needs.space))
     (λ f. f)
 
-left : (page : Page) (before : ℕ) (c : Cursor) (slash : Bool) (last : SpelledPart) (value : List ℕ) → all_scalars value ≡ true → 0 < page.indentation → Behind before slash last value → Left page before c slash last value
+left : (page : Page) (before : ℕ) (c : Cursor) (slash : Bool) (last : SpelledPart) (value : List ℕ)
+    → all_scalars value ≡ true → 0 < page.indentation → Behind before slash last value
+    → Left page before c slash last value
 unfolding IsSpelling quoted_body spelling meaning in_front
 left page before c slash last [] good deep h =
     let unfolded : is_fold last ≡ false = bool_cases (is_fold last) (λ t. let k = (h.folded t).1 in absurd (cc k)) (λ f. f) in
@@ -311,7 +354,8 @@ left page before c slash last (x ∷ cs) good deep h =
     (step_char page before x c cs slash unslashed (λ rest. char_plain page before x cs c rest m n))
     (left page x (moved_by c) false (raw x) cs more deep (record { same = refl; folded = λ e. absurd (cc); unfolded = λ e. refl; blank = λ e. absurd (cc (sym e ∙ unblank)) })))))
 
-pub quoted-spells : (page : Page) (c : Cursor) (value : List ℕ) → all_scalars value ≡ true → 0 < page.indentation → WritesSpelling (quoted_body page 32 value) c value
+pub quoted-spells : (page : Page) (c : Cursor) (value : List ℕ) → all_scalars value ≡ true
+    → 0 < page.indentation → WritesSpelling (quoted_body page 32 value) c value
 quoted-spells page c value good deep =
     let r = left page 32 c false (raw 32) value good deep (record { same = refl; folded = λ e. absurd (cc); unfolded = λ e. refl; blank = λ e. refl }) in
     record { parts = r.parts; behind = r.behind; right = r.right; spelled = r.text; meant = r.means }

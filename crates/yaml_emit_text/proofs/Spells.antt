@@ -5,13 +5,15 @@ use Rattle.std.proofs.lemmas.Str.{encodes-chars, encodes-append, cons_from_encod
 use lib.Utf8.{encodes}
 
 -- the first character is the first of the characters
-pub first_of : (bs rest : List ℕ) (c : ℕ) → IsUtf8 bs → IsUtf8 rest → bs ≡ encode_utf8 c ++ rest → chars bs ≡ c ∷ chars rest
+pub first_of : (bs rest : List ℕ) (c : ℕ) → IsUtf8 bs → IsUtf8 rest → bs ≡ encode_utf8 c ++ rest
+    → chars bs ≡ c ∷ chars rest
 first_of bs rest c u v e =
     let split = cons_from_encodes (chars bs) rest c (encodes-chars bs u ∙ e) in
     split.1 ∙ ap (λ t. c ∷ t) (chars_from_encodes split.0 rest v split.2)
 
 -- the last character is the last of the characters
-pub last_of : (bs front : List ℕ) (c : ℕ) → IsUtf8 bs → IsUtf8 front → bs ≡ front ++ encode_utf8 c → chars bs ≡ chars front ++ c ∷ []
+pub last_of : (bs front : List ℕ) (c : ℕ) → IsUtf8 bs → IsUtf8 front → bs ≡ front ++ encode_utf8 c
+    → chars bs ≡ chars front ++ c ∷ []
 last_of bs front c u v e =
     sym (chars_from_encodes (chars front ++ c ∷ []) bs u
     (encodes-append (chars front) (c ∷ []) ∙ ap (λ t. t ++ encodes (c ∷ [])) (encodes-chars front v) ∙ ap (λ t. front ++ t) (append-nil (encode_utf8 c)) ∙ sym e))

@@ -28,14 +28,17 @@ by a b c d e f = record {
 abbrev pub all_allowed : Allowed
 all_allowed = record { plain = true; flow_plain = true; single = true; block = true }
 
-by_none : (a b c d e f : Bool) → a ≡ false → b ≡ false → c ≡ false → d ≡ false → e ≡ false → f ≡ false → all_allowed ≡ by a b c d e f
+by_none : (a b c d e f : Bool) → a ≡ false → b ≡ false → c ≡ false → d ≡ false → e ≡ false
+    → f ≡ false → all_allowed ≡ by a b c d e f
 by_none a b c d e f p q r s t u = rw (p, q, r, s, t, u) refl
 
 nothing_left : (xs : List ℕ) → is_empty xs ≡ true → xs ≡ []
 nothing_left [] h = refl
 nothing_left (x ∷ xs) h = absurd (cc)
 
-pub tame : (u : Bool) (value left : List ℕ) (last : ℕ) → looked u 32 value ≡ looked u last left → last_or 32 value ≡ last_or last left → is_empty left ≡ true → (last == 32) ≡ false → starts_badly value ≡ false
+pub tame : (u : Bool) (value left : List ℕ) (last : ℕ) → looked u 32 value ≡ looked u last left
+    → last_or 32 value ≡ last_or last left → is_empty left ≡ true → (last == 32) ≡ false
+    → starts_badly value ≡ false
     → all_allowed ≡ allowed_text u value
 unfolding somewhere last_or
 tame u value left last seen ends none space badly =
@@ -45,11 +48,13 @@ tame u value left last seen ends none space badly =
     (ap (λ (t : Seen). t.special) e) (ap (λ (t : Seen). t.broken) e) (ap (λ k. k == 32) n ∙ space) badly (ap (λ (t : Seen). t.not_plain) e) (ap (λ (t : Seen). t.not_flow) e)
 
 -- by its first and its last byte
-pub starts : (v : List ℕ) → 0 < length v → ((b d : ℕ) → is_badly_begun (get_or v 0 0) b d ≡ false) → starts_badly v ≡ false
+pub starts : (v : List ℕ) → 0 < length v → ((b d : ℕ) → is_badly_begun (get_or v 0 0) b d ≡ false)
+    → starts_badly v ≡ false
 starts [] l h = absurd (omega (arith, l))
 starts (x ∷ xs) l h = h (first (behind (x ∷ xs))) (first (behind (behind (x ∷ xs))))
 
-pub ends : (v : List ℕ) → 0 < length v → (get_or v (length v - 1) 0 == 32) ≡ false → ends_in_space v ≡ false
+pub ends : (v : List ℕ) → 0 < length v → (get_or v (length v - 1) 0 == 32) ≡ false
+    → ends_in_space v ≡ false
 ends v l h =
     let some : (length v == 0) ≡ false = grind (arith, nat_tests, l) in
     ap (λ k. k == 32) (sym (last_is 32 v some)) ∙ h
@@ -73,5 +78,6 @@ due true v t = refl
 due false v t = ap (λ k. not (is_empty k)) (tame_letters v t) ∙ some_letters v t
 
 -- and a gap comes in front of it, in flow or not
-pub tame_plain : (page : Page) (flow : Bool) (v : List ℕ) → IsTame v → plain page flow (chars v) ≡ (gap ▹ (flow_body page false 32 (chars v) ▹ after_text))
+pub tame_plain : (page : Page) (flow : Bool) (v : List ℕ) → IsTame v
+    → plain page flow (chars v) ≡ (gap ▹ (flow_body page false 32 (chars v) ▹ after_text))
 tame_plain page flow v t = ap (λ b. when b gap ▹ (flow_body page false 32 (chars v) ▹ after_text)) (due flow v t)

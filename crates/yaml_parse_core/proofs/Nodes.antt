@@ -33,7 +33,8 @@ IsBare kind.YAML_ANCHOR_TOKEN = ⊥
 IsBare kind.YAML_TAG_TOKEN = ⊥
 IsBare k = Unit {0}
 
-pub is_bare : (k : yaml_token_type_t) → (k ≡ kind.YAML_ALIAS_TOKEN → ⊥) → (k ≡ kind.YAML_ANCHOR_TOKEN → ⊥) → (k ≡ kind.YAML_TAG_TOKEN → ⊥) → IsBare k
+pub is_bare : (k : yaml_token_type_t) → (k ≡ kind.YAML_ALIAS_TOKEN → ⊥)
+    → (k ≡ kind.YAML_ANCHOR_TOKEN → ⊥) → (k ≡ kind.YAML_TAG_TOKEN → ⊥) → IsBare k
 is_bare kind.YAML_NO_TOKEN a b c = tt
 is_bare kind.YAML_STREAM_START_TOKEN a b c = tt
 is_bare kind.YAML_STREAM_END_TOKEN a b c = tt
@@ -61,7 +62,8 @@ abbrev bare : yaml_mark_t → yaml_mark_t → Properties
 bare from to = record { anchor = None; tag = None; from = from; to = to }
 
 -- behind no properties a content is a node
-same_start : (w : Wants) (k : yaml_token_type_t) (x y : List ℕ) (st : Extra) → IsBare k → starts_node w (type_of (body_by k x y st)) ≡ starts_content w (type_of (body_by k x y st))
+same_start : (w : Wants) (k : yaml_token_type_t) (x y : List ℕ) (st : Extra) → IsBare k
+    → starts_node w (type_of (body_by k x y st)) ≡ starts_content w (type_of (body_by k x y st))
 same_start w kind.YAML_NO_TOKEN x y st h = refl
 same_start w kind.YAML_STREAM_START_TOKEN x y st h = refl
 same_start w kind.YAML_STREAM_END_TOKEN x y st h = refl
@@ -85,8 +87,10 @@ same_start w kind.YAML_ANCHOR_TOKEN x y st h = absurd h
 same_start w kind.YAML_TAG_TOKEN x y st h = absurd h
 same_start w kind.YAML_SCALAR_TOKEN x y st h = refl
 
-same_taken : (w : Wants) (k : yaml_token_type_t) (x y : List ℕ) (st : Extra) (from to z : yaml_mark_t) → IsBare k
-    → content_taken w (Some (bare from z)) from to (body_by k x y st) ≡ node_taken w from to (body_by k x y st)
+same_taken : (w : Wants) (k : yaml_token_type_t) (x y : List ℕ) (st : Extra)
+    (from to z : yaml_mark_t) → IsBare k
+    → content_taken w (Some (bare from z)) from to (body_by k x y st)
+    ≡ node_taken w from to (body_by k x y st)
 same_taken w kind.YAML_NO_TOKEN x y st from to z h = refl
 same_taken w kind.YAML_STREAM_START_TOKEN x y st from to z h = refl
 same_taken w kind.YAML_STREAM_END_TOKEN x y st from to z h = refl
@@ -112,8 +116,11 @@ same_taken w kind.YAML_ANCHOR_TOKEN x y st from to z h = absurd h
 same_taken w kind.YAML_TAG_TOKEN x y st from to z h = absurd h
 same_taken w kind.YAML_SCALAR_TOKEN x y st from to z h = refl
 
-pub bare_node : (w : Wants) (k : yaml_token_type_t) (x y : List ℕ) (st : Extra) (from to : yaml_mark_t) (s : List State) (new : Properties → List State) (r : Seen) (a : Around) → IsBare k
-    → Contents w (token_at (body_by k x y st) from to) s r new → Nodes w (token_at (body_by k x y st) from to) s r a new
+pub bare_node : (w : Wants) (k : yaml_token_type_t) (x y : List ℕ) (st : Extra)
+    (from to : yaml_mark_t) (s : List State) (new : Properties → List State) (r : Seen) (a : Around)
+    → IsBare k
+    → Contents w (token_at (body_by k x y st) from to) s r new
+    → Nodes w (token_at (body_by k x y st) from to) s r a new
 bare_node w k x y st from to s new (turn.node j) a b h =
     (same_start w k x y st b ∙ h.0, (h.1 (bare from to) (bare from to)).0 ∙ ap (λ (t : Taken). t.item) (same_taken w k x y st from to to b), λ q. (h.1 (bare from to) q).1 ∙ ap (λ (t : Taken). t.above ++ s) (same_taken w k x y st from to to b))
 bare_node w k x y st from to s new (turn.named j) a b h = absurd h
@@ -127,8 +134,11 @@ bare_node w k x y st from to s new turn.memory a b h = tt
 
 -- ---- a node behind properties
 
-same_behind : (w : Wants) (k : yaml_token_type_t) (x y : List ℕ) (st : Extra) (from to : yaml_mark_t) (p : Properties) → (k ≡ kind.YAML_ANCHOR_TOKEN → ⊥) → (k ≡ kind.YAML_TAG_TOKEN → ⊥)
-    → content_taken w (Some p) from to (body_by k x y st) ≡ with_properties_taken w p from to (body_by k x y st)
+same_behind : (w : Wants) (k : yaml_token_type_t) (x y : List ℕ) (st : Extra)
+    (from to : yaml_mark_t) (p : Properties) → (k ≡ kind.YAML_ANCHOR_TOKEN → ⊥)
+    → (k ≡ kind.YAML_TAG_TOKEN → ⊥)
+    → content_taken w (Some p) from to (body_by k x y st)
+    ≡ with_properties_taken w p from to (body_by k x y st)
 same_behind w kind.YAML_NO_TOKEN x y st from to p a b = refl
 same_behind w kind.YAML_STREAM_START_TOKEN x y st from to p a b = refl
 same_behind w kind.YAML_STREAM_END_TOKEN x y st from to p a b = refl
@@ -156,9 +166,13 @@ takes_if : (b : Bool) → (if b || true then Take else Leave) ≡ Take
 takes_if true = refl
 takes_if false = refl
 
-pub named_node : (w : Wants) (k : yaml_token_type_t) (x y : List ℕ) (st : Extra) (from to : yaml_mark_t) (p : Properties) (s : List State) (new : Properties → List State) (j : Shape)
-    → (k ≡ kind.YAML_ANCHOR_TOKEN → ⊥) → (k ≡ kind.YAML_TAG_TOKEN → ⊥) → Contents w (token_at (body_by k x y st) from to) s (turn.node j) new
-    → Takes (state.with_properties w p) (token_at (body_by k x y st) from to) s (named_item j p (token_at (body_by k x y st) from to)) new
+pub named_node : (w : Wants) (k : yaml_token_type_t) (x y : List ℕ) (st : Extra)
+    (from to : yaml_mark_t) (p : Properties) (s : List State) (new : Properties → List State)
+    (j : Shape)
+    → (k ≡ kind.YAML_ANCHOR_TOKEN → ⊥) → (k ≡ kind.YAML_TAG_TOKEN → ⊥)
+    → Contents w (token_at (body_by k x y st) from to) s (turn.node j) new
+    → Takes (state.with_properties w p) (token_at (body_by k x y st) from to) s
+    (named_item j p (token_at (body_by k x y st) from to)) new
 named_node w k x y st from to p s new j a b h =
     (ap (λ z. if joins p (type_of (body_by k x y st)) || z then Take else Leave) h.0 ∙ takes_if (joins p (type_of (body_by k x y st))), (h.1 p p).0 ∙ ap (λ (t : Taken). t.item) (same_behind w k x y st from to p a b), λ q. (h.1 p q).1 ∙ ap (λ (t : Taken). t.above ++ s) (same_behind w k x y st from to p a b))
 
@@ -171,7 +185,9 @@ no_context : (w : Wants) (o : yaml_mark_t) → context_if (no_node w) o ≡ None
 no_context Flow o = refl
 no_context (Block s) o = refl
 
-optional_chooses : (p : Site) (b : yaml_mark_t) (k : yaml_token_type_t) (n : Bool) → follows p k ≡ false → starts_node (wants_of p) k ≡ n → choice_at (state.optional p b) k ≡ chosen_at false n (wants_of p)
+optional_chooses : (p : Site) (b : yaml_mark_t) (k : yaml_token_type_t) (n : Bool)
+    → follows p k ≡ false → starts_node (wants_of p) k ≡ n
+    → choice_at (state.optional p b) k ≡ chosen_at false n (wants_of p)
 optional_chooses p b k n f e = ap (λ z. chosen_at z (starts_node (wants_of p) k) (wants_of p)) f ∙ ap (λ z. chosen_at false z (wants_of p)) e
 
 pub type_is : (k : yaml_token_type_t) (x y : List ℕ) (st : Extra) → type_of (body_by k x y st) ≡ k
@@ -198,7 +214,8 @@ type_is kind.YAML_ANCHOR_TOKEN x y st = refl
 type_is kind.YAML_TAG_TOKEN x y st = refl
 type_is kind.YAML_SCALAR_TOKEN x y st = refl
 
-optional_at : (p : Site) (b : yaml_mark_t) (t : Token) (s : List State) (new : Properties → List State) (r : Seen) (a : Around) → follows p (type_of t.body) ≡ false
+optional_at : (p : Site) (b : yaml_mark_t) (t : Token) (s : List State)
+    (new : Properties → List State) (r : Seen) (a : Around) → follows p (type_of t.body) ≡ false
     → Nodes (wants_of p) t s r a new → Turns (state.optional p b) t s r a new
 optional_at p b t s new (turn.node j) a f h = (optional_chooses p b (type_of t.body) true f h.0, h.1, h.2)
 optional_at p b t s new (turn.named j) a f h = absurd h
@@ -210,12 +227,15 @@ optional_at p b t s new turn.over a f h = absurd h
 optional_at p b t s new (turn.refused q) a f h = optional_chooses p b (type_of t.body) false f h.0 ∙ ap (λ z. Refuse (no_node (wants_of p)) z) (sym (no_context (wants_of p) a.opener)) ∙ ap (λ z. Refuse z (context_if z a.opener)) (sym h.1)
 optional_at p b t s new turn.memory a f h = tt
 
-pub optional_node : (p : Site) (b : yaml_mark_t) (w : Wants) (t : Token) (s : List State) (new : Properties → List State) (r : Seen) (a : Around) → follows p (type_of t.body) ≡ false
+pub optional_node : (p : Site) (b : yaml_mark_t) (w : Wants) (t : Token) (s : List State)
+    (new : Properties → List State) (r : Seen) (a : Around) → follows p (type_of t.body) ≡ false
     → w ≡ wants_of p → Nodes w t s r a new → Turns (state.optional p b) t s r a new
 optional_node p b w t s new r a f e h = optional_at p b t s new r a f (subst (λ z. Nodes z t s r a new) e h)
 
-pub left_optional : (p : Site) (b : yaml_mark_t) (t : Token) (s : List State) (new : Properties → List State) (r : Seen) (a : Around) → follows p (type_of t.body) ≡ true
-    → LeavesOut p r → a.before ≡ b → ((q : Properties) → new q ≡ s) → Turns (state.optional p b) t s r a new
+pub left_optional : (p : Site) (b : yaml_mark_t) (t : Token) (s : List State)
+    (new : Properties → List State) (r : Seen) (a : Around) → follows p (type_of t.body) ≡ true
+    → LeavesOut p r → a.before ≡ b → ((q : Properties) → new q ≡ s)
+    → Turns (state.optional p b) t s r a new
 left_optional p b t s new (turn.left k) a f h e n = (ap (λ z. chosen_at z (starts_node (wants_of p) (type_of t.body)) (wants_of p)) f, subst (λ z. implied_item k a.properties a.before t.start_mark ≡ left_at (state.optional p z) t.start_mark) e (h a.properties a.before t.start_mark), n)
 left_optional p b t s new (turn.node k) a f h e n = absurd h
 left_optional p b t s new (turn.named k) a f h e n = absurd h
@@ -240,7 +260,8 @@ bare_anywhere kind.YAML_FLOW_SEQUENCE_START_TOKEN h = tt
 bare_anywhere kind.YAML_FLOW_MAPPING_START_TOKEN h = tt
 bare_anywhere k h = absurd (false≢true h)
 
-none_follows : (p : Site) (k : yaml_token_type_t) (x y : List ℕ) (st : Extra) → begins_content k ≡ true → follows p (type_of (body_by k x y st)) ≡ false
+none_follows : (p : Site) (k : yaml_token_type_t) (x y : List ℕ) (st : Extra)
+    → begins_content k ≡ true → follows p (type_of (body_by k x y st)) ≡ false
 none_follows site.Root kind.YAML_SCALAR_TOKEN x y st h = refl
 none_follows site.Root kind.YAML_FLOW_SEQUENCE_START_TOKEN x y st h = refl
 none_follows site.Root kind.YAML_FLOW_MAPPING_START_TOKEN x y st h = refl
@@ -261,14 +282,21 @@ none_follows (site.FlowPair brackets.Mapping z) kind.YAML_FLOW_SEQUENCE_START_TO
 none_follows (site.FlowPair brackets.Mapping z) kind.YAML_FLOW_MAPPING_START_TOKEN x y st h = refl
 none_follows p k x y st h = absurd (false≢true h)
 
-at_site : (p : Site) (b : yaml_mark_t) (k : yaml_token_type_t) (x y : List ℕ) (st : Extra) (from to : yaml_mark_t) (s : List State) (new : Properties → List State) (r : Seen) (a : Around) → begins_content k ≡ true
-    → ((w : Wants) → Contents w (token_at (body_by k x y st) from to) s r new) → Turns (state.optional p b) (token_at (body_by k x y st) from to) s r a new
+at_site : (p : Site) (b : yaml_mark_t) (k : yaml_token_type_t) (x y : List ℕ) (st : Extra)
+    (from to : yaml_mark_t) (s : List State) (new : Properties → List State) (r : Seen) (a : Around)
+    → begins_content k ≡ true
+    → ((w : Wants) → Contents w (token_at (body_by k x y st) from to) s r new)
+    → Turns (state.optional p b) (token_at (body_by k x y st) from to) s r a new
 at_site p b k x y st from to s new r a h c =
     optional_node p b (wants_of p) (token_at (body_by k x y st) from to) s new r a (none_follows p k x y st h) refl
     (bare_node (wants_of p) k x y st from to s new r a (bare_anywhere k h) (c (wants_of p)))
 
-pub anywhere : (z : Await) (b : yaml_mark_t) (q : Properties) (k : yaml_token_type_t) (x y : List ℕ) (st : Extra) (from to : yaml_mark_t) (s : List State) (new : Properties → List State) (r : Seen) (a : Around)
-    → is_begun z ≡ false → begins_content k ≡ true → ((w : Wants) → Contents w (token_at (body_by k x y st) from to) s r new) → TurnsOn (await_of z b q ++ s) (token_at (body_by k x y st) from to) r a new
+pub anywhere : (z : Await) (b : yaml_mark_t) (q : Properties) (k : yaml_token_type_t) (x y : List ℕ)
+    (st : Extra) (from to : yaml_mark_t) (s : List State) (new : Properties → List State) (r : Seen)
+    (a : Around)
+    → is_begun z ≡ false → begins_content k ≡ true
+    → ((w : Wants) → Contents w (token_at (body_by k x y st) from to) s r new)
+    → TurnsOn (await_of z b q ++ s) (token_at (body_by k x y st) from to) r a new
 anywhere await.Root b q k x y st from to s new r a e h c = at_site site.Root b k x y st from to s new r a h c
 anywhere await.Entry b q k x y st from to s new r a e h c = at_site site.Entry b k x y st from to s new r a h c
 anywhere await.LooseKey b q k x y st from to s new r a e h c = at_site (site.IndentlessEntry side.Key) b k x y st from to s new r a h c

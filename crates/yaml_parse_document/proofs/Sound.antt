@@ -40,7 +40,8 @@ pub wider : (m n : ℕ) (ns : List Node) → m ≤ n → AreSound m ns → AreSo
 wider m n [] h s = tt
 wider m n (x ∷ ns) h s = (wider_node m n x h s.0, wider m n ns h s.1)
 
-pub sound_push : (m : ℕ) (ns : List Node) (x : Node) → AreSound m ns → IsSoundNode m x → AreSound m (ns ++ x ∷ [])
+pub sound_push : (m : ℕ) (ns : List Node) (x : Node) → AreSound m ns → IsSoundNode m x
+    → AreSound m (ns ++ x ∷ [])
 sound_push m [] x s h = (h, tt)
 sound_push m (n ∷ ns) x s h = (s.0, sound_push m ns x s.1 h)
 
@@ -49,7 +50,8 @@ length_push [] x = refl
 length_push (n ∷ ns) x = ap suc (length_push ns x)
 
 -- a sound node more
-pub with_node_sound : (d : Document) (x : Node) → IsDocument d → IsSoundNode (length d.nodes) x → IsDocument (with_node d x)
+pub with_node_sound : (d : Document) (x : Node) → IsDocument d → IsSoundNode (length d.nodes) x
+    → IsDocument (with_node d x)
 with_node_sound d x s h =
     let grown : length (d.nodes ++ x ∷ []) ≡ suc (length d.nodes) = length_push d.nodes x in
     let more : length d.nodes ≤ suc (length d.nodes) = omega arith in
@@ -61,19 +63,24 @@ with_node_sound d x s h =
 
 -- ---- a node changed
 
-pub length_change : (f : Node → Node) (k : ℕ) (ns : List Node) → length (change_place f k ns) ≡ length ns
+pub length_change : (f : Node → Node) (k : ℕ) (ns : List Node)
+    → length (change_place f k ns) ≡ length ns
 length_change f k [] = refl
 length_change f zero (n ∷ ns) = refl
 length_change f (suc k) (n ∷ ns) = ap suc (length_change f k ns)
 
-pub sound_change : (m : ℕ) (f : Node → Node) (k : ℕ) (ns : List Node) → ((x : Node) → IsSoundNode m x → IsSoundNode m (f x)) → AreSound m ns → AreSound m (change_place f k ns)
+pub sound_change : (m : ℕ) (f : Node → Node) (k : ℕ) (ns : List Node)
+    → ((x : Node) → IsSoundNode m x → IsSoundNode m (f x)) → AreSound m ns
+    → AreSound m (change_place f k ns)
 sound_change m f k [] h s = tt
 sound_change m f zero (n ∷ ns) h s = (h n s.0, s.1)
 sound_change m f (suc k) (n ∷ ns) h s = (s.0, sound_change m f k ns h s.1)
 
 -- the body of one node is changed, and stays sound
-pub changed_sound : (d : Document) (f : NodeBody → NodeBody) (k : ℕ) → ((b : NodeBody) → IsSoundBody (length d.nodes) b → IsSoundBody (length d.nodes) (f b))
-    → IsDocument d → IsDocument (record d { nodes = change_place (λ n. record n { body = f n.body }) k d.nodes })
+pub changed_sound : (d : Document) (f : NodeBody → NodeBody) (k : ℕ)
+    → ((b : NodeBody) → IsSoundBody (length d.nodes) b → IsSoundBody (length d.nodes) (f b))
+    → IsDocument d
+    → IsDocument (record d { nodes = change_place (λ n. record n { body = f n.body }) k d.nodes })
 changed_sound d f k h s =
     let g : Node → Node = λ n. record n { body = f n.body } in
     let same : length (change_place g k d.nodes) ≡ length d.nodes = length_change g k d.nodes in
@@ -83,24 +90,28 @@ changed_sound d f k h s =
           (sound_change _ g k d.nodes (λ x t. (t.0, h x.body t.1)) s.nodes);
     }
 
-pub sound_ids_push : (m : ℕ) (ids : List ℤ) (id : ℤ) → AreIds m ids → IsId m id → AreIds m (ids ++ id ∷ [])
+pub sound_ids_push : (m : ℕ) (ids : List ℤ) (id : ℤ) → AreIds m ids → IsId m id
+    → AreIds m (ids ++ id ∷ [])
 sound_ids_push m [] id s h = (h, tt)
 sound_ids_push m (x ∷ ids) id s h = (s.0, sound_ids_push m ids id s.1 h)
 
 abbrev pub pair_of : ℤ → ℤ → yaml_node_pair_t
 pair_of key value = record { key = key; value = value }
 
-pub sound_pairs_push : (m : ℕ) (ps : List yaml_node_pair_t) (p : yaml_node_pair_t) → ArePairs m ps → IsId m p.key × IsId m p.value → ArePairs m (ps ++ p ∷ [])
+pub sound_pairs_push : (m : ℕ) (ps : List yaml_node_pair_t) (p : yaml_node_pair_t) → ArePairs m ps
+    → IsId m p.key × IsId m p.value → ArePairs m (ps ++ p ∷ [])
 sound_pairs_push m [] p s h = (h, tt)
 sound_pairs_push m (x ∷ ps) p s h = (s.0, sound_pairs_push m ps p s.1 h)
 
-pub item_sound : (m : ℕ) (id : ℤ) → IsId m id → (b : NodeBody) → IsSoundBody m b → IsSoundBody m (with_item id b)
+pub item_sound : (m : ℕ) (id : ℤ) → IsId m id → (b : NodeBody) → IsSoundBody m b
+    → IsSoundBody m (with_item id b)
 item_sound m id h node.no s = s
 item_sound m id h (node.scalar value style) s = s
 item_sound m id h (node.sequence items style) s = sound_ids_push m items id s h
 item_sound m id h (node.mapping pairs style) s = s
 
-pub pair_sound : (m : ℕ) (p : yaml_node_pair_t) → IsId m p.key × IsId m p.value → (b : NodeBody) → IsSoundBody m b → IsSoundBody m (with_pair p b)
+pub pair_sound : (m : ℕ) (p : yaml_node_pair_t) → IsId m p.key × IsId m p.value → (b : NodeBody)
+    → IsSoundBody m b → IsSoundBody m (with_pair p b)
 pair_sound m p h node.no s = s
 pair_sound m p h (node.scalar value style) s = s
 pair_sound m p h (node.sequence items style) s = s
@@ -118,22 +129,29 @@ some_id ns (pos (suc k)) h = some_place ns k h
 some_id ns _ h = cc
 
 -- a write of a node at a place, seen by views
-pub set_changes : (f : NodeBody → NodeBody) (items : List yaml_node_t) (k : ℕ) (old new : yaml_node_t) → k < length items → old ≡ get_or items k old
+pub set_changes : (f : NodeBody → NodeBody) (items : List yaml_node_t) (k : ℕ)
+    (old new : yaml_node_t) → k < length items → old ≡ get_or items k old
     → node_of new ≡ record (node_of old) { body = f (node_of old).body }
-    → map node_of (set items k new) ≡ change_place (λ n. record n { body = f n.body }) k (map node_of items)
+    → map node_of (set items k new) ≡ change_place (λ n. record n { body = f n.body }) k
+    (map node_of items)
 set_changes f [] k old new h e i = absurd (omega arith)
 set_changes f (x ∷ items) zero old new h e i = ap (λ n. n ∷ map node_of items) (i ∙ ap (λ (m : yaml_node_t). record (node_of m) { body = f (node_of m).body }) e)
 set_changes f (x ∷ items) (suc k) old new h e i = ap (λ ns. node_of x ∷ ns) (set_changes f items k old new (omega arith) e i)
 
-pub set_same : (items : List yaml_node_t) (k : ℕ) (old new : yaml_node_t) → k < length items → old ≡ get_or items k old → node_of new ≡ node_of old → map node_of (set items k new) ≡ map node_of items
+pub set_same : (items : List yaml_node_t) (k : ℕ) (old new : yaml_node_t) → k < length items
+    → old ≡ get_or items k old → node_of new ≡ node_of old
+    → map node_of (set items k new) ≡ map node_of items
 set_same [] k old new h e i = absurd (omega arith)
 set_same (x ∷ items) zero old new h e i = ap (λ n. n ∷ map node_of items) (i ∙ ap node_of e)
 set_same (x ∷ items) (suc k) old new h e i = ap (λ ns. node_of x ∷ ns) (set_same items k old new (omega arith) e i)
 
 -- an appending call, seen by views: what it changed, and that the document stays sound
-pub appended : {A : Type 0} (f : NodeBody → NodeBody) (count : NodeBody → ℕ) (d : Document) (items : List yaml_node_t) (k : ℕ) (id : ℤ) (old new : yaml_node_t) (r : Result A yaml_text_fault_t)
+pub appended : {A : Type 0} (f : NodeBody → NodeBody) (count : NodeBody → ℕ) (d : Document)
+    (items : List yaml_node_t) (k : ℕ) (id : ℤ) (old new : yaml_node_t)
+    (r : Result A yaml_text_fault_t)
     → id ≡ pos (suc k) → k < length items → old ≡ get_or items k old → d.nodes ≡ map node_of items
-    → MatchResult r (λ _. (node_of new ≡ record (node_of old) { body = f (node_of old).body }) × (count (node_of old).body < 2147483647)) (λ e. (node_of new ≡ node_of old) × (e ≡ Memory))
+    → MatchResult r (λ _. (node_of new ≡ record (node_of old) { body = f (node_of old).body })
+    × (count (node_of old).body < 2147483647)) (λ e. (node_of new ≡ node_of old) × (e ≡ Memory))
     → Appends d (change_body f id d) r (record d { nodes = map node_of (set items k new) })
 appended f count d items k id old new (Ok x) at_k inside is view h =
     let same : map node_of (set items k new) ≡ change_node (λ n. record n { body = f n.body }) id d.nodes
@@ -143,10 +161,13 @@ appended f count d items k id old new (Ok x) at_k inside is view h =
 appended f count d items k id old new (Err e) at_k inside is view h =
     (ap (λ (ns : List Node). let e : Document = record d { nodes = ns } in e) (set_same items k old new inside is h.0 ∙ sym view), h.1)
 
-pub appended_sound : {A : Type 0} (f : NodeBody → NodeBody) (count : NodeBody → ℕ) (d : Document) (items : List yaml_node_t) (k : ℕ) (old new : yaml_node_t) (r : Result A yaml_text_fault_t)
+pub appended_sound : {A : Type 0} (f : NodeBody → NodeBody) (count : NodeBody → ℕ) (d : Document)
+    (items : List yaml_node_t) (k : ℕ) (old new : yaml_node_t) (r : Result A yaml_text_fault_t)
     → k < length items → old ≡ get_or items k old → d.nodes ≡ map node_of items
-    → MatchResult r (λ _. (node_of new ≡ record (node_of old) { body = f (node_of old).body }) × (count (node_of old).body < 2147483647)) (λ e. (node_of new ≡ node_of old) × (e ≡ Memory))
-    → ((b : NodeBody) → IsSoundBody (length d.nodes) b → IsSoundBody (length d.nodes) (f b)) → IsDocument d
+    → MatchResult r (λ _. (node_of new ≡ record (node_of old) { body = f (node_of old).body })
+    × (count (node_of old).body < 2147483647)) (λ e. (node_of new ≡ node_of old) × (e ≡ Memory))
+    → ((b : NodeBody) → IsSoundBody (length d.nodes) b → IsSoundBody (length d.nodes) (f b))
+    → IsDocument d
     → IsDocument (record d { nodes = map node_of (set items k new) })
 appended_sound f count d items k old new (Ok x) inside is view h keeps s =
     subst (λ (ns : List Node). IsDocument (record d { nodes = ns }))
@@ -156,15 +177,19 @@ appended_sound f count d items k old new (Err e) inside is view h keeps s =
     subst (λ (ns : List Node). IsDocument (record d { nodes = ns })) (sym (set_same items k old new inside is h.0 ∙ sym view)) s
 
 -- an appending call had room for the entry
-kind_of_place : (IsKind : NodeBody → Type 0) (items : List yaml_node_t) (k : ℕ) (old : yaml_node_t) → k < length items → old ≡ get_or items k old
+kind_of_place : (IsKind : NodeBody → Type 0) (items : List yaml_node_t) (k : ℕ) (old : yaml_node_t)
+    → k < length items → old ≡ get_or items k old
     → IsKind (node_of old).body → IsKindAt IsKind (slice_get (map node_of items) k)
 kind_of_place IsKind [] k old h e i = absurd (omega arith)
 kind_of_place IsKind (x ∷ items) zero old h e i = subst (λ (n : yaml_node_t). IsKind (node_of n).body) e i
 kind_of_place IsKind (x ∷ items) (suc k) old h e i = kind_of_place IsKind items k old (omega arith) e i
 
-pub had_room : {A : Type 0} (f : NodeBody → NodeBody) (count : NodeBody → ℕ) (d : Document) (items : List yaml_node_t) (k : ℕ) (id : ℤ) (old new : yaml_node_t) (r : Result A yaml_text_fault_t)
+pub had_room : {A : Type 0} (f : NodeBody → NodeBody) (count : NodeBody → ℕ) (d : Document)
+    (items : List yaml_node_t) (k : ℕ) (id : ℤ) (old new : yaml_node_t)
+    (r : Result A yaml_text_fault_t)
     → id ≡ pos (suc k) → k < length items → old ≡ get_or items k old → d.nodes ≡ map node_of items
-    → MatchResult r (λ _. (node_of new ≡ record (node_of old) { body = f (node_of old).body }) × (count (node_of old).body < 2147483647)) (λ e. (node_of new ≡ node_of old) × (e ≡ Memory))
+    → MatchResult r (λ _. (node_of new ≡ record (node_of old) { body = f (node_of old).body })
+    × (count (node_of old).body < 2147483647)) (λ e. (node_of new ≡ node_of old) × (e ≡ Memory))
     → OnOk r (HasRoomAt count d id)
 had_room f count d items k id old new (Ok x) at_k inside is view h =
     subst (λ (i : ℤ). HasRoomAt count d i) (sym at_k)
@@ -173,7 +198,8 @@ had_room f count d items k id old new (Err e) at_k inside is view h = tt
 
 -- ---- default tags
 
-pub tag_utf8 : (tag : Option (List ℕ)) (default : List ℕ) → IsUtf8 default → IsUtf8Option tag → IsUtf8 (tag_or tag default)
+pub tag_utf8 : (tag : Option (List ℕ)) (default : List ℕ) → IsUtf8 default → IsUtf8Option tag
+    → IsUtf8 (tag_or tag default)
 tag_utf8 None default a h = a
 tag_utf8 (Some t) default a h = h
 
@@ -193,8 +219,10 @@ unlike : NotUtf8 ≡ Memory → ⊥
 unlike h = cc
 
 -- an adding call whose texts are UTF-8
-pub added : (d : Document) (m n : Node) (P : Type 0) (r : Result ℤ yaml_text_fault_t) (new : Document) → m ≡ n → P
-    → MatchResult r (λ id. (new ≡ with_node d m) × (id ≡ pos (suc (length d.nodes)))) (λ f. (new ≡ d) × (f ≡ Memory))
+pub added : (d : Document) (m n : Node) (P : Type 0) (r : Result ℤ yaml_text_fault_t)
+    (new : Document) → m ≡ n → P
+    → MatchResult r (λ id. (new ≡ with_node d m) × (id ≡ pos (suc (length d.nodes))))
+    (λ f. (new ≡ d) × (f ≡ Memory))
     → Adds d n P r new
 added d m n P (Ok id) new e p h = (h.0 ∙ ap (with_node d) e, h.1, p)
 added d m n P (Err NotUtf8) new e p h = absurd (unlike h.1)
@@ -202,12 +230,14 @@ added d m n P (Err Memory) new e p h = (h.0, p)
 
 -- ---- a number under which a node of some kind stands
 
-kind_place : (IsKind : NodeBody → Type 0) (ns : List Node) (k : ℕ) → IsKindAt IsKind (slice_get ns k) → k < length ns
+kind_place : (IsKind : NodeBody → Type 0) (ns : List Node) (k : ℕ)
+    → IsKindAt IsKind (slice_get ns k) → k < length ns
 kind_place IsKind [] k h = absurd h
 kind_place IsKind (n ∷ ns) zero h = omega arith
 kind_place IsKind (n ∷ ns) (suc k) h = let r : k < length ns = kind_place IsKind ns k h in omega arith
 
-pub kind_inside : (IsKind : NodeBody → Type 0) (d : Document) (items : List yaml_node_t) (id : ℤ) (k : ℕ) → id ≡ pos (suc k) → d.nodes ≡ map node_of items
+pub kind_inside : (IsKind : NodeBody → Type 0) (d : Document) (items : List yaml_node_t) (id : ℤ)
+    (k : ℕ) → id ≡ pos (suc k) → d.nodes ≡ map node_of items
     → IsKindAt IsKind (node_at d.nodes id) → k < length items
 kind_inside IsKind d items id k e view h =
     let at : IsKindAt IsKind (node_at d.nodes (pos (suc k))) = subst (λ (i : ℤ). IsKindAt IsKind (node_at d.nodes i)) e h in
@@ -221,7 +251,8 @@ sound_item n k [] h = tt
 sound_item n zero (x ∷ xs) h = h.0
 sound_item n (suc k) (x ∷ xs) h = sound_item n k xs h.1
 
-pub sound_at : (n : ℕ) (nodes : List Node) (id : ℤ) → AreSound n nodes → IsSoundAt n (node_at nodes id)
+pub sound_at : (n : ℕ) (nodes : List Node) (id : ℤ) → AreSound n nodes
+    → IsSoundAt n (node_at nodes id)
 sound_at n nodes (pos zero) h = tt
 sound_at n nodes (pos (suc k)) h = sound_item n k nodes h
 sound_at n nodes (negsuc k) h = tt

@@ -35,7 +35,8 @@ abbrev pub giving : (List Given → List Given) → Outcome → Outcome
 giving g o = record { items = g o.items; ending = o.ending }
 
 pub carry_with_item : (left : ℕ) (i : RawEvent) (below : Fed) (k : List State → Outcome)
-    → carry left (with_item i below) k ≡ giving (λ (more : List Given). (i, left) ∷ more) (carry left below k)
+    → carry left (with_item i below) k
+    ≡ giving (λ (more : List Given). (i, left) ∷ more) (carry left below k)
 carry_with_item left i (stop is f) k = refl
 carry_with_item left i (go is s) k = refl
 
@@ -46,15 +47,18 @@ abbrev pub Leaves : State → List Token → Type 0
 Leaves x [] = ⊥
 Leaves x (t ∷ ts) = choice_at x (type_of t.body) ≡ Leave
 
-pub leaves_at : (x : State) (t : Token) (ts : List Token) (s : List State) (f : Option Fault) → choice_at x (type_of t.body) ≡ Leave
-    → run (t ∷ ts) (x ∷ s) f ≡ giving (λ (more : List Given). (left_at x t.start_mark, length ts) ∷ more) (run (t ∷ ts) s f)
+pub leaves_at : (x : State) (t : Token) (ts : List Token) (s : List State) (f : Option Fault)
+    → choice_at x (type_of t.body) ≡ Leave
+    → run (t ∷ ts) (x ∷ s) f ≡ giving
+    (λ (more : List Given). (left_at x t.start_mark, length ts) ∷ more) (run (t ∷ ts) s f)
 unfolding run feed
 leaves_at x t ts s f h =
     ap (λ (c : Choice). carry (length ts) (turn c x t s (feed s t)) (λ s'. run ts s' f)) h
     ∙ carry_with_item (length ts) (left_at x t.start_mark) (feed s t) (λ s'. run ts s' f)
 
 pub leaves : (x : State) (ts : List Token) (s : List State) (f : Option Fault) → Leaves x ts
-    → run ts (x ∷ s) f ≡ giving (λ (more : List Given). (left_at x (next ts), behind ts) ∷ more) (run ts s f)
+    → run ts (x ∷ s) f ≡ giving (λ (more : List Given). (left_at x (next ts), behind ts) ∷ more)
+    (run ts s f)
 leaves x [] s f h = absurd h
 leaves x (t ∷ ts) s f h = leaves_at x t ts s f h
 
@@ -83,7 +87,8 @@ abbrev pub Follows : Site → List Token → Type 0
 Follows place [] = ⊥
 Follows place (t ∷ ts) = follows place (type_of t.body) ≡ true
 
-follows_ends_at : (place : Site) (k : yaml_token_type_t) → follows place k ≡ true → ends (wants_of place) k ≡ true
+follows_ends_at : (place : Site) (k : yaml_token_type_t) → follows place k ≡ true
+    → ends (wants_of place) k ≡ true
 follows_ends_at Root kind.YAML_DOCUMENT_END_TOKEN h = refl
 follows_ends_at Root kind.YAML_STREAM_END_TOKEN h = refl
 follows_ends_at Root kind.YAML_VERSION_DIRECTIVE_TOKEN h = refl
@@ -110,14 +115,16 @@ pub follows_ends : (place : Site) (ts : List Token) → Follows place ts → End
 follows_ends place [] h = h
 follows_ends place (t ∷ ts) h = follows_ends_at place (type_of t.body) h
 
-follows_leaves : (place : Site) (before : yaml_mark_t) (ts : List Token) → Follows place ts → Leaves (state.optional place before) ts
+follows_leaves : (place : Site) (before : yaml_mark_t) (ts : List Token) → Follows place ts
+    → Leaves (state.optional place before) ts
 follows_leaves place before [] h = h
 follows_leaves place before (t ∷ ts) h =
     ap (λ (b : Bool). if b then Leave else if starts_node (wants_of place) (type_of t.body) then Take else Refuse (no_node (wants_of place)) None) h
 
 -- ---- properties
 
-with_properties_leaves_at : (w : Wants) (p : Properties) (k : yaml_token_type_t) → ends w k ≡ true → choice_at (state.with_properties w p) k ≡ Leave
+with_properties_leaves_at : (w : Wants) (p : Properties) (k : yaml_token_type_t) → ends w k ≡ true
+    → choice_at (state.with_properties w p) k ≡ Leave
 with_properties_leaves_at Flow p kind.YAML_FLOW_ENTRY_TOKEN h = refl
 with_properties_leaves_at Flow p kind.YAML_VALUE_TOKEN h = refl
 with_properties_leaves_at Flow p kind.YAML_FLOW_SEQUENCE_END_TOKEN h = refl
@@ -138,7 +145,8 @@ with_properties_leaves_at (Block None) p kind.YAML_TAG_DIRECTIVE_TOKEN h = refl
 with_properties_leaves_at (Block None) p kind.YAML_DOCUMENT_START_TOKEN h = refl
 with_properties_leaves_at (Block None) p _ h = cc
 
-with_properties_leaves : (w : Wants) (p : Properties) (ts : List Token) → Ends w ts → Leaves (state.with_properties w p) ts
+with_properties_leaves : (w : Wants) (p : Properties) (ts : List Token) → Ends w ts
+    → Leaves (state.with_properties w p) ts
 with_properties_leaves w p [] h = h
 with_properties_leaves w p (t ∷ ts) h = with_properties_leaves_at w p (type_of t.body) h
 
@@ -152,16 +160,20 @@ abbrev run_content : Wants → Option Properties → List Token → List State �
 run_content w p [] s f = finished
 run_content w p (t ∷ ts) s f = carry (length ts) (given_by (content_taken w p t.start_mark t.end_mark t.body) s) (λ s'. run ts s' f)
 
-properties_run : (d : PropertyTokens) (w : Wants) (ts : List Token) (s : List State) (f : Option Fault)
-    → run_node w (spell_properties d ts) s f ≡ run ts (state.with_properties w (properties_of d) ∷ s) f
+properties_run : (d : PropertyTokens) (w : Wants) (ts : List Token) (s : List State)
+    (f : Option Fault)
+    → run_node w (spell_properties d ts) s f
+    ≡ run ts (state.with_properties w (properties_of d) ∷ s) f
 unfolding run feed
 properties_run (tree.anchor a) w ts s f = refl
 properties_run (tree.anchor_tag a t) w ts s f = refl
 properties_run (tree.tag t) w ts s f = refl
 properties_run (tree.tag_anchor t a) w ts s f = refl
 
-with_properties_content : {w : Wants} (c : Content w) (p : Properties) (rest : List Token) (s : List State) (f : Option Fault)
-    → run (spell_content c rest) (state.with_properties w p ∷ s) f ≡ run_content w (Some p) (spell_content c rest) s f
+with_properties_content : {w : Wants} (c : Content w) (p : Properties) (rest : List Token)
+    (s : List State) (f : Option Fault)
+    → run (spell_content c rest) (state.with_properties w p ∷ s) f
+    ≡ run_content w (Some p) (spell_content c rest) s f
 unfolding run feed
 with_properties_content (tree.scalar n v style) p rest s f = refl
 with_properties_content (tree.flow brackets.Sequence n items) p rest s f = refl
@@ -193,7 +205,8 @@ content_starts (tree.block_sequence n entries) rest = refl
 content_starts (tree.block_mapping n pairs) rest = refl
 content_starts (tree.indentless n m o) rest = refl
 
-properties_start : (w : Wants) (d : PropertyTokens) (ts : List Token) → Starts w (spell_properties d ts)
+properties_start : (w : Wants) (d : PropertyTokens) (ts : List Token)
+    → Starts w (spell_properties d ts)
 properties_start w (tree.anchor a) ts = refl
 properties_start w (tree.anchor_tag a t) ts = refl
 properties_start w (tree.tag t) ts = refl
@@ -206,7 +219,8 @@ node_starts {w = w} (tree.with_properties d c) rest = properties_start w d (spel
 node_starts (tree.bare c) rest = content_starts c rest
 
 -- no token that begins a node follows one that is left out
-not_following : (place : Site) (k : yaml_token_type_t) → starts_node (wants_of place) k ≡ true → follows place k ≡ false
+not_following : (place : Site) (k : yaml_token_type_t) → starts_node (wants_of place) k ≡ true
+    → follows place k ≡ false
 not_following Root kind.YAML_DOCUMENT_END_TOKEN h = cc
 not_following Root kind.YAML_STREAM_END_TOKEN h = cc
 not_following Root kind.YAML_VERSION_DIRECTIVE_TOKEN h = cc
@@ -232,24 +246,28 @@ not_following (FlowPair b side) kind.YAML_FLOW_MAPPING_END_TOKEN h = cc
 not_following (FlowPair brackets.Sequence side) _ h = refl
 not_following (FlowPair brackets.Mapping side) _ h = refl
 
-pub optional_takes : (place : Site) (before : yaml_mark_t) (k : yaml_token_type_t) → starts_node (wants_of place) k ≡ true → choice_at (state.optional place before) k ≡ Take
+pub optional_takes : (place : Site) (before : yaml_mark_t) (k : yaml_token_type_t)
+    → starts_node (wants_of place) k ≡ true → choice_at (state.optional place before) k ≡ Take
 optional_takes place before k h =
     ap (λ (b : Bool). if b then Leave else if starts_node (wants_of place) k then Take else Refuse (no_node (wants_of place)) None) (not_following place k h)
     ∙ ap (λ (b : Bool). if b then Take else Refuse (no_node (wants_of place)) None) h
 
-optional_node : (place : Site) (before : yaml_mark_t) (ts : List Token) (s : List State) (f : Option Fault) → Starts (wants_of place) ts
+optional_node : (place : Site) (before : yaml_mark_t) (ts : List Token) (s : List State)
+    (f : Option Fault) → Starts (wants_of place) ts
     → run ts (state.optional place before ∷ s) f ≡ run_node (wants_of place) ts s f
 unfolding run feed
 optional_node place before [] s f h = absurd h
 optional_node place before (t ∷ ts) s f h =
     ap (λ (c : Choice). carry (length ts) (turn c (state.optional place before) t s (feed s t)) (λ s'. run ts s' f)) (optional_takes place before (type_of t.body) h)
 
-optional_wanted : (place : Site) (w : Wants) → wants_of place ≡ w → (before : yaml_mark_t) (ts : List Token) (s : List State) (f : Option Fault) → Starts w ts
+optional_wanted : (place : Site) (w : Wants) → wants_of place ≡ w
+    → (before : yaml_mark_t) (ts : List Token) (s : List State) (f : Option Fault) → Starts w ts
     → run ts (state.optional place before ∷ s) f ≡ run_node w ts s f
 optional_wanted place w e before ts s f =
     subst (λ (v : Wants). Starts v ts → run ts (state.optional place before ∷ s) f ≡ run_node v ts s f) e (optional_node place before ts s f)
 
-items_takes : (b : Brackets) (opener : yaml_mark_t) (k : yaml_token_type_t) → starts_node Flow k ≡ true → choice_at (state.items b opener) k ≡ Take
+items_takes : (b : Brackets) (opener : yaml_mark_t) (k : yaml_token_type_t)
+    → starts_node Flow k ≡ true → choice_at (state.items b opener) k ≡ Take
 items_takes b opener kind.YAML_KEY_TOKEN h = refl
 items_takes b opener kind.YAML_ALIAS_TOKEN h = ap (λ (x : Bool). if x then Take else Refuse problem.NoFlowNode None) (or-true (closes b kind.YAML_ALIAS_TOKEN))
 items_takes b opener kind.YAML_ANCHOR_TOKEN h = ap (λ (x : Bool). if x then Take else Refuse problem.NoFlowNode None) (or-true (closes b kind.YAML_ANCHOR_TOKEN))
@@ -259,22 +277,29 @@ items_takes b opener kind.YAML_FLOW_SEQUENCE_START_TOKEN h = ap (λ (x : Bool). 
 items_takes b opener kind.YAML_FLOW_MAPPING_START_TOKEN h = ap (λ (x : Bool). if x then Take else Refuse problem.NoFlowNode None) (or-true (closes b kind.YAML_FLOW_MAPPING_START_TOKEN))
 items_takes b opener _ h = cc
 
-items_node_taken : (b : Brackets) (opener start end : yaml_mark_t) (body : TokenBody) → starts_node Flow (type_of body) ≡ true
-    → items_taken b opener start end body ≡ above (lone_below b (state.more b opener ∷ [])) (node_taken Flow start end body)
+items_node_taken : (b : Brackets) (opener start end : yaml_mark_t) (body : TokenBody)
+    → starts_node Flow (type_of body) ≡ true
+    → items_taken b opener start end body
+    ≡ above (lone_below b (state.more b opener ∷ [])) (node_taken Flow start end body)
 items_node_taken b opener start end token.key h = cc
 items_node_taken b opener start end token.flow_sequence_end h = cc
 items_node_taken b opener start end token.flow_mapping_end h = cc
 items_node_taken b opener start end _ h = refl
 
-given_above_at : (below : List State) (i : Option RawEvent) (xs s : List State) → given_by (record { item = i; above = xs ++ below }) s ≡ given_by (record { item = i; above = xs }) (below ++ s)
+given_above_at : (below : List State) (i : Option RawEvent) (xs s : List State)
+    → given_by (record { item = i; above = xs ++ below }) s
+    ≡ given_by (record { item = i; above = xs }) (below ++ s)
 given_above_at below None xs s = ap (λ (s' : List State). go [] s') (append_assoc xs below s)
 given_above_at below (Some i) xs s = ap (λ (s' : List State). go (i ∷ []) s') (append_assoc xs below s)
 
-given_above : (below : List State) (x : Taken) (s : List State) → given_by (above below x) s ≡ given_by x (below ++ s)
+given_above : (below : List State) (x : Taken) (s : List State)
+    → given_by (above below x) s ≡ given_by x (below ++ s)
 given_above below x s = given_above_at below x.item x.above s
 
-lone_runs : (b : Brackets) (opener : yaml_mark_t) (ts : List Token) (s : List State) (f : Option Fault) → Starts Flow ts
-    → run ts (state.items b opener ∷ s) f ≡ run_node Flow ts (lone_below b (state.more b opener ∷ []) ++ s) f
+lone_runs : (b : Brackets) (opener : yaml_mark_t) (ts : List Token) (s : List State)
+    (f : Option Fault) → Starts Flow ts
+    → run ts (state.items b opener ∷ s) f
+    ≡ run_node Flow ts (lone_below b (state.more b opener ∷ []) ++ s) f
 unfolding run feed
 lone_runs b opener [] s f h = absurd h
 lone_runs b opener (t ∷ ts) s f h =
@@ -284,46 +309,59 @@ lone_runs b opener (t ∷ ts) s f h =
 
 -- ---- steps of states that hold collections
 
-pub step_take : (x : State) (t : Token) (ts : List Token) (s : List State) (f : Option Fault) → choice_at x (type_of t.body) ≡ Take
+pub step_take : (x : State) (t : Token) (ts : List Token) (s : List State) (f : Option Fault)
+    → choice_at x (type_of t.body) ≡ Take
     → run (t ∷ ts) (x ∷ s) f ≡ carry (length ts) (given_by (taken_at x t) s) (λ s'. run ts s' f)
 unfolding run feed
 step_take x t ts s f h = ap (λ (c : Choice). carry (length ts) (turn c x t s (feed s t)) (λ s'. run ts s' f)) h
 
 entries_close : (p : Span) (o : yaml_mark_t) (rest : List Token) (s : List State) (f : Option Fault)
-    → run (token_at token.block_end p ∷ rest) (state.entries o ∷ s) f ≡ giving (items_entries (tree.end_entries p) rest) (run rest s f)
+    → run (token_at token.block_end p ∷ rest) (state.entries o ∷ s) f
+    ≡ giving (items_entries (tree.end_entries p) rest) (run rest s f)
 entries_close p o rest s f = step_take (state.entries o) _ rest s f refl
 
 entry_opens : (p : Span) (o : yaml_mark_t) (ts : List Token) (s : List State) (f : Option Fault)
-    → run (token_at token.block_entry p ∷ ts) (state.entries o ∷ s) f ≡ run ts (state.optional Entry p.to ∷ state.entries o ∷ s) f
+    → run (token_at token.block_entry p ∷ ts) (state.entries o ∷ s) f
+    ≡ run ts (state.optional Entry p.to ∷ state.entries o ∷ s) f
 entry_opens p o ts s f = step_take (state.entries o) _ ts s f refl
 
 other_opens : (p : Span) (side : Side) (ts : List Token) (s : List State) (f : Option Fault)
-    → run (token_at token.block_entry p ∷ ts) (state.others side ∷ s) f ≡ run ts (state.optional (IndentlessEntry side) p.to ∷ state.others side ∷ s) f
+    → run (token_at token.block_entry p ∷ ts) (state.others side ∷ s) f
+    ≡ run ts (state.optional (IndentlessEntry side) p.to ∷ state.others side ∷ s) f
 other_opens p side ts s f = step_take (state.others side) _ ts s f refl
 
 pairs_close : (p : Span) (o : yaml_mark_t) (rest : List Token) (s : List State) (f : Option Fault)
-    → run (token_at token.block_end p ∷ rest) (state.pairs o ∷ s) f ≡ giving (items_pairs (tree.end_pairs p) rest) (run rest s f)
+    → run (token_at token.block_end p ∷ rest) (state.pairs o ∷ s) f
+    ≡ giving (items_pairs (tree.end_pairs p) rest) (run rest s f)
 pairs_close p o rest s f = step_take (state.pairs o) _ rest s f refl
 
 pair_opens : (p : Span) (o : yaml_mark_t) (ts : List Token) (s : List State) (f : Option Fault)
-    → run (token_at token.key p ∷ ts) (state.pairs o ∷ s) f ≡ run ts (state.optional (BlockPair Key) p.to ∷ state.colon (BlockPair Value) ∷ state.pairs o ∷ s) f
+    → run (token_at token.key p ∷ ts) (state.pairs o ∷ s) f
+    ≡ run ts (state.optional (BlockPair Key) p.to ∷ state.colon (BlockPair Value) ∷ state.pairs o
+    ∷ s) f
 pair_opens p o ts s f = step_take (state.pairs o) _ ts s f refl
 
 colon_opens : (p : Span) (place : Site) (ts : List Token) (s : List State) (f : Option Fault)
-    → run (token_at token.value p ∷ ts) (state.colon place ∷ s) f ≡ run ts (state.optional place p.to ∷ s) f
+    → run (token_at token.value p ∷ ts) (state.colon place ∷ s) f
+    ≡ run ts (state.optional place p.to ∷ s) f
 colon_opens p place ts s f = step_take (state.colon place) _ ts s f refl
 
-items_close : (b : Brackets) (p : Span) (o : yaml_mark_t) (rest : List Token) (s : List State) (f : Option Fault)
-    → run (token_at (closing b) p ∷ rest) (state.items b o ∷ s) f ≡ giving (items_items b (tree.end_items p) rest) (run rest s f)
+items_close : (b : Brackets) (p : Span) (o : yaml_mark_t) (rest : List Token) (s : List State)
+    (f : Option Fault)
+    → run (token_at (closing b) p ∷ rest) (state.items b o ∷ s) f
+    ≡ giving (items_items b (tree.end_items p) rest) (run rest s f)
 items_close brackets.Sequence p o rest s f = step_take (state.items brackets.Sequence o) _ rest s f refl
 items_close brackets.Mapping p o rest s f = step_take (state.items brackets.Mapping o) _ rest s f refl
 
-more_close : (b : Brackets) (p : Span) (o : yaml_mark_t) (rest : List Token) (s : List State) (f : Option Fault)
-    → run (token_at (closing b) p ∷ rest) (state.more b o ∷ s) f ≡ giving (items_more b (tree.end_more p) rest) (run rest s f)
+more_close : (b : Brackets) (p : Span) (o : yaml_mark_t) (rest : List Token) (s : List State)
+    (f : Option Fault)
+    → run (token_at (closing b) p ∷ rest) (state.more b o ∷ s) f
+    ≡ giving (items_more b (tree.end_more p) rest) (run rest s f)
 more_close brackets.Sequence p o rest s f = step_take (state.more brackets.Sequence o) _ rest s f refl
 more_close brackets.Mapping p o rest s f = step_take (state.more brackets.Mapping o) _ rest s f refl
 
-comma_opens : (b : Brackets) (p : Span) (o : yaml_mark_t) (ts : List Token) (s : List State) (f : Option Fault)
+comma_opens : (b : Brackets) (p : Span) (o : yaml_mark_t) (ts : List Token) (s : List State)
+    (f : Option Fault)
     → run (token_at token.flow_entry p ∷ ts) (state.more b o ∷ s) f ≡ run ts (state.items b o ∷ s) f
 comma_opens b p o ts s f = step_take (state.more b o) _ ts s f refl
 
@@ -332,9 +370,12 @@ abbrev pair_below : Brackets → List State → List State
 pair_below brackets.Sequence s = state.pair_end ∷ s
 pair_below brackets.Mapping s = s
 
-flow_pair_opens : (b : Brackets) (p : Span) (o : yaml_mark_t) (ts : List Token) (s : List State) (f : Option Fault)
+flow_pair_opens : (b : Brackets) (p : Span) (o : yaml_mark_t) (ts : List Token) (s : List State)
+    (f : Option Fault)
     → run (token_at token.key p ∷ ts) (state.items b o ∷ s) f
-    ≡ giving (pair_start b p ts) (run ts (state.optional (FlowPair b Key) p.to ∷ state.colon (FlowPair b Value) ∷ pair_below b (state.more b o ∷ s)) f)
+    ≡ giving (pair_start b p ts) (run ts
+    (state.optional (FlowPair b Key) p.to ∷ state.colon (FlowPair b Value)
+    ∷ pair_below b (state.more b o ∷ s)) f)
 flow_pair_opens brackets.Sequence p o ts s f = step_take (state.items brackets.Sequence o) _ ts s f refl
 flow_pair_opens brackets.Mapping p o ts s f = step_take (state.items brackets.Mapping o) _ ts s f refl
 
@@ -345,25 +386,30 @@ more_ends brackets.Sequence (tree.end_more p) rest = refl
 more_ends brackets.Mapping (tree.end_more p) rest = refl
 more_ends b (tree.comma p i) rest = refl
 
-more_follows : (b : Brackets) (side : Side) (m : More) (rest : List Token) → Follows (FlowPair b side) (spell_more b m rest)
+more_follows : (b : Brackets) (side : Side) (m : More) (rest : List Token)
+    → Follows (FlowPair b side) (spell_more b m rest)
 more_follows brackets.Sequence side (tree.end_more p) rest = refl
 more_follows brackets.Mapping side (tree.end_more p) rest = refl
 more_follows b side (tree.comma p i) rest = refl
 
-colon_follows : (b : Brackets) (v : Colon Flow) (m : More) (rest : List Token) → Follows (FlowPair b Key) (spell_colon v (spell_more b m rest))
+colon_follows : (b : Brackets) (v : Colon Flow) (m : More) (rest : List Token)
+    → Follows (FlowPair b Key) (spell_colon v (spell_more b m rest))
 colon_follows b tree.no_colon m rest = more_follows b Key m rest
 colon_follows b (tree.colon p v) m rest = refl
 
-more_leaves : (b b' : Brackets) (m : More) (rest : List Token) → Leaves (state.colon (FlowPair b' Value)) (spell_more b m rest)
+more_leaves : (b b' : Brackets) (m : More) (rest : List Token)
+    → Leaves (state.colon (FlowPair b' Value)) (spell_more b m rest)
 more_leaves brackets.Sequence b' (tree.end_more p) rest = refl
 more_leaves brackets.Mapping b' (tree.end_more p) rest = refl
 more_leaves b b' (tree.comma p i) rest = refl
 
-pair_end_leaves : (b : Brackets) (m : More) (rest : List Token) → Leaves state.pair_end (spell_more b m rest)
+pair_end_leaves : (b : Brackets) (m : More) (rest : List Token)
+    → Leaves state.pair_end (spell_more b m rest)
 pair_end_leaves b (tree.end_more p) rest = refl
 pair_end_leaves b (tree.comma p i) rest = refl
 
-lone_leaves : (b : Brackets) (m : More) (rest : List Token) → Leaves state.lone (spell_more b m rest)
+lone_leaves : (b : Brackets) (m : More) (rest : List Token)
+    → Leaves state.lone (spell_more b m rest)
 lone_leaves b (tree.end_more p) rest = refl
 lone_leaves b (tree.comma p i) rest = refl
 
@@ -371,57 +417,69 @@ entries_follow : (e : Entries) (rest : List Token) → Follows Entry (spell_entr
 entries_follow (tree.end_entries p) rest = refl
 entries_follow (tree.entry p n e) rest = refl
 
-pairs_follow : (side : Side) (m : Pairs) (rest : List Token) → Follows (BlockPair side) (spell_pairs m rest)
+pairs_follow : (side : Side) (m : Pairs) (rest : List Token)
+    → Follows (BlockPair side) (spell_pairs m rest)
 pairs_follow side (tree.end_pairs p) rest = refl
 pairs_follow side (tree.block_pair p key v m) rest = refl
 
-pairs_leave : (m : Pairs) (rest : List Token) → Leaves (state.colon (BlockPair Value)) (spell_pairs m rest)
+pairs_leave : (m : Pairs) (rest : List Token)
+    → Leaves (state.colon (BlockPair Value)) (spell_pairs m rest)
 pairs_leave (tree.end_pairs p) rest = refl
 pairs_leave (tree.block_pair p key v m) rest = refl
 
-block_colon_follows : (v : Colon (Block (Some Value))) (m : Pairs) (rest : List Token) → Follows (BlockPair Key) (spell_colon v (spell_pairs m rest))
+block_colon_follows : (v : Colon (Block (Some Value))) (m : Pairs) (rest : List Token)
+    → Follows (BlockPair Key) (spell_colon v (spell_pairs m rest))
 block_colon_follows tree.no_colon m rest = pairs_follow Key m rest
 block_colon_follows (tree.colon p v) m rest = refl
 
-others_follow_at : (side : Side) (k : yaml_token_type_t) → follows (BlockPair side) k ≡ true → follows (IndentlessEntry side) k ≡ true
+others_follow_at : (side : Side) (k : yaml_token_type_t) → follows (BlockPair side) k ≡ true
+    → follows (IndentlessEntry side) k ≡ true
 others_follow_at side kind.YAML_KEY_TOKEN h = refl
 others_follow_at side kind.YAML_BLOCK_END_TOKEN h = refl
 others_follow_at Key kind.YAML_VALUE_TOKEN h = refl
 others_follow_at Value kind.YAML_VALUE_TOKEN h = cc
 others_follow_at side _ h = cc
 
-others_follow_none : (side : Side) (ts : List Token) → Ends (Block (Some side)) ts → Follows (IndentlessEntry side) ts
+others_follow_none : (side : Side) (ts : List Token) → Ends (Block (Some side)) ts
+    → Follows (IndentlessEntry side) ts
 others_follow_none side [] h = h
 others_follow_none side (t ∷ ts) h = others_follow_at side (type_of t.body) h
 
-others_follow : (side : Side) (o : Others) (rest : List Token) → Ends (Block (Some side)) rest → Follows (IndentlessEntry side) (spell_others o rest)
+others_follow : (side : Side) (o : Others) (rest : List Token) → Ends (Block (Some side)) rest
+    → Follows (IndentlessEntry side) (spell_others o rest)
 others_follow side tree.no_others rest h = others_follow_none side rest h
 others_follow side (tree.other p n o) rest h = refl
 
-others_leave_at : (side : Side) (k : yaml_token_type_t) → follows (BlockPair side) k ≡ true → choice_at (state.others side) k ≡ Leave
+others_leave_at : (side : Side) (k : yaml_token_type_t) → follows (BlockPair side) k ≡ true
+    → choice_at (state.others side) k ≡ Leave
 others_leave_at side kind.YAML_KEY_TOKEN h = refl
 others_leave_at side kind.YAML_BLOCK_END_TOKEN h = refl
 others_leave_at side kind.YAML_VALUE_TOKEN h = refl
 others_leave_at side _ h = cc
 
-others_leave : (side : Side) (ts : List Token) → Ends (Block (Some side)) ts → Leaves (state.others side) ts
+others_leave : (side : Side) (ts : List Token) → Ends (Block (Some side)) ts
+    → Leaves (state.others side) ts
 others_leave side [] h = h
 others_leave side (t ∷ ts) h = others_leave_at side (type_of t.body) h
 
 -- ---- nodes
 
-lone_behind : (b : Brackets) (m : More) (rest : List Token) (s : List State) (f : Option Fault) (o : yaml_mark_t)
-    → run (spell_more b m rest) (lone_below b (state.more b o ∷ []) ++ s) f ≡ giving (lone b (spell_more b m rest)) (run (spell_more b m rest) (state.more b o ∷ s) f)
+lone_behind : (b : Brackets) (m : More) (rest : List Token) (s : List State) (f : Option Fault)
+    (o : yaml_mark_t)
+    → run (spell_more b m rest) (lone_below b (state.more b o ∷ []) ++ s) f
+    ≡ giving (lone b (spell_more b m rest)) (run (spell_more b m rest) (state.more b o ∷ s) f)
 lone_behind brackets.Sequence m rest s f o = refl
 lone_behind brackets.Mapping m rest s f o = leaves state.lone (spell_more brackets.Mapping m rest) (state.more brackets.Mapping o ∷ s) f (lone_leaves brackets.Mapping m rest)
 
 pair_behind : (b : Brackets) (m : More) (rest : List Token) (s : List State) (f : Option Fault)
-    → run (spell_more b m rest) (pair_below b s) f ≡ giving (pair_end b (spell_more b m rest)) (run (spell_more b m rest) s f)
+    → run (spell_more b m rest) (pair_below b s) f
+    ≡ giving (pair_end b (spell_more b m rest)) (run (spell_more b m rest) s f)
 pair_behind brackets.Sequence m rest s f = leaves state.pair_end (spell_more brackets.Sequence m rest) s f (pair_end_leaves brackets.Sequence m rest)
 pair_behind brackets.Mapping m rest s f = refl
 
 mutual
-  pub node_runs : {w : Wants} (n : Node w) (rest : List Token) (s : List State) (f : Option Fault) → Ends w rest
+  pub node_runs : {w : Wants} (n : Node w) (rest : List Token) (s : List State) (f : Option Fault)
+      → Ends w rest
       → run_node w (spell_node n rest) s f ≡ giving (items_node n rest) (run rest s f)
   node_runs (tree.alias p name) rest s f h = refl
   node_runs {w = w} (tree.only_properties d) rest s f h =
@@ -430,7 +488,8 @@ mutual
       properties_run d w (spell_content c rest) s f ∙ with_properties_content c (properties_of d) rest s f ∙ content_runs c (Some (properties_of d)) rest s f h
   node_runs (tree.bare c) rest s f h = bare_content c rest s f ∙ content_runs c None rest s f h
 
-  pub content_runs : {w : Wants} (c : Content w) (p : Option Properties) (rest : List Token) (s : List State) (f : Option Fault) → Ends w rest
+  pub content_runs : {w : Wants} (c : Content w) (p : Option Properties) (rest : List Token)
+      (s : List State) (f : Option Fault) → Ends w rest
       → run_content w p (spell_content c rest) s f ≡ giving (items_content c p rest) (run rest s f)
   content_runs (tree.scalar n v style) p rest s f h = refl
   content_runs (tree.flow brackets.Sequence n is) p rest s f h =
@@ -448,19 +507,27 @@ mutual
       (maybe_runs m (IndentlessEntry side) refl n.to (spell_others o rest) (state.others side ∷ s) f (others_follow side o rest h)
       ∙ ap (giving (items_maybe m (IndentlessEntry side) n.to (spell_others o rest))) (others_run o side rest s f h))
 
-  pub maybe_runs : {w : Wants} (m : Maybe w) (place : Site) → wants_of place ≡ w → (before : yaml_mark_t) (rest : List Token) (s : List State) (f : Option Fault) → Follows place rest
-      → run (spell_maybe m rest) (state.optional place before ∷ s) f ≡ giving (items_maybe m place before rest) (run rest s f)
+  pub maybe_runs : {w : Wants} (m : Maybe w) (place : Site) → wants_of place ≡ w
+      → (before : yaml_mark_t) (rest : List Token) (s : List State) (f : Option Fault)
+      → Follows place rest
+      → run (spell_maybe m rest) (state.optional place before ∷ s) f
+      ≡ giving (items_maybe m place before rest) (run rest s f)
   maybe_runs tree.left_out place e before rest s f h = leaves (state.optional place before) rest s f (follows_leaves place before rest h)
   maybe_runs {w = w} (tree.there n) place e before rest s f h =
       optional_wanted place w e before (spell_node n rest) s f (node_starts n rest) ∙ node_runs n rest s f (subst (λ (v : Wants). Ends v rest) e (follows_ends place rest h))
 
-  pub colon_runs : {w : Wants} (v : Colon w) (place : Site) → wants_of place ≡ w → (rest : List Token) (s : List State) (f : Option Fault) → Leaves (state.colon place) rest → Follows place rest
-      → run (spell_colon v rest) (state.colon place ∷ s) f ≡ giving (items_colon v place rest) (run rest s f)
+  pub colon_runs : {w : Wants} (v : Colon w) (place : Site) → wants_of place ≡ w
+      → (rest : List Token) (s : List State) (f : Option Fault) → Leaves (state.colon place) rest
+      → Follows place rest
+      → run (spell_colon v rest) (state.colon place ∷ s) f
+      ≡ giving (items_colon v place rest) (run rest s f)
   colon_runs tree.no_colon place e rest s f l h = leaves (state.colon place) rest s f l
   colon_runs (tree.colon p m) place e rest s f l h = colon_opens p place (spell_maybe m rest) s f ∙ maybe_runs m place e p.to rest s f h
 
-  pub items_run : (i : Items) (b : Brackets) (o : yaml_mark_t) (rest : List Token) (s : List State) (f : Option Fault)
-      → run (spell_items b i rest) (state.items b o ∷ s) f ≡ giving (items_items b i rest) (run rest s f)
+  pub items_run : (i : Items) (b : Brackets) (o : yaml_mark_t) (rest : List Token) (s : List State)
+      (f : Option Fault)
+      → run (spell_items b i rest) (state.items b o ∷ s) f
+      ≡ giving (items_items b i rest) (run rest s f)
   items_run (tree.end_items p) b o rest s f = items_close b p o rest s f
   items_run (tree.single n m) b o rest s f =
       lone_runs b o (spell_node n (spell_more b m rest)) s f (node_starts n (spell_more b m rest))
@@ -476,28 +543,35 @@ mutual
       ∙ ap (giving (items_colon v (FlowPair b Value) (spell_more b m rest)))
       (pair_behind b m rest (state.more b o ∷ s) f ∙ ap (giving (pair_end b (spell_more b m rest))) (more_runs m b o rest s f))))
 
-  pub more_runs : (m : More) (b : Brackets) (o : yaml_mark_t) (rest : List Token) (s : List State) (f : Option Fault)
-      → run (spell_more b m rest) (state.more b o ∷ s) f ≡ giving (items_more b m rest) (run rest s f)
+  pub more_runs : (m : More) (b : Brackets) (o : yaml_mark_t) (rest : List Token) (s : List State)
+      (f : Option Fault)
+      → run (spell_more b m rest) (state.more b o ∷ s) f
+      ≡ giving (items_more b m rest) (run rest s f)
   more_runs (tree.end_more p) b o rest s f = more_close b p o rest s f
   more_runs (tree.comma p i) b o rest s f = comma_opens b p o (spell_items b i rest) s f ∙ items_run i b o rest s f
 
-  pub entries_run : (e : Entries) (o : yaml_mark_t) (rest : List Token) (s : List State) (f : Option Fault)
-      → run (spell_entries e rest) (state.entries o ∷ s) f ≡ giving (items_entries e rest) (run rest s f)
+  pub entries_run : (e : Entries) (o : yaml_mark_t) (rest : List Token) (s : List State)
+      (f : Option Fault)
+      → run (spell_entries e rest) (state.entries o ∷ s) f
+      ≡ giving (items_entries e rest) (run rest s f)
   entries_run (tree.end_entries p) o rest s f = entries_close p o rest s f
   entries_run (tree.entry p m e) o rest s f =
       entry_opens p o (spell_maybe m (spell_entries e rest)) s f
       ∙ maybe_runs m Entry refl p.to (spell_entries e rest) (state.entries o ∷ s) f (entries_follow e rest)
       ∙ ap (giving (items_maybe m Entry p.to (spell_entries e rest))) (entries_run e o rest s f)
 
-  pub others_run : (o : Others) (side : Side) (rest : List Token) (s : List State) (f : Option Fault) → Ends (Block (Some side)) rest
-      → run (spell_others o rest) (state.others side ∷ s) f ≡ giving (items_others side o rest) (run rest s f)
+  pub others_run : (o : Others) (side : Side) (rest : List Token) (s : List State)
+      (f : Option Fault) → Ends (Block (Some side)) rest
+      → run (spell_others o rest) (state.others side ∷ s) f
+      ≡ giving (items_others side o rest) (run rest s f)
   others_run tree.no_others side rest s f h = leaves (state.others side) rest s f (others_leave side rest h)
   others_run (tree.other p m o) side rest s f h =
       other_opens p side (spell_maybe m (spell_others o rest)) s f
       ∙ maybe_runs m (IndentlessEntry side) refl p.to (spell_others o rest) (state.others side ∷ s) f (others_follow side o rest h)
       ∙ ap (giving (items_maybe m (IndentlessEntry side) p.to (spell_others o rest))) (others_run o side rest s f h)
 
-  pub pairs_run : (m : Pairs) (o : yaml_mark_t) (rest : List Token) (s : List State) (f : Option Fault)
+  pub pairs_run : (m : Pairs) (o : yaml_mark_t) (rest : List Token) (s : List State)
+      (f : Option Fault)
       → run (spell_pairs m rest) (state.pairs o ∷ s) f ≡ giving (items_pairs m rest) (run rest s f)
   pairs_run (tree.end_pairs p) o rest s f = pairs_close p o rest s f
   pairs_run (tree.block_pair p key v m) o rest s f =

@@ -28,23 +28,27 @@ documents_follow (tree.document [] p n e d) rest = refl
 documents_follow (tree.document (tree.version q major minor ∷ ds) p n e d) rest = refl
 documents_follow (tree.document (tree.handle q name prefix ∷ ds) p n e d) rest = refl
 
-root_follows : (e : List Span) (d : Documents) (rest : List Token) → Follows Root (spell_ends e (spell_documents d rest))
+root_follows : (e : List Span) (d : Documents) (rest : List Token)
+    → Follows Root (spell_ends e (spell_documents d rest))
 root_follows [] d rest = documents_follow d rest
 root_follows (p ∷ e) d rest = refl
 
-document_leaves : (d : Documents) (rest : List Token) → Leaves state.document_end (spell_documents d rest)
+document_leaves : (d : Documents) (rest : List Token)
+    → Leaves state.document_end (spell_documents d rest)
 document_leaves (tree.end_stream p) rest = refl
 document_leaves (tree.document [] p n e d) rest = refl
 document_leaves (tree.document (tree.version q major minor ∷ ds) p n e d) rest = refl
 document_leaves (tree.document (tree.handle q name prefix ∷ ds) p n e d) rest = refl
 
-skips_ends : (e : List Span) (rest : List Token) (s : List State) (f : Option Fault) → run (spell_ends e rest) (state.documents ∷ s) f ≡ run rest (state.documents ∷ s) f
+skips_ends : (e : List Span) (rest : List Token) (s : List State) (f : Option Fault)
+    → run (spell_ends e rest) (state.documents ∷ s) f ≡ run rest (state.documents ∷ s) f
 skips_ends [] rest s f = refl
 skips_ends (p ∷ e) rest s f = step_take state.documents _ (spell_ends e rest) s f refl ∙ skips_ends e rest s f
 
 ends_run : (e : List Span) (d : Documents) (rest : List Token) (f : Option Fault)
     → run (spell_ends e (spell_documents d rest)) (state.document_end ∷ state.documents ∷ []) f
-    ≡ giving (items_ends e (spell_documents d rest)) (run (spell_documents d rest) (state.documents ∷ []) f)
+    ≡ giving (items_ends e (spell_documents d rest))
+    (run (spell_documents d rest) (state.documents ∷ []) f)
 ends_run [] d rest f = leaves state.document_end (spell_documents d rest) (state.documents ∷ []) f (document_leaves d rest)
 ends_run (p ∷ e) d rest f =
     step_take state.document_end _ (spell_ends e (spell_documents d rest)) (state.documents ∷ []) f refl
@@ -54,9 +58,12 @@ ends_run (p ∷ e) d rest f =
 abbrev starting : yaml_mark_t → Span → List Token → List Given → List Given
 starting from p ts more = (item_at (item.document false) from p.to, length ts) ∷ more
 
-directives_run : (ds : List Directive) (from : yaml_mark_t) (p : Span) (ts : List Token) (f : Option Fault)
-    → run (spell_directives ds (token_at token.document_start p ∷ ts)) (state.directives from ∷ []) f
-    ≡ giving (items_directives ds (token_at token.document_start p ∷ ts)) (giving (starting from p ts) (run ts (opened p.to) f))
+directives_run : (ds : List Directive) (from : yaml_mark_t) (p : Span) (ts : List Token)
+    (f : Option Fault)
+    → run (spell_directives ds (token_at token.document_start p ∷ ts)) (state.directives from ∷ [])
+    f
+    ≡ giving (items_directives ds (token_at token.document_start p ∷ ts))
+    (giving (starting from p ts) (run ts (opened p.to) f))
 directives_run [] from p ts f = step_take (state.directives from) _ ts [] f refl
 directives_run (tree.version q major minor ∷ ds) from p ts f =
     step_take (state.directives from) _ (spell_directives ds (token_at token.document_start p ∷ ts)) [] f refl
@@ -69,7 +76,8 @@ directives_run (tree.handle q name prefix ∷ ds) from p ts f =
 
 explicit_opens : (ds : List Directive) (p : Span) (ts : List Token) (f : Option Fault)
     → run (spell_directives ds (token_at token.document_start p ∷ ts)) (state.documents ∷ []) f
-    ≡ giving (items_directives ds (token_at token.document_start p ∷ ts)) (giving (starting (start_of ds p) p ts) (run ts (opened p.to) f))
+    ≡ giving (items_directives ds (token_at token.document_start p ∷ ts))
+    (giving (starting (start_of ds p) p ts) (run ts (opened p.to) f))
 explicit_opens [] p ts f = step_take state.documents _ ts [] f refl
 explicit_opens (tree.version q major minor ∷ ds) p ts f =
     step_take state.documents _ (spell_directives ds (token_at token.document_start p ∷ ts)) [] f refl
@@ -87,7 +95,8 @@ nothing_runs [] (Some f) = refl
 nothing_runs (t ∷ ts) f = nothing_runs ts f
 
 documents_run : (d : Documents) (rest : List Token) (f : Option Fault)
-    → run (spell_documents d rest) (state.documents ∷ []) f ≡ record { items = items_documents d rest; ending = None }
+    → run (spell_documents d rest) (state.documents ∷ []) f
+    ≡ record { items = items_documents d rest; ending = None }
 documents_run (tree.end_stream p) rest f =
     step_take state.documents _ rest [] f refl
     ∙ ap (giving (λ (more : List Given). (event_at event.stream_end p.from p.to, length rest) ∷ more)) (nothing_runs rest f)
@@ -101,19 +110,22 @@ documents_run (tree.document ds p n e d) rest f =
 
 -- before the first document
 first_without : (d : Documents) (rest : List Token) (f : Option Fault)
-    → run (spell_documents d rest) (state.first ∷ []) f ≡ run (spell_documents d rest) (state.documents ∷ []) f
+    → run (spell_documents d rest) (state.first ∷ []) f
+    ≡ run (spell_documents d rest) (state.documents ∷ []) f
 unfolding run feed
 first_without (tree.end_stream p) rest f = refl
 first_without (tree.document [] p n e d) rest f = refl
 first_without (tree.document (tree.version q major minor ∷ ds) p n e d) rest f = refl
 first_without (tree.document (tree.handle q name prefix ∷ ds) p n e d) rest f = refl
 
-first_opens_at : (k : yaml_token_type_t) → starts_node (Block None) k ≡ true → choice_at state.first k ≡ Open
+first_opens_at : (k : yaml_token_type_t) → starts_node (Block None) k ≡ true
+    → choice_at state.first k ≡ Open
 first_opens_at k h =
     ap (λ (b : Bool). if b then Take else if starts_node (Block None) k then Open else Refuse problem.NoBlockNode None) (not_parting k h)
     ∙ ap (λ (b : Bool). if b then Open else Refuse problem.NoBlockNode None) h
   where
-    not_parting : (k : yaml_token_type_t) → starts_node (Block None) k ≡ true → parts_documents k ≡ false
+    not_parting : (k : yaml_token_type_t) → starts_node (Block None) k ≡ true
+        → parts_documents k ≡ false
     not_parting kind.YAML_STREAM_END_TOKEN h = cc
     not_parting kind.YAML_VERSION_DIRECTIVE_TOKEN h = cc
     not_parting kind.YAML_TAG_DIRECTIVE_TOKEN h = cc
@@ -124,7 +136,8 @@ abbrev implicit : List Token → List Given → List Given
 implicit ts more = (item_at (item.document true) (next ts) (next ts), behind ts) ∷ more
 
 first_opens : (ts : List Token) (f : Option Fault) → Starts (Block None) ts
-    → run ts (state.first ∷ []) f ≡ giving (implicit ts) (run_node (Block None) ts (state.document_end ∷ state.documents ∷ []) f)
+    → run ts (state.first ∷ []) f ≡ giving (implicit ts)
+    (run_node (Block None) ts (state.document_end ∷ state.documents ∷ []) f)
 unfolding run feed
 first_opens [] f h = absurd h
 first_opens (t ∷ ts) f h =
@@ -134,7 +147,11 @@ first_opens (t ∷ ts) f h =
 
 first_runs : (x : First) (d : Documents) (rest : List Token) (f : Option Fault)
     → run (spell_first x (spell_documents d rest)) (state.first ∷ []) f
-    ≡ record { items = items_first x (spell_documents d rest) (items_documents d rest); ending = None }
+    ≡ record {
+      items = items_first x (spell_documents d rest) (items_documents d rest);
+      ending =
+          None;
+    }
 first_runs tree.no_first d rest f = first_without d rest f ∙ documents_run d rest f
 first_runs (tree.first n e) d rest f =
     first_opens (spell_node n (spell_ends e (spell_documents d rest))) f (node_starts n (spell_ends e (spell_documents d rest)))

@@ -51,7 +51,8 @@ opens_at_a_token (state.more brackets.Sequence o) h = cc
 opens_at_a_token (state.more brackets.Mapping o) h = cc
 opens_at_a_token _ h = cc
 
-turn_empties : (c : Choice) (x : State) (t : Token) (s : List State) (below : Fed) → (c ≡ Take → ⊥) → (c ≡ Open → ⊥) → Emptied below → Emptied (turn c x t s below)
+turn_empties : (c : Choice) (x : State) (t : Token) (s : List State) (below : Fed) → (c ≡ Take → ⊥)
+    → (c ≡ Open → ⊥) → Emptied below → Emptied (turn c x t s below)
 turn_empties (Refuse p o) x t s below a b h = tt
 turn_empties Take x t s below a b h = absurd (a refl)
 turn_empties Leave x t s below a b h = emptied_with (left_at x t.start_mark) below h
@@ -62,7 +63,8 @@ unfolding feed
 emptied [] = refl
 emptied (x ∷ s) = turn_empties (choice_at x kind.YAML_NO_TOKEN) x no_token s (feed s no_token) (takes_a_token x) (opens_at_a_token x) (emptied s)
 
-carry_emptied : (fed : Fed) → Emptied fed → carry 0 fed (λ _. finished) ≡ carry 0 fed (λ s. run [] s None)
+carry_emptied : (fed : Fed) → Emptied fed
+    → carry 0 fed (λ _. finished) ≡ carry 0 fed (λ s. run [] s None)
 unfolding run feed
 carry_emptied (stop is f) h = refl
 carry_emptied (go is s) h = rw h refl
@@ -72,7 +74,8 @@ unfolding run
 unfinished s = carry_emptied (feed s no_token) (emptied s)
 
 -- the front of a source's list
-pub front_runs : (ts : List Token) (f : Option Fault) → MayAnswer ts f → (s : List State) → run (front_of ts ∷ rest_of ts) s f ≡ run ts s f
+pub front_runs : (ts : List Token) (f : Option Fault) → MayAnswer ts f → (s : List State)
+    → run (front_of ts ∷ rest_of ts) s f ≡ run ts s f
 front_runs [] f h s = rw h (sym (unfinished s))
 front_runs (t ∷ ts) f h s = refl
 
@@ -82,21 +85,29 @@ ending_runs s f = refl
 
 -- ---- one step
 
-pub refuses : (x : State) (p : ParseProblem) (o : Option yaml_mark_t) (t : Token) (ts : List Token) (s : List State) (f : Option Fault) → choice_at x (type_of t.body) ≡ Refuse p o
-    → run (t ∷ ts) (x ∷ s) f ≡ record { items = []; ending = Some (parser_fault p t.start_mark (context_of o t.start_mark)) }
+pub refuses : (x : State) (p : ParseProblem) (o : Option yaml_mark_t) (t : Token) (ts : List Token)
+    (s : List State) (f : Option Fault) → choice_at x (type_of t.body) ≡ Refuse p o
+    → run (t ∷ ts) (x ∷ s) f ≡ record
+    { items = []; ending = Some (parser_fault p t.start_mark (context_of o t.start_mark)) }
 unfolding run feed
 refuses x p o t ts s f h = ap (λ (c : Choice). carry (length ts) (turn c x t s (feed s t)) (λ s'. run ts s' f)) h
 
-pub takes : (x : State) (i : RawEvent) (above : List State) (t : Token) (ts : List Token) (s : List State) (f : Option Fault) → choice_at x (type_of t.body) ≡ Take
-    → taken_at x t ≡ record { item = Some i; above = above } → run (t ∷ ts) (x ∷ s) f ≡ giving (λ (more : List Given). (i, length ts) ∷ more) (run ts (above ++ s) f)
+pub takes : (x : State) (i : RawEvent) (above : List State) (t : Token) (ts : List Token)
+    (s : List State) (f : Option Fault) → choice_at x (type_of t.body) ≡ Take
+    → taken_at x t ≡ record { item = Some i; above = above }
+    → run (t ∷ ts) (x ∷ s) f ≡ giving (λ (more : List Given). (i, length ts) ∷ more)
+    (run ts (above ++ s) f)
 takes x i above t ts s f h k = step_take x t ts s f h ∙ ap (λ (y : Taken). carry (length ts) (given_by y s) (λ s'. run ts s' f)) k
 
-pub takes_silently : (x : State) (above : List State) (t : Token) (ts : List Token) (s : List State) (f : Option Fault) → choice_at x (type_of t.body) ≡ Take
-    → taken_at x t ≡ record { item = None; above = above } → run (t ∷ ts) (x ∷ s) f ≡ run ts (above ++ s) f
+pub takes_silently : (x : State) (above : List State) (t : Token) (ts : List Token) (s : List State)
+    (f : Option Fault) → choice_at x (type_of t.body) ≡ Take
+    → taken_at x t ≡ record { item = None; above = above }
+    → run (t ∷ ts) (x ∷ s) f ≡ run ts (above ++ s) f
 takes_silently x above t ts s f h k = step_take x t ts s f h ∙ ap (λ (y : Taken). carry (length ts) (given_by y s) (λ s'. run ts s' f)) k
 
 -- a document opens only before a node
-take_or_refuse : (b : Bool) (p : ParseProblem) (o : Option yaml_mark_t) → (if b then Take else Refuse p o) ≡ Open → ⊥
+take_or_refuse : (b : Bool) (p : ParseProblem) (o : Option yaml_mark_t)
+    → (if b then Take else Refuse p o) ≡ Open → ⊥
 take_or_refuse true p o h = cc
 take_or_refuse false p o h = cc
 
@@ -104,17 +115,20 @@ take_or_leave : (b : Bool) → (if b then Take else Leave) ≡ Open → ⊥
 take_or_leave true h = cc
 take_or_leave false h = cc
 
-leave_or : (a b : Bool) (p : ParseProblem) → (if a then Leave else if b then Take else Refuse p None) ≡ Open → ⊥
+leave_or : (a b : Bool) (p : ParseProblem)
+    → (if a then Leave else if b then Take else Refuse p None) ≡ Open → ⊥
 leave_or true b p h = cc
 leave_or false true p h = cc
 leave_or false false p h = cc
 
-take_or : (a b : Bool) (p : ParseProblem) → (if a then Take else if b then Open else Refuse p None) ≡ Open → b ≡ true
+take_or : (a b : Bool) (p : ParseProblem)
+    → (if a then Take else if b then Open else Refuse p None) ≡ Open → b ≡ true
 take_or true b p h = cc
 take_or false true p h = refl
 take_or false false p h = cc
 
-pub opens_node : (x : State) (k : yaml_token_type_t) → choice_at x k ≡ Open → starts_node (Block None) k ≡ true
+pub opens_node : (x : State) (k : yaml_token_type_t) → choice_at x k ≡ Open
+    → starts_node (Block None) k ≡ true
 opens_node state.stream kind.YAML_STREAM_START_TOKEN h = cc
 opens_node state.stream _ h = cc
 opens_node state.first k h = take_or (parts_documents k) (starts_node (Block None) k) problem.NoBlockNode h
@@ -144,14 +158,18 @@ opens_node state.pair_end k h = cc
 opens_node state.lone k h = cc
 
 opens_fed : (t : Token) (s : List State) → starts_node (Block None) (type_of t.body) ≡ true
-    → given_by (taken_at (state.optional Root t.start_mark) t) (state.document_end ∷ state.documents ∷ s) ≡ feed (opened t.start_mark ++ s) t
+    → given_by (taken_at (state.optional Root t.start_mark) t)
+    (state.document_end ∷ state.documents ∷ s) ≡ feed (opened t.start_mark ++ s) t
 unfolding feed
 opens_fed t s h =
     sym (ap (λ (c : Choice). turn c (state.optional Root t.start_mark) t (state.document_end ∷ state.documents ∷ s) (feed (state.document_end ∷ state.documents ∷ s) t))
     (optional_takes Root t.start_mark (type_of t.body) h))
 
-pub opens : (x : State) (t : Token) (ts : List Token) (s : List State) (f : Option Fault) → choice_at x (type_of t.body) ≡ Open
-    → run (t ∷ ts) (x ∷ s) f ≡ giving (λ (more : List Given). (item_at (item.document true) t.start_mark t.start_mark, length ts) ∷ more) (run (t ∷ ts) (opened t.start_mark ++ s) f)
+pub opens : (x : State) (t : Token) (ts : List Token) (s : List State) (f : Option Fault)
+    → choice_at x (type_of t.body) ≡ Open
+    → run (t ∷ ts) (x ∷ s) f ≡ giving
+    (λ (more : List Given). (item_at (item.document true) t.start_mark t.start_mark, length ts)
+    ∷ more) (run (t ∷ ts) (opened t.start_mark ++ s) f)
 unfolding run feed
 opens x t ts s f h =
     ap (λ (c : Choice). carry (length ts) (turn c x t s (feed s t)) (λ s'. run ts s' f)) h
@@ -160,28 +178,37 @@ opens x t ts s f h =
 
 -- ---- where the machine stops
 
-with_item_stops : (left : ℕ) (i : RawEvent) (below : Fed) (k : List State → ℕ) → left_where_stopped left (with_item i below) k ≡ left_where_stopped left below k
+with_item_stops : (left : ℕ) (i : RawEvent) (below : Fed) (k : List State → ℕ)
+    → left_where_stopped left (with_item i below) k ≡ left_where_stopped left below k
 with_item_stops left i (stop is f) k = refl
 with_item_stops left i (go is s) k = refl
 
-pub refuses_stops : (x : State) (p : ParseProblem) (o : Option yaml_mark_t) (t : Token) (ts : List Token) (s : List State) → choice_at x (type_of t.body) ≡ Refuse p o → unasked_at_stop (t ∷ ts) (x ∷ s) ≡ length ts
+pub refuses_stops : (x : State) (p : ParseProblem) (o : Option yaml_mark_t) (t : Token)
+    (ts : List Token) (s : List State) → choice_at x (type_of t.body) ≡ Refuse p o
+    → unasked_at_stop (t ∷ ts) (x ∷ s) ≡ length ts
 unfolding unasked_at_stop feed
 refuses_stops x p o t ts s h = ap (λ (c : Choice). left_where_stopped (length ts) (turn c x t s (feed s t)) (λ s'. unasked_at_stop ts s')) h
 
-pub takes_stops : (x : State) (i : Option RawEvent) (above : List State) (t : Token) (ts : List Token) (s : List State) → choice_at x (type_of t.body) ≡ Take → taken_at x t ≡ record { item = i; above = above }
+pub takes_stops : (x : State) (i : Option RawEvent) (above : List State) (t : Token)
+    (ts : List Token) (s : List State) → choice_at x (type_of t.body) ≡ Take
+    → taken_at x t ≡ record { item = i; above = above }
     → unasked_at_stop (t ∷ ts) (x ∷ s) ≡ unasked_at_stop ts (above ++ s)
 unfolding unasked_at_stop feed
 takes_stops x i above t ts s h k =
     ap (λ (c : Choice). left_where_stopped (length ts) (turn c x t s (feed s t)) (λ s'. unasked_at_stop ts s')) h
     ∙ ap (λ (y : Taken). left_where_stopped (length ts) (given_by y s) (λ s'. unasked_at_stop ts s')) k
 
-pub leaves_stops : (x : State) (t : Token) (ts : List Token) (s : List State) → choice_at x (type_of t.body) ≡ Leave → unasked_at_stop (t ∷ ts) (x ∷ s) ≡ unasked_at_stop (t ∷ ts) s
+pub leaves_stops : (x : State) (t : Token) (ts : List Token) (s : List State)
+    → choice_at x (type_of t.body) ≡ Leave
+    → unasked_at_stop (t ∷ ts) (x ∷ s) ≡ unasked_at_stop (t ∷ ts) s
 unfolding unasked_at_stop feed
 leaves_stops x t ts s h =
     ap (λ (c : Choice). left_where_stopped (length ts) (turn c x t s (feed s t)) (λ s'. unasked_at_stop ts s')) h
     ∙ with_item_stops (length ts) (left_at x t.start_mark) (feed s t) (λ s'. unasked_at_stop ts s')
 
-pub opens_stops : (x : State) (t : Token) (ts : List Token) (s : List State) → choice_at x (type_of t.body) ≡ Open → unasked_at_stop (t ∷ ts) (x ∷ s) ≡ unasked_at_stop (t ∷ ts) (opened t.start_mark ++ s)
+pub opens_stops : (x : State) (t : Token) (ts : List Token) (s : List State)
+    → choice_at x (type_of t.body) ≡ Open
+    → unasked_at_stop (t ∷ ts) (x ∷ s) ≡ unasked_at_stop (t ∷ ts) (opened t.start_mark ++ s)
 unfolding unasked_at_stop feed
 opens_stops x t ts s h =
     ap (λ (c : Choice). left_where_stopped (length ts) (turn c x t s (feed s t)) (λ s'. unasked_at_stop ts s')) h
@@ -192,7 +219,8 @@ stops_at_none : (fed : Fed) → left_where_stopped 0 fed (λ s'. 0) ≡ 0
 stops_at_none (stop is f) = refl
 stops_at_none (go is s) = refl
 
-pub front_stops : (ts : List Token) (s : List State) → unasked_at_stop (front_of ts ∷ rest_of ts) s ≡ unasked_at_stop ts s
+pub front_stops : (ts : List Token) (s : List State)
+    → unasked_at_stop (front_of ts ∷ rest_of ts) s ≡ unasked_at_stop ts s
 unfolding unasked_at_stop
 front_stops [] s = stops_at_none (feed s no_token)
 front_stops (t ∷ ts) s = refl

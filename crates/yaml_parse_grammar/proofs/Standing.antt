@@ -29,7 +29,8 @@ use Rattle.yaml_parse_grammar.specs.Stacks.{parts_documents_behind, StandsBehind
 
 -- ---- inside a document
 
-inside_at_stack : (x : State) (s : List State) → InsideAt x s (IsInside s) → StackAt x s (InsideAt x s (IsInside s))
+inside_at_stack : (x : State) (s : List State) → InsideAt x s (IsInside s)
+    → StackAt x s (InsideAt x s (IsInside s))
 inside_at_stack state.stream s h = absurd h.0
 inside_at_stack state.first s h = absurd h.0
 inside_at_stack state.documents s h = absurd h.0
@@ -40,7 +41,8 @@ inside_stack : (s : List State) → IsInside s → IsStack s
 inside_stack [] h = tt
 inside_stack (x ∷ s) h = inside_at_stack x s h
 
-half_taken_at : (x : State) (s : List State) → InsideAt x s (IsInside s) → is_between (x ∷ s) ≡ false
+half_taken_at : (x : State) (s : List State) → InsideAt x s (IsInside s)
+    → is_between (x ∷ s) ≡ false
 half_taken_at state.stream s h = absurd h.0
 half_taken_at state.first s h = absurd h.0
 half_taken_at state.documents s h = absurd h.0
@@ -68,7 +70,8 @@ abbrev TakesInside : Option RawEvent → List State → Type 0
 TakesInside None above = AreInner above
 TakesInside (Some i) above = StandsBehind i.body false × AreInner above
 
-content_inside : (w : Wants) (p : Option Properties) (start end : yaml_mark_t) (b : TokenBody) → TakesInside (content_taken w p start end b).item (content_taken w p start end b).above
+content_inside : (w : Wants) (p : Option Properties) (start end : yaml_mark_t) (b : TokenBody)
+    → TakesInside (content_taken w p start end b).item (content_taken w p start end b).above
 content_inside w None start end (token.scalar v s) = (refl, tt)
 content_inside w (Some q) start end (token.scalar v s) = (refl, tt)
 content_inside w None start end token.flow_sequence_start = (refl, (tt, tt))
@@ -85,13 +88,16 @@ content_inside (Block None) q start end token.block_entry = (tt, tt)
 content_inside Flow q start end token.block_entry = (tt, tt)
 content_inside w q start end _ = (tt, tt)
 
-node_inside : (w : Wants) (start end : yaml_mark_t) (b : TokenBody) → TakesInside (node_taken w start end b).item (node_taken w start end b).above
+node_inside : (w : Wants) (start end : yaml_mark_t) (b : TokenBody)
+    → TakesInside (node_taken w start end b).item (node_taken w start end b).above
 node_inside w start end (token.alias n) = (refl, tt)
 node_inside w start end (token.anchor n) = (tt, tt)
 node_inside w start end (token.tag x y) = (tt, tt)
 node_inside w start end b = content_inside w None start end b
 
-with_properties_inside : (w : Wants) (p : Properties) (start end : yaml_mark_t) (b : TokenBody) → TakesInside (with_properties_taken w p start end b).item (with_properties_taken w p start end b).above
+with_properties_inside : (w : Wants) (p : Properties) (start end : yaml_mark_t) (b : TokenBody)
+    → TakesInside (with_properties_taken w p start end b).item
+    (with_properties_taken w p start end b).above
 with_properties_inside w p start end (token.anchor n) = (tt, tt)
 with_properties_inside w p start end (token.tag x y) = (tt, tt)
 with_properties_inside w p start end b = content_inside w (Some p) start end b
@@ -100,7 +106,8 @@ inner_over : (xs ys : List State) → AreInner xs → AreInner ys → AreInner (
 inner_over [] ys h k = k
 inner_over (x ∷ xs) ys h k = (h.0, inner_over xs ys h.1 k)
 
-takes_over : (i : Option RawEvent) (xs ys : List State) → TakesInside i xs → AreInner ys → TakesInside i (xs ++ ys)
+takes_over : (i : Option RawEvent) (xs ys : List State) → TakesInside i xs → AreInner ys
+    → TakesInside i (xs ++ ys)
 takes_over None xs ys h k = inner_over xs ys h k
 takes_over (Some i) xs ys h k = (h.0, inner_over xs ys h.1 k)
 
@@ -108,7 +115,8 @@ lone_inside : (b : Brackets) (o : yaml_mark_t) → AreInner (lone_below b (state
 lone_inside brackets.Sequence o = (tt, tt)
 lone_inside brackets.Mapping o = (tt, (tt, tt))
 
-items_inside : (b : Brackets) (o start end : yaml_mark_t) (x : TokenBody) → TakesInside (items_taken b o start end x).item (items_taken b o start end x).above
+items_inside : (b : Brackets) (o start end : yaml_mark_t) (x : TokenBody)
+    → TakesInside (items_taken b o start end x).item (items_taken b o start end x).above
 items_inside brackets.Sequence o start end token.key = (refl, (tt, (tt, (tt, (tt, tt)))))
 items_inside brackets.Mapping o start end token.key = (tt, (tt, (tt, tt)))
 items_inside brackets.Sequence o start end token.flow_sequence_end = (refl, tt)
@@ -117,16 +125,19 @@ items_inside brackets.Sequence o start end token.flow_mapping_end = (refl, tt)
 items_inside brackets.Mapping o start end token.flow_mapping_end = (refl, tt)
 items_inside b o start end x = takes_over (node_taken Flow start end x).item (node_taken Flow start end x).above (lone_below b (state.more b o ∷ [])) (node_inside Flow start end x) (lone_inside b o)
 
-more_inside : (b : Brackets) (o start end : yaml_mark_t) (x : TokenBody) → TakesInside (more_taken b o start end x).item (more_taken b o start end x).above
+more_inside : (b : Brackets) (o start end : yaml_mark_t) (x : TokenBody)
+    → TakesInside (more_taken b o start end x).item (more_taken b o start end x).above
 more_inside b o start end token.flow_entry = (tt, tt)
 more_inside brackets.Sequence o start end _ = (refl, tt)
 more_inside brackets.Mapping o start end _ = (refl, tt)
 
-entries_inside : (o start end : yaml_mark_t) (x : TokenBody) → TakesInside (entries_taken o start end x).item (entries_taken o start end x).above
+entries_inside : (o start end : yaml_mark_t) (x : TokenBody)
+    → TakesInside (entries_taken o start end x).item (entries_taken o start end x).above
 entries_inside o start end token.block_entry = (tt, (tt, tt))
 entries_inside o start end _ = (refl, tt)
 
-pairs_inside : (o start end : yaml_mark_t) (x : TokenBody) → TakesInside (pairs_taken o start end x).item (pairs_taken o start end x).above
+pairs_inside : (o start end : yaml_mark_t) (x : TokenBody)
+    → TakesInside (pairs_taken o start end x).item (pairs_taken o start end x).above
 pairs_inside o start end token.key = (tt, (tt, (tt, tt)))
 pairs_inside o start end _ = (refl, tt)
 
@@ -140,24 +151,30 @@ StandsOn (Some i) s = IsStack s × StandsBehind i.body (is_between s)
 behind_false : (b : RawEventBody) (x : Bool) → x ≡ false → StandsBehind b false → StandsBehind b x
 behind_false b x e h = subst (StandsBehind b) (sym e) h
 
-takes_inside : (i : Option RawEvent) (above s : List State) → TakesInside i above → IsInside s → StandsOn i (above ++ s)
+takes_inside : (i : Option RawEvent) (above s : List State) → TakesInside i above → IsInside s
+    → StandsOn i (above ++ s)
 takes_inside None above s h k = inside_stack (above ++ s) (all_inner_above above s h k)
 takes_inside (Some i) above s h k =
     let inside : IsInside (above ++ s) = all_inner_above above s h.1 k in
     (inside_stack (above ++ s) inside, behind_false i.body (is_between (above ++ s)) (half_taken (above ++ s) inside) h.0)
 
-stream_stands : (start end : yaml_mark_t) (b : TokenBody) (s : List State) → s ≡ [] → choice_at state.stream (type_of b) ≡ Take → StandsOn (stream_taken start end b).item ((stream_taken start end b).above ++ s)
+stream_stands : (start end : yaml_mark_t) (b : TokenBody) (s : List State) → s ≡ []
+    → choice_at state.stream (type_of b) ≡ Take
+    → StandsOn (stream_taken start end b).item ((stream_taken start end b).above ++ s)
 stream_stands start end (token.stream_start e) s h k = (h, refl)
 stream_stands start end _ s h k = cc
 
-documents_stand : (from start end : yaml_mark_t) (b : TokenBody) (s : List State) → s ≡ [] → StandsOn (documents_taken from start end b).item ((documents_taken from start end b).above ++ s)
+documents_stand : (from start end : yaml_mark_t) (b : TokenBody) (s : List State) → s ≡ []
+    → StandsOn (documents_taken from start end b).item
+    ((documents_taken from start end b).above ++ s)
 documents_stand from start end (token.version_directive x y) s h = (h, tt)
 documents_stand from start end (token.tag_directive x y) s h = (h, tt)
 documents_stand from start end token.document_start s h = ((tt, ap (λ (z : List State). state.documents ∷ z) h), refl)
 documents_stand from start end token.stream_end s h = (subst IsStack (sym h) tt, ap is_between h)
 documents_stand from start end _ s h = h
 
-pub taken_stands : (x : State) (t : Token) (s : List State) → choice_at x (type_of t.body) ≡ Take → IsStack (x ∷ s) → StandsOn (taken_at x t).item ((taken_at x t).above ++ s)
+pub taken_stands : (x : State) (t : Token) (s : List State) → choice_at x (type_of t.body) ≡ Take
+    → IsStack (x ∷ s) → StandsOn (taken_at x t).item ((taken_at x t).above ++ s)
 taken_stands state.stream t s c h = stream_stands t.start_mark t.end_mark t.body s h c
 taken_stands state.first t s c h = documents_stand t.start_mark t.start_mark t.end_mark t.body s h
 taken_stands state.documents t s c h = documents_stand t.start_mark t.start_mark t.end_mark t.body s h
@@ -180,7 +197,8 @@ not_left : (a : Bool) (p : ParseProblem) → (if a then Take else Refuse p None)
 not_left true p h = cc
 not_left false p h = cc
 
-not_left_first : (a b : Bool) (p : ParseProblem) → (if a then Take else if b then Open else Refuse p None) ≡ Leave → ⊥
+not_left_first : (a b : Bool) (p : ParseProblem)
+    → (if a then Take else if b then Open else Refuse p None) ≡ Leave → ⊥
 not_left_first true b p h = cc
 not_left_first false true p h = cc
 not_left_first false false p h = cc
@@ -188,7 +206,9 @@ not_left_first false false p h = cc
 abbrev StandsLeft : RawEvent → List State → Type 0
 StandsLeft i s = IsStack s × StandsBehind i.body (is_between s)
 
-pub left_stands : (x : State) (k : yaml_token_type_t) (start : yaml_mark_t) (s : List State) → choice_at x k ≡ Leave → IsStack (x ∷ s) → IsStack s × StandsBehind (left_at x start).body (is_between s)
+pub left_stands : (x : State) (k : yaml_token_type_t) (start : yaml_mark_t) (s : List State)
+    → choice_at x k ≡ Leave → IsStack (x ∷ s)
+    → IsStack s × StandsBehind (left_at x start).body (is_between s)
 left_stands state.stream kind.YAML_STREAM_START_TOKEN start s c h = cc
 left_stands state.stream _ start s c h = cc
 left_stands state.first k start s c h = absurd (not_left_first (parts_documents k) (starts_node (Block None) k) problem.NoBlockNode c)
@@ -210,7 +230,8 @@ left_stands state.lone k start s c h = (inside_stack s h.1, half_taken s h.1)
 
 -- ---- an implicit document
 
-not_opened : (b : Bool) (p : ParseProblem) (o : Option yaml_mark_t) → (if b then Take else Refuse p o) ≡ Open → ⊥
+not_opened : (b : Bool) (p : ParseProblem) (o : Option yaml_mark_t)
+    → (if b then Take else Refuse p o) ≡ Open → ⊥
 not_opened true p o h = cc
 not_opened false p o h = cc
 
@@ -218,12 +239,14 @@ not_opened_with_properties : (b : Bool) → (if b then Take else Leave) ≡ Open
 not_opened_with_properties true h = cc
 not_opened_with_properties false h = cc
 
-not_opened_optional : (a b : Bool) (p : ParseProblem) → (if a then Leave else if b then Take else Refuse p None) ≡ Open → ⊥
+not_opened_optional : (a b : Bool) (p : ParseProblem)
+    → (if a then Leave else if b then Take else Refuse p None) ≡ Open → ⊥
 not_opened_optional true b p h = cc
 not_opened_optional false true p h = cc
 not_opened_optional false false p h = cc
 
-opens_alone : (x : State) (k : yaml_token_type_t) (s : List State) → choice_at x k ≡ Open → IsStack (x ∷ s) → s ≡ []
+opens_alone : (x : State) (k : yaml_token_type_t) (s : List State) → choice_at x k ≡ Open
+    → IsStack (x ∷ s) → s ≡ []
 opens_alone state.stream k s c h = h
 opens_alone state.first k s c h = h
 opens_alone state.documents k s c h = h
@@ -249,7 +272,9 @@ opens_alone (state.more b o) k s c h = absurd (not_opened (closes b k) (no_end b
 opens_alone state.pair_end k s c h = cc
 opens_alone state.lone k s c h = cc
 
-pub opened_stands : (x : State) (k : yaml_token_type_t) (start : yaml_mark_t) (s : List State) → choice_at x k ≡ Open → IsStack (x ∷ s) → IsStack (opened start ++ s) × (is_between (opened start ++ s) ≡ false)
+pub opened_stands : (x : State) (k : yaml_token_type_t) (start : yaml_mark_t) (s : List State)
+    → choice_at x k ≡ Open → IsStack (x ∷ s)
+    → IsStack (opened start ++ s) × (is_between (opened start ++ s) ≡ false)
 opened_stands x k start s c h = ((tt, ap (λ (z : List State). state.documents ∷ z) (opens_alone x k s c h)), refl)
 
 -- ---- the event of an item
@@ -259,38 +284,47 @@ SettledBehind (refused f) between = Unit {0}
 SettledBehind (gave body ds) between = between ≡ parts_documents_behind body
 SettledBehind (noted ds) between = Unit {0}
 
-tagged_half : (b : Bool) (anchor : Option (List ℕ)) (tag value : List ℕ) (style : yaml_scalar_style_t)
-    → parts_documents_behind (if b then event.scalar anchor None value true false style else event.scalar anchor (Some tag) value false false style) ≡ false
+tagged_half : (b : Bool) (anchor : Option (List ℕ)) (tag value : List ℕ)
+    (style : yaml_scalar_style_t)
+    → parts_documents_behind (if b then event.scalar anchor None value true false style else
+    event.scalar anchor (Some tag) value false false style) ≡ false
 tagged_half true anchor tag value style = refl
 tagged_half false anchor tag value style = refl
 
-node_half : (anchor tag : Option (List ℕ)) (s : Shape) → parts_documents_behind (node_event anchor tag s) ≡ false
+node_half : (anchor tag : Option (List ℕ)) (s : Shape)
+    → parts_documents_behind (node_event anchor tag s) ≡ false
 node_half anchor tag item.empty = refl
 node_half anchor None (item.scalar value style) = refl
 node_half anchor (Some tag) (item.scalar value style) = tagged_half (bytes_eq tag (codes "!")) anchor tag value style
 node_half anchor tag (item.sequence style) = refl
 node_half anchor tag (item.mapping style) = refl
 
-to_node : (anchor tag : Option (List ℕ)) (s : Shape) (x : Bool) → x ≡ false → x ≡ parts_documents_behind (node_event anchor tag s)
+to_node : (anchor tag : Option (List ℕ)) (s : Shape) (x : Bool) → x ≡ false
+    → x ≡ parts_documents_behind (node_event anchor tag s)
 to_node anchor tag s x h = rw h (sym (node_half anchor tag s))
 
-tagged_behind : (o anchor : Option (List ℕ)) (s : Shape) (from at : yaml_mark_t) (ds : Directives) (x : Bool) → x ≡ false → SettledBehind (with_resolved o anchor s from at ds) x
+tagged_behind : (o anchor : Option (List ℕ)) (s : Shape) (from at : yaml_mark_t) (ds : Directives)
+    (x : Bool) → x ≡ false → SettledBehind (with_resolved o anchor s from at ds) x
 tagged_behind None anchor s from at ds x h = tt
 tagged_behind (Some tag) anchor s from at ds x h = to_node anchor (Some tag) s x h
 
-known_behind : (b : Bool) (ds : Directives) (r : Settled) (x : Bool) → SettledBehind r x → SettledBehind (if b then noted ds else r) x
+known_behind : (b : Bool) (ds : Directives) (r : Settled) (x : Bool) → SettledBehind r x
+    → SettledBehind (if b then noted ds else r) x
 known_behind true ds r x h = tt
 known_behind false ds r x h = h
 
-version_behind : (o : Option yaml_version_directive_t) (tags : List TagDirective) (major minor : ℤ) (at : yaml_mark_t) (x : Bool) → SettledBehind (with_version o tags major minor at) x
+version_behind : (o : Option yaml_version_directive_t) (tags : List TagDirective) (major minor : ℤ)
+    (at : yaml_mark_t) (x : Bool) → SettledBehind (with_version o tags major minor at) x
 version_behind (Some v) tags major minor at x = tt
 version_behind None tags major minor at x = known_behind (is_known_version major minor) _ _ x tt
 
-handle_behind : (o : Option (List ℕ)) (ds : Directives) (handle prefix : List ℕ) (at : yaml_mark_t) (x : Bool) → SettledBehind (with_tag o ds handle prefix at) x
+handle_behind : (o : Option (List ℕ)) (ds : Directives) (handle prefix : List ℕ) (at : yaml_mark_t)
+    (x : Bool) → SettledBehind (with_tag o ds handle prefix at) x
 handle_behind (Some other) ds handle prefix at x = tt
 handle_behind None ds handle prefix at x = tt
 
-pub settled_behind : (b : RawEventBody) (from : yaml_mark_t) (ds : Directives) (x : Bool) → StandsBehind b x → SettledBehind (settle_body b from ds) x
+pub settled_behind : (b : RawEventBody) (from : yaml_mark_t) (ds : Directives) (x : Bool)
+    → StandsBehind b x → SettledBehind (settle_body b from ds) x
 settled_behind (item.event body) from ds x h = h
 settled_behind (item.version_directive major minor) from ds x h = version_behind ds.version ds.tags major minor from x
 settled_behind (item.tag_directive handle prefix) from ds x h = handle_behind (directive_for handle ds.tags) ds handle prefix from x

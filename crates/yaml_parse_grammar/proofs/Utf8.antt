@@ -33,18 +33,21 @@ abbrev IsUtf8Properties : Option Properties → Type 0
 IsUtf8Properties None = Unit {0}
 IsUtf8Properties (Some p) = IsUtf8Option p.anchor × IsUtf8Tag p.tag
 
-stream_utf8 : (start end : yaml_mark_t) (b : TokenBody) → IsUtf8Taken (stream_taken start end b).item (stream_taken start end b).above
+stream_utf8 : (start end : yaml_mark_t) (b : TokenBody)
+    → IsUtf8Taken (stream_taken start end b).item (stream_taken start end b).above
 stream_utf8 start end (token.stream_start e) = (tt, (tt, tt))
 stream_utf8 start end _ = (tt, tt)
 
-documents_utf8 : (from start end : yaml_mark_t) (b : TokenBody) → source.HasUtf8 b → IsUtf8Taken (documents_taken from start end b).item (documents_taken from start end b).above
+documents_utf8 : (from start end : yaml_mark_t) (b : TokenBody) → source.HasUtf8 b
+    → IsUtf8Taken (documents_taken from start end b).item (documents_taken from start end b).above
 documents_utf8 from start end (token.version_directive x y) h = (tt, (tt, tt))
 documents_utf8 from start end (token.tag_directive x y) h = (h, (tt, tt))
 documents_utf8 from start end token.document_start h = (tt, (tt, (tt, (tt, tt))))
 documents_utf8 from start end token.stream_end h = (tt, tt)
 documents_utf8 from start end _ h = (tt, tt)
 
-content_utf8 : (w : Wants) (p : Option Properties) (start end : yaml_mark_t) (b : TokenBody) → IsUtf8Properties p → source.HasUtf8 b
+content_utf8 : (w : Wants) (p : Option Properties) (start end : yaml_mark_t) (b : TokenBody)
+    → IsUtf8Properties p → source.HasUtf8 b
     → IsUtf8Taken (content_taken w p start end b).item (content_taken w p start end b).above
 content_utf8 w None start end (token.scalar v s) p h = ((tt, (tt, h)), tt)
 content_utf8 w (Some q) start end (token.scalar v s) p h = ((p.0, (p.1, h)), tt)
@@ -62,23 +65,28 @@ content_utf8 (Block None) q start end token.block_entry p h = (tt, tt)
 content_utf8 Flow q start end token.block_entry p h = (tt, tt)
 content_utf8 w q start end _ p h = (tt, tt)
 
-node_utf8 : (w : Wants) (start end : yaml_mark_t) (b : TokenBody) → source.HasUtf8 b → IsUtf8Taken (node_taken w start end b).item (node_taken w start end b).above
+node_utf8 : (w : Wants) (start end : yaml_mark_t) (b : TokenBody) → source.HasUtf8 b
+    → IsUtf8Taken (node_taken w start end b).item (node_taken w start end b).above
 node_utf8 w start end (token.alias n) h = (h, tt)
 node_utf8 w start end (token.anchor n) h = ((h, tt), tt)
 node_utf8 w start end (token.tag x y) h = ((tt, h), tt)
 node_utf8 w start end b h = content_utf8 w None start end b tt h
 
-with_properties_utf8 : (w : Wants) (p : Properties) (start end : yaml_mark_t) (b : TokenBody) → IsUtf8Properties (Some p) → source.HasUtf8 b
-    → IsUtf8Taken (with_properties_taken w p start end b).item (with_properties_taken w p start end b).above
+with_properties_utf8 : (w : Wants) (p : Properties) (start end : yaml_mark_t) (b : TokenBody)
+    → IsUtf8Properties (Some p) → source.HasUtf8 b
+    → IsUtf8Taken (with_properties_taken w p start end b).item
+    (with_properties_taken w p start end b).above
 with_properties_utf8 w p start end (token.anchor n) q h = ((h, q.1), tt)
 with_properties_utf8 w p start end (token.tag x y) q h = ((q.0, h), tt)
 with_properties_utf8 w p start end b q h = content_utf8 w (Some p) start end b q h
 
-pub states_over : (xs ys : List State) → AreUtf8States xs → AreUtf8States ys → AreUtf8States (xs ++ ys)
+pub states_over : (xs ys : List State) → AreUtf8States xs → AreUtf8States ys
+    → AreUtf8States (xs ++ ys)
 states_over [] ys h k = k
 states_over (x ∷ xs) ys h k = (h.0, states_over xs ys h.1 k)
 
-taken_over : (i : Option RawEvent) (xs ys : List State) → IsUtf8Taken i xs → AreUtf8States ys → IsUtf8Taken i (xs ++ ys)
+taken_over : (i : Option RawEvent) (xs ys : List State) → IsUtf8Taken i xs → AreUtf8States ys
+    → IsUtf8Taken i (xs ++ ys)
 taken_over None xs ys h k = states_over xs ys h k
 taken_over (Some i) xs ys h k = (h.0, states_over xs ys h.1 k)
 
@@ -86,7 +94,8 @@ lone_utf8 : (b : Brackets) (o : yaml_mark_t) → AreUtf8States (lone_below b (st
 lone_utf8 brackets.Sequence o = (tt, tt)
 lone_utf8 brackets.Mapping o = (tt, (tt, tt))
 
-items_utf8 : (b : Brackets) (o start end : yaml_mark_t) (x : TokenBody) → source.HasUtf8 x → IsUtf8Taken (items_taken b o start end x).item (items_taken b o start end x).above
+items_utf8 : (b : Brackets) (o start end : yaml_mark_t) (x : TokenBody) → source.HasUtf8 x
+    → IsUtf8Taken (items_taken b o start end x).item (items_taken b o start end x).above
 items_utf8 brackets.Sequence o start end token.key h = ((tt, (tt, tt)), (tt, (tt, (tt, (tt, tt)))))
 items_utf8 brackets.Mapping o start end token.key h = (tt, (tt, (tt, tt)))
 items_utf8 brackets.Sequence o start end token.flow_sequence_end h = (tt, tt)
@@ -96,20 +105,24 @@ items_utf8 brackets.Mapping o start end token.flow_mapping_end h = (tt, tt)
 items_utf8 b o start end x h =
     taken_over (node_taken Flow start end x).item (node_taken Flow start end x).above (lone_below b (state.more b o ∷ [])) (node_utf8 Flow start end x h) (lone_utf8 b o)
 
-more_utf8 : (b : Brackets) (o start end : yaml_mark_t) (x : TokenBody) → IsUtf8Taken (more_taken b o start end x).item (more_taken b o start end x).above
+more_utf8 : (b : Brackets) (o start end : yaml_mark_t) (x : TokenBody)
+    → IsUtf8Taken (more_taken b o start end x).item (more_taken b o start end x).above
 more_utf8 b o start end token.flow_entry = (tt, tt)
 more_utf8 brackets.Sequence o start end _ = (tt, tt)
 more_utf8 brackets.Mapping o start end _ = (tt, tt)
 
-entries_utf8 : (o start end : yaml_mark_t) (x : TokenBody) → IsUtf8Taken (entries_taken o start end x).item (entries_taken o start end x).above
+entries_utf8 : (o start end : yaml_mark_t) (x : TokenBody)
+    → IsUtf8Taken (entries_taken o start end x).item (entries_taken o start end x).above
 entries_utf8 o start end token.block_entry = (tt, (tt, tt))
 entries_utf8 o start end _ = (tt, tt)
 
-pairs_utf8 : (o start end : yaml_mark_t) (x : TokenBody) → IsUtf8Taken (pairs_taken o start end x).item (pairs_taken o start end x).above
+pairs_utf8 : (o start end : yaml_mark_t) (x : TokenBody)
+    → IsUtf8Taken (pairs_taken o start end x).item (pairs_taken o start end x).above
 pairs_utf8 o start end token.key = (tt, (tt, (tt, tt)))
 pairs_utf8 o start end _ = (tt, tt)
 
-pub taken_utf8 : (x : State) (t : Token) → IsUtf8State x → source.HasUtf8 t.body → IsUtf8Taken (taken_at x t).item (taken_at x t).above
+pub taken_utf8 : (x : State) (t : Token) → IsUtf8State x → source.HasUtf8 t.body
+    → IsUtf8Taken (taken_at x t).item (taken_at x t).above
 taken_utf8 state.stream t p h = stream_utf8 t.start_mark t.end_mark t.body
 taken_utf8 state.first t p h = documents_utf8 t.start_mark t.start_mark t.end_mark t.body h
 taken_utf8 state.documents t p h = documents_utf8 t.start_mark t.start_mark t.end_mark t.body h
@@ -128,7 +141,8 @@ taken_utf8 state.lone t p h = (tt, tt)
 
 -- ---- leaving a state, and an implicit document
 
-pub left_utf8 : (x : State) (start : yaml_mark_t) → IsUtf8State x → IsUtf8Item (left_at x start).body
+pub left_utf8 : (x : State) (start : yaml_mark_t) → IsUtf8State x
+    → IsUtf8Item (left_at x start).body
 left_utf8 state.stream start h = (tt, (tt, tt))
 left_utf8 (state.optional place before) start h = (tt, (tt, tt))
 left_utf8 state.document_end start h = tt
@@ -147,7 +161,8 @@ IsUtf8Settled (refused f) = Unit {0}
 IsUtf8Settled (gave body ds) = HasUtf8 body × AreUtf8 ds.tags
 IsUtf8Settled (noted ds) = AreUtf8 ds.tags
 
-either_prefix : (b : Bool) (x y : Option (List ℕ)) → IsUtf8Option x → IsUtf8Option y → IsUtf8Option (if b then x else y)
+either_prefix : (b : Bool) (x y : Option (List ℕ)) → IsUtf8Option x → IsUtf8Option y
+    → IsUtf8Option (if b then x else y)
 either_prefix true x y h k = h
 either_prefix false x y h k = k
 
@@ -162,57 +177,73 @@ core_is_utf8 = (codes "tag:yaml.org,2002:", (refl, refl))
 default_utf8 : (handle : List ℕ) → IsUtf8Option (default_prefix handle)
 default_utf8 handle = either_prefix (bytes_eq handle (codes "!")) _ _ mark_is_utf8 (either_prefix (bytes_eq handle (codes "!!")) _ _ core_is_utf8 tt)
 
-directive_utf8 : (handle : List ℕ) (ds : List TagDirective) → AreUtf8 ds → IsUtf8Option (directive_for handle ds)
+directive_utf8 : (handle : List ℕ) (ds : List TagDirective) → AreUtf8 ds
+    → IsUtf8Option (directive_for handle ds)
 unfolding directive_for
 directive_utf8 handle [] h = tt
 directive_utf8 handle (d ∷ ds) h = either_prefix (bytes_eq d.handle handle) (Some d.prefix) (directive_for handle ds) h.0.1 (directive_utf8 handle ds h.1)
 
-prefix_utf8 : (o : Option (List ℕ)) (handle : List ℕ) → IsUtf8Option o → IsUtf8Option (or_default o handle)
+prefix_utf8 : (o : Option (List ℕ)) (handle : List ℕ) → IsUtf8Option o
+    → IsUtf8Option (or_default o handle)
 prefix_utf8 None handle h = default_utf8 handle
 prefix_utf8 (Some p) handle h = h
 
-joined_utf8 : (o : Option (List ℕ)) (suffix : List ℕ) → IsUtf8Option o → IsUtf8 suffix → IsUtf8Option (option_map (λ (p : List ℕ). p ++ suffix) o)
+joined_utf8 : (o : Option (List ℕ)) (suffix : List ℕ) → IsUtf8Option o → IsUtf8 suffix
+    → IsUtf8Option (option_map (λ (p : List ℕ). p ++ suffix) o)
 joined_utf8 None suffix h k = tt
 joined_utf8 (Some p) suffix h k = IsUtf8-append p suffix h k
 
-resolved_utf8 : (ds : List TagDirective) (handle suffix : List ℕ) → AreUtf8 ds → IsUtf8 suffix → IsUtf8Option (resolved ds handle suffix)
+resolved_utf8 : (ds : List TagDirective) (handle suffix : List ℕ) → AreUtf8 ds → IsUtf8 suffix
+    → IsUtf8Option (resolved ds handle suffix)
 resolved_utf8 ds [] suffix h k = k
 resolved_utf8 ds (c ∷ handle) suffix h k =
     joined_utf8 (or_default (directive_for (c ∷ handle) ds) (c ∷ handle)) suffix (prefix_utf8 (directive_for (c ∷ handle) ds) (c ∷ handle) (directive_utf8 (c ∷ handle) ds h)) k
 
-tagged_utf8 : (b : Bool) (anchor : Option (List ℕ)) (tag value : List ℕ) (style : yaml_scalar_style_t) → IsUtf8Option anchor → IsUtf8 tag → IsUtf8 value
-    → HasUtf8 (if b then event.scalar anchor None value true false style else event.scalar anchor (Some tag) value false false style)
+tagged_utf8 : (b : Bool) (anchor : Option (List ℕ)) (tag value : List ℕ)
+    (style : yaml_scalar_style_t) → IsUtf8Option anchor → IsUtf8 tag → IsUtf8 value
+    → HasUtf8 (if b then event.scalar anchor None value true false style else event.scalar anchor
+    (Some tag) value false false style)
 tagged_utf8 true anchor tag value style a t v = (a, tt, v)
 tagged_utf8 false anchor tag value style a t v = (a, t, v)
 
-scalar_utf8 : (anchor tag : Option (List ℕ)) (value : List ℕ) (style : yaml_scalar_style_t) → IsUtf8Option anchor → IsUtf8Option tag → IsUtf8 value → HasUtf8 (scalar_event anchor tag value style)
+scalar_utf8 : (anchor tag : Option (List ℕ)) (value : List ℕ) (style : yaml_scalar_style_t)
+    → IsUtf8Option anchor → IsUtf8Option tag → IsUtf8 value
+    → HasUtf8 (scalar_event anchor tag value style)
 scalar_utf8 anchor None value style a t v = (a, tt, v)
 scalar_utf8 anchor (Some tag) value style a t v = tagged_utf8 (bytes_eq tag (codes "!")) anchor tag value style a t v
 
-node_event_utf8 : (anchor tag : Option (List ℕ)) (s : Shape) → IsUtf8Option anchor → IsUtf8Option tag → IsUtf8Shape s → HasUtf8 (node_event anchor tag s)
+node_event_utf8 : (anchor tag : Option (List ℕ)) (s : Shape) → IsUtf8Option anchor
+    → IsUtf8Option tag → IsUtf8Shape s → HasUtf8 (node_event anchor tag s)
 node_event_utf8 anchor tag item.empty a t h = (a, t, IsUtf8-nil)
 node_event_utf8 anchor tag (item.scalar value style) a t h = scalar_utf8 anchor tag value style a t h
 node_event_utf8 anchor tag (item.sequence style) a t h = (a, t)
 node_event_utf8 anchor tag (item.mapping style) a t h = (a, t)
 
-tagged_node_utf8 : (o anchor : Option (List ℕ)) (s : Shape) (from at : yaml_mark_t) (ds : Directives) → IsUtf8Option o → IsUtf8Option anchor → IsUtf8Shape s → AreUtf8 ds.tags
+tagged_node_utf8 : (o anchor : Option (List ℕ)) (s : Shape) (from at : yaml_mark_t)
+    (ds : Directives) → IsUtf8Option o → IsUtf8Option anchor → IsUtf8Shape s → AreUtf8 ds.tags
     → IsUtf8Settled (with_resolved o anchor s from at ds)
 tagged_node_utf8 None anchor s from at ds o a h d = tt
 tagged_node_utf8 (Some tag) anchor s from at ds o a h d = (node_event_utf8 anchor (Some tag) s a o h, d)
 
-directives_over : (xs : List TagDirective) (d : TagDirective) → AreUtf8 xs → IsUtf8 d.handle → IsUtf8 d.prefix → AreUtf8 (xs ++ (d ∷ []))
+directives_over : (xs : List TagDirective) (d : TagDirective) → AreUtf8 xs → IsUtf8 d.handle
+    → IsUtf8 d.prefix → AreUtf8 (xs ++ (d ∷ []))
 directives_over [] d h a b = ((a, b), tt)
 directives_over (x ∷ xs) d h a b = (h.0, directives_over xs d h.1 a b)
 
-with_tag_utf8 : (o : Option (List ℕ)) (ds : Directives) (handle prefix : List ℕ) (at : yaml_mark_t) → AreUtf8 ds.tags → IsUtf8 handle → IsUtf8 prefix → IsUtf8Settled (with_tag o ds handle prefix at)
+with_tag_utf8 : (o : Option (List ℕ)) (ds : Directives) (handle prefix : List ℕ) (at : yaml_mark_t)
+    → AreUtf8 ds.tags → IsUtf8 handle → IsUtf8 prefix
+    → IsUtf8Settled (with_tag o ds handle prefix at)
 with_tag_utf8 (Some other) ds handle prefix at h a b = tt
 with_tag_utf8 None ds handle prefix at h a b = directives_over ds.tags (record { handle = handle; prefix = prefix }) h a b
 
-known_utf8 : (b : Bool) (x y : Settled) → IsUtf8Settled x → IsUtf8Settled y → IsUtf8Settled (if b then x else y)
+known_utf8 : (b : Bool) (x y : Settled) → IsUtf8Settled x → IsUtf8Settled y
+    → IsUtf8Settled (if b then x else y)
 known_utf8 true x y h k = h
 known_utf8 false x y h k = k
 
-with_version_utf8 : (o : Option yaml_version_directive_t) (tags : List TagDirective) (major minor : ℤ) (at : yaml_mark_t) → AreUtf8 tags → IsUtf8Settled (with_version o tags major minor at)
+with_version_utf8 : (o : Option yaml_version_directive_t) (tags : List TagDirective)
+    (major minor : ℤ) (at : yaml_mark_t) → AreUtf8 tags
+    → IsUtf8Settled (with_version o tags major minor at)
 with_version_utf8 (Some v) tags major minor at h = tt
 with_version_utf8 None tags major minor at h = known_utf8 (is_known_version major minor) _ _ h tt
 
@@ -220,7 +251,8 @@ behind_utf8 : (b : EventBody) (ds : Directives) → AreUtf8 ds.tags → AreUtf8 
 behind_utf8 (event.document_end implicit) ds h = tt
 behind_utf8 _ ds h = h
 
-pub settled_utf8 : (b : RawEventBody) (from : yaml_mark_t) (ds : Directives) → IsUtf8Item b → AreUtf8 ds.tags → IsUtf8Settled (settle_body b from ds)
+pub settled_utf8 : (b : RawEventBody) (from : yaml_mark_t) (ds : Directives) → IsUtf8Item b
+    → AreUtf8 ds.tags → IsUtf8Settled (settle_body b from ds)
 settled_utf8 (item.event body) from ds h d = (h, behind_utf8 body ds d)
 settled_utf8 (item.version_directive major minor) from ds h d = with_version_utf8 ds.version ds.tags major minor from d
 settled_utf8 (item.tag_directive handle prefix) from ds h d = with_tag_utf8 (directive_for handle ds.tags) ds handle prefix from d h.0 h.1
@@ -231,6 +263,7 @@ settled_utf8 (item.node anchor (Some tag) shape) from ds h d =
 
 -- ---- all that a parser holds
 
-pub held_utf8 : (peeked : Option Token) (s : List State) (ds : Directives) → IsUtf8Token peeked → AreUtf8States s → AreUtf8 ds.tags → IsUtf8Held peeked s ds
+pub held_utf8 : (peeked : Option Token) (s : List State) (ds : Directives) → IsUtf8Token peeked
+    → AreUtf8States s → AreUtf8 ds.tags → IsUtf8Held peeked s ds
 held_utf8 peeked [] ds p h d = tt
 held_utf8 peeked (x ∷ s) ds p h d = (p, (h, d))

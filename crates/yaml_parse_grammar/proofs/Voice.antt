@@ -39,18 +39,21 @@ abbrev pub TakenSpeaks : Option RawEvent → List State → Type 0
 TakenSpeaks None above = Stands above
 TakenSpeaks (Some i) above = Voiced i.body (Stands above)
 
-stream_speaks : (start end : yaml_mark_t) (b : TokenBody) → TakenSpeaks (stream_taken start end b).item (stream_taken start end b).above
+stream_speaks : (start end : yaml_mark_t) (b : TokenBody)
+    → TakenSpeaks (stream_taken start end b).item (stream_taken start end b).above
 stream_speaks start end (token.stream_start e) = tt
 stream_speaks start end _ = tt
 
-documents_speak : (from start end : yaml_mark_t) (b : TokenBody) → TakenSpeaks (documents_taken from start end b).item (documents_taken from start end b).above
+documents_speak : (from start end : yaml_mark_t) (b : TokenBody)
+    → TakenSpeaks (documents_taken from start end b).item (documents_taken from start end b).above
 documents_speak from start end (token.version_directive x y) = tt
 documents_speak from start end (token.tag_directive x y) = tt
 documents_speak from start end token.document_start = tt
 documents_speak from start end token.stream_end = tt
 documents_speak from start end _ = tt
 
-content_speaks : (w : Wants) (p : Option Properties) (start end : yaml_mark_t) (b : TokenBody) → TakenSpeaks (content_taken w p start end b).item (content_taken w p start end b).above
+content_speaks : (w : Wants) (p : Option Properties) (start end : yaml_mark_t) (b : TokenBody)
+    → TakenSpeaks (content_taken w p start end b).item (content_taken w p start end b).above
 content_speaks w None start end (token.scalar v s) = tt
 content_speaks w (Some p) start end (token.scalar v s) = tt
 content_speaks w None start end token.flow_sequence_start = tt
@@ -67,13 +70,16 @@ content_speaks (Block None) p start end token.block_entry = tt
 content_speaks Flow p start end token.block_entry = tt
 content_speaks w p start end _ = tt
 
-node_speaks : (w : Wants) (start end : yaml_mark_t) (b : TokenBody) → TakenSpeaks (node_taken w start end b).item (node_taken w start end b).above
+node_speaks : (w : Wants) (start end : yaml_mark_t) (b : TokenBody)
+    → TakenSpeaks (node_taken w start end b).item (node_taken w start end b).above
 node_speaks w start end (token.alias n) = tt
 node_speaks w start end (token.anchor n) = tt
 node_speaks w start end (token.tag h s) = tt
 node_speaks w start end b = content_speaks w None start end b
 
-with_properties_speaks : (w : Wants) (p : Properties) (start end : yaml_mark_t) (b : TokenBody) → TakenSpeaks (with_properties_taken w p start end b).item (with_properties_taken w p start end b).above
+with_properties_speaks : (w : Wants) (p : Properties) (start end : yaml_mark_t) (b : TokenBody)
+    → TakenSpeaks (with_properties_taken w p start end b).item
+    (with_properties_taken w p start end b).above
 with_properties_speaks w p start end (token.anchor n) = tt
 with_properties_speaks w p start end (token.tag h s) = tt
 with_properties_speaks w p start end b = content_speaks w (Some p) start end b
@@ -89,26 +95,31 @@ voiced_map (item.event e) f h = tt
 voiced_map (item.document i) f h = tt
 voiced_map (item.node a t s) f h = tt
 
-speaks_above : (i : Option RawEvent) (xs ys : List State) → TakenSpeaks i xs → TakenSpeaks i (xs ++ ys)
+speaks_above : (i : Option RawEvent) (xs ys : List State) → TakenSpeaks i xs
+    → TakenSpeaks i (xs ++ ys)
 speaks_above None xs ys h = stands_above xs ys h
 speaks_above (Some i) xs ys h = voiced_map i.body (stands_above xs ys) h
 
-items_speak : (b : Brackets) (o start end : yaml_mark_t) (x : TokenBody) → TakenSpeaks (items_taken b o start end x).item (items_taken b o start end x).above
+items_speak : (b : Brackets) (o start end : yaml_mark_t) (x : TokenBody)
+    → TakenSpeaks (items_taken b o start end x).item (items_taken b o start end x).above
 items_speak brackets.Sequence o start end token.key = tt
 items_speak brackets.Mapping o start end token.key = tt
 items_speak b o start end token.flow_sequence_end = tt
 items_speak b o start end token.flow_mapping_end = tt
 items_speak b o start end x = speaks_above (node_taken Flow start end x).item (node_taken Flow start end x).above (lone_below b (state.more b o ∷ [])) (node_speaks Flow start end x)
 
-more_speaks : (b : Brackets) (o start end : yaml_mark_t) (x : TokenBody) → TakenSpeaks (more_taken b o start end x).item (more_taken b o start end x).above
+more_speaks : (b : Brackets) (o start end : yaml_mark_t) (x : TokenBody)
+    → TakenSpeaks (more_taken b o start end x).item (more_taken b o start end x).above
 more_speaks b o start end token.flow_entry = tt
 more_speaks b o start end _ = tt
 
-entries_speak : (o start end : yaml_mark_t) (x : TokenBody) → TakenSpeaks (entries_taken o start end x).item (entries_taken o start end x).above
+entries_speak : (o start end : yaml_mark_t) (x : TokenBody)
+    → TakenSpeaks (entries_taken o start end x).item (entries_taken o start end x).above
 entries_speak o start end token.block_entry = tt
 entries_speak o start end _ = tt
 
-pairs_speak : (o start end : yaml_mark_t) (x : TokenBody) → TakenSpeaks (pairs_taken o start end x).item (pairs_taken o start end x).above
+pairs_speak : (o start end : yaml_mark_t) (x : TokenBody)
+    → TakenSpeaks (pairs_taken o start end x).item (pairs_taken o start end x).above
 pairs_speak o start end token.key = tt
 pairs_speak o start end _ = tt
 
@@ -169,15 +180,18 @@ abbrev FedSpeaks : Fed → Type 0
 FedSpeaks (stop is f) = Unit {0}
 FedSpeaks (go is s) = SpeaksIn is s
 
-given_speaks : (i : Option RawEvent) (above s : List State) → TakenSpeaks i above → FedSpeaks (given_by (record { item = i; above = above }) s)
+given_speaks : (i : Option RawEvent) (above s : List State) → TakenSpeaks i above
+    → FedSpeaks (given_by (record { item = i; above = above }) s)
 given_speaks None above s h = stands_above above s h
 given_speaks (Some i) above s h = voiced_map i.body (stands_above above s) h
 
-with_speaks : (i : RawEvent) (below : Fed) → ((P : Type 0) → Voiced i.body P) → FedSpeaks (with_item i below)
+with_speaks : (i : RawEvent) (below : Fed) → ((P : Type 0) → Voiced i.body P)
+    → FedSpeaks (with_item i below)
 with_speaks i (stop is f) h = tt
 with_speaks i (go is s) h = h (SpeaksIn is s)
 
-turn_speaks : (c : Choice) (x : State) (t : Token) (s : List State) (below : Fed) → FedSpeaks (turn c x t s below)
+turn_speaks : (c : Choice) (x : State) (t : Token) (s : List State) (below : Fed)
+    → FedSpeaks (turn c x t s below)
 turn_speaks (Refuse p o) x t s below = tt
 turn_speaks Take x t s below = given_speaks (taken_at x t).item (taken_at x t).above s (taken_speaks x t)
 turn_speaks Leave x t s below = with_speaks (left_at x t.start_mark) below (left_voiced x t.start_mark)
@@ -190,7 +204,8 @@ feed_speaks x s t = turn_speaks (choice_at x (type_of t.body)) x t s (feed s t)
 abbrev Begins : (List State → Outcome) → Type 0
 Begins k = (s : List State) → Stands s → HasVoice (k s).items (k s).ending
 
-carried_go : (left : ℕ) (is : List RawEvent) (s : List State) (k : List State → Outcome) → SpeaksIn is s → Begins k
+carried_go : (left : ℕ) (is : List RawEvent) (s : List State) (k : List State → Outcome)
+    → SpeaksIn is s → Begins k
     → HasVoice (map (λ (i : RawEvent). (i, left)) is ++ (k s).items) (k s).ending
 carried_go left [] s k h b = b s h
 carried_go left (i ∷ is) s k h b = voiced_map i.body (λ h'. carried_go left is s k h' b) h
@@ -202,27 +217,33 @@ voiced_any (item.event e) h = tt
 voiced_any (item.document i) h = tt
 voiced_any (item.node a t s) h = tt
 
-stopped : (left : ℕ) (is : List RawEvent) (f : Fault) → HasVoice (map (λ (i : RawEvent). (i, left)) is) (Some f)
+stopped : (left : ℕ) (is : List RawEvent) (f : Fault)
+    → HasVoice (map (λ (i : RawEvent). (i, left)) is) (Some f)
 stopped left [] f = tt
 stopped left (i ∷ is) f = voiced_any i.body (stopped left is f)
 
-carried_speaks : (left : ℕ) (fed : Fed) (k : List State → Outcome) → FedSpeaks fed → Begins k → HasVoice (carry left fed k).items (carry left fed k).ending
+carried_speaks : (left : ℕ) (fed : Fed) (k : List State → Outcome) → FedSpeaks fed → Begins k
+    → HasVoice (carry left fed k).items (carry left fed k).ending
 carried_speaks left (stop is f) k h b = stopped left is f
 carried_speaks left (go is s) k h b = carried_go left is s k h b
 
-ended_with : (i : RawEvent) (below : Fed) → ((P : Type 0) → Voiced i.body P) → HasVoice (carry 0 (with_item i below) (λ _. finished)).items (carry 0 (with_item i below) (λ _. finished)).ending
+ended_with : (i : RawEvent) (below : Fed) → ((P : Type 0) → Voiced i.body P)
+    → HasVoice (carry 0 (with_item i below) (λ _. finished)).items
+    (carry 0 (with_item i below) (λ _. finished)).ending
 ended_with i (stop is f) h = h _
 ended_with i (go is s) h = h _
 
 ended_speaks : (c : Choice) (x : State) (t : Token) (s : List State) (below : Fed) → (c ≡ Take → ⊥)
-    → HasVoice (carry 0 (turn c x t s below) (λ _. finished)).items (carry 0 (turn c x t s below) (λ _. finished)).ending
+    → HasVoice (carry 0 (turn c x t s below) (λ _. finished)).items
+    (carry 0 (turn c x t s below) (λ _. finished)).ending
 ended_speaks (Refuse p o) x t s below h = tt
 ended_speaks Take x t s below h = absurd (h refl)
 ended_speaks Leave x t s below h = ended_with (left_at x t.start_mark) below (left_voiced x t.start_mark)
 ended_speaks Open x t s below h = tt
 
 -- A stack that isn't empty has an event to give, or a fault.
-pub speaks : (ts : List Token) (f : Option Fault) (s : List State) → Stands s → HasVoice (run ts s f).items (run ts s f).ending
+pub speaks : (ts : List Token) (f : Option Fault) (s : List State) → Stands s
+    → HasVoice (run ts s f).items (run ts s f).ending
 unfolding run feed
 speaks ts f [] h = absurd h
 speaks [] (Some e) (x ∷ s) h = tt
@@ -231,11 +252,14 @@ speaks (t ∷ ts) f (x ∷ s) h = carried_speaks (length ts) (feed (x ∷ s) t) 
 
 -- ---- resolved
 
-pub not_noted : (o : Option (List ℕ)) (a : Option (List ℕ)) (shape : item.Shape) (from at : yaml_mark_t) (ds ds' : Directives) → with_resolved o a shape from at ds ≡ noted ds' → ⊥
+pub not_noted : (o : Option (List ℕ)) (a : Option (List ℕ)) (shape : item.Shape)
+    (from at : yaml_mark_t) (ds ds' : Directives) → with_resolved o a shape from at ds ≡ noted ds'
+    → ⊥
 not_noted None a shape from at ds ds' h = cc
 not_noted (Some t) a shape from at ds ds' h = cc
 
-pub noted_body : (b : RawEventBody) (from : yaml_mark_t) (ds ds' : Directives) (P : Type 0) → settle_body b from ds ≡ noted ds' → Voiced b P → P
+pub noted_body : (b : RawEventBody) (from : yaml_mark_t) (ds ds' : Directives) (P : Type 0)
+    → settle_body b from ds ≡ noted ds' → Voiced b P → P
 noted_body (item.version_directive x y) from ds ds' P e h = h
 noted_body (item.tag_directive x y) from ds ds' P e h = h
 noted_body (item.event b) from ds ds' P e h = cc
@@ -243,14 +267,18 @@ noted_body (item.document i) from ds ds' P e h = cc
 noted_body (item.node a None shape) from ds ds' P e h = cc
 noted_body (item.node a (Some t) shape) from ds ds' P e h = absurd (not_noted (resolved ds.tags t.handle t.suffix) a shape from t.mark ds ds' e)
 
-read_on_speaks : (c : Settled) (g : Given) (gs : List Given) (f : Option Fault) (ds : Directives) → settle g.0 ds ≡ c → Voiced g.0.body (HasVoice gs f)
-    → ((ds' : Directives) → HasVoice gs f → (reading gs f ds').events ≡ [] → (reading gs f ds').ending ≡ None → ⊥)
-    → (read_on c g.0 g.1 (λ ds'. reading gs f ds')).events ≡ [] → (read_on c g.0 g.1 (λ ds'. reading gs f ds')).ending ≡ None → ⊥
+read_on_speaks : (c : Settled) (g : Given) (gs : List Given) (f : Option Fault) (ds : Directives)
+    → settle g.0 ds ≡ c → Voiced g.0.body (HasVoice gs f)
+    → ((ds' : Directives) → HasVoice gs f → (reading gs f ds').events ≡ []
+    → (reading gs f ds').ending ≡ None → ⊥)
+    → (read_on c g.0 g.1 (λ ds'. reading gs f ds')).events ≡ []
+    → (read_on c g.0 g.1 (λ ds'. reading gs f ds')).ending ≡ None → ⊥
 read_on_speaks (refused e) g gs f ds s h k p q = cc
 read_on_speaks (gave b ds') g gs f ds s h k p q = cc
 read_on_speaks (noted ds') g gs f ds s h k p q = k ds' (noted_body g.0.body g.0.from ds ds' (HasVoice gs f) s h) p q
 
-pub reading_speaks : (gs : List Given) (f : Option Fault) (ds : Directives) → HasVoice gs f → (reading gs f ds).events ≡ [] → (reading gs f ds).ending ≡ None → ⊥
+pub reading_speaks : (gs : List Given) (f : Option Fault) (ds : Directives) → HasVoice gs f
+    → (reading gs f ds).events ≡ [] → (reading gs f ds).ending ≡ None → ⊥
 unfolding reading
 reading_speaks [] None ds h p q = h
 reading_speaks [] (Some e) ds h p q = cc

@@ -33,22 +33,27 @@ SettledFits (refused f) i Y X = Unit {0}
 SettledFits (gave b ds) i Y X = (es : List Event) → Y es → X (placed b i ∷ es)
 SettledFits (noted ds) i Y X = (es : List Event) → Y es → X es
 
-known_fits : (b : Bool) (ds : Directives) (f : Fault) (i : RawEvent) (Y X : List Event → Type 0) → ((es : List Event) → Y es → X es) → SettledFits (if b then noted ds else refused f) i Y X
+known_fits : (b : Bool) (ds : Directives) (f : Fault) (i : RawEvent) (Y X : List Event → Type 0)
+    → ((es : List Event) → Y es → X es) → SettledFits (if b then noted ds else refused f) i Y X
 known_fits true ds f i Y X h = h
 known_fits false ds f i Y X h = tt
 
-version_fits : (o : Option yaml_version_directive_t) (tags : List TagDirective) (major minor : ℤ) (at : yaml_mark_t) (i : RawEvent) (Y X : List Event → Type 0) → ((es : List Event) → Y es → X es)
+version_fits : (o : Option yaml_version_directive_t) (tags : List TagDirective) (major minor : ℤ)
+    (at : yaml_mark_t) (i : RawEvent) (Y X : List Event → Type 0)
+    → ((es : List Event) → Y es → X es)
     → SettledFits (with_version o tags major minor at) i Y X
 version_fits (Some v) tags major minor at i Y X h = tt
 version_fits None tags major minor at i Y X h = known_fits (is_known_version major minor) _ _ i Y X h
 
-handle_fits : (o : Option (List ℕ)) (ds : Directives) (handle prefix : List ℕ) (at : yaml_mark_t) (i : RawEvent) (Y X : List Event → Type 0) → ((es : List Event) → Y es → X es)
+handle_fits : (o : Option (List ℕ)) (ds : Directives) (handle prefix : List ℕ) (at : yaml_mark_t)
+    (i : RawEvent) (Y X : List Event → Type 0) → ((es : List Event) → Y es → X es)
     → SettledFits (with_tag o ds handle prefix at) i Y X
 handle_fits (Some other) ds handle prefix at i Y X h = tt
 handle_fits None ds handle prefix at i Y X h = h
 
 tagged_is : (b : Bool) (anchor : Option (List ℕ)) (tag value : List ℕ) (style : yaml_scalar_style_t)
-    → IsScalar (if b then event.scalar anchor None value true false style else event.scalar anchor (Some tag) value false false style)
+    → IsScalar (if b then event.scalar anchor None value true false style else event.scalar anchor
+    (Some tag) value false false style)
 tagged_is true anchor tag value style = tt
 tagged_is false anchor tag value style = tt
 
@@ -59,12 +64,15 @@ event_is anchor (Some tag) (item.scalar value style) = tagged_is (bytes_eq tag (
 event_is anchor tag (item.sequence style) = tt
 event_is anchor tag (item.mapping style) = tt
 
-resolved_fits : (o anchor : Option (List ℕ)) (shape : Shape) (from at : yaml_mark_t) (ds : Directives) (i : RawEvent) (Y X : List Event → Type 0)
-    → ((b : EventBody) → IsOf shape b → (es : List Event) → Y es → X (placed b i ∷ es)) → SettledFits (with_resolved o anchor shape from at ds) i Y X
+resolved_fits : (o anchor : Option (List ℕ)) (shape : Shape) (from at : yaml_mark_t)
+    (ds : Directives) (i : RawEvent) (Y X : List Event → Type 0)
+    → ((b : EventBody) → IsOf shape b → (es : List Event) → Y es → X (placed b i ∷ es))
+    → SettledFits (with_resolved o anchor shape from at ds) i Y X
 resolved_fits None anchor shape from at ds i Y X h = tt
 resolved_fits (Some tag) anchor shape from at ds i Y X h = h (node_event anchor (Some tag) shape) (event_is anchor (Some tag) shape)
 
-settled_fits : (b : RawEventBody) (from : yaml_mark_t) (ds : Directives) (i : RawEvent) (Y X : List Event → Type 0) → FitsBody b i Y X → SettledFits (settle_body b from ds) i Y X
+settled_fits : (b : RawEventBody) (from : yaml_mark_t) (ds : Directives) (i : RawEvent)
+    (Y X : List Event → Type 0) → FitsBody b i Y X → SettledFits (settle_body b from ds) i Y X
 settled_fits (item.event body) from ds i Y X h = h
 settled_fits (item.version_directive major minor) from ds i Y X h = version_fits ds.version ds.tags major minor from i Y X h
 settled_fits (item.tag_directive handle prefix) from ds i Y X h = handle_fits (directive_for handle ds.tags) ds handle prefix from i Y X h
@@ -82,13 +90,16 @@ pub record Extended (X : List Event → Type 0) (es : List Event) : Type 0 where
 abbrev Extends : List Given → (List Event → Type 0) → Type 0
 Extends gs X = (f : Option Fault) (ds : Directives) → Extended X (told_events (reading gs f ds).events)
 
-read_fits : (c : Settled) (i : RawEvent) (left : ℕ) (k : Directives → Reading) (Y X : List Event → Type 0) → SettledFits c i Y X → Has X → ((ds : Directives) → Extended Y (told_events (k ds).events))
+read_fits : (c : Settled) (i : RawEvent) (left : ℕ) (k : Directives → Reading)
+    (Y X : List Event → Type 0) → SettledFits c i Y X → Has X
+    → ((ds : Directives) → Extended Y (told_events (k ds).events))
     → Extended X (told_events (read_on c i left k).events)
 read_fits (refused f) i left k Y X h s e = record { more = s.given; is = s.is }
 read_fits (gave b ds) i left k Y X h s e = record { more = (e ds).more; is = h _ (e ds).is }
 read_fits (noted ds) i left k Y X h s e = record { more = (e ds).more; is = h _ (e ds).is }
 
-item_extends : (i : RawEvent) (left : ℕ) (gs : List Given) (Y X : List Event → Type 0) → Fits i Y X → Has X → Extends gs Y → Extends ((i, left) ∷ gs) X
+item_extends : (i : RawEvent) (left : ℕ) (gs : List Given) (Y X : List Event → Type 0) → Fits i Y X
+    → Has X → Extends gs Y → Extends ((i, left) ∷ gs) X
 unfolding reading
 item_extends i left gs Y X h s e = λ f ds. read_fits (settle i ds) i left (λ d. reading gs f d) Y X (settled_fits i.body i.from ds i Y X h) s (λ d. e f d)
 
@@ -96,7 +107,8 @@ none_extends : (X : List Event → Type 0) → Has X → Extends [] X
 unfolding reading
 none_extends X s = λ f ds. record { more = s.given; is = s.is }
 
-silent_extends : (gs : List Given) (Y X : List Event → Type 0) → ((es : List Event) → Y es → X es) → Extends gs Y → Extends gs X
+silent_extends : (gs : List Given) (Y X : List Event → Type 0) → ((es : List Event) → Y es → X es)
+    → Extends gs Y → Extends gs X
 silent_extends gs Y X h e = λ f ds. record { more = (e f ds).more; is = h _ (e f ds).is }
 
 -- ---- a stack at a token
@@ -105,16 +117,20 @@ abbrev FedFits : (List Event → Type 0) → (List Event → Type 0) → Fed →
 FedFits P X (stop is f) = (left : ℕ) → Extends (map (λ (i : RawEvent). (i, left)) is) X
 FedFits P X (go is s) = (left : ℕ) (gs : List Given) → Extends gs (Over s P) → Extends (map (λ (i : RawEvent). (i, left)) is ++ gs) X
 
-fed_with : (P Y X : List Event → Type 0) (i : RawEvent) (fed : Fed) → Fits i Y X → Has X → FedFits P Y fed → FedFits P X (with_item i fed)
+fed_with : (P Y X : List Event → Type 0) (i : RawEvent) (fed : Fed) → Fits i Y X → Has X
+    → FedFits P Y fed → FedFits P X (with_item i fed)
 fed_with P Y X i (stop is f) h s k = λ left. item_extends i left (map (λ (j : RawEvent). (j, left)) is) Y X h s (k left)
 fed_with P Y X i (go is z) h s k = λ left gs e. item_extends i left (map (λ (j : RawEvent). (j, left)) is ++ gs) Y X h s (k left gs e)
 
-fed_taken : (P X : List Event → Type 0) (i : Option RawEvent) (above s : List State) → FitsIf i (Over above (Over s P)) X → Has X → FedFits P X (given_by (record { item = i; above = above }) s)
+fed_taken : (P X : List Event → Type 0) (i : Option RawEvent) (above s : List State)
+    → FitsIf i (Over above (Over s P)) X → Has X
+    → FedFits P X (given_by (record { item = i; above = above }) s)
 fed_taken P X None above s h k = λ left gs e. silent_extends gs (Over above (Over s P)) X h (subst (λ (Q : List Event → Type 0). Extends gs Q) (over_both above s P) e)
 fed_taken P X (Some i) above s h k = λ left gs e. item_extends i left gs (Over above (Over s P)) X h k (subst (λ (Q : List Event → Type 0). Extends gs Q) (over_both above s P) e)
 
 -- a document that begins with its root
-opened_fits : (P : List Event → Type 0) (x : State) (t : Token) (s : List State) → Has P → choice_at x (type_of t.body) ≡ Open
+opened_fits : (P : List Event → Type 0) (x : State) (t : Token) (s : List State) → Has P
+    → choice_at x (type_of t.body) ≡ Open
     → FedFits P (ToGive x (Over s P)) (turn Open x t s (feed s t))
 opened_fits P x t s h e =
     let Q : List Event → Type 0 = Over (state.document_end ∷ state.documents ∷ s) P in
@@ -127,7 +143,8 @@ opened_fits P x t s h e =
     (node_fits (wants_of Root) t.start_mark t.end_mark t.body Q)
     (state_has (state.optional Root t.start_mark) Q (stack_has (state.document_end ∷ state.documents ∷ s) P h)))
 
-turn_fits : (P : List Event → Type 0) (c : Choice) (x : State) (t : Token) (s : List State) → Has P → choice_at x (type_of t.body) ≡ c → FedFits P (Over s P) (feed s t)
+turn_fits : (P : List Event → Type 0) (c : Choice) (x : State) (t : Token) (s : List State) → Has P
+    → choice_at x (type_of t.body) ≡ c → FedFits P (Over s P) (feed s t)
     → FedFits P (ToGive x (Over s P)) (turn c x t s (feed s t))
 turn_fits P (Refuse p o) x t s h e k = λ left. none_extends (ToGive x (Over s P)) (state_has x (Over s P) (stack_has s P h))
 turn_fits P Take x t s h e k = fed_taken P (ToGive x (Over s P)) (taken_at x t).item (taken_at x t).above s (taking_fits x t (Over s P) e) (state_has x (Over s P) (stack_has s P h))
@@ -135,22 +152,27 @@ turn_fits P Leave x t s h e k =
     fed_with P (Over s P) (ToGive x (Over s P)) (left_at x t.start_mark) (feed s t) (leaving_fits x (type_of t.body) t.start_mark (Over s P) e) (state_has x (Over s P) (stack_has s P h)) k
 turn_fits P Open x t s h e k = opened_fits P x t s h e
 
-feed_fits : (P : List Event → Type 0) (s : List State) (t : Token) → Has P → FedFits P (Over s P) (feed s t)
+feed_fits : (P : List Event → Type 0) (s : List State) (t : Token) → Has P
+    → FedFits P (Over s P) (feed s t)
 unfolding feed
 feed_fits P [] t h = λ left gs e. e
 feed_fits P (x ∷ s) t h = turn_fits P (choice_at x (type_of t.body)) x t s h refl (feed_fits P s t h)
 
 -- ---- a list of tokens
 
-carry_fits : (P X : List Event → Type 0) (left : ℕ) (fed : Fed) (k : List State → Outcome) → FedFits P X fed → ((s : List State) → Extends (k s).items (Over s P)) → Extends (carry left fed k).items X
+carry_fits : (P X : List Event → Type 0) (left : ℕ) (fed : Fed) (k : List State → Outcome)
+    → FedFits P X fed → ((s : List State) → Extends (k s).items (Over s P))
+    → Extends (carry left fed k).items X
 carry_fits P X left (stop is f) k h e = h left
 carry_fits P X left (go is s) k h e = h left (k s).items (e s)
 
-ending_fits : (P : List Event → Type 0) (s : List State) (f : Fault) → Has P → Extends (ending_at s f).items (Over s P)
+ending_fits : (P : List Event → Type 0) (s : List State) (f : Fault) → Has P
+    → Extends (ending_at s f).items (Over s P)
 ending_fits P [] f h = none_extends P h
 ending_fits P (x ∷ s) f h = none_extends (Over (x ∷ s) P) (stack_has (x ∷ s) P h)
 
-run_fits : (P : List Event → Type 0) (ts : List Token) (s : List State) (f : Option Fault) → Has P → Extends (run ts s f).items (Over s P)
+run_fits : (P : List Event → Type 0) (ts : List Token) (s : List State) (f : Option Fault) → Has P
+    → Extends (run ts s f).items (Over s P)
 unfolding run
 run_fits P [] s (Some f) h = ending_fits P s f h
 run_fits P [] s None h = carry_fits P (Over s P) 0 (feed s no_token) (λ z. finished) (feed_fits P s no_token h) (λ z. none_extends (Over z P) (stack_has z P h))
@@ -161,11 +183,14 @@ run_fits P (t ∷ ts) s f h = carry_fits P (Over s P) (length ts) (feed s t) (λ
 abbrev NoMore : List Event → Type 0
 NoMore es = es ≡ []
 
-before_end : (ds : List DocumentContent) (last : Event) (rest : List Event) → rest ≡ [] → documents_before ds (last ∷ rest) ≡ contents_events ds last
+before_end : (ds : List DocumentContent) (last : Event) (rest : List Event) → rest ≡ []
+    → documents_before ds (last ∷ rest) ≡ contents_events ds last
 before_end [] last rest e = ap (λ (z : List Event). last ∷ z) e
 before_end (d ∷ ds) last rest e = ap (λ (z : List Event). document_events d z) (before_end ds last rest e)
 
-documents_load : (outside gs : List Told) (more : List Event) (own : Option Fault) (count : ℕ) → AreOutside outside → Documents NoMore (told_events gs ++ more) → LoadsByContent own count (outside ++ gs)
+documents_load : (outside gs : List Told) (more : List Event) (own : Option Fault) (count : ℕ)
+    → AreOutside outside → Documents NoMore (told_events gs ++ more)
+    → LoadsByContent own count (outside ++ gs)
 documents_load outside gs more own count o h =
     by_content h.part.0 (at_span event.stream_end h.part.1) tt outside gs more own count o
     (h.same ∙ before_end h.part.0 (at_span event.stream_end h.part.1) h.rest h.goes)
@@ -173,11 +198,13 @@ documents_load outside gs more own count o h =
 abbrev last_event : Event
 last_event = spanning event.stream_end zero_mark zero_mark
 
-none_load : (gs : List Told) (more : List Event) (own : Option Fault) (count : ℕ) → told_events gs ++ more ≡ [] → LoadsByContent own count gs
+none_load : (gs : List Told) (more : List Event) (own : Option Fault) (count : ℕ)
+    → told_events gs ++ more ≡ [] → LoadsByContent own count gs
 none_load [] more own count e = by_content [] last_event tt [] [] (last_event ∷ []) own count tt refl
 none_load (g ∷ gs) more own count e = absurd (cc)
 
-stream_loads : (gs : List Told) (more : List Event) (own : Option Fault) (count : ℕ) → Stream NoMore (told_events gs ++ more) → LoadsByContent own count gs
+stream_loads : (gs : List Told) (more : List Event) (own : Option Fault) (count : ℕ)
+    → Stream NoMore (told_events gs ++ more) → LoadsByContent own count gs
 stream_loads [] more own count h = none_load [] [] own count refl
 stream_loads (g ∷ gs) more own count h =
     let e : told_events (g ∷ gs) ++ more ≡ at_span (event.stream_start h.part.0) h.part.1 ∷ h.rest = h.same in
@@ -185,7 +212,9 @@ stream_loads (g ∷ gs) more own count h =
     let q : h.rest ≡ told_events gs ++ more = cc in
     documents_load (g ∷ []) gs more own count (subst (λ (x : Event). IsOutside x.body) p tt, tt) (subst (Documents NoMore) q h.goes)
 
-stack_loads : (s : List State) (gs : List Told) (more : List Event) (own : Option Fault) (count : ℕ) → IsStack s → is_between s ≡ true → Over s NoMore (told_events gs ++ more) → LoadsByContent own count gs
+stack_loads : (s : List State) (gs : List Told) (more : List Event) (own : Option Fault) (count : ℕ)
+    → IsStack s → is_between s ≡ true → Over s NoMore (told_events gs ++ more)
+    → LoadsByContent own count gs
 stack_loads [] gs more own count i b h = none_load gs more own count h
 stack_loads (state.stream ∷ s) gs more own count i b h = stream_loads gs more own count (subst (λ (z : List State). Stream (Over z NoMore) (told_events gs ++ more)) i h)
 stack_loads (state.first ∷ s) gs more own count i b h = documents_load [] gs more own count tt (subst (λ (z : List State). Documents (Over z NoMore) (told_events gs ++ more)) i h)
@@ -193,7 +222,9 @@ stack_loads (state.documents ∷ s) gs more own count i b h = documents_load [] 
 stack_loads (_ ∷ s) gs more own count i b h = absurd (cc)
 
 -- Each load of what is given between documents is one that content says.
-pub run_loads : (ts : List Token) (s : List State) (f : Option Fault) (ds : Directives) (own : Option Fault) (count : ℕ) → IsStack s → is_between s ≡ true → LoadsByContent own count (reading_of (run ts s f) ds).events
+pub run_loads : (ts : List Token) (s : List State) (f : Option Fault) (ds : Directives)
+    (own : Option Fault) (count : ℕ) → IsStack s → is_between s ≡ true
+    → LoadsByContent own count (reading_of (run ts s f) ds).events
 run_loads ts s f ds own count i b =
     let e = run_fits NoMore ts s f (record { given = []; is = refl }) (run ts s f).ending ds in
     stack_loads s (reading_of (run ts s f) ds).events e.more own count i b e.is

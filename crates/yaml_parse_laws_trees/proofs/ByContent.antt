@@ -23,11 +23,13 @@ mutual
   events_more (sequence h implicit style items at) xs ys = ap (λ (z : List Event). spanning (event.sequence_start h.anchor h.tag implicit style) h.start_mark h.end_mark ∷ z) (items_more items (spanning event.sequence_end at.start_mark at.end_mark ∷ xs) ys)
   events_more (mapping h implicit style pairs at) xs ys = ap (λ (z : List Event). spanning (event.mapping_start h.anchor h.tag implicit style) h.start_mark h.end_mark ∷ z) (pairs_more pairs (spanning event.mapping_end at.start_mark at.end_mark ∷ xs) ys)
 
-  items_more : (cs : Contents) (xs ys : List Event) → item_events cs (xs ++ ys) ≡ item_events cs xs ++ ys
+  items_more : (cs : Contents) (xs ys : List Event)
+      → item_events cs (xs ++ ys) ≡ item_events cs xs ++ ys
   items_more no_items xs ys = refl
   items_more (item c more) xs ys = ap (events c) (items_more more xs ys) ∙ events_more c (item_events more xs) ys
 
-  pairs_more : (cs : Pairs) (xs ys : List Event) → pair_events cs (xs ++ ys) ≡ pair_events cs xs ++ ys
+  pairs_more : (cs : Pairs) (xs ys : List Event)
+      → pair_events cs (xs ++ ys) ≡ pair_events cs xs ++ ys
   pairs_more no_pairs xs ys = refl
   pairs_more (pair key value more) xs ys =
       ap (λ (z : List Event). events key (events value z)) (pairs_more more xs ys)
@@ -38,7 +40,8 @@ mutual
 abbrev open_events : DocumentContent → List Event
 open_events d = start_event d ∷ events d.root []
 
-document_open : (d : DocumentContent) (rest : List Event) → document_events d rest ≡ open_events d ++ end_event d ∷ rest
+document_open : (d : DocumentContent) (rest : List Event)
+    → document_events d rest ≡ open_events d ++ end_event d ∷ rest
 document_open d rest = ap (λ (z : List Event). start_event d ∷ z) (events_more d.root [] (end_event d ∷ rest))
 
 told_more : (xs ys : List Told) → told_events (xs ++ ys) ≡ told_events xs ++ told_events ys
@@ -49,14 +52,17 @@ told_more (x ∷ xs) ys = ap (λ (z : List Event). x.0 ∷ z) (told_more xs ys)
 
 data Split (gs : List Told) (more xs rest : List Event) : Type 0 where
   short : (y : Event) (ys : List Event) → xs ≡ told_events gs ++ y ∷ ys → Split gs more xs rest
-  whole : (own left : List Told) → gs ≡ own ++ left → told_events own ≡ xs → told_events left ++ more ≡ rest → Split gs more xs rest
+  whole : (own left : List Told) → gs ≡ own ++ left → told_events own ≡ xs
+      → told_events left ++ more ≡ rest → Split gs more xs rest
 
-split_on : (x : Event) (xs : List Event) (g : Told) (gs : List Told) (more rest : List Event) → g.0 ≡ x → Split gs more xs rest → Split (g ∷ gs) more (x ∷ xs) rest
+split_on : (x : Event) (xs : List Event) (g : Told) (gs : List Told) (more rest : List Event)
+    → g.0 ≡ x → Split gs more xs rest → Split (g ∷ gs) more (x ∷ xs) rest
 split_on x xs g gs more rest p (short y ys h) = short y ys (ap (λ (z : Event). z ∷ xs) (sym p) ∙ ap (λ (z : List Event). g.0 ∷ z) h)
 split_on x xs g gs more rest p (whole own left a b c) =
     whole (g ∷ own) left (ap (λ (z : List Told). g ∷ z) a) (ap (λ (z : Event). z ∷ told_events own) p ∙ ap (λ (z : List Event). x ∷ z) b) c
 
-split : (xs : List Event) (gs : List Told) (more rest : List Event) → told_events gs ++ more ≡ xs ++ rest → Split gs more xs rest
+split : (xs : List Event) (gs : List Told) (more rest : List Event)
+    → told_events gs ++ more ≡ xs ++ rest → Split gs more xs rest
 split [] gs more rest e = whole [] gs refl refl e
 split (x ∷ xs) [] more rest e = short x xs refl
 split (x ∷ xs) (g ∷ gs) more rest e =
@@ -66,8 +72,11 @@ split (x ∷ xs) (g ∷ gs) more rest e =
 
 -- ---- where each alias has its anchor, the content is numbered
 
-reach_on : (fed : LoadStep) (wrong : Option Fault) (names : List (List ℕ)) (later : Option (Fault × ℕ)) (n : ℕ) (xs es : List Event)
-    → Inner fed wrong names → or_later wrong n later ≡ None → ((k : Loading) → Knows k.anchors names → later ≡ None → (m : Loading) × (load xs k ≡ load es m))
+reach_on : (fed : LoadStep) (wrong : Option Fault) (names : List (List ℕ))
+    (later : Option (Fault × ℕ)) (n : ℕ) (xs es : List Event)
+    → Inner fed wrong names → or_later wrong n later ≡ None
+    → ((k : Loading) → Knows k.anchors names → later ≡ None → (m : Loading)
+    × (load xs k ≡ load es m))
     → (m : Loading) × (turn fed (load xs) xs ≡ load es m)
 reach_on (goes_on k) wrong names later n xs es i e h = h k i.1 (ap (λ (o : Option Fault). or_later o n later) (sym i.0) ∙ e)
 reach_on (loaded d) wrong names later n xs es i e h = absurd i
@@ -75,7 +84,8 @@ reach_on (refused f) wrong names later n xs es i e h =
     let p : or_later (Some f) n later ≡ None = ap (λ (o : Option Fault). or_later o n later) (sym i) ∙ e in
     absurd (cc)
 
-reach : (gs : List Told) (es : List Event) (l : Loading) (names : List (List ℕ)) → AreInner (told_events gs) → Knows l.anchors names → first_wrong gs names ≡ None
+reach : (gs : List Told) (es : List Event) (l : Loading) (names : List (List ℕ))
+    → AreInner (told_events gs) → Knows l.anchors names → first_wrong gs names ≡ None
     → (m : Loading) × (load (told_events gs ++ es) l ≡ load es m)
 unfolding load first_wrong
 reach [] es l names h k e = (l, refl)
@@ -84,7 +94,8 @@ reach (g ∷ gs) es l names h k e =
     (inner_step g.0.body g.0.start_mark g.0.end_mark l names h.0 k) e
     (λ m c p. reach gs es m (names_behind g.0.body names) h.1 c p)
 
-is_right : (r : Result Document Fault) (x : Document) → behind r (λ e. loading.document e []) ≡ loading.document x [] → (e : Document) × (r ≡ Ok e)
+is_right : (r : Result Document Fault) (x : Document)
+    → behind r (λ e. loading.document e []) ≡ loading.document x [] → (e : Document) × (r ≡ Ok e)
 is_right (Ok e) x h = (e, refl)
 is_right (Err f) x h = absurd (cc)
 
@@ -95,11 +106,15 @@ right_behind : (d : DocumentContent) (gs : List Told) (n : ℕ) → RightBehind 
 unfolding first_wrong
 right_behind d gs n e = e
 
-begun : (d : DocumentContent) (m : Loading) (es : List Event) → load es (started_by d) ≡ load (end_event d ∷ []) m → load (start_event d ∷ es) nothing_loaded ≡ loading.document (loading.ended m d.end_implicit d.end_at.end_mark) []
+begun : (d : DocumentContent) (m : Loading) (es : List Event)
+    → load es (started_by d) ≡ load (end_event d ∷ []) m
+    → load (start_event d ∷ es) nothing_loaded
+    ≡ loading.document (loading.ended m d.end_implicit d.end_at.end_mark) []
 unfolding load
 begun d m es e = e
 
-content_numbered : (d : DocumentContent) (gs : List Told) → told_events gs ≡ open_events d → first_wrong gs [] ≡ None → (e : Document) × (document_of d ≡ Ok e)
+content_numbered : (d : DocumentContent) (gs : List Told) → told_events gs ≡ open_events d
+    → first_wrong gs [] ≡ None → (e : Document) × (document_of d ≡ Ok e)
 content_numbered d [] b k = absurd (cc)
 content_numbered d (g ∷ gs) b k =
     let first : start_event d ≡ g.0 = cc in
@@ -113,12 +128,14 @@ content_numbered d (g ∷ gs) b k =
 -- ---- the loads
 
 -- no whole document comes any more
-none_by : (gs : List Told) (own : Option Fault) (count : ℕ) → NoneNext gs → LoadsByContent own count gs
+none_by : (gs : List Told) (own : Option Fault) (count : ℕ) → NoneNext gs
+    → LoadsByContent own count gs
 none_by gs None count h = ended gs (h, refl)
 none_by gs (Some f) count h = next.refused gs f count (inr (h, (refl, refl)))
 
 -- some alias is wrong, or none
-front_on : (o : Option (Fault × ℕ)) (outside gs : List Told) (own : Option Fault) (count : ℕ) (d : DocumentContent) (y : Event) (ys : List Event) → first_wrong gs [] ≡ o → AreOutside outside
+front_on : (o : Option (Fault × ℕ)) (outside gs : List Told) (own : Option Fault) (count : ℕ)
+    (d : DocumentContent) (y : Event) (ys : List Event) → first_wrong gs [] ≡ o → AreOutside outside
     → document_events d [] ≡ told_events gs ++ y ∷ ys → LoadsByContent own count (outside ++ gs)
 front_on (Some w) outside gs own count d y ys k h e =
     next.refused (outside ++ gs) w.0 w.1 (inl (record {
@@ -134,7 +151,9 @@ front_on None outside gs own count d y ys k h e =
       right = k;
     })
 
-front_by : (outside gs : List Told) (own : Option Fault) (count : ℕ) (d : DocumentContent) (y : Event) (ys : List Event) → AreOutside outside → document_events d [] ≡ told_events gs ++ y ∷ ys → LoadsByContent own count (outside ++ gs)
+front_by : (outside gs : List Told) (own : Option Fault) (count : ℕ) (d : DocumentContent)
+    (y : Event) (ys : List Event) → AreOutside outside
+    → document_events d [] ≡ told_events gs ++ y ∷ ys → LoadsByContent own count (outside ++ gs)
 front_by outside gs own count d y ys h e = front_on (first_wrong gs []) outside gs own count d y ys refl h e
 
 -- some content: nothing of it comes
@@ -144,11 +163,13 @@ zero_span = record { start_mark = zero_mark; end_mark = zero_mark }
 abbrev some_content : DocumentContent
 some_content = record { version = None; directives = []; start_implicit = true; start_at = zero_span; root = alias [] zero_span; end_implicit = true; end_at = zero_span }
 
-nothing_by : (gs : List Told) (own : Option Fault) (count : ℕ) → AreOutside gs → LoadsByContent own count gs
+nothing_by : (gs : List Told) (own : Option Fault) (count : ℕ) → AreOutside gs
+    → LoadsByContent own count gs
 nothing_by gs own count h =
     subst (λ (z : List Told). LoadsByContent own count z) (no_rest gs) (front_by gs [] own count some_content (start_event some_content) (events some_content.root (end_event some_content ∷ [])) h refl)
 
-outside_more : (os : List Told) (g : Told) → AreOutside os → IsOutside g.0.body → AreOutside (os ++ g ∷ [])
+outside_more : (os : List Told) (g : Told) → AreOutside os → IsOutside g.0.body
+    → AreOutside (os ++ g ∷ [])
 outside_more [] g h k = (k, tt)
 outside_more (o ∷ os) g h k = (h.0, outside_more os g h.1 k)
 
@@ -156,8 +177,11 @@ outside_more (o ∷ os) g h k = (h.0, outside_more os g h.1 k)
 abbrev Others : DocumentContent → List Told → List Event → List Event → Type 0
 Others d left more rest = told_events left ++ more ≡ end_event d ∷ rest
 
-whole_on : (o : Option (Fault × ℕ)) (outside own : List Told) (g : Told) (left : List Told) (f : Option Fault) (count : ℕ) (d : DocumentContent) → first_wrong own [] ≡ o → AreOutside outside → told_events own ≡ open_events d
-    → g.0 ≡ end_event d → LoadsByContent f count left → LoadsByContent f count (outside ++ (own ++ g ∷ left))
+whole_on : (o : Option (Fault × ℕ)) (outside own : List Told) (g : Told) (left : List Told)
+    (f : Option Fault) (count : ℕ) (d : DocumentContent) → first_wrong own [] ≡ o
+    → AreOutside outside → told_events own ≡ open_events d
+    → g.0 ≡ end_event d → LoadsByContent f count left
+    → LoadsByContent f count (outside ++ (own ++ g ∷ left))
 whole_on (Some w) outside own g left f count d k h b p more =
     next.refused (outside ++ (own ++ g ∷ left)) w.0 w.1 (inl (record {
       told = own;
@@ -181,8 +205,11 @@ whole_on None outside own g left f count d k h b p more =
       numbered = n.1;
     }) more
 
-document_on : (outside own left : List Told) (more rest : List Event) (f : Option Fault) (count : ℕ) (d : DocumentContent) → AreOutside outside → told_events own ≡ open_events d → Others d left more rest
-    → ((gs : List Told) → told_events gs ++ more ≡ rest → LoadsByContent f count gs) → LoadsByContent f count (outside ++ (own ++ left))
+document_on : (outside own left : List Told) (more rest : List Event) (f : Option Fault) (count : ℕ)
+    (d : DocumentContent) → AreOutside outside → told_events own ≡ open_events d
+    → Others d left more rest
+    → ((gs : List Told) → told_events gs ++ more ≡ rest → LoadsByContent f count gs)
+    → LoadsByContent f count (outside ++ (own ++ left))
 document_on outside own [] more rest f count d h b c go =
     subst (λ (z : List Told). LoadsByContent f count (outside ++ z)) (sym (no_rest own))
     (front_by outside own f count d (end_event d) [] h (document_open d [] ∙ ap (λ (z : List Event). z ++ end_event d ∷ []) (sym b)))
@@ -191,8 +218,10 @@ document_on outside own (g ∷ left) more rest f count d h b c go =
     let q : told_events left ++ more ≡ rest = cc in
     whole_on (first_wrong own []) outside own g left f count d refl h b p (go left q)
 
-split_loads : (outside gs : List Told) (more rest : List Event) (f : Option Fault) (count : ℕ) (d : DocumentContent) → AreOutside outside → Split gs more (open_events d) (end_event d ∷ rest)
-    → ((hs : List Told) → told_events hs ++ more ≡ rest → LoadsByContent f count hs) → LoadsByContent f count (outside ++ gs)
+split_loads : (outside gs : List Told) (more rest : List Event) (f : Option Fault) (count : ℕ)
+    (d : DocumentContent) → AreOutside outside → Split gs more (open_events d) (end_event d ∷ rest)
+    → ((hs : List Told) → told_events hs ++ more ≡ rest → LoadsByContent f count hs)
+    → LoadsByContent f count (outside ++ gs)
 split_loads outside gs more rest f count d h (short y ys e) go =
     front_by outside gs f count d y (ys ++ end_event d ∷ []) h
     (document_open d [] ∙ ap (λ (z : List Event). z ++ end_event d ∷ []) e ∙ append_assoc (told_events gs) (y ∷ ys) (end_event d ∷ []))

@@ -24,7 +24,9 @@ Unfinished past = (tree : Stream) → IsNoFront (spell tree []) past
 some_none : (o : Option Fault) (e : Fault) → o ≡ None → o ≡ Some e → ⊥
 some_none o e p q = cc
 
-pub no_fault : (past : List Token) (t : Token) → handle_fault past t.body ≡ None → TreeGoesOn (followed_by past (t ∷ [])) → directive_fault past t.body t.start_mark ≡ None → NoFault past t
+pub no_fault : (past : List Token) (t : Token) → handle_fault past t.body ≡ None
+    → TreeGoesOn (followed_by past (t ∷ [])) → directive_fault past t.body t.start_mark ≡ None
+    → NoFault past t
 no_fault past t h g d of_handle e p = some_none (handle_fault past t.body) e h p
 no_fault past t h g d of_token e (grammar n p) = n g
 no_fault past t h g d of_token e (directive k p) = some_none (directive_fault past t.body t.start_mark) e d p
@@ -32,7 +34,9 @@ no_fault past t h g d of_token e (directive k p) = some_none (directive_fault pa
 head_same : (a b : Token) (x y : List Token) → a ∷ x ≡ b ∷ y → a ≡ b
 head_same a b x y h = cc
 
-clean_cut : (past us other : List Token) (t : Token) (behind : List Token) → followed_by past us ≡ followed_by other (t ∷ behind) → length other < length past → Clean past → NoFault other t
+clean_cut : (past us other : List Token) (t : Token) (behind : List Token)
+    → followed_by past us ≡ followed_by other (t ∷ behind) → length other < length past → Clean past
+    → NoFault other t
 clean_cut [] us other t behind p l c = absurd (none l)
   where
     none : length other < length {A = Token} [] → ⊥
@@ -45,13 +49,16 @@ clean_cut (x ∷ past) us other t behind p l c = by_length (λ e. clean_cut past
     here : SameCut past other (x ∷ us) (t ∷ behind) → NoFault other t
     here s = subst (λ (z : Token). NoFault other z) (head_same x t us behind s.behind) (subst (λ (z : List Token). NoFault z x) s.before c.0)
 
-    by_length : (length other < length past → NoFault other t) → (length other ≡ length past) ⊎ ((length other < length past) ⊎ (length past < length other)) → NoFault other t
+    by_length : (length other < length past → NoFault other t)
+        → (length other ≡ length past) ⊎
+        ((length other < length past) ⊎ (length past < length other)) → NoFault other t
     by_length k (inl e) = here (same_cut past other (x ∷ us) (t ∷ behind) p (sym e))
     by_length k (inr (inl e)) = k e
     by_length k (inr (inr e)) = absurd (over e l)
 
 -- nothing stands before a place
-pub none_earlier : (past us ts : List Token) (p : FaultPlace) (e : Fault) → ts ≡ followed_by past us → Clean past → StandsIn ts p e → p.number < length past → ⊥
+pub none_earlier : (past us ts : List Token) (p : FaultPlace) (e : Fault) → ts ≡ followed_by past us
+    → Clean past → StandsIn ts p e → p.number < length past → ⊥
 none_earlier past us ts p e l c s n =
     clean_cut past us s.past s.token s.behind (sym l ∙ s.list) (subst (λ (z : ℕ). z < length past) (sym s.number) n) c p.rank e s.fault
 
@@ -61,12 +68,14 @@ free past c p e s = none_earlier past [] (followed_by past []) p e refl c s (sho
     lengths : length (followed_by s.past (s.token ∷ s.behind)) ≡ length past + length {A = Token} []
     lengths = ap length (sym s.list) ∙ followed_length past []
 
-    shorter : length s.past + length (s.token ∷ s.behind) ≡ length past + length {A = Token} [] → length s.past ≡ p.number → p.number < length past
+    shorter : length s.past + length (s.token ∷ s.behind) ≡ length past + length {A = Token} []
+        → length s.past ≡ p.number → p.number < length past
     shorter a b = omega arith
 
 -- ---- the first fault
 
-handle_here : (past other : List Token) (t u : Token) (ts us : List Token) (e : Fault) → followed_by past (t ∷ ts) ≡ followed_by other (u ∷ us) → length past ≡ length other
+handle_here : (past other : List Token) (t u : Token) (ts us : List Token) (e : Fault)
+    → followed_by past (t ∷ ts) ≡ followed_by other (u ∷ us) → length past ≡ length other
     → handle_fault other u.body ≡ Some e → handle_fault past t.body ≡ Some e
 handle_here past other t u ts us e p n h =
     let c : SameCut past other (t ∷ ts) (u ∷ us) = same_cut past other (t ∷ ts) (u ∷ us) p n in
@@ -79,7 +88,8 @@ placed past r = record { number = length past; rank = r }
 abbrev pub FirstAt : List Token → ℕ → Fault → Type 0
 FirstAt ts n e = (first : IsOfLeastPlace (StandsIn ts) e) × (first.place.number ≡ n)
 
-pub handle_first : (past : List Token) (t : Token) (ts : List Token) (e : Fault) → Clean past → handle_fault past t.body ≡ Some e → FirstAt (followed_by past (t ∷ ts)) (length past) e
+pub handle_first : (past : List Token) (t : Token) (ts : List Token) (e : Fault) → Clean past
+    → handle_fault past t.body ≡ Some e → FirstAt (followed_by past (t ∷ ts)) (length past) e
 handle_first past t ts e c h = (
   record {
     place = placed past of_handle;
@@ -89,7 +99,8 @@ handle_first past t ts e c h = (
   refl,
 )
   where
-    earlier : (p : FaultPlace) (f : Fault) → StandsIn (followed_by past (t ∷ ts)) p f → ComesBefore p (placed past of_handle) → ⊥
+    earlier : (p : FaultPlace) (f : Fault) → StandsIn (followed_by past (t ∷ ts)) p f
+        → ComesBefore p (placed past of_handle) → ⊥
     earlier p f s (inl l) = none_earlier past (t ∷ ts) (followed_by past (t ∷ ts)) p f refl c s l
     earlier p f s (inr k) = no_rank p.rank k.1
       where
@@ -97,7 +108,9 @@ handle_first past t ts e c h = (
         no_rank of_handle h = h
         no_rank of_token h = h
 
-pub token_first : (past : List Token) (t : Token) (ts : List Token) (e : Fault) → Clean past → handle_fault past t.body ≡ None → WrongToken past t e → FirstAt (followed_by past (t ∷ ts)) (length past) e
+pub token_first : (past : List Token) (t : Token) (ts : List Token) (e : Fault) → Clean past
+    → handle_fault past t.body ≡ None → WrongToken past t e
+    → FirstAt (followed_by past (t ∷ ts)) (length past) e
 token_first past t ts e c h w = (
   record {
     place = placed past of_token;
@@ -107,17 +120,21 @@ token_first past t ts e c h w = (
   refl,
 )
   where
-    ranked : (r : Rank) (f : Fault) (other : List Token) (u : Token) (us : List Token) → RanksBefore r of_token → followed_by past (t ∷ ts) ≡ followed_by other (u ∷ us) → length past ≡ length other → FaultAt other u r f → ⊥
+    ranked : (r : Rank) (f : Fault) (other : List Token) (u : Token) (us : List Token)
+        → RanksBefore r of_token → followed_by past (t ∷ ts) ≡ followed_by other (u ∷ us)
+        → length past ≡ length other → FaultAt other u r f → ⊥
     ranked of_token f other u us k p n x = k
     ranked of_handle f other u us k p n x = some_none (handle_fault past t.body) f h (handle_here past other t u ts us f p n x)
 
-    earlier : (p : FaultPlace) (f : Fault) → StandsIn (followed_by past (t ∷ ts)) p f → ComesBefore p (placed past of_token) → ⊥
+    earlier : (p : FaultPlace) (f : Fault) → StandsIn (followed_by past (t ∷ ts)) p f
+        → ComesBefore p (placed past of_token) → ⊥
     earlier p f s (inl l) = none_earlier past (t ∷ ts) (followed_by past (t ∷ ts)) p f refl c s l
     earlier p f s (inr k) = ranked p.rank f s.past s.token s.behind k.1 s.list (sym k.0 ∙ sym s.number) s.fault
 
 -- ---- no sentence begins there
 
-pub no_sentence : (past : List Token) (t : Token) (ts : List Token) (r : Rank) (e : Fault) → Unfinished past → FaultAt past t r e → BeginsWithSentence (followed_by past (t ∷ ts)) → ⊥
+pub no_sentence : (past : List Token) (t : Token) (ts : List Token) (r : Rank) (e : Fault)
+    → Unfinished past → FaultAt past t r e → BeginsWithSentence (followed_by past (t ∷ ts)) → ⊥
 no_sentence past t ts r e u f b =
     let c : Reaches past (t ∷ ts) (spell b.tree []) b.rest = reaches past (t ∷ ts) (spell b.tree []) b.rest b.same (u b.tree) in
     b.free (placed past r) e (record {
@@ -129,7 +146,8 @@ no_sentence past t ts r e u f b =
       fault = f;
     })
 
-pub no_whole_sentence : (past : List Token) → Unfinished past → BeginsWithSentence (followed_by past []) → ⊥
+pub no_whole_sentence : (past : List Token) → Unfinished past
+    → BeginsWithSentence (followed_by past []) → ⊥
 no_whole_sentence past u b = none (reaches past [] (spell b.tree []) b.rest b.same (u b.tree))
   where
     none : Reaches past [] (spell b.tree []) b.rest → ⊥

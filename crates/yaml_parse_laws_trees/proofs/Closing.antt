@@ -48,7 +48,8 @@ abbrev pub closers : yaml_mark_t → List State → List Token
 closers m [] = []
 closers m (x ∷ s) = closer m x (closers m s)
 
-closer_closes : (m : yaml_mark_t) (x : State) (P : List Token → Type 0) (ts : List Token) → P ts → Left x P (closer m x ts)
+closer_closes : (m : yaml_mark_t) (x : State) (P : List Token → Type 0) (ts : List Token) → P ts
+    → Left x P (closer m x ts)
 closer_closes m state.stream P ts h = record {
   tree = record { encoding = YAML_ANY_ENCODING; start = nowhere m; first = tree.no_first; documents = tree.end_stream (nowhere m) };
   rest = ts;
@@ -126,7 +127,8 @@ IsLight state.pair_end = Unit {0}
 IsLight state.lone = Unit {0}
 IsLight _ = ⊥
 
-light_leaves : (x : State) (k : yaml_token_type_t) → IsLight x → is_closing k ≡ true → choice_at x k ≡ Leave
+light_leaves : (x : State) (k : yaml_token_type_t) → IsLight x → is_closing k ≡ true
+    → choice_at x k ≡ Leave
 light_leaves state.document_end kind.YAML_DOCUMENT_END_TOKEN l h = cc
 light_leaves state.document_end _ l h = refl
 light_leaves (state.others side) kind.YAML_BLOCK_ENTRY_TOKEN l h = cc
@@ -142,7 +144,9 @@ light_leaves state.pair_end k l h = refl
 light_leaves state.lone k l h = refl
 light_leaves _ k l h = absurd l
 
-light_begins : (x : State) (m : yaml_mark_t) (ts : List Token) (s : List State) (is : List RawEvent) → IsLight x → ClosesAt m ts → BeginsWithItems is (run ts s None).items → BeginsWithItems (left_at x m ∷ is) (run ts (x ∷ s) None).items
+light_begins : (x : State) (m : yaml_mark_t) (ts : List Token) (s : List State) (is : List RawEvent)
+    → IsLight x → ClosesAt m ts → BeginsWithItems is (run ts s None).items
+    → BeginsWithItems (left_at x m ∷ is) (run ts (x ∷ s) None).items
 light_begins x m [] s is l h b = absurd h
 light_begins x m (t ∷ ts) s is l h b = record {
   others = b.others;
@@ -157,17 +161,23 @@ abbrev pub StopBegins : yaml_mark_t → List State → Fed → Type 0
 StopBegins m s (stop is f) = BeginsWithItems is (run (closers m s) s None).items
 StopBegins m s (go is s') = Unit {0}
 
-fits_follows : (a b : Bool) (p : ParseProblem) → (if a then Leave else if b then Take else Refuse p None) ≡ Leave → a ≡ true
+fits_follows : (a b : Bool) (p : ParseProblem)
+    → (if a then Leave else if b then Take else Refuse p None) ≡ Leave → a ≡ true
 fits_follows true b p h = refl
 fits_follows false true p h = cc
 fits_follows false false p h = cc
 
 -- a node that is left out is refused by nothing below
-fitting : (place : Site) (before : yaml_mark_t) (s : List State) (t : Token) → choice_at (state.optional place before) (type_of t.body) ≡ Leave → Fits place s → Goes (feed s t)
+fitting : (place : Site) (before : yaml_mark_t) (s : List State) (t : Token)
+    → choice_at (state.optional place before) (type_of t.body) ≡ Leave → Fits place s
+    → Goes (feed s t)
 fitting place before s t c f = f t (fits_follows (follows place (type_of t.body)) (starts_node (wants_of place) (type_of t.body)) (no_node (wants_of place)) c)
 
-left_begins : (x : State) (k : yaml_token_type_t) (m : yaml_mark_t) (s : List State) (is : List RawEvent) → choice_at x k ≡ Leave → Stood x s → ((place : Site) (before : yaml_mark_t) → x ≡ state.optional place before → ⊥)
-    → BeginsWithItems is (run (closers m s) s None).items → BeginsWithItems (left_at x m ∷ is) (run (closers m (x ∷ s)) (x ∷ s) None).items
+left_begins : (x : State) (k : yaml_token_type_t) (m : yaml_mark_t) (s : List State)
+    (is : List RawEvent) → choice_at x k ≡ Leave → Stood x s
+    → ((place : Site) (before : yaml_mark_t) → x ≡ state.optional place before → ⊥)
+    → BeginsWithItems is (run (closers m s) s None).items
+    → BeginsWithItems (left_at x m ∷ is) (run (closers m (x ∷ s)) (x ∷ s) None).items
 left_begins state.stream kind.YAML_STREAM_START_TOKEN m s is c h u b = cc
 left_begins state.stream _ m s is c h u b = cc
 left_begins state.first k m s is c h u b = absurd (not_left_first (parts_documents k) (starts_node (Block None) k) problem.NoBlockNode c)
@@ -193,21 +203,28 @@ left_begins (state.with_properties w p) k m s is c h u b = light_begins (state.w
 left_begins state.pair_end k m s is c h u b = light_begins state.pair_end m (closers m s) s is tt (closes_at m s h) b
 left_begins state.lone k m s is c h u b = light_begins state.lone m (closers m s) s is tt (closes_at m s h) b
 
-not_fitting : (x : State) (s : List State) (t : Token) → choice_at x (type_of t.body) ≡ Leave → Stood x s → (Goes (feed s t) → ⊥) → (place : Site) (before : yaml_mark_t) → x ≡ state.optional place before → ⊥
+not_fitting : (x : State) (s : List State) (t : Token) → choice_at x (type_of t.body) ≡ Leave
+    → Stood x s → (Goes (feed s t) → ⊥) → (place : Site) (before : yaml_mark_t)
+    → x ≡ state.optional place before → ⊥
 not_fitting x s t c h n place before e =
     let c' : choice_at (state.optional place before) (type_of t.body) ≡ Leave = subst (λ (y : State). choice_at y (type_of t.body) ≡ Leave) e c in
     let h' : Stood (state.optional place before) s = subst (λ (y : State). Stood y s) e h in
     n (fitting place before s t c' h'.0)
 
-stopped : (s : List State) (t : Token) (is : List RawEvent) (f : Fault) → feed s t ≡ stop is f → Goes (feed s t) → ⊥
+stopped : (s : List State) (t : Token) (is : List RawEvent) (f : Fault) → feed s t ≡ stop is f
+    → Goes (feed s t) → ⊥
 stopped s t is f p g = subst Goes p g
 
-leave_begins : (x : State) (t : Token) (s : List State) (below : Fed) → feed s t ≡ below → choice_at x (type_of t.body) ≡ Leave → Stood x s
-    → StopBegins t.start_mark s below → StopBegins t.start_mark (x ∷ s) (with_item (left_at x t.start_mark) below)
+leave_begins : (x : State) (t : Token) (s : List State) (below : Fed) → feed s t ≡ below
+    → choice_at x (type_of t.body) ≡ Leave → Stood x s
+    → StopBegins t.start_mark s below
+    → StopBegins t.start_mark (x ∷ s) (with_item (left_at x t.start_mark) below)
 leave_begins x t s (stop is f) p c h b = left_begins x (type_of t.body) t.start_mark s is c h (not_fitting x s t c h (stopped s t is f p)) b
 leave_begins x t s (go is s') p c h b = tt
 
-turn_begins : (c : Choice) (x : State) (t : Token) (s : List State) → choice_at x (type_of t.body) ≡ c → Stood x s → StopBegins t.start_mark s (feed s t) → StopBegins t.start_mark (x ∷ s) (turn c x t s (feed s t))
+turn_begins : (c : Choice) (x : State) (t : Token) (s : List State)
+    → choice_at x (type_of t.body) ≡ c → Stood x s → StopBegins t.start_mark s (feed s t)
+    → StopBegins t.start_mark (x ∷ s) (turn c x t s (feed s t))
 turn_begins (Refuse p o) x t s e h b = record { others = bare (run (closers t.start_mark (x ∷ s)) (x ∷ s) None).items; same = refl }
 turn_begins Take x t s e h b = tt
 turn_begins Leave x t s e h b = leave_begins x t s (feed s t) refl e h b

@@ -59,7 +59,8 @@ abbrev extra : Wants → ℕ
 extra (Block (Some side)) = 2
 extra _ = 0
 
-content_cost : (w : Wants) (p : Option Properties) (start end : yaml_mark_t) (b : TokenBody) → cost (content_taken w p start end b) ≤ 1 + extra w
+content_cost : (w : Wants) (p : Option Properties) (start end : yaml_mark_t) (b : TokenBody)
+    → cost (content_taken w p start end b) ≤ 1 + extra w
 content_cost (Block (Some s)) p start end token.block_entry = omega arith
 content_cost (Block None) p start end token.block_entry = omega arith
 content_cost Flow p start end token.block_entry = omega arith
@@ -70,13 +71,15 @@ content_cost w p start end token.block_sequence_start = omega arith
 content_cost w p start end token.block_mapping_start = omega arith
 content_cost w p start end _ = omega arith
 
-node_cost : (w : Wants) (start end : yaml_mark_t) (b : TokenBody) → cost (node_taken w start end b) ≤ 1 + extra w
+node_cost : (w : Wants) (start end : yaml_mark_t) (b : TokenBody)
+    → cost (node_taken w start end b) ≤ 1 + extra w
 node_cost w start end (token.alias n) = omega arith
 node_cost w start end (token.anchor n) = omega arith
 node_cost w start end (token.tag h s) = omega arith
 node_cost w start end b = content_cost w None start end b
 
-with_properties_cost : (w : Wants) (p : Properties) (start end : yaml_mark_t) (b : TokenBody) → cost (with_properties_taken w p start end b) ≤ 1 + extra w
+with_properties_cost : (w : Wants) (p : Properties) (start end : yaml_mark_t) (b : TokenBody)
+    → cost (with_properties_taken w p start end b) ≤ 1 + extra w
 with_properties_cost w p start end (token.anchor n) = omega arith
 with_properties_cost w p start end (token.tag h s) = omega arith
 with_properties_cost w p start end b = content_cost w (Some p) start end b
@@ -90,10 +93,12 @@ lone_cost : (b : Brackets) (o : yaml_mark_t) → all_owe (lone_below b (state.mo
 lone_cost brackets.Sequence o = omega arith
 lone_cost brackets.Mapping o = omega arith
 
-above_cost : (i : Option RawEvent) (xs ys : List State) (n m : ℕ) → count i + all_owe xs ≤ n → all_owe ys ≤ m → count i + all_owe (xs ++ ys) ≤ n + m
+above_cost : (i : Option RawEvent) (xs ys : List State) (n m : ℕ) → count i + all_owe xs ≤ n
+    → all_owe ys ≤ m → count i + all_owe (xs ++ ys) ≤ n + m
 above_cost i xs ys n m h k = let e : all_owe (xs ++ ys) ≡ all_owe xs + all_owe ys = owe_over xs ys in omega arith
 
-items_cost : (b : Brackets) (o start end : yaml_mark_t) (x : TokenBody) → cost (items_taken b o start end x) ≤ 4
+items_cost : (b : Brackets) (o start end : yaml_mark_t) (x : TokenBody)
+    → cost (items_taken b o start end x) ≤ 4
 items_cost brackets.Sequence o start end token.key = omega arith
 items_cost brackets.Mapping o start end token.key = omega arith
 items_cost b o start end token.flow_sequence_end = omega arith
@@ -103,7 +108,8 @@ items_cost b o start end x =
     = above_cost (node_taken Flow start end x).item (node_taken Flow start end x).above (lone_below b (state.more b o ∷ [])) 1 1 (node_cost Flow start end x) (lone_cost b o)
     in omega arith
 
-more_cost : (b : Brackets) (o start end : yaml_mark_t) (x : TokenBody) → cost (more_taken b o start end x) ≤ 4
+more_cost : (b : Brackets) (o start end : yaml_mark_t) (x : TokenBody)
+    → cost (more_taken b o start end x) ≤ 4
 more_cost b o start end token.flow_entry = omega arith
 more_cost b o start end _ = omega arith
 
@@ -119,7 +125,8 @@ stream_cost : (start end : yaml_mark_t) (b : TokenBody) → cost (stream_taken s
 stream_cost start end (token.stream_start e) = omega arith
 stream_cost start end _ = omega arith
 
-documents_cost : (from start end : yaml_mark_t) (b : TokenBody) → cost (documents_taken from start end b) ≤ 4
+documents_cost : (from start end : yaml_mark_t) (b : TokenBody)
+    → cost (documents_taken from start end b) ≤ 4
 documents_cost from start end (token.version_directive x y) = omega arith
 documents_cost from start end (token.tag_directive x y) = omega arith
 documents_cost from start end token.document_start = omega arith
@@ -148,11 +155,13 @@ taken_cost state.lone t = omega arith
 
 -- ---- what is left owed
 
-not_left : (a : Bool) (p : ParseProblem) (o : Option yaml_mark_t) → (if a then Take else Refuse p o) ≡ Leave → ⊥
+not_left : (a : Bool) (p : ParseProblem) (o : Option yaml_mark_t)
+    → (if a then Take else Refuse p o) ≡ Leave → ⊥
 not_left true p o h = cc
 not_left false p o h = cc
 
-not_left_first : (a b : Bool) (p : ParseProblem) → (if a then Take else if b then Open else Refuse p None) ≡ Leave → ⊥
+not_left_first : (a b : Bool) (p : ParseProblem)
+    → (if a then Take else if b then Open else Refuse p None) ≡ Leave → ⊥
 not_left_first true b p h = cc
 not_left_first false true p h = cc
 not_left_first false false p h = cc
@@ -189,7 +198,8 @@ abbrev pub owed : Fed → ℕ
 owed (stop is f) = length is
 owed (go is s) = length is + all_owe s
 
-given_owed : (i : Option RawEvent) (above s : List State) → owed (given_by (record { item = i; above = above }) s) ≡ count i + (all_owe above + all_owe s)
+given_owed : (i : Option RawEvent) (above s : List State)
+    → owed (given_by (record { item = i; above = above }) s) ≡ count i + (all_owe above + all_owe s)
 given_owed None above s = let e : all_owe (above ++ s) ≡ all_owe above + all_owe s = owe_over above s in omega arith
 given_owed (Some i) above s = let e : all_owe (above ++ s) ≡ all_owe above + all_owe s = owe_over above s in omega arith
 
@@ -197,10 +207,13 @@ with_owed : (i : RawEvent) (below : Fed) → owed (with_item i below) ≡ 1 + ow
 with_owed i (stop is f) = omega arith
 with_owed i (go is s) = omega arith
 
-opened_sum : (a b c d x s : ℕ) → a ≡ 1 + b → b ≡ c + (d + (1 + (0 + s))) → c + d ≤ 1 + 0 → a ≤ 4 + (x + s)
+opened_sum : (a b c d x s : ℕ) → a ≡ 1 + b → b ≡ c + (d + (1 + (0 + s))) → c + d ≤ 1 + 0
+    → a ≤ 4 + (x + s)
 opened_sum a b c d x s h k l = omega arith
 
-turn_owed : (c : Choice) (x : State) (t : Token) (s : List State) (below : Fed) → (c ≡ Leave → owes x ≡ 1) → owed below ≤ 4 + all_owe s → owed (turn c x t s below) ≤ 4 + (owes x + all_owe s)
+turn_owed : (c : Choice) (x : State) (t : Token) (s : List State) (below : Fed)
+    → (c ≡ Leave → owes x ≡ 1) → owed below ≤ 4 + all_owe s
+    → owed (turn c x t s below) ≤ 4 + (owes x + all_owe s)
 turn_owed (Refuse p o) x t s below l h = omega arith
 turn_owed Take x t s below l h =
     let e : owed (given_by (taken_at x t) s) ≡ count (taken_at x t).item + (all_owe (taken_at x t).above + all_owe s) = given_owed (taken_at x t).item (taken_at x t).above s in
@@ -233,7 +246,9 @@ with_given : (i : RawEvent) (below : Fed) → given (with_item i below) ≡ 1 + 
 with_given i (stop is f) = omega arith
 with_given i (go is s) = omega arith
 
-turn_given : (c : Choice) (x : State) (t : Token) (s : List State) (below : Fed) → (c ≡ Leave → owes x ≡ 1) → (c ≡ Take → ⊥) → (c ≡ Open → ⊥) → given below ≤ all_owe s → given (turn c x t s below) ≤ owes x + all_owe s
+turn_given : (c : Choice) (x : State) (t : Token) (s : List State) (below : Fed)
+    → (c ≡ Leave → owes x ≡ 1) → (c ≡ Take → ⊥) → (c ≡ Open → ⊥) → given below ≤ all_owe s
+    → given (turn c x t s below) ≤ owes x + all_owe s
 turn_given (Refuse p o) x t s below l a b h = omega arith
 turn_given Take x t s below l a b h = absurd (a refl)
 turn_given Leave x t s below l a b h =
@@ -255,11 +270,13 @@ end_given (x ∷ s) = turn_given (choice_at x kind.YAML_NO_TOKEN) x no_token s (
 
 -- ---- a list of tokens
 
-counted : (left : ℕ) (is : List RawEvent) → length {A = Given} (map (λ (i : RawEvent). (i, left)) is) ≡ length is
+counted : (left : ℕ) (is : List RawEvent)
+    → length {A = Given} (map (λ (i : RawEvent). (i, left)) is) ≡ length is
 counted left [] = refl
 counted left (i ∷ is) = ap suc (counted left is)
 
-counted_more : (left : ℕ) (is : List RawEvent) (more : List Given) → length (map (λ (i : RawEvent). (i, left)) is ++ more) ≡ length is + length more
+counted_more : (left : ℕ) (is : List RawEvent) (more : List Given)
+    → length (map (λ (i : RawEvent). (i, left)) is ++ more) ≡ length is + length more
 counted_more left [] more = omega arith
 counted_more left (i ∷ is) more = one_more _ (length is) (length more) (counted_more left is more)
   where
@@ -282,7 +299,9 @@ ended : (fed : Fed) (n : ℕ) → given fed ≤ n → length (carry 0 fed (λ _.
 ended (stop is f) n h = at_most _ (length is) n (counted 0 is) h
 ended (go is s) n h = at_most_end _ (length is) n (counted_more 0 is []) h
 
-carried : (left : ℕ) (fed : Fed) (k : List State → Outcome) (n m : ℕ) → owed fed ≤ m → ((s : List State) → length (k s).items ≤ n + all_owe s) → length (carry left fed k).items ≤ n + m
+carried : (left : ℕ) (fed : Fed) (k : List State → Outcome) (n m : ℕ) → owed fed ≤ m
+    → ((s : List State) → length (k s).items ≤ n + all_owe s)
+    → length (carry left fed k).items ≤ n + m
 carried left (stop is f) k n m h r = at_most_more _ (length is) n m (counted left is) h
 carried left (go is s) k n m h r = at_most_both _ (length is) (length (k s).items) (all_owe s) n m (counted_more left is (k s).items) h (r s)
 
@@ -296,7 +315,8 @@ four_more a n m k h e = omega arith
 nothing_more : (a o : ℕ) → a ≤ o → a ≤ 4 * 0 + o
 nothing_more a o h = omega arith
 
-few_items : (ts : List Token) (f : Option Fault) (s : List State) → length (run ts s f).items ≤ 4 * length ts + all_owe s
+few_items : (ts : List Token) (f : Option Fault) (s : List State)
+    → length (run ts s f).items ≤ 4 * length ts + all_owe s
 unfolding run
 few_items [] (Some e) s = let k : length (ending_at s e).items ≤ 0 = ending_none s e in omega arith
 few_items [] None s = nothing_more (length (carry 0 (feed s no_token) (λ _. finished)).items) (all_owe s) (ended (feed s no_token) (all_owe s) (end_given s))
@@ -306,12 +326,15 @@ few_items (t ∷ ts) f s =
 
 -- ---- resolved
 
-read_few : (c : Settled) (g : Given) (gs : List Given) (k : Directives → Reading) → ((ds : Directives) → length (k ds).events ≤ length gs) → length (read_on c g.0 g.1 k).events ≤ 1 + length gs
+read_few : (c : Settled) (g : Given) (gs : List Given) (k : Directives → Reading)
+    → ((ds : Directives) → length (k ds).events ≤ length gs)
+    → length (read_on c g.0 g.1 k).events ≤ 1 + length gs
 read_few (refused f) g gs k h = omega arith
 read_few (gave b ds) g gs k h = let e : length (k ds).events ≤ length gs = h ds in omega arith
 read_few (noted ds) g gs k h = let e : length (k ds).events ≤ length gs = h ds in omega arith
 
-few_events : (gs : List Given) (f : Option Fault) (ds : Directives) → length (reading gs f ds).events ≤ length gs
+few_events : (gs : List Given) (f : Option Fault) (ds : Directives)
+    → length (reading gs f ds).events ≤ length gs
 unfolding reading
 few_events [] f ds = omega arith
 few_events (g ∷ gs) f ds =
@@ -321,7 +344,8 @@ few_events (g ∷ gs) f ds =
 both : (a b c : ℕ) → a ≤ b → b ≤ c + 0 → a ≤ c
 both a b c h k = omega arith
 
-pub four_a_token : (ts : List Token) (f : Option Fault) (ds : Directives) → length (reading_of (run ts initial f) ds).events ≤ 4 * length ts
+pub four_a_token : (ts : List Token) (f : Option Fault) (ds : Directives)
+    → length (reading_of (run ts initial f) ds).events ≤ 4 * length ts
 four_a_token ts f ds =
     both (length (reading_of (run ts initial f) ds).events) (length (run ts initial f).items) (4 * length ts)
     (few_events (run ts initial f).items (run ts initial f).ending ds) (few_items ts f initial)

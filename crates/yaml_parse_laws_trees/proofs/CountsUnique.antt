@@ -1,148 +1,23 @@
 -- Two trees whose tokens begin alike are equal.
 use Rattle.std.proofs.Common.{◌≡◌, ℕ, ℤ, Bool, true, false, List, [], ◌∷◌, Option, Some, None, refl, ap, sym, subst, ◌∙◌}
-use Rattle.yaml_parse_grammar.specs.parse_model.declared.yaml_mark_t.{yaml_mark_t}
 use Rattle.yaml_parse_grammar.specs.parse_model.declared.yaml_encoding_t.{yaml_encoding_t}
 use Rattle.yaml_parse_grammar.specs.parse_model.declared.yaml_scalar_style_t.{yaml_scalar_style_t}
 use Rattle.yaml_parse_grammar.specs.parse_model.declared.yaml_token_type_t.{yaml_token_type_t}
 use Rattle.yaml_parse_grammar.specs.parse_model.declared.yaml_token_type_t.TheVariants as kind
-use Rattle.yaml_parse_grammar.specs.parse_model.Tokens.{Token, TokenBody, type_of}
+use Rattle.yaml_parse_grammar.specs.parse_model.Tokens.{Token, type_of}
 use Rattle.yaml_parse_grammar.specs.parse_model.Tokens as token
-use Rattle.yaml_parse_grammar.specs.parse_model.Source.{front_of, rest_of}
 use Rattle.yaml_parse_grammar.specs.declared.name.Wants.{Wants}
 use Rattle.yaml_parse_grammar.specs.declared.name.Wants.TheVariants.{Flow, Block}
 use Rattle.yaml_parse_grammar.specs.declared.name.Side.{Side}
 use Rattle.yaml_parse_grammar.specs.declared.name.Side.TheVariants.{Key, Value}
 use Rattle.yaml_parse_grammar.specs.declared.name.Brackets.{Brackets}
 use Rattle.yaml_parse_grammar.specs.declared.name.Brackets.TheVariants as brackets
-use Rattle.yaml_parse_grammar.specs.Trees.{Span, token_at, AnchorToken, TagToken, anchor_token, tag_token, PropertyTokens, spell_properties, closing, Node, Content, Maybe, Colon, Items, More, Entries, Others, Pairs, Directive, Documents, First, Stream, spell_node, spell_content, spell_maybe, spell_colon, spell_items, spell_more, spell_entries, spell_others, spell_pairs, spell_directives, spell_ends, spell_documents, spell_first}
+use Rattle.yaml_parse_grammar.specs.Trees.{Span, token_at, PropertyTokens, spell_properties, closing, Node, Content, Maybe, Colon, Items, More, Entries, Others, Pairs, Directive, Documents, First, Stream, spell_node, spell_content, spell_maybe, spell_colon, spell_items, spell_more, spell_entries, spell_others, spell_pairs, spell_directives, spell_ends, spell_documents, spell_first}
 use Rattle.yaml_parse_grammar.specs.Trees as tree
 use Rattle.yaml_parse_grammar.specs.Machine.{starts_node}
 use Rattle.yaml_parse_grammar.proofs.Complete.{ends, Ends, Starts, node_starts}
 use Rattle.yaml_parse_laws_trees.specs.CountsLaws.{TokensHaveOneTree}
-
--- ---- first tokens
-
-abbrev body_of : List Token → TokenBody
-body_of ts = (front_of ts).body
-
-abbrev kind_of : List Token → yaml_token_type_t
-kind_of ts = type_of (body_of ts)
-
-apart : (x y : List Token) → x ≡ y → (kind_of x ≡ kind_of y → ⊥) → ⊥
-apart x y h d = d (ap kind_of h)
-
--- what is made of equal parts
-both : {A B C : Type 0} (g : A → B → C) (a c : A) (b d : B) → a ≡ c → b ≡ d → g a b ≡ g c d
-both g a c b d e f = ap (λ z. g z b) e ∙ ap (g c) f
-
-three : {A B C D : Type 0} (g : A → B → C → D) (a a' : A) (b b' : B) (c c' : C) → a ≡ a' → b ≡ b' → c ≡ c' → g a b c ≡ g a' b' c'
-three g a a' b b' c c' e f h = ap (λ z. g z b c) e ∙ ap (λ z. g a' z c) f ∙ ap (g a' b') h
-
-four : {A B C D E : Type 0} (g : A → B → C → D → E) (a a' : A) (b b' : B) (c c' : C) (d d' : D) → a ≡ a' → b ≡ b' → c ≡ c' → d ≡ d' → g a b c d ≡ g a' b' c' d'
-four g a a' b b' c c' d d' e f h i = ap (λ z. g z b c d) e ∙ ap (λ z. g a' z c d) f ∙ ap (λ z. g a' b' z d) h ∙ ap (g a' b' c') i
-
-same_span : (p q : Span) → p.from ≡ q.from → p.to ≡ q.to → p ≡ q
-same_span p q e f = ap (λ (n : yaml_mark_t). record { from = n; to = p.to }) e ∙ ap (λ (n : yaml_mark_t). record { from = q.from; to = n }) f
-
-span_same : (b c : TokenBody) (p q : Span) (x y : List Token) → token_at b p ∷ x ≡ token_at c q ∷ y → p ≡ q
-span_same b c p q x y h = same_span p q (ap (λ (ts : List Token). (front_of ts).start_mark) h) (ap (λ (ts : List Token). (front_of ts).end_mark) h)
-
-body_same : (b c : TokenBody) (p q : Span) (x y : List Token) → token_at b p ∷ x ≡ token_at c q ∷ y → b ≡ c
-body_same b c p q x y h = ap body_of h
-
-rest_same : (t u : Token) (x y : List Token) → t ∷ x ≡ u ∷ y → x ≡ y
-rest_same t u x y h = ap rest_of h
-
--- ---- tokens that end a node begin none
-
-not_begun : (w : Wants) (k : yaml_token_type_t) → ends w k ≡ true → starts_node w k ≡ true → ⊥
-not_begun Flow kind.YAML_FLOW_ENTRY_TOKEN h s = cc
-not_begun Flow kind.YAML_VALUE_TOKEN h s = cc
-not_begun Flow kind.YAML_FLOW_SEQUENCE_END_TOKEN h s = cc
-not_begun Flow kind.YAML_FLOW_MAPPING_END_TOKEN h s = cc
-not_begun Flow _ h s = cc
-not_begun (Block (Some side)) kind.YAML_KEY_TOKEN h s = cc
-not_begun (Block (Some side)) kind.YAML_BLOCK_END_TOKEN h s = cc
-not_begun (Block (Some side)) kind.YAML_VALUE_TOKEN h s = cc
-not_begun (Block (Some side)) _ h s = cc
-not_begun (Block None) kind.YAML_BLOCK_ENTRY_TOKEN h s = cc
-not_begun (Block None) kind.YAML_BLOCK_END_TOKEN h s = cc
-not_begun (Block None) kind.YAML_KEY_TOKEN h s = cc
-not_begun (Block None) kind.YAML_VALUE_TOKEN h s = cc
-not_begun (Block None) kind.YAML_DOCUMENT_END_TOKEN h s = cc
-not_begun (Block None) kind.YAML_STREAM_END_TOKEN h s = cc
-not_begun (Block None) kind.YAML_VERSION_DIRECTIVE_TOKEN h s = cc
-not_begun (Block None) kind.YAML_TAG_DIRECTIVE_TOKEN h s = cc
-not_begun (Block None) kind.YAML_DOCUMENT_START_TOKEN h s = cc
-not_begun (Block None) _ h s = cc
-
-not_both : (w : Wants) (ts : List Token) → Ends w ts → Starts w ts → ⊥
-not_both w [] e s = e
-not_both w (t ∷ ts) e s = not_begun w (type_of t.body) e s
-
-no_node : {w : Wants} (n : Node w) (x y : List Token) → Ends w x → x ≡ spell_node n y → ⊥
-no_node {w = w} n x y e h = not_both w (spell_node n y) (subst (Ends w) h e) (node_starts n y)
-
--- ---- properties
-
-abbrev is_property : yaml_token_type_t → Bool
-is_property kind.YAML_ANCHOR_TOKEN = true
-is_property kind.YAML_TAG_TOKEN = true
-is_property _ = false
-
-property_starts : (w : Wants) (k : yaml_token_type_t) → is_property k ≡ true → starts_node w k ≡ true
-property_starts w kind.YAML_ANCHOR_TOKEN h = refl
-property_starts w kind.YAML_TAG_TOKEN h = refl
-property_starts w _ h = cc
-
--- the first token is no property
-abbrev IsPlain : List Token → Type 0
-IsPlain ts = is_property (kind_of ts) ≡ true → ⊥
-
-ends_plain : (w : Wants) (ts : List Token) → Ends w ts → IsPlain ts
-ends_plain w [] e p = e
-ends_plain w (t ∷ ts) e p = not_begun w (type_of t.body) e (property_starts w (type_of t.body) p)
-
-content_plain : {w : Wants} (c : Content w) (ts : List Token) → IsPlain (spell_content c ts)
-content_plain (tree.scalar p v style) ts h = cc
-content_plain (tree.flow brackets.Sequence p i) ts h = cc
-content_plain (tree.flow brackets.Mapping p i) ts h = cc
-content_plain (tree.block_sequence p e) ts h = cc
-content_plain (tree.block_mapping p m) ts h = cc
-content_plain (tree.indentless p n o) ts h = cc
-
-not_plain : (x y : List Token) → IsPlain x → x ≡ y → is_property (kind_of y) ≡ true → ⊥
-not_plain x y d h p = d (ap (λ ts. is_property (kind_of ts)) h ∙ p)
-
-anchor_same : (a b : AnchorToken) (x y : List Token) → anchor_token a ∷ x ≡ anchor_token b ∷ y → a ≡ b
-anchor_same a b x y h =
-    let e : token.anchor a.name ≡ token.anchor b.name = body_same _ _ a.span b.span x y h in
-    let f : a.name ≡ b.name = cc in
-    ap (λ (n : List ℕ). record { name = n; span = a.span }) f ∙ ap (λ (p : Span). record { name = b.name; span = p }) (span_same _ _ a.span b.span x y h)
-
-tag_same : (s t : TagToken) (x y : List Token) → tag_token s ∷ x ≡ tag_token t ∷ y → s ≡ t
-tag_same s t x y h =
-    let e : token.tag s.handle s.suffix ≡ token.tag t.handle t.suffix = body_same _ _ s.span t.span x y h in
-    let f : s.handle ≡ t.handle = cc in
-    let g : s.suffix ≡ t.suffix = cc in
-    ap (λ (n : List ℕ). record { handle = n; suffix = s.suffix; span = s.span }) f
-    ∙ ap (λ (n : List ℕ). record { handle = t.handle; suffix = n; span = s.span }) g
-    ∙ ap (λ (p : Span). record { handle = t.handle; suffix = t.suffix; span = p }) (span_same _ _ s.span t.span x y h)
-
-properties_same : (d e : PropertyTokens) (x y : List Token) → IsPlain x → IsPlain y → spell_properties d x ≡ spell_properties e y → (d ≡ e) × (x ≡ y)
-properties_same (tree.anchor a) (tree.anchor b) x y p q h = (ap tree.anchor (anchor_same a b x y h), rest_same _ _ x y h)
-properties_same (tree.tag s) (tree.tag t) x y p q h = (ap tree.tag (tag_same s t x y h), rest_same _ _ x y h)
-properties_same (tree.anchor_tag a s) (tree.anchor_tag b t) x y p q h =
-    let r : tag_token s ∷ x ≡ tag_token t ∷ y = rest_same _ _ _ _ h in
-    (both tree.anchor_tag a b s t (anchor_same a b _ _ h) (tag_same s t x y r), rest_same _ _ x y r)
-properties_same (tree.tag_anchor s a) (tree.tag_anchor t b) x y p q h =
-    let r : anchor_token a ∷ x ≡ anchor_token b ∷ y = rest_same _ _ _ _ h in
-    (both tree.tag_anchor s t a b (tag_same s t _ _ h) (anchor_same a b x y r), rest_same _ _ x y r)
-properties_same (tree.anchor a) (tree.anchor_tag b t) x y p q h = absurd (not_plain x _ p (rest_same _ _ x _ h) refl)
-properties_same (tree.anchor_tag b t) (tree.anchor a) x y p q h = absurd (not_plain y _ q (sym (rest_same _ _ _ y h)) refl)
-properties_same (tree.tag s) (tree.tag_anchor t b) x y p q h = absurd (not_plain x _ p (rest_same _ _ x _ h) refl)
-properties_same (tree.tag_anchor t b) (tree.tag s) x y p q h = absurd (not_plain y _ q (sym (rest_same _ _ _ y h)) refl)
-properties_same d e x y p q h = absurd (apart (spell_properties d x) (spell_properties e y) h (λ k. cc))
+use Rattle.yaml_parse_laws_trees.proofs.CountsFirst.{kind_of, apart, both, three, four, span_same, body_same, rest_same, not_both, no_node, ends_plain, content_plain, properties_same}
 
 -- ---- which tree begins so
 
@@ -159,13 +34,15 @@ node_sort (tree.only_properties d) = Some false
 node_sort (tree.with_properties d c) = Some false
 node_sort (tree.bare c) = None
 
-properties_sorted : (d : PropertyTokens) (ts : List Token) → sort_of (kind_of (spell_properties d ts)) ≡ Some false
+properties_sorted : (d : PropertyTokens) (ts : List Token)
+    → sort_of (kind_of (spell_properties d ts)) ≡ Some false
 properties_sorted (tree.anchor a) ts = refl
 properties_sorted (tree.anchor_tag a t) ts = refl
 properties_sorted (tree.tag t) ts = refl
 properties_sorted (tree.tag_anchor t a) ts = refl
 
-content_sorted : {w : Wants} (c : Content w) (ts : List Token) → sort_of (kind_of (spell_content c ts)) ≡ None
+content_sorted : {w : Wants} (c : Content w) (ts : List Token)
+    → sort_of (kind_of (spell_content c ts)) ≡ None
 content_sorted (tree.scalar p v style) ts = refl
 content_sorted (tree.flow brackets.Sequence p i) ts = refl
 content_sorted (tree.flow brackets.Mapping p i) ts = refl
@@ -173,13 +50,15 @@ content_sorted (tree.block_sequence p e) ts = refl
 content_sorted (tree.block_mapping p m) ts = refl
 content_sorted (tree.indentless p n o) ts = refl
 
-node_sorted : {w : Wants} (n : Node w) (ts : List Token) → sort_of (kind_of (spell_node n ts)) ≡ node_sort n
+node_sorted : {w : Wants} (n : Node w) (ts : List Token)
+    → sort_of (kind_of (spell_node n ts)) ≡ node_sort n
 node_sorted (tree.alias p name) ts = refl
 node_sorted (tree.only_properties d) ts = properties_sorted d ts
 node_sorted (tree.with_properties d c) ts = properties_sorted d (spell_content c ts)
 node_sorted (tree.bare c) ts = content_sorted c ts
 
-node_sorts : {w : Wants} (m n : Node w) (x y : List Token) → spell_node m x ≡ spell_node n y → node_sort m ≡ node_sort n
+node_sorts : {w : Wants} (m n : Node w) (x y : List Token) → spell_node m x ≡ spell_node n y
+    → node_sort m ≡ node_sort n
 node_sorts m n x y h = sym (node_sorted m x) ∙ ap (λ ts. sort_of (kind_of ts)) h ∙ node_sorted n y
 
 -- the first token of content, brackets of both kinds alike
@@ -194,7 +73,8 @@ content_form (tree.block_sequence p e) = kind.YAML_BLOCK_SEQUENCE_START_TOKEN
 content_form (tree.block_mapping p m) = kind.YAML_BLOCK_MAPPING_START_TOKEN
 content_form (tree.indentless p n o) = kind.YAML_BLOCK_ENTRY_TOKEN
 
-content_formed : {w : Wants} (c : Content w) (ts : List Token) → form_of (kind_of (spell_content c ts)) ≡ content_form c
+content_formed : {w : Wants} (c : Content w) (ts : List Token)
+    → form_of (kind_of (spell_content c ts)) ≡ content_form c
 content_formed (tree.scalar p v style) ts = refl
 content_formed (tree.flow brackets.Sequence p i) ts = refl
 content_formed (tree.flow brackets.Mapping p i) ts = refl
@@ -202,7 +82,8 @@ content_formed (tree.block_sequence p e) ts = refl
 content_formed (tree.block_mapping p m) ts = refl
 content_formed (tree.indentless p n o) ts = refl
 
-content_forms : {w : Wants} (c d : Content w) (x y : List Token) → spell_content c x ≡ spell_content d y → content_form c ≡ content_form d
+content_forms : {w : Wants} (c d : Content w) (x y : List Token)
+    → spell_content c x ≡ spell_content d y → content_form c ≡ content_form d
 content_forms c d x y h = sym (content_formed c x) ∙ ap (λ ts. form_of (kind_of ts)) h ∙ content_formed d y
 
 -- a closing bracket, a node, or a pair
@@ -227,13 +108,15 @@ items_part (tree.end_items p) = None
 items_part (tree.single n m) = Some true
 items_part (tree.pair p k v m) = Some false
 
-items_parted : (b : Brackets) (i : Items) (ts : List Token) → part_of (kind_of (spell_items b i ts)) ≡ items_part i
+items_parted : (b : Brackets) (i : Items) (ts : List Token)
+    → part_of (kind_of (spell_items b i ts)) ≡ items_part i
 items_parted brackets.Sequence (tree.end_items p) ts = refl
 items_parted brackets.Mapping (tree.end_items p) ts = refl
 items_parted b (tree.single n m) ts = started_part (spell_node n (spell_more b m ts)) (node_starts n (spell_more b m ts))
 items_parted b (tree.pair p k v m) ts = refl
 
-items_parts : (b : Brackets) (i j : Items) (x y : List Token) → spell_items b i x ≡ spell_items b j y → items_part i ≡ items_part j
+items_parts : (b : Brackets) (i j : Items) (x y : List Token)
+    → spell_items b i x ≡ spell_items b j y → items_part i ≡ items_part j
 items_parts b i j x y h = sym (items_parted b i x) ∙ ap (λ ts. part_of (kind_of ts)) h ∙ items_parted b j y
 
 -- ---- what follows a node ends it
@@ -243,7 +126,8 @@ more_ends brackets.Sequence (tree.end_more p) ts = refl
 more_ends brackets.Mapping (tree.end_more p) ts = refl
 more_ends b (tree.comma p i) ts = refl
 
-colon_ends : (b : Brackets) (v : Colon Flow) (m : More) (ts : List Token) → Ends Flow (spell_colon v (spell_more b m ts))
+colon_ends : (b : Brackets) (v : Colon Flow) (m : More) (ts : List Token)
+    → Ends Flow (spell_colon v (spell_more b m ts))
 colon_ends b tree.no_colon m ts = more_ends b m ts
 colon_ends b (tree.colon p v) m ts = refl
 
@@ -251,7 +135,8 @@ entries_end : (e : Entries) (ts : List Token) → Ends (Block None) (spell_entri
 entries_end (tree.end_entries p) ts = refl
 entries_end (tree.entry p n e) ts = refl
 
-side_ends_at : (side : Side) (k : yaml_token_type_t) → ends (Block (Some side)) k ≡ true → ends (Block None) k ≡ true
+side_ends_at : (side : Side) (k : yaml_token_type_t) → ends (Block (Some side)) k ≡ true
+    → ends (Block None) k ≡ true
 side_ends_at side kind.YAML_KEY_TOKEN h = refl
 side_ends_at side kind.YAML_BLOCK_END_TOKEN h = refl
 side_ends_at side kind.YAML_VALUE_TOKEN h = refl
@@ -261,15 +146,18 @@ side_ends : (side : Side) (ts : List Token) → Ends (Block (Some side)) ts → 
 side_ends side [] h = h
 side_ends side (t ∷ ts) h = side_ends_at side (type_of t.body) h
 
-others_end : (side : Side) (o : Others) (ts : List Token) → Ends (Block (Some side)) ts → Ends (Block None) (spell_others o ts)
+others_end : (side : Side) (o : Others) (ts : List Token) → Ends (Block (Some side)) ts
+    → Ends (Block None) (spell_others o ts)
 others_end side tree.no_others ts h = side_ends side ts h
 others_end side (tree.other p n o) ts h = refl
 
-pairs_end : (side : Side) (m : Pairs) (ts : List Token) → Ends (Block (Some side)) (spell_pairs m ts)
+pairs_end : (side : Side) (m : Pairs) (ts : List Token)
+    → Ends (Block (Some side)) (spell_pairs m ts)
 pairs_end side (tree.end_pairs p) ts = refl
 pairs_end side (tree.block_pair p k v m) ts = refl
 
-colon_pairs_end : (v : Colon (Block (Some Value))) (m : Pairs) (ts : List Token) → Ends (Block (Some Key)) (spell_colon v (spell_pairs m ts))
+colon_pairs_end : (v : Colon (Block (Some Value))) (m : Pairs) (ts : List Token)
+    → Ends (Block (Some Key)) (spell_colon v (spell_pairs m ts))
 colon_pairs_end tree.no_colon m ts = pairs_end Key m ts
 colon_pairs_end (tree.colon p v) m ts = refl
 
@@ -279,7 +167,8 @@ documents_end (tree.document [] p n e d) ts = refl
 documents_end (tree.document (tree.version q major minor ∷ ds) p n e d) ts = refl
 documents_end (tree.document (tree.handle q name prefix ∷ ds) p n e d) ts = refl
 
-root_ends : (e : List Span) (d : Documents) (ts : List Token) → Ends (Block None) (spell_ends e (spell_documents d ts))
+root_ends : (e : List Span) (d : Documents) (ts : List Token)
+    → Ends (Block None) (spell_ends e (spell_documents d ts))
 root_ends [] d ts = documents_end d ts
 root_ends (p ∷ e) d ts = refl
 
@@ -296,12 +185,14 @@ pairs_no_value : (m : Pairs) (ts : List Token) → NoValue (spell_pairs m ts)
 pairs_no_value (tree.end_pairs p) ts h = cc
 pairs_no_value (tree.block_pair p k v m) ts h = cc
 
-no_dash : (side : Side) (p : Span) (x y : List Token) → Ends (Block (Some side)) x → x ≡ token_at token.block_entry p ∷ y → ⊥
+no_dash : (side : Side) (p : Span) (x y : List Token) → Ends (Block (Some side)) x
+    → x ≡ token_at token.block_entry p ∷ y → ⊥
 no_dash side p x y e h = not_both (Block (Some side)) (token_at token.block_entry p ∷ y) (subst (Ends (Block (Some side))) h e) refl
 
 -- ---- nodes
 
-alias_same : {w : Wants} (p q : Span) (a b : List ℕ) (x y : List Token) → token_at (token.alias a) p ∷ x ≡ token_at (token.alias b) q ∷ y
+alias_same : {w : Wants} (p q : Span) (a b : List ℕ) (x y : List Token)
+    → token_at (token.alias a) p ∷ x ≡ token_at (token.alias b) q ∷ y
     → (tree.alias {w = w} p a ≡ tree.alias {w = w} q b) × (x ≡ y)
 alias_same {w = w} p q a b x y h =
     let e : token.alias a ≡ token.alias b = body_same _ _ p q x y h in
@@ -309,7 +200,8 @@ alias_same {w = w} p q a b x y h =
     (both (λ z n. tree.alias {w = w} z n) p q a b (span_same _ _ p q x y h) f, rest_same _ _ x y h)
 
 scalar_same : {w : Wants} (p q : Span) (v u : List ℕ) (s r : yaml_scalar_style_t) (x y : List Token)
-    → token_at (token.scalar v s) p ∷ x ≡ token_at (token.scalar u r) q ∷ y → (tree.scalar {w = w} p v s ≡ tree.scalar {w = w} q u r) × (x ≡ y)
+    → token_at (token.scalar v s) p ∷ x ≡ token_at (token.scalar u r) q ∷ y
+    → (tree.scalar {w = w} p v s ≡ tree.scalar {w = w} q u r) × (x ≡ y)
 scalar_same {w = w} p q v u s r x y h =
     let e : token.scalar v s ≡ token.scalar u r = body_same _ _ p q x y h in
     let f : v ≡ u = cc in
@@ -328,7 +220,8 @@ NodesAlike (tree.with_properties c m) (tree.with_properties d n) = Unit {0}
 NodesAlike (tree.bare m) (tree.bare n) = Unit {0}
 NodesAlike m n = ⊥
 
-nodes_alike : {w : Wants} (m n : Node w) (x y : List Token) → spell_node m x ≡ spell_node n y → NodesAlike m n
+nodes_alike : {w : Wants} (m n : Node w) (x y : List Token) → spell_node m x ≡ spell_node n y
+    → NodesAlike m n
 nodes_alike (tree.alias p a) (tree.alias q b) x y h = tt
 nodes_alike (tree.only_properties c) (tree.only_properties d) x y h = tt
 nodes_alike (tree.only_properties c) (tree.with_properties d n) x y h = tt
@@ -345,7 +238,8 @@ ContentsAlike (tree.block_mapping p m) (tree.block_mapping q n) = Unit {0}
 ContentsAlike (tree.indentless p m o) (tree.indentless q n u) = Unit {0}
 ContentsAlike c d = ⊥
 
-contents_alike : {w : Wants} (c d : Content w) (x y : List Token) → spell_content c x ≡ spell_content d y → ContentsAlike c d
+contents_alike : {w : Wants} (c d : Content w) (x y : List Token)
+    → spell_content c x ≡ spell_content d y → ContentsAlike c d
 contents_alike (tree.scalar p v s) (tree.scalar q u r) x y h = tt
 contents_alike (tree.flow a p i) (tree.flow b q j) x y h = tt
 contents_alike (tree.block_sequence p m) (tree.block_sequence q n) x y h = tt
@@ -353,7 +247,8 @@ contents_alike (tree.block_mapping p m) (tree.block_mapping q n) x y h = tt
 contents_alike (tree.indentless p m o) (tree.indentless q n u) x y h = tt
 contents_alike c d x y h = let s : content_form c ≡ content_form d = content_forms c d x y h in cc
 
-brackets_apart : (p q : Span) (x y : List Token) → token_at token.flow_sequence_start p ∷ x ≡ token_at token.flow_mapping_start q ∷ y → ⊥
+brackets_apart : (p q : Span) (x y : List Token)
+    → token_at token.flow_sequence_start p ∷ x ≡ token_at token.flow_mapping_start q ∷ y → ⊥
 brackets_apart p q x y h = apart _ _ h (λ k. cc)
 
 abbrev ItemsAlike : Items → Items → Type 0
@@ -362,26 +257,31 @@ ItemsAlike (tree.single m k) (tree.single n l) = Unit {0}
 ItemsAlike (tree.pair p m v k) (tree.pair q n u l) = Unit {0}
 ItemsAlike i j = ⊥
 
-items_alike : (b : Brackets) (i j : Items) (x y : List Token) → spell_items b i x ≡ spell_items b j y → ItemsAlike i j
+items_alike : (b : Brackets) (i j : Items) (x y : List Token)
+    → spell_items b i x ≡ spell_items b j y → ItemsAlike i j
 items_alike b (tree.end_items p) (tree.end_items q) x y h = tt
 items_alike b (tree.single m k) (tree.single n l) x y h = tt
 items_alike b (tree.pair p m v k) (tree.pair q n u l) x y h = tt
 items_alike b i j x y h = let s : items_part i ≡ items_part j = items_parts b i j x y h in cc
 
-comma_apart : (b : Brackets) (p q : Span) (x y : List Token) → token_at (closing b) p ∷ x ≡ token_at token.flow_entry q ∷ y → ⊥
+comma_apart : (b : Brackets) (p q : Span) (x y : List Token)
+    → token_at (closing b) p ∷ x ≡ token_at token.flow_entry q ∷ y → ⊥
 comma_apart brackets.Sequence p q x y h = apart _ _ h (λ k. cc)
 comma_apart brackets.Mapping p q x y h = apart _ _ h (λ k. cc)
 
-dash_apart : (p q : Span) (x y : List Token) → token_at token.block_end p ∷ x ≡ token_at token.block_entry q ∷ y → ⊥
+dash_apart : (p q : Span) (x y : List Token)
+    → token_at token.block_end p ∷ x ≡ token_at token.block_entry q ∷ y → ⊥
 dash_apart p q x y h = apart _ _ h (λ k. cc)
 
-key_apart : (p q : Span) (x y : List Token) → token_at token.block_end p ∷ x ≡ token_at token.key q ∷ y → ⊥
+key_apart : (p q : Span) (x y : List Token)
+    → token_at token.block_end p ∷ x ≡ token_at token.key q ∷ y → ⊥
 key_apart p q x y h = apart _ _ h (λ k. cc)
 
 -- ---- equal tokens, equal parts
 
 mutual
-  node_same : {w : Wants} (m n : Node w) (x y : List Token) → Ends w x → Ends w y → spell_node m x ≡ spell_node n y → (m ≡ n) × (x ≡ y)
+  node_same : {w : Wants} (m n : Node w) (x y : List Token) → Ends w x → Ends w y
+      → spell_node m x ≡ spell_node n y → (m ≡ n) × (x ≡ y)
   node_same {w = w} (tree.alias p a) (tree.alias q b) x y e f h = alias_same {w = w} p q a b x y h
   node_same {w = w} (tree.only_properties c) (tree.only_properties d) x y e f h =
       let r : (c ≡ d) × (x ≡ y) = properties_same c d x y (ends_plain w x e) (ends_plain w y f) h in (ap tree.only_properties r.0, r.1)
@@ -398,7 +298,8 @@ mutual
   node_same (tree.bare m) (tree.bare n) x y e f h = let r : (m ≡ n) × (x ≡ y) = content_same m n x y e f h in (ap tree.bare r.0, r.1)
   node_same m n x y e f h = absurd (nodes_alike m n x y h)
 
-  content_same : {w : Wants} (c d : Content w) (x y : List Token) → Ends w x → Ends w y → spell_content c x ≡ spell_content d y → (c ≡ d) × (x ≡ y)
+  content_same : {w : Wants} (c d : Content w) (x y : List Token) → Ends w x → Ends w y
+      → spell_content c x ≡ spell_content d y → (c ≡ d) × (x ≡ y)
   content_same {w = w} (tree.scalar p v s) (tree.scalar q u r) x y e f h = scalar_same {w = w} p q v u s r x y h
   content_same {w = w} (tree.flow brackets.Sequence p i) (tree.flow brackets.Sequence q j) x y e f h =
       let r : (i ≡ j) × (x ≡ y) = items_same brackets.Sequence i j x y (rest_same _ _ _ _ h) in
@@ -420,13 +321,15 @@ mutual
       (three tree.indentless p q m n o u (span_same _ _ p q _ _ h) r.0 s.0, s.1)
   content_same c d x y e f h = absurd (contents_alike c d x y h)
 
-  maybe_same : {w : Wants} (m n : Maybe w) (x y : List Token) → Ends w x → Ends w y → spell_maybe m x ≡ spell_maybe n y → (m ≡ n) × (x ≡ y)
+  maybe_same : {w : Wants} (m n : Maybe w) (x y : List Token) → Ends w x → Ends w y
+      → spell_maybe m x ≡ spell_maybe n y → (m ≡ n) × (x ≡ y)
   maybe_same tree.left_out tree.left_out x y e f h = (refl, h)
   maybe_same (tree.there m) (tree.there n) x y e f h = let r : (m ≡ n) × (x ≡ y) = node_same m n x y e f h in (ap tree.there r.0, r.1)
   maybe_same tree.left_out (tree.there n) x y e f h = absurd (no_node n x y e h)
   maybe_same (tree.there m) tree.left_out x y e f h = absurd (no_node m y x f (sym h))
 
-  colon_same : {w : Wants} (v u : Colon w) (x y : List Token) → Ends w x → Ends w y → NoValue x → NoValue y → spell_colon v x ≡ spell_colon u y → (v ≡ u) × (x ≡ y)
+  colon_same : {w : Wants} (v u : Colon w) (x y : List Token) → Ends w x → Ends w y → NoValue x
+      → NoValue y → spell_colon v x ≡ spell_colon u y → (v ≡ u) × (x ≡ y)
   colon_same tree.no_colon tree.no_colon x y e f k l h = (refl, h)
   colon_same (tree.colon p m) (tree.colon q n) x y e f k l h =
       let r : (m ≡ n) × (x ≡ y) = maybe_same m n x y e f (rest_same _ _ _ _ h) in
@@ -434,7 +337,8 @@ mutual
   colon_same tree.no_colon (tree.colon q n) x y e f k l h = absurd (k (ap kind_of h))
   colon_same (tree.colon p m) tree.no_colon x y e f k l h = absurd (l (ap kind_of (sym h)))
 
-  items_same : (b : Brackets) (i j : Items) (x y : List Token) → spell_items b i x ≡ spell_items b j y → (i ≡ j) × (x ≡ y)
+  items_same : (b : Brackets) (i j : Items) (x y : List Token)
+      → spell_items b i x ≡ spell_items b j y → (i ≡ j) × (x ≡ y)
   items_same b (tree.end_items p) (tree.end_items q) x y h = (ap tree.end_items (span_same _ _ p q x y h), rest_same _ _ x y h)
   items_same b (tree.single m k) (tree.single n l) x y h =
       let r : (m ≡ n) × (spell_more b k x ≡ spell_more b l y) = node_same m n (spell_more b k x) (spell_more b l y) (more_ends b k x) (more_ends b l y) h in
@@ -449,7 +353,8 @@ mutual
       (four tree.pair p q m n v u k l (span_same _ _ p q _ _ h) r.0 s.0 t.0, t.1)
   items_same b i j x y h = absurd (items_alike b i j x y h)
 
-  more_same : (b : Brackets) (m n : More) (x y : List Token) → spell_more b m x ≡ spell_more b n y → (m ≡ n) × (x ≡ y)
+  more_same : (b : Brackets) (m n : More) (x y : List Token) → spell_more b m x ≡ spell_more b n y
+      → (m ≡ n) × (x ≡ y)
   more_same b (tree.end_more p) (tree.end_more q) x y h = (ap tree.end_more (span_same _ _ p q x y h), rest_same _ _ x y h)
   more_same b (tree.comma p i) (tree.comma q j) x y h =
       let r : (i ≡ j) × (x ≡ y) = items_same b i j x y (rest_same _ _ _ _ h) in
@@ -457,7 +362,8 @@ mutual
   more_same b (tree.end_more p) (tree.comma q j) x y h = absurd (comma_apart b p q _ _ h)
   more_same b (tree.comma p i) (tree.end_more q) x y h = absurd (comma_apart b q p _ _ (sym h))
 
-  entries_same : (d e : Entries) (x y : List Token) → spell_entries d x ≡ spell_entries e y → (d ≡ e) × (x ≡ y)
+  entries_same : (d e : Entries) (x y : List Token) → spell_entries d x ≡ spell_entries e y
+      → (d ≡ e) × (x ≡ y)
   entries_same (tree.end_entries p) (tree.end_entries q) x y h = (ap tree.end_entries (span_same _ _ p q x y h), rest_same _ _ x y h)
   entries_same (tree.entry p m d) (tree.entry q n e) x y h =
       let r : (m ≡ n) × (spell_entries d x ≡ spell_entries e y) = maybe_same m n (spell_entries d x) (spell_entries e y) (entries_end d x) (entries_end e y) (rest_same _ _ _ _ h) in
@@ -466,7 +372,8 @@ mutual
   entries_same (tree.end_entries p) (tree.entry q n e) x y h = absurd (dash_apart p q _ _ h)
   entries_same (tree.entry p m d) (tree.end_entries q) x y h = absurd (dash_apart q p _ _ (sym h))
 
-  others_same : (side : Side) (o u : Others) (x y : List Token) → Ends (Block (Some side)) x → Ends (Block (Some side)) y → spell_others o x ≡ spell_others u y → (o ≡ u) × (x ≡ y)
+  others_same : (side : Side) (o u : Others) (x y : List Token) → Ends (Block (Some side)) x
+      → Ends (Block (Some side)) y → spell_others o x ≡ spell_others u y → (o ≡ u) × (x ≡ y)
   others_same side tree.no_others tree.no_others x y e f h = (refl, h)
   others_same side (tree.other p m o) (tree.other q n u) x y e f h =
       let r : (m ≡ n) × (spell_others o x ≡ spell_others u y) = maybe_same m n (spell_others o x) (spell_others u y) (others_end side o x e) (others_end side u y f) (rest_same _ _ _ _ h) in
@@ -475,7 +382,8 @@ mutual
   others_same side tree.no_others (tree.other q n u) x y e f h = absurd (no_dash side q x _ e h)
   others_same side (tree.other p m o) tree.no_others x y e f h = absurd (no_dash side p y _ f (sym h))
 
-  pairs_same : (c d : Pairs) (x y : List Token) → spell_pairs c x ≡ spell_pairs d y → (c ≡ d) × (x ≡ y)
+  pairs_same : (c d : Pairs) (x y : List Token) → spell_pairs c x ≡ spell_pairs d y
+      → (c ≡ d) × (x ≡ y)
   pairs_same (tree.end_pairs p) (tree.end_pairs q) x y h = (ap tree.end_pairs (span_same _ _ p q x y h), rest_same _ _ x y h)
   pairs_same (tree.block_pair p m v c) (tree.block_pair q n u d) x y h =
       let r : (m ≡ n) × (spell_colon v (spell_pairs c x) ≡ spell_colon u (spell_pairs d y))
@@ -489,7 +397,8 @@ mutual
 
 -- ---- documents
 
-version_same : (p q : Span) (a b c d : ℤ) (x y : List Token) → token_at (token.version_directive a b) p ∷ x ≡ token_at (token.version_directive c d) q ∷ y
+version_same : (p q : Span) (a b c d : ℤ) (x y : List Token)
+    → token_at (token.version_directive a b) p ∷ x ≡ token_at (token.version_directive c d) q ∷ y
     → (tree.version p a b ≡ tree.version q c d) × (x ≡ y)
 version_same p q a b c d x y h =
     let e : token.version_directive a b ≡ token.version_directive c d = body_same _ _ p q x y h in
@@ -497,7 +406,8 @@ version_same p q a b c d x y h =
     let g : b ≡ d = cc in
     (three tree.version p q a c b d (span_same _ _ p q x y h) f g, rest_same _ _ x y h)
 
-handle_same : (p q : Span) (a b c d : List ℕ) (x y : List Token) → token_at (token.tag_directive a b) p ∷ x ≡ token_at (token.tag_directive c d) q ∷ y
+handle_same : (p q : Span) (a b c d : List ℕ) (x y : List Token)
+    → token_at (token.tag_directive a b) p ∷ x ≡ token_at (token.tag_directive c d) q ∷ y
     → (tree.handle p a b ≡ tree.handle q c d) × (x ≡ y)
 handle_same p q a b c d x y h =
     let e : token.tag_directive a b ≡ token.tag_directive c d = body_same _ _ p q x y h in
@@ -509,7 +419,8 @@ handle_same p q a b c d x y h =
 abbrev begin : List Directive → Span → List Token → List Token
 begin ds p ts = spell_directives ds (token_at token.document_start p ∷ ts)
 
-directives_same : (ds es : List Directive) (p q : Span) (x y : List Token) → begin ds p x ≡ begin es q y → (ds ≡ es) × (p ≡ q) × (x ≡ y)
+directives_same : (ds es : List Directive) (p q : Span) (x y : List Token)
+    → begin ds p x ≡ begin es q y → (ds ≡ es) × (p ≡ q) × (x ≡ y)
 directives_same [] [] p q x y h = (refl, span_same _ _ p q x y h, rest_same _ _ x y h)
 directives_same (tree.version s a b ∷ ds) (tree.version t c d ∷ es) p q x y h =
     let v : (tree.version s a b ≡ tree.version t c d) × (begin ds p x ≡ begin es q y) = version_same s t a b c d _ _ h in
@@ -526,13 +437,15 @@ directives_same (tree.handle s a b ∷ ds) [] p q x y h = absurd (apart _ _ h (�
 directives_same (tree.version s a b ∷ ds) (tree.handle t c d ∷ es) p q x y h = absurd (apart _ _ h (λ k. cc))
 directives_same (tree.handle s a b ∷ ds) (tree.version t c d ∷ es) p q x y h = absurd (apart _ _ h (λ k. cc))
 
-no_document_end : (d : Documents) (ts : List Token) → kind_of (spell_documents d ts) ≡ kind.YAML_DOCUMENT_END_TOKEN → ⊥
+no_document_end : (d : Documents) (ts : List Token)
+    → kind_of (spell_documents d ts) ≡ kind.YAML_DOCUMENT_END_TOKEN → ⊥
 no_document_end (tree.end_stream p) ts h = cc
 no_document_end (tree.document [] p n e d) ts h = cc
 no_document_end (tree.document (tree.version q major minor ∷ ds) p n e d) ts h = cc
 no_document_end (tree.document (tree.handle q name prefix ∷ ds) p n e d) ts h = cc
 
-ends_same : (a b : List Span) (c d : Documents) (x y : List Token) → spell_ends a (spell_documents c x) ≡ spell_ends b (spell_documents d y)
+ends_same : (a b : List Span) (c d : Documents) (x y : List Token)
+    → spell_ends a (spell_documents c x) ≡ spell_ends b (spell_documents d y)
     → (a ≡ b) × (spell_documents c x ≡ spell_documents d y)
 ends_same [] [] c d x y h = (refl, h)
 ends_same (p ∷ a) (q ∷ b) c d x y h =
@@ -541,16 +454,19 @@ ends_same (p ∷ a) (q ∷ b) c d x y h =
 ends_same [] (q ∷ b) c d x y h = absurd (no_document_end c x (ap kind_of h))
 ends_same (p ∷ a) [] c d x y h = absurd (no_document_end d y (ap kind_of (sym h)))
 
-not_the_end : (ds : List Directive) (p : Span) (ts : List Token) → kind_of (begin ds p ts) ≡ kind.YAML_STREAM_END_TOKEN → ⊥
+not_the_end : (ds : List Directive) (p : Span) (ts : List Token)
+    → kind_of (begin ds p ts) ≡ kind.YAML_STREAM_END_TOKEN → ⊥
 not_the_end [] p ts h = cc
 not_the_end (tree.version q major minor ∷ ds) p ts h = cc
 not_the_end (tree.handle q name prefix ∷ ds) p ts h = cc
 
-document_same : (ds es : List Directive) (p q : Span) (m n : Maybe (Block None)) (a b : List Span) (c d : Documents)
+document_same : (ds es : List Directive) (p q : Span) (m n : Maybe (Block None)) (a b : List Span)
+    (c d : Documents)
     → ds ≡ es → p ≡ q → m ≡ n → a ≡ b → c ≡ d → tree.document ds p m a c ≡ tree.document es q n b d
 document_same ds es p q m n a b c d e f g h i = ap (λ z. tree.document z p m a c) e ∙ four (tree.document es) p q m n a b c d f g h i
 
-documents_same : (c d : Documents) (x y : List Token) → spell_documents c x ≡ spell_documents d y → (c ≡ d) × (x ≡ y)
+documents_same : (c d : Documents) (x y : List Token) → spell_documents c x ≡ spell_documents d y
+    → (c ≡ d) × (x ≡ y)
 documents_same (tree.end_stream p) (tree.end_stream q) x y h = (ap tree.end_stream (span_same _ _ p q x y h), rest_same _ _ x y h)
 documents_same (tree.document ds p m a c) (tree.document es q n b d) x y h =
     let r = directives_same ds es p q (spell_maybe m (spell_ends a (spell_documents c x))) (spell_maybe n (spell_ends b (spell_documents d y))) h in
@@ -561,7 +477,8 @@ documents_same (tree.document ds p m a c) (tree.document es q n b d) x y h =
 documents_same (tree.end_stream p) (tree.document es q n b d) x y h = absurd (not_the_end es q _ (ap kind_of (sym h)))
 documents_same (tree.document ds p m a c) (tree.end_stream q) x y h = absurd (not_the_end ds p _ (ap kind_of h))
 
-first_same : (m n : First) (c d : Documents) (x y : List Token) → spell_first m (spell_documents c x) ≡ spell_first n (spell_documents d y)
+first_same : (m n : First) (c d : Documents) (x y : List Token)
+    → spell_first m (spell_documents c x) ≡ spell_first n (spell_documents d y)
     → (m ≡ n) × (spell_documents c x ≡ spell_documents d y)
 first_same tree.no_first tree.no_first c d x y h = (refl, h)
 first_same (tree.first m a) (tree.first n b) c d x y h =
@@ -571,10 +488,12 @@ first_same (tree.first m a) (tree.first n b) c d x y h =
 first_same tree.no_first (tree.first n b) c d x y h = absurd (no_node n (spell_documents c x) _ (documents_end c x) h)
 first_same (tree.first m a) tree.no_first c d x y h = absurd (no_node m (spell_documents d y) _ (documents_end d y) (sym h))
 
-encoding_same : (a b : yaml_encoding_t) (p q : Span) (x y : List Token) → token_at (token.stream_start a) p ∷ x ≡ token_at (token.stream_start b) q ∷ y → a ≡ b
+encoding_same : (a b : yaml_encoding_t) (p q : Span) (x y : List Token)
+    → token_at (token.stream_start a) p ∷ x ≡ token_at (token.stream_start b) q ∷ y → a ≡ b
 encoding_same a b p q x y h = let e : token.stream_start a ≡ token.stream_start b = body_same _ _ p q x y h in cc
 
-stream_same : (s t : Stream) → s.encoding ≡ t.encoding → s.start ≡ t.start → s.first ≡ t.first → s.documents ≡ t.documents → s ≡ t
+stream_same : (s t : Stream) → s.encoding ≡ t.encoding → s.start ≡ t.start → s.first ≡ t.first
+    → s.documents ≡ t.documents → s ≡ t
 stream_same s t e f g h =
     four (λ (c : yaml_encoding_t) (p : Span) (m : First) (d : Documents). record { encoding = c; start = p; first = m; documents = d })
     s.encoding t.encoding s.start t.start s.first t.first s.documents t.documents e f g h

@@ -3,7 +3,8 @@ use Rattle.std.proofs.Common.{◌≡◌, ◌+◌, List, [], ◌∷◌, ◌++◌,
 use Rattle.yaml_parse_laws_trees.specs.parse_grammar.parse_model.Tokens.{Token}
 use Rattle.yaml_parse_laws_trees.specs.LookBack.{followed_by}
 
-pub followed_on : (past ts us : List Token) → followed_by past ts ++ us ≡ followed_by past (ts ++ us)
+pub followed_on : (past ts us : List Token)
+    → followed_by past ts ++ us ≡ followed_by past (ts ++ us)
 followed_on [] ts us = refl
 followed_on (t ∷ past) ts us = followed_on past (t ∷ ts) us
 
@@ -20,14 +21,16 @@ pub record SameCut (past other ts us : List Token) : Type 0 where
 cons_same : (a b : Token) (x y : List Token) → a ≡ b → x ≡ y → a ∷ x ≡ b ∷ y
 cons_same a b x y p q = cc
 
-longer : (a b : Token) (past other : List Token) → length (a ∷ past) ≡ length (b ∷ other) → length past ≡ length other
+longer : (a b : Token) (past other : List Token) → length (a ∷ past) ≡ length (b ∷ other)
+    → length past ≡ length other
 longer a b past other h = omega arith
 
 empty_length : (a : Token) (past : List Token) → length (a ∷ past) ≡ length {A = Token} [] → ⊥
 empty_length a past h = omega arith
 
 -- two cuts behind as many tokens are the same
-pub same_cut : (past other ts us : List Token) → followed_by past ts ≡ followed_by other us → length past ≡ length other → SameCut past other ts us
+pub same_cut : (past other ts us : List Token) → followed_by past ts ≡ followed_by other us
+    → length past ≡ length other → SameCut past other ts us
 same_cut [] [] ts us h n = record { before = refl; behind = h }
 same_cut [] (b ∷ other) ts us h n = absurd (empty_length b other (sym n))
 same_cut (a ∷ past) [] ts us h n = absurd (empty_length a past n)
@@ -49,7 +52,9 @@ pub record Reaches (past us list rest : List Token) : Type 0 where
   pub same : list ≡ followed_by past (token ∷ more)
   pub behind : us ≡ token ∷ (more ++ rest)
 
-moved : (x m : Token) (past us rest list : List Token) (more : List Token) → list ≡ followed_by past (m ∷ more) → x ∷ us ≡ m ∷ (more ++ rest) → (followed_by (x ∷ past) [] ≡ list → ⊥) → Reaches (x ∷ past) us list rest
+moved : (x m : Token) (past us rest list : List Token) (more : List Token)
+    → list ≡ followed_by past (m ∷ more) → x ∷ us ≡ m ∷ (more ++ rest)
+    → (followed_by (x ∷ past) [] ≡ list → ⊥) → Reaches (x ∷ past) us list rest
 moved x m past us rest list [] p q n = absurd (n (ap (λ (z : Token). followed_by past (z ∷ [])) (head_same x m us rest q) ∙ sym p))
 moved x m past us rest list (y ∷ more) p q n = record {
   token = y;
@@ -58,15 +63,18 @@ moved x m past us rest list (y ∷ more) p q n = record {
   behind = tail_same x m us (y ∷ (more ++ rest)) q;
 }
 
-at_start : (us list rest : List Token) → us ≡ list ++ rest → ([] ≡ list → ⊥) → Reaches [] us list rest
+at_start : (us list rest : List Token) → us ≡ list ++ rest → ([] ≡ list → ⊥)
+    → Reaches [] us list rest
 at_start us [] rest p n = absurd (n refl)
 at_start us (y ∷ list) rest p n = record { token = y; more = list; same = refl; behind = p }
 
-pub reaches : (past us list rest : List Token) → followed_by past us ≡ list ++ rest → IsNoFront list past → Reaches past us list rest
+pub reaches : (past us list rest : List Token) → followed_by past us ≡ list ++ rest
+    → IsNoFront list past → Reaches past us list rest
 reaches [] us list rest p n = at_start us list rest p n
 reaches (x ∷ past) us list rest p n = let r : Reaches past (x ∷ us) list rest = reaches past (x ∷ us) list rest p n.1 in moved x r.token past us rest list r.more r.same r.behind n.0
 
-pub followed_length : (past us : List Token) → length (followed_by past us) ≡ length past + length us
+pub followed_length : (past us : List Token)
+    → length (followed_by past us) ≡ length past + length us
 followed_length [] us = sym (zero-add (length us))
 followed_length (t ∷ past) us = followed_length past (t ∷ us) ∙ counted
   where

@@ -24,16 +24,19 @@ fault_of_loads (g ∷ gs) f l = fault_on (step g.0 l) (fault_of_loads gs f)
 
 -- ---- it is the fault behind all documents
 
-in_front_alike : (ns : List Node) (d : Document) (rest : Loads) (f : Option Fault) → rest.fault ≡ f → (in_front ns d rest).fault ≡ unless_rootless ns f
+in_front_alike : (ns : List Node) (d : Document) (rest : Loads) (f : Option Fault) → rest.fault ≡ f
+    → (in_front ns d rest).fault ≡ unless_rootless ns f
 in_front_alike [] d rest f h = refl
 in_front_alike (n ∷ ns) d rest f h = h
 
-on_alike : (c : LoadStep) (p : Loading → Loads) (q : Loading → Option Fault) → ((l : Loading) → (p l).fault ≡ q l) → (load_on c p).fault ≡ fault_on c q
+on_alike : (c : LoadStep) (p : Loading → Loads) (q : Loading → Option Fault)
+    → ((l : Loading) → (p l).fault ≡ q l) → (load_on c p).fault ≡ fault_on c q
 on_alike (goes_on l) p q h = h l
 on_alike (loaded d) p q h = in_front_alike d.nodes d (p nothing_loaded) (q nothing_loaded) (h nothing_loaded)
 on_alike (refused f) p q h = refl
 
-pub faults_alike : (gs : List Told) (f : Option Fault) (l : Loading) → (load_all gs f l).fault ≡ fault_of_loads gs f l
+pub faults_alike : (gs : List Told) (f : Option Fault) (l : Loading)
+    → (load_all gs f l).fault ≡ fault_of_loads gs f l
 unfolding load_all fault_of_loads
 faults_alike [] f l = refl
 faults_alike (g ∷ gs) f l = on_alike (step g.0 l) (load_all gs f) (fault_of_loads gs f) (λ m. faults_alike gs f m)

@@ -17,13 +17,16 @@ not_empty : (a : RawEvent) (x : List RawEvent) → [] ≡ a ∷ x → ⊥
 not_empty a x h = cc
 
 -- one item more
-one_more : (c : Settled) (i : RawEvent) (m n : ℕ) (k l : Directives → Reading) → ((ds : Directives) → BeginsWithEvents (told (k ds).events) (told (l ds).events))
+one_more : (c : Settled) (i : RawEvent) (m n : ℕ) (k l : Directives → Reading)
+    → ((ds : Directives) → BeginsWithEvents (told (k ds).events) (told (l ds).events))
     → BeginsWithEvents (told (read_on c i m k).events) (told (read_on c i n l).events)
 one_more (refused e) i m n k l h = record { others = []; same = refl }
 one_more (gave b ds) i m n k l h = let r : BeginsWithEvents (told (k ds).events) (told (l ds).events) = h ds in record { others = r.others; same = ap (λ (z : List Event). placed b i ∷ z) r.same }
 one_more (noted ds) i m n k l h = h ds
 
-begin_told : (gs hs : List Given) (others : List RawEvent) (f g : Option Fault) (ds : Directives) → bare hs ≡ bare gs ++ others → BeginsWithEvents (told (reading gs f ds).events) (told (reading hs g ds).events)
+begin_told : (gs hs : List Given) (others : List RawEvent) (f g : Option Fault) (ds : Directives)
+    → bare hs ≡ bare gs ++ others
+    → BeginsWithEvents (told (reading gs f ds).events) (told (reading hs g ds).events)
 unfolding reading
 begin_told [] hs others f g ds p = record { others = told (reading hs g ds).events; same = refl }
 begin_told (x ∷ gs) [] others f g ds p = absurd (not_empty x.0 (bare gs ++ others) p)

@@ -40,31 +40,39 @@ fared_fault (onward ds l) k = k ds l
 abbrev pub ends_in : Reading → Loading → Option Fault
 ends_in r l = fault_of_loads r.events r.ending l
 
-rootless : (ns : List Node) (f : Option Fault) (r : Fared) (m : Directives → Loading → Option Fault) → f ≡ fared_fault r m → unless_rootless ns f ≡ fared_fault (unless_empty ns r) m
+rootless : (ns : List Node) (f : Option Fault) (r : Fared) (m : Directives → Loading → Option Fault)
+    → f ≡ fared_fault r m → unless_rootless ns f ≡ fared_fault (unless_empty ns r) m
 rootless [] f r m h = refl
 rootless (n ∷ ns) f r m h = h
 
-one_fed : (c : LoadStep) (k : Loading → Option Fault) (q : Loading → Fared) (m : Directives → Loading → Option Fault) → ((l : Loading) → k l ≡ fared_fault (q l) m) → fault_on c k ≡ fared_fault (then_fed c q) m
+one_fed : (c : LoadStep) (k : Loading → Option Fault) (q : Loading → Fared)
+    (m : Directives → Loading → Option Fault) → ((l : Loading) → k l ≡ fared_fault (q l) m)
+    → fault_on c k ≡ fared_fault (then_fed c q) m
 one_fed (goes_on l) k q m h = h l
 one_fed (loaded d) k q m h = rootless d.nodes (k nothing_loaded) (q nothing_loaded) m (h nothing_loaded)
 one_fed (refused f) k q m h = refl
 
-one_load : (c : Settled) (i : RawEvent) (left : ℕ) (k : Directives → Reading) (l : Loading) (q : Directives → Loading → Fared) (m : Directives → Loading → Option Fault)
-    → ((ds : Directives) (l : Loading) → ends_in (k ds) l ≡ fared_fault (q ds l) m) → ends_in (read_on c i left k) l ≡ fared_fault (then_load c i l q) m
+one_load : (c : Settled) (i : RawEvent) (left : ℕ) (k : Directives → Reading) (l : Loading)
+    (q : Directives → Loading → Fared) (m : Directives → Loading → Option Fault)
+    → ((ds : Directives) (l : Loading) → ends_in (k ds) l ≡ fared_fault (q ds l) m)
+    → ends_in (read_on c i left k) l ≡ fared_fault (then_load c i l q) m
 unfolding fault_of_loads
 one_load (resolve.refused f) i left k l q m h = refl
 one_load (gave body ds) i left k l q m h = one_fed (step (placed body i) l) (fault_of_loads (k ds).events (k ds).ending) (q ds) m (λ n. h ds n)
 one_load (noted ds) i left k l q m h = h ds l
 
-pub front_loads : (is : List RawEvent) (left : ℕ) (gs : List Given) (f : Option Fault) (ds : Directives) (l : Loading)
-    → ends_in (reading (map (λ (i : RawEvent). (i, left)) is ++ gs) f ds) l ≡ fared_fault (load_items is ds l) (λ d m. ends_in (reading gs f d) m)
+pub front_loads : (is : List RawEvent) (left : ℕ) (gs : List Given) (f : Option Fault)
+    (ds : Directives) (l : Loading)
+    → ends_in (reading (map (λ (i : RawEvent). (i, left)) is ++ gs) f ds) l
+    ≡ fared_fault (load_items is ds l) (λ d m. ends_in (reading gs f d) m)
 unfolding reading
 front_loads [] left gs f ds l = refl
 front_loads (i ∷ is) left gs f ds l =
     one_load (settle i ds) i left (λ d. reading (map (λ (i : RawEvent). (i, left)) is ++ gs) f d) l (λ d m. load_items is d m) (λ d m. ends_in (reading gs f d) m) (λ d m. front_loads is left gs f d m)
 
 pub last_loads : (is : List RawEvent) (left : ℕ) (f : Option Fault) (ds : Directives) (l : Loading)
-    → ends_in (reading (map (λ (i : RawEvent). (i, left)) is) f ds) l ≡ fared_fault (load_items is ds l) (λ d m. f)
+    → ends_in (reading (map (λ (i : RawEvent). (i, left)) is) f ds) l
+    ≡ fared_fault (load_items is ds l) (λ d m. f)
 unfolding reading fault_of_loads
 last_loads [] left f ds l = refl
 last_loads (i ∷ is) left f ds l =

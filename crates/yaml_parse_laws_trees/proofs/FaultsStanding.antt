@@ -41,12 +41,15 @@ around_signs : (ts : List Token) → signs_of (surrounding ts) ≡ around (signs
 around_signs [] = refl
 around_signs (t ∷ ts) = refl
 
-either : (a b : Bool) (t : Token) (ts : List Token) → signs_of (if a then t ∷ ts else if b then surrounding ts else ts) ≡ (if a then sign_of t ∷ signs_of ts else if b then around (signs_of ts) else signs_of ts)
+either : (a b : Bool) (t : Token) (ts : List Token)
+    → signs_of (if a then t ∷ ts else if b then surrounding ts else ts)
+    ≡ (if a then sign_of t ∷ signs_of ts else if b then around (signs_of ts) else signs_of ts)
 either true b t ts = refl
 either false true t ts = around_signs ts
 either false false t ts = refl
 
-pub signs_on : (t : Token) (past : List Token) → signs_of (opened (t ∷ past)) ≡ signs_behind t.body t.start_mark (signs_of (opened past))
+pub signs_on : (t : Token) (past : List Token)
+    → signs_of (opened (t ∷ past)) ≡ signs_behind t.body t.start_mark (signs_of (opened past))
 signs_on t past = either (opens t.body) (closes t.body) t (opened past)
 
 -- the same tests of signs
@@ -158,7 +161,9 @@ told_fault nothing gs at = grammar_fault [] at
 told_fault asking gs at = no_node (bracketed gs) at
 told_fault _ gs at = stuck gs at
 
-asked : (b : TokenBody) (x y : Fault) (gs : List Sign) (at : yaml_mark_t) → x ≡ no_node (bracketed gs) at → y ≡ stuck gs at → (if asks_for_node b then x else y) ≡ told_fault (last_of b) gs at
+asked : (b : TokenBody) (x y : Fault) (gs : List Sign) (at : yaml_mark_t)
+    → x ≡ no_node (bracketed gs) at → y ≡ stuck gs at
+    → (if asks_for_node b then x else y) ≡ told_fault (last_of b) gs at
 asked (token.stream_start e) x y gs at p q = p
 asked token.document_start x y gs at p q = p
 asked token.block_entry x y gs at p q = p
@@ -174,7 +179,8 @@ asked (token.tag handle suffix) x y gs at p q = q
 asked _ x y gs at p q = q
 
 -- it is the fault of the grammar
-pub grammar_told : (past : List Token) (at : yaml_mark_t) → grammar_fault past at ≡ told_fault (last_in past) (signs_of (opened past)) at
+pub grammar_told : (past : List Token) (at : yaml_mark_t)
+    → grammar_fault past at ≡ told_fault (last_in past) (signs_of (opened past)) at
 grammar_told [] at = refl
 grammar_told (t ∷ past) at =
     asked t.body (no_node (in_brackets (opened (t ∷ past))) at) (not_going_on (opened (t ∷ past)) at) (signs_of (opened (t ∷ past))) at

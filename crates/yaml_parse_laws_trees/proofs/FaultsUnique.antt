@@ -11,50 +11,62 @@ use Rattle.yaml_parse_laws_trees.proofs.Cuts.{SameCut, same_cut}
 same_some : (x : Option Fault) (e f : Fault) → x ≡ Some e → x ≡ Some f → e ≡ f
 same_some x e f p q = cc
 
-one_wrong : (past : List Token) (t : Token) (e f : Fault) → WrongToken past t e → WrongToken past t f → e ≡ f
+one_wrong : (past : List Token) (t : Token) (e f : Fault) → WrongToken past t e
+    → WrongToken past t f → e ≡ f
 one_wrong past t e f (grammar n p) (grammar m q) = p ∙ sym q
 one_wrong past t e f (grammar n p) (directive g q) = absurd (n g)
 one_wrong past t e f (directive g p) (grammar m q) = absurd (m g)
 one_wrong past t e f (directive g p) (directive h q) = same_some (directive_fault past t.body t.start_mark) e f p q
 
 -- one fault at each place
-pub one_at : (past : List Token) (t : Token) (r : Rank) (e f : Fault) → FaultAt past t r e → FaultAt past t r f → e ≡ f
+pub one_at : (past : List Token) (t : Token) (r : Rank) (e f : Fault) → FaultAt past t r e
+    → FaultAt past t r f → e ≡ f
 one_at past t of_handle e f p q = same_some (handle_fault past t.body) e f p q
 one_at past t of_token e f p q = one_wrong past t e f p q
 
 head_same : (a b : Token) (x y : List Token) → a ∷ x ≡ b ∷ y → a ≡ b
 head_same a b x y h = cc
 
-one_standing : (ts : List Token) (n m : ℕ) (r : Rank) (e f : Fault) → n ≡ m → StandsIn ts (record { number = n; rank = r }) e → StandsIn ts (record { number = m; rank = r }) f → e ≡ f
+one_standing : (ts : List Token) (n m : ℕ) (r : Rank) (e f : Fault) → n ≡ m
+    → StandsIn ts (record { number = n; rank = r }) e
+    → StandsIn ts (record { number = m; rank = r }) f → e ≡ f
 one_standing ts n m r e f p x y =
     let c : SameCut x.past y.past (x.token ∷ x.behind) (y.token ∷ y.behind) = same_cut x.past y.past (x.token ∷ x.behind) (y.token ∷ y.behind) (sym x.list ∙ y.list) (x.number ∙ p ∙ sym y.number) in
     one_at y.past y.token r e f
     (subst (λ (z : Token). FaultAt y.past z r e) (head_same x.token y.token x.behind y.behind c.behind) (subst (λ (z : List Token). FaultAt z x.token r e) c.before x.fault))
     y.fault
 
-by_rank : (ts : List Token) (n m : ℕ) (r q : Rank) (e f : Fault) → n ≡ m → StandsIn ts (record { number = n; rank = r }) e → StandsIn ts (record { number = m; rank = q }) f
-    → (ComesBefore (record { number = n; rank = r }) (record { number = m; rank = q }) → ⊥) → (ComesBefore (record { number = m; rank = q }) (record { number = n; rank = r }) → ⊥) → e ≡ f
+by_rank : (ts : List Token) (n m : ℕ) (r q : Rank) (e f : Fault) → n ≡ m
+    → StandsIn ts (record { number = n; rank = r }) e
+    → StandsIn ts (record { number = m; rank = q }) f
+    → (ComesBefore (record { number = n; rank = r }) (record { number = m; rank = q }) → ⊥)
+    → (ComesBefore (record { number = m; rank = q }) (record { number = n; rank = r }) → ⊥) → e ≡ f
 by_rank ts n m of_handle of_handle e f p x y a b = one_standing ts n m of_handle e f p x y
 by_rank ts n m of_token of_token e f p x y a b = one_standing ts n m of_token e f p x y
 by_rank ts n m of_handle of_token e f p x y a b = absurd (a (inr (p, tt)))
 by_rank ts n m of_token of_handle e f p x y a b = absurd (b (inr (sym p, tt)))
 
-one_first : (ts : List Token) (e f : Fault) → IsOfLeastPlace (StandsIn ts) e → IsOfLeastPlace (StandsIn ts) f → e ≡ f
+one_first : (ts : List Token) (e f : Fault) → IsOfLeastPlace (StandsIn ts) e
+    → IsOfLeastPlace (StandsIn ts) f → e ≡ f
 one_first ts e f x y = by_number (cases_order x.place.number y.place.number)
   where
-    by_number : (x.place.number ≡ y.place.number) ⊎ ((x.place.number < y.place.number) ⊎ (y.place.number < x.place.number)) → e ≡ f
+    by_number : (x.place.number ≡ y.place.number)
+        ⊎ ((x.place.number < y.place.number) ⊎ (y.place.number < x.place.number)) → e ≡ f
     by_number (inl p) = by_rank ts x.place.number y.place.number x.place.rank y.place.rank e f p x.stands y.stands (y.least x.place e x.stands) (x.least y.place f y.stands)
     by_number (inr (inl p)) = absurd (y.least x.place e x.stands (inl p))
     by_number (inr (inr p)) = absurd (x.least y.place f y.stands (inl p))
 
-not_own : (ts : List Token) (own : Option Fault) (e f : Fault) → IsOfLeastPlace (StandsIn (with_end own ts)) e → IsOwn ts own f → ⊥
+not_own : (ts : List Token) (own : Option Fault) (e f : Fault)
+    → IsOfLeastPlace (StandsIn (with_end own ts)) e → IsOwn ts own f → ⊥
 not_own ts None e f x y = cc_some y.same
   where
     cc_some : None ≡ Some f → ⊥
     cc_some h = cc
 not_own ts (Some g) e f x y = y.free x.place e x.stands
 
-one_refused : (ts : List Token) (own : Option Fault) (e f : Fault) → IsOfLeastPlace (StandsIn (with_end own ts)) e ⊎ IsOwn ts own e → IsOfLeastPlace (StandsIn (with_end own ts)) f ⊎ IsOwn ts own f → e ≡ f
+one_refused : (ts : List Token) (own : Option Fault) (e f : Fault)
+    → IsOfLeastPlace (StandsIn (with_end own ts)) e ⊎ IsOwn ts own e
+    → IsOfLeastPlace (StandsIn (with_end own ts)) f ⊎ IsOwn ts own f → e ≡ f
 one_refused ts own e f (inl x) (inl y) = one_first (with_end own ts) e f x y
 one_refused ts own e f (inl x) (inr y) = absurd (not_own ts own e f x y)
 one_refused ts own e f (inr x) (inl y) = absurd (not_own ts own f e y x)

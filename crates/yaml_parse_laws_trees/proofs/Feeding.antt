@@ -59,7 +59,8 @@ plain_below [] h = tt
 plain_below (x ∷ s) h = h.1
 
 -- a state that leaves has states below
-sits_left : (x : State) (k : yaml_token_type_t) (s : List State) → choice_at x k ≡ Leave → Sits (x ∷ s) → Sits s
+sits_left : (x : State) (k : yaml_token_type_t) (s : List State) → choice_at x k ≡ Leave
+    → Sits (x ∷ s) → Sits s
 sits_left state.stream k s c h = absurd (solid_left state.stream k ⊥ c tt)
 sits_left state.first k s c h = absurd (solid_left state.first k ⊥ c tt)
 sits_left state.documents k s c h = absurd (solid_left state.documents k ⊥ c tt)
@@ -69,14 +70,19 @@ sits_left _ k s c h = h
 
 -- ---- a state that leaves
 
-added_fits : (anchor : Option (List ℕ)) (s : List State) (past : List Token) (l m : Loading) → Plain s → Owes anchor past l → Added anchor l m → Fits s past m
+added_fits : (anchor : Option (List ℕ)) (s : List State) (past : List Token) (l m : Loading)
+    → Plain s → Owes anchor past l → Added anchor l m → Fits s past m
 added_fits anchor s past l m pl o a = fits_below s past m pl (added_names anchor past l m o a) a.rooted
 
-blank_passes : (at : yaml_mark_t) (s : List State) (past : List Token) (ds : Directives) (l : Loading) → Plain s → Names past l → Passes (settle (blank at) ds) (blank at) l (λ m. Fits s past m)
+blank_passes : (at : yaml_mark_t) (s : List State) (past : List Token) (ds : Directives)
+    (l : Loading) → Plain s → Names past l
+    → Passes (settle (blank at) ds) (blank at) l (λ m. Fits s past m)
 blank_passes at s past ds l pl n =
     passes_on (settle (blank at) ds) (blank at) l (λ m. Added None l m) (λ m. Fits s past m) (λ m a. added_fits None s past l m pl n a) (node_passes None None item.empty at at ds l)
 
-left_passes : (x : State) (k : yaml_token_type_t) (start : yaml_mark_t) (s : List State) (past : List Token) (ds : Directives) (l : Loading) → choice_at x k ≡ Leave → Plain s → Sits (x ∷ s) → Fits (x ∷ s) past l
+left_passes : (x : State) (k : yaml_token_type_t) (start : yaml_mark_t) (s : List State)
+    (past : List Token) (ds : Directives) (l : Loading) → choice_at x k ≡ Leave → Plain s
+    → Sits (x ∷ s) → Fits (x ∷ s) past l
     → Passes (settle (left_at x start) ds) (left_at x start) l (λ m. Fits s past m)
 left_passes state.stream k start s past ds l c pl i h = absurd (solid_left state.stream k ⊥ c tt)
 left_passes state.first k start s past ds l c pl i h = absurd (solid_left state.first k ⊥ c tt)
@@ -92,19 +98,24 @@ left_passes _ k start s past ds l c pl i h = blank_passes start s past ds l pl h
 
 -- ---- a stack at a token
 
-opened_loads : (x : State) (t : Token) (s : List State) (past : List Token) (ds : Directives) (l : Loading) → choice_at x (type_of t.body) ≡ Open → Plain s → NoneNamed past
+opened_loads : (x : State) (t : Token) (s : List State) (past : List Token) (ds : Directives)
+    (l : Loading) → choice_at x (type_of t.body) ≡ Open → Plain s → NoneNamed past
     → FedLoads past t ds l
-    (with_item (item_at (item.document true) t.start_mark t.start_mark) (given_by (taken_at (state.optional Root t.start_mark) t) (state.document_end ∷ state.documents ∷ s)))
+    (with_item (item_at (item.document true) t.start_mark t.start_mark)
+    (given_by (taken_at (state.optional Root t.start_mark) t)
+    (state.document_end ∷ state.documents ∷ s)))
 opened_loads x t s past ds l c pl n =
     loads_with past t ds l (item_at (item.document true) t.start_mark t.start_mark) (given_by (taken_at (state.optional Root t.start_mark) t) (state.document_end ∷ state.documents ∷ s)) (λ m. Started past m)
     (start_passes true t.start_mark t.start_mark past ds l n)
     (λ m q d. node_loads (Block None) t.start_mark t.end_mark t.body (state.document_end ∷ state.documents ∷ s) past d m (opens_node x (type_of t.body) c) (refl, (refl, pl)) q.0 q.1)
 
-takes_or : (a : Bool) (p : ParseProblem) (o : Option yaml_mark_t) → (if a then Take else Refuse p o) ≡ Open → ⊥
+takes_or : (a : Bool) (p : ParseProblem) (o : Option yaml_mark_t)
+    → (if a then Take else Refuse p o) ≡ Open → ⊥
 takes_or true p o h = cc
 takes_or false p o h = cc
 
-leaves_or : (a b : Bool) (p : ParseProblem) → (if a then Leave else if b then Take else Refuse p None) ≡ Open → ⊥
+leaves_or : (a b : Bool) (p : ParseProblem)
+    → (if a then Leave else if b then Take else Refuse p None) ≡ Open → ⊥
 leaves_or true b p h = cc
 leaves_or false true p h = cc
 leaves_or false false p h = cc
@@ -113,7 +124,8 @@ takes_else : (a : Bool) → (if a then Take else Leave) ≡ Open → ⊥
 takes_else true h = cc
 takes_else false h = cc
 
-only_first : (x : State) (k : yaml_token_type_t) (s : List State) (past : List Token) (l : Loading) → choice_at x k ≡ Open → Fits (x ∷ s) past l → NoneNamed past
+only_first : (x : State) (k : yaml_token_type_t) (s : List State) (past : List Token) (l : Loading)
+    → choice_at x k ≡ Open → Fits (x ∷ s) past l → NoneNamed past
 only_first state.first k s past l c h = h
 only_first state.stream k s past l c h = h
 only_first state.documents kind.YAML_DOCUMENT_END_TOKEN s past l c h = absurd (cc)
@@ -141,15 +153,19 @@ only_first (state.more b o) k s past l c h = absurd (takes_or (closes b k) (no_e
 only_first state.pair_end k s past l c h = absurd (cc)
 only_first state.lone k s past l c h = absurd (cc)
 
-turn_loads : (c : Choice) (x : State) (t : Token) (s : List State) (fed : Fed) (past : List Token) (ds : Directives) (l : Loading) → choice_at x (type_of t.body) ≡ c → Plain s → Sits (x ∷ s) → Fits (x ∷ s) past l
-    → (choice_at x (type_of t.body) ≡ Leave → (m : Loading) → Fits s past m → (d : Directives) → FedLoads past t d m fed) → FedLoads past t ds l (turn c x t s fed)
+turn_loads : (c : Choice) (x : State) (t : Token) (s : List State) (fed : Fed) (past : List Token)
+    (ds : Directives) (l : Loading) → choice_at x (type_of t.body) ≡ c → Plain s → Sits (x ∷ s)
+    → Fits (x ∷ s) past l
+    → (choice_at x (type_of t.body) ≡ Leave → (m : Loading) → Fits s past m → (d : Directives)
+    → FedLoads past t d m fed) → FedLoads past t ds l (turn c x t s fed)
 turn_loads (Refuse p o) x t s fed past ds l c pl i h k = (l, refl)
 turn_loads Take x t s fed past ds l c pl i h k = taken_loads x t s past ds l (Sits s) c pl i h
 turn_loads Leave x t s fed past ds l c pl i h k =
     loads_with past t ds l (left_at x t.start_mark) fed (λ m. Fits s past m) (left_passes x (type_of t.body) t.start_mark s past ds l c pl i h) (k c)
 turn_loads Open x t s fed past ds l c pl i h k = opened_loads x t s past ds l c pl (only_first x (type_of t.body) s past l c h)
 
-pub fed_loads : (s : List State) (t : Token) (past : List Token) (ds : Directives) (l : Loading) → Sits s → PlainBelow s → Fits s past l → FedLoads past t ds l (feed s t)
+pub fed_loads : (s : List State) (t : Token) (past : List Token) (ds : Directives) (l : Loading)
+    → Sits s → PlainBelow s → Fits s past l → FedLoads past t ds l (feed s t)
 unfolding feed
 fed_loads [] t past ds l i pl h = absurd i
 fed_loads (x ∷ s) t past ds l i pl h =

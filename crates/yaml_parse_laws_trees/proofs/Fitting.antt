@@ -70,7 +70,8 @@ abbrev pub Fits : List State → List Token → Loading → Type 0
 Fits [] past l = Unit {0}
 Fits (x ∷ s) past l = FitsAt x past l
 
-fits_top : (x : State) (s : List State) (past : List Token) (l : Loading) → told x ≡ other → Names past l → Rooted l.document.nodes → Fits (x ∷ s) past l
+fits_top : (x : State) (s : List State) (past : List Token) (l : Loading) → told x ≡ other
+    → Names past l → Rooted l.document.nodes → Fits (x ∷ s) past l
 fits_top state.stream s past l e n r = cc
 fits_top state.first s past l e n r = cc
 fits_top (state.optional place before) s past l e n r = cc
@@ -81,7 +82,8 @@ fits_top state.documents s past l e n r = tt
 fits_top state.document_end s past l e n r = r
 fits_top _ s past l e n r = (n, r)
 
-pub fits_below : (s : List State) (past : List Token) (l : Loading) → Plain s → Names past l → Rooted l.document.nodes → Fits s past l
+pub fits_below : (s : List State) (past : List Token) (l : Loading) → Plain s → Names past l
+    → Rooted l.document.nodes → Fits s past l
 fits_below [] past l p n r = tt
 fits_below (x ∷ s) past l p n r = fits_top x s past l p.0 n r
 
@@ -99,12 +101,15 @@ found_either : (b : Bool) (n : ℤ) (o : Option ℤ) → is_some (cond b (Some n
 found_either true n o = refl
 found_either false n o = refl
 
-named_known : (anchor : Option (List ℕ)) (n : ℤ) (ks : Anchors) (name : List ℕ) → is_some (map.get (named anchor n ks) name) ≡ (is_named name anchor || is_some (map.get ks name))
+named_known : (anchor : Option (List ℕ)) (n : ℤ) (ks : Anchors) (name : List ℕ)
+    → is_some (map.get (named anchor n ks) name)
+    ≡ (is_named name anchor || is_some (map.get ks name))
 named_known None n ks name = refl
 named_known (Some met) n ks name =
     ap (λ (o : Option ℤ). is_some o) (map.get-insert nat_list_cmp_total ks met n name) ∙ found_either (is_same name met) n (map.get ks name)
 
-pub added_names : (anchor : Option (List ℕ)) (past : List Token) (l m : Loading) → Owes anchor past l → Added anchor l m → Names past m
+pub added_names : (anchor : Option (List ℕ)) (past : List Token) (l m : Loading)
+    → Owes anchor past l → Added anchor l m → Names past m
 added_names anchor past l m o a name = ap (λ (ks : Anchors). is_some (map.get ks name)) a.anchors ∙ named_known anchor (next l) l.anchors name ∙ o name
 
 -- ---- what an item passes
@@ -115,7 +120,8 @@ Passes (resolve.refused f) i l Q = Unit {0}
 Passes (gave body ds) i l Q = (m : Loading) × ((k : Loading → Fared) → then_fed (step (placed body i) l) k ≡ k m) × Q m
 Passes (noted ds) i l Q = Q l
 
-pub passes_on : (c : Settled) (i : RawEvent) (l : Loading) (P Q : Loading → Type 0) → ((m : Loading) → P m → Q m) → Passes c i l P → Passes c i l Q
+pub passes_on : (c : Settled) (i : RawEvent) (l : Loading) (P Q : Loading → Type 0)
+    → ((m : Loading) → P m → Q m) → Passes c i l P → Passes c i l Q
 passes_on (resolve.refused f) i l P Q h p = tt
 passes_on (gave body ds) i l P Q h p = (p.0, p.1, h p.0 p.2)
 passes_on (noted ds) i l P Q h p = h l p
@@ -123,28 +129,36 @@ passes_on (noted ds) i l P Q h p = h l p
 abbrev NodeGoes : EventBody → RawEvent → Option (List ℕ) → Loading → Type 0
 NodeGoes body i anchor l = (m : Loading) × ((k : Loading → Fared) → then_fed (step (placed body i) l) k ≡ k m) × Added anchor l m
 
-scalar_goes : (anchor tag : Option (List ℕ)) (value : List ℕ) (plain quoted : Bool) (style : yaml_scalar_style_t) (i : RawEvent) (l : Loading) → NodeGoes (event.scalar anchor tag value plain quoted style) i anchor l
+scalar_goes : (anchor tag : Option (List ℕ)) (value : List ℕ) (plain quoted : Bool)
+    (style : yaml_scalar_style_t) (i : RawEvent) (l : Loading)
+    → NodeGoes (event.scalar anchor tag value plain quoted style) i anchor l
 scalar_goes anchor tag value plain quoted style i l = (_, λ k. refl, record { anchors = refl; rooted = rooted_push l.document.nodes _ })
 
-tagged_goes : (b : Bool) (anchor : Option (List ℕ)) (tag value : List ℕ) (style : yaml_scalar_style_t) (i : RawEvent) (l : Loading)
-    → NodeGoes (if b then event.scalar anchor None value true false style else event.scalar anchor (Some tag) value false false style) i anchor l
+tagged_goes : (b : Bool) (anchor : Option (List ℕ)) (tag value : List ℕ)
+    (style : yaml_scalar_style_t) (i : RawEvent) (l : Loading)
+    → NodeGoes (if b then event.scalar anchor None value true false style else event.scalar anchor
+    (Some tag) value false false style) i anchor l
 tagged_goes true anchor tag value style i l = scalar_goes anchor None value true false style i l
 tagged_goes false anchor tag value style i l = scalar_goes anchor (Some tag) value false false style i l
 
-shape_goes : (anchor tag : Option (List ℕ)) (shape : Shape) (i : RawEvent) (l : Loading) → NodeGoes (node_event anchor tag shape) i anchor l
+shape_goes : (anchor tag : Option (List ℕ)) (shape : Shape) (i : RawEvent) (l : Loading)
+    → NodeGoes (node_event anchor tag shape) i anchor l
 shape_goes anchor tag item.empty i l = scalar_goes anchor tag [] true true _ i l
 shape_goes anchor None (item.scalar value style) i l = scalar_goes anchor None value true true style i l
 shape_goes anchor (Some tag) (item.scalar value style) i l = tagged_goes (bytes_eq tag (codes "!")) anchor tag value style i l
 shape_goes anchor tag (item.sequence style) i l = (_, λ k. refl, record { anchors = refl; rooted = rooted_push l.document.nodes _ })
 shape_goes anchor tag (item.mapping style) i l = (_, λ k. refl, record { anchors = refl; rooted = rooted_push l.document.nodes _ })
 
-resolved_passes : (o : Option (List ℕ)) (anchor : Option (List ℕ)) (shape : Shape) (from at : yaml_mark_t) (ds : Directives) (i : RawEvent) (l : Loading)
+resolved_passes : (o : Option (List ℕ)) (anchor : Option (List ℕ)) (shape : Shape)
+    (from at : yaml_mark_t) (ds : Directives) (i : RawEvent) (l : Loading)
     → Passes (with_resolved o anchor shape from at ds) i l (λ m. Added anchor l m)
 resolved_passes None anchor shape from at ds i l = tt
 resolved_passes (Some tag) anchor shape from at ds i l = shape_goes anchor (Some tag) shape i l
 
-pub node_passes : (anchor : Option (List ℕ)) (tag : Option Tag) (shape : Shape) (from to : yaml_mark_t) (ds : Directives) (l : Loading)
-    → Passes (settle (item_at (item.node anchor tag shape) from to) ds) (item_at (item.node anchor tag shape) from to) l (λ m. Added anchor l m)
+pub node_passes : (anchor : Option (List ℕ)) (tag : Option Tag) (shape : Shape)
+    (from to : yaml_mark_t) (ds : Directives) (l : Loading)
+    → Passes (settle (item_at (item.node anchor tag shape) from to) ds)
+    (item_at (item.node anchor tag shape) from to) l (λ m. Added anchor l m)
 node_passes anchor None shape from to ds l = shape_goes anchor None shape (item_at (item.node anchor None shape) from to) l
 node_passes anchor (Some t) shape from to ds l = resolved_passes (resolved ds.tags t.handle t.suffix) anchor shape from t.mark ds (item_at (item.node anchor (Some t) shape) from to) l
 
@@ -152,26 +166,32 @@ abbrev pub anchor_in : Option Properties → Option (List ℕ)
 anchor_in None = None
 anchor_in (Some p) = p.anchor
 
-pub placed_passes : (p : Option Properties) (shape : Shape) (start end : yaml_mark_t) (ds : Directives) (l : Loading)
-    → Passes (settle (node_at p shape start end) ds) (node_at p shape start end) l (λ m. Added (anchor_in p) l m)
+pub placed_passes : (p : Option Properties) (shape : Shape) (start end : yaml_mark_t)
+    (ds : Directives) (l : Loading)
+    → Passes (settle (node_at p shape start end) ds) (node_at p shape start end) l
+    (λ m. Added (anchor_in p) l m)
 placed_passes None shape start end ds l = node_passes None None shape start end ds l
 placed_passes (Some p) shape start end ds l = node_passes p.anchor p.tag shape p.from end ds l
 
 -- the end of a collection
-rooted_change : (f : Node → Node) (k : ℕ) (ns : List Node) → Rooted ns → Rooted (change_place f k ns)
+rooted_change : (f : Node → Node) (k : ℕ) (ns : List Node) → Rooted ns
+    → Rooted (change_place f k ns)
 rooted_change f k [] h = h
 rooted_change f zero (n ∷ ns) h = tt
 rooted_change f (suc k) (n ∷ ns) h = tt
 
-closed_rooted : (to : yaml_mark_t) (l : Loading) (os : List Open) → Rooted l.document.nodes → Rooted (closed to l os).document.nodes
+closed_rooted : (to : yaml_mark_t) (l : Loading) (os : List Open) → Rooted l.document.nodes
+    → Rooted (closed to l os).document.nodes
 closed_rooted to l [] h = h
 closed_rooted to l (o ∷ os) h = rooted_change (filled o to) (place_of o) l.document.nodes h
 
-closed_names : (to : yaml_mark_t) (l : Loading) (os : List Open) (past : List Token) → Names past l → Names past (closed to l os)
+closed_names : (to : yaml_mark_t) (l : Loading) (os : List Open) (past : List Token) → Names past l
+    → Names past (closed to l os)
 closed_names to l [] past h = h
 closed_names to l (o ∷ os) past h = h
 
-pub closed_fits : (to : yaml_mark_t) (l : Loading) (s : List State) (past : List Token) → Plain s → Names past l → Rooted l.document.nodes → Fits s past (closed to l l.levels)
+pub closed_fits : (to : yaml_mark_t) (l : Loading) (s : List State) (past : List Token) → Plain s
+    → Names past l → Rooted l.document.nodes → Fits s past (closed to l l.levels)
 closed_fits to l s past p n r = fits_below s past (closed to l l.levels) p (closed_names to l l.levels past n) (closed_rooted to l l.levels r)
 
 -- the end of a document
@@ -198,32 +218,44 @@ abbrev pub FedLoads : List Token → Token → Directives → Loading → Fed �
 FedLoads past t ds l (stop is e) = Alike (read_all is ds) (load_items is ds l)
 FedLoads past t ds l (go is s) = Steps past t (read_all is ds) (load_items is ds l) s
 
-front_stop : (c : Settled) (i : RawEvent) (is : List RawEvent) (l : Loading) (Q : Loading → Type 0) → Passes c i l Q → ((m : Loading) → Q m → (d : Directives) → Alike (read_all is d) (load_items is d m))
+front_stop : (c : Settled) (i : RawEvent) (is : List RawEvent) (l : Loading) (Q : Loading → Type 0)
+    → Passes c i l Q
+    → ((m : Loading) → Q m → (d : Directives) → Alike (read_all is d) (load_items is d m))
     → Alike (then_read c (λ d. read_all is d)) (then_load c i l (λ d m. load_items is d m))
 front_stop (resolve.refused f) i is l Q h k = refl
 front_stop (gave b ds) i is l Q h k = subst (λ (r : Fared). Alike (read_all is ds) r) (sym (h.1 (λ m. load_items is ds m))) (k h.0 h.2 ds)
 front_stop (noted ds) i is l Q h k = k l h ds
 
-front_go : (past : List Token) (t : Token) (s : List State) (c : Settled) (i : RawEvent) (is : List RawEvent) (l : Loading) (Q : Loading → Type 0) → Passes c i l Q
-    → ((m : Loading) → Q m → (d : Directives) → Steps past t (read_all is d) (load_items is d m) s) → Steps past t (then_read c (λ d. read_all is d)) (then_load c i l (λ d m. load_items is d m)) s
+front_go : (past : List Token) (t : Token) (s : List State) (c : Settled) (i : RawEvent)
+    (is : List RawEvent) (l : Loading) (Q : Loading → Type 0) → Passes c i l Q
+    → ((m : Loading) → Q m → (d : Directives) → Steps past t (read_all is d) (load_items is d m) s)
+    → Steps past t (then_read c (λ d. read_all is d)) (then_load c i l (λ d m. load_items is d m)) s
 front_go past t s (resolve.refused f) i is l Q h k = refl
 front_go past t s (gave b ds) i is l Q h k = subst (λ (r : Fared). Steps past t (read_all is ds) r s) (sym (h.1 (λ m. load_items is ds m))) (k h.0 h.2 ds)
 front_go past t s (noted ds) i is l Q h k = k l h ds
 
-pub loads_with : (past : List Token) (t : Token) (ds : Directives) (l : Loading) (i : RawEvent) (fed : Fed) (Q : Loading → Type 0) → Passes (settle i ds) i l Q
-    → ((m : Loading) → Q m → (d : Directives) → FedLoads past t d m fed) → FedLoads past t ds l (with_item i fed)
+pub loads_with : (past : List Token) (t : Token) (ds : Directives) (l : Loading) (i : RawEvent)
+    (fed : Fed) (Q : Loading → Type 0) → Passes (settle i ds) i l Q
+    → ((m : Loading) → Q m → (d : Directives) → FedLoads past t d m fed)
+    → FedLoads past t ds l (with_item i fed)
 loads_with past t ds l i (stop is e) Q h k = front_stop (settle i ds) i is l Q h k
 loads_with past t ds l i (go is s) Q h k = front_go past t s (settle i ds) i is l Q h k
 
-at_none : (o : Option Fault) (ds : Directives) (s : List State) (past : List Token) (l : Loading) → o ≡ None → Fits s past l → AtAlias o ds (onward ds l) s past
+at_none : (o : Option Fault) (ds : Directives) (s : List State) (past : List Token) (l : Loading)
+    → o ≡ None → Fits s past l → AtAlias o ds (onward ds l) s past
 at_none None ds s past l e h = (l, refl, h)
 at_none (Some f) ds s past l e h = cc
 
 -- a token that is no alias, or one with its anchor
-pub loads_on : (past : List Token) (t : Token) (ds : Directives) (l : Loading) (above s : List State) → alias_fault past t.body t.start_mark ≡ None → Fits (above ++ s) (t ∷ past) l
+pub loads_on : (past : List Token) (t : Token) (ds : Directives) (l : Loading)
+    (above s : List State) → alias_fault past t.body t.start_mark ≡ None
+    → Fits (above ++ s) (t ∷ past) l
     → FedLoads past t ds l (given_by (record { item = None; above = above }) s)
 loads_on past t ds l above s e h = at_none (alias_fault past t.body t.start_mark) ds (above ++ s) (t ∷ past) l e h
 
-pub loads_given : (past : List Token) (t : Token) (ds : Directives) (l : Loading) (i : RawEvent) (above s : List State) (Q : Loading → Type 0) → alias_fault past t.body t.start_mark ≡ None → Passes (settle i ds) i l Q
-    → ((m : Loading) → Q m → Fits (above ++ s) (t ∷ past) m) → FedLoads past t ds l (given_by (record { item = Some i; above = above }) s)
+pub loads_given : (past : List Token) (t : Token) (ds : Directives) (l : Loading) (i : RawEvent)
+    (above s : List State) (Q : Loading → Type 0) → alias_fault past t.body t.start_mark ≡ None
+    → Passes (settle i ds) i l Q
+    → ((m : Loading) → Q m → Fits (above ++ s) (t ∷ past) m)
+    → FedLoads past t ds l (given_by (record { item = Some i; above = above }) s)
 loads_given past t ds l i above s Q e h k = loads_with past t ds l i (go [] (above ++ s)) Q h (λ m q d. at_none (alias_fault past t.body t.start_mark) d (above ++ s) (t ∷ past) m e (k m q))

@@ -34,7 +34,9 @@ pub record KeptInside (b : TokenBody) (at : yaml_mark_t) (gs : List Sign) (s : L
   pub still : is_directive b ≡ false
   pub within : starts_document b ≡ false
 
-keep : {b : TokenBody} {at : yaml_mark_t} {gs : List Sign} {s : List State} → open_in s ≡ signs_behind b at gs → Topped (last_of b) s → Nested s → IsInside s → is_directive b ≡ false → starts_document b ≡ false → KeptInside b at gs s
+keep : {b : TokenBody} {at : yaml_mark_t} {gs : List Sign} {s : List State}
+    → open_in s ≡ signs_behind b at gs → Topped (last_of b) s → Nested s → IsInside s
+    → is_directive b ≡ false → starts_document b ≡ false → KeptInside b at gs s
 keep o t n i d w = record { kept = record { opened = o; topped = t; nested = n }; inside = i; still = d; within = w }
 
 -- a stack that a node stands above
@@ -44,7 +46,8 @@ pub record Ground (w : Wants) (s : List State) : Type 0 where
   pub inside : IsInside s
   pub flow : bracketed (open_in s) ≡ is_flow w
 
-content_kept : (w : Wants) (p : Option Properties) (start end : yaml_mark_t) (b : TokenBody) (s : List State) → starts_content w (type_of b) ≡ true → Ground w s
+content_kept : (w : Wants) (p : Option Properties) (start end : yaml_mark_t) (b : TokenBody)
+    (s : List State) → starts_content w (type_of b) ≡ true → Ground w s
     → KeptInside b start (open_in s) ((content_taken w p start end b).above ++ s)
 content_kept w p start end (token.scalar value style) s c g = keep refl (plain_topped s g.plain) g.nested g.inside refl refl
 content_kept w p start end token.flow_sequence_start s c g = keep refl (refl, g.plain) (tt, g.nested) (tt, g.inside) refl refl
@@ -58,14 +61,16 @@ content_kept Flow p start end token.block_entry s c g = cc
 content_kept (Block None) p start end token.block_entry s c g = cc
 content_kept w p start end _ s c g = cc
 
-pub node_kept : (w : Wants) (start end : yaml_mark_t) (b : TokenBody) (s : List State) → starts_node w (type_of b) ≡ true → Ground w s
+pub node_kept : (w : Wants) (start end : yaml_mark_t) (b : TokenBody) (s : List State)
+    → starts_node w (type_of b) ≡ true → Ground w s
     → KeptInside b start (open_in s) ((node_taken w start end b).above ++ s)
 node_kept w start end (token.alias name) s c g = keep refl (plain_topped s g.plain) g.nested g.inside refl refl
 node_kept w start end (token.anchor name) s c g = keep refl (refl, g.plain) (g.flow, g.nested) (tt, g.inside) refl refl
 node_kept w start end (token.tag handle suffix) s c g = keep refl (refl, g.plain) (g.flow, g.nested) (tt, g.inside) refl refl
 node_kept w start end b s c g = content_kept w None start end b s c g
 
-with_properties_kept : (w : Wants) (p : Properties) (start end : yaml_mark_t) (b : TokenBody) (s : List State) → (joins p (type_of b) || starts_content w (type_of b)) ≡ true → Ground w s
+with_properties_kept : (w : Wants) (p : Properties) (start end : yaml_mark_t) (b : TokenBody)
+    (s : List State) → (joins p (type_of b) || starts_content w (type_of b)) ≡ true → Ground w s
     → KeptInside b start (open_in s) ((with_properties_taken w p start end b).above ++ s)
 with_properties_kept w p start end (token.anchor name) s c g = keep refl (refl, g.plain) (g.flow, g.nested) (tt, g.inside) refl refl
 with_properties_kept w p start end (token.tag handle suffix) s c g = keep refl (refl, g.plain) (g.flow, g.nested) (tt, g.inside) refl refl
@@ -73,23 +78,29 @@ with_properties_kept w p start end b s c g = content_kept w (Some p) start end b
 
 -- ---- inside brackets
 
-lone_ground : (bs : Brackets) (o : yaml_mark_t) (s : List State) → Plain s → Nested s → IsInside s → Ground Flow (lone_below bs (state.more bs o ∷ []) ++ s)
+lone_ground : (bs : Brackets) (o : yaml_mark_t) (s : List State) → Plain s → Nested s → IsInside s
+    → Ground Flow (lone_below bs (state.more bs o ∷ []) ++ s)
 lone_ground brackets.Sequence o s p n i = record { plain = (refl, p); nested = (tt, n); inside = (tt, i); flow = refl }
 lone_ground brackets.Mapping o s p n i = record { plain = (refl, (refl, p)); nested = (tt, (tt, n)); inside = (tt, (tt, i)); flow = refl }
 
-lone_open : (bs : Brackets) (o : yaml_mark_t) (s : List State) → open_in (lone_below bs (state.more bs o ∷ []) ++ s) ≡ open_in (state.items bs o ∷ s)
+lone_open : (bs : Brackets) (o : yaml_mark_t) (s : List State)
+    → open_in (lone_below bs (state.more bs o ∷ []) ++ s) ≡ open_in (state.items bs o ∷ s)
 lone_open brackets.Sequence o s = refl
 lone_open brackets.Mapping o s = refl
 
-lone_kept : (bs : Brackets) (o start end : yaml_mark_t) (b : TokenBody) (s : List State) → starts_node Flow (type_of b) ≡ true → Plain s → Nested s → IsInside s
-    → KeptInside b start (open_in (state.items bs o ∷ s)) (((node_taken Flow start end b).above ++ lone_below bs (state.more bs o ∷ [])) ++ s)
+lone_kept : (bs : Brackets) (o start end : yaml_mark_t) (b : TokenBody) (s : List State)
+    → starts_node Flow (type_of b) ≡ true → Plain s → Nested s → IsInside s
+    → KeptInside b start (open_in (state.items bs o ∷ s))
+    (((node_taken Flow start end b).above ++ lone_below bs (state.more bs o ∷ [])) ++ s)
 lone_kept bs o start end b s c p n i =
     subst (λ (z : List State). KeptInside b start (open_in (state.items bs o ∷ s)) z) (sym (append_assoc (node_taken Flow start end b).above (lone_below bs (state.more bs o ∷ [])) s))
     (subst (λ (gs : List Sign). KeptInside b start gs ((node_taken Flow start end b).above ++ (lone_below bs (state.more bs o ∷ []) ++ s))) (lone_open bs o s)
     (node_kept Flow start end b (lone_below bs (state.more bs o ∷ []) ++ s) c (lone_ground bs o s p n i)))
 
-items_kept : (bs : Brackets) (o start end : yaml_mark_t) (b : TokenBody) (s : List State) → choice_at (state.items bs o) (type_of b) ≡ Take → Plain s → Nested s → IsInside s
-    → KeptInside b start (open_in (state.items bs o ∷ s)) ((items_taken bs o start end b).above ++ s)
+items_kept : (bs : Brackets) (o start end : yaml_mark_t) (b : TokenBody) (s : List State)
+    → choice_at (state.items bs o) (type_of b) ≡ Take → Plain s → Nested s → IsInside s
+    → KeptInside b start (open_in (state.items bs o ∷ s))
+    ((items_taken bs o start end b).above ++ s)
 items_kept brackets.Sequence o start end token.key s c p n i = keep refl (refl, (refl, (refl, (refl, p)))) (refl, (refl, (tt, (tt, n)))) (tt, (tt, (tt, (tt, i)))) refl refl
 items_kept brackets.Mapping o start end token.key s c p n i = keep refl (refl, (refl, (refl, p))) (refl, (refl, (tt, n))) (tt, (tt, (tt, i))) refl refl
 items_kept brackets.Sequence o start end token.flow_sequence_end s c p n i = keep refl (plain_topped s p) n i refl refl
@@ -105,7 +116,8 @@ items_kept bs o start end token.flow_mapping_start s c p n i = lone_kept bs o st
 items_kept brackets.Sequence o start end _ s c p n i = cc
 items_kept brackets.Mapping o start end _ s c p n i = cc
 
-more_kept : (bs : Brackets) (o start end : yaml_mark_t) (b : TokenBody) (s : List State) → choice_at (state.more bs o) (type_of b) ≡ Take → Plain s → Nested s → IsInside s
+more_kept : (bs : Brackets) (o start end : yaml_mark_t) (b : TokenBody) (s : List State)
+    → choice_at (state.more bs o) (type_of b) ≡ Take → Plain s → Nested s → IsInside s
     → KeptInside b start (open_in (state.more bs o ∷ s)) ((more_taken bs o start end b).above ++ s)
 more_kept bs o start end token.flow_entry s c p n i = keep refl (refl, p) (tt, n) (tt, i) refl refl
 more_kept brackets.Sequence o start end token.flow_sequence_end s c p n i = keep refl (plain_topped s p) n i refl refl
@@ -115,31 +127,37 @@ more_kept brackets.Mapping o start end _ s c p n i = cc
 
 -- ---- block collections
 
-entries_kept : (o start end : yaml_mark_t) (b : TokenBody) (s : List State) → choice_at (state.entries o) (type_of b) ≡ Take → Plain s → Nested s → IsInside s
+entries_kept : (o start end : yaml_mark_t) (b : TokenBody) (s : List State)
+    → choice_at (state.entries o) (type_of b) ≡ Take → Plain s → Nested s → IsInside s
     → KeptInside b start (open_in (state.entries o ∷ s)) ((entries_taken o start end b).above ++ s)
 entries_kept o start end token.block_entry s c p n i = keep refl (refl, (refl, p)) (refl, (tt, n)) (tt, (tt, i)) refl refl
 entries_kept o start end token.block_end s c p n i = keep refl (plain_topped s p) n i refl refl
 entries_kept o start end _ s c p n i = cc
 
-pairs_kept : (o start end : yaml_mark_t) (b : TokenBody) (s : List State) → choice_at (state.pairs o) (type_of b) ≡ Take → Plain s → Nested s → IsInside s
+pairs_kept : (o start end : yaml_mark_t) (b : TokenBody) (s : List State)
+    → choice_at (state.pairs o) (type_of b) ≡ Take → Plain s → Nested s → IsInside s
     → KeptInside b start (open_in (state.pairs o ∷ s)) ((pairs_taken o start end b).above ++ s)
 pairs_kept o start end token.key s c p n i = keep refl (refl, (refl, (refl, p))) (refl, (refl, (tt, n))) (tt, (tt, (tt, i))) refl refl
 pairs_kept o start end token.block_end s c p n i = keep refl (plain_topped s p) n i refl refl
 pairs_kept o start end _ s c p n i = cc
 
-others_kept : (side : Side) (start end : yaml_mark_t) (b : TokenBody) (s : List State) → choice_at (state.others side) (type_of b) ≡ Take → Ground (Block None) s
-    → KeptInside b start (open_in s) (state.optional (IndentlessEntry side) end ∷ state.others side ∷ s)
+others_kept : (side : Side) (start end : yaml_mark_t) (b : TokenBody) (s : List State)
+    → choice_at (state.others side) (type_of b) ≡ Take → Ground (Block None) s
+    → KeptInside b start (open_in s) (state.optional (IndentlessEntry side) end ∷ state.others side
+    ∷ s)
 others_kept side start end token.block_entry s c g = keep refl (refl, (refl, g.plain)) (g.flow, (g.flow, g.nested)) (tt, (tt, g.inside)) refl refl
 others_kept side start end _ s c g = cc
 
-colon_kept : (place : Site) (start end : yaml_mark_t) (b : TokenBody) (s : List State) → choice_at (state.colon place) (type_of b) ≡ Take → Ground (wants_of place) s
+colon_kept : (place : Site) (start end : yaml_mark_t) (b : TokenBody) (s : List State)
+    → choice_at (state.colon place) (type_of b) ≡ Take → Ground (wants_of place) s
     → KeptInside b start (open_in s) (state.optional place end ∷ s)
 colon_kept place start end token.value s c g = keep refl (refl, g.plain) (g.flow, g.nested) (tt, g.inside) refl refl
 colon_kept place start end _ s c g = cc
 
 -- ---- each state
 
-taken_optional : (a b : Bool) (p : ParseProblem) → (if a then Leave else if b then Take else Refuse p None) ≡ Take → b ≡ true
+taken_optional : (a b : Bool) (p : ParseProblem)
+    → (if a then Leave else if b then Take else Refuse p None) ≡ Take → b ≡ true
 taken_optional true b p h = cc
 taken_optional false true p h = refl
 taken_optional false false p h = cc
@@ -148,10 +166,12 @@ taken_with_properties : (a : Bool) → (if a then Take else Leave) ≡ Take → 
 taken_with_properties true h = refl
 taken_with_properties false h = cc
 
-ground : (w : Wants) (s : List State) → Plain s → Nested s → IsInside s → bracketed (open_in s) ≡ is_flow w → Ground w s
+ground : (w : Wants) (s : List State) → Plain s → Nested s → IsInside s
+    → bracketed (open_in s) ≡ is_flow w → Ground w s
 ground w s p n i f = record { plain = p; nested = n; inside = i; flow = f }
 
-pub inside_kept : (x : State) (t : Token) (s : List State) → choice_at x (type_of t.body) ≡ Take → IsInner x → Plain s → Nested (x ∷ s) → IsInside s
+pub inside_kept : (x : State) (t : Token) (s : List State) → choice_at x (type_of t.body) ≡ Take
+    → IsInner x → Plain s → Nested (x ∷ s) → IsInside s
     → KeptInside t.body t.start_mark (open_in (x ∷ s)) ((taken_at x t).above ++ s)
 inside_kept state.stream t s c h p n i = absurd h
 inside_kept state.first t s c h p n i = absurd h

@@ -50,7 +50,8 @@ spell_end None rest = rest
 spell_end (Some s) rest = token_at token.document_end s ∷ rest
 
 -- behind some properties: what makes a node of them, whichever tokens they were
-abbrev pub WithPropertiesLeft : Wants → Option (List ℕ) → Option Tag → (List Token → Type 0) → List Token → Type 0
+abbrev pub WithPropertiesLeft : Wants → Option (List ℕ) → Option Tag → (List Token → Type 0)
+    → List Token → Type 0
 WithPropertiesLeft w (Some a) None P ts = (x : AnchorToken) → Spelled (Node w) spell_node P (anchor_token x ∷ ts)
 WithPropertiesLeft w None (Some t) P ts = (x : TagToken) → Spelled (Node w) spell_node P (tag_token x ∷ ts)
 WithPropertiesLeft w (Some a) (Some t) P ts = (d : PropertyTokens) → Spelled (Node w) spell_node P (spell_properties d ts)
@@ -78,7 +79,8 @@ abbrev pub Over : List State → (List Token → Type 0) → List Token → Type
 Over [] P = P
 Over (x ∷ s) P = Left x (Over s P)
 
-pub over_both : (xs ys : List State) (P : List Token → Type 0) → Over (xs ++ ys) P ≡ Over xs (Over ys P)
+pub over_both : (xs ys : List State) (P : List Token → Type 0)
+    → Over (xs ++ ys) P ≡ Over xs (Over ys P)
 over_both [] ys P = refl
 over_both (x ∷ xs) ys P = ap (Left x) (over_both xs ys P)
 
@@ -107,22 +109,26 @@ was_open x e = subst IsOpen (sym e) tt
 
 -- ---- a state that leaves waits for nothing
 
-pub not_left : (a : Bool) (p : ParseProblem) (o : Option yaml_mark_t) → (if a then Take else Refuse p o) ≡ Leave → ⊥
+pub not_left : (a : Bool) (p : ParseProblem) (o : Option yaml_mark_t)
+    → (if a then Take else Refuse p o) ≡ Leave → ⊥
 not_left true p o h = cc
 not_left false p o h = cc
 
-pub not_left_first : (a b : Bool) (p : ParseProblem) → (if a then Take else if b then Open else Refuse p None) ≡ Leave → ⊥
+pub not_left_first : (a b : Bool) (p : ParseProblem)
+    → (if a then Take else if b then Open else Refuse p None) ≡ Leave → ⊥
 not_left_first true b p h = cc
 not_left_first false true p h = cc
 not_left_first false false p h = cc
 
-pub properties_alone : (w : Wants) (anchor : Option (List ℕ)) (tag : Option Tag) (P : List Token → Type 0) (ts : List Token) → P ts → WithPropertiesLeft w anchor tag P ts
+pub properties_alone : (w : Wants) (anchor : Option (List ℕ)) (tag : Option Tag)
+    (P : List Token → Type 0) (ts : List Token) → P ts → WithPropertiesLeft w anchor tag P ts
 properties_alone w (Some a) None P ts h = λ x. record { tree = tree.only_properties (tree.anchor x); rest = ts; same = refl; goes = h }
 properties_alone w None (Some t) P ts h = λ x. record { tree = tree.only_properties (tree.tag x); rest = ts; same = refl; goes = h }
 properties_alone w (Some a) (Some t) P ts h = λ d. record { tree = tree.only_properties d; rest = ts; same = refl; goes = h }
 properties_alone w None None P ts h = tt
 
-pub leaving : (x : State) (k : yaml_token_type_t) → choice_at x k ≡ Leave → (P : List Token → Type 0) (ts : List Token) → P ts → Left x P ts
+pub leaving : (x : State) (k : yaml_token_type_t) → choice_at x k ≡ Leave
+    → (P : List Token → Type 0) (ts : List Token) → P ts → Left x P ts
 leaving state.stream kind.YAML_STREAM_START_TOKEN c P ts h = absurd (was_leave _ c)
 leaving state.stream _ c P ts h = absurd (was_leave _ c)
 leaving state.first k c P ts h = absurd (not_left_first (parts_documents k) (starts_node (Block None) k) problem.NoBlockNode c)
@@ -153,8 +159,10 @@ leaving state.lone k c P ts h = h
 abbrev span : yaml_mark_t → yaml_mark_t → Span
 span from to = record { from = from; to = to }
 
-content_left : (w : Wants) (p : Option Properties) (start end : yaml_mark_t) (b : TokenBody) → starts_content w (type_of b) ≡ true
-    → (P : List Token → Type 0) (ts : List Token) → Over (content_taken w p start end b).above P ts → Spelled (Content w) spell_content P (token_at b (span start end) ∷ ts)
+content_left : (w : Wants) (p : Option Properties) (start end : yaml_mark_t) (b : TokenBody)
+    → starts_content w (type_of b) ≡ true
+    → (P : List Token → Type 0) (ts : List Token) → Over (content_taken w p start end b).above P ts
+    → Spelled (Content w) spell_content P (token_at b (span start end) ∷ ts)
 content_left w p start end (token.scalar value style) c P ts h = record { tree = tree.scalar (span start end) value style; rest = ts; same = refl; goes = h }
 content_left w p start end token.flow_sequence_start c P ts h =
     record { tree = tree.flow brackets.Sequence (span start end) h.tree; rest = h.rest; same = ap (λ us. token_at token.flow_sequence_start (span start end) ∷ us) h.same; goes = h.goes }
@@ -176,11 +184,13 @@ content_left Flow p start end token.block_entry c P ts h = absurd (false≢true 
 content_left (Block None) p start end token.block_entry c P ts h = absurd (false≢true c)
 content_left w p start end _ c P ts h = absurd (false≢true c)
 
-bare_left : (w : Wants) (P : List Token → Type 0) (ts : List Token) → Spelled (Content w) spell_content P ts → Spelled (Node w) spell_node P ts
+bare_left : (w : Wants) (P : List Token → Type 0) (ts : List Token)
+    → Spelled (Content w) spell_content P ts → Spelled (Node w) spell_node P ts
 bare_left w P ts h = record { tree = tree.bare h.tree; rest = h.rest; same = h.same; goes = h.goes }
 
 node_left : (w : Wants) (start end : yaml_mark_t) (b : TokenBody) → starts_node w (type_of b) ≡ true
-    → (P : List Token → Type 0) (ts : List Token) → Over (node_taken w start end b).above P ts → Spelled (Node w) spell_node P (token_at b (span start end) ∷ ts)
+    → (P : List Token → Type 0) (ts : List Token) → Over (node_taken w start end b).above P ts
+    → Spelled (Node w) spell_node P (token_at b (span start end) ∷ ts)
 node_left w start end (token.alias name) c P ts h = record { tree = tree.alias (span start end) name; rest = ts; same = refl; goes = h }
 node_left w start end (token.anchor name) c P ts h = h (record { name = name; span = span start end })
 node_left w start end (token.tag handle suffix) c P ts h = h (record { handle = handle; suffix = suffix; span = span start end })
@@ -188,7 +198,9 @@ node_left w start end b c P ts h = bare_left w P _ (content_left w None start en
 
 -- ---- taking a token behind properties
 
-content_with_properties : (w : Wants) (anchor : Option (List ℕ)) (tag : Option Tag) (P : List Token → Type 0) (ts : List Token) → Spelled (Content w) spell_content P ts → WithPropertiesLeft w anchor tag P ts
+content_with_properties : (w : Wants) (anchor : Option (List ℕ)) (tag : Option Tag)
+    (P : List Token → Type 0) (ts : List Token) → Spelled (Content w) spell_content P ts
+    → WithPropertiesLeft w anchor tag P ts
 content_with_properties w (Some a) None P ts h =
     λ x. record { tree = tree.with_properties (tree.anchor x) h.tree; rest = h.rest; same = ap (λ us. anchor_token x ∷ us) h.same; goes = h.goes }
 content_with_properties w None (Some t) P ts h =
@@ -196,9 +208,13 @@ content_with_properties w None (Some t) P ts h =
 content_with_properties w (Some a) (Some t) P ts h = λ d. record { tree = tree.with_properties d h.tree; rest = h.rest; same = ap (spell_properties d) h.same; goes = h.goes }
 content_with_properties w None None P ts h = tt
 
-with_properties_left : (w : Wants) (anchor : Option (List ℕ)) (tag : Option Tag) (from to start end : yaml_mark_t) (b : TokenBody)
-    → (joins (record { anchor = anchor; tag = tag; from = from; to = to }) (type_of b) || starts_content w (type_of b)) ≡ true
-    → (P : List Token → Type 0) (ts : List Token) → Over (with_properties_taken w (record { anchor = anchor; tag = tag; from = from; to = to }) start end b).above P ts
+with_properties_left : (w : Wants) (anchor : Option (List ℕ)) (tag : Option Tag)
+    (from to start end : yaml_mark_t) (b : TokenBody)
+    → (joins (record { anchor = anchor; tag = tag; from = from; to = to }) (type_of b)
+    || starts_content w (type_of b)) ≡ true
+    → (P : List Token → Type 0) (ts : List Token)
+    → Over (with_properties_taken w (record { anchor = anchor; tag = tag; from = from; to = to })
+    start end b).above P ts
     → WithPropertiesLeft w anchor tag P (token_at b (span start end) ∷ ts)
 with_properties_left w None None from to start end (token.anchor name) c P ts h = tt
 with_properties_left w None (Some t) from to start end (token.anchor name) c P ts h = λ x. h (tree.tag_anchor x (record { name = name; span = span start end }))
@@ -217,12 +233,14 @@ abbrev all_ends : Option Span → List Span → List Span
 all_ends None ends = ends
 all_ends (Some s) ends = s ∷ ends
 
-spell_all_ends : (o : Option Span) (ends : List Span) (rest : List Token) → spell_end o (spell_ends ends rest) ≡ spell_ends (all_ends o ends) rest
+spell_all_ends : (o : Option Span) (ends : List Span) (rest : List Token)
+    → spell_end o (spell_ends ends rest) ≡ spell_ends (all_ends o ends) rest
 spell_all_ends None ends rest = refl
 spell_all_ends (Some s) ends rest = refl
 
 -- a document behind its `---`
-begun_left : (start end before : yaml_mark_t) (P : List Token → Type 0) (ts : List Token) → Left (state.optional Root before) (Over (state.document_end ∷ state.documents ∷ []) P) ts
+begun_left : (start end before : yaml_mark_t) (P : List Token → Type 0) (ts : List Token)
+    → Left (state.optional Root before) (Over (state.document_end ∷ state.documents ∷ []) P) ts
     → Spelled Opening spell_opening P (token_at token.document_start (span start end) ∷ ts)
 begun_left start end before P ts h = record {
   tree = record { directives = []; start = span start end; root = h.tree; ends = all_ends h.goes.tree h.goes.goes.tree; documents = h.goes.goes.goes.tree };
@@ -238,8 +256,11 @@ begun_left start end before P ts h = record {
 abbrev directed : Directive → Opening → Opening
 directed d o = record { directives = d ∷ o.directives; start = o.start; root = o.root; ends = o.ends; documents = o.documents }
 
-opening_left : (from start end : yaml_mark_t) (b : TokenBody) → choice_at (state.directives from) (type_of b) ≡ Take
-    → (P : List Token → Type 0) (ts : List Token) → Over (documents_taken from start end b).above P ts → Spelled Opening spell_opening P (token_at b (span start end) ∷ ts)
+opening_left : (from start end : yaml_mark_t) (b : TokenBody)
+    → choice_at (state.directives from) (type_of b) ≡ Take
+    → (P : List Token → Type 0) (ts : List Token)
+    → Over (documents_taken from start end b).above P ts
+    → Spelled Opening spell_opening P (token_at b (span start end) ∷ ts)
 opening_left from start end (token.version_directive major minor) c P ts h = record {
   tree = directed (tree.version (span start end) major minor) h.tree;
   rest = h.rest;
@@ -255,20 +276,26 @@ opening_left from start end (token.tag_directive name prefix) c P ts h = record 
 opening_left from start end token.document_start c P ts h = begun_left start end end P ts h
 opening_left from start end _ c P ts h = absurd (was_take _ c)
 
-opened_document : (P : List Token → Type 0) (ts : List Token) → Spelled Opening spell_opening P ts → Spelled Documents spell_documents P ts
+opened_document : (P : List Token → Type 0) (ts : List Token) → Spelled Opening spell_opening P ts
+    → Spelled Documents spell_documents P ts
 opened_document P ts h =
     record { tree = tree.document h.tree.directives h.tree.start h.tree.root h.tree.ends h.tree.documents; rest = h.rest; same = h.same; goes = h.goes }
 
 parting_left : (start end : yaml_mark_t) (b : TokenBody) → parts_documents (type_of b) ≡ true
-    → (P : List Token → Type 0) (ts : List Token) → Over (documents_taken start start end b).above P ts → Spelled Documents spell_documents P (token_at b (span start end) ∷ ts)
+    → (P : List Token → Type 0) (ts : List Token)
+    → Over (documents_taken start start end b).above P ts
+    → Spelled Documents spell_documents P (token_at b (span start end) ∷ ts)
 parting_left start end token.stream_end c P ts h = record { tree = tree.end_stream (span start end); rest = ts; same = refl; goes = h }
 parting_left start end (token.version_directive major minor) c P ts h = opened_document P _ (opening_left start start end (token.version_directive major minor) refl P ts h)
 parting_left start end (token.tag_directive name prefix) c P ts h = opened_document P _ (opening_left start start end (token.tag_directive name prefix) refl P ts h)
 parting_left start end token.document_start c P ts h = opened_document P _ (opening_left start start end token.document_start refl P ts h)
 parting_left start end _ c P ts h = absurd (false≢true c)
 
-documents_left : (start end : yaml_mark_t) (b : TokenBody) → choice_at state.documents (type_of b) ≡ Take
-    → (P : List Token → Type 0) (ts : List Token) → Over (documents_taken start start end b).above P ts → Left state.documents P (token_at b (span start end) ∷ ts)
+documents_left : (start end : yaml_mark_t) (b : TokenBody)
+    → choice_at state.documents (type_of b) ≡ Take
+    → (P : List Token → Type 0) (ts : List Token)
+    → Over (documents_taken start start end b).above P ts
+    → Left state.documents P (token_at b (span start end) ∷ ts)
 documents_left start end token.document_end c P ts h =
     record { tree = span start end ∷ h.tree; rest = h.rest; same = ap (λ us. token_at token.document_end (span start end) ∷ us) h.same; goes = h.goes }
 documents_left start end token.stream_end c P ts h = record { tree = []; rest = token_at token.stream_end (span start end) ∷ ts; same = refl; goes = parting_left start end token.stream_end refl P ts h }
@@ -279,13 +306,16 @@ documents_left start end (token.tag_directive name prefix) c P ts h =
 documents_left start end token.document_start c P ts h = record { tree = []; rest = token_at token.document_start (span start end) ∷ ts; same = refl; goes = parting_left start end token.document_start refl P ts h }
 documents_left start end _ c P ts h = absurd (was_take _ c)
 
-taken_first : (a b : Bool) (p : ParseProblem) → (if a then Take else if b then Open else Refuse p None) ≡ Take → a ≡ true
+taken_first : (a b : Bool) (p : ParseProblem)
+    → (if a then Take else if b then Open else Refuse p None) ≡ Take → a ≡ true
 taken_first true b p h = refl
 taken_first false true p h = cc
 taken_first false false p h = cc
 
 first_left : (start end : yaml_mark_t) (b : TokenBody) → choice_at state.first (type_of b) ≡ Take
-    → (P : List Token → Type 0) (ts : List Token) → Over (documents_taken start start end b).above P ts → Left state.first P (token_at b (span start end) ∷ ts)
+    → (P : List Token → Type 0) (ts : List Token)
+    → Over (documents_taken start start end b).above P ts
+    → Left state.first P (token_at b (span start end) ∷ ts)
 first_left start end b c P ts h = record {
   tree = tree.no_first;
   rest = token_at b (span start end) ∷ ts;
@@ -294,8 +324,10 @@ first_left start end b c P ts h = record {
 }
 
 -- a document that begins with its root
-opened_left : (t : Token) → starts_node (Block None) (type_of t.body) ≡ true → (P : List Token → Type 0) (ts : List Token)
-    → Over (taken_at (state.optional Root t.start_mark) t).above (Over (state.document_end ∷ state.documents ∷ []) P) ts → Left state.first P (t ∷ ts)
+opened_left : (t : Token) → starts_node (Block None) (type_of t.body) ≡ true
+    → (P : List Token → Type 0) (ts : List Token)
+    → Over (taken_at (state.optional Root t.start_mark) t).above
+    (Over (state.document_end ∷ state.documents ∷ []) P) ts → Left state.first P (t ∷ ts)
 opened_left t c P ts h =
     let n : Spelled (Node (Block None)) spell_node (Over (state.document_end ∷ state.documents ∷ []) P) (t ∷ ts) = node_left (Block None) t.start_mark t.end_mark t.body c _ ts h in
     record {
@@ -306,7 +338,8 @@ opened_left t c P ts h =
     }
 
 stream_left : (start end : yaml_mark_t) (b : TokenBody) → choice_at state.stream (type_of b) ≡ Take
-    → (P : List Token → Type 0) (ts : List Token) → Over (stream_taken start end b).above P ts → Spelled Stream spell P (token_at b (span start end) ∷ ts)
+    → (P : List Token → Type 0) (ts : List Token) → Over (stream_taken start end b).above P ts
+    → Spelled Stream spell P (token_at b (span start end) ∷ ts)
 stream_left start end (token.stream_start e) c P ts h = record {
   tree = record { encoding = e; start = span start end; first = h.tree; documents = h.goes.tree };
   rest = h.goes.rest;
@@ -317,20 +350,24 @@ stream_left start end _ c P ts h = absurd (was_take _ c)
 
 -- ---- taking a token inside a document
 
-taken_optional : (a b : Bool) (p : ParseProblem) → (if a then Leave else if b then Take else Refuse p None) ≡ Take → b ≡ true
+taken_optional : (a b : Bool) (p : ParseProblem)
+    → (if a then Leave else if b then Take else Refuse p None) ≡ Take → b ≡ true
 taken_optional true b p h = cc
 taken_optional false true p h = refl
 taken_optional false false p h = cc
 
-maybe_left : (w : Wants) (P : List Token → Type 0) (ts : List Token) → Spelled (Node w) spell_node P ts → Spelled (Maybe w) spell_maybe P ts
+maybe_left : (w : Wants) (P : List Token → Type 0) (ts : List Token)
+    → Spelled (Node w) spell_node P ts → Spelled (Maybe w) spell_maybe P ts
 maybe_left w P ts h = record { tree = tree.there h.tree; rest = h.rest; same = h.same; goes = h.goes }
 
 taken_with_properties : (a : Bool) → (if a then Take else Leave) ≡ Take → a ≡ true
 taken_with_properties true h = refl
 taken_with_properties false h = cc
 
-entries_left : (o start end : yaml_mark_t) (b : TokenBody) → choice_at (state.entries o) (type_of b) ≡ Take
-    → (P : List Token → Type 0) (ts : List Token) → Over (entries_taken o start end b).above P ts → Spelled Entries spell_entries P (token_at b (span start end) ∷ ts)
+entries_left : (o start end : yaml_mark_t) (b : TokenBody)
+    → choice_at (state.entries o) (type_of b) ≡ Take
+    → (P : List Token → Type 0) (ts : List Token) → Over (entries_taken o start end b).above P ts
+    → Spelled Entries spell_entries P (token_at b (span start end) ∷ ts)
 entries_left o start end token.block_entry c P ts h = record {
   tree = tree.entry (span start end) h.tree h.goes.tree;
   rest = h.goes.rest;
@@ -340,8 +377,10 @@ entries_left o start end token.block_entry c P ts h = record {
 entries_left o start end token.block_end c P ts h = record { tree = tree.end_entries (span start end); rest = ts; same = refl; goes = h }
 entries_left o start end _ c P ts h = absurd (was_take _ c)
 
-pairs_left : (o start end : yaml_mark_t) (b : TokenBody) → choice_at (state.pairs o) (type_of b) ≡ Take
-    → (P : List Token → Type 0) (ts : List Token) → Over (pairs_taken o start end b).above P ts → Spelled Pairs spell_pairs P (token_at b (span start end) ∷ ts)
+pairs_left : (o start end : yaml_mark_t) (b : TokenBody)
+    → choice_at (state.pairs o) (type_of b) ≡ Take
+    → (P : List Token → Type 0) (ts : List Token) → Over (pairs_taken o start end b).above P ts
+    → Spelled Pairs spell_pairs P (token_at b (span start end) ∷ ts)
 pairs_left o start end token.key c P ts h = record {
   tree = tree.block_pair (span start end) h.tree h.goes.tree h.goes.goes.tree;
   rest = h.goes.goes.rest;
@@ -351,8 +390,11 @@ pairs_left o start end token.key c P ts h = record {
 pairs_left o start end token.block_end c P ts h = record { tree = tree.end_pairs (span start end); rest = ts; same = refl; goes = h }
 pairs_left o start end _ c P ts h = absurd (was_take _ c)
 
-others_left : (side : Side) (start end : yaml_mark_t) (b : TokenBody) → choice_at (state.others side) (type_of b) ≡ Take
-    → (P : List Token → Type 0) (ts : List Token) → Over (state.optional (IndentlessEntry side) end ∷ state.others side ∷ []) P ts → Spelled Others spell_others P (token_at b (span start end) ∷ ts)
+others_left : (side : Side) (start end : yaml_mark_t) (b : TokenBody)
+    → choice_at (state.others side) (type_of b) ≡ Take
+    → (P : List Token → Type 0) (ts : List Token)
+    → Over (state.optional (IndentlessEntry side) end ∷ state.others side ∷ []) P ts
+    → Spelled Others spell_others P (token_at b (span start end) ∷ ts)
 others_left side start end token.block_entry c P ts h = record {
   tree = tree.other (span start end) h.tree h.goes.tree;
   rest = h.goes.rest;
@@ -361,19 +403,25 @@ others_left side start end token.block_entry c P ts h = record {
 }
 others_left side start end _ c P ts h = absurd (was_take _ c)
 
-colon_left : (place : Site) (start end : yaml_mark_t) (b : TokenBody) → choice_at (state.colon place) (type_of b) ≡ Take
-    → (P : List Token → Type 0) (ts : List Token) → Over (state.optional place end ∷ []) P ts → Spelled (Colon (wants_of place)) spell_colon P (token_at b (span start end) ∷ ts)
+colon_left : (place : Site) (start end : yaml_mark_t) (b : TokenBody)
+    → choice_at (state.colon place) (type_of b) ≡ Take
+    → (P : List Token → Type 0) (ts : List Token) → Over (state.optional place end ∷ []) P ts
+    → Spelled (Colon (wants_of place)) spell_colon P (token_at b (span start end) ∷ ts)
 colon_left place start end token.value c P ts h =
     record { tree = tree.colon (span start end) h.tree; rest = h.rest; same = ap (λ us. token_at token.value (span start end) ∷ us) h.same; goes = h.goes }
 colon_left place start end _ c P ts h = absurd (was_take _ c)
 
-end_left : (start end : yaml_mark_t) (b : TokenBody) → choice_at state.document_end (type_of b) ≡ Take
-    → (P : List Token → Type 0) (ts : List Token) → P ts → Spelled (Option Span) spell_end P (token_at b (span start end) ∷ ts)
+end_left : (start end : yaml_mark_t) (b : TokenBody)
+    → choice_at state.document_end (type_of b) ≡ Take
+    → (P : List Token → Type 0) (ts : List Token) → P ts
+    → Spelled (Option Span) spell_end P (token_at b (span start end) ∷ ts)
 end_left start end token.document_end c P ts h = record { tree = Some (span start end); rest = ts; same = refl; goes = h }
 end_left start end _ c P ts h = absurd (was_take _ c)
 
-more_left : (bs : Brackets) (o start end : yaml_mark_t) (b : TokenBody) → choice_at (state.more bs o) (type_of b) ≡ Take
-    → (P : List Token → Type 0) (ts : List Token) → Over (more_taken bs o start end b).above P ts → Spelled More (spell_more bs) P (token_at b (span start end) ∷ ts)
+more_left : (bs : Brackets) (o start end : yaml_mark_t) (b : TokenBody)
+    → choice_at (state.more bs o) (type_of b) ≡ Take
+    → (P : List Token → Type 0) (ts : List Token) → Over (more_taken bs o start end b).above P ts
+    → Spelled More (spell_more bs) P (token_at b (span start end) ∷ ts)
 more_left bs o start end token.flow_entry c P ts h =
     record { tree = tree.comma (span start end) h.tree; rest = h.rest; same = ap (λ us. token_at token.flow_entry (span start end) ∷ us) h.same; goes = h.goes }
 more_left brackets.Sequence o start end token.flow_sequence_end c P ts h = record { tree = tree.end_more (span start end); rest = ts; same = refl; goes = h }
@@ -383,21 +431,25 @@ more_left brackets.Mapping o start end _ c P ts h = absurd (was_take _ c)
 
 -- a lone node inside brackets
 single_left : (bs : Brackets) (o : yaml_mark_t) (P : List Token → Type 0) (ts : List Token)
-    → Spelled (Node Flow) spell_node (Over (lone_below bs (state.more bs o ∷ [])) P) ts → Spelled Items (spell_items bs) P ts
+    → Spelled (Node Flow) spell_node (Over (lone_below bs (state.more bs o ∷ [])) P) ts
+    → Spelled Items (spell_items bs) P ts
 single_left brackets.Sequence o P ts h =
     record { tree = tree.single h.tree h.goes.tree; rest = h.goes.rest; same = h.same ∙ ap (spell_node h.tree) h.goes.same; goes = h.goes.goes }
 single_left brackets.Mapping o P ts h =
     record { tree = tree.single h.tree h.goes.tree; rest = h.goes.rest; same = h.same ∙ ap (spell_node h.tree) h.goes.same; goes = h.goes.goes }
 
-node_over : (bs : Brackets) (o start end : yaml_mark_t) (b : TokenBody) → starts_node Flow (type_of b) ≡ true → (P : List Token → Type 0) (ts : List Token)
-    → Over ((node_taken Flow start end b).above ++ lone_below bs (state.more bs o ∷ [])) P ts → Spelled Items (spell_items bs) P (token_at b (span start end) ∷ ts)
+node_over : (bs : Brackets) (o start end : yaml_mark_t) (b : TokenBody)
+    → starts_node Flow (type_of b) ≡ true → (P : List Token → Type 0) (ts : List Token)
+    → Over ((node_taken Flow start end b).above ++ lone_below bs (state.more bs o ∷ [])) P ts
+    → Spelled Items (spell_items bs) P (token_at b (span start end) ∷ ts)
 node_over bs o start end b c P ts h =
     single_left bs o P _
     (node_left Flow start end b c (Over (lone_below bs (state.more bs o ∷ [])) P) ts
     (subst (λ (Q : List Token → Type 0). Q ts) (over_both (node_taken Flow start end b).above (lone_below bs (state.more bs o ∷ [])) P) h))
 
 pair_left : (bs : Brackets) (o start end : yaml_mark_t) (P : List Token → Type 0) (ts : List Token)
-    → Over (items_taken bs o start end token.key).above P ts → Spelled Items (spell_items bs) P (token_at token.key (span start end) ∷ ts)
+    → Over (items_taken bs o start end token.key).above P ts
+    → Spelled Items (spell_items bs) P (token_at token.key (span start end) ∷ ts)
 pair_left brackets.Sequence o start end P ts h = record {
   tree = tree.pair (span start end) h.tree h.goes.tree h.goes.goes.tree;
   rest = h.goes.goes.rest;
@@ -411,8 +463,10 @@ pair_left brackets.Mapping o start end P ts h = record {
   goes = h.goes.goes.goes;
 }
 
-items_left : (bs : Brackets) (o start end : yaml_mark_t) (b : TokenBody) → choice_at (state.items bs o) (type_of b) ≡ Take
-    → (P : List Token → Type 0) (ts : List Token) → Over (items_taken bs o start end b).above P ts → Spelled Items (spell_items bs) P (token_at b (span start end) ∷ ts)
+items_left : (bs : Brackets) (o start end : yaml_mark_t) (b : TokenBody)
+    → choice_at (state.items bs o) (type_of b) ≡ Take
+    → (P : List Token → Type 0) (ts : List Token) → Over (items_taken bs o start end b).above P ts
+    → Spelled Items (spell_items bs) P (token_at b (span start end) ∷ ts)
 items_left bs o start end token.key c P ts h = pair_left bs o start end P ts h
 items_left brackets.Sequence o start end token.flow_sequence_end c P ts h = record { tree = tree.end_items (span start end); rest = ts; same = refl; goes = h }
 items_left brackets.Mapping o start end token.flow_mapping_end c P ts h = record { tree = tree.end_items (span start end); rest = ts; same = refl; goes = h }
@@ -428,7 +482,9 @@ items_left brackets.Sequence o start end _ c P ts h = absurd (was_take _ c)
 items_left brackets.Mapping o start end _ c P ts h = absurd (was_take _ c)
 
 -- A state that takes a token waits for the token, if the states that it puts in its place wait for what follows.
-pub taking : (x : State) (t : Token) → choice_at x (type_of t.body) ≡ Take → (P : List Token → Type 0) (ts : List Token) → Over (taken_at x t).above P ts → Left x P (t ∷ ts)
+pub taking : (x : State) (t : Token) → choice_at x (type_of t.body) ≡ Take
+    → (P : List Token → Type 0) (ts : List Token) → Over (taken_at x t).above P ts
+    → Left x P (t ∷ ts)
 taking state.stream t c P ts h = stream_left t.start_mark t.end_mark t.body c P ts h
 taking state.first t c P ts h = first_left t.start_mark t.end_mark t.body c P ts h
 taking state.documents t c P ts h = documents_left t.start_mark t.end_mark t.body c P ts h
@@ -451,7 +507,8 @@ taking state.lone t c P ts h = absurd (was_take _ c)
 
 -- ---- a document opens at the first state alone
 
-take_or_refuse : (b : Bool) (p : ParseProblem) (o : Option yaml_mark_t) → (if b then Take else Refuse p o) ≡ Open → ⊥
+take_or_refuse : (b : Bool) (p : ParseProblem) (o : Option yaml_mark_t)
+    → (if b then Take else Refuse p o) ≡ Open → ⊥
 take_or_refuse true p o h = cc
 take_or_refuse false p o h = cc
 
@@ -459,7 +516,8 @@ take_or_leave : (b : Bool) → (if b then Take else Leave) ≡ Open → ⊥
 take_or_leave true h = cc
 take_or_leave false h = cc
 
-leave_or : (a b : Bool) (p : ParseProblem) → (if a then Leave else if b then Take else Refuse p None) ≡ Open → ⊥
+leave_or : (a b : Bool) (p : ParseProblem)
+    → (if a then Leave else if b then Take else Refuse p None) ≡ Open → ⊥
 leave_or true b p h = cc
 leave_or false true p h = cc
 leave_or false false p h = cc
@@ -494,7 +552,9 @@ opens_first state.pair_end k h = absurd (was_open _ h)
 opens_first state.lone k h = absurd (was_open _ h)
 
 -- The same of a state at which a document opens.
-pub opening : (x : State) (t : Token) → choice_at x (type_of t.body) ≡ Open → (P : List Token → Type 0) (ts : List Token)
-    → Over (taken_at (state.optional Root t.start_mark) t).above (Over (state.document_end ∷ state.documents ∷ []) P) ts → Left x P (t ∷ ts)
+pub opening : (x : State) (t : Token) → choice_at x (type_of t.body) ≡ Open
+    → (P : List Token → Type 0) (ts : List Token)
+    → Over (taken_at (state.optional Root t.start_mark) t).above
+    (Over (state.document_end ∷ state.documents ∷ []) P) ts → Left x P (t ∷ ts)
 opening x t c P ts h =
     subst (λ (y : State). Left y P (t ∷ ts)) (sym (opens_first x (type_of t.body) c)) (opened_left t (opens_node x (type_of t.body) c) P ts h)

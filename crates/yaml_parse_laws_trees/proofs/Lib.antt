@@ -1,6 +1,7 @@
 pub mod Counts
 pub mod SoFar
 pub mod Turns
+mod CountsFirst
 pub mod CountsUnique
 pub mod Left
 pub mod Sound

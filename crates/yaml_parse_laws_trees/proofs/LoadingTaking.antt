@@ -58,13 +58,20 @@ was_take x e = subst IsTake (sym e) tt
 abbrev content_fits : Option (List ℕ) → List Token → Loading → Type 0
 content_fits anchor past l = Owes anchor past l × Held l
 
-content_given : (past : List Token) (t : Token) (ds : Directives) (l : Loading) (p : Option Properties) (shape : Shape) (above s : List State) → alias_fault past t.body t.start_mark ≡ None → Owes (anchor_in p) past l
-    → ((m : Loading) → Names past m → Rooted m.document.nodes → Fits (above ++ s) (t ∷ past) m) → FedLoads past t ds l (given_by (record { item = Some (node_at p shape t.start_mark t.end_mark); above = above }) s)
+content_given : (past : List Token) (t : Token) (ds : Directives) (l : Loading)
+    (p : Option Properties) (shape : Shape) (above s : List State)
+    → alias_fault past t.body t.start_mark ≡ None → Owes (anchor_in p) past l
+    → ((m : Loading) → Names past m → Rooted m.document.nodes → Fits (above ++ s) (t ∷ past) m)
+    → FedLoads past t ds l (given_by (record
+    { item = Some (node_at p shape t.start_mark t.end_mark); above = above }) s)
 content_given past t ds l p shape above s e o k =
     loads_given past t ds l (node_at p shape t.start_mark t.end_mark) above s (λ m. Added (anchor_in p) l m) e (placed_passes p shape t.start_mark t.end_mark ds l) (λ m a. k m (added_names (anchor_in p) past l m o a) a.rooted)
 
-content_loads : (w : Wants) (p : Option Properties) (start end : yaml_mark_t) (b : TokenBody) (s : List State) (past : List Token) (ds : Directives) (l : Loading) → starts_content w (type_of b) ≡ true → Plain s
-    → Owes (anchor_in p) past l → FedLoads past (tok b start end) ds l (given_by (content_taken w p start end b) s)
+content_loads : (w : Wants) (p : Option Properties) (start end : yaml_mark_t) (b : TokenBody)
+    (s : List State) (past : List Token) (ds : Directives) (l : Loading)
+    → starts_content w (type_of b) ≡ true → Plain s
+    → Owes (anchor_in p) past l
+    → FedLoads past (tok b start end) ds l (given_by (content_taken w p start end b) s)
 content_loads w p start end (token.scalar value style) s past ds l c pl o =
     content_given past (tok (token.scalar value style) start end) ds l p (item.scalar value style) [] s refl o (λ m n r. fits_below s (tok (token.scalar value style) start end ∷ past) m pl n r)
 content_loads w p start end token.flow_sequence_start s past ds l c pl o =
@@ -82,21 +89,31 @@ content_loads Flow p start end token.block_entry s past ds l c pl o = absurd (fa
 content_loads w p start end _ s past ds l c pl o = absurd (false≢true c)
 
 -- an alias names a node, or none
-alias_at : (name : List ℕ) (start end : yaml_mark_t) (s : List State) (past : List Token) (ds : Directives) (l : Loading) (o : Option ℤ) (b : Bool) → map.get l.anchors name ≡ o → is_some o ≡ b → has_anchor name past ≡ b
+alias_at : (name : List ℕ) (start end : yaml_mark_t) (s : List State) (past : List Token)
+    (ds : Directives) (l : Loading) (o : Option ℤ) (b : Bool) → map.get l.anchors name ≡ o
+    → is_some o ≡ b → has_anchor name past ≡ b
     → Plain s → Names past l → (is_some o ≡ true → Rooted l.document.nodes)
-    → AtAlias (undefined (has_anchor name past) start) ds (then_fed (aliased (map.get l.anchors name) start l) (λ m. onward ds m)) s (tok (token.alias name) start end ∷ past)
+    → AtAlias (undefined (has_anchor name past) start) ds
+    (then_fed (aliased (map.get l.anchors name) start l) (λ m. onward ds m)) s
+    (tok (token.alias name) start end ∷ past)
 alias_at name start end s past ds l None b e f g pl n r = rw (e, g) (none b f)
   where
-    none : (b : Bool) → false ≡ b → AtAlias (undefined b start) ds (then_fed (aliased None start l) (λ m. onward ds m)) s (tok (token.alias name) start end ∷ past)
+    none : (b : Bool) → false ≡ b
+        → AtAlias (undefined b start) ds (then_fed (aliased None start l) (λ m. onward ds m)) s
+        (tok (token.alias name) start end ∷ past)
     none true f = absurd (false≢true f)
     none false f = refl
 alias_at name start end s past ds l (Some k) b e f g pl n r = rw (e, g) (some b f)
   where
-    some : (b : Bool) → true ≡ b → AtAlias (undefined b start) ds (then_fed (aliased (Some k) start l) (λ m. onward ds m)) s (tok (token.alias name) start end ∷ past)
+    some : (b : Bool) → true ≡ b
+        → AtAlias (undefined b start) ds (then_fed (aliased (Some k) start l) (λ m. onward ds m)) s
+        (tok (token.alias name) start end ∷ past)
     some true f = (_, refl, fits_below s (tok (token.alias name) start end ∷ past) _ pl n (r refl))
     some false f = absurd (false≢true (sym f))
 
-pub node_loads : (w : Wants) (start end : yaml_mark_t) (b : TokenBody) (s : List State) (past : List Token) (ds : Directives) (l : Loading) → starts_node w (type_of b) ≡ true → Plain s → Names past l → Held l
+pub node_loads : (w : Wants) (start end : yaml_mark_t) (b : TokenBody) (s : List State)
+    (past : List Token) (ds : Directives) (l : Loading) → starts_node w (type_of b) ≡ true → Plain s
+    → Names past l → Held l
     → FedLoads past (tok b start end) ds l (given_by (node_taken w start end b) s)
 node_loads w start end (token.alias name) s past ds l c pl n h =
     alias_at name start end s past ds l (map.get l.anchors name) (is_some (map.get l.anchors name)) refl refl (sym (n name)) pl n (λ e. h name e)
@@ -114,9 +131,15 @@ not_first true b e h = cc
 not_first false true e h = refl
 not_first false false e h = cc
 
-properties_loads : (w : Wants) (anchor : Option (List ℕ)) (tag : Option Tag) (from to start end : yaml_mark_t) (b : TokenBody) (s : List State) (past : List Token) (ds : Directives) (l : Loading)
-    → choice_at (state.with_properties w (record { anchor = anchor; tag = tag; from = from; to = to })) (type_of b) ≡ Take → Plain s → Owes anchor past l → Held l
-    → FedLoads past (tok b start end) ds l (given_by (with_properties_taken w (record { anchor = anchor; tag = tag; from = from; to = to }) start end b) s)
+properties_loads : (w : Wants) (anchor : Option (List ℕ)) (tag : Option Tag)
+    (from to start end : yaml_mark_t) (b : TokenBody) (s : List State) (past : List Token)
+    (ds : Directives) (l : Loading)
+    → choice_at (state.with_properties w
+    (record { anchor = anchor; tag = tag; from = from; to = to })) (type_of b) ≡ Take → Plain s
+    → Owes anchor past l → Held l
+    → FedLoads past (tok b start end) ds l
+    (given_by (with_properties_taken w (record { anchor = anchor; tag = tag; from = from; to = to })
+    start end b) s)
 properties_loads w None tag from to start end (token.anchor name) s past ds l c pl o h =
     loads_on past (tok (token.anchor name) start end) ds l (state.with_properties w (record { anchor = Some name; tag = tag; from = from; to = end }) ∷ []) s refl
     (λ q. ap (λ (z : Bool). is_named q (Some name) || z) (o q), h)
@@ -129,21 +152,26 @@ properties_loads w anchor tag from to start end b s past ds l c pl o h =
 
 -- ---- between documents
 
-stream_loads : (start end : yaml_mark_t) (b : TokenBody) (s : List State) (past : List Token) (ds : Directives) (l : Loading) → choice_at state.stream (type_of b) ≡ Take → NoneNamed past
+stream_loads : (start end : yaml_mark_t) (b : TokenBody) (s : List State) (past : List Token)
+    (ds : Directives) (l : Loading) → choice_at state.stream (type_of b) ≡ Take → NoneNamed past
     → FedLoads past (tok b start end) ds l (given_by (stream_taken start end b) s)
 stream_loads start end (token.stream_start encoding) s past ds l c n =
     loads_given past (tok (token.stream_start encoding) start end) ds l (event_at (event.stream_start encoding) start end) (state.first ∷ []) s (λ m. Unit {0}) refl (l, λ k. refl, tt) (λ m q. n)
 stream_loads start end _ s past ds l c n = absurd (was_take _ c)
 
-noted_if : (b : Bool) (d : Directives) (f : Fault) (i : RawEvent) (l : Loading) → Passes (if b then noted d else resolve.refused f) i l (λ m. Unit {0})
+noted_if : (b : Bool) (d : Directives) (f : Fault) (i : RawEvent) (l : Loading)
+    → Passes (if b then noted d else resolve.refused f) i l (λ m. Unit {0})
 noted_if true d f i l = tt
 noted_if false d f i l = tt
 
-version_passes : (v : Option yaml_version_directive_t) (tags : List TagDirective) (major minor : ℤ) (at : yaml_mark_t) (i : RawEvent) (l : Loading) → Passes (with_version v tags major minor at) i l (λ m. Unit {0})
+version_passes : (v : Option yaml_version_directive_t) (tags : List TagDirective) (major minor : ℤ)
+    (at : yaml_mark_t) (i : RawEvent) (l : Loading)
+    → Passes (with_version v tags major minor at) i l (λ m. Unit {0})
 version_passes (Some v) tags major minor at i l = tt
 version_passes None tags major minor at i l = noted_if (is_known_version major minor) _ _ i l
 
-handle_passes : (o : Option (List ℕ)) (ds : Directives) (handle prefix : List ℕ) (at : yaml_mark_t) (i : RawEvent) (l : Loading) → Passes (with_tag o ds handle prefix at) i l (λ m. Unit {0})
+handle_passes : (o : Option (List ℕ)) (ds : Directives) (handle prefix : List ℕ) (at : yaml_mark_t)
+    (i : RawEvent) (l : Loading) → Passes (with_tag o ds handle prefix at) i l (λ m. Unit {0})
 handle_passes (Some x) ds handle prefix at i l = tt
 handle_passes None ds handle prefix at i l = tt
 
@@ -158,14 +186,20 @@ none_held false A e h = cc
 abbrev pub Started : List Token → Loading → Type 0
 Started past m = Names past m × Held m
 
-start_fits : (past : List Token) (version : Option yaml_version_directive_t) (directives : List TagDirective) (implicit : Bool) (from : yaml_mark_t) → NoneNamed past → Started past (started version directives implicit from)
+start_fits : (past : List Token) (version : Option yaml_version_directive_t)
+    (directives : List TagDirective) (implicit : Bool) (from : yaml_mark_t) → NoneNamed past
+    → Started past (started version directives implicit from)
 start_fits past version directives implicit from n = (λ name. nothing_known name ∙ sym (n name), λ name k. none_held _ _ (nothing_known name) k)
 
-pub start_passes : (implicit : Bool) (from to : yaml_mark_t) (past : List Token) (ds : Directives) (l : Loading) → NoneNamed past
-    → Passes (resolve.settle (item_at (item.document implicit) from to) ds) (item_at (item.document implicit) from to) l (λ m. Started past m)
+pub start_passes : (implicit : Bool) (from to : yaml_mark_t) (past : List Token) (ds : Directives)
+    (l : Loading) → NoneNamed past
+    → Passes (resolve.settle (item_at (item.document implicit) from to) ds)
+    (item_at (item.document implicit) from to) l (λ m. Started past m)
 start_passes implicit from to past ds l n = (_, λ k. refl, start_fits past ds.version ds.tags implicit from n)
 
-documents_given : (from start end : yaml_mark_t) (b : TokenBody) (s : List State) (past : List Token) (ds : Directives) (l : Loading) → ((name : List ℕ) → b ≡ token.alias name → ⊥) → s ≡ []
+documents_given : (from start end : yaml_mark_t) (b : TokenBody) (s : List State)
+    (past : List Token) (ds : Directives) (l : Loading)
+    → ((name : List ℕ) → b ≡ token.alias name → ⊥) → s ≡ []
     → FedLoads past (tok b start end) ds l (given_by (documents_taken from start end b) s)
 documents_given from start end (token.version_directive major minor) s past ds l c e =
     loads_given past (tok (token.version_directive major minor) start end) ds l (item_at (item.version_directive major minor) start end) (state.directives from ∷ []) s (λ m. Unit {0}) refl
@@ -182,23 +216,33 @@ documents_given from start end token.stream_end s past ds l c e =
 documents_given from start end (token.alias name) s past ds l c e = absurd (c name refl)
 documents_given from start end b s past ds l c e = loads_on past (tok b start end) ds l (state.documents ∷ []) s refl tt
 
-no_alias : (x : State) (b : TokenBody) (name : List ℕ) → (choice_at x (type_of (token.alias name)) ≡ Take → ⊥) → choice_at x (type_of b) ≡ Take → b ≡ token.alias name → ⊥
+no_alias : (x : State) (b : TokenBody) (name : List ℕ)
+    → (choice_at x (type_of (token.alias name)) ≡ Take → ⊥) → choice_at x (type_of b) ≡ Take
+    → b ≡ token.alias name → ⊥
 no_alias x b name h c e = h (subst (λ (z : TokenBody). choice_at x (type_of z) ≡ Take) e c)
 
-first_loads : (start end : yaml_mark_t) (b : TokenBody) (s : List State) (past : List Token) (ds : Directives) (l : Loading) → choice_at state.first (type_of b) ≡ Take → s ≡ []
+first_loads : (start end : yaml_mark_t) (b : TokenBody) (s : List State) (past : List Token)
+    (ds : Directives) (l : Loading) → choice_at state.first (type_of b) ≡ Take → s ≡ []
     → FedLoads past (tok b start end) ds l (given_by (taken_at state.first (tok b start end)) s)
 first_loads start end b s past ds l c e = documents_given start start end b s past ds l (λ name. no_alias state.first b name (λ h. cc) c) e
 
-documents_loads : (start end : yaml_mark_t) (b : TokenBody) (s : List State) (past : List Token) (ds : Directives) (l : Loading) → choice_at state.documents (type_of b) ≡ Take → s ≡ []
+documents_loads : (start end : yaml_mark_t) (b : TokenBody) (s : List State) (past : List Token)
+    (ds : Directives) (l : Loading) → choice_at state.documents (type_of b) ≡ Take → s ≡ []
     → FedLoads past (tok b start end) ds l (given_by (taken_at state.documents (tok b start end)) s)
 documents_loads start end b s past ds l c e = documents_given start start end b s past ds l (λ name. no_alias state.documents b name (λ h. cc) c) e
 
-directives_loads : (from start end : yaml_mark_t) (b : TokenBody) (s : List State) (past : List Token) (ds : Directives) (l : Loading) → choice_at (state.directives from) (type_of b) ≡ Take → s ≡ []
-    → FedLoads past (tok b start end) ds l (given_by (taken_at (state.directives from) (tok b start end)) s)
+directives_loads : (from start end : yaml_mark_t) (b : TokenBody) (s : List State)
+    (past : List Token) (ds : Directives) (l : Loading)
+    → choice_at (state.directives from) (type_of b) ≡ Take → s ≡ []
+    → FedLoads past (tok b start end) ds l
+    (given_by (taken_at (state.directives from) (tok b start end)) s)
 directives_loads from start end b s past ds l c e = documents_given from start end b s past ds l (λ name. no_alias (state.directives from) b name (λ h. cc) c) e
 
-end_loads : (start end : yaml_mark_t) (b : TokenBody) (s : List State) (past : List Token) (ds : Directives) (l : Loading) → choice_at state.document_end (type_of b) ≡ Take → s ≡ state.documents ∷ [] → Rooted l.document.nodes
-    → FedLoads past (tok b start end) ds l (given_by (taken_at state.document_end (tok b start end)) s)
+end_loads : (start end : yaml_mark_t) (b : TokenBody) (s : List State) (past : List Token)
+    (ds : Directives) (l : Loading) → choice_at state.document_end (type_of b) ≡ Take
+    → s ≡ state.documents ∷ [] → Rooted l.document.nodes
+    → FedLoads past (tok b start end) ds l
+    (given_by (taken_at state.document_end (tok b start end)) s)
 end_loads start end token.document_end s past ds l c e r =
     loads_given past (tok token.document_end start end) ds l (event_at (event.document_end false) start end) [] s (λ m. Unit {0}) refl (nothing_loaded, λ k. whole l.document.nodes (k nothing_loaded) r, tt)
     (λ m q. subst (λ (z : List State). Fits z (tok token.document_end start end ∷ past) m) (sym e) tt)
@@ -210,47 +254,68 @@ abbrev Inner : List Token → Loading → Type 0
 Inner past l = Names past l × Rooted l.document.nodes
 
 -- the end of a collection; no anchor stands at its token
-sequence_closes : (start end : yaml_mark_t) (t : Token) (s : List State) (past : List Token) (ds : Directives) (l : Loading) → alias_fault past t.body t.start_mark ≡ None → ((name : List ℕ) → has_anchor name (t ∷ past) ≡ has_anchor name past)
-    → Plain s → Inner past l → FedLoads past t ds l (given_by (taken (Some (event_at event.sequence_end start end)) []) s)
+sequence_closes : (start end : yaml_mark_t) (t : Token) (s : List State) (past : List Token)
+    (ds : Directives) (l : Loading) → alias_fault past t.body t.start_mark ≡ None
+    → ((name : List ℕ) → has_anchor name (t ∷ past) ≡ has_anchor name past)
+    → Plain s → Inner past l
+    → FedLoads past t ds l (given_by (taken (Some (event_at event.sequence_end start end)) []) s)
 sequence_closes start end t s past ds l e a pl h =
     loads_given past t ds l (event_at event.sequence_end start end) [] s (λ m. Fits s (t ∷ past) m) e (_, λ k. refl, closed_fits end l s (t ∷ past) pl (λ name. h.0 name ∙ sym (a name)) h.1) (λ m q. q)
 
-mapping_closes : (start end : yaml_mark_t) (t : Token) (s : List State) (past : List Token) (ds : Directives) (l : Loading) → alias_fault past t.body t.start_mark ≡ None → ((name : List ℕ) → has_anchor name (t ∷ past) ≡ has_anchor name past)
-    → Plain s → Inner past l → FedLoads past t ds l (given_by (taken (Some (event_at event.mapping_end start end)) []) s)
+mapping_closes : (start end : yaml_mark_t) (t : Token) (s : List State) (past : List Token)
+    (ds : Directives) (l : Loading) → alias_fault past t.body t.start_mark ≡ None
+    → ((name : List ℕ) → has_anchor name (t ∷ past) ≡ has_anchor name past)
+    → Plain s → Inner past l
+    → FedLoads past t ds l (given_by (taken (Some (event_at event.mapping_end start end)) []) s)
 mapping_closes start end t s past ds l e a pl h =
     loads_given past t ds l (event_at event.mapping_end start end) [] s (λ m. Fits s (t ∷ past) m) e (_, λ k. refl, closed_fits end l s (t ∷ past) pl (λ name. h.0 name ∙ sym (a name)) h.1) (λ m q. q)
 
-entries_loads : (o start end : yaml_mark_t) (b : TokenBody) (s : List State) (past : List Token) (ds : Directives) (l : Loading) → choice_at (state.entries o) (type_of b) ≡ Take → Plain s → Inner past l
+entries_loads : (o start end : yaml_mark_t) (b : TokenBody) (s : List State) (past : List Token)
+    (ds : Directives) (l : Loading) → choice_at (state.entries o) (type_of b) ≡ Take → Plain s
+    → Inner past l
     → FedLoads past (tok b start end) ds l (given_by (entries_taken o start end b) s)
 entries_loads o start end token.block_entry s past ds l c pl h = loads_on past (tok token.block_entry start end) ds l (state.optional Entry end ∷ state.entries o ∷ []) s refl (h.0, held l h.1)
 entries_loads o start end token.block_end s past ds l c pl h = sequence_closes start end (tok token.block_end start end) s past ds l refl (λ name. refl) pl h
 entries_loads o start end _ s past ds l c pl h = absurd (was_take _ c)
 
-pairs_loads : (o start end : yaml_mark_t) (b : TokenBody) (s : List State) (past : List Token) (ds : Directives) (l : Loading) → choice_at (state.pairs o) (type_of b) ≡ Take → Plain s → Inner past l
+pairs_loads : (o start end : yaml_mark_t) (b : TokenBody) (s : List State) (past : List Token)
+    (ds : Directives) (l : Loading) → choice_at (state.pairs o) (type_of b) ≡ Take → Plain s
+    → Inner past l
     → FedLoads past (tok b start end) ds l (given_by (pairs_taken o start end b) s)
 pairs_loads o start end token.key s past ds l c pl h =
     loads_on past (tok token.key start end) ds l (state.optional (BlockPair Key) end ∷ state.colon (BlockPair Value) ∷ state.pairs o ∷ []) s refl (h.0, held l h.1)
 pairs_loads o start end token.block_end s past ds l c pl h = mapping_closes start end (tok token.block_end start end) s past ds l refl (λ name. refl) pl h
 pairs_loads o start end _ s past ds l c pl h = absurd (was_take _ c)
 
-others_loads : (start end : yaml_mark_t) (b : TokenBody) (side : Side) (s : List State) (past : List Token) (ds : Directives) (l : Loading) → choice_at (state.others side) (type_of b) ≡ Take → Inner past l
-    → FedLoads past (tok b start end) ds l (given_by (taken_at (state.others side) (tok b start end)) s)
+others_loads : (start end : yaml_mark_t) (b : TokenBody) (side : Side) (s : List State)
+    (past : List Token) (ds : Directives) (l : Loading)
+    → choice_at (state.others side) (type_of b) ≡ Take → Inner past l
+    → FedLoads past (tok b start end) ds l
+    (given_by (taken_at (state.others side) (tok b start end)) s)
 others_loads start end token.block_entry side s past ds l c h = loads_on past (tok token.block_entry start end) ds l (state.optional (IndentlessEntry side) end ∷ state.others side ∷ []) s refl (h.0, held l h.1)
 others_loads start end _ side s past ds l c h = absurd (was_take _ c)
 
-colon_loads : (start end : yaml_mark_t) (b : TokenBody) (place : Site) (s : List State) (past : List Token) (ds : Directives) (l : Loading) → choice_at (state.colon place) (type_of b) ≡ Take → Inner past l
-    → FedLoads past (tok b start end) ds l (given_by (taken_at (state.colon place) (tok b start end)) s)
+colon_loads : (start end : yaml_mark_t) (b : TokenBody) (place : Site) (s : List State)
+    (past : List Token) (ds : Directives) (l : Loading)
+    → choice_at (state.colon place) (type_of b) ≡ Take → Inner past l
+    → FedLoads past (tok b start end) ds l
+    (given_by (taken_at (state.colon place) (tok b start end)) s)
 colon_loads start end token.value place s past ds l c h = loads_on past (tok token.value start end) ds l (state.optional place end ∷ []) s refl (h.0, held l h.1)
 colon_loads start end _ place s past ds l c h = absurd (was_take _ c)
 
 -- ---- in brackets
 
-given_above : (i : Option RawEvent) (up below s : List State) → given_by (taken i (up ++ below)) s ≡ given_by (taken i up) (below ++ s)
+given_above : (i : Option RawEvent) (up below s : List State)
+    → given_by (taken i (up ++ below)) s ≡ given_by (taken i up) (below ++ s)
 given_above None up below s = ap (λ (z : List State). go [] z) (append_assoc up below s)
 given_above (Some i) up below s = ap (λ (z : List State). go (i ∷ []) z) (append_assoc up below s)
 
-part_loads : (bs : Brackets) (o start end : yaml_mark_t) (b : TokenBody) (s : List State) (past : List Token) (ds : Directives) (l : Loading) → starts_node Flow (type_of b) ≡ true → Plain s → Inner past l
-    → FedLoads past (tok b start end) ds l (given_by (taken (node_taken Flow start end b).item ((node_taken Flow start end b).above ++ lone_below bs (state.more bs o ∷ []))) s)
+part_loads : (bs : Brackets) (o start end : yaml_mark_t) (b : TokenBody) (s : List State)
+    (past : List Token) (ds : Directives) (l : Loading) → starts_node Flow (type_of b) ≡ true
+    → Plain s → Inner past l
+    → FedLoads past (tok b start end) ds l
+    (given_by (taken (node_taken Flow start end b).item
+    ((node_taken Flow start end b).above ++ lone_below bs (state.more bs o ∷ []))) s)
 part_loads bs o start end b s past ds l c pl h =
     subst (λ (z : Fed). FedLoads past (tok b start end) ds l z) (sym (given_above (node_taken Flow start end b).item (node_taken Flow start end b).above (lone_below bs (state.more bs o ∷ [])) s))
     (node_loads Flow start end b (lone_below bs (state.more bs o ∷ []) ++ s) past ds l c (plain_below bs) h.0 (held l h.1))
@@ -263,7 +328,9 @@ starts_part : (a : Bool) (p : ParseProblem) → (if a then Take else Refuse p No
 starts_part true p h = refl
 starts_part false p h = cc
 
-items_loads : (bs : Brackets) (o start end : yaml_mark_t) (b : TokenBody) (s : List State) (past : List Token) (ds : Directives) (l : Loading) → choice_at (state.items bs o) (type_of b) ≡ Take → Plain s → Inner past l
+items_loads : (bs : Brackets) (o start end : yaml_mark_t) (b : TokenBody) (s : List State)
+    (past : List Token) (ds : Directives) (l : Loading)
+    → choice_at (state.items bs o) (type_of b) ≡ Take → Plain s → Inner past l
     → FedLoads past (tok b start end) ds l (given_by (items_taken bs o start end b) s)
 items_loads brackets.Sequence o start end token.key s past ds l c pl h =
     loads_given past (tok token.key start end) ds l (item_at (item.node None None (item.mapping YAML_FLOW_MAPPING_STYLE)) start end)
@@ -278,7 +345,9 @@ items_loads brackets.Mapping o start end token.flow_mapping_end s past ds l c pl
 items_loads brackets.Sequence o start end b s past ds l c pl h = part_loads brackets.Sequence o start end b s past ds l (starts_part (starts_node Flow (type_of b)) problem.NoFlowNode c) pl h
 items_loads brackets.Mapping o start end b s past ds l c pl h = part_loads brackets.Mapping o start end b s past ds l (starts_part (starts_node Flow (type_of b)) problem.NoFlowNode c) pl h
 
-more_loads : (bs : Brackets) (o start end : yaml_mark_t) (b : TokenBody) (s : List State) (past : List Token) (ds : Directives) (l : Loading) → choice_at (state.more bs o) (type_of b) ≡ Take → Plain s → Inner past l
+more_loads : (bs : Brackets) (o start end : yaml_mark_t) (b : TokenBody) (s : List State)
+    (past : List Token) (ds : Directives) (l : Loading)
+    → choice_at (state.more bs o) (type_of b) ≡ Take → Plain s → Inner past l
     → FedLoads past (tok b start end) ds l (given_by (more_taken bs o start end b) s)
 more_loads bs o start end token.flow_entry s past ds l c pl h = loads_on past (tok token.flow_entry start end) ds l (state.items bs o ∷ []) s refl h
 more_loads brackets.Sequence o start end token.flow_sequence_end s past ds l c pl h = sequence_closes start end (tok token.flow_sequence_end start end) s past ds l refl (λ name. refl) pl h
@@ -288,7 +357,8 @@ more_loads brackets.Mapping o start end _ s past ds l c pl h = absurd (was_take 
 
 -- ---- each state
 
-not_left_out : (a b : Bool) (p : ParseProblem) → (if a then Leave else if b then Take else Refuse p None) ≡ Take → b ≡ true
+not_left_out : (a b : Bool) (p : ParseProblem)
+    → (if a then Leave else if b then Take else Refuse p None) ≡ Take → b ≡ true
 not_left_out true b p h = cc
 not_left_out false true p h = refl
 not_left_out false false p h = cc
@@ -302,7 +372,9 @@ SitsAt (state.directives from) s below = s ≡ []
 SitsAt state.document_end s below = s ≡ state.documents ∷ []
 SitsAt _ s below = below
 
-pub taken_loads : (x : State) (t : Token) (s : List State) (past : List Token) (ds : Directives) (l : Loading) (A : Type 0) → choice_at x (type_of t.body) ≡ Take → Plain s → SitsAt x s A → Fits (x ∷ s) past l
+pub taken_loads : (x : State) (t : Token) (s : List State) (past : List Token) (ds : Directives)
+    (l : Loading) (A : Type 0) → choice_at x (type_of t.body) ≡ Take → Plain s → SitsAt x s A
+    → Fits (x ∷ s) past l
     → FedLoads past t ds l (given_by (taken_at x t) s)
 taken_loads state.stream t s past ds l A c pl i h = stream_loads t.start_mark t.end_mark t.body s past ds l c h
 taken_loads state.first t s past ds l A c pl i h = first_loads t.start_mark t.end_mark t.body s past ds l c i

@@ -56,11 +56,13 @@ mutual
   inner_content (sequence head implicit style items at) rest h = inner_more _ _ tt (inner_items items _ (inner_more _ rest tt h))
   inner_content (mapping head implicit style pairs at) rest h = inner_more _ _ tt (inner_pairs pairs _ (inner_more _ rest tt h))
 
-  inner_items : (cs : Contents) (rest : List Event) → InnerFronts rest → InnerFronts (item_events cs rest)
+  inner_items : (cs : Contents) (rest : List Event) → InnerFronts rest
+      → InnerFronts (item_events cs rest)
   inner_items no_items rest h = h
   inner_items (item c more) rest h = inner_content c (item_events more rest) (inner_items more rest h)
 
-  inner_pairs : (cs : Pairs) (rest : List Event) → InnerFronts rest → InnerFronts (pair_events cs rest)
+  inner_pairs : (cs : Pairs) (rest : List Event) → InnerFronts rest
+      → InnerFronts (pair_events cs rest)
   inner_pairs no_pairs rest h = h
   inner_pairs (pair key value more) rest h = inner_content key (events value (pair_events more rest)) (inner_content value (pair_events more rest) (inner_pairs more rest h))
 
@@ -80,7 +82,8 @@ there_on : (b : Bool) (n : ℤ) (o : Option ℤ) → is_there (cond b (Some n) o
 there_on true n o = refl
 there_on false n o = refl
 
-knows_more : (anchor : Option (List ℕ)) (n : ℤ) (known : Anchors) (names : List (List ℕ)) → Knows known names → Knows (named anchor n known) (and_anchor anchor names)
+knows_more : (anchor : Option (List ℕ)) (n : ℤ) (known : Anchors) (names : List (List ℕ))
+    → Knows known names → Knows (named anchor n known) (and_anchor anchor names)
 knows_more None n known names k = k
 knows_more (Some x) n known names k = λ name.
     ap is_there (map.get-insert nat_list_cmp_total known x n name)
@@ -95,17 +98,21 @@ Inner (goes_on m) wrong names = (wrong ≡ None) × Knows m.anchors names
 Inner (loaded d) wrong names = ⊥
 Inner (refused f) wrong names = wrong ≡ Some f
 
-aliased_inner : (o : Option ℤ) (b : Bool) (at : yaml_mark_t) (l : Loading) (names : List (List ℕ)) → Knows l.anchors names → is_there o ≡ b → Inner (aliased o at l) (unless_known b at) names
+aliased_inner : (o : Option ℤ) (b : Bool) (at : yaml_mark_t) (l : Loading) (names : List (List ℕ))
+    → Knows l.anchors names → is_there o ≡ b → Inner (aliased o at l) (unless_known b at) names
 aliased_inner None false at l names k e = refl
 aliased_inner None true at l names k e = absurd (cc)
 aliased_inner (Some n) true at l names k e = (refl, k)
 aliased_inner (Some n) false at l names k e = absurd (cc)
 
-closed_inner : (to : yaml_mark_t) (l : Loading) (os : List Open) (names : List (List ℕ)) → Knows l.anchors names → Inner (goes_on (closed to l os)) None names
+closed_inner : (to : yaml_mark_t) (l : Loading) (os : List Open) (names : List (List ℕ))
+    → Knows l.anchors names → Inner (goes_on (closed to l os)) None names
 closed_inner to l [] names k = (refl, k)
 closed_inner to l (o ∷ os) names k = (refl, k)
 
-pub inner_step : (b : EventBody) (from to : yaml_mark_t) (l : Loading) (names : List (List ℕ)) → IsInner b → Knows l.anchors names → Inner (step_body b from to l) (wrong_alias b from names) (names_behind b names)
+pub inner_step : (b : EventBody) (from to : yaml_mark_t) (l : Loading) (names : List (List ℕ))
+    → IsInner b → Knows l.anchors names
+    → Inner (step_body b from to l) (wrong_alias b from names) (names_behind b names)
 inner_step event.no from to l names h k = (refl, k)
 inner_step (event.stream_start encoding) from to l names h k = (refl, k)
 inner_step event.stream_end from to l names h k = (refl, k)
@@ -124,8 +131,11 @@ inner_step event.mapping_end from to l names h k = closed_inner to l l.levels na
 abbrev RefusedAt : Loads → ℕ → Fault × ℕ → Type 0
 RefusedAt r count w = (r ≡ told.faulty w.0) × (count ≡ w.1)
 
-wrong_on : (fed : LoadStep) (wrong : Option Fault) (names : List (List ℕ)) (later : Option (Fault × ℕ)) (w : Fault × ℕ) (go : Loading → Loads) (count : Loading → ℕ) (rest : List Told) (n : ℕ)
-    → Inner fed wrong names → or_later wrong n later ≡ Some w → ((m : Loading) → Knows m.anchors names → later ≡ Some w → RefusedAt (go m) (count m) w)
+wrong_on : (fed : LoadStep) (wrong : Option Fault) (names : List (List ℕ))
+    (later : Option (Fault × ℕ)) (w : Fault × ℕ) (go : Loading → Loads) (count : Loading → ℕ)
+    (rest : List Told) (n : ℕ)
+    → Inner fed wrong names → or_later wrong n later ≡ Some w
+    → ((m : Loading) → Knows m.anchors names → later ≡ Some w → RefusedAt (go m) (count m) w)
     → RefusedAt (load_on fed go rest n) (unasked_on fed n count) w
 wrong_on (goes_on m) wrong names later w go count rest n i e h =
     h m i.1 (ap (λ (o : Option Fault). or_later o n later) (sym i.0) ∙ e)
@@ -135,7 +145,9 @@ wrong_on (refused f) wrong names later w go count rest n i e h =
     let q : (f, n) ≡ w = cc in
     (ap (λ (x : Fault × ℕ). told.faulty x.0) q, ap (λ (x : Fault × ℕ). x.1) q)
 
-wrong_inner : (gs left : List Told) (f : Option Fault) (behind : ℕ) (l : Loading) (names : List (List ℕ)) (w : Fault × ℕ) → AreInner (told_events gs) → Knows l.anchors names → first_wrong gs names ≡ Some w
+wrong_inner : (gs left : List Told) (f : Option Fault) (behind : ℕ) (l : Loading)
+    (names : List (List ℕ)) (w : Fault × ℕ) → AreInner (told_events gs) → Knows l.anchors names
+    → first_wrong gs names ≡ Some w
     → RefusedAt (loads (gs ++ left) f l) (unasked_at_refusal (gs ++ left) behind l) w
 unfolding loads unasked_at_refusal first_wrong
 wrong_inner [] left f behind l names w h k e = absurd (cc)
@@ -149,8 +161,11 @@ wrong_inner (g ∷ gs) left f behind l names w h k e =
 abbrev EndsAt : Loads → ℕ → Option Fault → ℕ → Type 0
 EndsAt r count f behind = (r ≡ behind_all f) × (count ≡ behind)
 
-right_on : (fed : LoadStep) (wrong : Option Fault) (names : List (List ℕ)) (later : Option (Fault × ℕ)) (f : Option Fault) (behind : ℕ) (go : Loading → Loads) (count : Loading → ℕ) (rest : List Told) (n : ℕ)
-    → Inner fed wrong names → or_later wrong n later ≡ None → ((m : Loading) → Knows m.anchors names → later ≡ None → EndsAt (go m) (count m) f behind)
+right_on : (fed : LoadStep) (wrong : Option Fault) (names : List (List ℕ))
+    (later : Option (Fault × ℕ)) (f : Option Fault) (behind : ℕ) (go : Loading → Loads)
+    (count : Loading → ℕ) (rest : List Told) (n : ℕ)
+    → Inner fed wrong names → or_later wrong n later ≡ None
+    → ((m : Loading) → Knows m.anchors names → later ≡ None → EndsAt (go m) (count m) f behind)
     → EndsAt (load_on fed go rest n) (unasked_on fed n count) f behind
 right_on (goes_on m) wrong names later f behind go count rest n i e h =
     h m i.1 (ap (λ (o : Option Fault). or_later o n later) (sym i.0) ∙ e)
@@ -159,7 +174,8 @@ right_on (refused g) wrong names later f behind go count rest n i e h =
     let p : or_later (Some g) n later ≡ None = ap (λ (o : Option Fault). or_later o n later) (sym i) ∙ e in
     absurd (cc)
 
-right_inner : (gs : List Told) (f : Option Fault) (behind : ℕ) (l : Loading) (names : List (List ℕ)) → AreInner (told_events gs) → Knows l.anchors names → first_wrong gs names ≡ None
+right_inner : (gs : List Told) (f : Option Fault) (behind : ℕ) (l : Loading) (names : List (List ℕ))
+    → AreInner (told_events gs) → Knows l.anchors names → first_wrong gs names ≡ None
     → EndsAt (loads gs f l) (unasked_at_refusal gs behind l) f behind
 unfolding loads unasked_at_refusal first_wrong
 right_inner [] f behind l names h k e = (refl, refl)
@@ -180,17 +196,21 @@ end_event d = spanning (event.document_end d.end_implicit) d.end_at.start_mark d
 abbrev pub started_by : DocumentContent → Loading
 started_by d = loading.started d.version d.directives d.start_implicit d.start_at.start_mark
 
-pub inner_front : (d : DocumentContent) (gs : List Told) (y : Event) (ys : List Event) → events d.root (end_event d ∷ []) ≡ told_events gs ++ y ∷ ys → AreInner (told_events gs)
+pub inner_front : (d : DocumentContent) (gs : List Told) (y : Event) (ys : List Event)
+    → events d.root (end_event d ∷ []) ≡ told_events gs ++ y ∷ ys → AreInner (told_events gs)
 inner_front d gs y ys e = inner_content d.root (end_event d ∷ []) (inner_last (end_event d)) (told_events gs) y ys e
 
 abbrev WrongOf : (w : Fault × ℕ) → List Told → List Told → Option Fault → ℕ → Type 0
 WrongOf w gs left f behind = first_wrong gs [] ≡ Some w → RefusedAt (loads (gs ++ left) f nothing_loaded) (unasked_at_refusal (gs ++ left) behind nothing_loaded) w
 
-begun_wrong : (d : DocumentContent) (n : ℕ) (gs left : List Told) (f : Option Fault) (behind : ℕ) (w : Fault × ℕ) → AreInner (told_events gs) → WrongOf w ((start_event d, n) ∷ gs) left f behind
+begun_wrong : (d : DocumentContent) (n : ℕ) (gs left : List Told) (f : Option Fault) (behind : ℕ)
+    (w : Fault × ℕ) → AreInner (told_events gs) → WrongOf w ((start_event d, n) ∷ gs) left f behind
 unfolding loads unasked_at_refusal first_wrong
 begun_wrong d n gs left f behind w h k = wrong_inner gs left f behind (started_by d) [] w h knows_nothing k
 
-front_wrong : (d : DocumentContent) (gs left : List Told) (y : Event) (ys : List Event) (f : Option Fault) (behind : ℕ) (w : Fault × ℕ) → document_events d [] ≡ told_events gs ++ y ∷ ys → WrongOf w gs left f behind
+front_wrong : (d : DocumentContent) (gs left : List Told) (y : Event) (ys : List Event)
+    (f : Option Fault) (behind : ℕ) (w : Fault × ℕ)
+    → document_events d [] ≡ told_events gs ++ y ∷ ys → WrongOf w gs left f behind
 unfolding first_wrong
 front_wrong d [] left y ys f behind w e k = absurd (cc)
 front_wrong d (g ∷ gs) left y ys f behind w e k =
@@ -201,11 +221,14 @@ front_wrong d (g ∷ gs) left y ys f behind w e k =
 abbrev RightOf : List Told → Option Fault → ℕ → Type 0
 RightOf gs f behind = first_wrong gs [] ≡ None → EndsAt (loads gs f nothing_loaded) (unasked_at_refusal gs behind nothing_loaded) f behind
 
-begun_right : (d : DocumentContent) (n : ℕ) (gs : List Told) (f : Option Fault) (behind : ℕ) → AreInner (told_events gs) → RightOf ((start_event d, n) ∷ gs) f behind
+begun_right : (d : DocumentContent) (n : ℕ) (gs : List Told) (f : Option Fault) (behind : ℕ)
+    → AreInner (told_events gs) → RightOf ((start_event d, n) ∷ gs) f behind
 unfolding loads unasked_at_refusal first_wrong
 begun_right d n gs f behind h k = right_inner gs f behind (started_by d) [] h knows_nothing k
 
-front_right : (d : DocumentContent) (gs : List Told) (y : Event) (ys : List Event) (f : Option Fault) (behind : ℕ) → document_events d [] ≡ told_events gs ++ y ∷ ys → RightOf gs f behind
+front_right : (d : DocumentContent) (gs : List Told) (y : Event) (ys : List Event)
+    (f : Option Fault) (behind : ℕ) → document_events d [] ≡ told_events gs ++ y ∷ ys
+    → RightOf gs f behind
 unfolding loads unasked_at_refusal
 front_right d [] y ys f behind e k = (refl, refl)
 front_right d (g ∷ gs) y ys f behind e k =
@@ -215,7 +238,8 @@ front_right d (g ∷ gs) y ys f behind e k =
 
 -- ---- events of no document
 
-outside_step : (b : EventBody) (from to : yaml_mark_t) (l : Loading) → IsOutside b → step_body b from to l ≡ goes_on l
+outside_step : (b : EventBody) (from to : yaml_mark_t) (l : Loading) → IsOutside b
+    → step_body b from to l ≡ goes_on l
 outside_step event.no from to l h = refl
 outside_step (event.stream_start encoding) from to l h = refl
 outside_step event.stream_end from to l h = refl
@@ -228,13 +252,15 @@ outside_step event.sequence_end from to l h = absurd h
 outside_step (event.mapping_start anchor tag implicit style) from to l h = absurd h
 outside_step event.mapping_end from to l h = absurd h
 
-outside_loads : (os gs : List Told) (f : Option Fault) (l : Loading) → AreOutside os → loads (os ++ gs) f l ≡ loads gs f l
+outside_loads : (os gs : List Told) (f : Option Fault) (l : Loading) → AreOutside os
+    → loads (os ++ gs) f l ≡ loads gs f l
 unfolding loads
 outside_loads [] gs f l h = refl
 outside_loads (o ∷ os) gs f l h =
     ap (λ (x : LoadStep). load_on x (loads (os ++ gs) f) (os ++ gs) o.1) (outside_step o.0.body o.0.start_mark o.0.end_mark l h.0) ∙ outside_loads os gs f l h.1
 
-outside_unasked : (os gs : List Told) (behind : ℕ) (l : Loading) → AreOutside os → unasked_at_refusal (os ++ gs) behind l ≡ unasked_at_refusal gs behind l
+outside_unasked : (os gs : List Told) (behind : ℕ) (l : Loading) → AreOutside os
+    → unasked_at_refusal (os ++ gs) behind l ≡ unasked_at_refusal gs behind l
 unfolding unasked_at_refusal
 outside_unasked [] gs behind l h = refl
 outside_unasked (o ∷ os) gs behind l h =
@@ -242,21 +268,27 @@ outside_unasked (o ∷ os) gs behind l h =
 
 -- ---- a whole document
 
-longer : (gs left : List Told) → length (told_events (gs ++ left)) ≡ length gs + length (told_events left)
+longer : (gs left : List Told)
+    → length (told_events (gs ++ left)) ≡ length gs + length (told_events left)
 longer [] left = omega arith
 longer (g ∷ gs) left = omega (arith, longer gs left)
 
-less_on : (fed : LoadStep) (es rest : List Event) (d : Document) → ((m : Loading) → load es m ≡ loading.document d rest → length rest < length es) → turn fed (load es) es ≡ loading.document d rest → length rest < suc (length es)
+less_on : (fed : LoadStep) (es rest : List Event) (d : Document)
+    → ((m : Loading) → load es m ≡ loading.document d rest → length rest < length es)
+    → turn fed (load es) es ≡ loading.document d rest → length rest < suc (length es)
 less_on (goes_on m) es rest d h e = let k : length rest < length es = h m e in omega arith
 less_on (loaded c) es rest d h e = let p : es ≡ rest = cc in let q : length es ≡ length rest = ap (λ (xs : List Event). length xs) p in omega arith
 less_on (refused f) es rest d h e = absurd (cc)
 
-loads_less : (es rest : List Event) (l : Loading) (d : Document) → load es l ≡ loading.document d rest → length rest < length es
+loads_less : (es rest : List Event) (l : Loading) (d : Document)
+    → load es l ≡ loading.document d rest → length rest < length es
 unfolding load
 loads_less [] rest l d e = absurd (cc)
 loads_less (x ∷ es) rest l d e = less_on (step x l) es rest d (λ m h. loads_less es rest m d h) e
 
-last_event : (gs left : List Told) (n : ℕ) (f : Option Fault) (d : Document) → told_events (gs ++ left) ≡ told_events left → told.document d (gs ++ left) n ≡ told.document d left (left_behind gs n)
+last_event : (gs left : List Told) (n : ℕ) (f : Option Fault) (d : Document)
+    → told_events (gs ++ left) ≡ told_events left
+    → told.document d (gs ++ left) n ≡ told.document d left (left_behind gs n)
 unfolding left_behind
 last_event [] left n f d e = refl
 last_event (g ∷ gs) left n f d e =
@@ -265,8 +297,10 @@ last_event (g ∷ gs) left n f d e =
     absurd (omega arith)
 
 whole_on : (fed : LoadStep) (gs left : List Told) (n : ℕ) (f : Option Fault) (d : Document)
-    → ((m : Loading) → load (told_events (gs ++ left)) m ≡ loading.document d (told_events left) → loads (gs ++ left) f m ≡ told.document d left (left_behind gs n))
-    → turn fed (load (told_events (gs ++ left))) (told_events (gs ++ left)) ≡ loading.document d (told_events left)
+    → ((m : Loading) → load (told_events (gs ++ left)) m ≡ loading.document d (told_events left)
+    → loads (gs ++ left) f m ≡ told.document d left (left_behind gs n))
+    → turn fed (load (told_events (gs ++ left))) (told_events (gs ++ left))
+    ≡ loading.document d (told_events left)
     → load_on fed (loads (gs ++ left) f) (gs ++ left) n ≡ told.document d left (left_behind gs n)
 whole_on (goes_on m) gs left n f d h e = h m e
 whole_on (loaded c) gs left n f d h e =
@@ -275,12 +309,15 @@ whole_on (loaded c) gs left n f d h e =
     ap (λ (x : Document). told.document x (gs ++ left) n) p ∙ last_event gs left n f d q
 whole_on (refused g) gs left n f d h e = absurd (cc)
 
-whole_loads : (gs left : List Told) (n : ℕ) (f : Option Fault) (l : Loading) (d : Document) → load (told_events (gs ++ left)) l ≡ loading.document d (told_events left) → loads (gs ++ left) f l ≡ told.document d left (left_behind gs n)
+whole_loads : (gs left : List Told) (n : ℕ) (f : Option Fault) (l : Loading) (d : Document)
+    → load (told_events (gs ++ left)) l ≡ loading.document d (told_events left)
+    → loads (gs ++ left) f l ≡ told.document d left (left_behind gs n)
 unfolding load loads left_behind
 whole_loads [] left n f l d e = let h : length (told_events left) < length (told_events left) = loads_less (told_events left) (told_events left) l d e in absurd (omega arith)
 whole_loads (g ∷ gs) left n f l d e = whole_on (step g.0 l) gs left g.1 f d (λ m h. whole_loads gs left g.1 f m d h) e
 
-document_loads : (gs left : List Told) (f : Option Fault) (c : DocumentContent) (d : Document) → told_events (gs ++ left) ≡ document_events c (told_events left) → document_of c ≡ Ok d
+document_loads : (gs left : List Told) (f : Option Fault) (c : DocumentContent) (d : Document)
+    → told_events (gs ++ left) ≡ document_events c (told_events left) → document_of c ≡ Ok d
     → loads (gs ++ left) f nothing_loaded ≡ told.document d left (left_behind gs 0)
 document_loads gs left f c d e k =
     whole_loads gs left 0 f nothing_loaded d
@@ -293,24 +330,28 @@ IsOf (next_document e left count) r u = r ≡ told.document e left count
 IsOf (next_fault f count) r u = (r ≡ told.faulty f) × (u ≡ count)
 IsOf next_none r u = r ≡ told.nothing
 
-split_loads : (c : ParserRemaining) (os gs : List Told) → c.events ≡ os ++ gs → AreOutside os → loads_of c ≡ loads gs c.ending nothing_loaded
+split_loads : (c : ParserRemaining) (os gs : List Told) → c.events ≡ os ++ gs → AreOutside os
+    → loads_of c ≡ loads gs c.ending nothing_loaded
 split_loads c os gs e h = ap (λ (xs : List Told). loads xs c.ending nothing_loaded) e ∙ outside_loads os gs c.ending nothing_loaded h
 
-split_unasked : (c : ParserRemaining) (os gs : List Told) → c.events ≡ os ++ gs → AreOutside os → unasked_of c ≡ unasked_at_refusal gs c.ending_unasked nothing_loaded
+split_unasked : (c : ParserRemaining) (os gs : List Told) → c.events ≡ os ++ gs → AreOutside os
+    → unasked_of c ≡ unasked_at_refusal gs c.ending_unasked nothing_loaded
 split_unasked c os gs e h = ap (λ (xs : List Told). unasked_at_refusal xs c.ending_unasked nothing_loaded) e ∙ outside_unasked os gs c.ending_unasked nothing_loaded h
 
 pub no_rest : (gs : List Told) → gs ++ [] ≡ gs
 no_rest [] = refl
 no_rest (g ∷ gs) = ap (λ (xs : List Told). g ∷ xs) (no_rest gs)
 
-none_loads : (c : ParserRemaining) (h : NoneNext c.events) → (loads_of c ≡ behind_all c.ending) × (unasked_of c ≡ c.ending_unasked)
+none_loads : (c : ParserRemaining) (h : NoneNext c.events)
+    → (loads_of c ≡ behind_all c.ending) × (unasked_of c ≡ c.ending_unasked)
 none_loads c h =
     let n = h.next in
     let e = front_right n.content h.told n.following n.more c.ending c.ending_unasked n.front h.right in
     let s = ap (λ (xs : List Told). n.outside ++ xs) (no_rest h.told) in
     (split_loads c n.outside h.told (n.split ∙ s) n.none ∙ e.0, split_unasked c n.outside h.told (n.split ∙ s) n.none ∙ e.1)
 
-pub next_is : (c : ParserRemaining) (n : NextLoad) → IsNextLoad c n → IsOf n (loads_of c) (unasked_of c)
+pub next_is : (c : ParserRemaining) (n : NextLoad) → IsNextLoad c n
+    → IsOf n (loads_of c) (unasked_of c)
 next_is c (next_document e left count) h =
     let n = h.next in
     split_loads c n.outside (n.told ++ left) n.split n.none
@@ -325,28 +366,36 @@ next_is c (next_fault f count) (inr h) =
     (e.0 ∙ ap behind_all h.1.0, e.1 ∙ sym h.1.1)
 next_is c next_none h = (none_loads c h.0).0 ∙ ap behind_all h.1
 
-pub load_is : (gs : List Told) (own : Option Fault) (behind : ℕ) (n : NextLoad) → IsLoadOf gs own behind n → IsOf n (loads gs own nothing_loaded) (unasked_at_refusal gs behind nothing_loaded)
+pub load_is : (gs : List Told) (own : Option Fault) (behind : ℕ) (n : NextLoad)
+    → IsLoadOf gs own behind n
+    → IsOf n (loads gs own nothing_loaded) (unasked_at_refusal gs behind nothing_loaded)
 load_is gs own behind n h = next_is (record { events = gs; ending = own; ending_unasked = behind; unasked = 0; held = 0; between = true; answered = no_fault }) n h
 
-gives_of : (n : NextLoad) (r : Loads) (u : ℕ) (d : Document) (old new : ParserRemaining) → IsOf n r u → LoadGives r d old new → GivesLoad n d old new
+gives_of : (n : NextLoad) (r : Loads) (u : ℕ) (d : Document) (old new : ParserRemaining)
+    → IsOf n r u → LoadGives r d old new → GivesLoad n d old new
 gives_of (next_document e left count) r u d old new p h = subst (λ (x : Loads). LoadGives x d old new) p h
 gives_of (next_fault f count) r u d old new p h = subst (λ (x : Loads). LoadGives x d old new) p.0 h
 gives_of next_none r u d old new p h = subst (λ (x : Loads). LoadGives x d old new) p h
 
-pub load_is_next : (old new : ParserRemaining) (d : Document) → LoadGives (loads_of old) d old new → LoadIsNext old d new
+pub load_is_next : (old new : ParserRemaining) (d : Document) → LoadGives (loads_of old) d old new
+    → LoadIsNext old d new
 load_is_next old new d h n k = gives_of n (loads_of old) (unasked_of old) d old new (next_is old n k) h
 
-refusal_of : (n : NextLoad) (r : Loads) (u m : ℕ) (f : Fault) → IsOf n r u → r ≡ told.faulty f → m ≡ u → IsRefusalOf n f m
+refusal_of : (n : NextLoad) (r : Loads) (u m : ℕ) (f : Fault) → IsOf n r u → r ≡ told.faulty f
+    → m ≡ u → IsRefusalOf n f m
 refusal_of (next_document e left count) r u m f p q v = let s : told.document e left count ≡ told.faulty f = sym p ∙ q in absurd (cc)
 refusal_of (next_fault g count) r u m f p q v = let s : told.faulty f ≡ told.faulty g = sym q ∙ p.0 in (cc, v ∙ p.1)
 refusal_of next_none r u m f p q v = let s : told.nothing ≡ told.faulty f = sym p ∙ q in absurd (cc)
 
-unasked_is : (n : NextLoad) (r : Loads) (u : ℕ) (old : ParserRemaining) → IsOf n r u → unasked_by r u (left_behind old.events old.unasked) ≡ load_unasked n old
+unasked_is : (n : NextLoad) (r : Loads) (u : ℕ) (old : ParserRemaining) → IsOf n r u
+    → unasked_by r u (left_behind old.events old.unasked) ≡ load_unasked n old
 unasked_is (next_document e left count) r u old p = ap (λ (x : Loads). unasked_by x u (left_behind old.events old.unasked)) p
 unasked_is (next_fault f count) r u old p = ap (λ (x : Loads). unasked_by x u (left_behind old.events old.unasked)) p.0 ∙ p.1
 unasked_is next_none r u old p = ap (λ (x : Loads). unasked_by x u (left_behind old.events old.unasked)) p
 
-pub refusal_is_next : (old new : ParserRemaining) (f : Fault) → LoadRefuses f old new → HasMore old.events old.ending → IsMemoryFault scan_layers f ⊎ (answer_unasked old ≤ new.unasked) → RefusalIsNext old f new
+pub refusal_is_next : (old new : ParserRemaining) (f : Fault) → LoadRefuses f old new
+    → HasMore old.events old.ending
+    → IsMemoryFault scan_layers f ⊎ (answer_unasked old ≤ new.unasked) → RefusalIsNext old f new
 refusal_is_next old new f h m a n k = record {
   more = m;
   asked = elim a [ inl s ↦ inl s | inr l ↦ inr (subst (λ (x : ℕ). x ≤ new.unasked) (unasked_is n (loads_of old) (unasked_of old) old (next_is old n k)) l) ];
@@ -362,27 +411,32 @@ pub record SomeLoad (own : Option Fault) (behind : ℕ) (gs : List Told) : Type 
   pub is : IsLoadOf gs own behind load
 
 -- the first of the loads
-pub next_load : (own : Option Fault) (behind : ℕ) (gs : List Told) → LoadsByContent own behind gs → SomeLoad own behind gs
+pub next_load : (own : Option Fault) (behind : ℕ) (gs : List Told) → LoadsByContent own behind gs
+    → SomeLoad own behind gs
 next_load own behind gs (one_more hs left e unasked h more) = record { load = next_document e left unasked; is = h }
 next_load own behind gs (next.refused hs f unasked h) = record { load = next_fault f unasked; is = h }
 next_load own behind gs (ended hs h) = record { load = next_none; is = h }
 
-gives_steps : (n : NextLoad) (r : Loads) (u : ℕ) (d : Document) (old new : ParserRemaining) → IsOf n r u → GivesLoad n d old new → LoadGives r d old new
+gives_steps : (n : NextLoad) (r : Loads) (u : ℕ) (d : Document) (old new : ParserRemaining)
+    → IsOf n r u → GivesLoad n d old new → LoadGives r d old new
 gives_steps (next_document e left count) r u d old new p h = subst (λ (x : Loads). LoadGives x d old new) (sym p) h
 gives_steps (next_fault f count) r u d old new p h = absurd h
 gives_steps next_none r u d old new p h = subst (λ (x : Loads). LoadGives x d old new) (sym p) h
 
-pub load_gives : (old new : ParserRemaining) (d : Document) → AreLoadsByContent old → LoadIsNext old d new → LoadGives (loads_of old) d old new
+pub load_gives : (old new : ParserRemaining) (d : Document) → AreLoadsByContent old
+    → LoadIsNext old d new → LoadGives (loads_of old) d old new
 load_gives old new d h k =
     let n = next_load old.ending old.ending_unasked old.events h in
     gives_steps n.load (loads_of old) (unasked_of old) d old new (next_is old n.load n.is) (k n.load n.is)
 
-refuses_steps : (n : NextLoad) (r : Loads) (u m : ℕ) (f : Fault) → IsOf n r u → IsRefusalOf n f m → (r ≡ told.faulty f) × (m ≡ u)
+refuses_steps : (n : NextLoad) (r : Loads) (u m : ℕ) (f : Fault) → IsOf n r u → IsRefusalOf n f m
+    → (r ≡ told.faulty f) × (m ≡ u)
 refuses_steps (next_document e left count) r u m f p h = absurd h
 refuses_steps (next_fault g count) r u m f p h = (p.0 ∙ ap told.faulty (sym h.0), h.1 ∙ sym p.1)
 refuses_steps next_none r u m f p h = absurd h
 
-pub load_refuses : (old new : ParserRemaining) (f : Fault) → AreLoadsByContent old → RefusalIsNext old f new → LoadRefuses f old new
+pub load_refuses : (old new : ParserRemaining) (f : Fault) → AreLoadsByContent old
+    → RefusalIsNext old f new → LoadRefuses f old new
 load_refuses old new f h k =
     let n = next_load old.ending old.ending_unasked old.events h in
     let r : RefusesNext n.load f old new = k n.load n.is in

@@ -47,16 +47,20 @@ abbrev pub PropsTop : List State → List Token → Type 0
 PropsTop (state.with_properties w p ∷ s) past = PropsOf p.anchor p.tag p.from past
 PropsTop _ past = Unit {0}
 
-pub ended : (anchor : Option (List ℕ)) (tag : Option Tag) (from to : yaml_mark_t) (past : List Token) (b : TokenBody) → PropsOf anchor tag from past
-    → joins (record { anchor = anchor; tag = tag; from = from; to = to }) (type_of b) ≡ false → ended_tag past b ≡ tag_in (record { anchor = anchor; tag = tag; from = from; to = to })
+pub ended : (anchor : Option (List ℕ)) (tag : Option Tag) (from to : yaml_mark_t)
+    (past : List Token) (b : TokenBody) → PropsOf anchor tag from past
+    → joins (record { anchor = anchor; tag = tag; from = from; to = to }) (type_of b) ≡ false
+    → ended_tag past b ≡ tag_in (record { anchor = anchor; tag = tag; from = from; to = to })
 ended (Some a) None from to past b h j = h.0 b
 ended None (Some t) from to past (token.anchor name) h j = cc
 ended None (Some t) from to past b h j = h.0 b
 ended (Some a) (Some t) from to past b h j = h b
 ended None None from to past b h j = absurd h
 
-pub joined : (anchor : Option (List ℕ)) (tag : Option Tag) (from to : yaml_mark_t) (past : List Token) (b : TokenBody) → PropsOf anchor tag from past
-    → joins (record { anchor = anchor; tag = tag; from = from; to = to }) (type_of b) ≡ true → ended_tag past b ≡ None
+pub joined : (anchor : Option (List ℕ)) (tag : Option Tag) (from to : yaml_mark_t)
+    (past : List Token) (b : TokenBody) → PropsOf anchor tag from past
+    → joins (record { anchor = anchor; tag = tag; from = from; to = to }) (type_of b) ≡ true
+    → ended_tag past b ≡ None
 joined (Some a) None from to past b h j = h.0 b
 joined None (Some t) from to past (token.anchor name) h j = h.0 (token.anchor name)
 joined None (Some t) from to past (token.tag handle suffix) h j = cc
@@ -72,19 +76,23 @@ no_tag_before : (past : List Token) → last_in past ≡ asking → tag_before_a
 no_tag_before [] e = refl
 no_tag_before (t ∷ past) e = no_tag t.body e
   where
-    no_tag : (b : TokenBody) → last_of b ≡ asking → tag_before_anchor (tok b t.start_mark t.end_mark ∷ past) ≡ None
+    no_tag : (b : TokenBody) → last_of b ≡ asking
+        → tag_before_anchor (tok b t.start_mark t.end_mark ∷ past) ≡ None
     no_tag (token.tag handle suffix) e = cc
     no_tag _ e = refl
 
-waits : (handle : List ℕ) (at : yaml_mark_t) (b : TokenBody) → unless_joined handle at b ≡ waiting (record { handle = handle; tag = at; node = at }) b
+waits : (handle : List ℕ) (at : yaml_mark_t) (b : TokenBody)
+    → unless_joined handle at b ≡ waiting (record { handle = handle; tag = at; node = at }) b
 waits handle at (token.anchor name) = refl
 waits handle at _ = refl
 
-no_anchor_before : (handle : List ℕ) (at : yaml_mark_t) (past : List Token) (b : TokenBody) → last_in past ≡ asking → tag_behind handle at past b ≡ unless_joined handle at b
+no_anchor_before : (handle : List ℕ) (at : yaml_mark_t) (past : List Token) (b : TokenBody)
+    → last_in past ≡ asking → tag_behind handle at past b ≡ unless_joined handle at b
 no_anchor_before handle at [] b e = refl
 no_anchor_before handle at (t ∷ past) b e = no_anchor t.body e
   where
-    no_anchor : (c : TokenBody) → last_of c ≡ asking → tag_behind handle at (tok c t.start_mark t.end_mark ∷ past) b ≡ unless_joined handle at b
+    no_anchor : (c : TokenBody) → last_of c ≡ asking
+        → tag_behind handle at (tok c t.start_mark t.end_mark ∷ past) b ≡ unless_joined handle at b
     no_anchor (token.anchor name) e = cc
     no_anchor _ e = refl
 
@@ -96,23 +104,30 @@ plain_props (state.with_properties w p ∷ s) past h = unlike h.0
     unlike e = cc
 plain_props (_ ∷ s) past h = tt
 
-content_props : (w : Wants) (p : Option Properties) (start end : yaml_mark_t) (b : TokenBody) (s : List State) (past : List Token) → Plain s → PropsTop ((content_taken w p start end b).above ++ s) past
+content_props : (w : Wants) (p : Option Properties) (start end : yaml_mark_t) (b : TokenBody)
+    (s : List State) (past : List Token) → Plain s
+    → PropsTop ((content_taken w p start end b).above ++ s) past
 content_props w p start end (token.scalar value style) s past h = plain_props s past h
 content_props (Block (Some side)) p start end token.block_entry s past h = tt
 content_props (Block None) p start end token.block_entry s past h = tt
 content_props Flow p start end token.block_entry s past h = tt
 content_props w p start end _ s past h = tt
 
-pub node_props : (w : Wants) (start end : yaml_mark_t) (b : TokenBody) (s : List State) (past : List Token) → Plain s → last_in past ≡ asking
+pub node_props : (w : Wants) (start end : yaml_mark_t) (b : TokenBody) (s : List State)
+    (past : List Token) → Plain s → last_in past ≡ asking
     → PropsTop ((node_taken w start end b).above ++ s) (tok b start end ∷ past)
 node_props w start end (token.alias name) s past h e = plain_props s (tok (token.alias name) start end ∷ past) h
 node_props w start end (token.anchor name) s past h e = (λ b. no_tag_before past e, λ handle suffix from to b. refl)
 node_props w start end (token.tag handle suffix) s past h e = (λ b. no_anchor_before handle start past b e ∙ waits handle start b, λ name from to b. refl)
 node_props w start end b s past h e = content_props w None start end b s (tok b start end ∷ past) h
 
-with_properties_props : (w : Wants) (anchor : Option (List ℕ)) (tag : Option Tag) (from to start end : yaml_mark_t) (b : TokenBody) (s : List State) (past : List Token)
-    → (joins (record { anchor = anchor; tag = tag; from = from; to = to }) (type_of b) || starts_content w (type_of b)) ≡ true → Plain s → PropsOf anchor tag from past
-    → PropsTop ((with_properties_taken w (record { anchor = anchor; tag = tag; from = from; to = to }) start end b).above ++ s) (tok b start end ∷ past)
+with_properties_props : (w : Wants) (anchor : Option (List ℕ)) (tag : Option Tag)
+    (from to start end : yaml_mark_t) (b : TokenBody) (s : List State) (past : List Token)
+    → (joins (record { anchor = anchor; tag = tag; from = from; to = to }) (type_of b)
+    || starts_content w (type_of b)) ≡ true → Plain s → PropsOf anchor tag from past
+    → PropsTop ((with_properties_taken w
+    (record { anchor = anchor; tag = tag; from = from; to = to }) start end b).above ++ s)
+    (tok b start end ∷ past)
 with_properties_props w None None from to start end b s past c h k = absurd k
 with_properties_props w None (Some t) from to start end (token.anchor name) s past c h k = k.1 name start end
 with_properties_props w (Some a) tag from to start end (token.anchor name) s past c h k = cc
@@ -125,11 +140,13 @@ taken_with_properties : (a : Bool) → (if a then Take else Leave) ≡ Take → 
 taken_with_properties true h = refl
 taken_with_properties false h = cc
 
-lone_plain : (bs : Brackets) (o : yaml_mark_t) (s : List State) → Plain s → Plain (lone_below bs (state.more bs o ∷ []) ++ s)
+lone_plain : (bs : Brackets) (o : yaml_mark_t) (s : List State) → Plain s
+    → Plain (lone_below bs (state.more bs o ∷ []) ++ s)
 lone_plain brackets.Sequence o s h = (refl, h)
 lone_plain brackets.Mapping o s h = (refl, (refl, h))
 
-items_props : (bs : Brackets) (o start end : yaml_mark_t) (b : TokenBody) (s : List State) (past : List Token) → Plain s → last_in past ≡ asking
+items_props : (bs : Brackets) (o start end : yaml_mark_t) (b : TokenBody) (s : List State)
+    (past : List Token) → Plain s → last_in past ≡ asking
     → PropsTop ((items_taken bs o start end b).above ++ s) (tok b start end ∷ past)
 items_props brackets.Sequence o start end token.key s past h e = tt
 items_props brackets.Mapping o start end token.key s past h e = tt
@@ -139,27 +156,34 @@ items_props bs o start end b s past h e =
     subst (λ (z : List State). PropsTop z (tok b start end ∷ past)) (sym (append_assoc (node_taken Flow start end b).above (lone_below bs (state.more bs o ∷ [])) s))
     (node_props Flow start end b (lone_below bs (state.more bs o ∷ []) ++ s) past (lone_plain bs o s h) e)
 
-documents_props : (from start end : yaml_mark_t) (b : TokenBody) (s : List State) (past : List Token) → Plain s → PropsTop ((documents_taken from start end b).above ++ s) past
+documents_props : (from start end : yaml_mark_t) (b : TokenBody) (s : List State)
+    (past : List Token) → Plain s → PropsTop ((documents_taken from start end b).above ++ s) past
 documents_props from start end token.stream_end s past h = plain_props s past h
 documents_props from start end _ s past h = tt
 
-stream_props : (start end : yaml_mark_t) (b : TokenBody) (s : List State) (past : List Token) → PropsTop ((stream_taken start end b).above ++ s) past
+stream_props : (start end : yaml_mark_t) (b : TokenBody) (s : List State) (past : List Token)
+    → PropsTop ((stream_taken start end b).above ++ s) past
 stream_props start end (token.stream_start e) s past = tt
 stream_props start end _ s past = tt
 
-entries_props : (o start end : yaml_mark_t) (b : TokenBody) (s : List State) (past : List Token) → Plain s → PropsTop ((entries_taken o start end b).above ++ s) past
+entries_props : (o start end : yaml_mark_t) (b : TokenBody) (s : List State) (past : List Token)
+    → Plain s → PropsTop ((entries_taken o start end b).above ++ s) past
 entries_props o start end token.block_entry s past h = tt
 entries_props o start end _ s past h = plain_props s past h
 
-pairs_props : (o start end : yaml_mark_t) (b : TokenBody) (s : List State) (past : List Token) → Plain s → PropsTop ((pairs_taken o start end b).above ++ s) past
+pairs_props : (o start end : yaml_mark_t) (b : TokenBody) (s : List State) (past : List Token)
+    → Plain s → PropsTop ((pairs_taken o start end b).above ++ s) past
 pairs_props o start end token.key s past h = tt
 pairs_props o start end _ s past h = plain_props s past h
 
-more_props : (bs : Brackets) (o start end : yaml_mark_t) (b : TokenBody) (s : List State) (past : List Token) → Plain s → PropsTop ((more_taken bs o start end b).above ++ s) past
+more_props : (bs : Brackets) (o start end : yaml_mark_t) (b : TokenBody) (s : List State)
+    (past : List Token) → Plain s → PropsTop ((more_taken bs o start end b).above ++ s) past
 more_props bs o start end token.flow_entry s past h = tt
 more_props bs o start end _ s past h = plain_props s past h
 
-pub taken_props : (x : State) (t : Token) (s : List State) (past : List Token) → choice_at x (type_of t.body) ≡ Take → Plain s → (told x ≡ asking → last_in past ≡ asking) → PropsTop (x ∷ s) past
+pub taken_props : (x : State) (t : Token) (s : List State) (past : List Token)
+    → choice_at x (type_of t.body) ≡ Take → Plain s → (told x ≡ asking → last_in past ≡ asking)
+    → PropsTop (x ∷ s) past
     → PropsTop ((taken_at x t).above ++ s) (t ∷ past)
 taken_props state.stream t s past c h e k = stream_props t.start_mark t.end_mark t.body s (t ∷ past)
 taken_props state.first t s past c h e k = documents_props t.start_mark t.start_mark t.end_mark t.body s (t ∷ past) h
@@ -180,14 +204,20 @@ taken_props state.lone t s past c h e k = tt
 
 -- ---- reading a node behind them
 
-pub props_read : (anchor : Option (List ℕ)) (tag : Option Tag) (from to : yaml_mark_t) (shape : Shape) (end : yaml_mark_t) (ts : List Token) (ds : Directives) (k : Directives → Done) → Agree ts ds
-    → then_read (settle (item_at (item.node anchor tag shape) from end) ds) k ≡ by_fault (tag_fault (tag_in (record { anchor = anchor; tag = tag; from = from; to = to })) ts) ds k
+pub props_read : (anchor : Option (List ℕ)) (tag : Option Tag) (from to : yaml_mark_t)
+    (shape : Shape) (end : yaml_mark_t) (ts : List Token) (ds : Directives) (k : Directives → Done)
+    → Agree ts ds
+    → then_read (settle (item_at (item.node anchor tag shape) from end) ds) k
+    ≡ by_fault (tag_fault (tag_in (record { anchor = anchor; tag = tag; from = from; to = to })) ts)
+    ds k
 props_read anchor None from to shape end ts ds k a = refl
 props_read anchor (Some t) from to shape end ts ds k a = by_handle t.handle
   where
     by_handle : (handle : List ℕ)
-        → then_read (settle (item_at (item.node anchor (Some (record { handle = handle; suffix = t.suffix; mark = t.mark })) shape) from end) ds) k
-        ≡ by_fault (tag_fault (Some (record { handle = handle; tag = t.mark; node = from })) ts) ds k
+        → then_read (settle (item_at (item.node anchor
+        (Some (record { handle = handle; suffix = t.suffix; mark = t.mark })) shape) from end) ds) k
+        ≡ by_fault (tag_fault (Some (record { handle = handle; tag = t.mark; node = from })) ts) ds
+        k
     by_handle [] = refl
     by_handle (c ∷ handle) =
         resolved_done (directive_for (c ∷ handle) ds.tags) (has_handle (c ∷ handle) ts) _ (c ∷ handle) t.suffix anchor shape from t.mark ds k (a.handles (c ∷ handle)) (prefix_known (c ∷ handle))
@@ -197,7 +227,8 @@ abbrev pub HasFault : Option RawEvent → Option Fault → Directives → Type 0
 HasFault None f ds = ⊥
 HasFault (Some i) f ds = (k : Directives → Done) → then_read (settle i ds) k ≡ by_fault f ds k
 
-pub content_read : (w : Wants) (p : Properties) (start end : yaml_mark_t) (b : TokenBody) (ts : List Token) (ds : Directives) → starts_content w (type_of b) ≡ true → Agree ts ds
+pub content_read : (w : Wants) (p : Properties) (start end : yaml_mark_t) (b : TokenBody)
+    (ts : List Token) (ds : Directives) → starts_content w (type_of b) ≡ true → Agree ts ds
     → HasFault (content_taken w (Some p) start end b).item (tag_fault (tag_in p) ts) ds
 content_read w p start end (token.scalar value style) ts ds c a = λ k. props_read p.anchor p.tag p.from p.to (item.scalar value style) end ts ds k a
 content_read w p start end token.flow_sequence_start ts ds c a = λ k. props_read p.anchor p.tag p.from p.to _ end ts ds k a

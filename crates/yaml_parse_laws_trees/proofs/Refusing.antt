@@ -32,35 +32,41 @@ Tells Take x gs at = Unit {0}
 Tells Leave x gs at = put x gs ≡ gs
 Tells Open x gs at = x ≡ state.first
 
-take_or : (b : Bool) (p : ParseProblem) (o : Option yaml_mark_t) (x : State) (gs : List Sign) (at : yaml_mark_t) → parser_fault p at (context_of o at) ≡ told_fault (told x) (put x gs) at
+take_or : (b : Bool) (p : ParseProblem) (o : Option yaml_mark_t) (x : State) (gs : List Sign)
+    (at : yaml_mark_t) → parser_fault p at (context_of o at) ≡ told_fault (told x) (put x gs) at
     → Tells (if b then Take else Refuse p o) x gs at
 take_or true p o x gs at h = tt
 take_or false p o x gs at h = h
 
-first_or : (a b : Bool) (p : ParseProblem) (gs : List Sign) (at : yaml_mark_t) → parser_fault p at at ≡ told_fault (told state.first) (put state.first gs) at
+first_or : (a b : Bool) (p : ParseProblem) (gs : List Sign) (at : yaml_mark_t)
+    → parser_fault p at at ≡ told_fault (told state.first) (put state.first gs) at
     → Tells (if a then Take else if b then Open else Refuse p None) state.first gs at
 first_or true b p gs at h = tt
 first_or false true p gs at h = refl
 first_or false false p gs at h = h
 
-leave_or : (a b : Bool) (p : ParseProblem) (x : State) (gs : List Sign) (at : yaml_mark_t) → put x gs ≡ gs → parser_fault p at at ≡ told_fault (told x) (put x gs) at
+leave_or : (a b : Bool) (p : ParseProblem) (x : State) (gs : List Sign) (at : yaml_mark_t)
+    → put x gs ≡ gs → parser_fault p at at ≡ told_fault (told x) (put x gs) at
     → Tells (if a then Leave else if b then Take else Refuse p None) x gs at
 leave_or true b p x gs at e h = e
 leave_or false true p x gs at e h = tt
 leave_or false false p x gs at e h = h
 
-take_or_leave : (b : Bool) (x : State) (gs : List Sign) (at : yaml_mark_t) → put x gs ≡ gs → Tells (if b then Take else Leave) x gs at
+take_or_leave : (b : Bool) (x : State) (gs : List Sign) (at : yaml_mark_t) → put x gs ≡ gs
+    → Tells (if b then Take else Leave) x gs at
 take_or_leave true x gs at e = tt
 take_or_leave false x gs at e = e
 
 -- ---- the texts
 
-no_node_told : (w : Wants) (gs : List Sign) (at : yaml_mark_t) → bracketed gs ≡ is_flow w → parser_fault (no_node w) at at ≡ wrong.no_node (bracketed gs) at
+no_node_told : (w : Wants) (gs : List Sign) (at : yaml_mark_t) → bracketed gs ≡ is_flow w
+    → parser_fault (no_node w) at at ≡ wrong.no_node (bracketed gs) at
 unfolding problem_text_of context_text_of context_place
 no_node_told Flow gs at h = ap (λ (b : Bool). wrong.no_node b at) (sym h)
 no_node_told (Block s) gs at h = ap (λ (b : Bool). wrong.no_node b at) (sym h)
 
-no_document_told : (gs : List Sign) (at : yaml_mark_t) → gs ≡ [] → parser_fault problem.NoDocumentStart at at ≡ stuck gs at
+no_document_told : (gs : List Sign) (at : yaml_mark_t) → gs ≡ []
+    → parser_fault problem.NoDocumentStart at at ≡ stuck gs at
 unfolding problem_text_of context_text_of context_place
 no_document_told gs at h = ap (λ (z : List Sign). stuck z at) (sym h)
 
@@ -68,31 +74,38 @@ no_stream_told : (at : yaml_mark_t) → parser_fault problem.NoStreamStart at at
 unfolding problem_text_of context_text_of context_place
 no_stream_told at = refl
 
-no_dash_told : (o at : yaml_mark_t) → parser_fault problem.NoDash at o ≡ wrong.no_part token.block_sequence_start o at
+no_dash_told : (o at : yaml_mark_t)
+    → parser_fault problem.NoDash at o ≡ wrong.no_part token.block_sequence_start o at
 unfolding problem_text_of context_text_of context_place
 no_dash_told o at = refl
 
-no_key_told : (o at : yaml_mark_t) → parser_fault problem.NoKey at o ≡ wrong.no_part token.block_mapping_start o at
+no_key_told : (o at : yaml_mark_t)
+    → parser_fault problem.NoKey at o ≡ wrong.no_part token.block_mapping_start o at
 unfolding problem_text_of context_text_of context_place
 no_key_told o at = refl
 
-no_end_told : (b : Brackets) (o at : yaml_mark_t) (gs : List Sign) → parser_fault (no_end b) at o ≡ stuck (put (state.more b o) gs) at
+no_end_told : (b : Brackets) (o at : yaml_mark_t) (gs : List Sign)
+    → parser_fault (no_end b) at o ≡ stuck (put (state.more b o) gs) at
 unfolding problem_text_of context_text_of context_place
 no_end_told brackets.Sequence o at gs = refl
 no_end_told brackets.Mapping o at gs = refl
 
-inside_told : (b : Brackets) (o at : yaml_mark_t) (gs : List Sign) → parser_fault problem.NoFlowNode at at ≡ wrong.no_node (bracketed (put (state.items b o) gs)) at
+inside_told : (b : Brackets) (o at : yaml_mark_t) (gs : List Sign)
+    → parser_fault problem.NoFlowNode at at
+    ≡ wrong.no_node (bracketed (put (state.items b o) gs)) at
 unfolding problem_text_of context_text_of context_place
 inside_told brackets.Sequence o at gs = refl
 inside_told brackets.Mapping o at gs = refl
 
-first_told : (gs : List Sign) (at : yaml_mark_t) → gs ≡ [] → parser_fault problem.NoBlockNode at at ≡ wrong.no_node (bracketed gs) at
+first_told : (gs : List Sign) (at : yaml_mark_t) → gs ≡ []
+    → parser_fault problem.NoBlockNode at at ≡ wrong.no_node (bracketed gs) at
 unfolding problem_text_of context_text_of context_place
 first_told gs at h = ap (λ (z : List Sign). wrong.no_node (bracketed z) at) (sym h)
 
 -- ---- each state
 
-pub tells : (x : State) (k : yaml_token_type_t) (gs : List Sign) (at : yaml_mark_t) → Placed x gs → Tells (choice_at x k) x gs at
+pub tells : (x : State) (k : yaml_token_type_t) (gs : List Sign) (at : yaml_mark_t) → Placed x gs
+    → Tells (choice_at x k) x gs at
 tells state.stream kind.YAML_STREAM_START_TOKEN gs at h = tt
 tells state.stream _ gs at h = no_stream_told at
 tells state.first k gs at h = first_or (parts_documents k) (starts_node (Block None) k) problem.NoBlockNode gs at (first_told gs at h)
@@ -129,11 +142,14 @@ abbrev pub StopsWith : Fault → Fed → Type 0
 StopsWith e (stop is f) = f ≡ e
 StopsWith e (go is s) = Unit {0}
 
-stops_with : (e : Fault) (i : RawEvent) (fed : Fed) → StopsWith e fed → StopsWith e (with_item i fed)
+stops_with : (e : Fault) (i : RawEvent) (fed : Fed) → StopsWith e fed
+    → StopsWith e (with_item i fed)
 stops_with e i (stop is f) h = h
 stops_with e i (go is s) h = h
 
-plain_turn : (c : Choice) (x : State) (t : Token) (s : List State) (fed : Fed) → Tells c x (open_in s) t.start_mark → told x ≡ other → StopsWith (stuck (open_in s) t.start_mark) fed
+plain_turn : (c : Choice) (x : State) (t : Token) (s : List State) (fed : Fed)
+    → Tells c x (open_in s) t.start_mark → told x ≡ other
+    → StopsWith (stuck (open_in s) t.start_mark) fed
     → StopsWith (stuck (open_in (x ∷ s)) t.start_mark) (turn c x t s fed)
 plain_turn (Refuse p o) x t s fed h e k = h ∙ ap (λ (l : Last). told_fault l (open_in (x ∷ s)) t.start_mark) e
 plain_turn Take x t s fed h e k = tt
@@ -142,7 +158,8 @@ plain_turn Leave x t s fed h e k =
     (stops_with (stuck (open_in s) t.start_mark) (left_at x t.start_mark) fed k)
 plain_turn Open x t s fed h e k = tt
 
-pub plain_stops : (s : List State) (t : Token) → Plain s → Nested s → StopsWith (stuck (open_in s) t.start_mark) (feed s t)
+pub plain_stops : (s : List State) (t : Token) → Plain s → Nested s
+    → StopsWith (stuck (open_in s) t.start_mark) (feed s t)
 unfolding feed
 plain_stops [] t p n = tt
 plain_stops (x ∷ s) t p n =
@@ -155,26 +172,33 @@ abbrev LeavesWell : Choice → State → Type 0 → Type 0
 LeavesWell Leave x goes = (told x ≡ asking → goes) × (told x ≡ nothing → ⊥)
 LeavesWell _ x goes = Unit {0}
 
-well_take_or : (b : Bool) (p : ParseProblem) (o : Option yaml_mark_t) (x : State) (goes : Type 0) → LeavesWell (if b then Take else Refuse p o) x goes
+well_take_or : (b : Bool) (p : ParseProblem) (o : Option yaml_mark_t) (x : State) (goes : Type 0)
+    → LeavesWell (if b then Take else Refuse p o) x goes
 well_take_or true p o x goes = tt
 well_take_or false p o x goes = tt
 
-well_first : (a b : Bool) (p : ParseProblem) (x : State) (goes : Type 0) → LeavesWell (if a then Take else if b then Open else Refuse p None) x goes
+well_first : (a b : Bool) (p : ParseProblem) (x : State) (goes : Type 0)
+    → LeavesWell (if a then Take else if b then Open else Refuse p None) x goes
 well_first true b p x goes = tt
 well_first false true p x goes = tt
 well_first false false p x goes = tt
 
-well_optional : (a b : Bool) (p : ParseProblem) (place : Site) (before : yaml_mark_t) (goes : Type 0) → (a ≡ true → goes)
-    → LeavesWell (if a then Leave else if b then Take else Refuse p None) (state.optional place before) goes
+well_optional : (a b : Bool) (p : ParseProblem) (place : Site) (before : yaml_mark_t)
+    (goes : Type 0) → (a ≡ true → goes)
+    → LeavesWell (if a then Leave else if b then Take else Refuse p None)
+    (state.optional place before) goes
 well_optional true b p place before goes h = (λ e. h refl, λ e. cc)
 well_optional false true p place before goes h = tt
 well_optional false false p place before goes h = tt
 
-well_take_or_leave : (b : Bool) (w : Wants) (p : Properties) (goes : Type 0) → LeavesWell (if b then Take else Leave) (state.with_properties w p) goes
+well_take_or_leave : (b : Bool) (w : Wants) (p : Properties) (goes : Type 0)
+    → LeavesWell (if b then Take else Leave) (state.with_properties w p) goes
 well_take_or_leave true w p goes = tt
 well_take_or_leave false w p goes = (λ e. cc, λ e. cc)
 
-leaves_well : (x : State) (k : yaml_token_type_t) (goes : Type 0) → ((place : Site) (before : yaml_mark_t) → x ≡ state.optional place before → follows place k ≡ true → goes) → LeavesWell (choice_at x k) x goes
+leaves_well : (x : State) (k : yaml_token_type_t) (goes : Type 0)
+    → ((place : Site) (before : yaml_mark_t) → x ≡ state.optional place before → follows place k
+    ≡ true → goes) → LeavesWell (choice_at x k) x goes
 leaves_well state.stream kind.YAML_STREAM_START_TOKEN goes h = tt
 leaves_well state.stream _ goes h = tt
 leaves_well state.first k goes h = well_first (parts_documents k) (starts_node (Block None) k) problem.NoBlockNode state.first goes
@@ -203,21 +227,26 @@ leaves_well (state.more b o) k goes h = well_take_or (closes b k) (no_end b) (So
 leaves_well state.pair_end k goes h = (λ e. cc, λ e. cc)
 leaves_well state.lone k goes h = (λ e. cc, λ e. cc)
 
-fitting : (x : State) (s : List State) (t : Token) → Stood x s → (place : Site) (before : yaml_mark_t) → x ≡ state.optional place before → follows place (type_of t.body) ≡ true → Goes (feed s t)
+fitting : (x : State) (s : List State) (t : Token) → Stood x s
+    → (place : Site) (before : yaml_mark_t) → x ≡ state.optional place before
+    → follows place (type_of t.body) ≡ true → Goes (feed s t)
 fitting x s t h place before e f = let k : Stood (state.optional place before) s = subst (λ (y : State). Stood y s) e h in k.0 t f
 
 going_stops : (e : Fault) (fed : Fed) → Goes fed → StopsWith e fed
 going_stops e (stop is f) h = absurd h
 going_stops e (go is s) h = tt
 
-passed_on : (l : Last) (gs : List Sign) (at : yaml_mark_t) (fed : Fed) → (l ≡ asking → Goes fed) → (l ≡ nothing → ⊥) → StopsWith (stuck gs at) fed → StopsWith (told_fault l gs at) fed
+passed_on : (l : Last) (gs : List Sign) (at : yaml_mark_t) (fed : Fed) → (l ≡ asking → Goes fed)
+    → (l ≡ nothing → ⊥) → StopsWith (stuck gs at) fed → StopsWith (told_fault l gs at) fed
 passed_on nothing gs at fed a b h = absurd (b refl)
 passed_on asking gs at fed a b h = going_stops (told_fault asking gs at) fed (a refl)
 passed_on property gs at fed a b h = h
 passed_on directive gs at fed a b h = h
 passed_on other gs at fed a b h = h
 
-top_turn : (c : Choice) (x : State) (t : Token) (s : List State) (fed : Fed) → Tells c x (open_in s) t.start_mark → LeavesWell c x (Goes fed) → StopsWith (stuck (open_in s) t.start_mark) fed
+top_turn : (c : Choice) (x : State) (t : Token) (s : List State) (fed : Fed)
+    → Tells c x (open_in s) t.start_mark → LeavesWell c x (Goes fed)
+    → StopsWith (stuck (open_in s) t.start_mark) fed
     → StopsWith (told_fault (told x) (open_in (x ∷ s)) t.start_mark) (turn c x t s fed)
 top_turn (Refuse p o) x t s fed h w k = h
 top_turn Take x t s fed h w k = tt
@@ -227,7 +256,8 @@ top_turn Leave x t s fed h w k =
 top_turn Open x t s fed h w k = tt
 
 -- A stack that refuses a token tells what its topmost state does.
-pub top_stops : (x : State) (s : List State) (t : Token) → Plain s → Nested (x ∷ s) → Stood x s → StopsWith (told_fault (told x) (open_in (x ∷ s)) t.start_mark) (feed (x ∷ s) t)
+pub top_stops : (x : State) (s : List State) (t : Token) → Plain s → Nested (x ∷ s) → Stood x s
+    → StopsWith (told_fault (told x) (open_in (x ∷ s)) t.start_mark) (feed (x ∷ s) t)
 unfolding feed
 top_stops x s t p n a =
     top_turn (choice_at x (type_of t.body)) x t s (feed s t) (tells x (type_of t.body) (open_in s) t.start_mark n.0)

@@ -29,14 +29,18 @@ all_hold (r ∷ rs) h = (subst (λ (z : Option Fault). FaultOfLoading r.tokens r
 unknown : map.get nothing_loaded.anchors (codes "b") ≡ None
 unknown = map.get-empty (slice_cmp nat_cmp) (codes "b")
 
-first_known : map.get (map.insert nothing_loaded.anchors (codes "b") (pos 1)) (codes "b") ≡ Some (pos 1)
+first_known : map.get (map.insert nothing_loaded.anchors (codes "b") (pos 1)) (codes "b")
+    ≡ Some (pos 1)
 first_known = map.get-insert nat_list_cmp_total nothing_loaded.anchors (codes "b") (pos 1) (codes "b")
 
-not_told : (at : yaml_mark_t) (l : Loading) (k : Loading → Option Fault) → fault_on (aliased (map.get nothing_loaded.anchors (codes "b")) at l) k ≡ Some (undefined_alias at)
+not_told : (at : yaml_mark_t) (l : Loading) (k : Loading → Option Fault)
+    → fault_on (aliased (map.get nothing_loaded.anchors (codes "b")) at l) k
+    ≡ Some (undefined_alias at)
 not_told at l k = ap (λ (o : Option ℤ). fault_on (aliased o at l) k) unknown
 
 goes : (at : yaml_mark_t) (l : Loading) (k : Loading → Option Fault)
-    → fault_on (aliased (map.get (map.insert nothing_loaded.anchors (codes "b") (pos 1)) (codes "b")) at l) k ≡ k (record l { levels = attach (pos 1) l.levels })
+    → fault_on (aliased (map.get (map.insert nothing_loaded.anchors (codes "b") (pos 1))
+    (codes "b")) at l) k ≡ k (record l { levels = attach (pos 1) l.levels })
 goes at l k = ap (λ (o : Option ℤ). fault_on (aliased o at l) k) first_known
 
 aliases_load : AllLoad alias_rows

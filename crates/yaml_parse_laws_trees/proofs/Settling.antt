@@ -42,7 +42,8 @@ abbrev pub Quiet : Option RawEvent → Type 0
 Quiet None = Unit {0}
 Quiet (Some i) = (ds : Directives) (k : Directives → Done) → then_read (settle i ds) k ≡ k ds
 
-content_quiet : (w : Wants) (start end : yaml_mark_t) (b : TokenBody) → Quiet (content_taken w None start end b).item
+content_quiet : (w : Wants) (start end : yaml_mark_t) (b : TokenBody)
+    → Quiet (content_taken w None start end b).item
 content_quiet w start end (token.scalar value style) = λ ds k. refl
 content_quiet w start end token.flow_sequence_start = λ ds k. refl
 content_quiet w start end token.flow_mapping_start = λ ds k. refl
@@ -53,13 +54,15 @@ content_quiet (Block None) start end token.block_entry = tt
 content_quiet Flow start end token.block_entry = tt
 content_quiet w start end _ = tt
 
-pub node_quiet : (w : Wants) (start end : yaml_mark_t) (b : TokenBody) → Quiet (node_taken w start end b).item
+pub node_quiet : (w : Wants) (start end : yaml_mark_t) (b : TokenBody)
+    → Quiet (node_taken w start end b).item
 node_quiet w start end (token.alias name) = λ ds k. refl
 node_quiet w start end (token.anchor name) = tt
 node_quiet w start end (token.tag handle suffix) = tt
 node_quiet w start end b = content_quiet w start end b
 
-items_quiet : (bs : Brackets) (o start end : yaml_mark_t) (b : TokenBody) → Quiet (items_taken bs o start end b).item
+items_quiet : (bs : Brackets) (o start end : yaml_mark_t) (b : TokenBody)
+    → Quiet (items_taken bs o start end b).item
 items_quiet brackets.Sequence o start end token.key = λ ds k. refl
 items_quiet brackets.Mapping o start end token.key = tt
 items_quiet brackets.Sequence o start end token.flow_sequence_end = λ ds k. refl
@@ -68,12 +71,14 @@ items_quiet brackets.Sequence o start end token.flow_mapping_end = λ ds k. refl
 items_quiet brackets.Mapping o start end token.flow_mapping_end = λ ds k. refl
 items_quiet bs o start end b = node_quiet Flow start end b
 
-more_quiet : (bs : Brackets) (o start end : yaml_mark_t) (b : TokenBody) → Quiet (more_taken bs o start end b).item
+more_quiet : (bs : Brackets) (o start end : yaml_mark_t) (b : TokenBody)
+    → Quiet (more_taken bs o start end b).item
 more_quiet bs o start end token.flow_entry = tt
 more_quiet brackets.Sequence o start end _ = λ ds k. refl
 more_quiet brackets.Mapping o start end _ = λ ds k. refl
 
-entries_quiet : (o start end : yaml_mark_t) (b : TokenBody) → Quiet (entries_taken o start end b).item
+entries_quiet : (o start end : yaml_mark_t) (b : TokenBody)
+    → Quiet (entries_taken o start end b).item
 entries_quiet o start end token.block_entry = tt
 entries_quiet o start end _ = λ ds k. refl
 
@@ -130,21 +135,31 @@ abbrev pub Behind : Option Fault → List Token → Done → Type 0
 Behind fault ts (bad e) = fault ≡ Some e
 Behind fault ts (fine ds) = (fault ≡ None) × Agree ts ds
 
-version_done : (v : Option yaml_version_directive_t) (tags : List TagDirective) (known : Bool) (major minor : ℤ) (start end : yaml_mark_t) (ts : List Token)
+version_done : (v : Option yaml_version_directive_t) (tags : List TagDirective) (known : Bool)
+    (major minor : ℤ) (start end : yaml_mark_t) (ts : List Token)
     → is_known_version major minor ≡ known → Agree ts (record { version = v; tags = tags })
-    → Behind (version_fault (has_version ts) known start) (record { body = token.version_directive major minor; start_mark = start; end_mark = end } ∷ ts)
+    → Behind (version_fault (has_version ts) known start)
+    (record { body = token.version_directive major minor; start_mark = start; end_mark = end } ∷ ts)
     (then_read (with_version v tags major minor start) (λ d. fine d))
 unfolding problem_text_of context_text_of context_place
 version_done (Some v) tags known major minor start end ts k a = ap (λ (b : Bool). version_fault b known start) (sym a.version)
 version_done None tags true major minor start end ts k a = rw k (ap (λ (b : Bool). version_fault b true start) (sym a.version), record { version = refl; handles = a.handles })
 version_done None tags false major minor start end ts k a = rw k (ap (λ (b : Bool). version_fault b false start) (sym a.version))
 
-pub version_read : (ds : Directives) (major minor : ℤ) (start end : yaml_mark_t) (past : List Token) → Agree (directives_before past) ds
-    → Behind (directive_fault past (token.version_directive major minor) start) (directives_before (record { body = token.version_directive major minor; start_mark = start; end_mark = end } ∷ past))
+pub version_read : (ds : Directives) (major minor : ℤ) (start end : yaml_mark_t) (past : List Token)
+    → Agree (directives_before past) ds
+    → Behind (directive_fault past (token.version_directive major minor) start)
+    (directives_before (record {
+      body = token.version_directive major minor;
+      start_mark = start;
+      end_mark = end;
+    } ∷ past))
     (read_all (item_at (item.version_directive major minor) start end ∷ []) ds)
 version_read ds major minor start end past a = version_done ds.version ds.tags (is_version_1 major minor) major minor start end (directives_before past) refl a
 
-appended : (h : List ℕ) (tags : List TagDirective) (d : TagDirective) → is_some (directive_for h (tags ++ d ∷ [])) ≡ (bytes_eq d.handle h || is_some (directive_for h tags))
+appended : (h : List ℕ) (tags : List TagDirective) (d : TagDirective)
+    → is_some (directive_for h (tags ++ d ∷ []))
+    ≡ (bytes_eq d.handle h || is_some (directive_for h tags))
 unfolding directive_for
 appended h [] d = one (bytes_eq d.handle h)
   where
@@ -153,13 +168,16 @@ appended h [] d = one (bytes_eq d.handle h)
     one false = refl
 appended h (c ∷ tags) d = two (bytes_eq c.handle h) (bytes_eq d.handle h) (directive_for h (tags ++ d ∷ [])) (directive_for h tags) (appended h tags d)
   where
-    two : (a b : Bool) (x y : Option (List ℕ)) → is_some x ≡ (b || is_some y) → is_some (if a then Some c.prefix else x) ≡ (b || is_some (if a then Some c.prefix else y))
+    two : (a b : Bool) (x y : Option (List ℕ)) → is_some x ≡ (b || is_some y)
+        → is_some (if a then Some c.prefix else x) ≡ (b || is_some (if a then Some c.prefix else y))
     two true true x y e = refl
     two true false x y e = refl
     two false b x y e = e
 
-handle_done : (o : Option (List ℕ)) (ds : Directives) (handle prefix : List ℕ) (start end : yaml_mark_t) (ts : List Token) → is_some o ≡ has_handle handle ts → Agree ts ds
-    → Behind (handle_twice (has_handle handle ts) start) (record { body = token.tag_directive handle prefix; start_mark = start; end_mark = end } ∷ ts)
+handle_done : (o : Option (List ℕ)) (ds : Directives) (handle prefix : List ℕ)
+    (start end : yaml_mark_t) (ts : List Token) → is_some o ≡ has_handle handle ts → Agree ts ds
+    → Behind (handle_twice (has_handle handle ts) start)
+    (record { body = token.tag_directive handle prefix; start_mark = start; end_mark = end } ∷ ts)
     (then_read (with_tag o ds handle prefix start) (λ d. fine d))
 unfolding problem_text_of context_text_of context_place
 handle_done (Some x) ds handle prefix start end ts e a = ap (λ (b : Bool). handle_twice b start) (sym e)
@@ -171,8 +189,14 @@ handle_done None ds handle prefix start end ts e a = (
   },
 )
 
-pub handle_read : (ds : Directives) (handle prefix : List ℕ) (start end : yaml_mark_t) (past : List Token) → Agree (directives_before past) ds
-    → Behind (directive_fault past (token.tag_directive handle prefix) start) (directives_before (record { body = token.tag_directive handle prefix; start_mark = start; end_mark = end } ∷ past))
+pub handle_read : (ds : Directives) (handle prefix : List ℕ) (start end : yaml_mark_t)
+    (past : List Token) → Agree (directives_before past) ds
+    → Behind (directive_fault past (token.tag_directive handle prefix) start)
+    (directives_before (record {
+      body = token.tag_directive handle prefix;
+      start_mark = start;
+      end_mark = end;
+    } ∷ past))
     (read_all (item_at (item.tag_directive handle prefix) start end ∷ []) ds)
 handle_read ds handle prefix start end past a = handle_done (directive_for handle ds.tags) ds handle prefix start end (directives_before past) (a.handles handle) a
 
@@ -191,17 +215,24 @@ abbrev pub by_fault : Option Fault → Directives → (Directives → Done) → 
 by_fault None ds k = k ds
 by_fault (Some e) ds k = bad e
 
-pub prefix_known : (handle : List ℕ) → is_some (default_prefix handle) ≡ (bytes_eq handle (codes "!") || bytes_eq handle (codes "!!"))
+pub prefix_known : (handle : List ℕ)
+    → is_some (default_prefix handle)
+    ≡ (bytes_eq handle (codes "!") || bytes_eq handle (codes "!!"))
 prefix_known handle = known (bytes_eq handle (codes "!")) (bytes_eq handle (codes "!!"))
   where
-    known : (a b : Bool) → is_some (if a then Some (codes "!") else if b then Some (codes "tag:yaml.org,2002:") else None) ≡ (a || b)
+    known : (a b : Bool)
+        → is_some (if a then Some (codes "!") else if b then Some (codes "tag:yaml.org,2002:") else
+        None) ≡ (a || b)
     known true b = refl
     known false true = refl
     known false false = refl
 
-pub resolved_done : (o : Option (List ℕ)) (a b : Bool) (handle suffix : List ℕ) (anchor : Option (List ℕ)) (shape : Shape) (from at : yaml_mark_t) (ds : Directives) (k : Directives → Done)
+pub resolved_done : (o : Option (List ℕ)) (a b : Bool) (handle suffix : List ℕ)
+    (anchor : Option (List ℕ)) (shape : Shape) (from at : yaml_mark_t) (ds : Directives)
+    (k : Directives → Done)
     → is_some o ≡ a → is_some (default_prefix handle) ≡ b
-    → then_read (with_resolved (option_map (λ (prefix : List ℕ). prefix ++ suffix) (or_default o handle)) anchor shape from at ds) k
+    → then_read (with_resolved (option_map (λ (prefix : List ℕ). prefix ++ suffix)
+    (or_default o handle)) anchor shape from at ds) k
     ≡ by_fault (undefined_handle (a || b) (record { handle = handle; tag = at; node = from })) ds k
 unfolding problem_text_of context_text_of context_place
 resolved_done (Some x) true b handle suffix anchor shape from at ds k p q = refl
@@ -210,7 +241,9 @@ resolved_done None true b handle suffix anchor shape from at ds k p q = cc
 resolved_done None false b handle suffix anchor shape from at ds k p q = defaulted (default_prefix handle) b q
   where
     defaulted : (d : Option (List ℕ)) (b : Bool) → is_some d ≡ b
-        → then_read (with_resolved (option_map (λ (prefix : List ℕ). prefix ++ suffix) d) anchor shape from at ds) k ≡ by_fault (undefined_handle b (record { handle = handle; tag = at; node = from })) ds k
+        → then_read (with_resolved (option_map (λ (prefix : List ℕ). prefix ++ suffix) d) anchor
+        shape from at ds) k ≡ by_fault (undefined_handle b
+        (record { handle = handle; tag = at; node = from })) ds k
     defaulted None true e = cc
     defaulted None false e = refl
     defaulted (Some x) true e = refl

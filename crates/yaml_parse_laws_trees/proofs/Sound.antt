@@ -34,26 +34,35 @@ abbrev pub FedLeft : (List Token → Type 0) → List State → Token → Fed �
 FedLeft P s t (stop is f) = Unit {0}
 FedLeft P s t (go is s') = MayPass P s' → (ts : List Token) → Over s' P ts → Over s P (t ∷ ts)
 
-fed_with : (P : List Token → Type 0) (s : List State) (t : Token) (i : RawEvent) (fed : Fed) → FedLeft P s t fed → FedLeft P s t (with_item i fed)
+fed_with : (P : List Token → Type 0) (s : List State) (t : Token) (i : RawEvent) (fed : Fed)
+    → FedLeft P s t fed → FedLeft P s t (with_item i fed)
 fed_with P s t i (stop is f) h = tt
 fed_with P s t i (go is s') h = h
 
-fed_taken : (P : List Token → Type 0) (x : State) (i : Option RawEvent) (above s : List State) (t : Token)
-    → ((ts : List Token) → Over above (Over s P) ts → Left x (Over s P) (t ∷ ts)) → FedLeft P (x ∷ s) t (given_by (record { item = i; above = above }) s)
+fed_taken : (P : List Token → Type 0) (x : State) (i : Option RawEvent) (above s : List State)
+    (t : Token)
+    → ((ts : List Token) → Over above (Over s P) ts → Left x (Over s P) (t ∷ ts))
+    → FedLeft P (x ∷ s) t (given_by (record { item = i; above = above }) s)
 fed_taken P x None above s t h = λ m ts k. h ts (subst (λ (Q : List Token → Type 0). Q ts) (over_both above s P) k)
 fed_taken P x (Some i) above s t h = λ m ts k. h ts (subst (λ (Q : List Token → Type 0). Q ts) (over_both above s P) k)
 
-fed_left : (P : List Token → Type 0) (x : State) (s : List State) (t : Token) (fed : Fed) → choice_at x (type_of t.body) ≡ Leave → FedLeft P s t fed → FedLeft P (x ∷ s) t fed
+fed_left : (P : List Token → Type 0) (x : State) (s : List State) (t : Token) (fed : Fed)
+    → choice_at x (type_of t.body) ≡ Leave → FedLeft P s t fed → FedLeft P (x ∷ s) t fed
 fed_left P x s t (stop is f) c h = tt
 fed_left P x s t (go is s') c h = λ m ts k. leaving x (type_of t.body) c (Over s P) (t ∷ ts) (h m ts k)
 
-fed_opened : (P : List Token → Type 0) (x : State) (s : List State) (t : Token) (i : Option RawEvent) (above : List State)
-    → ((ts : List Token) → Over above (Over (state.document_end ∷ state.documents ∷ []) (Over s P)) ts → Left x (Over s P) (t ∷ ts))
-    → FedLeft P (x ∷ s) t (given_by (record { item = i; above = above }) (state.document_end ∷ state.documents ∷ s))
+fed_opened : (P : List Token → Type 0) (x : State) (s : List State) (t : Token)
+    (i : Option RawEvent) (above : List State)
+    → ((ts : List Token) → Over above (Over (state.document_end ∷ state.documents ∷ []) (Over s P))
+    ts → Left x (Over s P) (t ∷ ts))
+    → FedLeft P (x ∷ s) t (given_by (record { item = i; above = above })
+    (state.document_end ∷ state.documents ∷ s))
 fed_opened P x s t None above h = λ m ts k. h ts (subst (λ (Q : List Token → Type 0). Q ts) (over_both above (state.document_end ∷ state.documents ∷ s) P) k)
 fed_opened P x s t (Some i) above h = λ m ts k. h ts (subst (λ (Q : List Token → Type 0). Q ts) (over_both above (state.document_end ∷ state.documents ∷ s) P) k)
 
-turn_left : (P : List Token → Type 0) (c : Choice) (x : State) (t : Token) (s : List State) (below : Fed) → choice_at x (type_of t.body) ≡ c → FedLeft P s t below → FedLeft P (x ∷ s) t (turn c x t s below)
+turn_left : (P : List Token → Type 0) (c : Choice) (x : State) (t : Token) (s : List State)
+    (below : Fed) → choice_at x (type_of t.body) ≡ c → FedLeft P s t below
+    → FedLeft P (x ∷ s) t (turn c x t s below)
 turn_left P (Refuse p o) x t s below e h = tt
 turn_left P Take x t s below e h = fed_taken P x (taken_at x t).item (taken_at x t).above s t (λ ts k. taking x t e (Over s P) ts k)
 turn_left P Leave x t s below e h = fed_with P (x ∷ s) t (left_at x t.start_mark) below (fed_left P x s t below e h)
@@ -74,11 +83,13 @@ abbrev EndLeft : (List Token → Type 0) → List State → Fed → Type 0
 EndLeft P s (stop is f) = Unit {0}
 EndLeft P s (go is s') = Over s P []
 
-end_with : (P : List Token → Type 0) (s : List State) (i : RawEvent) (fed : Fed) → EndLeft P s fed → EndLeft P s (with_item i fed)
+end_with : (P : List Token → Type 0) (s : List State) (i : RawEvent) (fed : Fed) → EndLeft P s fed
+    → EndLeft P s (with_item i fed)
 end_with P s i (stop is f) h = tt
 end_with P s i (go is s') h = h
 
-end_left : (P : List Token → Type 0) (x : State) (s : List State) (fed : Fed) → choice_at x kind.YAML_NO_TOKEN ≡ Leave → EndLeft P s fed → EndLeft P (x ∷ s) fed
+end_left : (P : List Token → Type 0) (x : State) (s : List State) (fed : Fed)
+    → choice_at x kind.YAML_NO_TOKEN ≡ Leave → EndLeft P s fed → EndLeft P (x ∷ s) fed
 end_left P x s (stop is f) c h = tt
 end_left P x s (go is s') c h = leaving x kind.YAML_NO_TOKEN c (Over s P) [] h
 
@@ -88,7 +99,9 @@ none_opens x h = unlike (opens_node x kind.YAML_NO_TOKEN h)
     unlike : false ≡ true → ⊥
     unlike e = cc
 
-turn_ends : (P : List Token → Type 0) (c : Choice) (x : State) (s : List State) (below : Fed) → choice_at x kind.YAML_NO_TOKEN ≡ c → EndLeft P s below → EndLeft P (x ∷ s) (turn c x no_token s below)
+turn_ends : (P : List Token → Type 0) (c : Choice) (x : State) (s : List State) (below : Fed)
+    → choice_at x kind.YAML_NO_TOKEN ≡ c → EndLeft P s below
+    → EndLeft P (x ∷ s) (turn c x no_token s below)
 turn_ends P (Refuse p o) x s below e h = tt
 turn_ends P Take x s below e h = absurd (takes_a_token x e)
 turn_ends P Leave x s below e h = end_with P (x ∷ s) (left_at x no_token.start_mark) below (end_left P x s below e h)
@@ -112,16 +125,20 @@ source_ended : (s : List State) (f : Fault) → (ending_at s f).ending ≡ None 
 source_ended [] f h = tt
 source_ended (x ∷ s) f h = cc
 
-ended : (s : List State) (fed : Fed) → EndLeft Any s fed → (carry 0 fed (λ _. finished)).ending ≡ None → Over s Any []
+ended : (s : List State) (fed : Fed) → EndLeft Any s fed
+    → (carry 0 fed (λ _. finished)).ending ≡ None → Over s Any []
 ended s (stop is f) h e = cc
 ended s (go is s') h e = h
 
-carried : (left : ℕ) (s : List State) (t : Token) (ts : List Token) (fed : Fed) (k : List State → Outcome) → FedLeft Any s t fed
-    → ((s' : List State) → (k s').ending ≡ None → Over s' Any ts) → (carry left fed k).ending ≡ None → Over s Any (t ∷ ts)
+carried : (left : ℕ) (s : List State) (t : Token) (ts : List Token) (fed : Fed)
+    (k : List State → Outcome) → FedLeft Any s t fed
+    → ((s' : List State) → (k s').ending ≡ None → Over s' Any ts) → (carry left fed k).ending ≡ None
+    → Over s Any (t ∷ ts)
 carried left s t ts (stop is f) k h r e = cc
 carried left s t ts (go is s') k h r e = h (passes s') ts (r s' e)
 
-accepts : (ts : List Token) (f : Option Fault) (s : List State) → (run ts s f).ending ≡ None → Over s Any ts
+accepts : (ts : List Token) (f : Option Fault) (s : List State) → (run ts s f).ending ≡ None
+    → Over s Any ts
 unfolding run
 accepts [] (Some f) s e = source_ended s f e
 accepts [] None s e = ended s (feed s no_token) (feed_ends Any tt s) e
@@ -134,13 +151,16 @@ accepted_trees ts f e =
 
 -- ---- directives and tag handles
 
-read_quietly : (c : Settled) (g : Given) (k : Directives → Reading) (f : Option Fault) → ((ds : Directives) → (k ds).ending ≡ None → f ≡ None) → (read_on c g.0 g.1 k).ending ≡ None → f ≡ None
+read_quietly : (c : Settled) (g : Given) (k : Directives → Reading) (f : Option Fault)
+    → ((ds : Directives) → (k ds).ending ≡ None → f ≡ None) → (read_on c g.0 g.1 k).ending ≡ None
+    → f ≡ None
 read_quietly (refused x) g k f r e = cc
 read_quietly (gave b ds) g k f r e = r ds e
 read_quietly (noted ds) g k f r e = r ds e
 
 -- what is read without a fault was not ended by one
-quiet : (gs : List Given) (f : Option Fault) (ds : Directives) → (reading gs f ds).ending ≡ None → f ≡ None
+quiet : (gs : List Given) (f : Option Fault) (ds : Directives) → (reading gs f ds).ending ≡ None
+    → f ≡ None
 unfolding reading
 quiet [] f ds e = e
 quiet (g ∷ gs) f ds e = read_quietly (settle g.0 ds) g (λ ds'. reading gs f ds') f (λ ds' e'. quiet gs f ds' e') e

@@ -32,11 +32,13 @@ goes_with : (i : RawEvent) (fed : Fed) → Goes fed → Goes (with_item i fed)
 goes_with i (stop is f) h = h
 goes_with i (go is s) h = tt
 
-takes_goes : (x : State) (s : List State) (t : Token) → choice_at x (type_of t.body) ≡ Take → Goes (feed (x ∷ s) t)
+takes_goes : (x : State) (s : List State) (t : Token) → choice_at x (type_of t.body) ≡ Take
+    → Goes (feed (x ∷ s) t)
 unfolding feed
 takes_goes x s t h = subst (λ (c : Choice). Goes (turn c x t s (feed s t))) (sym h) tt
 
-leaves_goes : (x : State) (s : List State) (t : Token) → choice_at x (type_of t.body) ≡ Leave → Goes (feed s t) → Goes (feed (x ∷ s) t)
+leaves_goes : (x : State) (s : List State) (t : Token) → choice_at x (type_of t.body) ≡ Leave
+    → Goes (feed s t) → Goes (feed (x ∷ s) t)
 unfolding feed
 leaves_goes x s t h k = subst (λ (c : Choice). Goes (turn c x t s (feed s t))) (sym h) (goes_with (left_at x t.start_mark) (feed s t) k)
 
@@ -47,11 +49,13 @@ Fits place s = (t : Token) → follows place (type_of t.body) ≡ true → Goes 
 abbrev TakesOrLeaves : State → yaml_token_type_t → Type 0
 TakesOrLeaves x k = (choice_at x k ≡ Take) ⊎ (choice_at x k ≡ Leave)
 
-takes_or_leaves : (x : State) (s : List State) (t : Token) → TakesOrLeaves x (type_of t.body) → (choice_at x (type_of t.body) ≡ Leave → Goes (feed s t)) → Goes (feed (x ∷ s) t)
+takes_or_leaves : (x : State) (s : List State) (t : Token) → TakesOrLeaves x (type_of t.body)
+    → (choice_at x (type_of t.body) ≡ Leave → Goes (feed s t)) → Goes (feed (x ∷ s) t)
 takes_or_leaves x s t (inl h) k = takes_goes x s t h
 takes_or_leaves x s t (inr h) k = leaves_goes x s t h (k h)
 
-entry_taken : (o : yaml_mark_t) (k : yaml_token_type_t) → follows Entry k ≡ true → choice_at (state.entries o) k ≡ Take
+entry_taken : (o : yaml_mark_t) (k : yaml_token_type_t) → follows Entry k ≡ true
+    → choice_at (state.entries o) k ≡ Take
 entry_taken o kind.YAML_BLOCK_ENTRY_TOKEN h = refl
 entry_taken o kind.YAML_BLOCK_END_TOKEN h = refl
 entry_taken o _ h = cc
@@ -59,7 +63,8 @@ entry_taken o _ h = cc
 entries_fit : (o : yaml_mark_t) (s : List State) → Fits Entry (state.entries o ∷ s)
 entries_fit o s t h = takes_goes (state.entries o) s t (entry_taken o (type_of t.body) h)
 
-pair_taken : (o : yaml_mark_t) (k : yaml_token_type_t) → follows (BlockPair Value) k ≡ true → choice_at (state.pairs o) k ≡ Take
+pair_taken : (o : yaml_mark_t) (k : yaml_token_type_t) → follows (BlockPair Value) k ≡ true
+    → choice_at (state.pairs o) k ≡ Take
 pair_taken o kind.YAML_KEY_TOKEN h = refl
 pair_taken o kind.YAML_BLOCK_END_TOKEN h = refl
 pair_taken o _ h = cc
@@ -71,30 +76,36 @@ colon_choice : (place : Site) (k : yaml_token_type_t) → TakesOrLeaves (state.c
 colon_choice place kind.YAML_VALUE_TOKEN = inl refl
 colon_choice place _ = inr refl
 
-block_key : (k : yaml_token_type_t) → follows (BlockPair Key) k ≡ true → choice_at (state.colon (BlockPair Value)) k ≡ Leave → follows (BlockPair Value) k ≡ true
+block_key : (k : yaml_token_type_t) → follows (BlockPair Key) k ≡ true
+    → choice_at (state.colon (BlockPair Value)) k ≡ Leave → follows (BlockPair Value) k ≡ true
 block_key kind.YAML_KEY_TOKEN h c = refl
 block_key kind.YAML_BLOCK_END_TOKEN h c = refl
 block_key kind.YAML_VALUE_TOKEN h c = cc
 block_key _ h c = cc
 
-keys_fit : (o : yaml_mark_t) (s : List State) → Fits (BlockPair Key) (state.colon (BlockPair Value) ∷ state.pairs o ∷ s)
+keys_fit : (o : yaml_mark_t) (s : List State)
+    → Fits (BlockPair Key) (state.colon (BlockPair Value) ∷ state.pairs o ∷ s)
 keys_fit o s t h =
     takes_or_leaves (state.colon (BlockPair Value)) (state.pairs o ∷ s) t (colon_choice (BlockPair Value) (type_of t.body)) (λ c. pairs_fit o s t (block_key (type_of t.body) h c))
 
-more_taken_at : (b : Brackets) (o : yaml_mark_t) (k : yaml_token_type_t) → follows (FlowPair b Value) k ≡ true → choice_at (state.more b o) k ≡ Take
+more_taken_at : (b : Brackets) (o : yaml_mark_t) (k : yaml_token_type_t)
+    → follows (FlowPair b Value) k ≡ true → choice_at (state.more b o) k ≡ Take
 more_taken_at b o kind.YAML_FLOW_ENTRY_TOKEN h = refl
 more_taken_at brackets.Sequence o kind.YAML_FLOW_SEQUENCE_END_TOKEN h = refl
 more_taken_at brackets.Mapping o kind.YAML_FLOW_MAPPING_END_TOKEN h = refl
 more_taken_at brackets.Sequence o _ h = cc
 more_taken_at brackets.Mapping o _ h = cc
 
-more_fits : (b : Brackets) (o : yaml_mark_t) (s : List State) → Fits (FlowPair b Value) (state.more b o ∷ s)
+more_fits : (b : Brackets) (o : yaml_mark_t) (s : List State)
+    → Fits (FlowPair b Value) (state.more b o ∷ s)
 more_fits b o s t h = takes_goes (state.more b o) s t (more_taken_at b o (type_of t.body) h)
 
-end_fits : (b : Brackets) (o : yaml_mark_t) (s : List State) → Fits (FlowPair b Value) (state.pair_end ∷ state.more b o ∷ s)
+end_fits : (b : Brackets) (o : yaml_mark_t) (s : List State)
+    → Fits (FlowPair b Value) (state.pair_end ∷ state.more b o ∷ s)
 end_fits b o s t h = leaves_goes state.pair_end (state.more b o ∷ s) t refl (more_fits b o s t h)
 
-flow_key : (b : Brackets) (k : yaml_token_type_t) → follows (FlowPair b Key) k ≡ true → choice_at (state.colon (FlowPair b Value)) k ≡ Leave → follows (FlowPair b Value) k ≡ true
+flow_key : (b : Brackets) (k : yaml_token_type_t) → follows (FlowPair b Key) k ≡ true
+    → choice_at (state.colon (FlowPair b Value)) k ≡ Leave → follows (FlowPair b Value) k ≡ true
 flow_key b kind.YAML_FLOW_ENTRY_TOKEN h c = refl
 flow_key b kind.YAML_VALUE_TOKEN h c = cc
 flow_key brackets.Sequence kind.YAML_FLOW_SEQUENCE_END_TOKEN h c = refl
@@ -102,7 +113,8 @@ flow_key brackets.Mapping kind.YAML_FLOW_MAPPING_END_TOKEN h c = refl
 flow_key brackets.Sequence _ h c = cc
 flow_key brackets.Mapping _ h c = cc
 
-flow_keys_fit : (b : Brackets) (s : List State) → Fits (FlowPair b Value) s → Fits (FlowPair b Key) (state.colon (FlowPair b Value) ∷ s)
+flow_keys_fit : (b : Brackets) (s : List State) → Fits (FlowPair b Value) s
+    → Fits (FlowPair b Key) (state.colon (FlowPair b Value) ∷ s)
 flow_keys_fit b s f t h =
     takes_or_leaves (state.colon (FlowPair b Value)) s t (colon_choice (FlowPair b Value) (type_of t.body)) (λ c. f t (flow_key b (type_of t.body) h c))
 
@@ -110,7 +122,8 @@ end_choice : (k : yaml_token_type_t) → TakesOrLeaves state.document_end k
 end_choice kind.YAML_DOCUMENT_END_TOKEN = inl refl
 end_choice _ = inr refl
 
-root_taken : (k : yaml_token_type_t) → follows Root k ≡ true → choice_at state.document_end k ≡ Leave → choice_at state.documents k ≡ Take
+root_taken : (k : yaml_token_type_t) → follows Root k ≡ true
+    → choice_at state.document_end k ≡ Leave → choice_at state.documents k ≡ Take
 root_taken kind.YAML_DOCUMENT_END_TOKEN h c = cc
 root_taken kind.YAML_STREAM_END_TOKEN h c = refl
 root_taken kind.YAML_VERSION_DIRECTIVE_TOKEN h c = refl
@@ -126,7 +139,8 @@ others_choice : (side : Side) (k : yaml_token_type_t) → TakesOrLeaves (state.o
 others_choice side kind.YAML_BLOCK_ENTRY_TOKEN = inl refl
 others_choice side _ = inr refl
 
-side_follows : (side : Side) (k : yaml_token_type_t) → follows (IndentlessEntry side) k ≡ true → choice_at (state.others side) k ≡ Leave → follows (BlockPair side) k ≡ true
+side_follows : (side : Side) (k : yaml_token_type_t) → follows (IndentlessEntry side) k ≡ true
+    → choice_at (state.others side) k ≡ Leave → follows (BlockPair side) k ≡ true
 side_follows side kind.YAML_BLOCK_ENTRY_TOKEN h c = cc
 side_follows side kind.YAML_KEY_TOKEN h c = refl
 side_follows side kind.YAML_BLOCK_END_TOKEN h c = refl
@@ -134,7 +148,8 @@ side_follows Key kind.YAML_VALUE_TOKEN h c = refl
 side_follows Value kind.YAML_VALUE_TOKEN h c = cc
 side_follows side _ h c = cc
 
-others_fit : (side : Side) (s : List State) → Fits (BlockPair side) s → Fits (IndentlessEntry side) (state.others side ∷ s)
+others_fit : (side : Side) (s : List State) → Fits (BlockPair side) s
+    → Fits (IndentlessEntry side) (state.others side ∷ s)
 others_fit side s f t h = takes_or_leaves (state.others side) s t (others_choice side (type_of t.body)) (λ c. f t (side_follows side (type_of t.body) h c))
 
 abbrev pub FitsWants : Wants → List State → Type 0
@@ -179,7 +194,9 @@ AllStood (x ∷ s) = Stood x s × AllStood s
 
 -- ---- a step keeps it
 
-content_stood : (w : Wants) (p : Option Properties) (start end : yaml_mark_t) (b : TokenBody) (s : List State) → FitsWants w s → Closed s → AllStood s → AllStood ((content_taken w p start end b).above ++ s)
+content_stood : (w : Wants) (p : Option Properties) (start end : yaml_mark_t) (b : TokenBody)
+    (s : List State) → FitsWants w s → Closed s → AllStood s
+    → AllStood ((content_taken w p start end b).above ++ s)
 content_stood w p start end (token.scalar value style) s f c a = a
 content_stood w p start end token.flow_sequence_start s f c a = (tt, a)
 content_stood w p start end token.flow_mapping_start s f c a = (tt, a)
@@ -190,37 +207,46 @@ content_stood (Block None) p start end token.block_entry s f c a = (c, a)
 content_stood Flow p start end token.block_entry s f c a = (c, a)
 content_stood w p start end _ s f c a = (c, a)
 
-node_stood : (w : Wants) (start end : yaml_mark_t) (b : TokenBody) (s : List State) → FitsWants w s → Closed s → AllStood s → AllStood ((node_taken w start end b).above ++ s)
+node_stood : (w : Wants) (start end : yaml_mark_t) (b : TokenBody) (s : List State) → FitsWants w s
+    → Closed s → AllStood s → AllStood ((node_taken w start end b).above ++ s)
 node_stood w start end (token.alias name) s f c a = a
 node_stood w start end (token.anchor name) s f c a = ((f, c), a)
 node_stood w start end (token.tag handle suffix) s f c a = ((f, c), a)
 node_stood w start end b s f c a = content_stood w None start end b s f c a
 
-with_properties_stood : (w : Wants) (p : Properties) (start end : yaml_mark_t) (b : TokenBody) (s : List State) → FitsWants w s → Closed s → AllStood s → AllStood ((with_properties_taken w p start end b).above ++ s)
+with_properties_stood : (w : Wants) (p : Properties) (start end : yaml_mark_t) (b : TokenBody)
+    (s : List State) → FitsWants w s → Closed s → AllStood s
+    → AllStood ((with_properties_taken w p start end b).above ++ s)
 with_properties_stood w p start end (token.anchor name) s f c a = ((f, c), a)
 with_properties_stood w p start end (token.tag handle suffix) s f c a = ((f, c), a)
 with_properties_stood w p start end b s f c a = content_stood w (Some p) start end b s f c a
 
-documents_stood : (from start end : yaml_mark_t) (b : TokenBody) (s : List State) → AllStood s → AllStood ((documents_taken from start end b).above ++ s)
+documents_stood : (from start end : yaml_mark_t) (b : TokenBody) (s : List State) → AllStood s
+    → AllStood ((documents_taken from start end b).above ++ s)
 documents_stood from start end (token.version_directive major minor) s a = (tt, a)
 documents_stood from start end (token.tag_directive name prefix) s a = (tt, a)
 documents_stood from start end token.document_start s a = ((root_fits s, tt), (tt, (tt, a)))
 documents_stood from start end token.stream_end s a = a
 documents_stood from start end _ s a = (tt, a)
 
-stream_stood : (start end : yaml_mark_t) (b : TokenBody) (s : List State) → choice_at state.stream (type_of b) ≡ Take → AllStood s → AllStood ((stream_taken start end b).above ++ s)
+stream_stood : (start end : yaml_mark_t) (b : TokenBody) (s : List State)
+    → choice_at state.stream (type_of b) ≡ Take → AllStood s
+    → AllStood ((stream_taken start end b).above ++ s)
 stream_stood start end (token.stream_start e) s c a = (tt, a)
 stream_stood start end _ s c a = cc
 
-lone_closed : (b : Brackets) (o : yaml_mark_t) (s : List State) → Closed (lone_below b (state.more b o ∷ []) ++ s)
+lone_closed : (b : Brackets) (o : yaml_mark_t) (s : List State)
+    → Closed (lone_below b (state.more b o ∷ []) ++ s)
 lone_closed brackets.Sequence o s = tt
 lone_closed brackets.Mapping o s = tt
 
-lone_stood : (b : Brackets) (o : yaml_mark_t) (s : List State) → AllStood s → AllStood (lone_below b (state.more b o ∷ []) ++ s)
+lone_stood : (b : Brackets) (o : yaml_mark_t) (s : List State) → AllStood s
+    → AllStood (lone_below b (state.more b o ∷ []) ++ s)
 lone_stood brackets.Sequence o s a = (tt, a)
 lone_stood brackets.Mapping o s a = (tt, (tt, a))
 
-items_stood : (b : Brackets) (o start end : yaml_mark_t) (x : TokenBody) (s : List State) → AllStood s → AllStood ((items_taken b o start end x).above ++ s)
+items_stood : (b : Brackets) (o start end : yaml_mark_t) (x : TokenBody) (s : List State)
+    → AllStood s → AllStood ((items_taken b o start end x).above ++ s)
 items_stood brackets.Sequence o start end token.key s a =
     ((flow_keys_fit brackets.Sequence (state.pair_end ∷ state.more brackets.Sequence o ∷ s) (end_fits brackets.Sequence o s), tt), ((end_fits brackets.Sequence o s, tt), (tt, (tt, a))))
 items_stood brackets.Mapping o start end token.key s a =
@@ -231,19 +257,23 @@ items_stood b o start end x s a =
     subst AllStood (sym (append_assoc (node_taken Flow start end x).above (lone_below b (state.more b o ∷ [])) s))
     (node_stood Flow start end x (lone_below b (state.more b o ∷ []) ++ s) tt (lone_closed b o s) (lone_stood b o s a))
 
-more_stood : (b : Brackets) (o start end : yaml_mark_t) (x : TokenBody) (s : List State) → AllStood s → AllStood ((more_taken b o start end x).above ++ s)
+more_stood : (b : Brackets) (o start end : yaml_mark_t) (x : TokenBody) (s : List State)
+    → AllStood s → AllStood ((more_taken b o start end x).above ++ s)
 more_stood b o start end token.flow_entry s a = (tt, a)
 more_stood b o start end _ s a = a
 
-entries_stood : (o start end : yaml_mark_t) (x : TokenBody) (s : List State) → AllStood s → AllStood ((entries_taken o start end x).above ++ s)
+entries_stood : (o start end : yaml_mark_t) (x : TokenBody) (s : List State) → AllStood s
+    → AllStood ((entries_taken o start end x).above ++ s)
 entries_stood o start end token.block_entry s a = ((entries_fit o s, tt), (tt, a))
 entries_stood o start end _ s a = a
 
-pairs_stood : (o start end : yaml_mark_t) (x : TokenBody) (s : List State) → AllStood s → AllStood ((pairs_taken o start end x).above ++ s)
+pairs_stood : (o start end : yaml_mark_t) (x : TokenBody) (s : List State) → AllStood s
+    → AllStood ((pairs_taken o start end x).above ++ s)
 pairs_stood o start end token.key s a = ((keys_fit o s, tt), ((pairs_fit o s, tt), (tt, a)))
 pairs_stood o start end _ s a = a
 
-taken_stood : (x : State) (t : Token) (s : List State) → choice_at x (type_of t.body) ≡ Take → Stood x s → AllStood s → AllStood ((taken_at x t).above ++ s)
+taken_stood : (x : State) (t : Token) (s : List State) → choice_at x (type_of t.body) ≡ Take
+    → Stood x s → AllStood s → AllStood ((taken_at x t).above ++ s)
 taken_stood state.stream t s c h a = stream_stood t.start_mark t.end_mark t.body s c a
 taken_stood state.first t s c h a = documents_stood t.start_mark t.start_mark t.end_mark t.body s a
 taken_stood state.documents t s c h a = documents_stood t.start_mark t.start_mark t.end_mark t.body s a
@@ -268,7 +298,9 @@ stood_with : (i : RawEvent) (fed : Fed) → FedStood fed → FedStood (with_item
 stood_with i (stop is f) h = h
 stood_with i (go is s) h = h
 
-turn_stood : (c : Choice) (x : State) (t : Token) (s : List State) (below : Fed) → choice_at x (type_of t.body) ≡ c → AllStood (x ∷ s) → FedStood below → FedStood (turn c x t s below)
+turn_stood : (c : Choice) (x : State) (t : Token) (s : List State) (below : Fed)
+    → choice_at x (type_of t.body) ≡ c → AllStood (x ∷ s) → FedStood below
+    → FedStood (turn c x t s below)
 turn_stood (Refuse p o) x t s below e a h = tt
 turn_stood Take x t s below e a h = taken_stood x t s e a.0 a.1
 turn_stood Leave x t s below e a h = stood_with (left_at x t.start_mark) below h

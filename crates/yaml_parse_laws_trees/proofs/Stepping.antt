@@ -33,7 +33,8 @@ abbrev pub Dirs : List State → List Token → Directives → Type 0
 Dirs [] past ds = Unit {0}
 Dirs (x ∷ s) past ds = DirsAt x past ds
 
-inside_dirs : (s : List State) (past : List Token) (ds : Directives) → IsInside s → Agree (document_directives past) ds → Dirs s past ds
+inside_dirs : (s : List State) (past : List Token) (ds : Directives) → IsInside s
+    → Agree (document_directives past) ds → Dirs s past ds
 inside_dirs [] past ds i a = tt
 inside_dirs (state.stream ∷ s) past ds i a = absurd i.0
 inside_dirs (state.first ∷ s) past ds i a = absurd i.0
@@ -56,25 +57,31 @@ abbrev pub Stepped : List Token → Directives → Token → Fed → Type 0
 Stepped past ds t (stop is e) = IsFine (read_all is ds)
 Stepped past ds t (go is s) = StepRead past t (read_all is ds) s
 
-stepped_with : (past : List Token) (ds : Directives) (t : Token) (i : RawEvent) (fed : Fed) → Quiet (Some i) → Stepped past ds t fed → Stepped past ds t (with_item i fed)
+stepped_with : (past : List Token) (ds : Directives) (t : Token) (i : RawEvent) (fed : Fed)
+    → Quiet (Some i) → Stepped past ds t fed → Stepped past ds t (with_item i fed)
 stepped_with past ds t i (stop is e) q h = subst IsFine (sym (q ds (λ d. read_all is d))) h
 stepped_with past ds t i (go is s) q h = subst (λ (z : Done). StepRead past t z s) (sym (q ds (λ d. read_all is d))) h
 
-stepped_given : (past : List Token) (ds : Directives) (t : Token) (i : Option RawEvent) (above s : List State) → Quiet i → StepRead past t (fine ds) (above ++ s)
+stepped_given : (past : List Token) (ds : Directives) (t : Token) (i : Option RawEvent)
+    (above s : List State) → Quiet i → StepRead past t (fine ds) (above ++ s)
     → Stepped past ds t (given_by (record { item = i; above = above }) s)
 stepped_given past ds t None above s q h = h
 stepped_given past ds t (Some i) above s q h = subst (λ (z : Done). StepRead past t z (above ++ s)) (sym (q ds (λ d. fine d))) h
 
-no_directive : (past : List Token) (b : TokenBody) (at : yaml_mark_t) → is_directive b ≡ false → directive_fault past b at ≡ None
+no_directive : (past : List Token) (b : TokenBody) (at : yaml_mark_t) → is_directive b ≡ false
+    → directive_fault past b at ≡ None
 no_directive past (token.version_directive major minor) at h = cc
 no_directive past (token.tag_directive handle prefix) at h = cc
 no_directive past _ at h = refl
 
-same_document : (t : Token) (past : List Token) → starts_document t.body ≡ false → document_directives (t ∷ past) ≡ document_directives past
+same_document : (t : Token) (past : List Token) → starts_document t.body ≡ false
+    → document_directives (t ∷ past) ≡ document_directives past
 same_document t past h = ap (λ (b : Bool). if b then directives_before past else document_directives past) h
 
 -- the token was taken inside a document
-pub inside_read : (past : List Token) (ds : Directives) (t : Token) (gs : List Sign) (s : List State) → KeptInside t.body t.start_mark gs s → Agree (document_directives past) ds → StepRead past t (fine ds) s
+pub inside_read : (past : List Token) (ds : Directives) (t : Token) (gs : List Sign)
+    (s : List State) → KeptInside t.body t.start_mark gs s → Agree (document_directives past) ds
+    → StepRead past t (fine ds) s
 inside_read past ds t gs s k a = (
   no_directive past t.body t.start_mark k.still,
   inside_dirs s (t ∷ past) ds k.inside (subst (λ (z : List Token). Agree z ds) (sym (same_document t past k.within)) a),
@@ -85,16 +92,21 @@ inside_read past ds t gs s k a = (
 abbrev tok : TokenBody → yaml_mark_t → yaml_mark_t → Token
 tok b start end = record { body = b; start_mark = start; end_mark = end }
 
-behind_read : (past : List Token) (t : Token) (from : yaml_mark_t) (d : Done) → Behind (directive_fault past t.body t.start_mark) (directives_before (t ∷ past)) d → StepRead past t d (state.directives from ∷ [])
+behind_read : (past : List Token) (t : Token) (from : yaml_mark_t) (d : Done)
+    → Behind (directive_fault past t.body t.start_mark) (directives_before (t ∷ past)) d
+    → StepRead past t d (state.directives from ∷ [])
 behind_read past t from (bad e) h = h
 behind_read past t from (fine ds) h = h
 
-pub stream_stepped : (past : List Token) (ds : Directives) (b : TokenBody) (start end : yaml_mark_t) → Agree [] ds → Agree (document_directives past) ds → Stepped past ds (tok b start end) (feed (state.stream ∷ []) (tok b start end))
+pub stream_stepped : (past : List Token) (ds : Directives) (b : TokenBody) (start end : yaml_mark_t)
+    → Agree [] ds → Agree (document_directives past) ds
+    → Stepped past ds (tok b start end) (feed (state.stream ∷ []) (tok b start end))
 unfolding feed
 stream_stepped past ds (token.stream_start e) start end n a = (refl, (n, a))
 stream_stepped past ds _ start end n a = tt
 
-pub first_stepped : (past : List Token) (ds : Directives) (b : TokenBody) (start end : yaml_mark_t) → Agree (directives_before past) ds → Agree (document_directives past) ds
+pub first_stepped : (past : List Token) (ds : Directives) (b : TokenBody) (start end : yaml_mark_t)
+    → Agree (directives_before past) ds → Agree (document_directives past) ds
     → Stepped past ds (tok b start end) (feed (state.first ∷ []) (tok b start end))
 unfolding feed
 first_stepped past ds (token.version_directive major minor) start end a d = behind_read past (tok (token.version_directive major minor) start end) start _ (version_read ds major minor start end past a)
@@ -111,7 +123,8 @@ first_stepped past ds token.block_sequence_start start end a d = (refl, d)
 first_stepped past ds token.block_mapping_start start end a d = (refl, d)
 first_stepped past ds _ start end a d = tt
 
-pub documents_stepped : (past : List Token) (ds : Directives) (b : TokenBody) (start end : yaml_mark_t) → Agree (directives_before past) ds → Agree [] ds
+pub documents_stepped : (past : List Token) (ds : Directives) (b : TokenBody)
+    (start end : yaml_mark_t) → Agree (directives_before past) ds → Agree [] ds
     → Stepped past ds (tok b start end) (feed (state.documents ∷ []) (tok b start end))
 unfolding feed
 documents_stepped past ds (token.version_directive major minor) start end a n = behind_read past (tok (token.version_directive major minor) start end) start _ (version_read ds major minor start end past a)
@@ -121,7 +134,8 @@ documents_stepped past ds token.document_end start end a n = (refl, n)
 documents_stepped past ds token.stream_end start end a n = (refl, tt)
 documents_stepped past ds _ start end a n = tt
 
-pub directives_stepped : (past : List Token) (ds : Directives) (b : TokenBody) (from start end : yaml_mark_t) → Agree (directives_before past) ds
+pub directives_stepped : (past : List Token) (ds : Directives) (b : TokenBody)
+    (from start end : yaml_mark_t) → Agree (directives_before past) ds
     → Stepped past ds (tok b start end) (feed (state.directives from ∷ []) (tok b start end))
 unfolding feed
 directives_stepped past ds (token.version_directive major minor) from start end a = behind_read past (tok (token.version_directive major minor) start end) from _ (version_read ds major minor start end past a)
@@ -130,29 +144,35 @@ directives_stepped past ds token.document_start from start end a = (refl, a)
 directives_stepped past ds _ from start end a = tt
 
 -- behind the end of a document no directives are left
-ended_before : (past : List Token) (ds : Directives) (t : Token) (implicit : Bool) (from to : yaml_mark_t) (fed : Fed) → Stepped past no_directives t fed
+ended_before : (past : List Token) (ds : Directives) (t : Token) (implicit : Bool)
+    (from to : yaml_mark_t) (fed : Fed) → Stepped past no_directives t fed
     → Stepped past ds t (with_item (item_at (item.event (event.document_end implicit)) from to) fed)
 ended_before past ds t implicit from to (stop is e) h = h
 ended_before past ds t implicit from to (go is s) h = h
 
-end_stepped : (past : List Token) (ds : Directives) (b : TokenBody) (start end : yaml_mark_t) → Agree (directives_before past) no_directives
-    → Stepped past ds (tok b start end) (feed (state.document_end ∷ state.documents ∷ []) (tok b start end))
+end_stepped : (past : List Token) (ds : Directives) (b : TokenBody) (start end : yaml_mark_t)
+    → Agree (directives_before past) no_directives
+    → Stepped past ds (tok b start end)
+    (feed (state.document_end ∷ state.documents ∷ []) (tok b start end))
 unfolding feed
 end_stepped past ds token.document_end start end a = (refl, none_agree)
 end_stepped past ds b start end a = ended_before past ds (tok b start end) true start start (feed (state.documents ∷ []) (tok b start end)) (documents_stepped past no_directives b start end a none_agree)
 
 -- ---- inside a document
 
-pub no_directives_before : (past : List Token) → (last_in past ≡ directive → ⊥) → directives_before past ≡ []
+pub no_directives_before : (past : List Token) → (last_in past ≡ directive → ⊥)
+    → directives_before past ≡ []
 no_directives_before [] h = refl
 no_directives_before (t ∷ past) h = none t.body h
   where
-    none : (b : TokenBody) → (last_of b ≡ directive → ⊥) → (if is_directive b then t ∷ directives_before past else []) ≡ []
+    none : (b : TokenBody) → (last_of b ≡ directive → ⊥)
+        → (if is_directive b then t ∷ directives_before past else []) ≡ []
     none (token.version_directive major minor) h = absurd (h refl)
     none (token.tag_directive handle prefix) h = absurd (h refl)
     none _ h = refl
 
-pub none_before : (past : List Token) → (last_in past ≡ directive → ⊥) → Agree (directives_before past) no_directives
+pub none_before : (past : List Token) → (last_in past ≡ directive → ⊥)
+    → Agree (directives_before past) no_directives
 none_before past h = subst (λ (z : List Token). Agree z no_directives) (sym (no_directives_before past h)) none_agree
 
 -- the end of a document stands above the documents behind it
@@ -171,8 +191,12 @@ within _ s h = deeper h.0 h.1
 not_first : (x : State) → x ≡ state.first → IsInner x → ⊥
 not_first x e h = subst IsInner e h
 
-mute_turn : (c : Choice) (x : State) (t : Token) (s : List State) (fed : Fed) (past : List Token) (ds : Directives) → choice_at x (type_of t.body) ≡ c → Tells c x (open_in s) t.start_mark → IsInner x → IsMute x
-    → (choice_at x (type_of t.body) ≡ Take → KeptInside t.body t.start_mark (open_in (x ∷ s)) ((taken_at x t).above ++ s)) → Agree (document_directives past) ds → Stepped past ds t fed
+mute_turn : (c : Choice) (x : State) (t : Token) (s : List State) (fed : Fed) (past : List Token)
+    (ds : Directives) → choice_at x (type_of t.body) ≡ c → Tells c x (open_in s) t.start_mark
+    → IsInner x → IsMute x
+    → (choice_at x (type_of t.body) ≡ Take
+    → KeptInside t.body t.start_mark (open_in (x ∷ s)) ((taken_at x t).above ++ s))
+    → Agree (document_directives past) ds → Stepped past ds t fed
     → Stepped past ds t (turn c x t s fed)
 mute_turn (Refuse p o) x t s fed past ds e h i m k a r = tt
 mute_turn Take x t s fed past ds e h i m k a r =
@@ -189,13 +213,17 @@ plain_mute state.document_end e h = absurd h
 plain_mute (state.with_properties w p) e h = cc
 plain_mute _ e h = tt
 
-at_end_stepped : (x : State) (s : List State) (t : Token) (past : List Token) (ds : Directives) → x ≡ state.document_end → s ≡ state.documents ∷ [] → Agree (directives_before past) no_directives → Stepped past ds t (feed (x ∷ s) t)
+at_end_stepped : (x : State) (s : List State) (t : Token) (past : List Token) (ds : Directives)
+    → x ≡ state.document_end → s ≡ state.documents ∷ []
+    → Agree (directives_before past) no_directives → Stepped past ds t (feed (x ∷ s) t)
 at_end_stepped x s t past ds p q a =
     subst (λ (y : State). Stepped past ds t (feed (y ∷ s) t)) (sym p)
     (subst (λ (z : List State). Stepped past ds t (feed (state.document_end ∷ z) t)) (sym q) (end_stepped past ds t.body t.start_mark t.end_mark a))
 
 -- above a stack inside a document, of which the state on top isn't behind properties
-pub mute_stepped : (x : State) (s : List State) (t : Token) (past : List Token) (ds : Directives) → Within x s → (IsInner x → IsMute x) → Plain s → Nested (x ∷ s) → Agree (document_directives past) ds
+pub mute_stepped : (x : State) (s : List State) (t : Token) (past : List Token) (ds : Directives)
+    → Within x s → (IsInner x → IsMute x) → Plain s → Nested (x ∷ s)
+    → Agree (document_directives past) ds
     → Agree (directives_before past) no_directives → Stepped past ds t (feed (x ∷ s) t)
 unfolding feed
 mute_stepped x [] t past ds (at_end p q) m pl n a b = at_end_stepped x [] t past ds p q b

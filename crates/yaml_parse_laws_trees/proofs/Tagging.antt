@@ -29,24 +29,31 @@ Step past ds t None fed = Stepped past ds t fed
 
 -- ---- no properties in front of the token
 
-no_ended : (past : List Token) (b : TokenBody) → (last_in past ≡ property → ⊥) → ended_tag past b ≡ None
+no_ended : (past : List Token) (b : TokenBody) → (last_in past ≡ property → ⊥)
+    → ended_tag past b ≡ None
 no_ended [] b h = refl
 no_ended (t ∷ past) b h = none t.body h
   where
-    none : (c : TokenBody) → (last_of c ≡ property → ⊥) → ended_tag (record { body = c; start_mark = t.start_mark; end_mark = t.end_mark } ∷ past) b ≡ None
+    none : (c : TokenBody) → (last_of c ≡ property → ⊥)
+        → ended_tag (record { body = c; start_mark = t.start_mark; end_mark = t.end_mark } ∷ past) b
+        ≡ None
     none (token.anchor name) h = absurd (h refl)
     none (token.tag handle suffix) h = absurd (h refl)
     none _ h = refl
 
-no_handle : (past : List Token) (b : TokenBody) → ended_tag past b ≡ None → handle_fault past b ≡ None
+no_handle : (past : List Token) (b : TokenBody) → ended_tag past b ≡ None
+    → handle_fault past b ≡ None
 no_handle past b h = ap (λ (o : Option NodeTag). tag_fault o (document_directives past)) h
 
-quiet_step : (past : List Token) (ds : Directives) (t : Token) (fed : Fed) → handle_fault past t.body ≡ None → Stepped past ds t fed → Step past ds t (handle_fault past t.body) fed
+quiet_step : (past : List Token) (ds : Directives) (t : Token) (fed : Fed)
+    → handle_fault past t.body ≡ None → Stepped past ds t fed
+    → Step past ds t (handle_fault past t.body) fed
 quiet_step past ds t fed h k = subst (λ (f : Option Fault). Step past ds t f fed) (sym h) k
 
 -- ---- properties in front of it
 
-faulty : (past : List Token) (ds : Directives) (t : Token) (f : Option Fault) (i : RawEvent) (fed : Fed) → ((k : Directives → Done) → then_read (settle i ds) k ≡ by_fault f ds k)
+faulty : (past : List Token) (ds : Directives) (t : Token) (f : Option Fault) (i : RawEvent)
+    (fed : Fed) → ((k : Directives → Done) → then_read (settle i ds) k ≡ by_fault f ds k)
     → Stepped past ds t fed → Step past ds t f (with_item i fed)
 faulty past ds t (Some f) i (stop is e) q h = q (λ d. read_all is d)
 faulty past ds t (Some f) i (go is s) q h = q (λ d. read_all is d)
@@ -57,34 +64,46 @@ faulty past ds t None i (stop is e) q h = subst (λ (z : Done). StillFine z) (sy
     StillFine (fine ds) = Unit {0}
 faulty past ds t None i (go is s) q h = subst (λ (z : Done). StepRead past t z s) (sym (q (λ d. read_all is d))) h
 
-faulty_given : (past : List Token) (ds : Directives) (t : Token) (f : Option Fault) (i : Option RawEvent) (above s : List State) → HasFault i f ds → StepRead past t (fine ds) (above ++ s)
+faulty_given : (past : List Token) (ds : Directives) (t : Token) (f : Option Fault)
+    (i : Option RawEvent) (above s : List State) → HasFault i f ds
+    → StepRead past t (fine ds) (above ++ s)
     → Step past ds t f (given_by (record { item = i; above = above }) s)
 faulty_given past ds t f None above s q h = absurd q
 faulty_given past ds t f (Some i) above s q h = faulty past ds t f i (go [] (above ++ s)) q h
 
-quiet_given : (past : List Token) (ds : Directives) (t : Token) (i : Option RawEvent) (above s : List State) → i ≡ None → StepRead past t (fine ds) (above ++ s)
+quiet_given : (past : List Token) (ds : Directives) (t : Token) (i : Option RawEvent)
+    (above s : List State) → i ≡ None → StepRead past t (fine ds) (above ++ s)
     → Stepped past ds t (given_by (record { item = i; above = above }) s)
 quiet_given past ds t None above s q h = h
 quiet_given past ds t (Some i) above s q h = cc
 
-joining : (w : Wants) (p : Properties) (start end : yaml_mark_t) (b : TokenBody) → joins p (type_of b) ≡ true → (with_properties_taken w p start end b).item ≡ None
+joining : (w : Wants) (p : Properties) (start end : yaml_mark_t) (b : TokenBody)
+    → joins p (type_of b) ≡ true → (with_properties_taken w p start end b).item ≡ None
 joining w p start end (token.anchor name) j = refl
 joining w p start end (token.tag handle suffix) j = refl
 joining w p start end _ j = cc
 
-not_joining : (w : Wants) (p : Properties) (start end : yaml_mark_t) (b : TokenBody) (ts : List Token) (ds : Directives) → starts_content w (type_of b) ≡ true → Agree ts ds
+not_joining : (w : Wants) (p : Properties) (start end : yaml_mark_t) (b : TokenBody)
+    (ts : List Token) (ds : Directives) → starts_content w (type_of b) ≡ true → Agree ts ds
     → HasFault (with_properties_taken w p start end b).item (tag_fault (tag_in p) ts) ds
 not_joining w p start end (token.anchor name) ts ds c a = cc
 not_joining w p start end (token.tag handle suffix) ts ds c a = cc
 not_joining w p start end b ts ds c a = content_read w p start end b ts ds c a
 
-by_ended : (past : List Token) (ds : Directives) (t : Token) (o : Option NodeTag) (fed : Fed) → ended_tag past t.body ≡ o → Step past ds t (tag_fault o (document_directives past)) fed → Step past ds t (handle_fault past t.body) fed
+by_ended : (past : List Token) (ds : Directives) (t : Token) (o : Option NodeTag) (fed : Fed)
+    → ended_tag past t.body ≡ o → Step past ds t (tag_fault o (document_directives past)) fed
+    → Step past ds t (handle_fault past t.body) fed
 by_ended past ds t o fed e h = subst (λ (z : Option NodeTag). Step past ds t (tag_fault z (document_directives past)) fed) (sym e) h
 
-properties_turn : (j c : Bool) (w : Wants) (p : Properties) (t : Token) (s : List State) (fed : Fed) (past : List Token) (ds : Directives)
-    → joins p (type_of t.body) ≡ j → starts_content w (type_of t.body) ≡ c → PropsOf p.anchor p.tag p.from past → Agree (document_directives past) ds
-    → (choice_at (state.with_properties w p) (type_of t.body) ≡ Take → StepRead past t (fine ds) ((with_properties_taken w p t.start_mark t.end_mark t.body).above ++ s)) → Stepped past ds t fed
-    → Step past ds t (handle_fault past t.body) (turn (if j || c then Take else Leave) (state.with_properties w p) t s fed)
+properties_turn : (j c : Bool) (w : Wants) (p : Properties) (t : Token) (s : List State) (fed : Fed)
+    (past : List Token) (ds : Directives)
+    → joins p (type_of t.body) ≡ j → starts_content w (type_of t.body) ≡ c
+    → PropsOf p.anchor p.tag p.from past → Agree (document_directives past) ds
+    → (choice_at (state.with_properties w p) (type_of t.body) ≡ Take
+    → StepRead past t (fine ds) ((with_properties_taken w p t.start_mark t.end_mark t.body).above
+    ++ s)) → Stepped past ds t fed
+    → Step past ds t (handle_fault past t.body)
+    (turn (if j || c then Take else Leave) (state.with_properties w p) t s fed)
 properties_turn true c w p t s fed past ds e f h a k r =
     let o : ended_tag past t.body ≡ None = joined p.anchor p.tag p.from p.to past t.body h e in
     quiet_step past ds t (given_by (with_properties_taken w p t.start_mark t.end_mark t.body) s) (no_handle past t.body o)
@@ -101,8 +120,11 @@ properties_turn false false w p t s fed past ds e f h a k r =
     by_ended past ds t (tag_in p) (with_item (properties_alone p) fed) o
     (faulty past ds t (tag_fault (tag_in p) (document_directives past)) (properties_alone p) fed (λ q. props_read p.anchor p.tag p.from p.to item.empty p.to (document_directives past) ds q a) r)
 
-properties_step : (w : Wants) (p : Properties) (s : List State) (t : Token) (past : List Token) (ds : Directives) → IsInside s → Plain s → Nested (state.with_properties w p ∷ s) → Agree (document_directives past) ds
-    → Agree (directives_before past) no_directives → PropsOf p.anchor p.tag p.from past → Step past ds t (handle_fault past t.body) (feed (state.with_properties w p ∷ s) t)
+properties_step : (w : Wants) (p : Properties) (s : List State) (t : Token) (past : List Token)
+    (ds : Directives) → IsInside s → Plain s → Nested (state.with_properties w p ∷ s)
+    → Agree (document_directives past) ds
+    → Agree (directives_before past) no_directives → PropsOf p.anchor p.tag p.from past
+    → Step past ds t (handle_fault past t.body) (feed (state.with_properties w p ∷ s) t)
 unfolding feed
 properties_step w p [] t past ds i pl n a b h = absurd i
 properties_step w p (y ∷ s) t past ds i pl n a b h =
@@ -113,22 +135,29 @@ properties_step w p (y ∷ s) t past ds i pl n a b h =
 
 -- ---- each state on top
 
-alone_step : (x : State) (s : List State) (t : Token) (past : List Token) (ds : Directives) → s ≡ [] → told x ≡ last_in past → (told x ≡ property → ⊥) → Stepped past ds t (feed (x ∷ []) t)
+alone_step : (x : State) (s : List State) (t : Token) (past : List Token) (ds : Directives) → s ≡ []
+    → told x ≡ last_in past → (told x ≡ property → ⊥) → Stepped past ds t (feed (x ∷ []) t)
     → Step past ds t (handle_fault past t.body) (feed (x ∷ s) t)
 alone_step x s t past ds e l n h =
     subst (λ (z : List State). Step past ds t (handle_fault past t.body) (feed (x ∷ z) t)) (sym e)
     (quiet_step past ds t (feed (x ∷ []) t) (no_handle past t.body (no_ended past t.body (λ k. n (l ∙ k)))) h)
 
-inside_step : (x : State) (s : List State) (t : Token) (past : List Token) (ds : Directives) → Within x s → (IsInner x → IsMute x) → Plain s → Nested (x ∷ s) → Agree (document_directives past) ds → told x ≡ last_in past
-    → (told x ≡ property → ⊥) → (told x ≡ directive → ⊥) → Step past ds t (handle_fault past t.body) (feed (x ∷ s) t)
+inside_step : (x : State) (s : List State) (t : Token) (past : List Token) (ds : Directives)
+    → Within x s → (IsInner x → IsMute x) → Plain s → Nested (x ∷ s)
+    → Agree (document_directives past) ds → told x ≡ last_in past
+    → (told x ≡ property → ⊥) → (told x ≡ directive → ⊥)
+    → Step past ds t (handle_fault past t.body) (feed (x ∷ s) t)
 inside_step x s t past ds i m pl n a l p d =
     quiet_step past ds t (feed (x ∷ s) t) (no_handle past t.body (no_ended past t.body (λ k. p (l ∙ k))))
     (mute_stepped x s t past ds i m pl n a (none_before past (λ k. d (l ∙ k))))
 
-none_agreeing : (past : List Token) (ds : Directives) → (last_in past ≡ directive → ⊥) → Agree (directives_before past) ds → Agree [] ds
+none_agreeing : (past : List Token) (ds : Directives) → (last_in past ≡ directive → ⊥)
+    → Agree (directives_before past) ds → Agree [] ds
 none_agreeing past ds n a = subst (λ (z : List Token). Agree z ds) (no_directives_before past n) a
 
-pub step_read : (x : State) (s : List State) (t : Token) (past : List Token) (ds : Directives) → IsStack (x ∷ s) → Plain s → Nested (x ∷ s) → Dirs (x ∷ s) past ds → told x ≡ last_in past → PropsTop (x ∷ s) past
+pub step_read : (x : State) (s : List State) (t : Token) (past : List Token) (ds : Directives)
+    → IsStack (x ∷ s) → Plain s → Nested (x ∷ s) → Dirs (x ∷ s) past ds → told x ≡ last_in past
+    → PropsTop (x ∷ s) past
     → Step past ds t (handle_fault past t.body) (feed (x ∷ s) t)
 step_read state.stream s t past ds i pl n d l p =
     alone_step state.stream s t past ds i l (λ e. cc) (stream_stepped past ds t.body t.start_mark t.end_mark (none_agreeing past ds (λ e. apart (l ∙ e)) d.0) d.1)

@@ -55,7 +55,8 @@ stack_solid state.documents s h = tt
 stack_solid (state.directives from) s h = tt
 stack_solid x s h = inside_solid (x ∷ s) h
 
-pub solid_left : (x : State) (k : yaml_token_type_t) (A : Type 0) → choice_at x k ≡ Leave → SolidAt x A → A
+pub solid_left : (x : State) (k : yaml_token_type_t) (A : Type 0) → choice_at x k ≡ Leave
+    → SolidAt x A → A
 solid_left state.stream kind.YAML_STREAM_START_TOKEN A c h = cc
 solid_left state.stream _ A c h = cc
 solid_left state.first k A c h = absurd (not_left_first (parts_documents k) (starts_node (Block None) k) problem.NoBlockNode c)
@@ -71,20 +72,26 @@ abbrev pub Takes : (List Token → Type 0) → List State → Token → Fed → 
 Takes P s t (stop is e) = Unit {0}
 Takes P s t (go is s') = (ts : List Token) → Over s' P ts → Over s P (t ∷ ts)
 
-takes_with : (P : List Token → Type 0) (s : List State) (t : Token) (i : RawEvent) (fed : Fed) → Takes P s t fed → Takes P s t (with_item i fed)
+takes_with : (P : List Token → Type 0) (s : List State) (t : Token) (i : RawEvent) (fed : Fed)
+    → Takes P s t fed → Takes P s t (with_item i fed)
 takes_with P s t i (stop is e) h = tt
 takes_with P s t i (go is s') h = h
 
-takes_given : (P : List Token → Type 0) (x : State) (i : Option RawEvent) (above s : List State) (t : Token) (below : List State)
-    → ((ts : List Token) → Over above (Over below P) ts → Left x (Over s P) (t ∷ ts)) → Takes P (x ∷ s) t (given_by (record { item = i; above = above }) below)
+takes_given : (P : List Token → Type 0) (x : State) (i : Option RawEvent) (above s : List State)
+    (t : Token) (below : List State)
+    → ((ts : List Token) → Over above (Over below P) ts → Left x (Over s P) (t ∷ ts))
+    → Takes P (x ∷ s) t (given_by (record { item = i; above = above }) below)
 takes_given P x None above s t below h = λ ts k. h ts (subst (λ (Q : List Token → Type 0). Q ts) (over_both above below P) k)
 takes_given P x (Some i) above s t below h = λ ts k. h ts (subst (λ (Q : List Token → Type 0). Q ts) (over_both above below P) k)
 
-takes_left : (P : List Token → Type 0) (x : State) (s : List State) (t : Token) (fed : Fed) → choice_at x (type_of t.body) ≡ Leave → Takes P s t fed → Takes P (x ∷ s) t fed
+takes_left : (P : List Token → Type 0) (x : State) (s : List State) (t : Token) (fed : Fed)
+    → choice_at x (type_of t.body) ≡ Leave → Takes P s t fed → Takes P (x ∷ s) t fed
 takes_left P x s t (stop is e) c h = tt
 takes_left P x s t (go is s') c h = λ ts k. leaving x (type_of t.body) c (Over s P) (t ∷ ts) (h ts k)
 
-takes_turn : (P : List Token → Type 0) (c : Choice) (x : State) (t : Token) (s : List State) (fed : Fed) → choice_at x (type_of t.body) ≡ c → (choice_at x (type_of t.body) ≡ Leave → Takes P s t fed)
+takes_turn : (P : List Token → Type 0) (c : Choice) (x : State) (t : Token) (s : List State)
+    (fed : Fed) → choice_at x (type_of t.body) ≡ c
+    → (choice_at x (type_of t.body) ≡ Leave → Takes P s t fed)
     → Takes P (x ∷ s) t (turn c x t s fed)
 takes_turn P (Refuse p o) x t s fed e h = tt
 takes_turn P Take x t s fed e h = takes_given P x (taken_at x t).item (taken_at x t).above s t s (λ ts k. taking x t e (Over s P) ts k)
@@ -93,7 +100,8 @@ takes_turn P Open x t s fed e h =
     takes_with P (x ∷ s) t (item_at (item.document true) t.start_mark t.start_mark) (given_by (taken_at (state.optional Root t.start_mark) t) (state.document_end ∷ state.documents ∷ s))
     (takes_given P x (taken_at (state.optional Root t.start_mark) t).item (taken_at (state.optional Root t.start_mark) t).above s t (state.document_end ∷ state.documents ∷ s) (λ ts k. opening x t e (Over s P) ts k))
 
-pub takes : (P : List Token → Type 0) (s : List State) (t : Token) → Solid s → Takes P s t (feed s t)
+pub takes : (P : List Token → Type 0) (s : List State) (t : Token) → Solid s
+    → Takes P s t (feed s t)
 unfolding feed
 takes P [] t h = absurd h
 takes P (x ∷ s) t h = takes_turn P (choice_at x (type_of t.body)) x t s (feed s t) refl (λ e. takes P s t (solid_left x (type_of t.body) (Solid s) e h))
@@ -114,7 +122,9 @@ none_opens x h = unlike (opens_node x kind.YAML_NO_TOKEN h)
     unlike : false ≡ true → ⊥
     unlike e = cc
 
-stops_turn : (c : Choice) (x : State) (s : List State) (fed : Fed) → choice_at x kind.YAML_NO_TOKEN ≡ c → (choice_at x kind.YAML_NO_TOKEN ≡ Leave → Stops fed) → Stops (turn c x no_token s fed)
+stops_turn : (c : Choice) (x : State) (s : List State) (fed : Fed)
+    → choice_at x kind.YAML_NO_TOKEN ≡ c → (choice_at x kind.YAML_NO_TOKEN ≡ Leave → Stops fed)
+    → Stops (turn c x no_token s fed)
 stops_turn (Refuse p o) x s fed e h = tt
 stops_turn Take x s fed e h = absurd (takes_a_token x e)
 stops_turn Leave x s fed e h = stops_with (left_at x no_token.start_mark) fed (h e)
@@ -132,25 +142,29 @@ abbrev pub number_of : Done → ℕ → (Directives → ℕ) → ℕ
 number_of (bad e) left k = left
 number_of (fine ds) left k = k ds
 
-one_number : (c : Settled) (left : ℕ) (k : Directives → ℕ) (l : Directives → Done) (m : Directives → ℕ) → ((ds : Directives) → k ds ≡ number_of (l ds) left m)
+one_number : (c : Settled) (left : ℕ) (k : Directives → ℕ) (l : Directives → Done)
+    (m : Directives → ℕ) → ((ds : Directives) → k ds ≡ number_of (l ds) left m)
     → resolve.unasked_on c left k ≡ number_of (then_read c l) left m
 one_number (refused e) left k l m h = refl
 one_number (gave b ds) left k l m h = h ds
 one_number (noted ds) left k l m h = h ds
 
 pub front_number : (is : List RawEvent) (left : ℕ) (gs : List Given) (n : ℕ) (ds : Directives)
-    → unasked_at_fault (map (λ (i : RawEvent). (i, left)) is ++ gs) n ds ≡ number_of (read_all is ds) left (λ d. unasked_at_fault gs n d)
+    → unasked_at_fault (map (λ (i : RawEvent). (i, left)) is ++ gs) n ds
+    ≡ number_of (read_all is ds) left (λ d. unasked_at_fault gs n d)
 unfolding unasked_at_fault
 front_number [] left gs n ds = refl
 front_number (i ∷ is) left gs n ds =
     one_number (settle i ds) left (λ d. unasked_at_fault (map (λ (i : RawEvent). (i, left)) is ++ gs) n d) (λ d. read_all is d) (λ d. unasked_at_fault gs n d) (λ d. front_number is left gs n d)
 
-one_last : (c : Settled) (left : ℕ) (k : Directives → ℕ) → ((ds : Directives) → k ds ≡ left) → resolve.unasked_on c left k ≡ left
+one_last : (c : Settled) (left : ℕ) (k : Directives → ℕ) → ((ds : Directives) → k ds ≡ left)
+    → resolve.unasked_on c left k ≡ left
 one_last (refused e) left k h = refl
 one_last (gave b ds) left k h = h ds
 one_last (noted ds) left k h = h ds
 
-pub last_number : (is : List RawEvent) (left : ℕ) (ds : Directives) → unasked_at_fault (map (λ (i : RawEvent). (i, left)) is) left ds ≡ left
+pub last_number : (is : List RawEvent) (left : ℕ) (ds : Directives)
+    → unasked_at_fault (map (λ (i : RawEvent). (i, left)) is) left ds ≡ left
 unfolding unasked_at_fault
 last_number [] left ds = refl
 last_number (i ∷ is) left ds = one_last (settle i ds) left (λ d. unasked_at_fault (map (λ (i : RawEvent). (i, left)) is) left d) (λ d. last_number is left d)
@@ -159,20 +173,26 @@ abbrev pub ending_of : Done → (Directives → Option Fault) → Option Fault
 ending_of (bad e) k = Some e
 ending_of (fine ds) k = k ds
 
-one_read : (c : Settled) (i : RawEvent) (left : ℕ) (k : Directives → Reading) (l : Directives → Done) (m : Directives → Option Fault) → ((ds : Directives) → (k ds).ending ≡ ending_of (l ds) m)
+one_read : (c : Settled) (i : RawEvent) (left : ℕ) (k : Directives → Reading)
+    (l : Directives → Done) (m : Directives → Option Fault)
+    → ((ds : Directives) → (k ds).ending ≡ ending_of (l ds) m)
     → (resolve.read_on c i left k).ending ≡ ending_of (then_read c l) m
 one_read (refused e) i left k l m h = refl
 one_read (gave b ds) i left k l m h = h ds
 one_read (noted ds) i left k l m h = h ds
 
-pub front_read : (is : List RawEvent) (left : ℕ) (gs : List Given) (f : Option Fault) (ds : Directives)
-    → (reading (map (λ (i : RawEvent). (i, left)) is ++ gs) f ds).ending ≡ ending_of (read_all is ds) (λ d. (reading gs f d).ending)
+pub front_read : (is : List RawEvent) (left : ℕ) (gs : List Given) (f : Option Fault)
+    (ds : Directives)
+    → (reading (map (λ (i : RawEvent). (i, left)) is ++ gs) f ds).ending
+    ≡ ending_of (read_all is ds) (λ d. (reading gs f d).ending)
 unfolding reading
 front_read [] left gs f ds = refl
 front_read (i ∷ is) left gs f ds =
     one_read (settle i ds) i left (λ d. reading (map (λ (i : RawEvent). (i, left)) is ++ gs) f d) (λ d. read_all is d) (λ d. (reading gs f d).ending) (λ d. front_read is left gs f d)
 
-pub last_read : (is : List RawEvent) (left : ℕ) (f : Option Fault) (ds : Directives) → (reading (map (λ (i : RawEvent). (i, left)) is) f ds).ending ≡ ending_of (read_all is ds) (λ d. f)
+pub last_read : (is : List RawEvent) (left : ℕ) (f : Option Fault) (ds : Directives)
+    → (reading (map (λ (i : RawEvent). (i, left)) is) f ds).ending
+    ≡ ending_of (read_all is ds) (λ d. f)
 unfolding reading
 last_read [] left f ds = refl
 last_read (i ∷ is) left f ds = one_read (settle i ds) i left (λ d. reading (map (λ (i : RawEvent). (i, left)) is) f d) (λ d. read_all is d) (λ d. f) (λ d. last_read is left f d)

@@ -108,7 +108,8 @@ abbrev pub Over : List State → (List Event → Type 0) → List Event → Type
 Over [] P = P
 Over (x ∷ s) P = ToGive x (Over s P)
 
-pub over_both : (xs ys : List State) (P : List Event → Type 0) → Over (xs ++ ys) P ≡ Over xs (Over ys P)
+pub over_both : (xs ys : List State) (P : List Event → Type 0)
+    → Over (xs ++ ys) P ≡ Over xs (Over ys P)
 over_both [] ys P = refl
 over_both (x ∷ xs) ys P = ap (ToGive x) (over_both xs ys P)
 
@@ -132,7 +133,8 @@ IsOf (item.scalar value style) b = IsScalar b
 IsOf (item.sequence style) b = IsSequenceStart b
 IsOf (item.mapping style) b = IsMappingStart b
 
-abbrev pub FitsBody : RawEventBody → RawEvent → (List Event → Type 0) → (List Event → Type 0) → Type 0
+abbrev pub FitsBody : RawEventBody → RawEvent → (List Event → Type 0) → (List Event → Type 0)
+    → Type 0
 FitsBody (item.event b) i Y X = (es : List Event) → Y es → X (placed b i ∷ es)
 FitsBody (item.version_directive major minor) i Y X = (es : List Event) → Y es → X es
 FitsBody (item.tag_directive handle prefix) i Y X = (es : List Event) → Y es → X es
@@ -146,14 +148,16 @@ abbrev pub FitsIf : Option RawEvent → (List Event → Type 0) → (List Event 
 FitsIf None Y X = (es : List Event) → Y es → X es
 FitsIf (Some i) Y X = Fits i Y X
 
-body_fits_on : (b : RawEventBody) (i : RawEvent) (Y X Z : List Event → Type 0) → FitsBody b i Y X → ((es : List Event) → X es → Z es) → FitsBody b i Y Z
+body_fits_on : (b : RawEventBody) (i : RawEvent) (Y X Z : List Event → Type 0) → FitsBody b i Y X
+    → ((es : List Event) → X es → Z es) → FitsBody b i Y Z
 body_fits_on (item.event b) i Y X Z h k = λ es y. k _ (h es y)
 body_fits_on (item.version_directive major minor) i Y X Z h k = λ es y. k _ (h es y)
 body_fits_on (item.tag_directive handle prefix) i Y X Z h k = λ es y. k _ (h es y)
 body_fits_on (item.document implicit) i Y X Z h k = λ v ds es y. k _ (h v ds es y)
 body_fits_on (item.node anchor tag shape) i Y X Z h k = λ b s es y. k _ (h b s es y)
 
-fits_on : (i : Option RawEvent) (Y X Z : List Event → Type 0) → FitsIf i Y X → ((es : List Event) → X es → Z es) → FitsIf i Y Z
+fits_on : (i : Option RawEvent) (Y X Z : List Event → Type 0) → FitsIf i Y X
+    → ((es : List Event) → X es → Z es) → FitsIf i Y Z
 fits_on None Y X Z h k = λ es y. k es (h es y)
 fits_on (Some i) Y X Z h k = body_fits_on i.body i Y X Z h k
 
@@ -165,16 +169,19 @@ head anchor tag from to = record { anchor = anchor; tag = tag; start_mark = from
 abbrev span : yaml_mark_t → yaml_mark_t → Span
 span from to = record { start_mark = from; end_mark = to }
 
-scalar_given : (b : EventBody) (from to : yaml_mark_t) (P : List Event → Type 0) (es : List Event) → IsScalar b → P es → Node P (spanning b from to ∷ es)
+scalar_given : (b : EventBody) (from to : yaml_mark_t) (P : List Event → Type 0) (es : List Event)
+    → IsScalar b → P es → Node P (spanning b from to ∷ es)
 scalar_given (event.scalar anchor tag value plain quoted style) from to P es k h = record { part = scalar (head anchor tag from to) value plain quoted style; rest = es; same = refl; goes = h }
 scalar_given _ from to P es k h = absurd k
 
-sequence_given : (b : EventBody) (from to : yaml_mark_t) (P : List Event → Type 0) (es : List Event) → IsSequenceStart b → Items P es → Node P (spanning b from to ∷ es)
+sequence_given : (b : EventBody) (from to : yaml_mark_t) (P : List Event → Type 0) (es : List Event)
+    → IsSequenceStart b → Items P es → Node P (spanning b from to ∷ es)
 sequence_given (event.sequence_start anchor tag implicit style) from to P es k h =
     record { part = sequence (head anchor tag from to) implicit style h.part.0 h.part.1; rest = h.rest; same = ap (λ (xs : List Event). spanning (event.sequence_start anchor tag implicit style) from to ∷ xs) h.same; goes = h.goes }
 sequence_given _ from to P es k h = absurd k
 
-mapping_given : (b : EventBody) (from to : yaml_mark_t) (P : List Event → Type 0) (es : List Event) → IsMappingStart b → PairList P es → Node P (spanning b from to ∷ es)
+mapping_given : (b : EventBody) (from to : yaml_mark_t) (P : List Event → Type 0) (es : List Event)
+    → IsMappingStart b → PairList P es → Node P (spanning b from to ∷ es)
 mapping_given (event.mapping_start anchor tag implicit style) from to P es k h =
     record { part = mapping (head anchor tag from to) implicit style h.part.0 h.part.1; rest = h.rest; same = ap (λ (xs : List Event). spanning (event.mapping_start anchor tag implicit style) from to ∷ xs) h.same; goes = h.goes }
 mapping_given _ from to P es k h = absurd k
@@ -182,7 +189,8 @@ mapping_given _ from to P es k h = absurd k
 item_more : (P : List Event → Type 0) (es : List Event) → Node (Items P) es → Items P es
 item_more P es h = record { part = (item h.part h.goes.part.0, h.goes.part.1); rest = h.goes.rest; same = h.same ∙ ap (events h.part) h.goes.same; goes = h.goes.goes }
 
-pair_more : (P : List Event → Type 0) (es : List Event) → Node (Node (PairList P)) es → PairList P es
+pair_more : (P : List Event → Type 0) (es : List Event) → Node (Node (PairList P)) es
+    → PairList P es
 pair_more P es h = record {
   part = (pair h.part h.goes.part h.goes.goes.part.0, h.goes.goes.part.1);
   rest = h.goes.goes.rest;
@@ -191,7 +199,8 @@ pair_more P es h = record {
 }
 
 -- a pair that is a mapping of its own
-pair_alone : (P : List Event → Type 0) (es : List Event) → Node (Node (MappingEnd P)) es → PairList P es
+pair_alone : (P : List Event → Type 0) (es : List Event) → Node (Node (MappingEnd P)) es
+    → PairList P es
 pair_alone P es h = record {
   part = (pair h.part h.goes.part no_pairs, h.goes.goes.part);
   rest = h.goes.goes.rest;
@@ -199,8 +208,10 @@ pair_alone P es h = record {
   goes = h.goes.goes.goes;
 }
 
-pub document_more : (v : Option yaml_version_directive_t) (ds : List TagDirective) (implicit : Bool) (from to : yaml_mark_t) (P : List Event → Type 0) (es : List Event)
-    → Node (DocumentEnd (Documents P)) es → Documents P (spanning (event.document_start v ds implicit) from to ∷ es)
+pub document_more : (v : Option yaml_version_directive_t) (ds : List TagDirective) (implicit : Bool)
+    (from to : yaml_mark_t) (P : List Event → Type 0) (es : List Event)
+    → Node (DocumentEnd (Documents P)) es
+    → Documents P (spanning (event.document_start v ds implicit) from to ∷ es)
 document_more v ds implicit from to P es h = record {
   part = (record { version = v; directives = ds; start_implicit = implicit; start_at = span from to; root = h.part; end_implicit = h.goes.part.0; end_at = h.goes.part.1 } ∷ h.goes.goes.part.0, h.goes.goes.part.1);
   rest = h.goes.goes.rest;
@@ -210,7 +221,10 @@ document_more v ds implicit from to P es h = record {
 
 -- ---- taking a token
 
-content_fits : (w : Wants) (p : Option Properties) (start end : yaml_mark_t) (b : TokenBody) (P : List Event → Type 0) → FitsIf (content_taken w p start end b).item (Over (content_taken w p start end b).above P) (Node P)
+content_fits : (w : Wants) (p : Option Properties) (start end : yaml_mark_t) (b : TokenBody)
+    (P : List Event → Type 0)
+    → FitsIf (content_taken w p start end b).item (Over (content_taken w p start end b).above P)
+    (Node P)
 content_fits w None start end (token.scalar v s) P = λ b k es h. scalar_given b start end P es k h
 content_fits w (Some q) start end (token.scalar v s) P = λ b k es h. scalar_given b q.from end P es k h
 content_fits w None start end token.flow_sequence_start P = λ b k es h. sequence_given b start end P es k h
@@ -227,51 +241,69 @@ content_fits (Block None) q start end token.block_entry P = λ es h. h
 content_fits Flow q start end token.block_entry P = λ es h. h
 content_fits w q start end _ P = λ es h. h
 
-alias_given : (name : List ℕ) (from to : yaml_mark_t) (P : List Event → Type 0) (es : List Event) → P es → Node P (spanning (event.alias name) from to ∷ es)
+alias_given : (name : List ℕ) (from to : yaml_mark_t) (P : List Event → Type 0) (es : List Event)
+    → P es → Node P (spanning (event.alias name) from to ∷ es)
 alias_given name from to P es h = record { part = alias name (span from to); rest = es; same = refl; goes = h }
 
-pub node_fits : (w : Wants) (start end : yaml_mark_t) (b : TokenBody) (P : List Event → Type 0) → FitsIf (node_taken w start end b).item (Over (node_taken w start end b).above P) (Node P)
+pub node_fits : (w : Wants) (start end : yaml_mark_t) (b : TokenBody) (P : List Event → Type 0)
+    → FitsIf (node_taken w start end b).item (Over (node_taken w start end b).above P) (Node P)
 node_fits w start end (token.alias name) P = λ es h. alias_given name start end P es h
 node_fits w start end (token.anchor name) P = λ es h. h
 node_fits w start end (token.tag handle suffix) P = λ es h. h
 node_fits w start end b P = content_fits w None start end b P
 
-with_properties_fits : (w : Wants) (p : Properties) (start end : yaml_mark_t) (b : TokenBody) (P : List Event → Type 0) → FitsIf (with_properties_taken w p start end b).item (Over (with_properties_taken w p start end b).above P) (Node P)
+with_properties_fits : (w : Wants) (p : Properties) (start end : yaml_mark_t) (b : TokenBody)
+    (P : List Event → Type 0)
+    → FitsIf (with_properties_taken w p start end b).item
+    (Over (with_properties_taken w p start end b).above P) (Node P)
 with_properties_fits w p start end (token.anchor name) P = λ es h. h
 with_properties_fits w p start end (token.tag handle suffix) P = λ es h. h
 with_properties_fits w p start end b P = content_fits w (Some p) start end b P
 
-documents_fit : (from start end : yaml_mark_t) (b : TokenBody) (P : List Event → Type 0) → FitsIf (documents_taken from start end b).item (Over (documents_taken from start end b).above P) (Documents P)
+documents_fit : (from start end : yaml_mark_t) (b : TokenBody) (P : List Event → Type 0)
+    → FitsIf (documents_taken from start end b).item
+    (Over (documents_taken from start end b).above P) (Documents P)
 documents_fit from start end (token.version_directive major minor) P = λ es h. h
 documents_fit from start end (token.tag_directive handle prefix) P = λ es h. h
 documents_fit from start end token.document_start P = λ v ds es h. document_more v ds false from end P es h
 documents_fit from start end token.stream_end P = λ es h. record { part = ([], span start end); rest = es; same = refl; goes = h }
 documents_fit from start end _ P = λ es h. h
 
-no_more_items : (from to : yaml_mark_t) (P : List Event → Type 0) (es : List Event) → P es → Items P (spanning event.sequence_end from to ∷ es)
+no_more_items : (from to : yaml_mark_t) (P : List Event → Type 0) (es : List Event) → P es
+    → Items P (spanning event.sequence_end from to ∷ es)
 no_more_items from to P es h = record { part = (no_items, span from to); rest = es; same = refl; goes = h }
 
-no_more_pairs : (from to : yaml_mark_t) (P : List Event → Type 0) (es : List Event) → P es → PairList P (spanning event.mapping_end from to ∷ es)
+no_more_pairs : (from to : yaml_mark_t) (P : List Event → Type 0) (es : List Event) → P es
+    → PairList P (spanning event.mapping_end from to ∷ es)
 no_more_pairs from to P es h = record { part = (no_pairs, span from to); rest = es; same = refl; goes = h }
 
-entries_fit : (o start end : yaml_mark_t) (b : TokenBody) (P : List Event → Type 0) → FitsIf (entries_taken o start end b).item (Over (entries_taken o start end b).above P) (Items P)
+entries_fit : (o start end : yaml_mark_t) (b : TokenBody) (P : List Event → Type 0)
+    → FitsIf (entries_taken o start end b).item (Over (entries_taken o start end b).above P)
+    (Items P)
 entries_fit o start end token.block_entry P = λ es h. item_more P es h
 entries_fit o start end _ P = λ es h. no_more_items start end P es h
 
-pairs_fit : (o start end : yaml_mark_t) (b : TokenBody) (P : List Event → Type 0) → FitsIf (pairs_taken o start end b).item (Over (pairs_taken o start end b).above P) (PairList P)
+pairs_fit : (o start end : yaml_mark_t) (b : TokenBody) (P : List Event → Type 0)
+    → FitsIf (pairs_taken o start end b).item (Over (pairs_taken o start end b).above P)
+    (PairList P)
 pairs_fit o start end token.key P = λ es h. pair_more P es h
 pairs_fit o start end _ P = λ es h. no_more_pairs start end P es h
 
-more_fits : (b : Brackets) (o start end : yaml_mark_t) (x : TokenBody) (P : List Event → Type 0) → FitsIf (more_taken b o start end x).item (Over (more_taken b o start end x).above P) (InBrackets b P)
+more_fits : (b : Brackets) (o start end : yaml_mark_t) (x : TokenBody) (P : List Event → Type 0)
+    → FitsIf (more_taken b o start end x).item (Over (more_taken b o start end x).above P)
+    (InBrackets b P)
 more_fits b o start end token.flow_entry P = λ es h. h
 more_fits brackets.Sequence o start end _ P = λ es h. no_more_items start end P es h
 more_fits brackets.Mapping o start end _ P = λ es h. no_more_pairs start end P es h
 
-lone_fits : (b : Brackets) (o : yaml_mark_t) (P : List Event → Type 0) (es : List Event) → Node (Over (lone_below b (state.more b o ∷ [])) P) es → InBrackets b P es
+lone_fits : (b : Brackets) (o : yaml_mark_t) (P : List Event → Type 0) (es : List Event)
+    → Node (Over (lone_below b (state.more b o ∷ [])) P) es → InBrackets b P es
 lone_fits brackets.Sequence o P es h = item_more P es h
 lone_fits brackets.Mapping o P es h = pair_more P es h
 
-items_fit : (b : Brackets) (o start end : yaml_mark_t) (x : TokenBody) (P : List Event → Type 0) → FitsIf (items_taken b o start end x).item (Over (items_taken b o start end x).above P) (InBrackets b P)
+items_fit : (b : Brackets) (o start end : yaml_mark_t) (x : TokenBody) (P : List Event → Type 0)
+    → FitsIf (items_taken b o start end x).item (Over (items_taken b o start end x).above P)
+    (InBrackets b P)
 items_fit brackets.Sequence o start end token.key P = λ b k es h. item_more P _ (mapping_given b start end (Items P) es k (pair_alone (Items P) es h))
 items_fit brackets.Mapping o start end token.key P = λ es h. pair_more P es h
 items_fit brackets.Sequence o start end token.flow_sequence_end P = λ es h. no_more_items start end P es h
@@ -284,12 +316,16 @@ items_fit b o start end x P =
     (node_fits Flow start end x (Over (lone_below b (state.more b o ∷ [])) P)))
     (λ es h. lone_fits b o P es h)
 
-stream_fits : (start end : yaml_mark_t) (b : TokenBody) (P : List Event → Type 0) → choice_at state.stream (type_of b) ≡ Take → FitsIf (stream_taken start end b).item (Over (stream_taken start end b).above P) (Stream P)
+stream_fits : (start end : yaml_mark_t) (b : TokenBody) (P : List Event → Type 0)
+    → choice_at state.stream (type_of b) ≡ Take
+    → FitsIf (stream_taken start end b).item (Over (stream_taken start end b).above P) (Stream P)
 stream_fits start end (token.stream_start encoding) P c = λ es h. record { part = (encoding, span start end); rest = es; same = refl; goes = h }
 stream_fits start end _ P c = absurd (cc)
 
 -- what a state gives as it takes a token is the front of what it had to give
-pub taking_fits : (x : State) (t : Token) (P : List Event → Type 0) → choice_at x (type_of t.body) ≡ Take → FitsIf (taken_at x t).item (Over (taken_at x t).above P) (ToGive x P)
+pub taking_fits : (x : State) (t : Token) (P : List Event → Type 0)
+    → choice_at x (type_of t.body) ≡ Take
+    → FitsIf (taken_at x t).item (Over (taken_at x t).above P) (ToGive x P)
 taking_fits state.stream t P c = stream_fits t.start_mark t.end_mark t.body P c
 taking_fits state.first t P c = documents_fit t.start_mark t.start_mark t.end_mark t.body P
 taking_fits state.documents t P c = documents_fit t.start_mark t.start_mark t.end_mark t.body P
@@ -308,17 +344,20 @@ taking_fits state.lone t P c = absurd (cc)
 
 -- ---- leaving a state
 
-not_left : (a : Bool) (p : ParseProblem) (o : Option yaml_mark_t) → (if a then Take else Refuse p o) ≡ Leave → ⊥
+not_left : (a : Bool) (p : ParseProblem) (o : Option yaml_mark_t)
+    → (if a then Take else Refuse p o) ≡ Leave → ⊥
 not_left true p o h = cc
 not_left false p o h = cc
 
-not_left_first : (a b : Bool) (p : ParseProblem) → (if a then Take else if b then Open else Refuse p None) ≡ Leave → ⊥
+not_left_first : (a b : Bool) (p : ParseProblem)
+    → (if a then Take else if b then Open else Refuse p None) ≡ Leave → ⊥
 not_left_first true b p h = cc
 not_left_first false true p h = cc
 not_left_first false false p h = cc
 
 -- and so is what it gives as it is left
-pub leaving_fits : (x : State) (k : yaml_token_type_t) (start : yaml_mark_t) (P : List Event → Type 0) → choice_at x k ≡ Leave → Fits (left_at x start) P (ToGive x P)
+pub leaving_fits : (x : State) (k : yaml_token_type_t) (start : yaml_mark_t)
+    (P : List Event → Type 0) → choice_at x k ≡ Leave → Fits (left_at x start) P (ToGive x P)
 leaving_fits state.stream kind.YAML_STREAM_START_TOKEN start P c = absurd (cc)
 leaving_fits state.stream _ start P c = absurd (cc)
 leaving_fits state.first k start P c = absurd (not_left_first (parts_documents k) (starts_node (Block None) k) problem.NoBlockNode c)
@@ -346,7 +385,8 @@ leaving_fits state.lone k start P c = λ b s es h. scalar_given b start start P 
 
 -- ---- where a document opens, documents are to come
 
-not_opened : (b : Bool) (p : ParseProblem) (o : Option yaml_mark_t) → (if b then Take else Refuse p o) ≡ Open → ⊥
+not_opened : (b : Bool) (p : ParseProblem) (o : Option yaml_mark_t)
+    → (if b then Take else Refuse p o) ≡ Open → ⊥
 not_opened true p o h = cc
 not_opened false p o h = cc
 
@@ -354,12 +394,14 @@ not_opened_with_properties : (b : Bool) → (if b then Take else Leave) ≡ Open
 not_opened_with_properties true h = cc
 not_opened_with_properties false h = cc
 
-not_opened_optional : (a b : Bool) (p : ParseProblem) → (if a then Leave else if b then Take else Refuse p None) ≡ Open → ⊥
+not_opened_optional : (a b : Bool) (p : ParseProblem)
+    → (if a then Leave else if b then Take else Refuse p None) ≡ Open → ⊥
 not_opened_optional true b p h = cc
 not_opened_optional false true p h = cc
 not_opened_optional false false p h = cc
 
-pub opening_fits : (x : State) (k : yaml_token_type_t) (P : List Event → Type 0) → choice_at x k ≡ Open → (es : List Event) → Documents P es → ToGive x P es
+pub opening_fits : (x : State) (k : yaml_token_type_t) (P : List Event → Type 0)
+    → choice_at x k ≡ Open → (es : List Event) → Documents P es → ToGive x P es
 opening_fits state.stream kind.YAML_STREAM_START_TOKEN P c es h = absurd (cc)
 opening_fits state.stream _ P c es h = absurd (cc)
 opening_fits state.first k P c es h = h

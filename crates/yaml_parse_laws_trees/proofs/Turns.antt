@@ -37,21 +37,25 @@ as_many : (gs : List Given) → length (numbers_in gs) ≡ length (events_in gs)
 as_many [] = refl
 as_many (g ∷ gs) = let h : length (numbers_in gs) ≡ length (events_in gs) = as_many gs in more h
   where
-    more : length (numbers_in gs) ≡ length (events_in gs) → length (g.1 ∷ numbers_in gs) ≡ length (g.0 ∷ events_in gs)
+    more : length (numbers_in gs) ≡ length (events_in gs)
+        → length (g.1 ∷ numbers_in gs) ≡ length (g.0 ∷ events_in gs)
     more h = omega arith
 
 -- ---- turns one behind another
 
-tokens_on : (xs ys : List Turn) (n : ℕ) → tokens_in (xs ++ ys) + n ≡ tokens_in xs + (tokens_in ys + n)
+tokens_on : (xs ys : List Turn) (n : ℕ)
+    → tokens_in (xs ++ ys) + n ≡ tokens_in xs + (tokens_in ys + n)
 tokens_on [] ys n = omega arith
 tokens_on (asks ∷ xs) ys n = let h : tokens_in (xs ++ ys) + n ≡ tokens_in xs + (tokens_in ys + n) = tokens_on xs ys n in counted h
   where
-    counted : tokens_in (xs ++ ys) + n ≡ tokens_in xs + (tokens_in ys + n) → (tokens_in (xs ++ ys) + 1) + n ≡ (tokens_in xs + 1) + (tokens_in ys + n)
+    counted : tokens_in (xs ++ ys) + n ≡ tokens_in xs + (tokens_in ys + n)
+        → (tokens_in (xs ++ ys) + 1) + n ≡ (tokens_in xs + 1) + (tokens_in ys + n)
     counted h = omega arith
 tokens_on (gives ∷ xs) ys n = tokens_on xs ys n
 tokens_on (gives_at_next ∷ xs) ys n = tokens_on xs ys n
 
-unasked_on : (xs ys : List Turn) (n : ℕ) → unasked (xs ++ ys) n ≡ unasked xs (tokens_in ys + n) ++ unasked ys n
+unasked_on : (xs ys : List Turn) (n : ℕ)
+    → unasked (xs ++ ys) n ≡ unasked xs (tokens_in ys + n) ++ unasked ys n
 unasked_on [] ys n = refl
 unasked_on (asks ∷ xs) ys n = unasked_on xs ys n
 unasked_on (gives ∷ xs) ys n =
@@ -71,14 +75,17 @@ record Part (es : List RawEvent) (ts : List Turn) (rest all : List Token) (more 
 nothing : (rest : List Token) (more : List Given) → Part [] [] rest rest more more
 nothing rest more = record { tokens = omega arith; events = refl; numbers = refl }
 
-asked : {es : List RawEvent} {ts : List Turn} {rest all : List Token} {more gs : List Given} (t : Token) → Part es ts rest all more gs
+asked : {es : List RawEvent} {ts : List Turn} {rest all : List Token} {more gs : List Given}
+    (t : Token) → Part es ts rest all more gs
     → Part es (asks ∷ ts) rest (t ∷ all) more gs
 asked {es = es} {ts = ts} {rest = rest} {all = all} {more = more} {gs = gs} t h = record { tokens = counted h.tokens; events = h.events; numbers = h.numbers }
   where
-    counted : length all ≡ tokens_in ts + length rest → length (t ∷ all) ≡ (tokens_in ts + 1) + length rest
+    counted : length all ≡ tokens_in ts + length rest
+        → length (t ∷ all) ≡ (tokens_in ts + 1) + length rest
     counted h = omega arith
 
-gave : {es : List RawEvent} {ts : List Turn} {rest all : List Token} {more gs : List Given} (e : RawEvent) → Part es ts rest all more gs
+gave : {es : List RawEvent} {ts : List Turn} {rest all : List Token} {more gs : List Given}
+    (e : RawEvent) → Part es ts rest all more gs
     → Part (e ∷ es) (gives ∷ ts) rest all more ((e, length all) ∷ gs)
 gave {es = es} {ts = ts} {rest = rest} {all = all} {more = more} {gs = gs} e h = record {
   tokens = h.tokens;
@@ -92,8 +99,10 @@ behind_is [] = refl
 behind_is (t ∷ all) = omega arith
 
 -- the event is the mark's, which is the next token's
-gave_next : {es : List RawEvent} {ts : List Turn} {rest all : List Token} {more gs : List Given} (e : yaml_mark_t → RawEvent) (at : yaml_mark_t) → at ≡ next all
-    → Part es ts rest all more gs → Part (e at ∷ es) (gives_at_next ∷ ts) rest all more ((e (next all), behind all) ∷ gs)
+gave_next : {es : List RawEvent} {ts : List Turn} {rest all : List Token} {more gs : List Given}
+    (e : yaml_mark_t → RawEvent) (at : yaml_mark_t) → at ≡ next all
+    → Part es ts rest all more gs
+    → Part (e at ∷ es) (gives_at_next ∷ ts) rest all more ((e (next all), behind all) ∷ gs)
 gave_next {es = es} {ts = ts} {rest = rest} {all = all} {more = more} {gs = gs} e at p h = record {
   tokens = h.tokens;
   events = ap (λ (m : yaml_mark_t). e m ∷ events_in gs) (sym p) ∙ ap (λ (z : List RawEvent). e at ∷ z) h.events;
@@ -102,8 +111,10 @@ gave_next {es = es} {ts = ts} {rest = rest} {all = all} {more = more} {gs = gs} 
 }
 
 -- one part in front of another
-both : {es fs : List RawEvent} {ts us : List Turn} {rest middle all : List Token} {more between gs : List Given}
-    → Part es ts middle all between gs → Part fs us rest middle more between → Part (es ++ fs) (ts ++ us) rest all more gs
+both : {es fs : List RawEvent} {ts us : List Turn} {rest middle all : List Token}
+    {more between gs : List Given}
+    → Part es ts middle all between gs → Part fs us rest middle more between
+    → Part (es ++ fs) (ts ++ us) rest all more gs
 both {es = es} {fs = fs} {ts = ts} {us = us} {rest = rest} {middle = middle} {all = all} {more = more} {between = between} {gs = gs} h k = record {
   tokens = h.tokens ∙ ap (λ (n : ℕ). tokens_in ts + n) k.tokens ∙ sym (tokens_on ts us (length rest));
   events = h.events ∙ ap (λ (z : List RawEvent). es ++ z) k.events ∙ sym (append_assoc es fs (events_in more));
@@ -116,11 +127,13 @@ both {es = es} {fs = fs} {ts = ts} {us = us} {rest = rest} {middle = middle} {al
 
 -- ---- where parts begin
 
-more_next : (b : Brackets) (m : More) (rest : List Token) → more_start m ≡ next (spell_more b m rest)
+more_next : (b : Brackets) (m : More) (rest : List Token)
+    → more_start m ≡ next (spell_more b m rest)
 more_next b (tree.end_more s) rest = refl
 more_next b (tree.comma s i) rest = refl
 
-colon_next : {w : Wants} (v : Colon w) (rest : List Token) (at : yaml_mark_t) → at ≡ next rest → colon_start v at ≡ next (spell_colon v rest)
+colon_next : {w : Wants} (v : Colon w) (rest : List Token) (at : yaml_mark_t) → at ≡ next rest
+    → colon_start v at ≡ next (spell_colon v rest)
 colon_next tree.no_colon rest at p = p
 colon_next (tree.colon s n) rest at p = refl
 
@@ -128,7 +141,8 @@ entries_next : (e : Entries) (rest : List Token) → entries_start e ≡ next (s
 entries_next (tree.end_entries s) rest = refl
 entries_next (tree.entry s n e) rest = refl
 
-others_next : (o : Others) (rest : List Token) (at : yaml_mark_t) → at ≡ next rest → others_start o at ≡ next (spell_others o rest)
+others_next : (o : Others) (rest : List Token) (at : yaml_mark_t) → at ≡ next rest
+    → others_start o at ≡ next (spell_others o rest)
 others_next tree.no_others rest at p = p
 others_next (tree.other s n o) rest at p = refl
 
@@ -136,24 +150,28 @@ pairs_next : (m : Pairs) (rest : List Token) → pairs_start m ≡ next (spell_p
 pairs_next (tree.end_pairs s) rest = refl
 pairs_next (tree.block_pair s key v m) rest = refl
 
-ends_next : (ends : List Span) (rest : List Token) (at : yaml_mark_t) → at ≡ next rest → ends_start ends at ≡ next (spell_ends ends rest)
+ends_next : (ends : List Span) (rest : List Token) (at : yaml_mark_t) → at ≡ next rest
+    → ends_start ends at ≡ next (spell_ends ends rest)
 ends_next [] rest at p = p
 ends_next (s ∷ ends) rest at p = refl
 
-documents_next : (d : Documents) (rest : List Token) → documents_start d ≡ next (spell_documents d rest)
+documents_next : (d : Documents) (rest : List Token)
+    → documents_start d ≡ next (spell_documents d rest)
 documents_next (tree.end_stream s) rest = refl
 documents_next (tree.document [] s n ends d) rest = refl
 documents_next (tree.document (tree.version q major minor ∷ ds) s n ends d) rest = refl
 documents_next (tree.document (tree.handle q name prefix ∷ ds) s n ends d) rest = refl
 
-content_next : {w : Wants} (c : Content w) (rest : List Token) → content_start c ≡ next (spell_content c rest)
+content_next : {w : Wants} (c : Content w) (rest : List Token)
+    → content_start c ≡ next (spell_content c rest)
 content_next (tree.scalar s value style) rest = refl
 content_next (tree.flow b s i) rest = refl
 content_next (tree.block_sequence s e) rest = refl
 content_next (tree.block_mapping s m) rest = refl
 content_next (tree.indentless s n o) rest = refl
 
-properties_next : (d : PropertyTokens) (rest : List Token) → (tree.properties_of d).from ≡ next (spell_properties d rest)
+properties_next : (d : PropertyTokens) (rest : List Token)
+    → (tree.properties_of d).from ≡ next (spell_properties d rest)
 properties_next (tree.anchor a) rest = refl
 properties_next (tree.anchor_tag a t) rest = refl
 properties_next (tree.tag t) rest = refl
@@ -167,37 +185,47 @@ node_next (tree.bare c) rest = content_next c rest
 
 -- ---- parts without nodes
 
-properties_part : (d : PropertyTokens) (rest : List Token) (more : List Given) → Part [] (properties_turns d) rest (spell_properties d rest) more more
+properties_part : (d : PropertyTokens) (rest : List Token) (more : List Given)
+    → Part [] (properties_turns d) rest (spell_properties d rest) more more
 properties_part (tree.anchor a) rest more = asked _ (nothing rest more)
 properties_part (tree.anchor_tag a t) rest more = asked _ (asked _ (nothing rest more))
 properties_part (tree.tag t) rest more = asked _ (nothing rest more)
 properties_part (tree.tag_anchor t a) rest more = asked _ (asked _ (nothing rest more))
 
 -- an event of its own token
-own_event : (e : RawEvent) (t : Token) (rest : List Token) (more : List Given) → Part (e ∷ []) (asks ∷ gives ∷ []) rest (t ∷ rest) more ((e, length rest) ∷ more)
+own_event : (e : RawEvent) (t : Token) (rest : List Token) (more : List Given)
+    → Part (e ∷ []) (asks ∷ gives ∷ []) rest (t ∷ rest) more ((e, length rest) ∷ more)
 own_event e t rest more = asked t (gave e (nothing rest more))
 
 -- an event that the next token tells
-next_event : (e : yaml_mark_t → RawEvent) (at : yaml_mark_t) (rest : List Token) (more : List Given) → at ≡ next rest → Part (e at ∷ []) (gives_at_next ∷ []) rest rest more ((e (next rest), behind rest) ∷ more)
+next_event : (e : yaml_mark_t → RawEvent) (at : yaml_mark_t) (rest : List Token) (more : List Given)
+    → at ≡ next rest
+    → Part (e at ∷ []) (gives_at_next ∷ []) rest rest more ((e (next rest), behind rest) ∷ more)
 next_event e at rest more p = gave_next e at p (nothing rest more)
 
-lone_part : (b : Brackets) (at : yaml_mark_t) (rest : List Token) (more : List Given) → at ≡ next rest → Part (lone_value b at) (lone_turns b) rest rest more (lone b rest more)
+lone_part : (b : Brackets) (at : yaml_mark_t) (rest : List Token) (more : List Given)
+    → at ≡ next rest → Part (lone_value b at) (lone_turns b) rest rest more (lone b rest more)
 lone_part brackets.Sequence at rest more p = nothing rest more
 lone_part brackets.Mapping at rest more p = next_event blank at rest more p
 
-opens_part : (b : Brackets) (s : Span) (rest : List Token) (more : List Given) → Part (pair_opens b s) (pair_opens_turns b) rest rest more (pair_start b s rest more)
+opens_part : (b : Brackets) (s : Span) (rest : List Token) (more : List Given)
+    → Part (pair_opens b s) (pair_opens_turns b) rest rest more (pair_start b s rest more)
 opens_part brackets.Sequence s rest more = gave _ (nothing rest more)
 opens_part brackets.Mapping s rest more = nothing rest more
 
-closes_part : (b : Brackets) (at : yaml_mark_t) (rest : List Token) (more : List Given) → at ≡ next rest → Part (pair_closes b at) (pair_closes_turns b) rest rest more (pair_end b rest more)
+closes_part : (b : Brackets) (at : yaml_mark_t) (rest : List Token) (more : List Given)
+    → at ≡ next rest
+    → Part (pair_closes b at) (pair_closes_turns b) rest rest more (pair_end b rest more)
 closes_part brackets.Sequence at rest more p = next_event (λ m. event_at event.mapping_end m m) at rest more p
 closes_part brackets.Mapping at rest more p = nothing rest more
 
 -- ---- nodes
 
 mutual
-  node_part : {w : Wants} (n : Node w) (at : yaml_mark_t) (rest : List Token) (more : List Given) → at ≡ next rest
-      → Part (node_events n at) (node_turns n) rest (spell_node n rest) more (items_node n rest more)
+  node_part : {w : Wants} (n : Node w) (at : yaml_mark_t) (rest : List Token) (more : List Given)
+      → at ≡ next rest
+      → Part (node_events n at) (node_turns n) rest (spell_node n rest) more
+      (items_node n rest more)
   node_part (tree.alias s name) at rest more p = own_event _ _ rest more
   node_part (tree.only_properties d) at rest more p =
       both (properties_part d rest _) (next_event (λ m. item.properties_alone (tree.properties_of d)) at rest more p)
@@ -205,8 +233,10 @@ mutual
       both (properties_part d (spell_content c rest) _) (content_part c (Some (tree.properties_of d)) at rest more p)
   node_part (tree.bare c) at rest more p = content_part c None at rest more p
 
-  content_part : {w : Wants} (c : Content w) (o : Option Properties) (at : yaml_mark_t) (rest : List Token) (more : List Given) → at ≡ next rest
-      → Part (content_events c o at) (content_turns c) rest (spell_content c rest) more (items_content c o rest more)
+  content_part : {w : Wants} (c : Content w) (o : Option Properties) (at : yaml_mark_t)
+      (rest : List Token) (more : List Given) → at ≡ next rest
+      → Part (content_events c o at) (content_turns c) rest (spell_content c rest) more
+      (items_content c o rest more)
   content_part (tree.scalar s value style) o at rest more p = own_event _ _ rest more
   content_part (tree.flow b s i) o at rest more p = asked _ (gave _ (items_part b i rest more))
   content_part (tree.block_sequence s e) o at rest more p = asked _ (gave _ (entries_part e rest more))
@@ -216,18 +246,23 @@ mutual
       (maybe_part n (IndentlessEntry side) s.to (others_start u at) (spell_others u rest) _ (others_next u rest at p))
       (others_part side u at rest more p)))
 
-  maybe_part : {w : Wants} (n : Maybe w) (place : Site) (before at : yaml_mark_t) (rest : List Token) (more : List Given) → at ≡ next rest
-      → Part (maybe_events n place before at) (maybe_turns n) rest (spell_maybe n rest) more (items_maybe n place before rest more)
+  maybe_part : {w : Wants} (n : Maybe w) (place : Site) (before at : yaml_mark_t)
+      (rest : List Token) (more : List Given) → at ≡ next rest
+      → Part (maybe_events n place before at) (maybe_turns n) rest (spell_maybe n rest) more
+      (items_maybe n place before rest more)
   maybe_part tree.left_out place before at rest more p = next_event (λ m. blank (mark_at place before m)) at rest more p
   maybe_part (tree.there n) place before at rest more p = node_part n at rest more p
 
-  colon_part : {w : Wants} (v : Colon w) (place : Site) (at : yaml_mark_t) (rest : List Token) (more : List Given) → at ≡ next rest
-      → Part (colon_events v place at) (colon_turns v) rest (spell_colon v rest) more (items_colon v place rest more)
+  colon_part : {w : Wants} (v : Colon w) (place : Site) (at : yaml_mark_t) (rest : List Token)
+      (more : List Given) → at ≡ next rest
+      → Part (colon_events v place at) (colon_turns v) rest (spell_colon v rest) more
+      (items_colon v place rest more)
   colon_part tree.no_colon place at rest more p = next_event blank at rest more p
   colon_part (tree.colon s n) place at rest more p = asked _ (maybe_part n place s.to at rest more p)
 
   items_part : (b : Brackets) (i : Items) (rest : List Token) (more : List Given)
-      → Part (items_events b i) (items_turns b i) rest (spell_items b i rest) more (items_items b i rest more)
+      → Part (items_events b i) (items_turns b i) rest (spell_items b i rest) more
+      (items_items b i rest more)
   items_part b (tree.end_items s) rest more = own_event _ _ rest more
   items_part b (tree.single n m) rest more =
       both (both
@@ -243,20 +278,24 @@ mutual
       (more_part b m rest more))
 
   more_part : (b : Brackets) (m : More) (rest : List Token) (more : List Given)
-      → Part (more_events b m) (more_turns b m) rest (spell_more b m rest) more (items_more b m rest more)
+      → Part (more_events b m) (more_turns b m) rest (spell_more b m rest) more
+      (items_more b m rest more)
   more_part b (tree.end_more s) rest more = own_event _ _ rest more
   more_part b (tree.comma s i) rest more = asked _ (items_part b i rest more)
 
   entries_part : (e : Entries) (rest : List Token) (more : List Given)
-      → Part (entries_events e) (entries_turns e) rest (spell_entries e rest) more (items_entries e rest more)
+      → Part (entries_events e) (entries_turns e) rest (spell_entries e rest) more
+      (items_entries e rest more)
   entries_part (tree.end_entries s) rest more = own_event _ _ rest more
   entries_part (tree.entry s n e) rest more =
       asked _ (both
       (maybe_part n Entry s.to (entries_start e) (spell_entries e rest) _ (entries_next e rest))
       (entries_part e rest more))
 
-  others_part : (side : Side) (u : Others) (at : yaml_mark_t) (rest : List Token) (more : List Given) → at ≡ next rest
-      → Part (others_events side u at) (others_turns u) rest (spell_others u rest) more (items_others side u rest more)
+  others_part : (side : Side) (u : Others) (at : yaml_mark_t) (rest : List Token)
+      (more : List Given) → at ≡ next rest
+      → Part (others_events side u at) (others_turns u) rest (spell_others u rest) more
+      (items_others side u rest more)
   others_part side tree.no_others at rest more p = next_event (λ m. event_at event.sequence_end m m) at rest more p
   others_part side (tree.other s n u) at rest more p =
       asked _ (both
@@ -264,7 +303,8 @@ mutual
       (others_part side u at rest more p))
 
   pairs_part : (m : Pairs) (rest : List Token) (more : List Given)
-      → Part (pairs_events m) (pairs_turns m) rest (spell_pairs m rest) more (items_pairs m rest more)
+      → Part (pairs_events m) (pairs_turns m) rest (spell_pairs m rest) more
+      (items_pairs m rest more)
   pairs_part (tree.end_pairs s) rest more = own_event _ _ rest more
   pairs_part (tree.block_pair s key v m) rest more =
       asked _ (both (both
@@ -275,21 +315,27 @@ mutual
 -- ---- documents
 
 directives_part : (ds : List Directive) (rest : List Token) (more : List Given)
-    → Part (directives_events ds) (directives_turns ds) rest (spell_directives ds rest) more (items_directives ds rest more)
+    → Part (directives_events ds) (directives_turns ds) rest (spell_directives ds rest) more
+    (items_directives ds rest more)
 directives_part [] rest more = nothing rest more
 directives_part (tree.version s major minor ∷ ds) rest more = asked _ (gave _ (directives_part ds rest more))
 directives_part (tree.handle s name prefix ∷ ds) rest more = asked _ (gave _ (directives_part ds rest more))
 
-asks_part : (ends : List Span) (rest : List Token) (more : List Given) → Part [] (each_asks ends) rest (spell_ends ends rest) more more
+asks_part : (ends : List Span) (rest : List Token) (more : List Given)
+    → Part [] (each_asks ends) rest (spell_ends ends rest) more more
 asks_part [] rest more = nothing rest more
 asks_part (s ∷ ends) rest more = asked _ (asks_part ends rest more)
 
-ends_part : (ends : List Span) (at : yaml_mark_t) (rest : List Token) (more : List Given) → at ≡ next rest
-    → Part (ends_events ends at) (ends_turns ends) rest (spell_ends ends rest) more (items_ends ends rest more)
+ends_part : (ends : List Span) (at : yaml_mark_t) (rest : List Token) (more : List Given)
+    → at ≡ next rest
+    → Part (ends_events ends at) (ends_turns ends) rest (spell_ends ends rest) more
+    (items_ends ends rest more)
 ends_part [] at rest more p = next_event (λ m. event_at (event.document_end true) m m) at rest more p
 ends_part (s ∷ ends) at rest more p = asked _ (gave _ (asks_part ends rest more))
 
-documents_part : (d : Documents) (rest : List Token) → Part (documents_events d) (documents_turns d) rest (spell_documents d rest) [] (items_documents d rest)
+documents_part : (d : Documents) (rest : List Token)
+    → Part (documents_events d) (documents_turns d) rest (spell_documents d rest) []
+    (items_documents d rest)
 documents_part (tree.end_stream s) rest = own_event _ _ rest []
 documents_part (tree.document ds s n ends d) rest =
     both (both (both (both
@@ -301,7 +347,8 @@ documents_part (tree.document ds s n ends d) rest =
     (documents_part d rest)
 
 first_part : (f : First) (at : yaml_mark_t) (rest : List Token) (more : List Given) → at ≡ next rest
-    → Part (first_events f at) (first_turns f) rest (spell_first f rest) more (items_first f rest more)
+    → Part (first_events f at) (first_turns f) rest (spell_first f rest) more
+    (items_first f rest more)
 first_part tree.no_first at rest more p = nothing rest more
 first_part (tree.first n ends) at rest more p =
     gave_next (λ m. item_at (item.document true) m m) (node_start n) (node_next n (spell_ends ends rest))
@@ -309,7 +356,8 @@ first_part (tree.first n ends) at rest more p =
     (node_part n (ends_start ends at) (spell_ends ends rest) _ (ends_next ends rest at p))
     (ends_part ends at rest more p))
 
-tree_part : (t : Stream) (rest : List Token) → Part (tree_events t) (tree_turns t) rest (spell t rest) [] (items t rest)
+tree_part : (t : Stream) (rest : List Token)
+    → Part (tree_events t) (tree_turns t) rest (spell t rest) [] (items t rest)
 tree_part t rest =
     asked _ (gave _ (both
     (first_part t.first (documents_start t.documents) (spell_documents t.documents rest) _ (documents_next t.documents rest))
@@ -320,7 +368,8 @@ tree_part t rest =
 events_of_tree : (t : Stream) (rest : List Token) → events_in (items t rest) ≡ tree_events t
 events_of_tree t rest = (tree_part t rest).events ∙ append-nil (tree_events t)
 
-numbers_of_tree : (t : Stream) (rest : List Token) → numbers_in (items t rest) ≡ unasked (tree_turns t) (length rest)
+numbers_of_tree : (t : Stream) (rest : List Token)
+    → numbers_in (items t rest) ≡ unasked (tree_turns t) (length rest)
 numbers_of_tree t rest = (tree_part t rest).numbers ∙ append-nil (unasked (tree_turns t) (length rest))
 
 pub items_given : ItemsAreGiven

@@ -36,7 +36,8 @@ length_on : (F us : List Token) → length (F ++ us) ≡ length F + length us
 length_on [] us = sym (zero-add (length us))
 length_on (t ∷ F) us = let h : length (F ++ us) ≡ length F + length us = length_on F us in counted h
   where
-    counted : length (F ++ us) ≡ length F + length us → length (t ∷ (F ++ us)) ≡ length (t ∷ F) + length us
+    counted : length (F ++ us) ≡ length F + length us
+        → length (t ∷ (F ++ us)) ≡ length (t ∷ F) + length us
     counted h = omega arith
 
 abbrev pub before : List Given → Outcome → Outcome
@@ -50,12 +51,15 @@ pub record Knows (l : Last) (s : List State) : Type 0 where
   pub stack : IsStack s
   pub stood : AllStood s
 
-pub knows_step : (x : State) (s s' : List State) (l : Last) (t : Token) (is : List RawEvent) → Knows l (x ∷ s) → feed (x ∷ s) t ≡ go is s' → Knows (last_of t.body) s'
+pub knows_step : (x : State) (s s' : List State) (l : Last) (t : Token) (is : List RawEvent)
+    → Knows l (x ∷ s) → feed (x ∷ s) t ≡ go is s' → Knows (last_of t.body) s'
 knows_step x s s' l t is k p =
     let h : Stacked t.body t.start_mark (open_in (x ∷ s)) s' = subst (FedKept t.body t.start_mark (open_in (x ∷ s))) p (fed_kept x s t k.stack k.topped.1 k.nested) in
     record { topped = h.kept.topped; nested = h.kept.nested; stack = h.stack; stood = subst FedStood p (feed_stood (x ∷ s) t k.stood) }
 
-pub takes_step : (x : State) (s s' : List State) (l : Last) (t : Token) (is : List RawEvent) → Knows l (x ∷ s) → feed (x ∷ s) t ≡ go is s' → (us : List Token) → Over s' Empty us → Over (x ∷ s) Empty (t ∷ us)
+pub takes_step : (x : State) (s s' : List State) (l : Last) (t : Token) (is : List RawEvent)
+    → Knows l (x ∷ s) → feed (x ∷ s) t ≡ go is s' → (us : List Token) → Over s' Empty us
+    → Over (x ∷ s) Empty (t ∷ us)
 takes_step x s s' l t is k p us h = subst (Takes Empty (x ∷ s) t) p (takes Empty (x ∷ s) t (stack_solid x s k.stack)) us h
 
 -- no front of the list is all that the stack waits for
@@ -73,18 +77,22 @@ pub record Walked (front behind : List Token) (l : Last) (s : List State) : Type
   pub items : List Given
   pub stack : List State
   pub knows : Knows (last_behind l front) stack
-  pub runs : (us : List Token) (f : Option Fault) → run (front ++ us) s f ≡ before (raised (length us) items) (run us stack f)
+  pub runs : (us : List Token) (f : Option Fault)
+      → run (front ++ us) s f ≡ before (raised (length us) items) (run us stack f)
   pub goes : (us : List Token) → Over stack Empty us → Over s Empty (front ++ us)
   pub unfinished : Unfinished stack behind
 
-list_step : (n m k : ℕ) (is : List RawEvent) (gs rest : List Given) → k ≡ m + n → numbered k is ++ (raised n gs ++ rest) ≡ raised n (numbered m is ++ gs) ++ rest
+list_step : (n m k : ℕ) (is : List RawEvent) (gs rest : List Given) → k ≡ m + n
+    → numbered k is ++ (raised n gs ++ rest) ≡ raised n (numbered m is ++ gs) ++ rest
 list_step n m k is gs rest e =
     ap (λ (z : ℕ). numbered z is ++ (raised n gs ++ rest)) e
     ∙ ap (λ (z : List Given). z ++ (raised n gs ++ rest)) (sym (raised_numbered n m is))
     ∙ sym (append_assoc (raised n (numbered m is)) (raised n gs) rest)
     ∙ ap (λ (z : List Given). z ++ rest) (sym (raised_on n (numbered m is) gs))
 
-outcome_step : (n m k : ℕ) (is : List RawEvent) (gs : List Given) (o p : Outcome) → k ≡ m + n → o ≡ before (raised n gs) p → before (numbered k is) o ≡ before (raised n (numbered m is ++ gs)) p
+outcome_step : (n m k : ℕ) (is : List RawEvent) (gs : List Given) (o p : Outcome) → k ≡ m + n
+    → o ≡ before (raised n gs) p
+    → before (numbered k is) o ≡ before (raised n (numbered m is ++ gs)) p
 outcome_step n m k is gs o p e h =
     ap (λ (z : Outcome). before (numbered k is) z) h
     ∙ ap (λ (z : List Given). let r : Outcome = record { items = z; ending = p.ending } in r) (list_step n m k is gs p.items e)
@@ -92,9 +100,12 @@ outcome_step n m k is gs o p e h =
 not_none : (e : Fault) → Some e ≡ None → ⊥
 not_none e h = cc
 
-walk_on : (t : Token) (front behind more : List Token) (l : Last) (x : State) (s : List State) (fed : Fed) → feed (x ∷ s) t ≡ fed → Knows l (x ∷ s) → Unfinished (x ∷ s) (t ∷ (front ++ behind))
+walk_on : (t : Token) (front behind more : List Token) (l : Last) (x : State) (s : List State)
+    (fed : Fed) → feed (x ∷ s) t ≡ fed → Knows l (x ∷ s)
+    → Unfinished (x ∷ s) (t ∷ (front ++ behind))
     → (run (t ∷ (front ++ more)) (x ∷ s) None).ending ≡ None
-    → ((s' : List State) → Knows (last_of t.body) s' → Unfinished s' (front ++ behind) → (run (front ++ more) s' None).ending ≡ None → Walked front behind (last_of t.body) s')
+    → ((s' : List State) → Knows (last_of t.body) s' → Unfinished s' (front ++ behind)
+    → (run (front ++ more) s' None).ending ≡ None → Walked front behind (last_of t.body) s')
     → Walked (t ∷ front) behind l (x ∷ s)
 walk_on t front behind more l x s (stop is e) p k u a r = absurd (not_none e (sym (ap (λ (o : Outcome). o.ending) (runs_fed (x ∷ s) t (front ++ more) None (stop is e) p)) ∙ a))
 walk_on t front behind more l x s (go is s') p k u a r =
@@ -111,7 +122,9 @@ walk_on t front behind more l x s (go is s') p k u a r =
       unfinished = w.unfinished;
     }
 
-pub walk : (front behind more : List Token) (l : Last) (s : List State) → Knows l s → Unfinished s (front ++ behind) → (run (front ++ more) s None).ending ≡ None → Walked front behind l s
+pub walk : (front behind more : List Token) (l : Last) (s : List State) → Knows l s
+    → Unfinished s (front ++ behind) → (run (front ++ more) s None).ending ≡ None
+    → Walked front behind l s
 walk [] behind more l s k u a = record { items = []; stack = s; knows = k; runs = λ us f. refl; goes = λ us h. h; unfinished = u }
 walk (t ∷ front) behind more l [] k u a = absurd (u [] (t ∷ (front ++ behind)) refl refl)
 walk (t ∷ front) behind more l (x ∷ s) k u a = walk_on t front behind more l x s (feed (x ∷ s) t) refl k u a (λ s' k' u' a'. walk front behind more (last_of t.body) s' k' u' a')

@@ -17,15 +17,19 @@ abbrev pub entry_of : {X : Type 0} → Name × X → List ℕ × X
 entry_of e = (e.0.items, e.1)
 
 pub found : {X : Type 0} (name : List ℕ) (es : List (Name × X))
-    → lookup (is_at (λ (k : Name). slice_cmp nat_cmp name k.items)) es ≡ get (from_entries {R = slice_cmp nat_cmp} (map entry_of es)) name
+    → lookup (is_at (λ (k : Name). slice_cmp nat_cmp name k.items)) es
+    ≡ get (from_entries {R = slice_cmp nat_cmp} (map entry_of es)) name
 found name es = looked name es ∙ sym (get-from_entries nat_list_cmp_total (map entry_of es) name)
   where
-    looked : {X : Type 0} (name : List ℕ) (es : List (Name × X)) → lookup (is_at (λ (k : Name). slice_cmp nat_cmp name k.items)) es ≡ find (slice_cmp nat_cmp) name (map entry_of es)
+    looked : {X : Type 0} (name : List ℕ) (es : List (Name × X))
+        → lookup (is_at (λ (k : Name). slice_cmp nat_cmp name k.items)) es
+        ≡ find (slice_cmp nat_cmp) name (map entry_of es)
     looked name [] = refl
     looked name (e ∷ es) = ap (cond _ (Some e.1)) (looked name es)
 
 put_name : {X : Type 0} (es : List (Name × X)) (k : Name) (v : X)
-    → map entry_of (insert_entry (λ (a b : Name). slice_cmp nat_cmp a.items b.items) es k v) ≡ put (slice_cmp nat_cmp) k.items v (map entry_of es)
+    → map entry_of (insert_entry (λ (a b : Name). slice_cmp nat_cmp a.items b.items) es k v)
+    ≡ put (slice_cmp nat_cmp) k.items v (map entry_of es)
 put_name [] k v = refl
 put_name (e ∷ es) k v =
     elim (slice_cmp nat_cmp k.items e.0.items) as (λ r. map entry_of (match_ordering r ((k, v) ∷ e ∷ es) ((e.0, v) ∷ es) (e ∷ insert_entry (λ (a b : Name). slice_cmp nat_cmp a.items b.items) es k v))
@@ -36,7 +40,9 @@ put_name (e ∷ es) k v =
     ]
 
 pub inserted : {X : Type 0} (es : List (Name × X)) (k : Name) (v : X)
-    → from_entries {R = slice_cmp nat_cmp} (map entry_of (insert_entry (λ (a b : Name). slice_cmp nat_cmp a.items b.items) es k v)) ≡ insert (from_entries (map entry_of es)) k.items v
+    → from_entries {R = slice_cmp nat_cmp}
+    (map entry_of (insert_entry (λ (a b : Name). slice_cmp nat_cmp a.items b.items) es k v))
+    ≡ insert (from_entries (map entry_of es)) k.items v
 inserted es k v = same_map nat_list_cmp_total (slice_cmp-IsAntisymmetric nat_cmp-IsAntisymmetric) _ _ (λ q.
     get-from_entries nat_list_cmp_total _ q
     ∙ ap (find (slice_cmp nat_cmp) q) (put_name es k v)

@@ -35,18 +35,21 @@ wider_levels : (m n : ℕ) (os : List Open) → m ≤ n → AreSoundOpen m os �
 wider_levels m n [] h s = tt
 wider_levels m n (o ∷ os) h s = (wider_open m n o h s.0, wider_levels m n os h s.1)
 
-pub wider_found : (m n : ℕ) (o : Option ℤ) → m ≤ n → IfSome o (λ i. IsId m i) → IfSome o (λ i. IsId n i)
+pub wider_found : (m n : ℕ) (o : Option ℤ) → m ≤ n → IfSome o (λ i. IsId m i)
+    → IfSome o (λ i. IsId n i)
 wider_found m n None h s = s
 wider_found m n (Some i) h s = wider_id m n i h s
 
 -- ---- numbers put where they belong
 
-attached_sound : (m : ℕ) (id : ℤ) (o : Open) → IsId m id → IsSoundOpen m o → IsSoundOpen m (attached id o)
+attached_sound : (m : ℕ) (id : ℤ) (o : Open) → IsId m id → IsSoundOpen m o
+    → IsSoundOpen m (attached id o)
 attached_sound m id (open_sequence place items) h s = sound_ids_push m items id s h
 attached_sound m id (open_mapping place pairs None) h s = (s.0, h)
 attached_sound m id (open_mapping place pairs (Some key)) h s = (sound_pairs_push m pairs _ s.0 (s.1, h), tt)
 
-attach_sound : (m : ℕ) (id : ℤ) (os : List Open) → IsId m id → AreSoundOpen m os → AreSoundOpen m (attach id os)
+attach_sound : (m : ℕ) (id : ℤ) (os : List Open) → IsId m id → AreSoundOpen m os
+    → AreSoundOpen m (attach id os)
 attach_sound m id [] h s = tt
 attach_sound m id (o ∷ os) h s = (attached_sound m id o h s.0, s.1)
 
@@ -55,7 +58,8 @@ attach_sound m id (o ∷ os) h s = (attached_sound m id o h s.0, s.1)
 last_id : (m : ℕ) → IsId (suc m) (pos (suc m))
 last_id m = omega arith
 
-leaf_sound : (l : Loading) (n : Node) (known : Anchors) → IsLoading l → IsSoundNode (length l.document.nodes) n → AreAnchors (suc (length l.document.nodes)) known
+leaf_sound : (l : Loading) (n : Node) (known : Anchors) → IsLoading l
+    → IsSoundNode (length l.document.nodes) n → AreAnchors (suc (length l.document.nodes)) known
     → IsLoading (with_leaf l n known)
 leaf_sound l n known s h a =
     let grown : suc (length l.document.nodes) ≡ length (l.document.nodes ++ n ∷ []) = sym (length_push l.document.nodes n) in
@@ -66,23 +70,27 @@ leaf_sound l n known s h a =
       anchors = subst (λ (k : ℕ). AreAnchors k known) grown a;
     }
 
-open_sound : (l : Loading) (n : Node) (o : Open) (known : Anchors) → ((m : ℕ) → IsSoundOpen m o) → IsLoading (with_leaf l n known) → IsLoading (with_open l n o known)
+open_sound : (l : Loading) (n : Node) (o : Open) (known : Anchors) → ((m : ℕ) → IsSoundOpen m o)
+    → IsLoading (with_leaf l n known) → IsLoading (with_open l n o known)
 open_sound l n o known empty s = record { document = s.document; levels = (empty _, s.levels); anchors = s.anchors }
 
 -- ---- anchors
 
-pub inserted_sound : (m : ℕ) (b : Bool) (new : ℤ) (o : Option ℤ) → IsId m new → IfSome o (λ i. IsId m i) → IfSome (cond b (Some new) o) (λ i. IsId m i)
+pub inserted_sound : (m : ℕ) (b : Bool) (new : ℤ) (o : Option ℤ) → IsId m new
+    → IfSome o (λ i. IsId m i) → IfSome (cond b (Some new) o) (λ i. IsId m i)
 inserted_sound m true new o h s = h
 inserted_sound m false new o h s = s
 
-named_sound : (m : ℕ) (anchor : Option (List ℕ)) (new : ℤ) (known : Anchors) → AreAnchors m known → IsId m new → AreAnchors m (named anchor new known)
+named_sound : (m : ℕ) (anchor : Option (List ℕ)) (new : ℤ) (known : Anchors) → AreAnchors m known
+    → IsId m new → AreAnchors m (named anchor new known)
 named_sound m None new known s h = s
 named_sound m (Some name) new known s h = λ q.
     subst (λ (o : Option ℤ). IfSome o (λ i. IsId m i)) (sym (map.get-insert nat_list_cmp_total known name new q))
     (inserted_sound m (eq_by_cmp (slice_cmp nat_cmp) q name) new (map.get known q) h (s q))
 
 -- the anchors behind one node more
-next_sound : (l : Loading) (anchor : Option (List ℕ)) → IsLoading l → AreAnchors (suc (length l.document.nodes)) (named anchor (next l) l.anchors)
+next_sound : (l : Loading) (anchor : Option (List ℕ)) → IsLoading l
+    → AreAnchors (suc (length l.document.nodes)) (named anchor (next l) l.anchors)
 next_sound l anchor s =
     named_sound (suc (length l.document.nodes)) anchor (next l) l.anchors
     (λ q. wider_found _ _ (map.get l.anchors q) (omega arith) (s.anchors q)) (last_id _)
@@ -93,13 +101,15 @@ either_utf8 : (b : Bool) (x y : List ℕ) → IsUtf8 x → IsUtf8 y → IsUtf8 (
 either_utf8 true x y p q = p
 either_utf8 false x y p q = q
 
-loaded_utf8 : (tag : Option (List ℕ)) (default : List ℕ) → IsUtf8 default → IsUtf8Option tag → IsUtf8 (loaded_tag tag default)
+loaded_utf8 : (tag : Option (List ℕ)) (default : List ℕ) → IsUtf8 default → IsUtf8Option tag
+    → IsUtf8 (loaded_tag tag default)
 loaded_utf8 None default d h = d
 loaded_utf8 (Some tag) default d h = either_utf8 (is_bang tag) default tag d h
 
 -- ---- a collection's end
 
-filled_sound : (m : ℕ) (o : Open) (b : NodeBody) → IsSoundOpen m o → IsSoundBody m b → IsSoundBody m (filled_body o b)
+filled_sound : (m : ℕ) (o : Open) (b : NodeBody) → IsSoundOpen m o → IsSoundBody m b
+    → IsSoundBody m (filled_body o b)
 filled_sound m (open_sequence place items) node.no s h = h
 filled_sound m (open_sequence place items) (node.scalar value style) s h = h
 filled_sound m (open_sequence place items) (node.sequence none style) s h = s
@@ -109,7 +119,8 @@ filled_sound m (open_mapping place pairs key) (node.scalar value style) s h = h
 filled_sound m (open_mapping place pairs key) (node.sequence none style) s h = h
 filled_sound m (open_mapping place pairs key) (node.mapping none style) s h = s.0
 
-closed_sound : (to : yaml_mark_t) (l : Loading) (os : List Open) → IsLoading l → AreSoundOpen (length l.document.nodes) os → IsLoading (closed to l os)
+closed_sound : (to : yaml_mark_t) (l : Loading) (os : List Open) → IsLoading l
+    → AreSoundOpen (length l.document.nodes) os → IsLoading (closed to l os)
 closed_sound to l [] s h = s
 closed_sound to l (o ∷ os) s h =
     let same : length l.document.nodes ≡ length (change_place (filled o to) (place_of o) l.document.nodes) = sym (length_change _ _ _) in
@@ -125,7 +136,8 @@ closed_sound to l (o ∷ os) s h =
 
 -- ---- each event
 
-aliased_sound : (o : Option ℤ) (from : yaml_mark_t) (l : Loading) → IsLoading l → IfSome o (λ i. IsId (length l.document.nodes) i) → FedSound (aliased o from l)
+aliased_sound : (o : Option ℤ) (from : yaml_mark_t) (l : Loading) → IsLoading l
+    → IfSome o (λ i. IsId (length l.document.nodes) i) → FedSound (aliased o from l)
 aliased_sound None from l s h = tt
 aliased_sound (Some i) from l s h = record { document = s.document; levels = attach_sound _ i l.levels h s.levels; anchors = s.anchors }
 
@@ -135,7 +147,8 @@ no_anchors m name = subst (λ (o : Option ℤ). IfSome o (λ i. IsId m i)) (sym 
 pub nothing_sound : IsLoading nothing_loaded
 nothing_sound = record { document = record { directives = tt; nodes = tt }; levels = tt; anchors = no_anchors 0 }
 
-pub step_sound : (b : EventBody) (from to : yaml_mark_t) (l : Loading) → IsLoading l → HasUtf8 b → FedSound (step_body b from to l)
+pub step_sound : (b : EventBody) (from to : yaml_mark_t) (l : Loading) → IsLoading l → HasUtf8 b
+    → FedSound (step_body b from to l)
 step_sound event.no from to l s h = s
 step_sound (event.stream_start encoding) from to l s h = s
 step_sound event.stream_end from to l s h = s

@@ -17,11 +17,13 @@ use Rattle.yaml_parse_loader.specs.Anchors.{Anchors}
 use Rattle.yaml_parse_loader.specs.Numbering.{Head, Content, Contents, Pairs, alias, scalar, sequence, mapping, no_items, item, no_pairs, pair, spanning, events, item_events, pair_events, ◌>>=◌, Anchored, is_same, last_with, and_node, alias_number, scalar_node, sequence_node, mapping_node, number, number_items, number_pairs, DocumentContent, document_events, document_of}
 use Rattle.yaml_parse_loader.specs.Loading.{Open, open_sequence, open_mapping, Loading, attach, next, with_leaf, with_open, filled, closed, named, aliased, started, Loaded, document, turn, load, behind}
 
-behind_same : {A : Type 0} (r : Result A Fault) (f g : A → Loaded) → ((x : A) → f x ≡ g x) → behind r f ≡ behind r g
+behind_same : {A : Type 0} (r : Result A Fault) (f g : A → Loaded) → ((x : A) → f x ≡ g x)
+    → behind r f ≡ behind r g
 behind_same (Ok x) f g h = h x
 behind_same (Err e) f g h = refl
 
-behind_then : {A B : Type 0} (r : Result A Fault) (f : A → Result B Fault) (g : B → Loaded) → behind (r >>= f) g ≡ behind r (λ x. behind (f x) g)
+behind_then : {A B : Type 0} (r : Result A Fault) (f : A → Result B Fault) (g : B → Loaded)
+    → behind (r >>= f) g ≡ behind r (λ x. behind (f x) g)
 behind_then (Ok x) f g = refl
 behind_then (Err e) f g = refl
 
@@ -32,12 +34,14 @@ table [] = map.empty
 table (n ∷ before) = map.insert (table before) n.0 n.1
 
 -- what a name names there is the last of the nodes with it
-found_last : (name : List ℕ) (before : Anchored) → map.get (table before) name ≡ last_with name before
+found_last : (name : List ℕ) (before : Anchored)
+    → map.get (table before) name ≡ last_with name before
 found_last name [] = map.get-empty (slice_cmp nat_cmp) name
 found_last name (n ∷ before) =
     map.get-insert nat_list_cmp_total (table before) n.0 n.1 name ∙ ap (λ (o : Option ℤ). cond (is_same name n.0) (Some n.1) o) (found_last name before)
 
-named_table : (anchor : Option (List ℕ)) (n : ℤ) (before : Anchored) → named anchor n (table before) ≡ table (and_node anchor n before)
+named_table : (anchor : Option (List ℕ)) (n : ℤ) (before : Anchored)
+    → named anchor n (table before) ≡ table (and_node anchor n before)
 named_table None n before = refl
 named_table (Some name) n before = refl
 
@@ -67,24 +71,30 @@ add l ids ns before = made l.document (l.document.nodes ++ ns) (attach_all ids l
 abbrev add_pairs : Loading → List yaml_node_pair_t → List Node → Anchored → Loading
 add_pairs l ps ns before = made l.document (l.document.nodes ++ ns) (attach_pairs ps l.levels) (table before)
 
-attached_all : (ids items : List ℤ) (place : ℕ) (os : List Open) → attach_all ids (open_sequence place items ∷ os) ≡ open_sequence place (items ++ ids) ∷ os
+attached_all : (ids items : List ℤ) (place : ℕ) (os : List Open)
+    → attach_all ids (open_sequence place items ∷ os) ≡ open_sequence place (items ++ ids) ∷ os
 attached_all [] items place os = ap (λ is. open_sequence place is ∷ os) (sym (append-nil items))
 attached_all (n ∷ ids) items place os =
     attached_all ids (items ++ n ∷ []) place os ∙ ap (λ is. open_sequence place is ∷ os) (append_assoc items (n ∷ []) ids)
 
-attached_pairs : (ps pairs : List yaml_node_pair_t) (place : ℕ) (os : List Open) → attach_pairs ps (open_mapping place pairs None ∷ os) ≡ open_mapping place (pairs ++ ps) None ∷ os
+attached_pairs : (ps pairs : List yaml_node_pair_t) (place : ℕ) (os : List Open)
+    → attach_pairs ps (open_mapping place pairs None ∷ os) ≡ open_mapping place (pairs ++ ps) None
+    ∷ os
 attached_pairs [] pairs place os = ap (λ qs. open_mapping place qs None ∷ os) (sym (append-nil pairs))
 attached_pairs (p ∷ ps) pairs place os =
     attached_pairs ps (pairs ++ p ∷ []) place os ∙ ap (λ qs. open_mapping place qs None ∷ os) (append_assoc pairs (p ∷ []) ps)
 
 -- the node behind others, changed
-changed_at : (f : Node → Node) (xs ys : List Node) (x : Node) → change_place f (length xs) ((xs ++ x ∷ []) ++ ys) ≡ xs ++ f x ∷ ys
+changed_at : (f : Node → Node) (xs ys : List Node) (x : Node)
+    → change_place f (length xs) ((xs ++ x ∷ []) ++ ys) ≡ xs ++ f x ∷ ys
 changed_at f [] ys x = refl
 changed_at f (n ∷ xs) ys x = ap (λ ns. n ∷ ns) (changed_at f xs ys x)
 
 -- a collection that is closed is one numbered node more
-sequence_closes : (l : Loading) (h : Head) (style : yaml_sequence_style_t) (to : yaml_mark_t) (ids : List ℤ) (ns : List Node) (ks : Anchors) (before : Anchored)
-    → (let m : Loading = add (with_open l (sequence_node h [] style h.end_mark) (open_sequence (length l.document.nodes) []) ks) ids ns before in closed to m m.levels)
+sequence_closes : (l : Loading) (h : Head) (style : yaml_sequence_style_t) (to : yaml_mark_t)
+    (ids : List ℤ) (ns : List Node) (ks : Anchors) (before : Anchored)
+    → (let m : Loading = add (with_open l (sequence_node h [] style h.end_mark)
+    (open_sequence (length l.document.nodes) []) ks) ids ns before in closed to m m.levels)
     ≡ add l (next l ∷ []) (sequence_node h ids style to ∷ ns) before
 sequence_closes l h style to ids ns ks before =
     ap (λ (os : List Open). closed to (made l.document ((l.document.nodes ++ sequence_node h [] style h.end_mark ∷ []) ++ ns) os (table before)) os)
@@ -92,8 +102,10 @@ sequence_closes l h style to ids ns ks before =
     ∙ ap (λ (ms : List Node). made l.document ms (attach (next l) l.levels) (table before))
     (changed_at (filled (open_sequence (length l.document.nodes) ids) to) l.document.nodes ns (sequence_node h [] style h.end_mark))
 
-mapping_closes : (l : Loading) (h : Head) (style : yaml_mapping_style_t) (to : yaml_mark_t) (ps : List yaml_node_pair_t) (ns : List Node) (ks : Anchors) (before : Anchored)
-    → (let m : Loading = add_pairs (with_open l (mapping_node h [] style h.end_mark) (open_mapping (length l.document.nodes) [] None) ks) ps ns before in closed to m m.levels)
+mapping_closes : (l : Loading) (h : Head) (style : yaml_mapping_style_t) (to : yaml_mark_t)
+    (ps : List yaml_node_pair_t) (ns : List Node) (ks : Anchors) (before : Anchored)
+    → (let m : Loading = add_pairs (with_open l (mapping_node h [] style h.end_mark)
+    (open_mapping (length l.document.nodes) [] None) ks) ps ns before in closed to m m.levels)
     ≡ add l (next l ∷ []) (mapping_node h ps style to ∷ ns) before
 mapping_closes l h style to ps ns ks before =
     ap (λ (os : List Open). closed to (made l.document ((l.document.nodes ++ mapping_node h [] style h.end_mark ∷ []) ++ ns) os (table before)) os)
@@ -101,8 +113,10 @@ mapping_closes l h style to ps ns ks before =
     ∙ ap (λ (ms : List Node). made l.document ms (attach (next l) l.levels) (table before))
     (changed_at (filled (open_mapping (length l.document.nodes) ps None) to) l.document.nodes ns (mapping_node h [] style h.end_mark))
 
-alias_loads : (o : Option ℤ) (at : yaml_mark_t) (l : Loading) (before : Anchored) (rest : List Event)
-    → turn (aliased o at (behind_nodes l before)) (load rest) rest ≡ behind (alias_number o at before) (λ r. load rest (add l (r.number ∷ []) r.nodes r.before))
+alias_loads : (o : Option ℤ) (at : yaml_mark_t) (l : Loading) (before : Anchored)
+    (rest : List Event)
+    → turn (aliased o at (behind_nodes l before)) (load rest) rest
+    ≡ behind (alias_number o at before) (λ r. load rest (add l (r.number ∷ []) r.nodes r.before))
 alias_loads None at l before rest = refl
 alias_loads (Some n) at l before rest = ap (λ (ns : List Node). load rest (made l.document ns (attach n l.levels) (table before))) (sym (append-nil l.document.nodes))
 
@@ -110,7 +124,9 @@ mutual
   unfolding load number
 
   pub loads : (c : Content) (rest : List Event) (l : Loading) (before : Anchored)
-      → load (events c rest) (behind_nodes l before) ≡ behind (number c (length l.document.nodes) before) (λ r. load rest (add l (r.number ∷ []) r.nodes r.before))
+      → load (events c rest) (behind_nodes l before)
+      ≡ behind (number c (length l.document.nodes) before)
+      (λ r. load rest (add l (r.number ∷ []) r.nodes r.before))
   loads (alias name at) rest l before =
       ap (λ (o : Option ℤ). turn (aliased o at.start_mark (behind_nodes l before)) (load rest) rest) (found_last name before)
       ∙ alias_loads (last_with name before) at.start_mark l before rest
@@ -136,7 +152,9 @@ mutual
       ∙ sym (behind_then (number_pairs pairs (suc (length l.document.nodes)) within) _ _)
 
   pub loads_items : (cs : Contents) (rest : List Event) (l : Loading) (before : Anchored)
-      → load (item_events cs rest) (behind_nodes l before) ≡ behind (number_items cs (length l.document.nodes) before) (λ r. load rest (add l r.number r.nodes r.before))
+      → load (item_events cs rest) (behind_nodes l before)
+      ≡ behind (number_items cs (length l.document.nodes) before)
+      (λ r. load rest (add l r.number r.nodes r.before))
   loads_items no_items rest l before = ap (λ (ns : List Node). load rest (made l.document ns l.levels (table before))) (sym (append-nil l.document.nodes))
   loads_items (item c more) rest l before =
       loads c (item_events more rest) l before
@@ -149,7 +167,9 @@ mutual
       ∙ sym (behind_then (number c (length l.document.nodes) before) _ _)
 
   pub loads_pairs : (cs : Pairs) (rest : List Event) (l : Loading) (before : Anchored)
-      → load (pair_events cs rest) (behind_nodes l before) ≡ behind (number_pairs cs (length l.document.nodes) before) (λ r. load rest (add_pairs l r.number r.nodes r.before))
+      → load (pair_events cs rest) (behind_nodes l before)
+      ≡ behind (number_pairs cs (length l.document.nodes) before)
+      (λ r. load rest (add_pairs l r.number r.nodes r.before))
   loads_pairs no_pairs rest l before = ap (λ (ns : List Node). load rest (made l.document ns l.levels (table before))) (sym (append-nil l.document.nodes))
   loads_pairs (pair key value more) rest l before =
       loads key (events value (pair_events more rest)) l before
@@ -168,7 +188,8 @@ mutual
       ∙ sym (behind_then (number key (length l.document.nodes) before) _ _)
 
 -- a document
-pub loads_document : (d : DocumentContent) (rest : List Event) (l : Loading) → load (document_events d rest) l ≡ behind (document_of d) (λ e. document e rest)
+pub loads_document : (d : DocumentContent) (rest : List Event) (l : Loading)
+    → load (document_events d rest) l ≡ behind (document_of d) (λ e. document e rest)
 unfolding load
 loads_document d rest l =
     loads d.root (spanning (event.document_end d.end_implicit) d.end_at.start_mark d.end_at.end_mark ∷ rest) (started d.version d.directives d.start_implicit d.start_at.start_mark) []

@@ -25,26 +25,30 @@ attached_sized id (open_sequence place items) h s = entry_more items id h
 attached_sized id (open_mapping place pairs None) h s = s
 attached_sized id (open_mapping place pairs (Some key)) h s = entry_more pairs _ h
 
-attach_sized : (id : ℤ) (os : List Open) → HaveRoom os → AreSizedOpen os → AreSizedOpen (attach id os)
+attach_sized : (id : ℤ) (os : List Open) → HaveRoom os → AreSizedOpen os
+    → AreSizedOpen (attach id os)
 attach_sized id [] h s = tt
 attach_sized id (o ∷ os) h s = (attached_sized id o h s.0, s.1)
 
 -- ---- a node more
 
-leaf_sized : (l : Loading) (n : Node) (known : Anchors) → HasRoomForNode l → IsSizedBody n.body → IsSizedLoading l → IsSizedLoading (with_leaf l n known)
+leaf_sized : (l : Loading) (n : Node) (known : Anchors) → HasRoomForNode l → IsSizedBody n.body
+    → IsSizedLoading l → IsSizedLoading (with_leaf l n known)
 leaf_sized l n known h b s = record {
   document = with_node_sized l.document n s.document h.0 b;
   levels = attach_sized (next l) l.levels h.1 s.levels;
 }
 
-open_sized : (l : Loading) (n : Node) (o : Open) (known : Anchors) → HasRoomForNode l → IsSizedBody n.body → IsSizedOpen o → IsSizedLoading l → IsSizedLoading (with_open l n o known)
+open_sized : (l : Loading) (n : Node) (o : Open) (known : Anchors) → HasRoomForNode l
+    → IsSizedBody n.body → IsSizedOpen o → IsSizedLoading l → IsSizedLoading (with_open l n o known)
 open_sized l n o known h b empty s =
     let leaf : IsSizedLoading (with_leaf l n known) = leaf_sized l n known h b s in
     record { document = leaf.document; levels = (empty, leaf.levels) }
 
 -- ---- a collection's end
 
-filled_sized : (o : Open) (b : NodeBody) → IsSizedOpen o → IsSizedBody b → IsSizedBody (filled_body o b)
+filled_sized : (o : Open) (b : NodeBody) → IsSizedOpen o → IsSizedBody b
+    → IsSizedBody (filled_body o b)
 filled_sized (open_sequence place items) node.no s h = h
 filled_sized (open_sequence place items) (node.scalar value style) s h = h
 filled_sized (open_sequence place items) (node.sequence none style) s h = (s, h.1)
@@ -54,12 +58,15 @@ filled_sized (open_mapping place pairs key) (node.scalar value style) s h = h
 filled_sized (open_mapping place pairs key) (node.sequence none style) s h = h
 filled_sized (open_mapping place pairs key) (node.mapping none style) s h = (h.0, s)
 
-place_sized : (f : Node → Node) (k : ℕ) (ns : List Node) → ((x : Node) → IsSizedBody x.body → IsSizedBody (f x).body) → AreSized ns → AreSized (change_place f k ns)
+place_sized : (f : Node → Node) (k : ℕ) (ns : List Node)
+    → ((x : Node) → IsSizedBody x.body → IsSizedBody (f x).body) → AreSized ns
+    → AreSized (change_place f k ns)
 place_sized f k [] h s = tt
 place_sized f zero (n ∷ ns) h s = (h n s.0, s.1)
 place_sized f (suc k) (n ∷ ns) h s = (s.0, place_sized f k ns h s.1)
 
-closed_sized : (to : yaml_mark_t) (l : Loading) (os : List Open) → IsSizedLoading l → AreSizedOpen os → IsSizedLoading (closed to l os)
+closed_sized : (to : yaml_mark_t) (l : Loading) (os : List Open) → IsSizedLoading l
+    → AreSizedOpen os → IsSizedLoading (closed to l os)
 closed_sized to l [] s h = s
 closed_sized to l (o ∷ os) s h = record {
   document = record {
@@ -71,14 +78,16 @@ closed_sized to l (o ∷ os) s h = record {
 
 -- ---- each event
 
-aliased_sized : (o : Option ℤ) (from : yaml_mark_t) (l : Loading) → HaveRoom l.levels → IsSizedLoading l → FedSized (aliased o from l)
+aliased_sized : (o : Option ℤ) (from : yaml_mark_t) (l : Loading) → HaveRoom l.levels
+    → IsSizedLoading l → FedSized (aliased o from l)
 aliased_sized None from l h s = tt
 aliased_sized (Some i) from l h s = record { document = s.document; levels = attach_sized i l.levels h s.levels }
 
 pub nothing_sized : IsSizedLoading nothing_loaded
 nothing_sized = record { document = record { nodes = omega arith; entries = tt }; levels = tt }
 
-pub step_sized : (b : EventBody) (from to : yaml_mark_t) (l : Loading) → IsSizedLoading l → HasRoomFor b l → FedSized (step_body b from to l)
+pub step_sized : (b : EventBody) (from to : yaml_mark_t) (l : Loading) → IsSizedLoading l
+    → HasRoomFor b l → FedSized (step_body b from to l)
 step_sized event.no from to l s h = s
 step_sized (event.stream_start encoding) from to l s h = s
 step_sized event.stream_end from to l s h = s

@@ -15,24 +15,29 @@ use Rattle.yaml_parse_loader.specs.Loading.{Open, Loading, LoadStep, goes_on, al
 use Rattle.yaml_parse_loader.specs.Sizes.{HasRoom, HaveRoom}
 use Rattle.yaml_parse_loader.specs.Views.{level_of, levels_of, taken_by, Applies}
 
-popped : (rest : List Level) (level : Level) → levels_of (rest ++ level ∷ []) ≡ level_of level ∷ levels_of rest
+popped : (rest : List Level) (level : Level)
+    → levels_of (rest ++ level ∷ []) ≡ level_of level ∷ levels_of rest
 popped rest level = ap reverse (map-append level_of rest (level ∷ [])) ∙ reverse-append (map level_of rest) (level_of level ∷ [])
 
 -- the last of a list changes: what stands before it, and itself
-last_set : (ls : List Level) (k : ℕ) (x : Level) → suc k ≡ length ls → set ls k x ≡ take k ls ++ x ∷ []
+last_set : (ls : List Level) (k : ℕ) (x : Level) → suc k ≡ length ls
+    → set ls k x ≡ take k ls ++ x ∷ []
 last_set [] k x h = absurd (omega arith)
 last_set (l ∷ []) zero x h = refl
 last_set (l ∷ m ∷ ls) zero x h = absurd (omega arith)
 last_set (l ∷ ls) (suc k) x h = ap (λ ms. l ∷ ms) (last_set ls k x (omega arith))
 
-last_is : (ls : List Level) (k : ℕ) (x : Level) → suc k ≡ length ls → x ≡ get_or ls k x → ls ≡ take k ls ++ x ∷ []
+last_is : (ls : List Level) (k : ℕ) (x : Level) → suc k ≡ length ls → x ≡ get_or ls k x
+    → ls ≡ take k ls ++ x ∷ []
 last_is [] k x h e = absurd (omega arith)
 last_is (l ∷ []) zero x h e = ap (λ m. m ∷ []) (sym e)
 last_is (l ∷ m ∷ ls) zero x h e = absurd (omega arith)
 last_is (l ∷ ls) (suc k) x h e = ap (λ ms. l ∷ ms) (last_is ls k x (omega arith) e)
 
-pub attaches : (n m : ℤ) (ls : List Level) (k : ℕ) (old new : Level) (r : Result Unit yaml_text_fault_t) → m ≡ n → suc k ≡ length ls → old ≡ get_or ls k old
-    → OnOk r ((level_of new ≡ attached m (level_of old)) × HasRoom (level_of old)) → OnOk r ((levels_of (set ls k new) ≡ attach n (levels_of ls)) × HaveRoom (levels_of ls))
+pub attaches : (n m : ℤ) (ls : List Level) (k : ℕ) (old new : Level)
+    (r : Result Unit yaml_text_fault_t) → m ≡ n → suc k ≡ length ls → old ≡ get_or ls k old
+    → OnOk r ((level_of new ≡ attached m (level_of old)) × HasRoom (level_of old))
+    → OnOk r ((levels_of (set ls k new) ≡ attach n (levels_of ls)) × HaveRoom (levels_of ls))
 attaches n m ls k old new (Err f) i h e p = tt
 attaches n m ls k old new (Ok u) i h e p =
     let before : levels_of ls ≡ level_of old ∷ levels_of (take k ls) = ap levels_of (last_is ls k old h e) ∙ popped (take k ls) old in
@@ -41,13 +46,16 @@ attaches n m ls k old new (Ok u) i h e p =
       subst HaveRoom (sym before) p.1,
     )
 
-set_changes : (f : Node → Node) (items : List yaml_node_t) (k : ℕ) (old new : yaml_node_t) → k < length items → old ≡ get_or items k old
-    → node_of new ≡ f (node_of old) → map node_of (set items k new) ≡ change_place f k (map node_of items)
+set_changes : (f : Node → Node) (items : List yaml_node_t) (k : ℕ) (old new : yaml_node_t)
+    → k < length items → old ≡ get_or items k old
+    → node_of new ≡ f (node_of old)
+    → map node_of (set items k new) ≡ change_place f k (map node_of items)
 set_changes f [] k old new h e i = absurd (omega arith)
 set_changes f (x ∷ items) zero old new h e i = ap (λ n. n ∷ map node_of items) (i ∙ ap (λ (m : yaml_node_t). f (node_of m)) e)
 set_changes f (x ∷ items) (suc k) old new h e i = ap (λ ns. node_of x ∷ ns) (set_changes f items k old new (omega arith) e i)
 
-outside : (f : Node → Node) (items : List yaml_node_t) (k : ℕ) → length items ≤ k → change_place f k (map node_of items) ≡ map node_of items
+outside : (f : Node → Node) (items : List yaml_node_t) (k : ℕ) → length items ≤ k
+    → change_place f k (map node_of items) ≡ map node_of items
 outside f [] k h = refl
 outside f (x ∷ items) zero h = absurd (omega arith)
 outside f (x ∷ items) (suc k) h = ap (λ ns. node_of x ∷ ns) (outside f items k (omega arith))
@@ -55,8 +63,10 @@ outside f (x ∷ items) (suc k) h = ap (λ ns. node_of x ∷ ns) (outside f item
 abbrev pub at_levels : Document → List Node → List Open → Anchors → Loading
 at_levels d ns ls known = record { document = record d { nodes = ns }; levels = ls; anchors = known }
 
-pub closes_inside : (d : Document) (known : Anchors) (items : List yaml_node_t) (levels rest : List Level) (level : Level) (to : yaml_mark_t) (k : ℕ) (old new : yaml_node_t)
-    → levels ≡ rest ++ level ∷ [] → k ≡ place_of (level_of level) → k < length items → old ≡ get_or items k old → node_of new ≡ filled (level_of level) to (node_of old)
+pub closes_inside : (d : Document) (known : Anchors) (items : List yaml_node_t)
+    (levels rest : List Level) (level : Level) (to : yaml_mark_t) (k : ℕ) (old new : yaml_node_t)
+    → levels ≡ rest ++ level ∷ [] → k ≡ place_of (level_of level) → k < length items
+    → old ≡ get_or items k old → node_of new ≡ filled (level_of level) to (node_of old)
     → at_levels d (map node_of (set items k new)) (levels_of rest) known
     ≡ closed to (at_levels d (map node_of items) (levels_of levels) known) (levels_of levels)
 closes_inside d known items levels rest level to k old new split at inside is fills =
@@ -65,7 +75,8 @@ closes_inside d known items levels rest level to k old new split at inside is fi
     (set_changes (filled (level_of level) to) items k old new inside is fills ∙ ap (λ (i : ℕ). change_place (filled (level_of level) to) i (map node_of items)) at)
     ∙ sym (ap (λ (ls : List Open). closed to (at_levels d (map node_of items) (levels_of levels) known) ls) top)
 
-pub closes_outside : (d : Document) (known : Anchors) (items : List yaml_node_t) (levels rest : List Level) (level : Level) (to : yaml_mark_t) (k : ℕ)
+pub closes_outside : (d : Document) (known : Anchors) (items : List yaml_node_t)
+    (levels rest : List Level) (level : Level) (to : yaml_mark_t) (k : ℕ)
     → levels ≡ rest ++ level ∷ [] → k ≡ place_of (level_of level) → length items ≤ k
     → at_levels d (map node_of items) (levels_of rest) known
     ≡ closed to (at_levels d (map node_of items) (levels_of levels) known) (levels_of levels)
@@ -77,13 +88,16 @@ closes_outside d known items levels rest level to k split at out =
 
 -- ---- what an event came to
 
-pub takes : (came : LoadStep) (at : yaml_mark_t) (HadRoom : Type 0) (new : Loading) (r : Result Unit yaml_text_fault_t) (v : Fed) → v ≡ taken_by r
+pub takes : (came : LoadStep) (at : yaml_mark_t) (HadRoom : Type 0) (new : Loading)
+    (r : Result Unit yaml_text_fault_t) (v : Fed) → v ≡ taken_by r
     → OnOk r ((came ≡ goes_on new) × HadRoom) → Applies came at HadRoom v new
 takes came at HadRoom new (Ok u) v e p = subst (λ (w : Fed). Applies came at HadRoom w new) (sym e) p
 takes came at HadRoom new (Err f) v e p = subst (λ (w : Fed). Applies came at HadRoom w new) (sym e) tt
 
-pub takes_alias : (l : Loading) (found : Option ℤ) (n m : ℤ) (levels : List Open) (at : yaml_mark_t) (r : Result Unit yaml_text_fault_t) (v : Fed) → found ≡ Some n → m ≡ n → v ≡ taken_by r
-    → OnOk r ((levels ≡ attach m l.levels) × HaveRoom l.levels) → Applies (aliased found at l) at (HaveRoom l.levels) v (record l { levels = levels })
+pub takes_alias : (l : Loading) (found : Option ℤ) (n m : ℤ) (levels : List Open) (at : yaml_mark_t)
+    (r : Result Unit yaml_text_fault_t) (v : Fed) → found ≡ Some n → m ≡ n → v ≡ taken_by r
+    → OnOk r ((levels ≡ attach m l.levels) × HaveRoom l.levels)
+    → Applies (aliased found at l) at (HaveRoom l.levels) v (record l { levels = levels })
 takes_alias l found n m levels at (Ok u) v f i e p =
     let took : aliased found at l ≡ goes_on (record l { levels = levels })
     = ap (λ o. aliased o at l) f ∙ ap (λ (z : ℤ). goes_on (record l { levels = attach z l.levels })) (sym i) ∙ ap (λ os. goes_on (record l { levels = os })) (sym p.0) in

@@ -14,7 +14,8 @@ abbrev Good : {A : Type 0} → Result A Fault → (A → Type 0) → Type 0
 Good (Ok x) P = P x
 Good (Err e) P = Unit {0}
 
-good_then : {A B : Type 0} (r : Result A Fault) (f : A → Result B Fault) (P : A → Type 0) (Q : B → Type 0) → Good r P → ((x : A) → P x → Good (f x) Q) → Good (r >>= f) Q
+good_then : {A B : Type 0} (r : Result A Fault) (f : A → Result B Fault) (P : A → Type 0)
+    (Q : B → Type 0) → Good r P → ((x : A) → P x → Good (f x) Q) → Good (r >>= f) Q
 good_then (Ok x) f P Q g h = h x g
 good_then (Err e) f P Q g h = tt
 
@@ -29,24 +30,29 @@ wider_nodes : (m n : ℕ) (before : Anchored) → m ≤ n → AreNodes m before 
 wider_nodes m n [] h s = tt
 wider_nodes m n (x ∷ before) h s = (wider_id m n x.1 h s.0, wider_nodes m n before h s.1)
 
-last_good : (m : ℕ) (name : List ℕ) (before : Anchored) → AreNodes m before → IfSome (last_with name before) (λ i. IsId m i)
+last_good : (m : ℕ) (name : List ℕ) (before : Anchored) → AreNodes m before
+    → IfSome (last_with name before) (λ i. IsId m i)
 last_good m name [] s = tt
 last_good m name (n ∷ before) s = inserted_sound m (is_same name n.0) n.1 (last_with name before) s.0 (last_good m name before s.1)
 
-entry_good : (count : ℕ) (anchor : Option (List ℕ)) (before : Anchored) → AreNodes count before → AreNodes (suc count) (and_node anchor (pos (suc count)) before)
+entry_good : (count : ℕ) (anchor : Option (List ℕ)) (before : Anchored) → AreNodes count before
+    → AreNodes (suc count) (and_node anchor (pos (suc count)) before)
 entry_good count None before s = wider_nodes count (suc count) before (omega arith) s
 entry_good count (Some name) before s = (omega arith, wider_nodes count (suc count) before (omega arith) s)
 
 -- ---- visits
 
-node_behind : (before after : List Node) (n : Node) → slice_get (before ++ n ∷ after) (length before) ≡ Some n
+node_behind : (before after : List Node) (n : Node)
+    → slice_get (before ++ n ∷ after) (length before) ≡ Some n
 node_behind [] after n = refl
 node_behind (x ∷ before) after n = node_behind before after n
 
-node_at_place : (nodes before after : List Node) (count : ℕ) (n : Node) → nodes ≡ before ++ n ∷ after → length before ≡ count → slice_get nodes count ≡ Some n
+node_at_place : (nodes before after : List Node) (count : ℕ) (n : Node)
+    → nodes ≡ before ++ n ∷ after → length before ≡ count → slice_get nodes count ≡ Some n
 node_at_place nodes before after count n e l = ap (λ (ns : List Node). slice_get ns count) e ∙ ap (λ (k : ℕ). slice_get (before ++ n ∷ after) k) (sym l) ∙ node_behind before after n
 
-met_again : (nodes : List Node) (seen after : ℕ) (id : ℤ) (ids : List ℤ) → IsId seen id → VisitsInPreorder nodes seen ids after → VisitsInPreorder nodes seen (id ∷ ids) after
+met_again : (nodes : List Node) (seen after : ℕ) (id : ℤ) (ids : List ℤ) → IsId seen id
+    → VisitsInPreorder nodes seen ids after → VisitsInPreorder nodes seen (id ∷ ids) after
 met_again nodes seen after (pos zero) ids h v = absurd h
 met_again nodes seen after (pos (suc k)) ids h v = again seen k after ids (omega arith) v
 met_again nodes seen after _ ids h v = absurd h
@@ -54,8 +60,10 @@ met_again nodes seen after _ ids h v = absurd h
 -- numbered content, wherever its nodes stand: what stands for it is visited, and then what follows
 record Placed {A : Type 0} (numbers : A → List ℤ) (count : ℕ) (r : Numbered A) : Type 0 where
   before : AreNodes (count + length r.nodes) r.before
-  visits : (nodes before after : List Node) (mid end : ℕ) (ids : List ℤ) → nodes ≡ before ++ (r.nodes ++ after) → length before ≡ count → mid ≡ count + length r.nodes
-      → VisitsInPreorder nodes mid ids end → VisitsInPreorder nodes count (numbers r.number ++ ids) end
+  visits : (nodes before after : List Node) (mid end : ℕ) (ids : List ℤ)
+      → nodes ≡ before ++ (r.nodes ++ after) → length before ≡ count → mid ≡ count + length r.nodes
+      → VisitsInPreorder nodes mid ids end
+      → VisitsInPreorder nodes count (numbers r.number ++ ids) end
 
 abbrev alone : ℤ → List ℤ
 alone id = id ∷ []
@@ -63,7 +71,8 @@ alone id = id ∷ []
 abbrev these : List ℤ → List ℤ
 these ids = ids
 
-alias_good : (o : Option ℤ) (count : ℕ) (before : Anchored) (at : _) → AreNodes count before → IfSome o (λ i. IsId count i) → Good (alias_number o at before) (Placed alone count)
+alias_good : (o : Option ℤ) (count : ℕ) (before : Anchored) (at : _) → AreNodes count before
+    → IfSome o (λ i. IsId count i) → Good (alias_number o at before) (Placed alone count)
 alias_good None count before at s h = tt
 alias_good (Some n) count before at s h = record {
   before = wider_nodes count _ before (omega arith) s;
@@ -73,17 +82,21 @@ alias_good (Some n) count before at s h = record {
 }
 
 -- a node, whose children are visited next
-opens : (nodes before after : List Node) (count mid end : ℕ) (ids : List ℤ) (n : Node) → nodes ≡ before ++ n ∷ after → length before ≡ count
-    → VisitsInPreorder nodes (suc count) (children n.body) mid → VisitsInPreorder nodes mid ids end → VisitsInPreorder nodes count (pos (suc count) ∷ ids) end
+opens : (nodes before after : List Node) (count mid end : ℕ) (ids : List ℤ) (n : Node)
+    → nodes ≡ before ++ n ∷ after → length before ≡ count
+    → VisitsInPreorder nodes (suc count) (children n.body) mid → VisitsInPreorder nodes mid ids end
+    → VisitsInPreorder nodes count (pos (suc count) ∷ ids) end
 opens nodes before after count mid end ids n split place inner v = first count mid end ids n (node_at_place nodes before after count n split place) inner v
 
-behind_node : (nodes before ns after : List Node) (n : Node) → nodes ≡ before ++ ((n ∷ ns) ++ after) → nodes ≡ (before ++ n ∷ []) ++ (ns ++ after)
+behind_node : (nodes before ns after : List Node) (n : Node) → nodes ≡ before ++ ((n ∷ ns) ++ after)
+    → nodes ≡ (before ++ n ∷ []) ++ (ns ++ after)
 behind_node nodes before ns after n e = e ∙ sym (append_assoc before (n ∷ []) (ns ++ after))
 
 mutual
   unfolding number
 
-  placed : (c : Content) (count : ℕ) (ks : Anchored) → AreNodes count ks → Good (number c count ks) (Placed alone count)
+  placed : (c : Content) (count : ℕ) (ks : Anchored) → AreNodes count ks
+      → Good (number c count ks) (Placed alone count)
   placed (alias name at) count ks s = alias_good (last_with name ks) count ks at.start_mark s (last_good count name ks s)
   placed (scalar h value plain quoted style) count ks s =
       record {
@@ -111,7 +124,8 @@ mutual
             opens nodes before (r.nodes ++ after) count mid end ids _ split place inner v;
       })
 
-  placed_items : (cs : Contents) (count : ℕ) (ks : Anchored) → AreNodes count ks → Good (number_items cs count ks) (Placed these count)
+  placed_items : (cs : Contents) (count : ℕ) (ks : Anchored) → AreNodes count ks
+      → Good (number_items cs count ks) (Placed these count)
   placed_items no_items count ks s = record {
     before = wider_nodes count _ ks (omega arith) s;
     visits = λ nodes before after mid end ids split place reach v.
@@ -128,7 +142,8 @@ mutual
             (length-append before r.nodes ∙ ap (λ (k : ℕ). k + length r.nodes) place) (omega (arith, reach, length-append r.nodes t.nodes)) v);
       }))
 
-  placed_pairs : (cs : Pairs) (count : ℕ) (ks : Anchored) → AreNodes count ks → Good (number_pairs cs count ks) (Placed pair_numbers count)
+  placed_pairs : (cs : Pairs) (count : ℕ) (ks : Anchored) → AreNodes count ks
+      → Good (number_pairs cs count ks) (Placed pair_numbers count)
   placed_pairs no_pairs count ks s = record {
     before = wider_nodes count _ ks (omega arith) s;
     visits = λ nodes before after mid end ids split place reach v.
@@ -163,7 +178,8 @@ root_number (scalar h value plain quoted style) = refl
 root_number (sequence h implicit style items at) = good_then (number_items items 1 (and_node h.anchor (pos 1) [])) _ (λ r. Unit {0}) _ (any_good _) (λ r b. refl)
 root_number (mapping h implicit style pairs at) = good_then (number_pairs pairs 1 (and_node h.anchor (pos 1) [])) _ (λ r. Unit {0}) _ (any_good _) (λ r b. refl)
 
-both_good : {A : Type 0} (r : Result A Fault) (P Q : A → Type 0) → Good r P → Good r Q → Good r (λ x. P x × Q x)
+both_good : {A : Type 0} (r : Result A Fault) (P Q : A → Type 0) → Good r P → Good r Q
+    → Good r (λ x. P x × Q x)
 both_good (Ok x) P Q p q = (p, q)
 both_good (Err e) P Q p q = tt
 
@@ -174,14 +190,15 @@ in_order r p e = subst (λ (id : ℤ). VisitsInPreorder r.nodes 0 (id ∷ []) (l
 pub numbered_in_order : (d : DocumentContent) → IfOk (document_of d) (λ e. IsInPreorder e.nodes)
 numbered_in_order d = finish (number d.root 0 []) (both_good _ _ _ (placed d.root 0 [] tt) (root_number d.root))
   where
-    finish : (r : Result (Numbered ℤ) Fault) → Good r (λ x. Placed alone 0 x × (x.number ≡ pos 1)) → IfOk (r >>= λ x. Ok (let e : Document = record {
-      version = d.version;
-      directives = d.directives;
-      start_implicit = d.start_implicit;
-      end_implicit = d.end_implicit;
-      start_mark = d.start_at.start_mark;
-      end_mark = d.end_at.end_mark;
-      nodes = x.nodes;
-    } in e)) (λ e. IsInPreorder e.nodes)
+    finish : (r : Result (Numbered ℤ) Fault) → Good r (λ x. Placed alone 0 x × (x.number ≡ pos 1))
+        → IfOk (r >>= λ x. Ok (let e : Document = record {
+          version = d.version;
+          directives = d.directives;
+          start_implicit = d.start_implicit;
+          end_implicit = d.end_implicit;
+          start_mark = d.start_at.start_mark;
+          end_mark = d.end_at.end_mark;
+          nodes = x.nodes;
+        } in e)) (λ e. IsInPreorder e.nodes)
     finish (Ok x) g = in_order x g.0 g.1
     finish (Err e) g = tt

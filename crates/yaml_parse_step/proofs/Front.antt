@@ -12,7 +12,8 @@ asked_of : (ts : List Token) → (length (rest_of ts) + 1 ≡ length ts + 0) ⊎
 asked_of [] = inr refl
 asked_of (t ∷ ts) = inl (omega arith)
 
-pub is_front : (o : Option Token) (ts : List Token) (f : Option Fault) (t : Token) (rest : List Token) (after : Option Fault)
+pub is_front : (o : Option Token) (ts : List Token) (f : Option Fault) (t : Token)
+    (rest : List Token) (after : Option Fault)
     → o ≡ None → GivesToken ts f t rest after → IsFront o ts f t rest after
 is_front o ts f t rest after e h = record {
   runs = λ s. rw (e, h.given, h.rest, h.same) (front_runs ts f h.may s);
@@ -20,13 +21,16 @@ is_front o ts f t rest after e h = record {
   stops = λ s. rw (e, h.given, h.rest) (front_stops ts s);
 }
 
-ends_here : (ts : List Token) (f : Option Fault) (e : Fault) → ts ≡ [] → f ≡ Some e → (s : List State) → run ts s f ≡ ending_at s e
+ends_here : (ts : List Token) (f : Option Fault) (e : Fault) → ts ≡ [] → f ≡ Some e
+    → (s : List State) → run ts s f ≡ ending_at s e
 ends_here ts f e p q s = rw (p, q) (ending_runs s e)
 
-stops_here : (ts rest : List Token) → rest ≡ [] → ts ≡ [] → (s : List State) → length rest ≡ unasked_at_stop ts s
+stops_here : (ts rest : List Token) → rest ≡ [] → ts ≡ [] → (s : List State)
+    → length rest ≡ unasked_at_stop ts s
 stops_here ts rest p q s = rw (p, q) (sym (nothing_stops s))
 
-pub has_no_front : (p : Option Token) (ts : List Token) (f : Option Fault) (e : Fault) (rest : List Token) (after : Option Fault)
+pub has_no_front : (p : Option Token) (ts : List Token) (f : Option Fault) (e : Fault)
+    (rest : List Token) (after : Option Fault)
     → p ≡ None → GivesFault ts f e rest after → HasNoFront p ts f e rest
 has_no_front p ts f e rest after n h = record {
   reason = elim h.reason [ inl m ↦ inl m | inr q ↦ inr (λ s. rw n (ends_here ts f e q.0 q.1 s)) ];
@@ -34,12 +38,14 @@ has_no_front p ts f e rest after n h = record {
 }
 
 -- What a source put into the slots that were lent.
-pub front_into : (r : Bool) (ts : List Token) (f : Option Fault) (t : Token) (e : Fault) (rest : List Token) (after : Option Fault)
+pub front_into : (r : Bool) (ts : List Token) (f : Option Fault) (t : Token) (e : Fault)
+    (rest : List Token) (after : Option Fault)
     → GivesInto r ts f t e rest after → HasFront r None ts f t rest after e
 front_into true ts f t e rest after h = is_front None ts f t rest after refl h
 front_into false ts f t e rest after h = has_no_front None ts f e rest after refl h
 
-pub utf8_into : (r : Bool) (ts : List Token) (f : Option Fault) (t : Token) (e : Fault) (rest : List Token) (after : Option Fault)
+pub utf8_into : (r : Bool) (ts : List Token) (f : Option Fault) (t : Token) (e : Fault)
+    (rest : List Token) (after : Option Fault)
     → GivesInto r ts f t e rest after → r ≡ true → HasUtf8 t.body
 utf8_into true ts f t e rest after h on = h.utf8
 utf8_into false ts f t e rest after h on = cc

@@ -24,8 +24,10 @@ use Rattle.yaml_parse_step.specs.Moves.{Moves, GaveEvent, Went, LeavesMachine, s
 use Rattle.yaml_parse_step.proofs.Moves.{node_moves}
 
 -- a node without properties
-pub went_node : (s : List State) (t : Token) (k : Shape) (a : Around) (f : Properties → List State) (q : Properties) (ds : Directives) (e : Event) → TurnsOn s t (seen.node k) a f
-    → e ≡ placed (node_event None None (shape_at k t.body)) (node_item k t) → GaveEvent s t ds e None (f q) ds
+pub went_node : (s : List State) (t : Token) (k : Shape) (a : Around) (f : Properties → List State)
+    (q : Properties) (ds : Directives) (e : Event) → TurnsOn s t (seen.node k) a f
+    → e ≡ placed (node_event None None (shape_at k t.body)) (node_item k t)
+    → GaveEvent s t ds e None (f q) ds
 went_node s t k a f q ds e h p =
     let b : node_event None None (shape_at k t.body) ≡ e.body = sym (ap (λ (x : Event). x.body) p) in
     record {
@@ -36,8 +38,11 @@ went_node s t k a f q ds e h p =
     }
 
 -- what an item came to
-pub went_on : (r : Settled) (s : List State) (t : Token) (i : RawEvent) (q : Properties) (ds behind : Directives) (e : Event) (g : Fault) (held : Option Token) (old new : Machine yaml_mark_t)
-    → ((p : Properties) → Moves s t i held (owned_states_by old p)) → LeavesMachine r old new → ComesTo i ds r e g behind → Went s t ds (step_of r) e g held (owned_states_by new q) behind
+pub went_on : (r : Settled) (s : List State) (t : Token) (i : RawEvent) (q : Properties)
+    (ds behind : Directives) (e : Event) (g : Fault) (held : Option Token)
+    (old new : Machine yaml_mark_t)
+    → ((p : Properties) → Moves s t i held (owned_states_by old p)) → LeavesMachine r old new
+    → ComesTo i ds r e g behind → Went s t ds (step_of r) e g held (owned_states_by new q) behind
 went_on came.Event s t i q ds behind e g held old new m l c = record {
   item = i;
   moves = subst (λ z. Moves s t i held (owned_states_by z q)) (sym l) (m q);
@@ -61,7 +66,9 @@ went_on came.Refused s t i q ds behind e g held old new m l c = (
 )
 
 -- of what is lent
-pub went_of : (r r' : Step) (b b' : StepBuffers) (s : List State) (t : Token) (ds : Directives) (e : Event) (g : Fault) → b ≡ b' → r ≡ r' → Went s t ds r' e g (peeked_of b') (states_in b') (directives_of b'.directives)
+pub went_of : (r r' : Step) (b b' : StepBuffers) (s : List State) (t : Token) (ds : Directives)
+    (e : Event) (g : Fault) → b ≡ b' → r ≡ r'
+    → Went s t ds r' e g (peeked_of b') (states_in b') (directives_of b'.directives)
     → Went s t ds r e g (peeked_of b) (states_in b) (directives_of b.directives)
 went_of r r' b b' s t ds e g p q h =
     subst (λ (z : StepBuffers). Went s t ds r e g (peeked_of z) (states_in z) (directives_of z.directives)) (sym p) (subst (λ (z : Step). Went s t ds z e g (peeked_of b') (states_in b') (directives_of b'.directives)) (sym q) h)

@@ -14,22 +14,29 @@ use Rattle.yaml_parse_step.specs.Stepped.{Stepped}
 use Rattle.yaml_parse_step.specs.Stepped as step
 use Rattle.yaml_parse_step.specs.Steps.{Raw, IsDone, OpensAt, IsStackStep}
 
-pub take_item_stands : (x : State) (t : Token) (s s' : List State) (i : RawEvent) (above : List State) → choice_at x (type_of t.body) ≡ Take → record { item = Some i; above = above } ≡ taken_at x t
+pub take_item_stands : (x : State) (t : Token) (s s' : List State) (i : RawEvent)
+    (above : List State) → choice_at x (type_of t.body) ≡ Take
+    → record { item = Some i; above = above } ≡ taken_at x t
     → s' ≡ above ++ s → IsStack (x ∷ s) → IsStack s' × StandsBehind i.body (is_between s')
 take_item_stands x t s s' i above c k e h =
     subst (λ (z : List State). StandsOn (Some i) z) (sym e) (subst (λ (y : Taken). StandsOn y.item (y.above ++ s)) (sym k) (taken_stands x t s c h))
 
-pub take_silent_stands : (x : State) (t : Token) (s s' : List State) (above : List State) → choice_at x (type_of t.body) ≡ Take → record { item = None; above = above } ≡ taken_at x t
+pub take_silent_stands : (x : State) (t : Token) (s s' : List State) (above : List State)
+    → choice_at x (type_of t.body) ≡ Take → record { item = None; above = above } ≡ taken_at x t
     → s' ≡ above ++ s → IsStack (x ∷ s) → IsStack s'
 take_silent_stands x t s s' above c k e h =
     subst (λ (z : List State). StandsOn None z) (sym e) (subst (λ (y : Taken). StandsOn y.item (y.above ++ s)) (sym k) (taken_stands x t s c h))
 
-pub leave_stands : (x : State) (t : Token) (s : List State) (i : RawEvent) → choice_at x (type_of t.body) ≡ Leave → i ≡ left_at x t.start_mark → IsStack (x ∷ s) → IsStack s × StandsBehind i.body (is_between s)
+pub leave_stands : (x : State) (t : Token) (s : List State) (i : RawEvent)
+    → choice_at x (type_of t.body) ≡ Leave → i ≡ left_at x t.start_mark → IsStack (x ∷ s)
+    → IsStack s × StandsBehind i.body (is_between s)
 leave_stands x t s i c e h =
     let u : IsStack s × StandsBehind (left_at x t.start_mark).body (is_between s) = left_stands x (type_of t.body) t.start_mark s c h in
     (u.0, subst (λ (j : RawEvent). StandsBehind j.body (is_between s)) (sym e) u.1)
 
-pub open_stands : (x : State) (t : Token) (s s' : List State) (r : Stepped) → choice_at x (type_of t.body) ≡ Open → OpensAt t.start_mark s r s' → IsStack (x ∷ s) → IsStackStep r s'
+pub open_stands : (x : State) (t : Token) (s s' : List State) (r : Stepped)
+    → choice_at x (type_of t.body) ≡ Open → OpensAt t.start_mark s r s' → IsStack (x ∷ s)
+    → IsStackStep r s'
 open_stands x t s s' (step.given i) c o h =
     let u : IsStack (opened t.start_mark ++ s) × (is_between (opened t.start_mark ++ s) ≡ false) = opened_stands x (type_of t.body) t.start_mark s c h in
     (subst IsStack (sym o.1) u.0, subst (λ (j : RawEvent). StandsBehind j.body (is_between s')) (sym o.0) (ap is_between o.1 ∙ u.1))
@@ -48,9 +55,11 @@ done_stands old new h = cleared_stands new.stack (ap (λ (r : Raw). r.stack) h.s
 pub silent_stands : (s : List State) → IsStack s → Unit {0} × IsStack s
 silent_stands s h = (tt, h)
 
-pub event_stands : (s : List State) (ds ds' : Directives) (i : RawEvent) (body : EventBody) → settle i ds ≡ gave body ds' → IsStack s × StandsBehind i.body (is_between s)
+pub event_stands : (s : List State) (ds ds' : Directives) (i : RawEvent) (body : EventBody)
+    → settle i ds ≡ gave body ds' → IsStack s × StandsBehind i.body (is_between s)
     → (is_between s ≡ parts_documents_behind body) × IsStack s
 event_stands s ds ds' i body e h = (subst (λ (c : Settled). SettledBehind c (is_between s)) e (settled_behind i.body i.from ds (is_between s) h.1), h.0)
 
-pub noted_stands : (s : List State) (i : RawEvent) → IsStack s × StandsBehind i.body (is_between s) → Unit {0} × IsStack s
+pub noted_stands : (s : List State) (i : RawEvent) → IsStack s × StandsBehind i.body (is_between s)
+    → Unit {0} × IsStack s
 noted_stands s i h = (tt, h.0)

@@ -18,31 +18,39 @@ use Rattle.yaml_parse_laws_trees.proofs.ByStep.{Loads, load_on, behind_all, load
 use Rattle.yaml_parse_laws_trees.specs.Falling.{AreFalling}
 use Rattle.yaml_parse_laws_trees.proofs.Falling.{has_more, nothing_more}
 
-pub keeps_first : (c : ParserRemaining) (l : Loading) → l ≡ nothing_loaded → AreFalling c.events c.ending_unasked → KeepsLoading c c l
+pub keeps_first : (c : ParserRemaining) (l : Loading) → l ≡ nothing_loaded
+    → AreFalling c.events c.ending_unasked → KeepsLoading c c l
 keeps_first c l e d = record { falls = d; none = λ p. p; same = ap (λ (x : Loading). loads c.events c.ending x) e; unasked = ap (λ (x : Loading). unasked_at_refusal c.events c.ending_unasked x) e; left = refl; ending = refl; ending_unasked = refl; answered = refl }
 
 -- the next event is fed
-fed : (i o n : ParserRemaining) (l : Loading) (e : Event) (c : LoadStep) → KeepsLoading i o l → GivesNext e o n → step e l ≡ c → loads_of i ≡ load_on c (loads n.events o.ending) n.events n.unasked
+fed : (i o n : ParserRemaining) (l : Loading) (e : Event) (c : LoadStep) → KeepsLoading i o l
+    → GivesNext e o n → step e l ≡ c
+    → loads_of i ≡ load_on c (loads n.events o.ending) n.events n.unasked
 unfolding loads
 fed i o n l e c k h s =
     sym k.same ∙ ap (λ (gs : List Told). loads gs o.ending l) h.events ∙ ap (λ (x : LoadStep). load_on x (loads n.events o.ending) n.events n.unasked) s
 
-fed_unasked : (i o n : ParserRemaining) (l : Loading) (e : Event) (c : LoadStep) → KeepsLoading i o l → GivesNext e o n → step e l ≡ c → unasked_of i ≡ unasked_on c n.unasked (unasked_at_refusal n.events o.ending_unasked)
+fed_unasked : (i o n : ParserRemaining) (l : Loading) (e : Event) (c : LoadStep)
+    → KeepsLoading i o l → GivesNext e o n → step e l ≡ c
+    → unasked_of i ≡ unasked_on c n.unasked (unasked_at_refusal n.events o.ending_unasked)
 unfolding unasked_at_refusal
 fed_unasked i o n l e c k h s =
     sym k.unasked ∙ ap (λ (gs : List Told). unasked_at_refusal gs o.ending_unasked l) h.events ∙ ap (λ (x : LoadStep). unasked_on x n.unasked (unasked_at_refusal n.events o.ending_unasked)) s
 
-fed_left : (i o n : ParserRemaining) (l : Loading) (e : Event) → KeepsLoading i o l → GivesNext e o n → left_behind n.events n.unasked ≡ left_behind i.events i.unasked
+fed_left : (i o n : ParserRemaining) (l : Loading) (e : Event) → KeepsLoading i o l
+    → GivesNext e o n → left_behind n.events n.unasked ≡ left_behind i.events i.unasked
 unfolding left_behind
 fed_left i o n l e k h = sym (ap (λ (gs : List Told). left_behind gs o.unasked) h.events) ∙ k.left
 
-falls_behind : (gs rest : List Told) (g : Told) (m k : ℕ) → gs ≡ g ∷ rest → k ≡ m → AreFalling gs m → AreFalling rest k
+falls_behind : (gs rest : List Told) (g : Told) (m k : ℕ) → gs ≡ g ∷ rest → k ≡ m → AreFalling gs m
+    → AreFalling rest k
 falls_behind gs rest g m k e p d = subst (AreFalling rest) (sym p) (subst (λ (z : List Told). AreFalling z m) e d).1
 
 none_before : (gs rest : List Told) (g : Told) → gs ≡ g ∷ rest → gs ≡ [] → rest ≡ []
 none_before gs rest g e p = let bad : [] ≡ g ∷ rest = sym p ∙ e in cc
 
-pub keeps_on : (i o n : ParserRemaining) (l m : Loading) (e : Event) → KeepsLoading i o l → GivesNext e o n → step e l ≡ goes_on m → KeepsLoading i n m
+pub keeps_on : (i o n : ParserRemaining) (l m : Loading) (e : Event) → KeepsLoading i o l
+    → GivesNext e o n → step e l ≡ goes_on m → KeepsLoading i n m
 keeps_on i o n l m e k h s = record {
   falls = falls_behind o.events n.events (e, n.unasked) o.ending_unasked n.ending_unasked h.events h.ending_unasked k.falls;
   none = λ p. none_before o.events n.events (e, n.unasked) h.events (k.none p);
@@ -57,32 +65,39 @@ keeps_on i o n l m e k h s = record {
 shorter : (es : List Told) (t : Told) (rest : List Told) → es ≡ t ∷ rest → length rest < length es
 shorter es t rest e = rw e (omega arith)
 
-pub keeps_less : (o n : ParserRemaining) (e : Event) → GivesNext e o n → length n.events < length o.events
+pub keeps_less : (o n : ParserRemaining) (e : Event) → GivesNext e o n
+    → length n.events < length o.events
 keeps_less o n e h = shorter o.events (e, n.unasked) n.events h.events
 
-pub loads_document : (i o n : ParserRemaining) (l : Loading) (e : Event) (d : Document) → KeepsLoading i o l → GivesNext e o n → step e l ≡ loaded d → LoadGives (loads_of i) d i n
+pub loads_document : (i o n : ParserRemaining) (l : Loading) (e : Event) (d : Document)
+    → KeepsLoading i o l → GivesNext e o n → step e l ≡ loaded d → LoadGives (loads_of i) d i n
 loads_document i o n l e d k h s =
     subst (λ (r : Loads). LoadGives r d i n) (sym (fed i o n l e (loaded d) k h s))
     (refl, record { events = refl; ending = h.ending ∙ k.ending; ending_unasked = h.ending_unasked ∙ k.ending_unasked; unasked = refl; answered = h.answered ∙ k.answered })
 
-all_fed : (i o : ParserRemaining) (l : Loading) (f : Option Fault) → KeepsLoading i o l → o.events ≡ [] → o.ending ≡ f → loads_of i ≡ behind_all f
+all_fed : (i o : ParserRemaining) (l : Loading) (f : Option Fault) → KeepsLoading i o l
+    → o.events ≡ [] → o.ending ≡ f → loads_of i ≡ behind_all f
 unfolding loads
 all_fed i o l f k p q = sym k.same ∙ ap (λ (gs : List Told). loads gs o.ending l) p ∙ ap behind_all q
 
-all_unasked : (i o : ParserRemaining) (l : Loading) → KeepsLoading i o l → o.events ≡ [] → unasked_of i ≡ o.ending_unasked
+all_unasked : (i o : ParserRemaining) (l : Loading) → KeepsLoading i o l → o.events ≡ []
+    → unasked_of i ≡ o.ending_unasked
 unfolding unasked_at_refusal
 all_unasked i o l k p = sym k.unasked ∙ ap (λ (gs : List Told). unasked_at_refusal gs o.ending_unasked l) p
 
-all_left : (i o : ParserRemaining) (l : Loading) → KeepsLoading i o l → o.events ≡ [] → o.unasked ≡ left_behind i.events i.unasked
+all_left : (i o : ParserRemaining) (l : Loading) → KeepsLoading i o l → o.events ≡ []
+    → o.unasked ≡ left_behind i.events i.unasked
 unfolding left_behind
 all_left i o l k p = sym (ap (λ (gs : List Told). left_behind gs o.unasked) p) ∙ k.left
 
-pub loads_nothing : (i o n : ParserRemaining) (l : Loading) (d : Document) → KeepsLoading i o l → GivesEnd o n → d ≡ no_document → LoadGives (loads_of i) d i n
+pub loads_nothing : (i o n : ParserRemaining) (l : Loading) (d : Document) → KeepsLoading i o l
+    → GivesEnd o n → d ≡ no_document → LoadGives (loads_of i) d i n
 loads_nothing i o n l d k h e =
     subst (λ (r : Loads). LoadGives r d i n) (sym (all_fed i o l None k h.events h.ending))
     (e, record { finished = h.nothing.finished; unasked = h.nothing.unasked ∙ all_left i o l k h.events; answered = h.nothing.answered ∙ k.answered })
 
-pub load_faulty : (i o n : ParserRemaining) (l : Loading) (f : Fault) → KeepsLoading i o l → FaultOf o f n → LoadRefuses f i n
+pub load_faulty : (i o n : ParserRemaining) (l : Loading) (f : Fault) → KeepsLoading i o l
+    → FaultOf o f n → LoadRefuses f i n
 load_faulty i o n l f k h = record {
   finished = h.finished;
   answered = h.answered;
@@ -90,8 +105,10 @@ load_faulty i o n l f k h = record {
   unasked = elim h.reason [ inl m ↦ inl (inr m) | inr q ↦ elim h.unasked [ inl m ↦ inl (inr m) | inr u ↦ inr (u ∙ sym (all_unasked i o l k q.0)) ] ];
 }
 
-pub load_refused : (i o n n' : ParserRemaining) (l : Loading) (e : Event) (f : Fault) → KeepsLoading i o l → GivesNext e o n
-    → (f ≡ memory_fault Loader) ⊎ (step e l ≡ refused f) → IsFinished n' → n'.answered ≡ f → n'.unasked ≡ n.unasked → LoadRefuses f i n'
+pub load_refused : (i o n n' : ParserRemaining) (l : Loading) (e : Event) (f : Fault)
+    → KeepsLoading i o l → GivesNext e o n
+    → (f ≡ memory_fault Loader) ⊎ (step e l ≡ refused f) → IsFinished n' → n'.answered ≡ f
+    → n'.unasked ≡ n.unasked → LoadRefuses f i n'
 load_refused i o n n' l e f k h r p q u = record {
   finished = p;
   answered = q;
@@ -101,28 +118,34 @@ load_refused i o n n' l e f k h r p q u = record {
 
 -- ---- what a refusal has to come, and has asked for
 
-pub load_more : (i o : ParserRemaining) (l : Loading) → KeepsLoading i o l → HasMore o.events o.ending → HasMore i.events i.ending
+pub load_more : (i o : ParserRemaining) (l : Loading) → KeepsLoading i o l
+    → HasMore o.events o.ending → HasMore i.events i.ending
 load_more i o l k h = has_more i.events i.ending (λ p q. nothing_more o.events o.ending (k.none p) (k.ending ∙ q) h)
 
-unasked_step : (c : LoadStep) (go : Loading → Loads) (u : Loading → ℕ) (rest : List Told) (left end n : ℕ) → left ≤ n → ((m : Loading) → unasked_by (go m) (u m) end ≤ left)
+unasked_step : (c : LoadStep) (go : Loading → Loads) (u : Loading → ℕ) (rest : List Told)
+    (left end n : ℕ) → left ≤ n → ((m : Loading) → unasked_by (go m) (u m) end ≤ left)
     → unasked_by (load_on c go rest left) (unasked_on c left u) end ≤ n
 unasked_step (goes_on m) go u rest left end n l h = let x = h m in omega (arith, x, l)
 unasked_step (loaded d) go u rest left end n l h = l
 unasked_step (refused f) go u rest left end n l h = l
 
-unasked_within : (gs : List Told) (f : Option Fault) (m n : ℕ) (l : Loading) → next_unasked gs m ≤ n → AreFalling gs m → unasked_by (loads gs f l) (unasked_at_refusal gs m l) (left_behind gs n) ≤ n
+unasked_within : (gs : List Told) (f : Option Fault) (m n : ℕ) (l : Loading) → next_unasked gs m ≤ n
+    → AreFalling gs m → unasked_by (loads gs f l) (unasked_at_refusal gs m l) (left_behind gs n) ≤ n
 unfolding loads unasked_at_refusal left_behind
 unasked_within [] None m n l h d = omega arith
 unasked_within [] (Some e) m n l h d = h
 unasked_within (g ∷ gs) f m n l h d = unasked_step (step g.0 l) (loads gs f) (unasked_at_refusal gs m) gs g.1 (left_behind gs g.1) n h (λ k. unasked_within gs f m g.1 k d.0 d.1)
 
-unasked_next : (gs : List Told) (f : Option Fault) (m n : ℕ) (l : Loading) → HasMore gs f → AreFalling gs m → unasked_by (loads gs f l) (unasked_at_refusal gs m l) (left_behind gs n) ≤ next_unasked gs m
+unasked_next : (gs : List Told) (f : Option Fault) (m n : ℕ) (l : Loading) → HasMore gs f
+    → AreFalling gs m
+    → unasked_by (loads gs f l) (unasked_at_refusal gs m l) (left_behind gs n) ≤ next_unasked gs m
 unfolding loads unasked_at_refusal left_behind
 unasked_next [] None m n l h d = absurd h
 unasked_next [] (Some e) m n l h d = omega arith
 unasked_next (g ∷ gs) f m n l h d = unasked_step (step g.0 l) (loads gs f) (unasked_at_refusal gs m) gs g.1 (left_behind gs g.1) g.1 (omega arith) (λ k. unasked_within gs f m g.1 k d.0 d.1)
 
-unasked_first : (i o : ParserRemaining) (l : Loading) → KeepsLoading i o l → HasMore o.events o.ending → answer_unasked i ≤ next_unasked o.events o.ending_unasked
+unasked_first : (i o : ParserRemaining) (l : Loading) → KeepsLoading i o l
+    → HasMore o.events o.ending → answer_unasked i ≤ next_unasked o.events o.ending_unasked
 unasked_first i o l k h =
     let same : unasked_by (loads o.events o.ending l) (unasked_at_refusal o.events o.ending_unasked l) (left_behind o.events o.unasked) ≡ answer_unasked i =
     ap (λ (r : Loads). unasked_by r (unasked_at_refusal o.events o.ending_unasked l) (left_behind o.events o.unasked)) k.same
@@ -130,7 +153,8 @@ unasked_first i o l k h =
     ∙ ap (λ (u : ℕ). unasked_by (loads_of i) (unasked_of i) u) k.left in
     subst (λ (x : ℕ). x ≤ next_unasked o.events o.ending_unasked) same (unasked_next o.events o.ending o.ending_unasked o.unasked l h k.falls)
 
-pub load_asked : (i o n : ParserRemaining) (l : Loading) (f : Fault) → KeepsLoading i o l → FaultOf o f n → IsMemoryFault scan_layers f ⊎ (answer_unasked i ≤ n.unasked)
+pub load_asked : (i o n : ParserRemaining) (l : Loading) (f : Fault) → KeepsLoading i o l
+    → FaultOf o f n → IsMemoryFault scan_layers f ⊎ (answer_unasked i ≤ n.unasked)
 load_asked i o n l f k h = elim h.asked [ inl m ↦ inl m | inr a ↦ let b = unasked_first i o l k h.more in inr (omega (arith, a, b)) ]
 
 -- the same where the loader refuses the event that was given
@@ -140,10 +164,13 @@ more_of gs rest g f e = rw e tt
 next_of : (gs rest : List Told) (g : Told) (m : ℕ) → gs ≡ g ∷ rest → next_unasked gs m ≡ g.1
 next_of gs rest g m e = rw e refl
 
-pub fed_more : (i o n : ParserRemaining) (l : Loading) (e : Event) → KeepsLoading i o l → GivesNext e o n → HasMore i.events i.ending
+pub fed_more : (i o n : ParserRemaining) (l : Loading) (e : Event) → KeepsLoading i o l
+    → GivesNext e o n → HasMore i.events i.ending
 fed_more i o n l e k h = load_more i o l k (more_of o.events n.events (e, n.unasked) o.ending h.events)
 
-pub fed_asked : (i o n n' : ParserRemaining) (l : Loading) (e : Event) (f : Fault) → KeepsLoading i o l → GivesNext e o n → n'.unasked ≡ n.unasked → IsMemoryFault scan_layers f ⊎ (answer_unasked i ≤ n'.unasked)
+pub fed_asked : (i o n n' : ParserRemaining) (l : Loading) (e : Event) (f : Fault)
+    → KeepsLoading i o l → GivesNext e o n → n'.unasked ≡ n.unasked
+    → IsMemoryFault scan_layers f ⊎ (answer_unasked i ≤ n'.unasked)
 fed_asked i o n n' l e f k h u =
     let a = unasked_first i o l k (more_of o.events n.events (e, n.unasked) o.ending h.events) in
     let b = next_of o.events n.events (e, n.unasked) o.ending_unasked h.events in
@@ -151,11 +178,13 @@ fed_asked i o n n' l e f k h u =
 
 -- ---- behind a document
 
-aliased_on : (o : Option ℤ) (at : yaml_mark_t) (l : Loading) (d : Document) → aliased o at l ≡ loaded d → ⊥
+aliased_on : (o : Option ℤ) (at : yaml_mark_t) (l : Loading) (d : Document)
+    → aliased o at l ≡ loaded d → ⊥
 aliased_on None at l d e = cc
 aliased_on (Some n) at l d e = cc
 
-parted : (b : EventBody) (from to : yaml_mark_t) (l : Loading) (d : Document) → step_body b from to l ≡ loaded d → parts_documents_behind b ≡ true
+parted : (b : EventBody) (from to : yaml_mark_t) (l : Loading) (d : Document)
+    → step_body b from to l ≡ loaded d → parts_documents_behind b ≡ true
 parted event.no from to l d e = refl
 parted (event.stream_start encoding) from to l d e = refl
 parted event.stream_end from to l d e = refl
@@ -168,18 +197,21 @@ parted (event.mapping_start anchor tag implicit style) from to l d e = cc
 parted event.sequence_end from to l d e = cc
 parted event.mapping_end from to l d e = cc
 
-pub between_documents : (e : Event) (l : Loading) (d : Document) (between : Bool) → step e l ≡ loaded d → between ≡ parts_documents_behind e.body → between ≡ true
+pub between_documents : (e : Event) (l : Loading) (d : Document) (between : Bool)
+    → step e l ≡ loaded d → between ≡ parts_documents_behind e.body → between ≡ true
 between_documents e l d between s h = h ∙ parted e.body e.start_mark e.end_mark l d s
 
 -- ---- events alone
 
-same_on : (c : LoadStep) (gs : List Told) (left : ℕ) (f : Option Fault) → ((l : Loading) → LoadsSame f (load (told_events gs) l) (loads gs f l))
+same_on : (c : LoadStep) (gs : List Told) (left : ℕ) (f : Option Fault)
+    → ((l : Loading) → LoadsSame f (load (told_events gs) l) (loads gs f l))
     → LoadsSame f (turn c (load (told_events gs)) (told_events gs)) (load_on c (loads gs f) gs left)
 same_on (goes_on l) gs left f h = h l
 same_on (loaded d) gs left f h = (refl, refl)
 same_on (refused g) gs left f h = refl
 
-pub loads_same : (gs : List Told) (f : Option Fault) (l : Loading) → LoadsSame f (load (told_events gs) l) (loads gs f l)
+pub loads_same : (gs : List Told) (f : Option Fault) (l : Loading)
+    → LoadsSame f (load (told_events gs) l) (loads gs f l)
 unfolding load loads
 loads_same [] f l = refl
 loads_same (g ∷ gs) f l = same_on (step g.0 l) gs g.1 f (λ m. loads_same gs f m)

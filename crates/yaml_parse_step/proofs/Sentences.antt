@@ -19,14 +19,18 @@ use Rattle.yaml_parse_laws_trees.specs.Given.{IsLongest, GivesLeast, EventsOfTok
 use Rattle.yaml_parse_laws_trees.proofs.Giving.{run_gives_events, run_gives_least, events_are_run}
 use Rattle.yaml_parse_step.specs.Fronts.{BeginsTree}
 
-pub fault_of_tokens : (ts : List Token) (f ending : Option Fault) → ending ≡ (reading_of (run ts initial f) no_directives).ending → FaultOfTokens ts f ending
+pub fault_of_tokens : (ts : List Token) (f ending : Option Fault)
+    → ending ≡ (reading_of (run ts initial f) no_directives).ending → FaultOfTokens ts f ending
 fault_of_tokens ts f ending e = subst (FaultOfTokens ts f) (sym e) (ends_in_fault ts f)
 
-pub told_with : (ts : List Token) (f ending : Option Fault) (e : Fault) (unasked : ℕ) → ending ≡ (reading_of (run ts initial f) no_directives).ending → unasked ≡ unasked_of ts f initial no_directives
+pub told_with : (ts : List Token) (f ending : Option Fault) (e : Fault) (unasked : ℕ)
+    → ending ≡ (reading_of (run ts initial f) no_directives).ending
+    → unasked ≡ unasked_of ts f initial no_directives
     → ending ≡ Some e → IsToldWith ts f e unasked
 told_with ts f ending e unasked p q h = subst (IsToldWith ts f e) (sym q) (told_at_place ts f e (sym p ∙ h))
 
-begin : (ts : List Token) (f : Option Fault) (front behind : List Token) → ts ≡ front ++ behind → IsLongest front behind → TreeGoesOnGiving front (bare (run ts initial f).items)
+begin : (ts : List Token) (f : Option Fault) (front behind : List Token) → ts ≡ front ++ behind
+    → IsLongest front behind → TreeGoesOnGiving front (bare (run ts initial f).items)
     → BeginsTree ts (reading_of (run ts initial f) no_directives).events
 begin ts f front behind l w g = record {
   front = front;
@@ -39,27 +43,40 @@ begin ts f front behind l w g = record {
   begins = events_begin (run ts initial f).items (given_of g.tree 0) (run ts initial f).ending None no_directives g.begins;
 }
 
-begin_at : (ts : List Token) (f : Option Fault) (e : Fault) → RefusedAt ts (bare (run ts initial f).items) e ⊎ RunsOut ts f (bare (run ts initial f).items) e → BeginsTree ts (reading_of (run ts initial f) no_directives).events
+begin_at : (ts : List Token) (f : Option Fault) (e : Fault)
+    → RefusedAt ts (bare (run ts initial f).items) e
+    ⊎ RunsOut ts f (bare (run ts initial f).items) e
+    → BeginsTree ts (reading_of (run ts initial f) no_directives).events
 begin_at ts f e (inl r) = begin ts f r.front (r.token ∷ r.behind) r.list r.wrong r.before
 begin_at ts f e (inr r) = begin ts f ts [] (sym (append-nil ts)) tt r.before
 
-by_ending : (ts : List Token) (f o : Option Fault) → (run ts initial f).ending ≡ o → (BeginsWithTree ts → ⊥) → BeginsTree ts (reading_of (run ts initial f) no_directives).events
+by_ending : (ts : List Token) (f o : Option Fault) → (run ts initial f).ending ≡ o
+    → (BeginsWithTree ts → ⊥) → BeginsTree ts (reading_of (run ts initial f) no_directives).events
 by_ending ts f None p n = absurd (n (accepted_trees ts f p))
 by_ending ts f (Some e) p n = begin_at ts f e (faults_stand ts f e p)
 
-pub begins_tree : (ts : List Token) (f : Option Fault) (events : List Told) → events ≡ (reading_of (run ts initial f) no_directives).events → (BeginsWithTree ts → ⊥) → BeginsTree ts events
+pub begins_tree : (ts : List Token) (f : Option Fault) (events : List Told)
+    → events ≡ (reading_of (run ts initial f) no_directives).events → (BeginsWithTree ts → ⊥)
+    → BeginsTree ts events
 begins_tree ts f events e n = subst (BeginsTree ts) (sym e) (by_ending ts f (run ts initial f).ending refl n)
 
-pub few_events : (ts : List Token) (f : Option Fault) (events : List Told) → events ≡ (reading_of (run ts initial f) no_directives).events → AtMostFourSoFar 0 (length ts) events
+pub few_events : (ts : List Token) (f : Option Fault) (events : List Told)
+    → events ≡ (reading_of (run ts initial f) no_directives).events
+    → AtMostFourSoFar 0 (length ts) events
 few_events ts f events e = subst (AtMostFourSoFar 0 (length ts)) (sym e) (few_so_far ts f no_directives)
 
-pub tokens_events : (ts : List Token) (f : Option Fault) (events : List Told) → events ≡ (reading_of (run ts initial f) no_directives).events → EventsOfTokens ts f events
+pub tokens_events : (ts : List Token) (f : Option Fault) (events : List Told)
+    → events ≡ (reading_of (run ts initial f) no_directives).events → EventsOfTokens ts f events
 tokens_events ts f events e = subst (EventsOfTokens ts f) (sym e) (run_gives_events ts f)
 
-pub least_events : (ts : List Token) (f : Option Fault) (events : List Told) → events ≡ (reading_of (run ts initial f) no_directives).events → (BeginsWithTree ts → ⊥) → GivesLeast ts events
+pub least_events : (ts : List Token) (f : Option Fault) (events : List Told)
+    → events ≡ (reading_of (run ts initial f) no_directives).events → (BeginsWithTree ts → ⊥)
+    → GivesLeast ts events
 least_events ts f events e n = subst (GivesLeast ts) (sym e) (run_gives_least ts f n)
 
 -- events and an ending that are those of the tokens are the machine's
-pub as_run : (ts : List Token) (f : Option Fault) (events : List Told) (ending : Option Fault) → EventsOfTokens ts f events → FaultOfTokens ts f ending
-    → (events ≡ (reading_of (run ts initial f) no_directives).events) × (ending ≡ (reading_of (run ts initial f) no_directives).ending)
+pub as_run : (ts : List Token) (f : Option Fault) (events : List Told) (ending : Option Fault)
+    → EventsOfTokens ts f events → FaultOfTokens ts f ending
+    → (events ≡ (reading_of (run ts initial f) no_directives).events)
+    × (ending ≡ (reading_of (run ts initial f) no_directives).ending)
 as_run ts f events ending h k = (events_are_run ts f events h, sym (fault_ends ts f ending k))

@@ -27,35 +27,46 @@ of_raw r ds answered = parser_remaining r.peeked r.tokens r.fault r.stack ds ans
 
 -- ---- reading
 
-reading_gave : (gs : List Given) (f : Option Fault) (ds ds' : Directives) (i : RawEvent) (left : ℕ) (body : EventBody) → settle i ds ≡ gave body ds'
-    → reading ((i, left) ∷ gs) f ds ≡ record { events = (placed body i, left) ∷ (reading gs f ds').events; ending = (reading gs f ds').ending }
+reading_gave : (gs : List Given) (f : Option Fault) (ds ds' : Directives) (i : RawEvent) (left : ℕ)
+    (body : EventBody) → settle i ds ≡ gave body ds'
+    → reading ((i, left) ∷ gs) f ds ≡ record {
+      events = (placed body i, left) ∷ (reading gs f ds').events;
+      ending = (reading gs f ds').ending;
+    }
 unfolding reading
 reading_gave gs f ds ds' i left body h = ap (λ (c : Settled). read_on c i left (λ d. reading gs f d)) h
 
-reading_noted : (gs : List Given) (f : Option Fault) (ds ds' : Directives) (i : RawEvent) (left : ℕ) → settle i ds ≡ noted ds' → reading ((i, left) ∷ gs) f ds ≡ reading gs f ds'
+reading_noted : (gs : List Given) (f : Option Fault) (ds ds' : Directives) (i : RawEvent) (left : ℕ)
+    → settle i ds ≡ noted ds' → reading ((i, left) ∷ gs) f ds ≡ reading gs f ds'
 unfolding reading
 reading_noted gs f ds ds' i left h = ap (λ (c : Settled). read_on c i left (λ d. reading gs f d)) h
 
-reading_refused : (gs : List Given) (f : Option Fault) (ds : Directives) (i : RawEvent) (left : ℕ) (e : Fault) → settle i ds ≡ refused e
+reading_refused : (gs : List Given) (f : Option Fault) (ds : Directives) (i : RawEvent) (left : ℕ)
+    (e : Fault) → settle i ds ≡ refused e
     → reading ((i, left) ∷ gs) f ds ≡ record { events = []; ending = Some e }
 unfolding reading
 reading_refused gs f ds i left e h = ap (λ (c : Settled). read_on c i left (λ d. reading gs f d)) h
 
-reading_nothing : (f : Option Fault) (ds : Directives) → reading [] f ds ≡ record { events = []; ending = f }
+reading_nothing : (f : Option Fault) (ds : Directives)
+    → reading [] f ds ≡ record { events = []; ending = f }
 unfolding reading
 reading_nothing f ds = refl
 
 -- ---- how many tokens are not asked for at the fault
 
-fault_gave : (gs : List Given) (n : ℕ) (ds ds' : Directives) (i : RawEvent) (left : ℕ) (body : EventBody) → settle i ds ≡ gave body ds' → unasked_at_fault ((i, left) ∷ gs) n ds ≡ unasked_at_fault gs n ds'
+fault_gave : (gs : List Given) (n : ℕ) (ds ds' : Directives) (i : RawEvent) (left : ℕ)
+    (body : EventBody) → settle i ds ≡ gave body ds'
+    → unasked_at_fault ((i, left) ∷ gs) n ds ≡ unasked_at_fault gs n ds'
 unfolding unasked_at_fault
 fault_gave gs n ds ds' i left body h = ap (λ (c : Settled). unasked_on c left (λ d. unasked_at_fault gs n d)) h
 
-fault_noted : (gs : List Given) (n : ℕ) (ds ds' : Directives) (i : RawEvent) (left : ℕ) → settle i ds ≡ noted ds' → unasked_at_fault ((i, left) ∷ gs) n ds ≡ unasked_at_fault gs n ds'
+fault_noted : (gs : List Given) (n : ℕ) (ds ds' : Directives) (i : RawEvent) (left : ℕ)
+    → settle i ds ≡ noted ds' → unasked_at_fault ((i, left) ∷ gs) n ds ≡ unasked_at_fault gs n ds'
 unfolding unasked_at_fault
 fault_noted gs n ds ds' i left h = ap (λ (c : Settled). unasked_on c left (λ d. unasked_at_fault gs n d)) h
 
-fault_refused : (gs : List Given) (n : ℕ) (ds : Directives) (i : RawEvent) (left : ℕ) (e : Fault) → settle i ds ≡ refused e → unasked_at_fault ((i, left) ∷ gs) n ds ≡ left
+fault_refused : (gs : List Given) (n : ℕ) (ds : Directives) (i : RawEvent) (left : ℕ) (e : Fault)
+    → settle i ds ≡ refused e → unasked_at_fault ((i, left) ∷ gs) n ds ≡ left
 unfolding unasked_at_fault
 fault_refused gs n ds i left e h = ap (λ (c : Settled). unasked_on c left (λ d. unasked_at_fault gs n d)) h
 
@@ -66,16 +77,21 @@ fault_nothing n ds = refl
 abbrev fault_of_raw : Raw → Directives → ℕ
 fault_of_raw r ds = unasked_at_fault (outcome r).items (stop_of r) ds
 
-item_unasked : (old new : Raw) (ds : Directives) (i : RawEvent) → GivesItem i old new → fault_of_raw old ds ≡ unasked_at_fault ((i, length new.tokens) ∷ (outcome new).items) (stop_of new) ds
+item_unasked : (old new : Raw) (ds : Directives) (i : RawEvent) → GivesItem i old new
+    → fault_of_raw old ds ≡ unasked_at_fault ((i, length new.tokens) ∷ (outcome new).items)
+    (stop_of new) ds
 item_unasked old new ds i h = ap (λ (o : Outcome). unasked_at_fault o.items (stop_of old) ds) h.same ∙ ap (λ (n : ℕ). unasked_at_fault ((i, length new.tokens) ∷ (outcome new).items) n ds) h.stop
 
-silent_unasked : (old new : Raw) (ds : Directives) → GivesNoItem old new → fault_of_raw old ds ≡ fault_of_raw new ds
+silent_unasked : (old new : Raw) (ds : Directives) → GivesNoItem old new
+    → fault_of_raw old ds ≡ fault_of_raw new ds
 silent_unasked old new ds h = ap (λ (o : Outcome). unasked_at_fault o.items (stop_of old) ds) h.same ∙ ap (λ (n : ℕ). unasked_at_fault (outcome new).items n ds) h.stop
 
-refused_unasked : (old : Raw) (ds : Directives) (e : Fault) → outcome old ≡ record { items = []; ending = Some e } → fault_of_raw old ds ≡ stop_of old
+refused_unasked : (old : Raw) (ds : Directives) (e : Fault)
+    → outcome old ≡ record { items = []; ending = Some e } → fault_of_raw old ds ≡ stop_of old
 refused_unasked old ds e q = ap (λ (o : Outcome). unasked_at_fault o.items (stop_of old) ds) q ∙ fault_nothing (stop_of old) ds
 
-noted_directive : (b : RawEventBody) (from : yaml_mark_t) (ds ds' : Directives) → settle_body b from ds ≡ noted ds' → IsDirective b
+noted_directive : (b : RawEventBody) (from : yaml_mark_t) (ds ds' : Directives)
+    → settle_body b from ds ≡ noted ds' → IsDirective b
 noted_directive (item.version_directive x y) from ds ds' e = tt
 noted_directive (item.tag_directive x y) from ds ds' e = tt
 noted_directive (item.event b) from ds ds' e = cc
@@ -85,10 +101,13 @@ noted_directive (item.node a (Some t) shape) from ds ds' e = not_noted (resolved
 
 -- ---- nothing to come
 
-empty_reading : (ts : List Token) (f : Option Fault) (s : List State) (ds : Directives) → s ≡ [] → reading_of (run ts s f) ds ≡ record { events = []; ending = None }
+empty_reading : (ts : List Token) (f : Option Fault) (s : List State) (ds : Directives) → s ≡ []
+    → reading_of (run ts s f) ds ≡ record { events = []; ending = None }
 empty_reading ts f s ds e = ap (λ (z : List State). reading_of (run ts z f) ds) e ∙ ap (λ (o : Outcome). reading_of o ds) (nothing_runs ts f) ∙ reading_nothing None ds
 
-pub finishes : (peeked : Option Token) (ts : List Token) (f : Option Fault) (s : List State) (ds : Directives) (answered : Fault) → s ≡ [] → IsFinished (parser_remaining peeked ts f s ds answered)
+pub finishes : (peeked : Option Token) (ts : List Token) (f : Option Fault) (s : List State)
+    (ds : Directives) (answered : Fault) → s ≡ []
+    → IsFinished (parser_remaining peeked ts f s ds answered)
 finishes peeked ts f s ds answered e = record {
   events = ap (λ (r : Reading). r.events) (empty_reading (waiting peeked ts) f s ds e);
   ending = ap (λ (r : Reading). r.ending) (empty_reading (waiting peeked ts) f s ds e);
@@ -97,7 +116,9 @@ finishes peeked ts f s ds answered e = record {
 
 -- ---- turns
 
-pub event_turn : (old new : Raw) (ds ds' : Directives) (answered : Fault) (i : RawEvent) (body : EventBody) (e : Event) → GivesItem i old new → settle i ds ≡ gave body ds' → e ≡ placed body i
+pub event_turn : (old new : Raw) (ds ds' : Directives) (answered : Fault) (i : RawEvent)
+    (body : EventBody) (e : Event) → GivesItem i old new → settle i ds ≡ gave body ds'
+    → e ≡ placed body i
     → GivesNext e (of_raw old ds answered) (of_raw new ds' answered)
 event_turn old new ds ds' answered i body e h s p =
     let r : reading_of (outcome old) ds ≡ record { events = (placed body i, length new.tokens) ∷ (reading_of (outcome new) ds').events; ending = (reading_of (outcome new) ds').ending } =
@@ -109,8 +130,12 @@ event_turn old new ds ds' answered i body e h s p =
       answered = refl;
     }
 
-silent_of : (old new : ParserRemaining) (same : Reading) (more : Reading) → same ≡ more → old.events ≡ same.events → old.ending ≡ same.ending → new.events ≡ more.events → new.ending ≡ more.ending
-    → new.ending_unasked ≡ old.ending_unasked → new.answered ≡ old.answered → new.unasked + new.held < old.unasked + old.held → (more.events ≡ [] → more.ending ≡ None → ⊥) → IsSilent old new
+silent_of : (old new : ParserRemaining) (same : Reading) (more : Reading) → same ≡ more
+    → old.events ≡ same.events → old.ending ≡ same.ending → new.events ≡ more.events
+    → new.ending ≡ more.ending
+    → new.ending_unasked ≡ old.ending_unasked → new.answered ≡ old.answered
+    → new.unasked + new.held < old.unasked + old.held → (more.events ≡ [] → more.ending ≡ None → ⊥)
+    → IsSilent old new
 silent_of old new same more e a b c d u w l s = record {
   ending_unasked = u;
   answered = w;
@@ -120,31 +145,40 @@ silent_of old new same more e a b c d u w l s = record {
   speaks = λ p q. s (ap (λ (r : Reading). r.events) (sym e) ∙ sym a ∙ p) (ap (λ (r : Reading). r.ending) (sym e) ∙ sym b ∙ q);
 }
 
-still_speaks : (r : Raw) (ds : Directives) → Stands r.stack → (reading_of (outcome r) ds).events ≡ [] → (reading_of (outcome r) ds).ending ≡ None → ⊥
+still_speaks : (r : Raw) (ds : Directives) → Stands r.stack
+    → (reading_of (outcome r) ds).events ≡ [] → (reading_of (outcome r) ds).ending ≡ None → ⊥
 still_speaks r ds h = reading_speaks (outcome r).items (outcome r).ending ds (speaks (waiting r.peeked r.tokens) r.fault r.stack h)
 
-pub silent_turn : (old new : Raw) (ds : Directives) (answered : Fault) → GivesNoItem old new → IsSilent (of_raw old ds answered) (of_raw new ds answered)
+pub silent_turn : (old new : Raw) (ds : Directives) (answered : Fault) → GivesNoItem old new
+    → IsSilent (of_raw old ds answered) (of_raw new ds answered)
 silent_turn old new ds answered h =
     silent_of (of_raw old ds answered) (of_raw new ds answered) (reading_of (outcome old) ds) (reading_of (outcome new) ds) (ap (λ (o : Outcome). reading_of o ds) h.same)
     refl refl refl refl (sym (silent_unasked old new ds h)) refl h.less (still_speaks new ds h.stands)
 
-pub noted_turn : (old new : Raw) (ds ds' : Directives) (answered : Fault) (i : RawEvent) → GivesItem i old new → settle i ds ≡ noted ds' → IsSilent (of_raw old ds answered) (of_raw new ds' answered)
+pub noted_turn : (old new : Raw) (ds ds' : Directives) (answered : Fault) (i : RawEvent)
+    → GivesItem i old new → settle i ds ≡ noted ds'
+    → IsSilent (of_raw old ds answered) (of_raw new ds' answered)
 noted_turn old new ds ds' answered i h s =
     silent_of (of_raw old ds answered) (of_raw new ds' answered) (reading_of (outcome old) ds) (reading_of (outcome new) ds')
     (ap (λ (o : Outcome). reading_of o ds) h.same ∙ reading_noted (outcome new).items (outcome new).ending ds ds' i (length new.tokens) s)
     refl refl refl refl (sym (item_unasked old new ds i h ∙ fault_noted (outcome new).items (stop_of new) ds ds' i (length new.tokens) s)) refl (h.less (noted_directive i.body i.from ds ds' s)) (still_speaks new ds' (h.stands (noted_directive i.body i.from ds ds' s)))
 
-refused_of : (old : ParserRemaining) (r : Reading) (e : Fault) → r ≡ record { events = []; ending = Some e } → old.events ≡ r.events → old.ending ≡ r.ending → (old.events ≡ []) × (old.ending ≡ Some e)
+refused_of : (old : ParserRemaining) (r : Reading) (e : Fault)
+    → r ≡ record { events = []; ending = Some e } → old.events ≡ r.events → old.ending ≡ r.ending
+    → (old.events ≡ []) × (old.ending ≡ Some e)
 refused_of old r e p a b = (a ∙ ap (λ (x : Reading). x.events) p, b ∙ ap (λ (x : Reading). x.ending) p)
 
 -- what stands has something to give
-pub stands_more : (r : Raw) (ds : Directives) (answered : Fault) → Stands r.stack → HasMore (of_raw r ds answered).events (of_raw r ds answered).ending
+pub stands_more : (r : Raw) (ds : Directives) (answered : Fault) → Stands r.stack
+    → HasMore (of_raw r ds answered).events (of_raw r ds answered).ending
 stands_more r ds answered h = has_more (of_raw r ds answered).events (of_raw r ds answered).ending (still_speaks r ds h)
 
 abbrev pub AskedFor : Fault → Raw → Directives → List Token → Type 0
 AskedFor e r ds rest = IsMemoryFault scan_layers e ⊎ (next_unasked (reading_of (outcome r) ds).events (fault_of_raw r ds) ≤ length rest)
 
-pub refused_turn : (old middle new : Raw) (ds ds' : Directives) (answered : Fault) (e : Fault) → Stands old.stack → AskedFor e old ds new.tokens → IsRefused e old middle → new.tokens ≡ middle.tokens → new.stack ≡ []
+pub refused_turn : (old middle new : Raw) (ds ds' : Directives) (answered : Fault) (e : Fault)
+    → Stands old.stack → AskedFor e old ds new.tokens → IsRefused e old middle
+    → new.tokens ≡ middle.tokens → new.stack ≡ []
     → IsTurnRefused e (of_raw old ds answered) (of_raw new ds' answered)
 refused_turn old middle new ds ds' answered e z a h k s = record {
   more = stands_more old ds answered z;
@@ -160,7 +194,9 @@ refused_turn old middle new ds ds' answered e z a h k s = record {
   ];
 }
 
-settled_turn : (old middle new : Raw) (ds ds' : Directives) (answered : Fault) (i : RawEvent) (e : Fault) → Stands old.stack → AskedFor e old ds new.tokens → GivesItem i old middle → settle i ds ≡ refused e → new.tokens ≡ middle.tokens → new.stack ≡ []
+settled_turn : (old middle new : Raw) (ds ds' : Directives) (answered : Fault) (i : RawEvent)
+    (e : Fault) → Stands old.stack → AskedFor e old ds new.tokens → GivesItem i old middle
+    → settle i ds ≡ refused e → new.tokens ≡ middle.tokens → new.stack ≡ []
     → IsTurnRefused e (of_raw old ds answered) (of_raw new ds' answered)
 settled_turn old middle new ds ds' answered i e z a h r k s = record {
   more = stands_more old ds answered z;
@@ -171,17 +207,22 @@ settled_turn old middle new ds ds' answered i e z a h r k s = record {
   unasked = inr (ap length k ∙ sym (item_unasked old middle ds i h ∙ fault_refused (outcome middle).items (stop_of middle) ds i (length middle.tokens) e r));
 }
 
-memory_turn : (old new : Raw) (ds ds' : Directives) (answered : Fault) (e : Fault) → Stands old.stack → AskedFor e old ds new.tokens → e ≡ memory_fault Parser → new.stack ≡ []
+memory_turn : (old new : Raw) (ds ds' : Directives) (answered : Fault) (e : Fault)
+    → Stands old.stack → AskedFor e old ds new.tokens → e ≡ memory_fault Parser → new.stack ≡ []
     → IsTurnRefused e (of_raw old ds answered) (of_raw new ds' answered)
 memory_turn old new ds ds' answered e z a m s = record { more = stands_more old ds answered z; asked = a; finished = finishes new.peeked new.tokens new.fault new.stack ds' answered s; reason = inl (inl m); unasked = inl (inl m) }
 
 -- an item that is refused, or for which memory ran out
-pub unsettled_turn : (old middle new : Raw) (ds ds' : Directives) (answered : Fault) (i : RawEvent) (e : Fault) → Stands old.stack → AskedFor e old ds new.tokens → GivesItem i old middle → (e ≡ memory_fault Parser) ⊎ (settle i ds ≡ refused e) → new.tokens ≡ middle.tokens → new.stack ≡ []
+pub unsettled_turn : (old middle new : Raw) (ds ds' : Directives) (answered : Fault) (i : RawEvent)
+    (e : Fault) → Stands old.stack → AskedFor e old ds new.tokens → GivesItem i old middle
+    → (e ≡ memory_fault Parser) ⊎ (settle i ds ≡ refused e) → new.tokens ≡ middle.tokens
+    → new.stack ≡ []
     → IsTurnRefused e (of_raw old ds answered) (of_raw new ds' answered)
 unsettled_turn old middle new ds ds' answered i e z a h (inl m) k s = memory_turn old new ds ds' answered e z a m s
 unsettled_turn old middle new ds ds' answered i e z a h (inr r) k s = settled_turn old middle new ds ds' answered i e z a h r k s
 
-pub done_turn : (old new : Raw) (ds : Directives) (answered : Fault) → IsDone old new → IsOver (of_raw old ds answered) (of_raw new ds answered)
+pub done_turn : (old new : Raw) (ds : Directives) (answered : Fault) → IsDone old new
+    → IsOver (of_raw old ds answered) (of_raw new ds answered)
 done_turn old new ds answered h = record {
   finished = finishes old.peeked old.tokens old.fault old.stack ds answered h.empty;
   same = ap (λ (r : Raw). of_raw r ds answered) h.same;
@@ -189,9 +230,12 @@ done_turn old new ds answered h = record {
 
 -- ---- the beginning
 
-pub starts : (ts : List Token) (f : Option Fault) (s : List State) (ds : Directives) (t : Stream) (rest : List Token) → s ≡ initial → ds ≡ no_directives → ts ≡ spell t rest
-    → ((reading_of (run ts s f) ds).events ≡ (reading (given_of t (length rest)) None no_directives).events)
-    × ((reading_of (run ts s f) ds).ending ≡ (reading (given_of t (length rest)) None no_directives).ending)
+pub starts : (ts : List Token) (f : Option Fault) (s : List State) (ds : Directives) (t : Stream)
+    (rest : List Token) → s ≡ initial → ds ≡ no_directives → ts ≡ spell t rest
+    → ((reading_of (run ts s f) ds).events
+    ≡ (reading (given_of t (length rest)) None no_directives).events)
+    × ((reading_of (run ts s f) ds).ending
+    ≡ (reading (given_of t (length rest)) None no_directives).ending)
 starts ts f s ds t rest e d h =
     let o : run ts s f ≡ record { items = given_of t (length rest); ending = None } =
     ap (λ (z : List State). run ts z f) e
@@ -201,7 +245,8 @@ starts ts f s ds t rest e d h =
     let r : reading_of (run ts s f) ds ≡ reading (given_of t (length rest)) None no_directives = ap (reading_of (run ts s f)) d ∙ ap (λ (o : Outcome). reading_of o no_directives) o
     in (ap (λ (x : Reading). x.events) r, ap (λ (x : Reading). x.ending) r)
 
-pub starts_anywhere : (ts : List Token) (f : Option Fault) (s : List State) (ds : Directives) → s ≡ initial → ds ≡ no_directives
+pub starts_anywhere : (ts : List Token) (f : Option Fault) (s : List State) (ds : Directives)
+    → s ≡ initial → ds ≡ no_directives
     → ((reading_of (run ts s f) ds).events ≡ (reading_of (run ts initial f) no_directives).events)
     × ((reading_of (run ts s f) ds).ending ≡ (reading_of (run ts initial f) no_directives).ending)
 starts_anywhere ts f s ds e d =
@@ -209,7 +254,9 @@ starts_anywhere ts f s ds e d =
     ap (λ (z : List State). reading_of (run ts z f) ds) e ∙ ap (reading_of (run ts initial f)) d
     in (ap (λ (x : Reading). x.events) r, ap (λ (x : Reading). x.ending) r)
 
-pub starts_unasked : (ts : List Token) (f : Option Fault) (s : List State) (ds : Directives) → s ≡ initial → ds ≡ no_directives → unasked_of ts f s ds ≡ unasked_of ts f initial no_directives
+pub starts_unasked : (ts : List Token) (f : Option Fault) (s : List State) (ds : Directives)
+    → s ≡ initial → ds ≡ no_directives
+    → unasked_of ts f s ds ≡ unasked_of ts f initial no_directives
 starts_unasked ts f s ds e d = ap (λ (z : List State). unasked_of ts f z ds) e ∙ ap (unasked_of ts f initial) d
 
 -- ---- the token that is held
@@ -232,11 +279,13 @@ kept_silent i o n k s = record {
   unasked = inr (λ p q. s.speaks (k.events ∙ p) (k.ending ∙ q));
 }
 
-same_unasked : (i o : ParserRemaining) → Kept i o → i.events ≡ [] → i.ending ≡ None → (o.unasked ≡ i.unasked) × (o.held ≡ i.held)
+same_unasked : (i o : ParserRemaining) → Kept i o → i.events ≡ [] → i.ending ≡ None
+    → (o.unasked ≡ i.unasked) × (o.held ≡ i.held)
 same_unasked i o k p q = elim k.unasked [ inl a ↦ a | inr s ↦ absurd (s p q) ]
 
 -- the next event
-pub kept_event : (i o n : ParserRemaining) (e : Event) → Kept i o → GivesNext e o n → GivesNext e i n
+pub kept_event : (i o n : ParserRemaining) (e : Event) → Kept i o → GivesNext e o n
+    → GivesNext e i n
 kept_event i o n e k h = record { events = sym k.events ∙ h.events; ending = h.ending ∙ k.ending; ending_unasked = h.ending_unasked ∙ k.ending_unasked; answered = h.answered ∙ k.answered }
 
 pub kept_end : (i o n : ParserRemaining) → Kept i o → IsOver o n → GivesEnd i n
@@ -256,24 +305,31 @@ kept_end i o n k h =
     }
 
 -- what a call gives
-given_front : (es : List Told) (f : Option Fault) (e : Event) (i n : ParserRemaining) → es ≡ (e, n.unasked) ∷ n.events → n.ending ≡ f → n.ending_unasked ≡ i.ending_unasked → n.answered ≡ i.answered → GivesEvent es f e i n
+given_front : (es : List Told) (f : Option Fault) (e : Event) (i n : ParserRemaining)
+    → es ≡ (e, n.unasked) ∷ n.events → n.ending ≡ f → n.ending_unasked ≡ i.ending_unasked
+    → n.answered ≡ i.answered → GivesEvent es f e i n
 given_front es f e i n p q u a = rw p (record { given = refl; events = refl; ending = q; ending_unasked = u; unasked = refl; answered = a })
 
 pub parsed_event : (i n : ParserRemaining) (e : Event) → GivesNext e i n → EventOf i e n
 parsed_event i n e h = given_front i.events i.ending e i n h.events h.ending h.ending_unasked h.answered
 
-given_end : (es : List Told) (f : Option Fault) (e : Event) (i n : ParserRemaining) → es ≡ [] → f ≡ None → e ≡ no_event → GivesNothing no_event i n → GivesEvent es f e i n
+given_end : (es : List Told) (f : Option Fault) (e : Event) (i n : ParserRemaining) → es ≡ []
+    → f ≡ None → e ≡ no_event → GivesNothing no_event i n → GivesEvent es f e i n
 given_end es f e i n p q r h = rw (p, q, r) h
 
 pub parsed_end : (i n : ParserRemaining) (e : Event) → GivesEnd i n → e ≡ no_event → EventOf i e n
 parsed_end i n e h p = given_end i.events i.ending e i n h.events h.ending p h.nothing
 
-asked_same : (i o n n' : ParserRemaining) → Kept i o → next_unasked o.events o.ending_unasked ≤ n.unasked → n'.unasked ≡ n.unasked → next_unasked i.events i.ending_unasked ≤ n'.unasked
+asked_same : (i o n n' : ParserRemaining) → Kept i o
+    → next_unasked o.events o.ending_unasked ≤ n.unasked → n'.unasked ≡ n.unasked
+    → next_unasked i.events i.ending_unasked ≤ n'.unasked
 asked_same i o n n' k l u =
     subst (λ (x : ℕ). next_unasked i.events i.ending_unasked ≤ x) (sym u)
     (subst (λ (x : ℕ). next_unasked i.events x ≤ n.unasked) k.ending_unasked (subst (λ (gs : List Told). next_unasked gs o.ending_unasked ≤ n.unasked) k.events l))
 
-pub parsed_fault : (i o n n' : ParserRemaining) (f : Fault) → Kept i o → IsTurnRefused f o n → n'.events ≡ n.events → n'.ending ≡ n.ending → n'.between ≡ n.between → n'.unasked ≡ n.unasked → n'.answered ≡ f → FaultOf i f n'
+pub parsed_fault : (i o n n' : ParserRemaining) (f : Fault) → Kept i o → IsTurnRefused f o n
+    → n'.events ≡ n.events → n'.ending ≡ n.ending → n'.between ≡ n.between → n'.unasked ≡ n.unasked
+    → n'.answered ≡ f → FaultOf i f n'
 parsed_fault i o n n' f k h a b c u d = record {
   more = subst (λ (x : Option Fault). HasMore i.events x) k.ending (subst (λ (gs : List Told). HasMore gs o.ending) k.events h.more);
   asked = elim h.asked [ inl m ↦ inl m | inr l ↦ inr (asked_same i o n n' k l u) ];

@@ -40,7 +40,8 @@ stands_open [] z = cc
 stands_open (x ∷ s) z = tt
 
 -- no token behind the one in front was asked for
-front_asked : (peeked : Option Token) (ts : List Token) (f : Option Fault) (s : List State) (t : Token) (rest : List Token) (after : Option Fault) (ds : Directives) (g : Fault)
+front_asked : (peeked : Option Token) (ts : List Token) (f : Option Fault) (s : List State)
+    (t : Token) (rest : List Token) (after : Option Fault) (ds : Directives) (g : Fault)
     → IsFront peeked ts f t rest after → AskedFor g (raw peeked ts f s) ds rest
 front_asked peeked ts f s t rest after ds g k =
     inr (subst (λ (u : ℕ). next_unasked (reading_of (run (waiting peeked ts) s f) ds).events (unasked_at_fault (run (waiting peeked ts) s f).items u ds) ≤ length rest) (k.stops s)
@@ -50,7 +51,9 @@ same_le : (a b : ℕ) → a ≡ b → a ≤ b
 same_le a b e = omega (arith, e)
 
 -- and none where none is there
-pub no_front_asked : (peeked : Option Token) (ts : List Token) (f : Option Fault) (s : List State) (rest : List Token) (ds : Directives) (g : Fault) → HasNoFront peeked ts f g rest → AskedFor g (raw peeked ts f s) ds rest
+pub no_front_asked : (peeked : Option Token) (ts : List Token) (f : Option Fault) (s : List State)
+    (rest : List Token) (ds : Directives) (g : Fault) → HasNoFront peeked ts f g rest
+    → AskedFor g (raw peeked ts f s) ds rest
 no_front_asked peeked ts f s rest ds g h = elim h.reason [
   | inl m ↦ inl m
   | inr r ↦ elim h.unasked [
@@ -61,9 +64,13 @@ no_front_asked peeked ts f s rest ds g h = elim h.reason [
   ]
 ]
 
-pub went_turns : (peeked : Option Token) (ts : List Token) (f : Option Fault) (s : List State) (t : Token) (rest : List Token) (after : Option Fault) (ds : Directives) (r : Step) (e : Event) (g : Fault)
-    (held : Option Token) (new : List State) (behind : Directives) (answered : Fault) → is_nothing s ≡ false → IsFront peeked ts f t rest after → Went s t ds r e g held new behind
-    → Turns (parser_remaining peeked ts f s ds answered) (turned r e g) (parser_remaining held rest after new behind answered)
+pub went_turns : (peeked : Option Token) (ts : List Token) (f : Option Fault) (s : List State)
+    (t : Token) (rest : List Token) (after : Option Fault) (ds : Directives) (r : Step) (e : Event)
+    (g : Fault)
+    (held : Option Token) (new : List State) (behind : Directives) (answered : Fault)
+    → is_nothing s ≡ false → IsFront peeked ts f t rest after → Went s t ds r e g held new behind
+    → Turns (parser_remaining peeked ts f s ds answered) (turned r e g)
+    (parser_remaining held rest after new behind answered)
 went_turns peeked ts f s t rest after ds code.Given e g held new behind answered z k h =
     event_turn (raw peeked ts f s) (raw held rest after new) ds behind answered h.item e.body e
     (over_front peeked ts f s t rest after (raw held rest after new) (step.given h.item) z k (h.moves.gives rest after) h.moves.real) h.settles h.placed
@@ -82,8 +89,10 @@ went_turns peeked ts f s t rest after ds code.Refused e g held new behind answer
     (over_front peeked ts f s t rest after (raw d.held rest after d.new) (step.given d.item) z k (d.moves.gives rest after) d.moves.real) d.settles refl n
 went_turns peeked ts f s t rest after ds code.Done e g held new behind answered z k h = absurd (nothing_open s h.0 z)
 
-pub went_utf8 : (peeked : Option Token) (s : List State) (t : Token) (ds : Directives) (r : Step) (e : Event) (g : Fault) (held : Option Token) (new : List State) (behind : Directives)
-    → (IsUtf8Token peeked → source.HasUtf8 t.body) → Went s t ds r e g held new behind → IsUtf8Held peeked s ds → IsUtf8Turn (turned r e g) × IsUtf8Held held new behind
+pub went_utf8 : (peeked : Option Token) (s : List State) (t : Token) (ds : Directives) (r : Step)
+    (e : Event) (g : Fault) (held : Option Token) (new : List State) (behind : Directives)
+    → (IsUtf8Token peeked → source.HasUtf8 t.body) → Went s t ds r e g held new behind
+    → IsUtf8Held peeked s ds → IsUtf8Turn (turned r e g) × IsUtf8Held held new behind
 went_utf8 peeked s t ds code.Given e g held new behind u h p = event_utf8 held new ds behind h.item e.body h.settles (advance_utf8 peeked s t held new (step.given h.item) ds u (h.moves.utf8 ds) p)
 went_utf8 peeked s t ds code.Silent e g held new behind u (inl m) p =
     subst (λ (x : Option Token). Unit {0} × IsUtf8Held x new behind) (sym m.1)
@@ -92,8 +101,10 @@ went_utf8 peeked s t ds code.Silent e g held new behind u (inr d) p = noted_utf8
 went_utf8 peeked s t ds code.Refused e g held new behind u h p = cleared_utf8 held new behind h.0
 went_utf8 peeked s t ds code.Done e g held new behind u h p = cleared_utf8 held new behind h.2
 
-pub went_stands : (s : List State) (t : Token) (ds : Directives) (r : Step) (e : Event) (g : Fault) (held : Option Token) (new : List State) (behind : Directives)
-    → Went s t ds r e g held new behind → IsStack s → IsStackTurn (turned r e g) (is_between new) × IsStack new
+pub went_stands : (s : List State) (t : Token) (ds : Directives) (r : Step) (e : Event) (g : Fault)
+    (held : Option Token) (new : List State) (behind : Directives)
+    → Went s t ds r e g held new behind → IsStack s
+    → IsStackTurn (turned r e g) (is_between new) × IsStack new
 went_stands s t ds code.Given e g held new behind h p = event_stands new ds behind h.item e.body h.settles (h.moves.stack p)
 went_stands s t ds code.Silent e g held new behind (inl m) p = silent_stands new (m.0.stack p)
 went_stands s t ds code.Silent e g held new behind (inr d) p = noted_stands new d.item (d.moves.stack p)

@@ -35,35 +35,48 @@ unended : (ds : List Document) → AreNumerable (ended ds) → AreNumerable ds
 unended [] h = tt
 unended (d ∷ ds) h = (h.0, unended ds h.1)
 
-numerable : (from : yaml_encoding_t) (input : List ℕ) (ds : List Document) → AreLoaded from input ds → AreNumerable (loads_of from input).documents
+numerable : (from : yaml_encoding_t) (input : List ℕ) (ds : List Document) → AreLoaded from input ds
+    → AreNumerable (loads_of from input).documents
 numerable from input ds h = unended (loads_of from input).documents (subst AreNumerable h.same h.small)
 
-tell : (a_from : yaml_encoding_t) (a : List ℕ) (b_from : yaml_encoding_t) (b : List ℕ) → AreNumerable (loads_of a_from a).documents → AreNumerable (loads_of b_from b).documents
-    → trees_of_dumps (loads_of a_from a).documents ≡ trees_of_dumps (loads_of b_from b).documents → AreAgreeing (loads_of a_from a).documents (loads_of b_from b).documents
+tell : (a_from : yaml_encoding_t) (a : List ℕ) (b_from : yaml_encoding_t) (b : List ℕ)
+    → AreNumerable (loads_of a_from a).documents → AreNumerable (loads_of b_from b).documents
+    → trees_of_dumps (loads_of a_from a).documents ≡ trees_of_dumps (loads_of b_from b).documents
+    → AreAgreeing (loads_of a_from a).documents (loads_of b_from b).documents
 tell a_from a b_from b h k e =
     (texts_tell settings refl (loads_of a_from a).documents (loads_of b_from b).documents (loads_are a_from a h) (loads_are b_from b k)).0 (ap (λ (c : List content.Document). canon settings c) e)
 
-pub agree_told : (a_from : yaml_encoding_t) (a : List ℕ) (b_from : yaml_encoding_t) (b : List ℕ) (ds es : List Document) → AreLoaded a_from a ds → AreLoaded b_from b es
+pub agree_told : (a_from : yaml_encoding_t) (a : List ℕ) (b_from : yaml_encoding_t) (b : List ℕ)
+    (ds es : List Document) → AreLoaded a_from a ds → AreLoaded b_from b es
     → documents_left ds ≡ documents_left es → SameDocuments a_from a b_from b
 agree_told a_from a b_from b ds es h k e =
     all_agree a_from a b_from b ds es (tell a_from a b_from b (numerable a_from a ds h) (numerable b_from b es k)) h.right k.right h.same k.same e
 
-pub parting_told : (a_from : yaml_encoding_t) (a : List ℕ) (b_from : yaml_encoding_t) (b : List ℕ) (ds es : List Document) (old new : Front) (d : yaml_difference_t) → AreLoaded a_from a ds → AreLoaded b_from b es
-    → IsStarted old → PartsBehind (documents_left ds) (documents_left es) old new → TellsOfInputs a_from a b_from b new (Ok d) → IsDocumentsParting a_from a b_from b d
+pub parting_told : (a_from : yaml_encoding_t) (a : List ℕ) (b_from : yaml_encoding_t) (b : List ℕ)
+    (ds es : List Document) (old new : Front) (d : yaml_difference_t) → AreLoaded a_from a ds
+    → AreLoaded b_from b es
+    → IsStarted old → PartsBehind (documents_left ds) (documents_left es) old new
+    → TellsOfInputs a_from a b_from b new (Ok d) → IsDocumentsParting a_from a b_from b d
 parting_told a_from a b_from b ds es old new d h k s p t = all_part a_from a b_from b ds es old new d h.right k.right h.same k.same s p t
 
 -- ---- refusals
 
-pub first_refused : (a_from : yaml_encoding_t) (a : List ℕ) (b_from : yaml_encoding_t) (b : List ℕ) (f : yaml_fault_t) → IsMemoryFault load_layers (fault_of f) ⊎ IsLoaded a_from a (Err (fault_of f))
+pub first_refused : (a_from : yaml_encoding_t) (a : List ℕ) (b_from : yaml_encoding_t) (b : List ℕ)
+    (f : yaml_fault_t)
+    → IsMemoryFault load_layers (fault_of f) ⊎ IsLoaded a_from a (Err (fault_of f))
     → IsDocumentsDiff a_from a b_from b (Err (First, f))
 first_refused a_from a b_from b f h = elim h [ inl m ↦ inl m | inr k ↦ inr (faulty_load a_from a (fault_of f) k) ]
 
-pub second_refused : (a_from : yaml_encoding_t) (a : List ℕ) (b_from : yaml_encoding_t) (b : List ℕ) (ds : List Document) (f : yaml_fault_t) → AreLoaded a_from a ds
-    → IsMemoryFault load_layers (fault_of f) ⊎ IsLoaded b_from b (Err (fault_of f)) → IsDocumentsDiff a_from a b_from b (Err (Second, f))
+pub second_refused : (a_from : yaml_encoding_t) (a : List ℕ) (b_from : yaml_encoding_t) (b : List ℕ)
+    (ds : List Document) (f : yaml_fault_t) → AreLoaded a_from a ds
+    → IsMemoryFault load_layers (fault_of f) ⊎ IsLoaded b_from b (Err (fault_of f))
+    → IsDocumentsDiff a_from a b_from b (Err (Second, f))
 second_refused a_from a b_from b ds f l h = elim h [ inl m ↦ inl (loads a_from a l.right, m) | inr k ↦ inr (loads a_from a l.right, faulty_load b_from b (fault_of f) k) ]
 
 -- both inputs load, so a fault that is met where their events are read again is want of memory
-pub not_told : (a_from : yaml_encoding_t) (a : List ℕ) (b_from : yaml_encoding_t) (b : List ℕ) (ds es : List Document) (new : Front) (r : yaml_side_t × yaml_fault_t) → AreLoaded a_from a ds → AreLoaded b_from b es
+pub not_told : (a_from : yaml_encoding_t) (a : List ℕ) (b_from : yaml_encoding_t) (b : List ℕ)
+    (ds es : List Document) (new : Front) (r : yaml_side_t × yaml_fault_t) → AreLoaded a_from a ds
+    → AreLoaded b_from b es
     → TellsOfInputs a_from a b_from b new (Err r) → IsDocumentsDiff a_from a b_from b (Err r)
 not_told a_from a b_from b ds es new (First, f) h k t = inl (short a_from a f h.right t)
 not_told a_from a b_from b ds es new (Second, f) h k t = inl (loads a_from a h.right, short b_from b f k.right t)

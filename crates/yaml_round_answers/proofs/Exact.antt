@@ -35,110 +35,137 @@ fault_number error.YAML_COMPOSER_ERROR n e = no_minus 5 n e
 fault_number error.YAML_WRITER_ERROR n e = no_minus 6 n e
 fault_number error.YAML_EMITTER_ERROR n e = no_minus 7 n e
 
-pub text_kind : (bytes : List ℕ) (number : ℤ) (a : yaml_c_answer) → TellsText bytes number a → ¬ (a.kind ≡ negsuc 0)
+pub text_kind : (bytes : List ℕ) (number : ℤ) (a : yaml_c_answer) → TellsText bytes number a
+    → ¬ (a.kind ≡ negsuc 0)
 text_kind bytes number a h = no_minus 0 a.kind h.kind
 
-pub fault_kind : (f : Fault) (whose : ℤ) (a : yaml_c_answer) → TellsFault f whose a → ¬ (a.kind ≡ negsuc 0)
+pub fault_kind : (f : Fault) (whose : ℤ) (a : yaml_c_answer) → TellsFault f whose a
+    → ¬ (a.kind ≡ negsuc 0)
 fault_kind f whose a h = fault_number f.kind a.kind h.kind
 
-pub tells_kind : (r : Result (List ℕ) Fault) (a : yaml_c_answer) → TellsResult r a → ¬ (a.kind ≡ negsuc 0)
+pub tells_kind : (r : Result (List ℕ) Fault) (a : yaml_c_answer) → TellsResult r a
+    → ¬ (a.kind ≡ negsuc 0)
 tells_kind (Ok text) a h = text_kind text (pos 0) a h
 tells_kind (Err f) a h = fault_kind f (pos 0) a h
 
-same_kind : (r : Result Bool (yaml_side_t × yaml_fault_t)) (a : yaml_c_answer) → TellsSame r a → ¬ (a.kind ≡ negsuc 0)
+same_kind : (r : Result Bool (yaml_side_t × yaml_fault_t)) (a : yaml_c_answer) → TellsSame r a
+    → ¬ (a.kind ≡ negsuc 0)
 same_kind (Ok same) a h = text_kind [] (same_number same) a h
 same_kind (Err (side, f)) a h = fault_kind (fault_of f) (side_number side) a h
 
-form_kind : (r : Result (List ℕ × yaml_form_t) Fault) (a : yaml_c_answer) → TellsForm r a → ¬ (a.kind ≡ negsuc 0)
+form_kind : (r : Result (List ℕ × yaml_form_t) Fault) (a : yaml_c_answer) → TellsForm r a
+    → ¬ (a.kind ≡ negsuc 0)
 form_kind (Ok (text, form)) a h = text_kind text (form_number form) a h
 form_kind (Err f) a h = fault_kind f (pos 0) a h
 
-events_kind : (blocks : yaml_c_parsed) (r : Result (List Told) Fault) (a : yaml_c_answer) → TellsEvents blocks r a → ¬ (a.kind ≡ negsuc 0)
+events_kind : (blocks : yaml_c_parsed) (r : Result (List Told) Fault) (a : yaml_c_answer)
+    → TellsEvents blocks r a → ¬ (a.kind ≡ negsuc 0)
 events_kind blocks (Ok es) a h = text_kind [] (pos 0) a h.0
 events_kind blocks (Err f) a h = fault_kind f (pos 0) a h.0
 
 -- a call whose answers tell no -1
-pub exact : {M : Type 0} (o : Option M) (Is : M → yaml_c_answer → Type 0) (a : yaml_c_answer) → ((m : M) → Is m a → ¬ (a.kind ≡ negsuc 0))
+pub exact : {M : Type 0} (o : Option M) (Is : M → yaml_c_answer → Type 0) (a : yaml_c_answer)
+    → ((m : M) → Is m a → ¬ (a.kind ≡ negsuc 0))
     → AnswersMeant o Is a → IsExact o a.kind
 exact None Is a f h = h.kind
 exact (Some m) Is a f h = f m h
 
 -- the same, of numbers and a kind that are known by other names
-pub listed_told : (n from : ℤ) (input : List ℕ) (a : yaml_c_answer) → n ≡ from → AnswersMeant (encoding_meant n) (Lists input) a
+pub listed_told : (n from : ℤ) (input : List ℕ) (a : yaml_c_answer) → n ≡ from
+    → AnswersMeant (encoding_meant n) (Lists input) a
     → AnswersMeant (encoding_meant from) (Lists input) a
 listed_told n from input a p h = subst (λ z. AnswersMeant (encoding_meant z) (Lists input) a) p h
 
-pub listed_exact : (n from k : ℤ) (input : List ℕ) (a : yaml_c_answer) → n ≡ from → k ≡ a.kind → AnswersMeant (encoding_meant n) (Lists input) a
+pub listed_exact : (n from k : ℤ) (input : List ℕ) (a : yaml_c_answer) → n ≡ from → k ≡ a.kind
+    → AnswersMeant (encoding_meant n) (Lists input) a
     → IsExact (encoding_meant from) k
 listed_exact n from k input a p q h =
     subst (λ z. IsExact (encoding_meant from) z) (sym q)
     (exact (encoding_meant from) (Lists input) a (λ m l. tells_kind l.result a l.told) (listed_told n from input a p h))
 
-pub compared_told : (m n first_from second_from : ℤ) (first second : List ℕ) (a : yaml_c_answer) → m ≡ first_from → n ≡ second_from
+pub compared_told : (m n first_from second_from : ℤ) (first second : List ℕ) (a : yaml_c_answer)
+    → m ≡ first_from → n ≡ second_from
     → AnswersMeant (both (encoding_meant m) (encoding_meant n)) (Compares first second) a
-    → AnswersMeant (both (encoding_meant first_from) (encoding_meant second_from)) (Compares first second) a
+    → AnswersMeant (both (encoding_meant first_from) (encoding_meant second_from))
+    (Compares first second) a
 compared_told m n first_from second_from first second a p q h =
     subst (λ z. AnswersMeant (both (encoding_meant first_from) (encoding_meant z)) (Compares first second) a) q
     (subst (λ z. AnswersMeant (both (encoding_meant z) (encoding_meant n)) (Compares first second) a) p h)
 
-pub compared_exact : (m n first_from second_from k : ℤ) (first second : List ℕ) (a : yaml_c_answer) → m ≡ first_from → n ≡ second_from
-    → k ≡ a.kind → AnswersMeant (both (encoding_meant m) (encoding_meant n)) (Compares first second) a
+pub compared_exact : (m n first_from second_from k : ℤ) (first second : List ℕ) (a : yaml_c_answer)
+    → m ≡ first_from → n ≡ second_from
+    → k ≡ a.kind
+    → AnswersMeant (both (encoding_meant m) (encoding_meant n)) (Compares first second) a
     → IsExact (both (encoding_meant first_from) (encoding_meant second_from)) k
 compared_exact m n first_from second_from k first second a p q r h =
     subst (λ z. IsExact (both (encoding_meant first_from) (encoding_meant second_from)) z) (sym r)
     (exact (both (encoding_meant first_from) (encoding_meant second_from)) (Compares first second) a (λ x l. same_kind l.result a l.told)
     (compared_told m n first_from second_from first second a p q h))
 
-pub reformatted_told : (n from : ℤ) (given : yaml_c_settings) (input : List ℕ) (a : yaml_c_answer) → n ≡ from
-    → AnswersMeant (call_meant n given) (Reformats input) a → AnswersMeant (call_meant from given) (Reformats input) a
+pub reformatted_told : (n from : ℤ) (given : yaml_c_settings) (input : List ℕ) (a : yaml_c_answer)
+    → n ≡ from
+    → AnswersMeant (call_meant n given) (Reformats input) a
+    → AnswersMeant (call_meant from given) (Reformats input) a
 reformatted_told n from given input a p h = subst (λ z. AnswersMeant (call_meant z given) (Reformats input) a) p h
 
-pub reformatted_exact : (n from k : ℤ) (given : yaml_c_settings) (input : List ℕ) (a : yaml_c_answer) → n ≡ from → k ≡ a.kind
+pub reformatted_exact : (n from k : ℤ) (given : yaml_c_settings) (input : List ℕ)
+    (a : yaml_c_answer) → n ≡ from → k ≡ a.kind
     → AnswersMeant (call_meant n given) (Reformats input) a → IsExact (call_meant from given) k
 reformatted_exact n from k given input a p q h =
     subst (λ z. IsExact (call_meant from given) z) (sym q)
     (exact (call_meant from given) (Reformats input) a (λ m l. form_kind l.result a l.told) (reformatted_told n from given input a p h))
 
-pub reloaded_told : (n from : ℤ) (given : yaml_c_settings) (input : List ℕ) (a : yaml_c_answer) → n ≡ from
-    → AnswersMeant (call_meant n given) (Reloads input) a → AnswersMeant (call_meant from given) (Reloads input) a
+pub reloaded_told : (n from : ℤ) (given : yaml_c_settings) (input : List ℕ) (a : yaml_c_answer)
+    → n ≡ from
+    → AnswersMeant (call_meant n given) (Reloads input) a
+    → AnswersMeant (call_meant from given) (Reloads input) a
 reloaded_told n from given input a p h = subst (λ z. AnswersMeant (call_meant z given) (Reloads input) a) p h
 
-pub reloaded_exact : (n from k : ℤ) (given : yaml_c_settings) (input : List ℕ) (a : yaml_c_answer) → n ≡ from → k ≡ a.kind
+pub reloaded_exact : (n from k : ℤ) (given : yaml_c_settings) (input : List ℕ) (a : yaml_c_answer)
+    → n ≡ from → k ≡ a.kind
     → AnswersMeant (call_meant n given) (Reloads input) a → IsExact (call_meant from given) k
 reloaded_exact n from k given input a p q h =
     subst (λ z. IsExact (call_meant from given) z) (sym q)
     (exact (call_meant from given) (Reloads input) a (λ m l. tells_kind l.result a l.told) (reloaded_told n from given input a p h))
 
-pub parsed_told : (n from : ℤ) (input : List ℕ) (blocks : yaml_c_parsed) (a : yaml_c_answer) → n ≡ from
-    → AnswersMeant (encoding_meant n) (Parses input blocks) a → AnswersMeant (encoding_meant from) (Parses input blocks) a
+pub parsed_told : (n from : ℤ) (input : List ℕ) (blocks : yaml_c_parsed) (a : yaml_c_answer)
+    → n ≡ from
+    → AnswersMeant (encoding_meant n) (Parses input blocks) a
+    → AnswersMeant (encoding_meant from) (Parses input blocks) a
 parsed_told n from input blocks a p h = subst (λ z. AnswersMeant (encoding_meant z) (Parses input blocks) a) p h
 
-pub parsed_exact : (n from k : ℤ) (input : List ℕ) (blocks : yaml_c_parsed) (a : yaml_c_answer) → n ≡ from → k ≡ a.kind
+pub parsed_exact : (n from k : ℤ) (input : List ℕ) (blocks : yaml_c_parsed) (a : yaml_c_answer)
+    → n ≡ from → k ≡ a.kind
     → AnswersMeant (encoding_meant n) (Parses input blocks) a → IsExact (encoding_meant from) k
 parsed_exact n from k input blocks a p q h =
     subst (λ z. IsExact (encoding_meant from) z) (sym q)
     (exact (encoding_meant from) (Parses input blocks) a (λ m l. events_kind blocks l.result a l.told) (parsed_told n from input blocks a p h))
 
-pub emitted_exact : (meant : Option (List EventBody × (RequestedSettings × ℕ))) (k : ℤ) (a : yaml_c_answer) → k ≡ a.kind
+pub emitted_exact : (meant : Option (List EventBody × (RequestedSettings × ℕ))) (k : ℤ)
+    (a : yaml_c_answer) → k ≡ a.kind
     → AnswersMeant meant Emits a → IsExact meant k
 emitted_exact meant k a q h =
     subst (λ z. IsExact meant z) (sym q)
     (exact meant Emits a (λ m l. tells_kind l.result a l.told) h)
 
-front_kind : (m : yaml_encoding_t) (input : List ℕ) (blocks : yaml_c_parsed) (r : Result (List Told) Fault) (a : yaml_c_answer)
+front_kind : (m : yaml_encoding_t) (input : List ℕ) (blocks : yaml_c_parsed)
+    (r : Result (List Told) Fault) (a : yaml_c_answer)
     → TellsFront m input blocks r a → ¬ (a.kind ≡ negsuc 0)
 front_kind m input blocks (Ok es) a h = text_kind [] (pos 0) a h.0
 front_kind m input blocks (Err f) a h = fault_kind f (pos 0) a h.0
 
-pub front_told : (n from : ℤ) (input : List ℕ) (blocks : yaml_c_parsed) (a : yaml_c_answer) → n ≡ from
-    → AnswersMeant (encoding_meant n) (Fronts input blocks) a → AnswersMeant (encoding_meant from) (Fronts input blocks) a
+pub front_told : (n from : ℤ) (input : List ℕ) (blocks : yaml_c_parsed) (a : yaml_c_answer)
+    → n ≡ from
+    → AnswersMeant (encoding_meant n) (Fronts input blocks) a
+    → AnswersMeant (encoding_meant from) (Fronts input blocks) a
 front_told n from input blocks a p h = subst (λ z. AnswersMeant (encoding_meant z) (Fronts input blocks) a) p h
 
 pub front_none : (n from : ℤ) (blocks : yaml_c_parsed) → n ≡ from
     → NothingUnmeant (encoding_meant n) blocks → NothingUnmeant (encoding_meant from) blocks
 front_none n from blocks p h = subst (λ z. NothingUnmeant (encoding_meant z) blocks) p h
 
-pub front_exact : (n from k : ℤ) (input : List ℕ) (blocks : yaml_c_parsed) (a : yaml_c_answer) → n ≡ from → k ≡ a.kind
+pub front_exact : (n from k : ℤ) (input : List ℕ) (blocks : yaml_c_parsed) (a : yaml_c_answer)
+    → n ≡ from → k ≡ a.kind
     → AnswersMeant (encoding_meant n) (Fronts input blocks) a → IsExact (encoding_meant from) k
 front_exact n from k input blocks a p q h =
     subst (λ z. IsExact (encoding_meant from) z) (sym q)
@@ -148,29 +175,35 @@ end_kind : (o : Option Fault) (a : yaml_c_answer) → TellsEnd o a → ¬ (a.kin
 end_kind None a h = text_kind [] (pos 0) a h
 end_kind (Some f) a h = fault_kind f (pos 0) a h
 
-scan_kind : (input : List ℕ) (blocks : yaml_c_scanned) (m : yaml_encoding_t) (a : yaml_c_answer) → Scans input blocks m a → ¬ (a.kind ≡ negsuc 0)
+scan_kind : (input : List ℕ) (blocks : yaml_c_scanned) (m : yaml_encoding_t) (a : yaml_c_answer)
+    → Scans input blocks m a → ¬ (a.kind ≡ negsuc 0)
 scan_kind input blocks m a (inl h) = fault_kind h.fault (pos 0) a h.told
 scan_kind input blocks m a (inr h) = end_kind _ a h.0
 
-pub scanned_told : (n from : ℤ) (input : List ℕ) (blocks : yaml_c_scanned) (a : yaml_c_answer) → n ≡ from
-    → AnswersMeant (encoding_meant n) (Scans input blocks) a → AnswersMeant (encoding_meant from) (Scans input blocks) a
+pub scanned_told : (n from : ℤ) (input : List ℕ) (blocks : yaml_c_scanned) (a : yaml_c_answer)
+    → n ≡ from
+    → AnswersMeant (encoding_meant n) (Scans input blocks) a
+    → AnswersMeant (encoding_meant from) (Scans input blocks) a
 scanned_told n from input blocks a p h = subst (λ z. AnswersMeant (encoding_meant z) (Scans input blocks) a) p h
 
 pub scanned_none : (n from : ℤ) (blocks : yaml_c_scanned) → n ≡ from
     → NoTokenUnmeant (encoding_meant n) blocks → NoTokenUnmeant (encoding_meant from) blocks
 scanned_none n from blocks p h = subst (λ z. NoTokenUnmeant (encoding_meant z) blocks) p h
 
-pub scanned_exact : (n from k : ℤ) (input : List ℕ) (blocks : yaml_c_scanned) (a : yaml_c_answer) → n ≡ from → k ≡ a.kind
+pub scanned_exact : (n from k : ℤ) (input : List ℕ) (blocks : yaml_c_scanned) (a : yaml_c_answer)
+    → n ≡ from → k ≡ a.kind
     → AnswersMeant (encoding_meant n) (Scans input blocks) a → IsExact (encoding_meant from) k
 scanned_exact n from k input blocks a p q h =
     subst (λ z. IsExact (encoding_meant from) z) (sym q)
     (exact (encoding_meant from) (Scans input blocks) a (λ m l. scan_kind input blocks m a l) (scanned_told n from input blocks a p h))
 
-pub decoded_told : (n from : ℤ) (input : List ℕ) (a : yaml_c_answer) → n ≡ from → AnswersMeant (encoding_meant n) (Decodes input) a
+pub decoded_told : (n from : ℤ) (input : List ℕ) (a : yaml_c_answer) → n ≡ from
+    → AnswersMeant (encoding_meant n) (Decodes input) a
     → AnswersMeant (encoding_meant from) (Decodes input) a
 decoded_told n from input a p h = subst (λ z. AnswersMeant (encoding_meant z) (Decodes input) a) p h
 
-pub decoded_exact : (n from k : ℤ) (input : List ℕ) (a : yaml_c_answer) → n ≡ from → k ≡ a.kind → AnswersMeant (encoding_meant n) (Decodes input) a
+pub decoded_exact : (n from k : ℤ) (input : List ℕ) (a : yaml_c_answer) → n ≡ from → k ≡ a.kind
+    → AnswersMeant (encoding_meant n) (Decodes input) a
     → IsExact (encoding_meant from) k
 decoded_exact n from k input a p q h =
     subst (λ z. IsExact (encoding_meant from) z) (sym q)

@@ -24,28 +24,36 @@ use Rattle.yaml_round_answers.proofs.Refusing.{refused_answer}
 use Rattle.yaml_round_records.proofs.Saying.{say_at}
 
 -- the events of a reading that has no fault are the input's
-pub all_taken : (from : yaml_encoding_t) (input : List ℕ) (p : ParserRemaining) (l : Listing) → Reads from input p → p.ending ≡ None
+pub all_taken : (from : yaml_encoding_t) (input : List ℕ) (p : ParserRemaining) (l : Listing)
+    → Reads from input p → p.ending ≡ None
     → Collected p.events [] l
-    → (ending_of from input ≡ None) × AreSaid l (events_alone (events_of from input)) × HoldsAll l (events_alone (events_of from input))
+    → (ending_of from input ≡ None) × AreSaid l (events_alone (events_of from input))
+    × HoldsAll l (events_alone (events_of from input))
 all_taken from input p l r e c =
     let all : events_alone (events_of from input) ≡ c.given = sym (ap events_alone r.events) ∙ c.split ∙ append-nil c.given in
     (sym r.ending ∙ e, subst (λ z. AreSaid l z) (sym all) c.said, subst (λ z. HoldsAll l z) (sym all) c.holds)
 
 -- its fault is the input's
-pub fault_taken : (from : yaml_encoding_t) (input : List ℕ) (p : ParserRemaining) (f : yaml_fault_t) → Reads from input p
-    → (l : Listing) → IsMemoryFault parse_layers (fault_of f) ⊎ ((p.ending ≡ Some (fault_of f)) × Collected p.events [] l)
+pub fault_taken : (from : yaml_encoding_t) (input : List ℕ) (p : ParserRemaining) (f : yaml_fault_t)
+    → Reads from input p
+    → (l : Listing)
+    → IsMemoryFault parse_layers (fault_of f)
+    ⊎ ((p.ending ≡ Some (fault_of f)) × Collected p.events [] l)
     → IsMemoryFault parse_layers (fault_of f) ⊎ (ending_of from input ≡ Some (fault_of f))
 fault_taken from input p f r l (inl m) = inl m
 fault_taken from input p f r l (inr e) = inr (sym r.ending ∙ e.0)
 
 -- the events of a reading up to its end are the input's
-pub whole_taken : (from : yaml_encoding_t) (input : List ℕ) (p : ParserRemaining) (l : Listing) → Reads from input p → p.ending ≡ None
+pub whole_taken : (from : yaml_encoding_t) (input : List ℕ) (p : ParserRemaining) (l : Listing)
+    → Reads from input p → p.ending ≡ None
     → Collected p.events [] l → (ending_of from input ≡ None) × IsFront from input l
 whole_taken from input p l r e c = let a = all_taken from input p l r e c in (a.0, (a.1, a.2))
 
 -- the events of a reading up to its fault are the input's
-pub front_taken : (from : yaml_encoding_t) (input : List ℕ) (p : ParserRemaining) (f : yaml_fault_t) (l : Listing) → Reads from input p
-    → IsMemoryFault parse_layers (fault_of f) ⊎ ((p.ending ≡ Some (fault_of f)) × Collected p.events [] l)
+pub front_taken : (from : yaml_encoding_t) (input : List ℕ) (p : ParserRemaining) (f : yaml_fault_t)
+    (l : Listing) → Reads from input p
+    → IsMemoryFault parse_layers (fault_of f)
+    ⊎ ((p.ending ≡ Some (fault_of f)) × Collected p.events [] l)
     → IsMemoryFault parse_layers (fault_of f)
     ⊎ ((ending_of from input ≡ Some (fault_of f)) × IsFront from input l)
 front_taken from input p f l r (inl m) = inl m
@@ -54,23 +62,27 @@ front_taken from input p f l r (inr e) =
     inr (sym r.ending ∙ e.0, (subst (λ z. AreSaid l z) (sym all) e.1.said, subst (λ z. HoldsAll l z) (sym all) e.1.holds))
 
 pub front_fault : (from : yaml_encoding_t) (input : List ℕ) (f : yaml_fault_t) (l : Listing)
-    → IsMemoryFault parse_layers (fault_of f) ⊎ ((ending_of from input ≡ Some (fault_of f)) × IsFront from input l)
+    → IsMemoryFault parse_layers (fault_of f)
+    ⊎ ((ending_of from input ≡ Some (fault_of f)) × IsFront from input l)
     → IsMemoryFault parse_layers (fault_of f) ⊎ IsFaulty from input (fault_of f)
 front_fault from input f l (inl m) = inl m
 front_fault from input f l (inr e) = inr (faulty from input (fault_of f) e.0)
 
 -- it is that of the input's plain reading
-pub fault_plain : (from : yaml_encoding_t) (input : List ℕ) (f : yaml_fault_t) → IsMemoryFault parse_layers (fault_of f) ⊎ (ending_of from input ≡ Some (fault_of f))
+pub fault_plain : (from : yaml_encoding_t) (input : List ℕ) (f : yaml_fault_t)
+    → IsMemoryFault parse_layers (fault_of f) ⊎ (ending_of from input ≡ Some (fault_of f))
     → IsMemoryFault parse_layers (fault_of f) ⊎ IsFaulty from input (fault_of f)
 fault_plain from input f (inl m) = inl m
 fault_plain from input f (inr e) = inr (faulty from input (fault_of f) e)
 
-list_at : (b c : List ℕ) (d f : List yaml_c_directive) (ts : List TagDirective) → c ≡ b → f ≡ d → all_directives b d ≡ Some ts
+list_at : (b c : List ℕ) (d f : List yaml_c_directive) (ts : List TagDirective) → c ≡ b → f ≡ d
+    → all_directives b d ≡ Some ts
     → all_directives c f ≡ Some ts
 list_at b c d f ts p q h = subst (λ z. all_directives z f ≡ Some ts) (sym p) (subst (λ z. all_directives b z ≡ Some ts) (sym q) h)
 
 -- the blocks say what the listing does, and hold what it holds
-pub handed_says : (l : Listing) (p : yaml_c_parsed) (es : List Told) → HandsOut l p → AreSaid l (events_alone es)
+pub handed_says : (l : Listing) (p : yaml_c_parsed) (es : List Told) → HandsOut l p
+    → AreSaid l (events_alone es)
     → HoldsAll l (events_alone es) → SayEvents p es
 handed_says l p es h s a =
     let bytes : p.bytes.now ≡ l.bytes.items ++ [] = h.bytes ∙ sym (append-nil l.bytes.items) in record {
@@ -81,24 +93,31 @@ handed_says l p es h s a =
     }
 
 -- the blocks say what stands in front of the fault
-pub front_says : (from : yaml_encoding_t) (input : List ℕ) (f : yaml_fault_t) (l : Listing) (p : yaml_c_parsed) → HandsOut l p
-    → IsMemoryFault parse_layers (fault_of f) ⊎ ((ending_of from input ≡ Some (fault_of f)) × IsFront from input l)
+pub front_says : (from : yaml_encoding_t) (input : List ℕ) (f : yaml_fault_t) (l : Listing)
+    (p : yaml_c_parsed) → HandsOut l p
+    → IsMemoryFault parse_layers (fault_of f)
+    ⊎ ((ending_of from input ≡ Some (fault_of f)) × IsFront from input l)
     → IsMemoryFault parse_layers (fault_of f) ⊎ SayEvents p (events_of from input)
 front_says from input f l p h (inl m) = inl m
 front_says from input f l p h (inr e) = inr (handed_says l p _ h e.1.0 e.1.1)
 
 -- ---- a refused parse is told
 
-none_told : (p : yaml_c_parsed) (g : Fault) (a : yaml_c_answer) → HasNothing p → TellsFault g (pos 0) a → TellsEvents p (Err g) a
+none_told : (p : yaml_c_parsed) (g : Fault) (a : yaml_c_answer) → HasNothing p
+    → TellsFault g (pos 0) a → TellsEvents p (Err g) a
 none_told p g a h t = (t, h)
 
-pub refused_parse : (from : yaml_encoding_t) (input : List ℕ) (f : yaml_fault_t) (p : yaml_c_parsed) (a : yaml_c_answer) → HasNothing p
-    → IsMemoryFault parse_layers (fault_of f) ⊎ (ending_of from input ≡ Some (fault_of f)) → Refuses (fault_of f) (pos 0) a → Parses input p from a
+pub refused_parse : (from : yaml_encoding_t) (input : List ℕ) (f : yaml_fault_t) (p : yaml_c_parsed)
+    (a : yaml_c_answer) → HasNothing p
+    → IsMemoryFault parse_layers (fault_of f) ⊎ (ending_of from input ≡ Some (fault_of f))
+    → Refuses (fault_of f) (pos 0) a → Parses input p from a
 refused_parse from input f p a h e t =
     refused_answer parse_layers Parser (IsParsed from input) (TellsEvents p) (fault_of f) a (inl refl) (λ g u. none_told p g a h u) (fault_plain from input f e) t
 
-pub refused_front : (from : yaml_encoding_t) (input : List ℕ) (f : yaml_fault_t) (l : Listing) (p : yaml_c_parsed) (a : yaml_c_answer) → HandsOut l p
-    → IsMemoryFault parse_layers (fault_of f) ⊎ ((ending_of from input ≡ Some (fault_of f)) × IsFront from input l)
+pub refused_front : (from : yaml_encoding_t) (input : List ℕ) (f : yaml_fault_t) (l : Listing)
+    (p : yaml_c_parsed) (a : yaml_c_answer) → HandsOut l p
+    → IsMemoryFault parse_layers (fault_of f)
+    ⊎ ((ending_of from input ≡ Some (fault_of f)) × IsFront from input l)
     → Refuses (fault_of f) (pos 0) a → Fronts input p from a
 refused_front from input f l p a h e (inl t) = record {
   result = Err (fault_of f);

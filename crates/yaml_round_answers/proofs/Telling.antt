@@ -11,27 +11,35 @@ use Rattle.yaml_round_answers.specs.Emitting.{Emits, EmitsAll}
 use Rattle.yaml_round_answers.specs.Told.{AnswersMeant, both, OrMemory, Refuses, TellsResult, TellsMisuse}
 use Rattle.yaml_round_answers.proofs.Refusing.{refused_answer}
 
-pub all_told : (o : Option (List EventBody)) (m : RequestedSettings × ℕ) (r : Result (List ℕ) Fault) (a : yaml_c_answer) → OrMemory emit_layers (IsEmitted m.0 m.1 (all_events o)) r → TellsResult r a → EmitsAll o m a
+pub all_told : (o : Option (List EventBody)) (m : RequestedSettings × ℕ) (r : Result (List ℕ) Fault)
+    (a : yaml_c_answer) → OrMemory emit_layers (IsEmitted m.0 m.1 (all_events o)) r
+    → TellsResult r a → EmitsAll o m a
 all_told None m r a is told = tt
 all_told (Some bs) m r a is told = record { result = r; is = is; told = told }
 
 -- the fault is told, or that memory for its line was refused
-pub all_refused : (o : Option (List EventBody)) (m : RequestedSettings × ℕ) (f : Fault) (a : yaml_c_answer) → OrMemory emit_layers (IsEmitted m.0 m.1 (all_events o)) (Err f) → Refuses f (pos 0) a → EmitsAll o m a
+pub all_refused : (o : Option (List EventBody)) (m : RequestedSettings × ℕ) (f : Fault)
+    (a : yaml_c_answer) → OrMemory emit_layers (IsEmitted m.0 m.1 (all_events o)) (Err f)
+    → Refuses f (pos 0) a → EmitsAll o m a
 all_refused None m f a is told = tt
 all_refused (Some bs) m f a is told =
     refused_answer emit_layers Emitter (IsEmitted m.0 m.1 (all_events (Some bs))) TellsResult f a (inl refl) (λ g t. t) is told
 
 -- the records and the settings mean something
-pub both_told : (o : Option (List EventBody)) (m : RequestedSettings × ℕ) (s : Option (RequestedSettings × ℕ)) (a : yaml_c_answer) → is_some o ≡ true → Some m ≡ s → EmitsAll o m a → AnswersMeant (both o s) Emits a
+pub both_told : (o : Option (List EventBody)) (m : RequestedSettings × ℕ)
+    (s : Option (RequestedSettings × ℕ)) (a : yaml_c_answer) → is_some o ≡ true → Some m ≡ s
+    → EmitsAll o m a → AnswersMeant (both o s) Emits a
 both_told None m s a some is h = absurd (cc)
 both_told (Some bs) m s a some is h = subst (λ (t : Option (RequestedSettings × ℕ)). AnswersMeant (both (Some bs) t) Emits a) is h
 
 -- the settings mean nothing
-pub unasked : (o : Option (List EventBody)) (s : Option (RequestedSettings × ℕ)) (a : yaml_c_answer) → None ≡ s → TellsMisuse a → AnswersMeant (both o s) Emits a
+pub unasked : (o : Option (List EventBody)) (s : Option (RequestedSettings × ℕ)) (a : yaml_c_answer)
+    → None ≡ s → TellsMisuse a → AnswersMeant (both o s) Emits a
 unasked None s a is h = h
 unasked (Some bs) s a is h = subst (λ (t : Option (RequestedSettings × ℕ)). AnswersMeant (both (Some bs) t) Emits a) is h
 
 -- a record means nothing
-pub unmeant : (o : Option (List EventBody)) (s : Option (RequestedSettings × ℕ)) (a : yaml_c_answer) → false ≡ is_some o → TellsMisuse a → AnswersMeant (both o s) Emits a
+pub unmeant : (o : Option (List EventBody)) (s : Option (RequestedSettings × ℕ)) (a : yaml_c_answer)
+    → false ≡ is_some o → TellsMisuse a → AnswersMeant (both o s) Emits a
 unmeant None s a is h = h
 unmeant (Some bs) s a is h = absurd (cc)

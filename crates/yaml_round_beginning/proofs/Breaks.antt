@@ -16,7 +16,8 @@ below_found p (suc n) i h e = elim (cases_eq i n) [
   | inr other ↦ (let k : any_below n p ≡ true = below_found p n i (omega (arith, other)) e in rw k refl)
 ]
 
-pub below_more : (p : ℕ → Bool) (i : ℕ) → any_below i p ≡ false → p i ≡ false → any_below (i + 1) p ≡ false
+pub below_more : (p : ℕ → Bool) (i : ℕ) → any_below i p ≡ false → p i ≡ false
+    → any_below (i + 1) p ≡ false
 unfolding any_below
 below_more p i h e = rw add-one (rw (h, e) refl)
 
@@ -25,7 +26,8 @@ unfolding last_or
 last_at before x [] = refl
 last_at before x (y ∷ ys) = last_at x y ys
 
-pub last_is : (before : ℕ) (xs : List ℕ) → (length xs == 0) ≡ false → get_or xs (length xs - 1) 0 ≡ last_or before xs
+pub last_is : (before : ℕ) (xs : List ℕ) → (length xs == 0) ≡ false
+    → get_or xs (length xs - 1) 0 ≡ last_or before xs
 last_is before [] h = absurd (cc)
 last_is before (x ∷ xs) h = let e : length (x ∷ xs) - 1 ≡ length xs = omega arith in ap (λ i. get_or (x ∷ xs) i 0) e ∙ last_at before x xs
 
@@ -35,7 +37,9 @@ last_none before [] h = refl
 last_none before (x ∷ xs) h = absurd (grind (arith, nat_tests, h))
 
 -- one place more of a row
-pub row_more : (p : ℕ → Bool) (at n : ℕ) (all one : Bool) → (all ≡ true → any_below at p ≡ false → any_below (at + n) p ≡ false) → (one ≡ true → p (at + n) ≡ false)
+pub row_more : (p : ℕ → Bool) (at n : ℕ) (all one : Bool)
+    → (all ≡ true → any_below at p ≡ false → any_below (at + n) p ≡ false)
+    → (one ≡ true → p (at + n) ≡ false)
     → (all && one) ≡ true → any_below at p ≡ false → any_below (at + (n + 1)) p ≡ false
 row_more p at n true true h k e none =
     let on : (at + n) + 1 ≡ at + (n + 1) = omega arith in

@@ -8,7 +8,9 @@ use Rattle.yaml_round_laws_pretty.specs.Flags.{begins_with_nothing}
 use Rattle.yaml_round_beginning.specs.declared.beginning.Beginning.TheVariants as known
 use Rattle.yaml_round_beginning.specs.Beginning.{nothing_comes}
 
-behind_opening : (x : yaml_encoding_t) (o : Opening) (es : List Event) → nothing_comes known.Start (stream_start x ∷ document_start o ∷ es) ≡ begins_with_nothing (stream_start x ∷ document_start o ∷ es)
+behind_opening : (x : yaml_encoding_t) (o : Opening) (es : List Event)
+    → nothing_comes known.Start (stream_start x ∷ document_start o ∷ es)
+    ≡ begins_with_nothing (stream_start x ∷ document_start o ∷ es)
 behind_opening x o [] = and-false (o.implicit && not (is_directed o))
 behind_opening x o (scalar v ∷ es) = refl
 behind_opening x o (no_event ∷ es) = and-false (o.implicit && not (is_directed o))
@@ -22,7 +24,8 @@ behind_opening x o (sequence_end ∷ es) = and-false (o.implicit && not (is_dire
 behind_opening x o (mapping_start q ∷ es) = and-false (o.implicit && not (is_directed o))
 behind_opening x o (mapping_end ∷ es) = and-false (o.implicit && not (is_directed o))
 
-behind_start : (x : yaml_encoding_t) (es : List Event) → nothing_comes known.Start (stream_start x ∷ es) ≡ begins_with_nothing (stream_start x ∷ es)
+behind_start : (x : yaml_encoding_t) (es : List Event)
+    → nothing_comes known.Start (stream_start x ∷ es) ≡ begins_with_nothing (stream_start x ∷ es)
 behind_start x [] = refl
 behind_start x (document_start o ∷ es) = behind_opening x o es
 behind_start x (scalar v ∷ es) = refl

@@ -35,24 +35,28 @@ said_is (event.mapping_start anchor tag implicit style) = refl
 said_is event.mapping_end = refl
 
 scalar_said : (anchor tag : Option (List ℕ)) (value : List ℕ) (plain : Bool)
-    → event.scalar anchor tag value (counts_as_plain tag plain) false YAML_ANY_SCALAR_STYLE ≡ scalar_says anchor (mark_of tag plain) value
+    → event.scalar anchor tag value (counts_as_plain tag plain) false YAML_ANY_SCALAR_STYLE
+    ≡ scalar_says anchor (mark_of tag plain) value
 scalar_said anchor None value plain = refl
 scalar_said anchor (Some t) value plain = refl
 
 mutual
   unfolding emit.node_events emit.items_events emit.pairs_events node_says items_say pairs_say
 
-  node_said : (n : emit.Node) (es : List emit.Event) → map said (emit.node_events n es) ≡ node_says (tree_of n) (map said es)
+  node_said : (n : emit.Node) (es : List emit.Event)
+      → map said (emit.node_events n es) ≡ node_says (tree_of n) (map said es)
   node_said (emit.alias_node name) es = refl
   node_said (emit.scalar_node x) es = ap (λ (b : EventBody). b ∷ map said es) (scalar_said x.anchor x.tag x.value x.plain)
   node_said (emit.sequence_node q items) es = ap (λ (bs : List EventBody). said (emit.sequence_start q) ∷ bs) (items_said items (emit.sequence_end ∷ es))
   node_said (emit.mapping_node q pairs) es = ap (λ (bs : List EventBody). said (emit.mapping_start q) ∷ bs) (pairs_said pairs (emit.mapping_end ∷ es))
 
-  items_said : (ns : emit.Nodes) (es : List emit.Event) → map said (emit.items_events ns es) ≡ items_say (trees_of ns) (map said es)
+  items_said : (ns : emit.Nodes) (es : List emit.Event)
+      → map said (emit.items_events ns es) ≡ items_say (trees_of ns) (map said es)
   items_said emit.no_nodes es = refl
   items_said (emit.node n ns) es = node_said n (emit.items_events ns es) ∙ ap (λ (bs : List EventBody). node_says (tree_of n) bs) (items_said ns es)
 
-  pairs_said : (ps : emit.Pairs) (es : List emit.Event) → map said (emit.pairs_events ps es) ≡ pairs_say (pair_trees_of ps) (map said es)
+  pairs_said : (ps : emit.Pairs) (es : List emit.Event)
+      → map said (emit.pairs_events ps es) ≡ pairs_say (pair_trees_of ps) (map said es)
   pairs_said emit.no_pairs es = refl
   pairs_said (emit.pair k v ps) es =
       node_said k (emit.node_events v (emit.pairs_events ps es)) ∙ ap (λ (bs : List EventBody). node_says (tree_of k) bs) (node_said v (emit.pairs_events ps es))
@@ -74,16 +78,19 @@ mutual
   node_more (content.sequence anchor tag items) es fs = ap (λ (bs : List EventBody). event.sequence_start anchor tag true YAML_ANY_SEQUENCE_STYLE ∷ bs) (items_more items (event.sequence_end ∷ es) fs)
   node_more (content.mapping anchor tag pairs) es fs = ap (λ (bs : List EventBody). event.mapping_start anchor tag true YAML_ANY_MAPPING_STYLE ∷ bs) (pairs_more pairs (event.mapping_end ∷ es) fs)
 
-  items_more : (ns : Nodes) (es fs : List EventBody) → items_say ns (es ++ fs) ≡ items_say ns es ++ fs
+  items_more : (ns : Nodes) (es fs : List EventBody)
+      → items_say ns (es ++ fs) ≡ items_say ns es ++ fs
   items_more content.no_nodes es fs = refl
   items_more (content.node n ns) es fs = ap (λ (bs : List EventBody). node_says n bs) (items_more ns es fs) ∙ node_more n (items_say ns es) fs
 
-  pairs_more : (ps : Pairs) (es fs : List EventBody) → pairs_say ps (es ++ fs) ≡ pairs_say ps es ++ fs
+  pairs_more : (ps : Pairs) (es fs : List EventBody)
+      → pairs_say ps (es ++ fs) ≡ pairs_say ps es ++ fs
   pairs_more content.no_pairs es fs = refl
   pairs_more (content.pair k v ps) es fs =
       ap (λ (bs : List EventBody). node_says k (node_says v bs)) (pairs_more ps es fs) ∙ ap (λ (bs : List EventBody). node_says k bs) (node_more v (pairs_say ps es) fs) ∙ node_more k (node_says v (pairs_say ps es)) fs
 
-documents_more : (d : Document) (ds : List Document) → documents_left (d ∷ ds) ≡ document_says d ++ documents_left ds
+documents_more : (d : Document) (ds : List Document)
+    → documents_left (d ∷ ds) ≡ document_says d ++ documents_left ds
 unfolding documents_say
 documents_more d ds =
     ap (λ (bs : List EventBody). event.document_start d.version d.directives true ∷ bs) (node_more (document_tree (graph_content d)).root (event.document_end true ∷ []) (documents_left ds))
@@ -149,7 +156,8 @@ counts_both (x ∷ xs) ys =
     omega (arith, a, b, c)
 
 -- the last of a list is that of each part behind
-some_end : (xs : List EventBody) (y : EventBody) (ys pre : List EventBody) → xs ++ y ∷ ys ≡ pre ++ event.document_end true ∷ [] → 1 < suc (ends (y ∷ ys))
+some_end : (xs : List EventBody) (y : EventBody) (ys pre : List EventBody)
+    → xs ++ y ∷ ys ≡ pre ++ event.document_end true ∷ [] → 1 < suc (ends (y ∷ ys))
 some_end [] y ys pre e =
     let a : ends (y ∷ ys) ≡ ends (pre ++ event.document_end true ∷ []) = ap (λ (es : List EventBody). ends es) e in
     let b = counts_both pre (event.document_end true ∷ []) in
@@ -167,10 +175,13 @@ some_end (x ∷ xs) y ys (p ∷ pre) e = some_end xs y ys pre (tails x p (xs ++ 
     tails : (p q : EventBody) (ps qs : List EventBody) → p ∷ ps ≡ q ∷ qs → ps ≡ qs
     tails p q ps qs h = cc
 
-ends_last : (d : Document) → document_says d ≡ (event.document_start d.version d.directives true ∷ node_says (document_tree (graph_content d)).root []) ++ event.document_end true ∷ []
+ends_last : (d : Document)
+    → document_says d ≡ (event.document_start d.version d.directives true
+    ∷ node_says (document_tree (graph_content d)).root []) ++ event.document_end true ∷ []
 ends_last d = ap (λ (bs : List EventBody). event.document_start d.version d.directives true ∷ bs) (node_more (document_tree (graph_content d)).root [] (event.document_end true ∷ []))
 
-no_front : (d e : Document) (x : EventBody) (xs : List EventBody) → document_says e ≡ document_says d ++ x ∷ xs → ⊥
+no_front : (d e : Document) (x : EventBody) (xs : List EventBody)
+    → document_says e ≡ document_says d ++ x ∷ xs → ⊥
 no_front d e x xs h =
     let a = one_end d in
     let b = one_end e in
@@ -201,7 +212,8 @@ content_past event.mapping_end p = refl
 goes_nowhere : (a b : List EventBody) (f : Front) → GoesPast a b a b f f
 goes_nowhere a b f = record { before = []; first_events = refl; second_events = refl; path = refl; events = omega arith }
 
-pub goes_on : (a b l r m s : List EventBody) (old mid new : Front) → GoesPast a b l r old mid → GoesPast l r m s mid new → GoesPast a b m s old new
+pub goes_on : (a b l r m s : List EventBody) (old mid new : Front) → GoesPast a b l r old mid
+    → GoesPast l r m s mid new → GoesPast a b m s old new
 goes_on a b l r m s old mid new g h = record {
   before = g.before ++ h.before;
   first_events = g.first_events ∙ ap (λ (es : List EventBody). g.before ++ es) h.first_events ∙ sym (append_assoc g.before h.before m);
@@ -210,7 +222,9 @@ goes_on a b l r m s old mid new g h = record {
   events = let x = g.events in let y = h.events in let z = length-append g.before h.before in omega (arith, x, y, z);
 }
 
-pub goes_one : (l r m s : List EventBody) (body : EventBody) (old new : Front) → l ≡ content_of body ∷ m → r ≡ content_of body ∷ s → PassesEvent body old new → GoesPast l r m s old new
+pub goes_one : (l r m s : List EventBody) (body : EventBody) (old new : Front)
+    → l ≡ content_of body ∷ m → r ≡ content_of body ∷ s → PassesEvent body old new
+    → GoesPast l r m s old new
 goes_one l r m s body old new e f p = record {
   before = content_of body ∷ [];
   first_events = e;
@@ -221,7 +235,8 @@ goes_one l r m s body old new e f p = record {
 
 -- ---- documents
 
-goes_wider : (a b l r m s : List EventBody) (old new : Front) → GoesPast a b l r old new → GoesPast (a ++ m) (b ++ s) (l ++ m) (r ++ s) old new
+goes_wider : (a b l r m s : List EventBody) (old new : Front) → GoesPast a b l r old new
+    → GoesPast (a ++ m) (b ++ s) (l ++ m) (r ++ s) old new
 goes_wider a b l r m s old new g = record {
   before = g.before;
   first_events = ap (λ (es : List EventBody). es ++ m) g.first_events ∙ append_assoc g.before l m;
@@ -230,35 +245,46 @@ goes_wider a b l r m s old new g = record {
   events = g.events;
 }
 
-goes_as : (a b c d l r : List EventBody) (old new : Front) → c ≡ a → d ≡ b → GoesPast a b l r old new → GoesPast c d l r old new
+goes_as : (a b c d l r : List EventBody) (old new : Front) → c ≡ a → d ≡ b
+    → GoesPast a b l r old new → GoesPast c d l r old new
 goes_as a b c d l r old new e f g = record { before = g.before; first_events = e ∙ g.first_events; second_events = f ∙ g.second_events; path = g.path; events = g.events }
 
-past_documents : (d e : Document) (ds es : List Document) (old new : Front) → GoesPast (document_says d) (document_says e) [] [] old new
-    → GoesPast (documents_left (d ∷ ds)) (documents_left (e ∷ es)) (documents_left ds) (documents_left es) old new
+past_documents : (d e : Document) (ds es : List Document) (old new : Front)
+    → GoesPast (document_says d) (document_says e) [] [] old new
+    → GoesPast (documents_left (d ∷ ds)) (documents_left (e ∷ es)) (documents_left ds)
+    (documents_left es) old new
 past_documents d e ds es old new g =
     goes_as _ _ _ _ _ _ old new (documents_more d ds) (documents_more e es) (goes_wider (document_says d) (document_says e) [] [] (documents_left ds) (documents_left es) old new g)
 
 -- the first documents of both were passed
-pub next_documents : (a b : List EventBody) (xs ys : List Document) (d e : Document) (ds es : List Document) (old mid new : Front) → GoesPast a b (documents_left xs) (documents_left ys) old mid → xs ≡ d ∷ ds → ys ≡ e ∷ es
-    → GoesPast (document_says d) (document_says e) [] [] mid new → GoesPast a b (documents_left ds) (documents_left es) old new
+pub next_documents : (a b : List EventBody) (xs ys : List Document) (d e : Document)
+    (ds es : List Document) (old mid new : Front)
+    → GoesPast a b (documents_left xs) (documents_left ys) old mid → xs ≡ d ∷ ds → ys ≡ e ∷ es
+    → GoesPast (document_says d) (document_says e) [] [] mid new
+    → GoesPast a b (documents_left ds) (documents_left es) old new
 next_documents a b xs ys d e ds es old mid new g p q h =
     let there : GoesPast a b (documents_left (d ∷ ds)) (documents_left (e ∷ es)) old mid =
     subst (λ (z : List Document). GoesPast a b (documents_left (d ∷ ds)) (documents_left z) old mid) q (subst (λ (z : List Document). GoesPast a b (documents_left z) (documents_left ys) old mid) p g) in
     goes_on a b _ _ _ _ old mid new there (past_documents d e ds es mid new h)
 
-still_differ : (d e : Document) (before left other_left l r : List EventBody) → document_says d ≡ before ++ left → document_says e ≡ before ++ other_left → (next_of left ≡ next_of other_left → ⊥) → next_of (left ++ l) ≡ next_of (other_left ++ r) → ⊥
+still_differ : (d e : Document) (before left other_left l r : List EventBody)
+    → document_says d ≡ before ++ left → document_says e ≡ before ++ other_left
+    → (next_of left ≡ next_of other_left → ⊥) → next_of (left ++ l) ≡ next_of (other_left ++ r) → ⊥
 still_differ d e before [] [] l r p q differ = λ h. differ refl
 still_differ d e before [] (x ∷ xs) l r p q differ = λ h. no_front d e x xs (q ∙ ap (λ (es : List EventBody). es ++ x ∷ xs) (sym (append-nil before) ∙ sym p))
 still_differ d e before (x ∷ xs) [] l r p q differ = λ h. no_front e d x xs (p ∙ ap (λ (es : List EventBody). es ++ x ∷ xs) (sym (append-nil before) ∙ sym q))
 still_differ d e before (x ∷ xs) (y ∷ ys) l r p q differ = differ
 
-parts_behind : (a b l r : List EventBody) (old mid new : Front) → GoesPast a b l r old mid → PartsBehind l r mid new → PartsBehind a b old new
+parts_behind : (a b l r : List EventBody) (old mid new : Front) → GoesPast a b l r old mid
+    → PartsBehind l r mid new → PartsBehind a b old new
 parts_behind a b l r old mid new g h = record { left = h.left; other_left = h.other_left; past = goes_on a b l r h.left h.other_left old mid new g h.past; differ = h.differ }
 
 parts_here : (l r : List EventBody) (f : Front) → (next_of l ≡ next_of r → ⊥) → PartsBehind l r f f
 parts_here l r f h = record { left = l; other_left = r; past = goes_nowhere l r f; differ = h }
 
-part_documents : (d e : Document) (ds es : List Document) (old new : Front) → PartsBehind (document_says d) (document_says e) old new → PartsBehind (documents_left (d ∷ ds)) (documents_left (e ∷ es)) old new
+part_documents : (d e : Document) (ds es : List Document) (old new : Front)
+    → PartsBehind (document_says d) (document_says e) old new
+    → PartsBehind (documents_left (d ∷ ds)) (documents_left (e ∷ es)) old new
 part_documents d e ds es old new h = record {
   left = h.left ++ documents_left ds;
   other_left = h.other_left ++ documents_left es;
@@ -267,18 +293,23 @@ part_documents d e ds es old new h = record {
 }
 
 -- what was passed, and then what is left
-parts_on : (a b : List EventBody) (xs ys us vs : List Document) (old mid new : Front) → GoesPast a b (documents_left xs) (documents_left ys) old mid → xs ≡ us → ys ≡ vs → PartsBehind (documents_left us) (documents_left vs) mid new
+parts_on : (a b : List EventBody) (xs ys us vs : List Document) (old mid new : Front)
+    → GoesPast a b (documents_left xs) (documents_left ys) old mid → xs ≡ us → ys ≡ vs
+    → PartsBehind (documents_left us) (documents_left vs) mid new
     → PartsBehind a b old new
 parts_on a b xs ys us vs old mid new g p q h =
     parts_behind a b (documents_left xs) (documents_left ys) old mid new g
     (subst (λ (z : List Document). PartsBehind (documents_left xs) (documents_left z) mid new) (sym q) (subst (λ (z : List Document). PartsBehind (documents_left z) (documents_left vs) mid new) (sym p) h))
 
-pub documents_part : (a b : List EventBody) (xs ys : List Document) (d e : Document) (ds es : List Document) (old mid new : Front) → GoesPast a b (documents_left xs) (documents_left ys) old mid → xs ≡ d ∷ ds → ys ≡ e ∷ es
+pub documents_part : (a b : List EventBody) (xs ys : List Document) (d e : Document)
+    (ds es : List Document) (old mid new : Front)
+    → GoesPast a b (documents_left xs) (documents_left ys) old mid → xs ≡ d ∷ ds → ys ≡ e ∷ es
     → PartsBehind (document_says d) (document_says e) mid new → PartsBehind a b old new
 documents_part a b xs ys d e ds es old mid new g p q h = parts_on a b xs ys (d ∷ ds) (e ∷ es) old mid new g p q (part_documents d e ds es mid new h)
 
 -- the end of the stream beside a document
-document_more : (ds : List Document) (d : Document) → next_of (documents_left []) ≡ next_of (documents_left (d ∷ ds)) → ⊥
+document_more : (ds : List Document) (d : Document)
+    → next_of (documents_left []) ≡ next_of (documents_left (d ∷ ds)) → ⊥
 unfolding documents_say
 document_more ds d h = absurd (cc)
 
@@ -286,8 +317,14 @@ none_left : (left rest : List Document) → left ≡ rest → rest ≡ drop 1 le
 none_left [] rest e h = refl
 none_left (d ∷ ds) rest e h = absurd (let k = ap length (e ∙ h) in omega (arith, k))
 
-pub first_ends : (a b : List EventBody) (xs ys more : List Document) (e : Document) (es : List Document) (old mid : Front) → GoesPast a b (documents_left xs) (documents_left ys) old mid → xs ≡ more → more ≡ drop 1 xs → ys ≡ e ∷ es → PartsBehind a b old mid
+pub first_ends : (a b : List EventBody) (xs ys more : List Document) (e : Document)
+    (es : List Document) (old mid : Front)
+    → GoesPast a b (documents_left xs) (documents_left ys) old mid → xs ≡ more → more ≡ drop 1 xs
+    → ys ≡ e ∷ es → PartsBehind a b old mid
 first_ends a b xs ys more e es old mid g p n q = parts_on a b xs ys [] (e ∷ es) old mid mid g (none_left xs more p n) q (parts_here (documents_left []) (documents_left (e ∷ es)) mid (document_more es e))
 
-pub second_ends : (a b : List EventBody) (xs ys more : List Document) (d : Document) (ds : List Document) (old mid : Front) → GoesPast a b (documents_left xs) (documents_left ys) old mid → xs ≡ d ∷ ds → ys ≡ more → more ≡ drop 1 ys → PartsBehind a b old mid
+pub second_ends : (a b : List EventBody) (xs ys more : List Document) (d : Document)
+    (ds : List Document) (old mid : Front)
+    → GoesPast a b (documents_left xs) (documents_left ys) old mid → xs ≡ d ∷ ds → ys ≡ more
+    → more ≡ drop 1 ys → PartsBehind a b old mid
 second_ends a b xs ys more d ds old mid g p q n = parts_on a b xs ys (d ∷ ds) [] old mid mid g p (none_left ys more q n) (parts_here (documents_left (d ∷ ds)) (documents_left []) mid (λ h. document_more ds d (sym h)))

@@ -13,7 +13,8 @@ ends [] = 0
 ends (event.stream_end ∷ es) = suc (ends es)
 ends (e ∷ es) = ends es
 
-scalar_ends : (anchor : Option (List ℕ)) (mark : Mark) (text : List ℕ) (es : List EventBody) → ends (scalar_says anchor mark text ∷ es) ≡ ends es
+scalar_ends : (anchor : Option (List ℕ)) (mark : Mark) (text : List ℕ) (es : List EventBody)
+    → ends (scalar_says anchor mark text ∷ es) ≡ ends es
 scalar_ends anchor (untagged plain) text es = refl
 scalar_ends anchor (tagged t) text es = refl
 
@@ -57,7 +58,8 @@ documents_end (d ∷ ds) = node_ends d.root (event.document_end true ∷ documen
 one_and_none : (n : ℕ) → n ≡ 1 → n ≡ 0 → ⊥
 one_and_none n e z = absurd (cc)
 
-pub whole_stream : (c d : List Document) (t : List EventBody) → stream_says c ++ t ≡ stream_says d → t ≡ []
+pub whole_stream : (c d : List Document) (t : List EventBody) → stream_says c ++ t ≡ stream_says d
+    → t ≡ []
 whole_stream c d [] e = refl
 whole_stream c d (g ∷ gs) e =
     let p = placed d (event.stream_start YAML_ANY_ENCODING) (documents_say c) g gs (sym e) in

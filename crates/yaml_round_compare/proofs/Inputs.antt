@@ -39,7 +39,8 @@ pub loads : (from : yaml_encoding_t) (input : List ℕ) → HasLoaded from input
 loads from input h = ((loads_of from input).documents, faultless_load from input h)
 
 -- what loads has no fault that ends its events
-reads : (from : yaml_encoding_t) (input : List ℕ) → HasLoaded from input → ending_of from input ≡ None
+reads : (from : yaml_encoding_t) (input : List ℕ) → HasLoaded from input
+    → ending_of from input ≡ None
 unfolding IsRight
 reads from input h =
     let l = faultless_load from input h in
@@ -49,7 +50,8 @@ not_none : (o : Option Fault) (f : Fault) → o ≡ None → o ≡ Some f → �
 not_none o f e h = cc
 
 -- so a fault that is met is want of memory
-pub short : (from : yaml_encoding_t) (input : List ℕ) (f : yaml_fault_t) → HasLoaded from input → IsFaultOf (ending_of from input) f → IsMemoryFault load_layers (fault_of f)
+pub short : (from : yaml_encoding_t) (input : List ℕ) (f : yaml_fault_t) → HasLoaded from input
+    → IsFaultOf (ending_of from input) f → IsMemoryFault load_layers (fault_of f)
 short from input f h e = elim e [ inl m ↦ inr m | inr k ↦ absurd (not_none (ending_of from input) (fault_of f) (reads from input h) k) ]
 
 -- ---- what documents say doesn't hang on how they end
@@ -63,12 +65,17 @@ ended_say ds = ap (λ (c : List content.Document). documents_say c) (trees ds)
 
 -- ---- the same dumps
 
-same_trees : (ds es : List Document) → documents_left ds ≡ documents_left es → trees_of_dumps ds ≡ trees_of_dumps es
+same_trees : (ds es : List Document) → documents_left ds ≡ documents_left es
+    → trees_of_dumps ds ≡ trees_of_dumps es
 same_trees ds es e = says_injective (trees_of_dumps ds) (trees_of_dumps es) (ap (λ (x : List EventBody). event.stream_start YAML_ANY_ENCODING ∷ x) e)
 
-pub all_agree : (a_from : yaml_encoding_t) (a : List ℕ) (b_from : yaml_encoding_t) (b : List ℕ) (ds es : List Document)
-    → (trees_of_dumps (loads_of a_from a).documents ≡ trees_of_dumps (loads_of b_from b).documents → AreAgreeing (loads_of a_from a).documents (loads_of b_from b).documents)
-    → HasLoaded a_from a → HasLoaded b_from b → ds ≡ map with_implicit_end (loads_of a_from a).documents → es ≡ map with_implicit_end (loads_of b_from b).documents
+pub all_agree : (a_from : yaml_encoding_t) (a : List ℕ) (b_from : yaml_encoding_t) (b : List ℕ)
+    (ds es : List Document)
+    → (trees_of_dumps (loads_of a_from a).documents ≡ trees_of_dumps (loads_of b_from b).documents
+    → AreAgreeing (loads_of a_from a).documents (loads_of b_from b).documents)
+    → HasLoaded a_from a → HasLoaded b_from b
+    → ds ≡ map with_implicit_end (loads_of a_from a).documents
+    → es ≡ map with_implicit_end (loads_of b_from b).documents
     → documents_left ds ≡ documents_left es → SameDocuments a_from a b_from b
 all_agree a_from a b_from b ds es tell h k p q e =
     let xs = (loads_of a_from a).documents in
@@ -95,7 +102,9 @@ behind_same (x ∷ xs) ys zs e = behind_same xs ys zs (rest_same x (xs ++ ys) (x
 abbrev InFront : List EventBody → Type 0
 InFront front = (p : Place) × (front ≡ place_says p [])
 
-in_front : (c d : List content.Document) (before left other_left : List EventBody) → documents_say c ≡ before ++ left → documents_say d ≡ before ++ other_left → (next_of left ≡ next_of other_left → ⊥)
+in_front : (c d : List content.Document) (before left other_left : List EventBody)
+    → documents_say c ≡ before ++ left → documents_say d ≡ before ++ other_left
+    → (next_of left ≡ next_of other_left → ⊥)
     → InFront (event.stream_start YAML_ANY_ENCODING ∷ before)
 in_front c d before [] [] p q differ = absurd (differ refl)
 in_front c d before (x ∷ xs) other_left p q differ =
@@ -104,12 +113,17 @@ in_front c d before [] (y ∷ ys) p q differ =
     placed d (event.stream_start YAML_ANY_ENCODING) before y ys (ap (λ (es : List EventBody). event.stream_start YAML_ANY_ENCODING ∷ es) q)
 
 -- so many are in front
-counted : (m n : ℕ) (before : List EventBody) → n ≡ 1 → m ≡ n + length before → m ≡ length (event.stream_start YAML_ANY_ENCODING ∷ before)
+counted : (m n : ℕ) (before : List EventBody) → n ≡ 1 → m ≡ n + length before
+    → m ≡ length (event.stream_start YAML_ANY_ENCODING ∷ before)
 counted m n before p q = omega (arith, p, q)
 
-pub all_part : (a_from : yaml_encoding_t) (a : List ℕ) (b_from : yaml_encoding_t) (b : List ℕ) (ds es : List Document) (old new : Front) (d : yaml_difference_t)
-    → HasLoaded a_from a → HasLoaded b_from b → ds ≡ map with_implicit_end (loads_of a_from a).documents → es ≡ map with_implicit_end (loads_of b_from b).documents
-    → IsStarted old → PartsBehind (documents_left ds) (documents_left es) old new → TellsOfInputs a_from a b_from b new (Ok d) → IsDocumentsParting a_from a b_from b d
+pub all_part : (a_from : yaml_encoding_t) (a : List ℕ) (b_from : yaml_encoding_t) (b : List ℕ)
+    (ds es : List Document) (old new : Front) (d : yaml_difference_t)
+    → HasLoaded a_from a → HasLoaded b_from b
+    → ds ≡ map with_implicit_end (loads_of a_from a).documents
+    → es ≡ map with_implicit_end (loads_of b_from b).documents
+    → IsStarted old → PartsBehind (documents_left ds) (documents_left es) old new
+    → TellsOfInputs a_from a b_from b new (Ok d) → IsDocumentsParting a_from a b_from b d
 all_part a_from a b_from b ds es old new d h k p q s parts t =
     let xs = (loads_of a_from a).documents in
     let ys = (loads_of b_from b).documents in

@@ -27,7 +27,8 @@ use Rattle.yaml_round_compare.proofs.Fronts.{whole_stream}
 -- ---- lists
 
 -- what fronts and what is left say
-said_apart : (c : List Document) (events before left : List Told) → contents events ≡ stream_says c → events ≡ before ++ left → contents before ++ contents left ≡ stream_says c
+said_apart : (c : List Document) (events before left : List Told) → contents events ≡ stream_says c
+    → events ≡ before ++ left → contents before ++ contents left ≡ stream_says c
 said_apart c events before left s e = sym (map-append (λ (t : Told). saying t.0.body) before left) ∙ sym (ap contents e) ∙ s
 
 not_nothing : (b : EventBody) (bs : List EventBody) → b ∷ bs ≡ [] → ⊥
@@ -41,13 +42,16 @@ nothing_behind [] = refl
 nothing_behind (x ∷ xs) = ap (λ (ys : List EventBody). x ∷ ys) (nothing_behind xs)
 
 -- neither ends in front of the other
-longer : (c d : List Document) (before other_before : List EventBody) (b : EventBody) (bs : List EventBody) → before ++ [] ≡ stream_says c → other_before ++ b ∷ bs ≡ stream_says d → before ≡ other_before → ⊥
+longer : (c d : List Document) (before other_before : List EventBody) (b : EventBody)
+    (bs : List EventBody) → before ++ [] ≡ stream_says c → other_before ++ b ∷ bs ≡ stream_says d
+    → before ≡ other_before → ⊥
 longer c d before other_before b bs e f same =
     let whole : before ≡ stream_says c = sym (nothing_behind before) ∙ e in
     not_nothing b bs (whole_stream c d (b ∷ bs) (ap (λ (x : List EventBody). x ++ b ∷ bs) (sym whole ∙ same) ∙ f))
 
 -- both begin with the stream's start
-begun_alike : (c d : List Document) (a b : EventBody) (x y : List EventBody) → a ∷ x ≡ stream_says c → b ∷ y ≡ stream_says d → a ≡ b
+begun_alike : (c d : List Document) (a b : EventBody) (x y : List EventBody) → a ∷ x ≡ stream_says c
+    → b ∷ y ≡ stream_says d → a ≡ b
 begun_alike c d a b x y e f =
     first_same a (event.stream_start YAML_ANY_ENCODING) x (documents_say c) e ∙ sym (first_same b (event.stream_start YAML_ANY_ENCODING) y (documents_say d) f)
 
@@ -56,17 +60,22 @@ begun_alike c d a b x y e f =
 abbrev InFront : List EventBody → Type 0
 InFront front = (p : Place) × (front ≡ place_says p [])
 
-in_front : (c d : List Document) (before other_before : List Told) (e f : EventBody) (es fs : List EventBody)
-    → contents before ++ e ∷ es ≡ stream_says c → contents other_before ++ f ∷ fs ≡ stream_says d → contents before ≡ contents other_before → (e ≡ f → ⊥) → InFront (contents before)
+in_front : (c d : List Document) (before other_before : List Told) (e f : EventBody)
+    (es fs : List EventBody)
+    → contents before ++ e ∷ es ≡ stream_says c → contents other_before ++ f ∷ fs ≡ stream_says d
+    → contents before ≡ contents other_before → (e ≡ f → ⊥) → InFront (contents before)
 in_front c d [] other_before e f es fs p q alike differ =
     absurd (differ (begun_alike c d e f es fs p (ap (λ (x : List EventBody). x ++ f ∷ fs) alike ∙ q)))
 in_front c d (t ∷ ts) other_before e f es fs p q alike differ = placed c (saying t.0.body) (contents ts) e es (sym p)
 
 -- ---- from readings to inputs
 
-parted_at : (a_from : yaml_encoding_t) (a : List ℕ) (b_from : yaml_encoding_t) (b : List ℕ) (place : yaml_difference_t) (before other_before left other_left : List Told)
-    → ending_of a_from a ≡ None → ending_of b_from b ≡ None → events_of a_from a ≡ before ++ left → events_of b_from b ≡ other_before ++ other_left
-    → contents before ≡ contents other_before → AreApart left other_left place → path_of place ≡ past (contents before) start
+parted_at : (a_from : yaml_encoding_t) (a : List ℕ) (b_from : yaml_encoding_t) (b : List ℕ)
+    (place : yaml_difference_t) (before other_before left other_left : List Told)
+    → ending_of a_from a ≡ None → ending_of b_from b ≡ None → events_of a_from a ≡ before ++ left
+    → events_of b_from b ≡ other_before ++ other_left
+    → contents before ≡ contents other_before → AreApart left other_left place
+    → path_of place ≡ past (contents before) start
     → IsParting a_from a b_from b place
 parted_at a_from a b_from b place before other_before [] [] p q e f alike apart path = absurd apart
 parted_at a_from a b_from b place before other_before [] (y ∷ ys) p q e f alike apart path =
@@ -101,15 +110,20 @@ parted_at a_from a b_from b place before other_before (x ∷ xs) (y ∷ ys) p q 
       path = path ∙ ap (λ (es : List EventBody). past es start) there.1 ∙ place_walked there.0;
     }
 
-pub parting_told : (kept : Bool) (a_from : yaml_encoding_t) (a : List ℕ) (b_from : yaml_encoding_t) (b : List ℕ) (p q : ParserRemaining) (old new : Trail) → Reads a_from a p → Reads b_from b q
-    → p.ending ≡ None → q.ending ≡ None → IsFresh kept old → Parted kept p.events q.events old new → IsParting a_from a b_from b new.place
+pub parting_told : (kept : Bool) (a_from : yaml_encoding_t) (a : List ℕ) (b_from : yaml_encoding_t)
+    (b : List ℕ) (p q : ParserRemaining) (old new : Trail) → Reads a_from a p → Reads b_from b q
+    → p.ending ≡ None → q.ending ≡ None → IsFresh kept old → Parted kept p.events q.events old new
+    → IsParting a_from a b_from b new.place
 parting_told kept a_from a b_from b p q old new h k first_ending second_ending fresh d =
     parted_at a_from a b_from b new.place d.before d.other_before d.left d.other_left
     (sym h.ending ∙ first_ending) (sym k.ending ∙ second_ending) (sym h.events ∙ d.first_events) (sym k.events ∙ d.second_events)
     d.alike d.apart (d.path fresh.kept ∙ ap (λ (w : Path). past (contents d.before) w) fresh.path)
 
-pub told_where : (kept : Bool) (a_from : yaml_encoding_t) (a : List ℕ) (b_from : yaml_encoding_t) (b : List ℕ) (p q : ParserRemaining) (old new : Trail) (result : Result Bool (yaml_side_t × yaml_fault_t))
-    → Reads a_from a p → Reads b_from b q → ComparesReadings p q result → WhereDifferent result (Parted kept p.events q.events old new) → IsFresh kept old
+pub told_where : (kept : Bool) (a_from : yaml_encoding_t) (a : List ℕ) (b_from : yaml_encoding_t)
+    (b : List ℕ) (p q : ParserRemaining) (old new : Trail)
+    (result : Result Bool (yaml_side_t × yaml_fault_t))
+    → Reads a_from a p → Reads b_from b q → ComparesReadings p q result
+    → WhereDifferent result (Parted kept p.events q.events old new) → IsFresh kept old
     → WhereDifferent result (IsParting a_from a b_from b new.place)
 told_where kept a_from a b_from b p q old new (Ok false) h k e d fresh = parting_told kept a_from a b_from b p q old new h k e.first_ending e.second_ending fresh d
 told_where kept a_from a b_from b p q old new (Ok true) h k e d fresh = tt

@@ -14,10 +14,12 @@ use Rattle.yaml_round_compare.specs.Places.{Inside, at_root, at_item, at_key, at
 abbrev Splits : List EventBody → List EventBody → EventBody → List EventBody → Type 0
 Splits whole fs g gs = whole ≡ fs ++ g ∷ gs
 
-rest_splits : (e f : EventBody) (whole fs : List EventBody) (g : EventBody) (gs : List EventBody) → Splits (e ∷ whole) (f ∷ fs) g gs → Splits whole fs g gs
+rest_splits : (e f : EventBody) (whole fs : List EventBody) (g : EventBody) (gs : List EventBody)
+    → Splits (e ∷ whole) (f ∷ fs) g gs → Splits whole fs g gs
 rest_splits e f whole fs g gs s = cc
 
-first_splits : (e f : EventBody) (whole fs : List EventBody) (g : EventBody) (gs : List EventBody) → Splits (e ∷ whole) (f ∷ fs) g gs → f ≡ e
+first_splits : (e f : EventBody) (whole fs : List EventBody) (g : EventBody) (gs : List EventBody)
+    → Splits (e ∷ whole) (f ∷ fs) g gs → f ≡ e
 first_splits e f whole fs g gs s = cc
 
 joined : (f e : EventBody) (fs es : List EventBody) → f ≡ e → fs ≡ es → f ∷ fs ≡ e ∷ es
@@ -37,18 +39,22 @@ abbrev with_document : List Document → Document → List Document
 with_document [] e = e ∷ []
 with_document (d ∷ ds) e = d ∷ with_document ds e
 
-item_said : (ns : Nodes) (n : Node) (es : List EventBody) → items_say (with_item ns n) es ≡ items_say ns (node_says n es)
+item_said : (ns : Nodes) (n : Node) (es : List EventBody)
+    → items_say (with_item ns n) es ≡ items_say ns (node_says n es)
 unfolding node_says items_say pairs_say
 item_said no_nodes n es = refl
 item_said (node m ns) n es = ap (λ (x : List EventBody). node_says m x) (item_said ns n es)
 
-pair_said : (ps : Pairs) (k v : Node) (es : List EventBody) → pairs_say (with_pair ps k v) es ≡ pairs_say ps (node_says k (node_says v es))
+pair_said : (ps : Pairs) (k v : Node) (es : List EventBody)
+    → pairs_say (with_pair ps k v) es ≡ pairs_say ps (node_says k (node_says v es))
 unfolding node_says items_say pairs_say
 pair_said no_pairs k v es = refl
 pair_said (pair n m ps) k v es = ap (λ (x : List EventBody). node_says n (node_says m x)) (pair_said ps k v es)
 
 document_said : (ds : List Document) (d : Document) (es : List EventBody)
-    → whole_say (with_document ds d) es ≡ whole_say ds (event.document_start d.version d.directives true ∷ node_says d.root (event.document_end true ∷ es))
+    → whole_say (with_document ds d) es
+    ≡ whole_say ds (event.document_start d.version d.directives true
+    ∷ node_says d.root (event.document_end true ∷ es))
 document_said [] d es = refl
 document_said (c ∷ ds) d es = ap (λ (x : List EventBody). event.document_start c.version c.directives true ∷ node_says c.root (event.document_end true ∷ x)) (document_said ds d es)
 
@@ -59,29 +65,35 @@ abbrev Reached : (List EventBody → List EventBody) → List EventBody → Type
 Reached around fs = (i : Inside) × (around fs ≡ inside_says i [])
 
 -- or they are all of it, and others
-abbrev Left : (List EventBody → List EventBody) → List EventBody → List EventBody → EventBody → List EventBody → Type 0
+abbrev Left : (List EventBody → List EventBody) → List EventBody → List EventBody → EventBody
+    → List EventBody → Type 0
 Left says rest fs g gs = (hs : List EventBody) × Splits rest hs g gs × (fs ≡ says hs)
 
-abbrev Inward : (List EventBody → List EventBody) → (List EventBody → List EventBody) → List EventBody → List EventBody → EventBody → List EventBody → Type 0
+abbrev Inward : (List EventBody → List EventBody) → (List EventBody → List EventBody)
+    → List EventBody → List EventBody → EventBody → List EventBody → Type 0
 Inward around says rest fs g gs = Reached around fs ⊎ Left says rest fs g gs
 
 -- an event that is a node
-leaf : (outer : Inside) (e : EventBody) (rest fs : List EventBody) (g : EventBody) (gs : List EventBody) → Splits (e ∷ rest) fs g gs
+leaf : (outer : Inside) (e : EventBody) (rest fs : List EventBody) (g : EventBody)
+    (gs : List EventBody) → Splits (e ∷ rest) fs g gs
     → Inward (λ x. inside_says outer x) (λ x. e ∷ x) rest fs g gs
 leaf outer e rest [] g gs s = inl (outer, refl)
 leaf outer e rest (f ∷ fs) g gs s = inr (fs, rest_splits e f rest fs g gs s, joined f e fs fs (first_splits e f rest fs g gs s) refl)
 
 -- the end of a collection: in front of it is the place behind all that it holds
-closing : (inside : Inside) (around : List EventBody → List EventBody) (says : List EventBody → List EventBody) (e : EventBody)
+closing : (inside : Inside) (around : List EventBody → List EventBody)
+    (says : List EventBody → List EventBody) (e : EventBody)
     → around (says []) ≡ inside_says inside []
-    → (rest fs hs : List EventBody) (g : EventBody) (gs : List EventBody) → Splits (e ∷ rest) hs g gs → fs ≡ says hs
+    → (rest fs hs : List EventBody) (g : EventBody) (gs : List EventBody)
+    → Splits (e ∷ rest) hs g gs → fs ≡ says hs
     → Inward around (λ x. says (e ∷ x)) rest fs g gs
 closing inside around says e here rest fs [] g gs s p = inl (inside, ap around p ∙ here)
 closing inside around says e here rest fs (h ∷ hs) g gs s p =
     inr (hs, rest_splits e h rest hs g gs s, p ∙ ap says (joined h e hs hs (first_splits e h rest hs g gs s) refl))
 
 -- what an opened collection holds, and its end
-opened : (outer : Inside) (e : EventBody) (says : List EventBody → List EventBody) (end : EventBody) (inside : Inside)
+opened : (outer : Inside) (e : EventBody) (says : List EventBody → List EventBody) (end : EventBody)
+    (inside : Inside)
     → inside_says outer (e ∷ says []) ≡ inside_says inside []
     → (rest fs : List EventBody) (g : EventBody) (gs : List EventBody)
     → Inward (λ x. inside_says outer (e ∷ x)) says (end ∷ rest) fs g gs
@@ -89,8 +101,10 @@ opened : (outer : Inside) (e : EventBody) (says : List EventBody → List EventB
 opened outer e says end inside here rest fs g gs (inl r) = inl r
 opened outer e says end inside here rest fs g gs (inr l) = closing inside (λ x. inside_says outer (e ∷ x)) says end here rest fs l.0 g gs l.1 l.2
 
-entered : (outer : Inside) (e : EventBody) (says : List EventBody → List EventBody) (rest : List EventBody)
-    → ((fs : List EventBody) (g : EventBody) (gs : List EventBody) → Splits (says rest) fs g gs → Inward (λ x. inside_says outer (e ∷ x)) says rest fs g gs)
+entered : (outer : Inside) (e : EventBody) (says : List EventBody → List EventBody)
+    (rest : List EventBody)
+    → ((fs : List EventBody) (g : EventBody) (gs : List EventBody) → Splits (says rest) fs g gs
+    → Inward (λ x. inside_says outer (e ∷ x)) says rest fs g gs)
     → (fs : List EventBody) (g : EventBody) (gs : List EventBody) → Splits (e ∷ says rest) fs g gs
     → Inward (λ x. inside_says outer x) (λ x. e ∷ says x) rest fs g gs
 entered outer e says rest more [] g gs s = inl (outer, refl)
@@ -102,9 +116,11 @@ entered outer e says rest more (f ∷ fs) g gs s =
     ]
 
 -- one part, and then more of them
-both : (around one more : List EventBody → List EventBody) (rest fs : List EventBody) (g : EventBody) (gs : List EventBody)
+both : (around one more : List EventBody → List EventBody) (rest fs : List EventBody)
+    (g : EventBody) (gs : List EventBody)
     → Inward around one (more rest) fs g gs
-    → ((hs : List EventBody) → Splits (more rest) hs g gs → Inward (λ x. around (one x)) more rest hs g gs)
+    → ((hs : List EventBody) → Splits (more rest) hs g gs
+    → Inward (λ x. around (one x)) more rest hs g gs)
     → Inward around (λ x. one (more x)) rest fs g gs
 both around one more rest fs g gs (inl r) next = inl r
 both around one more rest fs g gs (inr l) next = elim (next l.0 l.1) [
@@ -113,7 +129,8 @@ both around one more rest fs g gs (inr l) next = elim (next l.0 l.1) [
 ]
 
 -- the same, round it another way
-around_as : (around other says : List EventBody → List EventBody) (rest fs : List EventBody) (g : EventBody) (gs : List EventBody) → other fs ≡ around fs
+around_as : (around other says : List EventBody → List EventBody) (rest fs : List EventBody)
+    (g : EventBody) (gs : List EventBody) → other fs ≡ around fs
     → Inward around says rest fs g gs → Inward other says rest fs g gs
 around_as around other says rest fs g gs e (inl r) = inl (r.0, e ∙ r.1)
 around_as around other says rest fs g gs e (inr l) = inr l
@@ -127,7 +144,8 @@ maps anchor tag = event.mapping_start anchor tag true YAML_ANY_MAPPING_STYLE
 mutual
   unfolding node_says items_say pairs_say
 
-  in_node : (n : Node) (outer : Inside) (rest fs : List EventBody) (g : EventBody) (gs : List EventBody) → Splits (node_says n rest) fs g gs
+  in_node : (n : Node) (outer : Inside) (rest fs : List EventBody) (g : EventBody)
+      (gs : List EventBody) → Splits (node_says n rest) fs g gs
       → Inward (λ x. inside_says outer x) (λ x. node_says n x) rest fs g gs
   in_node (alias name) outer rest fs g gs s = leaf outer (event.alias name) rest fs g gs s
   in_node (scalar anchor mark text) outer rest fs g gs s = leaf outer (scalar_says anchor mark text) rest fs g gs s
@@ -142,8 +160,11 @@ mutual
       (in_pairs pairs no_pairs outer anchor tag (event.mapping_end ∷ rest) hs h hs' t))
       fs g gs s
 
-  in_items : (ns before : Nodes) (outer : Inside) (anchor tag : Option (List ℕ)) (rest fs : List EventBody) (g : EventBody) (gs : List EventBody) → Splits (items_say ns rest) fs g gs
-      → Inward (λ x. inside_says outer (starts anchor tag ∷ items_say before x)) (λ x. items_say ns x) rest fs g gs
+  in_items : (ns before : Nodes) (outer : Inside) (anchor tag : Option (List ℕ))
+      (rest fs : List EventBody) (g : EventBody) (gs : List EventBody)
+      → Splits (items_say ns rest) fs g gs
+      → Inward (λ x. inside_says outer (starts anchor tag ∷ items_say before x))
+      (λ x. items_say ns x) rest fs g gs
   in_items no_nodes before outer anchor tag rest fs g gs s = inr (fs, s, refl)
   in_items (node n ns) before outer anchor tag rest fs g gs s =
       both (λ x. inside_says outer (starts anchor tag ∷ items_say before x)) (λ x. node_says n x) (λ x. items_say ns x) rest fs g gs
@@ -153,8 +174,11 @@ mutual
       (ap (λ (x : List EventBody). inside_says outer (starts anchor tag ∷ x)) (sym (item_said before n hs)))
       (in_items ns (with_item before n) outer anchor tag rest hs g gs t))
 
-  in_pairs : (ps before : Pairs) (outer : Inside) (anchor tag : Option (List ℕ)) (rest fs : List EventBody) (g : EventBody) (gs : List EventBody) → Splits (pairs_say ps rest) fs g gs
-      → Inward (λ x. inside_says outer (maps anchor tag ∷ pairs_say before x)) (λ x. pairs_say ps x) rest fs g gs
+  in_pairs : (ps before : Pairs) (outer : Inside) (anchor tag : Option (List ℕ))
+      (rest fs : List EventBody) (g : EventBody) (gs : List EventBody)
+      → Splits (pairs_say ps rest) fs g gs
+      → Inward (λ x. inside_says outer (maps anchor tag ∷ pairs_say before x)) (λ x. pairs_say ps x)
+      rest fs g gs
   in_pairs no_pairs before outer anchor tag rest fs g gs s = inr (fs, s, refl)
   in_pairs (pair k v ps) before outer anchor tag rest fs g gs s =
       both (λ x. inside_says outer (maps anchor tag ∷ pairs_say before x)) (λ x. node_says k x) (λ x. node_says v (pairs_say ps x)) rest fs g gs
@@ -171,14 +195,16 @@ mutual
 abbrev Placed : List Document → List EventBody → Type 0
 Placed before fs = (p : Place) × (event.stream_start YAML_ANY_ENCODING ∷ whole_say before fs ≡ place_says p [])
 
-nothing_splits : (f : EventBody) (fs : List EventBody) (g : EventBody) (gs : List EventBody) → Splits [] (f ∷ fs) g gs → ⊥
+nothing_splits : (f : EventBody) (fs : List EventBody) (g : EventBody) (gs : List EventBody)
+    → Splits [] (f ∷ fs) g gs → ⊥
 nothing_splits f fs g gs s = absurd (cc)
 
 nothing_split : (fs : List EventBody) (g : EventBody) (gs : List EventBody) → Splits [] fs g gs → ⊥
 nothing_split [] g gs s = absurd (cc)
 nothing_split (f ∷ fs) g gs s = nothing_splits f fs g gs s
 
-placed_end : (before : List Document) (fs : List EventBody) (g : EventBody) (gs : List EventBody) → Splits (event.stream_end ∷ []) fs g gs → Placed before fs
+placed_end : (before : List Document) (fs : List EventBody) (g : EventBody) (gs : List EventBody)
+    → Splits (event.stream_end ∷ []) fs g gs → Placed before fs
 placed_end before [] g gs s = (between before, refl)
 placed_end before (f ∷ fs) g gs s = absurd (nothing_split fs g gs (rest_splits event.stream_end f [] fs g gs s))
 
@@ -187,8 +213,10 @@ abbrev in_document : List Document → Document → List EventBody → List Even
 in_document before d es = event.stream_start YAML_ANY_ENCODING ∷ whole_say before (event.document_start d.version d.directives true ∷ es)
 
 behind_root : (before ds : List Document) (d : Document) (g : EventBody) (gs : List EventBody)
-    → ((hs : List EventBody) → Splits (documents_say ds) hs g gs → Placed (with_document before d) hs)
-    → (fs hs : List EventBody) → Splits (event.document_end true ∷ documents_say ds) hs g gs → fs ≡ node_says d.root hs
+    → ((hs : List EventBody) → Splits (documents_say ds) hs g gs
+    → Placed (with_document before d) hs)
+    → (fs hs : List EventBody) → Splits (event.document_end true ∷ documents_say ds) hs g gs
+    → fs ≡ node_says d.root hs
     → (p : Place) × (in_document before d fs ≡ place_says p [])
 behind_root before ds d g gs more fs [] s e = (at_end before d, ap (λ (x : List EventBody). in_document before d x) e)
 behind_root before ds d g gs more fs (h ∷ hs) s e =
@@ -200,8 +228,11 @@ behind_root before ds d g gs more fs (h ∷ hs) s e =
     )
 
 document_placed : (before ds : List Document) (d : Document) (g : EventBody) (gs : List EventBody)
-    → ((hs : List EventBody) → Splits (documents_say ds) hs g gs → Placed (with_document before d) hs)
-    → (fs : List EventBody) → Splits (event.document_start d.version d.directives true ∷ node_says d.root (event.document_end true ∷ documents_say ds)) fs g gs
+    → ((hs : List EventBody) → Splits (documents_say ds) hs g gs
+    → Placed (with_document before d) hs)
+    → (fs : List EventBody)
+    → Splits (event.document_start d.version d.directives true
+    ∷ node_says d.root (event.document_end true ∷ documents_say ds)) fs g gs
     → Placed before fs
 document_placed before ds d g gs more [] s = (between before, refl)
 document_placed before ds d g gs more (f ∷ fs) s =
@@ -214,13 +245,15 @@ document_placed before ds d g gs more (f ∷ fs) s =
       | inr l ↦ let q = behind_root before ds d g gs more fs l.0 l.1 l.2 in (q.0, here ∙ q.1)
     ]
 
-in_documents : (ds before : List Document) (fs : List EventBody) (g : EventBody) (gs : List EventBody) → Splits (documents_say ds) fs g gs → Placed before fs
+in_documents : (ds before : List Document) (fs : List EventBody) (g : EventBody)
+    (gs : List EventBody) → Splits (documents_say ds) fs g gs → Placed before fs
 unfolding documents_say
 in_documents [] before fs g gs s = placed_end before fs g gs s
 in_documents (d ∷ ds) before fs g gs s = document_placed before ds d g gs (λ hs t. in_documents ds (with_document before d) hs g gs t) fs s
 
 -- What stands in front of an event of a stream is in front of a place.
-pub placed : (c : List Document) (f : EventBody) (fs : List EventBody) (g : EventBody) (gs : List EventBody) → stream_says c ≡ f ∷ fs ++ g ∷ gs
+pub placed : (c : List Document) (f : EventBody) (fs : List EventBody) (g : EventBody)
+    (gs : List EventBody) → stream_says c ≡ f ∷ fs ++ g ∷ gs
     → (p : Place) × (f ∷ fs ≡ place_says p [])
 placed c f fs g gs s =
     let head = event.stream_start YAML_ANY_ENCODING in

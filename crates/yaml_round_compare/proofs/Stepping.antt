@@ -21,8 +21,10 @@ use Rattle.yaml_round_compare.specs.Compare.{normalized, JudgesEvents, AreApart,
 
 -- ---- normalized events
 
-scalar_type : (lone : Bool) (anchor tag : Option (List ℕ)) (text : List ℕ) (plain quoted : Bool) (style : yaml_scalar_style_t)
-    → type_of (normalize_scalar lone anchor tag text plain quoted style) ≡ type_of (event.scalar anchor tag text plain quoted style)
+scalar_type : (lone : Bool) (anchor tag : Option (List ℕ)) (text : List ℕ) (plain quoted : Bool)
+    (style : yaml_scalar_style_t)
+    → type_of (normalize_scalar lone anchor tag text plain quoted style)
+    ≡ type_of (event.scalar anchor tag text plain quoted style)
 scalar_type true anchor tag text plain quoted style = refl
 scalar_type false anchor tag text plain quoted style = refl
 
@@ -40,7 +42,8 @@ same_type (event.mapping_start anchor tag implicit style) = refl
 same_type event.mapping_end = refl
 
 -- what tells of normalized events tells of the events
-pub tells_of : (e f shown other : Event) (d : yaml_difference_t) → shown ≡ normalized e → other ≡ normalized f → TellsOf shown other d → TellsOf e f d
+pub tells_of : (e f shown other : Event) (d : yaml_difference_t) → shown ≡ normalized e
+    → other ≡ normalized f → TellsOf shown other d → TellsOf e f d
 tells_of e f shown other d p q t = record {
   first_mark = t.first_mark ∙ ap (λ (x : Event). x.start_mark) p;
   first_type = t.first_type ∙ ap (λ (x : Event). type_of x.body) p ∙ same_type e.body;
@@ -48,13 +51,16 @@ tells_of e f shown other d p q t = record {
   second_type = t.second_type ∙ ap (λ (x : Event). type_of x.body) q ∙ same_type f.body;
 }
 
-scalar_past : (lone : Bool) (anchor tag : Option (List ℕ)) (text : List ℕ) (plain quoted : Bool) (style : yaml_scalar_style_t) (p : Path)
-    → past_event (normalize_scalar lone anchor tag text plain quoted style) p ≡ past_event (content_of (normalize_scalar lone anchor tag text plain quoted style)) p
+scalar_past : (lone : Bool) (anchor tag : Option (List ℕ)) (text : List ℕ) (plain quoted : Bool)
+    (style : yaml_scalar_style_t) (p : Path)
+    → past_event (normalize_scalar lone anchor tag text plain quoted style) p
+    ≡ past_event (content_of (normalize_scalar lone anchor tag text plain quoted style)) p
 scalar_past true anchor tag text plain quoted style p = refl
 scalar_past false anchor tag text plain quoted style p = refl
 
 -- styles and document marks make no difference to the path
-said_past : (b : EventBody) (p : Path) → past_event (normalize_body true b) p ≡ past_event (saying b) p
+said_past : (b : EventBody) (p : Path)
+    → past_event (normalize_body true b) p ≡ past_event (saying b) p
 said_past (event.scalar anchor tag text plain quoted style) p = scalar_past (is_lone_mark tag text) anchor tag text plain quoted style p
 said_past (event.document_end implicit) p = refl
 said_past event.no p = refl
@@ -79,8 +85,10 @@ shorter : (xs ys : List Told) (x : Told) → xs ≡ x ∷ ys → length ys < len
 shorter xs ys x e = subst (λ (zs : List Told). length ys < length zs) (sym e) (omega arith)
 
 goes_on : (first second first_new second_new : ParserRemaining) (shown : Event) (x y : Told)
-    → first.events ≡ x ∷ first_new.events → second.events ≡ y ∷ second_new.events → saying x.0.body ≡ saying y.0.body → shown ≡ normalized x.0
-    → AreReal first_new.events → AreReal second_new.events → first_new.ending ≡ first.ending → second_new.ending ≡ second.ending
+    → first.events ≡ x ∷ first_new.events → second.events ≡ y ∷ second_new.events
+    → saying x.0.body ≡ saying y.0.body → shown ≡ normalized x.0
+    → AreReal first_new.events → AreReal second_new.events → first_new.ending ≡ first.ending
+    → second_new.ending ≡ second.ending
     → BothGoOn first second first_new second_new shown
 goes_on first second first_new second_new shown x y p q says n real other_real ending other_ending = record {
   front = x;
@@ -100,8 +108,10 @@ goes_on first second first_new second_new shown x y p q says n real other_real e
 }
 
 -- the first gave that event, and the second stands beside it
-pub beside : (first first_new second second_new : Reading) (e : Event) (r : Next) → GivesNextEvent e first.parser first_new.parser
-    → StepsBeside e second.parser r (event_of first_new.event) second_new → StepsOn first second r first_new second_new
+pub beside : (first first_new second second_new : Reading) (e : Event) (r : Next)
+    → GivesNextEvent e first.parser first_new.parser
+    → StepsBeside e second.parser r (event_of first_new.event) second_new
+    → StepsOn first second r first_new second_new
 beside first first_new second second_new e Same g b =
     goes_on first.parser second.parser first_new.parser second_new.parser (event_of first_new.event) (e, first_new.parser.unasked) b.front
     g.events b.events b.says b.normal g.real b.real g.ending b.ending
@@ -119,21 +129,26 @@ beside first first_new second second_new e (Refused First) g b = absurd b
 beside first first_new second second_new e (Refused Second) g b = (b, (g.ending, g.real))
 
 -- the second's event says something else
-pub apart_from : (e f shown other : Event) (xs ys second : List Told) (n m : ℕ) (d : yaml_difference_t) → shown ≡ normalized e → other ≡ normalized f
-    → second ≡ (f, m) ∷ ys → (saying e.body ≡ saying f.body → ⊥) → TellsOf shown other d → AreApart ((e, n) ∷ xs) second d
+pub apart_from : (e f shown other : Event) (xs ys second : List Told) (n m : ℕ)
+    (d : yaml_difference_t) → shown ≡ normalized e → other ≡ normalized f
+    → second ≡ (f, m) ∷ ys → (saying e.body ≡ saying f.body → ⊥) → TellsOf shown other d
+    → AreApart ((e, n) ∷ xs) second d
 apart_from e f shown other xs ys second n m d p q s differ t =
     subst (λ (zs : List Told). AreApart ((e, n) ∷ xs) zs d) (sym s) (differ, tells_of e f shown other d p q t)
 
 -- it has none
-pub apart_behind : (x : Told) (xs second : List Told) (d : yaml_difference_t) → second ≡ [] → AreApart (x ∷ xs) second d
+pub apart_behind : (x : Told) (xs second : List Told) (d : yaml_difference_t) → second ≡ []
+    → AreApart (x ∷ xs) second d
 apart_behind x xs second d s = subst (λ (zs : List Told). AreApart (x ∷ xs) zs d) (sym s) tt
 
 first_same : (a b : EventBody) (x y : List EventBody) → a ∷ x ≡ b ∷ y → a ≡ b
 first_same a b x y e = cc
 
 -- the second gave that event, and both are judged
-pub judged_beside : (e f shown : Event) (second : ParserRemaining) (r : Next) (second_new : Reading) → GivesNextEvent f second second_new.parser
-    → JudgesEvents e.body f.body r → shown ≡ normalized e → event_of second_new.event ≡ normalized f → StepsBeside e second r shown second_new
+pub judged_beside : (e f shown : Event) (second : ParserRemaining) (r : Next) (second_new : Reading)
+    → GivesNextEvent f second second_new.parser
+    → JudgesEvents e.body f.body r → shown ≡ normalized e → event_of second_new.event ≡ normalized f
+    → StepsBeside e second r shown second_new
 judged_beside e f shown second Same second_new g j p q =
     record { front = (f, second_new.parser.unasked); events = g.events; says = j; normal = p; real = g.real; ending = g.ending }
 judged_beside e f shown second End second_new g j p q = absurd j
@@ -147,7 +162,9 @@ judged_beside e f shown second (Refused side) second_new g j p q = absurd j
 
 -- ---- where they part
 
-pub parted_here : (kept : Bool) (first second : List Told) (old new : Trail) → AreApart first second new.place → path_of new.place ≡ path_of old.place → Parted kept first second old new
+pub parted_here : (kept : Bool) (first second : List Told) (old new : Trail)
+    → AreApart first second new.place → path_of new.place ≡ path_of old.place
+    → Parted kept first second old new
 parted_here kept first second old new a p = record {
   before = [];
   other_before = [];
@@ -163,8 +180,10 @@ parted_here kept first second old new a p = record {
 longer : (xs ys zs ws : List Told) (x : Told) → xs ≡ x ∷ ys → ys ≡ zs ++ ws → xs ≡ x ∷ zs ++ ws
 longer xs ys zs ws x e f = e ∙ ap (λ (vs : List Told). x ∷ vs) f
 
-pub parted_behind : (kept : Bool) (first second : List Told) (rest other_rest : List Told) (x y : Told) (shown : Event) (old middle new : Trail)
-    → first ≡ x ∷ rest → second ≡ y ∷ other_rest → saying x.0.body ≡ saying y.0.body → shown ≡ normalized x.0
+pub parted_behind : (kept : Bool) (first second : List Told) (rest other_rest : List Told)
+    (x y : Told) (shown : Event) (old middle new : Trail)
+    → first ≡ x ∷ rest → second ≡ y ∷ other_rest → saying x.0.body ≡ saying y.0.body
+    → shown ≡ normalized x.0
     → (kept ≡ true → path_of middle.place ≡ past_event shown.body (path_of old.place))
     → Parted kept rest other_rest middle new → Parted kept first second old new
 parted_behind kept first second rest other_rest x y shown old middle new p q says n step h = record {

@@ -10,8 +10,15 @@ use Rattle.yaml_round_compare.specs.Differences.{TellsOf}
 abbrev IsOf : yaml_mark_t × yaml_event_type_t → Event → Type 0
 IsOf found e = (found.0 ≡ e.start_mark) × (found.1 ≡ type_of e.body)
 
-pub placed_tells : (place result : yaml_difference_t) (x y : yaml_mark_t × yaml_event_type_t) (e f : Event)
-    → result ≡ record place { first_mark = x.0; first_type = x.1; second_mark = y.0; second_type = y.1 } → IsOf x e → IsOf y f
+pub placed_tells : (place result : yaml_difference_t) (x y : yaml_mark_t × yaml_event_type_t)
+    (e f : Event)
+    → result ≡ record place {
+      first_mark = x.0;
+      first_type = x.1;
+      second_mark = y.0;
+      second_type =
+          y.1;
+    } → IsOf x e → IsOf y f
     → TellsOf e f result × (path_of result ≡ path_of place)
 placed_tells place result x y e f r p q = (
   record {

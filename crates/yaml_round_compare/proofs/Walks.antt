@@ -12,7 +12,8 @@ use Rattle.yaml_round_compare.specs.Walking.{past, past_node, start}
 abbrev at : ℕ → List Step → Path
 at d ss = record { document = d; steps = ss }
 
-scalar_walked : (anchor : Option (List ℕ)) (mark : Mark) (text : List ℕ) (es : List EventBody) (d : ℕ) (ss : List Step)
+scalar_walked : (anchor : Option (List ℕ)) (mark : Mark) (text : List ℕ) (es : List EventBody)
+    (d : ℕ) (ss : List Step)
     → past (scalar_says anchor mark text ∷ es) (at d ss) ≡ past es (at d (past_node (Some text) ss))
 scalar_walked anchor (untagged plain) text es d ss = refl
 scalar_walked anchor (tagged t) text es d ss = refl
@@ -29,20 +30,24 @@ from_none n = omega arith
 mutual
   unfolding node_says items_say pairs_say
 
-  node_walked : (n : Node) (es : List EventBody) (d : ℕ) (ss : List Step) → past (node_says n es) (at d ss) ≡ past es (at d (past_node (text_of_key n) ss))
+  node_walked : (n : Node) (es : List EventBody) (d : ℕ) (ss : List Step)
+      → past (node_says n es) (at d ss) ≡ past es (at d (past_node (text_of_key n) ss))
   node_walked (alias name) es d ss = refl
   node_walked (scalar anchor mark text) es d ss = scalar_walked anchor mark text es d ss
   node_walked (sequence anchor tag items) es d ss = items_walked items (event.sequence_end ∷ es) 0 d ss
   node_walked (mapping anchor tag pairs) es d ss = pairs_walked pairs (event.mapping_end ∷ es) 0 d ss
 
-  items_walked : (ns : Nodes) (es : List EventBody) (k d : ℕ) (ss : List Step) → past (items_say ns es) (at d (item k ∷ ss)) ≡ past es (at d (item (k + count_items ns) ∷ ss))
+  items_walked : (ns : Nodes) (es : List EventBody) (k d : ℕ) (ss : List Step)
+      → past (items_say ns es) (at d (item k ∷ ss))
+      ≡ past es (at d (item (k + count_items ns) ∷ ss))
   items_walked no_nodes es k d ss = ap (λ (m : ℕ). past es (at d (item m ∷ ss))) (nothing_on k)
   items_walked (node n ns) es k d ss =
       node_walked n (items_say ns es) d (item k ∷ ss)
       ∙ items_walked ns es (suc k) d ss
       ∙ ap (λ (m : ℕ). past es (at d (item m ∷ ss))) (one_on k (count_items ns))
 
-  pairs_walked : (ps : Pairs) (es : List EventBody) (k d : ℕ) (ss : List Step) → past (pairs_say ps es) (at d (key k ∷ ss)) ≡ past es (at d (key (k + count_pairs ps) ∷ ss))
+  pairs_walked : (ps : Pairs) (es : List EventBody) (k d : ℕ) (ss : List Step)
+      → past (pairs_say ps es) (at d (key k ∷ ss)) ≡ past es (at d (key (k + count_pairs ps) ∷ ss))
   pairs_walked no_pairs es k d ss = ap (λ (m : ℕ). past es (at d (key m ∷ ss))) (nothing_on k)
   pairs_walked (pair n v ps) es k d ss =
       node_walked n (node_says v (pairs_say ps es)) d (key k ∷ ss)
@@ -50,7 +55,8 @@ mutual
       ∙ pairs_walked ps es (suc k) d ss
       ∙ ap (λ (m : ℕ). past es (at d (key m ∷ ss))) (one_on k (count_pairs ps))
 
-inside_walked : (i : Inside) (es : List EventBody) (d : ℕ) → past (inside_says i es) (at d []) ≡ past es (at d (steps_to i))
+inside_walked : (i : Inside) (es : List EventBody) (d : ℕ)
+    → past (inside_says i es) (at d []) ≡ past es (at d (steps_to i))
 inside_walked at_root es d = refl
 inside_walked (at_item outer anchor tag items) es d =
     inside_walked outer (event.sequence_start anchor tag true YAML_ANY_SEQUENCE_STYLE ∷ items_say items es) d
@@ -66,14 +72,16 @@ inside_walked (at_value outer anchor tag pairs k) es d =
     ∙ ap (λ (m : ℕ). past (node_says k es) (at d (key m ∷ steps_to outer))) (from_none (count_pairs pairs))
     ∙ node_walked k es d (key (count_pairs pairs) ∷ steps_to outer)
 
-whole_walked : (ds : List Document) (es : List EventBody) (k : ℕ) → past (whole_say ds es) (at k []) ≡ past es (at (k + length ds) [])
+whole_walked : (ds : List Document) (es : List EventBody) (k : ℕ)
+    → past (whole_say ds es) (at k []) ≡ past es (at (k + length ds) [])
 whole_walked [] es k = ap (λ (m : ℕ). past es (at m [])) (nothing_on k)
 whole_walked (d ∷ ds) es k =
     node_walked d.root (event.document_end true ∷ whole_say ds es) k []
     ∙ whole_walked ds es (suc k)
     ∙ ap (λ (m : ℕ). past es (at m [])) (one_on k (length ds))
 
-stream_walked : (ds : List Document) (es : List EventBody) → past (whole_say ds es) start ≡ past es (at (length ds) [])
+stream_walked : (ds : List Document) (es : List EventBody)
+    → past (whole_say ds es) start ≡ past es (at (length ds) [])
 stream_walked ds es = whole_walked ds es 0 ∙ ap (λ (m : ℕ). past es (at m [])) (from_none (length ds))
 
 pub place_walked : (p : Place) → past (place_says p []) start ≡ path_to p

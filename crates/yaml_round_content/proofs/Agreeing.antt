@@ -55,7 +55,8 @@ first_node : List CoreNode → CoreNode → CoreNode
 first_node [] c = c
 first_node (x ∷ xs) c = x
 
-beside : (xs ys : List model.Node) (k : ℕ) (m : model.Node) → map core_node xs ≡ map core_node ys → slice_get xs k ≡ Some m → Beside ys k m
+beside : (xs ys : List model.Node) (k : ℕ) (m : model.Node) → map core_node xs ≡ map core_node ys
+    → slice_get xs k ≡ Some m → Beside ys k m
 beside [] ys k m e at = absurd (cc)
 beside (x ∷ xs) [] k m e at = absurd (cc)
 beside (x ∷ xs) (y ∷ ys) zero m e at =
@@ -64,20 +65,24 @@ beside (x ∷ xs) (y ∷ ys) zero m e at =
     record { other = y; at = refl; same = ap core_node (sym s) ∙ h }
 beside (x ∷ xs) (y ∷ ys) (suc k) m e at = let h : map core_node xs ≡ map core_node ys = cc in let b = beside xs ys k m h at in record { other = b.other; at = b.at; same = b.same }
 
-same_length : (xs ys : List model.Node) → map core_node xs ≡ map core_node ys → length xs ≡ length ys
+same_length : (xs ys : List model.Node) → map core_node xs ≡ map core_node ys
+    → length xs ≡ length ys
 same_length [] [] e = refl
 same_length [] (y ∷ ys) e = absurd (cc)
 same_length (x ∷ xs) [] e = absurd (cc)
 same_length (x ∷ xs) (y ∷ ys) e = let h : map core_node xs ≡ map core_node ys = cc in ap (λ (n : ℕ). suc n) (same_length xs ys h)
 
-same_visits : (xs ys : List model.Node) → map core_node ys ≡ map core_node xs → (seen : ℕ) (ids : List ℤ) (after : ℕ) → VisitsInPreorder ys seen ids after → VisitsInPreorder xs seen ids after
+same_visits : (xs ys : List model.Node) → map core_node ys ≡ map core_node xs
+    → (seen : ℕ) (ids : List ℤ) (after : ℕ) → VisitsInPreorder ys seen ids after
+    → VisitsInPreorder xs seen ids after
 same_visits xs ys e seen ids after (done s) = done s
 same_visits xs ys e seen ids after (again s k a more h v) = again s k a more h (same_visits xs ys e s more a v)
 same_visits xs ys e seen ids after (first s b a more n at v w) =
     let x = beside ys xs s n e at in
     first s b a more x.other x.at (subst (λ (js : List ℤ). VisitsInPreorder xs (suc s) js b) (same_children n x.other x.same) (same_visits xs ys e (suc s) (children n.body) b v)) (same_visits xs ys e b more a w)
 
-pub document_loaded : (d e : documents.Document) → core_of d ≡ core_of e → IsLoadedDocument e → IsLoadedDocument d
+pub document_loaded : (d e : documents.Document) → core_of d ≡ core_of e → IsLoadedDocument e
+    → IsLoadedDocument d
 document_loaded d e same l =
     let nodes : map core_node d.nodes ≡ map core_node e.nodes = ap (λ (c : Core). c.nodes) same in
     record {
@@ -85,7 +90,8 @@ document_loaded d e same l =
       nodes = λ k n at. let b = beside d.nodes e.nodes k n nodes at in node_loaded n b.other b.same (l.nodes k b.other b.at);
     }
 
-documents_loaded : (ds es : List documents.Document) → AreAgreeing ds es → AreLoadedDocuments es → AreLoadedDocuments ds
+documents_loaded : (ds es : List documents.Document) → AreAgreeing ds es → AreLoadedDocuments es
+    → AreLoadedDocuments ds
 documents_loaded [] es h l = tt
 documents_loaded (d ∷ ds) [] h l = absurd (cc)
 documents_loaded (d ∷ ds) (e ∷ es) h l =
@@ -95,7 +101,8 @@ documents_loaded (d ∷ ds) (e ∷ es) h l =
 
 -- ---- inputs
 
-pub inputs_loaded : ContentIsSaid → ContentIsLoaded → ContentLoadsDocuments → InputsAreWritable → LoadsOfContent → InputsLoadDocuments
+pub inputs_loaded : ContentIsSaid → ContentIsLoaded → ContentLoadsDocuments → InputsAreWritable
+    → LoadsOfContent → InputsLoadDocuments
 inputs_loaded said numbered loads writable alike from input c h =
     let a = alike (events_of from input) (events_saying c) (ending_of from input) None ((λ x. refl), (λ x. h.right)) (h.says ∙ sym (said c (writable from input c h))) in
     documents_loaded (loads_of from input).documents (load_each c).documents (a.agree ∙ ap (λ (l : Loads). map core_of l.documents) (numbered c)) (loads c)
@@ -116,7 +123,8 @@ agree_again : (ds : List documents.Document) → map core_of (map loaded_again d
 agree_again [] = refl
 agree_again (d ∷ ds) = λ i. (let c : Core = record { version = d.version; directives = d.directives; nodes = nodes_again d.nodes i } in c) ∷ agree_again ds i
 
-pub dumps_loaded : ContentIsSaid → ContentIsLoaded → DumpsAreNumberedBack → LoadsOfContent → DumpsLoadBack
+pub dumps_loaded : ContentIsSaid → ContentIsLoaded → DumpsAreNumberedBack → LoadsOfContent
+    → DumpsLoadBack
 dumps_loaded said numbered back alike ds l small w es h =
     let c : List Document = trees_of_dumps ds in
     let a = alike es (events_saying c) None None ((λ x. refl), (λ x. refl)) (h ∙ sym (said c w)) in

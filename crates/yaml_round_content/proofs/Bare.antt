@@ -46,14 +46,16 @@ marks_same : (t q : Bool) → (not t && (not q && true)) ≡ (not t && (not (not
 marks_same true q = refl
 marks_same false q = refl
 
-scalar_same : (s : Settings) (ds : List TagDirective) (x : Scalar) (at : Spot) → scalar_layout (canonically s ds) at x ≡ scalar_layout (canonically s ds) at (bare_scalar x)
+scalar_same : (s : Settings) (ds : List TagDirective) (x : Scalar) (at : Spot)
+    → scalar_layout (canonically s ds) at x ≡ scalar_layout (canonically s ds) at (bare_scalar x)
 unfolding scalar_layout style_of
 scalar_same s ds x at =
     let p = canonically s ds in
     let text = checked (deeper p.settings at.around) ▹ scalar_text (page_at p.settings at) p.settings.indent at.flow style.Double (chars x.value) in
     ap (λ (b : Bool). properties_text p x.anchor x.tag ▹ (when b (word (33 ∷ [])) ▹ text)) (marks_same (has x.tag) x.quoted)
 
-not_simple : (s : Settings) (ds : List TagDirective) (n : Node) → is_simple (canonically s ds) n ≡ false
+not_simple : (s : Settings) (ds : List TagDirective) (n : Node)
+    → is_simple (canonically s ds) n ≡ false
 unfolding is_simple is_simple_scalar is_simple_alias is_simple_start
 not_simple s ds (alias_node name) = refl
 not_simple s ds (scalar_node x) = refl
@@ -63,7 +65,8 @@ not_simple s ds (mapping_node q pairs) = refl
 mutual
   unfolding node_layout items_layout pairs_layout
 
-  pub node_same : (s : Settings) (ds : List TagDirective) (n : Node) (at : Spot) → node_layout (canonically s ds) at n ≡ node_layout (canonically s ds) at (bare_node n)
+  pub node_same : (s : Settings) (ds : List TagDirective) (n : Node) (at : Spot)
+      → node_layout (canonically s ds) at n ≡ node_layout (canonically s ds) at (bare_node n)
   node_same s ds (alias_node name) at = refl
   node_same s ds (scalar_node x) at = scalar_same s ds x at
   node_same s ds (sequence_node q items) at =
@@ -75,14 +78,18 @@ mutual
       let n = deeper p.settings at.around in
       ap (λ (a : Layout). properties_text p q.anchor q.tag ▹ (opener 123 ▹ (checked n ▹ a))) (pairs_same s ds pairs n true)
 
-  items_same : (s : Settings) (ds : List TagDirective) (ns : Nodes) (n : ℕ) (fresh : Bool) → items_layout (canonically s ds) true n fresh ns ≡ items_layout (canonically s ds) true n fresh (bare_nodes ns)
+  items_same : (s : Settings) (ds : List TagDirective) (ns : Nodes) (n : ℕ) (fresh : Bool)
+      → items_layout (canonically s ds) true n fresh ns
+      ≡ items_layout (canonically s ds) true n fresh (bare_nodes ns)
   items_same s ds no_nodes n fresh = refl
   items_same s ds (node x xs) n fresh =
       let p = canonically s ds in
       ap (λ (a : Layout). before_item p.settings true n fresh ▹ (a ▹ items_layout p true n false xs)) (node_same s ds x (spot true n part.Item))
       ∙ ap (λ (a : Layout). before_item p.settings true n fresh ▹ (node_layout p (spot true n part.Item) (bare_node x) ▹ a)) (items_same s ds xs n false)
 
-  pairs_same : (s : Settings) (ds : List TagDirective) (ps : Pairs) (n : ℕ) (fresh : Bool) → pairs_layout (canonically s ds) true n fresh ps ≡ pairs_layout (canonically s ds) true n fresh (bare_pairs ps)
+  pairs_same : (s : Settings) (ds : List TagDirective) (ps : Pairs) (n : ℕ) (fresh : Bool)
+      → pairs_layout (canonically s ds) true n fresh ps
+      ≡ pairs_layout (canonically s ds) true n fresh (bare_pairs ps)
   pairs_same s ds no_pairs n fresh = refl
   pairs_same s ds (pair k v ps) n fresh =
       let p = canonically s ds in

@@ -13,8 +13,10 @@ use Rattle.yaml_round_content.specs.ContentLaws.{InputsHaveContent, InputsSayFro
 use Rattle.yaml_round_content.proofs.Trees.{core, document_trees, stream_trees, front_trees}
 
 -- evening changes nothing but a document's end, or a scalar's tag
-scalar_normalized : (lone : Bool) (anchor tag : Option (List ℕ)) (value : List ℕ) (plain quoted : Bool) (style : yaml_scalar_style_t)
-    → IsNormalized (event.scalar anchor tag value plain quoted style) (normalize_scalar lone anchor tag value plain quoted style)
+scalar_normalized : (lone : Bool) (anchor tag : Option (List ℕ)) (value : List ℕ)
+    (plain quoted : Bool) (style : yaml_scalar_style_t)
+    → IsNormalized (event.scalar anchor tag value plain quoted style)
+    (normalize_scalar lone anchor tag value plain quoted style)
 scalar_normalized true anchor tag value plain quoted style = inr refl
 scalar_normalized false anchor tag value plain quoted style = inl refl
 
@@ -31,7 +33,9 @@ evenly ends event.sequence_end = refl
 evenly ends (event.mapping_start anchor tag implicit style) = refl
 evenly ends event.mapping_end = refl
 
-pub input_stream : (from : yaml_encoding_t) (input : List ℕ) (canonical : Bool) → ending_of from input ≡ None → RightStream canonical (emitter_events canonical (events_of from input))
+pub input_stream : (from : yaml_encoding_t) (input : List ℕ) (canonical : Bool)
+    → ending_of from input ≡ None
+    → RightStream canonical (emitter_events canonical (events_of from input))
 unfolding read
 input_stream from input canonical r = inputs_are_streams (normalize_body canonical) (evenly canonical) from input canonical r
 

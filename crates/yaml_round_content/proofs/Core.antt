@@ -142,13 +142,16 @@ cores a = record { documents = map core_of a.documents; refused = is_fault a.fau
 
 -- ---- one event
 
-pushed : (ns : List Node) (n : Node) → map core_node (ns ++ n ∷ []) ≡ map core_node ns ++ core_node n ∷ []
+pushed : (ns : List Node) (n : Node)
+    → map core_node (ns ++ n ∷ []) ≡ map core_node ns ++ core_node n ∷ []
 pushed ns n = map-append core_node ns (n ∷ [])
 
 core_count : (l : Loading) → length l.document.nodes ≡ length (core_of l.document).nodes
 core_count l = let e : length (map core_node l.document.nodes) ≡ length l.document.nodes = length-map l.document.nodes core_node in rw e refl
 
-leaf_core : (l : Loading) (anchor : Option (List ℕ)) (n : Node) → core_loading (enter_leaf l anchor n) ≡ core_leaf (length (core_of l.document).nodes) anchor (core_node n) (core_loading l)
+leaf_core : (l : Loading) (anchor : Option (List ℕ)) (n : Node)
+    → core_loading (enter_leaf l anchor n)
+    ≡ core_leaf (length (core_of l.document).nodes) anchor (core_node n) (core_loading l)
 leaf_core l anchor n =
     let k = length l.document.nodes in
     let at : ℕ → List CoreNode → CoreLoading = λ k ns. record {
@@ -160,7 +163,8 @@ leaf_core l anchor n =
 
 open_core : (l : Loading) (anchor : Option (List ℕ)) (n : Node) (o : ℕ → Open)
     → core_loading (enter_open l anchor n (o (length l.document.nodes)))
-    ≡ core_open (length (core_of l.document).nodes) anchor (core_node n) (o (length (core_of l.document).nodes)) (core_loading l)
+    ≡ core_open (length (core_of l.document).nodes) anchor (core_node n)
+    (o (length (core_of l.document).nodes)) (core_loading l)
 open_core l anchor n o =
     let k = length l.document.nodes in
     let at : ℕ → List CoreNode → CoreLoading = λ k ns. record {
@@ -180,15 +184,19 @@ filled_core (open_mapping place pairs key) (node.scalar value style) = refl
 filled_core (open_mapping place pairs key) (node.sequence none style) = refl
 filled_core (open_mapping place pairs key) (node.mapping none style) = refl
 
-node_filled : (o : Open) (to : yaml_mark_t) (n : Node) → core_node (filled o to n) ≡ core_filled o (core_node n)
+node_filled : (o : Open) (to : yaml_mark_t) (n : Node)
+    → core_node (filled o to n) ≡ core_filled o (core_node n)
 node_filled o to n = ap (λ (b : NodeBody). let c : CoreNode = record { tag = n.tag; body = b } in c) (filled_core o n.body)
 
-changed_core : (o : Open) (to : yaml_mark_t) (k : ℕ) (ns : List Node) → map core_node (change_place (filled o to) k ns) ≡ change_core (core_filled o) k (map core_node ns)
+changed_core : (o : Open) (to : yaml_mark_t) (k : ℕ) (ns : List Node)
+    → map core_node (change_place (filled o to) k ns)
+    ≡ change_core (core_filled o) k (map core_node ns)
 changed_core o to k [] = refl
 changed_core o to zero (n ∷ ns) = ap (λ (c : CoreNode). c ∷ map core_node ns) (node_filled o to n)
 changed_core o to (suc k) (n ∷ ns) = ap (λ (cs : List CoreNode). core_node n ∷ cs) (changed_core o to k ns)
 
-closed_core : (to : yaml_mark_t) (l : Loading) (os : List Open) → core_loading (closed to l os) ≡ core_closed (core_loading l) os
+closed_core : (to : yaml_mark_t) (l : Loading) (os : List Open)
+    → core_loading (closed to l os) ≡ core_closed (core_loading l) os
 closed_core to l [] = refl
 closed_core to l (o ∷ os) =
     ap (λ (ns : List CoreNode). let m : CoreLoading = record {
@@ -197,11 +205,13 @@ closed_core to l (o ∷ os) =
       anchors = l.anchors;
     } in m) (changed_core o to (place_of o) l.document.nodes)
 
-aliased_core : (n : Option ℤ) (at : yaml_mark_t) (l : Loading) → core_fed (aliased n at l) ≡ core_aliased n (core_loading l)
+aliased_core : (n : Option ℤ) (at : yaml_mark_t) (l : Loading)
+    → core_fed (aliased n at l) ≡ core_aliased n (core_loading l)
 aliased_core None at l = refl
 aliased_core (Some n) at l = refl
 
-pub step_core : (b : EventBody) (from to : yaml_mark_t) (l : Loading) → core_fed (step_body b from to l) ≡ core_step b (core_loading l)
+pub step_core : (b : EventBody) (from to : yaml_mark_t) (l : Loading)
+    → core_fed (step_body b from to l) ≡ core_step b (core_loading l)
 step_core event.no from to l = refl
 step_core (event.stream_start encoding) from to l = refl
 step_core event.stream_end from to l = refl
@@ -216,11 +226,14 @@ step_core event.mapping_end from to l = ap (λ (m : CoreLoading). core_goes_on m
 
 -- ---- whole runs
 
-front_core : (ns : List Node) (d : Document) (rest : Loads) → cores (in_front ns d rest) ≡ core_in_front (map core_node ns) (core_of d) (cores rest)
+front_core : (ns : List Node) (d : Document) (rest : Loads)
+    → cores (in_front ns d rest) ≡ core_in_front (map core_node ns) (core_of d) (cores rest)
 front_core [] d rest = refl
 front_core (n ∷ ns) d rest = refl
 
-on_core : (x : LoadStep) (go : Loading → Loads) (more : CoreLoading → CoreLoads) → ((l : Loading) → cores (go l) ≡ more (core_loading l)) → cores (load_on x go) ≡ core_on (core_fed x) more
+on_core : (x : LoadStep) (go : Loading → Loads) (more : CoreLoading → CoreLoads)
+    → ((l : Loading) → cores (go l) ≡ more (core_loading l))
+    → cores (load_on x go) ≡ core_on (core_fed x) more
 on_core (goes_on l) go more h = h l
 on_core (loaded d) go more h = front_core d.nodes d (go nothing_loaded) ∙ ap (λ (a : CoreLoads). core_in_front (map core_node d.nodes) (core_of d) a) (h nothing_loaded)
 on_core (refused f) go more h = refl
@@ -229,7 +242,8 @@ abbrev pub bodies : List Told → List EventBody
 bodies es = map (λ (t : Told). t.0.body) es
 
 -- what is loaded, without styles and marks, is what the machine without them loads
-pub load_cores : (es : List Told) (f : Option Fault) (l : Loading) → cores (load_all es f l) ≡ core_loads (bodies es) (is_fault f) (core_loading l)
+pub load_cores : (es : List Told) (f : Option Fault) (l : Loading)
+    → cores (load_all es f l) ≡ core_loads (bodies es) (is_fault f) (core_loading l)
 unfolding load_all core_loads
 load_cores [] f l = refl
 load_cores (t ∷ es) f l =

@@ -26,11 +26,13 @@ abbrev MayStand : Result Character Offence → Type 0
 MayStand (Ok ch) = is_allowed ch.code ≡ true
 MayStand (Err o) = Unit {0}
 
-either : (t : Bool) (x y : Result Character Offence) → MayStand x → MayStand y → MayStand (if t then x else y)
+either : (t : Bool) (x y : Result Character Offence) → MayStand x → MayStand y
+    → MayStand (if t then x else y)
 either true x y h k = h
 either false x y h k = k
 
-chosen : (t : Bool) (ch : Character) (o : Offence) → is_allowed ch.code ≡ t → MayStand (if t then Ok ch else Err o)
+chosen : (t : Bool) (ch : Character) (o : Offence) → is_allowed ch.code ≡ t
+    → MayStand (if t then Ok ch else Err o)
 chosen true ch o e = e
 chosen false ch o e = tt
 
@@ -60,7 +62,8 @@ utf16_stands left p u v =
     (either (not (is_high_surrogate u)) _ _ (allowed_stands p 2 u)
     (either (nat_lt left 4) _ _ tt (either (not (is_low_surrogate v)) _ _ tt (allowed_stands p 4 (0x1_0000 + (u - 0xD800) * 0x400 + (v - 0xDC00)))))))
 
-character_stands : (e : yaml_encoding_t) (bytes : List ℕ) (p : ℕ) → MayStand (character_at e bytes p)
+character_stands : (e : yaml_encoding_t) (bytes : List ℕ) (p : ℕ)
+    → MayStand (character_at e bytes p)
 character_stands YAML_ANY_ENCODING bytes p = utf8_stands _ p _ _ _ _
 character_stands YAML_UTF8_ENCODING bytes p = utf8_stands _ p _ _ _ _
 character_stands YAML_UTF16LE_ENCODING bytes p = utf16_stands _ p _ _
@@ -72,22 +75,26 @@ abbrev AreScalars : Result (List ℕ) Offence → Type 0
 AreScalars (Ok cs) = all_scalars cs ≡ true
 AreScalars (Err o) = Unit {0}
 
-one_of : (t : Bool) (x y : Result (List ℕ) Offence) → AreScalars x → AreScalars y → AreScalars (if t then x else y)
+one_of : (t : Bool) (x y : Result (List ℕ) Offence) → AreScalars x → AreScalars y
+    → AreScalars (if t then x else y)
 one_of true x y h k = h
 one_of false x y h k = k
 
-one_more : (c : ℕ) (r : Result (List ℕ) Offence) → is_allowed c ≡ true → AreScalars r → AreScalars (before c r)
+one_more : (c : ℕ) (r : Result (List ℕ) Offence) → is_allowed c ≡ true → AreScalars r
+    → AreScalars (before c r)
 one_more c (Ok cs) h k =
     let own : IsScalar c = allowed_scalar c h in
     let rest : all_scalars cs ≡ true = k in
     rw (own, rest) refl
 one_more c (Err o) h k = tt
 
-led_scalars : (rest : ℕ → Result (List ℕ) Offence) (p : ℕ) (r : Result Character Offence) → MayStand r → ((q : ℕ) → AreScalars (rest q)) → AreScalars (led_by rest p r)
+led_scalars : (rest : ℕ → Result (List ℕ) Offence) (p : ℕ) (r : Result Character Offence)
+    → MayStand r → ((q : ℕ) → AreScalars (rest q)) → AreScalars (led_by rest p r)
 led_scalars rest p (Ok ch) h more = one_more ch.code (rest (p + ch.width)) h (more (p + ch.width))
 led_scalars rest p (Err o) h more = tt
 
-are_scalars : (n : ℕ) (e : yaml_encoding_t) (bytes : List ℕ) (p : ℕ) → AreScalars (characters n e bytes p)
+are_scalars : (n : ℕ) (e : yaml_encoding_t) (bytes : List ℕ) (p : ℕ)
+    → AreScalars (characters n e bytes p)
 unfolding characters
 are_scalars zero e bytes p = refl
 are_scalars (suc n) e bytes p =
@@ -106,9 +113,11 @@ decoded_is_text from input = is_text (decoded_characters from input) (are_scalar
 
 -- ---- tokens
 
-utf8_in : (encoding : yaml_encoding_t) (r : Result (List ℕ) Offence) → IsText r → All (λ (t : Token). source.HasUtf8 t.body) (adapted (scanned_in encoding r)).tokens
+utf8_in : (encoding : yaml_encoding_t) (r : Result (List ℕ) Offence) → IsText r
+    → All (λ (t : Token). source.HasUtf8 t.body) (adapted (scanned_in encoding r)).tokens
 utf8_in encoding (Ok text) h = adapted_utf8 record { encoding = encoding; text = text } h 0 0
 utf8_in encoding (Err o) h = All-nil (λ (t : Token). source.HasUtf8 t.body)
 
-pub tokens_utf8 : (from : yaml_encoding_t) (input : List ℕ) → All (λ (t : Token). source.HasUtf8 t.body) (tokens_of from input).tokens
+pub tokens_utf8 : (from : yaml_encoding_t) (input : List ℕ)
+    → All (λ (t : Token). source.HasUtf8 t.body) (tokens_of from input).tokens
 tokens_utf8 from input = utf8_in (encoding_of from input) (decoded_text from input) (decoded_is_text from input)

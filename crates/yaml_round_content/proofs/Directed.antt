@@ -16,7 +16,9 @@ use Rattle.yaml_round_content.proofs.Emitted.{or_both, or_none}
 some_one : (n : ℕ) → (suc n == 0) ≡ false
 some_one n = grind (arith, nat_tests)
 
-handle_right : (h : List ℕ) → (length h == 0) ≡ false → (get_or h 0 0 == 33) ≡ true → (get_or h (length h - 1) 0 == 33) ≡ true → list_all is_alpha_byte (between h) ≡ true → handle_problem h ≡ None
+handle_right : (h : List ℕ) → (length h == 0) ≡ false → (get_or h 0 0 == 33) ≡ true
+    → (get_or h (length h - 1) 0 == 33) ≡ true → list_all is_alpha_byte (between h) ≡ true
+    → handle_problem h ≡ None
 unfolding handle_problem
 handle_right h a b c d = rw a (rw b (rw c (rw d refl)))
 
@@ -24,7 +26,8 @@ short_handle : handle_problem (33 ∷ []) ≡ None
 unfolding handle_problem
 short_handle = refl
 
-last_of : (name : List ℕ) → get_or (33 ∷ (name ++ (33 ∷ []))) (length (33 ∷ (name ++ (33 ∷ []))) - 1) 0 ≡ 33
+last_of : (name : List ℕ)
+    → get_or (33 ∷ (name ++ (33 ∷ []))) (length (33 ∷ (name ++ (33 ∷ []))) - 1) 0 ≡ 33
 last_of name = grind (arith, common_steps)
 
 inner_of : (name : List ℕ) → between (33 ∷ (name ++ (33 ∷ []))) ≡ name
@@ -40,11 +43,13 @@ spelled_handle handle (inr e) = ap handle_problem e.1 ∙ named_handle e.0 e.2
 
 -- ---- no handle twice
 
-by_test : (b : Bool) (prefix : List ℕ) (o : Option (List ℕ)) (more : Bool) → (if b then Some prefix else o) ≡ None → (o ≡ None → more ≡ false) → (b || more) ≡ false
+by_test : (b : Bool) (prefix : List ℕ) (o : Option (List ℕ)) (more : Bool)
+    → (if b then Some prefix else o) ≡ None → (o ≡ None → more ≡ false) → (b || more) ≡ false
 by_test true prefix o more e f = absurd (cc)
 by_test false prefix o more e f = f e
 
-not_twice : (handle : List ℕ) (ds : List TagDirective) → directive_for handle ds ≡ None → list_any (has_handle handle) ds ≡ false
+not_twice : (handle : List ℕ) (ds : List TagDirective) → directive_for handle ds ≡ None
+    → list_any (has_handle handle) ds ≡ false
 unfolding directive_for
 not_twice handle [] e = refl
 not_twice handle (d ∷ ds) e = by_test (bytes_eq d.handle handle) d.prefix (directive_for handle ds) (list_any (has_handle handle) ds) e (not_twice handle ds)
@@ -52,15 +57,19 @@ not_twice handle (d ∷ ds) e = by_test (bytes_eq d.handle handle) d.prefix (dir
 prefix_right : (prefix : List ℕ) → IsSome prefix → prefix_problem prefix ≡ None
 prefix_right prefix h = rw h refl
 
-once : (handle : List ℕ) (ds : List TagDirective) → list_any (has_handle handle) ds ≡ false → twice_problem ds handle ≡ None
+once : (handle : List ℕ) (ds : List TagDirective) → list_any (has_handle handle) ds ≡ false
+    → twice_problem ds handle ≡ None
 once handle ds h = rw h refl
 
-directive_right : (ds : List TagDirective) (handle prefix : List ℕ) → IsHandle handle → IsSome prefix → directive_for handle ds ≡ None → directive_problem ds (record { handle = handle; prefix = prefix }) ≡ None
+directive_right : (ds : List TagDirective) (handle prefix : List ℕ) → IsHandle handle
+    → IsSome prefix → directive_for handle ds ≡ None
+    → directive_problem ds (record { handle = handle; prefix = prefix }) ≡ None
 directive_right ds handle prefix h p n =
     or_none (handle_problem handle) _ (spelled_handle handle h) (or_none (prefix_problem prefix) (twice_problem ds handle) (prefix_right prefix p) (once handle ds (not_twice handle ds n)))
 
 -- one more behind right ones
-one_more : (before ds : List TagDirective) (d : TagDirective) → directives_problem before ds ≡ None → directive_problem (before ++ ds) d ≡ None → directives_problem before (ds ++ d ∷ []) ≡ None
+one_more : (before ds : List TagDirective) (d : TagDirective) → directives_problem before ds ≡ None
+    → directive_problem (before ++ ds) d ≡ None → directives_problem before (ds ++ d ∷ []) ≡ None
 unfolding directives_problem
 one_more before [] d h k = or_none (directive_problem before d) None (subst (λ (z : List TagDirective). directive_problem z d ≡ None) (append-nil before) k) refl
 one_more before (x ∷ ds) d h k =
@@ -68,6 +77,7 @@ one_more before (x ∷ ds) d h k =
     or_none (directive_problem before x) (directives_problem (before ++ x ∷ []) (ds ++ d ∷ [])) both.0
     (one_more (before ++ x ∷ []) ds d both.1 (subst (λ (z : List TagDirective). directive_problem z d ≡ None) (sym (append_assoc before (x ∷ []) ds)) k))
 
-pub more_directives : (ds : List TagDirective) (handle prefix : List ℕ) → IsHandle handle → IsSome prefix → directive_for handle ds ≡ None → directives_problem [] ds ≡ None
+pub more_directives : (ds : List TagDirective) (handle prefix : List ℕ) → IsHandle handle
+    → IsSome prefix → directive_for handle ds ≡ None → directives_problem [] ds ≡ None
     → directives_problem [] (ds ++ record { handle = handle; prefix = prefix } ∷ []) ≡ None
 more_directives ds handle prefix h p n right = one_more [] ds (record { handle = handle; prefix = prefix }) right (directive_right ds handle prefix h p n)

@@ -25,7 +25,8 @@ use Rattle.yaml_round_content.proofs.Saying.{SaysIf, both, node_reads, maybe_rea
 
 -- ---- directives
 
-abbrev pub first_some : Option yaml_version_directive_t → Option yaml_version_directive_t → Option yaml_version_directive_t
+abbrev pub first_some : Option yaml_version_directive_t → Option yaml_version_directive_t
+    → Option yaml_version_directive_t
 first_some None y = y
 first_some (Some x) y = Some x
 
@@ -40,13 +41,19 @@ not_none : (e : Fault) → Some e ≡ None → ⊥
 not_none e h = cc
 
 -- behind the directives of a document, where none is refused
-abbrev pub Behind : List Directive → List Token → List Given → Option Fault → Option yaml_version_directive_t → List TagDirective → Type 0
+abbrev pub Behind : List Directive → List Token → List Given → Option Fault
+    → Option yaml_version_directive_t → List TagDirective → Type 0
 Behind ds rest gs f v tags = (reading (items_directives ds rest gs) f (directives v tags)).ending ≡ None
     → reading (items_directives ds rest gs) f (directives v tags) ≡ reading gs f (directives (first_some v (version_in ds)) (tags ++ tags_in ds))
 
-version_behind : (known : Bool) (v : Option yaml_version_directive_t) (tags : List TagDirective) (major minor : ℤ) (at : yaml_mark_t) (i : RawEvent) (left : ℕ) (k : Directives → Reading) (to : Reading)
-    → is_known_version major minor ≡ known → (v ≡ None → (k (directives (Some (record { major = major; minor = minor })) tags)).ending ≡ None → k (directives (Some (record { major = major; minor = minor })) tags) ≡ to)
-    → (read_on (with_version v tags major minor at) i left k).ending ≡ None → read_on (with_version v tags major minor at) i left k ≡ to
+version_behind : (known : Bool) (v : Option yaml_version_directive_t) (tags : List TagDirective)
+    (major minor : ℤ) (at : yaml_mark_t) (i : RawEvent) (left : ℕ) (k : Directives → Reading)
+    (to : Reading)
+    → is_known_version major minor ≡ known
+    → (v ≡ None → (k (directives (Some (record { major = major; minor = minor })) tags)).ending
+    ≡ None → k (directives (Some (record { major = major; minor = minor })) tags) ≡ to)
+    → (read_on (with_version v tags major minor at) i left k).ending ≡ None
+    → read_on (with_version v tags major minor at) i left k ≡ to
 version_behind known (Some x) tags major minor at i left k to e h r = absurd (not_none _ r)
 version_behind true None tags major minor at i left k to e h r =
     let on : Bool → Reading = λ b. read_on (if b then resolve.noted (directives (Some (record { major = major; minor = minor })) tags) else resolve.refused (parser_fault problem.IncompatibleVersion at at)) i left k in
@@ -55,16 +62,21 @@ version_behind false None tags major minor at i left k to e h r =
     let on : Bool → Reading = λ b. read_on (if b then resolve.noted (directives (Some (record { major = major; minor = minor })) tags) else resolve.refused (parser_fault problem.IncompatibleVersion at at)) i left k in
     absurd (not_none _ (ap (λ (x : Reading). x.ending) (sym (ap on e)) ∙ r))
 
-handle_behind : (o : Option (List ℕ)) (D : Directives) (handle prefix : List ℕ) (at : yaml_mark_t) (i : RawEvent) (left : ℕ) (k : Directives → Reading) (to : Reading)
-    → ((k (directives D.version (D.tags ++ (record { handle = handle; prefix = prefix } ∷ [])))).ending ≡ None → k (directives D.version (D.tags ++ (record { handle = handle; prefix = prefix } ∷ []))) ≡ to)
-    → (read_on (with_tag o D handle prefix at) i left k).ending ≡ None → read_on (with_tag o D handle prefix at) i left k ≡ to
+handle_behind : (o : Option (List ℕ)) (D : Directives) (handle prefix : List ℕ) (at : yaml_mark_t)
+    (i : RawEvent) (left : ℕ) (k : Directives → Reading) (to : Reading)
+    → ((k (directives D.version (D.tags
+    ++ (record { handle = handle; prefix = prefix } ∷ [])))).ending ≡ None
+    → k (directives D.version (D.tags ++ (record { handle = handle; prefix = prefix } ∷ []))) ≡ to)
+    → (read_on (with_tag o D handle prefix at) i left k).ending ≡ None
+    → read_on (with_tag o D handle prefix at) i left k ≡ to
 handle_behind (Some x) D handle prefix at i left k to h r = absurd (not_none _ r)
 handle_behind None D handle prefix at i left k to h r = h r
 
 first_version : (v w y : Option yaml_version_directive_t) → v ≡ None → w ≡ first_some v w
 first_version v w y p = ap (λ (z : Option yaml_version_directive_t). first_some z w) (sym p)
 
-pub directives_read : (ds : List Directive) (rest : List Token) (gs : List Given) (f : Option Fault) (v : Option yaml_version_directive_t) (tags : List TagDirective) → Behind ds rest gs f v tags
+pub directives_read : (ds : List Directive) (rest : List Token) (gs : List Given) (f : Option Fault)
+    (v : Option yaml_version_directive_t) (tags : List TagDirective) → Behind ds rest gs f v tags
 unfolding reading
 directives_read [] rest gs f v tags =
     λ e. ap (λ (z : Option yaml_version_directive_t). reading gs f (directives z tags)) (sym (some_first v)) ∙ ap (λ (z : List TagDirective). reading gs f (directives (first_some v None) z)) (sym (append-nil tags))
@@ -81,12 +93,17 @@ directives_read (tree.handle s name prefix ∷ ds) rest gs f v tags =
 
 -- ---- documents
 
-document_read : (implicit : Bool) (from to : yaml_mark_t) (left : ℕ) (gs : List Given) (f : Option Fault) (D : Directives)
-    → SaysIf (λ es. event.document_start D.version D.tags true ∷ es) (reading ((item_at (item.document implicit) from to, left) ∷ gs) f D) (reading gs f D)
+document_read : (implicit : Bool) (from to : yaml_mark_t) (left : ℕ) (gs : List Given)
+    (f : Option Fault) (D : Directives)
+    → SaysIf (λ es. event.document_start D.version D.tags true ∷ es)
+    (reading ((item_at (item.document implicit) from to, left) ∷ gs) f D) (reading gs f D)
 unfolding reading
 document_read implicit from to left gs f D = record { right = λ e. e; says = λ e. refl }
 
-more_ends : (ends : List Span) (rest : List Token) (gs : List Given) (f : Option Fault) (D : Directives) → SaysIf (λ es. event.document_end true ∷ es) (reading (items_ends ends rest gs) f D) (reading gs f no_directives)
+more_ends : (ends : List Span) (rest : List Token) (gs : List Given) (f : Option Fault)
+    (D : Directives)
+    → SaysIf (λ es. event.document_end true ∷ es) (reading (items_ends ends rest gs) f D)
+    (reading gs f no_directives)
 unfolding reading
 more_ends [] rest gs f D = record { right = λ e. e; says = λ e. refl }
 more_ends (s ∷ ends) rest gs f D = record { right = λ e. e; says = λ e. refl }
@@ -94,7 +111,10 @@ more_ends (s ∷ ends) rest gs f D = record { right = λ e. e; says = λ e. refl
 pub right_behind : (r q : Reading) → r ≡ q → r.ending ≡ None → q.ending ≡ None
 right_behind r q p e = ap (λ (x : Reading). x.ending) (sym p) ∙ e
 
-documents_read : (d : Documents) (rest : List Token) → (reading (items_documents d rest) None no_directives).ending ≡ None → contents (reading (items_documents d rest) None no_directives).events ≡ documents_say (documents_of d)
+documents_read : (d : Documents) (rest : List Token)
+    → (reading (items_documents d rest) None no_directives).ending ≡ None
+    → contents (reading (items_documents d rest) None no_directives).events
+    ≡ documents_say (documents_of d)
 unfolding reading documents_say
 documents_read (tree.end_stream s) rest e = refl
 documents_read (tree.document ds s root ends more) rest e =
@@ -108,8 +128,11 @@ documents_read (tree.document ds s root ends more) rest e =
     ∙ c.says k
     ∙ ap (λ (es : List EventBody). event.document_start (version_in ds) (tags_in ds) true ∷ node_says (maybe_of (tags_in ds) root) (event.document_end true ∷ es)) (documents_read more rest (c.right k))
 
-first_read : (x : First) (d : Documents) (rest : List Token) → (reading (items_first x (spell_documents d rest) (items_documents d rest)) None no_directives).ending ≡ None
-    → contents (reading (items_first x (spell_documents d rest) (items_documents d rest)) None no_directives).events ≡ documents_say (behind_first x (documents_of d))
+first_read : (x : First) (d : Documents) (rest : List Token)
+    → (reading (items_first x (spell_documents d rest) (items_documents d rest)) None
+    no_directives).ending ≡ None
+    → contents (reading (items_first x (spell_documents d rest) (items_documents d rest)) None
+    no_directives).events ≡ documents_say (behind_first x (documents_of d))
 unfolding documents_say
 first_read tree.no_first d rest e = documents_read d rest e
 first_read (tree.first n ends) d rest e =
@@ -118,6 +141,8 @@ first_read (tree.first n ends) d rest e =
     c.says e ∙ ap (λ (es : List EventBody). event.document_start None [] true ∷ node_says (node_of [] n) (event.document_end true ∷ es)) (documents_read d rest (c.right e))
 
 -- The events of a tree in order say its content.
-pub tree_says : (t : Stream) (rest : List Token) → (reading (items t rest) None no_directives).ending ≡ None → contents (reading (items t rest) None no_directives).events ≡ stream_says (tree_content t)
+pub tree_says : (t : Stream) (rest : List Token)
+    → (reading (items t rest) None no_directives).ending ≡ None
+    → contents (reading (items t rest) None no_directives).events ≡ stream_says (tree_content t)
 unfolding reading
 tree_says t rest e = ap (λ (es : List EventBody). event.stream_start YAML_ANY_ENCODING ∷ es) (first_read t.first t.documents rest e)

@@ -29,7 +29,8 @@ bang_of [] e f = absurd (cc)
 bang_of (c ∷ []) e f = f
 bang_of (c ∷ d ∷ more) e f = absurd (one_is_one c d more e)
 
-lone_tag : (tag : Option (List ℕ)) (value default : List ℕ) → is_lone_mark tag value ≡ true → loaded_tag tag default ≡ default
+lone_tag : (tag : Option (List ℕ)) (value default : List ℕ) → is_lone_mark tag value ≡ true
+    → loaded_tag tag default ≡ default
 lone_tag None value default e = absurd (cc)
 lone_tag (Some t) value default e =
     let (front, last) = and_parts (length value == 0 && length t == 1) (slice_index t 0 == 33) e in
@@ -38,13 +39,16 @@ lone_tag (Some t) value default e =
 
 -- ---- an event and what it says
 
-scalar_said : (lone : Bool) (anchor tag : Option (List ℕ)) (value : List ℕ) (plain quoted : Bool) (style : yaml_scalar_style_t) (l : CoreLoading) → is_lone_mark tag value ≡ lone
-    → core_step (event.scalar anchor tag value plain quoted style) l ≡ core_step (content_of (normalize_scalar lone anchor tag value plain quoted style)) l
+scalar_said : (lone : Bool) (anchor tag : Option (List ℕ)) (value : List ℕ) (plain quoted : Bool)
+    (style : yaml_scalar_style_t) (l : CoreLoading) → is_lone_mark tag value ≡ lone
+    → core_step (event.scalar anchor tag value plain quoted style) l
+    ≡ core_step (content_of (normalize_scalar lone anchor tag value plain quoted style)) l
 scalar_said true anchor tag value plain quoted style l e =
     ap (λ (t : List ℕ). core_goes_on (core_leaf (length l.document.nodes) anchor (record { tag = t; body = (core_scalar tag value).body }) l)) (lone_tag tag value str_tag e)
 scalar_said false anchor tag value plain quoted style l e = refl
 
-pub said_step : (b : EventBody) (l : CoreLoading) → core_step b l ≡ core_step (content_of (normalize_body true b)) l
+pub said_step : (b : EventBody) (l : CoreLoading)
+    → core_step b l ≡ core_step (content_of (normalize_body true b)) l
 said_step event.no l = refl
 said_step (event.stream_start encoding) l = refl
 said_step event.stream_end l = refl
@@ -57,12 +61,14 @@ said_step event.sequence_end l = refl
 said_step (event.mapping_start anchor tag implicit style) l = refl
 said_step event.mapping_end l = refl
 
-pub on_same : (x : CoreFed) (f g : CoreLoading → CoreLoads) → ((l : CoreLoading) → f l ≡ g l) → core_on x f ≡ core_on x g
+pub on_same : (x : CoreFed) (f g : CoreLoading → CoreLoads) → ((l : CoreLoading) → f l ≡ g l)
+    → core_on x f ≡ core_on x g
 on_same (core_goes_on l) f g h = h l
 on_same (core_loaded d) f g h = ap (λ (a : CoreLoads). core_in_front d.nodes d a) (h core_nothing)
 on_same core_refused f g h = refl
 
-said_loads : (es : List Told) (f : Bool) (l : CoreLoading) → core_loads (bodies es) f l ≡ core_loads (contents es) f l
+said_loads : (es : List Told) (f : Bool) (l : CoreLoading)
+    → core_loads (bodies es) f l ≡ core_loads (contents es) f l
 unfolding core_loads
 said_loads [] f l = refl
 said_loads (t ∷ es) f l =
@@ -70,7 +76,8 @@ said_loads (t ∷ es) f l =
     ∙ on_same (core_step (content_of (normalize_body true t.0.body)) l) (core_loads (bodies es) f) (core_loads (contents es) f) (λ m. said_loads es f m)
 
 -- what is loaded, without styles and marks, is a function of what the events say
-pub loads_said : (es : List Told) (f : Option Fault) → cores (load_all es f nothing_loaded) ≡ core_loads (contents es) (is_fault f) core_nothing
+pub loads_said : (es : List Told) (f : Option Fault)
+    → cores (load_all es f nothing_loaded) ≡ core_loads (contents es) (is_fault f) core_nothing
 loads_said es f = load_cores es f nothing_loaded ∙ said_loads es (is_fault f) core_nothing
 
 -- ---- loads that agree

@@ -41,8 +41,10 @@ other_mark (c ∷ d ∷ more) value h =
 
 -- ---- nodes
 
-scalar_said : (anchor : Option (List ℕ)) (mark : Mark) (value : List ℕ) → IsMark mark → (rest : List Event)
-    → contents (told_by (events (as_content (written_node (scalar anchor mark value))) rest)) ≡ scalar_says anchor mark value ∷ contents (told_by rest)
+scalar_said : (anchor : Option (List ℕ)) (mark : Mark) (value : List ℕ) → IsMark mark
+    → (rest : List Event)
+    → contents (told_by (events (as_content (written_node (scalar anchor mark value))) rest))
+    ≡ scalar_says anchor mark value ∷ contents (told_by rest)
 scalar_said anchor (untagged plain) value w rest = refl
 scalar_said anchor (tagged t) value w rest =
     ap (λ (b : Bool). content_of (normalize_scalar b anchor (Some t) value false false YAML_ANY_SCALAR_STYLE) ∷ contents (told_by rest)) (other_mark t value w.1)
@@ -50,7 +52,9 @@ scalar_said anchor (tagged t) value w rest =
 mutual
   unfolding node_says items_say pairs_say
 
-  node_said : (n : Node) → IsWritable n → (rest : List Event) → contents (told_by (events (as_content (written_node n)) rest)) ≡ node_says n (contents (told_by rest))
+  node_said : (n : Node) → IsWritable n → (rest : List Event)
+      → contents (told_by (events (as_content (written_node n)) rest))
+      ≡ node_says n (contents (told_by rest))
   node_said (alias name) w rest = refl
   node_said (scalar anchor mark value) w rest = scalar_said anchor mark value w.1 rest
   node_said (sequence anchor tag items) w rest =
@@ -58,12 +62,16 @@ mutual
   node_said (mapping anchor tag pairs) w rest =
       ap (λ (bs : List EventBody). event.mapping_start anchor tag true YAML_ANY_MAPPING_STYLE ∷ bs) (pairs_said pairs w.2 (unplaced event.mapping_end ∷ rest))
 
-  items_said : (ns : Nodes) → AreItemsWritable ns → (rest : List Event) → contents (told_by (item_events (as_contents (written_nodes ns)) rest)) ≡ items_say ns (contents (told_by rest))
+  items_said : (ns : Nodes) → AreItemsWritable ns → (rest : List Event)
+      → contents (told_by (item_events (as_contents (written_nodes ns)) rest))
+      ≡ items_say ns (contents (told_by rest))
   items_said no_nodes w rest = refl
   items_said (node n ns) w rest =
       node_said n w.0 (item_events (as_contents (written_nodes ns)) rest) ∙ ap (λ (bs : List EventBody). node_says n bs) (items_said ns w.1 rest)
 
-  pairs_said : (ps : Pairs) → ArePairsWritable ps → (rest : List Event) → contents (told_by (pair_events (as_pairs (written_pairs ps)) rest)) ≡ pairs_say ps (contents (told_by rest))
+  pairs_said : (ps : Pairs) → ArePairsWritable ps → (rest : List Event)
+      → contents (told_by (pair_events (as_pairs (written_pairs ps)) rest))
+      ≡ pairs_say ps (contents (told_by rest))
   pairs_said no_pairs w rest = refl
   pairs_said (pair k v ps) w rest =
       node_said k w.0 (events (as_content (written_node v)) (pair_events (as_pairs (written_pairs ps)) rest))
@@ -72,7 +80,8 @@ mutual
 
 -- ---- documents
 
-documents_said : (c : List Document) → AreWritable c → contents (told_by (content_events c)) ≡ documents_say c
+documents_said : (c : List Document) → AreWritable c
+    → contents (told_by (content_events c)) ≡ documents_say c
 unfolding documents_say
 documents_said [] w = refl
 documents_said (d ∷ ds) w =

@@ -55,27 +55,32 @@ not_end e = cc
 abbrev pub IsTaken : Expected → List Due → Event → Type 0
 IsTaken p ds e = place_problem p (level_due ds) e ≡ None
 
-node_there : (ds : List Due) (e : Event) → begins_node e ≡ true → node_problem (level_due ds) e ≡ None
+node_there : (ds : List Due) (e : Event) → begins_node e ≡ true
+    → node_problem (level_due ds) e ≡ None
 node_there [] e k = rw k refl
 node_there (d ∷ ds) e k = rw k refl
 
-items_end : (ds : List Due) → ds ≡ item_due ∷ outer_due ds → node_problem (level_due ds) (emitter_event event.sequence_end) ≡ None
+items_end : (ds : List Due) → ds ≡ item_due ∷ outer_due ds
+    → node_problem (level_due ds) (emitter_event event.sequence_end) ≡ None
 items_end [] e = absurd (cc)
 items_end (item_due ∷ ds) e = refl
 items_end (key_due ∷ ds) e = absurd (cc)
 items_end (value_due ∷ ds) e = absurd (cc)
 
-pairs_end : (ds : List Due) → ds ≡ key_due ∷ outer_due ds → node_problem (level_due ds) (emitter_event event.mapping_end) ≡ None
+pairs_end : (ds : List Due) → ds ≡ key_due ∷ outer_due ds
+    → node_problem (level_due ds) (emitter_event event.mapping_end) ≡ None
 pairs_end [] e = absurd (cc)
 pairs_end (item_due ∷ ds) e = absurd (cc)
 pairs_end (key_due ∷ ds) e = refl
 pairs_end (value_due ∷ ds) e = absurd (cc)
 
-at_the_place : (p q : Expected) (ds : List Due) (e : Event) → p ≡ q → IsTaken q ds e → IsTaken p ds e
+at_the_place : (p q : Expected) (ds : List Due) (e : Event) → p ≡ q → IsTaken q ds e
+    → IsTaken p ds e
 at_the_place p q ds e h k = subst (λ (z : Expected). IsTaken z ds e) (sym h) k
 
 -- the end of the stream, and the start of a document
-stream_ends : (p : Expected) (ds : List Due) → plain_place p ≡ between → IsTaken p ds (emitter_event event.stream_end)
+stream_ends : (p : Expected) (ds : List Due) → plain_place p ≡ between
+    → IsTaken p ds (emitter_event event.stream_end)
 unfolding place_problem
 stream_ends (at.Documents first unended) ds h = refl
 stream_ends at.StreamStart ds h = absurd (cc)
@@ -84,7 +89,9 @@ stream_ends at.DocumentEnd ds h = absurd (cc)
 stream_ends at.End ds h = absurd (cc)
 stream_ends (at.Refused p) ds h = absurd (cc)
 
-document_starts : (p : Expected) (ds : List Due) (version : _) (directives : _) (implicit : Bool) → plain_place p ≡ between → IsTaken p ds (emitter_event (event.document_start version directives implicit))
+document_starts : (p : Expected) (ds : List Due) (version : _) (directives : _) (implicit : Bool)
+    → plain_place p ≡ between
+    → IsTaken p ds (emitter_event (event.document_start version directives implicit))
 unfolding place_problem
 document_starts (at.Documents first unended) ds v d i h = refl
 document_starts at.StreamStart ds v d i h = absurd (cc)
@@ -93,11 +100,13 @@ document_starts at.DocumentEnd ds v d i h = absurd (cc)
 document_starts at.End ds v d i h = absurd (cc)
 document_starts (at.Refused p) ds v d i h = absurd (cc)
 
-node_comes : (p : Expected) (ds : List Due) (e : Event) → begins_node e ≡ true → plain_place p ≡ at.Node → IsTaken p ds e
+node_comes : (p : Expected) (ds : List Due) (e : Event) → begins_node e ≡ true
+    → plain_place p ≡ at.Node → IsTaken p ds e
 unfolding place_problem
 node_comes p ds e k h = at_the_place p at.Node ds e (plain_same p at.Node not_node h) (node_there ds e k)
 
-taken_there : (p : Expected) (ds : List Due) (b : EventBody) → Expects (record { place = plain_place p; due = ds }) b → IsTaken p ds (emitter_event b)
+taken_there : (p : Expected) (ds : List Due) (b : EventBody)
+    → Expects (record { place = plain_place p; due = ds }) b → IsTaken p ds (emitter_event b)
 unfolding place_problem
 taken_there p ds event.no h = absurd h
 taken_there p ds (event.stream_start x) h = at_the_place p at.StreamStart ds (emitter_event (event.stream_start x)) (plain_same p at.StreamStart not_start h) refl
@@ -111,7 +120,8 @@ taken_there p ds (event.mapping_start a t i x) h = node_comes p ds (emitter_even
 taken_there p ds event.sequence_end h = at_the_place p at.Node ds (emitter_event event.sequence_end) (plain_same p at.Node not_node h.0) (items_end ds h.1)
 taken_there p ds event.mapping_end h = at_the_place p at.Node ds (emitter_event event.mapping_end) (plain_same p at.Node not_node h.0) (pairs_end ds h.1)
 
-moved_there : (h : Progress) (b : EventBody) → Expects (plain h) b → plain (progress_after h (emitter_event b)) ≡ moved_by (plain h) b
+moved_there : (h : Progress) (b : EventBody) → Expects (plain h) b
+    → plain (progress_after h (emitter_event b)) ≡ moved_by (plain h) b
 unfolding progress_after
 moved_there h event.no e = absurd e
 moved_there h (event.stream_start x) e = refl
@@ -127,7 +137,8 @@ moved_there h event.mapping_end e = plain_inside (outer_due h.due)
 
 -- ---- normalized
 
-normalized_expected : (b c : EventBody) (h : Progress) → IsNormalized b c → Expects h b → Expects h c
+normalized_expected : (b c : EventBody) (h : Progress) → IsNormalized b c → Expects h b
+    → Expects h c
 normalized_expected (event.document_end i) c h e x = subst (Expects h) (sym e.1) x
 normalized_expected (event.scalar a t v p q z) c h (inl e) x = subst (Expects h) (sym e) x
 normalized_expected (event.scalar a t v p q z) c h (inr e) x = subst (Expects h) (sym e) x
@@ -155,10 +166,12 @@ normalized_moved (event.mapping_start a t i y) c h e = ap (moved_by h) e
 normalized_moved event.sequence_end c h e = ap (moved_by h) e
 normalized_moved event.mapping_end c h e = ap (moved_by h) e
 
-pub normalized_taken : (b c : EventBody) (h : Progress) → IsNormalized b c → Expects (plain h) b → IsTaken h.place h.due (emitter_event c)
+pub normalized_taken : (b c : EventBody) (h : Progress) → IsNormalized b c → Expects (plain h) b
+    → IsTaken h.place h.due (emitter_event c)
 normalized_taken b c h e x = taken_there h.place h.due c (normalized_expected b c (plain h) e x)
 
-pub normalized_leads : (b c : EventBody) (h : Progress) → IsNormalized b c → Expects (plain h) b → plain (progress_after h (emitter_event c)) ≡ moved_by (plain h) b
+pub normalized_leads : (b c : EventBody) (h : Progress) → IsNormalized b c → Expects (plain h) b
+    → plain (progress_after h (emitter_event c)) ≡ moved_by (plain h) b
 normalized_leads b c h e x = moved_there h c (normalized_expected b c (plain h) e x) ∙ normalized_moved b c (plain h) e
 
 -- ---- what is wrong with it wherever it stands
@@ -180,12 +193,15 @@ untagged true = refl
 untagged false = refl
 
 -- a scalar that gives up its tag
-bare_own : (canonical : Bool) (anchor tag : Option (List ℕ)) (value : List ℕ) (plain quoted : Bool) (style : yaml_scalar_style_t) → IsOwn canonical (event.scalar anchor tag value plain quoted style)
+bare_own : (canonical : Bool) (anchor tag : Option (List ℕ)) (value : List ℕ) (plain quoted : Bool)
+    (style : yaml_scalar_style_t)
+    → IsOwn canonical (event.scalar anchor tag value plain quoted style)
     → IsOwn canonical (event.scalar anchor None value true false style)
 unfolding event_problem last_problem
 bare_own canonical anchor tag value plain quoted style h = (or_none (anchor_problem anchor) _ (or_both (anchor_problem anchor) _ h.0).0 (untagged (canonical || not true)), refl)
 
-pub normalized_own : (canonical : Bool) (b c : EventBody) → IsNormalized b c → IsOwn canonical b → IsOwn canonical c
+pub normalized_own : (canonical : Bool) (b c : EventBody) → IsNormalized b c → IsOwn canonical b
+    → IsOwn canonical c
 unfolding event_problem last_problem
 normalized_own canonical (event.document_end i) c e h = subst (IsOwn canonical) (sym e.1) (refl, refl)
 normalized_own canonical (event.scalar a t v p q z) c (inl e) h = subst (IsOwn canonical) (sym e) h
@@ -200,7 +216,9 @@ normalized_own canonical (event.mapping_start a t i y) c e h = subst (IsOwn cano
 normalized_own canonical event.sequence_end c e h = subst (IsOwn canonical) (sym e) h
 normalized_own canonical event.mapping_end c e h = subst (IsOwn canonical) (sym e) h
 
-pub no_problem : (canonical : Bool) (h : Progress) (b : EventBody) → IsTaken h.place h.due (emitter_event b) → IsOwn canonical b → problem_in canonical h (emitter_event b) ≡ None
+pub no_problem : (canonical : Bool) (h : Progress) (b : EventBody)
+    → IsTaken h.place h.due (emitter_event b) → IsOwn canonical b
+    → problem_in canonical h (emitter_event b) ≡ None
 unfolding problem_by
 no_problem canonical h b t o =
     or_none (event_problem canonical (emitter_event b)) _ o.0 (or_none (place_problem h.place (level_due h.due) (emitter_event b)) (last_problem (emitter_event b)) t o.1)

@@ -48,7 +48,8 @@ MaySayAll (b ∷ bs) = MaySay b × MaySayAll bs
 some_byte : (n : ℕ) → (n == 0) ≡ false → 0 < n
 some_byte n h = grind (arith, nat_tests)
 
-tests_of : (none all : Bool) (p q : Problem) → (if none then Some p else if all then None else Some q) ≡ None → (none ≡ false) × (all ≡ true)
+tests_of : (none all : Bool) (p q : Problem)
+    → (if none then Some p else if all then None else Some q) ≡ None → (none ≡ false) × (all ≡ true)
 tests_of true all p q e = absurd (cc)
 tests_of false true p q e = (refl, refl)
 tests_of false false p q e = absurd (cc)
@@ -78,7 +79,9 @@ tag_writable (Some t) e u = (some_tag t e, u)
 other_tag : (t : List ℕ) → IsNoMark t → t ≡ codes "!" → ⊥
 other_tag t h e = true≢false (sym ((bytes_eq-Decides t (codes "!")).1 e) ∙ h)
 
-scalar_tag_writable : (tag : Option (List ℕ)) (value : List ℕ) (plain quoted : Bool) → tag_problem tag ≡ None → IsUtf8Option tag → is_lone_mark tag value ≡ false → IsScalarRight tag value plain quoted
+scalar_tag_writable : (tag : Option (List ℕ)) (value : List ℕ) (plain quoted : Bool)
+    → tag_problem tag ≡ None → IsUtf8Option tag → is_lone_mark tag value ≡ false
+    → IsScalarRight tag value plain quoted
     → IsScalarTag tag
 scalar_tag_writable None value plain quoted e u l r = tt
 scalar_tag_writable (Some t) value plain quoted e u l r = ((some_tag t e, u), other_tag t (r l))
@@ -87,15 +90,19 @@ prefixes_writable : (ds : List TagDirective) → AreUtf8 ds → HavePrefixes ds
 prefixes_writable [] u = tt
 prefixes_writable (d ∷ ds) u = (u.0.1, prefixes_writable ds u.1)
 
-names_of : (anchor tag : Option (List ℕ)) (last : Option Problem) → or_else (or_else (anchor_problem anchor) (tag_problem tag)) last ≡ None → (anchor_problem anchor ≡ None) × (tag_problem tag ≡ None)
+names_of : (anchor tag : Option (List ℕ)) (last : Option Problem)
+    → or_else (or_else (anchor_problem anchor) (tag_problem tag)) last ≡ None
+    → (anchor_problem anchor ≡ None) × (tag_problem tag ≡ None)
 names_of anchor tag last e = or_both (anchor_problem anchor) (tag_problem tag) (or_both (or_else (anchor_problem anchor) (tag_problem tag)) last e).0
 
 -- nothing is wrong with the normalized event
 abbrev IsOwn : EventBody → Type 0
 IsOwn b = own_problem true (emitter_event b) ≡ None
 
-scalar_says : (lone : Bool) (anchor tag : Option (List ℕ)) (value : List ℕ) (plain quoted : Bool) (style : yaml_scalar_style_t) → is_lone_mark tag value ≡ lone
-    → IsOwn (normalize_scalar lone anchor tag value plain quoted style) → IsUtf8Option tag → IsUtf8 value → IsScalarRight tag value plain quoted
+scalar_says : (lone : Bool) (anchor tag : Option (List ℕ)) (value : List ℕ) (plain quoted : Bool)
+    (style : yaml_scalar_style_t) → is_lone_mark tag value ≡ lone
+    → IsOwn (normalize_scalar lone anchor tag value plain quoted style) → IsUtf8Option tag
+    → IsUtf8 value → IsScalarRight tag value plain quoted
     → MaySay (content_of (normalize_scalar lone anchor tag value plain quoted style))
 unfolding event_problem last_problem
 scalar_says true anchor tag value plain quoted style l e t v r = (anchor_writable anchor (names_of anchor None _ e).0, tt, v)
@@ -103,12 +110,15 @@ scalar_says false anchor tag value plain quoted style l e t v r =
     let own = names_of anchor tag _ e in
     (anchor_writable anchor own.0, scalar_tag_writable tag value plain quoted own.1 t l r, v)
 
-start_says : (anchor tag : Option (List ℕ)) → IsUtf8Option tag → or_else (or_else (anchor_problem anchor) (tag_problem tag)) None ≡ None → IsAnchor anchor × IsTag tag
+start_says : (anchor tag : Option (List ℕ)) → IsUtf8Option tag
+    → or_else (or_else (anchor_problem anchor) (tag_problem tag)) None ≡ None
+    → IsAnchor anchor × IsTag tag
 start_says anchor tag t e =
     let own = names_of anchor tag None e in
     (anchor_writable anchor own.0, tag_writable tag own.1 t)
 
-body_says : (b : EventBody) → IsOwn (normalize_body true b) → HasUtf8 b → IsRight b → MaySay (content_of (normalize_body true b))
+body_says : (b : EventBody) → IsOwn (normalize_body true b) → HasUtf8 b → IsRight b
+    → MaySay (content_of (normalize_body true b))
 unfolding event_problem last_problem
 body_says (event.scalar anchor tag value plain quoted style) e u r = scalar_says (is_lone_mark tag value) anchor tag value plain quoted style refl e u.1 u.2 r
 body_says (event.document_start version directives implicit) e u r = (e, prefixes_writable directives u)
@@ -122,7 +132,8 @@ body_says (event.document_end implicit) e u r = tt
 body_says event.sequence_end e u r = tt
 body_says event.mapping_end e u r = tt
 
-pub told_say : (ts : List Told) → own_problems true (emitter_events true ts) ≡ None → HaveUtf8Texts ts → AreRight ts → MaySayAll (contents ts)
+pub told_say : (ts : List Told) → own_problems true (emitter_events true ts) ≡ None
+    → HaveUtf8Texts ts → AreRight ts → MaySayAll (contents ts)
 unfolding own_problems
 told_say [] e u r = tt
 told_say (t ∷ ts) e u r =

@@ -15,7 +15,8 @@ use Rattle.yaml_round_content.proofs.Scalars.{IsScalarRight, IsRight, AreRight, 
 some_tag : (t : List ℕ) → Some t ≡ None → ⊥
 some_tag t e = cc
 
-scalar_flagged : (lone : Bool) (anchor tag : Option (List ℕ)) (value : List ℕ) (plain quoted : Bool) (style : yaml_scalar_style_t) → IsScalarRight tag value plain quoted
+scalar_flagged : (lone : Bool) (anchor tag : Option (List ℕ)) (value : List ℕ) (plain quoted : Bool)
+    (style : yaml_scalar_style_t) → IsScalarRight tag value plain quoted
     → IsFlagged (emitter_event (normalize_scalar lone anchor tag value plain quoted style))
 scalar_flagged true anchor tag value plain quoted style h = λ e. refl
 scalar_flagged false anchor None value plain quoted style h = λ e. h

@@ -31,7 +31,8 @@ node_kind (scalar anchor mark value) = 2
 node_kind (sequence anchor tag items) = 3
 node_kind (mapping anchor tag pairs) = 4
 
-scalar_kind : (anchor : Text) (mark : Mark) (value : List ℕ) → kind (scalar_says anchor mark value) ≡ 2
+scalar_kind : (anchor : Text) (mark : Mark) (value : List ℕ)
+    → kind (scalar_says anchor mark value) ≡ 2
 scalar_kind anchor (untagged plain) value = refl
 scalar_kind anchor (tagged t) value = refl
 
@@ -42,7 +43,8 @@ begins (scalar anchor mark value) es = scalar_kind anchor mark value
 begins (sequence anchor tag items) es = refl
 begins (mapping anchor tag pairs) es = refl
 
-same_kind : (m n : Node) (x y : List EventBody) → node_says m x ≡ node_says n y → node_kind m ≡ node_kind n
+same_kind : (m n : Node) (x y : List EventBody) → node_says m x ≡ node_says n y
+    → node_kind m ≡ node_kind n
 same_kind m n x y e = sym (begins m x) ∙ ap (λ (es : List EventBody). first_kind es) e ∙ begins n y
 
 no_kind : (n : Node) → node_kind n ≡ 0 → ⊥
@@ -60,13 +62,15 @@ not_end n x y b z e = no_kind n (sym (begins n y) ∙ sym (ap (λ (es : List Eve
 rest_same : (b c : EventBody) (x y : List EventBody) → b ∷ x ≡ c ∷ y → x ≡ y
 rest_same b c x y e = cc
 
-alias_parts : (a b : List ℕ) (x y : List EventBody) → event.alias a ∷ x ≡ event.alias b ∷ y → (alias a ≡ alias b) × (x ≡ y)
+alias_parts : (a b : List ℕ) (x y : List EventBody) → event.alias a ∷ x ≡ event.alias b ∷ y
+    → (alias a ≡ alias b) × (x ≡ y)
 alias_parts a b x y e = let n : a ≡ b = cc in (ap (λ (z : List ℕ). alias z) n, cc)
 
 scalar_same : (a b : Text) (m : Mark) (v w : List ℕ) → a ≡ b → v ≡ w → scalar a m v ≡ scalar b m w
 scalar_same a b m v w e f = ap (λ (z : Text). scalar z m v) e ∙ ap (λ (z : List ℕ). scalar b m z) f
 
-scalar_parts : (a b : Text) (m n : Mark) (v w : List ℕ) (x y : List EventBody) → scalar_says a m v ∷ x ≡ scalar_says b n w ∷ y → (scalar a m v ≡ scalar b n w) × (x ≡ y)
+scalar_parts : (a b : Text) (m n : Mark) (v w : List ℕ) (x y : List EventBody)
+    → scalar_says a m v ∷ x ≡ scalar_says b n w ∷ y → (scalar a m v ≡ scalar b n w) × (x ≡ y)
 scalar_parts a b (untagged p) (untagged q) v w x y e =
     let i : a ≡ b = cc in let j : v ≡ w = cc in let s : p ≡ q = cc in (scalar_same a b (untagged p) v w i j ∙ ap (λ (z : Bool). scalar b (untagged z) w) s, cc)
 scalar_parts a b (tagged t) (tagged u) v w x y e =
@@ -74,24 +78,31 @@ scalar_parts a b (tagged t) (tagged u) v w x y e =
 scalar_parts a b (untagged p) (tagged u) v w x y e = absurd (cc)
 scalar_parts a b (tagged t) (untagged q) v w x y e = absurd (cc)
 
-sequence_parts : (a b t u : Text) (x y : List EventBody) → event.sequence_start a t true YAML_ANY_SEQUENCE_STYLE ∷ x ≡ event.sequence_start b u true YAML_ANY_SEQUENCE_STYLE ∷ y
+sequence_parts : (a b t u : Text) (x y : List EventBody)
+    → event.sequence_start a t true YAML_ANY_SEQUENCE_STYLE ∷ x
+    ≡ event.sequence_start b u true YAML_ANY_SEQUENCE_STYLE ∷ y
     → (a ≡ b) × (t ≡ u) × (x ≡ y)
 sequence_parts a b t u x y e = (cc, cc, cc)
 
-mapping_parts : (a b t u : Text) (x y : List EventBody) → event.mapping_start a t true YAML_ANY_MAPPING_STYLE ∷ x ≡ event.mapping_start b u true YAML_ANY_MAPPING_STYLE ∷ y
+mapping_parts : (a b t u : Text) (x y : List EventBody)
+    → event.mapping_start a t true YAML_ANY_MAPPING_STYLE ∷ x
+    ≡ event.mapping_start b u true YAML_ANY_MAPPING_STYLE ∷ y
     → (a ≡ b) × (t ≡ u) × (x ≡ y)
 mapping_parts a b t u x y e = (cc, cc, cc)
 
-sequence_same : (a b t u : Text) (m n : Nodes) → a ≡ b → t ≡ u → m ≡ n → sequence a t m ≡ sequence b u n
+sequence_same : (a b t u : Text) (m n : Nodes) → a ≡ b → t ≡ u → m ≡ n
+    → sequence a t m ≡ sequence b u n
 sequence_same a b t u m n e f g = ap (λ (z : Text). sequence z t m) e ∙ ap (λ (z : Text). sequence b z m) f ∙ ap (λ (z : Nodes). sequence b u z) g
 
-mapping_same : (a b t u : Text) (m n : Pairs) → a ≡ b → t ≡ u → m ≡ n → mapping a t m ≡ mapping b u n
+mapping_same : (a b t u : Text) (m n : Pairs) → a ≡ b → t ≡ u → m ≡ n
+    → mapping a t m ≡ mapping b u n
 mapping_same a b t u m n e f g = ap (λ (z : Text). mapping z t m) e ∙ ap (λ (z : Text). mapping b z m) f ∙ ap (λ (z : Pairs). mapping b u z) g
 
 pair_same : (k l v w : Node) (m n : Pairs) → k ≡ l → v ≡ w → m ≡ n → pair k v m ≡ pair l w n
 pair_same k l v w m n e f g = ap (λ (z : Node). pair z v m) e ∙ ap (λ (z : Node). pair l z m) f ∙ ap (λ (z : Pairs). pair l w z) g
 
-apart_kinds : (m n : Node) (j k : ℕ) → node_kind m ≡ j → node_kind n ≡ k → (j ≡ k → ⊥) → (x y : List EventBody) → node_says m x ≡ node_says n y → ⊥
+apart_kinds : (m n : Node) (j k : ℕ) → node_kind m ≡ j → node_kind n ≡ k → (j ≡ k → ⊥)
+    → (x y : List EventBody) → node_says m x ≡ node_says n y → ⊥
 apart_kinds m n j k a b d x y e = d (sym a ∙ same_kind m n x y e ∙ b)
 
 -- ---- nodes
@@ -157,7 +168,8 @@ unfolding pairs_say
 pairs_none no_pairs x y e = (refl, rest_same event.mapping_end event.mapping_end x y e)
 pairs_none (pair k v ps) x y e = absurd (not_end k x (node_says v (pairs_say ps (event.mapping_end ∷ y))) event.mapping_end refl e)
 
-pairs_more : (k v : Node) (ps : Pairs) → Known k → Known v → PairsKnown ps → PairsKnown (pair k v ps)
+pairs_more : (k v : Node) (ps : Pairs) → Known k → Known v → PairsKnown ps
+    → PairsKnown (pair k v ps)
 unfolding pairs_say
 pairs_more k v ps key value more no_pairs x y e = absurd (not_end k y (node_says v (pairs_say ps (event.mapping_end ∷ x))) event.mapping_end refl (sym e))
 pairs_more k v ps key value more (pair l w qs) x y e =
@@ -183,14 +195,17 @@ mutual
 
 -- ---- documents
 
-document_parts : (u v : Option yaml_version_directive_t) (ds es : List TagDirective) (x y : List EventBody) → event.document_start u ds true ∷ x ≡ event.document_start v es true ∷ y
+document_parts : (u v : Option yaml_version_directive_t) (ds es : List TagDirective)
+    (x y : List EventBody) → event.document_start u ds true ∷ x ≡ event.document_start v es true ∷ y
     → (u ≡ v) × (ds ≡ es) × (x ≡ y)
 document_parts u v ds es x y e = (cc, cc, cc)
 
-not_both : (v : Option yaml_version_directive_t) (ds : List TagDirective) (x : List EventBody) → event.stream_end ∷ [] ≡ event.document_start v ds true ∷ x → ⊥
+not_both : (v : Option yaml_version_directive_t) (ds : List TagDirective) (x : List EventBody)
+    → event.stream_end ∷ [] ≡ event.document_start v ds true ∷ x → ⊥
 not_both v ds x e = absurd (cc)
 
-document_same : (c d : Document) → c.version ≡ d.version → c.directives ≡ d.directives → c.root ≡ d.root → c ≡ d
+document_same : (c d : Document) → c.version ≡ d.version → c.directives ≡ d.directives
+    → c.root ≡ d.root → c ≡ d
 document_same c d e f g =
     ap (λ (z : Option yaml_version_directive_t). record { version = z; directives = c.directives; root = c.root }) e
     ∙ ap (λ (z : List TagDirective). record { version = d.version; directives = z; root = c.root }) f

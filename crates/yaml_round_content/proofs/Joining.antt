@@ -27,21 +27,25 @@ abbrev pub reads : List Token → Option Fault → Reading
 reads ts own = reading_of (run ts initial own) no_directives
 
 -- a list that begins with a sentence is read as its tree's items are
-pub tree_read : (ts : List Token) (own : Option Fault) (b : BeginsWithSentence ts) → reads ts own ≡ reading (items b.tree b.rest) None no_directives
+pub tree_read : (ts : List Token) (own : Option Fault) (b : BeginsWithSentence ts)
+    → reads ts own ≡ reading (items b.tree b.rest) None no_directives
 tree_read ts own b =
     ap (λ (us : List Token). reads us own) (b.same ∙ spelled_before b.tree b.rest) ∙ ap (λ (o : Outcome). reading_of o no_directives) (stream_runs b.tree b.rest own)
 
-pub tokens_say : (ts : List Token) (own : Option Fault) (b : BeginsWithSentence ts) → contents (reads ts own).events ≡ stream_says (tree_content b.tree)
+pub tokens_say : (ts : List Token) (own : Option Fault) (b : BeginsWithSentence ts)
+    → contents (reads ts own).events ≡ stream_says (tree_content b.tree)
 tokens_say ts own b =
     let p : reads ts own ≡ reading (items b.tree b.rest) None no_directives = tree_read ts own b in
     ap (λ (r : Reading). contents r.events) p ∙ tree_says b.tree b.rest (ap (λ (r : Reading). r.ending) (sym p) ∙ fault_ends ts own None b)
 
 -- a list has a reading, by what the machine ends in
-has_reading : (ts : List Token) (own o : Option Fault) → FaultOfTokens ts own o → (r : Result (List Document) Fault) × TokensRead ts own r
+has_reading : (ts : List Token) (own o : Option Fault) → FaultOfTokens ts own o
+    → (r : Result (List Document) Fault) × TokensRead ts own r
 has_reading ts own None h = (Ok (tree_content h.tree), record { sentence = h; content = refl })
 has_reading ts own (Some e) h = (Err e, h)
 
-no_content : (ts : List Token) (own : Option Fault) (e : Fault) → FaultOfTokens ts own (Some e) → BeginsWithSentence ts → ⊥
+no_content : (ts : List Token) (own : Option Fault) (e : Fault) → FaultOfTokens ts own (Some e)
+    → BeginsWithSentence ts → ⊥
 no_content ts own e h b = h.unfinished b
 
 same_error : (o : Option Fault) (e f : Fault) → o ≡ Some e → o ≡ Some f → e ≡ f
@@ -49,16 +53,20 @@ same_error o e f p q = cc
 
 -- ---- inputs
 
-pub read_is : (from : yaml_encoding_t) (input : List ℕ) → read from input ≡ reads (tokens_of from input).tokens (tokens_of from input).fault
+pub read_is : (from : yaml_encoding_t) (input : List ℕ)
+    → read from input ≡ reads (tokens_of from input).tokens (tokens_of from input).fault
 unfolding read
 read_is from input = refl
 
-sentence_of : (from : yaml_encoding_t) (input : List ℕ) → ending_of from input ≡ None → BeginsWithSentence (tokens_of from input).tokens
+sentence_of : (from : yaml_encoding_t) (input : List ℕ) → ending_of from input ≡ None
+    → BeginsWithSentence (tokens_of from input).tokens
 sentence_of from input e =
     subst (λ (o : Option Fault). FaultOfTokens (tokens_of from input).tokens (tokens_of from input).fault o) (ap (λ (r : Reading). r.ending) (sym (read_is from input)) ∙ e)
     (ends_in_fault (tokens_of from input).tokens (tokens_of from input).fault)
 
-says_of : (from : yaml_encoding_t) (input : List ℕ) (b : BeginsWithSentence (tokens_of from input).tokens) → contents (events_of from input) ≡ stream_says (tree_content b.tree)
+says_of : (from : yaml_encoding_t) (input : List ℕ)
+    (b : BeginsWithSentence (tokens_of from input).tokens)
+    → contents (events_of from input) ≡ stream_says (tree_content b.tree)
 says_of from input b = ap (λ (r : Reading). contents r.events) (read_is from input) ∙ tokens_say (tokens_of from input).tokens (tokens_of from input).fault b
 
 pub inputs_read : InputsRead

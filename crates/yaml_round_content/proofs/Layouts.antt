@@ -49,20 +49,23 @@ abbrev mutual
 mutual
   unfolding emit.node_events emit.items_events emit.pairs_events
 
-  node_flagged : (n : emit.Node) (es : List emit.Event) → AreFlagged (emit.node_events n es) → NodeFlagged n × AreFlagged es
+  node_flagged : (n : emit.Node) (es : List emit.Event) → AreFlagged (emit.node_events n es)
+      → NodeFlagged n × AreFlagged es
   node_flagged (emit.alias_node name) es (h, hs) = (tt, hs)
   node_flagged (emit.scalar_node x) es (h, hs) = (h, hs)
   node_flagged (emit.sequence_node q items) es (h, hs) = let (f, rest) = items_flagged items (emit.sequence_end ∷ es) hs in (f, rest.1)
   node_flagged (emit.mapping_node q pairs) es (h, hs) = let (f, rest) = pairs_flagged pairs (emit.mapping_end ∷ es) hs in (f, rest.1)
 
-  items_flagged : (ns : emit.Nodes) (es : List emit.Event) → AreFlagged (emit.items_events ns es) → NodesFlagged ns × AreFlagged es
+  items_flagged : (ns : emit.Nodes) (es : List emit.Event) → AreFlagged (emit.items_events ns es)
+      → NodesFlagged ns × AreFlagged es
   items_flagged emit.no_nodes es hs = (tt, hs)
   items_flagged (emit.node n ns) es hs =
       let (f, rest) = node_flagged n (emit.items_events ns es) hs in
       let (fs, more) = items_flagged ns es rest in
       ((f, fs), more)
 
-  pairs_flagged : (ps : emit.Pairs) (es : List emit.Event) → AreFlagged (emit.pairs_events ps es) → PairsFlagged ps × AreFlagged es
+  pairs_flagged : (ps : emit.Pairs) (es : List emit.Event) → AreFlagged (emit.pairs_events ps es)
+      → PairsFlagged ps × AreFlagged es
   pairs_flagged emit.no_pairs es hs = (tt, hs)
   pairs_flagged (emit.pair k v ps) es hs =
       let (f, rest) = node_flagged k (emit.node_events v (emit.pairs_events ps es)) hs in
@@ -73,12 +76,29 @@ mutual
 -- ---- nodes
 
 -- a scalar without flags but one is what its tree is written as
-scalar_written : (anchor tag : Option (List ℕ)) (value : List ℕ) (plain quoted : Bool) (style : yaml_scalar_style_t) → (tag ≡ None → quoted ≡ not plain)
-    → bare_scalar (record { anchor = anchor; tag = tag; value = value; plain = plain; quoted = quoted; style = style }) ≡ written_scalar anchor (mark_of tag plain) value
+scalar_written : (anchor tag : Option (List ℕ)) (value : List ℕ) (plain quoted : Bool)
+    (style : yaml_scalar_style_t) → (tag ≡ None → quoted ≡ not plain)
+    → bare_scalar (record {
+      anchor = anchor;
+      tag = tag;
+      value = value;
+      plain = plain;
+      quoted =
+          quoted;
+      style = style;
+    }) ≡ written_scalar anchor (mark_of tag plain) value
 scalar_written anchor (Some t) value plain quoted style h = refl
 scalar_written anchor None value plain quoted style h = rw (h refl) (by plain)
   where
-    by : (b : Bool) → record { anchor = anchor; tag = None; value = value; plain = not (not b); quoted = not b; style = YAML_ANY_SCALAR_STYLE } ≡ written_scalar anchor (mark_of None b) value
+    by : (b : Bool)
+        → record {
+          anchor = anchor;
+          tag = None;
+          value = value;
+          plain = not (not b);
+          quoted = not b;
+          style = YAML_ANY_SCALAR_STYLE;
+        } ≡ written_scalar anchor (mark_of None b) value
     by true = refl
     by false = refl
 
@@ -93,14 +113,17 @@ mutual
   items_written emit.no_nodes h = refl
   items_written (emit.node n ns) (h, hs) = ap (λ (y : emit.Node). emit.node y (bare_nodes ns)) (node_written n h) ∙ ap (λ (y : emit.Nodes). emit.node (written_node (tree_of n)) y) (items_written ns hs)
 
-  pairs_written : (ps : emit.Pairs) → PairsFlagged ps → bare_pairs ps ≡ written_pairs (pair_trees_of ps)
+  pairs_written : (ps : emit.Pairs) → PairsFlagged ps
+      → bare_pairs ps ≡ written_pairs (pair_trees_of ps)
   pairs_written emit.no_pairs h = refl
   pairs_written (emit.pair k v ps) (hk, hv, hs) =
       ap (λ (y : emit.Node). emit.pair y (bare_node v) (bare_pairs ps)) (node_written k hk)
       ∙ ap (λ (y : emit.Node). emit.pair (written_node (tree_of k)) y (bare_pairs ps)) (node_written v hv)
       ∙ ap (λ (y : emit.Pairs). emit.pair (written_node (tree_of k)) (written_node (tree_of v)) y) (pairs_written ps hs)
 
-root_same : (s : Settings) (ds : List TagDirective) (n : emit.Node) → NodeFlagged n → node_layout (canonically s ds) root_spot n ≡ node_layout (canonically s ds) root_spot (written_node (tree_of n))
+root_same : (s : Settings) (ds : List TagDirective) (n : emit.Node) → NodeFlagged n
+    → node_layout (canonically s ds) root_spot n
+    ≡ node_layout (canonically s ds) root_spot (written_node (tree_of n))
 root_same s ds n h = node_same s ds n root_spot ∙ ap (λ (y : emit.Node). node_layout (canonically s ds) root_spot y) (node_written n h)
 
 -- ---- documents
@@ -114,7 +137,9 @@ abbrev AreImplicit : List emit.Event → Type 0
 AreImplicit [] = Unit {0}
 AreImplicit (e ∷ es) = IsImplicit e × AreImplicit es
 
-normalized_implicit : (lone : Bool) (anchor tag : Option (List ℕ)) (value : List ℕ) (plain quoted : Bool) (style : yaml_scalar_style_t) → IsImplicit (emit.emitter_event (normalize_scalar lone anchor tag value plain quoted style))
+normalized_implicit : (lone : Bool) (anchor tag : Option (List ℕ)) (value : List ℕ)
+    (plain quoted : Bool) (style : yaml_scalar_style_t)
+    → IsImplicit (emit.emitter_event (normalize_scalar lone anchor tag value plain quoted style))
 normalized_implicit true anchor tag value plain quoted style = tt
 normalized_implicit false anchor tag value plain quoted style = tt
 
@@ -138,17 +163,20 @@ said_implicit (t ∷ ts) = (body_implicit t.0.body, said_implicit ts)
 mutual
   unfolding emit.node_events emit.items_events emit.pairs_events
 
-  behind_node : (n : emit.Node) (es : List emit.Event) → AreImplicit (emit.node_events n es) → AreImplicit es
+  behind_node : (n : emit.Node) (es : List emit.Event) → AreImplicit (emit.node_events n es)
+      → AreImplicit es
   behind_node (emit.alias_node name) es (h, hs) = hs
   behind_node (emit.scalar_node x) es (h, hs) = hs
   behind_node (emit.sequence_node q items) es (h, hs) = (behind_items items (emit.sequence_end ∷ es) hs).1
   behind_node (emit.mapping_node q pairs) es (h, hs) = (behind_pairs pairs (emit.mapping_end ∷ es) hs).1
 
-  behind_items : (ns : emit.Nodes) (es : List emit.Event) → AreImplicit (emit.items_events ns es) → AreImplicit es
+  behind_items : (ns : emit.Nodes) (es : List emit.Event) → AreImplicit (emit.items_events ns es)
+      → AreImplicit es
   behind_items emit.no_nodes es hs = hs
   behind_items (emit.node n ns) es hs = behind_items ns es (behind_node n (emit.items_events ns es) hs)
 
-  behind_pairs : (ps : emit.Pairs) (es : List emit.Event) → AreImplicit (emit.pairs_events ps es) → AreImplicit es
+  behind_pairs : (ps : emit.Pairs) (es : List emit.Event) → AreImplicit (emit.pairs_events ps es)
+      → AreImplicit es
   behind_pairs emit.no_pairs es hs = hs
   behind_pairs (emit.pair k v ps) es hs = behind_pairs ps es (behind_node v (emit.pairs_events ps es) (behind_node k (emit.node_events v (emit.pairs_events ps es)) hs))
 
@@ -157,7 +185,8 @@ abbrev pub Normalize : List emit.Document → Type 0
 Normalize [] = Unit {0}
 Normalize (d ∷ ds) = NodeFlagged d.root × (d.implicit_end ≡ true) × Normalize ds
 
-documents_even : (ds : List emit.Document) → AreFlagged (emit.documents_events ds) → AreImplicit (emit.documents_events ds) → Normalize ds
+documents_even : (ds : List emit.Document) → AreFlagged (emit.documents_events ds)
+    → AreImplicit (emit.documents_events ds) → Normalize ds
 unfolding emit.documents_events
 documents_even [] f h = tt
 documents_even (d ∷ ds) (f, fs) (h, hs) =
@@ -166,9 +195,13 @@ documents_even (d ∷ ds) (f, fs) (h, hs) =
     let (end, rest) = behind_node d.root after hs in
     (root, end, documents_even ds more.1 rest)
 
-document_same : (s : Settings) (first unended : Bool) (d : emit.Document) (ds : List emit.Document) → NodeFlagged d.root → d.implicit_end ≡ true
-    → documents_layout (canonical_settings s) false true ds ≡ documents_layout (canonical_settings s) false true (written_documents (document_trees ds))
-    → documents_layout (canonical_settings s) first unended (d ∷ ds) ≡ documents_layout (canonical_settings s) first unended (written_documents (document_trees (d ∷ ds)))
+document_same : (s : Settings) (first unended : Bool) (d : emit.Document) (ds : List emit.Document)
+    → NodeFlagged d.root → d.implicit_end ≡ true
+    → documents_layout (canonical_settings s) false true ds
+    ≡ documents_layout (canonical_settings s) false true (written_documents (document_trees ds))
+    → documents_layout (canonical_settings s) first unended (d ∷ ds)
+    ≡ documents_layout (canonical_settings s) first unended
+    (written_documents (document_trees (d ∷ ds)))
 unfolding documents_layout start_layout
 document_same s first unended d ds flagged end more =
     let z = canonical_settings s in
@@ -179,14 +212,16 @@ document_same s first unended d ds flagged end more =
     ∙ ap (λ (a : Layout). begun ▹ (node_layout (canonically s o.directives) root_spot (written_node (tree_of d.root)) ▹ (end_layout z true ▹ a))) more
 
 documents_same : (s : Settings) (first unended : Bool) (ds : List emit.Document) → Normalize ds
-    → documents_layout (canonical_settings s) first unended ds ≡ documents_layout (canonical_settings s) first unended (written_documents (document_trees ds))
+    → documents_layout (canonical_settings s) first unended ds
+    ≡ documents_layout (canonical_settings s) first unended (written_documents (document_trees ds))
 documents_same s first unended [] h = refl
 documents_same s first unended (d ∷ ds) (flagged, end, more) = document_same s first unended d ds flagged end (documents_same s false true ds more)
 
 abbrev Same : List emit.Document → Settings → Type 0
 Same ds s = stream_layout s ds ≡ stream_layout s (written_documents (document_trees ds))
 
-stream_same : (s : Settings) (ds : List emit.Document) → Normalize ds → Same ds (canonical_settings s)
+stream_same : (s : Settings) (ds : List emit.Document) → Normalize ds
+    → Same ds (canonical_settings s)
 unfolding stream_layout
 stream_same s ds h = ap (λ (a : Layout). order_mark s.encoding ▹ a) (documents_same s true false ds h)
 
@@ -195,13 +230,15 @@ canonical_is s e = ap (λ (b : Bool). record { encoding = s.encoding; canonical 
 
 -- ---- settings
 
-encoding_fixed : (wish stream : yaml_encoding_t) → IsSet wish → settled_encoding wish stream ≡ settled_encoding wish YAML_ANY_ENCODING
+encoding_fixed : (wish stream : yaml_encoding_t) → IsSet wish
+    → settled_encoding wish stream ≡ settled_encoding wish YAML_ANY_ENCODING
 encoding_fixed YAML_ANY_ENCODING stream h = absurd h
 encoding_fixed YAML_UTF8_ENCODING stream h = refl
 encoding_fixed YAML_UTF16LE_ENCODING stream h = refl
 encoding_fixed YAML_UTF16BE_ENCODING stream h = refl
 
-settled_fixed : (w : RequestedSettings) (stream : yaml_encoding_t) → IsSet w.encoding → settled w stream ≡ settled w YAML_ANY_ENCODING
+settled_fixed : (w : RequestedSettings) (stream : yaml_encoding_t) → IsSet w.encoding
+    → settled w stream ≡ settled w YAML_ANY_ENCODING
 settled_fixed w stream h =
     let s = settled w YAML_ANY_ENCODING in
     ap (λ (x : Encoding). record { encoding = x; canonical = s.canonical; indent = s.indent; width = s.width; unicode = s.unicode; line_break = s.line_break }) (encoding_fixed w.encoding stream h)
@@ -209,8 +246,10 @@ settled_fixed w stream h =
 -- ---- the laws
 
 -- the layout of such documents is that of their trees
-pub normal_layout : (w : RequestedSettings) → w.canonical ≡ true → (ds : List emit.Document) → Normalize ds
-    → stream_layout (settled w YAML_ANY_ENCODING) ds ≡ stream_layout (settled w YAML_ANY_ENCODING) (written_documents (document_trees ds))
+pub normal_layout : (w : RequestedSettings) → w.canonical ≡ true → (ds : List emit.Document)
+    → Normalize ds
+    → stream_layout (settled w YAML_ANY_ENCODING) ds
+    ≡ stream_layout (settled w YAML_ANY_ENCODING) (written_documents (document_trees ds))
 normal_layout w e ds h = let s = settled w YAML_ANY_ENCODING in subst (Same ds) (canonical_is s e) (stream_same s ds h)
 
 pub layouts_of_content : LayoutIsOfContent
@@ -224,7 +263,8 @@ layouts_of_content w right es flagged c says x whole stream =
       stream.is ∙ ap (λ (z : Settings). written (stream_layout z ds)) fixed ∙ ap (λ (a : Layout). written a) same ∙ ap (λ (e : List Document). canon_items w e) (sym known),
     )
 
-right_canonical : (w : RequestedSettings) → w.canonical ≡ true → (es : List emit.Event) → RightStream true es → RightStream w.canonical es
+right_canonical : (w : RequestedSettings) → w.canonical ≡ true → (es : List emit.Event)
+    → RightStream true es → RightStream w.canonical es
 right_canonical w e es r = subst (λ (b : Bool). RightStream b es) (sym e) r
 
 pub content_laid_out : ContentIsLaidOut

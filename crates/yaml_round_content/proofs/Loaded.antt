@@ -24,13 +24,17 @@ use Rattle.yaml_parse_loader.proofs.Loads.{loads_document}
 abbrev loads_in : Reading → Loads
 loads_in r = load_all r.events r.ending nothing_loaded
 
-ends_in_fault : (ts : List Token) (own : Option Fault) → FaultOfLoading ts own (loads_in (read_of ts own)).fault
+ends_in_fault : (ts : List Token) (own : Option Fault)
+    → FaultOfLoading ts own (loads_in (read_of ts own)).fault
 ends_in_fault ts own = loads_end_in_fault ts own
 
-numbered_documents : (ts : List Token) (own : Option Fault) (b : BeginsWithSentence ts) → (loads_in (read_of ts own)).documents ≡ (numbered (tree_documents b.tree b.rest)).documents
+numbered_documents : (ts : List Token) (own : Option Fault) (b : BeginsWithSentence ts)
+    → (loads_in (read_of ts own)).documents ≡ (numbered (tree_documents b.tree b.rest)).documents
 numbered_documents ts own b = ap (λ (l : Loads). l.documents) (loads_numbered loads_document ts own b)
 
-by_fault : (ts : List Token) (own : Option Fault) (ds : List Document) (o : Option Fault) → FaultOfLoading ts own o → ((b : BeginsWithSentence ts) → ds ≡ (numbered (tree_documents b.tree b.rest)).documents)
+by_fault : (ts : List Token) (own : Option Fault) (ds : List Document) (o : Option Fault)
+    → FaultOfLoading ts own o
+    → ((b : BeginsWithSentence ts) → ds ≡ (numbered (tree_documents b.tree b.rest)).documents)
     → TokensLoad ts own (unless_faulty ds o)
 by_fault ts own ds None h k = record { sentence = h.sentence; loadable = h.first; documents = k h.sentence }
 by_fault ts own ds (Some e) h k = h
@@ -43,7 +47,8 @@ tokens_load ts own = by_fault ts own (loads_in (read_of ts own)).documents (load
 as_sentence : (ts : List Token) (ds : List Document) → HaveDocuments ts ds → LoadsSentence ts None
 as_sentence ts ds h = record { sentence = h.sentence; first = h.loadable }
 
-same_documents : (ts : List Token) (own : Option Fault) (ds : List Document) → HaveDocuments ts ds → ds ≡ (loads_in (read_of ts own)).documents
+same_documents : (ts : List Token) (own : Option Fault) (ds : List Document) → HaveDocuments ts ds
+    → ds ≡ (loads_in (read_of ts own)).documents
 same_documents ts own ds h = h.documents ∙ sym (numbered_documents ts own h.sentence)
 
 apart : (e : Fault) (A : Type 0) → None ≡ Some e → A
@@ -60,7 +65,9 @@ one_of_tokens ts own (Err e) (Err f) p q = ap (λ (z : Fault). Err z) (same_erro
 
 -- ---- inputs
 
-loads_are : (from : yaml_encoding_t) (input : List ℕ) → loads_of from input ≡ loads_in (read_of (tokens_of from input).tokens (tokens_of from input).fault)
+loads_are : (from : yaml_encoding_t) (input : List ℕ)
+    → loads_of from input ≡ loads_in (read_of (tokens_of from input).tokens
+    (tokens_of from input).fault)
 loads_are from input = ap (λ (r : Reading). loads_in r) (read_is from input)
 
 pub inputs_load : InputsLoad

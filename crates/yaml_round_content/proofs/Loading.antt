@@ -16,9 +16,13 @@ use Rattle.yaml_round_content.specs.DumpsLaws.{ContentIsLoaded, ContentLoadsDocu
 
 -- ---- the first document of events
 
-document_turn : (fed : LoadStep) (es : List Event) (f : Option Fault) (d : documents.Document) (rest : List Event)
-    → ((m : Loading) → load es m ≡ loading.document d rest → load_all (told_by es) f m ≡ in_front d.nodes d (load_all (told_by rest) f nothing_loaded))
-    → turn fed (load es) es ≡ loading.document d rest → load_on fed (load_all (told_by es) f) ≡ in_front d.nodes d (load_all (told_by rest) f nothing_loaded)
+document_turn : (fed : LoadStep) (es : List Event) (f : Option Fault) (d : documents.Document)
+    (rest : List Event)
+    → ((m : Loading) → load es m ≡ loading.document d rest → load_all (told_by es) f m
+    ≡ in_front d.nodes d (load_all (told_by rest) f nothing_loaded))
+    → turn fed (load es) es ≡ loading.document d rest
+    → load_on fed (load_all (told_by es) f)
+    ≡ in_front d.nodes d (load_all (told_by rest) f nothing_loaded)
 document_turn (goes_on m) es f d rest next e = next m e
 document_turn (loaded c) es f d rest next e =
     let p : c ≡ d = cc in
@@ -26,19 +30,23 @@ document_turn (loaded c) es f d rest next e =
     ap (λ (x : documents.Document). in_front x.nodes x (load_all (told_by es) f nothing_loaded)) p ∙ ap (λ (xs : List Event). in_front d.nodes d (load_all (told_by xs) f nothing_loaded)) q
 document_turn (refused g) es f d rest next e = absurd (cc)
 
-document_told : (es : List Event) (l : Loading) (f : Option Fault) (d : documents.Document) (rest : List Event) → load es l ≡ loading.document d rest
+document_told : (es : List Event) (l : Loading) (f : Option Fault) (d : documents.Document)
+    (rest : List Event) → load es l ≡ loading.document d rest
     → load_all (told_by es) f l ≡ in_front d.nodes d (load_all (told_by rest) f nothing_loaded)
 unfolding load load_all
 document_told [] l f d rest e = absurd (cc)
 document_told (x ∷ es) l f d rest e = document_turn (step x l) es f d rest (λ m h. document_told es m f d rest h) e
 
-fault_turn : (fed : LoadStep) (es : List Event) (f : Option Fault) (g : Fault) → ((m : Loading) → load es m ≡ loading.faulty g → load_all (told_by es) f m ≡ no_more (Some g))
-    → turn fed (load es) es ≡ loading.faulty g → load_on fed (load_all (told_by es) f) ≡ no_more (Some g)
+fault_turn : (fed : LoadStep) (es : List Event) (f : Option Fault) (g : Fault)
+    → ((m : Loading) → load es m ≡ loading.faulty g → load_all (told_by es) f m ≡ no_more (Some g))
+    → turn fed (load es) es ≡ loading.faulty g
+    → load_on fed (load_all (told_by es) f) ≡ no_more (Some g)
 fault_turn (goes_on m) es f g next e = next m e
 fault_turn (loaded c) es f g next e = absurd (cc)
 fault_turn (refused h) es f g next e = let p : h ≡ g = cc in ap (λ (x : Fault). no_more (Some x)) p
 
-fault_told : (es : List Event) (l : Loading) (f : Option Fault) (g : Fault) → load es l ≡ loading.faulty g → load_all (told_by es) f l ≡ no_more (Some g)
+fault_told : (es : List Event) (l : Loading) (f : Option Fault) (g : Fault)
+    → load es l ≡ loading.faulty g → load_all (told_by es) f l ≡ no_more (Some g)
 unfolding load load_all
 fault_told [] l f g e = absurd (cc)
 fault_told (x ∷ es) l f g e = fault_turn (step x l) es f g (λ m h. fault_told es m f g h) e
@@ -48,12 +56,15 @@ fault_told (x ∷ es) l f g e = fault_turn (step x l) es f g (λ m h. fault_told
 abbrev LoadsDocuments : Type 0
 LoadsDocuments = (d : DocumentContent) (rest : List Event) (l : Loading) → load (document_events d rest) l ≡ behind (document_of d) (λ e. loading.document e rest)
 
-by_number : (r : Result documents.Document Fault) (es rest : List Event) (l : Loading) (more : Loads) → load es l ≡ behind r (λ e. loading.document e rest) → load_all (told_by rest) None nothing_loaded ≡ more
+by_number : (r : Result documents.Document Fault) (es rest : List Event) (l : Loading)
+    (more : Loads) → load es l ≡ behind r (λ e. loading.document e rest)
+    → load_all (told_by rest) None nothing_loaded ≡ more
     → load_all (told_by es) None l ≡ load_of r more
 by_number (Ok d) es rest l more e h = document_told es l None d rest e ∙ ap (λ (x : Loads). in_front d.nodes d x) h
 by_number (Err g) es rest l more e h = fault_told es l None g e
 
-each_told : LoadsDocuments → (c : List Document) → load_all (told_by (content_events c)) None nothing_loaded ≡ load_each c
+each_told : LoadsDocuments → (c : List Document)
+    → load_all (told_by (content_events c)) None nothing_loaded ≡ load_each c
 unfolding load_all
 each_told loads [] = refl
 each_told loads (d ∷ ds) =
@@ -65,11 +76,13 @@ content_loaded loads c = each_told loads c
 
 -- ---- what is loaded
 
-front_loaded : (ns : List model.Node) (d : documents.Document) (rest : Loads) → IsLoadedDocument d → AreLoadedDocuments rest.documents → AreLoadedDocuments (in_front ns d rest).documents
+front_loaded : (ns : List model.Node) (d : documents.Document) (rest : Loads) → IsLoadedDocument d
+    → AreLoadedDocuments rest.documents → AreLoadedDocuments (in_front ns d rest).documents
 front_loaded [] d rest h k = tt
 front_loaded (n ∷ ns) d rest h k = (h, k)
 
-number_loaded : (r : Result documents.Document Fault) (rest : Loads) → IfOk r IsLoadedDocument → AreLoadedDocuments rest.documents → AreLoadedDocuments (load_of r rest).documents
+number_loaded : (r : Result documents.Document Fault) (rest : Loads) → IfOk r IsLoadedDocument
+    → AreLoadedDocuments rest.documents → AreLoadedDocuments (load_of r rest).documents
 number_loaded (Ok d) rest h k = front_loaded d.nodes d rest h k
 number_loaded (Err f) rest h k = tt
 

@@ -28,7 +28,8 @@ alike_tests false true f g = g refl
 alike_tests false false f g = refl
 
 -- whether names are one is not changed by a renaming that keeps them apart
-same_renamed : (r : Renaming) (a b : List ℕ) → (r a ≡ r b → a ≡ b) → eq_by_cmp (slice_cmp nat_cmp) a b ≡ eq_by_cmp (slice_cmp nat_cmp) (r a) (r b)
+same_renamed : (r : Renaming) (a b : List ℕ) → (r a ≡ r b → a ≡ b)
+    → eq_by_cmp (slice_cmp nat_cmp) a b ≡ eq_by_cmp (slice_cmp nat_cmp) (r a) (r b)
 same_renamed r a b one =
     is_eq-slice_cmp a b
     ∙ alike_tests (bytes_eq a b) (bytes_eq (r a) (r b))
@@ -49,9 +50,11 @@ module _ (IsIn : List ℕ → Type 0) (r : Renaming) (one : (a b : List ℕ) →
   record Goes (bs cs : List EventBody) : Type 0 where
     same : (l m : CoreLoading) → Beside l m → core_loads bs f l ≡ core_loads cs f m
 
-  named_same : (anchor : Option (List ℕ)) (n : ℤ) (known knowns : Anchors) → ((a : List ℕ) → IsAnchorName anchor a → IsIn a)
+  named_same : (anchor : Option (List ℕ)) (n : ℤ) (known knowns : Anchors)
+      → ((a : List ℕ) → IsAnchorName anchor a → IsIn a)
       → ((a : List ℕ) → IsIn a → map.get known a ≡ map.get knowns (r a))
-      → (a : List ℕ) → IsIn a → map.get (named anchor n known) a ≡ map.get (named (renamed_anchor r anchor) n knowns) (r a)
+      → (a : List ℕ) → IsIn a
+      → map.get (named anchor n known) a ≡ map.get (named (renamed_anchor r anchor) n knowns) (r a)
   named_same None n known knowns h k a i = k a i
   named_same (Some name) n known knowns h k a i =
       map.get-insert nat_list_cmp_total known name n a
@@ -59,26 +62,35 @@ module _ (IsIn : List ℕ → Type 0) (r : Renaming) (one : (a b : List ℕ) →
       ∙ ap (λ (o : Option ℤ). cond (eq_by_cmp (slice_cmp nat_cmp) (r a) (r name)) (Some n) o) (k a i)
       ∙ sym (map.get-insert nat_list_cmp_total knowns (r name) n (r a))
 
-  named_beside : (anchor : Option (List ℕ)) (x y : Core) (known knowns : Anchors) → x ≡ y → ((a : List ℕ) → IsAnchorName anchor a → IsIn a)
+  named_beside : (anchor : Option (List ℕ)) (x y : Core) (known knowns : Anchors) → x ≡ y
+      → ((a : List ℕ) → IsAnchorName anchor a → IsIn a)
       → ((a : List ℕ) → IsIn a → map.get known a ≡ map.get knowns (r a))
-      → (a : List ℕ) → IsIn a → map.get (named anchor (pos (suc (length x.nodes))) known) a ≡ map.get (named (renamed_anchor r anchor) (pos (suc (length y.nodes))) knowns) (r a)
+      → (a : List ℕ) → IsIn a
+      → map.get (named anchor (pos (suc (length x.nodes))) known) a
+      ≡ map.get (named (renamed_anchor r anchor) (pos (suc (length y.nodes))) knowns) (r a)
   named_beside anchor x y known knowns e h k a i =
       named_same anchor (pos (suc (length x.nodes))) known knowns h k a i
       ∙ ap (λ (c : Core). map.get (named (renamed_anchor r anchor) (pos (suc (length c.nodes))) knowns) (r a)) e
 
-  attached_same : (x y : Core) (os ps : List Open) → x ≡ y → os ≡ ps → attach (pos (suc (length x.nodes))) os ≡ attach (pos (suc (length y.nodes))) ps
+  attached_same : (x y : Core) (os ps : List Open) → x ≡ y → os ≡ ps
+      → attach (pos (suc (length x.nodes))) os ≡ attach (pos (suc (length y.nodes))) ps
   attached_same x y os ps e g = ap (λ (c : Core). attach (pos (suc (length c.nodes))) os) e ∙ ap (λ (qs : List Open). attach (pos (suc (length y.nodes))) qs) g
 
-  leaf_beside : (anchor : Option (List ℕ)) (n : CoreNode) (l m : CoreLoading) → ((a : List ℕ) → IsAnchorName anchor a → IsIn a) → Beside l m
-      → Beside (core_leaf (length l.document.nodes) anchor n l) (core_leaf (length m.document.nodes) (renamed_anchor r anchor) n m)
+  leaf_beside : (anchor : Option (List ℕ)) (n : CoreNode) (l m : CoreLoading)
+      → ((a : List ℕ) → IsAnchorName anchor a → IsIn a) → Beside l m
+      → Beside (core_leaf (length l.document.nodes) anchor n l)
+      (core_leaf (length m.document.nodes) (renamed_anchor r anchor) n m)
   leaf_beside anchor n l m h b = record {
     document = ap (λ (c : Core). let d : Core = record { version = c.version; directives = c.directives; nodes = c.nodes ++ n ∷ [] } in d) b.document;
     levels = attached_same l.document m.document l.levels m.levels b.document b.levels;
     known = named_beside anchor l.document m.document l.anchors m.anchors b.document h b.known;
   }
 
-  open_beside : (anchor : Option (List ℕ)) (n : CoreNode) (o : ℕ → Open) (l m : CoreLoading) → ((a : List ℕ) → IsAnchorName anchor a → IsIn a) → Beside l m
-      → Beside (core_open (length l.document.nodes) anchor n (o (length l.document.nodes)) l) (core_open (length m.document.nodes) (renamed_anchor r anchor) n (o (length m.document.nodes)) m)
+  open_beside : (anchor : Option (List ℕ)) (n : CoreNode) (o : ℕ → Open) (l m : CoreLoading)
+      → ((a : List ℕ) → IsAnchorName anchor a → IsIn a) → Beside l m
+      → Beside (core_open (length l.document.nodes) anchor n (o (length l.document.nodes)) l)
+      (core_open (length m.document.nodes) (renamed_anchor r anchor) n (o (length m.document.nodes))
+      m)
   open_beside anchor n o l m h b = record {
     document = ap (λ (c : Core). let d : Core = record { version = c.version; directives = c.directives; nodes = c.nodes ++ n ∷ [] } in d) b.document;
     levels = ap (λ (c : Core). o (length c.nodes) ∷ attach (pos (suc (length l.document.nodes))) l.levels) b.document
@@ -86,7 +98,8 @@ module _ (IsIn : List ℕ → Type 0) (r : Renaming) (one : (a b : List ℕ) →
     known = named_beside anchor l.document m.document l.anchors m.anchors b.document h b.known;
   }
 
-  closed_over : (os : List Open) (l m : CoreLoading) → Beside l m → Beside (core_closed l os) (core_closed m os)
+  closed_over : (os : List Open) (l m : CoreLoading) → Beside l m
+      → Beside (core_closed l os) (core_closed m os)
   closed_over [] l m b = b
   closed_over (o ∷ os) l m b = record {
     document = ap (λ (c : Core). (core_closed (record { document = c; levels = os; anchors = l.anchors }) (o ∷ os)).document) b.document;
@@ -94,42 +107,53 @@ module _ (IsIn : List ℕ → Type 0) (r : Renaming) (one : (a b : List ℕ) →
     known = b.known;
   }
 
-  closed_beside : (l m : CoreLoading) → Beside l m → Beside (core_closed l l.levels) (core_closed m m.levels)
+  closed_beside : (l m : CoreLoading) → Beside l m
+      → Beside (core_closed l l.levels) (core_closed m m.levels)
   closed_beside l m b = subst (λ (os : List Open). Beside (core_closed l l.levels) (core_closed m os)) b.levels (closed_over l.levels l m b)
 
   -- ---- events
 
-  alias_on : (o : Option ℤ) (bs cs : List EventBody) (l m : CoreLoading) → Goes bs cs → Beside l m → core_on (core_aliased o l) (core_loads bs f) ≡ core_on (core_aliased o m) (core_loads cs f)
+  alias_on : (o : Option ℤ) (bs cs : List EventBody) (l m : CoreLoading) → Goes bs cs → Beside l m
+      → core_on (core_aliased o l) (core_loads bs f) ≡ core_on (core_aliased o m) (core_loads cs f)
   alias_on None bs cs l m g b = refl
   alias_on (Some n) bs cs l m g b = g.same _ _ record { document = b.document; levels = ap (λ (os : List Open). attach n os) b.levels; known = b.known }
 
-  alias_goes : (name : List ℕ) (bs cs : List EventBody) → IsIn name → Goes bs cs → Goes (event.alias name ∷ bs) (event.alias (r name) ∷ cs)
+  alias_goes : (name : List ℕ) (bs cs : List EventBody) → IsIn name → Goes bs cs
+      → Goes (event.alias name ∷ bs) (event.alias (r name) ∷ cs)
   unfolding core_loads
   alias_goes name bs cs i g = record {
     same = λ l m b. ap (λ (o : Option ℤ). core_on (core_aliased o l) (core_loads bs f)) (b.known name i) ∙ alias_on (map.get m.anchors (r name)) bs cs l m g b;
   }
 
-  scalar_goes : (anchor : Option (List ℕ)) (mark : Mark) (value : List ℕ) (bs cs : List EventBody) → ((a : List ℕ) → IsAnchorName anchor a → IsIn a) → Goes bs cs
-      → Goes (scalar_says anchor mark value ∷ bs) (scalar_says (renamed_anchor r anchor) mark value ∷ cs)
+  scalar_goes : (anchor : Option (List ℕ)) (mark : Mark) (value : List ℕ) (bs cs : List EventBody)
+      → ((a : List ℕ) → IsAnchorName anchor a → IsIn a) → Goes bs cs
+      → Goes (scalar_says anchor mark value ∷ bs)
+      (scalar_says (renamed_anchor r anchor) mark value ∷ cs)
   unfolding core_loads
   scalar_goes anchor (untagged plain) value bs cs h g = record { same = λ l m b. g.same _ _ (leaf_beside anchor _ l m h b) }
   scalar_goes anchor (tagged t) value bs cs h g = record { same = λ l m b. g.same _ _ (leaf_beside anchor _ l m h b) }
 
-  sequence_goes : (anchor tag : Option (List ℕ)) (bs cs : List EventBody) → ((a : List ℕ) → IsAnchorName anchor a → IsIn a) → Goes bs cs
-      → Goes (event.sequence_start anchor tag true YAML_ANY_SEQUENCE_STYLE ∷ bs) (event.sequence_start (renamed_anchor r anchor) tag true YAML_ANY_SEQUENCE_STYLE ∷ cs)
+  sequence_goes : (anchor tag : Option (List ℕ)) (bs cs : List EventBody)
+      → ((a : List ℕ) → IsAnchorName anchor a → IsIn a) → Goes bs cs
+      → Goes (event.sequence_start anchor tag true YAML_ANY_SEQUENCE_STYLE ∷ bs)
+      (event.sequence_start (renamed_anchor r anchor) tag true YAML_ANY_SEQUENCE_STYLE ∷ cs)
   unfolding core_loads
   sequence_goes anchor tag bs cs h g = record { same = λ l m b. g.same _ _ (open_beside anchor _ (λ k. open_sequence k []) l m h b) }
 
-  mapping_goes : (anchor tag : Option (List ℕ)) (bs cs : List EventBody) → ((a : List ℕ) → IsAnchorName anchor a → IsIn a) → Goes bs cs
-      → Goes (event.mapping_start anchor tag true YAML_ANY_MAPPING_STYLE ∷ bs) (event.mapping_start (renamed_anchor r anchor) tag true YAML_ANY_MAPPING_STYLE ∷ cs)
+  mapping_goes : (anchor tag : Option (List ℕ)) (bs cs : List EventBody)
+      → ((a : List ℕ) → IsAnchorName anchor a → IsIn a) → Goes bs cs
+      → Goes (event.mapping_start anchor tag true YAML_ANY_MAPPING_STYLE ∷ bs)
+      (event.mapping_start (renamed_anchor r anchor) tag true YAML_ANY_MAPPING_STYLE ∷ cs)
   unfolding core_loads
   mapping_goes anchor tag bs cs h g = record { same = λ l m b. g.same _ _ (open_beside anchor _ (λ k. open_mapping k [] None) l m h b) }
 
-  sequence_ends : (bs cs : List EventBody) → Goes bs cs → Goes (event.sequence_end ∷ bs) (event.sequence_end ∷ cs)
+  sequence_ends : (bs cs : List EventBody) → Goes bs cs
+      → Goes (event.sequence_end ∷ bs) (event.sequence_end ∷ cs)
   unfolding core_loads
   sequence_ends bs cs g = record { same = λ l m b. g.same _ _ (closed_beside l m b) }
 
-  mapping_ends : (bs cs : List EventBody) → Goes bs cs → Goes (event.mapping_end ∷ bs) (event.mapping_end ∷ cs)
+  mapping_ends : (bs cs : List EventBody) → Goes bs cs
+      → Goes (event.mapping_end ∷ bs) (event.mapping_end ∷ cs)
   unfolding core_loads
   mapping_ends bs cs g = record { same = λ l m b. g.same _ _ (closed_beside l m b) }
 
@@ -138,7 +162,8 @@ module _ (IsIn : List ℕ → Type 0) (r : Renaming) (one : (a b : List ℕ) →
   mutual
     unfolding node_says items_say pairs_say
 
-    node_goes : (n : Node) (bs cs : List EventBody) → ((a : List ℕ) → HasName n a → IsIn a) → Goes bs cs → Goes (node_says n bs) (node_says (renamed_node r n) cs)
+    node_goes : (n : Node) (bs cs : List EventBody) → ((a : List ℕ) → HasName n a → IsIn a)
+        → Goes bs cs → Goes (node_says n bs) (node_says (renamed_node r n) cs)
     node_goes (alias name) bs cs h g = alias_goes name bs cs (h name refl) g
     node_goes (scalar anchor mark value) bs cs h g = scalar_goes anchor mark value bs cs h g
     node_goes (sequence anchor tag items) bs cs h g =
@@ -146,11 +171,13 @@ module _ (IsIn : List ℕ → Type 0) (r : Renaming) (one : (a b : List ℕ) →
     node_goes (mapping anchor tag pairs) bs cs h g =
         mapping_goes anchor tag _ _ (λ a i. h a (inl i)) (pairs_go pairs _ _ (λ a i. h a (inr i)) (mapping_ends bs cs g))
 
-    items_go : (ns : Nodes) (bs cs : List EventBody) → ((a : List ℕ) → ItemsHaveName ns a → IsIn a) → Goes bs cs → Goes (items_say ns bs) (items_say (renamed_items r ns) cs)
+    items_go : (ns : Nodes) (bs cs : List EventBody) → ((a : List ℕ) → ItemsHaveName ns a → IsIn a)
+        → Goes bs cs → Goes (items_say ns bs) (items_say (renamed_items r ns) cs)
     items_go no_nodes bs cs h g = g
     items_go (node n ns) bs cs h g = node_goes n _ _ (λ a i. h a (inl i)) (items_go ns bs cs (λ a i. h a (inr i)) g)
 
-    pairs_go : (ps : Pairs) (bs cs : List EventBody) → ((a : List ℕ) → PairsHaveName ps a → IsIn a) → Goes bs cs → Goes (pairs_say ps bs) (pairs_say (renamed_pairs r ps) cs)
+    pairs_go : (ps : Pairs) (bs cs : List EventBody) → ((a : List ℕ) → PairsHaveName ps a → IsIn a)
+        → Goes bs cs → Goes (pairs_say ps bs) (pairs_say (renamed_pairs r ps) cs)
     pairs_go no_pairs bs cs h g = g
     pairs_go (pair k v ps) bs cs h g =
         node_goes k _ _ (λ a i. h a (inl i)) (node_goes v _ _ (λ a i. h a (inr (inl i))) (pairs_go ps bs cs (λ a i. h a (inr (inr i))) g))
@@ -158,14 +185,18 @@ module _ (IsIn : List ℕ → Type 0) (r : Renaming) (one : (a b : List ℕ) →
 -- ---- documents
 
 -- the end of a document, whatever stands before it
-document_ends : (IsIn : List ℕ → Type 0) (r : Renaming) (one : (a b : List ℕ) → IsIn a → IsIn b → r a ≡ r b → a ≡ b) (f : Bool) (bs cs : List EventBody)
-    → ((l m : CoreLoading) → core_loads bs f l ≡ core_loads cs f m) → Goes IsIn r one f (event.document_end true ∷ bs) (event.document_end true ∷ cs)
+document_ends : (IsIn : List ℕ → Type 0) (r : Renaming)
+    (one : (a b : List ℕ) → IsIn a → IsIn b → r a ≡ r b → a ≡ b) (f : Bool) (bs cs : List EventBody)
+    → ((l m : CoreLoading) → core_loads bs f l ≡ core_loads cs f m)
+    → Goes IsIn r one f (event.document_end true ∷ bs) (event.document_end true ∷ cs)
 unfolding core_loads
 document_ends IsIn r one f bs cs g = record {
   same = λ l m b. ap (λ (c : Core). core_in_front c.nodes c (core_loads bs f core_nothing)) b.document ∙ ap (λ (a : CoreLoads). core_in_front m.document.nodes m.document a) (g core_nothing core_nothing);
 }
 
-documents_same : (f : Bool) (r : ℕ → Renaming) (c : List Document) → AreOneToOne r c → (l m : CoreLoading) → core_loads (documents_say c) f l ≡ core_loads (documents_say (renamed r c)) f m
+documents_same : (f : Bool) (r : ℕ → Renaming) (c : List Document) → AreOneToOne r c
+    → (l m : CoreLoading)
+    → core_loads (documents_say c) f l ≡ core_loads (documents_say (renamed r c)) f m
 unfolding core_loads documents_say
 documents_same f r [] h l m = refl
 documents_same f r (d ∷ ds) h l m =

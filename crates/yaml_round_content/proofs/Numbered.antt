@@ -27,19 +27,25 @@ use Rattle.yaml_round_content.proofs.Placed.{tree_reads}
 abbrev bare : List Event → List Told
 bare es = map (λ (e : Event). (e, 0)) es
 
-on_alike : (c : LoadStep) (p q : Loading → Loads) → ((l : Loading) → p l ≡ q l) → load_on c p ≡ load_on c q
+on_alike : (c : LoadStep) (p q : Loading → Loads) → ((l : Loading) → p l ≡ q l)
+    → load_on c p ≡ load_on c q
 on_alike (goes_on m) p q h = h m
 on_alike (loaded d) p q h = ap (λ (x : Loads). in_front d.nodes d x) (h nothing_loaded)
 on_alike (refused f) p q h = refl
 
-counts_aside : (gs : List Told) (f : Option Fault) (l : Loading) → load_all gs f l ≡ load_all (bare (events_told gs)) f l
+counts_aside : (gs : List Told) (f : Option Fault) (l : Loading)
+    → load_all gs f l ≡ load_all (bare (events_told gs)) f l
 unfolding load_all
 counts_aside [] f l = refl
 counts_aside (g ∷ gs) f l = on_alike (step g.0 l) (load_all gs f) (load_all (bare (events_told gs)) f) (λ m. counts_aside gs f m)
 
-document_turn : (fed : LoadStep) (es : List Event) (f : Option Fault) (d : documents.Document) (rest : List Event)
-    → ((m : Loading) → load es m ≡ loading.document d rest → load_all (bare es) f m ≡ in_front d.nodes d (load_all (bare rest) f nothing_loaded))
-    → turn fed (load es) es ≡ loading.document d rest → load_on fed (load_all (bare es) f) ≡ in_front d.nodes d (load_all (bare rest) f nothing_loaded)
+document_turn : (fed : LoadStep) (es : List Event) (f : Option Fault) (d : documents.Document)
+    (rest : List Event)
+    → ((m : Loading) → load es m ≡ loading.document d rest → load_all (bare es) f m
+    ≡ in_front d.nodes d (load_all (bare rest) f nothing_loaded))
+    → turn fed (load es) es ≡ loading.document d rest
+    → load_on fed (load_all (bare es) f)
+    ≡ in_front d.nodes d (load_all (bare rest) f nothing_loaded)
 document_turn (goes_on m) es f d rest next e = next m e
 document_turn (loaded c) es f d rest next e =
     let p : c ≡ d = cc in
@@ -47,19 +53,23 @@ document_turn (loaded c) es f d rest next e =
     ap (λ (x : documents.Document). in_front x.nodes x (load_all (bare es) f nothing_loaded)) p ∙ ap (λ (xs : List Event). in_front d.nodes d (load_all (bare xs) f nothing_loaded)) q
 document_turn (refused g) es f d rest next e = absurd (cc)
 
-document_told : (es : List Event) (l : Loading) (f : Option Fault) (d : documents.Document) (rest : List Event) → load es l ≡ loading.document d rest
+document_told : (es : List Event) (l : Loading) (f : Option Fault) (d : documents.Document)
+    (rest : List Event) → load es l ≡ loading.document d rest
     → load_all (bare es) f l ≡ in_front d.nodes d (load_all (bare rest) f nothing_loaded)
 unfolding load load_all
 document_told [] l f d rest e = absurd (cc)
 document_told (x ∷ es) l f d rest e = document_turn (step x l) es f d rest (λ m h. document_told es m f d rest h) e
 
-fault_turn : (fed : LoadStep) (es : List Event) (f : Option Fault) (g : Fault) → ((m : Loading) → load es m ≡ loading.faulty g → load_all (bare es) f m ≡ no_more (Some g))
-    → turn fed (load es) es ≡ loading.faulty g → load_on fed (load_all (bare es) f) ≡ no_more (Some g)
+fault_turn : (fed : LoadStep) (es : List Event) (f : Option Fault) (g : Fault)
+    → ((m : Loading) → load es m ≡ loading.faulty g → load_all (bare es) f m ≡ no_more (Some g))
+    → turn fed (load es) es ≡ loading.faulty g
+    → load_on fed (load_all (bare es) f) ≡ no_more (Some g)
 fault_turn (goes_on m) es f g next e = next m e
 fault_turn (loaded c) es f g next e = absurd (cc)
 fault_turn (refused h) es f g next e = let p : h ≡ g = cc in ap (λ (x : Fault). no_more (Some x)) p
 
-fault_told : (es : List Event) (l : Loading) (f : Option Fault) (g : Fault) → load es l ≡ loading.faulty g → load_all (bare es) f l ≡ no_more (Some g)
+fault_told : (es : List Event) (l : Loading) (f : Option Fault) (g : Fault)
+    → load es l ≡ loading.faulty g → load_all (bare es) f l ≡ no_more (Some g)
 unfolding load load_all
 fault_told [] l f g e = absurd (cc)
 fault_told (x ∷ es) l f g e = fault_turn (step x l) es f g (λ m h. fault_told es m f g h) e
@@ -69,12 +79,15 @@ fault_told (x ∷ es) l f g e = fault_turn (step x l) es f g (λ m h. fault_told
 abbrev LoadsDocuments : Type 0
 LoadsDocuments = (d : DocumentContent) (rest : List Event) (l : Loading) → load (document_events d rest) l ≡ behind (document_of d) (λ e. loading.document e rest)
 
-by_number : (r : Result documents.Document Fault) (es rest : List Event) (l : Loading) (more : Loads) → load es l ≡ behind r (λ e. loading.document e rest) → load_all (bare rest) None nothing_loaded ≡ more
+by_number : (r : Result documents.Document Fault) (es rest : List Event) (l : Loading)
+    (more : Loads) → load es l ≡ behind r (λ e. loading.document e rest)
+    → load_all (bare rest) None nothing_loaded ≡ more
     → load_all (bare es) None l ≡ numbered_one r more
 by_number (Ok d) es rest l more e h = document_told es l None d rest e ∙ ap (λ (x : Loads). in_front d.nodes d x) h
 by_number (Err g) es rest l more e h = fault_told es l None g e
 
-each_numbered : LoadsDocuments → (ds : List DocumentContent) (s : Span) → load_all (bare (placed_events ds s)) None nothing_loaded ≡ numbered ds
+each_numbered : LoadsDocuments → (ds : List DocumentContent) (s : Span)
+    → load_all (bare (placed_events ds s)) None nothing_loaded ≡ numbered ds
 unfolding load_all
 each_numbered loads [] s = refl
 each_numbered loads (d ∷ ds) s =
@@ -82,13 +95,17 @@ each_numbered loads (d ∷ ds) s =
 
 -- ---- a source
 
-right_of : (ts : List Token) (own : Option Fault) (b : BeginsWithSentence ts) → (reading (items b.tree b.rest) None no_directives).ending ≡ None
+right_of : (ts : List Token) (own : Option Fault) (b : BeginsWithSentence ts)
+    → (reading (items b.tree b.rest) None no_directives).ending ≡ None
 right_of ts own b = ap (λ (r : Reading). r.ending) (sym (tree_read ts own b)) ∙ fault_ends ts own None b
 
 pub events_placed : EventsArePlaced
 events_placed ts own b = ap (λ (r : Reading). events_told r.events) (tree_read ts own b) ∙ tree_reads b.tree b.rest (right_of ts own b)
 
-start_aside : (t : Stream) (es : List Event) (rest : List Token) → es ≡ tree_events t rest → load_all (bare es) None nothing_loaded ≡ load_all (bare (placed_events (tree_documents t rest) (end_of t.documents))) None nothing_loaded
+start_aside : (t : Stream) (es : List Event) (rest : List Token) → es ≡ tree_events t rest
+    → load_all (bare es) None nothing_loaded
+    ≡ load_all (bare (placed_events (tree_documents t rest) (end_of t.documents))) None
+    nothing_loaded
 unfolding load_all
 start_aside t es rest e = ap (λ (xs : List Event). load_all (bare xs) None nothing_loaded) e
 
@@ -116,17 +133,21 @@ at_end : (f : Option Fault) → no_more f ≡ by_first (parse.behind_all f) f
 at_end None = refl
 at_end (Some e) = refl
 
-first_on : (c : LoadStep) (gs : List Told) (f : Option Fault) (n : ℕ) → ((m : Loading) → load_all gs f m ≡ by_first (parse.loads gs f m) f) → load_on c (load_all gs f) ≡ by_first (parse.load_on c (parse.loads gs f) gs n) f
+first_on : (c : LoadStep) (gs : List Told) (f : Option Fault) (n : ℕ)
+    → ((m : Loading) → load_all gs f m ≡ by_first (parse.loads gs f m) f)
+    → load_on c (load_all gs f) ≡ by_first (parse.load_on c (parse.loads gs f) gs n) f
 first_on (goes_on m) gs f n h = h m
 first_on (loaded d) gs f n h = refl
 first_on (refused e) gs f n h = refl
 
-one_more : (gs : List Told) (f : Option Fault) (l : Loading) → load_all gs f l ≡ by_first (parse.loads gs f l) f
+one_more : (gs : List Told) (f : Option Fault) (l : Loading)
+    → load_all gs f l ≡ by_first (parse.loads gs f l) f
 unfolding load_all parse.loads
 one_more [] f l = at_end f
 one_more (g ∷ gs) f l = first_on (step g.0 l) gs f g.1 (λ m. one_more gs f m)
 
-as_next : (n : NextLoad) (r : parse.Loads) (u : ℕ) (f : Option Fault) → IsOf n r u → by_first r f ≡ by_next n f
+as_next : (n : NextLoad) (r : parse.Loads) (u : ℕ) (f : Option Fault) → IsOf n r u
+    → by_first r f ≡ by_next n f
 as_next (next_document e left count) r u f h = ap (λ (x : parse.Loads). by_first x f) h
 as_next (next_fault e count) r u f h = ap (λ (x : parse.Loads). by_first x f) h.0
 as_next next_none r u f h = ap (λ (x : parse.Loads). by_first x f) h

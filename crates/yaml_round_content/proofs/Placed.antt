@@ -19,18 +19,26 @@ use Rattle.yaml_round_content.specs.Loading.{end_of, placed_events, tree_events,
 use Rattle.yaml_round_content.proofs.Documents.{directives, directives_read, right_behind}
 use Rattle.yaml_round_content.proofs.Placing.{ReadsAs, both, node_reads, maybe_reads}
 
-document_read : (implicit : Bool) (from to : yaml_mark_t) (left : ℕ) (gs : List Given) (f : Option Fault) (D : Directives)
-    → ReadsAs (λ es. spanning (event.document_start D.version D.tags implicit) from to ∷ es) (reading ((item_at (item.document implicit) from to, left) ∷ gs) f D) (reading gs f D)
+document_read : (implicit : Bool) (from to : yaml_mark_t) (left : ℕ) (gs : List Given)
+    (f : Option Fault) (D : Directives)
+    → ReadsAs (λ es. spanning (event.document_start D.version D.tags implicit) from to ∷ es)
+    (reading ((item_at (item.document implicit) from to, left) ∷ gs) f D) (reading gs f D)
 unfolding reading
 document_read implicit from to left gs f D = record { right = λ e. e; reads = λ e. refl }
 
-more_ends : (ends : List Span) (rest : List Token) (gs : List Given) (f : Option Fault) (D : Directives)
-    → ReadsAs (λ es. spanning (event.document_end (ends_implicitly ends)) (ends_at ends rest).start_mark (ends_at ends rest).end_mark ∷ es) (reading (items_ends ends rest gs) f D) (reading gs f no_directives)
+more_ends : (ends : List Span) (rest : List Token) (gs : List Given) (f : Option Fault)
+    (D : Directives)
+    → ReadsAs (λ es. spanning (event.document_end (ends_implicitly ends))
+    (ends_at ends rest).start_mark (ends_at ends rest).end_mark ∷ es)
+    (reading (items_ends ends rest gs) f D) (reading gs f no_directives)
 unfolding reading
 more_ends [] rest gs f D = record { right = λ e. e; reads = λ e. refl }
 more_ends (s ∷ ends) rest gs f D = record { right = λ e. e; reads = λ e. refl }
 
-documents_read : (d : Documents) (rest : List Token) → (reading (items_documents d rest) None no_directives).ending ≡ None → events_told (reading (items_documents d rest) None no_directives).events ≡ placed_events (placed_documents d rest) (end_of d)
+documents_read : (d : Documents) (rest : List Token)
+    → (reading (items_documents d rest) None no_directives).ending ≡ None
+    → events_told (reading (items_documents d rest) None no_directives).events
+    ≡ placed_events (placed_documents d rest) (end_of d)
 unfolding reading
 documents_read (tree.end_stream s) rest e = refl
 documents_read (tree.document ds s root ends more) rest e =
@@ -47,8 +55,12 @@ documents_read (tree.document ds s root ends more) rest e =
     ∙ ap (λ (es : List Event). spanning (event.document_start (version_in ds) (tags_in ds) false) (tree.start_of ds s) s.to ∷ events (placed_maybe (tags_in ds) root Root s.to (spell_ends ends (spell_documents more rest)))
     (spanning (event.document_end (ends_implicitly ends)) (ends_at ends (spell_documents more rest)).start_mark (ends_at ends (spell_documents more rest)).end_mark ∷ es)) (documents_read more rest (c.right k))
 
-first_read : (x : First) (d : Documents) (rest : List Token) → (reading (items_first x (spell_documents d rest) (items_documents d rest)) None no_directives).ending ≡ None
-    → events_told (reading (items_first x (spell_documents d rest) (items_documents d rest)) None no_directives).events ≡ placed_events (placed_first x (spell_documents d rest) (placed_documents d rest)) (end_of d)
+first_read : (x : First) (d : Documents) (rest : List Token)
+    → (reading (items_first x (spell_documents d rest) (items_documents d rest)) None
+    no_directives).ending ≡ None
+    → events_told (reading (items_first x (spell_documents d rest) (items_documents d rest)) None
+    no_directives).events ≡ placed_events
+    (placed_first x (spell_documents d rest) (placed_documents d rest)) (end_of d)
 first_read tree.no_first d rest e = documents_read d rest e
 first_read (tree.first n ends) d rest e =
     let at : yaml_mark_t = next (spell_node n (spell_ends ends (spell_documents d rest))) in
@@ -61,6 +73,8 @@ first_read (tree.first n ends) d rest e =
     (spanning (event.document_end (ends_implicitly ends)) (ends_at ends (spell_documents d rest)).start_mark (ends_at ends (spell_documents d rest)).end_mark ∷ es)) (documents_read d rest (c.right e))
 
 -- The events of a tree in order.
-pub tree_reads : (t : Stream) (rest : List Token) → (reading (items t rest) None no_directives).ending ≡ None → events_told (reading (items t rest) None no_directives).events ≡ tree_events t rest
+pub tree_reads : (t : Stream) (rest : List Token)
+    → (reading (items t rest) None no_directives).ending ≡ None
+    → events_told (reading (items t rest) None no_directives).events ≡ tree_events t rest
 unfolding reading
 tree_reads t rest e = ap (λ (es : List Event). spanning (event.stream_start t.encoding) t.start.from t.start.to ∷ es) (first_read t.first t.documents rest e)

@@ -32,34 +32,43 @@ twice (key_due ∷ ds) = refl
 twice (value_due ∷ ds) = refl
 
 -- behind a node stands what is expected below
-behind : (s : List State) → shape_of s ≡ inside (dues s) → inside (behind_node (behind_node (dues s))) ≡ shape_of s
+behind : (s : List State) → shape_of s ≡ inside (dues s)
+    → inside (behind_node (behind_node (dues s))) ≡ shape_of s
 behind s e = ap inside (twice (dues s)) ∙ sym e
 
-opens_items : (s : List State) → inside (item_due ∷ behind_node (behind_node (dues s))) ≡ inside (item_due ∷ dues s)
+opens_items : (s : List State)
+    → inside (item_due ∷ behind_node (behind_node (dues s))) ≡ inside (item_due ∷ dues s)
 opens_items s = ap (λ ds. inside (item_due ∷ ds)) (twice (dues s))
 
-opens_pairs : (s : List State) → inside (key_due ∷ behind_node (behind_node (dues s))) ≡ inside (key_due ∷ dues s)
+opens_pairs : (s : List State)
+    → inside (key_due ∷ behind_node (behind_node (dues s))) ≡ inside (key_due ∷ dues s)
 opens_pairs s = ap (λ ds. inside (key_due ∷ ds)) (twice (dues s))
 
 -- what is refused isn't taken
 refused_untaken : (p : ParseProblem) (o : Option yaml_mark_t) → Refuse p o ≡ Take → ⊥
 refused_untaken p o h = cc
 
-stream_leads : (start end : yaml_mark_t) (b : TokenBody) (s : List State) → choice_at state.stream (type_of b) ≡ Take → AreRight (state.stream ∷ s)
-    → Leads (shape_of (state.stream ∷ s)) (stream_taken start end b).item ((stream_taken start end b).above ++ s)
+stream_leads : (start end : yaml_mark_t) (b : TokenBody) (s : List State)
+    → choice_at state.stream (type_of b) ≡ Take → AreRight (state.stream ∷ s)
+    → Leads (shape_of (state.stream ∷ s)) (stream_taken start end b).item
+    ((stream_taken start end b).above ++ s)
 stream_leads start end (token.stream_start e) s c h = (refl, (refl, h))
 stream_leads start end _ s c h = absurd (refused_untaken problem.NoStreamStart None c)
 
-documents_lead : (from start end : yaml_mark_t) (b : TokenBody) (s : List State) → AreRight (state.documents ∷ s)
-    → Leads (at_place between) (documents_taken from start end b).item ((documents_taken from start end b).above ++ s)
+documents_lead : (from start end : yaml_mark_t) (b : TokenBody) (s : List State)
+    → AreRight (state.documents ∷ s)
+    → Leads (at_place between) (documents_taken from start end b).item
+    ((documents_taken from start end b).above ++ s)
 documents_lead from start end (token.version_directive x y) s h = (tt, (refl, h))
 documents_lead from start end (token.tag_directive x y) s h = (tt, (refl, h))
 documents_lead from start end token.document_start s h = (refl, (refl, (refl, (ap (λ (z : List State). state.documents ∷ z) h.0, h))))
 documents_lead from start end token.stream_end s h = (refl, (sym (ap shape_of h.0), h.1))
 documents_lead from start end _ s h = (refl, h)
 
-content_leads : (w : Wants) (p : Option Properties) (start end : yaml_mark_t) (b : TokenBody) (s : List State) → shape_of s ≡ inside (dues s) → AreRight s
-    → Leads (node_shape s) (content_taken w p start end b).item ((content_taken w p start end b).above ++ s)
+content_leads : (w : Wants) (p : Option Properties) (start end : yaml_mark_t) (b : TokenBody)
+    (s : List State) → shape_of s ≡ inside (dues s) → AreRight s
+    → Leads (node_shape s) (content_taken w p start end b).item
+    ((content_taken w p start end b).above ++ s)
 content_leads w None start end (token.scalar v x) s e r = (refl, (behind s e, r))
 content_leads w (Some q) start end (token.scalar v x) s e r = (refl, (behind s e, r))
 content_leads w None start end token.flow_sequence_start s e r = (refl, (opens_items s, (e, r)))
@@ -76,27 +85,34 @@ content_leads (Block None) q start end token.block_entry s e r = (refl, (e, r))
 content_leads Flow q start end token.block_entry s e r = (refl, (e, r))
 content_leads w q start end _ s e r = (refl, (e, r))
 
-node_leads : (w : Wants) (start end : yaml_mark_t) (b : TokenBody) (s : List State) → shape_of s ≡ inside (dues s) → AreRight s
+node_leads : (w : Wants) (start end : yaml_mark_t) (b : TokenBody) (s : List State)
+    → shape_of s ≡ inside (dues s) → AreRight s
     → Leads (node_shape s) (node_taken w start end b).item ((node_taken w start end b).above ++ s)
 node_leads w start end (token.alias n) s e r = (refl, (behind s e, r))
 node_leads w start end (token.anchor n) s e r = (refl, (e, r))
 node_leads w start end (token.tag x y) s e r = (refl, (e, r))
 node_leads w start end b s e r = content_leads w None start end b s e r
 
-with_properties_leads : (w : Wants) (p : Properties) (start end : yaml_mark_t) (b : TokenBody) (s : List State) → shape_of s ≡ inside (dues s) → AreRight s
-    → Leads (node_shape s) (with_properties_taken w p start end b).item ((with_properties_taken w p start end b).above ++ s)
+with_properties_leads : (w : Wants) (p : Properties) (start end : yaml_mark_t) (b : TokenBody)
+    (s : List State) → shape_of s ≡ inside (dues s) → AreRight s
+    → Leads (node_shape s) (with_properties_taken w p start end b).item
+    ((with_properties_taken w p start end b).above ++ s)
 with_properties_leads w p start end (token.anchor n) s e r = (refl, (e, r))
 with_properties_leads w p start end (token.tag x y) s e r = (refl, (e, r))
 with_properties_leads w p start end b s e r = content_leads w (Some p) start end b s e r
 
 -- a node inside brackets, with the states that stand below it from then on
-part_leads : (start end : yaml_mark_t) (b : TokenBody) (ys s : List State) → shape_of (ys ++ s) ≡ inside (dues (ys ++ s)) → AreRight (ys ++ s)
-    → Leads (node_shape (ys ++ s)) (node_taken Flow start end b).item (((node_taken Flow start end b).above ++ ys) ++ s)
+part_leads : (start end : yaml_mark_t) (b : TokenBody) (ys s : List State)
+    → shape_of (ys ++ s) ≡ inside (dues (ys ++ s)) → AreRight (ys ++ s)
+    → Leads (node_shape (ys ++ s)) (node_taken Flow start end b).item
+    (((node_taken Flow start end b).above ++ ys) ++ s)
 part_leads start end b ys s e r =
     subst (Leads (node_shape (ys ++ s)) (node_taken Flow start end b).item) (sym (append_assoc (node_taken Flow start end b).above ys s)) (node_leads Flow start end b (ys ++ s) e r)
 
-items_lead : (b : Brackets) (o start end : yaml_mark_t) (x : TokenBody) (s : List State) → AreRight (state.items b o ∷ s)
-    → Leads (shape_of (state.items b o ∷ s)) (items_taken b o start end x).item ((items_taken b o start end x).above ++ s)
+items_lead : (b : Brackets) (o start end : yaml_mark_t) (x : TokenBody) (s : List State)
+    → AreRight (state.items b o ∷ s)
+    → Leads (shape_of (state.items b o ∷ s)) (items_taken b o start end x).item
+    ((items_taken b o start end x).above ++ s)
 items_lead brackets.Sequence o start end token.key s h = (refl, (refl, (refl, (refl, (refl, h)))))
 items_lead brackets.Mapping o start end token.key s h = (refl, (refl, (refl, h)))
 items_lead brackets.Sequence o start end token.flow_sequence_end s h = ((refl, refl), (sym h.0, h.1))
@@ -106,24 +122,31 @@ items_lead brackets.Mapping o start end token.flow_mapping_end s h = ((refl, ref
 items_lead brackets.Sequence o start end x s h = part_leads start end x (state.more brackets.Sequence o ∷ []) s refl h
 items_lead brackets.Mapping o start end x s h = part_leads start end x (state.lone ∷ state.more brackets.Mapping o ∷ []) s refl (refl, h)
 
-more_leads : (b : Brackets) (o start end : yaml_mark_t) (x : TokenBody) (s : List State) → AreRight (state.more b o ∷ s)
-    → Leads (shape_of (state.more b o ∷ s)) (more_taken b o start end x).item ((more_taken b o start end x).above ++ s)
+more_leads : (b : Brackets) (o start end : yaml_mark_t) (x : TokenBody) (s : List State)
+    → AreRight (state.more b o ∷ s)
+    → Leads (shape_of (state.more b o ∷ s)) (more_taken b o start end x).item
+    ((more_taken b o start end x).above ++ s)
 more_leads brackets.Sequence o start end token.flow_entry s h = (refl, h)
 more_leads brackets.Mapping o start end token.flow_entry s h = (refl, h)
 more_leads brackets.Sequence o start end _ s h = ((refl, refl), (sym h.0, h.1))
 more_leads brackets.Mapping o start end _ s h = ((refl, refl), (sym h.0, h.1))
 
-entries_lead : (o start end : yaml_mark_t) (x : TokenBody) (s : List State) → AreRight (state.entries o ∷ s)
-    → Leads (shape_of (state.entries o ∷ s)) (entries_taken o start end x).item ((entries_taken o start end x).above ++ s)
+entries_lead : (o start end : yaml_mark_t) (x : TokenBody) (s : List State)
+    → AreRight (state.entries o ∷ s)
+    → Leads (shape_of (state.entries o ∷ s)) (entries_taken o start end x).item
+    ((entries_taken o start end x).above ++ s)
 entries_lead o start end token.block_entry s h = (refl, (refl, h))
 entries_lead o start end _ s h = ((refl, refl), (sym h.0, h.1))
 
-pairs_lead : (o start end : yaml_mark_t) (x : TokenBody) (s : List State) → AreRight (state.pairs o ∷ s)
-    → Leads (shape_of (state.pairs o ∷ s)) (pairs_taken o start end x).item ((pairs_taken o start end x).above ++ s)
+pairs_lead : (o start end : yaml_mark_t) (x : TokenBody) (s : List State)
+    → AreRight (state.pairs o ∷ s)
+    → Leads (shape_of (state.pairs o ∷ s)) (pairs_taken o start end x).item
+    ((pairs_taken o start end x).above ++ s)
 pairs_lead o start end token.key s h = (refl, (refl, (refl, h)))
 pairs_lead o start end _ s h = ((refl, refl), (sym h.0, h.1))
 
-taken_leads : (x : State) (t : Token) (s : List State) → choice_at x (type_of t.body) ≡ Take → AreRight (x ∷ s) → Leads (shape_of (x ∷ s)) (taken_at x t).item ((taken_at x t).above ++ s)
+taken_leads : (x : State) (t : Token) (s : List State) → choice_at x (type_of t.body) ≡ Take
+    → AreRight (x ∷ s) → Leads (shape_of (x ∷ s)) (taken_at x t).item ((taken_at x t).above ++ s)
 taken_leads state.stream t s c h = stream_leads t.start_mark t.end_mark t.body s c h
 taken_leads state.first t s c h = documents_lead t.start_mark t.start_mark t.end_mark t.body s h
 taken_leads state.documents t s c h = documents_lead t.start_mark t.start_mark t.end_mark t.body s h
@@ -142,16 +165,19 @@ taken_leads state.lone t s c h = cc
 
 -- ---- leaving a state
 
-not_left : (a : Bool) (p : ParseProblem) (o : Option yaml_mark_t) → (if a then Take else Refuse p o) ≡ Leave → ⊥
+not_left : (a : Bool) (p : ParseProblem) (o : Option yaml_mark_t)
+    → (if a then Take else Refuse p o) ≡ Leave → ⊥
 not_left true p o h = cc
 not_left false p o h = cc
 
-not_left_first : (a b : Bool) (p : ParseProblem) → (if a then Take else if b then Open else Refuse p None) ≡ Leave → ⊥
+not_left_first : (a b : Bool) (p : ParseProblem)
+    → (if a then Take else if b then Open else Refuse p None) ≡ Leave → ⊥
 not_left_first true b p h = cc
 not_left_first false true p h = cc
 not_left_first false false p h = cc
 
-left_leads : (x : State) (k : yaml_token_type_t) (start : yaml_mark_t) (s : List State) → choice_at x k ≡ Leave → AreRight (x ∷ s) → Leads (shape_of (x ∷ s)) (Some (left_at x start)) s
+left_leads : (x : State) (k : yaml_token_type_t) (start : yaml_mark_t) (s : List State)
+    → choice_at x k ≡ Leave → AreRight (x ∷ s) → Leads (shape_of (x ∷ s)) (Some (left_at x start)) s
 left_leads state.stream kind.YAML_STREAM_START_TOKEN start s c h = cc
 left_leads state.stream _ start s c h = cc
 left_leads state.first k start s c h = absurd (not_left_first (parts_documents k) (starts_node (Block None) k) problem.NoBlockNode c)
@@ -179,7 +205,8 @@ left_leads state.pair_end k start s c h = ((refl, refl), (sym h.0, h.1))
 
 -- ---- an implicit document
 
-not_opened : (b : Bool) (p : ParseProblem) (o : Option yaml_mark_t) → (if b then Take else Refuse p o) ≡ Open → ⊥
+not_opened : (b : Bool) (p : ParseProblem) (o : Option yaml_mark_t)
+    → (if b then Take else Refuse p o) ≡ Open → ⊥
 not_opened true p o h = cc
 not_opened false p o h = cc
 
@@ -187,13 +214,15 @@ not_opened_with_properties : (b : Bool) → (if b then Take else Leave) ≡ Open
 not_opened_with_properties true h = cc
 not_opened_with_properties false h = cc
 
-not_opened_optional : (a b : Bool) (p : ParseProblem) → (if a then Leave else if b then Take else Refuse p None) ≡ Open → ⊥
+not_opened_optional : (a b : Bool) (p : ParseProblem)
+    → (if a then Leave else if b then Take else Refuse p None) ≡ Open → ⊥
 not_opened_optional true b p h = cc
 not_opened_optional false true p h = cc
 not_opened_optional false false p h = cc
 
 -- it opens where documents may come
-opens_between : (x : State) (k : yaml_token_type_t) (s : List State) → choice_at x k ≡ Open → AreRight (x ∷ s) → (shape_of (x ∷ s) ≡ at_place between) × (s ≡ [])
+opens_between : (x : State) (k : yaml_token_type_t) (s : List State) → choice_at x k ≡ Open
+    → AreRight (x ∷ s) → (shape_of (x ∷ s) ≡ at_place between) × (s ≡ [])
 opens_between state.stream kind.YAML_STREAM_START_TOKEN s c h = cc
 opens_between state.stream _ s c h = cc
 opens_between state.first k s c h = (refl, h.0)
@@ -235,16 +264,20 @@ abbrev pub FedLeads : Progress → Fed → Type 0
 FedLeads h (stop is f) = AllPlaced h is
 FedLeads h (go is s) = AllPlaced h is × ((moved_all h is ≡ shape_of s) × AreRight s)
 
-with_leads : (h : Progress) (i : RawEvent) (below : Fed) → IsPlaced h i.body → FedLeads (moved h i.body) below → FedLeads h (with_item i below)
+with_leads : (h : Progress) (i : RawEvent) (below : Fed) → IsPlaced h i.body
+    → FedLeads (moved h i.body) below → FedLeads h (with_item i below)
 with_leads h i (stop is f) p q = (p, q)
 with_leads h i (go is s) p q = ((p, q.0), q.1)
 
-given_leads : (h : Progress) (i : Option RawEvent) (above s : List State) → Leads h i (above ++ s) → FedLeads h (given_by (record { item = i; above = above }) s)
+given_leads : (h : Progress) (i : Option RawEvent) (above s : List State) → Leads h i (above ++ s)
+    → FedLeads h (given_by (record { item = i; above = above }) s)
 given_leads h None above s l = (tt, l)
 given_leads h (Some i) above s l = ((l.0, tt), l.1)
 
 -- the first token of an implicit document
-root_leads : (t : Token) (s : List State) → s ≡ [] → FedLeads (at_place at.Node) (given_by (taken_at (state.optional Root t.start_mark) t) (state.document_end ∷ state.documents ∷ s))
+root_leads : (t : Token) (s : List State) → s ≡ []
+    → FedLeads (at_place at.Node) (given_by (taken_at (state.optional Root t.start_mark) t)
+    (state.document_end ∷ state.documents ∷ s))
 root_leads t s e =
     given_leads (at_place at.Node) (taken_at (state.optional Root t.start_mark) t).item (taken_at (state.optional Root t.start_mark) t).above (state.document_end ∷ state.documents ∷ s)
     (node_leads (Block None) t.start_mark t.end_mark t.body (state.document_end ∷ state.documents ∷ s) refl (ap (λ (z : List State). state.documents ∷ z) e, (e, alone s e)))
@@ -252,7 +285,9 @@ root_leads t s e =
     alone : (s : List State) → s ≡ [] → AreRight s
     alone s e = subst AreRight (sym e) tt
 
-turn_leads : (c : Choice) (x : State) (t : Token) (s : List State) (below : Fed) → choice_at x (type_of t.body) ≡ c → AreRight (x ∷ s) → FedLeads (shape_of s) below → FedLeads (shape_of (x ∷ s)) (turn c x t s below)
+turn_leads : (c : Choice) (x : State) (t : Token) (s : List State) (below : Fed)
+    → choice_at x (type_of t.body) ≡ c → AreRight (x ∷ s) → FedLeads (shape_of s) below
+    → FedLeads (shape_of (x ∷ s)) (turn c x t s below)
 turn_leads (Refuse p o) x t s below c h k = tt
 turn_leads Take x t s below c h k = given_leads (shape_of (x ∷ s)) (taken_at x t).item (taken_at x t).above s (taken_leads x t s c h)
 turn_leads Leave x t s below c h k =

@@ -32,23 +32,30 @@ abbrev pub GivenSpelled : List Given → Type 0
 GivenSpelled [] = Unit {0}
 GivenSpelled (g ∷ gs) = IsSpelledItem g.0.body × GivenSpelled gs
 
-with_placed : (left : ℕ) (h : Progress) (is : List RawEvent) (more : List Given) → AllPlaced h is → GivenPlaced (moved_all h is) more → GivenPlaced h (map (λ (i : RawEvent). (i, left)) is ++ more)
+with_placed : (left : ℕ) (h : Progress) (is : List RawEvent) (more : List Given) → AllPlaced h is
+    → GivenPlaced (moved_all h is) more
+    → GivenPlaced h (map (λ (i : RawEvent). (i, left)) is ++ more)
 with_placed left h [] more p q = q
 with_placed left h (i ∷ is) more p q = (p.0, with_placed left (moved h i.body) is more p.1 q)
 
-with_moved : (left : ℕ) (h : Progress) (is : List RawEvent) (more : List Given) → moved_given h (map (λ (i : RawEvent). (i, left)) is ++ more) ≡ moved_given (moved_all h is) more
+with_moved : (left : ℕ) (h : Progress) (is : List RawEvent) (more : List Given)
+    → moved_given h (map (λ (i : RawEvent). (i, left)) is ++ more)
+    ≡ moved_given (moved_all h is) more
 with_moved left h [] more = refl
 with_moved left h (i ∷ is) more = with_moved left (moved h i.body) is more
 
-alone_placed : (left : ℕ) (h : Progress) (is : List RawEvent) → AllPlaced h is → GivenPlaced h (map (λ (i : RawEvent). (i, left)) is)
+alone_placed : (left : ℕ) (h : Progress) (is : List RawEvent) → AllPlaced h is
+    → GivenPlaced h (map (λ (i : RawEvent). (i, left)) is)
 alone_placed left h [] p = tt
 alone_placed left h (i ∷ is) p = (p.0, alone_placed left (moved h i.body) is p.1)
 
-with_items : (left : ℕ) (is : List RawEvent) (more : List Given) → AllSpelled is → GivenSpelled more → GivenSpelled (map (λ (i : RawEvent). (i, left)) is ++ more)
+with_items : (left : ℕ) (is : List RawEvent) (more : List Given) → AllSpelled is → GivenSpelled more
+    → GivenSpelled (map (λ (i : RawEvent). (i, left)) is ++ more)
 with_items left [] more p q = q
 with_items left (i ∷ is) more p q = (p.0, with_items left is more p.1 q)
 
-alone_items : (left : ℕ) (is : List RawEvent) → AllSpelled is → GivenSpelled (map (λ (i : RawEvent). (i, left)) is)
+alone_items : (left : ℕ) (is : List RawEvent) → AllSpelled is
+    → GivenSpelled (map (λ (i : RawEvent). (i, left)) is)
 alone_items left [] p = tt
 alone_items left (i ∷ is) p = (p.0, alone_items left is p.1)
 
@@ -61,7 +68,8 @@ Ends h o = GivenPlaced h o.items × (o.ending ≡ None → moved_given h o.items
 ended : (f : Fault) → Some f ≡ None → ⊥
 ended f d = cc
 
-carried_places : (left : ℕ) (fed : Fed) (k : List State → Outcome) (h : Progress) → FedLeads h fed → ((s : List State) → AreRight s → Ends (shape_of s) (k s)) → Ends h (carry left fed k)
+carried_places : (left : ℕ) (fed : Fed) (k : List State → Outcome) (h : Progress) → FedLeads h fed
+    → ((s : List State) → AreRight s → Ends (shape_of s) (k s)) → Ends h (carry left fed k)
 carried_places left (stop is f) k h l r = (alone_placed left h is l, λ d. absurd (ended f d))
 carried_places left (go is s) k h l r =
     let there : Ends (shape_of s) (k s) = r s l.1.1 in (
@@ -78,7 +86,8 @@ emptied_with : (i : RawEvent) (below : Fed) → Emptied below → Emptied (with_
 emptied_with i (stop is f) h = tt
 emptied_with i (go is s) h = h
 
-turn_empties : (c : Choice) (x : State) (t : Token) (s : List State) (below : Fed) → (c ≡ Take → ⊥) → (c ≡ Open → ⊥) → Emptied below → Emptied (turn c x t s below)
+turn_empties : (c : Choice) (x : State) (t : Token) (s : List State) (below : Fed) → (c ≡ Take → ⊥)
+    → (c ≡ Open → ⊥) → Emptied below → Emptied (turn c x t s below)
 turn_empties (Refuse p o) x t s below a b h = tt
 turn_empties Take x t s below a b h = absurd (a refl)
 turn_empties Leave x t s below a b h = emptied_with (left_at x t.start_mark) below h
@@ -95,12 +104,14 @@ unfolding feed
 emptied [] = refl
 emptied (x ∷ s) = turn_empties (choice_at x kind.YAML_NO_TOKEN) x no_token s (feed s no_token) (takes_a_token x) (opens_a_token x) (emptied s)
 
-last_places : (fed : Fed) (h : Progress) → FedLeads h fed → Emptied fed → Ends h (carry 0 fed (λ _. finished))
+last_places : (fed : Fed) (h : Progress) → FedLeads h fed → Emptied fed
+    → Ends h (carry 0 fed (λ _. finished))
 last_places (stop is f) h l e = (alone_placed 0 h is l, λ d. absurd (ended f d))
 last_places (go is s) h l e =
     (with_placed 0 h is [] l.0 tt, λ d. with_moved 0 h is [] ∙ (l.1.0 ∙ ap shape_of e))
 
-run_places : (ts : List Token) (s : List State) (f : Option Fault) → AreRight s → Ends (shape_of s) (run ts s f)
+run_places : (ts : List Token) (s : List State) (f : Option Fault) → AreRight s
+    → Ends (shape_of s) (run ts s f)
 unfolding run
 run_places [] [] (Some e) r = (tt, λ _. refl)
 run_places [] (x ∷ s) (Some e) r = (tt, λ d. absurd (ended e d))
@@ -112,16 +123,20 @@ stream_places ts f = run_places ts initial f (refl, tt)
 
 -- ---- how the items are spelled
 
-carried_spelled : (left : ℕ) (fed : Fed) (k : List State → Outcome) → IsFed fed → ((s : List State) → AreSpelledStates s → GivenSpelled (k s).items) → GivenSpelled (carry left fed k).items
+carried_spelled : (left : ℕ) (fed : Fed) (k : List State → Outcome) → IsFed fed
+    → ((s : List State) → AreSpelledStates s → GivenSpelled (k s).items)
+    → GivenSpelled (carry left fed k).items
 carried_spelled left (stop is f) k h r = alone_items left is h
 carried_spelled left (go is s) k h r = with_items left is (k s).items h.0 (r s h.1)
 
-run_spelled : (ts : List Token) (s : List State) (f : Option Fault) → AreSpelled ts → AreSpelledStates s → GivenSpelled (run ts s f).items
+run_spelled : (ts : List Token) (s : List State) (f : Option Fault) → AreSpelled ts
+    → AreSpelledStates s → GivenSpelled (run ts s f).items
 unfolding run
 run_spelled [] [] (Some e) a h = tt
 run_spelled [] (x ∷ s) (Some e) a h = tt
 run_spelled [] s None a h = carried_spelled 0 (feed s no_token) (λ _. finished) (feed_spelled s no_token tt h) (λ s' h'. tt)
 run_spelled (t ∷ ts) s f a h = carried_spelled (length ts) (feed s t) (λ s'. run ts s' f) (feed_spelled s t a.0 h) (λ s' h'. run_spelled ts s' f a.1 h')
 
-pub stream_spelled : (ts : List Token) (f : Option Fault) → AreSpelled ts → GivenSpelled (run ts initial f).items
+pub stream_spelled : (ts : List Token) (f : Option Fault) → AreSpelled ts
+    → GivenSpelled (run ts initial f).items
 stream_spelled ts f a = run_spelled ts initial f a (tt, tt)

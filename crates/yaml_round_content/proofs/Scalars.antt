@@ -48,8 +48,10 @@ empty_right tag e =
     marked : bytes_eq tag (codes "!") ≡ true → is_lone_mark (Some tag) [] ≡ true
     marked h = rw ((bytes_eq-Decides tag (codes "!")).0 h) mark_alone
 
-tagged_right : (t : Bool) (anchor : Option (List ℕ)) (tag value : List ℕ) (style : yaml_scalar_style_t) → bytes_eq tag (codes "!") ≡ t
-    → IsRight (if t then event.scalar anchor None value true false style else event.scalar anchor (Some tag) value false false style)
+tagged_right : (t : Bool) (anchor : Option (List ℕ)) (tag value : List ℕ)
+    (style : yaml_scalar_style_t) → bytes_eq tag (codes "!") ≡ t
+    → IsRight (if t then event.scalar anchor None value true false style else event.scalar anchor
+    (Some tag) value false false style)
 tagged_right true anchor tag value style e = refl
 tagged_right false anchor tag value style e = λ _. e
 
@@ -72,19 +74,23 @@ SettlesRight (refused f) = Unit {0}
 SettlesRight (gave b ds) = IsRight b
 SettlesRight (noted ds) = Unit {0}
 
-resolved_right : (o anchor : Option (List ℕ)) (k : Shape) (from start : yaml_mark_t) (ds : Directives) → SettlesRight (with_resolved o anchor k from start ds)
+resolved_right : (o anchor : Option (List ℕ)) (k : Shape) (from start : yaml_mark_t)
+    (ds : Directives) → SettlesRight (with_resolved o anchor k from start ds)
 resolved_right None anchor k from start ds = tt
 resolved_right (Some tag) anchor k from start ds = node_right anchor (Some tag) k
 
-known_right : (known : Bool) (ds : Directives) (f : Fault) → SettlesRight (if known then noted ds else refused f)
+known_right : (known : Bool) (ds : Directives) (f : Fault)
+    → SettlesRight (if known then noted ds else refused f)
 known_right true ds f = tt
 known_right false ds f = tt
 
-version_right : (o : Option yaml_version_directive_t) (tags : List TagDirective) (x y : ℤ) (from : yaml_mark_t) → SettlesRight (with_version o tags x y from)
+version_right : (o : Option yaml_version_directive_t) (tags : List TagDirective) (x y : ℤ)
+    (from : yaml_mark_t) → SettlesRight (with_version o tags x y from)
 version_right (Some v) tags x y from = tt
 version_right None tags x y from = known_right (is_known_version x y) _ _
 
-handle_right : (o : Option (List ℕ)) (ds : Directives) (handle prefix : List ℕ) (from : yaml_mark_t) → SettlesRight (with_tag o ds handle prefix from)
+handle_right : (o : Option (List ℕ)) (ds : Directives) (handle prefix : List ℕ) (from : yaml_mark_t)
+    → SettlesRight (with_tag o ds handle prefix from)
 handle_right (Some other) ds handle prefix from = tt
 handle_right None ds handle prefix from = tt
 
@@ -92,7 +98,8 @@ whole_right : (b : EventBody) → IsWhole b → IsRight b
 whole_right (event.scalar anchor tag value plain quoted style) h = absurd h
 whole_right _ h = tt
 
-settled_right : (b : RawEventBody) (from : yaml_mark_t) (ds : Directives) → IsSpelledItem b → SettlesRight (settle_body b from ds)
+settled_right : (b : RawEventBody) (from : yaml_mark_t) (ds : Directives) → IsSpelledItem b
+    → SettlesRight (settle_body b from ds)
 settled_right (item.event body) from ds h = whole_right body h
 settled_right (item.version_directive x y) from ds h = version_right ds.version ds.tags x y from
 settled_right (item.tag_directive handle prefix) from ds h = handle_right (directive_for handle ds.tags) ds handle prefix from
@@ -106,12 +113,14 @@ abbrev pub AreRight : List Told → Type 0
 AreRight [] = Unit {0}
 AreRight (t ∷ ts) = IsRight t.0.body × AreRight ts
 
-on_right : (c : Settled) (g : Given) (k : Directives → Reading) → SettlesRight c → ((ds : Directives) → AreRight (k ds).events) → AreRight (read_on c g.0 g.1 k).events
+on_right : (c : Settled) (g : Given) (k : Directives → Reading) → SettlesRight c
+    → ((ds : Directives) → AreRight (k ds).events) → AreRight (read_on c g.0 g.1 k).events
 on_right (refused f) g k h more = tt
 on_right (gave b ds) g k h more = (h, more ds)
 on_right (noted ds) g k h more = more ds
 
-reading_right : (gs : List Given) (f : Option Fault) (ds : Directives) → GivenSpelled gs → AreRight (reading gs f ds).events
+reading_right : (gs : List Given) (f : Option Fault) (ds : Directives) → GivenSpelled gs
+    → AreRight (reading gs f ds).events
 unfolding reading
 reading_right [] f ds h = tt
 reading_right (g ∷ gs) f ds h = on_right (settle g.0 ds) g (λ ds'. reading gs f ds') (settled_right g.0.body g.0.from ds h.0) (λ ds'. reading_right gs f ds' h.1)

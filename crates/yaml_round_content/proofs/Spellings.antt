@@ -64,18 +64,22 @@ abbrev AreProperties : Option Properties → Type 0
 AreProperties None = Unit {0}
 AreProperties (Some p) = IsNamed p.anchor × IsTagged p.tag
 
-stream_spelled : (start end : yaml_mark_t) (b : TokenBody) → IsTaken (stream_taken start end b).item (stream_taken start end b).above
+stream_spelled : (start end : yaml_mark_t) (b : TokenBody)
+    → IsTaken (stream_taken start end b).item (stream_taken start end b).above
 stream_spelled start end (token.stream_start e) = (tt, (tt, tt))
 stream_spelled start end _ = (tt, tt)
 
-documents_spelled : (from start end : yaml_mark_t) (b : TokenBody) → IsSpelled b → IsTaken (documents_taken from start end b).item (documents_taken from start end b).above
+documents_spelled : (from start end : yaml_mark_t) (b : TokenBody) → IsSpelled b
+    → IsTaken (documents_taken from start end b).item (documents_taken from start end b).above
 documents_spelled from start end (token.version_directive x y) h = (tt, (tt, tt))
 documents_spelled from start end (token.tag_directive x y) h = (h, (tt, tt))
 documents_spelled from start end token.document_start h = (tt, (tt, (tt, (tt, tt))))
 documents_spelled from start end token.stream_end h = (tt, tt)
 documents_spelled from start end _ h = (tt, tt)
 
-content_spelled : (w : Wants) (p : Option Properties) (start end : yaml_mark_t) (b : TokenBody) → AreProperties p → IsTaken (content_taken w p start end b).item (content_taken w p start end b).above
+content_spelled : (w : Wants) (p : Option Properties) (start end : yaml_mark_t) (b : TokenBody)
+    → AreProperties p
+    → IsTaken (content_taken w p start end b).item (content_taken w p start end b).above
 content_spelled w None start end (token.scalar v s) p = ((tt, tt), tt)
 content_spelled w (Some q) start end (token.scalar v s) p = (p, tt)
 content_spelled w None start end token.flow_sequence_start p = ((tt, tt), (tt, tt))
@@ -92,31 +96,38 @@ content_spelled (Block None) q start end token.block_entry p = (tt, tt)
 content_spelled Flow q start end token.block_entry p = (tt, tt)
 content_spelled w q start end _ p = (tt, tt)
 
-node_spelled : (w : Wants) (start end : yaml_mark_t) (b : TokenBody) → IsSpelled b → IsTaken (node_taken w start end b).item (node_taken w start end b).above
+node_spelled : (w : Wants) (start end : yaml_mark_t) (b : TokenBody) → IsSpelled b
+    → IsTaken (node_taken w start end b).item (node_taken w start end b).above
 node_spelled w start end (token.alias n) h = (h, tt)
 node_spelled w start end (token.anchor n) h = ((h, tt), tt)
 node_spelled w start end (token.tag x y) h = ((tt, h.1), tt)
 node_spelled w start end b h = content_spelled w None start end b tt
 
-with_properties_spelled : (w : Wants) (p : Properties) (start end : yaml_mark_t) (b : TokenBody) → AreProperties (Some p) → IsSpelled b
-    → IsTaken (with_properties_taken w p start end b).item (with_properties_taken w p start end b).above
+with_properties_spelled : (w : Wants) (p : Properties) (start end : yaml_mark_t) (b : TokenBody)
+    → AreProperties (Some p) → IsSpelled b
+    → IsTaken (with_properties_taken w p start end b).item
+    (with_properties_taken w p start end b).above
 with_properties_spelled w p start end (token.anchor n) q h = ((h, q.1), tt)
 with_properties_spelled w p start end (token.tag x y) q h = ((q.0, h.1), tt)
 with_properties_spelled w p start end b q h = content_spelled w (Some p) start end b q
 
-states_over : (xs ys : List State) → AreSpelledStates xs → AreSpelledStates ys → AreSpelledStates (xs ++ ys)
+states_over : (xs ys : List State) → AreSpelledStates xs → AreSpelledStates ys
+    → AreSpelledStates (xs ++ ys)
 states_over [] ys h k = k
 states_over (x ∷ xs) ys h k = (h.0, states_over xs ys h.1 k)
 
-taken_over : (i : Option RawEvent) (xs ys : List State) → IsTaken i xs → AreSpelledStates ys → IsTaken i (xs ++ ys)
+taken_over : (i : Option RawEvent) (xs ys : List State) → IsTaken i xs → AreSpelledStates ys
+    → IsTaken i (xs ++ ys)
 taken_over None xs ys h k = states_over xs ys h k
 taken_over (Some i) xs ys h k = (h.0, states_over xs ys h.1 k)
 
-lone_spelled : (b : Brackets) (o : yaml_mark_t) → AreSpelledStates (lone_below b (state.more b o ∷ []))
+lone_spelled : (b : Brackets) (o : yaml_mark_t)
+    → AreSpelledStates (lone_below b (state.more b o ∷ []))
 lone_spelled brackets.Sequence o = (tt, tt)
 lone_spelled brackets.Mapping o = (tt, (tt, tt))
 
-items_spelled : (b : Brackets) (o start end : yaml_mark_t) (x : TokenBody) → IsSpelled x → IsTaken (items_taken b o start end x).item (items_taken b o start end x).above
+items_spelled : (b : Brackets) (o start end : yaml_mark_t) (x : TokenBody) → IsSpelled x
+    → IsTaken (items_taken b o start end x).item (items_taken b o start end x).above
 items_spelled brackets.Sequence o start end token.key h = ((tt, tt), (tt, (tt, (tt, (tt, tt)))))
 items_spelled brackets.Mapping o start end token.key h = (tt, (tt, (tt, tt)))
 items_spelled brackets.Sequence o start end token.flow_sequence_end h = (tt, tt)
@@ -126,20 +137,24 @@ items_spelled brackets.Mapping o start end token.flow_mapping_end h = (tt, tt)
 items_spelled b o start end x h =
     taken_over (node_taken Flow start end x).item (node_taken Flow start end x).above (lone_below b (state.more b o ∷ [])) (node_spelled Flow start end x h) (lone_spelled b o)
 
-more_spelled : (b : Brackets) (o start end : yaml_mark_t) (x : TokenBody) → IsTaken (more_taken b o start end x).item (more_taken b o start end x).above
+more_spelled : (b : Brackets) (o start end : yaml_mark_t) (x : TokenBody)
+    → IsTaken (more_taken b o start end x).item (more_taken b o start end x).above
 more_spelled b o start end token.flow_entry = (tt, tt)
 more_spelled brackets.Sequence o start end _ = (tt, tt)
 more_spelled brackets.Mapping o start end _ = (tt, tt)
 
-entries_spelled : (o start end : yaml_mark_t) (x : TokenBody) → IsTaken (entries_taken o start end x).item (entries_taken o start end x).above
+entries_spelled : (o start end : yaml_mark_t) (x : TokenBody)
+    → IsTaken (entries_taken o start end x).item (entries_taken o start end x).above
 entries_spelled o start end token.block_entry = (tt, (tt, tt))
 entries_spelled o start end _ = (tt, tt)
 
-pairs_spelled : (o start end : yaml_mark_t) (x : TokenBody) → IsTaken (pairs_taken o start end x).item (pairs_taken o start end x).above
+pairs_spelled : (o start end : yaml_mark_t) (x : TokenBody)
+    → IsTaken (pairs_taken o start end x).item (pairs_taken o start end x).above
 pairs_spelled o start end token.key = (tt, (tt, (tt, tt)))
 pairs_spelled o start end _ = (tt, tt)
 
-taken_spelled : (x : State) (t : Token) → IsSpelledState x → IsSpelled t.body → IsTaken (taken_at x t).item (taken_at x t).above
+taken_spelled : (x : State) (t : Token) → IsSpelledState x → IsSpelled t.body
+    → IsTaken (taken_at x t).item (taken_at x t).above
 taken_spelled state.stream t p h = stream_spelled t.start_mark t.end_mark t.body
 taken_spelled state.first t p h = documents_spelled t.start_mark t.start_mark t.end_mark t.body h
 taken_spelled state.documents t p h = documents_spelled t.start_mark t.start_mark t.end_mark t.body h
@@ -158,7 +173,8 @@ taken_spelled state.lone t p h = (tt, tt)
 
 -- ---- leaving a state
 
-left_spelled : (x : State) (start : yaml_mark_t) → IsSpelledState x → IsSpelledItem (left_at x start).body
+left_spelled : (x : State) (start : yaml_mark_t) → IsSpelledState x
+    → IsSpelledItem (left_at x start).body
 left_spelled state.stream start h = (tt, tt)
 left_spelled (state.optional place before) start h = (tt, tt)
 left_spelled state.document_end start h = tt
@@ -177,15 +193,18 @@ abbrev pub IsFed : Fed → Type 0
 IsFed (stop is f) = AllSpelled is
 IsFed (go is s) = AllSpelled is × AreSpelledStates s
 
-with_spelled : (i : RawEvent) (below : Fed) → IsSpelledItem i.body → IsFed below → IsFed (with_item i below)
+with_spelled : (i : RawEvent) (below : Fed) → IsSpelledItem i.body → IsFed below
+    → IsFed (with_item i below)
 with_spelled i (stop is f) h k = (h, k)
 with_spelled i (go is s) h k = ((h, k.0), k.1)
 
-given_spelled : (i : Option RawEvent) (above s : List State) → IsTaken i above → AreSpelledStates s → IsFed (given_by (record { item = i; above = above }) s)
+given_spelled : (i : Option RawEvent) (above s : List State) → IsTaken i above → AreSpelledStates s
+    → IsFed (given_by (record { item = i; above = above }) s)
 given_spelled None above s h k = (tt, states_over above s h k)
 given_spelled (Some i) above s h k = ((h.0, tt), states_over above s h.1 k)
 
-turn_spelled : (c : Choice) (x : State) (t : Token) (s : List State) (below : Fed) → IsSpelled t.body → AreSpelledStates (x ∷ s) → IsFed below → IsFed (turn c x t s below)
+turn_spelled : (c : Choice) (x : State) (t : Token) (s : List State) (below : Fed)
+    → IsSpelled t.body → AreSpelledStates (x ∷ s) → IsFed below → IsFed (turn c x t s below)
 turn_spelled (Refuse p o) x t s below b h k = tt
 turn_spelled Take x t s below b h k = given_spelled (taken_at x t).item (taken_at x t).above s (taken_spelled x t h.0 b) h.1
 turn_spelled Leave x t s below b h k = with_spelled (left_at x t.start_mark) below (left_spelled x t.start_mark h.0) k
@@ -194,7 +213,8 @@ turn_spelled Open x t s below b h k =
     with_spelled (item_at (item.document true) t.start_mark t.start_mark) (given_by (taken_at start t) (state.document_end ∷ state.documents ∷ s)) tt
     (given_spelled (taken_at start t).item (taken_at start t).above (state.document_end ∷ state.documents ∷ s) (taken_spelled start t tt b) (tt, (tt, h.1)))
 
-pub feed_spelled : (s : List State) (t : Token) → IsSpelled t.body → AreSpelledStates s → IsFed (feed s t)
+pub feed_spelled : (s : List State) (t : Token) → IsSpelled t.body → AreSpelledStates s
+    → IsFed (feed s t)
 unfolding feed
 feed_spelled [] t b h = (tt, tt)
 feed_spelled (x ∷ s) t b h = turn_spelled (choice_at x (type_of t.body)) x t s (feed s t) b h (feed_spelled s t b h.1)

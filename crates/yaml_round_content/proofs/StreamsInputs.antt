@@ -23,7 +23,8 @@ use Rattle.yaml_round_content.proofs.Whole.{parsed_is_right}
 
 -- ---- its tokens
 
-cut_spelled : (fault : Option Fault) (ts : List Token) → AreSpelled ts → AreSpelled (cut fault ts).tokens
+cut_spelled : (fault : Option Fault) (ts : List Token) → AreSpelled ts
+    → AreSpelled (cut fault ts).tokens
 cut_spelled fault [] h = tt
 cut_spelled fault (t ∷ ts) h =
     elim (cases_Bool (spells_text t.body)) [
@@ -31,13 +32,16 @@ cut_spelled fault (t ∷ ts) h =
       | inr e ↦ rw e tt
     ]
 
-adapted_spelled : (from : yaml_encoding_t) (input : List ℕ) → AreSpelled (adapted (scanned from input)).tokens
+adapted_spelled : (from : yaml_encoding_t) (input : List ℕ)
+    → AreSpelled (adapted (scanned from input)).tokens
 adapted_spelled from input = cut_spelled (scanned from input).fault (scanned from input).tokens (scanned_spelled from input)
 
 -- ---- its events
 
-input_right : (normalize : EventBody → EventBody) → IsNormalizing normalize → (from : yaml_encoding_t) (input : List ℕ) (canonical : Bool)
-    → IsRightReading canonical (emitter_events_by normalize (parsed_input from input).events) (parsed_input from input).ending
+input_right : (normalize : EventBody → EventBody) → IsNormalizing normalize
+    → (from : yaml_encoding_t) (input : List ℕ) (canonical : Bool)
+    → IsRightReading canonical (emitter_events_by normalize (parsed_input from input).events)
+    (parsed_input from input).ending
 input_right normalize e from input canonical = parsed_is_right normalize e (adapted (scanned from input)).tokens (adapted_spelled from input) (adapted (scanned from input)).fault canonical
 
 pub inputs_are_streams : InputsAreStreams
@@ -50,7 +54,8 @@ inputs_are_fronts normalize e from input canonical = fronts canonical (emitter_e
 
 -- ---- as a loader takes them
 
-told_right : (ts : List Told) → own_problems true (emitter_events_by (λ (b : EventBody). b) ts) ≡ None → AreRightTold ts
+told_right : (ts : List Told)
+    → own_problems true (emitter_events_by (λ (b : EventBody). b) ts) ≡ None → AreRightTold ts
 unfolding own_problems
 told_right [] h = tt
 told_right (t ∷ ts) h =

@@ -51,7 +51,8 @@ raw_of gs = map (λ (g : Given). g.0) gs
 abbrev IsBare : Reading → Bare → Type 0
 IsBare r q = (events_in r.events ≡ q.events) × (r.ending ≡ q.ending)
 
-on_bare : (s : Settled) (i : RawEvent) (n : ℕ) (k : Directives → Reading) (q : Directives → Bare) → ((d : Directives) → IsBare (k d) (q d)) → IsBare (read_on s i n k) (bare_on s i q)
+on_bare : (s : Settled) (i : RawEvent) (n : ℕ) (k : Directives → Reading) (q : Directives → Bare)
+    → ((d : Directives) → IsBare (k d) (q d)) → IsBare (read_on s i n k) (bare_on s i q)
 on_bare (refused f) i n k q h = (refl, refl)
 on_bare (gave body ds) i n k q h = (ap (λ (es : List Event). placed body i ∷ es) (h ds).0, (h ds).1)
 on_bare (noted ds) i n k q h = h ds
@@ -86,16 +87,21 @@ abbrev AreInner : List RawEvent → Type 0
 AreInner [] = Unit {0}
 AreInner (i ∷ is) = IsInner i.body × AreInner is
 
-resolved_passes : (o : Option (List ℕ)) (full : List ℕ) (anchor : Option (List ℕ)) (shape : Shape) (from at : yaml_mark_t) (i : RawEvent) (D : Directives) (k : Directives → Bare)
-    → ((x : List ℕ) → o ≡ Some x → x ≡ full) → Passes (placed (node_event anchor (Some full) shape) i ∷ []) (bare_on (with_resolved o anchor shape from at D) i k) (k D)
+resolved_passes : (o : Option (List ℕ)) (full : List ℕ) (anchor : Option (List ℕ)) (shape : Shape)
+    (from at : yaml_mark_t) (i : RawEvent) (D : Directives) (k : Directives → Bare)
+    → ((x : List ℕ) → o ≡ Some x → x ≡ full)
+    → Passes (placed (node_event anchor (Some full) shape) i ∷ [])
+    (bare_on (with_resolved o anchor shape from at D) i k) (k D)
 resolved_passes None full anchor shape from at i D k h = record { right = λ e. absurd (not_none _ e); says = λ e. absurd (not_none _ e) }
 resolved_passes (Some x) full anchor shape from at i D k h = record {
   right = λ e. e;
   says = λ e. ap (λ (z : List ℕ). placed (node_event anchor (Some z) shape) i ∷ (k D).events) (h x refl);
 }
 
-item_passes : (body : RawEventBody) (i : RawEvent) (D : Directives) (k : Directives → Bare) → IsInner body
-    → Passes (map (λ (b : EventBody). placed b i) (said_under D.version D.tags body)) (bare_on (settle_body body i.from D) i k) (k D)
+item_passes : (body : RawEventBody) (i : RawEvent) (D : Directives) (k : Directives → Bare)
+    → IsInner body
+    → Passes (map (λ (b : EventBody). placed b i) (said_under D.version D.tags body))
+    (bare_on (settle_body body i.from D) i k) (k D)
 item_passes (item.event body) i D k h = record {
   right = λ e. subst (λ (d : Directives). (k d).ending ≡ None) (h D) e;
   says = λ e. ap (λ (d : Directives). placed body i ∷ (k d).events) (h D);
@@ -107,7 +113,8 @@ item_passes (item.node anchor None shape) i D k h = record { right = λ e. e; sa
 item_passes (item.node anchor (Some tag) shape) i D k h =
     resolved_passes (resolved D.tags tag.handle tag.suffix) (in_full D.tags tag.handle tag.suffix) anchor shape i.from tag.mark i D k (λ x e. full_is D.tags tag.handle tag.suffix x e)
 
-inner_passes : (is more : List RawEvent) (D : Directives) → AreInner is → Passes (told_under D.version D.tags is) (bare (is ++ more) D) (bare more D)
+inner_passes : (is more : List RawEvent) (D : Directives) → AreInner is
+    → Passes (told_under D.version D.tags is) (bare (is ++ more) D) (bare more D)
 unfolding bare
 inner_passes [] more D h = record { right = λ e. e; says = λ e. refl }
 inner_passes (i ∷ is) more D (h, hs) =
@@ -116,7 +123,8 @@ inner_passes (i ∷ is) more D (h, hs) =
 
 -- a document's end: nothing carries over
 ends_pass : (ends : List Span) (next : yaml_mark_t) (more : List RawEvent) (D : Directives)
-    → Passes (told_under D.version D.tags (ends_events ends next)) (bare (ends_events ends next ++ more) D) (bare more no_directives)
+    → Passes (told_under D.version D.tags (ends_events ends next))
+    (bare (ends_events ends next ++ more) D) (bare more no_directives)
 unfolding bare
 ends_pass [] next more D = record { right = λ e. e; says = λ e. refl }
 ends_pass (s ∷ ends) next more D = record { right = λ e. e; says = λ e. refl }
@@ -127,7 +135,8 @@ inner_more : (is js : List RawEvent) → AreInner is → AreInner js → AreInne
 inner_more [] js a b = b
 inner_more (i ∷ is) js (h, hs) b = (h, inner_more is js hs b)
 
-start_inner : (p : Option Properties) (shape : Shape) (from to : yaml_mark_t) → IsInner (item.node_at p shape from to).body
+start_inner : (p : Option Properties) (shape : Shape) (from to : yaml_mark_t)
+    → IsInner (item.node_at p shape from to).body
 start_inner None shape from to = tt
 start_inner (Some p) shape from to = tt
 
@@ -154,7 +163,8 @@ mutual
   node_inner (tree.with_properties d c) next = content_inner c (Some (tree.properties_of d)) next
   node_inner (tree.bare c) next = content_inner c None next
 
-  content_inner : {w : Wants} (c : tree.Content w) (p : Option Properties) (next : yaml_mark_t) → AreInner (content_events c p next)
+  content_inner : {w : Wants} (c : tree.Content w) (p : Option Properties) (next : yaml_mark_t)
+      → AreInner (content_events c p next)
   content_inner (tree.scalar s value style) p next = (start_inner p _ s.from s.to, tt)
   content_inner (tree.flow b s items) p next = (start_inner p _ s.from s.to, items_inner b items)
   content_inner (tree.block_sequence s entries) p next = (start_inner p _ s.from s.to, entries_inner entries)
@@ -162,11 +172,13 @@ mutual
   content_inner (tree.indentless s n others) p next =
       (start_inner p _ s.from s.to, inner_more (maybe_events n _ s.to _) (others_events _ others next) (maybe_inner n _ s.to _) (others_inner _ others next))
 
-  maybe_inner : {w : Wants} (n : tree.Maybe w) (place : Site) (before next : yaml_mark_t) → AreInner (maybe_events n place before next)
+  maybe_inner : {w : Wants} (n : tree.Maybe w) (place : Site) (before next : yaml_mark_t)
+      → AreInner (maybe_events n place before next)
   maybe_inner tree.left_out place before next = (tt, tt)
   maybe_inner (tree.there n) place before next = node_inner n next
 
-  colon_inner : {w : Wants} (v : tree.Colon w) (place : Site) (next : yaml_mark_t) → AreInner (colon_events v place next)
+  colon_inner : {w : Wants} (v : tree.Colon w) (place : Site) (next : yaml_mark_t)
+      → AreInner (colon_events v place next)
   colon_inner tree.no_colon place next = (tt, tt)
   colon_inner (tree.colon s n) place next = maybe_inner n place s.to next
 
@@ -188,7 +200,8 @@ mutual
   entries_inner (tree.end_entries s) = (λ ds. refl, tt)
   entries_inner (tree.entry s n entries) = inner_more (maybe_events n _ s.to _) (entries_events entries) (maybe_inner n _ s.to _) (entries_inner entries)
 
-  others_inner : (side : Side) (o : tree.Others) (next : yaml_mark_t) → AreInner (others_events side o next)
+  others_inner : (side : Side) (o : tree.Others) (next : yaml_mark_t)
+      → AreInner (others_events side o next)
   others_inner side tree.no_others next = (λ ds. refl, tt)
   others_inner side (tree.other s n others) next = inner_more (maybe_events n _ s.to _) (others_events side others next) (maybe_inner n _ s.to _) (others_inner side others next)
 
@@ -208,12 +221,15 @@ unfolding numbered
 unnumbered [] = refl
 unnumbered (i ∷ is) = ap (λ (js : List RawEvent). i ∷ js) (unnumbered is)
 
-directives_raw : (ds : List Directive) (gs : List Given) → raw_of (items_directives ds [] gs) ≡ directives_events ds ++ raw_of gs
+directives_raw : (ds : List Directive) (gs : List Given)
+    → raw_of (items_directives ds [] gs) ≡ directives_events ds ++ raw_of gs
 directives_raw [] gs = refl
 directives_raw (tree.version s major minor ∷ ds) gs = ap (λ (js : List RawEvent). item_at (item.version_directive major minor) s.from s.to ∷ js) (directives_raw ds gs)
 directives_raw (tree.handle s name prefix ∷ ds) gs = ap (λ (js : List RawEvent). item_at (item.tag_directive name prefix) s.from s.to ∷ js) (directives_raw ds gs)
 
-directives_pass : (ds : List Directive) (more : List RawEvent) → Passes [] (bare (directives_events ds ++ more) no_directives) (bare more (directives (version_in ds) (tags_in ds)))
+directives_pass : (ds : List Directive) (more : List RawEvent)
+    → Passes [] (bare (directives_events ds ++ more) no_directives)
+    (bare more (directives (version_in ds) (tags_in ds)))
 directives_pass ds more =
     let gs : List Given = numbered more in
     let all : List Given = items_directives ds [] gs in
@@ -231,19 +247,23 @@ directives_pass ds more =
 regrouped : (a b c d e : List RawEvent) → (((a ++ b) ++ c) ++ d) ++ e ≡ a ++ ((b ++ (c ++ d)) ++ e)
 regrouped a b c d e = simp append_assoc
 
-told_apart : (v : Option yaml_version_directive_t) (ds : List TagDirective) (is js : List RawEvent) → told_under v ds (is ++ js) ≡ told_under v ds is ++ told_under v ds js
+told_apart : (v : Option yaml_version_directive_t) (ds : List TagDirective) (is js : List RawEvent)
+    → told_under v ds (is ++ js) ≡ told_under v ds is ++ told_under v ds js
 told_apart v ds is js = flat_map-append (λ (i : RawEvent). map (λ (b : EventBody). placed b i) (said_under v ds i.body)) is js
 
 -- a document's start, node and end
-whole_passes : (D : Directives) (is : List RawEvent) (ends : List Span) (next : yaml_mark_t) (more : List RawEvent) → AreInner is
-    → Passes (told_under D.version D.tags (is ++ ends_events ends next)) (bare ((is ++ ends_events ends next) ++ more) D) (bare more no_directives)
+whole_passes : (D : Directives) (is : List RawEvent) (ends : List Span) (next : yaml_mark_t)
+    (more : List RawEvent) → AreInner is
+    → Passes (told_under D.version D.tags (is ++ ends_events ends next))
+    (bare ((is ++ ends_events ends next) ++ more) D) (bare more no_directives)
 whole_passes D is ends next more h =
     let both = joined (told_under D.version D.tags is) (told_under D.version D.tags (ends_events ends next)) (bare (is ++ (ends_events ends next ++ more)) D) (bare (ends_events ends next ++ more) D) (bare more no_directives)
     (inner_passes is (ends_events ends next ++ more) D h) (ends_pass ends next more D) in
     subst (λ (es : List Event). Passes es (bare ((is ++ ends_events ends next) ++ more) D) (bare more no_directives)) (sym (told_apart D.version D.tags is (ends_events ends next)))
     (subst (λ (js : List RawEvent). Passes (told_under D.version D.tags is ++ told_under D.version D.tags (ends_events ends next)) (bare js D) (bare more no_directives)) (sym (append_assoc is (ends_events ends next) more)) both)
 
-documents_pass : (d : Documents) → (bare (documents_events d) no_directives).ending ≡ None → (bare (documents_events d) no_directives).events ≡ documents_told d
+documents_pass : (d : Documents) → (bare (documents_events d) no_directives).ending ≡ None
+    → (bare (documents_events d) no_directives).events ≡ documents_told d
 unfolding bare
 documents_pass (tree.end_stream s) e = refl
 documents_pass (tree.document ds s root ends more) e =
@@ -260,12 +280,15 @@ documents_pass (tree.document ds s root ends more) e =
     ap (λ (js : List RawEvent). (bare js no_directives).events) same ∙ told.says k
     ∙ ap (λ (es : List Event). told_under (version_in ds) (tags_in ds) ((start ∷ node) ++ close) ++ es) (documents_pass more (told.right k))
 
-first_passes : (x : First) (next : yaml_mark_t) (more : List RawEvent) → Passes (told_under None [] (first_events x next)) (bare (first_events x next ++ more) no_directives) (bare more no_directives)
+first_passes : (x : First) (next : yaml_mark_t) (more : List RawEvent)
+    → Passes (told_under None [] (first_events x next))
+    (bare (first_events x next ++ more) no_directives) (bare more no_directives)
 first_passes tree.no_first next more = record { right = λ e. e; says = λ e. refl }
 first_passes (tree.first n ends) next more =
     whole_passes no_directives (item_at (item.document true) (node_start n) (node_start n) ∷ node_events n (ends_start ends next)) ends next more (tt, node_inner n _)
 
-stream_passes : (t : Stream) → (bare (tree_events t) no_directives).ending ≡ None → (bare (tree_events t) no_directives).events ≡ stream_told t
+stream_passes : (t : Stream) → (bare (tree_events t) no_directives).ending ≡ None
+    → (bare (tree_events t) no_directives).events ≡ stream_told t
 unfolding bare
 stream_passes t e =
     let first : List RawEvent = first_events t.first (documents_start t.documents) in

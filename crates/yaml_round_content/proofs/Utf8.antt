@@ -31,15 +31,19 @@ abbrev IsUtf8Fed : Fed → Type 0
 IsUtf8Fed (stop is f) = AllUtf8 is
 IsUtf8Fed (go is s) = AllUtf8 is × AreUtf8States s
 
-with_utf8 : (i : RawEvent) (below : Fed) → IsUtf8Item i.body → IsUtf8Fed below → IsUtf8Fed (with_item i below)
+with_utf8 : (i : RawEvent) (below : Fed) → IsUtf8Item i.body → IsUtf8Fed below
+    → IsUtf8Fed (with_item i below)
 with_utf8 i (stop is f) h k = (h, k)
 with_utf8 i (go is s) h k = ((h, k.0), k.1)
 
-given_utf8 : (i : Option RawEvent) (above s : List State) → IsUtf8Taken i above → AreUtf8States s → IsUtf8Fed (given_by (record { item = i; above = above }) s)
+given_utf8 : (i : Option RawEvent) (above s : List State) → IsUtf8Taken i above → AreUtf8States s
+    → IsUtf8Fed (given_by (record { item = i; above = above }) s)
 given_utf8 None above s h k = (tt, states_over above s h k)
 given_utf8 (Some i) above s h k = ((h.0, tt), states_over above s h.1 k)
 
-turn_utf8 : (c : Choice) (x : State) (t : Token) (s : List State) (below : Fed) → source.HasUtf8 t.body → AreUtf8States (x ∷ s) → IsUtf8Fed below → IsUtf8Fed (turn c x t s below)
+turn_utf8 : (c : Choice) (x : State) (t : Token) (s : List State) (below : Fed)
+    → source.HasUtf8 t.body → AreUtf8States (x ∷ s) → IsUtf8Fed below
+    → IsUtf8Fed (turn c x t s below)
 turn_utf8 (Refuse p o) x t s below b h k = tt
 turn_utf8 Take x t s below b h k = given_utf8 (taken_at x t).item (taken_at x t).above s (taken_utf8 x t h.0 b) h.1
 turn_utf8 Leave x t s below b h k = with_utf8 (left_at x t.start_mark) below (left_utf8 x t.start_mark h.0) k
@@ -48,7 +52,8 @@ turn_utf8 Open x t s below b h k =
     with_utf8 (item_at (item.document true) t.start_mark t.start_mark) (given_by (taken_at start t) (state.document_end ∷ state.documents ∷ s)) tt
     (given_utf8 (taken_at start t).item (taken_at start t).above (state.document_end ∷ state.documents ∷ s) (taken_utf8 start t tt b) (tt, (tt, h.1)))
 
-feed_utf8 : (s : List State) (t : Token) → source.HasUtf8 t.body → AreUtf8States s → IsUtf8Fed (feed s t)
+feed_utf8 : (s : List State) (t : Token) → source.HasUtf8 t.body → AreUtf8States s
+    → IsUtf8Fed (feed s t)
 unfolding feed
 feed_utf8 [] t b h = (tt, tt)
 feed_utf8 (x ∷ s) t b h = turn_utf8 (choice_at x (type_of t.body)) x t s (feed s t) b h (feed_utf8 s t b h.1)
@@ -59,22 +64,27 @@ abbrev GivenUtf8 : List Given → Type 0
 GivenUtf8 [] = Unit {0}
 GivenUtf8 (g ∷ gs) = IsUtf8Item g.0.body × GivenUtf8 gs
 
-with_items : (left : ℕ) (is : List RawEvent) (more : List Given) → AllUtf8 is → GivenUtf8 more → GivenUtf8 (map (λ (i : RawEvent). (i, left)) is ++ more)
+with_items : (left : ℕ) (is : List RawEvent) (more : List Given) → AllUtf8 is → GivenUtf8 more
+    → GivenUtf8 (map (λ (i : RawEvent). (i, left)) is ++ more)
 with_items left [] more p q = q
 with_items left (i ∷ is) more p q = (p.0, with_items left is more p.1 q)
 
-alone_items : (left : ℕ) (is : List RawEvent) → AllUtf8 is → GivenUtf8 (map (λ (i : RawEvent). (i, left)) is)
+alone_items : (left : ℕ) (is : List RawEvent) → AllUtf8 is
+    → GivenUtf8 (map (λ (i : RawEvent). (i, left)) is)
 alone_items left [] p = tt
 alone_items left (i ∷ is) p = (p.0, alone_items left is p.1)
 
-carried_utf8 : (left : ℕ) (fed : Fed) (k : List State → Outcome) → IsUtf8Fed fed → ((s : List State) → AreUtf8States s → GivenUtf8 (k s).items) → GivenUtf8 (carry left fed k).items
+carried_utf8 : (left : ℕ) (fed : Fed) (k : List State → Outcome) → IsUtf8Fed fed
+    → ((s : List State) → AreUtf8States s → GivenUtf8 (k s).items)
+    → GivenUtf8 (carry left fed k).items
 carried_utf8 left (stop is f) k h r = alone_items left is h
 carried_utf8 left (go is s) k h r = with_items left is (k s).items h.0 (r s h.1)
 
 abbrev AreUtf8Tokens : List Token → Type 0
 AreUtf8Tokens ts = All (λ (t : Token). source.HasUtf8 t.body) ts
 
-run_utf8 : (ts : List Token) (s : List State) (f : Option Fault) → AreUtf8Tokens ts → AreUtf8States s → GivenUtf8 (run ts s f).items
+run_utf8 : (ts : List Token) (s : List State) (f : Option Fault) → AreUtf8Tokens ts
+    → AreUtf8States s → GivenUtf8 (run ts s f).items
 unfolding run
 run_utf8 [] [] (Some e) a h = tt
 run_utf8 [] (x ∷ s) (Some e) a h = tt
@@ -85,12 +95,15 @@ run_utf8 (t ∷ ts) s f a h =
 
 -- ---- events
 
-on_utf8 : (c : Settled) (g : Given) (k : Directives → Reading) → IsUtf8Settled c → ((ds : Directives) → AreUtf8 ds.tags → HaveUtf8Texts (k ds).events) → HaveUtf8Texts (read_on c g.0 g.1 k).events
+on_utf8 : (c : Settled) (g : Given) (k : Directives → Reading) → IsUtf8Settled c
+    → ((ds : Directives) → AreUtf8 ds.tags → HaveUtf8Texts (k ds).events)
+    → HaveUtf8Texts (read_on c g.0 g.1 k).events
 on_utf8 (refused f) g k h more = tt
 on_utf8 (gave b ds) g k h more = (h.0, more ds h.1)
 on_utf8 (noted ds) g k h more = more ds h
 
-reading_utf8 : (gs : List Given) (f : Option Fault) (ds : Directives) → GivenUtf8 gs → AreUtf8 ds.tags → HaveUtf8Texts (reading gs f ds).events
+reading_utf8 : (gs : List Given) (f : Option Fault) (ds : Directives) → GivenUtf8 gs
+    → AreUtf8 ds.tags → HaveUtf8Texts (reading gs f ds).events
 unfolding reading
 reading_utf8 [] f ds h d = tt
 reading_utf8 (g ∷ gs) f ds h d = on_utf8 (settle g.0 ds) g (λ ds'. reading gs f ds') (settled_utf8 g.0.body g.0.from ds h.0 d) (λ ds' d'. reading_utf8 gs f ds' h.1 d')

@@ -42,7 +42,8 @@ length_bare ns = sym (length-map ns core_node) ∙ sym (length-map (map core_nod
 
 -- ---- nodes by their numbers
 
-got_body : (ns : List model.Node) (k : ℕ) → body_at (slice_get (bare ns) k) ≡ core_body (body_at (slice_get ns k))
+got_body : (ns : List model.Node) (k : ℕ)
+    → body_at (slice_get (bare ns) k) ≡ core_body (body_at (slice_get ns k))
 got_body [] k = refl
 got_body (n ∷ ns) zero = refl
 got_body (n ∷ ns) (suc k) = got_body ns k
@@ -67,7 +68,8 @@ bare_tag ns (negsuc k) = refl
 abbrev Visit : Type 0
 Visit = ℤ → Rest → Rest
 
-inside_bare : (v : Visit) (id : ℤ) (b : model.NodeBody) (r : Rest) (m : Met) → inside v id b r m ≡ inside v id (core_body b) r m
+inside_bare : (v : Visit) (id : ℤ) (b : model.NodeBody) (r : Rest) (m : Met)
+    → inside v id b r m ≡ inside v id (core_body b) r m
 inside_bare v id model.no r m = refl
 inside_bare v id (model.scalar value style) r m = refl
 inside_bare v id (model.sequence items style) r m = refl
@@ -105,23 +107,27 @@ record SameNodes (r s : emit.Nodes → Met → emit.Node) : Type 0 where
   goes : (v w : emit.Nodes) (m : Met) → trees_of v ≡ trees_of w → tree_of (r v m) ≡ tree_of (s w m)
 
 record SamePairs (r s : emit.Pairs → Met → emit.Node) : Type 0 where
-  goes : (v w : emit.Pairs) (m : Met) → pair_trees_of v ≡ pair_trees_of w → tree_of (r v m) ≡ tree_of (s w m)
+  goes : (v w : emit.Pairs) (m : Met) → pair_trees_of v ≡ pair_trees_of w
+      → tree_of (r v m) ≡ tree_of (s w m)
 
 abbrev Making : Type 0
 Making = ℤ → (emit.Node → Met → emit.Node) → Met → emit.Node
 
 record SameMaking (u v : Making) : Type 0 where
-  goes : (id : ℤ) (r s : emit.Node → Met → emit.Node) (m : Met) → SameNode r s → tree_of (u id r m) ≡ tree_of (v id s m)
+  goes : (id : ℤ) (r s : emit.Node → Met → emit.Node) (m : Met) → SameNode r s
+      → tree_of (u id r m) ≡ tree_of (v id s m)
 
 module _ (u v : Making) (same : SameMaking u v) where
-  items_same : (ids : List ℤ) (r s : emit.Nodes → Met → emit.Node) (m : Met) → SameNodes r s → tree_of (items_by u ids r m) ≡ tree_of (items_by v ids s m)
+  items_same : (ids : List ℤ) (r s : emit.Nodes → Met → emit.Node) (m : Met) → SameNodes r s
+      → tree_of (items_by u ids r m) ≡ tree_of (items_by v ids s m)
   unfolding items_by
   items_same [] r s m h = h.goes emit.no_nodes emit.no_nodes m refl
   items_same (id ∷ ids) r s m h = same.goes id _ _ m record {
     goes = λ x y n e. items_same ids _ _ n record { goes = λ xs ys o g. h.goes (emit.node x xs) (emit.node y ys) o (ap (λ (t : Node). node t (trees_of xs)) e ∙ ap (λ (t : Nodes). node (tree_of y) t) g) };
   }
 
-  pairs_same : (ps : List yaml_node_pair_t) (r s : emit.Pairs → Met → emit.Node) (m : Met) → SamePairs r s → tree_of (pairs_by u ps r m) ≡ tree_of (pairs_by v ps s m)
+  pairs_same : (ps : List yaml_node_pair_t) (r s : emit.Pairs → Met → emit.Node) (m : Met)
+      → SamePairs r s → tree_of (pairs_by u ps r m) ≡ tree_of (pairs_by v ps s m)
   unfolding pairs_by
   pairs_same [] r s m h = h.goes emit.no_pairs emit.no_pairs m refl
   pairs_same (p ∷ ps) r s m h = same.goes p.key _ _ m record {
@@ -133,18 +139,21 @@ module _ (u v : Making) (same : SameMaking u v) where
     };
   }
 
-  made_same : (anchor : Option (List ℕ)) (tag : List ℕ) (b : model.NodeBody) (r s : emit.Node → Met → emit.Node) (m : Met) → SameNode r s
+  made_same : (anchor : Option (List ℕ)) (tag : List ℕ) (b : model.NodeBody)
+      (r s : emit.Node → Met → emit.Node) (m : Met) → SameNode r s
       → tree_of (node_by u anchor tag b r m) ≡ tree_of (node_by v anchor tag (core_body b) s m)
   made_same anchor tag model.no r s m h = h.goes _ _ m refl
   made_same anchor tag (model.scalar value style) r s m h = h.goes _ _ m refl
   made_same anchor tag (model.sequence items style) r s m h = items_same items _ _ m record { goes = λ x y n e. h.goes _ _ n (ap (λ (t : Nodes). sequence anchor (Some tag) t) e) }
   made_same anchor tag (model.mapping pairs style) r s m h = pairs_same pairs _ _ m record { goes = λ x y n e. h.goes _ _ n (ap (λ (t : Pairs). mapping anchor (Some tag) t) e) }
 
-either_same : (b : Bool) (x y z w : emit.Node) → tree_of x ≡ tree_of z → tree_of y ≡ tree_of w → tree_of (if b then x else y) ≡ tree_of (if b then z else w)
+either_same : (b : Bool) (x y z w : emit.Node) → tree_of x ≡ tree_of z → tree_of y ≡ tree_of w
+    → tree_of (if b then x else y) ≡ tree_of (if b then z else w)
 either_same true x y z w e f = e
 either_same false x y z w e f = f
 
-making_same : (n : ℕ) (table : List ℕ) (ns : List model.Node) → SameMaking (content_by n table ns) (content_by n table (bare ns))
+making_same : (n : ℕ) (table : List ℕ) (ns : List model.Node)
+    → SameMaking (content_by n table ns) (content_by n table (bare ns))
 unfolding content_by
 making_same zero table ns = record { goes = λ id r s m h. h.goes _ _ m refl }
 making_same (suc n) table ns = record {
@@ -173,7 +182,8 @@ said_of c = document_tree (graph_content (dressed c))
 said_same : (d : documents.Document) → document_tree (graph_content d) ≡ said_of (core_of d)
 said_same d = ap (λ (n : Node). let e : Document = record { version = d.version; directives = d.directives; root = n } in e) (root_same d.nodes)
 
-all_said : (ds : List documents.Document) → document_trees (map graph_content ds) ≡ map said_of (map core_of ds)
+all_said : (ds : List documents.Document)
+    → document_trees (map graph_content ds) ≡ map said_of (map core_of ds)
 all_said [] = refl
 all_said (d ∷ ds) = ap (λ (e : Document). e ∷ document_trees (map graph_content ds)) (said_same d) ∙ ap (λ (es : List Document). said_of (core_of d) ∷ es) (all_said ds)
 

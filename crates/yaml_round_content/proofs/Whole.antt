@@ -17,16 +17,20 @@ use Rattle.yaml_round_content.proofs.Emitted.{plain, plain_same, not_end, or_non
 use Rattle.yaml_round_content.proofs.Settling.{PlacedSettled, OwnSettled, AreDirectives, none_right, settled_placed, settled_own}
 
 -- None of the events is refused; where no fault ends them, none has ended the items either, and they lead to that shape.
-abbrev Passes : (EventBody → EventBody) → Bool → Progress → Option Fault → Progress → Reading → Type 0
+abbrev Passes : (EventBody → EventBody) → Bool → Progress → Option Fault → Progress → Reading
+    → Type 0
 Passes normalize canonical h f to r =
     (first_refusal canonical h (emitter_events_by normalize r.events) ≡ None) × (r.ending ≡ None → (f ≡ None) × (plain (progress_behind h (emitter_events_by normalize r.events)) ≡ to))
 
 ended : (f : Fault) → Some f ≡ None → ⊥
 ended f e = cc
 
-on_passes : (normalize : EventBody → EventBody) → IsNormalizing normalize → (canonical : Bool) (h : Progress) (f : Option Fault) (to : Progress) (c : Settled) (g : Given) (k : Directives → Reading)
+on_passes : (normalize : EventBody → EventBody) → IsNormalizing normalize
+    → (canonical : Bool) (h : Progress) (f : Option Fault) (to : Progress) (c : Settled) (g : Given)
+    (k : Directives → Reading)
     → PlacedSettled normalize h g.0.body c → OwnSettled canonical c
-    → ((h' : Progress) (ds : Directives) → plain h' ≡ moved (plain h) g.0.body → AreDirectives ds → Passes normalize canonical h' f to (k ds))
+    → ((h' : Progress) (ds : Directives) → plain h' ≡ moved (plain h) g.0.body → AreDirectives ds
+    → Passes normalize canonical h' f to (k ds))
     → Passes normalize canonical h f to (read_on c g.0 g.1 k)
 unfolding first_refusal progress_behind
 on_passes normalize e canonical h f to (refused x) g k p o more = (refl, λ d. absurd (ended x d))
@@ -35,7 +39,9 @@ on_passes normalize e canonical h f to (gave b ds) g k p o more =
     (or_none (problem_in canonical h (emitter_event (normalize b))) _ (no_problem canonical h (normalize b) p.0 (normalized_own canonical b (normalize b) (e b) o.0)) rest.0, rest.1)
 on_passes normalize e canonical h f to (noted ds) g k p o more = more h ds (sym p) o
 
-all_pass : (normalize : EventBody → EventBody) → IsNormalizing normalize → (canonical : Bool) (h : Progress) (gs : List Given) (f : Option Fault) (ds : Directives) → GivenPlaced (plain h) gs → GivenSpelled gs → AreDirectives ds
+all_pass : (normalize : EventBody → EventBody) → IsNormalizing normalize
+    → (canonical : Bool) (h : Progress) (gs : List Given) (f : Option Fault) (ds : Directives)
+    → GivenPlaced (plain h) gs → GivenSpelled gs → AreDirectives ds
     → Passes normalize canonical h f (moved_given (plain h) gs) (reading gs f ds)
 unfolding reading first_refusal progress_behind
 all_pass normalize e canonical h [] f ds p s d = (refl, λ n. (n, refl))

@@ -11,14 +11,16 @@ use Rattle.yaml_round_content.proofs.Scalars.{input_right}
 use Rattle.yaml_round_content.proofs.Utf8.{input_utf8}
 use Rattle.yaml_round_content.proofs.Events.{MaySay, MaySayAll, told_say}
 
-scalar_writable : (anchor : Option (List ℕ)) (mark : Mark) (value : List ℕ) → MaySay (scalar_says anchor mark value) → IsWritable (scalar anchor mark value)
+scalar_writable : (anchor : Option (List ℕ)) (mark : Mark) (value : List ℕ)
+    → MaySay (scalar_says anchor mark value) → IsWritable (scalar anchor mark value)
 scalar_writable anchor (untagged plain) value h = h
 scalar_writable anchor (tagged t) value h = h
 
 mutual
   unfolding node_says items_say pairs_say
 
-  node_writable : (n : Node) (es : List EventBody) → MaySayAll (node_says n es) → IsWritable n × MaySayAll es
+  node_writable : (n : Node) (es : List EventBody) → MaySayAll (node_says n es)
+      → IsWritable n × MaySayAll es
   node_writable (alias name) es h = h
   node_writable (scalar anchor mark value) es h = (scalar_writable anchor mark value h.0, h.1)
   node_writable (sequence anchor tag items) es h =
@@ -28,14 +30,16 @@ mutual
       let (own, rest) = pairs_writable pairs (event.mapping_end ∷ es) h.1 in
       ((h.0.0, h.0.1, own), rest.1)
 
-  items_writable : (ns : Nodes) (es : List EventBody) → MaySayAll (items_say ns es) → AreItemsWritable ns × MaySayAll es
+  items_writable : (ns : Nodes) (es : List EventBody) → MaySayAll (items_say ns es)
+      → AreItemsWritable ns × MaySayAll es
   items_writable no_nodes es h = (tt, h)
   items_writable (node n ns) es h =
       let (own, rest) = node_writable n (items_say ns es) h in
       let (others, more) = items_writable ns es rest in
       ((own, others), more)
 
-  pairs_writable : (ps : Pairs) (es : List EventBody) → MaySayAll (pairs_say ps es) → ArePairsWritable ps × MaySayAll es
+  pairs_writable : (ps : Pairs) (es : List EventBody) → MaySayAll (pairs_say ps es)
+      → ArePairsWritable ps × MaySayAll es
   pairs_writable no_pairs es h = (tt, h)
   pairs_writable (pair k v ps) es h =
       let (key, rest) = node_writable k (node_says v (pairs_say ps es)) h in

@@ -5,7 +5,8 @@ use Rattle.yaml_round_device.specs.Counts.{counted}
 none : (m g : ℕ) → g ≡ max g (min (g + 0) m)
 none m g = omega arith
 
-more : (m g a b : ℕ) → max (max g (min (g + a) m)) (min (max g (min (g + a) m) + b) m) ≡ max g (min (g + (a + b)) m)
+more : (m g a b : ℕ)
+    → max (max g (min (g + a) m)) (min (max g (min (g + a) m) + b) m) ≡ max g (min (g + (a + b)) m)
 more m g a b = omega arith
 
 fits : (m g n : ℕ) → g ≤ m → min (g + n) m ≡ max g (min (g + n) m)

@@ -44,27 +44,34 @@ abbrev HasFull : Result WordText Wrong → Type 0
 HasFull (Ok w) = IsFull w.body
 HasFull (Err w) = Unit {0}
 
-folded_full : (b : ℕ) (l : Line) (others : List (List ℕ × Line)) → is_empty (folded (Kept (b ∷ []) ∷ l) others) ≡ false
+folded_full : (b : ℕ) (l : Line) (others : List (List ℕ × Line))
+    → is_empty (folded (Kept (b ∷ []) ∷ l) others) ≡ false
 folded_full b l [] = refl
 folded_full b l (next ∷ ls) = refl
 
-plain_full : (b q : ℕ) (r : Result Words Wrong) → HasFull (plainly (plain_with plain_text (words_from (Kept (b ∷ [])) q r)))
+plain_full : (b q : ℕ) (r : Result Words Wrong)
+    → HasFull (plainly (plain_with plain_text (words_from (Kept (b ∷ [])) q r)))
 plain_full b q (Ok w) = λ e. folded_full b (lines w.pieces).first (lines w.pieces).others
 plain_full b q (Err w) = tt
 
-block_full : (style : yaml_scalar_style_t) (r : Result BlockText Wrong) → is_asked_plain style ≡ false → HasFull (blocked style r)
+block_full : (style : yaml_scalar_style_t) (r : Result BlockText Wrong)
+    → is_asked_plain style ≡ false → HasFull (blocked style r)
 block_full style (Ok x) h = λ e. absurd (true≢false (sym e ∙ h))
 block_full style (Err w) h = tt
 
-block_style : (test : _) → is_asked_plain (if test then styles.YAML_FOLDED_SCALAR_STYLE else styles.YAML_LITERAL_SCALAR_STYLE) ≡ false
+block_style : (test : _)
+    → is_asked_plain (if test then styles.YAML_FOLDED_SCALAR_STYLE else
+    styles.YAML_LITERAL_SCALAR_STYLE) ≡ false
 block_style true = refl
 block_style false = refl
 
-single_full : (r : Result (List ℕ × ℕ) Wrong) → HasFull (valued (λ v. token.scalar v styles.YAML_SINGLE_QUOTED_SCALAR_STYLE) r)
+single_full : (r : Result (List ℕ × ℕ) Wrong)
+    → HasFull (valued (λ v. token.scalar v styles.YAML_SINGLE_QUOTED_SCALAR_STYLE) r)
 single_full (Ok x) = λ e. absurd (true≢false (sym e))
 single_full (Err w) = tt
 
-double_full : (r : Result (List ℕ × ℕ) Wrong) → HasFull (valued (λ v. token.scalar v styles.YAML_DOUBLE_QUOTED_SCALAR_STYLE) r)
+double_full : (r : Result (List ℕ × ℕ) Wrong)
+    → HasFull (valued (λ v. token.scalar v styles.YAML_DOUBLE_QUOTED_SCALAR_STYLE) r)
 double_full (Ok x) = λ e. absurd (true≢false (sym e))
 double_full (Err w) = tt
 
@@ -88,7 +95,8 @@ directive_full : (r : Result DirectiveText Wrong) → HasFull (directed r)
 directive_full (Ok d) = said_full d.said
 directive_full (Err w) = tt
 
-word_full : (k : Kind) (flow : _) (level : ℕ) (text : List ℕ) (p : ℕ) → HasFull (word_at k flow level text p)
+word_full : (k : Kind) (flow : _) (level : ℕ) (text : List ℕ) (p : ℕ)
+    → HasFull (word_at k flow level text p)
 unfolding word_at
 word_full kinds.Directive flow level text p = directive_full _
 word_full kinds.Alias flow level text p = alias_full _
@@ -168,7 +176,8 @@ remaining_full s dropped given =
     full_drop given _ (full_append (flat_map (spell s) (drop dropped (handed s.text))) (kept_of (next s.text (all s.text)) (all s.text))
     (entries_full s (drop dropped (handed s.text))) (kept_full (next s.text (all s.text)) (all s.text)))
 
-scanned_full : (encoding : yaml_encoding_t) (r : Result (List ℕ) _) → AreFull (scanned_in encoding r).tokens
+scanned_full : (encoding : yaml_encoding_t) (r : Result (List ℕ) _)
+    → AreFull (scanned_in encoding r).tokens
 scanned_full encoding (Ok text) = remaining_full record { encoding = encoding; text = text } 0 0
 scanned_full encoding (Err o) = tt
 

@@ -24,7 +24,9 @@ use Rattle.yaml_round_laws_documents.proofs.Marks.{BeginsLow, no_mark, text_begi
 abbrev pub Decodes : List ℕ → List ℕ → yaml_encoding_t → Type 0
 Decodes bytes text e = (decoded_text YAML_ANY_ENCODING bytes ≡ Ok text) × (encoding_of YAML_ANY_ENCODING bytes ≡ e)
 
-decoded : (bytes : List ℕ) (t : List Item) (e : yaml_encoding_t) → Allowed t → encoding_of YAML_ANY_ENCODING bytes ≡ e → drop (mark_length YAML_ANY_ENCODING bytes) bytes ≡ spellings e (shown t)
+decoded : (bytes : List ℕ) (t : List Item) (e : yaml_encoding_t) → Allowed t
+    → encoding_of YAML_ANY_ENCODING bytes ≡ e
+    → drop (mark_length YAML_ANY_ENCODING bytes) bytes ≡ spellings e (shown t)
     → Decodes bytes (encode Utf8 t) e
 decoded bytes t e allowed told spelled =
     let same : drop (mark_length YAML_ANY_ENCODING bytes) bytes ≡ spellings (encoding_of YAML_ANY_ENCODING bytes) (shown t) =
@@ -32,7 +34,9 @@ decoded bytes t e allowed told spelled =
     let spells : Spells YAML_ANY_ENCODING bytes (encode Utf8 t) = record { characters = shown t; allowed = all_pass (shown t) allowed; spelled = same; is = bytes_8 t } in
     (spells_decoded YAML_ANY_ENCODING bytes (encode Utf8 t) spells, told)
 
-pub decodes : (x : Encoding) (rest : Rest) → Allowed (rest start) → BeginsLow (encode Utf8 (rest start)) → Decodes (encode x (order_mark x start rest)) (encode Utf8 (rest start)) (encoding_named x)
+pub decodes : (x : Encoding) (rest : Rest) → Allowed (rest start)
+    → BeginsLow (encode Utf8 (rest start))
+    → Decodes (encode x (order_mark x start rest)) (encode Utf8 (rest start)) (encoding_named x)
 decodes Utf8 rest allowed low =
     let t = rest start in
     let (told, none) = no_mark (encode Utf8 t) low in
@@ -48,7 +52,8 @@ decodes Utf16Be rest allowed low =
 abbrev Decode : List Document → Settings → Type 0
 Decode ds s = Decodes (canonical_bytes s ds) (canonical_text s ds) (encoding_named s.encoding)
 
-canonical_decode : (s : Settings) (ds : List Document) → DocumentsAreSpellable ds → Decode ds (canonically s)
+canonical_decode : (s : Settings) (ds : List Document) → DocumentsAreSpellable ds
+    → Decode ds (canonically s)
 unfolding stream_layout
 canonical_decode s ds h =
     let z = canonically s in

@@ -41,12 +41,14 @@ none_false : (b : Bool) (p : Problem) → (if b then None else Some p) ≡ None 
 none_false true p e = refl
 none_false false p e = absurd (cc)
 
-none_has : (h : List ℕ) (before : List TagDirective) → list_any (has_handle h) before ≡ false → directive_for h before ≡ None
+none_has : (h : List ℕ) (before : List TagDirective) → list_any (has_handle h) before ≡ false
+    → directive_for h before ≡ None
 unfolding directive_for
 none_has h [] e = refl
 none_has h (d ∷ ds) e = rw (or_parts (bytes_eq d.handle h) (list_any (has_handle h) ds) e).0 (none_has h ds (or_parts (bytes_eq d.handle h) (list_any (has_handle h) ds) e).1)
 
-tags_fine : (before ds : List TagDirective) → directives_problem before ds ≡ None → AreFineTags before ds
+tags_fine : (before ds : List TagDirective) → directives_problem before ds ≡ None
+    → AreFineTags before ds
 unfolding directives_problem
 tags_fine before [] e = tt
 tags_fine before (d ∷ ds) e =

@@ -71,7 +71,8 @@ name_fits b =
     (either (Fits b) (nat_le 97 b && nat_le b 122) _ (within 97 122 b (omega arith) (omega arith))
     (either (Fits b) (b == 95) (b == 45) (sign 95 b (omega arith) (omega arith)) (sign 45 b (omega arith) (omega arith)))))
 
-list_one : (b : ℕ) (bs : List ℕ) → list_all is_alpha_byte (b ∷ bs) ≡ true → (is_alpha_byte b ≡ true) × (list_all is_alpha_byte bs ≡ true)
+list_one : (b : ℕ) (bs : List ℕ) → list_all is_alpha_byte (b ∷ bs) ≡ true
+    → (is_alpha_byte b ≡ true) × (list_all is_alpha_byte bs ≡ true)
 list_one b bs e =
     elim (cases_Bool (is_alpha_byte b)) [
       | inl t ↦ let more : list_all is_alpha_byte bs ≡ true = rw t at e in (t, more)
@@ -136,7 +137,8 @@ letter_fits c =
     (choice (c == 0x2029) 80 0 (plain_letter 80 (omega arith) (omega arith)) no_letter))))))))))))))
 
 -- by what is known where a test holds, and where it doesn't
-pub fit_by : (b : Bool) (x y : List ℕ) → (b ≡ true → AllFit x) → (b ≡ false → AllFit y) → AllFit (if b then x else y)
+pub fit_by : (b : Bool) (x y : List ℕ) → (b ≡ true → AllFit x) → (b ≡ false → AllFit y)
+    → AllFit (if b then x else y)
 fit_by true x y f g = f refl
 fit_by false x y f g = g refl
 
@@ -242,7 +244,8 @@ char_bytes : (c : ℕ) → c < 1114112 → AreBytes (encode_utf8 c)
 unfolding encode
 char_bytes c h = by (cases_lt c 128) (cases_lt c 2048) (cases_lt c 65536)
   where
-    by : (c < 128) ⊎ (128 ≤ c) → (c < 2048) ⊎ (2048 ≤ c) → (c < 65536) ⊎ (65536 ≤ c) → AreBytes (encode_utf8 c)
+    by : (c < 128) ⊎ (128 ≤ c) → (c < 2048) ⊎ (2048 ≤ c) → (c < 65536) ⊎ (65536 ≤ c)
+        → AreBytes (encode_utf8 c)
     by (inl low) _ _ =
         let e : encode_utf8 c ≡ c ∷ [] = grind (arith, nat_tests) in
         subst AreBytes (sym e) (omega arith, tt)

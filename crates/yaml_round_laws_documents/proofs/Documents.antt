@@ -33,14 +33,17 @@ pub nodes_parsed : NodesAreParsed
 nodes_parsed o e = nodes_grown o.directives (resolving o e)
 
 -- an item that changes the directives
-turn_says : (s : Settled) (b : EventBody) (D : Directives) (i : item.RawEvent) (n : ℕ) (k : Directives → Reading) → s ≡ gave b D → Says (λ es. b ∷ es) (read_on s i n k) (k D)
+turn_says : (s : Settled) (b : EventBody) (D : Directives) (i : item.RawEvent) (n : ℕ)
+    (k : Directives → Reading) → s ≡ gave b D → Says (λ es. b ∷ es) (read_on s i n k) (k D)
 turn_says s b D i n k e = let P : Settled → Type 0 = λ x. Says (λ es. b ∷ es) (read_on x i n k) (k D) in subst P (sym e) (record { events = refl; ending = refl })
 
-pub item_says : (g : Given) (gs : List Given) (f : Option Fault) (D E : Directives) (b : EventBody) → settle g.0 D ≡ gave b E → Says (λ es. b ∷ es) (reading (g ∷ gs) f D) (reading gs f E)
+pub item_says : (g : Given) (gs : List Given) (f : Option Fault) (D E : Directives) (b : EventBody)
+    → settle g.0 D ≡ gave b E → Says (λ es. b ∷ es) (reading (g ∷ gs) f D) (reading gs f E)
 unfolding reading
 item_says g gs f D E b e = turn_says (settle g.0 D) b E g.0 g.1 (λ x. reading gs f x) e
 
-note_reads : (g : Given) (gs : List Given) (f : Option Fault) (D E : Directives) → settle g.0 D ≡ noted E → reading (g ∷ gs) f D ≡ reading gs f E
+note_reads : (g : Given) (gs : List Given) (f : Option Fault) (D E : Directives)
+    → settle g.0 D ≡ noted E → reading (g ∷ gs) f D ≡ reading gs f E
 unfolding reading
 note_reads g gs f D E e = ap (λ (s : Settled). read_on s g.0 g.1 (λ x. reading gs f x)) e
 
@@ -51,10 +54,14 @@ record Directed (ts : List Token) (bs : List TokenBody) (D E : Directives) : Typ
   rest : List Token
   same : ts ≡ spell_directives directives rest
   left : token_bodies rest ≡ bs
-  gives : (more : List Token) (gs : List Given) (f : Option Fault) → reading (items_directives directives more gs) f D ≡ reading gs f E
+  gives : (more : List Token) (gs : List Given) (f : Option Fault)
+      → reading (items_directives directives more gs) f D ≡ reading gs f E
 
-tags_directed : (ds before : List TagDirective) (v : Option yaml_version_directive_t) → AreFineTags before ds → (ts : List Token) (bs : List TokenBody) → token_bodies ts ≡ directives_bodies ds bs
-    → Directed ts bs (record { version = v; tags = before }) (record { version = v; tags = before ++ ds })
+tags_directed : (ds before : List TagDirective) (v : Option yaml_version_directive_t)
+    → AreFineTags before ds → (ts : List Token) (bs : List TokenBody)
+    → token_bodies ts ≡ directives_bodies ds bs
+    → Directed ts bs (record { version = v; tags = before })
+    (record { version = v; tags = before ++ ds })
 unfolding directives_bodies
 tags_directed [] before v fine ts bs e = record {
   directives = [];
@@ -79,7 +86,9 @@ tags_directed (d ∷ ds) before v (new, fine) ts bs e =
           ∙ ap (λ (x : List TagDirective). reading gs f (record { version = v; tags = x })) (append_assoc before (d ∷ []) ds);
     }
 
-version_directed : (v : Option yaml_version_directive_t) (ds : List TagDirective) → IsFineVersion v → AreFineTags [] ds → (ts : List Token) (bs : List TokenBody) → token_bodies ts ≡ version_bodies v (directives_bodies ds bs)
+version_directed : (v : Option yaml_version_directive_t) (ds : List TagDirective) → IsFineVersion v
+    → AreFineTags [] ds → (ts : List Token) (bs : List TokenBody)
+    → token_bodies ts ≡ version_bodies v (directives_bodies ds bs)
     → Directed ts bs no_directives (record { version = v; tags = ds })
 version_directed None ds known fine ts bs e = tags_directed ds [] None fine ts bs e
 version_directed (Some v) ds known fine ts bs e =
@@ -96,7 +105,9 @@ version_directed (Some v) ds known fine ts bs e =
           ∙ r.gives more gs f;
     }
   where
-    known_noted : (v : yaml_version_directive_t) (at : yaml_mark_t) → is_known_version v.major v.minor ≡ true → with_version None [] v.major v.minor at ≡ noted (record { version = Some v; tags = [] })
+    known_noted : (v : yaml_version_directive_t) (at : yaml_mark_t)
+        → is_known_version v.major v.minor ≡ true
+        → with_version None [] v.major v.minor at ≡ noted (record { version = Some v; tags = [] })
     known_noted v at e = rw e refl
 
 -- ---- documents
@@ -105,7 +116,10 @@ abbrev pub no_spans : List Span → Bool
 no_spans [] = true
 no_spans (s ∷ ss) = false
 
-pub ends_say : (ends : List Span) (more : List Token) (gs : List Given) (f : Option Fault) (D : Directives) → Says (λ es. event.document_end (no_spans ends) ∷ es) (reading (items_ends ends more gs) f D) (reading gs f no_directives)
+pub ends_say : (ends : List Span) (more : List Token) (gs : List Given) (f : Option Fault)
+    (D : Directives)
+    → Says (λ es. event.document_end (no_spans ends) ∷ es) (reading (items_ends ends more gs) f D)
+    (reading gs f no_directives)
 ends_say [] more gs f D = item_says _ gs f D no_directives (event.document_end true) refl
 ends_say (s ∷ ends) more gs f D = item_says _ gs f D no_directives (event.document_end false) refl
 
@@ -117,14 +131,20 @@ record Parsed (explicit unended : Bool) (ds : List Document) (ts : List Token) :
   same : ts ≡ spell_ends ends (spell_documents documents rest)
   left : token_bodies rest ≡ []
   none : no_spans ends ≡ not (explicit || (unended && begins_directed ds))
-  gives : (f : Option Fault) → (event_bodies (reading (items_documents documents rest) f no_directives) ≡ documents_reads ds) × ((reading (items_documents documents rest) f no_directives).ending ≡ f)
+  gives : (f : Option Fault)
+      → (event_bodies (reading (items_documents documents rest) f no_directives)
+      ≡ documents_reads ds) × ((reading (items_documents documents rest) f no_directives).ending
+      ≡ f)
 
 record Read (ds : List Document) (ts : List Token) : Type 0 where
   documents : trees.Documents
   rest : List Token
   same : ts ≡ spell_documents documents rest
   left : token_bodies rest ≡ []
-  gives : (f : Option Fault) → (event_bodies (reading (items_documents documents rest) f no_directives) ≡ documents_reads ds) × ((reading (items_documents documents rest) f no_directives).ending ≡ f)
+  gives : (f : Option Fault)
+      → (event_bodies (reading (items_documents documents rest) f no_directives)
+      ≡ documents_reads ds) × ((reading (items_documents documents rest) f no_directives).ending
+      ≡ f)
 
 stream_ends : (ts : List Token) → token_bodies ts ≡ token.stream_end ∷ [] → Read [] ts
 unfolding documents_reads reading
@@ -133,9 +153,15 @@ stream_ends ts e =
     record { documents = trees.end_stream t.span; rest = t.rest; same = t.same; left = t.left; gives = λ f. (refl, refl) }
 
 -- a document from its directives on
-one_document : (d : Document) (ds : List Document) → IsFineVersion d.opening.version → AreFineTags [] d.opening.directives → Resolves d.opening.directives → HasNoMark d.root
-    → ((ts : List Token) → token_bodies ts ≡ end_bodies (not d.implicit_end) (documents_bodies d.implicit_end ds) → Parsed (not d.implicit_end) d.implicit_end ds ts) → (ts : List Token)
-    → token_bodies ts ≡ version_bodies d.opening.version (directives_bodies d.opening.directives (token.document_start ∷ node_bodies d.opening.directives d.root (end_bodies (not d.implicit_end) (documents_bodies d.implicit_end ds))))
+one_document : (d : Document) (ds : List Document) → IsFineVersion d.opening.version
+    → AreFineTags [] d.opening.directives → Resolves d.opening.directives → HasNoMark d.root
+    → ((ts : List Token) → token_bodies ts
+    ≡ end_bodies (not d.implicit_end) (documents_bodies d.implicit_end ds)
+    → Parsed (not d.implicit_end) d.implicit_end ds ts) → (ts : List Token)
+    → token_bodies ts ≡ version_bodies d.opening.version
+    (directives_bodies d.opening.directives
+    (token.document_start ∷ node_bodies d.opening.directives d.root
+    (end_bodies (not d.implicit_end) (documents_bodies d.implicit_end ds))))
     → Read (d ∷ ds) ts
 unfolding documents_reads
 one_document d ds version tags resolves fine behind ts e =
@@ -173,29 +199,47 @@ one_document d ds version tags resolves fine behind ts e =
     flags true b = refl
     flags false b = refl
 
-at_end : (unended : Bool) (ts : List Token) → token_bodies ts ≡ token.stream_end ∷ [] → Parsed false unended [] ts
+at_end : (unended : Bool) (ts : List Token) → token_bodies ts ≡ token.stream_end ∷ []
+    → Parsed false unended [] ts
 at_end unended ts e = let x = stream_ends ts e in record { ends = []; documents = x.documents; rest = x.rest; same = x.same; left = x.left; none = sym (off unended); gives = x.gives }
   where
     off : (b : Bool) → not (b && false) ≡ true
     off true = refl
     off false = refl
 
-begun : (dots unended : Bool) (d : Document) (ds : List Document) → (unended && is_directed d.opening) ≡ dots → ((us : List Token) → token_bodies us ≡ version_bodies d.opening.version (directives_bodies d.opening.directives (token.document_start ∷ node_bodies d.opening.directives d.root (end_bodies (not d.implicit_end) (documents_bodies d.implicit_end ds)))) → Read (d ∷ ds) us)
-    → (ts : List Token) → token_bodies ts ≡ end_bodies dots (version_bodies d.opening.version (directives_bodies d.opening.directives (token.document_start ∷ node_bodies d.opening.directives d.root (end_bodies (not d.implicit_end) (documents_bodies d.implicit_end ds))))) → Parsed false unended (d ∷ ds) ts
+begun : (dots unended : Bool) (d : Document) (ds : List Document)
+    → (unended && is_directed d.opening) ≡ dots
+    → ((us : List Token) → token_bodies us
+    ≡ version_bodies d.opening.version
+    (directives_bodies d.opening.directives
+    (token.document_start ∷ node_bodies d.opening.directives d.root
+    (end_bodies (not d.implicit_end) (documents_bodies d.implicit_end ds)))) → Read (d ∷ ds) us)
+    → (ts : List Token)
+    → token_bodies ts ≡ end_bodies dots
+    (version_bodies d.opening.version
+    (directives_bodies d.opening.directives
+    (token.document_start ∷ node_bodies d.opening.directives d.root
+    (end_bodies (not d.implicit_end) (documents_bodies d.implicit_end ds)))))
+    → Parsed false unended (d ∷ ds) ts
 begun true unended d ds is one ts e =
     let t = take ts token.document_end _ e in
     let x = one t.rest t.left in
     record { ends = t.span ∷ []; documents = x.documents; rest = x.rest; same = t.same ∙ ap (λ (y : List Token). token_at token.document_end t.span ∷ y) x.same; left = x.left; none = sym (ap (λ (b : Bool). not b) is); gives = x.gives }
 begun false unended d ds is one ts e = let x = one ts e in record { ends = []; documents = x.documents; rest = x.rest; same = x.same; left = x.left; none = sym (ap (λ (b : Bool). not b) is); gives = x.gives }
 
-behind_root : (implicit : Bool) (ds : List Document) (ts : List Token) → ((us : List Token) → token_bodies us ≡ documents_bodies implicit ds → Parsed false implicit ds us) → token_bodies ts ≡ end_bodies (not implicit) (documents_bodies implicit ds) → Parsed (not implicit) implicit ds ts
+behind_root : (implicit : Bool) (ds : List Document) (ts : List Token)
+    → ((us : List Token) → token_bodies us ≡ documents_bodies implicit ds
+    → Parsed false implicit ds us)
+    → token_bodies ts ≡ end_bodies (not implicit) (documents_bodies implicit ds)
+    → Parsed (not implicit) implicit ds ts
 behind_root true ds ts rest e = rest ts e
 behind_root false ds ts rest e =
     let t = take ts token.document_end (documents_bodies false ds) e in
     let x = rest t.rest t.left in
     record { ends = t.span ∷ x.ends; documents = x.documents; rest = x.rest; same = t.same ∙ ap (λ (y : List Token). token_at token.document_end t.span ∷ y) x.same; left = x.left; none = refl; gives = x.gives }
 
-documents_parsed : (unended : Bool) (ds : List Document) → AreParsable ds → (ts : List Token) → token_bodies ts ≡ documents_bodies unended ds → Parsed false unended ds ts
+documents_parsed : (unended : Bool) (ds : List Document) → AreParsable ds → (ts : List Token)
+    → token_bodies ts ≡ documents_bodies unended ds → Parsed false unended ds ts
 unfolding documents_bodies
 documents_parsed unended [] fine ts e = at_end unended ts e
 documents_parsed unended (d ∷ ds) ((opening, root), fine) ts e =

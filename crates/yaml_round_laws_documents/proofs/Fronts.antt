@@ -28,21 +28,26 @@ use Rattle.yaml_round_laws_documents.specs.Laws.{AllLoadDocuments}
 record Same (f : Bool) (es : List Event) (bs : List EventBody) : Type 0 where
   same : (l : CoreLoading) → core_loads (bodies (told_by es)) f l ≡ core_loads bs f l
 
-next : (f : Bool) (b c : EventBody) (es : List Event) (bs : List EventBody) → ((l : CoreLoading) → core_step b l ≡ core_step c l) → Same f es bs → Same f (unplaced b ∷ es) (c ∷ bs)
+next : (f : Bool) (b c : EventBody) (es : List Event) (bs : List EventBody)
+    → ((l : CoreLoading) → core_step b l ≡ core_step c l) → Same f es bs
+    → Same f (unplaced b ∷ es) (c ∷ bs)
 unfolding core_loads
 next f b c es bs h s = record {
   same = λ l. ap (λ (x : CoreFed). core_on x (core_loads (bodies (told_by es)) f)) (h l) ∙ on_same (core_step c l) (core_loads (bodies (told_by es)) f) (core_loads bs f) s.same;
 }
 
-scalar_same : (f : Bool) (anchor : Option (List ℕ)) (mark : Mark) (value : List ℕ) (es : List Event) (bs : List EventBody) → Same f es bs
-    → Same f (events (as_content (written_node (scalar anchor mark value))) es) (scalar_says anchor mark value ∷ bs)
+scalar_same : (f : Bool) (anchor : Option (List ℕ)) (mark : Mark) (value : List ℕ) (es : List Event)
+    (bs : List EventBody) → Same f es bs
+    → Same f (events (as_content (written_node (scalar anchor mark value))) es)
+    (scalar_says anchor mark value ∷ bs)
 scalar_same f anchor (untagged plain) value es bs s = next f _ _ es bs (λ l. refl) s
 scalar_same f anchor (tagged t) value es bs s = next f _ _ es bs (λ l. refl) s
 
 mutual
   unfolding node_says items_say pairs_say
 
-  node_same : (f : Bool) (n : Node) (es : List Event) (bs : List EventBody) → Same f es bs → Same f (events (as_content (written_node n)) es) (node_says n bs)
+  node_same : (f : Bool) (n : Node) (es : List Event) (bs : List EventBody) → Same f es bs
+      → Same f (events (as_content (written_node n)) es) (node_says n bs)
   node_same f (alias name) es bs s = next f (event.alias name) (event.alias name) es bs (λ l. refl) s
   node_same f (scalar anchor mark value) es bs s = scalar_same f anchor mark value es bs s
   node_same f (sequence anchor tag items) es bs s =
@@ -52,11 +57,13 @@ mutual
       next f (event.mapping_start anchor tag false YAML_ANY_MAPPING_STYLE) (event.mapping_start anchor tag true YAML_ANY_MAPPING_STYLE) _ _ (λ l. refl)
       (pairs_same f pairs _ _ (next f event.mapping_end event.mapping_end es bs (λ l. refl) s))
 
-  items_same : (f : Bool) (ns : Nodes) (es : List Event) (bs : List EventBody) → Same f es bs → Same f (item_events (as_contents (written_nodes ns)) es) (items_say ns bs)
+  items_same : (f : Bool) (ns : Nodes) (es : List Event) (bs : List EventBody) → Same f es bs
+      → Same f (item_events (as_contents (written_nodes ns)) es) (items_say ns bs)
   items_same f no_nodes es bs s = s
   items_same f (node n ns) es bs s = node_same f n _ _ (items_same f ns es bs s)
 
-  pairs_same : (f : Bool) (ps : Pairs) (es : List Event) (bs : List EventBody) → Same f es bs → Same f (pair_events (as_pairs (written_pairs ps)) es) (pairs_say ps bs)
+  pairs_same : (f : Bool) (ps : Pairs) (es : List Event) (bs : List EventBody) → Same f es bs
+      → Same f (pair_events (as_pairs (written_pairs ps)) es) (pairs_say ps bs)
   pairs_same f no_pairs es bs s = s
   pairs_same f (pair k v ps) es bs s = node_same f k _ _ (node_same f v _ _ (pairs_same f ps es bs s))
 
@@ -67,7 +74,8 @@ documents_same f (d ∷ ds) =
     next f (event.document_start d.version d.directives true) (event.document_start d.version d.directives true) _ _ (λ l. refl)
     (node_same f d.root _ _ (next f (event.document_end true) (event.document_end true) _ _ (λ l. refl) (documents_same f ds)))
 
-content_same : (f : Bool) (c : List Document) (l : CoreLoading) → core_loads (bodies (events_saying c)) f l ≡ core_loads (stream_says c) f l
+content_same : (f : Bool) (c : List Document) (l : CoreLoading)
+    → core_loads (bodies (events_saying c)) f l ≡ core_loads (stream_says c) f l
 content_same f c l = (next f (event.stream_start YAML_ANY_ENCODING) (event.stream_start YAML_ANY_ENCODING) (content_events c) (documents_say c) (λ m. refl) (documents_same f c)).same l
 
 -- ---- the documents of a front of events are a front
@@ -76,23 +84,27 @@ record FrontOf (a b : CoreLoads) : Type 0 where
   more : List Core
   same : a.documents ++ more ≡ b.documents
 
-front_nodes : (ns : List CoreNode) (d : Core) (a b : CoreLoads) → FrontOf a b → FrontOf (core_in_front ns d a) (core_in_front ns d b)
+front_nodes : (ns : List CoreNode) (d : Core) (a b : CoreLoads) → FrontOf a b
+    → FrontOf (core_in_front ns d a) (core_in_front ns d b)
 front_nodes [] d a b h = record { more = []; same = refl }
 front_nodes (n ∷ ns) d a b h = record { more = h.more; same = ap (λ (cs : List Core). d ∷ cs) h.same }
 
-front_on : (x : CoreFed) (u v : CoreLoading → CoreLoads) → ((l : CoreLoading) → FrontOf (u l) (v l)) → FrontOf (core_on x u) (core_on x v)
+front_on : (x : CoreFed) (u v : CoreLoading → CoreLoads) → ((l : CoreLoading) → FrontOf (u l) (v l))
+    → FrontOf (core_on x u) (core_on x v)
 front_on (core_goes_on l) u v h = h l
 front_on (core_loaded d) u v h = front_nodes d.nodes d (u core_nothing) (v core_nothing) (h core_nothing)
 front_on core_refused u v h = record { more = []; same = refl }
 
-front_loads : (bs cs : List EventBody) (f g : Bool) (l : CoreLoading) → FrontOf (core_loads bs f l) (core_loads (bs ++ cs) g l)
+front_loads : (bs cs : List EventBody) (f g : Bool) (l : CoreLoading)
+    → FrontOf (core_loads bs f l) (core_loads (bs ++ cs) g l)
 unfolding core_loads
 front_loads [] cs f g l = record { more = (core_loads cs g l).documents; same = refl }
 front_loads (b ∷ bs) cs f g l = front_on (core_step b l) (core_loads bs f) (core_loads (bs ++ cs) g) (λ m. front_loads bs cs f g m)
 
 -- ---- inputs
 
-documents_front : (ds es : List documents.Document) (more : List Core) → map core_of ds ++ more ≡ map core_of es → AreLoadedDocuments es → AreLoadedDocuments ds
+documents_front : (ds es : List documents.Document) (more : List Core)
+    → map core_of ds ++ more ≡ map core_of es → AreLoadedDocuments es → AreLoadedDocuments ds
 documents_front [] es more h l = tt
 documents_front (d ∷ ds) [] more h l = absurd (cc)
 documents_front (d ∷ ds) (e ∷ es) more h l =
@@ -101,7 +113,9 @@ documents_front (d ∷ ds) (e ∷ es) more h l =
     (document_loaded d e one l.0, documents_front ds es more rest l.1)
 
 -- what a content's events load, without styles and marks
-content_cores : ContentIsLoaded → (c : List Document) → (core_loads (stream_says c) false core_nothing).documents ≡ map core_of (load_each c).documents
+content_cores : ContentIsLoaded → (c : List Document)
+    → (core_loads (stream_says c) false core_nothing).documents
+    ≡ map core_of (load_each c).documents
 content_cores numbered c =
     ap (λ (a : CoreLoads). a.documents) (sym (content_same false c core_nothing) ∙ sym (load_cores (events_saying c) None nothing_loaded))
     ∙ ap (λ (a : Loads). map core_of a.documents) (numbered c)

@@ -45,7 +45,8 @@ head_is x y xs ys e = cc
 pub tail_is : (x y : TokenBody) (xs ys : List TokenBody) → x ∷ xs ≡ y ∷ ys → xs ≡ ys
 tail_is x y xs ys e = cc
 
-pub take : (ts : List Token) (b : TokenBody) (bs : List TokenBody) → token_bodies ts ≡ b ∷ bs → Taken ts b bs
+pub take : (ts : List Token) (b : TokenBody) (bs : List TokenBody) → token_bodies ts ≡ b ∷ bs
+    → Taken ts b bs
 take [] b bs e = absurd (cc)
 take (t ∷ ts) b bs e =
     let s : Span = record { from = t.start_mark; to = t.end_mark } in
@@ -56,13 +57,16 @@ take (t ∷ ts) b bs e =
 same_says : (r : Reading) → Says (λ es. es) r r
 same_says r = record { events = refl; ending = refl }
 
-pub both_say : (R Q : List EventBody → List EventBody) (r q p : Reading) → Says R r q → Says Q q p → Says (λ es. R (Q es)) r p
+pub both_say : (R Q : List EventBody → List EventBody) (r q p : Reading) → Says R r q → Says Q q p
+    → Says (λ es. R (Q es)) r p
 both_say R Q r q p a b = record { events = a.events ∙ ap (λ (es : List EventBody). R es) b.events; ending = a.ending ∙ b.ending }
 
-pub on_says : (s : Settled) (b : EventBody) (D : Directives) (i : RawEvent) (n : ℕ) (k : Directives → Reading) → s ≡ gave b D → Says (λ es. b ∷ es) (read_on s i n k) (k D)
+pub on_says : (s : Settled) (b : EventBody) (D : Directives) (i : RawEvent) (n : ℕ)
+    (k : Directives → Reading) → s ≡ gave b D → Says (λ es. b ∷ es) (read_on s i n k) (k D)
 on_says s b D i n k e = let P : Settled → Type 0 = λ x. Says (λ es. b ∷ es) (read_on x i n k) (k D) in subst P (sym e) (record { events = refl; ending = refl })
 
-pub step_says : (g : Given) (gs : List Given) (f : Option Fault) (D : Directives) (b : EventBody) → settle g.0 D ≡ gave b D → Says (λ es. b ∷ es) (reading (g ∷ gs) f D) (reading gs f D)
+pub step_says : (g : Given) (gs : List Given) (f : Option Fault) (D : Directives) (b : EventBody)
+    → settle g.0 D ≡ gave b D → Says (λ es. b ∷ es) (reading (g ∷ gs) f D) (reading gs f D)
 unfolding reading
 step_says g gs f D b e = on_says (settle g.0 D) b D g.0 g.1 (λ x. reading gs f x) e
 
@@ -98,14 +102,22 @@ record WithProperties (ds : List TagDirective) (anchor : Option (List ℕ)) (tag
   rest : List Token
   same : ts ≡ spell_if only_properties rest
   left : token_bodies rest ≡ bs
-  gives : (shape : Shape) (from to : yaml_mark_t) (D : Directives) → D.tags ≡ ds → settle (node_at (properties_if only_properties) shape from to) D ≡ gave (node_event anchor (full_of tag) shape) D
+  gives : (shape : Shape) (from to : yaml_mark_t) (D : Directives) → D.tags ≡ ds
+      → settle (node_at (properties_if only_properties) shape from to) D
+      ≡ gave (node_event anchor (full_of tag) shape) D
 
-resolves : (ds : List TagDirective) (handle suffix full : List ℕ) (anchor : Option (List ℕ)) (shape : Shape) (from at : yaml_mark_t) (D : Directives) → resolved ds handle suffix ≡ Some full → D.tags ≡ ds
-    → with_resolved (resolved D.tags handle suffix) anchor shape from at D ≡ gave (node_event anchor (Some full) shape) D
+resolves : (ds : List TagDirective) (handle suffix full : List ℕ) (anchor : Option (List ℕ))
+    (shape : Shape) (from at : yaml_mark_t) (D : Directives) → resolved ds handle suffix ≡ Some full
+    → D.tags ≡ ds
+    → with_resolved (resolved D.tags handle suffix) anchor shape from at D
+    ≡ gave (node_event anchor (Some full) shape) D
 resolves ds handle suffix full anchor shape from at D e t =
     ap (λ (o : Option (List ℕ)). with_resolved o anchor shape from at D) (ap (λ (x : List TagDirective). resolved x handle suffix) t ∙ e)
 
-with_properties : (ds : List TagDirective) (anchor : Option (List ℕ)) (tag : Option Named) → IsNamed ds tag → (ts : List Token) (bs : List TokenBody) → token_bodies ts ≡ anchor_bodies anchor (named_bodies tag bs) → WithProperties ds anchor tag ts bs
+with_properties : (ds : List TagDirective) (anchor : Option (List ℕ)) (tag : Option Named)
+    → IsNamed ds tag → (ts : List Token) (bs : List TokenBody)
+    → token_bodies ts ≡ anchor_bodies anchor (named_bodies tag bs)
+    → WithProperties ds anchor tag ts bs
 with_properties ds None None h ts bs e = record { only_properties = None; rest = ts; same = refl; left = e; gives = λ shape from to D t. refl }
 with_properties ds (Some a) None h ts bs e =
     let x = take ts (token.anchor a) bs e in
@@ -143,7 +155,8 @@ split_body : (s : Split) → tag_body s ≡ token.tag (split_handle s) (split_su
 split_body (shorthand handle suffix) = refl
 split_body (verbatim t) = refl
 
-split_resolved : (ds : List TagDirective) (s : Split) → resolved ds (split_handle s) (split_suffix s) ≡ resolved_split ds s
+split_resolved : (ds : List TagDirective) (s : Split)
+    → resolved ds (split_handle s) (split_suffix s) ≡ resolved_split ds s
 split_resolved ds (shorthand handle suffix) = refl
 split_resolved ds (verbatim t) = refl
 
@@ -151,11 +164,13 @@ abbrev tag_named : List TagDirective → Option (List ℕ) → Option Named
 tag_named ds None = None
 tag_named ds (Some t) = Some (record { handle = split_handle (split_tag ds t); suffix = split_suffix (split_tag ds t); full = t })
 
-tag_is_named : (ds : List TagDirective) → Resolves ds → (tag : Option (List ℕ)) → IsNamed ds (tag_named ds tag)
+tag_is_named : (ds : List TagDirective) → Resolves ds → (tag : Option (List ℕ))
+    → IsNamed ds (tag_named ds tag)
 tag_is_named ds r None = tt
 tag_is_named ds r (Some t) = split_resolved ds (split_tag ds t) ∙ r t
 
-tag_bodies_are : (ds : List TagDirective) (tag : Option (List ℕ)) (bs : List TokenBody) → tag_bodies ds tag bs ≡ named_bodies (tag_named ds tag) bs
+tag_bodies_are : (ds : List TagDirective) (tag : Option (List ℕ)) (bs : List TokenBody)
+    → tag_bodies ds tag bs ≡ named_bodies (tag_named ds tag) bs
 tag_bodies_are ds None bs = refl
 tag_bodies_are ds (Some t) bs = ap (λ (b : TokenBody). b ∷ bs) (split_body (split_tag ds t))
 
@@ -175,23 +190,31 @@ abbrev scalar_named : List TagDirective → Option (List ℕ) → Bool → Optio
 scalar_named ds None quoted = mark_named quoted
 scalar_named ds (Some t) quoted = tag_named ds (Some t)
 
-scalar_is_named : (ds : List TagDirective) → Resolves ds → (tag : Option (List ℕ)) (quoted : Bool) → IsNamed ds (scalar_named ds tag quoted)
+scalar_is_named : (ds : List TagDirective) → Resolves ds → (tag : Option (List ℕ)) (quoted : Bool)
+    → IsNamed ds (scalar_named ds tag quoted)
 scalar_is_named ds r None true = tt
 scalar_is_named ds r None false = refl
 scalar_is_named ds r (Some t) quoted = tag_is_named ds r (Some t)
 
-scalar_bodies_are : (ds : List TagDirective) (tag : Option (List ℕ)) (quoted : Bool) (bs : List TokenBody) → tag_bodies ds tag (mark_bodies (not (has tag) && not quoted) bs) ≡ named_bodies (scalar_named ds tag quoted) bs
+scalar_bodies_are : (ds : List TagDirective) (tag : Option (List ℕ)) (quoted : Bool)
+    (bs : List TokenBody)
+    → tag_bodies ds tag (mark_bodies (not (has tag) && not quoted) bs)
+    ≡ named_bodies (scalar_named ds tag quoted) bs
 scalar_bodies_are ds None true bs = refl
 scalar_bodies_are ds None false bs = refl
 scalar_bodies_are ds (Some t) quoted bs = tag_bodies_are ds (Some t) bs
 
-tagged_event : (b : Bool) (anchor : Option (List ℕ)) (t value : List ℕ) (style : yaml_scalar_style_t) → b ≡ false
-    → (if b then event.scalar anchor None value true false style else event.scalar anchor (Some t) value false false style) ≡ event.scalar anchor (Some t) value false false style
+tagged_event : (b : Bool) (anchor : Option (List ℕ)) (t value : List ℕ)
+    (style : yaml_scalar_style_t) → b ≡ false
+    → (if b then event.scalar anchor None value true false style else event.scalar anchor (Some t)
+    value false false style) ≡ event.scalar anchor (Some t) value false false style
 tagged_event true anchor t value style e = absurd (cc)
 tagged_event false anchor t value style e = refl
 
-scalar_event_is : (ds : List TagDirective) (anchor tag : Option (List ℕ)) (value : List ℕ) (quoted : Bool) → IsNoMark tag
-    → node_event anchor (full_of (scalar_named ds tag quoted)) (item.scalar value YAML_DOUBLE_QUOTED_SCALAR_STYLE) ≡ scalar_reads anchor tag value quoted
+scalar_event_is : (ds : List TagDirective) (anchor tag : Option (List ℕ)) (value : List ℕ)
+    (quoted : Bool) → IsNoMark tag
+    → node_event anchor (full_of (scalar_named ds tag quoted))
+    (item.scalar value YAML_DOUBLE_QUOTED_SCALAR_STYLE) ≡ scalar_reads anchor tag value quoted
 scalar_event_is ds anchor None value true h = refl
 scalar_event_is ds anchor None value false h = refl
 scalar_event_is ds anchor (Some t) value quoted h = tagged_event (bytes_eq t (codes "!")) anchor t value YAML_DOUBLE_QUOTED_SCALAR_STYLE h
@@ -202,11 +225,14 @@ abbrev with_dress : {w : Wants} → Option PropertyTokens → trees.Content w �
 with_dress None c = trees.bare c
 with_dress (Some d) c = trees.with_properties d c
 
-dress_spells : (w : Wants) (d : Option PropertyTokens) (c : trees.Content w) (rest : List Token) → spell_node (with_dress d c) rest ≡ spell_if d (spell_content c rest)
+dress_spells : (w : Wants) (d : Option PropertyTokens) (c : trees.Content w) (rest : List Token)
+    → spell_node (with_dress d c) rest ≡ spell_if d (spell_content c rest)
 dress_spells w None c rest = refl
 dress_spells w (Some d) c rest = refl
 
-dress_gives : (w : Wants) (d : Option PropertyTokens) (c : trees.Content w) (rest : List Token) (more : List Given) → items_node (with_dress d c) rest more ≡ items_content c (properties_if d) rest more
+dress_gives : (w : Wants) (d : Option PropertyTokens) (c : trees.Content w) (rest : List Token)
+    (more : List Given)
+    → items_node (with_dress d c) rest more ≡ items_content c (properties_if d) rest more
 dress_gives w None c rest more = refl
 dress_gives w (Some d) c rest more = refl
 
@@ -216,9 +242,12 @@ record Filled (b : Brackets) (ds : List TagDirective) (R : List EventBody → Li
   rest : List Token
   same : ts ≡ spell_items b items rest
   left : token_bodies rest ≡ bs
-  gives : (more : List Token) (gs : List Given) (f : Option Fault) (D : Directives) → D.tags ≡ ds → Says R (reading (items_items b items more gs) f D) (reading gs f D)
+  gives : (more : List Token) (gs : List Given) (f : Option Fault) (D : Directives) → D.tags ≡ ds
+      → Says R (reading (items_items b items more gs) f D) (reading gs f D)
 
-scalar_grown : (ds : List TagDirective) → Resolves ds → (w : Wants) (x : Scalar) → IsNoMark x.tag → (ts : List Token) (bs : List TokenBody) → token_bodies ts ≡ node_bodies ds (scalar_node x) bs → Grown w ds (node_reads (scalar_node x)) ts bs
+scalar_grown : (ds : List TagDirective) → Resolves ds → (w : Wants) (x : Scalar) → IsNoMark x.tag
+    → (ts : List Token) (bs : List TokenBody) → token_bodies ts ≡ node_bodies ds (scalar_node x) bs
+    → Grown w ds (node_reads (scalar_node x)) ts bs
 unfolding node_bodies node_reads
 scalar_grown ds r w x fine ts bs e =
     let tail = token.scalar x.value YAML_DOUBLE_QUOTED_SCALAR_STYLE ∷ bs in
@@ -239,8 +268,12 @@ scalar_grown ds r w x fine ts bs e =
     }
 
 sequence_grown : (ds : List TagDirective) → Resolves ds → (w : Wants) (q : Start) (ns : Nodes)
-    → ((ts : List Token) (bs : List TokenBody) → token_bodies ts ≡ items_bodies ds ns (token.flow_sequence_end ∷ bs) → Filled brackets.Sequence ds (λ es. items_reads ns (event.sequence_end ∷ es)) ts bs)
-    → (ts : List Token) (bs : List TokenBody) → token_bodies ts ≡ node_bodies ds (sequence_node q ns) bs → Grown w ds (node_reads (sequence_node q ns)) ts bs
+    → ((ts : List Token) (bs : List TokenBody) → token_bodies ts
+    ≡ items_bodies ds ns (token.flow_sequence_end ∷ bs)
+    → Filled brackets.Sequence ds (λ es. items_reads ns (event.sequence_end ∷ es)) ts bs)
+    → (ts : List Token) (bs : List TokenBody)
+    → token_bodies ts ≡ node_bodies ds (sequence_node q ns) bs
+    → Grown w ds (node_reads (sequence_node q ns)) ts bs
 unfolding node_bodies node_reads
 sequence_grown ds r w q ns inner ts bs e =
     let tail = token.flow_sequence_start ∷ items_bodies ds ns (token.flow_sequence_end ∷ bs) in
@@ -266,8 +299,12 @@ sequence_grown ds r w q ns inner ts bs e =
     }
 
 mapping_grown : (ds : List TagDirective) → Resolves ds → (w : Wants) (q : Start) (ps : Pairs)
-    → ((ts : List Token) (bs : List TokenBody) → token_bodies ts ≡ pairs_bodies ds ps (token.flow_mapping_end ∷ bs) → Filled brackets.Mapping ds (λ es. pairs_reads ps (event.mapping_end ∷ es)) ts bs)
-    → (ts : List Token) (bs : List TokenBody) → token_bodies ts ≡ node_bodies ds (mapping_node q ps) bs → Grown w ds (node_reads (mapping_node q ps)) ts bs
+    → ((ts : List Token) (bs : List TokenBody) → token_bodies ts
+    ≡ pairs_bodies ds ps (token.flow_mapping_end ∷ bs)
+    → Filled brackets.Mapping ds (λ es. pairs_reads ps (event.mapping_end ∷ es)) ts bs)
+    → (ts : List Token) (bs : List TokenBody)
+    → token_bodies ts ≡ node_bodies ds (mapping_node q ps) bs
+    → Grown w ds (node_reads (mapping_node q ps)) ts bs
 unfolding node_bodies node_reads
 mapping_grown ds r w q ps inner ts bs e =
     let tail = token.flow_mapping_start ∷ pairs_bodies ds ps (token.flow_mapping_end ∷ bs) in
@@ -292,7 +329,9 @@ mapping_grown ds r w q ps inner ts bs e =
           (i.gives more gs f D same));
     }
 
-alias_grown : (ds : List TagDirective) (w : Wants) (name : List ℕ) (ts : List Token) (bs : List TokenBody) → token_bodies ts ≡ node_bodies ds (alias_node name) bs → Grown w ds (node_reads (alias_node name)) ts bs
+alias_grown : (ds : List TagDirective) (w : Wants) (name : List ℕ) (ts : List Token)
+    (bs : List TokenBody) → token_bodies ts ≡ node_bodies ds (alias_node name) bs
+    → Grown w ds (node_reads (alias_node name)) ts bs
 unfolding node_bodies node_reads
 alias_grown ds w name ts bs e =
     let t = take ts (token.alias name) bs e in
@@ -304,7 +343,9 @@ alias_grown ds w name ts bs e =
       gives = λ more gs f D same. step_says (trees.event_at (event.alias name) t.span.from t.span.to, length more) gs f D (event.alias name) refl;
     }
 
-items_end : (ds : List TagDirective) (ts : List Token) (bs : List TokenBody) → token_bodies ts ≡ items_bodies ds no_nodes (token.flow_sequence_end ∷ bs) → Filled brackets.Sequence ds (λ es. items_reads no_nodes (event.sequence_end ∷ es)) ts bs
+items_end : (ds : List TagDirective) (ts : List Token) (bs : List TokenBody)
+    → token_bodies ts ≡ items_bodies ds no_nodes (token.flow_sequence_end ∷ bs)
+    → Filled brackets.Sequence ds (λ es. items_reads no_nodes (event.sequence_end ∷ es)) ts bs
 unfolding items_bodies items_reads
 items_end ds ts bs e =
     let t = take ts token.flow_sequence_end bs e in
@@ -316,7 +357,9 @@ items_end ds ts bs e =
       gives = λ more gs f D same. step_says (trees.event_at event.sequence_end t.span.from t.span.to, length more) gs f D event.sequence_end refl;
     }
 
-pairs_end : (ds : List TagDirective) (ts : List Token) (bs : List TokenBody) → token_bodies ts ≡ pairs_bodies ds no_pairs (token.flow_mapping_end ∷ bs) → Filled brackets.Mapping ds (λ es. pairs_reads no_pairs (event.mapping_end ∷ es)) ts bs
+pairs_end : (ds : List TagDirective) (ts : List Token) (bs : List TokenBody)
+    → token_bodies ts ≡ pairs_bodies ds no_pairs (token.flow_mapping_end ∷ bs)
+    → Filled brackets.Mapping ds (λ es. pairs_reads no_pairs (event.mapping_end ∷ es)) ts bs
 unfolding pairs_bodies pairs_reads
 pairs_end ds ts bs e =
     let t = take ts token.flow_mapping_end bs e in
@@ -337,7 +380,8 @@ ItemsGrow ds ns = (ts : List Token) (bs : List TokenBody) → token_bodies ts �
 abbrev PairsGrow : List TagDirective → Pairs → Type 0
 PairsGrow ds ps = (ts : List Token) (bs : List TokenBody) → token_bodies ts ≡ pairs_bodies ds ps (token.flow_mapping_end ∷ bs) → Filled brackets.Mapping ds (λ es. pairs_reads ps (event.mapping_end ∷ es)) ts bs
 
-item_grows : (ds : List TagDirective) (x : Node) (xs : Nodes) → NodeGrows ds x → ItemsGrow ds xs → ItemsGrow ds (node x xs)
+item_grows : (ds : List TagDirective) (x : Node) (xs : Nodes) → NodeGrows ds x → ItemsGrow ds xs
+    → ItemsGrow ds (node x xs)
 unfolding items_bodies items_reads
 item_grows ds x xs one more_items ts bs e =
     let n = one Flow ts (token.flow_entry ∷ items_bodies ds xs (token.flow_sequence_end ∷ bs)) e in
@@ -354,7 +398,8 @@ item_grows ds x xs one more_items ts bs e =
           (n.gives (spell_more brackets.Sequence others more) (items_items brackets.Sequence i.items more gs) f D same) (i.gives more gs f D same);
     }
 
-pair_grows : (ds : List TagDirective) (k v : Node) (ps : Pairs) → NodeGrows ds k → NodeGrows ds v → PairsGrow ds ps → PairsGrow ds (pair k v ps)
+pair_grows : (ds : List TagDirective) (k v : Node) (ps : Pairs) → NodeGrows ds k → NodeGrows ds v
+    → PairsGrow ds ps → PairsGrow ds (pair k v ps)
 unfolding pairs_bodies pairs_reads
 pair_grows ds k v ps key value more_pairs ts bs e =
     let tail = pairs_bodies ds ps (token.flow_mapping_end ∷ bs) in
@@ -389,13 +434,17 @@ mutual
   node_grows ds r (sequence_node q items) fine = λ w. sequence_grown ds r w q items (items_grow ds r items fine)
   node_grows ds r (mapping_node q pairs) fine = λ w. mapping_grown ds r w q pairs (pairs_grow ds r pairs fine)
 
-  items_grow : (ds : List TagDirective) → Resolves ds → (ns : Nodes) → HaveNoMark ns → ItemsGrow ds ns
+  items_grow : (ds : List TagDirective) → Resolves ds → (ns : Nodes) → HaveNoMark ns
+      → ItemsGrow ds ns
   items_grow ds r no_nodes fine = items_end ds
   items_grow ds r (node x xs) (fx, fine) = item_grows ds x xs (node_grows ds r x fx) (items_grow ds r xs fine)
 
-  pairs_grow : (ds : List TagDirective) → Resolves ds → (ps : Pairs) → PairsHaveNoMark ps → PairsGrow ds ps
+  pairs_grow : (ds : List TagDirective) → Resolves ds → (ps : Pairs) → PairsHaveNoMark ps
+      → PairsGrow ds ps
   pairs_grow ds r no_pairs fine = pairs_end ds
   pairs_grow ds r (pair k v ps) (fk, fv, fine) = pair_grows ds k v ps (node_grows ds r k fk) (node_grows ds r v fv) (pairs_grow ds r ps fine)
 
-pub nodes_grown : (ds : List TagDirective) → Resolves ds → (w : Wants) (n : Node) → HasNoMark n → (ts : List Token) (bs : List TokenBody) → token_bodies ts ≡ node_bodies ds n bs → Grown w ds (node_reads n) ts bs
+pub nodes_grown : (ds : List TagDirective) → Resolves ds → (w : Wants) (n : Node) → HasNoMark n
+    → (ts : List Token) (bs : List TokenBody) → token_bodies ts ≡ node_bodies ds n bs
+    → Grown w ds (node_reads n) ts bs
 nodes_grown ds r w n fine = node_grows ds r n fine w

@@ -31,7 +31,8 @@ begins (scalar_node x) es = refl
 begins (sequence_node q items) es = refl
 begins (mapping_node q pairs) es = refl
 
-same_kind : (m n : Node) (x y : List Event) → node_events m x ≡ node_events n y → node_kind m ≡ node_kind n
+same_kind : (m n : Node) (x y : List Event) → node_events m x ≡ node_events n y
+    → node_kind m ≡ node_kind n
 same_kind m n x y e = sym (begins m x) ∙ ap (λ (es : List Event). first_kind es) e ∙ begins n y
 
 no_kind : (n : Node) → node_kind n ≡ 0 → ⊥
@@ -44,7 +45,8 @@ no_kind (mapping_node q pairs) e = absurd (cc)
 not_end : (n : Node) (x y : List Event) (b : Event) → kind b ≡ 0 → b ∷ x ≡ node_events n y → ⊥
 not_end n x y b z e = no_kind n (sym (begins n y) ∙ sym (ap (λ (es : List Event). first_kind es) e) ∙ z)
 
-apart_kinds : (m n : Node) (j k : ℕ) → node_kind m ≡ j → node_kind n ≡ k → (j ≡ k → ⊥) → (x y : List Event) → node_events m x ≡ node_events n y → ⊥
+apart_kinds : (m n : Node) (j k : ℕ) → node_kind m ≡ j → node_kind n ≡ k → (j ≡ k → ⊥)
+    → (x y : List Event) → node_events m x ≡ node_events n y → ⊥
 apart_kinds m n j k a b d x y e = d (sym a ∙ same_kind m n x y e ∙ b)
 
 -- ---- parts
@@ -52,16 +54,20 @@ apart_kinds m n j k a b d x y e = d (sym a ∙ same_kind m n x y e ∙ b)
 rest_same : (b c : Event) (x y : List Event) → b ∷ x ≡ c ∷ y → x ≡ y
 rest_same b c x y e = cc
 
-alias_parts : (a b : List ℕ) (x y : List Event) → event.alias a ∷ x ≡ event.alias b ∷ y → (a ≡ b) × (x ≡ y)
+alias_parts : (a b : List ℕ) (x y : List Event) → event.alias a ∷ x ≡ event.alias b ∷ y
+    → (a ≡ b) × (x ≡ y)
 alias_parts a b x y e = (cc, cc)
 
-scalar_parts : (a b : Scalar) (x y : List Event) → event.scalar a ∷ x ≡ event.scalar b ∷ y → (a ≡ b) × (x ≡ y)
+scalar_parts : (a b : Scalar) (x y : List Event) → event.scalar a ∷ x ≡ event.scalar b ∷ y
+    → (a ≡ b) × (x ≡ y)
 scalar_parts a b x y e = (cc, cc)
 
-sequence_parts : (q r : Start) (x y : List Event) → event.sequence_start q ∷ x ≡ event.sequence_start r ∷ y → (q ≡ r) × (x ≡ y)
+sequence_parts : (q r : Start) (x y : List Event)
+    → event.sequence_start q ∷ x ≡ event.sequence_start r ∷ y → (q ≡ r) × (x ≡ y)
 sequence_parts q r x y e = (cc, cc)
 
-mapping_parts : (q r : Start) (x y : List Event) → event.mapping_start q ∷ x ≡ event.mapping_start r ∷ y → (q ≡ r) × (x ≡ y)
+mapping_parts : (q r : Start) (x y : List Event)
+    → event.mapping_start q ∷ x ≡ event.mapping_start r ∷ y → (q ≡ r) × (x ≡ y)
 mapping_parts q r x y e = (cc, cc)
 
 -- ---- nodes
@@ -130,7 +136,8 @@ pairs_none (pair k v ps) x y e = absurd (not_end k x (node_events v (pairs_event
 pair_same : (k l v w : Node) (m n : Pairs) → k ≡ l → v ≡ w → m ≡ n → pair k v m ≡ pair l w n
 pair_same k l v w m n e f g = ap (λ (z : Node). pair z v m) e ∙ ap (λ (z : Node). pair l z m) f ∙ ap (λ (z : Pairs). pair l w z) g
 
-pairs_more : (k v : Node) (ps : Pairs) → Known k → Known v → PairsKnown ps → PairsKnown (pair k v ps)
+pairs_more : (k v : Node) (ps : Pairs) → Known k → Known v → PairsKnown ps
+    → PairsKnown (pair k v ps)
 unfolding pairs_events
 pairs_more k v ps key value more no_pairs x y e = absurd (not_end k y (node_events v (pairs_events ps (event.mapping_end ∷ x))) event.mapping_end refl (sym e))
 pairs_more k v ps key value more (pair l w qs) x y e =
@@ -156,16 +163,19 @@ mutual
 
 -- ---- documents
 
-start_parts : (o p : Opening) (x y : List Event) → event.document_start o ∷ x ≡ event.document_start p ∷ y → (o ≡ p) × (x ≡ y)
+start_parts : (o p : Opening) (x y : List Event)
+    → event.document_start o ∷ x ≡ event.document_start p ∷ y → (o ≡ p) × (x ≡ y)
 start_parts o p x y e = (cc, cc)
 
-end_parts : (a b : Bool) (x y : List Event) → event.document_end a ∷ x ≡ event.document_end b ∷ y → (a ≡ b) × (x ≡ y)
+end_parts : (a b : Bool) (x y : List Event) → event.document_end a ∷ x ≡ event.document_end b ∷ y
+    → (a ≡ b) × (x ≡ y)
 end_parts a b x y e = (cc, cc)
 
 not_both : (o : Opening) (x : List Event) → event.stream_end ∷ [] ≡ event.document_start o ∷ x → ⊥
 not_both o x e = absurd (cc)
 
-document_same : (c d : Document) → c.opening ≡ d.opening → c.root ≡ d.root → c.implicit_end ≡ d.implicit_end → c ≡ d
+document_same : (c d : Document) → c.opening ≡ d.opening → c.root ≡ d.root
+    → c.implicit_end ≡ d.implicit_end → c ≡ d
 document_same c d e f g =
     ap (λ (z : Opening). record { opening = z; root = c.root; implicit_end = c.implicit_end }) e
     ∙ ap (λ (z : Node). record { opening = d.opening; root = z; implicit_end = c.implicit_end }) f

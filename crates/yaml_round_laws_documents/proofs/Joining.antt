@@ -45,15 +45,18 @@ canon_scanned decode law w e c h =
 
 -- ---- read back
 
-ending_is : (from : yaml_encoding_t) (input : List ℕ) → ending_of from input ≡ (parsed (tokens_of from input)).ending
+ending_is : (from : yaml_encoding_t) (input : List ℕ)
+    → ending_of from input ≡ (parsed (tokens_of from input)).ending
 unfolding read
 ending_is from input = refl
 
-contents_are : (from : yaml_encoding_t) (input : List ℕ) → contents (events_of from input) ≡ contents (parsed (tokens_of from input)).events
+contents_are : (from : yaml_encoding_t) (input : List ℕ)
+    → contents (events_of from input) ≡ contents (parsed (tokens_of from input)).events
 unfolding read
 contents_are from input = refl
 
-pub canon_read_back : CanonIsScanned → WrittenTagsAreReadable → CanonicalTokensPass → CanonicalTokensSayContent → CanonReadsBack
+pub canon_read_back : CanonIsScanned → WrittenTagsAreReadable → CanonicalTokensPass
+    → CanonicalTokensSayContent → CanonReadsBack
 canon_read_back scan readable pass say w e c h =
     let x = encoding_named (canon_encoding w) in
     let ds = written_documents c in

@@ -36,20 +36,24 @@ record KeepsPairs (rest : emit.Pairs → Met → emit.Node) : Type 0 where
   goes : (ps : emit.Pairs) (m : Met) → PairsFlagged ps → NodeFlagged (rest ps m)
 
 record Visits (visit : ℤ → (emit.Node → Met → emit.Node) → Met → emit.Node) : Type 0 where
-  goes : (id : ℤ) (rest : emit.Node → Met → emit.Node) (met : Met) → KeepsNode rest → NodeFlagged (visit id rest met)
+  goes : (id : ℤ) (rest : emit.Node → Met → emit.Node) (met : Met) → KeepsNode rest
+      → NodeFlagged (visit id rest met)
 
-scalar_flagged : (anchor : Option (List ℕ)) (tag value : List ℕ) (style : yaml_scalar_style_t) → NodeFlagged (emit.scalar_node (graph_scalar anchor tag value style))
+scalar_flagged : (anchor : Option (List ℕ)) (tag value : List ℕ) (style : yaml_scalar_style_t)
+    → NodeFlagged (emit.scalar_node (graph_scalar anchor tag value style))
 scalar_flagged anchor tag value style e = absurd (cc)
 
 module _ (visit : ℤ → (emit.Node → Met → emit.Node) → Met → emit.Node) (w : Visits visit) where
-  items_flagged : (ids : List ℤ) (rest : emit.Nodes → Met → emit.Node) (met : Met) → KeepsNodes rest → NodeFlagged (items_by visit ids rest met)
+  items_flagged : (ids : List ℤ) (rest : emit.Nodes → Met → emit.Node) (met : Met) → KeepsNodes rest
+      → NodeFlagged (items_by visit ids rest met)
   unfolding items_by
   items_flagged [] rest met k = k.goes emit.no_nodes met tt
   items_flagged (id ∷ ids) rest met k = w.goes id _ met record {
     goes = λ v m a. items_flagged ids _ m record { goes = λ vs n b. k.goes (emit.node v vs) n (a, b) };
   }
 
-  pairs_flagged : (ps : List yaml_node_pair_t) (rest : emit.Pairs → Met → emit.Node) (met : Met) → KeepsPairs rest → NodeFlagged (pairs_by visit ps rest met)
+  pairs_flagged : (ps : List yaml_node_pair_t) (rest : emit.Pairs → Met → emit.Node) (met : Met)
+      → KeepsPairs rest → NodeFlagged (pairs_by visit ps rest met)
   unfolding pairs_by
   pairs_flagged [] rest met k = k.goes emit.no_pairs met tt
   pairs_flagged (p ∷ ps) rest met k = w.goes p.key _ met record {
@@ -58,7 +62,9 @@ module _ (visit : ℤ → (emit.Node → Met → emit.Node) → Met → emit.Nod
     };
   }
 
-  made_flagged : (anchor : Option (List ℕ)) (tag : List ℕ) (body : model.NodeBody) (rest : emit.Node → Met → emit.Node) (met : Met) → KeepsNode rest → NodeFlagged (node_by visit anchor tag body rest met)
+  made_flagged : (anchor : Option (List ℕ)) (tag : List ℕ) (body : model.NodeBody)
+      (rest : emit.Node → Met → emit.Node) (met : Met) → KeepsNode rest
+      → NodeFlagged (node_by visit anchor tag body rest met)
   made_flagged anchor tag model.no rest met k = k.goes _ met (scalar_flagged anchor tag [] YAML_ANY_SCALAR_STYLE)
   made_flagged anchor tag (model.scalar value style) rest met k = k.goes _ met (scalar_flagged anchor tag value style)
   made_flagged anchor tag (model.sequence items style) rest met k =
@@ -66,11 +72,13 @@ module _ (visit : ℤ → (emit.Node → Met → emit.Node) → Met → emit.Nod
   made_flagged anchor tag (model.mapping pairs style) rest met k =
       pairs_flagged pairs (λ vs. rest (emit.mapping_node (graph_start anchor tag map_tag (is_flow_mapping style)) vs)) met record { goes = λ ps m b. k.goes _ m b }
 
-either_flagged : (b : Bool) (x y : emit.Node) → NodeFlagged x → NodeFlagged y → NodeFlagged (if b then x else y)
+either_flagged : (b : Bool) (x y : emit.Node) → NodeFlagged x → NodeFlagged y
+    → NodeFlagged (if b then x else y)
 either_flagged true x y h k = h
 either_flagged false x y h k = k
 
-content_flagged : (n : ℕ) (table : List ℕ) (nodes : List model.Node) → Visits (content_by n table nodes)
+content_flagged : (n : ℕ) (table : List ℕ) (nodes : List model.Node)
+    → Visits (content_by n table nodes)
 unfolding content_by
 content_flagged zero table nodes = record { goes = λ id rest met k. k.goes (emit.alias_node (name_of (number_at table id))) met tt }
 content_flagged (suc n) table nodes = record {

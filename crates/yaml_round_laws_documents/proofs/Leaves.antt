@@ -22,7 +22,8 @@ use Rattle.yaml_round_laws_documents.proofs.Layouts.{Tame, both, stay_tame, choo
 
 -- ---- handles
 
-if_none : (b : Bool) (p : Problem) (o : Option Problem) → (if b then Some p else o) ≡ None → (b ≡ false) × (o ≡ None)
+if_none : (b : Bool) (p : Problem) (o : Option Problem) → (if b then Some p else o) ≡ None
+    → (b ≡ false) × (o ≡ None)
 if_none false p o e = (refl, e)
 if_none true p o e = absurd (cc)
 
@@ -42,7 +43,8 @@ mark_fits : (b : ℕ) → b ≡ 33 → Fits b
 mark_fits b e = subst (λ (x : ℕ). Fits x) (sym e) (graphic 33 (omega arith) (omega arith))
 
 -- a front, and the last one
-all_but_last : (x : ℕ) (xs : List ℕ) → AllFit (take (length xs) (x ∷ xs)) → Fits (get_or (x ∷ xs) (length xs) 0) → AllFit (x ∷ xs)
+all_but_last : (x : ℕ) (xs : List ℕ) → AllFit (take (length xs) (x ∷ xs))
+    → Fits (get_or (x ∷ xs) (length xs) 0) → AllFit (x ∷ xs)
 all_but_last x [] h k = (k, tt)
 all_but_last x (y ∷ ys) (h, hs) k = (h, all_but_last y ys hs k)
 
@@ -52,7 +54,8 @@ long_rest c r rs = omega arith
 last_rest : (c r : ℕ) (rs : List ℕ) → length (c ∷ r ∷ rs) - 1 ≡ suc (length rs)
 last_rest c r rs = omega arith
 
-handle_by : (h : List ℕ) → get_or h 0 0 ≡ 33 → get_or h (length h - 1) 0 ≡ 33 → list_all is_alpha_byte (between h) ≡ true → AllFit h
+handle_by : (h : List ℕ) → get_or h 0 0 ≡ 33 → get_or h (length h - 1) 0 ≡ 33
+    → list_all is_alpha_byte (between h) ≡ true → AllFit h
 handle_by [] first last inner = tt
 handle_by (c ∷ []) first last inner = (mark_fits c first, tt)
 handle_by (c ∷ r ∷ rs) first last inner =
@@ -75,7 +78,8 @@ abbrev pub HandlesFit : List TagDirective → Type 0
 HandlesFit [] = Unit {0}
 HandlesFit (d ∷ ds) = AllFit d.handle × HandlesFit ds
 
-pub handles_fit : (before ds : List TagDirective) → directives_problem before ds ≡ None → HandlesFit ds
+pub handles_fit : (before ds : List TagDirective) → directives_problem before ds ≡ None
+    → HandlesFit ds
 unfolding directives_problem
 handles_fit before [] e = tt
 handles_fit before (d ∷ ds) e =
@@ -87,7 +91,8 @@ handles_append : (xs ys : List TagDirective) → HandlesFit xs → HandlesFit ys
 handles_append [] ys h k = k
 handles_append (x ∷ xs) ys (h, hs) k = (h, handles_append xs ys hs k)
 
-unless_fits : (ds : List TagDirective) (d : TagDirective) → AllFit d.handle → HandlesFit (unless_defined ds d)
+unless_fits : (ds : List TagDirective) (d : TagDirective) → AllFit d.handle
+    → HandlesFit (unless_defined ds d)
 unless_fits ds d h = by (defines ds d.handle)
   where
     by : (b : Bool) → HandlesFit (if b then [] else d ∷ [])
@@ -104,16 +109,19 @@ abbrev FoundFits : Option TagDirective → Type 0
 FoundFits None = Unit {0}
 FoundFits (Some d) = AllFit d.handle
 
-found_or : (b : Bool) (d : TagDirective) (o : Option TagDirective) → AllFit d.handle → FoundFits o → FoundFits (if b then Some d else o)
+found_or : (b : Bool) (d : TagDirective) (o : Option TagDirective) → AllFit d.handle → FoundFits o
+    → FoundFits (if b then Some d else o)
 found_or true d o h k = h
 found_or false d o h k = k
 
-found_fits : (ds : List TagDirective) (tag : List ℕ) → HandlesFit ds → FoundFits (directive_for ds tag)
+found_fits : (ds : List TagDirective) (tag : List ℕ) → HandlesFit ds
+    → FoundFits (directive_for ds tag)
 unfolding directive_for
 found_fits [] tag h = tt
 found_fits (d ∷ ds) tag (h, hs) = found_or (has_shorter_prefix d.prefix tag) d (directive_for ds tag) h (found_fits ds tag hs)
 
-split_fits : (o : Option TagDirective) (tag : List ℕ) → FoundFits o → AreBytes tag → AllFit (spelled (split_by o tag))
+split_fits : (o : Option TagDirective) (tag : List ℕ) → FoundFits o → AreBytes tag
+    → AllFit (spelled (split_by o tag))
 unfolding spelled
 split_fits None tag h u =
     (mark_33, (graphic 60 (omega arith) (omega arith), all_append (uri_text true tag) (62 ∷ []) (uri_fits true tag u) (graphic 62 (omega arith) (omega arith), tt)))
@@ -133,13 +141,15 @@ pub anchor_tame : (anchor : Option (List ℕ)) → IsNameOption anchor → Tame 
 anchor_tame None h = stay_tame
 anchor_tame (Some name) h = word_tame (38 ∷ name) (graphic 38 (omega arith) (omega arith), names_fit name h)
 
-pub tag_tame : (p : Context) → TagsFit p.directives → (tag : Option (List ℕ)) → IsTextOption tag → Tame (tag_text p tag)
+pub tag_tame : (p : Context) → TagsFit p.directives → (tag : Option (List ℕ)) → IsTextOption tag
+    → Tame (tag_text p tag)
 tag_tame p fit None h = stay_tame
 tag_tame p fit (Some t) h = word_tame (tag_spelling p.directives t) (fit t h)
 
 -- ---- quoted scalars
 
-tame_by : (b : Bool) (x y : Layout) → (b ≡ true → Tame x) → (b ≡ false → Tame y) → Tame (if b then x else y)
+tame_by : (b : Bool) (x y : Layout) → (b ≡ true → Tame x) → (b ≡ false → Tame y)
+    → Tame (if b then x else y)
 tame_by true x y f g = f refl
 tame_by false x y f g = g refl
 
@@ -154,7 +164,8 @@ fold_tame page rest =
 escaped_tame : (unicode : Bool) (x : ℕ) → x < 1114112 → Tame (escaped unicode x)
 escaped_tame unicode x h = tame_by (needs_escape unicode x) (letters (escape_text x)) (char x) (λ _. letters_tame (escape_text x) (escape_fits x h)) (λ e. char_tame x (raw_fits unicode x e))
 
-char_quoted : (page : Page) (before x : ℕ) (rest : List ℕ) → x < 1114112 → Tame (quoted_char page before x rest)
+char_quoted : (page : Page) (before x : ℕ) (rest : List ℕ) → x < 1114112
+    → Tame (quoted_char page before x rest)
 unfolding quoted_char
 char_quoted page before x rest h =
     tame_by (may_fold page before x rest) (choose (is_past page.width) (fold page rest) (char x)) (escaped page.unicode x)
@@ -164,12 +175,14 @@ char_quoted page before x rest h =
     space : (x : ℕ) → (x == 32) ≡ true → Fits x
     space x e = subst (λ (y : ℕ). Fits y) (sym (eqb-true x 32 e)) is_32
 
-body_tame : (page : Page) (before : ℕ) (cs : List ℕ) → AreChars cs → Tame (quoted_body page before cs)
+body_tame : (page : Page) (before : ℕ) (cs : List ℕ) → AreChars cs
+    → Tame (quoted_body page before cs)
 unfolding quoted_body
 body_tame page before [] h = stay_tame
 body_tame page before (x ∷ xs) (h, hs) = both (quoted_char page before x xs) (quoted_body page x xs) (char_quoted page before x xs h) (body_tame page x xs hs)
 
-pub quoted_tame : (page : Page) (value : List ℕ) → IsUtf8 value → Tame (double_quoted page (chars value))
+pub quoted_tame : (page : Page) (value : List ℕ) → IsUtf8 value
+    → Tame (double_quoted page (chars value))
 quoted_tame page value u =
     let quote : Fits 34 = graphic 34 (omega arith) (omega arith) in
     let body = body_tame page 32 (chars value) (scalars_below (chars value) (scalars-chars value u)) in
@@ -203,14 +216,16 @@ version_tame s (Some v) =
     both (word (codes "%YAML")) (word (version_word v) ▹ line_at s 0) (word_tame (codes "%YAML") yaml_fits)
     (both (word (version_word v)) (line_at s 0) (word_tame (version_word v) (version_fits v)) (line_tame s.line_break 0))
 
-directive_tame : (s : Settings) (d : TagDirective) → AllFit d.handle → IsUtf8 d.prefix → Tame (directive_text s d)
+directive_tame : (s : Settings) (d : TagDirective) → AllFit d.handle → IsUtf8 d.prefix
+    → Tame (directive_text s d)
 directive_tame s d h u =
     let prefix = uri_fits true d.prefix (utf8_bytes d.prefix u) in
     both (word (codes "%TAG")) (word d.handle ▹ (word (uri_text true d.prefix) ▹ line_at s 0)) (word_tame (codes "%TAG") tag_fits)
     (both (word d.handle) (word (uri_text true d.prefix) ▹ line_at s 0) (word_tame d.handle h)
     (both (word (uri_text true d.prefix)) (line_at s 0) (word_tame (uri_text true d.prefix) prefix) (line_tame s.line_break 0)))
 
-pub directives_tame : (s : Settings) (ds : List TagDirective) → HandlesFit ds → HavePrefixes ds → Tame (directives_text s ds)
+pub directives_tame : (s : Settings) (ds : List TagDirective) → HandlesFit ds → HavePrefixes ds
+    → Tame (directives_text s ds)
 unfolding directives_text
 directives_tame s [] h u = stay_tame
 directives_tame s (d ∷ ds) (h, hs) (u, us) = both (directive_text s d) (directives_text s ds) (directive_tame s d h u) (directives_tame s ds hs us)

@@ -32,7 +32,8 @@ no_mark (b ∷ bs) h =
     (rw (x, y) refl, rw (x, y, z) refl)
 
 begins : (s : Settings) (v : Option yaml_version_directive_t) (ds : List TagDirective) (rest : Rest)
-    → BeginsLow (encode Utf8 ((version_text (canonically s) v ▹ (directives_text (canonically s) ds ▹ dashes (canonically s))) start rest))
+    → BeginsLow (encode Utf8 ((version_text (canonically s) v ▹
+    (directives_text (canonically s) ds ▹ dashes (canonically s))) start rest))
 unfolding directives_text line blanks letters encode char_bytes
 begins s (Some v) ds rest = omega arith
 begins s None (d ∷ ds) rest = omega arith
@@ -42,25 +43,32 @@ nothing_begins : BeginsLow (encode Utf8 [])
 unfolding encode
 nothing_begins = tt
 
-pub text_begins : (s : Settings) (ds : List Document) → BeginsLow (encode Utf8 (written (documents_layout (canonically s) true false ds)))
+pub text_begins : (s : Settings) (ds : List Document)
+    → BeginsLow (encode Utf8 (written (documents_layout (canonically s) true false ds)))
 unfolding documents_layout stop_layout start_layout
 text_begins s [] = nothing_begins
 text_begins s (d ∷ ds) = begins s d.opening.version d.opening.directives _
 
 -- ---- UTF-16
 
-pub low_told : (t : List Item) → encoding_of YAML_ANY_ENCODING (encode Utf16Le (letter 0xFEFF ∷ t)) ≡ YAML_UTF16LE_ENCODING
+pub low_told : (t : List Item)
+    → encoding_of YAML_ANY_ENCODING (encode Utf16Le (letter 0xFEFF ∷ t)) ≡ YAML_UTF16LE_ENCODING
 unfolding encoding_of encode char_bytes
 low_told t = refl
 
-pub low_behind : (t : List Item) → drop (mark_length YAML_ANY_ENCODING (encode Utf16Le (letter 0xFEFF ∷ t))) (encode Utf16Le (letter 0xFEFF ∷ t)) ≡ encode Utf16Le t
+pub low_behind : (t : List Item)
+    → drop (mark_length YAML_ANY_ENCODING (encode Utf16Le (letter 0xFEFF ∷ t)))
+    (encode Utf16Le (letter 0xFEFF ∷ t)) ≡ encode Utf16Le t
 unfolding mark_length encode char_bytes
 low_behind t = refl
 
-pub high_told : (t : List Item) → encoding_of YAML_ANY_ENCODING (encode Utf16Be (letter 0xFEFF ∷ t)) ≡ YAML_UTF16BE_ENCODING
+pub high_told : (t : List Item)
+    → encoding_of YAML_ANY_ENCODING (encode Utf16Be (letter 0xFEFF ∷ t)) ≡ YAML_UTF16BE_ENCODING
 unfolding encoding_of encode char_bytes
 high_told t = refl
 
-pub high_behind : (t : List Item) → drop (mark_length YAML_ANY_ENCODING (encode Utf16Be (letter 0xFEFF ∷ t))) (encode Utf16Be (letter 0xFEFF ∷ t)) ≡ encode Utf16Be t
+pub high_behind : (t : List Item)
+    → drop (mark_length YAML_ANY_ENCODING (encode Utf16Be (letter 0xFEFF ∷ t)))
+    (encode Utf16Be (letter 0xFEFF ∷ t)) ≡ encode Utf16Be t
 unfolding mark_length encode char_bytes
 high_behind t = refl

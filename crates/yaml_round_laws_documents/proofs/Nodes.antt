@@ -31,7 +31,8 @@ deep_tame false t h = h
 checked_tame : (n : ℕ) → Tame (checked n)
 checked_tame n c rest h = deep_tame (nat_lt MOST n) (rest c) (h c)
 
-properties_tame : (p : Context) → TagsFit p.directives → (anchor tag : Option (List ℕ)) → IsNameOption anchor → IsTextOption tag → Tame (properties_text p anchor tag)
+properties_tame : (p : Context) → TagsFit p.directives → (anchor tag : Option (List ℕ))
+    → IsNameOption anchor → IsTextOption tag → Tame (properties_text p anchor tag)
 properties_tame p fit anchor tag ha ht = both (anchor_text anchor) (tag_text p tag) (anchor_tame anchor ha) (tag_tame p fit tag ht)
 
 marked_tame : (b : Bool) → Tame (when b (word (33 ∷ [])))
@@ -42,13 +43,15 @@ marked_tame b = when_tame b (word (33 ∷ [])) (word_tame (33 ∷ []) (graphic 3
 abbrev NodeTame : Settings → List TagDirective → Node → Type 0
 NodeTame s ds n = (at : Spot) → Tame (node_layout (context s ds) at n)
 
-alias_tame : (s : Settings) (ds : List TagDirective) (name : List ℕ) → IsSpellable (alias_node name) → NodeTame s ds (alias_node name)
+alias_tame : (s : Settings) (ds : List TagDirective) (name : List ℕ) → IsSpellable (alias_node name)
+    → NodeTame s ds (alias_node name)
 unfolding node_layout alias_layout
 alias_tame s ds name h at =
     both (word (42 ∷ name)) (when (is_simple_part at.part) (char 32)) (word_tame (42 ∷ name) (graphic 42 (omega arith) (omega arith), names_fit name h))
     (when_tame (is_simple_part at.part) (char 32) (char_tame 32 (graphic 32 (omega arith) (omega arith))))
 
-scalar_tame : (s : Settings) (ds : List TagDirective) → TagsFit ds → (x : Scalar) → IsSpellable (scalar_node x) → NodeTame s ds (scalar_node x)
+scalar_tame : (s : Settings) (ds : List TagDirective) → TagsFit ds → (x : Scalar)
+    → IsSpellable (scalar_node x) → NodeTame s ds (scalar_node x)
 unfolding node_layout scalar_layout style_of scalar_text
 scalar_tame s ds fit x (ha, ht, hv) at =
     let p = context s ds in
@@ -65,7 +68,9 @@ ItemsTame s ds ns = (n : ℕ) (fresh : Bool) → Tame (items_layout (context s d
 abbrev PairsTame : Settings → List TagDirective → Pairs → Type 0
 PairsTame s ds ps = (n : ℕ) (fresh : Bool) → Tame (pairs_layout (context s ds) true n fresh ps)
 
-sequence_tame : (s : Settings) (ds : List TagDirective) → TagsFit ds → (q : Start) (ns : Nodes) → IsNameOption q.anchor → IsTextOption q.tag → ItemsTame s ds ns → NodeTame s ds (sequence_node q ns)
+sequence_tame : (s : Settings) (ds : List TagDirective) → TagsFit ds → (q : Start) (ns : Nodes)
+    → IsNameOption q.anchor → IsTextOption q.tag → ItemsTame s ds ns
+    → NodeTame s ds (sequence_node q ns)
 unfolding node_layout
 sequence_tame s ds fit q ns ha ht inner at =
     let p = context s ds in
@@ -74,7 +79,9 @@ sequence_tame s ds fit q ns ha ht inner at =
     (both (opener 91) (checked n ▹ items_layout p true n true ns) (opener_tame 91 (graphic 91 (omega arith) (omega arith)))
     (both (checked n) (items_layout p true n true ns) (checked_tame n) (inner n true)))
 
-mapping_tame : (s : Settings) (ds : List TagDirective) → TagsFit ds → (q : Start) (ps : Pairs) → IsNameOption q.anchor → IsTextOption q.tag → PairsTame s ds ps → NodeTame s ds (mapping_node q ps)
+mapping_tame : (s : Settings) (ds : List TagDirective) → TagsFit ds → (q : Start) (ps : Pairs)
+    → IsNameOption q.anchor → IsTextOption q.tag → PairsTame s ds ps
+    → NodeTame s ds (mapping_node q ps)
 unfolding node_layout
 mapping_tame s ds fit q ps ha ht inner at =
     let p = context s ds in
@@ -93,7 +100,8 @@ turned_tame : (s : Settings) (n : ℕ) → Tame (turned (canonically s) n)
 unfolding turned
 turned_tame s n = line_tame s.line_break n
 
-closer_tame : (s : Settings) (n : ℕ) (fresh : Bool) (x : ℕ) → Fits x → Tame (closer (canonically s) true n fresh x)
+closer_tame : (s : Settings) (n : ℕ) (fresh : Bool) (x : ℕ) → Fits x
+    → Tame (closer (canonically s) true n fresh x)
 unfolding closer
 closer_tame s n fresh x f =
     both (when (not fresh) (char 44 ▹ line_at s (n - s.indent))) (char x)
@@ -108,7 +116,8 @@ pairs_end : (s : Settings) (ds : List TagDirective) → PairsTame s ds no_pairs
 unfolding pairs_layout
 pairs_end s ds n fresh = closer_tame s n fresh 125 (graphic 125 (omega arith) (omega arith))
 
-item_tame : (s : Settings) (ds : List TagDirective) (x : Node) (xs : Nodes) → NodeTame s ds x → ItemsTame s ds xs → ItemsTame s ds (node x xs)
+item_tame : (s : Settings) (ds : List TagDirective) (x : Node) (xs : Nodes) → NodeTame s ds x
+    → ItemsTame s ds xs → ItemsTame s ds (node x xs)
 unfolding items_layout before_item
 item_tame s ds x xs one more n fresh =
     let p = context s ds in
@@ -116,18 +125,21 @@ item_tame s ds x xs one more n fresh =
     (both (comma fresh) (turned (canonically s) n) (comma_tame fresh) (turned_tame s n))
     (both (node_layout p (spot true n part.Item) x) (items_layout p true n false xs) (one (spot true n part.Item)) (more n false))
 
-before_key_tame : (s : Settings) (n : ℕ) (fresh simple : Bool) → Tame (before_key (canonically s) true n fresh simple)
+before_key_tame : (s : Settings) (n : ℕ) (fresh simple : Bool)
+    → Tame (before_key (canonically s) true n fresh simple)
 unfolding before_key
 before_key_tame s n fresh simple =
     both (comma fresh ▹ turned (canonically s) n) (when (not simple) (question true)) (both (comma fresh) (turned (canonically s) n) (comma_tame fresh) (turned_tame s n))
     (when_tame (not simple) (question true) (word_tame (63 ∷ []) (graphic 63 (omega arith) (omega arith), tt)))
 
-before_value_tame : (s : Settings) (n : ℕ) (simple : Bool) → Tame (before_value (canonically s) true n simple)
+before_value_tame : (s : Settings) (n : ℕ) (simple : Bool)
+    → Tame (before_value (canonically s) true n simple)
 unfolding before_value
 before_value_tame s n true = char_tame 58 (graphic 58 (omega arith) (omega arith))
 before_value_tame s n false = both (turned (canonically s) n) (word (58 ∷ [])) (turned_tame s n) (word_tame (58 ∷ []) (graphic 58 (omega arith) (omega arith), tt))
 
-pair_tame : (s : Settings) (ds : List TagDirective) (k v : Node) (ps : Pairs) → NodeTame s ds k → NodeTame s ds v → PairsTame s ds ps → PairsTame s ds (pair k v ps)
+pair_tame : (s : Settings) (ds : List TagDirective) (k v : Node) (ps : Pairs) → NodeTame s ds k
+    → NodeTame s ds v → PairsTame s ds ps → PairsTame s ds (pair k v ps)
 unfolding pairs_layout
 pair_tame s ds k v ps key value more n fresh =
     let p = context s ds in
@@ -138,17 +150,20 @@ pair_tame s ds k v ps key value more n fresh =
     (both (node_layout p (spot true n part.Value) v) (pairs_layout p true n false ps) (value (spot true n part.Value)) (more n false))))
 
 mutual
-  node_tame : (s : Settings) (ds : List TagDirective) → TagsFit ds → (n : Node) → IsSpellable n → NodeTame s ds n
+  node_tame : (s : Settings) (ds : List TagDirective) → TagsFit ds → (n : Node) → IsSpellable n
+      → NodeTame s ds n
   node_tame s ds fit (alias_node name) h = alias_tame s ds name h
   node_tame s ds fit (scalar_node x) h = scalar_tame s ds fit x h
   node_tame s ds fit (sequence_node q items) (ha, ht, h) = sequence_tame s ds fit q items ha ht (items_tame s ds fit items h)
   node_tame s ds fit (mapping_node q pairs) (ha, ht, h) = mapping_tame s ds fit q pairs ha ht (pairs_tame s ds fit pairs h)
 
-  items_tame : (s : Settings) (ds : List TagDirective) → TagsFit ds → (ns : Nodes) → AreSpellable ns → ItemsTame s ds ns
+  items_tame : (s : Settings) (ds : List TagDirective) → TagsFit ds → (ns : Nodes) → AreSpellable ns
+      → ItemsTame s ds ns
   items_tame s ds fit no_nodes h = items_end s ds
   items_tame s ds fit (node x xs) (h, hs) = item_tame s ds x xs (node_tame s ds fit x h) (items_tame s ds fit xs hs)
 
-  pairs_tame : (s : Settings) (ds : List TagDirective) → TagsFit ds → (ps : Pairs) → PairsAreSpellable ps → PairsTame s ds ps
+  pairs_tame : (s : Settings) (ds : List TagDirective) → TagsFit ds → (ps : Pairs)
+      → PairsAreSpellable ps → PairsTame s ds ps
   pairs_tame s ds fit no_pairs h = pairs_end s ds
   pairs_tame s ds fit (pair k v ps) (hk, hv, hs) = pair_tame s ds k v ps (node_tame s ds fit k hk) (node_tame s ds fit v hv) (pairs_tame s ds fit ps hs)
 
@@ -165,7 +180,8 @@ dashes_tame s =
     both (line_at s 0) (word (45 ∷ 45 ∷ 45 ∷ []) ▹ line_at s 0) (line_tame s.line_break 0)
     (both (word (45 ∷ 45 ∷ 45 ∷ [])) (line_at s 0) (word_tame (45 ∷ 45 ∷ 45 ∷ []) (dash, (dash, (dash, tt)))) (line_tame s.line_break 0))
 
-start_tame : (s : Settings) (first unended : Bool) (d : Document) (ds : List Document) → DocumentsAreSpellable (d ∷ ds) → Tame (start_layout (canonically s) first unended d.opening)
+start_tame : (s : Settings) (first unended : Bool) (d : Document) (ds : List Document)
+    → DocumentsAreSpellable (d ∷ ds) → Tame (start_layout (canonically s) first unended d.opening)
 unfolding start_layout
 start_tame s first unended d ds (right, prefixes, root, more) =
     let o = d.opening in
@@ -184,7 +200,9 @@ stop_tame : (s : Settings) (unended : Bool) → Tame (stop_layout (canonically s
 unfolding stop_layout
 stop_tame s unended = when_tame unended (choose is_kept (dots s) stay) (choose_tame is_kept (dots s) stay (dots_tame s) stay_tame)
 
-document_tame : (s : Settings) (first unended : Bool) (d : Document) (ds : List Document) → DocumentsAreSpellable (d ∷ ds) → Tame (documents_layout (canonically s) false d.implicit_end ds)
+document_tame : (s : Settings) (first unended : Bool) (d : Document) (ds : List Document)
+    → DocumentsAreSpellable (d ∷ ds)
+    → Tame (documents_layout (canonically s) false d.implicit_end ds)
     → Tame (documents_layout (canonically s) first unended (d ∷ ds))
 unfolding documents_layout
 document_tame s first unended d ds (right, prefixes, root, more) rest =
@@ -196,7 +214,8 @@ document_tame s first unended d ds (right, prefixes, root, more) rest =
     (both body (end_layout z d.implicit_end ▹ documents_layout z false d.implicit_end ds) (node_tame s o.directives fit d.root root root_spot)
     (both (end_layout z d.implicit_end) (documents_layout z false d.implicit_end ds) (end_tame s d.implicit_end) rest))
 
-pub documents_tame : (s : Settings) (first unended : Bool) (ds : List Document) → DocumentsAreSpellable ds → Tame (documents_layout (canonically s) first unended ds)
+pub documents_tame : (s : Settings) (first unended : Bool) (ds : List Document)
+    → DocumentsAreSpellable ds → Tame (documents_layout (canonically s) first unended ds)
 unfolding documents_layout
 documents_tame s first unended [] h = stop_tame s unended
 documents_tame s first unended (d ∷ ds) (right, prefixes, root, more) = document_tame s first unended d ds (right, prefixes, root, more) (documents_tame s false d.implicit_end ds more)

@@ -25,11 +25,13 @@ split_spells : (s : Split) → IsReadable s → spells_text (tag_body s) ≡ tru
 split_spells (shorthand handle suffix) (shape, text, long) = is_utf8-from_IsUtf8 suffix text
 split_spells (verbatim tag) (text, long) = is_utf8-from_IsUtf8 tag text
 
-anchor_spells : (anchor : Option (List ℕ)) (bs : List TokenBody) → Spell bs → Spell (anchor_bodies anchor bs)
+anchor_spells : (anchor : Option (List ℕ)) (bs : List TokenBody) → Spell bs
+    → Spell (anchor_bodies anchor bs)
 anchor_spells None bs s = s
 anchor_spells (Some name) bs s = (refl, s)
 
-tag_spells : (ds : List TagDirective) (tag : Option (List ℕ)) → IsReadableTag ds tag → (bs : List TokenBody) → Spell bs → Spell (tag_bodies ds tag bs)
+tag_spells : (ds : List TagDirective) (tag : Option (List ℕ)) → IsReadableTag ds tag
+    → (bs : List TokenBody) → Spell bs → Spell (tag_bodies ds tag bs)
 tag_spells ds None r bs s = s
 tag_spells ds (Some t) r bs s = (split_spells (split_tag ds t) r, s)
 
@@ -43,52 +45,64 @@ end_spells true bs s = (refl, s)
 end_spells false bs s = s
 
 -- an anchor, a tag, and what follows
-properties_spell : (ds : List TagDirective) (anchor tag : Option (List ℕ)) → IsReadableTag ds tag → (bs : List TokenBody) → Spell bs → Spell (anchor_bodies anchor (tag_bodies ds tag bs))
+properties_spell : (ds : List TagDirective) (anchor tag : Option (List ℕ)) → IsReadableTag ds tag
+    → (bs : List TokenBody) → Spell bs → Spell (anchor_bodies anchor (tag_bodies ds tag bs))
 properties_spell ds anchor tag r bs s = anchor_spells anchor (tag_bodies ds tag bs) (tag_spells ds tag r bs s)
 
-scalar_spells : (ds : List TagDirective) (x : Scalar) → IsReadableTag ds x.tag → (bs : List TokenBody) → Spell bs → Spell (node_bodies ds (scalar_node x) bs)
+scalar_spells : (ds : List TagDirective) (x : Scalar) → IsReadableTag ds x.tag
+    → (bs : List TokenBody) → Spell bs → Spell (node_bodies ds (scalar_node x) bs)
 unfolding node_bodies
 scalar_spells ds x r bs s =
     let value : List TokenBody = token.scalar x.value YAML_DOUBLE_QUOTED_SCALAR_STYLE ∷ bs in
     properties_spell ds x.anchor x.tag r (mark_bodies (is_marked x) value) (mark_spells (is_marked x) value (refl, s))
 
-sequence_spells : (ds : List TagDirective) (q : Start) (ns : Nodes) → IsReadableTag ds q.tag → (bs : List TokenBody) → Spell (items_bodies ds ns (token.flow_sequence_end ∷ bs)) → Spell (node_bodies ds (sequence_node q ns) bs)
+sequence_spells : (ds : List TagDirective) (q : Start) (ns : Nodes) → IsReadableTag ds q.tag
+    → (bs : List TokenBody) → Spell (items_bodies ds ns (token.flow_sequence_end ∷ bs))
+    → Spell (node_bodies ds (sequence_node q ns) bs)
 unfolding node_bodies
 sequence_spells ds q ns r bs s = properties_spell ds q.anchor q.tag r (token.flow_sequence_start ∷ items_bodies ds ns (token.flow_sequence_end ∷ bs)) (refl, s)
 
-mapping_spells : (ds : List TagDirective) (q : Start) (ps : Pairs) → IsReadableTag ds q.tag → (bs : List TokenBody) → Spell (pairs_bodies ds ps (token.flow_mapping_end ∷ bs)) → Spell (node_bodies ds (mapping_node q ps) bs)
+mapping_spells : (ds : List TagDirective) (q : Start) (ps : Pairs) → IsReadableTag ds q.tag
+    → (bs : List TokenBody) → Spell (pairs_bodies ds ps (token.flow_mapping_end ∷ bs))
+    → Spell (node_bodies ds (mapping_node q ps) bs)
 unfolding node_bodies
 mapping_spells ds q ps r bs s = properties_spell ds q.anchor q.tag r (token.flow_mapping_start ∷ pairs_bodies ds ps (token.flow_mapping_end ∷ bs)) (refl, s)
 
 mutual
   unfolding node_bodies items_bodies pairs_bodies
 
-  node_spells : (ds : List TagDirective) (n : Node) → IsTagged ds n → (bs : List TokenBody) → Spell bs → Spell (node_bodies ds n bs)
+  node_spells : (ds : List TagDirective) (n : Node) → IsTagged ds n → (bs : List TokenBody)
+      → Spell bs → Spell (node_bodies ds n bs)
   node_spells ds (alias_node name) r bs s = (refl, s)
   node_spells ds (scalar_node x) r bs s = scalar_spells ds x r bs s
   node_spells ds (sequence_node q items) (r, rs) bs s = sequence_spells ds q items r bs (items_spell ds items rs (token.flow_sequence_end ∷ bs) (refl, s))
   node_spells ds (mapping_node q pairs) (r, rs) bs s = mapping_spells ds q pairs r bs (pairs_spell ds pairs rs (token.flow_mapping_end ∷ bs) (refl, s))
 
-  items_spell : (ds : List TagDirective) (ns : Nodes) → AreTagged ds ns → (bs : List TokenBody) → Spell bs → Spell (items_bodies ds ns bs)
+  items_spell : (ds : List TagDirective) (ns : Nodes) → AreTagged ds ns → (bs : List TokenBody)
+      → Spell bs → Spell (items_bodies ds ns bs)
   items_spell ds no_nodes r bs s = s
   items_spell ds (node x xs) (r, rs) bs s = node_spells ds x r (token.flow_entry ∷ items_bodies ds xs bs) (refl, items_spell ds xs rs bs s)
 
-  pairs_spell : (ds : List TagDirective) (ps : Pairs) → PairsAreTagged ds ps → (bs : List TokenBody) → Spell bs → Spell (pairs_bodies ds ps bs)
+  pairs_spell : (ds : List TagDirective) (ps : Pairs) → PairsAreTagged ds ps → (bs : List TokenBody)
+      → Spell bs → Spell (pairs_bodies ds ps bs)
   pairs_spell ds no_pairs r bs s = s
   pairs_spell ds (pair k v ps) (rk, rv, rs) bs s =
       let after : List TokenBody = token.flow_entry ∷ pairs_bodies ds ps bs in
       (refl, node_spells ds k rk (token.value ∷ node_bodies ds v after) (refl, node_spells ds v rv after (refl, pairs_spell ds ps rs bs s)))
 
-version_spells : (v : Option yaml_version_directive_t) (bs : List TokenBody) → Spell bs → Spell (version_bodies v bs)
+version_spells : (v : Option yaml_version_directive_t) (bs : List TokenBody) → Spell bs
+    → Spell (version_bodies v bs)
 version_spells None bs s = s
 version_spells (Some v) bs s = (refl, s)
 
-directives_spell : (ds : List TagDirective) → HaveUtf8 ds → (bs : List TokenBody) → Spell bs → Spell (directives_bodies ds bs)
+directives_spell : (ds : List TagDirective) → HaveUtf8 ds → (bs : List TokenBody) → Spell bs
+    → Spell (directives_bodies ds bs)
 unfolding directives_bodies
 directives_spell [] u bs s = s
 directives_spell (d ∷ ds) (u, us) bs s = (is_utf8-from_IsUtf8 d.prefix u, directives_spell ds us bs s)
 
-documents_spell : (unended : Bool) (ds : List Document) → HaveTexts ds → Spell (documents_bodies unended ds)
+documents_spell : (unended : Bool) (ds : List Document) → HaveTexts ds
+    → Spell (documents_bodies unended ds)
 unfolding documents_bodies
 documents_spell unended [] r = (refl, tt)
 documents_spell unended (d ∷ ds) (us, r, rs) =

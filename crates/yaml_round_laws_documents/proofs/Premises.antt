@@ -35,7 +35,8 @@ text_tag : (tag : Option (List ℕ)) → IsTag tag → text.IsWritableTag tag
 text_tag None h = tt
 text_tag (Some t) h = h
 
-text_scalar : (anchor : Option (List ℕ)) (mark : Mark) (value : List ℕ) → IsAnchor anchor → IsMark mark → IsUtf8 value → text.IsWritable (written_node (scalar anchor mark value))
+text_scalar : (anchor : Option (List ℕ)) (mark : Mark) (value : List ℕ) → IsAnchor anchor
+    → IsMark mark → IsUtf8 value → text.IsWritable (written_node (scalar anchor mark value))
 text_scalar anchor (untagged plain) value a m v = (text_anchor anchor a, tt, v)
 text_scalar anchor (tagged t) value a (m, other) v = (text_anchor anchor a, m, v)
 
@@ -72,7 +73,8 @@ bytes_tag : (tag : Option (List ℕ)) → IsTag tag → bytes.IsTextOption tag
 bytes_tag None h = tt
 bytes_tag (Some t) (some, utf8) = utf8
 
-bytes_scalar : (anchor : Option (List ℕ)) (mark : Mark) (value : List ℕ) → IsAnchor anchor → IsMark mark → IsUtf8 value → bytes.IsSpellable (written_node (scalar anchor mark value))
+bytes_scalar : (anchor : Option (List ℕ)) (mark : Mark) (value : List ℕ) → IsAnchor anchor
+    → IsMark mark → IsUtf8 value → bytes.IsSpellable (written_node (scalar anchor mark value))
 bytes_scalar anchor (untagged plain) value a m v = (bytes_anchor anchor a, tt, v)
 bytes_scalar anchor (tagged t) value a ((some, utf8), other) v = (bytes_anchor anchor a, utf8, v)
 
@@ -98,7 +100,8 @@ have_prefixes : (ds : List TagDirective) → HavePrefixes ds → bytes.HavePrefi
 have_prefixes [] h = tt
 have_prefixes (d ∷ ds) (h, hs) = (h, have_prefixes ds hs)
 
-pub are_spellable : (c : List Document) → AreWritable c → bytes.DocumentsAreSpellable (written_documents c)
+pub are_spellable : (c : List Document) → AreWritable c
+    → bytes.DocumentsAreSpellable (written_documents c)
 are_spellable [] h = tt
 are_spellable (d ∷ ds) (h, hs) = (h.opening, have_prefixes d.directives h.prefixes, bytes_node d.root h.root, are_spellable ds hs)
 
@@ -109,30 +112,37 @@ record Opened (o : Opening) : Type 0 where
   right : opening_problem o ≡ None
   utf8 : HaveUtf8 o.directives
 
-readable_tag : WrittenTagsAreReadable → (o : Opening) → Opened o → (tag : Option (List ℕ)) → IsTag tag → IsReadableTag o.directives tag
+readable_tag : WrittenTagsAreReadable → (o : Opening) → Opened o → (tag : Option (List ℕ))
+    → IsTag tag → IsReadableTag o.directives tag
 readable_tag law o h None t = tt
 readable_tag law o h (Some t) (some, utf8) = law o h.right h.utf8 t utf8 some
 
-tagged_scalar : WrittenTagsAreReadable → (o : Opening) → Opened o → (anchor : Option (List ℕ)) (mark : Mark) (value : List ℕ) → IsMark mark → IsTagged o.directives (written_node (scalar anchor mark value))
+tagged_scalar : WrittenTagsAreReadable → (o : Opening) → Opened o
+    → (anchor : Option (List ℕ)) (mark : Mark) (value : List ℕ) → IsMark mark
+    → IsTagged o.directives (written_node (scalar anchor mark value))
 tagged_scalar law o h anchor (untagged plain) value m = tt
 tagged_scalar law o h anchor (tagged t) value (m, other) = readable_tag law o h (Some t) m
 
 mutual
-  tagged_node : WrittenTagsAreReadable → (o : Opening) → Opened o → (n : Node) → IsWritable n → IsTagged o.directives (written_node n)
+  tagged_node : WrittenTagsAreReadable → (o : Opening) → Opened o → (n : Node) → IsWritable n
+      → IsTagged o.directives (written_node n)
   tagged_node law o h (alias name) w = tt
   tagged_node law o h (scalar anchor mark value) (a, m, v) = tagged_scalar law o h anchor mark value m
   tagged_node law o h (sequence anchor tag items) (a, t, w) = (readable_tag law o h tag t, tagged_items law o h items w)
   tagged_node law o h (mapping anchor tag pairs) (a, t, w) = (readable_tag law o h tag t, tagged_pairs law o h pairs w)
 
-  tagged_items : WrittenTagsAreReadable → (o : Opening) → Opened o → (ns : Nodes) → AreItemsWritable ns → AreTagged o.directives (written_nodes ns)
+  tagged_items : WrittenTagsAreReadable → (o : Opening) → Opened o → (ns : Nodes)
+      → AreItemsWritable ns → AreTagged o.directives (written_nodes ns)
   tagged_items law o h no_nodes w = tt
   tagged_items law o h (node n ns) (w, ws) = (tagged_node law o h n w, tagged_items law o h ns ws)
 
-  tagged_pairs : WrittenTagsAreReadable → (o : Opening) → Opened o → (ps : Pairs) → ArePairsWritable ps → PairsAreTagged o.directives (written_pairs ps)
+  tagged_pairs : WrittenTagsAreReadable → (o : Opening) → Opened o → (ps : Pairs)
+      → ArePairsWritable ps → PairsAreTagged o.directives (written_pairs ps)
   tagged_pairs law o h no_pairs w = tt
   tagged_pairs law o h (pair k v ps) (wk, wv, ws) = (tagged_node law o h k wk, tagged_node law o h v wv, tagged_pairs law o h ps ws)
 
-pub have_texts : WrittenTagsAreReadable → (c : List Document) → AreWritable c → HaveTexts (written_documents c)
+pub have_texts : WrittenTagsAreReadable → (c : List Document) → AreWritable c
+    → HaveTexts (written_documents c)
 have_texts law [] h = tt
 have_texts law (d ∷ ds) (h, hs) =
     let utf8 = have_utf8 d.directives h.prefixes in
@@ -148,7 +158,8 @@ not_bang t other =
       | inr h ↦ h
     ]
 
-fine_scalar : (anchor : Option (List ℕ)) (mark : Mark) (value : List ℕ) → IsMark mark → IsNoMark (written_scalar anchor mark value).tag
+fine_scalar : (anchor : Option (List ℕ)) (mark : Mark) (value : List ℕ) → IsMark mark
+    → IsNoMark (written_scalar anchor mark value).tag
 fine_scalar anchor (untagged plain) value m = tt
 fine_scalar anchor (tagged t) value (m, other) = not_bang t other
 

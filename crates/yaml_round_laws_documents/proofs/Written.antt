@@ -37,7 +37,8 @@ use Rattle.yaml_round_laws_documents.proofs.Sound.{AreDocuments, documents_sound
 some_byte : (n : ℕ) → (n == 0) ≡ false → 0 < n
 some_byte n h = grind (arith, nat_tests)
 
-tests_of : (none all : Bool) (p q : Problem) → (if none then Some p else if all then None else Some q) ≡ None → (none ≡ false) × (all ≡ true)
+tests_of : (none all : Bool) (p q : Problem)
+    → (if none then Some p else if all then None else Some q) ≡ None → (none ≡ false) × (all ≡ true)
 tests_of true all p q e = absurd (cc)
 tests_of false true p q e = (refl, refl)
 tests_of false false p q e = absurd (cc)
@@ -84,13 +85,15 @@ str_fine = record { some = omega arith; utf8 = str_utf8; other = no_bang str_tag
 abbrev FineNodes : List model.Node → Type 0
 FineNodes nodes = (k : ℕ) → IsFine (tag_at (slice_get nodes k)) (body_at (slice_get nodes k))
 
-fine_at : (count : ℕ) (nodes : List model.Node) (k : ℕ) → AreSound count nodes → AreTagged nodes → ((n : model.Node) → slice_get nodes k ≡ Some n → is_bang n.tag ≡ false)
+fine_at : (count : ℕ) (nodes : List model.Node) (k : ℕ) → AreSound count nodes → AreTagged nodes
+    → ((n : model.Node) → slice_get nodes k ≡ Some n → is_bang n.tag ≡ false)
     → IsFine (tag_at (slice_get nodes k)) (body_at (slice_get nodes k))
 fine_at count [] k s t b = str_fine
 fine_at count (n ∷ ns) zero s t b = record { some = t.0; utf8 = s.0.0; other = no_bang n.tag (b n refl); text = text_of count n.body s.0.1 }
 fine_at count (n ∷ ns) (suc k) s t b = fine_at count ns k s.1 t.1 b
 
-fine_id : (nodes : List model.Node) → FineNodes nodes → (id : ℤ) → IsFine (tag_of_id nodes id) (body_of_id nodes id)
+fine_id : (nodes : List model.Node) → FineNodes nodes → (id : ℤ)
+    → IsFine (tag_of_id nodes id) (body_of_id nodes id)
 fine_id nodes h (pos zero) = str_fine
 fine_id nodes h (pos (suc k)) = h k
 fine_id nodes h (negsuc k) = str_fine
@@ -101,23 +104,28 @@ record KeepsNode (rest : emit.Node → Met → emit.Node) : Type 0 where
   goes : (v : emit.Node) (m : Met) → IsWritable (tree_of v) → IsWritable (tree_of (rest v m))
 
 record KeepsNodes (rest : emit.Nodes → Met → emit.Node) : Type 0 where
-  goes : (vs : emit.Nodes) (m : Met) → AreItemsWritable (trees_of vs) → IsWritable (tree_of (rest vs m))
+  goes : (vs : emit.Nodes) (m : Met) → AreItemsWritable (trees_of vs)
+      → IsWritable (tree_of (rest vs m))
 
 record KeepsPairs (rest : emit.Pairs → Met → emit.Node) : Type 0 where
-  goes : (ps : emit.Pairs) (m : Met) → ArePairsWritable (pair_trees_of ps) → IsWritable (tree_of (rest ps m))
+  goes : (ps : emit.Pairs) (m : Met) → ArePairsWritable (pair_trees_of ps)
+      → IsWritable (tree_of (rest ps m))
 
 record Visits (visit : ℤ → (emit.Node → Met → emit.Node) → Met → emit.Node) : Type 0 where
-  goes : (id : ℤ) (rest : emit.Node → Met → emit.Node) (met : Met) → KeepsNode rest → IsWritable (tree_of (visit id rest met))
+  goes : (id : ℤ) (rest : emit.Node → Met → emit.Node) (met : Met) → KeepsNode rest
+      → IsWritable (tree_of (visit id rest met))
 
 module _ (visit : ℤ → (emit.Node → Met → emit.Node) → Met → emit.Node) (w : Visits visit) where
-  items_written : (ids : List ℤ) (rest : emit.Nodes → Met → emit.Node) (met : Met) → KeepsNodes rest → IsWritable (tree_of (items_by visit ids rest met))
+  items_written : (ids : List ℤ) (rest : emit.Nodes → Met → emit.Node) (met : Met) → KeepsNodes rest
+      → IsWritable (tree_of (items_by visit ids rest met))
   unfolding items_by
   items_written [] rest met k = k.goes emit.no_nodes met tt
   items_written (id ∷ ids) rest met k = w.goes id _ met record {
     goes = λ v m a. items_written ids _ m record { goes = λ vs n b. k.goes (emit.node v vs) n (a, b) };
   }
 
-  pairs_written : (ps : List yaml_node_pair_t) (rest : emit.Pairs → Met → emit.Node) (met : Met) → KeepsPairs rest → IsWritable (tree_of (pairs_by visit ps rest met))
+  pairs_written : (ps : List yaml_node_pair_t) (rest : emit.Pairs → Met → emit.Node) (met : Met)
+      → KeepsPairs rest → IsWritable (tree_of (pairs_by visit ps rest met))
   unfolding pairs_by
   pairs_written [] rest met k = k.goes emit.no_pairs met tt
   pairs_written (p ∷ ps) rest met k = w.goes p.key _ met record {
@@ -126,7 +134,9 @@ module _ (visit : ℤ → (emit.Node → Met → emit.Node) → Met → emit.Nod
     };
   }
 
-  made_written : (anchor : Option (List ℕ)) (tag : List ℕ) (body : model.NodeBody) (rest : emit.Node → Met → emit.Node) (met : Met) → IsAnchor anchor → IsFine tag body → KeepsNode rest
+  made_written : (anchor : Option (List ℕ)) (tag : List ℕ) (body : model.NodeBody)
+      (rest : emit.Node → Met → emit.Node) (met : Met) → IsAnchor anchor → IsFine tag body
+      → KeepsNode rest
       → IsWritable (tree_of (node_by visit anchor tag body rest met))
   made_written anchor tag model.no rest met a f k = k.goes _ met (a, ((f.some, f.utf8), f.other), IsUtf8-nil)
   made_written anchor tag (model.scalar value style) rest met a f k = k.goes _ met (a, ((f.some, f.utf8), f.other), f.text)
@@ -135,11 +145,13 @@ module _ (visit : ℤ → (emit.Node → Met → emit.Node) → Met → emit.Nod
   made_written anchor tag (model.mapping pairs style) rest met a f k =
       pairs_written pairs (λ vs. rest (emit.mapping_node (graph_start anchor tag map_tag (is_flow_mapping style)) vs)) met record { goes = λ ps m b. k.goes _ m (a, (f.some, f.utf8), b) }
 
-either_written : (b : Bool) (x y : emit.Node) → IsWritable (tree_of x) → IsWritable (tree_of y) → IsWritable (tree_of (if b then x else y))
+either_written : (b : Bool) (x y : emit.Node) → IsWritable (tree_of x) → IsWritable (tree_of y)
+    → IsWritable (tree_of (if b then x else y))
 either_written true x y h k = h
 either_written false x y h k = k
 
-content_written : (n : ℕ) (table : List ℕ) (nodes : List model.Node) → FineNodes nodes → Visits (content_by n table nodes)
+content_written : (n : ℕ) (table : List ℕ) (nodes : List model.Node) → FineNodes nodes
+    → Visits (content_by n table nodes)
 unfolding content_by
 content_written zero table nodes h = record { goes = λ id rest met k. k.goes (emit.alias_node (name_of (number_at table id))) met (name_writable (number_at table id)) }
 content_written (suc n) table nodes h = record {
@@ -157,14 +169,16 @@ prefixes_written : (ds : List TagDirective) → AreUtf8 ds → HavePrefixes ds
 prefixes_written [] u = tt
 prefixes_written (d ∷ ds) u = (u.0.1, prefixes_written ds u.1)
 
-document_written : (d : documents.Document) → documents.IsDocument d → RightDocument d → IsLoadedDocument d → IsWritableDocument (document_tree (graph_content d))
+document_written : (d : documents.Document) → documents.IsDocument d → RightDocument d
+    → IsLoadedDocument d → IsWritableDocument (document_tree (graph_content d))
 document_written d s r l = record {
   opening = r.opening;
   prefixes = prefixes_written d.directives s.directives;
   root = root_written d.nodes (λ k. fine_at (length d.nodes) d.nodes k s.nodes r.tags (λ n e. (l.nodes k n e).1));
 }
 
-documents_written : (ds : List documents.Document) → AreDocuments ds → AreRight ds → AreLoadedDocuments ds → AreWritable (trees_of_dumps ds)
+documents_written : (ds : List documents.Document) → AreDocuments ds → AreRight ds
+    → AreLoadedDocuments ds → AreWritable (trees_of_dumps ds)
 documents_written [] s r l = tt
 documents_written (d ∷ ds) s r l = (document_written d s.0 r.0 l.0, documents_written ds s.1 r.1 l.1)
 

@@ -84,17 +84,20 @@ item_fed i (stop is f) (go js z) h = absurd h
 item_fed i (go is s) (stop js g) h = absurd h
 item_fed i (go is s) (go js z) (h, e) = ((inl refl, h), e)
 
-option_given : (i j : Option RawEvent) (one two s : List State) → IsLikeOption i j → one ≡ two → IsLikeFed (given_by (taken i one) s) (given_by (taken j two) s)
+option_given : (i j : Option RawEvent) (one two s : List State) → IsLikeOption i j → one ≡ two
+    → IsLikeFed (given_by (taken i one) s) (given_by (taken j two) s)
 option_given None None one two s h e = (tt, ap (λ (z : List State). z ++ s) e)
 option_given None (Some j) one two s h e = absurd h
 option_given (Some i) None one two s h e = absurd h
 option_given (Some i) (Some j) one two s h e = ((h, tt), ap (λ (z : List State). z ++ s) e)
 
-taken_given : (p q : Taken) (s : List State) → IsLikeTaken p q → IsLikeFed (given_by p s) (given_by q s)
+taken_given : (p q : Taken) (s : List State) → IsLikeTaken p q
+    → IsLikeFed (given_by p s) (given_by q s)
 taken_given p q s (h, e) = option_given p.item q.item p.above q.above s h e
 
 -- what a state takes of a stream's start tells the encoding at most
-taken_start : (q : State) (x y : yaml_encoding_t) (from to : yaml_mark_t) → IsLikeTaken (taken_at q (start x from to)) (taken_at q (start y from to))
+taken_start : (q : State) (x y : yaml_encoding_t) (from to : yaml_mark_t)
+    → IsLikeTaken (taken_at q (start x from to)) (taken_at q (start y from to))
 taken_start state.stream x y from to = (inr record { one = x; two = y; from = from; to = to; first = refl; second = refl }, refl)
 taken_start state.first x y from to = same_taken (taken_at state.first (start x from to))
 taken_start state.documents x y from to = same_taken (taken_at state.documents (start x from to))
@@ -111,7 +114,8 @@ taken_start (state.more b m) x y from to = same_taken (taken_at (state.more b m)
 taken_start state.pair_end x y from to = same_taken (taken_at state.pair_end (start x from to))
 taken_start state.lone x y from to = same_taken (taken_at state.lone (start x from to))
 
-turn_start : (c : Choice) (q : State) (x y : yaml_encoding_t) (from to : yaml_mark_t) (s : List State) (a b : Fed) → IsLikeFed a b
+turn_start : (c : Choice) (q : State) (x y : yaml_encoding_t) (from to : yaml_mark_t)
+    (s : List State) (a b : Fed) → IsLikeFed a b
     → IsLikeFed (turn c q (start x from to) s a) (turn c q (start y from to) s b)
 turn_start (Refuse p opener) q x y from to s a b h = (tt, refl)
 turn_start Take q x y from to s a b h = taken_given (taken_at q (start x from to)) (taken_at q (start y from to)) s (taken_start q x y from to)
@@ -123,7 +127,8 @@ turn_start Open q x y from to s a b h =
     let n = taken_at r (start y from to) in
     item_fed (item_at (item.document true) from from) (given_by p z) (given_by n z) (taken_given p n z (taken_start r x y from to))
 
-feed_start : (s : List State) (x y : yaml_encoding_t) (from to : yaml_mark_t) → IsLikeFed (feed s (start x from to)) (feed s (start y from to))
+feed_start : (s : List State) (x y : yaml_encoding_t) (from to : yaml_mark_t)
+    → IsLikeFed (feed s (start x from to)) (feed s (start y from to))
 unfolding feed
 feed_start [] x y from to = (tt, refl)
 feed_start (q ∷ s) x y from to =
@@ -147,14 +152,17 @@ same_given : (gs : List Given) → AreGivenLike gs gs
 same_given [] = tt
 same_given (g ∷ gs) = (inl refl, same_given gs)
 
-given_more : (n m : ℕ) (is js : List RawEvent) (gs hs : List Given) → AreLike is js → AreGivenLike gs hs
-    → AreGivenLike (map (λ (i : RawEvent). (i, n)) is ++ gs) (map (λ (i : RawEvent). (i, m)) js ++ hs)
+given_more : (n m : ℕ) (is js : List RawEvent) (gs hs : List Given) → AreLike is js
+    → AreGivenLike gs hs
+    → AreGivenLike (map (λ (i : RawEvent). (i, n)) is ++ gs)
+    (map (λ (i : RawEvent). (i, m)) js ++ hs)
 given_more n m [] [] gs hs a k = k
 given_more n m [] (j ∷ js) gs hs a k = absurd a
 given_more n m (i ∷ is) [] gs hs a k = absurd a
 given_more n m (i ∷ is) (j ∷ js) gs hs (a, rest) k = (a, given_more n m is js gs hs rest k)
 
-given_alone : (n m : ℕ) (is js : List RawEvent) → AreLike is js → AreGivenLike (map (λ (i : RawEvent). (i, n)) is) (map (λ (i : RawEvent). (i, m)) js)
+given_alone : (n m : ℕ) (is js : List RawEvent) → AreLike is js
+    → AreGivenLike (map (λ (i : RawEvent). (i, n)) is) (map (λ (i : RawEvent). (i, m)) js)
 given_alone n m [] [] a = tt
 given_alone n m [] (j ∷ js) a = absurd a
 given_alone n m (i ∷ is) [] a = absurd a
@@ -163,7 +171,8 @@ given_alone n m (i ∷ is) (j ∷ js) (a, rest) = (a, given_alone n m is js rest
 abbrev pub IsLikeOutcome : Outcome → Outcome → Type 0
 IsLikeOutcome o p = AreGivenLike o.items p.items × (o.ending ≡ p.ending)
 
-carry_alike : (n m : ℕ) (a b : Fed) (k l : List State → Outcome) → IsLikeFed a b → ((s : List State) → IsLikeOutcome (k s) (l s)) → IsLikeOutcome (carry n a k) (carry m b l)
+carry_alike : (n m : ℕ) (a b : Fed) (k l : List State → Outcome) → IsLikeFed a b
+    → ((s : List State) → IsLikeOutcome (k s) (l s)) → IsLikeOutcome (carry n a k) (carry m b l)
 carry_alike n m (stop is f) (stop js g) k l (h, e) more = (given_alone n m is js h, ap (λ (x : Fault). Some x) e)
 carry_alike n m (stop is f) (go js z) k l h more = absurd h
 carry_alike n m (go is s) (stop js g) k l h more = absurd h
@@ -171,7 +180,8 @@ carry_alike n m (go is s) (go js z) k l (h, e) more =
     let r : IsLikeOutcome (k s) (l z) = subst (λ (x : List State). IsLikeOutcome (k s) (l x)) e (more s) in
     (given_more n m is js (k s).items (l z).items h r.0, r.1)
 
-pub run_alike : (ts us : List Token) (s : List State) (f : Option Fault) → AreAlike ts us → IsLikeOutcome (run ts s f) (run us s f)
+pub run_alike : (ts us : List Token) (s : List State) (f : Option Fault) → AreAlike ts us
+    → IsLikeOutcome (run ts s f) (run us s f)
 unfolding run
 run_alike [] [] s f h = (same_given (at_end f s).items, refl)
 run_alike [] (u ∷ us) s f h = absurd h
@@ -184,16 +194,20 @@ run_alike (t ∷ ts) (u ∷ us) s f (h, hs) =
 abbrev pub SaysAlike : Reading → Reading → Type 0
 SaysAlike p q = (contents p.events ≡ contents q.events) × (p.ending ≡ q.ending)
 
-settled_alike : (x : Settled) (i j : RawEvent) (n m : ℕ) (k l : Directives → Reading) → ((ds : Directives) → SaysAlike (k ds) (l ds)) → SaysAlike (read_on x i n k) (read_on x j m l)
+settled_alike : (x : Settled) (i j : RawEvent) (n m : ℕ) (k l : Directives → Reading)
+    → ((ds : Directives) → SaysAlike (k ds) (l ds)) → SaysAlike (read_on x i n k) (read_on x j m l)
 settled_alike (refused f) i j n m k l h = (refl, refl)
 settled_alike (gave body ds) i j n m k l h = (ap (λ (es : List EventBody). content_of (normalize_body true body) ∷ es) (h ds).0, (h ds).1)
 settled_alike (noted ds) i j n m k l h = h ds
 
-opened_alike : (x y : yaml_encoding_t) (from to : yaml_mark_t) (n m : ℕ) (ds : Directives) (k l : Directives → Reading) → ((e : Directives) → SaysAlike (k e) (l e))
-    → SaysAlike (read_on (settle (opened x from to) ds) (opened x from to) n k) (read_on (settle (opened y from to) ds) (opened y from to) m l)
+opened_alike : (x y : yaml_encoding_t) (from to : yaml_mark_t) (n m : ℕ) (ds : Directives)
+    (k l : Directives → Reading) → ((e : Directives) → SaysAlike (k e) (l e))
+    → SaysAlike (read_on (settle (opened x from to) ds) (opened x from to) n k)
+    (read_on (settle (opened y from to) ds) (opened y from to) m l)
 opened_alike x y from to n m ds k l h = (ap (λ (es : List EventBody). event.stream_start YAML_ANY_ENCODING ∷ es) (h ds).0, (h ds).1)
 
-one_read : (i j : RawEvent) (n m : ℕ) (ds : Directives) (k l : Directives → Reading) → IsLike i j → ((e : Directives) → SaysAlike (k e) (l e))
+one_read : (i j : RawEvent) (n m : ℕ) (ds : Directives) (k l : Directives → Reading) → IsLike i j
+    → ((e : Directives) → SaysAlike (k e) (l e))
     → SaysAlike (read_on (settle i ds) i n k) (read_on (settle j ds) j m l)
 one_read i j n m ds k l (inl e) h = subst (λ (z : RawEvent). SaysAlike (read_on (settle i ds) i n k) (read_on (settle z ds) z m l)) e (settled_alike (settle i ds) i i n m k l h)
 one_read i j n m ds k l (inr b) h =
@@ -201,7 +215,8 @@ one_read i j n m ds k l (inr b) h =
     (subst (λ (z : RawEvent). SaysAlike (read_on (settle z ds) z n k) (read_on (settle (opened b.two b.from b.to) ds) (opened b.two b.from b.to) m l)) (sym b.first)
     (opened_alike b.one b.two b.from b.to n m ds k l h))
 
-pub read_alike : (gs hs : List Given) (f : Option Fault) (ds : Directives) → AreGivenLike gs hs → SaysAlike (reading gs f ds) (reading hs f ds)
+pub read_alike : (gs hs : List Given) (f : Option Fault) (ds : Directives) → AreGivenLike gs hs
+    → SaysAlike (reading gs f ds) (reading hs f ds)
 unfolding reading
 read_alike [] [] f ds h = (refl, refl)
 read_alike [] (j ∷ js) f ds h = absurd h

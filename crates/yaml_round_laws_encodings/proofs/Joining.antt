@@ -20,7 +20,8 @@ use Rattle.yaml_round_laws_encodings.proofs.Events.{SaysAlike, IsLikeOutcome, ru
 abbrev reading_in : yaml_encoding_t → List ℕ → Reading
 reading_in x text = parsed (adapted (offline (spelled x text)))
 
-read_is : (from : yaml_encoding_t) (input text : List ℕ) → Spells from input text → read from input ≡ reading_in (encoding_of from input) text
+read_is : (from : yaml_encoding_t) (input text : List ℕ) → Spells from input text
+    → read from input ≡ reading_in (encoding_of from input) text
 unfolding read
 read_is from input text h = ap (λ (d : Result (List ℕ) Offence). parsed (adapted (scanned_in (encoding_of from input) d))) (spells_decoded from input text h)
 

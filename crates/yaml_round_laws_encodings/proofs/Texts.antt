@@ -23,7 +23,9 @@ of_text from input text h = ap (λ (d : Result (List ℕ) Offence). scanned_in (
 abbrev Refused : Remaining → Type 0
 Refused c = (fault : Fault) × (fault.kind ≡ YAML_READER_ERROR) × (let r : Remaining = record { tokens = []; fault = Some fault } in c ≡ r)
 
-refused_by : (from : yaml_encoding_t) (input : List ℕ) (d : Result (List ℕ) Offence) → decoded_text from input ≡ d → ((text : List ℕ) → d ≡ Ok text → ⊥) → Refused (scanned_in (encoding_of from input) d)
+refused_by : (from : yaml_encoding_t) (input : List ℕ) (d : Result (List ℕ) Offence)
+    → decoded_text from input ≡ d → ((text : List ℕ) → d ≡ Ok text → ⊥)
+    → Refused (scanned_in (encoding_of from input) d)
 refused_by from input (Ok text) e never = absurd (never text refl)
 refused_by from input (Err o) e never = (reader_fault o, refl, refl)
 

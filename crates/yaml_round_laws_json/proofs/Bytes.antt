@@ -24,15 +24,18 @@ printed_allowed : (b : ℕ) → 32 ≤ b → b < 127 → is_allowed b ≡ true
 unfolding is_allowed
 printed_allowed b l h = grind (arith, nat_tests)
 
-low_allowed : (c : ℕ) → c < 55296 → (nat_le 32 c && not (c == 34 || c == 92)) ≡ true → not (is_refused c || ends_line c) ≡ true → is_allowed c ≡ true
+low_allowed : (c : ℕ) → c < 55296 → (nat_le 32 c && not (c == 34 || c == 92)) ≡ true
+    → not (is_refused c || ends_line c) ≡ true → is_allowed c ≡ true
 unfolding is_allowed
 low_allowed c l h k = grind (arith, nat_tests)
 
-high_allowed : (c : ℕ) → 57344 ≤ c → c < 1114112 → not (is_refused c || ends_line c) ≡ true → is_allowed c ≡ true
+high_allowed : (c : ℕ) → 57344 ≤ c → c < 1114112 → not (is_refused c || ends_line c) ≡ true
+    → is_allowed c ≡ true
 unfolding is_allowed
 high_allowed c l m k = grind (arith, nat_tests)
 
-kept_allowed : (c : ℕ) → scalar c ≡ true → (nat_le 32 c && not (c == 34 || c == 92)) ≡ true → not (is_refused c || ends_line c) ≡ true → is_allowed c ≡ true
+kept_allowed : (c : ℕ) → scalar c ≡ true → (nat_le 32 c && not (c == 34 || c == 92)) ≡ true
+    → not (is_refused c || ends_line c) ≡ true → is_allowed c ≡ true
 kept_allowed c s h k = elim (scalar_cases c s) [ inl l ↦ low_allowed c l h k | inr (l, m) ↦ high_allowed c l m k ]
 
 passes : Passes is_allowed
@@ -71,7 +74,8 @@ signs_on (b ∷ value) bs h s = let (here, rest) = and_parts (is_solid b) (list_
 mutual
   unfolding value_bytes elements_bytes members_bytes
 
-  value_fine : (v : Value) → IsValue v → IsUsual v → (bs : List ℕ) → Fine bs → Fine (value_bytes v bs)
+  value_fine : (v : Value) → IsValue v → IsUsual v → (bs : List ℕ) → Fine bs
+      → Fine (value_bytes v bs)
   value_fine (literal l) h u bs s = signs_on (literal_bytes l) bs (plain_bytes (literal_bytes l) (literal_plain l)) s
   value_fine (number n) h u bs s = signs_on (number_bytes n) bs (plain_bytes (number_bytes n) (number_plain n h)) s
   value_fine (string ls) h u bs s = string_before is_allowed passes ls bs h u s
@@ -80,13 +84,15 @@ mutual
   value_fine (empty_object w) h u bs s = sign_on 123 (w ++ 125 ∷ bs) refl (white_on w (125 ∷ bs) h (sign_on 125 bs refl s))
   value_fine (object w members) (hw, h) u bs s = sign_on 123 (w ++ members_bytes members (125 ∷ bs)) refl (white_on w (members_bytes members (125 ∷ bs)) hw (members_fine members h u (125 ∷ bs) (sign_on 125 bs refl s)))
 
-  elements_fine : (elements : Elements) → AreElements elements → AreUsual elements → (bs : List ℕ) → Fine bs → Fine (elements_bytes elements bs)
+  elements_fine : (elements : Elements) → AreElements elements → AreUsual elements → (bs : List ℕ)
+      → Fine bs → Fine (elements_bytes elements bs)
   elements_fine (last_element v a) (h, ha) u bs s = value_fine v h u (a ++ bs) (white_on a bs ha s)
   elements_fine (element v a b elements) (h, ha, hb, hs) (u, us) bs s =
       let rest = elements_bytes elements bs in
       value_fine v h u (a ++ 44 ∷ (b ++ rest)) (white_on a (44 ∷ (b ++ rest)) ha (sign_on 44 (b ++ rest) refl (white_on b rest hb (elements_fine elements hs us bs s))))
 
-  members_fine : (members : Members) → AreMembers members → MembersAreUsual members → (bs : List ℕ) → Fine bs → Fine (members_bytes members bs)
+  members_fine : (members : Members) → AreMembers members → MembersAreUsual members → (bs : List ℕ)
+      → Fine bs → Fine (members_bytes members bs)
   members_fine (last_member k a b v c) (hk, ha, hb, h, hc) (kept, near, u) bs s =
       let value = value_bytes v (c ++ bs) in
       string_before is_allowed passes k (a ++ 58 ∷ (b ++ value)) hk kept (white_on a (58 ∷ (b ++ value)) ha (sign_on 58 (b ++ value) refl (white_on b value hb (value_fine v h u (c ++ bs) (white_on c bs hc s)))))
@@ -117,26 +123,33 @@ low_by : (bs : List ℕ) → begins_solid bs ≡ true → begins_low bs ≡ true
 low_by [] h = h
 low_by (b ∷ bs) h = solid_low b h
 
-text_low : (front : List ℕ) (v : Value) (back : List ℕ) → are_white front ≡ true → IsValue v → begins_low (front ++ value_bytes v back) ≡ true
+text_low : (front : List ℕ) (v : Value) (back : List ℕ) → are_white front ≡ true → IsValue v
+    → begins_low (front ++ value_bytes v back) ≡ true
 text_low [] v back h is = low_by (value_bytes v back) (value_begins v is back)
 text_low (w ∷ front) v back h is = white_low w (and_parts (is_white w) (are_white front) h).0
 
-no_mark : (bs : List ℕ) → begins_low bs ≡ true → (begins_low_first bs ≡ false) × (begins_high_first bs ≡ false) × (begins_utf8 bs ≡ false)
+no_mark : (bs : List ℕ) → begins_low bs ≡ true
+    → (begins_low_first bs ≡ false) × (begins_high_first bs ≡ false) × (begins_utf8 bs ≡ false)
 no_mark [] h = absurd (true≢false (sym h))
 no_mark (b ∷ bs) h = (rw (apart b 0xFF h (omega arith)) refl, rw (apart b 0xFE h (omega arith)) refl, rw (apart b 0xEF h (omega arith)) refl)
   where
     apart : (b n : ℕ) → nat_lt b 128 ≡ true → 128 ≤ n → nat_eq n b ≡ false
     apart b n h l = grind (arith, nat_tests)
 
-any_told : (bs : List ℕ) → begins_low bs ≡ true → (mark_length YAML_ANY_ENCODING bs ≡ 0) × (encoding_of YAML_ANY_ENCODING bs ≡ YAML_UTF8_ENCODING)
+any_told : (bs : List ℕ) → begins_low bs ≡ true
+    → (mark_length YAML_ANY_ENCODING bs ≡ 0)
+    × (encoding_of YAML_ANY_ENCODING bs ≡ YAML_UTF8_ENCODING)
 unfolding mark_length encoding_of
 any_told bs h = let (a, b, c) = no_mark bs h in (rw (a, b, c) refl, rw (a, b) refl)
 
-utf8_told : (bs : List ℕ) → (mark_length YAML_UTF8_ENCODING bs ≡ 0) × (encoding_of YAML_UTF8_ENCODING bs ≡ YAML_UTF8_ENCODING)
+utf8_told : (bs : List ℕ)
+    → (mark_length YAML_UTF8_ENCODING bs ≡ 0)
+    × (encoding_of YAML_UTF8_ENCODING bs ≡ YAML_UTF8_ENCODING)
 unfolding mark_length encoding_of
 utf8_told bs = (refl, refl)
 
-told : (from : yaml_encoding_t) → may_be_utf8 from ≡ true → (bs : List ℕ) → begins_low bs ≡ true → (mark_length from bs ≡ 0) × (encoding_of from bs ≡ YAML_UTF8_ENCODING)
+told : (from : yaml_encoding_t) → may_be_utf8 from ≡ true → (bs : List ℕ) → begins_low bs ≡ true
+    → (mark_length from bs ≡ 0) × (encoding_of from bs ≡ YAML_UTF8_ENCODING)
 told YAML_ANY_ENCODING may bs h = any_told bs h
 told YAML_UTF8_ENCODING may bs h = utf8_told bs
 told YAML_UTF16LE_ENCODING may bs h = absurd (true≢false (sym may))
@@ -147,7 +160,8 @@ in_utf8 [] = refl
 in_utf8 (c ∷ cs) = ap (λ (b : List ℕ). encode_utf8 c ++ b) (in_utf8 cs)
 
 -- In UTF-8 the bytes spell themselves.
-pub text_spells : (from : yaml_encoding_t) → may_be_utf8 from ≡ true → (bytes : List ℕ) (t : Text) → IsJsonText bytes t → IsUsualText t → Spells from bytes bytes
+pub text_spells : (from : yaml_encoding_t) → may_be_utf8 from ≡ true → (bytes : List ℕ) (t : Text)
+    → IsJsonText bytes t → IsUsualText t → Spells from bytes bytes
 text_spells from may bytes t is u =
     let s = text_fine bytes t is u in
     let low = ap (λ (bs : List ℕ). begins_low bs) is.spelled ∙ text_low t.front t.value t.back is.front is.value in

@@ -29,7 +29,8 @@ record Stopped (implicit : Bool) (ts : List Token) : Type 0 where
   same : ts ≡ spell_ends ends (token_at token.stream_end last ∷ rest)
   flag : no_spans ends ≡ implicit
 
-stopped : (implicit : Bool) (ts : List Token) → token_bodies ts ≡ stop_bodies implicit (token.stream_end ∷ []) → Stopped implicit ts
+stopped : (implicit : Bool) (ts : List Token)
+    → token_bodies ts ≡ stop_bodies implicit (token.stream_end ∷ []) → Stopped implicit ts
 stopped true ts e = let t = take ts token.stream_end [] e in record { ends = []; last = t.span; rest = t.rest; same = t.same; flag = refl }
 stopped false ts e =
     let d = take ts token.document_end (token.stream_end ∷ []) e in
@@ -37,7 +38,10 @@ stopped false ts e =
     record { ends = d.span ∷ []; last = t.span; rest = t.rest; same = d.same ∙ ap (λ (y : List Token). token_at token.document_end d.span ∷ y) t.same; flag = refl }
 
 -- what the end of a stream reads as
-stream_ends : (last : Span) (rest : List Token) → (event_bodies (reading (items_documents (trees.end_stream last) rest) None no_directives) ≡ event.stream_end ∷ []) × ((reading (items_documents (trees.end_stream last) rest) None no_directives).ending ≡ None)
+stream_ends : (last : Span) (rest : List Token)
+    → (event_bodies (reading (items_documents (trees.end_stream last) rest) None no_directives)
+    ≡ event.stream_end ∷ []) × ((reading (items_documents (trees.end_stream last) rest) None
+    no_directives).ending ≡ None)
 unfolding reading
 stream_ends last rest = (refl, refl)
 
@@ -49,10 +53,14 @@ record Ends (r : Reading) (bs : List EventBody) : Type 0 where
   events : event_bodies r ≡ bs
   ending : r.ending ≡ None
 
-ends_by : (R : List EventBody → List EventBody) (r q : Reading) (bs : List EventBody) → Says R r q → Ends q bs → Ends r (R bs)
+ends_by : (R : List EventBody → List EventBody) (r q : Reading) (bs : List EventBody) → Says R r q
+    → Ends q bs → Ends r (R bs)
 ends_by R r q bs s e = record { events = s.events ∙ ap (λ (x : List EventBody). R x) e.events; ending = s.ending ∙ e.ending }
 
-parsed_by : (x : yaml_encoding_t) (d : Document) (s : trees.Stream) (rest : List Token) (ts : List Token) → ts ≡ trees.spell s rest → Ends (reading (items s rest) None no_directives) (event.stream_start x ∷ document_reads d) → Parsed x d ts
+parsed_by : (x : yaml_encoding_t) (d : Document) (s : trees.Stream) (rest : List Token)
+    (ts : List Token) → ts ≡ trees.spell s rest
+    → Ends (reading (items s rest) None no_directives) (event.stream_start x ∷ document_reads d)
+    → Parsed x d ts
 parsed_by x d s rest ts same e =
     let whole : parsed_of ts ≡ reading (items s rest) None no_directives = ap (λ (y : List Token). parsed_of y) same ∙ ap (λ (o : Outcome). reading_of o no_directives) (stream_runs s rest None) in
     (ap (λ (r : Reading). event_bodies r) whole ∙ e.events, ap (λ (r : Reading). r.ending) whole ∙ e.ending)
@@ -67,7 +75,9 @@ record Rooted (d : Document) (ts : List Token) : Type 0 where
   gives : let more = token_at token.stream_end last ∷ rest in
       Ends (reading (items_node tree (spell_ends stop more) (items_ends stop more (items_documents (trees.end_stream last) rest))) None no_directives) (json_reads d.root (event.document_end d.implicit_end ∷ event.stream_end ∷ []))
 
-rooted : (d : Document) (ts : List Token) → token_bodies ts ≡ json_bodies d.root (stop_bodies d.implicit_end (token.stream_end ∷ [])) → Rooted d ts
+rooted : (d : Document) (ts : List Token)
+    → token_bodies ts ≡ json_bodies d.root (stop_bodies d.implicit_end (token.stream_end ∷ []))
+    → Rooted d ts
 rooted d ts e =
     let n = node_grows d.root (Block None) ts (stop_bodies d.implicit_end (token.stream_end ∷ [])) e in
     let s = stopped d.implicit_end n.rest n.left in
@@ -89,8 +99,12 @@ rooted d ts e =
     }
 
 -- what opens the stream and the document, before its root
-begun : (x : yaml_encoding_t) (implicit : Bool) (d : Document) → d.opening.implicit ≡ implicit → (g h : Given) (root : List Given) → settle g.0 no_directives ≡ gave (event.stream_start x) no_directives
-    → settle h.0 no_directives ≡ gave (event.document_start None [] implicit) no_directives → Ends (reading root None no_directives) (json_reads d.root (event.document_end d.implicit_end ∷ event.stream_end ∷ []))
+begun : (x : yaml_encoding_t) (implicit : Bool) (d : Document) → d.opening.implicit ≡ implicit
+    → (g h : Given) (root : List Given)
+    → settle g.0 no_directives ≡ gave (event.stream_start x) no_directives
+    → settle h.0 no_directives ≡ gave (event.document_start None [] implicit) no_directives
+    → Ends (reading root None no_directives)
+    (json_reads d.root (event.document_end d.implicit_end ∷ event.stream_end ∷ []))
     → Ends (reading (g ∷ h ∷ root) None no_directives) (event.stream_start x ∷ document_reads d)
 begun x implicit d is g h root start opens e =
     let body = json_reads d.root (event.document_end d.implicit_end ∷ event.stream_end ∷ []) in
@@ -101,7 +115,11 @@ begun x implicit d is g h root start opens e =
     record { events = whole.events ∙ ap (λ (b : Bool). event.stream_start x ∷ event.document_start None [] b ∷ body) (sym is); ending = whole.ending }
 
 -- by whether `---` stands in front
-started : (implicit : Bool) (x : yaml_encoding_t) (d : Document) → d.opening.implicit ≡ implicit → (ts : List Token) → token_bodies ts ≡ token.stream_start x ∷ start_bodies implicit (json_bodies d.root (stop_bodies d.implicit_end (token.stream_end ∷ []))) → Parsed x d ts
+started : (implicit : Bool) (x : yaml_encoding_t) (d : Document) → d.opening.implicit ≡ implicit
+    → (ts : List Token)
+    → token_bodies ts ≡ token.stream_start x
+    ∷ start_bodies implicit (json_bodies d.root
+    (stop_bodies d.implicit_end (token.stream_end ∷ []))) → Parsed x d ts
 started true x d is ts e =
     let t = take ts (token.stream_start x) (json_bodies d.root (stop_bodies d.implicit_end (token.stream_end ∷ []))) e in
     let r = rooted d t.rest t.left in
@@ -122,5 +140,6 @@ started false x d is ts e =
     parsed_by x d s r.rest ts
     (t.same ∙ ap (λ (y : List Token). token_at (token.stream_start x) t.span ∷ y) (u.same ∙ ap (λ (y : List Token). token_at token.document_start u.span ∷ y) r.same)) whole
 
-pub tokens_parsed : (x : yaml_encoding_t) (d : Document) (ts : List Token) → token_bodies ts ≡ token.stream_start x ∷ document_bodies d → Parsed x d ts
+pub tokens_parsed : (x : yaml_encoding_t) (d : Document) (ts : List Token)
+    → token_bodies ts ≡ token.stream_start x ∷ document_bodies d → Parsed x d ts
 tokens_parsed x d ts e = started d.opening.implicit x d refl ts e

@@ -29,7 +29,8 @@ record Filled (b : Brackets) (R : List EventBody → List EventBody) (ts : List 
   rest : List Token
   same : ts ≡ spell_items b items rest
   left : token_bodies rest ≡ bs
-  gives : (more : List Token) (gs : List Given) (f : Option Fault) (D : Directives) → D.tags ≡ [] → Says R (reading (items_items b items more gs) f D) (reading gs f D)
+  gives : (more : List Token) (gs : List Given) (f : Option Fault) (D : Directives) → D.tags ≡ []
+      → Says R (reading (items_items b items more gs) f D) (reading gs f D)
 
 -- what follows an item or a pair
 record Followed (b : Brackets) (R : List EventBody → List EventBody) (ts : List Token) (bs : List TokenBody) : Type 0 where
@@ -37,7 +38,8 @@ record Followed (b : Brackets) (R : List EventBody → List EventBody) (ts : Lis
   rest : List Token
   same : ts ≡ spell_more b others rest
   left : token_bodies rest ≡ bs
-  gives : (more : List Token) (gs : List Given) (f : Option Fault) (D : Directives) → D.tags ≡ [] → Says R (reading (items_more b others more gs) f D) (reading gs f D)
+  gives : (more : List Token) (gs : List Given) (f : Option Fault) (D : Directives) → D.tags ≡ []
+      → Says R (reading (items_more b others more gs) f D) (reading gs f D)
 
 abbrev NodeGrows : Node → Type 0
 NodeGrows n = (w : Wants) (ts : List Token) (bs : List TokenBody) → token_bodies ts ≡ json_bodies n bs → Grown w [] (json_reads n) ts bs
@@ -164,7 +166,8 @@ pairs_done ts bs e =
     let t = take ts token.flow_mapping_end bs e in
     record { others = end_more t.span; rest = t.rest; same = t.same; left = t.left; gives = λ more gs f D same. step_says (trees.event_at event.mapping_end t.span.from t.span.to, length more) gs f D event.mapping_end refl }
 
-pair_fills : (k v : Node) (ps : Pairs) → NodeGrows k → NodeGrows v → PairsFollow ps → PairsFill (pair k v ps)
+pair_fills : (k v : Node) (ps : Pairs) → NodeGrows k → NodeGrows v → PairsFollow ps
+    → PairsFill (pair k v ps)
 unfolding json_pairs json_pairs_reads
 pair_fills k v ps key value others ts bs e =
     let tail = json_pairs false ps (token.flow_mapping_end ∷ bs) in
@@ -196,7 +199,8 @@ pair_follows k v ps fill ts bs e =
     record { others = comma t.span i.items; rest = i.rest; same = t.same ∙ ap (λ (y : List Token). token_at token.flow_entry t.span ∷ y) i.same; left = i.left; gives = i.gives }
 
 mutual
-  pub node_grows : (n : Node) (w : Wants) (ts : List Token) (bs : List TokenBody) → token_bodies ts ≡ json_bodies n bs → Grown w [] (json_reads n) ts bs
+  pub node_grows : (n : Node) (w : Wants) (ts : List Token) (bs : List TokenBody)
+      → token_bodies ts ≡ json_bodies n bs → Grown w [] (json_reads n) ts bs
   node_grows (alias_node name) = alias_grows name
   node_grows (scalar_node x) = scalar_grows x
   node_grows (sequence_node q items) = sequence_grows q items (items_fill items)

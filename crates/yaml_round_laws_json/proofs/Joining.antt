@@ -26,11 +26,13 @@ use Rattle.yaml_round_laws_json.proofs.Documents.{tokens_parsed}
 use Rattle.yaml_round_laws_json.proofs.Unique.{one_content}
 use Rattle.yaml_round_laws_json.proofs.Saying.{document_said, document_shown, document_shaped}
 
-read_is : (from : yaml_encoding_t) (input : List ℕ) → read from input ≡ parsed (tokens_of from input)
+read_is : (from : yaml_encoding_t) (input : List ℕ)
+    → read from input ≡ parsed (tokens_of from input)
 unfolding read
 read_is from input = refl
 
-spelled_read : (from : yaml_encoding_t) (input text : List ℕ) (t : Text) → Spells from input text → IsJsonText text t → IsUsualText t → IsReadAsValue from input (json_value t.value)
+spelled_read : (from : yaml_encoding_t) (input text : List ℕ) (t : Text) → Spells from input text
+    → IsJsonText text t → IsUsualText t → IsReadAsValue from input (json_value t.value)
 spelled_read from input text t spells is usual =
     let v = json_value t.value in
     let x = encoding_of from input in
@@ -55,10 +57,12 @@ spelled_read from input text t spells is usual =
       styled = refl;
     }
 
-bytes_read : (from : yaml_encoding_t) → may_be_utf8 from ≡ true → (bytes : List ℕ) (t : Text) → IsJsonText bytes t → IsUsualText t → IsReadAsValue from bytes (json_value t.value)
+bytes_read : (from : yaml_encoding_t) → may_be_utf8 from ≡ true → (bytes : List ℕ) (t : Text)
+    → IsJsonText bytes t → IsUsualText t → IsReadAsValue from bytes (json_value t.value)
 bytes_read from may bytes t is usual = spelled_read from bytes bytes t (text_spells from may bytes t is usual) is usual
 
-one_read : (text : List ℕ) (t u : Text) → IsJsonText text t → IsUsualText t → IsJsonText text u → IsUsualText u → json_value t.value ≡ json_value u.value
+one_read : (text : List ℕ) (t u : Text) → IsJsonText text t → IsUsualText t → IsJsonText text u
+    → IsUsualText u → json_value t.value ≡ json_value u.value
 one_read text t u is usual are same =
     let r = bytes_read YAML_UTF8_ENCODING refl text t is usual in
     let s = bytes_read YAML_UTF8_ENCODING refl text u are same in

@@ -25,7 +25,8 @@ goes_on c = not (ends c)
 printed_on : (b : ℕ) → 32 ≤ b → b < 127 → goes_on b ≡ true
 printed_on b l h = grind (arith, nat_tests)
 
-kept_on : (c : ℕ) → (nat_le 32 c && not (c == 34 || c == 92)) ≡ true → not (is_refused c || ends_line c) ≡ true → goes_on c ≡ true
+kept_on : (c : ℕ) → (nat_le 32 c && not (c == 34 || c == 92)) ≡ true
+    → not (is_refused c || ends_line c) ≡ true → goes_on c ≡ true
 kept_on c h k = grind (arith, nat_tests)
 
 passes : Passes goes_on
@@ -49,11 +50,14 @@ one_line (c ∷ cs) h = let (here, rest) = and_parts (goes_on c) (list_all goes_
 start : Cursor
 start = record { column = 0; white = false; bare = false; kept = false }
 
-near_parts : (ls : List Letter) (ws : List ℕ) → is_near ls ws ≡ true → (has_break ws ≡ false) × (length (string_bytes ls ++ ws) ≤ 1024)
+near_parts : (ls : List Letter) (ws : List ℕ) → is_near ls ws ≡ true
+    → (has_break ws ≡ false) × (length (string_bytes ls ++ ws) ≤ 1024)
 near_parts ls ws h = (grind (arith, nat_tests), grind (arith, nat_tests))
 
 -- few characters that end no line
-line_near : (cs text : List ℕ) (p : ℕ) → is_one_line cs ≡ true → length (encode_utf8_all cs) ≤ 1024 → HasAt text p (encode_utf8_all cs) → is_fresh (mark_at text p) (mark_at text (p + length (encode_utf8_all cs))) ≡ true
+line_near : (cs text : List ℕ) (p : ℕ) → is_one_line cs ≡ true → length (encode_utf8_all cs) ≤ 1024
+    → HasAt text p (encode_utf8_all cs)
+    → is_fresh (mark_at text p) (mark_at text (p + length (encode_utf8_all cs))) ≡ true
 line_near cs text p inside few at =
     let a : Layout = λ c rest. in_front cs (rest c) in
     let stays : StaysNear a start 1024 = record { shown = cs; behind = start; written = λ rest. front_encodes cs (rest start); inside = inside; few = few } in
@@ -61,7 +65,9 @@ line_near cs text p inside few at =
     let F : ℕ → Type 0 = λ i. is_fresh (mark_at text i) (mark_at text (p + length (encode_utf8_all cs))) ≡ true in
     subst F z (near_fresh a start 1024 (omega arith) stays text p at 0)
 
-pub key_near : (ls : List Letter) (ws : List ℕ) (text : List ℕ) (p : ℕ) → AreLetters ls → are_kept ls ≡ true → are_white ws ≡ true → is_near ls ws ≡ true → HasAt text p (string_bytes ls ++ ws)
+pub key_near : (ls : List Letter) (ws : List ℕ) (text : List ℕ) (p : ℕ) → AreLetters ls
+    → are_kept ls ≡ true → are_white ws ≡ true → is_near ls ws ≡ true
+    → HasAt text p (string_bytes ls ++ ws)
     → is_fresh (mark_at text p) (mark_at text (p + length (string_bytes ls ++ ws))) ≡ true
 key_near ls ws text p h k white near at =
     let key = string_bytes ls ++ ws in

@@ -15,7 +15,8 @@ literal_plain named_true = refl
 
 -- ---- numbers
 
-all_more : (test : ℕ → Bool) (xs ys : List ℕ) → list_all test xs ≡ true → list_all test ys ≡ true → list_all test (xs ++ ys) ≡ true
+all_more : (test : ℕ → Bool) (xs ys : List ℕ) → list_all test xs ≡ true → list_all test ys ≡ true
+    → list_all test (xs ++ ys) ≡ true
 all_more test [] ys h k = k
 all_more test (x ∷ xs) ys h k = let (here, rest) = and_parts (test x) (list_all test xs) h in rw here (all_more test xs ys rest k)
 
@@ -43,7 +44,8 @@ all_digits : (ds : List ℕ) → are_digits ds ≡ true → list_all is_digit ds
 all_digits [] h = absurd (true≢false (sym h))
 all_digits (d ∷ ds) h = h
 
-whole_first : (d : ℕ) (ds : List ℕ) → is_whole (d ∷ ds) ≡ true → (is_digit d ≡ true) × (list_all is_digit ds ≡ true)
+whole_first : (d : ℕ) (ds : List ℕ) → is_whole (d ∷ ds) ≡ true
+    → (is_digit d ≡ true) × (list_all is_digit ds ≡ true)
 whole_first d [] h = (h, refl)
 whole_first d (e ∷ ds) h =
     let (front, rest) = and_parts (is_digit d && not (d == 48)) (list_all is_digit (e ∷ ds)) h in
@@ -53,7 +55,8 @@ whole_digits : (ds : List ℕ) → is_whole ds ≡ true → list_all is_digit ds
 whole_digits [] h = absurd (true≢false (sym h))
 whole_digits (d ∷ ds) h = let (here, rest) = whole_first d ds h in rw here rest
 
-fraction_value : (f : Option (List ℕ)) → IsFraction f → list_all is_value_byte (fraction_bytes f) ≡ true
+fraction_value : (f : Option (List ℕ)) → IsFraction f
+    → list_all is_value_byte (fraction_bytes f) ≡ true
 fraction_value None h = refl
 fraction_value (Some ds) h = rw (sign_value 46 refl) (digits_value ds (all_digits ds h))
 
@@ -67,11 +70,13 @@ unfolding is_value_byte is_letter_or_digit
 exponent_letter true = refl
 exponent_letter false = refl
 
-exponent_value : (e : Option Exponent) → IsExponent e → list_all is_value_byte (exponent_bytes e) ≡ true
+exponent_value : (e : Option Exponent) → IsExponent e
+    → list_all is_value_byte (exponent_bytes e) ≡ true
 exponent_value None h = refl
 exponent_value (Some e) h = rw (exponent_letter e.capital) (all_more is_value_byte (sign_bytes e.sign) e.digits (signs_value e.sign) (digits_value e.digits (all_digits e.digits h)))
 
-begins_number : (negative : Bool) (whole rest : List ℕ) → is_whole whole ≡ true → begins_value (sign_bytes (if negative then minus else no_sign) ++ (whole ++ rest)) ≡ true
+begins_number : (negative : Bool) (whole rest : List ℕ) → is_whole whole ≡ true
+    → begins_value (sign_bytes (if negative then minus else no_sign) ++ (whole ++ rest)) ≡ true
 begins_number negative [] rest h = absurd (true≢false (sym h))
 begins_number true (d ∷ ds) rest h = let (here, more) = whole_first d ds h in or_more (is_letter_or_digit 45) _ (digit_letter d here)
   where
@@ -128,12 +133,14 @@ value_begins (array w elements) h bs = refl
 value_begins (empty_object w) h bs = refl
 value_begins (object w members) h bs = refl
 
-pub elements_begin : (elements : Elements) → AreElements elements → (bs : List ℕ) → begins_solid (elements_bytes elements bs) ≡ true
+pub elements_begin : (elements : Elements) → AreElements elements → (bs : List ℕ)
+    → begins_solid (elements_bytes elements bs) ≡ true
 unfolding elements_bytes
 elements_begin (last_element v a) (h, ha) bs = value_begins v h (a ++ bs)
 elements_begin (element v a b elements) (h, ha, hb, more) bs = value_begins v h (a ++ 44 ∷ (b ++ elements_bytes elements bs))
 
-pub members_begin : (members : Members) → (bs : List ℕ) → begins_solid (members_bytes members bs) ≡ true
+pub members_begin : (members : Members) → (bs : List ℕ)
+    → begins_solid (members_bytes members bs) ≡ true
 unfolding members_bytes
 members_begin (last_member k a b v c) bs = refl
 members_begin (member k a b v c d members) bs = refl

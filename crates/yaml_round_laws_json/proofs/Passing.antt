@@ -23,11 +23,13 @@ mutual
   node_spells (sequence_node q items) bs s = (refl, items_spell true items (token.flow_sequence_end ∷ bs) (refl, s))
   node_spells (mapping_node q pairs) bs s = (refl, pairs_spell true pairs (token.flow_mapping_end ∷ bs) (refl, s))
 
-  items_spell : (fresh : Bool) (ns : Nodes) (bs : List TokenBody) → Spell bs → Spell (json_items fresh ns bs)
+  items_spell : (fresh : Bool) (ns : Nodes) (bs : List TokenBody) → Spell bs
+      → Spell (json_items fresh ns bs)
   items_spell fresh no_nodes bs s = s
   items_spell fresh (node x xs) bs s = comma_spells fresh (json_bodies x (json_items false xs bs)) (node_spells x (json_items false xs bs) (items_spell false xs bs s))
 
-  pairs_spell : (fresh : Bool) (ps : Pairs) (bs : List TokenBody) → Spell bs → Spell (json_pairs fresh ps bs)
+  pairs_spell : (fresh : Bool) (ps : Pairs) (bs : List TokenBody) → Spell bs
+      → Spell (json_pairs fresh ps bs)
   pairs_spell fresh no_pairs bs s = s
   pairs_spell fresh (pair k v ps) bs s =
       let behind = json_pairs false ps bs in
@@ -47,5 +49,7 @@ document_spells d =
     let last = stop_bodies d.implicit_end (token.stream_end ∷ []) in
     start_spells d.opening.implicit (json_bodies d.root last) (node_spells d.root last (stop_spells d.implicit_end (token.stream_end ∷ []) (refl, tt)))
 
-pub tokens_pass : (x : yaml_encoding_t) (d : Document) (ts : List Token) → token_bodies ts ≡ token.stream_start x ∷ document_bodies d → adapted (without_fault ts) ≡ without_fault ts
+pub tokens_pass : (x : yaml_encoding_t) (d : Document) (ts : List Token)
+    → token_bodies ts ≡ token.stream_start x ∷ document_bodies d
+    → adapted (without_fault ts) ≡ without_fault ts
 tokens_pass x d ts e = passes ts (subst Spell (sym e) (refl, document_spells d))

@@ -24,7 +24,8 @@ pub record Stops (flow : Bool) (text : List ℕ) (p : ℕ) : Type 0 where
   pub width : break_width text p ≡ 0
   pub ends : ends_at flow 0 text p ≡ true
 
-step : (n : ℕ) (flow : Bool) (text : List ℕ) (p : ℕ) (s : PlainSpot) → spot_at flow 0 text p ≡ s → words (suc n) flow 0 text p ≡ follows (words n flow 0 text) p s
+step : (n : ℕ) (flow : Bool) (text : List ℕ) (p : ℕ) (s : PlainSpot) → spot_at flow 0 text p ≡ s
+    → words (suc n) flow 0 text p ≡ follows (words n flow 0 text) p s
 unfolding words
 step n flow text p s h = ap (λ x. follows (words n flow 0 text) p x) h
 
@@ -42,12 +43,16 @@ tab_width : (b c d : ℕ) → b ≡ 9 → break_of b c d ≡ 0
 unfolding break_of
 tab_width b c d h = rw h refl
 
-with_blank : (n : ℕ) (flow : Bool) (text : List ℕ) (p e : ℕ) (broke : Bool) → break_width text p ≡ 0 → is_blank (byte text p) ≡ true → words n flow 0 text (p + 1) ≡ Ok (none_to e broke) → words (suc n) flow 0 text p ≡ Ok (none_to e broke)
+with_blank : (n : ℕ) (flow : Bool) (text : List ℕ) (p e : ℕ) (broke : Bool) → break_width text p ≡ 0
+    → is_blank (byte text p) ≡ true → words n flow 0 text (p + 1) ≡ Ok (none_to e broke)
+    → words (suc n) flow 0 text p ≡ Ok (none_to e broke)
 with_blank n flow text p e broke none blank rest =
     step n flow text p (Takes (Blank (byte text p)) (p + 1)) (spot_blank flow 0 text p none blank (no_tab (byte text p) (column_at text p) (leads text p)))
     ∙ ap (λ (r : Result Words Wrong). words_from (Blank (byte text p)) (p + 1) r) rest
 
-with_width : (n : ℕ) (flow : Bool) (text : List ℕ) (p w e : ℕ) (broke : Bool) → break_width text p ≡ suc w → words n flow 0 text (p + suc w) ≡ Ok (none_to e broke) → words (suc n) flow 0 text p ≡ Ok (none_to e true)
+with_width : (n : ℕ) (flow : Bool) (text : List ℕ) (p w e : ℕ) (broke : Bool)
+    → break_width text p ≡ suc w → words n flow 0 text (p + suc w) ≡ Ok (none_to e broke)
+    → words (suc n) flow 0 text p ≡ Ok (none_to e true)
 with_width n flow text p w e broke h rest =
     let some : 0 < break_width text p = omega (arith, h) in
     let q = p + break_width text p in
@@ -63,13 +68,18 @@ abbrev Reads : ℕ → Type 0
 Reads k = (n : ℕ) (flow : Bool) (text : List ℕ) (p : ℕ) (gap : List ℕ) → length gap ≤ k → length gap < n → Has text p gap → are_white gap ≡ true → Stops flow text (p + length gap)
     → words n flow 0 text p ≡ Ok (none_to (p + length gap) (has_break gap))
 
-single : (k : ℕ) → Reads k → (n : ℕ) (flow : Bool) (text : List ℕ) (p : ℕ) (bs : List ℕ) → length bs ≤ k → length bs < n → break_width text p ≡ 1 → Has text (p + 1) bs → are_white bs ≡ true
-    → Stops flow text (p + 1 + length bs) → words (suc n) flow 0 text p ≡ Ok (none_to (p + 1 + length bs) true)
+single : (k : ℕ) → Reads k → (n : ℕ) (flow : Bool) (text : List ℕ) (p : ℕ) (bs : List ℕ)
+    → length bs ≤ k → length bs < n → break_width text p ≡ 1 → Has text (p + 1) bs
+    → are_white bs ≡ true
+    → Stops flow text (p + 1 + length bs)
+    → words (suc n) flow 0 text p ≡ Ok (none_to (p + 1 + length bs) true)
 single k all n flow text p bs few room width h are stop =
     with_width n flow text p 0 (p + 1 + length bs) (has_break bs) width (all n flow text (p + 1) bs few room h are stop)
 
-returns : (k : ℕ) → Reads k → (n : ℕ) (flow : Bool) (text : List ℕ) (p : ℕ) (bs : List ℕ) → length bs ≤ k → length bs < n → byte text p ≡ 13 → Has text (p + 1) bs → are_white bs ≡ true
-    → Stops flow text (p + 1 + length bs) → words (suc n) flow 0 text p ≡ Ok (none_to (p + 1 + length bs) true)
+returns : (k : ℕ) → Reads k → (n : ℕ) (flow : Bool) (text : List ℕ) (p : ℕ) (bs : List ℕ)
+    → length bs ≤ k → length bs < n → byte text p ≡ 13 → Has text (p + 1) bs → are_white bs ≡ true
+    → Stops flow text (p + 1 + length bs)
+    → words (suc n) flow 0 text p ≡ Ok (none_to (p + 1 + length bs) true)
 returns k all n flow text p [] few room e h are stop =
     let z : p + 1 + 0 ≡ p + 1 = omega arith in
     let here = subst (λ q. Stops flow text q) z stop in
@@ -115,6 +125,7 @@ reads (suc k) (suc n) flow text p (b ∷ bs) few room (e, h) are stop =
       | inr (inr (inr s)) ↦ rw (s, end) (returns k (reads k) n flow text p bs (omega (arith, few)) (omega (arith, room)) (e ∙ s) h back after)
     ]
 
-pub white_words : (n : ℕ) (flow : Bool) (text : List ℕ) (p : ℕ) (gap : List ℕ) → length gap < n → Has text p gap → are_white gap ≡ true → Stops flow text (p + length gap)
+pub white_words : (n : ℕ) (flow : Bool) (text : List ℕ) (p : ℕ) (gap : List ℕ) → length gap < n
+    → Has text p gap → are_white gap ≡ true → Stops flow text (p + length gap)
     → words n flow 0 text p ≡ Ok (none_to (p + length gap) (has_break gap))
 white_words n flow text p gap room h are stop = reads (length gap) n flow text p gap (omega arith) room h are stop

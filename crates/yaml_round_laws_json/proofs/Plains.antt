@@ -44,17 +44,24 @@ abbrev run_words : List ℕ → ℕ → Words → Words
 run_words [] p w = w
 run_words (b ∷ bs) p w = with_piece (Kept (b ∷ [])) (p + 1) (run_words bs (p + 1) w)
 
-run_is : (b : ℕ) (bs : List ℕ) (p q : ℕ) (broke : Bool) → with_piece (Kept (b ∷ [])) p (run_words bs p (none_to q broke)) ≡ record { pieces = kept_run (b ∷ bs); end = p + length bs; place = q; broke = broke }
+run_is : (b : ℕ) (bs : List ℕ) (p q : ℕ) (broke : Bool)
+    → with_piece (Kept (b ∷ [])) p (run_words bs p (none_to q broke))
+    ≡ record { pieces = kept_run (b ∷ bs); end = p + length bs; place = q; broke = broke }
 run_is b [] p q broke = rw add-zero refl
 run_is b (c ∷ bs) p q broke =
     let far : p + 1 + length bs ≡ p + suc (length bs) = omega arith in
     ap (λ (w : Words). with_piece (Kept (b ∷ [])) p w) (run_is c bs (p + 1) q broke) ∙ ap (λ (e : ℕ). let w : Words = record { pieces = kept_run (b ∷ c ∷ bs); end = e; place = q; broke = broke } in w) far
 
-byte_here : (text : List ℕ) (p x : ℕ) → byte text p ≡ x → is_value_byte x ≡ true → is_value_byte (byte text p) ≡ true
+byte_here : (text : List ℕ) (p x : ℕ) → byte text p ≡ x → is_value_byte x ≡ true
+    → is_value_byte (byte text p) ≡ true
 byte_here text p x e h = ap (λ y. is_value_byte y) e ∙ h
 
-words_read : (n : ℕ) (flow : Bool) (text : List ℕ) (p : ℕ) (bs gap : List ℕ) → IsCalm text p → length bs + length gap < n → Has text (p + 1) (bs ++ gap) → list_all is_value_byte bs ≡ true → are_white gap ≡ true
-    → Stops flow text (p + 1 + length bs + length gap) → words n flow 0 text (p + 1) ≡ Ok (run_words bs (p + 1) (none_to (p + 1 + length bs + length gap) (has_break gap)))
+words_read : (n : ℕ) (flow : Bool) (text : List ℕ) (p : ℕ) (bs gap : List ℕ) → IsCalm text p
+    → length bs + length gap < n → Has text (p + 1) (bs ++ gap) → list_all is_value_byte bs ≡ true
+    → are_white gap ≡ true
+    → Stops flow text (p + 1 + length bs + length gap)
+    → words n flow 0 text (p + 1) ≡ Ok
+    (run_words bs (p + 1) (none_to (p + 1 + length bs + length gap) (has_break gap)))
 unfolding words
 words_read n flow text p [] gap c room h all are stop =
     let z : p + 1 + 0 ≡ p + 1 = omega arith in
@@ -75,7 +82,8 @@ words_read (suc n) flow text p (b ∷ bs) gap c room (e, h) all are stop =
 some_gap : (b : ℕ) → (is_white b) ≡ true → 0 < b
 some_gap b h = grind (arith, nat_tests)
 
-gap_inside : (text : List ℕ) (p : ℕ) (gap : List ℕ) → p ≤ length text → Has text p gap → are_white gap ≡ true → p + length gap ≤ length text
+gap_inside : (text : List ℕ) (p : ℕ) (gap : List ℕ) → p ≤ length text → Has text p gap
+    → are_white gap ≡ true → p + length gap ≤ length text
 gap_inside text p [] l h are = omega arith
 gap_inside text p (b ∷ bs) l (e, h) are =
     let (front, back) = and_parts (is_white b) (are_white bs) are in
@@ -84,7 +92,9 @@ gap_inside text p (b ∷ bs) l (e, h) are =
     let more = gap_inside text (p + 1) bs (omega (arith, here)) h back in
     omega (arith, more)
 
-inside : (text : List ℕ) (p : ℕ) (bs gap : List ℕ) → p ≤ length text → Has text p (bs ++ gap) → list_all is_value_byte bs ≡ true → are_white gap ≡ true → p + length bs + length gap ≤ length text
+inside : (text : List ℕ) (p : ℕ) (bs gap : List ℕ) → p ≤ length text → Has text p (bs ++ gap)
+    → list_all is_value_byte bs ≡ true → are_white gap ≡ true
+    → p + length bs + length gap ≤ length text
 inside text p [] gap l h all are = let m = gap_inside text p gap l h are in omega (arith, m)
 inside text p (b ∷ bs) gap l (e, h) all are =
     let (here, rest) = and_parts (is_value_byte b) (list_all is_value_byte bs) all in
@@ -96,9 +106,16 @@ inside text p (b ∷ bs) gap l (e, h) all are =
 
 -- ---- it is read
 
-read_by : (flow : Bool) (text : List ℕ) (p : ℕ) (value gap : List ℕ) → begins_value value ≡ true → list_all is_value_byte value ≡ true → Has text p (value ++ gap) → are_white gap ≡ true
+read_by : (flow : Bool) (text : List ℕ) (p : ℕ) (value gap : List ℕ) → begins_value value ≡ true
+    → list_all is_value_byte value ≡ true → Has text p (value ++ gap) → are_white gap ≡ true
     → Stops flow text (p + length value + length gap)
-    → plain_at flow 0 text p ≡ Ok (record { value = value; end = p + length value; place = p + length value + length gap; broke = has_break gap })
+    → plain_at flow 0 text p ≡ Ok (record {
+      value = value;
+      end = p + length value;
+      place = p + length value + length gap;
+      broke =
+          has_break gap;
+    })
 read_by flow text p [] gap begins all h are stop = absurd (cc)
 read_by flow text p (b ∷ bs) gap begins all (e, h) are stop =
     let (here, rest) = and_parts (is_value_byte b) (list_all is_value_byte bs) all in
@@ -115,8 +132,16 @@ read_by flow text p (b ∷ bs) gap begins all (e, h) are stop =
     ∙ ap (λ (w : Words). let r : Result PlainText Wrong = Ok (plain_text w) in r) (run_is b bs (p + 1) q (has_break gap))
     ∙ ap (λ (v : List ℕ). let r : Result PlainText Wrong = Ok (record { value = v; end = p + 1 + length bs; place = q; broke = has_break gap }) in r) (run_value (b ∷ bs)))
 
-pub plain_read : (flow : Bool) (text : List ℕ) (p : ℕ) (value gap : List ℕ) → is_plain_value value ≡ true → Has text p (value ++ gap) → are_white gap ≡ true → Stops flow text (p + length value + length gap)
-    → plain_at flow 0 text p ≡ Ok (record { value = value; end = p + length value; place = p + length value + length gap; broke = has_break gap })
+pub plain_read : (flow : Bool) (text : List ℕ) (p : ℕ) (value gap : List ℕ)
+    → is_plain_value value ≡ true → Has text p (value ++ gap) → are_white gap ≡ true
+    → Stops flow text (p + length value + length gap)
+    → plain_at flow 0 text p ≡ Ok (record {
+      value = value;
+      end = p + length value;
+      place = p + length value + length gap;
+      broke =
+          has_break gap;
+    })
 unfolding is_plain_value
 plain_read flow text p value gap is h are ends =
     let (begins, all) = and_parts (begins_value value) (list_all is_value_byte value) is in
@@ -145,7 +170,8 @@ ends_zero : (flow : Bool) (text : List ℕ) (p : ℕ) → byte text p ≡ 0 → 
 unfolding ends_at
 ends_zero flow text p h = or_left (byte text p == 0 || is_document_indicator text p) _ (or_left (byte text p == 0) (is_document_indicator text p) (ap (λ (b : ℕ). b == 0) h))
 
-ends_bracket : (flow : Bool) (text : List ℕ) (p : ℕ) → flow ≡ true → is_bracket (byte text p) ≡ true → ends_at flow 0 text p ≡ true
+ends_bracket : (flow : Bool) (text : List ℕ) (p : ℕ) → flow ≡ true → is_bracket (byte text p) ≡ true
+    → ends_at flow 0 text p ≡ true
 unfolding ends_at
 ends_bracket false text p e h = absurd (cc)
 ends_bracket true text p e h = or_right (byte text p == 0 || is_document_indicator text p) _ (or_right (byte text p == 35 && after_white text p) _ (or_right (byte text p == 58 && is_blank_or_end text (p + 1)) (is_bracket (byte text p)) h))
@@ -214,7 +240,8 @@ letter_alone text p l = rw (l.blank, l.some, l.width (byte text (p + 1)) (byte t
 letter_begins : (text : List ℕ) (p : ℕ) → Letter (byte text p) → begins_lexeme text p ≡ true
 letter_begins text p l = rw (l.space, l.tab, l.hash, l.width (byte text (p + 1)) (byte text (p + 2)), l.order, and_false) refl
 
-letter_kind : (flow : Bool) (text : List ℕ) (p : ℕ) → Letter (byte text p) → kind_at flow text p ≡ Some kinds.Plain
+letter_kind : (flow : Bool) (text : List ℕ) (p : ℕ) → Letter (byte text p)
+    → kind_at flow text p ≡ Some kinds.Plain
 unfolding kind_at is_document_start is_document_end starts_plain
 letter_kind flow text p l =
     rw (letter_alone text p l, l.some, l.percent, l.dash, l.dot, and_false, l.none flow (is_blank_or_end text (p + 1)), l.plain) refl
@@ -227,7 +254,8 @@ dash_none : (flow : Bool) → indicator_of flow false 45 ≡ None
 unfolding indicator_of
 dash_none flow = refl
 
-dash_kind : (flow : Bool) (text : List ℕ) (p : ℕ) → byte text p ≡ 45 → Letter (byte text (p + 1)) → kind_at flow text p ≡ Some kinds.Plain
+dash_kind : (flow : Bool) (text : List ℕ) (p : ℕ) → byte text p ≡ 45 → Letter (byte text (p + 1))
+    → kind_at flow text p ≡ Some kinds.Plain
 unfolding kind_at is_document_start is_document_end starts_plain break_of is_indicator_byte is_bracket
 dash_kind flow text p h l = rw (h, l.dash, and_false, letter_alone text (p + 1) l, dash_none flow, l.blank) refl
 
@@ -235,11 +263,13 @@ zero_letter : is_letter_or_digit 0 ≡ true → ⊥
 unfolding is_letter_or_digit
 zero_letter h = cc
 
-next_letter : (text : List ℕ) (q : ℕ) (bs : List ℕ) → is_letter_or_digit (first bs) ≡ true → Has text q bs → Letter (byte text q)
+next_letter : (text : List ℕ) (q : ℕ) (bs : List ℕ) → is_letter_or_digit (first bs) ≡ true
+    → Has text q bs → Letter (byte text q)
 next_letter text q [] h here = absurd (zero_letter h)
 next_letter text q (c ∷ cs) h (e, more) = subst (λ x. Letter x) (sym e) (letter c h)
 
-begin_by : (flow : Bool) (text : List ℕ) (p : ℕ) (value : List ℕ) → begins_value value ≡ true → Has text p value → (begins_lexeme text p ≡ true) × (kind_at flow text p ≡ Some kinds.Plain)
+begin_by : (flow : Bool) (text : List ℕ) (p : ℕ) (value : List ℕ) → begins_value value ≡ true
+    → Has text p value → (begins_lexeme text p ≡ true) × (kind_at flow text p ≡ Some kinds.Plain)
 begin_by flow text p [] h here = absurd (cc)
 begin_by flow text p (b ∷ bs) h (e, more) =
     elim (or_cases (is_letter_or_digit b) (b == 45 && is_letter_or_digit (first bs)) h) [
@@ -252,7 +282,9 @@ begin_by flow text p (b ∷ bs) h (e, more) =
           (dash_begins text p here, dash_kind flow text p here (next_letter text (p + 1) bs second more))
     ]
 
-pub plain_begins : (flow : Bool) (text : List ℕ) (p : ℕ) (value : List ℕ) → is_plain_value value ≡ true → Has text p value → (begins_lexeme text p ≡ true) × (kind_at flow text p ≡ Some kinds.Plain)
+pub plain_begins : (flow : Bool) (text : List ℕ) (p : ℕ) (value : List ℕ)
+    → is_plain_value value ≡ true → Has text p value
+    → (begins_lexeme text p ≡ true) × (kind_at flow text p ≡ Some kinds.Plain)
 unfolding is_plain_value
 plain_begins flow text p value is h =
     let (begins, all) = and_parts (begins_value value) (list_all is_value_byte value) is in

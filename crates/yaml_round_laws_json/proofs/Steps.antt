@@ -55,10 +55,12 @@ solid_parts b h = (grind (arith, nat_tests), grind (arith, nat_tests))
 solid_hash : (b : ℕ) → is_solid b ≡ true → b ≡ 35 → ⊥
 solid_hash b h e = true≢false (sym (ap (λ (c : ℕ). is_solid c) (sym e) ∙ h))
 
-pub solid_starts : (text : List ℕ) (p b : ℕ) → byte text p ≡ b → is_solid b ≡ true → begins_lexeme text p ≡ true
+pub solid_starts : (text : List ℕ) (p b : ℕ) → byte text p ≡ b → is_solid b ≡ true
+    → begins_lexeme text p ≡ true
 solid_starts text p b e h = let (low, high) = solid_parts b h in printed_begins text p b e low high (solid_hash b h)
 
-pub left_starts : (text : List ℕ) (p : ℕ) (bs : List ℕ) → Left text p bs → begins_solid bs ≡ true → begins_lexeme text p ≡ true
+pub left_starts : (text : List ℕ) (p : ℕ) (bs : List ℕ) → Left text p bs → begins_solid bs ≡ true
+    → begins_lexeme text p ≡ true
 left_starts text p [] l h = absurd (true≢false (sym h))
 left_starts text p (b ∷ bs) l h = solid_starts text p b (left_first text p b bs l) h
 
@@ -72,13 +74,15 @@ Behind d (b ∷ bs) = (nat_lt 0 d ≡ true) × ((b ≡ 44) ⊎ ((b ≡ 93) ⊎ (
 pub nothing_left : (text : List ℕ) (p : ℕ) → Left text p [] → byte text p ≡ 0
 nothing_left text p l = let e = l.ends in get_or_past text p 0 (omega (arith, e))
 
-pub behind_stops : (d : ℕ) (bs text : List ℕ) (p : ℕ) → Behind d bs → Left text p bs → IsStop (nat_lt 0 d) (byte text p)
+pub behind_stops : (d : ℕ) (bs text : List ℕ) (p : ℕ) → Behind d bs → Left text p bs
+    → IsStop (nat_lt 0 d) (byte text p)
 behind_stops d [] text p h l = inl (nothing_left text p l)
 behind_stops d (b ∷ bs) text p (deep, inl e) l = inr (deep, inl (left_first text p b bs l ∙ e))
 behind_stops d (b ∷ bs) text p (deep, inr (inl e)) l = inr (deep, inr (inl (left_first text p b bs l ∙ e)))
 behind_stops d (b ∷ bs) text p (deep, inr (inr e)) l = inr (deep, inr (inr (left_first text p b bs l ∙ e)))
 
-pub behind_starts : (d : ℕ) (bs text : List ℕ) (p : ℕ) → Behind d bs → Left text p bs → begins_lexeme text p ≡ true
+pub behind_starts : (d : ℕ) (bs text : List ℕ) (p : ℕ) → Behind d bs → Left text p bs
+    → begins_lexeme text p ≡ true
 behind_starts d [] text p h l = end_begins text p (nothing_left text p l)
 behind_starts d (b ∷ bs) text p (deep, which) l = solid_starts text p b (left_first text p b bs l) (by which)
   where
@@ -126,7 +130,8 @@ record Stands (text : List ℕ) (p d : ℕ) (k : Kind) (w : WordText) : Type 0 w
   kind : kind_at (nat_lt 0 d) text p ≡ Some k
   word : word_at k (nat_lt 0 d) 0 text p ≡ Ok w
 
-comes_of : (text : List ℕ) (p d : ℕ) (k : Kind) (w : WordText) (e : ℕ) → Stands text p d k w → p ≤ e → Comes text p d (indent []) k [] w e
+comes_of : (text : List ℕ) (p d : ℕ) (k : Kind) (w : WordText) (e : ℕ) → Stands text p d k w → p ≤ e
+    → Comes text p d (indent []) k [] w e
 comes_of text p d k w e s up =
     let z : p + 0 ≡ p = omega arith in
     record {
@@ -137,8 +142,13 @@ comes_of text p d k w e s up =
     }
 
 -- a word that is no key, up to the next one
-step : (x : yaml_encoding_t) (text bs : List ℕ) (d f : ℕ) (T : Tell) (k : Kind) (w : WordText) (e : ℕ) (may : Bool) (o : Where) → Reads x text o [] [] [] T → Stands text o.at o.depth k w → o.at ≤ e → stays_level k o.depth ≡ true → is_value k ≡ false
-    → WordLeaves text (depth_after k o.depth) (allows_key k (o.depth == 0) false) w e may false → depth_after k o.depth ≡ f → Left text e bs → (may ≡ true → Ready x text bs f (λ es. T (w.body ∷ es))) × At x text bs f (λ es. T (w.body ∷ es))
+step : (x : yaml_encoding_t) (text bs : List ℕ) (d f : ℕ) (T : Tell) (k : Kind) (w : WordText)
+    (e : ℕ) (may : Bool) (o : Where) → Reads x text o [] [] [] T → Stands text o.at o.depth k w
+    → o.at ≤ e → stays_level k o.depth ≡ true → is_value k ≡ false
+    → WordLeaves text (depth_after k o.depth) (allows_key k (o.depth == 0) false) w e may false
+    → depth_after k o.depth ≡ f → Left text e bs
+    → (may ≡ true → Ready x text bs f (λ es. T (w.body ∷ es)))
+    × At x text bs f (λ es. T (w.body ∷ es))
 step x text bs d f T k w e may o r s up stays plain leaves deep left =
     let c = comes_of text o.at o.depth k w e s up in
     let q = o.at + 0 in
@@ -148,8 +158,10 @@ step x text bs d f T k w e may o r s up stays plain leaves deep left =
 
 -- ---- kinds of lexemes
 
-chain : (z pc ds de s : Bool) (o : Option Kind) (k : Kind) → z ≡ false → pc ≡ false → ds ≡ false → de ≡ false → o ≡ Some k
-    → cond z (Some kinds.StreamEnd) (cond pc (Some kinds.Directive) (cond ds (Some kinds.DocumentStart) (cond de (Some kinds.DocumentEnd) (or_plain o s)))) ≡ Some k
+chain : (z pc ds de s : Bool) (o : Option Kind) (k : Kind) → z ≡ false → pc ≡ false → ds ≡ false
+    → de ≡ false → o ≡ Some k
+    → cond z (Some kinds.StreamEnd) (cond pc (Some kinds.Directive)
+    (cond ds (Some kinds.DocumentStart) (cond de (Some kinds.DocumentEnd) (or_plain o s)))) ≡ Some k
 chain z pc ds de s o k a b c d e = rw (a, b, c, d, e) refl
 
 off_first : (c a b z w : Bool) → a ≡ false → ((c && (a && (b && z))) && w) ≡ false
@@ -157,11 +169,13 @@ off_first true false b z w e = refl
 off_first false a b z w e = refl
 off_first true true b z w e = absurd (cc)
 
-no_start : (text : List ℕ) (p b : ℕ) → byte text p ≡ b → (b == 45) ≡ false → is_document_start text p ≡ false
+no_start : (text : List ℕ) (p b : ℕ) → byte text p ≡ b → (b == 45) ≡ false
+    → is_document_start text p ≡ false
 unfolding is_document_start
 no_start text p b h e = off_first (column_at text p == 0) (byte text p == 45) (byte text (p + 1) == 45) (byte text (p + 2) == 45) (is_blank_or_end text (p + 3)) (ap (λ (x : ℕ). x == 45) h ∙ e)
 
-no_end : (text : List ℕ) (p b : ℕ) → byte text p ≡ b → (b == 46) ≡ false → is_document_end text p ≡ false
+no_end : (text : List ℕ) (p b : ℕ) → byte text p ≡ b → (b == 46) ≡ false
+    → is_document_end text p ≡ false
 unfolding is_document_end
 no_end text p b h e = off_first (column_at text p == 0) (byte text p == 46) (byte text (p + 1) == 46) (byte text (p + 2) == 46) (is_blank_or_end text (p + 3)) (ap (λ (x : ℕ). x == 46) h ∙ e)
 
@@ -169,7 +183,9 @@ no_percent : (a b : Bool) → a ≡ false → (a && b) ≡ false
 no_percent false b e = refl
 no_percent true b e = absurd (cc)
 
-kind_by : (flow : Bool) (text : List ℕ) (p b : ℕ) (k : Kind) → byte text p ≡ b → (b == 0) ≡ false → (b == 37) ≡ false → (b == 45) ≡ false → (b == 46) ≡ false → indicator_of flow (is_blank_or_end text (p + 1)) b ≡ Some k → kind_at flow text p ≡ Some k
+kind_by : (flow : Bool) (text : List ℕ) (p b : ℕ) (k : Kind) → byte text p ≡ b → (b == 0) ≡ false
+    → (b == 37) ≡ false → (b == 45) ≡ false → (b == 46) ≡ false
+    → indicator_of flow (is_blank_or_end text (p + 1)) b ≡ Some k → kind_at flow text p ≡ Some k
 unfolding kind_at
 kind_by flow text p b k h z pc ds de o =
     chain (byte text p == 0) (byte text p == 37 && column_at text p == 0) (is_document_start text p) (is_document_end text p) (starts_plain flow text p) (indicator_of flow (is_blank_or_end text (p + 1)) (byte text p)) k
@@ -184,7 +200,8 @@ record IsSign (b : ℕ) (k : Kind) (body : TokenBody) (d : ℕ) : Type 0 where
   kind : (text : List ℕ) (p : ℕ) → byte text p ≡ b → kind_at (nat_lt 0 d) text p ≡ Some k
   word : (text : List ℕ) (p : ℕ) → word_at k (nat_lt 0 d) 0 text p ≡ Ok (sign body (p + 1))
 
-sign_stands : (b : ℕ) (k : Kind) (body : TokenBody) (d : ℕ) → IsSign b k body d → (text : List ℕ) (p : ℕ) → byte text p ≡ b → Stands text p d k (sign body (p + 1))
+sign_stands : (b : ℕ) (k : Kind) (body : TokenBody) (d : ℕ) → IsSign b k body d
+    → (text : List ℕ) (p : ℕ) → byte text p ≡ b → Stands text p d k (sign body (p + 1))
 sign_stands b k body d is text p h = record { starts = solid_starts text p b h is.solid; kind = is.kind text p h; word = is.word text p }
 
 sequence_kind : (flow alone : Bool) → indicator_of flow alone 91 ≡ Some kinds.FlowSequenceStart
@@ -217,12 +234,18 @@ unfolding indicator_of
 colon_kind true alone e = refl
 colon_kind false alone e = absurd (cc)
 
-opener_sign : (mapping : Bool) (d : ℕ) → IsSign (if mapping then 123 else 91) (if mapping then kinds.FlowMappingStart else kinds.FlowSequenceStart) (if mapping then tokens.flow_mapping_start else tokens.flow_sequence_start) d
+opener_sign : (mapping : Bool) (d : ℕ)
+    → IsSign (if mapping then 123 else 91)
+    (if mapping then kinds.FlowMappingStart else kinds.FlowSequenceStart)
+    (if mapping then tokens.flow_mapping_start else tokens.flow_sequence_start) d
 unfolding word_at
 opener_sign true d = record { solid = refl; kind = λ text p h. kind_by (nat_lt 0 d) text p 123 kinds.FlowMappingStart h refl refl refl refl (mapping_kind (nat_lt 0 d) (is_blank_or_end text (p + 1))); word = λ text p. refl }
 opener_sign false d = record { solid = refl; kind = λ text p h. kind_by (nat_lt 0 d) text p 91 kinds.FlowSequenceStart h refl refl refl refl (sequence_kind (nat_lt 0 d) (is_blank_or_end text (p + 1))); word = λ text p. refl }
 
-closer_sign : (mapping : Bool) (d : ℕ) → IsSign (if mapping then 125 else 93) (if mapping then kinds.FlowMappingEnd else kinds.FlowSequenceEnd) (if mapping then tokens.flow_mapping_end else tokens.flow_sequence_end) d
+closer_sign : (mapping : Bool) (d : ℕ)
+    → IsSign (if mapping then 125 else 93)
+    (if mapping then kinds.FlowMappingEnd else kinds.FlowSequenceEnd)
+    (if mapping then tokens.flow_mapping_end else tokens.flow_sequence_end) d
 unfolding word_at
 closer_sign true d = record { solid = refl; kind = λ text p h. kind_by (nat_lt 0 d) text p 125 kinds.FlowMappingEnd h refl refl refl refl (mapping_end_kind (nat_lt 0 d) (is_blank_or_end text (p + 1))); word = λ text p. refl }
 closer_sign false d = record { solid = refl; kind = λ text p h. kind_by (nat_lt 0 d) text p 93 kinds.FlowSequenceEnd h refl refl refl refl (sequence_end_kind (nat_lt 0 d) (is_blank_or_end text (p + 1))); word = λ text p. refl }
@@ -236,9 +259,15 @@ unfolding word_at
 colon_sign d deep = record { solid = refl; kind = λ text p h. kind_by (nat_lt 0 d) text p 58 kinds.ValueMark h refl refl refl refl (colon_kind (nat_lt 0 d) (is_blank_or_end text (p + 1)) deep); word = λ text p. refl }
 
 -- a sign and the white behind it
-sign_step : (x : yaml_encoding_t) (text : List ℕ) (b f : ℕ) (T : Tell) (k : Kind) (body : TokenBody) (ws bs : List ℕ) (o : Where) → Reads x text o [] [] [] T → IsSign b k body o.depth → stays_level k o.depth ≡ true → is_value k ≡ false → depth_after k o.depth ≡ f
-    → are_white ws ≡ true → tabs_fit (nat_lt 0 (depth_after k o.depth)) (allows_key k (o.depth == 0) false || false) ws ≡ true → Left text o.at (b ∷ (ws ++ bs)) → ((q : ℕ) → Left text q bs → begins_lexeme text q ≡ true)
-    → let may = may_then text (depth_after k o.depth) (allows_key k (o.depth == 0) false) (sign body (o.at + 1)) in
+sign_step : (x : yaml_encoding_t) (text : List ℕ) (b f : ℕ) (T : Tell) (k : Kind) (body : TokenBody)
+    (ws bs : List ℕ) (o : Where) → Reads x text o [] [] [] T → IsSign b k body o.depth
+    → stays_level k o.depth ≡ true → is_value k ≡ false → depth_after k o.depth ≡ f
+    → are_white ws ≡ true
+    → tabs_fit (nat_lt 0 (depth_after k o.depth)) (allows_key k (o.depth == 0) false || false) ws
+    ≡ true → Left text o.at (b ∷ (ws ++ bs))
+    → ((q : ℕ) → Left text q bs → begins_lexeme text q ≡ true)
+    → let may = may_then text (depth_after k o.depth) (allows_key k (o.depth == 0) false)
+    (sign body (o.at + 1)) in
     (may ≡ true → Ready x text bs f (λ es. T (body ∷ es))) × At x text bs f (λ es. T (body ∷ es))
 sign_step x text b f T k body ws bs o r is stays plain deep white fits l starts =
     let p = o.at in
@@ -257,8 +286,11 @@ flow_fits false allowed ws e = absurd (cc)
 
 -- ---- brackets and commas
 
-pub opener_step : (mapping : Bool) (x : yaml_encoding_t) (text ws bs : List ℕ) (d : ℕ) (T : Tell) → At x text ((if mapping then 123 else 91) ∷ (ws ++ bs)) d T → are_white ws ≡ true → begins_solid bs ≡ true
-    → Ready x text bs (d + 1) (λ es. T ((if mapping then tokens.flow_mapping_start else tokens.flow_sequence_start) ∷ es))
+pub opener_step : (mapping : Bool) (x : yaml_encoding_t) (text ws bs : List ℕ) (d : ℕ) (T : Tell)
+    → At x text ((if mapping then 123 else 91) ∷ (ws ++ bs)) d T → are_white ws ≡ true
+    → begins_solid bs ≡ true
+    → Ready x text bs (d + 1) (λ es. T
+    ((if mapping then tokens.flow_mapping_start else tokens.flow_sequence_start) ∷ es))
 opener_step true x text ws bs d T a white solid =
     let o = a.place in
     let same = a.deep in
@@ -270,11 +302,15 @@ opener_step false x text ws bs d T a white solid =
     (sign_step x text 91 (d + 1) T kinds.FlowSequenceStart tokens.flow_sequence_start ws bs o a.reads (opener_sign false o.depth) (or-true (nat_lt 0 o.depth)) refl (ap (λ (n : ℕ). n + 1) same) white
     (flow_fits (nat_lt 0 (o.depth + 1)) true ws (deeper o.depth)) a.left (λ q l. left_starts text q bs l solid)).0 refl
 
-fits_so : (n d : ℕ) (ws : List ℕ) → n ≡ d → tabs_fit (nat_lt 0 d) false ws ≡ true → tabs_fit (nat_lt 0 n) false ws ≡ true
+fits_so : (n d : ℕ) (ws : List ℕ) → n ≡ d → tabs_fit (nat_lt 0 d) false ws ≡ true
+    → tabs_fit (nat_lt 0 n) false ws ≡ true
 fits_so n d ws e h = ap (λ (m : ℕ). tabs_fit (nat_lt 0 m) false ws) e ∙ h
 
-pub closer_step : (mapping : Bool) (x : yaml_encoding_t) (text ws bs : List ℕ) (d : ℕ) (T : Tell) → At x text ((if mapping then 125 else 93) ∷ (ws ++ bs)) (d + 1) T → are_white ws ≡ true → tabs_fit (nat_lt 0 d) false ws ≡ true → Behind d bs
-    → At x text bs d (λ es. T ((if mapping then tokens.flow_mapping_end else tokens.flow_sequence_end) ∷ es))
+pub closer_step : (mapping : Bool) (x : yaml_encoding_t) (text ws bs : List ℕ) (d : ℕ) (T : Tell)
+    → At x text ((if mapping then 125 else 93) ∷ (ws ++ bs)) (d + 1) T → are_white ws ≡ true
+    → tabs_fit (nat_lt 0 d) false ws ≡ true → Behind d bs
+    → At x text bs d (λ es. T ((if mapping then tokens.flow_mapping_end else
+    tokens.flow_sequence_end) ∷ es))
 closer_step true x text ws bs d T a white fits next =
     let o = a.place in
     let same = a.deep in
@@ -288,7 +324,9 @@ closer_step false x text ws bs d T a white fits next =
     (sign_step x text 93 d T kinds.FlowSequenceEnd tokens.flow_sequence_end ws bs o a.reads (closer_sign false o.depth) (or-true (nat_lt 0 o.depth)) refl less white
     (fits_so (o.depth - 1) d ws less fits) a.left (λ q l. behind_starts d bs text q next l)).1
 
-pub comma_step : (x : yaml_encoding_t) (text ws bs : List ℕ) (d : ℕ) (T : Tell) → At x text (44 ∷ (ws ++ bs)) d T → nat_lt 0 d ≡ true → are_white ws ≡ true → begins_solid bs ≡ true → Ready x text bs d (λ es. T (tokens.flow_entry ∷ es))
+pub comma_step : (x : yaml_encoding_t) (text ws bs : List ℕ) (d : ℕ) (T : Tell)
+    → At x text (44 ∷ (ws ++ bs)) d T → nat_lt 0 d ≡ true → are_white ws ≡ true
+    → begins_solid bs ≡ true → Ready x text bs d (λ es. T (tokens.flow_entry ∷ es))
 comma_step x text ws bs d T a deep white solid =
     let o = a.place in
     (sign_step x text 44 d T kinds.FlowEntry tokens.flow_entry ws bs o a.reads (comma_sign o.depth) (or-true (nat_lt 0 o.depth)) refl a.deep white
@@ -296,11 +334,21 @@ comma_step x text ws bs d T a deep white solid =
 
 -- ---- literals and numbers
 
-plain_word : (flow : Bool) (text : List ℕ) (p : ℕ) (r : PlainText) → plain_at flow 0 text p ≡ Ok r → word_at kinds.Plain flow 0 text p ≡ Ok (record { body = tokens.scalar r.value YAML_PLAIN_SCALAR_STYLE; end = r.end; reached = r.place; broke = r.broke })
+plain_word : (flow : Bool) (text : List ℕ) (p : ℕ) (r : PlainText) → plain_at flow 0 text p ≡ Ok r
+    → word_at kinds.Plain flow 0 text p
+    ≡ Ok (record {
+      body = tokens.scalar r.value YAML_PLAIN_SCALAR_STYLE;
+      end = r.end;
+      reached =
+          r.place;
+      broke = r.broke;
+    })
 unfolding word_at
 plain_word flow text p r h = ap (λ (y : Result PlainText Wrong). plainly y) h
 
-pub plain_step : (x : yaml_encoding_t) (text value ws bs : List ℕ) (d : ℕ) (T : Tell) → is_plain_value value ≡ true → At x text (value ++ (ws ++ bs)) d T → are_white ws ≡ true → Behind d bs
+pub plain_step : (x : yaml_encoding_t) (text value ws bs : List ℕ) (d : ℕ) (T : Tell)
+    → is_plain_value value ≡ true → At x text (value ++ (ws ++ bs)) d T → are_white ws ≡ true
+    → Behind d bs
     → At x text bs d (λ es. T (tokens.scalar value YAML_PLAIN_SCALAR_STYLE ∷ es))
 plain_step x text value ws bs d T is a white next =
     let o = a.place in
@@ -318,12 +366,18 @@ plain_step x text value ws bs d T is a white next =
 
 -- ---- strings
 
-quoted_word : (flow : Bool) (text : List ℕ) (p : ℕ) (value : List ℕ) (e : ℕ) → double_quoted_at text p ≡ Ok (value, e) → word_at kinds.DoubleQuoted flow 0 text p ≡ Ok (sign (tokens.scalar value YAML_DOUBLE_QUOTED_SCALAR_STYLE) e)
+quoted_word : (flow : Bool) (text : List ℕ) (p : ℕ) (value : List ℕ) (e : ℕ)
+    → double_quoted_at text p ≡ Ok (value, e)
+    → word_at kinds.DoubleQuoted flow 0 text p
+    ≡ Ok (sign (tokens.scalar value YAML_DOUBLE_QUOTED_SCALAR_STYLE) e)
 unfolding word_at
 quoted_word flow text p value e h = ap (λ (r : Result (List ℕ × ℕ) Wrong). valued (λ v. tokens.scalar v YAML_DOUBLE_QUOTED_SCALAR_STYLE) r) h
 
-string_stands : (ls : List Letter) (text rest : List ℕ) (p d : ℕ) → AreLetters ls → are_kept ls ≡ true → Left text p (string_bytes ls ++ rest)
-    → Stands text p d kinds.DoubleQuoted (sign (tokens.scalar (letters_mean ls) YAML_DOUBLE_QUOTED_SCALAR_STYLE) (p + length (string_bytes ls)))
+string_stands : (ls : List Letter) (text rest : List ℕ) (p d : ℕ) → AreLetters ls
+    → are_kept ls ≡ true → Left text p (string_bytes ls ++ rest)
+    → Stands text p d kinds.DoubleQuoted
+    (sign (tokens.scalar (letters_mean ls) YAML_DOUBLE_QUOTED_SCALAR_STYLE)
+    (p + length (string_bytes ls)))
 string_stands ls text rest p d h k l =
     let first = left_first text p 34 _ l in
     record {
@@ -332,8 +386,11 @@ string_stands ls text rest p d h k l =
       word = quoted_word (nat_lt 0 d) text p (letters_mean ls) (p + length (string_bytes ls)) (string_reads ls text p h k (places.has_at text p (string_bytes ls) (places.has_front text p (string_bytes ls) rest l.has)));
     }
 
-pub string_step : (x : yaml_encoding_t) (text : List ℕ) (ls : List Letter) (ws bs : List ℕ) (d : ℕ) (T : Tell) → AreLetters ls → are_kept ls ≡ true → At x text (string_bytes ls ++ (ws ++ bs)) d T → are_white ws ≡ true → tabs_fit (nat_lt 0 d) false ws ≡ true → Behind d bs
-    → At x text bs d (λ es. T (tokens.scalar (letters_mean ls) YAML_DOUBLE_QUOTED_SCALAR_STYLE ∷ es))
+pub string_step : (x : yaml_encoding_t) (text : List ℕ) (ls : List Letter) (ws bs : List ℕ) (d : ℕ)
+    (T : Tell) → AreLetters ls → are_kept ls ≡ true → At x text (string_bytes ls ++ (ws ++ bs)) d T
+    → are_white ws ≡ true → tabs_fit (nat_lt 0 d) false ws ≡ true → Behind d bs
+    → At x text bs d (λ es. T (tokens.scalar (letters_mean ls) YAML_DOUBLE_QUOTED_SCALAR_STYLE
+    ∷ es))
 string_step x text ls ws bs d T h k a white fits next =
     let o = a.place in
     let p = o.at in
@@ -347,8 +404,12 @@ string_step x text ls ws bs d T h k a white fits next =
 -- ---- keys
 
 -- a key, white, its `:`, and white
-pub key_step : (x : yaml_encoding_t) (text : List ℕ) (ls : List Letter) (us ws bs : List ℕ) (d : ℕ) (T : Tell) → AreLetters ls → are_kept ls ≡ true → is_near ls us ≡ true → nat_lt 0 d ≡ true → Ready x text (string_bytes ls ++ (us ++ 58 ∷ (ws ++ bs))) d T
-    → are_white us ≡ true → are_white ws ≡ true → begins_solid bs ≡ true → At x text bs d (λ es. T (tokens.key ∷ tokens.scalar (letters_mean ls) YAML_DOUBLE_QUOTED_SCALAR_STYLE ∷ tokens.value ∷ es))
+pub key_step : (x : yaml_encoding_t) (text : List ℕ) (ls : List Letter) (us ws bs : List ℕ) (d : ℕ)
+    (T : Tell) → AreLetters ls → are_kept ls ≡ true → is_near ls us ≡ true → nat_lt 0 d ≡ true
+    → Ready x text (string_bytes ls ++ (us ++ 58 ∷ (ws ++ bs))) d T
+    → are_white us ≡ true → are_white ws ≡ true → begins_solid bs ≡ true
+    → At x text bs d (λ es. T (tokens.key
+    ∷ tokens.scalar (letters_mean ls) YAML_DOUBLE_QUOTED_SCALAR_STYLE ∷ tokens.value ∷ es))
 key_step x text ls us ws bs d T h k near deep ready front back solid =
     let a = ready.at in
     let o = a.place in

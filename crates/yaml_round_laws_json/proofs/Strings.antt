@@ -40,7 +40,8 @@ small_digit b v e l m =
     let s : b - 87 ≡ v = omega (arith, e) in
     rw (c, d, f, s) refl
 
-digit_by : (v : ℕ) (capital : Bool) → v < 16 → hex_digit (if nat_lt v 10 then v + 48 else if capital then v + 55 else v + 87) ≡ Some v
+digit_by : (v : ℕ) (capital : Bool) → v < 16
+    → hex_digit (if nat_lt v 10 then v + 48 else if capital then v + 55 else v + 87) ≡ Some v
 digit_by v capital l =
     elim (cases_Bool (nat_lt v 10)) [
       | inl e ↦ let low : v < 10 = grind (arith, nat_tests) in rw e (low_digit (v + 48) v refl low)
@@ -54,7 +55,8 @@ digit_by v capital l =
 digit_reads : (d : HexDigit) → d.value < 16 → hex_digit (hex_byte d) ≡ Some d.value
 digit_reads d l = digit_by d.value d.capital l
 
-next_digit : (n b v : ℕ) (ds : List ℕ) → hex_digit b ≡ Some v → number_behind n (b ∷ ds) ≡ number_behind (n * 16 + v) ds
+next_digit : (n b v : ℕ) (ds : List ℕ) → hex_digit b ≡ Some v
+    → number_behind n (b ∷ ds) ≡ number_behind (n * 16 + v) ds
 unfolding number_behind
 next_digit n b v ds h = ap (λ (o : Option ℕ). option_and_then (λ low. number_behind (n * 16 + low) ds) o) h
 
@@ -62,7 +64,8 @@ no_digit : (n : ℕ) → number_behind n [] ≡ Some n
 unfolding number_behind
 no_digit n = refl
 
-four_digits : (a b c d : HexDigit) → a.value < 16 → b.value < 16 → c.value < 16 → d.value < 16 → number_behind 0 (hex_byte a ∷ hex_byte b ∷ hex_byte c ∷ hex_byte d ∷ []) ≡ Some (code a b c d)
+four_digits : (a b c d : HexDigit) → a.value < 16 → b.value < 16 → c.value < 16 → d.value < 16
+    → number_behind 0 (hex_byte a ∷ hex_byte b ∷ hex_byte c ∷ hex_byte d ∷ []) ≡ Some (code a b c d)
 four_digits a b c d ha hb hc hd =
     next_digit 0 (hex_byte a) a.value (hex_byte b ∷ hex_byte c ∷ hex_byte d ∷ []) (digit_reads a ha)
     ∙ next_digit (0 * 16 + a.value) (hex_byte b) b.value (hex_byte c ∷ hex_byte d ∷ []) (digit_reads b hb)
@@ -127,13 +130,16 @@ four = refl
 below : (n c : ℕ) → n < 16 → c ≡ n → c < 16
 below n c l e = omega (arith, l, e)
 
-code_small : (a b c d : HexDigit) → a.value < 16 → b.value < 16 → c.value < 16 → d.value < 16 → code a b c d < 65536
+code_small : (a b c d : HexDigit) → a.value < 16 → b.value < 16 → c.value < 16 → d.value < 16
+    → code a b c d < 65536
 code_small a b c d ha hb hc hd = omega (arith, ha, hb, hc, hd)
 
 scalar_by : (n : ℕ) → n < 65536 → not (is_surrogate n) ≡ true → scalar n ≡ true
 scalar_by n l h = grind (arith, nat_tests)
 
-raw_stands : (c : ℕ) → (nat_le 32 c && not (c == 34 || c == 92)) ≡ true → not (is_refused c || ends_line c) ≡ true → not (is_line_end c || (c == 0 || (c == 34 || (true && c == 92)))) ≡ true
+raw_stands : (c : ℕ) → (nat_le 32 c && not (c == 34 || c == 92)) ≡ true
+    → not (is_refused c || ends_line c) ≡ true
+    → not (is_line_end c || (c == 0 || (c == 34 || (true && c == 92)))) ≡ true
 raw_stands c h k = grind (arith, nat_tests)
 
 part_stands : (l : Letter) → IsLetter l → is_kept l ≡ true → MayStand 34 (part_of l)
@@ -174,7 +180,9 @@ parts_stand (l ∷ ls) (h, hs) k =
 
 -- ---- and are read
 
-pub string_reads : (ls : List Letter) (text : List ℕ) (p : ℕ) → AreLetters ls → are_kept ls ≡ true → HasAt text p (string_bytes ls) → double_quoted_at text p ≡ Ok (letters_mean ls, p + length (string_bytes ls))
+pub string_reads : (ls : List Letter) (text : List ℕ) (p : ℕ) → AreLetters ls → are_kept ls ≡ true
+    → HasAt text p (string_bytes ls)
+    → double_quoted_at text p ≡ Ok (letters_mean ls, p + length (string_bytes ls))
 string_reads ls text p h k at =
     let same : quoted 34 (parts_of ls) ≡ string_bytes ls = ap (λ (bs : List ℕ). 34 ∷ (bs ++ 34 ∷ [])) (parts_spelled ls) in
     let there : HasAt text p (quoted 34 (parts_of ls)) = subst (λ (bs : List ℕ). HasAt text p bs) (sym same) at in

@@ -100,6 +100,8 @@ root_of : said.Node → Result (List said.Document) Fault → said.Node
 root_of n (Ok (d ∷ ds)) = d.root
 root_of n _ = n
 
-pub one_content : (v w : Json) → ◌≡◌ {A = Result (List said.Document) Fault} (Ok (json_content v ∷ [])) (Ok (json_content w ∷ [])) → v ≡ w
+pub one_content : (v w : Json)
+    → ◌≡◌ {A = Result (List said.Document) Fault} (Ok (json_content v ∷ []))
+    (Ok (json_content w ∷ [])) → v ≡ w
 unfolding root_of
 one_content v w e = one_value v w (ap (λ (r : Result (List said.Document) Fault). root_of (content v) r) e)

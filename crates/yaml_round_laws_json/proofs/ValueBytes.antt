@@ -74,7 +74,8 @@ unfolding is_document_indicator
 no_indicator text p c = let e = column_more text p c.ends c.starts in rw (e, no_column (column_at text p)) refl
 
 -- nothing ends before such a byte behind another one
-not_ended : (flow : Bool) (level : ℕ) (text : List ℕ) (p : ℕ) → IsCalm text p → IsCalm text (p + 1) → ends_at flow level text (p + 1) ≡ false
+not_ended : (flow : Bool) (level : ℕ) (text : List ℕ) (p : ℕ) → IsCalm text p → IsCalm text (p + 1)
+    → ends_at flow level text (p + 1) ≡ false
 unfolding ends_at
 not_ended true level text p c d =
     let some = d.some in
@@ -87,5 +88,7 @@ no_colon : (flow : Bool) (b : ℕ) (x : Bool) → b ≢ 58 → (flow && (b == 58
 no_colon flow b x h = grind (arith, nat_tests)
 
 -- it is kept
-pub kept_next : (flow : Bool) (level : ℕ) (text : List ℕ) (p : ℕ) → IsCalm text p → IsCalm text (p + 1) → spot_at flow level text (p + 1) ≡ Takes (Kept (byte text (p + 1) ∷ [])) (p + 1 + 1)
+pub kept_next : (flow : Bool) (level : ℕ) (text : List ℕ) (p : ℕ) → IsCalm text p
+    → IsCalm text (p + 1)
+    → spot_at flow level text (p + 1) ≡ Takes (Kept (byte text (p + 1) ∷ [])) (p + 1 + 1)
 kept_next flow level text p c d = spot_kept flow level text (p + 1) d.width d.blank (not_ended flow level text p c d) (no_colon flow (byte text (p + 1)) _ d.colon)

@@ -35,16 +35,21 @@ deeper : (d : ℕ) → nat_lt 0 (d + 1) ≡ true
 deeper d = grind (arith, nat_tests)
 
 -- what is told may be said otherwise
-says_as : (x : yaml_encoding_t) (text bs : List ℕ) (d : ℕ) (T U : Tell) → ((es : List TokenBody) → T es ≡ U es) → At x text bs d T → At x text bs d U
+says_as : (x : yaml_encoding_t) (text bs : List ℕ) (d : ℕ) (T U : Tell)
+    → ((es : List TokenBody) → T es ≡ U es) → At x text bs d T → At x text bs d U
 says_as x text bs d T U e a = record { place = a.place; reads = walk_says.other x text a.place [] [] [] T U a.reads e; deep = a.deep; left = a.left }
 
 -- behind a comma stand elements, or members
-more_elements : (elements : Elements) (es : List TokenBody) → json_items false (json_nodes (values.json_elements elements)) es ≡ tokens.flow_entry ∷ json_items true (json_nodes (values.json_elements elements)) es
+more_elements : (elements : Elements) (es : List TokenBody)
+    → json_items false (json_nodes (values.json_elements elements)) es ≡ tokens.flow_entry
+    ∷ json_items true (json_nodes (values.json_elements elements)) es
 unfolding json_items
 more_elements (last_element v a) es = refl
 more_elements (element v a b elements) es = refl
 
-more_members : (members : Members) (es : List TokenBody) → json_pairs false (values.json_pairs (values.json_members members)) es ≡ tokens.flow_entry ∷ json_pairs true (values.json_pairs (values.json_members members)) es
+more_members : (members : Members) (es : List TokenBody)
+    → json_pairs false (values.json_pairs (values.json_members members)) es ≡ tokens.flow_entry
+    ∷ json_pairs true (values.json_pairs (values.json_members members)) es
 unfolding json_pairs
 more_members (last_member k a b v c) es = refl
 more_members (member k a b v c d members) es = refl
@@ -85,14 +90,16 @@ unfolding value_bytes json_bodies json_pairs
 empty_object_walks w h u x text ws bs d T white fits next a =
     closer_step true x text ws bs d (λ es. T (tokens.flow_mapping_start ∷ es)) (opener_step true x text w (125 ∷ (ws ++ bs)) d T a h refl).at white (fits refl) next
 
-array_walks : (w : List ℕ) (elements : Elements) → ElementsWalk elements → ValueWalks (array w elements)
+array_walks : (w : List ℕ) (elements : Elements) → ElementsWalk elements
+    → ValueWalks (array w elements)
 unfolding value_bytes json_bodies
 array_walks w elements inner (hw, h) u x text ws bs d T white fits next a =
     let open_at = opener_step false x text w (elements_bytes elements (93 ∷ (ws ++ bs))) d T a hw (elements_begin elements h (93 ∷ (ws ++ bs))) in
     let end_at = inner h u x text (ws ++ bs) (d + 1) (λ es. T (tokens.flow_sequence_start ∷ es)) (deeper d) open_at.at in
     closer_step false x text ws bs d (λ es. T (tokens.flow_sequence_start ∷ json_items true (json_nodes (values.json_elements elements)) es)) end_at white (fits refl) next
 
-object_walks : (w : List ℕ) (members : Members) → MembersWalk members → ValueWalks (object w members)
+object_walks : (w : List ℕ) (members : Members) → MembersWalk members
+    → ValueWalks (object w members)
 unfolding value_bytes json_bodies
 object_walks w members inner (hw, h) u x text ws bs d T white fits next a =
     let open_at = opener_step true x text w (members_bytes members (125 ∷ (ws ++ bs))) d T a hw (members_begin members (125 ∷ (ws ++ bs))) in
@@ -104,7 +111,8 @@ unfolding elements_bytes json_items
 last_element_walks v a own (h, ha) u x text bs d T deep at =
     own h u x text a (93 ∷ bs) d T ha (λ bare. flow_fits d a deep) (deep, inr (inl refl)) at
 
-element_walks : (v : Value) (a b : List ℕ) (elements : Elements) → ValueWalks v → ElementsWalk elements → ElementsWalk (element v a b elements)
+element_walks : (v : Value) (a b : List ℕ) (elements : Elements) → ValueWalks v
+    → ElementsWalk elements → ElementsWalk (element v a b elements)
 unfolding elements_bytes json_items
 element_walks v a b elements own inner (h, ha, hb, hs) (u, us) x text bs d T deep at =
     let rest = elements_bytes elements (93 ∷ bs) in
@@ -114,14 +122,16 @@ element_walks v a b elements own inner (h, ha, hb, hs) (u, us) x text bs d T dee
     let all = inner hs us x text bs d (λ es. T (B (tokens.flow_entry ∷ es))) deep two.at in
     says_as x text (93 ∷ bs) d _ _ (λ es. ap (λ (ts : List TokenBody). T (B ts)) (sym (more_elements elements es))) all
 
-last_member_walks : (k : _) (a b : List ℕ) (v : Value) (c : List ℕ) → ValueWalks v → MembersWalk (last_member k a b v c)
+last_member_walks : (k : _) (a b : List ℕ) (v : Value) (c : List ℕ) → ValueWalks v
+    → MembersWalk (last_member k a b v c)
 unfolding members_bytes json_pairs json_bodies
 last_member_walks k a b v c own (hk, ha, hb, h, hc) (kept, near, u) x text bs d T deep at =
     let rest = value_bytes v (c ++ 125 ∷ bs) in
     let one = key_step x text k a b rest d T hk kept near deep at ha hb (value_begins v h (c ++ 125 ∷ bs)) in
     own h u x text c (125 ∷ bs) d _ hc (λ bare. flow_fits d c deep) (deep, inr (inr refl)) one
 
-member_walks : (k : _) (a b : List ℕ) (v : Value) (c e : List ℕ) (members : Members) → ValueWalks v → MembersWalk members → MembersWalk (member k a b v c e members)
+member_walks : (k : _) (a b : List ℕ) (v : Value) (c e : List ℕ) (members : Members) → ValueWalks v
+    → MembersWalk members → MembersWalk (member k a b v c e members)
 unfolding members_bytes json_pairs json_bodies
 member_walks k a b v c e members own inner (hk, ha, hb, h, hc, he, hs) (kept, near, u, us) x text bs d T deep at =
     let rest = members_bytes members (125 ∷ bs) in
@@ -156,7 +166,8 @@ mutual
 
 -- ---- texts
 
-white_gap : (b : ℕ) → is_white b ≡ true → (b == 9) ≡ false → (b == 32 || (b == 10 || b == 13)) ≡ true
+white_gap : (b : ℕ) → is_white b ≡ true → (b == 9) ≡ false
+    → (b == 32 || (b == 10 || b == 13)) ≡ true
 white_gap b h k = grind (arith, nat_tests)
 
 front_gap : (ws : List ℕ) → are_white ws ≡ true → has_tab ws ≡ false → are_gap ws ≡ true
@@ -167,7 +178,9 @@ front_gap (w ∷ ws) h k =
     rw (white_gap w here none) (front_gap ws rest more)
 
 -- the first word of the text
-first_word : (x : yaml_encoding_t) (text front bs : List ℕ) → text ≡ front ++ bs → are_white front ≡ true → has_tab front ≡ false → At x text bs 0 (λ es. tokens.stream_start x ∷ es)
+first_word : (x : yaml_encoding_t) (text front bs : List ℕ) → text ≡ front ++ bs
+    → are_white front ≡ true → has_tab front ≡ false
+    → At x text bs 0 (λ es. tokens.stream_start x ∷ es)
 first_word x text front bs same white calm =
     let z : 0 + length text ≡ length text = omega arith in
     let whole : Left text 0 text = record { has = has text 0 text (λ k few. let y : 0 + k ≡ k = omega arith in ap (λ (i : ℕ). byte text i) y); ends = z } in
@@ -180,15 +193,18 @@ first_word x text front bs same white calm =
       left = left_rest text 0 front bs all;
     }
 
-back_fits : (v : Value) (back : List ℕ) → (is_bare v || not (has_tab_below back)) ≡ true → is_bare v ≡ false → tabs_fit (nat_lt 0 0) false back ≡ true
+back_fits : (v : Value) (back : List ℕ) → (is_bare v || not (has_tab_below back)) ≡ true
+    → is_bare v ≡ false → tabs_fit (nat_lt 0 0) false back ≡ true
 back_fits v back h k = by (is_bare v) h k
   where
-    by : (b : Bool) → (b || not (has_tab_below back)) ≡ true → b ≡ false → not (has_tab_below back) ≡ true
+    by : (b : Bool) → (b || not (has_tab_below back)) ≡ true → b ≡ false
+        → not (has_tab_below back) ≡ true
     by true h k = absurd (true≢false k)
     by false h k = h
 
 -- nothing is left
-stopped : (x : yaml_encoding_t) (text : List ℕ) (T : Tell) → At x text [] 0 T → Done x text (T (tokens.stream_end ∷ []))
+stopped : (x : yaml_encoding_t) (text : List ℕ) (T : Tell) → At x text [] 0 T
+    → Done x text (T (tokens.stream_end ∷ []))
 stopped x text T a =
     let p = a.place.at in
     let z : p + 0 ≡ p = omega arith in
@@ -197,7 +213,8 @@ stopped x text T a =
     walk_stops x text a.place [] T [] _ _ a.reads a.deep comes
 
 -- A JSON text without exceptions has the tokens of its value, without fault.
-pub text_done : (x : yaml_encoding_t) (text : List ℕ) (t : Text) → IsJsonText text t → IsUsualText t → Done x text (tokens.stream_start x ∷ document_bodies (json_document (json_value t.value)))
+pub text_done : (x : yaml_encoding_t) (text : List ℕ) (t : Text) → IsJsonText text t → IsUsualText t
+    → Done x text (tokens.stream_start x ∷ document_bodies (json_document (json_value t.value)))
 text_done x text t is usual =
     let back : value_bytes t.value t.back ≡ value_bytes t.value (t.back ++ []) = ap (λ (bs : List ℕ). value_bytes t.value bs) (sym (append-nil t.back)) in
     let first = first_word x text t.front (value_bytes t.value (t.back ++ [])) (is.spelled ∙ ap (λ (bs : List ℕ). t.front ++ bs) back) is.front usual.front in

@@ -19,7 +19,8 @@ use Rattle.yaml_round_laws_json.specs.Exceptions.{is_break, has_tab, has_tab_bel
 
 -- ---- one step
 
-not_first : (first : Bool) (a b c : ℕ) → a ≢ 0xEF → (first && (a == 0xEF && (b == 0xBB && c == 0xBF))) ≡ false
+not_first : (first : Bool) (a b c : ℕ) → a ≢ 0xEF
+    → (first && (a == 0xEF && (b == 0xBB && c == 0xBF))) ≡ false
 not_first true a b c h = grind (arith, nat_tests)
 not_first false a b c h = refl
 
@@ -30,14 +31,16 @@ no_bom text p h = not_first (p == 0) (byte text p) (byte text (p + 1)) (byte tex
 abbrev Goes : ℕ → Bool → Bool → Bool → List ℕ → ℕ → ℕ → Type 0
 Goes n flow allowed key text p q = (m : ℕ) × (length text ≤ q + m) × ((gap_within n flow allowed text p).place ≡ (gap_within m flow key text q).place)
 
-step_space : (n : ℕ) (flow allowed : Bool) (text : List ℕ) (p : ℕ) → byte text p ≡ 32 → length text ≤ p + n → Goes n flow allowed allowed text p (p + 1)
+step_space : (n : ℕ) (flow allowed : Bool) (text : List ℕ) (p : ℕ) → byte text p ≡ 32
+    → length text ≤ p + n → Goes n flow allowed allowed text p (p + 1)
 unfolding step_at
 step_space n flow allowed text p h room =
     let first : (p == 0 && is_bom text p) ≡ false = no_bom text p (omega (arith, h)) in
     let (m, more, far, inside, same) = gap_blank n flow allowed text p (p + 1) (rw (first, h) refl) room in
     (m, more, ap (λ (g : Gap). g.place) same)
 
-step_tab : (n : ℕ) (flow allowed : Bool) (text : List ℕ) (p : ℕ) → (flow || not allowed) ≡ true → byte text p ≡ 9 → length text ≤ p + n → Goes n flow allowed allowed text p (p + 1)
+step_tab : (n : ℕ) (flow allowed : Bool) (text : List ℕ) (p : ℕ) → (flow || not allowed) ≡ true
+    → byte text p ≡ 9 → length text ≤ p + n → Goes n flow allowed allowed text p (p + 1)
 unfolding step_at
 step_tab n flow allowed text p t h room =
     let first : (p == 0 && is_bom text p) ≡ false = no_bom text p (omega (arith, h)) in
@@ -52,7 +55,8 @@ break_parts : (b c d : ℕ) → 0 < break_of b c d → (b ≢ 0xEF) × (b ≢ 32
 unfolding break_of
 break_parts b c d h = (grind (arith, nat_tests), grind (arith, nat_tests), grind (arith, nat_tests), grind (arith, nat_tests))
 
-step_break : (n : ℕ) (flow allowed : Bool) (text : List ℕ) (p w : ℕ) → break_width text p ≡ suc w → length text ≤ p + n → Goes n flow allowed (allowed || not flow) text p (p + suc w)
+step_break : (n : ℕ) (flow allowed : Bool) (text : List ℕ) (p w : ℕ) → break_width text p ≡ suc w
+    → length text ≤ p + n → Goes n flow allowed (allowed || not flow) text p (p + suc w)
 unfolding step_at
 step_break n flow allowed text p w width room =
     let some : 0 < break_width text p = omega (arith, width) in
@@ -69,7 +73,9 @@ step_break n flow allowed text p w width room =
 unequal : (b n : ℕ) → not (b == n) ≡ true → b ≢ n
 unequal b n h = grind (arith, nat_tests)
 
-lexeme_parts : (b c : Bool) (d : ℕ) → (not (d == 32) && (not (d == 9) && (not (d == 35) && (not b && not c)))) ≡ true → (d ≢ 32) × (d ≢ 9) × (d ≢ 35) × (b ≡ false) × (c ≡ false)
+lexeme_parts : (b c : Bool) (d : ℕ)
+    → (not (d == 32) && (not (d == 9) && (not (d == 35) && (not b && not c)))) ≡ true
+    → (d ≢ 32) × (d ≢ 9) × (d ≢ 35) × (b ≡ false) × (c ≡ false)
 lexeme_parts b c d h =
     let (space, h1) = and_parts (not (d == 32)) (not (d == 9) && (not (d == 35) && (not b && not c))) h in
     let (tab, h2) = and_parts (not (d == 9)) (not (d == 35) && (not b && not c)) h1 in
@@ -77,7 +83,8 @@ lexeme_parts b c d h =
     let (none, first) = and_parts (not b) (not c) h3 in
     (unequal d 32 space, unequal d 9 tab, unequal d 35 hash, not-true b none, not-true c first)
 
-step_lexeme : (n : ℕ) (flow allowed : Bool) (text : List ℕ) (p : ℕ) → begins_lexeme text p ≡ true → length text ≤ p + n → (gap_within n flow allowed text p).place ≡ p
+step_lexeme : (n : ℕ) (flow allowed : Bool) (text : List ℕ) (p : ℕ) → begins_lexeme text p ≡ true
+    → length text ≤ p + n → (gap_within n flow allowed text p).place ≡ p
 unfolding step_at
 step_lexeme n flow allowed text p h room =
     let (space, tab, hash, none, first) = lexeme_parts (nat_lt 0 (break_width text p)) (p == 0 && is_bom text p) (byte text p) h in
@@ -115,12 +122,14 @@ tabs_fit false true ws = not (has_tab ws)
 tabs_fit false false ws = not (has_tab_below ws)
 
 -- a tab that fits is skipped, and the others fit
-fits_tab : (flow allowed : Bool) (bs : List ℕ) → tabs_fit flow allowed (9 ∷ bs) ≡ true → ((flow || not allowed) ≡ true) × (tabs_fit flow allowed bs ≡ true)
+fits_tab : (flow allowed : Bool) (bs : List ℕ) → tabs_fit flow allowed (9 ∷ bs) ≡ true
+    → ((flow || not allowed) ≡ true) × (tabs_fit flow allowed bs ≡ true)
 fits_tab true allowed bs h = (refl, refl)
 fits_tab false true bs h = absurd (true≢false (sym h))
 fits_tab false false bs h = (refl, h)
 
-fits_space : (flow allowed : Bool) (bs : List ℕ) → tabs_fit flow allowed (32 ∷ bs) ≡ true → tabs_fit flow allowed bs ≡ true
+fits_space : (flow allowed : Bool) (bs : List ℕ) → tabs_fit flow allowed (32 ∷ bs) ≡ true
+    → tabs_fit flow allowed bs ≡ true
 fits_space true allowed bs h = refl
 fits_space false true bs h = h
 fits_space false false bs h = h
@@ -135,7 +144,8 @@ no_less (b ∷ bs) h =
     none false y h = (refl, h)
     none true y h = absurd (true≢false h)
 
-fits_break : (flow allowed : Bool) (b : ℕ) (bs : List ℕ) → is_break b ≡ true → tabs_fit flow allowed (b ∷ bs) ≡ true → tabs_fit flow (allowed || not flow) bs ≡ true
+fits_break : (flow allowed : Bool) (b : ℕ) (bs : List ℕ) → is_break b ≡ true
+    → tabs_fit flow allowed (b ∷ bs) ≡ true → tabs_fit flow (allowed || not flow) bs ≡ true
 fits_break true true b bs e h = refl
 fits_break true false b bs e h = refl
 fits_break false true b bs e h = less (b == 9) (has_tab bs) h
@@ -152,11 +162,17 @@ abbrev Leads : ℕ → Type 0
 Leads k = (n : ℕ) (flow allowed : Bool) (text : List ℕ) (p : ℕ) (ws : List ℕ) → length ws ≤ k → Has text p ws → are_white ws ≡ true → tabs_fit flow allowed ws ≡ true → begins_lexeme text (p + length ws) ≡ true
     → length text ≤ p + n → (gap_within n flow allowed text p).place ≡ p + length ws
 
-with_rest : (n : ℕ) (flow allowed key : Bool) (text : List ℕ) (p q e : ℕ) → Goes n flow allowed key text p q → ((m : ℕ) → length text ≤ q + m → (gap_within m flow key text q).place ≡ e) → (gap_within n flow allowed text p).place ≡ e
+with_rest : (n : ℕ) (flow allowed key : Bool) (text : List ℕ) (p q e : ℕ)
+    → Goes n flow allowed key text p q
+    → ((m : ℕ) → length text ≤ q + m → (gap_within m flow key text q).place ≡ e)
+    → (gap_within n flow allowed text p).place ≡ e
 with_rest n flow allowed key text p q e (m, more, same) rest = same ∙ rest m more
 
-single : (k : ℕ) → Leads k → (n : ℕ) (flow allowed : Bool) (text : List ℕ) (p : ℕ) (bs : List ℕ) → length bs ≤ k → break_width text p ≡ 1 → Has text (p + 1) bs → are_white bs ≡ true → tabs_fit flow (allowed || not flow) bs ≡ true
-    → begins_lexeme text (p + 1 + length bs) ≡ true → length text ≤ p + n → (gap_within n flow allowed text p).place ≡ p + 1 + length bs
+single : (k : ℕ) → Leads k → (n : ℕ) (flow allowed : Bool) (text : List ℕ) (p : ℕ) (bs : List ℕ)
+    → length bs ≤ k → break_width text p ≡ 1 → Has text (p + 1) bs → are_white bs ≡ true
+    → tabs_fit flow (allowed || not flow) bs ≡ true
+    → begins_lexeme text (p + 1 + length bs) ≡ true → length text ≤ p + n
+    → (gap_within n flow allowed text p).place ≡ p + 1 + length bs
 single k all n flow allowed text p bs few width h are fits stop room =
     with_rest n flow allowed (allowed || not flow) text p (p + 1) (p + 1 + length bs) (step_break n flow allowed text p 0 width room) (λ m r. all m flow (allowed || not flow) text (p + 1) bs few h are fits stop r)
 
@@ -165,8 +181,11 @@ or_twice true b = refl
 or_twice false true = refl
 or_twice false false = refl
 
-returns : (k : ℕ) → Leads k → (n : ℕ) (flow allowed : Bool) (text : List ℕ) (p : ℕ) (bs : List ℕ) → length bs ≤ k → byte text p ≡ 13 → Has text (p + 1) bs → are_white bs ≡ true → tabs_fit flow (allowed || not flow) bs ≡ true
-    → begins_lexeme text (p + 1 + length bs) ≡ true → length text ≤ p + n → (gap_within n flow allowed text p).place ≡ p + 1 + length bs
+returns : (k : ℕ) → Leads k → (n : ℕ) (flow allowed : Bool) (text : List ℕ) (p : ℕ) (bs : List ℕ)
+    → length bs ≤ k → byte text p ≡ 13 → Has text (p + 1) bs → are_white bs ≡ true
+    → tabs_fit flow (allowed || not flow) bs ≡ true
+    → begins_lexeme text (p + 1 + length bs) ≡ true → length text ≤ p + n
+    → (gap_within n flow allowed text p).place ≡ p + 1 + length bs
 returns k all n flow allowed text p [] few e h are fits stop room =
     let z : p + 1 + 0 ≡ p + 1 = omega arith in
     let here : begins_lexeme text (p + 1) ≡ true = rw z at stop in
@@ -218,14 +237,17 @@ leads (suc k) n flow allowed text p (b ∷ bs) few (e, h) are fits stop room =
           rw end (returns k (leads k) n flow allowed text p bs (omega (arith, few)) (e ∙ s) h back (fits_break flow allowed b bs breaks fits) after room)
     ]
 
-pub white_leads : (flow allowed : Bool) (text : List ℕ) (p : ℕ) (ws : List ℕ) → Has text p ws → are_white ws ≡ true → tabs_fit flow allowed ws ≡ true → begins_lexeme text (p + length ws) ≡ true
+pub white_leads : (flow allowed : Bool) (text : List ℕ) (p : ℕ) (ws : List ℕ) → Has text p ws
+    → are_white ws ≡ true → tabs_fit flow allowed ws ≡ true
+    → begins_lexeme text (p + length ws) ≡ true
     → (gap_at flow allowed text p).place ≡ p + length ws
 white_leads flow allowed text p ws h are fits stop = leads (length ws) (length text) flow allowed text p ws (omega arith) h are fits stop (omega arith)
 
 -- ---- behind a word
 
 -- no white stands where a lexeme begins
-nothing_more : (text : List ℕ) (p : ℕ) (gap : List ℕ) → begins_lexeme text p ≡ true → IsGap text p gap → gap ≡ []
+nothing_more : (text : List ℕ) (p : ℕ) (gap : List ℕ) → begins_lexeme text p ≡ true
+    → IsGap text p gap → gap ≡ []
 nothing_more text p [] e g = refl
 nothing_more text p (x ∷ gap) e g =
     let (here, rest) = and_parts (x == 32 || (x == 10 || x == 13)) (are_gap gap) g.blank in
@@ -241,7 +263,9 @@ or_off false true = refl
 or_off false false = refl
 
 -- the next lexeme begins there
-place_leaves : (text : List ℕ) (d : ℕ) (allows : Bool) (w : WordText) (e : ℕ) → (gap_at (nat_lt 0 d) (allows || w.broke) text w.reached).place ≡ e → begins_lexeme text e ≡ true → WordLeaves text d allows w e (may_then text d allows w) false
+place_leaves : (text : List ℕ) (d : ℕ) (allows : Bool) (w : WordText) (e : ℕ)
+    → (gap_at (nat_lt 0 d) (allows || w.broke) text w.reached).place ≡ e
+    → begins_lexeme text e ≡ true → WordLeaves text d allows w e (may_then text d allows w) false
 place_leaves text d allows w e there stop h at key deep =
     let G : ℕ → Bool → ℕ → Gap = λ n b i. gap_at (nat_lt 0 n) b text i in
     let same : gap_behind text h ≡ gap_at (nat_lt 0 d) (allows || w.broke) text w.reached = ap (λ (i : ℕ). G (depth h) (key_allowed h) i) at ∙ ap (λ (b : Bool). G (depth h) b w.reached) key ∙ ap (λ (n : ℕ). G n (allows || w.broke) w.reached) deep in
@@ -259,12 +283,17 @@ place_leaves text d allows w e there stop h at key deep =
     }
 
 -- Behind a word that reaches to white.
-pub white_leaves : (text : List ℕ) (d : ℕ) (allows : Bool) (w : WordText) (ws : List ℕ) → Has text w.reached ws → are_white ws ≡ true → tabs_fit (nat_lt 0 d) (allows || w.broke) ws ≡ true → begins_lexeme text (w.reached + length ws) ≡ true
+pub white_leaves : (text : List ℕ) (d : ℕ) (allows : Bool) (w : WordText) (ws : List ℕ)
+    → Has text w.reached ws → are_white ws ≡ true
+    → tabs_fit (nat_lt 0 d) (allows || w.broke) ws ≡ true
+    → begins_lexeme text (w.reached + length ws) ≡ true
     → WordLeaves text d allows w (w.reached + length ws) (may_then text d allows w) false
 white_leaves text d allows w ws h are fits stop = place_leaves text d allows w (w.reached + length ws) (white_leads (nat_lt 0 d) (allows || w.broke) text w.reached ws h are fits stop) stop
 
 -- Behind one that has taken it.
-pub word_leaves : (text : List ℕ) (d : ℕ) (allows : Bool) (w : WordText) → begins_lexeme text w.reached ≡ true → WordLeaves text d allows w w.reached (may_then text d allows w) false
+pub word_leaves : (text : List ℕ) (d : ℕ) (allows : Bool) (w : WordText)
+    → begins_lexeme text w.reached ≡ true
+    → WordLeaves text d allows w w.reached (may_then text d allows w) false
 word_leaves text d allows w stop =
     let z : w.reached + 0 ≡ w.reached = omega arith in
     subst (λ (e : ℕ). WordLeaves text d allows w e (may_then text d allows w) false) z (white_leaves text d allows w [] tt refl (nothing_fits (nat_lt 0 d) (allows || w.broke)) (ap (λ (e : ℕ). begins_lexeme text e) z ∙ stop))

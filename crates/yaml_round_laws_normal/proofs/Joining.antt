@@ -43,11 +43,13 @@ most : (n : ℤ) → settled_indent n ≤ 9
 most (pos n) = nine_at_most n
 most (negsuc n) = nine_at_most 0
 
-ending_is : (from : yaml_encoding_t) (input : List ℕ) → ending_of from input ≡ (parsed (tokens_of from input)).ending
+ending_is : (from : yaml_encoding_t) (input : List ℕ)
+    → ending_of from input ≡ (parsed (tokens_of from input)).ending
 unfolding read
 ending_is from input = refl
 
-contents_are : (from : yaml_encoding_t) (input : List ℕ) → contents (events_of from input) ≡ contents (parsed (tokens_of from input)).events
+contents_are : (from : yaml_encoding_t) (input : List ℕ)
+    → contents (events_of from input) ≡ contents (parsed (tokens_of from input)).events
 unfolding read
 contents_are from input = refl
 

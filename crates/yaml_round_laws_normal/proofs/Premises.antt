@@ -35,7 +35,9 @@ text_tag : (tag : Option (List ℕ)) → IsTag tag → text.IsWritableTag tag
 text_tag None h = tt
 text_tag (Some t) h = h
 
-text_scalar : (b : Bool) → (anchor : Option (List ℕ)) (mark : Mark) (value : List ℕ) → IsAnchor anchor → IsMark mark → IsUtf8 value → text.IsWritable (readable_node b (scalar anchor mark value))
+text_scalar : (b : Bool) → (anchor : Option (List ℕ)) (mark : Mark) (value : List ℕ)
+    → IsAnchor anchor → IsMark mark → IsUtf8 value
+    → text.IsWritable (readable_node b (scalar anchor mark value))
 text_scalar b anchor (untagged plain) value a m v = (text_anchor anchor a, tt, v)
 text_scalar b anchor (tagged t) value a (m, other) v = (text_anchor anchor a, m, v)
 
@@ -58,7 +60,8 @@ have_utf8 : (ds : List TagDirective) → HavePrefixes ds → HaveUtf8 ds
 have_utf8 [] h = tt
 have_utf8 (d ∷ ds) (h, hs) = (h, have_utf8 ds hs)
 
-pub are_writable : (first : Bool) (c : List Document) → AreWritable c → text.AreWritable (documents_from first c)
+pub are_writable : (first : Bool) (c : List Document) → AreWritable c
+    → text.AreWritable (documents_from first c)
 are_writable first [] h = tt
 are_writable first (d ∷ ds) (h, hs) = ((h.opening, have_utf8 d.directives h.prefixes), text_node (is_unmarked first d) d.root h.root, are_writable false ds hs)
 
@@ -72,7 +75,9 @@ bytes_tag : (tag : Option (List ℕ)) → IsTag tag → bytes.IsTextOption tag
 bytes_tag None h = tt
 bytes_tag (Some t) (some, utf8) = utf8
 
-bytes_scalar : (b : Bool) → (anchor : Option (List ℕ)) (mark : Mark) (value : List ℕ) → IsAnchor anchor → IsMark mark → IsUtf8 value → bytes.IsSpellable (readable_node b (scalar anchor mark value))
+bytes_scalar : (b : Bool) → (anchor : Option (List ℕ)) (mark : Mark) (value : List ℕ)
+    → IsAnchor anchor → IsMark mark → IsUtf8 value
+    → bytes.IsSpellable (readable_node b (scalar anchor mark value))
 bytes_scalar b anchor (untagged plain) value a m v = (bytes_anchor anchor a, tt, v)
 bytes_scalar b anchor (tagged t) value a ((some, utf8), other) v = (bytes_anchor anchor a, utf8, v)
 
@@ -98,7 +103,8 @@ have_prefixes : (ds : List TagDirective) → HavePrefixes ds → bytes.HavePrefi
 have_prefixes [] h = tt
 have_prefixes (d ∷ ds) (h, hs) = (h, have_prefixes ds hs)
 
-pub are_spellable : (first : Bool) (c : List Document) → AreWritable c → bytes.DocumentsAreSpellable (documents_from first c)
+pub are_spellable : (first : Bool) (c : List Document) → AreWritable c
+    → bytes.DocumentsAreSpellable (documents_from first c)
 are_spellable first [] h = tt
 are_spellable first (d ∷ ds) (h, hs) = (h.opening, have_prefixes d.directives h.prefixes, bytes_node (is_unmarked first d) d.root h.root, are_spellable false ds hs)
 
@@ -109,30 +115,37 @@ record Opened (o : Opening) : Type 0 where
   right : opening_problem o ≡ None
   utf8 : HaveUtf8 o.directives
 
-readable_tag : WrittenTagsAreReadable → (o : Opening) → Opened o → (tag : Option (List ℕ)) → IsTag tag → IsReadableTag o.directives tag
+readable_tag : WrittenTagsAreReadable → (o : Opening) → Opened o → (tag : Option (List ℕ))
+    → IsTag tag → IsReadableTag o.directives tag
 readable_tag law o h None t = tt
 readable_tag law o h (Some t) (some, utf8) = law o h.right h.utf8 t utf8 some
 
-tagged_scalar : (b : Bool) → WrittenTagsAreReadable → (o : Opening) → Opened o → (anchor : Option (List ℕ)) (mark : Mark) (value : List ℕ) → IsMark mark → IsTagged o.directives (readable_node b (scalar anchor mark value))
+tagged_scalar : (b : Bool) → WrittenTagsAreReadable → (o : Opening) → Opened o
+    → (anchor : Option (List ℕ)) (mark : Mark) (value : List ℕ) → IsMark mark
+    → IsTagged o.directives (readable_node b (scalar anchor mark value))
 tagged_scalar b law o h anchor (untagged plain) value m = tt
 tagged_scalar b law o h anchor (tagged t) value (m, other) = readable_tag law o h (Some t) m
 
 mutual
-  tagged_node : (b : Bool) → WrittenTagsAreReadable → (o : Opening) → Opened o → (n : Node) → IsWritable n → IsTagged o.directives (readable_node b n)
+  tagged_node : (b : Bool) → WrittenTagsAreReadable → (o : Opening) → Opened o → (n : Node)
+      → IsWritable n → IsTagged o.directives (readable_node b n)
   tagged_node b law o h (alias name) w = tt
   tagged_node b law o h (scalar anchor mark value) (a, m, v) = tagged_scalar b law o h anchor mark value m
   tagged_node b law o h (sequence anchor tag items) (a, t, w) = (readable_tag law o h tag t, tagged_items law o h items w)
   tagged_node b law o h (mapping anchor tag pairs) (a, t, w) = (readable_tag law o h tag t, tagged_pairs law o h pairs w)
 
-  tagged_items : WrittenTagsAreReadable → (o : Opening) → Opened o → (ns : Nodes) → AreItemsWritable ns → AreTagged o.directives (readable_nodes ns)
+  tagged_items : WrittenTagsAreReadable → (o : Opening) → Opened o → (ns : Nodes)
+      → AreItemsWritable ns → AreTagged o.directives (readable_nodes ns)
   tagged_items law o h no_nodes w = tt
   tagged_items law o h (node n ns) (w, ws) = (tagged_node false law o h n w, tagged_items law o h ns ws)
 
-  tagged_pairs : WrittenTagsAreReadable → (o : Opening) → Opened o → (ps : Pairs) → ArePairsWritable ps → PairsAreTagged o.directives (readable_pairs ps)
+  tagged_pairs : WrittenTagsAreReadable → (o : Opening) → Opened o → (ps : Pairs)
+      → ArePairsWritable ps → PairsAreTagged o.directives (readable_pairs ps)
   tagged_pairs law o h no_pairs w = tt
   tagged_pairs law o h (pair k v ps) (wk, wv, ws) = (tagged_node false law o h k wk, tagged_node false law o h v wv, tagged_pairs law o h ps ws)
 
-pub have_texts : WrittenTagsAreReadable → (first : Bool) (c : List Document) → AreWritable c → HaveTexts (documents_from first c)
+pub have_texts : WrittenTagsAreReadable → (first : Bool) (c : List Document) → AreWritable c
+    → HaveTexts (documents_from first c)
 have_texts law first [] h = tt
 have_texts law first (d ∷ ds) (h, hs) =
     let utf8 = have_utf8 d.directives h.prefixes in
@@ -148,7 +161,8 @@ not_bang t other =
       | inr h ↦ h
     ]
 
-fine_scalar : (b : Bool) → (anchor : Option (List ℕ)) (mark : Mark) (value : List ℕ) → IsMark mark → IsNoMark (readable_scalar b anchor mark value).tag
+fine_scalar : (b : Bool) → (anchor : Option (List ℕ)) (mark : Mark) (value : List ℕ) → IsMark mark
+    → IsNoMark (readable_scalar b anchor mark value).tag
 fine_scalar b anchor (untagged plain) value m = tt
 fine_scalar b anchor (tagged t) value (m, other) = not_bang t other
 
@@ -167,6 +181,7 @@ mutual
   fine_pairs no_pairs h = tt
   fine_pairs (pair k v ps) (hk, hv, hs) = (fine_node false k hk, fine_node false v hv, fine_pairs ps hs)
 
-pub are_parsable : (first : Bool) (c : List Document) → AreWritable c → AreParsable (documents_from first c)
+pub are_parsable : (first : Bool) (c : List Document) → AreWritable c
+    → AreParsable (documents_from first c)
 are_parsable first [] h = tt
 are_parsable first (d ∷ ds) (h, hs) = ((h.opening, fine_node (is_unmarked first d) d.root h.root), are_parsable false ds hs)

@@ -26,23 +26,29 @@ single_not_plain a = by a.single
     by true = refl
     by false = refl
 
-taken_single : (a : Allowed) (fits flow simple empty : Bool) → is_plain (taken a YAML_SINGLE_QUOTED_SCALAR_STYLE fits flow simple empty) ≡ false
+taken_single : (a : Allowed) (fits flow simple empty : Bool)
+    → is_plain (taken a YAML_SINGLE_QUOTED_SCALAR_STYLE fits flow simple empty) ≡ false
 unfolding taken
 taken_single a fits flow simple empty = single_not_plain a
 
 -- a scalar that is asked for in single quotes isn't plain
-asked_single : (p : Context) (x : emit.Scalar) → p.settings.canonical ≡ false → x.style ≡ YAML_SINGLE_QUOTED_SCALAR_STYLE → is_plain (style_at p false part.Item x) ≡ false
+asked_single : (p : Context) (x : emit.Scalar) → p.settings.canonical ≡ false
+    → x.style ≡ YAML_SINGLE_QUOTED_SCALAR_STYLE → is_plain (style_at p false part.Item x) ≡ false
 unfolding style_of
 asked_single p x pretty same =
     let a = allowed p.settings.unicode (chars x.value) in
     let of : Bool → yaml_scalar_style_t → Style = λ c k. if c then style.Double else taken a k (has (scalar_tag false x) || x.plain) false false (length x.value == 0) in
     ap (λ (c : Bool). is_plain (of c x.style)) pretty ∙ ap (λ (k : yaml_scalar_style_t). is_plain (of false k)) same ∙ taken_single a (has (scalar_tag false x) || x.plain) false false (length x.value == 0)
 
-nothing_left : (plain empty bare : Bool) → plain ≡ false → ((true && (plain && empty)) && bare) ≡ false
+nothing_left : (plain empty bare : Bool) → plain ≡ false
+    → ((true && (plain && empty)) && bare) ≡ false
 nothing_left plain empty bare e = rw e refl
 
 -- by whether it is the first and unmarked: a root is something
-scalar_left : (p : Context) → p.settings.canonical ≡ false → (anchor : Option (List ℕ)) (mark : Mark) (value : List ℕ) → is_left_out p false part.Item (emit.scalar_node (readable_scalar true anchor mark value)) ≡ false
+scalar_left : (p : Context) → p.settings.canonical ≡ false
+    → (anchor : Option (List ℕ)) (mark : Mark) (value : List ℕ)
+    → is_left_out p false part.Item (emit.scalar_node (readable_scalar true anchor mark value))
+    ≡ false
 scalar_left p pretty anchor (untagged false) value =
     let x = readable_scalar true anchor (untagged false) value in
     nothing_left (is_plain (style_at p false part.Item x)) (is_empty value) (is_bare anchor None) (style_not_plain p false part.Item x refl)
@@ -62,7 +68,8 @@ scalar_left p pretty None (untagged true) [] =
     nothing_left (is_plain (style_at p false part.Item x)) true true (asked_single p x pretty refl)
 scalar_left p pretty (Some name) (untagged true) [] = and-false (bodies.is_nothing false (style_at p false part.Item (readable_scalar true (Some name) (untagged true) [])) [])
 
-root_left : (p : Context) → p.settings.canonical ≡ false → (n : Node) → is_left_out p false part.Item (readable_node true n) ≡ false
+root_left : (p : Context) → p.settings.canonical ≡ false → (n : Node)
+    → is_left_out p false part.Item (readable_node true n) ≡ false
 root_left p pretty (alias name) = refl
 root_left p pretty (scalar anchor mark value) = scalar_left p pretty anchor mark value
 root_left p pretty (sequence anchor tag items) = refl
@@ -73,7 +80,8 @@ marked true d = refl
 marked false true = refl
 marked false false = refl
 
-pub starts_with_something : (s : Settings) → s.canonical ≡ false → (c : List Document) → starts_with_nothing s (readable_documents c) ≡ false
+pub starts_with_something : (s : Settings) → s.canonical ≡ false → (c : List Document)
+    → starts_with_nothing s (readable_documents c) ≡ false
 starts_with_something s pretty [] = refl
 starts_with_something s pretty (d ∷ ds) =
     let e = documents_from true (d ∷ []) in
@@ -86,7 +94,10 @@ starts_with_something s pretty (d ∷ ds) =
     first_of : Document → emit.Document
     first_of d = record { opening = record { version = d.version; directives = d.directives; implicit = is_unmarked true d }; root = readable_node (is_unmarked true d) d.root; implicit_end = true }
 
-    by_mark : (u : Bool) (m : Bool → Bool) (out : Bool → Bool) → out true ≡ false → (k v w : Bool) → k ≡ false → (not (k || not (true && ((not v && not w) && not (v || w)))) && out (not v && not w)) ≡ false
+    by_mark : (u : Bool) (m : Bool → Bool) (out : Bool → Bool) → out true ≡ false → (k v w : Bool)
+        → k ≡ false
+        → (not (k || not (true && ((not v && not w) && not (v || w)))) && out (not v && not w))
+        ≡ false
     by_mark u m out h true v w e = absurd (cc)
     by_mark u m out h false true w e = refl
     by_mark u m out h false false true e = refl

@@ -60,7 +60,8 @@ turned_regular : (s : Settings) (n : ℕ) → Regular (turned s n)
 unfolding turned
 turned_regular s n = if_regular s.canonical (line_at s n) (wrap_at s n) (at_line s n) (wrap_regular s.width s.line_break n)
 
-item_regular : (s : Settings) (flow : Bool) (n : ℕ) (fresh : Bool) → Regular (before_item s flow n fresh)
+item_regular : (s : Settings) (flow : Bool) (n : ℕ) (fresh : Bool)
+    → Regular (before_item s flow n fresh)
 unfolding before_item
 item_regular s true n fresh = both (comma fresh) (turned s n) (comma_regular fresh) (turned_regular s n)
 item_regular s false n fresh = both (line_at s n) (indicator 45) (at_line s n) (indicator_regular 45)
@@ -69,31 +70,36 @@ question_regular : (flow : Bool) → Regular (question flow)
 question_regular true = word_regular (63 ∷ [])
 question_regular false = indicator_regular 63
 
-key_regular : (s : Settings) (flow : Bool) (n : ℕ) (fresh simple : Bool) → Regular (before_key s flow n fresh simple)
+key_regular : (s : Settings) (flow : Bool) (n : ℕ) (fresh simple : Bool)
+    → Regular (before_key s flow n fresh simple)
 unfolding before_key
 key_regular s flow n fresh simple =
     both (if flow then comma fresh ▹ turned s n else line_at s n) (when (not simple) (question flow))
     (if_regular flow (comma fresh ▹ turned s n) (line_at s n) (both (comma fresh) (turned s n) (comma_regular fresh) (turned_regular s n)) (at_line s n))
     (when_regular (not simple) (question flow) (question_regular flow))
 
-value_regular : (s : Settings) (flow : Bool) (n : ℕ) (simple : Bool) → Regular (before_value s flow n simple)
+value_regular : (s : Settings) (flow : Bool) (n : ℕ) (simple : Bool)
+    → Regular (before_value s flow n simple)
 unfolding before_value
 value_regular s flow n true = char_regular 58
 value_regular s true n false = both (turned s n) (word (58 ∷ [])) (turned_regular s n) (word_regular (58 ∷ []))
 value_regular s false n false = both (line_at s n) (indicator 58) (at_line s n) (indicator_regular 58)
 
-before_regular : (s : Settings) (top : Option Level) (simple : Bool) → Regular (before_node s top simple)
+before_regular : (s : Settings) (top : Option Level) (simple : Bool)
+    → Regular (before_node s top simple)
 before_regular s None simple = stay_regular
 before_regular s (Some l) simple = at_phase s l.phase l.flow l.indent simple
   where
-    at_phase : (s : Settings) (p : Phase) (flow : Bool) (n : ℕ) (simple : Bool) → Regular (before_at s p flow n simple)
+    at_phase : (s : Settings) (p : Phase) (flow : Bool) (n : ℕ) (simple : Bool)
+        → Regular (before_at s p flow n simple)
     at_phase s (Items fresh) flow n simple = item_regular s flow n fresh
     at_phase s (Keys fresh) flow n simple = key_regular s flow n fresh simple
     at_phase s (Value was) flow n simple = value_regular s flow n was
 
 -- ---- collections
 
-closer_by : (s : Settings) (flow : Bool) (n : ℕ) (fresh : Bool) (x : ℕ) → Regular (closer s flow n fresh x)
+closer_by : (s : Settings) (flow : Bool) (n : ℕ) (fresh : Bool) (x : ℕ)
+    → Regular (closer s flow n fresh x)
 unfolding closer
 closer_by s true n fresh x =
     both (when (s.canonical && not fresh) (char 44 ▹ line_at s (n - s.indent))) (char x)
@@ -104,17 +110,20 @@ closer_regular : (s : Settings) (top : Option Level) (x : ℕ) → Regular (clos
 closer_regular s None x = stay_regular
 closer_regular s (Some l) x = closer_by s l.flow l.indent (is_fresh l.phase) x
 
-start_regular : (p : Context) (at : Spot) (x : ℕ) (q : Start) (empty : Bool) → Regular (start_text p at x q empty)
+start_regular : (p : Context) (at : Spot) (x : ℕ) (q : Start) (empty : Bool)
+    → Regular (start_text p at x q empty)
 start_regular p at x q empty =
     both (properties_text p q.anchor (start_tag p.settings.canonical q)) (when (is_flow p.settings at q empty) (opener x)) (properties_regular p q.anchor (start_tag p.settings.canonical q))
     (when_regular (is_flow p.settings at q empty) (opener x) (opener_regular x))
 
-indented_regular : (n : Cursor → ℕ) (f : ℕ → Layout) → ((m : ℕ) → Regular (f m)) → Regular (indented n f)
+indented_regular : (n : Cursor → ℕ) (f : ℕ → Layout) → ((m : ℕ) → Regular (f m))
+    → Regular (indented n f)
 indented_regular n f h c =
     let p : Written (f (n c)) c = h (n c) c in
     record { text = p.text; behind = p.behind; is = p.is }
 
-depth_regular : (p : Context) (at : Spot) (sequence : Bool) (q : Start) (empty : Bool) → Regular (depth_text p at sequence q empty)
+depth_regular : (p : Context) (at : Spot) (sequence : Bool) (q : Start) (empty : Bool)
+    → Regular (depth_text p at sequence q empty)
 depth_regular p at sequence q empty = indented_regular (indent_of p.settings at sequence (is_flow p.settings at q empty)) checked checked_regular
 
 -- ---- documents
@@ -143,7 +152,8 @@ dashes_regular s =
     both (line_at s 0) (word (45 ∷ 45 ∷ 45 ∷ []) ▹ when s.canonical (line_at s 0)) (at_line s 0)
     (both (word (45 ∷ 45 ∷ 45 ∷ [])) (when s.canonical (line_at s 0)) (word_regular (45 ∷ 45 ∷ 45 ∷ [])) (when_regular s.canonical (line_at s 0) (at_line s 0)))
 
-opening_regular : (s : Settings) (first unended : Bool) (o : Opening) → Regular (start_layout s first unended o)
+opening_regular : (s : Settings) (first unended : Bool) (o : Opening)
+    → Regular (start_layout s first unended o)
 unfolding start_layout
 opening_regular s first unended o =
     let version : Layout = version_text s o.version in
@@ -177,7 +187,8 @@ begin_regular s (at.Refused p) o = stay_regular
 
 -- ---- events
 
-text_regular : (p : Context) (place : Expected) (top : Option Level) (e : Event) (empty : Bool) → Regular (text_at p place top e empty)
+text_regular : (p : Context) (place : Expected) (top : Option Level) (e : Event) (empty : Bool)
+    → Regular (text_at p place top e empty)
 unfolding text_at
 text_regular p place top no_event empty = stay_regular
 text_regular p place top (stream_start x) empty = mark_regular p.settings.encoding
@@ -199,7 +210,8 @@ text_regular p place top (mapping_start q) empty =
 text_regular p place top sequence_end empty = closer_regular p.settings top 93
 text_regular p place top mapping_end empty = closer_regular p.settings top 125
 
-deep_regular : (p : Context) (top : Option Level) (e : Event) (empty : Bool) → Regular (depth_at p top e empty)
+deep_regular : (p : Context) (top : Option Level) (e : Event) (empty : Bool)
+    → Regular (depth_at p top e empty)
 unfolding depth_at
 deep_regular p top (sequence_start q) empty = depth_regular p (spot_of top (is_simple_event p (sequence_start q) empty)) true q empty
 deep_regular p top (mapping_start q) empty = depth_regular p (spot_of top (is_simple_event p (mapping_start q) empty)) false q empty
@@ -213,5 +225,6 @@ deep_regular p top (scalar v) empty = stay_regular
 deep_regular p top sequence_end empty = stay_regular
 deep_regular p top mapping_end empty = stay_regular
 
-pub piece_regular : (p : Context) (place : Expected) (top : Option Level) (e : Event) (empty : Bool) → Regular (piece_at p place top e empty)
+pub piece_regular : (p : Context) (place : Expected) (top : Option Level) (e : Event) (empty : Bool)
+    → Regular (piece_at p place top e empty)
 piece_regular p place top e empty = both (text_at p place top e empty) (depth_at p top e empty) (text_regular p place top e empty) (deep_regular p top e empty)

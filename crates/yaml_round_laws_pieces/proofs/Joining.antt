@@ -15,7 +15,8 @@ encode_both x [] t = refl
 encode_both x (letter c ∷ s) t = ap (λ z. char_bytes x c ++ z) (encode_both x s t) ∙ sym (append_assoc (char_bytes x c) (encode x s) (encode x t))
 encode_both x (deep ∷ s) t = encode_both x s t
 
-joined_bytes : (x : Encoding) (texts : List (List Item)) → joined (map (encode x) texts) ≡ encode x (joined texts)
+joined_bytes : (x : Encoding) (texts : List (List Item))
+    → joined (map (encode x) texts) ≡ encode x (joined texts)
 unfolding joined encode
 joined_bytes x [] = refl
 joined_bytes x (t ∷ texts) = ap (λ z. encode x t ++ z) (joined_bytes x texts) ∙ sym (encode_both x t (joined texts))
@@ -31,10 +32,12 @@ waits : (s : Settings) (a b : Stand) (es : List Event) → Leads s a es b → ad
 waits s a b es l = no_more (added s a es) (added s b []) (sym (ap (added s a) (append-nil es)) ∙ l.texts [])
 
 -- of one piece, and those behind it
-one_more : (s : Settings) (a b : Stand) (es more : List Event) (texts : List Item) → Leads s a es b → texts ≡ added s b more → added s a es ++ texts ≡ added s a (es ++ more)
+one_more : (s : Settings) (a b : Stand) (es more : List Event) (texts : List Item) → Leads s a es b
+    → texts ≡ added s b more → added s a es ++ texts ≡ added s a (es ++ more)
 one_more s a b es more texts l h = ap (λ z. added s a es ++ z) h ∙ sym (l.texts more)
 
-joined_texts : (s : Settings) (a : Stand) (pieces : List (List Event)) (texts : List (List Item)) → Cuts s a pieces texts → added s a [] ≡ [] → joined texts ≡ added s a (joined pieces)
+joined_texts : (s : Settings) (a : Stand) (pieces : List (List Event)) (texts : List (List Item))
+    → Cuts s a pieces texts → added s a [] ≡ [] → joined texts ≡ added s a (joined pieces)
 unfolding joined
 joined_texts s _ _ _ (no_piece a) h = sym h
 joined_texts s _ _ _ (piece a b es pieces texts l k) h = one_more s a b es (joined pieces) (joined texts) l (joined_texts s b pieces texts k (waits s a b es l))

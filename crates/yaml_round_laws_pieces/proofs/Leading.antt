@@ -24,7 +24,8 @@ use Rattle.yaml_round_laws_pieces.proofs.Events.{piece_regular}
 
 -- ---- what is let out
 
-first_out : (e : Event) (es : List Event) → is_ready (e ∷ es) ≡ true → let_out (e ∷ es) ≡ e ∷ let_out es
+first_out : (e : Event) (es : List Event) → is_ready (e ∷ es) ≡ true
+    → let_out (e ∷ es) ≡ e ∷ let_out es
 unfolding let_out
 first_out e es r = rw r refl
 
@@ -32,7 +33,8 @@ none_out : (e : Event) (es : List Event) → is_ready (e ∷ es) ≡ false → l
 unfolding let_out
 none_out e es r = rw r refl
 
-out_begins : (p : Event → Bool) (b : Bool) (f : Event) (es : List Event) → is_ready (f ∷ es) ≡ b → (b ≡ false → p f ≡ false) → begins_by p (let_out (f ∷ es)) ≡ p f
+out_begins : (p : Event → Bool) (b : Bool) (f : Event) (es : List Event) → is_ready (f ∷ es) ≡ b
+    → (b ≡ false → p f ≡ false) → begins_by p (let_out (f ∷ es)) ≡ p f
 out_begins p true f es r n = ap (begins_by p) (first_out f es r)
 out_begins p false f es r n = ap (begins_by p) (none_out f es r) ∙ sym (n refl)
 
@@ -44,12 +46,14 @@ end_mapping : (f : Event) (es : List Event) → is_ready (f ∷ es) ≡ false �
 end_mapping mapping_end es r = let k = none_needed mapping_end es refl in absurd (cc)
 end_mapping f es r = refl
 
-sequence_begins : (es : List Event) → begins_by is_sequence_end (let_out es) ≡ begins_by is_sequence_end es
+sequence_begins : (es : List Event)
+    → begins_by is_sequence_end (let_out es) ≡ begins_by is_sequence_end es
 unfolding let_out
 sequence_begins [] = refl
 sequence_begins (f ∷ es) = out_begins is_sequence_end (is_ready (f ∷ es)) f es refl (end_sequence f es)
 
-mapping_begins : (es : List Event) → begins_by is_mapping_end (let_out es) ≡ begins_by is_mapping_end es
+mapping_begins : (es : List Event)
+    → begins_by is_mapping_end (let_out es) ≡ begins_by is_mapping_end es
 unfolding let_out
 mapping_begins [] = refl
 mapping_begins (f ∷ es) = out_begins is_mapping_end (is_ready (f ∷ es)) f es refl (end_mapping f es)
@@ -74,7 +78,8 @@ place_open : (l : Option Level) → refused_at (place_at l) ≡ None
 place_open None = refl
 place_open (Some l) = refl
 
-open_at : (p : Context) (place : Expected) (ls : List Level) (e : Event) (empty : Bool) (d : Cursor) → refused_at place ≡ None → refused_at (next_at p place ls e empty d).place ≡ None
+open_at : (p : Context) (place : Expected) (ls : List Level) (e : Event) (empty : Bool) (d : Cursor)
+    → refused_at place ≡ None → refused_at (next_at p place ls e empty d).place ≡ None
 unfolding next_at
 open_at p place ls no_event empty d h = h
 open_at p place ls (stream_start x) empty d h = refl
@@ -88,23 +93,30 @@ open_at p place ls (mapping_start q) empty d h = refl
 open_at p place ls sequence_end empty d h = place_open (top_of (outer_of ls))
 open_at p place ls mapping_end empty d h = place_open (top_of (outer_of ls))
 
-open_next : (s : Settings) (st : State) (e : Event) (empty : Bool) (d : Cursor) → refused_at st.place ≡ None → refused_at (next s st e empty d).place ≡ None
+open_next : (s : Settings) (st : State) (e : Event) (empty : Bool) (d : Cursor)
+    → refused_at st.place ≡ None → refused_at (next s st e empty d).place ≡ None
 open_next s st e empty d h = open_at (context_of s st.directives) st.place st.levels e empty d h
 
-first_judged : (canonical : Bool) (st : State) (e : Event) (es : List Event) → refused_at st.place ≡ None → is_ready (e ∷ es) ≡ true
-    → refusal_from canonical st (e ∷ es) ≡ or_else (problem_in canonical (shape_of st) e) (first_refusal canonical (progress_after (shape_of st) e) (let_out es))
+first_judged : (canonical : Bool) (st : State) (e : Event) (es : List Event)
+    → refused_at st.place ≡ None → is_ready (e ∷ es) ≡ true
+    → refusal_from canonical st (e ∷ es)
+    ≡ or_else (problem_in canonical (shape_of st) e)
+    (first_refusal canonical (progress_after (shape_of st) e) (let_out es))
 unfolding first_refusal
 first_judged canonical st e es o r = or_none (refused_at st.place) _ o ∙ ap (first_refusal canonical (shape_of st)) (first_out e es r)
 
 -- behind a right event the others are judged from where it leads
-right_judged : (s : Settings) (st : State) (e : Event) (es : List Event) (empty : Bool) (d : Cursor) → refused_at st.place ≡ None → is_ready (e ∷ es) ≡ true → problem_at s st e ≡ None
+right_judged : (s : Settings) (st : State) (e : Event) (es : List Event) (empty : Bool) (d : Cursor)
+    → refused_at st.place ≡ None → is_ready (e ∷ es) ≡ true → problem_at s st e ≡ None
     → refusal_behind s st (e ∷ es) ≡ refusal_behind s (next s st e empty d) es
 unfolding refusal_behind
 right_judged s st e es empty d o r p =
     first_judged s.canonical st e es o r ∙ (or_none _ _ (sym (same_problem s st e) ∙ p)
     ∙ (sym (ap (λ z. first_refusal s.canonical z (let_out es)) (shape_next s st e empty d)) ∙ sym (or_none _ _ (open_next s st e empty d o))))
 
-wrong_judged : (s : Settings) (st : State) (e : Event) (es : List Event) (x : Problem) → refused_at st.place ≡ None → is_ready (e ∷ es) ≡ true → problem_at s st e ≡ Some x → refusal_behind s st (e ∷ es) ≡ Some x
+wrong_judged : (s : Settings) (st : State) (e : Event) (es : List Event) (x : Problem)
+    → refused_at st.place ≡ None → is_ready (e ∷ es) ≡ true → problem_at s st e ≡ Some x
+    → refusal_behind s st (e ∷ es) ≡ Some x
 unfolding refusal_behind
 wrong_judged s st e es x o r p = first_judged s.canonical st e es o r ∙ or_some _ _ x (sym (same_problem s st e) ∙ p)
 
@@ -112,20 +124,26 @@ wrong_judged s st e es x o r p = first_judged s.canonical st e es o r ∙ or_som
 behind : Settings → State → Event → Bool → List Event → Rest
 behind s st e empty es d = text_from s (next s st e empty d) es d nothing_more
 
-right_text : (s : Settings) (st : State) (e : Event) (es : List Event) (c : Cursor) → refused_at st.place ≡ None → is_ready (e ∷ es) ≡ true → problem_at s st e ≡ None
-    → text_from s st (e ∷ es) c nothing_more ≡ piece s st e (opens_empty e es) c (λ d. laid s (next s st e (opens_empty e es) d) (let_out es) d nothing_more)
+right_text : (s : Settings) (st : State) (e : Event) (es : List Event) (c : Cursor)
+    → refused_at st.place ≡ None → is_ready (e ∷ es) ≡ true → problem_at s st e ≡ None
+    → text_from s st (e ∷ es) c nothing_more
+    ≡ piece s st e (opens_empty e es) c
+    (λ d. laid s (next s st e (opens_empty e es) d) (let_out es) d nothing_more)
 unfolding laid
 right_text s st e es c o r p =
     unless_none (refused_at st.place) _ c nothing_more o
     ∙ (ap (λ z. laid s st z c nothing_more) (first_out e es r)
     ∙ (unless_none (problem_at s st e) _ c nothing_more p ∙ ap (λ b. piece s st e b c (λ d. laid s (next s st e b d) (let_out es) d nothing_more)) (empty_out e es)))
 
-wrong_text : (s : Settings) (st : State) (e : Event) (es : List Event) (c : Cursor) (x : Problem) → refused_at st.place ≡ None → is_ready (e ∷ es) ≡ true → problem_at s st e ≡ Some x → text_from s st (e ∷ es) c nothing_more ≡ []
+wrong_text : (s : Settings) (st : State) (e : Event) (es : List Event) (c : Cursor) (x : Problem)
+    → refused_at st.place ≡ None → is_ready (e ∷ es) ≡ true → problem_at s st e ≡ Some x
+    → text_from s st (e ∷ es) c nothing_more ≡ []
 unfolding laid
 wrong_text s st e es c x o r p =
     unless_none (refused_at st.place) _ c nothing_more o ∙ (ap (λ z. laid s st z c nothing_more) (first_out e es r) ∙ unless_some (problem_at s st e) x _ c nothing_more p)
 
-held_text : (s : Settings) (st : State) (xs : List Event) (c : Cursor) → let_out xs ≡ [] → text_from s st xs c nothing_more ≡ []
+held_text : (s : Settings) (st : State) (xs : List Event) (c : Cursor) → let_out xs ≡ []
+    → text_from s st xs c nothing_more ≡ []
 unfolding laid
 held_text s st xs c h = ap (λ z. unless (refused_at st.place) (laid s st z) c nothing_more) h ∙ nothing_by (refused_at st.place) c
   where
@@ -137,14 +155,18 @@ held_text s st xs c h = ap (λ z. unless (refused_at st.place) (laid s st z) c n
 
 pub record Led (s : Settings) (st : State) (c : Cursor) (xs : List Event) : Type 0 where
   pub to : Stand
-  pub texts : (more : List Event) → text_from s st (xs ++ more) c nothing_more ≡ text_from s st xs c nothing_more ++ added s to more
-  pub refusals : (more : List Event) → refusal_behind s st (xs ++ more) ≡ refusal_behind s to.state (to.held ++ more)
+  pub texts : (more : List Event)
+      → text_from s st (xs ++ more) c nothing_more ≡ text_from s st xs c nothing_more
+      ++ added s to more
+  pub refusals : (more : List Event)
+      → refusal_behind s st (xs ++ more) ≡ refusal_behind s to.state (to.held ++ more)
   pub few : length to.held ≤ 3
   pub front : List Event
   pub last : xs ≡ front ++ to.held
 
 -- nothing is let out by now
-waiting : (s : Settings) (st : State) (c : Cursor) (xs : List Event) → let_out xs ≡ [] → length xs ≤ 3 → Led s st c xs
+waiting : (s : Settings) (st : State) (c : Cursor) (xs : List Event) → let_out xs ≡ []
+    → length xs ≤ 3 → Led s st c xs
 waiting s st c xs h n = record {
   to = record { state = st; cursor = c; held = xs };
   texts = λ more. sym (ap (λ z. z ++ text_from s st (xs ++ more) c nothing_more) (held_text s st xs c h));
@@ -158,8 +180,10 @@ waiting s st c xs h n = record {
 abbrev refused : Problem → State → State
 refused x st = record { place = at.Refused x; levels = st.levels; directives = st.directives }
 
-lost : (s : Settings) (st : State) (c : Cursor) (xs : List Event) (x : Problem) → ((more : List Event) → text_from s st (xs ++ more) c nothing_more ≡ [])
-    → text_from s st xs c nothing_more ≡ [] → ((more : List Event) → refusal_behind s st (xs ++ more) ≡ Some x) → Led s st c xs
+lost : (s : Settings) (st : State) (c : Cursor) (xs : List Event) (x : Problem)
+    → ((more : List Event) → text_from s st (xs ++ more) c nothing_more ≡ [])
+    → text_from s st xs c nothing_more ≡ []
+    → ((more : List Event) → refusal_behind s st (xs ++ more) ≡ Some x) → Led s st c xs
 unfolding refusal_behind
 lost s st c xs x all now told = record {
   to = record { state = refused x st; cursor = c; held = [] };
@@ -170,13 +194,15 @@ lost s st c xs x all now told = record {
   last = sym (append-nil xs);
 }
 
-stuck : (s : Settings) (st : State) (c : Cursor) (xs : List Event) (x : Problem) → refused_at st.place ≡ Some x → Led s st c xs
+stuck : (s : Settings) (st : State) (c : Cursor) (xs : List Event) (x : Problem)
+    → refused_at st.place ≡ Some x → Led s st c xs
 unfolding refusal_behind
 stuck s st c xs x o =
     lost s st c xs x (λ more. unless_some (refused_at st.place) x _ c nothing_more o) (unless_some (refused_at st.place) x _ c nothing_more o) (λ more. or_some (refused_at st.place) _ x o)
 
 -- the first event is right, and written
-goes : (s : Settings) (st : State) (c : Cursor) (e : Event) (es : List Event) → refused_at st.place ≡ None → is_ready (e ∷ es) ≡ true → problem_at s st e ≡ None
+goes : (s : Settings) (st : State) (c : Cursor) (e : Event) (es : List Event)
+    → refused_at st.place ≡ None → is_ready (e ∷ es) ≡ true → problem_at s st e ≡ None
     → ((st' : State) (d : Cursor) → Led s st' d es) → Led s st c (e ∷ es)
 goes s st c e es o r p rest =
     let b : Bool = opens_empty e es in
@@ -203,18 +229,22 @@ goes s st c e es o r p rest =
       last = ap (λ z. e ∷ z) l.last;
     }
 
-by_problem : (s : Settings) (st : State) (c : Cursor) (e : Event) (es : List Event) (q : Option Problem) → refused_at st.place ≡ None → is_ready (e ∷ es) ≡ true → problem_at s st e ≡ q
+by_problem : (s : Settings) (st : State) (c : Cursor) (e : Event) (es : List Event)
+    (q : Option Problem) → refused_at st.place ≡ None → is_ready (e ∷ es) ≡ true
+    → problem_at s st e ≡ q
     → ((st' : State) (d : Cursor) → Led s st' d es) → Led s st c (e ∷ es)
 by_problem s st c e es None o r p rest = goes s st c e es o r p rest
 by_problem s st c e es (Some x) o r p rest =
     lost s st c (e ∷ es) x (λ more. wrong_text s st e (es ++ more) c x o (ready_more e es more r) p) (wrong_text s st e es c x o r p) (λ more. wrong_judged s st e (es ++ more) x o (ready_more e es more r) p)
 
-by_ready : (s : Settings) (st : State) (c : Cursor) (e : Event) (es : List Event) (b : Bool) → refused_at st.place ≡ None → is_ready (e ∷ es) ≡ b
+by_ready : (s : Settings) (st : State) (c : Cursor) (e : Event) (es : List Event) (b : Bool)
+    → refused_at st.place ≡ None → is_ready (e ∷ es) ≡ b
     → ((st' : State) (d : Cursor) → Led s st' d es) → Led s st c (e ∷ es)
 by_ready s st c e es true o r rest = by_problem s st c e es (problem_at s st e) o r refl rest
 by_ready s st c e es false o r rest = waiting s st c (e ∷ es) (none_out e es r) (few_short (e ∷ es) r)
 
-by_place : (s : Settings) (st : State) (c : Cursor) (e : Event) (es : List Event) (q : Option Problem) → refused_at st.place ≡ q
+by_place : (s : Settings) (st : State) (c : Cursor) (e : Event) (es : List Event)
+    (q : Option Problem) → refused_at st.place ≡ q
     → ((st' : State) (d : Cursor) → Led s st' d es) → Led s st c (e ∷ es)
 by_place s st c e es None o rest = by_ready s st c e es (is_ready (e ∷ es)) o refl rest
 by_place s st c e es (Some x) o rest = stuck s st c (e ∷ es) x o

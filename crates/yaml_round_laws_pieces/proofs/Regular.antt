@@ -47,7 +47,8 @@ pub if_regular : (b : Bool) (a d : Layout) → Regular a → Regular d → Regul
 if_regular true a d x y = x
 if_regular false a d x y = y
 
-pub choose_regular : (test : Cursor → Bool) (a b : Layout) → Regular a → Regular b → Regular (choose test a b)
+pub choose_regular : (test : Cursor → Bool) (a b : Layout) → Regular a → Regular b
+    → Regular (choose test a b)
 choose_regular test a b x y c =
     elim (cases_Bool (test c)) [
       | inl e ↦ record { text = (x c).text; behind = (x c).behind; is = λ rest. rw e ((x c).is rest) }
@@ -137,13 +138,15 @@ fold_regular page rest =
 escaped_regular : (unicode : Bool) (x : ℕ) → Regular (escaped unicode x)
 escaped_regular unicode x = if_regular (needs_escape unicode x) (letters (escape_text x)) (char x) (letters_regular (escape_text x)) (char_regular x)
 
-quoted_char_regular : (page : Page) (before x : ℕ) (rest : List ℕ) → Regular (quoted_char page before x rest)
+quoted_char_regular : (page : Page) (before x : ℕ) (rest : List ℕ)
+    → Regular (quoted_char page before x rest)
 unfolding quoted_char
 quoted_char_regular page before x rest =
     if_regular (may_fold page before x rest) (choose (is_past page.width) (fold page rest) (char x)) (escaped page.unicode x)
     (choose_regular (is_past page.width) (fold page rest) (char x) (fold_regular page rest) (char_regular x)) (escaped_regular page.unicode x)
 
-quoted_body_regular : (page : Page) (before : ℕ) (xs : List ℕ) → Regular (quoted_body page before xs)
+quoted_body_regular : (page : Page) (before : ℕ) (xs : List ℕ)
+    → Regular (quoted_body page before xs)
 unfolding quoted_body
 quoted_body_regular page before [] = stay_regular
 quoted_body_regular page before (x ∷ xs) = both (quoted_char page before x xs) (quoted_body page x xs) (quoted_char_regular page before x xs) (quoted_body_regular page x xs)
@@ -164,16 +167,20 @@ cut_regular page x = choose_regular (is_past page.width) (line page.line_break p
 quote_char_regular : (quote : Bool) (x : ℕ) → Regular (quote_char quote x)
 quote_char_regular quote x = both (when (quote && x == 39) (char 39)) (char x) (when_regular (quote && x == 39) (char 39) (char_regular 39)) (char_regular x)
 
-text_char_regular : (page : Page) (quote cuts : Bool) (x : ℕ) → Regular (text_char page quote cuts x)
+text_char_regular : (page : Page) (quote cuts : Bool) (x : ℕ)
+    → Regular (text_char page quote cuts x)
 text_char_regular page quote cuts x = if_regular cuts (cut page x) (quote_char quote x) (cut_regular page x) (quote_char_regular quote x)
 
-behind_break_regular : (page : Page) (b : Bool) → Regular (when b (line page.line_break page.indentation))
+behind_break_regular : (page : Page) (b : Bool)
+    → Regular (when b (line page.line_break page.indentation))
 behind_break_regular page b = when_regular b (line page.line_break page.indentation) (line_regular page.line_break page.indentation)
 
-break_first_regular : (page : Page) (b : Bool) (x : ℕ) → Regular (when b (new_line page.line_break) ▹ value_break page.line_break x)
+break_first_regular : (page : Page) (b : Bool) (x : ℕ)
+    → Regular (when b (new_line page.line_break) ▹ value_break page.line_break x)
 break_first_regular page b x = both (when b (new_line page.line_break)) (value_break page.line_break x) (when_regular b (new_line page.line_break) (new_line_regular page.line_break)) (value_break_regular page.line_break x)
 
-flow_char_regular : (page : Page) (quote : Bool) (before x : ℕ) (rest : List ℕ) → Regular (flow_char page quote before x rest)
+flow_char_regular : (page : Page) (quote : Bool) (before x : ℕ) (rest : List ℕ)
+    → Regular (flow_char page quote before x rest)
 unfolding flow_char
 flow_char_regular page quote before x rest =
     if_regular (is_break x) (when (x == 10 && not (is_break before)) (new_line page.line_break) ▹ value_break page.line_break x)
@@ -181,7 +188,8 @@ flow_char_regular page quote before x rest =
     (break_first_regular page (x == 10 && not (is_break before)) x)
     (both (when (is_break before) (line page.line_break page.indentation)) (text_char page quote (cuts_at page before x rest) x) (behind_break_regular page (is_break before)) (text_char_regular page quote (cuts_at page before x rest) x))
 
-flow_body_regular : (page : Page) (quote : Bool) (before : ℕ) (xs : List ℕ) → Regular (flow_body page quote before xs)
+flow_body_regular : (page : Page) (quote : Bool) (before : ℕ) (xs : List ℕ)
+    → Regular (flow_body page quote before xs)
 unfolding flow_body
 flow_body_regular page quote before [] = behind_break_regular page (is_break before)
 flow_body_regular page quote before (x ∷ xs) = both (flow_char page quote before x xs) (flow_body page quote x xs) (flow_char_regular page quote before x xs) (flow_body_regular page quote x xs)
@@ -201,7 +209,8 @@ single_regular page value =
 block_text_regular : (page : Page) (cuts : Bool) (x : ℕ) → Regular (block_text page cuts x)
 block_text_regular page cuts x = if_regular cuts (cut page x) (char x) (cut_regular page x) (char_regular x)
 
-block_char_regular : (page : Page) (folded starts : Bool) (before x : ℕ) (rest : List ℕ) → Regular (block_char page folded starts before x rest)
+block_char_regular : (page : Page) (folded starts : Bool) (before x : ℕ) (rest : List ℕ)
+    → Regular (block_char page folded starts before x rest)
 unfolding block_char
 block_char_regular page folded starts before x rest =
     if_regular (is_break x) (when (adds_break folded starts before x rest) (new_line page.line_break) ▹ value_break page.line_break x)
@@ -209,7 +218,8 @@ block_char_regular page folded starts before x rest =
     (break_first_regular page (adds_break folded starts before x rest) x)
     (both (when (is_break before) (line page.line_break page.indentation)) (block_text page (cuts_block folded starts before x rest) x) (behind_break_regular page (is_break before)) (block_text_regular page (cuts_block folded starts before x rest) x))
 
-block_body_regular : (page : Page) (folded starts : Bool) (before : ℕ) (xs : List ℕ) → Regular (block_body page folded starts before xs)
+block_body_regular : (page : Page) (folded starts : Bool) (before : ℕ) (xs : List ℕ)
+    → Regular (block_body page folded starts before xs)
 unfolding block_body
 block_body_regular page folded starts before [] = stay_regular
 block_body_regular page folded starts before (x ∷ xs) = both (block_char page folded starts before x xs) (block_body page folded (line_blank starts before x) x xs) (block_char_regular page folded starts before x xs) (block_body_regular page folded (line_blank starts before x) x xs)
@@ -222,19 +232,22 @@ chomp_regular chomping.Keep = both (char 43) (keep true) (char_regular 43) (keep
 digit_regular : (digit : ℕ) (value : List ℕ) → Regular (digit_mark digit value)
 digit_regular digit value = when_regular (first value == 32 || is_break (first value)) (char (digit_char digit)) (char_regular (digit_char digit))
 
-header_regular : (digit : ℕ) (folded : Bool) (value : List ℕ) → Regular (block_header digit folded value)
+header_regular : (digit : ℕ) (folded : Bool) (value : List ℕ)
+    → Regular (block_header digit folded value)
 header_regular digit folded value =
     both gap (char (if folded then 62 else 124) ▹ (digit_mark digit value ▹ chomp_mark (chomp true true value))) gap_regular
     (both (char (if folded then 62 else 124)) (digit_mark digit value ▹ chomp_mark (chomp true true value)) (char_regular (if folded then 62 else 124))
     (both (digit_mark digit value) (chomp_mark (chomp true true value)) (digit_regular digit value) (chomp_regular (chomp true true value))))
 
-block_regular : (page : Page) (digit : ℕ) (folded : Bool) (value : List ℕ) → Regular (block page digit folded value)
+block_regular : (page : Page) (digit : ℕ) (folded : Bool) (value : List ℕ)
+    → Regular (block page digit folded value)
 block_regular page digit folded value =
     both (block_header digit folded value) (new_line page.line_break ▹ (block_body page folded true 10 value ▹ after_block)) (header_regular digit folded value)
     (both (new_line page.line_break) (block_body page folded true 10 value ▹ after_block) (new_line_regular page.line_break)
     (both (block_body page folded true 10 value) after_block (block_body_regular page folded true 10 value) after_block_regular))
 
-pub scalar_text_regular : (page : Page) (digit : ℕ) (flow : Bool) (x : Style) (value : List ℕ) → Regular (scalar_text page digit flow x value)
+pub scalar_text_regular : (page : Page) (digit : ℕ) (flow : Bool) (x : Style) (value : List ℕ)
+    → Regular (scalar_text page digit flow x value)
 unfolding scalar_text
 scalar_text_regular page digit flow style.Plain value = plain_regular page flow value
 scalar_text_regular page digit flow style.Single value = single_regular page value

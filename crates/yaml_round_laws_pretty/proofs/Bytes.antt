@@ -46,14 +46,17 @@ four_low c h = omega (arith, h)
 four_high : (c : ℕ) → 0xEF < 0xF0 + c / 0x4_0000
 four_high c = omega arith
 
-is_mark : (c : ℕ) → 0xEF ≡ 0xE0 + c / 0x1000 → 0xBB ≡ 0x80 + c / 0x40 % 0x40 → 0xBF ≡ 0x80 + c % 0x40 → c ≡ 0xFEFF
+is_mark : (c : ℕ) → 0xEF ≡ 0xE0 + c / 0x1000 → 0xBB ≡ 0x80 + c / 0x40 % 0x40
+    → 0xBF ≡ 0x80 + c % 0x40 → c ≡ 0xFEFF
 is_mark c x y z = omega (arith, x, y, z)
 
 bound : (c : ℕ) → Fits c → c < 0x11_0000
 unfolding is_allowed
 bound c f = grind (arith, nat_tests)
 
-not_all : (c : ℕ) → NoMark c → (nat_eq 0xEF (0xE0 + c / 0x1000) && (nat_eq 0xBB (0x80 + c / 0x40 % 0x40) && nat_eq 0xBF (0x80 + c % 0x40))) ≡ false
+not_all : (c : ℕ) → NoMark c
+    → (nat_eq 0xEF (0xE0 + c / 0x1000)
+    && (nat_eq 0xBB (0x80 + c / 0x40 % 0x40) && nat_eq 0xBF (0x80 + c % 0x40))) ≡ false
 not_all c h =
     let x = nat_eq 0xEF (0xE0 + c / 0x1000) in
     let y = nat_eq 0xBB (0x80 + c / 0x40 % 0x40) in
@@ -63,8 +66,12 @@ not_all c h =
       | inl e ↦ absurd (h (is_mark c (eqb-true _ _ (and_parts x (y && z) e).0) (eqb-true _ _ (and_parts y z (and_parts x (y && z) e).1).0) (eqb-true _ _ (and_parts y z (and_parts x (y && z) e).1).1)))
     ]
 
-told_by : (c : ℕ) (bs : List ℕ) → c < 0x11_0000 → NoMark c → (p q r : Bool) → nat_lt c 0x80 ≡ p → nat_lt c 0x800 ≡ q → nat_lt c 0x1_0000 ≡ r
-    → Told ((if p then c ∷ [] else if q then (0xC0 + c / 0x40) ∷ (0x80 + c % 0x40) ∷ [] else if r then (0xE0 + c / 0x1000) ∷ (0x80 + c / 0x40 % 0x40) ∷ (0x80 + c % 0x40) ∷ [] else (0xF0 + c / 0x4_0000) ∷ (0x80 + c / 0x1000 % 0x40) ∷ (0x80 + c / 0x40 % 0x40) ∷ (0x80 + c % 0x40) ∷ []) ++ bs)
+told_by : (c : ℕ) (bs : List ℕ) → c < 0x11_0000 → NoMark c → (p q r : Bool) → nat_lt c 0x80 ≡ p
+    → nat_lt c 0x800 ≡ q → nat_lt c 0x1_0000 ≡ r
+    → Told ((if p then c ∷ [] else if q then (0xC0 + c / 0x40) ∷ (0x80 + c % 0x40)
+    ∷ [] else if r then (0xE0 + c / 0x1000) ∷ (0x80 + c / 0x40 % 0x40) ∷ (0x80 + c % 0x40)
+    ∷ [] else (0xF0 + c / 0x4_0000) ∷ (0x80 + c / 0x1000 % 0x40) ∷ (0x80 + c / 0x40 % 0x40)
+    ∷ (0x80 + c % 0x40) ∷ []) ++ bs)
 told_by c bs least h true q r x y z = test_one c (ltb-true c 0x80 x) bs
 told_by c bs least h false true r x y z =
     let b = two_low c (ltb-true c 0x800 y) in
@@ -89,7 +96,9 @@ told_items (deep ∷ t) a h = told_items t a h
 
 -- ---- joined
 
-decoded : (bytes : List ℕ) (t : List Item) (e : yaml_encoding_t) → Allowed t → encoding_of YAML_ANY_ENCODING bytes ≡ e → drop (mark_length YAML_ANY_ENCODING bytes) bytes ≡ spellings e (shown t)
+decoded : (bytes : List ℕ) (t : List Item) (e : yaml_encoding_t) → Allowed t
+    → encoding_of YAML_ANY_ENCODING bytes ≡ e
+    → drop (mark_length YAML_ANY_ENCODING bytes) bytes ≡ spellings e (shown t)
     → Decodes bytes (encode Utf8 t) e
 decoded bytes t e allowed told spelled =
     let same : drop (mark_length YAML_ANY_ENCODING bytes) bytes ≡ spellings (encoding_of YAML_ANY_ENCODING bytes) (shown t) =
@@ -97,7 +106,8 @@ decoded bytes t e allowed told spelled =
     let spells : Spells YAML_ANY_ENCODING bytes (encode Utf8 t) = record { characters = shown t; allowed = all_pass (shown t) allowed; spelled = same; is = bytes_8 t } in
     (spells_decoded YAML_ANY_ENCODING bytes (encode Utf8 t) spells, told)
 
-decodes : (x : Encoding) (rest : Rest) → Allowed (rest start) → Begins (rest start) → Decodes (encode x (order_mark x start rest)) (encode Utf8 (rest start)) (encoding_named x)
+decodes : (x : Encoding) (rest : Rest) → Allowed (rest start) → Begins (rest start)
+    → Decodes (encode x (order_mark x start rest)) (encode Utf8 (rest start)) (encoding_named x)
 decodes Utf8 rest allowed unmarked =
     let t = rest start in
     let (told, none) = told_items t allowed unmarked in

@@ -51,8 +51,10 @@ says emit.mapping_end = event.mapping_end
 abbrev pub content : EventBody → EventBody
 content b = content_of (normalize_body true b)
 
-scalar_says : (lone : Bool) (anchor tag : Option (List ℕ)) (value : List ℕ) (plain quoted : Bool) (style : yaml_scalar_style_t)
-    → content_of (normalize_scalar lone anchor tag value plain quoted style) ≡ says (emit.emitter_event (normalize_scalar lone anchor tag value plain quoted style))
+scalar_says : (lone : Bool) (anchor tag : Option (List ℕ)) (value : List ℕ) (plain quoted : Bool)
+    (style : yaml_scalar_style_t)
+    → content_of (normalize_scalar lone anchor tag value plain quoted style)
+    ≡ says (emit.emitter_event (normalize_scalar lone anchor tag value plain quoted style))
 scalar_says true anchor tag value plain quoted style = refl
 scalar_says false anchor tag value plain quoted style = refl
 
@@ -113,14 +115,17 @@ single_not_plain : (b : Bool) → is_plain (if b then style.Single else style.Do
 single_not_plain true = refl
 single_not_plain false = refl
 
-or_not_plain : (a : Allowed) (flow simple empty : Bool) → is_plain (plain_or a false flow simple empty) ≡ false
+or_not_plain : (a : Allowed) (flow simple empty : Bool)
+    → is_plain (plain_or a false flow simple empty) ≡ false
 or_not_plain a flow simple empty = ap (λ (b : Bool). is_plain (if b then style.Plain else single_or a)) (no_fit a flow simple empty) ∙ single_not_plain a.single
 
-block_not_plain : (b : Bool) (s : Style) → is_plain s ≡ false → is_plain (if b then s else style.Double) ≡ false
+block_not_plain : (b : Bool) (s : Style) → is_plain s ≡ false
+    → is_plain (if b then s else style.Double) ≡ false
 block_not_plain true s e = e
 block_not_plain false s e = refl
 
-taken_not_plain : (a : Allowed) (k : yaml_scalar_style_t) (flow simple empty : Bool) → is_plain (taken a k false flow simple empty) ≡ false
+taken_not_plain : (a : Allowed) (k : yaml_scalar_style_t) (flow simple empty : Bool)
+    → is_plain (taken a k false flow simple empty) ≡ false
 unfolding taken
 taken_not_plain a asked.YAML_ANY_SCALAR_STYLE flow simple empty = or_not_plain a flow simple empty
 taken_not_plain a asked.YAML_PLAIN_SCALAR_STYLE flow simple empty = or_not_plain a flow simple empty
@@ -129,12 +134,15 @@ taken_not_plain a asked.YAML_DOUBLE_QUOTED_SCALAR_STYLE flow simple empty = refl
 taken_not_plain a asked.YAML_LITERAL_SCALAR_STYLE flow simple empty = block_not_plain (a.block && not (flow || simple)) style.Literal refl
 taken_not_plain a asked.YAML_FOLDED_SCALAR_STYLE flow simple empty = block_not_plain (a.block && not (flow || simple)) style.Folded refl
 
-style_by : (canonical untagged : Bool) (a : Allowed) (k : yaml_scalar_style_t) (flow simple empty : Bool) → untagged ≡ false → is_plain (if canonical then style.Double else taken a k untagged flow simple empty) ≡ false
+style_by : (canonical untagged : Bool) (a : Allowed) (k : yaml_scalar_style_t)
+    (flow simple empty : Bool) → untagged ≡ false
+    → is_plain (if canonical then style.Double else taken a k untagged flow simple empty) ≡ false
 style_by true untagged a k flow simple empty e = refl
 style_by false untagged a k flow simple empty e = ap (λ (b : Bool). is_plain (taken a k b flow simple empty)) e ∙ taken_not_plain a k flow simple empty
 
 -- a scalar whose tag isn't written and that isn't plain-implicit isn't plain
-pub style_not_plain : (p : Context) (flow : Bool) (q : Part) (x : emit.Scalar) → (has (scalar_tag false x) || x.plain) ≡ false → is_plain (style_at p flow q x) ≡ false
+pub style_not_plain : (p : Context) (flow : Bool) (q : Part) (x : emit.Scalar)
+    → (has (scalar_tag false x) || x.plain) ≡ false → is_plain (style_at p flow q x) ≡ false
 unfolding style_of
 style_not_plain p flow q x e = style_by p.settings.canonical (has (scalar_tag false x) || x.plain) (allowed p.settings.unicode (chars x.value)) x.style flow (is_simple_part q) (length x.value == 0) e
 
@@ -145,7 +153,8 @@ kept_none true = refl
 kept_none false = refl
 
 -- it counts as plain exactly where it did
-counts : (plain quoted : Bool) (s : Style) → quoted ≡ not plain → (plain ≡ false → is_plain s ≡ false) → (takes_mark quoted s || is_plain s) ≡ plain
+counts : (plain quoted : Bool) (s : Style) → quoted ≡ not plain
+    → (plain ≡ false → is_plain s ≡ false) → (takes_mark quoted s || is_plain s) ≡ plain
 counts true quoted s e h = ap (λ (q : Bool). takes_mark q s || is_plain s) e ∙ either (is_plain s)
   where
     either : (b : Bool) → (not b || b) ≡ true
@@ -153,15 +162,25 @@ counts true quoted s e h = ap (λ (q : Bool). takes_mark q s || is_plain s) e �
     either false = refl
 counts false quoted s e h = ap (λ (q : Bool). takes_mark q s || is_plain s) e ∙ h refl
 
-untagged_same : (anchor : Option (List ℕ)) (value : List ℕ) (marked plain : Bool) (s : Style) → (marked || is_plain s) ≡ plain → content (scalar_reads anchor None value marked s) ≡ event.scalar anchor None value plain false YAML_ANY_SCALAR_STYLE
+untagged_same : (anchor : Option (List ℕ)) (value : List ℕ) (marked plain : Bool) (s : Style)
+    → (marked || is_plain s) ≡ plain
+    → content (scalar_reads anchor None value marked s)
+    ≡ event.scalar anchor None value plain false YAML_ANY_SCALAR_STYLE
 untagged_same anchor value marked plain s e = ap (λ (b : Bool). event.scalar anchor None value b false YAML_ANY_SCALAR_STYLE) e
 
-tagged_same : (anchor : Option (List ℕ)) (t value : List ℕ) (marked : Bool) (s : Style) → IsNoMark (Some t) → content (scalar_reads anchor (Some t) value marked s) ≡ event.scalar anchor (Some t) value false false YAML_ANY_SCALAR_STYLE
+tagged_same : (anchor : Option (List ℕ)) (t value : List ℕ) (marked : Bool) (s : Style)
+    → IsNoMark (Some t)
+    → content (scalar_reads anchor (Some t) value marked s)
+    ≡ event.scalar anchor (Some t) value false false YAML_ANY_SCALAR_STYLE
 tagged_same anchor t value marked s h = ap (λ (b : Bool). content_of (normalize_scalar b anchor (Some t) value false false (style_named s))) (no_mark t value h)
 
 -- by the tag, and the one that is written
-scalar_by : (anchor tag written : Option (List ℕ)) (value : List ℕ) (plain quoted : Bool) (s : Style) → HasScalarFlags tag plain quoted → IsNoMark tag → written ≡ kept_tag false (plain || quoted) tag → ((has written || plain) ≡ false → is_plain s ≡ false)
-    → content (scalar_reads anchor written value (takes_mark quoted s) s) ≡ event.scalar anchor tag value (counts_as_plain tag plain) false YAML_ANY_SCALAR_STYLE
+scalar_by : (anchor tag written : Option (List ℕ)) (value : List ℕ) (plain quoted : Bool)
+    (s : Style) → HasScalarFlags tag plain quoted → IsNoMark tag
+    → written ≡ kept_tag false (plain || quoted) tag
+    → ((has written || plain) ≡ false → is_plain s ≡ false)
+    → content (scalar_reads anchor written value (takes_mark quoted s) s)
+    ≡ event.scalar anchor tag value (counts_as_plain tag plain) false YAML_ANY_SCALAR_STYLE
 scalar_by anchor None written value plain quoted s flags fine w h =
     let none : written ≡ None = w ∙ kept_none (not (plain || quoted)) in
     let free : plain ≡ false → is_plain s ≡ false = λ e. h (ap (λ (o : Option (List ℕ)). has o || plain) none ∙ e) in
@@ -170,11 +189,14 @@ scalar_by anchor (Some t) written value plain quoted s (p, q) fine w h =
     let some : written ≡ Some t = w ∙ ap (λ (b : Bool). kept_tag false (b || quoted) (Some t)) p ∙ ap (λ (b : Bool). kept_tag false b (Some t)) q in
     ap (λ (o : Option (List ℕ)). content (scalar_reads anchor o value (takes_mark quoted s) s)) some ∙ tagged_same anchor t value (takes_mark quoted s) s fine
 
-scalar_same : (p : Context) (flow : Bool) (q : Part) (x : emit.Scalar) → HasScalarFlags x.tag x.plain x.quoted → IsNoMark x.tag
-    → content (scalar_reads x.anchor (scalar_tag false x) x.value (takes_mark x.quoted (style_at p flow q x)) (style_at p flow q x)) ≡ says (emit.scalar x)
+scalar_same : (p : Context) (flow : Bool) (q : Part) (x : emit.Scalar)
+    → HasScalarFlags x.tag x.plain x.quoted → IsNoMark x.tag
+    → content (scalar_reads x.anchor (scalar_tag false x) x.value
+    (takes_mark x.quoted (style_at p flow q x)) (style_at p flow q x)) ≡ says (emit.scalar x)
 scalar_same p flow q x flags fine = scalar_by x.anchor x.tag (scalar_tag false x) x.value x.plain x.quoted (style_at p flow q x) flags fine refl (style_not_plain p flow q x)
 
-pub start_by : (tag : Option (List ℕ)) (implicit : Bool) → HasStartFlags tag implicit → kept_tag false implicit tag ≡ tag
+pub start_by : (tag : Option (List ℕ)) (implicit : Bool) → HasStartFlags tag implicit
+    → kept_tag false implicit tag ≡ tag
 start_by None implicit h = kept_none (not implicit)
 start_by (Some t) implicit h = ap (λ (b : Bool). kept_tag false b (Some t)) h
 
@@ -183,7 +205,10 @@ start_by (Some t) implicit h = ap (λ (b : Bool). kept_tag false b (Some t)) h
 mutual
   unfolding node_reads items_reads pairs_reads emit.node_events emit.items_events emit.pairs_events
 
-  node_same : (p : Context) (n : emit.Node) → HasFlags n → HasNoMark n → (flow : Bool) (q : Part) (es : List EventBody) (fs : List emit.Event) → map content es ≡ map says fs → map content (node_reads p flow q n es) ≡ map says (emit.node_events n fs)
+  node_same : (p : Context) (n : emit.Node) → HasFlags n → HasNoMark n
+      → (flow : Bool) (q : Part) (es : List EventBody) (fs : List emit.Event)
+      → map content es ≡ map says fs
+      → map content (node_reads p flow q n es) ≡ map says (emit.node_events n fs)
   node_same p (emit.alias_node name) flags fine flow q es fs e = ap (λ (bs : List EventBody). event.alias name ∷ bs) e
   node_same p (emit.scalar_node x) flags fine flow q es fs e = ap (λ (b : EventBody). b ∷ map content es) (scalar_same p flow q x flags fine) ∙ ap (λ (bs : List EventBody). says (emit.scalar x) ∷ bs) e
   node_same p (emit.sequence_node o items) (start, flags) fine flow q es fs e =
@@ -195,11 +220,15 @@ mutual
       ap (λ (bs : List EventBody). event.mapping_start o.anchor (start_tag false o) true YAML_ANY_MAPPING_STYLE ∷ bs) inner
       ∙ ap (λ (t : Option (List ℕ)). event.mapping_start o.anchor t true YAML_ANY_MAPPING_STYLE ∷ map says (emit.pairs_events pairs (emit.mapping_end ∷ fs))) (start_by o.tag o.implicit start)
 
-  items_same : (p : Context) (ns : emit.Nodes) → HaveFlags ns → HaveNoMark ns → (flow : Bool) (es : List EventBody) (fs : List emit.Event) → map content es ≡ map says fs → map content (items_reads p flow ns es) ≡ map says (emit.items_events ns fs)
+  items_same : (p : Context) (ns : emit.Nodes) → HaveFlags ns → HaveNoMark ns
+      → (flow : Bool) (es : List EventBody) (fs : List emit.Event) → map content es ≡ map says fs
+      → map content (items_reads p flow ns es) ≡ map says (emit.items_events ns fs)
   items_same p emit.no_nodes flags fine flow es fs e = e
   items_same p (emit.node x xs) (f, flags) (g, fine) flow es fs e = node_same p x f g flow part.Item (items_reads p flow xs es) (emit.items_events xs fs) (items_same p xs flags fine flow es fs e)
 
-  pairs_same : (p : Context) (ps : emit.Pairs) → PairsHaveFlags ps → PairsHaveNoMark ps → (flow : Bool) (es : List EventBody) (fs : List emit.Event) → map content es ≡ map says fs → map content (pairs_reads p flow ps es) ≡ map says (emit.pairs_events ps fs)
+  pairs_same : (p : Context) (ps : emit.Pairs) → PairsHaveFlags ps → PairsHaveNoMark ps
+      → (flow : Bool) (es : List EventBody) (fs : List emit.Event) → map content es ≡ map says fs
+      → map content (pairs_reads p flow ps es) ≡ map says (emit.pairs_events ps fs)
   pairs_same p emit.no_pairs flags fine flow es fs e = e
   pairs_same p (emit.pair k v ps) (fk, fv, flags) (gk, gv, fine) flow es fs e =
       node_same p k fk gk flow (key_part (is_simple p k)) (node_reads p flow part.Value v (pairs_reads p flow ps es)) (emit.node_events v (emit.pairs_events ps fs))
@@ -207,7 +236,9 @@ mutual
 
 -- ---- documents
 
-pub documents_same : (s : Settings) (fresh : Bool) (ds : List emit.Document) → HaveReaderFlags ds → AreParsable ds → map content (documents_reads s fresh ds) ≡ map says (emit.documents_events ds)
+pub documents_same : (s : Settings) (fresh : Bool) (ds : List emit.Document) → HaveReaderFlags ds
+    → AreParsable ds
+    → map content (documents_reads s fresh ds) ≡ map says (emit.documents_events ds)
 unfolding documents_reads emit.documents_events
 documents_same s fresh [] flags fine = refl
 documents_same s fresh (d ∷ ds) (f, flags) ((opening, g), fine) =
@@ -215,5 +246,8 @@ documents_same s fresh (d ∷ ds) (f, flags) ((opening, g), fine) =
     (node_same _ d.root f g false part.Item (event.document_end _ ∷ documents_reads s false ds) (emit.document_end d.implicit_end ∷ emit.documents_events ds)
     (ap (λ (bs : List EventBody). event.document_end true ∷ bs) (documents_same s false ds flags fine)))
 
-pub stream_same : (s : Settings) (x y : yaml_encoding_t) (ds : List emit.Document) → HaveReaderFlags ds → AreParsable ds → map content (event.stream_start y ∷ documents_reads s true ds) ≡ map says (emit.stream_events x ds)
+pub stream_same : (s : Settings) (x y : yaml_encoding_t) (ds : List emit.Document)
+    → HaveReaderFlags ds → AreParsable ds
+    → map content (event.stream_start y ∷ documents_reads s true ds)
+    ≡ map says (emit.stream_events x ds)
 stream_same s x y ds flags fine = ap (λ (bs : List EventBody). event.stream_start YAML_ANY_ENCODING ∷ bs) (documents_same s true ds flags fine)

@@ -48,12 +48,14 @@ none_false : (b : Bool) (p : Problem) → (if b then None else Some p) ≡ None 
 none_false true p e = refl
 none_false false p e = absurd (cc)
 
-none_has : (h : List ℕ) (before : List TagDirective) → list_any (has_handle h) before ≡ false → directive_for h before ≡ None
+none_has : (h : List ℕ) (before : List TagDirective) → list_any (has_handle h) before ≡ false
+    → directive_for h before ≡ None
 unfolding directive_for
 none_has h [] e = refl
 none_has h (d ∷ ds) e = rw (or_parts (bytes_eq d.handle h) (list_any (has_handle h) ds) e).0 (none_has h ds (or_parts (bytes_eq d.handle h) (list_any (has_handle h) ds) e).1)
 
-tags_fine : (before ds : List TagDirective) → directives_problem before ds ≡ None → AreFineTags before ds
+tags_fine : (before ds : List TagDirective) → directives_problem before ds ≡ None
+    → AreFineTags before ds
 unfolding directives_problem
 tags_fine before [] e = tt
 tags_fine before (d ∷ ds) e =
@@ -75,7 +77,8 @@ fine_tags o e = tags_fine [] o.directives (or_second (version_problem o.version)
 
 -- ---- their tokens
 
-note_reads : (g : Given) (gs : List Given) (f : Option Fault) (D E : Directives) → settle g.0 D ≡ noted E → reading (g ∷ gs) f D ≡ reading gs f E
+note_reads : (g : Given) (gs : List Given) (f : Option Fault) (D E : Directives)
+    → settle g.0 D ≡ noted E → reading (g ∷ gs) f D ≡ reading gs f E
 unfolding reading
 note_reads g gs f D E e = ap (λ (s : Settled). read_on s g.0 g.1 (λ x. reading gs f x)) e
 
@@ -86,10 +89,14 @@ pub record Directed (ts : List Token) (bs : List TokenBody) (D E : Directives) :
   pub rest : List Token
   pub same : ts ≡ spell_directives directives rest
   pub left : token_bodies rest ≡ bs
-  pub gives : (more : List Token) (gs : List Given) (f : Option Fault) → reading (items_directives directives more gs) f D ≡ reading gs f E
+  pub gives : (more : List Token) (gs : List Given) (f : Option Fault)
+      → reading (items_directives directives more gs) f D ≡ reading gs f E
 
-tags_directed : (ds before : List TagDirective) (v : Option yaml_version_directive_t) → AreFineTags before ds → (ts : List Token) (bs : List TokenBody) → token_bodies ts ≡ directives_bodies ds bs
-    → Directed ts bs (record { version = v; tags = before }) (record { version = v; tags = before ++ ds })
+tags_directed : (ds before : List TagDirective) (v : Option yaml_version_directive_t)
+    → AreFineTags before ds → (ts : List Token) (bs : List TokenBody)
+    → token_bodies ts ≡ directives_bodies ds bs
+    → Directed ts bs (record { version = v; tags = before })
+    (record { version = v; tags = before ++ ds })
 unfolding directives_bodies
 tags_directed [] before v fine ts bs e = record {
   directives = [];
@@ -114,7 +121,9 @@ tags_directed (d ∷ ds) before v (new, fine) ts bs e =
           ∙ ap (λ (x : List TagDirective). reading gs f (record { version = v; tags = x })) (append_assoc before (d ∷ []) ds);
     }
 
-pub version_directed : (v : Option yaml_version_directive_t) (ds : List TagDirective) → IsFineVersion v → AreFineTags [] ds → (ts : List Token) (bs : List TokenBody) → token_bodies ts ≡ version_bodies v (directives_bodies ds bs)
+pub version_directed : (v : Option yaml_version_directive_t) (ds : List TagDirective)
+    → IsFineVersion v → AreFineTags [] ds → (ts : List Token) (bs : List TokenBody)
+    → token_bodies ts ≡ version_bodies v (directives_bodies ds bs)
     → Directed ts bs no_directives (record { version = v; tags = ds })
 version_directed None ds known fine ts bs e = tags_directed ds [] None fine ts bs e
 version_directed (Some v) ds known fine ts bs e =
@@ -131,5 +140,7 @@ version_directed (Some v) ds known fine ts bs e =
           ∙ r.gives more gs f;
     }
   where
-    known_noted : (v : yaml_version_directive_t) (at : yaml_mark_t) → is_known_version v.major v.minor ≡ true → with_version None [] v.major v.minor at ≡ noted (record { version = Some v; tags = [] })
+    known_noted : (v : yaml_version_directive_t) (at : yaml_mark_t)
+        → is_known_version v.major v.minor ≡ true
+        → with_version None [] v.major v.minor at ≡ noted (record { version = Some v; tags = [] })
     known_noted v at e = rw e refl

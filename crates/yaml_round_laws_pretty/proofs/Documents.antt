@@ -42,7 +42,8 @@ pub record Ends (r : Reading) (bs : List EventBody) : Type 0 where
   pub events : event_bodies r ≡ bs
   pub ending : r.ending ≡ None
 
-ends_by : (R : List EventBody → List EventBody) (r q : Reading) (bs : List EventBody) → Says R r q → Ends q bs → Ends r (R bs)
+ends_by : (R : List EventBody → List EventBody) (r q : Reading) (bs : List EventBody) → Says R r q
+    → Ends q bs → Ends r (R bs)
 ends_by R r q bs s e = record { events = s.events ∙ ap (λ (x : List EventBody). R x) e.events; ending = s.ending ∙ e.ending }
 
 -- the ends of the document before, and the documents behind them
@@ -52,7 +53,8 @@ pub record Parsed (s : Settings) (explicit unended kept : Bool) (ds : List Docum
   pub rest : List Token
   pub same : ts ≡ spell_ends ends (spell_documents documents rest)
   pub none : no_spans ends ≡ not (explicit || (unended && has_dots kept ds))
-  pub gives : Ends (reading (items_documents documents rest) None no_directives) (documents_reads s false ds)
+  pub gives : Ends (reading (items_documents documents rest) None no_directives)
+      (documents_reads s false ds)
 
 -- documents, of which the first has its `---`
 pub record Read (es : List EventBody) (ts : List Token) : Type 0 where
@@ -61,7 +63,8 @@ pub record Read (es : List EventBody) (ts : List Token) : Type 0 where
   pub same : ts ≡ spell_documents documents rest
   pub gives : Ends (reading (items_documents documents rest) None no_directives) es
 
-stream_ends : (s : Settings) (ts : List Token) → token_bodies ts ≡ token.stream_end ∷ [] → Read (documents_reads s false []) ts
+stream_ends : (s : Settings) (ts : List Token) → token_bodies ts ≡ token.stream_end ∷ []
+    → Read (documents_reads s false []) ts
 unfolding documents_reads reading
 stream_ends s ts e =
     let t = take ts token.stream_end [] e in
@@ -77,9 +80,14 @@ record Closed (s : Settings) (implicit : Bool) (ds : List Document) (ts : List T
   documents : trees.Documents
   rest : List Token
   same : ts ≡ spell_ends ends (spell_documents documents rest)
-  gives : (D : Directives) → Ends (reading (items_ends ends (spell_documents documents rest) (items_documents documents rest)) None D) es
+  gives : (D : Directives)
+      → Ends (reading (items_ends ends (spell_documents documents rest)
+      (items_documents documents rest)) None D) es
 
-closed : (s : Settings) (implicit kept : Bool) (ds : List Document) (ts : List Token) → Parsed s (not implicit) implicit kept ds ts → Closed s implicit ds ts (event.document_end (implicit && not (has_dots kept ds)) ∷ documents_reads s false ds)
+closed : (s : Settings) (implicit kept : Bool) (ds : List Document) (ts : List Token)
+    → Parsed s (not implicit) implicit kept ds ts
+    → Closed s implicit ds ts (event.document_end (implicit && not (has_dots kept ds))
+    ∷ documents_reads s false ds)
 closed s implicit kept ds ts b =
     let more = spell_documents b.documents b.rest in
     let last = items_documents b.documents b.rest in
@@ -102,8 +110,11 @@ abbrev pub Behind : Settings → Document → List Document → Type 0
 Behind s d ds = (ts : List Token) → token_bodies ts ≡ After s d ds → Parsed s (not d.implicit_end) d.implicit_end (is_root_kept s d) ds ts
 
 -- a document with its `---`, from its directives on
-one_document : (s : Settings) (fresh : Bool) (d : Document) (ds : List Document) → is_marked s fresh d.opening ≡ true → opening_problem d.opening ≡ None → HasNoMark d.root → Behind s d ds → (ts : List Token)
-    → token_bodies ts ≡ opening_bodies s fresh d.opening (root_bodies s d (After s d ds)) → Read (documents_reads s fresh (d ∷ ds)) ts
+one_document : (s : Settings) (fresh : Bool) (d : Document) (ds : List Document)
+    → is_marked s fresh d.opening ≡ true → opening_problem d.opening ≡ None → HasNoMark d.root
+    → Behind s d ds → (ts : List Token)
+    → token_bodies ts ≡ opening_bodies s fresh d.opening (root_bodies s d (After s d ds))
+    → Read (documents_reads s fresh (d ∷ ds)) ts
 unfolding documents_reads
 one_document s fresh d ds marked opening fine behind_root ts e =
     let o = d.opening in
@@ -136,7 +147,8 @@ one_document s fresh d ds marked opening fine behind_root ts e =
       };
     }
 
-at_end : (s : Settings) (unended kept dots : Bool) → (unended && kept) ≡ dots → (ts : List Token) → token_bodies ts ≡ end_bodies dots (token.stream_end ∷ []) → Parsed s false unended kept [] ts
+at_end : (s : Settings) (unended kept dots : Bool) → (unended && kept) ≡ dots → (ts : List Token)
+    → token_bodies ts ≡ end_bodies dots (token.stream_end ∷ []) → Parsed s false unended kept [] ts
 at_end s unended kept true is ts e =
     let t = take ts token.document_end (token.stream_end ∷ []) e in
     let x = stream_ends s t.rest t.left in
@@ -145,8 +157,11 @@ at_end s unended kept false is ts e =
     let x = stream_ends s ts e in
     record { ends = []; documents = x.documents; rest = x.rest; same = x.same; none = sym (ap (λ (b : Bool). not b) is); gives = x.gives }
 
-begun : (s : Settings) (unended kept dots : Bool) (d : Document) (ds : List Document) (bs : List TokenBody) → (unended && is_directed d.opening) ≡ dots → ((us : List Token) → token_bodies us ≡ bs → Read (documents_reads s false (d ∷ ds)) us)
-    → (ts : List Token) → token_bodies ts ≡ end_bodies dots bs → Parsed s false unended kept (d ∷ ds) ts
+begun : (s : Settings) (unended kept dots : Bool) (d : Document) (ds : List Document)
+    (bs : List TokenBody) → (unended && is_directed d.opening) ≡ dots
+    → ((us : List Token) → token_bodies us ≡ bs → Read (documents_reads s false (d ∷ ds)) us)
+    → (ts : List Token) → token_bodies ts ≡ end_bodies dots bs
+    → Parsed s false unended kept (d ∷ ds) ts
 begun s unended kept true d ds bs is one ts e =
     let t = take ts token.document_end bs e in
     let x = one t.rest t.left in
@@ -155,15 +170,20 @@ begun s unended kept false d ds bs is one ts e =
     let x = one ts e in
     record { ends = []; documents = x.documents; rest = x.rest; same = x.same; none = sym (ap (λ (b : Bool). not b) is); gives = x.gives }
 
-pub behind_root : (s : Settings) (implicit kept : Bool) (ds : List Document) (ts : List Token) → ((us : List Token) → token_bodies us ≡ documents_bodies s false implicit kept ds → Parsed s false implicit kept ds us)
-    → token_bodies ts ≡ end_bodies (not implicit) (documents_bodies s false implicit kept ds) → Parsed s (not implicit) implicit kept ds ts
+pub behind_root : (s : Settings) (implicit kept : Bool) (ds : List Document) (ts : List Token)
+    → ((us : List Token) → token_bodies us ≡ documents_bodies s false implicit kept ds
+    → Parsed s false implicit kept ds us)
+    → token_bodies ts ≡ end_bodies (not implicit) (documents_bodies s false implicit kept ds)
+    → Parsed s (not implicit) implicit kept ds ts
 behind_root s true kept ds ts rest e = rest ts e
 behind_root s false kept ds ts rest e =
     let t = take ts token.document_end (documents_bodies s false false kept ds) e in
     let x = rest t.rest t.left in
     record { ends = t.span ∷ x.ends; documents = x.documents; rest = x.rest; same = t.same ∙ ap (λ (y : List Token). token_at token.document_end t.span ∷ y) x.same; none = refl; gives = x.gives }
 
-pub documents_parsed : (s : Settings) (unended kept : Bool) (ds : List Document) → AreParsable ds → (ts : List Token) → token_bodies ts ≡ documents_bodies s false unended kept ds → Parsed s false unended kept ds ts
+pub documents_parsed : (s : Settings) (unended kept : Bool) (ds : List Document) → AreParsable ds
+    → (ts : List Token) → token_bodies ts ≡ documents_bodies s false unended kept ds
+    → Parsed s false unended kept ds ts
 unfolding documents_bodies
 documents_parsed s unended kept [] fine ts e = at_end s unended kept (unended && kept) refl ts e
 documents_parsed s unended kept (d ∷ ds) ((opening, root), fine) ts e =
@@ -175,13 +195,17 @@ documents_parsed s unended kept (d ∷ ds) ((opening, root), fine) ts e =
 abbrev pub IsParsed : yaml_encoding_t → List EventBody → List Token → Type 0
 IsParsed x es ts = (event_bodies (parsed_of ts) ≡ event.stream_start x ∷ es) × ((parsed_of ts).ending ≡ None)
 
-parsed_by : (x : yaml_encoding_t) (es : List EventBody) (tree : trees.Stream) (rest ts : List Token) → ts ≡ trees.spell tree rest → Ends (reading (items tree rest) None no_directives) (event.stream_start x ∷ es) → IsParsed x es ts
+parsed_by : (x : yaml_encoding_t) (es : List EventBody) (tree : trees.Stream) (rest ts : List Token)
+    → ts ≡ trees.spell tree rest
+    → Ends (reading (items tree rest) None no_directives) (event.stream_start x ∷ es)
+    → IsParsed x es ts
 parsed_by x es tree rest ts same e =
     let whole : parsed_of ts ≡ reading (items tree rest) None no_directives = ap (λ (y : List Token). parsed_of y) same ∙ ap (λ (o : Outcome). reading_of o no_directives) (stream_runs tree rest None) in
     (ap (λ (r : Reading). event_bodies r) whole ∙ e.events, ap (λ (r : Reading). r.ending) whole ∙ e.ending)
 
 -- each document has its `---`
-pub marked_stream : (x : yaml_encoding_t) (es : List EventBody) (span : Span) (ts us : List Token) → ts ≡ token_at (token.stream_start x) span ∷ us → Read es us → IsParsed x es ts
+pub marked_stream : (x : yaml_encoding_t) (es : List EventBody) (span : Span) (ts us : List Token)
+    → ts ≡ token_at (token.stream_start x) span ∷ us → Read es us → IsParsed x es ts
 marked_stream x es span ts us same r =
     let tree : trees.Stream = record { encoding = x; start = span; first = no_first; documents = r.documents } in
     let rest = items_documents r.documents r.rest in
@@ -194,24 +218,32 @@ pub record Undirected (o : Opening) : Type 0 where
   pub version : o.version ≡ None
   pub directives : o.directives ≡ []
 
-undirected_by : (v : Option yaml_version_directive_t) (ds : List TagDirective) → (has_version v || has_directives ds) ≡ false → (v ≡ None) × (ds ≡ [])
+undirected_by : (v : Option yaml_version_directive_t) (ds : List TagDirective)
+    → (has_version v || has_directives ds) ≡ false → (v ≡ None) × (ds ≡ [])
 undirected_by None [] e = (refl, refl)
 undirected_by None (d ∷ ds) e = absurd (cc)
 undirected_by (Some v) ds e = absurd (cc)
 
-not_marked : (canonical fresh implicit directed : Bool) → (canonical || not (fresh && (implicit && not directed))) ≡ false → directed ≡ false
+not_marked : (canonical fresh implicit directed : Bool)
+    → (canonical || not (fresh && (implicit && not directed))) ≡ false → directed ≡ false
 not_marked true fresh implicit directed e = absurd (cc)
 not_marked false false implicit directed e = absurd (cc)
 not_marked false true false directed e = absurd (cc)
 not_marked false true true false e = refl
 not_marked false true true true e = absurd (cc)
 
-pub undirected : (s : Settings) (fresh : Bool) (o : Opening) → is_marked s fresh o ≡ false → Undirected o
+pub undirected : (s : Settings) (fresh : Bool) (o : Opening) → is_marked s fresh o ≡ false
+    → Undirected o
 undirected s fresh o e = let (v, d) = undirected_by o.version o.directives (not_marked s.canonical fresh o.implicit (is_directed o) e) in record { version = v; directives = d }
 
 -- a first document without `---`
-bare_stream : (s : Settings) (x : yaml_encoding_t) (d : Document) (ds : List Document) → is_marked s true d.opening ≡ false → is_left_out (context_in s d) false part.Item d.root ≡ false → opening_problem d.opening ≡ None → HasNoMark d.root → Behind s d ds
-    → (span : Span) (ts us : List Token) → ts ≡ token_at (token.stream_start x) span ∷ us → token_bodies us ≡ opening_bodies s true d.opening (root_bodies s d (After s d ds)) → IsParsed x (stream_reads s (d ∷ ds)) ts
+bare_stream : (s : Settings) (x : yaml_encoding_t) (d : Document) (ds : List Document)
+    → is_marked s true d.opening ≡ false
+    → is_left_out (context_in s d) false part.Item d.root ≡ false → opening_problem d.opening ≡ None
+    → HasNoMark d.root → Behind s d ds
+    → (span : Span) (ts us : List Token) → ts ≡ token_at (token.stream_start x) span ∷ us
+    → token_bodies us ≡ opening_bodies s true d.opening (root_bodies s d (After s d ds))
+    → IsParsed x (stream_reads s (d ∷ ds)) ts
 unfolding documents_reads directives_bodies
 bare_stream s x d ds bare some opening fine behind_root span ts us same e =
     let o = d.opening in
@@ -249,8 +281,12 @@ first_some : (m : Bool) (n : Bool) → m ≡ false → (not m && n) ≡ false �
 first_some true n m e = absurd (cc)
 first_some false n m e = e
 
-first_stream : (s : Settings) (x : yaml_encoding_t) (d : Document) (ds : List Document) (m : Bool) → is_marked s true d.opening ≡ m → starts_with_nothing s (d ∷ ds) ≡ false → opening_problem d.opening ≡ None → HasNoMark d.root → Behind s d ds
-    → (span : Span) (ts us : List Token) → ts ≡ token_at (token.stream_start x) span ∷ us → token_bodies us ≡ opening_bodies s true d.opening (root_bodies s d (After s d ds)) → IsParsed x (stream_reads s (d ∷ ds)) ts
+first_stream : (s : Settings) (x : yaml_encoding_t) (d : Document) (ds : List Document) (m : Bool)
+    → is_marked s true d.opening ≡ m → starts_with_nothing s (d ∷ ds) ≡ false
+    → opening_problem d.opening ≡ None → HasNoMark d.root → Behind s d ds
+    → (span : Span) (ts us : List Token) → ts ≡ token_at (token.stream_start x) span ∷ us
+    → token_bodies us ≡ opening_bodies s true d.opening (root_bodies s d (After s d ds))
+    → IsParsed x (stream_reads s (d ∷ ds)) ts
 first_stream s x d ds true is some opening fine behind_root span ts us same e = marked_stream x (stream_reads s (d ∷ ds)) span ts us same (one_document s true d ds is opening fine behind_root us e)
 first_stream s x d ds false is some opening fine behind_root span ts us same e =
     bare_stream s x d ds is (first_some (is_marked s true d.opening) (is_left_out (context_in s d) false part.Item d.root) is some) opening fine behind_root span ts us same e

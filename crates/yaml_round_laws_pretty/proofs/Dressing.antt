@@ -39,12 +39,16 @@ pub record Spelt (T : Type 0) (spell : T → List Token → List Token) (items :
   pub rest : List Token
   pub same : ts ≡ spell tree rest
   pub left : token_bodies rest ≡ bs
-  pub gives : (more : List Token) (gs : List Given) (f : Option Fault) (D : Directives) → D.tags ≡ ds → Says R (reading (items tree more gs) f D) (reading gs f D)
+  pub gives : (more : List Token) (gs : List Given) (f : Option Fault) (D : Directives)
+      → D.tags ≡ ds → Says R (reading (items tree more gs) f D) (reading gs f D)
 
-abbrev pub MaybeGrown : Wants → Site → yaml_mark_t → List TagDirective → (List EventBody → List EventBody) → List Token → List TokenBody → Type 0
+abbrev pub MaybeGrown : Wants → Site → yaml_mark_t → List TagDirective
+    → (List EventBody → List EventBody) → List Token → List TokenBody → Type 0
 MaybeGrown w at before ds R ts bs = Spelt (trees.Maybe w) (λ (n : trees.Maybe w) (rest : List Token). spell_maybe n rest) (λ (n : trees.Maybe w) (rest : List Token) (more : List Given). items_maybe n at before rest more) ds R ts bs
 
-pub held : (w : Wants) (at : Site) (before : yaml_mark_t) (ds : List TagDirective) (R : List EventBody → List EventBody) (ts : List Token) (bs : List TokenBody) → Grown w ds R ts bs → MaybeGrown w at before ds R ts bs
+pub held : (w : Wants) (at : Site) (before : yaml_mark_t) (ds : List TagDirective)
+    (R : List EventBody → List EventBody) (ts : List Token) (bs : List TokenBody)
+    → Grown w ds R ts bs → MaybeGrown w at before ds R ts bs
 held w at before ds R ts bs g = record { tree = trees.there g.tree; rest = g.rest; same = g.same; left = g.left; gives = g.gives }
 
 -- ---- properties
@@ -88,14 +92,22 @@ record WithProperties (ds : List TagDirective) (anchor : Option (List ℕ)) (tag
   same : ts ≡ spell_if dress rest
   left : token_bodies rest ≡ bs
   some : some_tokens dress ≡ (has anchor || some_named tag)
-  gives : (shape : Shape) (from to : yaml_mark_t) (D : Directives) → D.tags ≡ ds → settle (node_at (properties_if dress) shape from to) D ≡ gave (node_event anchor (full_of tag) shape) D
+  gives : (shape : Shape) (from to : yaml_mark_t) (D : Directives) → D.tags ≡ ds
+      → settle (node_at (properties_if dress) shape from to) D
+      ≡ gave (node_event anchor (full_of tag) shape) D
 
-resolves : (ds : List TagDirective) (handle suffix full : List ℕ) (anchor : Option (List ℕ)) (shape : Shape) (from at : yaml_mark_t) (D : Directives) → resolved ds handle suffix ≡ Some full → D.tags ≡ ds
-    → with_resolved (resolved D.tags handle suffix) anchor shape from at D ≡ gave (node_event anchor (Some full) shape) D
+resolves : (ds : List TagDirective) (handle suffix full : List ℕ) (anchor : Option (List ℕ))
+    (shape : Shape) (from at : yaml_mark_t) (D : Directives) → resolved ds handle suffix ≡ Some full
+    → D.tags ≡ ds
+    → with_resolved (resolved D.tags handle suffix) anchor shape from at D
+    ≡ gave (node_event anchor (Some full) shape) D
 resolves ds handle suffix full anchor shape from at D e t =
     ap (λ (o : Option (List ℕ)). with_resolved o anchor shape from at D) (ap (λ (x : List TagDirective). resolved x handle suffix) t ∙ e)
 
-with_properties : (ds : List TagDirective) (anchor : Option (List ℕ)) (tag : Option Named) → IsNamed ds tag → (ts : List Token) (bs : List TokenBody) → token_bodies ts ≡ anchor_bodies anchor (named_bodies tag bs) → WithProperties ds anchor tag ts bs
+with_properties : (ds : List TagDirective) (anchor : Option (List ℕ)) (tag : Option Named)
+    → IsNamed ds tag → (ts : List Token) (bs : List TokenBody)
+    → token_bodies ts ≡ anchor_bodies anchor (named_bodies tag bs)
+    → WithProperties ds anchor tag ts bs
 with_properties ds None None h ts bs e = record { dress = None; rest = ts; same = refl; left = e; some = refl; gives = λ shape from to D t. refl }
 with_properties ds (Some a) None h ts bs e =
     let x = take ts (token.anchor a) bs e in
@@ -135,7 +147,8 @@ split_body : (s : Split) → tag_body s ≡ token.tag (split_handle s) (split_su
 split_body (shorthand handle suffix) = refl
 split_body (verbatim t) = refl
 
-split_resolved : (ds : List TagDirective) (s : Split) → resolved ds (split_handle s) (split_suffix s) ≡ resolved_split ds s
+split_resolved : (ds : List TagDirective) (s : Split)
+    → resolved ds (split_handle s) (split_suffix s) ≡ resolved_split ds s
 split_resolved ds (shorthand handle suffix) = refl
 split_resolved ds (verbatim t) = refl
 
@@ -143,11 +156,13 @@ abbrev tag_named : List TagDirective → Option (List ℕ) → Option Named
 tag_named ds None = None
 tag_named ds (Some t) = Some (record { handle = split_handle (split_tag ds t); suffix = split_suffix (split_tag ds t); full = t })
 
-tag_is_named : (ds : List TagDirective) → Resolves ds → (tag : Option (List ℕ)) → IsNamed ds (tag_named ds tag)
+tag_is_named : (ds : List TagDirective) → Resolves ds → (tag : Option (List ℕ))
+    → IsNamed ds (tag_named ds tag)
 tag_is_named ds r None = tt
 tag_is_named ds r (Some t) = split_resolved ds (split_tag ds t) ∙ r t
 
-tag_bodies_are : (ds : List TagDirective) (tag : Option (List ℕ)) (bs : List TokenBody) → tag_bodies ds tag bs ≡ named_bodies (tag_named ds tag) bs
+tag_bodies_are : (ds : List TagDirective) (tag : Option (List ℕ)) (bs : List TokenBody)
+    → tag_bodies ds tag bs ≡ named_bodies (tag_named ds tag) bs
 tag_bodies_are ds None bs = refl
 tag_bodies_are ds (Some t) bs = ap (λ (b : TokenBody). b ∷ bs) (split_body (split_tag ds t))
 
@@ -164,12 +179,16 @@ scalar_named ds None true = Some bang
 scalar_named ds None false = None
 scalar_named ds (Some t) marked = tag_named ds (Some t)
 
-scalar_is_named : (ds : List TagDirective) → Resolves ds → (tag : Option (List ℕ)) (marked : Bool) → IsNamed ds (scalar_named ds tag marked)
+scalar_is_named : (ds : List TagDirective) → Resolves ds → (tag : Option (List ℕ)) (marked : Bool)
+    → IsNamed ds (scalar_named ds tag marked)
 scalar_is_named ds r None true = refl
 scalar_is_named ds r None false = tt
 scalar_is_named ds r (Some t) marked = tag_is_named ds r (Some t)
 
-scalar_bodies_are : (ds : List TagDirective) (tag : Option (List ℕ)) (marked : Bool) (bs : List TokenBody) → tag_bodies ds tag (mark_bodies (not (has tag) && marked) bs) ≡ named_bodies (scalar_named ds tag marked) bs
+scalar_bodies_are : (ds : List TagDirective) (tag : Option (List ℕ)) (marked : Bool)
+    (bs : List TokenBody)
+    → tag_bodies ds tag (mark_bodies (not (has tag) && marked) bs)
+    ≡ named_bodies (scalar_named ds tag marked) bs
 scalar_bodies_are ds None true bs = refl
 scalar_bodies_are ds None false bs = refl
 scalar_bodies_are ds (Some t) marked bs = tag_bodies_are ds (Some t) bs
@@ -180,11 +199,14 @@ abbrev with_dress : {w : Wants} → Option PropertyTokens → trees.Content w �
 with_dress None c = trees.bare c
 with_dress (Some d) c = trees.with_properties d c
 
-dress_spells : (w : Wants) (d : Option PropertyTokens) (c : trees.Content w) (rest : List Token) → spell_node (with_dress d c) rest ≡ spell_if d (spell_content c rest)
+dress_spells : (w : Wants) (d : Option PropertyTokens) (c : trees.Content w) (rest : List Token)
+    → spell_node (with_dress d c) rest ≡ spell_if d (spell_content c rest)
 dress_spells w None c rest = refl
 dress_spells w (Some d) c rest = refl
 
-dress_gives : (w : Wants) (d : Option PropertyTokens) (c : trees.Content w) (rest : List Token) (more : List Given) → items_node (with_dress d c) rest more ≡ items_content c (properties_if d) rest more
+dress_gives : (w : Wants) (d : Option PropertyTokens) (c : trees.Content w) (rest : List Token)
+    (more : List Given)
+    → items_node (with_dress d c) rest more ≡ items_content c (properties_if d) rest more
 dress_gives w None c rest more = refl
 dress_gives w (Some d) c rest more = refl
 
@@ -194,11 +216,17 @@ pub record Contained (w : Wants) (ds : List TagDirective) (shape : Shape) (R : L
   pub rest : List Token
   pub same : ts ≡ spell_content tree rest
   pub left : token_bodies rest ≡ bs
-  pub gives : (o : Option Properties) (b : EventBody) (more : List Token) (gs : List Given) (f : Option Fault) (D : Directives) → D.tags ≡ ds
-      → ((from to : yaml_mark_t) → settle (node_at o shape from to) D ≡ gave b D) → Says (λ es. b ∷ R es) (reading (items_content tree o more gs) f D) (reading gs f D)
+  pub gives : (o : Option Properties) (b : EventBody) (more : List Token) (gs : List Given)
+      (f : Option Fault) (D : Directives) → D.tags ≡ ds
+      → ((from to : yaml_mark_t) → settle (node_at o shape from to) D ≡ gave b D)
+      → Says (λ es. b ∷ R es) (reading (items_content tree o more gs) f D) (reading gs f D)
 
-dressed_named : (w : Wants) (ds : List TagDirective) (anchor : Option (List ℕ)) (tag : Option Named) → IsNamed ds tag → (shape : Shape) (R : List EventBody → List EventBody) (cs bs : List TokenBody) → ((us : List Token) → token_bodies us ≡ cs → Contained w ds shape R us bs)
-    → (ts : List Token) → token_bodies ts ≡ anchor_bodies anchor (named_bodies tag cs) → Grown w ds (λ es. node_event anchor (full_of tag) shape ∷ R es) ts bs
+dressed_named : (w : Wants) (ds : List TagDirective) (anchor : Option (List ℕ)) (tag : Option Named)
+    → IsNamed ds tag
+    → (shape : Shape) (R : List EventBody → List EventBody) (cs bs : List TokenBody)
+    → ((us : List Token) → token_bodies us ≡ cs → Contained w ds shape R us bs)
+    → (ts : List Token) → token_bodies ts ≡ anchor_bodies anchor (named_bodies tag cs)
+    → Grown w ds (λ es. node_event anchor (full_of tag) shape ∷ R es) ts bs
 dressed_named w ds anchor tag h shape R cs bs inner ts e =
     let d = with_properties ds anchor tag h ts cs e in
     let c = inner d.rest d.left in
@@ -213,8 +241,12 @@ dressed_named w ds anchor tag h shape R cs bs inner ts e =
     }
 
 -- of a collection
-pub dressed : (w : Wants) (ds : List TagDirective) → Resolves ds → (anchor tag : Option (List ℕ)) (shape : Shape) (R : List EventBody → List EventBody) (cs bs : List TokenBody) → ((us : List Token) → token_bodies us ≡ cs → Contained w ds shape R us bs)
-    → (ts : List Token) → token_bodies ts ≡ anchor_bodies anchor (tag_bodies ds tag cs) → Grown w ds (λ es. node_event anchor tag shape ∷ R es) ts bs
+pub dressed : (w : Wants) (ds : List TagDirective) → Resolves ds
+    → (anchor tag : Option (List ℕ)) (shape : Shape) (R : List EventBody → List EventBody)
+    (cs bs : List TokenBody)
+    → ((us : List Token) → token_bodies us ≡ cs → Contained w ds shape R us bs)
+    → (ts : List Token) → token_bodies ts ≡ anchor_bodies anchor (tag_bodies ds tag cs)
+    → Grown w ds (λ es. node_event anchor tag shape ∷ R es) ts bs
 dressed w ds r anchor tag shape R cs bs inner ts e =
     let named = e ∙ ap (λ (y : List TokenBody). anchor_bodies anchor y) (tag_bodies_are ds tag cs) in
     let P : Option (List ℕ) → Type 0 = λ t. Grown w ds (λ es. node_event anchor t shape ∷ R es) ts bs in
@@ -222,25 +254,33 @@ dressed w ds r anchor tag shape R cs bs inner ts e =
 
 -- ---- scalars
 
-tagged_event : (b : Bool) (anchor : Option (List ℕ)) (t value : List ℕ) (s : yaml_scalar_style_t) → b ≡ false
-    → (if b then event.scalar anchor None value true false s else event.scalar anchor (Some t) value false false s) ≡ event.scalar anchor (Some t) value false false s
+tagged_event : (b : Bool) (anchor : Option (List ℕ)) (t value : List ℕ) (s : yaml_scalar_style_t)
+    → b ≡ false
+    → (if b then event.scalar anchor None value true false s else event.scalar anchor (Some t) value
+    false false s) ≡ event.scalar anchor (Some t) value false false s
 tagged_event true anchor t value s e = absurd (true≢false e)
 tagged_event false anchor t value s e = refl
 
-untagged_event : (anchor : Option (List ℕ)) (value : List ℕ) (s : Style) → node_event anchor None (item.scalar value (style_named s)) ≡ scalar_reads anchor None value false s
+untagged_event : (anchor : Option (List ℕ)) (value : List ℕ) (s : Style)
+    → node_event anchor None (item.scalar value (style_named s))
+    ≡ scalar_reads anchor None value false s
 untagged_event anchor value style.Plain = refl
 untagged_event anchor value style.Single = refl
 untagged_event anchor value style.Double = refl
 untagged_event anchor value style.Literal = refl
 untagged_event anchor value style.Folded = refl
 
-event_is : (ds : List TagDirective) (anchor tag : Option (List ℕ)) (value : List ℕ) (marked : Bool) (s : Style) → IsNoMark tag
-    → node_event anchor (full_of (scalar_named ds tag marked)) (item.scalar value (style_named s)) ≡ scalar_reads anchor tag value marked s
+event_is : (ds : List TagDirective) (anchor tag : Option (List ℕ)) (value : List ℕ) (marked : Bool)
+    (s : Style) → IsNoMark tag
+    → node_event anchor (full_of (scalar_named ds tag marked)) (item.scalar value (style_named s))
+    ≡ scalar_reads anchor tag value marked s
 event_is ds anchor None value true s h = refl
 event_is ds anchor None value false s h = untagged_event anchor value s
 event_is ds anchor (Some t) value marked s h = tagged_event (bytes_eq t (codes "!")) anchor t value (style_named s) h
 
-scalar_contained : (w : Wants) (ds : List TagDirective) (value : List ℕ) (s : yaml_scalar_style_t) (bs : List TokenBody) (us : List Token) → token_bodies us ≡ token.scalar value s ∷ bs → Contained w ds (item.scalar value s) (λ es. es) us bs
+scalar_contained : (w : Wants) (ds : List TagDirective) (value : List ℕ) (s : yaml_scalar_style_t)
+    (bs : List TokenBody) (us : List Token) → token_bodies us ≡ token.scalar value s ∷ bs
+    → Contained w ds (item.scalar value s) (λ es. es) us bs
 scalar_contained w ds value s bs us e =
     let t = take us (token.scalar value s) bs e in
     record {
@@ -252,8 +292,13 @@ scalar_contained w ds value s bs us e =
     }
 
 -- a scalar that has a word
-worded : (w : Wants) (ds : List TagDirective) → Resolves ds → (anchor tag : Option (List ℕ)) → IsNoMark tag → (value : List ℕ) (marked : Bool) (s : Style) (bs : List TokenBody) (ts : List Token)
-    → token_bodies ts ≡ anchor_bodies anchor (tag_bodies ds tag (mark_bodies (not (has tag) && marked) (token.scalar value (style_named s) ∷ bs))) → Grown w ds (λ es. scalar_reads anchor tag value marked s ∷ es) ts bs
+worded : (w : Wants) (ds : List TagDirective) → Resolves ds → (anchor tag : Option (List ℕ))
+    → IsNoMark tag
+    → (value : List ℕ) (marked : Bool) (s : Style) (bs : List TokenBody) (ts : List Token)
+    → token_bodies ts ≡ anchor_bodies anchor
+    (tag_bodies ds tag (mark_bodies (not (has tag) && marked)
+    (token.scalar value (style_named s) ∷ bs)))
+    → Grown w ds (λ es. scalar_reads anchor tag value marked s ∷ es) ts bs
 worded w ds r anchor tag fine value marked s bs ts e =
     let cs = token.scalar value (style_named s) ∷ bs in
     let named = e ∙ ap (λ (y : List TokenBody). anchor_bodies anchor y) (scalar_bodies_are ds tag marked cs) in
@@ -262,8 +307,13 @@ worded w ds r anchor tag fine value marked s bs ts e =
     (dressed_named w ds anchor (scalar_named ds tag marked) (scalar_is_named ds r tag marked) (item.scalar value (style_named s)) (λ es. es) cs bs (scalar_contained w ds value (style_named s) bs) ts named)
 
 -- properties alone
-alone_by : (w : Wants) (ds : List TagDirective) (anchor tag : Option (List ℕ)) (d : Option PropertyTokens) → some_tokens d ≡ true → (ts rest : List Token) (bs : List TokenBody) → ts ≡ spell_if d rest → token_bodies rest ≡ bs
-    → ((from to : yaml_mark_t) (D : Directives) → D.tags ≡ ds → settle (node_at (properties_if d) item.empty from to) D ≡ gave (node_event anchor tag item.empty) D) → Grown w ds (λ es. node_event anchor tag item.empty ∷ es) ts bs
+alone_by : (w : Wants) (ds : List TagDirective) (anchor tag : Option (List ℕ))
+    (d : Option PropertyTokens) → some_tokens d ≡ true
+    → (ts rest : List Token) (bs : List TokenBody) → ts ≡ spell_if d rest → token_bodies rest ≡ bs
+    → ((from to : yaml_mark_t) (D : Directives) → D.tags ≡ ds
+    → settle (node_at (properties_if d) item.empty from to) D
+    ≡ gave (node_event anchor tag item.empty) D)
+    → Grown w ds (λ es. node_event anchor tag item.empty ∷ es) ts bs
 alone_by w ds anchor tag None some ts rest bs same left gives = absurd (false≢true some)
 alone_by w ds anchor tag (Some d) some ts rest bs same left gives = record {
   tree = trees.only_properties d;
@@ -273,12 +323,15 @@ alone_by w ds anchor tag (Some d) some ts rest bs same left gives = record {
   gives = λ more gs f D is. step_says (item.properties_alone (properties_of d), behind more) gs f D (node_event anchor tag item.empty) (gives (properties_of d).to (properties_of d).to D is);
 }
 
-some_either : (ds : List TagDirective) (anchor tag : Option (List ℕ)) → is_bare anchor tag ≡ false → (has anchor || some_named (tag_named ds tag)) ≡ true
+some_either : (ds : List TagDirective) (anchor tag : Option (List ℕ)) → is_bare anchor tag ≡ false
+    → (has anchor || some_named (tag_named ds tag)) ≡ true
 some_either ds None None h = absurd (true≢false h)
 some_either ds None (Some t) h = refl
 some_either ds (Some a) tag h = refl
 
-alone : (w : Wants) (ds : List TagDirective) → Resolves ds → (anchor tag : Option (List ℕ)) → is_bare anchor tag ≡ false → (bs : List TokenBody) (ts : List Token) → token_bodies ts ≡ anchor_bodies anchor (tag_bodies ds tag bs)
+alone : (w : Wants) (ds : List TagDirective) → Resolves ds → (anchor tag : Option (List ℕ))
+    → is_bare anchor tag ≡ false → (bs : List TokenBody) (ts : List Token)
+    → token_bodies ts ≡ anchor_bodies anchor (tag_bodies ds tag bs)
     → Grown w ds (λ es. node_event anchor tag item.empty ∷ es) ts bs
 alone w ds r anchor tag some bs ts e =
     let named = e ∙ ap (λ (y : List TokenBody). anchor_bodies anchor y) (tag_bodies_are ds tag bs) in
@@ -294,23 +347,33 @@ unmarked_too : (tagged quoted : Bool) → (not tagged && takes_mark quoted style
 unmarked_too true quoted = refl
 unmarked_too false quoted = unmarked quoted
 
-empty_event : (anchor tag : Option (List ℕ)) → node_event anchor tag item.empty ≡ scalar_reads anchor tag [] false style.Plain
+empty_event : (anchor tag : Option (List ℕ))
+    → node_event anchor tag item.empty ≡ scalar_reads anchor tag [] false style.Plain
 empty_event anchor None = refl
 empty_event anchor (Some t) = refl
 
-empty_grown : (w : Wants) (ds : List TagDirective) → Resolves ds → (anchor tag : Option (List ℕ)) → is_bare anchor tag ≡ false → (quoted : Bool) (bs : List TokenBody) (ts : List Token)
-    → token_bodies ts ≡ anchor_bodies anchor (tag_bodies ds tag (mark_bodies (not (has tag) && takes_mark quoted style.Plain) bs)) → Grown w ds (λ es. scalar_reads anchor tag [] (takes_mark quoted style.Plain) style.Plain ∷ es) ts bs
+empty_grown : (w : Wants) (ds : List TagDirective) → Resolves ds → (anchor tag : Option (List ℕ))
+    → is_bare anchor tag ≡ false → (quoted : Bool) (bs : List TokenBody) (ts : List Token)
+    → token_bodies ts ≡ anchor_bodies anchor
+    (tag_bodies ds tag (mark_bodies (not (has tag) && takes_mark quoted style.Plain) bs))
+    → Grown w ds (λ es. scalar_reads anchor tag [] (takes_mark quoted style.Plain) style.Plain ∷ es)
+    ts bs
 empty_grown w ds r anchor tag some quoted bs ts e =
     let plain = e ∙ ap (λ (b : Bool). anchor_bodies anchor (tag_bodies ds tag (mark_bodies b bs))) (unmarked_too (has tag) quoted) in
     let P : EventBody → Type 0 = λ b. Grown w ds (λ es. b ∷ es) ts bs in
     subst P (empty_event anchor tag ∙ ap (λ (b : Bool). scalar_reads anchor tag [] b style.Plain) (sym (unmarked quoted))) (alone w ds r anchor tag some bs ts plain)
 
-abbrev ScalarBodies : List TagDirective → Bool → Style → Option (List ℕ) → Option (List ℕ) → List ℕ → Bool → List TokenBody → List TokenBody
+abbrev ScalarBodies : List TagDirective → Bool → Style → Option (List ℕ) → Option (List ℕ) → List ℕ
+    → Bool → List TokenBody → List TokenBody
 ScalarBodies ds flow s anchor tag value quoted bs = anchor_bodies anchor (tag_bodies ds tag (mark_bodies (not (has tag) && takes_mark quoted s) (scalar_bodies flow s value bs)))
 
 -- a scalar for which something stands
-pub scalar_grown : (w : Wants) (ds : List TagDirective) → Resolves ds → (flow : Bool) (s : Style) (anchor tag : Option (List ℕ)) → IsNoMark tag → (value : List ℕ) (quoted : Bool) → (is_nothing flow s value && is_bare anchor tag) ≡ false → (bs : List TokenBody) (ts : List Token)
-    → token_bodies ts ≡ ScalarBodies ds flow s anchor tag value quoted bs → Grown w ds (λ es. scalar_reads anchor tag value (takes_mark quoted s) s ∷ es) ts bs
+pub scalar_grown : (w : Wants) (ds : List TagDirective) → Resolves ds
+    → (flow : Bool) (s : Style) (anchor tag : Option (List ℕ)) → IsNoMark tag
+    → (value : List ℕ) (quoted : Bool) → (is_nothing flow s value && is_bare anchor tag) ≡ false
+    → (bs : List TokenBody) (ts : List Token)
+    → token_bodies ts ≡ ScalarBodies ds flow s anchor tag value quoted bs
+    → Grown w ds (λ es. scalar_reads anchor tag value (takes_mark quoted s) s ∷ es) ts bs
 scalar_grown w ds r true s anchor tag fine value quoted some bs ts e = worded w ds r anchor tag fine value (takes_mark quoted s) s bs ts e
 scalar_grown w ds r false style.Plain anchor tag fine [] quoted some bs ts e = empty_grown w ds r anchor tag some quoted bs ts e
 scalar_grown w ds r false style.Plain anchor tag fine (c ∷ cs) quoted some bs ts e = worded w ds r anchor tag fine (c ∷ cs) (takes_mark quoted style.Plain) style.Plain bs ts e
@@ -319,8 +382,10 @@ scalar_grown w ds r false style.Double anchor tag fine value quoted some bs ts e
 scalar_grown w ds r false style.Literal anchor tag fine value quoted some bs ts e = worded w ds r anchor tag fine value (takes_mark quoted style.Literal) style.Literal bs ts e
 scalar_grown w ds r false style.Folded anchor tag fine value quoted some bs ts e = worded w ds r anchor tag fine value (takes_mark quoted style.Folded) style.Folded bs ts e
 
-nothing_held : (w : Wants) (at : Site) (before : yaml_mark_t) (ds : List TagDirective) (quoted : Bool) (bs : List TokenBody) (ts : List Token) → token_bodies ts ≡ bs
-    → MaybeGrown w at before ds (λ es. scalar_reads None None [] (takes_mark quoted style.Plain) style.Plain ∷ es) ts bs
+nothing_held : (w : Wants) (at : Site) (before : yaml_mark_t) (ds : List TagDirective)
+    (quoted : Bool) (bs : List TokenBody) (ts : List Token) → token_bodies ts ≡ bs
+    → MaybeGrown w at before ds (λ es. scalar_reads None None [] (takes_mark quoted style.Plain)
+    style.Plain ∷ es) ts bs
 nothing_held w at before ds quoted bs ts e = record {
   tree = trees.left_out;
   rest = ts;
@@ -330,8 +395,13 @@ nothing_held w at before ds quoted bs ts e = record {
 }
 
 -- a scalar for which nothing stands
-pub scalar_left_out : (w : Wants) (at : Site) (before : yaml_mark_t) (ds : List TagDirective) (flow : Bool) (s : Style) (anchor tag : Option (List ℕ)) (value : List ℕ) (quoted : Bool) → (is_nothing flow s value && is_bare anchor tag) ≡ true → (bs : List TokenBody) (ts : List Token)
-    → token_bodies ts ≡ ScalarBodies ds flow s anchor tag value quoted bs → MaybeGrown w at before ds (λ es. scalar_reads anchor tag value (takes_mark quoted s) s ∷ es) ts bs
+pub scalar_left_out : (w : Wants) (at : Site) (before : yaml_mark_t) (ds : List TagDirective)
+    (flow : Bool) (s : Style) (anchor tag : Option (List ℕ)) (value : List ℕ) (quoted : Bool)
+    → (is_nothing flow s value && is_bare anchor tag) ≡ true
+    → (bs : List TokenBody) (ts : List Token)
+    → token_bodies ts ≡ ScalarBodies ds flow s anchor tag value quoted bs
+    → MaybeGrown w at before ds (λ es. scalar_reads anchor tag value (takes_mark quoted s) s ∷ es)
+    ts bs
 scalar_left_out w at before ds true s anchor tag value quoted none bs ts e = absurd (false≢true none)
 scalar_left_out w at before ds false style.Plain None None [] quoted none bs ts e = nothing_held w at before ds quoted bs ts (e ∙ ap (λ (b : Bool). mark_bodies b bs) (unmarked_too false quoted))
 scalar_left_out w at before ds false style.Plain None (Some t) [] quoted none bs ts e = absurd (false≢true none)

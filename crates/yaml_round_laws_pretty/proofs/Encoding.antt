@@ -18,11 +18,15 @@ bytes_8 [] = refl
 bytes_8 (letter c ∷ t) = ap (λ (b : List ℕ). b ++ encode Utf8 t) (char_8 c) ∙ ap (λ (b : List ℕ). encode_utf8 c ++ b) (bytes_8 t)
 bytes_8 (deep ∷ t) = bytes_8 t
 
-low_units : (b : Bool) (c x y : ℕ) → (if b then unit_bytes Utf16Le c else unit_bytes Utf16Le x ++ unit_bytes Utf16Le y) ≡ units_bytes LowFirst (if b then c ∷ [] else x ∷ y ∷ [])
+low_units : (b : Bool) (c x y : ℕ)
+    → (if b then unit_bytes Utf16Le c else unit_bytes Utf16Le x ++ unit_bytes Utf16Le y)
+    ≡ units_bytes LowFirst (if b then c ∷ [] else x ∷ y ∷ [])
 low_units true c x y = refl
 low_units false c x y = refl
 
-high_units : (b : Bool) (c x y : ℕ) → (if b then unit_bytes Utf16Be c else unit_bytes Utf16Be x ++ unit_bytes Utf16Be y) ≡ units_bytes HighFirst (if b then c ∷ [] else x ∷ y ∷ [])
+high_units : (b : Bool) (c x y : ℕ)
+    → (if b then unit_bytes Utf16Be c else unit_bytes Utf16Be x ++ unit_bytes Utf16Be y)
+    ≡ units_bytes HighFirst (if b then c ∷ [] else x ∷ y ∷ [])
 high_units true c x y = refl
 high_units false c x y = refl
 

@@ -32,10 +32,12 @@ pub printed : (c : ℕ) → is_printable c ≡ true → Fits c
 unfolding is_allowed
 printed c e = grind (arith, nat_tests)
 
-plainly : (unicode : Bool) (before c next : ℕ) → is_special unicode before c next ≡ false → is_printable c ≡ true
+plainly : (unicode : Bool) (before c next : ℕ) → is_special unicode before c next ≡ false
+    → is_printable c ≡ true
 plainly unicode before c next e = not-false (is_printable c) (or_parts _ (not unicode && nat_le 0x80 c) (or_parts _ _ e).0).0
 
-printable : (unicode : Bool) (before : ℕ) (cs : List ℕ) → somewhere (is_special unicode) before cs ≡ false → ArePrintable cs
+printable : (unicode : Bool) (before : ℕ) (cs : List ℕ)
+    → somewhere (is_special unicode) before cs ≡ false → ArePrintable cs
 unfolding somewhere
 printable unicode before [] e = tt
 printable unicode before (c ∷ cs) e =
@@ -64,25 +66,31 @@ record Clear (a : Allowed) (P : Type 0) : Type 0 where
   single : a.single ≡ true → P
   block : a.block ≡ true → P
 
-needs_if : (b : Bool) (s : Style) (P : Type 0) → (b ≡ true → P) → Needs (if b then s else style.Double) P
+needs_if : (b : Bool) (s : Style) (P : Type 0) → (b ≡ true → P)
+    → Needs (if b then s else style.Double) P
 needs_if true s P f = needs_any s P (f refl)
 needs_if false s P f = tt
 
-fits_by : (a : Allowed) (P : Type 0) → Clear a P → (flow b : Bool) → ((if flow then a.flow_plain else a.plain) && b) ≡ true → P
+fits_by : (a : Allowed) (P : Type 0) → Clear a P → (flow b : Bool)
+    → ((if flow then a.flow_plain else a.plain) && b) ≡ true → P
 fits_by a P h true b e = h.flow_plain (and_parts a.flow_plain b e).0
 fits_by a P h false b e = h.plain (and_parts a.plain b e).0
 
 needs_single : (a : Allowed) (P : Type 0) → Clear a P → Needs (single_or a) P
 needs_single a P h = needs_if a.single style.Single P h.single
 
-plain_by : (b : Bool) (a : Allowed) (P : Type 0) → Clear a P → (b ≡ true → P) → Needs (if b then style.Plain else single_or a) P
+plain_by : (b : Bool) (a : Allowed) (P : Type 0) → Clear a P → (b ≡ true → P)
+    → Needs (if b then style.Plain else single_or a) P
 plain_by true a P h f = f refl
 plain_by false a P h f = needs_single a P h
 
-needs_plain : (a : Allowed) (P : Type 0) → Clear a P → (untagged flow simple empty : Bool) → Needs (plain_or a untagged flow simple empty) P
+needs_plain : (a : Allowed) (P : Type 0) → Clear a P → (untagged flow simple empty : Bool)
+    → Needs (plain_or a untagged flow simple empty) P
 needs_plain a P h untagged flow simple empty = plain_by (plain_fits a untagged flow simple empty) a P h (λ e. fits_by a P h flow (not (empty && simple) && untagged) e)
 
-needs_taken : (a : Allowed) (P : Type 0) → Clear a P → (k : yaml_scalar_style_t) (untagged flow simple empty : Bool) → Needs (taken a k untagged flow simple empty) P
+needs_taken : (a : Allowed) (P : Type 0) → Clear a P
+    → (k : yaml_scalar_style_t) (untagged flow simple empty : Bool)
+    → Needs (taken a k untagged flow simple empty) P
 unfolding taken
 needs_taken a P h asked.YAML_ANY_SCALAR_STYLE untagged flow simple empty = needs_plain a P h untagged flow simple empty
 needs_taken a P h asked.YAML_PLAIN_SCALAR_STYLE untagged flow simple empty = needs_plain a P h untagged flow simple empty
@@ -110,7 +118,10 @@ clear unicode [] = record { plain = λ e. tt; flow_plain = λ e. tt; single = λ
 clear unicode (c ∷ cs) = clear_text unicode (c ∷ cs)
 
 -- of the style of a scalar
-pub style_needs : (canonical unicode : Bool) (cs : List ℕ) (k : yaml_scalar_style_t) (untagged flow simple empty : Bool) → Needs (if canonical then style.Double else taken (allowed unicode cs) k untagged flow simple empty) (ArePrintable cs)
+pub style_needs : (canonical unicode : Bool) (cs : List ℕ) (k : yaml_scalar_style_t)
+    (untagged flow simple empty : Bool)
+    → Needs (if canonical then style.Double else taken (allowed unicode cs) k untagged flow simple
+    empty) (ArePrintable cs)
 style_needs true unicode cs k untagged flow simple empty = tt
 style_needs false unicode cs k untagged flow simple empty = needs_taken (allowed unicode cs) (ArePrintable cs) (clear unicode cs) k untagged flow simple empty
 
@@ -141,7 +152,8 @@ tick = graphic 39 (omega arith) (omega arith)
 quote_tame : (quote : Bool) (x : ℕ) → Fits x → Tame (quote_char quote x)
 quote_tame quote x f = both (when (quote && x == 39) (char 39)) (char x) (when_tame (quote && x == 39) (char 39) (char_tame 39 tick)) (char_tame x f)
 
-flow_char_tame : (page : Page) (quote : Bool) (before x : ℕ) (rest : List ℕ) → Fits x → Tame (flow_char page quote before x rest)
+flow_char_tame : (page : Page) (quote : Bool) (before x : ℕ) (rest : List ℕ) → Fits x
+    → Tame (flow_char page quote before x rest)
 unfolding flow_char
 flow_char_tame page quote before x rest f =
     tame_if (is_break x) (when (x == 10 && not (is_break before)) (new_line page.line_break) ▹ value_break page.line_break x) _
@@ -149,12 +161,14 @@ flow_char_tame page quote before x rest f =
     (both (when (is_break before) (line page.line_break page.indentation)) (text_char page quote (cuts_at page before x rest) x) (when_tame (is_break before) (line page.line_break page.indentation) (line_tame page.line_break page.indentation))
     (tame_if (cuts_at page before x rest) (cut page x) (quote_char quote x) (cut_tame page x f) (quote_tame quote x f)))
 
-flow_tame : (page : Page) (quote : Bool) (before : ℕ) (cs : List ℕ) → ArePrintable cs → Tame (flow_body page quote before cs)
+flow_tame : (page : Page) (quote : Bool) (before : ℕ) (cs : List ℕ) → ArePrintable cs
+    → Tame (flow_body page quote before cs)
 unfolding flow_body
 flow_tame page quote before [] h = when_tame (is_break before) (line page.line_break page.indentation) (line_tame page.line_break page.indentation)
 flow_tame page quote before (x ∷ xs) (h, hs) = both (flow_char page quote before x xs) (flow_body page quote x xs) (flow_char_tame page quote before x xs (printed x h)) (flow_tame page quote x xs hs)
 
-block_char_tame : (page : Page) (folded blank : Bool) (before x : ℕ) (rest : List ℕ) → Fits x → Tame (block_char page folded blank before x rest)
+block_char_tame : (page : Page) (folded blank : Bool) (before x : ℕ) (rest : List ℕ) → Fits x
+    → Tame (block_char page folded blank before x rest)
 unfolding block_char
 block_char_tame page folded blank before x rest f =
     tame_if (is_break x) (when (adds_break folded blank before x rest) (new_line page.line_break) ▹ value_break page.line_break x) _
@@ -162,7 +176,8 @@ block_char_tame page folded blank before x rest f =
     (both (when (is_break before) (line page.line_break page.indentation)) (block_text page (cuts_block folded blank before x rest) x) (when_tame (is_break before) (line page.line_break page.indentation) (line_tame page.line_break page.indentation))
     (tame_if (cuts_block folded blank before x rest) (cut page x) (char x) (cut_tame page x f) (char_tame x f)))
 
-block_body_tame : (page : Page) (folded blank : Bool) (before : ℕ) (cs : List ℕ) → ArePrintable cs → Tame (block_body page folded blank before cs)
+block_body_tame : (page : Page) (folded blank : Bool) (before : ℕ) (cs : List ℕ) → ArePrintable cs
+    → Tame (block_body page folded blank before cs)
 unfolding block_body
 block_body_tame page folded blank before [] h = stay_tame
 block_body_tame page folded blank before (x ∷ xs) (h, hs) =
@@ -181,7 +196,8 @@ header_fits : (folded : Bool) → Fits (if folded then 62 else 124)
 header_fits true = graphic 62 (omega arith) (omega arith)
 header_fits false = graphic 124 (omega arith) (omega arith)
 
-block_tame : (page : Page) (digit : ℕ) (folded : Bool) (cs : List ℕ) → ArePrintable cs → Tame (block page digit folded cs)
+block_tame : (page : Page) (digit : ℕ) (folded : Bool) (cs : List ℕ) → ArePrintable cs
+    → Tame (block page digit folded cs)
 block_tame page digit folded cs h =
     let mark = char (if folded then 62 else 124) in
     let sign = when (first cs == 32 || is_break (first cs)) (char (digit_char digit)) in
@@ -191,7 +207,9 @@ block_tame page digit folded cs h =
     (both gap (mark ▹ (sign ▹ tail)) gap_tame (both mark (sign ▹ tail) (char_tame (if folded then 62 else 124) (header_fits folded)) (both sign tail (when_tame (first cs == 32 || is_break (first cs)) (char (digit_char digit)) (char_tame (digit_char digit) (digit_by (nat_lt digit 10) digit refl))) (chomp_tame (chomp true true cs)))))
     (both (new_line page.line_break) (body ▹ after_block) (new_line_tame page.line_break) (both body after_block (block_body_tame page folded true 10 cs h) behind_tame))
 
-pub scalar_text_tame : (page : Page) (digit : ℕ) (flow : Bool) (s : Style) (value : List ℕ) → IsUtf8 value → Needs s (ArePrintable (chars value)) → Tame (scalar_text page digit flow s (chars value))
+pub scalar_text_tame : (page : Page) (digit : ℕ) (flow : Bool) (s : Style) (value : List ℕ)
+    → IsUtf8 value → Needs s (ArePrintable (chars value))
+    → Tame (scalar_text page digit flow s (chars value))
 unfolding scalar_text
 scalar_text_tame page digit flow style.Plain value u h =
     both (when (flow || not (is_empty (chars value))) gap) (flow_body page false 32 (chars value) ▹ after_text) (when_tame (flow || not (is_empty (chars value))) gap gap_tame)

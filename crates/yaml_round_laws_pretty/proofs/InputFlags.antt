@@ -60,12 +60,16 @@ empty_no_mark tag e =
     marked : bytes_eq tag (codes "!") ≡ true → is_lone_mark (Some tag) [] ≡ true
     marked h = rw ((bytes_eq-Decides tag (codes "!")).0 h) lone
 
-tagged : (m : Bool) (anchor : Option (List ℕ)) (tag value : List ℕ) (style : yaml_scalar_style_t) → (m ≡ false → IsNoMark (Some tag)) → IsRight (emit.emitter_event (normalize_scalar m anchor (Some tag) value false false style))
+tagged : (m : Bool) (anchor : Option (List ℕ)) (tag value : List ℕ) (style : yaml_scalar_style_t)
+    → (m ≡ false → IsNoMark (Some tag))
+    → IsRight (emit.emitter_event (normalize_scalar m anchor (Some tag) value false false style))
 tagged true anchor tag value style h = (refl, tt)
 tagged false anchor tag value style h = ((refl, refl), h refl)
 
-named : (b : Bool) (anchor : Option (List ℕ)) (tag value : List ℕ) (style : yaml_scalar_style_t) → bytes_eq tag (codes "!") ≡ b
-    → BodyRight (if b then event.scalar anchor None value true false style else event.scalar anchor (Some tag) value false false style)
+named : (b : Bool) (anchor : Option (List ℕ)) (tag value : List ℕ) (style : yaml_scalar_style_t)
+    → bytes_eq tag (codes "!") ≡ b
+    → BodyRight (if b then event.scalar anchor None value true false style else event.scalar anchor
+    (Some tag) value false false style)
 named true anchor tag value style e = (refl, tt)
 named false anchor tag value style e = tagged (is_lone_mark (Some tag) value) anchor tag value style (λ _. e)
 
@@ -92,19 +96,23 @@ SettlesRight (refused f) = Unit {0}
 SettlesRight (gave b ds) = BodyRight b
 SettlesRight (noted ds) = Unit {0}
 
-resolved_right : (o anchor : Option (List ℕ)) (k : Shape) (from start : yaml_mark_t) (ds : Directives) → SettlesRight (with_resolved o anchor k from start ds)
+resolved_right : (o anchor : Option (List ℕ)) (k : Shape) (from start : yaml_mark_t)
+    (ds : Directives) → SettlesRight (with_resolved o anchor k from start ds)
 resolved_right None anchor k from start ds = tt
 resolved_right (Some tag) anchor k from start ds = node_right anchor (Some tag) k
 
-known_right : (known : Bool) (ds : Directives) (f : Fault) → SettlesRight (if known then noted ds else refused f)
+known_right : (known : Bool) (ds : Directives) (f : Fault)
+    → SettlesRight (if known then noted ds else refused f)
 known_right true ds f = tt
 known_right false ds f = tt
 
-version_right : (o : Option yaml_version_directive_t) (tags : List TagDirective) (x y : ℤ) (from : yaml_mark_t) → SettlesRight (with_version o tags x y from)
+version_right : (o : Option yaml_version_directive_t) (tags : List TagDirective) (x y : ℤ)
+    (from : yaml_mark_t) → SettlesRight (with_version o tags x y from)
 version_right (Some v) tags x y from = tt
 version_right None tags x y from = known_right (is_known_version x y) _ _
 
-handle_right : (o : Option (List ℕ)) (ds : Directives) (handle prefix : List ℕ) (from : yaml_mark_t) → SettlesRight (with_tag o ds handle prefix from)
+handle_right : (o : Option (List ℕ)) (ds : Directives) (handle prefix : List ℕ) (from : yaml_mark_t)
+    → SettlesRight (with_tag o ds handle prefix from)
 handle_right (Some other) ds handle prefix from = tt
 handle_right None ds handle prefix from = tt
 
@@ -121,7 +129,8 @@ whole_right event.sequence_end h = tt
 whole_right (event.mapping_start anchor tag implicit style) h = absurd h
 whole_right event.mapping_end h = tt
 
-settled_right : (b : RawEventBody) (from : yaml_mark_t) (ds : Directives) → IsSpelledItem b → SettlesRight (settle_body b from ds)
+settled_right : (b : RawEventBody) (from : yaml_mark_t) (ds : Directives) → IsSpelledItem b
+    → SettlesRight (settle_body b from ds)
 settled_right (item.event body) from ds h = whole_right body h
 settled_right (item.version_directive x y) from ds h = version_right ds.version ds.tags x y from
 settled_right (item.tag_directive handle prefix) from ds h = handle_right (directive_for handle ds.tags) ds handle prefix from
@@ -131,17 +140,21 @@ settled_right (item.node anchor (Some tag) k) from ds h = resolved_right (resolv
 
 -- ---- the events of an input
 
-on_right : (c : Settled) (g : Given) (k : Directives → Reading) → SettlesRight c → ((ds : Directives) → AreRight (emitter_events false (k ds).events)) → AreRight (emitter_events false (read_on c g.0 g.1 k).events)
+on_right : (c : Settled) (g : Given) (k : Directives → Reading) → SettlesRight c
+    → ((ds : Directives) → AreRight (emitter_events false (k ds).events))
+    → AreRight (emitter_events false (read_on c g.0 g.1 k).events)
 on_right (refused f) g k h more = tt
 on_right (gave b ds) g k h more = (h, more ds)
 on_right (noted ds) g k h more = more ds
 
-reading_right : (gs : List Given) (f : Option Fault) (ds : Directives) → GivenSpelled gs → AreRight (emitter_events false (reading gs f ds).events)
+reading_right : (gs : List Given) (f : Option Fault) (ds : Directives) → GivenSpelled gs
+    → AreRight (emitter_events false (reading gs f ds).events)
 unfolding reading
 reading_right [] f ds h = tt
 reading_right (g ∷ gs) f ds h = on_right (settle g.0 ds) g (λ ds'. reading gs f ds') (settled_right g.0.body g.0.from ds h.0) (λ ds'. reading_right gs f ds' h.1)
 
-cut_spelled : (fault : Option Fault) (ts : List Token) → AreSpelled ts → AreSpelled (cut fault ts).tokens
+cut_spelled : (fault : Option Fault) (ts : List Token) → AreSpelled ts
+    → AreSpelled (cut fault ts).tokens
 cut_spelled fault [] h = tt
 cut_spelled fault (t ∷ ts) h =
     elim (cases_Bool (spells_text t.body)) [
@@ -149,10 +162,12 @@ cut_spelled fault (t ∷ ts) h =
       | inr e ↦ rw e tt
     ]
 
-tokens_spelled : (from : yaml_encoding_t) (input : List ℕ) → AreSpelled (tokens_of from input).tokens
+tokens_spelled : (from : yaml_encoding_t) (input : List ℕ)
+    → AreSpelled (tokens_of from input).tokens
 tokens_spelled from input = cut_spelled (scanned from input).fault (scanned from input).tokens (scanned_spelled from input)
 
-input_right : (from : yaml_encoding_t) (input : List ℕ) → AreRight (emitter_events false (events_of from input))
+input_right : (from : yaml_encoding_t) (input : List ℕ)
+    → AreRight (emitter_events false (events_of from input))
 unfolding read
 input_right from input =
     let ts = (tokens_of from input).tokens in
@@ -164,7 +179,8 @@ input_right from input =
 mutual
   unfolding emit.node_events emit.items_events emit.pairs_events
 
-  node_flags : (n : emit.Node) (es : List emit.Event) → AreRight (emit.node_events n es) → (HasFlags n × HasNoMark n) × AreRight es
+  node_flags : (n : emit.Node) (es : List emit.Event) → AreRight (emit.node_events n es)
+      → (HasFlags n × HasNoMark n) × AreRight es
   node_flags (emit.alias_node name) es (h, hs) = ((tt, tt), hs)
   node_flags (emit.scalar_node x) es (h, hs) = (h, hs)
   node_flags (emit.sequence_node o items) es (h, hs) =
@@ -174,14 +190,16 @@ mutual
       let ((flags, fine), (last, rest)) = pairs_flags pairs (emit.mapping_end ∷ es) hs in
       (((h, flags), fine), rest)
 
-  items_flags : (ns : emit.Nodes) (es : List emit.Event) → AreRight (emit.items_events ns es) → (HaveFlags ns × HaveNoMark ns) × AreRight es
+  items_flags : (ns : emit.Nodes) (es : List emit.Event) → AreRight (emit.items_events ns es)
+      → (HaveFlags ns × HaveNoMark ns) × AreRight es
   items_flags emit.no_nodes es hs = ((tt, tt), hs)
   items_flags (emit.node x xs) es hs =
       let ((f, g), more) = node_flags x (emit.items_events xs es) hs in
       let ((fs, gs), rest) = items_flags xs es more in
       (((f, fs), (g, gs)), rest)
 
-  pairs_flags : (ps : emit.Pairs) (es : List emit.Event) → AreRight (emit.pairs_events ps es) → (PairsHaveFlags ps × PairsHaveNoMark ps) × AreRight es
+  pairs_flags : (ps : emit.Pairs) (es : List emit.Event) → AreRight (emit.pairs_events ps es)
+      → (PairsHaveFlags ps × PairsHaveNoMark ps) × AreRight es
   pairs_flags emit.no_pairs es hs = ((tt, tt), hs)
   pairs_flags (emit.pair k v ps) es hs =
       let ((fk, gk), behind) = node_flags k (emit.node_events v (emit.pairs_events ps es)) hs in
@@ -189,7 +207,8 @@ mutual
       let ((fs, gs), rest) = pairs_flags ps es more in
       (((fk, fv, fs), (gk, gv, gs)), rest)
 
-documents_flags : (ds : List emit.Document) → AreRight (emit.documents_events ds) → HaveReaderFlags ds × HaveNoMarks ds
+documents_flags : (ds : List emit.Document) → AreRight (emit.documents_events ds)
+    → HaveReaderFlags ds × HaveNoMarks ds
 unfolding emit.documents_events
 documents_flags [] hs = (tt, tt)
 documents_flags (d ∷ ds) (start, hs) =

@@ -22,32 +22,38 @@ pub tail : (c : Bool) (e : emit.Event) (es : List emit.Event) → Right c (e ∷
 unfolding own_problems
 tail c e es h = or_second (own_problem c e) (own_problems c es) h
 
-pub head : (c : Bool) (e : emit.Event) (es : List emit.Event) → Right c (e ∷ es) → own_problem c e ≡ None
+pub head : (c : Bool) (e : emit.Event) (es : List emit.Event) → Right c (e ∷ es)
+    → own_problem c e ≡ None
 unfolding own_problems
 head c e es h = or_first (own_problem c e) (own_problems c es) h
 
 mutual
   unfolding emit.node_events emit.items_events emit.pairs_events
 
-  node_right : (c : Bool) (n : emit.Node) (es : List emit.Event) → Right c (emit.node_events n es) → Right c es
+  node_right : (c : Bool) (n : emit.Node) (es : List emit.Event) → Right c (emit.node_events n es)
+      → Right c es
   node_right c (emit.alias_node name) es h = tail c (emit.alias name) es h
   node_right c (emit.scalar_node x) es h = tail c (emit.scalar x) es h
   node_right c (emit.sequence_node o items) es h = tail c emit.sequence_end es (items_right c items (emit.sequence_end ∷ es) (tail c (emit.sequence_start o) _ h))
   node_right c (emit.mapping_node o pairs) es h = tail c emit.mapping_end es (pairs_right c pairs (emit.mapping_end ∷ es) (tail c (emit.mapping_start o) _ h))
 
-  items_right : (c : Bool) (ns : emit.Nodes) (es : List emit.Event) → Right c (emit.items_events ns es) → Right c es
+  items_right : (c : Bool) (ns : emit.Nodes) (es : List emit.Event)
+      → Right c (emit.items_events ns es) → Right c es
   items_right c emit.no_nodes es h = h
   items_right c (emit.node x xs) es h = items_right c xs es (node_right c x (emit.items_events xs es) h)
 
-  pairs_right : (c : Bool) (ps : emit.Pairs) (es : List emit.Event) → Right c (emit.pairs_events ps es) → Right c es
+  pairs_right : (c : Bool) (ps : emit.Pairs) (es : List emit.Event)
+      → Right c (emit.pairs_events ps es) → Right c es
   pairs_right c emit.no_pairs es h = h
   pairs_right c (emit.pair k v ps) es h = pairs_right c ps es (node_right c v (emit.pairs_events ps es) (node_right c k (emit.node_events v (emit.pairs_events ps es)) h))
 
-pub opening_right : (c : Bool) (o : emit.Opening) → own_problem c (emit.document_start o) ≡ None → opening_problem o ≡ None
+pub opening_right : (c : Bool) (o : emit.Opening) → own_problem c (emit.document_start o) ≡ None
+    → opening_problem o ≡ None
 unfolding event_problem last_problem
 opening_right c o h = h
 
-documents_parsable : (c : Bool) (ds : List emit.Document) → Right c (emit.documents_events ds) → HaveNoMarks ds → AreParsable ds
+documents_parsable : (c : Bool) (ds : List emit.Document) → Right c (emit.documents_events ds)
+    → HaveNoMarks ds → AreParsable ds
 unfolding emit.documents_events
 documents_parsable c [] h fine = tt
 documents_parsable c (d ∷ ds) h (g, fine) =

@@ -54,7 +54,8 @@ directives_text : (ds : List TagDirective) → AreUtf8 ds → HaveUtf8 ds
 directives_text [] u = tt
 directives_text (d ∷ ds) ((h, u), us) = (u, directives_text ds us)
 
-scalar_text : (lone : Bool) (anchor tag : Option (List ℕ)) (value : List ℕ) (plain quoted : Bool) (style : yaml_scalar_style_t) → IsUtf8Option tag → IsUtf8 value
+scalar_text : (lone : Bool) (anchor tag : Option (List ℕ)) (value : List ℕ) (plain quoted : Bool)
+    (style : yaml_scalar_style_t) → IsUtf8Option tag → IsUtf8 value
     → Texts (emit.emitter_event (normalize_scalar lone anchor tag value plain quoted style))
 scalar_text true anchor tag value plain quoted style t u = (tt, u)
 scalar_text false anchor tag value plain quoted style t u = (option_text tag t, u)
@@ -86,7 +87,8 @@ good (e ∷ es) r (u, us) = ((head false e es r, u), good es (tail false e es r)
 
 -- ---- names and tags
 
-two_tests : (p q : Problem) (e l : Bool) → (if e then Some p else if l then None else Some q) ≡ None → (e ≡ false) × (l ≡ true)
+two_tests : (p q : Problem) (e l : Bool) → (if e then Some p else if l then None else Some q) ≡ None
+    → (e ≡ false) × (l ≡ true)
 two_tests p q true l h = absurd (cc)
 two_tests p q false true h = (refl, refl)
 two_tests p q false false h = absurd (cc)
@@ -102,26 +104,31 @@ alphas_are : (bs : List ℕ) → list_all is_alpha_byte bs ≡ are_alphas bs
 alphas_are [] = refl
 alphas_are (b ∷ bs) = ap (λ (more : Bool). is_alpha_byte b && more) (alphas_are bs)
 
-name_good : (p q : Problem) (name : List ℕ) → name_problem p q name ≡ None → text.IsWritableName name × bytes.IsName name
+name_good : (p q : Problem) (name : List ℕ) → name_problem p q name ≡ None
+    → text.IsWritableName name × bytes.IsName name
 name_good p q name h =
     let (some, alphas) = two_tests p q (length name == 0) (list_all is_alpha_byte name) h in
     ((positive (length name) some, sym (alphas_are name) ∙ alphas), alphas)
 
-anchor_good : (anchor : Option (List ℕ)) → anchor_problem anchor ≡ None → text.IsWritableAnchor anchor × bytes.IsNameOption anchor
+anchor_good : (anchor : Option (List ℕ)) → anchor_problem anchor ≡ None
+    → text.IsWritableAnchor anchor × bytes.IsNameOption anchor
 anchor_good None h = (tt, tt)
 anchor_good (Some name) h = name_good _ _ name h
 
-tag_good : (tag written : Option (List ℕ)) → written ≡ tag → tag_problem written ≡ None → bytes.IsTextOption tag → text.IsWritableTag tag
+tag_good : (tag written : Option (List ℕ)) → written ≡ tag → tag_problem written ≡ None
+    → bytes.IsTextOption tag → text.IsWritableTag tag
 tag_good None written w h u = tt
 tag_good (Some t) written w h u = (positive (length t) (one_test _ (length t == 0) (sym (ap (λ (o : Option (List ℕ)). tag_problem o) w) ∙ h)), u)
 
 -- ---- nodes
 
-alias_good : (name : List ℕ) → IsGood (emit.alias name) → text.IsWritableName name × bytes.IsName name
+alias_good : (name : List ℕ) → IsGood (emit.alias name)
+    → text.IsWritableName name × bytes.IsName name
 unfolding event_problem last_problem
 alias_good name (h, u) = name_good _ _ name (or_first (event_problem false (emit.alias name)) None h)
 
-scalar_good : (x : emit.Scalar) → HasFlags (emit.scalar_node x) → IsGood (emit.scalar x) → text.IsWritable (emit.scalar_node x) × bytes.IsSpellable (emit.scalar_node x)
+scalar_good : (x : emit.Scalar) → HasFlags (emit.scalar_node x) → IsGood (emit.scalar x)
+    → text.IsWritable (emit.scalar_node x) × bytes.IsSpellable (emit.scalar_node x)
 unfolding event_problem
 scalar_good x flags (h, (t, u)) =
     let own = or_first (event_problem false (emit.scalar x)) (last_problem (emit.scalar x)) h in
@@ -129,24 +136,32 @@ scalar_good x flags (h, (t, u)) =
     let tag = tag_good x.tag (scalar_tag false x) (written_is x.tag x.plain x.quoted flags) (or_second (anchor_problem x.anchor) (tag_problem (scalar_tag false x)) own) t in
     ((a, tag, u), (b, t, u))
 
-start_good : (o : emit.Start) → start_tag false o ≡ o.tag → or_else (anchor_problem o.anchor) (tag_problem (start_tag false o)) ≡ None → bytes.IsTextOption o.tag
-    → (text.IsWritableAnchor o.anchor × text.IsWritableTag o.tag) × (bytes.IsNameOption o.anchor × bytes.IsTextOption o.tag)
+start_good : (o : emit.Start) → start_tag false o ≡ o.tag
+    → or_else (anchor_problem o.anchor) (tag_problem (start_tag false o)) ≡ None
+    → bytes.IsTextOption o.tag
+    → (text.IsWritableAnchor o.anchor × text.IsWritableTag o.tag)
+    × (bytes.IsNameOption o.anchor × bytes.IsTextOption o.tag)
 start_good o w own t =
     let (a, b) = anchor_good o.anchor (or_first (anchor_problem o.anchor) (tag_problem (start_tag false o)) own) in
     ((a, tag_good o.tag (start_tag false o) w (or_second (anchor_problem o.anchor) (tag_problem (start_tag false o)) own) t), (b, t))
 
-sequence_good : (o : emit.Start) → start_tag false o ≡ o.tag → IsGood (emit.sequence_start o) → (text.IsWritableAnchor o.anchor × text.IsWritableTag o.tag) × (bytes.IsNameOption o.anchor × bytes.IsTextOption o.tag)
+sequence_good : (o : emit.Start) → start_tag false o ≡ o.tag → IsGood (emit.sequence_start o)
+    → (text.IsWritableAnchor o.anchor × text.IsWritableTag o.tag)
+    × (bytes.IsNameOption o.anchor × bytes.IsTextOption o.tag)
 unfolding event_problem last_problem
 sequence_good o w (h, t) = start_good o w (or_first (event_problem false (emit.sequence_start o)) None h) t
 
-mapping_good : (o : emit.Start) → start_tag false o ≡ o.tag → IsGood (emit.mapping_start o) → (text.IsWritableAnchor o.anchor × text.IsWritableTag o.tag) × (bytes.IsNameOption o.anchor × bytes.IsTextOption o.tag)
+mapping_good : (o : emit.Start) → start_tag false o ≡ o.tag → IsGood (emit.mapping_start o)
+    → (text.IsWritableAnchor o.anchor × text.IsWritableTag o.tag)
+    × (bytes.IsNameOption o.anchor × bytes.IsTextOption o.tag)
 unfolding event_problem last_problem
 mapping_good o w (h, t) = start_good o w (or_first (event_problem false (emit.mapping_start o)) None h) t
 
 mutual
   unfolding emit.node_events emit.items_events emit.pairs_events
 
-  node_good : (n : emit.Node) → HasFlags n → (es : List emit.Event) → AreGood (emit.node_events n es) → (text.IsWritable n × bytes.IsSpellable n) × AreGood es
+  node_good : (n : emit.Node) → HasFlags n → (es : List emit.Event)
+      → AreGood (emit.node_events n es) → (text.IsWritable n × bytes.IsSpellable n) × AreGood es
   node_good (emit.alias_node name) flags es (g, gs) = (alias_good name g, gs)
   node_good (emit.scalar_node x) flags es (g, gs) = (scalar_good x flags g, gs)
   node_good (emit.sequence_node o items) (f, flags) es (g, gs) =
@@ -158,14 +173,18 @@ mutual
       let ((w, s), (last, rest)) = pairs_good pairs flags (emit.mapping_end ∷ es) gs in
       (((a, t, w), (b, u, s)), rest)
 
-  items_good : (ns : emit.Nodes) → HaveFlags ns → (es : List emit.Event) → AreGood (emit.items_events ns es) → (text.AreItemsWritable ns × bytes.AreSpellable ns) × AreGood es
+  items_good : (ns : emit.Nodes) → HaveFlags ns → (es : List emit.Event)
+      → AreGood (emit.items_events ns es)
+      → (text.AreItemsWritable ns × bytes.AreSpellable ns) × AreGood es
   items_good emit.no_nodes flags es gs = ((tt, tt), gs)
   items_good (emit.node x xs) (f, flags) es gs =
       let ((w, s), more) = node_good x f (emit.items_events xs es) gs in
       let ((ws, ss), rest) = items_good xs flags es more in
       (((w, ws), (s, ss)), rest)
 
-  pairs_good : (ps : emit.Pairs) → PairsHaveFlags ps → (es : List emit.Event) → AreGood (emit.pairs_events ps es) → (text.ArePairsWritable ps × bytes.PairsAreSpellable ps) × AreGood es
+  pairs_good : (ps : emit.Pairs) → PairsHaveFlags ps → (es : List emit.Event)
+      → AreGood (emit.pairs_events ps es)
+      → (text.ArePairsWritable ps × bytes.PairsAreSpellable ps) × AreGood es
   pairs_good emit.no_pairs flags es gs = ((tt, tt), gs)
   pairs_good (emit.pair k v ps) (fk, fv, flags) es gs =
       let ((wk, sk), behind) = node_good k fk (emit.node_events v (emit.pairs_events ps es)) gs in
@@ -180,22 +199,26 @@ record Opened (o : emit.Opening) : Type 0 where
   right : opening_problem o ≡ None
   utf8 : HaveUtf8 o.directives
 
-readable_tag : (o : emit.Opening) → Opened o → (tag : Option (List ℕ)) → text.IsWritableTag tag → IsReadableTag o.directives tag
+readable_tag : (o : emit.Opening) → Opened o → (tag : Option (List ℕ)) → text.IsWritableTag tag
+    → IsReadableTag o.directives tag
 readable_tag o h None t = tt
 readable_tag o h (Some t) (some, utf8) = written_readable o h.right h.utf8 t utf8 some
 
 mutual
-  node_tagged : (o : emit.Opening) → Opened o → (n : emit.Node) → text.IsWritable n → IsTagged o.directives n
+  node_tagged : (o : emit.Opening) → Opened o → (n : emit.Node) → text.IsWritable n
+      → IsTagged o.directives n
   node_tagged o h (emit.alias_node name) w = tt
   node_tagged o h (emit.scalar_node x) (a, t, v) = readable_tag o h x.tag t
   node_tagged o h (emit.sequence_node q items) (a, t, w) = (readable_tag o h q.tag t, items_tagged o h items w)
   node_tagged o h (emit.mapping_node q pairs) (a, t, w) = (readable_tag o h q.tag t, pairs_tagged o h pairs w)
 
-  items_tagged : (o : emit.Opening) → Opened o → (ns : emit.Nodes) → text.AreItemsWritable ns → AreTagged o.directives ns
+  items_tagged : (o : emit.Opening) → Opened o → (ns : emit.Nodes) → text.AreItemsWritable ns
+      → AreTagged o.directives ns
   items_tagged o h emit.no_nodes w = tt
   items_tagged o h (emit.node x xs) (w, ws) = (node_tagged o h x w, items_tagged o h xs ws)
 
-  pairs_tagged : (o : emit.Opening) → Opened o → (ps : emit.Pairs) → text.ArePairsWritable ps → PairsAreTagged o.directives ps
+  pairs_tagged : (o : emit.Opening) → Opened o → (ps : emit.Pairs) → text.ArePairsWritable ps
+      → PairsAreTagged o.directives ps
   pairs_tagged o h emit.no_pairs w = tt
   pairs_tagged o h (emit.pair k v ps) (wk, wv, ws) = (node_tagged o h k wk, node_tagged o h v wv, pairs_tagged o h ps ws)
 
@@ -205,7 +228,8 @@ prefixes : (ds : List TagDirective) → HaveUtf8 ds → bytes.HavePrefixes ds
 prefixes [] h = tt
 prefixes (d ∷ ds) (h, hs) = (h, prefixes ds hs)
 
-documents_good : (ds : List emit.Document) → HaveReaderFlags ds → AreGood (emit.documents_events ds) → text.AreWritable ds × bytes.DocumentsAreSpellable ds × HaveTexts ds
+documents_good : (ds : List emit.Document) → HaveReaderFlags ds → AreGood (emit.documents_events ds)
+    → text.AreWritable ds × bytes.DocumentsAreSpellable ds × HaveTexts ds
 unfolding emit.documents_events
 documents_good [] flags gs = (tt, tt, tt)
 documents_good (d ∷ ds) (f, flags) ((own, utf8), gs) =

@@ -48,11 +48,13 @@ most : (n : ℤ) → settled_indent n ≤ 9
 most (pos n) = nine_at_most n
 most (negsuc n) = nine_at_most 0
 
-ending_is : (from : yaml_encoding_t) (input : List ℕ) → ending_of from input ≡ (parsed (tokens_of from input)).ending
+ending_is : (from : yaml_encoding_t) (input : List ℕ)
+    → ending_of from input ≡ (parsed (tokens_of from input)).ending
 unfolding read
 ending_is from input = refl
 
-contents_are : (from : yaml_encoding_t) (input : List ℕ) → contents (events_of from input) ≡ contents (parsed (tokens_of from input)).events
+contents_are : (from : yaml_encoding_t) (input : List ℕ)
+    → contents (events_of from input) ≡ contents (parsed (tokens_of from input)).events
 unfolding read
 contents_are from input = refl
 
@@ -60,11 +62,16 @@ contents_are from input = refl
 record Taken (w : RequestedSettings) (from : yaml_encoding_t) (input : List ℕ) (x : Encoding) (whole : List Item) (stream : IsStream w x (emitter_events false (events_of from input)) whole) : Type 0 where
   tokens : List Token
   encoding : yaml_encoding_t
-  same : token_bodies tokens ≡ token.stream_start encoding ∷ stream_bodies (settled w stream.encoding) stream.documents
+  same : token_bodies tokens ≡ token.stream_start encoding
+      ∷ stream_bodies (settled w stream.encoding) stream.documents
   ending : ending_of YAML_ANY_ENCODING (encode x whole) ≡ (parsed_of tokens).ending
-  says : contents (events_of YAML_ANY_ENCODING (encode x whole)) ≡ contents (parsed_of tokens).events
+  says : contents (events_of YAML_ANY_ENCODING (encode x whole))
+      ≡ contents (parsed_of tokens).events
 
-taken : PrettyTextIsRead → (w : RequestedSettings) → w.canonical ≡ false → (from : yaml_encoding_t) (input : List ℕ) (x : Encoding) (whole : List Item) → (stream : IsStream w x (emitter_events false (events_of from input)) whole) → Taken w from input x whole stream
+taken : PrettyTextIsRead → (w : RequestedSettings) → w.canonical ≡ false
+    → (from : yaml_encoding_t) (input : List ℕ) (x : Encoding) (whole : List Item)
+    → (stream : IsStream w x (emitter_events false (events_of from input)) whole)
+    → Taken w from input x whole stream
 taken law w pretty from input x whole stream =
     let s = settled w stream.encoding in
     let ds = stream.documents in
@@ -85,8 +92,11 @@ taken law w pretty from input x whole stream =
       says = ap (λ (b : List ℕ). contents (events_of YAML_ANY_ENCODING b)) is ∙ contents_are YAML_ANY_ENCODING bytes ∙ ap (λ (t : Remaining). contents (parsed t).events) passed;
     }
 
-begins_so : (w : RequestedSettings) → w.canonical ≡ false → (from : yaml_encoding_t) (input : List ℕ) (x : Encoding) (whole : List Item) → (stream : IsStream w x (emitter_events false (events_of from input)) whole)
-    → starts_with_nothing (settled w stream.encoding) stream.documents ≡ begins_with_nothing (emitter_events false (events_of from input))
+begins_so : (w : RequestedSettings) → w.canonical ≡ false
+    → (from : yaml_encoding_t) (input : List ℕ) (x : Encoding) (whole : List Item)
+    → (stream : IsStream w x (emitter_events false (events_of from input)) whole)
+    → starts_with_nothing (settled w stream.encoding) stream.documents
+    ≡ begins_with_nothing (emitter_events false (events_of from input))
 begins_so w pretty from input x whole stream =
     let (flags, fine) = inputs_flags from input stream.encoding stream.documents stream.same in
     sym (is_told (settled w stream.encoding) pretty stream.encoding stream.documents flags) ∙ ap (λ (es : List Event). begins_with_nothing es) (sym stream.same)

@@ -23,14 +23,16 @@ scalar_says : (x : Scalar) → IsJsonScalar x → says_nothing x ≡ false
 scalar_says x (inl is) = ap (λ (p : Bool). is_bare x.anchor x.tag && (is_empty x.value && (p && is_asked_plain x.style))) is.plain ∙ ap (λ (b : Bool). is_bare x.anchor x.tag && b) (and-false (is_empty x.value)) ∙ and-false (is_bare x.anchor x.tag)
 scalar_says x (inr is) = ap (λ (e : Bool). is_bare x.anchor x.tag && (e && (x.plain && is_asked_plain x.style))) (some_value x.value is.value) ∙ and-false (is_bare x.anchor x.tag)
 
-root_begins : (x : yaml_encoding_t) (o : Opening) (n : Node) (es : List Event) → IsJsonNode n → begins_with_nothing (stream_start x ∷ document_start o ∷ node_events n es) ≡ false
+root_begins : (x : yaml_encoding_t) (o : Opening) (n : Node) (es : List Event) → IsJsonNode n
+    → begins_with_nothing (stream_start x ∷ document_start o ∷ node_events n es) ≡ false
 unfolding node_events
 root_begins x o (alias_node name) es is = refl
 root_begins x o (scalar_node v) es is = ap (λ (b : Bool). (o.implicit && not (is_directed o)) && b) (scalar_says v is) ∙ and-false (o.implicit && not (is_directed o))
 root_begins x o (sequence_node q items) es is = refl
 root_begins x o (mapping_node q pairs) es is = refl
 
-document_begins : (x : yaml_encoding_t) (d : Document) → IsJsonNode d.root → begins_with_nothing (stream_events x (d ∷ [])) ≡ false
+document_begins : (x : yaml_encoding_t) (d : Document) → IsJsonNode d.root
+    → begins_with_nothing (stream_events x (d ∷ [])) ≡ false
 unfolding documents_events
 document_begins x d is = root_begins x d.opening d.root _ is
 

@@ -24,12 +24,14 @@ deep_tame false t h = h
 checked_tame : (n : ℕ) → Tame (checked n)
 checked_tame n c rest h = deep_tame (nat_lt MOST n) (rest c) (h c)
 
-kept_text : (canonical left_out : Bool) (t : Option (List ℕ)) → IsTextOption t → IsTextOption (kept_tag canonical left_out t)
+kept_text : (canonical left_out : Bool) (t : Option (List ℕ)) → IsTextOption t
+    → IsTextOption (kept_tag canonical left_out t)
 kept_text true left_out t h = h
 kept_text false true t h = tt
 kept_text false false t h = h
 
-properties_tame : (p : Context) → TagsFit p.directives → (anchor tag : Option (List ℕ)) → IsNameOption anchor → IsTextOption tag → Tame (properties_text p anchor tag)
+properties_tame : (p : Context) → TagsFit p.directives → (anchor tag : Option (List ℕ))
+    → IsNameOption anchor → IsTextOption tag → Tame (properties_text p anchor tag)
 properties_tame p fit anchor tag ha ht = both (anchor_text anchor) (tag_text p tag) (anchor_tame anchor ha) (tag_tame p fit tag ht)
 
 indicator_tame : (x : ℕ) → Fits x → Tame (indicator x)
@@ -40,17 +42,21 @@ indicator_tame x f = both gap _ gap_tame (λ c rest h. letter_allowed x (rest _)
 abbrev NodeTame : Context → Node → Type 0
 NodeTame p n = (at : Spot) → Tame (node_layout p at n)
 
-alias_tame : (p : Context) (name : List ℕ) → IsSpellable (alias_node name) → NodeTame p (alias_node name)
+alias_tame : (p : Context) (name : List ℕ) → IsSpellable (alias_node name)
+    → NodeTame p (alias_node name)
 unfolding node_layout alias_layout
 alias_tame p name h at =
     both (word (42 ∷ name)) (when (is_simple_part at.part) (char 32)) (word_tame (42 ∷ name) (graphic 42 (omega arith) (omega arith), names_fit name h)) (when_tame (is_simple_part at.part) (char 32) (char_tame 32 is_32))
 
-text_by : (p : Context) (at : Spot) (x : Scalar) → IsUtf8 x.value → Tame (scalar_text (page_at p.settings at) p.settings.indent at.flow (style_of p at x) (chars x.value))
+text_by : (p : Context) (at : Spot) (x : Scalar) → IsUtf8 x.value
+    → Tame (scalar_text (page_at p.settings at) p.settings.indent at.flow (style_of p at x)
+    (chars x.value))
 unfolding style_of
 text_by p at x u =
     scalar_text_tame (page_at p.settings at) p.settings.indent at.flow _ x.value u (style_needs p.settings.canonical p.settings.unicode (chars x.value) x.style (has (scalar_tag false x) || x.plain) at.flow (is_simple_part at.part) (length x.value == 0))
 
-scalar_tame : (p : Context) → TagsFit p.directives → (x : Scalar) → IsSpellable (scalar_node x) → NodeTame p (scalar_node x)
+scalar_tame : (p : Context) → TagsFit p.directives → (x : Scalar) → IsSpellable (scalar_node x)
+    → NodeTame p (scalar_node x)
 unfolding node_layout scalar_layout
 scalar_tame p fit x (ha, ht, hv) at =
     let tag = scalar_tag p.settings.canonical x in
@@ -71,7 +77,8 @@ PairsTame p ps = (flow : Bool) (n : ℕ) (fresh : Bool) → Tame (pairs_layout p
 indented_tame : (f : Cursor → ℕ) (g : ℕ → Layout) → ((n : ℕ) → Tame (g n)) → Tame (indented f g)
 indented_tame f g h c rest r = h (f c) c rest r
 
-sequence_tame : (p : Context) → TagsFit p.directives → (q : Start) (ns : Nodes) → IsNameOption q.anchor → IsTextOption q.tag → ItemsTame p ns → NodeTame p (sequence_node q ns)
+sequence_tame : (p : Context) → TagsFit p.directives → (q : Start) (ns : Nodes)
+    → IsNameOption q.anchor → IsTextOption q.tag → ItemsTame p ns → NodeTame p (sequence_node q ns)
 unfolding node_layout
 sequence_tame p fit q ns ha ht inner at =
     let f = is_flow p.settings at q (are_none ns) in
@@ -81,7 +88,8 @@ sequence_tame p fit q ns ha ht inner at =
     (both (when f (opener 91)) (indented (indent_of p.settings at true f) body) (when_tame f (opener 91) (opener_tame 91 (graphic 91 (omega arith) (omega arith))))
     (indented_tame (indent_of p.settings at true f) body (λ n. both (checked n) (items_layout p f n true ns) (checked_tame n) (inner f n true))))
 
-mapping_tame : (p : Context) → TagsFit p.directives → (q : Start) (ps : Pairs) → IsNameOption q.anchor → IsTextOption q.tag → PairsTame p ps → NodeTame p (mapping_node q ps)
+mapping_tame : (p : Context) → TagsFit p.directives → (q : Start) (ps : Pairs)
+    → IsNameOption q.anchor → IsTextOption q.tag → PairsTame p ps → NodeTame p (mapping_node q ps)
 unfolding node_layout
 mapping_tame p fit q ps ha ht inner at =
     let f = is_flow p.settings at q (are_no_pairs ps) in
@@ -108,13 +116,15 @@ turned_tame : (s : Settings) (n : ℕ) → Tame (turned s n)
 unfolding turned
 turned_tame s n = turned_by s.canonical s n
 
-closer_tame : (s : Settings) (flow : Bool) (n : ℕ) (fresh : Bool) (x : ℕ) → Fits x → Tame (closer s flow n fresh x)
+closer_tame : (s : Settings) (flow : Bool) (n : ℕ) (fresh : Bool) (x : ℕ) → Fits x
+    → Tame (closer s flow n fresh x)
 unfolding closer
 closer_tame s true n fresh x f =
     both (when (s.canonical && not fresh) (char 44 ▹ line_at s _)) (char x) (when_tame (s.canonical && not fresh) (char 44 ▹ line_at s _) (both (char 44) (line_at s _) (char_tame 44 comma_fits) (line_tame s.line_break _))) (char_tame x f)
 closer_tame s false n fresh x f = stay_tame
 
-before_item_tame : (s : Settings) (flow : Bool) (n : ℕ) (fresh : Bool) → Tame (before_item s flow n fresh)
+before_item_tame : (s : Settings) (flow : Bool) (n : ℕ) (fresh : Bool)
+    → Tame (before_item s flow n fresh)
 unfolding before_item
 before_item_tame s true n fresh = both (comma fresh) (turned s n) (comma_tame fresh) (turned_tame s n)
 before_item_tame s false n fresh = both (line_at s n) (indicator 45) (line_tame s.line_break n) (indicator_tame 45 (graphic 45 (omega arith) (omega arith)))
@@ -123,15 +133,18 @@ question_tame : (flow : Bool) → Tame (question flow)
 question_tame true = word_tame (63 ∷ []) (graphic 63 (omega arith) (omega arith), tt)
 question_tame false = indicator_tame 63 (graphic 63 (omega arith) (omega arith))
 
-lead_tame : (flow : Bool) (s : Settings) (n : ℕ) (fresh : Bool) → Tame (if flow then comma fresh ▹ turned s n else line_at s n)
+lead_tame : (flow : Bool) (s : Settings) (n : ℕ) (fresh : Bool)
+    → Tame (if flow then comma fresh ▹ turned s n else line_at s n)
 lead_tame true s n fresh = both (comma fresh) (turned s n) (comma_tame fresh) (turned_tame s n)
 lead_tame false s n fresh = line_tame s.line_break n
 
-before_key_tame : (s : Settings) (flow : Bool) (n : ℕ) (fresh simple : Bool) → Tame (before_key s flow n fresh simple)
+before_key_tame : (s : Settings) (flow : Bool) (n : ℕ) (fresh simple : Bool)
+    → Tame (before_key s flow n fresh simple)
 unfolding before_key
 before_key_tame s flow n fresh simple = both (if flow then comma fresh ▹ turned s n else line_at s n) (when (not simple) (question flow)) (lead_tame flow s n fresh) (when_tame (not simple) (question flow) (question_tame flow))
 
-before_value_tame : (s : Settings) (flow : Bool) (n : ℕ) (simple : Bool) → Tame (before_value s flow n simple)
+before_value_tame : (s : Settings) (flow : Bool) (n : ℕ) (simple : Bool)
+    → Tame (before_value s flow n simple)
 unfolding before_value
 before_value_tame s flow n true = char_tame 58 (graphic 58 (omega arith) (omega arith))
 before_value_tame s true n false = both (turned s n) (word (58 ∷ [])) (turned_tame s n) (word_tame (58 ∷ []) (graphic 58 (omega arith) (omega arith), tt))
@@ -145,13 +158,15 @@ pairs_end : (p : Context) → PairsTame p no_pairs
 unfolding pairs_layout
 pairs_end p flow n fresh = closer_tame p.settings flow n fresh 125 (graphic 125 (omega arith) (omega arith))
 
-item_tame : (p : Context) (x : Node) (xs : Nodes) → NodeTame p x → ItemsTame p xs → ItemsTame p (node x xs)
+item_tame : (p : Context) (x : Node) (xs : Nodes) → NodeTame p x → ItemsTame p xs
+    → ItemsTame p (node x xs)
 unfolding items_layout
 item_tame p x xs one more flow n fresh =
     both (before_item p.settings flow n fresh) (node_layout p (spot flow n part.Item) x ▹ items_layout p flow n false xs) (before_item_tame p.settings flow n fresh)
     (both (node_layout p (spot flow n part.Item) x) (items_layout p flow n false xs) (one (spot flow n part.Item)) (more flow n false))
 
-pair_tame : (p : Context) (k v : Node) (ps : Pairs) → NodeTame p k → NodeTame p v → PairsTame p ps → PairsTame p (pair k v ps)
+pair_tame : (p : Context) (k v : Node) (ps : Pairs) → NodeTame p k → NodeTame p v → PairsTame p ps
+    → PairsTame p (pair k v ps)
 unfolding pairs_layout
 pair_tame p k v ps key value more flow n fresh =
     let simple = is_simple p k in
@@ -167,11 +182,13 @@ mutual
   node_tame p fit (sequence_node q items) (ha, ht, h) = sequence_tame p fit q items ha ht (items_tame p fit items h)
   node_tame p fit (mapping_node q pairs) (ha, ht, h) = mapping_tame p fit q pairs ha ht (pairs_tame p fit pairs h)
 
-  items_tame : (p : Context) → TagsFit p.directives → (ns : Nodes) → AreSpellable ns → ItemsTame p ns
+  items_tame : (p : Context) → TagsFit p.directives → (ns : Nodes) → AreSpellable ns
+      → ItemsTame p ns
   items_tame p fit no_nodes h = items_end p
   items_tame p fit (node x xs) (h, hs) = item_tame p x xs (node_tame p fit x h) (items_tame p fit xs hs)
 
-  pairs_tame : (p : Context) → TagsFit p.directives → (ps : Pairs) → PairsAreSpellable ps → PairsTame p ps
+  pairs_tame : (p : Context) → TagsFit p.directives → (ps : Pairs) → PairsAreSpellable ps
+      → PairsTame p ps
   pairs_tame p fit no_pairs h = pairs_end p
   pairs_tame p fit (pair k v ps) (hk, hv, hs) = pair_tame p k v ps (node_tame p fit k hk) (node_tame p fit v hv) (pairs_tame p fit ps hs)
 
@@ -188,7 +205,8 @@ dashes_tame s =
     both (line_at s 0) (word (45 ∷ 45 ∷ 45 ∷ []) ▹ when s.canonical (line_at s 0)) (line_tame s.line_break 0)
     (both (word (45 ∷ 45 ∷ 45 ∷ [])) (when s.canonical (line_at s 0)) (word_tame (45 ∷ 45 ∷ 45 ∷ []) (dash, (dash, (dash, tt)))) (when_tame s.canonical (line_at s 0) (line_tame s.line_break 0)))
 
-start_tame : (s : Settings) (fresh unended : Bool) (d : Document) (ds : List Document) → DocumentsAreSpellable (d ∷ ds) → Tame (start_layout s fresh unended d.opening)
+start_tame : (s : Settings) (fresh unended : Bool) (d : Document) (ds : List Document)
+    → DocumentsAreSpellable (d ∷ ds) → Tame (start_layout s fresh unended d.opening)
 unfolding start_layout
 start_tame s fresh unended d ds (right, prefixes, root, more) =
     let o = d.opening in
@@ -208,7 +226,8 @@ stop_tame : (s : Settings) (unended : Bool) → Tame (stop_layout s unended)
 unfolding stop_layout
 stop_tame s unended = when_tame unended (choose is_kept (dots s) stay) (choose_tame is_kept (dots s) stay (dots_tame s) stay_tame)
 
-pub documents_tame : (s : Settings) (fresh unended : Bool) (ds : List Document) → DocumentsAreSpellable ds → Tame (documents_layout s fresh unended ds)
+pub documents_tame : (s : Settings) (fresh unended : Bool) (ds : List Document)
+    → DocumentsAreSpellable ds → Tame (documents_layout s fresh unended ds)
 unfolding documents_layout
 documents_tame s fresh unended [] h = stop_tame s unended
 documents_tame s fresh unended (d ∷ ds) (right, prefixes, root, more) =

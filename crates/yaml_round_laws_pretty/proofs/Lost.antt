@@ -41,7 +41,9 @@ use Rattle.yaml_round_laws_pretty.proofs.Documents.{Parsed, After, behind_root, 
 abbrev no_bytes : List ℕ
 no_bytes = []
 
-empty_style : (unicode plain : Bool) (k : yaml_scalar_style_t) → is_plain (taken (allowed unicode (chars no_bytes)) k plain false false (length no_bytes == 0)) ≡ (plain && is_asked_plain k)
+empty_style : (unicode plain : Bool) (k : yaml_scalar_style_t)
+    → is_plain (taken (allowed unicode (chars no_bytes)) k plain false false (length no_bytes == 0))
+    ≡ (plain && is_asked_plain k)
 unfolding taken allowed chars
 empty_style unicode true asked.YAML_ANY_SCALAR_STYLE = refl
 empty_style unicode true asked.YAML_PLAIN_SCALAR_STYLE = refl
@@ -57,7 +59,8 @@ empty_style unicode false asked.YAML_LITERAL_SCALAR_STYLE = refl
 empty_style unicode false asked.YAML_FOLDED_SCALAR_STYLE = refl
 
 -- under flags as a reader gives them each tag is written
-pub written_is : (tag : Option (List ℕ)) (plain quoted : Bool) → HasScalarFlags tag plain quoted → kept_tag false (plain || quoted) tag ≡ tag
+pub written_is : (tag : Option (List ℕ)) (plain quoted : Bool) → HasScalarFlags tag plain quoted
+    → kept_tag false (plain || quoted) tag ≡ tag
 written_is None plain quoted h = none (plain || quoted)
   where
     none : (b : Bool) → kept_tag false b None ≡ None
@@ -65,27 +68,38 @@ written_is None plain quoted h = none (plain || quoted)
     none false = refl
 written_is (Some t) plain quoted (p, q) = ap (λ (b : Bool). kept_tag false (b || quoted) (Some t)) p ∙ ap (λ (b : Bool). kept_tag false b (Some t)) q
 
-abbrev LeftOut : Bool → Bool → Option (List ℕ) → Option (List ℕ) → List ℕ → Bool → yaml_scalar_style_t → Bool
+abbrev LeftOut : Bool → Bool → Option (List ℕ) → Option (List ℕ) → List ℕ → Bool
+    → yaml_scalar_style_t → Bool
 LeftOut canonical unicode anchor tag value plain k =
     is_nothing false (if canonical then style.Double else taken (allowed unicode (chars value)) k (has tag || plain) false false (length value == 0)) value && is_bare anchor tag
 
-told_by : (unicode : Bool) (anchor tag : Option (List ℕ)) (value : List ℕ) (plain : Bool) (k : yaml_scalar_style_t) → (is_bare anchor tag && (is_empty value && (plain && is_asked_plain k))) ≡ LeftOut false unicode anchor tag value plain k
+told_by : (unicode : Bool) (anchor tag : Option (List ℕ)) (value : List ℕ) (plain : Bool)
+    (k : yaml_scalar_style_t)
+    → (is_bare anchor tag && (is_empty value && (plain && is_asked_plain k)))
+    ≡ LeftOut false unicode anchor tag value plain k
 told_by unicode None None [] plain k = sym (empty_style unicode plain k) ∙ sym (and-true _) ∙ sym (and-true _)
 told_by unicode None None (c ∷ cs) plain k = sym (ap (λ (b : Bool). b && true) (and-false _))
 told_by unicode None (Some t) value plain k = sym (and-false _)
 told_by unicode (Some a) tag value plain k = sym (and-false _)
 
-told_scalar : (canonical unicode : Bool) → canonical ≡ false → (anchor tag written : Option (List ℕ)) → written ≡ tag → (value : List ℕ) (plain : Bool) (k : yaml_scalar_style_t)
-    → (is_bare anchor tag && (is_empty value && (plain && is_asked_plain k))) ≡ LeftOut canonical unicode anchor written value plain k
+told_scalar : (canonical unicode : Bool) → canonical ≡ false
+    → (anchor tag written : Option (List ℕ)) → written ≡ tag
+    → (value : List ℕ) (plain : Bool) (k : yaml_scalar_style_t)
+    → (is_bare anchor tag && (is_empty value && (plain && is_asked_plain k)))
+    ≡ LeftOut canonical unicode anchor written value plain k
 told_scalar true unicode pretty anchor tag written w value plain k = absurd (cc)
 told_scalar false unicode pretty anchor tag written w value plain k = told_by unicode anchor tag value plain k ∙ ap (λ (t : Option (List ℕ)). LeftOut false unicode anchor t value plain k) (sym w)
 
-told_opening : (canonical b n : Bool) → canonical ≡ false → (b && n) ≡ (not (canonical || not (true && b)) && n)
+told_opening : (canonical b n : Bool) → canonical ≡ false
+    → (b && n) ≡ (not (canonical || not (true && b)) && n)
 told_opening true b n pretty = absurd (cc)
 told_opening false true n pretty = refl
 told_opening false false n pretty = refl
 
-told_root : (s : Settings) → s.canonical ≡ false → (x : yaml_encoding_t) (d : Document) (ds : List Document) (n : Node) → d.root ≡ n → HaveReaderFlags (d ∷ ds) → begins_with_nothing (stream_events x (d ∷ ds)) ≡ starts_with_nothing s (d ∷ ds)
+told_root : (s : Settings) → s.canonical ≡ false
+    → (x : yaml_encoding_t) (d : Document) (ds : List Document) (n : Node) → d.root ≡ n
+    → HaveReaderFlags (d ∷ ds)
+    → begins_with_nothing (stream_events x (d ∷ ds)) ≡ starts_with_nothing s (d ∷ ds)
 unfolding documents_events node_events style_of
 told_root s pretty x d ds (alias_node name) is (f, fs) = rw is (sym (and-false _))
 told_root s pretty x d ds (sequence_node o items) is (f, fs) = rw is (sym (and-false _))
@@ -103,8 +117,11 @@ is_told s pretty x (d ∷ ds) flags = told_root s pretty x d ds d.root refl flag
 -- ---- lost
 
 -- no tokens stand for it
-nothing_stands : (ds : List TagDirective) (s : Style) (anchor tag : Option (List ℕ)) (value : List ℕ) (quoted : Bool) (bs : List TokenBody) → (is_nothing false s value && is_bare anchor tag) ≡ true
-    → (anchor_bodies anchor (tag_bodies ds tag (mark_bodies (not (has tag) && takes_mark quoted s) (scalar_bodies false s value bs)))) ≡ bs
+nothing_stands : (ds : List TagDirective) (s : Style) (anchor tag : Option (List ℕ))
+    (value : List ℕ) (quoted : Bool) (bs : List TokenBody)
+    → (is_nothing false s value && is_bare anchor tag) ≡ true
+    → (anchor_bodies anchor (tag_bodies ds tag
+    (mark_bodies (not (has tag) && takes_mark quoted s) (scalar_bodies false s value bs)))) ≡ bs
 nothing_stands ds style.Plain None None [] true bs none = refl
 nothing_stands ds style.Plain None None [] false bs none = refl
 nothing_stands ds style.Plain None (Some t) [] quoted bs none = absurd (false≢true none)
@@ -115,7 +132,9 @@ nothing_stands ds style.Double anchor tag value quoted bs none = absurd (false�
 nothing_stands ds style.Literal anchor tag value quoted bs none = absurd (false≢true none)
 nothing_stands ds style.Folded anchor tag value quoted bs none = absurd (false≢true none)
 
-root_stands : (s : Settings) (d : Document) (bs : List TokenBody) (n : Node) → d.root ≡ n → is_left_out (context_in s d) false part.Item n ≡ true → node_bodies (context_in s d) false part.Item true n bs ≡ bs
+root_stands : (s : Settings) (d : Document) (bs : List TokenBody) (n : Node) → d.root ≡ n
+    → is_left_out (context_in s d) false part.Item n ≡ true
+    → node_bodies (context_in s d) false part.Item true n bs ≡ bs
 unfolding node_bodies
 root_stands s d bs (alias_node name) is none = absurd (false≢true none)
 root_stands s d bs (sequence_node o items) is none = absurd (false≢true none)
@@ -126,7 +145,8 @@ root_stands s d bs (scalar_node v) is none = nothing_stands d.opening.directives
 abbrev HasOneEvent : Node → Type 0
 HasOneEvent n = (v : Scalar) × (n ≡ scalar_node v)
 
-root_one : (s : Settings) (d : Document) (n : Node) → is_left_out (context_in s d) false part.Item n ≡ true → HasOneEvent n
+root_one : (s : Settings) (d : Document) (n : Node)
+    → is_left_out (context_in s d) false part.Item n ≡ true → HasOneEvent n
 root_one s d (alias_node name) none = absurd (false≢true none)
 root_one s d (sequence_node o items) none = absurd (false≢true none)
 root_one s d (mapping_node o pairs) none = absurd (false≢true none)
@@ -136,7 +156,8 @@ root_one s d (scalar_node v) none = (v, refl)
 abbrev Refused : List Token → Type 0
 Refused ts = (parsed_of ts).ending ≡ None → ⊥
 
-dots_refused : (x : yaml_encoding_t) (a b : Span) (rest : List Token) → Refused (token_at (token.stream_start x) a ∷ token_at token.document_end b ∷ rest)
+dots_refused : (x : yaml_encoding_t) (a b : Span) (rest : List Token)
+    → Refused (token_at (token.stream_start x) a ∷ token_at token.document_end b ∷ rest)
 unfolding run feed reading
 dots_refused x a b rest e = absurd (cc)
 
@@ -145,8 +166,11 @@ both_are true n e = absurd (false≢true e)
 both_are false n e = (refl, e)
 
 -- the tokens behind the stream's start are those behind the root
-behind_start : (s : Settings) (d : Document) (ds : List Document) → is_marked s true d.opening ≡ false → is_left_out (context_in s d) false part.Item d.root ≡ true → (us : List Token)
-    → token_bodies us ≡ opening_bodies s true d.opening (root_bodies s d (After s d ds)) → token_bodies us ≡ After s d ds
+behind_start : (s : Settings) (d : Document) (ds : List Document)
+    → is_marked s true d.opening ≡ false
+    → is_left_out (context_in s d) false part.Item d.root ≡ true → (us : List Token)
+    → token_bodies us ≡ opening_bodies s true d.opening (root_bodies s d (After s d ds))
+    → token_bodies us ≡ After s d ds
 unfolding directives_bodies
 behind_start s d ds bare none us e =
     let o = d.opening in
@@ -164,15 +188,22 @@ longer a b c d es e =
     omega (arith, h)
 
 -- the events of the documents, of which the first is lost
-all_said : (x : yaml_encoding_t) (d : Document) (ds : List Document) (v : Scalar) → d.root ≡ scalar_node v
-    → map says (stream_events x (d ∷ ds)) ≡ event.stream_start YAML_ANY_ENCODING ∷ event.document_start d.opening.version d.opening.directives true ∷ says (scalar v) ∷ event.document_end true ∷ map says (documents_events ds)
+all_said : (x : yaml_encoding_t) (d : Document) (ds : List Document) (v : Scalar)
+    → d.root ≡ scalar_node v
+    → map says (stream_events x (d ∷ ds)) ≡ event.stream_start YAML_ANY_ENCODING
+    ∷ event.document_start d.opening.version d.opening.directives true ∷ says (scalar v)
+    ∷ event.document_end true ∷ map says (documents_events ds)
 unfolding documents_events node_events
 all_said x d ds v is =
     let last = document_end d.implicit_end ∷ documents_events ds in
     ap (λ (n : Node). event.stream_start YAML_ANY_ENCODING ∷ event.document_start d.opening.version d.opening.directives true ∷ map says (node_events n last)) is
 
-lost_by : (s : Settings) (es : List Told) (x y : yaml_encoding_t) (d : Document) (ds : List Document) → emitter_events false es ≡ stream_events x (d ∷ ds) → HaveReaderFlags ds → AreParsable ds → (v : Scalar) → d.root ≡ scalar_node v
-    → (explicit unended kept : Bool) (span : Span) (ts us : List Token) → ts ≡ token_at (token.stream_start y) span ∷ us → (p : Parsed s explicit unended kept ds us) → (ends : List Span) → p.ends ≡ ends → contents (parsed_of ts).events ≡ contents es → Refused ts
+lost_by : (s : Settings) (es : List Told) (x y : yaml_encoding_t) (d : Document)
+    (ds : List Document) → emitter_events false es ≡ stream_events x (d ∷ ds) → HaveReaderFlags ds
+    → AreParsable ds → (v : Scalar) → d.root ≡ scalar_node v
+    → (explicit unended kept : Bool) (span : Span) (ts us : List Token)
+    → ts ≡ token_at (token.stream_start y) span ∷ us → (p : Parsed s explicit unended kept ds us)
+    → (ends : List Span) → p.ends ≡ ends → contents (parsed_of ts).events ≡ contents es → Refused ts
 lost_by s es x y d ds same flags fine v root explicit unended kept span ts us start p [] none said ending =
     let spelt = p.same ∙ ap (λ (z : List Span). spell_ends z (spell_documents p.documents p.rest)) none in
     let (events, right) = marked_stream y (documents_reads s false ds) span ts us start (record { documents = p.documents; rest = p.rest; same = spelt; gives = p.gives }) in

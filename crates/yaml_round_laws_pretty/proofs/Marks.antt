@@ -153,7 +153,8 @@ checked_heads n c rest r = deep_heads (nat_lt MOST n) (rest c) (r c)
 value_break_heads : (b : LineBreak) (x : ℕ) → NoMark x → Heads (value_break b x)
 value_break_heads b x h = if_heads (x == 10) (new_line b) (break x) (led (new_line b) (new_line_leads b)) (led (break x) (break_leads x h))
 
-flow_heads : (page : Page) (quote : Bool) (before : ℕ) (cs : List ℕ) → ArePrintable cs → Heads (flow_body page quote before cs)
+flow_heads : (page : Page) (quote : Bool) (before : ℕ) (cs : List ℕ) → ArePrintable cs
+    → Heads (flow_body page quote before cs)
 unfolding flow_body flow_char
 flow_heads page quote before [] h = when_heads (is_break before) (line page.line_break page.indentation) (line_heads page.line_break page.indentation)
 flow_heads page quote before (x ∷ xs) (h, hs) =
@@ -177,13 +178,15 @@ header_low : (folded : Bool) → NoMark (if folded then 62 else 124)
 header_low true = low 62 (omega arith)
 header_low false = low 124 (omega arith)
 
-block_heads : (page : Page) (digit : ℕ) (folded : Bool) (cs : List ℕ) (b : Layout) → Heads (block_header digit folded cs ▹ b)
+block_heads : (page : Page) (digit : ℕ) (folded : Bool) (cs : List ℕ) (b : Layout)
+    → Heads (block_header digit folded cs ▹ b)
 block_heads page digit folded cs b =
     let tail = digit_mark digit cs ▹ chomp_mark (chomp true true cs) in
     let sign = char (if folded then 62 else 124) in
     led (block_header digit folded cs ▹ b) (leading (gap ▹ (sign ▹ tail)) b (behind gap (sign ▹ tail) gap_heads (leading sign tail (char_leads (if folded then 62 else 124) (header_low folded)))))
 
-scalar_heads : (page : Page) (digit : ℕ) (flow : Bool) (s : Style) (cs : List ℕ) → Needs s (ArePrintable cs) → Heads (scalar_text page digit flow s cs)
+scalar_heads : (page : Page) (digit : ℕ) (flow : Bool) (s : Style) (cs : List ℕ)
+    → Needs s (ArePrintable cs) → Heads (scalar_text page digit flow s cs)
 unfolding scalar_text
 scalar_heads page digit flow style.Plain cs h =
     both (when (flow || not (is_empty cs)) gap) (flow_body page false 32 cs ▹ after_text) (when_heads (flow || not (is_empty cs)) gap gap_heads) (both (flow_body page false 32 cs) after_text (flow_heads page false 32 cs h) text_heads)
@@ -211,11 +214,13 @@ split_leads (shorthand handle suffix) (inl e, u, some) = shaped handle [] (uri_t
 split_leads (shorthand handle suffix) (inr (name, e, alphas), u, some) = shaped handle (name ++ (33 ∷ [])) (uri_text false suffix) e
 split_leads (verbatim tag) h = word_leads 33 (60 ∷ (uri_text true tag ++ 62 ∷ [])) (low 33 (omega arith))
 
-tag_heads : (s : Settings) (o : Opening) → Opened o → (t : Option (List ℕ)) → text.IsWritableTag t → Heads (tag_text (context_of s o.directives) t)
+tag_heads : (s : Settings) (o : Opening) → Opened o → (t : Option (List ℕ)) → text.IsWritableTag t
+    → Heads (tag_text (context_of s o.directives) t)
 tag_heads s o h None w = stay_heads
 tag_heads s o h (Some t) (some, utf8) = led (word (tag_spelling o.directives t)) (split_leads (split_tag o.directives t) (written_readable o h.right h.utf8 t utf8 some))
 
-kept_writable : (canonical left_out : Bool) (t : Option (List ℕ)) → text.IsWritableTag t → text.IsWritableTag (kept_tag canonical left_out t)
+kept_writable : (canonical left_out : Bool) (t : Option (List ℕ)) → text.IsWritableTag t
+    → text.IsWritableTag (kept_tag canonical left_out t)
 kept_writable true left_out t h = h
 kept_writable false true t h = tt
 kept_writable false false t h = h
@@ -225,10 +230,13 @@ kept_writable false false t h = h
 abbrev NodeHeads : Settings → Opening → Node → Type 0
 NodeHeads s o n = (at : Spot) → Heads (node_layout (context_of s o.directives) at n)
 
-properties_heads : (s : Settings) (o : Opening) → Opened o → (anchor tag : Option (List ℕ)) → text.IsWritableTag tag → Heads (properties_text (context_of s o.directives) anchor tag)
+properties_heads : (s : Settings) (o : Opening) → Opened o → (anchor tag : Option (List ℕ))
+    → text.IsWritableTag tag → Heads (properties_text (context_of s o.directives) anchor tag)
 properties_heads s o h anchor tag w = both (anchor_text anchor) (tag_text (context_of s o.directives) tag) (anchor_heads anchor) (tag_heads s o h tag w)
 
-text_by : (p : Context) (at : Spot) (x : Scalar) → Heads (scalar_text (page_at p.settings at) p.settings.indent at.flow (style_of p at x) (chars x.value))
+text_by : (p : Context) (at : Spot) (x : Scalar)
+    → Heads (scalar_text (page_at p.settings at) p.settings.indent at.flow (style_of p at x)
+    (chars x.value))
 unfolding style_of
 text_by p at x =
     scalar_heads (page_at p.settings at) p.settings.indent at.flow _ (chars x.value) (style_needs p.settings.canonical p.settings.unicode (chars x.value) x.style (has (scalar_tag false x) || x.plain) at.flow (is_simple_part at.part) (length x.value == 0))
@@ -237,7 +245,8 @@ alias_heads : (s : Settings) (o : Opening) (name : List ℕ) → NodeHeads s o (
 unfolding node_layout alias_layout
 alias_heads s o name at = led (word (42 ∷ name) ▹ when (is_simple_part at.part) (char 32)) (leading (word (42 ∷ name)) (when (is_simple_part at.part) (char 32)) (word_leads 42 name (low 42 (omega arith))))
 
-leaf_heads : (s : Settings) (o : Opening) → Opened o → (x : Scalar) → text.IsWritableTag x.tag → NodeHeads s o (scalar_node x)
+leaf_heads : (s : Settings) (o : Opening) → Opened o → (x : Scalar) → text.IsWritableTag x.tag
+    → NodeHeads s o (scalar_node x)
 unfolding node_layout scalar_layout
 leaf_heads s o h x w at =
     let p = context_of s o.directives in
@@ -272,7 +281,8 @@ key_heads : (s : Settings) (n : ℕ) (simple : Bool) → Heads (before_key s fal
 unfolding before_key
 key_heads s n simple = both (line_at s n) (when (not simple) (indicator 63)) (line_heads s.line_break n) (when_heads (not simple) (indicator 63) (led (indicator 63) (indicator_leads 63 (low 63 (omega arith)))))
 
-pair_heads : (s : Settings) (o : Opening) (k v : Node) (ps : Pairs) → NodeHeads s o k → PairsHeads (context_of s o.directives) (pair k v ps)
+pair_heads : (s : Settings) (o : Opening) (k v : Node) (ps : Pairs) → NodeHeads s o k
+    → PairsHeads (context_of s o.directives) (pair k v ps)
 unfolding pairs_layout
 pair_heads s o k v ps key n =
     let p = context_of s o.directives in
@@ -285,22 +295,27 @@ no_pair_heads : (p : Context) → PairsHeads p no_pairs
 unfolding pairs_layout closer
 no_pair_heads p n = stay_heads
 
-items_by : (f : Bool) (p : Context) (ns : Nodes) (g : Cursor → ℕ) → Heads (when f (opener 91) ▹ indented g (λ n. checked n ▹ items_layout p f n true ns))
+items_by : (f : Bool) (p : Context) (ns : Nodes) (g : Cursor → ℕ)
+    → Heads (when f (opener 91) ▹ indented g (λ n. checked n ▹ items_layout p f n true ns))
 items_by true p ns g = led _ (leading (opener 91) (indented g (λ n. checked n ▹ items_layout p true n true ns)) (opener_leads 91 (low 91 (omega arith))))
 items_by false p ns g = λ c rest r. both (checked (g c)) (items_layout p false (g c) true ns) (checked_heads (g c)) (items_heads p ns (g c)) c rest r
 
-pairs_by : (f : Bool) (p : Context) (ps : Pairs) → PairsHeads p ps → (g : Cursor → ℕ) → Heads (when f (opener 123) ▹ indented g (λ n. checked n ▹ pairs_layout p f n true ps))
+pairs_by : (f : Bool) (p : Context) (ps : Pairs) → PairsHeads p ps → (g : Cursor → ℕ)
+    → Heads (when f (opener 123) ▹ indented g (λ n. checked n ▹ pairs_layout p f n true ps))
 pairs_by true p ps h g = led _ (leading (opener 123) (indented g (λ n. checked n ▹ pairs_layout p true n true ps)) (opener_leads 123 (low 123 (omega arith))))
 pairs_by false p ps h g = λ c rest r. both (checked (g c)) (pairs_layout p false (g c) true ps) (checked_heads (g c)) (h (g c)) c rest r
 
-sequence_heads : (s : Settings) (o : Opening) → Opened o → (q : Start) (ns : Nodes) → text.IsWritableTag q.tag → NodeHeads s o (sequence_node q ns)
+sequence_heads : (s : Settings) (o : Opening) → Opened o → (q : Start) (ns : Nodes)
+    → text.IsWritableTag q.tag → NodeHeads s o (sequence_node q ns)
 unfolding node_layout
 sequence_heads s o h q ns w at =
     let p = context_of s o.directives in
     let f = is_flow s at q (are_none ns) in
     both (properties_text p q.anchor (start_tag s.canonical q)) (when f (opener 91) ▹ indented (indent_of s at true f) (λ n. checked n ▹ items_layout p f n true ns)) (properties_heads s o h q.anchor (start_tag s.canonical q) (kept_writable s.canonical q.implicit q.tag w)) (items_by f p ns (indent_of s at true f))
 
-mapping_heads : (s : Settings) (o : Opening) → Opened o → (q : Start) (ps : Pairs) → text.IsWritableTag q.tag → PairsHeads (context_of s o.directives) ps → NodeHeads s o (mapping_node q ps)
+mapping_heads : (s : Settings) (o : Opening) → Opened o → (q : Start) (ps : Pairs)
+    → text.IsWritableTag q.tag → PairsHeads (context_of s o.directives) ps
+    → NodeHeads s o (mapping_node q ps)
 unfolding node_layout
 mapping_heads s o h q ps w inner at =
     let p = context_of s o.directives in
@@ -308,13 +323,15 @@ mapping_heads s o h q ps w inner at =
     both (properties_text p q.anchor (start_tag s.canonical q)) (when f (opener 123) ▹ indented (indent_of s at false f) (λ n. checked n ▹ pairs_layout p f n true ps)) (properties_heads s o h q.anchor (start_tag s.canonical q) (kept_writable s.canonical q.implicit q.tag w)) (pairs_by f p ps inner (indent_of s at false f))
 
 mutual
-  node_heads : (s : Settings) (o : Opening) → Opened o → (n : Node) → text.IsWritable n → NodeHeads s o n
+  node_heads : (s : Settings) (o : Opening) → Opened o → (n : Node) → text.IsWritable n
+      → NodeHeads s o n
   node_heads s o h (alias_node name) w = alias_heads s o name
   node_heads s o h (scalar_node x) (a, t, v) = leaf_heads s o h x t
   node_heads s o h (sequence_node q items) (a, t, w) = sequence_heads s o h q items t
   node_heads s o h (mapping_node q pairs) (a, t, w) = mapping_heads s o h q pairs t (pairs_heads s o h pairs w)
 
-  pairs_heads : (s : Settings) (o : Opening) → Opened o → (ps : Pairs) → text.ArePairsWritable ps → PairsHeads (context_of s o.directives) ps
+  pairs_heads : (s : Settings) (o : Opening) → Opened o → (ps : Pairs) → text.ArePairsWritable ps
+      → PairsHeads (context_of s o.directives) ps
   pairs_heads s o h no_pairs w = no_pair_heads (context_of s o.directives)
   pairs_heads s o h (pair k v ps) (wk, wv, ws) = pair_heads s o k v ps (node_heads s o h k wk)
 
@@ -335,7 +352,8 @@ unfolding directives_text
 directives_heads s [] = stay_heads
 directives_heads s (d ∷ ds) = led (directive_text s d ▹ directives_text s ds) (leading (directive_text s d) (directives_text s ds) (leading (word (codes "%TAG")) _ (word_leads 37 _ (low 37 (omega arith)))))
 
-start_heads : (s : Settings) (fresh unended : Bool) (o : Opening) → Heads (start_layout s fresh unended o)
+start_heads : (s : Settings) (fresh unended : Bool) (o : Opening)
+    → Heads (start_layout s fresh unended o)
 unfolding start_layout
 start_heads s fresh unended o =
     let dash = when (is_marked s fresh o) (dashes s) in
@@ -352,7 +370,8 @@ stop_heads : (s : Settings) (unended : Bool) → Heads (stop_layout s unended)
 unfolding stop_layout
 stop_heads s unended = when_heads unended (choose is_kept (dots s) stay) (choose_heads is_kept (dots s) stay (led (dots s) (dots_leads s)) stay_heads)
 
-pub documents_heads : (s : Settings) (fresh unended : Bool) (ds : List Document) → text.AreWritable ds → Heads (documents_layout s fresh unended ds)
+pub documents_heads : (s : Settings) (fresh unended : Bool) (ds : List Document)
+    → text.AreWritable ds → Heads (documents_layout s fresh unended ds)
 unfolding documents_layout
 documents_heads s fresh unended [] w = stop_heads s unended
 documents_heads s fresh unended (d ∷ ds) ((right, utf8), root, more) =
@@ -363,11 +382,14 @@ documents_heads s fresh unended (d ∷ ds) ((right, utf8), root, more) =
 
 -- ---- bytes
 
-pub told_one : (b : ℕ) (bs : List ℕ) → nat_eq 0xFF b ≡ false → nat_eq 0xFE b ≡ false → nat_eq 0xEF b ≡ false → Told (b ∷ bs)
+pub told_one : (b : ℕ) (bs : List ℕ) → nat_eq 0xFF b ≡ false → nat_eq 0xFE b ≡ false
+    → nat_eq 0xEF b ≡ false → Told (b ∷ bs)
 unfolding encoding_of mark_length
 told_one b bs x y z = (rw (x, y) refl, rw (x, y, z) refl)
 
-pub told_three : (b c d : ℕ) (bs : List ℕ) → nat_eq 0xFF b ≡ false → nat_eq 0xFE b ≡ false → (e f g : Bool) → nat_eq 0xEF b ≡ e → nat_eq 0xBB c ≡ f → nat_eq 0xBF d ≡ g → (e && (f && g)) ≡ false → Told (b ∷ c ∷ d ∷ bs)
+pub told_three : (b c d : ℕ) (bs : List ℕ) → nat_eq 0xFF b ≡ false → nat_eq 0xFE b ≡ false
+    → (e f g : Bool) → nat_eq 0xEF b ≡ e → nat_eq 0xBB c ≡ f → nat_eq 0xBF d ≡ g
+    → (e && (f && g)) ≡ false → Told (b ∷ c ∷ d ∷ bs)
 unfolding encoding_of mark_length
 told_three b c d bs x y false f g z u v none = (rw (x, y) refl, rw (x, y, z) refl)
 told_three b c d bs x y true false g z u v none = (rw (x, y) refl, rw (x, y, z, u) refl)

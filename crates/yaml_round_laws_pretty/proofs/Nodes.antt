@@ -117,22 +117,30 @@ alias_grows p name flow q bare some ts bs e =
       gives = λ more gs f D same. step_says (trees.event_at (event.alias name) t.span.from t.span.to, length more) gs f D (event.alias name) refl;
     }
 
-kept_no_mark : (plain quoted : Bool) (x : Scalar) → x.plain ≡ plain → x.quoted ≡ quoted → IsNoMark x.tag → IsNoMark (scalar_tag false x)
+kept_no_mark : (plain quoted : Bool) (x : Scalar) → x.plain ≡ plain → x.quoted ≡ quoted
+    → IsNoMark x.tag → IsNoMark (scalar_tag false x)
 kept_no_mark true quoted x p q h = rw p tt
 kept_no_mark false true x p q h = rw p (rw q tt)
 kept_no_mark false false x p q h = rw p (rw q h)
 
-scalar_grows : (p : Context) → Resolves p.directives → (x : Scalar) → IsNoMark x.tag → NodeGrows p (scalar_node x)
+scalar_grows : (p : Context) → Resolves p.directives → (x : Scalar) → IsNoMark x.tag
+    → NodeGrows p (scalar_node x)
 unfolding node_bodies node_reads
 scalar_grows p r x fine flow q bare some ts bs e =
     scalar_grown (wants flow q) p.directives r flow (style_at p flow q x) x.anchor (scalar_tag false x) (kept_no_mark x.plain x.quoted x refl refl fine) x.value x.quoted some bs ts e
 
-scalar_left : (p : Context) (x : Scalar) (flow : Bool) (q : Part) (bare : Bool) (at : Site) (before : yaml_mark_t) (ts : List Token) (bs : List TokenBody) → is_left_out p flow q (scalar_node x) ≡ true → token_bodies ts ≡ node_bodies p flow q bare (scalar_node x) bs
+scalar_left : (p : Context) (x : Scalar) (flow : Bool) (q : Part) (bare : Bool) (at : Site)
+    (before : yaml_mark_t) (ts : List Token) (bs : List TokenBody)
+    → is_left_out p flow q (scalar_node x) ≡ true
+    → token_bodies ts ≡ node_bodies p flow q bare (scalar_node x) bs
     → MaybeGrown (wants flow q) at before p.directives (node_reads p flow q (scalar_node x)) ts bs
 unfolding node_bodies node_reads
 scalar_left p x flow q bare at before ts bs none e = scalar_left_out (wants flow q) at before p.directives flow (style_at p flow q x) x.anchor (scalar_tag false x) x.value x.quoted none bs ts e
 
-maybe_by : (p : Context) (n : Node) → NodeGrows p n → (flow : Bool) (q : Part) (bare : Bool) (at : Site) (before : yaml_mark_t) (ts : List Token) (bs : List TokenBody) → (b : Bool) → is_left_out p flow q n ≡ b → token_bodies ts ≡ node_bodies p flow q bare n bs
+maybe_by : (p : Context) (n : Node) → NodeGrows p n
+    → (flow : Bool) (q : Part) (bare : Bool) (at : Site) (before : yaml_mark_t) (ts : List Token)
+    (bs : List TokenBody) → (b : Bool) → is_left_out p flow q n ≡ b
+    → token_bodies ts ≡ node_bodies p flow q bare n bs
     → MaybeGrown (wants flow q) at before p.directives (node_reads p flow q n) ts bs
 maybe_by p n grows flow q bare at before ts bs false some e = held (wants flow q) at before p.directives (node_reads p flow q n) ts bs (grows flow q bare some ts bs e)
 maybe_by p (scalar_node x) grows flow q bare at before ts bs true none e = scalar_left p x flow q bare at before ts bs none e
@@ -145,7 +153,9 @@ maybe_grows p n grows flow q bare at before ts bs e = maybe_by p n grows flow q 
 
 -- ---- contents
 
-flow_sequence : (w : Wants) (ds : List TagDirective) (R : Reads) (us : List Token) (cs bs : List TokenBody) → ((ts : List Token) → token_bodies ts ≡ cs → ItemsSpelt ds R ts bs) → token_bodies us ≡ token.flow_sequence_start ∷ cs
+flow_sequence : (w : Wants) (ds : List TagDirective) (R : Reads) (us : List Token)
+    (cs bs : List TokenBody) → ((ts : List Token) → token_bodies ts ≡ cs → ItemsSpelt ds R ts bs)
+    → token_bodies us ≡ token.flow_sequence_start ∷ cs
     → Contained w ds (item.sequence YAML_FLOW_SEQUENCE_STYLE) R us bs
 flow_sequence w ds R us cs bs inner e =
     let t = take us token.flow_sequence_start cs e in
@@ -161,7 +171,9 @@ flow_sequence w ds R us cs bs inner e =
           (i.gives more gs f D same);
     }
 
-flow_mapping : (w : Wants) (ds : List TagDirective) (R : Reads) (us : List Token) (cs bs : List TokenBody) → ((ts : List Token) → token_bodies ts ≡ cs → PartsSpelt ds R ts bs) → token_bodies us ≡ token.flow_mapping_start ∷ cs
+flow_mapping : (w : Wants) (ds : List TagDirective) (R : Reads) (us : List Token)
+    (cs bs : List TokenBody) → ((ts : List Token) → token_bodies ts ≡ cs → PartsSpelt ds R ts bs)
+    → token_bodies us ≡ token.flow_mapping_start ∷ cs
     → Contained w ds (item.mapping YAML_FLOW_MAPPING_STYLE) R us bs
 flow_mapping w ds R us cs bs inner e =
     let t = take us token.flow_mapping_start cs e in
@@ -177,7 +189,9 @@ flow_mapping w ds R us cs bs inner e =
           (i.gives more gs f D same);
     }
 
-block_sequence : (side : Option Side) (ds : List TagDirective) (R : Reads) (us : List Token) (cs bs : List TokenBody) → ((ts : List Token) → token_bodies ts ≡ cs → EntriesSpelt ds R ts bs) → token_bodies us ≡ token.block_sequence_start ∷ cs
+block_sequence : (side : Option Side) (ds : List TagDirective) (R : Reads) (us : List Token)
+    (cs bs : List TokenBody) → ((ts : List Token) → token_bodies ts ≡ cs → EntriesSpelt ds R ts bs)
+    → token_bodies us ≡ token.block_sequence_start ∷ cs
     → Contained (Block side) ds (item.sequence YAML_BLOCK_SEQUENCE_STYLE) R us bs
 block_sequence side ds R us cs bs inner e =
     let t = take us token.block_sequence_start cs e in
@@ -193,7 +207,9 @@ block_sequence side ds R us cs bs inner e =
           (i.gives more gs f D same);
     }
 
-block_mapping : (side : Option Side) (ds : List TagDirective) (R : Reads) (us : List Token) (cs bs : List TokenBody) → ((ts : List Token) → token_bodies ts ≡ cs → PairsSpelt ds R ts bs) → token_bodies us ≡ token.block_mapping_start ∷ cs
+block_mapping : (side : Option Side) (ds : List TagDirective) (R : Reads) (us : List Token)
+    (cs bs : List TokenBody) → ((ts : List Token) → token_bodies ts ≡ cs → PairsSpelt ds R ts bs)
+    → token_bodies us ≡ token.block_mapping_start ∷ cs
     → Contained (Block side) ds (item.mapping YAML_BLOCK_MAPPING_STYLE) R us bs
 block_mapping side ds R us cs bs inner e =
     let t = take us token.block_mapping_start cs e in
@@ -209,7 +225,8 @@ block_mapping side ds R us cs bs inner e =
           (i.gives more gs f D same);
     }
 
-loose_sequence : (p : Context) (x : Node) (xs : Nodes) → MaybeGrows p x → OthersGrow p xs → LooseGrows p (node x xs)
+loose_sequence : (p : Context) (x : Node) (xs : Nodes) → MaybeGrows p x → OthersGrow p xs
+    → LooseGrows p (node x xs)
 unfolding items_bodies items_reads
 loose_sequence p x xs one others some side us bs e =
     let tail = items_bodies p false false xs bs in
@@ -232,7 +249,8 @@ loose_sequence p x xs one others some side us bs e =
 
 -- ---- sequences and mappings
 
-flow_then : (canonical flow asked : Bool) → (canonical || (flow || asked)) ≡ false → (flow ≡ false) × (asked ≡ false)
+flow_then : (canonical flow asked : Bool) → (canonical || (flow || asked)) ≡ false
+    → (flow ≡ false) × (asked ≡ false)
 flow_then true flow asked e = absurd (true≢false e)
 flow_then false true asked e = absurd (true≢false e)
 flow_then false false asked e = (refl, e)
@@ -241,9 +259,16 @@ or_last : (a b : Bool) → (a || b) ≡ false → b ≡ false
 or_last true b e = absurd (true≢false e)
 or_last false b e = e
 
-sequence_by : (flow f k : Bool) (q : Part) (p : Context) → Resolves p.directives → (ns : Nodes) → ItemsFill p ns → EntriesGrow p ns → LooseGrows p ns → (f ≡ false → (flow ≡ false) × (are_none ns ≡ false)) → (k ≡ true → is_of_mapping q ≡ true)
-    → (anchor tag : Option (List ℕ)) (ts : List Token) (bs : List TokenBody) → token_bodies ts ≡ anchor_bodies anchor (tag_bodies p.directives tag (sequence_opens f k (items_bodies p f true ns (sequence_closes f k bs))))
-    → Grown (wants flow q) p.directives (λ es. event.sequence_start anchor tag (is_missing tag) (sequence_style f) ∷ items_reads p f ns (event.sequence_end ∷ es)) ts bs
+sequence_by : (flow f k : Bool) (q : Part) (p : Context) → Resolves p.directives → (ns : Nodes)
+    → ItemsFill p ns → EntriesGrow p ns → LooseGrows p ns
+    → (f ≡ false → (flow ≡ false) × (are_none ns ≡ false)) → (k ≡ true → is_of_mapping q ≡ true)
+    → (anchor tag : Option (List ℕ)) (ts : List Token) (bs : List TokenBody)
+    → token_bodies ts ≡ anchor_bodies anchor
+    (tag_bodies p.directives tag (sequence_opens f k
+    (items_bodies p f true ns (sequence_closes f k bs))))
+    → Grown (wants flow q) p.directives
+    (λ es. event.sequence_start anchor tag (is_missing tag) (sequence_style f)
+    ∷ items_reads p f ns (event.sequence_end ∷ es)) ts bs
 sequence_by flow true k q p r ns fill entries loose free may anchor tag ts bs e =
     let cs = items_bodies p true true ns (token.flow_sequence_end ∷ bs) in
     let R : Reads = λ es. items_reads p true ns (event.sequence_end ∷ es) in
@@ -265,16 +290,22 @@ kept_there : (a b : Bool) → (a && b) ≡ true → a ≡ true
 kept_there true b e = refl
 kept_there false b e = absurd (false≢true e)
 
-sequence_grows : (p : Context) → Resolves p.directives → (o : Start) (ns : Nodes) → ItemsFill p ns → EntriesGrow p ns → LooseGrows p ns → NodeGrows p (sequence_node o ns)
+sequence_grows : (p : Context) → Resolves p.directives → (o : Start) (ns : Nodes) → ItemsFill p ns
+    → EntriesGrow p ns → LooseGrows p ns → NodeGrows p (sequence_node o ns)
 unfolding node_bodies node_reads
 sequence_grows p r o ns fill entries loose flow q bare some ts bs e =
     sequence_by flow (is_flow_at p flow o (are_none ns)) (keeps q bare o) q p r ns fill entries loose
     (λ h. let (a, b) = flow_then p.settings.canonical flow (o.flow || are_none ns) h in (a, or_last o.flow (are_none ns) b))
     (kept_there (is_of_mapping q) (not (bare && is_bare o.anchor (start_tag false o)))) o.anchor (start_tag false o) ts bs e
 
-mapping_by : (flow f : Bool) (q : Part) (p : Context) → Resolves p.directives → (ps : Pairs) → PartsFill p ps → PairsGrow p ps → (f ≡ false → flow ≡ false) → (anchor tag : Option (List ℕ)) (ts : List Token) (bs : List TokenBody)
-    → token_bodies ts ≡ anchor_bodies anchor (tag_bodies p.directives tag (mapping_opens f (pairs_bodies p f true ps (mapping_closes f bs))))
-    → Grown (wants flow q) p.directives (λ es. event.mapping_start anchor tag (is_missing tag) (mapping_style f) ∷ pairs_reads p f ps (event.mapping_end ∷ es)) ts bs
+mapping_by : (flow f : Bool) (q : Part) (p : Context) → Resolves p.directives → (ps : Pairs)
+    → PartsFill p ps → PairsGrow p ps → (f ≡ false → flow ≡ false)
+    → (anchor tag : Option (List ℕ)) (ts : List Token) (bs : List TokenBody)
+    → token_bodies ts ≡ anchor_bodies anchor
+    (tag_bodies p.directives tag (mapping_opens f (pairs_bodies p f true ps (mapping_closes f bs))))
+    → Grown (wants flow q) p.directives
+    (λ es. event.mapping_start anchor tag (is_missing tag) (mapping_style f)
+    ∷ pairs_reads p f ps (event.mapping_end ∷ es)) ts bs
 mapping_by flow true q p r ps fill pairs free anchor tag ts bs e =
     let cs = pairs_bodies p true true ps (token.flow_mapping_end ∷ bs) in
     let R : Reads = λ es. pairs_reads p true ps (event.mapping_end ∷ es) in
@@ -285,7 +316,8 @@ mapping_by false false q p r ps fill pairs free anchor tag ts bs e =
     let R : Reads = λ es. pairs_reads p false ps (event.mapping_end ∷ es) in
     dressed (Block (side_of q)) p.directives r anchor tag (item.mapping YAML_BLOCK_MAPPING_STYLE) R (token.block_mapping_start ∷ cs) bs (λ us x. block_mapping (side_of q) p.directives R us cs bs (λ vs y. pairs true vs bs y) x) ts e
 
-mapping_grows : (p : Context) → Resolves p.directives → (o : Start) (ps : Pairs) → PartsFill p ps → PairsGrow p ps → NodeGrows p (mapping_node o ps)
+mapping_grows : (p : Context) → Resolves p.directives → (o : Start) (ps : Pairs) → PartsFill p ps
+    → PairsGrow p ps → NodeGrows p (mapping_node o ps)
 unfolding node_bodies node_reads
 mapping_grows p r o ps fill pairs flow q bare some ts bs e =
     mapping_by flow (is_flow_at p flow o (are_no_pairs ps)) q p r ps fill pairs (λ h. (flow_then p.settings.canonical flow (o.flow || are_no_pairs ps) h).0) o.anchor (start_tag false o) ts bs e
@@ -310,7 +342,8 @@ flow_there p (scalar_node x) q = refl
 flow_there p (sequence_node o ns) q = refl
 flow_there p (mapping_node o ps) q = refl
 
-item_fills : (p : Context) (x : Node) (xs : Nodes) → NodeGrows p x → ItemsFollow p xs → ItemsFill p (node x xs)
+item_fills : (p : Context) (x : Node) (xs : Nodes) → NodeGrows p x → ItemsFollow p xs
+    → ItemsFill p (node x xs)
 unfolding items_bodies items_reads
 item_fills p x xs one others ts bs e =
     let n = one true part.Item true (flow_there p x part.Item) ts (items_bodies p true false xs (token.flow_sequence_end ∷ bs)) e in
@@ -325,7 +358,8 @@ item_fills p x xs one others ts bs e =
           (n.gives (spell_more brackets.Sequence i.tree more) (items_more brackets.Sequence i.tree more gs) f D same) (i.gives more gs f D same);
     }
 
-item_follows : (p : Context) (x : Node) (xs : Nodes) → ItemsFill p (node x xs) → ItemsFollow p (node x xs)
+item_follows : (p : Context) (x : Node) (xs : Nodes) → ItemsFill p (node x xs)
+    → ItemsFollow p (node x xs)
 unfolding items_bodies
 item_follows p x xs fill ts bs e =
     let t = take ts token.flow_entry (items_bodies p true true (node x xs) (token.flow_sequence_end ∷ bs)) e in
@@ -338,7 +372,8 @@ entries_end p fresh ts bs e =
     let t = take ts token.block_end bs e in
     record { tree = end_entries t.span; rest = t.rest; same = t.same; left = t.left; gives = λ more gs f D same. step_says (trees.event_at event.sequence_end t.span.from t.span.to, length more) gs f D event.sequence_end refl }
 
-entry_grows : (p : Context) (x : Node) (xs : Nodes) → MaybeGrows p x → EntriesGrow p xs → EntriesGrow p (node x xs)
+entry_grows : (p : Context) (x : Node) (xs : Nodes) → MaybeGrows p x → EntriesGrow p xs
+    → EntriesGrow p (node x xs)
 unfolding items_bodies items_reads
 entry_grows p x xs one others fresh ts bs e =
     let tail = items_bodies p false false xs (token.block_end ∷ bs) in
@@ -365,7 +400,8 @@ others_end p side fresh ts bs e = record {
   gives = λ more gs f D same. step_says (trees.event_at event.sequence_end (trees.next more) (trees.next more), behind more) gs f D event.sequence_end refl;
 }
 
-other_grows : (p : Context) (x : Node) (xs : Nodes) → MaybeGrows p x → OthersGrow p xs → OthersGrow p (node x xs)
+other_grows : (p : Context) (x : Node) (xs : Nodes) → MaybeGrows p x → OthersGrow p xs
+    → OthersGrow p (node x xs)
 unfolding items_bodies items_reads
 other_grows p x xs one others side fresh ts bs e =
     let tail = items_bodies p false false xs bs in
@@ -396,7 +432,8 @@ parts_done p ts bs e =
     let t = take ts token.flow_mapping_end bs e in
     record { tree = end_more t.span; rest = t.rest; same = t.same; left = t.left; gives = λ more gs f D same. step_says (trees.event_at event.mapping_end t.span.from t.span.to, length more) gs f D event.mapping_end refl }
 
-part_fills : (p : Context) (k v : Node) (ps : Pairs) → MaybeGrows p k → MaybeGrows p v → PartsFollow p ps → PartsFill p (pair k v ps)
+part_fills : (p : Context) (k v : Node) (ps : Pairs) → MaybeGrows p k → MaybeGrows p v
+    → PartsFollow p ps → PartsFill p (pair k v ps)
 unfolding pairs_bodies pairs_reads
 part_fills p k v ps key value others ts bs e =
     let s = is_simple p k in
@@ -422,7 +459,8 @@ part_fills p k v ps key value others ts bs e =
           (both_say (node_reads p true part.Value v) (λ es. pairs_reads p true ps (event.mapping_end ∷ es)) _ (reading last f D) (reading gs f D) (b.gives (spell_more brackets.Mapping i.tree more) last f D same) (i.gives more gs f D same));
     }
 
-part_follows : (p : Context) (k v : Node) (ps : Pairs) → PartsFill p (pair k v ps) → PartsFollow p (pair k v ps)
+part_follows : (p : Context) (k v : Node) (ps : Pairs) → PartsFill p (pair k v ps)
+    → PartsFollow p (pair k v ps)
 unfolding pairs_bodies
 part_follows p k v ps fill ts bs e =
     let t = take ts token.flow_entry (pairs_bodies p true true (pair k v ps) (token.flow_mapping_end ∷ bs)) e in
@@ -435,11 +473,15 @@ pairs_end p fresh ts bs e =
     let t = take ts token.block_end bs e in
     record { tree = end_pairs t.span; rest = t.rest; same = t.same; left = t.left; gives = λ more gs f D same. step_says (trees.event_at event.mapping_end t.span.from t.span.to, length more) gs f D event.mapping_end refl }
 
-block_key : (simple : Bool) (at : Site) (before : yaml_mark_t) (ds : List TagDirective) (R : Reads) (ts : List Token) (bs : List TokenBody) → MaybeGrown (wants false (key_part simple)) at before ds R ts bs → MaybeGrown (Block (Some Key)) at before ds R ts bs
+block_key : (simple : Bool) (at : Site) (before : yaml_mark_t) (ds : List TagDirective) (R : Reads)
+    (ts : List Token) (bs : List TokenBody)
+    → MaybeGrown (wants false (key_part simple)) at before ds R ts bs
+    → MaybeGrown (Block (Some Key)) at before ds R ts bs
 block_key true at before ds R ts bs g = g
 block_key false at before ds R ts bs g = g
 
-block_pair_grows : (p : Context) (k v : Node) (ps : Pairs) → MaybeGrows p k → MaybeGrows p v → PairsGrow p ps → PairsGrow p (pair k v ps)
+block_pair_grows : (p : Context) (k v : Node) (ps : Pairs) → MaybeGrows p k → MaybeGrows p v
+    → PairsGrow p ps → PairsGrow p (pair k v ps)
 unfolding pairs_bodies pairs_reads
 block_pair_grows p k v ps key value others fresh ts bs e =
     let s = is_simple p k in
@@ -478,40 +520,51 @@ mutual
   items_fill p r no_nodes fine = items_end p
   items_fill p r (node x xs) (fx, fine) = item_fills p x xs (node_grows p r x fx) (items_follow p r xs fine)
 
-  items_follow : (p : Context) → Resolves p.directives → (ns : Nodes) → HaveNoMark ns → ItemsFollow p ns
+  items_follow : (p : Context) → Resolves p.directives → (ns : Nodes) → HaveNoMark ns
+      → ItemsFollow p ns
   items_follow p r no_nodes fine = items_done p
   items_follow p r (node x xs) (fx, fine) = item_follows p x xs (item_fills p x xs (node_grows p r x fx) (items_follow p r xs fine))
 
-  entries_grow : (p : Context) → Resolves p.directives → (ns : Nodes) → HaveNoMark ns → EntriesGrow p ns
+  entries_grow : (p : Context) → Resolves p.directives → (ns : Nodes) → HaveNoMark ns
+      → EntriesGrow p ns
   entries_grow p r no_nodes fine = entries_end p
   entries_grow p r (node x xs) (fx, fine) = entry_grows p x xs (maybe_grows p x (node_grows p r x fx)) (entries_grow p r xs fine)
 
-  others_grow : (p : Context) → Resolves p.directives → (ns : Nodes) → HaveNoMark ns → OthersGrow p ns
+  others_grow : (p : Context) → Resolves p.directives → (ns : Nodes) → HaveNoMark ns
+      → OthersGrow p ns
   others_grow p r no_nodes fine = others_end p
   others_grow p r (node x xs) (fx, fine) = other_grows p x xs (maybe_grows p x (node_grows p r x fx)) (others_grow p r xs fine)
 
-  loose_grow : (p : Context) → Resolves p.directives → (ns : Nodes) → HaveNoMark ns → LooseGrows p ns
+  loose_grow : (p : Context) → Resolves p.directives → (ns : Nodes) → HaveNoMark ns
+      → LooseGrows p ns
   loose_grow p r no_nodes fine = λ some. absurd (true≢false some)
   loose_grow p r (node x xs) (fx, fine) = loose_sequence p x xs (maybe_grows p x (node_grows p r x fx)) (others_grow p r xs fine)
 
-  parts_fill : (p : Context) → Resolves p.directives → (ps : Pairs) → PairsHaveNoMark ps → PartsFill p ps
+  parts_fill : (p : Context) → Resolves p.directives → (ps : Pairs) → PairsHaveNoMark ps
+      → PartsFill p ps
   parts_fill p r no_pairs fine = parts_end p
   parts_fill p r (pair k v ps) (fk, fv, fine) = part_fills p k v ps (maybe_grows p k (node_grows p r k fk)) (maybe_grows p v (node_grows p r v fv)) (parts_follow p r ps fine)
 
-  parts_follow : (p : Context) → Resolves p.directives → (ps : Pairs) → PairsHaveNoMark ps → PartsFollow p ps
+  parts_follow : (p : Context) → Resolves p.directives → (ps : Pairs) → PairsHaveNoMark ps
+      → PartsFollow p ps
   parts_follow p r no_pairs fine = parts_done p
   parts_follow p r (pair k v ps) (fk, fv, fine) = part_follows p k v ps (part_fills p k v ps (maybe_grows p k (node_grows p r k fk)) (maybe_grows p v (node_grows p r v fv)) (parts_follow p r ps fine))
 
-  pairs_grow : (p : Context) → Resolves p.directives → (ps : Pairs) → PairsHaveNoMark ps → PairsGrow p ps
+  pairs_grow : (p : Context) → Resolves p.directives → (ps : Pairs) → PairsHaveNoMark ps
+      → PairsGrow p ps
   pairs_grow p r no_pairs fine = pairs_end p
   pairs_grow p r (pair k v ps) (fk, fv, fine) = block_pair_grows p k v ps (maybe_grows p k (node_grows p r k fk)) (maybe_grows p v (node_grows p r v fv)) (pairs_grow p r ps fine)
 
 -- a node for which something stands
-pub nodes_grown : (p : Context) → Resolves p.directives → (n : Node) → HasNoMark n → (flow : Bool) (q : Part) (bare : Bool) → is_left_out p flow q n ≡ false → (ts : List Token) (bs : List TokenBody) → token_bodies ts ≡ node_bodies p flow q bare n bs
+pub nodes_grown : (p : Context) → Resolves p.directives → (n : Node) → HasNoMark n
+    → (flow : Bool) (q : Part) (bare : Bool) → is_left_out p flow q n ≡ false
+    → (ts : List Token) (bs : List TokenBody) → token_bodies ts ≡ node_bodies p flow q bare n bs
     → Grown (wants flow q) p.directives (node_reads p flow q n) ts bs
 nodes_grown p r n fine = node_grows p r n fine
 
 -- a node, or nothing
-pub maybes_grown : (p : Context) → Resolves p.directives → (n : Node) → HasNoMark n → (flow : Bool) (q : Part) (bare : Bool) (at : Site) (before : yaml_mark_t) (ts : List Token) (bs : List TokenBody) → token_bodies ts ≡ node_bodies p flow q bare n bs
+pub maybes_grown : (p : Context) → Resolves p.directives → (n : Node) → HasNoMark n
+    → (flow : Bool) (q : Part) (bare : Bool) (at : Site) (before : yaml_mark_t) (ts : List Token)
+    (bs : List TokenBody) → token_bodies ts ≡ node_bodies p flow q bare n bs
     → MaybeGrown (wants flow q) at before p.directives (node_reads p flow q n) ts bs
 maybes_grown p r n fine = maybe_grows p n (node_grows p r n fine)

@@ -28,15 +28,18 @@ split_spells : (s : Split) → IsReadable s → spells_text (tag_body s) ≡ tru
 split_spells (shorthand handle suffix) (shape, text, long) = is_utf8-from_IsUtf8 suffix text
 split_spells (verbatim tag) (text, long) = is_utf8-from_IsUtf8 tag text
 
-anchor_spells : (anchor : Option (List ℕ)) (bs : List TokenBody) → Spell bs → Spell (anchor_bodies anchor bs)
+anchor_spells : (anchor : Option (List ℕ)) (bs : List TokenBody) → Spell bs
+    → Spell (anchor_bodies anchor bs)
 anchor_spells None bs s = s
 anchor_spells (Some name) bs s = (refl, s)
 
-tag_spells : (ds : List TagDirective) (tag : Option (List ℕ)) → IsReadableTag ds tag → (bs : List TokenBody) → Spell bs → Spell (tag_bodies ds tag bs)
+tag_spells : (ds : List TagDirective) (tag : Option (List ℕ)) → IsReadableTag ds tag
+    → (bs : List TokenBody) → Spell bs → Spell (tag_bodies ds tag bs)
 tag_spells ds None r bs s = s
 tag_spells ds (Some t) r bs s = (split_spells (split_tag ds t) r, s)
 
-properties_spell : (ds : List TagDirective) (anchor tag : Option (List ℕ)) → IsReadableTag ds tag → (bs : List TokenBody) → Spell bs → Spell (anchor_bodies anchor (tag_bodies ds tag bs))
+properties_spell : (ds : List TagDirective) (anchor tag : Option (List ℕ)) → IsReadableTag ds tag
+    → (bs : List TokenBody) → Spell bs → Spell (anchor_bodies anchor (tag_bodies ds tag bs))
 properties_spell ds anchor tag r bs s = anchor_spells anchor (tag_bodies ds tag bs) (tag_spells ds tag r bs s)
 
 mark_spells : (b : Bool) (bs : List TokenBody) → Spell bs → Spell (mark_bodies b bs)
@@ -53,13 +56,15 @@ start_spells true bs s = s
 start_spells false bs s = (refl, s)
 
 -- a tag that is written is one that can be read
-kept_readable : (ds : List TagDirective) (left_out : Bool) (t : Option (List ℕ)) → IsReadableTag ds t → IsReadableTag ds (kept_tag false left_out t)
+kept_readable : (ds : List TagDirective) (left_out : Bool) (t : Option (List ℕ))
+    → IsReadableTag ds t → IsReadableTag ds (kept_tag false left_out t)
 kept_readable ds true t r = tt
 kept_readable ds false t r = r
 
 -- ---- nodes
 
-value_spells : (b : Bool) (s : Style) (value : List ℕ) (bs : List TokenBody) → Spell bs → Spell (value_bodies b s value bs)
+value_spells : (b : Bool) (s : Style) (value : List ℕ) (bs : List TokenBody) → Spell bs
+    → Spell (value_bodies b s value bs)
 value_spells true s value bs h = h
 value_spells false s value bs h = (refl, h)
 
@@ -85,15 +90,19 @@ comma_spells : (fresh : Bool) (bs : List TokenBody) → Spell bs → Spell (comm
 comma_spells true bs s = s
 comma_spells false bs s = (refl, s)
 
-item_spells : (flow fresh : Bool) (bs : List TokenBody) → Spell bs → Spell (item_bodies flow fresh bs)
+item_spells : (flow fresh : Bool) (bs : List TokenBody) → Spell bs
+    → Spell (item_bodies flow fresh bs)
 item_spells true fresh bs s = comma_spells fresh bs s
 item_spells false fresh bs s = (refl, s)
 
-pair_spells : (flow fresh : Bool) (bs : List TokenBody) → Spell bs → Spell (pair_bodies flow fresh bs)
+pair_spells : (flow fresh : Bool) (bs : List TokenBody) → Spell bs
+    → Spell (pair_bodies flow fresh bs)
 pair_spells true fresh bs s = comma_spells fresh (token.key ∷ bs) (refl, s)
 pair_spells false fresh bs s = (refl, s)
 
-scalar_spells : (p : Context) (flow : Bool) (q : Part) (bare : Bool) (x : Scalar) → IsReadableTag p.directives x.tag → (bs : List TokenBody) → Spell bs → Spell (node_bodies p flow q bare (scalar_node x) bs)
+scalar_spells : (p : Context) (flow : Bool) (q : Part) (bare : Bool) (x : Scalar)
+    → IsReadableTag p.directives x.tag → (bs : List TokenBody) → Spell bs
+    → Spell (node_bodies p flow q bare (scalar_node x) bs)
 unfolding node_bodies
 scalar_spells p flow q bare x r bs s =
     let style = style_at p flow q x in
@@ -104,7 +113,10 @@ scalar_spells p flow q bare x r bs s =
 abbrev SpellsOn : (List TokenBody → List TokenBody) → Type 0
 SpellsOn f = (bs : List TokenBody) → Spell bs → Spell (f bs)
 
-sequence_spells : (p : Context) (flow : Bool) (q : Part) (bare : Bool) (o : Start) (ns : Nodes) → IsReadableTag p.directives o.tag → SpellsOn (items_bodies p (is_flow_at p flow o (are_none ns)) true ns) → SpellsOn (node_bodies p flow q bare (sequence_node o ns))
+sequence_spells : (p : Context) (flow : Bool) (q : Part) (bare : Bool) (o : Start) (ns : Nodes)
+    → IsReadableTag p.directives o.tag
+    → SpellsOn (items_bodies p (is_flow_at p flow o (are_none ns)) true ns)
+    → SpellsOn (node_bodies p flow q bare (sequence_node o ns))
 unfolding node_bodies
 sequence_spells p flow q bare o ns r inner bs s =
     let f = is_flow_at p flow o (are_none ns) in
@@ -113,7 +125,10 @@ sequence_spells p flow q bare o ns r inner bs s =
     properties_spell p.directives o.anchor (start_tag false o) (kept_readable p.directives o.implicit o.tag r) (sequence_opens f k (items_bodies p f true ns behind))
     (sequence_opened f k (items_bodies p f true ns behind) (inner behind (sequence_closed f k bs s)))
 
-mapping_spells : (p : Context) (flow : Bool) (q : Part) (bare : Bool) (o : Start) (ps : Pairs) → IsReadableTag p.directives o.tag → SpellsOn (pairs_bodies p (is_flow_at p flow o (are_no_pairs ps)) true ps) → SpellsOn (node_bodies p flow q bare (mapping_node o ps))
+mapping_spells : (p : Context) (flow : Bool) (q : Part) (bare : Bool) (o : Start) (ps : Pairs)
+    → IsReadableTag p.directives o.tag
+    → SpellsOn (pairs_bodies p (is_flow_at p flow o (are_no_pairs ps)) true ps)
+    → SpellsOn (node_bodies p flow q bare (mapping_node o ps))
 unfolding node_bodies
 mapping_spells p flow q bare o ps r inner bs s =
     let f = is_flow_at p flow o (are_no_pairs ps) in
@@ -124,19 +139,22 @@ mapping_spells p flow q bare o ps r inner bs s =
 mutual
   unfolding node_bodies items_bodies pairs_bodies
 
-  node_spells : (p : Context) (n : Node) → IsTagged p.directives n → (flow : Bool) (q : Part) (bare : Bool) → SpellsOn (node_bodies p flow q bare n)
+  node_spells : (p : Context) (n : Node) → IsTagged p.directives n
+      → (flow : Bool) (q : Part) (bare : Bool) → SpellsOn (node_bodies p flow q bare n)
   node_spells p (alias_node name) r flow q bare bs s = (refl, s)
   node_spells p (scalar_node x) r flow q bare bs s = scalar_spells p flow q bare x r bs s
   node_spells p (sequence_node o ns) (r, rs) flow q bare bs s = sequence_spells p flow q bare o ns r (items_spell p ns rs (is_flow_at p flow o (are_none ns)) true) bs s
   node_spells p (mapping_node o ps) (r, rs) flow q bare bs s = mapping_spells p flow q bare o ps r (pairs_spell p ps rs (is_flow_at p flow o (are_no_pairs ps)) true) bs s
 
-  items_spell : (p : Context) (ns : Nodes) → AreTagged p.directives ns → (flow fresh : Bool) → SpellsOn (items_bodies p flow fresh ns)
+  items_spell : (p : Context) (ns : Nodes) → AreTagged p.directives ns → (flow fresh : Bool)
+      → SpellsOn (items_bodies p flow fresh ns)
   items_spell p no_nodes r flow fresh bs s = s
   items_spell p (node x xs) (r, rs) flow fresh bs s =
       let behind = items_bodies p flow false xs bs in
       item_spells flow fresh (node_bodies p flow part.Item true x behind) (node_spells p x r flow part.Item true behind (items_spell p xs rs flow false bs s))
 
-  pairs_spell : (p : Context) (ps : Pairs) → PairsAreTagged p.directives ps → (flow fresh : Bool) → SpellsOn (pairs_bodies p flow fresh ps)
+  pairs_spell : (p : Context) (ps : Pairs) → PairsAreTagged p.directives ps → (flow fresh : Bool)
+      → SpellsOn (pairs_bodies p flow fresh ps)
   pairs_spell p no_pairs r flow fresh bs s = s
   pairs_spell p (pair k v ps) (rk, rv, rs) flow fresh bs s =
       let e = is_simple p k in
@@ -147,16 +165,19 @@ mutual
 
 -- ---- documents
 
-version_spells : (v : Option yaml_version_directive_t) (bs : List TokenBody) → Spell bs → Spell (version_bodies v bs)
+version_spells : (v : Option yaml_version_directive_t) (bs : List TokenBody) → Spell bs
+    → Spell (version_bodies v bs)
 version_spells None bs s = s
 version_spells (Some v) bs s = (refl, s)
 
-directives_spell : (ds : List TagDirective) → HaveUtf8 ds → (bs : List TokenBody) → Spell bs → Spell (directives_bodies ds bs)
+directives_spell : (ds : List TagDirective) → HaveUtf8 ds → (bs : List TokenBody) → Spell bs
+    → Spell (directives_bodies ds bs)
 unfolding directives_bodies
 directives_spell [] u bs s = s
 directives_spell (d ∷ ds) (u, us) bs s = (is_utf8-from_IsUtf8 d.prefix u, directives_spell ds us bs s)
 
-documents_spell : (s : Settings) (first unended kept : Bool) (ds : List Document) → HaveTexts ds → Spell (documents_bodies s first unended kept ds)
+documents_spell : (s : Settings) (first unended kept : Bool) (ds : List Document) → HaveTexts ds
+    → Spell (documents_bodies s first unended kept ds)
 unfolding documents_bodies
 documents_spell s first unended kept [] r = end_spells (unended && kept) (token.stream_end ∷ []) (refl, tt)
 documents_spell s first unended kept (d ∷ ds) (us, r, rs) =

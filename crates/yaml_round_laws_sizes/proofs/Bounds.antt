@@ -27,7 +27,9 @@ squares a b w =
     omega (arith, x, y)
 
 -- in m bytes, under an indent of r and 2
-polynomial : (m r : ℕ) → 123 + 2 * ((2 * m + 5) * ((2 + r) * (m + 1))) + 141 * (m + 1) + 3 * ((m + 1) * (m + 1)) ≤ 6 * ((2 + r) * ((m + 8) * (m + 8)))
+polynomial : (m r : ℕ)
+    → 123 + 2 * ((2 * m + 5) * ((2 + r) * (m + 1))) + 141 * (m + 1) + 3 * ((m + 1) * (m + 1)) ≤ 6 *
+    ((2 + r) * ((m + 8) * (m + 8)))
 polynomial m r = omega arith
 
 -- i columns at most, g tags, and b bytes of directives
@@ -41,13 +43,17 @@ in_units m n i g b two deep few =
     let d : (3 * i) * (m + 1) ≤ ((2 * m + 5) * n) * (m + 1) = mul-le-mul_right (m + 1) deep in
     thrice m n i g b p q s d few
   where
-    thrice : (m n i g b : ℕ) → 123 + 2 * ((2 * m + 5) * (n * (m + 1))) + 141 * (m + 1) + 3 * ((m + 1) * (m + 1)) ≤ 6 * (n * ((m + 8) * (m + 8)))
-        → 4 * (g * b) ≤ (g + b) * (g + b) → (g + b) * (g + b) ≤ (m + 1) * (m + 1) → (3 * i) * (m + 1) ≤ ((2 * m + 5) * n) * (m + 1) → g + b ≤ m + 1
+    thrice : (m n i g b : ℕ)
+        → 123 + 2 * ((2 * m + 5) * (n * (m + 1))) + 141 * (m + 1) + 3 * ((m + 1) * (m + 1)) ≤ 6 *
+        (n * ((m + 8) * (m + 8)))
+        → 4 * (g * b) ≤ (g + b) * (g + b) → (g + b) * (g + b) ≤ (m + 1) * (m + 1)
+        → (3 * i) * (m + 1) ≤ ((2 * m + 5) * n) * (m + 1) → g + b ≤ m + 1
         → 41 + 2 * ((i + 10) * (m + 1)) + (27 + 4 * b) * g ≤ 2 * (n * ((m + 8) * (m + 8)))
     thrice m n i g b p q s d few = omega (arith, p, q, s, d, few)
 
 pub all_in_all : (u m n i g b : ℕ) → 2 ≤ n → 3 * i ≤ (2 * m + 5) * n → g + b ≤ m + 1
-    → 41 * u + (u * (i + 10) + u * (i + 10)) * (m + 1) + (27 * u + 4 * u * b) * g ≤ u * (2 * (n * ((m + 8) * (m + 8))))
+    → 41 * u + (u * (i + 10) + u * (i + 10)) * (m + 1) + (27 * u + 4 * u * b) * g ≤ u *
+    (2 * (n * ((m + 8) * (m + 8))))
 all_in_all u m n i g b two deep few =
     let a : u * (41 + 2 * ((i + 10) * (m + 1)) + (27 + 4 * b) * g) ≤ u * (2 * (n * ((m + 8) * (m + 8)))) = mul-le-mul_left u (in_units m n i g b two deep few) in
     omega (arith, a)

@@ -31,7 +31,8 @@ SpeltAny n k p (Err o) = Unit {0}
 char_size : (c : ℕ) → length (encode_utf8 c) ≤ 4
 char_size c = let b = (len_utf8_bounds c).1 in omega (arith, length-encode c, b)
 
-utf8_spelt : (bytes : List ℕ) (p : ℕ) (r : Result Character Offence) → p < length bytes → utf8_at bytes p ≡ r → SpeltAny (length bytes) 1 p r
+utf8_spelt : (bytes : List ℕ) (p : ℕ) (r : Result Character Offence) → p < length bytes
+    → utf8_at bytes p ≡ r → SpeltAny (length bytes) 1 p r
 utf8_spelt bytes p (Err o) l e = tt
 utf8_spelt bytes p (Ok c) l e =
     let s = utf8_stands bytes p c l e in
@@ -41,7 +42,8 @@ utf8_spelt bytes p (Ok c) l e =
     let inside = s.inside in
     record { scalar = allowed_scalar c.code s.allowed; inside = inside; short = omega (arith, a, inside, length-drop p bytes, length-drop (p + c.width) bytes) }
 
-allowed_spelt : (n p width code : ℕ) → p + width ≤ n → 2 ≤ width → SpeltAny n 2 p (allowed_at p width code)
+allowed_spelt : (n p width code : ℕ) → p + width ≤ n → 2 ≤ width
+    → SpeltAny n 2 p (allowed_at p width code)
 unfolding allowed_at
 allowed_spelt n p width code w two =
     elim (cases_Bool (is_allowed code)) [
@@ -69,7 +71,8 @@ utf16_spelt n p u v l =
       ]
     ]
 
-spelt_at : (x : yaml_encoding_t) (bytes : List ℕ) (p : ℕ) → p < length bytes → SpeltAny (length bytes) (text_times x) p (character_at x bytes p)
+spelt_at : (x : yaml_encoding_t) (bytes : List ℕ) (p : ℕ) → p < length bytes
+    → SpeltAny (length bytes) (text_times x) p (character_at x bytes p)
 spelt_at YAML_ANY_ENCODING bytes p l = utf8_spelt bytes p (utf8_at bytes p) l refl
 spelt_at YAML_UTF8_ENCODING bytes p l = utf8_spelt bytes p (utf8_at bytes p) l refl
 spelt_at YAML_UTF16LE_ENCODING bytes p l = utf16_spelt (length bytes) p (unit_at LowFirst bytes p) (unit_at LowFirst bytes (p + 2)) l
@@ -82,7 +85,8 @@ abbrev Text : ℕ → ℕ → ℕ → Result (List ℕ) Offence → Type 0
 Text n k p (Ok cs) = (all_scalars cs ≡ true) × (length (encode_utf8_all cs) ≤ k * (n - p))
 Text n k p (Err o) = Unit {0}
 
-before_text : (n k p : ℕ) (c : Character) (r : Result (List ℕ) Offence) → Spelt n k p c → Text n k (p + c.width) r → Text n k p (before c.code r)
+before_text : (n k p : ℕ) (c : Character) (r : Result (List ℕ) Offence) → Spelt n k p c
+    → Text n k (p + c.width) r → Text n k p (before c.code r)
 before_text n k p c (Err o) s t = tt
 before_text n k p c (Ok cs) s t =
     let own = s.scalar in
@@ -92,11 +96,13 @@ before_text n k p c (Ok cs) s t =
     let b : k * (n - p) ≡ k * c.width + k * (n - (p + c.width)) = rw a (omega arith) in
     (rw own (rw t.0 refl), omega (arith, b, short, t.1, length-append (encode_utf8 c.code) (encode_utf8_all cs)))
 
-led_text : (n k p : ℕ) (rest : ℕ → Result (List ℕ) Offence) (r : Result Character Offence) → SpeltAny n k p r → ((q : ℕ) → Text n k q (rest q)) → Text n k p (led_by rest p r)
+led_text : (n k p : ℕ) (rest : ℕ → Result (List ℕ) Offence) (r : Result Character Offence)
+    → SpeltAny n k p r → ((q : ℕ) → Text n k q (rest q)) → Text n k p (led_by rest p r)
 led_text n k p rest (Ok c) s f = before_text n k p c (rest (p + c.width)) s (f (p + c.width))
 led_text n k p rest (Err o) s f = tt
 
-characters_text : (m : ℕ) (x : yaml_encoding_t) (bytes : List ℕ) (p : ℕ) → Text (length bytes) (text_times x) p (characters m x bytes p)
+characters_text : (m : ℕ) (x : yaml_encoding_t) (bytes : List ℕ) (p : ℕ)
+    → Text (length bytes) (text_times x) p (characters m x bytes p)
 unfolding characters
 characters_text zero x bytes p = (refl, omega arith)
 characters_text (suc m) x bytes p =
@@ -120,7 +126,8 @@ whole_text : (n k p : ℕ) (r : Result (List ℕ) Offence) → Text n k p r → 
 whole_text n k p (Ok cs) t = record { utf8 = (cs, (t.0, refl)); short = shorter k n p (length (encode_utf8_all cs)) t.1 }
 whole_text n k p (Err o) t = tt
 
-pub input_text : (from : yaml_encoding_t) (input : List ℕ) → IsTextAny (text_times (encoding_of from input)) (length input) (decoded_characters from input)
+pub input_text : (from : yaml_encoding_t) (input : List ℕ)
+    → IsTextAny (text_times (encoding_of from input)) (length input) (decoded_characters from input)
 input_text from input =
     whole_text (length input) (text_times (encoding_of from input)) (mark_length from input) (decoded_characters from input)
     (characters_text (length input) (encoding_of from input) input (mark_length from input))

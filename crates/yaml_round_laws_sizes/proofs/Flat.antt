@@ -40,7 +40,9 @@ outermost n step i w = omega (arith, w)
 mutual
   unfolding StandsAt ItemStandsAt PartStandsAt most_of_node most_of_items most_of_pairs
 
-  pub flat_most : (p : Context) (i n : ℕ) (x : Node) → ((d : ℕ) → StandsAt d x → n + d * p.settings.indent ≤ i) → most_of_node p n x ≤ flat_node p i x
+  pub flat_most : (p : Context) (i n : ℕ) (x : Node)
+      → ((d : ℕ) → StandsAt d x → n + d * p.settings.indent ≤ i)
+      → most_of_node p n x ≤ flat_node p i x
   flat_most p i n (alias_node name) h = le_refl _
   flat_most p i n (scalar_node x) h =
       let w = outermost n p.settings.indent i (h 0 tt) in
@@ -50,12 +52,16 @@ mutual
   flat_most p i n (mapping_node q pairs) h =
       omega (arith, flat_pairs_most p i n pairs (outermost n p.settings.indent i (h 0 tt)) (λ d k. inward n p.settings.indent i d (h (suc d) k)))
 
-  flat_items_most : (p : Context) (i n : ℕ) (xs : Nodes) → n ≤ i → ((d : ℕ) → ItemStandsAt d xs → (n + p.settings.indent) + d * p.settings.indent ≤ i) → most_of_items p n xs ≤ flat_items p i xs
+  flat_items_most : (p : Context) (i n : ℕ) (xs : Nodes) → n ≤ i
+      → ((d : ℕ) → ItemStandsAt d xs → (n + p.settings.indent) + d * p.settings.indent ≤ i)
+      → most_of_items p n xs ≤ flat_items p i xs
   flat_items_most p i n no_nodes w h = line_grows p.settings n i w
   flat_items_most p i n (node x xs) w h =
       omega (arith, line_grows p.settings n i w, flat_most p i (n + p.settings.indent) x (λ d k. h d (inl k)), flat_items_most p i n xs w (λ d k. h d (inr k)))
 
-  flat_pairs_most : (p : Context) (i n : ℕ) (ps : Pairs) → n ≤ i → ((d : ℕ) → PartStandsAt d ps → (n + p.settings.indent) + d * p.settings.indent ≤ i) → most_of_pairs p n ps ≤ flat_pairs p i ps
+  flat_pairs_most : (p : Context) (i n : ℕ) (ps : Pairs) → n ≤ i
+      → ((d : ℕ) → PartStandsAt d ps → (n + p.settings.indent) + d * p.settings.indent ≤ i)
+      → most_of_pairs p n ps ≤ flat_pairs p i ps
   flat_pairs_most p i n no_pairs w h = line_grows p.settings n i w
   flat_pairs_most p i n (pair k v ps) w h =
       omega (
@@ -66,7 +72,9 @@ mutual
         flat_pairs_most p i n ps w (λ d q. h d (inr (inr q))),
       )
 
-pub flat_documents_most : (s : Settings) (i : ℕ) (ds : List Document) → ((d : ℕ) → RootStandsAt d ds → s.indent + d * s.indent ≤ i) → most_of_documents s ds ≤ flat_documents s i ds
+pub flat_documents_most : (s : Settings) (i : ℕ) (ds : List Document)
+    → ((d : ℕ) → RootStandsAt d ds → s.indent + d * s.indent ≤ i)
+    → most_of_documents s ds ≤ flat_documents s i ds
 unfolding RootStandsAt most_of_documents
 flat_documents_most s i [] h = le_refl _
 flat_documents_most s i (d ∷ ds) h =

@@ -46,7 +46,8 @@ nothing_said : {A : Type 0} (t : Stream) (rest : List Token) → [] ≡ spell t 
 nothing_said t rest e = cc
 
 -- of what was decoded
-decoded_take : (x : yaml_encoding_t) (r : Result (List ℕ) Offence) (n : ℕ) (c : List Document) → Few n r → HaveContent (adapted (scanned_in x (in_utf8 r))).tokens c
+decoded_take : (x : yaml_encoding_t) (r : Result (List ℕ) Offence) (n : ℕ) (c : List Document)
+    → Few n r → HaveContent (adapted (scanned_in x (in_utf8 r))).tokens c
     → (d : ℕ) → RootStandsAt d (written_documents c) → 3 * d ≤ 2 * n + 2
 decoded_take x (Err o) n c few k d h = nothing_said k.sentence.tree k.sentence.rest k.sentence.same
 decoded_take x (Ok cs) n c few k d h =
@@ -94,8 +95,10 @@ front_weighs : (w : Weight) (ts xs ys : List Token) → ts ≡ xs ++ ys → weig
 front_weighs w ts xs ys e = rw e (omega (arith, weigh_append w xs ys))
 
 -- of a text in UTF-8
-text_bounded : (s : Settings) (x : yaml_encoding_t) (cs : List ℕ) (c : List Document) → 2 ≤ s.indent → IsUtf8 (encode_utf8_all cs) → HaveContent (adapted (scanned_in x (in_utf8 (Ok cs)))).tokens c
-    → most_bytes s (written_documents c) ≤ most_of_read s.encoding s.indent (length (encode_utf8_all cs))
+text_bounded : (s : Settings) (x : yaml_encoding_t) (cs : List ℕ) (c : List Document) → 2 ≤ s.indent
+    → IsUtf8 (encode_utf8_all cs) → HaveContent (adapted (scanned_in x (in_utf8 (Ok cs)))).tokens c
+    → most_bytes s (written_documents c) ≤ most_of_read s.encoding s.indent
+    (length (encode_utf8_all cs))
 text_bounded s x cs c two utf8 k =
     let t : SpelledText = record { encoding = x; text = encode_utf8_all cs } in
     let m = length t.text in
@@ -122,13 +125,16 @@ text_bounded s x cs c two utf8 k =
     let n = all_in_all u m s.indent i g b two (most_columns m s.indent) few in
     omega (arith, a, same, e, whole (cost s i room), f, p, n)
 
-read_grows : (s : Settings) (n m : ℕ) → n ≤ m → most_of_read s.encoding s.indent n ≤ most_of_read s.encoding s.indent m
+read_grows : (s : Settings) (n m : ℕ) → n ≤ m
+    → most_of_read s.encoding s.indent n ≤ most_of_read s.encoding s.indent m
 read_grows s n m w =
     let a : (n + 8) * (n + 8) ≤ (m + 8) * (m + 8) = squares (n + 8) (m + 8) (omega (arith, w)) in
     let b : s.indent * ((n + 8) * (n + 8)) ≤ s.indent * ((m + 8) * (m + 8)) = mul-le-mul_left s.indent a in
     mul-le-mul_left (unit s.encoding) (omega (arith, b))
 
-decoded_bounded : (s : Settings) (x : yaml_encoding_t) (r : Result (List ℕ) Offence) (k n : ℕ) (c : List Document) → 2 ≤ s.indent → IsTextAny k n r → HaveContent (adapted (scanned_in x (in_utf8 r))).tokens c
+decoded_bounded : (s : Settings) (x : yaml_encoding_t) (r : Result (List ℕ) Offence) (k n : ℕ)
+    (c : List Document) → 2 ≤ s.indent → IsTextAny k n r
+    → HaveContent (adapted (scanned_in x (in_utf8 r))).tokens c
     → most_bytes s (written_documents c) ≤ most_of_read s.encoding s.indent (k * n)
 decoded_bounded s x (Err o) k n c two t h = nothing_said h.sentence.tree h.sentence.rest h.sentence.same
 decoded_bounded s x (Ok cs) k n c two t h =

@@ -92,11 +92,13 @@ before_few : (n c : ℕ) (r : Result (List ℕ) Offence) → Few n r → Few (su
 before_few n c (Ok cs) f = omega arith
 before_few n c (Err o) f = tt
 
-led_few : (n p : ℕ) (rest : ℕ → Result (List ℕ) Offence) (r : Result Character Offence) → ((q : ℕ) → Few n (rest q)) → Few (suc n) (led_by rest p r)
+led_few : (n p : ℕ) (rest : ℕ → Result (List ℕ) Offence) (r : Result Character Offence)
+    → ((q : ℕ) → Few n (rest q)) → Few (suc n) (led_by rest p r)
 led_few n p rest (Ok c) f = before_few n c.code (rest (p + c.width)) (f (p + c.width))
 led_few n p rest (Err o) f = tt
 
-few_characters : (n : ℕ) (e : yaml_encoding_t) (bytes : List ℕ) (p : ℕ) → Few n (characters n e bytes p)
+few_characters : (n : ℕ) (e : yaml_encoding_t) (bytes : List ℕ) (p : ℕ)
+    → Few n (characters n e bytes p)
 unfolding characters
 few_characters zero e bytes p = le_refl _
 few_characters (suc n) e bytes p =
@@ -106,7 +108,8 @@ few_characters (suc n) e bytes p =
     ]
 
 -- an input has no more characters than bytes
-pub few_decoded : (from : yaml_encoding_t) (input : List ℕ) → Few (length input) (decoded_characters from input)
+pub few_decoded : (from : yaml_encoding_t) (input : List ℕ)
+    → Few (length input) (decoded_characters from input)
 few_decoded from input = few_characters (length input) (encoding_of from input) input (mark_length from input)
 
 pub leads_few : (cs : List ℕ) → leads (encode_utf8_all cs) (length (encode_utf8_all cs)) ≤ length cs

@@ -133,7 +133,8 @@ char_most s i c w =
       | inr e ↦ rw e (larger_most (most_of_quoted s i c) (broad s i) (broad s i) (quoted_most s i c w) (le_refl _))
     ]
 
-value_most : (s : Settings) (i : ℕ) (cs : List ℕ) → scalars cs ≡ true → most_of_value s i cs ≤ broad s i * length cs
+value_most : (s : Settings) (i : ℕ) (cs : List ℕ) → scalars cs ≡ true
+    → most_of_value s i cs ≤ broad s i * length cs
 unfolding most_of_value
 value_most s i [] h = omega arith
 value_most s i (c ∷ cs) h =
@@ -143,7 +144,8 @@ value_most s i (c ∷ cs) h =
 chars_few : (v : List ℕ) → IsUtf8 v → length (chars v) ≤ length v
 chars_few v u = subst (λ z. length (chars v) ≤ length z) (encodes-chars v u) (length-le-encodes (chars v))
 
-scalar_most : (s : Settings) (i : ℕ) (v : List ℕ) → IsUtf8 v → most_of_value s i (chars v) ≤ broad s i * length v
+scalar_most : (s : Settings) (i : ℕ) (v : List ℕ) → IsUtf8 v
+    → most_of_value s i (chars v) ≤ broad s i * length v
 scalar_most s i v u =
     let a = value_most s i (chars v) (scalars-chars v u) in
     let b : broad s i * length (chars v) ≤ broad s i * length v = mul-le-mul_left (broad s i) (chars_few v u) in
@@ -159,7 +161,8 @@ abbrev pub lengths : Weight
 lengths (token.tag_directive handle prefix) = length handle + length prefix
 lengths _ = 0
 
-body_costs : (s : Settings) (i t : ℕ) (body : TokenBody) → HasTexts body → spells_text body ≡ true → cost s i t body ≤ by_length (unit s.encoding) (broad s i) body + t * tags body
+body_costs : (s : Settings) (i t : ℕ) (body : TokenBody) → HasTexts body → spells_text body ≡ true
+    → cost s i t body ≤ by_length (unit s.encoding) (broad s i) body + t * tags body
 body_costs s i t (token.tag_directive handle prefix) u e =
     omega (arith, name_most s.encoding handle, utf8_most s.encoding prefix (IsUtf8-from_is_utf8 prefix e))
 body_costs s i t (token.alias name) u e = omega (arith, name_most s.encoding name)
@@ -169,13 +172,16 @@ body_costs s i t (token.tag handle suffix) u e =
 body_costs s i t (token.scalar v style) u e = omega (arith, scalar_most s i v u)
 body_costs s i t _ u e = omega arith
 
-body_lends : (x : Encoding) (body : TokenBody) → HasTexts body → spells_text body ≡ true → lends x body ≤ 4 * unit x * lengths body
+body_lends : (x : Encoding) (body : TokenBody) → HasTexts body → spells_text body ≡ true
+    → lends x body ≤ 4 * unit x * lengths body
 body_lends x (token.tag_directive handle prefix) u e =
     omega (arith, name_most x handle, utf8_most x prefix (IsUtf8-from_is_utf8 prefix e))
 body_lends x _ u e = omega arith
 
-pub cut_costs : (s : Settings) (i t : ℕ) (f : Option Fault) (ts : List Token) → All (λ k. HasTexts k.body) ts
-    → weigh (cost s i t) (cut f ts).tokens ≤ weigh (by_length (unit s.encoding) (broad s i)) ts + t * weigh tags ts
+pub cut_costs : (s : Settings) (i t : ℕ) (f : Option Fault) (ts : List Token)
+    → All (λ k. HasTexts k.body) ts
+    → weigh (cost s i t) (cut f ts).tokens ≤ weigh (by_length (unit s.encoding) (broad s i)) ts + t
+    * weigh tags ts
 cut_costs s i t f [] u = omega arith
 cut_costs s i t f (k ∷ ts) u =
     let own = All-head (λ (z : Token). HasTexts z.body) k ts u in
@@ -185,7 +191,8 @@ cut_costs s i t f (k ∷ ts) u =
       | inr e ↦ rw e (omega arith)
     ]
 
-pub cut_lends : (x : Encoding) (f : Option Fault) (ts : List Token) → All (λ k. HasTexts k.body) ts → weigh (lends x) (cut f ts).tokens ≤ 4 * unit x * weigh lengths ts
+pub cut_lends : (x : Encoding) (f : Option Fault) (ts : List Token) → All (λ k. HasTexts k.body) ts
+    → weigh (lends x) (cut f ts).tokens ≤ 4 * unit x * weigh lengths ts
 cut_lends x f [] u = omega arith
 cut_lends x f (k ∷ ts) u =
     let own = All-head (λ (z : Token). HasTexts z.body) k ts u in

@@ -47,11 +47,13 @@ abbrev own_of : Option Kind → ℕ
 own_of None = 0
 own_of (Some k) = own k
 
-none_if : (f : Option Kind → ℕ) (b : Bool) (x y : Option Kind) → f x ≡ 0 → f y ≡ 0 → f (if b then x else y) ≡ 0
+none_if : (f : Option Kind → ℕ) (b : Bool) (x y : Option Kind) → f x ≡ 0 → f y ≡ 0
+    → f (if b then x else y) ≡ 0
 none_if f true x y g h = g
 none_if f false x y g h = h
 
-else_if : (f : Option Kind → ℕ) (b : Bool) (x y : Option Kind) → b ≡ false → f y ≡ 0 → f (if b then x else y) ≡ 0
+else_if : (f : Option Kind → ℕ) (b : Bool) (x y : Option Kind) → b ≡ false → f y ≡ 0
+    → f (if b then x else y) ≡ 0
 else_if f b x y e h = rw e h
 
 and_not : (a b : Bool) → a ≡ false → (a && b) ≡ false
@@ -61,7 +63,8 @@ not_and : (a b : Bool) → b ≡ false → (a && b) ≡ false
 not_and true b e = e
 not_and false b e = refl
 
-or_none : (f : Option Kind → ℕ) (o : Option Kind) (s : Bool) → f o ≡ 0 → f None ≡ 0 → f (Some kinds.Plain) ≡ 0 → f (or_plain o s) ≡ 0
+or_none : (f : Option Kind → ℕ) (o : Option Kind) (s : Bool) → f o ≡ 0 → f None ≡ 0
+    → f (Some kinds.Plain) ≡ 0 → f (or_plain o s) ≡ 0
 or_none f (Some k) s a b c = a
 or_none f None true a b c = c
 or_none f None false a b c = b
@@ -84,7 +87,8 @@ far_indicator flow alone b f =
     (none_if o (b == 42) _ _ refl (none_if o (b == 38) _ _ refl (none_if o (b == 33) _ _ refl (none_if o (b == 124 && not flow) _ _ refl
     (none_if o (b == 62 && not flow) _ _ refl (none_if o (b == 39) _ _ refl (none_if o (b == 34) _ _ refl refl))))))))))))))
 
-far_kind : (flow : Bool) (text : List ℕ) (p : ℕ) → 128 ≤ byte text p → own_of (kind_at flow text p) ≡ 0
+far_kind : (flow : Bool) (text : List ℕ) (p : ℕ) → 128 ≤ byte text p
+    → own_of (kind_at flow text p) ≡ 0
 unfolding kind_at
 far_kind flow text p f =
     let o = own_of in
@@ -106,7 +110,8 @@ own_least kinds.KeyMark = le_refl _
 own_least kinds.ValueMark = le_refl _
 own_least _ = omega arith
 
-pub begins : (flow : Bool) (text : List ℕ) (p : ℕ) (k : Kind) → kind_at flow text p ≡ Some k → own k ≤ one_if (starts (byte text p))
+pub begins : (flow : Bool) (text : List ℕ) (p : ℕ) (k : Kind) → kind_at flow text p ≡ Some k
+    → own k ≤ one_if (starts (byte text p))
 begins flow text p k e =
     elim (cases_Bool (nat_lt (byte text p) 128)) [
       | inl s ↦ rw s (own_least k)
@@ -133,7 +138,8 @@ black text p e =
     let a6 = or_parts (b == 0xC2) (b == 0xE2) a5.1 in
     rw a1.0 (rw a2.0 (rw a3.0 (rw a4.0 (rw a5.0 (rw a6.0 (rw a6.1 refl))))))
 
-pub blank_white : (text : List ℕ) (p : ℕ) → is_blank_or_end text p ≡ true → white (byte text p) ≡ true
+pub blank_white : (text : List ℕ) (p : ℕ) → is_blank_or_end text p ≡ true
+    → white (byte text p) ≡ true
 blank_white text p e =
     elim (cases_Bool (white (byte text p))) [
       | inl w ↦ w
@@ -169,14 +175,17 @@ white_indicator flow alone b w =
     (rw (unlike b 58 w refl) (rw (unlike b 42 w refl) (rw (unlike b 38 w refl) (rw (unlike b 33 w refl) (rw (unlike b 124 w refl) (rw (unlike b 62 w refl) (rw (unlike b 39 w refl)
     (rw (unlike b 34 w refl) refl))))))))))))))
 
-plain_not : (flow : Bool) (text : List ℕ) (p : ℕ) → is_blank_or_end text p ≡ true → starts_plain flow text p ≡ false
+plain_not : (flow : Bool) (text : List ℕ) (p : ℕ) → is_blank_or_end text p ≡ true
+    → starts_plain flow text p ≡ false
 unfolding starts_plain
 plain_not flow text p e = rw e refl
 
-thrice_not : (n : ℕ) (text : List ℕ) (p : ℕ) → (byte text p == n) ≡ false → is_thrice n text p ≡ false
+thrice_not : (n : ℕ) (text : List ℕ) (p : ℕ) → (byte text p == n) ≡ false
+    → is_thrice n text p ≡ false
 thrice_not n text p e = rw e refl
 
-blank_kind : (flow : Bool) (text : List ℕ) (p : ℕ) → is_blank_or_end text p ≡ true → busy_of (kind_at flow text p) ≡ 0
+blank_kind : (flow : Bool) (text : List ℕ) (p : ℕ) → is_blank_or_end text p ≡ true
+    → busy_of (kind_at flow text p) ≡ 0
 unfolding kind_at is_document_start is_document_end white busy_of
 blank_kind flow text p e =
     let b = byte text p in
@@ -202,7 +211,8 @@ apart_least kinds.ValueMark zero = le_refl _
 apart_least kinds.ValueMark (suc d) = omega arith
 apart_least _ d = omega arith
 
-near_indicator : (d : ℕ) (alone : Bool) (b : ℕ) → alone ≡ false → apart_of d (indicator_of (nat_lt 0 d) alone b) ≡ 0
+near_indicator : (d : ℕ) (alone : Bool) (b : ℕ) → alone ≡ false
+    → apart_of d (indicator_of (nat_lt 0 d) alone b) ≡ 0
 unfolding indicator_of apart_of
 near_indicator zero alone b e =
     let o = apart_of 0 in
@@ -222,7 +232,8 @@ near_indicator (suc d) alone b e =
     (none_if o (b == 42) _ _ refl (none_if o (b == 38) _ _ refl (none_if o (b == 33) _ _ refl (none_if o (b == 124 && not f) _ _ refl
     (none_if o (b == 62 && not f) _ _ refl (none_if o (b == 39) _ _ refl (none_if o (b == 34) _ _ refl refl))))))))))))))
 
-near_kind : (d : ℕ) (text : List ℕ) (p : ℕ) → is_blank_or_end text (p + 1) ≡ false → apart_of d (kind_at (nat_lt 0 d) text p) ≡ 0
+near_kind : (d : ℕ) (text : List ℕ) (p : ℕ) → is_blank_or_end text (p + 1) ≡ false
+    → apart_of d (kind_at (nat_lt 0 d) text p) ≡ 0
 unfolding kind_at apart_of
 near_kind d text p e =
     let o = apart_of d in
@@ -233,7 +244,8 @@ near_kind d text p e =
     (or_none o (indicator_of (nat_lt 0 d) (is_blank_or_end text (p + 1)) (byte text p)) (starts_plain (nat_lt 0 d) text p)
     (near_indicator d (is_blank_or_end text (p + 1)) (byte text p) e) refl refl))))
 
-pub followed : (d : ℕ) (text : List ℕ) (p : ℕ) (k : Kind) → kind_at (nat_lt 0 d) text p ≡ Some k → apart k d ≤ one_if (is_blank_or_end text (p + 1))
+pub followed : (d : ℕ) (text : List ℕ) (p : ℕ) (k : Kind) → kind_at (nat_lt 0 d) text p ≡ Some k
+    → apart k d ≤ one_if (is_blank_or_end text (p + 1))
 unfolding apart_of
 followed d text p k e =
     elim (cases_Bool (is_blank_or_end text (p + 1))) [
@@ -242,7 +254,8 @@ followed d text p k e =
     ]
 
 -- the end, or no blank
-pub not_blank : (flow : Bool) (text : List ℕ) (p : ℕ) (k : Kind) → kind_at flow text p ≡ Some k → one_if (not (is_end k)) + one_if (is_blank_or_end text p) ≤ 1
+pub not_blank : (flow : Bool) (text : List ℕ) (p : ℕ) (k : Kind) → kind_at flow text p ≡ Some k
+    → one_if (not (is_end k)) + one_if (is_blank_or_end text p) ≤ 1
 unfolding busy_of
 not_blank flow text p k e =
     elim (cases_Bool (is_blank_or_end text p)) [

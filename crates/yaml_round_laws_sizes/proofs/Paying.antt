@@ -28,7 +28,8 @@ Tells text (Read l) = Telling text l
 Tells text (Fails p) = Unit {0}
 Tells text Ends = Unit {0}
 
-first_tells : (text : List ℕ) (ps : List (Option ScanFault)) (x : Next) → Tells text x → Tells text (first_fault_or ps x)
+first_tells : (text : List ℕ) (ps : List (Option ScanFault)) (x : Next) → Tells text x
+    → Tells text (first_fault_or ps x)
 first_tells text [] x t = t
 first_tells text (Some p ∷ ps) x t = tt
 first_tells text (None ∷ ps) x t = first_tells text ps x t
@@ -54,7 +55,8 @@ placed_index k m =
     ]
 
 -- the place behind an indicator of blocks is the next one
-behind_of : (k : Kind) (text : List ℕ) (h : List Lexeme) → apart k (depth h) ≤ one_if (is_blank_or_end text ((gap_behind text h).place + 1))
+behind_of : (k : Kind) (text : List ℕ) (h : List Lexeme)
+    → apart k (depth h) ≤ one_if (is_blank_or_end text ((gap_behind text h).place + 1))
     → apart k (depth h) ≤ one_if (is_blank_or_end text (lexeme_behind k text h).reached.index)
 unfolding word_at
 behind_of kinds.BlockEntry text h w = w
@@ -62,7 +64,8 @@ behind_of kinds.KeyMark text h w = w
 behind_of kinds.ValueMark text h w = w
 behind_of _ text h w = omega arith
 
-coming_tells : (o : Option Kind) (text : List ℕ) (h : List Lexeme) → kind_behind text h ≡ o → Tells text (coming o text h)
+coming_tells : (o : Option Kind) (text : List ℕ) (h : List Lexeme) → kind_behind text h ≡ o
+    → Tells text (coming o text h)
 coming_tells None text h e = first_tells text (stale_before text h ∷ []) (Fails (no_start (place_behind text h))) tt
 coming_tells (Some k) text h e =
     let q = (gap_behind text h).place in
@@ -78,7 +81,8 @@ coming_tells (Some k) text h e =
       behind = rw same.kind (rw same.depth c);
     })
 
-pub next_tells : (text : List ℕ) (x : Lexeme) (h : List Lexeme) → is_end x.kind ≡ false → Tells text (next text (x ∷ h))
+pub next_tells : (text : List ℕ) (x : Lexeme) (h : List Lexeme) → is_end x.kind ≡ false
+    → Tells text (next text (x ∷ h))
 unfolding next
 next_tells text x h more = rw more (coming_tells (kind_behind text (x ∷ h)) text (x ∷ h) refl)
 
@@ -104,7 +108,8 @@ end_worth l e = by l.kind e
     by _ f = cc
 
 -- from the place that one reaches to the start of the next one
-gone : (text : List ℕ) (p q : ℕ) → p ≤ q → is_blank_or_end text q ≡ false → leads text p + one_if (is_blank_or_end text p) ≤ leads text q
+gone : (text : List ℕ) (p q : ℕ) → p ≤ q → is_blank_or_end text q ≡ false
+    → leads text p + one_if (is_blank_or_end text p) ≤ leads text q
 gone text p q w n =
     elim (cases_Bool (is_blank_or_end text p)) [
       | inl e ↦
@@ -120,7 +125,8 @@ pub no_blank : (b : Bool) → 1 + one_if b ≤ 1 → b ≡ false
 no_blank true w = absurd (omega arith)
 no_blank false w = refl
 
-read_paid : (text : List ℕ) (x : Lexeme) (h : List Lexeme) (l : Lexeme) → Stands text (x ∷ h) → Paid text x h → next text (x ∷ h) ≡ Read l → Paid text l (x ∷ h)
+read_paid : (text : List ℕ) (x : Lexeme) (h : List Lexeme) (l : Lexeme) → Stands text (x ∷ h)
+    → Paid text x h → next text (x ∷ h) ≡ Read l → Paid text l (x ∷ h)
 read_paid text x h l s paid e =
     let more = not_ended text x h l e in
     let t : Telling text l = subst (Tells text) e (next_tells text x h more) in
@@ -144,7 +150,8 @@ read_paid text x h l s paid e =
           record { count = λ n. k; blank = t.behind; total = omega (arith, k, d, apart_least l.kind l.depth) }
     ]
 
-step_paid : (text : List ℕ) (h : List Lexeme) (x : Next) → Stands text h → ArePaid text h → next text h ≡ x → ArePaid text (extended x h)
+step_paid : (text : List ℕ) (h : List Lexeme) (x : Next) → Stands text h → ArePaid text h
+    → next text h ≡ x → ArePaid text (extended x h)
 step_paid text [] (Read l) s p e = rw (← first_is text l e) (first_paid text)
 step_paid text (y ∷ h) (Read l) s p e = read_paid text y h l s p e
 step_paid text h (Fails f) s p e = p
@@ -155,7 +162,8 @@ unfolding history
 history_paid text zero = tt
 history_paid text (suc n) = step_paid text (history text n) (next text (history text n)) (history_stands text n) (history_paid text n) refl
 
-paid_total : (text : List ℕ) (h : List Lexeme) → ArePaid text h → worths h ≤ leads text (length text) + 1
+paid_total : (text : List ℕ) (h : List Lexeme) → ArePaid text h
+    → worths h ≤ leads text (length text) + 1
 paid_total text [] p = omega arith
 paid_total text (l ∷ h) p = p.total
 

@@ -75,7 +75,8 @@ gap_size (b ∷ bs) (c ∷ cs) =
       | inr e ↦ rw e (omega (arith, length-append (b ∷ bs) (c ∷ cs)))
     ]
 
-rest_size : (l : Line) (ls : List (List ℕ × Line)) → length (rest_of l ls).breaks + length (rest_of l ls).value ≤ pieces_size l + others_size ls
+rest_size : (l : Line) (ls : List (List ℕ × Line))
+    → length (rest_of l ls).breaks + length (rest_of l ls).value ≤ pieces_size l + others_size ls
 rest_size l [] = omega (arith, text_size (trim_start l), start_size l)
 rest_size l (next ∷ ls) =
     let rest = rest_of next.1 ls in
@@ -89,7 +90,8 @@ rest_size l (next ∷ ls) =
           rw e (omega (arith, a, more, gap_size next.0 rest.breaks, text_size (trim_end (trim_start l)), end_size (trim_start l), start_size l))
     ]
 
-folded_size : (l : Line) (ls : List (List ℕ × Line)) → length (folded l ls) ≤ pieces_size l + others_size ls
+folded_size : (l : Line) (ls : List (List ℕ × Line))
+    → length (folded l ls) ≤ pieces_size l + others_size ls
 folded_size l [] = omega (arith, text_size l)
 folded_size l (next ∷ ls) =
     let rest = rest_of next.1 ls in
@@ -102,7 +104,8 @@ pub value_size : (ps : List Piece) → length (value ps) ≤ pieces_size ps
 value_size ps = omega (arith, folded_size (lines ps).first (lines ps).others, lines_are ps)
 
 -- what a break reads as
-pub break_size : (text : List ℕ) (p : ℕ) → 0 < break_width text p → length (break_value text p) ≤ break_width text p
+pub break_size : (text : List ℕ) (p : ℕ) → 0 < break_width text p
+    → length (break_value text p) ≤ break_width text p
 unfolding break_value
 break_size text p some =
     elim (cases_Bool (break_width text p == 3)) [
@@ -144,7 +147,8 @@ texts_are : (ls : List BlockLine) → all_size (texts_of ls) ≡ block_size ls
 texts_are [] = refl
 texts_are (l ∷ ls) = omega (arith, add_size l (texts_of ls), texts_are ls)
 
-ending_size : (b : ℕ) (feed empties : List ℕ) → length (at_end (chomp_of b) feed empties) ≤ length feed + length empties
+ending_size : (b : ℕ) (feed empties : List ℕ)
+    → length (at_end (chomp_of b) feed empties) ≤ length feed + length empties
 unfolding chomp_of
 ending_size b feed empties =
     elim (cases_Bool (b == 43)) [
@@ -155,7 +159,8 @@ ending_size b feed empties =
       ]
     ]
 
-space_size : (b : ℕ) (feed empties : List ℕ) → length (space_or empties) ≤ length (b ∷ feed) + length empties
+space_size : (b : ℕ) (feed empties : List ℕ)
+    → length (space_or empties) ≤ length (b ∷ feed) + length empties
 space_size b feed [] = omega arith
 space_size b feed (c ∷ cs) = omega arith
 
@@ -164,7 +169,8 @@ not_bare true true = refl
 not_bare true false = refl
 not_bare false bare = refl
 
-between_size : (folded bare : Bool) (feed empties : List ℕ) → length (between folded bare feed empties) ≤ length feed + length empties
+between_size : (folded bare : Bool) (feed empties : List ℕ)
+    → length (between folded bare feed empties) ≤ length feed + length empties
 unfolding between
 between_size folded bare [] empties = rw (not_bare folded bare) (omega arith)
 between_size folded bare (b ∷ feed) empties =
@@ -173,18 +179,22 @@ between_size folded bare (b ∷ feed) empties =
       | inr e ↦ rw e (omega (arith, length-append (b ∷ feed) empties))
     ]
 
-behind_size : (folded : Bool) (sign : ℕ) (blank : Bool) (feed empties : List ℕ) (ls : List TextLine) → length (behind_text folded (chomp_of sign) blank feed empties ls) ≤ length feed + length empties + texts_size ls
+behind_size : (folded : Bool) (sign : ℕ) (blank : Bool) (feed empties : List ℕ) (ls : List TextLine)
+    → length (behind_text folded (chomp_of sign) blank feed empties ls) ≤ length feed + length
+    empties + texts_size ls
 behind_size folded sign blank feed empties [] = omega (arith, ending_size sign feed empties)
 behind_size folded sign blank feed empties (l ∷ ls) =
     let gap = between folded (not blank && not (starts_blank l.words)) feed empties in
     let more = behind_text folded (chomp_of sign) (starts_blank l.words) l.feed l.empties ls in
     omega (arith, length-append gap (l.words ++ more), length-append l.words more, between_size folded (not blank && not (starts_blank l.words)) feed empties, behind_size folded sign (starts_blank l.words) l.feed l.empties ls)
 
-with_size : (folded : Bool) (sign : ℕ) (lead : List ℕ) (ls : List TextLine) → length (value_with folded (chomp_of sign) lead ls) ≤ length lead + texts_size ls
+with_size : (folded : Bool) (sign : ℕ) (lead : List ℕ) (ls : List TextLine)
+    → length (value_with folded (chomp_of sign) lead ls) ≤ length lead + texts_size ls
 with_size folded sign lead [] = omega (arith, ending_size sign [] lead)
 with_size folded sign lead (l ∷ ls) =
     let more = behind_text folded (chomp_of sign) (starts_blank l.words) l.feed l.empties ls in
     omega (arith, length-append lead (l.words ++ more), length-append l.words more, behind_size folded sign (starts_blank l.words) l.feed l.empties ls)
 
-pub block_value_size : (folded : Bool) (sign : ℕ) (ls : List BlockLine) → length (block_value folded (chomp_of sign) ls) ≤ block_size ls
+pub block_value_size : (folded : Bool) (sign : ℕ) (ls : List BlockLine)
+    → length (block_value folded (chomp_of sign) ls) ≤ block_size ls
 block_value_size folded sign ls = omega (arith, with_size folded sign (texts_of ls).lead (texts_of ls).lines, texts_are ls)

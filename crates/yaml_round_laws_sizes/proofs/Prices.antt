@@ -49,26 +49,32 @@ reached_or (Err e) p = p
 abbrev word_of : List ℕ → Lexeme → Result WordText Wrong
 word_of text l = word_at l.kind (nat_lt 0 l.depth) l.level text l.start.index
 
-carried : (p q : ℕ) (r : Result WordText Wrong) → WordSpans p r → q ≡ reached_or r p → Spans p q (body_of_word r)
+carried : (p q : ℕ) (r : Result WordText Wrong) → WordSpans p r → q ≡ reached_or r p
+    → Spans p q (body_of_word r)
 carried p q (Ok w) f e = subst (λ z. Spans p z w.body) (sym e) f
 carried p q (Err x) f e = tt
 
-end_spans : (s : SpelledText) (l : Lexeme) (q : ℕ) → Spans l.start.index q (body_by kinds.StreamEnd s l)
+end_spans : (s : SpelledText) (l : Lexeme) (q : ℕ)
+    → Spans l.start.index q (body_by kinds.StreamEnd s l)
 unfolding word_at
 end_spans s l q = tt
 
-body_spans : (k : Kind) (s : SpelledText) (l : Lexeme) (q : ℕ) → (is_end k ≡ false → q ≡ reached_or (word_at k (nat_lt 0 l.depth) l.level s.text l.start.index) l.start.index)
+body_spans : (k : Kind) (s : SpelledText) (l : Lexeme) (q : ℕ)
+    → (is_end k ≡ false → q ≡ reached_or (word_at k (nat_lt 0 l.depth) l.level s.text l.start.index)
+    l.start.index)
     → Spans l.start.index q (body_by k s l)
 body_spans kinds.StreamStart s l q f = tt
 body_spans kinds.StreamEnd s l q f = end_spans s l q
 body_spans _ s l q f = carried l.start.index q _ (word_spans _ (nat_lt 0 l.depth) l.level s.text l.start.index) (f refl)
 
 -- the place that a lexeme reaches is that behind its word
-ended_reach : (text : List ℕ) (b : Lexeme) (r : Result WordText Wrong) → is_end b.kind ≡ false → (with_end text b r).reached.index ≡ reached_or r b.reached.index
+ended_reach : (text : List ℕ) (b : Lexeme) (r : Result WordText Wrong) → is_end b.kind ≡ false
+    → (with_end text b r).reached.index ≡ reached_or r b.reached.index
 ended_reach text b (Ok w) e = rw e refl
 ended_reach text b (Err x) e = refl
 
-ended_word : (text : List ℕ) (b : Lexeme) (r : Result WordText Wrong) → word_of text (with_end text b r) ≡ word_of text b
+ended_word : (text : List ℕ) (b : Lexeme) (r : Result WordText Wrong)
+    → word_of text (with_end text b r) ≡ word_of text b
 ended_word text b (Ok w) =
     elim (cases_Bool (is_end b.kind)) [
       | inl e ↦ rw e refl
@@ -76,7 +82,8 @@ ended_word text b (Ok w) =
     ]
 ended_word text b (Err x) = refl
 
-ended_start : (text : List ℕ) (b : Lexeme) (r : Result WordText Wrong) → (with_end text b r).start.index ≡ b.start.index
+ended_start : (text : List ℕ) (b : Lexeme) (r : Result WordText Wrong)
+    → (with_end text b r).start.index ≡ b.start.index
 ended_start text b (Ok w) =
     elim (cases_Bool (is_end b.kind)) [
       | inl e ↦ rw e refl
@@ -84,7 +91,8 @@ ended_start text b (Ok w) =
     ]
 ended_start text b (Err x) = refl
 
-ended_kind : (text : List ℕ) (b : Lexeme) (r : Result WordText Wrong) → (with_end text b r).kind ≡ b.kind
+ended_kind : (text : List ℕ) (b : Lexeme) (r : Result WordText Wrong)
+    → (with_end text b r).kind ≡ b.kind
 ended_kind text b (Ok w) =
     elim (cases_Bool (is_end b.kind)) [
       | inl e ↦ rw e refl
@@ -92,11 +100,14 @@ ended_kind text b (Ok w) =
     ]
 ended_kind text b (Err x) = refl
 
-begun_word : (k : Kind) (text : List ℕ) (h : List Lexeme) → word_of text (begun_behind k text h) ≡ word_behind k text h
+begun_word : (k : Kind) (text : List ℕ) (h : List Lexeme)
+    → word_of text (begun_behind k text h) ≡ word_behind k text h
 begun_word k text h =
     ap (λ p. word_at k (nat_lt 0 (depth h)) (begun_behind k text h).level text p) (placed_index k (place_behind text h))
 
-reach_is : (k : Kind) (text : List ℕ) (h : List Lexeme) → is_end k ≡ false → (lexeme_behind k text h).reached.index ≡ reached_or (word_of text (lexeme_behind k text h)) (lexeme_behind k text h).start.index
+reach_is : (k : Kind) (text : List ℕ) (h : List Lexeme) → is_end k ≡ false
+    → (lexeme_behind k text h).reached.index
+    ≡ reached_or (word_of text (lexeme_behind k text h)) (lexeme_behind k text h).start.index
 reach_is k text h e =
     let b = begun_behind k text h in
     let r = word_behind k text h in
@@ -105,7 +116,9 @@ reach_is k text h e =
     let end : (lexeme_behind k text h).reached.index ≡ reached_or r b.start.index = ended_reach text b r e in
     rw word (rw start end)
 
-lexeme_spans : (k : Kind) (s : SpelledText) (h : List Lexeme) → Spans (lexeme_behind k s.text h).start.index (lexeme_behind k s.text h).reached.index (body_in s (lexeme_behind k s.text h))
+lexeme_spans : (k : Kind) (s : SpelledText) (h : List Lexeme)
+    → Spans (lexeme_behind k s.text h).start.index (lexeme_behind k s.text h).reached.index
+    (body_in s (lexeme_behind k s.text h))
 lexeme_spans k s h =
     let l = lexeme_behind k s.text h in
     let kind : l.kind ≡ k = ended_kind s.text (begun_behind k s.text h) (word_behind k s.text h) in
@@ -116,16 +129,19 @@ SpansNext s (Read l) = Spans l.start.index l.reached.index (body_in s l)
 SpansNext s (Fails p) = Unit {0}
 SpansNext s Ends = Unit {0}
 
-first_spans : (s : SpelledText) (ps : List (Option ScanFault)) (x : Next) → SpansNext s x → SpansNext s (first_fault_or ps x)
+first_spans : (s : SpelledText) (ps : List (Option ScanFault)) (x : Next) → SpansNext s x
+    → SpansNext s (first_fault_or ps x)
 first_spans s [] x t = t
 first_spans s (Some p ∷ ps) x t = tt
 first_spans s (None ∷ ps) x t = first_spans s ps x t
 
-coming_spans : (o : Option Kind) (s : SpelledText) (h : List Lexeme) → SpansNext s (coming o s.text h)
+coming_spans : (o : Option Kind) (s : SpelledText) (h : List Lexeme)
+    → SpansNext s (coming o s.text h)
 coming_spans None s h = first_spans s (stale_before s.text h ∷ []) (Fails (no_start (place_behind s.text h))) tt
 coming_spans (Some k) s h = first_spans s (faults k s.text h) (Read (lexeme_behind k s.text h)) (lexeme_spans k s h)
 
-next_spans : (s : SpelledText) (x : Lexeme) (h : List Lexeme) → is_end x.kind ≡ false → SpansNext s (next s.text (x ∷ h))
+next_spans : (s : SpelledText) (x : Lexeme) (h : List Lexeme) → is_end x.kind ≡ false
+    → SpansNext s (next s.text (x ∷ h))
 unfolding next
 next_spans s x h more = rw more (coming_spans (kind_behind s.text (x ∷ h)) s (x ∷ h))
 
@@ -151,11 +167,13 @@ end_apart : (k : Kind) (d : ℕ) → is_end k ≡ true → apart k d ≡ 0
 end_apart kinds.StreamEnd d e = refl
 end_apart _ d e = cc
 
-end_none : (text : List ℕ) (l : Lexeme) (p : ℕ) → l.reached ≡ l.start → l.reached.index - l.start.index ≡ 0
+end_none : (text : List ℕ) (l : Lexeme) (p : ℕ) → l.reached ≡ l.start
+    → l.reached.index - l.start.index ≡ 0
 end_none text l p e = rw e (omega arith)
 
 -- from the place that one reaches to the start of the next one
-stepped : (text : List ℕ) (p q : ℕ) → p ≤ q → is_blank_or_end text q ≡ false → p + one_if (is_blank_or_end text p) ≤ q
+stepped : (text : List ℕ) (p q : ℕ) → p ≤ q → is_blank_or_end text q ≡ false
+    → p + one_if (is_blank_or_end text p) ≤ q
 stepped text p q w n =
     elim (cases_Bool (is_blank_or_end text p)) [
       | inl e ↦
@@ -164,11 +182,13 @@ stepped text p q w n =
       | inr e ↦ rw e (omega (arith, w))
     ]
 
-ended_none : (text : List ℕ) (l : Lexeme) (ended : Bool) → ended ≡ true → Takes ended text l → l.reached.index - l.start.index ≡ 0
+ended_none : (text : List ℕ) (l : Lexeme) (ended : Bool) → ended ≡ true → Takes ended text l
+    → l.reached.index - l.start.index ≡ 0
 ended_none text l true e s = end_none text l 0 s.reached
 ended_none text l false e s = cc
 
-read_taken : (s : SpelledText) (x : Lexeme) (h : List Lexeme) (l : Lexeme) → Stands s.text (x ∷ h) → Taken s x h → next s.text (x ∷ h) ≡ Read l → Taken s l (x ∷ h)
+read_taken : (s : SpelledText) (x : Lexeme) (h : List Lexeme) (l : Lexeme) → Stands s.text (x ∷ h)
+    → Taken s x h → next s.text (x ∷ h) ≡ Read l → Taken s l (x ∷ h)
 read_taken s x h l st paid e =
     let text = s.text in
     let more = not_ended text x h l e in
@@ -204,7 +224,8 @@ read_taken s x h l st paid e =
           }
     ]
 
-step_taken : (s : SpelledText) (h : List Lexeme) (x : Next) → Stands s.text h → AreTaken s h → next s.text h ≡ x → AreTaken s (extended x h)
+step_taken : (s : SpelledText) (h : List Lexeme) (x : Next) → Stands s.text h → AreTaken s h
+    → next s.text h ≡ x → AreTaken s (extended x h)
 step_taken s [] (Read l) st p e = rw (← first_is s.text l e) (first_taken s, tt)
 step_taken s (y ∷ h) (Read l) st p e = (read_taken s y h l st p.0 e, p)
 step_taken s h (Fails f) st p e = p
@@ -215,7 +236,8 @@ unfolding history
 history_taken s zero = tt
 history_taken s (suc n) = step_taken s (history s.text n) (next s.text (history s.text n)) (history_stands s.text n) (history_taken s n) refl
 
-taken_total : (s : SpelledText) (h : List Lexeme) → AreTaken s h → prices taking h ≤ length s.text + 1
+taken_total : (s : SpelledText) (h : List Lexeme) → AreTaken s h
+    → prices taking h ≤ length s.text + 1
 taken_total s [] p = omega arith
 taken_total s (l ∷ h) p = p.0.total
 
@@ -281,7 +303,8 @@ one_pays b k some = let a : (b + b) * 1 ≤ (b + b) * k = mul-le-mul_left (b + b
 two_pay : (b k : ℕ) → 2 ≤ k → b + b + b ≤ (b + b) * k
 two_pay b k some = let a : (b + b) * 2 ≤ (b + b) * k = mul-le-mul_left (b + b) some in omega (arith, a)
 
-body_pays : (u b : ℕ) → 10 * u ≤ b → (body : TokenBody) (p q : ℕ) → p < q → Spans p q body → by_length u b body ≤ (b + b) * (q - p)
+body_pays : (u b : ℕ) → 10 * u ≤ b → (body : TokenBody) (p q : ℕ) → p < q → Spans p q body
+    → by_length u b body ≤ (b + b) * (q - p)
 body_pays u b wide (token.alias name) p q some f = texts_pay u b 3 (length name) (q - p) wide (omega arith) (omega (arith, f)) (omega (arith, some))
 body_pays u b wide (token.anchor name) p q some f = texts_pay u b 7 (length name) (q - p) wide (omega arith) (omega (arith, f)) (omega (arith, some))
 body_pays u b wide (token.tag handle suffix) p q some f =
@@ -313,26 +336,33 @@ key_pays : (b d o x k : ℕ) → x ≤ (b + b) * k → o ≤ outer d b → o + x
 key_pays b zero o x k w v = omega (arith, w, v)
 key_pays b (suc d) o x k w v = omega (arith, w, v)
 
-sequence_most : (u b d margin : ℕ) (levels : List ℕ) → start_weight (by_length u b) (start_of d margin levels opening.Sequence) ≤ b
+sequence_most : (u b d margin : ℕ) (levels : List ℕ)
+    → start_weight (by_length u b) (start_of d margin levels opening.Sequence) ≤ b
 sequence_most u b d margin levels =
     elim (cases_Bool (not (nat_lt 0 d) && nat_lt (indent levels) margin)) [
       | inl e ↦ rw e (le_refl _)
       | inr e ↦ rw e (omega arith)
     ]
 
-first_body : (u b : ℕ) (s : SpelledText) (l : Lexeme) → by_length u b (body_by kinds.StreamStart s l) ≡ 0
+first_body : (u b : ℕ) (s : SpelledText) (l : Lexeme)
+    → by_length u b (body_by kinds.StreamStart s l) ≡ 0
 first_body u b s l = refl
 
-end_body : (u b : ℕ) (s : SpelledText) (l : Lexeme) → by_length u b (body_by kinds.StreamEnd s l) ≡ 0
+end_body : (u b : ℕ) (s : SpelledText) (l : Lexeme)
+    → by_length u b (body_by kinds.StreamEnd s l) ≡ 0
 unfolding word_at
 end_body u b s l = refl
 
-value_body : (u b : ℕ) (s : SpelledText) (l : Lexeme) → by_length u b (body_by kinds.ValueMark s l) ≡ 0
+value_body : (u b : ℕ) (s : SpelledText) (l : Lexeme)
+    → by_length u b (body_by kinds.ValueMark s l) ≡ 0
 unfolding word_at
 value_body u b s l = refl
 
-lexeme_pays : (u b : ℕ) → 10 * u ≤ b → (k : Kind) (s : SpelledText) (l : Lexeme) (d margin p q : ℕ) (found : Bool) (levels : List ℕ) → TakesSome k p q → Spans p q (body_by k s l)
-    → start_weight (by_length u b) (opens_by k d margin found levels) + by_length u b (body_by k s l) + taken (by_length u b) k found d ≤ (b + b) * ((q - p) + apart k d)
+lexeme_pays : (u b : ℕ) → 10 * u ≤ b
+    → (k : Kind) (s : SpelledText) (l : Lexeme) (d margin p q : ℕ) (found : Bool) (levels : List ℕ)
+    → TakesSome k p q → Spans p q (body_by k s l)
+    → start_weight (by_length u b) (opens_by k d margin found levels) + by_length u b
+    (body_by k s l) + taken (by_length u b) k found d ≤ (b + b) * ((q - p) + apart k d)
 lexeme_pays u b wide kinds.StreamStart s l d margin p q found levels some f = omega (arith, first_body u b s l)
 lexeme_pays u b wide kinds.StreamEnd s l d margin p q found levels some f = omega (arith, end_body u b s l)
 lexeme_pays u b wide kinds.BlockEntry s l d margin p q found levels some f =
@@ -356,7 +386,8 @@ lexeme_pays u b wide _ s l d margin p q found levels some f =
 abbrev price : ℕ → Lexeme → ℕ
 price b l = (b + b) * taking l
 
-all_pay : (u b : ℕ) → 10 * u ≤ b → (s : SpelledText) (h : List Lexeme) → AreTaken s h → ArePaid (by_length u b) s (price b) h
+all_pay : (u b : ℕ) → 10 * u ≤ b → (s : SpelledText) (h : List Lexeme) → AreTaken s h
+    → ArePaid (by_length u b) s (price b) h
 all_pay u b wide s [] t = tt
 all_pay u b wide s (l ∷ h) t =
     (λ margin found levels. lexeme_pays u b wide l.kind s l l.depth margin l.start.index l.reached.index found levels t.0.known.some t.0.known.spans, all_pay u b wide s h t.1)
@@ -366,7 +397,8 @@ prices_are b [] = omega arith
 prices_are b (l ∷ h) = let a = mul-add (b + b) (taking l) (prices taking h) in omega (arith, prices_are b h, a)
 
 -- what the tokens of a text cost, twice a line for each of its bytes, and once more
-pub tokens_cost : (u b : ℕ) → 10 * u ≤ b → (s : SpelledText) → weigh (by_length u b) (offline s).tokens ≤ (b + b) * (length s.text + 1)
+pub tokens_cost : (u b : ℕ) → 10 * u ≤ b → (s : SpelledText)
+    → weigh (by_length u b) (offline s).tokens ≤ (b + b) * (length s.text + 1)
 tokens_cost u b wide s =
     let h = all s.text in
     let a = tokens_weigh (by_length u b) refl s (price b) (all_pay u b wide s h (all_taken s)) in
@@ -380,7 +412,8 @@ body_marks (token.tag handle suffix) p q some f = omega (arith, some)
 body_marks (token.tag_directive handle prefix) p q some f = omega (arith, f)
 body_marks _ p q some f = omega arith
 
-no_start_marks : (k : Kind) (d margin : ℕ) (found : Bool) (levels : List ℕ) → start_weight marks (opens_by k d margin found levels) ≡ 0
+no_start_marks : (k : Kind) (d margin : ℕ) (found : Bool) (levels : List ℕ)
+    → start_weight marks (opens_by k d margin found levels) ≡ 0
 no_start_marks k d margin found levels = by (opens_by k d margin found levels)
   where
     by : (o : Opens) → start_weight marks o ≡ 0
@@ -404,7 +437,8 @@ end_marks : (s : SpelledText) (l : Lexeme) → marks (body_by kinds.StreamEnd s 
 unfolding word_at
 end_marks s l = refl
 
-kind_marks : (k : Kind) (s : SpelledText) (l : Lexeme) (p q : ℕ) → TakesSome k p q → Spans p q (body_by k s l) → marks (body_by k s l) ≤ q - p
+kind_marks : (k : Kind) (s : SpelledText) (l : Lexeme) (p q : ℕ) → TakesSome k p q
+    → Spans p q (body_by k s l) → marks (body_by k s l) ≤ q - p
 kind_marks kinds.StreamStart s l p q some f = omega arith
 kind_marks kinds.StreamEnd s l p q some f = omega (arith, end_marks s l)
 kind_marks _ s l p q some f = body_marks _ p q some f

@@ -44,14 +44,16 @@ abbrev NameSpent : ℕ → Result (List ℕ × ℕ) Wrong → Type 0
 NameSpent p (Ok x) = length x.0 + p ≤ x.1
 NameSpent p (Err w) = Unit {0}
 
-name_spent : (context : Context) (text : List ℕ) (p q : ℕ) → p ≤ q → NameSpent p (name_between context text p q)
+name_spent : (context : Context) (text : List ℕ) (p q : ℕ) → p ≤ q
+    → NameSpent p (name_between context text p q)
 name_spent context text p q w =
     elim (cases_Bool (p == q || not (may_end_name text q))) [
       | inl e ↦ rw e tt
       | inr e ↦ rw e (omega (arith, w, slice_size text p q))
     ]
 
-anchor_spent : (context : Context) (text : List ℕ) (p : ℕ) → NameSpent (p + 1) (anchor_at context text p)
+anchor_spent : (context : Context) (text : List ℕ) (p : ℕ)
+    → NameSpent (p + 1) (anchor_at context text p)
 anchor_spent context text p = name_spent context text (p + 1) _ (run_within-ge (length text) _ text (p + 1))
 
 abbrev UriSpent : ℕ → UriSpot → Type 0
@@ -81,22 +83,27 @@ spot_uri wide due text p =
       ]
     ]
 
-byte_uri : (b p q : ℕ) (r : Result (List ℕ × ℕ) Wrong) → 1 + p ≤ q → NameSpent q r → NameSpent p (with_bytes (b ∷ []) r)
+byte_uri : (b p q : ℕ) (r : Result (List ℕ × ℕ) Wrong) → 1 + p ≤ q → NameSpent q r
+    → NameSpent p (with_bytes (b ∷ []) r)
 byte_uri b p q (Ok u) w f = omega (arith, w, f)
 byte_uri b p q (Err e) w f = tt
 
-from_uri : (more : ℕ → ℕ → Result (List ℕ × ℕ) Wrong) (context : Context) (p : ℕ) (s : UriSpot) → ((due q : ℕ) → NameSpent q (more due q)) → UriSpent p s → NameSpent p (uri_from more context s)
+from_uri : (more : ℕ → ℕ → Result (List ℕ × ℕ) Wrong) (context : Context) (p : ℕ) (s : UriSpot)
+    → ((due q : ℕ) → NameSpent q (more due q)) → UriSpent p s
+    → NameSpent p (uri_from more context s)
 from_uri more context p (Spells b due q) rest f = byte_uri b p q (more due q) f (rest due q)
 from_uri more context p (Ends q) rest f = omega (arith, f)
 from_uri more context p (Faulty problem q) rest f = tt
 
-within_uri : (n : ℕ) (context : Context) (wide : Bool) (due : ℕ) (text : List ℕ) (p : ℕ) → NameSpent p (uri_within n context wide due text p)
+within_uri : (n : ℕ) (context : Context) (wide : Bool) (due : ℕ) (text : List ℕ) (p : ℕ)
+    → NameSpent p (uri_within n context wide due text p)
 unfolding uri_within
 within_uri zero context wide due text p = omega arith
 within_uri (suc n) context wide due text p =
     from_uri (λ next q. uri_within n context wide next text q) context p (spot_at wide due text p) (λ next q. within_uri n context wide next text q) (spot_uri wide due text p)
 
-filled_uri : (context : Context) (p : ℕ) (r : Result (List ℕ × ℕ) Wrong) → NameSpent p r → NameSpent p (filled context r)
+filled_uri : (context : Context) (p : ℕ) (r : Result (List ℕ × ℕ) Wrong) → NameSpent p r
+    → NameSpent p (filled context r)
 filled_uri context p (Ok u) f =
     elim (cases_Bool (length u.0 == 0)) [
       | inl e ↦ rw e tt
@@ -104,17 +111,20 @@ filled_uri context p (Ok u) f =
     ]
 filled_uri context p (Err w) f = tt
 
-uri_spent : (context : Context) (wide : Bool) (text : List ℕ) (p : ℕ) → NameSpent p (uri_at context wide text p)
+uri_spent : (context : Context) (wide : Bool) (text : List ℕ) (p : ℕ)
+    → NameSpent p (uri_at context wide text p)
 uri_spent context wide text p = within_uri (suc (length text)) context wide 0 text p
 
-some_uri_spent : (context : Context) (wide : Bool) (text : List ℕ) (p : ℕ) → NameSpent p (some_uri_at context wide text p)
+some_uri_spent : (context : Context) (wide : Bool) (text : List ℕ) (p : ℕ)
+    → NameSpent p (some_uri_at context wide text p)
 some_uri_spent context wide text p = filled_uri context p (uri_at context wide text p) (uri_spent context wide text p)
 
 abbrev TagSpent : ℕ → Result TagText Wrong → Type 0
 TagSpent p (Ok t) = length t.handle + length t.suffix + p ≤ t.end
 TagSpent p (Err w) = Unit {0}
 
-bracketed_spent : (text : List ℕ) (p q : ℕ) (r : Result (List ℕ × ℕ) Wrong) → p ≤ q → NameSpent q r → TagSpent p (bracketed text r)
+bracketed_spent : (text : List ℕ) (p q : ℕ) (r : Result (List ℕ × ℕ) Wrong) → p ≤ q → NameSpent q r
+    → TagSpent p (bracketed text r)
 bracketed_spent text p q (Ok u) w f =
     elim (cases_Bool (byte text u.1 == 62)) [
       | inl e ↦ rw e (omega (arith, w, f))
@@ -122,7 +132,8 @@ bracketed_spent text p q (Ok u) w f =
     ]
 bracketed_spent text p q (Err e) w f = tt
 
-handle_spent : (p q : ℕ) (handle : List ℕ) (r : Result (List ℕ × ℕ) Wrong) → length handle + p ≤ q → NameSpent q r → TagSpent p (with_handle handle r)
+handle_spent : (p q : ℕ) (handle : List ℕ) (r : Result (List ℕ × ℕ) Wrong) → length handle + p ≤ q
+    → NameSpent q r → TagSpent p (with_handle handle r)
 handle_spent p q handle (Ok u) w f = omega (arith, w, f)
 handle_spent p q handle (Err e) w f = tt
 
@@ -148,7 +159,8 @@ parts_spent text p =
       ]
     ]
 
-ended_spent : (flow : Bool) (text : List ℕ) (p : ℕ) (r : Result TagText Wrong) → TagSpent p r → TagSpent p (ended flow text r)
+ended_spent : (flow : Bool) (text : List ℕ) (p : ℕ) (r : Result TagText Wrong) → TagSpent p r
+    → TagSpent p (ended flow text r)
 ended_spent flow text p (Ok t) f =
     elim (cases_Bool (may_end_tag flow text t.end)) [
       | inl e ↦ rw e f
@@ -186,7 +198,8 @@ handle_spent_at text p =
       | inr e ↦ rw e tt
     ]
 
-ended_prefix : (text : List ℕ) (p : ℕ) (r : Result (List ℕ × ℕ) Wrong) → NameSpent p r → NameSpent p (prefix_ended text r)
+ended_prefix : (text : List ℕ) (p : ℕ) (r : Result (List ℕ × ℕ) Wrong) → NameSpent p r
+    → NameSpent p (prefix_ended text r)
 ended_prefix text p (Ok x) f =
     elim (cases_Bool (is_blank_or_end text x.1)) [
       | inl e ↦ rw e f
@@ -198,7 +211,8 @@ named_further : (p q : ℕ) (r : Result (List ℕ × ℕ) Wrong) → p ≤ q →
 named_further p q (Ok x) w f = omega (arith, w, f)
 named_further p q (Err e) w f = tt
 
-name_if : (b : Bool) (p : ℕ) (r : Result (List ℕ × ℕ) Wrong) (w : Wrong) → NameSpent p r → NameSpent p (if b then r else Err w)
+name_if : (b : Bool) (p : ℕ) (r : Result (List ℕ × ℕ) Wrong) (w : Wrong) → NameSpent p r
+    → NameSpent p (if b then r else Err w)
 name_if true p r w f = f
 name_if false p r w f = tt
 
@@ -206,11 +220,13 @@ prefix_spent : (text : List ℕ) (p : ℕ) → NameSpent p (prefix_at text p)
 prefix_spent text p =
     name_if _ p _ _ (ended_prefix text p _ (named_further p _ _ (run_within-ge (length text) _ text p) (some_uri_spent contexts.TagDirectiveUri true text _)))
 
-tag_said : (p q : ℕ) (handle : List ℕ) (r : Result (List ℕ × ℕ) Wrong) → length handle + p ≤ q → NameSpent q r → SaidSpent p (with_prefix handle r)
+tag_said : (p q : ℕ) (handle : List ℕ) (r : Result (List ℕ × ℕ) Wrong) → length handle + p ≤ q
+    → NameSpent q r → SaidSpent p (with_prefix handle r)
 tag_said p q handle (Ok x) w f = omega (arith, w, f)
 tag_said p q handle (Err e) w f = tt
 
-handled_said : (text : List ℕ) (p : ℕ) (r : Result (List ℕ × ℕ) Wrong) → NameSpent p r → SaidSpent p (then_at (λ handle q. with_prefix handle (prefix_at text q)) r)
+handled_said : (text : List ℕ) (p : ℕ) (r : Result (List ℕ × ℕ) Wrong) → NameSpent p r
+    → SaidSpent p (then_at (λ handle q. with_prefix handle (prefix_at text q)) r)
 handled_said text p (Ok x) f = tag_said p x.1 x.0 (prefix_at text x.1) f (prefix_spent text x.1)
 handled_said text p (Err w) f = tt
 
@@ -218,7 +234,8 @@ major_said : (p major : ℕ) (r : Result (ℕ × ℕ) Wrong) → SaidSpent p (wi
 major_said p major (Ok x) = tt
 major_said p major (Err w) = tt
 
-minor_said : (text : List ℕ) (p : ℕ) (r : Result (ℕ × ℕ) Wrong) → SaidSpent p (then_at (minor_at text) r)
+minor_said : (text : List ℕ) (p : ℕ) (r : Result (ℕ × ℕ) Wrong)
+    → SaidSpent p (then_at (minor_at text) r)
 minor_said text p (Ok x) =
     elim (cases_Bool (byte text x.1 == 46)) [
       | inl e ↦ rw e (major_said p x.0 (number_at text (x.1 + 1)))
@@ -238,7 +255,8 @@ tag_directive_said : (text : List ℕ) (p : ℕ) → SaidSpent p (tag_directive_
 tag_directive_said text p =
     said_further p _ _ (run_within-ge (length text) _ text p) (handled_said text _ _ (handle_spent_at text _))
 
-between_said : (text : List ℕ) (p q : ℕ) → p ≤ q → SaidSpent p (then_at (named_value_at text) (directive_name_between text p q))
+between_said : (text : List ℕ) (p q : ℕ) → p ≤ q
+    → SaidSpent p (then_at (named_value_at text) (directive_name_between text p q))
 between_said text p q w =
     elim (cases_Bool (p == q)) [
       | inl e ↦ rw e tt
@@ -295,19 +313,23 @@ said_spans : (p end q : ℕ) (x : Said) → SaidFits p end x → end ≤ q → S
 said_spans p end q (directives.version a b) f w = tt
 said_spans p end q (directives.tag handle prefix) f w = omega (arith, f, w)
 
-line_spans : (p : ℕ) (v : ValueText) (r : Result ℕ Wrong) → SaidFits p v.end v.said → LineFrom v.end r → WordSpans p (directed (with_line_end v r))
+line_spans : (p : ℕ) (v : ValueText) (r : Result ℕ Wrong) → SaidFits p v.end v.said
+    → LineFrom v.end r → WordSpans p (directed (with_line_end v r))
 line_spans p v (Ok q) f w = said_spans p v.end q v.said f w
 line_spans p v (Err e) f w = tt
 
-finished_spans : (text : List ℕ) (p : ℕ) (r : Result ValueText Wrong) → SaidSpent p r → WordSpans p (directed (finished text r))
+finished_spans : (text : List ℕ) (p : ℕ) (r : Result ValueText Wrong) → SaidSpent p r
+    → WordSpans p (directed (finished text r))
 finished_spans text p (Ok v) f = line_spans p v (line_end_at text v.end) f (line_end_from text v.end)
 finished_spans text p (Err w) f = tt
 
-alias_spans : (p : ℕ) (r : Result (List ℕ × ℕ) Wrong) → NameSpent (p + 1) r → WordSpans p (valued token.alias r)
+alias_spans : (p : ℕ) (r : Result (List ℕ × ℕ) Wrong) → NameSpent (p + 1) r
+    → WordSpans p (valued token.alias r)
 alias_spans p (Ok x) f = omega (arith, f)
 alias_spans p (Err w) f = tt
 
-anchor_spans : (p : ℕ) (r : Result (List ℕ × ℕ) Wrong) → NameSpent (p + 1) r → WordSpans p (valued token.anchor r)
+anchor_spans : (p : ℕ) (r : Result (List ℕ × ℕ) Wrong) → NameSpent (p + 1) r
+    → WordSpans p (valued token.anchor r)
 anchor_spans p (Ok x) f = omega (arith, f)
 anchor_spans p (Err w) f = tt
 
@@ -315,11 +337,13 @@ tagged_spans : (p : ℕ) (r : Result TagText Wrong) → TagSpent p r → WordSpa
 tagged_spans p (Ok t) f = f
 tagged_spans p (Err w) f = tt
 
-quoted_spans : (style : yaml_scalar_style_t) (p : ℕ) (r : Result (List ℕ × ℕ) Wrong) → ValueSpent p r → WordSpans p (valued (λ v. token.scalar v style) r)
+quoted_spans : (style : yaml_scalar_style_t) (p : ℕ) (r : Result (List ℕ × ℕ) Wrong)
+    → ValueSpent p r → WordSpans p (valued (λ v. token.scalar v style) r)
 quoted_spans style p (Ok x) f = f
 quoted_spans style p (Err w) f = tt
 
-blocked_spans : (style : yaml_scalar_style_t) (p : ℕ) (r : Result BlockText Wrong) → BlockSpent p r → WordSpans p (blocked style r)
+blocked_spans : (style : yaml_scalar_style_t) (p : ℕ) (r : Result BlockText Wrong) → BlockSpent p r
+    → WordSpans p (blocked style r)
 blocked_spans style p (Ok x) f = omega (arith, f)
 blocked_spans style p (Err w) f = tt
 
@@ -327,7 +351,8 @@ plainly_spans : (p : ℕ) (r : Result PlainText Wrong) → PlainSpent p r → Wo
 plainly_spans p (Ok x) f = omega (arith, f)
 plainly_spans p (Err w) f = tt
 
-pub word_spans : (k : Kind) (flow : Bool) (level : ℕ) (text : List ℕ) (p : ℕ) → WordSpans p (word_at k flow level text p)
+pub word_spans : (k : Kind) (flow : Bool) (level : ℕ) (text : List ℕ) (p : ℕ)
+    → WordSpans p (word_at k flow level text p)
 unfolding word_at
 word_spans kinds.Directive flow level text p = finished_spans text p (value_at text p) (value_said text p)
 word_spans kinds.Alias flow level text p = alias_spans p (anchor_at contexts.Alias text p) (anchor_spent contexts.Alias text p)

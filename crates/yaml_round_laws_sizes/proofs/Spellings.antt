@@ -17,12 +17,14 @@ use Rattle.yaml_round_content.specs.TreeContent.{prefix_of, in_full}
 abbrev pub uri_bytes : Encoding → List ℕ → ℕ
 uri_bytes x bs = text_bytes x (uri_text false bs)
 
-pub text_append : (x : Encoding) (cs ds : List ℕ) → text_bytes x (cs ++ ds) ≡ text_bytes x cs + text_bytes x ds
+pub text_append : (x : Encoding) (cs ds : List ℕ)
+    → text_bytes x (cs ++ ds) ≡ text_bytes x cs + text_bytes x ds
 unfolding text_bytes
 text_append x [] ds = omega arith
 text_append x (c ∷ cs) ds = omega (arith, text_append x cs ds)
 
-uri_append : (x : Encoding) (cs ds : List ℕ) → uri_bytes x (cs ++ ds) ≡ uri_bytes x cs + uri_bytes x ds
+uri_append : (x : Encoding) (cs ds : List ℕ)
+    → uri_bytes x (cs ++ ds) ≡ uri_bytes x cs + uri_bytes x ds
 unfolding uri_text text_bytes
 uri_append x [] ds = omega arith
 uri_append x (c ∷ cs) ds =
@@ -35,7 +37,8 @@ uri_drop x (suc n) [] = le_refl _
 uri_drop x (suc n) (c ∷ cs) = omega (arith, text_append x (uri_byte false c) (uri_text false cs), uri_drop x n cs)
 
 -- three signs take no more as they are than an escape takes
-sign_less : (x : Encoding) (c : ℕ) (t : List ℕ) → length (char_bytes x c) ≡ unit x → text_bytes x (c ∷ []) ≤ text_bytes x (37 ∷ t)
+sign_less : (x : Encoding) (c : ℕ) (t : List ℕ) → length (char_bytes x c) ≡ unit x
+    → text_bytes x (c ∷ []) ≤ text_bytes x (37 ∷ t)
 unfolding text_bytes char_bytes
 sign_less Utf8 c t e = omega (arith, e)
 sign_less Utf16Le c t e = omega (arith, e)
@@ -59,10 +62,12 @@ close_unit Utf8 = refl
 close_unit Utf16Le = refl
 close_unit Utf16Be = refl
 
-sign_unit : (x : Encoding) (c n : ℕ) → (c == n) ≡ true → length (char_bytes x n) ≡ unit x → length (char_bytes x c) ≡ unit x
+sign_unit : (x : Encoding) (c n : ℕ) → (c == n) ≡ true → length (char_bytes x n) ≡ unit x
+    → length (char_bytes x c) ≡ unit x
 sign_unit x c n e u = rw (eqb-true c n e) u
 
-wide_byte : (x : Encoding) (c : ℕ) → text_bytes x (uri_byte true c) ≤ text_bytes x (uri_byte false c)
+wide_byte : (x : Encoding) (c : ℕ)
+    → text_bytes x (uri_byte true c) ≤ text_bytes x (uri_byte false c)
 wide_byte x c =
     elim (cases_Bool (suffix_keeps c)) [
       | inl e ↦ rw e (le_refl _)
@@ -95,7 +100,8 @@ abbrev pub prefixes_bytes : Encoding → List TagDirective → ℕ
 prefixes_bytes x [] = 0
 prefixes_bytes x (d ∷ ds) = uri_bytes x d.prefix + prefixes_bytes x ds
 
-handles_append : (x : Encoding) (ds es : List TagDirective) → handles_bytes x (ds ++ es) ≡ handles_bytes x ds + handles_bytes x es
+handles_append : (x : Encoding) (ds es : List TagDirective)
+    → handles_bytes x (ds ++ es) ≡ handles_bytes x ds + handles_bytes x es
 handles_append x [] es = omega arith
 handles_append x (d ∷ ds) es = omega (arith, handles_append x ds es)
 
@@ -111,14 +117,16 @@ secondary_bytes Utf8 = refl
 secondary_bytes Utf16Le = refl
 secondary_bytes Utf16Be = refl
 
-unless_most : (x : Encoding) (ds : List TagDirective) (d : TagDirective) → handles_bytes x (unless_defined ds d) ≤ text_bytes x d.handle
+unless_most : (x : Encoding) (ds : List TagDirective) (d : TagDirective)
+    → handles_bytes x (unless_defined ds d) ≤ text_bytes x d.handle
 unless_most x ds d =
     elim (cases_Bool (defines ds d.handle)) [
       | inl e ↦ rw e (omega arith)
       | inr e ↦ rw e (omega arith)
     ]
 
-force_most : (x : Encoding) (ds : List TagDirective) → handles_bytes x (in_force ds) ≤ handles_bytes x ds + 3 * unit x
+force_most : (x : Encoding) (ds : List TagDirective)
+    → handles_bytes x (in_force ds) ≤ handles_bytes x ds + 3 * unit x
 force_most x ds =
     omega (
       arith,
@@ -135,11 +143,13 @@ abbrev HandleMost : Encoding → ℕ → Option TagDirective → Type 0
 HandleMost x n None = Unit {0}
 HandleMost x n (Some d) = text_bytes x d.handle ≤ n
 
-handle_more : (x : Encoding) (n m : ℕ) (o : Option TagDirective) → n ≤ m → HandleMost x n o → HandleMost x m o
+handle_more : (x : Encoding) (n m : ℕ) (o : Option TagDirective) → n ≤ m → HandleMost x n o
+    → HandleMost x m o
 handle_more x n m None w h = tt
 handle_more x n m (Some d) w h = omega (arith, w, h)
 
-chosen_most : (x : Encoding) (ds : List TagDirective) (tag : List ℕ) → HandleMost x (handles_bytes x ds) (directive_for ds tag)
+chosen_most : (x : Encoding) (ds : List TagDirective) (tag : List ℕ)
+    → HandleMost x (handles_bytes x ds) (directive_for ds tag)
 unfolding directive_for
 chosen_most x [] tag = tt
 chosen_most x (d ∷ ds) tag =
@@ -148,21 +158,25 @@ chosen_most x (d ∷ ds) tag =
       | inr e ↦ rw e (handle_more x (handles_bytes x ds) (handles_bytes x (d ∷ ds)) (directive_for ds tag) (omega arith) (chosen_most x ds tag))
     ]
 
-verbatim_most : (x : Encoding) (tag : List ℕ) → text_bytes x (33 ∷ 60 ∷ (uri_text true tag ++ 62 ∷ [])) ≤ 3 * unit x + uri_bytes x tag
+verbatim_most : (x : Encoding) (tag : List ℕ)
+    → text_bytes x (33 ∷ 60 ∷ (uri_text true tag ++ 62 ∷ [])) ≤ 3 * unit x + uri_bytes x tag
 unfolding text_bytes char_bytes
 verbatim_most x tag = by x
   where
-    by : (x : Encoding) → text_bytes x (33 ∷ 60 ∷ (uri_text true tag ++ 62 ∷ [])) ≤ 3 * unit x + uri_bytes x tag
+    by : (x : Encoding)
+        → text_bytes x (33 ∷ 60 ∷ (uri_text true tag ++ 62 ∷ [])) ≤ 3 * unit x + uri_bytes x tag
     by Utf8 = omega (arith, text_append Utf8 (uri_text true tag) (62 ∷ []), wide_uri Utf8 tag)
     by Utf16Le = omega (arith, text_append Utf16Le (uri_text true tag) (62 ∷ []), wide_uri Utf16Le tag)
     by Utf16Be = omega (arith, text_append Utf16Be (uri_text true tag) (62 ∷ []), wide_uri Utf16Be tag)
 
-split_most : (x : Encoding) (n : ℕ) (o : Option TagDirective) (tag : List ℕ) → HandleMost x n o → text_bytes x (spelled (split_by o tag)) ≤ 3 * unit x + n + uri_bytes x tag
+split_most : (x : Encoding) (n : ℕ) (o : Option TagDirective) (tag : List ℕ) → HandleMost x n o
+    → text_bytes x (spelled (split_by o tag)) ≤ 3 * unit x + n + uri_bytes x tag
 unfolding spelled
 split_most x n None tag h = omega (arith, verbatim_most x tag)
 split_most x n (Some d) tag h = omega (arith, h, text_append x d.handle (uri_text false (drop (length d.prefix) tag)), uri_drop x (length d.prefix) tag)
 
-spelling_most : (x : Encoding) (ds : List TagDirective) (tag : List ℕ) → text_bytes x (tag_spelling ds tag) ≤ 6 * unit x + handles_bytes x ds + uri_bytes x tag
+spelling_most : (x : Encoding) (ds : List TagDirective) (tag : List ℕ)
+    → text_bytes x (tag_spelling ds tag) ≤ 6 * unit x + handles_bytes x ds + uri_bytes x tag
 spelling_most x ds tag =
     omega (arith, force_most x ds, split_most x (handles_bytes x (in_force ds)) (directive_for (in_force ds) tag) tag (chosen_most x (in_force ds) tag))
 
@@ -172,7 +186,8 @@ yaml_bytes Utf8 = refl
 yaml_bytes Utf16Le = refl
 yaml_bytes Utf16Be = refl
 
-prefix_most : (x : Encoding) (ds : List TagDirective) (handle : List ℕ) → uri_bytes x (prefix_of ds handle) ≤ prefixes_bytes x ds + 20 * unit x + uri_bytes x handle
+prefix_most : (x : Encoding) (ds : List TagDirective) (handle : List ℕ)
+    → uri_bytes x (prefix_of ds handle) ≤ prefixes_bytes x ds + 20 * unit x + uri_bytes x handle
 prefix_most x [] handle =
     elim (cases_Bool (bytes_eq handle (codes "!!"))) [
       | inl e ↦ rw e (omega (arith, yaml_bytes x))
@@ -184,13 +199,17 @@ prefix_most x (d ∷ ds) handle =
       | inr e ↦ rw e (omega (arith, prefix_most x ds handle))
     ]
 
-full_most : (x : Encoding) (ds : List TagDirective) (handle suffix : List ℕ) → uri_bytes x (in_full ds handle suffix) ≤ prefixes_bytes x ds + 20 * unit x + uri_bytes x handle + uri_bytes x suffix
+full_most : (x : Encoding) (ds : List TagDirective) (handle suffix : List ℕ)
+    → uri_bytes x (in_full ds handle suffix) ≤ prefixes_bytes x ds + 20 * unit x + uri_bytes x
+    handle + uri_bytes x suffix
 full_most x ds [] suffix = omega arith
 full_most x ds (c ∷ handle) suffix = omega (arith, uri_append x (prefix_of ds (c ∷ handle)) suffix, prefix_most x ds (c ∷ handle))
 
 -- a space and the tag
 pub tag_most : (s : Settings) (ds : List TagDirective) (handle suffix : List ℕ)
-    → tag_bytes (context_of s ds) (Some (in_full ds handle suffix)) ≤ ascii s 27 + handles_bytes s.encoding ds + prefixes_bytes s.encoding ds + uri_bytes s.encoding handle + uri_bytes s.encoding suffix
+    → tag_bytes (context_of s ds) (Some (in_full ds handle suffix)) ≤ ascii s 27 + handles_bytes
+    s.encoding ds + prefixes_bytes s.encoding ds + uri_bytes s.encoding handle + uri_bytes
+    s.encoding suffix
 tag_most s ds handle suffix =
     let x = s.encoding in
     omega (arith, spelling_most x ds (in_full ds handle suffix), full_most x ds handle suffix)

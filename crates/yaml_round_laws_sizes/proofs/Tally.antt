@@ -53,7 +53,9 @@ back : (n i : ℕ) → (n + i) - i ≡ n
 back n i = omega arith
 
 -- behind a collection the indentation is what it was
-closed : (s : Settings) (w : ℕ) (ds : List TagDirective) (n : ℕ) (es : List Event) → most_of_line s ((n + s.indent) - s.indent) + tally s w ds ((n + s.indent) - s.indent) es ≡ most_of_line s n + tally s w ds n es
+closed : (s : Settings) (w : ℕ) (ds : List TagDirective) (n : ℕ) (es : List Event)
+    → most_of_line s ((n + s.indent) - s.indent) + tally s w ds ((n + s.indent) - s.indent) es
+    ≡ most_of_line s n + tally s w ds n es
 closed s w ds n es = ap (λ k. most_of_line s k + tally s w ds k es) (back n s.indent)
 
 line_back : (s : Settings) (n : ℕ) → most_of_line s ((n + s.indent) - s.indent) ≡ most_of_line s n
@@ -64,21 +66,27 @@ line_back s n = ap (most_of_line s) (back n s.indent)
 mutual
   unfolding tally node_events items_events pairs_events most_of_node most_of_items most_of_pairs
 
-  node_tally : (s : Settings) (w : ℕ) (ds : List TagDirective) (n : ℕ) (x : emit.Node) (es : List Event)
-      → tally s w ds n (node_events x es) ≡ most_of_line s (n - s.indent) + most_of_node (context_of s ds) n x + tally s w ds n es
+  node_tally : (s : Settings) (w : ℕ) (ds : List TagDirective) (n : ℕ) (x : emit.Node)
+      (es : List Event)
+      → tally s w ds n (node_events x es)
+      ≡ most_of_line s (n - s.indent) + most_of_node (context_of s ds) n x + tally s w ds n es
   node_tally s w ds n (emit.alias_node name) es = omega arith
   node_tally s w ds n (emit.scalar_node x) es = omega arith
   node_tally s w ds n (emit.sequence_node q items) es = omega (arith, items_tally s w ds n items (sequence_end ∷ es), closed s w ds n es)
   node_tally s w ds n (emit.mapping_node q pairs) es = omega (arith, pairs_tally s w ds n pairs (mapping_end ∷ es), closed s w ds n es)
 
-  items_tally : (s : Settings) (w : ℕ) (ds : List TagDirective) (n : ℕ) (xs : emit.Nodes) (es : List Event)
-      → most_of_line s n + tally s w ds (n + s.indent) (items_events xs es) ≡ most_of_items (context_of s ds) n xs + tally s w ds (n + s.indent) es
+  items_tally : (s : Settings) (w : ℕ) (ds : List TagDirective) (n : ℕ) (xs : emit.Nodes)
+      (es : List Event)
+      → most_of_line s n + tally s w ds (n + s.indent) (items_events xs es)
+      ≡ most_of_items (context_of s ds) n xs + tally s w ds (n + s.indent) es
   items_tally s w ds n emit.no_nodes es = refl
   items_tally s w ds n (emit.node x xs) es =
       omega (arith, node_tally s w ds (n + s.indent) x (items_events xs es), line_back s n, items_tally s w ds n xs es)
 
-  pairs_tally : (s : Settings) (w : ℕ) (ds : List TagDirective) (n : ℕ) (ps : emit.Pairs) (es : List Event)
-      → most_of_line s n + tally s w ds (n + s.indent) (pairs_events ps es) ≡ most_of_pairs (context_of s ds) n ps + tally s w ds (n + s.indent) es
+  pairs_tally : (s : Settings) (w : ℕ) (ds : List TagDirective) (n : ℕ) (ps : emit.Pairs)
+      (es : List Event)
+      → most_of_line s n + tally s w ds (n + s.indent) (pairs_events ps es)
+      ≡ most_of_pairs (context_of s ds) n ps + tally s w ds (n + s.indent) es
   pairs_tally s w ds n emit.no_pairs es = refl
   pairs_tally s w ds n (emit.pair k v ps) es =
       omega (arith, node_tally s w ds (n + s.indent) k (node_events v (pairs_events ps es)), node_tally s w ds (n + s.indent) v (pairs_events ps es), line_back s n, pairs_tally s w ds n ps es)
@@ -88,13 +96,16 @@ abbrev lines_of : Settings → ℕ → ℕ → ℕ
 lines_of s w zero = 0
 lines_of s w (suc k) = w + most_of_line s (s.indent - s.indent) + lines_of s w k
 
-documents_tally : (s : Settings) (w : ℕ) (es : List TagDirective) (ds : List emit.Document) → tally s w es s.indent (documents_events ds) ≡ most_of_documents s ds + lines_of s w (length ds)
+documents_tally : (s : Settings) (w : ℕ) (es : List TagDirective) (ds : List emit.Document)
+    → tally s w es s.indent (documents_events ds)
+    ≡ most_of_documents s ds + lines_of s w (length ds)
 unfolding tally documents_events most_of_documents
 documents_tally s w es [] = refl
 documents_tally s w es (d ∷ ds) =
     omega (arith, node_tally s w d.opening.directives s.indent d.root (document_end d.implicit_end ∷ documents_events ds), documents_tally s w d.opening.directives ds)
 
-stream_tally : (s : Settings) (w : ℕ) (x : yaml_encoding_t) (ds : List emit.Document) → tally s w [] s.indent (stream_events x ds) ≡ most_of_documents s ds + lines_of s w (length ds)
+stream_tally : (s : Settings) (w : ℕ) (x : yaml_encoding_t) (ds : List emit.Document)
+    → tally s w [] s.indent (stream_events x ds) ≡ most_of_documents s ds + lines_of s w (length ds)
 unfolding tally
 stream_tally s w x ds = omega (arith, documents_tally s w [] ds)
 
@@ -103,33 +114,46 @@ stream_tally s w x ds = omega (arith, documents_tally s w [] ds)
 mutual
   unfolding tally node_says items_say pairs_say most_of_node most_of_items most_of_pairs
 
-  said_node : (s : Settings) (w : ℕ) (ds : List TagDirective) (n : ℕ) (x : Node) (es : List EventBody)
-      → tally s w ds n (map emitter_event (node_says x es)) ≡ most_of_line s (n - s.indent) + most_of_node (context_of s ds) n (written_node x) + tally s w ds n (map emitter_event es)
+  said_node : (s : Settings) (w : ℕ) (ds : List TagDirective) (n : ℕ) (x : Node)
+      (es : List EventBody)
+      → tally s w ds n (map emitter_event (node_says x es))
+      ≡ most_of_line s (n - s.indent) + most_of_node (context_of s ds) n (written_node x) + tally s
+      w ds n (map emitter_event es)
   said_node s w ds n (content.alias name) es = omega arith
   said_node s w ds n (content.scalar anchor (untagged plain) value) es = omega arith
   said_node s w ds n (content.scalar anchor (tagged t) value) es = omega arith
   said_node s w ds n (content.sequence anchor tag items) es = omega (arith, said_items s w ds n items (event.sequence_end ∷ es), closed s w ds n (map emitter_event es))
   said_node s w ds n (content.mapping anchor tag pairs) es = omega (arith, said_pairs s w ds n pairs (event.mapping_end ∷ es), closed s w ds n (map emitter_event es))
 
-  said_items : (s : Settings) (w : ℕ) (ds : List TagDirective) (n : ℕ) (xs : Nodes) (es : List EventBody)
-      → most_of_line s n + tally s w ds (n + s.indent) (map emitter_event (items_say xs es)) ≡ most_of_items (context_of s ds) n (written_nodes xs) + tally s w ds (n + s.indent) (map emitter_event es)
+  said_items : (s : Settings) (w : ℕ) (ds : List TagDirective) (n : ℕ) (xs : Nodes)
+      (es : List EventBody)
+      → most_of_line s n + tally s w ds (n + s.indent) (map emitter_event (items_say xs es))
+      ≡ most_of_items (context_of s ds) n (written_nodes xs) + tally s w ds (n + s.indent)
+      (map emitter_event es)
   said_items s w ds n content.no_nodes es = refl
   said_items s w ds n (content.node x xs) es =
       omega (arith, said_node s w ds (n + s.indent) x (items_say xs es), line_back s n, said_items s w ds n xs es)
 
-  said_pairs : (s : Settings) (w : ℕ) (ds : List TagDirective) (n : ℕ) (ps : Pairs) (es : List EventBody)
-      → most_of_line s n + tally s w ds (n + s.indent) (map emitter_event (pairs_say ps es)) ≡ most_of_pairs (context_of s ds) n (written_pairs ps) + tally s w ds (n + s.indent) (map emitter_event es)
+  said_pairs : (s : Settings) (w : ℕ) (ds : List TagDirective) (n : ℕ) (ps : Pairs)
+      (es : List EventBody)
+      → most_of_line s n + tally s w ds (n + s.indent) (map emitter_event (pairs_say ps es))
+      ≡ most_of_pairs (context_of s ds) n (written_pairs ps) + tally s w ds (n + s.indent)
+      (map emitter_event es)
   said_pairs s w ds n content.no_pairs es = refl
   said_pairs s w ds n (content.pair k v ps) es =
       omega (arith, said_node s w ds (n + s.indent) k (node_says v (pairs_say ps es)), said_node s w ds (n + s.indent) v (pairs_say ps es), line_back s n, said_pairs s w ds n ps es)
 
-said_documents : (s : Settings) (w : ℕ) (es : List TagDirective) (c : List Document) → tally s w es s.indent (map emitter_event (documents_say c)) ≡ most_of_documents s (written_documents c) + lines_of s w (length c)
+said_documents : (s : Settings) (w : ℕ) (es : List TagDirective) (c : List Document)
+    → tally s w es s.indent (map emitter_event (documents_say c))
+    ≡ most_of_documents s (written_documents c) + lines_of s w (length c)
 unfolding tally documents_say most_of_documents
 said_documents s w es [] = refl
 said_documents s w es (d ∷ ds) =
     omega (arith, said_node s w d.directives s.indent d.root (event.document_end true ∷ documents_say ds), said_documents s w d.directives ds)
 
-said_tally : (s : Settings) (w : ℕ) (c : List Document) → tally s w [] s.indent (map emitter_event (stream_says c)) ≡ most_of_documents s (written_documents c) + lines_of s w (length c)
+said_tally : (s : Settings) (w : ℕ) (c : List Document)
+    → tally s w [] s.indent (map emitter_event (stream_says c))
+    ≡ most_of_documents s (written_documents c) + lines_of s w (length c)
 unfolding tally
 said_tally s w c = omega (arith, said_documents s w [] c)
 
@@ -137,14 +161,17 @@ said_tally s w c = omega (arith, said_documents s w [] c)
 
 -- one event counts as another does, and so do those behind them
 record CountsAs (a b : Event) : Type 0 where
-  same : (s : Settings) (w : ℕ) (ds : List TagDirective) (n : ℕ) → tally_of s w ds n a ≡ tally_of s w ds n b
+  same : (s : Settings) (w : ℕ) (ds : List TagDirective) (n : ℕ)
+      → tally_of s w ds n a ≡ tally_of s w ds n b
   directives : (ds : List TagDirective) → directives_behind ds a ≡ directives_behind ds b
   indent : (i n : ℕ) → indent_behind i n a ≡ indent_behind i n b
 
 itself : (a : Event) → CountsAs a a
 itself a = record { same = λ s w ds n. refl; directives = λ ds. refl; indent = λ i n. refl }
 
-content_counts : (ends : Bool) (b : EventBody) → CountsAs (emitter_event (normalize_body ends b)) (emitter_event (content_of (normalize_body true b)))
+content_counts : (ends : Bool) (b : EventBody)
+    → CountsAs (emitter_event (normalize_body ends b))
+    (emitter_event (content_of (normalize_body true b)))
 content_counts ends (event.scalar anchor tag value plain quoted style) =
     elim (cases_Bool (is_lone_mark tag value)) [
       | inl e ↦ rw e (record { same = λ s w ds n. refl; directives = λ ds. refl; indent = λ i n. refl })
@@ -152,7 +179,9 @@ content_counts ends (event.scalar anchor tag value plain quoted style) =
     ]
 content_counts ends _ = record { same = λ s w ds n. refl; directives = λ ds. refl; indent = λ i n. refl }
 
-events_count : (s : Settings) (w : ℕ) (ends : Bool) (ds : List TagDirective) (n : ℕ) (es : List Told) → tally s w ds n (emitter_events ends es) ≡ tally s w ds n (map emitter_event (contents es))
+events_count : (s : Settings) (w : ℕ) (ends : Bool) (ds : List TagDirective) (n : ℕ)
+    (es : List Told)
+    → tally s w ds n (emitter_events ends es) ≡ tally s w ds n (map emitter_event (contents es))
 unfolding tally
 events_count s w ends ds n [] = refl
 events_count s w ends ds n (t ∷ es) =
@@ -171,7 +200,8 @@ more_lines s zero = refl
 more_lines s (suc k) = omega (arith, more_lines s k)
 
 -- so many lines and documents on either side
-without_lines : (s : Settings) (a b k l : ℕ) → ((w : ℕ) → a + lines_of s w k ≡ b + lines_of s w l) → a ≡ b
+without_lines : (s : Settings) (a b k l : ℕ) → ((w : ℕ) → a + lines_of s w k ≡ b + lines_of s w l)
+    → a ≡ b
 without_lines s a b k l same =
     let none : a + lines_of s 0 k ≡ b + lines_of s 0 l = same 0 in
     let one : a + lines_of s 1 k ≡ b + lines_of s 1 l = same 1 in
@@ -180,7 +210,9 @@ without_lines s a b k l same =
     omega (arith, none, lines)
 
 -- documents whose events say the content
-pub tallies_agree : (s : Settings) (ends : Bool) (x : yaml_encoding_t) (ds : List emit.Document) (es : List Told) (c : List Document) → emitter_events ends es ≡ stream_events x ds → contents es ≡ stream_says c
+pub tallies_agree : (s : Settings) (ends : Bool) (x : yaml_encoding_t) (ds : List emit.Document)
+    (es : List Told) (c : List Document) → emitter_events ends es ≡ stream_events x ds
+    → contents es ≡ stream_says c
     → most_bytes s ds ≡ most_bytes s (written_documents c)
 tallies_agree s ends x ds es c e f =
     let k = without_lines s (most_of_documents s ds) (most_of_documents s (written_documents c)) (length ds) (length c)
@@ -188,7 +220,8 @@ tallies_agree s ends x ds es c e f =
     omega (arith, k)
 
 -- and documents with the same events
-pub tallies_same : (s : Settings) (x y : yaml_encoding_t) (ds es : List emit.Document) → stream_events x ds ≡ stream_events y es → most_bytes s ds ≡ most_bytes s es
+pub tallies_same : (s : Settings) (x y : yaml_encoding_t) (ds es : List emit.Document)
+    → stream_events x ds ≡ stream_events y es → most_bytes s ds ≡ most_bytes s es
 tallies_same s x y ds es e =
     let k = without_lines s (most_of_documents s ds) (most_of_documents s es) (length ds) (length es) (λ w. sym (stream_tally s w x ds) ∙ ap (tally s w [] s.indent) e ∙ stream_tally s w y es) in
     omega (arith, k)

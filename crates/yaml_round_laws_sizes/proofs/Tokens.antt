@@ -47,7 +47,8 @@ count_append xs ys = weigh_append weight xs ys
 
 -- ---- the token of a lexeme's own
 
-valued_none : (f : List ℕ → TokenBody) (r : Result (List ℕ × ℕ) Wrong) → ((v : List ℕ) → weight (f v) ≡ 0) → weight (body_of_word (valued f r)) ≡ 0
+valued_none : (f : List ℕ → TokenBody) (r : Result (List ℕ × ℕ) Wrong)
+    → ((v : List ℕ) → weight (f v) ≡ 0) → weight (body_of_word (valued f r)) ≡ 0
 valued_none f (Ok x) n = n x.0
 valued_none f (Err w) n = refl
 
@@ -63,7 +64,8 @@ directed_none : (r : Result DirectiveText Wrong) → weight (body_of_word (direc
 directed_none (Ok d) = said_none d.said
 directed_none (Err w) = refl
 
-blocked_none : (style : yaml_scalar_style_t) (r : Result BlockText Wrong) → weight (body_of_word (blocked style r)) ≡ 0
+blocked_none : (style : yaml_scalar_style_t) (r : Result BlockText Wrong)
+    → weight (body_of_word (blocked style r)) ≡ 0
 blocked_none style (Ok b) = refl
 blocked_none style (Err w) = refl
 
@@ -71,7 +73,8 @@ plain_none : (r : Result PlainText Wrong) → weight (body_of_word (plainly r)) 
 plain_none (Ok b) = refl
 plain_none (Err w) = refl
 
-sequence_none : (d margin : ℕ) (levels : List ℕ) → start_weight weight (start_of d margin levels opening.Sequence) ≡ 0
+sequence_none : (d margin : ℕ) (levels : List ℕ)
+    → start_weight weight (start_of d margin levels opening.Sequence) ≡ 0
 sequence_none d margin levels =
     elim (cases_Bool (not (nat_lt 0 d) && nat_lt (indent levels) margin)) [
       | inl e ↦ rw e refl
@@ -82,7 +85,9 @@ opened_is : (d : ℕ) → opened weight d ≡ outside d
 opened_is zero = refl
 opened_is (suc d) = refl
 
-pays : (k : Kind) (s : SpelledText) (l : Lexeme) (d margin : ℕ) (found : Bool) (levels : List ℕ) → start_weight weight (opens_by k d margin found levels) + weight (body_by k s l) + taken weight k found d ≤ own k + apart k d
+pays : (k : Kind) (s : SpelledText) (l : Lexeme) (d margin : ℕ) (found : Bool) (levels : List ℕ)
+    → start_weight weight (opens_by k d margin found levels) + weight (body_by k s l) + taken weight
+    k found d ≤ own k + apart k d
 unfolding word_at
 pays kinds.BlockEntry s l d margin found levels = omega (arith, sequence_none d margin levels)
 pays kinds.KeyMark s l d margin found levels = omega (arith, mapping_most weight d margin levels, opened_is d)

@@ -39,7 +39,8 @@ abbrev bytes_size : Option (List ℕ) → ℕ
 bytes_size None = 0
 bytes_size (Some bs) = length bs
 
-short_if : (b : Bool) (x y : Option (List ℕ)) → bytes_size x ≤ 3 → bytes_size y ≤ 3 → bytes_size (if b then x else y) ≤ 3
+short_if : (b : Bool) (x y : Option (List ℕ)) → bytes_size x ≤ 3 → bytes_size y ≤ 3
+    → bytes_size (if b then x else y) ≤ 3
 short_if true x y f g = f
 short_if false x y f g = g
 
@@ -128,11 +129,13 @@ abbrev PiecesSpent : ℕ → Result (List Piece × ℕ) Wrong → Type 0
 PiecesSpent p (Ok x) = 2 * pieces_size x.0 + 3 * p ≤ 3 * x.1
 PiecesSpent p (Err w) = Unit {0}
 
-front_spent : (p q : ℕ) (qs : List Piece) (r : Result (List Piece × ℕ) Wrong) → 2 * pieces_size qs + 3 * p ≤ 3 * q → PiecesSpent q r → PiecesSpent p (with_front qs r)
+front_spent : (p q : ℕ) (qs : List Piece) (r : Result (List Piece × ℕ) Wrong)
+    → 2 * pieces_size qs + 3 * p ≤ 3 * q → PiecesSpent q r → PiecesSpent p (with_front qs r)
 front_spent p q qs (Ok x) a b = omega (arith, a, b, pieces_append qs x.0)
 front_spent p q qs (Err w) a b = tt
 
-followed_spent : (more : ℕ → Result (List Piece × ℕ) Wrong) (p : ℕ) (s : Standing) → ((q : ℕ) → PiecesSpent q (more q)) → Spent p s → PiecesSpent p (followed more p s)
+followed_spent : (more : ℕ → Result (List Piece × ℕ) Wrong) (p : ℕ) (s : Standing)
+    → ((q : ℕ) → PiecesSpent q (more q)) → Spent p s → PiecesSpent p (followed more p s)
 followed_spent more p Closing rest f = omega arith
 followed_spent more p (Pieces qs q) rest f = front_spent p q qs (more q) f (rest q)
 followed_spent more p (Bad w) rest f = tt
@@ -147,7 +150,8 @@ abbrev pub ValueSpent : ℕ → Result (List ℕ × ℕ) Wrong → Type 0
 ValueSpent p (Ok x) = 2 * length x.0 + 3 * p ≤ 3 * x.1
 ValueSpent p (Err w) = Unit {0}
 
-valued_spent : (p q : ℕ) (r : Result (List Piece × ℕ) Wrong) → p ≤ q → PiecesSpent q r → ValueSpent p (valued_pieces value r)
+valued_spent : (p q : ℕ) (r : Result (List Piece × ℕ) Wrong) → p ≤ q → PiecesSpent q r
+    → ValueSpent p (valued_pieces value r)
 valued_spent p q (Ok x) w f = omega (arith, w, f, value_size x.0)
 valued_spent p q (Err e) w f = tt
 
@@ -161,7 +165,8 @@ SpotSpent p PlainEnds = Unit {0}
 SpotSpent p (Takes x q) = piece_size x + p ≤ q
 SpotSpent p (PlainFaulty w) = Unit {0}
 
-spot_spent : (flow : Bool) (level : ℕ) (text : List ℕ) (p : ℕ) → SpotSpent p (plain_spot_at flow level text p)
+spot_spent : (flow : Bool) (level : ℕ) (text : List ℕ) (p : ℕ)
+    → SpotSpent p (plain_spot_at flow level text p)
 unfolding plain_spot_at
 spot_spent flow level text p =
     elim (cases_Bool (nat_lt 0 (break_width text p))) [
@@ -185,7 +190,9 @@ abbrev WordsSpent : ℕ → Result PlainWords Wrong → Type 0
 WordsSpent p (Ok w) = pieces_size w.pieces + p ≤ w.place
 WordsSpent p (Err e) = Unit {0}
 
-piece_spent : (x : Piece) (p q r : ℕ) (w : PlainWords) → piece_size x + p ≤ q → pieces_size w.pieces + q ≤ w.place → pieces_size (with_piece x r w).pieces + p ≤ (with_piece x r w).place
+piece_spent : (x : Piece) (p q r : ℕ) (w : PlainWords) → piece_size x + p ≤ q
+    → pieces_size w.pieces + q ≤ w.place
+    → pieces_size (with_piece x r w).pieces + p ≤ (with_piece x r w).place
 piece_spent (Kept bytes) p q r w a b = omega (arith, a, b)
 piece_spent (Blank c) p q r w a b =
     elim (cases_Bool (is_nothing w.pieces)) [
@@ -198,16 +205,19 @@ piece_spent (Break bytes) p q r w a b =
       | inr e ↦ rw e (omega (arith, a, b))
     ]
 
-from_spent : (x : Piece) (p q : ℕ) (r : Result PlainWords Wrong) → piece_size x + p ≤ q → WordsSpent q r → WordsSpent p (words_from x q r)
+from_spent : (x : Piece) (p q : ℕ) (r : Result PlainWords Wrong) → piece_size x + p ≤ q
+    → WordsSpent q r → WordsSpent p (words_from x q r)
 from_spent x p q (Ok w) a b = piece_spent x p q q w a b
 from_spent x p q (Err e) a b = tt
 
-follows_spent : (more : ℕ → Result PlainWords Wrong) (p : ℕ) (s : PlainSpot) → ((q : ℕ) → WordsSpent q (more q)) → SpotSpent p s → WordsSpent p (follows more p s)
+follows_spent : (more : ℕ → Result PlainWords Wrong) (p : ℕ) (s : PlainSpot)
+    → ((q : ℕ) → WordsSpent q (more q)) → SpotSpent p s → WordsSpent p (follows more p s)
 follows_spent more p PlainEnds rest f = omega arith
 follows_spent more p (Takes x q) rest f = from_spent x p q (more q) f (rest q)
 follows_spent more p (PlainFaulty w) rest f = tt
 
-words_spent : (n : ℕ) (flow : Bool) (level : ℕ) (text : List ℕ) (p : ℕ) → WordsSpent p (words n flow level text p)
+words_spent : (n : ℕ) (flow : Bool) (level : ℕ) (text : List ℕ) (p : ℕ)
+    → WordsSpent p (words n flow level text p)
 unfolding words
 words_spent zero flow level text p = tt
 words_spent (suc n) flow level text p = follows_spent (words n flow level text) p (plain_spot_at flow level text p) (words_spent n flow level text) (spot_spent flow level text p)
@@ -216,11 +226,13 @@ abbrev pub PlainSpent : ℕ → Result PlainText Wrong → Type 0
 PlainSpent p (Ok x) = length x.value + p ≤ x.place
 PlainSpent p (Err e) = Unit {0}
 
-plain_with_spent : (p : ℕ) (r : Result PlainWords Wrong) → WordsSpent p r → PlainSpent p (plain_with plain_text r)
+plain_with_spent : (p : ℕ) (r : Result PlainWords Wrong) → WordsSpent p r
+    → PlainSpent p (plain_with plain_text r)
 plain_with_spent p (Ok w) f = omega (arith, f, value_size w.pieces)
 plain_with_spent p (Err e) f = tt
 
-pub plain_spent : (flow : Bool) (level : ℕ) (text : List ℕ) (p : ℕ) → PlainSpent p (plain_at flow level text p)
+pub plain_spent : (flow : Bool) (level : ℕ) (text : List ℕ) (p : ℕ)
+    → PlainSpent p (plain_at flow level text p)
 plain_spent flow level text p =
     let more = words (length text) flow level text (p + 1) in
     plain_with_spent p (words_from (Kept (byte text p ∷ [])) (p + 1) more) (from_spent (Kept (byte text p ∷ [])) p (p + 1) more (omega arith) (words_spent (length text) flow level text (p + 1)))
@@ -260,11 +272,13 @@ abbrev LinesSpent : ℕ → Result Lines Wrong → Type 0
 LinesSpent p (Ok ls) = block_size ls.lines + p ≤ ls.place
 LinesSpent p (Err w) = Unit {0}
 
-line_spent : (p q : ℕ) (l : BlockLine) (r : Result Lines Wrong) → line_size l + p ≤ q → LinesSpent q r → LinesSpent p (with_line l r)
+line_spent : (p q : ℕ) (l : BlockLine) (r : Result Lines Wrong) → line_size l + p ≤ q
+    → LinesSpent q r → LinesSpent p (with_line l r)
 line_spent p q l (Ok ls) a b = omega (arith, a, b)
 line_spent p q l (Err w) a b = tt
 
-then_spent : (more : ℕ → Result Lines Wrong) (end p : ℕ) (s : LineSpot) → ((q : ℕ) → LinesSpent q (more q)) → LineSpent p s → LinesSpent p (line_then more end s)
+then_spent : (more : ℕ → Result Lines Wrong) (end p : ℕ) (s : LineSpot)
+    → ((q : ℕ) → LinesSpent q (more q)) → LineSpent p s → LinesSpent p (line_then more end s)
 then_spent more end p (Stops q) rest f = omega (arith, f)
 then_spent more end p (Line l q) rest f = line_spent p q l (more q) f (rest q)
 then_spent more end p (Tab q) rest f = tt
@@ -279,11 +293,14 @@ abbrev pub BlockSpent : ℕ → Result BlockText Wrong → Type 0
 BlockSpent p (Ok x) = length x.value + p ≤ x.place
 BlockSpent p (Err w) = Unit {0}
 
-with_spent : (folded : Bool) (sign p q : ℕ) (r : Result Lines Wrong) → p ≤ q → LinesSpent q r → BlockSpent p (block_with (block_value folded (chomp_of sign)) r)
+with_spent : (folded : Bool) (sign p q : ℕ) (r : Result Lines Wrong) → p ≤ q → LinesSpent q r
+    → BlockSpent p (block_with (block_value folded (chomp_of sign)) r)
 with_spent folded sign p q (Ok ls) w f = omega (arith, w, f, block_value_size folded sign ls.lines)
 with_spent folded sign p q (Err e) w f = tt
 
-column_spent : (folded : Bool) (sign p q digit : ℕ) (text : List ℕ) (r : Result ℕ Wrong) → p ≤ q → BlockSpent p (block_lines folded text (record { chomp = chomp_of sign; digit = digit; place = q }) r)
+column_spent : (folded : Bool) (sign p q digit : ℕ) (text : List ℕ) (r : Result ℕ Wrong) → p ≤ q
+    → BlockSpent p (block_lines folded text
+    (record { chomp = chomp_of sign; digit = digit; place = q }) r)
 column_spent folded sign p q digit text (Ok c) w = with_spent folded sign p q (lines_from (suc (length text)) c text q q) w (lines_spent (suc (length text)) c text q q)
 column_spent folded sign p q digit text (Err e) w = tt
 

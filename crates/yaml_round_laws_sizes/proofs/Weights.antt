@@ -45,7 +45,8 @@ abbrev pub key_weight : Weight → Bool → ℕ
 key_weight w true = w token.key
 key_weight w false = 0
 
-ends_weigh : (w : Weight) → EndsAreFree w → (n : ℕ) (l : Lexeme) → weigh w (replicate n (before token.block_end l)) ≡ 0
+ends_weigh : (w : Weight) → EndsAreFree w → (n : ℕ) (l : Lexeme)
+    → weigh w (replicate n (before token.block_end l)) ≡ 0
 ends_weigh w free zero l = refl
 ends_weigh w free (suc n) l = omega (arith, free, ends_weigh w free n l)
 
@@ -54,14 +55,16 @@ starts_weigh w opening.Nothing l = refl
 starts_weigh w opening.Sequence l = omega arith
 starts_weigh w opening.Mapping l = omega arith
 
-own_weigh : (w : Weight) (s : SpelledText) (e : Entry) → weigh w (own_tokens s e) ≡ key_weight w e.key + w (body_in s e.lexeme)
+own_weigh : (w : Weight) (s : SpelledText) (e : Entry)
+    → weigh w (own_tokens s e) ≡ key_weight w e.key + w (body_in s e.lexeme)
 own_weigh w s e =
     elim (cases_Bool e.key) [
       | inl k ↦ rw k (omega arith)
       | inr k ↦ rw k (omega arith)
     ]
 
-spell_weigh : (w : Weight) → EndsAreFree w → (s : SpelledText) (e : Entry) → weigh w (spell s e) ≡ start_weight w e.opens + key_weight w e.key + w (body_in s e.lexeme)
+spell_weigh : (w : Weight) → EndsAreFree w → (s : SpelledText) (e : Entry)
+    → weigh w (spell s e) ≡ start_weight w e.opens + key_weight w e.key + w (body_in s e.lexeme)
 spell_weigh w free s e =
     let a = weigh_append w (end_tokens e ++ start_tokens e.opens e.lexeme) (own_tokens s e) in
     let b = weigh_append w (end_tokens e) (start_tokens e.opens e.lexeme) in
@@ -75,10 +78,12 @@ spell_weigh w free s e =
 abbrev total : Weight → SpelledText → List Entry → ℕ
 total w s es = weigh w (flat_map (spell s) es)
 
-total_of : (w : Weight) (s : SpelledText) (e : Entry) (es : List Entry) → total w s (e ∷ es) ≡ weigh w (spell s e) + total w s es
+total_of : (w : Weight) (s : SpelledText) (e : Entry) (es : List Entry)
+    → total w s (e ∷ es) ≡ weigh w (spell s e) + total w s es
 total_of w s e es = weigh_append w (spell s e) (flat_map (spell s) es)
 
-total_append : (w : Weight) (s : SpelledText) (xs ys : List Entry) → total w s (xs ++ ys) ≡ total w s xs + total w s ys
+total_append : (w : Weight) (s : SpelledText) (xs ys : List Entry)
+    → total w s (xs ++ ys) ≡ total w s xs + total w s ys
 total_append w s [] ys = omega arith
 total_append w s (x ∷ xs) ys = omega (arith, total_of w s x xs, total_of w s x (xs ++ ys), total_append w s xs ys)
 
@@ -90,7 +95,8 @@ outer (suc d) n = 0
 abbrev pub opened : Weight → ℕ → ℕ
 opened w d = outer d (w token.block_mapping_start)
 
-pub mapping_most : (w : Weight) (d margin : ℕ) (levels : List ℕ) → start_weight w (start_of d margin levels opening.Mapping) ≤ opened w d
+pub mapping_most : (w : Weight) (d margin : ℕ) (levels : List ℕ)
+    → start_weight w (start_of d margin levels opening.Mapping) ≤ opened w d
 mapping_most w zero margin levels =
     elim (cases_Bool (nat_lt (indent levels) margin)) [
       | inl e ↦ rw e (le_refl _)
@@ -104,7 +110,8 @@ depth_at [] n = 0
 depth_at (e ∷ es) zero = e.lexeme.depth
 depth_at (e ∷ es) (suc n) = depth_at es n
 
-mark_depth : (levels : List ℕ) (es : List Entry) (k n : ℕ) → depth_at (mark_key levels es k) n ≡ depth_at es n
+mark_depth : (levels : List ℕ) (es : List Entry) (k n : ℕ)
+    → depth_at (mark_key levels es k) n ≡ depth_at es n
 unfolding mark_key
 mark_depth levels [] k n = refl
 mark_depth levels (e ∷ es) zero zero = refl
@@ -112,11 +119,13 @@ mark_depth levels (e ∷ es) zero (suc n) = refl
 mark_depth levels (e ∷ es) (suc k) zero = refl
 mark_depth levels (e ∷ es) (suc k) (suc n) = mark_depth levels es k n
 
-marked_depth : (c : Option Candidate) (levels : List ℕ) (es : List Entry) (n : ℕ) → depth_at (marked c levels es) n ≡ depth_at es n
+marked_depth : (c : Option Candidate) (levels : List ℕ) (es : List Entry) (n : ℕ)
+    → depth_at (marked c levels es) n ≡ depth_at es n
 marked_depth None levels es n = refl
 marked_depth (Some c) levels es n = mark_depth levels es c.number n
 
-keyed_depth : (l : Lexeme) (h : List Lexeme) (es : List Entry) (n : ℕ) → depth_at (keyed l h es) n ≡ depth_at es n
+keyed_depth : (l : Lexeme) (h : List Lexeme) (es : List Entry) (n : ℕ)
+    → depth_at (keyed l h es) n ≡ depth_at es n
 keyed_depth l h es n =
     elim (cases_Bool (is_value l.kind)) [
       | inl e ↦ rw e (marked_depth (found_by l h) (inside l h) es n)
@@ -133,7 +142,8 @@ front_depth (x ∷ es) fs zero w = refl
 front_depth (x ∷ es) fs (suc n) w = front_depth es fs n (omega arith)
 
 -- the newest lexeme is a depth's candidate only where it stands there
-newest_depth : (d : ℕ) (l : Lexeme) (h : List Lexeme) (c : Candidate) → candidate d (l ∷ h) ≡ Some c → (l.depth ≡ d) ⊎ (candidate d h ≡ Some c)
+newest_depth : (d : ℕ) (l : Lexeme) (h : List Lexeme) (c : Candidate) → candidate d (l ∷ h) ≡ Some c
+    → (l.depth ≡ d) ⊎ (candidate d h ≡ Some c)
 unfolding candidate
 newest_depth d l h c e =
     elim (cases_Bool (l.depth == d)) [
@@ -144,7 +154,8 @@ newest_depth d l h c e =
       ]
     ]
 
-front_of : (l : Lexeme) (h : List Lexeme) (n : ℕ) → n < length h → depth_at (entries (l ∷ h)) n ≡ depth_at (entries h) n
+front_of : (l : Lexeme) (h : List Lexeme) (n : ℕ) → n < length h
+    → depth_at (entries (l ∷ h)) n ≡ depth_at (entries h) n
 unfolding entries
 front_of l h n w =
     let long = length-keyed l h (entries h) in
@@ -157,7 +168,8 @@ last_of l h =
     let e : length (keyed l h (entries h)) ≡ length h = length-keyed l h (entries h) ∙ length-entries h in
     ap (depth_at (keyed l h (entries h) ++ entry_of l h ∷ [])) (sym e) ∙ last_depth (keyed l h (entries h)) (entry_of l h)
 
-candidate_depth : (d : ℕ) (h : List Lexeme) (c : Candidate) → candidate d h ≡ Some c → depth_at (entries h) c.number ≡ d
+candidate_depth : (d : ℕ) (h : List Lexeme) (c : Candidate) → candidate d h ≡ Some c
+    → depth_at (entries h) c.number ≡ d
 unfolding candidate
 candidate_depth d [] c e = cc
 candidate_depth d (l ∷ h) c e =
@@ -170,7 +182,9 @@ candidate_depth d (l ∷ h) c e =
     ]
 
 -- a key is one token more, and may open a level
-mark_most : (w : Weight) → EndsAreFree w → (s : SpelledText) (levels : List ℕ) (es : List Entry) (n : ℕ) → total w s (mark_key levels es n) ≤ total w s es + (w token.key + opened w (depth_at es n))
+mark_most : (w : Weight) → EndsAreFree w
+    → (s : SpelledText) (levels : List ℕ) (es : List Entry) (n : ℕ)
+    → total w s (mark_key levels es n) ≤ total w s es + (w token.key + opened w (depth_at es n))
 unfolding mark_key
 mark_most w free s levels [] n = omega arith
 mark_most w free s levels (e ∷ es) zero =
@@ -183,7 +197,9 @@ mark_most w free s levels (e ∷ es) (suc n) = omega (arith, total_of w s e (mar
 abbrev pub taken : Weight → Kind → Bool → ℕ → ℕ
 taken w k found d = if is_value k && found then w token.key + opened w d else 0
 
-marked_most : (w : Weight) → EndsAreFree w → (s : SpelledText) (o : Option Candidate) (levels : List ℕ) (es : List Entry) (d : ℕ) → ((c : Candidate) → o ≡ Some c → depth_at es c.number ≡ d)
+marked_most : (w : Weight) → EndsAreFree w
+    → (s : SpelledText) (o : Option Candidate) (levels : List ℕ) (es : List Entry) (d : ℕ)
+    → ((c : Candidate) → o ≡ Some c → depth_at es c.number ≡ d)
     → total w s (marked o levels es) ≤ total w s es + taken w kinds.ValueMark (has o) d
 marked_most w free s None levels es d at = omega arith
 marked_most w free s (Some c) levels es d at =
@@ -211,17 +227,22 @@ abbrev pub prices : (Lexeme → ℕ) → List Lexeme → ℕ
 prices price [] = 0
 prices price (l ∷ h) = price l + prices price h
 
-entry_most : (w : Weight) → EndsAreFree w → (s : SpelledText) (price : Lexeme → ℕ) (l : Lexeme) (h : List Lexeme) → ArePaid w s price (l ∷ h)
+entry_most : (w : Weight) → EndsAreFree w
+    → (s : SpelledText) (price : Lexeme → ℕ) (l : Lexeme) (h : List Lexeme)
+    → ArePaid w s price (l ∷ h)
     → total w s (entry_of l h ∷ []) + taken w l.kind (has (found_by l h)) l.depth ≤ price l
 entry_most w free s price l h paid =
     let a : weigh w (spell s (entry_of l h)) ≡ start_weight w (opens_of (found_by l h) l (inside l h)) + 0 + w (body_in s l) = spell_weigh w free s (entry_of l h) in
     let p : start_weight w (opens_of (found_by l h) l (inside l h)) + w (body_in s l) + taken w l.kind (has (found_by l h)) l.depth ≤ price l = paid.0 (margin_at l.start.column) (has (found_by l h)) (inside l h) in
     omega (arith, total_of w s (entry_of l h) [], a, p)
 
-value_is : (w : Weight) (k : Kind) (b : Bool) (d : ℕ) → is_value k ≡ true → taken w k b d ≡ taken w kinds.ValueMark b d
+value_is : (w : Weight) (k : Kind) (b : Bool) (d : ℕ) → is_value k ≡ true
+    → taken w k b d ≡ taken w kinds.ValueMark b d
 value_is w k b d e = rw e refl
 
-entries_few : (w : Weight) → EndsAreFree w → (s : SpelledText) (price : Lexeme → ℕ) (h : List Lexeme) → ArePaid w s price h → total w s (entries h) ≤ prices price h
+entries_few : (w : Weight) → EndsAreFree w
+    → (s : SpelledText) (price : Lexeme → ℕ) (h : List Lexeme) → ArePaid w s price h
+    → total w s (entries h) ≤ prices price h
 unfolding entries
 entries_few w free s price [] paid = omega arith
 entries_few w free s price (l ∷ h) paid =
@@ -239,12 +260,14 @@ entries_few w free s price (l ∷ h) paid =
           omega (arith, few, last, a, same)
     ]
 
-take_most : (w : Weight) (s : SpelledText) (n : ℕ) (es : List Entry) → total w s (take n es) ≤ total w s es
+take_most : (w : Weight) (s : SpelledText) (n : ℕ) (es : List Entry)
+    → total w s (take n es) ≤ total w s es
 take_most w s zero es = omega arith
 take_most w s (suc n) [] = omega arith
 take_most w s (suc n) (e ∷ es) = omega (arith, total_of w s e (take n es), total_of w s e es, take_most w s n es)
 
-drops_most : (w : Weight) (s : SpelledText) (n : ℕ) (es : List Entry) → total w s (drop n es) ≤ total w s es
+drops_most : (w : Weight) (s : SpelledText) (n : ℕ) (es : List Entry)
+    → total w s (drop n es) ≤ total w s es
 drops_most w s zero es = le_refl _
 drops_most w s (suc n) [] = le_refl _
 drops_most w s (suc n) (e ∷ es) = omega (arith, total_of w s e es, drops_most w s n es)
@@ -254,7 +277,8 @@ drop_most w zero ts = le_refl _
 drop_most w (suc n) [] = le_refl _
 drop_most w (suc n) (t ∷ ts) = omega (arith, drop_most w n ts)
 
-handed_most : (w : Weight) (s : SpelledText) (x : Next) (h : List Lexeme) → total w s (handed_out x h) ≤ total w s (entries h)
+handed_most : (w : Weight) (s : SpelledText) (x : Next) (h : List Lexeme)
+    → total w s (handed_out x h) ≤ total w s (entries h)
 handed_most w s (Fails p) h = take_most w s (first_open h h) (entries h)
 handed_most w s Ends h = le_refl _
 handed_most w s (Read l) h = le_refl _
@@ -270,7 +294,8 @@ kept_weigh w free (Read l) h = refl
 
 -- ---- the text
 
-pub tokens_weigh : (w : Weight) → EndsAreFree w → (s : SpelledText) (price : Lexeme → ℕ) → ArePaid w s price (all s.text) → weigh w (offline s).tokens ≤ prices price (all s.text)
+pub tokens_weigh : (w : Weight) → EndsAreFree w → (s : SpelledText) (price : Lexeme → ℕ)
+    → ArePaid w s price (all s.text) → weigh w (offline s).tokens ≤ prices price (all s.text)
 unfolding remaining handed
 tokens_weigh w free s price paid =
     let x = next s.text (all s.text) in
@@ -282,7 +307,8 @@ tokens_weigh w free s price paid =
     let d : total w s (handed s.text) ≤ total w s (entries h) = handed_most w s x h in
     omega (arith, a, b, c, d, entries_few w free s price h paid, kept_weigh w free x h)
 
-pub cut_weighs : (w : Weight) (f : Option Fault) (ts : List Token) → weigh w (cut f ts).tokens ≤ weigh w ts
+pub cut_weighs : (w : Weight) (f : Option Fault) (ts : List Token)
+    → weigh w (cut f ts).tokens ≤ weigh w ts
 cut_weighs w f [] = omega arith
 cut_weighs w f (t ∷ ts) =
     elim (cases_Bool (spells_text t.body)) [

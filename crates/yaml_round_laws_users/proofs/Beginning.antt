@@ -17,15 +17,19 @@ use Rattle.yaml_round.proofs.Staying.{laid_stream}
 use Rattle.yaml_round.proofs.Theorem.{pretty_is_lost}
 use Rattle.yaml_round_laws_users.specs.Laws.{FormTellsBeginning}
 
-pub begins_so : (from : yaml_encoding_t) (input : List ℕ) → BeginsWithNothing from input → begins_with_nothing (emitter_events false (events_of from input)) ≡ true
+pub begins_so : (from : yaml_encoding_t) (input : List ℕ) → BeginsWithNothing from input
+    → begins_with_nothing (emitter_events false (events_of from input)) ≡ true
 begins_so from input n = subst (λ (es : List Told). begins_with_nothing (emitter_events false es) ≡ true) (events_are from input n.events n.of_input) n.begins
 
-due_begins : (b : Bool) (from : yaml_encoding_t) (s : yaml_settings_t) (input : List ℕ) → b ≡ false → IsCanonicalDue b from s input → BeginsWithNothing from input
+due_begins : (b : Bool) (from : yaml_encoding_t) (s : yaml_settings_t) (input : List ℕ) → b ≡ false
+    → IsCanonicalDue b from s input → BeginsWithNothing from input
 due_begins true from s input e due = absurd (true≢false e)
 due_begins false from s input e due = due.0
 
 -- pretty text that reads back is of an input that begins with something
-lost : (from : yaml_encoding_t) (s : yaml_settings_t) (input text : List ℕ) → IsLaidOut from input s false text → ReadsBack from input text → BeginsWithNothing from input → ⊥
+lost : (from : yaml_encoding_t) (s : yaml_settings_t) (input text : List ℕ)
+    → IsLaidOut from input s false text → ReadsBack from input text → BeginsWithNothing from input
+    → ⊥
 lost from s input text laid back n =
     let l = laid.layout in
     let says : SaysInput from input text = (right_ending YAML_ANY_ENCODING text (second_right from YAML_ANY_ENCODING input text back), sym (content_same from YAML_ANY_ENCODING input text back)) in

@@ -12,10 +12,12 @@ use Rattle.yaml_round_laws_users.specs.Laws.{SameContentIsAnEquivalence, Compari
 same_ok : (r : Result (List Document) Fault) (c d : List Document) → r ≡ Ok c → r ≡ Ok d → c ≡ d
 same_ok r c d p q = cc
 
-pub one_content : (from : yaml_encoding_t) (a : List ℕ) (c d : List Document) → PlainReading from a (Ok c) → PlainReading from a (Ok d) → c ≡ d
+pub one_content : (from : yaml_encoding_t) (a : List ℕ) (c d : List Document)
+    → PlainReading from a (Ok c) → PlainReading from a (Ok d) → c ≡ d
 one_content from a c d p q = same_ok (Ok c) c d refl (one_reading from a (Ok c) (Ok d) p q)
 
-pub turned : (a_from b_from : yaml_encoding_t) (a b : List ℕ) → SameContent a_from a b_from b → SameContent b_from b a_from a
+pub turned : (a_from b_from : yaml_encoding_t) (a b : List ℕ) → SameContent a_from a b_from b
+    → SameContent b_from b a_from a
 turned a_from b_from a b h = record { content = h.content; first = h.second; second = h.first }
 
 own : (from : yaml_encoding_t) (a : List ℕ) → IsRight from a → SameContent from a from a

@@ -42,15 +42,18 @@ use Rattle.yaml_round_laws_users.proofs.Limits.{read_once, loaded_once, same_loa
 not_columns : write_error ≡ too_deep → ⊥
 not_columns e = let k : write_error.kind ≡ too_deep.kind = ap (λ (f : Fault). f.kind) e in absurd cc
 
-past_size : (limit : ℕ) (bytes : List ℕ) (deep : Bool) → Passes limit bytes deep write_error → limit < length bytes
+past_size : (limit : ℕ) (bytes : List ℕ) (deep : Bool) → Passes limit bytes deep write_error
+    → limit < length bytes
 past_size limit bytes deep (inl p) = p.1
 past_size limit bytes deep (inr p) = absurd (not_columns p.0)
 
-content_fits : (s : yaml_settings_t) (c : List Document) → length (canon (requested_under s true) c) ≤ most_of_content s c
+content_fits : (s : yaml_settings_t) (c : List Document)
+    → length (canon (requested_under s true) c) ≤ most_of_content s c
 content_fits s c = by_content (settled (requested_under s true) YAML_ANY_ENCODING) (written_documents c)
 
 -- the text is the content's, and longer than the limit
-text_passes : (from : yaml_encoding_t) (s : yaml_settings_t) (input : List ℕ) (c : List Document) → PlainReading from input (Ok c) → IsTooLong from input s true write_error
+text_passes : (from : yaml_encoding_t) (s : yaml_settings_t) (input : List ℕ) (c : List Document)
+    → PlainReading from input (Ok c) → IsTooLong from input s true write_error
     → s.limit < length (canon (requested_under s true) c)
 text_passes from s input c h k =
     let w = requested_under s true in
@@ -68,13 +71,16 @@ fits_content from s input c h few k =
 -- ---- by the input's length
 
 -- the settings of a call set the encoding
-coded : (x : yaml_output_encoding_t) (y : yaml_encoding_t) → settled_encoding (encoding_under x) y ≡ settled_encoding (encoding_under x) YAML_ANY_ENCODING
+coded : (x : yaml_output_encoding_t) (y : yaml_encoding_t)
+    → settled_encoding (encoding_under x) y ≡ settled_encoding (encoding_under x) YAML_ANY_ENCODING
 coded Utf8 y = refl
 coded Utf16Le y = refl
 coded Utf16Be y = refl
 
 -- in either form
-layout_fits : (from : yaml_encoding_t) (s : yaml_settings_t) (input : List ℕ) (c : List Document) (canonical : Bool) → PlainReading from input (Ok c) → IsTooLong from input s canonical write_error
+layout_fits : (from : yaml_encoding_t) (s : yaml_settings_t) (input : List ℕ) (c : List Document)
+    (canonical : Bool) → PlainReading from input (Ok c)
+    → IsTooLong from input s canonical write_error
     → s.limit < most_of_answer s from input
 layout_fits from s input c canonical h k =
     let w = requested_under s canonical in
@@ -105,28 +111,33 @@ mutual
   unfolding most_of_node most_of_items most_of_pairs
 
   -- styles don't count
-  readable_node_is : (p : Context) (n : ℕ) (starts : Bool) (x : content.Node) → most_of_node p n (readable_node starts x) ≡ most_of_node p n (written_node x)
+  readable_node_is : (p : Context) (n : ℕ) (starts : Bool) (x : content.Node)
+      → most_of_node p n (readable_node starts x) ≡ most_of_node p n (written_node x)
   readable_node_is p n starts (content.alias name) = refl
   readable_node_is p n starts (content.scalar anchor (content.untagged plain) value) = refl
   readable_node_is p n starts (content.scalar anchor (content.tagged t) value) = refl
   readable_node_is p n starts (content.sequence anchor tag items) = omega (arith, readable_items_are p n items)
   readable_node_is p n starts (content.mapping anchor tag pairs) = omega (arith, readable_pairs_are p n pairs)
 
-  readable_items_are : (p : Context) (n : ℕ) (xs : content.Nodes) → most_of_items p n (readable_nodes xs) ≡ most_of_items p n (written_nodes xs)
+  readable_items_are : (p : Context) (n : ℕ) (xs : content.Nodes)
+      → most_of_items p n (readable_nodes xs) ≡ most_of_items p n (written_nodes xs)
   readable_items_are p n content.no_nodes = refl
   readable_items_are p n (content.node x xs) = omega (arith, readable_node_is p (n + p.settings.indent) false x, readable_items_are p n xs)
 
-  readable_pairs_are : (p : Context) (n : ℕ) (ps : content.Pairs) → most_of_pairs p n (readable_pairs ps) ≡ most_of_pairs p n (written_pairs ps)
+  readable_pairs_are : (p : Context) (n : ℕ) (ps : content.Pairs)
+      → most_of_pairs p n (readable_pairs ps) ≡ most_of_pairs p n (written_pairs ps)
   readable_pairs_are p n content.no_pairs = refl
   readable_pairs_are p n (content.pair k v ps) =
       omega (arith, readable_node_is p (n + p.settings.indent) false k, readable_node_is p (n + p.settings.indent) false v, readable_pairs_are p n ps)
 
-documents_are : (s : Settings) (first : Bool) (c : List Document) → most_of_documents s (documents_from first c) ≡ most_of_documents s (written_documents c)
+documents_are : (s : Settings) (first : Bool) (c : List Document)
+    → most_of_documents s (documents_from first c) ≡ most_of_documents s (written_documents c)
 unfolding most_of_documents
 documents_are s first [] = refl
 documents_are s first (d ∷ ds) = omega (arith, readable_node_is (context_of s d.directives) s.indent (is_unmarked first d) d.root, documents_are s false ds)
 
-readable_fits : (from : yaml_encoding_t) (s : yaml_settings_t) (input : List ℕ) (c : List Document) → PlainReading from input (Ok c) → length (readable_text s c) ≤ most_of_answer s from input
+readable_fits : (from : yaml_encoding_t) (s : yaml_settings_t) (input : List ℕ) (c : List Document)
+    → PlainReading from input (Ok c) → length (readable_text s c) ≤ most_of_answer s from input
 readable_fits from s input c h =
     let z = settled (requested_under s false) YAML_ANY_ENCODING in
     let a : length (readable_text s c) ≤ most_bytes z (readable_documents c) = by_content z (readable_documents c) in
@@ -141,16 +152,20 @@ normal_forms from s input c h few k =
 
 -- ---- reloading
 
-settled_is : (s : yaml_settings_t) (y : yaml_encoding_t) → settled (requested_under s true) y ≡ settled (requested_under s true) YAML_ANY_ENCODING
+settled_is : (s : yaml_settings_t) (y : yaml_encoding_t)
+    → settled (requested_under s true) y ≡ settled (requested_under s true) YAML_ANY_ENCODING
 settled_is s y = ap (λ (x : Encoding). record (settled (requested_under s true) YAML_ANY_ENCODING) { encoding = x }) (coded s.encoding y)
 
 -- the mark of an end takes no more
-ended_bytes : (z : Settings) (ds : List documents.Document) → most_of_documents z (map graph_content (ended ds)) ≡ most_of_documents z (map graph_content ds)
+ended_bytes : (z : Settings) (ds : List documents.Document)
+    → most_of_documents z (map graph_content (ended ds))
+    ≡ most_of_documents z (map graph_content ds)
 unfolding most_of_documents
 ended_bytes z [] = refl
 ended_bytes z (d ∷ ds) = omega (arith, ended_bytes z ds)
 
-dumped_long : (s : yaml_settings_t) (ds : List documents.Document) → IsDumped s ds (Err write_error) → s.limit < most_of_dumps s ds
+dumped_long : (s : yaml_settings_t) (ds : List documents.Document) → IsDumped s ds (Err write_error)
+    → s.limit < most_of_dumps s ds
 dumped_long s ds k =
     let w = requested_under s true in
     let h = k.stream in

@@ -22,14 +22,16 @@ use Rattle.yaml_round.specs.Reload.{IsReloaded, IsNormalOfDocuments, LaysOutLoad
 use Rattle.yaml_round_laws_users.proofs.Loads.{loads_alike, right_loads}
 use Rattle.yaml_round_laws_users.specs.Reloads.{ReloadsTellDocuments, AnswersAndReloadsAgree, NamesLeaveReloads}
 
-normal_of : (from : yaml_encoding_t) (s : yaml_settings_t) (input text : List ℕ) (ds : List Document) → IsReloaded from s input (Ok text) → PlainLoading from input (Ok ds)
+normal_of : (from : yaml_encoding_t) (s : yaml_settings_t) (input text : List ℕ)
+    (ds : List Document) → IsReloaded from s input (Ok text) → PlainLoading from input (Ok ds)
     → IsNormalOfDocuments s ds text
 unfolding IsReloaded
 normal_of from s input text ds h p =
     subst (λ (es : List Document). IsNormalOfDocuments s es text) (sym (loads_alike from input h.0.documents h.0.loading) ∙ loads_alike from input ds p) h.1
 
 -- what a text loads is one alone
-back_alike : (t u : List ℕ) (ds es : List Document) → PlainLoading YAML_ANY_ENCODING t (Ok ds) → PlainLoading YAML_ANY_ENCODING u (Ok es) → t ≡ u → ds ≡ es
+back_alike : (t u : List ℕ) (ds es : List Document) → PlainLoading YAML_ANY_ENCODING t (Ok ds)
+    → PlainLoading YAML_ANY_ENCODING u (Ok es) → t ≡ u → ds ≡ es
 back_alike t u ds es h k e = sym (loads_alike YAML_ANY_ENCODING t ds h) ∙ ap (λ (x : List ℕ). (loads_of YAML_ANY_ENCODING x).documents) e ∙ loads_alike YAML_ANY_ENCODING u es k
 
 pub tell : ReloadsTellDocuments
@@ -42,13 +44,15 @@ tell s a_from b_from a b t u h k ds es x y =
 
 -- ---- rewriting and reloading
 
-read_back : (from : yaml_encoding_t) (s : yaml_settings_t) (input text : List ℕ) (form : yaml_form_t) → IsReformatted from s input (Ok (text, form)) → ReadsBack from input text
+read_back : (from : yaml_encoding_t) (s : yaml_settings_t) (input text : List ℕ)
+    (form : yaml_form_t) → IsReformatted from s input (Ok (text, form)) → ReadsBack from input text
 unfolding IsReformatted
 read_back from s input text Canonical h = record { content = h.1.1.content; first = h.1.1.of_input; second = h.1.1.of_text }
 read_back from s input text Pretty h = h.1.1
 
 -- the documents of a reload's input
-laid_of : (from : yaml_encoding_t) (s : yaml_settings_t) (input text : List ℕ) → IsReloaded from s input (Ok text) → LaysOutLoading from s input (Ok text)
+laid_of : (from : yaml_encoding_t) (s : yaml_settings_t) (input text : List ℕ)
+    → IsReloaded from s input (Ok text) → LaysOutLoading from s input (Ok text)
 unfolding IsReloaded
 laid_of from s input text h = h.0
 

@@ -46,19 +46,24 @@ use Rattle.yaml_round_laws_users.specs.Limits.{IsContentTooDeep, AreDumpsTooDeep
 not_size : too_deep ≡ write_error → ⊥
 not_size e = let k : too_deep.kind ≡ write_error.kind = ap (λ (f : Fault). f.kind) e in absurd cc
 
-past_columns : (limit : ℕ) (bytes : List ℕ) (deep : Bool) → Passes limit bytes deep too_deep → deep ≡ true
+past_columns : (limit : ℕ) (bytes : List ℕ) (deep : Bool) → Passes limit bytes deep too_deep
+    → deep ≡ true
 past_columns limit bytes deep (inl p) = absurd (not_size p.0)
 past_columns limit bytes deep (inr p) = p.1
 
 -- ---- a stream's layout
 
-stream_deep : (w : RequestedSettings) → w.canonical ≡ true → (x : Encoding) (e : yaml_encoding_t) (ds : List emit.Document) (whole : List Item) → IsStream w x (stream_events e ds) whole
+stream_deep : (w : RequestedSettings) → w.canonical ≡ true
+    → (x : Encoding) (e : yaml_encoding_t) (ds : List emit.Document) (whole : List Item)
+    → IsStream w x (stream_events e ds) whole
     → is_deep whole ≡ true → IsTooDeep (settled_indent w.indent) ds
 stream_deep w canonical x e ds whole h deep =
     (events_tell h.encoding e h.documents ds (sym h.same) (settled_indent w.indent)).0
     ((by_depth (settled w h.encoding) canonical h.documents).0 (ap (λ (t : List Item). is_deep t) (sym h.is) ∙ deep))
 
-deep_stream : (w : RequestedSettings) → w.canonical ≡ true → (x : Encoding) (e : yaml_encoding_t) (ds : List emit.Document) (whole : List Item) → IsStream w x (stream_events e ds) whole
+deep_stream : (w : RequestedSettings) → w.canonical ≡ true
+    → (x : Encoding) (e : yaml_encoding_t) (ds : List emit.Document) (whole : List Item)
+    → IsStream w x (stream_events e ds) whole
     → IsTooDeep (settled_indent w.indent) ds → is_deep whole ≡ true
 deep_stream w canonical x e ds whole h deep =
     ap (λ (t : List Item). is_deep t) h.is
@@ -66,24 +71,29 @@ deep_stream w canonical x e ds whole h deep =
 
 -- ---- rewriting
 
-pub read_once : (from : yaml_encoding_t) (input : List ℕ) (c : List Document) (f : Fault) → PlainReading from input (Ok c) → IsFaulty from input f → ⊥
+pub read_once : (from : yaml_encoding_t) (input : List ℕ) (c : List Document) (f : Fault)
+    → PlainReading from input (Ok c) → IsFaulty from input f → ⊥
 unfolding IsFaulty
 read_once from input c f h k = let e : Ok c ≡ Err f = one_reading from input (Ok c) (Err f) h k in absurd cc
 
-content_deep : (s : yaml_settings_t) (c : List Document) → is_deep (canon_items (requested_under s true) c) ≡ true → IsContentTooDeep s c
+content_deep : (s : yaml_settings_t) (c : List Document)
+    → is_deep (canon_items (requested_under s true) c) ≡ true → IsContentTooDeep s c
 content_deep s c deep = (by_depth (settled (requested_under s true) YAML_ANY_ENCODING) refl (written_documents c)).0 deep
 
-deep_content : (s : yaml_settings_t) (c : List Document) → IsContentTooDeep s c → is_deep (canon_items (requested_under s true) c) ≡ true
+deep_content : (s : yaml_settings_t) (c : List Document) → IsContentTooDeep s c
+    → is_deep (canon_items (requested_under s true) c) ≡ true
 deep_content s c deep = (by_depth (settled (requested_under s true) YAML_ANY_ENCODING) refl (written_documents c)).1 deep
 
-long_deep : (from : yaml_encoding_t) (s : yaml_settings_t) (input : List ℕ) (c : List Document) → PlainReading from input (Ok c) → IsTooLong from input s true too_deep → IsContentTooDeep s c
+long_deep : (from : yaml_encoding_t) (s : yaml_settings_t) (input : List ℕ) (c : List Document)
+    → PlainReading from input (Ok c) → IsTooLong from input s true too_deep → IsContentTooDeep s c
 long_deep from s input c h k =
     let w = requested_under s true in
     let past = subst (λ (es : List Told). IsPast w s.limit (emitter_events true es) too_deep) (events_are from input k.events k.of_input) k.past in
     let is = (layout_is_of_input w (canonical_under s) from input c (read_said from input c h) past.encoding past.whole past.stream).1 in
     content_deep s c (ap (λ (t : List Item). is_deep t) (sym is) ∙ past_columns s.limit (encode past.encoding past.whole) (is_deep past.whole) past.passes)
 
-deep_long : (from : yaml_encoding_t) (s : yaml_settings_t) (input : List ℕ) (c : List Document) → PlainReading from input (Ok c) → IsContentTooDeep s c → IsTooLong from input s true too_deep
+deep_long : (from : yaml_encoding_t) (s : yaml_settings_t) (input : List ℕ) (c : List Document)
+    → PlainReading from input (Ok c) → IsContentTooDeep s c → IsTooLong from input s true too_deep
 deep_long from s input c h deep =
     let w = requested_under s true in
     let said = read_said from input c h in
@@ -101,7 +111,8 @@ deep_long from s input c h deep =
 pub form_passes : CanonicalFormPassesColumns
 form_passes from s input c h = (λ k. long_deep from s input c h k, λ deep. deep_long from s input c h deep)
 
-due : (b : Bool) (from : yaml_encoding_t) (s : yaml_settings_t) (input : List ℕ) → b ≡ true → IsCanonicalDue b from s input
+due : (b : Bool) (from : yaml_encoding_t) (s : yaml_settings_t) (input : List ℕ) → b ≡ true
+    → IsCanonicalDue b from s input
 due true from s input e = tt
 due false from s input e = absurd (true≢false (sym e))
 
@@ -126,45 +137,57 @@ keeps from s input text c h k deep =
 
 -- ---- reloading
 
-pub loaded_once : (from : yaml_encoding_t) (input : List ℕ) (ds : List documents.Document) (f : Fault) → PlainLoading from input (Ok ds) → PlainLoading from input (Err f) → ⊥
+pub loaded_once : (from : yaml_encoding_t) (input : List ℕ) (ds : List documents.Document)
+    (f : Fault) → PlainLoading from input (Ok ds) → PlainLoading from input (Err f) → ⊥
 loaded_once from input ds f h k = let e : Ok ds ≡ Err f = one_loading from input (Ok ds) (Err f) h k in absurd cc
 
-same_ok : (r q : Result (List documents.Document) Fault) (ds es : List documents.Document) → r ≡ Ok ds → q ≡ Ok es → r ≡ q → ds ≡ es
+same_ok : (r q : Result (List documents.Document) Fault) (ds es : List documents.Document)
+    → r ≡ Ok ds → q ≡ Ok es → r ≡ q → ds ≡ es
 same_ok r q ds es e f h = let k : Ok ds ≡ Ok es = sym e ∙ h ∙ f in cc
 
-pub same_loading : (from : yaml_encoding_t) (input : List ℕ) (ds es : List documents.Document) → PlainLoading from input (Ok ds) → PlainLoading from input (Ok es) → es ≡ ds
+pub same_loading : (from : yaml_encoding_t) (input : List ℕ) (ds es : List documents.Document)
+    → PlainLoading from input (Ok ds) → PlainLoading from input (Ok es) → es ≡ ds
 same_loading from input ds es h k = same_ok (Ok es) (Ok ds) es ds refl refl (one_loading from input (Ok es) (Ok ds) k h)
 
-unfaulty : (ds es : List documents.Document) (o : Option Fault) → unless_faulty ds o ≡ Ok es → ds ≡ es
+unfaulty : (ds es : List documents.Document) (o : Option Fault) → unless_faulty ds o ≡ Ok es
+    → ds ≡ es
 unfaulty ds es None h = cc
 unfaulty ds es (Some f) h = cc
 
-loads_are : (from : yaml_encoding_t) (input : List ℕ) (ds : List documents.Document) → PlainLoading from input (Ok ds) → (loads_of from input).documents ≡ ds
+loads_are : (from : yaml_encoding_t) (input : List ℕ) (ds : List documents.Document)
+    → PlainLoading from input (Ok ds) → (loads_of from input).documents ≡ ds
 loads_are from input ds h = unfaulty (loads_of from input).documents ds (loads_of from input).fault (loading_loads from input (Ok ds) h)
 
 -- the mark of an end has no depth
-ended_stands : (n : ℕ) (ds : List documents.Document) → RootStandsAt n (map graph_content (ended ds)) → RootStandsAt n (map graph_content ds)
+ended_stands : (n : ℕ) (ds : List documents.Document)
+    → RootStandsAt n (map graph_content (ended ds)) → RootStandsAt n (map graph_content ds)
 unfolding RootStandsAt
 ended_stands n [] h = h
 ended_stands n (d ∷ ds) h = elim h [ inl x ↦ inl x | inr y ↦ inr (ended_stands n ds y) ]
 
-stands_ended : (n : ℕ) (ds : List documents.Document) → RootStandsAt n (map graph_content ds) → RootStandsAt n (map graph_content (ended ds))
+stands_ended : (n : ℕ) (ds : List documents.Document) → RootStandsAt n (map graph_content ds)
+    → RootStandsAt n (map graph_content (ended ds))
 unfolding RootStandsAt
 stands_ended n [] h = h
 stands_ended n (d ∷ ds) h = elim h [ inl x ↦ inl x | inr y ↦ inr (stands_ended n ds y) ]
 
-ended_deep : (k : ℕ) (ds : List documents.Document) → IsTooDeep k (map graph_content (ended ds)) → IsTooDeep k (map graph_content ds)
+ended_deep : (k : ℕ) (ds : List documents.Document) → IsTooDeep k (map graph_content (ended ds))
+    → IsTooDeep k (map graph_content ds)
 ended_deep k ds t = record { depth = t.depth; stands = ended_stands t.depth ds t.stands; past = t.past }
 
-deep_ended : (k : ℕ) (ds : List documents.Document) → IsTooDeep k (map graph_content ds) → IsTooDeep k (map graph_content (ended ds))
+deep_ended : (k : ℕ) (ds : List documents.Document) → IsTooDeep k (map graph_content ds)
+    → IsTooDeep k (map graph_content (ended ds))
 deep_ended k ds t = record { depth = t.depth; stands = stands_ended t.depth ds t.stands; past = t.past }
 
-dumped_deep : (s : yaml_settings_t) (ds : List documents.Document) → IsDumped s ds (Err too_deep) → AreDumpsTooDeep s ds
+dumped_deep : (s : yaml_settings_t) (ds : List documents.Document) → IsDumped s ds (Err too_deep)
+    → AreDumpsTooDeep s ds
 dumped_deep s ds k =
     ended_deep (settled_indent s.indent) ds
     (stream_deep (requested_under s true) refl k.encoding YAML_ANY_ENCODING (map graph_content (ended ds)) k.whole k.stream (past_columns s.limit (encode k.encoding k.whole) (is_deep k.whole) k.passes))
 
-deep_dumped : (from : yaml_encoding_t) (s : yaml_settings_t) (input : List ℕ) → AreDumpsTooDeep s (loads_of from input).documents → IsDumped s (loads_of from input).documents (Err too_deep)
+deep_dumped : (from : yaml_encoding_t) (s : yaml_settings_t) (input : List ℕ)
+    → AreDumpsTooDeep s (loads_of from input).documents
+    → IsDumped s (loads_of from input).documents (Err too_deep)
 deep_dumped from s input deep =
     let w = requested_under s true in
     let ds = (loads_of from input).documents in
@@ -187,7 +210,8 @@ reloads from s input ds h = (
   }),
 )
 
-laid_shallow : (s : yaml_settings_t) (ds : List documents.Document) (text : List ℕ) → IsDumped s ds (Ok text) → AreDumpsTooDeep s ds → ⊥
+laid_shallow : (s : yaml_settings_t) (ds : List documents.Document) (text : List ℕ)
+    → IsDumped s ds (Ok text) → AreDumpsTooDeep s ds → ⊥
 laid_shallow s ds text k deep =
     false≢true (sym k.fits.columns ∙ (deep_stream (requested_under s true) refl k.encoding YAML_ANY_ENCODING (map graph_content (ended ds)) k.whole k.stream (deep_ended (settled_indent s.indent) ds deep)))
 

@@ -32,7 +32,8 @@ nothing_said : (a : EventBody) (x : List EventBody) → [] ≡ a ∷ x → ⊥
 nothing_said a x e = absurd (cc)
 
 -- behind one front the first events are the same
-behind_front : (front : List EventBody) (a b : EventBody) (x y : List EventBody) → front ++ a ∷ x ≡ front ++ b ∷ y → a ≡ b
+behind_front : (front : List EventBody) (a b : EventBody) (x y : List EventBody)
+    → front ++ a ∷ x ≡ front ++ b ∷ y → a ≡ b
 behind_front [] a b x y e = firsts a b x y e
 behind_front (f ∷ front) a b x y e = behind_front front a b x y (tails f f (front ++ a ∷ x) (front ++ b ∷ y) e)
 
@@ -42,8 +43,10 @@ said_alike x y u v p q e = ap (λ (t : Told). say t) p ∙ e ∙ sym (ap (λ (t 
 
 -- Two lists part at one place.
 one_place : (before other before' other' : List Told) (x y x' y' : Told) (xs ys xs' ys' : List Told)
-    → before ++ x ∷ xs ≡ before' ++ x' ∷ xs' → other ++ y ∷ ys ≡ other' ++ y' ∷ ys' → contents before ≡ contents other → contents before' ≡ contents other'
-    → (say x ≡ say y → ⊥) → (say x' ≡ say y' → ⊥) → (contents before ≡ contents before') × (x ≡ x') × (y ≡ y')
+    → before ++ x ∷ xs ≡ before' ++ x' ∷ xs' → other ++ y ∷ ys ≡ other' ++ y' ∷ ys'
+    → contents before ≡ contents other → contents before' ≡ contents other'
+    → (say x ≡ say y → ⊥) → (say x' ≡ say y' → ⊥)
+    → (contents before ≡ contents before') × (x ≡ x') × (y ≡ y')
 one_place [] (o ∷ os) before' other' x y x' y' xs ys xs' ys' p q a a' d d' = absurd (nothing_said (say o) (contents os) a)
 one_place (b ∷ bs) [] before' other' x y x' y' xs ys xs' ys' p q a a' d d' = absurd (nothing_said (say b) (contents bs) (sym a))
 one_place [] [] [] (o ∷ os) x y x' y' xs ys xs' ys' p q a a' d d' = absurd (nothing_said (say o) (contents os) a')
@@ -63,7 +66,8 @@ one_place (b ∷ bs) (o ∷ os) (n ∷ ns) (m ∷ ms) x y x' y' xs ys xs' ys' p 
 
 -- ---- inputs
 
-not_same : (a_from b_from : yaml_encoding_t) (a b : List ℕ) (d : yaml_difference_t) → IsParting a_from a b_from b d → SameContent a_from a b_from b → ⊥
+not_same : (a_from b_from : yaml_encoding_t) (a b : List ℕ) (d : yaml_difference_t)
+    → IsParting a_from a b_from b d → SameContent a_from a b_from b → ⊥
 not_same a_from b_from a b d h s =
     let first = map-append (λ (t : Told). say t) h.before (h.next ∷ h.behind) in
     let second = map-append (λ (t : Told). say t) h.other_before (h.other_next ∷ h.other_behind) in
@@ -83,7 +87,8 @@ told_false false n = refl
 one_path : (p q : Place) → place_says p [] ≡ place_says q [] → path_to p ≡ path_to q
 one_path p q e = sym (place_walked p) ∙ ap (λ (es : List EventBody). past es start) e ∙ place_walked q
 
-once : (a_from b_from : yaml_encoding_t) (a b : List ℕ) (d e : yaml_difference_t) → IsParting a_from a b_from b d → IsParting a_from a b_from b e → TellTheSame d e
+once : (a_from b_from : yaml_encoding_t) (a b : List ℕ) (d e : yaml_difference_t)
+    → IsParting a_from a b_from b d → IsParting a_from a b_from b e → TellTheSame d e
 once a_from b_from a b d e h k =
     let r = one_place h.before h.other_before k.before k.other_before h.next h.other_next k.next k.other_next h.behind h.other_behind k.behind k.other_behind
     (events_are a_from a (h.before ++ h.next ∷ h.behind) h.of_first ∙ sym (events_are a_from a (k.before ++ k.next ∷ k.behind) k.of_first))
@@ -97,7 +102,8 @@ once a_from b_from a b d e h k =
       second_type = h.tells.second_type ∙ ap (λ (t : Told). type_of t.0.body) r.2 ∙ sym k.tells.second_type;
     }
 
-other_way : (a_from b_from : yaml_encoding_t) (a b : List ℕ) (d : yaml_difference_t) → IsParting b_from b a_from a d → IsParting a_from a b_from b (turned d)
+other_way : (a_from b_from : yaml_encoding_t) (a b : List ℕ) (d : yaml_difference_t)
+    → IsParting b_from b a_from a d → IsParting a_from a b_from b (turned d)
 other_way a_from b_from a b d h = record {
   before = h.other_before;
   other_before = h.before;

@@ -26,13 +26,16 @@ pub tells : CanonicalTextTellsContents
 tells w canonical a_from b_from a b c e h k = tells_inputs w canonical a_from b_from a b c e (read_said a_from a c h) (read_said b_from b e k)
 
 -- the same stream, of the events that the machine gives
-stream_of : (w : RequestedSettings) (from : yaml_encoding_t) (input : List ℕ) (c : List Document) (es : List Told) (text : List ℕ) → (p : IsPrettyText w from input c es text)
+stream_of : (w : RequestedSettings) (from : yaml_encoding_t) (input : List ℕ) (c : List Document)
+    (es : List Told) (text : List ℕ) → (p : IsPrettyText w from input c es text)
     → IsStream w p.encoding (emitter_events false (events_of from input)) p.whole
 stream_of w from input c es text p =
     subst (λ (xs : List Told). IsStream w p.encoding (emitter_events false xs) p.whole) (events_are from input es p.events) p.stream
 
-begins : (w : RequestedSettings) (from : yaml_encoding_t) (input : List ℕ) (c : List Document) (es : List Told) (text : List ℕ) → (p : IsPrettyText w from input c es text)
-    → begins_with_nothing (emitter_events false (events_of from input)) ≡ begins_with_nothing (emitter_events false es)
+begins : (w : RequestedSettings) (from : yaml_encoding_t) (input : List ℕ) (c : List Document)
+    (es : List Told) (text : List ℕ) → (p : IsPrettyText w from input c es text)
+    → begins_with_nothing (emitter_events false (events_of from input))
+    ≡ begins_with_nothing (emitter_events false es)
 begins w from input c es text p = ap (λ (xs : List Told). begins_with_nothing (emitter_events false xs)) (sym (events_are from input es p.events))
 
 pub pretty_back : PrettyTextReadsBack

@@ -39,18 +39,21 @@ no_matter from s z input t u f g h k =
 
 -- ---- canonical answers
 
-normal_of : (from : yaml_encoding_t) (s : yaml_settings_t) (input text : List ℕ) → IsReformatted from s input (Ok (text, Canonical)) → IsNormalForm from s input text
+normal_of : (from : yaml_encoding_t) (s : yaml_settings_t) (input text : List ℕ)
+    → IsReformatted from s input (Ok (text, Canonical)) → IsNormalForm from s input text
 unfolding IsReformatted
 normal_of from s input text h = h.1.1
 
-told_apart : (s : yaml_settings_t) (a_from b_from : yaml_encoding_t) (a b t u : List ℕ) → IsNormalForm a_from s a t → IsNormalForm b_from s b u → t ≡ u → SameContent a_from a b_from b
+told_apart : (s : yaml_settings_t) (a_from b_from : yaml_encoding_t) (a b t u : List ℕ)
+    → IsNormalForm a_from s a t → IsNormalForm b_from s b u → t ≡ u → SameContent a_from a b_from b
 told_apart s a_from b_from a b t u p q e = record {
   content = p.content;
   first = p.of_input;
   second = subst (λ (c : List Document). PlainReading b_from b (Ok c)) (p.only b_from b q.content q.of_input (sym q.is ∙ sym e)) q.of_input;
 }
 
-told_equal : (s : yaml_settings_t) (a_from b_from : yaml_encoding_t) (a b t u : List ℕ) → IsNormalForm a_from s a t → IsNormalForm b_from s b u → SameContent a_from a b_from b → t ≡ u
+told_equal : (s : yaml_settings_t) (a_from b_from : yaml_encoding_t) (a b t u : List ℕ)
+    → IsNormalForm a_from s a t → IsNormalForm b_from s b u → SameContent a_from a b_from b → t ≡ u
 told_equal s a_from b_from a b t u p q same =
     p.is
     ∙ ap (canonical_text s) (one_content a_from a p.content same.content p.of_input same.first ∙ one_content b_from b same.content q.content same.second q.of_input)
@@ -64,17 +67,22 @@ tell s a_from b_from a b t u h k =
 
 -- ---- again
 
-pub none_is_past : (limit : ℕ) (x : Encoding) (whole : List Item) (f : Fault) → Fits limit x whole → Passes limit (encode x whole) (is_deep whole) f → ⊥
+pub none_is_past : (limit : ℕ) (x : Encoding) (whole : List Item) (f : Fault) → Fits limit x whole
+    → Passes limit (encode x whole) (is_deep whole) f → ⊥
 none_is_past limit x whole f fits (inl p) = let (is, size) = p in let kept = fits.size in omega (arith, size, kept)
 none_is_past limit x whole f fits (inr p) = let (is, deep) = p in true≢false (sym (sym fits.columns ∙ deep))
 
-pub no_fault : (from : yaml_encoding_t) (input : List ℕ) (f : Fault) → ending_of from input ≡ None → IsFaulty from input f → ⊥
+pub no_fault : (from : yaml_encoding_t) (input : List ℕ) (f : Fault) → ending_of from input ≡ None
+    → IsFaulty from input f → ⊥
 no_fault from input f h k = let bad : None ≡ Some f = sym h ∙ faulty_ending from input f k in absurd cc
 
 -- a text that is laid out and fits is past no limit
-not_too_long : (s : yaml_settings_t) (text : List ℕ) (c : List Document) (f : Fault) → HasContent YAML_ANY_ENCODING text c
-    → IsLayout (requested_under s true) s.limit (emitter_events true (events_of YAML_ANY_ENCODING text)) text
-    → IsPast (requested_under s true) s.limit (emitter_events true (events_of YAML_ANY_ENCODING text)) f → ⊥
+not_too_long : (s : yaml_settings_t) (text : List ℕ) (c : List Document) (f : Fault)
+    → HasContent YAML_ANY_ENCODING text c
+    → IsLayout (requested_under s true) s.limit
+    (emitter_events true (events_of YAML_ANY_ENCODING text)) text
+    → IsPast (requested_under s true) s.limit
+    (emitter_events true (events_of YAML_ANY_ENCODING text)) f → ⊥
 not_too_long s text c f h laid past =
     let w = requested_under s true in
     let p = layout_is_of_input w (canonical_under s) YAML_ANY_ENCODING text c h past.encoding past.whole past.stream in
@@ -83,10 +91,15 @@ not_too_long s text c f h laid past =
     none_is_past s.limit (canon_encoding w) (canon_items w c) f (text_fits YAML_ANY_ENCODING text s c text h laid) passes
 
 -- past a limit, of the events that the machine reads
-past_of : (s : yaml_settings_t) (text : List ℕ) (f : Fault) → IsTooLong YAML_ANY_ENCODING text (asking s) true f → IsPast (requested_under s true) s.limit (emitter_events true (events_of YAML_ANY_ENCODING text)) f
+past_of : (s : yaml_settings_t) (text : List ℕ) (f : Fault)
+    → IsTooLong YAML_ANY_ENCODING text (asking s) true f
+    → IsPast (requested_under s true) s.limit
+    (emitter_events true (events_of YAML_ANY_ENCODING text)) f
 past_of s text f h = subst (λ (es : List Told). IsPast (requested_under s true) s.limit (emitter_events true es) f) (events_are YAML_ANY_ENCODING text h.events h.of_input) h.past
 
-still_from : (from : yaml_encoding_t) (s : yaml_settings_t) (input text : List ℕ) (result : Result (List ℕ × yaml_form_t) Fault) → IsNormalForm from s input text → IsReformatted YAML_ANY_ENCODING (asking s) text result → result ≡ Ok (text, Canonical)
+still_from : (from : yaml_encoding_t) (s : yaml_settings_t) (input text : List ℕ)
+    (result : Result (List ℕ × yaml_form_t) Fault) → IsNormalForm from s input text
+    → IsReformatted YAML_ANY_ENCODING (asking s) text result → result ≡ Ok (text, Canonical)
 unfolding IsReformatted
 still_from from s input text (Ok (u, Canonical)) n k = ap (λ (x : List ℕ). Ok (x, Canonical)) (text_is YAML_ANY_ENCODING text (asking s) n.content u (read_said YAML_ANY_ENCODING text n.content n.of_text) (laid_of YAML_ANY_ENCODING (asking s) text u true k.1.0) ∙ sym n.is)
 still_from from s input text (Ok (u, Pretty)) n k = absurd (true≢false k.0)

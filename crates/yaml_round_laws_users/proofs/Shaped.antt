@@ -9,7 +9,8 @@ use Rattle.yaml_round.proofs.JsonInputs.{json_begins}
 use Rattle.yaml_round_laws_users.specs.Laws.{JsonStaysPretty}
 use Rattle.yaml_round_laws_users.proofs.Beginning.{begins_so}
 
-never_due : (b : Bool) → b ≡ false → (from : yaml_encoding_t) (s : yaml_settings_t) (input : List ℕ) → IsJsonInput from input → IsCanonicalDue b from s input → ⊥
+never_due : (b : Bool) → b ≡ false → (from : yaml_encoding_t) (s : yaml_settings_t) (input : List ℕ)
+    → IsJsonInput from input → IsCanonicalDue b from s input → ⊥
 never_due true e from s input is due = true≢false e
 never_due false e from s input is due = true≢false (sym (begins_so from input due.0) ∙ json_begins from input is)
 

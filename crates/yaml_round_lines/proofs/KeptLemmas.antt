@@ -12,7 +12,8 @@ unfolding is_kept escaped_byte
 kept_byte b h = grind (arith, nat_tests)
 
 -- the byte behind a run
-pub run_more : (k : ℕ) (text : List ℕ) (p : ℕ) (run own : Bool) → run ≡ kept_run k text p → own ≡ is_kept (slice_index text (p + k)) → (run && own) ≡ kept_run (k + 1) text p
+pub run_more : (k : ℕ) (text : List ℕ) (p : ℕ) (run own : Bool) → run ≡ kept_run k text p
+    → own ≡ is_kept (slice_index text (p + k)) → (run && own) ≡ kept_run (k + 1) text p
 unfolding kept_run
 run_more k text p run own h g = rw (h, g, add-one) refl
 
@@ -23,12 +24,14 @@ Kept text n = (escaped (take n text) ≡ take n text) × (n ≤ length text)
 pub kept_none : (text : List ℕ) → Kept text 0
 kept_none text = (refl, omega arith)
 
-pub kept_more : (text : List ℕ) (n : ℕ) → Kept text n → n < length text → is_kept (slice_index text n) ≡ true → Kept text (n + 1)
+pub kept_more : (text : List ℕ) (n : ℕ) → Kept text n → n < length text
+    → is_kept (slice_index text n) ≡ true → Kept text (n + 1)
 kept_more text n k inside h =
     let more = take_more text n 0 inside in
     (rw (more, flat_map-append, k.0, kept_byte _ h) refl, omega arith)
 
-pub kept_leap : (k : ℕ) (text : List ℕ) (n : ℕ) → Kept text n → n + k ≤ length text → kept_run k text n ≡ true → Kept text (n + k)
+pub kept_leap : (k : ℕ) (text : List ℕ) (n : ℕ) → Kept text n → n + k ≤ length text
+    → kept_run k text n ≡ true → Kept text (n + k)
 unfolding kept_run
 kept_leap zero text n kept inside h = rw add-zero kept
 kept_leap (suc k) text n kept inside h =
@@ -37,11 +40,13 @@ kept_leap (suc k) text n kept inside h =
     rw next (kept_more text (n + k) front (omega arith) (and_parts _ _ h).1)
 
 -- the text is its kept front, and what is behind it
-pub kept_front : (text : List ℕ) (n : ℕ) → Kept text n → escaped text ≡ take n text ++ escaped (drop n text)
+pub kept_front : (text : List ℕ) (n : ℕ) → Kept text n
+    → escaped text ≡ take n text ++ escaped (drop n text)
 kept_front text n k = ap escaped (sym (take-append-drop n text)) ∙ flat_map-append escaped_byte (take n text) (drop n text) ∙ ap (λ (xs : List ℕ). xs ++ escaped (drop n text)) k.0
 
 -- the kept bytes in front, the byte behind them, and the rest are the text
-pub run_and_byte : (line middle grown text : List ℕ) (n : ℕ) → Kept text n → n < length text → middle ≡ line ++ take n text → grown ≡ middle ++ escaped_byte (slice_index text n)
+pub run_and_byte : (line middle grown text : List ℕ) (n : ℕ) → Kept text n → n < length text
+    → middle ≡ line ++ take n text → grown ≡ middle ++ escaped_byte (slice_index text n)
     → grown ++ escaped (take (length text - (n + 1)) (drop (n + 1) text)) ≡ line ++ escaped text
 run_and_byte line middle grown text n k inside h g =
     let own = escaped_byte (slice_index text n) in
@@ -51,7 +56,8 @@ run_and_byte line middle grown text n k inside h g =
     rw (whole, g, h, kept_front text n k, behind) (append_assoc (line ++ take n text) own rest ∙ append_assoc line (take n text) (own ++ rest))
 
 -- the bytes in front of a run are one
-run_less : (m k : ℕ) (text : List ℕ) (p : ℕ) → kept_run (m + k) text p ≡ true → kept_run m text p ≡ true
+run_less : (m k : ℕ) (text : List ℕ) (p : ℕ) → kept_run (m + k) text p ≡ true
+    → kept_run m text p ≡ true
 unfolding kept_run
 run_less m zero text p h = subst (λ (z : ℕ). kept_run z text p ≡ true) (add-zero m) h
 run_less m (suc k) text p h =
@@ -60,7 +66,8 @@ run_less m (suc k) text p h =
     run_less m k text p (and_parts (kept_run (m + k) text p) (is_kept (slice_index text (p + (m + k)))) longer).0
 
 -- a text whose front and end are kept, which may have bytes in common
-pub ends_kept : (k : ℕ) (text : List ℕ) → k ≤ length text → length text ≤ k + k → (kept_run k text 0 && kept_run k text (length text - k)) ≡ true → escaped text ≡ text
+pub ends_kept : (k : ℕ) (text : List ℕ) → k ≤ length text → length text ≤ k + k
+    → (kept_run k text 0 && kept_run k text (length text - k)) ≡ true → escaped text ≡ text
 ends_kept k text least most h =
     let n : ℕ = length text in
     let m : ℕ = n - k in

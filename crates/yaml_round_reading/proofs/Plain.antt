@@ -16,52 +16,65 @@ use Rattle.yaml_round_reading.specs.Answers.{IsRight, IsFaulty, SameContent}
 
 -- ---- one input
 
-pub faulty : (from : yaml_encoding_t) (input : List ℕ) (f : Fault) → ending_of from input ≡ Some f → IsFaulty from input f
+pub faulty : (from : yaml_encoding_t) (input : List ℕ) (f : Fault) → ending_of from input ≡ Some f
+    → IsFaulty from input f
 unfolding IsFaulty
 faulty from input f e = refused_read from input f e
 
-pub faulty_ending : (from : yaml_encoding_t) (input : List ℕ) (f : Fault) → IsFaulty from input f → ending_of from input ≡ Some f
+pub faulty_ending : (from : yaml_encoding_t) (input : List ℕ) (f : Fault) → IsFaulty from input f
+    → ending_of from input ≡ Some f
 unfolding IsFaulty
 faulty_ending from input f h = read_refused from input f h
 
-pub right : (from : yaml_encoding_t) (input : List ℕ) → ending_of from input ≡ None → IsRight from input
+pub right : (from : yaml_encoding_t) (input : List ℕ) → ending_of from input ≡ None
+    → IsRight from input
 unfolding IsRight
 right from input e = let h = have_content from input e in (h.0, said_read from input h.0 h.1)
 
-pub right_ending : (from : yaml_encoding_t) (input : List ℕ) → IsRight from input → ending_of from input ≡ None
+pub right_ending : (from : yaml_encoding_t) (input : List ℕ) → IsRight from input
+    → ending_of from input ≡ None
 unfolding IsRight
 right_ending from input h = (read_said from input h.0 h.1).right
 
 -- the fault that a reading has met
-pub fault_met : (from : yaml_encoding_t) (input : List ℕ) (r : ParserRemaining) (f : yaml_fault_t) → Reads from input r → IsFaultOf r.ending f → IsMemoryFault parse_layers (fault_of f) ⊎ IsFaulty from input (fault_of f)
+pub fault_met : (from : yaml_encoding_t) (input : List ℕ) (r : ParserRemaining) (f : yaml_fault_t)
+    → Reads from input r → IsFaultOf r.ending f
+    → IsMemoryFault parse_layers (fault_of f) ⊎ IsFaulty from input (fault_of f)
 fault_met from input r f h e = elim e [ inl m ↦ inl m | inr k ↦ inr (faulty from input (fault_of f) (sym h.ending ∙ k)) ]
 
 -- ---- its events
 
-pub has_events : (from : yaml_encoding_t) (input : List ℕ) (es : List Told) → ending_of from input ≡ None → es ≡ events_of from input → HasEvents from input es
+pub has_events : (from : yaml_encoding_t) (input : List ℕ) (es : List Told)
+    → ending_of from input ≡ None → es ≡ events_of from input → HasEvents from input es
 has_events from input es e p =
     let h = have_content from input e in
     let r : PlainReading from input (Ok h.0) = said_read from input h.0 h.1 in
     record { sentence = r.sentence; are = p ∙ events_of_tree from input r.sentence }
 
-pub events_are : (from : yaml_encoding_t) (input : List ℕ) (es : List Told) → HasEvents from input es → es ≡ events_of from input
+pub events_are : (from : yaml_encoding_t) (input : List ℕ) (es : List Told)
+    → HasEvents from input es → es ≡ events_of from input
 events_are from input es h = h.are ∙ sym (events_of_tree from input h.sentence)
 
-pub events_right : (from : yaml_encoding_t) (input : List ℕ) (es : List Told) → HasEvents from input es → IsRight from input
+pub events_right : (from : yaml_encoding_t) (input : List ℕ) (es : List Told)
+    → HasEvents from input es → IsRight from input
 unfolding IsRight
 events_right from input es h = (tree_content h.sentence.tree, record { sentence = h.sentence; content = refl })
 
 -- ---- two inputs
 
-pub same_content : (a_from b_from : yaml_encoding_t) (a b : List ℕ) → ending_of a_from a ≡ None → ending_of b_from b ≡ None → contents (events_of a_from a) ≡ contents (events_of b_from b) → SameContent a_from a b_from b
+pub same_content : (a_from b_from : yaml_encoding_t) (a b : List ℕ) → ending_of a_from a ≡ None
+    → ending_of b_from b ≡ None → contents (events_of a_from a) ≡ contents (events_of b_from b)
+    → SameContent a_from a b_from b
 same_content a_from b_from a b p q e =
     let h = have_content a_from a p in
     let k : HasContent b_from b h.0 = record { right = q; says = sym e ∙ h.1.says } in
     record { content = h.0; first = said_read a_from a h.0 h.1; second = said_read b_from b h.0 k }
 
-pub content_same : (a_from b_from : yaml_encoding_t) (a b : List ℕ) → SameContent a_from a b_from b → contents (events_of a_from a) ≡ contents (events_of b_from b)
+pub content_same : (a_from b_from : yaml_encoding_t) (a b : List ℕ) → SameContent a_from a b_from b
+    → contents (events_of a_from a) ≡ contents (events_of b_from b)
 content_same a_from b_from a b h = (read_said a_from a h.content h.first).says ∙ sym (read_said b_from b h.content h.second).says
 
-pub second_right : (a_from b_from : yaml_encoding_t) (a b : List ℕ) → SameContent a_from a b_from b → IsRight b_from b
+pub second_right : (a_from b_from : yaml_encoding_t) (a b : List ℕ) → SameContent a_from a b_from b
+    → IsRight b_from b
 unfolding IsRight
 second_right a_from b_from a b h = (h.content, h.second)

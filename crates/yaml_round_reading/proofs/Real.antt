@@ -47,14 +47,16 @@ stream_real : (start end : yaml_mark_t) (b : TokenBody) → OneSpeaks (stream_ta
 stream_real start end (token.stream_start e) = refl
 stream_real start end _ = tt
 
-documents_real : (from start end : yaml_mark_t) (b : TokenBody) → OneSpeaks (documents_taken from start end b).item
+documents_real : (from start end : yaml_mark_t) (b : TokenBody)
+    → OneSpeaks (documents_taken from start end b).item
 documents_real from start end (token.version_directive x y) = tt
 documents_real from start end (token.tag_directive x y) = tt
 documents_real from start end token.document_start = tt
 documents_real from start end token.stream_end = refl
 documents_real from start end _ = tt
 
-content_real : (w : Wants) (p : Option Properties) (start end : yaml_mark_t) (b : TokenBody) → OneSpeaks (content_taken w p start end b).item
+content_real : (w : Wants) (p : Option Properties) (start end : yaml_mark_t) (b : TokenBody)
+    → OneSpeaks (content_taken w p start end b).item
 content_real w None start end (token.scalar v s) = tt
 content_real w (Some p) start end (token.scalar v s) = tt
 content_real w None start end token.flow_sequence_start = tt
@@ -71,18 +73,21 @@ content_real (Block None) p start end token.block_entry = tt
 content_real Flow p start end token.block_entry = tt
 content_real w p start end _ = tt
 
-node_real : (w : Wants) (start end : yaml_mark_t) (b : TokenBody) → OneSpeaks (node_taken w start end b).item
+node_real : (w : Wants) (start end : yaml_mark_t) (b : TokenBody)
+    → OneSpeaks (node_taken w start end b).item
 node_real w start end (token.alias n) = refl
 node_real w start end (token.anchor n) = tt
 node_real w start end (token.tag h s) = tt
 node_real w start end b = content_real w None start end b
 
-with_properties_real : (w : Wants) (p : Properties) (start end : yaml_mark_t) (b : TokenBody) → OneSpeaks (with_properties_taken w p start end b).item
+with_properties_real : (w : Wants) (p : Properties) (start end : yaml_mark_t) (b : TokenBody)
+    → OneSpeaks (with_properties_taken w p start end b).item
 with_properties_real w p start end (token.anchor n) = tt
 with_properties_real w p start end (token.tag h s) = tt
 with_properties_real w p start end b = content_real w (Some p) start end b
 
-items_real : (b : Brackets) (o start end : yaml_mark_t) (x : TokenBody) → OneSpeaks (items_taken b o start end x).item
+items_real : (b : Brackets) (o start end : yaml_mark_t) (x : TokenBody)
+    → OneSpeaks (items_taken b o start end x).item
 items_real brackets.Sequence o start end token.key = tt
 items_real brackets.Mapping o start end token.key = tt
 items_real brackets.Sequence o start end token.flow_sequence_end = refl
@@ -91,16 +96,19 @@ items_real brackets.Sequence o start end token.flow_mapping_end = refl
 items_real brackets.Mapping o start end token.flow_mapping_end = refl
 items_real b o start end x = node_real Flow start end x
 
-more_real : (b : Brackets) (o start end : yaml_mark_t) (x : TokenBody) → OneSpeaks (more_taken b o start end x).item
+more_real : (b : Brackets) (o start end : yaml_mark_t) (x : TokenBody)
+    → OneSpeaks (more_taken b o start end x).item
 more_real b o start end token.flow_entry = tt
 more_real brackets.Sequence o start end _ = refl
 more_real brackets.Mapping o start end _ = refl
 
-entries_real : (o start end : yaml_mark_t) (x : TokenBody) → OneSpeaks (entries_taken o start end x).item
+entries_real : (o start end : yaml_mark_t) (x : TokenBody)
+    → OneSpeaks (entries_taken o start end x).item
 entries_real o start end token.block_entry = tt
 entries_real o start end _ = refl
 
-pairs_real : (o start end : yaml_mark_t) (x : TokenBody) → OneSpeaks (pairs_taken o start end x).item
+pairs_real : (o start end : yaml_mark_t) (x : TokenBody)
+    → OneSpeaks (pairs_taken o start end x).item
 pairs_real o start end token.key = tt
 pairs_real o start end _ = refl
 
@@ -135,15 +143,18 @@ abbrev FedSpeaks : Fed → Type 0
 FedSpeaks (stop is f) = AllSpeak is
 FedSpeaks (go is s) = AllSpeak is
 
-given_real : (i : Option RawEvent) (above s : List State) → OneSpeaks i → FedSpeaks (given_by (record { item = i; above = above }) s)
+given_real : (i : Option RawEvent) (above s : List State) → OneSpeaks i
+    → FedSpeaks (given_by (record { item = i; above = above }) s)
 given_real None above s h = tt
 given_real (Some i) above s h = (h, tt)
 
-with_real : (i : RawEvent) (below : Fed) → Speaks i.body → FedSpeaks below → FedSpeaks (with_item i below)
+with_real : (i : RawEvent) (below : Fed) → Speaks i.body → FedSpeaks below
+    → FedSpeaks (with_item i below)
 with_real i (stop is f) h k = (h, k)
 with_real i (go is s) h k = (h, k)
 
-turn_real : (c : Choice) (x : State) (t : Token) (s : List State) (below : Fed) → FedSpeaks below → FedSpeaks (turn c x t s below)
+turn_real : (c : Choice) (x : State) (t : Token) (s : List State) (below : Fed) → FedSpeaks below
+    → FedSpeaks (turn c x t s below)
 turn_real (Refuse p o) x t s below k = tt
 turn_real Take x t s below k = given_real (taken_at x t).item (taken_at x t).above s (taken_real x t)
 turn_real Leave x t s below k = with_real (left_at x t.start_mark) below (left_real x t.start_mark) k
@@ -157,15 +168,18 @@ unfolding feed
 feed_real [] t = tt
 feed_real (x ∷ s) t = turn_real (choice_at x (type_of t.body)) x t s (feed s t) (feed_real s t)
 
-told_real : (left : ℕ) (is : List RawEvent) (more : List Given) → AllSpeak is → GivenSpeak more → GivenSpeak (map (λ (i : RawEvent). (i, left)) is ++ more)
+told_real : (left : ℕ) (is : List RawEvent) (more : List Given) → AllSpeak is → GivenSpeak more
+    → GivenSpeak (map (λ (i : RawEvent). (i, left)) is ++ more)
 told_real left [] more h k = k
 told_real left (i ∷ is) more h k = (h.0, told_real left is more h.1 k)
 
-alone_real : (left : ℕ) (is : List RawEvent) → AllSpeak is → GivenSpeak (map (λ (i : RawEvent). (i, left)) is)
+alone_real : (left : ℕ) (is : List RawEvent) → AllSpeak is
+    → GivenSpeak (map (λ (i : RawEvent). (i, left)) is)
 alone_real left [] h = tt
 alone_real left (i ∷ is) h = (h.0, alone_real left is h.1)
 
-carried_real : (left : ℕ) (fed : Fed) (k : List State → Outcome) → FedSpeaks fed → ((s : List State) → GivenSpeak (k s).items) → GivenSpeak (carry left fed k).items
+carried_real : (left : ℕ) (fed : Fed) (k : List State → Outcome) → FedSpeaks fed
+    → ((s : List State) → GivenSpeak (k s).items) → GivenSpeak (carry left fed k).items
 carried_real left (stop is f) k h r = alone_real left is h
 carried_real left (go is s) k h r = told_real left is (k s).items h (r s)
 
@@ -183,30 +197,37 @@ SettledSpeaks (refused f) = Unit {0}
 SettledSpeaks (gave b ds) = is_empty b ≡ false
 SettledSpeaks (noted ds) = Unit {0}
 
-version_real : (b : Bool) (y n : Settled) → SettledSpeaks y → SettledSpeaks n → SettledSpeaks (if b then y else n)
+version_real : (b : Bool) (y n : Settled) → SettledSpeaks y → SettledSpeaks n
+    → SettledSpeaks (if b then y else n)
 version_real true y n h k = h
 version_real false y n h k = k
 
 scalar_if : (b : Bool) (anchor : Option (List ℕ)) (tag value : List ℕ) (style : yaml_scalar_style_t)
-    → is_empty (if b then event.scalar anchor None value true false style else event.scalar anchor (Some tag) value false false style) ≡ false
+    → is_empty (if b then event.scalar anchor None value true false style else event.scalar anchor
+    (Some tag) value false false style) ≡ false
 scalar_if true anchor tag value style = refl
 scalar_if false anchor tag value style = refl
 
-scalar_real : (anchor tag : Option (List ℕ)) (value : List ℕ) (style : yaml_scalar_style_t) → is_empty (scalar_event anchor tag value style) ≡ false
+scalar_real : (anchor tag : Option (List ℕ)) (value : List ℕ) (style : yaml_scalar_style_t)
+    → is_empty (scalar_event anchor tag value style) ≡ false
 scalar_real anchor None value style = refl
 scalar_real anchor (Some tag) value style = scalar_if (bytes_eq tag (codes "!")) anchor tag value style
 
-node_event_real : (anchor tag : Option (List ℕ)) (shape : Shape) → is_empty (node_event anchor tag shape) ≡ false
+node_event_real : (anchor tag : Option (List ℕ)) (shape : Shape)
+    → is_empty (node_event anchor tag shape) ≡ false
 node_event_real anchor tag item.empty = refl
 node_event_real anchor tag (item.scalar value style) = scalar_real anchor tag value style
 node_event_real anchor tag (item.sequence style) = refl
 node_event_real anchor tag (item.mapping style) = refl
 
-resolved_real : (o : Option (List ℕ)) (anchor : Option (List ℕ)) (shape : Shape) (from at : yaml_mark_t) (ds : Directives) → SettledSpeaks (with_resolved o anchor shape from at ds)
+resolved_real : (o : Option (List ℕ)) (anchor : Option (List ℕ)) (shape : Shape)
+    (from at : yaml_mark_t) (ds : Directives)
+    → SettledSpeaks (with_resolved o anchor shape from at ds)
 resolved_real None anchor shape from at ds = tt
 resolved_real (Some tag) anchor shape from at ds = node_event_real anchor (Some tag) shape
 
-settled_real : (b : RawEventBody) (from : yaml_mark_t) (ds : Directives) → Speaks b → SettledSpeaks (settle_body b from ds)
+settled_real : (b : RawEventBody) (from : yaml_mark_t) (ds : Directives) → Speaks b
+    → SettledSpeaks (settle_body b from ds)
 settled_real (item.event e) from ds h = h
 settled_real (item.version_directive x y) from ds h = with_version_real ds.version x y
   where
@@ -222,17 +243,20 @@ settled_real (item.document i) from ds h = refl
 settled_real (item.node a None shape) from ds h = node_event_real a None shape
 settled_real (item.node a (Some t) shape) from ds h = resolved_real (resolved ds.tags t.handle t.suffix) a shape from t.mark ds
 
-read_on_real : (c : Settled) (g : Given) (gs : List Given) (f : Option Fault) → SettledSpeaks c → ((ds : Directives) → AreReal (reading gs f ds).events)
+read_on_real : (c : Settled) (g : Given) (gs : List Given) (f : Option Fault) → SettledSpeaks c
+    → ((ds : Directives) → AreReal (reading gs f ds).events)
     → AreReal (read_on c g.0 g.1 (λ ds'. reading gs f ds')).events
 read_on_real (refused e) g gs f h k = tt
 read_on_real (gave b ds) g gs f h k = (h, k ds)
 read_on_real (noted ds) g gs f h k = k ds
 
-reading_real : (gs : List Given) (f : Option Fault) (ds : Directives) → GivenSpeak gs → AreReal (reading gs f ds).events
+reading_real : (gs : List Given) (f : Option Fault) (ds : Directives) → GivenSpeak gs
+    → AreReal (reading gs f ds).events
 unfolding reading
 reading_real [] f ds h = tt
 reading_real (g ∷ gs) f ds h = read_on_real (settle g.0 ds) g gs f (settled_real g.0.body g.0.from ds h.0) (λ ds'. reading_real gs f ds' h.1)
 
 -- the events of every list of tokens
-pub read_real : (ts : List Token) (s : List State) (f : Option Fault) (ds : Directives) → AreReal (reading (run ts s f).items (run ts s f).ending ds).events
+pub read_real : (ts : List Token) (s : List State) (f : Option Fault) (ds : Directives)
+    → AreReal (reading (run ts s f).items (run ts s f).ending ds).events
 read_real ts s f ds = reading_real (run ts s f).items (run ts s f).ending ds (run_real ts s f)

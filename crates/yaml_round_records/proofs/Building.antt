@@ -30,10 +30,13 @@ directives_utf8 (d ∷ ds) h =
       directives_utf8 ds (and_parts (is_utf8 d.handle && is_utf8 d.prefix) (are_utf8 ds) h).1,
     )
 
-properties_utf8 : (a t : Option (List ℕ)) → (is_utf8_option a && is_utf8_option t) ≡ true → IsUtf8Option a × IsUtf8Option t
+properties_utf8 : (a t : Option (List ℕ)) → (is_utf8_option a && is_utf8_option t) ≡ true
+    → IsUtf8Option a × IsUtf8Option t
 properties_utf8 a t h = (option_utf8 a (and_parts (is_utf8_option a) (is_utf8_option t) h).0, option_utf8 t (and_parts (is_utf8_option a) (is_utf8_option t) h).1)
 
-scalar_utf8 : (a t : Option (List ℕ)) (v : List ℕ) → (is_utf8_option a && (is_utf8_option t && is_utf8 v)) ≡ true → IsUtf8Option a × IsUtf8Option t × IsUtf8 v
+scalar_utf8 : (a t : Option (List ℕ)) (v : List ℕ)
+    → (is_utf8_option a && (is_utf8_option t && is_utf8 v)) ≡ true
+    → IsUtf8Option a × IsUtf8Option t × IsUtf8 v
 scalar_utf8 a t v h =
     let rest = (and_parts (is_utf8_option a) (is_utf8_option t && is_utf8 v) h).1 in
     (option_utf8 a (and_parts (is_utf8_option a) (is_utf8_option t && is_utf8 v) h).0, option_utf8 t (and_parts (is_utf8_option t) (is_utf8 v) rest).0, IsUtf8-from_is_utf8 v (and_parts (is_utf8_option t) (is_utf8 v) rest).1)
@@ -60,7 +63,8 @@ given_true true e h = refl
 given_true false e h = absurd (cc)
 
 -- a record that means an event means its body
-pub meant_body : (bytes : List ℕ) (list : List yaml_c_directive) (r : yaml_c_event) (b : EventBody) → body_meant bytes list r ≡ Some b → is_some (event_meant bytes list r) ≡ true
+pub meant_body : (bytes : List ℕ) (list : List yaml_c_directive) (r : yaml_c_event) (b : EventBody)
+    → body_meant bytes list r ≡ Some b → is_some (event_meant bytes list r) ≡ true
     → (event_meant bytes list r ≡ Some b) × HasUtf8 b
 unfolding event_meant
 meant_body bytes list r b is h =
@@ -70,19 +74,26 @@ meant_body bytes list r b is h =
 -- ---- directives one behind another
 
 -- What was put, and whatever the rest means, is what all mean.
-abbrev pub PutSome : List ℕ → List yaml_c_directive → List TagDirective → List yaml_c_directive → Type 0
+abbrev pub PutSome : List ℕ → List yaml_c_directive → List TagDirective → List yaml_c_directive
+    → Type 0
 PutSome bytes list front left = (rest : List TagDirective) → all_directives bytes left ≡ Some rest → all_directives bytes list ≡ Some (front ++ rest)
 
-one_more : (bytes : List ℕ) (d : yaml_c_directive) (ds : List yaml_c_directive) (x : TagDirective) (rest : List TagDirective) → directive_at bytes d ≡ Some x → all_directives bytes ds ≡ Some rest → all_directives bytes (d ∷ ds) ≡ Some (x ∷ rest)
+one_more : (bytes : List ℕ) (d : yaml_c_directive) (ds : List yaml_c_directive) (x : TagDirective)
+    (rest : List TagDirective) → directive_at bytes d ≡ Some x → all_directives bytes ds ≡ Some rest
+    → all_directives bytes (d ∷ ds) ≡ Some (x ∷ rest)
 unfolding all_directives
 one_more bytes d ds x rest is h = ap (λ o. in_front o (all_directives bytes ds)) is ∙ ap (in_front (Some x)) h
 
-snoc_map : (xs : List yaml_tag_directive_t) (x : yaml_tag_directive_t) (rest : List TagDirective) → map directive_of xs ++ (directive_of x ∷ rest) ≡ map directive_of (xs ++ x ∷ []) ++ rest
+snoc_map : (xs : List yaml_tag_directive_t) (x : yaml_tag_directive_t) (rest : List TagDirective)
+    → map directive_of xs ++ (directive_of x ∷ rest) ≡ map directive_of (xs ++ x ∷ []) ++ rest
 snoc_map [] x rest = refl
 snoc_map (y ∷ ys) x rest = ap (λ (ds : List TagDirective). directive_of y ∷ ds) (snoc_map ys x rest)
 
-pub put_more : (bytes : List ℕ) (list : List yaml_c_directive) (i : ℕ) (d : yaml_c_directive) (x : yaml_tag_directive_t) (front new : List yaml_tag_directive_t) → i < length list → PutSome bytes list (map directive_of front) (drop i list)
-    → directive_at bytes (get_or list i d) ≡ Some (directive_of x) → new ≡ front ++ x ∷ [] → PutSome bytes list (map directive_of new) (drop (i + 1) list)
+pub put_more : (bytes : List ℕ) (list : List yaml_c_directive) (i : ℕ) (d : yaml_c_directive)
+    (x : yaml_tag_directive_t) (front new : List yaml_tag_directive_t) → i < length list
+    → PutSome bytes list (map directive_of front) (drop i list)
+    → directive_at bytes (get_or list i d) ≡ Some (directive_of x) → new ≡ front ++ x ∷ []
+    → PutSome bytes list (map directive_of new) (drop (i + 1) list)
 put_more bytes list i d x front new h inv is added = λ rest left.
     inv (directive_of x ∷ rest) (ap (all_directives bytes) (left_cons list i d h) ∙ one_more bytes (get_or list i d) (drop (i + 1) list) (directive_of x) rest is left)
     ∙ ap (λ (ds : List TagDirective). Some ds) (snoc_map front x rest ∙ ap (λ (ys : List yaml_tag_directive_t). map directive_of ys ++ rest) (sym added))
@@ -91,13 +102,17 @@ none_directives : (bytes : List ℕ) → all_directives bytes [] ≡ Some []
 unfolding all_directives
 none_directives bytes = refl
 
-pub put_all : (bytes : List ℕ) (list : List yaml_c_directive) (i : ℕ) (front : List TagDirective) → length list ≤ i → PutSome bytes list front (drop i list) → all_directives bytes list ≡ Some front
+pub put_all : (bytes : List ℕ) (list : List yaml_c_directive) (i : ℕ) (front : List TagDirective)
+    → length list ≤ i → PutSome bytes list front (drop i list)
+    → all_directives bytes list ≡ Some front
 put_all bytes list i front h inv = inv [] (ap (all_directives bytes) (drop_all i list h) ∙ none_directives bytes) ∙ ap (λ (ds : List TagDirective). Some ds) (append-nil front)
 
 -- ---- an event with its marks at zero
 
-pub placed_body : (e : yaml_event_t) (b : EventBody) (o : Option EventBody) → event_of e ≡ unplaced b → o ≡ Some b → o ≡ Some (event_of e).body
+pub placed_body : (e : yaml_event_t) (b : EventBody) (o : Option EventBody)
+    → event_of e ≡ unplaced b → o ≡ Some b → o ≡ Some (event_of e).body
 placed_body e b o is h = h ∙ ap (λ (x : Event). Some x.body) (sym is)
 
-pub placed_utf8 : (e : yaml_event_t) (b : EventBody) → event_of e ≡ unplaced b → HasUtf8 b → HasUtf8 (event_of e).body
+pub placed_utf8 : (e : yaml_event_t) (b : EventBody) → event_of e ≡ unplaced b → HasUtf8 b
+    → HasUtf8 (event_of e).body
 placed_utf8 e b is h = subst (λ (x : Event). HasUtf8 x.body) (sym is) h

@@ -22,18 +22,22 @@ record Parted (o : Option TagDirective) (p : Option (List TagDirective)) (ts : L
 some_list : (us ts : List TagDirective) → Some us ≡ Some ts → ts ≡ us
 some_list us ts e = cc
 
-parted : (o : Option TagDirective) (p : Option (List TagDirective)) (ts : List TagDirective) → in_front o p ≡ Some ts → Parted o p ts
+parted : (o : Option TagDirective) (p : Option (List TagDirective)) (ts : List TagDirective)
+    → in_front o p ≡ Some ts → Parted o p ts
 parted None p ts e = absurd (cc)
 parted (Some y) None ts e = absurd (cc)
 parted (Some y) (Some ys) ts e = record { first = y; others = ys; first_is = refl; others_are = refl; all = some_list (y ∷ ys) ts e }
 
-ap2_front : (o : Option TagDirective) (p : Option (List TagDirective)) (y : TagDirective) (ys : List TagDirective) → o ≡ Some y → p ≡ Some ys
+ap2_front : (o : Option TagDirective) (p : Option (List TagDirective)) (y : TagDirective)
+    (ys : List TagDirective) → o ≡ Some y → p ≡ Some ys
     → in_front o p ≡ Some (y ∷ ys)
 ap2_front o p y ys e f = rw (e, f) refl
 
 -- one more directive
-snoc : (bytes : List ℕ) (ds : List yaml_c_directive) (d : yaml_c_directive) (ts : List TagDirective) (t : TagDirective)
-    → all_directives bytes ds ≡ Some ts → directive_at bytes d ≡ Some t → all_directives bytes (ds ++ d ∷ []) ≡ Some (ts ++ t ∷ [])
+snoc : (bytes : List ℕ) (ds : List yaml_c_directive) (d : yaml_c_directive) (ts : List TagDirective)
+    (t : TagDirective)
+    → all_directives bytes ds ≡ Some ts → directive_at bytes d ≡ Some t
+    → all_directives bytes (ds ++ d ∷ []) ≡ Some (ts ++ t ∷ [])
 unfolding all_directives
 snoc bytes [] d ts t e f = rw (f, some_list [] ts e) refl
 snoc bytes (x ∷ ds) d ts t e f =
@@ -42,7 +46,8 @@ snoc bytes (x ∷ ds) d ts t e f =
     ∙ ap (λ z. Some (z ++ t ∷ [])) (sym h.all)
 
 -- directives behind others
-appended : (bytes : List ℕ) (ds fs : List yaml_c_directive) (ts us : List TagDirective) → all_directives bytes ds ≡ Some ts
+appended : (bytes : List ℕ) (ds fs : List yaml_c_directive) (ts us : List TagDirective)
+    → all_directives bytes ds ≡ Some ts
     → all_directives bytes fs ≡ Some us → all_directives bytes (ds ++ fs) ≡ Some (ts ++ us)
 unfolding all_directives
 appended bytes [] fs ts us e f = rw (f, some_list [] ts e) refl
@@ -51,25 +56,29 @@ appended bytes (x ∷ ds) fs ts us e f =
     ap2_front (directive_at bytes x) (all_directives bytes (ds ++ fs)) h.first (h.others ++ us) h.first_is (appended bytes ds fs h.others us h.others_are f)
     ∙ ap (λ z. Some (z ++ us)) (sym h.all)
 
-texts_snoc : (ts : List TagDirective) (t : TagDirective) → directive_texts (ts ++ t ∷ []) ≡ directive_texts ts ++ (t.handle ++ t.prefix)
+texts_snoc : (ts : List TagDirective) (t : TagDirective)
+    → directive_texts (ts ++ t ∷ []) ≡ directive_texts ts ++ (t.handle ++ t.prefix)
 unfolding directive_texts
 texts_snoc [] t = append-nil (t.handle ++ t.prefix)
 texts_snoc (x ∷ ts) t =
     ap (λ z. (x.handle ++ x.prefix) ++ z) (texts_snoc ts t) ∙ sym (append_assoc (x.handle ++ x.prefix) (directive_texts ts) (t.handle ++ t.prefix))
 
-same_length : (bytes : List ℕ) (ds : List yaml_c_directive) (ts : List TagDirective) → all_directives bytes ds ≡ Some ts → length ds ≡ length ts
+same_length : (bytes : List ℕ) (ds : List yaml_c_directive) (ts : List TagDirective)
+    → all_directives bytes ds ≡ Some ts → length ds ≡ length ts
 unfolding all_directives
 same_length bytes [] ts e = rw (some_list [] ts e) refl
 same_length bytes (x ∷ ds) ts e =
     let h = parted (directive_at bytes x) (all_directives bytes ds) ts e in
     ap suc (same_length bytes ds h.others h.others_are) ∙ sym (ap length h.all)
 
-still : (old new : List ℕ) (ds : List yaml_c_directive) (ts : List TagDirective) → Grows old new → HoldDirectives old ds ts → HoldDirectives new ds ts
+still : (old new : List ℕ) (ds : List yaml_c_directive) (ts : List TagDirective) → Grows old new
+    → HoldDirectives old ds ts → HoldDirectives new ds ts
 still old new ds ts g h more =
     subst (λ z. all_directives z ds ≡ Some ts) (sym (ap (λ z. z ++ more) g.is ∙ append_assoc old g.more more)) (h (g.more ++ more))
 
 -- what the list meant before, and what was put behind it
-pub append_on : (old new : List ℕ) (ds fs : List yaml_c_directive) (ts us : List TagDirective) → Grows old new → HoldDirectives old ds ts
+pub append_on : (old new : List ℕ) (ds fs : List yaml_c_directive) (ts us : List TagDirective)
+    → Grows old new → HoldDirectives old ds ts
     → AppendsDirectives new ds us fs → HoldDirectives new fs (ts ++ us)
 append_on old new ds fs ts us g h a more =
     subst (λ z. all_directives (new ++ more) z ≡ Some (ts ++ us)) (sym a.is)
@@ -80,12 +89,15 @@ pub none_appended : (bytes : List ℕ) (ds : List yaml_c_directive) → AppendsD
 unfolding all_directives
 none_appended bytes ds = record { added = []; is = sym (append-nil ds); hold = λ more. refl }
 
-put_at : (bytes : List ℕ) (d : yaml_c_directive) (t : TagDirective) → part_at bytes d.handle ≡ Some t.handle
+put_at : (bytes : List ℕ) (d : yaml_c_directive) (t : TagDirective)
+    → part_at bytes d.handle ≡ Some t.handle
     → part_at bytes d.prefix ≡ Some t.prefix → directive_at bytes d ≡ Some t
 put_at bytes d t h p = rw (h, p) refl
 
-one_more : (old l m : Listing) (ts : List TagDirective) (t : TagDirective) (d : yaml_c_directive) → AddsDirectives old ts l
-    → PutsDirective l.bytes.items t m.bytes.items d → m.directives.items ≡ l.directives.items ++ d ∷ [] → m.events.items ≡ l.events.items
+one_more : (old l m : Listing) (ts : List TagDirective) (t : TagDirective) (d : yaml_c_directive)
+    → AddsDirectives old ts l
+    → PutsDirective l.bytes.items t m.bytes.items d
+    → m.directives.items ≡ l.directives.items ++ d ∷ [] → m.events.items ≡ l.events.items
     → AddsDirectives old (ts ++ t ∷ []) m
 one_more old l m ts t d a p e f = record {
   bytes = grows_on _ _ _ a.bytes p.grows;
@@ -97,7 +109,8 @@ one_more old l m ts t d a p e f = record {
   events = f ∙ a.events;
 }
 
-all_put : (old l : Listing) (ts : List TagDirective) (s : yaml_c_span) → AddsDirectives old ts l → s.at ≡ length old.directives.items
+all_put : (old l : Listing) (ts : List TagDirective) (s : yaml_c_span) → AddsDirectives old ts l
+    → s.at ≡ length old.directives.items
     → s.len ≡ length ts → PutsDirectives old ts l s
 all_put old l ts s a at len = record {
   bytes = a.bytes;
@@ -124,9 +137,11 @@ none_put l = record {
 }
 
 -- the directive at the loop's place is added
-pub next_put : (old l m : Listing) (xs : List yaml_tag_directive_t) (i : ℕ) (x : yaml_tag_directive_t) (d : yaml_c_directive)
+pub next_put : (old l m : Listing) (xs : List yaml_tag_directive_t) (i : ℕ)
+    (x : yaml_tag_directive_t) (d : yaml_c_directive)
     → i < length xs → x ≡ get_or xs i x → AddsDirectives old (map directive_of (take i xs)) l
-    → PutsDirective l.bytes.items (directive_of x) m.bytes.items d → m.directives.items ≡ l.directives.items ++ d ∷ []
+    → PutsDirective l.bytes.items (directive_of x) m.bytes.items d
+    → m.directives.items ≡ l.directives.items ++ d ∷ []
     → m.events.items ≡ l.events.items → AddsDirectives old (map directive_of (take (i + 1) xs)) m
 next_put old l m xs i x d h is a p e f =
     let more : map directive_of (take (i + 1) xs) ≡ map directive_of (take i xs) ++ directive_of x ∷ [] =
@@ -134,8 +149,10 @@ next_put old l m xs i x d h is a p e f =
     subst (λ z. AddsDirectives old z m) (sym more) (one_more old l m (map directive_of (take i xs)) (directive_of x) d a p e f)
 
 -- behind the last one
-pub last_put : (old l : Listing) (xs : List yaml_tag_directive_t) (i : ℕ) (s : yaml_c_span) → length xs ≤ i
-    → AddsDirectives old (map directive_of (take i xs)) l → s.at ≡ length old.directives.items → s.len ≡ length xs
+pub last_put : (old l : Listing) (xs : List yaml_tag_directive_t) (i : ℕ) (s : yaml_c_span)
+    → length xs ≤ i
+    → AddsDirectives old (map directive_of (take i xs)) l → s.at ≡ length old.directives.items
+    → s.len ≡ length xs
     → PutsDirectives old (map directive_of xs) l s
 last_put old l xs i s h a at len =
     all_put old l (map directive_of xs) s (subst (λ z. AddsDirectives old (map directive_of z) l) (take_all i xs h) a) at (len ∙ sym (length-map xs directive_of))

@@ -29,29 +29,40 @@ use Rattle.yaml_round_records.specs.Leading.{bytes_of, all_events, StartsUnder, 
 
 -- ---- the records that are left
 
-front_some : (b : Option EventBody) (bs : Option (List EventBody)) → is_some (body_in_front b bs) ≡ true → is_some b ≡ true
+front_some : (b : Option EventBody) (bs : Option (List EventBody))
+    → is_some (body_in_front b bs) ≡ true → is_some b ≡ true
 front_some None bs h = h
 front_some (Some b) bs h = refl
 
-rest_some : (b : Option EventBody) (bs : Option (List EventBody)) → is_some (body_in_front b bs) ≡ true → is_some bs ≡ true
+rest_some : (b : Option EventBody) (bs : Option (List EventBody))
+    → is_some (body_in_front b bs) ≡ true → is_some bs ≡ true
 rest_some None bs h = absurd (cc)
 rest_some (Some b) None h = h
 rest_some (Some b) (Some bs) h = refl
 
-front_events : (b : EventBody) (bs : Option (List EventBody)) → is_some (body_in_front (Some b) bs) ≡ true → all_events (body_in_front (Some b) bs) ≡ emitter_event b ∷ all_events bs
+front_events : (b : EventBody) (bs : Option (List EventBody))
+    → is_some (body_in_front (Some b) bs) ≡ true
+    → all_events (body_in_front (Some b) bs) ≡ emitter_event b ∷ all_events bs
 front_events b None h = absurd (cc)
 front_events b (Some bs) h = refl
 
-pub meant_first : (bytes : List ℕ) (list : List yaml_c_directive) (r : yaml_c_event) (rs : List yaml_c_event) → is_some (events_meant bytes list (r ∷ rs)) ≡ true → is_some (event_meant bytes list r) ≡ true
+pub meant_first : (bytes : List ℕ) (list : List yaml_c_directive) (r : yaml_c_event)
+    (rs : List yaml_c_event) → is_some (events_meant bytes list (r ∷ rs)) ≡ true
+    → is_some (event_meant bytes list r) ≡ true
 unfolding events_meant
 meant_first bytes list r rs h = front_some (event_meant bytes list r) (events_meant bytes list rs) h
 
-pub meant_rest : (bytes : List ℕ) (list : List yaml_c_directive) (r : yaml_c_event) (rs : List yaml_c_event) → is_some (events_meant bytes list (r ∷ rs)) ≡ true → is_some (events_meant bytes list rs) ≡ true
+pub meant_rest : (bytes : List ℕ) (list : List yaml_c_directive) (r : yaml_c_event)
+    (rs : List yaml_c_event) → is_some (events_meant bytes list (r ∷ rs)) ≡ true
+    → is_some (events_meant bytes list rs) ≡ true
 unfolding events_meant
 meant_rest bytes list r rs h = rest_some (event_meant bytes list r) (events_meant bytes list rs) h
 
-pub meant_events : (bytes : List ℕ) (list : List yaml_c_directive) (r : yaml_c_event) (rs : List yaml_c_event) (b : EventBody) → is_some (events_meant bytes list (r ∷ rs)) ≡ true → event_meant bytes list r ≡ Some b
-    → all_events (events_meant bytes list (r ∷ rs)) ≡ emitter_event b ∷ all_events (events_meant bytes list rs)
+pub meant_events : (bytes : List ℕ) (list : List yaml_c_directive) (r : yaml_c_event)
+    (rs : List yaml_c_event) (b : EventBody) → is_some (events_meant bytes list (r ∷ rs)) ≡ true
+    → event_meant bytes list r ≡ Some b
+    → all_events (events_meant bytes list (r ∷ rs)) ≡ emitter_event b
+    ∷ all_events (events_meant bytes list rs)
 unfolding events_meant
 meant_events bytes list r rs b h is =
     let P : Option EventBody → Type 0 = λ o. is_some (body_in_front o (events_meant bytes list rs)) ≡ true in
@@ -60,19 +71,30 @@ meant_events bytes list r rs b h is =
 abbrev Meant : List ℕ → List yaml_c_directive → List yaml_c_event → Type 0
 Meant bytes list rs = is_some (events_meant bytes list rs) ≡ true
 
-pub first_meant : (bytes : List ℕ) (list : List yaml_c_directive) (rs : List yaml_c_event) (i : ℕ) (d : yaml_c_event) → i < length rs → is_some (events_meant bytes list (drop i rs)) ≡ true → is_some (event_meant bytes list (get_or rs i d)) ≡ true
+pub first_meant : (bytes : List ℕ) (list : List yaml_c_directive) (rs : List yaml_c_event) (i : ℕ)
+    (d : yaml_c_event) → i < length rs → is_some (events_meant bytes list (drop i rs)) ≡ true
+    → is_some (event_meant bytes list (get_or rs i d)) ≡ true
 first_meant bytes list rs i d h m = meant_first bytes list (get_or rs i d) (drop (i + 1) rs) (subst (Meant bytes list) (left_cons rs i d h) m)
 
-pub rest_meant : (bytes : List ℕ) (list : List yaml_c_directive) (rs : List yaml_c_event) (i : ℕ) (d : yaml_c_event) (b : EventBody) → i < length rs → is_some (events_meant bytes list (drop i rs)) ≡ true → event_meant bytes list (get_or rs i d) ≡ Some b → is_some (events_meant bytes list (drop (i + 1) rs)) ≡ true
+pub rest_meant : (bytes : List ℕ) (list : List yaml_c_directive) (rs : List yaml_c_event) (i : ℕ)
+    (d : yaml_c_event) (b : EventBody) → i < length rs
+    → is_some (events_meant bytes list (drop i rs)) ≡ true
+    → event_meant bytes list (get_or rs i d) ≡ Some b
+    → is_some (events_meant bytes list (drop (i + 1) rs)) ≡ true
 rest_meant bytes list rs i d b h m is = meant_rest bytes list (get_or rs i d) (drop (i + 1) rs) (subst (Meant bytes list) (left_cons rs i d h) m)
 
-events_left : (bytes : List ℕ) (list : List yaml_c_directive) (rs : List yaml_c_event) (i : ℕ) (d : yaml_c_event) (b : EventBody) → i < length rs → is_some (events_meant bytes list (drop i rs)) ≡ true → event_meant bytes list (get_or rs i d) ≡ Some b
-    → all_events (events_meant bytes list (drop i rs)) ≡ emitter_event b ∷ all_events (events_meant bytes list (drop (i + 1) rs))
+events_left : (bytes : List ℕ) (list : List yaml_c_directive) (rs : List yaml_c_event) (i : ℕ)
+    (d : yaml_c_event) (b : EventBody) → i < length rs
+    → is_some (events_meant bytes list (drop i rs)) ≡ true
+    → event_meant bytes list (get_or rs i d) ≡ Some b
+    → all_events (events_meant bytes list (drop i rs)) ≡ emitter_event b
+    ∷ all_events (events_meant bytes list (drop (i + 1) rs))
 events_left bytes list rs i d b h m is =
     ap (λ es. all_events (events_meant bytes list es)) (left_cons rs i d h)
     ∙ meant_events bytes list (get_or rs i d) (drop (i + 1) rs) b (subst (Meant bytes list) (left_cons rs i d h) m) is
 
-none_left : (bytes : List ℕ) (list : List yaml_c_directive) → all_events (events_meant bytes list []) ≡ []
+none_left : (bytes : List ℕ) (list : List yaml_c_directive)
+    → all_events (events_meant bytes list []) ≡ []
 unfolding events_meant
 none_left bytes list = refl
 
@@ -81,7 +103,9 @@ none_left bytes list = refl
 pub leads_same : (e : Emitter) (es : List Event) → LeadsEmitter e es e es
 leads_same e es = record { refuses = λ g. refl; writes = λ x whole h. h; completes = λ x whole h. h; limit = refl }
 
-pub leads_more : (first old new : Emitter) (all : List Event) (x : Event) (rest : List Event) → LeadsEmitter first all old (x ∷ rest) → TakesEvents old (x ∷ []) new [] → LeadsEmitter first all new rest
+pub leads_more : (first old new : Emitter) (all : List Event) (x : Event) (rest : List Event)
+    → LeadsEmitter first all old (x ∷ rest) → TakesEvents old (x ∷ []) new []
+    → LeadsEmitter first all new rest
 leads_more first old new all x rest l t = record {
   refuses = λ on. t.refuses on rest ∙ l.refuses (t.going on);
   writes = λ c whole h. t.writes c rest whole (l.writes c whole h);
@@ -89,44 +113,61 @@ leads_more first old new all x rest l t = record {
   limit = t.limit ∙ l.limit;
 }
 
-pub leads_on : (first old new : Emitter) (all es : List Event) (x : Event) (rest : List Event) → es ≡ x ∷ rest → LeadsEmitter first all old es → TakesEvents old (x ∷ []) new [] → LeadsEmitter first all new rest
+pub leads_on : (first old new : Emitter) (all es : List Event) (x : Event) (rest : List Event)
+    → es ≡ x ∷ rest → LeadsEmitter first all old es → TakesEvents old (x ∷ []) new []
+    → LeadsEmitter first all new rest
 leads_on first old new all es x rest is l t = leads_more first old new all x rest (subst (λ (z : List Event). LeadsEmitter first all old z) is l) t
 
-pub leads_record : (bytes : List ℕ) (list : List yaml_c_directive) (rs : List yaml_c_event) (i : ℕ) (d : yaml_c_event) (b : EventBody) (first old new : Emitter) (all : List Event) → i < length rs → is_some (events_meant bytes list (drop i rs)) ≡ true
-    → event_meant bytes list (get_or rs i d) ≡ Some b → LeadsEmitter first all old (all_events (events_meant bytes list (drop i rs))) → TakesEvents old (emitter_event b ∷ []) new []
+pub leads_record : (bytes : List ℕ) (list : List yaml_c_directive) (rs : List yaml_c_event) (i : ℕ)
+    (d : yaml_c_event) (b : EventBody) (first old new : Emitter) (all : List Event) → i < length rs
+    → is_some (events_meant bytes list (drop i rs)) ≡ true
+    → event_meant bytes list (get_or rs i d) ≡ Some b
+    → LeadsEmitter first all old (all_events (events_meant bytes list (drop i rs)))
+    → TakesEvents old (emitter_event b ∷ []) new []
     → LeadsEmitter first all new (all_events (events_meant bytes list (drop (i + 1) rs)))
 leads_record bytes list rs i d b first old new all h m is l t = leads_on first old new all _ (emitter_event b) _ (events_left bytes list rs i d b h m is) l t
 
-pub leads_end : (bytes : List ℕ) (list : List yaml_c_directive) (rs : List yaml_c_event) (i : ℕ) (first new : Emitter) (all : List Event) → length rs ≤ i → LeadsEmitter first all new (all_events (events_meant bytes list (drop i rs))) → LeadsEmitter first all new []
+pub leads_end : (bytes : List ℕ) (list : List yaml_c_directive) (rs : List yaml_c_event) (i : ℕ)
+    (first new : Emitter) (all : List Event) → length rs ≤ i
+    → LeadsEmitter first all new (all_events (events_meant bytes list (drop i rs)))
+    → LeadsEmitter first all new []
 leads_end bytes list rs i first new all h l =
     subst (λ (es : List Event). LeadsEmitter first all new es) (ap (λ es. all_events (events_meant bytes list es)) (drop_all i rs h) ∙ none_left bytes list) l
 
 -- ---- a fresh emitter
 
-starts_verdict : (b : Bool) (e : Emitter) (w : RequestedSettings) (es : List Event) → b ≡ true → e.requested_settings ≡ w → verdict_by b e es ≡ refusal w es
+starts_verdict : (b : Bool) (e : Emitter) (w : RequestedSettings) (es : List Event) → b ≡ true
+    → e.requested_settings ≡ w → verdict_by b e es ≡ refusal w es
 starts_verdict b e w es h k = ap (λ (c : Bool). verdict_by c e es) h ∙ ap (λ (v : RequestedSettings). first_refusal v.canonical first_progress (let_out es)) k
 
-pub first_verdict : (e : Emitter) (w : RequestedSettings) (limit : ℕ) (es : List Event) → StartsUnder e w limit → verdict e es ≡ refusal w es
+pub first_verdict : (e : Emitter) (w : RequestedSettings) (limit : ℕ) (es : List Event)
+    → StartsUnder e w limit → verdict e es ≡ refusal w es
 unfolding verdict
 first_verdict e w limit es s = starts_verdict e.fresh e w es s.fresh s.requested_settings
 
-own_text : (w : RequestedSettings) (es : List Event) → IsLetOut w (text_encoding w es) es (whole_text w es)
+own_text : (w : RequestedSettings) (es : List Event)
+    → IsLetOut w (text_encoding w es) es (whole_text w es)
 unfolding whole_text
 own_text w es = record { coded = refl; is = refl }
 
-starts_writing : (b : Bool) (e : Emitter) (w : RequestedSettings) (es : List Event) → b ≡ true → e.requested_settings ≡ w → WritesBy b e (text_encoding w es) es (whole_text w es)
+starts_writing : (b : Bool) (e : Emitter) (w : RequestedSettings) (es : List Event) → b ≡ true
+    → e.requested_settings ≡ w → WritesBy b e (text_encoding w es) es (whole_text w es)
 starts_writing b e w es h k =
     subst (λ (c : Bool). WritesBy c e (text_encoding w es) es (whole_text w es)) (sym h)
     (subst (λ (v : RequestedSettings). IsLetOut v (text_encoding w es) es (whole_text w es)) (sym k) (own_text w es))
 
-pub first_writes : (e : Emitter) (w : RequestedSettings) (limit : ℕ) (es : List Event) → StartsUnder e w limit → Writes e (text_encoding w es) es (whole_text w es)
+pub first_writes : (e : Emitter) (w : RequestedSettings) (limit : ℕ) (es : List Event)
+    → StartsUnder e w limit → Writes e (text_encoding w es) es (whole_text w es)
 unfolding Writes
 first_writes e w limit es s = starts_writing e.fresh e w es s.fresh s.requested_settings
 
-starts_whole : (b : Bool) (e : Emitter) (w : RequestedSettings) (x : Encoding) (es : List Event) (whole : List Item) → b ≡ true → e.requested_settings ≡ w → IsStream w x es whole → CompletesBy b e x es whole
+starts_whole : (b : Bool) (e : Emitter) (w : RequestedSettings) (x : Encoding) (es : List Event)
+    (whole : List Item) → b ≡ true → e.requested_settings ≡ w → IsStream w x es whole
+    → CompletesBy b e x es whole
 starts_whole b e w x es whole h k s = subst (λ (c : Bool). CompletesBy c e x es whole) (sym h) (subst (λ (v : RequestedSettings). IsStream v x es whole) (sym k) s)
 
-pub first_whole : (e : Emitter) (w : RequestedSettings) (limit : ℕ) (x : Encoding) (es : List Event) (whole : List Item) → StartsUnder e w limit → IsStream w x es whole → Completes e x es whole
+pub first_whole : (e : Emitter) (w : RequestedSettings) (limit : ℕ) (x : Encoding) (es : List Event)
+    (whole : List Item) → StartsUnder e w limit → IsStream w x es whole → Completes e x es whole
 unfolding Completes
 first_whole e w limit x es whole s k = starts_whole e.fresh e w x es whole s.fresh s.requested_settings k
 
@@ -136,21 +177,28 @@ no_problem : (p : Option Problem) → option_map problem_fault p ≡ None → p 
 no_problem None h = refl
 no_problem (Some p) h = absurd (cc)
 
-none_going : (s : Status) (b : Bool) (p : Option Problem) → fault_by s b p ≡ None → (s ≡ Going) × (p ≡ None)
+none_going : (s : Status) (b : Bool) (p : Option Problem) → fault_by s b p ≡ None
+    → (s ≡ Going) × (p ≡ None)
 none_going Going b p h = (refl, no_problem p h)
 none_going Full b p h = absurd (cc)
 none_going Deep b p h = absurd (cc)
 none_going Starved b p h = absurd (cc)
 
-has_all : (s : Status) (limit : ℕ) (output bytes : List ℕ) (deep : Bool) → s ≡ Going → HasLetOut s limit output bytes deep → (output ≡ bytes) × ((length output ≤ limit) × (deep ≡ false))
+has_all : (s : Status) (limit : ℕ) (output bytes : List ℕ) (deep : Bool) → s ≡ Going
+    → HasLetOut s limit output bytes deep
+    → (output ≡ bytes) × ((length output ≤ limit) × (deep ≡ false))
 has_all s limit output bytes deep h k = subst (λ (t : Status). HasLetOut t limit output bytes deep) h k
 
-fits : (limit : ℕ) (x : Encoding) (whole : List Item) (output : List ℕ) → (output ≡ encode x whole) × ((length output ≤ limit) × (is_deep whole ≡ false)) → Fits limit x whole
+fits : (limit : ℕ) (x : Encoding) (whole : List Item) (output : List ℕ)
+    → (output ≡ encode x whole) × ((length output ≤ limit) × (is_deep whole ≡ false))
+    → Fits limit x whole
 fits limit x whole output h = record { size = subst (λ (t : List ℕ). length t ≤ limit) h.0 h.1.0; columns = h.1.1 }
 
 -- The problem is told where the output goes on; else a limit is passed, or memory was refused.
-some_problem : (limit : ℕ) (x : Encoding) (whole : List Item) (output : List ℕ) (p : Option Problem) (f : Fault) → option_map problem_fault p ≡ Some f
-    → (output ≡ encode x whole) × ((length output ≤ limit) × (is_deep whole ≡ false)) → (q : Problem) × ((p ≡ Some q) × ((f ≡ problem_fault q) × Fits limit x whole))
+some_problem : (limit : ℕ) (x : Encoding) (whole : List Item) (output : List ℕ) (p : Option Problem)
+    (f : Fault) → option_map problem_fault p ≡ Some f
+    → (output ≡ encode x whole) × ((length output ≤ limit) × (is_deep whole ≡ false))
+    → (q : Problem) × ((p ≡ Some q) × ((f ≡ problem_fault q) × Fits limit x whole))
 some_problem limit x whole output None f h k = absurd (cc)
 some_problem limit x whole output (Some q) f h k =
     let is : problem_fault q ≡ f = cc in
@@ -161,7 +209,8 @@ abbrev FaultBy : ℕ → Encoding → List Item → Option Problem → Status �
 FaultBy limit x whole p s f = ((s ≡ Going) × ((q : Problem) × ((p ≡ Some q) × ((f ≡ problem_fault q) × Fits limit x whole))))
     ⊎ (Passes limit (encode x whole) (is_deep whole) f ⊎ IsMemoryFault emit_layers f)
 
-memory_told : (b : Bool) (f : Fault) → Some (memory_fault (memory_origin b)) ≡ Some f → IsMemoryFault emit_layers f
+memory_told : (b : Bool) (f : Fault) → Some (memory_fault (memory_origin b)) ≡ Some f
+    → IsMemoryFault emit_layers f
 memory_told true f h =
     let is : memory_fault (memory_origin true) ≡ f = cc in
     inl (sym is)
@@ -169,7 +218,9 @@ memory_told false f h =
     let is : memory_fault (memory_origin false) ≡ f = cc in
     inr (sym is)
 
-some_fault : (s : Status) (b : Bool) (p : Option Problem) (limit : ℕ) (x : Encoding) (whole : List Item) (output : List ℕ) (f : Fault) → fault_by s b p ≡ Some f → HasLetOut s limit output (encode x whole) (is_deep whole) → FaultBy limit x whole p s f
+some_fault : (s : Status) (b : Bool) (p : Option Problem) (limit : ℕ) (x : Encoding)
+    (whole : List Item) (output : List ℕ) (f : Fault) → fault_by s b p ≡ Some f
+    → HasLetOut s limit output (encode x whole) (is_deep whole) → FaultBy limit x whole p s f
 some_fault Going b p limit x whole output f h k = inl (refl, some_problem limit x whole output p f h k)
 some_fault Full b p limit x whole output f h k =
     let is : write_error ≡ f = cc in
@@ -182,13 +233,17 @@ some_fault Starved b p limit x whole output f h k = inr (inr (memory_told b f h)
 -- ---- the answer
 
 -- what the emitter tells of the text of the events that it was given
-told_text : (e : Emitter) (first : Emitter) (w : RequestedSettings) (limit : ℕ) (es : List Event) → StartsUnder first w limit → LeadsEmitter first es e [] → TellsOutcome e → HasLetOut e.status limit e.output (text_bytes w es) (is_deep (whole_text w es))
+told_text : (e : Emitter) (first : Emitter) (w : RequestedSettings) (limit : ℕ) (es : List Event)
+    → StartsUnder first w limit → LeadsEmitter first es e [] → TellsOutcome e
+    → HasLetOut e.status limit e.output (text_bytes w es) (is_deep (whole_text w es))
 told_text e first w limit es s l t =
     let k : HasLetOut e.status e.limit e.output (text_bytes w es) (is_deep (whole_text w es)) = t.output (text_encoding w es) (whole_text w es) (l.writes (text_encoding w es) (whole_text w es) (first_writes first w limit es s)) in
     subst (λ (n : ℕ). HasLetOut e.status n e.output (text_bytes w es) (is_deep (whole_text w es))) (l.limit ∙ s.limit) k
 
-whole_answer : (first e : Emitter) (w : RequestedSettings) (limit : ℕ) (es : List Event) (text : List ℕ) → StartsUnder first w limit → LeadsEmitter first es e []
-    → e.fault ≡ None → text ≡ e.output → TellsOutcome e → IsWhole e text → IsEmittedText w limit es text
+whole_answer : (first e : Emitter) (w : RequestedSettings) (limit : ℕ) (es : List Event)
+    (text : List ℕ) → StartsUnder first w limit → LeadsEmitter first es e []
+    → e.fault ≡ None → text ≡ e.output → TellsOutcome e → IsWhole e text
+    → IsEmittedText w limit es text
 whole_answer first e w limit es text s l none is t h =
     let on = none_going e.status e.starved (verdict e []) (sym t.fault ∙ none) in
     let k = has_all e.status limit e.output (text_bytes w es) (is_deep (whole_text w es)) on.0 (told_text e first w limit es s l t) in
@@ -199,8 +254,10 @@ whole_answer first e w limit es text s l none is t h =
       stream = λ x whole c. h none x whole (l.completes x whole (first_whole first w limit x es whole s c));
     }
 
-refusal_or_limit : (first e : Emitter) (w : RequestedSettings) (limit : ℕ) (es : List Event) (f : Fault) → StartsUnder first w limit → LeadsEmitter first es e []
-    → e.fault ≡ Some f → TellsOutcome e → IsMemoryFault emit_layers f ⊎ (IsEventRefused w limit es f ⊎ IsLong w limit es f)
+refusal_or_limit : (first e : Emitter) (w : RequestedSettings) (limit : ℕ) (es : List Event)
+    (f : Fault) → StartsUnder first w limit → LeadsEmitter first es e []
+    → e.fault ≡ Some f → TellsOutcome e
+    → IsMemoryFault emit_layers f ⊎ (IsEventRefused w limit es f ⊎ IsLong w limit es f)
 refusal_or_limit first e w limit es f s l is t =
     let k = told_text e first w limit es s l t in
     elim (some_fault e.status e.starved (verdict e []) limit (text_encoding w es) (whole_text w es) e.output f (sym t.fault ∙ is) k) [
@@ -220,14 +277,18 @@ refusal_or_limit first e w limit es f s l is t =
 abbrev Past : RequestedSettings → ℕ → List Event → Fault → Type 0
 Past w limit es f = (x : Encoding) (whole : List Item) → IsStream w x es whole → Passes limit (encode x whole) (is_deep whole) f
 
-past_limit : (first e : Emitter) (w : RequestedSettings) (limit : ℕ) (es : List Event) (f : Fault) → StartsUnder first w limit → LeadsEmitter first es e [] → IsLimited e f → IsMemoryFault emit_layers f ⊎ Past w limit es f
+past_limit : (first e : Emitter) (w : RequestedSettings) (limit : ℕ) (es : List Event) (f : Fault)
+    → StartsUnder first w limit → LeadsEmitter first es e [] → IsLimited e f
+    → IsMemoryFault emit_layers f ⊎ Past w limit es f
 past_limit first e w limit es f s l h = elim h [
   | inl m ↦ inl m
   | inr p ↦ inr (λ x whole c. subst (λ (n : ℕ). Passes n (encode x whole) (is_deep whole) f) (l.limit ∙ s.limit) (p x [] whole (l.completes x whole (first_whole first w limit x es whole s c))))
 ]
 
-fault_answer : (first e : Emitter) (w : RequestedSettings) (limit : ℕ) (es : List Event) (f : Fault) → StartsUnder first w limit → LeadsEmitter first es e []
-    → e.fault ≡ Some f → TellsOutcome e → IsLimited e f → IsMemoryFault emit_layers f ⊎ IsFault w limit es f
+fault_answer : (first e : Emitter) (w : RequestedSettings) (limit : ℕ) (es : List Event) (f : Fault)
+    → StartsUnder first w limit → LeadsEmitter first es e []
+    → e.fault ≡ Some f → TellsOutcome e → IsLimited e f
+    → IsMemoryFault emit_layers f ⊎ IsFault w limit es f
 fault_answer first e w limit es f s l is t h =
     elim (refusal_or_limit first e w limit es f s l is t) [
       | inl m ↦ inl m
@@ -237,7 +298,10 @@ fault_answer first e w limit es f s l is t h =
       ]
     ]
 
-pub emitter_answer : (first e : Emitter) (w : RequestedSettings) (limit : ℕ) (es : List Event) (r : Result (Vec ℕ Global) yaml_fault_t) → StartsUnder first w limit → LeadsEmitter first es e [] → FinishesEmitter e r → Answers emit_layers bytes_of (IsEmitted w limit es) r
+pub emitter_answer : (first e : Emitter) (w : RequestedSettings) (limit : ℕ) (es : List Event)
+    (r : Result (Vec ℕ Global) yaml_fault_t) → StartsUnder first w limit
+    → LeadsEmitter first es e [] → FinishesEmitter e r
+    → Answers emit_layers bytes_of (IsEmitted w limit es) r
 unfolding IsEmitted
 emitter_answer first e w limit es (Ok text) s l h = whole_answer first e w limit es text.items s l h.0 h.1 h.2 h.3
 emitter_answer first e w limit es (Err f) s l h = fault_answer first e w limit es (fault_of f) s l h.0 h.1 h.2

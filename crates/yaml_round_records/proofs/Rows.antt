@@ -15,7 +15,8 @@ untrue : (b : Bool) → ¬ (b ≡ true) → b ≡ false
 untrue true h = absurd (h refl)
 untrue false h = refl
 
-found : {X : Type 0} (b : Bool) (x : X) (o : Option X) → b ≡ true → (if b then Some x else o) ≡ Some x
+found : {X : Type 0} (b : Bool) (x : X) (o : Option X) → b ≡ true
+    → (if b then Some x else o) ≡ Some x
 found true x o h = refl
 found false x o h = absurd (cc)
 

@@ -25,7 +25,8 @@ style_is style.YAML_DOUBLE_QUOTED_SCALAR_STYLE = refl
 style_is style.YAML_LITERAL_SCALAR_STYLE = refl
 style_is style.YAML_FOLDED_SCALAR_STYLE = refl
 
-body_is : (n : ℕ) (b : TokenBody) (s e : yaml_c_mark) → numbered token_kinds (body_record n b s e).kind ≡ Some (type_of b)
+body_is : (n : ℕ) (b : TokenBody) (s e : yaml_c_mark)
+    → numbered token_kinds (body_record n b s e).kind ≡ Some (type_of b)
 body_is n token.no s e = refl
 body_is n (token.stream_start enc) s e = refl
 body_is n token.stream_end s e = refl
@@ -50,5 +51,6 @@ body_is n (token.tag handle suffix) s e = refl
 body_is n (token.scalar text how) s e = refl
 
 -- a record's number is that of its token's kind
-pub kind_is : (n : ℕ) (t : Token) → numbered token_kinds (record_at n t).kind ≡ Some (type_of t.body)
+pub kind_is : (n : ℕ) (t : Token)
+    → numbered token_kinds (record_at n t).kind ≡ Some (type_of t.body)
 kind_is n t = body_is n t.body _ _

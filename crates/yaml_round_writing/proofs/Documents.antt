@@ -20,8 +20,12 @@ use Rattle.yaml_round_writing.specs.Reload.{IsEachDump, IsDumped, IsNormalOfDocu
 use Rattle.yaml_round_writing.proofs.Normal.{canonical_under}
 
 -- what the canonical text of documents loads is laid out as that text
-dumped_again : (s : yaml_settings_t) (c : List content.Document) (text : List ℕ) → text ≡ canonical_text s c → Fits s.limit (canon_encoding (requested_under s true)) (canon_items (requested_under s true) c)
-    → c ≡ trees_of_dumps (loads_of YAML_ANY_ENCODING text).documents → IsDumped s (loads_of YAML_ANY_ENCODING text).documents (Ok text)
+dumped_again : (s : yaml_settings_t) (c : List content.Document) (text : List ℕ)
+    → text ≡ canonical_text s c
+    → Fits s.limit (canon_encoding (requested_under s true))
+    (canon_items (requested_under s true) c)
+    → c ≡ trees_of_dumps (loads_of YAML_ANY_ENCODING text).documents
+    → IsDumped s (loads_of YAML_ANY_ENCODING text).documents (Ok text)
 dumped_again s c text is fits says =
     let w = requested_under s true in record {
       encoding = canon_encoding w;
@@ -31,7 +35,9 @@ dumped_again s c text is fits says =
       fits = subst (λ (e : List content.Document). Fits s.limit (canon_encoding w) (canon_items w e)) says fits;
     }
 
-pub in_normal_documents : (from : yaml_encoding_t) (s : yaml_settings_t) (input text : List ℕ) → AreNumerable (loads_of from input).documents → IsEachDump s (ended (loads_of from input).documents) (Ok text)
+pub in_normal_documents : (from : yaml_encoding_t) (s : yaml_settings_t) (input text : List ℕ)
+    → AreNumerable (loads_of from input).documents
+    → IsEachDump s (ended (loads_of from input).documents) (Ok text)
     → IsNormalOfDocuments s (loads_of from input).documents text
 in_normal_documents from s input text small each =
     let w = requested_under s true in

@@ -8,8 +8,10 @@ use Rattle.yaml_round_reading.specs.Reading.{GivesNextEvent}
 use Rattle.yaml_round_writing.specs.declared.writing.Form.{Form}
 use Rattle.yaml_round_writing.specs.Writing.{Gives, LeadsOn, given_in, comes_to_nothing}
 
-pub gives : (w : Form) (first old new : Emitter) (all : List Told) (before after : ParserRemaining) (v : Event) (form_old form_new : Form)
-    → LeadsOn w first all form_old old before.events → GivesNextEvent v before after → Gives form_old old v form_new new
+pub gives : (w : Form) (first old new : Emitter) (all : List Told) (before after : ParserRemaining)
+    (v : Event) (form_old form_new : Form)
+    → LeadsOn w first all form_old old before.events → GivesNextEvent v before after
+    → Gives form_old old v form_new new
     → LeadsOn w first all form_new new after.events
 gives w first old new all before after v form_old form_new l f g = record {
   completes = λ x whole done. g.completes after.unasked after.events x whole (subst (λ (es : List Told). Completes old x (given_in form_old es) whole) f.events (l.completes x whole done));

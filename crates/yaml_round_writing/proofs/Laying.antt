@@ -29,10 +29,13 @@ use Rattle.yaml_round_laws_documents.specs.round_content.emit_laws_dumps.Streams
 use Rattle.yaml_round_writing.proofs.Streams.{input_text}
 
 -- a fresh emitter completes the streams of its settings
-starts_at : (b : Bool) (e : Emitter) (w : RequestedSettings) (x : Encoding) (es : List Event) (whole : List Item) → b ≡ true → e.requested_settings ≡ w → IsStream w x es whole → CompletesBy b e x es whole
+starts_at : (b : Bool) (e : Emitter) (w : RequestedSettings) (x : Encoding) (es : List Event)
+    (whole : List Item) → b ≡ true → e.requested_settings ≡ w → IsStream w x es whole
+    → CompletesBy b e x es whole
 starts_at b e w x es whole h k s = subst (λ (c : Bool). CompletesBy c e x es whole) (sym h) (subst (λ (v : RequestedSettings). IsStream v x es whole) (sym k) s)
 
-pub starts : (e : Emitter) (w : RequestedSettings) (limit : ℕ) (x : Encoding) (es : List Event) (whole : List Item) → IsUnder e w limit → IsStream w x es whole → Completes e x es whole
+pub starts : (e : Emitter) (w : RequestedSettings) (limit : ℕ) (x : Encoding) (es : List Event)
+    (whole : List Item) → IsUnder e w limit → IsStream w x es whole → Completes e x es whole
 unfolding Completes
 starts e w limit x es whole h s = starts_at e.fresh e w x es whole h.fresh h.requested_settings s
 
@@ -40,18 +43,24 @@ starts e w limit x es whole h s = starts_at e.fresh e w x es whole h.fresh h.req
 abbrev pub Led : RequestedSettings → ℕ → List Event → Emitter → List Event → Type 0
 Led w limit es e left = (e.limit ≡ limit) × ((x : Encoding) (whole : List Item) → IsStream w x es whole → Completes e x left whole)
 
-pub layout : (w : RequestedSettings) (limit : ℕ) (es : List Event) (e : Emitter) (text : List ℕ) → Led w limit es e [] → ((x : Encoding) (whole : List Item) → Completes e x [] whole → IsText e.limit x whole text) → IsEachLayout w limit es text
+pub layout : (w : RequestedSettings) (limit : ℕ) (es : List Event) (e : Emitter) (text : List ℕ)
+    → Led w limit es e []
+    → ((x : Encoding) (whole : List Item) → Completes e x [] whole → IsText e.limit x whole text)
+    → IsEachLayout w limit es text
 layout w limit es e text l f = λ x whole s. subst (λ (n : ℕ). IsText n x whole text) l.0 (f x whole (l.1 x whole s))
 
 -- a fault is want of memory, or a limit that the layout passes
-pub past : (w : RequestedSettings) (limit : ℕ) (es : List Event) (e : Emitter) (left : List Event) (f : yaml_fault_t) → Led w limit es e left → IsLimited e (fault_of f) → IsMemoryFault emit_layers (fault_of f) ⊎ IsPastEach w limit es (fault_of f)
+pub past : (w : RequestedSettings) (limit : ℕ) (es : List Event) (e : Emitter) (left : List Event)
+    (f : yaml_fault_t) → Led w limit es e left → IsLimited e (fault_of f)
+    → IsMemoryFault emit_layers (fault_of f) ⊎ IsPastEach w limit es (fault_of f)
 past w limit es e left f l h = elim h [
   | inl m ↦ inl m
   | inr p ↦ inr (λ x whole s. subst (λ (n : ℕ). Passes n (encode x whole) (is_deep whole) (fault_of f)) l.0 (p x left whole (l.1 x whole s)))
 ]
 
 -- the emitter's text, where it is whole
-pub whole_text : (e : Emitter) (text : Vec ℕ Global) → e.fault ≡ None → IsWhole e text.items → IsWithin e → FinishesText e (Ok text)
+pub whole_text : (e : Emitter) (text : Vec ℕ Global) → e.fault ≡ None → IsWhole e text.items
+    → IsWithin e → FinishesText e (Ok text)
 whole_text e text none w k = (none, λ x whole c. record { is = w none x whole c; fits = k none x whole c })
 
 -- behind the last event the form gives nothing
@@ -61,8 +70,10 @@ none_given (form.Pretty beginning) = refl
 none_given (form.Readable at) = refl
 
 -- all events of a reading
-pub led : (from : yaml_encoding_t) (input : List ℕ) (settings : yaml_settings_t) (w v : Form) (r : ParserRemaining) (old new : Emitter)
-    → Reads from input r → IsUnder old (requested_in w settings) settings.limit → LeadsOn w old r.events v new []
+pub led : (from : yaml_encoding_t) (input : List ℕ) (settings : yaml_settings_t) (w v : Form)
+    (r : ParserRemaining) (old new : Emitter)
+    → Reads from input r → IsUnder old (requested_in w settings) settings.limit
+    → LeadsOn w old r.events v new []
     → Led (requested_in w settings) settings.limit (given_in w (events_of from input)) new []
 led from input settings w v r old new h u l = (
   l.limit ∙ u.limit,
@@ -72,35 +83,44 @@ led from input settings w v r old new h u l = (
 )
 
 -- and whether they come to nothing
-pub began : (from : yaml_encoding_t) (input : List ℕ) (w v : Form) (r : ParserRemaining) (old new : Emitter) → Reads from input r → LeadsOn w old r.events v new []
+pub began : (from : yaml_encoding_t) (input : List ℕ) (w v : Form) (r : ParserRemaining)
+    (old new : Emitter) → Reads from input r → LeadsOn w old r.events v new []
     → comes_to_nothing w (events_of from input) ≡ comes_to_nothing v []
 began from input w v r old new h l = sym (ap (comes_to_nothing w) h.events) ∙ l.beginning
 
 -- what is said of an answer in place of a refusal
-pub where_ok : {P : Type 0} (result : Result (Vec ℕ Global) yaml_fault_t) → P → IfOk result (λ text. P)
+pub where_ok : {P : Type 0} (result : Result (Vec ℕ Global) yaml_fault_t) → P
+    → IfOk result (λ text. P)
 where_ok (Ok text) h = h
 where_ok (Err f) h = tt
 
 -- ---- what is laid out is of an input that is accepted
 
-pub laid_right : (from : yaml_encoding_t) (input : List ℕ) (settings : yaml_settings_t) (canonical : Bool) (text : List ℕ) → IsLaidOut from input settings canonical text → IsRight from input
+pub laid_right : (from : yaml_encoding_t) (input : List ℕ) (settings : yaml_settings_t)
+    (canonical : Bool) (text : List ℕ) → IsLaidOut from input settings canonical text
+    → IsRight from input
 laid_right from input settings canonical text h = events_right from input h.events h.of_input
 
 -- ---- the one layout
 
-pub one_layout : (w : RequestedSettings) (limit : ℕ) (es : List Event) (text : List ℕ) → HasText w es → IsEachLayout w limit es text → IsLayout w limit es text
+pub one_layout : (w : RequestedSettings) (limit : ℕ) (es : List Event) (text : List ℕ)
+    → HasText w es → IsEachLayout w limit es text → IsLayout w limit es text
 one_layout w limit es text h l =
     let t : IsText limit h.encoding h.whole text = l h.encoding h.whole h.is in
     record { encoding = h.encoding; whole = h.whole; stream = h.is; is = t.is; fits = t.fits }
 
-pub one_past : (w : RequestedSettings) (limit : ℕ) (es : List Event) (f : Fault) → HasText w es → IsPastEach w limit es f → IsPast w limit es f
+pub one_past : (w : RequestedSettings) (limit : ℕ) (es : List Event) (f : Fault) → HasText w es
+    → IsPastEach w limit es f → IsPast w limit es f
 one_past w limit es f h p = record { encoding = h.encoding; whole = h.whole; stream = h.is; passes = p h.encoding h.whole h.is }
 
-emits : (f : yaml_fault_t) → IsMemoryFault emit_layers (fault_of f) → IsMemoryFault reformat_layers (fault_of f)
+emits : (f : yaml_fault_t) → IsMemoryFault emit_layers (fault_of f)
+    → IsMemoryFault reformat_layers (fault_of f)
 emits f m = elim m [ inl e ↦ inl e | inr w ↦ inr (inl w) ]
 
-pub wrote : (from : yaml_encoding_t) (input : List ℕ) (settings : yaml_settings_t) (a b : Form) (r : ParserRemaining) (old new : Emitter) (result : Result (Vec ℕ Global) yaml_fault_t)
-    → Reads from input r → IsUnder old (requested_in a settings) settings.limit → (r.ending ≡ None) × LeadsOn a old r.events b new [] → FinishesText new result
+pub wrote : (from : yaml_encoding_t) (input : List ℕ) (settings : yaml_settings_t) (a b : Form)
+    (r : ParserRemaining) (old new : Emitter) (result : Result (Vec ℕ Global) yaml_fault_t)
+    → Reads from input r → IsUnder old (requested_in a settings) settings.limit
+    → (r.ending ≡ None) × LeadsOn a old r.events b new [] → FinishesText new result
     → Answers reformat_layers bytes_of (IsWrittenIn a from settings input) result
 wrote from input settings a b r old new (Ok text) h u l f = record {
   right = right from input (sym h.ending ∙ l.0);
@@ -114,8 +134,11 @@ wrote from input settings a b r old new (Err f) h u l e =
 
 -- ---- canonical form and pretty form
 
-pub laid_in : (from : yaml_encoding_t) (input : List ℕ) (settings : yaml_settings_t) (canonical : Bool) (text : List ℕ) → IsRight from input
-    → IsEachLayout (requested_under settings canonical) settings.limit (emitter_events canonical (events_of from input)) text → IsLaidOut from input settings canonical text
+pub laid_in : (from : yaml_encoding_t) (input : List ℕ) (settings : yaml_settings_t)
+    (canonical : Bool) (text : List ℕ) → IsRight from input
+    → IsEachLayout (requested_under settings canonical) settings.limit
+    (emitter_events canonical (events_of from input)) text
+    → IsLaidOut from input settings canonical text
 laid_in from input settings canonical text h each =
     let w : RequestedSettings = requested_under settings canonical in
     let none : ending_of from input ≡ None = right_ending from input h in
@@ -125,8 +148,10 @@ laid_in from input settings canonical text h each =
       layout = one_layout w settings.limit (emitter_events canonical (events_of from input)) text (input_text from input w none) each;
     }
 
-past_in : (from : yaml_encoding_t) (input : List ℕ) (settings : yaml_settings_t) (canonical : Bool) (f : Fault) → IsRight from input
-    → IsPastEach (requested_under settings canonical) settings.limit (emitter_events canonical (events_of from input)) f → IsTooLong from input settings canonical f
+past_in : (from : yaml_encoding_t) (input : List ℕ) (settings : yaml_settings_t) (canonical : Bool)
+    (f : Fault) → IsRight from input
+    → IsPastEach (requested_under settings canonical) settings.limit
+    (emitter_events canonical (events_of from input)) f → IsTooLong from input settings canonical f
 past_in from input settings canonical f h each =
     let w : RequestedSettings = requested_under settings canonical in
     let none : ending_of from input ≡ None = right_ending from input h in
@@ -137,10 +162,14 @@ past_in from input settings canonical f h each =
     }
 
 -- what is refused in one of these forms
-pub refused_in_canonical : (from : yaml_encoding_t) (input : List ℕ) (settings : yaml_settings_t) (f : Fault) → IsMemoryFault reformat_layers f ⊎ IsWrittenIn form.Canonical from settings input (Err f)
+pub refused_in_canonical : (from : yaml_encoding_t) (input : List ℕ) (settings : yaml_settings_t)
+    (f : Fault)
+    → IsMemoryFault reformat_layers f ⊎ IsWrittenIn form.Canonical from settings input (Err f)
     → IsMemoryFault reformat_layers f ⊎ IsWritten from input settings true (Err f)
 refused_in_canonical from input settings f h = elim h [ inl m ↦ inl m | inr k ↦ inr (elim k [ inl q ↦ inl q | inr p ↦ inr (past_in from input settings true f p.right p.each) ]) ]
 
-pub refused_in_pretty : (from : yaml_encoding_t) (input : List ℕ) (settings : yaml_settings_t) (b : Beginning) (f : Fault) → IsMemoryFault reformat_layers f ⊎ IsWrittenIn (form.Pretty b) from settings input (Err f)
+pub refused_in_pretty : (from : yaml_encoding_t) (input : List ℕ) (settings : yaml_settings_t)
+    (b : Beginning) (f : Fault)
+    → IsMemoryFault reformat_layers f ⊎ IsWrittenIn (form.Pretty b) from settings input (Err f)
     → IsMemoryFault reformat_layers f ⊎ IsWritten from input settings false (Err f)
 refused_in_pretty from input settings b f h = elim h [ inl m ↦ inl m | inr k ↦ inr (elim k [ inl q ↦ inl q | inr p ↦ inr (past_in from input settings false f p.right p.each) ]) ]

@@ -34,30 +34,37 @@ canonical_under s = record { canonical = refl; set = set_under s.encoding }
 -- ---- what is laid out
 
 -- it is the text of the input's content
-pub text_is : (from : yaml_encoding_t) (input : List ℕ) (s : yaml_settings_t) (c : List Document) (text : List ℕ) → HasContent from input c
-    → IsLayout (requested_under s true) s.limit (emitter_events true (events_of from input)) text → text ≡ canonical_text s c
+pub text_is : (from : yaml_encoding_t) (input : List ℕ) (s : yaml_settings_t) (c : List Document)
+    (text : List ℕ) → HasContent from input c
+    → IsLayout (requested_under s true) s.limit (emitter_events true (events_of from input)) text
+    → text ≡ canonical_text s c
 text_is from input s c text h laid =
     let p = layout_is_of_input (requested_under s true) (canonical_under s) from input c h laid.encoding laid.whole laid.stream in
     laid.is ∙ ap (λ (x : Encoding). encode x laid.whole) p.0 ∙ ap (encode (canon_encoding (requested_under s true))) p.1
 
 -- and that passes no limit
-pub text_fits : (from : yaml_encoding_t) (input : List ℕ) (s : yaml_settings_t) (c : List Document) (text : List ℕ) → HasContent from input c
+pub text_fits : (from : yaml_encoding_t) (input : List ℕ) (s : yaml_settings_t) (c : List Document)
+    (text : List ℕ) → HasContent from input c
     → IsLayout (requested_under s true) s.limit (emitter_events true (events_of from input)) text
-    → Fits s.limit (canon_encoding (requested_under s true)) (canon_items (requested_under s true) c)
+    → Fits s.limit (canon_encoding (requested_under s true))
+    (canon_items (requested_under s true) c)
 text_fits from input s c text h laid =
     let w = requested_under s true in
     let p = layout_is_of_input w (canonical_under s) from input c h laid.encoding laid.whole laid.stream in
     subst (λ (x : List Item). Fits s.limit (canon_encoding w) x) p.1 (subst (λ (x : Encoding). Fits s.limit x laid.whole) p.0 laid.fits)
 
 -- what is laid out, of the events that the machine reads
-pub laid_of : (from : yaml_encoding_t) (s : yaml_settings_t) (input text : List ℕ) (canonical : Bool) → IsLaidOut from input s canonical text
-    → IsLayout (requested_under s canonical) s.limit (emitter_events canonical (events_of from input)) text
+pub laid_of : (from : yaml_encoding_t) (s : yaml_settings_t) (input text : List ℕ)
+    (canonical : Bool) → IsLaidOut from input s canonical text
+    → IsLayout (requested_under s canonical) s.limit
+    (emitter_events canonical (events_of from input)) text
 laid_of from s input text canonical laid =
     subst (λ (es : List Told). IsLayout (requested_under s canonical) s.limit (emitter_events canonical es) text) (events_are from input laid.events laid.of_input) laid.layout
 
 -- ---- normal forms
 
-normal : (from : yaml_encoding_t) (s : yaml_settings_t) (input text : List ℕ) → IsLaidOut from input s true text → IsNormalForm from s input text
+normal : (from : yaml_encoding_t) (s : yaml_settings_t) (input text : List ℕ)
+    → IsLaidOut from input s true text → IsNormalForm from s input text
 normal from s input text laid =
     let w = requested_under s true in
     let found = have_content from input (right_ending from input (events_right from input laid.events laid.of_input)) in
@@ -85,5 +92,7 @@ normal from s input text laid =
       });
     }
 
-pub in_normal_form : (from : yaml_encoding_t) (s : yaml_settings_t) (input text : List ℕ) → IsWrittenOut form.Canonical from s input text → IsLaidOut from input s true text × IsNormalForm from s input text
+pub in_normal_form : (from : yaml_encoding_t) (s : yaml_settings_t) (input text : List ℕ)
+    → IsWrittenOut form.Canonical from s input text
+    → IsLaidOut from input s true text × IsNormalForm from s input text
 in_normal_form from s input text h = let laid = laid_in from input s true text h.right h.each in (laid, normal from s input text laid)

@@ -23,15 +23,19 @@ use Rattle.yaml_round_writing.specs.Answers.{IsWrittenOut, IsWrittenPast, IsWrit
 use Rattle.yaml_round_writing.specs.Readable.{readable_encoding, readable_layout, IsReadableForm, IsReadablePast, IsReadableAnswer}
 
 -- the content of an input that is accepted
-found : (from : yaml_encoding_t) (input : List ℕ) → IsRight from input → (c : List Document) × HasContent from input c
+found : (from : yaml_encoding_t) (input : List ℕ) → IsRight from input
+    → (c : List Document) × HasContent from input c
 found from input h = have_content from input (right_ending from input h)
 
 -- its layout is that of the input's events with these styles
-stream : (from : yaml_encoding_t) (s : yaml_settings_t) (input : List ℕ) (c : List Document) → HasContent from input c
-    → IsStream (requested_under s false) (readable_encoding s) (readable_events Before (contents (events_of from input))) (readable_layout s c)
+stream : (from : yaml_encoding_t) (s : yaml_settings_t) (input : List ℕ) (c : List Document)
+    → HasContent from input c
+    → IsStream (requested_under s false) (readable_encoding s)
+    (readable_events Before (contents (events_of from input))) (readable_layout s c)
 stream from s input c h = laid_out (requested_under s false) refl from input c h
 
-pub in_readable_form : (from : yaml_encoding_t) (s : yaml_settings_t) (input text : List ℕ) → IsWrittenOut (form.Readable place.Before) from s input text → IsReadableForm from s input text
+pub in_readable_form : (from : yaml_encoding_t) (s : yaml_settings_t) (input text : List ℕ)
+    → IsWrittenOut (form.Readable place.Before) from s input text → IsReadableForm from s input text
 in_readable_form from s input text h =
     let w = requested_under s false in
     let (c, said) = found from input h.right in
@@ -46,7 +50,8 @@ in_readable_form from s input text h =
       again = record { content = c; of_input = said_read YAML_ANY_ENCODING text c back; is = t.is; fits = t.fits };
     }
 
-past_readable : (from : yaml_encoding_t) (s : yaml_settings_t) (input : List ℕ) (f : Fault) → IsWrittenPast (form.Readable place.Before) from s input f → IsReadablePast from s input f
+past_readable : (from : yaml_encoding_t) (s : yaml_settings_t) (input : List ℕ) (f : Fault)
+    → IsWrittenPast (form.Readable place.Before) from s input f → IsReadablePast from s input f
 past_readable from s input f h =
     let (c, said) = found from input h.right in
     record {
@@ -55,6 +60,8 @@ past_readable from s input f h =
       passes = h.each (readable_encoding s) (readable_layout s c) (stream from s input c said);
     }
 
-pub not_readable : (from : yaml_encoding_t) (s : yaml_settings_t) (input : List ℕ) (f : Fault) → IsMemoryFault reformat_layers f ⊎ IsWrittenIn (form.Readable place.Before) from s input (Err f)
+pub not_readable : (from : yaml_encoding_t) (s : yaml_settings_t) (input : List ℕ) (f : Fault)
+    → IsMemoryFault reformat_layers f
+    ⊎ IsWrittenIn (form.Readable place.Before) from s input (Err f)
     → IsMemoryFault reformat_layers f ⊎ IsReadableAnswer from s input (Err f)
 not_readable from s input f h = elim h [ inl m ↦ inl m | inr k ↦ inr (elim k [ inl q ↦ inl q | inr p ↦ inr (past_readable from s input f p) ]) ]

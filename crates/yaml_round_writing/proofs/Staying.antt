@@ -23,24 +23,32 @@ use Rattle.yaml_round_writing.proofs.Laying.{laid_right, laid_in}
 
 -- ---- the answer in pretty form
 
-reads : (from : yaml_encoding_t) (input text bytes : List ℕ) → IsRight from input → text ≡ bytes → SaysInput from input bytes → ReadsBack from input text
+reads : (from : yaml_encoding_t) (input text bytes : List ℕ) → IsRight from input → text ≡ bytes
+    → SaysInput from input bytes → ReadsBack from input text
 reads from input text bytes is e h = subst (λ (t : List ℕ). ReadsBack from input t) (sym e) (same_content from YAML_ANY_ENCODING input bytes (right_ending from input is) h.0 (sym h.1))
 
 -- the layout is that of the input's events
-pub laid_stream : (from : yaml_encoding_t) (input : List ℕ) (settings : yaml_settings_t) (text : List ℕ) (laid : IsLaidOut from input settings false text)
-    → IsStream (requested_under settings false) laid.layout.encoding (emitter_events false (events_of from input)) laid.layout.whole
+pub laid_stream : (from : yaml_encoding_t) (input : List ℕ) (settings : yaml_settings_t)
+    (text : List ℕ) (laid : IsLaidOut from input settings false text)
+    → IsStream (requested_under settings false) laid.layout.encoding
+    (emitter_events false (events_of from input)) laid.layout.whole
 laid_stream from input settings text laid =
     subst (λ (es : List Told). IsStream (requested_under settings false) laid.layout.encoding (emitter_events false es) laid.layout.whole) (events_are from input laid.events laid.of_input) laid.layout.stream
 
-stays : (from : yaml_encoding_t) (input : List ℕ) (settings : yaml_settings_t) (text : List ℕ) → IsLaidOut from input settings false text → begins_with_nothing (emitter_events false (events_of from input)) ≡ false → ReadsBack from input text
+stays : (from : yaml_encoding_t) (input : List ℕ) (settings : yaml_settings_t) (text : List ℕ)
+    → IsLaidOut from input settings false text
+    → begins_with_nothing (emitter_events false (events_of from input)) ≡ false
+    → ReadsBack from input text
 stays from input settings text laid some =
     let l = laid.layout in
     let w = requested_under settings false in
     reads from input text (encode l.encoding l.whole) (laid_right from input settings false text laid) l.is
     (pretty_reads_back w refl from input some l.encoding l.whole (laid_stream from input settings text laid))
 
-by_beginning : (from : yaml_encoding_t) (input : List ℕ) (settings : yaml_settings_t) (text : List ℕ) (nothing : Bool) → IsLaidOut from input settings false text
-    → begins_with_nothing (emitter_events false (events_of from input)) ≡ nothing → IsInPrettyForm from settings input (Ok (text, nothing))
+by_beginning : (from : yaml_encoding_t) (input : List ℕ) (settings : yaml_settings_t)
+    (text : List ℕ) (nothing : Bool) → IsLaidOut from input settings false text
+    → begins_with_nothing (emitter_events false (events_of from input)) ≡ nothing
+    → IsInPrettyForm from settings input (Ok (text, nothing))
 by_beginning from input settings text true laid e = (
   laid,
   record {
@@ -51,7 +59,10 @@ by_beginning from input settings text true laid e = (
 )
 by_beginning from input settings text false laid e = (laid, stays from input settings text laid e)
 
-pub in_pretty : (from : yaml_encoding_t) (input : List ℕ) (settings : yaml_settings_t) (text : List ℕ) (nothing : Bool) → IsWrittenOut (form.Pretty known.Start) from settings input text
-    → nothing_comes known.Start (emitter_events false (events_of from input)) ≡ nothing → IsInPrettyForm from settings input (Ok (text, nothing))
+pub in_pretty : (from : yaml_encoding_t) (input : List ℕ) (settings : yaml_settings_t)
+    (text : List ℕ) (nothing : Bool)
+    → IsWrittenOut (form.Pretty known.Start) from settings input text
+    → nothing_comes known.Start (emitter_events false (events_of from input)) ≡ nothing
+    → IsInPrettyForm from settings input (Ok (text, nothing))
 in_pretty from input settings text nothing h e =
     by_beginning from input settings text nothing (laid_in from input settings false text h.right h.each) (sym (from_start (emitter_events false (events_of from input))) ∙ e)

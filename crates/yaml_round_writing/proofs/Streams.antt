@@ -24,21 +24,26 @@ use Rattle.yaml_round_writing.specs.Reload.{written_events}
 
 -- ---- events
 
-pub input_text : (from : yaml_encoding_t) (input : List ℕ) (w : RequestedSettings) → ending_of from input ≡ None → HasText w (emitter_events w.canonical (events_of from input))
+pub input_text : (from : yaml_encoding_t) (input : List ℕ) (w : RequestedSettings)
+    → ending_of from input ≡ None → HasText w (emitter_events w.canonical (events_of from input))
 input_text from input w r = texts w (emitter_events w.canonical (events_of from input)) (input_stream from input w.canonical r)
 
 -- ---- documents
 
-front_right : (ns : List Node) (d : Document) (rest : Loads) → RightDocument d → AreRight rest.documents → AreRight (in_front ns d rest).documents
+front_right : (ns : List Node) (d : Document) (rest : Loads) → RightDocument d
+    → AreRight rest.documents → AreRight (in_front ns d rest).documents
 front_right [] d rest r k = tt
 front_right (n ∷ ns) d rest r k = (r, k)
 
-on_right : (fed : LoadStep) (go : Loading → Loads) → RightFed fed → ((l : Loading) → RightDocument l.document → AreRight (go l).documents) → AreRight (load_on fed go).documents
+on_right : (fed : LoadStep) (go : Loading → Loads) → RightFed fed
+    → ((l : Loading) → RightDocument l.document → AreRight (go l).documents)
+    → AreRight (load_on fed go).documents
 on_right (goes_on l) go h k = k l h
 on_right (loaded d) go h k = front_right d.nodes d (go nothing_loaded) h (k nothing_loaded empty_right)
 on_right (refused f) go h k = tt
 
-all_right : (gs : List Told) (f : Option Fault) (l : Loading) → AreRightTold gs → RightDocument l.document → AreRight (load_all gs f l).documents
+all_right : (gs : List Told) (f : Option Fault) (l : Loading) → AreRightTold gs
+    → RightDocument l.document → AreRight (load_all gs f l).documents
 unfolding load_all
 all_right [] f l h r = tt
 all_right (g ∷ gs) f l h r = on_right (step g.0 l) (load_all gs f) (steps g.0 l h.0 r) (λ m s. all_right gs f m h.1 s)
@@ -47,7 +52,8 @@ input_told : (from : yaml_encoding_t) (input : List ℕ) → AreRightTold (event
 unfolding read
 input_told from input = inputs_load_right from input
 
-loaded_stream : (from : yaml_encoding_t) (input : List ℕ) → RightStream true (written_events (loads_of from input).documents)
+loaded_stream : (from : yaml_encoding_t) (input : List ℕ)
+    → RightStream true (written_events (loads_of from input).documents)
 loaded_stream from input =
     let ds : List Document = (loads_of from input).documents in
     record {
@@ -57,5 +63,6 @@ loaded_stream from input =
       right = dumped_streams true YAML_ANY_ENCODING (ended ds) (ended_right ds (all_right (events_of from input) (ending_of from input) nothing_loaded (input_told from input) empty_right));
     }
 
-pub loaded_text : (from : yaml_encoding_t) (input : List ℕ) (w : RequestedSettings) → w.canonical ≡ true → HasText w (written_events (loads_of from input).documents)
+pub loaded_text : (from : yaml_encoding_t) (input : List ℕ) (w : RequestedSettings)
+    → w.canonical ≡ true → HasText w (written_events (loads_of from input).documents)
 loaded_text from input w c = texts w (written_events (loads_of from input).documents) (subst (λ (b : Bool). RightStream b (written_events (loads_of from input).documents)) (sym c) (loaded_stream from input))

@@ -10,7 +10,8 @@ use Rattle.yaml_scan.specs.declared.reading.Sought.TheVariants as found
 use Rattle.yaml_scan.specs.Session.{HasMore}
 use Rattle.yaml_scan.specs.Found.{ReadsOn}
 
-pub reads_behind : (old mid new : Machine) (f : Fault) (s : Sought) → left_in mid ≡ left_in old → is_ready mid ≡ is_ready old → ReadsOn mid new f s → ReadsOn old new f s
+pub reads_behind : (old mid new : Machine) (f : Fault) (s : Sought) → left_in mid ≡ left_in old
+    → is_ready mid ≡ is_ready old → ReadsOn mid new f s → ReadsOn old new f s
 reads_behind old mid new f found.Known left ready r = record { stands = r.stands; left = r.left ∙ left; ready = r.ready }
 reads_behind old mid new f found.Nothing left ready r = record { stands = r.stands; left = sym left ∙ r.left; none = r.none }
 reads_behind old mid new f found.Refused left ready r = record {

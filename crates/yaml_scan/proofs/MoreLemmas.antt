@@ -36,7 +36,8 @@ use Rattle.yaml_scan_machine.proofs.GivenLemmas.{front_is, no_entry}
 use Rattle.yaml_scan.specs.Session.{HasMore}
 
 -- further lexemes leave how many levels a lexeme closes
-newer_ends : (newer h : List Lexeme) (k : ℕ) (e : Entry) → k < length h → (get_or (entries (newer ++ h)) k e).ends ≡ (get_or (entries h) k e).ends
+newer_ends : (newer h : List Lexeme) (k : ℕ) (e : Entry) → k < length h
+    → (get_or (entries (newer ++ h)) k e).ends ≡ (get_or (entries h) k e).ends
 newer_ends [] h k e low = refl
 newer_ends (l ∷ newer) h k e low = (entries_ends l (newer ++ h) k e (omega (arith, low, length-append newer h))).0 ∙ newer_ends newer h k e low
 
@@ -48,7 +49,8 @@ fault_more [] f e p = rw p tt
 fault_more (t ∷ ts) f e p = tt
 
 -- a lexeme of all whose own token isn't taken
-more_at_end : (s : SpelledText) (n k given : ℕ) (e : Entry) → next s.text (history s.text n) ≡ Ends → k < length (history s.text n) → given ≤ (get_or (entries (history s.text n)) k e).ends
+more_at_end : (s : SpelledText) (n k given : ℕ) (e : Entry) → next s.text (history s.text n) ≡ Ends
+    → k < length (history s.text n) → given ≤ (get_or (entries (history s.text n)) k e).ends
     → HasMore (remaining s k given).tokens (remaining s k given).fault
 more_at_end s n k given e over low few =
     let x = get_or (entries (history s.text n)) k e in
@@ -61,12 +63,16 @@ more_at_end s n k given e over low few =
 abbrev Untaken : List Lexeme → ℕ → ℕ → Entry → Type 0
 Untaken h k given e = ((k < length h) × (given ≤ (get_or (entries h) k e).ends)) ⊎ (given ≡ 0)
 
-few_in : (newer h : List Lexeme) (k given : ℕ) (e : Entry) → Untaken h k given e → given ≤ (get_or (entries (newer ++ h)) k e).ends
+few_in : (newer h : List Lexeme) (k given : ℕ) (e : Entry) → Untaken h k given e
+    → given ≤ (get_or (entries (newer ++ h)) k e).ends
 few_in newer h k given e (inl (low, few)) = let same = newer_ends newer h k e low in omega (arith, few, same)
 few_in newer h k given e (inr none) = omega (arith, none)
 
-at_newer : (s : SpelledText) (n m k given : ℕ) (e : Entry) (newer : List Lexeme) → history s.text m ≡ newer ++ history s.text n → (next s.text (history s.text n) ≡ Ends → ⊥) → next s.text (history s.text m) ≡ Ends → k ≤ length (history s.text n)
-    → Untaken (history s.text n) k given e → HasMore (remaining s k given).tokens (remaining s k given).fault
+at_newer : (s : SpelledText) (n m k given : ℕ) (e : Entry) (newer : List Lexeme)
+    → history s.text m ≡ newer ++ history s.text n → (next s.text (history s.text n) ≡ Ends → ⊥)
+    → next s.text (history s.text m) ≡ Ends → k ≤ length (history s.text n)
+    → Untaken (history s.text n) k given e
+    → HasMore (remaining s k given).tokens (remaining s k given).fault
 at_newer s n m k given e [] grown unended over low few = absurd (unended (subst (λ (h : List Lexeme). next s.text h ≡ Ends) grown over))
 at_newer s n m k given e (l ∷ newer) grown unended over low few =
     let long : length (history s.text m) ≡ length (l ∷ newer) + length (history s.text n) = ap length grown ∙ length-append (l ∷ newer) (history s.text n) in
@@ -76,13 +82,18 @@ all_is : (text : List ℕ) → all text ≡ history text (length text + 2)
 unfolding all
 all_is text = refl
 
-by_all : (s : SpelledText) (k given : ℕ) (x : Next) → next s.text (all s.text) ≡ x → (x ≡ Ends → HasMore (remaining s k given).tokens (remaining s k given).fault) → HasMore (remaining s k given).tokens (remaining s k given).fault
+by_all : (s : SpelledText) (k given : ℕ) (x : Next) → next s.text (all s.text) ≡ x
+    → (x ≡ Ends → HasMore (remaining s k given).tokens (remaining s k given).fault)
+    → HasMore (remaining s k given).tokens (remaining s k given).fault
 by_all s k given (Read l) e h = absurd (all_ends s.text l e)
 by_all s k given (Fails p) e h = fault_more (remaining s k given).tokens (remaining s k given).fault (scanner_fault p) (fault_is s k given ∙ ap fault_in e)
 by_all s k given Ends e h = h refl
 
 -- behind lexemes that aren't all
-more_comes : (s : SpelledText) (n k given : ℕ) (e : Entry) → (next s.text (history s.text n) ≡ Ends → ⊥) → k ≤ length (history s.text n) → Untaken (history s.text n) k given e → HasMore (remaining s k given).tokens (remaining s k given).fault
+more_comes : (s : SpelledText) (n k given : ℕ) (e : Entry)
+    → (next s.text (history s.text n) ≡ Ends → ⊥) → k ≤ length (history s.text n)
+    → Untaken (history s.text n) k given e
+    → HasMore (remaining s k given).tokens (remaining s k given).fault
 more_comes s n k given e unended low few =
     by_all s k given (next s.text (all s.text)) refl (λ over.
     let m : ℕ = length s.text + 2 in
@@ -100,7 +111,8 @@ fails_open p e = cc
 read_open : (l : Lexeme) → Read l ≡ Ends → ⊥
 read_open l e = cc
 
-first_open_or : (ps : List (Option ScanFault)) (x : Next) → (x ≡ Ends → ⊥) → first_fault_or ps x ≡ Ends → ⊥
+first_open_or : (ps : List (Option ScanFault)) (x : Next) → (x ≡ Ends → ⊥)
+    → first_fault_or ps x ≡ Ends → ⊥
 first_open_or [] x h e = h e
 first_open_or (Some p ∷ ps) x h e = fails_open p e
 first_open_or (None ∷ ps) x h e = first_open_or ps x h e
@@ -114,12 +126,15 @@ unfolding next
 open_next text [] e p = read_open first_lexeme p
 open_next text (l ∷ h) e p = coming_open (kind_behind text (l ∷ h)) text (l ∷ h) (rw e at p)
 
-not_settled : (d s g : ℕ) (w : Waiting) (ws : List Waiting) → ready_in d s g (w ∷ ws) ≡ false → d < s → ⊥
+not_settled : (d s g : ℕ) (w : Waiting) (ws : List Waiting) → ready_in d s g (w ∷ ws) ≡ false
+    → d < s → ⊥
 not_settled d s g w ws e low =
     let a : ltb d s ≡ true = grind (arith, nat_tests) in
     let bad = rw a at e in cc
 
-by_waiting : (m : Machine) (ws : List Waiting) → m.waiting.items ≡ ws → IsMachine m → is_ready m ≡ false → (next (text_bytes m.text) (history_of m) ≡ Ends → ⊥) → HasMore (to_come m).tokens (to_come m).fault
+by_waiting : (m : Machine) (ws : List Waiting) → m.waiting.items ≡ ws → IsMachine m
+    → is_ready m ≡ false → (next (text_bytes m.text) (history_of m) ≡ Ends → ⊥)
+    → HasMore (to_come m).tokens (to_come m).fault
 unfolding read
 by_waiting m [] items i stuck unended =
     let s = i.shown in
@@ -141,14 +156,17 @@ by_waiting m (w ∷ ws) items i stuck unended =
     ] in
     more_comes (stream_of m) n m.dropped m.given no_entry unended (omega (arith, s.count)) (inl (inside, omega (arith, ends, few)))
 
-machine_more : (m : Machine) → IsMachine m → is_ready m ≡ false → m.ended ≡ false → HasMore (to_come m).tokens (to_come m).fault
+machine_more : (m : Machine) → IsMachine m → is_ready m ≡ false → m.ended ≡ false
+    → HasMore (to_come m).tokens (to_come m).fault
 machine_more m i stuck more = by_waiting m m.waiting.items refl i stuck (open_next (text_bytes m.text) (history_of m) (sym i.shown.ended ∙ more))
 
 abbrev Comes : Remaining → Type 0
 Comes c = HasMore c.tokens c.fault
 
 -- where a lexeme more was sought
-pub denied_more : (first m : Machine) → first.started ≡ true → to_come m ≡ to_come first → IsMachine m → is_ready m ≡ false → m.ended ≡ false → HasMore (left_in first).tokens (left_in first).fault
+pub denied_more : (first m : Machine) → first.started ≡ true → to_come m ≡ to_come first
+    → IsMachine m → is_ready m ≡ false → m.ended ≡ false
+    → HasMore (left_in first).tokens (left_in first).fault
 denied_more first m on same i stuck more = subst Comes (same ∙ sym (left_is first on)) (machine_more m i stuck more)
 
 text_more : (s : SpelledText) → Comes (offline s)

@@ -15,10 +15,12 @@ use Rattle.yaml_scan_block.specs.Lines.{spaces, spot_behind, Stops, Line, Tab}
 space_end : (text : List ℕ) (p : ℕ) → byte text p ≡ 32 → ends_break text p ≡ false
 space_end text p h = no_end-blank _ _ _ _ (rw h refl)
 
-pub space_column : (text : List ℕ) (p : ℕ) → byte text p ≡ 32 → column_at text (p + 1) ≡ column_at text p + 1
+pub space_column : (text : List ℕ) (p : ℕ) → byte text p ≡ 32
+    → column_at text (p + 1) ≡ column_at text p + 1
 space_column text p h = column_more text p (space_end text p h) (rw h refl)
 
-spaces_more : (n : ℕ) (text : List ℕ) (p : ℕ) → byte text p ≡ 32 → spaces (suc n) text p ≡ suc (spaces n text (p + 1))
+spaces_more : (n : ℕ) (text : List ℕ) (p : ℕ) → byte text p ≡ 32
+    → spaces (suc n) text p ≡ suc (spaces n text (p + 1))
 unfolding spaces
 spaces_more n text p h = rw h refl
 
@@ -32,7 +34,8 @@ unfolding spaces
 spaces_none text p = refl
 
 pub space_step : (c : ℕ) (text : List ℕ) (p : ℕ) → byte text p ≡ 32 → column_at text p < c
-    → p + spaces (c - column_at text p) text p ≡ p + 1 + spaces (c - column_at text (p + 1)) text (p + 1)
+    → p + spaces (c - column_at text p) text p
+    ≡ p + 1 + spaces (c - column_at text (p + 1)) text (p + 1)
 space_step c text p h l =
     let d : c - column_at text p ≡ suc (c - (column_at text p + 1)) = omega (arith, l) in
     let more = spaces_more (c - (column_at text p + 1)) text p h in
@@ -41,36 +44,45 @@ space_step c text p h l =
 tests : (b col c : ℕ) → (b == 32 && nat_lt col c) ≡ true → (b ≡ 32) × (col < c)
 tests b col c h = (grind (arith, nat_tests), grind (arith, nat_tests))
 
-pub space_tests : (c : ℕ) (text : List ℕ) (p : ℕ) → (byte text p == 32 && nat_lt (column_at text p) c) ≡ true → (byte text p ≡ 32) × (column_at text p < c)
+pub space_tests : (c : ℕ) (text : List ℕ) (p : ℕ)
+    → (byte text p == 32 && nat_lt (column_at text p) c) ≡ true
+    → (byte text p ≡ 32) × (column_at text p < c)
 space_tests c text p h = tests _ _ _ h
 
 others : (b col c : ℕ) → (b == 32 && nat_lt col c) ≡ false → (b ≢ 32) ⊎ (c ≤ col)
 others b col c h = grind (arith, nat_tests)
 
-pub space_stop : (c : ℕ) (text : List ℕ) (p : ℕ) → (byte text p == 32 && nat_lt (column_at text p) c) ≡ false → spaces (c - column_at text p) text p ≡ 0
+pub space_stop : (c : ℕ) (text : List ℕ) (p : ℕ)
+    → (byte text p == 32 && nat_lt (column_at text p) c) ≡ false
+    → spaces (c - column_at text p) text p ≡ 0
 space_stop c text p h =
     elim (others _ _ _ h) [
       | inl e ↦ spaces_other _ text p e
       | inr l ↦ let z : c - column_at text p ≡ 0 = omega (arith, l) in rw z (spaces_none text p)
     ]
 
-pub tab_spot : (c : ℕ) (text : List ℕ) (q : ℕ) → (byte text q == 9 && nat_lt (column_at text q) c) ≡ true → spot_behind c text q ≡ Tab q
+pub tab_spot : (c : ℕ) (text : List ℕ) (q : ℕ)
+    → (byte text q == 9 && nat_lt (column_at text q) c) ≡ true → spot_behind c text q ≡ Tab q
 unfolding spot_behind
 tab_spot c text q t = rw t refl
 
-pub empty_spot : (c : ℕ) (text : List ℕ) (q : ℕ) → (byte text q == 9 && nat_lt (column_at text q) c) ≡ false → 0 < break_width text q
+pub empty_spot : (c : ℕ) (text : List ℕ) (q : ℕ)
+    → (byte text q == 9 && nat_lt (column_at text q) c) ≡ false → 0 < break_width text q
     → spot_behind c text q ≡ Line (Empty (break_value text q)) (q + break_width text q)
 unfolding spot_behind
 empty_spot c text q t h = rw (t, lt-ltb 0 (break_width text q) h) refl
 
-pub end_spot : (c : ℕ) (text : List ℕ) (q : ℕ) → (byte text q == 9 && nat_lt (column_at text q) c) ≡ false → break_width text q ≡ 0
+pub end_spot : (c : ℕ) (text : List ℕ) (q : ℕ)
+    → (byte text q == 9 && nat_lt (column_at text q) c) ≡ false → break_width text q ≡ 0
     → (byte text q == 0 || not (column_at text q == c)) ≡ true → spot_behind c text q ≡ Stops q
 unfolding spot_behind
 end_spot c text q t z h = rw (t, z, h) refl
 
-pub text_spot : (c : ℕ) (text : List ℕ) (q : ℕ) → (byte text q == 9 && nat_lt (column_at text q) c) ≡ false → break_width text q ≡ 0
+pub text_spot : (c : ℕ) (text : List ℕ) (q : ℕ)
+    → (byte text q == 9 && nat_lt (column_at text q) c) ≡ false → break_width text q ≡ 0
     → (byte text q == 0 || not (column_at text q == c)) ≡ false
-    → spot_behind c text q ≡ Line (Words (slice_range text q (line_end text q)) (feed_at text (line_end text q))) (line_end text q + break_width text (line_end text q))
+    → spot_behind c text q ≡ Line (Words (slice_range text q (line_end text q))
+    (feed_at text (line_end text q))) (line_end text q + break_width text (line_end text q))
 unfolding spot_behind
 text_spot c text q t z h = rw (t, z, h) refl
 
@@ -86,5 +98,6 @@ no_stop b col c h k = grind (arith, nat_tests)
 text_test : (b w : ℕ) → b ≢ 0 → w ≡ 0 → not (b == 0 || nat_lt 0 w) ≡ true
 text_test b w h k = grind (arith, nat_tests)
 
-pub text_long : (text : List ℕ) (q : ℕ) → byte text q ≢ 0 → break_width text q ≡ 0 → q < line_end text q
+pub text_long : (text : List ℕ) (q : ℕ) → byte text q ≢ 0 → break_width text q ≡ 0
+    → q < line_end text q
 text_long text q h z = past_some is_text text q (text_test _ _ h z) (omega (arith, h))

@@ -23,28 +23,36 @@ larger_both : (a b c : ℕ) → larger a (larger b c) ≡ larger (larger a b) c
 unfolding larger
 larger_both a b c = grind (arith, nat_tests)
 
-larger_more : (a b : ℕ) (r : Result ℕ Wrong) → larger_of a (larger_of b r) ≡ larger_of (larger a b) r
+larger_more : (a b : ℕ) (r : Result ℕ Wrong)
+    → larger_of a (larger_of b r) ≡ larger_of (larger a b) r
 larger_more a b (Ok c) = ap (λ x. Ok x) (larger_both a b c)
 larger_more a b (Err w) = refl
 
-pub depth_tab : (n : ℕ) (text : List ℕ) (p d : ℕ) → byte text (past_spaces text p) ≡ 9 → larger_of d (deepest (suc n) text p) ≡ Err (in_block problems.TabForSpace (past_spaces text p))
+pub depth_tab : (n : ℕ) (text : List ℕ) (p d : ℕ) → byte text (past_spaces text p) ≡ 9
+    → larger_of d (deepest (suc n) text p)
+    ≡ Err (in_block problems.TabForSpace (past_spaces text p))
 unfolding deepest
 depth_tab n text p d h = rw (eq-eqb (byte text (past_spaces text p)) 9 h) refl
 
-pub depth_done : (n : ℕ) (text : List ℕ) (p d : ℕ) → byte text (past_spaces text p) ≢ 9 → break_width text (past_spaces text p) ≡ 0
+pub depth_done : (n : ℕ) (text : List ℕ) (p d : ℕ) → byte text (past_spaces text p) ≢ 9
+    → break_width text (past_spaces text p) ≡ 0
     → larger_of d (deepest (suc n) text p) ≡ Ok (larger d (column_at text (past_spaces text p)))
 unfolding deepest
 depth_done n text p d h z = rw (ne_eqb (byte text (past_spaces text p)) 9 h, z) refl
 
-depth_line : (n : ℕ) (text : List ℕ) (p : ℕ) → byte text (past_spaces text p) ≢ 9 → 0 < break_width text (past_spaces text p)
-    → deepest (suc n) text p ≡ larger_of (column_at text (past_spaces text p)) (deepest n text (past_spaces text p + break_width text (past_spaces text p)))
+depth_line : (n : ℕ) (text : List ℕ) (p : ℕ) → byte text (past_spaces text p) ≢ 9
+    → 0 < break_width text (past_spaces text p)
+    → deepest (suc n) text p ≡ larger_of (column_at text (past_spaces text p))
+    (deepest n text (past_spaces text p + break_width text (past_spaces text p)))
 unfolding deepest
 depth_line n text p h w = rw (ne_eqb (byte text (past_spaces text p)) 9 h, lt-ltb 0 (break_width text (past_spaces text p)) w) refl
 
-pub depth_more : (n : ℕ) (text : List ℕ) (p d : ℕ) (whole : Result ℕ Wrong) → length text ≤ p + n → whole ≡ larger_of d (deepest (suc n) text p)
+pub depth_more : (n : ℕ) (text : List ℕ) (p d : ℕ) (whole : Result ℕ Wrong) → length text ≤ p + n
+    → whole ≡ larger_of d (deepest (suc n) text p)
     → byte text (past_spaces text p) ≢ 9 → 0 < break_width text (past_spaces text p)
     → (m : ℕ) × (length text ≤ past_spaces text p + break_width text (past_spaces text p) + m)
-    × (whole ≡ larger_of (larger d (column_at text (past_spaces text p))) (deepest (suc m) text (past_spaces text p + break_width text (past_spaces text p))))
+    × (whole ≡ larger_of (larger d (column_at text (past_spaces text p)))
+    (deepest (suc m) text (past_spaces text p + break_width text (past_spaces text p))))
 depth_more zero text p d whole room eq-eqb h w =
     let le = past-le is_space_there (length text) text p in
     let end = past_break text (past_spaces text p) w in
@@ -60,10 +68,12 @@ depth_more (suc n) text p d whole room eq-eqb h w =
 pub spaces-le : (text : List ℕ) (p : ℕ) → p ≤ past_spaces text p
 spaces-le text p = past-le is_space_there (length text) text p
 
-pub column_given : (level : ℕ) (text : List ℕ) (digit p : ℕ) → 0 < digit → column_of level text digit p ≡ Ok ((level - 1) + digit)
+pub column_given : (level : ℕ) (text : List ℕ) (digit p : ℕ) → 0 < digit
+    → column_of level text digit p ≡ Ok ((level - 1) + digit)
 unfolding column_of
 column_given level text digit p h = let f : (digit == 0) ≡ false = grind (arith, nat_tests) in rw f refl
 
-pub column_found : (level : ℕ) (text : List ℕ) (digit p : ℕ) → digit ≡ 0 → column_of level text digit p ≡ larger_of (larger level 1) (deepest (suc (length text)) text p)
+pub column_found : (level : ℕ) (text : List ℕ) (digit p : ℕ) → digit ≡ 0
+    → column_of level text digit p ≡ larger_of (larger level 1) (deepest (suc (length text)) text p)
 unfolding column_of
 column_found level text digit p h = rw h refl

@@ -35,28 +35,38 @@ chomping_parts b c d h = between b c d (chomping_bounds b h)
 pub first_parts : (b c d e : ℕ) → indicators b c ≢ 0 → (0 < b) × (break_of b d e ≡ 0)
 first_parts b c d e h = between b d e (first_bounds b c h)
 
-pub second_parts : (b c d e : ℕ) → indicators b c ≢ 0 → indicators b c ≢ 1 → (0 < c) × (break_of c d e ≡ 0)
+pub second_parts : (b c d e : ℕ) → indicators b c ≢ 0 → indicators b c ≢ 1
+    → (0 < c) × (break_of c d e ≡ 0)
 second_parts b c d e h k = between c d e (second_bounds b c h k)
 
-at_either : (text : List ℕ) (b : Bool) (p q : ℕ) → (if b then byte text p else byte text q) ≡ byte text (if b then p else q)
+at_either : (text : List ℕ) (b : Bool) (p q : ℕ)
+    → (if b then byte text p else byte text q) ≡ byte text (if b then p else q)
 at_either text true p q = refl
 at_either text false p q = refl
 
-pub digit_there : (text : List ℕ) (p : ℕ) → (if is_chomping (byte text p) then byte text (p + 1) else byte text p) ≡ byte text (digit_place text p)
+pub digit_there : (text : List ℕ) (p : ℕ)
+    → (if is_chomping (byte text p) then byte text (p + 1) else byte text p)
+    ≡ byte text (digit_place text p)
 digit_there text p = at_either text (is_chomping (byte text p)) (p + 1) p
 
-pub chomping_there : (text : List ℕ) (p : ℕ) → (if is_digit_byte (byte text p) then byte text (p + 1) else byte text p) ≡ byte text (chomping_place text p)
+pub chomping_there : (text : List ℕ) (p : ℕ)
+    → (if is_digit_byte (byte text p) then byte text (p + 1) else byte text p)
+    ≡ byte text (chomping_place text p)
 chomping_there text p = at_either text (is_digit_byte (byte text p)) (p + 1) p
 
-pub zero_header : (text : List ℕ) (p : ℕ) → byte text (digit_place text p) ≡ 48 → header_at text p ≡ Err (in_block problems.ZeroIndentation (digit_place text p))
+pub zero_header : (text : List ℕ) (p : ℕ) → byte text (digit_place text p) ≡ 48
+    → header_at text p ≡ Err (in_block problems.ZeroIndentation (digit_place text p))
 unfolding header_at
 zero_header text p h = rw (eq-eqb (byte text (digit_place text p)) 48 h) refl
 
-pub wrong_header : (text : List ℕ) (p : ℕ) → byte text (digit_place text p) ≢ 48 → is_text text (header_end text p) ≡ true → header_at text p ≡ Err (in_block problems.NoCommentOrBreak (header_end text p))
+pub wrong_header : (text : List ℕ) (p : ℕ) → byte text (digit_place text p) ≢ 48
+    → is_text text (header_end text p) ≡ true
+    → header_at text p ≡ Err (in_block problems.NoCommentOrBreak (header_end text p))
 unfolding header_at
 wrong_header text p h k = rw (ne_eqb (byte text (digit_place text p)) 48 h, k) refl
 
-pub whole_header : (text : List ℕ) (p : ℕ) → byte text (digit_place text p) ≢ 48 → is_text text (header_end text p) ≡ false
+pub whole_header : (text : List ℕ) (p : ℕ) → byte text (digit_place text p) ≢ 48
+    → is_text text (header_end text p) ≡ false
     → header_at text p ≡ Ok record {
       chomp = chomp_of (byte text (chomping_place text p));
       digit = digit_of (byte text (digit_place text p));

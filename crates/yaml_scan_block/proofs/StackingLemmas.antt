@@ -6,18 +6,23 @@ use Rattle.yaml_scan_block.specs.Stacked.{stacked_with, glued}
 use Rattle.yaml_scan_block.specs.declared.header.Chomp.{Chomp}
 use Rattle.yaml_scan_block.specs.declared.header.Chomp.TheVariants as chomps
 
-pub stack_start : (folded : Bool) (chomp : Chomp) (g : Texts) → stacked_with folded [] false false [] [] chomp g ≡ value_with folded chomp g.lead g.lines
+pub stack_start : (folded : Bool) (chomp : Chomp) (g : Texts)
+    → stacked_with folded [] false false [] [] chomp g ≡ value_with folded chomp g.lead g.lines
 unfolding stacked_with
 stack_start folded chomp g = refl
 
-pub stack_empty : (folded : Bool) (done : List ℕ) (any blank : Bool) (feed empties b : List ℕ) (chomp : Chomp) (ls : List BlockLine)
-    → stacked_with folded done any blank feed (empties ++ b) chomp (texts_of ls) ≡ stacked_with folded done any blank feed empties chomp (texts_of (Empty b ∷ ls))
+pub stack_empty : (folded : Bool) (done : List ℕ) (any blank : Bool) (feed empties b : List ℕ)
+    (chomp : Chomp) (ls : List BlockLine)
+    → stacked_with folded done any blank feed (empties ++ b) chomp (texts_of ls)
+    ≡ stacked_with folded done any blank feed empties chomp (texts_of (Empty b ∷ ls))
 unfolding stacked_with
 stack_empty folded done true blank feed empties b chomp ls = rw (append_assoc empties b (texts_of ls).lead) refl
 stack_empty folded done false blank feed empties b chomp ls = rw (append_assoc empties b (texts_of ls).lead) refl
 
-pub stack_line : (folded : Bool) (done : List ℕ) (any blank : Bool) (feed empties words next : List ℕ) (chomp : Chomp) (ls : List BlockLine)
-    → stacked_with folded ((done ++ glued folded any blank feed empties (starts_blank words)) ++ words) true (starts_blank words) next [] chomp (texts_of ls)
+pub stack_line : (folded : Bool) (done : List ℕ) (any blank : Bool)
+    (feed empties words next : List ℕ) (chomp : Chomp) (ls : List BlockLine)
+    → stacked_with folded ((done ++ glued folded any blank feed empties (starts_blank words))
+    ++ words) true (starts_blank words) next [] chomp (texts_of ls)
     ≡ stacked_with folded done any blank feed empties chomp (texts_of (Words words next ∷ ls))
 unfolding stacked_with glued
 stack_line folded done true blank feed empties words next chomp ls =
@@ -25,25 +30,34 @@ stack_line folded done true blank feed empties words next chomp ls =
 stack_line folded done false blank feed empties words next chomp ls =
     rw (append-nil empties) (append_assoc _ words _ ∙ append_assoc done _ _)
 
-pub glue_first : (folded blank after : Bool) (feed empties : List ℕ) → glued folded false blank feed empties after ≡ empties
+pub glue_first : (folded blank after : Bool) (feed empties : List ℕ)
+    → glued folded false blank feed empties after ≡ empties
 unfolding glued
 glue_first folded blank after feed empties = refl
 
-pub glue_kept : (folded blank after : Bool) (feed empties : List ℕ) → (folded && ((not blank && not after) && is_feed feed)) ≡ false → glued folded true blank feed empties after ≡ feed ++ empties
+pub glue_kept : (folded blank after : Bool) (feed empties : List ℕ)
+    → (folded && ((not blank && not after) && is_feed feed)) ≡ false
+    → glued folded true blank feed empties after ≡ feed ++ empties
 unfolding glued between
 glue_kept folded blank after feed empties h = rw h refl
 
-pub glue_folded : (folded blank after : Bool) (feed empties : List ℕ) → (folded && ((not blank && not after) && is_feed feed)) ≡ true → glued folded true blank feed empties after ≡ space_or empties
+pub glue_folded : (folded blank after : Bool) (feed empties : List ℕ)
+    → (folded && ((not blank && not after) && is_feed feed)) ≡ true
+    → glued folded true blank feed empties after ≡ space_or empties
 unfolding glued between
 glue_folded folded blank after feed empties h = rw h refl
 
-pub stack_end : (folded : Bool) (done : List ℕ) (blank : Bool) (feed empties : List ℕ) (chomp : Chomp)
-    → stacked_with folded done true blank feed empties chomp (texts_of []) ≡ done ++ behind_text folded chomp blank feed empties []
+pub stack_end : (folded : Bool) (done : List ℕ) (blank : Bool) (feed empties : List ℕ)
+    (chomp : Chomp)
+    → stacked_with folded done true blank feed empties chomp (texts_of []) ≡ done
+    ++ behind_text folded chomp blank feed empties []
 unfolding stacked_with
 stack_end folded done blank feed empties chomp = rw (append-nil empties) refl
 
-pub stack_none : (folded : Bool) (done : List ℕ) (blank : Bool) (feed empties : List ℕ) (chomp : Chomp)
-    → stacked_with folded done false blank feed empties chomp (texts_of []) ≡ done ++ value_with folded chomp empties []
+pub stack_none : (folded : Bool) (done : List ℕ) (blank : Bool) (feed empties : List ℕ)
+    (chomp : Chomp)
+    → stacked_with folded done false blank feed empties chomp (texts_of []) ≡ done
+    ++ value_with folded chomp empties []
 unfolding stacked_with
 stack_none folded done blank feed empties chomp = rw (append-nil empties) refl
 
@@ -55,11 +69,13 @@ pub space_or_none : (xs : List ℕ) → length xs ≡ 0 → space_or xs ≡ 32 �
 space_or_none [] h = refl
 space_or_none (x ∷ xs) h = absurd (omega (arith, h))
 
-pub stack_strip : (folded : Bool) (done : List ℕ) (any blank : Bool) (feed empties : List ℕ) → done ≡ stacked_with folded done any blank feed empties chomps.Strip (texts_of [])
+pub stack_strip : (folded : Bool) (done : List ℕ) (any blank : Bool) (feed empties : List ℕ)
+    → done ≡ stacked_with folded done any blank feed empties chomps.Strip (texts_of [])
 unfolding stacked_with
 stack_strip folded done true blank feed empties = sym (append-nil done)
 stack_strip folded done false blank feed empties = sym (append-nil done)
 
-pub stack_clip_none : (folded : Bool) (done : List ℕ) (blank : Bool) (feed empties : List ℕ) → done ≡ stacked_with folded done false blank feed empties chomps.Clip (texts_of [])
+pub stack_clip_none : (folded : Bool) (done : List ℕ) (blank : Bool) (feed empties : List ℕ)
+    → done ≡ stacked_with folded done false blank feed empties chomps.Clip (texts_of [])
 unfolding stacked_with
 stack_clip_none folded done blank feed empties = sym (append-nil done)

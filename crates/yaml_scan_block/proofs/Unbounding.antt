@@ -53,7 +53,8 @@ behind_moves c text p q le =
 moves : (c : ℕ) (text : List ℕ) (p : ℕ) → Moves text p (line_spot c text p)
 moves c text p = behind_moves c text p (p + spaces (c - column_at text p) text p) (omega arith)
 
-lines_by : (d c : ℕ) (text : List ℕ) (end p : ℕ) (s : LineSpot) → line_spot c text p ≡ s → length text ≤ p + d → AreLinesFrom c text end p (lines_from (suc d) c text end p)
+lines_by : (d c : ℕ) (text : List ℕ) (end p : ℕ) (s : LineSpot) → line_spot c text p ≡ s
+    → length text ≤ p + d → AreLinesFrom c text end p (lines_from (suc d) c text end p)
 unfolding lines_from
 lines_by d c text end p (Stops q) e room = subst (λ (x : LineSpot). AreLinesFrom c text end p (line_then (λ q. lines_from d c text q q) end x)) (sym e) (stops end p q e)
 lines_by d c text end p (Tab q) e room = subst (λ (x : LineSpot). AreLinesFrom c text end p (line_then (λ q. lines_from d c text q q) end x)) (sym e) (has_tab end p q e)
@@ -64,7 +65,8 @@ lines_by (suc d) c text end p (Line l q) e room =
     subst (λ (x : LineSpot). AreLinesFrom c text end p (line_then (λ q. lines_from (suc d) c text q q) end x)) (sym e)
     (goes_on end p q l (lines_from (suc d) c text q q) e (lines_by d c text q q (line_spot c text q) refl (omega (arith, far, room))))
 
-one : (c : ℕ) (text : List ℕ) (end p : ℕ) (r : Result Lines Wrong) → AreLinesFrom c text end p r → (d : ℕ) → length text ≤ p + d → lines_from (suc d) c text end p ≡ r
+one : (c : ℕ) (text : List ℕ) (end p : ℕ) (r : Result Lines Wrong) → AreLinesFrom c text end p r
+    → (d : ℕ) → length text ≤ p + d → lines_from (suc d) c text end p ≡ r
 unfolding lines_from
 one c text end p r (stops f x q e) d room = ap (λ (s : LineSpot). line_then (λ q. lines_from d c text q q) f s) e
 one c text end p r (has_tab f x q e) d room = ap (λ (s : LineSpot). line_then (λ q. lines_from d c text q q) f s) e

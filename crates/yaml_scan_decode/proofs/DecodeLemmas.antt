@@ -21,20 +21,24 @@ unfolding width_of
 width_small b = grind (arith, nat_tests)
 
 -- a test whose success is an offence failed where a character stands
-passed : (t : Bool) (o : Offence) (r : Result Character Offence) (ch : Character) → cond t (Err o) r ≡ Ok ch → (t ≡ false) × (r ≡ Ok ch)
+passed : (t : Bool) (o : Offence) (r : Result Character Offence) (ch : Character)
+    → cond t (Err o) r ≡ Ok ch → (t ≡ false) × (r ≡ Ok ch)
 passed true o r ch h = cc
 passed false o r ch h = (refl, h)
 
-chosen : (t : Bool) (x ch : Character) (o : Offence) → cond t (Ok x) (Err o) ≡ Ok ch → (t ≡ true) × (ch ≡ x)
+chosen : (t : Bool) (x ch : Character) (o : Offence) → cond t (Ok x) (Err o) ≡ Ok ch
+    → (t ≡ true) × (ch ≡ x)
 chosen true x ch o h = (refl, cc)
 chosen false x ch o h = cc
 
-allowed_gives : (p width code : ℕ) (ch : Character) → allowed_at p width code ≡ Ok ch → (is_allowed code ≡ true) × (ch ≡ record { code = code; width = width })
+allowed_gives : (p width code : ℕ) (ch : Character) → allowed_at p width code ≡ Ok ch
+    → (is_allowed code ≡ true) × (ch ≡ record { code = code; width = width })
 unfolding allowed_at
 allowed_gives p width code ch h = chosen (is_allowed code) _ ch _ h
 
 valued_gives : (p width code : ℕ) (ch : Character) → valued_at p width code ≡ Ok ch
-    → (nat_lt code (least_code width) ≡ false) × (is_allowed code ≡ true) × (ch ≡ record { code = code; width = width })
+    → (nat_lt code (least_code width) ≡ false) × (is_allowed code ≡ true)
+    × (ch ≡ record { code = code; width = width })
 unfolding valued_at
 valued_gives p width code ch h =
     let (long, h1) = passed _ _ _ ch h in
@@ -47,14 +51,16 @@ bytes_1 : (b : ℕ) → width_of b ≡ 1 → encode_utf8 b ≡ b ∷ []
 unfolding width_of encode_utf8
 bytes_1 b h = grind (arith, nat_tests)
 
-two_bytes : (x y : ℕ) → 2 ≤ x → x < 32 → y < 64 → encode_utf8 (x * 64 + y) ≡ (192 + x) ∷ (128 + y) ∷ []
+two_bytes : (x y : ℕ) → 2 ≤ x → x < 32 → y < 64
+    → encode_utf8 (x * 64 + y) ≡ (192 + x) ∷ (128 + y) ∷ []
 unfolding encode_utf8
 two_bytes x y low high small =
     let a : (x * 64 + y) / 64 ≡ x = omega arith in
     let b : (x * 64 + y) % 64 ≡ y = omega arith in
     grind (arith, nat_tests)
 
-three_bytes : (x y z : ℕ) → 2048 ≤ (x * 64 + y) * 64 + z → x < 16 → y < 64 → z < 64 → encode_utf8 ((x * 64 + y) * 64 + z) ≡ (224 + x) ∷ (128 + y) ∷ (128 + z) ∷ []
+three_bytes : (x y z : ℕ) → 2048 ≤ (x * 64 + y) * 64 + z → x < 16 → y < 64 → z < 64
+    → encode_utf8 ((x * 64 + y) * 64 + z) ≡ (224 + x) ∷ (128 + y) ∷ (128 + z) ∷ []
 unfolding encode_utf8
 three_bytes x y z low high small last =
     let a : ((x * 64 + y) * 64 + z) / 4096 ≡ x = omega arith in
@@ -62,8 +68,10 @@ three_bytes x y z low high small last =
     let c : ((x * 64 + y) * 64 + z) % 64 ≡ z = omega arith in
     grind (arith, nat_tests)
 
-four_bytes : (x y z w : ℕ) → 65536 ≤ ((x * 64 + y) * 64 + z) * 64 + w → x < 8 → y < 64 → z < 64 → w < 64
-    → encode_utf8 (((x * 64 + y) * 64 + z) * 64 + w) ≡ (240 + x) ∷ (128 + y) ∷ (128 + z) ∷ (128 + w) ∷ []
+four_bytes : (x y z w : ℕ) → 65536 ≤ ((x * 64 + y) * 64 + z) * 64 + w → x < 8 → y < 64 → z < 64
+    → w < 64
+    → encode_utf8 (((x * 64 + y) * 64 + z) * 64 + w) ≡ (240 + x) ∷ (128 + y) ∷ (128 + z) ∷ (128 + w)
+    ∷ []
 unfolding encode_utf8
 four_bytes x y z w low high small less last =
     let a : (((x * 64 + y) * 64 + z) * 64 + w) / 262144 ≡ x = omega arith in
@@ -73,7 +81,8 @@ four_bytes x y z w low high small less last =
     grind (arith, nat_tests)
 
 -- drop one byte
-pub drop_one : (bytes : List ℕ) (p : ℕ) → p < length bytes → drop p bytes ≡ byte bytes p ∷ drop (p + 1) bytes
+pub drop_one : (bytes : List ℕ) (p : ℕ) → p < length bytes
+    → drop p bytes ≡ byte bytes p ∷ drop (p + 1) bytes
 drop_one bytes p h = rw (add-one, drop-cons bytes p 0)
 
 -- those four bytes
@@ -92,7 +101,9 @@ code_1 : (b c d e : ℕ) → width_of b ≡ 1 → encode_utf8 (utf8_code 1 b c d
 unfolding utf8_code leading_bits
 code_1 b c d e h = bytes_1 b h
 
-code_2 : (b c d e : ℕ) → width_of b ≡ 2 → is_trailing c ≡ true → nat_lt (utf8_code 2 b c d e) (least_code 2) ≡ false → encode_utf8 (utf8_code 2 b c d e) ≡ b ∷ c ∷ []
+code_2 : (b c d e : ℕ) → width_of b ≡ 2 → is_trailing c ≡ true
+    → nat_lt (utf8_code 2 b c d e) (least_code 2) ≡ false
+    → encode_utf8 (utf8_code 2 b c d e) ≡ b ∷ c ∷ []
 unfolding utf8_code leading_bits width_of least_code
 code_2 b c d e h tc long =
     let low : 192 ≤ b = grind (arith, nat_tests) in
@@ -105,7 +116,9 @@ code_2 b c d e h tc long =
     let y : 128 + (c - 128) ≡ c = omega arith in
     cc
 
-code_3 : (b c d e : ℕ) → width_of b ≡ 3 → is_trailing c ≡ true → is_trailing d ≡ true → nat_lt (utf8_code 3 b c d e) (least_code 3) ≡ false → encode_utf8 (utf8_code 3 b c d e) ≡ b ∷ c ∷ d ∷ []
+code_3 : (b c d e : ℕ) → width_of b ≡ 3 → is_trailing c ≡ true → is_trailing d ≡ true
+    → nat_lt (utf8_code 3 b c d e) (least_code 3) ≡ false
+    → encode_utf8 (utf8_code 3 b c d e) ≡ b ∷ c ∷ d ∷ []
 unfolding utf8_code leading_bits width_of least_code
 code_3 b c d e h tc td long =
     let low : 224 ≤ b = grind (arith, nat_tests) in
@@ -121,7 +134,8 @@ code_3 b c d e h tc td long =
     let z : 128 + (d - 128) ≡ d = omega arith in
     cc
 
-code_4 : (b c d e : ℕ) → width_of b ≡ 4 → is_trailing c ≡ true → is_trailing d ≡ true → is_trailing e ≡ true → nat_lt (utf8_code 4 b c d e) (least_code 4) ≡ false
+code_4 : (b c d e : ℕ) → width_of b ≡ 4 → is_trailing c ≡ true → is_trailing d ≡ true
+    → is_trailing e ≡ true → nat_lt (utf8_code 4 b c d e) (least_code 4) ≡ false
     → encode_utf8 (utf8_code 4 b c d e) ≡ b ∷ c ∷ d ∷ e ∷ []
 unfolding utf8_code leading_bits width_of least_code
 code_4 b c d e h tc td te long =
@@ -144,8 +158,10 @@ code_4 b c d e h tc td te long =
 trails : (c : ℕ) → (true && not (is_trailing c)) ≡ false → is_trailing c ≡ true
 trails c h = grind (arith, nat_tests)
 
-sequence_gives : (width p b c d e : ℕ) (ch : Character) → width_of b ≡ width → 0 < width → width ≤ 4 → sequence_of width p b c d e ≡ Ok ch
-    → (is_allowed ch.code ≡ true) × (ch.width ≡ width) × (encode_utf8 ch.code ≡ take width (four b c d e))
+sequence_gives : (width p b c d e : ℕ) (ch : Character) → width_of b ≡ width → 0 < width → width ≤ 4
+    → sequence_of width p b c d e ≡ Ok ch
+    → (is_allowed ch.code ≡ true) × (ch.width ≡ width)
+    × (encode_utf8 ch.code ≡ take width (four b c d e))
 unfolding sequence_of
 sequence_gives width p b c d e ch w some few h =
     let (s, h1) = passed _ _ _ ch h in
@@ -155,7 +171,9 @@ sequence_gives width p b c d e ch w some few h =
     rw is (allowed, refl, by width w some few s t u long)
   where
     by : (width : ℕ) → width_of b ≡ width → 0 < width → width ≤ 4
-        → (nat_lt 1 width && not (is_trailing c)) ≡ false → (nat_lt 2 width && not (is_trailing d)) ≡ false → (nat_lt 3 width && not (is_trailing e)) ≡ false
+        → (nat_lt 1 width && not (is_trailing c)) ≡ false
+        → (nat_lt 2 width && not (is_trailing d)) ≡ false
+        → (nat_lt 3 width && not (is_trailing e)) ≡ false
         → nat_lt (utf8_code width b c d e) (least_code width) ≡ false
         → encode_utf8 (utf8_code width b c d e) ≡ take width (four b c d e)
     by zero w some few s t u long = absurd (omega arith)
@@ -165,7 +183,8 @@ sequence_gives width p b c d e ch w some few h =
     by (suc (suc (suc (suc zero)))) w some few s t u long = code_4 b c d e w (trails c s) (trails d t) (trails e u) long
     by (suc (suc (suc (suc (suc n))))) w some few s t u long = absurd (omega arith)
 
-utf8_gives : (left p b c d e : ℕ) (ch : Character) → utf8_of left p b c d e ≡ Ok ch → Leads left b c d e ch
+utf8_gives : (left p b c d e : ℕ) (ch : Character) → utf8_of left p b c d e ≡ Ok ch
+    → Leads left b c d e ch
 unfolding utf8_of
 utf8_gives left p b c d e ch h =
     let (leading, h1) = passed (width_of b == 0) _ _ ch h in
@@ -182,7 +201,8 @@ pub record Stands (bytes : List ℕ) (p : ℕ) (ch : Character) (own : List ℕ)
   pub spelled : drop p bytes ≡ own ++ drop (p + ch.width) bytes
 
 front : (bytes : List ℕ) (p w : ℕ) → w ≤ 4 → p + w ≤ length bytes
-    → drop p bytes ≡ take w (four (byte bytes p) (byte bytes (p + 1)) (byte bytes (p + 2)) (byte bytes (p + 3))) ++ drop (p + w) bytes
+    → drop p bytes ≡ take w (four (byte bytes p) (byte bytes (p + 1)) (byte bytes (p + 2))
+    (byte bytes (p + 3))) ++ drop (p + w) bytes
 front bytes p zero few inside = rw add-zero refl
 front bytes p (suc zero) few inside = drop_one bytes p (omega arith)
 front bytes p (suc (suc zero)) few inside =
@@ -208,7 +228,8 @@ front bytes p (suc (suc (suc (suc zero)))) few inside =
     cc
 front bytes p (suc (suc (suc (suc (suc n))))) few inside = absurd (omega arith)
 
-pub utf8_stands : (bytes : List ℕ) (p : ℕ) (ch : Character) → p < length bytes → utf8_at bytes p ≡ Ok ch → Stands bytes p ch (encode_utf8 ch.code)
+pub utf8_stands : (bytes : List ℕ) (p : ℕ) (ch : Character) → p < length bytes
+    → utf8_at bytes p ≡ Ok ch → Stands bytes p ch (encode_utf8 ch.code)
 utf8_stands bytes p ch in_bytes h =
     let l = utf8_gives _ _ _ _ _ _ ch h in
     let inside : p + ch.width ≤ length bytes = omega (arith, l.inside) in
@@ -218,7 +239,8 @@ utf8_stands bytes p ch in_bytes h =
 abbrev pub AreBytes : List ℕ → Type 0
 AreBytes bytes = (k : ℕ) → byte bytes k < 256
 
-unit_spelled : (order : ByteOrder) (bytes : List ℕ) (p : ℕ) → AreBytes bytes → unit_bytes order (unit_at order bytes p) ≡ byte bytes p ∷ byte bytes (p + 1) ∷ []
+unit_spelled : (order : ByteOrder) (bytes : List ℕ) (p : ℕ) → AreBytes bytes
+    → unit_bytes order (unit_at order bytes p) ≡ byte bytes p ∷ byte bytes (p + 1) ∷ []
 unfolding unit_at
 unit_spelled LowFirst bytes p are =
     let b = are p in
@@ -233,17 +255,21 @@ unit_spelled HighFirst bytes p are =
     let y : (byte bytes p * 256 + byte bytes (p + 1)) % 256 ≡ byte bytes (p + 1) = omega arith in
     cc
 
-unit_small : (order : ByteOrder) (bytes : List ℕ) (p : ℕ) → AreBytes bytes → unit_at order bytes p < 65536
+unit_small : (order : ByteOrder) (bytes : List ℕ) (p : ℕ) → AreBytes bytes
+    → unit_at order bytes p < 65536
 unfolding unit_at
 unit_small LowFirst bytes p are = omega (arith, are p, are (p + 1))
 unit_small HighFirst bytes p are = omega (arith, are p, are (p + 1))
 
 -- a unit of its own, or a pair of them
 data Units (left u v : ℕ) (ch : Character) : Type 0 where
-  one : 2 ≤ left → is_allowed ch.code ≡ true → ch ≡ record { code = u; width = 2 } → Units left u v ch
-  pair : 4 ≤ left → is_allowed ch.code ≡ true → ch.width ≡ 4 → encode_utf16 ch.code ≡ u ∷ v ∷ [] → Units left u v ch
+  one : 2 ≤ left → is_allowed ch.code ≡ true → ch ≡ record { code = u; width = 2 }
+      → Units left u v ch
+  pair : 4 ≤ left → is_allowed ch.code ≡ true → ch.width ≡ 4 → encode_utf16 ch.code ≡ u ∷ v ∷ []
+      → Units left u v ch
 
-pair_units : (u v : ℕ) → is_high_surrogate u ≡ true → is_low_surrogate v ≡ true → encode_utf16 (0x1_0000 + (u - 0xD800) * 0x400 + (v - 0xDC00)) ≡ u ∷ v ∷ []
+pair_units : (u v : ℕ) → is_high_surrogate u ≡ true → is_low_surrogate v ≡ true
+    → encode_utf16 (0x1_0000 + (u - 0xD800) * 0x400 + (v - 0xDC00)) ≡ u ∷ v ∷ []
 pair_units u v high low =
     let a : 0xD800 ≤ u = grind (arith, nat_tests) in
     let b : u ≤ 0xDBFF = grind (arith, nat_tests) in
@@ -268,7 +294,10 @@ utf16_gives left p u v ch h =
     room n e = grind (arith, nat_tests)
 
     by : (t : Bool) → is_high_surrogate u ≡ t
-        → cond (not t) (allowed_at p 2 u) (cond (nat_lt left 4) (offends problems.IncompletePair p no_value) (cond (not (is_low_surrogate v)) (offends problems.ExpectedLowSurrogate (p + 2) (pos v)) (allowed_at p 4 (0x1_0000 + (u - 0xD800) * 0x400 + (v - 0xDC00))))) ≡ Ok ch
+        → cond (not t) (allowed_at p 2 u)
+        (cond (nat_lt left 4) (offends problems.IncompletePair p no_value)
+        (cond (not (is_low_surrogate v)) (offends problems.ExpectedLowSurrogate (p + 2) (pos v))
+        (allowed_at p 4 (0x1_0000 + (u - 0xD800) * 0x400 + (v - 0xDC00))))) ≡ Ok ch
         → Units left u v ch
     by false e g =
         let (whole, _) = passed (nat_lt left 2) _ _ ch h in
@@ -281,11 +310,13 @@ utf16_gives left p u v ch h =
         let (allowed, is) = allowed_gives p 4 _ ch g2 in
         pair (room 4 both) (rw is allowed) (rw is refl) (rw is (pair_units u v e low))
 
-pub utf16_stands : (order : ByteOrder) (bytes : List ℕ) (p : ℕ) (ch : Character) → AreBytes bytes → p < length bytes → utf16_at order bytes p ≡ Ok ch
+pub utf16_stands : (order : ByteOrder) (bytes : List ℕ) (p : ℕ) (ch : Character) → AreBytes bytes
+    → p < length bytes → utf16_at order bytes p ≡ Ok ch
     → Stands bytes p ch (units_bytes order (encode_utf16 ch.code))
 utf16_stands order bytes p ch are in_bytes h = by (utf16_gives _ _ _ _ ch h)
   where
-    by : Units (length bytes - p) (unit_at order bytes p) (unit_at order bytes (p + 2)) ch → Stands bytes p ch (units_bytes order (encode_utf16 ch.code))
+    by : Units (length bytes - p) (unit_at order bytes p) (unit_at order bytes (p + 2)) ch
+        → Stands bytes p ch (units_bytes order (encode_utf16 ch.code))
     by (one left allowed is) =
         let a = drop_one bytes p (omega arith) in
         let b = drop_one bytes (p + 1) (omega arith) in
@@ -307,7 +338,9 @@ utf16_stands order bytes p ch are in_bytes h = by (utf16_gives _ _ _ _ ch h)
         record { some = omega arith; inside = omega arith; allowed = allowed; spelled = rw (code, here, there, width) (cc) }
 
 -- a character that stands in the bytes is spelled by them
-pub character_stands : (e : yaml_encoding_t) (bytes : List ℕ) (p : ℕ) (ch : Character) → AreBytes bytes → p < length bytes → character_at e bytes p ≡ Ok ch → Stands bytes p ch (spelling e ch.code)
+pub character_stands : (e : yaml_encoding_t) (bytes : List ℕ) (p : ℕ) (ch : Character)
+    → AreBytes bytes → p < length bytes → character_at e bytes p ≡ Ok ch
+    → Stands bytes p ch (spelling e ch.code)
 character_stands YAML_ANY_ENCODING bytes p ch are h e = utf8_stands bytes p ch h e
 character_stands YAML_UTF8_ENCODING bytes p ch are h e = utf8_stands bytes p ch h e
 character_stands YAML_UTF16LE_ENCODING bytes p ch are h e = utf16_stands LowFirst bytes p ch are h e

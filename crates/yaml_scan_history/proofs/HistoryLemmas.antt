@@ -14,12 +14,14 @@ use Rattle.yaml_scan_history.specs.Next.{history, Next, Read, Fails, Ends, next,
 use Rattle.yaml_scan_history.specs.Laws.{Upto, GoesForward}
 
 -- a candidate behind one more lexeme is that lexeme, or was one before
-pub candidate-more : (d : ℕ) (l : Lexeme) (h : List Lexeme) (c : Candidate) → candidate d (l ∷ h) ≡ Some c
+pub candidate-more : (d : ℕ) (l : Lexeme) (h : List Lexeme) (c : Candidate)
+    → candidate d (l ∷ h) ≡ Some c
     → (c.number ≡ length h) ⊎ (candidate d h ≡ Some c)
 unfolding candidate
 candidate-more d l h c e = grind (arith, nat_tests)
 
-pub candidate_below : (d : ℕ) (h : List Lexeme) (c : Candidate) → candidate d h ≡ Some c → c.number < length h
+pub candidate_below : (d : ℕ) (h : List Lexeme) (c : Candidate) → candidate d h ≡ Some c
+    → c.number < length h
 unfolding candidate
 candidate_below d [] c e = grind (arith, nat_tests)
 candidate_below d (l ∷ h) c e =
@@ -28,13 +30,15 @@ candidate_below d (l ∷ h) c e =
       | inr before ↦ let low = candidate_below d h c before in omega (arith, low)
     ]
 
-pub length-mark_key : (ls : List ℕ) (es : List Entry) (n : ℕ) → length (mark_key ls es n) ≡ length es
+pub length-mark_key : (ls : List ℕ) (es : List Entry) (n : ℕ)
+    → length (mark_key ls es n) ≡ length es
 unfolding mark_key
 length-mark_key ls [] n = refl
 length-mark_key ls (e ∷ es) zero = refl
 length-mark_key ls (e ∷ es) (suc n) = ap suc (length-mark_key ls es n)
 
-pub length-keyed : (l : Lexeme) (h : List Lexeme) (es : List Entry) → length (keyed l h es) ≡ length es
+pub length-keyed : (l : Lexeme) (h : List Lexeme) (es : List Entry)
+    → length (keyed l h es) ≡ length es
 length-keyed l h es =
     elim (is_value l.kind) as (λ b. length (cond b (marked (found_by l h) (inside l h) es) es) ≡ length es) [
       | true ↦ elim (found_by l h) as (λ o. length (marked o (inside l h) es) ≡ length es) [ Some c ↦ length-mark_key (inside l h) es c.number | None ↦ refl ]
@@ -46,7 +50,8 @@ unfolding entries
 length-entries [] = refl
 length-entries (l ∷ h) = grind (arith, common_steps, length-keyed l h (entries h), length-entries h)
 
-pub take-mark_key : (ls : List ℕ) (n : ℕ) (es : List Entry) (k : ℕ) → n ≤ k → take n (mark_key ls es k) ≡ take n es
+pub take-mark_key : (ls : List ℕ) (n : ℕ) (es : List Entry) (k : ℕ) → n ≤ k
+    → take n (mark_key ls es k) ≡ take n es
 unfolding mark_key
 take-mark_key ls n [] k h = refl
 take-mark_key ls zero (e ∷ es) zero h = refl
@@ -62,11 +67,13 @@ first_open-le all (l ∷ h) =
     let before = first_open-le all h in
     grind (arith, nat_tests)
 
-near_before : (s p q : yaml_mark_t) → p.index ≤ q.index → p.line ≤ q.line → is_fresh s q ≡ true → is_fresh s p ≡ true
+near_before : (s p q : yaml_mark_t) → p.index ≤ q.index → p.line ≤ q.line → is_fresh s q ≡ true
+    → is_fresh s p ≡ true
 near_before s p q i l h = grind (arith, nat_tests)
 
 -- what is fresh later was fresh before
-pub fresh_before : (o : Option Candidate) (p q : yaml_mark_t) (c : Candidate) → fresh o q ≡ Some c → Upto p q → fresh o p ≡ Some c
+pub fresh_before : (o : Option Candidate) (p q : yaml_mark_t) (c : Candidate) → fresh o q ≡ Some c
+    → Upto p q → fresh o p ≡ Some c
 fresh_before None p q c e u = cc
 fresh_before (Some d) p q c e (i, l) =
     elim (cases_Bool (is_fresh d.lexeme.start q)) [
@@ -74,7 +81,8 @@ fresh_before (Some d) p q c e (i, l) =
       | inr far ↦ let bad = rw far at e in cc
     ]
 
-pub fresh_is : (o : Option Candidate) (p : yaml_mark_t) (c : Candidate) → fresh o p ≡ Some c → o ≡ Some c
+pub fresh_is : (o : Option Candidate) (p : yaml_mark_t) (c : Candidate) → fresh o p ≡ Some c
+    → o ≡ Some c
 fresh_is None p c e = e
 fresh_is (Some d) p c e =
     elim (cases_Bool (is_fresh d.lexeme.start p)) [
@@ -86,16 +94,19 @@ fresh_is (Some d) p c e =
 abbrev pub IsOpen : List Lexeme → ℕ → ℕ → Type 0
 IsOpen all d n = (c : Candidate) × (fresh (candidate d all) (reached all) ≡ Some c) × (c.number ≡ n)
 
-number_is : (o : Option Candidate) (n : ℕ) → has_number o n ≡ true → (c : Candidate) × (o ≡ Some c) × (c.number ≡ n)
+number_is : (o : Option Candidate) (n : ℕ) → has_number o n ≡ true
+    → (c : Candidate) × (o ≡ Some c) × (c.number ≡ n)
 number_is None n h = grind (arith, nat_tests)
 number_is (Some c) n h = (c, refl, grind (arith, nat_tests))
 
-number_yes : (o : Option Candidate) (n : ℕ) (c : Candidate) → o ≡ Some c → c.number ≡ n → has_number o n ≡ true
+number_yes : (o : Option Candidate) (n : ℕ) (c : Candidate) → o ≡ Some c → c.number ≡ n
+    → has_number o n ≡ true
 number_yes None n c e m = cc
 number_yes (Some x) n c e m = let same : x ≡ c = cc in rw same (grind (arith, nat_tests))
 
 -- the earliest open candidate is one
-pub first_open-is : (all h : List Lexeme) → first_open all h < length h → (d : ℕ) × IsOpen all d (first_open all h)
+pub first_open-is : (all h : List Lexeme) → first_open all h < length h
+    → (d : ℕ) × IsOpen all d (first_open all h)
 unfolding first_open
 first_open-is all [] h = absurd (omega arith)
 first_open-is all (l ∷ h) lt =
@@ -112,7 +123,8 @@ first_open-is all (l ∷ h) lt =
     ]
 
 -- the lexeme of a candidate stands at its depth
-depth_is : (d : ℕ) (newer : List Lexeme) (l : Lexeme) (h : List Lexeme) (c : Candidate) → candidate d (newer ++ l ∷ h) ≡ Some c → c.number ≡ length h → l.depth ≡ d
+depth_is : (d : ℕ) (newer : List Lexeme) (l : Lexeme) (h : List Lexeme) (c : Candidate)
+    → candidate d (newer ++ l ∷ h) ≡ Some c → c.number ≡ length h → l.depth ≡ d
 unfolding candidate
 depth_is d [] l h c e n =
     let low = candidate_below d h c in
@@ -131,7 +143,8 @@ depth_is d (x ∷ newer) l h c e n =
     ]
 
 -- no open candidate is earlier
-first_open-least_of : (newer h : List Lexeme) (d n : ℕ) → IsOpen (newer ++ h) d n → n < length h → first_open (newer ++ h) h ≤ n
+first_open-least_of : (newer h : List Lexeme) (d n : ℕ) → IsOpen (newer ++ h) d n → n < length h
+    → first_open (newer ++ h) h ≤ n
 unfolding first_open
 first_open-least_of newer [] d n o lt = absurd (omega arith)
 first_open-least_of newer (l ∷ h) d n o lt =
@@ -155,11 +168,13 @@ first_open-least_of newer (l ∷ h) d n o lt =
           ]
     ]
 
-pub first_open-least : (h : List Lexeme) (d n : ℕ) → IsOpen h d n → n < length h → first_open h h ≤ n
+pub first_open-least : (h : List Lexeme) (d n : ℕ) → IsOpen h d n → n < length h
+    → first_open h h ≤ n
 first_open-least h d n o lt = first_open-least_of [] h d n o lt
 
 -- the earliest open candidate never goes back
-pub first_open-grows : (l : Lexeme) (h : List Lexeme) → Upto (reached h) l.reached → first_open h h ≤ first_open (l ∷ h) (l ∷ h)
+pub first_open-grows : (l : Lexeme) (h : List Lexeme) → Upto (reached h) l.reached
+    → first_open h h ≤ first_open (l ∷ h) (l ∷ h)
 first_open-grows l h further =
     let now : ℕ = first_open (l ∷ h) (l ∷ h) in
     let old = first_open-le h h in
@@ -179,7 +194,8 @@ cases_Option : {A : Type 0} (o : Option A) → (o ≡ None) ⊎ ((x : A) × (o �
 cases_Option None = inl refl
 cases_Option (Some x) = inr (x, refl)
 
-take-keyed : (l : Lexeme) (h : List Lexeme) (es : List Entry) (n : ℕ) → Upto (reached h) l.start → n ≤ first_open h h → take n (keyed l h es) ≡ take n es
+take-keyed : (l : Lexeme) (h : List Lexeme) (es : List Entry) (n : ℕ) → Upto (reached h) l.start
+    → n ≤ first_open h h → take n (keyed l h es) ≡ take n es
 take-keyed l h es n further room =
     elim (cases_Bool (is_value l.kind)) [
       | inr other ↦ rw other refl
@@ -195,16 +211,19 @@ take-keyed l h es n further room =
     ]
 
 -- one more lexeme leaves the marks of what is before the earliest open candidate
-pub take-entries : (l : Lexeme) (h : List Lexeme) (n : ℕ) → Upto (reached h) l.start → n ≤ first_open h h → take n (entries (l ∷ h)) ≡ take n (entries h)
+pub take-entries : (l : Lexeme) (h : List Lexeme) (n : ℕ) → Upto (reached h) l.start
+    → n ≤ first_open h h → take n (entries (l ∷ h)) ≡ take n (entries h)
 unfolding entries
 take-entries l h n further room =
     let old = first_open-le h h in
     let fits : n ≤ length (keyed l h (entries h)) = omega (arith, length-keyed l h (entries h), length-entries h) in
     take-append-le n (keyed l h (entries h)) _ fits ∙ take-keyed l h (entries h) n further room
 
-take-extended : (text : List ℕ) (h : List Lexeme) → ((l : Lexeme) → next text h ≡ Read l → Upto (reached h) l.start × Upto l.start l.reached)
+take-extended : (text : List ℕ) (h : List Lexeme)
+    → ((l : Lexeme) → next text h ≡ Read l → Upto (reached h) l.start × Upto l.start l.reached)
     → (n : ℕ) (x : Next) → next text h ≡ x → n ≤ first_open h h
-    → (take n (entries (extended x h)) ≡ take n (entries h)) × (first_open h h ≤ first_open (extended x h) (extended x h))
+    → (take n (entries (extended x h)) ≡ take n (entries h))
+    × (first_open h h ≤ first_open (extended x h) (extended x h))
 take-extended text h go n (Read l) e room =
     let (low, high) = go l e in
     (take-entries l h n low room, first_open-grows l h (omega (arith, low.0, high.0), omega (arith, low.1, high.1)))
@@ -212,8 +231,10 @@ take-extended text h go n (Fails p) e room = (refl, omega arith)
 take-extended text h go n Ends e room = (refl, omega arith)
 
 -- further steps leave the marks of what is before the earliest open candidate
-pub take-history : (text : List ℕ) → GoesForward text → (n k m : ℕ) → let h = history text n in m ≤ first_open h h
-    → (take m (entries (history text (k + n))) ≡ take m (entries h)) × (m ≤ first_open (history text (k + n)) (history text (k + n)))
+pub take-history : (text : List ℕ) → GoesForward text → (n k m : ℕ) → let h = history text n in
+    m ≤ first_open h h
+    → (take m (entries (history text (k + n))) ≡ take m (entries h))
+    × (m ≤ first_open (history text (k + n)) (history text (k + n)))
 unfolding history
 take-history text go n zero m room = let z : 0 + n ≡ n = omega arith in rw z (refl, room)
 take-history text go n (suc k) m room =
@@ -229,7 +250,8 @@ not_read (Fails p) h never = refl
 not_read Ends h never = refl
 
 -- nothing comes behind the end or a fault
-pub stays : (text : List ℕ) (n k : ℕ) → ((l : Lexeme) → next text (history text n) ≢ Read l) → history text (k + n) ≡ history text n
+pub stays : (text : List ℕ) (n k : ℕ) → ((l : Lexeme) → next text (history text n) ≢ Read l)
+    → history text (k + n) ≡ history text n
 unfolding history
 stays text n zero h = let z : 0 + n ≡ n = omega arith in rw z refl
 stays text n (suc k) h =
@@ -237,19 +259,22 @@ stays text n (suc k) h =
     let z : suc k + n ≡ suc (k + n) = omega arith in
     rw (z, before) (not_read (next text (history text n)) (history text n) h)
 
-pub all_is : (text : List ℕ) (n : ℕ) → n ≤ length text + 2 → ((l : Lexeme) → next text (history text n) ≢ Read l) → all text ≡ history text n
+pub all_is : (text : List ℕ) (n : ℕ) → n ≤ length text + 2
+    → ((l : Lexeme) → next text (history text n) ≢ Read l) → all text ≡ history text n
 unfolding all
 all_is text n room h =
     let k : length text + 2 - n + n ≡ length text + 2 = omega arith in
     rw k at (stays text n (length text + 2 - n) h)
 
-take-handed_out : (x : Next) (h : List Lexeme) (m : ℕ) → m ≤ first_open h h → take m (handed_out x h) ≡ take m (entries h)
+take-handed_out : (x : Next) (h : List Lexeme) (m : ℕ) → m ≤ first_open h h
+    → take m (handed_out x h) ≡ take m (entries h)
 take-handed_out (Read l) h m room = refl
 take-handed_out (Fails p) h m room = take-take m (first_open h h) (entries h) room
 take-handed_out Ends h m room = refl
 
 -- What is before the earliest open candidate is handed out as it stands.
-pub take-handed : (text : List ℕ) → GoesForward text → (n m : ℕ) → n ≤ length text + 2 → m ≤ first_open (history text n) (history text n)
+pub take-handed : (text : List ℕ) → GoesForward text → (n m : ℕ) → n ≤ length text + 2
+    → m ≤ first_open (history text n) (history text n)
     → take m (handed text) ≡ take m (entries (history text n))
 unfolding handed all
 take-handed text go n m room low =

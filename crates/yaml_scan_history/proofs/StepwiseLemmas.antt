@@ -12,26 +12,35 @@ use Rattle.yaml_scan_history.specs.Next.{Next, Read, Fails, gap_behind, place_be
 use Rattle.yaml_scan_history.specs.Stepwise.{no_colon, unless_wrong, unless_lost, of_kind, unless_missed, behind}
 use Rattle.yaml_scan_history.specs.Words.{WordText}
 
-unmissed : (o : Option yaml_mark_t) (text : List ℕ) (gap : Gap) (h : List Lexeme) (ps : List (Option ScanFault)) (x : Next)
-    → first_fault_or ps x ≡ unless_missed None text gap h → first_fault_or (colon_missing_of o (mark_at text gap.place) ∷ ps) x ≡ unless_missed o text gap h
+unmissed : (o : Option yaml_mark_t) (text : List ℕ) (gap : Gap) (h : List Lexeme)
+    (ps : List (Option ScanFault)) (x : Next)
+    → first_fault_or ps x ≡ unless_missed None text gap h
+    → first_fault_or (colon_missing_of o (mark_at text gap.place) ∷ ps) x
+    ≡ unless_missed o text gap h
 unmissed (Some start) text gap h ps x e = refl
 unmissed None text gap h ps x e = e
 
-in_place : (b : Bool) (p : ScanFault) (ps : List (Option ScanFault)) (x y : Next) → first_fault_or ps x ≡ y → first_fault_or (cond b (Some p) None ∷ ps) x ≡ cond b (Fails p) y
+in_place : (b : Bool) (p : ScanFault) (ps : List (Option ScanFault)) (x y : Next)
+    → first_fault_or ps x ≡ y → first_fault_or (cond b (Some p) None ∷ ps) x ≡ cond b (Fails p) y
 in_place true p ps x y e = refl
 in_place false p ps x y e = e
 
-kept : (o : Option yaml_mark_t) (text : List ℕ) (p : ℕ) (l : Lexeme) (h : List Lexeme) (ps : List (Option ScanFault)) (x : Next)
-    → first_fault_or ps x ≡ unless_lost None text p l h → first_fault_or (colon_missing_of o l.start ∷ ps) x ≡ unless_lost o text p l h
+kept : (o : Option yaml_mark_t) (text : List ℕ) (p : ℕ) (l : Lexeme) (h : List Lexeme)
+    (ps : List (Option ScanFault)) (x : Next)
+    → first_fault_or ps x ≡ unless_lost None text p l h
+    → first_fault_or (colon_missing_of o l.start ∷ ps) x ≡ unless_lost o text p l h
 kept (Some start) text p l h ps x e = refl
 kept None text p l h ps x e = e
 
-fresh_behind : (o : Option yaml_mark_t) (l : Lexeme) → first_fault_or (colon_missing_of o l.reached ∷ []) (Read l) ≡ (elim o as (λ _. Next) [ Some start ↦ no_colon start l.reached | None ↦ Read l ])
+fresh_behind : (o : Option yaml_mark_t) (l : Lexeme)
+    → first_fault_or (colon_missing_of o l.reached ∷ []) (Read l)
+    ≡ (elim o as (λ _. Next) [ Some start ↦ no_colon start l.reached | None ↦ Read l ])
 fresh_behind (Some start) l = refl
 fresh_behind None l = refl
 
 read : (r : Result WordText Wrong) (text : List ℕ) (l : Lexeme) (h : List Lexeme)
-    → first_fault_or (wrong_in text l.start r ∷ stale_after (with_end text l r) h ∷ []) (Read (with_end text l r)) ≡ unless_wrong r text l h
+    → first_fault_or (wrong_in text l.start r ∷ stale_after (with_end text l r) h ∷ [])
+    (Read (with_end text l r)) ≡ unless_wrong r text l h
 read (Err w) text l h = refl
 read (Ok w) text l h = fresh_behind (missed (candidate 0 (finished text l w ∷ h)) (finished text l w).reached) (finished text l w)
 
@@ -39,7 +48,9 @@ read (Ok w) text l h = fresh_behind (missed (candidate 0 (finished text l w ∷ 
 abbrev later : Kind → List ℕ → List Lexeme → List (Option ScanFault)
 later k text h = indicator_misplaced k text h ∷ candidate_lost k text h ∷ text_wrong k text h ∷ stale_after (lexeme_behind k text h) h ∷ []
 
-of_that_kind : (k : Kind) (text : List ℕ) (h : List Lexeme) → first_fault_or (later k text h) (Read (lexeme_behind k text h)) ≡ of_kind (Some k) text (gap_behind text h) h
+of_that_kind : (k : Kind) (text : List ℕ) (h : List Lexeme)
+    → first_fault_or (later k text h) (Read (lexeme_behind k text h))
+    ≡ of_kind (Some k) text (gap_behind text h) h
 of_that_kind k text h =
     let l = begun_behind k text h in
     let place = place_behind text h in
@@ -50,11 +61,13 @@ of_that_kind k text h =
     in_place (misplaced k place (allowed_behind h gap) h) (not_allowed_there k place) (candidate_lost k text h ∷ text_wrong k text h ∷ stale_after (lexeme_behind k text h) h ∷ []) (Read (lexeme_behind k text h))
     (unless_lost (lost_by l (fresh (candidate (depth h) h) place)) text gap.place l h) whole
 
-by_kind : (o : Option Kind) (text : List ℕ) (h : List Lexeme) → kind_behind text h ≡ o → coming o text h ≡ behind text (gap_behind text h) h
+by_kind : (o : Option Kind) (text : List ℕ) (h : List Lexeme) → kind_behind text h ≡ o
+    → coming o text h ≡ behind text (gap_behind text h) h
 by_kind None text h e =
     unmissed (missed (open_at 0 h) (place_behind text h)) text (gap_behind text h) h [] (Fails (no_start (place_behind text h))) (rw e refl)
 by_kind (Some k) text h e =
     unmissed (missed (open_at 0 h) (place_behind text h)) text (gap_behind text h) h (later k text h) (Read (lexeme_behind k text h)) (rw e (of_that_kind k text h))
 
-pub stepwise : (text : List ℕ) (h : List Lexeme) → coming (kind_behind text h) text h ≡ behind text (gap_behind text h) h
+pub stepwise : (text : List ℕ) (h : List Lexeme)
+    → coming (kind_behind text h) text h ≡ behind text (gap_behind text h) h
 stepwise text h = by_kind (kind_behind text h) text h refl

@@ -33,7 +33,8 @@ nothing_free : (e : ℕ) → IsFree (candidate e [])
 unfolding candidate
 nothing_free e = tt
 
-start_front : (text : List ℕ) → Front text (first_lexeme ∷ []) 0 [] (entry first_lexeme 0 opening.Nothing ∷ [])
+start_front : (text : List ℕ)
+    → Front text (first_lexeme ∷ []) 0 [] (entry first_lexeme 0 opening.Nothing ∷ [])
 unfolding Came Rises levels entries candidate
 start_front text = record { came = refl; going = refl; depth = refl; levels = refl; rises = tt; entries = refl }
 
@@ -46,7 +47,8 @@ start_stands text = record {
 
 -- ---- the end
 
-end_read : (text : List ℕ) (gap : Gap) (h : List Lexeme) (q : ℕ) (a : Bool) (w : WordText) → gap.place ≡ q → allowed_behind h gap ≡ a
+end_read : (text : List ℕ) (gap : Gap) (h : List Lexeme) (q : ℕ) (a : Bool) (w : WordText)
+    → gap.place ≡ q → allowed_behind h gap ≡ a
     → let m = mark_at text q in let l = end_at text h q a in
     kind_at (nat_lt 0 (depth h)) text q ≡ Some kinds.StreamEnd
     → word_at kinds.StreamEnd (nat_lt 0 (depth h)) l.level text q ≡ Ok w
@@ -71,7 +73,8 @@ end_read text gap h q a w place allowed kind said none lost time =
     ∙ ap (λ (r : Result WordText Wrong). unless_wrong r text l h) said
     ∙ tested_read l h time
 
-nothing_more : (text : List ℕ) (l : Lexeme) (h : List Lexeme) → l.kind ≡ kinds.StreamEnd → next text (l ∷ h) ≡ Ends
+nothing_more : (text : List ℕ) (l : Lexeme) (h : List Lexeme) → l.kind ≡ kinds.StreamEnd
+    → next text (l ∷ h) ≡ Ends
 unfolding next
 nothing_more text l h e = rw e refl
 
@@ -92,10 +95,13 @@ came_all text h came ends =
     let last : next text (history text (length h)) ≡ Ends = ap (λ (x : List Lexeme). next text x) so ∙ ends in
     last_is_all text (length h) (λ l. no_read _ l last) ∙ so
 
-remaining_of : (ts us : List Token) (f : Option Fault) → ts ≡ us → f ≡ None → let one : Remaining = record { tokens = ts; fault = f } in one ≡ record { tokens = us; fault = None }
+remaining_of : (ts us : List Token) (f : Option Fault) → ts ≡ us → f ≡ None
+    → let one : Remaining = record { tokens = ts; fault = f } in
+    one ≡ record { tokens = us; fault = None }
 remaining_of ts us f e g = rw (e, g) refl
 
-offline_ends : (s : SpelledText) (h : List Lexeme) → all s.text ≡ h → next s.text h ≡ Ends → offline s ≡ record { tokens = flat_map (spell s) (entries h); fault = None }
+offline_ends : (s : SpelledText) (h : List Lexeme) → all s.text ≡ h → next s.text h ≡ Ends
+    → offline s ≡ record { tokens = flat_map (spell s) (entries h); fault = None }
 unfolding remaining handed
 offline_ends s h whole ends =
     let last : next s.text (all s.text) ≡ Ends = ap (λ (x : List Lexeme). next s.text x) whole ∙ ends in
@@ -106,7 +112,9 @@ offline_ends s h whole ends =
 all_less : (n : ℕ) → n - 0 ≡ n
 all_less n = omega arith
 
-end_entries : (text : List ℕ) (h : List Lexeme) (ms : List ℕ) (es : List Entry) (q : ℕ) (a : Bool) → Front text h 0 ms es → let l = end_at text h q a in entries (l ∷ h) ≡ es ++ entry l (length ms) opening.Nothing ∷ []
+end_entries : (text : List ℕ) (h : List Lexeme) (ms : List ℕ) (es : List Entry) (q : ℕ) (a : Bool)
+    → Front text h 0 ms es → let l = end_at text h q a in
+    entries (l ∷ h) ≡ es ++ entry l (length ms) opening.Nothing ∷ []
 unfolding entries
 end_entries text h ms es q a f =
     let l = end_at text h q a in
@@ -122,7 +130,8 @@ no_key : (a more : Bool) → ((a && false) && more) ≡ false
 no_key true more = refl
 no_key false more = refl
 
-end_body : (s : SpelledText) (h : List Lexeme) (q : ℕ) (a : Bool) → body_in s (end_at s.text h q a) ≡ stream_end
+end_body : (s : SpelledText) (h : List Lexeme) (q : ℕ) (a : Bool)
+    → body_in s (end_at s.text h q a) ≡ stream_end
 unfolding word_at
 end_body s h q a = refl
 

@@ -23,46 +23,60 @@ use Rattle.yaml_scan_laws_levels.proofs.Pushing.{goes_on, free_push, free_in_tim
 
 -- ---- the candidates behind one lexeme more
 
-saved_more : (same saved cancel below : Bool) (c : Candidate) (rest : Option Candidate) → same ≡ true → saved ≡ true → cond same (cond saved (Some c) (cond cancel None rest)) (cond below None rest) ≡ Some c
+saved_more : (same saved cancel below : Bool) (c : Candidate) (rest : Option Candidate)
+    → same ≡ true → saved ≡ true
+    → cond same (cond saved (Some c) (cond cancel None rest)) (cond below None rest) ≡ Some c
 saved_more true true cancel below c rest e f = refl
 saved_more false saved cancel below c rest e f = absurd (cc)
 saved_more true false cancel below c rest e f = absurd (cc)
 
-kept_more : (same saved cancel below : Bool) (o rest : Option Candidate) → ((same ≡ true) × (saved ≡ false) × (cancel ≡ false)) ⊎ ((same ≡ false) × (below ≡ false)) → cond same (cond saved o (cond cancel None rest)) (cond below None rest) ≡ rest
+kept_more : (same saved cancel below : Bool) (o rest : Option Candidate)
+    → ((same ≡ true) × (saved ≡ false) × (cancel ≡ false)) ⊎ ((same ≡ false) × (below ≡ false))
+    → cond same (cond saved o (cond cancel None rest)) (cond below None rest) ≡ rest
 kept_more same saved cancel below o rest (inl (e, f, g)) = rw (e, f, g) refl
 kept_more same saved cancel below o rest (inr (e, f)) = rw (e, f) refl
 
-cancelled_more : (same saved cancel below : Bool) (o rest : Option Candidate) → same ≡ true → saved ≡ false → cancel ≡ true → cond same (cond saved o (cond cancel None rest)) (cond below None rest) ≡ None
+cancelled_more : (same saved cancel below : Bool) (o rest : Option Candidate) → same ≡ true
+    → saved ≡ false → cancel ≡ true
+    → cond same (cond saved o (cond cancel None rest)) (cond below None rest) ≡ None
 cancelled_more same saved cancel below o rest e f g = rw (e, f, g) refl
 
-other_more : (same saved cancel below : Bool) (o rest : Option Candidate) → same ≡ false → IsFree rest → IsFree (cond same (cond saved o (cond cancel None rest)) (cond below None rest))
+other_more : (same saved cancel below : Bool) (o rest : Option Candidate) → same ≡ false
+    → IsFree rest → IsFree (cond same (cond saved o (cond cancel None rest)) (cond below None rest))
 other_more same saved cancel true o rest e f = rw e tt
 other_more same saved cancel false o rest e f = rw e f
 
 apart : (a b : ℕ) → (b ≡ a → ⊥) → (a == b) ≡ false
 apart a b f = elim (cases_Bool (a == b)) [ inl e ↦ let g : b ≡ a = grind (arith, nat_tests) in absurd (f g) | inr e ↦ e ]
 
-saved_slot : (l : Lexeme) (h : List Lexeme) (d : ℕ) → l.depth ≡ d → l.saved ≡ true → candidate d (l ∷ h) ≡ Some (record { number = length h; lexeme = l })
+saved_slot : (l : Lexeme) (h : List Lexeme) (d : ℕ) → l.depth ≡ d → l.saved ≡ true
+    → candidate d (l ∷ h) ≡ Some (record { number = length h; lexeme = l })
 unfolding candidate
 saved_slot l h d e s = saved_more (l.depth == d) l.saved (cancels l.kind) (nat_lt l.depth d) (record { number = length h; lexeme = l }) (candidate d h) (eq-eqb l.depth d e) s
 
-other_slot : (l : Lexeme) (h : List Lexeme) (e : ℕ) → (e ≡ l.depth → ⊥) → IsFree (candidate e h) → IsFree (candidate e (l ∷ h))
+other_slot : (l : Lexeme) (h : List Lexeme) (e : ℕ) → (e ≡ l.depth → ⊥) → IsFree (candidate e h)
+    → IsFree (candidate e (l ∷ h))
 unfolding candidate
 other_slot l h e f r = other_more (l.depth == e) l.saved (cancels l.kind) (nat_lt l.depth e) (Some (record { number = length h; lexeme = l })) (candidate e h) (apart l.depth e f) r
 
-kept_slot : (l : Lexeme) (h : List Lexeme) (d : ℕ) → ((l.depth ≡ d) × (l.saved ≡ false) × (cancels l.kind ≡ false)) ⊎ (d < l.depth) → candidate d (l ∷ h) ≡ candidate d h
+kept_slot : (l : Lexeme) (h : List Lexeme) (d : ℕ)
+    → ((l.depth ≡ d) × (l.saved ≡ false) × (cancels l.kind ≡ false)) ⊎ (d < l.depth)
+    → candidate d (l ∷ h) ≡ candidate d h
 unfolding candidate
 kept_slot l h d (inl (e, f, g)) = kept_more (l.depth == d) l.saved (cancels l.kind) (nat_lt l.depth d) (Some (record { number = length h; lexeme = l })) (candidate d h) (inl (eq-eqb l.depth d e, f, g))
 kept_slot l h d (inr e) = kept_more (l.depth == d) l.saved (cancels l.kind) (nat_lt l.depth d) (Some (record { number = length h; lexeme = l })) (candidate d h) (inr (grind (arith, nat_tests), grind (arith, nat_tests)))
 
-pub cancelled_slot : (l : Lexeme) (h : List Lexeme) (d : ℕ) → l.depth ≡ d → l.saved ≡ false → cancels l.kind ≡ true → candidate d (l ∷ h) ≡ None
+pub cancelled_slot : (l : Lexeme) (h : List Lexeme) (d : ℕ) → l.depth ≡ d → l.saved ≡ false
+    → cancels l.kind ≡ true → candidate d (l ∷ h) ≡ None
 unfolding candidate
 cancelled_slot l h d e f g = cancelled_more (l.depth == d) l.saved (cancels l.kind) (nat_lt l.depth d) (Some (record { number = length h; lexeme = l })) (candidate d h) (eq-eqb l.depth d e) f g
 
-some_in_time : (o : Option Candidate) (c : Candidate) (m : yaml_mark_t) → o ≡ Some c → is_fresh c.lexeme.start m ≡ true → InTime o m
+some_in_time : (o : Option Candidate) (c : Candidate) (m : yaml_mark_t) → o ≡ Some c
+    → is_fresh c.lexeme.start m ≡ true → InTime o m
 some_in_time o c m e f = let P : Option Candidate → Type 0 = λ x. InTime x m in subst P (sym e) (inr f)
 
-holds_in_time : (h : List Lexeme) (d : ℕ) (c : Candidate) (m : yaml_mark_t) → Holds h d c → is_fresh c.lexeme.start m ≡ true → InTime (candidate 0 h) m
+holds_in_time : (h : List Lexeme) (d : ℕ) (c : Candidate) (m : yaml_mark_t) → Holds h d c
+    → is_fresh c.lexeme.start m ≡ true → InTime (candidate 0 h) m
 holds_in_time h zero c m holds e = some_in_time (candidate 0 h) c m holds.slot e
 holds_in_time h (suc d) c m holds e = free_in_time (candidate 0 h) m (holds.others 0 (λ x. omega (arith, x)))
 
@@ -92,7 +106,9 @@ unkeyed : (v : Bool) (xs es : List Entry) → v ≡ false → cond v xs es ≡ e
 unkeyed false xs es e = refl
 unkeyed true xs es e = absurd (cc)
 
-number_same : (n m : ℕ) (l : Lexeme) → n ≡ m → let a : Candidate = record { number = n; lexeme = l } in let b : Candidate = record { number = m; lexeme = l } in Some a ≡ Some b
+number_same : (n m : ℕ) (l : Lexeme) → n ≡ m
+    → let a : Candidate = record { number = n; lexeme = l } in
+    let b : Candidate = record { number = m; lexeme = l } in Some a ≡ Some b
 number_same n m l e = ap (λ (x : ℕ). Some (let c : Candidate = record { number = x; lexeme = l } in c)) e
 
 pub key_begins : KeyBegins
@@ -129,7 +145,8 @@ key_begins text h d ms ls n es k q w f idle may meets leaves near =
 no_less : (n : ℕ) → n - n ≡ 0
 no_less n = omega arith
 
-unlost : (saved cancel value : Bool) → saved ≡ false → cancel ≡ false → (saved || (cancel && not value)) ≡ true → ⊥
+unlost : (saved cancel value : Bool) → saved ≡ false → cancel ≡ false
+    → (saved || (cancel && not value)) ≡ true → ⊥
 unlost false false value e f g = cc
 unlost true cancel value e f g = cc
 unlost false true value e f g = cc
@@ -137,11 +154,15 @@ unlost false true value e f g = cc
 apart_less : (d e : ℕ) → d < e → d ≡ e → ⊥
 apart_less d e x y = omega (arith, x, y)
 
-free_in : (h : List Lexeme) (k : Kind) (d e : ℕ) (a : Bool) (c : Candidate) → Holds h d c → IsInKey k d e a → ((a && may_be_key k) || (cancels k && not (is_value k))) ≡ true → IsFree (candidate e h)
+free_in : (h : List Lexeme) (k : Kind) (d e : ℕ) (a : Bool) (c : Candidate) → Holds h d c
+    → IsInKey k d e a → ((a && may_be_key k) || (cancels k && not (is_value k))) ≡ true
+    → IsFree (candidate e h)
 free_in h k d e a c holds (inl (x, y, z)) g = absurd (unlost (a && may_be_key k) (cancels k) (is_value k) y z g)
 free_in h k d e a c holds (inr x) g = holds.others e (apart_less d e x)
 
-pub kept_in : (l : Lexeme) (h : List Lexeme) (k : Kind) (d e : ℕ) (a : Bool) → l.kind ≡ k → l.depth ≡ e → l.saved ≡ (a && may_be_key k) → IsInKey k d e a → candidate d (l ∷ h) ≡ candidate d h
+pub kept_in : (l : Lexeme) (h : List Lexeme) (k : Kind) (d e : ℕ) (a : Bool) → l.kind ≡ k
+    → l.depth ≡ e → l.saved ≡ (a && may_be_key k) → IsInKey k d e a
+    → candidate d (l ∷ h) ≡ candidate d h
 kept_in l h k d e a kind deep saved (inl (x, y, z)) = kept_slot l h d (inl (deep ∙ x, saved ∙ y, ap (λ (i : Kind). cancels i) kind ∙ z))
 kept_in l h k d e a kind deep saved (inr x) = kept_slot l h d (inr (omega (arith, deep, x)))
 
@@ -180,12 +201,14 @@ key_goes_on text h d e c ms es k q a w f holds stays meets right lone in_key nea
 
 -- ---- a key ends
 
-pub mark_there : (ls : List ℕ) (done : List Entry) (first : Entry) (rest : List Entry) → mark_key ls (done ++ first ∷ rest) (length done) ≡ done ++ as_key ls first ∷ rest
+pub mark_there : (ls : List ℕ) (done : List Entry) (first : Entry) (rest : List Entry)
+    → mark_key ls (done ++ first ∷ rest) (length done) ≡ done ++ as_key ls first ∷ rest
 unfolding mark_key
 mark_there ls [] first rest = refl
 mark_there ls (x ∷ xs) first rest = ap (λ (zs : List Entry). x ∷ zs) (mark_there ls xs first rest)
 
-pub still_fresh : (o : Option Candidate) (c : Candidate) (m : yaml_mark_t) → o ≡ Some c → is_fresh c.lexeme.start m ≡ true → fresh o m ≡ Some c
+pub still_fresh : (o : Option Candidate) (c : Candidate) (m : yaml_mark_t) → o ≡ Some c
+    → is_fresh c.lexeme.start m ≡ true → fresh o m ≡ Some c
 still_fresh o c m e f = ap (λ (x : Option Candidate). fresh x m) e ∙ ap (λ (b : Bool). cond b (Some c) None) f
 
 no_save : (a : Bool) → ((a && false) || false) ≡ true → ⊥
@@ -195,7 +218,8 @@ no_save false e = cc
 gone : (o : Option Candidate) → o ≡ None → IsFree o
 gone o e = let P : Option Candidate → Type 0 = λ x. IsFree x in subst P (sym e) tt
 
-idle_behind : (l : Lexeme) (h : List Lexeme) (d : ℕ) (c : Candidate) → Holds h d c → l.depth ≡ d → candidate d (l ∷ h) ≡ None → Idle (l ∷ h)
+idle_behind : (l : Lexeme) (h : List Lexeme) (d : ℕ) (c : Candidate) → Holds h d c → l.depth ≡ d
+    → candidate d (l ∷ h) ≡ None → Idle (l ∷ h)
 idle_behind l h d c holds deep none = λ e. elim (cases_Bool (d == e)) [
   | inl x ↦ let same : d ≡ e = grind (arith, nat_tests) in let P : ℕ → Type 0 = λ i. IsFree (candidate i (l ∷ h)) in subst P same (gone (candidate d (l ∷ h)) none)
   | inr x ↦ let far : d ≡ e → ⊥ = λ y. let z = eq-eqb d e y in cc in other_slot l h e (λ y. far (sym (y ∙ deep))) (holds.others e far)

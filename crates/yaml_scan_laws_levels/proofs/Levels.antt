@@ -36,7 +36,8 @@ unfolding Rises
 none_passes m [] r = refl
 none_passes m (x ∷ xs) (e, r) = rw (stops x m e) (none_passes m xs (weaker m x xs (omega (arith, e)) r))
 
-pub cuts : (m b : ℕ) (ls more : List ℕ) → Rises b (ls ++ more) → indent ls ≤ m → Rises m more → filter (λ x. nat_le x m) (ls ++ more) ≡ ls
+pub cuts : (m b : ℕ) (ls more : List ℕ) → Rises b (ls ++ more) → indent ls ≤ m → Rises m more
+    → filter (λ x. nat_le x m) (ls ++ more) ≡ ls
 unfolding Rises indent
 cuts m b [] more r e above = none_passes m more above
 cuts m b (c ∷ []) more (f, r) e above = rw (passes c m e) (ap (λ (xs : List ℕ). c ∷ xs) (none_passes m more above))
@@ -54,10 +55,12 @@ rises_all m b (c ∷ d ∷ ls) (f, r) e =
     let under : c ≤ m = omega (arith, up, e) in
     rw (passes c m under) (ap (λ (xs : List ℕ). c ∷ xs) (rises_all m c (d ∷ ls) r e))
 
-left_block : (k : Kind) (c : ℕ) (ms : List ℕ) → is_outside k ≡ false → left_by k 0 c ms ≡ filter (λ x. nat_le x (margin_at c)) ms
+left_block : (k : Kind) (c : ℕ) (ms : List ℕ) → is_outside k ≡ false
+    → left_by k 0 c ms ≡ filter (λ x. nat_le x (margin_at c)) ms
 left_block k c ms e = rw e refl
 
-pub left_outside : (k : Kind) (c : ℕ) (ms : List ℕ) → is_outside k ≡ true → Rises 0 ms → left_by k 0 c ms ≡ []
+pub left_outside : (k : Kind) (c : ℕ) (ms : List ℕ) → is_outside k ≡ true → Rises 0 ms
+    → left_by k 0 c ms ≡ []
 left_outside k c ms e r = rw e (none_passes 0 ms r)
 
 left_inside : (k : Kind) (d c : ℕ) (ms : List ℕ) → nat_lt 0 d ≡ true → left_by k d c ms ≡ ms
@@ -80,7 +83,8 @@ left_closes c ls more r e above = record {
   rises = rises_front 0 ls more r;
 }
 
-push_rises : (b : ℕ) (ls : List ℕ) (m : ℕ) → Rises b ls → b < m → indent ls < m → Rises b (ls ++ m ∷ [])
+push_rises : (b : ℕ) (ls : List ℕ) (m : ℕ) → Rises b ls → b < m → indent ls < m
+    → Rises b (ls ++ m ∷ [])
 unfolding Rises indent
 push_rises b [] m r e f = (e, tt)
 push_rises b (c ∷ []) m (g, r) e f = (g, (f, tt))
@@ -98,11 +102,14 @@ opened_rises true m ls r = elim (cases_Bool (nat_lt (indent ls) m)) [
   | inr e ↦ rw e r
 ]
 
-right_by : (deep out : Bool) (k : Kind) (c : ℕ) (ms : List ℕ) → out ≡ false → Rises 0 ms → (deep ≡ true) ⊎ (indent ms ≤ c) → cond deep ms (filter (λ x. nat_le x (cond out 0 (margin_at c))) ms) ≡ ms
+right_by : (deep out : Bool) (k : Kind) (c : ℕ) (ms : List ℕ) → out ≡ false → Rises 0 ms
+    → (deep ≡ true) ⊎ (indent ms ≤ c)
+    → cond deep ms (filter (λ x. nat_le x (cond out 0 (margin_at c))) ms) ≡ ms
 right_by true out k c ms e r i = refl
 right_by false false k c ms e r (inl i) = absurd (cc)
 right_by false false k c ms e r (inr i) = rises_all (margin_at c) 0 ms r (omega (arith, i))
 right_by false true k c ms e r i = absurd (cc)
 
-pub stays_right : (k : Kind) (d c : ℕ) (ms : List ℕ) → is_outside k ≡ false → Rises 0 ms → (nat_lt 0 d ≡ true) ⊎ (indent ms ≤ c) → left_by k d c ms ≡ ms
+pub stays_right : (k : Kind) (d c : ℕ) (ms : List ℕ) → is_outside k ≡ false → Rises 0 ms
+    → (nat_lt 0 d ≡ true) ⊎ (indent ms ≤ c) → left_by k d c ms ≡ ms
 stays_right k d c ms e r i = right_by (nat_lt 0 d) (is_outside k) k c ms e r i

@@ -42,7 +42,8 @@ first_may [] x m = m
 first_may (Some p ∷ ps) x m = tt
 first_may (None ∷ ps) x m = first_may ps x m
 
-word_may : (text : List ℕ) (l : Lexeme) (r : Result WordText Wrong) → MayBeKey l → MayBeKey (with_end text l r)
+word_may : (text : List ℕ) (l : Lexeme) (r : Result WordText Wrong) → MayBeKey l
+    → MayBeKey (with_end text l r)
 word_may text l (Err w) m = m
 word_may text l (Ok w) m =
     elim (cases_Bool (is_end l.kind)) [
@@ -77,11 +78,13 @@ history_may text (suc n) = extended_may (next text (history text n)) (history te
 
 -- ---- numbers
 
-number_none : (o : Option Candidate) (n : ℕ) → ((c : Candidate) → o ≡ Some c → c.number < n) → has_number o n ≡ false
+number_none : (o : Option Candidate) (n : ℕ) → ((c : Candidate) → o ≡ Some c → c.number < n)
+    → has_number o n ≡ false
 number_none None n f = refl
 number_none (Some c) n f = let low = f c refl in grind (arith, nat_tests)
 
-found_below : (l : Lexeme) (h : List Lexeme) (c : Candidate) → found_by l h ≡ Some c → c.number < length h
+found_below : (l : Lexeme) (h : List Lexeme) (c : Candidate) → found_by l h ≡ Some c
+    → c.number < length h
 found_below l h c e = candidate_below l.depth h c (fresh_is _ _ c e)
 
 and_none : (a b : Bool) → b ≡ false → (a && b) ≡ false
@@ -100,7 +103,8 @@ is_key_none n (l ∷ h) le =
     let no = finds_none l h n (omega (arith, le)) in
     rw no (is_key_none n h (omega (arith, le)))
 
-or_below : (o : Option Candidate) (n : ℕ) → ((c : Candidate) → o ≡ Some c → c.number < n) → number_or o n ≤ n
+or_below : (o : Option Candidate) (n : ℕ) → ((c : Candidate) → o ≡ Some c → c.number < n)
+    → number_or o n ≤ n
 or_below None n f = omega arith
 or_below (Some c) n f = let low = f c refl in omega (arith, low)
 
@@ -112,7 +116,8 @@ begins_below l h =
     ]
 
 -- a lexeme that opens no level there
-other_level : (n : ℕ) (l : Lexeme) (h : List Lexeme) → (opens_level l h && begins_with l h == n) ≡ false → level_at n (l ∷ h) ≡ level_at n h
+other_level : (n : ℕ) (l : Lexeme) (h : List Lexeme)
+    → (opens_level l h && begins_with l h == n) ≡ false → level_at n (l ∷ h) ≡ level_at n h
 unfolding level_at
 other_level n l h e = rw e refl
 
@@ -129,8 +134,11 @@ level_none n (l ∷ h) le =
 eq_self : (n : ℕ) → (n == n) ≡ true
 eq_self n = grind (arith, nat_tests)
 
-own_by : (o : Option Candidate) (l : Lexeme) (ls : List ℕ) (n : ℕ) → ((c : Candidate) → o ≡ Some c → c.number < n)
-    → cond (((is_start l.kind && not (nat_lt 0 l.depth)) && nat_lt (indent ls) (opens_at o l.kind l.start.column)) && cond (is_value l.kind) (number_or o n) n == n) (level_of l.kind) opening.Nothing
+own_by : (o : Option Candidate) (l : Lexeme) (ls : List ℕ) (n : ℕ)
+    → ((c : Candidate) → o ≡ Some c → c.number < n)
+    → cond (((is_start l.kind && not (nat_lt 0 l.depth))
+    && nat_lt (indent ls) (opens_at o l.kind l.start.column))
+    && cond (is_value l.kind) (number_or o n) n == n) (level_of l.kind) opening.Nothing
     ≡ opens_of o l ls
 own_by None l ls n f =
     let here = eq_self n in
@@ -162,7 +170,8 @@ own_by (Some c) l ls n f =
       ]
     ]
 
-own_level : (l : Lexeme) (h : List Lexeme) → level_at (length h) (l ∷ h) ≡ opens_of (found_by l h) l (inside l h)
+own_level : (l : Lexeme) (h : List Lexeme)
+    → level_at (length h) (l ∷ h) ≡ opens_of (found_by l h) l (inside l h)
 unfolding level_at
 own_level l h =
     let none = level_none (length h) h (omega arith) in
@@ -193,10 +202,12 @@ value_starts : (k : Kind) → is_value k ≡ true → (is_start k ≡ true) × (
 value_starts kinds.ValueMark e = (refl, refl)
 value_starts k e = absurd (cc)
 
-first_chosen : (a b : Bool) (x y z : Option Candidate) → a ≡ true → b ≡ true → cond a (cond b x y) z ≡ x
+first_chosen : (a b : Bool) (x y z : Option Candidate) → a ≡ true → b ≡ true
+    → cond a (cond b x y) z ≡ x
 first_chosen a b x y z p q = rw (p, q) refl
 
-saved_found : (d : ℕ) (y : Lexeme) (t : List Lexeme) (c : Candidate) → (y.depth == d) ≡ true → y.saved ≡ true → candidate d (y ∷ t) ≡ Some c
+saved_found : (d : ℕ) (y : Lexeme) (t : List Lexeme) (c : Candidate) → (y.depth == d) ≡ true
+    → y.saved ≡ true → candidate d (y ∷ t) ≡ Some c
     → let own : Candidate = record { number = length t; lexeme = y } in own ≡ c
 unfolding candidate
 saved_found d y t c same saved e =
@@ -205,7 +216,8 @@ saved_found d y t c same saved e =
     cc
 
 -- no other level begins with it
-unlevelled : (d : ℕ) (h : List Lexeme) (c : Candidate) → candidate d h ≡ Some c → AllMay h → level_at c.number h ≡ opening.Nothing
+unlevelled : (d : ℕ) (h : List Lexeme) (c : Candidate) → candidate d h ≡ Some c → AllMay h
+    → level_at c.number h ≡ opening.Nothing
 unfolding candidate
 unlevelled d [] c e a = absurd (cc)
 unlevelled d (y ∷ t) c e (m, a) =
@@ -231,7 +243,8 @@ unlevelled d (y ∷ t) c e (m, a) =
     ]
 
 -- it is the one of that number, at that depth
-found_is : (d : ℕ) (newer : List Lexeme) (x : Lexeme) (t : List Lexeme) (c : Candidate) → candidate d (newer ++ x ∷ t) ≡ Some c → c.number ≡ length t → (c.lexeme ≡ x) × (x.depth ≡ d)
+found_is : (d : ℕ) (newer : List Lexeme) (x : Lexeme) (t : List Lexeme) (c : Candidate)
+    → candidate d (newer ++ x ∷ t) ≡ Some c → c.number ≡ length t → (c.lexeme ≡ x) × (x.depth ≡ d)
 unfolding candidate
 found_is d [] x t c e n =
     let low = candidate_below d t c in
@@ -270,16 +283,19 @@ entries_told whole [] = []
 entries_told whole (l ∷ h) = entries_told whole h ++ entry_told whole l h ∷ []
 
 entry_is : (l : Lexeme) (n : ℕ) (a b : Opens) (j k : Bool) → a ≡ b → j ≡ k
-    → let x : Entry = record { lexeme = l; ends = n; opens = a; key = j } in let y : Entry = record { lexeme = l; ends = n; opens = b; key = k } in x ≡ y
+    → let x : Entry = record { lexeme = l; ends = n; opens = a; key = j } in
+    let y : Entry = record { lexeme = l; ends = n; opens = b; key = k } in x ≡ y
 entry_is l n a b j k p q = cc
 
-not_there : (l : Lexeme) (h : List Lexeme) (n : ℕ) → (begins_with l h == n) ≡ false → finds l h n ≡ false
+not_there : (l : Lexeme) (h : List Lexeme) (n : ℕ) → (begins_with l h == n) ≡ false
+    → finds l h n ≡ false
     → (level_at n (l ∷ h) ≡ level_at n h) × (is_key n (l ∷ h) ≡ is_key n h)
 unfolding is_key
 not_there l h n far none = (other_level n l h (and_none (opens_level l h) (begins_with l h == n) far), rw none refl)
 
 -- a lexeme that finds none leaves all
-all_left : (l : Lexeme) (h : List Lexeme) → ((n : ℕ) → finds l h n ≡ false) → begins_with l h ≡ length h → (t : List Lexeme) → length t ≤ length h
+all_left : (l : Lexeme) (h : List Lexeme) → ((n : ℕ) → finds l h n ≡ false)
+    → begins_with l h ≡ length h → (t : List Lexeme) → length t ≤ length h
     → entries_told h t ≡ entries_told (l ∷ h) t
 all_left l h none at [] le = refl
 all_left l h none at (x ∷ t) le =
@@ -309,8 +325,12 @@ length_told whole (l ∷ h) =
     let more = length-append (entries_told whole h) (entry_told whole l h ∷ []) in
     omega (arith, before, more)
 
-opens_there : (l : Lexeme) (h : List Lexeme) (c : Candidate) (o : Option Candidate) (ls : List ℕ) → is_value l.kind ≡ true → o ≡ Some c → c.lexeme.depth ≡ l.depth
-    → cond (((is_start l.kind && not (nat_lt 0 l.depth)) && nat_lt (indent ls) (opens_at o l.kind l.start.column)) && cond (is_value l.kind) (number_or o (length h)) (length h) == c.number) (level_of l.kind) opening.Nothing
+opens_there : (l : Lexeme) (h : List Lexeme) (c : Candidate) (o : Option Candidate) (ls : List ℕ)
+    → is_value l.kind ≡ true → o ≡ Some c → c.lexeme.depth ≡ l.depth
+    → cond (((is_start l.kind && not (nat_lt 0 l.depth))
+    && nat_lt (indent ls) (opens_at o l.kind l.start.column))
+    && cond (is_value l.kind) (number_or o (length h)) (length h) == c.number) (level_of l.kind)
+    opening.Nothing
     ≡ start_of c.lexeme.depth (margin_at c.lexeme.start.column) ls opening.Mapping
 opens_there l h c None ls v e d = absurd (cc)
 opens_there l h c (Some x) ls v e d =
@@ -322,8 +342,10 @@ opens_there l h c (Some x) ls v e d =
       | inr r ↦ rw (same, starts, maps, v, here, d, r) refl
     ]
 
-key_there : (l : Lexeme) (h : List Lexeme) (c : Candidate) → is_value l.kind ≡ true → found_by l h ≡ Some c → AllMay h → c.lexeme.depth ≡ l.depth
-    → (level_at c.number (l ∷ h) ≡ start_of c.lexeme.depth (margin_at c.lexeme.start.column) (inside l h) opening.Mapping) × (is_key c.number (l ∷ h) ≡ true)
+key_there : (l : Lexeme) (h : List Lexeme) (c : Candidate) → is_value l.kind ≡ true
+    → found_by l h ≡ Some c → AllMay h → c.lexeme.depth ≡ l.depth
+    → (level_at c.number (l ∷ h) ≡ start_of c.lexeme.depth (margin_at c.lexeme.start.column)
+    (inside l h) opening.Mapping) × (is_key c.number (l ∷ h) ≡ true)
 unfolding level_at is_key
 key_there l h c v f a d =
     let none = unlevelled l.depth h c (fresh_is _ _ c f) a in
@@ -331,7 +353,8 @@ key_there l h c v f a d =
     (rw none (opens_there l h c (found_by l h) (inside l h) v f d), rw (v, f, here) refl)
 
 -- a `:` marks the one that it finds
-one_marked : (l : Lexeme) (h : List Lexeme) (c : Candidate) → is_value l.kind ≡ true → found_by l h ≡ Some c → AllMay h → (newer t : List Lexeme) → newer ++ t ≡ h
+one_marked : (l : Lexeme) (h : List Lexeme) (c : Candidate) → is_value l.kind ≡ true
+    → found_by l h ≡ Some c → AllMay h → (newer t : List Lexeme) → newer ++ t ≡ h
     → mark_key (inside l h) (entries_told h t) c.number ≡ entries_told (l ∷ h) t
 unfolding mark_key
 one_marked l h c v f a newer [] e = refl
@@ -343,7 +366,9 @@ one_marked l h c v f a newer (x ∷ t) e =
     ∙ ap (λ (n : ℕ). entries_told (l ∷ h) t ++ cond (c.number == n) (as_key (inside l h) (entry_told h x t)) (entry_told h x t) ∷ []) many
     ∙ ap (λ (y : Entry). entries_told (l ∷ h) t ++ y ∷ []) (this (cases_Bool (c.number == length t)))
   where
-    this : ((c.number == length t) ≡ true) ⊎ ((c.number == length t) ≡ false) → cond (c.number == length t) (as_key (inside l h) (entry_told h x t)) (entry_told h x t) ≡ entry_told (l ∷ h) x t
+    this : ((c.number == length t) ≡ true) ⊎ ((c.number == length t) ≡ false)
+        → cond (c.number == length t) (as_key (inside l h) (entry_told h x t)) (entry_told h x t)
+        ≡ entry_told (l ∷ h) x t
     this (inl y) =
         let n : c.number ≡ length t = grind (arith, nat_tests) in
         let (is, deep) = found_is l.depth newer x t c (ap (λ (z : List Lexeme). candidate l.depth z) e ∙ fresh_is _ _ c f) n in
@@ -358,14 +383,16 @@ one_marked l h c v f a newer (x ∷ t) e =
         let (opens, key) = not_there l h (length t) far no in
         rw y (entry_is x (closes x t) _ _ _ _ (sym opens) (sym key))
 
-keyed_told : (l : Lexeme) (h : List Lexeme) → AllMay h → (o : Option Candidate) → found_by l h ≡ o → keyed l h (entries_told h h) ≡ entries_told (l ∷ h) h
+keyed_told : (l : Lexeme) (h : List Lexeme) → AllMay h → (o : Option Candidate) → found_by l h ≡ o
+    → keyed l h (entries_told h h) ≡ entries_told (l ∷ h) h
 keyed_told l h a o f =
     elim (cases_Bool (is_value l.kind)) [
       | inr v ↦ rw v (all_left l h (λ n. rw v refl) (rw v refl) h (omega arith))
       | inl v ↦ rw v (by_found o f v)
     ]
   where
-    by_found : (p : Option Candidate) → found_by l h ≡ p → is_value l.kind ≡ true → marked (found_by l h) (inside l h) (entries_told h h) ≡ entries_told (l ∷ h) h
+    by_found : (p : Option Candidate) → found_by l h ≡ p → is_value l.kind ≡ true
+        → marked (found_by l h) (inside l h) (entries_told h h) ≡ entries_told (l ∷ h) h
     by_found None e v = rw e (all_left l h (λ n. rw (v, e) refl) (rw (v, e) refl) h (omega arith))
     by_found (Some c) e v = rw e (one_marked l h c v e a [] h refl)
 
@@ -379,12 +406,14 @@ entries_are (l ∷ h) (m, a) =
 
 -- ---- tokens
 
-own_tokens_are : (s : SpelledText) (whole : List Lexeme) (l : Lexeme) (h : List Lexeme) (k : Bool) → is_key (length h) whole ≡ k → spell s (entry_told whole l h) ≡ tokens_of s whole l h
+own_tokens_are : (s : SpelledText) (whole : List Lexeme) (l : Lexeme) (h : List Lexeme) (k : Bool)
+    → is_key (length h) whole ≡ k → spell s (entry_told whole l h) ≡ tokens_of s whole l h
 own_tokens_are s whole l h true e = rw e refl
 own_tokens_are s whole l h false e = rw e refl
 
 -- those of all, where none is lost
-none_lost : (s : SpelledText) (whole : List Lexeme) (m : ℕ) (h : List Lexeme) → length h ≤ m → flat_map (spell s) (entries_told whole h) ≡ tokens_before s whole m h
+none_lost : (s : SpelledText) (whole : List Lexeme) (m : ℕ) (h : List Lexeme) → length h ≤ m
+    → flat_map (spell s) (entries_told whole h) ≡ tokens_before s whole m h
 unfolding tokens_before
 none_lost s whole m [] le = refl
 none_lost s whole m (l ∷ h) le =
@@ -397,14 +426,16 @@ none_lost s whole m (l ∷ h) le =
 
 -- what is taken of a list without its last, and the front of what is dropped
 front_taken : (m : ℕ) (es : List Entry) (e : Entry) → m < length es
-    → (take m (es ++ e ∷ []) ≡ take m es) × (front_ends (drop m (es ++ e ∷ [])) ≡ front_ends (drop m es))
+    → (take m (es ++ e ∷ []) ≡ take m es)
+    × (front_ends (drop m (es ++ e ∷ [])) ≡ front_ends (drop m es))
 front_taken m [] e lt = absurd (omega arith)
 front_taken zero (x ∷ es) e lt = (refl, refl)
 front_taken (suc m) (x ∷ es) e lt =
     let (a, b) = front_taken m es e (omega (arith, lt)) in
     (ap (λ (r : List Entry). x ∷ r) a, b)
 
-all_taken : (m : ℕ) (es : List Entry) → length es ≤ m → (take m es ≡ es) × (front_ends (drop m es) ≡ [])
+all_taken : (m : ℕ) (es : List Entry) → length es ≤ m
+    → (take m es ≡ es) × (front_ends (drop m es) ≡ [])
 all_taken zero [] le = (refl, refl)
 all_taken (suc m) [] le = (refl, refl)
 all_taken zero (x ∷ es) le = absurd (omega arith)
@@ -412,7 +443,8 @@ all_taken (suc m) (x ∷ es) le =
     let (a, b) = all_taken m es (omega (arith, le)) in
     (ap (λ (r : List Entry). x ∷ r) a, b)
 
-last_taken : (es : List Entry) (e : Entry) → (take (length es) (es ++ e ∷ []) ≡ es) × (drop (length es) (es ++ e ∷ []) ≡ e ∷ [])
+last_taken : (es : List Entry) (e : Entry)
+    → (take (length es) (es ++ e ∷ []) ≡ es) × (drop (length es) (es ++ e ∷ []) ≡ e ∷ [])
 last_taken [] e = (refl, refl)
 last_taken (x ∷ es) e =
     let (a, b) = last_taken es e in
@@ -421,7 +453,8 @@ last_taken (x ∷ es) e =
 abbrev taken : SpelledText → ℕ → List Entry → List Token
 taken s m es = flat_map (spell s) (take m es) ++ front_ends (drop m es)
 
-some_lost : (s : SpelledText) (whole : List Lexeme) (m : ℕ) (h : List Lexeme) → m < length h → taken s m (entries_told whole h) ≡ tokens_before s whole m h
+some_lost : (s : SpelledText) (whole : List Lexeme) (m : ℕ) (h : List Lexeme) → m < length h
+    → taken s m (entries_told whole h) ≡ tokens_before s whole m h
 unfolding tokens_before
 some_lost s whole m [] lt = absurd (omega arith)
 some_lost s whole m (l ∷ h) lt =
@@ -450,7 +483,8 @@ some_lost s whole m (l ∷ h) lt =
           ∙ sym (rw (near, same) refl)
     ]
 
-lost : (s : SpelledText) (m : ℕ) (h : List Lexeme) → taken s m (entries_told h h) ≡ tokens_before s h m h
+lost : (s : SpelledText) (m : ℕ) (h : List Lexeme)
+    → taken s m (entries_told h h) ≡ tokens_before s h m h
 lost s m h =
     elim (cases_lt m (length h)) [
       | inl below ↦ some_lost s h m h below
@@ -462,13 +496,15 @@ lost s m h =
           ∙ none_lost s h m h past
     ]
 
-unlost : (s : SpelledText) (h : List Lexeme) → AllMay h → flat_map (spell s) (entries h) ++ [] ≡ tokens_before s h (length h) h
+unlost : (s : SpelledText) (h : List Lexeme) → AllMay h
+    → flat_map (spell s) (entries h) ++ [] ≡ tokens_before s h (length h) h
 unlost s h a =
     append-nil (flat_map (spell s) (entries h))
     ∙ ap (λ (es : List Entry). flat_map (spell s) es) (entries_are h a)
     ∙ none_lost s h (length h) h (omega arith)
 
-by_next : (s : SpelledText) (x : Next) (h : List Lexeme) → AllMay h → flat_map (spell s) (handed_out x h) ++ kept_of x h ≡ tokens_before s h (lost_from x h) h
+by_next : (s : SpelledText) (x : Next) (h : List Lexeme) → AllMay h
+    → flat_map (spell s) (handed_out x h) ++ kept_of x h ≡ tokens_before s h (lost_from x h) h
 by_next s (Read l) h a = unlost s h a
 by_next s Ends h a = unlost s h a
 by_next s (Fails p) h a = ap (λ (es : List Entry). taken s (first_open h h) es) (entries_are h a) ∙ lost s (first_open h h) h
@@ -477,7 +513,9 @@ all_may : (text : List ℕ) → AllMay (all text)
 unfolding all
 all_may text = history_may text (length text + 2)
 
-remaining_is : (a b : List Token) (f : _) → a ≡ b → let x : Remaining = record { tokens = a; fault = f } in let y : Remaining = record { tokens = b; fault = f } in x ≡ y
+remaining_is : (a b : List Token) (f : _) → a ≡ b
+    → let x : Remaining = record { tokens = a; fault = f } in
+    let y : Remaining = record { tokens = b; fault = f } in x ≡ y
 remaining_is a b f e = cc
 
 pub offline_looks_back : OfflineLooksBack

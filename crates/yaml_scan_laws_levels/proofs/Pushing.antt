@@ -62,7 +62,8 @@ outer_kind k e = absurd (cc)
 
 -- ---- candidates
 
-free_more : (same saved cancel below : Bool) (l : Lexeme) (n : ℕ) (rest : Option Candidate) → l.required ≡ false → IsFree rest
+free_more : (same saved cancel below : Bool) (l : Lexeme) (n : ℕ) (rest : Option Candidate)
+    → l.required ≡ false → IsFree rest
     → let one : Option Candidate = Some record { number = n; lexeme = l } in
     IsFree (cond same (cond saved one (cond cancel None rest)) (cond below None rest))
 free_more true true cancel below l n rest e r = e
@@ -71,7 +72,8 @@ free_more true false false below l n rest e r = r
 free_more false saved cancel true l n rest e r = tt
 free_more false saved cancel false l n rest e r = r
 
-pub free_push : (l : Lexeme) (h : List Lexeme) (d : ℕ) → IsFree (candidate d h) → l.required ≡ false → IsFree (candidate d (l ∷ h))
+pub free_push : (l : Lexeme) (h : List Lexeme) (d : ℕ) → IsFree (candidate d h) → l.required ≡ false
+    → IsFree (candidate d (l ∷ h))
 unfolding candidate
 free_push l h d r e = free_more (l.depth == d) l.saved (cancels l.kind) (nat_lt l.depth d) l (length h) (candidate d h) e r
 
@@ -79,7 +81,8 @@ pub free_in_time : (o : Option Candidate) (m : yaml_mark_t) → IsFree o → InT
 free_in_time None m f = tt
 free_in_time (Some c) m f = inl f
 
-pub required_not : (x : Bool) (d n c : ℕ) → (nat_lt 0 d ≡ true) ⊎ (n ≤ c) → (x && (d == 0 && n == c + 1)) ≡ false
+pub required_not : (x : Bool) (d n c : ℕ) → (nat_lt 0 d ≡ true) ⊎ (n ≤ c)
+    → (x && (d == 0 && n == c + 1)) ≡ false
 required_not false d n c e = refl
 required_not true d n c (inl e) = grind (arith, nat_tests)
 required_not true d n c (inr e) = grind (arith, nat_tests)
@@ -91,7 +94,8 @@ no_key a true more e = absurd (cc)
 
 -- ---- one lexeme more
 
-pub came_push : (text : List ℕ) (l : Lexeme) (h : List Lexeme) → Came text h → next text h ≡ Read l → Came text (l ∷ h)
+pub came_push : (text : List ℕ) (l : Lexeme) (h : List Lexeme) → Came text h → next text h ≡ Read l
+    → Came text (l ∷ h)
 unfolding Came
 came_push text l [] came read = absurd came
 came_push text l (x ∷ h) came read = (read, came)
@@ -100,7 +104,8 @@ came_push text l (x ∷ h) came read = (read, came)
 abbrev pub opens_by : Option Candidate → Kind → ℕ → ℕ → List ℕ → Opens
 opens_by found k d margin ls = cond (not (is_start k)) opening.Nothing (cond (is_value k && has found) opening.Nothing (start_of d margin ls (level_of k)))
 
-pub front_push : (text : List ℕ) (h : List Lexeme) (d : ℕ) (ms : List ℕ) (es : List Entry) (k : Kind) (q : ℕ) (a : Bool) (w : WordText) → Front text h d ms es → is_end k ≡ false
+pub front_push : (text : List ℕ) (h : List Lexeme) (d : ℕ) (ms : List ℕ) (es : List Entry)
+    (k : Kind) (q : ℕ) (a : Bool) (w : WordText) → Front text h d ms es → is_end k ≡ false
     → let l = read_at text h k q a w in let c = column_at text q in
     next text h ≡ Read l
     → (found : Option Candidate) → fresh (candidate d h) (mark_at text q) ≡ found
@@ -133,7 +138,8 @@ front_push text h d ms es k q a w f goes read found found_is left left_is rises 
     }
 
 -- what is equal may stand for it
-pub front_same : (text : List ℕ) (h : List Lexeme) (d e : ℕ) (ms ns : List ℕ) (es fs : List Entry) → Front text h d ms es → d ≡ e → ms ≡ ns → es ≡ fs → Front text h e ns fs
+pub front_same : (text : List ℕ) (h : List Lexeme) (d e : ℕ) (ms ns : List ℕ) (es fs : List Entry)
+    → Front text h d ms es → d ≡ e → ms ≡ ns → es ≡ fs → Front text h e ns fs
 front_same text h d e ms ns es fs f x y z = record {
   came = f.came;
   going = f.going;
@@ -143,17 +149,21 @@ front_same text h d e ms ns es fs f x y z = record {
   entries = f.entries ∙ z;
 }
 
-pub meets_level : (text : List ℕ) (h : List Lexeme) (d n : ℕ) (k : Kind) (q : ℕ) (a : Bool) (w : WordText) (i : ℕ) → Meets text h d n k q a w → n ≡ i → Meets text h d i k q a w
+pub meets_level : (text : List ℕ) (h : List Lexeme) (d n : ℕ) (k : Kind) (q : ℕ) (a : Bool)
+    (w : WordText) (i : ℕ) → Meets text h d n k q a w → n ≡ i → Meets text h d i k q a w
 meets_level text h d n k q a w i m e = let P : ℕ → Type 0 = λ x. Meets text h d x k q a w in subst P e m
 
 -- ---- pieces of what comes
 
-pub lone_marks : (v : Bool) (o : Option Candidate) (ls : List ℕ) (es : List Entry) → (v ≡ true → o ≡ None) → cond v (marked o ls es) es ≡ es
+pub lone_marks : (v : Bool) (o : Option Candidate) (ls : List ℕ) (es : List Entry)
+    → (v ≡ true → o ≡ None) → cond v (marked o ls es) es ≡ es
 lone_marks false o ls es f = refl
 lone_marks true o ls es f = ap (λ (x : Option Candidate). marked x ls es) (f refl)
 
-pub calm_opens : (start value found : Bool) (d m : ℕ) (ls : List ℕ) (what : Opens) → (start && not (nat_lt 0 d)) ≡ false
-    → cond (not start) opening.Nothing (cond (value && found) opening.Nothing (start_of d m ls what)) ≡ opening.Nothing
+pub calm_opens : (start value found : Bool) (d m : ℕ) (ls : List ℕ) (what : Opens)
+    → (start && not (nat_lt 0 d)) ≡ false
+    → cond (not start) opening.Nothing
+    (cond (value && found) opening.Nothing (start_of d m ls what)) ≡ opening.Nothing
 calm_opens false value found d m ls what e = refl
 calm_opens true value found d m ls what e = elim (cases_Bool (value && found)) [ inl x ↦ rw x refl | inr x ↦ rw (x, e) refl ]
 
@@ -170,30 +180,39 @@ calm_flag false true e = absurd (cc)
 pub stays_inside : (k : Kind) (d : ℕ) → stays_level k d ≡ true → is_outside k ≡ false
 stays_inside k d e = not-true (is_outside k) (and_parts (not (is_outside k)) (nat_lt 0 d || not (is_start k)) e).0
 
-pub stays_calm : (k : Kind) (d : ℕ) → stays_level k d ≡ true → (is_start k && not (nat_lt 0 d)) ≡ false
+pub stays_calm : (k : Kind) (d : ℕ) → stays_level k d ≡ true
+    → (is_start k && not (nat_lt 0 d)) ≡ false
 stays_calm k d e = calm_flag (nat_lt 0 d) (is_start k) (and_parts (not (is_outside k)) (nat_lt 0 d || not (is_start k)) e).1
 
-placed_calm : (start deep a taken : Bool) → (start && not deep) ≡ false → (start ≡ false) ⊎ ((deep ≡ true) ⊎ ((a ≡ true) ⊎ (taken ≡ true)))
+placed_calm : (start deep a taken : Bool) → (start && not deep) ≡ false
+    → (start ≡ false) ⊎ ((deep ≡ true) ⊎ ((a ≡ true) ⊎ (taken ≡ true)))
 placed_calm false deep a taken e = inl refl
 placed_calm true true a taken e = inr (inl refl)
 placed_calm true false a taken e = absurd (cc)
 
-pub stays_placed : (text : List ℕ) (h : List Lexeme) (d : ℕ) (k : Kind) (q : ℕ) (a : Bool) → stays_level k d ≡ true → IsPlaced text h d k q a
+pub stays_placed : (text : List ℕ) (h : List Lexeme) (d : ℕ) (k : Kind) (q : ℕ) (a : Bool)
+    → stays_level k d ≡ true → IsPlaced text h d k q a
 stays_placed text h d k q a e = placed_calm (is_start k) (nat_lt 0 d) a (is_value k && has (fresh (candidate d h) (mark_at text q))) (stays_calm k d e)
 
 no_less : (n : ℕ) → n - n ≡ 0
 no_less n = omega arith
 
 -- the level that a lexeme stands in
-pub level_is : (text : List ℕ) (h : List Lexeme) (d : ℕ) (ms left : List ℕ) (es : List Entry) (k : Kind) (c : ℕ) → Front text h d ms es → left_by k d c ms ≡ left → level_in k c h ≡ indent left
+pub level_is : (text : List ℕ) (h : List Lexeme) (d : ℕ) (ms left : List ℕ) (es : List Entry)
+    (k : Kind) (c : ℕ) → Front text h d ms es → left_by k d c ms ≡ left
+    → level_in k c h ≡ indent left
 level_is text h d ms left es k c f e =
     ap (λ (n : ℕ). indent (left_by k n c (levels h))) f.depth ∙ ap (λ (x : List ℕ). indent (left_by k d c x)) f.levels ∙ ap (λ (x : List ℕ). indent x) e
 
-said_body : (k : Kind) (s : SpelledText) (l : Lexeme) (w : WordText) → FitsAny (Some k) s.text l.start.index → word_at k (nat_lt 0 l.depth) l.level s.text l.start.index ≡ Ok w → body_by k s l ≡ w.body
+said_body : (k : Kind) (s : SpelledText) (l : Lexeme) (w : WordText)
+    → FitsAny (Some k) s.text l.start.index
+    → word_at k (nat_lt 0 l.depth) l.level s.text l.start.index ≡ Ok w → body_by k s l ≡ w.body
 said_body kinds.StreamStart s l w f said = absurd f
 said_body k s l w f said = ap (λ (r : Result WordText Wrong). body_of_word r) said
 
-pub body_met : (text : List ℕ) (h : List Lexeme) (d : ℕ) (ms left : List ℕ) (es : List Entry) (k : Kind) (q : ℕ) (a : Bool) (w : WordText) → Front text h d ms es → left_by k d (column_at text q) ms ≡ left → Meets text h d (indent left) k q a w
+pub body_met : (text : List ℕ) (h : List Lexeme) (d : ℕ) (ms left : List ℕ) (es : List Entry)
+    (k : Kind) (q : ℕ) (a : Bool) (w : WordText) → Front text h d ms es
+    → left_by k d (column_at text q) ms ≡ left → Meets text h d (indent left) k q a w
     → Says text (read_at text h k q a w) w
 body_met text h d ms left es k q a w f e meets = λ x.
     let s : SpelledText = record { encoding = x; text = text } in
@@ -235,17 +254,21 @@ word_is_read text h d ms es k q a w f idle stays meets right lone =
       idle = still;
     }
 
-lone_at : (o : Option Candidate) (k : Kind) (c : ℕ) → (is_value k ≡ true → o ≡ None) → opens_at o k c ≡ margin_at c
+lone_at : (o : Option Candidate) (k : Kind) (c : ℕ) → (is_value k ≡ true → o ≡ None)
+    → opens_at o k c ≡ margin_at c
 lone_at None k c f = refl
 lone_at (Some x) k c f = elim (cases_Bool (is_value k)) [ inl e ↦ let g = f e in absurd (cc) | inr e ↦ rw e refl ]
 
-mark_opens : (start value : Bool) (o : Option Candidate) (what : Opens) → start ≡ true → (value ≡ true → o ≡ None) → cond (not start) opening.Nothing (cond (value && has o) opening.Nothing what) ≡ what
+mark_opens : (start value : Bool) (o : Option Candidate) (what : Opens) → start ≡ true
+    → (value ≡ true → o ≡ None)
+    → cond (not start) opening.Nothing (cond (value && has o) opening.Nothing what) ≡ what
 mark_opens true false o what e f = refl
 mark_opens true true None what e f = refl
 mark_opens true true (Some x) what e f = let g = f refl in absurd (cc)
 mark_opens false value o what e f = absurd (cc)
 
-mark_new : (start : Bool) (m : ℕ) (ls : List ℕ) → start ≡ true → opened (start && not (nat_lt 0 0)) m ls ≡ opened true m ls
+mark_new : (start : Bool) (m : ℕ) (ls : List ℕ) → start ≡ true
+    → opened (start && not (nat_lt 0 0)) m ls ≡ opened true m ls
 mark_new true m ls e = refl
 mark_new false m ls e = absurd (cc)
 

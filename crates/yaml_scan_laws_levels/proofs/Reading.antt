@@ -22,7 +22,8 @@ unless_so true x y e = absurd (cc)
 
 -- ---- candidates in time
 
-missed_free : (c : Candidate) (m : yaml_mark_t) → (c.lexeme.required ≡ false) ⊎ (is_fresh c.lexeme.start m ≡ true) → missed (Some c) m ≡ None
+missed_free : (c : Candidate) (m : yaml_mark_t)
+    → (c.lexeme.required ≡ false) ⊎ (is_fresh c.lexeme.start m ≡ true) → missed (Some c) m ≡ None
 missed_free c m (inl e) = rw e refl
 missed_free c m (inr e) = elim (cases_Bool c.lexeme.required) [ inl x ↦ rw (x, e) refl | inr x ↦ rw x refl ]
 
@@ -30,15 +31,20 @@ missed_none : (o : Option Candidate) (m : yaml_mark_t) → InTime o m → missed
 missed_none None m t = refl
 missed_none (Some c) m t = missed_free c m t
 
-pub fresh_in_time : (o : Option Candidate) (at m : yaml_mark_t) → InTime o m → missed (fresh o at) m ≡ None
+pub fresh_in_time : (o : Option Candidate) (at m : yaml_mark_t) → InTime o m
+    → missed (fresh o at) m ≡ None
 fresh_in_time None at m t = refl
 fresh_in_time (Some c) at m t =
     elim (cases_Bool (is_fresh c.lexeme.start at)) [ inl x ↦ rw x (missed_free c m t) | inr x ↦ rw x refl ]
 
-lost_free : (saved cancel : Bool) (required : Bool) (start : yaml_mark_t) → ((saved || cancel) ≡ true → required ≡ false) → cond (required && (saved || cancel)) (Some start) None ≡ None
+lost_free : (saved cancel : Bool) (required : Bool) (start : yaml_mark_t)
+    → ((saved || cancel) ≡ true → required ≡ false)
+    → cond (required && (saved || cancel)) (Some start) None ≡ None
 lost_free saved cancel required start f = elim (cases_Bool (saved || cancel)) [ inl x ↦ let e = f x in rw e refl | inr x ↦ elim (cases_Bool required) [ inl r ↦ rw (r, x) refl | inr r ↦ rw r refl ] ]
 
-pub lost_none : (l : Lexeme) (o : Option Candidate) (at : yaml_mark_t) → ((l.saved || (cancels l.kind && not (is_value l.kind))) ≡ true → IsFree o) → lost_by l (fresh o at) ≡ None
+pub lost_none : (l : Lexeme) (o : Option Candidate) (at : yaml_mark_t)
+    → ((l.saved || (cancels l.kind && not (is_value l.kind))) ≡ true → IsFree o)
+    → lost_by l (fresh o at) ≡ None
 lost_none l None at f = refl
 lost_none l (Some c) at f =
     elim (cases_Bool (is_fresh c.lexeme.start at)) [
@@ -48,7 +54,9 @@ lost_none l (Some c) at f =
 
 -- ---- places
 
-in_place : (flow a start taken : Bool) → (start ≡ false) ⊎ ((flow ≡ true) ⊎ ((a ≡ true) ⊎ (taken ≡ true))) → ((not flow && not a) && (start && not taken)) ≡ false
+in_place : (flow a start taken : Bool)
+    → (start ≡ false) ⊎ ((flow ≡ true) ⊎ ((a ≡ true) ⊎ (taken ≡ true)))
+    → ((not flow && not a) && (start && not taken)) ≡ false
 in_place flow a false taken p = elim (cases_Bool (not flow && not a)) [ inl x ↦ rw x refl | inr x ↦ rw x refl ]
 in_place true a true taken p = refl
 in_place false true true taken p = refl
@@ -60,18 +68,25 @@ in_place false false true false (inr (inr (inr e))) = absurd (cc)
 
 -- ---- the step
 
-finished_is : (text : List ℕ) (l : Lexeme) (w : WordText) → is_end l.kind ≡ false → finished text l w ≡ record l { end = mark_at text w.end; reached = mark_at text w.reached; broke = w.broke }
+finished_is : (text : List ℕ) (l : Lexeme) (w : WordText) → is_end l.kind ≡ false
+    → finished text l w ≡ record l {
+      end = mark_at text w.end;
+      reached = mark_at text w.reached;
+      broke = w.broke;
+    }
 finished_is text l w e = rw e refl
 
 placed_start : (k : Kind) (m : yaml_mark_t) → is_end k ≡ false → placed k m ≡ m
 placed_start k m e = rw e refl
 
-pub tested_read : (l : Lexeme) (h : List Lexeme) → InTime (candidate 0 (l ∷ h)) l.reached → tested l h ≡ Read l
+pub tested_read : (l : Lexeme) (h : List Lexeme) → InTime (candidate 0 (l ∷ h)) l.reached
+    → tested l h ≡ Read l
 tested_read l h u =
     ap (λ o. elim o as (λ _. Next) [ Some start ↦ no_colon start l.reached | None ↦ Read l ]) (missed_none (candidate 0 (l ∷ h)) l.reached u)
 
 -- behind a gap that ends at a place, where a key may begin or not
-of_place : (text : List ℕ) (gap : Gap) (h : List Lexeme) (k : Kind) (q : ℕ) (a : Bool) (w : WordText) → gap.place ≡ q → allowed_behind h gap ≡ a → is_end k ≡ false
+of_place : (text : List ℕ) (gap : Gap) (h : List Lexeme) (k : Kind) (q : ℕ) (a : Bool)
+    (w : WordText) → gap.place ≡ q → allowed_behind h gap ≡ a → is_end k ≡ false
     → let m = mark_at text q in let b = begun k m a h in let l = read_at text h k q a w in
     kind_at (nat_lt 0 (depth h)) text q ≡ Some k
     → word_at k (nat_lt 0 (depth h)) (level_in k (column_at text q) h) text q ≡ Ok w
@@ -99,7 +114,8 @@ of_place text gap h k q a w place allowed goes kind said placed_so none lost tim
     ∙ ap (λ (x : Lexeme). tested x h) (finished_is text b w goes)
     ∙ tested_read l h time
 
-pub came_some : (text : List ℕ) (h : List Lexeme) → Came text h → ended h ≡ false → next text h ≡ behind text (gap_behind text h) h
+pub came_some : (text : List ℕ) (h : List Lexeme) → Came text h → ended h ≡ false
+    → next text h ≡ behind text (gap_behind text h) h
 unfolding Came next
 came_some text [] came e = absurd came
 came_some text (l ∷ h) came e = unless_so (is_end l.kind) Ends (coming (kind_behind text (l ∷ h)) text (l ∷ h)) e ∙ stepwise text (l ∷ h)

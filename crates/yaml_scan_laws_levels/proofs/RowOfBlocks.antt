@@ -78,7 +78,8 @@ c9 : Comes row_of_blocks 17 0 1 kinds.ValueMark [] (short tokens.value 18) 18
 unfolding kind_at word_at indicator_of break_of is_document_start is_document_end column_at line_at ends_of starts_plain words joined spot_at ends_at leads is_bracket is_indicator_byte is_document_indicator break_value is_alpha_byte is_digit_byte run_within belongs may_end_name indent
 c9 = record { behind = record { has = nothing_has 17; blank = refl; ends = refl }; kind = refl; word = refl; up = omega arith }
 
-ca : Comes row_of_blocks 18 0 1 kinds.FlowSequenceStart (32 ∷ []) (short tokens.flow_sequence_start 20) 20
+ca : Comes row_of_blocks 18 0 1 kinds.FlowSequenceStart (32 ∷ [])
+    (short tokens.flow_sequence_start 20) 20
 unfolding kind_at word_at indicator_of break_of is_document_start is_document_end column_at line_at ends_of starts_plain words joined spot_at ends_at leads is_bracket is_indicator_byte is_document_indicator break_value is_alpha_byte is_digit_byte run_within belongs may_end_name indent
 ca = record { behind = record { has = one_has 18 32 refl; blank = refl; ends = refl }; kind = refl; word = refl; up = omega arith }
 
@@ -94,7 +95,8 @@ cd : Comes row_of_blocks 22 0 0 kinds.StreamEnd (10 ∷ []) (short tokens.stream
 unfolding kind_at word_at indicator_of break_of is_document_start is_document_end column_at line_at ends_of starts_plain words joined spot_at ends_at leads is_bracket is_indicator_byte is_document_indicator break_value is_alpha_byte is_digit_byte run_within belongs may_end_name indent
 cd = record { behind = record { has = one_has 22 10 refl; blank = refl; ends = refl }; kind = refl; word = refl; up = omega arith }
 
-white_at : (p : ℕ) → byte row_of_blocks p ≡ 10 → begins_lexeme row_of_blocks (p + 1) ≡ true → IsGap row_of_blocks p (10 ∷ [])
+white_at : (p : ℕ) → byte row_of_blocks p ≡ 10 → begins_lexeme row_of_blocks (p + 1) ≡ true
+    → IsGap row_of_blocks p (10 ∷ [])
 white_at p e f = record { has = one_has p 10 e; blank = refl; ends = f }
 
 pub blocks_are_read : BlocksAreRead

@@ -50,7 +50,8 @@ c01 : Comes row_of_keys 3 0 0 kinds.KeyMark (10 ∷ []) (short tokens.key 5) 5
 unfolding kind_at word_at indicator_of break_of is_document_start is_document_end column_at line_at ends_of starts_plain words joined spot_at ends_at leads is_bracket is_indicator_byte is_document_indicator break_value is_alpha_byte is_digit_byte run_within belongs may_end_name indent
 c01 = record { behind = record { has = one_has 3 10 refl; blank = refl; ends = refl }; kind = refl; word = refl; up = omega arith }
 
-c02 : Comes row_of_keys 5 0 1 kinds.Literal (32 ∷ []) (short (tokens.scalar (97 ∷ 10 ∷ []) styles.YAML_LITERAL_SCALAR_STYLE) 12) 12
+c02 : Comes row_of_keys 5 0 1 kinds.Literal (32 ∷ [])
+    (short (tokens.scalar (97 ∷ 10 ∷ []) styles.YAML_LITERAL_SCALAR_STYLE) 12) 12
 unfolding kind_at word_at indicator_of break_of is_document_start is_document_end column_at line_at ends_of starts_plain words joined spot_at ends_at leads is_bracket is_indicator_byte is_document_indicator break_value is_alpha_byte is_digit_byte run_within belongs may_end_name indent past is_chomping chomp_of digit_of indicators past_comment header_at spaces spot_behind lines_from larger deepest column_of between
 c02 = record { behind = record { has = one_has 5 32 refl; blank = refl; ends = refl }; kind = refl; word = refl; up = omega arith }
 
@@ -58,7 +59,8 @@ c03 : Comes row_of_keys 12 0 1 kinds.ValueMark [] (short tokens.value 13) 13
 unfolding kind_at word_at indicator_of break_of is_document_start is_document_end column_at line_at ends_of starts_plain words joined spot_at ends_at leads is_bracket is_indicator_byte is_document_indicator break_value is_alpha_byte is_digit_byte run_within belongs may_end_name indent
 c03 = record { behind = record { has = nothing_has 12; blank = refl; ends = refl }; kind = refl; word = refl; up = omega arith }
 
-c04 : Comes row_of_keys 13 0 1 kinds.FlowMappingStart (32 ∷ []) (short tokens.flow_mapping_start 15) 15
+c04 : Comes row_of_keys 13 0 1 kinds.FlowMappingStart (32 ∷ []) (short tokens.flow_mapping_start 15)
+    15
 unfolding kind_at word_at indicator_of break_of is_document_start is_document_end column_at line_at ends_of starts_plain words joined spot_at ends_at leads is_bracket is_indicator_byte is_document_indicator break_value is_alpha_byte is_digit_byte run_within belongs may_end_name indent
 c04 = record { behind = record { has = one_has 13 32 refl; blank = refl; ends = refl }; kind = refl; word = refl; up = omega arith }
 
@@ -82,7 +84,8 @@ c09 : Comes row_of_keys 20 1 1 kinds.KeyMark (32 ∷ []) (short tokens.key 22) 2
 unfolding kind_at word_at indicator_of break_of is_document_start is_document_end column_at line_at ends_of starts_plain words joined spot_at ends_at leads is_bracket is_indicator_byte is_document_indicator break_value is_alpha_byte is_digit_byte run_within belongs may_end_name indent
 c09 = record { behind = record { has = one_has 20 32 refl; blank = refl; ends = refl }; kind = refl; word = refl; up = omega arith }
 
-c10 : Comes row_of_keys 22 1 1 kinds.Plain (32 ∷ []) (record { body = plain (100 ∷ []); end = 24; reached = 25; broke = false }) 24
+c10 : Comes row_of_keys 22 1 1 kinds.Plain (32 ∷ [])
+    (record { body = plain (100 ∷ []); end = 24; reached = 25; broke = false }) 24
 unfolding kind_at word_at indicator_of break_of is_document_start is_document_end column_at line_at ends_of starts_plain words joined spot_at ends_at leads is_bracket is_indicator_byte is_document_indicator break_value is_alpha_byte is_digit_byte run_within belongs may_end_name indent
 c10 = record { behind = record { has = one_has 22 32 refl; blank = refl; ends = refl }; kind = refl; word = refl; up = omega arith }
 

@@ -16,8 +16,10 @@ use Rattle.yaml_scan_laws_levels.specs.Signs.{sign, SignComes, MarkComes, SignsC
 
 -- ---- kinds
 
-chain : (z pc ds de s : Bool) (o : Option Kind) (k : Kind) → z ≡ false → pc ≡ false → ds ≡ false → de ≡ false → o ≡ Some k
-    → cond z (Some kinds.StreamEnd) (cond pc (Some kinds.Directive) (cond ds (Some kinds.DocumentStart) (cond de (Some kinds.DocumentEnd) (or_plain o s)))) ≡ Some k
+chain : (z pc ds de s : Bool) (o : Option Kind) (k : Kind) → z ≡ false → pc ≡ false → ds ≡ false
+    → de ≡ false → o ≡ Some k
+    → cond z (Some kinds.StreamEnd) (cond pc (Some kinds.Directive)
+    (cond ds (Some kinds.DocumentStart) (cond de (Some kinds.DocumentEnd) (or_plain o s)))) ≡ Some k
 chain z pc ds de s o k a b c d e = rw (a, b, c, d, e) refl
 
 off_first : (c a b z w : Bool) → a ≡ false → ((c && (a && (b && z))) && w) ≡ false
@@ -31,15 +33,18 @@ off_second true false b z w e = refl
 off_second false a b z w e = refl
 off_second true true true z w e = absurd (cc)
 
-no_start : (text : List ℕ) (p b : ℕ) → byte text p ≡ b → (b == 45) ≡ false → is_document_start text p ≡ false
+no_start : (text : List ℕ) (p b : ℕ) → byte text p ≡ b → (b == 45) ≡ false
+    → is_document_start text p ≡ false
 unfolding is_document_start
 no_start text p b h e = off_first (column_at text p == 0) (byte text p == 45) (byte text (p + 1) == 45) (byte text (p + 2) == 45) (is_blank_or_end text (p + 3)) (ap (λ (x : ℕ). x == 45) h ∙ e)
 
-no_second : (text : List ℕ) (p : ℕ) → (byte text (p + 1) == 45) ≡ false → is_document_start text p ≡ false
+no_second : (text : List ℕ) (p : ℕ) → (byte text (p + 1) == 45) ≡ false
+    → is_document_start text p ≡ false
 unfolding is_document_start
 no_second text p e = off_second (column_at text p == 0) (byte text p == 45) (byte text (p + 1) == 45) (byte text (p + 2) == 45) (is_blank_or_end text (p + 3)) e
 
-no_end : (text : List ℕ) (p b : ℕ) → byte text p ≡ b → (b == 46) ≡ false → is_document_end text p ≡ false
+no_end : (text : List ℕ) (p b : ℕ) → byte text p ≡ b → (b == 46) ≡ false
+    → is_document_end text p ≡ false
 unfolding is_document_end
 no_end text p b h e = off_first (column_at text p == 0) (byte text p == 46) (byte text (p + 1) == 46) (byte text (p + 2) == 46) (is_blank_or_end text (p + 3)) (ap (λ (x : ℕ). x == 46) h ∙ e)
 
@@ -47,7 +52,9 @@ no_percent : (a b : Bool) → a ≡ false → (a && b) ≡ false
 no_percent false b e = refl
 no_percent true b e = absurd (cc)
 
-kind_by : (flow : Bool) (text : List ℕ) (p b : ℕ) (k : Kind) → byte text p ≡ b → (b == 0) ≡ false → (b == 37) ≡ false → is_document_start text p ≡ false → is_document_end text p ≡ false → indicator_of flow (is_blank_or_end text (p + 1)) b ≡ Some k → kind_at flow text p ≡ Some k
+kind_by : (flow : Bool) (text : List ℕ) (p b : ℕ) (k : Kind) → byte text p ≡ b → (b == 0) ≡ false
+    → (b == 37) ≡ false → is_document_start text p ≡ false → is_document_end text p ≡ false
+    → indicator_of flow (is_blank_or_end text (p + 1)) b ≡ Some k → kind_at flow text p ≡ Some k
 unfolding kind_at
 kind_by flow text p b k h z pc ds de o =
     chain (byte text p == 0) (byte text p == 37 && column_at text p == 0) (is_document_start text p) (is_document_end text p) (starts_plain flow text p) (indicator_of flow (is_blank_or_end text (p + 1)) (byte text p)) k
@@ -56,7 +63,9 @@ kind_by flow text p b k h z pc ds de o =
 
 -- ---- words of one byte
 
-came : (text : List ℕ) (p d level : ℕ) (k : Kind) (gap : List ℕ) (body : TokenBody) → IsGap text p gap → let q = p + length gap in kind_at (nat_lt 0 d) text q ≡ Some k → word_at k (nat_lt 0 d) level text q ≡ Ok (sign body (q + 1))
+came : (text : List ℕ) (p d level : ℕ) (k : Kind) (gap : List ℕ) (body : TokenBody)
+    → IsGap text p gap → let q = p + length gap in kind_at (nat_lt 0 d) text q ≡ Some k
+    → word_at k (nat_lt 0 d) level text q ≡ Ok (sign body (q + 1))
     → Comes text p d level k gap (sign body (q + 1)) (q + 1)
 came text p d level k gap body g kind word = record { behind = g; kind = kind; word = word; up = omega arith }
 
@@ -82,16 +91,19 @@ comma_sign text p d level gap g h = let q = p + length gap in came text p d leve
 
 -- ---- words before white
 
-blank_apart : (b c d : ℕ) → (((b == 32 || b == 9) || b == 0) || nat_lt 0 (break_of b c d)) ≡ true → (b == 45) ≡ false
+blank_apart : (b c d : ℕ) → (((b == 32 || b == 9) || b == 0) || nat_lt 0 (break_of b c d)) ≡ true
+    → (b == 45) ≡ false
 unfolding break_of
 blank_apart b c d h = grind (arith, nat_tests)
 
-entry_alone : (flow alone : Bool) → alone ≡ true → indicator_of flow alone 45 ≡ Some kinds.BlockEntry
+entry_alone : (flow alone : Bool) → alone ≡ true
+    → indicator_of flow alone 45 ≡ Some kinds.BlockEntry
 unfolding indicator_of
 entry_alone flow true e = refl
 entry_alone flow false e = absurd (cc)
 
-question_alone : (flow alone : Bool) → alone ≡ true → indicator_of flow alone 63 ≡ Some kinds.KeyMark
+question_alone : (flow alone : Bool) → alone ≡ true
+    → indicator_of flow alone 63 ≡ Some kinds.KeyMark
 unfolding indicator_of
 question_alone true true e = refl
 question_alone false true e = refl
@@ -136,17 +148,24 @@ signs_come = record {
 
 -- ---- documents and the end
 
-start_chain : (z pc ds : Bool) (o : Option Kind) → z ≡ false → pc ≡ false → ds ≡ true → cond z (Some kinds.StreamEnd) (cond pc (Some kinds.Directive) (cond ds (Some kinds.DocumentStart) o)) ≡ Some kinds.DocumentStart
+start_chain : (z pc ds : Bool) (o : Option Kind) → z ≡ false → pc ≡ false → ds ≡ true
+    → cond z (Some kinds.StreamEnd) (cond pc (Some kinds.Directive)
+    (cond ds (Some kinds.DocumentStart) o)) ≡ Some kinds.DocumentStart
 start_chain z pc ds o a b c = rw (a, b, c) refl
 
-end_chain : (z pc ds de : Bool) (o : Option Kind) → z ≡ false → pc ≡ false → ds ≡ false → de ≡ true → cond z (Some kinds.StreamEnd) (cond pc (Some kinds.Directive) (cond ds (Some kinds.DocumentStart) (cond de (Some kinds.DocumentEnd) o))) ≡ Some kinds.DocumentEnd
+end_chain : (z pc ds de : Bool) (o : Option Kind) → z ≡ false → pc ≡ false → ds ≡ false → de ≡ true
+    → cond z (Some kinds.StreamEnd) (cond pc (Some kinds.Directive)
+    (cond ds (Some kinds.DocumentStart) (cond de (Some kinds.DocumentEnd) o)))
+    ≡ Some kinds.DocumentEnd
 end_chain z pc ds de o a b c d = rw (a, b, c, d) refl
 
-start_kind : (text : List ℕ) (p : ℕ) → byte text p ≡ 45 → is_document_start text p ≡ true → kind_at false text p ≡ Some kinds.DocumentStart
+start_kind : (text : List ℕ) (p : ℕ) → byte text p ≡ 45 → is_document_start text p ≡ true
+    → kind_at false text p ≡ Some kinds.DocumentStart
 unfolding kind_at
 start_kind text p h e = start_chain (byte text p == 0) (byte text p == 37 && column_at text p == 0) (is_document_start text p) _ (ap (λ (x : ℕ). x == 0) h) (no_percent (byte text p == 37) (column_at text p == 0) (ap (λ (x : ℕ). x == 37) h)) e
 
-end_kind : (text : List ℕ) (p : ℕ) → byte text p ≡ 46 → is_document_end text p ≡ true → kind_at false text p ≡ Some kinds.DocumentEnd
+end_kind : (text : List ℕ) (p : ℕ) → byte text p ≡ 46 → is_document_end text p ≡ true
+    → kind_at false text p ≡ Some kinds.DocumentEnd
 unfolding kind_at
 end_kind text p h e = end_chain (byte text p == 0) (byte text p == 37 && column_at text p == 0) (is_document_start text p) (is_document_end text p) _ (ap (λ (x : ℕ). x == 0) h) (no_percent (byte text p == 37) (column_at text p == 0) (ap (λ (x : ℕ). x == 37) h)) (no_start text p 46 h refl) e
 
@@ -154,31 +173,40 @@ stop_kind : (text : List ℕ) (p : ℕ) → byte text p ≡ 0 → kind_at false 
 unfolding kind_at
 stop_kind text p h = rw h refl
 
-starts_come : (text : List ℕ) (p level : ℕ) (gap : List ℕ) → IsGap text p gap → byte text (p + length gap) ≡ 45 → is_document_start text (p + length gap) ≡ true
-    → Comes text p 0 level kinds.DocumentStart gap (sign tokens.document_start (p + length gap + 3)) (p + length gap + 3)
+starts_come : (text : List ℕ) (p level : ℕ) (gap : List ℕ) → IsGap text p gap
+    → byte text (p + length gap) ≡ 45 → is_document_start text (p + length gap) ≡ true
+    → Comes text p 0 level kinds.DocumentStart gap (sign tokens.document_start (p + length gap + 3))
+    (p + length gap + 3)
 unfolding word_at
 starts_come text p level gap g h e = record { behind = g; kind = start_kind text (p + length gap) h e; word = refl; up = omega arith }
 
-ends_come : (text : List ℕ) (p level : ℕ) (gap : List ℕ) → IsGap text p gap → byte text (p + length gap) ≡ 46 → is_document_end text (p + length gap) ≡ true
-    → Comes text p 0 level kinds.DocumentEnd gap (sign tokens.document_end (p + length gap + 3)) (p + length gap + 3)
+ends_come : (text : List ℕ) (p level : ℕ) (gap : List ℕ) → IsGap text p gap
+    → byte text (p + length gap) ≡ 46 → is_document_end text (p + length gap) ≡ true
+    → Comes text p 0 level kinds.DocumentEnd gap (sign tokens.document_end (p + length gap + 3))
+    (p + length gap + 3)
 unfolding word_at
 ends_come text p level gap g h e = record { behind = g; kind = end_kind text (p + length gap) h e; word = refl; up = omega arith }
 
-stops_come : (text : List ℕ) (p level : ℕ) (gap : List ℕ) → IsGap text p gap → byte text (p + length gap) ≡ 0 → Comes text p 0 level kinds.StreamEnd gap (sign tokens.stream_end (p + length gap)) (p + length gap)
+stops_come : (text : List ℕ) (p level : ℕ) (gap : List ℕ) → IsGap text p gap
+    → byte text (p + length gap) ≡ 0
+    → Comes text p 0 level kinds.StreamEnd gap (sign tokens.stream_end (p + length gap))
+    (p + length gap)
 unfolding word_at
 stops_come text p level gap g h = record { behind = g; kind = stop_kind text (p + length gap) h; word = refl; up = omega arith }
 
 pub marks_come : MarksCome
 marks_come = record { starts = starts_come; ends = ends_come; stops = stops_come }
 
-begun : (a b c d e : Bool) → a ≡ false → b ≡ false → c ≡ false → d ≡ false → e ≡ false → (not a && (not b && (not c && (not d && not e)))) ≡ true
+begun : (a b c d e : Bool) → a ≡ false → b ≡ false → c ≡ false → d ≡ false → e ≡ false
+    → (not a && (not b && (not c && (not d && not e)))) ≡ true
 begun a b c d e f g h i j = rw (f, g, h, i, j) refl
 
 calm : (b c d : ℕ) → 32 < b → b < 127 → nat_lt 0 (break_of b c d) ≡ false
 unfolding break_of
 calm b c d low high = grind (arith, nat_tests)
 
-no_order : (first : Bool) (b c d : ℕ) → b < 127 → (first && (b == 0xEF && (c == 0xBB && d == 0xBF))) ≡ false
+no_order : (first : Bool) (b c d : ℕ) → b < 127
+    → (first && (b == 0xEF && (c == 0xBB && d == 0xBF))) ≡ false
 no_order true b c d e = grind (arith, nat_tests)
 no_order false b c d e = refl
 

@@ -20,7 +20,9 @@ use Rattle.yaml_scan_laws_levels.proofs.Whites.{has_first, has_rest, no_white}
 
 -- ---- candidates on earlier lines
 
-starts_more : (same saved cancel below : Bool) (c : Candidate) (rest : Option Candidate) (n m : ℕ) → c.lexeme.start.line ≤ m → n ≤ m → StartsBy rest n → StartsBy (cond same (cond saved (Some c) (cond cancel None rest)) (cond below None rest)) m
+starts_more : (same saved cancel below : Bool) (c : Candidate) (rest : Option Candidate) (n m : ℕ)
+    → c.lexeme.start.line ≤ m → n ≤ m → StartsBy rest n
+    → StartsBy (cond same (cond saved (Some c) (cond cancel None rest)) (cond below None rest)) m
 starts_more true true cancel below c rest n m e f s = e
 starts_more true false true below c rest n m e f s = tt
 starts_more true false false below c None n m e f s = tt
@@ -29,7 +31,8 @@ starts_more false saved cancel true c rest n m e f s = tt
 starts_more false saved cancel false c None n m e f s = tt
 starts_more false saved cancel false c (Some x) n m e f s = omega (arith, f, s)
 
-started_more : (l : Lexeme) (h : List Lexeme) (n m : ℕ) → Started h n → n ≤ m → l.start.line ≤ m → Started (l ∷ h) m
+started_more : (l : Lexeme) (h : List Lexeme) (n m : ℕ) → Started h n → n ≤ m → l.start.line ≤ m
+    → Started (l ∷ h) m
 unfolding candidate
 started_more l h n m s e f = λ i. starts_more (l.depth == i) l.saved (cancels l.kind) (nat_lt l.depth i) (record { number = length h; lexeme = l }) (candidate i h) n m f e (s i)
 
@@ -40,7 +43,8 @@ started_nothing n = λ i. tt
 pub started_goes_on : StartedGoesOn
 started_goes_on = record { nothing = started_nothing; more = started_more }
 
-later : (o : Option Candidate) (text : List ℕ) (q n : ℕ) → StartsBy o n → n < line_at text q → fresh o (mark_at text q) ≡ None
+later : (o : Option Candidate) (text : List ℕ) (q n : ℕ) → StartsBy o n → n < line_at text q
+    → fresh o (mark_at text q) ≡ None
 later None text q n s e = refl
 later (Some c) text q n s e =
     let none : nat_le (line_at text q) c.lexeme.start.line ≡ false = grind (arith, nat_tests) in
@@ -85,18 +89,21 @@ rest_gap text p b bs g =
     let z : p + 1 + length bs ≡ p + suc (length bs) = omega arith in
     record { has = has_rest text p b bs g.has; blank = rest; ends = ap (λ (n : ℕ). begins_lexeme text n) z ∙ g.ends }
 
-first_gap : (text : List ℕ) (p b : ℕ) (bs : List ℕ) → IsGap text p (b ∷ bs) → (byte text p ≡ b) × ((b == 32 || (b == 10 || b == 13)) ≡ true)
+first_gap : (text : List ℕ) (p b : ℕ) (bs : List ℕ) → IsGap text p (b ∷ bs)
+    → (byte text p ≡ b) × ((b == 32 || (b == 10 || b == 13)) ≡ true)
 first_gap text p b bs g = let (here, rest) = and_parts (b == 32 || (b == 10 || b == 13)) (are_gap bs) g.blank in (has_first text p b bs g.has, here)
 
 -- a break ends there, unless LF follows CR
 pub feed_line : (text : List ℕ) (p : ℕ) → byte text p ≡ 10 → ends_break text p ≡ true
 feed_line text p e = ap (λ (x : ℕ). ends_of (byte text (p - 2)) (byte text (p - 1)) x (byte text (p + 1))) e ∙ feed_ends (byte text (p - 2)) (byte text (p - 1)) (byte text (p + 1))
 
-return_line : (text : List ℕ) (p : ℕ) → byte text p ≡ 13 → (byte text (p + 1) == 10) ≡ false → ends_break text p ≡ true
+return_line : (text : List ℕ) (p : ℕ) → byte text p ≡ 13 → (byte text (p + 1) == 10) ≡ false
+    → ends_break text p ≡ true
 return_line text p e f = ap (λ (x : ℕ). ends_of (byte text (p - 2)) (byte text (p - 1)) x (byte text (p + 1))) e ∙ return_ends (byte text (p - 2)) (byte text (p - 1)) (byte text (p + 1)) f
 
 -- LF stands behind CR within the gap, or not at all
-feed_behind : (text : List ℕ) (p : ℕ) (bs : List ℕ) → IsGap text p bs → (byte text p == 10) ≡ true → (cs : List ℕ) × (bs ≡ 10 ∷ cs)
+feed_behind : (text : List ℕ) (p : ℕ) (bs : List ℕ) → IsGap text p bs → (byte text p == 10) ≡ true
+    → (cs : List ℕ) × (bs ≡ 10 ∷ cs)
 feed_behind text p [] g e =
     let z : p + 0 ≡ p = omega arith in
     let here : begins_lexeme text p ≡ true = sym (ap (λ (n : ℕ). begins_lexeme text n) z) ∙ g.ends in
@@ -107,20 +114,25 @@ feed_behind text p (b ∷ bs) g e =
     let ten : b ≡ 10 = let f : byte text p ≡ 10 = grind (arith, nat_tests) in sym same ∙ f in
     (bs, ap (λ (x : ℕ). x ∷ bs) ten)
 
-grown : (text : List ℕ) (p : ℕ) (bs : List ℕ) → line_at text (p + 1) ≤ line_at text (p + suc (length bs))
+grown : (text : List ℕ) (p : ℕ) (bs : List ℕ)
+    → line_at text (p + 1) ≤ line_at text (p + suc (length bs))
 grown text p bs = line_at-grows text (p + 1) (p + suc (length bs)) (omega arith)
 
-ended_line : (text : List ℕ) (p : ℕ) (bs : List ℕ) → ends_break text p ≡ true → line_at text p < line_at text (p + suc (length bs))
+ended_line : (text : List ℕ) (p : ℕ) (bs : List ℕ) → ends_break text p ≡ true
+    → line_at text p < line_at text (p + suc (length bs))
 ended_line text p bs e = let one = line_end text p e in let more = grown text p bs in omega (arith, one, more)
 
-later_line : (text : List ℕ) (p : ℕ) (bs : List ℕ) → line_at text (p + 1) < line_at text (p + 1 + length bs) → line_at text p < line_at text (p + suc (length bs))
+later_line : (text : List ℕ) (p : ℕ) (bs : List ℕ)
+    → line_at text (p + 1) < line_at text (p + 1 + length bs)
+    → line_at text p < line_at text (p + suc (length bs))
 later_line text p bs e =
     let z : p + 1 + length bs ≡ p + suc (length bs) = omega arith in
     let same : line_at text (p + 1 + length bs) ≡ line_at text (p + suc (length bs)) = ap (λ (n : ℕ). line_at text n) z in
     let low = line_at-grows text p (p + 1) (omega arith) in
     omega (arith, e, same, low)
 
-breaks_line : (text : List ℕ) (p : ℕ) (gap : List ℕ) → IsGap text p gap → has_break gap ≡ true → line_at text p < line_at text (p + length gap)
+breaks_line : (text : List ℕ) (p : ℕ) (gap : List ℕ) → IsGap text p gap → has_break gap ≡ true
+    → line_at text p < line_at text (p + length gap)
 breaks_line text p [] g e = absurd (cc)
 breaks_line text p (b ∷ bs) g e =
     let (same, white) = first_gap text p b bs g in
@@ -150,7 +162,9 @@ near_before text start p q e f =
     rw (first, second) refl
 
 -- a gap that begins with LF: the column before it doesn't matter
-white_column : (text : List ℕ) (p : ℕ) (gap : List ℕ) (c : ℕ) → IsGap text p gap → (column_at text p ≡ c) ⊎ ((cs : List ℕ) × (gap ≡ 10 ∷ cs)) → column_at text (p + length gap) ≡ column_behind gap c
+white_column : (text : List ℕ) (p : ℕ) (gap : List ℕ) (c : ℕ) → IsGap text p gap
+    → (column_at text p ≡ c) ⊎ ((cs : List ℕ) × (gap ≡ 10 ∷ cs))
+    → column_at text (p + length gap) ≡ column_behind gap c
 white_column text p [] c g (inl e) = let z : p + 0 ≡ p = omega arith in ap (λ (n : ℕ). column_at text n) z ∙ e
 white_column text p [] c g (inr (cs, e)) = absurd (cc)
 white_column text p (b ∷ bs) c g start =
@@ -175,7 +189,8 @@ white_columns text p gap g = white_column text p gap (column_at text p) g (inl r
 
 -- ---- one depth's candidate
 
-opened_more : (same saved cancel : Bool) (o rest : Option Candidate) → same ≡ false → cond same (cond saved o (cond cancel None rest)) (cond true None rest) ≡ None
+opened_more : (same saved cancel : Bool) (o rest : Option Candidate) → same ≡ false
+    → cond same (cond saved o (cond cancel None rest)) (cond true None rest) ≡ None
 opened_more false saved cancel o rest e = refl
 opened_more true saved cancel o rest e = absurd (cc)
 
@@ -201,13 +216,16 @@ level_last m [] = refl
 level_last m (c ∷ []) = refl
 level_last m (c ∷ d ∷ ls) = level_last m (d ∷ ls)
 
-level_new : (m : ℕ) (ls : List ℕ) (what : Opens) → indent ls < m → (opened true m ls ≡ ls ++ m ∷ []) × (start_of 0 m ls what ≡ what)
+level_new : (m : ℕ) (ls : List ℕ) (what : Opens) → indent ls < m
+    → (opened true m ls ≡ ls ++ m ∷ []) × (start_of 0 m ls what ≡ what)
 level_new m ls what e = let t : nat_lt (indent ls) m ≡ true = grind (arith, nat_tests) in (rw t refl, rw t refl)
 
-level_old : (m : ℕ) (ls : List ℕ) (what : Opens) → m ≤ indent ls → (opened true m ls ≡ ls) × (start_of 0 m ls what ≡ opening.Nothing)
+level_old : (m : ℕ) (ls : List ℕ) (what : Opens) → m ≤ indent ls
+    → (opened true m ls ≡ ls) × (start_of 0 m ls what ≡ opening.Nothing)
 level_old m ls what e = let t : nat_lt (indent ls) m ≡ false = grind (arith, nat_tests) in (rw t refl, rw t refl)
 
-level_inside : (d m : ℕ) (ls : List ℕ) (what : Opens) → nat_lt 0 d ≡ true → (opened (not (nat_lt 0 d)) m ls ≡ ls) × (start_of d m ls what ≡ opening.Nothing)
+level_inside : (d m : ℕ) (ls : List ℕ) (what : Opens) → nat_lt 0 d ≡ true
+    → (opened (not (nat_lt 0 d)) m ls ≡ ls) × (start_of d m ls what ≡ opening.Nothing)
 level_inside d m ls what e = (rw e refl, rw e refl)
 
 pub level_opens : LevelOpens

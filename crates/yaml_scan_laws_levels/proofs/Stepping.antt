@@ -32,15 +32,20 @@ words_leave = record {
   over = λ text d allows w e white g end plain h place key deep. white_is_over text h e allows white g (place ∙ end) (key ∙ ap (λ (b : Bool). allows || b) plain ∙ or-false allows);
 }
 
-meets_of : (text : List ℕ) (p : ℕ) (h : List Lexeme) (d level : ℕ) (now broken : Bool) (k : Kind) (gap : List ℕ) (w : WordText) (e : ℕ) → White text h p now broken → Comes text p d level k gap w e
+meets_of : (text : List ℕ) (p : ℕ) (h : List Lexeme) (d level : ℕ) (now broken : Bool) (k : Kind)
+    (gap : List ℕ) (w : WordText) (e : ℕ) → White text h p now broken
+    → Comes text p d level k gap w e
     → Meets text h d level k (p + length gap) (may_begin now broken gap) w
 meets_of text p h d level now broken k gap w e white c = record { place = white.place gap c.behind; allowed = white.allowed gap c.behind; kind = c.kind; word = c.word }
 
-meets_so : (text : List ℕ) (h : List Lexeme) (d level : ℕ) (k : Kind) (q : ℕ) (a b : Bool) (w : WordText) → Meets text h d level k q a w → a ≡ b → Meets text h d level k q b w
+meets_so : (text : List ℕ) (h : List Lexeme) (d level : ℕ) (k : Kind) (q : ℕ) (a b : Bool)
+    (w : WordText) → Meets text h d level k q a w → a ≡ b → Meets text h d level k q b w
 meets_so text h d level k q a b w m e = let P : Bool → Type 0 = λ x. Meets text h d level k q x w in subst P e m
 
 -- what is known at the place behind it
-stands_of : (text : List ℕ) (p : ℕ) (h : List Lexeme) (d f : ℕ) (k : Kind) (gap : List ℕ) (a found : Bool) (w : WordText) (e : ℕ) (ms : List ℕ) (es : List Entry) (then wide : Bool) (i : ℕ) → depth h ≡ d → Started h i → i ≤ line_at text p → p + length gap ≤ e
+stands_of : (text : List ℕ) (p : ℕ) (h : List Lexeme) (d f : ℕ) (k : Kind) (gap : List ℕ)
+    (a found : Bool) (w : WordText) (e : ℕ) (ms : List ℕ) (es : List Entry) (then wide : Bool)
+    (i : ℕ) → depth h ≡ d → Started h i → i ≤ line_at text p → p + length gap ≤ e
     → let q = p + length gap in let l = read_at text h k q a w in
     Front text (l ∷ h) f ms es → (is_value k ≡ true → has (fresh (candidate d h) (mark_at text q)) ≡ found)
     → WordLeaves text f (allows_key k (d == 0) found) w e then wide → Stands text e (line_at text q) (l ∷ h) f ms es then wide
@@ -55,7 +60,8 @@ stands_of text p h d f k gap a found w e ms es then wide i deep started line up 
       line = line_at-grows text q e up;
     }
 
-lone_has : (text : List ℕ) (h : List Lexeme) (d : ℕ) (k : Kind) (q : ℕ) → IsLone text h d k q → is_value k ≡ true → has (fresh (candidate d h) (mark_at text q)) ≡ false
+lone_has : (text : List ℕ) (h : List Lexeme) (d : ℕ) (k : Kind) (q : ℕ) → IsLone text h d k q
+    → is_value k ≡ true → has (fresh (candidate d h) (mark_at text q)) ≡ false
 lone_has text h d k q lone v = ap (λ (o : Option Candidate). has o) (lone v)
 
 pub start_steps : StartSteps

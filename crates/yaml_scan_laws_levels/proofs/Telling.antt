@@ -19,7 +19,8 @@ said_more : (ts us : List Token) → said (ts ++ us) ≡ said ts ++ said us
 said_more [] us = refl
 said_more (t ∷ ts) us = ap (λ (bs : List TokenBody). t.body ∷ bs) (said_more ts us)
 
-pub bodies_more : (s : SpelledText) (es fs : List Entry) → bodies_of s (es ++ fs) ≡ bodies_of s es ++ bodies_of s fs
+pub bodies_more : (s : SpelledText) (es fs : List Entry)
+    → bodies_of s (es ++ fs) ≡ bodies_of s es ++ bodies_of s fs
 bodies_more s es fs = ap (λ (ts : List Token). said ts) (flat_map-append (spell s) es fs) ∙ said_more (flat_map (spell s) es) (flat_map (spell s) fs)
 
 ends_say : (n : ℕ) (l : Lexeme) → said (replicate n (before block_end l)) ≡ replicate n block_end
@@ -53,7 +54,8 @@ spell_says s l n what k bs =
     ∙ ap (λ (xs : List TokenBody). replicate n block_end ++ xs) (start_say s l n what k bs)
 
 -- one entry before others
-entry_says : (s : SpelledText) (l : Lexeme) (n : ℕ) (what : Opens) (k : Bool) (rest : List Entry) (bs : List TokenBody)
+entry_says : (s : SpelledText) (l : Lexeme) (n : ℕ) (what : Opens) (k : Bool) (rest : List Entry)
+    (bs : List TokenBody)
     → let e : Entry = record { lexeme = l; ends = n; opens = what; key = k } in
     bodies_of s (e ∷ rest) ++ bs ≡ replicate n block_end ++ start_bodies what (key_said k (body_in s l ∷ (bodies_of s rest ++ bs)))
 entry_says s l n what k rest bs =
@@ -63,7 +65,8 @@ entry_says s l n what k rest bs =
     ∙ spell_says s l n what k (bodies_of s rest ++ bs)
 
 -- what stands behind entries
-behind_says : (s : SpelledText) (done : List Entry) (l : Lexeme) (n : ℕ) (what : Opens) (k : Bool) (rest : List Entry) (bs : List TokenBody)
+behind_says : (s : SpelledText) (done : List Entry) (l : Lexeme) (n : ℕ) (what : Opens) (k : Bool)
+    (rest : List Entry) (bs : List TokenBody)
     → let e : Entry = record { lexeme = l; ends = n; opens = what; key = k } in
     told s (done ++ e ∷ rest) 0 bs ≡ told s done n (start_bodies what (key_said k (body_in s l ∷ (bodies_of s rest ++ bs))))
 behind_says s done l n what k rest bs =
@@ -75,7 +78,8 @@ behind_says s done l n what k rest bs =
 pub word_tells : WordTells
 word_tells s es l n what bs = behind_says s es l n what false [] bs
 
-one_more : (n : ℕ) (bs : List TokenBody) → replicate (suc n) block_end ++ bs ≡ replicate n block_end ++ block_end ∷ bs
+one_more : (n : ℕ) (bs : List TokenBody)
+    → replicate (suc n) block_end ++ bs ≡ replicate n block_end ++ block_end ∷ bs
 one_more zero bs = refl
 one_more (suc n) bs = ap (λ (xs : List TokenBody). block_end ∷ xs) (one_more n bs)
 
@@ -83,8 +87,10 @@ pub level_tells : LevelTells
 level_tells s es n bs = ap (λ (xs : List TokenBody). bodies_of s es ++ xs) (one_more n bs)
 
 -- what a key's words say
-key_says : (s : SpelledText) (done : List Entry) (l : Lexeme) (n : ℕ) (rest : List Entry) (K : List TokenBody → List TokenBody) (bs : List TokenBody)
-    → told s (done ++ entry l n opening.Nothing ∷ rest) 0 bs ≡ told s done n (K bs) → body_in s l ∷ (bodies_of s rest ++ bs) ≡ K bs
+key_says : (s : SpelledText) (done : List Entry) (l : Lexeme) (n : ℕ) (rest : List Entry)
+    (K : List TokenBody → List TokenBody) (bs : List TokenBody)
+    → told s (done ++ entry l n opening.Nothing ∷ rest) 0 bs ≡ told s done n (K bs)
+    → body_in s l ∷ (bodies_of s rest ++ bs) ≡ K bs
 key_says s done l n rest K bs e =
     append_cancel_left (replicate n block_end) _ (K bs) (append_cancel_left (bodies_of s done) _ (replicate n block_end ++ K bs) (sym (behind_says s done l n opening.Nothing false rest bs) ∙ e))
 

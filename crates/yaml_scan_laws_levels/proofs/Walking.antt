@@ -38,7 +38,9 @@ unfolding LeaveClear Outside
 deeper_leaves k f a [] o = tt
 deeper_leaves k f a (e ∷ es) (less, o) = (inr less, deeper_leaves k f a es o)
 
-still_clear : (text : List ℕ) (h : List Lexeme) (f : ℕ) (k : Kind) (q : ℕ) (a : Bool) (w : WordText) (cs : List ℕ) → depth h ≡ f → Clear h cs → LeaveClear k f a cs → Clear (read_at text h k q a w ∷ h) cs
+still_clear : (text : List ℕ) (h : List Lexeme) (f : ℕ) (k : Kind) (q : ℕ) (a : Bool) (w : WordText)
+    (cs : List ℕ) → depth h ≡ f → Clear h cs → LeaveClear k f a cs
+    → Clear (read_at text h k q a w ∷ h) cs
 unfolding Clear LeaveClear
 still_clear text h f k q a w [] deep c l = tt
 still_clear text h f k q a w (e ∷ es) deep (none, c) (is, l) = (slots_go_on.stays text h e f k q a w deep is ∙ none, still_clear text h f k q a w es deep c l)
@@ -47,17 +49,20 @@ none_clear : (h : List Lexeme) → Clear h []
 unfolding Clear
 none_clear h = tt
 
-clear_more : (h : List Lexeme) (e : ℕ) (es : List ℕ) → candidate e h ≡ None → Clear h es → Clear h (e ∷ es)
+clear_more : (h : List Lexeme) (e : ℕ) (es : List ℕ) → candidate e h ≡ None → Clear h es
+    → Clear h (e ∷ es)
 unfolding Clear
 clear_more h e es none c = (none, c)
 
-clear_first : (h : List Lexeme) (e : ℕ) (es : List ℕ) → Clear h (e ∷ es) → (candidate e h ≡ None) × Clear h es
+clear_first : (h : List Lexeme) (e : ℕ) (es : List ℕ) → Clear h (e ∷ es)
+    → (candidate e h ≡ None) × Clear h es
 unfolding Clear
 clear_first h e es (none, c) = (none, c)
 
 -- ---- levels
 
-rises_last : (b c : ℕ) (ls more : List ℕ) → Rises b (c ∷ (ls ++ more)) → Rises (indent (c ∷ ls)) more
+rises_last : (b c : ℕ) (ls more : List ℕ) → Rises b (c ∷ (ls ++ more))
+    → Rises (indent (c ∷ ls)) more
 unfolding Rises indent
 rises_last b c [] more (e, r) = r
 rises_last b c (d ∷ ls) more (e, r) = rises_last c d ls more r
@@ -67,7 +72,8 @@ unfolding indent
 levels_part [] more r = (rises_front 0 [] more r, r)
 levels_part (c ∷ ls) more r = (rises_front 0 (c ∷ ls) more r, rises_last 0 c ls more r)
 
-leaves_of : (d c : ℕ) (ls more : List ℕ) → Rises 0 (ls ++ more) → ClosesAt d c ls more → Leaves d c (ls ++ more) ls (length more)
+leaves_of : (d c : ℕ) (ls more : List ℕ) → Rises 0 (ls ++ more) → ClosesAt d c ls more
+    → Leaves d c (ls ++ more) ls (length more)
 leaves_of d c ls more r (inl (deep, none)) =
     let P : List ℕ → Type 0 = λ xs. Leaves d c (ls ++ xs) ls (length xs) in
     let Q : List ℕ → Type 0 = λ xs. Leaves d c xs ls 0 in
@@ -81,26 +87,38 @@ leaves_of d c ls more r (inr (flat, low, above)) =
 abbrev text_in : yaml_encoding_t → List ℕ → SpelledText
 text_in x text = record { encoding = x; text = text }
 
-levels_same : (text : List ℕ) (p i : ℕ) (h : List Lexeme) (d : ℕ) (ms ns : List ℕ) (es : List Entry) (now broken : Bool) → Stands text p i h d ms es now broken → ms ≡ ns → Stands text p i h d ns es now broken
+levels_same : (text : List ℕ) (p i : ℕ) (h : List Lexeme) (d : ℕ) (ms ns : List ℕ) (es : List Entry)
+    (now broken : Bool) → Stands text p i h d ms es now broken → ms ≡ ns
+    → Stands text p i h d ns es now broken
 levels_same text p i h d ms ns es now broken s e = let P : List ℕ → Type 0 = λ xs. Stands text p i h d xs es now broken in subst P e s
 
-depth_same : (text : List ℕ) (p i : ℕ) (h : List Lexeme) (d f : ℕ) (ms : List ℕ) (es : List Entry) (now broken : Bool) → Stands text p i h d ms es now broken → d ≡ f → Stands text p i h f ms es now broken
+depth_same : (text : List ℕ) (p i : ℕ) (h : List Lexeme) (d f : ℕ) (ms : List ℕ) (es : List Entry)
+    (now broken : Bool) → Stands text p i h d ms es now broken → d ≡ f
+    → Stands text p i h f ms es now broken
 depth_same text p i h d f ms es now broken s e = let P : ℕ → Type 0 = λ n. Stands text p i h n ms es now broken in subst P e s
 
-entries_same : (text : List ℕ) (p i : ℕ) (h : List Lexeme) (d : ℕ) (ms : List ℕ) (es fs : List Entry) (now broken : Bool) → Stands text p i h d ms es now broken → es ≡ fs → Stands text p i h d ms fs now broken
+entries_same : (text : List ℕ) (p i : ℕ) (h : List Lexeme) (d : ℕ) (ms : List ℕ)
+    (es fs : List Entry) (now broken : Bool) → Stands text p i h d ms es now broken → es ≡ fs
+    → Stands text p i h d ms fs now broken
 entries_same text p i h d ms es fs now broken s e = let P : List Entry → Type 0 = λ xs. Stands text p i h d ms xs now broken in subst P e s
 
 -- no more levels
-exact : (text : List ℕ) (p i : ℕ) (h : List Lexeme) (d : ℕ) (ls : List ℕ) (es : List Entry) (now broken : Bool) → Stands text p i h d (ls ++ []) es now broken → Stands text p i h d ls es now broken
+exact : (text : List ℕ) (p i : ℕ) (h : List Lexeme) (d : ℕ) (ls : List ℕ) (es : List Entry)
+    (now broken : Bool) → Stands text p i h d (ls ++ []) es now broken
+    → Stands text p i h d ls es now broken
 exact text p i h d ls es now broken s = levels_same text p i h d (ls ++ []) ls es now broken s (append-nil ls)
 
-loose : (text : List ℕ) (p i : ℕ) (h : List Lexeme) (d : ℕ) (ls : List ℕ) (es : List Entry) (now broken : Bool) → Stands text p i h d ls es now broken → Stands text p i h d (ls ++ []) es now broken
+loose : (text : List ℕ) (p i : ℕ) (h : List Lexeme) (d : ℕ) (ls : List ℕ) (es : List Entry)
+    (now broken : Bool) → Stands text p i h d ls es now broken
+    → Stands text p i h d (ls ++ []) es now broken
 loose text p i h d ls es now broken s = levels_same text p i h d ls (ls ++ []) es now broken s (sym (append-nil ls))
 
 -- one lexeme more is told
-more_told : (x : yaml_encoding_t) (text : List ℕ) (es : List Entry) (l : Lexeme) (w : WordText) (n : ℕ) (what : Opens) (T : List TokenBody → List TokenBody) → Says text l w
+more_told : (x : yaml_encoding_t) (text : List ℕ) (es : List Entry) (l : Lexeme) (w : WordText)
+    (n : ℕ) (what : Opens) (T : List TokenBody → List TokenBody) → Says text l w
     → ((bs : List TokenBody) → told (text_in x text) es n bs ≡ T bs)
-    → (bs : List TokenBody) → told (text_in x text) (es ++ entry l n what ∷ []) 0 bs ≡ T (start_bodies what (w.body ∷ bs))
+    → (bs : List TokenBody)
+    → told (text_in x text) (es ++ entry l n what ∷ []) 0 bs ≡ T (start_bodies what (w.body ∷ bs))
 more_told x text es l w n what T says tells bs =
     word_tells (text_in x text) es l n what bs
     ∙ ap (λ (b : TokenBody). told (text_in x text) es n (start_bodies what (b ∷ bs))) (says x)
@@ -133,7 +151,9 @@ walk_white x text o cs ls more T white r at blank = record {
   tells = r.tells;
 }
 
-word_on : (x : yaml_encoding_t) (text : List ℕ) (o : Where) (cs ds ls : List ℕ) (T : List TokenBody → List TokenBody) (k : Kind) (gap : List ℕ) (w : WordText) (e : ℕ) (then wide : Bool) (r : Reads x text o cs ls [] T) → let q = o.at + length gap in
+word_on : (x : yaml_encoding_t) (text : List ℕ) (o : Where) (cs ds ls : List ℕ)
+    (T : List TokenBody → List TokenBody) (k : Kind) (gap : List ℕ) (w : WordText) (e : ℕ)
+    (then wide : Bool) (r : Reads x text o cs ls [] T) → let q = o.at + length gap in
     Clear (read_at text r.lexemes k q (may_begin o.now o.broken gap) w ∷ r.lexemes) ds
     → Comes text o.at o.depth (indent ls) k gap w e → stays_level k o.depth ≡ true → let q = o.at + length gap in
     IsRight o.depth ls (column_at text q) → IsLone text r.lexemes o.depth k q
@@ -297,7 +317,8 @@ deep_stays false start e = absurd (cc)
 deep_block : (d : ℕ) → nat_lt 0 d ≡ true → (d == 0) ≡ false
 deep_block d e = grind (arith, nat_tests)
 
-leaves_off : (text : List ℕ) (d : ℕ) (b : Bool) (w : WordText) (e : ℕ) (then wide : Bool) → b ≡ false → WordLeaves text d false w e then wide → WordLeaves text d b w e then wide
+leaves_off : (text : List ℕ) (d : ℕ) (b : Bool) (w : WordText) (e : ℕ) (then wide : Bool)
+    → b ≡ false → WordLeaves text d false w e then wide → WordLeaves text d b w e then wide
 leaves_off text d b w e then wide off leaves = let P : Bool → Type 0 = λ y. WordLeaves text d y w e then wide in subst P (sym off) leaves
 
 block_off : (b : Bool) → b ≡ false → (b && not false) ≡ false

@@ -43,7 +43,8 @@ nth_back : (xs ys : List ℕ) (k : ℕ) → get_or (xs ++ ys) (length xs + k) 0 
 nth_back [] ys k = let e : 0 + k ≡ k = omega arith in rw e refl
 nth_back (x ∷ xs) ys k = let e : suc (length xs) + k ≡ suc (length xs + k) = omega arith in rw e (nth_back xs ys k)
 
-has_more : (text : List ℕ) (p : ℕ) (xs ys : List ℕ) → HasAt text p xs → HasAt text (p + length xs) ys → HasAt text p (xs ++ ys)
+has_more : (text : List ℕ) (p : ℕ) (xs ys : List ℕ) → HasAt text p xs
+    → HasAt text (p + length xs) ys → HasAt text p (xs ++ ys)
 has_more text p xs ys f g = λ k few. elim (cases_Bool (nat_lt k (length xs))) [
   | inl e ↦ let less : k < length xs = grind (arith, nat_tests) in f k less ∙ sym (nth_front xs ys k less)
   | inr e ↦
@@ -56,7 +57,9 @@ has_more text p xs ys f g = λ k few. elim (cases_Bool (nat_lt k (length xs))) [
 
 -- ---- where the last lexeme ends before the white
 
-gap_there : (text : List ℕ) (h : List Lexeme) (p : ℕ) (gap : List ℕ) → (reached h).index ≡ p → IsGap text p gap → gap_behind text h ≡ record { place = p + length gap; broke = has_break gap }
+gap_there : (text : List ℕ) (h : List Lexeme) (p : ℕ) (gap : List ℕ) → (reached h).index ≡ p
+    → IsGap text p gap
+    → gap_behind text h ≡ record { place = p + length gap; broke = has_break gap }
 gap_there text h p gap e g = ap (λ (i : ℕ). gap_at (in_flow h) (key_allowed h) text i) e ∙ gap_is_read (in_flow h) (key_allowed h) text p gap g.has g.blank g.ends
 
 pub white_begins : WhiteBegins
@@ -67,7 +70,8 @@ white_begins text h p now e k = record {
 
 -- ---- further white
 
-gap_front : (text : List ℕ) (p : ℕ) (white gap : List ℕ) → HasAt text p white → are_gap white ≡ true → IsGap text (p + length white) gap → IsGap text p (white ++ gap)
+gap_front : (text : List ℕ) (p : ℕ) (white gap : List ℕ) → HasAt text p white → are_gap white ≡ true
+    → IsGap text (p + length white) gap → IsGap text p (white ++ gap)
 gap_front text p white gap f e g =
     let size = length_more white gap in
     let there : p + length (white ++ gap) ≡ p + length white + length gap = omega (arith, size) in
@@ -77,7 +81,8 @@ gap_front text p white gap f e g =
       ends = ap (λ (n : ℕ). begins_lexeme text n) there ∙ g.ends;
     }
 
-both_breaks : (now x y broken : Bool) → (now || ((x || y) && broken)) ≡ ((now || (x && broken)) || (y && broken))
+both_breaks : (now x y broken : Bool)
+    → (now || ((x || y) && broken)) ≡ ((now || (x && broken)) || (y && broken))
 both_breaks true x y broken = refl
 both_breaks false true true true = refl
 both_breaks false true true false = refl
@@ -93,7 +98,8 @@ white_goes_on text h p now broken white w f e = record {
 
 -- ---- white that was taken
 
-feeds : (b c d : ℕ) → (b == 32 || (b == 10 || b == 13)) ≡ true → ((b == 32) ≡ true) ⊎ (nat_lt 0 (break_of b c d) ≡ true)
+feeds : (b c d : ℕ) → (b == 32 || (b == 10 || b == 13)) ≡ true
+    → ((b == 32) ≡ true) ⊎ (nat_lt 0 (break_of b c d) ≡ true)
 unfolding break_of
 feeds b c d h =
     elim (cases_Bool (b == 32)) [
@@ -104,7 +110,8 @@ feeds b c d h =
       ]
     ]
 
-pub no_white : (text : List ℕ) (p b : ℕ) → byte text p ≡ b → (b == 32 || (b == 10 || b == 13)) ≡ true → begins_lexeme text p ≡ true → ⊥
+pub no_white : (text : List ℕ) (p b : ℕ) → byte text p ≡ b
+    → (b == 32 || (b == 10 || b == 13)) ≡ true → begins_lexeme text p ≡ true → ⊥
 no_white text p b e f g =
     let (space, more) = and_parts (not (byte text p == 32)) (not (byte text p == 9) && (not (byte text p == 35) && (not (nat_lt 0 (break_width text p)) && not (p == 0 && is_bom text p)))) g in
     let (tab, rest) = and_parts (not (byte text p == 9)) (not (byte text p == 35) && (not (nat_lt 0 (break_width text p)) && not (p == 0 && is_bom text p))) more in
@@ -124,10 +131,12 @@ record Parts (text : List ℕ) (p : ℕ) (white gap : List ℕ) : Type 0 where
 pub has_first : (text : List ℕ) (p b : ℕ) (bs : List ℕ) → HasAt text p (b ∷ bs) → byte text p ≡ b
 has_first text p b bs h = let e : p + 0 ≡ p = omega arith in sym (ap (λ (n : ℕ). byte text n) e) ∙ h 0 (omega arith)
 
-pub has_rest : (text : List ℕ) (p b : ℕ) (bs : List ℕ) → HasAt text p (b ∷ bs) → HasAt text (p + 1) bs
+pub has_rest : (text : List ℕ) (p b : ℕ) (bs : List ℕ) → HasAt text p (b ∷ bs)
+    → HasAt text (p + 1) bs
 has_rest text p b bs h = λ k few. let e : p + suc k ≡ p + 1 + k = omega arith in sym (ap (λ (n : ℕ). byte text n) e) ∙ h (suc k) (omega (arith, few))
 
-parted : (text : List ℕ) (p : ℕ) (white gap : List ℕ) → HasAt text p white → are_gap white ≡ true → IsGap text p gap → Parts text p white gap
+parted : (text : List ℕ) (p : ℕ) (white gap : List ℕ) → HasAt text p white → are_gap white ≡ true
+    → IsGap text p gap → Parts text p white gap
 parted text p [] gap f e g =
     let z : p + 0 ≡ p = omega arith in
     let P : ℕ → Type 0 = λ n. IsGap text n gap in
@@ -147,7 +156,9 @@ parted text p (x ∷ white) (y ∷ gap) f e g =
     let P : ℕ → Type 0 = λ n. IsGap text n parts.more in
     record { more = parts.more; same = ap (λ (b : ℕ). b ∷ gap) same ∙ ap (λ (bs : List ℕ). x ∷ bs) parts.same; is = subst P far parts.is }
 
-passed_place : (text : List ℕ) (h : List Lexeme) (p : ℕ) (white gap : List ℕ) → (reached h).index ≡ p + length white → Parts text p white gap → (gap_behind text h).place ≡ p + length gap
+passed_place : (text : List ℕ) (h : List Lexeme) (p : ℕ) (white gap : List ℕ)
+    → (reached h).index ≡ p + length white → Parts text p white gap
+    → (gap_behind text h).place ≡ p + length gap
 passed_place text h p white gap e parts =
     let size = length_more white parts.more in
     let whole = ap (λ (bs : List ℕ). length bs) parts.same in
@@ -160,7 +171,8 @@ white_is_passed text h p white broken f e there key = record {
 }
 
 -- no white stands where a lexeme begins
-nothing_more : (text : List ℕ) (p : ℕ) (more : List ℕ) → begins_lexeme text p ≡ true → IsGap text p more → more ≡ []
+nothing_more : (text : List ℕ) (p : ℕ) (more : List ℕ) → begins_lexeme text p ≡ true
+    → IsGap text p more → more ≡ []
 nothing_more text p [] e g = refl
 nothing_more text p (x ∷ more) e g =
     let (here, rest) = and_parts (x == 32 || (x == 10 || x == 13)) (are_gap more) g.blank in
@@ -174,7 +186,9 @@ and_true : (a : Bool) → a ≡ (a && true)
 and_true true = refl
 and_true false = refl
 
-taken_allowed : (text : List ℕ) (h : List Lexeme) (p : ℕ) (white gap : List ℕ) → begins_lexeme text (p + length white) ≡ true → (reached h).index ≡ p + length white → key_allowed h ≡ has_break white → Parts text p white gap
+taken_allowed : (text : List ℕ) (h : List Lexeme) (p : ℕ) (white gap : List ℕ)
+    → begins_lexeme text (p + length white) ≡ true → (reached h).index ≡ p + length white
+    → key_allowed h ≡ has_break white → Parts text p white gap
     → allowed_behind h (gap_behind text h) ≡ (false || (has_break gap && true))
 taken_allowed text h p white gap ends there key parts =
     let none = nothing_more text (p + length white) parts.more ends parts.is in
@@ -189,7 +203,9 @@ white_is_taken text h p white g there key = record {
   allowed = λ gap f. taken_allowed text h p white gap g.ends there key (parted text p white gap g.has g.blank f);
 }
 
-over_allowed : (text : List ℕ) (h : List Lexeme) (p : ℕ) (now : Bool) (white gap : List ℕ) → begins_lexeme text (p + length white) ≡ true → (reached h).index ≡ p + length white → key_allowed h ≡ now → Parts text p white gap
+over_allowed : (text : List ℕ) (h : List Lexeme) (p : ℕ) (now : Bool) (white gap : List ℕ)
+    → begins_lexeme text (p + length white) ≡ true → (reached h).index ≡ p + length white
+    → key_allowed h ≡ now → Parts text p white gap
     → allowed_behind h (gap_behind text h) ≡ (now || (has_break gap && false))
 over_allowed text h p now white gap ends there key parts =
     let none = nothing_more text (p + length white) parts.more ends parts.is in
@@ -211,7 +227,8 @@ white_is_over text h p now white g there key = record {
 pub white_meets : WhiteMeets
 white_meets text h p d level now broken gap k w white g kind word = record { place = white.place gap g; allowed = white.allowed gap g; kind = kind; word = word }
 
-allows_found : (k : Kind) (block x y : Bool) → (is_value k ≡ true → x ≡ y) → allows_key k block x ≡ allows_key k block y
+allows_found : (k : Kind) (block x y : Bool) → (is_value k ≡ true → x ≡ y)
+    → allows_key k block x ≡ allows_key k block y
 allows_found kinds.ValueMark block x y f = ap (λ (b : Bool). block && not b) (f refl)
 allows_found k block x y f = refl
 

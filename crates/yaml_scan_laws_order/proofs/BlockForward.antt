@@ -14,7 +14,9 @@ use Rattle.yaml_scan_history.specs.scan_block.Lines.{spaces, LineSpot, Stops, Li
 use Rattle.yaml_scan_history.specs.scan_block.Header.{HeaderText, is_chomping, indicators, digit_place, past_comment, header_end, header_at}
 use Rattle.yaml_scan_history.specs.scan_block.Block.{BlockText, column_of, block_with, block_lines, block_behind, block_at}
 
-past-inside : (kind : List ℕ → ℕ → Bool) (n : ℕ) (text : List ℕ) (p : ℕ) → ((q : ℕ) → kind text q ≡ true → 0 < byte text q) → p ≤ length text → past kind n text p ≤ length text
+past-inside : (kind : List ℕ → ℕ → Bool) (n : ℕ) (text : List ℕ) (p : ℕ)
+    → ((q : ℕ) → kind text q ≡ true → 0 < byte text q) → p ≤ length text
+    → past kind n text p ≤ length text
 unfolding past
 past-inside kind zero text p some l = l
 past-inside kind (suc n) text p some l =
@@ -58,11 +60,13 @@ comment_place text p l =
     ]
 
 -- how many indicators stand there, by what they are
-indicators_are : (b c : ℕ) → (indicators b c ≡ 0) ⊎ (((indicators b c ≡ 1) × (0 < b)) ⊎ ((indicators b c ≡ 2) × (0 < c)))
+indicators_are : (b c : ℕ)
+    → (indicators b c ≡ 0) ⊎ (((indicators b c ≡ 1) × (0 < b)) ⊎ ((indicators b c ≡ 2) × (0 < c)))
 unfolding indicators is_chomping is_digit_byte
 indicators_are b c = grind (arith, nat_tests)
 
-indicators_place : (text : List ℕ) (p : ℕ) → p ≤ length text → IsFrom text p (p + indicators (byte text p) (byte text (p + 1)))
+indicators_place : (text : List ℕ) (p : ℕ) → p ≤ length text
+    → IsFrom text p (p + indicators (byte text p) (byte text (p + 1)))
 indicators_place text p l =
     elim (indicators_are (byte text p) (byte text (p + 1))) [
       | inl none ↦ rw none record { forward = omega arith; inside = omega (arith, l) }
@@ -80,7 +84,8 @@ header_end_place text p l =
 abbrev header_place : HeaderText → ℕ
 header_place h = h.place
 
-header_lands : (text : List ℕ) (p : ℕ) → p ≤ length text → Lands header_place text p (header_at text p)
+header_lands : (text : List ℕ) (p : ℕ) → p ≤ length text
+    → Lands header_place text p (header_at text p)
 unfolding header_at
 header_lands text p l =
     let end = header_end_place text p l in
@@ -92,7 +97,8 @@ header_lands text p l =
       ]
     ]
 
-spaces-inside : (n : ℕ) (text : List ℕ) (p : ℕ) → p ≤ length text → p + spaces n text p ≤ length text
+spaces-inside : (n : ℕ) (text : List ℕ) (p : ℕ) → p ≤ length text
+    → p + spaces n text p ≤ length text
 unfolding spaces
 spaces-inside zero text p l = omega (arith, l)
 spaces-inside (suc n) text p l =
@@ -148,17 +154,20 @@ abbrev Land : List ℕ → ℕ → Result Lines Wrong → Type 0
 Land text end (Ok ls) = AreLines text end ls
 Land text end (Err w) = Unit {0}
 
-line_lands : (text : List ℕ) (end q : ℕ) (l : BlockLine) (r : Result Lines Wrong) → end ≤ q → Land text q r → Land text end (with_line l r)
+line_lands : (text : List ℕ) (end q : ℕ) (l : BlockLine) (r : Result Lines Wrong) → end ≤ q
+    → Land text q r → Land text end (with_line l r)
 line_lands text end q l (Ok ls) le h = record { last = omega (arith, le, h.last); place = h.place; inside = h.inside }
 line_lands text end q l (Err w) le h = tt
 
-then_lands : (more : ℕ → Result Lines Wrong) (text : List ℕ) (end p : ℕ) (s : LineSpot) → end ≤ p → ((q : ℕ) → q ≤ length text → Land text q (more q)) → Fits text p s
+then_lands : (more : ℕ → Result Lines Wrong) (text : List ℕ) (end p : ℕ) (s : LineSpot) → end ≤ p
+    → ((q : ℕ) → q ≤ length text → Land text q (more q)) → Fits text p s
     → Land text end (line_then more end s)
 then_lands more text end p (Stops q) le rest f = record { last = omega arith; place = omega (arith, le, f.forward); inside = f.inside }
 then_lands more text end p (Line l q) le rest f = line_lands text end q l (more q) (omega (arith, le, f.forward)) (rest q f.inside)
 then_lands more text end p (Tab q) le rest f = tt
 
-lines_land : (n c : ℕ) (text : List ℕ) (end p : ℕ) → end ≤ p → p ≤ length text → Land text end (lines_from n c text end p)
+lines_land : (n c : ℕ) (text : List ℕ) (end p : ℕ) → end ≤ p → p ≤ length text
+    → Land text end (lines_from n c text end p)
 unfolding lines_from
 lines_land zero c text end p le l = tt
 lines_land (suc n) c text end p le l =
@@ -174,20 +183,24 @@ abbrev pub LandsBlock : List ℕ → ℕ → Result BlockText Wrong → Type 0
 LandsBlock text p (Ok x) = IsBlockFrom text p x
 LandsBlock text p (Err w) = Unit {0}
 
-with_lands : (text : List ℕ) (o p : ℕ) (f : List BlockLine → List ℕ) (r : Result Lines Wrong) → o ≤ p → Land text p r → LandsBlock text o (block_with f r)
+with_lands : (text : List ℕ) (o p : ℕ) (f : List BlockLine → List ℕ) (r : Result Lines Wrong)
+    → o ≤ p → Land text p r → LandsBlock text o (block_with f r)
 with_lands text o p f (Ok ls) le h = record { end = omega (arith, le, h.last); place = h.place; inside = h.inside }
 with_lands text o p f (Err w) le h = tt
 
-block_lines_land : (folded : Bool) (text : List ℕ) (p : ℕ) (h : HeaderText) (r : Result ℕ Wrong) → IsFrom text p h.place → LandsBlock text p (block_lines folded text h r)
+block_lines_land : (folded : Bool) (text : List ℕ) (p : ℕ) (h : HeaderText) (r : Result ℕ Wrong)
+    → IsFrom text p h.place → LandsBlock text p (block_lines folded text h r)
 block_lines_land folded text p h (Ok c) f =
     with_lands text p h.place (block_value folded h.chomp) (lines_from (suc (length text)) c text h.place h.place) f.forward
     (lines_land (suc (length text)) c text h.place h.place (omega arith) f.inside)
 block_lines_land folded text p h (Err w) f = tt
 
-behind_lands : (folded : Bool) (level : ℕ) (text : List ℕ) (p : ℕ) (r : Result HeaderText Wrong) → Lands header_place text p r → LandsBlock text p (block_behind folded level text r)
+behind_lands : (folded : Bool) (level : ℕ) (text : List ℕ) (p : ℕ) (r : Result HeaderText Wrong)
+    → Lands header_place text p r → LandsBlock text p (block_behind folded level text r)
 behind_lands folded level text p (Ok h) f = block_lines_land folded text p h (column_of level text h.digit h.place) f
 behind_lands folded level text p (Err w) f = tt
 
 -- a block scalar ends behind its indicator
-pub block_place : (level : ℕ) (text : List ℕ) (p : ℕ) → p < length text → LandsBlock text (p + 1) (block_at level text p)
+pub block_place : (level : ℕ) (text : List ℕ) (p : ℕ) → p < length text
+    → LandsBlock text (p + 1) (block_at level text p)
 block_place level text p l = behind_lands (byte text p == 62) level text (p + 1) (header_at text (p + 1)) (header_lands text (p + 1) (omega arith))

@@ -24,15 +24,18 @@ abbrev pub Chain : List ℕ → List Lexeme → Type 0
 Chain text [] = Unit {0}
 Chain text (l ∷ h) = IsBehind text h l × Chain text h
 
-open_before : (text : List ℕ) (h : List Lexeme) (l : Lexeme) → next text h ≡ Read l → ended h ≡ false
+open_before : (text : List ℕ) (h : List Lexeme) (l : Lexeme) → next text h ≡ Read l
+    → ended h ≡ false
 open_before text [] l e = refl
 open_before text (x ∷ h) l e = not_ended text x h l e
 
-first_saved : (text : List ℕ) (h : List Lexeme) (l : Lexeme) → next text h ≡ Read l → length h ≡ 0 → l.saved ≡ false
+first_saved : (text : List ℕ) (h : List Lexeme) (l : Lexeme) → next text h ≡ Read l → length h ≡ 0
+    → l.saved ≡ false
 first_saved text [] l e none = rw (← first_is text l e) refl
 first_saved text (x ∷ h) l e none = absurd (omega (arith, none))
 
-read_behind : (text : List ℕ) (h : List Lexeme) (l : Lexeme) → Stands text h → next text h ≡ Read l → IsBehind text h l
+read_behind : (text : List ℕ) (h : List Lexeme) (l : Lexeme) → Stands text h → next text h ≡ Read l
+    → IsBehind text h l
 read_behind text h l s e = record {
   behind = (read_forward text h l s e).0.0;
   lines = ((read_forward text h l s e).0.1, (read_forward text h l s e).1.1);
@@ -41,7 +44,8 @@ read_behind text h l s e = record {
   first = λ none. first_saved text h l e none;
 }
 
-extended_chain : (text : List ℕ) (h : List Lexeme) (x : Next) → Stands text h → Chain text h → next text h ≡ x → Chain text (extended x h)
+extended_chain : (text : List ℕ) (h : List Lexeme) (x : Next) → Stands text h → Chain text h
+    → next text h ≡ x → Chain text (extended x h)
 extended_chain text h (Read l) s c e = (read_behind text h l s e, c)
 extended_chain text h (Fails f) s c e = c
 extended_chain text h Ends s c e = c
@@ -57,17 +61,21 @@ record HasBytes (c : Lexeme) (count : ℕ) (h : List Lexeme) : Type 0 where
   pub each : ended h ≡ false → c.start.index + suc count ≤ (reached h).index
   pub lines : c.start.line ≤ (reached h).line
 
-own_bytes : (text : List ℕ) (l : Lexeme) → StandsIn text l → (l.start.index ≤ l.reached.index) × (is_end l.kind ≡ false → l.start.index < l.reached.index)
+own_bytes : (text : List ℕ) (l : Lexeme) → StandsIn text l
+    → (l.start.index ≤ l.reached.index) × (is_end l.kind ≡ false → l.start.index < l.reached.index)
 own_bytes text l t = ((reached_inside text l (is_end l.kind) t).1, λ n. let b = takes_bytes text l t n in omega (arith, b.some, b.order))
 
-some_before : (text : List ℕ) (h : List Lexeme) (l : Lexeme) → IsBehind text h l → l.saved ≡ true → 0 < length h
+some_before : (text : List ℕ) (h : List Lexeme) (l : Lexeme) → IsBehind text h l → l.saved ≡ true
+    → 0 < length h
 some_before text h l b s =
     elim (cases_lt 0 (length h)) [
       | inl some ↦ some
       | inr none ↦ absurd (true≢false (sym s ∙ b.first (omega (arith, none))))
     ]
 
-has_bytes : (text : List ℕ) (newer : List Lexeme) (c : Lexeme) (older : List Lexeme) → Chain text (newer ++ c ∷ older) → c.saved ≡ true → HasBytes c (length newer) (newer ++ c ∷ older)
+has_bytes : (text : List ℕ) (newer : List Lexeme) (c : Lexeme) (older : List Lexeme)
+    → Chain text (newer ++ c ∷ older) → c.saved ≡ true
+    → HasBytes c (length newer) (newer ++ c ∷ older)
 has_bytes text [] c older (b, rest) s =
     let (low, high) = own_bytes text c (b.stands (some_before text older c b s)) in
     record { all_but_one = omega (arith, low); each = λ n. let more = high n in omega (arith, more); lines = b.lines.1 }
@@ -89,21 +97,27 @@ record IsFound (d : ℕ) (h : List Lexeme) (c : Candidate) : Type 0 where
   pub there : h ≡ newer ++ c.lexeme ∷ older
   pub number : c.number ≡ length older
 
-found_further : (d : ℕ) (l : Lexeme) (h : List Lexeme) (c : Candidate) → IsFound d h c → IsFound d (l ∷ h) c
+found_further : (d : ℕ) (l : Lexeme) (h : List Lexeme) (c : Candidate) → IsFound d h c
+    → IsFound d (l ∷ h) c
 found_further d l h c f = record { depth = f.depth; saved = f.saved; newer = l ∷ f.newer; older = f.older; there = ap (λ h. l ∷ h) f.there; number = f.number }
 
-found_here : (d : ℕ) (l : Lexeme) (h : List Lexeme) (c : Candidate) → l.depth ≡ d → l.saved ≡ true → Some (record { number = length h; lexeme = l }) ≡ Some c → IsFound d (l ∷ h) c
+found_here : (d : ℕ) (l : Lexeme) (h : List Lexeme) (c : Candidate) → l.depth ≡ d → l.saved ≡ true
+    → Some (record { number = length h; lexeme = l }) ≡ Some c → IsFound d (l ∷ h) c
 found_here d l h c y s e =
     let same : ◌≡◌ {A = Candidate} (record { number = length h; lexeme = l }) c = cc in
     subst (λ c. IsFound d (l ∷ h) c) same record { depth = y; saved = s; newer = []; older = h; there = refl; number = refl }
 
-found_nowhere : (d : ℕ) (h : List Lexeme) (c : Candidate) → ◌≡◌ {A = Option Candidate} None (Some c) → IsFound d h c
+found_nowhere : (d : ℕ) (h : List Lexeme) (c : Candidate) → ◌≡◌ {A = Option Candidate} None (Some c)
+    → IsFound d h c
 found_nowhere d h c e = absurd cc
 
 -- a look back by its tests: of that depth, saved, cancels, of a smaller depth
-found_by_tests : (d : ℕ) (l : Lexeme) (h : List Lexeme) (c : Candidate) (rest : Option Candidate) (level saved stops below : Bool)
-    → (level ≡ true → l.depth ≡ d) → (saved ≡ true → l.saved ≡ true) → (rest ≡ Some c → IsFound d h c)
-    → (if level then (if saved then Some (record { number = length h; lexeme = l }) else if stops then None else rest) else if below then None else rest) ≡ Some c
+found_by_tests : (d : ℕ) (l : Lexeme) (h : List Lexeme) (c : Candidate) (rest : Option Candidate)
+    (level saved stops below : Bool)
+    → (level ≡ true → l.depth ≡ d) → (saved ≡ true → l.saved ≡ true)
+    → (rest ≡ Some c → IsFound d h c)
+    → (if level then (if saved then Some (record { number = length h; lexeme = l }) else if stops
+    then None else rest) else if below then None else rest) ≡ Some c
     → IsFound d (l ∷ h) c
 found_by_tests d l h c rest true true stops below y s more e = found_here d l h c (y refl) (s refl) e
 found_by_tests d l h c rest true false true below y s more e = found_nowhere d (l ∷ h) c e
@@ -117,7 +131,8 @@ candidate_found d [] c e = found_nowhere d [] c e
 candidate_found d (l ∷ h) c e =
     found_by_tests d l h c (candidate d h) (l.depth == d) l.saved (cancels l.kind) (nat_lt l.depth d) (eqb-true l.depth d) (λ s. s) (candidate_found d h c) e
 
-fresh_near : (o : Option Candidate) (m : yaml_mark_t) (c : Candidate) → fresh o m ≡ Some c → is_fresh c.lexeme.start m ≡ true
+fresh_near : (o : Option Candidate) (m : yaml_mark_t) (c : Candidate) → fresh o m ≡ Some c
+    → is_fresh c.lexeme.start m ≡ true
 fresh_near None m c e = let bad : None ≡ Some c = e in absurd cc
 fresh_near (Some x) m c e =
     elim (cases_Bool (is_fresh x.lexeme.start m)) [
@@ -136,7 +151,8 @@ record IsHeld (h : List Lexeme) (c : Candidate) : Type 0 where
   pub near : (reached h).index ≤ c.lexeme.start.index + 1024
   pub own : candidate c.lexeme.depth h ≡ Some c
 
-held_is : (text : List ℕ) (h : List Lexeme) (d : ℕ) (c : Candidate) → Chain text h → candidate d h ≡ Some c → is_fresh c.lexeme.start (reached h) ≡ true → IsHeld h c
+held_is : (text : List ℕ) (h : List Lexeme) (d : ℕ) (c : Candidate) → Chain text h
+    → candidate d h ≡ Some c → is_fresh c.lexeme.start (reached h) ≡ true → IsHeld h c
 held_is text h d c chain e fresh =
     let f = candidate_found d h c e in
     let there = f.there in
@@ -153,7 +169,8 @@ held_is text h d c chain e fresh =
       own = ap (λ d. candidate d h) f.depth ∙ e;
     }
 
-first_held : (text : List ℕ) (h : List Lexeme) → Chain text h → first_open h h < length h → (c : Candidate) × (c.number ≡ first_open h h) × IsHeld h c
+first_held : (text : List ℕ) (h : List Lexeme) → Chain text h → first_open h h < length h
+    → (c : Candidate) × (c.number ≡ first_open h h) × IsHeld h c
 first_held text h chain below =
     let (d, (c, f, m)) = first_open-is h h below in
     (c, m, held_is text h d c chain (fresh_is (candidate d h) (reached h) c f) (fresh_near (candidate d h) (reached h) c f))
@@ -166,17 +183,21 @@ few_held text h chain =
     ]
 
 -- at most 1,025 lexemes stand from the earliest open candidate on
-pub few_are_held : (text : List ℕ) (n : ℕ) → length (history text n) ≤ first_open (history text n) (history text n) + 1025
+pub few_are_held : (text : List ℕ) (n : ℕ)
+    → length (history text n) ≤ first_open (history text n) (history text n) + 1025
 few_are_held text n = few_held text (history text n) (history_chain text n)
 
 -- the earliest open candidate is on the line that is reached, at most 1,024 bytes before
-pub held_is_short : (text : List ℕ) (n : ℕ) → let h = history text n in first_open h h < length h → (c : Candidate)
-    × (c.number ≡ first_open h h) × (candidate c.lexeme.depth h ≡ Some c) × ((reached h).line ≡ c.lexeme.start.line) × ((reached h).index ≤ c.lexeme.start.index + 1024)
+pub held_is_short : (text : List ℕ) (n : ℕ) → let h = history text n in first_open h h < length h
+    → (c : Candidate)
+    × (c.number ≡ first_open h h) × (candidate c.lexeme.depth h ≡ Some c)
+    × ((reached h).line ≡ c.lexeme.start.line) × ((reached h).index ≤ c.lexeme.start.index + 1024)
 held_is_short text n below =
     let (c, m, held) = first_held text (history text n) (history_chain text n) below in
     (c, m, held.own, held.line, held.near)
 
-few_waiting : (text : List ℕ) (h : List Lexeme) → Chain text h → ended h ≡ false → length h ≤ first_open h h + 1024
+few_waiting : (text : List ℕ) (h : List Lexeme) → Chain text h → ended h ≡ false
+    → length h ≤ first_open h h + 1024
 few_waiting text h chain more =
     elim (cases_lt (first_open h h) (length h)) [
       | inl below ↦ let (c, m, held) = first_held text h chain below in let few = held.fewer more in omega (arith, few, m)
@@ -184,5 +205,6 @@ few_waiting text h chain more =
     ]
 
 -- at most 1,024 lexemes wait where one more is read
-pub few_wait : (text : List ℕ) (n : ℕ) (l : Lexeme) → next text (history text n) ≡ Read l → length (history text n) ≤ first_open (history text n) (history text n) + 1024
+pub few_wait : (text : List ℕ) (n : ℕ) (l : Lexeme) → next text (history text n) ≡ Read l
+    → length (history text n) ≤ first_open (history text n) (history text n) + 1024
 few_wait text n l e = few_waiting text (history text n) (history_chain text n) (open_before text (history text n) l e)

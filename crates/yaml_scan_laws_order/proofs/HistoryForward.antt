@@ -40,7 +40,8 @@ unfolding next
 first_is text l e = reads_same first_lexeme l e
 
 -- nothing is read behind the end
-pub not_ended : (text : List ℕ) (x : Lexeme) (h : List Lexeme) (l : Lexeme) → next text (x ∷ h) ≡ Read l → is_end x.kind ≡ false
+pub not_ended : (text : List ℕ) (x : Lexeme) (h : List Lexeme) (l : Lexeme)
+    → next text (x ∷ h) ≡ Read l → is_end x.kind ≡ false
 unfolding next
 not_ended text x h l e =
     elim (cases_Bool (is_end x.kind)) [
@@ -48,20 +49,24 @@ not_ended text x h l e =
       | inr n ↦ n
     ]
 
-read_follows : (text : List ℕ) (x : Lexeme) (h : List Lexeme) (l : Lexeme) → x.reached.index ≤ length text → next text (x ∷ h) ≡ Read l → Follows text x.reached.index l
+read_follows : (text : List ℕ) (x : Lexeme) (h : List Lexeme) (l : Lexeme)
+    → x.reached.index ≤ length text → next text (x ∷ h) ≡ Read l → Follows text x.reached.index l
 read_follows text x h l i e = subst (ReadsBehind text x.reached.index) e (next_reads text x h (not_ended text x h l e) i)
 
-pub reached_inside : (text : List ℕ) (l : Lexeme) (ended : Bool) → Takes ended text l → (l.reached.index ≤ length text) × (l.start.index ≤ l.reached.index)
+pub reached_inside : (text : List ℕ) (l : Lexeme) (ended : Bool) → Takes ended text l
+    → (l.reached.index ≤ length text) × (l.start.index ≤ l.reached.index)
 reached_inside text l true t = let same = ap (λ (m : yaml_mark_t). m.index) t.reached in (omega (arith, same, t.inside), omega (arith, same))
 reached_inside text l false t = (t.inside, omega (arith, t.some, t.order))
 
-pub takes_bytes : (text : List ℕ) (l : Lexeme) → StandsIn text l → is_end l.kind ≡ false → TakesBytes text l
+pub takes_bytes : (text : List ℕ) (l : Lexeme) → StandsIn text l → is_end l.kind ≡ false
+    → TakesBytes text l
 takes_bytes text l t e = subst (λ b. Takes b text l) e t
 
 first_stands : (text : List ℕ) → Reaches text first_lexeme []
 first_stands text = record { inside = omega arith; mark = λ e. mark_start text; few = λ e. omega arith; count = omega arith }
 
-read_stands : (text : List ℕ) (h : List Lexeme) (l : Lexeme) → Stands text h → next text h ≡ Read l → Reaches text l h
+read_stands : (text : List ℕ) (h : List Lexeme) (l : Lexeme) → Stands text h → next text h ≡ Read l
+    → Reaches text l h
 read_stands text [] l s e = rw (← first_is text l e) (first_stands text)
 read_stands text (x ∷ h) l s e =
     let (f, t) = read_follows text x h l s.inside e in
@@ -74,7 +79,8 @@ read_stands text (x ∷ h) l s e =
       count = omega (arith, before, s.inside);
     }
 
-extended_stands : (text : List ℕ) (h : List Lexeme) (x : Next) → Stands text h → next text h ≡ x → Stands text (extended x h)
+extended_stands : (text : List ℕ) (h : List Lexeme) (x : Next) → Stands text h → next text h ≡ x
+    → Stands text (extended x h)
 extended_stands text h (Read l) s e = read_stands text h l s e
 extended_stands text h (Fails f) s e = s
 extended_stands text h Ends s e = s
@@ -91,14 +97,16 @@ moved_line k m =
       | inr e ↦ rw e (omega arith)
     ]
 
-placed_line : (text : List ℕ) (l : Lexeme) (ended : Bool) → Takes ended text l → line_at text l.start.index ≤ l.start.line
+placed_line : (text : List ℕ) (l : Lexeme) (ended : Bool) → Takes ended text l
+    → line_at text l.start.index ≤ l.start.line
 placed_line text l false t = let same = ap (λ (m : yaml_mark_t). m.line) t.start in omega (arith, same)
 placed_line text l true t =
     let same = ap (λ (m : yaml_mark_t). m.line) t.start in
     let more = moved_line l.kind (mark_at text l.start.index) in
     omega (arith, same, more)
 
-placed_reached : (text : List ℕ) (l : Lexeme) (ended : Bool) → Takes ended text l → Upto l.start l.reached
+placed_reached : (text : List ℕ) (l : Lexeme) (ended : Bool) → Takes ended text l
+    → Upto l.start l.reached
 placed_reached text l true t = rw t.reached (omega arith, omega arith)
 placed_reached text l false t =
     let forward : l.start.index ≤ l.reached.index = omega (arith, t.some, t.order) in
@@ -107,7 +115,8 @@ placed_reached text l false t =
     let last = ap (λ (m : yaml_mark_t). m.line) t.reached in
     (forward, omega (arith, grown, first, last))
 
-pub read_forward : (text : List ℕ) (h : List Lexeme) (l : Lexeme) → Stands text h → next text h ≡ Read l → Upto (reached h) l.start × Upto l.start l.reached
+pub read_forward : (text : List ℕ) (h : List Lexeme) (l : Lexeme) → Stands text h
+    → next text h ≡ Read l → Upto (reached h) l.start × Upto l.start l.reached
 read_forward text [] l s e = rw (← first_is text l e) ((omega arith, omega arith), (omega arith, omega arith))
 read_forward text (x ∷ h) l s e =
     let (f, t) = read_follows text x h l s.inside e in
@@ -120,7 +129,8 @@ read_forward text (x ∷ h) l s e =
 pub goes_forward : (text : List ℕ) → GoesForward text
 goes_forward text n l e = read_forward text (history text n) l (history_stands text n) e
 
-pub stand_in : (text : List ℕ) (h : List Lexeme) (l : Lexeme) → 0 < length h → Stands text h → next text h ≡ Read l → ((reached h).index ≤ l.start.index) × StandsIn text l
+pub stand_in : (text : List ℕ) (h : List Lexeme) (l : Lexeme) → 0 < length h → Stands text h
+    → next text h ≡ Read l → ((reached h).index ≤ l.start.index) × StandsIn text l
 stand_in text [] l some s e = absurd (omega arith)
 stand_in text (x ∷ h) l some s e = read_follows text x h l s.inside e
 
@@ -130,7 +140,8 @@ cases_Next (Fails f) = inr (λ l e. let bad : Fails f ≡ Read l = e in cc)
 cases_Next Ends = inr (λ l e. let bad : Ends ≡ Read l = e in cc)
 
 -- a step that reads has as many lexemes before it as steps
-pub reads_count : (text : List ℕ) (n : ℕ) (l : Lexeme) → next text (history text n) ≡ Read l → length (history text n) ≡ n
+pub reads_count : (text : List ℕ) (n : ℕ) (l : Lexeme) → next text (history text n) ≡ Read l
+    → length (history text n) ≡ n
 unfolding history
 reads_count text zero l e = refl
 reads_count text (suc n) l e =
@@ -149,7 +160,8 @@ few_of text (x ∷ h) s = let count = s.count in omega (arith, count)
 pub are_few : (text : List ℕ) (n : ℕ) → length (history text n) ≤ length text + 2
 are_few text n = few_of text (history text n) (history_stands text n)
 
-room_of : (text : List ℕ) (h : List Lexeme) (l : Lexeme) → Stands text h → next text h ≡ Read l → length h ≤ length text + 1
+room_of : (text : List ℕ) (h : List Lexeme) (l : Lexeme) → Stands text h → next text h ≡ Read l
+    → length h ≤ length text + 1
 room_of text [] l s e = omega arith
 room_of text (x ∷ h) l s e =
     let before = s.few (not_ended text x h l e) in
@@ -157,7 +169,8 @@ room_of text (x ∷ h) l s e =
     omega (arith, before, inside)
 
 -- a step that reads is one of at most two more than the text has bytes
-pub steps_below : (text : List ℕ) (n : ℕ) (l : Lexeme) → next text (history text n) ≡ Read l → n < length text + 2
+pub steps_below : (text : List ℕ) (n : ℕ) (l : Lexeme) → next text (history text n) ≡ Read l
+    → n < length text + 2
 steps_below text n l e =
     let count = reads_count text n l e in
     let room = room_of text (history text n) l (history_stands text n) e in
@@ -168,7 +181,8 @@ unfolding all
 all_ends text l e = let below = steps_below text (length text + 2) l e in absurd (omega (arith, below))
 
 -- nothing comes behind the last step
-pub stays_upto : (text : List ℕ) (n m : ℕ) → ((l : Lexeme) → next text (history text n) ≢ Read l) → n ≤ m → history text m ≡ history text n
+pub stays_upto : (text : List ℕ) (n m : ℕ) → ((l : Lexeme) → next text (history text n) ≢ Read l)
+    → n ≤ m → history text m ≡ history text n
 stays_upto text n m never le =
     let z : m - n + n ≡ m = omega arith in
     rw z at (stays text n (m - n) never)
@@ -185,7 +199,8 @@ cases_le a b =
     ]
 
 -- where nothing more is read, the lexemes are all
-pub last_is_all : (text : List ℕ) (n : ℕ) → ((l : Lexeme) → next text (history text n) ≢ Read l) → all text ≡ history text n
+pub last_is_all : (text : List ℕ) (n : ℕ) → ((l : Lexeme) → next text (history text n) ≢ Read l)
+    → all text ≡ history text n
 unfolding all
 last_is_all text n never =
     elim (cases_le n (length text + 2)) [
@@ -194,7 +209,8 @@ last_is_all text n never =
     ]
 
 -- what is settled stays so
-pub settled_stays : (text : List ℕ) (n m : ℕ) → m ≤ first_open (history text n) (history text n) → take m (handed text) ≡ take m (entries (history text n))
+pub settled_stays : (text : List ℕ) (n m : ℕ) → m ≤ first_open (history text n) (history text n)
+    → take m (handed text) ≡ take m (entries (history text n))
 unfolding all
 settled_stays text n m low =
     elim (cases_le n (length text + 2)) [
@@ -210,7 +226,8 @@ extended_grows (Read l) h = (l ∷ [], refl)
 extended_grows (Fails f) h = ([], refl)
 extended_grows Ends h = ([], refl)
 
-grows_by : (text : List ℕ) (n k : ℕ) → (newer : List Lexeme) × (history text (k + n) ≡ newer ++ history text n)
+grows_by : (text : List ℕ) (n k : ℕ)
+    → (newer : List Lexeme) × (history text (k + n) ≡ newer ++ history text n)
 unfolding history
 grows_by text n zero = let z : 0 + n ≡ n = omega arith in rw z ([], refl)
 grows_by text n (suc k) =
@@ -219,12 +236,14 @@ grows_by text n (suc k) =
     let z : suc k + n ≡ suc (k + n) = omega arith in
     rw z (front ++ newer, here ∙ ap (λ h. front ++ h) before ∙ sym (append_assoc front newer (history text n)))
 
-pub history_grows : (text : List ℕ) (n m : ℕ) → n ≤ m → (newer : List Lexeme) × (history text m ≡ newer ++ history text n)
+pub history_grows : (text : List ℕ) (n m : ℕ) → n ≤ m
+    → (newer : List Lexeme) × (history text m ≡ newer ++ history text n)
 history_grows text n m le =
     let z : m - n + n ≡ m = omega arith in
     rw z at (grows_by text n (m - n))
 
-pub lexemes_stand : (text : List ℕ) (n : ℕ) (l : Lexeme) → next text (history text (suc n)) ≡ Read l → ((reached (history text (suc n))).index ≤ l.start.index) × StandsIn text l
+pub lexemes_stand : (text : List ℕ) (n : ℕ) (l : Lexeme) → next text (history text (suc n)) ≡ Read l
+    → ((reached (history text (suc n))).index ≤ l.start.index) × StandsIn text l
 lexemes_stand text n l e =
     let count = reads_count text (suc n) l e in
     stand_in text (history text (suc n)) l (omega (arith, count)) (history_stands text (suc n)) e

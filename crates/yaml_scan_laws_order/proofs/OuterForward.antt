@@ -6,11 +6,13 @@ use Rattle.yaml_scan_history.specs.declared.lexeme.Lexeme.{Lexeme}
 use Rattle.yaml_scan_history.specs.History.{reached, Candidate, candidate, fresh, first_open}
 use Rattle.yaml_scan_history.proofs.HistoryLemmas.{candidate-more, candidate_below, fresh_is, first_open-is, first_open-least}
 
-outer_here : (l : Lexeme) (h : List Lexeme) (c : Candidate) → candidate 0 (l ∷ h) ≡ Some c → (l.depth ≡ 0) ⊎ (candidate 0 h ≡ Some c)
+outer_here : (l : Lexeme) (h : List Lexeme) (c : Candidate) → candidate 0 (l ∷ h) ≡ Some c
+    → (l.depth ≡ 0) ⊎ (candidate 0 h ≡ Some c)
 unfolding candidate
 outer_here l h c e = grind (arith, nat_tests)
 
-below_none : (d : ℕ) (l : Lexeme) (h : List Lexeme) (x : Candidate) → l.depth ≡ 0 → 0 < d → candidate d (l ∷ h) ≡ Some x → ⊥
+below_none : (d : ℕ) (l : Lexeme) (h : List Lexeme) (x : Candidate) → l.depth ≡ 0 → 0 < d
+    → candidate d (l ∷ h) ≡ Some x → ⊥
 unfolding candidate
 below_none d l h x outer deep e = grind (arith, nat_tests)
 
@@ -19,7 +21,8 @@ unfolding candidate
 none_first d x e = cc
 
 -- the candidate outside all brackets is before that of any depth inside
-pub outer_before : (d : ℕ) (h : List Lexeme) (c x : Candidate) → 0 < d → candidate 0 h ≡ Some c → candidate d h ≡ Some x → c.number < x.number
+pub outer_before : (d : ℕ) (h : List Lexeme) (c x : Candidate) → 0 < d → candidate 0 h ≡ Some c
+    → candidate d h ≡ Some x → c.number < x.number
 outer_before d [] c x deep e f = absurd (none_first d x f)
 outer_before d (l ∷ h) c x deep e f =
     elim (outer_here l h c e) [
@@ -30,12 +33,14 @@ outer_before d (l ∷ h) c x deep e f =
       ]
     ]
 
-outer_least : (h : List Lexeme) (c : Candidate) → fresh (candidate 0 h) (reached h) ≡ Some c → (first_open h h ≤ c.number) × (c.number < length h)
+outer_least : (h : List Lexeme) (c : Candidate) → fresh (candidate 0 h) (reached h) ≡ Some c
+    → (first_open h h ≤ c.number) × (c.number < length h)
 outer_least h c e =
     let low = candidate_below 0 h c (fresh_is (candidate 0 h) (reached h) c e) in
     (first_open-least h 0 c.number (c, e, refl) low, low)
 
-pub outer_is_first : (h : List Lexeme) (c : Candidate) → fresh (candidate 0 h) (reached h) ≡ Some c → first_open h h ≡ c.number
+pub outer_is_first : (h : List Lexeme) (c : Candidate) → fresh (candidate 0 h) (reached h) ≡ Some c
+    → first_open h h ≡ c.number
 outer_is_first h c e =
     let (least, low) = outer_least h c e in
     let (d, (x, f, m)) = first_open-is h h (omega (arith, least, low)) in

@@ -29,12 +29,14 @@ unfolding simple_escape
 simple_some zero h = absurd h
 simple_some (suc b) h = omega arith
 
-last_digit : (a b : Option ℕ) → IsThere (option_and_then (λ high. option_map (λ low. high * 16 + low) b) a) → IsThere b
+last_digit : (a b : Option ℕ)
+    → IsThere (option_and_then (λ high. option_map (λ low. high * 16 + low) b) a) → IsThere b
 last_digit None b h = absurd h
 last_digit (Some a) None h = h
 last_digit (Some a) (Some b) h = tt
 
-hex_inside : (n : ℕ) (text : List ℕ) (p : ℕ) → 0 < n → IsThere (hex_value text p n) → p + n ≤ length text
+hex_inside : (n : ℕ) (text : List ℕ) (p : ℕ) → 0 < n → IsThere (hex_value text p n)
+    → p + n ≤ length text
 unfolding hex_value
 hex_inside zero text p h s = absurd (omega arith)
 hex_inside (suc n) text p h s =
@@ -48,7 +50,8 @@ Fits text p Closing = p < length text
 Fits text p (Pieces qs q) = (p < q) × (q ≤ length text)
 Fits text p (Bad w) = Unit {0}
 
-coded_fits : (text : List ℕ) (p spot q : ℕ) (o : Option ℕ) → (IsThere o → (p < q) × (q ≤ length text)) → Fits text p (coded spot q o)
+coded_fits : (text : List ℕ) (p spot q : ℕ) (o : Option ℕ)
+    → (IsThere o → (p < q) × (q ≤ length text)) → Fits text p (coded spot q o)
 coded_fits text p spot q None h = tt
 coded_fits text p spot q (Some c) h =
     elim (cases_Bool (is_scalar c)) [
@@ -56,11 +59,13 @@ coded_fits text p spot q (Some c) h =
       | inr e ↦ rw e tt
     ]
 
-escaped_fits : (text : List ℕ) (p : ℕ) (o : Option (List ℕ)) → (IsThere o → p + 2 ≤ length text) → Fits text p (escaped p o)
+escaped_fits : (text : List ℕ) (p : ℕ) (o : Option (List ℕ)) → (IsThere o → p + 2 ≤ length text)
+    → Fits text p (escaped p o)
 escaped_fits text p None h = tt
 escaped_fits text p (Some bytes) h = (omega arith, h tt)
 
-simple_inside : (text : List ℕ) (p : ℕ) → IsThere (simple_escape (byte text (p + 1))) → p + 2 ≤ length text
+simple_inside : (text : List ℕ) (p : ℕ) → IsThere (simple_escape (byte text (p + 1)))
+    → p + 2 ≤ length text
 simple_inside text p h = let here = within text (p + 1) (simple_some (byte text (p + 1)) h) in omega (arith, here)
 
 escape_fits : (text : List ℕ) (p : ℕ) → Fits text p (escape_at text p)
@@ -76,7 +81,8 @@ escape_fits text p =
       ]
     ]
 
-quote_fits : (quote : ℕ) (text : List ℕ) (p : ℕ) → p < length text → Fits text p (quote_at quote text p)
+quote_fits : (quote : ℕ) (text : List ℕ) (p : ℕ) → p < length text
+    → Fits text p (quote_at quote text p)
 unfolding quote_at
 quote_fits quote text p l =
     elim (cases_Bool (quote == 39 && byte text (p + 1) == 39)) [
@@ -118,32 +124,38 @@ standing_fits quote text p =
 abbrev behind_pieces : List Piece × ℕ → ℕ
 behind_pieces x = x.1
 
-front_lands : (text : List ℕ) (p : ℕ) (qs : List Piece) (r : Result (List Piece × ℕ) Wrong) → Lands behind_pieces text p r → Lands behind_pieces text p (with_front qs r)
+front_lands : (text : List ℕ) (p : ℕ) (qs : List Piece) (r : Result (List Piece × ℕ) Wrong)
+    → Lands behind_pieces text p r → Lands behind_pieces text p (with_front qs r)
 front_lands text p qs (Ok x) h = h
 front_lands text p qs (Err w) h = tt
 
-lands_further : {Y : Type 0} (end : Y → ℕ) (text : List ℕ) (o p : ℕ) (r : Result Y Wrong) → o ≤ p → Lands end text p r → Lands end text o r
+lands_further : {Y : Type 0} (end : Y → ℕ) (text : List ℕ) (o p : ℕ) (r : Result Y Wrong) → o ≤ p
+    → Lands end text p r → Lands end text o r
 lands_further end text o p (Ok y) l h = record { forward = omega (arith, l, h.forward); inside = h.inside }
 lands_further end text o p (Err w) l h = tt
 
-followed_lands : (more : ℕ → Result (List Piece × ℕ) Wrong) (text : List ℕ) (p : ℕ) (s : Standing) → ((q : ℕ) → Lands behind_pieces text (q + 1) (more q)) → Fits text p s
+followed_lands : (more : ℕ → Result (List Piece × ℕ) Wrong) (text : List ℕ) (p : ℕ) (s : Standing)
+    → ((q : ℕ) → Lands behind_pieces text (q + 1) (more q)) → Fits text p s
     → Lands behind_pieces text (p + 1) (followed more p s)
 followed_lands more text p Closing rest f = record { forward = omega arith; inside = omega (arith, f) }
 followed_lands more text p (Pieces qs q) rest f =
     front_lands text (p + 1) qs (more q) (lands_further behind_pieces text (p + 1) (q + 1) (more q) (omega (arith, f.0)) (rest q))
 followed_lands more text p (Bad w) rest f = tt
 
-pieces_land : (n quote : ℕ) (text : List ℕ) (p : ℕ) → Lands behind_pieces text (p + 1) (pieces n quote text p)
+pieces_land : (n quote : ℕ) (text : List ℕ) (p : ℕ)
+    → Lands behind_pieces text (p + 1) (pieces n quote text p)
 unfolding pieces
 pieces_land zero quote text p = tt
 pieces_land (suc n) quote text p = followed_lands (pieces n quote text) text p (standing_at quote text p) (pieces_land n quote text) (standing_fits quote text p)
 
-valued_lands : (text : List ℕ) (p : ℕ) (f : List Piece → List ℕ) (r : Result (List Piece × ℕ) Wrong) → Lands behind_pieces text p r → Lands behind_bytes text p (valued f r)
+valued_lands : (text : List ℕ) (p : ℕ) (f : List Piece → List ℕ) (r : Result (List Piece × ℕ) Wrong)
+    → Lands behind_pieces text p r → Lands behind_bytes text p (valued f r)
 valued_lands text p f (Ok x) h = h
 valued_lands text p f (Err w) h = tt
 
 -- a quoted scalar ends behind both quotes, inside the text
-pub quoted_place : (quote : ℕ) (text : List ℕ) (p : ℕ) → Lands behind_bytes text (p + 1) (quoted_at quote text p)
+pub quoted_place : (quote : ℕ) (text : List ℕ) (p : ℕ)
+    → Lands behind_bytes text (p + 1) (quoted_at quote text p)
 quoted_place quote text p =
     lands_further behind_bytes text (p + 1) (p + 1 + 1) (quoted_at quote text p) (omega arith)
     (valued_lands text (p + 1 + 1) value (pieces (length text) quote text (p + 1)) (pieces_land (length text) quote text (p + 1)))

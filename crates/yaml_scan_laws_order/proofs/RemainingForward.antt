@@ -20,7 +20,8 @@ use Rattle.yaml_scan_laws_order.specs.Fronts.{GivesFirst}
 use Rattle.yaml_scan_laws_order.proofs.HistoryForward.{goes_forward, settled_stays, last_is_all, all_ends, stays_all, history_grows}
 
 -- the token of that number, and those behind it
-pub drop_append : (xs ys : List Token) (n : ℕ) (t : Token) → n < length xs → drop n (xs ++ ys) ≡ get_or xs n t ∷ drop (n + 1) (xs ++ ys)
+pub drop_append : (xs ys : List Token) (n : ℕ) (t : Token) → n < length xs
+    → drop n (xs ++ ys) ≡ get_or xs n t ∷ drop (n + 1) (xs ++ ys)
 drop_append xs ys n t l =
     let first = drop_more (xs ++ ys) n t (omega (arith, length-append xs ys)) in
     first ∙ ap (λ x. x ∷ drop (n + 1) (xs ++ ys)) (get_or_append_left xs ys t n l)
@@ -29,11 +30,15 @@ drop_past : (xs ys : List Token) (n : ℕ) → n ≡ length xs → drop n (xs ++
 drop_past [] ys n e = rw e refl
 drop_past (x ∷ xs) ys n e = rw e (drop_past xs ys (length xs) refl)
 
-pub tokens_is : (s : SpelledText) (dropped given : ℕ) → (remaining s dropped given).tokens ≡ drop given (flat_map (spell s) (drop dropped (handed s.text)) ++ kept_of (next s.text (all s.text)) (all s.text))
+pub tokens_is : (s : SpelledText) (dropped given : ℕ)
+    → (remaining s dropped given).tokens
+    ≡ drop given (flat_map (spell s) (drop dropped (handed s.text))
+    ++ kept_of (next s.text (all s.text)) (all s.text))
 unfolding remaining
 tokens_is s dropped given = refl
 
-pub fault_is : (s : SpelledText) (dropped given : ℕ) → (remaining s dropped given).fault ≡ fault_in (next s.text (all s.text))
+pub fault_is : (s : SpelledText) (dropped given : ℕ)
+    → (remaining s dropped given).fault ≡ fault_in (next s.text (all s.text))
 unfolding remaining
 fault_is s dropped given = refl
 
@@ -43,7 +48,8 @@ pub record Known (text : List ℕ) (n m : ℕ) : Type 0 where
   pub few : m ≤ length (history text n)
 
 -- those before the earliest open candidate
-pub known_settled : (text : List ℕ) (n m : ℕ) → m ≤ first_open (history text n) (history text n) → Known text n m
+pub known_settled : (text : List ℕ) (n m : ℕ) → m ≤ first_open (history text n) (history text n)
+    → Known text n m
 known_settled text n m low =
     let most = first_open-le (history text n) (history text n) in
     record { same = settled_stays text n m low; few = omega (arith, most) }
@@ -54,21 +60,24 @@ never_read x l e f = let bad : Ends ≡ Read l = sym e ∙ f in cc
 never_read_fault : (x : Next) (p : ScanFault) (l : Lexeme) → x ≡ Fails p → x ≢ Read l
 never_read_fault x p l e f = let bad : Fails p ≡ Read l = sym e ∙ f in cc
 
-pub handed_end : (text : List ℕ) (n : ℕ) → next text (history text n) ≡ Ends → handed text ≡ entries (history text n)
+pub handed_end : (text : List ℕ) (n : ℕ) → next text (history text n) ≡ Ends
+    → handed text ≡ entries (history text n)
 unfolding handed
 handed_end text n e =
     let whole = last_is_all text n (λ l. never_read (next text (history text n)) l e) in
     rw (whole, e) refl
 
 -- all of them at the end
-pub known_ended : (text : List ℕ) (n m : ℕ) → next text (history text n) ≡ Ends → m ≤ length (history text n) → Known text n m
+pub known_ended : (text : List ℕ) (n m : ℕ) → next text (history text n) ≡ Ends
+    → m ≤ length (history text n) → Known text n m
 known_ended text n m e few = record { same = ap (take m) (handed_end text n e); few = few }
 
 shorter : (n : ℕ) (xs : List Entry) → length (take n xs) ≡ n → n ≤ length xs
 shorter n xs h = let least = length-take n xs in omega (arith, least, h)
 
 -- a lexeme that is known is the next one of the list
-pub known_next : (text : List ℕ) (n k : ℕ) (e : Entry) → Known text n (suc k) → drop k (handed text) ≡ get_or (entries (history text n)) k e ∷ drop (k + 1) (handed text)
+pub known_next : (text : List ℕ) (n k : ℕ) (e : Entry) → Known text n (suc k)
+    → drop k (handed text) ≡ get_or (entries (history text n)) k e ∷ drop (k + 1) (handed text)
 known_next text n k e known =
     let h = history text n in
     let few = known.few in
@@ -83,12 +92,14 @@ known_next text n k e known =
 abbrev pool : SpelledText → List Entry → List Token → List Token
 pool s es kept = flat_map (spell s) es ++ kept
 
-pool_more : (s : SpelledText) (es rest : List Entry) (x : Entry) (kept : List Token) → es ≡ x ∷ rest → pool s es kept ≡ spell s x ++ pool s rest kept
+pool_more : (s : SpelledText) (es rest : List Entry) (x : Entry) (kept : List Token) → es ≡ x ∷ rest
+    → pool s es kept ≡ spell s x ++ pool s rest kept
 pool_more s es rest x kept e = ap (λ es. pool s es kept) e ∙ append_assoc (spell s x) (flat_map (spell s) rest) kept
 
 -- behind the tokens of a lexeme that is known come those of the next one
 pub known_front : (s : SpelledText) (n k given : ℕ) (e : Entry) → Known s.text n (suc k)
-    → (remaining s k given).tokens ≡ drop given (spell s (get_or (entries (history s.text n)) k e) ++ (remaining s (k + 1) 0).tokens)
+    → (remaining s k given).tokens ≡ drop given
+    (spell s (get_or (entries (history s.text n)) k e) ++ (remaining s (k + 1) 0).tokens)
 unfolding remaining
 known_front s n k given e known =
     ap (drop given) (pool_more s (drop k (handed s.text)) (drop (k + 1) (handed s.text)) (get_or (entries (history s.text n)) k e) (kept_of (next s.text (all s.text)) (all s.text)) (known_next s.text n k e known))
@@ -96,12 +107,15 @@ known_front s n k given e known =
 abbrev with_fault : List Token → Option Fault → Remaining
 with_fault ts fault = record { tokens = ts; fault = fault }
 
-same_remaining : (s : SpelledText) (a b c d : ℕ) → (remaining s a b).tokens ≡ (remaining s c d).tokens → remaining s a b ≡ remaining s c d
+same_remaining : (s : SpelledText) (a b c d : ℕ)
+    → (remaining s a b).tokens ≡ (remaining s c d).tokens → remaining s a b ≡ remaining s c d
 unfolding remaining
 same_remaining s a b c d e = ap (λ ts. with_fault ts (fault_in (next s.text (all s.text)))) e
 
 -- the next token of a lexeme that is known
-pub settled_token : (s : SpelledText) (n k given : ℕ) (e : Entry) (t : Token) → Known s.text n (suc k) → let x = get_or (entries (history s.text n)) k e in given < length (spell s x)
+pub settled_token : (s : SpelledText) (n k given : ℕ) (e : Entry) (t : Token)
+    → Known s.text n (suc k) → let x = get_or (entries (history s.text n)) k e in
+    given < length (spell s x)
     → GivesFirst (remaining s k given) (get_or (spell s x) given t) (remaining s k (given + 1))
 settled_token s n k given e t known l =
     let x = get_or (entries (history s.text n)) k e in
@@ -111,7 +125,8 @@ settled_token s n k given e t known l =
     )
 
 -- behind all its tokens the next lexeme comes
-pub settled_done : (s : SpelledText) (n k given : ℕ) (e : Entry) → Known s.text n (suc k) → given ≡ length (spell s (get_or (entries (history s.text n)) k e))
+pub settled_done : (s : SpelledText) (n k given : ℕ) (e : Entry) → Known s.text n (suc k)
+    → given ≡ length (spell s (get_or (entries (history s.text n)) k e))
     → remaining s k given ≡ remaining s (k + 1) 0
 settled_done s n k given e known l =
     let x = get_or (entries (history s.text n)) k e in
@@ -121,7 +136,8 @@ settled_done s n k given e known l =
 abbrev pub SameEnds : Entry → Entry → Type 0
 SameEnds a b = (a.ends ≡ b.ends) × (a.lexeme ≡ b.lexeme)
 
-mark_ends : (ls : List ℕ) (es : List Entry) (n k : ℕ) (e : Entry) → SameEnds (get_or (mark_key ls es n) k e) (get_or es k e)
+mark_ends : (ls : List ℕ) (es : List Entry) (n k : ℕ) (e : Entry)
+    → SameEnds (get_or (mark_key ls es n) k e) (get_or es k e)
 unfolding mark_key
 mark_ends ls [] n k e = (refl, refl)
 mark_ends ls (x ∷ es) zero zero e = (refl, refl)
@@ -129,7 +145,8 @@ mark_ends ls (x ∷ es) zero (suc k) e = (refl, refl)
 mark_ends ls (x ∷ es) (suc n) zero e = (refl, refl)
 mark_ends ls (x ∷ es) (suc n) (suc k) e = mark_ends ls es n k e
 
-keyed_ends : (l : Lexeme) (h : List Lexeme) (es : List Entry) (k : ℕ) (e : Entry) → SameEnds (get_or (keyed l h es) k e) (get_or es k e)
+keyed_ends : (l : Lexeme) (h : List Lexeme) (es : List Entry) (k : ℕ) (e : Entry)
+    → SameEnds (get_or (keyed l h es) k e) (get_or es k e)
 keyed_ends l h es k e =
     elim (is_value l.kind) as (λ b. SameEnds (get_or (cond b (marked (found_by l h) (inside l h) es) es) k e) (get_or es k e)) [
       | true ↦ elim (found_by l h) as (λ o. SameEnds (get_or (marked o (inside l h) es) k e) (get_or es k e)) [ Some c ↦ mark_ends (inside l h) es c.number k e | None ↦ (refl, refl) ]
@@ -139,7 +156,8 @@ keyed_ends l h es k e =
 same_ends : (a b c : Entry) → SameEnds a b → SameEnds b c → SameEnds a c
 same_ends a b c (e, f) (g, h) = (e ∙ g, f ∙ h)
 
-pub entries_ends : (l : Lexeme) (h : List Lexeme) (k : ℕ) (e : Entry) → k < length h → SameEnds (get_or (entries (l ∷ h)) k e) (get_or (entries h) k e)
+pub entries_ends : (l : Lexeme) (h : List Lexeme) (k : ℕ) (e : Entry) → k < length h
+    → SameEnds (get_or (entries (l ∷ h)) k e) (get_or (entries h) k e)
 unfolding entries
 entries_ends l h k e low =
     let es = keyed l h (entries h) in
@@ -148,23 +166,27 @@ entries_ends l h k e low =
     same_ends (get_or (entries (l ∷ h)) k e) (get_or es k e) (get_or (entries h) k e) (ap (λ (x : Entry). x.ends) first, ap (λ (x : Entry). x.lexeme) first) (keyed_ends l h (entries h) k e)
 
 -- further lexemes leave how many levels a lexeme closes
-newer_ends : (newer h : List Lexeme) (k : ℕ) (e : Entry) → k < length h → SameEnds (get_or (entries (newer ++ h)) k e) (get_or (entries h) k e)
+newer_ends : (newer h : List Lexeme) (k : ℕ) (e : Entry) → k < length h
+    → SameEnds (get_or (entries (newer ++ h)) k e) (get_or (entries h) k e)
 newer_ends [] h k e low = (refl, refl)
 newer_ends (l ∷ newer) h k e low =
     same_ends (get_or (entries (l ∷ newer ++ h)) k e) (get_or (entries (newer ++ h)) k e) (get_or (entries h) k e) (entries_ends l (newer ++ h) k e (omega (arith, low, length-append newer h))) (newer_ends newer h k e low)
 
-spelled : (s : SpelledText) (x : Entry) (rest : List Token) → (more : List Token) × (spell s x ++ rest ≡ end_tokens x ++ more)
+spelled : (s : SpelledText) (x : Entry) (rest : List Token)
+    → (more : List Token) × (spell s x ++ rest ≡ end_tokens x ++ more)
 spelled s x rest =
     let a = end_tokens x in
     let b = start_tokens x.opens x.lexeme in
     let c = own_tokens s x in
     (b ++ (c ++ rest), append_assoc (a ++ b) c rest ∙ append_assoc a b (c ++ rest))
 
-entry_first : (es : List Entry) (k : ℕ) (e : Entry) → k < length es → front_ends (drop k es) ≡ end_tokens (get_or es k e)
+entry_first : (es : List Entry) (k : ℕ) (e : Entry) → k < length es
+    → front_ends (drop k es) ≡ end_tokens (get_or es k e)
 entry_first es k e low = ap front_ends (drop_more es k e low)
 
 -- how many levels are told in front of a lexeme
-pub front_count : (es : List Entry) (k : ℕ) (e : Entry) → k < length es → length (front_ends (drop k es)) ≡ (get_or es k e).ends
+pub front_count : (es : List Entry) (k : ℕ) (e : Entry) → k < length es
+    → length (front_ends (drop k es)) ≡ (get_or es k e).ends
 front_count es k e low = ap length (entry_first es k e low) ∙ length-replicate (get_or es k e).ends (before block_end (get_or es k e).lexeme)
 
 pub front_none : (es : List Entry) (k : ℕ) → length es ≤ k → length (front_ends (drop k es)) ≡ 0
@@ -174,8 +196,10 @@ drop_take : (k : ℕ) (es : List Entry) → drop k (take k es) ≡ []
 drop_take k es = drop_of_length-le (take k es) (let least = length-take k es in omega (arith, least))
 
 -- in front of the lexeme k the levels that it closes are told, also where it is the first one that is lost
-ends_of : (s : SpelledText) (x : Next) (h : List Lexeme) (k : ℕ) (e : Entry) → ((l : Lexeme) → x ≢ Read l) → k ≤ first_open h h → k < length h
-    → (more : List Token) × (pool s (drop k (handed_out x h)) (kept_of x h) ≡ end_tokens (get_or (entries h) k e) ++ more)
+ends_of : (s : SpelledText) (x : Next) (h : List Lexeme) (k : ℕ) (e : Entry)
+    → ((l : Lexeme) → x ≢ Read l) → k ≤ first_open h h → k < length h
+    → (more : List Token) × (pool s (drop k (handed_out x h)) (kept_of x h)
+    ≡ end_tokens (get_or (entries h) k e) ++ more)
 ends_of s (Read l) h k e never low inside = absurd (never l refl)
 ends_of s Ends h k e never low inside =
     let es = entries h in
@@ -209,8 +233,10 @@ all_later text n =
       | inr high ↦ let z : 0 + n ≡ n = omega arith in (0, rw z (sym (stays_all text n high)))
     ]
 
-front_of_all : (s : SpelledText) (n k : ℕ) (e : Entry) → k ≤ first_open (history s.text n) (history s.text n) → k < length (history s.text n)
-    → (more : List Token) × ((remaining s k 0).tokens ≡ end_tokens (get_or (entries (history s.text n)) k e) ++ more)
+front_of_all : (s : SpelledText) (n k : ℕ) (e : Entry)
+    → k ≤ first_open (history s.text n) (history s.text n) → k < length (history s.text n)
+    → (more : List Token) × ((remaining s k 0).tokens
+    ≡ end_tokens (get_or (entries (history s.text n)) k e) ++ more)
 unfolding remaining handed
 front_of_all s n k e low inside =
     let text = s.text in
@@ -229,13 +255,16 @@ front_of_all s n k e low inside =
     let told : end_tokens (get_or (entries whole) k e) ≡ end_tokens (get_or (entries h) k e) = ap (λ (n : ℕ). replicate n (before block_end (get_or (entries whole) k e).lexeme)) ends ∙ ap (λ (l : Lexeme). replicate (get_or (entries h) k e).ends (before block_end l)) lexeme in
     (more, there ∙ ap (λ ts. ts ++ more) told)
 
-drop_tokens : (s : SpelledText) (k given : ℕ) → (remaining s k given).tokens ≡ drop given (remaining s k 0).tokens
+drop_tokens : (s : SpelledText) (k given : ℕ)
+    → (remaining s k given).tokens ≡ drop given (remaining s k 0).tokens
 unfolding remaining
 drop_tokens s k given = refl
 
 -- The levels that a lexeme closes are told before it is known whether that lexeme is a key, or lost.
-pub ends_token : (s : SpelledText) (n k given : ℕ) (e : Entry) → k ≤ first_open (history s.text n) (history s.text n) → k < length (history s.text n)
-    → let x = get_or (entries (history s.text n)) k e in given < x.ends → GivesFirst (remaining s k given) (before block_end x.lexeme) (remaining s k (given + 1))
+pub ends_token : (s : SpelledText) (n k given : ℕ) (e : Entry)
+    → k ≤ first_open (history s.text n) (history s.text n) → k < length (history s.text n)
+    → let x = get_or (entries (history s.text n)) k e in given < x.ends
+    → GivesFirst (remaining s k given) (before block_end x.lexeme) (remaining s k (given + 1))
 ends_token s n k given e low inside l =
     let x = get_or (entries (history s.text n)) k e in
     let (more, there) = front_of_all s n k e low inside in
@@ -246,7 +275,9 @@ ends_token s n k given e low inside l =
       fault_is s k given ∙ sym (fault_is s k (given + 1)),
     )
 
-fault_of_all : (s : SpelledText) (h : List Lexeme) (p : ScanFault) (given : ℕ) → next s.text h ≡ Fails p → all s.text ≡ h → length (front_ends (drop (first_open h h) (entries h))) ≤ given
+fault_of_all : (s : SpelledText) (h : List Lexeme) (p : ScanFault) (given : ℕ)
+    → next s.text h ≡ Fails p → all s.text ≡ h
+    → length (front_ends (drop (first_open h h) (entries h))) ≤ given
     → remaining s (first_open h h) given ≡ record { tokens = []; fault = Some (scanner_fault p) }
 unfolding remaining handed
 fault_of_all s h p given e whole few =
@@ -257,12 +288,15 @@ fault_of_all s h p given e whole few =
     rw (whole, e, all_gone) refl
 
 -- Behind what is told the fault comes.
-pub fault_comes : (s : SpelledText) (n : ℕ) (p : ScanFault) (given : ℕ) → let h = history s.text n in next s.text h ≡ Fails p → length (front_ends (drop (first_open h h) (entries h))) ≤ given
+pub fault_comes : (s : SpelledText) (n : ℕ) (p : ScanFault) (given : ℕ)
+    → let h = history s.text n in next s.text h ≡ Fails p
+    → length (front_ends (drop (first_open h h) (entries h))) ≤ given
     → remaining s (first_open h h) given ≡ record { tokens = []; fault = Some (scanner_fault p) }
 fault_comes s n p given e few =
     fault_of_all s (history s.text n) p given e (last_is_all s.text n (λ l. never_read_fault (next s.text (history s.text n)) p l e)) few
 
-end_of_all : (s : SpelledText) (h : List Lexeme) (k given : ℕ) → next s.text h ≡ Ends → all s.text ≡ h → length h ≤ k → remaining s k given ≡ nothing
+end_of_all : (s : SpelledText) (h : List Lexeme) (k given : ℕ) → next s.text h ≡ Ends
+    → all s.text ≡ h → length h ≤ k → remaining s k given ≡ nothing
 unfolding remaining handed
 end_of_all s h k given e whole past =
     let none : drop k (entries h) ≡ [] = drop_of_length-le (entries h) (omega (arith, past, length-entries h)) in
@@ -271,17 +305,26 @@ end_of_all s h k given e whole past =
     rw (whole, e, all_gone) refl
 
 -- Behind the last lexeme nothing comes.
-pub end_comes : (s : SpelledText) (n k given : ℕ) → next s.text (history s.text n) ≡ Ends → length (history s.text n) ≤ k → remaining s k given ≡ nothing
+pub end_comes : (s : SpelledText) (n k given : ℕ) → next s.text (history s.text n) ≡ Ends
+    → length (history s.text n) ≤ k → remaining s k given ≡ nothing
 end_comes s n k given e past = end_of_all s (history s.text n) k given e (last_is_all s.text n (λ l. never_read (next s.text (history s.text n)) l e)) past
 
-pub settled_comes : (s : SpelledText) (n k given : ℕ) (e : Entry) (t : Token) → k < first_open (history s.text n) (history s.text n) → let x = get_or (entries (history s.text n)) k e in
-    (given < length (spell s x) → GivesFirst (remaining s k given) (get_or (spell s x) given t) (remaining s k (given + 1))) × (given ≡ length (spell s x) → remaining s k given ≡ remaining s (k + 1) 0)
+pub settled_comes : (s : SpelledText) (n k given : ℕ) (e : Entry) (t : Token)
+    → k < first_open (history s.text n) (history s.text n)
+    → let x = get_or (entries (history s.text n)) k e in
+    (given < length (spell s x) → GivesFirst (remaining s k given) (get_or (spell s x) given t)
+    (remaining s k (given + 1))) × (given ≡ length (spell s x) → remaining s k given
+    ≡ remaining s (k + 1) 0)
 settled_comes s n k given e t low =
     let known = known_settled s.text n (suc k) (omega (arith, low)) in
     (settled_token s n k given e t known, settled_done s n k given e known)
 
-pub last_comes : (s : SpelledText) (n k given : ℕ) (e : Entry) (t : Token) → next s.text (history s.text n) ≡ Ends → k < length (history s.text n) → let x = get_or (entries (history s.text n)) k e in
-    (given < length (spell s x) → GivesFirst (remaining s k given) (get_or (spell s x) given t) (remaining s k (given + 1))) × (given ≡ length (spell s x) → remaining s k given ≡ remaining s (k + 1) 0)
+pub last_comes : (s : SpelledText) (n k given : ℕ) (e : Entry) (t : Token)
+    → next s.text (history s.text n) ≡ Ends → k < length (history s.text n)
+    → let x = get_or (entries (history s.text n)) k e in
+    (given < length (spell s x) → GivesFirst (remaining s k given) (get_or (spell s x) given t)
+    (remaining s k (given + 1))) × (given ≡ length (spell s x) → remaining s k given
+    ≡ remaining s (k + 1) 0)
 last_comes s n k given e t over low =
     let known = known_ended s.text n (suc k) over (omega (arith, low)) in
     (settled_token s n k given e t known, settled_done s n k given e known)

@@ -51,7 +51,8 @@ differs b h e = subst IsOther e h
 all_differ : (ts : List Token) → All IsOtherToken ts → All (λ t. t.body ≢ stream_end) ts
 all_differ ts h k d l = differs (get_or ts k d).body (h k d l)
 
-valued_other : (f : List ℕ → TokenBody) (r : Result (List ℕ × ℕ) Wrong) → ((v : List ℕ) → IsOther (f v)) → IsOther (body_of_word (valued f r))
+valued_other : (f : List ℕ → TokenBody) (r : Result (List ℕ × ℕ) Wrong)
+    → ((v : List ℕ) → IsOther (f v)) → IsOther (body_of_word (valued f r))
 valued_other f (Ok x) h = h x.0
 valued_other f (Err w) h = tt
 
@@ -67,7 +68,8 @@ directed_other : (r : Result DirectiveText Wrong) → IsOther (body_of_word (dir
 directed_other (Ok d) = said_other d.said
 directed_other (Err w) = tt
 
-blocked_other : (style : yaml_scalar_style_t) (r : Result BlockText Wrong) → IsOther (body_of_word (blocked style r))
+blocked_other : (style : yaml_scalar_style_t) (r : Result BlockText Wrong)
+    → IsOther (body_of_word (blocked style r))
 blocked_other style (Ok b) = tt
 blocked_other style (Err w) = tt
 
@@ -115,14 +117,17 @@ starts_other opening.Mapping l = All-cons IsOtherToken (before tokens.block_mapp
 ends_other : (e : Entry) → All IsOtherToken (end_tokens e)
 ends_other e = All-replicate IsOtherToken e.ends (before block_end e.lexeme) tt
 
-front_other : (s : SpelledText) (e : Entry) → All IsOtherToken (end_tokens e ++ start_tokens e.opens e.lexeme)
+front_other : (s : SpelledText) (e : Entry)
+    → All IsOtherToken (end_tokens e ++ start_tokens e.opens e.lexeme)
 front_other s e = All-append IsOtherToken (end_tokens e) (start_tokens e.opens e.lexeme) (ends_other e) (starts_other e.opens e.lexeme)
 
-own_other : (key : Bool) (t u : Token) → IsOtherToken t → IsOtherToken u → All IsOtherToken (if key then t ∷ u ∷ [] else u ∷ [])
+own_other : (key : Bool) (t u : Token) → IsOtherToken t → IsOtherToken u
+    → All IsOtherToken (if key then t ∷ u ∷ [] else u ∷ [])
 own_other true t u h k = All-cons IsOtherToken t (u ∷ []) h (All-cons IsOtherToken u [] k (All-nil IsOtherToken))
 own_other false t u h k = All-cons IsOtherToken u [] k (All-nil IsOtherToken)
 
-spell_other : (s : SpelledText) (e : Entry) → is_end e.lexeme.kind ≡ false → All IsOtherToken (spell s e)
+spell_other : (s : SpelledText) (e : Entry) → is_end e.lexeme.kind ≡ false
+    → All IsOtherToken (spell s e)
 spell_other s e h =
     All-append IsOtherToken (end_tokens e ++ start_tokens e.opens e.lexeme) (own_tokens s e) (front_other s e)
     (own_other e.key (before tokens.key e.lexeme) (token_in s e.lexeme) tt (body_other e.lexeme.kind s e.lexeme h))
@@ -132,7 +137,8 @@ abbrev NoEnd : List Entry → Type 0
 NoEnd [] = Unit {0}
 NoEnd (e ∷ es) = (is_end e.lexeme.kind ≡ false) × NoEnd es
 
-pool_other : (s : SpelledText) (es : List Entry) → NoEnd es → All IsOtherToken (flat_map (spell s) es)
+pool_other : (s : SpelledText) (es : List Entry) → NoEnd es
+    → All IsOtherToken (flat_map (spell s) es)
 pool_other s [] h = All-nil IsOtherToken
 pool_other s (e ∷ es) (h, more) = All-append IsOtherToken (spell s e) (flat_map (spell s) es) (spell_other s e h) (pool_other s es more)
 
@@ -149,7 +155,8 @@ keyed_no_end l h es n =
       | false ↦ n
     ]
 
-push_no_end : (es : List Entry) (e : Entry) → NoEnd es → is_end e.lexeme.kind ≡ false → NoEnd (es ++ e ∷ [])
+push_no_end : (es : List Entry) (e : Entry) → NoEnd es → is_end e.lexeme.kind ≡ false
+    → NoEnd (es ++ e ∷ [])
 push_no_end [] e h k = (k, tt)
 push_no_end (x ∷ es) e (h, more) k = (h, push_no_end es e more k)
 
@@ -158,7 +165,8 @@ take_no_end zero es h = tt
 take_no_end (suc n) [] h = tt
 take_no_end (suc n) (e ∷ es) (h, more) = (h, take_no_end n es more)
 
-entries_no_end : (text : List ℕ) (h : List Lexeme) → Chain text h → ended h ≡ false → NoEnd (entries h)
+entries_no_end : (text : List ℕ) (h : List Lexeme) → Chain text h → ended h ≡ false
+    → NoEnd (entries h)
 unfolding entries
 entries_no_end text [] c e = tt
 entries_no_end text (l ∷ h) (b, c) e = push_no_end (keyed l h (entries h)) (entry_of l h) (keyed_no_end l h (entries h) (entries_no_end text h c b.open_end)) e
@@ -181,7 +189,8 @@ ends_ended text (x ∷ h) s e =
       | inr more ↦ absurd (subst (ReadsBehind text x.reached.index) e (next_reads text x h more s.inside))
     ]
 
-fails_open : (text : List ℕ) (h : List Lexeme) (p : ScanFault) → next text h ≡ Fails p → ended h ≡ false
+fails_open : (text : List ℕ) (h : List Lexeme) (p : ScanFault) → next text h ≡ Fails p
+    → ended h ≡ false
 unfolding next
 fails_open text [] p e = refl
 fails_open text (x ∷ h) p e =
@@ -198,7 +207,8 @@ record IsWhole (ts : List Token) : Type 0 where
   pub end : last.body ≡ stream_end
   pub others : All IsOtherToken front
 
-whole_pool : (s : SpelledText) (h : List Lexeme) → Chain s.text h → ended h ≡ true → IsWhole (flat_map (spell s) (entries h) ++ [])
+whole_pool : (s : SpelledText) (h : List Lexeme) → Chain s.text h → ended h ≡ true
+    → IsWhole (flat_map (spell s) (entries h) ++ [])
 unfolding entries
 whole_pool s [] c e = absurd (true≢false (sym e))
 whole_pool s (l ∷ h) (b, c) e =
@@ -218,17 +228,22 @@ kept_other : (h : List Lexeme) (es : List Entry) → All IsOtherToken (front_end
 kept_other h [] = All-nil IsOtherToken
 kept_other h (e ∷ es) = ends_other e
 
-failed_pool : (s : SpelledText) (h : List Lexeme) → Chain s.text h → ended h ≡ false → All IsOtherToken (flat_map (spell s) (take (first_open h h) (entries h)) ++ front_ends (drop (first_open h h) (entries h)))
+failed_pool : (s : SpelledText) (h : List Lexeme) → Chain s.text h → ended h ≡ false
+    → All IsOtherToken (flat_map (spell s) (take (first_open h h) (entries h))
+    ++ front_ends (drop (first_open h h) (entries h)))
 failed_pool s h c e =
     All-append IsOtherToken (flat_map (spell s) (take (first_open h h) (entries h))) (front_ends (drop (first_open h h) (entries h)))
     (pool_other s (take (first_open h h) (entries h)) (take_no_end (first_open h h) (entries h) (entries_no_end s.text h c e))) (kept_other h (drop (first_open h h) (entries h)))
 
-ended_tokens : (s : SpelledText) → next s.text (all s.text) ≡ Ends → (offline s).tokens ≡ flat_map (spell s) (entries (all s.text)) ++ []
+ended_tokens : (s : SpelledText) → next s.text (all s.text) ≡ Ends
+    → (offline s).tokens ≡ flat_map (spell s) (entries (all s.text)) ++ []
 unfolding remaining handed
 ended_tokens s e = rw e refl
 
-failed_tokens : (s : SpelledText) (p : ScanFault) → next s.text (all s.text) ≡ Fails p → let h = all s.text in
-    (offline s).tokens ≡ flat_map (spell s) (take (first_open h h) (entries h)) ++ front_ends (drop (first_open h h) (entries h))
+failed_tokens : (s : SpelledText) (p : ScanFault) → next s.text (all s.text) ≡ Fails p
+    → let h = all s.text in
+    (offline s).tokens ≡ flat_map (spell s) (take (first_open h h) (entries h))
+    ++ front_ends (drop (first_open h h) (entries h))
 unfolding remaining handed
 failed_tokens s p e = rw e refl
 
@@ -247,15 +262,18 @@ unfolding remaining
 fault_next s = refl
 
 -- a text without fault ends in STREAM-END, and has none before
-pub stream_ends : (s : SpelledText) → (offline s).fault ≡ None → (front : List Token) × (last : Token)
-    × ((offline s).tokens ≡ front ++ last ∷ []) × (last.body ≡ stream_end) × All (λ t. t.body ≢ stream_end) front
+pub stream_ends : (s : SpelledText) → (offline s).fault ≡ None
+    → (front : List Token) × (last : Token)
+    × ((offline s).tokens ≡ front ++ last ∷ []) × (last.body ≡ stream_end)
+    × All (λ t. t.body ≢ stream_end) front
 stream_ends s e =
     let over = fault_none (next s.text (all s.text)) (sym (fault_next s) ∙ e) (all_ends s.text) in
     let w = whole_pool s (all s.text) (chain_all s.text) (ends_ended s.text (all s.text) (stands_all s.text) over) in
     (w.front, w.last, ended_tokens s over ∙ w.are, w.end, all_differ w.front w.others)
 
 -- one with a fault has none
-pub fault_ends_none : (s : SpelledText) (f : Fault) → (offline s).fault ≡ Some f → All (λ t. t.body ≢ stream_end) (offline s).tokens
+pub fault_ends_none : (s : SpelledText) (f : Fault) → (offline s).fault ≡ Some f
+    → All (λ t. t.body ≢ stream_end) (offline s).tokens
 fault_ends_none s f e =
     let (p, fails) = fault_some (next s.text (all s.text)) f (sym (fault_next s) ∙ e) in
     let others = failed_pool s (all s.text) (chain_all s.text) (fails_open s.text (all s.text) p fails) in
@@ -268,12 +286,17 @@ first_known text = omega arith
 abbrev any_entry : Entry
 any_entry = entry_of first_lexeme []
 
-first_spelled : (s : SpelledText) → spell s (get_or (entries (history s.text 1)) 0 any_entry) ≡ record { body = stream_start s.encoding; start_mark = zero_mark; end_mark = zero_mark } ∷ []
+first_spelled : (s : SpelledText)
+    → spell s (get_or (entries (history s.text 1)) 0 any_entry)
+    ≡ record { body = stream_start s.encoding; start_mark = zero_mark; end_mark = zero_mark } ∷ []
 unfolding history next entries levels candidate
 first_spelled s = refl
 
 -- the first token is STREAM-START
-pub stream_starts : (s : SpelledText) → (rest : List Token) × ((offline s).tokens ≡ record { body = stream_start s.encoding; start_mark = zero_mark; end_mark = zero_mark } ∷ rest)
+pub stream_starts : (s : SpelledText)
+    → (rest : List Token) × ((offline s).tokens
+    ≡ record { body = stream_start s.encoding; start_mark = zero_mark; end_mark = zero_mark }
+    ∷ rest)
 stream_starts s =
     let (gives, done) = settled_comes s 1 0 0 any_entry no_token (first_known s.text) in
     let one = ap length (first_spelled s) in

@@ -42,11 +42,13 @@ abbrev pub FitsAny : Option Kind → List ℕ → ℕ → Type 0
 FitsAny None text p = Unit {0}
 FitsAny (Some k) text p = Fits k text p
 
-pick : (text : List ℕ) (p : ℕ) (test : Bool) (k : Kind) (rest : Option Kind) → Fits k text p → FitsAny rest text p → FitsAny (if test then Some k else rest) text p
+pick : (text : List ℕ) (p : ℕ) (test : Bool) (k : Kind) (rest : Option Kind) → Fits k text p
+    → FitsAny rest text p → FitsAny (if test then Some k else rest) text p
 pick text p true k rest f g = f
 pick text p false k rest f g = g
 
-indicator_fits : (flow alone : Bool) (b : ℕ) (text : List ℕ) (p : ℕ) → p < length text → FitsAny (indicator_of flow alone b) text p
+indicator_fits : (flow alone : Bool) (b : ℕ) (text : List ℕ) (p : ℕ) → p < length text
+    → FitsAny (indicator_of flow alone b) text p
 unfolding indicator_of
 indicator_fits flow alone b text p l =
     pick text p (b == 91) kinds.FlowSequenceStart _ l
@@ -65,12 +67,14 @@ indicator_fits flow alone b text p l =
     (pick text p (b == 39) kinds.SingleQuoted _ l
     (pick text p (b == 34) kinds.DoubleQuoted None l tt))))))))))))))
 
-plain_fits : (o : Option Kind) (starts : Bool) (text : List ℕ) (p : ℕ) → p < length text → FitsAny o text p → FitsAny (or_plain o starts) text p
+plain_fits : (o : Option Kind) (starts : Bool) (text : List ℕ) (p : ℕ) → p < length text
+    → FitsAny o text p → FitsAny (or_plain o starts) text p
 plain_fits (Some k) starts text p l f = f
 plain_fits None true text p l f = l
 plain_fits None false text p l f = tt
 
-third : (a b c d e x : ℕ) (last : Bool) → ((a == 0 && (b == x && (c == x && d == x))) && last) ≡ true → 0 < x → 0 < d
+third : (a b c d e x : ℕ) (last : Bool)
+    → ((a == 0 && (b == x && (c == x && d == x))) && last) ≡ true → 0 < x → 0 < d
 third a b c d e x last h some = grind (arith, nat_tests)
 
 start_inside : (text : List ℕ) (p : ℕ) → is_document_start text p ≡ true → p + 3 ≤ length text
@@ -116,22 +120,27 @@ abbrev pub LandsWord : List ℕ → ℕ → Result WordText Wrong → Type 0
 LandsWord text p (Ok w) = IsWordFrom text p w
 LandsWord text p (Err w) = Unit {0}
 
-indicator_lands : (text : List ℕ) (p q : ℕ) (body : TokenBody) → p < q → q ≤ length text → LandsWord text p (carrying body q)
+indicator_lands : (text : List ℕ) (p q : ℕ) (body : TokenBody) → p < q → q ≤ length text
+    → LandsWord text p (carrying body q)
 indicator_lands text p q body f l = record { end = f; place = omega arith; inside = l }
 
-valued_lands : (text : List ℕ) (p : ℕ) (f : List ℕ → TokenBody) (r : Result (List ℕ × ℕ) Wrong) → Lands behind_bytes text (p + 1) r → LandsWord text p (valued f r)
+valued_lands : (text : List ℕ) (p : ℕ) (f : List ℕ → TokenBody) (r : Result (List ℕ × ℕ) Wrong)
+    → Lands behind_bytes text (p + 1) r → LandsWord text p (valued f r)
 valued_lands text p f (Ok x) h = record { end = omega (arith, h.forward); place = omega arith; inside = h.inside }
 valued_lands text p f (Err w) h = tt
 
-tagged_lands : (text : List ℕ) (p : ℕ) (r : Result TagText Wrong) → Lands tag_end text (p + 1) r → LandsWord text p (tagged r)
+tagged_lands : (text : List ℕ) (p : ℕ) (r : Result TagText Wrong) → Lands tag_end text (p + 1) r
+    → LandsWord text p (tagged r)
 tagged_lands text p (Ok t) h = record { end = omega (arith, h.forward); place = omega arith; inside = h.inside }
 tagged_lands text p (Err w) h = tt
 
-plainly_lands : (text : List ℕ) (p : ℕ) (r : Result PlainText Wrong) → LandsPlain text (p + 1) r → LandsWord text p (plainly r)
+plainly_lands : (text : List ℕ) (p : ℕ) (r : Result PlainText Wrong) → LandsPlain text (p + 1) r
+    → LandsWord text p (plainly r)
 plainly_lands text p (Ok x) h = record { end = omega (arith, h.end); place = h.place; inside = h.inside }
 plainly_lands text p (Err w) h = tt
 
-blocked_lands : (text : List ℕ) (p : ℕ) (style : yaml_scalar_style_t) (r : Result BlockText Wrong) → LandsBlock text (p + 1) r → LandsWord text p (blocked style r)
+blocked_lands : (text : List ℕ) (p : ℕ) (style : yaml_scalar_style_t) (r : Result BlockText Wrong)
+    → LandsBlock text (p + 1) r → LandsWord text p (blocked style r)
 blocked_lands text p style (Ok x) h = record { end = omega (arith, h.end); place = h.place; inside = h.inside }
 blocked_lands text p style (Err w) h = tt
 
@@ -142,7 +151,8 @@ comment_place text p l =
       | inr h ↦ rw h record { forward = omega arith; inside = l }
     ]
 
-break_place : (text : List ℕ) (o p : ℕ) → o ≤ p → p ≤ length text → Lands line_place text o (break_end text p)
+break_place : (text : List ℕ) (o p : ℕ) → o ≤ p → p ≤ length text
+    → Lands line_place text o (break_end text p)
 break_place text o p f l =
     elim (cases_Bool (nat_lt 0 (break_width text p))) [
       | inl h ↦
@@ -154,24 +164,29 @@ break_place text o p f l =
       ]
     ]
 
-behind_place : (text : List ℕ) (p q : ℕ) → IsFrom text p q → Lands line_place text p (break_end text (comment_end text q))
+behind_place : (text : List ℕ) (p q : ℕ) → IsFrom text p q
+    → Lands line_place text p (break_end text (comment_end text q))
 behind_place text p q f =
     let comment = comment_place text q f.inside in
     break_place text p (comment_end text q) (omega (arith, f.forward, comment.forward)) comment.inside
 
-line_end_place : (text : List ℕ) (p : ℕ) → p ≤ length text → Lands line_place text p (line_end_at text p)
+line_end_place : (text : List ℕ) (p : ℕ) → p ≤ length text
+    → Lands line_place text p (line_end_at text p)
 line_end_place text p l = behind_place text p _ (run_place _ text p l)
 
-line_lands : (text : List ℕ) (p : ℕ) (v : ValueText) (r : Result ℕ Wrong) → p < v.end → Lands line_place text v.end r → LandsWord text p (directed (with_line v r))
+line_lands : (text : List ℕ) (p : ℕ) (v : ValueText) (r : Result ℕ Wrong) → p < v.end
+    → Lands line_place text v.end r → LandsWord text p (directed (with_line v r))
 line_lands text p v (Ok q) f h = record { end = f; place = h.forward; inside = h.inside }
 line_lands text p v (Err w) f h = tt
 
-finished_lands : (text : List ℕ) (p : ℕ) (r : Result ValueText Wrong) → Lands value_end text (p + 1) r → LandsWord text p (directed (finished text r))
+finished_lands : (text : List ℕ) (p : ℕ) (r : Result ValueText Wrong)
+    → Lands value_end text (p + 1) r → LandsWord text p (directed (finished text r))
 finished_lands text p (Ok v) h = line_lands text p v (line_end_at text v.end) (omega (arith, h.forward)) (line_end_place text v.end h.inside)
 finished_lands text p (Err w) h = tt
 
 -- what is read where its kind stands ends behind its start, the stream's end aside
-pub word_lands : (k : Kind) (flow : Bool) (level : ℕ) (text : List ℕ) (p : ℕ) → is_end k ≡ false → Fits k text p → LandsWord text p (word_at k flow level text p)
+pub word_lands : (k : Kind) (flow : Bool) (level : ℕ) (text : List ℕ) (p : ℕ) → is_end k ≡ false
+    → Fits k text p → LandsWord text p (word_at k flow level text p)
 unfolding word_at
 word_lands kinds.StreamStart flow level text p e f = absurd f
 word_lands kinds.StreamEnd flow level text p e f = absurd (true≢false e)

@@ -42,7 +42,8 @@ space_utf8 : (xs : List ℕ) → IsUtf8 xs → IsUtf8 (space_or xs)
 space_utf8 [] h = ascii_utf8 32 (omega arith)
 space_utf8 (x ∷ xs) h = h
 
-between_utf8 : (folded bare : Bool) (feed empties : List ℕ) → IsUtf8 feed → IsUtf8 empties → IsUtf8 (between folded bare feed empties)
+between_utf8 : (folded bare : Bool) (feed empties : List ℕ) → IsUtf8 feed → IsUtf8 empties
+    → IsUtf8 (between folded bare feed empties)
 unfolding between
 between_utf8 folded bare feed empties a b =
     elim (cases_Bool (folded && (bare && is_feed feed))) [
@@ -51,7 +52,8 @@ between_utf8 folded bare feed empties a b =
     ]
 
 -- by the byte that tells what happens to the last breaks
-at_end_utf8 : (b : ℕ) (feed empties : List ℕ) → IsUtf8 feed → IsUtf8 empties → IsUtf8 (at_end (chomp_of b) feed empties)
+at_end_utf8 : (b : ℕ) (feed empties : List ℕ) → IsUtf8 feed → IsUtf8 empties
+    → IsUtf8 (at_end (chomp_of b) feed empties)
 unfolding chomp_of
 at_end_utf8 b feed empties f e =
     elim (cases_Bool (b == 43)) [
@@ -62,19 +64,22 @@ at_end_utf8 b feed empties f e =
       ]
     ]
 
-behind_utf8 : (folded : Bool) (b : ℕ) (blank : Bool) (feed empties : List ℕ) (ls : List TextLine) → IsUtf8 feed → IsUtf8 empties → AreTexts ls
+behind_utf8 : (folded : Bool) (b : ℕ) (blank : Bool) (feed empties : List ℕ) (ls : List TextLine)
+    → IsUtf8 feed → IsUtf8 empties → AreTexts ls
     → IsUtf8 (behind_text folded (chomp_of b) blank feed empties ls)
 behind_utf8 folded b blank feed empties [] f e h = at_end_utf8 b feed empties f e
 behind_utf8 folded b blank feed empties (l ∷ ls) f e ((w, g, k), h) =
     IsUtf8-append _ _ (between_utf8 folded (not blank && not (starts_blank l.words)) feed empties f e)
     (IsUtf8-append _ _ w (behind_utf8 folded b (starts_blank l.words) l.feed l.empties ls g k h))
 
-with_utf8 : (folded : Bool) (b : ℕ) (lead : List ℕ) (ls : List TextLine) → IsUtf8 lead → AreTexts ls → IsUtf8 (value_with folded (chomp_of b) lead ls)
+with_utf8 : (folded : Bool) (b : ℕ) (lead : List ℕ) (ls : List TextLine) → IsUtf8 lead → AreTexts ls
+    → IsUtf8 (value_with folded (chomp_of b) lead ls)
 with_utf8 folded b lead [] a h = at_end_utf8 b [] lead IsUtf8-nil a
 with_utf8 folded b lead (l ∷ ls) a ((w, g, k), h) =
     IsUtf8-append _ _ a (IsUtf8-append _ _ w (behind_utf8 folded b (starts_blank l.words) l.feed l.empties ls g k h))
 
-block_value_utf8 : (folded : Bool) (b : ℕ) (ls : List BlockLine) → AreLines ls → IsUtf8 (block_value folded (chomp_of b) ls)
+block_value_utf8 : (folded : Bool) (b : ℕ) (ls : List BlockLine) → AreLines ls
+    → IsUtf8 (block_value folded (chomp_of b) ls)
 block_value_utf8 folded b ls h = let s = texts_sound ls h in with_utf8 folded b (texts_of ls).lead (texts_of ls).lines s.lead s.lines
 
 -- Places.
@@ -90,7 +95,8 @@ stop_whole text p t h =
       ]
     ]
 
-past_whole : (n : ℕ) (text : List ℕ) (p : ℕ) → IsUtf8 text → length text ≤ p + n → IsWhole text (past is_text n text p)
+past_whole : (n : ℕ) (text : List ℕ) (p : ℕ) → IsUtf8 text → length text ≤ p + n
+    → IsWhole text (past is_text n text p)
 unfolding past
 past_whole zero text p t l = whole_past text p (omega (arith, l))
 past_whole (suc n) text p t l =
@@ -103,7 +109,8 @@ line_end_whole : (text : List ℕ) (p : ℕ) → IsUtf8 text → IsWhole text (l
 line_end_whole text p t = past_whole (length text) text p t (omega arith)
 
 -- behind a break, or where none is
-pub step_whole : (text : List ℕ) (p : ℕ) → IsUtf8 text → IsWhole text p → IsWhole text (p + break_width text p)
+pub step_whole : (text : List ℕ) (p : ℕ) → IsUtf8 text → IsWhole text p
+    → IsWhole text (p + break_width text p)
 step_whole text p t w =
     elim (cases_lt 0 (break_width text p)) [
       | inl some ↦ whole_behind text p t some
@@ -125,7 +132,8 @@ header_whole text p t =
       ]
     ]
 
-spaces_whole : (n : ℕ) (text : List ℕ) (p : ℕ) → IsUtf8 text → IsWhole text p → IsWhole text (p + spaces n text p)
+spaces_whole : (n : ℕ) (text : List ℕ) (p : ℕ) → IsUtf8 text → IsWhole text p
+    → IsWhole text (p + spaces n text p)
 unfolding spaces
 spaces_whole zero text p t w = let e : p + 0 ≡ p = omega arith in rw e w
 spaces_whole (suc n) text p t w =
@@ -150,7 +158,8 @@ feed_utf8 text p t =
       | inr e ↦ rw e IsUtf8-nil
     ]
 
-spot_fits : (c : ℕ) (text : List ℕ) (q : ℕ) → IsUtf8 text → IsWhole text q → Fits text (spot_behind c text q)
+spot_fits : (c : ℕ) (text : List ℕ) (q : ℕ) → IsUtf8 text → IsWhole text q
+    → Fits text (spot_behind c text q)
 unfolding spot_behind
 spot_fits c text q t w =
     elim (cases_Bool (byte text q == 9 && nat_lt (column_at text q) c)) [
@@ -174,16 +183,20 @@ abbrev Good : List ℕ → Result Lines Wrong → Type 0
 Good text (Ok ls) = AreRead text ls
 Good text (Err w) = Unit {0}
 
-line_good : (text : List ℕ) (l : BlockLine) (r : Result Lines Wrong) → IsLine l → Good text r → Good text (with_line l r)
+line_good : (text : List ℕ) (l : BlockLine) (r : Result Lines Wrong) → IsLine l → Good text r
+    → Good text (with_line l r)
 line_good text l (Ok ls) a h = record { lines = (a, h.lines); place = h.place }
 line_good text l (Err w) a h = tt
 
-then_good : (more : ℕ → Result Lines Wrong) (text : List ℕ) (end : ℕ) (s : LineSpot) → ((q : ℕ) → IsWhole text q → Good text (more q)) → Fits text s → Good text (line_then more end s)
+then_good : (more : ℕ → Result Lines Wrong) (text : List ℕ) (end : ℕ) (s : LineSpot)
+    → ((q : ℕ) → IsWhole text q → Good text (more q)) → Fits text s
+    → Good text (line_then more end s)
 then_good more text end (Stops q) rest f = record { lines = tt; place = f }
 then_good more text end (Line l q) rest (a, f) = line_good text l (more q) a (rest q f)
 then_good more text end (Tab q) rest f = tt
 
-lines_good : (n c : ℕ) (text : List ℕ) → IsUtf8 text → (end p : ℕ) → IsWhole text p → Good text (lines_from n c text end p)
+lines_good : (n c : ℕ) (text : List ℕ) → IsUtf8 text → (end p : ℕ) → IsWhole text p
+    → Good text (lines_from n c text end p)
 unfolding lines_from
 lines_good zero c text t end p w = tt
 lines_good (suc n) c text t end p w =
@@ -198,19 +211,25 @@ abbrev pub HasBlock : List ℕ → Result BlockText Wrong → Type 0
 HasBlock text (Ok x) = IsBlock text x
 HasBlock text (Err w) = Unit {0}
 
-with_good : (f : List BlockLine → List ℕ) (text : List ℕ) (r : Result Lines Wrong) → ((ls : List BlockLine) → AreLines ls → IsUtf8 (f ls)) → Good text r → HasBlock text (block_with f r)
+with_good : (f : List BlockLine → List ℕ) (text : List ℕ) (r : Result Lines Wrong)
+    → ((ls : List BlockLine) → AreLines ls → IsUtf8 (f ls)) → Good text r
+    → HasBlock text (block_with f r)
 with_good f text (Ok ls) u h = record { value = u ls.lines h.lines; place = h.place }
 with_good f text (Err w) u h = tt
 
-block_lines_good : (folded : Bool) (text : List ℕ) (h : HeaderText) (r : Result ℕ Wrong) (b : ℕ) → h.chomp ≡ chomp_of b → IsUtf8 text → IsWhole text h.place → HasBlock text (block_lines folded text h r)
+block_lines_good : (folded : Bool) (text : List ℕ) (h : HeaderText) (r : Result ℕ Wrong) (b : ℕ)
+    → h.chomp ≡ chomp_of b → IsUtf8 text → IsWhole text h.place
+    → HasBlock text (block_lines folded text h r)
 block_lines_good folded text h (Ok c) b e t w =
     with_good (block_value folded h.chomp) text (lines_from (suc (length text)) c text h.place h.place) (λ ls a. rw e (block_value_utf8 folded b ls a))
     (lines_good (suc (length text)) c text t h.place h.place w)
 block_lines_good folded text h (Err w) b e t f = tt
 
-behind_good : (folded : Bool) (level : ℕ) (text : List ℕ) (r : Result HeaderText Wrong) → IsUtf8 text → HasHeader text r → HasBlock text (block_behind folded level text r)
+behind_good : (folded : Bool) (level : ℕ) (text : List ℕ) (r : Result HeaderText Wrong)
+    → IsUtf8 text → HasHeader text r → HasBlock text (block_behind folded level text r)
 behind_good folded level text (Ok h) t (w, (b, e)) = block_lines_good folded text h (column_of level text h.digit h.place) b e t w
 behind_good folded level text (Err w) t f = tt
 
-pub block_utf8 : (level : ℕ) (text : List ℕ) (p : ℕ) → IsUtf8 text → HasBlock text (block_at level text p)
+pub block_utf8 : (level : ℕ) (text : List ℕ) (p : ℕ) → IsUtf8 text
+    → HasBlock text (block_at level text p)
 block_utf8 level text p t = behind_good (byte text p == 62) level text (header_at text (p + 1)) t (header_whole text (p + 1) t)

@@ -30,7 +30,8 @@ unfolding is_alpha_byte is_digit_byte
 are_tag = refl
 
 -- behind `%YAML` a version stands
-yaml_value : (text : List ℕ) (p : ℕ) → Has text (p + 1) (89 ∷ 65 ∷ 77 ∷ 76 ∷ 32 ∷ []) → value_at text p ≡ version_at text (p + 5)
+yaml_value : (text : List ℕ) (p : ℕ) → Has text (p + 1) (89 ∷ 65 ∷ 77 ∷ 76 ∷ 32 ∷ [])
+    → value_at text p ≡ version_at text (p + 5)
 yaml_value text p h =
     let (y, (a, (m, (l, (space, none))))) = h in
     let front = has_front text (p + 1) (89 ∷ 65 ∷ 77 ∷ 76 ∷ []) (32 ∷ []) h in
@@ -45,7 +46,8 @@ yaml_value text p h =
     whole ∙ ap (λ q. version_at text q) far
 
 -- behind `%TAG` a handle and a prefix
-tag_value : (text : List ℕ) (p : ℕ) → Has text (p + 1) (84 ∷ 65 ∷ 71 ∷ 32 ∷ []) → value_at text p ≡ tag_directive_at text (p + 4)
+tag_value : (text : List ℕ) (p : ℕ) → Has text (p + 1) (84 ∷ 65 ∷ 71 ∷ 32 ∷ [])
+    → value_at text p ≡ tag_directive_at text (p + 4)
 tag_value text p h =
     let (t, (a, (g, (space, none)))) = h in
     let front = has_front text (p + 1) (84 ∷ 65 ∷ 71 ∷ []) (32 ∷ []) h in
@@ -60,7 +62,9 @@ tag_value text p h =
 
 -- ---- versions
 
-number_by : (run : _) (text : List ℕ) (p : ℕ) → belongs run text p ≡ true → belongs run text (p + 1) ≡ false → number_between text p (run_end run text p) ≡ Ok (decimal text p 1, p + 1)
+number_by : (run : _) (text : List ℕ) (p : ℕ) → belongs run text p ≡ true
+    → belongs run text (p + 1) ≡ false
+    → number_between text p (run_end run text p) ≡ Ok (decimal text p 1, p + 1)
 number_by run text p here stop =
     let some : (p + 1 == p) ≡ false = grind (arith, nat_tests) in
     let short : nat_lt (p + 9) (p + 1) ≡ false = grind (arith, nat_tests) in
@@ -71,21 +75,27 @@ one_decimal : (text : List ℕ) (p d : ℕ) → byte text p ≡ 48 + d → decim
 unfolding decimal
 one_decimal text p d h = rw (add-zero, h) (omega arith)
 
-one_digit : (text : List ℕ) (p d : ℕ) → d < 10 → byte text p ≡ 48 + d → is_digit text (p + 1) ≡ false → number_at text p ≡ Ok (d, p + 1)
+one_digit : (text : List ℕ) (p d : ℕ) → d < 10 → byte text p ≡ 48 + d
+    → is_digit text (p + 1) ≡ false → number_at text p ≡ Ok (d, p + 1)
 unfolding belongs
 one_digit text p d small h stop =
     let first : number_at text p ≡ Ok (decimal text p 1, p + 1) = number_by _ text p (digit_is text p (48 + d) h (omega arith) (omega (arith, small))) stop in
     first ∙ ap (λ n. Ok (n, p + 1)) (one_decimal text p d h)
 
-version_by : (run : _) (text : List ℕ) (p : ℕ) → belongs run text p ≡ true → belongs run text (p + 1) ≡ false
-    → then_at (minor_at text) (number_at text (run_end run text p)) ≡ then_at (minor_at text) (number_at text (p + 1))
+version_by : (run : _) (text : List ℕ) (p : ℕ) → belongs run text p ≡ true
+    → belongs run text (p + 1) ≡ false
+    → then_at (minor_at text) (number_at text (run_end run text p))
+    ≡ then_at (minor_at text) (number_at text (p + 1))
 version_by run text p here stop = ap (λ q. then_at (minor_at text) (number_at text q)) (one_run run text p here stop)
 
-version_spaced : (text : List ℕ) (p : ℕ) → byte text p ≡ 32 → is_blank text (p + 1) ≡ false → version_at text p ≡ then_at (minor_at text) (number_at text (p + 1))
+version_spaced : (text : List ℕ) (p : ℕ) → byte text p ≡ 32 → is_blank text (p + 1) ≡ false
+    → version_at text p ≡ then_at (minor_at text) (number_at text (p + 1))
 unfolding belongs
 version_spaced text p space stop = version_by _ text p (blank_is text p space) stop
 
-version_here : (text : List ℕ) (p minor : ℕ) → minor < 10 → byte text p ≡ 32 → byte text (p + 1) ≡ 49 → byte text (p + 2) ≡ 46 → byte text (p + 3) ≡ 48 + minor → is_break text (p + 4) ≡ true
+version_here : (text : List ℕ) (p minor : ℕ) → minor < 10 → byte text p ≡ 32
+    → byte text (p + 1) ≡ 49 → byte text (p + 2) ≡ 46 → byte text (p + 3) ≡ 48 + minor
+    → is_break text (p + 4) ≡ true
     → version_at text p ≡ Ok record { said = version 1 minor; end = p + 4 }
 version_here text p minor small space one dot digit stop =
     let e2 : p + 1 + 1 ≡ p + 2 = omega arith in
@@ -96,8 +106,10 @@ version_here text p minor small space one dot digit stop =
     let front = version_spaced text p space (no_blank text (p + 1) 49 one (omega arith) (omega arith)) in
     front ∙ rw (major, e2, dot, e3, last, e4) refl
 
-pub version_is_read : (text : List ℕ) (p minor : ℕ) → minor < 10 → HasAt text p (codes "%YAML 1." ++ ((48 + minor) ∷ [])) → is_break text (p + 9) ≡ true
-    → directive_at text p ≡ Ok record { said = version 1 minor; end = p + 9; place = p + 9 + break_width text (p + 9) }
+pub version_is_read : (text : List ℕ) (p minor : ℕ) → minor < 10
+    → HasAt text p (codes "%YAML 1." ++ ((48 + minor) ∷ [])) → is_break text (p + 9) ≡ true
+    → directive_at text p ≡ Ok record
+    { said = version 1 minor; end = p + 9; place = p + 9 + break_width text (p + 9) }
 version_is_read text p minor small h stop =
     let (mark, (y, (a, (m, (l, (space, (one, (dot, (digit, none))))))))) = has text p (37 ∷ 89 ∷ 65 ∷ 77 ∷ 76 ∷ 32 ∷ 49 ∷ 46 ∷ (48 + minor) ∷ []) h in
     let named = yaml_value text p (y, (a, (m, (l, (space, tt))))) in
@@ -115,7 +127,8 @@ mark_alpha : is_alpha_byte 33 ≡ false
 unfolding is_alpha_byte is_digit_byte
 mark_alpha = refl
 
-lone_read : (text : List ℕ) (p : ℕ) → byte text p ≡ 33 → byte text (p + 1) ≡ 32 → handle_at text p ≡ Ok (33 ∷ [], p + 1)
+lone_read : (text : List ℕ) (p : ℕ) → byte text p ≡ 33 → byte text (p + 1) ≡ 32
+    → handle_at text p ≡ Ok (33 ∷ [], p + 1)
 lone_read text p mark space =
     let run = run_stop (length text) _ text (p + 1) (no_alpha_at text (p + 1) (space_no_alpha text (p + 1) space)) in
     let inside = within text p (omega (arith, mark)) in
@@ -123,7 +136,9 @@ lone_read text p mark space =
     let same : (p + 1 == p + 1) ≡ true = grind (arith, nat_tests) in
     rw (mark, run, space, same, slice) refl
 
-named_read : (text : List ℕ) (p : ℕ) (name : List ℕ) → Has text p (33 ∷ (name ++ (33 ∷ []))) → are_alphas name ≡ true → handle_at text p ≡ Ok (33 ∷ (name ++ (33 ∷ [])), p + 1 + length name + 1)
+named_read : (text : List ℕ) (p : ℕ) (name : List ℕ) → Has text p (33 ∷ (name ++ (33 ∷ [])))
+    → are_alphas name ≡ true
+    → handle_at text p ≡ Ok (33 ∷ (name ++ (33 ∷ [])), p + 1 + length name + 1)
 named_read text p name h are =
     let (mark, all) = h in
     let front = has_front text (p + 1) name (33 ∷ []) all in
@@ -136,7 +151,8 @@ named_read text p name h are =
     let slice : slice_range text p (p + 1 + length name + 1) ≡ 33 ∷ (name ++ (33 ∷ [])) = rw to at (range_reads text p (33 ∷ (name ++ (33 ∷ []))) h (omega (arith, count, inside))) in
     rw (mark, run, close, slice) refl
 
-handle_read : (text : List ℕ) (p : ℕ) (handle : List ℕ) → IsHandle handle → Has text p handle → byte text (p + length handle) ≡ 32 → handle_at text p ≡ Ok (handle, p + length handle)
+handle_read : (text : List ℕ) (p : ℕ) (handle : List ℕ) → IsHandle handle → Has text p handle
+    → byte text (p + length handle) ≡ 32 → handle_at text p ≡ Ok (handle, p + length handle)
 handle_read text p handle (inl e) h space =
     let P : List ℕ → Type 0 = λ (x : List ℕ). Has text p x → byte text (p + length x) ≡ 32 → handle_at text p ≡ Ok (x, p + length x) in
     let alone : P (33 ∷ []) = λ has blank. let (mark, none) = has in lone_read text p mark blank in
@@ -153,7 +169,8 @@ some_bytes [] h = absurd (omega arith)
 some_bytes (piece ∷ pieces) h = grind (arith, nat_tests)
 
 -- a URI begins with no blank
-no_blank_first : (text : List ℕ) (p : ℕ) (pieces : List UriPiece) → 0 < length pieces → Has text p (uri_text pieces) → IsUri true 0 pieces → is_blank text p ≡ false
+no_blank_first : (text : List ℕ) (p : ℕ) (pieces : List UriPiece) → 0 < length pieces
+    → Has text p (uri_text pieces) → IsUri true 0 pieces → is_blank text p ≡ false
 no_blank_first text p [] some h is = absurd (omega arith)
 no_blank_first text p (raw b ∷ pieces) some (e, h) (none, kept, is) =
     let here : is_uri true text p ≡ true = rw e kept in
@@ -161,23 +178,29 @@ no_blank_first text p (raw b ∷ pieces) some (e, h) (none, kept, is) =
     no_blank text p (byte text p) refl (omega (arith, low)) (omega (arith, low))
 no_blank_first text p (escape b ∷ pieces) some (e, h) is = no_blank text p 37 e (omega arith) (omega arith)
 
-prefix_by : (run : _) (text : List ℕ) (p : ℕ) → belongs run text p ≡ true → belongs run text (p + 1) ≡ false
-    → (if belongs run text p then prefix_ended text (some_uri_at contexts.TagDirectiveUri true text (run_end run text p))
+prefix_by : (run : _) (text : List ℕ) (p : ℕ) → belongs run text p ≡ true
+    → belongs run text (p + 1) ≡ false
+    → (if belongs run text p then prefix_ended text
+    (some_uri_at contexts.TagDirectiveUri true text (run_end run text p))
     else Err record { problem = problems.NoWhitespace; context = contexts.TagDirective; place = p })
     ≡ prefix_ended text (some_uri_at contexts.TagDirectiveUri true text (p + 1))
 prefix_by run text p here stop = rw (here, one_run run text p here stop) refl
 
-prefix_spaced : (text : List ℕ) (p : ℕ) → byte text p ≡ 32 → is_blank text (p + 1) ≡ false → prefix_at text p ≡ prefix_ended text (some_uri_at contexts.TagDirectiveUri true text (p + 1))
+prefix_spaced : (text : List ℕ) (p : ℕ) → byte text p ≡ 32 → is_blank text (p + 1) ≡ false
+    → prefix_at text p ≡ prefix_ended text (some_uri_at contexts.TagDirectiveUri true text (p + 1))
 prefix_spaced text p space stop = prefix_by _ text p (unfold belongs in blank_is text p space) (unfold belongs in stop)
 
-prefix_read : (text : List ℕ) (p : ℕ) (pieces : List UriPiece) → byte text p ≡ 32 → 0 < length pieces → Has text (p + 1) (uri_text pieces) → IsUri true 0 pieces
-    → is_break text (p + 1 + length (uri_text pieces)) ≡ true → prefix_at text p ≡ Ok (uri_bytes pieces, p + 1 + length (uri_text pieces))
+prefix_read : (text : List ℕ) (p : ℕ) (pieces : List UriPiece) → byte text p ≡ 32
+    → 0 < length pieces → Has text (p + 1) (uri_text pieces) → IsUri true 0 pieces
+    → is_break text (p + 1 + length (uri_text pieces)) ≡ true
+    → prefix_at text p ≡ Ok (uri_bytes pieces, p + 1 + length (uri_text pieces))
 prefix_read text p pieces space some h is stop =
     let e = p + 1 + length (uri_text pieces) in
     let read = uri_is_read contexts.TagDirectiveUri true text (p + 1) pieces h is (break_no_uri text e stop) in
     prefix_spaced text p space (no_blank_first text (p + 1) pieces some h is) ∙ rw (read, some_bytes pieces some, break_ends text e stop) refl
 
-handle_first : (text : List ℕ) (p : ℕ) (handle rest : List ℕ) → IsHandle handle → Has text p (handle ++ rest) → byte text p ≡ 33
+handle_first : (text : List ℕ) (p : ℕ) (handle rest : List ℕ) → IsHandle handle
+    → Has text p (handle ++ rest) → byte text p ≡ 33
 handle_first text p handle rest (inl e) h =
     let P : List ℕ → Type 0 = λ (x : List ℕ). Has text p (x ++ rest) → byte text p ≡ 33 in
     let alone : P (33 ∷ []) = λ has. let (mark, more) = has in mark in
@@ -187,17 +210,28 @@ handle_first text p handle rest (inr (name, e, are)) h =
     let long : P (33 ∷ (name ++ (33 ∷ []))) = λ has. let (mark, more) = has in mark in
     subst P (sym e) long h
 
-handle_by : (run : _) (text : List ℕ) (p : ℕ) → belongs run text p ≡ true → belongs run text (p + 1) ≡ false
-    → then_at (λ handle q. with_prefix handle (prefix_at text q)) (handle_at text (run_end run text p)) ≡ then_at (λ handle q. with_prefix handle (prefix_at text q)) (handle_at text (p + 1))
+handle_by : (run : _) (text : List ℕ) (p : ℕ) → belongs run text p ≡ true
+    → belongs run text (p + 1) ≡ false
+    → then_at (λ handle q. with_prefix handle (prefix_at text q))
+    (handle_at text (run_end run text p))
+    ≡ then_at (λ handle q. with_prefix handle (prefix_at text q)) (handle_at text (p + 1))
 handle_by run text p here stop = ap (λ k. then_at (λ handle q. with_prefix handle (prefix_at text q)) (handle_at text k)) (one_run run text p here stop)
 
-handle_spaced : (text : List ℕ) (p : ℕ) → byte text p ≡ 32 → is_blank text (p + 1) ≡ false → tag_directive_at text p ≡ then_at (λ handle q. with_prefix handle (prefix_at text q)) (handle_at text (p + 1))
+handle_spaced : (text : List ℕ) (p : ℕ) → byte text p ≡ 32 → is_blank text (p + 1) ≡ false
+    → tag_directive_at text p ≡ then_at (λ handle q. with_prefix handle (prefix_at text q))
+    (handle_at text (p + 1))
 unfolding belongs
 handle_spaced text p space stop = handle_by _ text p (blank_is text p space) stop
 
-tag_here : (text : List ℕ) (p : ℕ) (handle : List ℕ) (pieces : List UriPiece) → byte text p ≡ 32 → Has text (p + 1) (handle ++ (32 ∷ uri_text pieces)) → IsHandle handle → 0 < length pieces → IsUri true 0 pieces
+tag_here : (text : List ℕ) (p : ℕ) (handle : List ℕ) (pieces : List UriPiece) → byte text p ≡ 32
+    → Has text (p + 1) (handle ++ (32 ∷ uri_text pieces)) → IsHandle handle → 0 < length pieces
+    → IsUri true 0 pieces
     → is_break text (p + 1 + length handle + 1 + length (uri_text pieces)) ≡ true
-    → tag_directive_at text p ≡ Ok record { said = tag handle (uri_bytes pieces); end = p + 1 + length handle + 1 + length (uri_text pieces) }
+    → tag_directive_at text p ≡ Ok record {
+      said = tag handle (uri_bytes pieces);
+      end = p + 1 + length handle + 1 + length
+          (uri_text pieces);
+    }
 tag_here text p handle pieces space h shaped some is stop =
     let mark = handle_first text (p + 1) handle (32 ∷ uri_text pieces) shaped h in
     let spaced = handle_spaced text p space (no_blank text (p + 1) 33 mark (omega arith) (omega arith)) in
@@ -207,9 +241,17 @@ tag_here text p handle pieces space h shaped some is stop =
     let last = prefix_read text (p + 1 + length handle) pieces part some uri is stop in
     spaced ∙ rw (first, last) refl
 
-pub tag_directive_is_read : (text : List ℕ) (p : ℕ) (handle : List ℕ) (pieces : List UriPiece) → HasAt text p (directive_text handle pieces) → IsHandle handle → 0 < length pieces → IsUri true 0 pieces
+pub tag_directive_is_read : (text : List ℕ) (p : ℕ) (handle : List ℕ) (pieces : List UriPiece)
+    → HasAt text p (directive_text handle pieces) → IsHandle handle → 0 < length pieces
+    → IsUri true 0 pieces
     → is_break text (p + length (directive_text handle pieces)) ≡ true
-    → let end = p + length (directive_text handle pieces) in directive_at text p ≡ Ok record { said = tag handle (uri_bytes pieces); end = end; place = end + break_width text end }
+    → let end = p + length (directive_text handle pieces) in
+    directive_at text p ≡ Ok record {
+      said = tag handle (uri_bytes pieces);
+      end = end;
+      place = end +
+          break_width text end;
+    }
 tag_directive_is_read text p handle pieces h shaped some is stop =
     let rest = handle ++ (32 ∷ uri_text pieces) in
     let (mark, (t, (a, (g, (space, all))))) = has text p (37 ∷ 84 ∷ 65 ∷ 71 ∷ 32 ∷ rest) h in

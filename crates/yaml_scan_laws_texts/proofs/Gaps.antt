@@ -19,7 +19,9 @@ stop_whole text p t h =
     ]
 
 -- the end of a run that holds all but breaks
-run_whole : (run : _) (text : List ℕ) → IsUtf8 text → ((p : ℕ) → belongs run text p ≡ not (is_breakz text p)) → (n p : ℕ) → length text ≤ p + n → IsWhole text (run_within n run text p)
+run_whole : (run : _) (text : List ℕ) → IsUtf8 text
+    → ((p : ℕ) → belongs run text p ≡ not (is_breakz text p)) → (n p : ℕ) → length text ≤ p + n
+    → IsWhole text (run_within n run text p)
 unfolding run_within
 run_whole run text t is zero p l = whole_past text p (omega (arith, l))
 run_whole run text t is (suc n) p l =
@@ -29,14 +31,16 @@ run_whole run text t is (suc n) p l =
     ]
 
 -- the end of the comment there
-comment_whole : (text : List ℕ) (p : ℕ) → IsUtf8 text → (byte text p == 35) ≡ true → IsWhole text (comment_end text p)
+comment_whole : (text : List ℕ) (p : ℕ) → IsUtf8 text → (byte text p == 35) ≡ true
+    → IsWhole text (comment_end text p)
 unfolding belongs
 comment_whole text p t h = rw h (run_whole _ text t (λ q. refl) (length text) p (omega arith))
 
 skipped_small : (b : ℕ) (tabs : Bool) → (b == 32 || (tabs && b == 9)) ≡ true → b < 128
 skipped_small b tabs h = grind (arith, nat_tests)
 
-gap_whole : (n : ℕ) (flow allowed : Bool) (text : List ℕ) (p : ℕ) → IsUtf8 text → IsWhole text p → IsWhole text (gap_within n flow allowed text p).place
+gap_whole : (n : ℕ) (flow allowed : Bool) (text : List ℕ) (p : ℕ) → IsUtf8 text → IsWhole text p
+    → IsWhole text (gap_within n flow allowed text p).place
 unfolding gap_within step_at
 gap_whole zero flow allowed text p t w = w
 gap_whole (suc n) flow allowed text p t w =
@@ -57,5 +61,6 @@ gap_whole (suc n) flow allowed text p t w =
     ]
 
 -- where the next lexeme stands
-pub gap_at_whole : (flow allowed : Bool) (text : List ℕ) (p : ℕ) → IsUtf8 text → IsWhole text p → IsWhole text (gap_at flow allowed text p).place
+pub gap_at_whole : (flow allowed : Bool) (text : List ℕ) (p : ℕ) → IsUtf8 text → IsWhole text p
+    → IsWhole text (gap_at flow allowed text p).place
 gap_at_whole flow allowed text p t w = gap_whole (length text) flow allowed text p t w

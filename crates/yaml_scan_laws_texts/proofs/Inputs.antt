@@ -8,9 +8,11 @@ use Rattle.yaml_scan_laws_texts.specs.Spelled.{AreSpelled}
 use Rattle.yaml_scan_laws_texts.proofs.TokensSpelled.{remaining_spelled}
 
 -- of a decoded text, or of none
-spelled_in : (encoding : yaml_encoding_t) (r : Result (List ℕ) _) → AreSpelled (scanned_in encoding r).tokens
+spelled_in : (encoding : yaml_encoding_t) (r : Result (List ℕ) _)
+    → AreSpelled (scanned_in encoding r).tokens
 spelled_in encoding (Ok text) = remaining_spelled record { encoding = encoding; text = text } 0 0
 spelled_in encoding (Err o) = tt
 
-pub scanned_spelled : (setting : yaml_encoding_t) (bytes : List ℕ) → AreSpelled (scanned setting bytes).tokens
+pub scanned_spelled : (setting : yaml_encoding_t) (bytes : List ℕ)
+    → AreSpelled (scanned setting bytes).tokens
 scanned_spelled setting bytes = spelled_in (encoding_of setting bytes) (decoded_text setting bytes)

@@ -30,12 +30,15 @@ CarriesAny s (Read l) = Carries s l
 CarriesAny s (Fails f) = Unit {0}
 CarriesAny s Ends = Unit {0}
 
-word_texts : (text : List ℕ) (r : Result WordText Wrong) → HasWord text r → HasTexts (body_of_word r)
+word_texts : (text : List ℕ) (r : Result WordText Wrong) → HasWord text r
+    → HasTexts (body_of_word r)
 word_texts text (Ok w) h = h.texts
 word_texts text (Err e) h = tt
 
 -- what a kind carries, where its word does
-body_texts : (k : Kind) (s : SpelledText) (l : Lexeme) → HasWord s.text (word_at k (nat_lt 0 l.depth) l.level s.text l.start.index) → HasTexts (body_by k s l)
+body_texts : (k : Kind) (s : SpelledText) (l : Lexeme)
+    → HasWord s.text (word_at k (nat_lt 0 l.depth) l.level s.text l.start.index)
+    → HasTexts (body_by k s l)
 body_texts kinds.StreamStart s l h = tt
 body_texts k s l h = word_texts s.text (word_at k (nat_lt 0 l.depth) l.level s.text l.start.index) h
 
@@ -55,30 +58,36 @@ abbrev with_end : List ℕ → Lexeme → WordText → Lexeme
 with_end text l w = record l { end = mark_at text w.end; reached = mark_at text w.reached; broke = w.broke }
 
 -- a lexeme's end changes nothing of what it carries
-ended_texts : (k : Kind) (s : SpelledText) (l : Lexeme) (w : WordText) → HasTexts (body_by k s l) → HasTexts (body_by k s (with_end s.text l w))
+ended_texts : (k : Kind) (s : SpelledText) (l : Lexeme) (w : WordText) → HasTexts (body_by k s l)
+    → HasTexts (body_by k s (with_end s.text l w))
 ended_texts kinds.StreamStart s l w h = tt
 ended_texts k s l w h = h
 
-finished_carries : (s : SpelledText) (q : ℕ) (l : Lexeme) (w : WordText) → IsBegun q l → IsWhole s.text q → HasTexts (body_in s l) → IsWhole s.text w.reached → Carries s (finished s.text l w)
+finished_carries : (s : SpelledText) (q : ℕ) (l : Lexeme) (w : WordText) → IsBegun q l
+    → IsWhole s.text q → HasTexts (body_in s l) → IsWhole s.text w.reached
+    → Carries s (finished s.text l w)
 finished_carries s q l w b here texts place =
     elim (cases_Bool (is_end l.kind)) [
       | inl e ↦ rw e record { texts = texts; place = subst (IsWhole s.text) (sym b.reached) here }
       | inr e ↦ rw e record { texts = ended_texts l.kind s l w texts; place = place }
     ]
 
-tested_carries : (s : SpelledText) (l : Lexeme) (h : List Lexeme) → Carries s l → CarriesAny s (tested l h)
+tested_carries : (s : SpelledText) (l : Lexeme) (h : List Lexeme) → Carries s l
+    → CarriesAny s (tested l h)
 tested_carries s l h c =
     elim (missed (candidate 0 (l ∷ h)) l.reached) as (λ o. CarriesAny s (elim o as (λ _. Next) [ Some start ↦ no_colon start l.reached | None ↦ Read l ])) [
       | Some start ↦ tt
       | None ↦ c
     ]
 
-wrong_carries : (s : SpelledText) (q : ℕ) (r : Result WordText Wrong) (l : Lexeme) (h : List Lexeme) → IsBegun q l → IsWhole s.text q → HasTexts (body_in s l) → HasWord s.text r
+wrong_carries : (s : SpelledText) (q : ℕ) (r : Result WordText Wrong) (l : Lexeme) (h : List Lexeme)
+    → IsBegun q l → IsWhole s.text q → HasTexts (body_in s l) → HasWord s.text r
     → CarriesAny s (unless_wrong r s.text l h)
 wrong_carries s q (Ok w) l h b here texts word = tested_carries s (finished s.text l w) h (finished_carries s q l w b here texts word.place)
 wrong_carries s q (Err w) l h b here texts word = tt
 
-lost_carries : (o : Option yaml_mark_t) (s : SpelledText) (q : ℕ) (l : Lexeme) (h : List Lexeme) → IsUtf8 s.text → IsBegun q l → IsWhole s.text q → Fits l.kind s.text q
+lost_carries : (o : Option yaml_mark_t) (s : SpelledText) (q : ℕ) (l : Lexeme) (h : List Lexeme)
+    → IsUtf8 s.text → IsBegun q l → IsWhole s.text q → Fits l.kind s.text q
     → CarriesAny s (unless_lost o s.text q l h)
 lost_carries (Some start) s q l h t b here fits = tt
 lost_carries None s q l h t b here fits =
@@ -87,7 +96,8 @@ lost_carries None s q l h t b here fits =
     let there : HasWord s.text (word_at l.kind flow l.level s.text l.start.index) = subst (λ p. HasWord s.text (word_at l.kind flow l.level s.text p)) (sym b.start) word in
     wrong_carries s q (word_at l.kind flow l.level s.text q) l h b here (body_texts l.kind s l there) word
 
-kind_carries : (o : Option Kind) (s : SpelledText) (gap : Gap) (h : List Lexeme) → IsUtf8 s.text → IsWhole s.text gap.place → FitsAny o s.text gap.place → CarriesAny s (of_kind o s.text gap h)
+kind_carries : (o : Option Kind) (s : SpelledText) (gap : Gap) (h : List Lexeme) → IsUtf8 s.text
+    → IsWhole s.text gap.place → FitsAny o s.text gap.place → CarriesAny s (of_kind o s.text gap h)
 kind_carries None s gap h t here fits = tt
 kind_carries (Some k) s gap h t here fits =
     let start = mark_at s.text gap.place in
@@ -98,7 +108,8 @@ kind_carries (Some k) s gap h t here fits =
       | inr e ↦ rw e (lost_carries (lost_by l (fresh (candidate (depth h) h) start)) s gap.place l h t record { start = same; reached = same } here fits)
     ]
 
-missed_carries : (o : Option yaml_mark_t) (s : SpelledText) (gap : Gap) (h : List Lexeme) → IsUtf8 s.text → IsWhole s.text gap.place → CarriesAny s (unless_missed o s.text gap h)
+missed_carries : (o : Option yaml_mark_t) (s : SpelledText) (gap : Gap) (h : List Lexeme)
+    → IsUtf8 s.text → IsWhole s.text gap.place → CarriesAny s (unless_missed o s.text gap h)
 missed_carries (Some start) s gap h t here = tt
 missed_carries None s gap h t here = kind_carries (kind_at (nat_lt 0 (depth h)) s.text gap.place) s gap h t here (kind_fits (nat_lt 0 (depth h)) s.text gap.place)
 
@@ -106,7 +117,8 @@ abbrev pub AllCarry : SpelledText → List Lexeme → Type 0
 AllCarry s [] = Unit {0}
 AllCarry s (l ∷ h) = Carries s l × AllCarry s h
 
-next_carries : (s : SpelledText) (h : List Lexeme) → IsUtf8 s.text → AllCarry s h → CarriesAny s (next s.text h)
+next_carries : (s : SpelledText) (h : List Lexeme) → IsUtf8 s.text → AllCarry s h
+    → CarriesAny s (next s.text h)
 unfolding next
 next_carries s [] t c = record { texts = tt; place = t }
 next_carries s (x ∷ h) t (c, cs) =
@@ -118,7 +130,8 @@ next_carries s (x ∷ h) t (c, cs) =
           (gap_at_whole flow (key_allowed (x ∷ h)) s.text x.reached.index t c.place)))
     ]
 
-extended_carry : (s : SpelledText) (x : Next) (h : List Lexeme) → CarriesAny s x → AllCarry s h → AllCarry s (extended x h)
+extended_carry : (s : SpelledText) (x : Next) (h : List Lexeme) → CarriesAny s x → AllCarry s h
+    → AllCarry s (extended x h)
 extended_carry s (Read l) h c cs = (c, cs)
 extended_carry s (Fails f) h c cs = cs
 extended_carry s Ends h c cs = cs

@@ -20,7 +20,8 @@ use Rattle.yaml_scan_words.proofs.UrisRead.{uri_is_read}
 pub no_run : (run : _) (text : List ℕ) (p : ℕ) → belongs run text p ≡ false → run_end run text p ≡ p
 no_run run text p stop = run_stop (length text) run text p stop
 
-pub one_run : (run : _) (text : List ℕ) (p : ℕ) → belongs run text p ≡ true → belongs run text (p + 1) ≡ false → run_end run text p ≡ p + 1
+pub one_run : (run : _) (text : List ℕ) (p : ℕ) → belongs run text p ≡ true
+    → belongs run text (p + 1) ≡ false → run_end run text p ≡ p + 1
 one_run run text p here stop =
     let inside = belongs_inside run text p here in
     let (m, room, same) = run_more (length text) run text p here (omega arith) in
@@ -31,7 +32,8 @@ one_run run text p here stop =
 pub blank_is : (text : List ℕ) (p : ℕ) → byte text p ≡ 32 → is_blank text p ≡ true
 blank_is text p h = rw h refl
 
-pub no_blank : (text : List ℕ) (p b : ℕ) → byte text p ≡ b → b ≢ 32 → b ≢ 9 → is_blank text p ≡ false
+pub no_blank : (text : List ℕ) (p b : ℕ) → byte text p ≡ b → b ≢ 32 → b ≢ 9
+    → is_blank text p ≡ false
 no_blank text p b h space tab =
     let s : (b == 32) ≡ false = grind (arith, nat_tests) in
     let t : (b == 9) ≡ false = grind (arith, nat_tests) in
@@ -41,7 +43,8 @@ digit_test : (b : ℕ) → 48 ≤ b → b ≤ 57 → is_digit_byte b ≡ true
 unfolding is_digit_byte
 digit_test b low high = grind (arith, nat_tests)
 
-pub digit_is : (text : List ℕ) (p b : ℕ) → byte text p ≡ b → 48 ≤ b → b ≤ 57 → is_digit text p ≡ true
+pub digit_is : (text : List ℕ) (p b : ℕ) → byte text p ≡ b → 48 ≤ b → b ≤ 57
+    → is_digit text p ≡ true
 digit_is text p b h low high = rw h (digit_test b low high)
 
 dot_test : is_digit_byte 46 ≡ false
@@ -55,7 +58,8 @@ space_test : is_alpha_byte 32 ≡ false
 unfolding is_alpha_byte is_digit_byte
 space_test = refl
 
-pub space_no_alpha : (text : List ℕ) (p : ℕ) → byte text p ≡ 32 → is_alpha_byte (byte text p) ≡ false
+pub space_no_alpha : (text : List ℕ) (p : ℕ) → byte text p ≡ 32
+    → is_alpha_byte (byte text p) ≡ false
 space_no_alpha text p h = rw h space_test
 
 pub space_ends : (text : List ℕ) (p : ℕ) → byte text p ≡ 32 → is_blank_or_end text p ≡ true
@@ -74,7 +78,8 @@ calm : (b c d : ℕ) → 32 < b → b < 127 → break_of b c d ≡ 0
 unfolding break_of
 calm b c d low high = grind (arith, nat_tests)
 
-pub break_no_printed : (text : List ℕ) (p b : ℕ) → is_break text p ≡ true → byte text p ≡ b → 32 < b → b < 127 → ⊥
+pub break_no_printed : (text : List ℕ) (p b : ℕ) → is_break text p ≡ true → byte text p ≡ b → 32 < b
+    → b < 127 → ⊥
 break_no_printed text p b h e low high = broken (break_width text p) (calm (byte text p) (byte text (p + 1)) (byte text (p + 2)) (omega arith) (omega arith)) h
 
 blank_calm : (b c d : ℕ) → is_blank_byte b ≡ true → break_of b c d ≡ 0
@@ -99,7 +104,8 @@ break_no_digit text p h =
       | inr e ↦ e
     ]
 
-pub break_no_uri : (text : List ℕ) (p : ℕ) → is_break text p ≡ true → (byte text p == 37 || is_uri true text p) ≡ false
+pub break_no_uri : (text : List ℕ) (p : ℕ) → is_break text p ≡ true
+    → (byte text p == 37 || is_uri true text p) ≡ false
 break_no_uri text p h =
     elim (cases_Bool (byte text p == 37)) [
       | inl e ↦ absurd (break_no_printed text p 37 h (eqb-true _ _ e) (omega arith) (omega arith))
@@ -116,22 +122,27 @@ no_hash text p h =
       | inr e ↦ e
     ]
 
-line_by : (run : _) (text : List ℕ) (p : ℕ) → belongs run text p ≡ false → (byte text p == 35) ≡ false → is_break text p ≡ true
+line_by : (run : _) (text : List ℕ) (p : ℕ) → belongs run text p ≡ false
+    → (byte text p == 35) ≡ false → is_break text p ≡ true
     → break_end text (comment_end text (run_end run text p)) ≡ Ok (p + break_width text p)
 line_by run text p blank hash h = rw (no_run run text p blank, hash, h) refl
 
 -- the line of a directive ends behind its break
-pub line_ends : (text : List ℕ) (p : ℕ) → is_break text p ≡ true → line_end_at text p ≡ Ok (p + break_width text p)
+pub line_ends : (text : List ℕ) (p : ℕ) → is_break text p ≡ true
+    → line_end_at text p ≡ Ok (p + break_width text p)
 unfolding belongs
 line_ends text p h = line_by _ text p (break_no_blank text p h) (no_hash text p h) h
 
 -- ---- `!` alone
 
-space_plain : (32 == 37 || (is_alpha_byte 32 || (is_punctuation 32 || (false && is_wide_punctuation 32)))) ≡ false
+space_plain : (32 == 37 || (is_alpha_byte 32
+    || (is_punctuation 32 || (false && is_wide_punctuation 32)))) ≡ false
 unfolding is_alpha_byte is_digit_byte is_punctuation is_wide_punctuation
 space_plain = refl
 
-pub lone_mark_is_read : (flow : Bool) (text : List ℕ) (p : ℕ) → byte text p ≡ 33 → byte text (p + 1) ≡ 32 → tag_at flow text p ≡ Ok record { handle = []; suffix = 33 ∷ []; end = p + 1 }
+pub lone_mark_is_read : (flow : Bool) (text : List ℕ) (p : ℕ) → byte text p ≡ 33
+    → byte text (p + 1) ≡ 32
+    → tag_at flow text p ≡ Ok record { handle = []; suffix = 33 ∷ []; end = p + 1 }
 unfolding parts_at
 lone_mark_is_read flow text p mark space =
     let name : name_end text p ≡ p + 1 = no_run _ text (p + 1) (no_alpha_at text (p + 1) (space_no_alpha text (p + 1) space)) in

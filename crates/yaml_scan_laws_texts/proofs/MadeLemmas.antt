@@ -64,7 +64,8 @@ whole_blocked : (style : yaml_scalar_style_t) (r : Result BlockText Wrong) → W
 whole_blocked style (Ok x) = refl
 whole_blocked style (Err w) = tt
 
-pub whole_word : (k : Kind) (flow : Bool) (level : ℕ) (text : List ℕ) (p : ℕ) → is_plain k ≡ false → Whole (word_at k flow level text p)
+pub whole_word : (k : Kind) (flow : Bool) (level : ℕ) (text : List ℕ) (p : ℕ) → is_plain k ≡ false
+    → Whole (word_at k flow level text p)
 unfolding word_at
 whole_word kinds.Alias flow level text p e = whole_valued _ _
 whole_word kinds.Anchor flow level text p e = whole_valued _ _
@@ -78,7 +79,8 @@ whole_word kinds.Plain flow level text p e = absurd (cc)
 whole_word k flow level text p e = refl
 
 -- what is allowed is a key that may be one, in brackets one behind which a key is allowed
-saved_allowed : (allowed broke may flow : Bool) → flow ≡ true → ((allowed || (broke && not flow)) && may) ≡ true → allowed ≡ true
+saved_allowed : (allowed broke may flow : Bool) → flow ≡ true
+    → ((allowed || (broke && not flow)) && may) ≡ true → allowed ≡ true
 saved_allowed true broke may flow f e = refl
 saved_allowed false true may true f e = absurd (cc)
 saved_allowed false false may true f e = absurd (cc)
@@ -93,7 +95,8 @@ no_level k d column [] e =
     ]
 no_level k d column (c ∷ cs) e = absurd (cc)
 
-not_level : (saved outside : Bool) (n column : ℕ) → n ≡ 0 → (saved && (outside && n == column + 1)) ≡ false
+not_level : (saved outside : Bool) (n column : ℕ) → n ≡ 0
+    → (saved && (outside && n == column + 1)) ≡ false
 not_level saved outside n column e =
     let x : (n == column + 1) ≡ false = grind (arith, nat_tests) in
     elim (cases_Bool saved) [
@@ -101,7 +104,8 @@ not_level saved outside n column e =
       | inl s ↦ elim (cases_Bool outside) [ inr o ↦ rw (s, o) refl | inl o ↦ rw (s, o) x ]
     ]
 
-pub begun_made : (k : Kind) (start : yaml_mark_t) (gap : Gap) (h : List Lexeme) → MadeBehind h (begun k start (allowed_behind h gap) h)
+pub begun_made : (k : Kind) (start : yaml_mark_t) (gap : Gap) (h : List Lexeme)
+    → MadeBehind h (begun k start (allowed_behind h gap) h)
 begun_made k start gap h = record {
   at = refl;
   kind = λ s. (and_parts (allowed_behind h gap) (may_be_key k) s).1;
@@ -111,7 +115,9 @@ begun_made k start gap h = record {
   broke = λ e. refl;
 }
 
-pub finished_made : (text : List ℕ) (l : Lexeme) (h : List Lexeme) (w : WordText) → (is_plain l.kind ≡ false → w.broke ≡ false) → MadeBehind h l → MadeBehind h (finished text l w)
+pub finished_made : (text : List ℕ) (l : Lexeme) (h : List Lexeme) (w : WordText)
+    → (is_plain l.kind ≡ false → w.broke ≡ false) → MadeBehind h l
+    → MadeBehind h (finished text l w)
 finished_made text l h w b m =
     elim (cases_Bool (is_end l.kind)) [
       | inl e ↦ rw e m
@@ -125,15 +131,18 @@ tested_made l h m =
       | None ↦ m
     ]
 
-wrong_made : (text : List ℕ) (r : Result WordText Wrong) (l : Lexeme) (h : List Lexeme) → (is_plain l.kind ≡ false → Whole r) → MadeBehind h l → MadeAny h (unless_wrong r text l h)
+wrong_made : (text : List ℕ) (r : Result WordText Wrong) (l : Lexeme) (h : List Lexeme)
+    → (is_plain l.kind ≡ false → Whole r) → MadeBehind h l → MadeAny h (unless_wrong r text l h)
 wrong_made text (Ok w) l h b m = tested_made (finished text l w) h (finished_made text l h w b m)
 wrong_made text (Err w) l h b m = tt
 
-lost_made : (o : Option yaml_mark_t) (text : List ℕ) (p : ℕ) (l : Lexeme) (h : List Lexeme) → MadeBehind h l → MadeAny h (unless_lost o text p l h)
+lost_made : (o : Option yaml_mark_t) (text : List ℕ) (p : ℕ) (l : Lexeme) (h : List Lexeme)
+    → MadeBehind h l → MadeAny h (unless_lost o text p l h)
 lost_made (Some start) text p l h m = tt
 lost_made None text p l h m = wrong_made text (word_at l.kind (nat_lt 0 l.depth) l.level text p) l h (λ e. whole_word l.kind (nat_lt 0 l.depth) l.level text p e) m
 
-kind_made : (o : Option Kind) (text : List ℕ) (gap : Gap) (h : List Lexeme) → MadeAny h (of_kind o text gap h)
+kind_made : (o : Option Kind) (text : List ℕ) (gap : Gap) (h : List Lexeme)
+    → MadeAny h (of_kind o text gap h)
 kind_made None text gap h = tt
 kind_made (Some k) text gap h =
     let start = mark_at text gap.place in
@@ -143,7 +152,8 @@ kind_made (Some k) text gap h =
       | inr e ↦ rw e (lost_made (lost_by l (fresh (candidate (depth h) h) start)) text gap.place l h (begun_made k (placed k start) gap h))
     ]
 
-missed_made : (o : Option yaml_mark_t) (text : List ℕ) (gap : Gap) (h : List Lexeme) → MadeAny h (unless_missed o text gap h)
+missed_made : (o : Option yaml_mark_t) (text : List ℕ) (gap : Gap) (h : List Lexeme)
+    → MadeAny h (unless_missed o text gap h)
 missed_made (Some start) text gap h = tt
 missed_made None text gap h = kind_made (kind_at (nat_lt 0 (depth h)) text gap.place) text gap h
 

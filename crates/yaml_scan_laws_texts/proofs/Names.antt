@@ -29,7 +29,8 @@ pub record Spans (text : List ℕ) (p q : ℕ) : Type 0 where
   pub are : AreAlphas name
   pub inside : p ≤ length text → q ≤ length text
 
-spans_more : (text : List ℕ) (p q : ℕ) → is_alpha_byte (byte text p) ≡ true → (p ≤ length text → q ≤ length text) → Spans text (p + 1) q → Spans text p q
+spans_more : (text : List ℕ) (p q : ℕ) → is_alpha_byte (byte text p) ≡ true
+    → (p ≤ length text → q ≤ length text) → Spans text (p + 1) q → Spans text p q
 spans_more text p q a l s = record {
   name = byte text p ∷ s.name;
   there = (refl, s.there);
@@ -39,7 +40,8 @@ spans_more text p q a l s = record {
 }
 
 -- a run that holds alphas alone
-run_spans : (run : _) (text : List ℕ) → ((p : ℕ) → belongs run text p ≡ is_alpha_byte (byte text p)) → (n p : ℕ) → Spans text p (run_within n run text p)
+run_spans : (run : _) (text : List ℕ) → ((p : ℕ) → belongs run text p ≡ is_alpha_byte (byte text p))
+    → (n p : ℕ) → Spans text p (run_within n run text p)
 unfolding run_within
 run_spans run text is zero p = record { name = []; there = tt; end = sym (add-zero p); are = refl; inside = λ l. l }
 run_spans run text is (suc n) p =
@@ -58,7 +60,8 @@ some_alpha : (b : ℕ) → is_alpha_byte b ≡ true → 0 < b
 unfolding is_alpha_byte is_digit_byte
 some_alpha b h = grind (arith, nat_tests)
 
-name_by : (name : List ℕ) (text : List ℕ) (p q : ℕ) → Has text p name → q ≡ p + length name → AreAlphas name → (p ≤ length text → q ≤ length text) → (p == q) ≡ false
+name_by : (name : List ℕ) (text : List ℕ) (p q : ℕ) → Has text p name → q ≡ p + length name
+    → AreAlphas name → (p ≤ length text → q ≤ length text) → (p == q) ≡ false
     → IsName (slice_range text p q)
 name_by [] text p q h e are l some = absurd (same_test p q (sym (e ∙ add-zero p)) some)
 name_by (b ∷ bs) text p q (first, h) e are l some =
@@ -70,14 +73,16 @@ name_by (b ∷ bs) text p q (first, h) e are l some =
     rw same (some_more (length bs), are)
 
 -- what stands there is a name, where it isn't empty
-span_name : (text : List ℕ) (p q : ℕ) → Spans text p q → (p == q) ≡ false → IsName (slice_range text p q)
+span_name : (text : List ℕ) (p q : ℕ) → Spans text p q → (p == q) ≡ false
+    → IsName (slice_range text p q)
 span_name text p q s some = name_by s.name text p q s.there s.end s.are s.inside some
 
 abbrev pub HasName : Result (List ℕ × ℕ) Wrong → Type 0
 HasName (Ok x) = IsName x.0
 HasName (Err w) = Unit {0}
 
-name_good : (context : Context) (text : List ℕ) (p q : ℕ) → Spans text p q → HasName (name_between context text p q)
+name_good : (context : Context) (text : List ℕ) (p q : ℕ) → Spans text p q
+    → HasName (name_between context text p q)
 name_good context text p q s =
     elim (cases_Bool (p == q || not (may_end_name text q))) [
       | inl e ↦ rw e tt
@@ -88,14 +93,16 @@ name_good context text p q s =
 pub anchor_good : (context : Context) (text : List ℕ) (p : ℕ) → HasName (anchor_at context text p)
 anchor_good context text p = name_good context text (p + 1) (name_end text p) (name_spans text p)
 
-has_both : (text : List ℕ) (p : ℕ) (xs ys : List ℕ) → Has text p xs → Has text (p + length xs) ys → Has text p (xs ++ ys)
+has_both : (text : List ℕ) (p : ℕ) (xs ys : List ℕ) → Has text p xs → Has text (p + length xs) ys
+    → Has text p (xs ++ ys)
 has_both text p [] ys a b = rw add-zero at b
 has_both text p (x ∷ xs) ys (e, a) b =
     let same : p + suc (length xs) ≡ p + 1 + length xs = omega arith in
     (e, has_both text (p + 1) xs ys a (subst (λ q. Has text q ys) same b))
 
 -- `!` before alphas and another one
-pub closed_handle : (text : List ℕ) (p q : ℕ) → byte text p ≡ 33 → byte text q ≡ 33 → Spans text (p + 1) q → IsHandle (slice_range text p (q + 1))
+pub closed_handle : (text : List ℕ) (p q : ℕ) → byte text p ≡ 33 → byte text q ≡ 33
+    → Spans text (p + 1) q → IsHandle (slice_range text p (q + 1))
 closed_handle text p q mark close s =
     let inside = within text q (omega (arith, close)) in
     let last : Has text (p + 1 + length s.name) (33 ∷ []) = subst (λ k. Has text k (33 ∷ [])) s.end (close, tt) in
@@ -113,7 +120,8 @@ abbrev pub HasHandle : Result (List ℕ × ℕ) Wrong → Type 0
 HasHandle (Ok x) = IsHandle x.0
 HasHandle (Err w) = Unit {0}
 
-handle_between_good : (text : List ℕ) (p q : ℕ) → byte text p ≡ 33 → Spans text (p + 1) q → HasHandle (handle_between text p q)
+handle_between_good : (text : List ℕ) (p q : ℕ) → byte text p ≡ 33 → Spans text (p + 1) q
+    → HasHandle (handle_between text p q)
 handle_between_good text p q mark s =
     elim (cases_Bool (byte text q == 33)) [
       | inl h ↦ rw h (closed_handle text p q mark (eqb-true _ _ h) s)

@@ -35,7 +35,8 @@ alias_word : (r : Result (List ℕ × ℕ) Wrong) → HasName r → HasWord (val
 alias_word (Ok x) h = h
 alias_word (Err w) h = tt
 
-quoted_word : (style : yaml_scalar_style_t) (r : Result (List ℕ × ℕ) Wrong) → HasWord (valued (λ v. tokens.scalar v style) r)
+quoted_word : (style : yaml_scalar_style_t) (r : Result (List ℕ × ℕ) Wrong)
+    → HasWord (valued (λ v. tokens.scalar v style) r)
 quoted_word style (Ok x) = tt
 quoted_word style (Err w) = tt
 
@@ -61,7 +62,8 @@ filled_good context (Ok u) =
     ]
 filled_good context (Err w) = tt
 
-uri_good : (context : Context) (wide : Bool) (text : List ℕ) (p : ℕ) → HasSome (some_uri_at context wide text p)
+uri_good : (context : Context) (wide : Bool) (text : List ℕ) (p : ℕ)
+    → HasSome (some_uri_at context wide text p)
 uri_good context wide text p = filled_good context (uri_at context wide text p)
 
 -- Tags.
@@ -73,7 +75,8 @@ abbrev HasTag : Result TagText Wrong → Type 0
 HasTag (Ok t) = IsTag t
 HasTag (Err w) = Unit {0}
 
-bracketed_good : (text : List ℕ) (r : Result (List ℕ × ℕ) Wrong) → HasSome r → HasTag (bracketed text r)
+bracketed_good : (text : List ℕ) (r : Result (List ℕ × ℕ) Wrong) → HasSome r
+    → HasTag (bracketed text r)
 bracketed_good text (Ok u) some =
     elim (cases_Bool (byte text u.1 == 62)) [
       | inl e ↦ rw e (inl refl, some)
@@ -81,7 +84,8 @@ bracketed_good text (Ok u) some =
     ]
 bracketed_good text (Err w) some = tt
 
-handle_tag : (handle : List ℕ) (r : Result (List ℕ × ℕ) Wrong) → IsHandle handle → HasSome r → HasTag (with_handle handle r)
+handle_tag : (handle : List ℕ) (r : Result (List ℕ × ℕ) Wrong) → IsHandle handle → HasSome r
+    → HasTag (with_handle handle r)
 handle_tag handle (Ok u) h some = (inr h, some)
 handle_tag handle (Err w) h some = tt
 
@@ -107,7 +111,8 @@ parts_good text p mark =
       ]
     ]
 
-tag_word : (flow : Bool) (text : List ℕ) (r : Result TagText Wrong) → HasTag r → HasWord (tagged (ended flow text r))
+tag_word : (flow : Bool) (text : List ℕ) (r : Result TagText Wrong) → HasTag r
+    → HasWord (tagged (ended flow text r))
 tag_word flow text (Ok t) h =
     elim (cases_Bool (may_end_tag flow text t.end)) [
       | inl e ↦ rw e h
@@ -121,7 +126,8 @@ abbrev HasSaid : Result ValueText Wrong → Type 0
 HasSaid (Ok v) = IsSpelled (body_said v.said)
 HasSaid (Err w) = Unit {0}
 
-then_good : {A : Type 0} (more : A → ℕ → Result ValueText Wrong) (r : Result (A × ℕ) Wrong) → ((x : A) (q : ℕ) → HasSaid (more x q)) → HasSaid (then_at more r)
+then_good : {A : Type 0} (more : A → ℕ → Result ValueText Wrong) (r : Result (A × ℕ) Wrong)
+    → ((x : A) (q : ℕ) → HasSaid (more x q)) → HasSaid (then_at more r)
 then_good more (Ok x) h = h x.0 x.1
 then_good more (Err w) h = tt
 
@@ -139,7 +145,8 @@ minor_good text major q =
 number_said : (text : List ℕ) (p : ℕ) → HasSaid (then_at (minor_at text) (number_at text p))
 number_said text p = then_good (minor_at text) (number_at text p) (minor_good text)
 
-ended_good : (text : List ℕ) (r : Result (List ℕ × ℕ) Wrong) → HasSome r → HasSome (prefix_ended text r)
+ended_good : (text : List ℕ) (r : Result (List ℕ × ℕ) Wrong) → HasSome r
+    → HasSome (prefix_ended text r)
 ended_good text (Ok x) some =
     elim (cases_Bool (is_blank_or_end text x.1)) [
       | inl e ↦ rw e some
@@ -148,7 +155,8 @@ ended_good text (Ok x) some =
 ended_good text (Err w) some = tt
 
 prefix_behind : (run : _) (text : List ℕ) (p : ℕ)
-    → HasSome (if belongs run text p then prefix_ended text (some_uri_at contexts.TagDirectiveUri true text (run_end run text p))
+    → HasSome (if belongs run text p then prefix_ended text
+    (some_uri_at contexts.TagDirectiveUri true text (run_end run text p))
     else Err record { problem = problems.NoWhitespace; context = contexts.TagDirective; place = p })
 prefix_behind run text p =
     elim (cases_Bool (belongs run text p)) [
@@ -159,18 +167,22 @@ prefix_behind run text p =
 prefix_good : (text : List ℕ) (p : ℕ) → HasSome (prefix_at text p)
 prefix_good text p = prefix_behind _ text p
 
-with_prefix_good : (handle : List ℕ) (r : Result (List ℕ × ℕ) Wrong) → IsHandle handle → HasSome r → HasSaid (with_prefix handle r)
+with_prefix_good : (handle : List ℕ) (r : Result (List ℕ × ℕ) Wrong) → IsHandle handle → HasSome r
+    → HasSaid (with_prefix handle r)
 with_prefix_good handle (Ok x) h some = (h, some)
 with_prefix_good handle (Err w) h some = tt
 
-then_handle : (text : List ℕ) (r : Result (List ℕ × ℕ) Wrong) → HasHandle r → HasSaid (then_at (λ handle q. with_prefix handle (prefix_at text q)) r)
+then_handle : (text : List ℕ) (r : Result (List ℕ × ℕ) Wrong) → HasHandle r
+    → HasSaid (then_at (λ handle q. with_prefix handle (prefix_at text q)) r)
 then_handle text (Ok x) h = with_prefix_good x.0 (prefix_at text x.1) h (prefix_good text x.1)
 then_handle text (Err w) h = tt
 
-handle_said : (text : List ℕ) (p : ℕ) → HasSaid (then_at (λ handle q. with_prefix handle (prefix_at text q)) (handle_at text p))
+handle_said : (text : List ℕ) (p : ℕ)
+    → HasSaid (then_at (λ handle q. with_prefix handle (prefix_at text q)) (handle_at text p))
 handle_said text p = then_handle text (handle_at text p) (handle_good text p)
 
-value_good : (text : List ℕ) (p q : ℕ) → HasSaid (then_at (named_value_at text) (directive_name_between text p q))
+value_good : (text : List ℕ) (p q : ℕ)
+    → HasSaid (then_at (named_value_at text) (directive_name_between text p q))
 value_good text p q =
     elim (cases_Bool (p == q)) [
       | inl h ↦ rw h tt
@@ -186,11 +198,13 @@ value_good text p q =
       ]
     ]
 
-line_word : (v : ValueText) (r : Result ℕ Wrong) → IsSpelled (body_said v.said) → HasWord (directed (with_line v r))
+line_word : (v : ValueText) (r : Result ℕ Wrong) → IsSpelled (body_said v.said)
+    → HasWord (directed (with_line v r))
 line_word v (Ok q) h = h
 line_word v (Err w) h = tt
 
-directive_word : (text : List ℕ) (r : Result ValueText Wrong) → HasSaid r → HasWord (directed (finished text r))
+directive_word : (text : List ℕ) (r : Result ValueText Wrong) → HasSaid r
+    → HasWord (directed (finished text r))
 directive_word text (Ok v) h = line_word v (line_end_at text v.end) h
 directive_word text (Err w) h = tt
 
@@ -200,7 +214,8 @@ Marked kinds.Tag text p = byte text p ≡ 33
 Marked _ text p = Unit {0}
 
 -- what stands there of a kind
-pub word_spelled : (k : Kind) (flow : Bool) (level : ℕ) (text : List ℕ) (p : ℕ) → Marked k text p → HasWord (word_at k flow level text p)
+pub word_spelled : (k : Kind) (flow : Bool) (level : ℕ) (text : List ℕ) (p : ℕ) → Marked k text p
+    → HasWord (word_at k flow level text p)
 unfolding word_at
 word_spelled kinds.Directive flow level text p m = directive_word text (value_at text p) (value_good text (p + 1) (name_end text p))
 word_spelled kinds.Alias flow level text p m = alias_word (anchor_at contexts.Alias text p) (anchor_good contexts.Alias text p)

@@ -27,12 +27,14 @@ unfolding is_bracket
 small_bracket b h = grind (arith, nat_tests)
 
 last_whole : (flow : Bool) (level : ℕ) (text : List ℕ) (p : ℕ) → IsUtf8 text
-    → (if flow then is_bracket (byte text p) else leads text p && nat_lt (column_at text p) level) ≡ true → IsWhole text p
+    → (if flow then is_bracket (byte text p) else leads text p && nat_lt (column_at text p) level)
+    ≡ true → IsWhole text p
 last_whole true level text p t h = whole_ascii text p t (small_bracket (byte text p) h)
 last_whole false level text p t h = leads_whole text p t (and_parts (leads text p) (nat_lt (column_at text p) level) h).0
 
 -- where a plain scalar ends
-ends_whole : (flow : Bool) (level : ℕ) (text : List ℕ) (p : ℕ) → IsUtf8 text → ends_at flow level text p ≡ true → IsWhole text p
+ends_whole : (flow : Bool) (level : ℕ) (text : List ℕ) (p : ℕ) → IsUtf8 text
+    → ends_at flow level text p ≡ true → IsWhole text p
 unfolding ends_at
 ends_whole flow level text p t h =
     elim (or_cases (byte text p == 0 || is_document_indicator text p) _ h) [
@@ -60,7 +62,8 @@ Fits u text p Ends = IsUtf8 u × IsWhole text p
 Fits u text p (Takes x q) = GoesBefore u x text q
 Fits u text p (Faulty w) = Unit {0}
 
-spot_fits : (u text : List ℕ) (flow : Bool) (level p : ℕ) → IsUtf8 text → Waits u text p → Fits u text p (spot_at flow level text p)
+spot_fits : (u text : List ℕ) (flow : Bool) (level p : ℕ) → IsUtf8 text → Waits u text p
+    → Fits u text p (spot_at flow level text p)
 unfolding spot_at
 spot_fits u text flow level p t w =
     elim (cases_Bool (nat_lt 0 (break_width text p))) [
@@ -95,7 +98,8 @@ nothing_is : (ps : List Piece) → is_nothing ps ≡ true → ps ≡ []
 nothing_is [] h = refl
 nothing_is (x ∷ xs) h = absurd (true≢false (sym h))
 
-piece_goes : (u text : List ℕ) (q : ℕ) (x : Piece) (w : Words) → GoesBefore u x text q → ((v : List ℕ) → Waits v text q → AreWords v text w) → AreWords u text (with_piece x q w)
+piece_goes : (u text : List ℕ) (q : ℕ) (x : Piece) (w : Words) → GoesBefore u x text q
+    → ((v : List ℕ) → Waits v text q → AreWords v text w) → AreWords u text (with_piece x q w)
 piece_goes u text q (Kept bytes) w f rest =
     let more = rest (u ++ bytes) f in
     record { goes = more.goes; place = more.place }
@@ -116,17 +120,20 @@ abbrev Good : List ℕ → List ℕ → Result Words Wrong → Type 0
 Good u text (Ok w) = AreWords u text w
 Good u text (Err e) = Unit {0}
 
-from_good : (u text : List ℕ) (x : Piece) (q : ℕ) (r : Result Words Wrong) → GoesBefore u x text q → ((v : List ℕ) → Waits v text q → Good v text r) → Good u text (words_from x q r)
+from_good : (u text : List ℕ) (x : Piece) (q : ℕ) (r : Result Words Wrong) → GoesBefore u x text q
+    → ((v : List ℕ) → Waits v text q → Good v text r) → Good u text (words_from x q r)
 from_good u text x q (Ok w) f rest = piece_goes u text q x w f rest
 from_good u text x q (Err e) f rest = tt
 
-follows_good : (more : ℕ → Result Words Wrong) (u text : List ℕ) (p : ℕ) (s : PlainSpot) → ((q : ℕ) (v : List ℕ) → Waits v text q → Good v text (more q)) → Fits u text p s
+follows_good : (more : ℕ → Result Words Wrong) (u text : List ℕ) (p : ℕ) (s : PlainSpot)
+    → ((q : ℕ) (v : List ℕ) → Waits v text q → Good v text (more q)) → Fits u text p s
     → Good u text (follows more p s)
 follows_good more u text p Ends rest (a, b) = record { goes = a; place = b }
 follows_good more u text p (Takes x q) rest f = from_good u text x q (more q) f (rest q)
 follows_good more u text p (Faulty w) rest f = tt
 
-words_good : (n : ℕ) (flow : Bool) (level : ℕ) (text : List ℕ) → IsUtf8 text → (p : ℕ) (u : List ℕ) → Waits u text p → Good u text (words n flow level text p)
+words_good : (n : ℕ) (flow : Bool) (level : ℕ) (text : List ℕ) → IsUtf8 text → (p : ℕ) (u : List ℕ)
+    → Waits u text p → Good u text (words n flow level text p)
 unfolding words
 words_good zero flow level text t p u w = tt
 words_good (suc n) flow level text t p u w =
@@ -140,12 +147,14 @@ abbrev pub HasPlain : List ℕ → Result PlainText Wrong → Type 0
 HasPlain text (Ok x) = IsPlain text x
 HasPlain text (Err w) = Unit {0}
 
-with_good : (text : List ℕ) (r : Result Words Wrong) → Good [] text r → HasPlain text (plain_with plain_text r)
+with_good : (text : List ℕ) (r : Result Words Wrong) → Good [] text r
+    → HasPlain text (plain_with plain_text r)
 with_good text (Ok w) h = record { value = value_utf8 w.pieces h.goes; place = h.place }
 with_good text (Err e) h = tt
 
 -- a plain scalar that starts inside the text, where it may be cut
-pub plain_utf8 : (flow : Bool) (level : ℕ) (text : List ℕ) (p : ℕ) → IsUtf8 text → IsWhole text p → p < length text → HasPlain text (plain_at flow level text p)
+pub plain_utf8 : (flow : Bool) (level : ℕ) (text : List ℕ) (p : ℕ) → IsUtf8 text → IsWhole text p
+    → p < length text → HasPlain text (plain_at flow level text p)
 plain_utf8 flow level text p t w l =
     let rest = words (length text) flow level text (p + 1) in
     with_good text (words_from (Kept (byte text p ∷ [])) (p + 1) rest)

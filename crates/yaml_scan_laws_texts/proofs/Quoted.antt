@@ -26,7 +26,8 @@ abbrev pub FollowsOn : List ℕ → ℕ → List Piece → Type 0
 FollowsOn text q ps = (u : List ℕ) → Waits u text q → Goes u ps
 
 -- a byte that is kept waits
-pub kept_waits : (u text : List ℕ) (p : ℕ) → p < length text → Waits u text p → Waits (u ++ byte text p ∷ []) text (p + 1)
+pub kept_waits : (u text : List ℕ) (p : ℕ) → p < length text → Waits u text p
+    → Waits (u ++ byte text p ∷ []) text (p + 1)
 kept_waits u text p l w = rw (append_assoc u (byte text p ∷ []) (drop (p + 1) text)) (rw (drop_more text p 0 l) at w)
 
 -- What stands at a place, and pieces that can follow it, go together with what waits there.
@@ -41,22 +42,27 @@ Fits u text p (Pieces qs q) = Joins u text qs q
 Fits u text p (Bad w) = Unit {0}
 
 -- whole pieces behind which the text may be cut
-kept_fits : (u text bytes : List ℕ) (q : ℕ) → IsUtf8 u → IsUtf8 bytes → IsWhole text q → Joins u text (Kept bytes ∷ []) q
+kept_fits : (u text bytes : List ℕ) (q : ℕ) → IsUtf8 u → IsUtf8 bytes → IsWhole text q
+    → Joins u text (Kept bytes ∷ []) q
 kept_fits u text bytes q a b w = record { waiting = []; waits = w; goes = λ ps f. f (u ++ bytes) (IsUtf8-append (u ++ bytes) (drop q text) (IsUtf8-append u bytes a b) w) }
 
-blank_fits : (u text : List ℕ) (b q : ℕ) → IsUtf8 u → b < 128 → IsWhole text q → Joins u text (Blank b ∷ []) q
+blank_fits : (u text : List ℕ) (b q : ℕ) → IsUtf8 u → b < 128 → IsWhole text q
+    → Joins u text (Blank b ∷ []) q
 blank_fits u text b q a s w = record { waiting = []; waits = w; goes = λ ps f. (a, s, f [] w) }
 
-break_fits : (u text bytes : List ℕ) (q : ℕ) → IsUtf8 u → IsUtf8 bytes → IsWhole text q → Joins u text (Break bytes ∷ []) q
+break_fits : (u text bytes : List ℕ) (q : ℕ) → IsUtf8 u → IsUtf8 bytes → IsWhole text q
+    → Joins u text (Break bytes ∷ []) q
 break_fits u text bytes q a b w = record { waiting = []; waits = w; goes = λ ps f. (a, b, f [] w) }
 
-empty_break_fits : (u text : List ℕ) (q : ℕ) → IsUtf8 u → IsWhole text q → Joins u text (Kept [] ∷ Break [] ∷ []) q
+empty_break_fits : (u text : List ℕ) (q : ℕ) → IsUtf8 u → IsWhole text q
+    → Joins u text (Kept [] ∷ Break [] ∷ []) q
 empty_break_fits u text q a w = record { waiting = []; waits = w; goes = λ ps f. (rw (append-nil u) a, IsUtf8-nil, f [] w) }
 
 scalar_of : (c : ℕ) → is_scalar c ≡ true → IsScalar c
 scalar_of c h = grind (arith, nat_tests)
 
-coded_fits : (u text : List ℕ) (p spot q : ℕ) (o : Option ℕ) → IsUtf8 u → ((c : ℕ) → o ≡ Some c → IsWhole text q) → Fits u text p (coded spot q o)
+coded_fits : (u text : List ℕ) (p spot q : ℕ) (o : Option ℕ) → IsUtf8 u
+    → ((c : ℕ) → o ≡ Some c → IsWhole text q) → Fits u text p (coded spot q o)
 coded_fits u text p spot q None a w = tt
 coded_fits u text p spot q (Some c) a w =
     elim (cases_Bool (is_scalar c)) [
@@ -80,12 +86,14 @@ digit_small b h =
       | inr e ↦ absurd (rw (no_digit b e) at h)
     ]
 
-last_digit : (a b : Option ℕ) → IsThere (option_and_then (λ high. option_map (λ low. high * 16 + low) b) a) → IsThere b
+last_digit : (a b : Option ℕ)
+    → IsThere (option_and_then (λ high. option_map (λ low. high * 16 + low) b) a) → IsThere b
 last_digit None b h = absurd h
 last_digit (Some a) None h = h
 last_digit (Some a) (Some b) h = tt
 
-hex_whole : (n : ℕ) (text : List ℕ) (p : ℕ) → IsUtf8 text → 0 < n → IsThere (hex_value text p n) → IsWhole text (p + n)
+hex_whole : (n : ℕ) (text : List ℕ) (p : ℕ) → IsUtf8 text → 0 < n → IsThere (hex_value text p n)
+    → IsWhole text (p + n)
 unfolding hex_value
 hex_whole zero text p u h s = absurd (omega arith)
 hex_whole (suc n) text p u h s =
@@ -100,11 +108,14 @@ abbrev IsSimple : ℕ → Option (List ℕ) → Type 0
 IsSimple b None = Unit {0}
 IsSimple b (Some bytes) = IsUtf8 bytes × (b < 128)
 
-one_byte : (test : Bool) (b c : ℕ) (o : Option (List ℕ)) → (test ≡ true → b < 128) → c < 128 → IsSimple b o → IsSimple b (if test then Some (c ∷ []) else o)
+one_byte : (test : Bool) (b c : ℕ) (o : Option (List ℕ)) → (test ≡ true → b < 128) → c < 128
+    → IsSimple b o → IsSimple b (if test then Some (c ∷ []) else o)
 one_byte true b c o s l h = (ascii_utf8 c l, s refl)
 one_byte false b c o s l h = h
 
-one_char : (test : Bool) (b c : ℕ) (bytes : List ℕ) (o : Option (List ℕ)) → (test ≡ true → b < 128) → IsScalar c → bytes ≡ encode_utf8 c → IsSimple b o → IsSimple b (if test then Some bytes else o)
+one_char : (test : Bool) (b c : ℕ) (bytes : List ℕ) (o : Option (List ℕ)) → (test ≡ true → b < 128)
+    → IsScalar c → bytes ≡ encode_utf8 c → IsSimple b o
+    → IsSimple b (if test then Some bytes else o)
 one_char true b c bytes o s l e h = (rw e (IsUtf8-encode c l), s refl)
 one_char false b c bytes o s l e h = h
 
@@ -117,7 +128,8 @@ tab_small b h = grind (arith, nat_tests)
 same_small : (b : ℕ) → (b == 0x20 || (b == 0x22 || (b == 0x2F || b == 0x5C))) ≡ true → b < 128
 same_small b h = grind (arith, nat_tests)
 
-same_byte : (test : Bool) (b : ℕ) (o : Option (List ℕ)) → (test ≡ true → b < 128) → IsSimple b o → IsSimple b (if test then Some (b ∷ []) else o)
+same_byte : (test : Bool) (b : ℕ) (o : Option (List ℕ)) → (test ≡ true → b < 128) → IsSimple b o
+    → IsSimple b (if test then Some (b ∷ []) else o)
 same_byte true b o s h = (ascii_utf8 b (s refl), s refl)
 same_byte false b o s h = h
 
@@ -139,7 +151,8 @@ simple_is b =
     (one_char (b == 0x4C) b 0x2028 (0xE2 ∷ 0x80 ∷ 0xA8 ∷ []) _ (is_small b 0x4C (omega arith)) refl ls_char
     (one_char (b == 0x50) b 0x2029 (0xE2 ∷ 0x80 ∷ 0xA9 ∷ []) None (is_small b 0x50 (omega arith)) refl ps_char tt)))))))))))))
 
-escaped_fits : (u text : List ℕ) (p : ℕ) (o : Option (List ℕ)) → IsUtf8 text → IsUtf8 u → IsSimple (byte text (p + 1)) o → Fits u text p (escaped p o)
+escaped_fits : (u text : List ℕ) (p : ℕ) (o : Option (List ℕ)) → IsUtf8 text → IsUtf8 u
+    → IsSimple (byte text (p + 1)) o → Fits u text p (escaped p o)
 escaped_fits u text p None t a h = tt
 escaped_fits u text p (Some bytes) t a (b, s) =
     let e : p + 1 + 1 ≡ p + 2 = omega arith in
@@ -158,7 +171,8 @@ escape_fits u text p t a =
       ]
     ]
 
-quote_fits : (u text : List ℕ) (quote p : ℕ) → IsUtf8 text → IsUtf8 u → byte text p < 128 → Fits u text p (quote_at quote text p)
+quote_fits : (u text : List ℕ) (quote p : ℕ) → IsUtf8 text → IsUtf8 u → byte text p < 128
+    → Fits u text p (quote_at quote text p)
 unfolding quote_at
 quote_fits u text quote p t a s =
     elim (cases_Bool (quote == 39 && byte text (p + 1) == 39)) [
@@ -172,7 +186,8 @@ quote_fits u text quote p t a s =
 back_slash : (quote b : ℕ) → (quote == 34 && b == 92) ≡ true → b < 128
 back_slash quote b h = grind (arith, nat_tests)
 
-standing_fits : (u text : List ℕ) (quote p : ℕ) → quote < 128 → IsUtf8 text → Waits u text p → Fits u text p (standing_at quote text p)
+standing_fits : (u text : List ℕ) (quote p : ℕ) → quote < 128 → IsUtf8 text → Waits u text p
+    → Fits u text p (standing_at quote text p)
 unfolding standing_at
 standing_fits u text quote p small t w =
     elim (cases_Bool (is_document_indicator text p)) [
@@ -214,18 +229,21 @@ abbrev Good : List ℕ → List ℕ → Result (List Piece × ℕ) Wrong → Typ
 Good u text (Ok x) = AreRead u text x
 Good u text (Err w) = Unit {0}
 
-front_good : (u text : List ℕ) (q : ℕ) (qs : List Piece) (r : Result (List Piece × ℕ) Wrong) → Joins u text qs q → ((v : List ℕ) → Waits v text q → Good v text r)
+front_good : (u text : List ℕ) (q : ℕ) (qs : List Piece) (r : Result (List Piece × ℕ) Wrong)
+    → Joins u text qs q → ((v : List ℕ) → Waits v text q → Good v text r)
     → Good u text (with_front qs r)
 front_good u text q qs (Ok x) j rest = record { goes = j.goes x.0 (λ v wait. (rest v wait).goes); place = (rest j.waiting j.waits).place }
 front_good u text q qs (Err e) j rest = tt
 
-followed_good : (more : ℕ → Result (List Piece × ℕ) Wrong) (u text : List ℕ) (p : ℕ) (s : Standing) → ((q : ℕ) (v : List ℕ) → Waits v text q → Good v text (more q)) → Fits u text p s
+followed_good : (more : ℕ → Result (List Piece × ℕ) Wrong) (u text : List ℕ) (p : ℕ) (s : Standing)
+    → ((q : ℕ) (v : List ℕ) → Waits v text q → Good v text (more q)) → Fits u text p s
     → Good u text (followed more p s)
 followed_good more u text p Closing rest (a, b) = record { goes = a; place = b }
 followed_good more u text p (Pieces qs q) rest f = front_good u text q qs (more q) f (rest q)
 followed_good more u text p (Bad w) rest f = tt
 
-pieces_good : (n quote : ℕ) (text : List ℕ) → quote < 128 → IsUtf8 text → (p : ℕ) (u : List ℕ) → Waits u text p → Good u text (pieces n quote text p)
+pieces_good : (n quote : ℕ) (text : List ℕ) → quote < 128 → IsUtf8 text → (p : ℕ) (u : List ℕ)
+    → Waits u text p → Good u text (pieces n quote text p)
 unfolding pieces
 pieces_good zero quote text small t p u w = tt
 pieces_good (suc n) quote text small t p u w =
@@ -240,10 +258,12 @@ abbrev pub HasQuoted : List ℕ → Result (List ℕ × ℕ) Wrong → Type 0
 HasQuoted text (Ok x) = IsQuoted text x
 HasQuoted text (Err w) = Unit {0}
 
-valued_good : (text : List ℕ) (r : Result (List Piece × ℕ) Wrong) → Good [] text r → HasQuoted text (valued value r)
+valued_good : (text : List ℕ) (r : Result (List Piece × ℕ) Wrong) → Good [] text r
+    → HasQuoted text (valued value r)
 valued_good text (Ok x) h = record { value = value_utf8 x.0 h.goes; place = h.place }
 valued_good text (Err w) h = tt
 
 -- a quoted scalar
-pub quoted_utf8 : (quote : ℕ) (text : List ℕ) (p : ℕ) → quote < 128 → IsUtf8 text → byte text p < 128 → HasQuoted text (quoted_at quote text p)
+pub quoted_utf8 : (quote : ℕ) (text : List ℕ) (p : ℕ) → quote < 128 → IsUtf8 text
+    → byte text p < 128 → HasQuoted text (quoted_at quote text p)
 quoted_utf8 quote text p small t b = valued_good text (pieces (length text) quote text (p + 1)) (pieces_good (length text) quote text small t (p + 1) [] (whole_after text p t b))

@@ -24,11 +24,14 @@ abbrev MarkedAny : Option Kind → List ℕ → ℕ → Type 0
 MarkedAny None text p = Unit {0}
 MarkedAny (Some k) text p = Marked k text p
 
-pick : (text : List ℕ) (p : ℕ) (test : Bool) (k : Kind) (rest : Option Kind) → (test ≡ true → Marked k text p) → MarkedAny rest text p → MarkedAny (if test then Some k else rest) text p
+pick : (text : List ℕ) (p : ℕ) (test : Bool) (k : Kind) (rest : Option Kind)
+    → (test ≡ true → Marked k text p) → MarkedAny rest text p
+    → MarkedAny (if test then Some k else rest) text p
 pick text p true k rest f g = f refl
 pick text p false k rest f g = g
 
-indicator_marked : (flow alone : Bool) (text : List ℕ) (p : ℕ) → MarkedAny (indicator_of flow alone (byte text p)) text p
+indicator_marked : (flow alone : Bool) (text : List ℕ) (p : ℕ)
+    → MarkedAny (indicator_of flow alone (byte text p)) text p
 unfolding indicator_of
 indicator_marked flow alone text p =
     let b = byte text p in
@@ -48,7 +51,8 @@ indicator_marked flow alone text p =
     (pick text p (b == 39) kinds.SingleQuoted _ (λ h. tt)
     (pick text p (b == 34) kinds.DoubleQuoted None (λ h. tt) tt))))))))))))))
 
-plain_marked : (o : Option Kind) (starts : Bool) (text : List ℕ) (p : ℕ) → MarkedAny o text p → MarkedAny (or_plain o starts) text p
+plain_marked : (o : Option Kind) (starts : Bool) (text : List ℕ) (p : ℕ) → MarkedAny o text p
+    → MarkedAny (or_plain o starts) text p
 plain_marked (Some k) starts text p m = m
 plain_marked None true text p m = tt
 plain_marked None false text p m = tt
@@ -81,29 +85,34 @@ placed_index k m =
       | inr e ↦ rw e refl
     ]
 
-finished_starts : (text : List ℕ) (l : Lexeme) (w : WordText) → Starts text l → Starts text (finished text l w)
+finished_starts : (text : List ℕ) (l : Lexeme) (w : WordText) → Starts text l
+    → Starts text (finished text l w)
 finished_starts text l w s =
     elim (cases_Bool (is_end l.kind)) [
       | inl e ↦ rw e s
       | inr e ↦ rw e s
     ]
 
-tested_starts : (text : List ℕ) (l : Lexeme) (h : List Lexeme) → Starts text l → StartsAny text (tested l h)
+tested_starts : (text : List ℕ) (l : Lexeme) (h : List Lexeme) → Starts text l
+    → StartsAny text (tested l h)
 tested_starts text l h s =
     elim (missed (candidate 0 (l ∷ h)) l.reached) as (λ o. StartsAny text (elim o as (λ _. Next) [ Some start ↦ no_colon start l.reached | None ↦ Read l ])) [
       | Some start ↦ tt
       | None ↦ s
     ]
 
-wrong_starts : (text : List ℕ) (r : Result WordText Wrong) (l : Lexeme) (h : List Lexeme) → Starts text l → StartsAny text (unless_wrong r text l h)
+wrong_starts : (text : List ℕ) (r : Result WordText Wrong) (l : Lexeme) (h : List Lexeme)
+    → Starts text l → StartsAny text (unless_wrong r text l h)
 wrong_starts text (Ok w) l h s = tested_starts text (finished text l w) h (finished_starts text l w s)
 wrong_starts text (Err w) l h s = tt
 
-lost_starts : (o : Option yaml_mark_t) (text : List ℕ) (p : ℕ) (l : Lexeme) (h : List Lexeme) → Starts text l → StartsAny text (unless_lost o text p l h)
+lost_starts : (o : Option yaml_mark_t) (text : List ℕ) (p : ℕ) (l : Lexeme) (h : List Lexeme)
+    → Starts text l → StartsAny text (unless_lost o text p l h)
 lost_starts (Some start) text p l h s = tt
 lost_starts None text p l h s = wrong_starts text (word_at l.kind (nat_lt 0 l.depth) l.level text p) l h s
 
-kind_starts : (o : Option Kind) (text : List ℕ) (gap : Gap) (h : List Lexeme) → MarkedAny o text gap.place → StartsAny text (of_kind o text gap h)
+kind_starts : (o : Option Kind) (text : List ℕ) (gap : Gap) (h : List Lexeme)
+    → MarkedAny o text gap.place → StartsAny text (of_kind o text gap h)
 kind_starts None text gap h m = tt
 kind_starts (Some k) text gap h m =
     let start = mark_at text gap.place in
@@ -114,7 +123,8 @@ kind_starts (Some k) text gap h m =
       | inr e ↦ rw e (lost_starts (lost_by l (fresh (candidate (depth h) h) start)) text gap.place l h own)
     ]
 
-missed_starts : (o : Option yaml_mark_t) (text : List ℕ) (gap : Gap) (h : List Lexeme) → StartsAny text (unless_missed o text gap h)
+missed_starts : (o : Option yaml_mark_t) (text : List ℕ) (gap : Gap) (h : List Lexeme)
+    → StartsAny text (unless_missed o text gap h)
 missed_starts (Some start) text gap h = tt
 missed_starts None text gap h = kind_starts (kind_at (nat_lt 0 (depth h)) text gap.place) text gap h (kind_marked (nat_lt 0 (depth h)) text gap.place)
 
@@ -132,7 +142,8 @@ abbrev pub AllStart : List ℕ → List Lexeme → Type 0
 AllStart text [] = Unit {0}
 AllStart text (l ∷ h) = Starts text l × AllStart text h
 
-extended_start : (text : List ℕ) (x : Next) (h : List Lexeme) → StartsAny text x → AllStart text h → AllStart text (extended x h)
+extended_start : (text : List ℕ) (x : Next) (h : List Lexeme) → StartsAny text x → AllStart text h
+    → AllStart text (extended x h)
 extended_start text (Read l) h s all = (s, all)
 extended_start text (Fails f) h s all = all
 extended_start text Ends h s all = all

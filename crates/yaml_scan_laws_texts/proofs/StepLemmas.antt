@@ -26,10 +26,15 @@ use Rattle.yaml_scan_laws_texts.proofs.FreeLemmas.{level_head, level_rest, depth
 
 -- What comes.
 
-remaining_of : (ts us : List Token) (f : Option Fault) → ts ≡ us → f ≡ None → let one : Remaining = record { tokens = ts; fault = f } in one ≡ record { tokens = us; fault = None }
+remaining_of : (ts us : List Token) (f : Option Fault) → ts ≡ us → f ≡ None
+    → let one : Remaining = record { tokens = ts; fault = f } in
+    one ≡ record { tokens = us; fault = None }
 remaining_of ts us f e g = rw (e, g) refl
 
-tokens_are : (s : SpelledText) (h : List Lexeme) (dropped : ℕ) → AllMade h → is_key_free (kinds_of h) ≡ true → flat_map (spell s) (drop dropped (entries h)) ++ [] ≡ map (token_in s) (drop dropped (reverse h))
+tokens_are : (s : SpelledText) (h : List Lexeme) (dropped : ℕ) → AllMade h
+    → is_key_free (kinds_of h) ≡ true
+    → flat_map (spell s) (drop dropped (entries h)) ++ []
+    ≡ map (token_in s) (drop dropped (reverse h))
 tokens_are s h dropped made free =
     append-nil (flat_map (spell s) (drop dropped (entries h))) ∙ ap (λ (es : List Entry). flat_map (spell s) (drop dropped es)) (entries_bare h made free)
     ∙ ap (λ (es : List Entry). flat_map (spell s) es) (drop-map bare dropped (reverse h)) ∙ bare_tokens s (drop dropped (reverse h))
@@ -38,8 +43,11 @@ all_made : (text : List ℕ) → AllMade (all text)
 unfolding all
 all_made text = history_made text (length text + 2)
 
-pub remaining_bare : (s : SpelledText) → is_key_free (kinds_of (all s.text)) ≡ true → next s.text (all s.text) ≡ Ends
-    → (dropped given : ℕ) → remaining s dropped given ≡ record { tokens = drop given (map (token_in s) (drop dropped (reverse (all s.text)))); fault = None }
+pub remaining_bare : (s : SpelledText) → is_key_free (kinds_of (all s.text)) ≡ true
+    → next s.text (all s.text) ≡ Ends
+    → (dropped given : ℕ)
+    → remaining s dropped given ≡ record
+    { tokens = drop given (map (token_in s) (drop dropped (reverse (all s.text)))); fault = None }
 unfolding remaining handed
 remaining_bare s free ends dropped given =
     remaining_of _ (drop given (map (token_in s) (drop dropped (reverse (all s.text))))) (fault_in (next s.text (all s.text)))
@@ -53,7 +61,8 @@ abbrev Unrequired : Option Candidate → Type 0
 Unrequired None = Unit {0}
 Unrequired (Some c) = c.lexeme.required ≡ false
 
-unrequired_more : (same saved cancel below : Bool) (l : Lexeme) (n : ℕ) (rest : Option Candidate) → l.required ≡ false → Unrequired rest
+unrequired_more : (same saved cancel below : Bool) (l : Lexeme) (n : ℕ) (rest : Option Candidate)
+    → l.required ≡ false → Unrequired rest
     → let one : Option Candidate = Some record { number = n; lexeme = l } in
     Unrequired (cond same (cond saved one (cond cancel None rest)) (cond below None rest))
 unrequired_more true true cancel below l n rest e r = e
@@ -62,18 +71,21 @@ unrequired_more true false false below l n rest e r = r
 unrequired_more false saved cancel true l n rest e r = tt
 unrequired_more false saved cancel false l n rest e r = r
 
-unrequired_head : (d : ℕ) (l : Lexeme) (h : List Lexeme) → l.required ≡ false → Unrequired (candidate d h) → Unrequired (candidate d (l ∷ h))
+unrequired_head : (d : ℕ) (l : Lexeme) (h : List Lexeme) → l.required ≡ false
+    → Unrequired (candidate d h) → Unrequired (candidate d (l ∷ h))
 unfolding candidate
 unrequired_head d l h e r = unrequired_more (l.depth == d) l.saved (cancels l.kind) (nat_lt l.depth d) l (length h) (candidate d h) e r
 
-unrequired : (d : ℕ) (h : List Lexeme) → AllMade h → is_level_free (kinds_of h) ≡ true → Unrequired (candidate d h)
+unrequired : (d : ℕ) (h : List Lexeme) → AllMade h → is_level_free (kinds_of h) ≡ true
+    → Unrequired (candidate d h)
 unfolding AllMade candidate
 unrequired d [] made free = tt
 unrequired d (l ∷ h) (m, made) free =
     let rest = level_rest l.kind (kinds_of h) free in
     unrequired_head d l h (m.required (no_levels h made rest)) (unrequired d h made rest)
 
-fresh_unrequired : (o : Option Candidate) (at : yaml_mark_t) → Unrequired o → Unrequired (fresh o at)
+fresh_unrequired : (o : Option Candidate) (at : yaml_mark_t) → Unrequired o
+    → Unrequired (fresh o at)
 fresh_unrequired None at u = tt
 fresh_unrequired (Some c) at u =
     elim (cases_Bool (is_fresh c.lexeme.start at)) [
@@ -81,7 +93,8 @@ fresh_unrequired (Some c) at u =
       | inr x ↦ rw x tt
     ]
 
-never : (required more : Bool) (m : yaml_mark_t) → required ≡ false → cond (required && more) (Some m) None ≡ None
+never : (required more : Bool) (m : yaml_mark_t) → required ≡ false
+    → cond (required && more) (Some m) None ≡ None
 never false more m e = refl
 never true more m e = absurd (cc)
 
@@ -93,7 +106,8 @@ lost_none : (l : Lexeme) (o : Option Candidate) → Unrequired o → lost_by l o
 lost_none l None u = refl
 lost_none l (Some c) u = never c.lexeme.required (l.saved || (cancels l.kind && not (is_value l.kind))) c.lexeme.start u
 
-pub none_required : (h : List Lexeme) (d : ℕ) (l : Lexeme) (at to : yaml_mark_t) → AllMade h → is_level_free (kinds_of h) ≡ true
+pub none_required : (h : List Lexeme) (d : ℕ) (l : Lexeme) (at to : yaml_mark_t) → AllMade h
+    → is_level_free (kinds_of h) ≡ true
     → (missed (fresh (candidate d h) at) to ≡ None) × (lost_by l (fresh (candidate d h) at) ≡ None)
 none_required h d l at to made free =
     let u = fresh_unrequired (candidate d h) at (unrequired d h made free) in
@@ -105,13 +119,15 @@ unless_so : (b : Bool) (a y : Next) → b ≡ false → cond b a y ≡ y
 unless_so false a y e = refl
 unless_so true a y e = absurd (cc)
 
-in_place : (block allowed start found : Bool) → (start && block) ≡ false → ((block && not allowed) && (start && not found)) ≡ false
+in_place : (block allowed start found : Bool) → (start && block) ≡ false
+    → ((block && not allowed) && (start && not found)) ≡ false
 in_place false allowed start found e = refl
 in_place true true start found e = refl
 in_place true false false found e = refl
 in_place true false true found e = absurd (cc)
 
-tested_read : (l : Lexeme) (h : List Lexeme) → Unrequired (candidate 0 (l ∷ h)) → tested l h ≡ Read l
+tested_read : (l : Lexeme) (h : List Lexeme) → Unrequired (candidate 0 (l ∷ h))
+    → tested l h ≡ Read l
 tested_read l h u =
     ap (λ o. elim o as (λ _. Next) [ Some start ↦ no_colon start l.reached | None ↦ Read l ]) (missed_none (candidate 0 (l ∷ h)) l.reached u)
 
@@ -120,8 +136,20 @@ whole_of w (Ok x) e b = let same : x ≡ w = cc in ap (λ (y : WordText). y.brok
 whole_of w (Err x) e b = absurd (cc)
 
 -- a lexeme with its end, by plain fields
-finished_plain : (text : List ℕ) (k : Kind) (start : yaml_mark_t) (d level : ℕ) (saved required : Bool) (w : WordText) → level ≡ 0 → required ≡ false → (is_end k ≡ true → w.broke ≡ false)
-    → let l : Lexeme = record { kind = k; start = start; end = start; reached = start; depth = d; level = level; saved = saved; required = required; broke = false } in
+finished_plain : (text : List ℕ) (k : Kind) (start : yaml_mark_t) (d level : ℕ)
+    (saved required : Bool) (w : WordText) → level ≡ 0 → required ≡ false
+    → (is_end k ≡ true → w.broke ≡ false)
+    → let l : Lexeme = record {
+      kind = k;
+      start = start;
+      end = start;
+      reached = start;
+      depth = d;
+      level = level;
+      saved = saved;
+      required = required;
+      broke = false;
+    } in
     finished text l w ≡ record {
       kind = k;
       start = start;
@@ -151,8 +179,10 @@ end_not_plain : (k : Kind) → is_end k ≡ true → is_plain k ≡ false
 end_not_plain kinds.Plain e = absurd (cc)
 end_not_plain k e = refl
 
-word_behind : (text : List ℕ) (x : List Lexeme) (k : Kind) (w : WordText) → AllMade x → is_level_free (k ∷ kinds_of x) ≡ true
-    → kind_at (nat_lt 0 (depth x)) text (gap_in text x).place ≡ Some k → word_at k (nat_lt 0 (depth x)) 0 text (gap_in text x).place ≡ Ok w
+word_behind : (text : List ℕ) (x : List Lexeme) (k : Kind) (w : WordText) → AllMade x
+    → is_level_free (k ∷ kinds_of x) ≡ true
+    → kind_at (nat_lt 0 (depth x)) text (gap_in text x).place ≡ Some k
+    → word_at k (nat_lt 0 (depth x)) 0 text (gap_in text x).place ≡ Ok w
     → behind text (gap_in text x) x ≡ Read (lexeme_of text x (gap_in text x) k w)
 word_behind text x k w made free kind said =
     let gap = gap_in text x in
@@ -175,8 +205,10 @@ word_behind text x k w made free kind said =
     ∙ tested_read (finished text b w) x (unrequired_head 0 (finished text b w) x (fm.required none) u)
     ∙ ap (λ (l : Lexeme). Read l) (finished_is text x gap k w (bm.level none) (bm.required none) (λ e. whole (end_not_plain k e)))
 
-pub word_read : (text : List ℕ) (l : Lexeme) (h : List Lexeme) (k : Kind) (w : WordText) → AllMade (l ∷ h) → is_level_free (k ∷ kinds_of (l ∷ h)) ≡ true → ended (l ∷ h) ≡ false
-    → kind_at (nat_lt 0 (depth (l ∷ h))) text (gap_in text (l ∷ h)).place ≡ Some k → word_at k (nat_lt 0 (depth (l ∷ h))) 0 text (gap_in text (l ∷ h)).place ≡ Ok w
+pub word_read : (text : List ℕ) (l : Lexeme) (h : List Lexeme) (k : Kind) (w : WordText)
+    → AllMade (l ∷ h) → is_level_free (k ∷ kinds_of (l ∷ h)) ≡ true → ended (l ∷ h) ≡ false
+    → kind_at (nat_lt 0 (depth (l ∷ h))) text (gap_in text (l ∷ h)).place ≡ Some k
+    → word_at k (nat_lt 0 (depth (l ∷ h))) 0 text (gap_in text (l ∷ h)).place ≡ Ok w
     → next text (l ∷ h) ≡ Read (lexeme_of text (l ∷ h) (gap_in text (l ∷ h)) k w)
 unfolding next
 word_read text l h k w made free more kind said =

@@ -26,23 +26,28 @@ use Rattle.yaml_scan_laws_texts.proofs.StepLemmas.{remaining_bare, step_reads}
 
 -- the stream's start changes nothing
 
-asked_first : (text : List ℕ) (ws : List Word) → asked (kinds_of (lexemes text ws)) ≡ asked (word_kinds ws)
+asked_first : (text : List ℕ) (ws : List Word)
+    → asked (kinds_of (lexemes text ws)) ≡ asked (word_kinds ws)
 unfolding asked lexemes
 asked_first text [] = refl
 asked_first text (w ∷ ws) = ap (λ (qs : List Bool). asked_after w.kind qs) (asked_first text ws)
 
-free_first : (text : List ℕ) (ws : List Word) → is_key_free (kinds_of (lexemes text ws)) ≡ is_key_free (word_kinds ws)
+free_first : (text : List ℕ) (ws : List Word)
+    → is_key_free (kinds_of (lexemes text ws)) ≡ is_key_free (word_kinds ws)
 unfolding is_key_free lexemes
 free_first text [] = refl
 free_first text (w ∷ ws) = ap (λ (qs : List Bool). fits w.kind qs && is_key_free (kinds_of (lexemes text ws))) (asked_first text ws) ∙ ap (λ (b : Bool). fits w.kind (asked (word_kinds ws)) && b) (free_first text ws)
 
-level_first : (text : List ℕ) (ws : List Word) → is_level_free (kinds_of (lexemes text ws)) ≡ is_level_free (word_kinds ws)
+level_first : (text : List ℕ) (ws : List Word)
+    → is_level_free (kinds_of (lexemes text ws)) ≡ is_level_free (word_kinds ws)
 unfolding is_level_free lexemes
 level_first text [] = refl
 level_first text (w ∷ ws) =
     ap (λ (qs : List Bool). keeps_level w.kind qs && is_level_free (kinds_of (lexemes text ws))) (asked_first text ws) ∙ ap (λ (b : Bool). keeps_level w.kind (asked (word_kinds ws)) && b) (level_first text ws)
 
-level_with : (text : List ℕ) (w : Word) (ws : List Word) → is_level_free (w.kind ∷ word_kinds ws) ≡ true → is_level_free (w.kind ∷ kinds_of (lexemes text ws)) ≡ true
+level_with : (text : List ℕ) (w : Word) (ws : List Word)
+    → is_level_free (w.kind ∷ word_kinds ws) ≡ true
+    → is_level_free (w.kind ∷ kinds_of (lexemes text ws)) ≡ true
 unfolding lexemes
 level_with text w ws free = level_first text (w ∷ ws) ∙ free
 
@@ -59,8 +64,10 @@ goes_behind : (w : Word) (ws : List Word) → GoOn (w ∷ ws) → GoOn ws
 goes_behind w ws g = (and_parts (not (is_end w.kind)) (list_all (λ (x : Word). not (is_end x.kind)) ws) g).1
 
 -- as many steps as there are words, and the first, read them
-words_history : (text : List ℕ) (w : Word) (ws : List Word) → Stand text (w ∷ ws) → is_level_free (w.kind ∷ word_kinds ws) ≡ true → GoOn ws
-    → history text (suc (length ws)) ≡ lexemes text ws → history text (suc (suc (length ws))) ≡ lexemes text (w ∷ ws)
+words_history : (text : List ℕ) (w : Word) (ws : List Word) → Stand text (w ∷ ws)
+    → is_level_free (w.kind ∷ word_kinds ws) ≡ true → GoOn ws
+    → history text (suc (length ws)) ≡ lexemes text ws
+    → history text (suc (suc (length ws))) ≡ lexemes text (w ∷ ws)
 unfolding history lexemes Stand
 words_history text w ws (stands, more) free on before =
     let h = lexemes text ws in
@@ -75,7 +82,9 @@ words_history text w ws (stands, more) free on before =
     ap (λ (x : List Lexeme). extended (next text x) x) before
     ∙ ap (λ (x : Next). extended x h) (reads w.kind w.said made (level_with text w ws free) (goes_on text ws on) kind said)
 
-read_so_far : (text : List ℕ) (ws : List Word) → Stand text ws → is_level_free (word_kinds ws) ≡ true → GoOn ws → history text (suc (length ws)) ≡ lexemes text ws
+read_so_far : (text : List ℕ) (ws : List Word) → Stand text ws
+    → is_level_free (word_kinds ws) ≡ true → GoOn ws
+    → history text (suc (length ws)) ≡ lexemes text ws
 unfolding history next lexemes Stand
 read_so_far text [] stand free on = refl
 read_so_far text (w ∷ ws) (stands, more) free on =
@@ -93,7 +102,8 @@ no_read x l e f = cc
 
 -- tokens
 
-not_start : (o : Option Kind) (text : List ℕ) (p : ℕ) (k : Kind) → FitsAny o text p → o ≡ Some k → FitsAny (Some k) text p
+not_start : (o : Option Kind) (text : List ℕ) (p : ℕ) (k : Kind) → FitsAny o text p → o ≡ Some k
+    → FitsAny (Some k) text p
 not_start o text p k f e = let P : Option Kind → Type 0 = λ x. FitsAny x text p in subst P e f
 
 placed_index : (k : Kind) (m : yaml_mark_t) → (placed k m).index ≡ m.index
@@ -103,14 +113,17 @@ placed_index k m =
       | inr e ↦ rw e refl
     ]
 
-body_is : (k : Kind) (s : SpelledText) (l : Lexeme) (p : ℕ) (w : WordText) → FitsAny (Some k) s.text p → l.level ≡ 0 → l.start.index ≡ p → word_at k (nat_lt 0 l.depth) 0 s.text p ≡ Ok w
+body_is : (k : Kind) (s : SpelledText) (l : Lexeme) (p : ℕ) (w : WordText)
+    → FitsAny (Some k) s.text p → l.level ≡ 0 → l.start.index ≡ p
+    → word_at k (nat_lt 0 l.depth) 0 s.text p ≡ Ok w
     → body_by k s l ≡ w.body
 body_is kinds.StreamStart s l p w f level at said = absurd f
 body_is k s l p w f level at said =
     ap (λ n. body_of_word (word_at k (nat_lt 0 l.depth) n s.text l.start.index)) level ∙ ap (λ n. body_of_word (word_at k (nat_lt 0 l.depth) 0 s.text n)) at
     ∙ ap (λ (r : Result WordText Wrong). body_of_word r) said
 
-pub token_is : (s : SpelledText) (w : Word) (h : List Lexeme) → StandsBehind s.text h w → token_in s (lexeme_of s.text h (gap_in s.text h) w.kind w.said) ≡ token_of s.text w
+pub token_is : (s : SpelledText) (w : Word) (h : List Lexeme) → StandsBehind s.text h w
+    → token_in s (lexeme_of s.text h (gap_in s.text h) w.kind w.said) ≡ token_of s.text w
 token_is s w h stands =
     let gap = gap_in s.text h in
     let l = lexeme_of s.text h gap w.kind w.said in
@@ -119,15 +132,19 @@ token_is s w h stands =
     ap (λ (b : TokenBody). record { body = b; start_mark = l.start; end_mark = l.end }) body
     ∙ ap (λ (p : ℕ). record { body = w.said.body; start_mark = placed w.kind (mark_at s.text p); end_mark = end_in s.text w.kind p w.said.end }) stands.place
 
-own_more : (s : SpelledText) (xs ys : List Lexeme) → map (token_in s) (xs ++ ys) ≡ map (token_in s) xs ++ map (token_in s) ys
+own_more : (s : SpelledText) (xs ys : List Lexeme)
+    → map (token_in s) (xs ++ ys) ≡ map (token_in s) xs ++ map (token_in s) ys
 own_more s [] ys = refl
 own_more s (x ∷ xs) ys = rw (own_more s xs ys) refl
 
-of_more : (text : List ℕ) (xs ys : List Word) → map (token_of text) (xs ++ ys) ≡ map (token_of text) xs ++ map (token_of text) ys
+of_more : (text : List ℕ) (xs ys : List Word)
+    → map (token_of text) (xs ++ ys) ≡ map (token_of text) xs ++ map (token_of text) ys
 of_more text [] ys = refl
 of_more text (x ∷ xs) ys = rw (of_more text xs ys) refl
 
-tokens_are : (s : SpelledText) (ws : List Word) → Stand s.text ws → map (token_in s) (reverse (lexemes s.text ws)) ≡ first_token s ∷ map (token_of s.text) (reverse ws)
+tokens_are : (s : SpelledText) (ws : List Word) → Stand s.text ws
+    → map (token_in s) (reverse (lexemes s.text ws)) ≡ first_token s
+    ∷ map (token_of s.text) (reverse ws)
 unfolding lexemes Stand
 tokens_are s [] stand = refl
 tokens_are s (w ∷ ws) (stands, more) =
@@ -138,7 +155,9 @@ tokens_are s (w ∷ ws) (stands, more) =
     ∙ ap (λ (t : Token). (first_token s ∷ map (token_of s.text) (reverse ws)) ++ t ∷ []) (token_is s w h stands)
     ∙ ap (λ (ts : List Token). first_token s ∷ ts) (sym (ap (λ (xs : List Word). map (token_of s.text) xs) (reverse-append (w ∷ []) ws) ∙ of_more s.text (reverse ws) (w ∷ [])))
 
-pub words_lexemes : (text : List ℕ) (ws : List Word) → Stand text ws → is_level_free (word_kinds ws) ≡ true → ReachEnd ws → (all text ≡ lexemes text ws) × (next text (all text) ≡ Ends)
+pub words_lexemes : (text : List ℕ) (ws : List Word) → Stand text ws
+    → is_level_free (word_kinds ws) ≡ true → ReachEnd ws
+    → (all text ≡ lexemes text ws) × (next text (all text) ≡ Ends)
 unfolding lexemes Stand
 words_lexemes text [] stand free end = absurd end
 words_lexemes text (w ∷ ws) (stands, more) free (end, on) =
@@ -149,8 +168,13 @@ words_lexemes text (w ∷ ws) (stands, more) free (end, on) =
     let whole : all text ≡ h = last_is_all text (suc (suc (length ws))) (λ l. no_read _ l ends) ∙ read in
     (whole, ap (λ (x : List Lexeme). next text x) whole ∙ ends_behind text h end)
 
-pub words_read : (s : SpelledText) (ws : List Word) → Stand s.text ws → is_key_free (word_kinds ws) ≡ true → ReachEnd ws
-    → offline s ≡ record { tokens = first_token s ∷ map (token_of s.text) (reverse ws); fault = None }
+pub words_read : (s : SpelledText) (ws : List Word) → Stand s.text ws
+    → is_key_free (word_kinds ws) ≡ true → ReachEnd ws
+    → offline s ≡ record {
+      tokens = first_token s
+          ∷ map (token_of s.text) (reverse ws);
+      fault = None;
+    }
 words_read s ws stand free end =
     let (whole, ends) = words_lexemes s.text ws stand (level_free (word_kinds ws) free) end in
     let free_all : is_key_free (kinds_of (all s.text)) ≡ true = ap (λ (x : List Lexeme). is_key_free (kinds_of x)) whole ∙ free_first s.text ws ∙ free in

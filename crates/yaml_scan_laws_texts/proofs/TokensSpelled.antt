@@ -39,7 +39,8 @@ abbrev Start : List ℕ → List Entry → Type 0
 Start text [] = Unit {0}
 Start text (e ∷ es) = Starts text e.lexeme × Start text es
 
-start_append : (text : List ℕ) (xs ys : List Entry) → Start text xs → Start text ys → Start text (xs ++ ys)
+start_append : (text : List ℕ) (xs ys : List Entry) → Start text xs → Start text ys
+    → Start text (xs ++ ys)
 start_append text [] ys a b = b
 start_append text (x ∷ xs) ys (own, a) b = (own, start_append text xs ys a b)
 
@@ -53,17 +54,20 @@ start_drop text zero es a = a
 start_drop text (suc n) [] a = tt
 start_drop text (suc n) (e ∷ es) (own, a) = start_drop text n es a
 
-key_start : (text levels : List ℕ) (es : List Entry) (n : ℕ) → Start text es → Start text (mark_key levels es n)
+key_start : (text levels : List ℕ) (es : List Entry) (n : ℕ) → Start text es
+    → Start text (mark_key levels es n)
 unfolding mark_key
 key_start text levels [] n a = tt
 key_start text levels (e ∷ es) zero a = a
 key_start text levels (e ∷ es) (suc n) (own, a) = (own, key_start text levels es n a)
 
-marked_start : (text : List ℕ) (o : Option Candidate) (levels : List ℕ) (es : List Entry) → Start text es → Start text (marked o levels es)
+marked_start : (text : List ℕ) (o : Option Candidate) (levels : List ℕ) (es : List Entry)
+    → Start text es → Start text (marked o levels es)
 marked_start text None levels es a = a
 marked_start text (Some c) levels es a = key_start text levels es c.number a
 
-keyed_start : (text : List ℕ) (l : Lexeme) (h : List Lexeme) (es : List Entry) → Start text es → Start text (keyed l h es)
+keyed_start : (text : List ℕ) (l : Lexeme) (h : List Lexeme) (es : List Entry) → Start text es
+    → Start text (keyed l h es)
 keyed_start text l h es a =
     elim (cases_Bool (is_value l.kind)) [
       | inl e ↦ rw e (marked_start text (found_by l h) (inside l h) es a)
@@ -75,7 +79,8 @@ unfolding entries
 entries_start text [] a = tt
 entries_start text (l ∷ h) (own, a) = start_append text (keyed l h (entries h)) (entry_of l h ∷ []) (keyed_start text l h (entries h) (entries_start text h a)) (own, tt)
 
-handed_start : (text : List ℕ) (x : Next) (h : List Lexeme) → AllStart text h → Start text (handed_out x h)
+handed_start : (text : List ℕ) (x : Next) (h : List Lexeme) → AllStart text h
+    → Start text (handed_out x h)
 handed_start text (Fails p) h a = start_take text (first_open h h) (entries h) (entries_start text h a)
 handed_start text Ends h a = entries_start text h a
 handed_start text (Read l) h a = entries_start text h a
@@ -86,7 +91,8 @@ word_body : (r : Result WordText Wrong) → HasWord r → IsSpelled (body_of_wor
 word_body (Ok w) h = h
 word_body (Err w) h = tt
 
-body_spelled : (k : Kind) (s : SpelledText) (l : Lexeme) → Marked k s.text l.start.index → IsSpelled (body_by k s l)
+body_spelled : (k : Kind) (s : SpelledText) (l : Lexeme) → Marked k s.text l.start.index
+    → IsSpelled (body_by k s l)
 body_spelled kinds.StreamStart s l m = tt
 body_spelled k s l m = word_body (word_at k (nat_lt 0 l.depth) l.level s.text l.start.index) (word_spelled k (nat_lt 0 l.depth) l.level s.text l.start.index m)
 
@@ -111,7 +117,8 @@ entry_spelled s e m =
     spelled_append (end_tokens e ++ start_tokens e.opens e.lexeme) (own_tokens s e)
     (spelled_append (end_tokens e) (start_tokens e.opens e.lexeme) (ends_spelled e) (starts_spelled e.opens e.lexeme)) (own_spelled s e m)
 
-entries_spelled : (s : SpelledText) (es : List Entry) → Start s.text es → AreSpelled (flat_map (spell s) es)
+entries_spelled : (s : SpelledText) (es : List Entry) → Start s.text es
+    → AreSpelled (flat_map (spell s) es)
 entries_spelled s [] a = tt
 entries_spelled s (e ∷ es) (own, a) = spelled_append (spell s e) (flat_map (spell s) es) (entry_spelled s e own) (entries_spelled s es a)
 
@@ -125,7 +132,8 @@ kept_spelled Ends h = tt
 kept_spelled (Read l) h = tt
 
 -- what is still to come
-pub remaining_spelled : (s : SpelledText) (dropped given : ℕ) → AreSpelled (remaining s dropped given).tokens
+pub remaining_spelled : (s : SpelledText) (dropped given : ℕ)
+    → AreSpelled (remaining s dropped given).tokens
 unfolding remaining handed all
 remaining_spelled s dropped given =
     let h = history s.text (length s.text + 2) in

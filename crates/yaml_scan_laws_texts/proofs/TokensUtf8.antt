@@ -33,17 +33,20 @@ has_drop s zero xs a = a
 has_drop s (suc n) [] a = tt
 has_drop s (suc n) (x ∷ xs) (a, rest) = has_drop s n xs rest
 
-key_has : (s : SpelledText) (levels : List ℕ) (es : List Entry) (n : ℕ) → Has s es → Has s (mark_key levels es n)
+key_has : (s : SpelledText) (levels : List ℕ) (es : List Entry) (n : ℕ) → Has s es
+    → Has s (mark_key levels es n)
 unfolding mark_key
 key_has s levels [] n a = tt
 key_has s levels (e ∷ es) zero a = a
 key_has s levels (e ∷ es) (suc n) (a, rest) = (a, key_has s levels es n rest)
 
-marked_has : (s : SpelledText) (o : Option Candidate) (levels : List ℕ) (es : List Entry) → Has s es → Has s (marked o levels es)
+marked_has : (s : SpelledText) (o : Option Candidate) (levels : List ℕ) (es : List Entry) → Has s es
+    → Has s (marked o levels es)
 marked_has s None levels es a = a
 marked_has s (Some c) levels es a = key_has s levels es c.number a
 
-keyed_has : (s : SpelledText) (l : Lexeme) (h : List Lexeme) (es : List Entry) → Has s es → Has s (keyed l h es)
+keyed_has : (s : SpelledText) (l : Lexeme) (h : List Lexeme) (es : List Entry) → Has s es
+    → Has s (keyed l h es)
 keyed_has s l h es a =
     elim (cases_Bool (is_value l.kind)) [
       | inl e ↦ rw e (marked_has s (found_by l h) (inside l h) es a)
@@ -71,7 +74,8 @@ starts_sound opening.Nothing l = All-nil Sound
 starts_sound opening.Sequence l = All-cons Sound (before block_sequence_start l) [] tt (All-nil Sound)
 starts_sound opening.Mapping l = All-cons Sound (before block_mapping_start l) [] tt (All-nil Sound)
 
-own_sound : (s : SpelledText) (e : Entry) → HasTexts (body_in s e.lexeme) → All Sound (own_tokens s e)
+own_sound : (s : SpelledText) (e : Entry) → HasTexts (body_in s e.lexeme)
+    → All Sound (own_tokens s e)
 own_sound s e h =
     let last = All-cons Sound (token_in s e.lexeme) [] h (All-nil Sound) in
     elim (cases_Bool e.key) [
@@ -98,7 +102,8 @@ kept_sound Ends h = All-nil Sound
 kept_sound (Read l) h = All-nil Sound
 
 -- what is still to come
-pub remaining_sound : (s : SpelledText) → IsUtf8 s.text → (dropped given : ℕ) → All Sound (remaining s dropped given).tokens
+pub remaining_sound : (s : SpelledText) → IsUtf8 s.text → (dropped given : ℕ)
+    → All Sound (remaining s dropped given).tokens
 unfolding remaining handed all
 remaining_sound s t dropped given =
     let n = length s.text + 2 in

@@ -30,7 +30,8 @@ use Rattle.yaml_scan_laws_texts.proofs.Plain.{HasPlain, plain_utf8}
 use Rattle.yaml_scan_laws_texts.proofs.Block.{HasBlock, block_utf8}
 
 -- a blank, a break or the end
-pub end_whole : (text : List ℕ) (p : ℕ) → IsUtf8 text → is_blank_or_end text p ≡ true → IsWhole text p
+pub end_whole : (text : List ℕ) (p : ℕ) → IsUtf8 text → is_blank_or_end text p ≡ true
+    → IsWhole text p
 end_whole text p t h =
     elim (or_cases (is_blank (byte text p) || byte text p == 0) (nat_lt 0 (break_width text p)) h) [
       | inl a ↦ elim (or_cases (is_blank (byte text p)) (byte text p == 0) a) [
@@ -54,7 +55,8 @@ name_whole text p t h =
 comma_small : (flow : Bool) (b : ℕ) → (flow && b == 44) ≡ true → b < 128
 comma_small flow b h = grind (arith, nat_tests)
 
-tag_end_whole : (flow : Bool) (text : List ℕ) (p : ℕ) → IsUtf8 text → may_end_tag flow text p ≡ true → IsWhole text p
+tag_end_whole : (flow : Bool) (text : List ℕ) (p : ℕ) → IsUtf8 text → may_end_tag flow text p ≡ true
+    → IsWhole text p
 tag_end_whole flow text p t h =
     elim (or_cases (is_blank_or_end text p) (flow && byte text p == 44) h) [
       | inl a ↦ end_whole text p t a
@@ -75,7 +77,8 @@ abbrev HasName : List ℕ → Result (List ℕ × ℕ) Wrong → Type 0
 HasName text (Ok x) = IsUtf8 x.0 × IsWhole text x.1
 HasName text (Err w) = Unit {0}
 
-between_good : (context : Context) (text : List ℕ) (p q : ℕ) → IsUtf8 text → IsWhole text p → HasName text (name_between context text p q)
+between_good : (context : Context) (text : List ℕ) (p q : ℕ) → IsUtf8 text → IsWhole text p
+    → HasName text (name_between context text p q)
 between_good context text p q t w =
     elim (cases_Bool (p == q || not (may_end_name text q))) [
       | inl h ↦ rw h tt
@@ -84,27 +87,33 @@ between_good context text p q t w =
           rw h (slice_utf8 text p q t w there, there)
     ]
 
-alias_word : (text : List ℕ) (r : Result (List ℕ × ℕ) Wrong) → HasName text r → HasWord text (valued tokens.alias r)
+alias_word : (text : List ℕ) (r : Result (List ℕ × ℕ) Wrong) → HasName text r
+    → HasWord text (valued tokens.alias r)
 alias_word text (Ok x) (a, b) = record { texts = a; place = b }
 alias_word text (Err w) h = tt
 
-anchor_word : (text : List ℕ) (r : Result (List ℕ × ℕ) Wrong) → HasName text r → HasWord text (valued tokens.anchor r)
+anchor_word : (text : List ℕ) (r : Result (List ℕ × ℕ) Wrong) → HasName text r
+    → HasWord text (valued tokens.anchor r)
 anchor_word text (Ok x) (a, b) = record { texts = a; place = b }
 anchor_word text (Err w) h = tt
 
-quoted_word : (style : yaml_scalar_style_t) (text : List ℕ) (r : Result (List ℕ × ℕ) Wrong) → HasQuoted text r → HasWord text (valued (λ v. tokens.scalar v style) r)
+quoted_word : (style : yaml_scalar_style_t) (text : List ℕ) (r : Result (List ℕ × ℕ) Wrong)
+    → HasQuoted text r → HasWord text (valued (λ v. tokens.scalar v style) r)
 quoted_word style text (Ok x) h = record { texts = h.value; place = h.place }
 quoted_word style text (Err w) h = tt
 
-plain_word : (text : List ℕ) (r : Result PlainText Wrong) → HasPlain text r → HasWord text (plainly r)
+plain_word : (text : List ℕ) (r : Result PlainText Wrong) → HasPlain text r
+    → HasWord text (plainly r)
 plain_word text (Ok x) h = record { texts = h.value; place = h.place }
 plain_word text (Err w) h = tt
 
-block_word : (style : yaml_scalar_style_t) (text : List ℕ) (r : Result BlockText Wrong) → HasBlock text r → HasWord text (blocked style r)
+block_word : (style : yaml_scalar_style_t) (text : List ℕ) (r : Result BlockText Wrong)
+    → HasBlock text r → HasWord text (blocked style r)
 block_word style text (Ok x) h = record { texts = h.value; place = h.place }
 block_word style text (Err w) h = tt
 
-indicator_word : (text : List ℕ) (body : TokenBody) (q : ℕ) → HasTexts body → IsWhole text q → HasWord text (carrying body q)
+indicator_word : (text : List ℕ) (body : TokenBody) (q : ℕ) → HasTexts body → IsWhole text q
+    → HasWord text (carrying body q)
 indicator_word text body q a b = record { texts = a; place = b }
 
 -- Tags.
@@ -121,7 +130,8 @@ bracketed_handle text (Ok u) =
     ]
 bracketed_handle text (Err w) = tt
 
-with_handle_good : (handle : List ℕ) (r : Result (List ℕ × ℕ) Wrong) → IsUtf8 handle → HasHandle (with_handle handle r)
+with_handle_good : (handle : List ℕ) (r : Result (List ℕ × ℕ) Wrong) → IsUtf8 handle
+    → HasHandle (with_handle handle r)
 with_handle_good handle (Ok u) h = h
 with_handle_good handle (Err w) h = tt
 
@@ -147,7 +157,8 @@ parts_good text p t w =
       ]
     ]
 
-tag_word : (flow : Bool) (text : List ℕ) (r : Result TagText Wrong) → IsUtf8 text → HasHandle r → HasWord text (tagged (ended flow text r))
+tag_word : (flow : Bool) (text : List ℕ) (r : Result TagText Wrong) → IsUtf8 text → HasHandle r
+    → HasWord text (tagged (ended flow text r))
 tag_word flow text (Ok x) t h =
     elim (cases_Bool (may_end_tag flow text x.end)) [
       | inl e ↦ rw e record { texts = h; place = tag_end_whole flow text x.end t e }
@@ -165,7 +176,8 @@ abbrev HasText : Result (List ℕ × ℕ) Wrong → Type 0
 HasText (Ok x) = IsUtf8 x.0
 HasText (Err w) = Unit {0}
 
-then_good : {A : Type 0} (more : A → ℕ → Result ValueText Wrong) (r : Result (A × ℕ) Wrong) → ((x : A) (q : ℕ) → HasSaid (more x q)) → HasSaid (then_at more r)
+then_good : {A : Type 0} (more : A → ℕ → Result ValueText Wrong) (r : Result (A × ℕ) Wrong)
+    → ((x : A) (q : ℕ) → HasSaid (more x q)) → HasSaid (then_at more r)
 then_good more (Ok x) h = h x.0 x.1
 then_good more (Err w) h = tt
 
@@ -180,7 +192,8 @@ minor_good text major q =
       | inr e ↦ rw e tt
     ]
 
-handle_between_good : (text : List ℕ) (p q : ℕ) → IsUtf8 text → byte text p < 128 → HasText (handle_between text p q)
+handle_between_good : (text : List ℕ) (p q : ℕ) → IsUtf8 text → byte text p < 128
+    → HasText (handle_between text p q)
 handle_between_good text p q t s =
     elim (cases_Bool (byte text q == 33)) [
       | inl h ↦ let same = eqb-true _ _ h in rw h (slice_utf8 text p (q + 1) t (whole_ascii text p t s) (whole_after text q t (omega (arith, same))))
@@ -197,21 +210,25 @@ handle_good text p t =
       | inr h ↦ rw h tt
     ]
 
-prefix_good : (handle : List ℕ) (r : Result (List ℕ × ℕ) Wrong) → IsUtf8 handle → HasSaid (with_prefix handle r)
+prefix_good : (handle : List ℕ) (r : Result (List ℕ × ℕ) Wrong) → IsUtf8 handle
+    → HasSaid (with_prefix handle r)
 prefix_good handle (Ok x) h = h
 prefix_good handle (Err w) h = tt
 
-then_handle : (text : List ℕ) (r : Result (List ℕ × ℕ) Wrong) → HasText r → HasSaid (then_at (λ handle q. with_prefix handle (prefix_at text q)) r)
+then_handle : (text : List ℕ) (r : Result (List ℕ × ℕ) Wrong) → HasText r
+    → HasSaid (then_at (λ handle q. with_prefix handle (prefix_at text q)) r)
 then_handle text (Ok x) h = prefix_good x.0 (prefix_at text x.1) h
 then_handle text (Err w) h = tt
 
-handle_said : (text : List ℕ) (p : ℕ) → IsUtf8 text → HasSaid (then_at (λ handle q. with_prefix handle (prefix_at text q)) (handle_at text p))
+handle_said : (text : List ℕ) (p : ℕ) → IsUtf8 text
+    → HasSaid (then_at (λ handle q. with_prefix handle (prefix_at text q)) (handle_at text p))
 handle_said text p t = then_handle text (handle_at text p) (handle_good text p t)
 
 number_said : (text : List ℕ) (p : ℕ) → HasSaid (then_at (minor_at text) (number_at text p))
 number_said text p = then_good (minor_at text) (number_at text p) (minor_good text)
 
-value_good : (text : List ℕ) (p q : ℕ) → IsUtf8 text → HasSaid (then_at (named_value_at text) (directive_name_between text p q))
+value_good : (text : List ℕ) (p q : ℕ) → IsUtf8 text
+    → HasSaid (then_at (named_value_at text) (directive_name_between text p q))
 value_good text p q t =
     elim (cases_Bool (p == q)) [
       | inl h ↦ rw h tt
@@ -241,11 +258,13 @@ break_end_good text p t =
       ]
     ]
 
-line_word : (text : List ℕ) (v : ValueText) (r : Result ℕ Wrong) → HasTexts (body_said v.said) → HasPlace text r → HasWord text (directed (with_line v r))
+line_word : (text : List ℕ) (v : ValueText) (r : Result ℕ Wrong) → HasTexts (body_said v.said)
+    → HasPlace text r → HasWord text (directed (with_line v r))
 line_word text v (Ok q) a b = record { texts = a; place = b }
 line_word text v (Err w) a b = tt
 
-directive_word : (text : List ℕ) (r : Result ValueText Wrong) → IsUtf8 text → HasSaid r → HasWord text (directed (finished text r))
+directive_word : (text : List ℕ) (r : Result ValueText Wrong) → IsUtf8 text → HasSaid r
+    → HasWord text (directed (finished text r))
 directive_word text (Ok v) t h = line_word text v (line_end_at text v.end) h (break_end_good text _ t)
 directive_word text (Err w) t h = tt
 
@@ -265,7 +284,9 @@ abbrev pub FitsAny : Option Kind → List ℕ → ℕ → Type 0
 FitsAny None text p = Unit {0}
 FitsAny (Some k) text p = Fits k text p
 
-pick : (text : List ℕ) (p : ℕ) (test : Bool) (k : Kind) (rest : Option Kind) → (test ≡ true → Fits k text p) → FitsAny rest text p → FitsAny (if test then Some k else rest) text p
+pick : (text : List ℕ) (p : ℕ) (test : Bool) (k : Kind) (rest : Option Kind)
+    → (test ≡ true → Fits k text p) → FitsAny rest text p
+    → FitsAny (if test then Some k else rest) text p
 pick text p true k rest f g = f refl
 pick text p false k rest f g = g
 
@@ -275,7 +296,8 @@ small b c l h = grind (arith, nat_tests)
 small_with : (b c : ℕ) (other : Bool) → c < 128 → (b == c && other) ≡ true → b < 128
 small_with b c other l h = grind (arith, nat_tests)
 
-indicator_fits : (flow alone : Bool) (text : List ℕ) (p : ℕ) → FitsAny (indicator_of flow alone (byte text p)) text p
+indicator_fits : (flow alone : Bool) (text : List ℕ) (p : ℕ)
+    → FitsAny (indicator_of flow alone (byte text p)) text p
 unfolding indicator_of
 indicator_fits flow alone text p =
     let b = byte text p in
@@ -295,12 +317,14 @@ indicator_fits flow alone text p =
     (pick text p (b == 39) kinds.SingleQuoted _ (small b 39 (omega arith))
     (pick text p (b == 34) kinds.DoubleQuoted None (small b 34 (omega arith)) tt))))))))))))))
 
-plain_fits : (o : Option Kind) (starts : Bool) (text : List ℕ) (p : ℕ) → p < length text → FitsAny o text p → FitsAny (or_plain o starts) text p
+plain_fits : (o : Option Kind) (starts : Bool) (text : List ℕ) (p : ℕ) → p < length text
+    → FitsAny o text p → FitsAny (or_plain o starts) text p
 plain_fits (Some k) starts text p l f = f
 plain_fits None true text p l f = l
 plain_fits None false text p l f = tt
 
-third_small : (a b c d x : ℕ) (last : Bool) → ((a == 0 && (b == x && (c == x && d == x))) && last) ≡ true → x < 128 → d < 128
+third_small : (a b c d x : ℕ) (last : Bool)
+    → ((a == 0 && (b == x && (c == x && d == x))) && last) ≡ true → x < 128 → d < 128
 third_small a b c d x last h l = grind (arith, nat_tests)
 
 start_fits : (text : List ℕ) (p : ℕ) → is_document_start text p ≡ true → byte text (p + 2) < 128
@@ -337,7 +361,8 @@ third_whole : (text : List ℕ) (p : ℕ) → IsUtf8 text → byte text (p + 2) 
 third_whole text p t s = let e : p + 2 + 1 ≡ p + 3 = omega arith in rw e at (whole_after text (p + 2) t s)
 
 -- what stands where its kind does, and the text may be cut
-pub word_utf8 : (k : Kind) (flow : Bool) (level : ℕ) (text : List ℕ) (p : ℕ) → IsUtf8 text → IsWhole text p → Fits k text p → HasWord text (word_at k flow level text p)
+pub word_utf8 : (k : Kind) (flow : Bool) (level : ℕ) (text : List ℕ) (p : ℕ) → IsUtf8 text
+    → IsWhole text p → Fits k text p → HasWord text (word_at k flow level text p)
 unfolding word_at
 word_utf8 kinds.StreamStart flow level text p t w f = indicator_word text tokens.stream_end p tt w
 word_utf8 kinds.StreamEnd flow level text p t w f = indicator_word text tokens.stream_end p tt w

@@ -18,7 +18,8 @@ abbrev AreLines : List (List ℕ × Line) → Type 0
 AreLines [] = Unit {0}
 AreLines (next ∷ ls) = IsUtf8 next.0 × Goes [] next.1 × AreLines ls
 
-lines_go : (u : List ℕ) (ps : List Piece) → Goes u ps → Goes u (lines ps).first × AreLines (lines ps).others
+lines_go : (u : List ℕ) (ps : List Piece) → Goes u ps
+    → Goes u (lines ps).first × AreLines (lines ps).others
 lines_go u [] h = (h, tt)
 lines_go u (Kept bytes ∷ ps) h = lines_go (u ++ bytes) ps h
 lines_go u (Blank b ∷ ps) (a, s, h) = let (f, o) = lines_go [] ps h in ((a, s, f), o)
@@ -64,7 +65,8 @@ gap_utf8 first (x ∷ xs) a b =
 joined_utf8 : (xs ys zs : List ℕ) → IsUtf8 xs → IsUtf8 ys → IsUtf8 zs → IsUtf8 (xs ++ ys ++ zs)
 joined_utf8 xs ys zs a b c = IsUtf8-append (xs ++ ys) zs (IsUtf8-append xs ys a b) c
 
-rest_goes : (l : Line) (ls : List (List ℕ × Line)) → Goes [] l → AreLines ls → IsUtf8 (rest_of l ls).breaks × IsUtf8 (rest_of l ls).value
+rest_goes : (l : Line) (ls : List (List ℕ × Line)) → Goes [] l → AreLines ls
+    → IsUtf8 (rest_of l ls).breaks × IsUtf8 (rest_of l ls).value
 rest_goes l [] h a = (IsUtf8-nil, text_goes [] (trim_start l) (trim_start_goes l h))
 rest_goes l (next ∷ ls) h (a, b, c) =
     let (breaks, value) = rest_goes next.1 ls b c in
@@ -77,7 +79,8 @@ rest_goes l (next ∷ ls) h (a, b, c) =
       )
     ]
 
-folded_goes : (l : Line) (ls : List (List ℕ × Line)) → Goes [] l → AreLines ls → IsUtf8 (folded l ls)
+folded_goes : (l : Line) (ls : List (List ℕ × Line)) → Goes [] l → AreLines ls
+    → IsUtf8 (folded l ls)
 folded_goes l [] h a = text_goes [] l h
 folded_goes l (next ∷ ls) h (a, b, c) =
     let (breaks, value) = rest_goes next.1 ls b c in

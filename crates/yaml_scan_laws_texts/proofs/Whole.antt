@@ -41,14 +41,16 @@ whole_after text p u b =
       | inr past ↦ whole_past text (p + 1) (omega (arith, past))
     ]
 
-two_there : (text : List ℕ) (p : ℕ) → 0 < byte text (p + 1) → drop p text ≡ byte text p ∷ byte text (p + 1) ∷ drop (p + 2) text
+two_there : (text : List ℕ) (p : ℕ) → 0 < byte text (p + 1)
+    → drop p text ≡ byte text p ∷ byte text (p + 1) ∷ drop (p + 2) text
 two_there text p h =
     let here = within text (p + 1) h in
     let e : p + 1 + 1 ≡ p + 2 = omega arith in
     let f = drop_more text (p + 1) 0 here in
     drop_more text p 0 (omega (arith, here)) ∙ ap (λ xs. byte text p ∷ xs) (rw e at f)
 
-three_there : (text : List ℕ) (p : ℕ) → 0 < byte text (p + 2) → drop p text ≡ byte text p ∷ byte text (p + 1) ∷ byte text (p + 2) ∷ drop (p + 3) text
+three_there : (text : List ℕ) (p : ℕ) → 0 < byte text (p + 2)
+    → drop p text ≡ byte text p ∷ byte text (p + 1) ∷ byte text (p + 2) ∷ drop (p + 3) text
 three_there text p h =
     let here = within text (p + 2) h in
     let a : p + 1 + 1 ≡ p + 2 = omega arith in
@@ -70,7 +72,8 @@ unfolding break_of
 three_is b c d h = grind (arith, nat_tests)
 
 -- behind a character that stands there
-past_char : (text rest : List ℕ) (p q c : ℕ) → IsUtf8 text → Begins (byte text p) → drop p text ≡ encode_utf8 c ++ rest → drop q text ≡ rest → IsWhole text q
+past_char : (text rest : List ℕ) (p q c : ℕ) → IsUtf8 text → Begins (byte text p)
+    → drop p text ≡ encode_utf8 c ++ rest → drop q text ≡ rest → IsWhole text q
 past_char text rest p q c u b e f = rw f (IsUtf8-past_char (drop p text) rest c (whole_at text p u b) e)
 
 pub nel_char : 0xC2 ∷ 0x85 ∷ [] ≡ encode_utf8 0x85
@@ -96,20 +99,23 @@ bom_char = refl
 leads_by : (b c : ℕ) → b ≡ c → 192 ≤ c → Begins b
 leads_by b c e h m = omega (arith, e, h)
 
-whole_nel : (text : List ℕ) (p : ℕ) → IsUtf8 text → byte text p ≡ 0xC2 → byte text (p + 1) ≡ 0x85 → IsWhole text (p + 2)
+whole_nel : (text : List ℕ) (p : ℕ) → IsUtf8 text → byte text p ≡ 0xC2 → byte text (p + 1) ≡ 0x85
+    → IsWhole text (p + 2)
 whole_nel text p u b c =
     let there = two_there text p (omega (arith, c)) in
     past_char text (drop (p + 2) text) p (p + 2) 0x85 u (leads_by _ _ b (omega arith))
     (there ∙ (rw (b, c) (ap (λ xs. xs ++ drop (p + 2) text) nel_char))) refl
 
-whole_mark : (text : List ℕ) (p b1 b2 b3 c : ℕ) → IsUtf8 text → byte text p ≡ b1 → byte text (p + 1) ≡ b2 → byte text (p + 2) ≡ b3 → 0 < b3 → 192 ≤ b1
+whole_mark : (text : List ℕ) (p b1 b2 b3 c : ℕ) → IsUtf8 text → byte text p ≡ b1
+    → byte text (p + 1) ≡ b2 → byte text (p + 2) ≡ b3 → 0 < b3 → 192 ≤ b1
     → b1 ∷ b2 ∷ b3 ∷ [] ≡ encode_utf8 c → IsWhole text (p + 3)
 whole_mark text p b1 b2 b3 c u e f g some lead same =
     let there = three_there text p (omega (arith, g, some)) in
     past_char text (drop (p + 3) text) p (p + 3) c u (leads_by _ _ e lead)
     (there ∙ (rw (e, f, g) (ap (λ xs. xs ++ drop (p + 3) text) same))) refl
 
-pub whole_bom : (text : List ℕ) (p : ℕ) → IsUtf8 text → byte text p ≡ 0xEF → byte text (p + 1) ≡ 0xBB → byte text (p + 2) ≡ 0xBF → IsWhole text (p + 3)
+pub whole_bom : (text : List ℕ) (p : ℕ) → IsUtf8 text → byte text p ≡ 0xEF
+    → byte text (p + 1) ≡ 0xBB → byte text (p + 2) ≡ 0xBF → IsWhole text (p + 3)
 whole_bom text p u e f g = whole_mark text p 0xEF 0xBB 0xBF 0xFEFF u e f g (omega arith) (omega arith) bom_char
 
 behind_one : (text : List ℕ) (p : ℕ) → IsUtf8 text → break_width text p ≡ 1 → IsWhole text (p + 1)
@@ -131,7 +137,8 @@ behind_three text p u h =
     ]
 
 -- behind a break, if one is there
-pub whole_behind : (text : List ℕ) (p : ℕ) → IsUtf8 text → 0 < break_width text p → IsWhole text (p + break_width text p)
+pub whole_behind : (text : List ℕ) (p : ℕ) → IsUtf8 text → 0 < break_width text p
+    → IsWhole text (p + break_width text p)
 whole_behind text p u h =
     elim (widths (byte text p) (byte text (p + 1)) (byte text (p + 2))) [
       | inl z ↦ absurd (omega (arith, z))
@@ -148,12 +155,15 @@ break_begins b c d h m = grind (arith, nat_tests)
 pub whole_before : (text : List ℕ) (p : ℕ) → IsUtf8 text → 0 < break_width text p → IsWhole text p
 whole_before text p u h = whole_at text p u (break_begins (byte text p) (byte text (p + 1)) (byte text (p + 2)) h)
 
-ends_is : (x y b c : ℕ) → ends_of x y b c ≡ true → (b < 128) ⊎ (((b ≡ 0x85) × (y ≡ 0xC2)) ⊎ (((b ≡ 0xA8) ⊎ (b ≡ 0xA9)) × ((y ≡ 0x80) × (x ≡ 0xE2))))
+ends_is : (x y b c : ℕ) → ends_of x y b c ≡ true
+    → (b < 128) ⊎ (((b ≡ 0x85) × (y ≡ 0xC2))
+    ⊎ (((b ≡ 0xA8) ⊎ (b ≡ 0xA9)) × ((y ≡ 0x80) × (x ≡ 0xE2))))
 unfolding ends_of
 ends_is x y b c h = grind (arith, nat_tests)
 
 -- the byte before a place that is not the first
-before_nel : (text : List ℕ) (p : ℕ) → IsUtf8 text → byte text p ≡ 0x85 → byte text (p - 1) ≡ 0xC2 → IsWhole text (p + 1)
+before_nel : (text : List ℕ) (p : ℕ) → IsUtf8 text → byte text p ≡ 0x85 → byte text (p - 1) ≡ 0xC2
+    → IsWhole text (p + 1)
 before_nel text zero u b y = absurd (omega (arith, b, y))
 before_nel text (suc p) u b y =
     let e : suc p ≡ p + 1 = omega arith in
@@ -161,7 +171,8 @@ before_nel text (suc p) u b y =
     let g : suc p + 1 ≡ p + 2 = omega arith in
     rw g (whole_nel text p u (rw f at y) (rw e at b))
 
-before_mark : (text : List ℕ) (p b c : ℕ) → IsUtf8 text → byte text p ≡ b → 0 < b → byte text (p - 1) ≡ 0x80 → byte text (p - 2) ≡ 0xE2
+before_mark : (text : List ℕ) (p b c : ℕ) → IsUtf8 text → byte text p ≡ b → 0 < b
+    → byte text (p - 1) ≡ 0x80 → byte text (p - 2) ≡ 0xE2
     → 0xE2 ∷ 0x80 ∷ b ∷ [] ≡ encode_utf8 c → IsWhole text (p + 1)
 before_mark text zero b c u e some y x same = absurd (omega (arith, y, x))
 before_mark text (suc zero) b c u e some y x same = absurd (omega (arith, y, x))
@@ -199,7 +210,8 @@ take_past : (text : List ℕ) (i j : ℕ) → length text < j → slice_range te
 take_past text i j h = take_all (j - i) (drop i text) (rw (length-drop i text) (omega (arith, h)))
 
 -- the bytes between two places where the text may be cut
-pub slice_utf8 : (text : List ℕ) (i j : ℕ) → IsUtf8 text → IsWhole text i → IsWhole text j → IsUtf8 (slice_range text i j)
+pub slice_utf8 : (text : List ℕ) (i j : ℕ) → IsUtf8 text → IsWhole text i → IsWhole text j
+    → IsUtf8 (slice_range text i j)
 slice_utf8 text i j u a b =
     elim (cases_lt (length text) j) [
       | inl past ↦ rw (take_past text i j past) a
@@ -236,10 +248,13 @@ break_utf8 text p u =
       | inr h ↦ rw h (ascii_utf8 10 (omega arith))
     ]
 
-indicator_bytes : (c a b d e f g : ℕ) (last : Bool) → (c == 0 && (((a == 45 && b == 45) && d == 45) || ((e == 46 && f == 46) && g == 46)) && last) ≡ true → (a ≡ 45) ⊎ (e ≡ 46)
+indicator_bytes : (c a b d e f g : ℕ) (last : Bool)
+    → (c == 0 && (((a == 45 && b == 45) && d == 45) || ((e == 46 && f == 46) && g == 46)) && last)
+    ≡ true → (a ≡ 45) ⊎ (e ≡ 46)
 indicator_bytes c a b d e f g last h = grind (arith, nat_tests)
 
-pub indicator_small : (text : List ℕ) (p : ℕ) → is_document_indicator text p ≡ true → byte text p < 128
+pub indicator_small : (text : List ℕ) (p : ℕ) → is_document_indicator text p ≡ true
+    → byte text p < 128
 unfolding is_document_indicator
 indicator_small text p h =
     elim (indicator_bytes (column_at text p) (byte text p) (byte text (p + 1)) (byte text (p + 2)) (byte text p) (byte text (p + 1)) (byte text (p + 2)) (is_blank_or_end text (p + 3)) h) [

@@ -41,17 +41,20 @@ use Rattle.yaml_scan_machine.proofs.MarkLemmas.{next_ended}
 use Rattle.yaml_scan_machine.proofs.NextLemmas.{settled_first}
 use Rattle.yaml_scan_machine.proofs.GivenLemmas.{front_is, no_entry}
 
-refused_at : (m : Machine) (f : ScanFault) (x : Next) → next (text_bytes m.text) (history_of m) ≡ x → GivesNext m (Err (errors.Fault f)) x → next (text_bytes m.text) (history_of m) ≡ Fails f
+refused_at : (m : Machine) (f : ScanFault) (x : Next) → next (text_bytes m.text) (history_of m) ≡ x
+    → GivesNext m (Err (errors.Fault f)) x → next (text_bytes m.text) (history_of m) ≡ Fails f
 refused_at m f (Read l) e g = absurd g
 refused_at m f (Fails p) e g = e ∙ ap Fails (sym g)
 refused_at m f Ends e g = absurd g
 
 -- a refusal is the next fault
-pub refused_by : (m : Machine) (e : ScanError) → GivesNext m (Err e) (next (text_bytes m.text) (history_of m)) → Refused m e
+pub refused_by : (m : Machine) (e : ScanError)
+    → GivesNext m (Err e) (next (text_bytes m.text) (history_of m)) → Refused m e
 refused_by m errors.Memory g = tt
 refused_by m (errors.Fault f) g = refused_at m f (next (text_bytes m.text) (history_of m)) refl g
 
-pub refused_any : (m : Machine) (r : Result Answer ScanError) → GivesNext m r (next (text_bytes m.text) (history_of m)) → IfErr r (λ e. Refused m e)
+pub refused_any : (m : Machine) (r : Result Answer ScanError)
+    → GivesNext m r (next (text_bytes m.text) (history_of m)) → IfErr r (λ e. Refused m e)
 refused_any m (Ok r) g = tt
 refused_any m (Err e) g = refused_by m e g
 
@@ -62,7 +65,8 @@ goes_same old new g =
     ∙ ap (λ (t : List ℕ). remaining record { encoding = old.encoding; text = t } new.dropped new.given) (ap text_bytes g.text)
     ∙ ap (λ d. remaining (stream_of old) d new.given) g.dropped ∙ ap (λ n. remaining (stream_of old) old.dropped n) g.given
 
-not_ready : (d s g : ℕ) (ws : List Waiting) → ready_in d s g ws ≡ false → (ws ≡ []) ⊎ ((w : Waiting) × (rest : List Waiting) × (ws ≡ w ∷ rest) × (s ≤ d) × (w.ends ≤ g))
+not_ready : (d s g : ℕ) (ws : List Waiting) → ready_in d s g ws ≡ false
+    → (ws ≡ []) ⊎ ((w : Waiting) × (rest : List Waiting) × (ws ≡ w ∷ rest) × (s ≤ d) × (w.ends ≤ g))
 not_ready d s g [] e = inl refl
 not_ready d s g (w ∷ ws) e =
     elim (cases_lt d s) [
@@ -76,12 +80,14 @@ not_ready d s g (w ∷ ws) e =
       ]
     ]
 
-pub settled_end : (m : Fields) → IsShown m → m.ended ≡ true → m.settled ≡ length (read m.text m.dropped m.waiting)
+pub settled_end : (m : Fields) → IsShown m → m.ended ≡ true
+    → m.settled ≡ length (read m.text m.dropped m.waiting)
 unfolding settled_in
 settled_end m s over = let e = sym s.ended ∙ over in s.settled ∙ rw e refl
 
 -- at the end nothing is left
-pub end_machine : (m : Machine) → IsMachine m → is_ready m ≡ false → m.ended ≡ true → to_come m ≡ nothing
+pub end_machine : (m : Machine) → IsMachine m → is_ready m ≡ false → m.ended ≡ true
+    → to_come m ≡ nothing
 unfolding read
 end_machine m i stuck over =
     let f = fields_of m in
@@ -97,7 +103,8 @@ end_machine m i stuck over =
     end_comes (stream_of m) (m.dropped + length f.waiting) m.dropped m.given none past
 
 -- where one more is read, 1,024 wait at most
-pub waits_short : (m : Machine) (l : Lexeme) → IsMachine m → is_ready m ≡ false → m.ended ≡ false → next (text_bytes m.text) (history_of m) ≡ Read l → length m.waiting.items ≤ 1024
+pub waits_short : (m : Machine) (l : Lexeme) → IsMachine m → is_ready m ≡ false → m.ended ≡ false
+    → next (text_bytes m.text) (history_of m) ≡ Read l → length m.waiting.items ≤ 1024
 unfolding read
 waits_short m l i stuck more is =
     let f = fields_of m in
@@ -111,7 +118,8 @@ waits_short m l i stuck more is =
     ]
 
 -- at a fault nothing is left but the fault
-pub fault_machine : (m : Machine) (e : ScanError) → IsMachine m → is_ready m ≡ false → m.ended ≡ false → Refused m e → Faults e (to_come m)
+pub fault_machine : (m : Machine) (e : ScanError) → IsMachine m → is_ready m ≡ false
+    → m.ended ≡ false → Refused m e → Faults e (to_come m)
 unfolding read
 fault_machine m errors.Memory i stuck more r = tt
 fault_machine m (errors.Fault p) i stuck more r =
@@ -145,7 +153,8 @@ left_is m on = ap (λ b. left_from b (to_come m) (scanned m.setting m.input.now)
 pub left_whole : (m : Machine) → m.started ≡ false → left_in m ≡ scanned m.setting m.input.now
 left_whole m off = ap (λ b. left_from b (to_come m) (scanned m.setting m.input.now)) off
 
-pub left_gives : (old new : Machine) (t : Token) → old.started ≡ true → new.started ≡ true → GivesFirst (to_come old) t (to_come new) → GivesFirst (left_in old) t (left_in new)
+pub left_gives : (old new : Machine) (t : Token) → old.started ≡ true → new.started ≡ true
+    → GivesFirst (to_come old) t (to_come new) → GivesFirst (left_in old) t (left_in new)
 left_gives old new t on still (tokens, fault) =
     let a = left_is old on in
     let b = left_is new still in (
@@ -162,31 +171,39 @@ ready_started m i ready =
     ]
 
 -- the fault that a machine tells
-pub told_error : (m : Machine) (e : ScanError) (f : Fault) → m.started ≡ true → Faults e (to_come m) → IsLocated e f → IsTold (left_in m) f
+pub told_error : (m : Machine) (e : ScanError) (f : Fault) → m.started ≡ true → Faults e (to_come m)
+    → IsLocated e f → IsTold (left_in m) f
 told_error m errors.Memory f on c is = inl (inl is)
 told_error m (errors.Fault p) f on c is =
     let all : left_in m ≡ record { tokens = []; fault = Some (scanner_fault p) } = left_is m on ∙ c in
     inr (ap (λ (x : Remaining). x.tokens) all, ap (λ (x : Remaining). x.fault) all ∙ ap Some (sym is))
 
-offence_told : (encoding : yaml_encoding_t) (r : Result (List ℕ) Offence) (f : Fault) → option_map reader_fault (result_err r) ≡ Some f → IsTold (scanned_in encoding (in_utf8 r)) f
+offence_told : (encoding : yaml_encoding_t) (r : Result (List ℕ) Offence) (f : Fault)
+    → option_map reader_fault (result_err r) ≡ Some f → IsTold (scanned_in encoding (in_utf8 r)) f
 offence_told encoding (Ok cs) f e = cc
 offence_told encoding (Err o) f e = inr (refl, e)
 
 -- the fault that decoding tells
-pub told_decoding : (m : Machine) (f : Fault) → m.started ≡ false → (f ≡ memory_fault Reader) ⊎ (decoding_fault m.setting m.input.now ≡ Some f) → IsTold (left_in m) f
+pub told_decoding : (m : Machine) (f : Fault) → m.started ≡ false
+    → (f ≡ memory_fault Reader) ⊎ (decoding_fault m.setting m.input.now ≡ Some f)
+    → IsTold (left_in m) f
 told_decoding m f off (inl memory) = inl (inr memory)
 told_decoding m f off (inr fault) =
     subst (λ (c : Remaining). IsTold c f) (sym (left_whole m off)) (offence_told (encoding_of m.setting m.input.now) (decoded_characters m.setting m.input.now) f fault)
 
 -- what a step answers
-pub steps_on : (old new : Machine) (f : Fault) (b : Bool) → b ≡ true → Steps old new f b → IsMachine new × GoesOn old new
+pub steps_on : (old new : Machine) (f : Fault) (b : Bool) → b ≡ true → Steps old new f b
+    → IsMachine new × GoesOn old new
 steps_on old new f true e s = s
 steps_on old new f false e s = cc
 
-pub steps_off : (old new : Machine) (f : Fault) (b : Bool) → b ≡ false → Steps old new f b → IsRefused old f × (length new.waiting.items ≤ 1025)
+pub steps_off : (old new : Machine) (f : Fault) (b : Bool) → b ≡ false → Steps old new f b
+    → IsRefused old f × (length new.waiting.items ≤ 1025)
 steps_off old new f true e s = cc
 steps_off old new f false e s = s
 
 -- a step's fault is the one that a machine tells, where the same is to come
-pub told_refused : (first m : Machine) (f : Fault) → first.started ≡ true → to_come m ≡ to_come first → IsMachine m → is_ready m ≡ false → m.ended ≡ false → IsRefused m f → IsTold (left_in first) f
+pub told_refused : (first m : Machine) (f : Fault) → first.started ≡ true
+    → to_come m ≡ to_come first → IsMachine m → is_ready m ≡ false → m.ended ≡ false → IsRefused m f
+    → IsTold (left_in first) f
 told_refused first m f on same i stuck more (e, refused, is) = told_error first e f on (subst (λ (c : Remaining). Faults e c) same (fault_machine m e i stuck more refused)) is

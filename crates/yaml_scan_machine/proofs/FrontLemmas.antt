@@ -13,20 +13,37 @@ use Rattle.yaml_scan_machine.specs.Candidates.{KeyStack, AreKeys}
 use Rattle.yaml_scan_machine.specs.Shows.{Fields, Shows, IsShown, all_kept, read, settled_in, spelled}
 
 -- before the first lexeme
-pub shown_start : (encoding : yaml_encoding_t) (text : List ℕ) (ws : List Waiting) (ls : List ℕ) (ks : KeyStack) → ws ≡ [] → ls ≡ [] → AreKeys ks [] zero_mark
-    → IsShown record { encoding = encoding; text = text; waiting = map (λ (x : Waiting). kept_of x) ws; keys = ks; dropped = 0; given = 0; settled = 0; place = zero_mark; depth = 0; levels = ls; allowed = false; ended = false }
+pub shown_start : (encoding : yaml_encoding_t) (text : List ℕ) (ws : List Waiting) (ls : List ℕ)
+    (ks : KeyStack) → ws ≡ [] → ls ≡ [] → AreKeys ks [] zero_mark
+    → IsShown record {
+      encoding = encoding;
+      text = text;
+      waiting = map (λ (x : Waiting). kept_of x)
+          ws;
+      keys = ks;
+      dropped = 0;
+      given = 0;
+      settled = 0;
+      place = zero_mark;
+      depth = 0;
+      levels = ls;
+      allowed = false;
+      ended = false;
+    }
 unfolding read history entries first_open settled_in levels
 shown_start encoding text ws ls ks none no_level keys = rw (none, no_level) record { count = refl; waiting = refl; settled = refl; taken = omega arith; place = refl; levels = refl; depth = refl; allowed = refl; ended = refl; keys = keys }
 
 pub shown_given : (m : Fields) (n : ℕ) → IsShown m → IsShown record m { given = n }
 shown_given m n s = record { count = s.count; waiting = s.waiting; settled = s.settled; taken = s.taken; place = s.place; levels = s.levels; depth = s.depth; allowed = s.allowed; ended = s.ended; keys = s.keys }
 
-read_rest : (text : List ℕ) (d : ℕ) (e : Kept) (es : List Kept) → read text (d + 1) es ≡ read text d (e ∷ es)
+read_rest : (text : List ℕ) (d : ℕ) (e : Kept) (es : List Kept)
+    → read text (d + 1) es ≡ read text d (e ∷ es)
 unfolding read
 read_rest text d e es = let k : d + 1 + length es ≡ d + length (e ∷ es) = omega arith in rw k refl
 
 -- what is left where the first one is taken
-shown_rest : (m : Fields) (e : Kept) (es : List Kept) → IsShown m → m.waiting ≡ e ∷ es → m.dropped < m.settled → IsShown record m { waiting = es; dropped = m.dropped + 1; given = 0 }
+shown_rest : (m : Fields) (e : Kept) (es : List Kept) → IsShown m → m.waiting ≡ e ∷ es
+    → m.dropped < m.settled → IsShown record m { waiting = es; dropped = m.dropped + 1; given = 0 }
 shown_rest m e es s wait low =
     let h = read m.text m.dropped m.waiting in
     let len : length m.waiting ≡ length es + 1 = ap length wait ∙ omega arith in
@@ -45,7 +62,12 @@ shown_rest m e es s wait low =
       keys = s.keys;
     }
 
-pub shown_popped : (m : Fields) (ws : List Waiting) (w : Waiting) (rest : List Waiting) → IsShown m → m.waiting ≡ map (λ (x : Waiting). kept_of x) ws → ws ≡ w ∷ rest → m.dropped < m.settled
-    → IsShown record m { waiting = map (λ (x : Waiting). kept_of x) rest; dropped = m.dropped + 1; given = 0 }
+pub shown_popped : (m : Fields) (ws : List Waiting) (w : Waiting) (rest : List Waiting) → IsShown m
+    → m.waiting ≡ map (λ (x : Waiting). kept_of x) ws → ws ≡ w ∷ rest → m.dropped < m.settled
+    → IsShown record m {
+      waiting = map (λ (x : Waiting). kept_of x) rest;
+      dropped = m.dropped + 1;
+      given = 0;
+    }
 shown_popped m ws w rest s wait is low =
     shown_rest m (kept_of w) (map (λ (x : Waiting). kept_of x) rest) s (wait ∙ ap (λ xs. map (λ (x : Waiting). kept_of x) xs) is) low

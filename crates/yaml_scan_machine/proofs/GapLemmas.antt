@@ -15,16 +15,20 @@ abbrev pub goes_on : ℕ → Bool
 goes_on b = ltb 32 b && (ltb b 128 && not (b == 35))
 
 -- nothing stands between
-pub no_gap : (flow allowed : Bool) (text : List ℕ) (p : ℕ) → goes_on (byte text p) ≡ true → gap_at flow allowed text p ≡ record { place = p; broke = false }
+pub no_gap : (flow allowed : Bool) (text : List ℕ) (p : ℕ) → goes_on (byte text p) ≡ true
+    → gap_at flow allowed text p ≡ record { place = p; broke = false }
 no_gap flow allowed text p h = gap_stop (length text) flow allowed text p p (lexeme_here (flow || not allowed) text p h) (omega arith)
 
 -- a space stands between
-pub one_space : (flow allowed : Bool) (text : List ℕ) (p : ℕ) → byte text p ≡ 32 → goes_on (byte text (p + 1)) ≡ true → gap_at flow allowed text p ≡ record { place = p + 1; broke = false }
+pub one_space : (flow allowed : Bool) (text : List ℕ) (p : ℕ) → byte text p ≡ 32
+    → goes_on (byte text (p + 1)) ≡ true
+    → gap_at flow allowed text p ≡ record { place = p + 1; broke = false }
 one_space flow allowed text p space h =
     let (m, room, far, inside, same) = gap_blank (length text) flow allowed text p (p + 1) (space_here (flow || not allowed) text p space) (omega arith) in
     same ∙ gap_stop m flow allowed text (p + 1) (p + 1) (lexeme_here (flow || not allowed) text (p + 1) h) room
 
-feed_first : (b c d : ℕ) (first : Bool) → b ≡ 10 → (first && (b == 0xEF && (c == 0xBB && d == 0xBF))) ≡ false
+feed_first : (b c d : ℕ) (first : Bool) → b ≡ 10
+    → (first && (b == 0xEF && (c == 0xBB && d == 0xBF))) ≡ false
 feed_first b c d true h = rw h refl
 feed_first b c d false h = refl
 
@@ -41,7 +45,9 @@ pub feed_width : (text : List ℕ) (p : ℕ) → byte text p ≡ 10 → break_wi
 feed_width text p h = feed_of (byte text p) (byte text (p + 1)) (byte text (p + 2)) h
 
 -- a line feed stands between
-pub one_feed : (flow allowed : Bool) (text : List ℕ) (p : ℕ) → byte text p ≡ 10 → goes_on (byte text (p + 1)) ≡ true → gap_at flow allowed text p ≡ record { place = p + 1; broke = true }
+pub one_feed : (flow allowed : Bool) (text : List ℕ) (p : ℕ) → byte text p ≡ 10
+    → goes_on (byte text (p + 1)) ≡ true
+    → gap_at flow allowed text p ≡ record { place = p + 1; broke = true }
 unfolding step_at
 one_feed flow allowed text p feed h =
     let key = allowed || not flow in
@@ -52,11 +58,13 @@ one_feed flow allowed text p feed h =
     same ∙ ap (with_break true) (gap_stop m flow key text (p + 1) (p + 1) (lexeme_here (flow || not key) text (p + 1) h) room)
 
 -- where no break is passed, a key may begin as before
-pub allowed_still : (allowed flow broke : Bool) → broke ≡ false → allowed ≡ (allowed || (broke && not flow))
+pub allowed_still : (allowed flow broke : Bool) → broke ≡ false
+    → allowed ≡ (allowed || (broke && not flow))
 allowed_still true flow broke h = refl
 allowed_still false flow broke h = rw h refl
 
-none_by : (flow alone : Bool) (b n : ℕ) (k : Kind) → indicator_of flow alone b ≡ Some k → indicator_of flow alone n ≡ None → b ≢ n
+none_by : (flow alone : Bool) (b n : ℕ) (k : Kind) → indicator_of flow alone b ≡ Some k
+    → indicator_of flow alone n ≡ None → b ≢ n
 none_by flow alone b n k some none = λ same. let bad : indicator_of flow alone b ≡ None = rw same none in cc
 
 tells_no_end : (flow alone : Bool) → indicator_of flow alone 0 ≡ None
@@ -80,7 +88,8 @@ dash_follows text p h =
     let none : break_width text p ≡ 0 = no_break _ _ _ (omega arith) (omega arith) (omega arith) (omega arith) in
     rw (none, h) refl
 
-no_thrice : (first a b c last : Bool) → (a && b) ≡ false → ((first && (a && (b && c))) && last) ≡ false
+no_thrice : (first a b c last : Bool) → (a && b) ≡ false
+    → ((first && (a && (b && c))) && last) ≡ false
 no_thrice true true true c last h = cc
 no_thrice true true false c last h = refl
 no_thrice true false b c last h = refl
@@ -91,7 +100,9 @@ not_both true true h = h refl
 not_both true false h = refl
 not_both false b h = refl
 
-no_start : (flow : Bool) (text : List ℕ) (p : ℕ) (k : Kind) → indicator_of flow (is_blank_or_end text (p + 1)) (byte text p) ≡ Some k → is_document_start text p ≡ false
+no_start : (flow : Bool) (text : List ℕ) (p : ℕ) (k : Kind)
+    → indicator_of flow (is_blank_or_end text (p + 1)) (byte text p) ≡ Some k
+    → is_document_start text p ≡ false
 unfolding is_document_start
 no_start flow text p k some =
     no_thrice (column_at text p == 0) (byte text p == 45) (byte text (p + 1) == 45) (byte text (p + 2) == 45) (is_blank_or_end text (p + 3)) (not_both _ _ (λ second.
@@ -103,7 +114,9 @@ unfolding is_document_end
 no_end text p h = no_thrice (column_at text p == 0) (byte text p == 46) (byte text (p + 1) == 46) (byte text (p + 2) == 46) (is_blank_or_end text (p + 3)) (rw (ne_eqb _ _ h) refl)
 
 -- what an indicator tells is the kind
-pub told_kind : (flow : Bool) (text : List ℕ) (p : ℕ) (k : Kind) → indicator_of flow (is_blank_or_end text (p + 1)) (byte text p) ≡ Some k → kind_at flow text p ≡ Some k
+pub told_kind : (flow : Bool) (text : List ℕ) (p : ℕ) (k : Kind)
+    → indicator_of flow (is_blank_or_end text (p + 1)) (byte text p) ≡ Some k
+    → kind_at flow text p ≡ Some k
 unfolding kind_at
 told_kind flow text p k some =
     let alone = is_blank_or_end text (p + 1) in

@@ -25,7 +25,9 @@ use Rattle.yaml_scan_machine.proofs.MarkLemmas.{further_on, settled_open}
 use Rattle.yaml_scan_machine.proofs.SpellLemmas.{Counts, front_counts}
 
 -- the first lexeme that waits is the one of that number
-pub front_is : (m : Fields) (k : Kept) (ks : List Kept) (x : Entry) → IsShown m → m.waiting ≡ k ∷ ks → let h = read m.text m.dropped m.waiting in (kept_in (spelled m) (get_or (entries h) m.dropped x) ≡ k) × (m.dropped < length h)
+pub front_is : (m : Fields) (k : Kept) (ks : List Kept) (x : Entry) → IsShown m → m.waiting ≡ k ∷ ks
+    → let h = read m.text m.dropped m.waiting in
+    (kept_in (spelled m) (get_or (entries h) m.dropped x) ≡ k) × (m.dropped < length h)
 front_is m k ks x s wait =
     let h = read m.text m.dropped m.waiting in
     let f : Entry → Kept = λ e. kept_in (spelled m) e in
@@ -40,8 +42,12 @@ abbrev pub no_entry : Entry
 no_entry = record { lexeme = first_lexeme; ends = 0; opens = opening.Nothing; key = false }
 
 -- one more lexeme leaves how much of the first one is taken
-given_lists : (m x : Fields) (l : Lexeme) (ws xs : List Kept) → IsShown m → IsShown x → GoesForward m.text → let h = read m.text m.dropped m.waiting in next m.text h ≡ Read l → read x.text x.dropped x.waiting ≡ l ∷ h
-    → x.dropped ≡ m.dropped → x.given ≡ m.given → m.settled ≤ x.settled → m.waiting ≡ ws → x.waiting ≡ xs → given_in m.dropped m.settled m.given ws → given_in x.dropped x.settled x.given xs
+given_lists : (m x : Fields) (l : Lexeme) (ws xs : List Kept) → IsShown m → IsShown x
+    → GoesForward m.text → let h = read m.text m.dropped m.waiting in next m.text h ≡ Read l
+    → read x.text x.dropped x.waiting ≡ l ∷ h
+    → x.dropped ≡ m.dropped → x.given ≡ m.given → m.settled ≤ x.settled → m.waiting ≡ ws
+    → x.waiting ≡ xs → given_in m.dropped m.settled m.given ws
+    → given_in x.dropped x.settled x.given xs
 given_lists m x l [] [] s t go e more drops gives grows wait now given = gives ∙ given
 given_lists m x l [] (y ∷ ys) s t go e more drops gives grows wait now given = inl (omega (arith, gives, given))
 given_lists m x l (w ∷ ws) [] s t go e more drops gives grows wait now given =
@@ -70,7 +76,9 @@ given_lists m x l (w ∷ ws) (y ∷ ys) s t go e more drops gives grows wait now
           inr (omega (arith, drops, settled, grows), omega (arith, gives, few, count))
     ]
 
-pub given_goes : (m x : Fields) (l : Lexeme) → IsShown m → IsShown x → GoesForward m.text → let h = read m.text m.dropped m.waiting in next m.text h ≡ Read l → read x.text x.dropped x.waiting ≡ l ∷ h
+pub given_goes : (m x : Fields) (l : Lexeme) → IsShown m → IsShown x → GoesForward m.text
+    → let h = read m.text m.dropped m.waiting in next m.text h ≡ Read l
+    → read x.text x.dropped x.waiting ≡ l ∷ h
     → x.dropped ≡ m.dropped → x.given ≡ m.given → m.settled ≤ x.settled → IsGiven m → IsGiven x
 given_goes m x l s t go e more drops gives grows given = given_lists m x l m.waiting x.waiting s t go e more drops gives grows refl refl given
 
@@ -80,7 +88,8 @@ given_none d s [] = refl
 given_none d s (e ∷ es) = inl (omega arith)
 
 -- no more is taken than stands in front
-pub given_few : (d s g : ℕ) (e : Kept) (es : List Kept) → given_in d s g (e ∷ es) → g ≤ front_count e
+pub given_few : (d s g : ℕ) (e : Kept) (es : List Kept) → given_in d s g (e ∷ es)
+    → g ≤ front_count e
 given_few d s g e es (inl low) = omega (arith, low)
 given_few d s g e es (inr (settled, low)) = low
 
@@ -91,7 +100,9 @@ pub front_done : (e : Kept) (g : ℕ) → front_at e g ≡ None → front_count 
 front_done e g none = subst (λ o. Counts (front_count e) g o) none (front_counts e g)
 
 -- one more of the tokens in front is taken
-pub given_more : (d s g : ℕ) (w : Waiting) (ws : List Waiting) (es : List Kept) (b : TokenBody) → ready_in d s g (w ∷ ws) ≡ true → front_at (kept_of w) g ≡ Some b → given_in d s (g + 1) (kept_of w ∷ es)
+pub given_more : (d s g : ℕ) (w : Waiting) (ws : List Waiting) (es : List Kept) (b : TokenBody)
+    → ready_in d s g (w ∷ ws) ≡ true → front_at (kept_of w) g ≡ Some b
+    → given_in d s (g + 1) (kept_of w ∷ es)
 given_more d s g w ws es b ready some =
     elim (cases_lt g w.ends) [
       | inl more ↦ inl (omega (arith, more))
@@ -102,7 +113,8 @@ given_more d s g w ws es b ready some =
     ]
 
 -- where all that stands in front is taken, what is known is settled
-pub own_settled : (d s g : ℕ) (w : Waiting) (ws : List Waiting) → ready_in d s g (w ∷ ws) ≡ true → front_at (kept_of w) g ≡ None → d < s
+pub own_settled : (d s g : ℕ) (w : Waiting) (ws : List Waiting) → ready_in d s g (w ∷ ws) ≡ true
+    → front_at (kept_of w) g ≡ None → d < s
 own_settled d s g w ws ready none = let past = front_done (kept_of w) g none in known_settled d s g w ws ready (λ more. omega (arith, more, past))
 
 filter_few : (p : ℕ → Bool) (xs : List ℕ) → length (filter p xs) ≤ length xs
@@ -140,7 +152,8 @@ levels_few (l ∷ h) =
     omega (arith, rest, left, now)
 
 -- no lexeme closes more levels than lexemes are read
-pub ends_few : (h : List Lexeme) (k : ℕ) (e : Entry) → k < length h → (get_or (entries h) k e).ends ≤ length h
+pub ends_few : (h : List Lexeme) (k : ℕ) (e : Entry) → k < length h
+    → (get_or (entries h) k e).ends ≤ length h
 unfolding entries
 ends_few [] k e low = absurd (omega arith)
 ends_few (l ∷ h) k e low =

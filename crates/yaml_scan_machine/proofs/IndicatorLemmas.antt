@@ -22,7 +22,8 @@ pub record IsIndicator (k : Kind) (text : List ℕ) (p : ℕ) : Type 0 where
   pub high : byte text p < 128
 
 -- what stands where an indicator starts
-pub indicator_stands : (k : Kind) (b : TokenBody) (flow : Bool) (text : List ℕ) (p : ℕ) → indicator_at k ≡ Some b → Stands k flow text p → IsIndicator k text p
+pub indicator_stands : (k : Kind) (b : TokenBody) (flow : Bool) (text : List ℕ) (p : ℕ)
+    → indicator_at k ≡ Some b → Stands k flow text p → IsIndicator k text p
 indicator_stands kinds.StreamStart b flow text p e s = cc
 indicator_stands kinds.StreamEnd b flow text p e s = cc
 indicator_stands kinds.Directive b flow text p e s = cc
@@ -53,7 +54,8 @@ carried None q = Ok record { body = tokens.no; end = q; reached = q; broke = fal
 carried (Some b) q = carrying b q
 
 -- what an indicator is read as
-pub indicator_word : (k : Kind) (b : TokenBody) (flow : Bool) (level : ℕ) (text : List ℕ) (p : ℕ) → indicator_at k ≡ Some b → word_at k flow level text p ≡ carrying b (p + 1)
+pub indicator_word : (k : Kind) (b : TokenBody) (flow : Bool) (level : ℕ) (text : List ℕ) (p : ℕ)
+    → indicator_at k ≡ Some b → word_at k flow level text p ≡ carrying b (p + 1)
 unfolding word_at
 indicator_word kinds.StreamStart b flow level text p e = cc
 indicator_word kinds.StreamEnd b flow level text p e = cc
@@ -78,7 +80,10 @@ indicator_word kinds.DoubleQuoted b flow level text p e = cc
 indicator_word kinds.Plain b flow level text p e = cc
 
 -- the mark behind a byte of ASCII that is no break
-pub mark_past : (text : List ℕ) (p : ℕ) → splits_break text p ≡ false → break_width text p ≡ 0 → byte text p < 128 → record { index = p + 1; line = line_at text p; column = column_at text p + 1 } ≡ mark_at text (p + 1)
+pub mark_past : (text : List ℕ) (p : ℕ) → splits_break text p ≡ false → break_width text p ≡ 0
+    → byte text p < 128
+    → record { index = p + 1; line = line_at text p; column = column_at text p + 1 }
+    ≡ mark_at text (p + 1)
 mark_past text p whole none low =
     let e = end_next text p whole none in
     let s : starts (byte text p) ≡ true = grind (arith, nat_tests) in

@@ -1,8 +1,8 @@
 -- What a lexeme makes of the candidates of each depth, and which of them is the earliest.
-use Rattle.std.proofs.Common.{◌≡◌, ◌∙◌, ℕ, ◌+◌, ◌-◌, ◌<◌, ◌≤◌, inl, inr, Bool, true, false, cond, eqb, ◌&&◌, List, [], ◌∷◌, ◌++◌, length, take, drop, get_or, Option, Some, None, Result, Ok, Err, OnOk, refl, sym, ap, subst, arith}
+use Rattle.std.proofs.Common.{◌≡◌, ◌∙◌, ℕ, ◌+◌, ◌-◌, ◌<◌, ◌≤◌, inl, inr, true, false, eqb, ◌&&◌, List, [], ◌∷◌, ◌++◌, length, take, drop, get_or, Option, Some, None, Result, Ok, Err, OnOk, refl, sym, ap, subst, arith}
 use Rattle.std.proofs.lemmas.Bool.{cases_Bool, cases_lt, cases_order}
 use Rattle.std.proofs.lemmas.Bool.Decides.{nat_tests}
-use Rattle.std.proofs.lemmas.List.{get_or_append_left, get_or_at, get_or_default, get_or_past, get_or-drop, get_or-map, length-append, length-drop, take-append-le, take_all, length-map}
+use Rattle.std.proofs.lemmas.List.{get_or_past, get_or-drop, get_or-map, length-drop, take-append-le, take_all, length-map}
 use Rattle.yaml_scan_model.specs.declared.record.yaml_mark_t.{yaml_mark_t}
 use Rattle.yaml_scan_history.specs.declared.lexeme.Lexeme.{Lexeme}
 use Rattle.yaml_scan_history.specs.Kinds.{cancels, depth_after}
@@ -21,170 +21,10 @@ use Rattle.yaml_scan_machine.specs.declared.machine.Machine.{Machine}
 use Rattle.yaml_scan_decode.specs.DecodedText.{text_bytes}
 use Rattle.yaml_scan_machine.specs.Reads.{required_in}
 use Rattle.yaml_scan_machine.specs.Candidates.{stack_of, KeyStack, KeyView, key_at, view_of, key_view, fresh_key, number_in, required_view, required_at, AreStale, IsKey, AreKeysTo, AreKeys, Forgets, Turns, IsPut}
-use Rattle.yaml_scan_machine.proofs.ReadLemmas.{cases_Option}
 use Rattle.yaml_scan_machine.proofs.StepLemmas.{candidate_top, none_deeper, start_is}
 use Rattle.yaml_scan_machine.proofs.NextLemmas.{settled_first, unmissed}
 use Rattle.yaml_scan_machine.proofs.MarkLemmas.{further_on, depth_of}
-
--- ---- the candidates behind one more lexeme
-
-lower : (d : ℕ) (l : Lexeme) (h : List Lexeme) → d < l.depth → candidate d (l ∷ h) ≡ candidate d h
-unfolding candidate
-lower d l h b = grind (arith, nat_tests)
-
-inner : (d : ℕ) (l : Lexeme) (h : List Lexeme) → l.depth < d → candidate d (l ∷ h) ≡ None
-unfolding candidate
-inner d l h b = grind (arith, nat_tests)
-
-top_saved : (l : Lexeme) (h : List Lexeme) → l.saved ≡ true → candidate l.depth (l ∷ h) ≡ Some (record { number = length h; lexeme = l })
-unfolding candidate
-top_saved l h s = grind (arith, nat_tests)
-
-top_cancelled : (l : Lexeme) (h : List Lexeme) → l.saved ≡ false → cancels l.kind ≡ true → candidate l.depth (l ∷ h) ≡ None
-unfolding candidate
-top_cancelled l h s e = grind (arith, nat_tests)
-
-top_same : (l : Lexeme) (h : List Lexeme) → l.saved ≡ false → cancels l.kind ≡ false → candidate l.depth (l ∷ h) ≡ candidate l.depth h
-unfolding candidate
-top_same l h s e = grind (arith, nat_tests)
-
--- ---- the keys
-
-near_before : (s p q : yaml_mark_t) → p.index ≤ q.index → p.line ≤ q.line → is_fresh s q ≡ true → is_fresh s p ≡ true
-near_before s p q i l h = grind (arith, nat_tests)
-
-if_none : (b : Bool) (v : KeyView) → cond b (Some v) None ≡ None → b ≡ false
-if_none true v e = cc
-if_none false v e = refl
-
-stale_stays : (k : Key) (p r : yaml_mark_t) → fresh_key k p ≡ None → Upto p r → fresh_key k r ≡ None
-stale_stays k p r e u =
-    let v : KeyView = record { number = k.number; start = k.start; required = k.required } in
-    let was = if_none (k.possible && is_fresh k.start p) v e in
-    elim (cases_Bool k.possible) [
-      | inr none ↦ rw none refl
-      | inl some ↦ elim (cases_Bool (is_fresh k.start r)) [
-        | inr far ↦ rw (some, far) refl
-        | inl near ↦ let now = near_before k.start p r u.0 u.1 near in let bad = rw (some, now) at was in cc
-      ]
-    ]
-
-no_view : (k : Key) → k.possible ≡ false → key_view k ≡ None
-no_view k e = rw e refl
-
-all_stale : (s : KeyStack) (p q : yaml_mark_t) → AreStale s p → Upto p q → AreStale s q
-all_stale s p q a u d lt = stale_stays (key_at s d) p q (a d lt) u
-
--- the key of a depth outside is one of those, whatever the innermost one is
-outer_key : (s : KeyStack) (d : ℕ) (k : Key) → d < length s.outer → key_at s d ≡ get_or s.outer d k
-outer_key s d k lt = get_or_default s.outer d s.innermost k lt
-
--- keys whose depths outside are others' are stale as those are
-stale_same : (s t : KeyStack) (p : yaml_mark_t) → ((d : ℕ) → d < t.stale → key_at t d ≡ key_at s d) → t.stale ≤ s.stale → AreStale s p → AreStale t p
-stale_same s t p same le a d lt = ap (λ k. fresh_key k p) (same d lt) ∙ a d (omega (arith, lt, le))
-
--- a stale candidate stays stale
-stays_gone : (o : Option Candidate) (p q : yaml_mark_t) → fresh o p ≡ None → Upto p q → fresh o q ≡ None
-stays_gone o p q e u = elim (cases_Option (fresh o q)) [
-  | inl none ↦ none
-  | inr (c, some) ↦ let bad : None ≡ Some c = sym e ∙ fresh_before o p q c some u in cc
-]
-
--- the same key of the same candidate, at a later place
-later_key : (k j : Key) (o c : Option Candidate) (p q : yaml_mark_t) → IsKey k o p → Upto p q → j ≡ k → c ≡ o → IsKey j c q
-later_key k j o c p q (inl is) u key same = inl (ap key_view key ∙ is ∙ ap view_of (sym same))
-later_key k j o c p q (inr (none, gone)) u key same = inr (ap key_view key ∙ none, ap (λ x. fresh x q) same ∙ stays_gone o p q gone u)
-
--- a lexeme changes nothing of the depths outside its own
-outside_gone : (n g : ℕ) (s : KeyStack) (l : Lexeme) (h : List Lexeme) (p q : yaml_mark_t) → AreKeysTo n s h p → Upto p q → l.depth ≡ n → g ≤ s.gone → g ≤ n → (d : ℕ) → d < g → fresh (candidate d (l ∷ h)) q ≡ None
-outside_gone n g s l h p q a u at few low d lt = ap (λ o. fresh o q) (lower d l h (omega (arith, lt, at, low))) ∙ stays_gone (candidate d h) p q (a.gone d (omega (arith, lt, few))) u
-
-outside_key : (n : ℕ) (s : KeyStack) (l : Lexeme) (h : List Lexeme) (p q : yaml_mark_t) (k : Key) (d i : ℕ) → AreKeysTo n s h p → Upto p q → l.depth ≡ n → d < n → d ≡ s.gone + i → k ≡ key_at s i → IsKey k (candidate d (l ∷ h)) q
-outside_key n s l h p q k d i a u at lt is key =
-    later_key (key_at s i) k (candidate (s.gone + i) h) (candidate d (l ∷ h)) p q (a.agrees i (omega (arith, lt, is, a.long))) u key (lower d l h (omega (arith, lt, at)) ∙ ap (λ z. candidate z h) is)
-
-abbrev with_key : KeyStack → Key → KeyStack
-with_key s k = record { gone = s.gone; outer = s.outer; innermost = k; stale = s.stale }
-
--- another key at a lexeme's depth
-set_key : (n : ℕ) (s : KeyStack) (l : Lexeme) (h : List Lexeme) (k : Key) (p q : yaml_mark_t) → AreKeysTo n s h p → Upto p q → l.depth ≡ n → key_view k ≡ view_of (candidate n (l ∷ h))
-    → AreKeysTo n (with_key s k) (l ∷ h) q
-set_key n s l h k p q a u at top = record {
-  long = a.long;
-  inside = a.inside;
-  gone = outside_gone n s.gone s l h p q a u at (omega arith) (omega (arith, a.long));
-  agrees = λ i b. elim (cases_lt i (length s.outer)) [
-    | inl low ↦ outside_key n s l h p q (key_at (with_key s k) i) (s.gone + i) i a u at (omega (arith, low, a.long)) refl (sym (outer_key s i k low))
-    | inr high ↦ let same : n ≡ s.gone + i = omega (arith, high, b, a.long) in
-        inl (ap key_view (get_or_past s.outer i k high) ∙ top ∙ ap (λ z. view_of (candidate z (l ∷ h))) same)
-  ];
-  stale = stale_same s (with_key s k) q (λ i lt. sym (outer_key s i k (omega (arith, lt, a.inside)))) (omega arith) (all_stale s p q a.stale u);
-}
-
--- a lexeme that leaves its depth's candidate
-keep_key : (n : ℕ) (s : KeyStack) (l : Lexeme) (h : List Lexeme) (p q : yaml_mark_t) → AreKeysTo n s h p → Upto p q → l.depth ≡ n → l.saved ≡ false → cancels l.kind ≡ false → AreKeysTo n s (l ∷ h) q
-keep_key n s l h p q a u at saved idle = record {
-  long = a.long;
-  inside = a.inside;
-  gone = outside_gone n s.gone s l h p q a u at (omega arith) (omega (arith, a.long));
-  agrees = λ i b. elim (cases_lt i (length s.outer)) [
-    | inl low ↦ outside_key n s l h p q (key_at s i) (s.gone + i) i a u at (omega (arith, low, a.long)) refl refl
-    | inr high ↦ let same : l.depth ≡ s.gone + i = omega (arith, high, b, at, a.long) in
-        later_key (key_at s i) (key_at s i) (candidate (s.gone + i) h) (candidate (s.gone + i) (l ∷ h)) p q (a.agrees i b) u refl (subst (λ z. candidate z (l ∷ h) ≡ candidate z h) same (top_same l h saved idle))
-  ];
-  stale = all_stale s p q a.stale u;
-}
-
--- the depth inside an opener has no candidate
-push_key : (n : ℕ) (s : KeyStack) (l : Lexeme) (h : List Lexeme) (k : Key) (q : yaml_mark_t) → AreKeysTo n s (l ∷ h) q → l.depth ≡ n → k.possible ≡ false
-    → AreKeysTo (n + 1) (record { gone = s.gone; outer = s.outer ++ s.innermost ∷ []; innermost = k; stale = s.stale }) (l ∷ h) q
-push_key n s l h k q a at none =
-    let t : KeyStack = record { gone = s.gone; outer = s.outer ++ s.innermost ∷ []; innermost = k; stale = s.stale } in
-    let more : length t.outer ≡ length s.outer + 1 = length-append s.outer (s.innermost ∷ []) in
-    let old : (i : ℕ) → i < length s.outer + 1 → key_at t i ≡ key_at s i = λ i lt. elim (cases_lt i (length s.outer)) [
-      | inl low ↦ get_or_append_left s.outer (s.innermost ∷ []) k i low ∙ sym (outer_key s i k low)
-      | inr high ↦ get_or_at s.outer s.innermost [] k i (omega (arith, lt, high)) ∙ sym (get_or_past s.outer i s.innermost high)
-    ] in record {
-      long = omega (arith, more, a.long);
-      inside = omega (arith, more, a.inside);
-      gone = a.gone;
-      agrees = λ i b. elim (cases_lt i (length s.outer + 1)) [
-        | inl low ↦ subst (λ (z : Key). IsKey z (candidate (s.gone + i) (l ∷ h)) q) (sym (old i low)) (a.agrees i (omega (arith, low)))
-        | inr high ↦ inl (ap key_view (get_or_past t.outer i k (omega (arith, more, high))) ∙ no_view k none ∙ ap view_of (sym (inner (s.gone + i) l h (omega (arith, high, at, a.long)))))
-      ];
-      stale = stale_same s t q (λ i lt. old i (omega (arith, lt, a.inside))) (omega arith) a.stale;
-    }
-
--- what is inside a closer is gone
-pop_key : (n : ℕ) (s t : KeyStack) (l : Lexeme) (h : List Lexeme) (p q : yaml_mark_t) → AreKeysTo n s h p → Upto p q → l.depth ≡ n → s.outer ≡ t.outer ++ t.innermost ∷ [] → t.gone ≡ s.gone → t.stale ≤ s.stale → t.stale ≤ length t.outer
-    → AreKeysTo (n - 1) t (l ∷ h) q
-pop_key n s t l h p q a u at is same low inside =
-    let more : length s.outer ≡ length t.outer + 1 = ap (λ (ks : List Key). length ks) is ∙ length-append t.outer (t.innermost ∷ []) in
-    let old : (i : ℕ) → i < length s.outer → key_at t i ≡ key_at s i = λ i lt. elim (cases_lt i (length t.outer)) [
-      | inl less ↦ sym (ap (λ ks. get_or ks i s.innermost) is ∙ get_or_append_left t.outer (t.innermost ∷ []) s.innermost i less ∙ get_or_default t.outer i s.innermost t.innermost less)
-      | inr past ↦ get_or_past t.outer i t.innermost past ∙ sym (ap (λ ks. get_or ks i s.innermost) is ∙ get_or_at t.outer t.innermost [] s.innermost i (omega (arith, lt, past, more)))
-    ] in record {
-      long = omega (arith, more, a.long, same);
-      inside = inside;
-      gone = outside_gone n t.gone s l h p q a u at (omega (arith, same)) (omega (arith, same, a.long));
-      agrees = λ i b. let lt : i < length s.outer = omega (arith, b, more) in
-          outside_key n s l h p q (key_at t i) (t.gone + i) i a u at (omega (arith, lt, a.long, same)) (ap (λ g. g + i) same) (old i lt);
-      stale = stale_same s t q (λ i lt. old i (omega (arith, lt, inside, more))) low (all_stale s p q a.stale u);
-    }
-
--- the depth outside that one is forgotten
-pop_gone : (n : ℕ) (s t : KeyStack) (l : Lexeme) (h : List Lexeme) (p q : yaml_mark_t) → AreKeysTo n s h p → Upto p q → l.depth ≡ n → length s.outer ≡ 0 → length t.outer ≡ 0 → s.gone ≡ t.gone + 1 → t.stale ≡ s.stale → t.innermost.possible ≡ false
-    → AreKeysTo (n - 1) t (l ∷ h) q
-pop_gone n s t l h p q a u at empty none one stale off = record {
-  long = omega (arith, a.long, empty, none, one);
-  inside = omega (arith, a.inside, stale, empty);
-  gone = outside_gone n t.gone s l h p q a u at (omega (arith, one)) (omega (arith, one, a.long));
-  agrees = λ i b. inr (
-    ap key_view (get_or_past t.outer i t.innermost (omega (arith, none))) ∙ no_view t.innermost off,
-    outside_gone n s.gone s l h p q a u at (omega arith) (omega (arith, a.long)) (t.gone + i) (omega (arith, b, none, one)),
-  );
-  stale = λ i lt. absurd (omega (arith, lt, stale, a.inside, empty));
-}
+use Rattle.yaml_scan_machine.proofs.CandidatesLemmas.{inner, top_saved, top_cancelled, if_none, no_view, stays_gone, with_key, set_key, keep_key, push_key, pop_key, pop_gone}
 
 -- ---- the steps of code
 
@@ -192,32 +32,49 @@ no_keys : (ks : List Key) → length ks ≡ 0 → ks ≡ []
 no_keys [] e = refl
 no_keys (k ∷ ks) e = absurd (omega (arith, e))
 
-pub saved_turns : (l : Lexeme) (number : ℕ) (s t : KeyStack) (k : Key) → l.saved ≡ true → k ≡ record { number = number; start = l.start; possible = true; required = l.required } → t ≡ with_key s k → Turns l number (λ n. n) s t
+pub saved_turns : (l : Lexeme) (number : ℕ) (s t : KeyStack) (k : Key) → l.saved ≡ true
+    → k ≡ record { number = number; start = l.start; possible = true; required = l.required }
+    → t ≡ with_key s k → Turns l number (λ n. n) s t
 saved_turns l number s t k saved key is n h p a u at count =
     let here : candidate n (l ∷ h) ≡ Some (record { number = number; lexeme = l }) = ap (λ d. candidate d (l ∷ h)) (sym at) ∙ top_saved l h saved ∙ ap (λ c. Some (record { number = c; lexeme = l })) (sym count) in
     subst (λ z. AreKeysTo n z (l ∷ h) l.reached) (sym is) (set_key n s l h k p l.reached a u at (ap key_view key ∙ ap view_of (sym here)))
 
-pub kept_turns : (l : Lexeme) (number : ℕ) (s : KeyStack) → l.saved ≡ false → cancels l.kind ≡ false → Turns l number (λ n. n) s s
+pub kept_turns : (l : Lexeme) (number : ℕ) (s : KeyStack) → l.saved ≡ false → cancels l.kind ≡ false
+    → Turns l number (λ n. n) s s
 kept_turns l number s saved idle n h p a u at count = keep_key n s l h p l.reached a u at saved idle
 
-pub cancelled_turns : (l : Lexeme) (number : ℕ) (s t : KeyStack) (k : Key) → l.saved ≡ false → cancels l.kind ≡ true → k.possible ≡ false → t ≡ with_key s k → Turns l number (λ n. n) s t
+pub cancelled_turns : (l : Lexeme) (number : ℕ) (s t : KeyStack) (k : Key) → l.saved ≡ false
+    → cancels l.kind ≡ true → k.possible ≡ false → t ≡ with_key s k → Turns l number (λ n. n) s t
 cancelled_turns l number s t k saved stops none is n h p a u at count =
     let here : candidate n (l ∷ h) ≡ None = ap (λ d. candidate d (l ∷ h)) (sym at) ∙ top_cancelled l h saved stops in
     subst (λ z. AreKeysTo n z (l ∷ h) l.reached) (sym is) (set_key n s l h k p l.reached a u at (no_view k none ∙ ap view_of (sym here)))
 
 -- keys of which some are forgotten first
-pub forgotten_turns : (l : Lexeme) (number : ℕ) (deeper : ℕ → ℕ) (s m t : KeyStack) → Forgets s m → Turns l number deeper m t → Turns l number deeper s t
+pub forgotten_turns : (l : Lexeme) (number : ℕ) (deeper : ℕ → ℕ) (s m t : KeyStack) → Forgets s m
+    → Turns l number deeper m t → Turns l number deeper s t
 forgotten_turns l number deeper s m t keeps turns n h p a u at count = turns n h p (keeps n h p a) u at count
 
-pub opened_turns : (l : Lexeme) (number : ℕ) (s m t : KeyStack) (k : Key) → Turns l number (λ n. n) s m → k.possible ≡ false → t ≡ record { gone = m.gone; outer = m.outer ++ m.innermost ∷ []; innermost = k; stale = m.stale } → Turns l number (λ n. n + 1) s t
+pub opened_turns : (l : Lexeme) (number : ℕ) (s m t : KeyStack) (k : Key)
+    → Turns l number (λ n. n) s m → k.possible ≡ false
+    → t ≡ record {
+      gone = m.gone;
+      outer = m.outer ++ m.innermost
+          ∷ [];
+      innermost = k;
+      stale = m.stale;
+    } → Turns l number (λ n. n + 1) s t
 opened_turns l number s m t k turns none is n h p a u at count =
     subst (λ z. AreKeysTo (n + 1) z (l ∷ h) l.reached) (sym is) (push_key n m l h k l.reached (turns n h p a u at count) at none)
 
-pub popped_turns : (l : Lexeme) (number : ℕ) (s t : KeyStack) → s.outer ≡ t.outer ++ t.innermost ∷ [] → t.gone ≡ s.gone → t.stale ≤ s.stale → t.stale ≤ length t.outer → Turns l number (λ n. n - 1) s t
+pub popped_turns : (l : Lexeme) (number : ℕ) (s t : KeyStack)
+    → s.outer ≡ t.outer ++ t.innermost ∷ [] → t.gone ≡ s.gone → t.stale ≤ s.stale
+    → t.stale ≤ length t.outer → Turns l number (λ n. n - 1) s t
 popped_turns l number s t is same low inside n h p a u at count = pop_key n s t l h p l.reached a u at is same low inside
 
 -- Where no depth outside is kept, a closer leaves one that is forgotten, or closes none.
-pub bare_turns : (l : Lexeme) (number : ℕ) (s t : KeyStack) → l.saved ≡ false → cancels l.kind ≡ true → length s.outer ≡ 0 → length t.outer ≡ 0 → t.gone ≡ s.gone - 1 → t.stale ≡ s.stale → t.innermost.possible ≡ false → Turns l number (λ n. n - 1) s t
+pub bare_turns : (l : Lexeme) (number : ℕ) (s t : KeyStack) → l.saved ≡ false
+    → cancels l.kind ≡ true → length s.outer ≡ 0 → length t.outer ≡ 0 → t.gone ≡ s.gone - 1
+    → t.stale ≡ s.stale → t.innermost.possible ≡ false → Turns l number (λ n. n - 1) s t
 bare_turns l number s t saved stops none empty less stale off n h p a u at count =
     elim (cases_lt 0 s.gone) [
       | inl some ↦ pop_gone n s t l h p l.reached a u at none empty (omega (arith, less, some)) stale off
@@ -229,7 +86,8 @@ bare_turns l number s t saved stops none empty less stale off n h p a u at count
     ]
 
 -- a lexeme that cancels isn't saved
-pub no_saved : (l : Lexeme) → cancels l.kind ≡ true → (l.saved && cancels l.kind) ≡ false → l.saved ≡ false
+pub no_saved : (l : Lexeme) → cancels l.kind ≡ true → (l.saved && cancels l.kind) ≡ false
+    → l.saved ≡ false
 no_saved l stops both = elim (cases_Bool l.saved) [ inr off ↦ off | inl on ↦ let bad = rw (on, stops) at both in cc ]
 
 pub on_ok : {X E : Type 0} (r : Result X E) (A B : Type 0) → (A → B) → OnOk r A → OnOk r B
@@ -237,14 +95,16 @@ on_ok (Ok x) A B f a = f a
 on_ok (Err e) A B f a = tt
 
 -- a lexeme of a kind leaves the depths that its effect tells
-pub turns_put : (l : Lexeme) (number : ℕ) (deeper : ℕ → ℕ) (s t : KeyStack) → ((d : ℕ) → depth_after l.kind d ≡ deeper d) → Turns l number deeper s t → IsPut l number s t
+pub turns_put : (l : Lexeme) (number : ℕ) (deeper : ℕ → ℕ) (s t : KeyStack)
+    → ((d : ℕ) → depth_after l.kind d ≡ deeper d) → Turns l number deeper s t → IsPut l number s t
 turns_put l number deeper s t deep turns h p a u at count =
     subst (λ d. AreKeysTo d t (l ∷ h) l.reached) (sym (deep l.depth ∙ ap deeper at)) (turns (depth h) h p a u at count)
 
 -- ---- what the keys answer
 
 -- a key that is a candidate is fresh where that is
-same_fresh : (k : Key) (o : Option Candidate) (p : yaml_mark_t) → key_view k ≡ view_of o → fresh_key k p ≡ view_of (fresh o p)
+same_fresh : (k : Key) (o : Option Candidate) (p : yaml_mark_t) → key_view k ≡ view_of o
+    → fresh_key k p ≡ view_of (fresh o p)
 same_fresh k None p e = let off = if_none k.possible _ e in rw off refl
 same_fresh k (Some c) p e =
     elim (cases_Bool k.possible) [
@@ -264,14 +124,17 @@ same_fresh k (Some c) p e =
     ]
 
 -- a key is fresh where its candidate is
-fresh_same : (k : Key) (o : Option Candidate) (p q : yaml_mark_t) → IsKey k o p → Upto p q → fresh_key k q ≡ view_of (fresh o q)
+fresh_same : (k : Key) (o : Option Candidate) (p q : yaml_mark_t) → IsKey k o p → Upto p q
+    → fresh_key k q ≡ view_of (fresh o q)
 fresh_same k o p q (inl is) u = same_fresh k o q is
 fresh_same k o p q (inr (none, gone)) u = let off = if_none k.possible _ none in rw off (ap view_of (sym (stays_gone o p q gone u)))
 
-here_same : (k : Key) (o : Option Candidate) (p : yaml_mark_t) → IsKey k o p → fresh_key k p ≡ view_of (fresh o p)
+here_same : (k : Key) (o : Option Candidate) (p : yaml_mark_t) → IsKey k o p
+    → fresh_key k p ≡ view_of (fresh o p)
 here_same k o p is = fresh_same k o p p is (omega arith, omega arith)
 
-viewed : (o : Option Candidate) (v : KeyView) → Some v ≡ view_of o → (c : Candidate) × (o ≡ Some c) × (c.number ≡ v.number)
+viewed : (o : Option Candidate) (v : KeyView) → Some v ≡ view_of o
+    → (c : Candidate) × (o ≡ Some c) × (c.number ≡ v.number)
 viewed None v e = cc
 viewed (Some c) v e = (c, refl, let is : v ≡ record { number = c.number; start = c.lexeme.start; required = c.lexeme.required } = cc in ap (λ (x : KeyView). x.number) (sym is))
 
@@ -284,7 +147,8 @@ required_same None = refl
 required_same (Some c) = refl
 
 -- a required candidate that isn't missed is fresh
-required_fresh : (o : Option Candidate) (p : yaml_mark_t) → missed o p ≡ None → required_in (fresh o p) ≡ required_in o
+required_fresh : (o : Option Candidate) (p : yaml_mark_t) → missed o p ≡ None
+    → required_in (fresh o p) ≡ required_in o
 required_fresh None p e = refl
 required_fresh (Some c) p e =
     elim (cases_Bool (is_fresh c.lexeme.start p)) [
@@ -295,7 +159,8 @@ required_fresh (Some c) p e =
       ]
     ]
 
-numbered : (o : Option KeyView) (n : ℕ) → Some n ≡ number_in o → (v : KeyView) × (o ≡ Some v) × (v.number ≡ n)
+numbered : (o : Option KeyView) (n : ℕ) → Some n ≡ number_in o
+    → (v : KeyView) × (o ≡ Some v) × (v.number ≡ n)
 numbered None n e = cc
 numbered (Some v) n e = (v, refl, let is : n ≡ v.number = cc in sym is)
 
@@ -304,17 +169,21 @@ not_numbered None e = refl
 not_numbered (Some v) e = cc
 
 -- the candidate whose number a key tells
-found_candidate : (k : Key) (o : Option Candidate) (p : yaml_mark_t) (n : ℕ) → fresh_key k p ≡ view_of (fresh o p) → Some n ≡ number_in (fresh_key k p) → (c : Candidate) × (fresh o p ≡ Some c) × (c.number ≡ n)
+found_candidate : (k : Key) (o : Option Candidate) (p : yaml_mark_t) (n : ℕ)
+    → fresh_key k p ≡ view_of (fresh o p) → Some n ≡ number_in (fresh_key k p)
+    → (c : Candidate) × (fresh o p ≡ Some c) × (c.number ≡ n)
 found_candidate k o p n agrees is =
     let (v, some, same) = numbered (fresh_key k p) n is in
     let (c, here, number) = viewed (fresh o p) v (sym some ∙ agrees) in
     (c, here, number ∙ same)
 
-no_candidate : (k : Key) (o : Option Candidate) (p : yaml_mark_t) → fresh_key k p ≡ view_of (fresh o p) → None ≡ number_in (fresh_key k p) → fresh o p ≡ None
+no_candidate : (k : Key) (o : Option Candidate) (p : yaml_mark_t)
+    → fresh_key k p ≡ view_of (fresh o p) → None ≡ number_in (fresh_key k p) → fresh o p ≡ None
 no_candidate k o p agrees is = view_none (fresh o p) (sym agrees ∙ not_numbered (fresh_key k p) is)
 
 -- a candidate of a depth further in is a later one
-deeper_later : (h : List Lexeme) (d e : ℕ) (c x : Candidate) → candidate d h ≡ Some c → candidate e h ≡ Some x → d < e → c.number < x.number
+deeper_later : (h : List Lexeme) (d e : ℕ) (c x : Candidate) → candidate d h ≡ Some c
+    → candidate e h ≡ Some x → d < e → c.number < x.number
 unfolding candidate
 deeper_later [] d e c x is ix deep = cc
 deeper_later (l ∷ h) d e c x is ix deep =
@@ -330,7 +199,10 @@ deeper_later (l ∷ h) d e c x is ix deep =
     ]
 
 -- the candidate of a depth outside a key's, where the keys in front of that one are stale
-gone_before : (n : ℕ) (s : KeyStack) (h : List Lexeme) (p : yaml_mark_t) (i e : ℕ) → AreKeysTo n s h p → i ≤ length s.outer + 1 → ((j : ℕ) → j < i → fresh_key (key_at s j) p ≡ None) → e < s.gone + i → fresh (candidate e h) p ≡ None
+gone_before : (n : ℕ) (s : KeyStack) (h : List Lexeme) (p : yaml_mark_t) (i e : ℕ)
+    → AreKeysTo n s h p → i ≤ length s.outer + 1
+    → ((j : ℕ) → j < i → fresh_key (key_at s j) p ≡ None) → e < s.gone + i
+    → fresh (candidate e h) p ≡ None
 gone_before n s h p i e a low none lt =
     elim (cases_lt e s.gone) [
       | inl first ↦ a.gone e first
@@ -342,7 +214,9 @@ gone_before n s h p i e a low none lt =
     ]
 
 -- the first key that isn't stale is the earliest open candidate
-first_at : (h : List Lexeme) (s : KeyStack) (i n : ℕ) → AreKeys s h (reached h) → i ≤ length s.outer → ((j : ℕ) → j < i → fresh_key (key_at s j) (reached h) ≡ None) → Some n ≡ number_in (fresh_key (key_at s i) (reached h)) → n ≡ first_open h h
+first_at : (h : List Lexeme) (s : KeyStack) (i n : ℕ) → AreKeys s h (reached h) → i ≤ length s.outer
+    → ((j : ℕ) → j < i → fresh_key (key_at s j) (reached h) ≡ None)
+    → Some n ≡ number_in (fresh_key (key_at s i) (reached h)) → n ≡ first_open h h
 first_at h s i n a low none is =
     let p = reached h in
     let d : ℕ = s.gone + i in
@@ -364,7 +238,9 @@ first_at h s i n a low none is =
     ]
 
 -- where all are stale no candidate is open
-none_at : (text : List ℕ) (n : ℕ) (s : KeyStack) → let h = history text n in AreKeys s h (reached h) → ((i : ℕ) → i < length s.outer + 1 → fresh_key (key_at s i) (reached h) ≡ None) → first_open h h ≡ length h
+none_at : (text : List ℕ) (n : ℕ) (s : KeyStack) → let h = history text n in AreKeys s h (reached h)
+    → ((i : ℕ) → i < length s.outer + 1 → fresh_key (key_at s i) (reached h) ≡ None)
+    → first_open h h ≡ length h
 none_at text n s a none =
     let h = history text n in
     let p = reached h in
@@ -381,10 +257,13 @@ none_at text n s a none =
     ]
 
 -- the earliest open candidate, by what the keys answer
-first_is : (h : List Lexeme) (s : KeyStack) (n : ℕ) → AreKeys s h (reached h) → Some n ≡ number_in (fresh_key (key_at s s.stale) (reached h)) → n ≡ first_open h h
+first_is : (h : List Lexeme) (s : KeyStack) (n : ℕ) → AreKeys s h (reached h)
+    → Some n ≡ number_in (fresh_key (key_at s s.stale) (reached h)) → n ≡ first_open h h
 first_is h s n a is = first_at h s s.stale n a a.inside a.stale is
 
-none_is : (text : List ℕ) (n : ℕ) (s : KeyStack) → let h = history text n in AreKeys s h (reached h) → None ≡ number_in (fresh_key (key_at s s.stale) (reached h)) → s.stale ≡ length s.outer → length h ≡ first_open h h
+none_is : (text : List ℕ) (n : ℕ) (s : KeyStack) → let h = history text n in AreKeys s h (reached h)
+    → None ≡ number_in (fresh_key (key_at s s.stale) (reached h)) → s.stale ≡ length s.outer
+    → length h ≡ first_open h h
 none_is text n s a is all =
     let h = history text n in
     sym (none_at text n s a (λ i low. elim (cases_lt i s.stale) [
@@ -395,12 +274,19 @@ none_is text n s a is all =
 -- ---- keys that are forgotten
 
 -- what is left of a list that was turned, where as many are taken off
-pub turned_left : (ks : List Key) (k n : ℕ) → n ≡ length ks - k → take n (drop k ks ++ take k ks) ≡ drop k ks
+pub turned_left : (ks : List Key) (k n : ℕ) → n ≡ length ks - k
+    → take n (drop k ks ++ take k ks) ≡ drop k ks
 turned_left ks k n is =
     let long : length (drop k ks) ≡ n = length-drop k ks ∙ sym is in
     take-append-le n (drop k ks) (take k ks) (omega (arith, long)) ∙ take_all n (drop k ks) (omega (arith, long))
 
-pub forgets_stale : (s t : KeyStack) → t ≡ record { gone = s.gone + s.stale; outer = drop s.stale s.outer; innermost = s.innermost; stale = 0 } → Forgets s t
+pub forgets_stale : (s t : KeyStack)
+    → t ≡ record {
+      gone = s.gone + s.stale;
+      outer = drop s.stale s.outer;
+      innermost = s.innermost;
+      stale = 0;
+    } → Forgets s t
 forgets_stale s t is n h p a =
     let z : KeyStack = record { gone = s.gone + s.stale; outer = drop s.stale s.outer; innermost = s.innermost; stale = 0 } in
     let left : length z.outer ≡ length s.outer - s.stale = length-drop s.stale s.outer in
@@ -416,7 +302,9 @@ forgets_stale s t is n h p a =
     }
 
 -- keys of which more are passed as stale
-passed_keys : (n : ℕ) (s t : KeyStack) (h : List Lexeme) (p : yaml_mark_t) → AreKeysTo n s h p → t ≡ record { gone = s.gone; outer = s.outer; innermost = s.innermost; stale = t.stale } → t.stale ≤ length t.outer → AreStale t p → AreKeysTo n t h p
+passed_keys : (n : ℕ) (s t : KeyStack) (h : List Lexeme) (p : yaml_mark_t) → AreKeysTo n s h p
+    → t ≡ record { gone = s.gone; outer = s.outer; innermost = s.innermost; stale = t.stale }
+    → t.stale ≤ length t.outer → AreStale t p → AreKeysTo n t h p
 passed_keys n s t h p a is inside stale =
     let outer : t.outer ≡ s.outer = ap (λ (x : KeyStack). x.outer) is in
     let gone : t.gone ≡ s.gone = ap (λ (x : KeyStack). x.gone) is in
@@ -431,14 +319,26 @@ passed_keys n s t h p a is inside stale =
     }
 
 -- the earliest open candidate, by what the keys answer
-pub some_settles : (h : List Lexeme) (s t : KeyStack) (p : yaml_mark_t) (n : ℕ) → AreKeys s h p → p ≡ reached h → t ≡ record { gone = s.gone; outer = s.outer; innermost = s.innermost; stale = t.stale } → t.stale ≤ length t.outer → (AreStale s p → AreStale t p)
+pub some_settles : (h : List Lexeme) (s t : KeyStack) (p : yaml_mark_t) (n : ℕ) → AreKeys s h p
+    → p ≡ reached h
+    → t ≡ record { gone = s.gone; outer = s.outer; innermost = s.innermost; stale = t.stale }
+    → t.stale ≤ length t.outer → (AreStale s p → AreStale t p)
     → Some n ≡ number_in (fresh_key (key_at t t.stale) p) → n ≡ first_open h h
 some_settles h s t p n a at is inside stale number =
     let keys = passed_keys (depth h) s t h p a is inside (stale a.stale) in
     first_is h t n (subst (λ q. AreKeys t h q) at keys) (number ∙ ap (λ q. number_in (fresh_key (key_at t t.stale) q)) at)
 
-pub none_settles : (m : Machine) (t : KeyStack) → let h = history_of m in AreKeys (stack_of m.keys) h m.place → m.place ≡ reached h → t ≡ record { gone = m.keys.gone; outer = m.keys.outer.items; innermost = m.keys.innermost; stale = t.stale } → t.stale ≤ length t.outer
-    → (AreStale (stack_of m.keys) m.place → AreStale t m.place) → None ≡ number_in (fresh_key (key_at t t.stale) m.place) → t.stale ≡ length t.outer → length h ≡ first_open h h
+pub none_settles : (m : Machine) (t : KeyStack) → let h = history_of m in
+    AreKeys (stack_of m.keys) h m.place → m.place ≡ reached h
+    → t ≡ record {
+      gone = m.keys.gone;
+      outer = m.keys.outer.items;
+      innermost = m.keys.innermost;
+      stale = t.stale;
+    } → t.stale ≤ length t.outer
+    → (AreStale (stack_of m.keys) m.place → AreStale t m.place)
+    → None ≡ number_in (fresh_key (key_at t t.stale) m.place) → t.stale ≡ length t.outer
+    → length h ≡ first_open h h
 unfolding read
 none_settles m t a at is inside stale none last =
     let h = history_of m in
@@ -446,7 +346,8 @@ none_settles m t a at is inside stale none last =
     none_is (text_bytes m.text) (m.dropped + length (fields_of m).waiting) t (subst (λ q. AreKeys t h q) at keys) (none ∙ ap (λ q. number_in (fresh_key (key_at t t.stale) q)) at) last
 
 -- before the first lexeme
-pub start_keys : (s : KeyStack) (p : yaml_mark_t) → s.gone ≡ 0 → s.outer ≡ [] → s.innermost.possible ≡ false → s.stale ≡ 0 → AreKeysTo 0 s [] p
+pub start_keys : (s : KeyStack) (p : yaml_mark_t) → s.gone ≡ 0 → s.outer ≡ []
+    → s.innermost.possible ≡ false → s.stale ≡ 0 → AreKeysTo 0 s [] p
 unfolding candidate
 start_keys s p first none no_key zero_stale =
     let long : length s.outer ≡ 0 = ap (λ (ks : List Key). length ks) none in
@@ -464,12 +365,14 @@ start_keys s p first none no_key zero_stale =
 pub open_depth : (m : Fields) → IsShown m → m.depth ≡ m.keys.gone + length m.keys.outer
 open_depth m s = s.depth ∙ sym s.keys.long
 
-required_key : (k : Key) (o : Option Candidate) (p : yaml_mark_t) → IsKey k o p → missed o p ≡ None → required_view (key_view k) ≡ required_in (fresh o p)
+required_key : (k : Key) (o : Option Candidate) (p : yaml_mark_t) → IsKey k o p → missed o p ≡ None
+    → required_view (key_view k) ≡ required_in (fresh o p)
 required_key k o p (inl is) met = ap required_view is ∙ required_same o ∙ sym (required_fresh o p met)
 required_key k o p (inr (none, gone)) met = ap required_view none ∙ ap required_in (sym gone)
 
 -- the required candidate that is open
-pub required_is : (m : Fields) (o : Option yaml_mark_t) → IsShown m → o ≡ required_at m.keys → let h = read m.text m.dropped m.waiting in o ≡ required_in (fresh (candidate 0 h) (reached h))
+pub required_is : (m : Fields) (o : Option yaml_mark_t) → IsShown m → o ≡ required_at m.keys
+    → let h = read m.text m.dropped m.waiting in o ≡ required_in (fresh (candidate 0 h) (reached h))
 unfolding read
 required_is m o s is =
     let n : ℕ = m.dropped + length m.waiting in
@@ -484,7 +387,8 @@ required_is m o s is =
           (rw some at is) ∙ ap required_in (sym (ap (λ p. fresh (candidate 0 h) p) (sym s.place) ∙ s.keys.gone 0 first))
     ]
 
-innermost_is : (m : Fields) → IsShown m → let h = read m.text m.dropped m.waiting in IsKey m.keys.innermost (candidate m.depth h) (reached h)
+innermost_is : (m : Fields) → IsShown m → let h = read m.text m.dropped m.waiting in
+    IsKey m.keys.innermost (candidate m.depth h) (reached h)
 innermost_is m s =
     let h = read m.text m.dropped m.waiting in
     let ks = m.keys in
@@ -493,12 +397,20 @@ innermost_is m s =
     subst (λ p. IsKey ks.innermost (candidate m.depth h) p) s.place (subst (λ (k : Key). IsKey k (candidate m.depth h) m.place) key last)
 
 -- the candidate of the open depth is none, or stale
-pub key_none : (m : Fields) (p : yaml_mark_t) → IsShown m → let h = read m.text m.dropped m.waiting in Upto (reached h) p → None ≡ number_in (fresh_key m.keys.innermost p) → fresh (candidate m.depth h) p ≡ None
+pub key_none : (m : Fields) (p : yaml_mark_t) → IsShown m
+    → let h = read m.text m.dropped m.waiting in Upto (reached h) p
+    → None ≡ number_in (fresh_key m.keys.innermost p) → fresh (candidate m.depth h) p ≡ None
 key_none m p s u is = let h = read m.text m.dropped m.waiting in no_candidate m.keys.innermost (candidate m.depth h) p (fresh_same m.keys.innermost (candidate m.depth h) (reached h) p (innermost_is m s) u) is
 
 -- where the candidate of the open depth waits
-pub key_waits : (m : Fields) (ws : List Waiting) (p : yaml_mark_t) (n : ℕ) → IsShown m → m.waiting ≡ map (λ (x : Waiting). kept_of x) ws → m.ended ≡ false → let h = read m.text m.dropped m.waiting in Upto (reached h) p → Some n ≡ number_in (fresh_key m.keys.innermost p)
-    → (m.dropped ≤ n) × (n - m.dropped < length ws) × ((c : Candidate) × (fresh (candidate m.depth h) p ≡ Some c) × (c.number ≡ m.dropped + (n - m.dropped)) × ((w : Waiting) → (get_or ws (n - m.dropped) w).start ≡ c.lexeme.start))
+pub key_waits : (m : Fields) (ws : List Waiting) (p : yaml_mark_t) (n : ℕ) → IsShown m
+    → m.waiting ≡ map (λ (x : Waiting). kept_of x) ws → m.ended ≡ false
+    → let h = read m.text m.dropped m.waiting in Upto (reached h) p
+    → Some n ≡ number_in (fresh_key m.keys.innermost p)
+    → (m.dropped ≤ n) × (n - m.dropped < length ws)
+    × ((c : Candidate) × (fresh (candidate m.depth h) p ≡ Some c)
+    × (c.number ≡ m.dropped + (n - m.dropped))
+    × ((w : Waiting) → (get_or ws (n - m.dropped) w).start ≡ c.lexeme.start))
 key_waits m ws p n s wait more u is =
     let h = read m.text m.dropped m.waiting in
     let (c, here, number) = found_candidate m.keys.innermost (candidate m.depth h) p n (fresh_same m.keys.innermost (candidate m.depth h) (reached h) p (innermost_is m s) u) is in
@@ -528,7 +440,9 @@ key_waits m ws p n s wait more u is =
     )
 
 -- the keys behind one more lexeme
-pub put_keys : (m : Fields) (l : Lexeme) (old new : KeyStack) (number : ℕ) → GoesForward m.text → IsShown m → let h = read m.text m.dropped m.waiting in next m.text h ≡ Read l → old ≡ m.keys → number ≡ m.dropped + length m.waiting
+pub put_keys : (m : Fields) (l : Lexeme) (old new : KeyStack) (number : ℕ) → GoesForward m.text
+    → IsShown m → let h = read m.text m.dropped m.waiting in next m.text h ≡ Read l → old ≡ m.keys
+    → number ≡ m.dropped + length m.waiting
     → IsPut l number old new → AreKeys new (l ∷ h) l.reached
 put_keys m l old new number go s e was count put =
     let h = read m.text m.dropped m.waiting in

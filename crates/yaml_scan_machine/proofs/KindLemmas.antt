@@ -38,13 +38,20 @@ use Rattle.yaml_scan_history.specs.Laws.{Upto}
 use Rattle.yaml_scan_machine.proofs.NextLemmas.{tested_same, lost_same, late_same, next_at, next_first, upto_gap}
 
 -- the lexeme of a kind that may stand there, by the fields of a machine
-pub kind_by : (text : List ℕ) (gap : Gap) (h : List Lexeme) (k : Kind) (m : yaml_mark_t) (a : Bool) (d : ℕ) (ls : List ℕ) → mark_at text gap.place ≡ m → allowed_behind h gap ≡ a → depth h ≡ d → levels h ≡ ls
-    → misplaced k m a h ≡ false → of_kind (Some k) text gap h ≡ unless_lost (lost_by (begun_in k (placed k m) a d ls) (fresh (candidate (depth h) h) m)) text gap.place (begun_in k (placed k m) a d ls) h
+pub kind_by : (text : List ℕ) (gap : Gap) (h : List Lexeme) (k : Kind) (m : yaml_mark_t) (a : Bool)
+    (d : ℕ) (ls : List ℕ) → mark_at text gap.place ≡ m → allowed_behind h gap ≡ a → depth h ≡ d
+    → levels h ≡ ls
+    → misplaced k m a h ≡ false
+    → of_kind (Some k) text gap h ≡ unless_lost
+    (lost_by (begun_in k (placed k m) a d ls) (fresh (candidate (depth h) h) m)) text gap.place
+    (begun_in k (placed k m) a d ls) h
 kind_by text gap h k m a d ls at allow deep lev good =
     let here : misplaced k (mark_at text gap.place) (allowed_behind h gap) h ≡ false = rw (at, allow) good in
     rw (← at, ← allow, ← deep, ← lev, here) refl
 
-pub kind_misplaced : (text : List ℕ) (gap : Gap) (h : List Lexeme) (k : Kind) (m : yaml_mark_t) (a : Bool) → mark_at text gap.place ≡ m → allowed_behind h gap ≡ a → misplaced k m a h ≡ true → of_kind (Some k) text gap h ≡ not_allowed k m
+pub kind_misplaced : (text : List ℕ) (gap : Gap) (h : List Lexeme) (k : Kind) (m : yaml_mark_t)
+    (a : Bool) → mark_at text gap.place ≡ m → allowed_behind h gap ≡ a → misplaced k m a h ≡ true
+    → of_kind (Some k) text gap h ≡ not_allowed k m
 kind_misplaced text gap h k m a at allow bad =
     let here : misplaced k (mark_at text gap.place) (allowed_behind h gap) h ≡ true = rw (at, allow) bad in
     rw (here, at) refl
@@ -54,7 +61,8 @@ first_of [] i lt = absurd (omega arith)
 first_of (w ∷ ws) i lt = w
 
 -- there is a key where one is found
-pub picks_has : (m : Machine) (k : Kind) (o : Option Candidate) (key : Option ℕ) → Picks m (keyed_by k o) key → (is_value k && has o) ≡ is_some key
+pub picks_has : (m : Machine) (k : Kind) (o : Option Candidate) (key : Option ℕ)
+    → Picks m (keyed_by k o) key → (is_value k && has o) ≡ is_some key
 picks_has m k o None none = elim (cases_Bool (is_value k)) [
   | inr other ↦ rw other refl
   | inl value ↦ let is : o ≡ None = rw value at none in rw (value, is) refl
@@ -65,38 +73,47 @@ picks_has m k o (Some i) (inside, (it, c, at)) =
       | inl value ↦ let is = rw value at c in rw (value, is) refl
     ]
 
-misplaced_by : (k : Kind) (m : yaml_mark_t) (a : Bool) (h : List Lexeme) (d : ℕ) (b : Bool) → depth h ≡ d → (is_value k && has (fresh (candidate (depth h) h) m)) ≡ b
+misplaced_by : (k : Kind) (m : yaml_mark_t) (a : Bool) (h : List Lexeme) (d : ℕ) (b : Bool)
+    → depth h ≡ d → (is_value k && has (fresh (candidate (depth h) h) m)) ≡ b
     → misplaced k m a h ≡ ((not (ltb 0 d) && not a) && (is_start k && not b))
 misplaced_by k m a h d b deep found = rw (found, deep) refl
 
 -- the test of the code is that of the definition
-pub misplaced_is : (mc : Machine) (k : Kind) (m : yaml_mark_t) (a : Bool) (h : List Lexeme) (d : ℕ) (key : Option ℕ) → depth h ≡ d → Picks mc (keyed_by k (fresh (candidate d h) m)) key
+pub misplaced_is : (mc : Machine) (k : Kind) (m : yaml_mark_t) (a : Bool) (h : List Lexeme) (d : ℕ)
+    (key : Option ℕ) → depth h ≡ d → Picks mc (keyed_by k (fresh (candidate d h) m)) key
     → misplaced k m a h ≡ ((not (ltb 0 d) && not a) && (is_start k && not (is_some key)))
 misplaced_is mc k m a h d key deep picks = misplaced_by k m a h d (is_some key) deep (ap (λ x. is_value k && has (fresh (candidate x h) m)) deep ∙ picks_has mc k (fresh (candidate d h) m) key picks)
 
 -- no word stands wrong at the end
-right_end : (k : Kind) (flow : Bool) (level : ℕ) (text : List ℕ) (p : ℕ) (w : Wrong) → word_at k flow level text p ≡ Err w → is_end k ≡ false
+right_end : (k : Kind) (flow : Bool) (level : ℕ) (text : List ℕ) (p : ℕ) (w : Wrong)
+    → word_at k flow level text p ≡ Err w → is_end k ≡ false
 unfolding word_at
 right_end kinds.StreamEnd flow level text p w e = cc
 right_end _ flow level text p w e = refl
 
-cases_Next : (x : Next) → ((l : Lexeme) × (x ≡ Read l)) ⊎ (((p : ScanFault) × (x ≡ Fails p)) ⊎ (x ≡ Ends))
+cases_Next : (x : Next)
+    → ((l : Lexeme) × (x ≡ Read l)) ⊎ (((p : ScanFault) × (x ≡ Fails p)) ⊎ (x ≡ Ends))
 cases_Next (Read l) = inl (l, refl)
 cases_Next (Fails p) = inr (inl (p, refl))
 cases_Next Ends = inr (inr refl)
 
-tested_of : (o : Option yaml_mark_t) (l : Lexeme) → (elim o as (λ _. Next) [ Some start ↦ no_colon start l.reached | None ↦ Read l ]) ≡ Ends → ⊥
+tested_of : (o : Option yaml_mark_t) (l : Lexeme)
+    → (elim o as (λ _. Next) [ Some start ↦ no_colon start l.reached | None ↦ Read l ]) ≡ Ends → ⊥
 tested_of (Some s) l e = cc
 tested_of None l e = cc
 
 tested_some : (l : Lexeme) (h : List Lexeme) → tested l h ≡ Ends → ⊥
 tested_some l h e = tested_of (missed (candidate 0 (l ∷ h)) l.reached) l e
 
-must_end : (text : List ℕ) (l : Lexeme) (w : WordText) → (l.required ≡ true → l.saved ≡ true) → (finished text l w).required ≡ true → (finished text l w).saved ≡ true
+must_end : (text : List ℕ) (l : Lexeme) (w : WordText) → (l.required ≡ true → l.saved ≡ true)
+    → (finished text l w).required ≡ true → (finished text l w).saved ≡ true
 must_end text l w must e = finished_saved text l w ∙ must (sym (finished_required text l w) ∙ e)
 
-pub wrong_gives : (s : SpelledText) (text : List ℕ) (at : ℕ) (place : Place) (e : ScanError) (x : Result WordText Wrong) (l : Lexeme) (h : List Lexeme) → x ≡ word_at l.kind (ltb 0 l.depth) l.level text at
-    → (is_end l.kind ≡ false → l.start ≡ mark_at text at) → ReadsWord text at place (Err e) x → GivesLexeme s (Err e) (unless_wrong x text l h)
+pub wrong_gives : (s : SpelledText) (text : List ℕ) (at : ℕ) (place : Place) (e : ScanError)
+    (x : Result WordText Wrong) (l : Lexeme) (h : List Lexeme)
+    → x ≡ word_at l.kind (ltb 0 l.depth) l.level text at
+    → (is_end l.kind ≡ false → l.start ≡ mark_at text at) → ReadsWord text at place (Err e) x
+    → GivesLexeme s (Err e) (unless_wrong x text l h)
 wrong_gives s text at place errors.Memory (Ok w) l h is start r = elim (cases_Next (tested (finished text l w) h)) [
   | inl (y, a) ↦ rw a tt
   | inr (inl (p, b)) ↦ rw b tt
@@ -109,36 +126,50 @@ wrong_gives s text at place (errors.Fault f) (Err w) l h is start r =
     rw here r
 
 -- a lexeme with its end, by its word
-ended_is : (text : List ℕ) (l : Lexeme) (word : Word) (w : WordText) (r : yaml_mark_t) → IsWord text word w → r ≡ mark_at text w.reached → ended_by l word r ≡ finished text l w
+ended_is : (text : List ℕ) (l : Lexeme) (word : Word) (w : WordText) (r : yaml_mark_t)
+    → IsWord text word w → r ≡ mark_at text w.reached → ended_by l word r ≡ finished text l w
 ended_is text l word w r is at = rw (is.end, is.broke, at) refl
 
-body_other : (k : Kind) (s : SpelledText) (l : Lexeme) → (k ≡ kinds.StreamStart → ⊥) → body_by k s l ≡ body_of_word (word_at k (ltb 0 l.depth) l.level s.text l.start.index)
+body_other : (k : Kind) (s : SpelledText) (l : Lexeme) → (k ≡ kinds.StreamStart → ⊥)
+    → body_by k s l ≡ body_of_word (word_at k (ltb 0 l.depth) l.level s.text l.start.index)
 body_other kinds.StreamStart s l other = absurd (other refl)
 body_other _ s l other = refl
 
-body_is : (s : SpelledText) (l x : Lexeme) (w : WordText) → (l.kind ≡ kinds.StreamStart → ⊥) → x.kind ≡ l.kind → x.depth ≡ l.depth → x.level ≡ l.level → x.start ≡ l.start
+body_is : (s : SpelledText) (l x : Lexeme) (w : WordText) → (l.kind ≡ kinds.StreamStart → ⊥)
+    → x.kind ≡ l.kind → x.depth ≡ l.depth → x.level ≡ l.level → x.start ≡ l.start
     → word_at l.kind (ltb 0 l.depth) l.level s.text l.start.index ≡ Ok w → body_in s x ≡ w.body
 body_is s l x w other kind deep level start reads =
     body_other x.kind s x (λ e. other (sym kind ∙ e)) ∙ rw (kind, deep, level, start, reads) refl
 
-tested_none : (o : Option yaml_mark_t) (l : Lexeme) → o ≡ None → (elim o as (λ _. Next) [ Some start ↦ no_colon start l.reached | None ↦ Read l ]) ≡ Read l
+tested_none : (o : Option yaml_mark_t) (l : Lexeme) → o ≡ None
+    → (elim o as (λ _. Next) [ Some start ↦ no_colon start l.reached | None ↦ Read l ]) ≡ Read l
 tested_none None l e = refl
 tested_none (Some s) l e = cc
 
-tested_late : (o : Option yaml_mark_t) (l : Lexeme) (s : yaml_mark_t) → o ≡ Some s → (elim o as (λ _. Next) [ Some start ↦ no_colon start l.reached | None ↦ Read l ]) ≡ no_colon s l.reached
+tested_late : (o : Option yaml_mark_t) (l : Lexeme) (s : yaml_mark_t) → o ≡ Some s
+    → (elim o as (λ _. Next) [ Some start ↦ no_colon start l.reached | None ↦ Read l ])
+    ≡ no_colon s l.reached
 tested_late None l s e = cc
 tested_late (Some x) l s e = let same : x ≡ s = cc in rw same refl
 
-gives_ok : (s : SpelledText) (r : Lexeme × yaml_token_body_t) (x : Next) (l : Lexeme) → x ≡ Read l → r.0 ≡ l → body_of r.1 ≡ body_in s l → GivesLexeme s (Ok r) x
+gives_ok : (s : SpelledText) (r : Lexeme × yaml_token_body_t) (x : Next) (l : Lexeme) → x ≡ Read l
+    → r.0 ≡ l → body_of r.1 ≡ body_in s l → GivesLexeme s (Ok r) x
 gives_ok s r x l e a b = rw e (a, b)
 
-gives_err : (s : SpelledText) (e : ScanError) (x : Next) (start place : yaml_mark_t) → x ≡ no_colon start place → e ≡ errors.Fault (colon_fault start place) → GivesLexeme s (Err e) x
+gives_err : (s : SpelledText) (e : ScanError) (x : Next) (start place : yaml_mark_t)
+    → x ≡ no_colon start place → e ≡ errors.Fault (colon_fault start place)
+    → GivesLexeme s (Err e) x
 gives_err s e x start place is same = rw (is, same) refl
 
 -- a lexeme whose word is read
-pub word_gives : (s : SpelledText) (n : ℕ) (place : Place) (word : Word) (x : Result WordText Wrong) (l : Lexeme) (reach : yaml_mark_t) (required : Option yaml_mark_t) (result : Result (Lexeme × yaml_token_body_t) ScanError)
-    → let h = history s.text n in x ≡ word_at l.kind (ltb 0 l.depth) l.level s.text l.start.index → (l.kind ≡ kinds.StreamStart → ⊥) → (l.required ≡ true → l.saved ≡ true)
-    → required ≡ required_in (fresh (candidate 0 h) (reached h)) → ReadsWord s.text l.start.index place (Ok word) x → reach ≡ mark_at place.text place.at → Finishes l word reach required result
+pub word_gives : (s : SpelledText) (n : ℕ) (place : Place) (word : Word) (x : Result WordText Wrong)
+    (l : Lexeme) (reach : yaml_mark_t) (required : Option yaml_mark_t)
+    (result : Result (Lexeme × yaml_token_body_t) ScanError)
+    → let h = history s.text n in x ≡ word_at l.kind (ltb 0 l.depth) l.level s.text l.start.index
+    → (l.kind ≡ kinds.StreamStart → ⊥) → (l.required ≡ true → l.saved ≡ true)
+    → required ≡ required_in (fresh (candidate 0 h) (reached h))
+    → ReadsWord s.text l.start.index place (Ok word) x → reach ≡ mark_at place.text place.at
+    → Finishes l word reach required result
     → GivesLexeme s result (unless_wrong x s.text l h)
 word_gives s n place word (Err w) l reach required result is other must req r at f = absurd r
 word_gives s n place word (Ok w) l reach required (Ok res) is other must req (wd, there) at (a, b, none) =
@@ -159,7 +190,8 @@ word_gives s n place word (Ok w) l reach required (Err e) is other must req (wd,
     let over : missed (candidate 0 (x ∷ h)) x.reached ≡ Some start = sym (tested_same s.text n x x.reached (must_end s.text l w must)) ∙ late_at in
     gives_err s e (tested x h) start x.reached (tested_late (missed (candidate 0 (x ∷ h)) x.reached) x start over) (err ∙ ap (λ (y : Lexeme). errors.Fault (colon_fault start y.reached)) same)
 
-ends_at : (text : List ℕ) (l : Lexeme) (word : Word) (reach : yaml_mark_t) → IsPlace text reach → EndsAt text l (ended_by l word reach)
+ends_at : (text : List ℕ) (l : Lexeme) (word : Word) (reach : yaml_mark_t) → IsPlace text reach
+    → EndsAt text l (ended_by l word reach)
 ends_at text l word reach place = record {
   kind = elim (is_end l.kind) as (λ b. (cond b l record l { end = word.end; reached = reach; broke = word.broke }).kind ≡ l.kind) [ true ↦ refl | false ↦ refl ];
   start = elim (is_end l.kind) as (λ b. (cond b l record l { end = word.end; reached = reach; broke = word.broke }).start ≡ l.start) [ true ↦ refl | false ↦ refl ];
@@ -168,16 +200,20 @@ ends_at text l word reach place = record {
   place = λ e. rw e place;
 }
 
-pub finished_safe : (text : List ℕ) (l : Lexeme) (word : Word) (reach : yaml_mark_t) (required : Option yaml_mark_t) (result : Result (Lexeme × yaml_token_body_t) ScanError) → IsPlace text reach → Finishes l word reach required result
+pub finished_safe : (text : List ℕ) (l : Lexeme) (word : Word) (reach : yaml_mark_t)
+    (required : Option yaml_mark_t) (result : Result (Lexeme × yaml_token_body_t) ScanError)
+    → IsPlace text reach → Finishes l word reach required result
     → IfOk result (λ r. EndsAt text l r.0)
 finished_safe text l word reach required (Ok r) place (a, b, none) = subst (λ (x : Lexeme). EndsAt text l x) (sym a) (ends_at text l word reach place)
 finished_safe text l word reach required (Err e) place f = tt
 
-pub read_text : (text : List ℕ) (at : ℕ) (place : Place) (word : Word) (x : Result WordText Wrong) → ReadsWord text at place (Ok word) x → place.text ≡ text
+pub read_text : (text : List ℕ) (at : ℕ) (place : Place) (word : Word) (x : Result WordText Wrong)
+    → ReadsWord text at place (Ok word) x → place.text ≡ text
 read_text text at place word (Ok w) (wd, there) = ap (λ (p : Place). p.text) there
 read_text text at place word (Err w) r = absurd r
 
-pub stop_place : (text t : List ℕ) (a : ℕ) (r : yaml_mark_t) → t ≡ text → r ≡ mark_at t a → a ≤ length t → splits_break t a ≡ false → IsPlace text r
+pub stop_place : (text t : List ℕ) (a : ℕ) (r : yaml_mark_t) → t ≡ text → r ≡ mark_at t a
+    → a ≤ length t → splits_break t a ≡ false → IsPlace text r
 stop_place text t a r same is inside whole =
     subst (λ (x : List ℕ). IsPlace x r) same (subst (λ (m : yaml_mark_t). IsPlace t m) (sym is) record { inside = inside; mark = refl; whole = whole })
 
@@ -187,12 +223,15 @@ placed_index k m = elim (is_end k && ltb 0 m.column) as (λ b. (cond b record { 
 pub placed_start : (k : Kind) (m : yaml_mark_t) → is_end k ≡ false → placed k m ≡ m
 placed_start k m e = rw e refl
 
-keyed_same : (k : Kind) (o : Option Candidate) (m : yaml_mark_t) → keyed_by k (fresh o (placed k m)) ≡ keyed_by k (fresh o m)
+keyed_same : (k : Kind) (o : Option Candidate) (m : yaml_mark_t)
+    → keyed_by k (fresh o (placed k m)) ≡ keyed_by k (fresh o m)
 keyed_same kinds.ValueMark o m = refl
 keyed_same _ o m = refl
 
 -- the lexeme of a kind, by what it loses
-pub kind_at_place : (text : List ℕ) (n : ℕ) (gap : Gap) (k : Kind) (m : yaml_mark_t) (at : ℕ) (a : Bool) (d : ℕ) (ls : List ℕ) (required : Option yaml_mark_t) (l : Lexeme) → let h = history text n in
+pub kind_at_place : (text : List ℕ) (n : ℕ) (gap : Gap) (k : Kind) (m : yaml_mark_t) (at : ℕ)
+    (a : Bool) (d : ℕ) (ls : List ℕ) (required : Option yaml_mark_t) (l : Lexeme)
+    → let h = history text n in
     gap.place ≡ at → m ≡ mark_at text at → allowed_behind h gap ≡ a → depth h ≡ d → levels h ≡ ls → misplaced k m a h ≡ false → Upto (reached h) m
     → required ≡ required_in (fresh (candidate 0 h) (reached h)) → late required m ≡ None → l ≡ begun_in k (placed k m) a d ls
     → of_kind (Some k) text gap h ≡ unless_lost (lost required l) text l.start.index l h
@@ -207,17 +246,23 @@ kind_at_place text n gap k m at a d ls required l here mark allow deep lev good 
     one ∙ ap (λ o. unless_lost o text gap.place b h) (sym two) ∙ ap (λ p. unless_lost (lost (required_in (fresh (candidate 0 h) (reached h))) b) text p b h) three
     ∙ ap (λ o. unless_lost (lost o b) text (placed k m).index b h) (sym req) ∙ ap (λ (x : Lexeme). unless_lost (lost required x) text x.start.index x h) (sym is)
 
-pub lost_gives : (m : Machine) (e : ScanError) (x : Next) (start place : yaml_mark_t) → x ≡ no_colon start place → e ≡ errors.Fault (colon_fault start place) → GivesNext m (Err e) x
+pub lost_gives : (m : Machine) (e : ScanError) (x : Next) (start place : yaml_mark_t)
+    → x ≡ no_colon start place → e ≡ errors.Fault (colon_fault start place) → GivesNext m (Err e) x
 lost_gives m e x start place is same = rw (is, same) refl
 
-pub err_gives : (m : Machine) (s : SpelledText) (e : ScanError) (x : Next) → GivesLexeme s (Err e) x → GivesNext m (Err e) x
+pub err_gives : (m : Machine) (s : SpelledText) (e : ScanError) (x : Next) → GivesLexeme s (Err e) x
+    → GivesNext m (Err e) x
 err_gives m s e (Read l) g = g
 err_gives m s e (Fails p) g = g
 err_gives m s e Ends g = g
 
 -- what is read where a lexeme of a kind stands
-pub ok_gives : (mc : Machine) (x : Next) (r : Answer) (b : Lexeme) (k : Kind) (m : yaml_mark_t) (a : Bool) (ls : List ℕ) → b ≡ begun_in k (placed k m) a mc.depth ls → GivesLexeme (stream_of mc) (Ok (r.lexeme, r.body)) x
-    → EndsAt (stream_of mc).text b r.lexeme → Picks mc (keyed_by k (fresh (candidate mc.depth (history_of mc)) m)) r.key → GivesNext mc (Ok r) x
+pub ok_gives : (mc : Machine) (x : Next) (r : Answer) (b : Lexeme) (k : Kind) (m : yaml_mark_t)
+    (a : Bool) (ls : List ℕ) → b ≡ begun_in k (placed k m) a mc.depth ls
+    → GivesLexeme (stream_of mc) (Ok (r.lexeme, r.body)) x
+    → EndsAt (stream_of mc).text b r.lexeme
+    → Picks mc (keyed_by k (fresh (candidate mc.depth (history_of mc)) m)) r.key
+    → GivesNext mc (Ok r) x
 ok_gives mc (Fails p) r b k m a ls is g e key = g
 ok_gives mc Ends r b k m a ls is g e key = g
 ok_gives mc (Read l) r b k m a ls is (same, spoken) e key =
@@ -239,22 +284,28 @@ levels_none [] e = refl
 levels_none (l ∷ h) e = absurd (omega arith)
 
 -- where nothing was read, no level is open
-pub leaves_none : (m : Machine) (k : Kind) (d column left : ℕ) → IsShown (fields_of m) → length (history_of m) ≡ 0 → left ≡ 0 → d ≡ 0 → Leaves k d column m.levels left
+pub leaves_none : (m : Machine) (k : Kind) (d column left : ℕ) → IsShown (fields_of m)
+    → length (history_of m) ≡ 0 → left ≡ 0 → d ≡ 0 → Leaves k d column m.levels left
 leaves_none m k d column left s none z flat =
     let empty : m.levels ≡ [] = s.levels ∙ levels_none (history_of m) none in
     rw (empty, z, flat) (omega arith, refl)
 
 -- a lexeme with its end leaves open what it leaves without
-pub leaves_ends : (k : Kind) (mark : yaml_mark_t) (allowed : Bool) (d : ℕ) (xs : List ℕ) (left : ℕ) (text : List ℕ) (b l : Lexeme) → b ≡ begun_in k (placed k mark) allowed d xs → EndsAt text b l → Leaves k d (placed k mark).column xs left
+pub leaves_ends : (k : Kind) (mark : yaml_mark_t) (allowed : Bool) (d : ℕ) (xs : List ℕ) (left : ℕ)
+    (text : List ℕ) (b l : Lexeme) → b ≡ begun_in k (placed k mark) allowed d xs → EndsAt text b l
+    → Leaves k d (placed k mark).column xs left
     → Leaves l.kind l.depth l.start.column xs left
 leaves_ends k mark allowed d xs left text b l value e h = rw (e.kind, e.depth, e.start, value) h
 
-first_read : (m : Machine) (r : Answer) → r.lexeme ≡ first_lexeme → body_of r.body ≡ stream_start m.encoding → r.key ≡ None → IsRead m r first_lexeme
+first_read : (m : Machine) (r : Answer) → r.lexeme ≡ first_lexeme
+    → body_of r.body ≡ stream_start m.encoding → r.key ≡ None → IsRead m r first_lexeme
 first_read m r is body key =
     let T : Option ℕ → Type 0 = λ k. Picks m None k in
     record { lexeme = is; spoken = body; key = subst T (sym key) refl }
 
-pub first_gives : (m : Machine) (r : Answer) → IsShown (fields_of m) → length (history_of m) ≡ 0 → r.lexeme ≡ record first_lexeme { start = m.place; end = m.place; reached = m.place } → body_of r.body ≡ stream_start m.encoding → r.key ≡ None
+pub first_gives : (m : Machine) (r : Answer) → IsShown (fields_of m) → length (history_of m) ≡ 0
+    → r.lexeme ≡ record first_lexeme { start = m.place; end = m.place; reached = m.place }
+    → body_of r.body ≡ stream_start m.encoding → r.key ≡ None
     → GivesNext m (Ok r) (next (text_bytes m.text) (history_of m))
 first_gives m r s none is body key =
     let zero_at : m.place ≡ zero_mark = s.place ∙ reached_none (history_of m) none in
@@ -262,53 +313,88 @@ first_gives m r s none is body key =
     rw (next_first (text_bytes m.text) (history_of m) none) (first_read m r same body key)
 
 -- the gap behind what was read
-pub gap_by : (m : Fields) (g : Gap) → IsShown m → gap_at (ltb 0 m.depth) m.allowed m.text m.place.index ≡ g → gap_of m.text (read m.text m.dropped m.waiting) ≡ g
+pub gap_by : (m : Fields) (g : Gap) → IsShown m
+    → gap_at (ltb 0 m.depth) m.allowed m.text m.place.index ≡ g
+    → gap_of m.text (read m.text m.dropped m.waiting) ≡ g
 gap_by m g s is = rw (← s.depth, ← s.allowed, ← s.place) is
 
 -- what stands behind the gap, by the required candidate
-pub next_behind : (m : Fields) (g : Gap) (mark : yaml_mark_t) (required : Option yaml_mark_t) → IsShown m → 0 < m.dropped + length m.waiting → m.ended ≡ false → let h = read m.text m.dropped m.waiting in
+pub next_behind : (m : Fields) (g : Gap) (mark : yaml_mark_t) (required : Option yaml_mark_t)
+    → IsShown m → 0 < m.dropped + length m.waiting → m.ended ≡ false
+    → let h = read m.text m.dropped m.waiting in
     gap_of m.text h ≡ g → mark ≡ mark_at m.text g.place → required ≡ required_in (fresh (candidate 0 h) (reached h)) → next m.text h ≡ unless_missed (late required mark) m.text g h
 next_behind m g mark required s some more gap is req =
     let h = read m.text m.dropped m.waiting in
     next_at m.text h (omega (arith, s.count)) (sym s.ended ∙ more) ∙ ap (λ (y : Gap). behind m.text y h) gap
     ∙ ap (λ o. unless_missed o m.text g h) (sym (late_same (fresh (candidate 0 h) (reached h)) (mark_at m.text g.place)) ∙ ap (λ o. late o (mark_at m.text g.place)) (sym req) ∙ ap (λ y. late required y) (sym is))
 
-pub misplaced_gives : (m : Machine) (e : ScanError) (x : Next) (k : Kind) (mark : yaml_mark_t) → x ≡ not_allowed k mark → e ≡ errors.Fault record { problem = not_allowed_by k; context = contexts.Nothing; context_mark = mark; problem_mark = mark } → GivesNext m (Err e) x
+pub misplaced_gives : (m : Machine) (e : ScanError) (x : Next) (k : Kind) (mark : yaml_mark_t)
+    → x ≡ not_allowed k mark
+    → e ≡ errors.Fault record {
+      problem = not_allowed_by k;
+      context = contexts.Nothing;
+      context_mark
+          = mark;
+      problem_mark = mark;
+    } → GivesNext m (Err e) x
 misplaced_gives m e x k mark is same = rw (is, same) refl
 
-pub none_gives : (m : Machine) (e : ScanError) (x : Next) (mark : yaml_mark_t) → x ≡ no_token mark → e ≡ errors.Fault record { problem = problems.NoTokenStart; context = contexts.NextToken; context_mark = mark; problem_mark = mark } → GivesNext m (Err e) x
+pub none_gives : (m : Machine) (e : ScanError) (x : Next) (mark : yaml_mark_t) → x ≡ no_token mark
+    → e ≡ errors.Fault record {
+      problem = problems.NoTokenStart;
+      context = contexts.NextToken;
+      context_mark = mark;
+      problem_mark = mark;
+    } → GivesNext m (Err e) x
 none_gives m e x mark is same = rw (is, same) refl
 
 -- the lexeme of a kind, by the fields of a machine
-pub kind_machine : (mc : Machine) (gap : Gap) (k : Kind) (m : yaml_mark_t) (t : List ℕ) (at : ℕ) (a : Bool) (required : Option yaml_mark_t) (l : Lexeme) (key : Option ℕ) (bad : Bool) → IsShown (fields_of mc) → t ≡ text_bytes mc.text
-    → gap.place ≡ at → m ≡ mark_at t at → allowed_behind (history_of mc) gap ≡ a → Picks mc (keyed_by k (fresh (candidate mc.depth (history_of mc)) m)) key
-    → bad ≡ ((not (ltb 0 mc.depth) && not a) && (is_start k && not (is_some key))) → bad ≡ false → Upto (reached (history_of mc)) m
-    → required ≡ required_in (fresh (candidate 0 (history_of mc)) (reached (history_of mc))) → late required m ≡ None → l ≡ begun_in k (placed k m) a mc.depth mc.levels
-    → of_kind (Some k) (text_bytes mc.text) gap (history_of mc) ≡ unless_lost (lost required l) (text_bytes mc.text) l.start.index l (history_of mc)
+pub kind_machine : (mc : Machine) (gap : Gap) (k : Kind) (m : yaml_mark_t) (t : List ℕ) (at : ℕ)
+    (a : Bool) (required : Option yaml_mark_t) (l : Lexeme) (key : Option ℕ) (bad : Bool)
+    → IsShown (fields_of mc) → t ≡ text_bytes mc.text
+    → gap.place ≡ at → m ≡ mark_at t at → allowed_behind (history_of mc) gap ≡ a
+    → Picks mc (keyed_by k (fresh (candidate mc.depth (history_of mc)) m)) key
+    → bad ≡ ((not (ltb 0 mc.depth) && not a) && (is_start k && not (is_some key))) → bad ≡ false
+    → Upto (reached (history_of mc)) m
+    → required ≡ required_in (fresh (candidate 0 (history_of mc)) (reached (history_of mc)))
+    → late required m ≡ None → l ≡ begun_in k (placed k m) a mc.depth mc.levels
+    → of_kind (Some k) (text_bytes mc.text) gap (history_of mc)
+    ≡ unless_lost (lost required l) (text_bytes mc.text) l.start.index l (history_of mc)
 unfolding read
 kind_machine mc gap k m t at a required l key bad s same here mark allow picks test good up req early is =
     let n : ℕ = mc.dropped + length (fields_of mc).waiting in
     let right = misplaced_is mc k m a (history_of mc) mc.depth key (sym s.depth) picks ∙ sym test ∙ good in
     kind_at_place (text_bytes mc.text) n gap k m at a mc.depth mc.levels required l here (mark ∙ ap (λ x. mark_at x at) same) allow (sym s.depth) (sym s.levels) right up req early is
 
-pub wrong_machine : (mc : Machine) (gap : Gap) (k : Kind) (m : yaml_mark_t) (t : List ℕ) (at : ℕ) (a : Bool) (key : Option ℕ) (bad : Bool) → IsShown (fields_of mc) → t ≡ text_bytes mc.text
-    → gap.place ≡ at → m ≡ mark_at t at → allowed_behind (history_of mc) gap ≡ a → Picks mc (keyed_by k (fresh (candidate mc.depth (history_of mc)) m)) key
-    → bad ≡ ((not (ltb 0 mc.depth) && not a) && (is_start k && not (is_some key))) → bad ≡ true → of_kind (Some k) (text_bytes mc.text) gap (history_of mc) ≡ not_allowed k m
+pub wrong_machine : (mc : Machine) (gap : Gap) (k : Kind) (m : yaml_mark_t) (t : List ℕ) (at : ℕ)
+    (a : Bool) (key : Option ℕ) (bad : Bool) → IsShown (fields_of mc) → t ≡ text_bytes mc.text
+    → gap.place ≡ at → m ≡ mark_at t at → allowed_behind (history_of mc) gap ≡ a
+    → Picks mc (keyed_by k (fresh (candidate mc.depth (history_of mc)) m)) key
+    → bad ≡ ((not (ltb 0 mc.depth) && not a) && (is_start k && not (is_some key))) → bad ≡ true
+    → of_kind (Some k) (text_bytes mc.text) gap (history_of mc) ≡ not_allowed k m
 wrong_machine mc gap k m t at a key bad s same here mark allow picks test wrong =
     let no_way = misplaced_is mc k m a (history_of mc) mc.depth key (sym s.depth) picks ∙ sym test ∙ wrong in
     kind_misplaced (text_bytes mc.text) gap (history_of mc) k m a (ap (λ p. mark_at (text_bytes mc.text) p) here ∙ sym (mark ∙ ap (λ x. mark_at x at) same)) allow no_way
 
-pub required_saved : (k : Kind) (start : yaml_mark_t) (a : Bool) (d : ℕ) (ls : List ℕ) (l : Lexeme) → l ≡ begun_in k start a d ls → l.required ≡ true → l.saved ≡ true
+pub required_saved : (k : Kind) (start : yaml_mark_t) (a : Bool) (d : ℕ) (ls : List ℕ) (l : Lexeme)
+    → l ≡ begun_in k start a d ls → l.required ≡ true → l.saved ≡ true
 required_saved k start a d ls l is must =
     let (both, rest) = and_parts (a && may_be_key k) _ (sym (ap (λ (x : Lexeme). x.required) is) ∙ must) in
     ap (λ (x : Lexeme). x.saved) is ∙ both
 
 -- what comes next, by the fields of a machine and what its calls answer
-pub next_machine : (mc : Machine) (r q : Place) (t : List ℕ) (broke : Bool) (mark : yaml_mark_t) (required : Option yaml_mark_t) → IsShown (fields_of mc) → 0 < mc.dropped + length mc.waiting.items → mc.ended ≡ false → t ≡ text_bytes mc.text
-    → r ≡ record { text = t; at = mc.place.index } → gap_at (ltb 0 mc.depth) mc.allowed r.text r.at ≡ record { place = q.at; broke = broke } → q.text ≡ r.text → mark ≡ mark_at q.text q.at
+pub next_machine : (mc : Machine) (r q : Place) (t : List ℕ) (broke : Bool) (mark : yaml_mark_t)
+    (required : Option yaml_mark_t) → IsShown (fields_of mc)
+    → 0 < mc.dropped + length mc.waiting.items → mc.ended ≡ false → t ≡ text_bytes mc.text
+    → r ≡ record { text = t; at = mc.place.index }
+    → gap_at (ltb 0 mc.depth) mc.allowed r.text r.at ≡ record { place = q.at; broke = broke }
+    → q.text ≡ r.text → mark ≡ mark_at q.text q.at
     → required ≡ required_in (fresh (candidate 0 (history_of mc)) (reached (history_of mc)))
-    → (gap_of (text_bytes mc.text) (history_of mc) ≡ record { place = q.at; broke = broke }) × (q.text ≡ text_bytes mc.text) × (mark ≡ mark_at (text_bytes mc.text) q.at)
-    × (next (text_bytes mc.text) (history_of mc) ≡ unless_missed (late required mark) (text_bytes mc.text) record { place = q.at; broke = broke } (history_of mc))
+    → (gap_of (text_bytes mc.text) (history_of mc) ≡ record { place = q.at; broke = broke })
+    × (q.text ≡ text_bytes mc.text) × (mark ≡ mark_at (text_bytes mc.text) q.at)
+    × (next (text_bytes mc.text) (history_of mc)
+    ≡ unless_missed (late required mark) (text_bytes mc.text) record { place = q.at; broke = broke }
+    (history_of mc))
 next_machine mc r q t broke mark required s some more lent start gap kept is req =
     let len = length-map mc.waiting.items (λ (x : Waiting). kept_of x) in
     let text : r.text ≡ text_bytes mc.text = ap (λ (p : Place). p.text) start ∙ lent in
@@ -320,25 +406,33 @@ next_machine mc r q t broke mark required s some more lent start gap kept is req
     (between, kept ∙ text, spot, next_behind (fields_of mc) record { place = q.at; broke = broke } mark required s (omega (arith, len)) more between spot req)
 
 -- the gap goes forward
-pub forward_machine : (mc : Machine) (g : Gap) (mark : yaml_mark_t) → IsShown (fields_of mc) → IsPlace (text_bytes mc.text) mc.place → gap_of (text_bytes mc.text) (history_of mc) ≡ g → mark ≡ mark_at (text_bytes mc.text) g.place → Upto (reached (history_of mc)) mark
+pub forward_machine : (mc : Machine) (g : Gap) (mark : yaml_mark_t) → IsShown (fields_of mc)
+    → IsPlace (text_bytes mc.text) mc.place → gap_of (text_bytes mc.text) (history_of mc) ≡ g
+    → mark ≡ mark_at (text_bytes mc.text) g.place → Upto (reached (history_of mc)) mark
 forward_machine mc g mark s place gap is =
     let P : yaml_mark_t → Type 0 = λ p. (p ≡ mark_at (text_bytes mc.text) p.index) × (p.index ≤ length (text_bytes mc.text)) in
     let (at, inside) = subst P s.place (place.mark, place.inside) in
     let up = upto_gap (text_bytes mc.text) (history_of mc) at inside in
     subst (λ (m : yaml_mark_t). Upto (reached (history_of mc)) m) (sym (is ∙ ap (λ (x : Gap). mark_at (text_bytes mc.text) x.place) (sym gap))) up
 
-pub allow_by : (m : Fields) (g : Gap) (b : Bool) → IsShown m → b ≡ (m.allowed || (g.broke && not (ltb 0 m.depth))) → allowed_behind (read m.text m.dropped m.waiting) g ≡ b
+pub allow_by : (m : Fields) (g : Gap) (b : Bool) → IsShown m
+    → b ≡ (m.allowed || (g.broke && not (ltb 0 m.depth)))
+    → allowed_behind (read m.text m.dropped m.waiting) g ≡ b
 allow_by m g b s e = rw (← s.allowed, ← s.depth) (sym e)
 
 -- what an answer tells of the next lexeme
-pub ok_read : (mc : Machine) (r : Answer) (x : Next) → GivesNext mc (Ok r) x → (x ≡ Read r.lexeme) × (body_of r.body ≡ body_in (stream_of mc) r.lexeme) × Picks mc (keyed_by r.lexeme.kind (found_by r.lexeme (history_of mc))) r.key
+pub ok_read : (mc : Machine) (r : Answer) (x : Next) → GivesNext mc (Ok r) x
+    → (x ≡ Read r.lexeme) × (body_of r.body ≡ body_in (stream_of mc) r.lexeme)
+    × Picks mc (keyed_by r.lexeme.kind (found_by r.lexeme (history_of mc))) r.key
 ok_read mc r (Fails p) g = absurd g
 ok_read mc r Ends g = absurd g
 ok_read mc r (Read l) g =
     let P : Lexeme → Type 0 = λ y. (Read l ≡ Read y) × (body_of r.body ≡ body_in (stream_of mc) y) × Picks mc (keyed_by y.kind (found_by y (history_of mc))) r.key in
     subst P (sym g.lexeme) (refl, g.spoken, g.key)
 
-pub kind_found : (m : Fields) (g : Gap) (o : Option Kind) → IsShown m → kind_at (ltb 0 m.depth) m.text g.place ≡ o → let h = read m.text m.dropped m.waiting in unless_missed None m.text g h ≡ of_kind o m.text g h
+pub kind_found : (m : Fields) (g : Gap) (o : Option Kind) → IsShown m
+    → kind_at (ltb 0 m.depth) m.text g.place ≡ o → let h = read m.text m.dropped m.waiting in
+    unless_missed None m.text g h ≡ of_kind o m.text g h
 kind_found m g o s e =
     let h = read m.text m.dropped m.waiting in
     ap (λ x. of_kind x m.text g h) (ap (λ d. kind_at (ltb 0 d) m.text g.place) (sym s.depth) ∙ e)

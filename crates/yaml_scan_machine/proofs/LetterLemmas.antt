@@ -42,7 +42,8 @@ tells_none : (flow alone : Bool) (b : ℕ) → is_letter b ≡ true → indicato
 unfolding is_letter indicator_of
 tells_none flow alone b h = grind (arith, nat_tests)
 
-no_mark : (b n c d : ℕ) (first last : Bool) → b ≢ n → ((first && (b == n && (c == n && d == n))) && last) ≡ false
+no_mark : (b n c d : ℕ) (first last : Bool) → b ≢ n
+    → ((first && (b == n && (c == n && d == n))) && last) ≡ false
 no_mark b n c d first last h = grind (arith, nat_tests)
 
 no_start : (text : List ℕ) (p : ℕ) → byte text p ≢ 45 → is_document_start text p ≡ false
@@ -53,7 +54,8 @@ no_end : (text : List ℕ) (p : ℕ) → byte text p ≢ 46 → is_document_end 
 unfolding is_document_end
 no_end text p h = no_mark (byte text p) 46 (byte text (p + 1)) (byte text (p + 2)) (column_at text p == 0) (is_blank_or_end text (p + 3)) h
 
-pub letter_starts : (flow : Bool) (text : List ℕ) (p : ℕ) → is_letter (byte text p) ≡ true → starts_plain flow text p ≡ true
+pub letter_starts : (flow : Bool) (text : List ℕ) (p : ℕ) → is_letter (byte text p) ≡ true
+    → starts_plain flow text p ≡ true
 unfolding starts_plain
 letter_starts flow text p h =
     let l = letter_is (byte text p) h in
@@ -61,7 +63,8 @@ letter_starts flow text p h =
     let z : break_width text p ≡ 0 = no_break _ _ _ l.no_cr l.no_feed l.no_c2 l.no_e2 in
     rw (l.no_blank, ne_eqb (byte text p) 0 (omega arith), z, l.no_indicator) refl
 
-pub letter_kind : (flow : Bool) (text : List ℕ) (p : ℕ) → is_letter (byte text p) ≡ true → kind_at flow text p ≡ Some kinds.Plain
+pub letter_kind : (flow : Bool) (text : List ℕ) (p : ℕ) → is_letter (byte text p) ≡ true
+    → kind_at flow text p ≡ Some kinds.Plain
 unfolding kind_at
 letter_kind flow text p h =
     let l = letter_is (byte text p) h in

@@ -25,7 +25,8 @@ unfolding indent
 indent_none xs = refl
 
 -- all that is not right of a column is left
-pub left_all : (c : ℕ) (xs : List ℕ) → ((k : ℕ) → k < length xs → slice_index xs k ≤ c) → left_of c xs ≡ xs
+pub left_all : (c : ℕ) (xs : List ℕ) → ((k : ℕ) → k < length xs → slice_index xs k ≤ c)
+    → left_of c xs ≡ xs
 left_all c [] h = refl
 left_all c (x ∷ xs) h =
     let first : x ≤ c = h 0 (omega arith) in
@@ -34,7 +35,8 @@ left_all c (x ∷ xs) h =
     rw (t, rest) refl
 
 -- each level is at most the innermost one
-pub below_indent : (xs : List ℕ) (i : ℕ) → IsRising xs → i < length xs → slice_index xs i ≤ indent xs
+pub below_indent : (xs : List ℕ) (i : ℕ) → IsRising xs → i < length xs
+    → slice_index xs i ≤ indent xs
 below_indent [] i r lt = absurd (omega arith)
 below_indent (x ∷ xs) i r lt =
     let last = indent_last x xs in

@@ -5,6 +5,7 @@ pub mod SafeLemmas
 pub mod ReadLemmas
 pub mod StepLemmas
 pub mod MarkLemmas
+mod CandidatesLemmas
 pub mod KeysLemmas
 pub mod NextLemmas
 pub mod KindLemmas

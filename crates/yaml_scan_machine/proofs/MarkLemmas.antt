@@ -29,23 +29,29 @@ next_ended text [] e = cc
 next_ended text (l ∷ h) e = rw e refl
 
 -- what is read next stands behind what was reached
-pub further_on : (text : List ℕ) (d : ℕ) (es : List Kept) (l : Lexeme) → GoesForward text → next text (read text d es) ≡ Read l → Upto (reached (read text d es)) l.start × Upto l.start l.reached
+pub further_on : (text : List ℕ) (d : ℕ) (es : List Kept) (l : Lexeme) → GoesForward text
+    → next text (read text d es) ≡ Read l
+    → Upto (reached (read text d es)) l.start × Upto l.start l.reached
 unfolding read
 further_on text d es l go e = go (d + length es) l e
 
-pub not_ended : (text : List ℕ) (h : List Lexeme) (l : Lexeme) → next text h ≡ Read l → ended h ≡ false
+pub not_ended : (text : List ℕ) (h : List Lexeme) (l : Lexeme) → next text h ≡ Read l
+    → ended h ≡ false
 not_ended text h l e = elim (cases_Bool (ended h)) [ inr more ↦ more | inl over ↦ let bad = next_ended text h over in cc ]
 
-pub settled_open : (m : Fields) (l : Lexeme) → IsShown m → let h = read m.text m.dropped m.waiting in next m.text h ≡ Read l → m.settled ≡ first_open h h
+pub settled_open : (m : Fields) (l : Lexeme) → IsShown m
+    → let h = read m.text m.dropped m.waiting in next m.text h ≡ Read l → m.settled ≡ first_open h h
 unfolding settled_in
 settled_open m l s e = let more = not_ended m.text (read m.text m.dropped m.waiting) l e in s.settled ∙ rw more refl
 
-pub depth_of : (text : List ℕ) (h : List Lexeme) (l : Lexeme) → next text h ≡ Read l → l.depth ≡ depth h
+pub depth_of : (text : List ℕ) (h : List Lexeme) (l : Lexeme) → next text h ≡ Read l
+    → l.depth ≡ depth h
 unfolding next
 depth_of text [] l e = ap (λ (x : Lexeme). x.depth) (first_is text l e)
 depth_of text (x ∷ h) l e = let r = next_is text x h l e in ap (λ (y : Lexeme). y.depth) r.is ∙ finished_depth text (begun_at text (x ∷ h) l.kind) r.word
 
-as_key_set : (ls : List ℕ) (es : List Entry) (i : ℕ) (e : Entry) → i < length es → e ≡ get_or es i e → mark_key ls es i ≡ set es i (as_key ls e)
+as_key_set : (ls : List ℕ) (es : List Entry) (i : ℕ) (e : Entry) → i < length es → e ≡ get_or es i e
+    → mark_key ls es i ≡ set es i (as_key ls e)
 unfolding mark_key
 as_key_set ls [] i e lt is = absurd (omega arith)
 as_key_set ls (x ∷ es) zero e lt is = rw (← is) refl
@@ -56,7 +62,9 @@ abbrev pub kept_entries : Fields → Lexeme → List Kept
 kept_entries m l = drop m.dropped (all_kept (spelled m) (keyed l (read m.text m.dropped m.waiting) (entries (read m.text m.dropped m.waiting))))
 
 -- what waits, where a `:` makes a key of one of them
-pub keyed_some : (m : Fields) (ws : List Waiting) (w : Waiting) (c : Candidate) (i : ℕ) (l : Lexeme) (opens : Opens) → IsShown m → m.waiting ≡ map (λ (x : Waiting). kept_of x) ws → w ≡ get_or ws i w → i < length ws → let h = read m.text m.dropped m.waiting in
+pub keyed_some : (m : Fields) (ws : List Waiting) (w : Waiting) (c : Candidate) (i : ℕ) (l : Lexeme)
+    (opens : Opens) → IsShown m → m.waiting ≡ map (λ (x : Waiting). kept_of x) ws
+    → w ≡ get_or ws i w → i < length ws → let h = read m.text m.dropped m.waiting in
     is_value l.kind ≡ true → found_by l h ≡ Some c → c.number ≡ m.dropped + i
     → opens ≡ start_of c.lexeme.depth (c.lexeme.start.column + 1) (inside l h) opening.Mapping
     → map (λ (x : Waiting). kept_of x) (set ws i (marked opens w)) ≡ kept_entries m l
@@ -85,7 +93,9 @@ keyed_some m ws w c i l opens s wait is lt value found number so =
     ∙ ap (λ (xs : List Kept). drop m.dropped xs) (sym (map-set f es c.number (as_key ls e)))
     ∙ ap (λ (xs : List Entry). drop m.dropped (map f xs)) (sym (is_keyed ∙ one))
 
-pub read_more : (m : Fields) (l : Lexeme) (xs : List Kept) → next m.text (read m.text m.dropped m.waiting) ≡ Read l → length xs ≡ length m.waiting + 1 → read m.text m.dropped xs ≡ l ∷ read m.text m.dropped m.waiting
+pub read_more : (m : Fields) (l : Lexeme) (xs : List Kept)
+    → next m.text (read m.text m.dropped m.waiting) ≡ Read l → length xs ≡ length m.waiting + 1
+    → read m.text m.dropped xs ≡ l ∷ read m.text m.dropped m.waiting
 unfolding read history
 read_more m l xs e len =
     let n : m.dropped + length xs ≡ suc (m.dropped + length m.waiting) = omega arith in
@@ -95,7 +105,8 @@ read_more m l xs e len =
 pub record IsPushed (m : Fields) (l : Lexeme) (x : Fields) : Type 0 where
   pub encoding : x.encoding ≡ m.encoding
   pub text : x.text ≡ m.text
-  pub waiting : x.waiting ≡ kept_entries m l ++ kept_in (spelled m) (entry_of l (read m.text m.dropped m.waiting)) ∷ []
+  pub waiting : x.waiting ≡ kept_entries m l
+      ++ kept_in (spelled m) (entry_of l (read m.text m.dropped m.waiting)) ∷ []
   pub keys : AreKeys x.keys (l ∷ read m.text m.dropped m.waiting) x.place
   pub dropped : x.dropped ≡ m.dropped
   pub place : x.place ≡ l.reached
@@ -110,14 +121,19 @@ kept_length m l s =
     let ks = keyed l h (entries h) in
     omega (arith, length-drop m.dropped (all_kept (spelled m) ks), length-map ks (λ (e : Entry). kept_in (spelled m) e), length-keyed l h (entries h), length-entries h, s.count)
 
-pushed_length : (m x : Fields) (l : Lexeme) → IsShown m → IsPushed m l x → length x.waiting ≡ length m.waiting + 1
+pushed_length : (m x : Fields) (l : Lexeme) → IsShown m → IsPushed m l x
+    → length x.waiting ≡ length m.waiting + 1
 pushed_length m x l s p = ap length p.waiting ∙ length-append (kept_entries m l) (kept_in (spelled m) (entry_of l (read m.text m.dropped m.waiting)) ∷ []) ∙ ap (λ n. n + 1) (kept_length m l s)
 
-pub read_pushed : (m x : Fields) (l : Lexeme) → IsShown m → next m.text (read m.text m.dropped m.waiting) ≡ Read l → IsPushed m l x → read x.text x.dropped x.waiting ≡ l ∷ read m.text m.dropped m.waiting
+pub read_pushed : (m x : Fields) (l : Lexeme) → IsShown m
+    → next m.text (read m.text m.dropped m.waiting) ≡ Read l → IsPushed m l x
+    → read x.text x.dropped x.waiting ≡ l ∷ read m.text m.dropped m.waiting
 read_pushed m x l s e p =
     ap (λ t. read t x.dropped x.waiting) p.text ∙ ap (λ d. read m.text d x.waiting) p.dropped ∙ read_more m l x.waiting e (pushed_length m x l s p)
 
-pushed_waiting : (m x : Fields) (l : Lexeme) → IsShown m → IsPushed m l x → x.waiting ≡ drop x.dropped (all_kept (spelled x) (entries (l ∷ read m.text m.dropped m.waiting)))
+pushed_waiting : (m x : Fields) (l : Lexeme) → IsShown m → IsPushed m l x
+    → x.waiting ≡ drop x.dropped (all_kept (spelled x)
+    (entries (l ∷ read m.text m.dropped m.waiting)))
 unfolding entries
 pushed_waiting m x l s p =
     let h = read m.text m.dropped m.waiting in
@@ -130,7 +146,9 @@ pushed_waiting m x l s p =
     ∙ ap (λ (t : SpelledText). drop x.dropped (all_kept t (ks ++ e ∷ []))) same
 
 -- what is settled grows, and is read
-pub settled_grows : (m : Fields) (l : Lexeme) → GoesForward m.text → IsShown m → let h = read m.text m.dropped m.waiting in next m.text h ≡ Read l → (m.settled ≤ settled_in (l ∷ h)) × (settled_in (l ∷ h) ≤ length (l ∷ h))
+pub settled_grows : (m : Fields) (l : Lexeme) → GoesForward m.text → IsShown m
+    → let h = read m.text m.dropped m.waiting in next m.text h ≡ Read l
+    → (m.settled ≤ settled_in (l ∷ h)) × (settled_in (l ∷ h) ≤ length (l ∷ h))
 unfolding settled_in
 settled_grows m l go s e =
     let h = read m.text m.dropped m.waiting in
@@ -140,7 +158,8 @@ settled_grows m l go s e =
     let most = first_open-le (l ∷ h) (l ∷ h) in
     elim (is_end l.kind) as (λ b. (m.settled ≤ cond b (length (l ∷ h)) (first_open (l ∷ h) (l ∷ h))) × (cond b (length (l ∷ h)) (first_open (l ∷ h) (l ∷ h)) ≤ length (l ∷ h))) [ true ↦ (omega (arith, grows, most, now), omega arith) | false ↦ (omega (arith, grows, now), most) ]
 
-pub shown_by : (m x : Fields) (l : Lexeme) → GoesForward m.text → IsShown m → next m.text (read m.text m.dropped m.waiting) ≡ Read l → IsPushed m l x
+pub shown_by : (m x : Fields) (l : Lexeme) → GoesForward m.text → IsShown m
+    → next m.text (read m.text m.dropped m.waiting) ≡ Read l → IsPushed m l x
     → x.settled ≡ settled_in (l ∷ read m.text m.dropped m.waiting) → IsShown x
 shown_by m x l go s e p now =
     let len = pushed_length m x l s p in

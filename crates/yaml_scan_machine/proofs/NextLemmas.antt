@@ -23,7 +23,8 @@ unfolding next
 next_first text [] none = refl
 next_first text (l ∷ h) none = absurd (omega arith)
 
-pub next_at : (text : List ℕ) (h : List Lexeme) → 0 < length h → ended h ≡ false → next text h ≡ behind text (gap_of text h) h
+pub next_at : (text : List ℕ) (h : List Lexeme) → 0 < length h → ended h ≡ false
+    → next text h ≡ behind text (gap_of text h) h
 unfolding next
 next_at text [] some more = absurd (omega arith)
 next_at text (l ∷ h) some more = rw more (stepwise text (l ∷ h))
@@ -42,7 +43,8 @@ upto_later text p q le =
     let k : q - p + p ≡ q = omega arith in
     (le, subst (λ x. line_at text p ≤ line_at text x) k (line_on text p (q - p)))
 
-pub upto_gap : (text : List ℕ) (h : List Lexeme) → reached h ≡ mark_at text (reached h).index → (reached h).index ≤ length text → Upto (reached h) (mark_at text (gap_of text h).place)
+pub upto_gap : (text : List ℕ) (h : List Lexeme) → reached h ≡ mark_at text (reached h).index
+    → (reached h).index ≤ length text → Upto (reached h) (mark_at text (gap_of text h).place)
 upto_gap text h is le =
     let from = gap_place (ltb 0 (depth h)) (key_allowed h) text (reached h).index le in
     subst (λ (m : yaml_mark_t). Upto m (mark_at text (gap_of text h).place)) (sym is) (upto_later text (reached h).index (gap_of text h).place from.forward)
@@ -59,7 +61,8 @@ late_same (Some c) p =
     ]
 
 -- a candidate stands at its depth
-pub candidate_depth : (d : ℕ) (h : List Lexeme) (c : Candidate) → candidate d h ≡ Some c → c.lexeme.depth ≡ d
+pub candidate_depth : (d : ℕ) (h : List Lexeme) (c : Candidate) → candidate d h ≡ Some c
+    → c.lexeme.depth ≡ d
 unfolding candidate
 candidate_depth d [] c is = cc
 candidate_depth d (l ∷ h) c is =
@@ -68,18 +71,21 @@ candidate_depth d (l ∷ h) c is =
       | inr before ↦ candidate_depth d h c before
     ]
 
-pub settled_first : (m : Fields) → IsShown m → m.ended ≡ false → m.settled ≡ first_open (read m.text m.dropped m.waiting) (read m.text m.dropped m.waiting)
+pub settled_first : (m : Fields) → IsShown m → m.ended ≡ false
+    → m.settled ≡ first_open (read m.text m.dropped m.waiting) (read m.text m.dropped m.waiting)
 unfolding settled_in
 settled_first m s more = let e = sym s.ended ∙ more in s.settled ∙ rw e refl
 
 -- A lexeme that is required stands outside all brackets, and may be a key.
-required_parts : (a b c : Bool) (d : ℕ) → ((a && b) && (eqb d 0 && c)) ≡ true → (d ≡ 0) × ((a && b) ≡ true)
+required_parts : (a b c : Bool) (d : ℕ) → ((a && b) && (eqb d 0 && c)) ≡ true
+    → (d ≡ 0) × ((a && b) ≡ true)
 required_parts a b c d e =
     let (p, q) = and_parts (a && b) (eqb d 0 && c) e in
     let (r, s) = and_parts (eqb d 0) c q in
     (grind (arith, nat_tests), p)
 
-pub required_is : (text : List ℕ) (h : List Lexeme) (l : Lexeme) → next text h ≡ Read l → l.required ≡ true → (l.depth ≡ 0) × (l.saved ≡ true)
+pub required_is : (text : List ℕ) (h : List Lexeme) (l : Lexeme) → next text h ≡ Read l
+    → l.required ≡ true → (l.depth ≡ 0) × (l.saved ≡ true)
 required_is text [] l e must = let bad = ap (λ (x : Lexeme). x.required) (first_is text l e) in cc
 required_is text (y ∷ h) l e must =
     let r = next_is text y h l e in
@@ -90,7 +96,9 @@ required_is text (y ∷ h) l e must =
     let (z, so) = required_parts (allowed_behind (y ∷ h) (gap_of text (y ∷ h))) (may_be_key l.kind) _ (depth (y ∷ h)) (sym at ∙ must) in
     (depth_at ∙ z, saved_at ∙ so)
 
-shallow_after : (text : List ℕ) (h : List Lexeme) (x : Next) (d : ℕ) (c : Candidate) → next text h ≡ x → (candidate d h ≡ Some c → c.lexeme.required ≡ true → d ≡ 0) → candidate d (extended x h) ≡ Some c → c.lexeme.required ≡ true → d ≡ 0
+shallow_after : (text : List ℕ) (h : List Lexeme) (x : Next) (d : ℕ) (c : Candidate)
+    → next text h ≡ x → (candidate d h ≡ Some c → c.lexeme.required ≡ true → d ≡ 0)
+    → candidate d (extended x h) ≡ Some c → c.lexeme.required ≡ true → d ≡ 0
 shallow_after text h (Read l) d c e before is must =
     elim (candidate_top d l h c is) [
       | inl (a, top, s) ↦ let (z, so) = required_is text h l e (sym (ap (λ (x : Lexeme). x.required) s) ∙ must) in sym a ∙ z
@@ -100,7 +108,8 @@ shallow_after text h (Fails p) d c e before is must = before is must
 shallow_after text h Ends d c e before is must = before is must
 
 -- a required candidate stands outside all brackets
-pub shallow : (text : List ℕ) (n d : ℕ) (c : Candidate) → candidate d (history text n) ≡ Some c → c.lexeme.required ≡ true → d ≡ 0
+pub shallow : (text : List ℕ) (n d : ℕ) (c : Candidate) → candidate d (history text n) ≡ Some c
+    → c.lexeme.required ≡ true → d ≡ 0
 unfolding history candidate
 shallow text zero d c is must = cc
 shallow text (suc n) d c is must = shallow_after text (history text n) (next text (history text n)) d c refl (λ was so. shallow text n d c was so) is must
@@ -109,22 +118,27 @@ first_unmissed : missed (candidate 0 (first_lexeme ∷ [])) first_lexeme.reached
 unfolding candidate
 first_unmissed = refl
 
-unmissed_next : (text : List ℕ) (h : List Lexeme) (l : Lexeme) → next text h ≡ Read l → missed (candidate 0 (l ∷ h)) l.reached ≡ None
+unmissed_next : (text : List ℕ) (h : List Lexeme) (l : Lexeme) → next text h ≡ Read l
+    → missed (candidate 0 (l ∷ h)) l.reached ≡ None
 unmissed_next text [] l e = subst (λ (x : Lexeme). missed (candidate 0 (x ∷ [])) x.reached ≡ None) (sym (first_is text l e)) first_unmissed
 unmissed_next text (y ∷ h) l e = let r = next_is text y h l e in r.tested
 
-unmissed_after : (text : List ℕ) (h : List Lexeme) (x : Next) → next text h ≡ x → missed (candidate 0 h) (reached h) ≡ None → missed (candidate 0 (extended x h)) (reached (extended x h)) ≡ None
+unmissed_after : (text : List ℕ) (h : List Lexeme) (x : Next) → next text h ≡ x
+    → missed (candidate 0 h) (reached h) ≡ None
+    → missed (candidate 0 (extended x h)) (reached (extended x h)) ≡ None
 unmissed_after text h (Read l) e before = unmissed_next text h l e
 unmissed_after text h (Fails p) e before = before
 unmissed_after text h Ends e before = before
 
 -- no required candidate is stale where the last lexeme ended
-pub unmissed : (text : List ℕ) (n : ℕ) → missed (candidate 0 (history text n)) (reached (history text n)) ≡ None
+pub unmissed : (text : List ℕ) (n : ℕ)
+    → missed (candidate 0 (history text n)) (reached (history text n)) ≡ None
 unfolding history candidate
 unmissed text zero = refl
 unmissed text (suc n) = unmissed_after text (history text n) (next text (history text n)) refl (unmissed text n)
 
-missed_fresh : (o : Option Candidate) (q p : yaml_mark_t) → missed o q ≡ None → missed (fresh o q) p ≡ missed o p
+missed_fresh : (o : Option Candidate) (q p : yaml_mark_t) → missed o q ≡ None
+    → missed (fresh o q) p ≡ missed o p
 missed_fresh None q p e = refl
 missed_fresh (Some c) q p e =
     elim (cases_Bool (is_fresh c.lexeme.start q)) [
@@ -135,15 +149,19 @@ missed_fresh (Some c) q p e =
       ]
     ]
 
-stale_later : (o : Option Candidate) (p q : yaml_mark_t) → Upto p q → fresh o p ≡ None → fresh o q ≡ None
+stale_later : (o : Option Candidate) (p q : yaml_mark_t) → Upto p q → fresh o p ≡ None
+    → fresh o q ≡ None
 stale_later o p q u e =
     elim (cases_Option (fresh o q)) [
       | inl none ↦ none
       | inr (c, f) ↦ let bad : None ≡ Some c = sym e ∙ fresh_before o p q c f u in cc
     ]
 
-pub lost_same : (text : List ℕ) (n : ℕ) (p : yaml_mark_t) (b : Lexeme) → let h = history text n in b.depth ≡ depth h → Upto (reached h) p
-    → late (required_in (fresh (candidate 0 h) (reached h))) p ≡ None → lost (required_in (fresh (candidate 0 h) (reached h))) b ≡ lost_by b (fresh (candidate (depth h) h) p)
+pub lost_same : (text : List ℕ) (n : ℕ) (p : yaml_mark_t) (b : Lexeme) → let h = history text n in
+    b.depth ≡ depth h → Upto (reached h) p
+    → late (required_in (fresh (candidate 0 h) (reached h))) p ≡ None
+    → lost (required_in (fresh (candidate 0 h) (reached h))) b
+    ≡ lost_by b (fresh (candidate (depth h) h) p)
 lost_same text n p b at u early =
     let h = history text n in
     elim (cases_lt 0 (depth h)) [
@@ -180,8 +198,10 @@ lost_same text n p b at u early =
     ]
 
 -- the test behind a lexeme
-pub tested_same : (text : List ℕ) (n : ℕ) (l : Lexeme) (p : yaml_mark_t) → let h = history text n in (l.required ≡ true → l.saved ≡ true)
-    → late (required_behind (required_in (fresh (candidate 0 h) (reached h))) l) p ≡ missed (candidate 0 (l ∷ h)) p
+pub tested_same : (text : List ℕ) (n : ℕ) (l : Lexeme) (p : yaml_mark_t) → let h = history text n in
+    (l.required ≡ true → l.saved ≡ true)
+    → late (required_behind (required_in (fresh (candidate 0 h) (reached h))) l) p
+    ≡ missed (candidate 0 (l ∷ h)) p
 unfolding candidate
 tested_same text n l p must =
     let h = history text n in

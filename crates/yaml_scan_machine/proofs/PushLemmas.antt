@@ -27,8 +27,11 @@ use Rattle.yaml_scan_machine.proofs.NextLemmas.{candidate_depth}
 use Rattle.yaml_scan_machine.proofs.KindLemmas.{picks_has, first_of}
 
 -- what was settled, by what the code finds
-pub settled_value : (x : Fields) (l : Lexeme) (h : List Lexeme) (n : ℕ) → read x.text x.dropped x.waiting ≡ l ∷ h → x.ended ≡ is_end l.kind
-    → n ≡ cond x.ended (length (read x.text x.dropped x.waiting)) (first_open (read x.text x.dropped x.waiting) (read x.text x.dropped x.waiting)) → n ≡ settled_in (l ∷ h)
+pub settled_value : (x : Fields) (l : Lexeme) (h : List Lexeme) (n : ℕ)
+    → read x.text x.dropped x.waiting ≡ l ∷ h → x.ended ≡ is_end l.kind
+    → n ≡ cond x.ended (length (read x.text x.dropped x.waiting))
+    (first_open (read x.text x.dropped x.waiting) (read x.text x.dropped x.waiting))
+    → n ≡ settled_in (l ∷ h)
 unfolding settled_in
 settled_value x l h n same over is = is ∙ rw (same, over) refl
 
@@ -37,7 +40,9 @@ value_start kinds.ValueMark e = (refl, refl)
 value_start _ e = cc
 
 -- the column where a level may open is the definition's
-pub column_is : (mc : Machine) (k : Kind) (l : Lexeme) (o : Option Candidate) (key : Option ℕ) (column : ℕ) → Picks mc (keyed_by k o) key → IsColumn mc.waiting.items l key column → column ≡ opens_at o k l.start.column
+pub column_is : (mc : Machine) (k : Kind) (l : Lexeme) (o : Option Candidate) (key : Option ℕ)
+    (column : ℕ) → Picks mc (keyed_by k o) key → IsColumn mc.waiting.items l key column
+    → column ≡ opens_at o k l.start.column
 column_is mc k l o None column none is =
     elim (cases_Bool (is_value k)) [
       | inl value ↦ let no_one : o ≡ None = rw value at none in rw no_one is
@@ -53,7 +58,9 @@ column_is mc k l o (Some i) column (inside, (c, it, at)) is =
     ]
 
 -- what a lexeme opens is the definition's
-pub opens_is : (mc : Machine) (l : Lexeme) (h : List Lexeme) (key : Option ℕ) (column : ℕ) (o : Opens) → Picks mc (keyed_by l.kind (found_by l h)) key → IsColumn mc.waiting.items l key column → o ≡ opens_for l.kind l.depth column (inside l h)
+pub opens_is : (mc : Machine) (l : Lexeme) (h : List Lexeme) (key : Option ℕ) (column : ℕ)
+    (o : Opens) → Picks mc (keyed_by l.kind (found_by l h)) key
+    → IsColumn mc.waiting.items l key column → o ≡ opens_for l.kind l.depth column (inside l h)
     → cond (is_some key) opening.Nothing o ≡ opens_of (found_by l h) l (inside l h)
 opens_is mc l h None column o none at is =
     let no_key = picks_has mc l.kind (found_by l h) None none in
@@ -71,16 +78,24 @@ opens_is mc l h (Some i) column o some at is =
       | inl begins ↦ rw (key, begins) refl
     ]
 
-allows_same : (k : Kind) (b x y : Bool) → (is_value k && x) ≡ y → allows_key k b y ≡ allows_key k b x
+allows_same : (k : Kind) (b x y : Bool) → (is_value k && x) ≡ y
+    → allows_key k b y ≡ allows_key k b x
 allows_same kinds.ValueMark b x y e = ap (λ z. b && not z) (sym e)
 allows_same _ b x y e = refl
 
-pub allowed_is : (mc : Machine) (l : Lexeme) (h : List Lexeme) (key : Option ℕ) → Picks mc (keyed_by l.kind (found_by l h)) key → (allows_key l.kind (eqb l.depth 0) (is_some key) || l.broke) ≡ key_allowed (l ∷ h)
+pub allowed_is : (mc : Machine) (l : Lexeme) (h : List Lexeme) (key : Option ℕ)
+    → Picks mc (keyed_by l.kind (found_by l h)) key
+    → (allows_key l.kind (eqb l.depth 0) (is_some key) || l.broke) ≡ key_allowed (l ∷ h)
 allowed_is mc l h key picks = ap (λ b. b || l.broke) (allows_same l.kind (eqb l.depth 0) (has (found_by l h)) (is_some key) (picks_has mc l.kind (found_by l h) key picks))
 
 -- what waits, as a lexeme leaves it
-pub marks_are : (mc : Machine) (l : Lexeme) (key : Option ℕ) (column : ℕ) (o : Opens) (ws new : List Waiting) → IsShown (fields_of mc) → Picks mc (keyed_by l.kind (found_by l (history_of mc))) key → IsColumn mc.waiting.items l key column → o ≡ opens_for l.kind l.depth column (inside l (history_of mc))
-    → ws ≡ mc.waiting.items → MarksKey key o ws new → map (λ (x : Waiting). kept_of x) new ≡ kept_entries (fields_of mc) l
+pub marks_are : (mc : Machine) (l : Lexeme) (key : Option ℕ) (column : ℕ) (o : Opens)
+    (ws new : List Waiting) → IsShown (fields_of mc)
+    → Picks mc (keyed_by l.kind (found_by l (history_of mc))) key
+    → IsColumn mc.waiting.items l key column
+    → o ≡ opens_for l.kind l.depth column (inside l (history_of mc))
+    → ws ≡ mc.waiting.items → MarksKey key o ws new
+    → map (λ (x : Waiting). kept_of x) new ≡ kept_entries (fields_of mc) l
 marks_are mc l None column o ws new s none at opens same marks =
     let h = history_of mc in
     let plain : map (λ (x : Waiting). kept_of x) new ≡ drop mc.dropped (all_kept (spelled (fields_of mc)) (entries h)) = ap (λ xs. map (λ (x : Waiting). kept_of x) xs) (marks ∙ same) ∙ s.waiting in
@@ -108,13 +123,20 @@ marks_are mc l (Some i) column o ws new s (room, (c, it, waits)) at opens same m
           ap (λ xs. map (λ (y : Waiting). kept_of y) xs) now ∙ keyed_some (fields_of mc) items w c i l o s refl (get_or_default items i x w room) room value found waits.number so
     ]
 
-pub levels_is : (l : Lexeme) (h : List Lexeme) (column : ℕ) (lv new : List ℕ) → column ≡ opens_at (found_by l h) l.kind l.start.column → lv ≡ inside l h → new ≡ opened (is_start l.kind && not (ltb 0 l.depth)) column lv → new ≡ levels (l ∷ h)
+pub levels_is : (l : Lexeme) (h : List Lexeme) (column : ℕ) (lv new : List ℕ)
+    → column ≡ opens_at (found_by l h) l.kind l.start.column → lv ≡ inside l h
+    → new ≡ opened (is_start l.kind && not (ltb 0 l.depth)) column lv → new ≡ levels (l ∷ h)
 unfolding levels
 levels_is l h column lv new at left is = is ∙ rw (at, left) refl
 
-pub kept_is : (mc : Machine) (l : Lexeme) (h : List Lexeme) (key : Option ℕ) (column ends : ℕ) (found : Bool) (o here : Opens) (b : TokenBody) (old lv : List ℕ) → old ≡ levels h → lv ≡ inside l h → ends ≡ length old - length lv → found ≡ is_some key
-    → Picks mc (keyed_by l.kind (found_by l h)) key → IsColumn mc.waiting.items l key column → o ≡ opens_for l.kind l.depth column lv → here ≡ cond found opening.Nothing o → b ≡ body_in (stream_of mc) l
-    → record { start = l.start; end = l.end; ends = ends; opens = here; key = false; body = b } ≡ kept_in (stream_of mc) (entry_of l h)
+pub kept_is : (mc : Machine) (l : Lexeme) (h : List Lexeme) (key : Option ℕ) (column ends : ℕ)
+    (found : Bool) (o here : Opens) (b : TokenBody) (old lv : List ℕ) → old ≡ levels h
+    → lv ≡ inside l h → ends ≡ length old - length lv → found ≡ is_some key
+    → Picks mc (keyed_by l.kind (found_by l h)) key → IsColumn mc.waiting.items l key column
+    → o ≡ opens_for l.kind l.depth column lv → here ≡ cond found opening.Nothing o
+    → b ≡ body_in (stream_of mc) l
+    → record { start = l.start; end = l.end; ends = ends; opens = here; key = false; body = b }
+    ≡ kept_in (stream_of mc) (entry_of l h)
 kept_is mc l h key column ends found o here b old lv was left many has_key picks at opens is body =
     let open_to : here ≡ opens_of (found_by l h) l (inside l h) = is ∙ ap (λ b. cond b opening.Nothing o) has_key ∙ opens_is mc l h key column o picks at (opens ∙ ap (λ ls. opens_for l.kind l.depth column ls) left) in
     let closed : ends ≡ length (levels h) - length (inside l h) = many ∙ ap (λ ls. length ls - length lv) was ∙ ap (λ ls. length (levels h) - length ls) left in
@@ -122,6 +144,7 @@ kept_is mc l h key column ends found o here b old lv was left many has_key picks
     ap (λ n. k n here b) closed ∙ ap (λ y. k (length (levels h) - length (inside l h)) y b) open_to ∙ ap (λ c. k (length (levels h) - length (inside l h)) (opens_of (found_by l h) l (inside l h)) c) body
 
 -- there is room for one lexeme more
-pub room_is : (m : Fields) (l : Lexeme) → next m.text (read m.text m.dropped m.waiting) ≡ Read l → m.dropped + length m.waiting < length m.text + 2
+pub room_is : (m : Fields) (l : Lexeme) → next m.text (read m.text m.dropped m.waiting) ≡ Read l
+    → m.dropped + length m.waiting < length m.text + 2
 unfolding read
 room_is m l e = steps_below m.text (m.dropped + length m.waiting) l e

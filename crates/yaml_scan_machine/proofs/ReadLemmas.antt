@@ -26,54 +26,71 @@ begun_at text h k = begun k (placed k (mark_at text (gap_of text h).place)) (all
 pub record IsNextRead (text : List ℕ) (h : List Lexeme) (x : Lexeme) : Type 0 where
   pub kind : kind_at (ltb 0 (depth h)) text (gap_of text h).place ≡ Some x.kind
   pub word : WordText
-  pub reads : word_at x.kind (ltb 0 (depth h)) (begun_at text h x.kind).level text (gap_of text h).place ≡ Ok word
+  pub reads : word_at x.kind (ltb 0 (depth h)) (begun_at text h x.kind).level text
+      (gap_of text h).place ≡ Ok word
   pub is : x ≡ finished text (begun_at text h x.kind) word
   pub tested : missed (candidate 0 (x ∷ h)) x.reached ≡ None
 
 pub finished_kind : (text : List ℕ) (l : Lexeme) (w : WordText) → (finished text l w).kind ≡ l.kind
 finished_kind text l w = elim (is_end l.kind) as (λ b. (cond b l record l { end = mark_at text w.end; reached = mark_at text w.reached; broke = w.broke }).kind ≡ l.kind) [ true ↦ refl | false ↦ refl ]
 
-pub finished_start : (text : List ℕ) (l : Lexeme) (w : WordText) → (finished text l w).start ≡ l.start
+pub finished_start : (text : List ℕ) (l : Lexeme) (w : WordText)
+    → (finished text l w).start ≡ l.start
 finished_start text l w = elim (is_end l.kind) as (λ b. (cond b l record l { end = mark_at text w.end; reached = mark_at text w.reached; broke = w.broke }).start ≡ l.start) [ true ↦ refl | false ↦ refl ]
 
-pub finished_depth : (text : List ℕ) (l : Lexeme) (w : WordText) → (finished text l w).depth ≡ l.depth
+pub finished_depth : (text : List ℕ) (l : Lexeme) (w : WordText)
+    → (finished text l w).depth ≡ l.depth
 finished_depth text l w = elim (is_end l.kind) as (λ b. (cond b l record l { end = mark_at text w.end; reached = mark_at text w.reached; broke = w.broke }).depth ≡ l.depth) [ true ↦ refl | false ↦ refl ]
 
-pub finished_level : (text : List ℕ) (l : Lexeme) (w : WordText) → (finished text l w).level ≡ l.level
+pub finished_level : (text : List ℕ) (l : Lexeme) (w : WordText)
+    → (finished text l w).level ≡ l.level
 finished_level text l w = elim (is_end l.kind) as (λ b. (cond b l record l { end = mark_at text w.end; reached = mark_at text w.reached; broke = w.broke }).level ≡ l.level) [ true ↦ refl | false ↦ refl ]
 
-pub finished_saved : (text : List ℕ) (l : Lexeme) (w : WordText) → (finished text l w).saved ≡ l.saved
+pub finished_saved : (text : List ℕ) (l : Lexeme) (w : WordText)
+    → (finished text l w).saved ≡ l.saved
 finished_saved text l w = elim (is_end l.kind) as (λ b. (cond b l record l { end = mark_at text w.end; reached = mark_at text w.reached; broke = w.broke }).saved ≡ l.saved) [ true ↦ refl | false ↦ refl ]
 
-pub finished_required : (text : List ℕ) (l : Lexeme) (w : WordText) → (finished text l w).required ≡ l.required
+pub finished_required : (text : List ℕ) (l : Lexeme) (w : WordText)
+    → (finished text l w).required ≡ l.required
 finished_required text l w = elim (is_end l.kind) as (λ b. (cond b l record l { end = mark_at text w.end; reached = mark_at text w.reached; broke = w.broke }).required ≡ l.required) [ true ↦ refl | false ↦ refl ]
 
 pub cases_Option : {A : Type 0} (o : Option A) → (o ≡ None) ⊎ ((x : A) × (o ≡ Some x))
 cases_Option None = inl refl
 cases_Option (Some x) = inr (x, refl)
 
-tested_from : (o : Option yaml_mark_t) (l x : Lexeme) → (elim o as (λ _. Next) [ Some start ↦ no_colon start l.reached | None ↦ Read l ]) ≡ Read x → (x ≡ l) × (o ≡ None)
+tested_from : (o : Option yaml_mark_t) (l x : Lexeme)
+    → (elim o as (λ _. Next) [ Some start ↦ no_colon start l.reached | None ↦ Read l ]) ≡ Read x
+    → (x ≡ l) × (o ≡ None)
 tested_from (Some s) l x e = cc
 tested_from None l x e = (cc, refl)
 
-wrong_is : (r : Result WordText Wrong) (text : List ℕ) (l : Lexeme) (h : List Lexeme) (x : Lexeme) → unless_wrong r text l h ≡ Read x
-    → (w : WordText) × (r ≡ Ok w) × (x ≡ finished text l w) × (missed (candidate 0 (x ∷ h)) x.reached ≡ None)
+wrong_is : (r : Result WordText Wrong) (text : List ℕ) (l : Lexeme) (h : List Lexeme) (x : Lexeme)
+    → unless_wrong r text l h ≡ Read x
+    → (w : WordText) × (r ≡ Ok w) × (x ≡ finished text l w)
+    × (missed (candidate 0 (x ∷ h)) x.reached ≡ None)
 wrong_is (Err w) text l h x e = cc
 wrong_is (Ok w) text l h x e =
     let (same, none) = tested_from (missed (candidate 0 (finished text l w ∷ h)) (finished text l w).reached) (finished text l w) x e in
     (w, refl, same, subst (λ (y : Lexeme). missed (candidate 0 (y ∷ h)) y.reached ≡ None) (sym same) none)
 
-lost_is : (o : Option yaml_mark_t) (text : List ℕ) (p : ℕ) (l : Lexeme) (h : List Lexeme) (x : Lexeme) → unless_lost o text p l h ≡ Read x
+lost_is : (o : Option yaml_mark_t) (text : List ℕ) (p : ℕ) (l : Lexeme) (h : List Lexeme)
+    (x : Lexeme) → unless_lost o text p l h ≡ Read x
     → unless_wrong (word_at l.kind (ltb 0 l.depth) l.level text p) text l h ≡ Read x
 lost_is (Some s) text p l h x e = cc
 lost_is None text p l h x e = e
 
-missed_is : (o : Option yaml_mark_t) (text : List ℕ) (gap : Gap) (h : List Lexeme) (x : Lexeme) → unless_missed o text gap h ≡ Read x → of_kind (kind_at (ltb 0 (depth h)) text gap.place) text gap h ≡ Read x
+missed_is : (o : Option yaml_mark_t) (text : List ℕ) (gap : Gap) (h : List Lexeme) (x : Lexeme)
+    → unless_missed o text gap h ≡ Read x
+    → of_kind (kind_at (ltb 0 (depth h)) text gap.place) text gap h ≡ Read x
 missed_is (Some s) text gap h x e = cc
 missed_is None text gap h x e = e
 
-of_kind_is : (o : Option Kind) (text : List ℕ) (gap : Gap) (h : List Lexeme) (x : Lexeme) → of_kind o text gap h ≡ Read x
-    → (k : Kind) × (o ≡ Some k) × (unless_wrong (word_at k (ltb 0 (depth h)) (begun k (placed k (mark_at text gap.place)) (allowed_behind h gap) h).level text gap.place) text (begun k (placed k (mark_at text gap.place)) (allowed_behind h gap) h) h ≡ Read x)
+of_kind_is : (o : Option Kind) (text : List ℕ) (gap : Gap) (h : List Lexeme) (x : Lexeme)
+    → of_kind o text gap h ≡ Read x
+    → (k : Kind) × (o ≡ Some k) × (unless_wrong
+    (word_at k (ltb 0 (depth h)) (begun k (placed k (mark_at text gap.place)) (allowed_behind h gap)
+    h).level text gap.place) text (begun k (placed k (mark_at text gap.place))
+    (allowed_behind h gap) h) h ≡ Read x)
 of_kind_is None text gap h x e = cc
 of_kind_is (Some k) text gap h x e =
     elim (cases_Bool (misplaced k (mark_at text gap.place) (allowed_behind h gap) h)) [
@@ -83,8 +100,11 @@ of_kind_is (Some k) text gap h x e =
           (k, refl, lost_is (lost_by b (fresh (candidate (depth h) h) (mark_at text gap.place))) text gap.place b h x (rw good at e))
     ]
 
-pub read_of : (text : List ℕ) (h : List Lexeme) (x : Lexeme) (k : Kind) (w : WordText) → kind_at (ltb 0 (depth h)) text (gap_of text h).place ≡ Some k
-    → word_at k (ltb 0 (depth h)) (begun_at text h k).level text (gap_of text h).place ≡ Ok w → x ≡ finished text (begun_at text h k) w → missed (candidate 0 (x ∷ h)) x.reached ≡ None → IsNextRead text h x
+pub read_of : (text : List ℕ) (h : List Lexeme) (x : Lexeme) (k : Kind) (w : WordText)
+    → kind_at (ltb 0 (depth h)) text (gap_of text h).place ≡ Some k
+    → word_at k (ltb 0 (depth h)) (begun_at text h k).level text (gap_of text h).place ≡ Ok w
+    → x ≡ finished text (begun_at text h k) w → missed (candidate 0 (x ∷ h)) x.reached ≡ None
+    → IsNextRead text h x
 read_of text h x k w some reads is none =
     let kind : k ≡ x.kind = sym (ap (λ (y : Lexeme). y.kind) is ∙ finished_kind text (begun_at text h k) w) in
     record {
@@ -96,7 +116,8 @@ read_of text h x k w some reads is none =
     }
 
 -- what is read next behind a lexeme
-pub next_is : (text : List ℕ) (y : Lexeme) (h : List Lexeme) (x : Lexeme) → next text (y ∷ h) ≡ Read x → IsNextRead text (y ∷ h) x
+pub next_is : (text : List ℕ) (y : Lexeme) (h : List Lexeme) (x : Lexeme)
+    → next text (y ∷ h) ≡ Read x → IsNextRead text (y ∷ h) x
 unfolding next
 next_is text y h x e =
     elim (cases_Bool (is_end y.kind)) [
@@ -110,7 +131,9 @@ next_is text y h x e =
           read_of text all x k w some reads same none
     ]
 
-pub saved_is : (text : List ℕ) (y : Lexeme) (h : List Lexeme) (x : Lexeme) → IsNextRead text (y ∷ h) x → x.saved ≡ (allowed_behind (y ∷ h) (gap_of text (y ∷ h)) && may_be_key x.kind)
+pub saved_is : (text : List ℕ) (y : Lexeme) (h : List Lexeme) (x : Lexeme)
+    → IsNextRead text (y ∷ h) x
+    → x.saved ≡ (allowed_behind (y ∷ h) (gap_of text (y ∷ h)) && may_be_key x.kind)
 saved_is text y h x r = ap (λ (z : Lexeme). z.saved) r.is ∙ finished_saved text (begun_at text (y ∷ h) x.kind) r.word
 
 pub first_is : (text : List ℕ) (x : Lexeme) → next text [] ≡ Read x → x ≡ first_lexeme

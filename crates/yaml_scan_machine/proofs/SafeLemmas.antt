@@ -85,7 +85,8 @@ narrow_left n c (x ∷ xs) h =
       | inr far ↦ rw far rest
     ]
 
-pub narrow_left_by : (n : ℕ) (k : Kind) (d column : ℕ) (xs : List ℕ) → IsNarrow n xs → IsNarrow n (left_by k d column xs)
+pub narrow_left_by : (n : ℕ) (k : Kind) (d column : ℕ) (xs : List ℕ) → IsNarrow n xs
+    → IsNarrow n (left_by k d column xs)
 narrow_left_by n k d column xs h =
     elim (cases_Bool (ltb 0 d)) [
       | inl deep ↦ rw deep h
@@ -106,15 +107,18 @@ narrow_opened n c xs low h =
 pub inside_rest : (n : ℕ) (w : Waiting) (ws : List Waiting) → AreInside n (w ∷ ws) → AreInside n ws
 inside_rest n w ws h k d lt = h (suc k) d (omega arith)
 
-inside_cons : (n : ℕ) (w : Waiting) (ws : List Waiting) → w.start.column ≤ n → AreInside n ws → AreInside n (w ∷ ws)
+inside_cons : (n : ℕ) (w : Waiting) (ws : List Waiting) → w.start.column ≤ n → AreInside n ws
+    → AreInside n (w ∷ ws)
 inside_cons n w ws low h zero d lt = low
 inside_cons n w ws low h (suc k) d lt = h k d (omega arith)
 
-pub inside_push : (n : ℕ) (w : Waiting) (ws : List Waiting) → w.start.column ≤ n → AreInside n ws → AreInside n (ws ++ w ∷ [])
+pub inside_push : (n : ℕ) (w : Waiting) (ws : List Waiting) → w.start.column ≤ n → AreInside n ws
+    → AreInside n (ws ++ w ∷ [])
 inside_push n w [] low h = inside_cons n w [] low h
 inside_push n w (x ∷ xs) low h = inside_cons n x (xs ++ w ∷ []) (h 0 x (omega arith)) (inside_push n w xs low (inside_rest n x xs h))
 
-pub inside_set : (n : ℕ) (w : Waiting) (ws : List Waiting) (i : ℕ) → w.start.column ≤ n → AreInside n ws → AreInside n (slice_set ws i w)
+pub inside_set : (n : ℕ) (w : Waiting) (ws : List Waiting) (i : ℕ) → w.start.column ≤ n
+    → AreInside n ws → AreInside n (slice_set ws i w)
 inside_set n w [] i low h = h
 inside_set n w (x ∷ xs) zero low h = inside_cons n w xs low (inside_rest n x xs h)
 inside_set n w (x ∷ xs) (suc i) low h = inside_cons n x (slice_set xs i w) (h 0 x (omega arith)) (inside_set n w xs i low (inside_rest n x xs h))
@@ -124,7 +128,8 @@ none_left None not_some = refl
 none_left (Some x) not_some = absurd (not_some x refl)
 
 -- what is known and no BLOCK-END is settled
-pub known_settled : (d s g : ℕ) (w : Waiting) (ws : List Waiting) → ready_in d s g (w ∷ ws) ≡ true → (g < w.ends → ⊥) → d < s
+pub known_settled : (d s g : ℕ) (w : Waiting) (ws : List Waiting) → ready_in d s g (w ∷ ws) ≡ true
+    → (g < w.ends → ⊥) → d < s
 known_settled d s g w ws ready past =
     elim (cases_lt d s) [
       | inl low ↦ low
@@ -145,6 +150,7 @@ depth_after-le kinds.FlowSequenceEnd d = omega arith
 depth_after-le kinds.FlowMappingEnd d = omega arith
 depth_after-le _ d = omega arith
 
-pub narrow_by : (n c : ℕ) (may : Bool) (xs new : List ℕ) → c ≤ n → IsNarrow n xs → new ≡ opened may c xs → IsNarrow n new
+pub narrow_by : (n c : ℕ) (may : Bool) (xs new : List ℕ) → c ≤ n → IsNarrow n xs
+    → new ≡ opened may c xs → IsNarrow n new
 narrow_by n c true xs new low h is = subst (λ (ys : List ℕ). IsNarrow n ys) (sym is) (narrow_opened n c xs low h)
 narrow_by n c false xs new low h is = subst (λ (ys : List ℕ). IsNarrow n ys) (sym is) h

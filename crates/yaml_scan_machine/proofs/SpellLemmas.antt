@@ -31,14 +31,16 @@ key_counts true n =
       | inr some ↦ let z : 0 < n = grind (arith, nat_tests) in rw some (omega (arith, z))
     ]
 
-behind_counts : (b : TokenBody) (k : Bool) (n : ℕ) → Counts (1 + key_count k) n (cond (eqb n 0) (Some b) (key_at k (n - 1)))
+behind_counts : (b : TokenBody) (k : Bool) (n : ℕ)
+    → Counts (1 + key_count k) n (cond (eqb n 0) (Some b) (key_at k (n - 1)))
 behind_counts b k n =
     elim (cases_Bool (eqb n 0)) [
       | inl none ↦ let z : n ≡ 0 = grind (arith, nat_tests) in rw none (omega (arith, z))
       | inr some ↦ let z : 1 ≤ n = grind (arith, nat_tests) in rw some (counts_behind 1 (key_count k) n (key_at k (n - 1)) z (key_counts k (n - 1)))
     ]
 
-start_counts : (o : Opens) (k : Bool) (n : ℕ) → Counts (start_count o + key_count k) n (start_at o k n)
+start_counts : (o : Opens) (k : Bool) (n : ℕ)
+    → Counts (start_count o + key_count k) n (start_at o k n)
 start_counts opening.Nothing k n = let z : 0 + key_count k ≡ key_count k = omega arith in rw z (key_counts k n)
 start_counts opening.Sequence k n = behind_counts block_sequence_start k n
 start_counts opening.Mapping k n = behind_counts block_mapping_start k n
@@ -66,7 +68,8 @@ front_count-le e = let low = start_count-le e.opens e.key in omega (arith, low)
 abbrev own : SpelledText → Lexeme → Bool → List Token
 own s l k = cond k (before key l ∷ token_in s l ∷ []) (token_in s l ∷ [])
 
-start_length : (s : SpelledText) (l : Lexeme) (o : Opens) (k : Bool) → length (start_tokens o l) + length (own s l k) ≡ start_count o + key_count k + 1
+start_length : (s : SpelledText) (l : Lexeme) (o : Opens) (k : Bool)
+    → length (start_tokens o l) + length (own s l k) ≡ start_count o + key_count k + 1
 start_length s l opening.Nothing false = refl
 start_length s l opening.Nothing true = refl
 start_length s l opening.Sequence false = refl
@@ -74,7 +77,8 @@ start_length s l opening.Sequence true = refl
 start_length s l opening.Mapping false = refl
 start_length s l opening.Mapping true = refl
 
-pub spell_length : (s : SpelledText) (e : Entry) → length (spell s e) ≡ front_count (kept_in s e) + 1
+pub spell_length : (s : SpelledText) (e : Entry)
+    → length (spell s e) ≡ front_count (kept_in s e) + 1
 spell_length s e =
     let a = length-replicate e.ends (before block_end e.lexeme) in
     let b = length-append (end_tokens e) (start_tokens e.opens e.lexeme) in
@@ -82,7 +86,9 @@ spell_length s e =
     let d = start_length s e.lexeme e.opens e.key in
     omega (arith, a, b, c, d)
 
-start_token : (s : SpelledText) (l : Lexeme) (o : Opens) (k : Bool) (n : ℕ) (t : Token) → n ≤ start_count o + key_count k → get_or (start_tokens o l ++ own s l k) n t ≡ fronted (token_in s l) (start_at o k n)
+start_token : (s : SpelledText) (l : Lexeme) (o : Opens) (k : Bool) (n : ℕ) (t : Token)
+    → n ≤ start_count o + key_count k
+    → get_or (start_tokens o l ++ own s l k) n t ≡ fronted (token_in s l) (start_at o k n)
 start_token s l opening.Nothing false zero t low = refl
 start_token s l opening.Nothing false (suc n) t low = absurd (omega arith)
 start_token s l opening.Nothing true zero t low = refl
@@ -104,7 +110,8 @@ start_token s l opening.Mapping true (suc (suc zero)) t low = refl
 start_token s l opening.Mapping true (suc (suc (suc n))) t low = absurd (omega arith)
 
 -- behind so many tokens of a lexeme stands that one
-pub spell_token : (s : SpelledText) (e : Entry) (n : ℕ) (t : Token) → n ≤ front_count (kept_in s e) → get_or (spell s e) n t ≡ fronted (token_in s e.lexeme) (front_at (kept_in s e) n)
+pub spell_token : (s : SpelledText) (e : Entry) (n : ℕ) (t : Token) → n ≤ front_count (kept_in s e)
+    → get_or (spell s e) n t ≡ fronted (token_in s e.lexeme) (front_at (kept_in s e) n)
 spell_token s e n t low =
     let ends = end_tokens e in
     let rest : List Token = start_tokens e.opens e.lexeme ++ own_tokens s e in

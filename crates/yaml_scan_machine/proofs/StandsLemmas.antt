@@ -6,7 +6,8 @@ use Rattle.yaml_scan_history.specs.declared.kind.Kind.TheVariants as kinds
 use Rattle.yaml_scan_machine.specs.Stands.{Stands, Told}
 
 -- a kind that its byte tells stands there
-pub told_stands : (k : Kind) (flow : Bool) (text : List ℕ) (p : ℕ) → Told k (byte text p) → Stands k flow text p
+pub told_stands : (k : Kind) (flow : Bool) (text : List ℕ) (p : ℕ) → Told k (byte text p)
+    → Stands k flow text p
 told_stands kinds.StreamStart flow text p t = absurd t
 told_stands kinds.StreamEnd flow text p t = absurd t
 told_stands kinds.Directive flow text p t = absurd t

@@ -14,7 +14,8 @@ use Rattle.yaml_scan_history.specs.Next.{allowed_behind}
 use Rattle.yaml_scan_machine.proofs.ReadLemmas.{next_is, saved_is, gap_of}
 use Rattle.yaml_scan_history.proofs.HistoryLemmas.{candidate_below, length-entries, length-keyed}
 
-lexeme-as_key : (ls : List ℕ) (es : List Entry) (k n : ℕ) (e : Entry) → (get_or (mark_key ls es k) n e).lexeme ≡ (get_or es n e).lexeme
+lexeme-as_key : (ls : List ℕ) (es : List Entry) (k n : ℕ) (e : Entry)
+    → (get_or (mark_key ls es k) n e).lexeme ≡ (get_or es n e).lexeme
 unfolding mark_key
 lexeme-as_key ls [] k n e = refl
 lexeme-as_key ls (x ∷ es) zero zero e = refl
@@ -22,20 +23,23 @@ lexeme-as_key ls (x ∷ es) zero (suc n) e = refl
 lexeme-as_key ls (x ∷ es) (suc k) zero e = refl
 lexeme-as_key ls (x ∷ es) (suc k) (suc n) e = lexeme-as_key ls es k n e
 
-lexeme-keyed : (l : Lexeme) (h : List Lexeme) (es : List Entry) (n : ℕ) (e : Entry) → (get_or (keyed l h es) n e).lexeme ≡ (get_or es n e).lexeme
+lexeme-keyed : (l : Lexeme) (h : List Lexeme) (es : List Entry) (n : ℕ) (e : Entry)
+    → (get_or (keyed l h es) n e).lexeme ≡ (get_or es n e).lexeme
 lexeme-keyed l h es n e =
     elim (is_value l.kind) as (λ b. (get_or (cond b (marked (found_by l h) (inside l h) es) es) n e).lexeme ≡ (get_or es n e).lexeme) [
       | true ↦ elim (found_by l h) as (λ o. (get_or (marked o (inside l h) es) n e).lexeme ≡ (get_or es n e).lexeme) [ Some c ↦ lexeme-as_key (inside l h) es c.number n e | None ↦ refl ]
       | false ↦ refl
     ]
 
-lexeme-below : (l : Lexeme) (h : List Lexeme) (n : ℕ) (e : Entry) → n < length h → (get_or (entries (l ∷ h)) n e).lexeme ≡ (get_or (entries h) n e).lexeme
+lexeme-below : (l : Lexeme) (h : List Lexeme) (n : ℕ) (e : Entry) → n < length h
+    → (get_or (entries (l ∷ h)) n e).lexeme ≡ (get_or (entries h) n e).lexeme
 unfolding entries
 lexeme-below l h n e below =
     let fits : n < length (keyed l h (entries h)) = omega (arith, length-keyed l h (entries h), length-entries h) in
     ap (λ (x : Entry). x.lexeme) (get_or_append_left (keyed l h (entries h)) _ e n fits) ∙ lexeme-keyed l h (entries h) n e
 
-lexeme-top : (l : Lexeme) (h : List Lexeme) (n : ℕ) (e : Entry) → n ≡ length h → (get_or (entries (l ∷ h)) n e).lexeme ≡ l
+lexeme-top : (l : Lexeme) (h : List Lexeme) (n : ℕ) (e : Entry) → n ≡ length h
+    → (get_or (entries (l ∷ h)) n e).lexeme ≡ l
 unfolding entries
 lexeme-top l h n e top =
     let here : length (keyed l h (entries h)) ≡ n = omega (arith, length-keyed l h (entries h), length-entries h) in
@@ -43,12 +47,14 @@ lexeme-top l h n e top =
     ap (λ (x : Entry). x.lexeme) (get_or-append_right (keyed l h (entries h)) _ n n e here (omega arith) ∙ ap (λ i. get_or (entry_of l h ∷ []) i e) z)
 
 -- a candidate is the lexeme of its number
-pub candidate_top : (d : ℕ) (l : Lexeme) (h : List Lexeme) (c : Candidate) → candidate d (l ∷ h) ≡ Some c
+pub candidate_top : (d : ℕ) (l : Lexeme) (h : List Lexeme) (c : Candidate)
+    → candidate d (l ∷ h) ≡ Some c
     → ((l.depth ≡ d) × (c.number ≡ length h) × (c.lexeme ≡ l)) ⊎ (candidate d h ≡ Some c)
 unfolding candidate
 candidate_top d l h c e = grind (arith, nat_tests)
 
-pub start_is : (d : ℕ) (h : List Lexeme) (c : Candidate) (e : Entry) → candidate d h ≡ Some c → (get_or (entries h) c.number e).lexeme ≡ c.lexeme
+pub start_is : (d : ℕ) (h : List Lexeme) (c : Candidate) (e : Entry) → candidate d h ≡ Some c
+    → (get_or (entries h) c.number e).lexeme ≡ c.lexeme
 unfolding candidate
 start_is d [] c e is = cc
 start_is d (l ∷ h) c e is =
@@ -98,7 +104,8 @@ at_least kinds.FlowSequenceStart d = omega arith
 at_least kinds.FlowMappingStart d = omega arith
 at_least _ d = omega arith
 
-none_after : (l : Lexeme) (d : ℕ) (h : List Lexeme) → depth_after l.kind l.depth < d → (l.saved && cancels l.kind) ≡ false → candidate d (l ∷ h) ≡ None
+none_after : (l : Lexeme) (d : ℕ) (h : List Lexeme) → depth_after l.kind l.depth < d
+    → (l.saved && cancels l.kind) ≡ false → candidate d (l ∷ h) ≡ None
 unfolding candidate
 none_after l d h deep both =
     let room = at_least l.kind l.depth in
@@ -116,7 +123,8 @@ none_after l d h deep both =
     ]
 
 -- a lexeme that is saved cancels no candidate
-pub saved_keeps : (text : List ℕ) (h : List Lexeme) (l : Lexeme) → next text h ≡ Read l → (l.saved && cancels l.kind) ≡ false
+pub saved_keeps : (text : List ℕ) (h : List Lexeme) (l : Lexeme) → next text h ≡ Read l
+    → (l.saved && cancels l.kind) ≡ false
 unfolding next
 saved_keeps text [] l e = let same : first_lexeme ≡ l = cc in ap (λ (x : Lexeme). x.saved && cancels x.kind) (sym same)
 saved_keeps text (x ∷ h) l e =
@@ -124,16 +132,20 @@ saved_keeps text (x ∷ h) l e =
     ap (λ b. b && cancels l.kind) (saved_is text x h l r) ∙ no_both l.kind (allowed_behind (x ∷ h) (gap_of text (x ∷ h)))
 
 -- Inside no level there is no candidate of a deeper one.
-none_deeper_next : (text : List ℕ) (h : List Lexeme) (l : Lexeme) (d : ℕ) → next text h ≡ Read l → depth (l ∷ h) < d → candidate d (l ∷ h) ≡ None
+none_deeper_next : (text : List ℕ) (h : List Lexeme) (l : Lexeme) (d : ℕ) → next text h ≡ Read l
+    → depth (l ∷ h) < d → candidate d (l ∷ h) ≡ None
 unfolding next candidate
 none_deeper_next text h l d e deep = none_after l d h deep (saved_keeps text h l e)
 
-none_deeper_after : (text : List ℕ) (h : List Lexeme) (x : Next) (d : ℕ) → next text h ≡ x → (depth h < d → candidate d h ≡ None) → depth (extended x h) < d → candidate d (extended x h) ≡ None
+none_deeper_after : (text : List ℕ) (h : List Lexeme) (x : Next) (d : ℕ) → next text h ≡ x
+    → (depth h < d → candidate d h ≡ None) → depth (extended x h) < d
+    → candidate d (extended x h) ≡ None
 none_deeper_after text h (Read l) d e before deep = none_deeper_next text h l d e deep
 none_deeper_after text h (Fails p) d e before deep = before deep
 none_deeper_after text h Ends d e before deep = before deep
 
-pub none_deeper : (text : List ℕ) (n d : ℕ) → depth (history text n) < d → candidate d (history text n) ≡ None
+pub none_deeper : (text : List ℕ) (n d : ℕ) → depth (history text n) < d
+    → candidate d (history text n) ≡ None
 unfolding history candidate
 none_deeper text zero d deep = refl
 none_deeper text (suc n) d deep = none_deeper_after text (history text n) (next text (history text n)) d refl (λ lt. none_deeper text n d lt) deep

@@ -34,7 +34,8 @@ use Rattle.yaml_scan_machine.proofs.GivenLemmas.{own_settled, front_is, no_entry
 abbrev IsKnown : List ℕ → List Lexeme → ℕ → Type 0
 IsKnown text h k = (k < first_open h h) ⊎ ((next text h ≡ Ends) × (k < length h))
 
-known_by : (m : Fields) → IsShown m → m.dropped < m.settled → IsKnown m.text (read m.text m.dropped m.waiting) m.dropped
+known_by : (m : Fields) → IsShown m → m.dropped < m.settled
+    → IsKnown m.text (read m.text m.dropped m.waiting) m.dropped
 known_by m s low =
     let h = read m.text m.dropped m.waiting in
     elim (cases_Bool m.ended) [
@@ -42,15 +43,21 @@ known_by m s low =
       | inr more ↦ let first = settled_first m s more in inl (omega (arith, first, low))
     ]
 
-token_gives : (s : SpelledText) (n k given : ℕ) (e : Entry) (t : Token) → IsKnown s.text (history s.text n) k → let x = get_or (entries (history s.text n)) k e in
-    (given < length (spell s x) → GivesFirst (remaining s k given) (get_or (spell s x) given t) (remaining s k (given + 1))) × (given ≡ length (spell s x) → remaining s k given ≡ remaining s (k + 1) 0)
+token_gives : (s : SpelledText) (n k given : ℕ) (e : Entry) (t : Token)
+    → IsKnown s.text (history s.text n) k → let x = get_or (entries (history s.text n)) k e in
+    (given < length (spell s x) → GivesFirst (remaining s k given) (get_or (spell s x) given t)
+    (remaining s k (given + 1))) × (given ≡ length (spell s x) → remaining s k given
+    ≡ remaining s (k + 1) 0)
 token_gives s n k given e t (inl low) = settled_comes s n k given e t low
 token_gives s n k given e t (inr (over, low)) = last_comes s n k given e t over low
 
 -- a lexeme that is known gives its tokens
-settled_front : (m : Machine) (k : Kept) (ks : List Kept) → IsMachine m → (fields_of m).waiting ≡ k ∷ ks → m.dropped < m.settled → m.given ≤ front_count k
-    → GivesFirst (to_come m) (fronted (own_token k) (front_at k m.given)) (remaining (stream_of m) m.dropped (m.given + 1))
-    × (front_at k m.given ≡ None → remaining (stream_of m) m.dropped (m.given + 1) ≡ remaining (stream_of m) (m.dropped + 1) 0)
+settled_front : (m : Machine) (k : Kept) (ks : List Kept) → IsMachine m
+    → (fields_of m).waiting ≡ k ∷ ks → m.dropped < m.settled → m.given ≤ front_count k
+    → GivesFirst (to_come m) (fronted (own_token k) (front_at k m.given))
+    (remaining (stream_of m) m.dropped (m.given + 1))
+    × (front_at k m.given ≡ None → remaining (stream_of m) m.dropped (m.given + 1)
+    ≡ remaining (stream_of m) (m.dropped + 1) 0)
 unfolding read
 settled_front m k ks i wait low few =
     let f = fields_of m in
@@ -71,8 +78,10 @@ settled_front m k ks i wait low few =
     )
 
 -- the levels that the first lexeme closes come first
-ends_front : (m : Machine) (k : Kept) (ks : List Kept) → IsMachine m → (fields_of m).waiting ≡ k ∷ ks → m.ended ≡ false → m.given < k.ends
-    → GivesFirst (to_come m) (fronted (own_token k) (Some block_end)) (remaining (stream_of m) m.dropped (m.given + 1))
+ends_front : (m : Machine) (k : Kept) (ks : List Kept) → IsMachine m
+    → (fields_of m).waiting ≡ k ∷ ks → m.ended ≡ false → m.given < k.ends
+    → GivesFirst (to_come m) (fronted (own_token k) (Some block_end))
+    (remaining (stream_of m) m.dropped (m.given + 1))
 unfolding read
 ends_front m k ks i wait more few =
     let f = fields_of m in
@@ -86,8 +95,10 @@ ends_front m k ks i wait more few =
     (tokens ∙ ap (λ (x : Kept). fronted (own_token x) (Some block_end) ∷ (remaining s m.dropped (m.given + 1)).tokens) here, fault)
 
 -- the token in front of the first lexeme is what comes
-pub gives_front : (m : Machine) (w : Waiting) (rest : List Waiting) (b : TokenBody) → IsMachine m → m.waiting.items ≡ w ∷ rest → is_ready m ≡ true → front_at (kept_of w) m.given ≡ Some b
-    → GivesFirst (to_come m) (fronted (own_token (kept_of w)) (Some b)) (remaining (stream_of m) m.dropped (m.given + 1))
+pub gives_front : (m : Machine) (w : Waiting) (rest : List Waiting) (b : TokenBody) → IsMachine m
+    → m.waiting.items ≡ w ∷ rest → is_ready m ≡ true → front_at (kept_of w) m.given ≡ Some b
+    → GivesFirst (to_come m) (fronted (own_token (kept_of w)) (Some b))
+    (remaining (stream_of m) m.dropped (m.given + 1))
 gives_front m w rest b i items ready some =
     let f = fields_of m in
     let s = stream_of m in
@@ -116,7 +127,8 @@ gives_front m w rest b i items ready some =
     ]
 
 -- the first lexeme's own token is what comes, and then the next one's do
-pub gives_own : (m : Machine) (w : Waiting) (rest : List Waiting) → IsMachine m → m.waiting.items ≡ w ∷ rest → m.dropped < m.settled → front_at (kept_of w) m.given ≡ None
+pub gives_own : (m : Machine) (w : Waiting) (rest : List Waiting) → IsMachine m
+    → m.waiting.items ≡ w ∷ rest → m.dropped < m.settled → front_at (kept_of w) m.given ≡ None
     → GivesFirst (to_come m) (own_token (kept_of w)) (remaining (stream_of m) (m.dropped + 1) 0)
 gives_own m w rest i items low none =
     let s = stream_of m in
@@ -129,7 +141,8 @@ gives_own m w rest i items low none =
     )
 
 -- so few tokens stand in front of a lexeme
-pub given_room : (m : Machine) (w : Waiting) (rest : List Waiting) (b : TokenBody) → IsMachine m → m.waiting.items ≡ w ∷ rest → front_at (kept_of w) m.given ≡ Some b → m.given < 2 ^ 64 - 1
+pub given_room : (m : Machine) (w : Waiting) (rest : List Waiting) (b : TokenBody) → IsMachine m
+    → m.waiting.items ≡ w ∷ rest → front_at (kept_of w) m.given ≡ Some b → m.given < 2 ^ 64 - 1
 given_room m w rest b i items some =
     let f = fields_of m in
     let wait : f.waiting ≡ kept_of w ∷ map (λ (x : Waiting). kept_of x) rest = ap (λ ws. map (λ (x : Waiting). kept_of x) ws) items in
@@ -141,25 +154,30 @@ given_room m w rest b i items some =
     let two = front_count-le (kept_of w) in
     omega (arith, few, ends, long, room, two, i.shown.count, i.few, i.long)
 
-pub first_waits : (d s g : ℕ) (ws : List Waiting) → ready_in d s g ws ≡ true → (w : Waiting) × (rest : List Waiting) × (ws ≡ w ∷ rest)
+pub first_waits : (d s g : ℕ) (ws : List Waiting) → ready_in d s g ws ≡ true
+    → (w : Waiting) × (rest : List Waiting) × (ws ≡ w ∷ rest)
 first_waits d s g [] e = cc
 first_waits d s g (w ∷ ws) e = (w, ws, refl)
 
 -- what waits first
-pub front_waits : (m : Machine) (x : Waiting) → is_ready m ≡ true → x ≡ get_or m.waiting.items 0 x → (rest : List Waiting) × (m.waiting.items ≡ x ∷ rest)
+pub front_waits : (m : Machine) (x : Waiting) → is_ready m ≡ true → x ≡ get_or m.waiting.items 0 x
+    → (rest : List Waiting) × (m.waiting.items ≡ x ∷ rest)
 front_waits m x ready here =
     let (w, rest, items) = first_waits m.dropped m.settled m.given m.waiting.items ready in
     let is : x ≡ w = here ∙ ap (λ (ws : List Waiting). get_or ws 0 x) items in
     (rest, items ∙ ap (λ (y : Waiting). y ∷ rest) (sym is))
 
 -- what waits first, where it is taken
-pub popped_waits : (m : Machine) (x : Waiting) (rest : List Waiting) → is_ready m ≡ true → x ≡ get_or m.waiting.items 0 x → rest ≡ drop 1 m.waiting.items → m.waiting.items ≡ x ∷ rest
+pub popped_waits : (m : Machine) (x : Waiting) (rest : List Waiting) → is_ready m ≡ true
+    → x ≡ get_or m.waiting.items 0 x → rest ≡ drop 1 m.waiting.items → m.waiting.items ≡ x ∷ rest
 popped_waits m x rest ready here left =
     let (after, items) = front_waits m x ready here in
     items ∙ ap (λ (ws : List Waiting). x ∷ ws) (sym (left ∙ ap (λ (ws : List Waiting). drop 1 ws) items))
 
 -- the state where one more of the tokens in front is taken
-pub stands_more : (m : Machine) (w : Waiting) (rest : List Waiting) (b : TokenBody) → IsMachine m → m.waiting.items ≡ w ∷ rest → is_ready m ≡ true → front_at (kept_of w) m.given ≡ Some b → IsMachine record m { given = m.given + 1 }
+pub stands_more : (m : Machine) (w : Waiting) (rest : List Waiting) (b : TokenBody) → IsMachine m
+    → m.waiting.items ≡ w ∷ rest → is_ready m ≡ true → front_at (kept_of w) m.given ≡ Some b
+    → IsMachine record m { given = m.given + 1 }
 stands_more m w rest b i items ready some =
     let wait : (fields_of m).waiting ≡ kept_of w ∷ map (λ (x : Waiting). kept_of x) rest = ap (λ ws. map (λ (x : Waiting). kept_of x) ws) items in
     let first : ready_in m.dropped m.settled m.given (w ∷ rest) ≡ true = ap (λ (ws : List Waiting). ready_in m.dropped m.settled m.given ws) (sym items) ∙ ready in
@@ -179,7 +197,8 @@ stands_more m w rest b i items ready some =
     }
 
 -- where the next token is known, one is to come
-pub ready_gives : (m : Machine) → IsMachine m → is_ready m ≡ true → (t : Token) × (rest : Remaining) × GivesFirst (left_in m) t rest
+pub ready_gives : (m : Machine) → IsMachine m → is_ready m ≡ true
+    → (t : Token) × (rest : Remaining) × GivesFirst (left_in m) t rest
 ready_gives m i ready =
     let (w, rest, items) = first_waits m.dropped m.settled m.given m.waiting.items ready in
     let first : ready_in m.dropped m.settled m.given (w ∷ rest) ≡ true = ap (λ (ws : List Waiting). ready_in m.dropped m.settled m.given ws) (sym items) ∙ ready in

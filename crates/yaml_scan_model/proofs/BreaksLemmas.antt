@@ -6,7 +6,8 @@ use Rattle.yaml_scan_model.specs.Marks.{byte, break_of, ends_of, break_width, en
 use Rattle.yaml_scan_model.specs.Breaks.{break_value, feed_at}
 use Rattle.yaml_scan_model.proofs.MarksLemmas.{widths, one, two, three}
 
-pub value_three : (text : List ℕ) (p : ℕ) → break_width text p ≡ 3 → break_value text p ≡ 0xE2 ∷ 0x80 ∷ byte text (p + 2) ∷ []
+pub value_three : (text : List ℕ) (p : ℕ) → break_width text p ≡ 3
+    → break_value text p ≡ 0xE2 ∷ 0x80 ∷ byte text (p + 2) ∷ []
 unfolding break_value
 value_three text p w = rw w refl
 
@@ -18,16 +19,20 @@ second : (b c d : ℕ) → break_of b c d ≡ 3 → d ≢ 168 → d ≡ 169
 unfolding break_of
 second b c d h k = grind (arith, nat_tests)
 
-pub feed_first : (text : List ℕ) (p : ℕ) → break_width text p ≡ 3 → byte text (p + 2) ≡ 168 → 226 ∷ 128 ∷ 168 ∷ [] ≡ feed_at text p
+pub feed_first : (text : List ℕ) (p : ℕ) → break_width text p ≡ 3 → byte text (p + 2) ≡ 168
+    → 226 ∷ 128 ∷ 168 ∷ [] ≡ feed_at text p
 feed_first text p w h = rw (value_three text p w, w, h) refl
 
-pub feed_second : (text : List ℕ) (p : ℕ) → break_width text p ≡ 3 → byte text (p + 2) ≢ 168 → 226 ∷ 128 ∷ 169 ∷ [] ≡ feed_at text p
+pub feed_second : (text : List ℕ) (p : ℕ) → break_width text p ≡ 3 → byte text (p + 2) ≢ 168
+    → 226 ∷ 128 ∷ 169 ∷ [] ≡ feed_at text p
 feed_second text p w h = let e : byte text (p + 2) ≡ 169 = second _ _ _ w h in rw (value_three text p w, w, e) refl
 
-pub feed_other : (text : List ℕ) (p : ℕ) → 0 < break_width text p → break_width text p ≢ 3 → 10 ∷ [] ≡ feed_at text p
+pub feed_other : (text : List ℕ) (p : ℕ) → 0 < break_width text p → break_width text p ≢ 3
+    → 10 ∷ [] ≡ feed_at text p
 feed_other text p w h = rw (value_other text p h, lt-ltb 0 (break_width text p) w) refl
 
-pub feed_some : (text : List ℕ) (p : ℕ) → 0 < break_width text p → feed_at text p ≡ break_value text p
+pub feed_some : (text : List ℕ) (p : ℕ) → 0 < break_width text p
+    → feed_at text p ≡ break_value text p
 feed_some text p h = rw (lt-ltb 0 (break_width text p) h) refl
 
 pub value_long : (text : List ℕ) (p : ℕ) → 0 < length (break_value text p)
@@ -74,7 +79,8 @@ last_three text p h =
     let k : p + 2 + 1 ≡ p + 3 = omega arith in
     record { byte_at = p + 2; next = sym k; ends = rw (i, j, k) g; after = omega arith }
 
-pub last_of : (text : List ℕ) (p : ℕ) → 0 < break_width text p → Last text p (p + break_width text p)
+pub last_of : (text : List ℕ) (p : ℕ) → 0 < break_width text p
+    → Last text p (p + break_width text p)
 last_of text p h =
     elim (widths (byte text p) (byte text (p + 1)) (byte text (p + 2))) [
       | inl z ↦ absurd (omega (arith, z))

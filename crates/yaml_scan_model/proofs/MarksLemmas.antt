@@ -6,11 +6,13 @@ use Rattle.std.proofs.lemmas.List.{get_or_past}
 use Rattle.yaml_scan_model.specs.Marks.{byte, break_of, ends_of, splits_of, break_width, ends_break, splits_break, starts, line_at, column_at}
 
 -- a byte with no break at it ends none
-pub no_end : (x y b c d : ℕ) → splits_of x y b c ≡ false → break_of b c d ≡ 0 → ends_of x y b c ≡ false
+pub no_end : (x y b c d : ℕ) → splits_of x y b c ≡ false → break_of b c d ≡ 0
+    → ends_of x y b c ≡ false
 unfolding splits_of ends_of break_of
 no_end x y b c d h k = grind (arith, nat_tests)
 
-pub no_split : (x y b c d : ℕ) → splits_of x y b c ≡ false → break_of b c d ≡ 0 → splits_of y b c d ≡ false
+pub no_split : (x y b c d : ℕ) → splits_of x y b c ≡ false → break_of b c d ≡ 0
+    → splits_of y b c d ≡ false
 unfolding splits_of ends_of break_of
 no_split x y b c d h k = grind (arith, nat_tests)
 
@@ -21,19 +23,23 @@ within text p h =
       | inr past ↦ let e = get_or_past text p 0 past in absurd (omega (arith, e))
     ]
 
-pub line_more : (text : List ℕ) (p : ℕ) → ends_break text p ≡ false → line_at text (p + 1) ≡ line_at text p
+pub line_more : (text : List ℕ) (p : ℕ) → ends_break text p ≡ false
+    → line_at text (p + 1) ≡ line_at text p
 unfolding line_at
 line_more text p h = rw (add-one, h) (omega arith)
 
-pub line_end : (text : List ℕ) (p : ℕ) → ends_break text p ≡ true → line_at text (p + 1) ≡ line_at text p + 1
+pub line_end : (text : List ℕ) (p : ℕ) → ends_break text p ≡ true
+    → line_at text (p + 1) ≡ line_at text p + 1
 unfolding line_at
 line_end text p h = rw (add-one, h) refl
 
-pub column_more : (text : List ℕ) (p : ℕ) → ends_break text p ≡ false → starts (byte text p) ≡ true → column_at text (p + 1) ≡ column_at text p + 1
+pub column_more : (text : List ℕ) (p : ℕ) → ends_break text p ≡ false → starts (byte text p) ≡ true
+    → column_at text (p + 1) ≡ column_at text p + 1
 unfolding column_at
 column_more text p h k = rw (add-one, h, k) refl
 
-pub column_same : (text : List ℕ) (p : ℕ) → ends_break text p ≡ false → starts (byte text p) ≡ false → column_at text (p + 1) ≡ column_at text p
+pub column_same : (text : List ℕ) (p : ℕ) → ends_break text p ≡ false → starts (byte text p) ≡ false
+    → column_at text (p + 1) ≡ column_at text p
 unfolding column_at
 column_same text p h k = rw (add-one, h, k) (omega arith)
 
@@ -64,29 +70,36 @@ column_at-le text (suc p) =
       ]
     ]
 
-pub end_next : (text : List ℕ) (p : ℕ) → splits_break text p ≡ false → break_width text p ≡ 0 → ends_break text p ≡ false
+pub end_next : (text : List ℕ) (p : ℕ) → splits_break text p ≡ false → break_width text p ≡ 0
+    → ends_break text p ≡ false
 end_next text p h k = no_end _ _ _ _ _ h k
 
-pub split_next : (text : List ℕ) (p : ℕ) → splits_break text p ≡ false → break_width text p ≡ 0 → splits_break text (p + 1) ≡ false
+pub split_next : (text : List ℕ) (p : ℕ) → splits_break text p ≡ false → break_width text p ≡ 0
+    → splits_break text (p + 1) ≡ false
 split_next text p h k =
     let e : p + 1 - 1 ≡ p = omega arith in
     let f : p + 1 - 2 ≡ p - 1 = omega arith in
     let g : p + 1 + 1 ≡ p + 2 = omega arith in
     rw (e, f, g) (no_split (byte text (p - 2)) _ _ _ _ h k)
 
-pub widths : (b c d : ℕ) → (break_of b c d ≡ 0) ⊎ ((break_of b c d ≡ 1) ⊎ ((break_of b c d ≡ 2) ⊎ (break_of b c d ≡ 3)))
+pub widths : (b c d : ℕ)
+    → (break_of b c d ≡ 0) ⊎ ((break_of b c d ≡ 1) ⊎ ((break_of b c d ≡ 2) ⊎ (break_of b c d ≡ 3)))
 unfolding break_of
 widths b c d = grind (arith, nat_tests)
 
-pub one : (x y b c d : ℕ) → break_of b c d ≡ 1 → (ends_of x y b c ≡ true) × (splits_of y b c d ≡ false) × (0 < b)
+pub one : (x y b c d : ℕ) → break_of b c d ≡ 1
+    → (ends_of x y b c ≡ true) × (splits_of y b c d ≡ false) × (0 < b)
 unfolding break_of ends_of splits_of
 one x y b c d h = (grind (arith, nat_tests), grind (arith, nat_tests), grind (arith, nat_tests))
 
-pub two : (x y b c d e : ℕ) → break_of b c d ≡ 2 → (ends_of x y b c ≡ false) × (ends_of y b c d ≡ true) × (splits_of b c d e ≡ false) × (0 < c)
+pub two : (x y b c d e : ℕ) → break_of b c d ≡ 2
+    → (ends_of x y b c ≡ false) × (ends_of y b c d ≡ true) × (splits_of b c d e ≡ false) × (0 < c)
 unfolding break_of ends_of splits_of
 two x y b c d e h = (grind (arith, nat_tests), grind (arith, nat_tests), grind (arith, nat_tests), grind (arith, nat_tests))
 
-pub three : (x y b c d e f : ℕ) → break_of b c d ≡ 3 → (ends_of x y b c ≡ false) × (ends_of y b c d ≡ false) × (ends_of b c d e ≡ true) × (splits_of c d e f ≡ false) × (0 < d)
+pub three : (x y b c d e f : ℕ) → break_of b c d ≡ 3
+    → (ends_of x y b c ≡ false) × (ends_of y b c d ≡ false) × (ends_of b c d e ≡ true)
+    × (splits_of c d e f ≡ false) × (0 < d)
 unfolding break_of ends_of splits_of
 three x y b c d e f h = (grind (arith, nat_tests), grind (arith, nat_tests), grind (arith, nat_tests), grind (arith, nat_tests), grind (arith, nat_tests))
 
@@ -145,7 +158,8 @@ past_three text p h =
     let q = column_end text (p + 2) g2 in
     record { inside = omega arith; line = cc; column = rw (← k2) q; whole = rw (i3, j3, k3) s }
 
-pub past_break : (text : List ℕ) (p : ℕ) → 0 < break_width text p → IsPast text p (p + break_width text p)
+pub past_break : (text : List ℕ) (p : ℕ) → 0 < break_width text p
+    → IsPast text p (p + break_width text p)
 past_break text p h =
     elim (widths (byte text p) (byte text (p + 1)) (byte text (p + 2))) [
       | inl z ↦ absurd (omega (arith, z))
@@ -174,5 +188,6 @@ pub no_break : (b c d : ℕ) → b ≢ 13 → b ≢ 10 → b ≢ 0xC2 → b ≢ 
 unfolding break_of
 no_break b c d h i j k = grind (arith, nat_tests)
 
-pub no_break_between : (b low high c d : ℕ) → low ≤ b → b ≤ high → 13 < low → high < 0xC2 → break_of b c d ≡ 0
+pub no_break_between : (b low high c d : ℕ) → low ≤ b → b ≤ high → 13 < low → high < 0xC2
+    → break_of b c d ≡ 0
 no_break_between b low high c d h i j k = no_break b c d (omega arith) (omega arith) (omega arith) (omega arith)

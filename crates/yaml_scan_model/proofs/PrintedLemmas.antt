@@ -17,7 +17,9 @@ pub record IsBehind (text : List ℕ) (p n : ℕ) : Type 0 where
   pub column : column_at text (p + n) ≡ column_at text p + n
   pub whole : splits_break text (p + n) ≡ false
 
-pub behind : (n : ℕ) (text : List ℕ) (p : ℕ) → p ≤ length text → splits_break text p ≡ false → ((k : ℕ) → p ≤ k → k < p + n → 31 < byte text k) → ((k : ℕ) → p ≤ k → k < p + n → byte text k < 127) → IsBehind text p n
+pub behind : (n : ℕ) (text : List ℕ) (p : ℕ) → p ≤ length text → splits_break text p ≡ false
+    → ((k : ℕ) → p ≤ k → k < p + n → 31 < byte text k)
+    → ((k : ℕ) → p ≤ k → k < p + n → byte text k < 127) → IsBehind text p n
 behind zero text p room whole low high =
     let z : p + 0 ≡ p = omega arith in
     let same : column_at text p ≡ column_at text p + 0 = omega arith in
@@ -45,7 +47,9 @@ pub record IsLeap (text : List ℕ) (p q : ℕ) : Type 0 where
   pub column : column_at text p + (q - p) ≡ column_at text q
   pub whole : splits_break text q ≡ false
 
-pub leaps : (text : List ℕ) (p q : ℕ) → p ≤ q → p ≤ length text → splits_break text p ≡ false → ((k : ℕ) → p ≤ k → k < q → 31 < byte text k) → ((k : ℕ) → p ≤ k → k < q → byte text k < 127) → IsLeap text p q
+pub leaps : (text : List ℕ) (p q : ℕ) → p ≤ q → p ≤ length text → splits_break text p ≡ false
+    → ((k : ℕ) → p ≤ k → k < q → 31 < byte text k) → ((k : ℕ) → p ≤ k → k < q → byte text k < 127)
+    → IsLeap text p q
 leaps text p q forward room whole low high =
     let count : p + (q - p) ≡ q = omega arith in
     let b = behind (q - p) text p room whole (λ k after less. low k after (omega arith)) (λ k after less. high k after (omega arith)) in
@@ -62,7 +66,8 @@ text_of b c d h =
     rw none (grind (arith, nat_tests))
 
 -- a run of text goes on behind printed bytes
-printed_run : (n : ℕ) (text : List ℕ) (a p : ℕ) → InRun is_text text a p → ((k : ℕ) → p ≤ k → k < p + n → is_printed (byte text k) ≡ true) → InRun is_text text a (p + n)
+printed_run : (n : ℕ) (text : List ℕ) (a p : ℕ) → InRun is_text text a p
+    → ((k : ℕ) → p ≤ k → k < p + n → is_printed (byte text k) ≡ true) → InRun is_text text a (p + n)
 printed_run zero text a p h each =
     let z : p + 0 ≡ p = omega arith in
     rw z h
@@ -74,18 +79,21 @@ printed_run (suc n) text a p h each =
     rw next (run_more is_text text a (p + n) before (text_of _ _ _ here) (omega (arith, low)))
 
 -- so a run of text begins, up to a place
-pub printed_start : (text : List ℕ) (p q : ℕ) → p ≤ q → ((k : ℕ) → p ≤ k → k < q → is_printed (byte text k) ≡ true) → InRun is_text text p q
+pub printed_start : (text : List ℕ) (p q : ℕ) → p ≤ q
+    → ((k : ℕ) → p ≤ k → k < q → is_printed (byte text k) ≡ true) → InRun is_text text p q
 printed_start text p q forward each =
     let count : p + (q - p) ≡ q = omega arith in
     rw count at (printed_run (q - p) text p p (run_start is_text text p) (λ k after less. each k after (omega arith)))
 
 -- the byte behind
-pub printed_more : (n : ℕ) (text : List ℕ) (p : ℕ) (row own : Bool) → row ≡ are_printed n text p → own ≡ is_printed (byte text (p + n)) → (row && own) ≡ are_printed (n + 1) text p
+pub printed_more : (n : ℕ) (text : List ℕ) (p : ℕ) (row own : Bool) → row ≡ are_printed n text p
+    → own ≡ is_printed (byte text (p + n)) → (row && own) ≡ are_printed (n + 1) text p
 unfolding are_printed
 printed_more n text p row own h g = rw (h, g, add-one) refl
 
 -- each of them
-pub printed_each : (n : ℕ) (text : List ℕ) (p : ℕ) → are_printed n text p ≡ true → (k : ℕ) → p ≤ k → k < p + n → is_printed (byte text k) ≡ true
+pub printed_each : (n : ℕ) (text : List ℕ) (p : ℕ) → are_printed n text p ≡ true → (k : ℕ) → p ≤ k
+    → k < p + n → is_printed (byte text k) ≡ true
 unfolding are_printed
 printed_each zero text p h k after before = absurd (omega arith)
 printed_each (suc n) text p h k after before =
@@ -96,7 +104,8 @@ printed_each (suc n) text p h k after before =
     ]
 
 -- they stand inside the text
-pub printed_inside : (n : ℕ) (text : List ℕ) (p : ℕ) → length text < p + n → 0 < n → are_printed n text p ≡ false
+pub printed_inside : (n : ℕ) (text : List ℕ) (p : ℕ) → length text < p + n → 0 < n
+    → are_printed n text p ≡ false
 unfolding are_printed
 printed_inside zero text p past some = absurd (omega arith)
 printed_inside (suc n) text p past some =
@@ -117,7 +126,9 @@ row_inside text p h =
     ]
 
 -- those up to a place, and those behind it
-pub printed_join : (text : List ℕ) (p q r : ℕ) → ((k : ℕ) → p ≤ k → k < q → is_printed (byte text k) ≡ true) → ((k : ℕ) → q ≤ k → k < r → is_printed (byte text k) ≡ true) → (k : ℕ) → p ≤ k → k < r
+pub printed_join : (text : List ℕ) (p q r : ℕ)
+    → ((k : ℕ) → p ≤ k → k < q → is_printed (byte text k) ≡ true)
+    → ((k : ℕ) → q ≤ k → k < r → is_printed (byte text k) ≡ true) → (k : ℕ) → p ≤ k → k < r
     → is_printed (byte text k) ≡ true
 printed_join text p q r front behind k after before =
     elim (cases_lt k q) [

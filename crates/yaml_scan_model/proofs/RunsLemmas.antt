@@ -5,11 +5,13 @@ use Rattle.yaml_scan_model.specs.Marks.{byte, break_of, break_width, is_blank}
 use Rattle.yaml_scan_model.specs.Runs.{past, is_text}
 use Rattle.yaml_scan_model.proofs.MarksLemmas.{within, no_break}
 
-pub past_more : (kind : List ℕ → ℕ → Bool) (n : ℕ) (text : List ℕ) (p : ℕ) → kind text p ≡ true → past kind (suc n) text p ≡ past kind n text (p + 1)
+pub past_more : (kind : List ℕ → ℕ → Bool) (n : ℕ) (text : List ℕ) (p : ℕ) → kind text p ≡ true
+    → past kind (suc n) text p ≡ past kind n text (p + 1)
 unfolding past
 past_more kind n text p h = rw h refl
 
-pub past_stop : (kind : List ℕ → ℕ → Bool) (n : ℕ) (text : List ℕ) (p : ℕ) → kind text p ≡ false → past kind n text p ≡ p
+pub past_stop : (kind : List ℕ → ℕ → Bool) (n : ℕ) (text : List ℕ) (p : ℕ) → kind text p ≡ false
+    → past kind n text p ≡ p
 unfolding past
 past_stop kind zero text p h = refl
 past_stop kind (suc n) text p h = rw h refl
@@ -22,18 +24,22 @@ pub record InRun (kind : List ℕ → ℕ → Bool) (text : List ℕ) (a p : ℕ
 pub run_start : (kind : List ℕ → ℕ → Bool) (text : List ℕ) (a : ℕ) → InRun kind text a a
 run_start kind text a = record { after = omega arith; rest = (length text, omega arith, refl) }
 
-step : (kind : List ℕ → ℕ → Bool) (text : List ℕ) (a p n : ℕ) → length text ≤ p + n → past kind (length text) text a ≡ past kind n text p → kind text p ≡ true → 0 < byte text p
-    → (m : ℕ) × (length text ≤ p + 1 + m) × (past kind (length text) text a ≡ past kind m text (p + 1))
+step : (kind : List ℕ → ℕ → Bool) (text : List ℕ) (a p n : ℕ) → length text ≤ p + n
+    → past kind (length text) text a ≡ past kind n text p → kind text p ≡ true → 0 < byte text p
+    → (m : ℕ) × (length text ≤ p + 1 + m)
+    × (past kind (length text) text a ≡ past kind m text (p + 1))
 step kind text a p zero room same k some = let inside = within text p some in absurd (omega arith)
 step kind text a p (suc n) room same k some = (n, omega arith, same ∙ past_more kind n text p k)
 
-pub run_more : (kind : List ℕ → ℕ → Bool) (text : List ℕ) (a p : ℕ) → InRun kind text a p → kind text p ≡ true → 0 < byte text p → InRun kind text a (p + 1)
+pub run_more : (kind : List ℕ → ℕ → Bool) (text : List ℕ) (a p : ℕ) → InRun kind text a p
+    → kind text p ≡ true → 0 < byte text p → InRun kind text a (p + 1)
 run_more kind text a p h k some =
     let (n, room, same) = h.rest in
     let after = h.after in
     record { after = omega arith; rest = step kind text a p n room same k some }
 
-pub run_done : (kind : List ℕ → ℕ → Bool) (text : List ℕ) (a p : ℕ) → InRun kind text a p → kind text p ≡ false → past kind (length text) text a ≡ p
+pub run_done : (kind : List ℕ → ℕ → Bool) (text : List ℕ) (a p : ℕ) → InRun kind text a p
+    → kind text p ≡ false → past kind (length text) text a ≡ p
 run_done kind text a p h k = let (n, room, same) = h.rest in same ∙ past_stop kind n text p k
 
 pub past-le : (kind : List ℕ → ℕ → Bool) (n : ℕ) (text : List ℕ) (p : ℕ) → p ≤ past kind n text p
@@ -45,7 +51,8 @@ past-le kind (suc n) text p = elim (kind text p) as (λ b. p ≤ (if b then past
 ]
 
 -- some byte of the kind stands there
-pub past_some : (kind : List ℕ → ℕ → Bool) (text : List ℕ) (p : ℕ) → kind text p ≡ true → 0 < byte text p → p < past kind (length text) text p
+pub past_some : (kind : List ℕ → ℕ → Bool) (text : List ℕ) (p : ℕ) → kind text p ≡ true
+    → 0 < byte text p → p < past kind (length text) text p
 past_some kind text p k some =
     let inside = within text p some in
     let n : suc (length text - 1) ≡ length text = omega arith in
@@ -55,7 +62,8 @@ past_some kind text p k some =
 parts : (b w : ℕ) → not (b == 0 || nat_lt 0 w) ≡ true → (0 < b) × (w ≡ 0)
 parts b w h = (grind (arith, nat_tests), grind (arith, nat_tests))
 
-pub text_parts : (text : List ℕ) (p : ℕ) → is_text text p ≡ true → (0 < byte text p) × (break_width text p ≡ 0)
+pub text_parts : (text : List ℕ) (p : ℕ) → is_text text p ≡ true
+    → (0 < byte text p) × (break_width text p ≡ 0)
 text_parts text p h = parts _ _ h
 
 blank_bounds : (b : ℕ) → is_blank b ≡ true → (0 < b) × (b ≢ 13) × (b ≢ 10) × (b < 100)

@@ -4,14 +4,16 @@ use Rattle.std.proofs.lemmas.List.{length-drop, length-take-le, take_more, take-
 use Rattle.yaml_scan_model.specs.Spares.{HoldsAt, bytes_at}
 
 -- what was cut out of a text is held by it
-pub holds_slice : (text : List ℕ) (p q : ℕ) (bytes : List ℕ) → p ≤ q → q ≤ length text → bytes ≡ take (q - p) (drop p text) → HoldsAt text p bytes
+pub holds_slice : (text : List ℕ) (p q : ℕ) (bytes : List ℕ) → p ≤ q → q ≤ length text
+    → bytes ≡ take (q - p) (drop p text) → HoldsAt text p bytes
 holds_slice text p q bytes h inside e =
     let d = length-drop p text in
     let l : length (take (q - p) (drop p text)) ≡ q - p = length-take-le (q - p) (drop p text) (omega (arith, d)) in
     let n : length bytes ≡ q - p = ap length e ∙ l in
     record { inside = omega (arith, n); same = rw n e }
 
-bytes_are : (n : ℕ) (text : List ℕ) (p : ℕ) → p + n ≤ length text → bytes_at n text p ≡ take n (drop p text)
+bytes_are : (n : ℕ) (text : List ℕ) (p : ℕ) → p + n ≤ length text
+    → bytes_at n text p ≡ take n (drop p text)
 unfolding bytes_at
 bytes_are zero text p inside = refl
 bytes_are (suc n) text p inside =
@@ -19,6 +21,7 @@ bytes_are (suc n) text p inside =
     rw (bytes_are n text p (omega arith), sym (get_or-drop p text n 0), sym next, add-one) refl
 
 -- so many bytes, cut behind what the text holds of them
-pub cut_holds : (n : ℕ) (text bytes : List ℕ) (p : ℕ) → HoldsAt text p bytes → length bytes ≤ n → p + n ≤ length text → take (length bytes) (bytes_at n text p) ≡ bytes
+pub cut_holds : (n : ℕ) (text bytes : List ℕ) (p : ℕ) → HoldsAt text p bytes → length bytes ≤ n
+    → p + n ≤ length text → take (length bytes) (bytes_at n text p) ≡ bytes
 cut_holds n text bytes p held few inside =
     ap (take (length bytes)) (bytes_are n text p inside) ∙ take-take (length bytes) n (drop p text) few ∙ sym held.same

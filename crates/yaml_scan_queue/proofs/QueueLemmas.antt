@@ -9,17 +9,22 @@ use Rattle.yaml_scan_model.specs.Tokens.{body_of}
 use Rattle.yaml_scan_queue.specs.Bare.{is_bare}
 use Rattle.yaml_scan_queue.specs.Queue.{AreEmpty}
 
-pub part_length : {X : Type 0} → (xs : List X) (f l : ℕ) → l ≤ length xs → length (drop f (take l xs)) ≡ l - f
+pub part_length : {X : Type 0} → (xs : List X) (f l : ℕ) → l ≤ length xs
+    → length (drop f (take l xs)) ≡ l - f
 part_length xs f l le = length-drop f (take l xs) ∙ ap (λ (n : ℕ). n - f) (length-take-le l xs le)
 
-pub part_get : {X : Type 0} → (xs : List X) (f l i : ℕ) (d : X) → f + i < l → get_or (drop f (take l xs)) i d ≡ get_or xs (f + i) d
+pub part_get : {X : Type 0} → (xs : List X) (f l i : ℕ) (d : X) → f + i < l
+    → get_or (drop f (take l xs)) i d ≡ get_or xs (f + i) d
 part_get xs f l i d lt = get_or-drop f (take l xs) i d ∙ get_or-take l xs (f + i) d lt
 
-pub part_set : {X : Type 0} → (xs : List X) (f l i : ℕ) (y : X) → f + i < l → drop f (take l (set xs (f + i) y)) ≡ set (drop f (take l xs)) i y
+pub part_set : {X : Type 0} → (xs : List X) (f l i : ℕ) (y : X) → f + i < l
+    → drop f (take l (set xs (f + i) y)) ≡ set (drop f (take l xs)) i y
 part_set xs f l i y lt = ap (λ ys. drop f ys) (take-set-lt l xs (f + i) y lt) ∙ drop-set-add f (take l xs) i y
 
 -- where a lexeme that waits is replaced by what a later one makes of it
-pub part_marked : (xs : List Waiting) (f l i : ℕ) (x y : Waiting) (g : Waiting → Waiting) (items : List Waiting) → drop f (take l xs) ≡ items → l ≤ length xs → i < length items → x ≡ get_or xs (f + i) x → y ≡ g x
+pub part_marked : (xs : List Waiting) (f l i : ℕ) (x y : Waiting) (g : Waiting → Waiting)
+    (items : List Waiting) → drop f (take l xs) ≡ items → l ≤ length xs → i < length items
+    → x ≡ get_or xs (f + i) x → y ≡ g x
     → (w : Waiting) → drop f (take l (set xs (f + i) y)) ≡ set items i (g (get_or items i w))
 part_marked xs f l i x y g items is most lt here there w =
     let low : f + i < l = omega (arith, lt, ap (λ (ws : List Waiting). length ws) is, part_length xs f l most) in
@@ -27,35 +32,43 @@ part_marked xs f l i x y g items is most lt here there w =
     part_set xs f l i y low ∙ ap (λ (ws : List Waiting). set ws i y) is ∙ ap (λ (z : Waiting). set items i z) (there ∙ ap g found)
 
 -- something waits
-pub part_some : (xs : List Waiting) (f l : ℕ) (items : List Waiting) → drop f (take l xs) ≡ items → l ≤ length xs → 0 < length items → f < l
+pub part_some : (xs : List Waiting) (f l : ℕ) (items : List Waiting) → drop f (take l xs) ≡ items
+    → l ≤ length xs → 0 < length items → f < l
 part_some xs f l items is most lt = omega (arith, lt, ap (λ (ws : List Waiting). length ws) is, part_length xs f l most)
 
 -- what waits first
-pub part_first : (xs : List Waiting) (f l : ℕ) (x : Waiting) (items : List Waiting) → drop f (take l xs) ≡ items → l ≤ length xs → 0 < length items → x ≡ get_or xs f x → (w : Waiting) → x ≡ get_or items 0 w
+pub part_first : (xs : List Waiting) (f l : ℕ) (x : Waiting) (items : List Waiting)
+    → drop f (take l xs) ≡ items → l ≤ length xs → 0 < length items → x ≡ get_or xs f x
+    → (w : Waiting) → x ≡ get_or items 0 w
 part_first xs f l x items is most lt here w =
     let low = part_some xs f l items is most lt in
     here ∙ get_or_default xs f x w (omega (arith, low, most)) ∙ ap (λ (n : ℕ). get_or xs n w) {x = f} {y = f + 0} (omega arith) ∙ sym (part_get xs f l 0 w (omega (arith, low))) ∙ ap (λ (ws : List Waiting). get_or ws 0 w) is
 
-pub part_pop : {X : Type 0} → (xs : List X) (f l : ℕ) (y : X) → f < l → drop (f + 1) (take l (set xs f y)) ≡ drop 1 (drop f (take l xs))
+pub part_pop : {X : Type 0} → (xs : List X) (f l : ℕ) (y : X) → f < l
+    → drop (f + 1) (take l (set xs f y)) ≡ drop 1 (drop f (take l xs))
 part_pop xs f l y lt =
     ap (λ ys. drop (f + 1) ys) (take-set-lt l xs f y lt) ∙ drop-set-lt (f + 1) (take l xs) f y (omega arith) ∙ sym (drop-drop 1 f (take l xs))
 
 -- where what waits first is the last, nothing is left
-pub part_last : (xs : List Waiting) (f l : ℕ) (items : List Waiting) → drop f (take l xs) ≡ items → l ≤ length xs → f + 1 ≡ l → [] ≡ drop 1 items
+pub part_last : (xs : List Waiting) (f l : ℕ) (items : List Waiting) → drop f (take l xs) ≡ items
+    → l ≤ length xs → f + 1 ≡ l → [] ≡ drop 1 items
 part_last xs f l items is most last =
     sym (drop_all 1 items (omega (arith, last, ap (λ (ws : List Waiting). length ws) is, part_length xs f l most)))
 
 -- A row is turned until its part comes first.
-pub part_turn : {X : Type 0} → (xs : List X) (f l : ℕ) → f ≤ l → l ≤ length xs → take (l - f) (drop f xs ++ take f xs) ≡ drop f (take l xs)
+pub part_turn : {X : Type 0} → (xs : List X) (f l : ℕ) → f ≤ l → l ≤ length xs
+    → take (l - f) (drop f xs ++ take f xs) ≡ drop f (take l xs)
 part_turn xs f l le most =
     let sum : f + (l - f) ≡ l = omega arith in
     take-append-le (l - f) (drop f xs) (take f xs) (omega (arith, length-drop f xs)) ∙ sym (drop-take f (l - f) xs) ∙ ap (λ (n : ℕ). drop f (take n xs)) sum
 
 -- A slot without a text is put behind the row.
-pub empty_grow : (xs zs : List Waiting) (f l : ℕ) (b : Waiting) → zs ≡ xs ++ b ∷ [] → f ≤ l → l ≤ length xs → is_bare (body_of b.body) ≡ true → AreEmpty f l xs → AreEmpty f l zs
+pub empty_grow : (xs zs : List Waiting) (f l : ℕ) (b : Waiting) → zs ≡ xs ++ b ∷ [] → f ≤ l
+    → l ≤ length xs → is_bare (body_of b.body) ≡ true → AreEmpty f l xs → AreEmpty f l zs
 empty_grow xs zs f l b is low most none e =
     subst (λ (ws : List Waiting). AreEmpty f l ws) (sym is) (
-      (λ k w lt. ap (λ (x : Waiting). is_bare (body_of x.body)) (get_or_append_left xs (b ∷ []) w k (omega (arith, lt, low, most))) ∙ e.0 k w lt),
+      (λ k w lt. ap (λ (x : Waiting). is_bare (body_of x.body))
+          (get_or_append_left xs (b ∷ []) w k (omega (arith, lt, low, most))) ∙ e.0 k w lt),
       (λ k w far lt. elim (cases_lt k (length xs)) [
         | inl near ↦ ap (λ (x : Waiting). is_bare (body_of x.body)) (get_or_append_left xs (b ∷ []) w k near) ∙ e.1 k w far near
         | inr end ↦
@@ -65,7 +78,8 @@ empty_grow xs zs f l b is low most none e =
     )
 
 -- The first lexeme is taken, and what stands in its slot has no text.
-pub empty_pop : (ws : List Waiting) (f l : ℕ) (y : Waiting) → f < l → l ≤ length ws → is_bare (body_of y.body) ≡ true → AreEmpty f l ws → AreEmpty (f + 1) l (set ws f y)
+pub empty_pop : (ws : List Waiting) (f l : ℕ) (y : Waiting) → f < l → l ≤ length ws
+    → is_bare (body_of y.body) ≡ true → AreEmpty f l ws → AreEmpty (f + 1) l (set ws f y)
 empty_pop ws f l y low most bare e =
     let long : length (set ws f y) ≡ length ws = length-set ws f y in (
       (λ k w lt. elim (cases_lt k f) [

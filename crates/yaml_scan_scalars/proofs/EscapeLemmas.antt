@@ -8,20 +8,24 @@ pub hex_start : (text : List ℕ) (p : ℕ) → hex_value text p 0 ≡ Some 0
 unfolding hex_value
 hex_start text p = refl
 
-pub hex_more : (text : List ℕ) (p k v d : ℕ) → hex_value text p k ≡ Some v → hex_digit (byte text (p + k)) ≡ Some d → hex_value text p (k + 1) ≡ Some (v * 16 + d)
+pub hex_more : (text : List ℕ) (p k v d : ℕ) → hex_value text p k ≡ Some v
+    → hex_digit (byte text (p + k)) ≡ Some d → hex_value text p (k + 1) ≡ Some (v * 16 + d)
 unfolding hex_value
 hex_more text p k v d h e = rw (add-one, h, e) refl
 
-pub hex_stop : (text : List ℕ) (p k v : ℕ) → hex_value text p k ≡ Some v → hex_digit (byte text (p + k)) ≡ None → hex_value text p (k + 1) ≡ None
+pub hex_stop : (text : List ℕ) (p k v : ℕ) → hex_value text p k ≡ Some v
+    → hex_digit (byte text (p + k)) ≡ None → hex_value text p (k + 1) ≡ None
 unfolding hex_value
 hex_stop text p k v h e = rw (add-one, h, e) refl
 
-pub hex_none : (text : List ℕ) (p k m : ℕ) → hex_value text p k ≡ None → hex_value text p (k + m) ≡ None
+pub hex_none : (text : List ℕ) (p k m : ℕ) → hex_value text p k ≡ None
+    → hex_value text p (k + m) ≡ None
 unfolding hex_value
 hex_none text p k zero h = rw add-zero h
 hex_none text p k (suc m) h = rw (add-suc, hex_none text p k m h) refl
 
-pub hex_refused : (text : List ℕ) (p k n v : ℕ) → hex_value text p k ≡ Some v → hex_digit (byte text (p + k)) ≡ None → k < n → hex_value text p n ≡ None
+pub hex_refused : (text : List ℕ) (p k n v : ℕ) → hex_value text p k ≡ Some v
+    → hex_digit (byte text (p + k)) ≡ None → k < n → hex_value text p n ≡ None
 hex_refused text p k n v h e l =
     let all : k + 1 + (n - (k + 1)) ≡ n = omega arith in
     rw all at (hex_none text p (k + 1) (n - (k + 1)) (hex_stop text p k v h e))
@@ -56,8 +60,10 @@ simple_escape-zero = refl
 pub not_zero : (text : List ℕ) (p : ℕ) → (byte text p ≡ 0 → ⊥) → 0 < byte text p
 not_zero text p h = omega (arith, h)
 
-pub escape_code : (text : List ℕ) (p : ℕ) → break_width text (p + 1) ≡ 0 → 0 < hex_len (byte text (p + 1))
-    → escape_at text p ≡ coded (p + 2) (p + 2 + hex_len (byte text (p + 1))) (hex_value text (p + 2) (hex_len (byte text (p + 1))))
+pub escape_code : (text : List ℕ) (p : ℕ) → break_width text (p + 1) ≡ 0
+    → 0 < hex_len (byte text (p + 1))
+    → escape_at text p ≡ coded (p + 2) (p + 2 + hex_len (byte text (p + 1)))
+    (hex_value text (p + 2) (hex_len (byte text (p + 1))))
 unfolding escape_at
 escape_code text p z h =
     let e : nat_lt 0 (hex_len (byte text (p + 1))) ≡ true = grind (arith, nat_tests) in

@@ -9,7 +9,9 @@ use Rattle.yaml_scan_scalars.specs.declared.folding.Gap.TheVariants as gaps
 abbrev pub blanks_of : List ℕ → List Piece
 blanks_of bs = map (λ b. Blank b) bs
 
-pub lines-blanks : (bs : List ℕ) (ps : List Piece) → lines (blanks_of bs ++ ps) ≡ record { first = blanks_of bs ++ (lines ps).first; others = (lines ps).others }
+pub lines-blanks : (bs : List ℕ) (ps : List Piece)
+    → lines (blanks_of bs ++ ps) ≡ record
+    { first = blanks_of bs ++ (lines ps).first; others = (lines ps).others }
 lines-blanks [] ps = refl
 lines-blanks (b ∷ bs) ps = rw (lines-blanks bs ps) refl
 
@@ -25,7 +27,8 @@ pub blanks_empty : (bs : List ℕ) → is_empty (blanks_of bs ++ []) ≡ true
 blanks_empty [] = refl
 blanks_empty (b ∷ bs) = blanks_empty bs
 
-pub trim_end-kept : (bs k : List ℕ) (l : Line) → trim_end (blanks_of bs ++ Kept k ∷ l) ≡ blanks_of bs ++ Kept k ∷ trim_end l
+pub trim_end-kept : (bs k : List ℕ) (l : Line)
+    → trim_end (blanks_of bs ++ Kept k ∷ l) ≡ blanks_of bs ++ Kept k ∷ trim_end l
 trim_end-kept [] k l = refl
 trim_end-kept (b ∷ bs) k l = rw (blanks_not_empty bs k l, trim_end-kept bs k l) refl
 
@@ -33,32 +36,40 @@ pub trim_end-blanks : (bs : List ℕ) → trim_end (blanks_of bs ++ []) ≡ []
 trim_end-blanks [] = refl
 trim_end-blanks (b ∷ bs) = rw (blanks_empty bs) refl
 
-folded-kept : (bs k : List ℕ) (l : Line) (ls : List (List ℕ × Line)) → folded (blanks_of bs ++ Kept k ∷ l) ls ≡ bs ++ (k ++ folded l ls)
+folded-kept : (bs k : List ℕ) (l : Line) (ls : List (List ℕ × Line))
+    → folded (blanks_of bs ++ Kept k ∷ l) ls ≡ bs ++ (k ++ folded l ls)
 folded-kept bs k l [] = text-blanks bs (Kept k ∷ l)
 folded-kept bs k l (next ∷ ls) = simp (trim_end-kept, text-blanks, append_assoc)
 
-pub value-kept : (bs k : List ℕ) (ps : List Piece) → value (blanks_of bs ++ Kept k ∷ ps) ≡ bs ++ (k ++ value ps)
+pub value-kept : (bs k : List ℕ) (ps : List Piece)
+    → value (blanks_of bs ++ Kept k ∷ ps) ≡ bs ++ (k ++ value ps)
 value-kept bs k ps = rw (lines-blanks bs (Kept k ∷ ps)) (folded-kept bs k (lines ps).first (lines ps).others)
 
-pub value-break : (bs b : List ℕ) (ps : List Piece) → value (blanks_of bs ++ Break b ∷ ps) ≡ behind b ps
+pub value-break : (bs b : List ℕ) (ps : List Piece)
+    → value (blanks_of bs ++ Break b ∷ ps) ≡ behind b ps
 value-break bs b ps = rw (lines-blanks bs (Break b ∷ ps), trim_end-blanks bs) refl
 
-rest_of-blank : (b : ℕ) (l : Line) (ls : List (List ℕ × Line)) → rest_of (Blank b ∷ l) ls ≡ rest_of l ls
+rest_of-blank : (b : ℕ) (l : Line) (ls : List (List ℕ × Line))
+    → rest_of (Blank b ∷ l) ls ≡ rest_of l ls
 rest_of-blank b l [] = refl
 rest_of-blank b l (next ∷ ls) = refl
 
-pub behind-blank : (first : List ℕ) (b : ℕ) (ps : List Piece) → behind first (Blank b ∷ ps) ≡ behind first ps
+pub behind-blank : (first : List ℕ) (b : ℕ) (ps : List Piece)
+    → behind first (Blank b ∷ ps) ≡ behind first ps
 behind-blank first b ps = rw (rest_of-blank b (lines ps).first (lines ps).others) refl
 
 behind_kept : (first k : List ℕ) (l : Line) (ls : List (List ℕ × Line))
-    → gap first (rest_of (Kept k ∷ l) ls).breaks ++ (rest_of (Kept k ∷ l) ls).value ≡ gap first [] ++ (k ++ folded l ls)
+    → gap first (rest_of (Kept k ∷ l) ls).breaks ++ (rest_of (Kept k ∷ l) ls).value ≡ gap first []
+    ++ (k ++ folded l ls)
 behind_kept first k l [] = refl
 behind_kept first k l (next ∷ ls) = simp append_assoc
 
-pub behind-kept : (first k : List ℕ) (ps : List Piece) → behind first (Kept k ∷ ps) ≡ gap first [] ++ (k ++ value ps)
+pub behind-kept : (first k : List ℕ) (ps : List Piece)
+    → behind first (Kept k ∷ ps) ≡ gap first [] ++ (k ++ value ps)
 behind-kept first k ps = behind_kept first k (lines ps).first (lines ps).others
 
-pub gap-feed : (first others : List ℕ) → is_feed first ≡ true → gap first others ≡ gap (10 ∷ []) others
+pub gap-feed : (first others : List ℕ) → is_feed first ≡ true
+    → gap first others ≡ gap (10 ∷ []) others
 gap-feed first [] h = rw h refl
 gap-feed first (x ∷ xs) h = rw h refl
 
@@ -70,15 +81,18 @@ pub gap-more : (b others : List ℕ) → 0 < length b → gap (10 ∷ []) (b ++ 
 gap-more [] others h = absurd (omega arith)
 gap-more (x ∷ xs) others h = refl
 
-pub behind-feed : (first : List ℕ) (ps : List Piece) → is_feed first ≡ true → behind first ps ≡ behind (10 ∷ []) ps
+pub behind-feed : (first : List ℕ) (ps : List Piece) → is_feed first ≡ true
+    → behind first ps ≡ behind (10 ∷ []) ps
 behind-feed first ps h = rw (gap-feed first (rest_of (lines ps).first (lines ps).others).breaks h) refl
 
-pub behind-other : (first : List ℕ) (ps : List Piece) → is_feed first ≡ false → behind first ps ≡ first ++ behind [] ps
+pub behind-other : (first : List ℕ) (ps : List Piece) → is_feed first ≡ false
+    → behind first ps ≡ first ++ behind [] ps
 behind-other first ps h =
     let r = rest_of (lines ps).first (lines ps).others in
     rw (gap-other first r.breaks h, gap-other [] r.breaks refl) (append_assoc first r.breaks r.value)
 
-pub behind-more : (b : List ℕ) (ps : List Piece) → 0 < length b → behind (10 ∷ []) (Break b ∷ ps) ≡ b ++ behind [] ps
+pub behind-more : (b : List ℕ) (ps : List Piece) → 0 < length b
+    → behind (10 ∷ []) (Break b ∷ ps) ≡ b ++ behind [] ps
 behind-more b ps h =
     let r = rest_of (lines ps).first (lines ps).others in
     rw (gap-more b r.breaks h, gap-other [] r.breaks refl) (append_assoc b r.breaks r.value)
@@ -92,55 +106,68 @@ pub resume_start : (ps : List Piece) → resumed [] [] gaps.Line ps ≡ value ps
 unfolding resumed
 resume_start ps = refl
 
-map-push : (bs : List ℕ) (b : ℕ) (ps : List Piece) → blanks_of (bs ++ b ∷ []) ++ ps ≡ blanks_of bs ++ Blank b ∷ ps
+map-push : (bs : List ℕ) (b : ℕ) (ps : List Piece)
+    → blanks_of (bs ++ b ∷ []) ++ ps ≡ blanks_of bs ++ Blank b ∷ ps
 map-push [] b ps = refl
 map-push (x ∷ bs) b ps = rw (map-push bs b ps) refl
 
-pub blank_line : (done blanks : List ℕ) (b : ℕ) (ps : List Piece) → resumed done (blanks ++ b ∷ []) gaps.Line ps ≡ resumed done blanks gaps.Line (Blank b ∷ ps)
+pub blank_line : (done blanks : List ℕ) (b : ℕ) (ps : List Piece)
+    → resumed done (blanks ++ b ∷ []) gaps.Line ps ≡ resumed done blanks gaps.Line (Blank b ∷ ps)
 unfolding resumed
 blank_line done blanks b ps = rw (map-push blanks b ps) refl
 
-pub blank_feed : (done blanks : List ℕ) (b : ℕ) (ps : List Piece) → resumed done blanks gaps.Feed ps ≡ resumed done blanks gaps.Feed (Blank b ∷ ps)
+pub blank_feed : (done blanks : List ℕ) (b : ℕ) (ps : List Piece)
+    → resumed done blanks gaps.Feed ps ≡ resumed done blanks gaps.Feed (Blank b ∷ ps)
 unfolding resumed
 blank_feed done blanks b ps = ap (λ x. done ++ x) (sym (behind-blank (10 ∷ []) b ps))
 
-pub blank_kept : (done blanks : List ℕ) (b : ℕ) (ps : List Piece) → resumed done blanks gaps.Kept ps ≡ resumed done blanks gaps.Kept (Blank b ∷ ps)
+pub blank_kept : (done blanks : List ℕ) (b : ℕ) (ps : List Piece)
+    → resumed done blanks gaps.Kept ps ≡ resumed done blanks gaps.Kept (Blank b ∷ ps)
 unfolding resumed
 blank_kept done blanks b ps = ap (λ x. done ++ x) (sym (behind-blank [] b ps))
 
-pub keep_line : (done blanks k : List ℕ) (ps : List Piece) → resumed ((done ++ blanks) ++ k) [] gaps.Line ps ≡ resumed done blanks gaps.Line (Kept k ∷ ps)
+pub keep_line : (done blanks k : List ℕ) (ps : List Piece)
+    → resumed ((done ++ blanks) ++ k) [] gaps.Line ps ≡ resumed done blanks gaps.Line (Kept k ∷ ps)
 unfolding resumed
 keep_line done blanks k ps =
     append_assoc (done ++ blanks) k (value ps) ∙ append_assoc done blanks (k ++ value ps) ∙ ap (λ x. done ++ x) (sym (value-kept blanks k ps))
 
-pub keep_feed : (done blanks k : List ℕ) (ps : List Piece) → resumed ((done ++ 32 ∷ []) ++ k) [] gaps.Line ps ≡ resumed done blanks gaps.Feed (Kept k ∷ ps)
+pub keep_feed : (done blanks k : List ℕ) (ps : List Piece)
+    → resumed ((done ++ 32 ∷ []) ++ k) [] gaps.Line ps ≡ resumed done blanks gaps.Feed (Kept k ∷ ps)
 unfolding resumed
 keep_feed done blanks k ps =
     append_assoc (done ++ 32 ∷ []) k (value ps) ∙ append_assoc done (32 ∷ []) (k ++ value ps) ∙ ap (λ x. done ++ x) (sym (behind-kept (10 ∷ []) k ps))
 
-pub keep_kept : (done blanks k : List ℕ) (ps : List Piece) → resumed (done ++ k) [] gaps.Line ps ≡ resumed done blanks gaps.Kept (Kept k ∷ ps)
+pub keep_kept : (done blanks k : List ℕ) (ps : List Piece)
+    → resumed (done ++ k) [] gaps.Line ps ≡ resumed done blanks gaps.Kept (Kept k ∷ ps)
 unfolding resumed
 keep_kept done blanks k ps = append_assoc done k (value ps) ∙ ap (λ x. done ++ x) (sym (behind-kept [] k ps))
 
-pub break_feed : (done blanks b : List ℕ) (ps : List Piece) → is_feed b ≡ true → resumed done [] gaps.Feed ps ≡ resumed done blanks gaps.Line (Break b ∷ ps)
+pub break_feed : (done blanks b : List ℕ) (ps : List Piece) → is_feed b ≡ true
+    → resumed done [] gaps.Feed ps ≡ resumed done blanks gaps.Line (Break b ∷ ps)
 unfolding resumed
 break_feed done blanks b ps h = ap (λ x. done ++ x) (sym (value-break blanks b ps ∙ behind-feed b ps h))
 
-pub break_other : (done blanks b : List ℕ) (ps : List Piece) → is_feed b ≡ false → resumed (done ++ b) [] gaps.Kept ps ≡ resumed done blanks gaps.Line (Break b ∷ ps)
+pub break_other : (done blanks b : List ℕ) (ps : List Piece) → is_feed b ≡ false
+    → resumed (done ++ b) [] gaps.Kept ps ≡ resumed done blanks gaps.Line (Break b ∷ ps)
 unfolding resumed
 break_other done blanks b ps h = append_assoc done b (behind [] ps) ∙ ap (λ x. done ++ x) (sym (value-break blanks b ps ∙ behind-other b ps h))
 
-pub break_more : (done blanks b : List ℕ) (g : Gap) (ps : List Piece) → 0 < length b → (g ≡ gaps.Line → is_feed b ≡ false) → resumed (done ++ b) [] gaps.Kept ps ≡ resumed done blanks g (Break b ∷ ps)
+pub break_more : (done blanks b : List ℕ) (g : Gap) (ps : List Piece) → 0 < length b
+    → (g ≡ gaps.Line → is_feed b ≡ false)
+    → resumed (done ++ b) [] gaps.Kept ps ≡ resumed done blanks g (Break b ∷ ps)
 unfolding resumed
 break_more done blanks b gaps.Line ps h k = break_other done blanks b ps (k refl)
 break_more done blanks b gaps.Feed ps h k = append_assoc done b (behind [] ps) ∙ ap (λ x. done ++ x) (sym (behind-more b ps h))
 break_more done blanks b gaps.Kept ps h k = append_assoc done b (behind [] ps) ∙ ap (λ x. done ++ x) (sym (behind-again b ps))
 
-pub join_line : (done : List ℕ) (ps : List Piece) → resumed done [] gaps.Kept ps ≡ resumed done [] gaps.Line (Break [] ∷ ps)
+pub join_line : (done : List ℕ) (ps : List Piece)
+    → resumed done [] gaps.Kept ps ≡ resumed done [] gaps.Line (Break [] ∷ ps)
 unfolding resumed
 join_line done ps = ap (λ x. done ++ x) (sym (value-break [] [] ps))
 
-pub end : (done blanks : List ℕ) (g : Gap) → resumed done blanks g (Kept [] ∷ []) ≡ resumed done blanks g []
+pub end : (done blanks : List ℕ) (g : Gap)
+    → resumed done blanks g (Kept [] ∷ []) ≡ resumed done blanks g []
 unfolding resumed
 end done blanks gaps.Line = ap (λ x. done ++ x) (value-kept blanks [] [] ∙ sym (text-blanks blanks []) ∙ rw (lines-blanks blanks []) refl)
 end done blanks gaps.Feed = refl
@@ -150,7 +177,8 @@ pub end_line : (done : List ℕ) → resumed done [] gaps.Line [] ≡ done
 unfolding resumed
 end_line done = append-nil done
 
-pub blank_gap : (done blanks : List ℕ) (g : Gap) (b : ℕ) (ps : List Piece) → (g ≡ gaps.Line → ⊥) → resumed done blanks g ps ≡ resumed done blanks g (Blank b ∷ ps)
+pub blank_gap : (done blanks : List ℕ) (g : Gap) (b : ℕ) (ps : List Piece) → (g ≡ gaps.Line → ⊥)
+    → resumed done blanks g ps ≡ resumed done blanks g (Blank b ∷ ps)
 blank_gap done blanks gaps.Line b ps h = absurd (h refl)
 blank_gap done blanks gaps.Feed b ps h = blank_feed done blanks b ps
 blank_gap done blanks gaps.Kept b ps h = blank_kept done blanks b ps

@@ -16,22 +16,37 @@ use Rattle.yaml_scan_scalars.proofs.PlainLemmas.{spot_kept, spot_blank, seat_tex
 
 -- many pieces or one
 
-some_run : (text : List ℕ) (p d : ℕ) (ps : List Piece) → is_nothing (run_pieces (bytes_at text p (suc d)) ++ ps) ≡ false
+some_run : (text : List ℕ) (p d : ℕ) (ps : List Piece)
+    → is_nothing (run_pieces (bytes_at text p (suc d)) ++ ps) ≡ false
 some_run text p d ps = rw (bytes_more text p d) refl
 
 with_piece_some : (b q e place : ℕ) (broke : Bool) (qs : List Piece) → is_nothing qs ≡ false
-    → with_piece (piece_of b) q (record { pieces = qs; end = e; place = place; broke = broke }) ≡ record { pieces = piece_of b ∷ qs; end = e; place = place; broke = broke }
+    → with_piece (piece_of b) q (record { pieces = qs; end = e; place = place; broke = broke })
+    ≡ record { pieces = piece_of b ∷ qs; end = e; place = place; broke = broke }
 with_piece_some b q e place broke qs h = elim (cases_Bool (b == 32)) [
   | inl s ↦ rw (s, h) refl
   | inr n ↦ rw (n, h) refl
 ]
 
 with_piece_kept : (b q : ℕ) (w : Words) → (b == 32) ≡ false
-    → with_piece (piece_of b) q w ≡ record { pieces = piece_of b ∷ w.pieces; end = if is_nothing w.pieces then q else w.end; place = w.place; broke = w.broke }
+    → with_piece (piece_of b) q w ≡ record {
+      pieces = piece_of b ∷ w.pieces;
+      end = if is_nothing w.pieces then q else w.end;
+      place =
+          w.place;
+      broke = w.broke;
+    }
 with_piece_kept b q w h = rw h refl
 
 pub with_run_is : (text : List ℕ) (p d : ℕ) (w : Words) → (byte text (p + d) == 32) ≡ false
-    → with_run text p (suc d) w ≡ record { pieces = run_pieces (bytes_at text p (suc d)) ++ w.pieces; end = if is_nothing w.pieces then p + suc d else w.end; place = w.place; broke = w.broke }
+    → with_run text p (suc d) w ≡ record {
+      pieces = run_pieces (bytes_at text p (suc d))
+          ++ w.pieces;
+      end = if is_nothing w.pieces then p + suc d else w.end;
+      place = w.place;
+      broke =
+          w.broke;
+    }
 with_run_is text p zero w h =
     let e : p + 1 ≡ p + suc zero = omega arith in
     let z : p + 0 ≡ p = omega arith in
@@ -45,13 +60,16 @@ with_run_is text p (suc d) w h =
     ∙ with_piece_some (byte text p) (p + 1) (if is_nothing w.pieces then p + 1 + suc d else w.end) w.place w.broke qs (some_run text (p + 1) d w.pieces)
     ∙ rw (bytes_more text p (suc d), e) refl
 
-joined_parts : (j : Joining) (bs : List ℕ) (e place : ℕ) (broke : Bool) (ps : List Piece) → (j.folding.gap ≡ gaps.Line) ⊎ (starts_kept bs ≡ true) → ends_kept bs ≡ true → 0 < length bs
-    → joined j (record { pieces = Kept bs ∷ ps; end = e; place = place; broke = broke }) ≡ joined j (record { pieces = run_pieces bs ++ ps; end = e; place = place; broke = broke })
+joined_parts : (j : Joining) (bs : List ℕ) (e place : ℕ) (broke : Bool) (ps : List Piece)
+    → (j.folding.gap ≡ gaps.Line) ⊎ (starts_kept bs ≡ true) → ends_kept bs ≡ true → 0 < length bs
+    → joined j (record { pieces = Kept bs ∷ ps; end = e; place = place; broke = broke })
+    ≡ joined j (record { pieces = run_pieces bs ++ ps; end = e; place = place; broke = broke })
 unfolding joined
 joined_parts j [] e place broke ps s k h = absurd (omega arith)
 joined_parts j (b ∷ bs) e place broke ps s k h = rw (resume_run j.folding b bs ps s k) refl
 
-pub joined_run : (text : List ℕ) (p d q : ℕ) (j : Joining) (w : Words) → q ≡ p + d → 0 < length (bytes_at text p d) → j.folding.gap ≡ gaps.Line → (byte text (q - 1) == 32) ≡ false
+pub joined_run : (text : List ℕ) (p d q : ℕ) (j : Joining) (w : Words) → q ≡ p + d
+    → 0 < length (bytes_at text p d) → j.folding.gap ≡ gaps.Line → (byte text (q - 1) == 32) ≡ false
     → joined j (with_piece (Kept (bytes_at text p d)) q w) ≡ joined j (with_run text p d w)
 joined_run text p zero q j w e h g k = absurd (let n = ap length (bytes_none text p) in omega (arith, n))
 joined_run text p (suc d) q j w e h g k =
@@ -59,10 +77,14 @@ joined_run text p (suc d) q j w e h g k =
     let last = rw at at k in
     rw (with_run_is text p d w last, e) (joined_parts j (bytes_at text p (suc d)) (if is_nothing w.pieces then p + suc d else w.end) w.place w.broke w.pieces (inl g) (ends_bytes text p d last) h)
 
-first_value : (bs : List ℕ) (ps : List Piece) → ends_kept bs ≡ true → value (Kept bs ∷ ps) ≡ value (run_pieces bs ++ ps)
+first_value : (bs : List ℕ) (ps : List Piece) → ends_kept bs ≡ true
+    → value (Kept bs ∷ ps) ≡ value (run_pieces bs ++ ps)
 first_value bs ps h = value-kept [] bs ps ∙ sym (value_run bs ps h)
 
-pub first_text : (text : List ℕ) (p d q : ℕ) (w : Words) → q ≡ p + suc d → (byte text (p + d) == 32) ≡ false → plain_text (with_piece (Kept (bytes_at text p (suc d))) q w) ≡ plain_text (with_run text p (suc d) w)
+pub first_text : (text : List ℕ) (p d q : ℕ) (w : Words) → q ≡ p + suc d
+    → (byte text (p + d) == 32) ≡ false
+    → plain_text (with_piece (Kept (bytes_at text p (suc d))) q w)
+    ≡ plain_text (with_run text p (suc d) w)
 first_text text p d q w e last =
     let same = ap (λ v. record { value = v; end = if is_nothing w.pieces then p + suc d else w.end; place = w.place; broke = w.broke }) (first_value (bytes_at text p (suc d)) w.pieces (ends_bytes text p d last)) in
     rw e (same ∙ sym (ap (λ v. plain_text v) (with_run_is text p d w last)))
@@ -73,7 +95,8 @@ no_bracket : (b : ℕ) → is_ordinary b ≡ true → is_bracket b ≡ false
 unfolding is_ordinary is_bracket
 no_bracket b h = grind (arith, nat_tests)
 
-ends_ordinary : (flow : Bool) (level : ℕ) (text : List ℕ) (p : ℕ) → is_ordinary (byte text p) ≡ true → leads text p ≡ false → ends_at flow level text p ≡ false
+ends_ordinary : (flow : Bool) (level : ℕ) (text : List ℕ) (p : ℕ) → is_ordinary (byte text p) ≡ true
+    → leads text p ≡ false → ends_at flow level text p ≡ false
 unfolding ends_at
 ends_ordinary true level text p h l =
     let o = ordinary_is (byte text p) h in
@@ -87,27 +110,33 @@ ends_ordinary false level text p h l =
 no_colon_test : (flow : Bool) (b : ℕ) (x : Bool) → b ≢ 58 → (flow && (b == 58 && x)) ≡ false
 no_colon_test flow b x h = grind (arith, nat_tests)
 
-spot_ordinary : (flow : Bool) (level : ℕ) (text : List ℕ) (p : ℕ) → is_ordinary (byte text p) ≡ true → leads text p ≡ false → spot_at flow level text p ≡ Takes (piece_of (byte text p)) (p + 1)
+spot_ordinary : (flow : Bool) (level : ℕ) (text : List ℕ) (p : ℕ) → is_ordinary (byte text p) ≡ true
+    → leads text p ≡ false → spot_at flow level text p ≡ Takes (piece_of (byte text p)) (p + 1)
 spot_ordinary flow level text p h l =
     let o = ordinary_is (byte text p) h in
     rw o.no_space (spot_kept flow level text p (ordinary_no_break _ _ _ h) o.no_blank (ends_ordinary flow level text p h l) (no_colon_test flow (byte text p) _ o.no_colon))
 
-spot_space : (flow : Bool) (level : ℕ) (text : List ℕ) (p : ℕ) → byte text p ≡ 32 → spot_at flow level text p ≡ Takes (piece_of (byte text p)) (p + 1)
+spot_space : (flow : Bool) (level : ℕ) (text : List ℕ) (p : ℕ) → byte text p ≡ 32
+    → spot_at flow level text p ≡ Takes (piece_of (byte text p)) (p + 1)
 spot_space flow level text p h =
     let s = space_is (byte text p) h in
     rw s.same (spot_blank flow level text p (space_no_break _ _ _ h) s.blank (rw s.no_tab refl))
 
-pub calm_next : (text : List ℕ) (p : ℕ) → is_ordinary (byte text p) ≡ true → (false ≡ leads text (p + 1)) × (false ≡ after_white text (p + 1))
+pub calm_next : (text : List ℕ) (p : ℕ) → is_ordinary (byte text p) ≡ true
+    → (false ≡ leads text (p + 1)) × (false ≡ after_white text (p + 1))
 calm_next text p h = let o = ordinary_is (byte text p) h in seat_text text p o.no_blank (ordinary_ends_none _ _ _ _ h)
 
 -- behind a run
-pub calm_behind : (text : List ℕ) (p : ℕ) (place : Place) → IsRun text p place → p < place.at → (false ≡ leads text place.at) × (false ≡ after_white text place.at)
+pub calm_behind : (text : List ℕ) (p : ℕ) (place : Place) → IsRun text p place → p < place.at
+    → (false ≡ leads text place.at) × (false ≡ after_white text place.at)
 calm_behind text p place run h =
     let last : place.at - 1 + 1 ≡ place.at = omega arith in
     rw last at (calm_next text (place.at - 1) (run.last h))
 
 -- behind a character and a run
-pub behind_first : (text : List ℕ) (p : ℕ) (place : Place) → is_blank (byte text p) ≡ false → ends_break text p ≡ false → IsRun text (p + 1) place → (false ≡ leads text place.at) × (false ≡ after_white text place.at)
+pub behind_first : (text : List ℕ) (p : ℕ) (place : Place) → is_blank (byte text p) ≡ false
+    → ends_break text p ≡ false → IsRun text (p + 1) place
+    → (false ≡ leads text place.at) × (false ≡ after_white text place.at)
 behind_first text p place b e run =
     let after = run.after in
     elim (same_or (p + 1) place.at after) [
@@ -119,7 +148,8 @@ abbrev pub words_with : (Words → Words) → Result Words Wrong → Result Word
 words_with f (Ok w) = Ok (f w)
 words_with f (Err e) = Err e
 
-words_one : (n : ℕ) (flow : Bool) (level : ℕ) (text : List ℕ) (p : ℕ) (x : Piece) → spot_at flow level text p ≡ Takes x (p + 1)
+words_one : (n : ℕ) (flow : Bool) (level : ℕ) (text : List ℕ) (p : ℕ) (x : Piece)
+    → spot_at flow level text p ≡ Takes x (p + 1)
     → words (suc n) flow level text p ≡ words_from x (p + 1) (words n flow level text (p + 1))
 unfolding words
 words_one n flow level text p x h = rw h refl
@@ -129,7 +159,8 @@ record RunSpot (flow : Bool) (level : ℕ) (text : List ℕ) (p : ℕ) : Type 0 
   pub takes : spot_at flow level text p ≡ Takes (piece_of (byte text p)) (p + 1)
   pub calm : leads text (p + 1) ≡ false
 
-run_spot : (flow : Bool) (level : ℕ) (text : List ℕ) (p : ℕ) → in_run text p ≡ true → leads text p ≡ false → RunSpot flow level text p
+run_spot : (flow : Bool) (level : ℕ) (text : List ℕ) (p : ℕ) → in_run text p ≡ true
+    → leads text p ≡ false → RunSpot flow level text p
 run_spot flow level text p h l = elim (run_parts text p h) [
   | inl o ↦ record { takes = spot_ordinary flow level text p o l; calm = sym (calm_next text p o).0 }
   | inr s ↦ record { takes = spot_space flow level text p s.0; calm = leads-blank text p (space_is (byte text p) s.0).blank ∙ l }
@@ -139,12 +170,15 @@ words_none : (r : Result Words Wrong) → r ≡ words_with (λ w. w) r
 words_none (Ok w) = refl
 words_none (Err e) = refl
 
-words_more : (x : Piece) (q : ℕ) (f : Words → Words) (r : Result Words Wrong) → words_from x q (words_with f r) ≡ words_with (λ w. with_piece x q (f w)) r
+words_more : (x : Piece) (q : ℕ) (f : Words → Words) (r : Result Words Wrong)
+    → words_from x q (words_with f r) ≡ words_with (λ w. with_piece x q (f w)) r
 words_more x q f (Ok w) = refl
 words_more x q f (Err e) = refl
 
-pub words_run : (d n : ℕ) (flow : Bool) (level : ℕ) (text : List ℕ) (p : ℕ) → d ≤ n → (0 < d → leads text p ≡ false) → ((k : ℕ) → p ≤ k → k < p + d → in_run text k ≡ true)
-    → words (suc n) flow level text p ≡ words_with (with_run text p d) (words (suc (n - d)) flow level text (p + d))
+pub words_run : (d n : ℕ) (flow : Bool) (level : ℕ) (text : List ℕ) (p : ℕ) → d ≤ n
+    → (0 < d → leads text p ≡ false) → ((k : ℕ) → p ≤ k → k < p + d → in_run text k ≡ true)
+    → words (suc n) flow level text p
+    ≡ words_with (with_run text p d) (words (suc (n - d)) flow level text (p + d))
 words_run zero n flow level text p h l o =
     let e : n - 0 ≡ n = omega arith in
     let f : p + 0 ≡ p = omega arith in
@@ -159,12 +193,17 @@ words_run (suc d) (suc n) flow level text p h l o =
     rw (e, f) (words_one (suc n) flow level text p x spot.takes ∙ ap (λ r. words_from x (p + 1) r) more
     ∙ words_more x (p + 1) (with_run text (p + 1) d) (words (suc (n - d)) flow level text (p + 1 + d)))
 
-plain_front : (old new : Joining) (f : Words → Words) (r : Result Words Wrong) → ((w : Words) → joined new w ≡ joined old (f w)) → plain_with (joined old) (words_with f r) ≡ plain_with (joined new) r
+plain_front : (old new : Joining) (f : Words → Words) (r : Result Words Wrong)
+    → ((w : Words) → joined new w ≡ joined old (f w))
+    → plain_with (joined old) (words_with f r) ≡ plain_with (joined new) r
 plain_front old new f (Ok w) h = rw (h w) refl
 plain_front old new f (Err e) h = refl
 
-pub plain_run : (n : ℕ) (flow : Bool) (level : ℕ) (text : List ℕ) (p : ℕ) (old new : Joining) (place : Place) → TookWords text p old new place → length text ≤ p + n
-    → (m : ℕ) × (length text ≤ place.at + m) × (plain_with (joined old) (words (suc n) flow level text p) ≡ plain_with (joined new) (words (suc m) flow level text place.at))
+pub plain_run : (n : ℕ) (flow : Bool) (level : ℕ) (text : List ℕ) (p : ℕ) (old new : Joining)
+    (place : Place) → TookWords text p old new place → length text ≤ p + n
+    → (m : ℕ) × (length text ≤ place.at + m)
+    × (plain_with (joined old) (words (suc n) flow level text p)
+    ≡ plain_with (joined new) (words (suc m) flow level text place.at))
 plain_run n flow level text p old new place took room =
     let run = took.run in
     let after = run.after in
@@ -173,12 +212,18 @@ plain_run n flow level text p old new place took room =
     let all = words_run (place.at - p) n flow level text p d (λ s. took.calm (omega arith)) (λ k a b. run.each k a (omega arith)) in
     (n - (place.at - p), omega arith, rw at at (ap (λ r. plain_with (joined old) r) all ∙ plain_front old new (with_run text p (place.at - p)) (words (suc (n - (place.at - p))) flow level text (p + (place.at - p))) took.value))
 
-first_front : (new : Joining) (f : Words → Words) (r : Result Words Wrong) → ((w : Words) → joined new w ≡ plain_text (f w)) → plain_with plain_text (words_with f r) ≡ plain_with (joined new) r
+first_front : (new : Joining) (f : Words → Words) (r : Result Words Wrong)
+    → ((w : Words) → joined new w ≡ plain_text (f w))
+    → plain_with plain_text (words_with f r) ≡ plain_with (joined new) r
 first_front new f (Ok w) h = rw (h w) refl
 first_front new f (Err e) h = refl
 
-pub plain_first_run : (flow : Bool) (level : ℕ) (text : List ℕ) (p : ℕ) (new : Joining) (place : Place) → TookFirst text p new place → p < length text → leads text (p + 1) ≡ false → (byte text p == 32) ≡ false
-    → (m : ℕ) × (length text ≤ place.at + m) × (plain_at flow level text p ≡ plain_with (joined new) (words (suc m) flow level text place.at))
+pub plain_first_run : (flow : Bool) (level : ℕ) (text : List ℕ) (p : ℕ) (new : Joining)
+    (place : Place) → TookFirst text p new place → p < length text → leads text (p + 1) ≡ false
+    → (byte text p == 32) ≡ false
+    → (m : ℕ) × (length text ≤ place.at + m)
+    × (plain_at flow level text p ≡ plain_with (joined new)
+    (words (suc m) flow level text place.at))
 plain_first_run flow level text p new place took inside calm first =
     let run = took.run in
     let after = run.after in

@@ -61,20 +61,26 @@ pub ordinary_ends_none : (x y b c : ℕ) → is_ordinary b ≡ true → ends_of 
 unfolding is_ordinary ends_of
 ordinary_ends_none x y b c h = grind (arith, nat_tests)
 
-pub no_mark : (b c d : ℕ) (first last : Bool) → b ≢ 45 → b ≢ 46 → (first && ((((b == 45) && (c == 45)) && (d == 45)) || (((b == 46) && (c == 46)) && (d == 46))) && last) ≡ false
+pub no_mark : (b c d : ℕ) (first last : Bool) → b ≢ 45 → b ≢ 46
+    → (first && ((((b == 45) && (c == 45)) && (d == 45)) || (((b == 46) && (c == 46)) && (d == 46)))
+    && last) ≡ false
 no_mark b c d first last h k = grind (arith, nat_tests)
 
-pub ordinary_no_mark : (text : List ℕ) (p : ℕ) → is_ordinary (byte text p) ≡ true → is_document_indicator text p ≡ false
+pub ordinary_no_mark : (text : List ℕ) (p : ℕ) → is_ordinary (byte text p) ≡ true
+    → is_document_indicator text p ≡ false
 unfolding is_document_indicator
 ordinary_no_mark text p h = let o = ordinary_is (byte text p) h in no_mark (byte text p) _ _ _ _ o.no_dash o.no_dot
 
 -- what stands in a run
 
-spaced_or : (o n : Bool) (b : ℕ) → (o || (b == 32 && n)) ≡ true → (o ≡ true) ⊎ ((b ≡ 32) × (n ≡ true))
+spaced_or : (o n : Bool) (b : ℕ) → (o || (b == 32 && n)) ≡ true
+    → (o ≡ true) ⊎ ((b ≡ 32) × (n ≡ true))
 spaced_or true n b h = inl refl
 spaced_or false n b h = inr (grind (arith, nat_tests), grind (arith, nat_tests))
 
-pub run_parts : (text : List ℕ) (p : ℕ) → in_run text p ≡ true → (is_ordinary (byte text p) ≡ true) ⊎ ((byte text p ≡ 32) × (is_narrow (byte text (p + 1)) ≡ true))
+pub run_parts : (text : List ℕ) (p : ℕ) → in_run text p ≡ true
+    → (is_ordinary (byte text p) ≡ true)
+    ⊎ ((byte text p ≡ 32) × (is_narrow (byte text (p + 1)) ≡ true))
 unfolding in_run
 run_parts text p h = spaced_or (is_ordinary (byte text p)) (is_narrow (byte text (p + 1))) (byte text p) h
 
@@ -88,7 +94,8 @@ spaced_in text p h = or_right (is_ordinary (byte text p)) (is_spaced text p) h
 
 -- bytes of the text
 
-pub slice_bytes : (text : List ℕ) (p d : ℕ) → p + d ≤ length text → take d (drop p text) ≡ bytes_at text p d
+pub slice_bytes : (text : List ℕ) (p d : ℕ) → p + d ≤ length text
+    → take d (drop p text) ≡ bytes_at text p d
 unfolding bytes_at
 slice_bytes text p zero h = refl
 slice_bytes text p (suc d) h =
@@ -100,7 +107,8 @@ pub bytes_none : (text : List ℕ) (p : ℕ) → bytes_at text p 0 ≡ []
 unfolding bytes_at
 bytes_none text p = refl
 
-pub bytes_more : (text : List ℕ) (p d : ℕ) → bytes_at text p (suc d) ≡ byte text p ∷ bytes_at text (p + 1) d
+pub bytes_more : (text : List ℕ) (p d : ℕ)
+    → bytes_at text p (suc d) ≡ byte text p ∷ bytes_at text (p + 1) d
 unfolding bytes_at
 bytes_more text p d = refl
 
@@ -115,14 +123,17 @@ run_start text p = record { same = refl; after = omega arith; each = λ k h l. a
 last_or : (k n : ℕ) → k < n + 1 → (k < n) ⊎ (k ≡ n)
 last_or k n h = grind arith
 
-pub each_more : (text : List ℕ) (p q : ℕ) → ((k : ℕ) → p ≤ k → k < q → in_run text k ≡ true) → in_run text q ≡ true → (k : ℕ) → p ≤ k → k < q + 1 → in_run text k ≡ true
+pub each_more : (text : List ℕ) (p q : ℕ) → ((k : ℕ) → p ≤ k → k < q → in_run text k ≡ true)
+    → in_run text q ≡ true → (k : ℕ) → p ≤ k → k < q + 1 → in_run text k ≡ true
 each_more text p q r h k a b =
     elim (last_or k q b) [
       | inl l ↦ r k a l
       | inr e ↦ rw e h
     ]
 
-pub run_more : (text : List ℕ) (p : ℕ) (place : Place) → IsRun text p place → is_ordinary (byte text place.at) ≡ true → IsRun text p (record { text = place.text; at = place.at + 1 })
+pub run_more : (text : List ℕ) (p : ℕ) (place : Place) → IsRun text p place
+    → is_ordinary (byte text place.at) ≡ true
+    → IsRun text p (record { text = place.text; at = place.at + 1 })
 run_more text p place r h =
     let after = r.after in
     let e : place.at + 1 - 1 ≡ place.at = omega arith in
@@ -135,7 +146,8 @@ pub same_or : (p q : ℕ) → p ≤ q → (q ≡ p) ⊎ (p < q)
 same_or p q h = grind arith
 
 -- a run and the run behind it
-pub run_join : (text : List ℕ) (p : ℕ) (place last : Place) → IsRun text p place → IsRun place.text place.at last → IsRun text p last
+pub run_join : (text : List ℕ) (p : ℕ) (place last : Place) → IsRun text p place
+    → IsRun place.text place.at last → IsRun text p last
 run_join text p place last r s =
     let after = r.after in
     let more = s.after in
@@ -153,7 +165,8 @@ run_join text p place last r s =
     }
 
 -- a run is inside the text
-pub run_inside : (text : List ℕ) (p : ℕ) (place : Place) → IsRun text p place → (place.at ≡ p) ⊎ (place.at ≤ length text)
+pub run_inside : (text : List ℕ) (p : ℕ) (place : Place) → IsRun text p place
+    → (place.at ≡ p) ⊎ (place.at ≤ length text)
 run_inside text p place r =
     let after = r.after in
     elim (same_or p place.at after) [
@@ -164,7 +177,8 @@ run_inside text p place r =
           inr (omega arith)
     ]
 
-pub run_slice : (text : List ℕ) (p : ℕ) (place : Place) → IsRun text p place → take (place.at - p) (drop p text) ≡ bytes_at text p (place.at - p)
+pub run_slice : (text : List ℕ) (p : ℕ) (place : Place) → IsRun text p place
+    → take (place.at - p) (drop p text) ≡ bytes_at text p (place.at - p)
 run_slice text p place r =
     let after = r.after in
     elim (run_inside text p place r) [
@@ -173,7 +187,8 @@ run_slice text p place r =
     ]
 
 -- with the byte before it
-pub first_slice : (text : List ℕ) (p : ℕ) (place : Place) → IsRun text (p + 1) place → p < length text → take (place.at - p) (drop p text) ≡ bytes_at text p (place.at - p)
+pub first_slice : (text : List ℕ) (p : ℕ) (place : Place) → IsRun text (p + 1) place
+    → p < length text → take (place.at - p) (drop p text) ≡ bytes_at text p (place.at - p)
 first_slice text p place r h =
     let after = r.after in
     elim (run_inside text (p + 1) place r) [
@@ -181,13 +196,15 @@ first_slice text p place r h =
       | inr l ↦ slice_bytes text p (place.at - p) (omega arith)
     ]
 
-pub run_none : (text : List ℕ) (p : ℕ) (place : Place) → IsRun text p place → length (bytes_at text p (place.at - p)) ≡ 0 → place.at ≡ p
+pub run_none : (text : List ℕ) (p : ℕ) (place : Place) → IsRun text p place
+    → length (bytes_at text p (place.at - p)) ≡ 0 → place.at ≡ p
 run_none text p place r h =
     let after = r.after in
     let l = bytes_long text p (place.at - p) in
     omega (arith, h)
 
-pub run_some : (text : List ℕ) (p : ℕ) (place : Place) → IsRun text p place → 0 < length (bytes_at text p (place.at - p)) → p < place.at
+pub run_some : (text : List ℕ) (p : ℕ) (place : Place) → IsRun text p place
+    → 0 < length (bytes_at text p (place.at - p)) → p < place.at
 run_some text p place r h =
     let after = r.after in
     let l = bytes_long text p (place.at - p) in
@@ -195,7 +212,8 @@ run_some text p place r h =
 
 -- the last byte of a run is no space
 
-pub ends_bytes : (text : List ℕ) (p d : ℕ) → (byte text (p + d) == 32) ≡ false → ends_kept (bytes_at text p (suc d)) ≡ true
+pub ends_bytes : (text : List ℕ) (p d : ℕ) → (byte text (p + d) == 32) ≡ false
+    → ends_kept (bytes_at text p (suc d)) ≡ true
 unfolding bytes_at
 ends_bytes text p zero h =
     let e : p + 0 ≡ p = omega arith in
@@ -204,7 +222,8 @@ ends_bytes text p (suc d) h =
     let e : p + suc d ≡ p + 1 + d = omega arith in
     ends_bytes text (p + 1) d (rw e at h)
 
-pub run_ends : (text : List ℕ) (p : ℕ) (place : Place) → IsRun text p place → ends_kept (bytes_at text p (place.at - p)) ≡ true
+pub run_ends : (text : List ℕ) (p : ℕ) (place : Place) → IsRun text p place
+    → ends_kept (bytes_at text p (place.at - p)) ≡ true
 run_ends text p place run =
     let after = run.after in
     elim (same_or p place.at after) [
@@ -216,7 +235,8 @@ run_ends text p place run =
     ]
 
 -- nor that of a run with the byte before it
-pub first_last : (text : List ℕ) (p : ℕ) (place : Place) → IsRun text (p + 1) place → (byte text p == 32) ≡ false → (byte text (p + (place.at - (p + 1))) == 32) ≡ false
+pub first_last : (text : List ℕ) (p : ℕ) (place : Place) → IsRun text (p + 1) place
+    → (byte text p == 32) ≡ false → (byte text (p + (place.at - (p + 1))) == 32) ≡ false
 first_last text p place run h =
     let after = run.after in
     elim (same_or (p + 1) place.at after) [
@@ -229,7 +249,8 @@ first_last text p place run h =
 starts_first : (b : ℕ) (bs : List ℕ) → (b == 32) ≡ false → starts_kept (b ∷ bs) ≡ true
 starts_first b bs h = rw h refl
 
-pub starts_bytes : (text : List ℕ) (p d : ℕ) → (byte text p == 32) ≡ false → starts_kept (bytes_at text p d) ≡ true
+pub starts_bytes : (text : List ℕ) (p d : ℕ) → (byte text p == 32) ≡ false
+    → starts_kept (bytes_at text p d) ≡ true
 starts_bytes text p zero h = rw (bytes_none text p) refl
 starts_bytes text p (suc d) h = rw (bytes_more text p d) (starts_first (byte text p) (bytes_at text (p + 1) d) h)
 
@@ -238,29 +259,35 @@ starts_bytes text p (suc d) h = rw (bytes_more text p d) (starts_first (byte tex
 is_kept : (b : ℕ) → (b == 32) ≡ false → piece_of b ≡ Kept (b ∷ [])
 is_kept b h = rw h refl
 
-kept_some : (b : ℕ) (bs : List ℕ) (ps : List Piece) → ends_kept (b ∷ bs) ≡ true → is_empty (lines (run_pieces (b ∷ bs) ++ ps)).first ≡ false
+kept_some : (b : ℕ) (bs : List ℕ) (ps : List Piece) → ends_kept (b ∷ bs) ≡ true
+    → is_empty (lines (run_pieces (b ∷ bs) ++ ps)).first ≡ false
 kept_some b [] ps h = rw (not-true (b == 32) h) refl
 kept_some b (c ∷ bs) ps h = elim (cases_Bool (b == 32)) [
   | inl s ↦ let more = kept_some c bs ps h in rw s more
   | inr n ↦ rw n refl
 ]
 
-folded_blank : (b : ℕ) (l : Line) (ls : List (List ℕ × Line)) → is_empty l ≡ false → folded (Blank b ∷ l) ls ≡ b ∷ folded l ls
+folded_blank : (b : ℕ) (l : Line) (ls : List (List ℕ × Line)) → is_empty l ≡ false
+    → folded (Blank b ∷ l) ls ≡ b ∷ folded l ls
 folded_blank b l [] h = refl
 folded_blank b l (next ∷ ls) h = rw h refl
 
-value_blank : (b : ℕ) (ps : List Piece) → is_empty (lines ps).first ≡ false → value (Blank b ∷ ps) ≡ b ∷ value ps
+value_blank : (b : ℕ) (ps : List Piece) → is_empty (lines ps).first ≡ false
+    → value (Blank b ∷ ps) ≡ b ∷ value ps
 value_blank b ps h = folded_blank b (lines ps).first (lines ps).others h
 
-blanks_some : (bl : List ℕ) (ps : List Piece) → is_empty (lines ps).first ≡ false → is_empty (lines (blanks_of bl ++ ps)).first ≡ false
+blanks_some : (bl : List ℕ) (ps : List Piece) → is_empty (lines ps).first ≡ false
+    → is_empty (lines (blanks_of bl ++ ps)).first ≡ false
 blanks_some [] ps h = h
 blanks_some (b ∷ bl) ps h = blanks_some bl ps h
 
-value_blanks : (bl : List ℕ) (ps : List Piece) → is_empty (lines ps).first ≡ false → value (blanks_of bl ++ ps) ≡ bl ++ value ps
+value_blanks : (bl : List ℕ) (ps : List Piece) → is_empty (lines ps).first ≡ false
+    → value (blanks_of bl ++ ps) ≡ bl ++ value ps
 value_blanks [] ps h = refl
 value_blanks (b ∷ bl) ps h = value_blank b (blanks_of bl ++ ps) (blanks_some bl ps h) ∙ ap (λ x. b ∷ x) (value_blanks bl ps h)
 
-pub value_run : (bs : List ℕ) (ps : List Piece) → ends_kept bs ≡ true → value (run_pieces bs ++ ps) ≡ bs ++ value ps
+pub value_run : (bs : List ℕ) (ps : List Piece) → ends_kept bs ≡ true
+    → value (run_pieces bs ++ ps) ≡ bs ++ value ps
 value_run [] ps h = refl
 value_run (b ∷ []) ps h =
     let n = not-true (b == 32) h in
@@ -281,7 +308,8 @@ stem done blanks gaps.Line = done ++ blanks
 stem done blanks gaps.Feed = done ++ 32 ∷ []
 stem done blanks gaps.Kept = done
 
-kept_stem : (done blanks k : List ℕ) (g : Gap) (ps : List Piece) → resumed done blanks g (Kept k ∷ ps) ≡ resumed (stem done blanks g ++ k) [] gaps.Line ps
+kept_stem : (done blanks k : List ℕ) (g : Gap) (ps : List Piece)
+    → resumed done blanks g (Kept k ∷ ps) ≡ resumed (stem done blanks g ++ k) [] gaps.Line ps
 kept_stem done blanks k gaps.Line ps = sym (keep_line done blanks k ps)
 kept_stem done blanks k gaps.Feed ps = sym (keep_feed done blanks k ps)
 kept_stem done blanks k gaps.Kept ps = sym (keep_kept done blanks k ps)
@@ -291,7 +319,8 @@ unfolding resumed
 line_value done ps = refl
 
 -- behind a break no space comes first
-resume_kept : (f : Folding) (b : ℕ) (bs : List ℕ) (ps : List Piece) → (b == 32) ≡ false → ends_kept bs ≡ true → resume f (Kept (b ∷ bs) ∷ ps) ≡ resume f (run_pieces (b ∷ bs) ++ ps)
+resume_kept : (f : Folding) (b : ℕ) (bs : List ℕ) (ps : List Piece) → (b == 32) ≡ false
+    → ends_kept bs ≡ true → resume f (Kept (b ∷ bs) ∷ ps) ≡ resume f (run_pieces (b ∷ bs) ++ ps)
 resume_kept f b bs ps n h =
     let s = stem f.done.items f.blanks.items f.gap in
     let left : resume f (Kept (b ∷ bs) ∷ ps) ≡ s ++ (b ∷ (bs ++ value ps)) =
@@ -300,11 +329,14 @@ resume_kept f b bs ps n h =
     kept_stem f.done.items f.blanks.items (b ∷ []) f.gap (run_pieces bs ++ ps) ∙ line_value (s ++ (b ∷ [])) (run_pieces bs ++ ps) ∙ append_assoc s (b ∷ []) (value (run_pieces bs ++ ps)) in
     rw n (left ∙ sym (right ∙ ap (λ x. s ++ (b ∷ x)) (value_run bs ps h)))
 
-resumed_line : (done blanks : List ℕ) (ps : List Piece) → is_empty (lines ps).first ≡ false → resumed done blanks gaps.Line ps ≡ done ++ (blanks ++ value ps)
+resumed_line : (done blanks : List ℕ) (ps : List Piece) → is_empty (lines ps).first ≡ false
+    → resumed done blanks gaps.Line ps ≡ done ++ (blanks ++ value ps)
 unfolding resumed
 resumed_line done blanks ps h = ap (λ x. done ++ x) (value_blanks blanks ps h)
 
-resume_line : (f : Folding) (b : ℕ) (bs : List ℕ) (ps : List Piece) → f.gap ≡ gaps.Line → ends_kept (b ∷ bs) ≡ true → resume f (Kept (b ∷ bs) ∷ ps) ≡ resume f (run_pieces (b ∷ bs) ++ ps)
+resume_line : (f : Folding) (b : ℕ) (bs : List ℕ) (ps : List Piece) → f.gap ≡ gaps.Line
+    → ends_kept (b ∷ bs) ≡ true
+    → resume f (Kept (b ∷ bs) ∷ ps) ≡ resume f (run_pieces (b ∷ bs) ++ ps)
 resume_line f b bs ps g h =
     let left = resumed_line f.done.items f.blanks.items (Kept (b ∷ bs) ∷ ps) refl in
     let right = resumed_line f.done.items f.blanks.items (run_pieces (b ∷ bs) ++ ps) (kept_some b bs ps h) in
@@ -312,17 +344,20 @@ resume_line f b bs ps g h =
     let all = value_run (b ∷ bs) ps h in
     rw g (left ∙ ap (λ x. f.done.items ++ (f.blanks.items ++ x)) (one ∙ sym all) ∙ sym right)
 
-pub resume_run : (f : Folding) (b : ℕ) (bs : List ℕ) (ps : List Piece) → (f.gap ≡ gaps.Line) ⊎ (starts_kept (b ∷ bs) ≡ true) → ends_kept (b ∷ bs) ≡ true
+pub resume_run : (f : Folding) (b : ℕ) (bs : List ℕ) (ps : List Piece)
+    → (f.gap ≡ gaps.Line) ⊎ (starts_kept (b ∷ bs) ≡ true) → ends_kept (b ∷ bs) ≡ true
     → resume f (Kept (b ∷ bs) ∷ ps) ≡ resume f (run_pieces (b ∷ bs) ++ ps)
 resume_run f b bs ps (inl g) h = resume_line f b bs ps g h
 resume_run f b bs ps (inr s) h = resume_kept f b bs ps (not-true (b == 32) s) (ends_tail b bs h)
 
-pub resume_bytes : (f : Folding) (bs : List ℕ) (ps : List Piece) → (f.gap ≡ gaps.Line) ⊎ (starts_kept bs ≡ true) → ends_kept bs ≡ true → 0 < length bs
+pub resume_bytes : (f : Folding) (bs : List ℕ) (ps : List Piece)
+    → (f.gap ≡ gaps.Line) ⊎ (starts_kept bs ≡ true) → ends_kept bs ≡ true → 0 < length bs
     → resume f (Kept bs ∷ ps) ≡ resume f (run_pieces bs ++ ps)
 resume_bytes f [] ps s e h = absurd (omega arith)
 resume_bytes f (b ∷ bs) ps s e h = resume_run f b bs ps s e
 
-pub resume_none : (f : Folding) (bs : List ℕ) (ps : List Piece) → length bs ≡ 0 → resume f ps ≡ resume f (run_pieces bs ++ ps)
+pub resume_none : (f : Folding) (bs : List ℕ) (ps : List Piece) → length bs ≡ 0
+    → resume f ps ≡ resume f (run_pieces bs ++ ps)
 resume_none f [] ps h = refl
 resume_none f (b ∷ bs) ps h = absurd (omega (arith, h))
 
@@ -335,7 +370,9 @@ not_quote : (quote b : ℕ) → b ≢ 34 → b ≢ 39 → (quote ≡ 34) ⊎ (qu
 not_quote quote b h k (inl e) = omega arith
 not_quote quote b h k (inr e) = omega arith
 
-standing_ordinary : (quote : ℕ) (text : List ℕ) (p : ℕ) → (quote ≡ 34) ⊎ (quote ≡ 39) → is_ordinary (byte text p) ≡ true → standing_at quote text p ≡ Pieces (piece_of (byte text p) ∷ []) (p + 1)
+standing_ordinary : (quote : ℕ) (text : List ℕ) (p : ℕ) → (quote ≡ 34) ⊎ (quote ≡ 39)
+    → is_ordinary (byte text p) ≡ true
+    → standing_at quote text p ≡ Pieces (piece_of (byte text p) ∷ []) (p + 1)
 standing_ordinary quote text p q h =
     let o = ordinary_is (byte text p) h in
     let some = o.some in
@@ -356,18 +393,21 @@ space_no_mark text p h = no_mark (byte text p) _ _ _ _ (omega arith) (omega arit
 pub space_no_break : (b c d : ℕ) → b ≡ 32 → break_of b c d ≡ 0
 space_no_break b c d h = no_break b c d (omega arith) (omega arith) (omega arith) (omega arith)
 
-standing_space : (quote : ℕ) (text : List ℕ) (p : ℕ) → (quote ≡ 34) ⊎ (quote ≡ 39) → byte text p ≡ 32 → standing_at quote text p ≡ Pieces (piece_of (byte text p) ∷ []) (p + 1)
+standing_space : (quote : ℕ) (text : List ℕ) (p : ℕ) → (quote ≡ 34) ⊎ (quote ≡ 39)
+    → byte text p ≡ 32 → standing_at quote text p ≡ Pieces (piece_of (byte text p) ∷ []) (p + 1)
 standing_space quote text p q h =
     let s = space_is (byte text p) h in
     rw s.same (standing_blank quote text p (space_no_mark text p h) (omega arith) (not_quote quote (byte text p) (omega arith) (omega arith) q) (space_no_break _ _ _ h) s.blank)
 
-standing_run : (quote : ℕ) (text : List ℕ) (p : ℕ) → (quote ≡ 34) ⊎ (quote ≡ 39) → in_run text p ≡ true → standing_at quote text p ≡ Pieces (piece_of (byte text p) ∷ []) (p + 1)
+standing_run : (quote : ℕ) (text : List ℕ) (p : ℕ) → (quote ≡ 34) ⊎ (quote ≡ 39)
+    → in_run text p ≡ true → standing_at quote text p ≡ Pieces (piece_of (byte text p) ∷ []) (p + 1)
 standing_run quote text p q h = elim (run_parts text p h) [
   | inl o ↦ standing_ordinary quote text p q o
   | inr s ↦ standing_space quote text p q s.0
 ]
 
-pieces_one : (n quote : ℕ) (text : List ℕ) (p : ℕ) (x : Piece) → standing_at quote text p ≡ Pieces (x ∷ []) (p + 1)
+pieces_one : (n quote : ℕ) (text : List ℕ) (p : ℕ) (x : Piece)
+    → standing_at quote text p ≡ Pieces (x ∷ []) (p + 1)
     → pieces (suc n) quote text p ≡ with_front (x ∷ []) (pieces n quote text (p + 1))
 unfolding pieces
 pieces_one n quote text p x h = rw h refl
@@ -376,12 +416,15 @@ front_none : (r : Result (List Piece × ℕ) Wrong) → r ≡ with_front [] r
 front_none (Ok x) = refl
 front_none (Err w) = refl
 
-front_more : (x : Piece) (qs : List Piece) (r : Result (List Piece × ℕ) Wrong) → with_front (x ∷ []) (with_front qs r) ≡ with_front (x ∷ qs) r
+front_more : (x : Piece) (qs : List Piece) (r : Result (List Piece × ℕ) Wrong)
+    → with_front (x ∷ []) (with_front qs r) ≡ with_front (x ∷ qs) r
 front_more x qs (Ok y) = refl
 front_more x qs (Err w) = refl
 
-pub pieces_run : (d n quote : ℕ) (text : List ℕ) (p : ℕ) → (quote ≡ 34) ⊎ (quote ≡ 39) → d ≤ n → ((k : ℕ) → p ≤ k → k < p + d → in_run text k ≡ true)
-    → pieces (suc n) quote text p ≡ with_front (run_pieces (bytes_at text p d)) (pieces (suc (n - d)) quote text (p + d))
+pub pieces_run : (d n quote : ℕ) (text : List ℕ) (p : ℕ) → (quote ≡ 34) ⊎ (quote ≡ 39) → d ≤ n
+    → ((k : ℕ) → p ≤ k → k < p + d → in_run text k ≡ true)
+    → pieces (suc n) quote text p ≡ with_front (run_pieces (bytes_at text p d))
+    (pieces (suc (n - d)) quote text (p + d))
 pieces_run zero n quote text p q h o =
     let e : n - 0 ≡ n = omega arith in
     let f : p + 0 ≡ p = omega arith in
@@ -395,11 +438,13 @@ pieces_run (suc d) (suc n) quote text p q h o =
     rw (e, f, bytes_more text p d) (pieces_one (suc n) quote text p (piece_of (byte text p)) here ∙ ap (λ r. with_front (piece_of (byte text p) ∷ []) r) more
     ∙ front_more (piece_of (byte text p)) (run_pieces (bytes_at text (p + 1) d)) (pieces (suc (n - d)) quote text (p + 1 + d)))
 
-front : (old new : List Piece → List ℕ) (qs : List Piece) (r : Result (List Piece × ℕ) Wrong) → ((ps : List Piece) → new ps ≡ old (qs ++ ps)) → valued old (with_front qs r) ≡ valued new r
+front : (old new : List Piece → List ℕ) (qs : List Piece) (r : Result (List Piece × ℕ) Wrong)
+    → ((ps : List Piece) → new ps ≡ old (qs ++ ps)) → valued old (with_front qs r) ≡ valued new r
 front old new qs (Ok x) h = rw (h x.0) refl
 front old new qs (Err e) h = refl
 
-pub few : (text : List ℕ) (p n : ℕ) (place : Place) → IsRun text p place → length text ≤ p + n → place.at - p ≤ n
+pub few : (text : List ℕ) (p n : ℕ) (place : Place) → IsRun text p place → length text ≤ p + n
+    → place.at - p ≤ n
 few text p n place run room =
     let after = run.after in
     elim (run_inside text p place run) [
@@ -407,8 +452,11 @@ few text p n place run room =
       | inr l ↦ omega arith
     ]
 
-pub quoted_run : (n quote : ℕ) (text : List ℕ) (p : ℕ) (old new : List Piece → List ℕ) (place : Place) → (quote ≡ 34) ⊎ (quote ≡ 39) → TookRun text p old new place → length text ≤ p + n
-    → (m : ℕ) × (length text ≤ place.at + m) × (valued old (pieces (suc n) quote text p) ≡ valued new (pieces (suc m) quote text place.at))
+pub quoted_run : (n quote : ℕ) (text : List ℕ) (p : ℕ) (old new : List Piece → List ℕ)
+    (place : Place) → (quote ≡ 34) ⊎ (quote ≡ 39) → TookRun text p old new place
+    → length text ≤ p + n
+    → (m : ℕ) × (length text ≤ place.at + m)
+    × (valued old (pieces (suc n) quote text p) ≡ valued new (pieces (suc m) quote text place.at))
 quoted_run n quote text p old new place q (run, same) room =
     let after = run.after in
     let d : place.at - p ≤ n = few text p n place run room in

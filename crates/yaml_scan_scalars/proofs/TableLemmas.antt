@@ -26,7 +26,8 @@ agree_at f g (suc n) h b lt =
     let both = both_of (f n) (g n) (agree_below f g n) h in
     elim (cases_eq b n) [ inl same ↦ rw same both.0 | inr other ↦ agree_at f g n both.1 b (omega arith) ]
 
-column_behind : (text : List ℕ) (p : ℕ) → ends_break text p ≡ false → column_at text (p + 1) ≡ column_at text p + (if starts (byte text p) then 1 else 0)
+column_behind : (text : List ℕ) (p : ℕ) → ends_break text p ≡ false
+    → column_at text (p + 1) ≡ column_at text p + (if starts (byte text p) then 1 else 0)
 column_behind text p e =
     elim (cases_Bool (starts (byte text p))) [
       | inl s ↦ rw s (column_more text p e s)
@@ -39,12 +40,15 @@ pub record Behind (text : List ℕ) (p : ℕ) : Type 0 where
   pub column : column_at text (p + 1) ≡ column_at text p + (if starts (byte text p) then 1 else 0)
   pub whole : splits_break text (p + 1) ≡ false
 
-pub behind_none : (text : List ℕ) (p : ℕ) → break_of (byte text p) (byte text (p + 1)) (byte text (p + 2)) ≡ 0 → splits_break text p ≡ false → Behind text p
+pub behind_none : (text : List ℕ) (p : ℕ)
+    → break_of (byte text p) (byte text (p + 1)) (byte text (p + 2)) ≡ 0
+    → splits_break text p ≡ false → Behind text p
 behind_none text p none whole =
     let e = end_next text p whole none in
     record { line = line_more text p e; column = column_behind text p e; whole = split_next text p whole none }
 
-pub behind : (text : List ℕ) (p : ℕ) → is_ordinary (byte text p) ≡ true → splits_break text p ≡ false → Behind text p
+pub behind : (text : List ℕ) (p : ℕ) → is_ordinary (byte text p) ≡ true
+    → splits_break text p ≡ false → Behind text p
 behind text p o whole = behind_none text p (ordinary_no_break (byte text p) (byte text (p + 1)) (byte text (p + 2)) o) whole
 
 pub ordinary_end : is_ordinary 0 ≡ false
@@ -114,14 +118,16 @@ passes_space text p h =
     let e = is_space (byte text p) _ h in
     record { each = spaced_in text p h; some = omega arith; low = rw e refl; none = space_no_break _ _ _ e }
 
-pub passes : (text : List ℕ) (p : ℕ) → (is_narrow (byte text p) || is_spaced text p) ≡ true → Passes text p
+pub passes : (text : List ℕ) (p : ℕ) → (is_narrow (byte text p) || is_spaced text p) ≡ true
+    → Passes text p
 passes text p h = elim (or_cases (is_narrow (byte text p)) (is_spaced text p) h) [
   | inl n ↦ passes_narrow text p n
   | inr s ↦ passes_space text p s
 ]
 
 -- before a byte that isn't ordinary, or behind the end, the run's last byte is no space
-last_ordinary : (text : List ℕ) (q : ℕ) → 0 < q → in_run text (q - 1) ≡ true → is_narrow (byte text q) ≡ false → is_ordinary (byte text (q - 1)) ≡ true
+last_ordinary : (text : List ℕ) (q : ℕ) → 0 < q → in_run text (q - 1) ≡ true
+    → is_narrow (byte text q) ≡ false → is_ordinary (byte text (q - 1)) ≡ true
 last_ordinary text q l h n =
     let e : q - 1 + 1 ≡ q = omega arith in
     elim (run_parts text (q - 1) h) [
@@ -129,7 +135,9 @@ last_ordinary text q l h n =
       | inr s ↦ absurd (true≢false (sym (rw e at s.1) ∙ n))
     ]
 
-pub run_of : (text : List ℕ) (p q : ℕ) → p ≤ q → ((k : ℕ) → p ≤ k → k < q → in_run text k ≡ true) → (is_narrow (byte text q) || is_spaced text q) ≡ false → IsRun text p (record { text = text; at = q })
+pub run_of : (text : List ℕ) (p q : ℕ) → p ≤ q → ((k : ℕ) → p ≤ k → k < q → in_run text k ≡ true)
+    → (is_narrow (byte text q) || is_spaced text q) ≡ false
+    → IsRun text p (record { text = text; at = q })
 run_of text p q after each stops = record {
   same = refl;
   after = after;
@@ -142,7 +150,8 @@ run_of text p q after each stops = record {
 narrow_last : (k n : ℕ) → k < n + 1 → (k < n) ⊎ (k ≡ n)
 narrow_last k n h = grind arith
 
-pub narrow_more : (text : List ℕ) (p q : ℕ) → ((k : ℕ) → p ≤ k → k < q → is_narrow (byte text k) ≡ true) → is_narrow (byte text q) ≡ true
+pub narrow_more : (text : List ℕ) (p q : ℕ)
+    → ((k : ℕ) → p ≤ k → k < q → is_narrow (byte text k) ≡ true) → is_narrow (byte text q) ≡ true
     → (k : ℕ) → p ≤ k → k < q + 1 → is_narrow (byte text k) ≡ true
 narrow_more text p q r h k a b =
     elim (narrow_last k q b) [
@@ -156,7 +165,9 @@ pub record Spanned (text : List ℕ) (p q : ℕ) : Type 0 where
   pub column : column_at text q ≡ column_at text p + (q - p)
   pub whole : splits_break text q ≡ false
 
-span_by : (d : ℕ) (text : List ℕ) (p q : ℕ) → q ≡ p + d → ((k : ℕ) → p ≤ k → k < q → is_narrow (byte text k) ≡ true) → splits_break text p ≡ false → Spanned text p q
+span_by : (d : ℕ) (text : List ℕ) (p q : ℕ) → q ≡ p + d
+    → ((k : ℕ) → p ≤ k → k < q → is_narrow (byte text k) ≡ true) → splits_break text p ≡ false
+    → Spanned text p q
 span_by zero text p q h each whole =
     let e : q ≡ p = omega arith in
     rw e record { line = refl; column = omega arith; whole = whole }
@@ -168,14 +179,17 @@ span_by (suc d) text p q h each whole =
     let column = s.column in
     record { line = s.line ∙ b.line; column = omega (arith, column, next, h); whole = s.whole }
 
-pub spanned : (text : List ℕ) (p q : ℕ) → p ≤ q → ((k : ℕ) → p ≤ k → k < q → is_narrow (byte text k) ≡ true) → splits_break text p ≡ false → Spanned text p q
+pub spanned : (text : List ℕ) (p q : ℕ) → p ≤ q
+    → ((k : ℕ) → p ≤ k → k < q → is_narrow (byte text k) ≡ true) → splits_break text p ≡ false
+    → Spanned text p q
 spanned text p q after each whole = span_by (q - p) text p q (omega arith) each whole
 
 narrow_or : (k n : ℕ) → (k < n) ⊎ (n ≤ k)
 narrow_or k n = grind arith
 
 -- a run, and narrow bytes behind it
-pub each_past : (text : List ℕ) (p q r : ℕ) → ((k : ℕ) → p ≤ k → k < q → in_run text k ≡ true) → ((k : ℕ) → q ≤ k → k < r → is_narrow (byte text k) ≡ true)
+pub each_past : (text : List ℕ) (p q r : ℕ) → ((k : ℕ) → p ≤ k → k < q → in_run text k ≡ true)
+    → ((k : ℕ) → q ≤ k → k < r → is_narrow (byte text k) ≡ true)
     → (k : ℕ) → p ≤ k → k < r → in_run text k ≡ true
 each_past text p q r h n k a b =
     elim (narrow_or k q) [

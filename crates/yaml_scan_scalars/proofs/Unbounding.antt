@@ -21,7 +21,8 @@ Moves text p Closing = Unit {0}
 Moves text p (Pieces ps q) = (p < q) × (p < length text)
 Moves text p (Bad w) = Unit {0}
 
-coded_moves : (text : List ℕ) (p a q : ℕ) (o : Option ℕ) → p < q → p < length text → Moves text p (coded a q o)
+coded_moves : (text : List ℕ) (p a q : ℕ) (o : Option ℕ) → p < q → p < length text
+    → Moves text p (coded a q o)
 coded_moves text p a q None h g = tt
 coded_moves text p a q (Some c) h g =
     elim (cases_Bool (is_scalar c)) [
@@ -29,7 +30,8 @@ coded_moves text p a q (Some c) h g =
       | inr s ↦ rw s tt
     ]
 
-escaped_moves : (text : List ℕ) (p : ℕ) (o : Option (List ℕ)) → p < length text → Moves text p (escaped p o)
+escaped_moves : (text : List ℕ) (p : ℕ) (o : Option (List ℕ)) → p < length text
+    → Moves text p (escaped p o)
 escaped_moves text p None g = tt
 escaped_moves text p (Some bytes) g = (omega arith, g)
 
@@ -44,7 +46,8 @@ escape_moves text p g =
       ]
     ]
 
-quote_moves : (quote : ℕ) (text : List ℕ) (p : ℕ) → p < length text → Moves text p (quote_at quote text p)
+quote_moves : (quote : ℕ) (text : List ℕ) (p : ℕ) → p < length text
+    → Moves text p (quote_at quote text p)
 unfolding quote_at
 quote_moves quote text p g =
     elim (cases_Bool (quote == 39 && byte text (p + 1) == 39)) [
@@ -74,7 +77,9 @@ standing_moves quote text p =
       ]
     ]
   where
-    other : is_document_indicator text p ≡ false → (byte text p == 0) ≡ false → (byte text p == quote) ≡ false → nat_lt 0 (break_width text p) ≡ false → p < length text → Moves text p (standing_at quote text p)
+    other : is_document_indicator text p ≡ false → (byte text p == 0) ≡ false
+        → (byte text p == quote) ≡ false → nat_lt 0 (break_width text p) ≡ false → p < length text
+        → Moves text p (standing_at quote text p)
     other a b c d g =
         elim (cases_Bool (is_blank (byte text p))) [
           | inl e ↦ rw (a, b, c, d, e) (omega arith, g)
@@ -84,7 +89,9 @@ standing_moves quote text p =
           ]
         ]
 
-quoted_by : (d : ℕ) (quote : ℕ) (text : List ℕ) (p : ℕ) (s : Standing) → standing_at quote text p ≡ s → length text ≤ p + d → IsQuotedFrom quote text p (pieces (suc d) quote text p)
+quoted_by : (d : ℕ) (quote : ℕ) (text : List ℕ) (p : ℕ) (s : Standing)
+    → standing_at quote text p ≡ s → length text ≤ p + d
+    → IsQuotedFrom quote text p (pieces (suc d) quote text p)
 unfolding pieces
 quoted_by d quote text p Closing e room = subst (λ (x : Standing). IsQuotedFrom quote text p (followed (pieces d quote text) p x)) (sym e) (closes p e)
 quoted_by d quote text p (Bad w) e room = subst (λ (x : Standing). IsQuotedFrom quote text p (followed (pieces d quote text) p x)) (sym e) (is_bad p w e)
@@ -95,7 +102,8 @@ quoted_by (suc d) quote text p (Pieces ps q) e room =
     subst (λ (x : Standing). IsQuotedFrom quote text p (followed (pieces (suc d) quote text) p x)) (sym e)
     (goes_on p q ps (pieces (suc d) quote text q) e (quoted_by d quote text q (standing_at quote text q) refl (omega (arith, far, room))))
 
-one_quoted : (quote : ℕ) (text : List ℕ) (p : ℕ) (r : Result (List Piece × ℕ) Wrong) → IsQuotedFrom quote text p r → (d : ℕ) → length text ≤ p + d → pieces (suc d) quote text p ≡ r
+one_quoted : (quote : ℕ) (text : List ℕ) (p : ℕ) (r : Result (List Piece × ℕ) Wrong)
+    → IsQuotedFrom quote text p r → (d : ℕ) → length text ≤ p + d → pieces (suc d) quote text p ≡ r
 unfolding pieces
 one_quoted quote text p r (closes x e) d room = ap (λ (s : Standing). followed (pieces d quote text) x s) e
 one_quoted quote text p r (is_bad x w e) d room = ap (λ (s : Standing). followed (pieces d quote text) x s) e
@@ -137,11 +145,13 @@ none_first : (a b c : Bool) → ((a || b) || c) ≡ false → a ≡ false
 none_first true b c h = h
 none_first false b c h = refl
 
-unended : (flow : Bool) (level : ℕ) (text : List ℕ) (p : ℕ) → ends_at flow level text p ≡ false → (byte text p == 0) ≡ false
+unended : (flow : Bool) (level : ℕ) (text : List ℕ) (p : ℕ) → ends_at flow level text p ≡ false
+    → (byte text p == 0) ≡ false
 unfolding ends_at
 unended flow level text p h = none_first (byte text p == 0) _ _ h
 
-spot_moves : (flow : Bool) (level : ℕ) (text : List ℕ) (p : ℕ) → MovesOn text p (spot_at flow level text p)
+spot_moves : (flow : Bool) (level : ℕ) (text : List ℕ) (p : ℕ)
+    → MovesOn text p (spot_at flow level text p)
 unfolding spot_at
 spot_moves flow level text p =
     elim (cases_Bool (nat_lt 0 (break_width text p))) [
@@ -163,7 +173,9 @@ spot_moves flow level text p =
       ]
     ]
 
-plain_by : (d : ℕ) (flow : Bool) (level : ℕ) (text : List ℕ) (p : ℕ) (s : PlainSpot) → spot_at flow level text p ≡ s → length text ≤ p + d → IsPlainFrom flow level text p (words (suc d) flow level text p)
+plain_by : (d : ℕ) (flow : Bool) (level : ℕ) (text : List ℕ) (p : ℕ) (s : PlainSpot)
+    → spot_at flow level text p ≡ s → length text ≤ p + d
+    → IsPlainFrom flow level text p (words (suc d) flow level text p)
 unfolding words
 plain_by d flow level text p Ends e room = subst (λ (x : PlainSpot). IsPlainFrom flow level text p (follows (words d flow level text) p x)) (sym e) (ends p e)
 plain_by d flow level text p (Faulty w) e room = subst (λ (x : PlainSpot). IsPlainFrom flow level text p (follows (words d flow level text) p x)) (sym e) (is_faulty p w e)
@@ -174,7 +186,9 @@ plain_by (suc d) flow level text p (Takes x q) e room =
     subst (λ (s : PlainSpot). IsPlainFrom flow level text p (follows (words (suc d) flow level text) p s)) (sym e)
     (takes p q x (words (suc d) flow level text q) e (plain_by d flow level text q (spot_at flow level text q) refl (omega (arith, far, room))))
 
-one_plain : (flow : Bool) (level : ℕ) (text : List ℕ) (p : ℕ) (r : Result Words Wrong) → IsPlainFrom flow level text p r → (d : ℕ) → length text ≤ p + d → words (suc d) flow level text p ≡ r
+one_plain : (flow : Bool) (level : ℕ) (text : List ℕ) (p : ℕ) (r : Result Words Wrong)
+    → IsPlainFrom flow level text p r → (d : ℕ) → length text ≤ p + d
+    → words (suc d) flow level text p ≡ r
 unfolding words
 one_plain flow level text p r (ends x e) d room = ap (λ (s : PlainSpot). follows (words d flow level text) x s) e
 one_plain flow level text p r (is_faulty x w e) d room = ap (λ (s : PlainSpot). follows (words d flow level text) x s) e

@@ -11,7 +11,8 @@ use Rattle.yaml_scan_words.specs.Runs.{belongs, run_end}
 use Rattle.yaml_scan_words.proofs.RunsLemmas.{run_further}
 use Rattle.yaml_scan_words.specs.Between.{Step, step_at, is_skipped, Gap, with_break, gap_within}
 
-bom_parts : (a b c : ℕ) → (a == 0xEF && (b == 0xBB && c == 0xBF)) ≡ true → (a ≡ 0xEF) × (b ≡ 0xBB) × (c ≡ 0xBF)
+bom_parts : (a b c : ℕ) → (a == 0xEF && (b == 0xBB && c == 0xBF)) ≡ true
+    → (a ≡ 0xEF) × (b ≡ 0xBB) × (c ≡ 0xBF)
 bom_parts a b c h = (grind (arith, nat_tests), grind (arith, nat_tests), grind (arith, nat_tests))
 
 break_first : (b c d : ℕ) → 0 < break_of b c d → 0 < b
@@ -28,41 +29,53 @@ hash_belongs : (text : List ℕ) (p : ℕ) → byte text p ≡ 35 → belongs ru
 unfolding belongs
 hash_belongs text p h = hash_line _ _ h (no_break _ _ _ (omega arith) (omega arith) (omega arith) (omega arith))
 
-blank_lexeme : (p q : ℕ) → ◌≡◌ {A = Step} (record { standing = standings.Blank; place = p }) (record { standing = standings.Lexeme; place = q }) → ⊥
+blank_lexeme : (p q : ℕ)
+    → ◌≡◌ {A = Step} (record { standing = standings.Blank; place = p })
+    (record { standing = standings.Lexeme; place = q }) → ⊥
 blank_lexeme p q h = let e : standings.Blank ≡ standings.Lexeme = ap (λ (s : Step). s.standing) h in cc
 
-break_lexeme : (p q : ℕ) → ◌≡◌ {A = Step} (record { standing = standings.Break; place = p }) (record { standing = standings.Lexeme; place = q }) → ⊥
+break_lexeme : (p q : ℕ)
+    → ◌≡◌ {A = Step} (record { standing = standings.Break; place = p })
+    (record { standing = standings.Lexeme; place = q }) → ⊥
 break_lexeme p q h = let e : standings.Break ≡ standings.Lexeme = ap (λ (s : Step). s.standing) h in cc
 
-not_first : (b c d : ℕ) (first : Bool) → (nat_lt 32 b && (nat_lt b 128 && not (b == 35))) ≡ true → (first && (b == 0xEF && (c == 0xBB && d == 0xBF))) ≡ false
+not_first : (b c d : ℕ) (first : Bool) → (nat_lt 32 b && (nat_lt b 128 && not (b == 35))) ≡ true
+    → (first && (b == 0xEF && (c == 0xBB && d == 0xBF))) ≡ false
 not_first b c d true h = grind (arith, nat_tests)
 not_first b c d false h = refl
 
-not_skipped : (b : ℕ) (tabs : Bool) → (nat_lt 32 b && (nat_lt b 128 && not (b == 35))) ≡ true → (b == 32 || (tabs && b == 9)) ≡ false
+not_skipped : (b : ℕ) (tabs : Bool) → (nat_lt 32 b && (nat_lt b 128 && not (b == 35))) ≡ true
+    → (b == 32 || (tabs && b == 9)) ≡ false
 not_skipped b true h = grind (arith, nat_tests)
 not_skipped b false h = grind (arith, nat_tests)
 
 not_hash : (b : ℕ) → (nat_lt 32 b && (nat_lt b 128 && not (b == 35))) ≡ true → (b == 35) ≡ false
 not_hash b h = grind (arith, nat_tests)
 
-within_ascii : (b : ℕ) → (nat_lt 32 b && (nat_lt b 128 && not (b == 35))) ≡ true → (32 < b) × (b < 128)
+within_ascii : (b : ℕ) → (nat_lt 32 b && (nat_lt b 128 && not (b == 35))) ≡ true
+    → (32 < b) × (b < 128)
 within_ascii b h = (grind (arith, nat_tests), grind (arith, nat_tests))
 
-no_width : (b c d : ℕ) → (nat_lt 32 b && (nat_lt b 128 && not (b == 35))) ≡ true → break_of b c d ≡ 0
+no_width : (b c d : ℕ) → (nat_lt 32 b && (nat_lt b 128 && not (b == 35))) ≡ true
+    → break_of b c d ≡ 0
 no_width b c d h =
     let (low, high) = within_ascii b h in
     no_break b c d (omega arith) (omega arith) (omega arith) (omega arith)
 
-last_step : (a b c : Bool) (w : ℕ) (v x y z u : Step) → a ≡ false → b ≡ false → c ≡ false → w ≡ 0 → (if a then v else if b then x else if c then y else if nat_lt 0 w then z else u) ≡ u
+last_step : (a b c : Bool) (w : ℕ) (v x y z u : Step) → a ≡ false → b ≡ false → c ≡ false → w ≡ 0
+    → (if a then v else if b then x else if c then y else if nat_lt 0 w then z else u) ≡ u
 last_step a b c w v x y z u h i j k = rw (h, i, j, k) refl
 
 --- these bytes begin a lexeme
-pub lexeme_here : (tabs : Bool) (text : List ℕ) (p : ℕ) → (nat_lt 32 (byte text p) && (nat_lt (byte text p) 128 && not (byte text p == 35))) ≡ true → step_at tabs text p ≡ record { standing = standings.Lexeme; place = p }
+pub lexeme_here : (tabs : Bool) (text : List ℕ) (p : ℕ)
+    → (nat_lt 32 (byte text p) && (nat_lt (byte text p) 128 && not (byte text p == 35))) ≡ true
+    → step_at tabs text p ≡ record { standing = standings.Lexeme; place = p }
 unfolding step_at
 lexeme_here tabs text p h =
     last_step _ _ _ _ _ _ _ _ _ (not_first (byte text p) (byte text (p + 1)) (byte text (p + 2)) (p == 0) h) (not_skipped (byte text p) tabs h) (not_hash (byte text p) h) (no_width (byte text p) (byte text (p + 1)) (byte text (p + 2)) h)
 
-space_first : (b c d : ℕ) (first : Bool) → b ≡ 32 → (first && (b == 0xEF && (c == 0xBB && d == 0xBF))) ≡ false
+space_first : (b c d : ℕ) (first : Bool) → b ≡ 32
+    → (first && (b == 0xEF && (c == 0xBB && d == 0xBF))) ≡ false
 space_first b c d true h = rw h refl
 space_first b c d false h = refl
 
@@ -70,7 +83,8 @@ space_skipped : (b : ℕ) (tabs : Bool) → b ≡ 32 → (b == 32 || (tabs && b 
 space_skipped b tabs h = rw h refl
 
 -- a space is passed
-pub space_here : (tabs : Bool) (text : List ℕ) (p : ℕ) → byte text p ≡ 32 → step_at tabs text p ≡ record { standing = standings.Blank; place = p + 1 }
+pub space_here : (tabs : Bool) (text : List ℕ) (p : ℕ) → byte text p ≡ 32
+    → step_at tabs text p ≡ record { standing = standings.Blank; place = p + 1 }
 unfolding step_at
 space_here tabs text p h =
     let first : (p == 0 && is_bom text p) ≡ false = space_first (byte text p) (byte text (p + 1)) (byte text (p + 2)) (p == 0) h in
@@ -78,18 +92,21 @@ space_here tabs text p h =
     rw (first, skips) refl
 
 -- a space is a byte, and no break
-pub space_byte : (text : List ℕ) (p : ℕ) → byte text p ≡ 32 → (0 < byte text p) × (break_width text p ≡ 0)
+pub space_byte : (text : List ℕ) (p : ℕ) → byte text p ≡ 32
+    → (0 < byte text p) × (break_width text p ≡ 0)
 space_byte text p e = (omega arith, no_break _ _ _ (omega arith) (omega arith) (omega arith) (omega arith))
 
 -- the bytes of U+FEFF
-pub bom_bytes : (text : List ℕ) (p : ℕ) → is_bom text p ≡ true → (byte text p ≡ 0xEF) × (byte text (p + 1) ≡ 0xBB) × (byte text (p + 2) ≡ 0xBF)
+pub bom_bytes : (text : List ℕ) (p : ℕ) → is_bom text p ≡ true
+    → (byte text p ≡ 0xEF) × (byte text (p + 1) ≡ 0xBB) × (byte text (p + 2) ≡ 0xBF)
 bom_bytes text p h = bom_parts _ _ _ h
 
 skipped_cases : (b : ℕ) (tabs : Bool) → (b == 32 || (tabs && b == 9)) ≡ true → (b ≡ 32) ⊎ (b ≡ 9)
 skipped_cases b true h = grind (arith, nat_tests)
 skipped_cases b false h = grind (arith, nat_tests)
 
-pub skipped_here : (tabs : Bool) (text : List ℕ) (p : ℕ) → is_skipped tabs text p ≡ true → (0 < byte text p) × (break_width text p ≡ 0)
+pub skipped_here : (tabs : Bool) (text : List ℕ) (p : ℕ) → is_skipped tabs text p ≡ true
+    → (0 < byte text p) × (break_width text p ≡ 0)
 skipped_here tabs text p h =
     elim (skipped_cases (byte text p) tabs h) [
       | inl e ↦ (omega arith, no_break _ _ _ (omega arith) (omega arith) (omega arith) (omega arith))
@@ -99,14 +116,16 @@ skipped_here tabs text p h =
 pub bom_first : (text : List ℕ) (p : ℕ) → (p == 0 && is_bom text p) ≡ true → is_bom text p ≡ true
 bom_first text p h = (and_parts (p == 0) (is_bom text p) h).1
 
-hash_inside : (text : List ℕ) (p : ℕ) → byte text p ≡ 35 → (p < run_end runs.Line text p) × (p < length text)
+hash_inside : (text : List ℕ) (p : ℕ) → byte text p ≡ 35
+    → (p < run_end runs.Line text p) × (p < length text)
 hash_inside text p h =
     let b : belongs runs.Line text p ≡ true = hash_belongs text p h in
     (run_further runs.Line text p b, within text p (omega arith))
 
 -- a step stops at a lexeme, or goes on inside the text
 pub step_moves : (tabs : Bool) (text : List ℕ) (p : ℕ)
-    → (step_at tabs text p ≡ record { standing = standings.Lexeme; place = p }) ⊎ ((p < (step_at tabs text p).place) × (p < length text))
+    → (step_at tabs text p ≡ record { standing = standings.Lexeme; place = p })
+    ⊎ ((p < (step_at tabs text p).place) × (p < length text))
 unfolding step_at
 step_moves tabs text p =
     elim (cases_Bool (p == 0 && is_bom text p)) [
@@ -124,9 +143,11 @@ step_moves tabs text p =
     ]
 
 -- what is left of a gap behind a blank
-pub gap_blank : (n : ℕ) (flow allowed : Bool) (text : List ℕ) (p q : ℕ) → step_at (flow || not allowed) text p ≡ record { standing = standings.Blank; place = q }
+pub gap_blank : (n : ℕ) (flow allowed : Bool) (text : List ℕ) (p q : ℕ)
+    → step_at (flow || not allowed) text p ≡ record { standing = standings.Blank; place = q }
     → length text ≤ p + n
-    → (m : ℕ) × (length text ≤ q + m) × (p < q) × (p < length text) × (gap_within n flow allowed text p ≡ gap_within m flow allowed text q)
+    → (m : ℕ) × (length text ≤ q + m) × (p < q) × (p < length text)
+    × (gap_within n flow allowed text p ≡ gap_within m flow allowed text q)
 unfolding gap_within
 gap_blank n flow allowed text p q h room =
     elim (step_moves (flow || not allowed) text p) [
@@ -140,9 +161,12 @@ gap_blank n flow allowed text p q h room =
     ]
 
 -- what is left of a gap behind a break
-pub gap_break : (n : ℕ) (flow allowed : Bool) (text : List ℕ) (p q : ℕ) → step_at (flow || not allowed) text p ≡ record { standing = standings.Break; place = q }
+pub gap_break : (n : ℕ) (flow allowed : Bool) (text : List ℕ) (p q : ℕ)
+    → step_at (flow || not allowed) text p ≡ record { standing = standings.Break; place = q }
     → length text ≤ p + n
-    → (m : ℕ) × (length text ≤ q + m) × (p < q) × (p < length text) × (gap_within n flow allowed text p ≡ with_break true (gap_within m flow (allowed || not flow) text q))
+    → (m : ℕ) × (length text ≤ q + m) × (p < q) × (p < length text)
+    × (gap_within n flow allowed text p
+    ≡ with_break true (gap_within m flow (allowed || not flow) text q))
 unfolding gap_within
 gap_break n flow allowed text p q h room =
     elim (step_moves (flow || not allowed) text p) [
@@ -155,7 +179,8 @@ gap_break n flow allowed text p q h room =
           ] room
     ]
 
-pub gap_stop : (n : ℕ) (flow allowed : Bool) (text : List ℕ) (p q : ℕ) → step_at (flow || not allowed) text p ≡ record { standing = standings.Lexeme; place = q }
+pub gap_stop : (n : ℕ) (flow allowed : Bool) (text : List ℕ) (p q : ℕ)
+    → step_at (flow || not allowed) text p ≡ record { standing = standings.Lexeme; place = q }
     → length text ≤ p + n → gap_within n flow allowed text p ≡ record { place = q; broke = false }
 unfolding gap_within
 gap_stop zero flow allowed text p q h room =
@@ -165,16 +190,20 @@ gap_stop zero flow allowed text p q h room =
     ]
 gap_stop (suc n) flow allowed text p q h room = rw h refl
 
-break_twice : (broke : Bool) (gap : Gap) → with_break broke (with_break true gap) ≡ with_break true gap
+break_twice : (broke : Bool) (gap : Gap)
+    → with_break broke (with_break true gap) ≡ with_break true gap
 break_twice true gap = refl
 break_twice false gap = refl
 
-pub break_last : (broke : Bool) (q : ℕ) → with_break broke (record { place = q; broke = false }) ≡ record { place = q; broke = broke }
+pub break_last : (broke : Bool) (q : ℕ)
+    → with_break broke (record { place = q; broke = false }) ≡ record { place = q; broke = broke }
 break_last true q = refl
 break_last false q = refl
 
-pub behind_blank : (broke : Bool) (whole before after : Gap) → whole ≡ with_break broke before → before ≡ after → whole ≡ with_break broke after
+pub behind_blank : (broke : Bool) (whole before after : Gap) → whole ≡ with_break broke before
+    → before ≡ after → whole ≡ with_break broke after
 behind_blank broke whole before after h e = h ∙ ap (with_break broke) e
 
-pub behind_break : (broke : Bool) (whole before after : Gap) → whole ≡ with_break broke before → before ≡ with_break true after → whole ≡ with_break true after
+pub behind_break : (broke : Bool) (whole before after : Gap) → whole ≡ with_break broke before
+    → before ≡ with_break true after → whole ≡ with_break true after
 behind_break broke whole before after h e = h ∙ ap (with_break broke) e ∙ break_twice broke after

@@ -10,14 +10,16 @@ use Rattle.yaml_scan_words.proofs.BetweenLemmas.{gap_blank, gap_break, gap_stop}
 use Rattle.yaml_scan_words.specs.Written.{HasAt, are_gap, has_break, begins_lexeme}
 use Rattle.yaml_scan_words.proofs.HasLemmas.{Has, has}
 
-not_first : (first : Bool) (a b c : ℕ) → a ≢ 0xEF → (first && (a == 0xEF && (b == 0xBB && c == 0xBF))) ≡ false
+not_first : (first : Bool) (a b c : ℕ) → a ≢ 0xEF
+    → (first && (a == 0xEF && (b == 0xBB && c == 0xBF))) ≡ false
 not_first true a b c h = grind (arith, nat_tests)
 not_first false a b c h = refl
 
 no_bom : (text : List ℕ) (p : ℕ) → byte text p ≢ 0xEF → (p == 0 && is_bom text p) ≡ false
 no_bom text p h = not_first (p == 0) (byte text p) (byte text (p + 1)) (byte text (p + 2)) h
 
-step_space : (tabs : Bool) (text : List ℕ) (p : ℕ) → byte text p ≡ 32 → step_at tabs text p ≡ record { standing = standings.Blank; place = p + 1 }
+step_space : (tabs : Bool) (text : List ℕ) (p : ℕ) → byte text p ≡ 32
+    → step_at tabs text p ≡ record { standing = standings.Blank; place = p + 1 }
 unfolding step_at
 step_space tabs text p h =
     let first : (p == 0 && is_bom text p) ≡ false = no_bom text p (omega arith) in
@@ -31,7 +33,8 @@ no_skip : (tabs : Bool) (b : ℕ) → b ≢ 32 → b ≢ 9 → (b == 32 || (tabs
 no_skip true b h i = grind (arith, nat_tests)
 no_skip false b h i = grind (arith, nat_tests)
 
-step_break : (tabs : Bool) (text : List ℕ) (p : ℕ) → 0 < break_width text p → step_at tabs text p ≡ record { standing = standings.Break; place = p + break_width text p }
+step_break : (tabs : Bool) (text : List ℕ) (p : ℕ) → 0 < break_width text p
+    → step_at tabs text p ≡ record { standing = standings.Break; place = p + break_width text p }
 unfolding step_at
 step_break tabs text p h =
     let (bom, space, tab, hash) = break_parts _ _ _ h in
@@ -43,7 +46,9 @@ step_break tabs text p h =
 unequal : (b n : ℕ) → not (b == n) ≡ true → b ≢ n
 unequal b n h = grind (arith, nat_tests)
 
-lexeme_parts : (b c : Bool) (d : ℕ) → (not (d == 32) && (not (d == 9) && (not (d == 35) && (not b && not c)))) ≡ true → (d ≢ 32) × (d ≢ 9) × (d ≢ 35) × (b ≡ false) × (c ≡ false)
+lexeme_parts : (b c : Bool) (d : ℕ)
+    → (not (d == 32) && (not (d == 9) && (not (d == 35) && (not b && not c)))) ≡ true
+    → (d ≢ 32) × (d ≢ 9) × (d ≢ 35) × (b ≡ false) × (c ≡ false)
 lexeme_parts b c d h =
     let (space, h1) = and_parts (not (d == 32)) (not (d == 9) && (not (d == 35) && (not b && not c))) h in
     let (tab, h2) = and_parts (not (d == 9)) (not (d == 35) && (not b && not c)) h1 in
@@ -51,7 +56,8 @@ lexeme_parts b c d h =
     let (none, first) = and_parts (not b) (not c) h3 in
     (unequal d 32 space, unequal d 9 tab, unequal d 35 hash, not-true b none, not-true c first)
 
-step_lexeme : (tabs : Bool) (text : List ℕ) (p : ℕ) → begins_lexeme text p ≡ true → step_at tabs text p ≡ record { standing = standings.Lexeme; place = p }
+step_lexeme : (tabs : Bool) (text : List ℕ) (p : ℕ) → begins_lexeme text p ≡ true
+    → step_at tabs text p ≡ record { standing = standings.Lexeme; place = p }
 unfolding step_at
 step_lexeme tabs text p h =
     let (space, tab, hash, none, first) = lexeme_parts (nat_lt 0 (break_width text p)) (p == 0 && is_bom text p) (byte text p) h in
@@ -79,15 +85,20 @@ byte_cases : (b : ℕ) → (b == 32 || (b == 10 || b == 13)) ≡ true → (b ≡
 byte_cases b h = grind (arith, nat_tests)
 
 -- a gap whose rest is read
-with_blank : (n : ℕ) (flow allowed : Bool) (text : List ℕ) (p e : ℕ) (broke : Bool) → byte text p ≡ 32 → length text ≤ p + n
-    → ((m : ℕ) → length text ≤ p + 1 + m → gap_within m flow allowed text (p + 1) ≡ record { place = e; broke = broke })
+with_blank : (n : ℕ) (flow allowed : Bool) (text : List ℕ) (p e : ℕ) (broke : Bool)
+    → byte text p ≡ 32 → length text ≤ p + n
+    → ((m : ℕ) → length text ≤ p + 1 + m → gap_within m flow allowed text (p + 1)
+    ≡ record { place = e; broke = broke })
     → gap_within n flow allowed text p ≡ record { place = e; broke = broke }
 with_blank n flow allowed text p e broke h room rest =
     let (m, more, far, inside, same) = gap_blank n flow allowed text p (p + 1) (step_space (flow || not allowed) text p h) room in
     same ∙ rest m more
 
-with_width : (n : ℕ) (flow allowed : Bool) (text : List ℕ) (p w e : ℕ) (broke : Bool) → break_width text p ≡ suc w → length text ≤ p + n
-    → ((m : ℕ) → length text ≤ p + suc w + m → gap_within m flow (allowed || not flow) text (p + suc w) ≡ record { place = e; broke = broke })
+with_width : (n : ℕ) (flow allowed : Bool) (text : List ℕ) (p w e : ℕ) (broke : Bool)
+    → break_width text p ≡ suc w → length text ≤ p + n
+    → ((m : ℕ) → length text ≤ p + suc w + m
+    → gap_within m flow (allowed || not flow) text (p + suc w)
+    ≡ record { place = e; broke = broke })
     → gap_within n flow allowed text p ≡ record { place = e; broke = true }
 with_width n flow allowed text p w e broke h room rest =
     let some : 0 < break_width text p = omega (arith, h) in
@@ -100,13 +111,17 @@ abbrev Reads : ℕ → Type 0
 Reads k = (n : ℕ) (flow allowed : Bool) (text : List ℕ) (p : ℕ) (gap : List ℕ) → length gap ≤ k → Has text p gap → are_gap gap ≡ true → begins_lexeme text (p + length gap) ≡ true
     → length text ≤ p + n → gap_within n flow allowed text p ≡ record { place = p + length gap; broke = has_break gap }
 
-single : (k : ℕ) → Reads k → (n : ℕ) (flow allowed : Bool) (text : List ℕ) (p : ℕ) (bs : List ℕ) → length bs ≤ k → break_width text p ≡ 1 → Has text (p + 1) bs → are_gap bs ≡ true
-    → begins_lexeme text (p + 1 + length bs) ≡ true → length text ≤ p + n → gap_within n flow allowed text p ≡ record { place = p + 1 + length bs; broke = true }
+single : (k : ℕ) → Reads k → (n : ℕ) (flow allowed : Bool) (text : List ℕ) (p : ℕ) (bs : List ℕ)
+    → length bs ≤ k → break_width text p ≡ 1 → Has text (p + 1) bs → are_gap bs ≡ true
+    → begins_lexeme text (p + 1 + length bs) ≡ true → length text ≤ p + n
+    → gap_within n flow allowed text p ≡ record { place = p + 1 + length bs; broke = true }
 single k all n flow allowed text p bs few width h are stop room =
     with_width n flow allowed text p 0 (p + 1 + length bs) (has_break bs) width room (λ m r. all m flow (allowed || not flow) text (p + 1) bs few h are stop r)
 
-returns : (k : ℕ) → Reads k → (n : ℕ) (flow allowed : Bool) (text : List ℕ) (p : ℕ) (bs : List ℕ) → length bs ≤ k → byte text p ≡ 13 → Has text (p + 1) bs → are_gap bs ≡ true
-    → begins_lexeme text (p + 1 + length bs) ≡ true → length text ≤ p + n → gap_within n flow allowed text p ≡ record { place = p + 1 + length bs; broke = true }
+returns : (k : ℕ) → Reads k → (n : ℕ) (flow allowed : Bool) (text : List ℕ) (p : ℕ) (bs : List ℕ)
+    → length bs ≤ k → byte text p ≡ 13 → Has text (p + 1) bs → are_gap bs ≡ true
+    → begins_lexeme text (p + 1 + length bs) ≡ true → length text ≤ p + n
+    → gap_within n flow allowed text p ≡ record { place = p + 1 + length bs; broke = true }
 returns k all n flow allowed text p [] few e h are stop room =
     let z : p + 1 + 0 ≡ p + 1 = omega arith in
     let here : begins_lexeme text (p + 1) ≡ true = rw z at stop in
@@ -149,6 +164,7 @@ reads (suc k) n flow allowed text p (b ∷ bs) few (e, h) are stop room =
       | inr (inr s) ↦ rw (s, end) (returns k (reads k) n flow allowed text p bs (omega arith) (e ∙ s) h back after room)
     ]
 
-pub gap_is_read : (flow allowed : Bool) (text : List ℕ) (p : ℕ) (gap : List ℕ) → HasAt text p gap → are_gap gap ≡ true → begins_lexeme text (p + length gap) ≡ true
+pub gap_is_read : (flow allowed : Bool) (text : List ℕ) (p : ℕ) (gap : List ℕ) → HasAt text p gap
+    → are_gap gap ≡ true → begins_lexeme text (p + length gap) ≡ true
     → gap_at flow allowed text p ≡ record { place = p + length gap; broke = has_break gap }
 gap_is_read flow allowed text p gap h are stop = reads (length gap) (length text) flow allowed text p gap (omega arith) (has text p gap h) are stop (omega arith)

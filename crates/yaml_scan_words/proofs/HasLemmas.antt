@@ -20,7 +20,8 @@ pub has_front : (text : List ℕ) (p : ℕ) (xs ys : List ℕ) → Has text p (x
 has_front text p [] ys h = tt
 has_front text p (x ∷ xs) ys (e, h) = (e, has_front text (p + 1) xs ys h)
 
-pub has_rest : (text : List ℕ) (p : ℕ) (xs ys : List ℕ) → Has text p (xs ++ ys) → Has text (p + length xs) ys
+pub has_rest : (text : List ℕ) (p : ℕ) (xs ys : List ℕ) → Has text p (xs ++ ys)
+    → Has text (p + length xs) ys
 has_rest text p [] ys h = rw add-zero h
 has_rest text p (x ∷ xs) ys (e, h) =
     let same : p + 1 + length xs ≡ p + suc (length xs) = omega arith in
@@ -33,11 +34,13 @@ has_at text p (x ∷ xs) (e, h) (suc k) l =
     let same : p + 1 + k ≡ p + suc k = omega arith in
     subst (λ q. byte text q ≡ get_or xs k 0) same (has_at text (p + 1) xs h k (omega arith))
 
-read_at : (text : List ℕ) (p n k : ℕ) → k < n → get_or (take n (drop p text)) k 0 ≡ byte text (p + k)
+read_at : (text : List ℕ) (p n k : ℕ) → k < n
+    → get_or (take n (drop p text)) k 0 ≡ byte text (p + k)
 read_at text p n k l = rw (get_or-take n (drop p text) k 0 l, get_or-drop p text k 0) refl
 
 -- what stands between two places
-pub range_reads : (text : List ℕ) (p : ℕ) (xs : List ℕ) → Has text p xs → p + length xs ≤ length text → slice_range text p (p + length xs) ≡ xs
+pub range_reads : (text : List ℕ) (p : ℕ) (xs : List ℕ) → Has text p xs
+    → p + length xs ≤ length text → slice_range text p (p + length xs) ≡ xs
 range_reads text p xs h l =
     let count : p + length xs - p ≡ length xs = omega arith in
     let len : length (take (length xs) (drop p text)) ≡ length xs = rw (length-take, length-drop) (omega arith) in

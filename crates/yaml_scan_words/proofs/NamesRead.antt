@@ -12,16 +12,20 @@ use Rattle.yaml_scan_words.specs.Written.{HasAt, are_alphas}
 use Rattle.yaml_scan_words.proofs.RunsLemmas.{belongs_inside, run_more, run_stop}
 use Rattle.yaml_scan_words.proofs.HasLemmas.{Has, has, range_reads}
 
-pub alpha_at : (text : List ℕ) (p b : ℕ) → byte text p ≡ b → is_alpha_byte b ≡ true → belongs runs.Alphas text p ≡ true
+pub alpha_at : (text : List ℕ) (p b : ℕ) → byte text p ≡ b → is_alpha_byte b ≡ true
+    → belongs runs.Alphas text p ≡ true
 unfolding belongs
 alpha_at text p b e h = rw e h
 
-pub no_alpha_at : (text : List ℕ) (p : ℕ) → is_alpha_byte (byte text p) ≡ false → belongs runs.Alphas text p ≡ false
+pub no_alpha_at : (text : List ℕ) (p : ℕ) → is_alpha_byte (byte text p) ≡ false
+    → belongs runs.Alphas text p ≡ false
 unfolding belongs
 no_alpha_at text p h = h
 
 -- alphas that are written are a run, where no further one follows
-pub alphas_run : (name : List ℕ) (n : ℕ) (text : List ℕ) (p : ℕ) → Has text p name → are_alphas name ≡ true → belongs runs.Alphas text (p + length name) ≡ false → length text ≤ p + n
+pub alphas_run : (name : List ℕ) (n : ℕ) (text : List ℕ) (p : ℕ) → Has text p name
+    → are_alphas name ≡ true → belongs runs.Alphas text (p + length name) ≡ false
+    → length text ≤ p + n
     → run_within n runs.Alphas text p ≡ p + length name
 alphas_run [] n text p h are stop room =
     let z : p + 0 ≡ p = omega arith in
@@ -34,7 +38,8 @@ alphas_run (b ∷ bs) n text p (e, h) are stop room =
     let (m, more, same) = run_more n runs.Alphas text p (alpha_at text p b e front) room in
     rw end (same ∙ alphas_run bs m text (p + 1) h back after more)
 
-pub alphas_inside : (name : List ℕ) (text : List ℕ) (p : ℕ) → Has text p name → are_alphas name ≡ true → p ≤ length text → p + length name ≤ length text
+pub alphas_inside : (name : List ℕ) (text : List ℕ) (p : ℕ) → Has text p name
+    → are_alphas name ≡ true → p ≤ length text → p + length name ≤ length text
 alphas_inside [] text p h are l = omega arith
 alphas_inside (b ∷ bs) text p (e, h) are l =
     let (front, back) = and_parts (is_alpha_byte b) (are_alphas bs) are in
@@ -55,22 +60,27 @@ unfolding is_alpha_byte is_digit_byte
 blank_alpha b h = grind (arith, nat_tests)
 
 -- an alpha is no blank, no break and not the end
-pub alpha_goes_on : (text : List ℕ) (p : ℕ) → is_alpha_byte (byte text p) ≡ true → is_blank_or_end text p ≡ false
+pub alpha_goes_on : (text : List ℕ) (p : ℕ) → is_alpha_byte (byte text p) ≡ true
+    → is_blank_or_end text p ≡ false
 alpha_goes_on text p h = rw (blank_alpha (byte text p) h, break_alpha (byte text p) (byte text (p + 1)) (byte text (p + 2)) h) refl
 
-alpha_ends_none : (text : List ℕ) (p : ℕ) → is_alpha_byte (byte text p) ≡ true → may_end_name text p ≡ false
+alpha_ends_none : (text : List ℕ) (p : ℕ) → is_alpha_byte (byte text p) ≡ true
+    → may_end_name text p ≡ false
 unfolding may_end_name
 alpha_ends_none text p h = rw (alpha_goes_on text p h, end_alpha (byte text p) h) refl
 
-name_stops : (text : List ℕ) (p : ℕ) → may_end_name text p ≡ true → belongs runs.Alphas text p ≡ false
+name_stops : (text : List ℕ) (p : ℕ) → may_end_name text p ≡ true
+    → belongs runs.Alphas text p ≡ false
 name_stops text p h =
     elim (cases_Bool (is_alpha_byte (byte text p))) [
       | inl a ↦ absurd (true≢false (sym h ∙ alpha_ends_none text p a))
       | inr a ↦ no_alpha_at text p a
     ]
 
-pub anchor_is_read : (context : Context) (text : List ℕ) (p : ℕ) (name : List ℕ) → HasAt text (p + 1) name → 0 < length name → are_alphas name ≡ true
-    → may_end_name text (p + 1 + length name) ≡ true → anchor_at context text p ≡ Ok (name, p + 1 + length name)
+pub anchor_is_read : (context : Context) (text : List ℕ) (p : ℕ) (name : List ℕ)
+    → HasAt text (p + 1) name → 0 < length name → are_alphas name ≡ true
+    → may_end_name text (p + 1 + length name) ≡ true
+    → anchor_at context text p ≡ Ok (name, p + 1 + length name)
 anchor_is_read context text p [] h some are stop = absurd (omega arith)
 anchor_is_read context text p (b ∷ bs) h some are stop =
     let q = p + 1 in

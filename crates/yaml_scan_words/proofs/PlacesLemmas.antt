@@ -33,10 +33,12 @@ pub record IsFrom (text : List ℕ) (p q : ℕ) : Type 0 where
 further : (text : List ℕ) (o p q : ℕ) → o ≤ p → IsFrom text p q → IsFrom text o q
 further text o p q h f = record { forward = omega (arith, f.forward); inside = f.inside }
 
-pub run_place : (run : Run) (text : List ℕ) (p : ℕ) → p ≤ length text → IsFrom text p (run_end run text p)
+pub run_place : (run : Run) (text : List ℕ) (p : ℕ) → p ≤ length text
+    → IsFrom text p (run_end run text p)
 run_place run text p h = record { forward = run_within-ge (length text) run text p; inside = run_within-le (length text) run text p h }
 
-step_place : (tabs : Bool) (text : List ℕ) (p : ℕ) → p ≤ length text → IsFrom text p (step_at tabs text p).place
+step_place : (tabs : Bool) (text : List ℕ) (p : ℕ) → p ≤ length text
+    → IsFrom text p (step_at tabs text p).place
 unfolding step_at
 step_place tabs text p l =
     elim (cases_Bool (p == 0 && is_bom text p)) [
@@ -61,13 +63,16 @@ step_place tabs text p l =
       ]
     ]
 
-behind : (more : Bool → ℕ → Gap) (flow allowed : Bool) (text : List ℕ) (p : ℕ) (standing : Standing) (q : ℕ)
-    → ((key : Bool) → IsFrom text q (more key q).place) → IsFrom text p q → IsFrom text p (gap_behind more flow allowed standing q).place
+behind : (more : Bool → ℕ → Gap) (flow allowed : Bool) (text : List ℕ) (p : ℕ) (standing : Standing)
+    (q : ℕ)
+    → ((key : Bool) → IsFrom text q (more key q).place) → IsFrom text p q
+    → IsFrom text p (gap_behind more flow allowed standing q).place
 behind more flow allowed text p standings.Blank q rest f = further text p q (more allowed q).place f.forward (rest allowed)
 behind more flow allowed text p standings.Break q rest f = further text p q (more (allowed || not flow) q).place f.forward (rest (allowed || not flow))
 behind more flow allowed text p standings.Lexeme q rest f = f
 
-gap_within-place : (n : ℕ) (flow allowed : Bool) (text : List ℕ) (p : ℕ) → p ≤ length text → IsFrom text p (gap_within n flow allowed text p).place
+gap_within-place : (n : ℕ) (flow allowed : Bool) (text : List ℕ) (p : ℕ) → p ≤ length text
+    → IsFrom text p (gap_within n flow allowed text p).place
 unfolding gap_within
 gap_within-place zero flow allowed text p l = record { forward = omega arith; inside = l }
 gap_within-place (suc n) flow allowed text p l =
@@ -76,7 +81,8 @@ gap_within-place (suc n) flow allowed text p l =
     behind (λ key q. gap_within n flow key text q) flow allowed text p step.standing step.place (λ key. gap_within-place n flow key text step.place s.inside) s
 
 -- a gap ends behind its start or at it, inside the text
-pub gap_place : (flow allowed : Bool) (text : List ℕ) (p : ℕ) → p ≤ length text → IsFrom text p (gap_at flow allowed text p).place
+pub gap_place : (flow allowed : Bool) (text : List ℕ) (p : ℕ) → p ≤ length text
+    → IsFrom text p (gap_at flow allowed text p).place
 gap_place flow allowed text p l = gap_within-place (length text) flow allowed text p l
 
 -- what is read ends there or behind it, inside the text
@@ -84,7 +90,8 @@ abbrev pub Lands : {Y : Type 0} → (Y → ℕ) → List ℕ → ℕ → Result 
 Lands end text p (Ok y) = IsFrom text p (end y)
 Lands end text p (Err w) = Unit {0}
 
-name_place : (context : Context) (text : List ℕ) (o p q : ℕ) → IsFrom text o q → Lands behind_bytes text o (name_between context text p q)
+name_place : (context : Context) (text : List ℕ) (o p q : ℕ) → IsFrom text o q
+    → Lands behind_bytes text o (name_between context text p q)
 name_place context text o p q f =
     elim (cases_Bool (p == q || not (may_end_name text q))) [
       | inl h ↦ rw h tt
@@ -92,7 +99,8 @@ name_place context text o p q f =
     ]
 
 -- an anchor or alias ends behind its first byte, inside the text
-pub anchor_place : (context : Context) (text : List ℕ) (p : ℕ) → p < length text → Lands behind_bytes text (p + 1) (anchor_at context text p)
+pub anchor_place : (context : Context) (text : List ℕ) (p : ℕ) → p < length text
+    → Lands behind_bytes text (p + 1) (anchor_at context text p)
 anchor_place context text p l = name_place context text (p + 1) (p + 1) (run_end runs.Alphas text (p + 1)) (run_place runs.Alphas text (p + 1) (omega arith))
 
 abbrev Placed : List ℕ → ℕ → UriSpot → Type 0
@@ -100,11 +108,13 @@ Placed text p (Spells b due q) = IsFrom text p q
 Placed text p (Ends q) = IsFrom text p q
 Placed text p (Faulty problem q) = Unit {0}
 
-escape_placed : (text : List ℕ) (p b : ℕ) (r : Result ℕ Problem) → p + 3 ≤ length text → Placed text p (escape_spot b p r)
+escape_placed : (text : List ℕ) (p b : ℕ) (r : Result ℕ Problem) → p + 3 ≤ length text
+    → Placed text p (escape_spot b p r)
 escape_placed text p b (Ok due) l = record { forward = omega arith; inside = l }
 escape_placed text p b (Err problem) l = tt
 
-octet_placed : (text : List ℕ) (p due : ℕ) (o : Option ℕ) → (IsSome o → p + 3 ≤ length text) → Placed text p (octet_spot due p o)
+octet_placed : (text : List ℕ) (p due : ℕ) (o : Option ℕ) → (IsSome o → p + 3 ≤ length text)
+    → Placed text p (octet_spot due p o)
 octet_placed text p due (Some b) l = escape_placed text p b (due_behind b due) (l refl)
 octet_placed text p due None l = tt
 
@@ -114,7 +124,8 @@ octet_inside text p h =
     let last = within text (p + 2) (omega (arith, low)) in
     omega arith
 
-spot_placed : (wide : Bool) (due : ℕ) (text : List ℕ) (p : ℕ) → p ≤ length text → Placed text p (spot_at wide due text p)
+spot_placed : (wide : Bool) (due : ℕ) (text : List ℕ) (p : ℕ) → p ≤ length text
+    → Placed text p (spot_at wide due text p)
 unfolding spot_at
 spot_placed wide due text p l =
     elim (cases_Bool (byte text p == 37)) [
@@ -131,32 +142,39 @@ spot_placed wide due text p l =
       ]
     ]
 
-bytes_place : (text : List ℕ) (p : ℕ) (bytes : List ℕ) (r : Result (List ℕ × ℕ) Wrong) → Lands behind_bytes text p r → Lands behind_bytes text p (with_bytes bytes r)
+bytes_place : (text : List ℕ) (p : ℕ) (bytes : List ℕ) (r : Result (List ℕ × ℕ) Wrong)
+    → Lands behind_bytes text p r → Lands behind_bytes text p (with_bytes bytes r)
 bytes_place text p bytes (Ok u) h = h
 bytes_place text p bytes (Err w) h = tt
 
-lands_further : {Y : Type 0} (end : Y → ℕ) (text : List ℕ) (o p : ℕ) (r : Result Y Wrong) → o ≤ p → Lands end text p r → Lands end text o r
+lands_further : {Y : Type 0} (end : Y → ℕ) (text : List ℕ) (o p : ℕ) (r : Result Y Wrong) → o ≤ p
+    → Lands end text p r → Lands end text o r
 lands_further end text o p (Ok y) l h = further text o p (end y) l h
 lands_further end text o p (Err w) l h = tt
 
-uri_from-place : (more : ℕ → ℕ → Result (List ℕ × ℕ) Wrong) (context : Context) (text : List ℕ) (p : ℕ) (s : UriSpot)
-    → ((due q : ℕ) → q ≤ length text → Lands behind_bytes text q (more due q)) → Placed text p s → Lands behind_bytes text p (uri_from more context s)
+uri_from-place : (more : ℕ → ℕ → Result (List ℕ × ℕ) Wrong) (context : Context) (text : List ℕ)
+    (p : ℕ) (s : UriSpot)
+    → ((due q : ℕ) → q ≤ length text → Lands behind_bytes text q (more due q)) → Placed text p s
+    → Lands behind_bytes text p (uri_from more context s)
 uri_from-place more context text p (Spells b due q) rest f =
     lands_further behind_bytes text p q (with_bytes (b ∷ []) (more due q)) f.forward (bytes_place text q (b ∷ []) (more due q) (rest due q f.inside))
 uri_from-place more context text p (Ends q) rest f = f
 uri_from-place more context text p (Faulty problem q) rest f = tt
 
-uri_within-place : (n : ℕ) (context : Context) (wide : Bool) (due : ℕ) (text : List ℕ) (p : ℕ) → p ≤ length text → Lands behind_bytes text p (uri_within n context wide due text p)
+uri_within-place : (n : ℕ) (context : Context) (wide : Bool) (due : ℕ) (text : List ℕ) (p : ℕ)
+    → p ≤ length text → Lands behind_bytes text p (uri_within n context wide due text p)
 unfolding uri_within
 uri_within-place zero context wide due text p l = record { forward = omega arith; inside = l }
 uri_within-place (suc n) context wide due text p l =
     uri_from-place (λ next q. uri_within n context wide next text q) context text p (spot_at wide due text p)
     (λ next q m. uri_within-place n context wide next text q m) (spot_placed wide due text p l)
 
-pub uri_place : (context : Context) (wide : Bool) (text : List ℕ) (p : ℕ) → p ≤ length text → Lands behind_bytes text p (uri_at context wide text p)
+pub uri_place : (context : Context) (wide : Bool) (text : List ℕ) (p : ℕ) → p ≤ length text
+    → Lands behind_bytes text p (uri_at context wide text p)
 uri_place context wide text p l = uri_within-place (suc (length text)) context wide 0 text p l
 
-filled_place : (context : Context) (text : List ℕ) (p : ℕ) (r : Result (List ℕ × ℕ) Wrong) → Lands behind_bytes text p r → Lands behind_bytes text p (filled context r)
+filled_place : (context : Context) (text : List ℕ) (p : ℕ) (r : Result (List ℕ × ℕ) Wrong)
+    → Lands behind_bytes text p r → Lands behind_bytes text p (filled context r)
 filled_place context text p (Ok u) h =
     elim (cases_Bool (length u.0 == 0)) [
       | inl e ↦ rw e tt
@@ -164,10 +182,12 @@ filled_place context text p (Ok u) h =
     ]
 filled_place context text p (Err w) h = tt
 
-pub some_uri_place : (context : Context) (wide : Bool) (text : List ℕ) (p : ℕ) → p ≤ length text → Lands behind_bytes text p (some_uri_at context wide text p)
+pub some_uri_place : (context : Context) (wide : Bool) (text : List ℕ) (p : ℕ) → p ≤ length text
+    → Lands behind_bytes text p (some_uri_at context wide text p)
 some_uri_place context wide text p l = filled_place context text p (uri_at context wide text p) (uri_place context wide text p l)
 
-bracketed_place : (text : List ℕ) (p : ℕ) (r : Result (List ℕ × ℕ) Wrong) → Lands behind_bytes text p r → Lands tag_end text p (bracketed text r)
+bracketed_place : (text : List ℕ) (p : ℕ) (r : Result (List ℕ × ℕ) Wrong)
+    → Lands behind_bytes text p r → Lands tag_end text p (bracketed text r)
 bracketed_place text p (Ok u) h =
     elim (cases_Bool (byte text u.1 == 62)) [
       | inl e ↦
@@ -178,11 +198,13 @@ bracketed_place text p (Ok u) h =
     ]
 bracketed_place text p (Err w) h = tt
 
-handle_place : (text : List ℕ) (p : ℕ) (handle : List ℕ) (r : Result (List ℕ × ℕ) Wrong) → Lands behind_bytes text p r → Lands tag_end text p (with_handle handle r)
+handle_place : (text : List ℕ) (p : ℕ) (handle : List ℕ) (r : Result (List ℕ × ℕ) Wrong)
+    → Lands behind_bytes text p r → Lands tag_end text p (with_handle handle r)
 handle_place text p handle (Ok u) h = h
 handle_place text p handle (Err w) h = tt
 
-bare_place : (text : List ℕ) (p : ℕ) (r : Result (List ℕ × ℕ) Wrong) → Lands behind_bytes text p r → Lands tag_end text p (bare r)
+bare_place : (text : List ℕ) (p : ℕ) (r : Result (List ℕ × ℕ) Wrong) → Lands behind_bytes text p r
+    → Lands tag_end text p (bare r)
 bare_place text p (Ok u) h =
     elim (cases_Bool (length u.0 == 0)) [
       | inl e ↦ rw e h
@@ -190,7 +212,8 @@ bare_place text p (Ok u) h =
     ]
 bare_place text p (Err w) h = tt
 
-parts_place : (text : List ℕ) (p : ℕ) → p < length text → Lands tag_end text (p + 1) (parts_at text p)
+parts_place : (text : List ℕ) (p : ℕ) → p < length text
+    → Lands tag_end text (p + 1) (parts_at text p)
 unfolding parts_at
 parts_place text p l =
     let name = run_place runs.Alphas text (p + 1) (omega arith) in
@@ -209,7 +232,8 @@ parts_place text p l =
       ]
     ]
 
-ended_place : (flow : Bool) (text : List ℕ) (p : ℕ) (r : Result TagText Wrong) → Lands tag_end text p r → Lands tag_end text p (ended flow text r)
+ended_place : (flow : Bool) (text : List ℕ) (p : ℕ) (r : Result TagText Wrong)
+    → Lands tag_end text p r → Lands tag_end text p (ended flow text r)
 ended_place flow text p (Ok t) h =
     elim (cases_Bool (may_end_tag flow text t.end)) [
       | inl e ↦ rw e h
@@ -218,10 +242,12 @@ ended_place flow text p (Ok t) h =
 ended_place flow text p (Err w) h = tt
 
 -- a tag ends behind its first byte, inside the text
-pub tag_place : (flow : Bool) (text : List ℕ) (p : ℕ) → p < length text → Lands tag_end text (p + 1) (tag_at flow text p)
+pub tag_place : (flow : Bool) (text : List ℕ) (p : ℕ) → p < length text
+    → Lands tag_end text (p + 1) (tag_at flow text p)
 tag_place flow text p l = ended_place flow text (p + 1) (parts_at text p) (parts_place text p l)
 
-directive_name_place : (text : List ℕ) (o p q : ℕ) → IsFrom text o q → Lands name_behind text o (directive_name_between text p q)
+directive_name_place : (text : List ℕ) (o p q : ℕ) → IsFrom text o q
+    → Lands name_behind text o (directive_name_between text p q)
 directive_name_place text o p q f =
     elim (cases_Bool (p == q)) [
       | inl h ↦ rw h tt
@@ -237,7 +263,8 @@ directive_name_place text o p q f =
       ]
     ]
 
-number_place : (text : List ℕ) (p q : ℕ) → IsFrom text p q → Lands number_behind text p (number_between text p q)
+number_place : (text : List ℕ) (p q : ℕ) → IsFrom text p q
+    → Lands number_behind text p (number_between text p q)
 number_place text p q f =
     elim (cases_Bool (q == p)) [
       | inl h ↦ rw h tt
@@ -247,7 +274,8 @@ number_place text p q f =
       ]
     ]
 
-major_place : (text : List ℕ) (p major : ℕ) (r : Result (ℕ × ℕ) Wrong) → Lands number_behind text p r → Lands value_end text p (with_major major r)
+major_place : (text : List ℕ) (p major : ℕ) (r : Result (ℕ × ℕ) Wrong)
+    → Lands number_behind text p r → Lands value_end text p (with_major major r)
 major_place text p major (Ok x) h = h
 major_place text p major (Err w) h = tt
 
@@ -262,18 +290,21 @@ minor_place text major q =
       | inr h ↦ rw h tt
     ]
 
-version_behind : (text : List ℕ) (p : ℕ) (r : Result (ℕ × ℕ) Wrong) → Lands number_behind text p r → Lands value_end text p (then_at (minor_at text) r)
+version_behind : (text : List ℕ) (p : ℕ) (r : Result (ℕ × ℕ) Wrong) → Lands number_behind text p r
+    → Lands value_end text p (then_at (minor_at text) r)
 version_behind text p (Ok x) h = lands_further value_end text p x.1 (minor_at text x.0 x.1) h.forward (minor_place text x.0 x.1)
 version_behind text p (Err w) h = tt
 
-version_place : (text : List ℕ) (p : ℕ) → p ≤ length text → Lands value_end text p (version_at text p)
+version_place : (text : List ℕ) (p : ℕ) → p ≤ length text
+    → Lands value_end text p (version_at text p)
 version_place text p l =
     let blanks = run_place runs.Blanks text p l in
     let q = run_end runs.Blanks text p in
     lands_further value_end text p q (version_at text p) blanks.forward
     (version_behind text q (number_at text q) (number_place text q (run_end runs.Digits text q) (run_place runs.Digits text q blanks.inside)))
 
-handle_between_place : (text : List ℕ) (p q : ℕ) → IsFrom text (p + 1) q → Lands behind_bytes text p (handle_between text p q)
+handle_between_place : (text : List ℕ) (p q : ℕ) → IsFrom text (p + 1) q
+    → Lands behind_bytes text p (handle_between text p q)
 handle_between_place text p q f =
     elim (cases_Bool (byte text q == 33)) [
       | inl h ↦
@@ -296,7 +327,8 @@ tag_handle_place text p =
       | inr h ↦ rw h tt
     ]
 
-prefix_ended-place : (text : List ℕ) (p : ℕ) (r : Result (List ℕ × ℕ) Wrong) → Lands behind_bytes text p r → Lands behind_bytes text p (prefix_ended text r)
+prefix_ended-place : (text : List ℕ) (p : ℕ) (r : Result (List ℕ × ℕ) Wrong)
+    → Lands behind_bytes text p r → Lands behind_bytes text p (prefix_ended text r)
 prefix_ended-place text p (Ok x) h =
     elim (cases_Bool (is_blank_or_end text x.1)) [
       | inl e ↦ rw e h
@@ -304,7 +336,8 @@ prefix_ended-place text p (Ok x) h =
     ]
 prefix_ended-place text p (Err w) h = tt
 
-prefix_place : (text : List ℕ) (p : ℕ) → p ≤ length text → Lands behind_bytes text p (prefix_at text p)
+prefix_place : (text : List ℕ) (p : ℕ) → p ≤ length text
+    → Lands behind_bytes text p (prefix_at text p)
 prefix_place text p l =
     let blanks = run_place runs.Blanks text p l in
     let q = run_end runs.Blanks text p in
@@ -314,7 +347,8 @@ prefix_place text p l =
       | inr h ↦ rw h tt
     ]
 
-with_prefix_place : (text : List ℕ) (p : ℕ) (handle : List ℕ) (r : Result (List ℕ × ℕ) Wrong) → Lands behind_bytes text p r → Lands value_end text p (with_prefix handle r)
+with_prefix_place : (text : List ℕ) (p : ℕ) (handle : List ℕ) (r : Result (List ℕ × ℕ) Wrong)
+    → Lands behind_bytes text p r → Lands value_end text p (with_prefix handle r)
 with_prefix_place text p handle (Ok x) h = h
 with_prefix_place text p handle (Err w) h = tt
 
@@ -325,21 +359,25 @@ tag_behind text p (Ok x) h =
     (with_prefix_place text x.1 x.0 (prefix_at text x.1) (prefix_place text x.1 h.inside))
 tag_behind text p (Err w) h = tt
 
-tag_directive_place : (text : List ℕ) (p : ℕ) → p ≤ length text → Lands value_end text p (tag_directive_at text p)
+tag_directive_place : (text : List ℕ) (p : ℕ) → p ≤ length text
+    → Lands value_end text p (tag_directive_at text p)
 tag_directive_place text p l =
     let blanks = run_place runs.Blanks text p l in
     let q = run_end runs.Blanks text p in
     lands_further value_end text p q (tag_directive_at text p) blanks.forward (tag_behind text q (handle_at text q) (tag_handle_place text q))
 
-named_place : (text : List ℕ) (name : DirectiveName) (q : ℕ) → q ≤ length text → Lands value_end text q (named_value_at text name q)
+named_place : (text : List ℕ) (name : DirectiveName) (q : ℕ) → q ≤ length text
+    → Lands value_end text q (named_value_at text name q)
 named_place text names.Yaml q l = version_place text q l
 named_place text names.Tag q l = tag_directive_place text q l
 
-value_behind : (text : List ℕ) (p : ℕ) (r : Result (DirectiveName × ℕ) Wrong) → Lands name_behind text p r → Lands value_end text p (then_at (named_value_at text) r)
+value_behind : (text : List ℕ) (p : ℕ) (r : Result (DirectiveName × ℕ) Wrong)
+    → Lands name_behind text p r → Lands value_end text p (then_at (named_value_at text) r)
 value_behind text p (Ok x) h = lands_further value_end text p x.1 (named_value_at text x.0 x.1) h.forward (named_place text x.0 x.1 h.inside)
 value_behind text p (Err w) h = tt
 
-pub value_place : (text : List ℕ) (p : ℕ) → p < length text → Lands value_end text (p + 1) (value_at text p)
+pub value_place : (text : List ℕ) (p : ℕ) → p < length text
+    → Lands value_end text (p + 1) (value_at text p)
 value_place text p l =
     value_behind text (p + 1) (name_at text p) (directive_name_place text (p + 1) (p + 1) (run_end runs.Alphas text (p + 1)) (run_place runs.Alphas text (p + 1) (omega arith)))
 
@@ -362,23 +400,27 @@ break_place text p l =
       ]
     ]
 
-line_end_place : (text : List ℕ) (p : ℕ) → p ≤ length text → Lands line_place text p (line_end_at text p)
+line_end_place : (text : List ℕ) (p : ℕ) → p ≤ length text
+    → Lands line_place text p (line_end_at text p)
 line_end_place text p l =
     let blanks = run_place runs.Blanks text p l in
     let q = run_end runs.Blanks text p in
     let comment = comment_place text q blanks.inside in
     lands_further line_place text p (comment_end text q) (line_end_at text p) (omega (arith, blanks.forward, comment.forward)) (break_place text (comment_end text q) comment.inside)
 
-with_line_place : (text : List ℕ) (p : ℕ) (v : ValueText) (r : Result ℕ Wrong) → Lands line_place text p r → Lands directive_place text p (with_line v r)
+with_line_place : (text : List ℕ) (p : ℕ) (v : ValueText) (r : Result ℕ Wrong)
+    → Lands line_place text p r → Lands directive_place text p (with_line v r)
 with_line_place text p v (Ok q) h = h
 with_line_place text p v (Err w) h = tt
 
-finished_place : (text : List ℕ) (p : ℕ) (r : Result ValueText Wrong) → Lands value_end text p r → Lands directive_place text p (finished text r)
+finished_place : (text : List ℕ) (p : ℕ) (r : Result ValueText Wrong) → Lands value_end text p r
+    → Lands directive_place text p (finished text r)
 finished_place text p (Ok v) h =
     lands_further directive_place text p v.end (with_line v (line_end_at text v.end)) h.forward
     (with_line_place text v.end v (line_end_at text v.end) (line_end_place text v.end h.inside))
 finished_place text p (Err w) h = tt
 
 -- a directive's line ends behind its first byte, inside the text
-pub directive_line_place : (text : List ℕ) (p : ℕ) → p < length text → Lands directive_place text (p + 1) (directive_at text p)
+pub directive_line_place : (text : List ℕ) (p : ℕ) → p < length text
+    → Lands directive_place text (p + 1) (directive_at text p)
 directive_line_place text p l = finished_place text (p + 1) (value_at text p) (value_place text p l)

@@ -12,12 +12,14 @@ alpha_range : (b : ℕ) → is_alpha_byte b ≡ true → (32 < b) × (b < 127)
 unfolding is_alpha_byte is_digit_byte
 alpha_range b h = (grind (arith, nat_tests), grind (arith, nat_tests))
 
-alpha_printed : (text : List ℕ) (p : ℕ) → belongs runs.Alphas text p ≡ true → (32 < byte text p) × (byte text p < 127)
+alpha_printed : (text : List ℕ) (p : ℕ) → belongs runs.Alphas text p ≡ true
+    → (32 < byte text p) × (byte text p < 127)
 unfolding belongs
 alpha_printed text p h = alpha_range (byte text p) h
 
 -- the bytes of a run of alphas
-within_printed : (n : ℕ) (text : List ℕ) (p k : ℕ) → p ≤ k → k < run_within n runs.Alphas text p → (32 < byte text k) × (byte text k < 127)
+within_printed : (n : ℕ) (text : List ℕ) (p k : ℕ) → p ≤ k → k < run_within n runs.Alphas text p
+    → (32 < byte text k) × (byte text k < 127)
 unfolding run_within
 within_printed zero text p k after before = absurd (omega arith)
 within_printed (suc n) text p k after before =
@@ -31,11 +33,13 @@ within_printed (suc n) text p k after before =
       | inr e ↦ let less : k < p = rw e at before in absurd (omega arith)
     ]
 
-pub run_printed : (text : List ℕ) (p k : ℕ) → p ≤ k → k < run_end runs.Alphas text p → (32 < byte text k) × (byte text k < 127)
+pub run_printed : (text : List ℕ) (p k : ℕ) → p ≤ k → k < run_end runs.Alphas text p
+    → (32 < byte text k) × (byte text k < 127)
 run_printed text p k after before = within_printed (length text) text p k after before
 
 -- an indicator and the alphas that follow it
-pub name_printed : (text : List ℕ) (p k : ℕ) → (32 < byte text p) × (byte text p < 127) → p ≤ k → k < run_end runs.Alphas text (p + 1) → (32 < byte text k) × (byte text k < 127)
+pub name_printed : (text : List ℕ) (p k : ℕ) → (32 < byte text p) × (byte text p < 127) → p ≤ k
+    → k < run_end runs.Alphas text (p + 1) → (32 < byte text k) × (byte text k < 127)
 name_printed text p k first_printed after before =
     elim (cases_lt p k) [
       | inl more ↦ run_printed text (p + 1) k (omega arith) before
@@ -43,7 +47,8 @@ name_printed text p k first_printed after before =
     ]
 
 -- characters that a URI holds as they are, and one more
-pub kept_more : (wide : Bool) (text : List ℕ) (p q : ℕ) → ((k : ℕ) → p ≤ k → k < q → is_uri wide text k ≡ true) → is_uri wide text q ≡ true
+pub kept_more : (wide : Bool) (text : List ℕ) (p q : ℕ)
+    → ((k : ℕ) → p ≤ k → k < q → is_uri wide text k ≡ true) → is_uri wide text q ≡ true
     → (k : ℕ) → p ≤ k → k < q + 1 → is_uri wide text k ≡ true
 kept_more wide text p q kept here k after before =
     elim (cases_lt k q) [

@@ -24,7 +24,8 @@ line_parts : (b w : ℕ) → not (nat_lt 0 w || b == 0) ≡ true → (0 < b) × 
 line_parts b w h = (grind (arith, nat_tests), grind (arith, nat_tests))
 
 -- a byte of a run is no break and not the end
-pub belongs_here : (run : Run) (text : List ℕ) (p : ℕ) → belongs run text p ≡ true → (0 < byte text p) × (break_width text p ≡ 0)
+pub belongs_here : (run : Run) (text : List ℕ) (p : ℕ) → belongs run text p ≡ true
+    → (0 < byte text p) × (break_width text p ≡ 0)
 unfolding belongs
 belongs_here runs.Alphas text p h =
     let (low, high) = alpha_range (byte text p) h in
@@ -39,17 +40,21 @@ belongs_here runs.Blanks text p h =
     ]
 belongs_here runs.Line text p h = line_parts (byte text p) (break_width text p) h
 
-pub belongs_inside : (run : Run) (text : List ℕ) (p : ℕ) → belongs run text p ≡ true → p < length text
+pub belongs_inside : (run : Run) (text : List ℕ) (p : ℕ) → belongs run text p ≡ true
+    → p < length text
 belongs_inside run text p h = within text p (belongs_here run text p h).0
 
 -- what is left of a run behind a byte of it
-pub run_more : (n : ℕ) (run : Run) (text : List ℕ) (p : ℕ) → belongs run text p ≡ true → length text ≤ p + n
-    → (m : ℕ) × (length text ≤ p + 1 + m) × (run_within n run text p ≡ run_within m run text (p + 1))
+pub run_more : (n : ℕ) (run : Run) (text : List ℕ) (p : ℕ) → belongs run text p ≡ true
+    → length text ≤ p + n
+    → (m : ℕ) × (length text ≤ p + 1 + m)
+    × (run_within n run text p ≡ run_within m run text (p + 1))
 unfolding run_within
 run_more zero run text p h room = let inside = belongs_inside run text p h in absurd (omega arith)
 run_more (suc n) run text p h room = (n, omega arith, rw h refl)
 
-pub run_stop : (n : ℕ) (run : Run) (text : List ℕ) (p : ℕ) → belongs run text p ≡ false → run_within n run text p ≡ p
+pub run_stop : (n : ℕ) (run : Run) (text : List ℕ) (p : ℕ) → belongs run text p ≡ false
+    → run_within n run text p ≡ p
 unfolding run_within
 run_stop zero run text p h = refl
 run_stop (suc n) run text p h = rw h refl
@@ -57,7 +62,8 @@ run_stop (suc n) run text p h = rw h refl
 last_or : (k n : ℕ) → k < n + 1 → (k < n) ⊎ (k ≡ n)
 last_or k n h = grind arith
 
-pub each_more : (run : Run) (text : List ℕ) (p q : ℕ) → ((k : ℕ) → p ≤ k → k < q → belongs run text k ≡ true) → belongs run text q ≡ true
+pub each_more : (run : Run) (text : List ℕ) (p q : ℕ)
+    → ((k : ℕ) → p ≤ k → k < q → belongs run text k ≡ true) → belongs run text q ≡ true
     → (k : ℕ) → p ≤ k → k < q + 1 → belongs run text k ≡ true
 each_more run text p q r h k a b =
     elim (last_or k q b) [
@@ -66,7 +72,8 @@ each_more run text p q r h k a b =
     ]
 
 -- what is left of a run behind some bytes of it
-run_span : (d n : ℕ) (run : Run) (text : List ℕ) (p q : ℕ) → q ≡ p + d → ((k : ℕ) → p ≤ k → k < q → belongs run text k ≡ true) → length text ≤ p + n
+run_span : (d n : ℕ) (run : Run) (text : List ℕ) (p q : ℕ) → q ≡ p + d
+    → ((k : ℕ) → p ≤ k → k < q → belongs run text k ≡ true) → length text ≤ p + n
     → (m : ℕ) × (length text ≤ q + m) × (run_within n run text p ≡ run_within m run text q)
 run_span zero n run text p q h each room =
     let e : q ≡ p = omega arith in
@@ -76,7 +83,8 @@ run_span (suc d) n run text p q h each room =
     let (l, rest, all) = run_span d m run text (p + 1) q (omega arith) (λ k a b. each k (omega arith) b) more in
     (l, rest, same ∙ all)
 
-pub run_to : (n : ℕ) (run : Run) (text : List ℕ) (p q : ℕ) → p ≤ q → ((k : ℕ) → p ≤ k → k < q → belongs run text k ≡ true) → length text ≤ p + n
+pub run_to : (n : ℕ) (run : Run) (text : List ℕ) (p q : ℕ) → p ≤ q
+    → ((k : ℕ) → p ≤ k → k < q → belongs run text k ≡ true) → length text ≤ p + n
     → (m : ℕ) × (length text ≤ q + m) × (run_within n run text p ≡ run_within m run text q)
 run_to n run text p q after each room = run_span (q - p) n run text p q (omega arith) each room
 
@@ -90,7 +98,8 @@ run_within-ge (suc n) run text p =
       | inr e ↦ rw e (omega arith)
     ]
 
-pub run_within-le : (n : ℕ) (run : Run) (text : List ℕ) (p : ℕ) → p ≤ length text → run_within n run text p ≤ length text
+pub run_within-le : (n : ℕ) (run : Run) (text : List ℕ) (p : ℕ) → p ≤ length text
+    → run_within n run text p ≤ length text
 unfolding run_within
 run_within-le zero run text p h = h
 run_within-le (suc n) run text p h =
@@ -100,7 +109,8 @@ run_within-le (suc n) run text p h =
     ]
 
 -- a run that a byte begins goes past it
-pub run_further : (run : Run) (text : List ℕ) (p : ℕ) → belongs run text p ≡ true → p < run_end run text p
+pub run_further : (run : Run) (text : List ℕ) (p : ℕ) → belongs run text p ≡ true
+    → p < run_end run text p
 run_further run text p h =
     let inside = belongs_inside run text p h in
     let (m, room, same) = run_more (length text) run text p h (omega arith) in
@@ -108,7 +118,8 @@ run_further run text p h =
     rw same (omega arith)
 
 -- a digit is printed ASCII
-pub digit_printed : (text : List ℕ) (p : ℕ) → belongs runs.Digits text p ≡ true → (32 < byte text p) × (byte text p < 127)
+pub digit_printed : (text : List ℕ) (p : ℕ) → belongs runs.Digits text p ≡ true
+    → (32 < byte text p) × (byte text p < 127)
 unfolding belongs
 digit_printed text p h = let (low, high) = digit_range (byte text p) h in (omega arith, omega arith)
 

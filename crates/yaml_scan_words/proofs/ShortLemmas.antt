@@ -17,12 +17,14 @@ use Rattle.yaml_scan_words.proofs.UrisLemmas.{uri_range, uri_plain}
 use Rattle.yaml_scan_words.proofs.HasLemmas.{range_reads}
 use Rattle.yaml_scan_words.proofs.TagsRead.{ends_other}
 
-alpha_kept : (text : List ℕ) (p : ℕ) → belongs runs.Alphas text p ≡ true → is_uri false text p ≡ true
+alpha_kept : (text : List ℕ) (p : ℕ) → belongs runs.Alphas text p ≡ true
+    → is_uri false text p ≡ true
 unfolding belongs
 alpha_kept text p h = rw h refl
 
 -- a URI holds the alphas of a run as they are
-within_kept : (n : ℕ) (text : List ℕ) (p k : ℕ) → p ≤ k → k < run_within n runs.Alphas text p → is_uri false text k ≡ true
+within_kept : (n : ℕ) (text : List ℕ) (p k : ℕ) → p ≤ k → k < run_within n runs.Alphas text p
+    → is_uri false text k ≡ true
 unfolding run_within
 within_kept zero text p k after before = absurd (omega arith)
 within_kept (suc n) text p k after before =
@@ -37,7 +39,8 @@ within_kept (suc n) text p k after before =
     ]
 
 handle_cases : (text : List ℕ) (p : ℕ)
-    → ((byte text (name_end text p) == 33) ≡ true × (handle_end text p ≡ name_end text p + 1)) ⊎ ((byte text (name_end text p) == 33) ≡ false × (handle_end text p ≡ p + 1))
+    → ((byte text (name_end text p) == 33) ≡ true × (handle_end text p ≡ name_end text p + 1))
+    ⊎ ((byte text (name_end text p) == 33) ≡ false × (handle_end text p ≡ p + 1))
 handle_cases text p =
     elim (cases_Bool (byte text (name_end text p) == 33)) [
       | inl e ↦ inl (e, rw e refl)
@@ -45,8 +48,10 @@ handle_cases text p =
     ]
 
 -- what is kept behind the alphas and the handle
-pub short_by : (text : List ℕ) (p r q : ℕ) → (r ≡ name_end text p) ⊎ (r ≡ handle_end text p) → handle_end text p ≤ r → r ≤ q
-    → ((k : ℕ) → r ≤ k → k < q → is_uri false text k ≡ true) → is_uri false text q ≡ false → IsShort text p q
+pub short_by : (text : List ℕ) (p r q : ℕ) → (r ≡ name_end text p) ⊎ (r ≡ handle_end text p)
+    → handle_end text p ≤ r → r ≤ q
+    → ((k : ℕ) → r ≤ k → k < q → is_uri false text k ≡ true) → is_uri false text q ≡ false
+    → IsShort text p q
 short_by text p r q one low high kept stop =
     let front : (k : ℕ) → handle_end text p ≤ k → k < r → is_uri false text k ≡ true = λ k after before.
     elim one [
@@ -66,7 +71,8 @@ short_by text p r q one low high kept stop =
     }
 
 -- a short form is printed
-pub short_printed : (text : List ℕ) (p q k : ℕ) → byte text p ≡ 33 → IsShort text p q → p ≤ k → k < q → (32 < byte text k) × (byte text k < 127)
+pub short_printed : (text : List ℕ) (p q k : ℕ) → byte text p ≡ 33 → IsShort text p q → p ≤ k
+    → k < q → (32 < byte text k) × (byte text k < 127)
 short_printed text p q k first s after before =
     elim (cases_lt k (handle_end text p)) [
       | inr more ↦ uri_range false text k (s.kept k more before)
@@ -91,15 +97,27 @@ handle_forward text p =
       | inr (none, e) ↦ omega arith
     ]
 
-named_short : (flow : Bool) (text : List ℕ) (p q m : ℕ) → (byte text (p + 1) == 60) ≡ false → (byte text (name_end text p) == 33) ≡ true → m ≡ name_end text p + 1
-    → uri_at contexts.TagUri false text m ≡ Ok (slice_range text m q, q) → (length (slice_range text m q) == 0) ≡ false → may_end_tag flow text q ≡ true
-    → tag_at flow text p ≡ Ok record { handle = slice_range text p m; suffix = slice_range text m q; end = q }
+named_short : (flow : Bool) (text : List ℕ) (p q m : ℕ) → (byte text (p + 1) == 60) ≡ false
+    → (byte text (name_end text p) == 33) ≡ true → m ≡ name_end text p + 1
+    → uri_at contexts.TagUri false text m ≡ Ok (slice_range text m q, q)
+    → (length (slice_range text m q) == 0) ≡ false → may_end_tag flow text q ≡ true
+    → tag_at flow text p ≡ Ok record {
+      handle = slice_range text p m;
+      suffix = slice_range text m q;
+      end = q;
+    }
 unfolding parts_at
 named_short flow text p q m angle mark e = rw e (λ read some ends. rw (angle, mark, read, some, ends) refl)
 
-bare_short : (flow : Bool) (text : List ℕ) (p q m : ℕ) → (byte text (p + 1) == 60) ≡ false → (byte text (name_end text p) == 33) ≡ false → m ≡ p + 1 → slice_range text p (p + 1) ≡ 33 ∷ []
-    → uri_at contexts.TagUri false text m ≡ Ok (slice_range text m q, q) → (length (slice_range text m q) == 0) ≡ false → may_end_tag flow text q ≡ true
-    → tag_at flow text p ≡ Ok record { handle = slice_range text p m; suffix = slice_range text m q; end = q }
+bare_short : (flow : Bool) (text : List ℕ) (p q m : ℕ) → (byte text (p + 1) == 60) ≡ false
+    → (byte text (name_end text p) == 33) ≡ false → m ≡ p + 1 → slice_range text p (p + 1) ≡ 33 ∷ []
+    → uri_at contexts.TagUri false text m ≡ Ok (slice_range text m q, q)
+    → (length (slice_range text m q) == 0) ≡ false → may_end_tag flow text q ≡ true
+    → tag_at flow text p ≡ Ok record {
+      handle = slice_range text p m;
+      suffix = slice_range text m q;
+      end = q;
+    }
 unfolding parts_at
 bare_short flow text p q m angle mark e handle = rw e (λ read some ends. rw (angle, mark, read, some, ends, handle) refl)
 
@@ -116,8 +134,14 @@ none_zero n h = grind (arith, nat_tests)
 
 -- a short form is a handle, and a suffix behind it
 pub short_tag : (flow : Bool) (text : List ℕ) (p q : ℕ) → byte text p ≡ 33 → IsShort text p q
-    → (not (byte text (p + 1) == 60) && (not (handle_end text p == q) && may_end_tag flow text q)) ≡ true
-    → tag_at flow text p ≡ Ok record { handle = slice_range text p (handle_end text p); suffix = slice_range text (handle_end text p) q; end = q }
+    → (not (byte text (p + 1) == 60) && (not (handle_end text p == q) && may_end_tag flow text q))
+    ≡ true
+    → tag_at flow text p ≡ Ok record {
+      handle = slice_range text p (handle_end text p);
+      suffix =
+          slice_range text (handle_end text p) q;
+      end = q;
+    }
 short_tag flow text p q first s h =
     let (angle, longer, ends) = three (byte text (p + 1) == 60) (handle_end text p == q) (may_end_tag flow text q) h in
     let m = handle_end text p in

@@ -44,15 +44,18 @@ comma_none true b h = grind (arith, nat_tests)
 comma_none false b h = refl
 
 -- a printed character that is no `,` ends no tag
-goes_on : (flow : Bool) (text : List ℕ) (p : ℕ) → 32 < byte text p → byte text p < 127 → byte text p ≢ 44 → may_end_tag flow text p ≡ false
+goes_on : (flow : Bool) (text : List ℕ) (p : ℕ) → 32 < byte text p → byte text p < 127
+    → byte text p ≢ 44 → may_end_tag flow text p ≡ false
 goes_on flow text p low high comma =
     let none : break_width text p ≡ 0 = no_break _ _ _ (omega arith) (omega arith) (omega arith) (omega arith) in
     rw (blank_none (byte text p) low, none, comma_none flow (byte text p) comma) refl
 
-pub ends_other : (flow : Bool) (text : List ℕ) (p b : ℕ) → may_end_tag flow text p ≡ true → byte text p ≡ b → 32 < b → b < 127 → b ≢ 44 → ⊥
+pub ends_other : (flow : Bool) (text : List ℕ) (p b : ℕ) → may_end_tag flow text p ≡ true
+    → byte text p ≡ b → 32 < b → b < 127 → b ≢ 44 → ⊥
 ends_other flow text p b h e low high comma = true≢false (sym h ∙ goes_on flow text p (omega arith) (omega arith) (omega (arith, e, comma)))
 
-uri_stops : (flow : Bool) (text : List ℕ) (p : ℕ) → may_end_tag flow text p ≡ true → (byte text p == 37 || is_uri false text p) ≡ false
+uri_stops : (flow : Bool) (text : List ℕ) (p : ℕ) → may_end_tag flow text p ≡ true
+    → (byte text p == 37 || is_uri false text p) ≡ false
 uri_stops flow text p h =
     elim (cases_Bool (byte text p == 37)) [
       | inl e ↦ absurd (ends_other flow text p 37 h (eqb-true _ _ e) (omega arith) (omega arith) (omega arith))
@@ -65,7 +68,8 @@ uri_stops flow text p h =
       ]
     ]
 
-alpha_stops : (flow : Bool) (text : List ℕ) (p : ℕ) → may_end_tag flow text p ≡ true → belongs runs.Alphas text p ≡ false
+alpha_stops : (flow : Bool) (text : List ℕ) (p : ℕ) → may_end_tag flow text p ≡ true
+    → belongs runs.Alphas text p ≡ false
 alpha_stops flow text p h =
     elim (cases_Bool (is_alpha_byte (byte text p))) [
       | inl a ↦
@@ -86,8 +90,10 @@ unequal : (b n : ℕ) → not (b == n) ≡ true → b ≢ n
 unequal b n h = grind (arith, nat_tests)
 
 -- no `!` stands behind the alphas of a URI without one
-unmarked : (pieces : List UriPiece) (n : ℕ) (text : List ℕ) (p : ℕ) → Has text p (uri_text pieces) → has_no_mark pieces ≡ true
-    → byte text (p + length (uri_text pieces)) ≢ 33 → belongs runs.Alphas text (p + length (uri_text pieces)) ≡ false → length text ≤ p + n
+unmarked : (pieces : List UriPiece) (n : ℕ) (text : List ℕ) (p : ℕ) → Has text p (uri_text pieces)
+    → has_no_mark pieces ≡ true
+    → byte text (p + length (uri_text pieces)) ≢ 33
+    → belongs runs.Alphas text (p + length (uri_text pieces)) ≡ false → length text ≤ p + n
     → byte text (run_within n runs.Alphas text p) ≢ 33
 unmarked [] n text p h free mark stop room =
     let z : p + 0 ≡ p = omega arith in
@@ -112,14 +118,22 @@ some_bytes : (pieces : List UriPiece) → 0 < length pieces → (length (uri_byt
 some_bytes [] h = absurd (omega arith)
 some_bytes (piece ∷ pieces) h = ne_eqb (suc (length (uri_bytes pieces))) 0 (omega arith)
 
-no_angle : (pieces : List UriPiece) (text : List ℕ) (p : ℕ) → 0 < length pieces → Has text p (uri_text pieces) → IsUri false 0 pieces → byte text p ≢ 60
+no_angle : (pieces : List UriPiece) (text : List ℕ) (p : ℕ) → 0 < length pieces
+    → Has text p (uri_text pieces) → IsUri false 0 pieces → byte text p ≢ 60
 no_angle [] text p some h is = absurd (omega arith)
 no_angle (raw b ∷ pieces) text p some (e, h) (none, kept, is) = let (comma, angle) = kept_none b kept in rw e angle
 no_angle (escape b ∷ pieces) text p some (e, h) is = rw e (omega arith)
 
-pub bare_is_read : (flow : Bool) (text : List ℕ) (p : ℕ) (pieces : List UriPiece) → HasAt text p (33 ∷ uri_text pieces) → 0 < length pieces → IsUri false 0 pieces → has_no_mark pieces ≡ true
+pub bare_is_read : (flow : Bool) (text : List ℕ) (p : ℕ) (pieces : List UriPiece)
+    → HasAt text p (33 ∷ uri_text pieces) → 0 < length pieces → IsUri false 0 pieces
+    → has_no_mark pieces ≡ true
     → may_end_tag flow text (p + 1 + length (uri_text pieces)) ≡ true
-    → tag_at flow text p ≡ Ok record { handle = 33 ∷ []; suffix = uri_bytes pieces; end = p + 1 + length (uri_text pieces) }
+    → tag_at flow text p ≡ Ok record {
+      handle = 33
+          ∷ [];
+      suffix = uri_bytes pieces;
+      end = p + 1 + length (uri_text pieces);
+    }
 unfolding parts_at
 bare_is_read flow text p pieces h some is free stop =
     let (mark, all) = has text p (33 ∷ uri_text pieces) h in
@@ -131,13 +145,21 @@ bare_is_read flow text p pieces h some is free stop =
     let read = uri_is_read contexts.TagUri false text (p + 1) pieces all is (uri_stops flow text e stop) in
     rw (angle, name, read, some_bytes pieces some, stop) refl
 
-bracket_plain : (62 == 37 || (is_alpha_byte 62 || (is_punctuation 62 || (true && is_wide_punctuation 62)))) ≡ false
+bracket_plain : (62 == 37 || (is_alpha_byte 62
+    || (is_punctuation 62 || (true && is_wide_punctuation 62)))) ≡ false
 unfolding is_alpha_byte is_digit_byte is_punctuation is_wide_punctuation
 bracket_plain = refl
 
-pub verbatim_is_read : (flow : Bool) (text : List ℕ) (p : ℕ) (pieces : List UriPiece) → HasAt text p (33 ∷ (60 ∷ (uri_text pieces ++ (62 ∷ [])))) → 0 < length pieces → IsUri true 0 pieces
+pub verbatim_is_read : (flow : Bool) (text : List ℕ) (p : ℕ) (pieces : List UriPiece)
+    → HasAt text p (33 ∷ (60 ∷ (uri_text pieces ++ (62 ∷ [])))) → 0 < length pieces
+    → IsUri true 0 pieces
     → may_end_tag flow text (p + 3 + length (uri_text pieces)) ≡ true
-    → tag_at flow text p ≡ Ok record { handle = []; suffix = uri_bytes pieces; end = p + 3 + length (uri_text pieces) }
+    → tag_at flow text p ≡ Ok record {
+      handle = [];
+      suffix = uri_bytes pieces;
+      end = p + 3 + length
+          (uri_text pieces);
+    }
 unfolding parts_at
 verbatim_is_read flow text p pieces h some is stop =
     let (mark, (angle, all)) = has text p (33 ∷ (60 ∷ (uri_text pieces ++ (62 ∷ [])))) h in
@@ -150,7 +172,8 @@ verbatim_is_read flow text p pieces h some is stop =
     let end : p + 2 + length (uri_text pieces) + 1 ≡ p + 3 + length (uri_text pieces) = omega arith in
     rw (angle, read, some_bytes pieces some, close, end, stop) refl
 
-no_angle_name : (name rest : List ℕ) (text : List ℕ) (p : ℕ) → Has text p (name ++ (33 ∷ rest)) → are_alphas name ≡ true → byte text p ≢ 60
+no_angle_name : (name rest : List ℕ) (text : List ℕ) (p : ℕ) → Has text p (name ++ (33 ∷ rest))
+    → are_alphas name ≡ true → byte text p ≢ 60
 no_angle_name [] rest text p (e, h) are = rw e (omega arith)
 no_angle_name (b ∷ bs) rest text p (e, h) are =
     let (front, back) = and_parts (is_alpha_byte b) (are_alphas bs) are in
@@ -158,9 +181,16 @@ no_angle_name (b ∷ bs) rest text p (e, h) are =
     rw e angle
 
 pub named_is_read : (flow : Bool) (text : List ℕ) (p : ℕ) (name : List ℕ) (pieces : List UriPiece)
-    → HasAt text p (33 ∷ (name ++ (33 ∷ uri_text pieces))) → are_alphas name ≡ true → 0 < length pieces → IsUri false 0 pieces
+    → HasAt text p (33 ∷ (name ++ (33 ∷ uri_text pieces))) → are_alphas name ≡ true
+    → 0 < length pieces → IsUri false 0 pieces
     → may_end_tag flow text (p + 2 + length name + length (uri_text pieces)) ≡ true
-    → tag_at flow text p ≡ Ok record { handle = 33 ∷ (name ++ (33 ∷ [])); suffix = uri_bytes pieces; end = p + 2 + length name + length (uri_text pieces) }
+    → tag_at flow text p ≡ Ok record {
+      handle = 33
+          ∷ (name ++ (33 ∷ []));
+      suffix = uri_bytes pieces;
+      end = p + 2 + length name + length
+          (uri_text pieces);
+    }
 unfolding parts_at
 named_is_read flow text p name pieces h are some is stop =
     let whole = has text p (33 ∷ (name ++ (33 ∷ uri_text pieces))) h in

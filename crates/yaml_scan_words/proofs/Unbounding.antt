@@ -12,8 +12,10 @@ use Rattle.yaml_scan_words.specs.Unbounded.{Leads, arrives, passes_blank, passes
 
 -- ---- gaps
 
-led_by : (d : ℕ) (flow allowed : Bool) (text : List ℕ) (p n : ℕ) (s : Standing) (q : ℕ) → ◌≡◌ {A = Step} (step_at (flow || not allowed) text p) (record { standing = s; place = q })
-    → length text ≤ p + d → length text ≤ p + n → Leads flow text allowed p (gap_within n flow allowed text p)
+led_by : (d : ℕ) (flow allowed : Bool) (text : List ℕ) (p n : ℕ) (s : Standing) (q : ℕ)
+    → ◌≡◌ {A = Step} (step_at (flow || not allowed) text p) (record { standing = s; place = q })
+    → length text ≤ p + d → length text ≤ p + n
+    → Leads flow text allowed p (gap_within n flow allowed text p)
 led_by d flow allowed text p n standings.Lexeme q e room fuel =
     subst (λ (g : Gap). Leads flow text allowed p g) (sym (gap_stop n flow allowed text p q e fuel)) (arrives allowed p q e)
 led_by zero flow allowed text p n standings.Blank q e room fuel =
@@ -32,7 +34,9 @@ led_by (suc d) flow allowed text p n standings.Break q e room fuel =
     (passes_break allowed p q (gap_within m flow (allowed || not flow) text q) e
     (led_by d flow (allowed || not flow) text q m here.standing here.place refl (omega (arith, room, far)) left))
 
-one_gap : (flow : Bool) (text : List ℕ) (allowed : Bool) (p : ℕ) (gap : Gap) → Leads flow text allowed p gap → (n : ℕ) → length text ≤ p + n → gap_within n flow allowed text p ≡ gap
+one_gap : (flow : Bool) (text : List ℕ) (allowed : Bool) (p : ℕ) (gap : Gap)
+    → Leads flow text allowed p gap → (n : ℕ) → length text ≤ p + n
+    → gap_within n flow allowed text p ≡ gap
 one_gap flow text allowed p gap (arrives a r q e) n fuel = gap_stop n flow a text r q e fuel
 one_gap flow text allowed p gap (passes_blank a r q g e h) n fuel =
     let (m, left, far, inside, same) = gap_blank n flow a text r q e fuel in same ∙ one_gap flow text a q g h m left
@@ -50,12 +54,16 @@ gap_is_one flow allowed text p gap h = sym (one_gap flow text allowed p gap h (l
 -- ---- URIs
 
 one_more : (n : ℕ) (context : Context) (wide : Bool) (due : ℕ) (text : List ℕ) (p b next q m : ℕ)
-    → with_bytes [] (uri_within (suc n) context wide due text p) ≡ with_bytes ([] ++ b ∷ []) (uri_within (suc m) context wide next text q)
-    → uri_within (suc n) context wide due text p ≡ with_bytes (b ∷ []) (uri_within (suc m) context wide next text q)
+    → with_bytes [] (uri_within (suc n) context wide due text p)
+    ≡ with_bytes ([] ++ b ∷ []) (uri_within (suc m) context wide next text q)
+    → uri_within (suc n) context wide due text p
+    ≡ with_bytes (b ∷ []) (uri_within (suc m) context wide next text q)
 one_more n context wide due text p b next q m e = no_bytes (uri_within (suc n) context wide due text p) ∙ e
 
-uri_by : (d : ℕ) (context : Context) (wide : Bool) (text : List ℕ) (due p n : ℕ) (s : UriSpot) → spot_at wide due text p ≡ s
-    → length text ≤ p + d → length text ≤ p + n → IsUriAt context wide text due p (uri_within (suc n) context wide due text p)
+uri_by : (d : ℕ) (context : Context) (wide : Bool) (text : List ℕ) (due p n : ℕ) (s : UriSpot)
+    → spot_at wide due text p ≡ s
+    → length text ≤ p + d → length text ≤ p + n
+    → IsUriAt context wide text due p (uri_within (suc n) context wide due text p)
 uri_by d context wide text due p n (Ends q) e room fuel =
     subst (λ (r : Result (List ℕ × ℕ) Wrong). IsUriAt context wide text due p r) (sym (no_bytes (uri_within (suc n) context wide due text p) ∙ uri_done n context wide due text p [] q e)) (ends_there due p q e)
 uri_by d context wide text due p n (Faulty problem q) e room fuel =
@@ -67,7 +75,9 @@ uri_by (suc d) context wide text due p n (Spells b next q) e room fuel =
     subst (λ (r : Result (List ℕ × ℕ) Wrong). IsUriAt context wide text due p r) (sym (one_more n context wide due text p b next q m same))
     (spells_byte due p b next q (uri_within (suc m) context wide next text q) e (uri_by d context wide text next q m (spot_at wide next text q) refl (omega (arith, room, far)) left))
 
-one_uri : (context : Context) (wide : Bool) (text : List ℕ) (due p : ℕ) (r : Result (List ℕ × ℕ) Wrong) → IsUriAt context wide text due p r → (n : ℕ) → length text ≤ p + n
+one_uri : (context : Context) (wide : Bool) (text : List ℕ) (due p : ℕ)
+    (r : Result (List ℕ × ℕ) Wrong) → IsUriAt context wide text due p r → (n : ℕ)
+    → length text ≤ p + n
     → uri_within (suc n) context wide due text p ≡ r
 one_uri context wide text due p r (spells_byte u x b next q rest e h) n fuel =
     let (m, left, far, inside, same) = uri_more n context wide u text x [] b next q e fuel in

@@ -28,7 +28,8 @@ unfolding hex_digit
 digit_range b h = (grind (arith, nat_tests), grind (arith, nat_tests))
 
 -- what a URI holds as it is, is printed ASCII
-pub uri_range : (wide : Bool) (text : List ℕ) (p : ℕ) → is_uri wide text p ≡ true → (32 < byte text p) × (byte text p < 127)
+pub uri_range : (wide : Bool) (text : List ℕ) (p : ℕ) → is_uri wide text p ≡ true
+    → (32 < byte text p) × (byte text p < 127)
 uri_range wide text p h =
     elim (or_cases (is_alpha_byte (byte text p)) (is_punctuation (byte text p) || (wide && is_wide_punctuation (byte text p))) h) [
       | inl a ↦ alpha_range (byte text p) a
@@ -46,7 +47,8 @@ both None None h = absurd (true≢false (sym h))
 
 -- the digits of an escape
 pub octet_digits : (text : List ℕ) (p : ℕ) → IsSome (octet_at text p)
-    → ((32 < byte text (p + 1)) × (byte text (p + 1) < 127)) × ((32 < byte text (p + 2)) × (byte text (p + 2) < 127))
+    → ((32 < byte text (p + 1)) × (byte text (p + 1) < 127))
+    × ((32 < byte text (p + 2)) × (byte text (p + 2) < 127))
 unfolding octet_at
 octet_digits text p h =
     let (high, low) = both (hex_digit (byte text (p + 1))) (hex_digit (byte text (p + 2))) h in
@@ -58,11 +60,13 @@ Moves text p (Spells b due q) = (p < q) × (p < length text)
 Moves text p (Ends q) = Unit {0}
 Moves text p (Faulty problem q) = Unit {0}
 
-escape_moves : (text : List ℕ) (p b : ℕ) (r : Result ℕ Problem) → p < length text → Moves text p (escape_spot b p r)
+escape_moves : (text : List ℕ) (p b : ℕ) (r : Result ℕ Problem) → p < length text
+    → Moves text p (escape_spot b p r)
 escape_moves text p b (Ok due) h = (omega arith, h)
 escape_moves text p b (Err problem) h = tt
 
-octet_moves : (text : List ℕ) (p due : ℕ) (o : Option ℕ) → p < length text → Moves text p (octet_spot due p o)
+octet_moves : (text : List ℕ) (p due : ℕ) (o : Option ℕ) → p < length text
+    → Moves text p (octet_spot due p o)
 octet_moves text p due (Some b) h = escape_moves text p b (due_behind b due) h
 octet_moves text p due None h = tt
 
@@ -80,15 +84,18 @@ moves wide due text p =
       ]
     ]
 
-bytes_twice : (xs ys : List ℕ) (r : Result (List ℕ × ℕ) Wrong) → with_bytes xs (with_bytes ys r) ≡ with_bytes (xs ++ ys) r
+bytes_twice : (xs ys : List ℕ) (r : Result (List ℕ × ℕ) Wrong)
+    → with_bytes xs (with_bytes ys r) ≡ with_bytes (xs ++ ys) r
 bytes_twice xs ys (Ok u) = rw (append_assoc xs ys u.0) refl
 bytes_twice xs ys (Err w) = refl
 
 -- what is left of a URI behind a byte of it
-pub uri_more : (n : ℕ) (context : Context) (wide : Bool) (due : ℕ) (text : List ℕ) (p : ℕ) (bytes : List ℕ) (b next q : ℕ)
+pub uri_more : (n : ℕ) (context : Context) (wide : Bool) (due : ℕ) (text : List ℕ) (p : ℕ)
+    (bytes : List ℕ) (b next q : ℕ)
     → spot_at wide due text p ≡ Spells b next q → length text ≤ p + n
     → (m : ℕ) × (length text ≤ q + m) × (p < q) × (p < length text)
-    × (with_bytes bytes (uri_within (suc n) context wide due text p) ≡ with_bytes (bytes ++ b ∷ []) (uri_within (suc m) context wide next text q))
+    × (with_bytes bytes (uri_within (suc n) context wide due text p)
+    ≡ with_bytes (bytes ++ b ∷ []) (uri_within (suc m) context wide next text q))
 unfolding uri_within
 uri_more zero context wide due text p bytes b next q h room =
     let (far, inside) = rw h at (moves wide due text p) in absurd (omega arith)
@@ -96,13 +103,18 @@ uri_more (suc n) context wide due text p bytes b next q h room =
     let (far, inside) = rw h at (moves wide due text p) in
     (n, omega arith, far, inside, rw h (bytes_twice bytes (b ∷ []) (uri_within (suc n) context wide next text q)))
 
-pub uri_done : (n : ℕ) (context : Context) (wide : Bool) (due : ℕ) (text : List ℕ) (p : ℕ) (bytes : List ℕ) (q : ℕ)
-    → spot_at wide due text p ≡ Ends q → with_bytes bytes (uri_within (suc n) context wide due text p) ≡ Ok (bytes, q)
+pub uri_done : (n : ℕ) (context : Context) (wide : Bool) (due : ℕ) (text : List ℕ) (p : ℕ)
+    (bytes : List ℕ) (q : ℕ)
+    → spot_at wide due text p ≡ Ends q
+    → with_bytes bytes (uri_within (suc n) context wide due text p) ≡ Ok (bytes, q)
 unfolding uri_within
 uri_done n context wide due text p bytes q h = rw (h, append-nil bytes) refl
 
-pub uri_bad : (n : ℕ) (context : Context) (wide : Bool) (due : ℕ) (text : List ℕ) (p : ℕ) (bytes : List ℕ) (problem : Problem) (q : ℕ)
-    → spot_at wide due text p ≡ Faulty problem q → with_bytes bytes (uri_within (suc n) context wide due text p) ≡ Err (record { problem = problem; context = context; place = q })
+pub uri_bad : (n : ℕ) (context : Context) (wide : Bool) (due : ℕ) (text : List ℕ) (p : ℕ)
+    (bytes : List ℕ) (problem : Problem) (q : ℕ)
+    → spot_at wide due text p ≡ Faulty problem q
+    → with_bytes bytes (uri_within (suc n) context wide due text p)
+    ≡ Err (record { problem = problem; context = context; place = q })
 unfolding uri_within
 uri_bad n context wide due text p bytes problem q h = rw h refl
 
@@ -123,7 +135,8 @@ unfolding is_wide_punctuation
 wide_no_mark b h = grind (arith, nat_tests)
 
 -- what a URI holds as it is, begins no escape
-kept_no_mark : (wide : Bool) (text : List ℕ) (p : ℕ) → is_uri wide text p ≡ true → (byte text p == 37) ≡ false
+kept_no_mark : (wide : Bool) (text : List ℕ) (p : ℕ) → is_uri wide text p ≡ true
+    → (byte text p == 37) ≡ false
 kept_no_mark wide text p h =
     elim (or_cases (is_alpha_byte (byte text p)) (is_punctuation (byte text p) || (wide && is_wide_punctuation (byte text p))) h) [
       | inl a ↦ alpha_no_mark (byte text p) a
@@ -133,13 +146,17 @@ kept_no_mark wide text p h =
       ]
     ]
 
-spot_kept : (wide : Bool) (due : ℕ) (text : List ℕ) (p : ℕ) → nat_lt 0 due ≡ false → is_uri wide text p ≡ true → spot_at wide due text p ≡ Spells (byte text p) 0 (p + 1)
+spot_kept : (wide : Bool) (due : ℕ) (text : List ℕ) (p : ℕ) → nat_lt 0 due ≡ false
+    → is_uri wide text p ≡ true → spot_at wide due text p ≡ Spells (byte text p) 0 (p + 1)
 unfolding spot_at
 spot_kept wide due text p none h = rw (kept_no_mark wide text p h, none, h) refl
 
 -- what is left of a URI behind characters that it holds as they are
-uri_run : (d n : ℕ) (context : Context) (wide : Bool) (text : List ℕ) (p : ℕ) → length text ≤ p + n → ((k : ℕ) → p ≤ k → k < p + d → is_uri wide text k ≡ true)
-    → (m : ℕ) × (length text ≤ p + d + m) × (uri_within (suc n) context wide 0 text p ≡ with_bytes (take d (drop p text)) (uri_within (suc m) context wide 0 text (p + d)))
+uri_run : (d n : ℕ) (context : Context) (wide : Bool) (text : List ℕ) (p : ℕ) → length text ≤ p + n
+    → ((k : ℕ) → p ≤ k → k < p + d → is_uri wide text k ≡ true)
+    → (m : ℕ) × (length text ≤ p + d + m)
+    × (uri_within (suc n) context wide 0 text p
+    ≡ with_bytes (take d (drop p text)) (uri_within (suc m) context wide 0 text (p + d)))
 uri_run zero n context wide text p room kept =
     let z : p + 0 ≡ p = omega arith in
     (n, omega arith, rw z (no_bytes (uri_within (suc n) context wide 0 text p)))
@@ -154,13 +171,15 @@ uri_run (suc d) n context wide text p room kept =
     (l, omega arith, rw (next, drop_more text p 0 inside) (no_bytes (uri_within (suc n) context wide 0 text p) ∙ (same ∙ front)))
 
 from_same : (f g : ℕ → ℕ → Result (List ℕ × ℕ) Wrong) (context : Context) (s : UriSpot)
-    → ((b due q : ℕ) → s ≡ Spells b due q → f due q ≡ g due q) → uri_from f context s ≡ uri_from g context s
+    → ((b due q : ℕ) → s ≡ Spells b due q → f due q ≡ g due q)
+    → uri_from f context s ≡ uri_from g context s
 from_same f g context (Spells b due q) h = rw (h b due q refl) refl
 from_same f g context (Ends q) h = refl
 from_same f g context (Faulty problem q) h = refl
 
 -- a URI is the same for any number of spots that reaches the end
-uri_enough : (n m : ℕ) (context : Context) (wide : Bool) (due : ℕ) (text : List ℕ) (p : ℕ) → length text ≤ p + n → length text ≤ p + m
+uri_enough : (n m : ℕ) (context : Context) (wide : Bool) (due : ℕ) (text : List ℕ) (p : ℕ)
+    → length text ≤ p + n → length text ≤ p + m
     → uri_within (suc n) context wide due text p ≡ uri_within (suc m) context wide due text p
 unfolding uri_within
 uri_enough zero m context wide due text p room more =
@@ -173,14 +192,17 @@ uri_enough (suc n) (suc m) context wide due text p room more =
     from_same (λ next q. uri_within (suc n) context wide next text q) (λ next q. uri_within (suc m) context wide next text q) context (spot_at wide due text p)
     (λ b next q e. let (far, inside) = rw e at (moves wide due text p) in uri_enough n m context wide next text q (omega arith) (omega arith))
 
-moved : (context : Context) (wide : Bool) (text : List ℕ) (q r m : ℕ) (whole : Result (List ℕ × ℕ) Wrong) (front : List ℕ) → r ≡ q → length text ≤ r + m
-    → whole ≡ with_bytes front (uri_within (suc m) context wide 0 text r) → whole ≡ with_bytes front (uri_at context wide text q)
+moved : (context : Context) (wide : Bool) (text : List ℕ) (q r m : ℕ)
+    (whole : Result (List ℕ × ℕ) Wrong) (front : List ℕ) → r ≡ q → length text ≤ r + m
+    → whole ≡ with_bytes front (uri_within (suc m) context wide 0 text r)
+    → whole ≡ with_bytes front (uri_at context wide text q)
 moved context wide text q r m whole front e room same =
     let there : length text ≤ q + m = rw e at room in
     let here : whole ≡ with_bytes front (uri_within (suc m) context wide 0 text q) = rw e at same in
     here ∙ ap (with_bytes front) (uri_enough m (length text) context wide 0 text q there (omega arith))
 
-pub uri_behind : (context : Context) (wide : Bool) (text : List ℕ) (p q : ℕ) → p ≤ q → ((k : ℕ) → p ≤ k → k < q → is_uri wide text k ≡ true)
+pub uri_behind : (context : Context) (wide : Bool) (text : List ℕ) (p q : ℕ) → p ≤ q
+    → ((k : ℕ) → p ≤ k → k < q → is_uri wide text k ≡ true)
     → uri_at context wide text p ≡ with_bytes (slice_range text p q) (uri_at context wide text q)
 uri_behind context wide text p q forward kept =
     let count : p + (q - p) ≡ q = omega arith in
@@ -202,12 +224,15 @@ past_uri wide text p past =
       | inr h ↦ h
     ]
 
-uri_stops : (context : Context) (wide : Bool) (text : List ℕ) (p : ℕ) → (byte text p == 37) ≡ false → is_uri wide text p ≡ false → uri_at context wide text p ≡ Ok ([], p)
+uri_stops : (context : Context) (wide : Bool) (text : List ℕ) (p : ℕ) → (byte text p == 37) ≡ false
+    → is_uri wide text p ≡ false → uri_at context wide text p ≡ Ok ([], p)
 unfolding uri_within spot_at
 uri_stops context wide text p mark kept = rw (mark, kept) refl
 
 -- a URI without escapes
-pub uri_plain : (context : Context) (wide : Bool) (text : List ℕ) (p q : ℕ) → p ≤ q → ((k : ℕ) → p ≤ k → k < q → is_uri wide text k ≡ true)
-    → (byte text q ≡ 37 → ⊥) → is_uri wide text q ≡ false → uri_at context wide text p ≡ Ok (slice_range text p q, q)
+pub uri_plain : (context : Context) (wide : Bool) (text : List ℕ) (p q : ℕ) → p ≤ q
+    → ((k : ℕ) → p ≤ k → k < q → is_uri wide text k ≡ true)
+    → (byte text q ≡ 37 → ⊥) → is_uri wide text q ≡ false
+    → uri_at context wide text p ≡ Ok (slice_range text p q, q)
 uri_plain context wide text p q forward kept mark stop =
     uri_behind context wide text p q forward kept ∙ rw (uri_stops context wide text q (other (byte text q) mark) stop, append-nil (slice_range text p q)) refl

@@ -37,13 +37,15 @@ kept_plain wide b h =
       ]
     ]
 
-raw_spot : (wide : Bool) (text : List ℕ) (p b : ℕ) → byte text p ≡ b → is_kept wide b ≡ true → spot_at wide 0 text p ≡ Spells b 0 (p + 1)
+raw_spot : (wide : Bool) (text : List ℕ) (p b : ℕ) → byte text p ≡ b → is_kept wide b ≡ true
+    → spot_at wide 0 text p ≡ Spells b 0 (p + 1)
 unfolding spot_at
 raw_spot wide text p b e h =
     let plain : (b == 37) ≡ false = let n = kept_plain wide b h in grind (arith, nat_tests) in
     rw (e, plain, h) refl
 
-octet_read : (text : List ℕ) (p b : ℕ) → byte text (p + 1) ≡ capital (b / 16) → byte text (p + 2) ≡ capital (b % 16) → b < 256 → octet_at text p ≡ Some b
+octet_read : (text : List ℕ) (p b : ℕ) → byte text (p + 1) ≡ capital (b / 16)
+    → byte text (p + 2) ≡ capital (b % 16) → b < 256 → octet_at text p ≡ Some b
 unfolding octet_at
 octet_read text p b e f h =
     let high : b / 16 < 16 = omega arith in
@@ -51,11 +53,14 @@ octet_read text p b e f h =
     let whole : b / 16 * 16 + b % 16 ≡ b = omega arith in
     rw (e, f, capital_digit (b / 16) high, capital_digit (b % 16) low) (ap Some whole)
 
-escape_read : (wide : Bool) (due next : ℕ) (text : List ℕ) (p b : ℕ) → byte text p ≡ 37 → octet_at text p ≡ Some b → due_behind b due ≡ Ok next → spot_at wide due text p ≡ Spells b next (p + 3)
+escape_read : (wide : Bool) (due next : ℕ) (text : List ℕ) (p b : ℕ) → byte text p ≡ 37
+    → octet_at text p ≡ Some b → due_behind b due ≡ Ok next
+    → spot_at wide due text p ≡ Spells b next (p + 3)
 unfolding spot_at
 escape_read wide due next text p b e o d = rw (e, o, d) refl
 
-end_spot : (wide : Bool) (text : List ℕ) (p : ℕ) → (byte text p == 37 || is_uri wide text p) ≡ false → spot_at wide 0 text p ≡ Ends p
+end_spot : (wide : Bool) (text : List ℕ) (p : ℕ) → (byte text p == 37 || is_uri wide text p) ≡ false
+    → spot_at wide 0 text p ≡ Ends p
 unfolding spot_at
 end_spot wide text p h =
     elim (cases_Bool (byte text p == 37)) [
@@ -63,21 +68,26 @@ end_spot wide text p h =
       | inr e ↦ let rest = rw e at h in rw (e, rest) refl
     ]
 
-end_within : (n : ℕ) (context : Context) (wide : Bool) (text : List ℕ) (p : ℕ) → spot_at wide 0 text p ≡ Ends p → uri_within (suc n) context wide 0 text p ≡ Ok ([], p)
+end_within : (n : ℕ) (context : Context) (wide : Bool) (text : List ℕ) (p : ℕ)
+    → spot_at wide 0 text p ≡ Ends p → uri_within (suc n) context wide 0 text p ≡ Ok ([], p)
 unfolding uri_within
 end_within n context wide text p h = rw h refl
 
 -- a URI whose first byte is spelled and whose rest is read
-onward : (n : ℕ) (context : Context) (wide : Bool) (due : ℕ) (text : List ℕ) (p b next q : ℕ) (bytes : List ℕ) (e : ℕ) → spot_at wide due text p ≡ Spells b next q → length text ≤ p + n
+onward : (n : ℕ) (context : Context) (wide : Bool) (due : ℕ) (text : List ℕ) (p b next q : ℕ)
+    (bytes : List ℕ) (e : ℕ) → spot_at wide due text p ≡ Spells b next q → length text ≤ p + n
     → ((m : ℕ) → length text ≤ q + m → uri_within (suc m) context wide next text q ≡ Ok (bytes, e))
     → uri_within (suc n) context wide due text p ≡ Ok (b ∷ bytes, e)
 onward n context wide due text p b next q bytes e s room rest =
     let (m, more, far, inside, same) = uri_more n context wide due text p [] b next q s room in
     no_bytes (uri_within (suc n) context wide due text p) ∙ same ∙ ap (with_bytes (b ∷ [])) (rest m more)
 
-pieces_read : (pieces : List UriPiece) (n : ℕ) (context : Context) (wide : Bool) (due : ℕ) (text : List ℕ) (p : ℕ) → Has text p (uri_text pieces) → IsUri wide due pieces
-    → spot_at wide 0 text (p + length (uri_text pieces)) ≡ Ends (p + length (uri_text pieces)) → length text ≤ p + n
-    → uri_within (suc n) context wide due text p ≡ Ok (uri_bytes pieces, p + length (uri_text pieces))
+pieces_read : (pieces : List UriPiece) (n : ℕ) (context : Context) (wide : Bool) (due : ℕ)
+    (text : List ℕ) (p : ℕ) → Has text p (uri_text pieces) → IsUri wide due pieces
+    → spot_at wide 0 text (p + length (uri_text pieces)) ≡ Ends (p + length (uri_text pieces))
+    → length text ≤ p + n
+    → uri_within (suc n) context wide due text p
+    ≡ Ok (uri_bytes pieces, p + length (uri_text pieces))
 pieces_read [] n context wide due text p h is stop room =
     let z : p + 0 ≡ p = omega arith in
     let here : spot_at wide 0 text p ≡ Ends p = rw z at stop in
@@ -97,7 +107,9 @@ pieces_read (escape b ∷ pieces) n context wide due text p (e, (f, (g, h))) (sm
     rw end (onward n context wide due text p b next (p + 3) (uri_bytes pieces) (p + 3 + length (uri_text pieces)) (escape_read wide due next text p b e (octet_read text p b f second small) due_is) room
     (λ m r. pieces_read pieces m context wide next text (p + 3) rest is after r))
 
-pub uri_is_read : (context : Context) (wide : Bool) (text : List ℕ) (p : ℕ) (pieces : List UriPiece) → Has text p (uri_text pieces) → IsUri wide 0 pieces
-    → (byte text (p + length (uri_text pieces)) == 37 || is_uri wide text (p + length (uri_text pieces))) ≡ false
+pub uri_is_read : (context : Context) (wide : Bool) (text : List ℕ) (p : ℕ) (pieces : List UriPiece)
+    → Has text p (uri_text pieces) → IsUri wide 0 pieces
+    → (byte text (p + length (uri_text pieces)) == 37
+    || is_uri wide text (p + length (uri_text pieces))) ≡ false
     → uri_at context wide text p ≡ Ok (uri_bytes pieces, p + length (uri_text pieces))
 uri_is_read context wide text p pieces h is stop = pieces_read pieces (length text) context wide 0 text p h is (end_spot wide text (p + length (uri_text pieces)) stop) (omega arith)

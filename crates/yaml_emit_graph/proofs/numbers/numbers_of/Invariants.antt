@@ -9,7 +9,8 @@ abbrev pub invariant-loop-numbers : goal.invariant-loop-numbers
 invariant-loop-numbers l = record {
   walk : IsWalk l.document.nodes l.walk;
   given : IsNumbering (numbering_of l.numbers);
-  same : numbers l.document.nodes ≡ (numbered (numbering_of l.numbers) (remaining_turns l.document.nodes l.walk)).table;
+  same : numbers l.document.nodes
+      ≡ (numbered (numbering_of l.numbers) (remaining_turns l.document.nodes l.walk)).table;
 }
 
 abbrev pub decreases-loop-numbers : goal.decreases-loop-numbers

@@ -8,7 +8,9 @@ use Rattle.yaml_emit_held.proofs.release.release.Given as goal
 
 abbrev pub invariant-loop-held : goal.invariant-loop-held
 invariant-loop-held l = record {
-  lays : LaysEvents l.initial.core (held_events l.initial.held ++ emitter_event (body_of l.event) ∷ []) l.core (held_events l.held ++ emitter_event (body_of l.event) ∷ []);
+  lays : LaysEvents l.initial.core
+      (held_events l.initial.held ++ emitter_event (body_of l.event) ∷ []) l.core
+      (held_events l.held ++ emitter_event (body_of l.event) ∷ []);
   utf8 : HeldUtf8 l.held;
   most : length (held_events l.held) ≤ 3;
   short : goes_on l.core.sink.status l.core.place ≡ false → length (held_events l.held) ≤ 2;

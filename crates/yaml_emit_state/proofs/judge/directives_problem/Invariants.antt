@@ -7,5 +7,7 @@ use Rattle.yaml_emit_state.proofs.judge.directives_problem.Given as goal
 abbrev pub invariant-loop-i : goal.invariant-loop-i
 invariant-loop-i l = record {
   seen : HasHandles l.seen (map directive_of (take l.i l.directives));
-  right : directives_problem [] (map directive_of l.directives) ≡ directives_problem (map directive_of (take l.i l.directives)) (map directive_of (drop l.i l.directives));
+  right : directives_problem [] (map directive_of l.directives)
+      ≡ directives_problem (map directive_of (take l.i l.directives))
+      (map directive_of (drop l.i l.directives));
 }

@@ -7,7 +7,8 @@ invariant-loop-low l = record {
   from : l.from ≤ l.low;
   room : l.low ≤ l.high;
   to : l.high ≤ l.to;
-  below : (k : ℕ) → l.from ≤ k → k < l.low → key (at (map entry_of l.entries) k).0 l.depth < l.least;
+  below : (k : ℕ) → l.from ≤ k → k < l.low
+      → key (at (map entry_of l.entries) k).0 l.depth < l.least;
   above : (k : ℕ) → l.high ≤ k → k < l.to → l.least ≤ key (at (map entry_of l.entries) k).0 l.depth;
 }
 

@@ -9,13 +9,15 @@ returns-in-YAML_SCALAR_TOKEN-clause-turns g c = λ s.
     (g.T.yaml_lent_token_t.mark s (g.T.yaml_lent_token_t.from c.args.token.now)) (g.T.yaml_lent_token_t.mark s (g.T.yaml_lent_token_t.to c.args.token.now)) _ _ (seen c.scalar.result) _
     tt (c.scalar.ensures.content s c.args.wants))
 
-pub returns-in-YAML_FLOW_SEQUENCE_START_TOKEN-clause-turns : goal.returns-in-YAML_FLOW_SEQUENCE_START_TOKEN-clause-turns
+pub returns-in-YAML_FLOW_SEQUENCE_START_TOKEN-clause-turns :
+    goal.returns-in-YAML_FLOW_SEQUENCE_START_TOKEN-clause-turns
 returns-in-YAML_FLOW_SEQUENCE_START_TOKEN-clause-turns g c = λ s.
     rw (c.in-YAML_FLOW_SEQUENCE_START_TOKEN.is) (bare_node c.args.wants kinds.YAML_FLOW_SEQUENCE_START_TOKEN (g.T.yaml_lent_token_t.text s c.args.token.now) (g.T.yaml_lent_token_t.other s c.args.token.now) (g.T.yaml_lent_token_t.extra c.args.token.now)
     (g.T.yaml_lent_token_t.mark s (g.T.yaml_lent_token_t.from c.args.token.now)) (g.T.yaml_lent_token_t.mark s (g.T.yaml_lent_token_t.to c.args.token.now)) _ _ (seen c.flow_sequence.result) _
     tt (c.flow_sequence.ensures.content s c.args.wants))
 
-pub returns-in-YAML_FLOW_MAPPING_START_TOKEN-clause-turns : goal.returns-in-YAML_FLOW_MAPPING_START_TOKEN-clause-turns
+pub returns-in-YAML_FLOW_MAPPING_START_TOKEN-clause-turns :
+    goal.returns-in-YAML_FLOW_MAPPING_START_TOKEN-clause-turns
 returns-in-YAML_FLOW_MAPPING_START_TOKEN-clause-turns g c = λ s.
     rw (c.in-YAML_FLOW_MAPPING_START_TOKEN.is) (bare_node c.args.wants kinds.YAML_FLOW_MAPPING_START_TOKEN (g.T.yaml_lent_token_t.text s c.args.token.now) (g.T.yaml_lent_token_t.other s c.args.token.now) (g.T.yaml_lent_token_t.extra c.args.token.now)
     (g.T.yaml_lent_token_t.mark s (g.T.yaml_lent_token_t.from c.args.token.now)) (g.T.yaml_lent_token_t.mark s (g.T.yaml_lent_token_t.to c.args.token.now)) _ _ (seen c.flow_mapping.result) _

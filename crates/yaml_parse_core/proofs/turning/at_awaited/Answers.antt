@@ -12,14 +12,16 @@ returns-in-YAML_SCALAR_TOKEN-clause-turns g c = λ s.
     (g.T.yaml_lent_token_t.mark s (g.T.yaml_lent_token_t.from c.args.token.now)) (g.T.yaml_lent_token_t.mark s (g.T.yaml_lent_token_t.to c.args.token.now)) _ _ (seen c.scalar.result) _
     (sym c.is_begun.ensures ∙ c.if-is_begun.false) refl (c.scalar.ensures.content s))
 
-pub returns-in-YAML_FLOW_SEQUENCE_START_TOKEN-clause-turns : goal.returns-in-YAML_FLOW_SEQUENCE_START_TOKEN-clause-turns
+pub returns-in-YAML_FLOW_SEQUENCE_START_TOKEN-clause-turns :
+    goal.returns-in-YAML_FLOW_SEQUENCE_START_TOKEN-clause-turns
 returns-in-YAML_FLOW_SEQUENCE_START_TOKEN-clause-turns g c = λ s.
     rw (c.in-YAML_FLOW_SEQUENCE_START_TOKEN.is) (anywhere c.args.machine.now.awaited (g.T.yaml_lent_token_t.mark s c.args.machine.now.before) (properties_of (g.T.yaml_lent_token_t.bytes s) (g.T.yaml_lent_token_t.mark s) c.args.waiting.now)
     kinds.YAML_FLOW_SEQUENCE_START_TOKEN (g.T.yaml_lent_token_t.text s c.args.token.now) (g.T.yaml_lent_token_t.other s c.args.token.now) (g.T.yaml_lent_token_t.extra c.args.token.now)
     (g.T.yaml_lent_token_t.mark s (g.T.yaml_lent_token_t.from c.args.token.now)) (g.T.yaml_lent_token_t.mark s (g.T.yaml_lent_token_t.to c.args.token.now)) _ _ (seen c.flow_sequence.result) _
     (sym c.is_begun.ensures ∙ c.if-is_begun.false) refl (c.flow_sequence.ensures.content s))
 
-pub returns-in-YAML_FLOW_MAPPING_START_TOKEN-clause-turns : goal.returns-in-YAML_FLOW_MAPPING_START_TOKEN-clause-turns
+pub returns-in-YAML_FLOW_MAPPING_START_TOKEN-clause-turns :
+    goal.returns-in-YAML_FLOW_MAPPING_START_TOKEN-clause-turns
 returns-in-YAML_FLOW_MAPPING_START_TOKEN-clause-turns g c = λ s.
     rw (c.in-YAML_FLOW_MAPPING_START_TOKEN.is) (anywhere c.args.machine.now.awaited (g.T.yaml_lent_token_t.mark s c.args.machine.now.before) (properties_of (g.T.yaml_lent_token_t.bytes s) (g.T.yaml_lent_token_t.mark s) c.args.waiting.now)
     kinds.YAML_FLOW_MAPPING_START_TOKEN (g.T.yaml_lent_token_t.text s c.args.token.now) (g.T.yaml_lent_token_t.other s c.args.token.now) (g.T.yaml_lent_token_t.extra c.args.token.now)

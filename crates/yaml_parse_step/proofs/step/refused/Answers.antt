@@ -13,5 +13,8 @@ pub returns : goal.returns
 returns c = λ s t ev h e. (
   c.finish.ensures (λ m. m) (owned_properties c.args.buffers.now.waiting),
   subst (λ (u : Token). Turned c.args.buffers.now s u (kinds.refused c.args.problem) → Stops s u (fault_of c.refuse.new.fault) ⊎ GaveFault s u (directives_of c.args.buffers.now.directives) (fault_of c.refuse.new.fault)) e
-      (λ k. inl (refused_stops s (token_of c.args.buffers.now.token) c.args.problem _ (owned_states_by c.args.buffers.now.machine) (fault_of c.refuse.new.fault) k (c.refuse.ensures ∙ ap (λ z. parser_fault c.args.problem c.args.buffers.now.token.start_mark z) c.context.ensures))) h,
+      (λ k. inl (refused_stops s (token_of c.args.buffers.now.token) c.args.problem _
+      (owned_states_by c.args.buffers.now.machine) (fault_of c.refuse.new.fault) k
+      (c.refuse.ensures ∙ ap (λ z. parser_fault c.args.problem c.args.buffers.now.token.start_mark
+      z) c.context.ensures))) h,
 )

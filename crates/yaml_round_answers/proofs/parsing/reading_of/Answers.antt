@@ -6,7 +6,8 @@ use Rattle.yaml_parse.proofs.Sentences.{as_run}
 use Rattle.yaml_round.specs.Input.{tokens_of, parsed, read}
 use Rattle.yaml_round_answers.proofs.parsing.reading_of.Goals as goal
 
-is_read : (from : yaml_encoding_t) (input : List ℕ) (c : _) → c ≡ tokens_of from input → parsed c ≡ read from input
+is_read : (from : yaml_encoding_t) (input : List ℕ) (c : _) → c ≡ tokens_of from input
+    → parsed c ≡ read from input
 unfolding read
 is_read from input c e = ap parsed e
 

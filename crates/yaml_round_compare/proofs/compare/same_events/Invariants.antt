@@ -11,8 +11,10 @@ invariant-events l = record {
   second_real : AreReal l.second.parser.events;
   first : l.first.parser.ending ≡ l.fn.first.parser.ending;
   second : l.second.parser.ending ≡ l.fn.second.parser.ending;
-  alike : (contents l.fn.first.parser.events ≡ contents l.fn.second.parser.events) ↔ (contents l.first.parser.events ≡ contents l.second.parser.events);
-  parted : (t : Trail) → Parted l.fn.kept l.first.parser.events l.second.parser.events l.trail t → Parted l.fn.kept l.fn.first.parser.events l.fn.second.parser.events l.fn.trail t;
+  alike : (contents l.fn.first.parser.events ≡ contents l.fn.second.parser.events) ↔
+      (contents l.first.parser.events ≡ contents l.second.parser.events);
+  parted : (t : Trail) → Parted l.fn.kept l.first.parser.events l.second.parser.events l.trail t
+      → Parted l.fn.kept l.fn.first.parser.events l.fn.second.parser.events l.fn.trail t;
 }
 
 abbrev pub decreases-events : goal.decreases-events

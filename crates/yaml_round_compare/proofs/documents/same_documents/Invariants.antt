@@ -5,7 +5,8 @@ use Rattle.yaml_round_compare.proofs.documents.same_documents.Given as goal
 
 abbrev pub invariant-documents : goal.invariant-documents
 invariant-documents l = record {
-  past : GoesPast (documents_left l.fn.first.items) (documents_left l.fn.second.items) (documents_left l.first.items) (documents_left l.second.items) l.fn.front l.front;
+  past : GoesPast (documents_left l.fn.first.items) (documents_left l.fn.second.items)
+      (documents_left l.first.items) (documents_left l.second.items) l.fn.front l.front;
 }
 
 abbrev pub decreases-documents : goal.decreases-documents

@@ -7,7 +7,8 @@ abbrev pub invariant-events : goal.invariant-events
 invariant-events l = record {
   first : IsDump l.first;
   second : IsDump l.second;
-  past : GoesPast (dump_left l.fn.first) (dump_left l.fn.second) (dump_left l.first) (dump_left l.second) l.fn.front l.front;
+  past : GoesPast (dump_left l.fn.first) (dump_left l.fn.second) (dump_left l.first)
+      (dump_left l.second) l.fn.front l.front;
 }
 
 abbrev pub decreases-events : goal.decreases-events

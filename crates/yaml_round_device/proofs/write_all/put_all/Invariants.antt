@@ -6,7 +6,8 @@ use Rattle.yaml_round_device.proofs.write_all.put_all.Given as goal
 abbrev pub invariant-loop-written : goal.invariant-loop-written
 invariant-loop-written g l = record {
   within : l.written ≤ length l.text;
-  front : Appends (g.O.yaml_output_t.received l.fn.output) (g.O.yaml_output_t.received l.output) (take l.written l.text);
+  front : Appends (g.O.yaml_output_t.received l.fn.output) (g.O.yaml_output_t.received l.output)
+      (take l.written l.text);
   sound : g.O.yaml_output_t.has_failed l.output ≡ g.O.yaml_output_t.has_failed l.fn.output;
 }
 

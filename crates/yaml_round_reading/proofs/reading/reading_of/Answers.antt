@@ -10,7 +10,8 @@ use Rattle.yaml_round_content.specs.Input.{tokens_of, parsed, read}
 use Rattle.yaml_round_reading.proofs.Real.{read_real}
 use Rattle.yaml_round_reading.proofs.reading.reading_of.Goals as goal
 
-is_read : (from : yaml_encoding_t) (input : List ℕ) (c : scan.Remaining) → c ≡ tokens_of from input → parsed c ≡ read from input
+is_read : (from : yaml_encoding_t) (input : List ℕ) (c : scan.Remaining) → c ≡ tokens_of from input
+    → parsed c ≡ read from input
 unfolding read
 is_read from input c e = ap parsed e
 

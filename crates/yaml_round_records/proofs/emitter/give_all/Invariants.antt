@@ -8,5 +8,6 @@ use Rattle.yaml_round_records.proofs.emitter.give_all.Given as goal
 abbrev pub invariant-loop-record : goal.invariant-loop-record
 invariant-loop-record l = record {
   meant : IsSome (events_meant l.bytes l.list (drop l.record-index l.records));
-  leads : LeadsEmitter l.fn.emitter (all_events (events_meant l.bytes l.list l.records)) l.emitter (all_events (events_meant l.bytes l.list (drop l.record-index l.records)));
+  leads : LeadsEmitter l.fn.emitter (all_events (events_meant l.bytes l.list l.records)) l.emitter
+      (all_events (events_meant l.bytes l.list (drop l.record-index l.records)));
 }

@@ -7,5 +7,6 @@ use Rattle.yaml_round_records.proofs.listing.put_directives.Given as goal
 abbrev pub invariant-loop-directive : goal.invariant-loop-directive
 invariant-loop-directive l = record {
   at : l.at ≡ length l.fn.listing.directives.items;
-  adds : AddsDirectives l.fn.listing (map directive_of (take l.directive-index l.fn.directives)) l.listing;
+  adds : AddsDirectives l.fn.listing (map directive_of (take l.directive-index l.fn.directives))
+      l.listing;
 }

@@ -8,7 +8,8 @@ abbrev pub invariant-events : goal.invariant-events
 invariant-events l = record {
   real : AreReal l.reading.parser.events;
   ending : l.reading.parser.ending ≡ l.fn.reading.parser.ending;
-  lines : l.lines.items ++ event_lines l.reading.parser.events ≡ l.fn.lines.items ++ event_lines l.fn.reading.parser.events;
+  lines : l.lines.items ++ event_lines l.reading.parser.events ≡ l.fn.lines.items
+      ++ event_lines l.fn.reading.parser.events;
 }
 
 abbrev pub decreases-events : goal.decreases-events

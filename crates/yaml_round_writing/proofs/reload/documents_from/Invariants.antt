@@ -7,7 +7,8 @@ use Rattle.yaml_round_writing.proofs.reload.documents_from.Given as goal
 abbrev pub invariant-documents : goal.invariant-documents
 invariant-documents l = record {
   between : l.reading.parser.between ≡ true;
-  documents : l.documents.items ++ (to_load l.reading.parser).documents ≡ (to_load l.fn.reading.parser).documents;
+  documents : l.documents.items ++ (to_load l.reading.parser).documents
+      ≡ (to_load l.fn.reading.parser).documents;
   small : AreNumerable l.documents.items;
   fault : (to_load l.reading.parser).fault ≡ (to_load l.fn.reading.parser).fault;
 }

@@ -9,7 +9,8 @@ abbrev pub invariant-documents : goal.invariant-documents
 invariant-documents l = record {
   stands : IsWithinStream l.emitter;
   rooted : All HasRoot l.documents.items;
-  feeds : FeedsEmitter l.fn.emitter (documents_events (map graph_content l.fn.documents.items)) l.emitter (documents_events (map graph_content l.documents.items));
+  feeds : FeedsEmitter l.fn.emitter (documents_events (map graph_content l.fn.documents.items))
+      l.emitter (documents_events (map graph_content l.documents.items));
 }
 
 abbrev pub decreases-documents : goal.decreases-documents

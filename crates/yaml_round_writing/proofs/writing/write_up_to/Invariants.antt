@@ -8,7 +8,8 @@ abbrev pub invariant-events : goal.invariant-events
 invariant-events l = record {
   ending : l.reading.parser.ending ≡ l.fn.reading.parser.ending;
   real : AreReal l.reading.parser.events;
-  leads : LeadsOn l.fn.form l.fn.emitter l.fn.reading.parser.events l.form l.emitter l.reading.parser.events;
+  leads : LeadsOn l.fn.form l.fn.emitter l.fn.reading.parser.events l.form l.emitter
+      l.reading.parser.events;
 }
 
 abbrev pub decreases-events : goal.decreases-events

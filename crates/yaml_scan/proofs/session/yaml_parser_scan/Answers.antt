@@ -12,11 +12,13 @@ returns-clause-scans c =
 pub returns-clause-few : goal.returns-clause-few
 returns-clause-few c = c.yaml_parser_scan_into.ensures.few
 
-pub returns-then-yaml_parser_scan_into-clause-scans : goal.returns-then-yaml_parser_scan_into-clause-scans
+pub returns-then-yaml_parser_scan_into-clause-scans :
+    goal.returns-then-yaml_parser_scan_into-clause-scans
 returns-then-yaml_parser_scan_into-clause-scans c =
     let into = c.yaml_parser_scan_into in
     let takes = scan_takes c.args.parser.now into.new.parser into.result (token_of into.new.token) (fault_of into.new.fault) c.if-yaml_parser_scan_into.true into.ensures.scans in
     search rules
 
-pub returns-then-yaml_parser_scan_into-clause-few : goal.returns-then-yaml_parser_scan_into-clause-few
+pub returns-then-yaml_parser_scan_into-clause-few :
+    goal.returns-then-yaml_parser_scan_into-clause-few
 returns-then-yaml_parser_scan_into-clause-few c = c.yaml_parser_scan_into.ensures.few

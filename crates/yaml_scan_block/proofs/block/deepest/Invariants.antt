@@ -6,7 +6,8 @@ abbrev pub invariant-lines : goal.invariant-lines
 invariant-lines l = record {
   text : l.ahead.text ≡ l.fn.reader.text;
   rest : (n : ℕ) × (length l.fn.reader.text ≤ l.ahead.at + n)
-      × (deepest (suc (length l.fn.reader.text)) l.fn.reader.text l.fn.reader.at ≡ larger_of l.depth (deepest (suc n) l.fn.reader.text l.ahead.at));
+      × (deepest (suc (length l.fn.reader.text)) l.fn.reader.text l.fn.reader.at
+      ≡ larger_of l.depth (deepest (suc n) l.fn.reader.text l.ahead.at));
 }
 
 abbrev pub decreases-lines : goal.decreases-lines

@@ -6,8 +6,10 @@ use Rattle.yaml_scan_block.proofs.lines.indent.Given as goal
 abbrev pub invariant-spaces : goal.invariant-spaces
 invariant-spaces l = record {
   text : l.reader.text ≡ l.fn.reader.text;
-  same : l.fn.reader.at + spaces (l.column - column_at l.fn.reader.text l.fn.reader.at) l.fn.reader.text l.fn.reader.at
-      ≡ l.reader.at + spaces (l.column - column_at l.fn.reader.text l.reader.at) l.fn.reader.text l.reader.at;
+  same : l.fn.reader.at + spaces (l.column - column_at l.fn.reader.text l.fn.reader.at)
+      l.fn.reader.text l.fn.reader.at
+      ≡ l.reader.at + spaces (l.column - column_at l.fn.reader.text l.reader.at) l.fn.reader.text
+      l.reader.at;
 }
 
 abbrev pub decreases-spaces : goal.decreases-spaces

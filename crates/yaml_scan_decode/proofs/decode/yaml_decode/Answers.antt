@@ -11,7 +11,8 @@ pub returns-in-YAML_UTF16LE_ENCODING-clause-text : goal.returns-in-YAML_UTF16LE_
 returns-in-YAML_UTF16LE_ENCODING-clause-text c =
     units_text _ _ _ _ _ (sym c.stream_encoding.ensures ∙ c.in-YAML_UTF16LE_ENCODING.is) (sym c.removed_mark_length-start.ensures.value) c.decode_units.ensures.text
 
-pub returns-in-YAML_UTF16LE_ENCODING-clause-fault : goal.returns-in-YAML_UTF16LE_ENCODING-clause-fault
+pub returns-in-YAML_UTF16LE_ENCODING-clause-fault :
+    goal.returns-in-YAML_UTF16LE_ENCODING-clause-fault
 returns-in-YAML_UTF16LE_ENCODING-clause-fault c =
     units_fault _ _ _ _ _ (sym c.stream_encoding.ensures ∙ c.in-YAML_UTF16LE_ENCODING.is) (sym c.removed_mark_length-start.ensures.value) c.decode_units.ensures.fault
 
@@ -19,25 +20,30 @@ pub returns-in-YAML_UTF16BE_ENCODING-clause-text : goal.returns-in-YAML_UTF16BE_
 returns-in-YAML_UTF16BE_ENCODING-clause-text c =
     units_text _ _ _ _ _ (sym c.stream_encoding.ensures ∙ c.in-YAML_UTF16BE_ENCODING.is) (sym c.removed_mark_length-start.ensures.value) c.decode_units-in-YAML_UTF16BE_ENCODING.ensures.text
 
-pub returns-in-YAML_UTF16BE_ENCODING-clause-fault : goal.returns-in-YAML_UTF16BE_ENCODING-clause-fault
+pub returns-in-YAML_UTF16BE_ENCODING-clause-fault :
+    goal.returns-in-YAML_UTF16BE_ENCODING-clause-fault
 returns-in-YAML_UTF16BE_ENCODING-clause-fault c =
     units_fault _ _ _ _ _ (sym c.stream_encoding.ensures ∙ c.in-YAML_UTF16BE_ENCODING.is) (sym c.removed_mark_length-start.ensures.value) c.decode_units-in-YAML_UTF16BE_ENCODING.ensures.fault
 
-pub returns-in-YAML_UTF16LE_ENCODING-clause-spelled : goal.returns-in-YAML_UTF16LE_ENCODING-clause-spelled
+pub returns-in-YAML_UTF16LE_ENCODING-clause-spelled :
+    goal.returns-in-YAML_UTF16LE_ENCODING-clause-spelled
 returns-in-YAML_UTF16LE_ENCODING-clause-spelled c =
     units_spelled _ _ _ _ _ (λ k. omega (arith, c.type_inv.input k)) (sym c.stream_encoding.ensures ∙ c.in-YAML_UTF16LE_ENCODING.is) (sym c.removed_mark_length-start.ensures.value)
     c.decode_units.ensures.text
 
-pub returns-in-YAML_UTF16LE_ENCODING-clause-unspelled : goal.returns-in-YAML_UTF16LE_ENCODING-clause-unspelled
+pub returns-in-YAML_UTF16LE_ENCODING-clause-unspelled :
+    goal.returns-in-YAML_UTF16LE_ENCODING-clause-unspelled
 returns-in-YAML_UTF16LE_ENCODING-clause-unspelled c =
     units_unspelled _ _ _ _ _ (sym c.stream_encoding.ensures ∙ c.in-YAML_UTF16LE_ENCODING.is) (sym c.removed_mark_length-start.ensures.value) c.decode_units.ensures.fault
 
-pub returns-in-YAML_UTF16BE_ENCODING-clause-spelled : goal.returns-in-YAML_UTF16BE_ENCODING-clause-spelled
+pub returns-in-YAML_UTF16BE_ENCODING-clause-spelled :
+    goal.returns-in-YAML_UTF16BE_ENCODING-clause-spelled
 returns-in-YAML_UTF16BE_ENCODING-clause-spelled c =
     units_spelled _ _ _ _ _ (λ k. omega (arith, c.type_inv.input k)) (sym c.stream_encoding.ensures ∙ c.in-YAML_UTF16BE_ENCODING.is) (sym c.removed_mark_length-start.ensures.value)
     c.decode_units-in-YAML_UTF16BE_ENCODING.ensures.text
 
-pub returns-in-YAML_UTF16BE_ENCODING-clause-unspelled : goal.returns-in-YAML_UTF16BE_ENCODING-clause-unspelled
+pub returns-in-YAML_UTF16BE_ENCODING-clause-unspelled :
+    goal.returns-in-YAML_UTF16BE_ENCODING-clause-unspelled
 returns-in-YAML_UTF16BE_ENCODING-clause-unspelled c =
     units_unspelled _ _ _ _ _ (sym c.stream_encoding.ensures ∙ c.in-YAML_UTF16BE_ENCODING.is) (sym c.removed_mark_length-start.ensures.value) c.decode_units-in-YAML_UTF16BE_ENCODING.ensures.fault
 

@@ -8,7 +8,8 @@ invariant-pieces l = record {
   text : l.reader.text ≡ l.fn.reader.text;
   seat : IsJoining l.reader.text l.reader.at l.joining;
   rest : (n : ℕ) × (length l.fn.reader.text ≤ l.reader.at + n)
-      × (plain_at l.flow l.level l.fn.reader.text l.start.index ≡ plain_with (joined l.joining) (words (suc n) l.flow l.level l.fn.reader.text l.reader.at));
+      × (plain_at l.flow l.level l.fn.reader.text l.start.index
+      ≡ plain_with (joined l.joining) (words (suc n) l.flow l.level l.fn.reader.text l.reader.at));
 }
 
 abbrev pub decreases-pieces : goal.decreases-pieces

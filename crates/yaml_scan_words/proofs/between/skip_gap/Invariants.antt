@@ -6,7 +6,8 @@ abbrev pub invariant-gap : goal.invariant-gap
 invariant-gap l = record {
   text : l.reader.text ≡ l.fn.reader.text;
   rest : (n : ℕ) × (length l.fn.reader.text ≤ l.reader.at + n)
-      × (gap_at l.flow l.key_allowed l.fn.reader.text l.fn.reader.at ≡ with_break l.broke (gap_within n l.flow l.allowed l.fn.reader.text l.reader.at));
+      × (gap_at l.flow l.key_allowed l.fn.reader.text l.fn.reader.at
+      ≡ with_break l.broke (gap_within n l.flow l.allowed l.fn.reader.text l.reader.at));
 }
 
 abbrev pub decreases-gap : goal.decreases-gap

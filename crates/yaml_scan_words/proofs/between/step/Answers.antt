@@ -14,7 +14,8 @@ skip_bom-requires c = bom_first c.args.reader.now.text c.args.reader.now.at (sym
 pub skip-requires-then-is_skipped-clause-inside : goal.skip-requires-then-is_skipped-clause-inside
 skip-requires-then-is_skipped-clause-inside c = (skipped_here c.args.tabs c.args.reader.now.text c.args.reader.now.at (sym c.is_skipped.ensures ∙ c.if-is_skipped.true)).0
 
-pub skip-requires-then-is_skipped-clause-no_break : goal.skip-requires-then-is_skipped-clause-no_break
+pub skip-requires-then-is_skipped-clause-no_break :
+    goal.skip-requires-then-is_skipped-clause-no_break
 skip-requires-then-is_skipped-clause-no_break c = (skipped_here c.args.tabs c.args.reader.now.text c.args.reader.now.at (sym c.is_skipped.ensures ∙ c.if-is_skipped.true)).1
 
 pub skip-requires-clause-inside : goal.skip-requires-clause-inside

@@ -5,7 +5,8 @@ use Rattle.yaml_scan_words.proofs.run.alphas_end.Given as goal
 
 abbrev pub invariant-bytes : goal.invariant-bytes
 invariant-bytes l = record {
-  rest : (n : ℕ) × (length l.text ≤ l.end + n) × (run_end runs.Alphas l.text l.from ≡ run_within n runs.Alphas l.text l.end);
+  rest : (n : ℕ) × (length l.text ≤ l.end + n)
+      × (run_end runs.Alphas l.text l.from ≡ run_within n runs.Alphas l.text l.end);
 }
 
 abbrev pub decreases-bytes : goal.decreases-bytes

@@ -5,7 +5,9 @@ use Rattle.yaml_scan_words.proofs.run.skip_run.Given as goal
 abbrev pub invariant-bytes : goal.invariant-bytes
 invariant-bytes l = record {
   text : l.reader.text ≡ l.fn.reader.text;
-  rest : (n : ℕ) × (length l.fn.reader.text ≤ l.reader.at + n) × (run_end l.run l.fn.reader.text l.fn.reader.at ≡ run_within n l.run l.fn.reader.text l.reader.at);
+  rest : (n : ℕ) × (length l.fn.reader.text ≤ l.reader.at + n)
+      × (run_end l.run l.fn.reader.text l.fn.reader.at
+      ≡ run_within n l.run l.fn.reader.text l.reader.at);
 }
 
 abbrev pub decreases-bytes : goal.decreases-bytes

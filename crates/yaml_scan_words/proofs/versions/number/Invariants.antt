@@ -13,7 +13,8 @@ invariant-digits l = record {
   few : l.count ≤ 9;
   small : l.value < limit l.count;
   rest : (n : ℕ) × (length l.fn.reader.text ≤ l.fn.reader.at + l.count + n)
-      × (run_end runs.Digits l.fn.reader.text l.fn.reader.at ≡ run_within n runs.Digits l.fn.reader.text (l.fn.reader.at + l.count));
+      × (run_end runs.Digits l.fn.reader.text l.fn.reader.at
+      ≡ run_within n runs.Digits l.fn.reader.text (l.fn.reader.at + l.count));
 }
 
 abbrev pub decreases-digits : goal.decreases-digits

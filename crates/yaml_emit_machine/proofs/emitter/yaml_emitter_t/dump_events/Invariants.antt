@@ -9,7 +9,8 @@ abbrev pub invariant-loop : goal.invariant-loop
 invariant-loop l = record {
   walk : IsEvents l.document l.events;
   begun : l.self.fresh ≡ false;
-  takes : TakesEvents l.initial.self (remaining_events l.document l.initial.events) l.self (remaining_events l.document l.events);
+  takes : TakesEvents l.initial.self (remaining_events l.document l.initial.events) l.self
+      (remaining_events l.document l.events);
   memory : NotesMemory true l.initial.self l.self;
   keeps : Keeps l.initial.self l.self;
 }

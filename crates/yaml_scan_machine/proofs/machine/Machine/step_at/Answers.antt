@@ -6,7 +6,8 @@ use Rattle.yaml_scan_machine.proofs.machine.Machine.step_at.Goals as goal
 pub of_rare-requires : goal.of_rare-requires
 of_rare-requires g c = subst (λ (k : Kind). MayReadAt c.args.self.now k c.args.spot.now) (sym c.kind-kind.ensures) c.requires
 
-pub required_where-required-requires-clause-stands : goal.required_where-required-requires-clause-stands
+pub required_where-required-requires-clause-stands :
+    goal.required_where-required-requires-clause-stands
 required_where-required-requires-clause-stands g c = c.requires.may.stands
 
 pub required_where-required-requires-clause-told : goal.required_where-required-requires-clause-told

@@ -10,7 +10,8 @@ returns-in-Line-clause-value c = λ ps.
     let feed : is_feed c.args.bytes.now ≡ true = grind (arith, nat_tests, c.if-bytes-eq10.true) in
     rw (c.clear.ensures.items, c.in-Line.is) (break_feed _ _ _ ps feed)
 
-pub returns-in_ok-extend_from_slice-in_default-clause-value : goal.returns-in_ok-extend_from_slice-in_default-clause-value
+pub returns-in_ok-extend_from_slice-in_default-clause-value :
+    goal.returns-in_ok-extend_from_slice-in_default-clause-value
 returns-in_ok-extend_from_slice-in_default-clause-value c = λ ps.
     rw (c.in_ok-extend_from_slice-in_default.ensures.items, c.clear.ensures.items)
     (break_more _ _ _ _ ps c.requires

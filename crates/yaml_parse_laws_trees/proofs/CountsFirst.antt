@@ -1,0 +1,149 @@
+-- What the first token of a spelled tree is.
+use Rattle.std.proofs.Common.{◌≡◌, ℕ, Bool, true, false, List, [], ◌∷◌, Some, None, refl, ap, sym, subst, ◌∙◌}
+use Rattle.yaml_parse_grammar.specs.parse_model.declared.yaml_mark_t.{yaml_mark_t}
+use Rattle.yaml_parse_grammar.specs.parse_model.declared.yaml_token_type_t.{yaml_token_type_t}
+use Rattle.yaml_parse_grammar.specs.parse_model.declared.yaml_token_type_t.TheVariants as kind
+use Rattle.yaml_parse_grammar.specs.parse_model.Tokens.{Token, TokenBody, type_of}
+use Rattle.yaml_parse_grammar.specs.parse_model.Tokens as token
+use Rattle.yaml_parse_grammar.specs.parse_model.Source.{front_of, rest_of}
+use Rattle.yaml_parse_grammar.specs.declared.name.Wants.{Wants}
+use Rattle.yaml_parse_grammar.specs.declared.name.Wants.TheVariants.{Flow, Block}
+use Rattle.yaml_parse_grammar.specs.declared.name.Brackets.TheVariants as brackets
+use Rattle.yaml_parse_grammar.specs.Trees.{Span, token_at, AnchorToken, TagToken, anchor_token, tag_token, PropertyTokens, spell_properties, Node, Content, spell_node, spell_content}
+use Rattle.yaml_parse_grammar.specs.Trees as tree
+use Rattle.yaml_parse_grammar.specs.Machine.{starts_node}
+use Rattle.yaml_parse_grammar.proofs.Complete.{ends, Ends, Starts, node_starts}
+
+-- ---- first tokens
+
+abbrev pub body_of : List Token → TokenBody
+body_of ts = (front_of ts).body
+
+abbrev pub kind_of : List Token → yaml_token_type_t
+kind_of ts = type_of (body_of ts)
+
+pub apart : (x y : List Token) → x ≡ y → (kind_of x ≡ kind_of y → ⊥) → ⊥
+apart x y h d = d (ap kind_of h)
+
+-- what is made of equal parts
+pub both : {A B C : Type 0} (g : A → B → C) (a c : A) (b d : B) → a ≡ c → b ≡ d → g a b ≡ g c d
+both g a c b d e f = ap (λ z. g z b) e ∙ ap (g c) f
+
+pub three : {A B C D : Type 0} (g : A → B → C → D) (a a' : A) (b b' : B) (c c' : C) → a ≡ a'
+    → b ≡ b'
+    → c ≡ c' → g a b c ≡ g a' b' c'
+three g a a' b b' c c' e f h = ap (λ z. g z b c) e ∙ ap (λ z. g a' z c) f ∙ ap (g a' b') h
+
+pub four : {A B C D E : Type 0} (g : A → B → C → D → E) (a a' : A) (b b' : B) (c c' : C) (d d' : D)
+    → a ≡ a' → b ≡ b' → c ≡ c' → d ≡ d' → g a b c d ≡ g a' b' c' d'
+four g a a' b b' c c' d d' e f h i = ap (λ z. g z b c d) e ∙ ap (λ z. g a' z c d) f ∙ ap (λ z. g a' b' z d) h ∙ ap (g a' b' c') i
+
+pub same_span : (p q : Span) → p.from ≡ q.from → p.to ≡ q.to → p ≡ q
+same_span p q e f = ap (λ (n : yaml_mark_t). record { from = n; to = p.to }) e ∙ ap (λ (n : yaml_mark_t). record { from = q.from; to = n }) f
+
+pub span_same : (b c : TokenBody) (p q : Span) (x y : List Token)
+    → token_at b p ∷ x ≡ token_at c q ∷ y
+    → p ≡ q
+span_same b c p q x y h = same_span p q (ap (λ (ts : List Token). (front_of ts).start_mark) h) (ap (λ (ts : List Token). (front_of ts).end_mark) h)
+
+pub body_same : (b c : TokenBody) (p q : Span) (x y : List Token)
+    → token_at b p ∷ x ≡ token_at c q ∷ y
+    → b ≡ c
+body_same b c p q x y h = ap body_of h
+
+pub rest_same : (t u : Token) (x y : List Token) → t ∷ x ≡ u ∷ y → x ≡ y
+rest_same t u x y h = ap rest_of h
+
+-- ---- tokens that end a node begin none
+
+pub not_begun : (w : Wants) (k : yaml_token_type_t) → ends w k ≡ true → starts_node w k ≡ true → ⊥
+not_begun Flow kind.YAML_FLOW_ENTRY_TOKEN h s = cc
+not_begun Flow kind.YAML_VALUE_TOKEN h s = cc
+not_begun Flow kind.YAML_FLOW_SEQUENCE_END_TOKEN h s = cc
+not_begun Flow kind.YAML_FLOW_MAPPING_END_TOKEN h s = cc
+not_begun Flow _ h s = cc
+not_begun (Block (Some side)) kind.YAML_KEY_TOKEN h s = cc
+not_begun (Block (Some side)) kind.YAML_BLOCK_END_TOKEN h s = cc
+not_begun (Block (Some side)) kind.YAML_VALUE_TOKEN h s = cc
+not_begun (Block (Some side)) _ h s = cc
+not_begun (Block None) kind.YAML_BLOCK_ENTRY_TOKEN h s = cc
+not_begun (Block None) kind.YAML_BLOCK_END_TOKEN h s = cc
+not_begun (Block None) kind.YAML_KEY_TOKEN h s = cc
+not_begun (Block None) kind.YAML_VALUE_TOKEN h s = cc
+not_begun (Block None) kind.YAML_DOCUMENT_END_TOKEN h s = cc
+not_begun (Block None) kind.YAML_STREAM_END_TOKEN h s = cc
+not_begun (Block None) kind.YAML_VERSION_DIRECTIVE_TOKEN h s = cc
+not_begun (Block None) kind.YAML_TAG_DIRECTIVE_TOKEN h s = cc
+not_begun (Block None) kind.YAML_DOCUMENT_START_TOKEN h s = cc
+not_begun (Block None) _ h s = cc
+
+pub not_both : (w : Wants) (ts : List Token) → Ends w ts → Starts w ts → ⊥
+not_both w [] e s = e
+not_both w (t ∷ ts) e s = not_begun w (type_of t.body) e s
+
+pub no_node : {w : Wants} (n : Node w) (x y : List Token) → Ends w x → x ≡ spell_node n y → ⊥
+no_node {w = w} n x y e h = not_both w (spell_node n y) (subst (Ends w) h e) (node_starts n y)
+
+-- ---- properties
+
+abbrev pub is_property : yaml_token_type_t → Bool
+is_property kind.YAML_ANCHOR_TOKEN = true
+is_property kind.YAML_TAG_TOKEN = true
+is_property _ = false
+
+pub property_starts : (w : Wants) (k : yaml_token_type_t) → is_property k ≡ true
+    → starts_node w k ≡ true
+property_starts w kind.YAML_ANCHOR_TOKEN h = refl
+property_starts w kind.YAML_TAG_TOKEN h = refl
+property_starts w _ h = cc
+
+-- the first token is no property
+abbrev pub IsPlain : List Token → Type 0
+IsPlain ts = is_property (kind_of ts) ≡ true → ⊥
+
+pub ends_plain : (w : Wants) (ts : List Token) → Ends w ts → IsPlain ts
+ends_plain w [] e p = e
+ends_plain w (t ∷ ts) e p = not_begun w (type_of t.body) e (property_starts w (type_of t.body) p)
+
+pub content_plain : {w : Wants} (c : Content w) (ts : List Token) → IsPlain (spell_content c ts)
+content_plain (tree.scalar p v style) ts h = cc
+content_plain (tree.flow brackets.Sequence p i) ts h = cc
+content_plain (tree.flow brackets.Mapping p i) ts h = cc
+content_plain (tree.block_sequence p e) ts h = cc
+content_plain (tree.block_mapping p m) ts h = cc
+content_plain (tree.indentless p n o) ts h = cc
+
+pub not_plain : (x y : List Token) → IsPlain x → x ≡ y → is_property (kind_of y) ≡ true → ⊥
+not_plain x y d h p = d (ap (λ ts. is_property (kind_of ts)) h ∙ p)
+
+pub anchor_same : (a b : AnchorToken) (x y : List Token) → anchor_token a ∷ x ≡ anchor_token b ∷ y
+    → a ≡ b
+anchor_same a b x y h =
+    let e : token.anchor a.name ≡ token.anchor b.name = body_same _ _ a.span b.span x y h in
+    let f : a.name ≡ b.name = cc in
+    ap (λ (n : List ℕ). record { name = n; span = a.span }) f ∙ ap (λ (p : Span). record { name = b.name; span = p }) (span_same _ _ a.span b.span x y h)
+
+pub tag_same : (s t : TagToken) (x y : List Token) → tag_token s ∷ x ≡ tag_token t ∷ y → s ≡ t
+tag_same s t x y h =
+    let e : token.tag s.handle s.suffix ≡ token.tag t.handle t.suffix = body_same _ _ s.span t.span x y h in
+    let f : s.handle ≡ t.handle = cc in
+    let g : s.suffix ≡ t.suffix = cc in
+    ap (λ (n : List ℕ). record { handle = n; suffix = s.suffix; span = s.span }) f
+    ∙ ap (λ (n : List ℕ). record { handle = t.handle; suffix = n; span = s.span }) g
+    ∙ ap (λ (p : Span). record { handle = t.handle; suffix = t.suffix; span = p }) (span_same _ _ s.span t.span x y h)
+
+pub properties_same : (d e : PropertyTokens) (x y : List Token) → IsPlain x → IsPlain y
+    → spell_properties d x ≡ spell_properties e y → (d ≡ e) × (x ≡ y)
+properties_same (tree.anchor a) (tree.anchor b) x y p q h = (ap tree.anchor (anchor_same a b x y h), rest_same _ _ x y h)
+properties_same (tree.tag s) (tree.tag t) x y p q h = (ap tree.tag (tag_same s t x y h), rest_same _ _ x y h)
+properties_same (tree.anchor_tag a s) (tree.anchor_tag b t) x y p q h =
+    let r : tag_token s ∷ x ≡ tag_token t ∷ y = rest_same _ _ _ _ h in
+    (both tree.anchor_tag a b s t (anchor_same a b _ _ h) (tag_same s t x y r), rest_same _ _ x y r)
+properties_same (tree.tag_anchor s a) (tree.tag_anchor t b) x y p q h =
+    let r : anchor_token a ∷ x ≡ anchor_token b ∷ y = rest_same _ _ _ _ h in
+    (both tree.tag_anchor s t a b (tag_same s t _ _ h) (anchor_same a b x y r), rest_same _ _ x y r)
+properties_same (tree.anchor a) (tree.anchor_tag b t) x y p q h = absurd (not_plain x _ p (rest_same _ _ x _ h) refl)
+properties_same (tree.anchor_tag b t) (tree.anchor a) x y p q h = absurd (not_plain y _ q (sym (rest_same _ _ _ y h)) refl)
+properties_same (tree.tag s) (tree.tag_anchor t b) x y p q h = absurd (not_plain x _ p (rest_same _ _ x _ h) refl)
+properties_same (tree.tag_anchor t b) (tree.tag s) x y p q h = absurd (not_plain y _ q (sym (rest_same _ _ _ y h)) refl)
+properties_same d e x y p q h = absurd (apart (spell_properties d x) (spell_properties e y) h (λ k. cc))

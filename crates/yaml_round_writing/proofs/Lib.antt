@@ -8,6 +8,7 @@ pub mod Staying
 pub mod Readably
 pub mod Reloading
 mod Streams
+mod Knowing
 mod Checking
 -- the laws beneath, for crates that name this one alone
 pub use Rattle.yaml_round_laws_documents.proofs.DocumentsLayouts as Layouts

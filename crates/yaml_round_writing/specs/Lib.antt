@@ -4,6 +4,7 @@ pub mod Writing
 pub mod Answers
 pub mod Readable
 pub mod Reload
+pub mod Knowing
 pub mod Checking
 -- what it speaks of, and the laws beneath, for crates that name this one alone
 pub use Rattle.yaml_round_laws_documents.specs as round_laws_documents

@@ -2,6 +2,7 @@
 #![tactic(auto)]
 
 mod check;
+mod known;
 mod lines;
 mod reload;
 mod text;

@@ -6,7 +6,7 @@ use Rattle.yaml_round_writing.specs.Checking.{LoadsOn}
 use Rattle.yaml_round_writing.proofs.check.look_through.Given as goal
 
 abbrev pub invariant-events : goal.invariant-events
-invariant-events l = LoadsOn l.rooted l.reading.parser (load_all l.fn.reading.parser.events l.fn.reading.parser.ending nothing_loaded).fault
+invariant-events l = LoadsOn l.known l.reading.parser (load_all l.fn.reading.parser.events l.fn.reading.parser.ending nothing_loaded).fault
 
 abbrev pub decreases-events : goal.decreases-events
 decreases-events l = length l.reading.parser.events

@@ -1,0 +1,37 @@
+-- Each kind of event, as the loader takes it.
+use Rattle.std.proofs.Common.{refl, sym, subst}
+use Rattle.yaml_scan.specs.declared.yaml_mark_t.{yaml_mark_t}
+use Rattle.yaml_parse.specs.declared.yaml_event_body_t.{yaml_event_body_t}
+use Rattle.yaml_parse.specs.Events.{body_of, text_of}
+use Rattle.yaml_parse.specs.Loading.{Loading, step_body, next}
+use Rattle.yaml_round_writing.specs.declared.known.Known.{Known}
+use Rattle.yaml_round_writing.specs.declared.known.Passed.{Passed}
+use Rattle.yaml_round_writing.specs.declared.known.Passed.TheVariants as passed
+use Rattle.yaml_round_writing.specs.Knowing.{IsKnown, Follows}
+use Rattle.yaml_round_writing.proofs.Knowing.{unknown, noted, appended, ended_known}
+use Rattle.yaml_round_writing.proofs.known.Known.pass.Goals as goal
+
+-- what a body comes to
+abbrev Comes : Known → yaml_mark_t → yaml_mark_t → Passed → Known → yaml_event_body_t → Type 0
+Comes old from to r new b = (l : Loading) → IsKnown old l
+    → Follows (step_body (body_of b) from to l) from r new
+
+pub returns-in-DocumentStart-clause-follows : goal.returns-in-DocumentStart-clause-follows
+returns-in-DocumentStart-clause-follows c =
+    subst (Comes c.args.self.now c.args.event.now.start_mark c.args.event.now.end_mark passed.On c.forget.new.self) (sym c.in-DocumentStart.is) (λ l h. unknown c.forget.new.self _ c.forget.ensures refl refl)
+
+pub returns-in-DocumentEnd-clause-follows : goal.returns-in-DocumentEnd-clause-follows
+returns-in-DocumentEnd-clause-follows c =
+    subst (Comes c.args.self.now c.args.event.now.start_mark c.args.event.now.end_mark c.end.result c.end.new.self) (sym c.in-DocumentEnd.is) (λ l h. ended_known c.args.self.now c.end.new.self c.end.result l c.in-DocumentEnd.implicit c.args.event.now.start_mark c.args.event.now.end_mark c.end.ensures h)
+
+pub returns-in-Scalar-clause-follows : goal.returns-in-Scalar-clause-follows
+returns-in-Scalar-clause-follows c =
+    subst (Comes c.args.self.now c.args.event.now.start_mark c.args.event.now.end_mark c.note.result c.note.new.self) (sym c.in-Scalar.is) (λ l h. noted (text_of c.in-Scalar.anchor) (next l) c.args.self.now c.note.new.self c.note.result l _ c.args.event.now.start_mark c.note.ensures h (appended l.document.nodes _) refl)
+
+pub returns-in-SequenceStart-clause-follows : goal.returns-in-SequenceStart-clause-follows
+returns-in-SequenceStart-clause-follows c =
+    subst (Comes c.args.self.now c.args.event.now.start_mark c.args.event.now.end_mark c.note-in-SequenceStart.result c.note-in-SequenceStart.new.self) (sym c.in-SequenceStart.is) (λ l h. noted (text_of c.in-SequenceStart.anchor) (next l) c.args.self.now c.note-in-SequenceStart.new.self c.note-in-SequenceStart.result l _ c.args.event.now.start_mark c.note-in-SequenceStart.ensures h (appended l.document.nodes _) refl)
+
+pub returns-in-MappingStart-clause-follows : goal.returns-in-MappingStart-clause-follows
+returns-in-MappingStart-clause-follows c =
+    subst (Comes c.args.self.now c.args.event.now.start_mark c.args.event.now.end_mark c.note-in-MappingStart.result c.note-in-MappingStart.new.self) (sym c.in-MappingStart.is) (λ l h. noted (text_of c.in-MappingStart.anchor) (next l) c.args.self.now c.note-in-MappingStart.new.self c.note-in-MappingStart.result l _ c.args.event.now.start_mark c.note-in-MappingStart.ensures h (appended l.document.nodes _) refl)

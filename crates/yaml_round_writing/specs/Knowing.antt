@@ -1,0 +1,72 @@
+-- What of a document in the making decides whether its loading goes on, known without making it.
+use Rattle.std.specs.Prelude.{◌≡◌, ℕ, Bool, true, false, ◌||◌, List, [], ◌∷◌, Vec, Option, None, Some, is_some}
+use Rattle.std.specs.Global.{Global}
+use Rattle.std.specs.BTreeSet.{BTreeSet, contains_by}
+use Rattle.std.specs.Ordering.{nat_cmp}
+use Rattle.std.specs.Cmp.Lexicographic.{slice_cmp}
+use Rattle.std.specs.FinMap as map
+use Rattle.yaml_scan.specs.declared.yaml_mark_t.{yaml_mark_t}
+use Rattle.yaml_parse.specs.Nodes.{Node}
+use Rattle.yaml_parse.specs.Numbering.{is_same, undefined_alias}
+use Rattle.yaml_parse.specs.Loading.{Loading, LoadStep, goes_on, loaded, refused, nothing_loaded}
+use Rattle.yaml_round_writing.specs.declared.known.Known.{Known}
+use Rattle.yaml_round_writing.specs.declared.known.Passed.{Passed}
+use Rattle.yaml_round_writing.specs.declared.known.Passed.TheVariants as passed
+
+abbrev pub has_nodes : List Node → Bool
+has_nodes [] = false
+has_nodes (n ∷ ns) = true
+
+-- whether the set has the name
+abbrev pub has_name : List ℕ → BTreeSet (Vec ℕ Global) → Bool
+has_name name names = contains_by (λ (k : Vec ℕ Global). slice_cmp nat_cmp name k.items) names
+
+-- whether the document has a node is known, and the names of all its anchors
+pub record IsKnown (k : Known) (l : Loading) : Type 0 where
+  pub rooted : has_nodes l.document.nodes ≡ k.rooted
+  pub names : (name : List ℕ) → is_some (map.get l.anchors name) ≡ has_name name k.names
+
+-- What a step of the loader comes to is told, and what is known behind it; nothing where memory ran out.
+abbrev pub Follows : LoadStep → yaml_mark_t → Passed → Known → Type 0
+Follows step at passed.Starved k = Unit {0}
+Follows (goes_on l) at passed.On k = IsKnown k l
+Follows (loaded d) at passed.On k = (has_nodes d.nodes ≡ true) × IsKnown k nothing_loaded
+Follows (refused f) at passed.On k = ⊥
+Follows (goes_on l) at passed.Over k = ⊥
+Follows (loaded d) at passed.Over k = has_nodes d.nodes ≡ false
+Follows (refused f) at passed.Over k = ⊥
+Follows (goes_on l) at passed.Undefined k = ⊥
+Follows (loaded d) at passed.Undefined k = ⊥
+Follows (refused f) at passed.Undefined k = f ≡ undefined_alias at
+
+-- ---- the parts of an event
+
+abbrev pub is_name : List ℕ → Option (List ℕ) → Bool
+is_name name None = false
+is_name name (Some anchor) = is_same name anchor
+
+-- one node more, which has the anchor
+abbrev pub Notes : Option (List ℕ) → Known → Passed → Known → Type 0
+Notes anchor old passed.Starved new = Unit {0}
+Notes anchor old passed.On new = (new.rooted ≡ true) × ((name : List ℕ)
+    → has_name name new.names ≡ (is_name name anchor || has_name name old.names))
+Notes anchor old passed.Over new = ⊥
+Notes anchor old passed.Undefined new = ⊥
+
+-- nothing is loaded yet
+pub record IsUnknown (k : Known) : Type 0 where
+  pub rooted : k.rooted ≡ false
+  pub names : k.names.keys ≡ []
+
+-- a document ends
+abbrev pub Ends : Known → Passed → Known → Type 0
+Ends old passed.Starved new = Unit {0}
+Ends old passed.On new = (old.rooted ≡ true) × IsUnknown new
+Ends old passed.Over new = old.rooted ≡ false
+Ends old passed.Undefined new = ⊥
+
+-- an alias
+abbrev pub Asks : Bool → Passed → Type 0
+Asks true passed.On = Unit {0}
+Asks false passed.Undefined = Unit {0}
+Asks _ _ = ⊥

@@ -1,0 +1,142 @@
+//! What of a document in the making decides whether its loading goes on: whether it has a node, and the names of its anchors.
+
+ghost use Rattle.std.specs.Prelude.{◌≡◌, true, Some};
+ghost use Rattle.yaml_scan.specs.Faults.{fault_of};
+ghost use Rattle.yaml_parse.specs.Events.{event_of, text_of};
+ghost use Rattle.yaml_parse.specs.Numbering.{undefined_alias};
+ghost use Rattle.yaml_parse.specs.Loading.{Loading, step};
+ghost use Rattle.yaml_round_writing.specs.Knowing.{has_name, IsKnown, Follows, Notes, IsUnknown, Ends, Asks};
+
+use std::alloc::Global;
+use std::collections::BTreeSet;
+use yaml_parse::{yaml_event_body_t, yaml_event_t};
+use yaml_scan::{yaml_error_type_t, yaml_fault_t, yaml_mark_t, yaml_origin_t};
+
+/// Whether the document has a node, and the names of its anchors.
+#[derive(Drop)]
+pub struct Known {
+    pub rooted: bool,
+    pub names: BTreeSet<Vec<u8>>,
+}
+
+/// What an event comes to.
+#[derive(Clone, Copy)]
+pub enum Passed {
+    /// Loading goes on behind it.
+    On,
+    /// It ends a document without a node, and so all loads.
+    Over,
+    /// It is an alias that no node before it anchors.
+    Undefined,
+    /// A growth was refused.
+    Starved,
+}
+
+/// The loader's fault for an alias that no node before it anchors.
+// Out of line: in line its room would be set to zero for each event.
+#[inline(never)]
+pub fn undefined_alias_fault(at: yaml_mark_t) -> yaml_fault_t
+    ensures { fault_of result ≡ undefined_alias at }
+{
+    yaml_fault_t {
+        kind: yaml_error_type_t::YAML_COMPOSER_ERROR,
+        problem: "found undefined alias",
+        offset: 0,
+        value: 0,
+        problem_mark: at,
+        context: None,
+        context_mark: yaml_mark_t {
+            index: 0,
+            line: 0,
+            column: 0,
+        },
+        origin: yaml_origin_t::Loader,
+    }
+}
+
+impl Known {
+    /// Nothing is loaded yet.
+    pub fn new(alloc: Global) -> Known
+        ensures { IsUnknown result }
+    {
+        Known {
+            rooted: false,
+            names: BTreeSet::new(alloc),
+        }
+    }
+
+    // What was known is forgotten.
+    fn forget(&mut self)
+        ensures { IsUnknown self.new }
+    {
+        self.rooted = false;
+        self.names.clear();
+    }
+
+    // A document ends.
+    fn end(&mut self) -> Passed
+        ensures { Ends self.old result self.new }
+    {
+        if self.rooted {
+            self.forget();
+            Passed::On
+        } else {
+            Passed::Over
+        }
+    }
+
+    // The document has an anchor of this name.
+    // Out of line: few nodes have one.
+    #[inline(never)]
+    fn name(&mut self, name: Vec<u8>) -> Passed
+        requires { self.old.rooted ≡ true }
+        ensures { Notes (Some name.items) self.old result self.new }
+    {
+        match self.names.insert(name) {
+            Ok(_) => Passed::On,
+            Err(_) => Passed::Starved,
+        }
+    }
+
+    // One node more, which has the anchor.
+    fn note(&mut self, anchor: &mut Option<Vec<u8>>) -> Passed
+        ensures { Notes (text_of anchor.old) self.old result self.new }
+    {
+        self.rooted = true;
+        match anchor.take() {
+            None => Passed::On,
+            Some(name) => self.name(name),
+        }
+    }
+
+    // An alias goes on where its name is known.
+    fn alias(&self, name: &[u8]) -> Passed
+        ensures { Asks (has_name name.now self.now.names) result }
+    {
+        if self.names.contains(name) {
+            Passed::On
+        } else {
+            Passed::Undefined
+        }
+    }
+
+    /// What the event comes to, as the loader has it. A name is taken out of it.
+    pub fn pass(&mut self, event: &mut yaml_event_t) -> Passed
+        ensures follows { (l : Loading) → IsKnown self.old l → Follows
+            (step (event_of event.old) l) (event_of event.old).start_mark result self.new }
+        ensures mark { event.new.start_mark ≡ event.old.start_mark }
+    {
+        match &mut event.body {
+            yaml_event_body_t::Alias { anchor } => self.alias(anchor),
+            yaml_event_body_t::DocumentStart { .. } => {
+                self.forget();
+                Passed::On
+            }
+            yaml_event_body_t::DocumentEnd { .. } => self.end(),
+            yaml_event_body_t::Scalar { anchor, .. } => self.note(anchor),
+            yaml_event_body_t::SequenceStart { anchor, .. } => self.note(anchor),
+            yaml_event_body_t::MappingStart { anchor, .. } => self.note(anchor),
+            _ => Passed::On,
+        }
+    }
+}

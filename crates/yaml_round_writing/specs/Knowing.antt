@@ -1,9 +1,7 @@
 -- What of a document in the making decides whether its loading goes on, known without making it.
 use Rattle.std.specs.Prelude.{◌≡◌, ℕ, Bool, true, false, ◌||◌, List, [], ◌∷◌, Vec, Option, None, Some, is_some}
 use Rattle.std.specs.Global.{Global}
-use Rattle.std.specs.BTreeSet.{BTreeSet, contains_by}
-use Rattle.std.specs.Ordering.{nat_cmp}
-use Rattle.std.specs.Cmp.Lexicographic.{slice_cmp}
+use Rattle.std.specs.List.{list_any}
 use Rattle.std.specs.FinMap as map
 use Rattle.yaml_scan.specs.declared.yaml_mark_t.{yaml_mark_t}
 use Rattle.yaml_parse.specs.Nodes.{Node}
@@ -17,14 +15,17 @@ abbrev pub has_nodes : List Node → Bool
 has_nodes [] = false
 has_nodes (n ∷ ns) = true
 
--- whether the set has the name
-abbrev pub has_name : List ℕ → BTreeSet (Vec ℕ Global) → Bool
-has_name name names = contains_by (λ (k : Vec ℕ Global). slice_cmp nat_cmp name k.items) names
+abbrev pub is_called : List ℕ → Vec ℕ Global → Bool
+is_called name k = is_same name k.items
+
+-- whether the name is one of the document's
+abbrev pub has_name : List ℕ → Known → Bool
+has_name name k = list_any (is_called name) k.recent.items || list_any (is_called name) k.names.keys
 
 -- whether the document has a node is known, and the names of all its anchors
 pub record IsKnown (k : Known) (l : Loading) : Type 0 where
   pub rooted : has_nodes l.document.nodes ≡ k.rooted
-  pub names : (name : List ℕ) → is_some (map.get l.anchors name) ≡ has_name name k.names
+  pub names : (name : List ℕ) → is_some (map.get l.anchors name) ≡ has_name name k
 
 -- What a step of the loader comes to is told, and what is known behind it; nothing where memory ran out.
 abbrev pub Follows : LoadStep → yaml_mark_t → Passed → Known → Type 0
@@ -49,13 +50,14 @@ is_name name (Some anchor) = is_same name anchor
 abbrev pub Notes : Option (List ℕ) → Known → Passed → Known → Type 0
 Notes anchor old passed.Starved new = Unit {0}
 Notes anchor old passed.On new = (new.rooted ≡ true) × ((name : List ℕ)
-    → has_name name new.names ≡ (is_name name anchor || has_name name old.names))
+    → has_name name new ≡ (is_name name anchor || has_name name old))
 Notes anchor old passed.Over new = ⊥
 Notes anchor old passed.Undefined new = ⊥
 
 -- nothing is loaded yet
 pub record IsUnknown (k : Known) : Type 0 where
   pub rooted : k.rooted ≡ false
+  pub recent : k.recent.items ≡ []
   pub names : k.names.keys ≡ []
 
 -- a document ends
@@ -65,8 +67,19 @@ Ends old passed.On new = (old.rooted ≡ true) × IsUnknown new
 Ends old passed.Over new = old.rooted ≡ false
 Ends old passed.Undefined new = ⊥
 
--- an alias
-abbrev pub Asks : Bool → Passed → Type 0
-Asks true passed.On = Unit {0}
-Asks false passed.Undefined = Unit {0}
-Asks _ _ = ⊥
+-- the names stay, wherever they are kept
+pub record Keeps (old new : Known) : Type 0 where
+  pub rooted : new.rooted ≡ old.rooted
+  pub names : (name : List ℕ) → has_name name new ≡ has_name name old
+
+-- an alias of a name that is known or not
+abbrev pub Asks : Bool → Known → Passed → Known → Type 0
+Asks known old passed.Starved new = Unit {0}
+Asks known old passed.On new = (known ≡ true) × Keeps old new
+Asks known old passed.Over new = ⊥
+Asks known old passed.Undefined new = known ≡ false
+
+-- All names are in the set.
+pub record Settles (old new : Known) : Type 0 where
+  pub keeps : Keeps old new
+  pub recent : new.recent.items ≡ []

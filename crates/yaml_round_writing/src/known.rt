@@ -1,21 +1,24 @@
 //! What of a document in the making decides whether its loading goes on: whether it has a node, and the names of its anchors.
 
 ghost use Rattle.std.specs.Prelude.{◌≡◌, true, Some};
+ghost use Rattle.std.specs.List.{list_any};
 ghost use Rattle.yaml_scan.specs.Faults.{fault_of};
 ghost use Rattle.yaml_parse.specs.Events.{event_of, text_of};
 ghost use Rattle.yaml_parse.specs.Numbering.{undefined_alias};
 ghost use Rattle.yaml_parse.specs.Loading.{Loading, step};
-ghost use Rattle.yaml_round_writing.specs.Knowing.{has_name, IsKnown, Follows, Notes, IsUnknown, Ends, Asks};
+ghost use Rattle.yaml_round_writing.specs.Knowing.{is_called, has_name, IsKnown, Follows, Notes, IsUnknown, Ends, Asks, Settles};
 
 use std::alloc::Global;
 use std::collections::BTreeSet;
 use yaml_parse::{yaml_event_body_t, yaml_event_t};
 use yaml_scan::{yaml_error_type_t, yaml_fault_t, yaml_mark_t, yaml_origin_t};
 
-/// Whether the document has a node, and the names of its anchors.
+/// Whether the document has a node, and the names of its anchors: those that were met last in a list, in their order, and the
+/// others in a set, into which all go as one is asked for that isn't among the last eight.
 #[derive(Drop)]
 pub struct Known {
     pub rooted: bool,
+    pub recent: Vec<Vec<u8>>,
     pub names: BTreeSet<Vec<u8>>,
 }
 
@@ -54,6 +57,21 @@ pub fn undefined_alias_fault(at: yaml_mark_t) -> yaml_fault_t
     }
 }
 
+// Whether one of the last eight is this name: most aliases are of such, and a search in the set takes a hundred times as long.
+fn is_recent(names: &[Vec<u8>], name: &[u8]) -> bool
+    ensures { result ≡ true → list_any (is_called name.now) names.now ≡ true }
+{
+    'names: for back in 1..9 {
+        if back > names.len() {
+            return false;
+        }
+        if name == names[names.len() - back].as_slice() {
+            return true;
+        }
+    }
+    false
+}
+
 impl Known {
     /// Nothing is loaded yet.
     pub fn new(alloc: Global) -> Known
@@ -61,6 +79,7 @@ impl Known {
     {
         Known {
             rooted: false,
+            recent: Vec::new(alloc),
             names: BTreeSet::new(alloc),
         }
     }
@@ -70,6 +89,7 @@ impl Known {
         ensures { IsUnknown self.new }
     {
         self.rooted = false;
+        self.recent.clear();
         self.names.clear();
     }
 
@@ -86,13 +106,11 @@ impl Known {
     }
 
     // The document has an anchor of this name.
-    // Out of line: few nodes have one.
-    #[inline(never)]
     fn name(&mut self, name: Vec<u8>) -> Passed
         requires { self.old.rooted ≡ true }
         ensures { Notes (Some name.items) self.old result self.new }
     {
-        match self.names.insert(name) {
+        match self.recent.push(name) {
             Ok(_) => Passed::On,
             Err(_) => Passed::Starved,
         }
@@ -109,14 +127,45 @@ impl Known {
         }
     }
 
-    // An alias goes on where its name is known.
-    fn alias(&self, name: &[u8]) -> Passed
-        ensures { Asks (has_name name.now self.now.names) result }
+    // All names go into the set. False where memory ran out.
+    fn settle(&mut self) -> bool
+        ensures { result ≡ true → Settles self.old self.new }
     {
+        'names: loop {
+            match self.recent.pop() {
+                None => return true,
+                Some(name) => match self.names.insert(name) {
+                    Ok(_) => {}
+                    Err(_) => return false,
+                },
+            }
+        }
+    }
+
+    // An alias whose anchor is none of the last.
+    // Out of line: it is rare.
+    #[inline(never)]
+    fn look_up(&mut self, name: &[u8]) -> Passed
+        ensures { Asks (has_name name.now self.old) self.old result self.new }
+    {
+        if !self.settle() {
+            return Passed::Starved;
+        }
         if self.names.contains(name) {
             Passed::On
         } else {
             Passed::Undefined
+        }
+    }
+
+    // An alias goes on where its name is known.
+    fn alias(&mut self, name: &[u8]) -> Passed
+        ensures { Asks (has_name name.now self.old) self.old result self.new }
+    {
+        if is_recent(&self.recent, name) {
+            Passed::On
+        } else {
+            self.look_up(name)
         }
     }
 

@@ -1,6 +1,6 @@
 -- Each field lies where the header says.
 use Rattle.std.proofs.Common.{refl}
-use Rattle.yaml_round_answers.specs.Offsets.{AnswerLies, ParsedLies, ScannedLies}
+use Rattle.yaml_round_answers.specs.Offsets.{AnswerLies, ParsedLies, ScannedLies, PartingLies}
 
 pub answer_lies : AnswerLies
 answer_lies = record {
@@ -28,4 +28,14 @@ pub scanned_lies : ScannedLies
 scanned_lies = record {
   tokens = record { is = λ d. refl; begins = refl };
   bytes = record { is = λ d. refl; begins = refl };
+}
+
+pub parting_lies : PartingLies
+parting_lies = record {
+  answer = record { is = λ d. refl; begins = refl };
+  document = record { is = λ d. refl; begins = refl };
+  first_kind = record { is = λ d. refl; begins = refl };
+  second_kind = record { is = λ d. refl; begins = refl };
+  first_mark = record { is = λ d. refl; begins = refl };
+  second_mark = record { is = λ d. refl; begins = refl };
 }

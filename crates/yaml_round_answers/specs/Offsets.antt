@@ -3,6 +3,7 @@ use Rattle.yaml_round_records.specs.Offsets.{LiesAt}
 use Rattle.yaml_round_answers.specs.contracts.answer.yaml_c_answer as answer
 use Rattle.yaml_round_answers.specs.contracts.parsing.yaml_c_parsed as parsed
 use Rattle.yaml_round_answers.specs.contracts.scanning.yaml_c_scanned as scanned
+use Rattle.yaml_round_answers.specs.contracts.parting.yaml_c_parting as parting
 
 -- ---- the layouts, which are those that the header asserts: a list is a pointer with its length behind it
 
@@ -27,3 +28,11 @@ pub record ParsedLies : Type 0 where
 pub record ScannedLies : Type 0 where
   pub tokens : LiesAt scanned.the_type 0 (λ d. d.tokens) 0
   pub bytes : LiesAt scanned.the_type 1 (λ d. d.bytes) 16
+
+pub record PartingLies : Type 0 where
+  pub answer : LiesAt parting.the_type 0 (λ d. d.answer) 0
+  pub document : LiesAt parting.the_type 1 (λ d. d.document) 136
+  pub first_kind : LiesAt parting.the_type 2 (λ d. d.first_kind) 144
+  pub second_kind : LiesAt parting.the_type 3 (λ d. d.second_kind) 148
+  pub first_mark : LiesAt parting.the_type 4 (λ d. d.first_mark) 152
+  pub second_mark : LiesAt parting.the_type 5 (λ d. d.second_mark) 176

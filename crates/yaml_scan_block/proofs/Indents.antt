@@ -1,16 +1,15 @@
 -- Where runs end, and the deepest indentation of the lines in front.
-use Rattle.std.proofs.Common.{◌≡◌, ◌≢◌, ℕ, zero, suc, ◌+◌, ◌<◌, ◌≤◌, ◌==◌, nat_lt, Bool, true, false, List, length, Result, Ok, Err, refl, sym, ap, subst, ◌∙◌, inl, inr, ◌⊎◌, arith}
-use Rattle.std.proofs.lemmas.Bool.{cases_Bool}
+use Rattle.std.proofs.Common.{◌≡◌, ◌≢◌, ℕ, zero, suc, ◌+◌, ◌<◌, ◌≤◌, ◌==◌, Bool, true, false, List, length, Result, Ok, Err, refl, sym, ap, subst, ◌∙◌, inl, inr, ◌⊎◌, arith}
 use Rattle.std.proofs.lemmas.Bool.Decides.{nat_tests}
 use Rattle.yaml_scan_model.specs.declared.problem.Problem.TheVariants as problems
-use Rattle.yaml_scan_model.specs.Marks.{byte, break_width, column_at, is_blank}
+use Rattle.yaml_scan_model.specs.Marks.{byte, break_width, is_blank}
 use Rattle.yaml_scan_model.specs.Runs.{past, is_blank_there, is_space_there, is_text, past_spaces}
 use Rattle.yaml_scan_model.specs.Wrong.{Wrong}
 use Rattle.yaml_scan_model.proofs.MarksLemmas.{within, past_break, no_break}
 use Rattle.yaml_scan_model.proofs.RunsLemmas.{past_more, past_stop, text_parts}
 use Rattle.yaml_scan_block.specs.Lines.{in_block}
 use Rattle.yaml_scan_block.specs.Block.{larger, larger_of, deepest}
-use Rattle.yaml_scan_block.specs.Unbounded.{EndsRun, RunsEnd, RunEndsOnce, LeadsTo, at_once, behind_blank, indent_at, IsDeepest, IsTabbed, Deepest, DeepestIs, DeepestIsOne}
+use Rattle.yaml_scan_block.specs.Unbounded.{EndsRun, RunsEnd, RunEndsOnce, LeadsTo, at_once, behind_blank, indent_at, Deepest, DeepestIs, DeepestIsOne}
 use Rattle.yaml_scan_block.proofs.DepthLemmas.{larger_zero, larger_start, depth_tab, depth_done, depth_more, spaces-le}
 
 -- ---- runs

@@ -3,7 +3,7 @@ use Rattle.std.proofs.Common.{◌≡◌, ℕ, zero, suc, ◌+◌, ◌*◌, ◌^�
 use Rattle.std.proofs.Math.Nat.{mul_assoc, pow-suc}
 use Rattle.yaml_scan_model.specs.Marks.{byte}
 use Rattle.yaml_scan_scalars.specs.Quoted.{hex_digit, hex_value}
-use Rattle.yaml_scan_scalars.specs.Unbounded.{AreDigits, no_digits, digit, number_of, DigitsAreRead, DigitsStandThere, OneIsNoDigit}
+use Rattle.yaml_scan_scalars.specs.Unbounded.{no_digits, digit, number_of, DigitsAreRead, DigitsStandThere, OneIsNoDigit}
 
 -- a number and a digit behind it
 abbrev with_digit : Option ℕ → Option ℕ → Option ℕ

@@ -178,7 +178,8 @@ unfolding problem_by progress_after event_problem last_problem place_problem
 end_in_mapping canonical h p = refl
 
 -- so a wrong event behind what opens a collection doesn't close it
-wrong_closes_none : (canonical : Bool) (h : Progress) (e f : Event) (more : List Event) (x : Problem)
+wrong_closes_none : (canonical : Bool) (h : Progress) (e f : Event) (more : List Event)
+    (x : Problem)
     → problem_in canonical (progress_after h e) f ≡ Some x → opens_empty e (f ∷ more) ≡ false
 unfolding opens_empty
 wrong_closes_none canonical h (sequence_start p) sequence_end more x w = let right = end_in_sequence canonical h p in absurd (cc)
@@ -196,7 +197,8 @@ opens_alike_wrong canonical h e [] f more x w =
     wrong_closes_none canonical h e f more x (last_some (problem_in canonical (progress_after h e) f) x w) ∙ sym (opens_none e)
 opens_alike_wrong canonical h e (g ∷ es) f more x w = opens_by_first e g es (f ∷ more)
 
-stops_by : (s : Settings) (st : State) (es : List Event) (e : Event) (more : List Event) (x : Problem)
+stops_by : (s : Settings) (st : State) (es : List Event) (e : Event) (more : List Event)
+    (x : Problem)
     → first_refusal s.canonical (shape_of st) es ≡ None
     → first_refusal s.canonical (shape_of st) (es ++ e ∷ []) ≡ Some x → (c : Cursor) (f : Rest)
     → laid s st (es ++ e ∷ more) c f ≡ laid s st es c f

@@ -27,7 +27,8 @@ pub record BeginsStream (s : Settings) (es more : List Event) (ds : List Documen
 -- The text of a whole stream is the layout of its documents.
 abbrev pub StreamsAreLayouts : Type 0
 StreamsAreLayouts = (s : Settings) (es : List Event) (ds : List Document) → BeginsStream s es [] ds
-    → (whole s es ≡ written (stream_layout s ds)) × (all_written s es ≡ written (stream_layout s ds))
+    → (whole s es ≡ written (stream_layout s ds))
+    × (all_written s es ≡ written (stream_layout s ds))
 
 -- What is written for the first of its events is a front of that, whichever stream it is that they begin.
 abbrev pub FrontsAreOfLayouts : Type 0

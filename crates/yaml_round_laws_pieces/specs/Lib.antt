@@ -1,3 +1,3 @@
 pub mod Pieces
-pub mod Laws
 pub mod Layouts
+pub mod Laws

@@ -1,5 +1,5 @@
 pub mod Grammatical
-mod LaidOut
+pub mod LaidOut
 pub mod Ending
 pub mod Viewing
 pub mod Emitting

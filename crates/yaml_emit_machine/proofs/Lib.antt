@@ -9,3 +9,5 @@ pub mod Early
 pub mod Verdicts
 pub mod Dumped
 pub mod Opened
+mod Resuming
+mod Forced

@@ -4,3 +4,4 @@ mod Leading
 mod Joining
 mod Blocks
 mod Between
+mod Calling

@@ -1,5 +1,6 @@
 //! Each function's contract is a law.
 
+ghost use Rattle.yaml_round_laws_pieces.specs.Calls.{CallsAreWholes};
 ghost use Rattle.yaml_round_laws_pieces.specs.Laws.{StandsAreThere, CuttingsAreWholes, CutsAreThere, FrontsAreShown, StandInsStand, BlocksStandByLevels, DocumentsStandByEnds};
 
 /// From each stand each list of events leads to one.
@@ -35,4 +36,9 @@ pub fn blocks_stand_by_levels()
 /// In front of a document it counts how the last one ended, and not whether its breaks are kept.
 pub fn documents_stand_by_ends()
     ensures { DocumentsStandByEnds }
+{}
+
+/// The texts of an emitter's calls, each of which goes on where the one before it ended, are the text of the whole.
+pub fn calls_are_wholes()
+    ensures { CallsAreWholes }
 {}

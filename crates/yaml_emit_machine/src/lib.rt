@@ -8,8 +8,8 @@ mod name;
 
 pub use emitter::{
     answer, directives, dump_document, emit, first_fault, give, give_early, give_over, into_output,
-    is_closed, is_fresh, is_opened, let_go, new_emitter, outer, output, requested_settings, resumed,
-    set_closed, set_opened, set_requested_settings, stand, yaml_emitter_t,
+    is_closed, is_fresh, is_opened, let_go, new_emitter, outer, output, requested_settings,
+    resumed, set_closed, set_opened, set_requested_settings, stand, yaml_emitter_t,
 };
 pub use law::{streams_are_laid, streams_pass};
 pub use name::yaml_emitter_state_t;

@@ -5,3 +5,4 @@ mod Joining
 mod Blocks
 mod Between
 mod Layouts
+mod Calling

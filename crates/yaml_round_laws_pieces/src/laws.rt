@@ -1,5 +1,6 @@
 //! Each function's contract is a law.
 
+ghost use Rattle.yaml_round_laws_pieces.specs.Calls.{CallsAreWholes};
 ghost use Rattle.yaml_round_laws_pieces.specs.Laws.{StandsAreThere, CuttingsAreWholes, CutsAreThere, FrontsAreShown, StandInsStand, BlocksStandByLevels, DocumentsStandByEnds};
 ghost use Rattle.yaml_round_laws_pieces.specs.Layouts.{StreamsAreLayouts, FrontsAreOfLayouts, AllIsOfLayouts, WrongAddNothing};
 
@@ -45,4 +46,9 @@ pub fn texts_are_of_layouts()
     ensures fronts { FrontsAreOfLayouts }
     ensures all { AllIsOfLayouts }
     ensures wrong { WrongAddNothing }
+{}
+
+/// The texts of an emitter's calls, each of which goes on where the one before it ended, are the text of the whole.
+pub fn calls_are_wholes()
+    ensures { CallsAreWholes }
 {}

@@ -22,7 +22,7 @@ fn look_through(reading: &mut Reading<'_>, known: &mut Known) -> Result<(), yaml
         match yaml_parser_parse_into(&mut reading.parser, &mut reading.event, &mut reading.fault) {
             yaml_found_t::Refused => return Err(reading.fault),
             yaml_found_t::End => return Ok(()),
-            yaml_found_t::Event => match known.pass(&mut reading.event) {
+            yaml_found_t::Event => match known.pass(&reading.event) {
                 Passed::On => {}
                 Passed::Over => return Ok(()),
                 Passed::Undefined => return Err(undefined_alias_fault(reading.event.start_mark)),

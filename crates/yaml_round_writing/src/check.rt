@@ -6,9 +6,9 @@ ghost use Rattle.yaml_scan.specs.Faults.{Answers, load_layers};
 ghost use Rattle.yaml_round_writing.specs.Checking.{IsChecked};
 ghost use Rattle.yaml_round_writing.specs.Knowing.{IsUnknown};
 
-use crate::known::{Known, Passed, undefined_alias_fault};
+use crate::known::{Known, Passed};
 use std::alloc::Global;
-use yaml_parse::{yaml_found_t, yaml_parser_parse_into};
+use yaml_parse::{undefined_alias_fault, yaml_found_t, yaml_parser_parse_into};
 use yaml_round_reading::{Reading, let_go, reading_of};
 use yaml_scan::{yaml_encoding_t, yaml_fault_t, yaml_memory_fault, yaml_origin_t};
 

@@ -2,16 +2,13 @@
 
 ghost use Rattle.std.specs.Prelude.{◌≡◌, true, Some};
 ghost use Rattle.std.specs.List.{list_any};
-ghost use Rattle.yaml_scan.specs.Faults.{fault_of};
 ghost use Rattle.yaml_parse.specs.Events.{event_of, text_of};
-ghost use Rattle.yaml_parse.specs.Numbering.{undefined_alias};
 ghost use Rattle.yaml_parse.specs.Loading.{Loading, step};
 ghost use Rattle.yaml_round_writing.specs.Knowing.{name_at, stands_at, has_name, IsKnown, Follows, Notes, IsUnknown, Ends, Asks, Settles};
 
 use std::alloc::Global;
 use std::collections::BTreeSet;
 use yaml_parse::{yaml_event_body_t, yaml_event_t};
-use yaml_scan::{yaml_error_type_t, yaml_fault_t, yaml_mark_t, yaml_origin_t};
 
 /// Where a name stands in the text of names: its first byte, and the one behind its last.
 #[derive(Clone, Copy)]
@@ -41,28 +38,6 @@ pub enum Passed {
     Undefined,
     /// A growth was refused.
     Starved,
-}
-
-/// The loader's fault for an alias that no node before it anchors.
-// Out of line: in line its room would be set to zero for each event.
-#[inline(never)]
-pub fn undefined_alias_fault(at: yaml_mark_t) -> yaml_fault_t
-    ensures { fault_of result ≡ undefined_alias at }
-{
-    yaml_fault_t {
-        kind: yaml_error_type_t::YAML_COMPOSER_ERROR,
-        problem: "found undefined alias",
-        offset: 0,
-        value: 0,
-        problem_mark: at,
-        context: None,
-        context_mark: yaml_mark_t {
-            index: 0,
-            line: 0,
-            column: 0,
-        },
-        origin: yaml_origin_t::Loader,
-    }
 }
 
 // The bytes of the text from the first to the last; none where not all of them are there.

@@ -4,8 +4,7 @@ use Rattle.std.specs.Prelude.{◌||◌, ◌&&◌, nat_le}
 use Rattle.std.specs.Global.{Global}
 use Rattle.std.specs.BTreeSet.{BTreeSet, insert_key}
 use Rattle.std.specs.declared.cmp.Ordering.{Ordering}
-use Rattle.std.specs.declared.cmp.Ordering.TheVariants.{Less, Equal, Greater}
-use Rattle.std.specs.Ordering.{nat_cmp, match_ordering, is_eq}
+use Rattle.std.specs.Ordering.{nat_cmp, is_eq}
 use Rattle.std.specs.Cmp.Lexicographic.{slice_cmp, nat_list_cmp_total, texts_ties}
 use Rattle.std.specs.Str.{bytes_eq}
 use Rattle.std.proofs.lemmas.Bool.{le-leb, leb-true}
@@ -19,6 +18,7 @@ use Rattle.std.specs.List.{list_any, slice_range}
 use Rattle.yaml_scan.specs.declared.yaml_mark_t.{yaml_mark_t}
 use Rattle.yaml_parse.specs.Nodes.{Node}
 use Rattle.yaml_parse.specs.Numbering.{is_same}
+use Rattle.yaml_emit.proofs.Seeing.{any_inserted}
 use Rattle.yaml_parse.specs.Loading.{Loading, goes_on, loaded, nothing_loaded, aliased, named, ended}
 use Rattle.yaml_round_writing.specs.declared.known.Span.{Span}
 use Rattle.yaml_round_writing.specs.declared.known.Known.{Known}
@@ -31,32 +31,6 @@ Text = Vec ℕ Global
 
 abbrev Anchors : Type 0
 Anchors = FinMap (slice_cmp nat_cmp) ℤ
-
--- ---- a set as it grows
-
-absorbed : (a b c : Bool) → b ≡ a → (b || c) ≡ (a || (b || c))
-absorbed true b c e = ap (λ z. z || c) e
-absorbed false b c e = refl
-
-swapped : (a b c : Bool) → (a || (b || c)) ≡ (b || (a || c))
-swapped true true c = refl
-swapped true false c = refl
-swapped false true c = refl
-swapped false false c = refl
-
-placed : {K : Type 0} (p : K → Bool) (k x : K) (xs ys : List K) (r : Ordering)
-    → (r ≡ Equal → p x ≡ p k) → list_any p ys ≡ (p k || list_any p xs)
-    → list_any p (match_ordering r (k ∷ x ∷ xs) (x ∷ xs) (x ∷ ys)) ≡ (p k || (p x || list_any p xs))
-placed p k x xs ys Less h e = refl
-placed p k x xs ys Equal h e = absorbed (p k) (p x) (list_any p xs) (h refl)
-placed p k x xs ys Greater h e = ap (λ v. p x || v) e ∙ swapped (p x) (p k) (list_any p xs)
-
--- a test that answers equal keys alike
-any_inserted : {K : Type 0} (cmp : K → K → Ordering) (p : K → Bool) (k : K)
-    → ((x : K) → cmp k x ≡ Equal → p x ≡ p k) → (ks : List K)
-    → list_any p (insert_key cmp ks k) ≡ (p k || list_any p ks)
-any_inserted cmp p k h [] = refl
-any_inserted cmp p k h (x ∷ xs) = placed p k x xs (insert_key cmp xs k) (cmp k x) (h x) (any_inserted cmp p k h xs)
 
 -- ---- names as they grow
 

@@ -1,3 +1,4 @@
+pub use Rattle.yaml_emit_state.proofs.Seeing
 pub mod Grammatical
 pub mod LaidOut
 pub mod Ending

@@ -25,6 +25,7 @@ pub use yaml_parse_model::{
     yaml_sequence_start_event_initialize, yaml_stream_end_event_initialize,
     yaml_stream_start_event_initialize, yaml_text_fault_t, yaml_token_source_t,
 };
+pub use yaml_parse_loader::undefined_alias_fault;
 pub use yaml_parse_step::{events_keep_to_tokens, yaml_found_t};
 pub use yaml_scan_model::{
     yaml_break_t, yaml_encoding_t, yaml_error_type_t, yaml_event_type_t, yaml_fault_t,

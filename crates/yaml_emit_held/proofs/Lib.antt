@@ -1,3 +1,4 @@
 pub mod Opening
 pub mod Holding
 pub mod Judging
+pub mod Following

@@ -14,3 +14,6 @@ returns-clause-few c = c.give.ensures.few
 
 pub returns-clause-opened : goal.returns-clause-opened
 returns-clause-opened c = c.give.ensures.opened
+
+pub returns-clause-blames : goal.returns-clause-blames
+returns-clause-blames c = c.give.ensures.blames

@@ -5,6 +5,7 @@ pub mod Ending
 pub mod Viewing
 pub mod Emitting
 pub mod Within
+pub mod Blaming
 pub mod Taking
 pub mod Early
 pub mod Verdicts

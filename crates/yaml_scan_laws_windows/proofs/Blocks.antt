@@ -1,27 +1,26 @@
 -- Block scalars are the same in both texts.
-use Rattle.std.proofs.Common.{◌≡◌, ◌≢◌, ℕ, zero, suc, ◌+◌, ◌-◌, ◌*◌, ◌<◌, ◌≤◌, ◌==◌, ◌&&◌, ◌||◌, nat_lt, nat_le, if◌then◌else◌, Bool, true, false, not, List, [], ◌∷◌, ◌++◌, length, slice_range, Option, Some, None, Result, Ok, Err, refl, sym, ap, ◌∙◌, inl, inr, ◌⊎◌, arith, add-one}
-use Rattle.std.proofs.lemmas.Bool.{cases_Bool, cases_lt, and_parts, eqb-true, ltb-true, true≢false}
+use Rattle.std.proofs.Common.{◌≡◌, ℕ, zero, suc, ◌+◌, ◌-◌, ◌<◌, ◌≤◌, ◌==◌, ◌&&◌, ◌||◌, nat_lt, if◌then◌else◌, Bool, true, false, not, List, length, slice_range, Result, Ok, Err, refl, ap, ◌∙◌, inl, inr, arith}
+use Rattle.std.proofs.lemmas.Bool.{cases_Bool, cases_lt, eqb-true, ltb-true}
 use Rattle.std.proofs.lemmas.Bool.Decides.{nat_tests}
 use Rattle.yaml_scan_history.specs.scan_model.declared.problem.Problem.TheVariants as problems
-use Rattle.yaml_scan_history.specs.scan_model.Marks.{byte, break_width, column_at, is_blank, is_blank_or_end}
-use Rattle.yaml_scan_history.specs.scan_model.Breaks.{break_value, feed_at, is_document_indicator}
+use Rattle.yaml_scan_history.specs.scan_model.Marks.{byte, break_width, column_at, is_blank_or_end}
+use Rattle.yaml_scan_history.specs.scan_model.Breaks.{feed_at, is_document_indicator}
 use Rattle.yaml_scan_history.specs.scan_model.Classes.{is_digit_byte}
 use Rattle.yaml_scan_history.specs.scan_model.Runs.{is_text, past_blanks, past_spaces, line_end}
 use Rattle.yaml_scan_history.specs.scan_model.Wrong.{Wrong}
-use Rattle.yaml_scan_history.specs.scan_block.Value.{BlockLine, Empty, Words, block_value}
-use Rattle.yaml_scan_history.specs.scan_block.Lines.{in_block, spaces, LineSpot, Stops, Line, Tab, spot_behind, line_spot, Lines, with_line, line_then, lines_from}
+use Rattle.yaml_scan_history.specs.scan_block.Value.{BlockLine, Words, block_value}
+use Rattle.yaml_scan_history.specs.scan_block.Lines.{in_block, spaces, LineSpot, Stops, Line, Tab, spot_behind, line_spot, Lines, with_line, lines_from}
 use Rattle.yaml_scan_history.specs.scan_block.Header.{HeaderText, is_chomping, chomp_of, digit_of, digit_place, chomping_place, indicators, past_comment, header_end, header_at}
 use Rattle.yaml_scan_history.specs.scan_block.Block.{larger, larger_of, depth_behind, deepest, column_of, BlockText, block_with, block_lines, block_behind, block_at}
 use Rattle.yaml_scan_history.proofs.MarksLemmas.{within}
 use Rattle.yaml_scan_history.proofs.BetweenLemmas.{break_inside}
 use Rattle.yaml_scan_history.proofs.RunsLemmas.{past_stop, past_some, text_parts}
 use Rattle.yaml_scan_laws_windows.specs.Alike.{Alike, is_onward}
-use Rattle.yaml_scan_laws_windows.proofs.Bytes.{IsQuiet, quiet_edge, quiet_break, width_alike, next_byte, column_alike, and_alike}
+use Rattle.yaml_scan_laws_windows.proofs.Bytes.{IsQuiet, quiet_edge, quiet_break, width_alike, next_byte, column_alike}
 use Rattle.yaml_scan_laws_windows.proofs.Running.{RunsAlike, blanks_alike, spaces_alike, lines_alike, text_alike, range_alike}
-use Rattle.yaml_scan_laws_windows.proofs.Gaps.{break_within}
-use Rattle.yaml_scan_laws_windows.proofs.Moving.{moved_wrong, moved_by, At, at_step, at_break}
-use Rattle.yaml_scan_laws_windows.proofs.Plains.{value_alike, left_step, byte_at}
-use Rattle.yaml_scan_laws_windows.proofs.Names.{or_same, letter_onward, onward_some, short_at, long_at}
+use Rattle.yaml_scan_laws_windows.proofs.Moving.{moved_by, At, at_step, at_break}
+use Rattle.yaml_scan_laws_windows.proofs.Plains.{value_alike}
+use Rattle.yaml_scan_laws_windows.proofs.Names.{short_at, long_at}
 
 -- ---- the header
 

@@ -1,11 +1,25 @@
 -- What is told by bytes: breaks, columns, indicators.
-use Rattle.std.proofs.Common.{◌≡◌, ◌≢◌, ℕ, zero, suc, ◌+◌, ◌-◌, ◌<◌, ◌≤◌, ◌==◌, ◌&&◌, ◌||◌, nat_lt, if◌then◌else◌, Bool, true, false, not, List, length, refl, sym, ap, ◌∙◌, inl, inr, ◌⊎◌, arith, add-one}
-use Rattle.std.proofs.lemmas.Bool.{cases_Bool, cases_lt, and_parts, eqb-true, true≢false}
+use Rattle.std.proofs.Common.{◌≡◌, ℕ, zero, suc, ◌+◌, ◌<◌, ◌≤◌, ◌==◌, ◌&&◌, ◌||◌, Bool, true, false, List, refl, sym, ap, ◌∙◌, inl, inr, ◌⊎◌, arith}
+use Rattle.std.proofs.lemmas.Bool.{cases_Bool, cases_lt, and_parts, eqb-true}
 use Rattle.std.proofs.lemmas.Bool.Decides.{nat_tests}
-use Rattle.yaml_scan_history.specs.scan_model.Marks.{byte, break_of, break_width, starts, ends_break, line_at, column_at, is_blank, is_blank_or_end}
+use Rattle.yaml_scan_history.specs.scan_model.Marks.{byte, break_of, break_width, line_at, column_at, is_blank_or_end}
 use Rattle.yaml_scan_history.specs.scan_model.Breaks.{is_document_indicator}
 use Rattle.yaml_scan_history.specs.scan_words.Indicators.{is_thrice, is_document_start, is_document_end}
 use Rattle.yaml_scan_laws_windows.specs.Alike.{Alike, is_onward}
+
+-- what doesn't go on is the end, LF or CR
+pub off_cases : (b : ℕ) → is_onward b ≡ false → (b ≡ 0) ⊎ ((b ≡ 10) ⊎ (b ≡ 13))
+unfolding is_onward
+off_cases b h = grind (arith, nat_tests)
+
+pub onward_some : (b : ℕ) → is_onward b ≡ true → 0 < b
+unfolding is_onward
+onward_some b h = grind (arith, nat_tests)
+
+pub off_break : (b : ℕ) → (b ≡ 10) ⊎ (b ≡ 13) → is_onward b ≡ false
+unfolding is_onward
+off_break b (inl z) = rw z refl
+off_break b (inr z) = rw z refl
 
 -- a byte that ends a text, or begins an indicator of documents
 abbrev pub IsQuiet : ℕ → Type 0

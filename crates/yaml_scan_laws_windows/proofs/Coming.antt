@@ -1,25 +1,24 @@
 -- What comes next is the same in both texts.
-use Rattle.std.proofs.Common.{◌≡◌, ◌≢◌, ℕ, zero, suc, ◌+◌, ◌-◌, ◌<◌, ◌≤◌, ◌==◌, ◌&&◌, ◌||◌, nat_lt, nat_le, if◌then◌else◌, Bool, true, false, not, List, [], ◌∷◌, ◌++◌, map, length, Option, Some, None, option_map, Result, Ok, Err, refl, sym, ap, subst, ◌∙◌, inl, inr, ◌⊎◌, arith}
-use Rattle.std.proofs.lemmas.Bool.{cases_Bool, cases_lt, and_parts, eqb-true, ltb-true, true≢false}
-use Rattle.std.proofs.lemmas.Bool.Decides.{nat_tests}
+use Rattle.std.proofs.Common.{◌≡◌, ℕ, ◌+◌, ◌<◌, ◌≤◌, ◌==◌, ◌&&◌, ◌||◌, nat_lt, if◌then◌else◌, Bool, true, false, not, List, [], ◌∷◌, ◌++◌, length, Option, Some, None, Result, Ok, Err, refl, sym, ap, ◌∙◌, inl, inr, arith}
+use Rattle.std.proofs.lemmas.Bool.{cases_Bool}
 use Rattle.yaml_scan_history.specs.scan_model.declared.record.yaml_mark_t.{yaml_mark_t}
 use Rattle.yaml_scan_history.specs.scan_model.declared.problem.ScanFault.{ScanFault}
-use Rattle.yaml_scan_history.specs.scan_model.Marks.{line_at, column_at, mark_at}
-use Rattle.yaml_scan_history.specs.scan_model.Wrong.{Wrong, scan_fault}
-use Rattle.yaml_scan_history.specs.scan_words.Between.{Gap, gap_at}
+use Rattle.yaml_scan_history.specs.scan_model.Marks.{line_at, mark_at}
+use Rattle.yaml_scan_history.specs.scan_model.Wrong.{Wrong}
+use Rattle.yaml_scan_history.specs.scan_words.Between.{Gap}
 use Rattle.yaml_scan_history.specs.declared.kind.Kind.{Kind}
 use Rattle.yaml_scan_history.specs.declared.lexeme.Lexeme.{Lexeme}
-use Rattle.yaml_scan_history.specs.Kinds.{may_be_key, cancels, is_value, is_start, is_end}
-use Rattle.yaml_scan_history.specs.History.{reached, depth, in_flow, Candidate, candidate, is_fresh, fresh, open_at, has, margin_at, indent, left_by, levels, key_allowed, placed}
-use Rattle.yaml_scan_history.specs.Words.{WordText, kind_at, word_at}
-use Rattle.yaml_scan_history.specs.Next.{Next, Read, Fails, Ends, gap_behind, place_behind, kind_behind, allowed_behind, level_in, begun, finished, begun_behind, word_behind, with_end, lexeme_behind, missed, lost_by, misplaced, colon_missing_of, no_start, not_allowed_there, stale_before, indicator_misplaced, candidate_lost, wrong_in, text_wrong, stale_after, faults, first_fault_or, coming}
-use Rattle.yaml_scan_laws_windows.specs.Alike.{Alike, is_onward}
+use Rattle.yaml_scan_history.specs.Kinds.{cancels, is_value, is_start, is_end}
+use Rattle.yaml_scan_history.specs.History.{reached, depth, in_flow, Candidate, candidate, is_fresh, fresh, open_at, has, levels, key_allowed, placed}
+use Rattle.yaml_scan_history.specs.Words.{WordText, kind_at}
+use Rattle.yaml_scan_history.specs.Next.{Read, Fails, gap_behind, place_behind, kind_behind, allowed_behind, begun, finished, begun_behind, word_behind, with_end, lexeme_behind, missed, lost_by, misplaced, colon_missing_of, no_start, not_allowed_there, stale_before, indicator_misplaced, candidate_lost, wrong_in, text_wrong, stale_after, first_fault_or, coming}
+use Rattle.yaml_scan_laws_windows.specs.Alike.{Alike}
 use Rattle.yaml_scan_laws_windows.specs.Moved.{moved_mark, moved_lexeme, moved_scan_fault, moved_next}
 use Rattle.yaml_scan_laws_windows.proofs.Bytes.{column_alike, line_alike}
-use Rattle.yaml_scan_laws_windows.proofs.Gaps.{GapsAlike, moved_gap, gap_alike}
-use Rattle.yaml_scan_laws_windows.proofs.Moving.{moved_wrong, moved_by}
+use Rattle.yaml_scan_laws_windows.proofs.Gaps.{GapsAlike, gap_alike}
+use Rattle.yaml_scan_laws_windows.proofs.Moving.{moved_by}
 use Rattle.yaml_scan_laws_windows.proofs.Words.{kind_alike, moved_word}
-use Rattle.yaml_scan_laws_windows.proofs.Histories.{Bases, moved_lexemes, moved_candidate, moved_found, depth_on, reached_on, length_on, candidate_on, near_moved, fresh_moved, has_moved, levels_on, allowed_on}
+use Rattle.yaml_scan_laws_windows.proofs.Histories.{Bases, moved_lexemes, moved_found, depth_on, reached_on, length_on, candidate_on, near_moved, fresh_moved, has_moved, levels_on, allowed_on}
 
 -- ---- parts of the definitions, moved
 
@@ -145,7 +144,8 @@ begun_moved : (d n : ℕ) (k : Kind) (m : yaml_mark_t) (a : Bool) (H G : List Le
     → begun k (moved_mark d n m) a G ≡ moved_lexeme d n (begun k m a H)
 begun_moved d n k m a H G e f = rw (e, f) refl
 
-pub begun_there : (t u : List ℕ) (d m n k : ℕ) (H G : List Lexeme) → Pair t u d m n k H G → (x : Kind)
+pub begun_there : (t u : List ℕ) (d m n k : ℕ) (H G : List Lexeme) → Pair t u d m n k H G
+    → (x : Kind)
     → begun_behind x u G ≡ moved_lexeme d n (begun_behind x t H)
 begun_there t u d m n k H G p x =
     let start = ap (placed x) (place_there t u d m n k H G p) ∙ placed_moved d n x (place_behind t H) in
@@ -178,14 +178,16 @@ with_end_there : (t u : List ℕ) (d m n : ℕ) (l : Lexeme) (r s : Result WordT
 with_end_there t u d m n l (Ok w) s a line h = ap (with_end u (moved_lexeme d n l)) h.same ∙ finished_there t u d m n l w a line (h.ends w refl)
 with_end_there t u d m n l (Err w) s a line h = ap (with_end u (moved_lexeme d n l)) h.same
 
-wrong_there : (t u : List ℕ) (d m n : ℕ) (x : Kind) (start : yaml_mark_t) (r s : Result WordText Wrong)
+wrong_there : (t u : List ℕ) (d m n : ℕ) (x : Kind) (start : yaml_mark_t)
+    (r s : Result WordText Wrong)
     → Said t u d m n x r s
     → wrong_in u (moved_mark d n start) s ≡ moved_fault d n (wrong_in t start r)
 wrong_there t u d m n x start (Ok w) s h = ap (wrong_in u (moved_mark d n start)) h.same
 wrong_there t u d m n x start (Err w) s h =
     ap (wrong_in u (moved_mark d n start)) h.same ∙ rw (h.wrong w refl) refl
 
-pub lexeme_there : (t u : List ℕ) (d m n k : ℕ) (H G : List Lexeme) → Pair t u d m n k H G → (x : Kind)
+pub lexeme_there : (t u : List ℕ) (d m n k : ℕ) (H G : List Lexeme) → Pair t u d m n k H G
+    → (x : Kind)
     → Said t u d m n x (word_behind x t H) (word_behind x u G)
     → lexeme_behind x u G ≡ moved_lexeme d n (lexeme_behind x t H)
 lexeme_there t u d m n k H G p x said =

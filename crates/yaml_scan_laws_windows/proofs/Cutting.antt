@@ -1,16 +1,16 @@
 -- Both parts of a text are alike in it.
-use Rattle.std.proofs.Common.{◌≡◌, ◌≢◌, ℕ, zero, suc, ◌+◌, ◌-◌, ◌<◌, ◌≤◌, ◌==◌, ◌&&◌, ◌||◌, nat_lt, if◌then◌else◌, Bool, true, false, not, List, [], ◌∷◌, ◌++◌, length, refl, sym, ap, ◌∙◌, inl, inr, ◌⊎◌, arith, add-one}
-use Rattle.std.proofs.lemmas.Bool.{cases_Bool, cases_lt, and_parts, eqb-true, true≢false}
+use Rattle.std.proofs.Common.{◌≡◌, ℕ, zero, suc, ◌+◌, ◌-◌, ◌<◌, ◌≤◌, ◌==◌, ◌&&◌, ◌||◌, Bool, true, false, List, [], ◌∷◌, ◌++◌, length, refl, sym, ap, ◌∙◌, inl, inr, ◌⊎◌, arith}
+use Rattle.std.proofs.lemmas.Bool.{cases_Bool, cases_lt, eqb-true, true≢false}
 use Rattle.std.proofs.lemmas.Bool.Decides.{nat_tests}
 use Rattle.std.proofs.lemmas.List.{get_or_append_left, get_or-append-add, get_or_past, get_or_push, length-append, length_push}
-use Rattle.yaml_scan_history.specs.scan_model.Marks.{byte, break_of, ends_of, ends_break, line_at, column_at, is_blank, is_blank_or_end}
+use Rattle.yaml_scan_history.specs.scan_model.Marks.{byte, ends_of, ends_break, line_at, column_at, is_blank, is_blank_or_end}
 use Rattle.yaml_scan_history.specs.scan_model.Classes.{is_bom}
 use Rattle.yaml_scan_history.specs.scan_model.Breaks.{is_document_indicator}
 use Rattle.yaml_scan_history.specs.scan_scalars.Plain.{leads}
 use Rattle.yaml_scan_history.proofs.MarksLemmas.{within, column_end, start_column}
 use Rattle.yaml_scan_laws_windows.specs.Alike.{Alike, is_onward}
-use Rattle.yaml_scan_laws_windows.specs.Cuts.{EndsIn, EndsLine, IsCut}
-use Rattle.yaml_scan_laws_windows.proofs.Bytes.{IsQuiet, and_alike, indicator_alike}
+use Rattle.yaml_scan_laws_windows.specs.Cuts.{EndsLine, IsCut}
+use Rattle.yaml_scan_laws_windows.proofs.Bytes.{and_alike, indicator_alike, onward_some, off_break}
 
 byte_left : (a b : List ℕ) (p : ℕ) → p < length a → byte (a ++ b) p ≡ byte a p
 byte_left a b p l = get_or_append_left a b 0 p l
@@ -61,11 +61,6 @@ line_ended : (x y b c : ℕ) → (b ≡ 10) ⊎ (b ≡ 13) → (c == 10) ≡ fal
 unfolding ends_of
 line_ended x y b c (inl z) h = rw z refl
 line_ended x y b c (inr z) h = rw (z, h) refl
-
-off_break : (b : ℕ) → (b ≡ 10) ⊎ (b ≡ 13) → is_onward b ≡ false
-unfolding is_onward
-off_break b (inl z) = rw z refl
-off_break b (inr z) = rw z refl
 
 -- the rest begins at column 0
 pub cut_column : (a b : List ℕ) → IsCut a b → column_at (a ++ b) (length a) ≡ 0
@@ -171,10 +166,6 @@ rest_bom a b cut (suc p) =
 
     some_not_zero : (p : ℕ) → (suc p == 0) ≡ false
     some_not_zero p = grind (arith, nat_tests)
-
-onward_some : (b : ℕ) → is_onward b ≡ true → 0 < b
-unfolding is_onward
-onward_some b h = grind (arith, nat_tests)
 
 -- The rest stands in the whole.
 pub rest_alike : (a b : List ℕ) → IsCut a b → Alike b (a ++ b) (length a) (suc (length b))

@@ -1,22 +1,20 @@
 -- Directives are the same in both texts.
-use Rattle.std.proofs.Common.{◌≡◌, ◌≢◌, ℕ, zero, suc, ◌+◌, ◌-◌, ◌*◌, ◌<◌, ◌≤◌, ◌==◌, ◌&&◌, ◌||◌, nat_lt, if◌then◌else◌, Bool, true, false, not, List, [], ◌∷◌, ◌++◌, length, slice_range, Option, Some, None, Result, Ok, Err, refl, sym, ap, ◌∙◌, inl, inr, ◌⊎◌, arith, add-one}
-use Rattle.std.proofs.lemmas.Bool.{cases_Bool, cases_lt, and_parts, eqb-true, ltb-true, true≢false}
+use Rattle.std.proofs.Common.{◌≡◌, ℕ, zero, suc, ◌+◌, ◌-◌, ◌<◌, ◌≤◌, ◌==◌, ◌&&◌, nat_lt, Bool, true, false, not, List, Result, Ok, Err, refl, ap, ◌∙◌, inl, inr, arith}
+use Rattle.std.proofs.lemmas.Bool.{cases_Bool, eqb-true}
 use Rattle.std.proofs.lemmas.Bool.Decides.{nat_tests}
-use Rattle.yaml_scan_history.specs.scan_model.declared.problem.Problem.TheVariants as problems
 use Rattle.yaml_scan_history.specs.scan_model.declared.problem.Context.TheVariants as contexts
 use Rattle.yaml_scan_history.specs.scan_model.Marks.{byte, break_width, is_blank, is_blank_or_end}
 use Rattle.yaml_scan_history.specs.scan_model.Wrong.{Wrong}
-use Rattle.yaml_scan_history.specs.scan_words.Runs.{belongs, run_end}
+use Rattle.yaml_scan_history.specs.scan_words.Runs.{belongs}
 use Rattle.yaml_scan_history.specs.scan_words.Uris.{some_uri_at}
 use Rattle.yaml_scan_history.specs.scan_words.Tags.{name_end}
-use Rattle.yaml_scan_history.specs.scan_words.Directives.{Said, ValueText, value_end, DirectiveText, then_at, is_yaml, is_tag, name_between, name_at, decimal, number_between, number_at, with_major, minor_at, version_at, handle_between, handle_at, prefix_ended, prefix_at, with_prefix, tag_directive_at, named_value_at, value_at, comment_end, break_end, line_end_at, with_line, finished, directive_at}
+use Rattle.yaml_scan_history.specs.scan_words.Directives.{ValueText, value_end, DirectiveText, then_at, is_yaml, is_tag, name_between, decimal, number_between, number_at, with_major, minor_at, version_at, handle_between, handle_at, prefix_ended, prefix_at, with_prefix, tag_directive_at, named_value_at, value_at, comment_end, break_end, line_end_at, with_line, finished, directive_at}
 use Rattle.yaml_scan_laws_windows.specs.Alike.{Alike, is_onward}
-use Rattle.yaml_scan_laws_windows.proofs.Bytes.{width_alike, end_alike, next_byte, and_alike}
+use Rattle.yaml_scan_laws_windows.proofs.Bytes.{width_alike, end_alike, and_alike, onward_some}
 use Rattle.yaml_scan_laws_windows.proofs.Running.{range_alike}
 use Rattle.yaml_scan_laws_windows.proofs.Gaps.{break_within}
-use Rattle.yaml_scan_laws_windows.proofs.Moving.{moved_wrong, moved_by, At, at_step}
-use Rattle.yaml_scan_laws_windows.proofs.Quotes.{moved_pair}
-use Rattle.yaml_scan_laws_windows.proofs.Names.{Alike_in, PairAlike, Run_in, run_in, some_uri_alike, or_same, letter_onward, onward_some, moved_equal}
+use Rattle.yaml_scan_laws_windows.proofs.Moving.{moved_by, at_step}
+use Rattle.yaml_scan_laws_windows.proofs.Names.{Alike_in, PairAlike, Run_in, run_in, some_uri_alike, letter_onward}
 
 -- ---- numbers
 

@@ -1,17 +1,16 @@
 -- Entries of lexemes that stand on others that decide the same.
-use Rattle.std.proofs.Common.{◌≡◌, ◌≢◌, ℕ, zero, suc, ◌+◌, ◌-◌, ◌<◌, ◌≤◌, ◌==◌, ◌&&◌, ◌||◌, nat_lt, nat_le, if◌then◌else◌, Bool, true, false, not, List, [], ◌∷◌, ◌++◌, map, take, drop, length, Option, Some, None, refl, sym, ap, subst, ◌∙◌, inl, inr, ◌⊎◌, arith}
-use Rattle.std.proofs.lemmas.Bool.{cases_Bool, cases_lt, true≢false}
+use Rattle.std.proofs.Common.{◌≡◌, ℕ, zero, suc, ◌+◌, ◌-◌, ◌≤◌, ◌==◌, nat_lt, if◌then◌else◌, Bool, true, false, List, [], ◌∷◌, ◌++◌, map, length, Option, Some, None, refl, sym, ap, ◌∙◌, inl, inr, arith}
+use Rattle.std.proofs.lemmas.Bool.{cases_Bool}
 use Rattle.std.proofs.lemmas.Bool.Decides.{nat_tests}
 use Rattle.std.proofs.lemmas.List.{length-append, append-nil, append_assoc, map-append}
 use Rattle.yaml_scan_history.specs.scan_model.declared.name.yaml_encoding_t.{yaml_encoding_t}
 use Rattle.yaml_scan_history.specs.declared.lexeme.Lexeme.{Lexeme}
 use Rattle.yaml_scan_history.specs.declared.lexeme.Entry.{Entry}
-use Rattle.yaml_scan_history.specs.declared.lexeme.Opens.{Opens}
-use Rattle.yaml_scan_history.specs.Kinds.{is_value, is_start}
-use Rattle.yaml_scan_history.specs.History.{reached, Candidate, candidate, fresh, open_at, has_number, first_or, first_open, found_by, has, left_by, levels, inside, opens_of, entry_of, as_key, mark_key, marked, keyed, entries}
-use Rattle.yaml_scan_history.specs.Remaining.{SpelledText, body_in}
+use Rattle.yaml_scan_history.specs.Kinds.{is_value}
+use Rattle.yaml_scan_history.specs.History.{reached, Candidate, candidate, fresh, open_at, has_number, first_or, first_open, found_by, left_by, levels, inside, opens_of, entry_of, mark_key, marked, keyed, entries}
+use Rattle.yaml_scan_history.specs.Remaining.{body_in}
 use Rattle.yaml_scan_history.proofs.HistoryLemmas.{candidate-more, fresh_is, length-entries, first_open-le}
-use Rattle.yaml_scan_laws_windows.specs.Moved.{moved_mark, moved_lexeme}
+use Rattle.yaml_scan_laws_windows.specs.Moved.{moved_lexeme}
 use Rattle.yaml_scan_laws_windows.proofs.Rests.{AllCarry}
 use Rattle.yaml_scan_laws_windows.proofs.Histories.{Bases, moved_lexemes, moved_candidate, moved_found, reached_on, length_on, candidate_on, fresh_moved, found_on, has_moved, levels_on}
 
@@ -72,7 +71,8 @@ AllSay x t u d n (e ∷ es) =
     (body_in (record { encoding = x; text = u }) (moved_lexeme d n e.lexeme) ≡ body_in (record { encoding = x; text = t }) e.lexeme)
     × AllSay x t u d n es
 
-pub say_mark : (x : yaml_encoding_t) (t u : List ℕ) (d n : ℕ) (lv : List ℕ) (es : List Entry) (i : ℕ)
+pub say_mark : (x : yaml_encoding_t) (t u : List ℕ) (d n : ℕ) (lv : List ℕ) (es : List Entry)
+    (i : ℕ)
     → AllSay x t u d n es → AllSay x t u d n (mark_key lv es i)
 unfolding mark_key
 say_mark x t u d n lv [] i s = tt

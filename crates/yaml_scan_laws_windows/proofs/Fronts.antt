@@ -1,27 +1,20 @@
 -- The lexemes of the front are the first ones of the whole.
-use Rattle.std.proofs.Common.{◌≡◌, ◌≢◌, ℕ, zero, suc, ◌+◌, ◌-◌, ◌<◌, ◌≤◌, ◌==◌, ◌&&◌, ◌||◌, nat_lt, nat_le, if◌then◌else◌, Bool, true, false, not, List, [], ◌∷◌, ◌++◌, map, length, Option, Some, None, Result, Ok, Err, refl, sym, ap, subst, ◌∙◌, inl, inr, ◌⊎◌, arith}
-use Rattle.std.proofs.lemmas.Bool.{cases_Bool, cases_lt, and_parts, eqb-true, ltb-true, true≢false}
+use Rattle.std.proofs.Common.{◌≡◌, ◌≢◌, ℕ, zero, suc, ◌+◌, ◌<◌, ◌≤◌, true, false, List, [], ◌∷◌, ◌++◌, length, Option, Some, None, refl, sym, ap, ◌∙◌, inl, inr, arith}
+use Rattle.std.proofs.lemmas.Bool.{cases_Bool, true≢false}
 use Rattle.yaml_scan_history.specs.scan_model.declared.record.yaml_mark_t.{yaml_mark_t}
 use Rattle.yaml_scan_history.specs.scan_model.declared.problem.ScanFault.{ScanFault}
-use Rattle.yaml_scan_history.specs.scan_model.Marks.{byte, line_at, column_at, mark_at, is_blank_or_end}
-use Rattle.yaml_scan_history.specs.scan_words.Indicators.{is_document_start, is_document_end}
-use Rattle.yaml_scan_history.specs.scan_scalars.Plain.{starts_plain}
 use Rattle.yaml_scan_history.proofs.MarksLemmas.{start_line}
-use Rattle.yaml_scan_history.specs.declared.kind.Kind.{Kind}
-use Rattle.yaml_scan_history.specs.declared.kind.Kind.TheVariants as kinds
 use Rattle.yaml_scan_history.specs.declared.lexeme.Lexeme.{Lexeme}
 use Rattle.yaml_scan_history.specs.Kinds.{is_end}
-use Rattle.yaml_scan_history.specs.History.{reached, depth, in_flow, ended, Candidate, candidate, key_allowed, levels}
-use Rattle.yaml_scan_history.specs.Words.{indicator_of, or_plain, kind_at}
-use Rattle.yaml_scan_history.specs.Next.{Next, Read, Fails, Ends, first_lexeme, gap_behind, kind_behind, coming, next, extended, step, history}
-use Rattle.yaml_scan_laws_order.proofs.HistoryForward.{Stands, Reaches, history_stands, not_ended, stays_upto}
-use Rattle.yaml_scan_laws_windows.specs.Alike.{Alike}
+use Rattle.yaml_scan_history.specs.History.{reached, ended, Candidate, candidate}
+use Rattle.yaml_scan_history.specs.Next.{Next, Read, Fails, Ends, kind_behind, coming, next, extended, step, history}
+use Rattle.yaml_scan_laws_order.proofs.HistoryForward.{Stands, history_stands, not_ended, stays_upto}
 use Rattle.yaml_scan_laws_windows.specs.Cuts.{IsCut}
 use Rattle.yaml_scan_laws_windows.specs.Moved.{moved_mark, moved_lexeme}
 use Rattle.yaml_scan_laws_windows.proofs.Cutting.{front_alike}
-use Rattle.yaml_scan_laws_windows.proofs.Histories.{moved_candidate, moved_found}
-use Rattle.yaml_scan_laws_windows.proofs.Coming.{Pair, gap_there}
-use Rattle.yaml_scan_laws_windows.proofs.Stepping.{HasRead, has_read, front_comes, read_kind}
+use Rattle.yaml_scan_laws_windows.proofs.Histories.{moved_found}
+use Rattle.yaml_scan_laws_windows.proofs.Coming.{Pair}
+use Rattle.yaml_scan_laws_windows.proofs.Stepping.{front_comes}
 
 -- ---- what is moved by nothing
 
@@ -62,7 +55,8 @@ pub next_open : (t : List ℕ) (x : Lexeme) (h : List Lexeme) → is_end x.kind 
 unfolding next
 next_open t x h e = rw e refl
 
-pub next_over : (t : List ℕ) (x : Lexeme) (h : List Lexeme) → is_end x.kind ≡ true → next t (x ∷ h) ≡ Ends
+pub next_over : (t : List ℕ) (x : Lexeme) (h : List Lexeme) → is_end x.kind ≡ true
+    → next t (x ∷ h) ≡ Ends
 unfolding next
 next_over t x h e = rw e refl
 

@@ -1,6 +1,6 @@
 -- What stands between lexemes is the same in both texts.
-use Rattle.std.proofs.Common.{◌≡◌, ◌≢◌, ℕ, zero, suc, ◌+◌, ◌-◌, ◌<◌, ◌≤◌, ◌==◌, ◌&&◌, ◌||◌, nat_lt, if◌then◌else◌, Bool, true, false, not, List, [], ◌∷◌, length, refl, sym, ap, ◌∙◌, inl, inr, ◌⊎◌, arith, add-one}
-use Rattle.std.proofs.lemmas.Bool.{cases_Bool, cases_lt, and_parts, eqb-true, ltb-true, true≢false}
+use Rattle.std.proofs.Common.{◌≡◌, ◌≢◌, ℕ, zero, suc, ◌+◌, ◌<◌, ◌≤◌, ◌==◌, ◌&&◌, ◌||◌, nat_lt, Bool, true, false, not, List, length, refl, sym, ap, ◌∙◌, inl, inr, arith}
+use Rattle.std.proofs.lemmas.Bool.{cases_Bool, cases_lt, eqb-true, ltb-true, true≢false}
 use Rattle.std.proofs.lemmas.Bool.Decides.{nat_tests}
 use Rattle.yaml_scan_history.specs.scan_model.Marks.{byte, break_of, break_width}
 use Rattle.yaml_scan_history.specs.scan_model.Classes.{is_bom}
@@ -10,8 +10,8 @@ use Rattle.yaml_scan_history.proofs.MarksLemmas.{within, widths, no_break}
 use Rattle.yaml_scan_history.proofs.BetweenLemmas.{break_inside}
 use Rattle.yaml_scan_history.proofs.WordsRunsLemmas.{run_further}
 use Rattle.yaml_scan_laws_windows.specs.Alike.{Alike, is_onward}
-use Rattle.yaml_scan_laws_windows.proofs.Bytes.{IsQuiet, quiet_edge, quiet_break, width_alike}
-use Rattle.yaml_scan_laws_windows.proofs.Running.{RunsAlike, run_alike}
+use Rattle.yaml_scan_laws_windows.proofs.Bytes.{IsQuiet, quiet_edge, quiet_break, width_alike, onward_some}
+use Rattle.yaml_scan_laws_windows.proofs.Running.{run_alike}
 
 -- the gap at a place that is moved by d
 abbrev pub moved_gap : ℕ → Gap → Gap
@@ -64,10 +64,6 @@ skip_onward : (tabs : Bool) (b : ℕ) → (b == 32 || (tabs && b == 9)) ≡ true
 unfolding is_onward
 skip_onward true b h = grind (arith, nat_tests)
 skip_onward false b h = grind (arith, nat_tests)
-
-onward_some : (b : ℕ) → is_onward b ≡ true → 0 < b
-unfolding is_onward
-onward_some b h = grind (arith, nat_tests)
 
 hash_is_text : (b c e : ℕ) → b ≡ 35 → not (nat_lt 0 (break_of b c e) || b == 0) ≡ true
 hash_is_text b c e h =

@@ -1,13 +1,13 @@
 -- What lexemes decide, where they stand on others that decide the same.
-use Rattle.std.proofs.Common.{◌≡◌, ◌≢◌, ℕ, zero, suc, ◌+◌, ◌-◌, ◌<◌, ◌≤◌, ◌==◌, ◌&&◌, ◌||◌, nat_lt, nat_le, if◌then◌else◌, Bool, true, false, not, List, [], ◌∷◌, ◌++◌, map, length, Option, Some, None, option_map, Result, Ok, Err, refl, sym, ap, ◌∙◌, inl, inr, ◌⊎◌, arith}
-use Rattle.std.proofs.lemmas.Bool.{cases_Bool, cases_lt, and_parts, eqb-true, ltb-true, true≢false}
+use Rattle.std.proofs.Common.{◌≡◌, ℕ, ◌+◌, ◌==◌, ◌&&◌, ◌||◌, nat_lt, nat_le, not, List, [], ◌∷◌, ◌++◌, map, length, Option, Some, None, refl, ap, ◌∙◌, inl, inr, arith}
+use Rattle.std.proofs.lemmas.Bool.{cases_Bool}
 use Rattle.std.proofs.lemmas.Bool.Decides.{nat_tests}
 use Rattle.std.proofs.lemmas.List.{length-append, length-map}
 use Rattle.yaml_scan_history.specs.scan_model.declared.record.yaml_mark_t.{yaml_mark_t}
 use Rattle.yaml_scan_history.specs.declared.kind.Kind.{Kind}
 use Rattle.yaml_scan_history.specs.declared.lexeme.Lexeme.{Lexeme}
-use Rattle.yaml_scan_history.specs.Kinds.{cancels, is_value, is_start, allows_key}
-use Rattle.yaml_scan_history.specs.History.{reached, depth, in_flow, Candidate, candidate, is_fresh, fresh, open_at, found_by, has, opens_at, opened, left_by, levels, key_allowed}
+use Rattle.yaml_scan_history.specs.Kinds.{cancels, is_start, allows_key}
+use Rattle.yaml_scan_history.specs.History.{reached, depth, Candidate, candidate, is_fresh, fresh, found_by, has, opens_at, opened, left_by, levels, key_allowed}
 use Rattle.yaml_scan_laws_windows.specs.Moved.{moved_mark, moved_lexeme}
 
 -- Two lists of lexemes that decide the same of what stands on them, but for the places: no candidate is open in either, and the

@@ -1,16 +1,12 @@
 -- The tokens of a text that is cut in two.
-use Rattle.std.proofs.Common.{◌≡◌, ◌≢◌, ℕ, zero, suc, ◌+◌, ◌-◌, ◌<◌, ◌≤◌, ◌==◌, ◌&&◌, ◌||◌, nat_lt, nat_le, if◌then◌else◌, Bool, true, false, not, List, [], ◌∷◌, ◌++◌, map, take, drop, replicate, length, Option, Some, None, option_map, refl, sym, ap, subst, ◌∙◌, inl, inr, ◌⊎◌, arith}
-use Rattle.std.proofs.lemmas.Bool.{cases_Bool, cases_lt, true≢false}
+use Rattle.std.proofs.Common.{◌≡◌, ◌≢◌, ℕ, zero, suc, ◌+◌, ◌-◌, List, [], ◌∷◌, ◌++◌, map, take, drop, replicate, length, refl, sym, ap, ◌∙◌, inl, inr, arith}
+use Rattle.std.proofs.lemmas.Bool.{cases_Bool}
 use Rattle.std.proofs.lemmas.Grind.{flat_map-append}
-use Rattle.std.proofs.lemmas.List.{length-append, append-nil, append_assoc, map-append, same_from_push}
+use Rattle.std.proofs.lemmas.List.{append-nil, append_assoc, map-append}
 use Rattle.std.specs.List.{flat_map}
 use Rattle.yaml_scan_history.specs.scan_model.declared.name.yaml_encoding_t.{yaml_encoding_t}
 use Rattle.yaml_scan_history.specs.scan_model.declared.problem.ScanFault.{ScanFault}
-use Rattle.yaml_scan_history.specs.scan_model.Tokens.{Token, TokenBody, block_end}
-use Rattle.yaml_scan_history.specs.scan_model.Faults.{Fault}
-use Rattle.yaml_scan_history.specs.scan_model.Marks.{line_at, mark_at}
-use Rattle.yaml_scan_history.specs.declared.kind.Kind.{Kind}
-use Rattle.yaml_scan_history.specs.declared.kind.Kind.TheVariants as kinds
+use Rattle.yaml_scan_history.specs.scan_model.Tokens.{Token, block_end}
 use Rattle.yaml_scan_history.specs.declared.lexeme.Lexeme.{Lexeme}
 use Rattle.yaml_scan_history.specs.declared.lexeme.Entry.{Entry}
 use Rattle.yaml_scan_history.specs.declared.lexeme.Opens.{Opens}
@@ -19,14 +15,15 @@ use Rattle.yaml_scan_history.specs.History.{entries, first_open}
 use Rattle.yaml_scan_history.specs.Next.{Next, Read, Fails, Ends, next}
 use Rattle.yaml_scan_history.specs.Remaining.{SpelledText, body_in, token_in, before, start_tokens, end_tokens, own_tokens, spell, all, handed_out, handed, front_ends, kept_of, fault_in, remaining, offline}
 use Rattle.yaml_scan_history.proofs.HistoryLemmas.{length-entries}
-use Rattle.yaml_scan_laws_windows.specs.Moved.{moved_mark, moved_token, moved_lexeme, moved_fault, moved_next}
+use Rattle.yaml_scan_laws_windows.specs.Moved.{moved_token, moved_lexeme, moved_next}
 use Rattle.yaml_scan_laws_windows.proofs.Histories.{Bases, moved_lexemes}
 use Rattle.yaml_scan_laws_windows.proofs.Rests.{AllCarry}
-use Rattle.yaml_scan_laws_windows.proofs.Entering.{moved_entry, AllSay, Entered, entered, first_open_on, first_above}
+use Rattle.yaml_scan_laws_windows.proofs.Entering.{moved_entry, AllSay, entered, first_open_on, first_above}
 
 -- ---- the tokens of an entry
 
-map_replicate : {A B : Type 0} (f : A → B) (n : ℕ) (y : A) → map f (replicate n y) ≡ replicate n (f y)
+map_replicate : {A B : Type 0} (f : A → B) (n : ℕ) (y : A)
+    → map f (replicate n y) ≡ replicate n (f y)
 map_replicate f zero y = refl
 map_replicate f (suc n) y = ap (λ z. f y ∷ z) (map_replicate f n y)
 
@@ -63,7 +60,8 @@ spell_moved d n s v e h =
     ∙ ap (λ z. z ++ map f (own_tokens s e)) (sym (map-append f (end_tokens e) (start_tokens e.opens e.lexeme)))
     ∙ sym (map-append f (end_tokens e ++ start_tokens e.opens e.lexeme) (own_tokens s e))
 
-pub spells_moved : (d n : ℕ) (x : yaml_encoding_t) (t u : List ℕ) (es : List Entry) → AllSay x t u d n es
+pub spells_moved : (d n : ℕ) (x : yaml_encoding_t) (t u : List ℕ) (es : List Entry)
+    → AllSay x t u d n es
     → flat_map (spell (record { encoding = x; text = u })) (map (moved_entry d n) es)
     ≡ map (moved_token d n) (flat_map (spell (record { encoding = x; text = t })) es)
 spells_moved d n x t u [] h = refl
@@ -132,7 +130,8 @@ pub record Parted (s v : SpelledText) (d n : ℕ) (y : Next) (h b c : List Lexem
   pub others : told v (moved_next d n y) (moved_lexemes d n h ++ c)
       ≡ flat_map (spell v) (entries c) ++ map (moved_token d n) behind
 
-whole_parts : (x : yaml_encoding_t) (t u : List ℕ) (d n k : ℕ) (h b c : List Lexeme) → Bases d n k b c
+whole_parts : (x : yaml_encoding_t) (t u : List ℕ) (d n k : ℕ) (h b c : List Lexeme)
+    → Bases d n k b c
     → AllCarry x t u d n h
     → let s : SpelledText = record { encoding = x; text = t } in
     let v : SpelledText = record { encoding = x; text = u } in
@@ -149,7 +148,8 @@ whole_parts x t u d n k h b c base carry =
           ∙ ap (λ z. flat_map (spell v) (entries c) ++ z) said;
     }
 
-failed_parts : (x : yaml_encoding_t) (t u : List ℕ) (d n k : ℕ) (p : ScanFault) (h b c : List Lexeme)
+failed_parts : (x : yaml_encoding_t) (t u : List ℕ) (d n k : ℕ) (p : ScanFault)
+    (h b c : List Lexeme)
     → Bases d n k b c → AllCarry x t u d n h
     → let s : SpelledText = record { encoding = x; text = t } in
     let v : SpelledText = record { encoding = x; text = u } in
@@ -192,7 +192,8 @@ failed_parts x t u d n k p h b c base carry =
           ∙ ap (λ z. flat_map (spell v) (entries c) ++ z) (sym (map-append f (flat_map (spell s) (take i es.more)) kept));
     }
 
-pub parted : (x : yaml_encoding_t) (t u : List ℕ) (d n k : ℕ) (h b c : List Lexeme) → Bases d n k b c
+pub parted : (x : yaml_encoding_t) (t u : List ℕ) (d n k : ℕ) (h b c : List Lexeme)
+    → Bases d n k b c
     → AllCarry x t u d n h → (y : Next) → ((l : Lexeme) → y ≢ Read l)
     → let s : SpelledText = record { encoding = x; text = t } in
     let v : SpelledText = record { encoding = x; text = u } in

@@ -1,21 +1,21 @@
-pub mod Bytes
-pub mod Running
-pub mod Gaps
-pub mod Moving
-pub mod Plains
-pub mod Quotes
-pub mod Names
-pub mod Directives
-pub mod Blocks
-pub mod Words
-pub mod Cutting
-pub mod Histories
-pub mod Coming
-pub mod Stepping
-pub mod Fronts
-pub mod Marking
-pub mod Turning
-pub mod Rests
-pub mod Entering
-pub mod Joining
+mod Bytes
+mod Running
+mod Gaps
+mod Moving
+mod Plains
+mod Quotes
+mod Names
+mod Directives
+mod Blocks
+mod Words
+mod Cutting
+mod Histories
+mod Coming
+mod Stepping
+mod Fronts
+mod Marking
+mod Turning
+mod Rests
+mod Entering
+mod Joining
 pub mod Windows

@@ -1,21 +1,18 @@
 -- A mark of documents behind lexemes outside of brackets is read, and is outside of all levels.
-use Rattle.std.proofs.Common.{◌≡◌, ◌≢◌, ℕ, zero, suc, ◌+◌, ◌-◌, ◌<◌, ◌≤◌, ◌==◌, ◌&&◌, ◌||◌, nat_lt, nat_le, if◌then◌else◌, Bool, true, false, not, List, [], ◌∷◌, ◌++◌, map, filter, length, Option, Some, None, Result, Ok, Err, refl, sym, ap, subst, ◌∙◌, inl, inr, ◌⊎◌, arith}
-use Rattle.std.proofs.lemmas.Bool.{cases_Bool, cases_lt, and_parts, eqb-true, ltb-true, true≢false}
+use Rattle.std.proofs.Common.{◌≡◌, ℕ, ◌+◌, ◌&&◌, nat_lt, nat_le, if◌then◌else◌, Bool, true, false, not, List, [], ◌∷◌, filter, Option, Some, None, refl, ap, ◌∙◌, inl, inr, arith}
+use Rattle.std.proofs.lemmas.Bool.{cases_Bool}
 use Rattle.std.proofs.lemmas.Bool.Decides.{nat_tests}
 use Rattle.std.proofs.lemmas.List.Elements.{filter-append}
-use Rattle.yaml_scan_history.specs.scan_model.declared.record.yaml_mark_t.{yaml_mark_t}
 use Rattle.yaml_scan_history.specs.scan_model.Tokens as tokens
 use Rattle.yaml_scan_history.specs.scan_model.Tokens.{TokenBody}
-use Rattle.yaml_scan_history.specs.scan_model.Marks.{byte, line_at, column_at, mark_at, is_blank_or_end}
-use Rattle.yaml_scan_history.specs.scan_model.Breaks.{is_document_indicator}
-use Rattle.yaml_scan_history.specs.scan_words.Indicators.{is_document_start, is_document_end}
+use Rattle.yaml_scan_history.specs.scan_model.Marks.{column_at, mark_at}
 use Rattle.yaml_scan_history.specs.declared.kind.Kind.{Kind}
 use Rattle.yaml_scan_history.specs.declared.kind.Kind.TheVariants as kinds
 use Rattle.yaml_scan_history.specs.declared.lexeme.Lexeme.{Lexeme}
 use Rattle.yaml_scan_history.specs.Kinds.{depth_after, may_be_key, cancels, is_value, is_start, is_outside, is_end, allows_key}
-use Rattle.yaml_scan_history.specs.History.{reached, depth, in_flow, Candidate, candidate, fresh, open_at, found_by, has, margin_at, indent, left_by, opens_at, opened, levels, key_allowed, placed}
-use Rattle.yaml_scan_history.specs.Words.{WordText, kind_at, carrying, word_at}
-use Rattle.yaml_scan_history.specs.Next.{Next, Read, gap_behind, place_behind, kind_behind, allowed_behind, begun_behind, word_behind, lexeme_behind, missed, lost_by, colon_missing_of, stale_before, indicator_misplaced, candidate_lost, text_wrong, stale_after, first_fault_or, coming}
+use Rattle.yaml_scan_history.specs.History.{depth, in_flow, Candidate, candidate, fresh, found_by, margin_at, indent, left_by, opens_at, levels}
+use Rattle.yaml_scan_history.specs.Words.{carrying, word_at}
+use Rattle.yaml_scan_history.specs.Next.{Read, gap_behind, place_behind, allowed_behind, begun_behind, word_behind, lexeme_behind, lost_by, stale_before, indicator_misplaced, candidate_lost, text_wrong, stale_after, coming}
 
 -- `---` or `...`
 pub record IsMark (K : Kind) (body : TokenBody) : Type 0 where
@@ -136,7 +133,8 @@ outside_level : (K : Kind) (body : TokenBody) → IsMark K body → (H : List Le
     → depth H ≡ 0 → left_by K (depth H) column (levels H) ≡ []
 outside_level K body m H column e = rw (e, m.outside) (none_left H)
 
-mark_begun : (K : Kind) (body : TokenBody) → IsMark K body → (text : List ℕ) (H : List Lexeme) (p : ℕ)
+mark_begun : (K : Kind) (body : TokenBody) → IsMark K body
+    → (text : List ℕ) (H : List Lexeme) (p : ℕ)
     → (gap_behind text H).place ≡ p → depth H ≡ 0
     → begun_behind K text H ≡ record {
       kind = K;
@@ -158,7 +156,8 @@ lost_none : (l : Lexeme) (o : Option Candidate) → IsFree o → lost_by l o ≡
 lost_none l None f = refl
 lost_none l (Some c) f = rw f refl
 
-mark_word : (K : Kind) (body : TokenBody) → IsMark K body → (text : List ℕ) (H : List Lexeme) (p : ℕ)
+mark_word : (K : Kind) (body : TokenBody) → IsMark K body
+    → (text : List ℕ) (H : List Lexeme) (p : ℕ)
     → (gap_behind text H).place ≡ p → word_behind K text H ≡ carrying body (p + 3)
 mark_word K body m text H p e = m.word (in_flow H) (begun_behind K text H).level text (gap_behind text H).place ∙ ap (λ q. carrying body (q + 3)) e
 

@@ -1,5 +1,5 @@
 -- What is read, with its places moved; and the places that are reached.
-use Rattle.std.proofs.Common.{◌≡◌, ℕ, ◌+◌, ◌<◌, ◌≤◌, List, length, Result, Ok, Err, refl, sym, ap, ◌∙◌, inl, inr, ◌⊎◌, arith}
+use Rattle.std.proofs.Common.{ℕ, ◌+◌, ◌<◌, ◌≤◌, List, length, Result, Ok, Err, arith}
 use Rattle.yaml_scan_history.specs.scan_model.Marks.{byte, break_width}
 use Rattle.yaml_scan_history.specs.scan_model.Wrong.{Wrong}
 use Rattle.yaml_scan_history.proofs.MarksLemmas.{within, past_break}

@@ -1,23 +1,22 @@
 -- Anchors, URIs, tags and directives are the same in both texts.
-use Rattle.std.proofs.Common.{◌≡◌, ◌≢◌, ℕ, zero, suc, ◌+◌, ◌-◌, ◌*◌, ◌<◌, ◌≤◌, ◌==◌, ◌&&◌, ◌||◌, nat_lt, if◌then◌else◌, Bool, true, false, not, List, [], ◌∷◌, ◌++◌, length, slice_range, Option, Some, None, Result, Ok, Err, refl, sym, ap, ◌∙◌, inl, inr, ◌⊎◌, arith, add-one}
-use Rattle.std.proofs.lemmas.Bool.{cases_Bool, cases_lt, and_parts, eqb-true, ltb-true, true≢false}
+use Rattle.std.proofs.Common.{◌≡◌, ℕ, zero, suc, ◌+◌, ◌<◌, ◌≤◌, ◌==◌, ◌&&◌, ◌||◌, nat_lt, if◌then◌else◌, Bool, true, false, not, List, [], ◌∷◌, length, slice_range, Option, Some, None, Result, Ok, Err, refl, ap, ◌∙◌, inl, inr, ◌⊎◌, arith}
+use Rattle.std.proofs.lemmas.Bool.{cases_Bool, eqb-true}
 use Rattle.std.proofs.lemmas.Bool.Decides.{nat_tests}
 use Rattle.yaml_scan_history.specs.scan_model.declared.problem.Problem.{Problem}
 use Rattle.yaml_scan_history.specs.scan_model.declared.problem.Context.{Context}
 use Rattle.yaml_scan_history.specs.scan_model.declared.problem.Context.TheVariants as contexts
-use Rattle.yaml_scan_history.specs.scan_model.Marks.{byte, break_of, break_width, is_blank, is_blank_or_end}
+use Rattle.yaml_scan_history.specs.scan_model.Marks.{byte}
 use Rattle.yaml_scan_history.specs.scan_model.Classes.{is_alpha_byte, is_digit_byte}
 use Rattle.yaml_scan_history.specs.scan_model.Wrong.{Wrong}
 use Rattle.yaml_scan_history.specs.scan_words.Runs.{belongs, run_end}
 use Rattle.yaml_scan_history.specs.scan_words.Anchors.{is_name_end, may_end_name, name_between, anchor_at}
-use Rattle.yaml_scan_history.specs.scan_words.Uris.{is_punctuation, is_wide_punctuation, is_uri, hex_digit, octet_of, octet_at, UriSpot, Spells, Ends, Faulty, escape_spot, octet_spot, due_behind, spot_at, with_bytes, uri_from, uri_within, uri_at, filled, some_uri_at}
-use Rattle.yaml_scan_history.specs.scan_words.Tags.{TagText, tag_end, bracketed, verbatim_at, name_end, with_handle, named_at, bare, bare_at, parts_at, may_end_tag, ended, tag_at}
-use Rattle.yaml_scan_history.proofs.MarksLemmas.{within}
-use Rattle.yaml_scan_history.proofs.PlacesLemmas.{IsFrom, run_place}
+use Rattle.yaml_scan_history.specs.scan_words.Uris.{is_punctuation, is_wide_punctuation, is_uri, hex_digit, octet_of, octet_at, UriSpot, Spells, Ends, Faulty, escape_spot, octet_spot, due_behind, spot_at, with_bytes, uri_within, uri_at, filled, some_uri_at}
+use Rattle.yaml_scan_history.specs.scan_words.Tags.{TagText, tag_end, bracketed, verbatim_at, name_end, with_handle, bare, bare_at, parts_at, may_end_tag, ended, tag_at}
+use Rattle.yaml_scan_history.proofs.PlacesLemmas.{run_place}
 use Rattle.yaml_scan_laws_windows.specs.Alike.{Alike, is_onward}
-use Rattle.yaml_scan_laws_windows.proofs.Bytes.{width_alike, end_alike, next_byte, and_alike}
-use Rattle.yaml_scan_laws_windows.proofs.Running.{RunsAlike, run_alike, range_alike}
-use Rattle.yaml_scan_laws_windows.proofs.Moving.{moved_wrong, moved_by, At, at_step}
+use Rattle.yaml_scan_laws_windows.proofs.Bytes.{end_alike, next_byte, off_cases, onward_some}
+use Rattle.yaml_scan_laws_windows.proofs.Running.{run_alike, range_alike}
+use Rattle.yaml_scan_laws_windows.proofs.Moving.{moved_by, at_step}
 use Rattle.yaml_scan_laws_windows.proofs.Plains.{left_step, byte_at}
 use Rattle.yaml_scan_laws_windows.proofs.Quotes.{moved_pair}
 
@@ -119,10 +118,6 @@ record SpotAlike (t u : List ℕ) (d m p : ℕ) (s r : UriSpot) : Type 0 where
   pub same : r ≡ moved_spot d s
   pub lies : Within t u d m p s
 
-off_cases : (b : ℕ) → is_onward b ≡ false → (b ≡ 0) ⊎ ((b ≡ 10) ⊎ (b ≡ 13))
-unfolding is_onward
-off_cases b h = grind (arith, nat_tests)
-
 no_digit : (b : ℕ) → is_onward b ≡ false → hex_digit b ≡ None
 unfolding hex_digit
 no_digit b h =
@@ -189,10 +184,6 @@ octet_spots t u d m p due (Some b) h x y = go (due_behind b due)
 percent_onward : (b : ℕ) → b ≡ 37 → is_onward b ≡ true
 unfolding is_onward
 percent_onward b h = rw h refl
-
-pub onward_some : (b : ℕ) → is_onward b ≡ true → 0 < b
-unfolding is_onward
-onward_some b h = grind (arith, nat_tests)
 
 pub letter_onward : (b : ℕ) → 32 < b → is_onward b ≡ true
 unfolding is_onward

@@ -1,12 +1,12 @@
 -- Plain scalars are the same in both texts.
-use Rattle.std.proofs.Common.{◌≡◌, ◌≢◌, ℕ, zero, suc, ◌+◌, ◌-◌, ◌<◌, ◌≤◌, ◌==◌, ◌&&◌, ◌||◌, nat_lt, if◌then◌else◌, Bool, true, false, not, List, [], ◌∷◌, length, Result, Ok, Err, refl, sym, ap, ◌∙◌, inl, inr, ◌⊎◌, arith, add-one}
-use Rattle.std.proofs.lemmas.Bool.{cases_Bool, cases_lt, and_parts, eqb-true, ltb-true, true≢false}
+use Rattle.std.proofs.Common.{◌≡◌, ℕ, zero, suc, ◌+◌, ◌-◌, ◌<◌, ◌≤◌, ◌==◌, ◌&&◌, ◌||◌, nat_lt, if◌then◌else◌, Bool, true, false, not, List, [], ◌∷◌, length, Result, Ok, Err, refl, sym, ap, ◌∙◌, inl, inr, ◌⊎◌, arith}
+use Rattle.std.proofs.lemmas.Bool.{cases_Bool, cases_lt, eqb-true, ltb-true}
 use Rattle.std.proofs.lemmas.Bool.Decides.{nat_tests}
-use Rattle.yaml_scan_history.specs.scan_model.Marks.{byte, break_of, break_width, ends_break, column_at, is_blank, is_blank_or_end}
+use Rattle.yaml_scan_history.specs.scan_model.Marks.{byte, break_of, break_width, column_at, is_blank}
 use Rattle.yaml_scan_history.specs.scan_model.Breaks.{break_value, is_document_indicator}
 use Rattle.yaml_scan_history.specs.scan_model.Wrong.{Wrong}
 use Rattle.yaml_scan_history.specs.scan_scalars.Pieces.{Piece, Kept, Blank, Break}
-use Rattle.yaml_scan_history.specs.scan_scalars.Plain.{is_bracket, is_indicator_byte, starts_plain, after_white, leads, PlainSpot, Ends, Takes, Faulty, ends_at, spot_at, Words, is_nothing, with_piece, words_from, follows, words, PlainText, plain_with, plain_text, plain_at}
+use Rattle.yaml_scan_history.specs.scan_scalars.Plain.{is_bracket, is_indicator_byte, starts_plain, after_white, leads, PlainSpot, Ends, Takes, Faulty, ends_at, spot_at, Words, is_nothing, with_piece, words_from, words, PlainText, plain_with, plain_text, plain_at}
 use Rattle.yaml_scan_history.proofs.MarksLemmas.{within}
 use Rattle.yaml_scan_laws_windows.specs.Alike.{Alike, is_onward}
 use Rattle.yaml_scan_laws_windows.proofs.Bytes.{IsQuiet, quiet_edge, quiet_break, width_alike, end_alike, next_byte, next_end, column_alike, indicator_alike, and_alike}
@@ -244,7 +244,8 @@ abbrev pub PlacedIn : ℕ → Result Words Wrong → Type 0
 PlacedIn m (Ok w) = w.place ≤ m
 PlacedIn m (Err e) = Unit {0}
 
-from_placed : (m q : ℕ) (x : Piece) (r : Result Words Wrong) → PlacedIn m r → PlacedIn m (words_from x q r)
+from_placed : (m q : ℕ) (x : Piece) (r : Result Words Wrong) → PlacedIn m r
+    → PlacedIn m (words_from x q r)
 from_placed m q (Kept bytes) (Ok w) h = h
 from_placed m q (Blank b) (Ok w) h =
     elim (cases_Bool (is_nothing w.pieces)) [

@@ -1,19 +1,18 @@
 -- Quoted scalars are the same in both texts, unless they are open where the first one ends.
-use Rattle.std.proofs.Common.{◌≡◌, ◌≢◌, ℕ, zero, suc, ◌+◌, ◌-◌, ◌*◌, ◌<◌, ◌≤◌, ◌==◌, ◌&&◌, ◌||◌, nat_lt, if◌then◌else◌, Bool, true, false, not, List, [], ◌∷◌, ◌++◌, length, Option, Some, None, option_and_then, option_map, Result, Ok, Err, refl, sym, ap, ◌∙◌, inl, inr, ◌⊎◌, arith, add-one}
-use Rattle.std.proofs.lemmas.Bool.{cases_Bool, cases_lt, and_parts, eqb-true, ltb-true, true≢false}
+use Rattle.std.proofs.Common.{◌≡◌, ◌≢◌, ℕ, zero, suc, ◌+◌, ◌*◌, ◌<◌, ◌≤◌, ◌==◌, ◌&&◌, ◌||◌, nat_lt, Bool, true, false, List, length, Option, Some, None, option_and_then, option_map, Result, Ok, Err, refl, ap, ◌∙◌, inl, inr, ◌⊎◌, arith}
+use Rattle.std.proofs.lemmas.Bool.{cases_Bool, cases_lt, and_parts, eqb-true, ltb-true}
 use Rattle.std.proofs.lemmas.Bool.Decides.{nat_tests}
 use Rattle.yaml_scan_history.specs.scan_model.declared.problem.Problem.TheVariants as problems
 use Rattle.yaml_scan_history.specs.scan_model.declared.problem.Context.TheVariants as contexts
-use Rattle.yaml_scan_history.specs.scan_model.Marks.{byte, break_of, break_width, column_at, is_blank, is_blank_or_end}
-use Rattle.yaml_scan_history.specs.scan_model.Breaks.{break_value, is_document_indicator}
+use Rattle.yaml_scan_history.specs.scan_model.Marks.{byte, break_width, column_at, is_blank, is_blank_or_end}
+use Rattle.yaml_scan_history.specs.scan_model.Breaks.{is_document_indicator}
 use Rattle.yaml_scan_history.specs.scan_model.Wrong.{Wrong}
-use Rattle.yaml_scan_history.specs.scan_scalars.Pieces.{Piece, Kept, Blank, Break, value}
-use Rattle.yaml_scan_history.specs.scan_scalars.Quoted.{Standing, Closing, Pieces, Bad, hex_digit, hex_value, hex_len, is_scalar, coded, simple_escape, escaped, escape_at, quote_at, standing_at, with_front, followed, pieces, valued, quoted_at, in_quotes}
-use Rattle.yaml_scan_history.proofs.MarksLemmas.{within}
+use Rattle.yaml_scan_history.specs.scan_scalars.Pieces.{Piece, value}
+use Rattle.yaml_scan_history.specs.scan_scalars.Quoted.{Standing, Closing, Pieces, Bad, hex_digit, hex_value, hex_len, is_scalar, coded, simple_escape, escaped, escape_at, quote_at, standing_at, with_front, pieces, valued, quoted_at, in_quotes}
 use Rattle.yaml_scan_laws_windows.specs.Alike.{Alike, is_onward}
-use Rattle.yaml_scan_laws_windows.proofs.Bytes.{IsQuiet, quiet_edge, width_alike, next_byte, indicator_alike, and_alike}
+use Rattle.yaml_scan_laws_windows.proofs.Bytes.{width_alike, next_byte, indicator_alike, off_cases, onward_some}
 use Rattle.yaml_scan_laws_windows.proofs.Moving.{moved_wrong, moved_by, At, at_step, at_break}
-use Rattle.yaml_scan_laws_windows.proofs.Plains.{value_alike, left_step, byte_at, break_first, blank_some}
+use Rattle.yaml_scan_laws_windows.proofs.Plains.{value_alike, left_step, byte_at}
 
 abbrev pub moved_standing : ℕ → Standing → Standing
 moved_standing d Closing = Closing
@@ -31,10 +30,6 @@ record StandsAlike (t u : List ℕ) (d m p : ℕ) (s r : Standing) : Type 0 wher
 
 -- ---- numbers in escapes
 
-off_cases : (b : ℕ) → is_onward b ≡ false → (b ≡ 0) ⊎ ((b ≡ 10) ⊎ (b ≡ 13))
-unfolding is_onward
-off_cases b h = grind (arith, nat_tests)
-
 no_digit : (b : ℕ) → is_onward b ≡ false → hex_digit b ≡ None
 unfolding hex_digit
 no_digit b h =
@@ -51,10 +46,6 @@ HexIn t u d m p (Some v) = (p < m) × At t u d m p
 
 abbrev with_digit : Option ℕ → Option ℕ → Option ℕ
 with_digit v digit = option_and_then (λ high. option_map (λ low. high * 16 + low) digit) v
-
-onward_some : (b : ℕ) → is_onward b ≡ true → 0 < b
-unfolding is_onward
-onward_some b h = grind (arith, nat_tests)
 
 digit_in : (t u : List ℕ) (d m p h : ℕ) → Alike t u d m → p < m → (digit : Option ℕ)
     → digit ≡ hex_digit (byte t p) → HexIn t u d m (p + 1) (with_digit (Some h) digit)
@@ -130,10 +121,10 @@ escape_alike t u d m p a l slash =
     let width : break_width u (d + p + 1) ≡ break_width t (p + 1) = rw move (width_alike t u d m (p + 1) a more) in
     elim (cases_Bool (nat_lt 0 (break_width t (p + 1)))) [
       | inl h ↦
-          let some = ltb-true _ _ h in
+          let wide : 0 < break_width t (p + 1) = ltb-true _ _ h in
           let other : nat_lt 0 (break_width u (d + p + 1)) ≡ true = ap (λ w. nat_lt 0 w) width ∙ h in
           let far : d + p + 1 + break_width t (p + 1) ≡ d + (p + 1 + break_width t (p + 1)) = omega arith in
-          rw (h, other, width, far) record { same = refl; lies = (at_break t u d m (p + 1) a more some, omega (arith, some), here, there) }
+          rw (h, other, width, far) record { same = refl; lies = (at_break t u d m (p + 1) a more wide, omega (arith, wide), here, there) }
       | inr h ↦
           let other : nat_lt 0 (break_width u (d + p + 1)) ≡ false = ap (λ w. nat_lt 0 w) width ∙ h in
           elim (cases_Bool (nat_lt 0 (hex_len (byte t (p + 1))))) [

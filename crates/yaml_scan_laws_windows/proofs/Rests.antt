@@ -1,25 +1,22 @@
 -- The lexemes of the rest are the last ones of the whole, moved.
-use Rattle.std.proofs.Common.{◌≡◌, ◌≢◌, ℕ, zero, suc, ◌+◌, ◌-◌, ◌<◌, ◌≤◌, ◌==◌, ◌&&◌, ◌||◌, nat_lt, nat_le, if◌then◌else◌, Bool, true, false, not, List, [], ◌∷◌, ◌++◌, map, filter, length, Option, Some, None, Result, Ok, Err, refl, sym, ap, subst, ◌∙◌, inl, inr, ◌⊎◌, arith}
-use Rattle.std.proofs.lemmas.Bool.{cases_Bool, cases_lt, and_parts, eqb-true, ltb-true, true≢false}
+use Rattle.std.proofs.Common.{◌≡◌, ℕ, zero, suc, ◌+◌, ◌-◌, ◌<◌, ◌≤◌, ◌==◌, ◌&&◌, nat_lt, true, false, List, [], ◌∷◌, ◌++◌, length, Some, None, Result, Ok, Err, refl, sym, ap, subst, ◌∙◌, inl, inr, ◌⊎◌, arith}
+use Rattle.std.proofs.lemmas.Bool.{cases_Bool}
 use Rattle.std.proofs.lemmas.Bool.Decides.{nat_tests}
 use Rattle.yaml_scan_history.specs.scan_model.declared.name.yaml_encoding_t.{yaml_encoding_t}
 use Rattle.yaml_scan_history.specs.scan_model.declared.record.yaml_mark_t.{yaml_mark_t}
 use Rattle.yaml_scan_history.specs.scan_model.Tokens.{TokenBody}
 use Rattle.yaml_scan_history.specs.scan_model.Marks.{byte, line_at, column_at, mark_at}
-use Rattle.yaml_scan_history.specs.scan_model.Breaks.{is_document_indicator}
 use Rattle.yaml_scan_history.specs.scan_model.Wrong.{Wrong}
-use Rattle.yaml_scan_history.specs.scan_words.Between.{gap_at}
 use Rattle.yaml_scan_history.specs.declared.kind.Kind.{Kind}
 use Rattle.yaml_scan_history.specs.declared.kind.Kind.TheVariants as kinds
 use Rattle.yaml_scan_history.specs.declared.lexeme.Lexeme.{Lexeme}
 use Rattle.yaml_scan_history.specs.Kinds.{is_end}
-use Rattle.yaml_scan_history.specs.History.{reached, depth, in_flow, Candidate, candidate, has, found_by, left_by, levels, key_allowed}
+use Rattle.yaml_scan_history.specs.History.{reached, depth, in_flow, candidate, has, found_by, levels, key_allowed}
 use Rattle.yaml_scan_history.specs.Words.{WordText, kind_at, word_at}
 use Rattle.yaml_scan_history.specs.Next.{Next, Read, Fails, Ends, first_lexeme, gap_behind, kind_behind, begun_behind, word_behind, with_end, lexeme_behind, stale_before, coming, next, extended, step, history}
 use Rattle.yaml_scan_history.specs.Remaining.{SpelledText, body_of_word, body_by, body_in}
-use Rattle.yaml_scan_history.proofs.PlacesLemmas.{IsFrom, gap_place}
+use Rattle.yaml_scan_history.proofs.PlacesLemmas.{gap_place}
 use Rattle.yaml_scan_laws_order.proofs.HistoryForward.{Stands, history_stands, not_ended}
-use Rattle.yaml_scan_laws_windows.specs.Alike.{Alike}
 use Rattle.yaml_scan_laws_windows.specs.Cuts.{IsCut}
 use Rattle.yaml_scan_laws_windows.specs.Moved.{moved_mark, moved_lexeme, moved_next}
 use Rattle.yaml_scan_laws_windows.proofs.Bytes.{IsQuiet}
@@ -30,7 +27,7 @@ use Rattle.yaml_scan_laws_windows.proofs.Words.{moved_word}
 use Rattle.yaml_scan_laws_windows.proofs.Cutting.{first_mark, rest_columns, rest_lines, rest_alike, rest_end}
 use Rattle.yaml_scan_laws_windows.proofs.Histories.{Bases, moved_lexemes}
 use Rattle.yaml_scan_laws_windows.proofs.Coming.{Pair, pair_on, Said, lexeme_there}
-use Rattle.yaml_scan_laws_windows.proofs.Stepping.{rest_said, rest_comes, IsClean, HasRead, has_read, read_kind}
+use Rattle.yaml_scan_laws_windows.proofs.Stepping.{rest_said, rest_comes, HasRead, has_read, read_kind}
 use Rattle.yaml_scan_laws_windows.proofs.Fronts.{next_open, next_over, history_more}
 use Rattle.yaml_scan_laws_windows.proofs.Marking.{IsMark, mark_lexeme, mark_reads, none_left}
 use Rattle.yaml_scan_laws_windows.proofs.Turning.{MarkStands}
@@ -44,7 +41,8 @@ pub body_same : (k : Kind) (s v : SpelledText) (l y : Lexeme) → s.encoding ≡
 body_same kinds.StreamStart s v l y e h = rw e refl
 body_same _ s v l y e h = h
 
-index_placed : (t : List ℕ) (l : Lexeme) (r : Result WordText Wrong) → (with_end t l r).start ≡ l.start
+index_placed : (t : List ℕ) (l : Lexeme) (r : Result WordText Wrong)
+    → (with_end t l r).start ≡ l.start
 index_placed t l (Err w) = refl
 index_placed t l (Ok w) =
     elim (cases_Bool (is_end l.kind)) [
@@ -52,7 +50,8 @@ index_placed t l (Ok w) =
       | inr e ↦ rw e refl
     ]
 
-pub depth_placed : (t : List ℕ) (l : Lexeme) (r : Result WordText Wrong) → (with_end t l r).depth ≡ l.depth
+pub depth_placed : (t : List ℕ) (l : Lexeme) (r : Result WordText Wrong)
+    → (with_end t l r).depth ≡ l.depth
 depth_placed t l (Err w) = refl
 depth_placed t l (Ok w) =
     elim (cases_Bool (is_end l.kind)) [
@@ -60,7 +59,8 @@ depth_placed t l (Ok w) =
       | inr e ↦ rw e refl
     ]
 
-level_placed : (t : List ℕ) (l : Lexeme) (r : Result WordText Wrong) → (with_end t l r).level ≡ l.level
+level_placed : (t : List ℕ) (l : Lexeme) (r : Result WordText Wrong)
+    → (with_end t l r).level ≡ l.level
 level_placed t l (Err w) = refl
 level_placed t l (Ok w) =
     elim (cases_Bool (is_end l.kind)) [
@@ -86,7 +86,8 @@ word_of x t H l e =
     let at : l.start.index ≡ (gap_behind t H).place = ap (λ (z : Lexeme). z.start.index) (sym e) ∙ ap (λ (m : yaml_mark_t). m.index) (index_placed t y (word_behind x t H)) ∙ start_index x t H in
     rw (depth, level, at) refl
 
-same_word : (d : ℕ) (r : Result WordText Wrong) → body_of_word (moved_by (moved_word d) d r) ≡ body_of_word r
+same_word : (d : ℕ) (r : Result WordText Wrong)
+    → body_of_word (moved_by (moved_word d) d r) ≡ body_of_word r
 same_word d (Ok w) = refl
 same_word d (Err w) = refl
 
@@ -148,7 +149,8 @@ rest_marks a b cut q = rw (rest_lines a b cut q, rest_columns a b cut q) refl
 abbrev pub whole_base : Kind → List ℕ → List ℕ → List Lexeme → List Lexeme
 whole_base K a b H = mark_lexeme K (a ++ b) (length a) ∷ H
 
-mark_candidate : (K : Kind) (body : TokenBody) → IsMark K body → (t : List ℕ) (p : ℕ) (H : List Lexeme)
+mark_candidate : (K : Kind) (body : TokenBody) → IsMark K body
+    → (t : List ℕ) (p : ℕ) (H : List Lexeme)
     (e : ℕ) → candidate e (mark_lexeme K t p ∷ H) ≡ None
 unfolding candidate
 mark_candidate K body m t p H zero = rw m.cancels refl

@@ -1,6 +1,6 @@
 -- Runs of bytes, and the texts between two places.
-use Rattle.std.proofs.Common.{◌≡◌, ◌≢◌, ℕ, zero, suc, ◌+◌, ◌-◌, ◌<◌, ◌≤◌, ◌==◌, ◌&&◌, ◌||◌, nat_lt, if◌then◌else◌, Bool, true, false, not, List, [], ◌∷◌, length, slice_range, get_or, take, drop, refl, sym, ap, ◌∙◌, inl, inr, ◌⊎◌, arith, add-one}
-use Rattle.std.proofs.lemmas.Bool.{cases_Bool, cases_lt, and_parts, eqb-true, true≢false}
+use Rattle.std.proofs.Common.{◌≡◌, ℕ, zero, suc, ◌+◌, ◌-◌, ◌<◌, ◌≤◌, ◌==◌, Bool, true, false, List, length, slice_range, get_or, take, drop, refl, sym, ap, ◌∙◌, inl, inr, arith}
+use Rattle.std.proofs.lemmas.Bool.{cases_Bool, eqb-true}
 use Rattle.std.proofs.lemmas.List.{take_more, get_or-drop, length-drop}
 use Rattle.std.proofs.lemmas.Bool.Decides.{nat_tests}
 use Rattle.yaml_scan_history.specs.scan_model.Marks.{byte, break_of, break_width, is_blank}
@@ -10,7 +10,7 @@ use Rattle.yaml_scan_history.proofs.MarksLemmas.{within}
 use Rattle.yaml_scan_history.proofs.RunsLemmas.{past_more, past_stop, text_parts, blank_parts, space_parts}
 use Rattle.yaml_scan_history.proofs.WordsRunsLemmas.{belongs_here, belongs_inside, run_more, run_stop}
 use Rattle.yaml_scan_laws_windows.specs.Alike.{Alike, is_onward}
-use Rattle.yaml_scan_laws_windows.proofs.Bytes.{IsQuiet, quiet_edge, width_alike}
+use Rattle.yaml_scan_laws_windows.proofs.Bytes.{width_alike}
 
 -- what is no break and not the end goes on
 goes_on : (b c d : ℕ) → 0 < b → break_of b c d ≡ 0 → is_onward b ≡ true

@@ -1,26 +1,21 @@
 -- The next lexeme, in each part of a text.
-use Rattle.std.proofs.Common.{◌≡◌, ◌≢◌, ℕ, zero, suc, ◌+◌, ◌-◌, ◌<◌, ◌≤◌, ◌==◌, ◌&&◌, ◌||◌, nat_lt, nat_le, if◌then◌else◌, Bool, true, false, not, List, [], ◌∷◌, ◌++◌, map, length, Option, Some, None, Result, Ok, Err, refl, sym, ap, subst, ◌∙◌, inl, inr, ◌⊎◌, arith}
-use Rattle.std.proofs.lemmas.Bool.{cases_Bool, cases_lt, and_parts, eqb-true, ltb-true, true≢false}
-use Rattle.yaml_scan_history.specs.scan_model.declared.record.yaml_mark_t.{yaml_mark_t}
+use Rattle.std.proofs.Common.{◌≡◌, ◌≢◌, ℕ, ◌+◌, ◌<◌, ◌≤◌, nat_lt, false, List, [], ◌∷◌, length, Option, Some, None, Result, Ok, Err, refl, sym, ap, subst, ◌∙◌, inl, inr, arith}
+use Rattle.std.proofs.lemmas.Bool.{cases_Bool, cases_lt, true≢false}
 use Rattle.yaml_scan_history.specs.scan_model.declared.problem.ScanFault.{ScanFault}
-use Rattle.yaml_scan_history.specs.scan_model.Marks.{byte, line_at, column_at, mark_at}
+use Rattle.yaml_scan_history.specs.scan_model.Marks.{byte, mark_at}
 use Rattle.yaml_scan_history.specs.scan_model.Breaks.{is_document_indicator}
-use Rattle.yaml_scan_history.specs.scan_model.Tokens.{TokenBody}
 use Rattle.yaml_scan_history.specs.scan_model.Wrong.{Wrong}
 use Rattle.yaml_scan_history.specs.scan_words.Between.{Gap}
 use Rattle.yaml_scan_history.specs.declared.kind.Kind.{Kind}
 use Rattle.yaml_scan_history.specs.declared.kind.Kind.TheVariants as kinds
 use Rattle.yaml_scan_history.specs.declared.lexeme.Lexeme.{Lexeme}
 use Rattle.yaml_scan_history.specs.Kinds.{is_end}
-use Rattle.yaml_scan_history.specs.History.{reached, depth, in_flow}
-use Rattle.yaml_scan_history.specs.Words.{WordText, kind_at, word_at}
-use Rattle.yaml_scan_history.specs.Next.{Next, Read, Fails, Ends, gap_behind, place_behind, kind_behind, begun_behind, word_behind, with_end, lexeme_behind, stale_before, indicator_misplaced, candidate_lost, wrong_in, text_wrong, stale_after, first_fault_or, coming, no_start}
-use Rattle.yaml_scan_history.proofs.PlacesLemmas.{IsFrom, gap_place}
+use Rattle.yaml_scan_history.specs.History.{in_flow}
+use Rattle.yaml_scan_history.specs.Words.{WordText, word_at}
+use Rattle.yaml_scan_history.specs.Next.{Read, Fails, gap_behind, place_behind, kind_behind, begun_behind, word_behind, with_end, lexeme_behind, stale_before, indicator_misplaced, candidate_lost, wrong_in, text_wrong, stale_after, first_fault_or, coming, no_start}
 use Rattle.yaml_scan_laws_order.proofs.WordForward.{Fits, FitsAny, kind_fits, LandsWord, IsWordFrom, word_lands}
-use Rattle.yaml_scan_laws_windows.specs.Alike.{Alike, is_onward}
-use Rattle.yaml_scan_laws_windows.specs.Moved.{moved_mark, moved_lexeme, moved_scan_fault, moved_next}
-use Rattle.yaml_scan_laws_windows.proofs.Moving.{moved_wrong, moved_by}
-use Rattle.yaml_scan_laws_windows.proofs.Words.{end_kind, kind_onward, moved_word, WordCarried, word_alike}
+use Rattle.yaml_scan_laws_windows.specs.Moved.{moved_mark, moved_lexeme, moved_next}
+use Rattle.yaml_scan_laws_windows.proofs.Words.{end_kind, kind_onward, WordCarried, word_alike}
 use Rattle.yaml_scan_laws_windows.proofs.Coming.{Pair, gap_there, begun_there, Said, coming_there}
 
 -- ---- the word there

@@ -1,34 +1,30 @@
 -- Where the front ends, the whole goes on with the rest's mark.
-use Rattle.std.proofs.Common.{◌≡◌, ◌≢◌, ℕ, zero, suc, ◌+◌, ◌-◌, ◌<◌, ◌≤◌, ◌==◌, ◌&&◌, ◌||◌, nat_lt, nat_le, if◌then◌else◌, Bool, true, false, not, List, [], ◌∷◌, ◌++◌, map, filter, length, Option, Some, None, Result, Ok, Err, refl, sym, ap, subst, ◌∙◌, inl, inr, ◌⊎◌, arith}
-use Rattle.std.proofs.lemmas.Bool.{cases_Bool, cases_lt, and_parts, eqb-true, ltb-true, true≢false}
-use Rattle.std.proofs.lemmas.Bool.Decides.{nat_tests}
+use Rattle.std.proofs.Common.{◌≡◌, ℕ, suc, ◌+◌, ◌≤◌, ◌==◌, ◌&&◌, ◌||◌, nat_lt, if◌then◌else◌, Bool, true, false, not, List, [], ◌∷◌, ◌++◌, length, Option, Some, None, refl, sym, ap, subst, ◌∙◌, inl, inr, ◌⊎◌, arith}
+use Rattle.std.proofs.lemmas.Bool.{cases_Bool, cases_lt, and_parts, eqb-true, true≢false}
 use Rattle.yaml_scan_history.specs.scan_model.declared.record.yaml_mark_t.{yaml_mark_t}
-use Rattle.yaml_scan_history.specs.scan_model.declared.problem.ScanFault.{ScanFault}
 use Rattle.yaml_scan_history.specs.scan_model.Tokens as tokens
 use Rattle.yaml_scan_history.specs.scan_model.Tokens.{TokenBody}
-use Rattle.yaml_scan_history.specs.scan_model.Marks.{byte, line_at, column_at, mark_at, is_blank_or_end}
+use Rattle.yaml_scan_history.specs.scan_model.Marks.{byte, column_at, mark_at, is_blank_or_end}
 use Rattle.yaml_scan_history.specs.scan_model.Breaks.{is_document_indicator}
-use Rattle.yaml_scan_history.specs.scan_words.Indicators.{is_thrice, is_document_start, is_document_end}
+use Rattle.yaml_scan_history.specs.scan_words.Indicators.{is_document_start, is_document_end}
 use Rattle.yaml_scan_history.specs.scan_words.Between.{Gap}
 use Rattle.yaml_scan_history.specs.scan_scalars.Plain.{starts_plain}
 use Rattle.yaml_scan_history.specs.declared.kind.Kind.{Kind}
 use Rattle.yaml_scan_history.specs.declared.kind.Kind.TheVariants as kinds
 use Rattle.yaml_scan_history.specs.declared.lexeme.Lexeme.{Lexeme}
-use Rattle.yaml_scan_history.specs.Kinds.{may_be_key, cancels, is_value, is_end}
-use Rattle.yaml_scan_history.specs.History.{reached, depth, in_flow, Candidate, candidate, fresh, levels, key_allowed, placed}
-use Rattle.yaml_scan_history.specs.Words.{WordText, carrying, indicator_of, or_plain, kind_at, word_at}
-use Rattle.yaml_scan_history.specs.Next.{Next, Read, Ends, first_lexeme, gap_behind, place_behind, kind_behind, begun_behind, word_behind, lexeme_behind, lost_by, colon_missing_of, stale_before, candidate_lost, coming, next}
+use Rattle.yaml_scan_history.specs.Kinds.{cancels, is_value, is_end}
+use Rattle.yaml_scan_history.specs.History.{reached, depth, in_flow, Candidate, candidate, fresh, key_allowed, placed}
+use Rattle.yaml_scan_history.specs.Words.{indicator_of, or_plain, kind_at, word_at}
+use Rattle.yaml_scan_history.specs.Next.{Read, gap_behind, place_behind, kind_behind, begun_behind, lexeme_behind, lost_by, colon_missing_of, stale_before, candidate_lost, coming, next}
 use Rattle.yaml_scan_history.proofs.MarksLemmas.{start_line}
-use Rattle.yaml_scan_history.proofs.PlacesLemmas.{IsFrom, gap_place}
+use Rattle.yaml_scan_history.proofs.PlacesLemmas.{gap_place}
 use Rattle.yaml_scan_laws_order.proofs.HistoryForward.{Stands, not_ended, first_is}
-use Rattle.yaml_scan_laws_windows.specs.Alike.{Alike}
 use Rattle.yaml_scan_laws_windows.specs.Cuts.{IsCut}
-use Rattle.yaml_scan_laws_windows.specs.Moved.{moved_mark, moved_lexeme}
-use Rattle.yaml_scan_laws_windows.proofs.Bytes.{column_alike}
+use Rattle.yaml_scan_laws_windows.specs.Moved.{moved_mark}
 use Rattle.yaml_scan_laws_windows.proofs.Words.{kind_alike}
 use Rattle.yaml_scan_laws_windows.proofs.Cutting.{cut_column, front_alike, rest_alike}
-use Rattle.yaml_scan_laws_windows.proofs.Coming.{Pair, moved_fault, mark_alike, gap_there, place_there, stale_there}
-use Rattle.yaml_scan_laws_windows.proofs.Stepping.{HasRead, has_read, read_kind, IsClean}
+use Rattle.yaml_scan_laws_windows.proofs.Coming.{moved_fault, mark_alike, gap_there, place_there, stale_there}
+use Rattle.yaml_scan_laws_windows.proofs.Stepping.{has_read, read_kind}
 use Rattle.yaml_scan_laws_windows.proofs.Fronts.{mark_zero, front_pair, next_open}
 use Rattle.yaml_scan_laws_windows.proofs.Marking.{IsMark, start_mark, end_mark, mark_lexeme, IsFree, mark_reads}
 
@@ -75,7 +71,8 @@ kind_goes flow t p h =
     (pick (is_document_end t p) kinds.DocumentEnd _ refl
     (plain_goes (indicator_of flow (is_blank_or_end t (p + 1)) (byte t p)) (starts_plain flow t p) (indicator_goes flow (is_blank_or_end t (p + 1)) (byte t p))))))
 
-end_byte : (flow : Bool) (t : List ℕ) (p : ℕ) (k : Kind) → kind_at flow t p ≡ Some k → is_end k ≡ true
+end_byte : (flow : Bool) (t : List ℕ) (p : ℕ) (k : Kind) → kind_at flow t p ≡ Some k
+    → is_end k ≡ true
     → byte t p ≡ 0
 end_byte flow t p k e end =
     elim (cases_Bool (byte t p == 0)) [

@@ -1,38 +1,35 @@
 -- The law of windows, for a scanner.
-use Rattle.std.proofs.Common.{◌≡◌, ◌≢◌, ℕ, zero, suc, ◌+◌, ◌-◌, ◌<◌, ◌≤◌, ◌==◌, ◌&&◌, ◌||◌, nat_lt, nat_le, if◌then◌else◌, Bool, true, false, not, List, [], ◌∷◌, ◌++◌, map, replicate, length, Option, Some, None, option_map, refl, sym, ap, subst, ◌∙◌, inl, inr, ◌⊎◌, arith}
-use Rattle.std.proofs.lemmas.Bool.{cases_Bool, cases_lt, true≢false}
+use Rattle.std.proofs.Common.{◌≡◌, ◌≢◌, ℕ, zero, suc, ◌+◌, ◌-◌, ◌<◌, ◌≤◌, nat_lt, true, false, List, [], ◌∷◌, ◌++◌, map, replicate, length, Option, Some, None, option_map, refl, sym, ap, subst, ◌∙◌, inl, inr, arith}
+use Rattle.std.proofs.lemmas.Bool.{cases_Bool, true≢false}
 use Rattle.std.proofs.lemmas.Grind.{flat_map-append}
-use Rattle.std.proofs.lemmas.List.{length-append, append-nil, append_assoc, map-append, map-id, same_from_push}
+use Rattle.std.proofs.lemmas.List.{append-nil, append_assoc, same_from_push}
 use Rattle.std.specs.List.{flat_map}
 use Rattle.yaml_scan_history.specs.scan_model.declared.name.yaml_encoding_t.{yaml_encoding_t}
 use Rattle.yaml_scan_history.specs.scan_model.declared.record.yaml_mark_t.{yaml_mark_t}
 use Rattle.yaml_scan_history.specs.scan_model.declared.problem.ScanFault.{ScanFault}
-use Rattle.yaml_scan_history.specs.scan_model.Problems.{scanner_fault}
-use Rattle.yaml_scan_history.specs.scan_model.Tokens.{Token, TokenBody, stream_end, block_end, zero_mark}
+use Rattle.yaml_scan_history.specs.scan_model.Tokens.{Token, TokenBody, block_end, zero_mark}
 use Rattle.yaml_scan_history.specs.scan_model.Faults.{Fault}
-use Rattle.yaml_scan_history.specs.scan_model.Marks.{line_at, column_at, mark_at}
-use Rattle.yaml_scan_history.specs.scan_model.Wrong.{Wrong}
+use Rattle.yaml_scan_history.specs.scan_model.Marks.{line_at, mark_at}
 use Rattle.yaml_scan_history.specs.declared.kind.Kind.{Kind}
 use Rattle.yaml_scan_history.specs.declared.kind.Kind.TheVariants as kinds
 use Rattle.yaml_scan_history.specs.declared.lexeme.Lexeme.{Lexeme}
 use Rattle.yaml_scan_history.specs.declared.lexeme.Entry.{Entry}
-use Rattle.yaml_scan_history.specs.Kinds.{depth_after, is_value, is_start, is_end}
-use Rattle.yaml_scan_history.specs.History.{reached, depth, ended, candidate, inside, levels, entry_of, keyed, entries}
-use Rattle.yaml_scan_history.specs.Words.{carrying, word_at}
+use Rattle.yaml_scan_history.specs.Kinds.{depth_after, is_end}
+use Rattle.yaml_scan_history.specs.History.{depth, ended, candidate, levels, entry_of, entries}
 use Rattle.yaml_scan_history.specs.Next.{Next, Read, Fails, Ends, first_lexeme, begun_behind, word_behind, lexeme_behind, no_start, place_behind, stale_before, first_fault_or, kind_behind, coming, next, extended, history, indicator_misplaced, candidate_lost, text_wrong, stale_after}
-use Rattle.yaml_scan_history.specs.Remaining.{SpelledText, body_of_word, body_by, body_in, token_in, before, start_tokens, end_tokens, spell, all, fault_in, offline, Remaining}
+use Rattle.yaml_scan_history.specs.Remaining.{SpelledText, body_of_word, body_by, body_in, token_in, start_tokens, end_tokens, spell, all, fault_in, Remaining}
 use Rattle.yaml_scan_laws_order.proofs.HistoryForward.{Stands, history_stands, first_is, not_ended, all_ends, last_is_all}
 use Rattle.yaml_scan_laws_windows.specs.Cuts.{IsCut}
-use Rattle.yaml_scan_laws_windows.specs.Moved.{moved_mark, moved_token, moved_lexeme, moved_scan_fault, moved_fault, moved_next}
-use Rattle.yaml_scan_laws_windows.specs.Laws.{scan_of, joined, WindowsAreScanned}
+use Rattle.yaml_scan_laws_windows.specs.Moved.{moved_mark, moved_token, moved_lexeme, moved_fault, moved_next}
+use Rattle.yaml_scan_laws_windows.specs.Laws.{scan_of, WindowsAreScanned}
 use Rattle.yaml_scan_laws_windows.proofs.Histories.{Bases, moved_lexemes}
-use Rattle.yaml_scan_laws_windows.proofs.Stepping.{HasRead, has_read, front_said}
+use Rattle.yaml_scan_laws_windows.proofs.Stepping.{has_read, front_said}
 use Rattle.yaml_scan_laws_windows.proofs.Fronts.{mark_zero, lexeme_zero, front_pair, next_open, history_more, EndsAt, reads_before, front_history, end_step}
 use Rattle.yaml_scan_laws_windows.proofs.Marking.{IsMark, mark_lexeme, none_left}
 use Rattle.yaml_scan_laws_windows.proofs.Turning.{MarkStands, mark_stands, Turns, turns, mark_there}
-use Rattle.yaml_scan_laws_windows.proofs.Rests.{body_same, depth_placed, carries, AllCarry, rest_base, whole_base, rest_bases, rest_next, rest_marks, Grown, grown}
-use Rattle.yaml_scan_laws_windows.proofs.Entering.{moved_entry, AllSay, Entered, entered}
-use Rattle.yaml_scan_laws_windows.proofs.Joining.{spells_moved, told, offline_told, offline_fault, Parted, parted}
+use Rattle.yaml_scan_laws_windows.proofs.Rests.{body_same, depth_placed, carries, AllCarry, rest_base, whole_base, rest_bases, rest_next, rest_marks, grown}
+use Rattle.yaml_scan_laws_windows.proofs.Entering.{moved_entry, entered}
+use Rattle.yaml_scan_laws_windows.proofs.Joining.{spells_moved, told, offline_told, offline_fault, parted}
 
 -- ---- without a fault the stream's end is read
 
@@ -166,12 +163,14 @@ end_spelled s E H m k z e =
     ∙ ap (λ y. (closings H m ++ y) ++ token_in s E ∷ []) opens
     ∙ ap (λ y. y ++ token_in s E ∷ []) (append-nil (closings H m))
 
-mark_entries : (K : Kind) (body : TokenBody) → IsMark K body → (t : List ℕ) (p : ℕ) (H : List Lexeme)
+mark_entries : (K : Kind) (body : TokenBody) → IsMark K body
+    → (t : List ℕ) (p : ℕ) (H : List Lexeme)
     → entries (mark_lexeme K t p ∷ H) ≡ entries H ++ entry_of (mark_lexeme K t p) H ∷ []
 unfolding entries
 mark_entries K body m t p H = rw m.value refl
 
-mark_spelled : (s : SpelledText) (K : Kind) (body : TokenBody) → IsMark K body → (t : List ℕ) (p : ℕ)
+mark_spelled : (s : SpelledText) (K : Kind) (body : TokenBody) → IsMark K body
+    → (t : List ℕ) (p : ℕ)
     (H : List Lexeme)
     → spell s (entry_of (mark_lexeme K t p) H) ≡ closings H (mark_at t p) ++ token_in s (mark_lexeme K t p) ∷ []
 mark_spelled s K body m t p H =
@@ -188,7 +187,8 @@ first_told : (s : SpelledText) (K : Kind) (body : TokenBody) → IsMark K body �
 unfolding entries levels candidate
 first_told s K body m b = rw (m.value, m.start) refl
 
-mark_token : (x : yaml_encoding_t) (a b : List ℕ) → IsCut a b → (K : Kind) (body : TokenBody) → IsMark K body
+mark_token : (x : yaml_encoding_t) (a b : List ℕ) → IsCut a b → (K : Kind) (body : TokenBody)
+    → IsMark K body
     → let d = length a in
     let n = line_at (a ++ b) (length a) in
     token_in (record { encoding = x; text = a ++ b }) (mark_lexeme K (a ++ b) (length a))
@@ -207,7 +207,8 @@ mark_token x a b cut K body m =
 
 -- ---- the law
 
-fault_moved : (d n : ℕ) (y : Next) → fault_in (moved_next d n y) ≡ option_map (moved_fault d n) (fault_in y)
+fault_moved : (d n : ℕ) (y : Next)
+    → fault_in (moved_next d n y) ≡ option_map (moved_fault d n) (fault_in y)
 fault_moved d n (Read l) = refl
 fault_moved d n (Fails p) = refl
 fault_moved d n Ends = refl
@@ -216,7 +217,8 @@ made : (r : Remaining) (ts : List Token) (f : Option Fault) → r.tokens ≡ ts 
     → r ≡ record { tokens = ts; fault = f }
 made r ts f e g = ap (λ (z : List Token). record { tokens = z; fault = r.fault }) e ∙ ap (λ (z : Option Fault). record { tokens = ts; fault = z }) g
 
-moved_never : (d n : ℕ) (y : Next) → ((l : Lexeme) → y ≢ Read l) → (l : Lexeme) → moved_next d n y ≢ Read l
+moved_never : (d n : ℕ) (y : Next) → ((l : Lexeme) → y ≢ Read l) → (l : Lexeme)
+    → moved_next d n y ≢ Read l
 moved_never d n (Read k) never l e = never k refl
 moved_never d n (Fails p) never l e = cc
 moved_never d n Ends never l e = cc
@@ -253,7 +255,8 @@ all_is : (t : List ℕ) → all t ≡ history t (suc (suc (length t)))
 unfolding all
 all_is t = let e : length t + 2 ≡ suc (suc (length t)) = omega arith in ap (history t) e
 
-whole : (x : yaml_encoding_t) (a b : List ℕ) → IsCut a b → (m : MarkStands false b 0) → (H : List Lexeme)
+whole : (x : yaml_encoding_t) (a b : List ℕ) → IsCut a b → (m : MarkStands false b 0)
+    → (H : List Lexeme)
     → 0 < length H → (n : ℕ) → history (a ++ b) n ≡ whole_base m.kind a b H → Whole x a b m.kind H
 whole x a b cut m H some n e =
     let g = grown x a b cut m H some n e (length b) in

@@ -1,16 +1,14 @@
 -- Lexemes of every kind are the same in both texts.
-use Rattle.std.proofs.Common.{◌≡◌, ◌≢◌, ℕ, zero, suc, ◌+◌, ◌-◌, ◌<◌, ◌≤◌, ◌==◌, ◌&&◌, ◌||◌, nat_lt, if◌then◌else◌, Bool, true, false, not, List, [], ◌∷◌, length, Option, Some, None, Result, Ok, Err, refl, sym, ap, ◌∙◌, inl, inr, ◌⊎◌, arith}
-use Rattle.std.proofs.lemmas.Bool.{cases_Bool, cases_lt, and_parts, eqb-true, ltb-true, true≢false}
-use Rattle.std.proofs.lemmas.Bool.Decides.{nat_tests}
+use Rattle.std.proofs.Common.{◌≡◌, ℕ, ◌+◌, ◌<◌, ◌==◌, ◌&&◌, ◌||◌, nat_lt, if◌then◌else◌, Bool, true, false, List, Some, None, Result, Ok, Err, refl, sym, ap, ◌∙◌, inl, inr, ◌⊎◌, arith}
+use Rattle.std.proofs.lemmas.Bool.{cases_Bool, true≢false}
 use Rattle.yaml_scan_history.specs.scan_model.declared.name.yaml_scalar_style_t.{yaml_scalar_style_t}
 use Rattle.yaml_scan_history.specs.scan_model.declared.name.yaml_scalar_style_t.TheVariants as styles
 use Rattle.yaml_scan_history.specs.scan_model.declared.problem.Context.TheVariants as contexts
 use Rattle.yaml_scan_history.specs.scan_model.Tokens as tokens
 use Rattle.yaml_scan_history.specs.scan_model.Tokens.{TokenBody}
 use Rattle.yaml_scan_history.specs.scan_model.Marks.{byte, break_of, break_width, column_at, is_blank_or_end}
-use Rattle.yaml_scan_history.specs.scan_model.Breaks.{is_document_indicator}
 use Rattle.yaml_scan_history.specs.scan_model.Wrong.{Wrong}
-use Rattle.yaml_scan_history.specs.scan_words.Indicators.{is_thrice, is_document_start, is_document_end}
+use Rattle.yaml_scan_history.specs.scan_words.Indicators.{is_document_start, is_document_end}
 use Rattle.yaml_scan_history.specs.scan_words.Anchors.{anchor_at}
 use Rattle.yaml_scan_history.specs.scan_words.Tags.{TagText, tag_at}
 use Rattle.yaml_scan_history.specs.scan_words.Directives.{DirectiveText, directive_at}
@@ -20,21 +18,17 @@ use Rattle.yaml_scan_history.specs.scan_block.Block.{BlockText, block_at, style_
 use Rattle.yaml_scan_history.specs.declared.kind.Kind.{Kind}
 use Rattle.yaml_scan_history.specs.declared.kind.Kind.TheVariants as kinds
 use Rattle.yaml_scan_history.specs.Kinds.{is_end}
-use Rattle.yaml_scan_history.specs.Words.{indicator_of, or_plain, kind_at, WordText, carrying, valued, tagged, directed, blocked, plainly, word_at}
+use Rattle.yaml_scan_history.specs.Words.{indicator_of, kind_at, WordText, carrying, valued, tagged, directed, blocked, plainly, word_at}
 use Rattle.yaml_scan_laws_windows.specs.Alike.{Alike, is_onward}
-use Rattle.yaml_scan_laws_windows.proofs.Bytes.{width_alike, end_alike, column_alike, start_alike, finish_alike, and_alike, next_end}
-use Rattle.yaml_scan_laws_windows.proofs.Moving.{moved_wrong, moved_by}
-use Rattle.yaml_scan_laws_windows.proofs.Plains.{PlainIn, moved_plain, plain_alike, starts_alike}
-use Rattle.yaml_scan_laws_windows.proofs.Quotes.{Carried, moved_pair, QuotedAlike, quoted_alike, zero_false}
-use Rattle.yaml_scan_laws_windows.proofs.Names.{PairAlike, TagAlike, moved_tag, anchor_alike, tag_alike, onward_some}
-use Rattle.yaml_scan_laws_windows.proofs.Directives.{DirectivesAlike, moved_directive, directive_alike}
-use Rattle.yaml_scan_laws_windows.proofs.Blocks.{BlocksAlike, moved_block, block_alike}
+use Rattle.yaml_scan_laws_windows.proofs.Bytes.{column_alike, start_alike, finish_alike, next_end, off_cases, off_break, onward_some}
+use Rattle.yaml_scan_laws_windows.proofs.Moving.{moved_by}
+use Rattle.yaml_scan_laws_windows.proofs.Plains.{moved_plain, plain_alike, starts_alike}
+use Rattle.yaml_scan_laws_windows.proofs.Quotes.{Carried, moved_pair, quoted_alike}
+use Rattle.yaml_scan_laws_windows.proofs.Names.{moved_tag, anchor_alike, tag_alike}
+use Rattle.yaml_scan_laws_windows.proofs.Directives.{moved_directive, directive_alike}
+use Rattle.yaml_scan_laws_windows.proofs.Blocks.{moved_block, block_alike}
 
 -- ---- kinds
-
-off_cases : (b : ℕ) → is_onward b ≡ false → (b ≡ 0) ⊎ ((b ≡ 10) ⊎ (b ≡ 13))
-unfolding is_onward
-off_cases b h = grind (arith, nat_tests)
 
 no_indicator : (flow alone : Bool) (b : ℕ) → is_onward b ≡ false → indicator_of flow alone b ≡ None
 unfolding indicator_of
@@ -96,7 +90,8 @@ no_plain flow t p h =
     or_true true = refl
     or_true false = refl
 
-no_thrice : (c z : Bool) (b x y n : ℕ) → (b == n) ≡ false → ((c && (b == n && (x == n && y == n))) && z) ≡ false
+no_thrice : (c z : Bool) (b x y n : ℕ) → (b == n) ≡ false
+    → ((c && (b == n && (x == n && y == n))) && z) ≡ false
 no_thrice true z b x y n h = rw h refl
 no_thrice false z b x y n h = refl
 
@@ -107,11 +102,6 @@ not_start t p h = no_thrice (column_at t p == 0) (is_blank_or_end t (p + 3)) (by
 not_finish : (t : List ℕ) (p : ℕ) → (byte t p == 46) ≡ false → is_document_end t p ≡ false
 unfolding is_document_end
 not_finish t p h = no_thrice (column_at t p == 0) (is_blank_or_end t (p + 3)) (byte t p) (byte t (p + 1)) (byte t (p + 2)) 46 h
-
-off_break : (b : ℕ) → (b ≡ 10) ⊎ (b ≡ 13) → is_onward b ≡ false
-unfolding is_onward
-off_break b (inl z) = rw z refl
-off_break b (inr z) = rw z refl
 
 break_kind : (flow : Bool) (t : List ℕ) (p : ℕ) → (byte t p ≡ 10) ⊎ (byte t p ≡ 13)
     → kind_at flow t p ≡ None
@@ -128,7 +118,8 @@ break_kind flow t p h =
     other b n (inl z) x y = rw z x
     other b n (inr z) x y = rw z y
 
-pub end_kind : (flow : Bool) (t : List ℕ) (p : ℕ) → byte t p ≡ 0 → kind_at flow t p ≡ Some kinds.StreamEnd
+pub end_kind : (flow : Bool) (t : List ℕ) (p : ℕ) → byte t p ≡ 0
+    → kind_at flow t p ≡ Some kinds.StreamEnd
 unfolding kind_at
 end_kind flow t p h = rw h refl
 

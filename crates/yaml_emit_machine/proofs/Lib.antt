@@ -1,5 +1,6 @@
+pub use Rattle.yaml_emit_state.proofs.Seeing
 pub mod Grammatical
-mod LaidOut
+pub mod LaidOut
 pub mod Ending
 pub mod Viewing
 pub mod Emitting
@@ -10,3 +11,5 @@ pub mod Early
 pub mod Verdicts
 pub mod Dumped
 pub mod Opened
+mod Resuming
+mod Forced

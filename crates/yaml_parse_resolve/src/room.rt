@@ -71,6 +71,30 @@ pub fn vacate(earlier: &mut yaml_event_body_t, slot: &mut yaml_token_body_t)
     }
 }
 
+/// Takes the texts out of a slot of events. That of a scalar without properties is left in a place for the room of one, where that
+/// is empty; or else the slot of the token holds one of them.
+// Inlined: mostly a comparison of the kind, or some moves.
+#[inline(always)]
+pub fn set_aside(earlier: &mut yaml_event_body_t, room: &mut Vec<u8>, slot: &mut yaml_token_body_t)
+    ensures { OwnsNothing earlier.new }
+{
+    match *earlier {
+        yaml_event_body_t::Scalar {
+            anchor: None,
+            tag: None,
+            ref mut value,
+            ..
+        } => {
+            if room.capacity() == 0 {
+                mem::swap(value, room);
+            } else {
+                hand_over(moved(value), slot);
+            }
+        }
+        _ => vacate_other(earlier, slot),
+    }
+}
+
 // The same, of another event than a scalar without properties.
 // Inlined: mostly a comparison of the kind.
 #[inline(always)]

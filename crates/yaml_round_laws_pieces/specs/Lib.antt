@@ -1,2 +1,4 @@
 pub mod Pieces
 pub mod Laws
+pub mod Layouts
+pub mod Calls

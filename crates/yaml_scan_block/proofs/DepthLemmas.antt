@@ -11,7 +11,7 @@ use Rattle.yaml_scan_model.proofs.RunsLemmas.{past-le}
 use Rattle.yaml_scan_block.specs.Lines.{in_block}
 use Rattle.yaml_scan_block.specs.Block.{larger, larger_of, deepest, column_of}
 
-larger_zero : (b : ℕ) → larger 0 b ≡ b
+pub larger_zero : (b : ℕ) → larger 0 b ≡ b
 unfolding larger
 larger_zero b = grind (arith, nat_tests)
 

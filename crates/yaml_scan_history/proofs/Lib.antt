@@ -1,5 +1,6 @@
 pub mod HistoryLemmas
 pub mod StepwiseLemmas
+mod Roles
 -- what it stands on, for crates of laws that name this one alone
 pub use Rattle.yaml_scan_decode.proofs.CompleteLemmas
 pub use Rattle.yaml_scan_decode.proofs.SpellingLemmas

@@ -1,4 +1,5 @@
 pub mod Kinds
+pub mod Roles
 pub mod History
 pub mod Words
 pub mod Next

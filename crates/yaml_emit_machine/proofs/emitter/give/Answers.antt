@@ -20,6 +20,12 @@ returns-in-Some-clause-begun c =
 pub returns-in-None-clause-begun : goal.returns-in-None-clause-begun
 returns-in-None-clause-begun c = taken_begun _ _ _ c.take.ensures.takes
 
+pub returns-in-Some-clause-last : goal.returns-in-Some-clause-last
+returns-in-Some-clause-last c = λ none. absurd (let some = ap (option_map fault_of) c.in-Some.is in let is = rw (← c.emitter.view_is) at none in cc)
+
+pub returns-in-None-clause-last : goal.returns-in-None-clause-last
+returns-in-None-clause-last c = λ none. c.take.ensures.last
+
 pub returns-in-Some-clause-blames : goal.returns-in-Some-clause-blames
 returns-in-Some-clause-blames c = blames_none _ _
 

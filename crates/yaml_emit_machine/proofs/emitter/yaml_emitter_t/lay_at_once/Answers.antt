@@ -4,6 +4,7 @@ use Rattle.yaml_parse_model.specs.Events.{body_of}
 use Rattle.yaml_emit_layout.specs.Content.{emitter_event}
 use Rattle.yaml_emit_held.specs.Held.{is_ready}
 use Rattle.yaml_emit_held.proofs.Judging.{going_notes}
+use Rattle.yaml_emit_machine.proofs.Forced.{forced_same}
 use Rattle.yaml_emit_machine.proofs.Early.{inside_gives, inside_notes_early, inside_blames_early}
 use Rattle.yaml_emit_machine.proofs.Taking.{inside_open, inside_going}
 use Rattle.yaml_emit_machine.proofs.emitter.yaml_emitter_t.lay_at_once.Goals as goal
@@ -21,6 +22,7 @@ invariant_of-self c =
       begun = λ f. absurd (false≢true (sym begun ∙ f));
       limited = c.lay_out.ensures.text.limit ∙ c.self.invariant.limited;
       running = c.self.invariant.running;
+      forced = λ off. forced_same c.self.inside.core c.lay_out.new.self c.self.inside.requested_settings c.lay_out.ensures.settings (c.self.invariant.forced begun);
       memory = λ g. c.lay_out.ensures.memory (going_notes _ _ _ g) ∙ c.self.invariant.memory (c.lay_out.ensures.text.going g);
     }
 

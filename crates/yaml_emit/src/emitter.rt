@@ -1,15 +1,16 @@
 //! The emitter.
 
-ghost use Rattle.std.specs.Prelude.{◌≡◌, ◌≤◌, ◌∷◌, [], length, Some, true, false, option_map, IfOk, IfErr};
+ghost use Rattle.std.specs.Prelude.{◌≡◌, ◌≤◌, ◌∷◌, ◌++◌, [], length, None, Some, true, false, option_map, IfOk, IfErr};
 ghost use Rattle.yaml_scan_model.specs.Faults.{Fault, fault_of, memory_fault};
 ghost use Rattle.yaml_scan_model.specs.declared.yaml_origin_t.TheVariants as from;
 ghost use Rattle.yaml_parse_model.specs.Events.{event_of};
 ghost use Rattle.yaml_parse_model.specs.Constructors.{HasUtf8};
 ghost use Rattle.yaml_emit_machine.specs.emit_layout.Content.{emitter_event};
 ghost use Rattle.yaml_emit_machine.specs.Emitter.{IsNew, IsLimited, ShowsFront, IsWhole, Answers, Stays};
+ghost use Rattle.yaml_emit_machine.specs.emit_held.Held.{AreLast};
 ghost use Rattle.yaml_emit_machine.specs.Within.{IsWithin};
 ghost use Rattle.yaml_emit_machine.specs.Verdict.{TellsOutcome};
-ghost use Rattle.yaml_emit_machine.specs.Taking.{TakesEvents, GivesText, NotesMemoryOf};
+ghost use Rattle.yaml_emit_machine.specs.Taking.{TakesEvents, GivesText, NotesMemoryOf, BlamesLevels};
 
 use std::alloc::Global;
 use yaml_emit_machine::{
@@ -197,6 +198,7 @@ pub fn yaml_emitter_emit(
     ensures takes { TakesEvents emitter.old (emitter_event (event_of event).body ∷ []) emitter.new
         [] }
     ensures memory { NotesMemoryOf (emitter_event (event_of event).body) emitter.old emitter.new }
+    ensures blames { BlamesLevels (emitter_event (event_of event).body) emitter.old emitter.new }
     ensures tells { TellsOutcome emitter.new }
     ensures answer { Answers emitter.new.fault result }
     ensures stays { Stays emitter.old emitter.new }
@@ -210,17 +212,21 @@ pub fn yaml_emitter_emit(
 }
 
 /// `yaml_emitter_emit` of an event that stays where it stands; what is left of it counts for nothing. The fault, if there
-/// is one, is the emitter's (`yaml_emitter_fault`).
+/// is one, is the emitter's (`yaml_emitter_fault`). Without one, what is held are the last events that were given.
 pub fn yaml_emitter_emit_from(emitter: &mut yaml_emitter_t, event: &mut yaml_event_t)
     requires { HasUtf8 (event_of event.old).body }
     ensures takes { TakesEvents emitter.old (emitter_event (event_of event.old).body ∷ [])
         emitter.new [] }
     ensures memory { NotesMemoryOf (emitter_event (event_of event.old).body) emitter.old
         emitter.new }
+    ensures blames { BlamesLevels (emitter_event (event_of event.old).body) emitter.old
+        emitter.new }
     ensures stays { Stays emitter.old emitter.new }
     ensures few { length emitter.new.held ≤ 3 }
     ensures opened { (emitter.new.opened ≡ emitter.old.opened)
         × (emitter.new.closed ≡ emitter.old.closed) }
+    ensures last { emitter.old.fault ≡ None → AreLast (emitter.old.held
+        ++ emitter_event (event_of event.old).body ∷ []) emitter.new.held }
 {
     give(emitter, &mut event.body);
 }
@@ -232,6 +238,8 @@ pub fn yaml_emitter_emit_early(emitter: &mut yaml_emitter_t, event: &mut yaml_ev
     requires { HasUtf8 (event_of event.old).body }
     ensures text { GivesText emitter.old (emitter_event (event_of event.old).body) emitter.new }
     ensures memory { NotesMemoryOf (emitter_event (event_of event.old).body) emitter.old
+        emitter.new }
+    ensures blames { BlamesLevels (emitter_event (event_of event.old).body) emitter.old
         emitter.new }
     ensures stays { Stays emitter.old emitter.new }
     ensures few { length emitter.new.held ≤ 3 }

@@ -3,6 +3,7 @@
 
 mod dump;
 mod emitter;
+mod resume;
 
 pub use dump::{yaml_emitter_close, yaml_emitter_dump, yaml_emitter_open};
 pub use emitter::{
@@ -12,4 +13,11 @@ pub use emitter::{
     yaml_emitter_set_canonical, yaml_emitter_set_encoding, yaml_emitter_set_indent,
     yaml_emitter_set_unicode, yaml_emitter_set_width,
 };
-pub use yaml_emit_machine::{streams_pass, yaml_emitter_state_t, yaml_emitter_t};
+pub use resume::{
+    yaml_emitter_directives, yaml_emitter_outer, yaml_emitter_resume, yaml_emitter_stand,
+};
+pub use yaml_emit_machine::{
+    Expected, Level, Phase, streams_pass, yaml_emitter_stand_t, yaml_emitter_state_t,
+    yaml_emitter_t,
+};
+pub use yaml_emit_text::{Cursor, Encoding, RequestedSettings};

@@ -1,3 +1,5 @@
 pub mod Opening
 pub mod Holding
 pub mod Judging
+mod Lasting
+pub mod Following

@@ -1,5 +1,5 @@
 -- The events that are held.
-use Rattle.std.specs.Prelude.{ℕ, Bool, true, false, not, ◌&&◌, ◌||◌, nat_le, List, [], ◌∷◌, ◌++◌, length, map, All}
+use Rattle.std.specs.Prelude.{◌≡◌, ℕ, Bool, true, false, not, ◌&&◌, ◌||◌, nat_le, List, [], ◌∷◌, ◌++◌, length, map, All}
 use Rattle.yaml_parse_model.specs.declared.yaml_event_body_t.{yaml_event_body_t}
 use Rattle.yaml_parse_model.specs.Events.{EventBody, body_of}
 use Rattle.yaml_parse_model.specs.Constructors.{HasUtf8}
@@ -129,6 +129,10 @@ is_ready (e ∷ es) = has_enough e es
 abbrev pub passes : List Event → Event → Bool
 passes [] e = is_ready (e ∷ [])
 passes (f ∷ fs) e = false
+
+-- what is held are the last of these
+abbrev pub AreLast : List Event → List Event → Type 0
+AreLast all last = (front : List Event) × (all ≡ front ++ last)
 
 -- some are held, and the oldest has what it needs, with this event behind them
 abbrev pub releases : List Event → Event → Bool

@@ -110,6 +110,18 @@ impl Held {
         }
     }
 
+    /// How many are held.
+    pub fn len(&self) -> u64
+        ensures { result ≡ length (held_events self.now) }
+    {
+        match self.count {
+            Count::Nothing => 0,
+            Count::One => 1,
+            Count::Two => 2,
+            Count::Three => 3,
+        }
+    }
+
     /// Whether none is held.
     // Inlined: one comparison.
     #[inline(always)]

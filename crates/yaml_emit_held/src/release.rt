@@ -5,7 +5,7 @@ ghost use Rattle.yaml_parse_model.specs.Events.{body_of};
 ghost use Rattle.yaml_parse_model.specs.Constructors.{HasUtf8};
 ghost use Rattle.yaml_emit_layout.specs.Content.{emitter_event};
 ghost use Rattle.yaml_emit_state.specs.Steps.{goes_on};
-ghost use Rattle.yaml_emit_held.specs.Held.{held_events, HeldUtf8, is_ready, passes, releases};
+ghost use Rattle.yaml_emit_held.specs.Held.{held_events, HeldUtf8, is_ready, passes, releases, AreLast};
 ghost use Rattle.yaml_emit_held.specs.Laying.{LaysEvents};
 
 use crate::held::Held;
@@ -39,6 +39,8 @@ fn release(core: &mut Core, held: &mut Held, event: &yaml_event_body_t)
     ensures room { length (held_events held.new) ≤ 2 }
     ensures waits { goes_on core.new.sink.status core.new.place ≡ true
         → releases (held_events held.new) (emitter_event (body_of event.now)) ≡ false }
+    ensures last { AreLast (held_events held.old) (held_events held.new) }
+    ensures settings { core.new.settings ≡ core.old.settings }
 {
     while is_due(core, held, event) {
         held.lay_oldest(core, event);
@@ -57,6 +59,9 @@ pub fn give(core: &mut Core, held: &mut Held, event: &mut yaml_event_body_t)
     ensures short { length (held_events held.new) ≤ 3 }
     ensures waits { goes_on core.new.sink.status core.new.place ≡ true
         → is_ready (held_events held.new) ≡ false }
+    ensures last { AreLast (held_events held.old ++ emitter_event (body_of event.old) ∷ [])
+        (held_events held.new) }
+    ensures settings { core.new.settings ≡ core.old.settings }
 {
     release(core, held, event);
     if passes(core, held, event) {

@@ -1,11 +1,15 @@
+pub use Rattle.yaml_emit_state.proofs.Seeing
 pub mod Grammatical
 pub mod LaidOut
 pub mod Ending
 pub mod Viewing
 pub mod Emitting
 pub mod Within
+pub mod Blaming
 pub mod Taking
 pub mod Early
 pub mod Verdicts
 pub mod Dumped
 pub mod Opened
+mod Resuming
+mod Forced

@@ -30,8 +30,9 @@ use Rattle.yaml_emit_machine.specs.Views.{emitter_of, IsEmitter}
 use Rattle.yaml_emit_machine.specs.Verdict.{verdict_by, verdict, IsLetOut, WritesBy, Writes, wrong_by, wrong, IsLaid, LaysBy, Lays, TellsOutcome}
 use Rattle.yaml_emit_machine.specs.Taking.{TakesEvents, Stuck, NotesMemory, NotesMemoryOf, ComesIntoForce}
 use Rattle.yaml_emit_machine.proofs.Viewing.{seen}
-use Rattle.yaml_emit_held.proofs.Judging.{going_open, or_some, unless_some}
-use Rattle.yaml_emit_machine.proofs.Emitting.{not_true, refusal_none, goes_going, stopped_completes, lay_completes, begin_completes}
+use Rattle.yaml_emit_machine.proofs.Blaming.{begin_first}
+use Rattle.yaml_emit_held.proofs.Judging.{going_open, goes_going, or_some, unless_some}
+use Rattle.yaml_emit_machine.proofs.Emitting.{not_true, refusal_none, stopped_completes, lay_completes, begin_completes}
 
 -- ---- one call behind another
 
@@ -316,6 +317,7 @@ inside_begins i core e s z inv fr a b f most =
       status = f.status ∙ sym was;
       held = refl;
       starved = f.starved ∙ sym (inv.memory was);
+      front = λ n x more whole k. begin_first n (emitter_of i) core (held_events i.held) i.opened i.closed (option_map fault_of i.fault) e x more whole fr (inv.begun fr).0 f' k;
       keeps = (refl, refl);
     }
 

@@ -25,6 +25,7 @@ use Rattle.yaml_emit_text.specs.declared.Status.{Status}
 use Rattle.yaml_emit_text.specs.declared.Status.TheVariants.{Going, Full, Deep, Starved}
 use Rattle.yaml_emit_text.specs.declared.RequestedSettings.{RequestedSettings}
 use Rattle.yaml_emit_text.specs.Text.{Item, encode, is_deep}
+use Rattle.yaml_emit_text.specs.Settings.{settled}
 use Rattle.yaml_emit_text.specs.Sink.{Output}
 use Rattle.yaml_emit_layout.specs.declared.Expected.{Expected}
 use Rattle.yaml_emit_layout.specs.declared.Problem.{Problem}
@@ -38,8 +39,8 @@ use Rattle.yaml_emit_state.specs.Finish.{Finishes}
 use Rattle.yaml_emit_held.specs.Judged.{refused_at}
 use Rattle.yaml_emit_graph.specs.Graph.{dumped}
 
--- How the text goes on behind the output, from the first event on. No clause of a call speaks of its parts: what it makes of the
--- events that follow is all that is said of it.
+-- How the text goes on behind the output, from the first event on. What it makes of the events that follow is all that is said of
+-- it: no clause of a call speaks of its parts, but those that hand them out and take them up again (`Resuming.antt`).
 pub record Course : Type 0 where
   -- the settings in force
   pub settings : Settings
@@ -47,6 +48,10 @@ pub record Course : Type 0 where
   pub state : State
   -- where the next character stands
   pub cursor : Cursor
+
+-- the settings in force of what was asked for, in that encoding
+abbrev pub settings_in : RequestedSettings → Encoding → Settings
+settings_in w x = record (settled w YAML_ANY_ENCODING) { encoding = x }
 
 -- What a clause sees of an emitter.
 pub record Emitter : Type 0 where

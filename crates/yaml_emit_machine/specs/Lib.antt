@@ -5,7 +5,9 @@ pub mod Laid
 pub mod Verdict
 pub mod Taking
 pub mod Dumping
+pub mod Resuming
 -- what it stands on, for crates that name this one alone
 pub use Rattle.yaml_emit_held.specs as emit_held
+pub use Rattle.yaml_emit_state.specs as emit_state
 pub use Rattle.yaml_emit_layout.specs as emit_layout
 pub use Rattle.yaml_emit_graph.specs as emit_graph

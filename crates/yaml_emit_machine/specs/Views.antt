@@ -5,7 +5,7 @@ use Rattle.yaml_emit_text.specs.declared.Status.TheVariants.{Going}
 use Rattle.yaml_emit_state.specs.Steps.{state_of, settings_of, goes_on}
 use Rattle.yaml_emit_machine.specs.declared.emitter.yaml_emitter_t.TheInside.{Inside}
 use Rattle.yaml_emit_held.specs.Held.{held_events, HeldUtf8, is_ready}
-use Rattle.yaml_emit_machine.specs.Emitter.{Emitter, refusal_by}
+use Rattle.yaml_emit_machine.specs.Emitter.{Emitter, refusal_by, settings_in}
 
 abbrev pub emitter_of : Inside → Emitter
 emitter_of e = record {
@@ -39,4 +39,7 @@ pub record IsEmitter (e : Inside) : Type 0 where
       × ((e.core.sink.bytes ≡ []) × (e.core.sink.status ≡ Going)))
   pub limited : e.core.sink.limit ≡ e.limit
   pub running : e.opened ≡ true → e.fresh ≡ false
+  -- from the first event on the settings are those that were asked for
+  pub forced : e.fresh ≡ false
+      → settings_of e.core ≡ settings_in e.requested_settings e.core.sink.encoding
   pub memory : e.core.sink.status ≡ Going → e.core.starved ≡ false

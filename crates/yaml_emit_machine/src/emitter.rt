@@ -1,19 +1,22 @@
 //! The emitter.
 
-ghost use Rattle.std.specs.Prelude.{◌≡◌, ◌≤◌, ◌∷◌, [], length, Some, None, true, false, option_map, OnErr};
+ghost use Rattle.std.specs.Prelude.{◌≡◌, ◌≤◌, ◌∷◌, ◌++◌, [], length, Some, None, true, false, option_map, OnErr};
 ghost use Rattle.yaml_scan_model.specs.Faults.{Fault, fault_of};
 ghost use Rattle.yaml_parse_model.specs.Events.{body_of};
 ghost use Rattle.yaml_parse_model.specs.Constructors.{HasUtf8};
 ghost use Rattle.yaml_emit_layout.specs.Content.{emitter_event};
 ghost use Rattle.yaml_emit_machine.specs.Emitter.{stream_encoding, IsNew, IsLimited, ShowsFront, IsWhole, Answers, Stays};
+ghost use Rattle.yaml_emit_held.specs.Held.{AreLast};
 ghost use Rattle.yaml_emit_machine.specs.Within.{IsWithin};
 ghost use Rattle.yaml_emit_machine.specs.Verdict.{TellsOutcome};
-ghost use Rattle.yaml_emit_machine.specs.Taking.{TakesEvents, GivesText, LaysAtOnce, Stuck, NotesMemoryOf, ComesIntoForce};
+ghost use Rattle.yaml_emit_machine.specs.Taking.{TakesEvents, GivesText, LaysAtOnce, Stuck, NotesMemoryOf, BlamesLevels, ComesIntoForce};
 
 mod dump;
+mod resume;
 
 use crate::fault::note;
 pub use dump::dump_document;
+pub use resume::{directives, outer, resumed, stand};
 use std::alloc::Global;
 use std::marker::Model;
 use yaml_emit_held::Held;
@@ -203,8 +206,11 @@ impl yaml_emitter_t {
         requires begun { self.old.fresh ≡ false }
         ensures takes { TakesEvents self.old (emitter_event (body_of event.old) ∷ []) self.new [] }
         ensures memory { NotesMemoryOf (emitter_event (body_of event.old)) self.old self.new }
+        ensures blames { BlamesLevels (emitter_event (body_of event.old)) self.old self.new }
         ensures few { length self.new.held ≤ 3 }
         ensures opened { (self.new.opened ≡ self.old.opened) × (self.new.closed ≡ self.old.closed) }
+        ensures last { AreLast (self.old.held ++ emitter_event (body_of event.old) ∷ [])
+            self.new.held }
     {
         yaml_emit_held::give(&mut self.core, &mut self.held, event);
         note(&self.core, &mut self.fault);
@@ -230,6 +236,7 @@ impl yaml_emitter_t {
         requires once { LaysAtOnce self.old }
         ensures text { GivesText self.old (emitter_event (body_of event.old)) self.new }
         ensures memory { NotesMemoryOf (emitter_event (body_of event.old)) self.old self.new }
+        ensures blames { BlamesLevels (emitter_event (body_of event.old)) self.old self.new }
         ensures few { self.new.held ≡ [] }
         ensures begun { self.new.fresh ≡ false }
         ensures opened { (self.new.opened ≡ self.old.opened) × (self.new.closed ≡ self.old.closed) }
@@ -245,8 +252,11 @@ impl yaml_emitter_t {
         requires right { self.old.fault ≡ None }
         ensures takes { TakesEvents self.old (emitter_event (body_of event.old) ∷ []) self.new [] }
         ensures memory { NotesMemoryOf (emitter_event (body_of event.old)) self.old self.new }
+        ensures blames { BlamesLevels (emitter_event (body_of event.old)) self.old self.new }
         ensures few { length self.new.held ≤ 3 }
         ensures opened { (self.new.opened ≡ self.old.opened) × (self.new.closed ≡ self.old.closed) }
+        ensures last { AreLast (self.old.held ++ emitter_event (body_of event.old) ∷ [])
+            self.new.held }
     {
         if self.fresh {
             self.begin(event);
@@ -282,11 +292,14 @@ pub fn give(emitter: &mut yaml_emitter_t, event: &mut yaml_event_body_t)
     ensures takes { TakesEvents emitter.old (emitter_event (body_of event.old) ∷ []) emitter.new
         [] }
     ensures memory { NotesMemoryOf (emitter_event (body_of event.old)) emitter.old emitter.new }
+    ensures blames { BlamesLevels (emitter_event (body_of event.old)) emitter.old emitter.new }
     ensures stays { Stays emitter.old emitter.new }
     ensures few { length emitter.new.held ≤ 3 }
     ensures opened { (emitter.new.opened ≡ emitter.old.opened)
         × (emitter.new.closed ≡ emitter.old.closed) }
     ensures begun { emitter.new.fresh ≡ false }
+    ensures last { emitter.old.fault ≡ None → AreLast (emitter.old.held
+        ++ emitter_event (body_of event.old) ∷ []) emitter.new.held }
 {
     match emitter.fault {
         Some(_) => (),
@@ -304,6 +317,7 @@ pub fn give_early(emitter: &mut yaml_emitter_t, event: &mut yaml_event_body_t)
     requires { HasUtf8 (body_of event.old) }
     ensures text { GivesText emitter.old (emitter_event (body_of event.old)) emitter.new }
     ensures memory { NotesMemoryOf (emitter_event (body_of event.old)) emitter.old emitter.new }
+    ensures blames { BlamesLevels (emitter_event (body_of event.old)) emitter.old emitter.new }
     ensures stays { Stays emitter.old emitter.new }
     ensures few { length emitter.new.held ≤ 3 }
     ensures opened { (emitter.new.opened ≡ emitter.old.opened)
@@ -322,6 +336,7 @@ pub fn give_over(emitter: &mut yaml_emitter_t, event: yaml_event_body_t)
     requires { HasUtf8 (body_of event) }
     ensures takes { TakesEvents emitter.old (emitter_event (body_of event) ∷ []) emitter.new [] }
     ensures memory { NotesMemoryOf (emitter_event (body_of event)) emitter.old emitter.new }
+    ensures blames { BlamesLevels (emitter_event (body_of event)) emitter.old emitter.new }
     ensures stays { Stays emitter.old emitter.new }
     ensures few { length emitter.new.held ≤ 3 }
     ensures opened { (emitter.new.opened ≡ emitter.old.opened)
@@ -338,6 +353,7 @@ pub fn emit(emitter: &mut yaml_emitter_t, event: yaml_event_body_t) -> Result<()
     requires { HasUtf8 (body_of event) }
     ensures takes { TakesEvents emitter.old (emitter_event (body_of event) ∷ []) emitter.new [] }
     ensures memory { NotesMemoryOf (emitter_event (body_of event)) emitter.old emitter.new }
+    ensures blames { BlamesLevels (emitter_event (body_of event)) emitter.old emitter.new }
     ensures answer { Answers emitter.new.fault result }
     ensures tells { TellsOutcome emitter.new }
     ensures stays { Stays emitter.old emitter.new }

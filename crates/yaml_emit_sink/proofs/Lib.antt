@@ -2,3 +2,4 @@ pub mod Sinks
 mod Encodes
 mod Ascii
 mod Lines
+mod Columns

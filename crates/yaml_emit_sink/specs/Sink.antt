@@ -1,5 +1,5 @@
 -- What an output has of a text, and what is still to come of it.
-use Rattle.std.specs.Prelude.{◌≡◌, ◌≢◌, ℕ, ◌<◌, ◌≤◌, Bool, true, List, ◌∷◌, ◌++◌, length, take}
+use Rattle.std.specs.Prelude.{◌≡◌, ◌≢◌, ℕ, ◌+◌, ◌^◌, ◌<◌, ◌≤◌, Bool, true, List, ◌∷◌, ◌++◌, length, take}
 use Rattle.std.specs.Vec.{vec_capacity}
 use Rattle.yaml_emit_sink.specs.declared.cursor.Cursor.{Cursor}
 use Rattle.yaml_emit_sink.specs.declared.sink.Sink.TheInside.{Inside}
@@ -28,11 +28,13 @@ output_of s = record {
   cursor = s.cursor;
 }
 
--- no more bytes than the limit, and no more columns than bytes; up to its fast limit an output goes on, a character in ASCII is a byte, and
+-- no more bytes than the limit, and no more columns than bytes behind the column in which the output begins; up to its fast limit an output goes on, a character in ASCII is a byte, and
 -- nothing has to grow
 pub record IsSink (s : Inside) : Type 0 where
   pub within : length s.output.items ≤ s.limit
-  pub narrow : s.cursor.column ≤ length s.output.items
+  pub narrow : s.cursor.column ≤ s.base + length s.output.items
+  pub low : s.base < 2 ^ 62
+  pub wide : 0 < s.base → s.limit ≤ 2 ^ 62
   pub fast_limit : 0 < s.fast_limit → (s.fast_limit ≤ s.limit)
       × ((s.status ≡ Going) × (s.encoding ≡ Utf8))
   pub room : s.fast_limit ≤ vec_capacity s.output

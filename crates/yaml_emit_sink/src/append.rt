@@ -191,7 +191,7 @@ pub(crate) fn append_char(output: &mut Vec<u8>, limit: u64, encoding: Encoding, 
 
 // A column further, or at the start of a line.
 fn next_column(ends: bool, column: u64) -> u64
-    requires { column < 2 ^ 63 }
+    requires { column + 1 < 2 ^ 64 }
     ensures { result ≡ (if ends then 0 else column + 1) }
 {
     if ends { 0 } else { column + 1 }
@@ -199,7 +199,7 @@ fn next_column(ends: bool, column: u64) -> u64
 
 // The cursor comes behind a character.
 pub(crate) fn moved(at: &mut Cursor, ends: bool, white: bool, bare: bool)
-    requires { at.old.column < 2 ^ 63 }
+    requires { at.old.column + 1 < 2 ^ 64 }
     ensures { at.new ≡ moved at.old ends white bare }
 {
     at.column = next_column(ends, at.column);

@@ -25,6 +25,8 @@ pub struct Sink {
     encoding: Encoding,
     status: Status,
     cursor: Cursor,
+    /// The column in which the output begins.
+    base: u64,
     /// While the output has fewer bytes than these, it goes on, a character in ASCII is one byte more, and nothing has to grow
     /// for it.
     fast_limit: u64,
@@ -108,6 +110,30 @@ impl Sink {
                 bare: true,
                 kept: false,
             },
+            base: 0,
+            fast_limit: 0,
+        }
+    }
+
+    /// An empty output that goes on in a line: its first character stands at that cursor.
+    pub fn resumed(alloc: Global, limit: u64, encoding: Encoding, cursor: Cursor) -> Sink
+        requires column { cursor.column < 2 ^ 62 }
+        requires limit { limit ≤ 2 ^ 62 }
+        ensures { result ≡ record {
+          bytes = [];
+          limit = limit;
+          encoding = encoding;
+          status = Status.Going;
+          cursor = cursor;
+        } }
+    {
+        Sink {
+            output: Vec::new(alloc),
+            limit,
+            encoding,
+            status: Status::Going,
+            cursor,
+            base: cursor.column,
             fast_limit: 0,
         }
     }
@@ -127,6 +153,7 @@ impl Sink {
     }
 
     /// Where the next character stands.
+    #[tactic(auto, using(crate::proofs::Columns::narrow_column))]
     pub fn cursor(&self) -> Cursor
         ensures value { result ≡ self.now.cursor }
         ensures narrow { result.column < 2 ^ 63 }

@@ -1,7 +1,7 @@
 //! The open collections.
 ghost use Rattle.std.specs.Prelude.{◌≡◌, ◌∷◌, [], None, Some, OnOk};
 ghost use Rattle.yaml_emit_layout.specs.State.{top_of, outer_of, levels_behind, phase_behind};
-ghost use Rattle.yaml_emit_state.specs.Stack.{stack_of};
+ghost use Rattle.yaml_emit_state.specs.Stack.{stack, stack_of};
 
 use std::alloc::{AllocError, Global};
 use yaml_emit_layout::{Level, Phase};
@@ -22,6 +22,20 @@ impl Levels {
             top: None,
             outer: Vec::new(alloc),
         }
+    }
+
+    /// The innermost collection, and those round it, the outermost first; with none that is innermost, none is open.
+    pub fn of(top: Option<Level>, outer: Vec<Level>) -> Levels
+        ensures { stack_of result ≡ stack top outer.items }
+    {
+        Levels { top, outer }
+    }
+
+    /// Those round the innermost one, the outermost first.
+    pub fn outer(&self) -> &[Level]
+        ensures { stack (top_of (stack_of self.now)) result.now ≡ stack_of self.now }
+    {
+        &self.outer
     }
 
     /// The innermost one.

@@ -12,4 +12,4 @@ mod levels;
 mod nodes;
 mod state;
 
-pub use state::Core;
+pub use state::{Core, yaml_emitter_stand_t};

@@ -6,12 +6,14 @@ ghost use Rattle.yaml_emit_text.specs.Tame.{IsTame};
 
 mod event;
 mod moves;
+mod resume;
 
 use crate::given::{Context, Scalar, Where};
 use crate::judge::problem_of;
 use crate::keys::{is_simple, is_simple_alias, is_simple_key};
 use crate::levels::Levels;
 use event::{put_alias_node, put_event, put_scalar_node};
+pub use resume::yaml_emitter_stand_t;
 use std::alloc::{AllocError, Global};
 use yaml_emit_layout::Expected;
 use yaml_emit_tags::DirectiveTable;

@@ -122,6 +122,13 @@ impl DirectiveTable {
         *self.list.allocator()
     }
 
+    /// The directives, in their order.
+    pub fn list(&self) -> &[yaml_tag_directive_t]
+        ensures { map directive_of result.now ≡ self.now }
+    {
+        &self.list
+    }
+
     /// None is left.
     pub fn clear(&mut self)
         ensures { self.new ≡ [] }

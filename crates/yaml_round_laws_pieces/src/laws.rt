@@ -1,5 +1,6 @@
 //! Each function's contract is a law.
 
+ghost use Rattle.yaml_round_laws_pieces.specs.Calls.{CallsAreWholes};
 ghost use Rattle.yaml_round_laws_pieces.specs.Laws.{StandsAreThere, CuttingsAreWholes, CutsAreThere, FrontsAreShown, StandInsStand, BlocksStandByLevels, DocumentsStandByEnds};
 ghost use Rattle.yaml_round_laws_pieces.specs.Layouts.{StreamsAreLayouts, FrontsAreOfLayouts, AllIsOfLayouts, WrongAddNothing};
 
@@ -23,15 +24,6 @@ pub fn fronts_are_shown()
     ensures { FrontsAreShown }
 {}
 
-/// What is written for events is said by the trees of the streams that they begin: the layout of a whole stream, and fronts of it for
-/// its first events; a wrong event and those behind it add nothing.
-pub fn texts_are_of_layouts()
-    ensures streams { StreamsAreLayouts }
-    ensures fronts { FrontsAreOfLayouts }
-    ensures all { AllIsOfLayouts }
-    ensures wrong { WrongAddNothing }
-{}
-
 /// What follows adds the same behind events and behind others that lead to a stand that is alike.
 pub fn stand_ins_stand()
     ensures { StandInsStand }
@@ -45,4 +37,18 @@ pub fn blocks_stand_by_levels()
 /// In front of a document it counts how the last one ended, and not whether its breaks are kept.
 pub fn documents_stand_by_ends()
     ensures { DocumentsStandByEnds }
+{}
+
+/// What is written for events is said by the trees of the streams that they begin: the layout of a whole stream, and fronts of it for
+/// its first events; a wrong event and those behind it add nothing.
+pub fn texts_are_of_layouts()
+    ensures streams { StreamsAreLayouts }
+    ensures fronts { FrontsAreOfLayouts }
+    ensures all { AllIsOfLayouts }
+    ensures wrong { WrongAddNothing }
+{}
+
+/// The texts of an emitter's calls, each of which goes on where the one before it ended, are the text of the whole.
+pub fn calls_are_wholes()
+    ensures { CallsAreWholes }
 {}

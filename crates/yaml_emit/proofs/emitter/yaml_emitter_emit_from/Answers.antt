@@ -14,3 +14,9 @@ returns-clause-few c = c.give.ensures.few
 
 pub returns-clause-opened : goal.returns-clause-opened
 returns-clause-opened c = c.give.ensures.opened
+
+pub returns-clause-last : goal.returns-clause-last
+returns-clause-last c = c.give.ensures.last
+
+pub returns-clause-blames : goal.returns-clause-blames
+returns-clause-blames c = c.give.ensures.blames

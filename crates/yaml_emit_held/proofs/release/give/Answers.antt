@@ -1,7 +1,8 @@
 use Rattle.std.proofs.Common.{sym, ◌∙◌, arith}
 use Rattle.std.proofs.lemmas.Bool.{and_parts}
 use Rattle.yaml_emit_held.proofs.Holding.{few_short, pushed_most, both_false, passed_waits, pushed_waits}
-use Rattle.yaml_emit_held.proofs.Judging.{lays_past, lays_held}
+use Rattle.yaml_emit_held.proofs.Following.{lays_past, lays_held}
+use Rattle.yaml_emit_held.proofs.Lasting.{last_passed, last_pushed}
 use Rattle.yaml_emit_held.proofs.release.give.Goals as goal
 
 pub release-requires-clause-most : goal.release-requires-clause-most
@@ -29,3 +30,15 @@ returns-else-passes-clause-short c = pushed_most _ _ _ c.push.ensures.events c.r
 
 pub returns-else-passes-clause-waits : goal.returns-else-passes-clause-waits
 returns-else-passes-clause-waits c = λ g. pushed_waits _ _ _ c.push.ensures.events (c.release.ensures.waits g) (both_false _ _ g (sym c.passes.ensures ∙ c.if-passes.false))
+
+pub returns-then-passes-clause-last : goal.returns-then-passes-clause-last
+returns-then-passes-clause-last c = last_passed _ _ _ (and_parts _ _ (sym c.passes.ensures ∙ c.if-passes.true)).0
+
+pub returns-else-passes-clause-last : goal.returns-else-passes-clause-last
+returns-else-passes-clause-last c = last_pushed _ _ _ _ c.release.ensures.last c.push.ensures.events
+
+pub returns-then-passes-clause-settings : goal.returns-then-passes-clause-settings
+returns-then-passes-clause-settings c = c.lay_out.ensures.settings ∙ c.release.ensures.settings
+
+pub returns-else-passes-clause-settings : goal.returns-else-passes-clause-settings
+returns-else-passes-clause-settings c = c.release.ensures.settings

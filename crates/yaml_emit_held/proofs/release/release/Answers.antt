@@ -1,14 +1,15 @@
 use Rattle.std.proofs.Common.{sym, refl, ◌∙◌}
 use Rattle.std.proofs.lemmas.Bool.{and_parts}
 use Rattle.yaml_emit_held.proofs.Holding.{both_false, less_most, one_less, one_gone, released_ready, room_held}
-use Rattle.yaml_emit_held.proofs.Judging.{lays_none, lays_more}
+use Rattle.yaml_emit_held.proofs.Following.{lays_none, lays_more}
+use Rattle.yaml_emit_held.proofs.Lasting.{last_none, last_less}
 use Rattle.yaml_emit_held.proofs.release.release.Goals as goal
 
 pub lay_oldest-requires-clause-ready : goal.lay_oldest-requires-clause-ready
 lay_oldest-requires-clause-ready c = (and_parts _ _ (sym c.is_due.ensures ∙ c.loop-held-test.true)).0
 
 pub loop-held-init : goal.loop-held-init
-loop-held-init c = record { lays = lays_none _ _; utf8 = c.requires.utf8; most = c.requires.most; short = λ off. absurd (let on = c.requires.going in cc) }
+loop-held-init c = record { lays = lays_none _ _; utf8 = c.requires.utf8; last = last_none _; settings = refl; most = c.requires.most; short = λ off. absurd (let on = c.requires.going in cc) }
 
 pub loop-held-preserved : goal.loop-held-preserved
 loop-held-preserved c =
@@ -16,6 +17,8 @@ loop-held-preserved c =
     record {
       lays = lays_more _ _ _ _ _ _ _ _ c.loop-held.invariant.lays (one_gone _ _ _ _ c.lay_oldest.ensures.events) (and_parts _ _ due).1 (released_ready _ _ (and_parts _ _ due).0) refl c.lay_oldest.ensures.laid;
       utf8 = c.lay_oldest.ensures.utf8;
+      last = last_less _ _ _ _ c.loop-held.invariant.last c.lay_oldest.ensures.events;
+      settings = c.lay_oldest.ensures.laid.settings ∙ c.loop-held.invariant.settings;
       most = less_most _ _ _ c.lay_oldest.ensures.events c.loop-held.invariant.most;
       short = λ off. one_less _ _ _ c.lay_oldest.ensures.events c.loop-held.invariant.most;
     }
@@ -25,3 +28,9 @@ returns-clause-waits c = λ g. both_false _ _ g (sym c.is_due.ensures ∙ c.loop
 
 pub returns-clause-room : goal.returns-clause-room
 returns-clause-room c = room_held _ _ _ (sym c.is_due.ensures ∙ c.loop-held-test.false) c.loop-held.invariant.short c.loop-held.invariant.most
+
+pub returns-clause-last : goal.returns-clause-last
+returns-clause-last c = c.loop-held.invariant.last
+
+pub returns-clause-settings : goal.returns-clause-settings
+returns-clause-settings c = c.loop-held.invariant.settings

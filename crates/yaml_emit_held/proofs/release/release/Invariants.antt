@@ -2,7 +2,7 @@ use Rattle.std.proofs.Common.{◌≡◌, ◌≤◌, [], ◌∷◌, ◌++◌, fal
 use Rattle.yaml_parse_model.specs.Events.{body_of}
 use Rattle.yaml_emit_layout.specs.Content.{emitter_event}
 use Rattle.yaml_emit_state.specs.Steps.{goes_on}
-use Rattle.yaml_emit_held.specs.Held.{held_events, HeldUtf8}
+use Rattle.yaml_emit_held.specs.Held.{held_events, HeldUtf8, AreLast}
 use Rattle.yaml_emit_held.specs.Laying.{LaysEvents}
 use Rattle.yaml_emit_held.proofs.release.release.Given as goal
 
@@ -13,6 +13,8 @@ invariant-loop-held l = record {
       (held_events l.held ++ emitter_event (body_of l.event) ∷ []);
   utf8 : HeldUtf8 l.held;
   most : length (held_events l.held) ≤ 3;
+  last : AreLast (held_events l.initial.held) (held_events l.held);
+  settings : l.core.settings ≡ l.initial.core.settings;
   short : goes_on l.core.sink.status l.core.place ≡ false → length (held_events l.held) ≤ 2;
 }
 

@@ -2,6 +2,7 @@ use Rattle.std.proofs.Common.{◌≡◌, [], false, ap, option_map}
 use Rattle.yaml_scan_model.specs.Faults.{fault_of}
 use Rattle.yaml_emit_machine.proofs.Emitting.{not_true}
 use Rattle.yaml_emit_machine.proofs.Taking.{inside_stuck, taken_begun}
+use Rattle.yaml_emit_machine.proofs.Blaming.{blames_none}
 use Rattle.yaml_emit_machine.proofs.emitter.give.Goals as goal
 
 pub returns-in-Some-clause-takes : goal.returns-in-Some-clause-takes
@@ -18,3 +19,15 @@ returns-in-Some-clause-begun c =
 
 pub returns-in-None-clause-begun : goal.returns-in-None-clause-begun
 returns-in-None-clause-begun c = taken_begun _ _ _ c.take.ensures.takes
+
+pub returns-in-Some-clause-last : goal.returns-in-Some-clause-last
+returns-in-Some-clause-last c = λ none. absurd (let some = ap (option_map fault_of) c.in-Some.is in let is = rw (← c.emitter.view_is) at none in cc)
+
+pub returns-in-None-clause-last : goal.returns-in-None-clause-last
+returns-in-None-clause-last c = λ none. c.take.ensures.last
+
+pub returns-in-Some-clause-blames : goal.returns-in-Some-clause-blames
+returns-in-Some-clause-blames c = blames_none _ _
+
+pub returns-in-None-clause-blames : goal.returns-in-None-clause-blames
+returns-in-None-clause-blames c = c.take.ensures.blames

@@ -13,5 +13,6 @@ invariant_of-result c = record {
   begun = λ f. (c.nothing.ensures.events, (refl, (c.new.ensures.fresh.output, c.new.ensures.fresh.status)));
   limited = c.new.ensures.limit;
   running = λ o. absurd (cc);
+  forced = λ off. absurd (cc);
   memory = λ g. c.new.ensures.fresh.starved;
 }

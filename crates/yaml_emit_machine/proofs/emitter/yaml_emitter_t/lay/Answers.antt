@@ -2,8 +2,10 @@ use Rattle.std.proofs.Common.{None, refl, ◌∙◌, sym}
 use Rattle.std.proofs.lemmas.Bool.{false≢true}
 use Rattle.yaml_parse_model.specs.Events.{body_of}
 use Rattle.yaml_emit_layout.specs.Content.{emitter_event}
-use Rattle.yaml_emit_held.proofs.Judging.{lays_unnoted}
+use Rattle.yaml_emit_held.proofs.Following.{lays_unnoted}
 use Rattle.yaml_emit_machine.proofs.Taking.{inside_takes, inside_notes, inside_going}
+use Rattle.yaml_emit_machine.proofs.Forced.{forced_same}
+use Rattle.yaml_emit_machine.proofs.Blaming.{inside_blames}
 use Rattle.yaml_emit_machine.proofs.emitter.yaml_emitter_t.lay.Goals as goal
 
 pub invariant_of-self : goal.invariant_of-self
@@ -17,6 +19,7 @@ invariant_of-self c =
       begun = λ f. absurd (false≢true (sym fr ∙ f));
       limited = c.give.ensures.lays.limit ∙ c.self.invariant.limited;
       running = c.self.invariant.running;
+      forced = λ off. forced_same c.self.inside.core c.give.new.core c.self.inside.requested_settings c.give.ensures.settings (c.self.invariant.forced fr);
       memory = lays_unnoted _ _ _ _ c.give.ensures.lays c.self.invariant.memory;
     }
 
@@ -28,3 +31,11 @@ returns-clause-takes c =
 
 pub returns-clause-memory : goal.returns-clause-memory
 returns-clause-memory c = rw (← c.self.view_is) (inside_notes c.self.inside c.give.new.core c.self.inside.held c.give.new.held None (emitter_event (body_of c.args.event.now)) refl c.give.ensures.lays)
+
+pub returns-clause-last : goal.returns-clause-last
+returns-clause-last c = rw (← c.self.view_is) c.give.ensures.last
+
+pub returns-clause-blames : goal.returns-clause-blames
+returns-clause-blames c =
+    let fr = rw (← c.self.view_is) at c.requires.begun in
+    rw (← c.self.view_is) (inside_blames c.self.inside c.give.new.core c.give.new.held None (emitter_event (body_of c.args.event.now)) fr c.give.ensures.lays)

@@ -1,8 +1,9 @@
 use Rattle.std.proofs.Common.{◌∙◌, None, sym}
 use Rattle.std.proofs.lemmas.Bool.{false≢true}
 use Rattle.yaml_emit_text.specs.Layout.{stay}
-use Rattle.yaml_emit_machine.proofs.Emitting.{goes_going}
+use Rattle.yaml_emit_held.proofs.Judging.{goes_going}
 use Rattle.yaml_emit_machine.proofs.Dumped.{inside_starves, inside_starves_notes}
+use Rattle.yaml_emit_machine.proofs.Forced.{forced_same}
 use Rattle.yaml_emit_machine.proofs.emitter.yaml_emitter_t.starve.Goals as goal
 
 pub invariant_of-self : goal.invariant_of-self
@@ -16,6 +17,7 @@ invariant_of-self c =
       begun = λ f. absurd (false≢true (sym fr ∙ f));
       limited = (c.starve.ensures.text stay).limit ∙ c.self.invariant.limited;
       running = c.self.invariant.running;
+      forced = λ off. forced_same c.self.inside.core c.starve.new.self c.self.inside.requested_settings c.starve.ensures.settings (c.self.invariant.forced fr);
       memory = λ g. absurd (c.starve.ensures.stopped g);
     }
 

@@ -1,0 +1,65 @@
+//! An emitter that goes on from where another one stood.
+
+ghost use Rattle.std.specs.Prelude.{◌≡◌, ◌≤◌, ◌<◌, ◌^◌, map, None, IfOk, IfErr};
+ghost use Rattle.yaml_scan_model.specs.Faults.{fault_of, memory_fault};
+ghost use Rattle.yaml_scan_model.specs.declared.yaml_origin_t.TheVariants as from;
+ghost use Rattle.yaml_parse_model.specs.Events.{directive_of};
+ghost use Rattle.yaml_emit_machine.specs.emit_layout.State.{top_of};
+ghost use Rattle.yaml_emit_machine.specs.emit_state.Stack.{stack};
+ghost use Rattle.yaml_emit_machine.specs.emit_held.Judged.{refused_at};
+ghost use Rattle.yaml_emit_machine.specs.Resuming.{resumed, StandsAt};
+
+use std::alloc::Global;
+use yaml_emit_machine::{
+    Level, directives, outer, resumed, stand, yaml_emitter_stand_t, yaml_emitter_t,
+};
+use yaml_emit_text::RequestedSettings;
+use yaml_scan_model::{yaml_fault_t, yaml_memory_fault, yaml_origin_t, yaml_tag_directive_t};
+
+/// An emitter that goes on from where another one stood: that stand, the open collections round the innermost one, the outermost
+/// first, and the document's directives. Its text is what is written from there on, of at most `limit` bytes. The settings are those
+/// that were asked for, but for the encoding, which is the stand's; no event is held, so that those that waited are to be given
+/// again. Refused only for want of memory.
+pub fn yaml_emitter_resume(
+    alloc: Global,
+    settings: RequestedSettings,
+    limit: u64,
+    at: yaml_emitter_stand_t,
+    around: Vec<Level>,
+    tag_directives: Vec<yaml_tag_directive_t>,
+) -> Result<yaml_emitter_t, yaml_fault_t>
+    requires column { at.cursor.column < 2 ^ 62 }
+    requires limit { limit ≤ 2 ^ 62 }
+    requires right { refused_at at.place ≡ None }
+    ensures is { IfOk result (λ e. e ≡ resumed settings limit at around.items
+        (map directive_of tag_directives.items)) }
+    ensures memory { IfErr result (λ f. fault_of f ≡ memory_fault from.Emitter) }
+{
+    match resumed(alloc, settings, limit, at, around, tag_directives) {
+        Ok(emitter) => Ok(emitter),
+        Err(_) => Err(yaml_memory_fault(yaml_origin_t::Emitter)),
+    }
+}
+
+/// Where an emitter stands.
+pub fn yaml_emitter_stand(emitter: &yaml_emitter_t) -> yaml_emitter_stand_t
+    ensures { StandsAt emitter.now result }
+{
+    let told = stand(emitter);
+    told
+}
+
+/// The open collections round the innermost one, the outermost first.
+pub fn yaml_emitter_outer(emitter: &yaml_emitter_t) -> &[Level]
+    ensures { stack (top_of emitter.now.course.state.levels) result.now
+        ≡ emitter.now.course.state.levels }
+{
+    outer(emitter)
+}
+
+/// The directives of the document.
+pub fn yaml_emitter_directives(emitter: &yaml_emitter_t) -> &[yaml_tag_directive_t]
+    ensures { map directive_of result.now ≡ emitter.now.course.state.directives }
+{
+    directives(emitter)
+}

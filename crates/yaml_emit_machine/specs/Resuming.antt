@@ -1,0 +1,48 @@
+-- An emitter that goes on from where another one stood.
+use Rattle.std.specs.Prelude.{◌≡◌, ℕ, false, List, [], length, None}
+use Rattle.yaml_parse_model.specs.Events.{TagDirective}
+use Rattle.yaml_emit_text.specs.declared.Status.TheVariants.{Going}
+use Rattle.yaml_emit_text.specs.declared.RequestedSettings.{RequestedSettings}
+use Rattle.yaml_emit_layout.specs.declared.Level.{Level}
+use Rattle.yaml_emit_layout.specs.State.{top_of}
+use Rattle.yaml_emit_state.specs.declared.yaml_emitter_stand_t.{yaml_emitter_stand_t}
+use Rattle.yaml_emit_state.specs.Standing.{state_at}
+use Rattle.yaml_emit_machine.specs.Emitter.{Emitter, Course, settings_in}
+
+-- how the text goes on from there
+abbrev pub course_at : RequestedSettings → yaml_emitter_stand_t → List Level → List TagDirective
+    → Course
+course_at w stand outer directives = record {
+  settings = settings_in w stand.encoding;
+  state = state_at stand outer directives;
+  cursor = stand.cursor;
+}
+
+-- It goes on from there, under settings that were asked for, but for the encoding, which is that in which the text began. No event
+-- is held, and nothing is written.
+abbrev pub resumed : RequestedSettings → ℕ → yaml_emitter_stand_t → List Level → List TagDirective
+    → Emitter
+resumed w limit stand outer directives = record {
+  requested_settings = w;
+  limit = limit;
+  held = [];
+  output = [];
+  fresh = false;
+  opened = false;
+  closed = false;
+  fault = None;
+  course = course_at w stand outer directives;
+  status = Going;
+  starved = false;
+}
+
+-- that is where an emitter stands
+pub record StandsAt (e : Emitter) (stand : yaml_emitter_stand_t) : Type 0 where
+  pub encoding : stand.encoding ≡ e.course.settings.encoding
+  pub place : stand.place ≡ e.course.state.place
+  pub innermost : stand.innermost ≡ top_of e.course.state.levels
+  pub cursor : stand.cursor ≡ e.course.cursor
+  pub waiting : stand.waiting ≡ length e.held
+  -- the settings in force are those that were asked for, but for the encoding
+  pub forced : e.fresh ≡ false
+      → e.course.settings ≡ settings_in e.requested_settings stand.encoding

@@ -1,6 +1,6 @@
 //! The events of a document's nodes.
 
-ghost use Rattle.std.specs.Prelude.{◌≡◌, IfOk, IsUtf8, map};
+ghost use Rattle.std.specs.Prelude.{◌≡◌, IfOk, OnOk, IsUtf8, map};
 ghost use Rattle.yaml_parse_model.specs.Constructors.{HasUtf8, IsUtf8Option};
 ghost use Rattle.yaml_parse_document.specs.Documents.{str_tag, seq_tag, map_tag};
 ghost use Rattle.yaml_parse_model.specs.Events.{body_of, text_of, directive_of};
@@ -172,17 +172,15 @@ fn room_of(text: &mut Option<Vec<u8>>, aside: &mut Vec<u8>) -> Vec<u8> {
 // A text in the room of another.
 // Inlined: a short one is two moves.
 #[inline(always)]
-fn text_in(room: Vec<u8>, text: &[u8]) -> Result<Vec<u8>, AllocError>
-    ensures { IfOk result (λ t. t.items ≡ text.now) }
+fn put_text(room: &mut Vec<u8>, text: &[u8]) -> Result<(), AllocError>
+    ensures { OnOk result (room.new.items ≡ text.now) }
 {
-    let mut copy = room;
-    copy.clear();
-    if text.len() <= SHORT && text.len() <= copy.capacity() {
-        put_short(&mut copy, text);
-        Ok(copy)
+    room.clear();
+    if text.len() <= SHORT && text.len() <= room.capacity() {
+        put_short(room, text);
+        Ok(())
     } else {
-        copy.extend_from_slice(text)?;
-        Ok(copy)
+        room.extend_from_slice(text)
     }
 }
 
@@ -204,14 +202,14 @@ fn put_other_scalar(
     put_aside(rooms, event);
     let anchor = anchor_of(rooms.alloc, number)?;
     let plain = is_str(tag);
-    let tag_room = moved(&mut rooms.tag);
-    let tag = text_in(tag_room, tag.as_slice())?;
-    let value_room = moved(&mut rooms.value);
-    let value = text_in(value_room, value)?;
+    let mut tag_text = moved(&mut rooms.tag);
+    put_text(&mut tag_text, tag.as_slice())?;
+    let mut text = moved(&mut rooms.value);
+    put_text(&mut text, value)?;
     *event = yaml_event_body_t::Scalar {
         anchor,
-        tag: Some(tag),
-        value,
+        tag: Some(tag_text),
+        value: text,
         plain_implicit: plain,
         quoted_implicit: plain,
         style,
@@ -237,21 +235,21 @@ fn put_scalar(
     match event {
         yaml_event_body_t::Scalar {
             anchor: name,
-            tag: tag_text,
-            value: text,
+            tag: held_tag,
+            value: held_value,
             plain_implicit,
             quoted_implicit,
             style: how,
         } => {
             let anchor = anchor_of(rooms.alloc, number)?;
             let plain = is_str(tag);
-            let tag_room = room_of(tag_text, &mut rooms.tag);
-            let tag = text_in(tag_room, tag.as_slice())?;
-            let value_room = moved(text);
-            let value = text_in(value_room, value)?;
+            let mut tag_text = room_of(held_tag, &mut rooms.tag);
+            put_text(&mut tag_text, tag.as_slice())?;
+            let mut text = moved(held_value);
+            put_text(&mut text, value)?;
             *name = anchor;
-            *tag_text = Some(tag);
-            *text = value;
+            *held_tag = Some(tag_text);
+            *held_value = text;
             *plain_implicit = plain;
             *quoted_implicit = plain;
             *how = style;
@@ -277,11 +275,11 @@ fn put_sequence(
     put_aside(rooms, event);
     let anchor = anchor_of(rooms.alloc, number)?;
     let implicit = is_seq(tag);
-    let tag_room = moved(&mut rooms.tag);
-    let tag = text_in(tag_room, tag.as_slice())?;
+    let mut tag_text = moved(&mut rooms.tag);
+    put_text(&mut tag_text, tag.as_slice())?;
     *event = yaml_event_body_t::SequenceStart {
         anchor,
-        tag: Some(tag),
+        tag: Some(tag_text),
         implicit,
         style,
     };
@@ -304,11 +302,11 @@ fn put_mapping(
     put_aside(rooms, event);
     let anchor = anchor_of(rooms.alloc, number)?;
     let implicit = is_map(tag);
-    let tag_room = moved(&mut rooms.tag);
-    let tag = text_in(tag_room, tag.as_slice())?;
+    let mut tag_text = moved(&mut rooms.tag);
+    put_text(&mut tag_text, tag.as_slice())?;
     *event = yaml_event_body_t::MappingStart {
         anchor,
-        tag: Some(tag),
+        tag: Some(tag_text),
         implicit,
         style,
     };

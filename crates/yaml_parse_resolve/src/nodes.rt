@@ -9,7 +9,7 @@ ghost use Rattle.yaml_parse_grammar.specs.Resolve.{node_event, placed};
 ghost use Rattle.yaml_parse_core.specs.Extra.{value_in, style_in};
 ghost use Rattle.yaml_parse_core.specs.Views.{text_if, shape_at, node_item};
 
-use crate::room::{set_aside, vacate};
+use crate::room::{clears, vacate, vacate_full};
 use crate::scalars::{bare, named};
 use crate::slots::{start_mapping, start_named_mapping, start_named_sequence, start_sequence};
 use yaml_parse_core::{Shape, Waiting};
@@ -61,7 +61,24 @@ fn tell_sequence(
 )
     ensures { body_of event.new ≡ node_event None None (item.sequence style) }
 {
-    set_aside(event, &mut waiting.anchor, token);
+    if clears(event, &mut waiting.anchor) {
+        start_sequence(event, style);
+    } else {
+        sequence_over(token, style, event);
+    }
+}
+
+// The same, where the slot holds other texts.
+// Out of line: mostly it holds none, or a scalar's.
+#[inline(never)]
+fn sequence_over(
+    token: &mut yaml_token_body_t,
+    style: yaml_sequence_style_t,
+    event: &mut yaml_event_body_t,
+)
+    ensures { body_of event.new ≡ node_event None None (item.sequence style) }
+{
+    vacate_full(event, token);
     start_sequence(event, style);
 }
 
@@ -76,7 +93,24 @@ fn tell_mapping(
 )
     ensures { body_of event.new ≡ node_event None None (item.mapping style) }
 {
-    set_aside(event, &mut waiting.anchor, token);
+    if clears(event, &mut waiting.anchor) {
+        start_mapping(event, style);
+    } else {
+        mapping_over(token, style, event);
+    }
+}
+
+// The same, where the slot holds other texts.
+// Out of line: mostly it holds none, or a scalar's.
+#[inline(never)]
+fn mapping_over(
+    token: &mut yaml_token_body_t,
+    style: yaml_mapping_style_t,
+    event: &mut yaml_event_body_t,
+)
+    ensures { body_of event.new ≡ node_event None None (item.mapping style) }
+{
+    vacate_full(event, token);
     start_mapping(event, style);
 }
 

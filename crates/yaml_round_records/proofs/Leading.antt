@@ -1,5 +1,5 @@
 -- From what an emitter says to what is said of the events that it was given.
-use Rattle.std.proofs.Common.{◌≡◌, ◌⊎◌, ◌+◌, ◌<◌, ◌≤◌, inl, inr, get_or, drop, ℕ, Bool, true, false, List, [], ◌∷◌, length, refl, sym, ap, ◌∙◌, subst, Option, None, Some, is_some, Result, Ok, Err, Vec, option_map}
+use Rattle.std.proofs.Common.{◌≡◌, ◌⊎◌, ◌+◌, ◌<◌, ◌≤◌, inl, inr, get_or, drop, ℕ, Bool, true, false, List, [], ◌∷◌, ◌++◌, length, refl, sym, ap, ◌∙◌, subst, append-nil, Option, None, Some, is_some, Result, Ok, Err, Vec, option_map}
 use Rattle.std.specs.Global.{Global}
 use Rattle.yaml_parse.specs.declared.yaml_fault_t.{yaml_fault_t}
 use Rattle.yaml_parse.specs.Faults.{Fault, fault_of, memory_fault, IsMemoryFault, emit_layers, Answers}
@@ -25,7 +25,7 @@ use Rattle.yaml_round_records.specs.declared.record.yaml_c_event.{yaml_c_event}
 use Rattle.yaml_round_records.specs.Records.{body_in_front}
 use Rattle.yaml_round_records.specs.Meaning.{event_meant, events_meant}
 use Rattle.yaml_round_records.specs.Written.{refusal, whole_text, text_encoding, text_bytes, IsLong, IsEmittedText, IsEventRefused, IsFault, IsEmitted}
-use Rattle.yaml_round_records.specs.Leading.{bytes_of, all_events, StartsUnder, LeadsEmitter, FinishesEmitter}
+use Rattle.yaml_round_records.specs.Leading.{bytes_of, all_events, StartsUnder, LeadsEmitter, LeadsOnward, FinishesEmitter}
 
 -- ---- the records that are left
 
@@ -83,7 +83,7 @@ pub rest_meant : (bytes : List ℕ) (list : List yaml_c_directive) (rs : List ya
     → is_some (events_meant bytes list (drop (i + 1) rs)) ≡ true
 rest_meant bytes list rs i d b h m is = meant_rest bytes list (get_or rs i d) (drop (i + 1) rs) (subst (Meant bytes list) (left_cons rs i d h) m)
 
-events_left : (bytes : List ℕ) (list : List yaml_c_directive) (rs : List yaml_c_event) (i : ℕ)
+pub events_left : (bytes : List ℕ) (list : List yaml_c_directive) (rs : List yaml_c_event) (i : ℕ)
     (d : yaml_c_event) (b : EventBody) → i < length rs
     → is_some (events_meant bytes list (drop i rs)) ≡ true
     → event_meant bytes list (get_or rs i d) ≡ Some b
@@ -93,46 +93,73 @@ events_left bytes list rs i d b h m is =
     ap (λ es. all_events (events_meant bytes list es)) (left_cons rs i d h)
     ∙ meant_events bytes list (get_or rs i d) (drop (i + 1) rs) b (subst (Meant bytes list) (left_cons rs i d h) m) is
 
-none_left : (bytes : List ℕ) (list : List yaml_c_directive)
+pub none_left : (bytes : List ℕ) (list : List yaml_c_directive)
     → all_events (events_meant bytes list []) ≡ []
 unfolding events_meant
 none_left bytes list = refl
 
 -- ---- one more event
 
-pub leads_same : (e : Emitter) (es : List Event) → LeadsEmitter e es e es
-leads_same e es = record { refuses = λ g. refl; writes = λ x whole h. h; completes = λ x whole h. h; limit = refl }
+pub leads_same : (e : Emitter) (es : List Event) → LeadsOnward e es e es
+leads_same e es = record {
+  refuses = λ g more. refl;
+  writes = λ x more whole h. h;
+  completes = λ x more whole h. h;
+  going = λ g. g;
+  limit = refl;
+  requested_settings = refl;
+  begun = λ f. (f, refl);
+}
+
+-- an event is gone from those that were to come
+not_first : (e : Event) → [] ≡ e ∷ [] → ⊥
+not_first e h = cc
 
 pub leads_more : (first old new : Emitter) (all : List Event) (x : Event) (rest : List Event)
-    → LeadsEmitter first all old (x ∷ rest) → TakesEvents old (x ∷ []) new []
-    → LeadsEmitter first all new rest
+    → LeadsOnward first all old (x ∷ rest) → TakesEvents old (x ∷ []) new []
+    → LeadsOnward first all new rest
 leads_more first old new all x rest l t = record {
-  refuses = λ on. t.refuses on rest ∙ l.refuses (t.going on);
-  writes = λ c whole h. t.writes c rest whole (l.writes c whole h);
-  completes = λ c whole h. t.completes c rest whole (l.completes c whole h);
+  refuses = λ on more. t.refuses on (rest ++ more) ∙ l.refuses (t.going on) more;
+  writes = λ c more whole h. t.writes c (rest ++ more) whole (l.writes c more whole h);
+  completes = λ c more whole h. t.completes c (rest ++ more) whole (l.completes c more whole h);
+  going = λ on. l.going (t.going on);
   limit = t.limit ∙ l.limit;
+  requested_settings = t.requested_settings ∙ l.requested_settings;
+  begun = λ f. absurd (not_first x (t.begun f).1);
 }
 
 pub leads_on : (first old new : Emitter) (all es : List Event) (x : Event) (rest : List Event)
-    → es ≡ x ∷ rest → LeadsEmitter first all old es → TakesEvents old (x ∷ []) new []
-    → LeadsEmitter first all new rest
-leads_on first old new all es x rest is l t = leads_more first old new all x rest (subst (λ (z : List Event). LeadsEmitter first all old z) is l) t
+    → es ≡ x ∷ rest → LeadsOnward first all old es → TakesEvents old (x ∷ []) new []
+    → LeadsOnward first all new rest
+leads_on first old new all es x rest is l t = leads_more first old new all x rest (subst (λ (z : List Event). LeadsOnward first all old z) is l) t
 
 pub leads_record : (bytes : List ℕ) (list : List yaml_c_directive) (rs : List yaml_c_event) (i : ℕ)
     (d : yaml_c_event) (b : EventBody) (first old new : Emitter) (all : List Event) → i < length rs
     → is_some (events_meant bytes list (drop i rs)) ≡ true
     → event_meant bytes list (get_or rs i d) ≡ Some b
-    → LeadsEmitter first all old (all_events (events_meant bytes list (drop i rs)))
+    → LeadsOnward first all old (all_events (events_meant bytes list (drop i rs)))
     → TakesEvents old (emitter_event b ∷ []) new []
-    → LeadsEmitter first all new (all_events (events_meant bytes list (drop (i + 1) rs)))
+    → LeadsOnward first all new (all_events (events_meant bytes list (drop (i + 1) rs)))
 leads_record bytes list rs i d b first old new all h m is l t = leads_on first old new all _ (emitter_event b) _ (events_left bytes list rs i d b h m is) l t
 
 pub leads_end : (bytes : List ℕ) (list : List yaml_c_directive) (rs : List yaml_c_event) (i : ℕ)
     (first new : Emitter) (all : List Event) → length rs ≤ i
-    → LeadsEmitter first all new (all_events (events_meant bytes list (drop i rs)))
-    → LeadsEmitter first all new []
+    → LeadsOnward first all new (all_events (events_meant bytes list (drop i rs)))
+    → LeadsOnward first all new []
 leads_end bytes list rs i first new all h l =
-    subst (λ (es : List Event). LeadsEmitter first all new es) (ap (λ es. all_events (events_meant bytes list es)) (drop_all i rs h) ∙ none_left bytes list) l
+    subst (λ (es : List Event). LeadsOnward first all new es) (ap (λ es. all_events (events_meant bytes list es)) (drop_all i rs h) ∙ none_left bytes list) l
+
+-- with nothing more to come
+pub leads_whole : (first new : Emitter) (all : List Event) → LeadsOnward first all new []
+    → LeadsEmitter first all new []
+leads_whole first new all l =
+    let same : all ++ [] ≡ all = append-nil all in
+    record {
+      refuses = λ on. l.refuses on [] ∙ ap (verdict first) same;
+      writes = λ x whole h. l.writes x [] whole (subst (λ (es : List Event). Writes first x es whole) (sym same) h);
+      completes = λ x whole h. l.completes x [] whole (subst (λ (es : List Event). Completes first x es whole) (sym same) h);
+      limit = l.limit;
+    }
 
 -- ---- a fresh emitter
 
@@ -177,19 +204,19 @@ no_problem : (p : Option Problem) → option_map problem_fault p ≡ None → p 
 no_problem None h = refl
 no_problem (Some p) h = absurd (cc)
 
-none_going : (s : Status) (b : Bool) (p : Option Problem) → fault_by s b p ≡ None
+pub none_going : (s : Status) (b : Bool) (p : Option Problem) → fault_by s b p ≡ None
     → (s ≡ Going) × (p ≡ None)
 none_going Going b p h = (refl, no_problem p h)
 none_going Full b p h = absurd (cc)
 none_going Deep b p h = absurd (cc)
 none_going Starved b p h = absurd (cc)
 
-has_all : (s : Status) (limit : ℕ) (output bytes : List ℕ) (deep : Bool) → s ≡ Going
+pub has_all : (s : Status) (limit : ℕ) (output bytes : List ℕ) (deep : Bool) → s ≡ Going
     → HasLetOut s limit output bytes deep
     → (output ≡ bytes) × ((length output ≤ limit) × (deep ≡ false))
 has_all s limit output bytes deep h k = subst (λ (t : Status). HasLetOut t limit output bytes deep) h k
 
-fits : (limit : ℕ) (x : Encoding) (whole : List Item) (output : List ℕ)
+pub fits : (limit : ℕ) (x : Encoding) (whole : List Item) (output : List ℕ)
     → (output ≡ encode x whole) × ((length output ≤ limit) × (is_deep whole ≡ false))
     → Fits limit x whole
 fits limit x whole output h = record { size = subst (λ (t : List ℕ). length t ≤ limit) h.0 h.1.0; columns = h.1.1 }
@@ -205,7 +232,7 @@ some_problem limit x whole output (Some q) f h k =
     (q, (refl, (sym is, fits limit x whole output k)))
 
 -- what a fault tells, by what has become of the output
-abbrev FaultBy : ℕ → Encoding → List Item → Option Problem → Status → Fault → Type 0
+abbrev pub FaultBy : ℕ → Encoding → List Item → Option Problem → Status → Fault → Type 0
 FaultBy limit x whole p s f = ((s ≡ Going) × ((q : Problem) × ((p ≡ Some q) × ((f ≡ problem_fault q) × Fits limit x whole))))
     ⊎ (Passes limit (encode x whole) (is_deep whole) f ⊎ IsMemoryFault emit_layers f)
 
@@ -218,7 +245,7 @@ memory_told false f h =
     let is : memory_fault (memory_origin false) ≡ f = cc in
     inr (sym is)
 
-some_fault : (s : Status) (b : Bool) (p : Option Problem) (limit : ℕ) (x : Encoding)
+pub some_fault : (s : Status) (b : Bool) (p : Option Problem) (limit : ℕ) (x : Encoding)
     (whole : List Item) (output : List ℕ) (f : Fault) → fault_by s b p ≡ Some f
     → HasLetOut s limit output (encode x whole) (is_deep whole) → FaultBy limit x whole p s f
 some_fault Going b p limit x whole output f h k = inl (refl, some_problem limit x whole output p f h k)

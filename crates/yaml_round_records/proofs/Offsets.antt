@@ -1,6 +1,6 @@
 -- Each field lies where the header says.
 use Rattle.std.proofs.Common.{refl}
-use Rattle.yaml_round_records.specs.Offsets.{MarkLies, SpanLies, DirectiveLies, EventLies, SettingsLie}
+use Rattle.yaml_round_records.specs.Offsets.{MarkLies, SpanLies, DirectiveLies, EventLies, SettingsLie, LevelLies, PlaceLies, StandLies}
 
 pub mark_lies : MarkLies
 mark_lies = record {
@@ -50,4 +50,31 @@ settings_lie = record {
   unicode = record { is = λ d. refl; begins = refl };
   line_break = record { is = λ d. refl; begins = refl };
   limit = record { is = λ d. refl; begins = refl };
+}
+
+pub level_lies : LevelLies
+level_lies = record {
+  state = record { is = λ d. refl; begins = refl };
+  indent = record { is = λ d. refl; begins = refl };
+}
+
+pub place_lies : PlaceLies
+place_lies = record {
+  state = record { is = λ d. refl; begins = refl };
+  encoding = record { is = λ d. refl; begins = refl };
+  implicit = record { is = λ d. refl; begins = refl };
+  white = record { is = λ d. refl; begins = refl };
+  bare = record { is = λ d. refl; begins = refl };
+  kept = record { is = λ d. refl; begins = refl };
+  column = record { is = λ d. refl; begins = refl };
+  waiting = record { is = λ d. refl; begins = refl };
+  innermost = record { is = λ d. refl; begins = refl };
+}
+
+pub stand_lies : StandLies
+stand_lies = record {
+  place = record { is = λ d. refl; begins = refl };
+  levels = record { is = λ d. refl; begins = refl };
+  directives = record { is = λ d. refl; begins = refl };
+  bytes = record { is = λ d. refl; begins = refl };
 }

@@ -1,5 +1,5 @@
 -- Events that are given to an emitter one after another.
-use Rattle.std.specs.Prelude.{◌≡◌, ℕ, true, List, [], Option, None, Some, Result, Ok, Err, Vec}
+use Rattle.std.specs.Prelude.{◌≡◌, ℕ, ◌≤◌, true, List, [], ◌++◌, length, Option, None, Some, Result, Ok, Err, Vec}
 use Rattle.std.specs.Global.{Global}
 use Rattle.yaml_parse.specs.Faults.{fault_of}
 use Rattle.yaml_parse.specs.declared.yaml_fault_t.{yaml_fault_t}
@@ -7,6 +7,7 @@ use Rattle.yaml_parse.specs.Events.{EventBody}
 use Rattle.yaml_emit.specs.Content.{Event}
 use Rattle.yaml_emit.specs.Text.{Item}
 use Rattle.yaml_emit.specs.Verdict.{verdict, Writes, TellsOutcome}
+use Rattle.yaml_emit.specs.Held.{AreLast}
 use Rattle.yaml_emit.specs.Within.{IsWithin}
 use Rattle.yaml_emit.specs.Emitter.{Emitter, Completes, IsLimited, IsWhole}
 use Rattle.yaml_emit.specs.emit_text.declared.Encoding.{Encoding}
@@ -36,6 +37,8 @@ pub record StartsUnder (e : Emitter) (w : RequestedSettings) (most : ℕ) : Type
   pub requested_settings : e.requested_settings ≡ w
   pub limit : e.limit ≡ most
   pub fresh : e.fresh ≡ true
+  pub fault : e.fault ≡ None
+  pub held : e.held ≡ []
 
 -- those of records that each mean one
 abbrev pub all_events : Option (List EventBody) → List Event
@@ -52,6 +55,29 @@ pub record LeadsEmitter (old : Emitter) (before : List Event) (new : Emitter)
   pub completes : (x : Encoding) (whole : List Item) → Completes old x before whole
       → Completes new x after whole
   pub limit : new.limit ≡ old.limit
+
+-- The same whatever follows.
+pub record LeadsOnward (old : Emitter) (before : List Event) (new : Emitter)
+    (after : List Event) : Type 0 where
+  pub refuses : new.status ≡ Going → (more : List Event)
+      → verdict new (after ++ more) ≡ verdict old (before ++ more)
+  pub writes : (x : Encoding) (more : List Event) (whole : List Item)
+      → Writes old x (before ++ more) whole → Writes new x (after ++ more) whole
+  pub completes : (x : Encoding) (more : List Event) (whole : List Item)
+      → Completes old x (before ++ more) whole → Completes new x (after ++ more) whole
+  pub going : new.status ≡ Going → old.status ≡ Going
+  pub limit : new.limit ≡ old.limit
+  pub requested_settings : new.requested_settings ≡ old.requested_settings
+  -- one that is still fresh was given none
+  pub begun : new.fresh ≡ true → (old.fresh ≡ true) × (before ≡ after)
+
+-- Events were given: all of them are taken, and without a fault those that are held are the last of them. Where there were none,
+-- nothing changed.
+pub record GivesAll (old : Emitter) (es : List Event) (new : Emitter) : Type 0 where
+  pub leads : LeadsOnward old es new []
+  pub last : new.fault ≡ None → AreLast (old.held ++ es) new.held
+  pub few : length old.held ≤ 3 → length new.held ≤ 3
+  pub none : es ≡ [] → new ≡ old
 
 -- an emitter's text or fault, and what that tells
 abbrev pub FinishesEmitter : Emitter → Result (Vec ℕ Global) yaml_fault_t → Type 0

@@ -6,4 +6,6 @@ pub mod Meaning
 pub mod Checking
 pub mod Written
 pub mod Leading
+pub mod Standing
+pub mod Onward
 pub mod Listing

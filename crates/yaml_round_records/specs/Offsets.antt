@@ -11,6 +11,9 @@ use Rattle.yaml_round_records.specs.contracts.record.yaml_c_span as span
 use Rattle.yaml_round_records.specs.contracts.record.yaml_c_directive as directive
 use Rattle.yaml_round_records.specs.contracts.record.yaml_c_event as event
 use Rattle.yaml_round_records.specs.contracts.record.yaml_c_settings as settings
+use Rattle.yaml_round_records.specs.contracts.standing.yaml_c_level as level
+use Rattle.yaml_round_records.specs.contracts.standing.yaml_c_place as place
+use Rattle.yaml_round_records.specs.contracts.standing.yaml_c_stand as stand
 
 -- the type of a struct's field, counted from 0, and its value
 abbrev pub TypeAt : List Field → ℕ → Type 0
@@ -78,3 +81,25 @@ pub record SettingsLie : Type 0 where
   pub unicode : LiesAt settings.the_type 4 (λ d. d.unicode) 16
   pub line_break : LiesAt settings.the_type 5 (λ d. d.line_break) 20
   pub limit : LiesAt settings.the_type 6 (λ d. d.limit) 24
+
+pub record LevelLies : Type 0 where
+  pub state : LiesAt level.the_type 0 (λ d. d.state) 0
+  pub indent : LiesAt level.the_type 1 (λ d. d.indent) 8
+
+pub record PlaceLies : Type 0 where
+  pub state : LiesAt place.the_type 0 (λ d. d.state) 0
+  pub encoding : LiesAt place.the_type 1 (λ d. d.encoding) 4
+  pub implicit : LiesAt place.the_type 2 (λ d. d.implicit) 8
+  pub white : LiesAt place.the_type 3 (λ d. d.white) 12
+  pub bare : LiesAt place.the_type 4 (λ d. d.bare) 16
+  pub kept : LiesAt place.the_type 5 (λ d. d.kept) 20
+  pub column : LiesAt place.the_type 6 (λ d. d.column) 24
+  pub waiting : LiesAt place.the_type 7 (λ d. d.waiting) 32
+  pub innermost : LiesAt place.the_type 8 (λ d. d.innermost) 40
+
+-- a list is a pointer with its length behind it
+pub record StandLies : Type 0 where
+  pub place : LiesAt stand.the_type 0 (λ d. d.place) 0
+  pub levels : LiesAt stand.the_type 1 (λ d. d.levels) 56
+  pub directives : LiesAt stand.the_type 2 (λ d. d.directives) 72
+  pub bytes : LiesAt stand.the_type 3 (λ d. d.bytes) 88

@@ -1,26 +1,27 @@
 //! What an emitter makes of records.
 
-ghost use Rattle.std.specs.Prelude.{◌≡◌, ◌∷◌, [], Some, IsSome, IfOk, IfErr, OnOk, option_map};
+ghost use Rattle.std.specs.Prelude.{◌≡◌, ◌≤◌, ◌∷◌, ◌++◌, [], length, None, Some, IsSome, IfOk, IfErr, OnOk, option_map};
 ghost use Rattle.yaml_parse.specs.Faults.{Fault, fault_of, IsMemoryFault, emit_layers, Answers};
 ghost use Rattle.yaml_parse.specs.Events.{event_of};
 ghost use Rattle.yaml_parse.specs.Constructors.{HasUtf8};
 ghost use Rattle.yaml_emit.specs.Content.{emitter_event};
-ghost use Rattle.yaml_emit.specs.Emitter.{IsLimited};
+ghost use Rattle.yaml_emit.specs.Emitter.{IsLimited, Stays};
+ghost use Rattle.yaml_emit.specs.Held.{AreLast};
 ghost use Rattle.yaml_emit.specs.Taking.{TakesEvents};
 ghost use Rattle.yaml_emit.specs.Verdict.{TellsOutcome};
 ghost use Rattle.yaml_round_records.specs.Meaning.{events_meant, asked_meant};
 ghost use Rattle.yaml_round_records.specs.Written.{IsEmitted};
-ghost use Rattle.yaml_round_records.specs.Leading.{bytes_of, requested, asked_for, all_events, StartsUnder, LeadsEmitter, FinishesEmitter};
+ghost use Rattle.yaml_round_records.specs.Leading.{bytes_of, requested, asked_for, all_events, StartsUnder, GivesAll, FinishesEmitter};
 
 use crate::event::event_of;
 use crate::number::{break_of, encoding_of, is_set};
 use crate::record::{yaml_c_directive, yaml_c_event, yaml_c_settings};
 use std::alloc::Global;
 use yaml_emit::{
-    yaml_emitter_delete, yaml_emitter_emit_from, yaml_emitter_fault, yaml_emitter_initialize,
-    yaml_emitter_into_output, yaml_emitter_set_break, yaml_emitter_set_canonical,
-    yaml_emitter_set_encoding, yaml_emitter_set_indent, yaml_emitter_set_unicode,
-    yaml_emitter_set_width, yaml_emitter_t,
+    RequestedSettings, yaml_emitter_delete, yaml_emitter_emit_from, yaml_emitter_fault,
+    yaml_emitter_initialize, yaml_emitter_into_output, yaml_emitter_set_break,
+    yaml_emitter_set_canonical, yaml_emitter_set_encoding, yaml_emitter_set_indent,
+    yaml_emitter_set_unicode, yaml_emitter_set_width, yaml_emitter_t,
 };
 use yaml_parse::{
     yaml_break_t, yaml_encoding_t, yaml_event_t, yaml_fault_t, yaml_memory_fault, yaml_origin_t,
@@ -59,12 +60,30 @@ pub fn asked_of(given: &yaml_c_settings) -> Option<Asked>
     })
 }
 
+// The settings that are asked for.
+pub(crate) fn requested_of(asked: &Asked) -> RequestedSettings
+    ensures { result ≡ requested asked.now }
+{
+    RequestedSettings {
+        encoding: asked.encoding,
+        canonical: asked.canonical,
+        indent: asked.indent,
+        width: asked.width,
+        unicode: asked.unicode,
+        line_break: asked.line_break,
+    }
+}
+
 // An emitter that is asked for this, and was given nothing yet.
-fn emitter_under(alloc: Global, asked: &Asked) -> Result<yaml_emitter_t, yaml_fault_t>
-    ensures under { IfOk result (λ e. StartsUnder e (requested asked.now) asked.now.limit) }
+pub(crate) fn emitter_under(
+    alloc: Global,
+    asked: &Asked,
+    limit: u64,
+) -> Result<yaml_emitter_t, yaml_fault_t>
+    ensures under { IfOk result (λ e. StartsUnder e (requested asked.now) limit) }
     ensures memory { IfErr result (λ f. IsMemoryFault emit_layers (fault_of f)) }
 {
-    let Ok(mut emitter) = yaml_emitter_initialize(alloc, asked.limit) else {
+    let Ok(mut emitter) = yaml_emitter_initialize(alloc, limit) else {
         return Err(yaml_memory_fault(yaml_origin_t::Emitter));
     };
     yaml_emitter_set_encoding(&mut emitter, asked.encoding);
@@ -81,6 +100,10 @@ fn give(emitter: &mut yaml_emitter_t, event: yaml_event_t)
     requires { HasUtf8 (event_of event).body }
     ensures takes { TakesEvents emitter.old (emitter_event (event_of event).body ∷ []) emitter.new
         [] }
+    ensures stays { Stays emitter.old emitter.new }
+    ensures last { emitter.old.fault ≡ None → AreLast (emitter.old.held
+        ++ emitter_event (event_of event).body ∷ []) emitter.new.held }
+    ensures few { length emitter.new.held ≤ 3 }
 {
     let mut event = event;
     yaml_emitter_emit_from(emitter, &mut event);
@@ -88,7 +111,7 @@ fn give(emitter: &mut yaml_emitter_t, event: yaml_event_t)
 }
 
 // Gives the events of records, one after another. Refused for want of memory alone.
-fn give_all(
+pub(crate) fn give_all(
     alloc: Global,
     bytes: &[u8],
     list: &[yaml_c_directive],
@@ -96,10 +119,13 @@ fn give_all(
     emitter: &mut yaml_emitter_t,
 ) -> Result<(), yaml_fault_t>
     requires { IsSome (events_meant bytes.now list.now records.now) }
-    ensures given { OnOk result (LeadsEmitter emitter.old
-        (all_events (events_meant bytes.now list.now records.now)) emitter.new []) }
+    ensures given { OnOk result (GivesAll emitter.old
+        (all_events (events_meant bytes.now list.now records.now)) emitter.new) }
     ensures memory { IfErr result (λ f. IsMemoryFault emit_layers (fault_of f)) }
 {
+    if records.is_empty() {
+        return Ok(());
+    }
     for record in records {
         let Some(event) = event_of(alloc, bytes, list, record) else {
             return Err(yaml_memory_fault(yaml_origin_t::Emitter));
@@ -109,7 +135,7 @@ fn give_all(
     Ok(())
 }
 
-fn fault_in(emitter: &yaml_emitter_t) -> Option<yaml_fault_t>
+pub(crate) fn fault_in(emitter: &yaml_emitter_t) -> Option<yaml_fault_t>
     ensures is { option_map fault_of result ≡ emitter.now.fault }
     ensures tells { TellsOutcome emitter.now }
     ensures limited { (f : Fault) → emitter.now.fault ≡ Some f → IsLimited emitter.now f }
@@ -144,7 +170,7 @@ pub fn emitted(
     ensures { Answers emit_layers bytes_of (IsEmitted (requested asked.now) asked.now.limit
         (all_events (events_meant bytes.now list.now records.now))) result }
 {
-    let mut emitter = emitter_under(alloc, asked)?;
+    let mut emitter = emitter_under(alloc, asked, asked.limit)?;
     match give_all(alloc, bytes, list, records, &mut emitter) {
         Ok(()) => finished(emitter),
         Err(fault) => {

@@ -61,7 +61,7 @@ fn directive_at(
     Some(yaml_tag_directive_t { handle, prefix })
 }
 
-fn all_directives(
+pub(crate) fn all_directives(
     alloc: Global,
     bytes: &[u8],
     list: &[yaml_c_directive],

@@ -7,13 +7,17 @@ mod event;
 mod listing;
 mod meaning;
 mod number;
+mod onward;
 mod record;
+mod standing;
 
 pub use collecting::collect;
 pub use emitter::{Asked, asked_of, emitted};
 pub use listing::Listing;
 pub use meaning::are_meant;
 pub use number::{break_of, encoding_of, error_number, is_set};
+pub use onward::{Onward, Standing, emitted_on};
 pub use record::{
     mark_told, yaml_c_directive, yaml_c_event, yaml_c_mark, yaml_c_settings, yaml_c_span,
 };
+pub use standing::{is_stand, yaml_c_level, yaml_c_place, yaml_c_stand};

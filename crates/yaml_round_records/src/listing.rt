@@ -159,7 +159,7 @@ impl Listing {
 }
 
 // Puts directives behind the others.
-fn put_directives(
+pub(crate) fn put_directives(
     listing: &mut Listing,
     directives: &[yaml_tag_directive_t],
 ) -> Result<yaml_c_span, AllocError>

@@ -1,14 +1,28 @@
-use Rattle.yaml_round_records.proofs.Leading.{first_meant, rest_meant, leads_record, leads_end}
+use Rattle.yaml_round_records.proofs.Leading.{first_meant, rest_meant, leads_same, leads_record}
+use Rattle.yaml_round_records.proofs.Giving.{last_nothing, last_record, gives_none, gives_end}
 use Rattle.yaml_round_records.proofs.emitter.give_all.Goals as goal
 
 pub event_of-requires : goal.event_of-requires
 event_of-requires c = first_meant _ _ _ _ _ c.loop-record-test.true c.loop-record.invariant.meant
 
+pub loop-record-init : goal.loop-record-init
+loop-record-init c = record {
+  meant = c.requires;
+  leads = leads_same _ _;
+  last = λ none. last_nothing _ _;
+  few = λ few. few;
+}
+
 pub loop-record-preserved : goal.loop-record-preserved
 loop-record-preserved c = record {
   meant = rest_meant _ _ _ _ _ _ c.loop-record-test.true c.loop-record.invariant.meant c.in-Some.ensures.is;
   leads = leads_record _ _ _ _ _ _ _ _ _ _ c.loop-record-test.true c.loop-record.invariant.meant c.in-Some.ensures.is c.loop-record.invariant.leads c.give.ensures.takes;
+  last = last_record _ _ _ _ _ _ _ _ _ _ c.loop-record-test.true c.loop-record.invariant.meant c.in-Some.ensures.is c.loop-record.invariant.last c.give.ensures.stays c.give.ensures.last;
+  few = λ few. c.give.ensures.few;
 }
 
+pub returns-then-is_empty-clause-given : goal.returns-then-is_empty-clause-given
+returns-then-is_empty-clause-given c = gives_none _ _ _ _ _ c.is_empty.ensures c.if-is_empty.true
+
 pub returns-clause-given : goal.returns-clause-given
-returns-clause-given c = leads_end _ _ _ _ _ _ _ c.loop-record-test.false c.loop-record.invariant.leads
+returns-clause-given c = gives_end _ _ _ _ _ _ _ c.is_empty.ensures c.if-is_empty.false c.requires c.loop-record-test.false c.loop-record.invariant.leads c.loop-record.invariant.last c.loop-record.invariant.few

@@ -1,0 +1,147 @@
+-- Where an emitter stands, as C holds it from call to call.
+use Rattle.std.specs.Prelude.{ℕ, ◌<◌, ◌^◌, nat_lt, ℤ, pos, Bool, true, false, if◌then◌else◌, List, [], ◌∷◌, Option, None, Some, option_map}
+use Rattle.std.specs.Ordering.{int_eq}
+use Rattle.yaml_parse.specs.Events.{TagDirective}
+use Rattle.yaml_emit.specs.Content.{Event}
+use Rattle.yaml_emit.specs.emit_text.declared.Cursor.{Cursor}
+use Rattle.yaml_emit.specs.emit_text.declared.Encoding.{Encoding}
+use Rattle.yaml_emit.specs.emit_text.declared.Encoding.TheVariants.{Utf8, Utf16Le, Utf16Be}
+use Rattle.yaml_emit.specs.emit_layout.declared.Expected.{Expected}
+use Rattle.yaml_emit.specs.emit_layout.declared.Expected.TheVariants as at
+use Rattle.yaml_emit.specs.emit_layout.declared.Level.{Level}
+use Rattle.yaml_emit.specs.emit_layout.declared.Phase.{Phase}
+use Rattle.yaml_emit.specs.emit_layout.declared.Phase.TheVariants.{Items, Keys, Value}
+use Rattle.yaml_emit.specs.emit_layout.State.{State}
+use Rattle.yaml_emit.specs.emit_state.Stack.{stack}
+use Rattle.yaml_round_laws_pieces.specs.Pieces.{Stand, first_stand}
+use Rattle.yaml_round_records.specs.declared.record.yaml_c_directive.{yaml_c_directive}
+use Rattle.yaml_round_records.specs.declared.standing.yaml_c_level.{yaml_c_level}
+use Rattle.yaml_round_records.specs.declared.standing.yaml_c_place.{yaml_c_place}
+use Rattle.yaml_round_records.specs.Numbers.{is_set}
+use Rattle.yaml_round_records.specs.Records.{all_directives}
+
+-- ---- numbers, which are those of libyaml's states of an emitter
+
+-- what is expected next, by whether the last document ended implicitly
+unfoldable pub place_meant : ℤ → Bool → Option Expected
+place_meant n implicit =
+    if int_eq n (pos 0) then Some at.StreamStart
+    else if int_eq n (pos 1) then Some (at.Documents true implicit)
+    else if int_eq n (pos 2) then Some (at.Documents false implicit)
+    else if int_eq n (pos 3) then Some at.Node
+    else if int_eq n (pos 4) then Some at.DocumentEnd
+    else if int_eq n (pos 17) then Some at.End
+    else None
+
+abbrev pub ends_implicitly : Expected → Bool
+ends_implicitly (at.Documents first implicit) = implicit
+ends_implicitly at.StreamStart = false
+ends_implicitly at.Node = false
+ends_implicitly at.DocumentEnd = false
+ends_implicitly at.End = false
+ends_implicitly (at.Refused p) = false
+
+-- the encoding of a text
+unfoldable pub spelling_meant : ℤ → Option Encoding
+spelling_meant n =
+    if int_eq n (pos 1) then Some Utf8
+    else if int_eq n (pos 2) then Some Utf16Le
+    else if int_eq n (pos 3) then Some Utf16Be
+    else None
+
+-- what is next in an open collection, and whether it is in flow style
+unfoldable pub phase_meant : ℤ → Option (Phase × Bool)
+phase_meant n =
+    if int_eq n (pos 5) then Some (Items true, true)
+    else if int_eq n (pos 6) then Some (Items false, true)
+    else if int_eq n (pos 7) then Some (Keys true, true)
+    else if int_eq n (pos 8) then Some (Keys false, true)
+    else if int_eq n (pos 9) then Some (Value true, true)
+    else if int_eq n (pos 10) then Some (Value false, true)
+    else if int_eq n (pos 11) then Some (Items true, false)
+    else if int_eq n (pos 12) then Some (Items false, false)
+    else if int_eq n (pos 13) then Some (Keys true, false)
+    else if int_eq n (pos 14) then Some (Keys false, false)
+    else if int_eq n (pos 15) then Some (Value true, false)
+    else if int_eq n (pos 16) then Some (Value false, false)
+    else None
+
+abbrev pub level_by : Option (Phase × Bool) → ℕ → Option Level
+level_by None n = None
+level_by (Some p) n = Some (record { phase = p.0; flow = p.1; indent = n })
+
+abbrev pub level_meant : yaml_c_level → Option Level
+level_meant l = level_by (phase_meant l.state) l.indent
+
+-- the innermost collection, or none
+unfoldable pub innermost_meant : yaml_c_level → Option (Option Level)
+innermost_meant l = if int_eq l.state (pos 0) then Some None else option_map Some (level_meant l)
+
+abbrev pub level_in_front : Option Level → Option (List Level) → Option (List Level)
+level_in_front None ls = None
+level_in_front (Some l) None = None
+level_in_front (Some l) (Some ls) = Some (l ∷ ls)
+
+unfoldable pub levels_meant : List yaml_c_level → Option (List Level)
+levels_meant [] = Some []
+levels_meant (l ∷ ls) = level_in_front (level_meant l) (levels_meant ls)
+
+-- ---- stands
+
+-- Where an emitter stands that was given an event: the encoding of its text, the state of the layout, and where the next character
+-- stands.
+pub record At : Type 0 where
+  pub encoding : Encoding
+  pub state : State
+  pub cursor : Cursor
+
+-- a column that is small enough to be gone on from
+abbrev pub IsFew : ℕ → Type 0
+IsFew column = column < 2 ^ 62
+
+abbrev pub at_if : Bool → At → Option At
+at_if true a = Some a
+at_if false a = None
+
+abbrev pub at_by : Option Encoding → Option Expected → Option (Option Level) → Option (List Level)
+    → Option (List TagDirective) → yaml_c_place → Option At
+at_by None p i ls ds r = None
+at_by (Some x) None i ls ds r = None
+at_by (Some x) (Some p) None ls ds r = None
+at_by (Some x) (Some p) (Some i) None ds r = None
+at_by (Some x) (Some p) (Some i) (Some ls) None r = None
+at_by (Some x) (Some p) (Some i) (Some ls) (Some ds) r = at_if (nat_lt r.column (2 ^ 62)) (record {
+  encoding = x;
+  state = record { place = p; levels = stack i ls; directives = ds };
+  cursor = record {
+    column = r.column;
+    white = is_set r.white;
+    bare = is_set r.bare;
+    kept = is_set r.kept;
+  };
+})
+
+-- what the records mean, the collections round the innermost one with the outermost first
+abbrev pub at_meant : yaml_c_place → List yaml_c_level → List yaml_c_directive → List ℕ → Option At
+at_meant r ls list bytes = at_by (spelling_meant r.encoding)
+    (place_meant r.state (is_set r.implicit)) (innermost_meant r.innermost) (levels_meant ls)
+    (all_directives bytes list) r
+
+-- The stand that the records mean: with no encoding none yet, since no event was given. How many events wait isn't looked at: those
+-- are given again. Nothing is meant where a number means nothing, a directive's span lies outside, or the column is no less than 2^62.
+abbrev pub stand_if : Bool → Option At → Option (Option At)
+stand_if false a = Some None
+stand_if true a = option_map Some a
+
+unfoldable pub stand_meant : yaml_c_place → List yaml_c_level → List yaml_c_directive → List ℕ
+    → Option (Option At)
+stand_meant r ls list bytes = stand_if (is_set r.encoding) (at_meant r ls list bytes)
+
+-- the stand of the layout, where these events wait
+abbrev pub stand_of : Option At → List Event → Stand
+stand_of None held = record {
+  state = first_stand.state;
+  cursor = first_stand.cursor;
+  held = held;
+}
+stand_of (Some a) held = record { state = a.state; cursor = a.cursor; held = held }

@@ -57,6 +57,7 @@ longer : (n : ℕ) (es more : List Event) → nat_le n (length es) ≡ true
     → nat_le n (length (es ++ more)) ≡ true
 longer n es more h = ap (nat_le n) (length-append es more) ∙ le_longer n (length es) (length more) h
 
+-- An event that is ready stays so whatever follows.
 pub ready_more : (e : Event) (es more : List Event) → is_ready (e ∷ es) ≡ true
     → is_ready (e ∷ (es ++ more)) ≡ true
 unfolding is_ready
@@ -88,6 +89,7 @@ same_place at.DocumentEnd ls e = refl
 same_place at.End ls e = refl
 same_place (at.Refused p) ls e = refl
 
+-- A problem depends on the state's shape alone: on what is expected, open and named, and not on columns.
 pub same_problem : (s : Settings) (st : State) (e : Event)
     → problem_at s st e ≡ problem_in s.canonical (shape_of st) e
 unfolding problem_by
@@ -130,6 +132,7 @@ shape_at p place ls (mapping_start q) empty d = ap (λ z. inside (key_due ∷ z)
 shape_at p place ls sequence_end empty d = among_shape p.directives (outer_of ls) ∙ ap inside (dues_outer ls)
 shape_at p place ls mapping_end empty d = among_shape p.directives (outer_of ls) ∙ ap inside (dues_outer ls)
 
+-- The shape behind an event is what the shape before it becomes.
 pub shape_next : (s : Settings) (st : State) (e : Event) (empty : Bool) (d : Cursor)
     → shape_of (next s st e empty d) ≡ progress_after (shape_of st) e
 shape_next s st e empty d = shape_at (context_of s st.directives) st.place st.levels e empty d
@@ -159,6 +162,7 @@ open_next : (s : Settings) (st : State) (e : Event) (empty : Bool) (d : Cursor)
     → refused_at st.place ≡ None → refused_at (next s st e empty d).place ≡ None
 open_next s st e empty d h = open_at (context_of s st.directives) st.place st.levels e empty d h
 
+-- Where the output goes on and the place is no refusal, nothing was refused.
 pub going_open : (s : Status) (p : Expected) → goes_on s p ≡ true → refused_at p ≡ None
 going_open s at.StreamStart h = refl
 going_open s (at.Documents first unended) h = refl
@@ -191,10 +195,12 @@ goes_going Starved at.End h = absurd (cc)
 
 -- ---- the first refusal
 
+-- Of two problems the second counts where the first is none.
 pub or_none : (p q : Option Problem) → p ≡ None → or_else p q ≡ q
 or_none None q e = refl
 or_none (Some x) q e = absurd (cc)
 
+-- Of two problems the first counts where there is one.
 pub or_some : (p q : Option Problem) (x : Problem) → p ≡ Some x → or_else p q ≡ Some x
 or_some None q x e = absurd (cc)
 or_some (Some y) q x e = e
@@ -232,11 +238,13 @@ refusal_step s st new e empty d es p pe o r same =
 
 -- ---- what is written
 
+-- Without a problem the layout is written.
 pub unless_none : (p : Option Problem) (a : Layout) (c : Cursor) (rest : Rest) → p ≡ None
     → unless p a c rest ≡ a c rest
 unless_none None a c rest e = refl
 unless_none (Some x) a c rest e = absurd (cc)
 
+-- Behind a problem nothing of the layout is written.
 pub unless_some : (p : Option Problem) (x : Problem) (a : Layout) (c : Cursor) (rest : Rest)
     → p ≡ Some x → unless p a c rest ≡ rest c
 unless_some None x a c rest e = absurd (cc)
@@ -389,6 +397,7 @@ some_wrong : (n : ℕ) (s : Settings) (st : State) (e : Event) (es : List Event)
 unfolding laid_some
 some_wrong n s st e es c rest x o p = unless_none (refused_at st.place) _ c rest o ∙ unless_some (problem_at s st e) x _ c rest p
 
+-- Where nothing of the events was laid out, the output ends where it stood.
 pub some_none : (s : Settings) (st : State) (o : Output) (es : List Event) (whole : List Item)
     → refused_at st.place ≡ None → LaysSome zero s st o es whole → Ends o [] whole
 unfolding LaysSome laid_some
@@ -438,6 +447,7 @@ some_step (Some x) n old new e es whole o g l h =
 
 -- ---- memory
 
+-- Nothing is noted of memory while the output still goes on.
 pub going_notes : (takes : Bool) (a b : Status) → b ≡ Going → may_note takes a b ≡ false
 going_notes false a b g = refl
 going_notes true Going Going g = refl
@@ -482,6 +492,7 @@ refusal_on b c e es empty o r l g =
     ap (λ (z : Settings). refusal_from z.canonical (state_of c) es) (same_settings b c l.settings l.text.encoding)
     ∙ refusal_step (settings_of b) (state_of b) (state_of c) e empty c.sink.cursor es (problem_at (settings_of b) (state_of b) e) refl o r (l.state g)
 
+-- The first wrong event of a list is that of the rest behind an event that was laid out.
 pub wrong_on : (b c : Core) (e : Event) (es : List Event) (empty : Bool) → refused_at b.place ≡ None
     → LaysOut b c e empty → c.sink.status ≡ Going
     → first_wrong (settings_of c) (state_of c) es

@@ -116,6 +116,7 @@ begins_blames old mid new e p b = λ off on.
 
 -- ---- that the stream was opened or closed is noted
 
+-- Marking the stream open or closed changes nothing of what is blamed.
 pub blames_marked : (e : Event) (old mid new : Emitter) (o k : Bool)
     → new ≡ record mid { opened = o; closed = k } → BlamesLevels e old mid
     → BlamesLevels e old new

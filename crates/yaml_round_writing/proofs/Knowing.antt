@@ -58,8 +58,8 @@ name_stays text more s h =
     (le-leb s.to (length (text ++ more)) (omega (arith, h, length-append text more)))
     (le-leb s.to (length text) h)
     (λ le. let from : s.from ≤ s.to = leb-true s.from s.to le in
-        ap (take (s.to - s.from)) (drop-append-le s.from text more (omega (arith, h, from)))
-        ∙ take-append-le (s.to - s.from) (drop s.from text) more (omega (arith, h, from, length-drop s.from text)))
+    ap (take (s.to - s.from)) (drop-append-le s.from text more (omega (arith, h, from)))
+    ∙ take-append-le (s.to - s.from) (drop s.from text) more (omega (arith, h, from, length-drop s.from text)))
 
 -- what is put behind the text stands there
 name_put : (text name : List ℕ) (s : Span) → s.from ≡ length text
@@ -188,7 +188,7 @@ across false false c = refl
 put_names : (old : Known) (name anchor : List ℕ) (s : Span) → IsWithin old
     → s.from ≡ length old.text.items → s.to ≡ length (old.text.items ++ anchor)
     → (list_any (stands_at name (old.text.items ++ anchor)) (old.spans.items ++ s ∷ [])
-        || list_any (is_called name) old.names.keys)
+    || list_any (is_called name) old.names.keys)
     ≡ (is_same name anchor || has_name name old)
 put_names old name anchor s w from to =
     let text = old.text.items in

@@ -152,6 +152,7 @@ fault_machine m (errors.Fault p) i stuck more r =
 pub left_is : (m : Machine) → m.started ≡ true → left_in m ≡ to_come m
 left_is m on = ap (λ b. left_from b (to_come m) (scanned m.setting m.input.now)) on
 
+-- What is left of a machine that hasn't begun is the whole input.
 pub left_whole : (m : Machine) → m.started ≡ false → left_in m ≡ scanned m.setting m.input.now
 left_whole m off = ap (λ b. left_from b (to_come m) (scanned m.setting m.input.now)) off
 
@@ -199,6 +200,7 @@ pub steps_on : (old new : Machine) (f : Fault) (b : Bool) → b ≡ true → Ste
 steps_on old new f true e s = s
 steps_on old new f false e s = cc
 
+-- A step that fails is refused, and at most 1,025 lexemes wait.
 pub steps_off : (old new : Machine) (f : Fault) (b : Bool) → b ≡ false → Steps old new f b
     → IsRefused old f × IsShort new.waiting
 steps_off old new f true e s = cc

@@ -22,29 +22,29 @@ use Rattle.yaml_parse_laws_windows.proofs.Parting.{end_at, start_at, begun, Ende
 
 -- ---- items without numbers
 
-abbrev items_of : List Given → List RawEvent
+abbrev pub items_of : List Given → List RawEvent
 items_of gs = map (λ (g : Given). g.0) gs
 
-record Plain : Type 0 where
+pub record Plain : Type 0 where
   pub events : List Event
   pub ending : Option Fault
 
-abbrev with_one : Event → Plain → Plain
+abbrev pub with_one : Event → Plain → Plain
 with_one e p = record { events = e ∷ p.events; ending = p.ending }
 
-abbrev with_front : List Event → Plain → Plain
+abbrev pub with_front : List Event → Plain → Plain
 with_front es p = record { events = es ++ p.events; ending = p.ending }
 
-abbrev told_by : Settled → RawEvent → (Directives → Plain) → Plain
+abbrev pub told_by : Settled → RawEvent → (Directives → Plain) → Plain
 told_by (refused f) i k = record { events = []; ending = Some f }
 told_by (gave body ds) i k = record { events = placed body i ∷ (k ds).events; ending = (k ds).ending }
 told_by (noted ds) i k = k ds
 
-abbrev plain : List RawEvent → Option Fault → Directives → Plain
+abbrev pub plain : List RawEvent → Option Fault → Directives → Plain
 plain [] f ds = record { events = []; ending = f }
 plain (i ∷ is) f ds = told_by (settle i ds) i (λ z. plain is f z)
 
-abbrev seen : Reading → Plain
+abbrev pub seen : Reading → Plain
 seen r = record { events = events_in r; ending = r.ending }
 
 reading_plain : (gs : List Given) (f : Option Fault) (ds : Directives)
@@ -59,7 +59,7 @@ reading_plain (g ∷ gs) f ds = by (settle g.0 ds) (λ z. reading_plain gs f z)
     by (gave body z) h = ap (λ (p : Plain). record { events = placed body g.0 ∷ p.events; ending = p.ending }) (h z)
     by (noted z) h = h z
 
-plain_through : (is js : List RawEvent) (f : Option Fault) (ds behind : Directives)
+pub plain_through : (is js : List RawEvent) (f : Option Fault) (ds behind : Directives)
     (es : List Event)
     → through is ds ≡ Some (es, behind)
     → plain (is ++ js) f ds ≡ with_front es (plain js f behind)
@@ -163,28 +163,35 @@ carried_ending : (n : ℕ) (x : Fed) (is : List RawEvent) (s : List State) (k : 
     → x ≡ go is s → (carry n x k).ending ≡ (k s).ending
 carried_ending n x is s k e = ap (λ y. (carry n y k).ending) e
 
-step_items : (t : Token) (ts : List Token) (s z : List State) (f : Option Fault)
+pub step_items : (t : Token) (ts : List Token) (s z : List State) (f : Option Fault)
     (is : List RawEvent)
     → feed s t ≡ go is z → items_of (run (t ∷ ts) s f).items ≡ is ++ items_of (run ts z f).items
 step_items t ts s z f is e = ap (λ y. items_of y.items) (run_step t ts s f) ∙ carried_items (length ts) (feed s t) is z (λ z. run ts z f) e
 
-step_ending : (t : Token) (ts : List Token) (s z : List State) (f : Option Fault)
+pub step_ending : (t : Token) (ts : List Token) (s z : List State) (f : Option Fault)
     (is : List RawEvent)
     → feed s t ≡ go is z → (run (t ∷ ts) s f).ending ≡ (run ts z f).ending
 step_ending t ts s z f is e = ap (λ y. y.ending) (run_step t ts s f) ∙ carried_ending (length ts) (feed s t) is z (λ z. run ts z f) e
 
+-- feeding tokens to a stack gives these items, and leads to that stack
+abbrev pub Reaches : List Token → List State → List RawEvent → List State → Type 0
+Reaches [] s is z = (is ≡ []) × (z ≡ s)
+Reaches (t ∷ ts) s is z = (js : List RawEvent) × (y : List State) × (ks : List RawEvent)
+    × (feed s t ≡ go js y) × Reaches ts y ks z × (is ≡ js ++ ks)
+
 -- what a stack is behind tokens that are taken
-record After (front : List Token) (s : List State) (ds : Directives) : Type 0 where
+pub record After (front : List Token) (s : List State) (ds : Directives) : Type 0 where
   pub items : List RawEvent
   pub stack : List State
   pub noted : Directives
   pub events : List Event
   pub told : through items ds ≡ Some (events, noted)
+  pub reaches : Reaches front s items stack
   pub stands : Stands stack noted
   pub gives : (ts : List Token) (f : Option Fault) → items_of (run (front ++ ts) s f).items ≡ items ++ items_of (run ts stack f).items
   pub ends : (ts : List Token) (f : Option Fault) → (run (front ++ ts) s f).ending ≡ (run ts stack f).ending
 
-through_joined : (is js : List RawEvent) (ds w behind : Directives) (fs gs : List Event)
+pub through_joined : (is js : List RawEvent) (ds w behind : Directives) (fs gs : List Event)
     → through is ds ≡ Some (fs, w) → through js w ≡ Some (gs, behind)
     → through (is ++ js) ds ≡ Some (fs ++ gs, behind)
 through_joined [] js ds w behind fs gs one two =
@@ -228,6 +235,7 @@ after [] s ds g goes last es behind told none = record {
   noted = ds;
   events = [];
   told = refl;
+  reaches = (refl, refl);
   stands = g;
   gives = λ ts f. refl;
   ends = λ ts f. refl;
@@ -251,6 +259,7 @@ after (t ∷ front) s ds g goes last es behind told none = by (feed s t) refl (s
           noted = a.noted;
           events = fs ++ a.events;
           told = through_joined is a.items ds w a.noted fs a.events one a.told;
+          reaches = (is, z, a.items, e, a.reaches, refl);
           stands = a.stands;
           gives = λ ts f. step_items t (front ++ ts) s z f is e ∙ ap (λ y. is ++ y) (a.gives ts f) ∙ sym (append_assoc is a.items (items_of (run ts a.stack f).items));
           ends = λ ts f. step_ending t (front ++ ts) s z f is e ∙ a.ends ts f;
@@ -292,7 +301,7 @@ rest_ending x a c m f behind own =
 uncons : {A : Type 0} (x y : A) (xs ys : List A) → x ∷ xs ≡ y ∷ ys → xs ≡ ys
 uncons x y xs ys e = cc
 
-parse_plain : (ts : List Token) (own : Option Fault)
+pub parse_plain : (ts : List Token) (own : Option Fault)
     → seen (parse_of ts own) ≡ plain (items_of (run ts initial own).items) (run ts initial own).ending no_directives
 parse_plain ts own = reading_plain (run ts initial own).items (run ts initial own).ending no_directives
 
@@ -300,7 +309,7 @@ inner_pair : {x y : List Event × Directives} → Some x ≡ Some y → x ≡ y
 inner_pair e = cc
 
 -- what is given in front of the end, and the directives there
-record Front (front : List Token) (m e f : yaml_mark_t) : Type 0 where
+pub record Front (front : List Token) (m e f : yaml_mark_t) : Type 0 where
   pub taken : After front initial no_directives
   pub ended : Ended taken.stack m e f
   pub events : List Event
@@ -324,7 +333,7 @@ fronted front m e f s r es z told =
       told = there ∙ ap (λ y. Some (hs, y)) (r.clean s.noted s.stands hs v there);
     }
 
-front_of : (front : List Token) → GoOn front → (m e f : yaml_mark_t)
+pub front_of : (front : List Token) → GoOn front → (m e f : yaml_mark_t)
     → (parse_of (front ++ end_at m e ∷ []) None).ending ≡ None → Front front m e f
 front_of front goes m e f none =
     let A = run (front ++ end_at m e ∷ []) initial None in
@@ -346,7 +355,7 @@ front_plain front m e f x is g =
     ∙ ap (with_front x.taken.events) (plain_through x.ended.left is g x.taken.noted no_directives x.events x.told)
     ∙ ap (λ (y : List Event). record { events = y; ending = (plain is g no_directives).ending }) (sym (append_assoc x.taken.events x.events (plain is g no_directives).events))
 
-front_events : (front : List Token) (m e f : yaml_mark_t) → (x : Front front m e f)
+pub front_events : (front : List Token) (m e f : yaml_mark_t) → (x : Front front m e f)
     → events_in (parse_of (front ++ end_at m e ∷ []) None)
     ≡ (x.taken.events ++ x.events) ++ placed event.stream_end (event_at event.stream_end m e) ∷ []
 front_events front m e f x =
@@ -409,7 +418,7 @@ at_once front goes m e f none x a c behind own before end came start later come 
       ap (λ (p : Plain). p.ending) whole ∙ sym (ap (λ (p : Plain). p.ending) rest),
     )
 
-body_at : (t : Token) (b : TokenBody) (m : yaml_mark_t) → t.body ≡ b → t.start_mark ≡ m
+pub body_at : (t : Token) (b : TokenBody) (m : yaml_mark_t) → t.body ≡ b → t.start_mark ≡ m
     → t ≡ record { body = b; start_mark = m; end_mark = t.end_mark }
 body_at t b m e f = ap (λ (z : TokenBody). record { body = z; start_mark = t.start_mark; end_mark = t.end_mark }) e ∙ ap (λ (z : yaml_mark_t). record { body = b; start_mark = z; end_mark = t.end_mark }) f
 

@@ -1,4 +1,4 @@
 mod Grounding
-mod Noting
-mod Parting
+pub mod Noting
+pub mod Parting
 pub mod Following

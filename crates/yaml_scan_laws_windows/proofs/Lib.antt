@@ -19,3 +19,4 @@ mod Rests
 mod Entering
 mod Joining
 pub mod Windows
+pub use Rattle.yaml_scan_laws_order.proofs.StreamForward as OrderLaws

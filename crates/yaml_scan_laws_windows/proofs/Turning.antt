@@ -137,7 +137,7 @@ no_start t p b = elim (cases_Bool (is_document_start t p)) [
   | inr h ↦ h
 ]
 
-starts : (flow : Bool) (t : List ℕ) (p : ℕ) → is_document_start t p ≡ true
+pub starts : (flow : Bool) (t : List ℕ) (p : ℕ) → is_document_start t p ≡ true
     → kind_at flow t p ≡ Some kinds.DocumentStart
 unfolding kind_at
 starts flow t p h =

@@ -7,15 +7,17 @@ use Rattle.std.specs.List.{flat_map}
 use Rattle.yaml_scan_history.specs.scan_model.declared.name.yaml_encoding_t.{yaml_encoding_t}
 use Rattle.yaml_scan_history.specs.scan_model.declared.record.yaml_mark_t.{yaml_mark_t}
 use Rattle.yaml_scan_history.specs.scan_model.declared.problem.ScanFault.{ScanFault}
-use Rattle.yaml_scan_history.specs.scan_model.Tokens.{Token, TokenBody, block_end, zero_mark}
+use Rattle.yaml_scan_history.specs.scan_model.Tokens.{stream_start, document_start, stream_end, Token, TokenBody, block_end, zero_mark}
 use Rattle.yaml_scan_history.specs.scan_model.Faults.{Fault}
 use Rattle.yaml_scan_history.specs.scan_model.Marks.{line_at, mark_at}
+use Rattle.yaml_scan_history.specs.scan_words.Indicators.{is_document_start}
 use Rattle.yaml_scan_history.specs.declared.kind.Kind.{Kind}
 use Rattle.yaml_scan_history.specs.declared.kind.Kind.TheVariants as kinds
 use Rattle.yaml_scan_history.specs.declared.lexeme.Lexeme.{Lexeme}
 use Rattle.yaml_scan_history.specs.declared.lexeme.Entry.{Entry}
 use Rattle.yaml_scan_history.specs.Kinds.{depth_after, is_end}
 use Rattle.yaml_scan_history.specs.History.{depth, ended, candidate, levels, entry_of, entries}
+use Rattle.yaml_scan_history.specs.Words.{word_at}
 use Rattle.yaml_scan_history.specs.Next.{Next, Read, Fails, Ends, first_lexeme, begun_behind, word_behind, lexeme_behind, no_start, place_behind, stale_before, first_fault_or, kind_behind, coming, next, extended, history, indicator_misplaced, candidate_lost, text_wrong, stale_after}
 use Rattle.yaml_scan_history.specs.Remaining.{SpelledText, body_of_word, body_by, body_in, token_in, start_tokens, end_tokens, spell, all, fault_in, Remaining}
 use Rattle.yaml_scan_laws_order.proofs.HistoryForward.{Stands, history_stands, first_is, not_ended, all_ends, last_is_all}
@@ -25,8 +27,8 @@ use Rattle.yaml_scan_laws_windows.specs.Laws.{scan_of, WindowsAreScanned}
 use Rattle.yaml_scan_laws_windows.proofs.Histories.{Bases, moved_lexemes}
 use Rattle.yaml_scan_laws_windows.proofs.Stepping.{has_read, front_said}
 use Rattle.yaml_scan_laws_windows.proofs.Fronts.{mark_zero, lexeme_zero, front_pair, next_open, history_more, EndsAt, reads_before, front_history, end_step}
-use Rattle.yaml_scan_laws_windows.proofs.Marking.{IsMark, mark_lexeme, none_left}
-use Rattle.yaml_scan_laws_windows.proofs.Turning.{MarkStands, mark_stands, Turns, turns, mark_there}
+use Rattle.yaml_scan_laws_windows.proofs.Marking.{start_mark, IsMark, mark_lexeme, none_left}
+use Rattle.yaml_scan_laws_windows.proofs.Turning.{starts, MarkStands, mark_stands, Turns, turns, mark_there}
 use Rattle.yaml_scan_laws_windows.proofs.Rests.{body_same, depth_placed, carries, AllCarry, rest_base, whole_base, rest_bases, rest_next, rest_marks, grown}
 use Rattle.yaml_scan_laws_windows.proofs.Entering.{moved_entry, entered}
 use Rattle.yaml_scan_laws_windows.proofs.Joining.{spells_moved, told, offline_told, offline_fault, parted}
@@ -368,3 +370,59 @@ windows_are_scanned x a b cut none outer front last are first behind come =
     made (scan_of x (a ++ b)) _ _
     (tokens ∙ ap (λ n. front ++ map (moved_token (length a) n) behind) lines)
     (fault ∙ ap (λ n. option_map (moved_fault (length a) n) (scan_of x b).fault) lines)
+
+-- ---- the tokens at the cut
+
+first_same : {A : Type 0} (x y : A) (xs ys : List A) → x ∷ xs ≡ y ∷ ys → x ≡ y
+first_same x y xs ys e = cc
+
+-- where the rest begins with `---`
+pub record AtCut (x : yaml_encoding_t) (a : List ℕ) (last first : Token) (behind : List Token) : Type 0 where
+  pub end : last.body ≡ stream_end
+  pub start : first.body ≡ stream_start x
+  pub mark : Token
+  pub rest : List Token
+  pub are : behind ≡ mark ∷ rest
+  pub begins : mark.body ≡ document_start
+  pub there : moved_mark (length a) (line_at a (length a)) mark.start_mark ≡ last.start_mark
+
+pub at_cut : (x : yaml_encoding_t) (a b : List ℕ) → IsCut a b → is_document_start b 0 ≡ true
+    → (scan_of x a).fault ≡ None → depth (all a) ≡ 0
+    → (front : List Token) (last : Token) → (scan_of x a).tokens ≡ front ++ last ∷ []
+    → (first : Token) (behind : List Token) → (scan_of x b).tokens ≡ first ∷ behind
+    → AtCut x a last first behind
+unfolding word_at
+at_cut x a b cut begins none outer front last are first behind come =
+    let s : SpelledText = record { encoding = x; text = a } in
+    let r : SpelledText = record { encoding = x; text = b } in
+    let m : MarkStands false b 0 = record { kind = kinds.DocumentStart; body = document_start; is = start_mark; stands = starts false b 0 begins } in
+    let over = fault_none (next a (all a)) (sym (offline_fault s) ∙ none) (all_ends a) in
+    let t = turned x a b cut m over outer in
+    let H = t.lexemes in
+    let w = whole x a b cut m H t.some t.steps t.there in
+    let n = line_at (a ++ b) (length a) in
+    let p = parted x b (a ++ b) (length a) n (length H - 1) w.lexemes (rest_base m.kind b) (whole_base m.kind a b H) (rest_bases a b cut m H t.some) w.carry (next b (all b)) (all_ends b) in
+    let closed = closings H (mark_at (a ++ b) (length a)) in
+    let old = flat_map (spell s) (entries H) in
+    let ends : (scan_of x a).tokens ≡ (old ++ closed) ++ token_in s t.end ∷ [] =
+    offline_told s ∙ ap (λ z. told s z (all a)) over ∙ append-nil (flat_map (spell s) (entries (all a)))
+    ∙ ap (λ h. flat_map (spell s) (entries h)) t.all_read
+    ∙ ap (flat_map (spell s)) (end_entries t.end H t.turns.kind)
+    ∙ flat_map-append (spell s) (entries H) (entry_of t.end H ∷ [])
+    ∙ ap (λ z. old ++ z) (append-nil (spell s (entry_of t.end H)) ∙ end_spelled s t.end H (mark_at (a ++ b) (length a)) t.turns.kind t.turns.outer t.turns.start)
+    ∙ sym (append_assoc old closed (token_in s t.end ∷ [])) in
+    let (same, is) = same_from_push front (old ++ closed) last (token_in s t.end) (sym are ∙ ends) in
+    let L0 = mark_lexeme m.kind b 0 in
+    let begun : (scan_of x b).tokens ≡ token_in r first_lexeme ∷ token_in r L0 ∷ p.behind =
+    offline_told r ∙ ap (λ h. told r (next b (all b)) h) w.mine ∙ p.mine ∙ ap (λ z. z ++ p.behind) (first_told r m.kind m.body m.is b) in
+    let lines : n ≡ line_at a (length a) = ap (λ (z : yaml_mark_t). z.line) (sym (mark_there a b cut)) in
+    let e : length a + 0 ≡ length a = omega arith in
+    record {
+      end = ap (λ (z : Token). z.body) is ∙ ap (λ k. body_by k s t.end) t.turns.kind;
+      start = ap (λ (z : Token). z.body) (first_same first (token_in r first_lexeme) behind (token_in r L0 ∷ p.behind) (sym come ∙ begun));
+      mark = token_in r L0;
+      rest = p.behind;
+      are = uncons first (token_in r first_lexeme) behind (token_in r L0 ∷ p.behind) (sym come ∙ begun);
+      begins = refl;
+      there = ap (λ z. moved_mark (length a) z (mark_at b 0)) (sym lines) ∙ sym (rest_marks a b cut 0) ∙ ap (mark_at (a ++ b)) e ∙ sym t.turns.start ∙ ap (λ (z : Token). z.start_mark) (sym is);
+    }

@@ -1,0 +1,3 @@
+mod Machine
+mod Accepted
+mod Joining

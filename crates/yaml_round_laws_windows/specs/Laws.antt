@@ -1,0 +1,44 @@
+-- What is read of a text that is cut in two.
+use Rattle.std.specs.Prelude.{◌≡◌, ℕ, true, List, [], ◌∷◌, ◌++◌, map, length, None}
+use Rattle.yaml_round_content.specs.scan_model.declared.yaml_encoding_t.{yaml_encoding_t}
+use Rattle.yaml_round_content.specs.scan_model.Marks.{line_at}
+use Rattle.yaml_round_content.specs.scan_history.History.{depth}
+use Rattle.yaml_round_content.specs.scan_history.Remaining as scan
+use Rattle.yaml_round_content.specs.scan_history.scan_words.Indicators.{is_document_start}
+use Rattle.yaml_round_content.specs.parse_model.Events.{Event}
+use Rattle.yaml_round_content.specs.parse_grammar.Resolve.{Reading, Told}
+use Rattle.yaml_round_content.specs.round_laws_adapted.Adapted.{adapted}
+use Rattle.yaml_round_content.specs.Input.{parsed}
+use Rattle.yaml_scan_laws_windows.specs.Cuts.{IsCut}
+use Rattle.yaml_scan_laws_windows.specs.Laws.{scan_of}
+use Rattle.yaml_round_laws_windows.specs.Moved.{moved_event}
+
+-- a text's tokens as a parser takes them
+abbrev pub tokens_in : yaml_encoding_t → List ℕ → scan.Remaining
+tokens_in encoding text = adapted (scan_of encoding text)
+
+-- what a parser reads of a text
+abbrev pub reading_in : yaml_encoding_t → List ℕ → Reading
+reading_in encoding text = parsed (tokens_in encoding text)
+
+-- its events, without how many tokens were asked for
+abbrev pub events_in : yaml_encoding_t → List ℕ → List Event
+events_in encoding text = map (λ (t : Told). t.0) (reading_in encoding text).events
+
+-- the text is accepted
+pub record IsAccepted (encoding : yaml_encoding_t) (text : List ℕ) : Type 0 where
+  pub scanned : (tokens_in encoding text).fault ≡ None
+  pub parsed : (reading_in encoding text).ending ≡ None
+
+-- Where a text is cut in front of a line `---`, and both parts are accepted, and the front leaves no bracket open, the whole is
+-- accepted, and its events are those of the front without STREAM-END, and then those of the rest without STREAM-START, moved by the
+-- front's bytes and lines.
+abbrev pub WindowsAreRead : Type 0
+WindowsAreRead = (encoding : yaml_encoding_t) (front rest : List ℕ) → IsCut front rest
+    → is_document_start rest 0 ≡ true → depth (scan.all front) ≡ 0
+    → IsAccepted encoding front → IsAccepted encoding rest
+    → (before : List Event) (end : Event) → events_in encoding front ≡ before ++ end ∷ []
+    → (start : Event) (later : List Event) → events_in encoding rest ≡ start ∷ later
+    → IsAccepted encoding (front ++ rest)
+    × (events_in encoding (front ++ rest)
+    ≡ before ++ map (moved_event (length front) (line_at front (length front))) later)

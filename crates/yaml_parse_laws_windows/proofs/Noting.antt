@@ -36,6 +36,7 @@ abbrev pub through : List RawEvent → Directives → Option (List Event × Dire
 through [] ds = Some ([], ds)
 through (i ∷ is) ds = then_through (settle i ds) i (λ x. through is x)
 
+-- Nothing is not something.
 pub none_some : {A : Type 0} {x : A} → None ≡ Some x → ⊥
 none_some e = cc
 

@@ -163,6 +163,7 @@ carried_ending : (n : ℕ) (x : Fed) (is : List RawEvent) (s : List State) (k : 
     → x ≡ go is s → (carry n x k).ending ≡ (k s).ending
 carried_ending n x is s k e = ap (λ y. (carry n y k).ending) e
 
+-- The items of a token that is taken come in front of those of the rest.
 pub step_items : (t : Token) (ts : List Token) (s z : List State) (f : Option Fault)
     (is : List RawEvent)
     → feed s t ≡ go is z → items_of (run (t ∷ ts) s f).items ≡ is ++ items_of (run ts z f).items
@@ -191,6 +192,7 @@ pub record After (front : List Token) (s : List State) (ds : Directives) : Type 
   pub gives : (ts : List Token) (f : Option Fault) → items_of (run (front ++ ts) s f).items ≡ items ++ items_of (run ts stack f).items
   pub ends : (ts : List Token) (f : Option Fault) → (run (front ++ ts) s f).ending ≡ (run ts stack f).ending
 
+-- What settles two lists of items, one behind another, settles each in its turn.
 pub through_joined : (is js : List RawEvent) (ds w behind : Directives) (fs gs : List Event)
     → through is ds ≡ Some (fs, w) → through js w ≡ Some (gs, behind)
     → through (is ++ js) ds ≡ Some (fs ++ gs, behind)

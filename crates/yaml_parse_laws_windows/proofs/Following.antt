@@ -59,6 +59,7 @@ reading_plain (g ∷ gs) f ds = by (settle g.0 ds) (λ z. reading_plain gs f z)
     by (gave body z) h = ap (λ (p : Plain). record { events = placed body g.0 ∷ p.events; ending = p.ending }) (h z)
     by (noted z) h = h z
 
+-- Items that settle without directives pass as their events.
 pub plain_through : (is js : List RawEvent) (f : Option Fault) (ds behind : Directives)
     (es : List Event)
     → through is ds ≡ Some (es, behind)
@@ -169,6 +170,7 @@ pub step_items : (t : Token) (ts : List Token) (s z : List State) (f : Option Fa
     → feed s t ≡ go is z → items_of (run (t ∷ ts) s f).items ≡ is ++ items_of (run ts z f).items
 step_items t ts s z f is e = ap (λ y. items_of y.items) (run_step t ts s f) ∙ carried_items (length ts) (feed s t) is z (λ z. run ts z f) e
 
+-- A token that is taken leaves the ending to the rest.
 pub step_ending : (t : Token) (ts : List Token) (s z : List State) (f : Option Fault)
     (is : List RawEvent)
     → feed s t ≡ go is z → (run (t ∷ ts) s f).ending ≡ (run ts z f).ending
@@ -303,6 +305,7 @@ rest_ending x a c m f behind own =
 uncons : {A : Type 0} (x y : A) (xs ys : List A) → x ∷ xs ≡ y ∷ ys → xs ≡ ys
 uncons x y xs ys e = cc
 
+-- The events of tokens are those of the items that the machine gives.
 pub parse_plain : (ts : List Token) (own : Option Fault)
     → seen (parse_of ts own) ≡ plain (items_of (run ts initial own).items) (run ts initial own).ending no_directives
 parse_plain ts own = reading_plain (run ts initial own).items (run ts initial own).ending no_directives
@@ -335,6 +338,7 @@ fronted front m e f s r es z told =
       told = there ∙ ap (λ y. Some (hs, y)) (r.clean s.noted s.stands hs v there);
     }
 
+-- Tokens whose end is accepted are a front: what they give, and where they leave a parser.
 pub front_of : (front : List Token) → GoOn front → (m e f : yaml_mark_t)
     → (parse_of (front ++ end_at m e ∷ []) None).ending ≡ None → Front front m e f
 front_of front goes m e f none =
@@ -420,6 +424,7 @@ at_once front goes m e f none x a c behind own before end came start later come 
       ap (λ (p : Plain). p.ending) whole ∙ sym (ap (λ (p : Plain). p.ending) rest),
     )
 
+-- A token is its body at its place.
 pub body_at : (t : Token) (b : TokenBody) (m : yaml_mark_t) → t.body ≡ b → t.start_mark ≡ m
     → t ≡ record { body = b; start_mark = m; end_mark = t.end_mark }
 body_at t b m e f = ap (λ (z : TokenBody). record { body = z; start_mark = t.start_mark; end_mark = t.end_mark }) e ∙ ap (λ (z : yaml_mark_t). record { body = b; start_mark = z; end_mark = t.end_mark }) f

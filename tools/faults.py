@@ -23,12 +23,12 @@ What is promised, and judged for each run (docs/PROFILE.md, 'The program'):
     told            status 1, the one line that names what went wrong, and nothing on standard output; of the commands that
                     judge many files, and of diff, status 2, and the other files are judged all the same
     written so far  a failed write of the answer: status 1, `write failed after N bytes`, and the answer's first N bytes; of the
-                    commands that tell a reason that reason, and a front of the answer
+                    commands that tell a reason, and of help, that reason, and a front of the answer
     whose           of two inputs, a short one beside a long one: want of memory is told of the short one in no more runs
                     than there are allocations where it stands on both sides
     untold          of want of memory where the line itself can't be made, as where all further allocations are refused:
                     status 1, or 2 for the words of the command line, before an input is opened or read, and nothing written
-                    at all; where a line or help can't be written: the status that it would have had, and a front of it
+                    at all; where a line can't be written: the status that it would have had, and a front of it
 
 Whatever else happens (a signal, another status, a line cut short, a front of an answer behind another line) is printed, and
 the script fails. Want of memory of each call by itself is tried by tools/faults_calls.py.
@@ -212,8 +212,8 @@ def judge_write(wrong, run, usual):
         return "untold" if is_front and (run.status, run.output) == (usual.status, usual.output) else None
     is_front = usual.output.startswith(run.output) and run.output != usual.output
     if is_help:
-        # its status stays
-        return "untold" if is_front and run.status == 0 and not run.errors else None
+        has_reason = re.fullmatch(rb"yaml_cli: standard output: \S.*\n", run.errors)
+        return "told" if is_front and run.status == 2 and has_reason else None
     line = b"yaml_cli: write failed after %d bytes\n" % len(run.output)
     return "written so far" if is_front and (run.status, run.errors) == (1, line) else None
 
@@ -330,6 +330,9 @@ def real_runs(bench):
         (["same", "in.yaml", "in.yaml"], full, 1, b"write failed after 0 bytes"),
         (["events", "."], none, 1, b"cannot read the input"),
         (["same", "in.yaml", "."], none, 1, b"cannot read the input"),
+        (["--version"], full, 2, no_space),
+        (["--help"], full, 2, no_space),
+        (["fmt", "--help"], pipe, 1, b""),
         (["fmt", "--check", "in.yaml"], full, 2, no_space),
         (["fmt", "--check", "in.yaml"], pipe, 1, b""),
         (["check", "in.yaml", "."], full, 2, b".: Is a directory (os error 21)"),

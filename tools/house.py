@@ -6,7 +6,8 @@
                                statements; bodies of more than 40 lines
                                without `long` in the comment above; functions of more than 6 arguments, without `arguments`
                                there; laws that code calls; hints of inlining and reads that nothing uses, without a reason;
-                               public items without a doc comment
+                               public items without a doc comment; lemmas that another crate brings in without a line of
+                               comment, unless the statement is laws' names alone, which are commented where they stand
     tools/house.py --names     records and data types of specs/ of which more than one crate has one of the name, but for
                                the nouns that docs/GLOSSARY.md says layer by layer
 """
@@ -21,6 +22,9 @@ import repository as repo
 USE = re.compile(r"\s*(?:(?:pub|unfoldable|ghost) )*use\b")
 # Where a lemma's statement begins in a file of proofs.
 STATEMENT = re.compile(r"(?:(?:pub|abbrev|opaque|unfoldable) )*[^\s:({=]+(?: [({][^=]*)? : ")
+# What is brought in of another crate's lemmas, and a statement that is the names of laws.
+CITES = re.compile(rf"use Rattle\.(\w+)\.proofs\.(\w+)\.(?:\{{([^}}]*)\}}|({repo.NAME}))")
+LAWS = re.compile(r"(?:[A-Z]\w* → )*[A-Z]\w*")
 ITEM = re.compile(r"\s*pub (?:fn|struct|enum|trait|const|extern|type)\b")
 
 
@@ -109,6 +113,27 @@ def wrong_functions():
                 yield f"{where} calls the law {name}"
 
 
+def cited():
+    """What crates bring in of each other's files of lemmas: crate, file and name."""
+    for path in files():
+        for crate, module, names, name in CITES.findall(repo.read(path)):
+            if crate != path.split("/")[1]:
+                for it in re.split(r"[,\s]+", names) if names else [name]:
+                    yield f"crates/{crate}/proofs/{module}.antt", it.split(" as ")[0]
+
+
+def uncommented_lemmas():
+    for path, name in sorted(set(cited())):
+        if not os.path.exists(f"{repo.TOP}/{path}"):
+            continue
+        lines = repo.read(path).split("\n")
+        start = re.compile(rf"pub (?:(?:abbrev|opaque|unfoldable) )*{re.escape(name)}(?: [({{].*)? : (.*)")
+        for at, line in enumerate(lines):
+            said = start.match(line)
+            if said and not comment_above(lines, at) and not LAWS.fullmatch(said[1]):
+                yield f"{path}:{at + 1}: {name} is cited by another crate, without a comment"
+
+
 def layered_nouns():
     """The nouns that each layer may have as its own: the second table of the glossary."""
     table = repo.read("docs/GLOSSARY.md").partition("## One name in several layers")[2]
@@ -138,7 +163,7 @@ def main():
         wrong += [f"{path}: {len(lines) - 1} lines"] if len(lines) > 601 else []
         wrong += wide_statements(path, lines) if "/proofs/" in path else wide_lines(path, lines)
         wrong += unexplained(path, lines) if path.endswith(".rt") else []
-    wrong += wrong_functions()
+    wrong += [*wrong_functions(), *uncommented_lemmas()]
     print("\n".join(wrong) if wrong else "house: in order")
     return bool(wrong)
 

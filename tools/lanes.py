@@ -1,7 +1,9 @@
 """Proves crates side by side, those with the longest chain of others behind them first; used by `program.py` and `base.py`."""
 import contextlib
+import hashlib
 import importlib.machinery
 import importlib.util
+import json
 import os
 import re
 import shutil
@@ -127,6 +129,27 @@ def kept_by(rt, crates, searches=True):
     with open(f"{rt.KIT}/KIT-ID", encoding="utf-8") as line:
         own = store.Kept(store.folder(), line.read())
     return Unsearched(rt.Kept(crates), own) if hasattr(rt, "Kept") else own
+
+
+def is_kept(gates, crate):
+    """Whether the kit's gate keeps the crate's library. It names what it keeps by the libraries below, as they were built: so these
+    are asked first."""
+    if not crate.makes_rlib() or any(it.name not in gates.rlibs for it in crate.below()):
+        return False
+    try:
+        with open(f"{gates.place(crate, False, gates.key(crate))}/made.json", encoding="utf-8") as text:
+            files = [tuple(it) for it in json.load(text)["files"]]
+    except (OSError, ValueError, KeyError, TypeError):
+        return False
+    gates.rlibs[crate.name] = hashlib.sha256(repr(files).encode()).hexdigest()
+    return True
+
+
+def held_by(kept, crates):
+    """The crates, lowest first, whose libraries earlier runs proved."""
+    gates = getattr(kept, "gates", kept)
+    by_gates = lambda it: hasattr(gates, "rlibs") and is_kept(gates, it)
+    return {it for it in crates if by_gates(it) or (hasattr(kept, "has") and kept.has(it))}
 
 
 def only_at_the_end(crates):

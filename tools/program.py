@@ -138,7 +138,7 @@ def prove(rt, goal):
         top = next(it for it in lanes.crates_of(rt, copy) if it.name == goal.crate)
         crates = [*sorted(top.below(), key=lambda it: len(it.below())), top]
         kept = lanes.kept_by(rt, crates, SEARCHES)
-        held = {it for it in crates if hasattr(kept, "has") and kept.has(it)}
+        held = lanes.held_by(kept, crates)
         build = lambda it, jobs: built(rt, kept, goal.logs, it, jobs)
         run = lanes.Lanes(goal.what, crates, build, held)
         lanes.say(goal.what, f"proving {len(crates)} crates, {len(held)} of them kept, jobs {run.lanes}: some {run.time()}")

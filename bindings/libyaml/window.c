@@ -3,7 +3,12 @@
  * Between documents: what stands in front of a cut is parsed, or scanned, alone, and so is what stands
  * behind it: a line `---` at column 0 ends every token and every document, and the scanner and the parser are behind it as they
  * are at a stream's start, if the front has no fault. Where it has one at its end the cut counts for nothing
- * (layer_is_doubtful).
+ * (layer_is_doubtful). Two laws say so of the proved core: where a text is cut behind LF or CR in front of a line that begins with
+ * `---` or `...`, and the front has no fault and no open bracket, the tokens of the whole are the front's without STREAM-END and
+ * then the rest's without STREAM-START, moved by the front's bytes and lines, and its fault is the rest's, moved
+ * (windows_are_scanned of yaml_scan_laws_windows); and where a DOCUMENT-START stands in place of a STREAM-END at which tokens are
+ * accepted, the events behind it are those of a stream of its own (windows_are_parsed of yaml_parse_laws_windows). No law says so of
+ * a cut in front of directives, nor that moved tokens have moved events, which is plain to see of the parser's rules.
  *
  * Within a document, where its root is a block collection at column 0, without anchor, tag and directives: in front of an item at
  * column 0. What stands behind it is parsed behind a stand-in, a root of that kind with one item; of both the events of what

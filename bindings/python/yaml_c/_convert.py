@@ -8,6 +8,7 @@ from typing import Any
 
 from . import _library
 from ._events import (
+    KINDS,
     SCALAR_STYLES,
     STYLES,
     Alias,
@@ -15,20 +16,14 @@ from ._events import (
     DocumentStart,
     Encoding,
     Event,
-    MappingEnd,
     MappingStart,
     Scalar,
-    SequenceEnd,
     SequenceStart,
-    StreamEnd,
     StreamStart,
 )
 from ._records import Records
 
-_KINDS: list[type] = [
-    StreamStart, StreamEnd, DocumentStart, DocumentEnd, Alias, Scalar, SequenceStart, SequenceEnd, MappingStart, MappingEnd,
-]  # fmt: skip
-_NUMBER_OF: dict[type, int] = {it: number for number, it in enumerate(_KINDS, 1)}
+_NUMBER_OF: dict[type, int] = {it: number for number, it in enumerate(KINDS, 1)}
 _NO_SPAN = (0, 0)
 # A record without its marks, which no call looks at.
 _RECORD = struct.Struct("=10i8Q48x")
@@ -89,7 +84,7 @@ def unpacked(records: Records) -> list[Event]:
         if kind == 6:
             it = _scalar(value, tag, anchor, style, implicit, quoted)
         elif kind == 7 or kind == 9:
-            it = _start(_KINDS[kind - 1], tag, anchor, style, implicit)
+            it = _start(KINDS[kind - 1], tag, anchor, style, implicit)
         elif kind == 5:
             it = _made(Alias, anchor=anchor)
         elif kind == 4:
@@ -100,7 +95,7 @@ def unpacked(records: Records) -> list[Event]:
         elif kind == 1:
             it = _made(StreamStart, encoding=Encoding(encoding))
         else:
-            it = _new(_KINDS[kind - 1])
+            it = _new(KINDS[kind - 1])
         _set_places(it, places)
         add(it)
     return found
@@ -155,7 +150,7 @@ class Packed:
         """One more event."""
         number = _NUMBER_OF.get(type(event))
         if number is None:
-            raise TypeError(f"an event is one of {', '.join(it.__name__ for it in _KINDS)}, and not {type(event).__name__}")
+            raise TypeError(f"an event is one of {', '.join(it.__name__ for it in KINDS)}, and not {type(event).__name__}")
         if isinstance(event, Scalar):
             flags: dict[str, Any] = {"implicit": event.implicit, "quoted": event.quoted_implicit}
             self.record(6, value=event.value, tag=event.tag, anchor=event.anchor, style=event.style, **flags)

@@ -9,20 +9,7 @@ from typing import NamedTuple, Union
 
 from . import _library
 from ._calls import Text, input_of, judge_kind, mark_of
-from ._events import (
-    Alias,
-    DocumentEnd,
-    DocumentStart,
-    Encoding,
-    Event,
-    MappingEnd,
-    MappingStart,
-    Scalar,
-    SequenceEnd,
-    SequenceStart,
-    StreamEnd,
-    StreamStart,
-)
+from ._events import KINDS, Encoding, Event
 from ._faults import Mark
 
 
@@ -67,10 +54,6 @@ class Difference:
     second: type[Event]
 
 
-_KINDS: list[type[Event]] = [
-    *[StreamStart, StreamEnd, DocumentStart, DocumentEnd, Alias],
-    *[Scalar, SequenceStart, SequenceEnd, MappingStart, MappingEnd],
-]
 _ENDS = {b"[": b"]", b"<": b">"}
 
 
@@ -124,8 +107,8 @@ def diff(
             tuple(_steps(found.answer.text.get())),
             mark_of(found.first_mark),
             mark_of(found.second_mark),
-            _KINDS[found.first_kind - 1],
-            _KINDS[found.second_kind - 1],
+            KINDS[found.first_kind - 1],
+            KINDS[found.second_kind - 1],
         )
     finally:
         _library.free(found.answer)

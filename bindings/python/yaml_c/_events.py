@@ -6,7 +6,7 @@ import struct
 from collections.abc import Sequence
 from dataclasses import dataclass, field
 from enum import IntEnum
-from typing import Union
+from typing import Any, Union, get_args
 
 from ._faults import Mark
 
@@ -157,3 +157,6 @@ Event = Union[
     MappingStart,
     MappingEnd,
 ]
+
+#: The kinds of events, in the order of their numbers: the first one's is 1.
+KINDS: tuple[Any, ...] = get_args(Event)

@@ -3,7 +3,7 @@
 
 use crate::engine::Engine;
 use crate::fault::{FAILED, UNJUDGED, shown, unread, unwritten};
-use crate::file::{STANDARD, Unread, whole_of};
+use crate::file::{Inputs, STANDARD, Unread, whole_of};
 use crate::order::{Judged, Judging};
 use std::alloc::Global;
 use std::io::{Read, Write};
@@ -96,12 +96,12 @@ fn judge_file<G: Engine, H: Files + AllocGlobal, R: Read, W: Write, E: Write>(
     judge: &Judge<'_, G>,
     rt: &H,
     name: &str,
-    reader: &mut R,
+    inputs: &mut Inputs<R>,
     writer: &mut W,
     errors: &mut E,
 ) -> Verdict {
-    match whole_of(rt, name, reader) {
-        Ok(input) => judge_text(judge, rt.alloc(), name, input.as_slice(), writer, errors),
+    match inputs.next(rt, name) {
+        Ok(input) => judge_text(judge, rt.alloc(), name, input, writer, errors),
         Err(why) => goes_on(unread_of(errors, judge.judging, name, &why)),
     }
 }
@@ -110,13 +110,13 @@ fn judge_files<G: Engine, H: Files + AllocGlobal, R: Read, W: Write, E: Write>(
     judge: &Judge<'_, G>,
     rt: &H,
     files: &[&str],
-    reader: &mut R,
+    inputs: &mut Inputs<R>,
     writer: &mut W,
     errors: &mut E,
 ) -> Verdict {
     let mut worst = 0;
     for name in files {
-        let verdict = judge_file(judge, rt, name, reader, writer, errors);
+        let verdict = judge_file(judge, rt, name, inputs, writer, errors);
         worst = worst.max(verdict.status);
         if verdict.stops {
             return verdict;
@@ -146,16 +146,16 @@ fn judge_listed<G: Engine, H: Files + AllocGlobal, R: Read, W: Write, E: Write>(
     judge: &Judge<'_, G>,
     rt: &H,
     list: &str,
-    reader: &mut R,
+    inputs: &mut Inputs<R>,
     writer: &mut W,
     errors: &mut E,
 ) -> u8 {
-    let text = match whole_of(rt, list, reader) {
+    let text = match whole_of(rt, list, &mut inputs.reader) {
         Ok(text) => text,
         Err(why) => return unread_of(errors, judge.judging, list, &why),
     };
     match names_of(rt.alloc(), text.as_slice()) {
-        Ok(names) => judge_files(judge, rt, names.as_slice(), reader, writer, errors).status,
+        Ok(names) => judge_files(judge, rt, names.as_slice(), inputs, writer, errors).status,
         Err(what) => unread_of(errors, judge.judging, list, &Unread::Unlisted(what)),
     }
 }
@@ -174,15 +174,16 @@ pub(crate) fn judge_all<G: Engine, H: Files + AllocGlobal, R: Read, W: Write, E:
         engine,
         judging: &judged.judging,
     };
+    let mut inputs = Inputs::new(rt.alloc(), reader);
     let files = judged.files.as_slice();
     let Some(list) = judged.list else {
         let files = if files.is_empty() { &[STANDARD] } else { files };
-        return judge_files(&judge, rt, files, reader, writer, errors).status;
+        return judge_files(&judge, rt, files, &mut inputs, writer, errors).status;
     };
-    let verdict = judge_files(&judge, rt, files, reader, writer, errors);
+    let verdict = judge_files(&judge, rt, files, &mut inputs, writer, errors);
     if verdict.stops {
         return verdict.status;
     }
-    let status = judge_listed(&judge, rt, list, reader, writer, errors);
+    let status = judge_listed(&judge, rt, list, &mut inputs, writer, errors);
     status.max(verdict.status)
 }

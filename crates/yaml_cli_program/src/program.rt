@@ -3,7 +3,7 @@
 use crate::compare::{run_diff, run_same};
 use crate::engine::{Ended, Engine};
 use crate::fault::{FAILED, run_failed};
-use crate::file::STANDARD;
+use crate::file::{READ_AHEAD, STANDARD};
 use crate::judge::judge_all;
 use crate::norm::run_normalize;
 use crate::order::{Order, Run, Task, Unknown, WRONG_WORDS, Wrong};
@@ -14,9 +14,6 @@ use std::fs;
 use std::io::{BufReader, Read, Write};
 use std::rt::Files;
 use yaml_round_device::{yaml_form_t, yaml_run_fault_t};
-
-// How many bytes of a file are read at once: each call of the system costs some microseconds.
-const READ_AHEAD: usize = 65_536;
 
 // Runs a command over a file, of which more is read at once than the engine asks for, where there is room for that.
 fn run_over_file<G: Engine, R: Read, W: Write>(

@@ -1,5 +1,6 @@
 //! From words to an order, or to what is wrong with them.
 
+use crate::fault::unwritten;
 use crate::options::whole_command;
 use crate::order::{Order, WRONG_WORDS};
 use crate::settings::order_in;
@@ -42,13 +43,19 @@ fn told<W: Write, E: Write>(error: &WordFault, output: &mut W, errors: &mut E) -
         let _ = write!(errors, "{error}");
         WRONG_WORDS
     } else {
-        let _ = write!(output, "{error}");
-        0
+        let written = match write!(output, "{error}") {
+            Ok(()) => output.flush(),
+            Err(why) => Err(why),
+        };
+        match written {
+            Ok(()) => 0,
+            Err(why) => unwritten(errors, &why),
+        }
     }
 }
 
-/// Tells what is wrong with the words, or the help that they ask for, and answers the status. Of want of memory only the
-/// status tells. It is that of the words, whether or not the text could be written.
+/// Tells what is wrong with the words, or the help that they ask for, and answers the status: of wrong words their own, whether or
+/// not the text could be written. Of want of memory only the status tells.
 pub(crate) fn tell<W: Write, E: Write>(error: WordFault, output: &mut W, errors: &mut E) -> u8 {
     let status = told(&error, output, errors);
     drop(error);

@@ -1,1 +1,2 @@
+pub use Rattle.yaml_emit_machine.proofs.Seeing
 mod Told

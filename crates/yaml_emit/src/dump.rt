@@ -4,7 +4,7 @@ ghost use Rattle.std.specs.Prelude.{◌≡◌, ◌≢◌, ◌<◌, ◌≤◌, �
 ghost use Rattle.yaml_emit_machine.specs.emit_layout.Content.{stream_end, Event};
 ghost use Rattle.yaml_emit_machine.specs.Emitter.{Answers, Stays, left_if, opening_events, document_events, dump_events};
 ghost use Rattle.yaml_emit_machine.specs.Verdict.{TellsOutcome};
-ghost use Rattle.yaml_emit_machine.specs.Taking.{TakesEvents, Stuck, NotesMemory, NotesMemoryOf};
+ghost use Rattle.yaml_emit_machine.specs.Taking.{TakesEvents, Stuck, NotesMemory, NotesMemoryOf, BlamesLevels};
 ghost use Rattle.yaml_emit_machine.specs.Dumping.{OpensStream, opening_event};
 
 use yaml_emit_machine::{
@@ -24,6 +24,7 @@ pub fn yaml_emitter_open(emitter: &mut yaml_emitter_t) -> Result<(), yaml_fault_
     ensures keeps { emitter.new.closed ≡ emitter.old.closed }
     ensures takes { TakesEvents emitter.old (opening_event ∷ []) emitter.new [] }
     ensures memory { NotesMemoryOf opening_event emitter.old emitter.new }
+    ensures blames { BlamesLevels opening_event emitter.old emitter.new }
     ensures tells { TellsOutcome emitter.new }
     ensures stays { Stays emitter.old emitter.new }
     ensures stuck { OnErr result (Stuck emitter.new) }
@@ -48,6 +49,8 @@ pub fn yaml_emitter_close(emitter: &mut yaml_emitter_t) -> Result<(), yaml_fault
         → TakesEvents emitter.old (stream_end ∷ []) emitter.new [] }
     ensures memory { emitter.old.closed ≡ false
         → NotesMemoryOf stream_end emitter.old emitter.new }
+    ensures blames { emitter.old.closed ≡ false
+        → BlamesLevels stream_end emitter.old emitter.new }
     ensures tells { TellsOutcome emitter.new }
     ensures stays { Stays emitter.old emitter.new }
     ensures few { length emitter.new.held ≤ 3 }

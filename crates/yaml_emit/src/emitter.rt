@@ -10,7 +10,7 @@ ghost use Rattle.yaml_emit_machine.specs.Emitter.{IsNew, IsLimited, ShowsFront, 
 ghost use Rattle.yaml_emit_machine.specs.emit_held.Held.{AreLast};
 ghost use Rattle.yaml_emit_machine.specs.Within.{IsWithin};
 ghost use Rattle.yaml_emit_machine.specs.Verdict.{TellsOutcome};
-ghost use Rattle.yaml_emit_machine.specs.Taking.{TakesEvents, GivesText, NotesMemoryOf};
+ghost use Rattle.yaml_emit_machine.specs.Taking.{TakesEvents, GivesText, NotesMemoryOf, BlamesLevels};
 
 use std::alloc::Global;
 use yaml_emit_machine::{
@@ -198,6 +198,7 @@ pub fn yaml_emitter_emit(
     ensures takes { TakesEvents emitter.old (emitter_event (event_of event).body ∷ []) emitter.new
         [] }
     ensures memory { NotesMemoryOf (emitter_event (event_of event).body) emitter.old emitter.new }
+    ensures blames { BlamesLevels (emitter_event (event_of event).body) emitter.old emitter.new }
     ensures tells { TellsOutcome emitter.new }
     ensures answer { Answers emitter.new.fault result }
     ensures stays { Stays emitter.old emitter.new }
@@ -218,6 +219,8 @@ pub fn yaml_emitter_emit_from(emitter: &mut yaml_emitter_t, event: &mut yaml_eve
         emitter.new [] }
     ensures memory { NotesMemoryOf (emitter_event (event_of event.old).body) emitter.old
         emitter.new }
+    ensures blames { BlamesLevels (emitter_event (event_of event.old).body) emitter.old
+        emitter.new }
     ensures stays { Stays emitter.old emitter.new }
     ensures few { length emitter.new.held ≤ 3 }
     ensures opened { (emitter.new.opened ≡ emitter.old.opened)
@@ -235,6 +238,8 @@ pub fn yaml_emitter_emit_early(emitter: &mut yaml_emitter_t, event: &mut yaml_ev
     requires { HasUtf8 (event_of event.old).body }
     ensures text { GivesText emitter.old (emitter_event (event_of event.old).body) emitter.new }
     ensures memory { NotesMemoryOf (emitter_event (event_of event.old).body) emitter.old
+        emitter.new }
+    ensures blames { BlamesLevels (emitter_event (event_of event.old).body) emitter.old
         emitter.new }
     ensures stays { Stays emitter.old emitter.new }
     ensures few { length emitter.new.held ≤ 3 }

@@ -1,9 +1,9 @@
 -- The numbers that were given.
-use Rattle.std.proofs.Common.{◌≡◌, ℕ, ◌+◌, ◌<◌, ◌≤◌, List, [], ◌∷◌, length, get_or, refl, sym, subst, ◌∙◌, ap, arith, add-one}
+use Rattle.std.proofs.Common.{◌≡◌, ℕ, ◌+◌, ◌<◌, ◌≤◌, List, [], ◌∷◌, ◌++◌, length, get_or, refl, sym, subst, ◌∙◌, ap, arith, add-one, append-nil, append_assoc}
 use Rattle.std.specs.Prelude.{zero, suc, replicate, set}
 use Rattle.yaml_parse_model.specs.Nodes.{Node}
 use Rattle.yaml_emit_graph.specs.declared.walk.Turn.{Turn}
-use Rattle.yaml_emit_graph.specs.Graph.{Numbering, numbers, numbered, numbered_by, none_numbered}
+use Rattle.yaml_emit_graph.specs.Graph.{Numbering, turns, numbers, numbered, numbered_by, none_numbered}
 use Rattle.yaml_emit_graph.specs.Onward.{turns_onward}
 use Rattle.yaml_emit_graph.specs.Numbers.{counted, IsNumbering}
 use Rattle.yaml_emit_graph.proofs.Joining.{turns_joined}
@@ -67,3 +67,17 @@ pub numbers_done : (table : List ℕ) (a : Numbering) (ts : List Turn) → table
     → ts ≡ [] → a.table ≡ table
 unfolding numbered
 numbers_done table a ts h e = sym (h ∙ ap (λ z. (numbered a z).table) e)
+
+-- ---- the turns that were met, and those to come
+
+pub turns_start : (nodes : List Node) (ts us : List Turn) → ts ≡ [] → us ≡ turns_onward nodes
+    → turns nodes ≡ ts ++ us
+turns_start nodes ts us e n = sym (turns_joined nodes) ∙ sym n ∙ ap (λ z. z ++ us) (sym e)
+
+pub turns_more : (all ts us vs ws : List Turn) (t : Turn) → all ≡ ts ++ us → us ≡ t ∷ vs
+    → ws ≡ ts ++ t ∷ [] → all ≡ ws ++ vs
+turns_more all ts us vs ws t h e n =
+    h ∙ ap (λ z. ts ++ z) e ∙ sym (append_assoc ts (t ∷ []) vs) ∙ ap (λ z. z ++ vs) (sym n)
+
+pub turns_done : (all ts us : List Turn) → all ≡ ts ++ us → us ≡ [] → ts ≡ all
+turns_done all ts us h e = sym (h ∙ ap (λ z. ts ++ z) e ∙ append-nil ts)

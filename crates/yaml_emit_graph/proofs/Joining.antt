@@ -86,6 +86,7 @@ node_whole (suc n) nodes id met h = elim (cases_Bool (is_met met id)) [
   | inr e ↦ rw e (all_whole n nodes (node_whole n nodes) (child_ids (body_of_id nodes id)) (meet met id) (enough_below n met id e h))
 ]
 
+-- The walk through a document gives whole nodes, one after another.
 pub walk_whole : (nodes : List model.Node) → IsWhole (walked nodes)
 unfolding walked
 walk_whole nodes = node_whole (suc (length nodes)) nodes (pos 1) (none_met nodes) (enough_first nodes)
@@ -135,6 +136,7 @@ nothing_behind : (ts : List Turn) → ts ++ [] ≡ ts
 nothing_behind [] = refl
 nothing_behind (t ∷ ts) = ap (λ us. t ∷ us) (nothing_behind ts)
 
+-- What a dump still has to give of its nodes are the walk's turns.
 pub turns_joined : (nodes : List model.Node) → turns_onward nodes ≡ turns nodes
 unfolding turns turns_onward walked
 turns_joined nodes =
@@ -197,6 +199,7 @@ node_content (suc n) table nodes id rest met h = elim (cases_Bool (is_met met id
   | inr e ↦ rw e (held_content n table nodes (node_content n table nodes) (body_of_id nodes id) (anchor_of (number_at table id)) (tag_of_id nodes id) rest (meet met id) (enough_below n met id e h))
 ]
 
+-- The root's events that a dump has left over are those of the graph's root.
 pub root_joined : (nodes : List model.Node) → root_onward nodes ≡ graph_root nodes
 unfolding graph_root root_onward walked
 root_joined nodes = node_content (suc (length nodes)) (numbers nodes) nodes (pos 1) itself (none_met nodes) (enough_first nodes)

@@ -1,47 +1,49 @@
 -- The events of a document go on.
-use Rattle.std.proofs.Common.{◌≡◌, ℕ, [], ◌∷◌, length, Bool, refl, sym}
-use Rattle.std.specs.Prelude.{false, replicate}
+use Rattle.std.proofs.Common.{◌≡◌, ◌+◌, ◌<◌, ◌≤◌, [], ◌∷◌, length, get_or, drop, Bool, refl, sym, ◌∙◌, ap, arith}
+use Rattle.std.proofs.lemmas.List.{drop_all, drop_more}
 use Rattle.yaml_parse_document.specs.Documents.{Document}
 use Rattle.yaml_emit_layout.specs.Content.{Event, document_start, document_end}
 use Rattle.yaml_emit_graph.specs.declared.graph.Events.{Events}
 use Rattle.yaml_emit_graph.specs.declared.graph.Stage.TheVariants as at
 use Rattle.yaml_emit_graph.specs.declared.walk.Turn.{Turn}
-use Rattle.yaml_emit_graph.specs.Graph.{graph_opening, numbers, turn_event, dumped}
-use Rattle.yaml_emit_graph.specs.Walk.{remaining_turns, stack_of}
+use Rattle.yaml_emit_graph.specs.Graph.{graph_opening, turns, numbers, turn_event, dumped}
 use Rattle.yaml_emit_graph.specs.Events.{remaining_events, IsEvents}
-use Rattle.yaml_emit_graph.proofs.Walking.{fresh_walk}
 use Rattle.yaml_emit_graph.proofs.Contents.{dumped_turns}
+use Rattle.yaml_emit_graph.proofs.Joining.{turns_joined}
 
 pub turn_comes : (d : Document) (old new : Events) (t : Turn) (e : Event) → old.place ≡ at.Nodes
-    → new.numbers ≡ old.numbers → new.place ≡ old.place
-    → remaining_turns d.nodes old.walk ≡ t ∷ remaining_turns d.nodes new.walk
+    → new.numbers ≡ old.numbers → new.turns ≡ old.turns → new.place ≡ old.place
+    → old.given < length old.turns.items → new.given ≡ old.given + 1
+    → t ≡ get_or old.turns.items old.given t
     → e ≡ turn_event old.numbers.items d.nodes t
     → remaining_events d old ≡ e ∷ remaining_events d new
 unfolding remaining_events
-turn_comes d old new t e p n q c s = rw (q, p, n, c, s) refl
+turn_comes d old new t e p n k q h g i s =
+    rw (q, p, n, k, g, s, drop_more old.turns.items old.given t h ∙ ap (λ z. z ∷ drop (old.given + 1) old.turns.items) (sym i)) refl
 
 pub end_comes : (d : Document) (old new : Events) (b : Bool) → old.place ≡ at.Nodes
-    → new.place ≡ at.End → remaining_turns d.nodes old.walk ≡ [] → b ≡ d.end_implicit
+    → new.place ≡ at.End → length old.turns.items ≤ old.given → b ≡ d.end_implicit
     → remaining_events d old ≡ document_end b ∷ remaining_events d new
 unfolding remaining_events
-end_comes d old new b p q c e = rw (p, q, c, e) refl
+end_comes d old new b p q h e = rw (p, q, drop_all old.given old.turns.items h, e) refl
 
 pub start_comes : (d : Document) (old new : Events) (e : Event) → old.place ≡ at.Start
-    → new.place ≡ at.Nodes → new.numbers ≡ old.numbers → new.walk ≡ old.walk
+    → new.place ≡ at.Nodes → new.numbers ≡ old.numbers → new.turns ≡ old.turns
+    → new.given ≡ old.given
     → e ≡ document_start (graph_opening d)
     → remaining_events d old ≡ e ∷ remaining_events d new
 unfolding remaining_events
-start_comes d old new e p q n k s = rw (p, q, n, k, s) refl
+start_comes d old new e p q n k g s = rw (p, q, n, k, g, s) refl
 
 pub none_comes : (d : Document) (e : Events) → e.place ≡ at.End → remaining_events d e ≡ []
 unfolding remaining_events
 none_comes d e p = rw p refl
 
-pub begin_comes : (d : Document) (e : Events) (count : ℕ) → count ≡ length d.nodes
-    → e.numbers.items ≡ numbers d.nodes → e.place ≡ at.Start → e.walk.started ≡ false
-    → stack_of e.walk ≡ [] → e.walk.met.items ≡ replicate count false
+pub begin_comes : (d : Document) (e : Events) → e.turns.items ≡ turns d.nodes
+    → e.numbers.items ≡ numbers d.nodes → e.given ≡ 0 → e.place ≡ at.Start
     → IsEvents d e × (remaining_events d e ≡ dumped d)
 unfolding remaining_events
-begin_comes d e count n t p s k m =
-    let w = fresh_walk d.nodes e.walk count n s k m in
-    (w.0, rw (p, t, w.1) (sym (dumped_turns d)))
+begin_comes d e t n g p = (
+  omega (arith, g),
+  rw (p, n, g, t ∙ sym (turns_joined d.nodes)) (sym (dumped_turns d)),
+)

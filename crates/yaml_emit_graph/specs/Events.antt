@@ -1,5 +1,5 @@
 -- The events of a document that are still to come.
-use Rattle.std.specs.Prelude.{◌≡◌, Bool, true, false, List, [], ◌∷◌, ◌++◌, map, Result, Ok, Err, OnOk, IsUtf8}
+use Rattle.std.specs.Prelude.{◌≡◌, ◌≤◌, Bool, true, false, List, [], ◌∷◌, ◌++◌, map, length, drop, Result, Ok, Err, OnOk, IsUtf8}
 use Rattle.std.specs.declared.alloc.AllocError.{AllocError}
 use Rattle.yaml_parse_model.specs.Events.{EventBody}
 use Rattle.yaml_parse_model.specs.Constructors.{HasUtf8}
@@ -10,7 +10,6 @@ use Rattle.yaml_emit_graph.specs.declared.graph.Events.{Events}
 use Rattle.yaml_emit_graph.specs.declared.graph.Stage.{Stage}
 use Rattle.yaml_emit_graph.specs.declared.graph.Stage.TheVariants as at
 use Rattle.yaml_emit_graph.specs.Graph.{graph_opening, turn_event}
-use Rattle.yaml_emit_graph.specs.Walk.{remaining_turns, IsWalk}
 
 -- a call put that event, with texts that are UTF-8, into a slot
 abbrev pub Says : Event → Result Unit AllocError → EventBody → Type 0
@@ -24,7 +23,7 @@ IsUtf8Body (model.mapping pairs style) = Unit {0}
 
 -- what is left of the nodes, and the document's end
 abbrev pub nodes_left : Document → Events → List Event
-nodes_left d e = map (turn_event e.numbers.items d.nodes) (remaining_turns d.nodes e.walk)
+nodes_left d e = map (turn_event e.numbers.items d.nodes) (drop e.given e.turns.items)
     ++ document_end d.end_implicit ∷ []
 
 abbrev pub remaining_at : Stage → Document → Events → List Event
@@ -35,8 +34,9 @@ remaining_at at.End d e = []
 unfoldable pub remaining_events : Document → Events → List Event
 remaining_events d e = remaining_at e.place d e
 
+-- no more turns were given than there are
 abbrev pub IsEvents : Document → Events → Type 0
-IsEvents d e = IsWalk d.nodes e.walk
+IsEvents d e = e.given ≤ length e.turns.items
 
 -- the next event stands in a slot, and the others are still to come
 abbrev pub GivesGraphEvent : Document → Events → Result Bool AllocError → EventBody → Events

@@ -1,22 +1,24 @@
 //! The events of a document's nodes.
 
-ghost use Rattle.std.specs.Prelude.{◌≡◌, IfOk, IsUtf8, map};
+ghost use Rattle.std.specs.Prelude.{◌≡◌, IfOk, OnOk, IsUtf8, map};
 ghost use Rattle.yaml_parse_model.specs.Constructors.{HasUtf8, IsUtf8Option};
-ghost use Rattle.yaml_parse_document.specs.Documents.{seq_tag, map_tag};
+ghost use Rattle.yaml_parse_document.specs.Documents.{str_tag, seq_tag, map_tag};
 ghost use Rattle.yaml_parse_model.specs.Events.{body_of, text_of, directive_of};
-ghost use Rattle.yaml_parse_model.specs.Nodes.{node_of};
+ghost use Rattle.yaml_parse_model.specs.Nodes.{node_of, tag_of};
 ghost use Rattle.yaml_emit_layout.specs.Content.{emitter_event, scalar, alias, sequence_start, mapping_start, document_start, is_flow_sequence, is_flow_mapping};
 ghost use Rattle.yaml_emit_graph.specs.Graph.{lead, name_of, anchor_of, is_text, graph_scalar, graph_start, opening_event, closing_event, body_of_id, tag_of_id, turn_event, graph_opening, dumped};
 ghost use Rattle.yaml_emit_graph.specs.Events.{remaining_events, IsEvents, Says, GivesGraphEvent, IsUtf8Body};
 
-use crate::numbers::{number_of, numbers_of};
-use crate::walk::{Turn, Walk};
+use crate::numbers::{Walked, number_of, walk_nodes};
+use crate::walk::Turn;
 use std::alloc::{AllocError, Global};
-use std::mem;
 use yaml_parse_document::{yaml_document_get_node, yaml_document_t};
-use yaml_parse_model::{copy_directives, yaml_event_body_t, yaml_node_body_t, yaml_node_t};
+use yaml_parse_model::{
+    copy_directives, moved, yaml_event_body_t, yaml_node_body_t, yaml_node_t, yaml_node_tag_t,
+};
 use yaml_scan_model::{
-    yaml_mapping_style_t, yaml_scalar_style_t, yaml_sequence_style_t, yaml_tag_directive_t,
+    SHORT, put_short, yaml_mapping_style_t, yaml_scalar_style_t, yaml_sequence_style_t,
+    yaml_tag_directive_t,
 };
 
 /// The events of a document, one after another.
@@ -24,8 +26,11 @@ use yaml_scan_model::{
 pub struct Events {
     alloc: Global,
     numbers: Vec<u64>,
-    walk: Walk,
+    // The turns of the walk, and how many were given.
+    turns: Vec<Turn>,
+    given: usize,
     place: Stage,
+    rooms: Rooms,
 }
 
 /// What comes next.
@@ -60,6 +65,8 @@ fn name_of(alloc: Global, number: u64) -> Result<Vec<u8>, AllocError>
     Ok(name)
 }
 
+// Inlined: mostly there is none.
+#[inline(always)]
 fn anchor_of(alloc: Global, number: u64) -> Result<Option<Vec<u8>>, AllocError>
     ensures is { IfOk result (λ anchor. text_of anchor ≡ anchor_of number) }
     ensures utf8 { IfOk result (λ anchor. IsUtf8Option (text_of anchor)) }
@@ -90,58 +97,119 @@ fn is_text(text: &[u8], other: &[u8]) -> bool
     text == other
 }
 
-// The room of the tag of an event that was given.
-fn tag_room(alloc: Global, event: &mut yaml_event_body_t) -> Vec<u8> {
-    let tag = match event {
-        yaml_event_body_t::Scalar { tag, .. }
-        | yaml_event_body_t::SequenceStart { tag, .. }
-        | yaml_event_body_t::MappingStart { tag, .. } => tag.take(),
-        _ => None,
-    };
+// Whether the tag is that of a text.
+// Inlined: mostly a look at the kind.
+#[inline(always)]
+fn is_str(tag: &yaml_node_tag_t) -> bool
+    ensures { result ≡ is_text (tag_of tag.now) str_tag }
+{
     match tag {
-        Some(room) => room,
-        None => Vec::new(alloc),
+        yaml_node_tag_t::Str => true,
+        yaml_node_tag_t::Seq => false,
+        yaml_node_tag_t::Map => false,
+        yaml_node_tag_t::Spelled { text } => is_text(text, b"tag:yaml.org,2002:str"),
     }
 }
 
-// The room of its value.
-fn value_room(alloc: Global, event: &mut yaml_event_body_t) -> Vec<u8> {
-    match event {
-        yaml_event_body_t::Scalar { value, .. } => mem::replace(value, Vec::new(alloc)),
-        _ => Vec::new(alloc),
+// Whether it is that of a sequence.
+fn is_seq(tag: &yaml_node_tag_t) -> bool
+    ensures { result ≡ is_text (tag_of tag.now) seq_tag }
+{
+    match tag {
+        yaml_node_tag_t::Str => false,
+        yaml_node_tag_t::Seq => true,
+        yaml_node_tag_t::Map => false,
+        yaml_node_tag_t::Spelled { text } => is_text(text, b"tag:yaml.org,2002:seq"),
+    }
+}
+
+// Whether it is that of a mapping.
+fn is_map(tag: &yaml_node_tag_t) -> bool
+    ensures { result ≡ is_text (tag_of tag.now) map_tag }
+{
+    match tag {
+        yaml_node_tag_t::Str => false,
+        yaml_node_tag_t::Seq => false,
+        yaml_node_tag_t::Map => true,
+        yaml_node_tag_t::Spelled { text } => is_text(text, b"tag:yaml.org,2002:map"),
+    }
+}
+
+/// Texts that were let go, in whose room those of later events are put.
+#[derive(Drop)]
+pub struct Rooms {
+    alloc: Global,
+    tag: Vec<u8>,
+    value: Vec<u8>,
+}
+
+// Puts the rooms of an event's tag and value aside.
+fn put_aside(rooms: &mut Rooms, event: &mut yaml_event_body_t) {
+    let tag = match event {
+        yaml_event_body_t::Scalar { tag, value, .. } => {
+            rooms.value = moved(value);
+            tag.take()
+        }
+        yaml_event_body_t::SequenceStart { tag, .. }
+        | yaml_event_body_t::MappingStart { tag, .. } => tag.take(),
+        _ => None,
+    };
+    if let Some(room) = tag {
+        rooms.tag = room;
+    }
+}
+
+// The room of a text that an event has, else one that is put aside.
+// Inlined: some moves.
+#[inline(always)]
+fn room_of(text: &mut Option<Vec<u8>>, aside: &mut Vec<u8>) -> Vec<u8> {
+    match text.take() {
+        Some(room) => room,
+        None => moved(aside),
     }
 }
 
 // A text in the room of another.
-fn text_in(room: Vec<u8>, text: &[u8]) -> Result<Vec<u8>, AllocError>
-    ensures { IfOk result (λ t. t.items ≡ text.now) }
+// Inlined: a short one is two moves.
+#[inline(always)]
+fn put_text(room: &mut Vec<u8>, text: &[u8]) -> Result<(), AllocError>
+    ensures { OnOk result (room.new.items ≡ text.now) }
 {
-    let mut room = room;
     room.clear();
-    room.extend_from_slice(text)?;
-    Ok(room)
+    if text.len() <= SHORT && text.len() <= room.capacity() {
+        put_short(room, text);
+        Ok(())
+    } else {
+        room.extend_from_slice(text)
+    }
 }
 
-// A scalar whose tag may be left out where it is that of a text.
-fn put_scalar(
-    alloc: Global,
-    anchor: Option<Vec<u8>>,
-    tag: &[u8],
+// A scalar, in rooms that are put aside.
+// Out of line: mostly the event before it is one too.
+#[inline(never)]
+fn put_other_scalar(
+    rooms: &mut Rooms,
+    number: u64,
+    tag: &yaml_node_tag_t,
     value: &[u8],
     style: yaml_scalar_style_t,
     event: &mut yaml_event_body_t,
 ) -> Result<(), AllocError>
-    requires { IsUtf8Option (text_of anchor) × IsUtf8 tag.now × IsUtf8 value.now }
-    ensures { Says (scalar (graph_scalar (text_of anchor) tag.now value.now style)) result
-        (body_of event.new) }
+    requires { IsUtf8 (tag_of tag.now) × IsUtf8 value.now }
+    ensures { Says (scalar (graph_scalar (anchor_of number) (tag_of tag.now) value.now style))
+        result (body_of event.new) }
 {
-    let plain = is_text(tag, b"tag:yaml.org,2002:str");
-    let tag = text_in(tag_room(alloc, event), tag)?;
-    let value = text_in(value_room(alloc, event), value)?;
+    put_aside(rooms, event);
+    let anchor = anchor_of(rooms.alloc, number)?;
+    let plain = is_str(tag);
+    let mut tag_text = moved(&mut rooms.tag);
+    put_text(&mut tag_text, tag.as_slice())?;
+    let mut text = moved(&mut rooms.value);
+    put_text(&mut text, value)?;
     *event = yaml_event_body_t::Scalar {
         anchor,
-        tag: Some(tag),
-        value,
+        tag: Some(tag_text),
+        value: text,
         plain_implicit: plain,
         quoted_implicit: plain,
         style,
@@ -149,44 +217,96 @@ fn put_scalar(
     Ok(())
 }
 
+// A scalar whose tag may be left out where it is that of a text: in the rooms of the one before it, where the slot holds one.
+// Inlined into its one caller.
+#[inline(always)]
+fn put_scalar(
+    rooms: &mut Rooms,
+    number: u64,
+    tag: &yaml_node_tag_t,
+    value: &[u8],
+    style: yaml_scalar_style_t,
+    event: &mut yaml_event_body_t,
+) -> Result<(), AllocError>
+    requires { IsUtf8 (tag_of tag.now) × IsUtf8 value.now }
+    ensures { Says (scalar (graph_scalar (anchor_of number) (tag_of tag.now) value.now style))
+        result (body_of event.new) }
+{
+    match event {
+        yaml_event_body_t::Scalar {
+            anchor: name,
+            tag: held_tag,
+            value: held_value,
+            plain_implicit,
+            quoted_implicit,
+            style: how,
+        } => {
+            let anchor = anchor_of(rooms.alloc, number)?;
+            let plain = is_str(tag);
+            let mut tag_text = room_of(held_tag, &mut rooms.tag);
+            put_text(&mut tag_text, tag.as_slice())?;
+            let mut text = moved(held_value);
+            put_text(&mut text, value)?;
+            *name = anchor;
+            *held_tag = Some(tag_text);
+            *held_value = text;
+            *plain_implicit = plain;
+            *quoted_implicit = plain;
+            *how = style;
+            Ok(())
+        }
+        _ => put_other_scalar(rooms, number, tag, value, style, event),
+    }
+}
+
+// Out of line: it has much room of its own.
+#[inline(never)]
 fn put_sequence(
-    alloc: Global,
-    anchor: Option<Vec<u8>>,
-    tag: &[u8],
+    rooms: &mut Rooms,
+    number: u64,
+    tag: &yaml_node_tag_t,
     style: yaml_sequence_style_t,
     event: &mut yaml_event_body_t,
 ) -> Result<(), AllocError>
-    requires { IsUtf8Option (text_of anchor) × IsUtf8 tag.now }
-    ensures { Says (sequence_start (graph_start (text_of anchor) tag.now seq_tag
+    requires { IsUtf8 (tag_of tag.now) }
+    ensures { Says (sequence_start (graph_start (anchor_of number) (tag_of tag.now) seq_tag
         (is_flow_sequence style))) result (body_of event.new) }
 {
-    let implicit = is_text(tag, b"tag:yaml.org,2002:seq");
-    let tag = text_in(tag_room(alloc, event), tag)?;
+    put_aside(rooms, event);
+    let anchor = anchor_of(rooms.alloc, number)?;
+    let implicit = is_seq(tag);
+    let mut tag_text = moved(&mut rooms.tag);
+    put_text(&mut tag_text, tag.as_slice())?;
     *event = yaml_event_body_t::SequenceStart {
         anchor,
-        tag: Some(tag),
+        tag: Some(tag_text),
         implicit,
         style,
     };
     Ok(())
 }
 
+// Out of line: it has much room of its own.
+#[inline(never)]
 fn put_mapping(
-    alloc: Global,
-    anchor: Option<Vec<u8>>,
-    tag: &[u8],
+    rooms: &mut Rooms,
+    number: u64,
+    tag: &yaml_node_tag_t,
     style: yaml_mapping_style_t,
     event: &mut yaml_event_body_t,
 ) -> Result<(), AllocError>
-    requires { IsUtf8Option (text_of anchor) × IsUtf8 tag.now }
-    ensures { Says (mapping_start (graph_start (text_of anchor) tag.now map_tag
+    requires { IsUtf8 (tag_of tag.now) }
+    ensures { Says (mapping_start (graph_start (anchor_of number) (tag_of tag.now) map_tag
         (is_flow_mapping style))) result (body_of event.new) }
 {
-    let implicit = is_text(tag, b"tag:yaml.org,2002:map");
-    let tag = text_in(tag_room(alloc, event), tag)?;
+    put_aside(rooms, event);
+    let anchor = anchor_of(rooms.alloc, number)?;
+    let implicit = is_map(tag);
+    let mut tag_text = moved(&mut rooms.tag);
+    put_text(&mut tag_text, tag.as_slice())?;
     *event = yaml_event_body_t::MappingStart {
         anchor,
-        tag: Some(tag),
+        tag: Some(tag_text),
         implicit,
         style,
     };
@@ -194,60 +314,62 @@ fn put_mapping(
 }
 
 // The event of a node that is written for the first time.
+// Inlined into its one caller.
+#[inline(always)]
 fn put_node(
-    alloc: Global,
-    anchor: Option<Vec<u8>>,
+    rooms: &mut Rooms,
+    number: u64,
     node: &yaml_node_t,
     event: &mut yaml_event_body_t,
 ) -> Result<(), AllocError>
-    requires { IsUtf8Option (text_of anchor) × IsUtf8 (node_of node.now).tag
-        × IsUtf8Body (node_of node.now).body }
-    ensures { Says (opening_event (text_of anchor) (node_of node.now).tag (node_of node.now).body)
+    requires { IsUtf8 (node_of node.now).tag × IsUtf8Body (node_of node.now).body }
+    ensures { Says (opening_event (anchor_of number) (node_of node.now).tag (node_of node.now).body)
         result (body_of event.new) }
 {
     match &node.body {
-        yaml_node_body_t::No => put_scalar(
-            alloc,
-            anchor,
+        yaml_node_body_t::No => put_other_scalar(
+            rooms,
+            number,
             &node.tag,
             b"",
             yaml_scalar_style_t::YAML_ANY_SCALAR_STYLE,
             event,
         ),
         yaml_node_body_t::Scalar { value, style } => put_scalar(
-            alloc, anchor, &node.tag, value, *style, event,
+            rooms, number, &node.tag, value, *style, event,
         ),
         yaml_node_body_t::Sequence { style, .. } => put_sequence(
-            alloc, anchor, &node.tag, *style, event,
+            rooms, number, &node.tag, *style, event,
         ),
         yaml_node_body_t::Mapping { style, .. } => put_mapping(
-            alloc, anchor, &node.tag, *style, event,
+            rooms, number, &node.tag, *style, event,
         ),
     }
 }
 
 // How the node under a number begins.
+// Inlined into its one caller.
+#[inline(always)]
 fn put_opening(
-    alloc: Global,
+    rooms: &mut Rooms,
     document: &yaml_document_t,
-    anchor: Option<Vec<u8>>,
+    number: u64,
     id: i32,
     event: &mut yaml_event_body_t,
 ) -> Result<(), AllocError>
-    requires { IsUtf8Option (text_of anchor) }
-    ensures { Says (opening_event (text_of anchor) (tag_of_id document.now.nodes id)
+    ensures { Says (opening_event (anchor_of number) (tag_of_id document.now.nodes id)
         (body_of_id document.now.nodes id)) result (body_of event.new) }
 {
     match yaml_document_get_node(document, id) {
-        None => put_scalar(
-            alloc,
-            anchor,
-            b"tag:yaml.org,2002:str",
+        None => put_other_scalar(
+            rooms,
+            number,
+            &yaml_node_tag_t::Str,
             b"",
             yaml_scalar_style_t::YAML_ANY_SCALAR_STYLE,
             event,
         ),
-        Some(node) => put_node(alloc, anchor, node, event),
+        Some(node) => put_node(rooms, number, node, event),
     }
 }
 
@@ -265,6 +387,8 @@ fn closing_event(document: &yaml_document_t, id: i32) -> yaml_event_body_t
     }
 }
 
+// Out of line: it has much room of its own.
+#[inline(never)]
 fn put_alias(alloc: Global, number: u64, event: &mut yaml_event_body_t) -> Result<(), AllocError>
     ensures { Says (alias (name_of number)) result (body_of event.new) }
 {
@@ -274,51 +398,48 @@ fn put_alias(alloc: Global, number: u64, event: &mut yaml_event_body_t) -> Resul
     Ok(())
 }
 
+// The event of a turn of the walk.
+// Inlined into its one caller.
+#[inline(always)]
+fn put_turn(
+    numbers: &[u64],
+    rooms: &mut Rooms,
+    document: &yaml_document_t,
+    turn: Turn,
+    event: &mut yaml_event_body_t,
+) -> Result<(), AllocError>
+    ensures { Says (turn_event numbers.now document.now.nodes turn) result (body_of event.new) }
+{
+    match turn {
+        Turn::First(id) => put_opening(rooms, document, number_of(numbers, id), id, event),
+        Turn::Again(id) => put_alias(rooms.alloc, number_of(numbers, id), event),
+        Turn::Leave(id) => {
+            put_aside(rooms, event);
+            *event = closing_event(document, id);
+            Ok(())
+        }
+    }
+}
+
 impl Events {
     /// Before the document's start.
     pub fn of(alloc: Global, document: &yaml_document_t) -> Result<Events, AllocError>
         ensures { IfOk result (λ e. IsEvents document.now e
             × (remaining_events document.now e ≡ dumped document.now)) }
     {
+        let Walked { turns, numbers } = walk_nodes(alloc, document)?;
         Ok(Events {
             alloc,
-            numbers: numbers_of(alloc, document)?,
-            walk: Walk::new(alloc, document.node_count())?,
+            numbers,
+            turns,
+            given: 0,
             place: Stage::Start,
+            rooms: Rooms {
+                alloc,
+                tag: Vec::new(alloc),
+                value: Vec::new(alloc),
+            },
         })
-    }
-
-    fn put_first(
-        &self,
-        document: &yaml_document_t,
-        id: i32,
-        event: &mut yaml_event_body_t,
-    ) -> Result<(), AllocError>
-        ensures { Says (turn_event self.now.numbers.items document.now.nodes (Turn.First id))
-            result (body_of event.new) }
-    {
-        let anchor = anchor_of(self.alloc, number_of(&self.numbers, id))?;
-        put_opening(self.alloc, document, anchor, id, event)
-    }
-
-    // The event of a turn of the walk.
-    fn put_turn(
-        &self,
-        document: &yaml_document_t,
-        turn: Turn,
-        event: &mut yaml_event_body_t,
-    ) -> Result<(), AllocError>
-        ensures { Says (turn_event self.now.numbers.items document.now.nodes turn) result
-            (body_of event.new) }
-    {
-        match turn {
-            Turn::First(id) => self.put_first(document, id, event),
-            Turn::Again(id) => put_alias(self.alloc, number_of(&self.numbers, id), event),
-            Turn::Leave(id) => {
-                *event = closing_event(document, id);
-                Ok(())
-            }
-        }
     }
 
     fn put_start(
@@ -360,18 +481,17 @@ impl Events {
         requires place { self.old.place ≡ Stage.Nodes }
         ensures { GivesGraphEvent document.now self.old result (body_of event.new) self.new }
     {
-        match self.walk.next(document)? {
-            Some(turn) => {
-                self.put_turn(document, turn, event)?;
-                Ok(true)
-            }
-            None => {
-                self.place = Stage::End;
-                *event = yaml_event_body_t::DocumentEnd {
-                    implicit: document.end_implicit(),
-                };
-                Ok(true)
-            }
+        if self.given < self.turns.len() {
+            let turn = self.turns[self.given];
+            self.given += 1;
+            put_turn(&self.numbers, &mut self.rooms, document, turn, event)?;
+            Ok(true)
+        } else {
+            self.place = Stage::End;
+            *event = yaml_event_body_t::DocumentEnd {
+                implicit: document.end_implicit(),
+            };
+            Ok(true)
         }
     }
 

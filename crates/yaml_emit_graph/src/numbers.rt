@@ -1,12 +1,19 @@
-//! The numbers of the nodes that a walk meets again.
+//! What a walk meets, and the numbers of the nodes that it meets again.
 
 ghost use Rattle.std.specs.Prelude.{◌≡◌, ◌<◌, length, Some, IfOk};
-ghost use Rattle.yaml_emit_graph.specs.Graph.{numbers, numbered_by, next_number, again_at, place_at, number_in, number_at, none_numbered};
+ghost use Rattle.yaml_emit_graph.specs.Graph.{turns, numbers, numbered_by, next_number, again_at, place_at, number_in, number_at, none_numbered};
 ghost use Rattle.yaml_emit_graph.specs.Numbers.{IsNumbering, numbering_of};
 
 use crate::walk::{Turn, Walk, place_of};
 use std::alloc::{AllocError, Global};
 use yaml_parse_document::yaml_document_t;
+
+/// The turns of a walk over a document's nodes, and the number of each node by its place; 0 stands for none.
+#[derive(Drop)]
+pub struct Walked {
+    pub turns: Vec<Turn>,
+    pub numbers: Vec<u64>,
+}
 
 /// How many numbers were given, and the number of each node by its place; 0 stands for none.
 #[derive(Drop)]
@@ -88,15 +95,21 @@ impl Numbers {
     }
 }
 
-/// The numbers of a document's nodes: a node's second visit gives it the next one, from 1.
-pub fn numbers_of(alloc: Global, document: &yaml_document_t) -> Result<Vec<u64>, AllocError>
-    ensures { IfOk result (λ t. t.items ≡ numbers document.now.nodes) }
+/// The walk over a document's nodes, and their numbers: a node's second visit gives it the next one, from 1.
+pub fn walk_nodes(alloc: Global, document: &yaml_document_t) -> Result<Walked, AllocError>
+    ensures { IfOk result (λ w. (w.turns.items ≡ turns document.now.nodes)
+        × (w.numbers.items ≡ numbers document.now.nodes)) }
 {
     let count = document.node_count();
     let mut walk = Walk::new(alloc, count)?;
     let mut numbers = Numbers::none(alloc, count)?;
+    let mut turns = Vec::with_capacity(alloc, count)?;
     while let Some(turn) = walk.next(document)? {
         numbers.take(turn);
+        turns.push(turn)?;
     }
-    Ok(numbers.table)
+    Ok(Walked {
+        turns,
+        numbers: numbers.table,
+    })
 }

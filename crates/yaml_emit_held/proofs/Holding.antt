@@ -12,6 +12,7 @@ use Rattle.yaml_emit_held.specs.declared.held.Seat.{Seat}
 use Rattle.yaml_emit_held.specs.declared.held.Seat.TheVariants.{First, Second, Third}
 use Rattle.yaml_emit_held.specs.Held.{is_ready, needs, closes, ends_level, releases, passes, next, less, stands, seated, held_events, oldest_event}
 
+-- Whether an event opens an empty collection is told by what has come, once it is ready: what follows changes nothing.
 pub ready_empty : (e : Event) (es more : List Event) → is_ready (e ∷ es) ≡ true
     → opens_empty e (es ++ more) ≡ opens_empty e es
 unfolding is_ready opens_empty
@@ -35,6 +36,7 @@ closes_last sequence_end = refl
 closes_last (mapping_start p) = refl
 closes_last mapping_end = refl
 
+-- No event waits for more than three that follow.
 pub few_needs : (e : Event) → nat_le (needs e) 3 ≡ true
 few_needs no_event = refl
 few_needs (stream_start x) = refl
@@ -48,6 +50,7 @@ few_needs sequence_end = refl
 few_needs (mapping_start p) = refl
 few_needs mapping_end = refl
 
+-- What at most three are enough for, more are enough for too.
 pub le_more : (n m k : ℕ) → nat_le n 3 ≡ true → 3 ≤ m → nat_le n m ≡ true
 le_more n m k h l = grind (arith, nat_tests)
 

@@ -1,16 +1,17 @@
 -- An event that is laid out is judged, and what follows is judged and written as before.
-use Rattle.std.proofs.Common.{◌≡◌, ℕ, ◌+◌, List, [], ◌∷◌, ◌++◌, length, Bool, true, false, refl, sym, subst, ◌∙◌, ap, arith, Option, Some, None, length-append}
+use Rattle.std.proofs.Common.{◌≡◌, ◌⊎◌, inl, inr, ℕ, zero, suc, ◌+◌, drop, List, [], ◌∷◌, ◌++◌, length, Bool, true, false, refl, sym, subst, ◌∙◌, ap, arith, Option, Some, None, length-append}
 use Rattle.std.specs.Prelude.{not, nat_le, ◌||◌, ◌&&◌}
 use Rattle.std.proofs.lemmas.Bool.Decides.{nat_tests}
-use Rattle.std.proofs.lemmas.Bool.{or_right, or_parts}
+use Rattle.std.proofs.lemmas.Bool.{false≢true, or_right, or_parts}
 use Rattle.yaml_parse_model.specs.Events.{TagDirective}
 use Rattle.yaml_emit_text.specs.declared.Cursor.{Cursor}
 use Rattle.yaml_emit_text.specs.declared.Settings.{Settings}
 use Rattle.yaml_emit_text.specs.declared.Status.{Status}
 use Rattle.yaml_emit_text.specs.declared.Status.TheVariants.{Going, Full, Deep, Starved}
-use Rattle.yaml_emit_text.specs.Text.{Item}
-use Rattle.yaml_emit_text.specs.Layout.{Layout, Rest, nothing_more}
-use Rattle.yaml_emit_text.specs.Sink.{Ends, Puts}
+use Rattle.yaml_emit_text.specs.declared.Encoding.{Encoding}
+use Rattle.yaml_emit_text.specs.Text.{Item, encode}
+use Rattle.yaml_emit_text.specs.Layout.{Layout, Rest, stay, nothing_more}
+use Rattle.yaml_emit_text.specs.Sink.{Output, Ends, Puts}
 use Rattle.yaml_emit_text.proofs.Sinks.{grows_none, grows_both, ends_other, status_cases}
 use Rattle.yaml_emit_layout.specs.declared.Problem.{Problem}
 use Rattle.yaml_emit_layout.specs.declared.Level.{Level}
@@ -23,14 +24,14 @@ use Rattle.yaml_emit_layout.specs.Grammar.{or_else, ends_phase, begins_node, may
 use Rattle.yaml_emit_layout.specs.Nodes.{Context, context_of}
 use Rattle.yaml_emit_layout.specs.State.{State, piece, next, next_at, problem_at, opens_empty, begins_by, is_sequence_end, is_mapping_end, top_of, outer_of, place_at, among, levels_behind, phase_behind}
 use Rattle.yaml_emit_state.specs.declared.Core.{Core}
-use Rattle.yaml_emit_state.specs.Steps.{state_of, settings_of, next_state, next_piece, LaysOut, takes_memory, may_note, goes_on}
+use Rattle.yaml_emit_state.specs.Steps.{state_of, settings_of, next_state, next_piece, LaysOut, IsPut, takes_memory, is_document_start, may_note, goes_on}
 use Rattle.yaml_emit_state.specs.Finish.{Finishes}
 use Rattle.yaml_emit_state.proofs.Finishing.{finishes_on}
 use Rattle.yaml_emit_state.proofs.Noting.{notes_both, notes_within}
 use Rattle.yaml_emit_held.specs.Held.{is_ready, needs, closes, passes, opens_level, ends_level}
 use Rattle.yaml_emit_layout.specs.Progress.{Due, item_due, key_due, progress_after, inside, behind_node, outer_due, phase_due, level_due, problem_in, first_refusal}
-use Rattle.yaml_emit_held.specs.Judged.{let_out, unless, laid, refused_at, due_in, due_of, shape_of, refusal_among, text_among, refusal_from, refusal_behind, LetsOut, first_wrong, LaysAll, take_memory}
-use Rattle.yaml_emit_held.specs.Laying.{LaysEvents}
+use Rattle.yaml_emit_held.specs.Judged.{let_out, unless, laid, refused_at, due_in, due_of, shape_of, refusal_among, text_among, refusal_from, refusal_behind, LetsOut, first_wrong, LaysAll, take_memory, laid_some, some_among, LaysSome, first_takes, first_starts, Refuses}
+use Rattle.yaml_emit_held.specs.Laying.{HasLaid, LaysEvents}
 use Rattle.yaml_emit_held.proofs.Opening.{opens_none}
 use Rattle.yaml_emit_held.proofs.Holding.{ready_empty, none_needed}
 
@@ -56,6 +57,7 @@ longer : (n : ℕ) (es more : List Event) → nat_le n (length es) ≡ true
     → nat_le n (length (es ++ more)) ≡ true
 longer n es more h = ap (nat_le n) (length-append es more) ∙ le_longer n (length es) (length more) h
 
+-- An event that is ready stays so whatever follows.
 pub ready_more : (e : Event) (es more : List Event) → is_ready (e ∷ es) ≡ true
     → is_ready (e ∷ (es ++ more)) ≡ true
 unfolding is_ready
@@ -87,6 +89,7 @@ same_place at.DocumentEnd ls e = refl
 same_place at.End ls e = refl
 same_place (at.Refused p) ls e = refl
 
+-- A problem depends on the state's shape alone: on what is expected, open and named, and not on columns.
 pub same_problem : (s : Settings) (st : State) (e : Event)
     → problem_at s st e ≡ problem_in s.canonical (shape_of st) e
 unfolding problem_by
@@ -129,6 +132,7 @@ shape_at p place ls (mapping_start q) empty d = ap (λ z. inside (key_due ∷ z)
 shape_at p place ls sequence_end empty d = among_shape p.directives (outer_of ls) ∙ ap inside (dues_outer ls)
 shape_at p place ls mapping_end empty d = among_shape p.directives (outer_of ls) ∙ ap inside (dues_outer ls)
 
+-- The shape behind an event is what the shape before it becomes.
 pub shape_next : (s : Settings) (st : State) (e : Event) (empty : Bool) (d : Cursor)
     → shape_of (next s st e empty d) ≡ progress_after (shape_of st) e
 shape_next s st e empty d = shape_at (context_of s st.directives) st.place st.levels e empty d
@@ -158,6 +162,7 @@ open_next : (s : Settings) (st : State) (e : Event) (empty : Bool) (d : Cursor)
     → refused_at st.place ≡ None → refused_at (next s st e empty d).place ≡ None
 open_next s st e empty d h = open_at (context_of s st.directives) st.place st.levels e empty d h
 
+-- Where the output goes on and the place is no refusal, nothing was refused.
 pub going_open : (s : Status) (p : Expected) → goes_on s p ≡ true → refused_at p ≡ None
 going_open s at.StreamStart h = refl
 going_open s (at.Documents first unended) h = refl
@@ -166,12 +171,36 @@ going_open s at.DocumentEnd h = refl
 going_open s at.End h = refl
 going_open s (at.Refused p) h = absurd (cc)
 
+-- and the output goes on
+pub goes_going : (s : Status) (p : Expected) → goes_on s p ≡ true → s ≡ Going
+goes_going Going p h = refl
+goes_going Full (at.Refused q) h = absurd (cc)
+goes_going Full at.StreamStart h = absurd (cc)
+goes_going Full (at.Documents first unended) h = absurd (cc)
+goes_going Full at.Node h = absurd (cc)
+goes_going Full at.DocumentEnd h = absurd (cc)
+goes_going Full at.End h = absurd (cc)
+goes_going Deep (at.Refused q) h = absurd (cc)
+goes_going Deep at.StreamStart h = absurd (cc)
+goes_going Deep (at.Documents first unended) h = absurd (cc)
+goes_going Deep at.Node h = absurd (cc)
+goes_going Deep at.DocumentEnd h = absurd (cc)
+goes_going Deep at.End h = absurd (cc)
+goes_going Starved (at.Refused q) h = absurd (cc)
+goes_going Starved at.StreamStart h = absurd (cc)
+goes_going Starved (at.Documents first unended) h = absurd (cc)
+goes_going Starved at.Node h = absurd (cc)
+goes_going Starved at.DocumentEnd h = absurd (cc)
+goes_going Starved at.End h = absurd (cc)
+
 -- ---- the first refusal
 
+-- Of two problems the second counts where the first is none.
 pub or_none : (p q : Option Problem) → p ≡ None → or_else p q ≡ q
 or_none None q e = refl
 or_none (Some x) q e = absurd (cc)
 
+-- Of two problems the first counts where there is one.
 pub or_some : (p q : Option Problem) (x : Problem) → p ≡ Some x → or_else p q ≡ Some x
 or_some None q x e = absurd (cc)
 or_some (Some y) q x e = e
@@ -209,11 +238,13 @@ refusal_step s st new e empty d es p pe o r same =
 
 -- ---- what is written
 
+-- Without a problem the layout is written.
 pub unless_none : (p : Option Problem) (a : Layout) (c : Cursor) (rest : Rest) → p ≡ None
     → unless p a c rest ≡ a c rest
 unless_none None a c rest e = refl
 unless_none (Some x) a c rest e = absurd (cc)
 
+-- Behind a problem nothing of the layout is written.
 pub unless_some : (p : Option Problem) (x : Problem) (a : Layout) (c : Cursor) (rest : Rest)
     → p ≡ Some x → unless p a c rest ≡ rest c
 unless_some None x a c rest e = absurd (cc)
@@ -295,15 +326,15 @@ same_settings : (old new : Core) → new.settings ≡ old.settings
 same_settings old new e x = rw (e, x) refl
 
 -- what an event that was laid out has done, by what was wrong with it
-record Done (old new : Core) (e : Event) (empty : Bool) (p : Option Problem) : Type 0 where
-  problem : problem_at (settings_of old) (state_of old) e ≡ p
-  settings : settings_of new ≡ settings_of old
-  state : new.sink.status ≡ Going
+pub record Done (old new : Core) (e : Event) (empty : Bool) (p : Option Problem) : Type 0 where
+  pub problem : problem_at (settings_of old) (state_of old) e ≡ p
+  pub settings : settings_of new ≡ settings_of old
+  pub state : new.sink.status ≡ Going
       → state_of new ≡ next_state p (state_of old)
       (next (settings_of old) (state_of old) e empty new.sink.cursor)
-  text : Puts old.sink new.sink (next_piece p (piece (settings_of old) (state_of old) e empty))
+  pub text : Puts old.sink new.sink (next_piece p (piece (settings_of old) (state_of old) e empty))
 
-done : (old new : Core) (e : Event) (empty : Bool) → LaysOut old new e empty
+pub done : (old new : Core) (e : Event) (empty : Bool) → LaysOut old new e empty
     → Done old new e empty (problem_at (settings_of old) (state_of old) e)
 done old new e empty l = record { problem = refl; settings = same_settings old new l.settings l.text.encoding; state = l.state; text = l.text }
 
@@ -340,7 +371,7 @@ all_step (Some x) old new e es whole o l h =
     (λ n. ends_other new.sink _ _ whole n back)
 
 -- the same of those that are let out
-text_step : (old new : Core) (e : Event) (es : List Event) (whole : List Item)
+pub text_step : (old new : Core) (e : Event) (es : List Event) (whole : List Item)
     → refused_at old.place ≡ None → is_ready (e ∷ es) ≡ true → LaysOut old new e (opens_empty e es)
     → LetsOut (settings_of old) (state_of old) old.sink (e ∷ es) whole
     → LetsOut (settings_of new) (state_of new) new.sink es whole
@@ -350,24 +381,109 @@ text_step old new e es whole o r l h =
     let P : List Event → Type 0 = λ z. Ends old.sink (text_among (settings_of old) (state_of old) z old.sink.cursor nothing_more) whole in
     all_step (problem_at (settings_of old) (state_of old) e) old new e (let_out es) whole o (done old new e _ (subst R (sym (empty_out e es)) l)) (subst P (first_out e es r) h)
 
--- ---- one event after another
+-- ---- the first few
 
-pub lays_none : (a : Core) (h : List Event) → LaysEvents a h a h
-lays_none a h = record {
-  finishes = λ es whole f. f;
-  refuses = λ g es. refl;
-  lets_out = λ es whole f. f;
-  first = λ g es. refl;
-  lays = λ es whole f. f;
-  grows = grows_none a.sink.bytes;
-  going = λ g. g;
-  encoding = refl;
-  limit = refl;
-  memory = λ n. refl;
-  left = λ n. n;
-}
+some_right : (n : ℕ) (s : Settings) (st : State) (e : Event) (es : List Event) (c : Cursor)
+    (rest : Rest) → refused_at st.place ≡ None → problem_at s st e ≡ None
+    → some_among (suc n) s st (e ∷ es) c rest
+    ≡ piece s st e (opens_empty e es) c
+    (λ d. laid_some n s (next s st e (opens_empty e es) d) es d rest)
+unfolding laid_some
+some_right n s st e es c rest o p = unless_none (refused_at st.place) _ c rest o ∙ unless_none (problem_at s st e) _ c rest p
 
-refusal_on : (b c : Core) (e : Event) (es : List Event) (empty : Bool) → refused_at b.place ≡ None
+some_wrong : (n : ℕ) (s : Settings) (st : State) (e : Event) (es : List Event) (c : Cursor)
+    (rest : Rest) (x : Problem) → refused_at st.place ≡ None → problem_at s st e ≡ Some x
+    → some_among (suc n) s st (e ∷ es) c rest ≡ rest c
+unfolding laid_some
+some_wrong n s st e es c rest x o p = unless_none (refused_at st.place) _ c rest o ∙ unless_some (problem_at s st e) x _ c rest p
+
+-- Where nothing of the events was laid out, the output ends where it stood.
+pub some_none : (s : Settings) (st : State) (o : Output) (es : List Event) (whole : List Item)
+    → refused_at st.place ≡ None → LaysSome zero s st o es whole → Ends o [] whole
+unfolding LaysSome laid_some
+some_none s st o es whole open_still h =
+    let P : List Item → Type 0 = λ t. Ends o t whole in
+    subst P (unless_none (refused_at st.place) _ o.cursor nothing_more open_still) h
+
+-- one event, by what is wrong with it
+pub some_one : (p : Option Problem) (s : Settings) (st : State) (o : Output) (e : Event)
+    (es : List Event) (empty : Bool) (whole : List Item) → refused_at st.place ≡ None
+    → problem_at s st e ≡ p → empty ≡ opens_empty e es → LaysSome (suc zero) s st o (e ∷ es) whole
+    → Ends o (next_piece p (piece s st e empty) o.cursor nothing_more) whole
+unfolding LaysSome laid_some
+some_one None s st o e es empty whole open_still is same h =
+    let P : List Item → Type 0 = λ t. Ends o t whole in
+    let Q : Bool → Type 0 = λ b. Ends o (piece s st e b o.cursor nothing_more) whole in
+    subst Q (sym same) (subst P (some_right zero s st e es o.cursor nothing_more open_still is) h)
+some_one (Some x) s st o e es empty whole open_still is same h =
+    let P : List Item → Type 0 = λ t. Ends o t whole in
+    subst P (some_wrong zero s st e es o.cursor nothing_more x open_still is) h
+
+pub some_step : (p : Option Problem) (n : ℕ) (old new : Core) (e : Event) (es : List Event)
+    (whole : List Item) → refused_at old.place ≡ None → new.sink.status ≡ Going
+    → Done old new e (opens_empty e es) p
+    → LaysSome (suc n) (settings_of old) (state_of old) old.sink (e ∷ es) whole
+    → LaysSome n (settings_of new) (state_of new) new.sink es whole
+unfolding LaysSome
+some_step None n old new e es whole o g l h =
+    let s : Settings = settings_of old in
+    let st : State = state_of old in
+    let more : Rest = λ d. laid_some n s (next s st e (opens_empty e es) d) es d nothing_more in
+    let P : List Item → Type 0 = λ t. Ends old.sink t whole in
+    let front = subst P (some_right n s st e es old.sink.cursor nothing_more o l.problem) h in
+    let back : Ends new.sink (more new.sink.cursor) whole = l.text.ends more whole front in
+    let at : State = next s st e (opens_empty e es) new.sink.cursor in
+    let same : some_among n s at es new.sink.cursor nothing_more ≡ more new.sink.cursor = unless_none _ _ _ _ (open_next s st e (opens_empty e es) new.sink.cursor o) in
+    let Q : List Item → Type 0 = λ t. Ends new.sink t whole in
+    let R : State → Type 0 = λ z. Ends new.sink (some_among n s z es new.sink.cursor nothing_more) whole in
+    let S : Settings → Type 0 = λ z. Ends new.sink (some_among n z (state_of new) es new.sink.cursor nothing_more) whole in
+    subst S (sym l.settings) (subst R (sym (l.state g)) (subst Q (sym same) back))
+some_step (Some x) n old new e es whole o g l h =
+    let P : List Item → Type 0 = λ t. Ends old.sink t whole in
+    let front = subst P (some_wrong n (settings_of old) (state_of old) e es old.sink.cursor nothing_more x o l.problem) h in
+    let back : Ends new.sink [] whole = l.text.ends nothing_more whole front in
+    let R : State → Type 0 = λ z. Ends new.sink (some_among n (settings_of new) z es new.sink.cursor nothing_more) whole in
+    subst R (sym (l.state g)) back
+
+-- ---- memory
+
+-- Nothing is noted of memory while the output still goes on.
+pub going_notes : (takes : Bool) (a b : Status) → b ≡ Going → may_note takes a b ≡ false
+going_notes false a b g = refl
+going_notes true Going Going g = refl
+going_notes true Going Full g = absurd (cc)
+going_notes true Going Deep g = absurd (cc)
+going_notes true Going Starved g = absurd (cc)
+going_notes true Full b g = refl
+going_notes true Deep b g = refl
+going_notes true Starved b g = refl
+
+-- where it was noted, the event may take such memory
+pub noted_takes : (takes : Bool) (a b : Status) (was now : Bool) → was ≡ false → now ≡ true
+    → (may_note takes a b ≡ false → now ≡ was) → takes ≡ true
+noted_takes true a b was now off on n = refl
+noted_takes false a b was now off on n = absurd (false≢true (sym off ∙ (sym (n refl) ∙ on)))
+
+-- what is taken from the front of a list
+pub drop_next : (k : ℕ) (xs : List Event) (e : Event) (ys : List Event) → drop k xs ≡ e ∷ ys
+    → drop (suc k) xs ≡ ys
+drop_next zero [] e ys h = absurd (cc)
+drop_next zero (x ∷ xs) e ys h = cc
+drop_next (suc k) [] e ys h = absurd (cc)
+drop_next (suc k) (x ∷ xs) e ys h = drop_next k xs e ys h
+
+pub first_there : (k : ℕ) (xs : List Event) (e : Event) (ys : List Event) → drop k xs ≡ e ∷ ys
+    → takes_memory e ≡ true → first_takes (drop k xs) ≡ true
+first_there k xs e ys h t = ap first_takes h ∙ t
+
+pub start_there : (k : ℕ) (xs : List Event) (e : Event) (ys : List Event) → drop k xs ≡ e ∷ ys
+    → is_document_start e ≡ true → first_starts (drop k xs) ≡ true
+start_there k xs e ys h t = ap first_starts h ∙ t
+
+-- ---- one event
+
+pub refusal_on : (b c : Core) (e : Event) (es : List Event) (empty : Bool)
+    → refused_at b.place ≡ None
     → is_ready (e ∷ es) ≡ true → LaysOut b c e empty → c.sink.status ≡ Going
     → refusal_behind (settings_of c) (state_of c) es
     ≡ refusal_behind (settings_of b) (state_of b) (e ∷ es)
@@ -376,6 +492,7 @@ refusal_on b c e es empty o r l g =
     ap (λ (z : Settings). refusal_from z.canonical (state_of c) es) (same_settings b c l.settings l.text.encoding)
     ∙ refusal_step (settings_of b) (state_of b) (state_of c) e empty c.sink.cursor es (problem_at (settings_of b) (state_of b) e) refl o r (l.state g)
 
+-- The first wrong event of a list is that of the rest behind an event that was laid out.
 pub wrong_on : (b c : Core) (e : Event) (es : List Event) (empty : Bool) → refused_at b.place ≡ None
     → LaysOut b c e empty → c.sink.status ≡ Going
     → first_wrong (settings_of c) (state_of c) es
@@ -391,74 +508,3 @@ pub lays_first : (b c : Core) (e : Event) (es : List Event) (whole : List Item)
     → LaysAll (settings_of b) (state_of b) b.sink (e ∷ es) whole
     → LaysAll (settings_of c) (state_of c) c.sink es whole
 lays_first b c e es whole o l h = all_step (problem_at (settings_of b) (state_of b) e) b c e es whole o (done b c e _ l) h
-
--- no event of a list takes memory outside the output
-none_takes : (e : Event) (es : List Event) → take_memory (e ∷ es) ≡ false
-    → (takes_memory e ≡ false) × (take_memory es ≡ false)
-none_takes e es h = or_parts (takes_memory e) (take_memory es) h
-
-pub lays_more : (a b c : Core) (h x y : List Event) (e : Event) (empty : Bool) → LaysEvents a h b x
-    → x ≡ e ∷ y → goes_on b.sink.status b.place ≡ true → is_ready x ≡ true → empty ≡ opens_empty e y
-    → LaysOut b c e empty → LaysEvents a h c y
-lays_more a b c h x y e empty p same goes r is l =
-    let Q : List Event → Type 0 = λ z. is_ready z ≡ true in
-    let r' : is_ready (e ∷ y) ≡ true = subst Q same r in
-    let o : refused_at b.place ≡ None = going_open b.sink.status b.place goes in
-    record {
-      finishes = λ es whole f.
-          let P : List Event → Type 0 = λ z. Finishes (settings_of b) (state_of b) b.sink (z ++ es) whole in
-          let R : Bool → Type 0 = λ v. LaysOut b c e v in
-          finishes_on b c e (y ++ es) whole (subst R (is ∙ sym (ready_empty e y es r')) l) (subst P same (p.finishes es whole f));
-      refuses = λ g es.
-          refusal_on b c e (y ++ es) empty o (ready_more e y es r') l g
-          ∙ (ap (λ z. refusal_behind (settings_of b) (state_of b) (z ++ es)) (sym same) ∙ p.refuses (l.text.going g) es);
-      lets_out = λ es whole f.
-          let P : List Event → Type 0 = λ z. LetsOut (settings_of b) (state_of b) b.sink (z ++ es) whole in
-          let R : Bool → Type 0 = λ v. LaysOut b c e v in
-          let l' : LaysOut b c e (opens_empty e (y ++ es)) = subst R (is ∙ sym (ready_empty e y es r')) l in
-          text_step b c e (y ++ es) whole o (ready_more e y es r') l' (subst P same (p.lets_out es whole f));
-      first = λ g es.
-          wrong_on b c e (y ++ es) empty o l g
-          ∙ (ap (λ z. first_wrong (settings_of b) (state_of b) (z ++ es)) (sym same) ∙ p.first (l.text.going g) es);
-      lays = λ es whole f.
-          let P : List Event → Type 0 = λ z. LaysAll (settings_of b) (state_of b) b.sink (z ++ es) whole in
-          let R : Bool → Type 0 = λ v. LaysOut b c e v in
-          lays_first b c e (y ++ es) whole o (subst R (is ∙ sym (ready_empty e y es r')) l) (subst P same (p.lays es whole f));
-      grows = grows_both a.sink.bytes b.sink.bytes c.sink.bytes p.grows l.text.grows;
-      going = λ g. p.going (l.text.going g);
-      encoding = l.text.encoding ∙ p.encoding;
-      limit = l.text.limit ∙ p.limit;
-      memory = λ n.
-          let k = notes_both (take_memory h) _ _ _ p.going l.text.going n in
-          l.memory (notes_within (take_memory h) (takes_memory e) _ _ (λ z. (none_takes e y (sym (ap take_memory same) ∙ p.left z)).0) k.1) ∙ p.memory k.0;
-      left = λ z. (none_takes e y (sym (ap take_memory same) ∙ p.left z)).1;
-    }
-
--- an event that isn't held
-pub lays_past : (a b c : Core) (x h : List Event) (e : Event) → LaysEvents a x b (h ++ e ∷ [])
-    → goes_on b.sink.status b.place ≡ true → passes h e ≡ true → LaysOut b c e false
-    → LaysEvents a x c h
-lays_past a b c x [] e j g p l = lays_more a b c x (e ∷ []) [] e false j refl g p (sym (opens_none e)) l
-lays_past a b c x (f ∷ fs) e j g p l = absurd (cc)
-
--- one that is
-pub lays_held : (a b : Core) (x y z : List Event) → z ≡ y → LaysEvents a x b y → LaysEvents a x b z
-lays_held a b x y z same j = let P : List Event → Type 0 = λ t. LaysEvents a x b t in subst P (sym same) j
-
--- ---- memory
-
-pub going_notes : (takes : Bool) (a b : Status) → b ≡ Going → may_note takes a b ≡ false
-going_notes false a b g = refl
-going_notes true Going Going g = refl
-going_notes true Going Full g = absurd (cc)
-going_notes true Going Deep g = absurd (cc)
-going_notes true Going Starved g = absurd (cc)
-going_notes true Full b g = refl
-going_notes true Deep b g = refl
-going_notes true Starved b g = refl
-
--- while the output goes on, none was refused outside it
-pub lays_unnoted : (old new : Core) (before after : List Event) → LaysEvents old before new after
-    → (old.sink.status ≡ Going → old.starved ≡ false) → new.sink.status ≡ Going
-    → new.starved ≡ false
-lays_unnoted old new before after j n g = j.memory (going_notes _ old.sink.status new.sink.status g) ∙ n (j.going g)

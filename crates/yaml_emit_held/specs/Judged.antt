@@ -1,5 +1,5 @@
 -- Which events are let out, and what is written for them.
-use Rattle.std.specs.Prelude.{Bool, if◌then◌else◌, List, [], ◌∷◌, Option, Some, None}
+use Rattle.std.specs.Prelude.{◌≡◌, ◌⊎◌, Bool, true, false, if◌then◌else◌, ℕ, zero, suc, List, [], ◌∷◌, drop, Option, Some, None}
 use Rattle.std.specs.List.{list_any}
 use Rattle.yaml_emit_text.specs.declared.Settings.{Settings}
 use Rattle.yaml_emit_text.specs.Text.{Item}
@@ -15,7 +15,7 @@ use Rattle.yaml_emit_layout.specs.Content.{Event}
 use Rattle.yaml_emit_layout.specs.Grammar.{or_else}
 use Rattle.yaml_emit_layout.specs.Progress.{Due, item_due, key_due, value_due, Progress, first_refusal}
 use Rattle.yaml_emit_layout.specs.State.{State, piece, next, problem_at, opens_empty}
-use Rattle.yaml_emit_state.specs.Steps.{takes_memory}
+use Rattle.yaml_emit_state.specs.Steps.{takes_memory, is_document_start}
 use Rattle.yaml_emit_held.specs.Held.{is_ready}
 
 -- The events of a list that are let out: all in front of the first one that is still held.
@@ -90,3 +90,38 @@ LaysAll s st o es whole = Ends o (text_among s st es o.cursor nothing_more) whol
 -- laying out some of them may take memory outside the output
 abbrev pub take_memory : List Event → Bool
 take_memory es = list_any takes_memory es
+
+-- ---- the first few
+
+-- what is written for the first n events of a list, up to the first one that is refused
+unfoldable pub laid_some : ℕ → Settings → State → List Event → Layout
+laid_some zero s st es = stay
+laid_some (suc n) s st [] = stay
+laid_some (suc n) s st (e ∷ es) = unless (problem_at s st e)
+    (λ c rest. piece s st e (opens_empty e es) c
+    (λ d. laid_some n s (next s st e (opens_empty e es) d) es d rest))
+
+-- the same; behind a refusal nothing
+abbrev pub some_among : ℕ → Settings → State → List Event → Layout
+some_among n s st es = unless (refused_at st.place) (laid_some n s st es)
+
+-- `whole` is what is written behind that output when the first n of these are laid out
+unfoldable pub LaysSome : ℕ → Settings → State → Output → List Event → List Item → Type 0
+LaysSome n s st o es whole = Ends o (some_among n s st es o.cursor nothing_more) whole
+
+-- the first one may take memory outside the output
+abbrev pub first_takes : List Event → Bool
+first_takes [] = false
+first_takes (e ∷ es) = takes_memory e
+
+-- the first one begins a document
+abbrev pub first_starts : List Event → Bool
+first_starts [] = false
+first_starts (e ∷ es) = is_document_start e
+
+-- Memory was refused outside the output for one of these events: all in front of it are laid out, and it is too; or, where it begins
+-- a document, whose directives are looked at first, nothing of it. `laid n` tells that the first n are laid out, and nothing else.
+pub record Refuses (es : List Event) (laid : ℕ → Type 0) : Type 0 where
+  pub front : ℕ
+  pub takes : first_takes (drop front es) ≡ true
+  pub stands : laid (suc front) ⊎ ((first_starts (drop front es) ≡ true) × laid front)

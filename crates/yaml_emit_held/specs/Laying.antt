@@ -1,13 +1,19 @@
 -- What laying out what is held does to the state that lays it out: the clauses of private calls alone cite it.
-use Rattle.std.specs.Prelude.{◌≡◌, false, List, ◌++◌}
+use Rattle.std.specs.Prelude.{◌≡◌, true, false, ℕ, ◌+◌, List, ◌++◌, drop}
 use Rattle.yaml_emit_text.specs.declared.Status.TheVariants.{Going}
-use Rattle.yaml_emit_text.specs.Text.{Item}
+use Rattle.yaml_emit_text.specs.Text.{Item, encode}
 use Rattle.yaml_emit_text.specs.Sink.{Grows}
 use Rattle.yaml_emit_layout.specs.Content.{Event}
 use Rattle.yaml_emit_state.specs.declared.Core.{Core}
 use Rattle.yaml_emit_state.specs.Steps.{state_of, settings_of, Notes}
 use Rattle.yaml_emit_state.specs.Finish.{Finishes}
-use Rattle.yaml_emit_held.specs.Judged.{refusal_behind, LetsOut, first_wrong, LaysAll, take_memory}
+use Rattle.yaml_emit_held.specs.Judged.{refusal_behind, LetsOut, first_wrong, LaysAll, take_memory, LaysSome, Refuses}
+
+-- the output is what is written for the first n of these events, whatever follows them
+abbrev pub HasLaid : Core → List Event → List ℕ → ℕ → Type 0
+HasLaid old before output n = (es : List Event) (whole : List Item)
+    → LaysSome n (settings_of old) (state_of old) old.sink (before ++ es) whole
+    → encode old.sink.encoding whole ≡ output
 
 -- Of the events `before` those of `after` are left, and the others were laid out. Whatever follows: the whole text is the same,
 -- the same event is refused, unless the output has stopped, and the same is written; of those that are let out, and of all.
@@ -37,3 +43,13 @@ pub record LaysEvents (old : Core) (before : List Event) (new : Core)
   -- that memory was refused outside the output is noted where this stops it, by an event that takes such memory
   pub memory : Notes (take_memory before) old new
   pub left : take_memory before ≡ false → take_memory after ≡ false
+  -- how many were laid out
+  pub laid : ℕ
+  pub rest : drop laid before ≡ after
+  pub some : new.sink.status ≡ Going → (m n : ℕ) → m ≡ laid + n → (es : List Event)
+      → (whole : List Item)
+      → LaysSome m (settings_of old) (state_of old) old.sink (before ++ es) whole
+      → LaysSome n (settings_of new) (state_of new) new.sink (after ++ es) whole
+  -- where it is noted, no text was missing memory
+  pub blames : old.starved ≡ false → new.starved ≡ true
+      → Refuses before (HasLaid old before new.sink.bytes)

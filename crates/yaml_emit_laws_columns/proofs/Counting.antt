@@ -79,6 +79,7 @@ abbrev pub all_ascii : List ℕ → Bool
 all_ascii [] = true
 all_ascii (i ∷ t) = nat_lt i 128 && all_ascii t
 
+-- A text of ASCII takes one unit of its encoding a character.
 pub ascii_bytes : (x : Encoding) (t : List ℕ) → all_ascii t ≡ true
     → text_bytes x t ≤ unit x * length t
 unfolding text_bytes

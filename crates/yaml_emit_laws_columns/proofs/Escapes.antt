@@ -10,6 +10,7 @@ use Rattle.yaml_emit_laws_columns.specs.Sizes.{unit, text_bytes, most_of_escape}
 use Rattle.yaml_emit_laws_columns.specs.Laws.{EscapesAreShort}
 use Rattle.yaml_emit_laws_columns.proofs.Counting.{all_ascii, ascii_bytes}
 
+-- No character takes more than four units of its encoding.
 pub raw_most : (x : Encoding) (c : ℕ) → length (char_bytes x c) ≤ unit x * 4
 unfolding char_bytes
 raw_most Utf8 c =
@@ -61,6 +62,7 @@ digit_small : (d : ℕ) → d < 16 → nat_lt (hex_digit d) 128 ≡ true
 unfolding hex_digit
 digit_small d w = small_if (nat_lt d 10) (48 + d) (55 + d) (lt-ltb (48 + d) 128 (omega arith)) (lt-ltb (55 + d) 128 (omega arith))
 
+-- Two hexadecimal digits are ASCII.
 pub two_small : (n : ℕ) → n < 256 → all_ascii (hex_2 n) ≡ true
 two_small n w =
     let h : n / 16 < 16 = omega arith in

@@ -83,6 +83,7 @@ unfolding most_of_value
 value_grows s n m [] w = le_refl _
 value_grows s n m (c ∷ cs) w = omega (arith, char_grows s n m c w, value_grows s n m cs w)
 
+-- Longer lines have a larger bound.
 pub line_grows : (s : Settings) (n m : ℕ) → n ≤ m → most_of_line s n ≤ most_of_line s m
 line_grows s n m w = ascii_grows s (n + 5) (m + 5) (omega (arith, w))
 

@@ -18,6 +18,7 @@ use Rattle.yaml_emit_laws_text.proofs.Values.{cond_true, cond_false}
 use Rattle.yaml_emit_laws_text.proofs.Escapes.{low_encodes, end_of}
 use Rattle.yaml_emit_laws_text.proofs.Back.{front_append, spaced_by}
 
+-- Cases on a truth value.
 pub bool_cases : {P : Type 0} (b : Bool) → (b ≡ true → P) → (b ≡ false → P) → P
 bool_cases true p q = p refl
 bool_cases false p q = q refl
@@ -38,6 +39,7 @@ blanks_column (suc n) c =
     let far : c.column + 1 + n ≡ c.column + suc n = omega arith in
     more ∙ far
 
+-- White space leaves a block scalar's kept breaks as they were.
 pub blanks_kept : (n : ℕ) (c : Cursor) → (after_blanks n c).kept ≡ c.kept
 blanks_kept zero c = refl
 blanks_kept (suc n) c = blanks_kept n (spaced_by c)

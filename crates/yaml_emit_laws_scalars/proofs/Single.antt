@@ -35,6 +35,7 @@ start_behind c value = record { blank = λ t. absurd (true≢false (sym t)); tur
 moved_on : (n : ℕ) → n + 1 ≡ 0 → ⊥
 moved_on n e = omega (arith, e)
 
+-- A single quoted value reads back from any cursor, where single quotes may write it.
 pub single_back : SingleSpellingReads → (page : Page) (c : Cursor) (value : List ℕ) → IsUtf8 value
     → (page.cuts ≡ true → 0 < page.indentation)
     → (is_one_line (chars value) ≡ false → 0 < page.indentation)

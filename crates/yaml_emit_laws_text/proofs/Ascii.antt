@@ -51,6 +51,7 @@ pub handle_ascii : (handle : List ℕ) → IsShaped handle → IsMarked handle
 handle_ascii handle (inl e) = record { more = []; begins = e; ascii = refl }
 handle_ascii handle (inr (name, e, are)) = record { more = name ++ (33 ∷ []); begins = e; ascii = append_ascii name (33 ∷ []) (alphas_ascii name are) refl }
 
+-- A tag that is written by handle and suffix begins with a mark and is ASCII.
 pub spelled_ascii : (split : Split) → IsReadable split → IsMarked (spelled split)
 unfolding spelled
 spelled_ascii (shorthand handle suffix) (shaped, utf8, some) =
@@ -66,6 +67,7 @@ spelled_ascii (verbatim tag) (utf8, some) = record {
   ascii = append_ascii (uri_text true tag) (62 ∷ []) (uri_ascii true tag utf8) refl;
 }
 
+-- A readable directive's line is ASCII, and its handle stands between marks.
 pub directive_ascii : (d : TagDirective) → IsReadableDirective d
     → IsMarked d.handle × (are_ascii (uri_text true d.prefix) ≡ true)
 directive_ascii d (shaped, utf8, some) = (handle_ascii d.handle shaped, uri_ascii true d.prefix utf8)

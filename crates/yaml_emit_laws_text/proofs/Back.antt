@@ -33,6 +33,7 @@ no_fold : (page : Page) (before x : ℕ) (xs : List ℕ) → page.cuts ≡ false
     → may_fold page before x xs ≡ false
 no_fold page before x xs e = ap (λ t. t && (x == 32 && (not (before == 32) && not (is_empty xs)))) e
 
+-- Where lines aren't cut a quoted character is itself or its escape, whatever stands before it.
 pub char_escaped : (page : Page) (before x : ℕ) (xs : List ℕ) → page.cuts ≡ false
     → quoted_char page before x xs ≡ escaped page.unicode x
 unfolding quoted_char
@@ -56,16 +57,19 @@ body_spells law page c cs good deep =
 
 -- ---- characters and bytes
 
+-- Two texts in front of a layout's items are one behind another.
 pub front_append : (xs ys : List ℕ) (t : List Item)
     → in_front (xs ++ ys) t ≡ in_front xs (in_front ys t)
 unfolding in_front
 front_append [] ys t = refl
 front_append (x ∷ xs) ys t = ap (λ u. letter x ∷ u) (front_append xs ys t)
 
+-- A text of one character in front is a letter.
 pub front_one : (x : ℕ) (t : List Item) → in_front (x ∷ []) t ≡ letter x ∷ t
 unfolding in_front
 front_one x t = refl
 
+-- The first character of a text in front is a letter.
 pub front_more : (x : ℕ) (xs : List ℕ) (t : List Item)
     → in_front (x ∷ xs) t ≡ letter x ∷ in_front xs t
 unfolding in_front

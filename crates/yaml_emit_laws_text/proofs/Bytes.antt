@@ -44,20 +44,25 @@ abbrev pub AreCalm : List ℕ → Type 0
 AreCalm [] = Unit {0}
 AreCalm (b ∷ bs) = Calm b × AreCalm bs
 
+-- Of ASCII only line feed and carriage return end a break.
 pub low_end : (x y b c : ℕ) → b < 128 → b ≢ 10 → b ≢ 13 → ends_of x y b c ≡ false
 unfolding ends_of
 low_end x y b c h k l = grind (arith, nat_tests)
 
+-- Of ASCII only line feed and carriage return begin a break.
 pub low_break : (b c d : ℕ) → b < 128 → b ≢ 10 → b ≢ 13 → break_of b c d ≡ 0
 unfolding break_of
 low_break b c d h k l = grind (arith, nat_tests)
 
+-- No break ends at a calm byte.
 pub calm_end : (x y b c : ℕ) → Calm b → ends_of x y b c ≡ false
 calm_end x y b c h = low_end x y b c h.low h.no_feed h.no_return
 
+-- A calm byte begins no break.
 pub calm_break : (b c d : ℕ) → Calm b → break_of b c d ≡ 0
 calm_break b c d h = low_break b c d h.low h.no_feed h.no_return
 
+-- Every byte above carriage return within ASCII is calm.
 pub calm_from : (b : ℕ) → 13 < b → b < 128 → Calm b
 calm_from b h l = record { low = l; no_feed = λ e. omega arith; no_return = λ e. omega arith }
 
@@ -198,10 +203,12 @@ number_calm b h =
 
 -- ---- bytes of a character past ASCII
 
+-- No break ends at the first byte of a character of several.
 pub first_end : (x y b c : ℕ) → 192 ≤ b → ends_of x y b c ≡ false
 unfolding ends_of
 first_end x y b c h = grind (arith, nat_tests)
 
+-- A second byte ends a break only behind 0xC2, as NEXT LINE.
 pub second_end : (x y b c : ℕ) → 128 ≤ b → b < 192 → 192 ≤ y → (b ≡ 0x85 → y ≡ 0xC2 → ⊥)
     → ends_of x y b c ≡ false
 unfolding ends_of
@@ -214,6 +221,7 @@ second_end x y b c h k l m =
       | inr e ↦ grind (arith, nat_tests)
     ]
 
+-- A third byte ends a break only in LINE SEPARATOR and PARAGRAPH SEPARATOR.
 pub third_end : (x y b c : ℕ) → 128 ≤ b → b < 192 → 128 ≤ y → y < 192
     → (b ≡ 0xA8 → y ≡ 0x80 → x ≡ 0xE2 → ⊥) → (b ≡ 0xA9 → y ≡ 0x80 → x ≡ 0xE2 → ⊥)
     → ends_of x y b c ≡ false
@@ -233,10 +241,12 @@ third_end x y b c h k l m n o =
       ]
     ]
 
+-- A later byte of a character begins no break.
 pub later_break : (b c d : ℕ) → 128 ≤ b → b < 192 → break_of b c d ≡ 0
 unfolding break_of
 later_break b c d h k = grind (arith, nat_tests)
 
+-- Of characters of two bytes only NEXT LINE is a break.
 pub two_break : (b c d : ℕ) → 192 ≤ b → b < 224 → (b ≡ 0xC2 → c ≡ 0x85 → ⊥) → break_of b c d ≡ 0
 unfolding break_of
 two_break b c d h k m =
@@ -245,6 +255,7 @@ two_break b c d h k m =
       | inl e ↦ elim (cases_eq c 0x85) [ inl f ↦ absurd (m e f) | inr f ↦ grind (arith, nat_tests) ]
     ]
 
+-- Of characters of three bytes only LINE SEPARATOR and PARAGRAPH SEPARATOR are breaks.
 pub three_break : (b c d : ℕ) → 224 ≤ b → b < 240 → (b ≡ 0xE2 → c ≡ 0x80 → d ≡ 0xA8 → ⊥)
     → (b ≡ 0xE2 → c ≡ 0x80 → d ≡ 0xA9 → ⊥) → break_of b c d ≡ 0
 unfolding break_of
@@ -260,9 +271,11 @@ three_break b c d h k n o =
       ]
     ]
 
+-- The first byte of a character of four begins no break.
 pub four_break : (b c d : ℕ) → 240 ≤ b → break_of b c d ≡ 0
 unfolding break_of
 four_break b c d h = grind (arith, nat_tests)
 
+-- No byte beyond ASCII is white.
 pub high_blank : (b : ℕ) → 128 ≤ b → is_blank b ≡ false
 high_blank b h = grind (arith, nat_tests)

@@ -79,6 +79,7 @@ line_lined b text c p ws d rest e s l =
 
 -- ---- `---` and `...`
 
+-- Three times a character at a line's start: the bytes, and the cursor at column 3.
 pub three : (x : ℕ) → nat_lt x 128 ≡ true → (kept : Bool) (rest : Rest)
     → bytes (letters (x ∷ x ∷ x ∷ []) (at_line kept) rest) ≡ x ∷ x ∷ x
     ∷ bytes (rest (record { column = 3; white = false; bare = false; kept = kept }))
@@ -100,6 +101,7 @@ broken_blank Lf text c q k l = feed_blank text q (left_first text q 10 _ (left_l
 broken_blank Cr text c q k l = return_blank text q (left_first text q 13 _ (left_letter text q 13 (k (at_line c.kept)) refl l))
 broken_blank CrLf text c q k l = return_blank text q (left_first text q 13 _ (left_letter text q 13 (letter 10 ∷ k (at_line c.kept)) refl l))
 
+-- Where a line ends a blank, a break or the end is found.
 pub line_blank : (b : LineBreak) (text : List ℕ) (c : Cursor) (q : ℕ) (rest : Rest) → c.bare ≡ false
     → Left text q (bytes (line b 0 c rest)) → is_blank_or_end text q ≡ true
 unfolding line
@@ -134,6 +136,7 @@ dot_kind : (text : List ℕ) (p : ℕ) → byte text p ≡ 46 → byte text (p +
 unfolding kind_at is_document_start is_document_end
 dot_kind text p a b c e z = rw (a, b, c, e, z) refl
 
+-- `---` at a line's start is DOCUMENT-START.
 pub thrice_dash : Thrice 45 kinds.DocumentStart tokens.document_start
 unfolding break_of word_at
 thrice_dash = record {
@@ -146,6 +149,7 @@ thrice_dash = record {
   no_feed = λ e. omega arith;
 }
 
+-- `...` at a line's start is DOCUMENT-END.
 pub thrice_dot : Thrice 46 kinds.DocumentEnd tokens.document_end
 unfolding break_of word_at
 thrice_dot = record {
@@ -272,6 +276,7 @@ record Ended (text : List ℕ) (ks : List Kind) (ws : List Word) (B : List Token
   kinds : word_kinds words ≡ ks
   bodies : told words [] ≡ told ws B
 
+-- Where no bytes are left stands the end.
 pub end_zero : (text : List ℕ) (p : ℕ) → Left text p (bytes []) → byte text p ≡ 0
 unfolding encode
 end_zero text p l = let e = l.ends in get_or_past text p 0 (omega (arith, e))
@@ -287,6 +292,7 @@ pub end_word : (text : List ℕ) (p : ℕ)
 unfolding word_at
 end_word text p = refl
 
+-- A lexeme begins where the text ends: STREAM-END.
 pub end_begins : (text : List ℕ) (p : ℕ) → byte text p ≡ 0 → begins_lexeme text p ≡ true
 unfolding break_of
 end_begins text p h = sign_starts text p 0 h refl refl refl refl (λ c d. refl)
@@ -350,6 +356,7 @@ documents_end law names quoted mark s some opens (d ∷ ds) (right, root, good) 
 
 -- ---- the whole text
 
+-- What stands behind a front is found at the front's length.
 pub has_all : (text : List ℕ) (before rest : List ℕ) → text ≡ before ++ rest
     → Has text (length before) rest
 has_all text before [] e = tt

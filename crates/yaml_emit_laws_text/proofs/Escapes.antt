@@ -163,19 +163,23 @@ letter_names c n =
           ]
     ]
 
+-- An escape with a letter of its own is a backslash and that.
 pub escape_by_letter : (c : ℕ) → escape_letter c ≢ 0 → escape_text c ≡ 92 ∷ escape_letter c ∷ []
 unfolding escape_text
 escape_by_letter c n = grind arith
 
+-- An escape below 256 without a letter of its own has two digits.
 pub escape_by_2 : (c : ℕ) → escape_letter c ≡ 0 → c < 256 → escape_text c ≡ 92 ∷ 120 ∷ hex_2 c
 unfolding escape_text
 escape_by_2 c n h = grind arith
 
+-- An escape below 65,536 without a letter of its own has four digits.
 pub escape_by_4 : (c : ℕ) → escape_letter c ≡ 0 → 256 ≤ c → c < 65536
     → escape_text c ≡ 92 ∷ 117 ∷ hex_4 c
 unfolding escape_text
 escape_by_4 c n l h = grind arith
 
+-- Any other escape without a letter of its own has eight digits.
 pub escape_by_8 : (c : ℕ) → escape_letter c ≡ 0 → 256 ≤ c → 65536 ≤ c
     → escape_text c ≡ 92 ∷ 85 ∷ hex_8 c
 unfolding escape_text
@@ -187,6 +191,7 @@ abbrev pub AreLow : List ℕ → Type 0
 AreLow [] = Unit {0}
 AreLow (b ∷ bs) = (b < 128) × AreLow bs
 
+-- Low bytes are their own encoding.
 pub low_encodes : (xs : List ℕ) → AreLow xs → encode_utf8_all xs ≡ xs
 low_encodes [] h = refl
 low_encodes (x ∷ xs) (a, b) = rw (encode_ascii x a, low_encodes xs b) refl
@@ -297,6 +302,7 @@ escape_part c s =
       ]
     ]
 
+-- An escape of any character is calm bytes.
 pub escape_calm : (c : ℕ) → scalar c ≡ true → AreCalm (escape_text c)
 escape_calm c s =
     let P : List ℕ → Type 0 = λ bs. AreCalm bs in
@@ -331,6 +337,7 @@ end_of Lf = feed
 end_of Cr = return
 end_of CrLf = return_feed
 
+-- The bytes of a fold: a break and spaces.
 pub fold_bytes : (b : LineBreak) (n : ℕ)
     → encode_utf8_all (emitted.break_text b ++ replicate n 32)
     ≡ turn_bytes (record { end = end_of b; spaces = n } ∷ [])
@@ -339,9 +346,11 @@ fold_bytes Lf n = low_encodes (10 ∷ replicate n 32) (omega arith, spaces_low n
 fold_bytes Cr n = low_encodes (13 ∷ replicate n 32) (omega arith, spaces_low n) ∙ ap (λ (t : List ℕ). 13 ∷ t) (sym (append-nil (replicate n 32)))
 fold_bytes CrLf n = low_encodes (13 ∷ 10 ∷ replicate n 32) (omega arith, (omega arith, spaces_low n)) ∙ ap (λ (t : List ℕ). 13 ∷ 10 ∷ t) (sym (append-nil (replicate n 32)))
 
+-- A space is its own encoding.
 pub space_encodes : encode_utf8 32 ≡ 32 ∷ []
 space_encodes = encode_ascii 32 (omega arith)
 
+-- A fold means one space.
 pub fold_means : (b : LineBreak) (n : ℕ)
     → meant (fold (record { end = end_of b; spaces = n }) []) ≡ 32 ∷ []
 unfolding turn_means

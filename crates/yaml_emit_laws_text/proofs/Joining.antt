@@ -182,6 +182,7 @@ text_ends : (split : Split) (e : ℕ) → (tag_text split e).end ≡ e
 text_ends (shorthand handle suffix) e = refl
 text_ends (verbatim tag) e = refl
 
+-- A tag that is written is split so that it is readable, where nothing is wrong with the document's start.
 pub written_readable : (o : Opening) → opening_problem o ≡ None → HaveUtf8 o.directives
     → (tag : List ℕ) → IsUtf8 tag → 0 < length tag → IsReadable (split_tag o.directives tag)
 written_readable o e u tag utf8 some =
@@ -212,6 +213,7 @@ readable_directives before (d ∷ ds) e (own, u) =
       readable_directives (before ++ d ∷ []) ds (or_second (directive_problem before d) (directives_problem (before ++ d ∷ []) ds) e) u,
     )
 
+-- Directives that are written are readable, where nothing is wrong with the document's start.
 pub written_directives : (o : Opening) → opening_problem o ≡ None → HaveUtf8 o.directives
     → AreReadable o.directives
 written_directives o e u = readable_directives [] o.directives (or_second (version_problem o.version) (directives_problem [] o.directives) e) u

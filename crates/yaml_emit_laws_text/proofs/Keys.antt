@@ -21,6 +21,7 @@ line_more : (a b r : Bool) → (a && b) ≡ true → (b ≡ true → r ≡ true)
 line_more true b r h f = f h
 line_more false b r h f = absurd (cc)
 
+-- Two texts of one line make one line.
 pub line_append : (xs ys : List ℕ) → is_one_line xs ≡ true → is_one_line ys ≡ true
     → is_one_line (xs ++ ys) ≡ true
 line_append [] ys h k = k
@@ -31,6 +32,7 @@ calm_inside x a =
     let l = a.low in
     rw (ne_eqb x 10 a.no_feed, ne_eqb x 13 a.no_return, ne_eqb x 0x85 (λ e. omega arith), ne_eqb x 0x2028 (λ e. omega arith), ne_eqb x 0x2029 (λ e. omega arith)) refl
 
+-- Calm bytes stand in one line.
 pub calm_line : (xs : List ℕ) → AreCalm xs → is_one_line xs ≡ true
 calm_line [] a = refl
 calm_line (x ∷ xs) (a, b) = and_from (not (is_break x)) (is_one_line xs) (calm_inside x a) (calm_line xs b)
@@ -58,6 +60,7 @@ letters_move (x ∷ xs) c (a, b) =
       column = e;
     }
 
+-- A character that is written as it is is no break.
 pub raw_inside : (unicode : Bool) (x : ℕ) → needs_escape unicode x ≡ false → not (is_break x) ≡ true
 unfolding needs_escape
 raw_inside unicode x e =

@@ -183,11 +183,13 @@ single_closing : (text : List ℕ) (p : ℕ) → (byte text (p + 1) == 39) ≡ f
 unfolding quote_at
 single_closing text p n = rw n refl
 
+-- A spelling between double quotes reads back as what its parts mean.
 pub spelling_reads : (parts : List QuotedPart) (text : List ℕ) (p : ℕ) → IsSpelling 34 parts
     → HasAt text p (quoted 34 parts)
     → double_quoted_at text p ≡ Ok (meaning parts, p + length (quoted 34 parts))
 spelling_reads parts text p s at = quoted_reads 34 parts text p (inl refl) s at (double_closing text _)
 
+-- A spelling between single quotes reads back as what its parts mean, unless one quote more follows.
 pub single_spelling_reads : (parts : List QuotedPart) (text : List ℕ) (p : ℕ) → IsSpelling 39 parts
     → HasAt text p (quoted 39 parts)
     → (byte text (p + length (quoted 39 parts)) ≡ 39 → ⊥)

@@ -284,6 +284,7 @@ split_resolves ds tag None f = refl
 split_resolves ds tag (Some d) f =
     resolved_named ds d.handle (drop (length d.prefix) tag) d.prefix f.named f.reads ∙ ap (λ (x : List ℕ). Some x) (whole d.prefix tag f.begins)
 
+-- A tag that is split by the document's directives resolves to itself.
 pub tags_resolve : (o : Opening) → opening_problem o ≡ None → (tag : List ℕ)
     → resolved_split o.directives (split_tag o.directives tag) ≡ Some tag
 tags_resolve o e tag =

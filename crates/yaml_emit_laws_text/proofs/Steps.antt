@@ -68,10 +68,12 @@ gap_byte text c e p b ws d k h column same s =
       plain = same ∙ s.plain;
     }
 
+-- A letter of ASCII is one byte.
 pub letter_low : (x : ℕ) (t : List Item) → nat_lt x 128 ≡ true → bytes (letter x ∷ t) ≡ x ∷ bytes t
 unfolding encode char_bytes
 letter_low x t e = rw e refl
 
+-- A letter of ASCII that is left is its byte, and the rest.
 pub left_letter : (text : List ℕ) (p x : ℕ) (t : List Item) → nat_lt x 128 ≡ true
     → Left text p (bytes (letter x ∷ t)) → Left text p (x ∷ bytes t)
 left_letter text p x t e l = subst (λ (bs : List ℕ). Left text p bs) (letter_low x t e) l
@@ -127,9 +129,11 @@ behind_break : (text : List ℕ) (p : ℕ) → ends_break text p ≡ true → co
 unfolding column_at
 behind_break text p h = rw (add-one, h) refl
 
+-- A line starts behind a line feed.
 pub behind_feed : (text : List ℕ) (p : ℕ) → byte text p ≡ 10 → Starts text (p + 1)
 behind_feed text p h n = behind_break text p (rw h (feed_ends _ _ _))
 
+-- A line starts behind a carriage return.
 pub behind_return : (text : List ℕ) (p : ℕ) → byte text p ≡ 13 → Starts text (p + 1)
 behind_return text p h n = behind_break text p (rw h (return_ends _ _ (byte text (p + 1)) n))
 
@@ -196,6 +200,7 @@ pub walks_line : (b : LineBreak) (n : ℕ) (a : Layout) (K : List Kind → List 
     → Walks (line b n ▹ a) K B d e c rest
 walks_line b n a K B d e c rest bare w text p ws s l = from_here a K B d e rest text ws (line_here b n text c p ws d (λ k. a k rest) bare s l) w
 
+-- The note that a line is too deep has no bytes.
 pub deep_bytes : (b : Bool) (t : List Item) → bytes (deep_if b t) ≡ bytes t
 unfolding encode
 deep_bytes true t = refl
@@ -288,14 +293,17 @@ pub record Sign (b : ℕ) : Type 0 where
   pub order : (b == 0xEF) ≡ false
   pub calm : (c d : ℕ) → break_of b c d ≡ 0
 
+-- A lexeme begins at a sign.
 pub sign_begins : (text : List ℕ) (p b : ℕ) → Sign b → byte text p ≡ b → begins_lexeme text p ≡ true
 sign_begins text p b s h = rw (h, s.tab, s.space, s.hash, s.order, s.calm, and_false) refl
 
+-- A lexeme begins at a byte that is neither white, nor `#`, nor a mark of byte order, nor a break.
 pub sign_starts : (text : List ℕ) (p x : ℕ) → byte text p ≡ x → (x == 32) ≡ false → (x == 9) ≡ false
     → (x == 35) ≡ false → (x == 0xEF) ≡ false → ((c d : ℕ) → break_of x c d ≡ 0)
     → begins_lexeme text p ≡ true
 sign_starts text p x h a b c d e = rw (h, a, b, c, d, e, and_false) refl
 
+-- A sign's kind is its indicator's.
 pub sign_kind : (flow : Bool) (text : List ℕ) (p b : ℕ) (k : Kind) → Sign b → byte text p ≡ b
     → ((alone : Bool) → indicator_of flow alone b ≡ Some k) → kind_at flow text p ≡ Some k
 unfolding kind_at is_document_start is_document_end

@@ -12,6 +12,7 @@ use Rattle.yaml_emit_layout.specs.parse_model.Events.{TagDirective}
 use Rattle.yaml_emit_laws_text.specs.TagsLaws.{IsReadableDirective, directive_bytes}
 use Rattle.yaml_emit_laws_text.proofs.Pieces.{pieces_of, text_is, bytes_are, many_are, text_uri}
 
+-- A readable directive's line reads back as its handle and prefix.
 pub directive_read : (d : TagDirective) → IsReadableDirective d → (text : List ℕ) (p : ℕ)
     → HasAt text p (directive_bytes d) → is_break text (p + length (directive_bytes d)) ≡ true
     → let end = p + length (directive_bytes d) in

@@ -113,6 +113,7 @@ shorthand_read handle suffix (inr (name, e, alphas)) utf8 some =
     let read = subst (λ (x : List ℕ). ReadsBehind (named_handle name) suffix x) (named_grouped name (uri_text false suffix)) (named_read name suffix alphas utf8 some) in
     subst (λ (h : List ℕ). ReadsBehind h suffix (h ++ uri_text false suffix)) (sym e) read
 
+-- A tag that is written by handle and suffix reads back as these.
 pub split_read : (split : Split) → IsReadable split → (flow : Bool) (text : List ℕ) (p : ℕ)
     → HasAt text p (spelled split) → may_end_tag flow text (p + length (spelled split)) ≡ true
     → tag_at flow text p ≡ Ok (tag_text split (p + length (spelled split)))

@@ -10,10 +10,12 @@ use Rattle.yaml_scan_scalars.proofs.FoldingLemmas.{value-kept}
 use Rattle.yaml_emit_laws_text.specs.Spelling.{end_means, LineTurn, turn_means, QuotedPart, raw, doubled, named, numbered, fold, joint, meant, meaning, IsSpelling, may_follow, may_be_next, is_raw_blank, is_fold, is_turn}
 use Rattle.yaml_emit_laws_text.proofs.Chars.{encode_1, encode_2, encode_3, encode_4}
 
+-- The first of two where the test holds.
 pub cond_true : {A : Type 0} (b : Bool) (x y : A) → b ≡ true → cond b x y ≡ x
 cond_true true x y e = refl
 cond_true false x y e = absurd (cc)
 
+-- The second of two where the test fails.
 pub cond_false : {A : Type 0} (b : Bool) (x y : A) → b ≡ false → cond b x y ≡ y
 cond_false false x y e = refl
 cond_false true x y e = absurd (cc)
@@ -99,9 +101,11 @@ encoded_front c =
 keeps_front : (bs : List ℕ) → SomeBytes bs → Front (keeps bs)
 keeps_front bs s = record { bytes = s.byte ∷ []; rest = keeps s.rest; is = ap (λ (t : List ℕ). keeps t) s.is }
 
+-- A blank that is written as it is reads as a blank.
 pub read_blank : (c : ℕ) → is_blank c ≡ true → read_as (raw c) ≡ Blank c ∷ []
 read_blank c e = cond_true (is_blank c) (Blank c ∷ []) (keeps (encode_utf8 c)) e
 
+-- A character that is written as it is, and is no blank, reads as its bytes.
 pub read_kept : (c : ℕ) → is_blank c ≡ false → read_as (raw c) ≡ keeps (encode_utf8 c)
 read_kept c e = cond_false (is_blank c) (Blank c ∷ []) (keeps (encode_utf8 c)) e
 

@@ -36,6 +36,7 @@ use Rattle.yaml_emit_laws_text.proofs.Steps.{Sign, sign_begins, sign_kind, push,
 
 -- ---- words of one byte
 
+-- A byte of ASCII is a sign unless it is the end, white, `#`, `%`, `-`, `.` or a break.
 pub sign : (b : ℕ) → nat_lt b 128 ≡ true → (b == 0) ≡ false → (b == 9) ≡ false → (b == 32) ≡ false
     → (b == 35) ≡ false → (b == 37) ≡ false → (b == 45) ≡ false → (b == 46) ≡ false
     → (b == 10) ≡ false → (b == 13) ≡ false → Sign b
@@ -226,6 +227,7 @@ left_zero : (text : List ℕ) (p : ℕ) (bs : List ℕ) → Left text p bs → p
 left_zero text p [] l e = absurd (cc)
 left_zero text p (b ∷ bs) l e = left_first text p b bs l
 
+-- A name that is read is a lexeme's body, which ends where the name does.
 pub named : (f : List ℕ → TokenBody) (r : Result (List ℕ × ℕ) Wrong) (name : List ℕ) (q : ℕ)
     → r ≡ Ok (name, q)
     → valued f r ≡ Ok (record { body = f name; end = q; reached = q; broke = false })
@@ -341,6 +343,7 @@ anchor_walks law names name some are b K B d e rest spaced w c =
 
 -- ---- double quoted scalars
 
+-- A double quote is a sign.
 pub quote_sign : Sign 34
 quote_sign = sign 34 refl refl refl refl refl refl refl refl refl refl
 
@@ -350,6 +353,7 @@ pub quote_word : (flow : Bool) (text : List ℕ) (p : ℕ)
 unfolding word_at
 quote_word flow text p = refl
 
+-- A double quote begins a double quoted scalar.
 pub quote_kind : (flow alone : Bool) → indicator_of flow alone 34 ≡ Some kinds.DoubleQuoted
 unfolding indicator_of
 quote_kind flow alone = refl
@@ -358,6 +362,7 @@ char_encodes : (c : ℕ) (t : List Item) → bytes (letter c ∷ t) ≡ encode_u
 unfolding encode char_bytes encode_char
 char_encodes c t = refl
 
+-- A text in front of a layout's items is its UTF-8.
 pub front_encodes : (xs : List ℕ) (t : List Item)
     → bytes (in_front xs t) ≡ encode_utf8_all xs ++ bytes t
 unfolding in_front
@@ -365,6 +370,7 @@ front_encodes [] t = refl
 front_encodes (x ∷ xs) t =
     char_encodes x (in_front xs t) ∙ ap (λ b. encode_utf8 x ++ b) (front_encodes xs t) ∙ sym (append_assoc (encode_utf8 x) (encode_utf8_all xs) (bytes t))
 
+-- A double quote in front of a text is its own byte.
 pub quote_first : (xs : List ℕ) → encode_utf8_all (34 ∷ xs) ≡ 34 ∷ encode_utf8_all xs
 quote_first xs = let e : encode_utf8 34 ≡ 34 ∷ [] = encode_ascii 34 (omega arith) in rw e refl
 

@@ -132,6 +132,7 @@ document_goes : (s : Settings) (first unended : Bool) (d : Document) (ds : List 
 unfolding state_of events layout text_at depth_at next_at place_problem documents_layout
 document_goes s first unended d ds = record { rest = λ c. root d.opening.directives d.root d.implicit_end ds; there = refl; fits = λ c. refl; same = λ c. refl; text = λ c f. refl }
 
+-- What is to come behind an event goes on from the state behind it.
 pub goes : (s : Settings) (e : Event) (es : List Event) (k : ToCome) → e ∷ es ≡ events k
     → Goes s (state_of k) e (opens_empty e es) es k
 unfolding state_of events layout levels_of frames_events frames_layout next_at text_at depth_at place_problem documents_events documents_layout stream_layout opens_empty

@@ -200,6 +200,7 @@ pub takes_end : (old new : Emitter) (d : Document) (count : ℕ) → count ≡ l
     → TakesEvents old (document_events old.closed d) new []
 takes_end old new d count n h a t = let P : List Event → Type 0 = λ z. TakesEvents old z new [] in subst P (sym (document_events_none d.nodes old.closed d (sym n ∙ h))) (takes_closing old.closed old new a t)
 
+-- What is noted at a stream's end is noted of the whole.
 pub notes_end : (old new : Emitter) → (old.closed ≡ true → new ≡ old)
     → (old.closed ≡ false → NotesMemoryOf stream_end old new) → NotesMemory true old new
 notes_end old new a m = notes_closing old.closed old new a m
@@ -221,6 +222,7 @@ dump_then old mid new d true h t c n =
     takes_on old mid new _ _ _ (t (document_events old.closed d)) (subst P c n)
 dump_then old mid new d false h t c n = absurd (cc)
 
+-- A dump that adds nothing at its end takes the document's events alone.
 pub dump_else : (old mid : Emitter) (d : Document) (b : Bool) → b ≡ false
     → ((es : List Event) → TakesEvents old (opening_events old.opened ++ es) mid (left_if b es))
     → TakesEvents old (dump_events old d) mid []

@@ -27,6 +27,7 @@ use Rattle.yaml_emit_state.proofs.Finishing.{fresh_finishes}
 use Rattle.yaml_emit_machine.specs.declared.emitter.yaml_emitter_t.TheInside.{Inside}
 use Rattle.yaml_emit_layout.specs.Streams.{IsStream}
 use Rattle.yaml_emit_machine.specs.Emitter.{Emitter, text_of, write_error, too_deep, problem_fault, memory_origin, refusal_by, stop_of, IsLimited, stream_encoding, CompletesBy, Completes, HasWritten, ShowsFront, IsWhole}
+use Rattle.yaml_emit_held.proofs.Judging.{goes_going}
 use Rattle.yaml_emit_machine.specs.Views.{emitter_of, IsEmitter}
 use Rattle.yaml_emit_held.specs.Judged.{refused_at}
 use Rattle.yaml_emit_machine.proofs.Ending.{all_written}
@@ -191,27 +192,6 @@ limited_by Going e f s b h w = inr (λ x es whole c. absurd (going_never e f x e
 limited_by Full e f s b h w = inr (λ x es whole c. inl (some_same write_error f h, (w x es whole c).1))
 limited_by Deep e f s b h w = inr (λ x es whole c. inr (some_same too_deep f h, (w x es whole c).0))
 limited_by Starved e f s b h w = inl (starved_fault e.starved f (some_same (memory_fault (memory_origin e.starved)) f h))
-
-pub goes_going : (s : Status) (p : Expected) → goes_on s p ≡ true → s ≡ Going
-goes_going Going p h = refl
-goes_going Full (at.Refused q) h = absurd (cc)
-goes_going Full at.StreamStart h = absurd (cc)
-goes_going Full (at.Documents first unended) h = absurd (cc)
-goes_going Full at.Node h = absurd (cc)
-goes_going Full at.DocumentEnd h = absurd (cc)
-goes_going Full at.End h = absurd (cc)
-goes_going Deep (at.Refused q) h = absurd (cc)
-goes_going Deep at.StreamStart h = absurd (cc)
-goes_going Deep (at.Documents first unended) h = absurd (cc)
-goes_going Deep at.Node h = absurd (cc)
-goes_going Deep at.DocumentEnd h = absurd (cc)
-goes_going Deep at.End h = absurd (cc)
-goes_going Starved (at.Refused q) h = absurd (cc)
-goes_going Starved at.StreamStart h = absurd (cc)
-goes_going Starved (at.Documents first unended) h = absurd (cc)
-goes_going Starved at.Node h = absurd (cc)
-goes_going Starved at.DocumentEnd h = absurd (cc)
-goes_going Starved at.End h = absurd (cc)
 
 going_none : (p : Expected) (b : Bool) → goes_on Going p ≡ true → refusal_by p Going b ≡ None
 going_none at.StreamStart b h = refl

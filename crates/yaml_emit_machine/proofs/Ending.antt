@@ -110,6 +110,7 @@ no_event_left (frames g [] implicit ds) h = absurd (cc)
 no_event_left (frames g (f ∷ fs) implicit ds) h = let k = long_frame f (frames_events fs (ending_events implicit ds)) in let l = ap length h in absurd (omega (arith, k, l))
 no_event_left nothing h = refl
 
+-- Of the events that a whole stream has still to come, none waits that isn't ready.
 pub nothing_held : (xs : List Event) (k : ToCome) → is_ready xs ≡ false → xs ≡ events k → xs ≡ []
 nothing_held [] k w h = refl
 nothing_held (x ∷ xs) k w h = let r = ready_rest k x xs h in let P : List Event → Type 0 = λ z. is_ready z ≡ true in let r' : is_ready (x ∷ xs) ≡ true = subst P (sym h) r in absurd (cc)

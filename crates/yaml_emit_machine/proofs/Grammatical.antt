@@ -17,12 +17,14 @@ or_both : (p q : Option Problem) → or_else p q ≡ None → (p ≡ None) × (q
 or_both None q e = (refl, e)
 or_both (Some x) q e = absurd (cc)
 
+-- Of events whose contents are right the first is, and so are the others.
 pub first_right : (canonical : Bool) (e : Event) (es : List Event)
     → own_problems canonical (e ∷ es) ≡ None
     → (own_problem canonical e ≡ None) × (own_problems canonical es ≡ None)
 unfolding own_problems
 first_right canonical e es h = or_both (own_problem canonical e) (own_problems canonical es) h
 
+-- An event whose content is right, in a place that takes it, is no problem.
 pub right_there : (s : Settings) (st : State) (e : Event) → own_problem s.canonical e ≡ None
     → place_problem st.place (top_of st.levels) e ≡ None → problem_at s st e ≡ None
 unfolding problem_by

@@ -1,9 +1,11 @@
+pub use Rattle.yaml_emit_state.proofs.Seeing
 pub mod Grammatical
-mod LaidOut
+pub mod LaidOut
 pub mod Ending
 pub mod Viewing
 pub mod Emitting
 pub mod Within
+pub mod Blaming
 pub mod Taking
 pub mod Early
 pub mod Verdicts

@@ -44,19 +44,23 @@ right_by old new e taken tells none =
       within = λ x whole w. fits_let_out new.status old.limit new.limit _ x whole going taken.limit (tells.output x whole (taken.writes x [] whole w));
     }
 
+-- An open stream stays open.
 pub opens_same : (e : Emitter) → e.opened ≡ true → OpensStream e e
 opens_same e on = record { kept = λ o. o; right = λ off o. absurd (cc); alone = λ none off. absurd (cc); memory = λ none off. absurd (cc) }
 
+-- Opened without a fault, a stream has taken its opening event.
 pub opens_right : (old new : Emitter) → new.opened ≡ true
     → TakesEvents old (opening_event ∷ []) new [] → TellsOutcome new → new.fault ≡ None
     → OpensStream old new
 opens_right old new on t tells none = record { kept = λ o. on; right = λ off o. right_by old new opening_event t tells none; alone = λ n off. absurd (cc); memory = λ n off. absurd (cc) }
 
+-- A stream that takes its opening event is open.
 pub opens_alone : (old new : Emitter) → old.opened ≡ false → new.opened ≡ false
     → TakesEvents old (opening_event ∷ []) new [] → NotesMemoryOf opening_event old new
     → OpensStream old new
 opens_alone old new before off t m = record { kept = λ o. absurd (cc); right = λ f o. absurd (cc); alone = λ n f. t; memory = λ n f. m }
 
+-- What opens a stream opens it for what goes on from there.
 pub opens_on : (old mid new : Emitter) → mid.opened ≡ true → new.opened ≡ true → OpensStream old mid
     → OpensStream old new
 opens_on old mid new on still p = record { kept = λ o. still; right = λ off o. p.right off on; alone = λ n off. absurd (cc); memory = λ n off. absurd (cc) }

@@ -30,8 +30,9 @@ use Rattle.yaml_emit_machine.specs.Views.{emitter_of, IsEmitter}
 use Rattle.yaml_emit_machine.specs.Verdict.{verdict_by, verdict, IsLetOut, WritesBy, Writes, wrong_by, wrong, IsLaid, LaysBy, Lays, TellsOutcome}
 use Rattle.yaml_emit_machine.specs.Taking.{TakesEvents, Stuck, NotesMemory, NotesMemoryOf, ComesIntoForce}
 use Rattle.yaml_emit_machine.proofs.Viewing.{seen}
-use Rattle.yaml_emit_held.proofs.Judging.{going_open, or_some, unless_some}
-use Rattle.yaml_emit_machine.proofs.Emitting.{not_true, refusal_none, goes_going, stopped_completes, lay_completes, begin_completes}
+use Rattle.yaml_emit_machine.proofs.Blaming.{begin_first}
+use Rattle.yaml_emit_held.proofs.Judging.{going_open, goes_going, or_some, unless_some}
+use Rattle.yaml_emit_machine.proofs.Emitting.{not_true, refusal_none, stopped_completes, lay_completes, begin_completes}
 
 -- ---- one call behind another
 
@@ -90,14 +91,17 @@ pub takes_stuck : (old new : Emitter) (e : Event) (es : List Event)
     → TakesEvents old (e ∷ []) new [] → Stuck new → TakesEvents old (e ∷ es) new []
 takes_stuck old new e es t s = takes_on old new new (e ∷ es) es [] (takes_first old new e es t) (s es [])
 
+-- An event that was taken has begun the output.
 pub taken_begun : (old new : Emitter) (e : Event) → TakesEvents old (e ∷ []) new []
     → new.fresh ≡ false
 taken_begun old new e t = not_true new.fresh (λ f. not_first e [] (t.begun f).1)
 
+-- Output that has begun stays begun.
 pub still_begun : (old new : Emitter) (es left : List Event) → TakesEvents old es new left
     → old.fresh ≡ false → new.fresh ≡ false
 still_begun old new es left t o = not_true new.fresh (λ f. let k = (t.begun f).0 in cc)
 
+-- What one event notes of memory may be noted of any.
 pub notes_any : (e : Event) (old new : Emitter) → NotesMemoryOf e old new → NotesMemory true old new
 notes_any e old new m = λ n. m (notes_some (take_memory (old.held ++ e ∷ [])) old.status new.status n)
 
@@ -316,6 +320,7 @@ inside_begins i core e s z inv fr a b f most =
       status = f.status ∙ sym was;
       held = refl;
       starved = f.starved ∙ sym (inv.memory was);
+      front = λ n x more whole k. begin_first n (emitter_of i) core (held_events i.held) i.opened i.closed (option_map fault_of i.fault) e x more whole fr (inv.begun fr).0 f' k;
       keeps = (refl, refl);
     }
 
@@ -471,11 +476,13 @@ takes_as_marked old mid es left o k t = record {
   begun = t.begun;
 }
 
+-- Marking the stream open or closed changes nothing of what was taken.
 pub takes_marked : (old mid new : Emitter) (es left : List Event) (o k : Bool)
     → new ≡ record mid { opened = o; closed = k } → TakesEvents old es mid left
     → TakesEvents old es new left
 takes_marked old mid new es left o k same t = let P : Emitter → Type 0 = λ z. TakesEvents old es z left in subst P (sym same) (takes_as_marked old mid es left o k t)
 
+-- Marking the stream open or closed changes nothing of what is noted.
 pub notes_marked : (e : Event) (old mid new : Emitter) (o k : Bool)
     → new ≡ record mid { opened = o; closed = k } → NotesMemoryOf e old mid
     → NotesMemoryOf e old new
@@ -492,6 +499,7 @@ tells_as_marked mid o k t = record {
   memory = t.memory;
 }
 
+-- Marking the stream open or closed changes nothing of what is told.
 pub tells_marked : (mid new : Emitter) (o k : Bool) → new ≡ record mid { opened = o; closed = k }
     → TellsOutcome mid → TellsOutcome new
 tells_marked mid new o k same t = let P : Emitter → Type 0 = λ z. TellsOutcome z in subst P (sym same) (tells_as_marked mid o k t)

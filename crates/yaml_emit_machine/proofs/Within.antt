@@ -19,7 +19,8 @@ use Rattle.yaml_emit_machine.specs.Emitter.{Emitter, text_of, Completes, Complet
 use Rattle.yaml_emit_machine.specs.Views.{emitter_of, IsEmitter}
 use Rattle.yaml_emit_machine.specs.Within.{Fits, IsWithin}
 use Rattle.yaml_emit_machine.proofs.Ending.{nothing_held, no_event_left}
-use Rattle.yaml_emit_machine.proofs.Emitting.{refusal_none, goes_going}
+use Rattle.yaml_emit_held.proofs.Judging.{goes_going}
+use Rattle.yaml_emit_machine.proofs.Emitting.{refusal_none}
 
 fits_at : (s : Status) (v : Settings) (st : State) (o : Output) (xs : List Event)
     (whole : List Item) → s ≡ o.status → s ≡ Going → is_ready xs ≡ false

@@ -1,14 +1,14 @@
 -- What becomes of the events that an emitter is given.
-use Rattle.std.specs.Prelude.{◌≡◌, Bool, true, false, List, [], ◌∷◌, ◌++◌, None}
+use Rattle.std.specs.Prelude.{◌≡◌, ℕ, Bool, true, false, List, [], ◌∷◌, ◌++◌, None}
 use Rattle.yaml_emit_text.specs.declared.Encoding.{Encoding}
 use Rattle.yaml_emit_text.specs.declared.Status.TheVariants.{Going}
-use Rattle.yaml_emit_text.specs.Text.{Item}
+use Rattle.yaml_emit_text.specs.Text.{Item, encode}
 use Rattle.yaml_emit_text.specs.Sink.{Grows}
 use Rattle.yaml_emit_layout.specs.Content.{Event}
 use Rattle.yaml_emit_state.specs.Steps.{may_note}
-use Rattle.yaml_emit_held.specs.Judged.{take_memory}
+use Rattle.yaml_emit_held.specs.Judged.{take_memory, Refuses}
 use Rattle.yaml_emit_machine.specs.Emitter.{Emitter, Completes, Keeps}
-use Rattle.yaml_emit_machine.specs.Verdict.{verdict, Writes, wrong, Lays}
+use Rattle.yaml_emit_machine.specs.Verdict.{verdict, Writes, wrong, Lays, LaysFirst}
 
 -- Of the events `es` that were to come those of `left` are still to come, and the others were taken. Whatever follows, they count:
 -- the whole text is the same, the same event is refused, unless the output has stopped, and the same is written, both of those that
@@ -68,6 +68,17 @@ NotesMemory takes old new = may_note takes old.status new.status ≡ false
 abbrev pub NotesMemoryOf : Event → Emitter → Emitter → Type 0
 NotesMemoryOf e old new = NotesMemory (take_memory (old.held ++ e ∷ [])) old new
 
+-- the output is what is written when the first n of the held events and of these are let out, whatever follows them
+abbrev pub HasFirst : Emitter → List Event → List ℕ → ℕ → Type 0
+HasFirst old es output n = (x : Encoding) (more : List Event) (whole : List Item)
+    → LaysFirst n old x (es ++ more) whole → encode x whole ≡ output
+
+-- Where it is noted, the text wanted no memory: the output ends where the text of an event does that opens a collection or a
+-- document, or in front of a document's start.
+abbrev pub BlamesLevels : Event → Emitter → Emitter → Type 0
+BlamesLevels e old new = old.starved ≡ false → new.starved ≡ true
+    → Refuses (old.held ++ e ∷ []) (HasFirst old (e ∷ []) new.output)
+
 -- The settings came into force in front of the first event, which is still to come.
 pub record ComesIntoForce (old : Emitter) (e : Event) (new : Emitter) : Type 0 where
   pub takes : TakesEvents old (e ∷ []) new (e ∷ [])
@@ -76,4 +87,6 @@ pub record ComesIntoForce (old : Emitter) (e : Event) (new : Emitter) : Type 0 w
   pub status : new.status ≡ old.status
   pub held : new.held ≡ old.held
   pub starved : new.starved ≡ old.starved
+  pub front : (n : ℕ) (x : Encoding) (more : List Event) (whole : List Item)
+      → LaysFirst n old x (e ∷ more) whole → LaysFirst n new x (e ∷ more) whole
   pub keeps : Keeps old new

@@ -14,7 +14,7 @@ use Rattle.yaml_emit_layout.specs.declared.Expected.TheVariants as at
 use Rattle.yaml_emit_layout.specs.Content.{Event}
 use Rattle.yaml_emit_layout.specs.State.{placed}
 use Rattle.yaml_emit_layout.specs.Progress.{first_progress, first_refusal}
-use Rattle.yaml_emit_held.specs.Judged.{let_out, laid, refusal_behind, LetsOut, first_wrong, LaysAll}
+use Rattle.yaml_emit_held.specs.Judged.{let_out, laid, refusal_behind, LetsOut, first_wrong, LaysAll, laid_some, LaysSome}
 use Rattle.yaml_emit_machine.specs.Emitter.{Emitter, text_of, stream_encoding, fault_by, HasWritten}
 
 abbrev pub verdict_by : Bool → Emitter → List Event → Option Problem
@@ -70,6 +70,23 @@ LaysBy false e x es whole = (e.course.settings.encoding ≡ x)
 -- `whole` is what is written when all of them are let out, in that encoding: up to the first one that is wrong.
 unfoldable pub Lays : Emitter → Encoding → List Event → List Item → Type 0
 Lays e x es whole = LaysBy e.fresh e x es whole
+
+-- ---- of the first few
+
+-- a fresh emitter's text, and its encoding
+pub record IsFirst (n : ℕ) (w : RequestedSettings) (x : Encoding) (es : List Event)
+    (whole : List Item) : Type 0 where
+  pub coded : x ≡ (first_settings w es).encoding
+  pub is : whole ≡ written (laid_some n (first_settings w es) (placed at.StreamStart) es)
+
+abbrev pub FirstBy : Bool → ℕ → Emitter → Encoding → List Event → List Item → Type 0
+FirstBy true n e x es whole = IsFirst n e.requested_settings x es whole
+FirstBy false n e x es whole = (e.course.settings.encoding ≡ x)
+    × LaysSome n e.course.settings e.course.state (text_of e) (e.held ++ es) whole
+
+-- `whole` is what is written when the first n of the held events and of these are let out, in that encoding.
+unfoldable pub LaysFirst : ℕ → Emitter → Encoding → List Event → List Item → Type 0
+LaysFirst n e x es whole = FirstBy e.fresh n e x es whole
 
 -- All of it is in the output, which passes no limit; or the output has stopped there.
 abbrev pub HasLetOut : Status → ℕ → List ℕ → List ℕ → Bool → Type 0

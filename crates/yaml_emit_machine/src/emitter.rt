@@ -9,7 +9,7 @@ ghost use Rattle.yaml_emit_machine.specs.Emitter.{stream_encoding, IsNew, IsLimi
 ghost use Rattle.yaml_emit_held.specs.Held.{AreLast};
 ghost use Rattle.yaml_emit_machine.specs.Within.{IsWithin};
 ghost use Rattle.yaml_emit_machine.specs.Verdict.{TellsOutcome};
-ghost use Rattle.yaml_emit_machine.specs.Taking.{TakesEvents, GivesText, LaysAtOnce, Stuck, NotesMemoryOf, ComesIntoForce};
+ghost use Rattle.yaml_emit_machine.specs.Taking.{TakesEvents, GivesText, LaysAtOnce, Stuck, NotesMemoryOf, BlamesLevels, ComesIntoForce};
 
 mod dump;
 mod resume;
@@ -206,6 +206,7 @@ impl yaml_emitter_t {
         requires begun { self.old.fresh ≡ false }
         ensures takes { TakesEvents self.old (emitter_event (body_of event.old) ∷ []) self.new [] }
         ensures memory { NotesMemoryOf (emitter_event (body_of event.old)) self.old self.new }
+        ensures blames { BlamesLevels (emitter_event (body_of event.old)) self.old self.new }
         ensures few { length self.new.held ≤ 3 }
         ensures opened { (self.new.opened ≡ self.old.opened) × (self.new.closed ≡ self.old.closed) }
         ensures last { AreLast (self.old.held ++ emitter_event (body_of event.old) ∷ [])
@@ -235,6 +236,7 @@ impl yaml_emitter_t {
         requires once { LaysAtOnce self.old }
         ensures text { GivesText self.old (emitter_event (body_of event.old)) self.new }
         ensures memory { NotesMemoryOf (emitter_event (body_of event.old)) self.old self.new }
+        ensures blames { BlamesLevels (emitter_event (body_of event.old)) self.old self.new }
         ensures few { self.new.held ≡ [] }
         ensures begun { self.new.fresh ≡ false }
         ensures opened { (self.new.opened ≡ self.old.opened) × (self.new.closed ≡ self.old.closed) }
@@ -250,6 +252,7 @@ impl yaml_emitter_t {
         requires right { self.old.fault ≡ None }
         ensures takes { TakesEvents self.old (emitter_event (body_of event.old) ∷ []) self.new [] }
         ensures memory { NotesMemoryOf (emitter_event (body_of event.old)) self.old self.new }
+        ensures blames { BlamesLevels (emitter_event (body_of event.old)) self.old self.new }
         ensures few { length self.new.held ≤ 3 }
         ensures opened { (self.new.opened ≡ self.old.opened) × (self.new.closed ≡ self.old.closed) }
         ensures last { AreLast (self.old.held ++ emitter_event (body_of event.old) ∷ [])
@@ -289,6 +292,7 @@ pub fn give(emitter: &mut yaml_emitter_t, event: &mut yaml_event_body_t)
     ensures takes { TakesEvents emitter.old (emitter_event (body_of event.old) ∷ []) emitter.new
         [] }
     ensures memory { NotesMemoryOf (emitter_event (body_of event.old)) emitter.old emitter.new }
+    ensures blames { BlamesLevels (emitter_event (body_of event.old)) emitter.old emitter.new }
     ensures stays { Stays emitter.old emitter.new }
     ensures few { length emitter.new.held ≤ 3 }
     ensures opened { (emitter.new.opened ≡ emitter.old.opened)
@@ -313,6 +317,7 @@ pub fn give_early(emitter: &mut yaml_emitter_t, event: &mut yaml_event_body_t)
     requires { HasUtf8 (body_of event.old) }
     ensures text { GivesText emitter.old (emitter_event (body_of event.old)) emitter.new }
     ensures memory { NotesMemoryOf (emitter_event (body_of event.old)) emitter.old emitter.new }
+    ensures blames { BlamesLevels (emitter_event (body_of event.old)) emitter.old emitter.new }
     ensures stays { Stays emitter.old emitter.new }
     ensures few { length emitter.new.held ≤ 3 }
     ensures opened { (emitter.new.opened ≡ emitter.old.opened)
@@ -331,6 +336,7 @@ pub fn give_over(emitter: &mut yaml_emitter_t, event: yaml_event_body_t)
     requires { HasUtf8 (body_of event) }
     ensures takes { TakesEvents emitter.old (emitter_event (body_of event) ∷ []) emitter.new [] }
     ensures memory { NotesMemoryOf (emitter_event (body_of event)) emitter.old emitter.new }
+    ensures blames { BlamesLevels (emitter_event (body_of event)) emitter.old emitter.new }
     ensures stays { Stays emitter.old emitter.new }
     ensures few { length emitter.new.held ≤ 3 }
     ensures opened { (emitter.new.opened ≡ emitter.old.opened)
@@ -347,6 +353,7 @@ pub fn emit(emitter: &mut yaml_emitter_t, event: yaml_event_body_t) -> Result<()
     requires { HasUtf8 (body_of event) }
     ensures takes { TakesEvents emitter.old (emitter_event (body_of event) ∷ []) emitter.new [] }
     ensures memory { NotesMemoryOf (emitter_event (body_of event)) emitter.old emitter.new }
+    ensures blames { BlamesLevels (emitter_event (body_of event)) emitter.old emitter.new }
     ensures answer { Answers emitter.new.fault result }
     ensures tells { TellsOutcome emitter.new }
     ensures stays { Stays emitter.old emitter.new }

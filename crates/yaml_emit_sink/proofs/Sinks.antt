@@ -27,6 +27,7 @@ grows_same xs ys e = ap (take (length xs)) e ∙ take-length xs
 pub grows_rest : (xs ys : List ℕ) → Grows xs ys → ys ≡ xs ++ drop (length xs) ys
 grows_rest xs ys g = sym (take-append-drop (length xs) ys) ∙ ap (λ (t : List ℕ). t ++ drop (length xs) ys) g
 
+-- Growing is transitive.
 pub grows_both : (xs ys zs : List ℕ) → Grows xs ys → Grows ys zs → Grows xs zs
 grows_both xs ys zs p q =
     let first : List ℕ = drop (length xs) ys in
@@ -57,6 +58,7 @@ ends_other a t u whole n h = ends_stopped a.status a.limit a.encoding a.bytes t 
 pub puts_nothing : (a : Output) → Puts a a stay
 puts_nothing a = record { ends = λ rest whole h. h; encoding = refl; limit = refl; going = λ g. g; stays = λ n. refl; grows = grows_none a.bytes }
 
+-- Where nothing was put the same is owed.
 pub owes_same : (a : Output) (x : Layout) → Owes a a x x
 owes_same a x = record { ends = λ rest whole h. h; encoding = refl; limit = refl; going = λ g. g; stays = λ n. refl; grows = grows_none a.bytes }
 
@@ -372,6 +374,7 @@ pub puts_letters : (a b c : Output) (xs ys : List ℕ) → Puts a b (letters xs)
     → Puts a c (letters (xs ++ ys))
 puts_letters a b c xs ys p q = let P : Layout → Type 0 = λ t. Puts a c t in subst P (sym (letters_append xs ys)) (puts_both a b c (letters xs) (letters ys) p q)
 
+-- Putting a character is putting a text of one.
 pub puts_one : (a b : Output) (x : ℕ) → Puts a b (char x) → Puts a b (letters (x ∷ []))
 unfolding letters
 puts_one a b x p = p

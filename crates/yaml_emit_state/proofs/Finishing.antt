@@ -91,6 +91,7 @@ stepped old new e empty h l =
     let R : Option Problem → Type 0 = λ p. Puts old.sink new.sink (next_piece p (piece (settings_of old) (state_of old) e empty)) in
     record { settings = same_settings old new l.settings l.text.encoding; state = subst P h l.state; text = subst R h l.text }
 
+-- Behind an event that was laid out the others finish what all would have.
 pub finishes_on : (old new : Core) (e : Event) (es : List Event) (whole : List Item)
     → LaysOut old new e (opens_empty e es)
     → Finishes (settings_of old) (state_of old) old.sink (e ∷ es) whole
@@ -125,6 +126,7 @@ finishes_on old new e es whole l h =
     let back : Ends new.sink _ whole = l.text.ends nothing_more whole (ends_other old.sink [] _ whole n e') in
     by_stopped new.sink.status new es whole (λ g. n (l.text.going g)) back)
 
+-- A fresh emitter finishes the layout of a stream that is right.
 pub fresh_finishes : (core : Core) (s : Settings) (x : yaml_encoding_t) (ds : List Document)
     → IsFresh core s → own_problems s.canonical (stream_events x ds) ≡ None
     → Finishes (settings_of core) (state_of core) core.sink (stream_events x ds)

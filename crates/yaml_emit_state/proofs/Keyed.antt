@@ -14,6 +14,7 @@ use Rattle.yaml_emit_state.specs.declared.state.Core.{Core}
 use Rattle.yaml_emit_state.specs.Stack.{stack_of}
 use Rattle.yaml_emit_state.specs.Due.{is_key_in, is_key}
 use Rattle.yaml_emit_state.specs.Steps.{state_of, settings_of, StaysBut, LaysOutRight}
+use Rattle.yaml_emit_state.proofs.Blaming.{blames_not}
 
 before_in : (s : Settings) (p : Phase) (flow : Bool) (n : ℕ) (b : Bool)
     → before_at s p flow n (is_key_in p && b) ≡ before_at s p flow n b
@@ -66,6 +67,7 @@ lays_scalar old new o s top v simple empty settings upper asked put moved kept =
       state = λ g. moved ∙ ap (λ ls. among old.directives ls) (ap (levels_behind (stack_of old.levels)) is ∙ levels_keyed (stack_of old.levels) b);
       text = rw kept.1 text;
       memory = λ _. kept.2;
+      blames = blames_not old new _ _ kept.2;
     }
 
 -- an alias was laid out
@@ -86,4 +88,5 @@ lays_alias old new o s top name simple empty settings upper asked put moved kept
       state = λ g. moved ∙ ap (λ b. among old.directives (levels_behind (stack_of old.levels) b)) is;
       text = rw kept.1 text;
       memory = λ _. kept.2;
+      blames = blames_not old new _ _ kept.2;
     }

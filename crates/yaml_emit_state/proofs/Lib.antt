@@ -3,5 +3,6 @@ pub mod Canonical
 pub mod Seeing
 pub mod Finishing
 pub mod Noting
+pub mod Blaming
 pub mod Keyed
 pub mod Names

@@ -39,16 +39,19 @@ notes_before true Going Starved Full q h = absurd (cc)
 notes_before true Going Starved Deep q h = absurd (cc)
 notes_before true Going Starved Starved q h = absurd (cc)
 
+-- What is noted over two steps is noted in the one or the other.
 pub notes_both : (takes : Bool) (a b c : Status) → (b ≡ Going → a ≡ Going) → (c ≡ Going → b ≡ Going)
     → may_note takes a c ≡ false → (may_note takes a b ≡ false) × (may_note takes b c ≡ false)
 notes_both takes a b c p q h = (notes_before takes a b c q h, notes_behind takes a b c p h)
 
+-- A step that may note less notes nothing where one that may note more doesn't.
 pub notes_within : (some one : Bool) (a b : Status) → (some ≡ false → one ≡ false)
     → may_note some a b ≡ false → may_note one a b ≡ false
 notes_within some false a b p h = refl
 notes_within true true a b p h = h
 notes_within false true a b p h = let k = p refl in absurd (cc)
 
+-- A step that notes nothing where it may note memory notes nothing where it may not.
 pub notes_some : (takes : Bool) (a b : Status) → may_note true a b ≡ false
     → may_note takes a b ≡ false
 notes_some false a b h = refl
@@ -64,6 +67,7 @@ starved_by Going Full old new n e h = absurd (cc)
 starved_by Going Deep old new n e h = absurd (cc)
 starved_by Going Starved old new n e h = absurd (cc)
 
+-- A step that starves is a step that notes memory.
 pub notes_starved : (old new : Core) → Starves old new → Notes true old new
 notes_starved old new s = λ h. starved_by old.sink.status new.sink.status old.starved new.starved s.stopped s.starved h
 

@@ -37,7 +37,7 @@ placed p k x xs ys Equal h e = absorbed (p k) (p x) (list_any p xs) (h refl)
 placed p k x xs ys Greater h e = ap (λ v. p x || v) e ∙ swapped (p x) (p k) (list_any p xs)
 
 -- a test that answers equal keys alike
-any_inserted : {K : Type 0} (cmp : K → K → Ordering) (p : K → Bool) (k : K)
+pub any_inserted : {K : Type 0} (cmp : K → K → Ordering) (p : K → Bool) (k : K)
     → ((x : K) → cmp k x ≡ Equal → p x ≡ p k) → (ks : List K)
     → list_any p (insert_key cmp ks k) ≡ (p k || list_any p ks)
 any_inserted cmp p k h [] = refl

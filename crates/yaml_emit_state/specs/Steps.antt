@@ -1,10 +1,11 @@
 -- What laying out one event does.
-use Rattle.std.specs.Prelude.{◌≡◌, ◌≢◌, Bool, true, false, not, ◌&&◌, ◌||◌, [], Option, Some, None}
+use Rattle.std.specs.Prelude.{◌≡◌, ◌≢◌, ◌⊎◌, Bool, true, false, not, ◌&&◌, ◌||◌, List, [], Option, Some, None}
 use Rattle.yaml_emit_text.specs.declared.Settings.{Settings}
 use Rattle.yaml_emit_text.specs.declared.Status.{Status}
 use Rattle.yaml_emit_text.specs.declared.Status.TheVariants.{Going, Full, Deep, Starved}
-use Rattle.yaml_emit_text.specs.Layout.{Layout, stay, start}
-use Rattle.yaml_emit_text.specs.Sink.{Puts}
+use Rattle.yaml_emit_text.specs.Text.{Item, encode}
+use Rattle.yaml_emit_text.specs.Layout.{Layout, stay, start, nothing_more}
+use Rattle.yaml_emit_text.specs.Sink.{Output, Ends, Puts}
 use Rattle.yaml_emit_layout.specs.declared.Problem.{Problem}
 use Rattle.yaml_emit_layout.specs.declared.Expected.{Expected}
 use Rattle.yaml_emit_layout.specs.declared.Expected.TheVariants as at
@@ -65,6 +66,23 @@ abbrev pub Notes : Bool → Core → Core → Type 0
 Notes takes old new = may_note takes old.sink.status new.sink.status ≡ false
     → new.starved ≡ old.starved
 
+-- all of a layout stands in the output, as nothing follows
+abbrev pub IsPut : Output → Output → Layout → Type 0
+IsPut old new a = (whole : List Item) → Ends old (a old.cursor nothing_more) whole
+    → encode old.encoding whole ≡ new.bytes
+
+-- Where it is noted, no text was missing memory: all of the event's layout stands in the output, or, of a document's start, whose
+-- directives are looked at first, nothing.
+pub record Blames (old new : Core) (e : Event) (a : Layout) : Type 0 where
+  pub levels : old.sink.status ≡ Going → old.starved ≡ false → new.starved ≡ true
+      → IsPut old.sink new.sink a
+      ⊎ ((is_document_start e ≡ true) × IsPut old.sink new.sink stay)
+
+-- where it is noted, the output went on, and this alone has stopped it
+pub record Halts (old new : Core) : Type 0 where
+  pub levels : old.starved ≡ false → new.starved ≡ true
+      → (old.sink.status ≡ Going) × ((x : Layout) → Puts old.sink new.sink x)
+
 abbrev pub StaysBut : Core → Core → Type 0
 StaysBut old new = (new.settings ≡ old.settings) × (new.sink ≡ old.sink)
     × (new.starved ≡ old.starved)
@@ -83,6 +101,7 @@ pub record OpensCollection (s : Settings) (old new : Core)
       Puts old.sink new.sink (indented
       (indent_of s at sequence (s.canonical || (at.flow || (flow || empty)))) checked)
   pub memory : Notes true old new
+  pub halts : Halts old new
 
 -- the state moved on by an event, with nothing written but the depth
 pub record MovesOn (s : Settings) (old new : Core) (e : Event) (empty : Bool) : Type 0 where
@@ -92,6 +111,7 @@ pub record MovesOn (s : Settings) (old new : Core) (e : Event) (empty : Bool) : 
   pub text : Puts old.sink new.sink (depth_at (context_of s (state_of old).directives)
       (top_of (stack_of old.levels)) e empty)
   pub memory : Notes (takes_memory e) old new
+  pub halts : Halts old new
 
 -- an event that comes right was laid out
 pub record LaysOutRight (old new : Core) (e : Event) (empty : Bool) : Type 0 where
@@ -100,6 +120,7 @@ pub record LaysOutRight (old new : Core) (e : Event) (empty : Bool) : Type 0 whe
       new.sink.cursor
   pub text : Puts old.sink new.sink (piece (settings_of old) (state_of old) e empty)
   pub memory : Notes (takes_memory e) old new
+  pub blames : Blames old new e (piece (settings_of old) (state_of old) e empty)
 
 -- an event was laid out, or refused
 abbrev pub next_state : Option Problem → State → State → State
@@ -123,6 +144,8 @@ pub record LaysOut (old new : Core) (e : Event) (empty : Bool) : Type 0 where
   pub text : Puts old.sink new.sink (next_piece (problem_at (settings_of old) (state_of old) e)
       (piece (settings_of old) (state_of old) e empty))
   pub memory : Notes (takes_memory e) old new
+  pub blames : Blames old new e (next_piece (problem_at (settings_of old) (state_of old) e)
+      (piece (settings_of old) (state_of old) e empty))
 
 -- memory was refused outside the output, which is noted unless the output had stopped before
 pub record Starves (old new : Core) : Type 0 where

@@ -6,7 +6,7 @@ ghost use Rattle.yaml_parse_model.specs.Events.{text_of, directive_of, body_of};
 ghost use Rattle.yaml_emit_layout.specs.Content.{emitter_event};
 ghost use Rattle.yaml_emit_layout.specs.Grammar.{has, name_problem, anchor_problem, tag_problem, kept_tag, event_problem, version_problem, handle_problem, prefix_problem, directives_problem, opening_problem, flags_problem, last_problem, ends_phase, begins_node, may_come, node_problem, place_problem, problem_by, between, inner_problem, ends_problem, is_version, or_else};
 ghost use Rattle.yaml_emit_state.specs.Seen.{is_among, Adds, Judges};
-ghost use Rattle.yaml_emit_state.specs.Steps.{takes_memory};
+ghost use Rattle.yaml_emit_state.specs.Steps.{is_document_start};
 
 use crate::handles::add;
 use std::alloc::{AllocError, Global};
@@ -303,7 +303,7 @@ fn flags_problem(tag: &Option<Vec<u8>>, plain: bool, quoted: bool) -> Option<Pro
 #[tactic(auto, unfolding(yaml_emit_layout::specs::Grammar::last_problem))]
 fn last_problem(alloc: Global, event: &yaml_event_body_t) -> Result<Option<Problem>, AllocError>
     ensures problem { IfOk result (λ p. p ≡ last_problem (emitter_event (body_of event.now))) }
-    ensures refused { OnErr result (takes_memory (emitter_event (body_of event.now)) ≡ true) }
+    ensures refused { OnErr result (is_document_start (emitter_event (body_of event.now)) ≡ true) }
 {
     match event {
         yaml_event_body_t::DocumentStart {
@@ -408,7 +408,7 @@ fn late_problem(
     ensures problem { IfOk result (λ p. p
         ≡ or_else (place_problem place top (emitter_event (body_of event.now)))
         (last_problem (emitter_event (body_of event.now)))) }
-    ensures refused { OnErr result (takes_memory (emitter_event (body_of event.now)) ≡ true) }
+    ensures refused { OnErr result (is_document_start (emitter_event (body_of event.now)) ≡ true) }
 {
     match place_problem(place, top, event) {
         Some(problem) => Ok(Some(problem)),
@@ -430,7 +430,7 @@ pub fn problem_of(
 ) -> Result<Option<Problem>, AllocError>
     ensures problem { IfOk result (λ p. p ≡ problem_by canonical place top
         (emitter_event (body_of event.now))) }
-    ensures refused { OnErr result (takes_memory (emitter_event (body_of event.now)) ≡ true) }
+    ensures refused { OnErr result (is_document_start (emitter_event (body_of event.now)) ≡ true) }
 {
     match event_problem(canonical, event) {
         Some(problem) => Ok(Some(problem)),

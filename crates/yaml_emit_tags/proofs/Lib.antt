@@ -6,3 +6,4 @@ pub mod Numbering
 pub mod Directing
 mod Kept
 mod TagRows
+mod Fronts

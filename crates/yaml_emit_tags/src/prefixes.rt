@@ -7,14 +7,22 @@ ghost use Rattle.yaml_emit_tags.specs.Prefixes.{key, at, entry_of, entry_cmp, sm
 ghost use Rattle.yaml_emit_tags.specs.Tags.{has_shorter_prefix};
 
 use std::alloc::{AllocError, Global};
-use yaml_scan_model::yaml_tag_directive_t;
+use yaml_scan_model::{SHORT, stands_in_front, yaml_tag_directive_t};
 
 /// Whether a tag begins with the prefix, and goes on behind it.
+// Inlined: of a handle's own prefix the length is known, and it is a comparison or two.
+#[inline(always)]
 pub fn has_shorter_prefix(prefix: &[u8], tag: &[u8]) -> bool
     ensures inside { result ≡ true → length prefix.now < length tag.now }
     ensures value { result ≡ has_shorter_prefix prefix.now tag.now }
 {
-    prefix.len() < tag.len() && &tag[..prefix.len()] == prefix
+    if tag.len() <= prefix.len() {
+        false
+    } else if prefix.len() <= SHORT {
+        stands_in_front(tag, prefix)
+    } else {
+        &tag[..prefix.len()] == prefix
+    }
 }
 
 // The byte behind the first `depth` ones, plus one; 0 where there is none.

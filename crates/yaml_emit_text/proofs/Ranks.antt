@@ -14,6 +14,7 @@ both_of true false rest h = cc
 both_of false true rest h = cc
 both_of false false rest h = (refl, h)
 
+-- Functions on bytes that agree on all up to a bound agree at each below it.
 pub agree_at : (f g : ℕ → Bool) (n : ℕ) → agree_below f g n ≡ true → (b : ℕ) → b < n → f b ≡ g b
 unfolding agree_below
 agree_at f g zero h b lt = absurd (omega arith)

@@ -354,6 +354,7 @@ left page before c slash last (x ∷ cs) good deep h =
     (step_char page before x c cs slash unslashed (λ rest. char_plain page before x cs c rest m n))
     (left page x (moved_by c) false (raw x) cs more deep (record { same = refl; folded = λ e. absurd (cc); unfolded = λ e. refl; blank = λ e. absurd (cc (sym e ∙ unblank)) })))))
 
+-- A double quoted value is written as a spelling of it.
 pub quoted-spells : (page : Page) (c : Cursor) (value : List ℕ) → all_scalars value ≡ true
     → 0 < page.indentation → WritesSpelling (quoted_body page 32 value) c value
 quoted-spells page c value good deep =

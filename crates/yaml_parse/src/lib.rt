@@ -16,14 +16,16 @@ pub use yaml_parse_document::{
     yaml_document_get_root_node, yaml_document_initialize, yaml_document_set_end_implicit,
     yaml_document_t,
 };
+pub use yaml_parse_loader::{undefined_alias_fault, undefined_alias_fault};
 pub use yaml_parse_model::{
     yaml_alias_data_t, yaml_alias_event_initialize, yaml_document_end_event_initialize,
     yaml_document_start_event_initialize, yaml_event_body_t, yaml_event_delete, yaml_event_t,
     yaml_event_utf8, yaml_mapping_end_event_initialize, yaml_mapping_start_event_initialize,
-    yaml_node_body_t, yaml_node_item_t, yaml_node_pair_t, yaml_node_t, yaml_parser_state_t,
-    yaml_parser_t_prefix, yaml_scalar_event_initialize, yaml_sequence_end_event_initialize,
-    yaml_sequence_start_event_initialize, yaml_stream_end_event_initialize,
-    yaml_stream_start_event_initialize, yaml_text_fault_t, yaml_token_source_t,
+    yaml_node_body_t, yaml_node_item_t, yaml_node_pair_t, yaml_node_t, yaml_node_tag_t,
+    yaml_parser_state_t, yaml_parser_t_prefix, yaml_scalar_event_initialize,
+    yaml_sequence_end_event_initialize, yaml_sequence_start_event_initialize,
+    yaml_stream_end_event_initialize, yaml_stream_start_event_initialize, yaml_text_fault_t,
+    yaml_token_source_t,
 };
 pub use yaml_parse_step::{events_keep_to_tokens, yaml_found_t};
 pub use yaml_scan_model::{

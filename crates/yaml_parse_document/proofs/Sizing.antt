@@ -20,6 +20,7 @@ sized_push : (ns : List Node) (x : Node) → AreSized ns → IsSizedBody x.body
 sized_push [] x s h = (h, tt)
 sized_push (n ∷ ns) x s h = (s.0, sized_push ns x s.1 h)
 
+-- A node that has its size keeps a document within its own.
 pub with_node_sized : (d : Document) (x : Node) → IsSized d → length d.nodes < 2147483647
     → IsSizedBody x.body → IsSized (with_node d x)
 with_node_sized d x s room h = record {
@@ -29,6 +30,7 @@ with_node_sized d x s room h = record {
 
 -- what a new node holds
 
+-- No entries are within the bound.
 pub nothing_listed : (0 ≤ 2147483647) × (0 ≤ 2147483647)
 nothing_listed = (omega arith, omega arith)
 
@@ -50,6 +52,7 @@ longer : {A : Type 0} (xs : List A) (x : A) → length (xs ++ x ∷ []) ≡ suc 
 longer [] x = refl
 longer (y ∷ xs) x = ap suc (longer xs x)
 
+-- A list that isn't full has room for one more.
 pub entry_more : {A : Type 0} (xs : List A) (x : A) → length xs < 2147483647
     → length (xs ++ x ∷ []) ≤ 2147483647
 entry_more xs x h = subst (λ (n : ℕ). n ≤ 2147483647) (sym (longer xs x)) (omega arith)

@@ -14,15 +14,18 @@ use Rattle.yaml_parse_document.specs.Documents.{Document, node_at, IsId, AreIds,
 
 -- ---- more nodes
 
+-- An id of a document is one where nodes were added.
 pub wider_id : (m n : ℕ) (id : ℤ) → m ≤ n → IsId m id → IsId n id
 wider_id m n (pos zero) h i = i
 wider_id m n (pos (suc k)) h i = omega arith
 wider_id m n _ h i = i
 
+-- Ids of a document are ids where nodes were added.
 pub wider_ids : (m n : ℕ) (ids : List ℤ) → m ≤ n → AreIds m ids → AreIds n ids
 wider_ids m n [] h a = tt
 wider_ids m n (id ∷ ids) h a = (wider_id m n id h a.0, wider_ids m n ids h a.1)
 
+-- Pairs of a document are pairs where nodes were added.
 pub wider_pairs : (m n : ℕ) (ps : List yaml_node_pair_t) → m ≤ n → ArePairs m ps → ArePairs n ps
 wider_pairs m n [] h a = tt
 wider_pairs m n (p ∷ ps) h a = ((wider_id m n p.key h a.0.0, wider_id m n p.value h a.0.1), wider_pairs m n ps h a.1)
@@ -45,6 +48,7 @@ pub sound_push : (m : ℕ) (ns : List Node) (x : Node) → AreSound m ns → IsS
 sound_push m [] x s h = (h, tt)
 sound_push m (n ∷ ns) x s h = (s.0, sound_push m ns x s.1 h)
 
+-- A node more is one more.
 pub length_push : (ns : List Node) (x : Node) → length (ns ++ x ∷ []) ≡ suc (length ns)
 length_push [] x = refl
 length_push (n ∷ ns) x = ap suc (length_push ns x)
@@ -63,12 +67,14 @@ with_node_sound d x s h =
 
 -- ---- a node changed
 
+-- Changing a node keeps how many there are.
 pub length_change : (f : Node → Node) (k : ℕ) (ns : List Node)
     → length (change_place f k ns) ≡ length ns
 length_change f k [] = refl
 length_change f zero (n ∷ ns) = refl
 length_change f (suc k) (n ∷ ns) = ap suc (length_change f k ns)
 
+-- A change that keeps nodes sound keeps a document sound.
 pub sound_change : (m : ℕ) (f : Node → Node) (k : ℕ) (ns : List Node)
     → ((x : Node) → IsSoundNode m x → IsSoundNode m (f x)) → AreSound m ns
     → AreSound m (change_place f k ns)
@@ -90,6 +96,7 @@ changed_sound d f k h s =
           (sound_change _ g k d.nodes (λ x t. (t.0, h x.body t.1)) s.nodes);
     }
 
+-- One sound id more keeps ids sound.
 pub sound_ids_push : (m : ℕ) (ids : List ℤ) (id : ℤ) → AreIds m ids → IsId m id
     → AreIds m (ids ++ id ∷ [])
 sound_ids_push m [] id s h = (h, tt)
@@ -98,6 +105,7 @@ sound_ids_push m (x ∷ ids) id s h = (s.0, sound_ids_push m ids id s.1 h)
 abbrev pub pair_of : ℤ → ℤ → yaml_node_pair_t
 pair_of key value = record { key = key; value = value }
 
+-- One sound pair more keeps pairs sound.
 pub sound_pairs_push : (m : ℕ) (ps : List yaml_node_pair_t) (p : yaml_node_pair_t) → ArePairs m ps
     → IsId m p.key × IsId m p.value → ArePairs m (ps ++ p ∷ [])
 sound_pairs_push m [] p s h = (h, tt)
@@ -203,14 +211,17 @@ pub tag_utf8 : (tag : Option (List ℕ)) (default : List ℕ) → IsUtf8 default
 tag_utf8 None default a h = a
 tag_utf8 (Some t) default a h = h
 
+-- The tag of scalars is UTF-8.
 pub str_utf8 : IsUtf8 str_tag
 unfolding lib.Utf8.encode
 str_utf8 = (str_tag, (refl, refl))
 
+-- The tag of sequences is UTF-8.
 pub seq_utf8 : IsUtf8 seq_tag
 unfolding lib.Utf8.encode
 seq_utf8 = (seq_tag, (refl, refl))
 
+-- The tag of mappings is UTF-8.
 pub map_utf8 : IsUtf8 map_tag
 unfolding lib.Utf8.encode
 map_utf8 = (map_tag, (refl, refl))

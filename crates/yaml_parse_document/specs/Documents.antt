@@ -1,5 +1,5 @@
 -- Documents: nodes that name each other by number.
-use Rattle.std.specs.Prelude.{◌≡◌, ◌≤◌, ◌<◌, ℕ, zero, suc, ℤ, pos, Bool, Option, Some, None, List, [], ◌∷◌, ◌++◌, length, slice_get, codes, Result, Ok, Err, IsUtf8, false}
+use Rattle.std.specs.Prelude.{◌≡◌, ◌≤◌, ◌<◌, ℕ, zero, suc, ℤ, pos, Bool, Option, Some, None, List, [], ◌∷◌, ◌++◌, length, slice_get, Result, Ok, Err, IsUtf8, false}
 use Rattle.yaml_parse_model.specs.declared.yaml_mark_t.{yaml_mark_t}
 use Rattle.yaml_parse_model.specs.declared.yaml_version_directive_t.{yaml_version_directive_t}
 use Rattle.yaml_parse_model.specs.declared.yaml_scalar_style_t.{yaml_scalar_style_t}
@@ -12,6 +12,7 @@ use Rattle.yaml_parse_model.specs.declared.yaml_text_fault_t.TheVariants.{NotUtf
 use Rattle.yaml_parse_model.specs.Events.{TagDirective}
 use Rattle.yaml_parse_model.specs.Constructors.{AreUtf8}
 use Rattle.yaml_parse_model.specs.Nodes.{Node, NodeBody}
+pub use Rattle.yaml_parse_model.specs.Nodes.{str_tag, seq_tag, map_tag}
 use Rattle.yaml_parse_model.specs.Nodes as node
 
 -- a document; its nodes stand under the numbers 1, 2, 3 .., and the first is the root
@@ -92,15 +93,6 @@ IsNewDocument new (Err Memory) = AreUtf8 new.directives
 abbrev pub tag_or : Option (List ℕ) → List ℕ → List ℕ
 tag_or None default = default
 tag_or (Some tag) default = tag
-
-abbrev pub str_tag : List ℕ
-str_tag = codes "tag:yaml.org,2002:str"
-
-abbrev pub seq_tag : List ℕ
-seq_tag = codes "tag:yaml.org,2002:seq"
-
-abbrev pub map_tag : List ℕ
-map_tag = codes "tag:yaml.org,2002:map"
 
 -- nodes with zero marks; without a tag they have the default tag of their kind
 abbrev pub unplaced : NodeBody → List ℕ → Node

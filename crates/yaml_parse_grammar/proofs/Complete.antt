@@ -47,6 +47,7 @@ abbrev pub Leaves : State → List Token → Type 0
 Leaves x [] = ⊥
 Leaves x (t ∷ ts) = choice_at x (type_of t.body) ≡ Leave
 
+-- A state that leaves gives its item at the token, which stays.
 pub leaves_at : (x : State) (t : Token) (ts : List Token) (s : List State) (f : Option Fault)
     → choice_at x (type_of t.body) ≡ Leave
     → run (t ∷ ts) (x ∷ s) f ≡ giving
@@ -212,6 +213,7 @@ properties_start w (tree.anchor_tag a t) ts = refl
 properties_start w (tree.tag t) ts = refl
 properties_start w (tree.tag_anchor t a) ts = refl
 
+-- A node's tokens begin as nodes that are wanted there do.
 pub node_starts : {w : Wants} (n : Node w) (rest : List Token) → Starts w (spell_node n rest)
 node_starts (tree.alias s name) rest = refl
 node_starts {w = w} (tree.only_properties d) rest = properties_start w d rest

@@ -88,6 +88,7 @@ explicit_opens (tree.handle q name prefix ∷ ds) p ts f =
     ∙ ap (giving (λ (more : List Given). (item_at (item.tag_directive name prefix) q.from q.to, length (spell_directives ds (token_at token.document_start p ∷ ts))) ∷ more))
     (directives_run ds q.from p ts f)
 
+-- Without a state to go on from nothing runs.
 pub nothing_runs : (ts : List Token) (f : Option Fault) → run ts [] f ≡ finished
 unfolding run feed
 nothing_runs [] None = refl

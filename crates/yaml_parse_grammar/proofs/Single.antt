@@ -79,12 +79,14 @@ pub front_runs : (ts : List Token) (f : Option Fault) → MayAnswer ts f → (s 
 front_runs [] f h s = rw h (sym (unfinished s))
 front_runs (t ∷ ts) f h s = refl
 
+-- Behind the tokens, what is told of a fault is told by the topmost state.
 pub ending_runs : (s : List State) (f : Fault) → run [] s (Some f) ≡ ending_at s f
 unfolding run
 ending_runs s f = refl
 
 -- ---- one step
 
+-- A state that refuses ends the run with its fault at the token.
 pub refuses : (x : State) (p : ParseProblem) (o : Option yaml_mark_t) (t : Token) (ts : List Token)
     (s : List State) (f : Option Fault) → choice_at x (type_of t.body) ≡ Refuse p o
     → run (t ∷ ts) (x ∷ s) f ≡ record
@@ -92,6 +94,7 @@ pub refuses : (x : State) (p : ParseProblem) (o : Option yaml_mark_t) (t : Token
 unfolding run feed
 refuses x p o t ts s f h = ap (λ (c : Choice). carry (length ts) (turn c x t s (feed s t)) (λ s'. run ts s' f)) h
 
+-- A state that takes a token gives its item and goes on above.
 pub takes : (x : State) (i : RawEvent) (above : List State) (t : Token) (ts : List Token)
     (s : List State) (f : Option Fault) → choice_at x (type_of t.body) ≡ Take
     → taken_at x t ≡ record { item = Some i; above = above }
@@ -99,6 +102,7 @@ pub takes : (x : State) (i : RawEvent) (above : List State) (t : Token) (ts : Li
     (run ts (above ++ s) f)
 takes x i above t ts s f h k = step_take x t ts s f h ∙ ap (λ (y : Taken). carry (length ts) (given_by y s) (λ s'. run ts s' f)) k
 
+-- A state that takes a token for no item goes on above.
 pub takes_silently : (x : State) (above : List State) (t : Token) (ts : List Token) (s : List State)
     (f : Option Fault) → choice_at x (type_of t.body) ≡ Take
     → taken_at x t ≡ record { item = None; above = above }
@@ -127,6 +131,7 @@ take_or true b p h = cc
 take_or false true p h = refl
 take_or false false p h = cc
 
+-- A document is opened at what begins a node.
 pub opens_node : (x : State) (k : yaml_token_type_t) → choice_at x k ≡ Open
     → starts_node (Block None) k ≡ true
 opens_node state.stream kind.YAML_STREAM_START_TOKEN h = cc
@@ -165,6 +170,7 @@ opens_fed t s h =
     sym (ap (λ (c : Choice). turn c (state.optional Root t.start_mark) t (state.document_end ∷ state.documents ∷ s) (feed (state.document_end ∷ state.documents ∷ s) t))
     (optional_takes Root t.start_mark (type_of t.body) h))
 
+-- A state that opens a document gives DOCUMENT-START and goes on with the document's states.
 pub opens : (x : State) (t : Token) (ts : List Token) (s : List State) (f : Option Fault)
     → choice_at x (type_of t.body) ≡ Open
     → run (t ∷ ts) (x ∷ s) f ≡ giving
@@ -183,12 +189,14 @@ with_item_stops : (left : ℕ) (i : RawEvent) (below : Fed) (k : List State → 
 with_item_stops left i (stop is f) k = refl
 with_item_stops left i (go is s) k = refl
 
+-- Behind a refusal the tokens behind the refused one are left.
 pub refuses_stops : (x : State) (p : ParseProblem) (o : Option yaml_mark_t) (t : Token)
     (ts : List Token) (s : List State) → choice_at x (type_of t.body) ≡ Refuse p o
     → unasked_at_stop (t ∷ ts) (x ∷ s) ≡ length ts
 unfolding unasked_at_stop feed
 refuses_stops x p o t ts s h = ap (λ (c : Choice). left_where_stopped (length ts) (turn c x t s (feed s t)) (λ s'. unasked_at_stop ts s')) h
 
+-- A state that takes a token leaves those behind it.
 pub takes_stops : (x : State) (i : Option RawEvent) (above : List State) (t : Token)
     (ts : List Token) (s : List State) → choice_at x (type_of t.body) ≡ Take
     → taken_at x t ≡ record { item = i; above = above }
@@ -198,6 +206,7 @@ takes_stops x i above t ts s h k =
     ap (λ (c : Choice). left_where_stopped (length ts) (turn c x t s (feed s t)) (λ s'. unasked_at_stop ts s')) h
     ∙ ap (λ (y : Taken). left_where_stopped (length ts) (given_by y s) (λ s'. unasked_at_stop ts s')) k
 
+-- A state that leaves takes no token.
 pub leaves_stops : (x : State) (t : Token) (ts : List Token) (s : List State)
     → choice_at x (type_of t.body) ≡ Leave
     → unasked_at_stop (t ∷ ts) (x ∷ s) ≡ unasked_at_stop (t ∷ ts) s
@@ -206,6 +215,7 @@ leaves_stops x t ts s h =
     ap (λ (c : Choice). left_where_stopped (length ts) (turn c x t s (feed s t)) (λ s'. unasked_at_stop ts s')) h
     ∙ with_item_stops (length ts) (left_at x t.start_mark) (feed s t) (λ s'. unasked_at_stop ts s')
 
+-- A state that opens a document takes no token.
 pub opens_stops : (x : State) (t : Token) (ts : List Token) (s : List State)
     → choice_at x (type_of t.body) ≡ Open
     → unasked_at_stop (t ∷ ts) (x ∷ s) ≡ unasked_at_stop (t ∷ ts) (opened t.start_mark ++ s)
@@ -219,12 +229,14 @@ stops_at_none : (fed : Fed) → left_where_stopped 0 fed (λ s'. 0) ≡ 0
 stops_at_none (stop is f) = refl
 stops_at_none (go is s) = refl
 
+-- The first token and the rest are the list.
 pub front_stops : (ts : List Token) (s : List State)
     → unasked_at_stop (front_of ts ∷ rest_of ts) s ≡ unasked_at_stop ts s
 unfolding unasked_at_stop
 front_stops [] s = stops_at_none (feed s no_token)
 front_stops (t ∷ ts) s = refl
 
+-- Without tokens none is left.
 pub nothing_stops : (s : List State) → unasked_at_stop [] s ≡ 0
 unfolding unasked_at_stop
 nothing_stops s = refl

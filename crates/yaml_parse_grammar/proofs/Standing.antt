@@ -173,6 +173,7 @@ documents_stand from start end token.document_start s h = ((tt, ap (λ (z : List
 documents_stand from start end token.stream_end s h = (subst IsStack (sym h) tt, ap is_between h)
 documents_stand from start end _ s h = h
 
+-- Taking a token on a sound stack gives one, and the item stands on it.
 pub taken_stands : (x : State) (t : Token) (s : List State) → choice_at x (type_of t.body) ≡ Take
     → IsStack (x ∷ s) → StandsOn (taken_at x t).item ((taken_at x t).above ++ s)
 taken_stands state.stream t s c h = stream_stands t.start_mark t.end_mark t.body s h c
@@ -206,6 +207,7 @@ not_left_first false false p h = cc
 abbrev StandsLeft : RawEvent → List State → Type 0
 StandsLeft i s = IsStack s × StandsBehind i.body (is_between s)
 
+-- Leaving a state of a sound stack leaves a sound stack, and the item stands behind it.
 pub left_stands : (x : State) (k : yaml_token_type_t) (start : yaml_mark_t) (s : List State)
     → choice_at x k ≡ Leave → IsStack (x ∷ s)
     → IsStack s × StandsBehind (left_at x start).body (is_between s)
@@ -272,6 +274,7 @@ opens_alone (state.more b o) k s c h = absurd (not_opened (closes b k) (no_end b
 opens_alone state.pair_end k s c h = cc
 opens_alone state.lone k s c h = cc
 
+-- Opening a document on a sound stack gives one, in a document.
 pub opened_stands : (x : State) (k : yaml_token_type_t) (start : yaml_mark_t) (s : List State)
     → choice_at x k ≡ Open → IsStack (x ∷ s)
     → IsStack (opened start ++ s) × (is_between (opened start ++ s) ≡ false)
@@ -323,6 +326,7 @@ handle_behind : (o : Option (List ℕ)) (ds : Directives) (handle prefix : List 
 handle_behind (Some other) ds handle prefix at x = tt
 handle_behind None ds handle prefix at x = tt
 
+-- Settling an item keeps where it stands.
 pub settled_behind : (b : RawEventBody) (from : yaml_mark_t) (ds : Directives) (x : Bool)
     → StandsBehind b x → SettledBehind (settle_body b from ds) x
 settled_behind (item.event body) from ds x h = h

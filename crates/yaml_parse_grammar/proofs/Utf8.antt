@@ -80,6 +80,7 @@ with_properties_utf8 w p start end (token.anchor n) q h = ((h, q.1), tt)
 with_properties_utf8 w p start end (token.tag x y) q h = ((q.0, h), tt)
 with_properties_utf8 w p start end b q h = content_utf8 w (Some p) start end b q h
 
+-- Two lists of states hold UTF-8 where each does.
 pub states_over : (xs ys : List State) → AreUtf8States xs → AreUtf8States ys
     → AreUtf8States (xs ++ ys)
 states_over [] ys h k = k
@@ -121,6 +122,7 @@ pairs_utf8 : (o start end : yaml_mark_t) (x : TokenBody)
 pairs_utf8 o start end token.key = (tt, (tt, (tt, tt)))
 pairs_utf8 o start end _ = (tt, tt)
 
+-- What a state takes of a token of UTF-8 is UTF-8.
 pub taken_utf8 : (x : State) (t : Token) → IsUtf8State x → source.HasUtf8 t.body
     → IsUtf8Taken (taken_at x t).item (taken_at x t).above
 taken_utf8 state.stream t p h = stream_utf8 t.start_mark t.end_mark t.body
@@ -141,6 +143,7 @@ taken_utf8 state.lone t p h = (tt, tt)
 
 -- ---- leaving a state, and an implicit document
 
+-- What a state gives where it leaves is UTF-8.
 pub left_utf8 : (x : State) (start : yaml_mark_t) → IsUtf8State x
     → IsUtf8Item (left_at x start).body
 left_utf8 state.stream start h = (tt, (tt, tt))
@@ -151,6 +154,7 @@ left_utf8 (state.with_properties w p) start h = (h.0, (h.1, tt))
 left_utf8 state.pair_end start h = tt
 left_utf8 _ start h = (tt, (tt, tt))
 
+-- The states of a document that opens hold no text.
 pub opened_utf8 : (start : yaml_mark_t) → AreUtf8States (opened start)
 opened_utf8 start = (tt, (tt, (tt, tt)))
 
@@ -251,6 +255,7 @@ behind_utf8 : (b : EventBody) (ds : Directives) → AreUtf8 ds.tags → AreUtf8 
 behind_utf8 (event.document_end implicit) ds h = tt
 behind_utf8 _ ds h = h
 
+-- A settled item is UTF-8 where the item and the prefixes are.
 pub settled_utf8 : (b : RawEventBody) (from : yaml_mark_t) (ds : Directives) → IsUtf8Item b
     → AreUtf8 ds.tags → IsUtf8Settled (settle_body b from ds)
 settled_utf8 (item.event body) from ds h d = (h, behind_utf8 body ds d)
@@ -263,6 +268,7 @@ settled_utf8 (item.node anchor (Some tag) shape) from ds h d =
 
 -- ---- all that a parser holds
 
+-- What a parser holds is UTF-8 where its parts are.
 pub held_utf8 : (peeked : Option Token) (s : List State) (ds : Directives) → IsUtf8Token peeked
     → AreUtf8States s → AreUtf8 ds.tags → IsUtf8Held peeked s ds
 held_utf8 peeked [] ds p h d = tt

@@ -252,6 +252,7 @@ speaks (t ∷ ts) f (x ∷ s) h = carried_speaks (length ts) (feed (x ∷ s) t) 
 
 -- ---- resolved
 
+-- A node's properties settle as an event or a fault, never as directives.
 pub not_noted : (o : Option (List ℕ)) (a : Option (List ℕ)) (shape : item.Shape)
     (from at : yaml_mark_t) (ds ds' : Directives) → with_resolved o a shape from at ds ≡ noted ds'
     → ⊥
@@ -277,6 +278,7 @@ read_on_speaks (refused e) g gs f ds s h k p q = cc
 read_on_speaks (gave b ds') g gs f ds s h k p q = cc
 read_on_speaks (noted ds') g gs f ds s h k p q = k ds' (noted_body g.0.body g.0.from ds ds' (HasVoice gs f) s h) p q
 
+-- Where something is to be told, an event or a fault is.
 pub reading_speaks : (gs : List Given) (f : Option Fault) (ds : Directives) → HasVoice gs f
     → (reading gs f ds).events ≡ [] → (reading gs f ds).ending ≡ None → ⊥
 unfolding reading

@@ -13,12 +13,14 @@ use Rattle.yaml_parse_laws_trees.specs.Falling.{AreFalling}
 
 -- ---- something is to come
 
+-- Something is to come where the list or the fault isn't empty.
 pub has_more : {X : Type 0} (xs : List X) (f : Option Fault) → (xs ≡ [] → f ≡ None → ⊥)
     → HasMore xs f
 has_more [] None h = h refl refl
 has_more [] (Some e) h = tt
 has_more (x ∷ xs) f h = tt
 
+-- Where list and fault are empty nothing is to come.
 pub nothing_more : {X : Type 0} (xs : List X) (f : Option Fault) → xs ≡ [] → f ≡ None → HasMore xs f
     → ⊥
 nothing_more [] None p q h = h

@@ -366,6 +366,7 @@ next_is c (next_fault f count) (inr h) =
     (e.0 ∙ ap behind_all h.1.0, e.1 ∙ sym h.1.1)
 next_is c next_none h = (none_loads c h.0).0 ∙ ap behind_all h.1
 
+-- The load that is said of the events is the next that the loader has.
 pub load_is : (gs : List Told) (own : Option Fault) (behind : ℕ) (n : NextLoad)
     → IsLoadOf gs own behind n
     → IsOf n (loads gs own nothing_loaded) (unasked_at_refusal gs behind nothing_loaded)

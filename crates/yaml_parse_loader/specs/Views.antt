@@ -4,13 +4,11 @@ use Rattle.yaml_parse_document.specs.Parts.{parts_view}
 use Rattle.yaml_parse_loader.specs.declared.making.Level.{Level}
 use Rattle.yaml_parse_loader.specs.declared.making.Level.TheVariants as level
 use Rattle.yaml_parse_loader.specs.declared.making.Making.{Making}
-use Rattle.yaml_parse_model.specs.Events.{text_of}
-use Rattle.yaml_parse_loader.specs.declared.making.Properties.{Properties}
 use Rattle.yaml_parse_loader.specs.declared.making.Fed.{Fed}
 use Rattle.yaml_parse_loader.specs.declared.making.Fed.TheVariants as fed
 use Rattle.yaml_parse_model.specs.declared.yaml_mark_t.{yaml_mark_t}
 use Rattle.yaml_parse_model.specs.declared.yaml_text_fault_t.{yaml_text_fault_t}
-use Rattle.yaml_parse_loader.specs.Numbering.{Head, undefined_alias}
+use Rattle.yaml_parse_loader.specs.Numbering.{undefined_alias}
 use Rattle.yaml_parse_loader.specs.Loading.{Open, open_sequence, open_mapping, Loading, LoadStep, goes_on, loaded, refused}
 
 abbrev pub level_of : Level → Open
@@ -26,14 +24,6 @@ loading_of m = record {
   document = parts_view m.parts;
   levels = levels_of m.levels.items;
   anchors = m.anchors;
-}
-
-abbrev pub properties_of : Properties → Head
-properties_of p = record {
-  anchor = text_of p.anchor;
-  tag = text_of p.tag;
-  start_mark = p.start_mark;
-  end_mark = p.end_mark;
 }
 
 -- what a step came to that only want of memory refuses

@@ -7,4 +7,4 @@ mod loader;
 mod making;
 
 pub use law::{loads_documents, numbers_follow_visits};
-pub use loader::Loader;
+pub use loader::{Loader, undefined_alias_fault};

@@ -16,10 +16,10 @@ use yaml_parse_model::{
     yaml_error_type_t, yaml_event_t, yaml_fault_t, yaml_mark_t, yaml_memory_fault, yaml_origin_t,
 };
 
-// An alias that no node before it anchors.
+/// The fault of an alias that no node before it anchors: kind 5, at the alias, without context.
 // Out of line: in line its room would be set to zero for each event.
 #[inline(never)]
-fn undefined_alias_fault(at: yaml_mark_t) -> yaml_fault_t
+pub fn undefined_alias_fault(at: yaml_mark_t) -> yaml_fault_t
     ensures { fault_of result ≡ undefined_alias at }
 {
     yaml_fault_t {

@@ -1,15 +1,15 @@
 //! A document in the making, and what an event makes of it.
 
-ghost use Rattle.std.specs.Prelude.{◌≡◌, ◌<◌, ◌++◌, ◌∷◌, [], pos, suc, length, map, reverse, Option, MatchResult, IfOk, OnOk};
+ghost use Rattle.std.specs.Prelude.{◌≡◌, ◌<◌, ◌++◌, ◌∷◌, [], pos, suc, length, map, reverse, Option, None, OnOk};
 ghost use Rattle.yaml_parse_model.specs.declared.yaml_mark_t.{yaml_mark_t};
 ghost use Rattle.yaml_parse_model.specs.Events.{event_of, text_of, directive_of};
-ghost use Rattle.yaml_parse_model.specs.Nodes.{node_of};
+ghost use Rattle.yaml_parse_model.specs.Nodes.{node_of, tag_of};
 ghost use Rattle.yaml_parse_document.specs.Documents.{IsDocument};
 ghost use Rattle.yaml_parse_document.specs.Sizes.{IsSized};
 ghost use Rattle.yaml_parse_loader.specs.Numbering.{is_bang, loaded_tag, scalar_node, sequence_node, mapping_node};
-ghost use Rattle.yaml_parse_loader.specs.Loading.{attach, attached, nothing_loaded, next, named, enter_leaf, enter_open, aliased, closed, place_of, filled, filled_body, started, step};
+ghost use Rattle.yaml_parse_loader.specs.Loading.{attach, attached, nothing_loaded, next, named, enter_leaf, enter_open, aliased, closed, place_of, filled, filled_body, started, step, head_of};
 ghost use Rattle.yaml_parse_loader.specs.Sizes.{HasRoom, HaveRoom, HasRoomForNode, HasRoomFor};
-ghost use Rattle.yaml_parse_loader.specs.Views.{level_of, levels_of, loading_of, properties_of, taken_by, Applies};
+ghost use Rattle.yaml_parse_loader.specs.Views.{level_of, levels_of, loading_of, taken_by, Applies};
 ghost use Rattle.yaml_parse_loader.specs.Loading.{open_sequence, open_mapping};
 ghost use Rattle.std.specs.FinMap as finite;
 
@@ -18,8 +18,8 @@ use std::alloc::Global;
 use std::mem;
 use yaml_parse_document::{DocumentParts, MAX_ENTRIES, push_entry, yaml_document_t};
 use yaml_parse_model::{
-    copy_text, yaml_event_body_t, yaml_event_t, yaml_mapping_style_t, yaml_mark_t,
-    yaml_node_body_t, yaml_node_pair_t, yaml_node_t, yaml_scalar_style_t, yaml_sequence_style_t,
+    moved, yaml_event_body_t, yaml_event_t, yaml_mapping_style_t, yaml_mark_t, yaml_node_body_t,
+    yaml_node_pair_t, yaml_node_t, yaml_node_tag_t, yaml_scalar_style_t, yaml_sequence_style_t,
     yaml_tag_directive_t, yaml_text_fault_t, yaml_version_directive_t,
 };
 
@@ -47,16 +47,14 @@ pub struct Making {
 }
 
 // No tag and the tag `!` become the default tag.
-fn tag_or_default(
-    alloc: Global,
-    tag: Option<Vec<u8>>,
-    default: &[u8],
-) -> Result<Vec<u8>, yaml_text_fault_t>
-    ensures { IfOk result (λ t. t.items ≡ loaded_tag (text_of tag) default.now) }
+// Inlined: mostly there is none.
+#[inline(always)]
+fn tag_or_default(tag: Option<Vec<u8>>, default: yaml_node_tag_t) -> yaml_node_tag_t
+    ensures { tag_of result ≡ loaded_tag (text_of tag) (tag_of default) }
 {
     match tag {
-        Some(tag) if !is_lone_bang(&tag) => Ok(tag),
-        _ => copy_text(alloc, default),
+        Some(text) if !is_lone_bang(&text) => yaml_node_tag_t::Spelled { text },
+        _ => default,
     }
 }
 
@@ -67,7 +65,21 @@ fn is_lone_bang(tag: &[u8]) -> bool
     tag.len() == 1 && tag[0] == b'!'
 }
 
+// From now on a node is what that name means.
+// Out of line: most nodes have no anchor.
+#[inline(never)]
+fn name_node(anchors: &mut AnchorTable, name: Vec<u8>, number: i32) -> Result<(), yaml_text_fault_t>
+    ensures { OnOk result (anchors.new ≡ finite.insert anchors.old name.items number) }
+{
+    match anchors.insert(name, number) {
+        Ok(()) => Ok(()),
+        Err(_) => Err(yaml_text_fault_t::Memory),
+    }
+}
+
 // From now on a node is what its anchor names.
+// Inlined: mostly there is none.
+#[inline(always)]
 fn register(
     anchors: &mut AnchorTable,
     anchor: Option<Vec<u8>>,
@@ -75,16 +87,15 @@ fn register(
 ) -> Result<(), yaml_text_fault_t>
     ensures { OnOk result (anchors.new ≡ named (text_of anchor) number anchors.old) }
 {
-    let Some(name) = anchor else {
-        return Ok(());
-    };
-    match anchors.insert(name, number) {
-        Ok(()) => Ok(()),
-        Err(_) => Err(yaml_text_fault_t::Memory),
+    match anchor {
+        None => Ok(()),
+        Some(name) => name_node(anchors, name, number),
     }
 }
 
 // A node's number becomes the next item, key or value of a collection.
+// Inlined: a look at the kind, and a store.
+#[inline(always)]
 fn attach_to(level: &mut Level, number: i32) -> Result<(), yaml_text_fault_t>
     ensures { OnOk result ((level_of level.new ≡ attached number (level_of level.old))
         × HasRoom (level_of level.old)) }
@@ -108,6 +119,8 @@ fn attach_to(level: &mut Level, number: i32) -> Result<(), yaml_text_fault_t>
 }
 
 // A node's number becomes the next item, key or value of the innermost open collection.
+// Inlined into `add`, of each node.
+#[inline(always)]
 fn attach(levels: &mut Vec<Level>, number: i32) -> Result<(), yaml_text_fault_t>
     ensures { OnOk result ((levels_of levels.new.items ≡ attach number (levels_of levels.old.items))
         × HaveRoom (levels_of levels.old.items)) }
@@ -177,13 +190,28 @@ fn taken(step: Result<(), yaml_text_fault_t>) -> Fed
     }
 }
 
-/// A node's properties, and where its first event stands.
-#[derive(Drop)]
-pub struct Properties {
-    pub anchor: Option<Vec<u8>>,
-    pub tag: Option<Vec<u8>>,
-    pub start_mark: yaml_mark_t,
-    pub end_mark: yaml_mark_t,
+// The node of a scalar, whose texts are taken out.
+// Inlined into its one caller: the node is built where it is to stand.
+#[inline(always)]
+fn scalar_of(
+    tag: &mut Option<Vec<u8>>,
+    value: &mut Vec<u8>,
+    style: yaml_scalar_style_t,
+    start_mark: &yaml_mark_t,
+    end_mark: &yaml_mark_t,
+) -> yaml_node_t
+    ensures { node_of result ≡ scalar_node (head_of None (text_of tag.old) start_mark.now
+        end_mark.now) value.old.items style }
+{
+    let given = tag.take();
+    let tag = tag_or_default(given, yaml_node_tag_t::Str);
+    let value = moved(value);
+    yaml_node_t {
+        body: yaml_node_body_t::Scalar { value, style },
+        tag,
+        start_mark: *start_mark,
+        end_mark: *end_mark,
+    }
 }
 
 impl Making {
@@ -266,6 +294,8 @@ impl Making {
     }
 
     // One node more: its anchor is noted, and the collection round it gets its number.
+    // Inlined: the node is built where it is to stand.
+    #[inline(always)]
     fn add(&mut self, anchor: Option<Vec<u8>>, node: yaml_node_t) -> Result<(), yaml_text_fault_t>
         ensures { OnOk result ((loading_of self.new ≡ enter_leaf (loading_of self.old)
             (text_of anchor) (node_of node)) × HasRoomForNode (loading_of self.old)) }
@@ -312,58 +342,33 @@ impl Making {
         }
     }
 
-    // A scalar.
-    fn scalar(
-        &mut self,
-        head: Properties,
-        value: Vec<u8>,
-        style: yaml_scalar_style_t,
-    ) -> Result<(), yaml_text_fault_t>
-        ensures { OnOk result ((loading_of self.new ≡ enter_leaf (loading_of self.old)
-            (text_of head.anchor) (scalar_node (properties_of head) value.items style))
-            × HasRoomForNode (loading_of self.old)) }
-    {
-        let Properties {
-            anchor,
-            tag,
-            start_mark,
-            end_mark,
-        } = head;
-        let tag = tag_or_default(self.parts.alloc, tag, b"tag:yaml.org,2002:str")?;
-        let node = yaml_node_t {
-            body: yaml_node_body_t::Scalar { value, style },
-            tag,
-            start_mark,
-            end_mark,
-        };
-        self.add(anchor, node)
-    }
-
-    // A sequence begins.
+    // A sequence begins. Its texts are taken out.
+    // Out of line: in line its room would be set to zero for each event.
+    #[inline(never)]
     fn sequence(
         &mut self,
-        head: Properties,
+        anchor: &mut Option<Vec<u8>>,
+        tag: &mut Option<Vec<u8>>,
         style: yaml_sequence_style_t,
+        start_mark: &yaml_mark_t,
+        end_mark: &yaml_mark_t,
     ) -> Result<(), yaml_text_fault_t>
         ensures { OnOk result ((loading_of self.new ≡ enter_open (loading_of self.old)
-            (text_of head.anchor) (sequence_node (properties_of head) [] style head.end_mark)
+            (text_of anchor.old) (sequence_node (head_of (text_of anchor.old) (text_of tag.old)
+            start_mark.now end_mark.now) [] style end_mark.now)
             (open_sequence (length (loading_of self.old).document.nodes) []))
             × HasRoomForNode (loading_of self.old)) }
     {
-        let Properties {
-            anchor,
-            tag,
-            start_mark,
-            end_mark,
-        } = head;
         let alloc = self.parts.alloc;
-        let tag = tag_or_default(alloc, tag, b"tag:yaml.org,2002:seq")?;
+        let name = anchor.take();
+        let given = tag.take();
+        let tag = tag_or_default(given, yaml_node_tag_t::Seq);
         let items = Vec::new(alloc);
         let node = yaml_node_t {
             body: yaml_node_body_t::Sequence { items, style },
             tag,
-            start_mark,
-            end_mark,
+            start_mark: *start_mark,
+            end_mark: *end_mark,
         };
         let place = self.parts.nodes.len();
         let gathered = Vec::new(alloc);
@@ -371,34 +376,36 @@ impl Making {
             place,
             items: gathered,
         };
-        self.open(anchor, node, level)
+        self.open(name, node, level)
     }
 
-    // A mapping begins.
+    // A mapping begins. Its texts are taken out.
+    // Out of line: see `sequence`.
+    #[inline(never)]
     fn mapping(
         &mut self,
-        head: Properties,
+        anchor: &mut Option<Vec<u8>>,
+        tag: &mut Option<Vec<u8>>,
         style: yaml_mapping_style_t,
+        start_mark: &yaml_mark_t,
+        end_mark: &yaml_mark_t,
     ) -> Result<(), yaml_text_fault_t>
         ensures { OnOk result ((loading_of self.new ≡ enter_open (loading_of self.old)
-            (text_of head.anchor) (mapping_node (properties_of head) [] style head.end_mark)
+            (text_of anchor.old) (mapping_node (head_of (text_of anchor.old) (text_of tag.old)
+            start_mark.now end_mark.now) [] style end_mark.now)
             (open_mapping (length (loading_of self.old).document.nodes) [] None))
             × HasRoomForNode (loading_of self.old)) }
     {
-        let Properties {
-            anchor,
-            tag,
-            start_mark,
-            end_mark,
-        } = head;
         let alloc = self.parts.alloc;
-        let tag = tag_or_default(alloc, tag, b"tag:yaml.org,2002:map")?;
+        let name = anchor.take();
+        let given = tag.take();
+        let tag = tag_or_default(given, yaml_node_tag_t::Map);
         let pairs = Vec::new(alloc);
         let node = yaml_node_t {
             body: yaml_node_body_t::Mapping { pairs, style },
             tag,
-            start_mark,
-            end_mark,
+            start_mark: *start_mark,
+            end_mark: *end_mark,
         };
         let place = self.parts.nodes.len();
         let gathered = Vec::new(alloc);
@@ -407,7 +414,7 @@ impl Making {
             pairs: gathered,
             key: None,
         };
-        self.open(anchor, node, level)
+        self.open(name, node, level)
     }
 
     /// What the event makes of the document. Its texts are taken out. It is long because it has an arm for each kind of event.
@@ -446,43 +453,22 @@ impl Making {
                 style,
                 ..
             } => {
-                let head = Properties {
-                    anchor: anchor.take(),
-                    tag: tag.take(),
-                    start_mark: *start_mark,
-                    end_mark: *end_mark,
-                };
-                let value = mem::replace(value, Vec::new(alloc));
-                taken(self.scalar(head, value, *style))
+                let name = anchor.take();
+                let node = scalar_of(tag, value, *style, start_mark, end_mark);
+                taken(self.add(name, node))
             }
             yaml_event_body_t::SequenceStart {
                 anchor,
                 tag,
                 style,
                 ..
-            } => {
-                let head = Properties {
-                    anchor: anchor.take(),
-                    tag: tag.take(),
-                    start_mark: *start_mark,
-                    end_mark: *end_mark,
-                };
-                taken(self.sequence(head, *style))
-            }
+            } => taken(self.sequence(anchor, tag, *style, start_mark, end_mark)),
             yaml_event_body_t::MappingStart {
                 anchor,
                 tag,
                 style,
                 ..
-            } => {
-                let head = Properties {
-                    anchor: anchor.take(),
-                    tag: tag.take(),
-                    start_mark: *start_mark,
-                    end_mark: *end_mark,
-                };
-                taken(self.mapping(head, *style))
-            }
+            } => taken(self.mapping(anchor, tag, *style, start_mark, end_mark)),
             yaml_event_body_t::SequenceEnd | yaml_event_body_t::MappingEnd => {
                 self.close(*end_mark);
                 Fed::Taken

@@ -1,5 +1,5 @@
 -- Nodes of documents, without where their texts and lists lie in memory.
-use Rattle.std.specs.Prelude.{ℕ, ℤ, List}
+use Rattle.std.specs.Prelude.{ℕ, ℤ, List, codes}
 use Rattle.yaml_scan_model.specs.declared.yaml_mark_t.{yaml_mark_t}
 use Rattle.yaml_scan_model.specs.declared.yaml_scalar_style_t.{yaml_scalar_style_t}
 use Rattle.yaml_scan_model.specs.declared.yaml_sequence_style_t.{yaml_sequence_style_t}
@@ -9,6 +9,8 @@ use Rattle.yaml_scan_model.specs.declared.yaml_node_type_t.TheVariants as kind
 use Rattle.yaml_parse_model.specs.declared.node.yaml_node_pair_t.{yaml_node_pair_t}
 use Rattle.yaml_parse_model.specs.declared.node.yaml_node_body_t.{yaml_node_body_t}
 use Rattle.yaml_parse_model.specs.declared.node.yaml_node_body_t.TheVariants as body
+use Rattle.yaml_parse_model.specs.declared.node.yaml_node_tag_t.{yaml_node_tag_t}
+use Rattle.yaml_parse_model.specs.declared.node.yaml_node_tag_t.TheVariants as tag
 use Rattle.yaml_parse_model.specs.declared.node.yaml_node_t.{yaml_node_t}
 
 -- what a node is
@@ -30,10 +32,27 @@ body_of (body.Scalar value style) = scalar value.items style
 body_of (body.Sequence items style) = sequence items.items style
 body_of (body.Mapping pairs style) = mapping pairs.items style
 
+-- the tags that nodes have by default
+abbrev pub str_tag : List ℕ
+str_tag = codes "tag:yaml.org,2002:str"
+
+abbrev pub seq_tag : List ℕ
+seq_tag = codes "tag:yaml.org,2002:seq"
+
+abbrev pub map_tag : List ℕ
+map_tag = codes "tag:yaml.org,2002:map"
+
+-- the bytes of a tag
+abbrev pub tag_of : yaml_node_tag_t → List ℕ
+tag_of tag.Str = str_tag
+tag_of tag.Seq = seq_tag
+tag_of tag.Map = map_tag
+tag_of (tag.Spelled text) = text.items
+
 abbrev pub node_of : yaml_node_t → Node
 node_of n = record {
   body = body_of n.body;
-  tag = n.tag.items;
+  tag = tag_of n.tag;
   start_mark = n.start_mark;
   end_mark = n.end_mark;
 }

@@ -19,6 +19,7 @@ pub use constructor::{
 pub use event::{yaml_event_body_t, yaml_event_delete, yaml_event_t};
 pub use node::{
     yaml_alias_data_t, yaml_node_body_t, yaml_node_item_t, yaml_node_pair_t, yaml_node_t,
+    yaml_node_tag_t,
 };
 pub use prefix::{yaml_parser_t_prefix, yaml_text_fault_t};
 pub use source::yaml_token_source_t;

@@ -1,7 +1,7 @@
 //! Nodes of documents.
 
 ghost use Rattle.std.specs.Prelude.{◌≡◌};
-ghost use Rattle.yaml_parse_model.specs.Nodes.{type_of, node_of};
+ghost use Rattle.yaml_parse_model.specs.Nodes.{type_of, node_of, tag_of};
 
 use yaml_scan_model::{
     yaml_mapping_style_t, yaml_mark_t, yaml_node_type_t, yaml_scalar_style_t, yaml_sequence_style_t,
@@ -36,12 +36,39 @@ pub enum yaml_node_body_t {
     },
 }
 
+/// The tag of a node. The three that nodes have by default take no room.
+#[derive(Drop)]
+pub enum yaml_node_tag_t {
+    /// `tag:yaml.org,2002:str`, by default a scalar's.
+    Str,
+    /// `tag:yaml.org,2002:seq`, by default a sequence's.
+    Seq,
+    /// `tag:yaml.org,2002:map`, by default a mapping's.
+    Map,
+    /// A tag that is spelled out, which may be one of these.
+    Spelled { text: Vec<u8> },
+}
+
+impl yaml_node_tag_t {
+    /// The bytes of the tag.
+    pub fn as_slice(&self) -> &[u8]
+        ensures { result.now ≡ tag_of self.now }
+    {
+        match self {
+            yaml_node_tag_t::Str => b"tag:yaml.org,2002:str",
+            yaml_node_tag_t::Seq => b"tag:yaml.org,2002:seq",
+            yaml_node_tag_t::Map => b"tag:yaml.org,2002:map",
+            yaml_node_tag_t::Spelled { text } => text.as_slice(),
+        }
+    }
+}
+
 /// A node of a document.
 #[derive(Drop)]
 pub struct yaml_node_t {
     pub body: yaml_node_body_t,
     /// The resolved tag; a node always has one.
-    pub tag: Vec<u8>,
+    pub tag: yaml_node_tag_t,
     pub start_mark: yaml_mark_t,
     pub end_mark: yaml_mark_t,
 }

@@ -9,7 +9,7 @@ ghost use Rattle.yaml_parse_grammar.specs.Resolve.{node_event, placed};
 ghost use Rattle.yaml_parse_core.specs.Extra.{value_in, style_in};
 ghost use Rattle.yaml_parse_core.specs.Views.{text_if, shape_at, node_item};
 
-use crate::room::vacate;
+use crate::room::{clears, vacate, vacate_full};
 use crate::scalars::{bare, named};
 use crate::slots::{start_mapping, start_named_mapping, start_named_sequence, start_sequence};
 use yaml_parse_core::{Shape, Waiting};
@@ -54,13 +54,31 @@ fn tell_no_scalar(waiting: &mut Waiting<Vec<u8>, yaml_mark_t>, event: &mut yaml_
 // Out of line: in line the addresses of the slot's parts would be put aside in front of the loop over turns, for each event.
 #[inline(never)]
 fn tell_sequence(
+    waiting: &mut Waiting<Vec<u8>, yaml_mark_t>,
     token: &mut yaml_token_body_t,
     style: yaml_sequence_style_t,
     event: &mut yaml_event_body_t,
 )
     ensures { body_of event.new ≡ node_event None None (item.sequence style) }
 {
-    vacate(event, token);
+    if clears(event, &mut waiting.anchor) {
+        start_sequence(event, style);
+    } else {
+        sequence_over(token, style, event);
+    }
+}
+
+// The same, where the slot holds other texts.
+// Out of line: mostly it holds none, or a scalar's.
+#[inline(never)]
+fn sequence_over(
+    token: &mut yaml_token_body_t,
+    style: yaml_sequence_style_t,
+    event: &mut yaml_event_body_t,
+)
+    ensures { body_of event.new ≡ node_event None None (item.sequence style) }
+{
+    vacate_full(event, token);
     start_sequence(event, style);
 }
 
@@ -68,13 +86,31 @@ fn tell_sequence(
 // Out of line: see `tell_sequence`.
 #[inline(never)]
 fn tell_mapping(
+    waiting: &mut Waiting<Vec<u8>, yaml_mark_t>,
     token: &mut yaml_token_body_t,
     style: yaml_mapping_style_t,
     event: &mut yaml_event_body_t,
 )
     ensures { body_of event.new ≡ node_event None None (item.mapping style) }
 {
-    vacate(event, token);
+    if clears(event, &mut waiting.anchor) {
+        start_mapping(event, style);
+    } else {
+        mapping_over(token, style, event);
+    }
+}
+
+// The same, where the slot holds other texts.
+// Out of line: mostly it holds none, or a scalar's.
+#[inline(never)]
+fn mapping_over(
+    token: &mut yaml_token_body_t,
+    style: yaml_mapping_style_t,
+    event: &mut yaml_event_body_t,
+)
+    ensures { body_of event.new ≡ node_event None None (item.mapping style) }
+{
+    vacate_full(event, token);
     start_mapping(event, style);
 }
 
@@ -95,21 +131,25 @@ pub fn tell_node(
     match shape {
         Shape::Scalar => tell_scalar(waiting, &mut token.body, &mut event.body),
         Shape::BlockSequence => tell_sequence(
+            waiting,
             &mut token.body,
             yaml_sequence_style_t::YAML_BLOCK_SEQUENCE_STYLE,
             &mut event.body,
         ),
         Shape::BlockMapping => tell_mapping(
+            waiting,
             &mut token.body,
             yaml_mapping_style_t::YAML_BLOCK_MAPPING_STYLE,
             &mut event.body,
         ),
         Shape::FlowSequence => tell_sequence(
+            waiting,
             &mut token.body,
             yaml_sequence_style_t::YAML_FLOW_SEQUENCE_STYLE,
             &mut event.body,
         ),
         Shape::FlowMapping => tell_mapping(
+            waiting,
             &mut token.body,
             yaml_mapping_style_t::YAML_FLOW_MAPPING_STYLE,
             &mut event.body,

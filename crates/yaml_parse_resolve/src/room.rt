@@ -1,9 +1,9 @@
 //! The room of texts that are done with.
 
-ghost use Rattle.std.specs.Prelude.{◌≡◌, None, Some, true, vec_capacity};
+ghost use Rattle.std.specs.Prelude.{◌≡◌, None, Some, false, true, vec_capacity};
 ghost use Rattle.yaml_parse_model.specs.Events.{text_of};
 ghost use Rattle.yaml_parse_core.specs.Views.{text_if};
-ghost use Rattle.yaml_parse_resolve.specs.Bare.{OwnsNothing};
+ghost use Rattle.yaml_parse_resolve.specs.Bare.{HasNoText, OwnsNothing};
 
 use std::mem;
 use yaml_parse_model::{moved, yaml_event_body_t, yaml_scalar_style_t, yaml_token_body_t};
@@ -55,9 +55,21 @@ fn forget_bare(event: yaml_event_body_t)
 
 /// Takes the texts out of a slot of events, and has the slot of a token that is taken hold one of them: the reader may read a later
 /// text into its room.
-// Inlined: mostly a comparison of the kind, or some moves.
+// Inlined: mostly a comparison of the kind.
 #[inline(always)]
 pub fn vacate(earlier: &mut yaml_event_body_t, slot: &mut yaml_token_body_t)
+    ensures { OwnsNothing earlier.new }
+{
+    if is_bare(earlier) {
+        return;
+    }
+    vacate_full(earlier, slot);
+}
+
+/// The same, of a slot of events that holds a text.
+// Inlined: a comparison of the kind, and some moves.
+#[inline(always)]
+pub fn vacate_full(earlier: &mut yaml_event_body_t, slot: &mut yaml_token_body_t)
     ensures { OwnsNothing earlier.new }
 {
     match *earlier {
@@ -67,24 +79,37 @@ pub fn vacate(earlier: &mut yaml_event_body_t, slot: &mut yaml_token_body_t)
             ref mut value,
             ..
         } => hand_over(moved(value), slot),
-        _ => vacate_other(earlier, slot),
+        _ => vacate_rare(earlier, slot),
+    }
+}
+
+/// Moves the text of a scalar without properties out of a slot of events, into a place for the room of one, if that is empty. Answers
+/// whether the slot owns nothing then.
+// Inlined: a comparison of the kind, and some moves. What it doesn't clear is left to a call, so that no register is put aside.
+#[inline(always)]
+pub fn clears(earlier: &mut yaml_event_body_t, room: &mut Vec<u8>) -> bool
+    ensures { result ≡ true → OwnsNothing earlier.new }
+{
+    match *earlier {
+        yaml_event_body_t::Scalar {
+            anchor: None,
+            tag: None,
+            ref mut value,
+            ..
+        } => {
+            if room.capacity() == 0 {
+                mem::swap(value, room);
+                true
+            } else {
+                false
+            }
+        }
+        _ => is_bare(earlier),
     }
 }
 
 // The same, of another event than a scalar without properties.
-// Inlined: mostly a comparison of the kind.
-#[inline(always)]
-fn vacate_other(earlier: &mut yaml_event_body_t, slot: &mut yaml_token_body_t)
-    ensures { OwnsNothing earlier.new }
-{
-    if is_bare(earlier) {
-        return;
-    }
-    vacate_rare(earlier, slot);
-}
-
-// The same, of an event with a text.
-// Out of line: mostly it is a scalar without properties.
+// Out of line: mostly it is such a one.
 #[inline(never)]
 fn vacate_rare(earlier: &mut yaml_event_body_t, slot: &mut yaml_token_body_t)
     ensures { OwnsNothing earlier.new }
@@ -142,14 +167,36 @@ fn hand_over(text: Vec<u8>, slot: &mut yaml_token_body_t) {
     if text.capacity() == 0 {
         return;
     }
-    match *slot {
-        yaml_token_body_t::TagDirective { .. } => put_text(text, slot),
-        yaml_token_body_t::Alias { ref mut value } => *value = text,
-        yaml_token_body_t::Anchor { ref mut value } => *value = text,
-        yaml_token_body_t::Tag { .. } => put_text(text, slot),
-        yaml_token_body_t::Scalar { ref mut value, .. } => *value = text,
-        _ => *slot = kept(text),
+    if has_text(slot) {
+        put_text(text, slot);
+    } else {
+        forget_kind(mem::replace(slot, kept(text)));
     }
+}
+
+// Whether the slot of a token is of a kind that has a text.
+// Inlined: a look at the kind.
+#[inline(always)]
+fn has_text(slot: &yaml_token_body_t) -> bool
+    ensures { result ≡ false → HasNoText slot.now }
+{
+    match slot {
+        yaml_token_body_t::TagDirective { .. } => true,
+        yaml_token_body_t::Alias { .. } => true,
+        yaml_token_body_t::Anchor { .. } => true,
+        yaml_token_body_t::Tag { .. } => true,
+        yaml_token_body_t::Scalar { .. } => true,
+        _ => false,
+    }
+}
+
+// Lets go of a token that has no text: its drop would look at its kind once more.
+// Inlined: it does nothing.
+#[inline(always)]
+fn forget_kind(token: yaml_token_body_t)
+    requires { HasNoText token }
+{
+    mem::forget(token);
 }
 
 // A text in the slot of a token, in the place of others.

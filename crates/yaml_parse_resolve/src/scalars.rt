@@ -9,10 +9,10 @@ ghost use Rattle.yaml_parse_grammar.specs.Items as item;
 ghost use Rattle.yaml_parse_grammar.specs.Resolve.{is_plain as is_plain_style, node_event};
 ghost use Rattle.yaml_parse_core.specs.Views.{text_if};
 
-use crate::room::{exchange, exchanged, give_back, is_bare, moved_if, put_bare};
+use crate::room::{exchange, exchanged, give_back, is_bare, moved_if, put_bare, replaced};
 use std::mem;
 use yaml_parse_core::Waiting;
-use yaml_parse_model::{moved, yaml_event_body_t, yaml_mark_t, yaml_scalar_style_t};
+use yaml_parse_model::{yaml_event_body_t, yaml_mark_t, yaml_scalar_style_t};
 
 // How a scalar may be written with its tag left out, in plain style and in every other one, and its own style.
 #[derive(Clone, Copy)]
@@ -139,7 +139,7 @@ fn other_bare(
     ensures { body_of event.new ≡ node_event None None (item.scalar value.old.items style) }
 {
     if is_bare(event) {
-        put_bare(event, bare_of(moved(value), style));
+        put_bare(event, bare_of(replaced(value, &mut waiting.anchor), style));
     } else {
         bare_over(waiting, value, style, event);
     }

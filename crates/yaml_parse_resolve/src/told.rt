@@ -11,7 +11,7 @@ ghost use Rattle.yaml_parse_core.specs.Views.{told_item};
 ghost use Rattle.yaml_parse_resolve.specs.Settles.{directives_of, Notes, ComesTo};
 
 use crate::resolving::{Directives, Settled, end_document, note_tag, note_version, start_document};
-use crate::room::vacate;
+use crate::room::{is_bare, vacate_full};
 use crate::slots::{end_mapping, end_sequence, put, put_alias};
 use std::alloc::Global;
 use yaml_parse_core::Told;
@@ -112,7 +112,20 @@ fn tell_no_alias(alloc: Global, event: &mut yaml_event_body_t)
 fn tell_sequence_end(token: &mut yaml_token_body_t, event: &mut yaml_event_body_t)
     ensures { body_of event.new ≡ told.sequence_end }
 {
-    vacate(event, token);
+    if is_bare(event) {
+        end_sequence(event);
+    } else {
+        sequence_end_over(token, event);
+    }
+}
+
+// The same, where the slot holds a text.
+// Out of line: so no register is put aside where it holds none.
+#[inline(never)]
+fn sequence_end_over(token: &mut yaml_token_body_t, event: &mut yaml_event_body_t)
+    ensures { body_of event.new ≡ told.sequence_end }
+{
+    vacate_full(event, token);
     end_sequence(event);
 }
 
@@ -122,7 +135,20 @@ fn tell_sequence_end(token: &mut yaml_token_body_t, event: &mut yaml_event_body_
 fn tell_mapping_end(token: &mut yaml_token_body_t, event: &mut yaml_event_body_t)
     ensures { body_of event.new ≡ told.mapping_end }
 {
-    vacate(event, token);
+    if is_bare(event) {
+        end_mapping(event);
+    } else {
+        mapping_end_over(token, event);
+    }
+}
+
+// The same, where the slot holds a text.
+// Out of line: so no register is put aside where it holds none.
+#[inline(never)]
+fn mapping_end_over(token: &mut yaml_token_body_t, event: &mut yaml_event_body_t)
+    ensures { body_of event.new ≡ told.mapping_end }
+{
+    vacate_full(event, token);
     end_mapping(event);
 }
 

@@ -49,6 +49,7 @@ falls_behind gs rest g m k e p d = subst (AreFalling rest) (sym p) (subst (λ (z
 none_before : (gs rest : List Told) (g : Told) → gs ≡ g ∷ rest → gs ≡ [] → rest ≡ []
 none_before gs rest g e p = let bad : [] ≡ g ∷ rest = sym p ∙ e in cc
 
+-- A loader goes on behind an event that its step takes.
 pub keeps_on : (i o n : ParserRemaining) (l m : Loading) (e : Event) → KeepsLoading i o l
     → GivesNext e o n → step e l ≡ goes_on m → KeepsLoading i n m
 keeps_on i o n l m e k h s = record {
@@ -69,6 +70,7 @@ pub keeps_less : (o n : ParserRemaining) (e : Event) → GivesNext e o n
     → length n.events < length o.events
 keeps_less o n e h = shorter o.events (e, n.unasked) n.events h.events
 
+-- A loader whose step ends a document gives it.
 pub loads_document : (i o n : ParserRemaining) (l : Loading) (e : Event) (d : Document)
     → KeepsLoading i o l → GivesNext e o n → step e l ≡ loaded d → LoadGives (loads_of i) d i n
 loads_document i o n l e d k h s =
@@ -90,12 +92,14 @@ all_left : (i o : ParserRemaining) (l : Loading) → KeepsLoading i o l → o.ev
 unfolding left_behind
 all_left i o l k p = sym (ap (λ (gs : List Told). left_behind gs o.unasked) p) ∙ k.left
 
+-- At the stream's end a loader gives the document without root.
 pub loads_nothing : (i o n : ParserRemaining) (l : Loading) (d : Document) → KeepsLoading i o l
     → GivesEnd o n → d ≡ no_document → LoadGives (loads_of i) d i n
 loads_nothing i o n l d k h e =
     subst (λ (r : Loads). LoadGives r d i n) (sym (all_fed i o l None k h.events h.ending))
     (e, record { finished = h.nothing.finished; unasked = h.nothing.unasked ∙ all_left i o l k h.events; answered = h.nothing.answered ∙ k.answered })
 
+-- A loader hands a fault of the parser on as its own.
 pub load_faulty : (i o n : ParserRemaining) (l : Loading) (f : Fault) → KeepsLoading i o l
     → FaultOf o f n → LoadRefuses f i n
 load_faulty i o n l f k h = record {
@@ -105,6 +109,7 @@ load_faulty i o n l f k h = record {
   unasked = elim h.reason [ inl m ↦ inl (inr m) | inr q ↦ elim h.unasked [ inl m ↦ inl (inr m) | inr u ↦ inr (u ∙ sym (all_unasked i o l k q.0)) ] ];
 }
 
+-- A loader that refuses an event, or finds no memory, refuses the load.
 pub load_refused : (i o n n' : ParserRemaining) (l : Loading) (e : Event) (f : Fault)
     → KeepsLoading i o l → GivesNext e o n
     → (f ≡ memory_fault Loader) ⊎ (step e l ≡ refused f) → IsFinished n' → n'.answered ≡ f
@@ -118,6 +123,7 @@ load_refused i o n n' l e f k h r p q u = record {
 
 -- ---- what a refusal has to come, and has asked for
 
+-- Where a loader still has something to come it had from the start.
 pub load_more : (i o : ParserRemaining) (l : Loading) → KeepsLoading i o l
     → HasMore o.events o.ending → HasMore i.events i.ending
 load_more i o l k h = has_more i.events i.ending (λ p q. nothing_more o.events o.ending (k.none p) (k.ending ∙ q) h)
@@ -153,6 +159,7 @@ unasked_first i o l k h =
     ∙ ap (λ (u : ℕ). unasked_by (loads_of i) (unasked_of i) u) k.left in
     subst (λ (x : ℕ). x ≤ next_unasked o.events o.ending_unasked) same (unasked_next o.events o.ending o.ending_unasked o.unasked l h k.falls)
 
+-- A loader that met a fault asked for at least the tokens of its answer.
 pub load_asked : (i o n : ParserRemaining) (l : Loading) (f : Fault) → KeepsLoading i o l
     → FaultOf o f n → IsMemoryFault scan_layers f ⊎ (answer_unasked i ≤ n.unasked)
 load_asked i o n l f k h = elim h.asked [ inl m ↦ inl m | inr a ↦ let b = unasked_first i o l k h.more in inr (omega (arith, a, b)) ]
@@ -164,10 +171,12 @@ more_of gs rest g f e = rw e tt
 next_of : (gs rest : List Told) (g : Told) (m : ℕ) → gs ≡ g ∷ rest → next_unasked gs m ≡ g.1
 next_of gs rest g m e = rw e refl
 
+-- Where a loader gets an event, something was to come from the start.
 pub fed_more : (i o n : ParserRemaining) (l : Loading) (e : Event) → KeepsLoading i o l
     → GivesNext e o n → HasMore i.events i.ending
 fed_more i o n l e k h = load_more i o l k (more_of o.events n.events (e, n.unasked) o.ending h.events)
 
+-- A loader that met an event asked for at least the tokens of its answer.
 pub fed_asked : (i o n n' : ParserRemaining) (l : Loading) (e : Event) (f : Fault)
     → KeepsLoading i o l → GivesNext e o n → n'.unasked ≡ n.unasked
     → IsMemoryFault scan_layers f ⊎ (answer_unasked i ≤ n'.unasked)

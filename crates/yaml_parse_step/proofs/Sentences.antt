@@ -19,10 +19,12 @@ use Rattle.yaml_parse_laws_trees.specs.Given.{IsLongest, GivesLeast, EventsOfTok
 use Rattle.yaml_parse_laws_trees.proofs.Giving.{run_gives_events, run_gives_least, events_are_run}
 use Rattle.yaml_parse_step.specs.Fronts.{BeginsTree}
 
+-- What ends the reading of tokens is their fault, looked at from the sentences.
 pub fault_of_tokens : (ts : List Token) (f ending : Option Fault)
     → ending ≡ (reading_of (run ts initial f) no_directives).ending → FaultOfTokens ts f ending
 fault_of_tokens ts f ending e = subst (FaultOfTokens ts f) (sym e) (ends_in_fault ts f)
 
+-- A fault is told once the tokens up to it were asked for, and none behind.
 pub told_with : (ts : List Token) (f ending : Option Fault) (e : Fault) (unasked : ℕ)
     → ending ≡ (reading_of (run ts initial f) no_directives).ending
     → unasked ≡ unasked_of ts f initial no_directives
@@ -65,6 +67,7 @@ pub few_events : (ts : List Token) (f : Option Fault) (events : List Told)
     → AtMostFourSoFar 0 (length ts) events
 few_events ts f events e = subst (AtMostFourSoFar 0 (length ts)) (sym e) (few_so_far ts f no_directives)
 
+-- The events of the reading are those of the tokens' sentence.
 pub tokens_events : (ts : List Token) (f : Option Fault) (events : List Told)
     → events ≡ (reading_of (run ts initial f) no_directives).events → EventsOfTokens ts f events
 tokens_events ts f events e = subst (EventsOfTokens ts f) (sym e) (run_gives_events ts f)

@@ -105,6 +105,7 @@ empty_reading : (ts : List Token) (f : Option Fault) (s : List State) (ds : Dire
     → reading_of (run ts s f) ds ≡ record { events = []; ending = None }
 empty_reading ts f s ds e = ap (λ (z : List State). reading_of (run ts z f) ds) e ∙ ap (λ (o : Outcome). reading_of o ds) (nothing_runs ts f) ∙ reading_nothing None ds
 
+-- A parser without states is at its end.
 pub finishes : (peeked : Option Token) (ts : List Token) (f : Option Fault) (s : List State)
     (ds : Directives) (answered : Fault) → s ≡ []
     → IsFinished (parser_remaining peeked ts f s ds answered)
@@ -230,6 +231,7 @@ done_turn old new ds answered h = record {
 
 -- ---- the beginning
 
+-- A stream's tokens read from the start are what its tree gives.
 pub starts : (ts : List Token) (f : Option Fault) (s : List State) (ds : Directives) (t : Stream)
     (rest : List Token) → s ≡ initial → ds ≡ no_directives → ts ≡ spell t rest
     → ((reading_of (run ts s f) ds).events
@@ -245,6 +247,7 @@ starts ts f s ds t rest e d h =
     let r : reading_of (run ts s f) ds ≡ reading (given_of t (length rest)) None no_directives = ap (reading_of (run ts s f)) d ∙ ap (λ (o : Outcome). reading_of o no_directives) o
     in (ap (λ (x : Reading). x.events) r, ap (λ (x : Reading). x.ending) r)
 
+-- Tokens read from the start are read as a parser's that has begun.
 pub starts_anywhere : (ts : List Token) (f : Option Fault) (s : List State) (ds : Directives)
     → s ≡ initial → ds ≡ no_directives
     → ((reading_of (run ts s f) ds).events ≡ (reading_of (run ts initial f) no_directives).events)
@@ -254,6 +257,7 @@ starts_anywhere ts f s ds e d =
     ap (λ (z : List State). reading_of (run ts z f) ds) e ∙ ap (reading_of (run ts initial f)) d
     in (ap (λ (x : Reading). x.events) r, ap (λ (x : Reading). x.ending) r)
 
+-- How many tokens are left unasked is counted from the start.
 pub starts_unasked : (ts : List Token) (f : Option Fault) (s : List State) (ds : Directives)
     → s ≡ initial → ds ≡ no_directives
     → unasked_of ts f s ds ≡ unasked_of ts f initial no_directives
@@ -261,6 +265,7 @@ starts_unasked ts f s ds e d = ap (λ (z : List State). unasked_of ts f z ds) e 
 
 -- ---- the token that is held
 
+-- At most one token is held.
 pub one_held : (o : Option Token) → held_of o ≤ 1
 one_held None = omega arith
 one_held (Some t) = omega arith

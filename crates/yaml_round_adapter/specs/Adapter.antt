@@ -1,11 +1,16 @@
 -- What an adapter's steps answer.
 use Rattle.std.specs.Prelude.{◌≡◌, ◌⊎◌, Bool, true, false}
-use Rattle.yaml_scan.specs.Tokens.{Token}
+use Rattle.yaml_scan.specs.Tokens.{Token, TokenBody}
+use Rattle.yaml_scan.specs.Tokens as token
 use Rattle.yaml_scan.specs.Faults.{Fault}
 use Rattle.yaml_scan.specs.scan_history.Remaining.{Remaining}
 use Rattle.yaml_scan.specs.Left.{IsTold}
 use Rattle.yaml_scan.specs.Session.{View, HasMore, Takes, first_of}
 use Rattle.yaml_round_adapter.specs.Adapted.{spells_text, tag_fault}
+
+abbrev pub is_tag : TokenBody → Bool
+is_tag (token.tag handle suffix) = true
+is_tag b = false
 
 -- whether a token's tag is UTF-8; where it isn't, the fault of the tag
 abbrev pub Checks : Token → Bool → Fault → Type 0

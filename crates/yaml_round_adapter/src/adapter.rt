@@ -5,7 +5,7 @@ ghost use Rattle.yaml_scan.specs.Tokens.{token_of, no_token};
 ghost use Rattle.yaml_scan.specs.Faults.{fault_of};
 ghost use Rattle.yaml_scan.specs.Scanned.{scanned};
 ghost use Rattle.yaml_round_adapter.specs.Adapted.{adapted, spells_text};
-ghost use Rattle.yaml_round_adapter.specs.Adapter.{Checks, Adapts};
+ghost use Rattle.yaml_round_adapter.specs.Adapter.{Checks, Adapts, is_tag};
 
 use crate::refusal::{has_plain_suffix, yaml_tag_fault, yaml_token_spells_text};
 use std::alloc::Global;
@@ -62,14 +62,39 @@ fn checked(token: &yaml_token_t, fault: &mut yaml_fault_t) -> bool
 }
 
 // Whether a token has a tag's suffix, or a directive's prefix.
-// Inlined: a look at the kind.
+// Each of the two kinds is asked for by itself: a match on both would be told by ranges of kinds, a scalar's last.
+// Inlined: two comparisons.
 #[inline(always)]
 fn has_tag(token: &yaml_token_t) -> bool
     ensures { result ≡ false → spells_text (token_of token.now).body ≡ true }
 {
+    if is_tag(token) {
+        return true;
+    }
+    is_tag_directive(token)
+}
+
+// Whether a token is a tag.
+// Inlined: a look at the kind.
+#[inline(always)]
+fn is_tag(token: &yaml_token_t) -> bool
+    ensures { result ≡ is_tag (token_of token.now).body }
+{
+    match token.body {
+        yaml_token_body_t::Tag { .. } => true,
+        _ => false,
+    }
+}
+
+// Whether a token that is no tag is a directive's.
+// Inlined: a look at the kind.
+#[inline(always)]
+fn is_tag_directive(token: &yaml_token_t) -> bool
+    ensures { result ≡ false → is_tag (token_of token.now).body ≡ false
+        → spells_text (token_of token.now).body ≡ true }
+{
     match token.body {
         yaml_token_body_t::TagDirective { .. } => true,
-        yaml_token_body_t::Tag { .. } => true,
         _ => false,
     }
 }

@@ -76,6 +76,7 @@ pub listed_told : (n from : ℤ) (input : List ℕ) (a : yaml_c_answer) → n �
     → AnswersMeant (encoding_meant from) (Lists input) a
 listed_told n from input a p h = subst (λ z. AnswersMeant (encoding_meant z) (Lists input) a) p h
 
+-- The answer -1 of a listing comes exactly where a number means nothing.
 pub listed_exact : (n from k : ℤ) (input : List ℕ) (a : yaml_c_answer) → n ≡ from → k ≡ a.kind
     → AnswersMeant (encoding_meant n) (Lists input) a
     → IsExact (encoding_meant from) k
@@ -83,6 +84,7 @@ listed_exact n from k input a p q h =
     subst (λ z. IsExact (encoding_meant from) z) (sym q)
     (exact (encoding_meant from) (Lists input) a (λ m l. tells_kind l.result a l.told) (listed_told n from input a p h))
 
+-- What is answered to a comparison is so of the caller's own numbers.
 pub compared_told : (m n first_from second_from : ℤ) (first second : List ℕ) (a : yaml_c_answer)
     → m ≡ first_from → n ≡ second_from
     → AnswersMeant (both (encoding_meant m) (encoding_meant n)) (Compares first second) a
@@ -92,6 +94,7 @@ compared_told m n first_from second_from first second a p q h =
     subst (λ z. AnswersMeant (both (encoding_meant first_from) (encoding_meant z)) (Compares first second) a) q
     (subst (λ z. AnswersMeant (both (encoding_meant z) (encoding_meant n)) (Compares first second) a) p h)
 
+-- The answer -1 of a comparison comes exactly where a number means nothing.
 pub compared_exact : (m n first_from second_from k : ℤ) (first second : List ℕ) (a : yaml_c_answer)
     → m ≡ first_from → n ≡ second_from
     → k ≡ a.kind
@@ -102,12 +105,14 @@ compared_exact m n first_from second_from k first second a p q r h =
     (exact (both (encoding_meant first_from) (encoding_meant second_from)) (Compares first second) a (λ x l. same_kind l.result a l.told)
     (compared_told m n first_from second_from first second a p q h))
 
+-- What is answered to a reformatting is so of the caller's own numbers.
 pub reformatted_told : (n from : ℤ) (given : yaml_c_settings) (input : List ℕ) (a : yaml_c_answer)
     → n ≡ from
     → AnswersMeant (call_meant n given) (Reformats input) a
     → AnswersMeant (call_meant from given) (Reformats input) a
 reformatted_told n from given input a p h = subst (λ z. AnswersMeant (call_meant z given) (Reformats input) a) p h
 
+-- The answer -1 of a reformatting comes exactly where a number means nothing.
 pub reformatted_exact : (n from k : ℤ) (given : yaml_c_settings) (input : List ℕ)
     (a : yaml_c_answer) → n ≡ from → k ≡ a.kind
     → AnswersMeant (call_meant n given) (Reformats input) a → IsExact (call_meant from given) k
@@ -115,12 +120,14 @@ reformatted_exact n from k given input a p q h =
     subst (λ z. IsExact (call_meant from given) z) (sym q)
     (exact (call_meant from given) (Reformats input) a (λ m l. form_kind l.result a l.told) (reformatted_told n from given input a p h))
 
+-- What is answered to a reloading is so of the caller's own numbers.
 pub reloaded_told : (n from : ℤ) (given : yaml_c_settings) (input : List ℕ) (a : yaml_c_answer)
     → n ≡ from
     → AnswersMeant (call_meant n given) (Reloads input) a
     → AnswersMeant (call_meant from given) (Reloads input) a
 reloaded_told n from given input a p h = subst (λ z. AnswersMeant (call_meant z given) (Reloads input) a) p h
 
+-- The answer -1 of a reloading comes exactly where a number means nothing.
 pub reloaded_exact : (n from k : ℤ) (given : yaml_c_settings) (input : List ℕ) (a : yaml_c_answer)
     → n ≡ from → k ≡ a.kind
     → AnswersMeant (call_meant n given) (Reloads input) a → IsExact (call_meant from given) k
@@ -128,12 +135,14 @@ reloaded_exact n from k given input a p q h =
     subst (λ z. IsExact (call_meant from given) z) (sym q)
     (exact (call_meant from given) (Reloads input) a (λ m l. tells_kind l.result a l.told) (reloaded_told n from given input a p h))
 
+-- What is answered to a parse is so of the caller's own numbers.
 pub parsed_told : (n from : ℤ) (input : List ℕ) (blocks : yaml_c_parsed) (a : yaml_c_answer)
     → n ≡ from
     → AnswersMeant (encoding_meant n) (Parses input blocks) a
     → AnswersMeant (encoding_meant from) (Parses input blocks) a
 parsed_told n from input blocks a p h = subst (λ z. AnswersMeant (encoding_meant z) (Parses input blocks) a) p h
 
+-- The answer -1 of a parse comes exactly where a number means nothing.
 pub parsed_exact : (n from k : ℤ) (input : List ℕ) (blocks : yaml_c_parsed) (a : yaml_c_answer)
     → n ≡ from → k ≡ a.kind
     → AnswersMeant (encoding_meant n) (Parses input blocks) a → IsExact (encoding_meant from) k
@@ -141,6 +150,7 @@ parsed_exact n from k input blocks a p q h =
     subst (λ z. IsExact (encoding_meant from) z) (sym q)
     (exact (encoding_meant from) (Parses input blocks) a (λ m l. events_kind blocks l.result a l.told) (parsed_told n from input blocks a p h))
 
+-- The answer -1 of an emission comes exactly where a number means nothing.
 pub emitted_exact : (meant : Option (List EventBody × (RequestedSettings × ℕ))) (k : ℤ)
     (a : yaml_c_answer) → k ≡ a.kind
     → AnswersMeant meant Emits a → IsExact meant k
@@ -154,16 +164,19 @@ front_kind : (m : yaml_encoding_t) (input : List ℕ) (blocks : yaml_c_parsed)
 front_kind m input blocks (Ok es) a h = text_kind [] (pos 0) a h.0
 front_kind m input blocks (Err f) a h = fault_kind f (pos 0) a h.0
 
+-- What is answered to events in front of a fault is so of the caller's own numbers.
 pub front_told : (n from : ℤ) (input : List ℕ) (blocks : yaml_c_parsed) (a : yaml_c_answer)
     → n ≡ from
     → AnswersMeant (encoding_meant n) (Fronts input blocks) a
     → AnswersMeant (encoding_meant from) (Fronts input blocks) a
 front_told n from input blocks a p h = subst (λ z. AnswersMeant (encoding_meant z) (Fronts input blocks) a) p h
 
+-- Where a number means nothing, nothing of events in front of a fault is handed out.
 pub front_none : (n from : ℤ) (blocks : yaml_c_parsed) → n ≡ from
     → NothingUnmeant (encoding_meant n) blocks → NothingUnmeant (encoding_meant from) blocks
 front_none n from blocks p h = subst (λ z. NothingUnmeant (encoding_meant z) blocks) p h
 
+-- The answer -1 of events in front of a fault comes exactly where a number means nothing.
 pub front_exact : (n from k : ℤ) (input : List ℕ) (blocks : yaml_c_parsed) (a : yaml_c_answer)
     → n ≡ from → k ≡ a.kind
     → AnswersMeant (encoding_meant n) (Fronts input blocks) a → IsExact (encoding_meant from) k
@@ -180,16 +193,19 @@ scan_kind : (input : List ℕ) (blocks : yaml_c_scanned) (m : yaml_encoding_t) (
 scan_kind input blocks m a (inl h) = fault_kind h.fault (pos 0) a h.told
 scan_kind input blocks m a (inr h) = end_kind _ a h.0
 
+-- What is answered to a scan is so of the caller's own numbers.
 pub scanned_told : (n from : ℤ) (input : List ℕ) (blocks : yaml_c_scanned) (a : yaml_c_answer)
     → n ≡ from
     → AnswersMeant (encoding_meant n) (Scans input blocks) a
     → AnswersMeant (encoding_meant from) (Scans input blocks) a
 scanned_told n from input blocks a p h = subst (λ z. AnswersMeant (encoding_meant z) (Scans input blocks) a) p h
 
+-- Where a number means nothing, nothing of a scan is handed out.
 pub scanned_none : (n from : ℤ) (blocks : yaml_c_scanned) → n ≡ from
     → NoTokenUnmeant (encoding_meant n) blocks → NoTokenUnmeant (encoding_meant from) blocks
 scanned_none n from blocks p h = subst (λ z. NoTokenUnmeant (encoding_meant z) blocks) p h
 
+-- The answer -1 of a scan comes exactly where a number means nothing.
 pub scanned_exact : (n from k : ℤ) (input : List ℕ) (blocks : yaml_c_scanned) (a : yaml_c_answer)
     → n ≡ from → k ≡ a.kind
     → AnswersMeant (encoding_meant n) (Scans input blocks) a → IsExact (encoding_meant from) k
@@ -197,11 +213,13 @@ scanned_exact n from k input blocks a p q h =
     subst (λ z. IsExact (encoding_meant from) z) (sym q)
     (exact (encoding_meant from) (Scans input blocks) a (λ m l. scan_kind input blocks m a l) (scanned_told n from input blocks a p h))
 
+-- What is answered to a decoding is so of the caller's own numbers.
 pub decoded_told : (n from : ℤ) (input : List ℕ) (a : yaml_c_answer) → n ≡ from
     → AnswersMeant (encoding_meant n) (Decodes input) a
     → AnswersMeant (encoding_meant from) (Decodes input) a
 decoded_told n from input a p h = subst (λ z. AnswersMeant (encoding_meant z) (Decodes input) a) p h
 
+-- The answer -1 of a decoding comes exactly where a number means nothing.
 pub decoded_exact : (n from k : ℤ) (input : List ℕ) (a : yaml_c_answer) → n ≡ from → k ≡ a.kind
     → AnswersMeant (encoding_meant n) (Decodes input) a
     → IsExact (encoding_meant from) k

@@ -8,12 +8,14 @@ use Rattle.yaml_round_answers.specs.Told.{AnswersMeant, IsExact, call_meant}
 use Rattle.yaml_round_answers.specs.Normalizes.{Normalizes, Checks, TellsDone}
 use Rattle.yaml_round_answers.proofs.Exact.{exact, tells_kind, text_kind, fault_kind}
 
+-- What is answered to a normal form is so of the caller's own numbers.
 pub normalized_told : (n from : ℤ) (given : yaml_c_settings) (input : List ℕ) (a : yaml_c_answer)
     → n ≡ from
     → AnswersMeant (call_meant n given) (Normalizes input) a
     → AnswersMeant (call_meant from given) (Normalizes input) a
 normalized_told n from given input a p h = subst (λ z. AnswersMeant (call_meant z given) (Normalizes input) a) p h
 
+-- The answer -1 of a normal form comes exactly where a number means nothing.
 pub normalized_exact : (n from k : ℤ) (given : yaml_c_settings) (input : List ℕ) (a : yaml_c_answer)
     → n ≡ from → k ≡ a.kind
     → AnswersMeant (call_meant n given) (Normalizes input) a → IsExact (call_meant from given) k
@@ -26,11 +28,13 @@ done_kind : (r : Result (Unit {0}) Fault) (a : yaml_c_answer) → TellsDone r a
 done_kind (Ok done) a h = text_kind _ (pos 0) a h
 done_kind (Err f) a h = fault_kind f (pos 0) a h
 
+-- What is answered to a check is so of the caller's own numbers.
 pub checked_told : (n from : ℤ) (input : List ℕ) (a : yaml_c_answer) → n ≡ from
     → AnswersMeant (encoding_meant n) (Checks input) a
     → AnswersMeant (encoding_meant from) (Checks input) a
 checked_told n from input a p h = subst (λ z. AnswersMeant (encoding_meant z) (Checks input) a) p h
 
+-- The answer -1 of a check comes exactly where a number means nothing.
 pub checked_exact : (n from k : ℤ) (input : List ℕ) (a : yaml_c_answer) → n ≡ from → k ≡ a.kind
     → AnswersMeant (encoding_meant n) (Checks input) a
     → IsExact (encoding_meant from) k

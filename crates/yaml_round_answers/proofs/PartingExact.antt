@@ -56,6 +56,7 @@ exact_as m n first_from second_from k Is p t e f g h =
 
 -- ---- contents
 
+-- What is answered to a comparison by parting is so of the caller's own numbers.
 pub parted_told : (m n first_from second_from : ℤ) (first second : List ℕ) (p : yaml_c_parting)
     → m ≡ first_from → n ≡ second_from
     → PartingMeant (both (encoding_meant m) (encoding_meant n)) (Parts first second) p
@@ -63,6 +64,7 @@ pub parted_told : (m n first_from second_from : ℤ) (first second : List ℕ) (
     (Parts first second) p
 parted_told m n first_from second_from first second p e f h = told_as m n first_from second_from (Parts first second) p e f h
 
+-- The answer -1 of a comparison by parting comes exactly where a number means nothing.
 pub parted_exact : (m n first_from second_from k : ℤ) (first second : List ℕ) (p : yaml_c_parting)
     → m ≡ first_from → n ≡ second_from → k ≡ p.answer.kind
     → PartingMeant (both (encoding_meant m) (encoding_meant n)) (Parts first second) p
@@ -72,6 +74,7 @@ parted_exact m n first_from second_from k first second p e f g h =
 
 -- ---- documents
 
+-- What is answered to a comparison of documents is so of the caller's own numbers.
 pub documents_told : (m n first_from second_from : ℤ) (first second : List ℕ) (p : yaml_c_parting)
     → m ≡ first_from → n ≡ second_from
     → PartingMeant (both (encoding_meant m) (encoding_meant n)) (PartsDocuments first second) p
@@ -79,6 +82,7 @@ pub documents_told : (m n first_from second_from : ℤ) (first second : List ℕ
     (PartsDocuments first second) p
 documents_told m n first_from second_from first second p e f h = told_as m n first_from second_from (PartsDocuments first second) p e f h
 
+-- The answer -1 of a comparison of documents comes exactly where a number means nothing.
 pub documents_exact : (m n first_from second_from k : ℤ) (first second : List ℕ)
     (p : yaml_c_parting) → m ≡ first_from → n ≡ second_from → k ≡ p.answer.kind
     → PartingMeant (both (encoding_meant m) (encoding_meant n)) (PartsDocuments first second) p

@@ -39,6 +39,7 @@ behind_start x (sequence_end ∷ es) = refl
 behind_start x (mapping_start q ∷ es) = refl
 behind_start x (mapping_end ∷ es) = refl
 
+-- Whether nothing is written at the beginning, told by events one after another, is what the content's first events say.
 pub from_start : (es : List Event) → nothing_comes known.Start es ≡ begins_with_nothing es
 from_start [] = refl
 from_start (stream_start x ∷ es) = behind_start x es

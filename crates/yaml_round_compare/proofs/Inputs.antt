@@ -35,6 +35,7 @@ use Rattle.yaml_round_compare.proofs.Placing.{placed}
 abbrev HasLoaded : yaml_encoding_t → List ℕ → Type 0
 HasLoaded from input = (loads_of from input).fault ≡ None
 
+-- An input that was loaded is one that loads.
 pub loads : (from : yaml_encoding_t) (input : List ℕ) → HasLoaded from input → IsLoadable from input
 loads from input h = ((loads_of from input).documents, faultless_load from input h)
 
@@ -69,6 +70,7 @@ same_trees : (ds es : List Document) → documents_left ds ≡ documents_left es
     → trees_of_dumps ds ≡ trees_of_dumps es
 same_trees ds es e = says_injective (trees_of_dumps ds) (trees_of_dumps es) (ap (λ (x : List EventBody). event.stream_start YAML_ANY_ENCODING ∷ x) e)
 
+-- Inputs whose loads agree are documents that agree.
 pub all_agree : (a_from : yaml_encoding_t) (a : List ℕ) (b_from : yaml_encoding_t) (b : List ℕ)
     (ds es : List Document)
     → (trees_of_dumps (loads_of a_from a).documents ≡ trees_of_dumps (loads_of b_from b).documents
@@ -117,6 +119,7 @@ counted : (m n : ℕ) (before : List EventBody) → n ≡ 1 → m ≡ n + length
     → m ≡ length (event.stream_start YAML_ANY_ENCODING ∷ before)
 counted m n before p q = omega (arith, p, q)
 
+-- Inputs whose loads part are told where these part.
 pub all_part : (a_from : yaml_encoding_t) (a : List ℕ) (b_from : yaml_encoding_t) (b : List ℕ)
     (ds es : List Document) (old new : Front) (d : yaml_difference_t)
     → HasLoaded a_from a → HasLoaded b_from b

@@ -81,6 +81,7 @@ same_visits xs ys e seen ids after (first s b a more n at v w) =
     let x = beside ys xs s n e at in
     first s b a more x.other x.at (subst (λ (js : List ℤ). VisitsInPreorder xs (suc s) js b) (same_children n x.other x.same) (same_visits xs ys e (suc s) (children n.body) b v)) (same_visits xs ys e b more a w)
 
+-- What is kept of a document decides whether it is a loaded one.
 pub document_loaded : (d e : documents.Document) → core_of d ≡ core_of e → IsLoadedDocument e
     → IsLoadedDocument d
 document_loaded d e same l =
@@ -123,6 +124,7 @@ agree_again : (ds : List documents.Document) → map core_of (map loaded_again d
 agree_again [] = refl
 agree_again (d ∷ ds) = λ i. (let c : Core = record { version = d.version; directives = d.directives; nodes = nodes_again d.nodes i } in c) ∷ agree_again ds i
 
+-- Dumps load back as their documents, by these four laws.
 pub dumps_loaded : ContentIsSaid → ContentIsLoaded → DumpsAreNumberedBack → LoadsOfContent
     → DumpsLoadBack
 dumps_loaded said numbered back alike ds l small w es h =

@@ -61,6 +61,7 @@ said_step event.sequence_end l = refl
 said_step (event.mapping_start anchor tag implicit style) l = refl
 said_step event.mapping_end l = refl
 
+-- Steps that go on alike load alike.
 pub on_same : (x : CoreFed) (f g : CoreLoading → CoreLoads) → ((l : CoreLoading) → f l ≡ g l)
     → core_on x f ≡ core_on x g
 on_same (core_goes_on l) f g h = h l

@@ -44,8 +44,10 @@ are_flagged from input = told_flagged (events_of from input) (input_right from i
 
 -- ---- layouts
 
+-- An input's layout is its content's.
 pub layout_of_input : LayoutIsOfContent → LayoutIsOfInputsContent
 layout_of_input layouts w right from input c has x whole is = layouts w right (events_of from input) (are_flagged from input) c has.says x whole is
 
+-- An input's content is laid out, since each content is.
 pub input_laid_out : ContentIsLaidOut → InputsContentIsLaidOut
 input_laid_out laid w right from input c has = laid w right from input (are_flagged from input) c has

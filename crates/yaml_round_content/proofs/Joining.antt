@@ -53,6 +53,7 @@ same_error o e f p q = cc
 
 -- ---- inputs
 
+-- The reading of an input is that of its tokens.
 pub read_is : (from : yaml_encoding_t) (input : List ℕ)
     → read from input ≡ reads (tokens_of from input).tokens (tokens_of from input).fault
 unfolding read

@@ -70,6 +70,7 @@ each_told loads [] = refl
 each_told loads (d ∷ ds) =
     by_number (document_of (loader_content d)) (content_events (d ∷ ds)) (content_events ds) nothing_loaded (load_each ds) (loads (loader_content d) (content_events ds) nothing_loaded) (each_told loads ds)
 
+-- A content is loaded, since streams of documents are.
 pub content_loaded : LoadsDocuments → ContentIsLoaded
 unfolding load_all
 content_loaded loads c = each_told loads c
@@ -86,6 +87,7 @@ number_loaded : (r : Result documents.Document Fault) (rest : Loads) → IfOk r 
 number_loaded (Ok d) rest h k = front_loaded d.nodes d rest h k
 number_loaded (Err f) rest h k = tt
 
+-- A content of documents is loaded, since they are.
 pub documents_loaded : DocumentsAreLoaded → ContentLoadsDocuments
 documents_loaded are [] = tt
 documents_loaded are (d ∷ ds) = number_loaded (document_of (loader_content d)) (load_each ds) (are (loader_content d)) (documents_loaded are ds)

@@ -137,6 +137,7 @@ run_spelled [] (x ∷ s) (Some e) a h = tt
 run_spelled [] s None a h = carried_spelled 0 (feed s no_token) (λ _. finished) (feed_spelled s no_token tt h) (λ s' h'. tt)
 run_spelled (t ∷ ts) s f a h = carried_spelled (length ts) (feed s t) (λ s'. run ts s' f) (feed_spelled s t a.0 h) (λ s' h'. run_spelled ts s' f a.1 h')
 
+-- Events of spelled tokens are spelled.
 pub stream_spelled : (ts : List Token) (f : Option Fault) → AreSpelled ts
     → GivenSpelled (run ts initial f).items
 stream_spelled ts f a = run_spelled ts initial f a (tt, tt)

@@ -20,6 +20,7 @@ abbrev pub AllFit : List ℕ → Type 0
 AllFit [] = Unit {0}
 AllFit (c ∷ cs) = Fits c × AllFit cs
 
+-- Characters that fit pass the reader.
 pub all_pass : (cs : List ℕ) → AllFit cs → AllPass is_allowed cs
 all_pass [] h = All-nil (λ x. is_allowed x ≡ true)
 all_pass (c ∷ cs) (h, hs) = All-cons (λ x. is_allowed x ≡ true) c cs h (all_pass cs hs)
@@ -33,6 +34,7 @@ pub graphic : (c : ℕ) → 32 ≤ c → c ≤ 126 → Fits c
 unfolding is_allowed
 graphic c low high = grind (arith, nat_tests)
 
+-- A space fits.
 pub is_32 : Fits 32
 is_32 = graphic 32 (omega arith) (omega arith)
 
@@ -79,6 +81,7 @@ list_one b bs e =
       | inr t ↦ let bad = rw t at e in absurd (cc)
     ]
 
+-- Letters and digits of a name fit.
 pub names_fit : (name : List ℕ) → list_all is_alpha_byte name ≡ true → AllFit name
 names_fit [] e = tt
 names_fit (b ∷ bs) e = let (h, hs) = list_one b bs e in (name_fits b h, names_fit bs hs)

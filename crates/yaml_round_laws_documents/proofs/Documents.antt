@@ -37,6 +37,7 @@ turn_says : (s : Settled) (b : EventBody) (D : Directives) (i : item.RawEvent) (
     (k : Directives → Reading) → s ≡ gave b D → Says (λ es. b ∷ es) (read_on s i n k) (k D)
 turn_says s b D i n k e = let P : Settled → Type 0 = λ x. Says (λ es. b ∷ es) (read_on x i n k) (k D) in subst P (sym e) (record { events = refl; ending = refl })
 
+-- An item that settles is the reading's next event.
 pub item_says : (g : Given) (gs : List Given) (f : Option Fault) (D E : Directives) (b : EventBody)
     → settle g.0 D ≡ gave b E → Says (λ es. b ∷ es) (reading (g ∷ gs) f D) (reading gs f E)
 unfolding reading
@@ -116,6 +117,7 @@ abbrev pub no_spans : List Span → Bool
 no_spans [] = true
 no_spans (s ∷ ss) = false
 
+-- Behind `...` the reading goes on without directives.
 pub ends_say : (ends : List Span) (more : List Token) (gs : List Given) (f : Option Fault)
     (D : Directives)
     → Says (λ es. event.document_end (no_spans ends) ∷ es) (reading (items_ends ends more gs) f D)

@@ -45,6 +45,7 @@ head_is x y xs ys e = cc
 pub tail_is : (x y : TokenBody) (xs ys : List TokenBody) → x ∷ xs ≡ y ∷ ys → xs ≡ ys
 tail_is x y xs ys e = cc
 
+-- A list of tokens whose bodies begin so begins with such a token.
 pub take : (ts : List Token) (b : TokenBody) (bs : List TokenBody) → token_bodies ts ≡ b ∷ bs
     → Taken ts b bs
 take [] b bs e = absurd (cc)
@@ -57,6 +58,7 @@ take (t ∷ ts) b bs e =
 same_says : (r : Reading) → Says (λ es. es) r r
 same_says r = record { events = refl; ending = refl }
 
+-- What two readings have in front is put together.
 pub both_say : (R Q : List EventBody → List EventBody) (r q p : Reading) → Says R r q → Says Q q p
     → Says (λ es. R (Q es)) r p
 both_say R Q r q p a b = record { events = a.events ∙ ap (λ (es : List EventBody). R es) b.events; ending = a.ending ∙ b.ending }
@@ -65,6 +67,7 @@ pub on_says : (s : Settled) (b : EventBody) (D : Directives) (i : RawEvent) (n :
     (k : Directives → Reading) → s ≡ gave b D → Says (λ es. b ∷ es) (read_on s i n k) (k D)
 on_says s b D i n k e = let P : Settled → Type 0 = λ x. Says (λ es. b ∷ es) (read_on x i n k) (k D) in subst P (sym e) (record { events = refl; ending = refl })
 
+-- An item that settles and leaves the directives is the reading's next event.
 pub step_says : (g : Given) (gs : List Given) (f : Option Fault) (D : Directives) (b : EventBody)
     → settle g.0 D ≡ gave b D → Says (λ es. b ∷ es) (reading (g ∷ gs) f D) (reading gs f D)
 unfolding reading

@@ -102,6 +102,7 @@ trees_ended : (ds : List Document) → trees_of_dumps (ended ds) ≡ trees_of_du
 trees_ended [] = refl
 trees_ended (d ∷ ds) = ap (λ (ts : List content.Document). document_tree (graph_content d) ∷ ts) (trees_ended ds)
 
+-- Documents that are right are so with their ends said.
 pub ended_right : (ds : List Document) → AreRight ds → AreRight (ended ds)
 ended_right [] h = tt
 ended_right (d ∷ ds) h = (record { tags = h.0.tags; opening = h.0.opening }, ended_right ds h.1)

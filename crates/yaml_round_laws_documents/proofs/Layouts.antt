@@ -15,24 +15,30 @@ Allowed t = AllFit (shown t)
 abbrev pub Tame : Layout → Type 0
 Tame a = (c : Cursor) (rest : Rest) → ((d : Cursor) → Allowed (rest d)) → Allowed (a c rest)
 
+-- Nothing is allowed.
 pub nothing_allowed : Allowed []
 unfolding shown
 nothing_allowed = tt
 
+-- A letter that fits in front of what is allowed is allowed.
 pub letter_allowed : (x : ℕ) (t : List Item) → Fits x → Allowed t → Allowed (letter x ∷ t)
 unfolding shown
 letter_allowed x t f h = (f, h)
 
+-- The note that a line is too deep is allowed.
 pub deep_allowed : (t : List Item) → Allowed t → Allowed (deep ∷ t)
 unfolding shown
 deep_allowed t h = h
 
+-- Two tame layouts are tame one behind another.
 pub both : (a b : Layout) → Tame a → Tame b → Tame (a ▹ b)
 both a b ta tb c rest h = ta c (λ d. b d rest) (λ d. tb d rest h)
 
+-- To stay is tame.
 pub stay_tame : Tame stay
 stay_tame c rest h = h c
 
+-- A choice between tame layouts is tame.
 pub choose_tame : (test : Cursor → Bool) (a b : Layout) → Tame a → Tame b → Tame (choose test a b)
 choose_tame test a b ta tb c rest h = by (test c)
   where
@@ -40,10 +46,12 @@ choose_tame test a b ta tb c rest h = by (test c)
     by true = ta c rest h
     by false = tb c rest h
 
+-- A tame layout that is written or not is tame.
 pub when_tame : (b : Bool) (a : Layout) → Tame a → Tame (when b a)
 when_tame true a t = t
 when_tame false a t = stay_tame
 
+-- A character that fits is a tame layout.
 pub char_tame : (x : ℕ) → Fits x → Tame (char x)
 char_tame x f c rest h = letter_allowed x (rest _) f (h _)
 
@@ -63,26 +71,32 @@ blanks_tame (suc n) = both blank (blanks n) blank_tame (blanks_tame n)
 break_tame : (x : ℕ) → Fits x → Tame (break x)
 break_tame x f c rest h = letter_allowed x (rest _) f (h _)
 
+-- A line break is tame.
 pub new_line_tame : (b : LineBreak) → Tame (new_line b)
 new_line_tame Lf = break_tame 10 feed_fits
 new_line_tame Cr = break_tame 13 return_fits
 new_line_tame CrLf = both (char 13) (break 10) (char_tame 13 return_fits) (break_tame 10 feed_fits)
 
+-- A gap is tame.
 pub gap_tame : Tame gap
 gap_tame = choose_tame is_white stay blank stay_tame blank_tame
 
+-- A word of characters that fit is tame.
 pub word_tame : (xs : List ℕ) → AllFit xs → Tame (word xs)
 word_tame xs fs = both gap (letters xs) gap_tame (letters_tame xs fs)
 
+-- An indicator that fits is tame.
 pub opener_tame : (x : ℕ) → Fits x → Tame (opener x)
 opener_tame x f = both gap (λ c rest. letter x ∷ rest (record { column = c.column + 1; white = true; bare = false; kept = c.kept })) gap_tame (λ c rest h. letter_allowed x (rest _) f (h _))
 
 indent_tame : (n : ℕ) → Tame (indent_to n)
 indent_tame n c rest h = blanks_tame (n - c.column) c rest h
 
+-- A line with its indentation is tame.
 pub line_tame : (b : LineBreak) (n : ℕ) → Tame (line b n)
 unfolding line
 line_tame b n = both (choose (must_break n) (new_line b) stay) (indent_to n) (choose_tame (must_break n) (new_line b) stay (new_line_tame b) stay_tame) (indent_tame n)
 
+-- To keep or not to keep breaks is tame.
 pub keep_tame : (b : Bool) → Tame (keep b)
 keep_tame b c rest h = h _

@@ -35,6 +35,7 @@ pub or_first : (p q : Option Problem) → or_else p q ≡ None → p ≡ None
 or_first None q e = refl
 or_first (Some p) q e = absurd (cc)
 
+-- Where neither of two problems is, the second isn't.
 pub or_second : (p q : Option Problem) → or_else p q ≡ None → q ≡ None
 or_second None q e = e
 or_second (Some p) q e = absurd (cc)
@@ -78,6 +79,7 @@ abbrev pub HandlesFit : List TagDirective → Type 0
 HandlesFit [] = Unit {0}
 HandlesFit (d ∷ ds) = AllFit d.handle × HandlesFit ds
 
+-- Handles that are no problem fit.
 pub handles_fit : (before ds : List TagDirective) → directives_problem before ds ≡ None
     → HandlesFit ds
 unfolding directives_problem
@@ -131,16 +133,19 @@ split_fits (Some d) tag h u = all_append d.handle (uri_text false (drop (length 
 abbrev pub TagsFit : List TagDirective → Type 0
 TagsFit ds = (tag : List ℕ) → IsUtf8 tag → AllFit (tag_spelling ds tag)
 
+-- Directives that are no problem have handles that fit.
 pub tags_fit : (ds : List TagDirective) → directives_problem [] ds ≡ None → TagsFit ds
 tags_fit ds e tag u =
     split_fits (directive_for (in_force ds) tag) tag (found_fits (in_force ds) tag (handles_append ds (defaults ds) (handles_fit [] ds e) (defaults_fit ds))) (utf8_bytes tag u)
 
 -- ---- properties
 
+-- An anchor's text is tame.
 pub anchor_tame : (anchor : Option (List ℕ)) → IsNameOption anchor → Tame (anchor_text anchor)
 anchor_tame None h = stay_tame
 anchor_tame (Some name) h = word_tame (38 ∷ name) (graphic 38 (omega arith) (omega arith), names_fit name h)
 
+-- A tag's text is tame.
 pub tag_tame : (p : Context) → TagsFit p.directives → (tag : Option (List ℕ)) → IsTextOption tag
     → Tame (tag_text p tag)
 tag_tame p fit None h = stay_tame
@@ -181,6 +186,7 @@ unfolding quoted_body
 body_tame page before [] h = stay_tame
 body_tame page before (x ∷ xs) (h, hs) = both (quoted_char page before x xs) (quoted_body page x xs) (char_quoted page before x xs h) (body_tame page x xs hs)
 
+-- A double quoted value is tame.
 pub quoted_tame : (page : Page) (value : List ℕ) → IsUtf8 value
     → Tame (double_quoted page (chars value))
 quoted_tame page value u =
@@ -210,6 +216,7 @@ yaml_fits = (graphic 37 (omega arith) (omega arith), (graphic 89 (omega arith) (
 tag_fits : AllFit (codes "%TAG")
 tag_fits = (graphic 37 (omega arith) (omega arith), (graphic 84 (omega arith) (omega arith), (graphic 65 (omega arith) (omega arith), (graphic 71 (omega arith) (omega arith), tt))))
 
+-- A version's line is tame.
 pub version_tame : (s : Settings) (v : Option yaml_version_directive_t) → Tame (version_text s v)
 version_tame s None = stay_tame
 version_tame s (Some v) =
@@ -224,6 +231,7 @@ directive_tame s d h u =
     (both (word d.handle) (word (uri_text true d.prefix) ▹ line_at s 0) (word_tame d.handle h)
     (both (word (uri_text true d.prefix)) (line_at s 0) (word_tame (uri_text true d.prefix) prefix) (line_tame s.line_break 0)))
 
+-- A document's directives are tame.
 pub directives_tame : (s : Settings) (ds : List TagDirective) → HandlesFit ds → HavePrefixes ds
     → Tame (directives_text s ds)
 unfolding directives_text

@@ -51,22 +51,26 @@ text_begins s (d ∷ ds) = begins s d.opening.version d.opening.directives _
 
 -- ---- UTF-16
 
+-- The mark of UTF-16LE is told.
 pub low_told : (t : List Item)
     → encoding_of YAML_ANY_ENCODING (encode Utf16Le (letter 0xFEFF ∷ t)) ≡ YAML_UTF16LE_ENCODING
 unfolding encoding_of encode char_bytes
 low_told t = refl
 
+-- Behind the mark of UTF-16LE stands the text.
 pub low_behind : (t : List Item)
     → drop (mark_length YAML_ANY_ENCODING (encode Utf16Le (letter 0xFEFF ∷ t)))
     (encode Utf16Le (letter 0xFEFF ∷ t)) ≡ encode Utf16Le t
 unfolding mark_length encode char_bytes
 low_behind t = refl
 
+-- The mark of UTF-16BE is told.
 pub high_told : (t : List Item)
     → encoding_of YAML_ANY_ENCODING (encode Utf16Be (letter 0xFEFF ∷ t)) ≡ YAML_UTF16BE_ENCODING
 unfolding encoding_of encode char_bytes
 high_told t = refl
 
+-- Behind the mark of UTF-16BE stands the text.
 pub high_behind : (t : List Item)
     → drop (mark_length YAML_ANY_ENCODING (encode Utf16Be (letter 0xFEFF ∷ t)))
     (encode Utf16Be (letter 0xFEFF ∷ t)) ≡ encode Utf16Be t

@@ -113,6 +113,7 @@ documents_spell unended (d ∷ ds) (us, r, rs) =
     end_spells (unended && is_directed o) (version_bodies o.version (directives_bodies o.directives root))
     (version_spells o.version (directives_bodies o.directives root) (directives_spell o.directives us root said))
 
+-- Tokens whose kinds are spelled pass without a fault.
 pub passes : (ts : List Token) → Spell (token_bodies ts) → cut None ts ≡ without_fault ts
 passes [] s = refl
 passes (t ∷ ts) (s, ss) = rw s (ap (λ (c : Remaining). with_token t c) (passes ts ss))

@@ -24,7 +24,7 @@ use Rattle.yaml_round_laws_pieces.proofs.Events.{piece_regular}
 
 -- ---- what is let out
 
-first_out : (e : Event) (es : List Event) → is_ready (e ∷ es) ≡ true
+pub first_out : (e : Event) (es : List Event) → is_ready (e ∷ es) ≡ true
     → let_out (e ∷ es) ≡ e ∷ let_out es
 unfolding let_out
 first_out e es r = rw r refl

@@ -4,4 +4,5 @@ mod Leading
 mod Joining
 mod Blocks
 mod Between
+mod Layouts
 mod Calling

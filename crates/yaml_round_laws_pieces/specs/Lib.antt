@@ -1,3 +1,4 @@
 pub mod Pieces
 pub mod Laws
+pub mod Layouts
 pub mod Calls

@@ -2,6 +2,7 @@
 
 ghost use Rattle.yaml_round_laws_pieces.specs.Calls.{CallsAreWholes};
 ghost use Rattle.yaml_round_laws_pieces.specs.Laws.{StandsAreThere, CuttingsAreWholes, CutsAreThere, FrontsAreShown, StandInsStand, BlocksStandByLevels, DocumentsStandByEnds};
+ghost use Rattle.yaml_round_laws_pieces.specs.Layouts.{StreamsAreLayouts, FrontsAreOfLayouts, AllIsOfLayouts, WrongAddNothing};
 
 /// From each stand each list of events leads to one.
 pub fn stands_are_there()
@@ -36,6 +37,15 @@ pub fn blocks_stand_by_levels()
 /// In front of a document it counts how the last one ended, and not whether its breaks are kept.
 pub fn documents_stand_by_ends()
     ensures { DocumentsStandByEnds }
+{}
+
+/// What is written for events is said by the trees of the streams that they begin: the layout of a whole stream, and fronts of it for
+/// its first events; a wrong event and those behind it add nothing.
+pub fn texts_are_of_layouts()
+    ensures streams { StreamsAreLayouts }
+    ensures fronts { FrontsAreOfLayouts }
+    ensures all { AllIsOfLayouts }
+    ensures wrong { WrongAddNothing }
 {}
 
 /// The texts of an emitter's calls, each of which goes on where the one before it ended, are the text of the whole.

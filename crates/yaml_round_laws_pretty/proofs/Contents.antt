@@ -76,6 +76,7 @@ pub contents_said : (es : List Told) → contents es ≡ map says (emitter_event
 contents_said [] = refl
 contents_said (t ∷ ts) = ap (λ (b : EventBody). b ∷ contents ts) (event_says t.0.body) ∙ ap (λ (bs : List EventBody). says (emit.emitter_event (normalize_body false t.0.body)) ∷ bs) (contents_said ts)
 
+-- Contents are those of the events' bodies.
 pub contents_by : (es : List Told) → contents es ≡ map content (map (λ (g : Told). g.0.body) es)
 contents_by [] = refl
 contents_by (t ∷ ts) = ap (λ (bs : List EventBody). content t.0.body ∷ bs) (contents_by ts)
@@ -246,6 +247,7 @@ documents_same s fresh (d ∷ ds) (f, flags) ((opening, g), fine) =
     (node_same _ d.root f g false part.Item (event.document_end _ ∷ documents_reads s false ds) (emit.document_end d.implicit_end ∷ emit.documents_events ds)
     (ap (λ (bs : List EventBody). event.document_end true ∷ bs) (documents_same s false ds flags fine)))
 
+-- What a pretty text reads as is the stream's content.
 pub stream_same : (s : Settings) (x y : yaml_encoding_t) (ds : List emit.Document)
     → HaveReaderFlags ds → AreParsable ds
     → map content (event.stream_start y ∷ documents_reads s true ds)

@@ -8,4 +8,5 @@ mod Loads
 mod Limits
 mod Readings
 mod Partings
+mod DocumentPartings
 mod Fitting

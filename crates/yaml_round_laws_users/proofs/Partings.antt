@@ -13,6 +13,7 @@ use Rattle.yaml_round.specs.Differences.{saying, IsDiff, IsParting}
 use Rattle.yaml_round.proofs.Pathing.{place_walked}
 use Rattle.yaml_round.proofs.Plain.{content_same, events_are}
 use Rattle.yaml_round_laws_users.specs.Partings.{TellTheSame, DiffsAgree, turned}
+use Rattle.yaml_round_laws_users.proofs.Comparing as comparing
 
 -- ---- lists
 
@@ -84,7 +85,7 @@ told_false true n = absurd (n refl)
 told_false false n = refl
 
 -- the place has one path
-one_path : (p q : Place) → place_says p [] ≡ place_says q [] → path_to p ≡ path_to q
+pub one_path : (p q : Place) → place_says p [] ≡ place_says q [] → path_to p ≡ path_to q
 one_path p q e = sym (place_walked p) ∙ ap (λ (es : List EventBody). past es start) e ∙ place_walked q
 
 once : (a_from b_from : yaml_encoding_t) (a b : List ℕ) (d e : yaml_difference_t)
@@ -123,6 +124,7 @@ other_way a_from b_from a b d h = record {
 
 pub agree : DiffsAgree
 agree = record {
+  either = λ a_from b_from a b s. comparing.turned a_from b_from a b s;
   nothing = λ a_from b_from a b same c s. told_true same (c.told.1 s);
   something = λ a_from b_from a b same d c h. told_false same (λ t. not_same a_from b_from a b d h (c.told.0 t));
   again = λ a_from b_from a b d e h k. once a_from b_from a b d e h k;

@@ -5,6 +5,7 @@ use Rattle.yaml_round.specs.declared.yaml_difference_t.{yaml_difference_t}
 use Rattle.yaml_round.specs.Answers.{IsCompared}
 use Rattle.yaml_round.specs.Places.{path_of}
 use Rattle.yaml_round.specs.Differences.{IsDiff, IsParting}
+use Rattle.yaml_round.specs.Loaded.{IsDocumentsDiff, IsDocumentsParting}
 
 -- with the path, the marks and the kinds of the other
 pub record TellTheSame (d e : yaml_difference_t) : Type 0 where
@@ -25,6 +26,8 @@ turned d = record d {
 
 -- `yaml_diff` answers nothing exactly where `yaml_same` answers true. It has one answer, whichever input comes first.
 pub record DiffsAgree : Type 0 where
+  pub either : (a_from b_from : yaml_encoding_t) (a b : List ℕ)
+      → IsDiff a_from a b_from b (Ok None) → IsDiff b_from b a_from a (Ok None)
   pub nothing : (a_from b_from : yaml_encoding_t) (a b : List ℕ) (same : Bool)
       → IsCompared a_from a b_from b same → IsDiff a_from a b_from b (Ok None) → same ≡ true
   pub something : (a_from b_from : yaml_encoding_t) (a b : List ℕ) (same : Bool)
@@ -34,4 +37,18 @@ pub record DiffsAgree : Type 0 where
       → IsParting a_from a b_from b d → IsParting a_from a b_from b e → TellTheSame d e
   pub turned : (a_from b_from : yaml_encoding_t) (a b : List ℕ) (d e : yaml_difference_t)
       → IsParting a_from a b_from b d → IsParting b_from b a_from a e
+      → TellTheSame d (turned e)
+
+-- `yaml_diff_documents` has one answer, too, whichever input comes first.
+pub record DocumentDiffsAgree : Type 0 where
+  pub either : (a_from b_from : yaml_encoding_t) (a b : List ℕ)
+      → IsDocumentsDiff a_from a b_from b (Ok None) → IsDocumentsDiff b_from b a_from a (Ok None)
+  pub not_both : (a_from b_from : yaml_encoding_t) (a b : List ℕ) (d : yaml_difference_t)
+      → IsDocumentsDiff a_from a b_from b (Ok None)
+      → IsDocumentsDiff a_from a b_from b (Ok (Some d)) → ⊥
+  pub again : (a_from b_from : yaml_encoding_t) (a b : List ℕ) (d e : yaml_difference_t)
+      → IsDocumentsParting a_from a b_from b d → IsDocumentsParting a_from a b_from b e
+      → TellTheSame d e
+  pub turned : (a_from b_from : yaml_encoding_t) (a b : List ℕ) (d e : yaml_difference_t)
+      → IsDocumentsParting a_from a b_from b d → IsDocumentsParting b_from b a_from a e
       → TellTheSame d (turned e)

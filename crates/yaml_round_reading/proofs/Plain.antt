@@ -16,21 +16,25 @@ use Rattle.yaml_round_reading.specs.Answers.{IsRight, IsFaulty, SameContent}
 
 -- ---- one input
 
+-- An input whose reading ends in a fault is faulty by it.
 pub faulty : (from : yaml_encoding_t) (input : List ℕ) (f : Fault) → ending_of from input ≡ Some f
     → IsFaulty from input f
 unfolding IsFaulty
 faulty from input f e = refused_read from input f e
 
+-- The fault of a faulty input ends its reading.
 pub faulty_ending : (from : yaml_encoding_t) (input : List ℕ) (f : Fault) → IsFaulty from input f
     → ending_of from input ≡ Some f
 unfolding IsFaulty
 faulty_ending from input f h = read_refused from input f h
 
+-- An input whose reading ends in no fault is right.
 pub right : (from : yaml_encoding_t) (input : List ℕ) → ending_of from input ≡ None
     → IsRight from input
 unfolding IsRight
 right from input e = let h = have_content from input e in (h.0, said_read from input h.0 h.1)
 
+-- The reading of a right input ends in no fault.
 pub right_ending : (from : yaml_encoding_t) (input : List ℕ) → IsRight from input
     → ending_of from input ≡ None
 unfolding IsRight
@@ -44,6 +48,7 @@ fault_met from input r f h e = elim e [ inl m ↦ inl m | inr k ↦ inr (faulty 
 
 -- ---- its events
 
+-- The computed events of an input without a fault are its events.
 pub has_events : (from : yaml_encoding_t) (input : List ℕ) (es : List Told)
     → ending_of from input ≡ None → es ≡ events_of from input → HasEvents from input es
 has_events from input es e p =
@@ -51,10 +56,12 @@ has_events from input es e p =
     let r : PlainReading from input (Ok h.0) = said_read from input h.0 h.1 in
     record { sentence = r.sentence; are = p ∙ events_of_tree from input r.sentence }
 
+-- Events of an input are the ones that the definitions compute.
 pub events_are : (from : yaml_encoding_t) (input : List ℕ) (es : List Told)
     → HasEvents from input es → es ≡ events_of from input
 events_are from input es h = h.are ∙ sym (events_of_tree from input h.sentence)
 
+-- An input with events is right.
 pub events_right : (from : yaml_encoding_t) (input : List ℕ) (es : List Told)
     → HasEvents from input es → IsRight from input
 unfolding IsRight
@@ -62,6 +69,7 @@ events_right from input es h = (tree_content h.sentence.tree, record { sentence 
 
 -- ---- two inputs
 
+-- Inputs without faults whose events have the same contents have the same content.
 pub same_content : (a_from b_from : yaml_encoding_t) (a b : List ℕ) → ending_of a_from a ≡ None
     → ending_of b_from b ≡ None → contents (events_of a_from a) ≡ contents (events_of b_from b)
     → SameContent a_from a b_from b
@@ -70,6 +78,7 @@ same_content a_from b_from a b p q e =
     let k : HasContent b_from b h.0 = record { right = q; says = sym e ∙ h.1.says } in
     record { content = h.0; first = said_read a_from a h.0 h.1; second = said_read b_from b h.0 k }
 
+-- Inputs of the same content have events of the same contents.
 pub content_same : (a_from b_from : yaml_encoding_t) (a b : List ℕ) → SameContent a_from a b_from b
     → contents (events_of a_from a) ≡ contents (events_of b_from b)
 content_same a_from b_from a b h = (read_said a_from a h.content h.first).says ∙ sym (read_said b_from b h.content h.second).says

@@ -45,6 +45,7 @@ none_below : {X : Type 0} (xs : List X) (k n : ℕ) → tested xs k (negsuc n) �
 none_below [] k n = refl
 none_below (x ∷ xs) k n = passed (int_eq (negsuc n) (pos k)) x (tested xs (suc k) (negsuc n)) (below k n) ∙ none_below xs (suc k) n
 
+-- A number in a table is tested as it counts.
 pub tested_is : {X : Type 0} (xs : List X) (n : ℤ) → tested xs 0 n ≡ numbered xs n
 tested_is xs (pos n) = found_at xs 0 n n (omega arith)
 tested_is xs (negsuc n) = none_below xs 0 n

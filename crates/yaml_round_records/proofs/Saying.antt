@@ -24,6 +24,7 @@ one_more_says bytes list [] (x ∷ es) r e h s = absurd h
 one_more_says bytes list (y ∷ rs) [] r e h s = absurd h
 one_more_says bytes list (y ∷ rs) (x ∷ es) r e h s = (h.0, one_more_says bytes list rs es r e h.1 s)
 
+-- Records that say events say them over equal blocks.
 pub say_at : (b c : List ℕ) (d f : List yaml_c_directive) (rs qs : List yaml_c_event)
     (es : List Event) → c ≡ b → f ≡ d → qs ≡ rs
     → AllSay b d rs es → AllSay c f qs es

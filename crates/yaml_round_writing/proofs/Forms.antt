@@ -44,6 +44,7 @@ due_false : (b : Bool) (from : yaml_encoding_t) (settings : yaml_settings_t) (in
 due_false true from settings input pretty e l n = absurd (cc)
 due_false false from settings input pretty e l n = (n, (pretty, l))
 
+-- What is in canonical form is what was asked for, where canonical form was.
 pub asked_for : (from : yaml_encoding_t) (settings : yaml_settings_t) (input : List ℕ)
     (result : Result (Vec ℕ Global × yaml_form_t) yaml_fault_t) → settings.canonical ≡ true
     → Answers reformat_layers text_and_form (IsInCanonicalForm from settings input) result

@@ -92,6 +92,7 @@ normal from s input text laid =
       });
     }
 
+-- A text in canonical form is laid out, and is its content's normal form.
 pub in_normal_form : (from : yaml_encoding_t) (s : yaml_settings_t) (input text : List ℕ)
     → IsWrittenOut form.Canonical from s input text
     → IsLaidOut from input s true text × IsNormalForm from s input text

@@ -34,6 +34,7 @@ stream : (from : yaml_encoding_t) (s : yaml_settings_t) (input : List ℕ) (c : 
     (readable_events Before (contents (events_of from input))) (readable_layout s c)
 stream from s input c h = laid_out (requested_under s false) refl from input c h
 
+-- A text in the form that people read is one in readable form.
 pub in_readable_form : (from : yaml_encoding_t) (s : yaml_settings_t) (input text : List ℕ)
     → IsWrittenOut (form.Readable place.Before) from s input text → IsReadableForm from s input text
 in_readable_form from s input text h =
@@ -60,6 +61,7 @@ past_readable from s input f h =
       passes = h.each (readable_encoding s) (readable_layout s c) (stream from s input c said);
     }
 
+-- A fault of the readable form is want of memory, or an answer by its contract.
 pub not_readable : (from : yaml_encoding_t) (s : yaml_settings_t) (input : List ℕ) (f : Fault)
     → IsMemoryFault reformat_layers f
     ⊎ IsWrittenIn (form.Readable place.Before) from s input (Err f)

@@ -174,6 +174,7 @@ ended_rooted : (ds : List Document) → All HasRoot ds → All HasRoot (ended ds
 ended_rooted [] h = All-nil HasRoot
 ended_rooted (d ∷ ds) h = All-cons HasRoot (with_implicit_end d) (ended ds) (All-head HasRoot d ds h) (ended_rooted ds (All-tail HasRoot d ds h))
 
+-- Documents that were loaded have roots.
 pub all_rooted : (from : yaml_encoding_t) (input : List ℕ) (ds : List Document)
     → AreLoaded from input ds → All HasRoot ds
 all_rooted from input ds a = subst (All HasRoot) (sym a.same) (ended_rooted (loads_of from input).documents (rooted _ _ nothing_loaded))
@@ -412,6 +413,7 @@ unended_small : (ds : List Document) → AreNumerable (ended ds) → AreNumerabl
 unended_small [] h = tt
 unended_small (d ∷ ds) h = (h.0, unended_small ds h.1)
 
+-- The dumps of all loaded documents are a reload's answer.
 pub reloaded : (from : yaml_encoding_t) (input : List ℕ) (settings : yaml_settings_t)
     (ds : List Document) (result : Result (Vec ℕ Global) yaml_fault_t)
     → AreLoaded from input ds → Answers emit_layers bytes_of (IsEachDump settings ds) result
@@ -425,6 +427,7 @@ reloaded from input settings ds (Err f) a d =
     let P : List Document → Type 0 = λ z. IsEachDump settings z (Err (fault_of f)) in
     elim d [ inl m ↦ inl (elim m [ inl e ↦ inl e | inr w ↦ inr (inl w) ]) | inr p ↦ inr (inr (laid_out from input settings (Err (fault_of f)) a.right (one_dump from input settings (Err (fault_of f)) (subst P a.same p)))) ]
 
+-- A fault of a load is a fault of reloading.
 pub not_loaded : (from : yaml_encoding_t) (settings : yaml_settings_t) (input : List ℕ)
     (f : yaml_fault_t)
     → IsMemoryFault load_layers (fault_of f) ⊎ IsLoaded from input (Err (fault_of f))

@@ -6,9 +6,9 @@ ghost use Rattle.yaml_scan.specs.Faults.{Answers, load_layers};
 ghost use Rattle.yaml_round_writing.specs.Checking.{IsChecked};
 ghost use Rattle.yaml_round_writing.specs.Knowing.{IsUnknown};
 
-use crate::known::{Known, Passed, undefined_alias_fault};
+use crate::known::{Known, Passed};
 use std::alloc::Global;
-use yaml_parse::{yaml_found_t, yaml_parser_parse_into};
+use yaml_parse::{undefined_alias_fault, yaml_found_t, yaml_parser_parse_into};
 use yaml_round_reading::{Reading, let_go, reading_of};
 use yaml_scan::{yaml_encoding_t, yaml_fault_t, yaml_memory_fault, yaml_origin_t};
 
@@ -22,7 +22,7 @@ fn look_through(reading: &mut Reading<'_>, known: &mut Known) -> Result<(), yaml
         match yaml_parser_parse_into(&mut reading.parser, &mut reading.event, &mut reading.fault) {
             yaml_found_t::Refused => return Err(reading.fault),
             yaml_found_t::End => return Ok(()),
-            yaml_found_t::Event => match known.pass(&mut reading.event) {
+            yaml_found_t::Event => match known.pass(&reading.event) {
                 Passed::On => {}
                 Passed::Over => return Ok(()),
                 Passed::Undefined => return Err(undefined_alias_fault(reading.event.start_mark)),

@@ -2,23 +2,28 @@
 
 ghost use Rattle.std.specs.Prelude.{◌≡◌, true, Some};
 ghost use Rattle.std.specs.List.{list_any};
-ghost use Rattle.yaml_scan.specs.Faults.{fault_of};
 ghost use Rattle.yaml_parse.specs.Events.{event_of, text_of};
-ghost use Rattle.yaml_parse.specs.Numbering.{undefined_alias};
 ghost use Rattle.yaml_parse.specs.Loading.{Loading, step};
-ghost use Rattle.yaml_round_writing.specs.Knowing.{is_called, has_name, IsKnown, Follows, Notes, IsUnknown, Ends, Asks, Settles};
+ghost use Rattle.yaml_round_writing.specs.Knowing.{name_at, stands_at, has_name, IsKnown, Follows, Notes, IsUnknown, Ends, Asks, Settles};
 
 use std::alloc::Global;
 use std::collections::BTreeSet;
 use yaml_parse::{yaml_event_body_t, yaml_event_t};
-use yaml_scan::{yaml_error_type_t, yaml_fault_t, yaml_mark_t, yaml_origin_t};
 
-/// Whether the document has a node, and the names of its anchors: those that were met last in a list, in their order, and the
-/// others in a set, into which all go as one is asked for that isn't among the last eight.
+/// Where a name stands in the text of names: its first byte, and the one behind its last.
+#[derive(Clone, Copy)]
+pub struct Span {
+    pub from: usize,
+    pub to: usize,
+}
+
+/// Whether the document has a node, and the names of its anchors: those that were met last stand in one text, in their order, and
+/// the others in a set, into which all go as one is asked for that isn't among the last eight.
 #[derive(Drop)]
 pub struct Known {
     pub rooted: bool,
-    pub recent: Vec<Vec<u8>>,
+    pub text: Vec<u8>,
+    pub spans: Vec<Span>,
     pub names: BTreeSet<Vec<u8>>,
 }
 
@@ -35,37 +40,26 @@ pub enum Passed {
     Starved,
 }
 
-/// The loader's fault for an alias that no node before it anchors.
-// Out of line: in line its room would be set to zero for each event.
-#[inline(never)]
-pub fn undefined_alias_fault(at: yaml_mark_t) -> yaml_fault_t
-    ensures { fault_of result ≡ undefined_alias at }
+// The bytes of the text from the first to the last; none where not all of them are there.
+fn name_at<'a>(text: &'a [u8], span: &Span) -> &'a [u8]
+    ensures { result.now ≡ name_at text.now span.now }
 {
-    yaml_fault_t {
-        kind: yaml_error_type_t::YAML_COMPOSER_ERROR,
-        problem: "found undefined alias",
-        offset: 0,
-        value: 0,
-        problem_mark: at,
-        context: None,
-        context_mark: yaml_mark_t {
-            index: 0,
-            line: 0,
-            column: 0,
-        },
-        origin: yaml_origin_t::Loader,
+    if span.from <= span.to && span.to <= text.len() {
+        &text[span.from..span.to]
+    } else {
+        b""
     }
 }
 
 // Whether one of the last eight is this name: most aliases are of such, and a search in the set takes a hundred times as long.
-fn is_recent(names: &[Vec<u8>], name: &[u8]) -> bool
-    ensures { result ≡ true → list_any (is_called name.now) names.now ≡ true }
+fn is_recent(text: &[u8], spans: &[Span], name: &[u8]) -> bool
+    ensures { result ≡ true → list_any (stands_at name.now text.now) spans.now ≡ true }
 {
     'names: for back in 1..9 {
-        if back > names.len() {
+        if back > spans.len() {
             return false;
         }
-        if name == names[names.len() - back].as_slice() {
+        if name == name_at(text, &spans[spans.len() - back]) {
             return true;
         }
     }
@@ -79,7 +73,8 @@ impl Known {
     {
         Known {
             rooted: false,
-            recent: Vec::new(alloc),
+            text: Vec::new(alloc),
+            spans: Vec::new(alloc),
             names: BTreeSet::new(alloc),
         }
     }
@@ -89,7 +84,8 @@ impl Known {
         ensures { IsUnknown self.new }
     {
         self.rooted = false;
-        self.recent.clear();
+        self.text.clear();
+        self.spans.clear();
         self.names.clear();
     }
 
@@ -106,22 +102,29 @@ impl Known {
     }
 
     // The document has an anchor of this name.
-    fn name(&mut self, name: Vec<u8>) -> Passed
+    fn name(&mut self, name: &[u8]) -> Passed
         requires { self.old.rooted ≡ true }
-        ensures { Notes (Some name.items) self.old result self.new }
+        ensures { Notes (Some name.now) self.old result self.new }
     {
-        match self.recent.push(name) {
-            Ok(_) => Passed::On,
+        let from = self.text.len();
+        match self.text.extend_from_slice(name) {
             Err(_) => Passed::Starved,
+            Ok(()) => {
+                let to = self.text.len();
+                match self.spans.push(Span { from, to }) {
+                    Ok(_) => Passed::On,
+                    Err(_) => Passed::Starved,
+                }
+            }
         }
     }
 
     // One node more, which has the anchor.
-    fn note(&mut self, anchor: &mut Option<Vec<u8>>) -> Passed
-        ensures { Notes (text_of anchor.old) self.old result self.new }
+    fn note(&mut self, anchor: &Option<Vec<u8>>) -> Passed
+        ensures { Notes (text_of anchor.now) self.old result self.new }
     {
         self.rooted = true;
-        match anchor.take() {
+        match anchor {
             None => Passed::On,
             Some(name) => self.name(name),
         }
@@ -132,11 +135,16 @@ impl Known {
         ensures { result ≡ true → Settles self.old self.new }
     {
         'names: loop {
-            match self.recent.pop() {
-                None => return true,
-                Some(name) => match self.names.insert(name) {
-                    Ok(_) => {}
+            let Some(span) = self.spans.pop() else {
+                self.text.clear();
+                return true;
+            };
+            let mut name = Vec::new(*self.text.allocator());
+            match name.extend_from_slice(name_at(&self.text, &span)) {
+                Err(_) => return false,
+                Ok(()) => match self.names.insert(name) {
                     Err(_) => return false,
+                    Ok(_) => {}
                 },
             }
         }
@@ -162,20 +170,19 @@ impl Known {
     fn alias(&mut self, name: &[u8]) -> Passed
         ensures { Asks (has_name name.now self.old) self.old result self.new }
     {
-        if is_recent(&self.recent, name) {
+        if is_recent(&self.text, &self.spans, name) {
             Passed::On
         } else {
             self.look_up(name)
         }
     }
 
-    /// What the event comes to, as the loader has it. A name is taken out of it.
-    pub fn pass(&mut self, event: &mut yaml_event_t) -> Passed
-        ensures follows { (l : Loading) → IsKnown self.old l → Follows
-            (step (event_of event.old) l) (event_of event.old).start_mark result self.new }
-        ensures mark { event.new.start_mark ≡ event.old.start_mark }
+    /// What the event comes to, as the loader has it.
+    pub fn pass(&mut self, event: &yaml_event_t) -> Passed
+        ensures { (l : Loading) → IsKnown self.old l → Follows
+            (step (event_of event.now) l) (event_of event.now).start_mark result self.new }
     {
-        match &mut event.body {
+        match &event.body {
             yaml_event_body_t::Alias { anchor } => self.alias(anchor),
             yaml_event_body_t::DocumentStart { .. } => {
                 self.forget();

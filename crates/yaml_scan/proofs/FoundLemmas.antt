@@ -1,22 +1,128 @@
 -- Reading on behind a machine of which the same is to come.
-use Rattle.std.proofs.Common.{◌≡◌, sym, subst, ◌∙◌}
-use Rattle.yaml_scan_model.specs.Faults.{Fault}
+use Rattle.std.proofs.Common.{◌≡◌, ℕ, Bool, true, false, List, length, refl, sym, ap, subst, ◌∙◌, inl, inr, arith, Option, Some, Result, Ok, Err}
+use Rattle.std.proofs.lemmas.Bool.{cases_lt}
+use Rattle.yaml_scan_model.specs.declared.name.yaml_encoding_t.{yaml_encoding_t}
+use Rattle.yaml_scan_model.specs.declared.fault.yaml_origin_t.TheVariants.{Scanner, Reader}
+use Rattle.yaml_scan_model.specs.declared.problem.ScanError.{ScanError}
+use Rattle.yaml_scan_model.specs.declared.problem.ScanError.TheVariants as errors
+use Rattle.yaml_scan_model.specs.Faults.{Fault, memory_fault}
+use Rattle.std.specs.Prelude.{option_map}
+use Rattle.std.specs.Result.{result_err}
+use Rattle.yaml_scan_decode.specs.declared.offence.Offence.{Offence}
+use Rattle.yaml_scan_decode.specs.Offences.{reader_fault}
+use Rattle.yaml_scan_decode.specs.Decoding.{decoded_characters, in_utf8}
+use Rattle.yaml_scan_decode.specs.DecodedText.{text_bytes, decoding_fault}
+use Rattle.yaml_scan_decode.specs.Encodings.{encoding_of}
 use Rattle.yaml_scan_history.specs.Remaining.{Remaining}
 use Rattle.yaml_scan_machine.specs.declared.machine.Machine.{Machine}
-use Rattle.yaml_scan_machine.specs.Left.{left_in, IsTold}
-use Rattle.yaml_scan_machine.specs.State.{is_ready}
+use Rattle.yaml_scan_machine.specs.Left.{left_in, IsTold, IsLocated}
+use Rattle.yaml_scan_machine.specs.Comes.{to_come}
+use Rattle.yaml_scan_machine.proofs.ComesLemmas.{left_is, reader_wide}
+use Rattle.yaml_scan_machine.specs.State.{IsMachine, GoesOn, Keeps, TellsUtf8, is_ready}
+use Rattle.yaml_scan_machine.specs.Stood.{IsRefused}
 use Rattle.yaml_scan.specs.declared.reading.Sought.{Sought}
 use Rattle.yaml_scan.specs.declared.reading.Sought.TheVariants as found
 use Rattle.yaml_scan.specs.Session.{HasMore}
-use Rattle.yaml_scan.specs.Found.{ReadsOn}
+use Rattle.yaml_scan.specs.Settled.{settles}
+use Rattle.yaml_scan.specs.Found.{ReadsOn, Reads, ReaderLacks, PlainIsTold, read_by}
+use Rattle.yaml_scan.proofs.SettledLemmas.{machine_tells}
+
+-- whether n lexemes settle what comes next
+abbrev settles_in : Machine → ℕ → Bool
+settles_in m n = settles m.setting m.input.now (left_in m).tokens n
+
+settles_same : (m first : Machine) (n : ℕ) → m.setting ≡ first.setting
+    → m.input.now ≡ first.input.now → left_in m ≡ left_in first → settles_in m n ≡ settles_in first n
+settles_same m first n setting input left =
+    ap (λ (s : yaml_encoding_t). settles s m.input.now (left_in m).tokens n) setting
+    ∙ ap (λ (bytes : List ℕ). settles first.setting bytes (left_in m).tokens n) input
+    ∙ ap (λ (c : Remaining). settles first.setting first.input.now c.tokens n) left
+
+-- where both are decoded, the same is left
+pub same_left : (first m : Machine) → first.started ≡ true → m.started ≡ true
+    → to_come m ≡ to_come first → left_in m ≡ left_in first
+same_left first m on still same = left_is m still ∙ same ∙ sym (left_is first on)
+
+-- nothing is read
+pub reads_none : (old new : Machine) → Keeps old new → Reads old new
+reads_none old new k = record { setting = k.setting; bytes = k.bytes; further = omega (arith, k.read); needed = λ n least most. absurd (omega (arith, k.read, least, most)) }
+
+pub reads_itself : (m : Machine) → Reads m m
+reads_itself m = record { setting = refl; bytes = refl; further = omega arith; needed = λ n least most. absurd (omega (arith, least, most)) }
+
+pub reads_both : (old mid new : Machine) → left_in mid ≡ left_in old → Reads old mid
+    → Reads mid new → Reads old new
+reads_both old mid new left a b = record {
+  setting = b.setting ∙ a.setting;
+  bytes = b.bytes ∙ a.bytes;
+  further = omega (arith, a.further, b.further);
+  needed = λ n least most. elim (cases_lt n (read_by mid)) [
+    | inl below ↦ a.needed n least below
+    | inr past ↦ sym (settles_same mid old n a.setting a.bytes left) ∙ b.needed n past most
+  ];
+}
+
+-- a lexeme more is read where the next token isn't known
+pub reads_more : (m new : Machine) → IsMachine m → is_ready m ≡ false → GoesOn m new → Reads m new
+reads_more m new i stuck on = record {
+  setting = on.setting;
+  bytes = on.bytes;
+  further = omega (arith, on.dropped, on.further);
+  needed = λ n least most.
+      let same : n ≡ read_by m = omega (arith, on.dropped, on.further, least, most) in
+      ap (λ k. settles_in m k) same ∙ sym (machine_tells m i).is ∙ stuck;
+}
+
+reader_behind : (old mid : Machine) (f : Fault) → Reads old mid → ReaderLacks mid f
+    → ReaderLacks old f
+reader_behind old mid f a lacks is =
+    let (none, wide) = lacks is in
+    (omega (arith, none, a.further), λ utf8. wide (ap (λ (s : yaml_encoding_t). encoding_of s mid.input.now) a.setting ∙ ap (λ (bytes : List ℕ). encoding_of old.setting bytes) a.bytes ∙ utf8))
+
+plain_behind : (old mid : Machine) (f : Fault) → Reads old mid → PlainIsTold mid f
+    → PlainIsTold old f
+plain_behind old mid f a plain g utf8 is =
+    plain g
+    (ap (λ (s : yaml_encoding_t). encoding_of s mid.input.now) a.setting ∙ ap (λ (bytes : List ℕ). encoding_of old.setting bytes) a.bytes ∙ utf8)
+    (ap (λ (s : yaml_encoding_t). decoding_fault s mid.input.now) a.setting ∙ ap (λ (bytes : List ℕ). decoding_fault old.setting bytes) a.bytes ∙ is)
 
 pub reads_behind : (old mid new : Machine) (f : Fault) (s : Sought) → left_in mid ≡ left_in old
-    → is_ready mid ≡ is_ready old → ReadsOn mid new f s → ReadsOn old new f s
-reads_behind old mid new f found.Known left ready r = record { stands = r.stands; left = r.left ∙ left; ready = r.ready }
-reads_behind old mid new f found.Nothing left ready r = record { stands = r.stands; left = sym left ∙ r.left; none = r.none }
-reads_behind old mid new f found.Refused left ready r = record {
+    → is_ready mid ≡ is_ready old → Reads old mid → ReadsOn mid new f s → ReadsOn old new f s
+reads_behind old mid new f found.Known left ready a r = record { stands = r.stands; left = r.left ∙ left; ready = r.ready; reads = reads_both old mid new left a r.reads }
+reads_behind old mid new f found.Nothing left ready a r = record { stands = r.stands; left = sym left ∙ r.left; none = r.none; reads = reads_both old mid new left a r.reads }
+reads_behind old mid new f found.Refused left ready a r = record {
   sought = sym ready ∙ r.sought;
   more = subst (λ (c : Remaining). HasMore c.tokens c.fault) left r.more;
   told = subst (λ (c : Remaining). IsTold c f) left r.told;
+  reader = reader_behind old mid f a r.reader;
+  plain = plain_behind old mid f a r.plain;
   few = r.few;
 }
+
+no_scanner_reader : (e : ScanError) (f : Fault) → IsLocated e f → f ≡ memory_fault Reader → ⊥
+no_scanner_reader errors.Memory f is e = let bad : Scanner ≡ Reader = ap (λ (g : Fault). g.origin) (sym is ∙ e) in cc
+no_scanner_reader (errors.Fault p) f is e = let bad = ap (λ (g : Fault). g.kind) (sym is ∙ e) in cc
+
+-- a step's want of memory is the scanner's
+pub refused_lacks : (old m : Machine) (f : Fault) → IsRefused m f → ReaderLacks old f
+refused_lacks old m f (e, refused, located) is = absurd (no_scanner_reader e f located is)
+
+spelled_text : (r : Result (List ℕ) Offence) (text : List ℕ) (g : Fault) → in_utf8 r ≡ Ok text
+    → option_map reader_fault (result_err r) ≡ Some g → ⊥
+spelled_text (Ok cs) text g e bad = cc
+spelled_text (Err o) text g e bad = cc
+
+-- where the input is decoded, it spells a text
+pub decoded_plain : (m : Machine) (f : Fault) → IsMachine m → m.started ≡ true → PlainIsTold m f
+decoded_plain m f i on g utf8 is = absurd (spelled_text (decoded_characters m.setting m.input.now) (text_bytes m.text) g (i.decoded on) is)
+
+some_is : (o : Option Fault) (f g : Fault) → o ≡ Some f → o ≡ Some g → f ≡ g
+some_is o f g e h = cc
+
+pub fresh_plain : (m : Machine) (f : Fault) → TellsUtf8 m f → PlainIsTold m f
+fresh_plain m f tells g utf8 is = some_is (decoding_fault m.setting m.input.now) f g (tells utf8) is
+
+-- where the input isn't decoded yet
+pub fresh_lacks : (m : Machine) (f : Fault) → IsMachine m → m.started ≡ false
+    → TellsUtf8 m f → ReaderLacks m f
+fresh_lacks m f i off tells is = let long : length m.waiting.items ≡ 0 = ap length (i.begun off) in (omega (arith, long, i.fresh off), reader_wide m.setting m.input.now f tells is)

@@ -1,5 +1,6 @@
 -- What is to come of a session.
-use Rattle.std.proofs.Common.{ℕ, ◌≡◌, ◌≤◌, length, Bool, true, false, ◌∷◌, Option, Some, None, refl, sym, ◌∙◌, inl, inr}
+use Rattle.std.proofs.Common.{ℕ, ◌≡◌, ◌≤◌, length, Bool, true, false, true≢false, ltb, List, ◌∷◌, Option, Some, None, refl, sym, ap, subst, ◌∙◌, inl, inr, arith}
+use Rattle.std.proofs.lemmas.Bool.Decides.{nat_tests}
 use Rattle.std.specs.Prelude.{is_some}
 use Rattle.yaml_scan_model.specs.declared.fault.yaml_fault_t.{yaml_fault_t}
 use Rattle.yaml_scan_model.specs.declared.token.yaml_token_t.{yaml_token_t}
@@ -8,11 +9,14 @@ use Rattle.yaml_scan_model.specs.Faults.{Fault, fault_of}
 use Rattle.yaml_scan_history.specs.Remaining.{Remaining, nothing}
 use Rattle.yaml_scan_machine.specs.scan_laws_order.Fronts.{GivesFirst}
 use Rattle.yaml_scan_machine.specs.declared.machine.Machine.{Machine}
-use Rattle.yaml_scan_machine.specs.State.{IsMachine, is_ready}
-use Rattle.yaml_scan_machine.specs.Left.{left_in, IsTold}
+use Rattle.yaml_scan_machine.specs.State.{IsShort, IsMachine, is_ready}
+use Rattle.yaml_scan_machine.specs.Left.{left_in}
 use Rattle.yaml_scan_machine.proofs.TakeLemmas.{ready_gives}
-use Rattle.yaml_scan.specs.Session.{View, HasFirst, HasMore, Takes, Lends, Refuses, ScansInto, MayAnswer, behind_first}
-use Rattle.yaml_scan.specs.SessionView.{remaining_by, ready_by, view_by, IsWhole}
+use Rattle.yaml_scan.specs.Session.{View, HasFirst, ReadsNeeded, Takes, Lends, Refuses, ScansInto, MayAnswer, first_of, behind_first, is_settled}
+use Rattle.yaml_scan.specs.Settled.{open_count}
+use Rattle.yaml_scan.specs.Found.{Reads, Gives, Lacks, Denies, read_by}
+use Rattle.yaml_scan.proofs.SettledLemmas.{machine_tells}
+use Rattle.yaml_scan.specs.SessionView.{remaining_by, view_by, IsWhole}
 
 pub no_fault : (o : Option yaml_fault_t) → is_some o ≡ false → o ≡ None
 no_fault None e = refl
@@ -22,38 +26,48 @@ pub none_some : (o : Option yaml_fault_t) → o ≡ None → is_some o ≡ false
 none_some None e = refl
 none_some (Some f) e = cc
 
--- where the next token is known, no fault was answered
-pub ready_fault : (o : Option yaml_fault_t) (aside ready : Bool) → ready_by o aside ready ≡ true
-    → o ≡ None
-ready_fault None aside ready e = refl
-ready_fault (Some f) aside ready e = cc
+none_below : (n : ℕ) → ltb n 0 ≡ false
+none_below n = grind (arith, nat_tests)
+
+-- where the next token is settled, no fault was answered
+pub ready_fault : (m : Machine) (o : Option yaml_fault_t) (s : Token) (aside : Bool)
+    → is_settled (view_by m o s aside) ≡ true → o ≡ None
+ready_fault m None s aside e = refl
+ready_fault m (Some f) s aside e = absurd (true≢false (sym e ∙ none_below (open_count m.setting m.input.now (read_by m))))
+
+own_settled : (m : Machine) (o : Option yaml_fault_t) (s : Token) (aside : Bool) → IsMachine m
+    → is_some o ≡ false → aside ≡ false → is_ready m ≡ is_settled (view_by m o s aside)
+own_settled m None s false i e off = (machine_tells m i).is
+own_settled m None s true i e off = cc
+own_settled m (Some f) s aside i e off = cc
 
 -- where it wasn't put aside, the reader knows it
-pub ready_own : (o : Option yaml_fault_t) (aside ready : Bool) → ready_by o aside ready ≡ true
-    → aside ≡ false → ready ≡ true
-ready_own None false ready e off = e
-ready_own None true ready e off = cc
-ready_own (Some f) aside ready e off = cc
+pub ready_own : (m : Machine) (o : Option yaml_fault_t) (s : Token) (aside : Bool) → IsMachine m
+    → is_settled (view_by m o s aside) ≡ true → aside ≡ false → is_ready m ≡ true
+ready_own m o s aside i e off = own_settled m o s aside i (none_some o (ready_fault m o s aside e)) off ∙ e
 
--- no token is known behind a fault
-pub ready_over : (o : Option yaml_fault_t) (aside ready : Bool) → is_some o ≡ true
-    → false ≡ ready_by o aside ready
-ready_over None aside ready e = cc
-ready_over (Some f) aside ready e = refl
+-- none is settled behind a fault
+pub ready_over : (m : Machine) (o : Option yaml_fault_t) (s : Token) (aside : Bool)
+    → is_some o ≡ true → false ≡ is_settled (view_by m o s aside)
+ready_over m None s aside e = cc
+ready_over m (Some f) s aside e = sym (none_below (open_count m.setting m.input.now (read_by m)))
 
--- the token that was put aside is known
-pub ready_held : (o : Option yaml_fault_t) (aside ready : Bool) → is_some o ≡ false → aside ≡ true
-    → true ≡ ready_by o aside ready
-ready_held None true ready e on = refl
-ready_held None false ready e on = cc
-ready_held (Some f) aside ready e on = cc
+longer : (u : ℕ) (t : Token) (ts : List Token) → u ≤ length ts → true ≡ ltb u (length (t ∷ ts))
+longer u t ts few = grind (arith, nat_tests)
+
+-- the token that was put aside is settled
+pub ready_held : (m : Machine) (o : Option yaml_fault_t) (s : Token) (aside : Bool)
+    → (o ≡ None → IsMachine m) → is_some o ≡ false → aside ≡ true
+    → true ≡ is_settled (view_by m o s aside)
+ready_held m None s true i e on = longer (open_count m.setting m.input.now (read_by m)) s (left_in m).tokens (machine_tells m (i refl)).few
+ready_held m None s false i e on = cc
+ready_held m (Some f) s aside i e on = cc
 
 -- else the reader's is, where it knows it
-pub ready_known : (o : Option yaml_fault_t) (aside ready known : Bool) → is_some o ≡ false
-    → aside ≡ false → known ≡ ready → known ≡ ready_by o aside ready
-ready_known None false ready known e off same = same
-ready_known None true ready known e off same = cc
-ready_known (Some f) aside ready known e off same = cc
+pub ready_known : (m : Machine) (o : Option yaml_fault_t) (s : Token) (aside known : Bool)
+    → (o ≡ None → IsMachine m) → is_some o ≡ false → aside ≡ false → known ≡ is_ready m
+    → known ≡ is_settled (view_by m o s aside)
+ready_known m o s aside known i e off same = same ∙ own_settled m o s aside (i (no_fault o e)) e off
 
 has_first : (c d : Remaining) (t : Token) → GivesFirst c t d → HasFirst c.tokens
 has_first c d t (tokens, fault) = rw tokens tt
@@ -64,13 +78,13 @@ first_by None false t c none h = h refl
 first_by None true t c none h = tt
 first_by (Some f) aside t c none h = cc
 
--- where the next token is known, one is to come
-pub first_comes : (o : Option yaml_fault_t) (aside : Bool) (t : Token) (m : Machine)
-    → ready_by o aside (is_ready m) ≡ true → (o ≡ None → IsMachine m)
+-- where the next token is settled, one is to come
+pub first_comes : (m : Machine) (o : Option yaml_fault_t) (t : Token) (aside : Bool)
+    → is_settled (view_by m o t aside) ≡ true → (o ≡ None → IsMachine m)
     → HasFirst (remaining_by o aside t (left_in m)).tokens
-first_comes o aside t m ready i =
-    let none = ready_fault o aside (is_ready m) ready in
-    first_by o aside t (left_in m) none (λ off. let (s, rest, gives) = ready_gives m (i none) (ready_own o aside (is_ready m) ready off) in has_first (left_in m) rest s gives)
+first_comes m o t aside ready i =
+    let none = ready_fault m o t aside ready in
+    first_by o aside t (left_in m) none (λ off. let (s, rest, gives) = ready_gives m (i none) (ready_own m o t aside (i none) ready off) in has_first (left_in m) rest s gives)
 
 taken_rest : (c d : Remaining) (t : Token) → GivesFirst c t d → d ≡ behind_first c
 taken_rest c d t (tokens, fault) = rw (tokens, fault) refl
@@ -82,82 +96,118 @@ given_all c d t (tokens, fault) = rw (sym tokens, sym fault) refl
 taken_may : (c d : Remaining) (t : Token) → GivesFirst c t d → MayAnswer c.tokens c.fault
 taken_may c d t (tokens, fault) = rw tokens tt
 
+-- nothing more is read
+pub same_reads : (old new : View) → new.setting ≡ old.setting → new.bytes ≡ old.bytes
+    → new.read ≡ old.read → ReadsNeeded old new
+same_reads old new setting bytes read = record { setting = setting; bytes = bytes; further = omega (arith, read); needed = λ n least most. absurd (omega (arith, read, least, most)) }
+
+-- the reader reads on, where no token was put aside
+pub own_reads : (o p : Option yaml_fault_t) (aside after : Bool) (s t : Token) (m n : Machine)
+    → is_some o ≡ false → aside ≡ false → Reads m n
+    → ReadsNeeded (view_by m o s aside) (view_by n p t after)
+own_reads None p false after s t m n e off r = record { setting = r.setting; bytes = r.bytes; further = r.further; needed = r.needed }
+own_reads None p true after s t m n e off r = cc
+own_reads (Some f) p aside after s t m n e off r = cc
+
 -- behind a fault that was answered, the empty token is taken
-pub takes_over : (o : Option yaml_fault_t) (aside ready : Bool) (s t : Token) (c : Remaining)
-    (n : ℕ) → is_some o ≡ true → t ≡ no_token
-    → Takes (view_by o aside s c ready n) t (view_by o aside s c ready n)
-takes_over None aside ready s t c n e empty = cc
-takes_over (Some f) aside ready s t c n e empty = record { token = empty; rest = refl; may = refl; same = refl; over = λ g is. refl }
+pub takes_over : (o : Option yaml_fault_t) (aside : Bool) (s t : Token) (m : Machine)
+    → is_some o ≡ true → t ≡ no_token → Takes (view_by m o s aside) t (view_by m o s aside)
+takes_over None aside s t m e empty = cc
+takes_over (Some f) aside s t m e empty = record { token = empty; rest = refl; may = refl; same = refl; reads = same_reads (view_by m (Some f) s aside) (view_by m (Some f) s aside) refl refl refl; over = λ g is. refl }
 
 -- the token that was put aside is taken
-pub takes_held : (o : Option yaml_fault_t) (aside ready : Bool) (s t : Token) (c : Remaining)
-    (n : ℕ) → is_some o ≡ false → aside ≡ true
-    → Takes (view_by o aside s c ready n) s (view_by o false t c ready n)
-takes_held None true ready s t c n e on = record { token = refl; rest = refl; may = tt; same = refl; over = λ g bad. cc }
-takes_held None false ready s t c n e on = cc
-takes_held (Some f) aside ready s t c n e on = cc
+pub takes_held : (o : Option yaml_fault_t) (aside : Bool) (s t : Token) (m : Machine)
+    → is_some o ≡ false → aside ≡ true → Takes (view_by m o s aside) s (view_by m o t false)
+takes_held None true s t m e on = record { token = refl; rest = refl; may = tt; same = refl; reads = same_reads (view_by m None s true) (view_by m None t false) refl refl refl; over = λ g bad. cc }
+takes_held None false s t m e on = cc
+takes_held (Some f) aside s t m e on = cc
 
 -- the reader's next token is taken
-pub takes_own : (o : Option yaml_fault_t) (aside ready next : Bool) (s t : Token) (c d : Remaining)
-    (n k : ℕ) → is_some o ≡ false → aside ≡ false → GivesFirst c t d
-    → Takes (view_by o aside s c ready n) t (view_by o aside s d next k)
-takes_own None false ready next s t c d n k e off (tokens, fault) = record {
-  token = rw tokens refl;
-  rest = taken_rest c d t (tokens, fault);
-  may = taken_may c d t (tokens, fault);
+pub takes_own : (o : Option yaml_fault_t) (aside : Bool) (s t : Token) (m n : Machine)
+    → is_some o ≡ false → aside ≡ false → Gives m n t
+    → Takes (view_by m o s aside) t (view_by n o s aside)
+takes_own None false s t m n e off g = record {
+  token = sym (ap (λ (ts : List Token). first_of ts) g.first.0);
+  rest = taken_rest (left_in m) (left_in n) t g.first;
+  may = taken_may (left_in m) (left_in n) t g.first;
   same = refl;
+  reads = own_reads None None false false s s m n refl refl g.reads;
   over = λ f bad. cc;
 }
-takes_own None true ready next s t c d n k e off gives = cc
-takes_own (Some f) aside ready next s t c d n k e off gives = cc
+takes_own None true s t m n e off g = cc
+takes_own (Some f) aside s t m n e off g = cc
+
+none_first : (c : Remaining) (t : Token) → c ≡ nothing → t ≡ no_token → t ≡ first_of c.tokens
+none_first c t e empty = empty ∙ sym (ap (λ (x : Remaining). first_of x.tokens) e)
+
+none_rest : (c d : Remaining) → c ≡ nothing → d ≡ nothing → d ≡ behind_first c
+none_rest c d e f = f ∙ sym (ap (λ (x : Remaining). behind_first x) e)
+
+none_may : (c : Remaining) → c ≡ nothing → MayAnswer c.tokens c.fault
+none_may c e = subst (λ (x : Remaining). MayAnswer x.tokens x.fault) (sym e) refl
 
 -- where none is to come, the empty token is taken
-pub takes_none : (o : Option yaml_fault_t) (aside ready next : Bool) (s t : Token) (c d : Remaining)
-    (n k : ℕ) → is_some o ≡ false → aside ≡ false → c ≡ nothing → d ≡ nothing → t ≡ no_token
-    → Takes (view_by o aside s c ready n) t (view_by o aside s d next k)
-takes_none None false ready next s t c d n k e off over none empty = rw (over, none) record { token = empty; rest = refl; may = refl; same = refl; over = λ g bad. cc }
-takes_none None true ready next s t c d n k e off over none empty = cc
-takes_none (Some f) aside ready next s t c d n k e off over none empty = cc
+pub takes_none : (o : Option yaml_fault_t) (aside : Bool) (s t : Token) (m n : Machine)
+    → is_some o ≡ false → aside ≡ false → Lacks m n t
+    → Takes (view_by m o s aside) t (view_by n o s aside)
+takes_none None false s t m n e off l = record {
+  token = none_first (left_in m) t l.finishes.left l.empty;
+  rest = none_rest (left_in m) (left_in n) l.finishes.left l.finishes.none;
+  may = none_may (left_in m) l.finishes.left;
+  same = refl;
+  reads = own_reads None None false false s s m n refl refl l.finishes.reads;
+  over = λ g bad. cc;
+}
+takes_none None true s t m n e off l = cc
+takes_none (Some f) aside s t m n e off l = cc
 
 -- a refusal is answered and kept
-pub refuses : (o : Option yaml_fault_t) (aside after ready next : Bool) (s t : Token)
-    (c d : Remaining) (n k : ℕ) (f : yaml_fault_t) → is_some o ≡ false → aside ≡ false
-    → ready ≡ false → IsTold c (fault_of f) → HasMore c.tokens c.fault
-    → Refuses (view_by o aside s c ready n) (fault_of f) (view_by (Some f) after t d next k)
-refuses None false after ready next s t c d n k f e off sought told more = record { sought = sought; more = more; told = told; once = refl; kept = refl; over = refl; unknown = refl }
-refuses None true after ready next s t c d n k f e off sought told more = cc
-refuses (Some g) aside after ready next s t c d n k f e off sought told more = cc
+pub refuses : (o : Option yaml_fault_t) (aside after : Bool) (s t : Token) (m n : Machine)
+    (f : yaml_fault_t) → is_some o ≡ false → aside ≡ false → IsMachine m → Denies m n (fault_of f)
+    → Refuses (view_by m o s aside) (fault_of f) (view_by n (Some f) t after)
+refuses None false after s t m n f e off i d = record { sought = sym (own_settled m None s false i refl refl) ∙ d.sought; more = d.more; told = d.told; reader = d.reader; plain = d.plain; once = refl; kept = refl; over = refl }
+refuses None true after s t m n f e off i d = cc
+refuses (Some g) aside after s t m n f e off i d = cc
 
 -- the token that was put aside is lent, or behind a fault that was answered the empty one
-pub lends_aside : (o : Option yaml_fault_t) (aside ready : Bool) (s : Token) (c : Remaining) (n : ℕ)
-    → aside ≡ true → ((f : yaml_fault_t) → o ≡ Some f → s ≡ no_token)
-    → Lends (view_by o aside s c ready n) s (view_by o aside s c ready n)
-lends_aside None true ready s c n on over = record { token = refl; all = refl; may = tt; same = refl; known = inl refl; over = λ g bad. cc }
-lends_aside None false ready s c n on over = cc
-lends_aside (Some f) aside ready s c n on over = record { token = over f refl; all = refl; may = refl; same = refl; known = inr refl; over = λ g is. refl }
+pub lends_aside : (o : Option yaml_fault_t) (aside : Bool) (s : Token) (m : Machine) → aside ≡ true
+    → (o ≡ None → IsMachine m) → ((f : yaml_fault_t) → o ≡ Some f → s ≡ no_token)
+    → Lends (view_by m o s aside) s (view_by m o s aside)
+lends_aside None true s m on i over = record { token = refl; all = refl; may = tt; same = refl; reads = same_reads (view_by m None s true) (view_by m None s true) refl refl refl; known = inl (sym (ready_held m None s true i refl refl)); over = λ g bad. cc }
+lends_aside None false s m on i over = cc
+lends_aside (Some f) aside s m on i over = record { token = over f refl; all = refl; may = refl; same = refl; reads = same_reads (view_by m (Some f) s aside) (view_by m (Some f) s aside) refl refl refl; known = inr refl; over = λ g is. refl }
 
 -- the reader's next token is put aside and lent
-pub lends_own : (o : Option yaml_fault_t) (aside ready next : Bool) (s t : Token) (c d : Remaining)
-    (n k : ℕ) → is_some o ≡ false → aside ≡ false → GivesFirst c t d
-    → Lends (view_by o aside s c ready n) t (view_by o true t d next k)
-lends_own None false ready next s t c d n k e off (tokens, fault) = record {
-  token = rw tokens refl;
-  all = given_all c d t (tokens, fault);
-  may = taken_may c d t (tokens, fault);
+pub lends_own : (o : Option yaml_fault_t) (aside : Bool) (s t : Token) (m n : Machine)
+    → is_some o ≡ false → aside ≡ false → Gives m n t
+    → Lends (view_by m o s aside) t (view_by n o t true)
+lends_own None false s t m n e off g = record {
+  token = sym (ap (λ (ts : List Token). first_of ts) g.first.0);
+  all = given_all (left_in m) (left_in n) t g.first;
+  may = taken_may (left_in m) (left_in n) t g.first;
   same = refl;
-  known = inl refl;
+  reads = own_reads None None false true s t m n refl refl g.reads;
+  known = inl (sym (ready_held n None t true (λ _. g.stands) refl refl));
   over = λ f bad. cc;
 }
-lends_own None true ready next s t c d n k e off gives = cc
-lends_own (Some f) aside ready next s t c d n k e off gives = cc
+lends_own None true s t m n e off g = cc
+lends_own (Some f) aside s t m n e off g = cc
 
 -- where none is to come, the empty token is lent
-pub lends_none : (o : Option yaml_fault_t) (aside ready next : Bool) (s t : Token) (c d : Remaining)
-    (n k : ℕ) → is_some o ≡ false → aside ≡ false → c ≡ nothing → d ≡ nothing → t ≡ no_token
-    → Lends (view_by o aside s c ready n) t (view_by o aside t d next k)
-lends_none None false ready next s t c d n k e off over none empty = rw (over, none) record { token = empty; all = refl; may = refl; same = refl; known = inr refl; over = λ g bad. cc }
-lends_none None true ready next s t c d n k e off over none empty = cc
-lends_none (Some f) aside ready next s t c d n k e off over none empty = cc
+pub lends_none : (o : Option yaml_fault_t) (aside : Bool) (s t : Token) (m n : Machine)
+    → is_some o ≡ false → aside ≡ false → Lacks m n t
+    → Lends (view_by m o s aside) t (view_by n o t aside)
+lends_none None false s t m n e off l = record {
+  token = none_first (left_in m) t l.finishes.left l.empty;
+  all = l.finishes.none ∙ sym l.finishes.left;
+  may = none_may (left_in m) l.finishes.left;
+  same = refl;
+  reads = own_reads None None false false s t m n refl refl l.finishes.reads;
+  known = inr l.finishes.none;
+  over = λ g bad. cc;
+}
+lends_none None true s t m n e off l = cc
+lends_none (Some f) aside s t m n e off l = cc
 
 -- a session whose next token was put aside
 pub whole_held : (o : Option yaml_fault_t) (m : Machine) (t : yaml_token_t) → is_some o ≡ false
@@ -173,7 +223,7 @@ whole_none (Some f) aside m t e off i empty = cc
 
 -- a session that answered a fault
 pub whole_refused : (o : Option yaml_fault_t) (m : Machine) (s t : yaml_token_t) (f : yaml_fault_t)
-    → o ≡ Some f → token_of t ≡ token_of s → token_of s ≡ no_token → length m.waiting.items ≤ 1025
+    → o ≡ Some f → token_of t ≡ token_of s → token_of s ≡ no_token → IsShort m.waiting
     → IsWhole m o t true
 whole_refused None m s t f e same empty few = cc
 whole_refused (Some g) m s t f e same empty few = record { machine = λ bad. cc; free = λ bad. cc; over = λ g is. same ∙ empty; idle = λ bad. cc; short = few }

@@ -1,27 +1,56 @@
 -- What reading on came to.
-use Rattle.std.specs.Prelude.{◌≡◌, ◌≤◌, true, false, length}
+use Rattle.std.specs.Prelude.{ℕ, ◌+◌, ◌≡◌, ◌≢◌, ◌<◌, ◌≤◌, true, false, Some, length}
 use Rattle.yaml_scan_model.specs.Tokens.{Token, no_token}
-use Rattle.yaml_scan_model.specs.Faults.{Fault}
+use Rattle.yaml_scan_model.specs.Faults.{Fault, memory_fault}
+use Rattle.yaml_scan_model.specs.declared.fault.yaml_origin_t.TheVariants.{Reader}
+use Rattle.yaml_scan_model.specs.declared.name.yaml_encoding_t.TheVariants.{YAML_UTF8_ENCODING}
+use Rattle.yaml_scan_decode.specs.Encodings.{encoding_of}
+use Rattle.yaml_scan_decode.specs.DecodedText.{decoding_fault}
 use Rattle.yaml_scan_history.specs.Remaining.{nothing}
 use Rattle.yaml_scan_machine.specs.scan_laws_order.Fronts.{GivesFirst}
 use Rattle.yaml_scan_machine.specs.declared.machine.Machine.{Machine}
 use Rattle.yaml_scan_machine.specs.Left.{left_in, IsTold}
-use Rattle.yaml_scan_machine.specs.State.{IsMachine, is_ready}
+use Rattle.yaml_scan_machine.specs.State.{IsShort, IsMachine, is_ready}
+use Rattle.yaml_scan.specs.Settled.{settles}
 use Rattle.yaml_scan.specs.Session.{HasMore}
 use Rattle.yaml_scan.specs.declared.reading.Sought.{Sought}
 use Rattle.yaml_scan.specs.declared.reading.Sought.TheVariants as found
+
+-- how many lexemes were read
+abbrev pub read_by : Machine → ℕ
+read_by m = m.dropped + length m.waiting.items
+
+-- The input stays. A further lexeme is read only while those before it don't settle the next token.
+pub record Reads (old new : Machine) : Type 0 where
+  pub setting : new.setting ≡ old.setting
+  pub bytes : new.input.now ≡ old.input.now
+  pub further : read_by old ≤ read_by new
+  pub needed : (n : ℕ) → read_by old ≤ n → n < read_by new
+      → settles old.setting old.input.now (left_in old).tokens n ≡ false
+
+-- Want of memory is told of the reader only before the input is decoded, and where it isn't UTF-8, which takes none.
+abbrev pub ReaderLacks : Machine → Fault → Type 0
+ReaderLacks m f = f ≡ memory_fault Reader
+    → (read_by m ≡ 0) × (encoding_of m.setting m.input.now ≢ YAML_UTF8_ENCODING)
+
+-- What UTF-8 that spells no text has wrong takes no memory: it is told.
+abbrev pub PlainIsTold : Machine → Fault → Type 0
+PlainIsTold m f = (g : Fault) → encoding_of m.setting m.input.now ≡ YAML_UTF8_ENCODING
+    → decoding_fault m.setting m.input.now ≡ Some g → f ≡ g
 
 -- the next token is known
 pub record Knows (old new : Machine) : Type 0 where
   pub stands : IsMachine new
   pub left : left_in new ≡ left_in old
   pub ready : is_ready new ≡ true
+  pub reads : Reads old new
 
 -- no token is to come, and no fault
 pub record Finishes (old new : Machine) : Type 0 where
   pub stands : IsMachine new
   pub left : left_in old ≡ nothing
   pub none : left_in new ≡ nothing
+  pub reads : Reads old new
 
 -- A refusal tells the fault that is to come, where no token is, or that memory ran out; a token that is known isn't refused, nor
 -- is the end.
@@ -29,7 +58,9 @@ pub record Denies (old new : Machine) (f : Fault) : Type 0 where
   pub sought : is_ready old ≡ false
   pub more : HasMore (left_in old).tokens (left_in old).fault
   pub told : IsTold (left_in old) f
-  pub few : length new.waiting.items ≤ 1025
+  pub reader : ReaderLacks old f
+  pub plain : PlainIsTold old f
+  pub few : IsShort new.waiting
 
 abbrev pub ReadsOn : Machine → Machine → Fault → Sought → Type 0
 ReadsOn old new f found.Known = Knows old new
@@ -40,6 +71,7 @@ ReadsOn old new f found.Refused = Denies old new f
 pub record Gives (old new : Machine) (t : Token) : Type 0 where
   pub stands : IsMachine new
   pub first : GivesFirst (left_in old) t (left_in new)
+  pub reads : Reads old new
 
 -- nothing was to come
 pub record Lacks (old new : Machine) (t : Token) : Type 0 where

@@ -3,6 +3,7 @@ pub use Rattle.yaml_scan_model.specs.Faults
 pub use Rattle.yaml_scan_model.specs.Classes
 pub use Rattle.yaml_scan_model.specs.Marks
 pub mod Found
+pub mod Settled
 pub mod Session
 pub mod SessionView
 pub use Rattle.yaml_scan_machine.specs.Left

@@ -1,20 +1,42 @@
 -- What a session stands for, and what its calls answer.
-use Rattle.std.specs.Prelude.{ℕ, ◌≡◌, ◌≤◌, Bool, true, false, List, [], ◌∷◌, Option, Some, None, Result, Ok, Err, ◌⊎◌}
+use Rattle.std.specs.Prelude.{ℕ, ◌≡◌, ◌≢◌, ◌<◌, ◌≤◌, Bool, true, false, List, [], ◌∷◌, Option, Some, None, Result, Ok, Err, ◌⊎◌}
 use denote.Bor.{Bor}
 use Rattle.yaml_scan_model.specs.declared.token.yaml_token_t.{yaml_token_t}
 use Rattle.yaml_scan_model.specs.declared.fault.yaml_fault_t.{yaml_fault_t}
 use Rattle.yaml_scan_model.specs.Tokens.{Token, token_of, no_token}
-use Rattle.yaml_scan_model.specs.Faults.{Fault, fault_of}
+use Rattle.yaml_scan_model.specs.Faults.{Fault, fault_of, memory_fault}
+use Rattle.yaml_scan_model.specs.declared.fault.yaml_origin_t.TheVariants.{Reader}
+use Rattle.yaml_scan_model.specs.declared.name.yaml_encoding_t.{yaml_encoding_t}
+use Rattle.yaml_scan_model.specs.declared.name.yaml_encoding_t.TheVariants.{YAML_UTF8_ENCODING}
+use Rattle.yaml_scan_decode.specs.Encodings.{encoding_of}
+use Rattle.yaml_scan_decode.specs.DecodedText.{decoding_fault}
 use Rattle.yaml_scan_history.specs.Remaining.{Remaining, nothing}
 use Rattle.yaml_scan_machine.specs.Left.{IsTold}
+use Rattle.yaml_scan.specs.Settled.{settles}
 
--- the tokens that are still to come and the fault that ends them, whether the next token is known, the fault that was
--- answered, and how many lexemes wait: they were read, and not all their tokens are taken
+-- An input and the encoding that is set, and how many lexemes of its text were read; the tokens that are still to come and
+-- the fault that ends them, the fault that was answered, and how many lexemes wait: they were read, and not all their
+-- tokens are taken; and how many slots there are for them.
 pub record View : Type 0 where
+  pub setting : yaml_encoding_t
+  pub bytes : List ℕ
+  pub read : ℕ
   pub remaining : Remaining
-  pub ready : Bool
   pub answered : Option Fault
   pub waiting : ℕ
+  pub slots : ℕ
+
+-- A token is to come, and the lexemes that were read settle which: no later text can change it.
+abbrev pub is_settled : View → Bool
+is_settled v = settles v.setting v.bytes v.remaining.tokens v.read
+
+-- The input stays. A further lexeme is read only while those before it don't settle the next token.
+pub record ReadsNeeded (old new : View) : Type 0 where
+  pub setting : new.setting ≡ old.setting
+  pub bytes : new.bytes ≡ old.bytes
+  pub further : old.read ≤ new.read
+  pub needed : (n : ℕ) → old.read ≤ n → n < new.read
+      → settles old.setting old.bytes old.remaining.tokens n ≡ false
 
 -- the first token to come, and the others; behind the last the empty token
 abbrev pub first_of : List Token → Token
@@ -49,24 +71,36 @@ MayAnswer (t ∷ ts) fault = Unit {0}
 abbrev pub EndsAnswered : View → Type 0
 EndsAnswered v = (f : Fault) → v.answered ≡ Some f → v.remaining ≡ nothing
 
--- At most 1,025 lexemes wait: none is read that isn't needed, and a `:` is looked for within 1,024 bytes of its key.
+-- At most 1,025 lexemes wait, in a row of at most 2,049 slots: none is read that isn't needed, a `:` is looked for within
+-- 1,024 bytes of its key, and a slot is made only where at least half of them hold what waits.
 abbrev pub FewWait : View → Type 0
-FewWait v = v.waiting ≤ 1025
+FewWait v = (v.waiting ≤ 1025) × (v.slots ≤ 2049)
 
--- the next token is known, or there is none
+-- the next token is settled, or there is none
 abbrev pub IsKnown : View → Type 0
-IsKnown v = (v.ready ≡ true) ⊎ (v.remaining ≡ nothing)
+IsKnown v = (is_settled v ≡ true) ⊎ (v.remaining ≡ nothing)
 
--- A refusal tells the fault that is to come, where no token is, or that memory ran out; a token that is known isn't refused, nor
+-- Want of memory is told of the reader only before the input is decoded, and where it isn't UTF-8, which takes none.
+abbrev pub ReaderMayLack : View → Fault → Type 0
+ReaderMayLack v f = f ≡ memory_fault Reader
+    → (v.read ≡ 0) × (encoding_of v.setting v.bytes ≢ YAML_UTF8_ENCODING)
+
+-- What UTF-8 that spells no text has wrong takes no memory: it is told.
+abbrev pub PlainIsTold : View → Fault → Type 0
+PlainIsTold v f = (g : Fault) → encoding_of v.setting v.bytes ≡ YAML_UTF8_ENCODING
+    → decoding_fault v.setting v.bytes ≡ Some g → f ≡ g
+
+-- A refusal tells the fault that is to come, where no token is, or that memory ran out; a token that is settled isn't refused, nor
 -- is the empty token behind the end. It is answered once and kept, and nothing comes behind it.
 pub record Refuses (old : View) (f : Fault) (new : View) : Type 0 where
-  pub sought : old.ready ≡ false
+  pub sought : is_settled old ≡ false
   pub more : HasMore old.remaining.tokens old.remaining.fault
   pub told : IsTold old.remaining f
+  pub reader : ReaderMayLack old f
+  pub plain : PlainIsTold old f
   pub once : old.answered ≡ None
   pub kept : new.answered ≡ Some f
   pub over : new.remaining ≡ nothing
-  pub unknown : new.ready ≡ false
 
 -- a token was taken: the first to come
 pub record Takes (old : View) (t : Token) (new : View) : Type 0 where
@@ -74,6 +108,7 @@ pub record Takes (old : View) (t : Token) (new : View) : Type 0 where
   pub rest : new.remaining ≡ behind_first old.remaining
   pub may : MayAnswer old.remaining.tokens old.remaining.fault
   pub same : new.answered ≡ old.answered
+  pub reads : ReadsNeeded old new
   pub over : EndsAnswered old
 
 -- a token was lent: the first to come, and none is taken
@@ -82,6 +117,7 @@ pub record Lends (old : View) (t : Token) (new : View) : Type 0 where
   pub all : new.remaining ≡ old.remaining
   pub may : MayAnswer old.remaining.tokens old.remaining.fault
   pub same : new.answered ≡ old.answered
+  pub reads : ReadsNeeded old new
   pub known : IsKnown new
   pub over : EndsAnswered old
 
@@ -97,6 +133,13 @@ ScansInto old new false token f = Refuses old f new
 abbrev pub Looks : View → View → Token → Result (Unit {0}) yaml_fault_t → Type 0
 Looks old new token (Ok done) = Lends old token new
 Looks old new token (Err f) = Refuses old (fault_of f) new
+
+-- What a peek answers: the first of the tokens to come, or the empty one where neither a token nor a fault is; or a fault, where
+-- something is to come: the one that is where no token is, or want of memory.
+abbrev pub Shows : View → Result (Bor yaml_token_t) yaml_fault_t → Type 0
+Shows v (Ok token) = (token_of token.now ≡ first_of v.remaining.tokens)
+    × MayAnswer v.remaining.tokens v.remaining.fault
+Shows v (Err f) = HasMore v.remaining.tokens v.remaining.fault × IsTold v.remaining (fault_of f)
 
 abbrev pub Peeks : View → View → Result (Bor yaml_token_t) yaml_fault_t → Type 0
 Peeks old new (Ok token) = Lends old (token_of token.now) new

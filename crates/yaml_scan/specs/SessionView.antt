@@ -1,5 +1,5 @@
 -- What a clause sees of a session.
-use Rattle.std.specs.Prelude.{ℕ, ◌≡◌, ◌≤◌, length, Bool, true, false, ◌||◌, ◌∷◌, Option, Some, None, option_map}
+use Rattle.std.specs.Prelude.{◌≡◌, length, Bool, true, false, ◌∷◌, Option, Some, None, option_map}
 use Rattle.yaml_scan_model.specs.declared.fault.yaml_fault_t.{yaml_fault_t}
 use Rattle.yaml_scan_model.specs.declared.token.yaml_token_t.{yaml_token_t}
 use Rattle.yaml_scan_machine.specs.declared.machine.Machine.{Machine}
@@ -7,9 +7,10 @@ use Rattle.yaml_scan_model.specs.Tokens.{Token, token_of, no_token}
 use Rattle.yaml_scan_model.specs.Faults.{fault_of}
 use Rattle.yaml_scan_history.specs.Remaining.{Remaining, nothing}
 use Rattle.yaml_scan.specs.declared.session.yaml_parser_t.TheInside.{Inside}
-use Rattle.yaml_scan_machine.specs.State.{IsMachine, is_ready}
+use Rattle.yaml_scan_machine.specs.State.{IsShort, IsMachine}
 use Rattle.yaml_scan_machine.specs.Left.{left_in}
 use Rattle.yaml_scan.specs.Session.{View}
+use Rattle.yaml_scan.specs.Found.{read_by}
 
 -- the token that was put aside, and then the others
 abbrev pub with_shown : Bool → Token → Remaining → Remaining
@@ -21,24 +22,20 @@ abbrev pub remaining_by : Option yaml_fault_t → Bool → Token → Remaining �
 remaining_by (Some f) aside t c = nothing
 remaining_by None aside t c = with_shown aside t c
 
-abbrev pub ready_by : Option yaml_fault_t → Bool → Bool → Bool
-ready_by (Some f) aside ready = false
-ready_by None aside ready = aside || ready
-
--- a session's view, by the fault that was answered, whether a token was put aside, that token, what is still to come of
--- the reader, whether it knows the next token, and how many lexemes wait
-abbrev pub view_by : Option yaml_fault_t → Bool → Token → Remaining → Bool → ℕ → View
-view_by fault aside t c ready n = record {
-  remaining = remaining_by fault aside t c;
-  ready = ready_by fault aside ready;
+-- a session's view, by its reader, the fault that was answered, the token that was put aside, and whether one was
+abbrev pub view_by : Machine → Option yaml_fault_t → Token → Bool → View
+view_by m fault t aside = record {
+  setting = m.setting;
+  bytes = m.input.now;
+  read = read_by m;
+  remaining = remaining_by fault aside t (left_in m);
   answered = option_map (λ f. fault_of f) fault;
-  waiting = n;
+  waiting = length m.waiting.items;
+  slots = m.waiting.slots;
 }
 
--- the same, by a session's parts
 abbrev pub view_of : Machine → Option yaml_fault_t → yaml_token_t → Bool → View
-view_of m fault shown aside = view_by fault aside (token_of shown) (left_in m) (is_ready m)
-    (length m.waiting.items)
+view_of m fault shown aside = view_by m fault (token_of shown) aside
 
 pub record IsWhole (m : Machine) (fault : Option yaml_fault_t) (shown : yaml_token_t)
     (aside : Bool) : Type 0 where
@@ -46,7 +43,7 @@ pub record IsWhole (m : Machine) (fault : Option yaml_fault_t) (shown : yaml_tok
   pub free : aside ≡ false → fault ≡ None
   pub over : (f : yaml_fault_t) → fault ≡ Some f → token_of shown ≡ no_token
   pub idle : aside ≡ false → token_of shown ≡ no_token
-  pub short : length m.waiting.items ≤ 1025
+  pub short : IsShort m.waiting
 
 abbrev pub session_view : Inside → View
 session_view s = view_of s.machine s.fault s.shown s.aside

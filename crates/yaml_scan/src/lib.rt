@@ -1,9 +1,11 @@
 //! Decoding, tokens and their faults: libyaml's reader and scanner.
 #![tactic(auto)]
 
+mod laws;
 mod reading;
 mod session;
 
+pub use laws::settled_is_told;
 pub use session::{
     yaml_parser_fault, yaml_parser_has_token, yaml_parser_peek, yaml_parser_scan,
     yaml_parser_scan_into, yaml_parser_skip, yaml_parser_t,

@@ -62,17 +62,17 @@ pub(crate) fn take_back(slot: &mut yaml_token_body_t, spares: &mut Vec<Vec<u8>>)
     match slot {
         yaml_token_body_t::Scalar { value, .. } => keep_room(moved(value), spares),
         _ => {
-            if has_name(slot) {
+            if has_text(slot) {
                 let_go(slot, spares);
             }
         }
     }
 }
 
-/// Whether a slot holds a text that is no scalar's.
+/// Whether a slot is of a kind that has a text.
 // Inlined: a look at the kind.
 #[inline(always)]
-fn has_name(slot: &yaml_token_body_t) -> bool
+fn has_text(slot: &yaml_token_body_t) -> bool
     ensures { result ≡ false → is_bare (body_of slot.now) ≡ true }
 {
     match slot {

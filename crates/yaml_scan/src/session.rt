@@ -7,7 +7,7 @@ ghost use mathlib.Core.Option.{none};
 ghost use Rattle.yaml_scan_model.specs.Tokens.{token_of};
 ghost use Rattle.yaml_scan_model.specs.Faults.{fault_of};
 ghost use Rattle.yaml_scan.specs.contracts.session.yaml_parser_t.{the_row};
-ghost use Rattle.yaml_scan.specs.Session.{HasFirst, Scans, ScansInto, Looks, Peeks, FewWait, behind_first};
+ghost use Rattle.yaml_scan.specs.Session.{HasFirst, ReadsNeeded, Scans, ScansInto, Looks, Shows, Peeks, FewWait, behind_first, is_settled};
 ghost use Rattle.yaml_scan.specs.SessionView.{IsWhole, view_of};
 ghost use Rattle.yaml_scan_history.specs.Scanned.{scanned};
 
@@ -51,10 +51,13 @@ impl<'a> yaml_parser_t<'a> {
     /// UTF-8 (YAML 1.1, 5.2).
     pub fn new(alloc: Global, input: &'a [u8], encoding: yaml_encoding_t) -> yaml_parser_t<'a>
         ensures { result ≡ record {
+          setting = encoding;
+          bytes = input.now;
+          read = 0;
           remaining = scanned encoding input.now;
-          ready = false;
           answered = None;
           waiting = 0;
+          slots = 0;
         } }
     {
         yaml_parser_t {
@@ -121,6 +124,8 @@ pub fn yaml_parser_scan_into(
 
 /// Lends the token that the next scan gives, and takes nothing. Refused as a scan is.
 pub fn yaml_parser_peek<'p>(parser: &'p mut yaml_parser_t) -> Result<&'p yaml_token_t, yaml_fault_t>
+    ensures shows { Shows parser.old result }
+    // What the session becomes, once the token is given back.
     ensures* lends { sem 𝓛 (follows_so (the_row (record { mir = named 1; lft = [] }))
         (the_row (record { mir = named 1; lft = [] })) parser.entry.ghost_name none (λ _ _. ⊤)
         (λ new. Peeks parser.old new result × FewWait new)) }
@@ -166,9 +171,10 @@ fn put_aside(
     }
 }
 
-/// Whether the next token is known: the next scan gives it, and a skip may drop it.
+/// Whether the next token is settled by what was read, so that no later text can change it: the next scan gives it without
+/// reading on, and a skip may drop it.
 pub fn yaml_parser_has_token(parser: &yaml_parser_t) -> bool
-    ensures ready { result ≡ parser.now.ready }
+    ensures settled { result ≡ is_settled parser.now }
     ensures first { result ≡ true → HasFirst parser.now.remaining.tokens }
 {
     if parser.aside {
@@ -182,9 +188,10 @@ pub fn yaml_parser_has_token(parser: &yaml_parser_t) -> bool
 
 /// Drops the next token, which `yaml_parser_has_token` has to know.
 pub fn yaml_parser_skip(parser: &mut yaml_parser_t)
-    requires { parser.old.ready ≡ true }
+    requires { is_settled parser.old ≡ true }
     ensures rest { parser.new.remaining ≡ behind_first parser.old.remaining }
     ensures same { parser.new.answered ≡ parser.old.answered }
+    ensures reads { ReadsNeeded parser.old parser.new }
     ensures few { FewWait parser.new }
 {
     if parser.aside {

@@ -15,6 +15,7 @@ use Rattle.yaml_scan_block.specs.Lines.{spaces, spot_behind, Stops, Line, Tab}
 space_end : (text : List ℕ) (p : ℕ) → byte text p ≡ 32 → ends_break text p ≡ false
 space_end text p h = no_end-blank _ _ _ _ (rw h refl)
 
+-- A space moves the column on by one.
 pub space_column : (text : List ℕ) (p : ℕ) → byte text p ≡ 32
     → column_at text (p + 1) ≡ column_at text p + 1
 space_column text p h = column_more text p (space_end text p h) (rw h refl)
@@ -66,18 +67,21 @@ pub tab_spot : (c : ℕ) (text : List ℕ) (q : ℕ)
 unfolding spot_behind
 tab_spot c text q t = rw t refl
 
+-- A line of a block scalar that has a break behind its indentation is empty.
 pub empty_spot : (c : ℕ) (text : List ℕ) (q : ℕ)
     → (byte text q == 9 && nat_lt (column_at text q) c) ≡ false → 0 < break_width text q
     → spot_behind c text q ≡ Line (Empty (break_value text q)) (q + break_width text q)
 unfolding spot_behind
 empty_spot c text q t h = rw (t, lt-ltb 0 (break_width text q) h) refl
 
+-- A block scalar stops at the text's end, and at text in another column.
 pub end_spot : (c : ℕ) (text : List ℕ) (q : ℕ)
     → (byte text q == 9 && nat_lt (column_at text q) c) ≡ false → break_width text q ≡ 0
     → (byte text q == 0 || not (column_at text q == c)) ≡ true → spot_behind c text q ≡ Stops q
 unfolding spot_behind
 end_spot c text q t z h = rw (t, z, h) refl
 
+-- Text in the scalar's column is a line of it.
 pub text_spot : (c : ℕ) (text : List ℕ) (q : ℕ)
     → (byte text q == 9 && nat_lt (column_at text q) c) ≡ false → break_width text q ≡ 0
     → (byte text q == 0 || not (column_at text q == c)) ≡ false
@@ -89,9 +93,11 @@ text_spot c text q t z h = rw (t, z, h) refl
 pub stop_end : (b col c : ℕ) → b ≡ 0 → (b == 0 || not (col == c)) ≡ true
 stop_end b col c h = grind (arith, nat_tests)
 
+-- Text in another column stops a block scalar.
 pub stop_short : (b col c : ℕ) → col ≢ c → (b == 0 || not (col == c)) ≡ true
 stop_short b col c h = grind (arith, nat_tests)
 
+-- Where text stands in the scalar's column nothing stops it.
 pub no_stop : (b col c : ℕ) → b ≢ 0 → col ≡ c → (b == 0 || not (col == c)) ≡ false
 no_stop b col c h k = grind (arith, nat_tests)
 

@@ -11,7 +11,7 @@ use Rattle.yaml_scan_model.proofs.RunsLemmas.{past-le}
 use Rattle.yaml_scan_block.specs.Lines.{in_block}
 use Rattle.yaml_scan_block.specs.Block.{larger, larger_of, deepest, column_of}
 
-larger_zero : (b : ℕ) → larger 0 b ≡ b
+pub larger_zero : (b : ℕ) → larger 0 b ≡ b
 unfolding larger
 larger_zero b = grind (arith, nat_tests)
 
@@ -34,6 +34,7 @@ pub depth_tab : (n : ℕ) (text : List ℕ) (p d : ℕ) → byte text (past_spac
 unfolding deepest
 depth_tab n text p d h = rw (eq-eqb (byte text (past_spaces text p)) 9 h) refl
 
+-- The search for the column ends at a line with text.
 pub depth_done : (n : ℕ) (text : List ℕ) (p d : ℕ) → byte text (past_spaces text p) ≢ 9
     → break_width text (past_spaces text p) ≡ 0
     → larger_of d (deepest (suc n) text p) ≡ Ok (larger d (column_at text (past_spaces text p)))
@@ -68,11 +69,13 @@ depth_more (suc n) text p d whole room eq-eqb h w =
 pub spaces-le : (text : List ℕ) (p : ℕ) → p ≤ past_spaces text p
 spaces-le text p = past-le is_space_there (length text) text p
 
+-- A digit gives a block scalar's column.
 pub column_given : (level : ℕ) (text : List ℕ) (digit p : ℕ) → 0 < digit
     → column_of level text digit p ≡ Ok ((level - 1) + digit)
 unfolding column_of
 column_given level text digit p h = let f : (digit == 0) ≡ false = grind (arith, nat_tests) in rw f refl
 
+-- Without a digit a block scalar's column is the deepest indentation of the empty lines in front, and more than its parent's.
 pub column_found : (level : ℕ) (text : List ℕ) (digit p : ℕ) → digit ≡ 0
     → column_of level text digit p ≡ larger_of (larger level 1) (deepest (suc (length text)) text p)
 unfolding column_of

@@ -5,3 +5,4 @@ pub mod HeaderLemmas
 pub mod DepthLemmas
 pub mod ScalarLemmas
 mod Unbounding
+mod Indents

@@ -42,6 +42,7 @@ column_read text start level c place h x e d f =
     let here : FindsColumn text start (Ok c) (column_of level text x.digit x.place) = rw (e, d) at f in
     found_column text start c (column_of level text x.digit x.place) here
 
+-- A block scalar is its header, its column, and the lines from there.
 pub block_found : (level : ℕ) (text : List ℕ) (p c : ℕ) (x : HeaderText)
     → header_at text (p + 1) ≡ Ok x → column_of level text x.digit x.place ≡ Ok c
     → block_at level text p ≡ block_with (block_value (byte text p == 62) x.chomp)

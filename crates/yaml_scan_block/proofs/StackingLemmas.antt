@@ -11,6 +11,7 @@ pub stack_start : (folded : Bool) (chomp : Chomp) (g : Texts)
 unfolding stacked_with
 stack_start folded chomp g = refl
 
+-- An empty line is put behind those before it.
 pub stack_empty : (folded : Bool) (done : List ℕ) (any blank : Bool) (feed empties b : List ℕ)
     (chomp : Chomp) (ls : List BlockLine)
     → stacked_with folded done any blank feed (empties ++ b) chomp (texts_of ls)
@@ -61,6 +62,7 @@ pub stack_none : (folded : Bool) (done : List ℕ) (blank : Bool) (feed empties 
 unfolding stacked_with
 stack_none folded done blank feed empties chomp = rw (append-nil empties) refl
 
+-- A fold with breaks is these, and no space.
 pub space_or_some : (xs : List ℕ) → 0 < length xs → space_or xs ≡ xs
 space_or_some [] h = absurd (omega arith)
 space_or_some (x ∷ xs) h = refl

@@ -228,6 +228,7 @@ front bytes p (suc (suc (suc (suc zero)))) few inside =
     cc
 front bytes p (suc (suc (suc (suc (suc n))))) few inside = absurd (omega arith)
 
+-- A character that UTF-8 has at a place stands there by its bytes.
 pub utf8_stands : (bytes : List ℕ) (p : ℕ) (ch : Character) → p < length bytes
     → utf8_at bytes p ≡ Ok ch → Stands bytes p ch (encode_utf8 ch.code)
 utf8_stands bytes p ch in_bytes h =

@@ -2,3 +2,4 @@ pub mod DecodeLemmas
 pub mod SpellingLemmas
 pub mod CompleteLemmas
 pub mod AnswerLemmas
+mod Rules

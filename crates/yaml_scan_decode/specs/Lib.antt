@@ -5,3 +5,4 @@ pub mod Steps
 pub mod Decoding
 pub mod Spelling
 pub mod DecodedText
+pub mod Rules

@@ -3,9 +3,11 @@
 
 mod decode;
 mod encoding;
+mod laws;
 mod offence;
 mod utf16;
 mod utf8;
 
 pub use decode::{yaml_decode, yaml_text_t};
 pub use encoding::stream_encoding;
+pub use laws::offences_are_told;

@@ -20,6 +20,7 @@ pub candidate-more : (d : ℕ) (l : Lexeme) (h : List Lexeme) (c : Candidate)
 unfolding candidate
 candidate-more d l h c e = grind (arith, nat_tests)
 
+-- A candidate is a lexeme of the history.
 pub candidate_below : (d : ℕ) (h : List Lexeme) (c : Candidate) → candidate d h ≡ Some c
     → c.number < length h
 unfolding candidate
@@ -37,6 +38,7 @@ length-mark_key ls [] n = refl
 length-mark_key ls (e ∷ es) zero = refl
 length-mark_key ls (e ∷ es) (suc n) = ap suc (length-mark_key ls es n)
 
+-- Setting a key keeps how many entries there are.
 pub length-keyed : (l : Lexeme) (h : List Lexeme) (es : List Entry)
     → length (keyed l h es) ≡ length es
 length-keyed l h es =
@@ -45,6 +47,7 @@ length-keyed l h es =
       | false ↦ refl
     ]
 
+-- Each lexeme has one entry.
 pub length-entries : (h : List Lexeme) → length (entries h) ≡ length h
 unfolding entries
 length-entries [] = refl
@@ -81,6 +84,7 @@ fresh_before (Some d) p q c e (i, l) =
       | inr far ↦ let bad = rw far at e in cc
     ]
 
+-- A fresh candidate is the one that was asked for.
 pub fresh_is : (o : Option Candidate) (p : yaml_mark_t) (c : Candidate) → fresh o p ≡ Some c
     → o ≡ Some c
 fresh_is None p c e = e
@@ -168,6 +172,7 @@ first_open-least_of newer (l ∷ h) d n o lt =
           ]
     ]
 
+-- The first lexeme that is open is no later than any that is.
 pub first_open-least : (h : List Lexeme) (d n : ℕ) → IsOpen h d n → n < length h
     → first_open h h ≤ n
 first_open-least h d n o lt = first_open-least_of [] h d n o lt

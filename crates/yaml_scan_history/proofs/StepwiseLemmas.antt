@@ -68,6 +68,7 @@ by_kind None text h e =
 by_kind (Some k) text h e =
     unmissed (missed (open_at 0 h) (place_behind text h)) text (gap_behind text h) h (later k text h) (Read (lexeme_behind k text h)) (rw e (of_that_kind k text h))
 
+-- What comes next by the text's sight is what comes next step by step.
 pub stepwise : (text : List ℕ) (h : List Lexeme)
     → coming (kind_behind text h) text h ≡ behind text (gap_behind text h) h
 stepwise text h = by_kind (kind_behind text h) text h refl

@@ -1,4 +1,5 @@
 pub mod Kinds
+pub mod Roles
 pub mod History
 pub mod Words
 pub mod Next
@@ -6,6 +7,7 @@ pub mod Stepwise
 pub mod Remaining
 pub mod Scanned
 pub mod Laws
+pub mod Rules
 -- what it stands on, for crates of laws that name this one alone
 pub use Rattle.yaml_scan_model.specs as scan_model
 pub use Rattle.yaml_scan_words.specs as scan_words

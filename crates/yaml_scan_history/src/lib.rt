@@ -7,5 +7,5 @@ mod laws;
 mod lexeme;
 
 pub use kind::Kind;
-pub use laws::settled_stays;
+pub use laws::{faults_are_told, kinds_have_roles, settled_stays};
 pub use lexeme::{Entry, Lexeme, Opens, is_fresh, moved_end};

@@ -110,6 +110,7 @@ feeds b c d h =
       ]
     ]
 
+-- No lexeme begins at white space.
 pub no_white : (text : List ℕ) (p b : ℕ) → byte text p ≡ b
     → (b == 32 || (b == 10 || b == 13)) ≡ true → begins_lexeme text p ≡ true → ⊥
 no_white text p b e f g =
@@ -128,6 +129,7 @@ record Parts (text : List ℕ) (p : ℕ) (white gap : List ℕ) : Type 0 where
   same : gap ≡ white ++ more
   is : IsGap text (p + length white) more
 
+-- The first of bytes that stand at a place stands there.
 pub has_first : (text : List ℕ) (p b : ℕ) (bs : List ℕ) → HasAt text p (b ∷ bs) → byte text p ≡ b
 has_first text p b bs h = let e : p + 0 ≡ p = omega arith in sym (ap (λ (n : ℕ). byte text n) e) ∙ h 0 (omega arith)
 

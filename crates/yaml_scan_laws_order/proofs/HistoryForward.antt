@@ -35,6 +35,7 @@ reads_same : (a b : Lexeme) → Read a ≡ Read b → a ≡ b
 unfolding lexeme_of
 reads_same a b e = ap lexeme_of e
 
+-- The first lexeme is STREAM-START.
 pub first_is : (text : List ℕ) (l : Lexeme) → next text [] ≡ Read l → first_lexeme ≡ l
 unfolding next
 first_is text l e = reads_same first_lexeme l e
@@ -58,6 +59,7 @@ pub reached_inside : (text : List ℕ) (l : Lexeme) (ended : Bool) → Takes end
 reached_inside text l true t = let same = ap (λ (m : yaml_mark_t). m.index) t.reached in (omega (arith, same, t.inside), omega (arith, same))
 reached_inside text l false t = (t.inside, omega (arith, t.some, t.order))
 
+-- A lexeme but the end takes bytes.
 pub takes_bytes : (text : List ℕ) (l : Lexeme) → StandsIn text l → is_end l.kind ≡ false
     → TakesBytes text l
 takes_bytes text l t e = subst (λ b. Takes b text l) e t
@@ -85,6 +87,7 @@ extended_stands text h (Read l) s e = read_stands text h l s e
 extended_stands text h (Fails f) s e = s
 extended_stands text h Ends s e = s
 
+-- The lexemes of a history stand one behind another in the text.
 pub history_stands : (text : List ℕ) (n : ℕ) → Stands text (history text n)
 unfolding history
 history_stands text zero = tt
@@ -129,6 +132,7 @@ read_forward text (x ∷ h) l s e =
 pub goes_forward : (text : List ℕ) → GoesForward text
 goes_forward text n l e = read_forward text (history text n) l (history_stands text n) e
 
+-- The next lexeme stands behind those before it.
 pub stand_in : (text : List ℕ) (h : List Lexeme) (l : Lexeme) → 0 < length h → Stands text h
     → next text h ≡ Read l → ((reached h).index ≤ l.start.index) × StandsIn text l
 stand_in text [] l some s e = absurd (omega arith)
@@ -176,6 +180,7 @@ steps_below text n l e =
     let room = room_of text (history text n) l (history_stands text n) e in
     omega (arith, count, room)
 
+-- Behind the whole history no lexeme is read.
 pub all_ends : (text : List ℕ) (l : Lexeme) → next text (all text) ≢ Read l
 unfolding all
 all_ends text l e = let below = steps_below text (length text + 2) l e in absurd (omega (arith, below))
@@ -187,6 +192,7 @@ stays_upto text n m never le =
     let z : m - n + n ≡ m = omega arith in
     rw z at (stays text n (m - n) never)
 
+-- A history of as many lexemes as characters, and two, is the whole.
 pub stays_all : (text : List ℕ) (n : ℕ) → length text + 2 ≤ n → history text n ≡ all text
 unfolding all
 stays_all text n le = stays_upto text (length text + 2) n (all_ends text) le
@@ -236,6 +242,7 @@ grows_by text n (suc k) =
     let z : suc k + n ≡ suc (k + n) = omega arith in
     rw z (front ++ newer, here ∙ ap (λ h. front ++ h) before ∙ sym (append_assoc front newer (history text n)))
 
+-- A longer history has the shorter one behind it.
 pub history_grows : (text : List ℕ) (n m : ℕ) → n ≤ m
     → (newer : List Lexeme) × (history text m ≡ newer ++ history text n)
 history_grows text n m le =

@@ -30,6 +30,7 @@ drop_past : (xs ys : List Token) (n : ℕ) → n ≡ length xs → drop n (xs ++
 drop_past [] ys n e = rw e refl
 drop_past (x ∷ xs) ys n e = rw e (drop_past xs ys (length xs) refl)
 
+-- The tokens to come: those of the lexemes, spelled, that were not handed out, and what a fault leaves.
 pub tokens_is : (s : SpelledText) (dropped given : ℕ)
     → (remaining s dropped given).tokens
     ≡ drop given (flat_map (spell s) (drop dropped (handed s.text))
@@ -37,6 +38,7 @@ pub tokens_is : (s : SpelledText) (dropped given : ℕ)
 unfolding remaining
 tokens_is s dropped given = refl
 
+-- The fault that is to come is that of the whole history's next lexeme.
 pub fault_is : (s : SpelledText) (dropped given : ℕ)
     → (remaining s dropped given).fault ≡ fault_in (next s.text (all s.text))
 unfolding remaining
@@ -156,6 +158,7 @@ keyed_ends l h es k e =
 same_ends : (a b c : Entry) → SameEnds a b → SameEnds b c → SameEnds a c
 same_ends a b c (e, f) (g, h) = (e ∙ g, f ∙ h)
 
+-- A lexeme more leaves how many levels end before each earlier one.
 pub entries_ends : (l : Lexeme) (h : List Lexeme) (k : ℕ) (e : Entry) → k < length h
     → SameEnds (get_or (entries (l ∷ h)) k e) (get_or (entries h) k e)
 unfolding entries
@@ -189,6 +192,7 @@ pub front_count : (es : List Entry) (k : ℕ) (e : Entry) → k < length es
     → length (front_ends (drop k es)) ≡ (get_or es k e).ends
 front_count es k e low = ap length (entry_first es k e low) ∙ length-replicate (get_or es k e).ends (before block_end (get_or es k e).lexeme)
 
+-- Behind the last entry none waits in front.
 pub front_none : (es : List Entry) (k : ℕ) → length es ≤ k → length (front_ends (drop k es)) ≡ 0
 front_none es k past = ap (λ xs. length (front_ends xs)) (drop_of_length-le es past)
 
@@ -309,6 +313,7 @@ pub end_comes : (s : SpelledText) (n k given : ℕ) → next s.text (history s.t
     → length (history s.text n) ≤ k → remaining s k given ≡ nothing
 end_comes s n k given e past = end_of_all s (history s.text n) k given e (last_is_all s.text n (λ l. never_read (next s.text (history s.text n)) l e)) past
 
+-- A settled lexeme's tokens come, one after another.
 pub settled_comes : (s : SpelledText) (n k given : ℕ) (e : Entry) (t : Token)
     → k < first_open (history s.text n) (history s.text n)
     → let x = get_or (entries (history s.text n)) k e in
@@ -319,6 +324,7 @@ settled_comes s n k given e t low =
     let known = known_settled s.text n (suc k) (omega (arith, low)) in
     (settled_token s n k given e t known, settled_done s n k given e known)
 
+-- The last lexeme's tokens come, one after another.
 pub last_comes : (s : SpelledText) (n k given : ℕ) (e : Entry) (t : Token)
     → next s.text (history s.text n) ≡ Ends → k < length (history s.text n)
     → let x = get_or (entries (history s.text n)) k e in

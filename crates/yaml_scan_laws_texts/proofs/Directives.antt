@@ -106,6 +106,7 @@ version_here text p minor small space one dot digit stop =
     let front = version_spaced text p space (no_blank text (p + 1) 49 one (omega arith) (omega arith)) in
     front ∙ rw (major, e2, dot, e3, last, e4) refl
 
+-- A `%YAML` line reads back as its version.
 pub version_is_read : (text : List ℕ) (p minor : ℕ) → minor < 10
     → HasAt text p (codes "%YAML 1." ++ ((48 + minor) ∷ [])) → is_break text (p + 9) ≡ true
     → directive_at text p ≡ Ok record
@@ -241,6 +242,7 @@ tag_here text p handle pieces space h shaped some is stop =
     let last = prefix_read text (p + 1 + length handle) pieces part some uri is stop in
     spaced ∙ rw (first, last) refl
 
+-- A `%TAG` line reads back as its handle and prefix.
 pub tag_directive_is_read : (text : List ℕ) (p : ℕ) (handle : List ℕ) (pieces : List UriPiece)
     → HasAt text p (directive_text handle pieces) → IsHandle handle → 0 < length pieces
     → IsUri true 0 pieces

@@ -13,6 +13,7 @@ spelled_in : (encoding : yaml_encoding_t) (r : Result (List ℕ) _)
 spelled_in encoding (Ok text) = remaining_spelled record { encoding = encoding; text = text } 0 0
 spelled_in encoding (Err o) = tt
 
+-- The tokens of a scanned input are spelled.
 pub scanned_spelled : (setting : yaml_encoding_t) (bytes : List ℕ)
     → AreSpelled (scanned setting bytes).tokens
 scanned_spelled setting bytes = spelled_in (encoding_of setting bytes) (decoded_text setting bytes)

@@ -140,6 +140,7 @@ space_plain : (32 == 37 || (is_alpha_byte 32
 unfolding is_alpha_byte is_digit_byte is_punctuation is_wide_punctuation
 space_plain = refl
 
+-- A lone `!` reads as a tag without handle.
 pub lone_mark_is_read : (flow : Bool) (text : List ℕ) (p : ℕ) → byte text p ≡ 33
     → byte text (p + 1) ≡ 32
     → tag_at flow text p ≡ Ok record { handle = []; suffix = 33 ∷ []; end = p + 1 }

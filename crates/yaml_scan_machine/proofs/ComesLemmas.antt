@@ -1,16 +1,18 @@
 -- Where a machine stops.
-use Rattle.std.proofs.Common.{◌≡◌, ℕ, ◌+◌, ◌≤◌, Bool, true, false, ltb, List, [], ◌∷◌, length, get_or, Result, Ok, Err, refl, sym, ap, subst, ◌∙◌, inl, inr, ◌⊎◌, arith, Some}
+use Rattle.std.proofs.Common.{◌≡◌, ℕ, ◌+◌, ◌≤◌, Bool, true, false, ltb, List, [], ◌∷◌, length, get_or, Result, Ok, Err, refl, sym, ap, subst, ◌∙◌, inl, inr, ◌⊎◌, arith, Some, ◌≢◌}
 use Rattle.std.proofs.lemmas.Bool.{cases_Bool, cases_lt}
 use Rattle.std.proofs.lemmas.Bool.Decides.{nat_tests}
 use Rattle.std.proofs.lemmas.List.{length-map}
 use Rattle.std.specs.Prelude.{map, IfErr, option_map}
 use Rattle.yaml_scan_model.specs.declared.name.yaml_encoding_t.{yaml_encoding_t}
+use Rattle.yaml_scan_model.specs.declared.name.yaml_encoding_t.TheVariants.{YAML_UTF8_ENCODING}
+use Rattle.yaml_scan_model.specs.declared.name.yaml_error_type_t.TheVariants.{YAML_READER_ERROR, YAML_MEMORY_ERROR}
 use Rattle.yaml_scan_model.specs.declared.problem.ScanFault.{ScanFault}
 use Rattle.yaml_scan_model.specs.declared.problem.ScanError.{ScanError}
 use Rattle.yaml_scan_model.specs.declared.problem.ScanError.TheVariants as errors
 use Rattle.yaml_scan_model.specs.Problems.{scanner_fault}
 use Rattle.yaml_scan_decode.specs.DecodedText.{text_bytes, decoding_fault}
-use Rattle.yaml_scan_decode.specs.Decoding.{decoded_characters, in_utf8}
+use Rattle.yaml_scan_decode.specs.Decoding.{decoded_characters, decoded_text, in_utf8}
 use Rattle.yaml_scan_decode.specs.declared.offence.Offence.{Offence}
 use Rattle.yaml_scan_decode.specs.Offences.{reader_fault}
 use Rattle.yaml_scan_model.specs.declared.fault.yaml_origin_t.TheVariants.{Reader}
@@ -32,7 +34,7 @@ use Rattle.yaml_scan_machine.specs.declared.machine.Machine.{Machine}
 use Rattle.yaml_scan_queue.specs.declared.waiting.Waiting.{Waiting}
 use Rattle.yaml_scan_queue.specs.Waits.{Kept, kept_of}
 use Rattle.yaml_scan_machine.specs.declared.next.Read.{Read as Answer}
-use Rattle.yaml_scan_machine.specs.State.{IsMachine, GoesOn, ready_in, is_ready}
+use Rattle.yaml_scan_machine.specs.State.{IsShort, IsMachine, GoesOn, ready_in, is_ready}
 use Rattle.yaml_scan_machine.specs.Shows.{Fields, fields_of, IsShown, read, settled_in, history_of, stream_of}
 use Rattle.yaml_scan_machine.specs.Reads.{GivesNext}
 use Rattle.yaml_scan_machine.specs.Stood.{Steps, IsRefused}
@@ -150,6 +152,7 @@ fault_machine m (errors.Fault p) i stuck more r =
 pub left_is : (m : Machine) → m.started ≡ true → left_in m ≡ to_come m
 left_is m on = ap (λ b. left_from b (to_come m) (scanned m.setting m.input.now)) on
 
+-- What is left of a machine that hasn't begun is the whole input.
 pub left_whole : (m : Machine) → m.started ≡ false → left_in m ≡ scanned m.setting m.input.now
 left_whole m off = ap (λ b. left_from b (to_come m) (scanned m.setting m.input.now)) off
 
@@ -197,8 +200,9 @@ pub steps_on : (old new : Machine) (f : Fault) (b : Bool) → b ≡ true → Ste
 steps_on old new f true e s = s
 steps_on old new f false e s = cc
 
+-- A step that fails is refused, and at most 1,025 lexemes wait.
 pub steps_off : (old new : Machine) (f : Fault) (b : Bool) → b ≡ false → Steps old new f b
-    → IsRefused old f × (length new.waiting.items ≤ 1025)
+    → IsRefused old f × IsShort new.waiting
 steps_off old new f true e s = cc
 steps_off old new f false e s = s
 
@@ -207,3 +211,31 @@ pub told_refused : (first m : Machine) (f : Fault) → first.started ≡ true
     → to_come m ≡ to_come first → IsMachine m → is_ready m ≡ false → m.ended ≡ false → IsRefused m f
     → IsTold (left_in first) f
 told_refused first m f on same i stuck more (e, refused, is) = told_error first e f on (subst (λ (c : Remaining). Faults e c) same (fault_machine m e i stuck more refused)) is
+
+-- where text and input are the same, so is what the input spells
+pub decoded_as : (m d : Machine) → d.text ≡ m.text → d.setting ≡ m.setting
+    → d.input.now ≡ m.input.now
+    → decoded_text m.setting m.input.now ≡ Ok (text_bytes m.text)
+    → decoded_text d.setting d.input.now ≡ Ok (text_bytes d.text)
+decoded_as m d text setting input is =
+    ap (λ (s : yaml_encoding_t). decoded_text s d.input.now) setting ∙ ap (λ (bytes : List ℕ). decoded_text m.setting bytes) input ∙ is ∙ ap Ok (ap text_bytes (sym text))
+
+pub spelled_as : (m d : Machine) → d.encoding ≡ m.encoding → d.setting ≡ m.setting
+    → d.input.now ≡ m.input.now → m.encoding ≡ encoding_of m.setting m.input.now
+    → d.encoding ≡ encoding_of d.setting d.input.now
+spelled_as m d encoding setting input is =
+    encoding ∙ is ∙ ap (λ (bytes : List ℕ). encoding_of m.setting bytes) (sym input) ∙ ap (λ (s : yaml_encoding_t). encoding_of s d.input.now) (sym setting)
+
+no_reader_fault : (r : Result (List ℕ) Offence) (f : Fault)
+    → option_map reader_fault (result_err r) ≡ Some f → f ≡ memory_fault Reader → ⊥
+no_reader_fault (Ok cs) f e is = cc
+no_reader_fault (Err o) f e is =
+    let same : f ≡ reader_fault o = cc in
+    let bad : YAML_READER_ERROR ≡ YAML_MEMORY_ERROR = ap (λ (g : Fault). g.kind) (sym same ∙ is) in
+    cc
+
+-- UTF-8 takes no memory
+pub reader_wide : (setting : yaml_encoding_t) (bytes : List ℕ) (f : Fault)
+    → (encoding_of setting bytes ≡ YAML_UTF8_ENCODING → decoding_fault setting bytes ≡ Some f)
+    → f ≡ memory_fault Reader → encoding_of setting bytes ≢ YAML_UTF8_ENCODING
+reader_wide setting bytes f none is utf8 = no_reader_fault (decoded_characters setting bytes) f (none utf8) is

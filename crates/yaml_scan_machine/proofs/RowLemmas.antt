@@ -1,11 +1,13 @@
 -- The lexemes that wait, where one of them is told what a later one makes of it.
-use Rattle.std.proofs.Common.{◌≡◌, ℕ, ◌<◌, List, length, get_or, ap, sym, subst, ◌∙◌}
+use Rattle.std.proofs.Common.{◌≡◌, ℕ, ◌<◌, ◌≤◌, List, length, get_or, ap, sym, subst, ◌∙◌, inl, inr, arith, refl, Result, Ok, Err}
 use Rattle.std.proofs.Math.ListN.{set}
 use Rattle.std.proofs.lemmas.List.{length-set}
+use Rattle.std.specs.Prelude.{OnErr}
 use Rattle.yaml_scan_history.specs.declared.lexeme.Opens.{Opens}
+use Rattle.yaml_scan_queue.specs.Line.{Line, Grows}
 use Rattle.yaml_scan_queue.specs.declared.waiting.Waiting.{Waiting}
 use Rattle.yaml_scan_queue.specs.Waits.{keyed as marked}
-use Rattle.yaml_scan_machine.specs.State.{AreInside}
+use Rattle.yaml_scan_machine.specs.State.{IsShort, AreInside}
 use Rattle.yaml_scan_machine.proofs.KindLemmas.{first_of}
 use Rattle.yaml_scan_machine.proofs.SafeLemmas.{inside_set}
 
@@ -21,3 +23,21 @@ pub marked_inside : (ws new : List Waiting) (o : Opens) (i : ℕ) → i < length
 marked_inside ws new o i lt all n h =
     let w = first_of ws i lt in
     subst (λ (xs : List Waiting). AreInside n xs) (sym (all w)) (inside_set n (marked o (get_or ws i w)) ws i (h i w lt) h)
+
+-- A row grows where it is at least half full, and few wait where one lexeme more is read.
+pub row_grows : (m d r p : Line) → length m.items ≤ 1024 → m.slots ≤ 2049
+    → length d.items ≡ length m.items → d.slots ≡ m.slots → Grows d r → p.slots ≡ r.slots
+    → p.slots ≤ 2049
+row_grows m d r p few most count slots (inl same) kept = omega (arith, most, slots, same, kept)
+row_grows m d r p few most count slots (inr (more, half)) kept = omega (arith, few, count, more, half, kept)
+
+pub row_short : (m d r : Line) → length m.items ≤ 1024 → m.slots ≤ 2049
+    → length d.items ≡ length m.items → d.slots ≡ m.slots → r.items ≡ d.items → Grows d r
+    → IsShort r
+row_short m d r few most count slots items grows =
+    let long : length r.items ≡ length d.items = ap (λ (ws : List Waiting). length ws) items in
+    (omega (arith, few, count, long), row_grows m d r r few most count slots grows refl)
+
+pub on_err : {X Y : Type 0} → (r : Result X Y) (P : Type 0) → P → OnErr r P
+on_err (Ok x) P p = tt
+on_err (Err e) P p = p

@@ -77,6 +77,7 @@ start_length s l opening.Sequence true = refl
 start_length s l opening.Mapping false = refl
 start_length s l opening.Mapping true = refl
 
+-- A lexeme is spelled as what stands in front of it, and itself.
 pub spell_length : (s : SpelledText) (e : Entry)
     → length (spell s e) ≡ front_count (kept_in s e) + 1
 spell_length s e =

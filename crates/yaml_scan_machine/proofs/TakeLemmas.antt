@@ -192,6 +192,9 @@ stands_more m w rest b i items ready some =
       inside = i.inside;
       place = i.place;
       begun = i.begun;
+      fresh = i.fresh;
+      decoded = i.decoded;
+      spelled = i.spelled;
       shown = shown_given (fields_of m) (m.given + 1) i.shown;
       given = subst (λ es. given_in m.dropped m.settled (m.given + 1) es) (sym wait) (given_more m.dropped m.settled m.given w rest (map (λ (x : Waiting). kept_of x) rest) b first some);
     }

@@ -1,9 +1,14 @@
 -- What the fields of a machine say.
-use Rattle.std.specs.Prelude.{ℕ, ◌+◌, ◌^◌, ◌≡◌, ◌<◌, ◌≤◌, Bool, false, ◌||◌, nat_lt, List, [], ◌∷◌, length, take, slice_index, slice_index_or, IfSome}
+use Rattle.std.specs.Prelude.{ℕ, ◌+◌, ◌^◌, ◌≡◌, ◌<◌, ◌≤◌, Bool, false, ◌||◌, nat_lt, List, [], ◌∷◌, length, take, slice_index, slice_index_or, IfSome, Some, Ok, true}
 use Rattle.yaml_scan_model.specs.declared.record.yaml_mark_t.{yaml_mark_t}
+use Rattle.yaml_scan_model.specs.declared.name.yaml_encoding_t.TheVariants.{YAML_UTF8_ENCODING}
+use Rattle.yaml_scan_model.specs.Faults.{Fault}
 use Rattle.yaml_scan_model.specs.Marks.{mark_at, splits_break}
-use Rattle.yaml_scan_decode.specs.DecodedText.{text_bytes}
+use Rattle.yaml_scan_decode.specs.DecodedText.{text_bytes, decoding_fault}
+use Rattle.yaml_scan_decode.specs.Decoding.{decoded_text}
+use Rattle.yaml_scan_decode.specs.Encodings.{encoding_of}
 use Rattle.yaml_scan_machine.specs.declared.machine.Machine.{Machine}
+use Rattle.yaml_scan_queue.specs.Line.{Line}
 use Rattle.yaml_scan_queue.specs.declared.waiting.Waiting.{Waiting}
 use Rattle.yaml_scan_machine.specs.declared.next.Read.{Read}
 use Rattle.yaml_scan_history.specs.declared.kind.Kind.{Kind}
@@ -27,10 +32,14 @@ abbrev pub AreInside : ℕ → List Waiting → Type 0
 AreInside n ws = (k : ℕ) → (w : Waiting) → k < length ws
     → (slice_index_or ws k w).start.column ≤ n
 
+-- At most 1,025 lexemes wait, in a row of at most 2,049 slots.
+abbrev pub IsShort : Line → Type 0
+IsShort q = (length q.items ≤ 1025) × (q.slots ≤ 2049)
+
 pub record IsMachine (m : Machine) : Type 0 where
   pub long : length (text_bytes m.text) < 2 ^ 63
   pub few : m.dropped + length m.waiting.items ≤ length (text_bytes m.text) + 2
-  pub short : length m.waiting.items ≤ 1025
+  pub short : IsShort m.waiting
   pub taken : m.dropped ≤ m.settled
   pub settled : m.settled ≤ m.dropped + length m.waiting.items
   pub depth : m.depth ≤ m.dropped + length m.waiting.items
@@ -38,6 +47,9 @@ pub record IsMachine (m : Machine) : Type 0 where
   pub inside : AreInside (length (text_bytes m.text)) m.waiting.items
   pub place : m.ended ≡ false → IsPlace (text_bytes m.text) m.place
   pub begun : m.started ≡ false → m.waiting.items ≡ []
+  pub fresh : m.started ≡ false → m.dropped ≡ 0
+  pub decoded : m.started ≡ true → decoded_text m.setting m.input.now ≡ Ok (text_bytes m.text)
+  pub spelled : m.encoding ≡ encoding_of m.setting m.input.now
   pub shown : IsShown (fields_of m)
   pub given : IsGiven (fields_of m)
 
@@ -69,4 +81,17 @@ pub record GoesOn (old new : Machine) : Type 0 where
   pub given : new.given ≡ old.given
   pub encoding : new.encoding ≡ old.encoding
   pub started : new.started ≡ old.started
+  pub setting : new.setting ≡ old.setting
+  pub bytes : new.input.now ≡ old.input.now
   pub further : length new.waiting.items ≡ length old.waiting.items + 1
+
+-- UTF-8 takes no memory: where it spells no text, that is told.
+abbrev pub TellsUtf8 : Machine → Fault → Type 0
+TellsUtf8 m f = encoding_of m.setting m.input.now ≡ YAML_UTF8_ENCODING
+    → decoding_fault m.setting m.input.now ≡ Some f
+
+-- the input is the same, and as many lexemes of it were read
+pub record Keeps (old new : Machine) : Type 0 where
+  pub setting : new.setting ≡ old.setting
+  pub bytes : new.input.now ≡ old.input.now
+  pub read : new.dropped + length new.waiting.items ≡ old.dropped + length old.waiting.items

@@ -17,7 +17,7 @@ use Rattle.yaml_scan_machine.specs.Shows.{history_of}
 use Rattle.yaml_scan_machine.specs.Reads.{required_in, late, GivesNext}
 use Rattle.yaml_scan_machine.specs.Comes.{Refused}
 use Rattle.yaml_scan_machine.specs.Left.{IsLocated}
-use Rattle.yaml_scan_machine.specs.State.{IsPlace, IsMachine, IsNext, GoesOn, is_ready}
+use Rattle.yaml_scan_machine.specs.State.{IsPlace, IsShort, IsMachine, IsNext, GoesOn, is_ready}
 
 -- a lexeme of a kind stands there, and comes next
 pub record IsStand (m : Machine) (k : Kind) (s : Spot) : Type 0 where
@@ -58,4 +58,4 @@ IsRefused m f = (e : ScanError) × (Refused m e) × (IsLocated e f)
 -- one lexeme more waits (true), or that fault is answered
 abbrev pub Steps : Machine → Machine → Fault → Bool → Type 0
 Steps old new f true = IsMachine new × GoesOn old new
-Steps old new f false = IsRefused old f × (length new.waiting.items ≤ 1025)
+Steps old new f false = IsRefused old f × IsShort new.waiting

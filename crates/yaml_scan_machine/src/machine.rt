@@ -1,6 +1,6 @@
 //! The state between two lexemes.
 
-ghost use Rattle.std.specs.Prelude.{◌≡◌, ◌+◌, ◌-◌, ◌<◌, ◌≤◌, ◌^◌, ◌&&◌, ◌||◌, ◌==◌, not, nat_lt, if◌then◌else◌, OnOk, IfOk, IfErr, OnErr, IfSome, true, false, length, ℕ};
+ghost use Rattle.std.specs.Prelude.{◌≡◌, ◌+◌, ◌-◌, ◌<◌, ◌≤◌, ◌^◌, ◌&&◌, ◌||◌, ◌==◌, not, nat_lt, if◌then◌else◌, OnOk, IfOk, IfErr, OnErr, IfSome, true, false, length, ℕ, Ok};
 ghost use Rattle.yaml_scan_decode.specs.DecodedText.{text_bytes};
 ghost use Rattle.yaml_scan_history.specs.Kinds as kinds;
 ghost use Rattle.yaml_scan_model.specs.Faults.{fault_of};
@@ -50,10 +50,11 @@ pub struct Machine<'a> {
 }
 
 impl<'a> Machine<'a> {
-    ghost use Rattle.yaml_scan_machine.specs.State.{IsMachine, IsNarrow, AreInside, GoesOn, Leaves, is_ready};
+    ghost use Rattle.yaml_scan_machine.specs.State.{IsShort, IsMachine, IsNarrow, AreInside, GoesOn, Keeps, Leaves, TellsUtf8, is_ready};
     ghost use Rattle.yaml_scan_history.specs.Scanned.{scanned};
     ghost use Rattle.yaml_scan_machine.specs.Left.{left_in, left_from, IsTold};
     ghost use Rattle.yaml_scan_decode.specs.Encodings.{encoding_of};
+    ghost use Rattle.yaml_scan_decode.specs.Decoding.{decoded_text};
     ghost use Rattle.yaml_scan_machine.specs.Shows.{IsCounted, history_of};
     ghost use Rattle.yaml_scan_machine.specs.Reads.{MarksKey, IsColumnAt, opens_for};
     ghost use Rattle.yaml_scan_machine.specs.Candidates.{AreKeys, stack_of};
@@ -67,6 +68,10 @@ impl<'a> Machine<'a> {
         ensures stands { IsMachine result }
         ensures ready { is_ready result ≡ false }
         ensures waiting { length result.waiting.items ≡ 0 }
+        ensures slots { result.waiting.slots ≡ 0 }
+        ensures dropped { result.dropped ≡ 0 }
+        ensures setting { result.setting ≡ setting }
+        ensures bytes { result.input.now ≡ input.now }
         ensures left { left_in result ≡ scanned setting input.now }
     {
         Machine::over(alloc, input, setting, false, yaml_text_t::Borrowed(input))
@@ -80,9 +85,14 @@ impl<'a> Machine<'a> {
         started: bool,
         text: yaml_text_t<'a>,
     ) -> Machine<'a>
+        requires { started ≡ true → decoded_text setting input.now ≡ Ok (text_bytes text) }
         ensures stands { IsMachine result }
         ensures ready { is_ready result ≡ false }
         ensures waiting { length result.waiting.items ≡ 0 }
+        ensures slots { result.waiting.slots ≡ 0 }
+        ensures dropped { result.dropped ≡ 0 }
+        ensures setting { result.setting ≡ setting }
+        ensures bytes { result.input.now ≡ input.now }
         ensures started { result.started ≡ started }
         ensures left { left_in result ≡ left_from started
             (offline record {
@@ -124,8 +134,10 @@ impl<'a> Machine<'a> {
         ensures started { OnOk result (self.new.started ≡ true) }
         ensures left { OnOk result (left_in self.new ≡ left_in self.old) }
         ensures ready { OnOk result (is_ready self.new ≡ is_ready self.old) }
+        ensures keeps { OnOk result (Keeps self.old self.new) }
         ensures told { IfErr result (λ f. IsTold (left_in self.old) (fault_of f)) }
-        ensures few { OnErr result (length self.new.waiting.items ≤ 1025) }
+        ensures utf8 { IfErr result (λ f. TellsUtf8 self.old (fault_of f)) }
+        ensures few { OnErr result (IsShort self.new.waiting) }
         ensures sought { IfErr result (λ f. is_ready self.old ≡ false) }
     {
         if self.started {
@@ -169,6 +181,7 @@ impl<'a> Machine<'a> {
         requires ready { is_ready self.old ≡ true }
         ensures stands { IsMachine self.new }
         ensures gives { GivesFirst (left_in self.old) (token_of result) (left_in self.new) }
+        ensures keeps { Keeps self.old self.new }
     {
         let mut token = yaml_token_t::empty();
         self.take_token_into(&mut token);
@@ -184,6 +197,7 @@ impl<'a> Machine<'a> {
         requires bare { is_bare (token_of slot.old).body ≡ true }
         ensures stands { IsMachine self.new }
         ensures gives { GivesFirst (left_in self.old) (token_of slot.new) (left_in self.new) }
+        ensures keeps { Keeps self.old self.new }
     {
         if self.waiting.give(self.given, slot) {
             self.dropped += 1;
@@ -200,6 +214,7 @@ impl<'a> Machine<'a> {
         requires { IfSome key (λ i. i < length self.old.waiting.items) }
         ensures same { self.new ≡ record self.old { waiting = self.new.waiting } }
         ensures length { length self.new.waiting.items ≡ length self.old.waiting.items }
+        ensures slots { self.new.waiting.slots ≡ self.old.waiting.slots }
         ensures inside { (n : ℕ) → AreInside n self.old.waiting.items
             → AreInside n self.new.waiting.items }
         ensures marks { MarksKey key opens self.old.waiting.items self.new.waiting.items }

@@ -13,7 +13,7 @@ use yaml_scan_model::{ScanError, yaml_fault_t, yaml_mark_t};
 use yaml_scan_queue::Waiting;
 
 impl<'a> Machine<'a> {
-    ghost use Rattle.yaml_scan_machine.specs.State.{IsMachine, GoesOn, is_ready};
+    ghost use Rattle.yaml_scan_machine.specs.State.{IsShort, IsMachine, GoesOn, is_ready};
     ghost use Rattle.yaml_scan_machine.specs.Stood.{ComesNext, MayReadAt, Steps};
     ghost use Rattle.yaml_scan_machine.specs.Shows.{history_of};
     ghost use Rattle.yaml_scan_machine.specs.Reads.{required_in};
@@ -119,7 +119,7 @@ impl<'a> Machine<'a> {
         requires more { self.old.ended ≡ false }
         requires next { ComesNext self.old read }
         ensures ok { OnOk result (IsMachine self.new × GoesOn self.old self.new) }
-        ensures few { OnErr result (length self.new.waiting.items ≤ 1025) }
+        ensures few { OnErr result (IsShort self.new.waiting) }
     {
         let Read {
             lexeme,

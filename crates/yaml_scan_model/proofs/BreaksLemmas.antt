@@ -31,10 +31,12 @@ pub feed_other : (text : List ℕ) (p : ℕ) → 0 < break_width text p → brea
     → 10 ∷ [] ≡ feed_at text p
 feed_other text p w h = rw (value_other text p h, lt-ltb 0 (break_width text p) w) refl
 
+-- What a break reads as within a value is its bytes, or a line feed.
 pub feed_some : (text : List ℕ) (p : ℕ) → 0 < break_width text p
     → feed_at text p ≡ break_value text p
 feed_some text p h = rw (lt-ltb 0 (break_width text p) h) refl
 
+-- A break's value has a byte at least.
 pub value_long : (text : List ℕ) (p : ℕ) → 0 < length (break_value text p)
 unfolding break_value
 value_long text p = elim (cases_Bool (break_width text p == 3)) [
@@ -47,6 +49,7 @@ pub no_end-blank : (x y b c : ℕ) → is_blank b ≡ true → ends_of x y b c �
 unfolding ends_of
 no_end-blank x y b c h = grind (arith, nat_tests)
 
+-- No blank ends a break.
 pub end_not_blank : (x y b c : ℕ) → ends_of x y b c ≡ true → is_blank b ≡ false
 unfolding ends_of
 end_not_blank x y b c h = grind (arith, nat_tests)
@@ -79,6 +82,7 @@ last_three text p h =
     let k : p + 2 + 1 ≡ p + 3 = omega arith in
     record { byte_at = p + 2; next = sym k; ends = rw (i, j, k) g; after = omega arith }
 
+-- A break's end is its last byte.
 pub last_of : (text : List ℕ) (p : ℕ) → 0 < break_width text p
     → Last text p (p + break_width text p)
 last_of text p h =

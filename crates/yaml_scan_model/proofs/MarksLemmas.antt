@@ -16,6 +16,7 @@ pub no_split : (x y b c d : ℕ) → splits_of x y b c ≡ false → break_of b 
 unfolding splits_of ends_of break_of
 no_split x y b c d h k = grind (arith, nat_tests)
 
+-- A byte that isn't 0 stands within the text.
 pub within : (text : List ℕ) (p : ℕ) → 0 < byte text p → p < length text
 within text p h =
     elim (cases_lt p (length text)) [
@@ -23,6 +24,7 @@ within text p h =
       | inr past ↦ let e = get_or_past text p 0 past in absurd (omega (arith, e))
     ]
 
+-- A byte that ends no break keeps the line.
 pub line_more : (text : List ℕ) (p : ℕ) → ends_break text p ≡ false
     → line_at text (p + 1) ≡ line_at text p
 unfolding line_at
@@ -33,11 +35,13 @@ pub line_end : (text : List ℕ) (p : ℕ) → ends_break text p ≡ true
 unfolding line_at
 line_end text p h = rw (add-one, h) refl
 
+-- A character moves the column on by one.
 pub column_more : (text : List ℕ) (p : ℕ) → ends_break text p ≡ false → starts (byte text p) ≡ true
     → column_at text (p + 1) ≡ column_at text p + 1
 unfolding column_at
 column_more text p h k = rw (add-one, h, k) refl
 
+-- A byte within a character keeps the column.
 pub column_same : (text : List ℕ) (p : ℕ) → ends_break text p ≡ false → starts (byte text p) ≡ false
     → column_at text (p + 1) ≡ column_at text p
 unfolding column_at
@@ -47,6 +51,7 @@ pub column_end : (text : List ℕ) (p : ℕ) → ends_break text p ≡ true → 
 unfolding column_at
 column_end text p h = rw (add-one, h) refl
 
+-- No line's number is larger than its place.
 pub line_at-le : (text : List ℕ) (p : ℕ) → line_at text p ≤ p
 unfolding line_at
 line_at-le text zero = omega arith
@@ -57,6 +62,7 @@ line_at-le text (suc p) =
       | inr e ↦ rw e (omega arith)
     ]
 
+-- No column is larger than its place.
 pub column_at-le : (text : List ℕ) (p : ℕ) → column_at text p ≤ p
 unfolding column_at
 column_at-le text zero = omega arith
@@ -70,10 +76,12 @@ column_at-le text (suc p) =
       ]
     ]
 
+-- A byte that is no break ends none.
 pub end_next : (text : List ℕ) (p : ℕ) → splits_break text p ≡ false → break_width text p ≡ 0
     → ends_break text p ≡ false
 end_next text p h k = no_end _ _ _ _ _ h k
 
+-- A byte that is no break doesn't part one.
 pub split_next : (text : List ℕ) (p : ℕ) → splits_break text p ≡ false → break_width text p ≡ 0
     → splits_break text (p + 1) ≡ false
 split_next text p h k =
@@ -158,6 +166,7 @@ past_three text p h =
     let q = column_end text (p + 2) g2 in
     record { inside = omega arith; line = cc; column = rw (← k2) q; whole = rw (i3, j3, k3) s }
 
+-- Behind a break a line starts.
 pub past_break : (text : List ℕ) (p : ℕ) → 0 < break_width text p
     → IsPast text p (p + break_width text p)
 past_break text p h =
@@ -188,6 +197,7 @@ pub no_break : (b c d : ℕ) → b ≢ 13 → b ≢ 10 → b ≢ 0xC2 → b ≢ 
 unfolding break_of
 no_break b c d h i j k = grind (arith, nat_tests)
 
+-- No byte between these bounds begins a break.
 pub no_break_between : (b low high c d : ℕ) → low ≤ b → b ≤ high → 13 < low → high < 0xC2
     → break_of b c d ≡ 0
 no_break_between b low high c d h i j k = no_break b c d (omega arith) (omega arith) (omega arith) (omega arith)

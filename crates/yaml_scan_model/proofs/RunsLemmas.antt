@@ -5,11 +5,13 @@ use Rattle.yaml_scan_model.specs.Marks.{byte, break_of, break_width, is_blank}
 use Rattle.yaml_scan_model.specs.Runs.{past, is_text}
 use Rattle.yaml_scan_model.proofs.MarksLemmas.{within, no_break}
 
+-- A run goes on behind a byte of its kind.
 pub past_more : (kind : List ℕ → ℕ → Bool) (n : ℕ) (text : List ℕ) (p : ℕ) → kind text p ≡ true
     → past kind (suc n) text p ≡ past kind n text (p + 1)
 unfolding past
 past_more kind n text p h = rw h refl
 
+-- A run stops at a byte that isn't of its kind.
 pub past_stop : (kind : List ℕ → ℕ → Bool) (n : ℕ) (text : List ℕ) (p : ℕ) → kind text p ≡ false
     → past kind n text p ≡ p
 unfolding past
@@ -42,6 +44,7 @@ pub run_done : (kind : List ℕ → ℕ → Bool) (text : List ℕ) (a p : ℕ) 
     → kind text p ≡ false → past kind (length text) text a ≡ p
 run_done kind text a p h k = let (n, room, same) = h.rest in same ∙ past_stop kind n text p k
 
+-- A run ends no earlier than it begins.
 pub past-le : (kind : List ℕ → ℕ → Bool) (n : ℕ) (text : List ℕ) (p : ℕ) → p ≤ past kind n text p
 unfolding past
 past-le kind zero text p = omega arith
@@ -62,6 +65,7 @@ past_some kind text p k some =
 parts : (b w : ℕ) → not (b == 0 || nat_lt 0 w) ≡ true → (0 < b) × (w ≡ 0)
 parts b w h = (grind (arith, nat_tests), grind (arith, nat_tests))
 
+-- A byte of a line's text is no end and no break.
 pub text_parts : (text : List ℕ) (p : ℕ) → is_text text p ≡ true
     → (0 < byte text p) × (break_width text p ≡ 0)
 text_parts text p h = parts _ _ h
@@ -74,6 +78,7 @@ blank_parts b c d h =
     let (some, cr, lf, small) = blank_bounds b h in
     (some, no_break b c d cr lf (omega arith) (omega arith))
 
+-- A space is a byte, no break, and found as itself.
 pub space_parts : (b c d : ℕ) → b ≡ 32 → (0 < b) × (break_of b c d ≡ 0) × ((b == 32) ≡ true)
 space_parts b c d h = (omega arith, no_break b c d (omega arith) (omega arith) (omega arith) (omega arith), rw h refl)
 

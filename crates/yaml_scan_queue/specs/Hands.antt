@@ -21,6 +21,7 @@ pub record IsItsOwn (given : ℕ) (w : Waiting) (old new : Line) (t : yaml_token
   pub start : t.start_mark ≡ w.start
   pub end : t.end_mark ≡ w.end
   pub rest : new.items ≡ drop 1 old.items
+  pub slots : new.slots ≡ old.slots
 
 abbrev pub Hands : ℕ → Waiting → Line → Line → yaml_token_t → Bool → Type 0
 Hands given w old new t true = IsItsOwn given w old new t

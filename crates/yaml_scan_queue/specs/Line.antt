@@ -1,7 +1,13 @@
--- The lexemes that wait, as a list, and whether a slot behind them is free.
-use Rattle.std.specs.Prelude.{Bool, List}
+-- The lexemes that wait, as a list, whether a slot behind them is free, and how many slots there are.
+use Rattle.std.specs.Prelude.{ℕ, ◌+◌, ◌≡◌, ◌≤◌, ◌⊎◌, Bool, List, length}
 use Rattle.yaml_scan_queue.specs.declared.waiting.Waiting.{Waiting}
 
 pub record Line : Type 0 where
   pub items : List Waiting
   pub free : Bool
+  pub slots : ℕ
+
+-- One slot more is made only where at least half of them hold what waits.
+abbrev pub Grows : Line → Line → Type 0
+Grows old new = (new.slots ≡ old.slots)
+    ⊎ ((new.slots ≡ old.slots + 1) × (old.slots ≤ length old.items + length old.items))

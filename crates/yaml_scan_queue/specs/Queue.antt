@@ -11,6 +11,7 @@ abbrev pub line_of : Inside → Line
 line_of q = record {
   items = drop q.first (take q.last q.slots.items);
   free = nat_lt q.last (length q.slots.items);
+  slots = length q.slots.items;
 }
 
 -- No slot before the first place has a text, and none from the last one on.

@@ -4,6 +4,7 @@ ghost use Rattle.std.specs.Prelude.{◌≡◌, ◌++◌, ◌∷◌, [], ◌<◌,
 ghost use Rattle.yaml_scan_model.specs.Tokens.{body_of};
 ghost use Rattle.yaml_scan_queue.specs.Bare.{is_bare, is_kind};
 ghost use Rattle.yaml_scan_queue.specs.Hands.{Hands};
+ghost use Rattle.yaml_scan_queue.specs.Line.{Grows};
 ghost use Rattle.yaml_scan_queue.specs.Waits.{keyed};
 
 use crate::waiting::Waiting;
@@ -38,6 +39,7 @@ impl Queue {
     /// Nothing waits.
     pub fn new(alloc: Global) -> Queue
         ensures items { result.items ≡ [] }
+        ensures slots { result.slots ≡ 0 }
     {
         Queue {
             slots: Vec::new(alloc),
@@ -70,8 +72,9 @@ impl Queue {
     #[inline(always)]
     pub fn mark(&mut self, i: usize, opens: Opens)
         requires { i < length self.old.items }
-        ensures { (w : Waiting) → self.new.items ≡ slice_set self.old.items i
+        ensures marks { (w : Waiting) → self.new.items ≡ slice_set self.old.items i
             (keyed opens (slice_index_or self.old.items i w)) }
+        ensures slots { self.new.slots ≡ self.old.slots }
     {
         self.slots[self.first + i].mark(opens);
     }
@@ -81,6 +84,7 @@ impl Queue {
     #[inline(always)]
     pub fn reserve(&mut self) -> Result<(), AllocError>
         ensures items { self.new.items ≡ self.old.items }
+        ensures slots { Grows self.old self.new }
         ensures ok { OnOk result (self.new.free ≡ true) }
     {
         if self.last < self.slots.len() {
@@ -95,7 +99,9 @@ impl Queue {
     #[cold]
     #[inline(never)]
     fn grow(&mut self) -> Result<(), AllocError>
+        requires { self.old.free ≡ false }
         ensures items { self.new.items ≡ self.old.items }
+        ensures slots { Grows self.old self.new }
         ensures ok { OnOk result (self.new.free ≡ true) }
     {
         if self.last - self.first < self.first {
@@ -115,6 +121,7 @@ impl Queue {
     pub fn push_back_reserved(&mut self, waiting: Waiting)
         requires { self.old.free ≡ true }
         ensures items { self.new.items ≡ self.old.items ++ waiting ∷ [] }
+        ensures slots { self.new.slots ≡ self.old.slots }
     {
         put(&mut self.slots[self.last], waiting);
         self.last += 1;

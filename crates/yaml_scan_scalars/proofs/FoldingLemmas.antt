@@ -41,6 +41,7 @@ folded-kept : (bs k : List ℕ) (l : Line) (ls : List (List ℕ × Line))
 folded-kept bs k l [] = text-blanks bs (Kept k ∷ l)
 folded-kept bs k l (next ∷ ls) = simp (trim_end-kept, text-blanks, append_assoc)
 
+-- Blanks and a run of text in front of pieces are their bytes.
 pub value-kept : (bs k : List ℕ) (ps : List Piece)
     → value (blanks_of bs ++ Kept k ∷ ps) ≡ bs ++ (k ++ value ps)
 value-kept bs k ps = rw (lines-blanks bs (Kept k ∷ ps)) (folded-kept bs k (lines ps).first (lines ps).others)

@@ -7,5 +7,6 @@ pub mod PlainRunLemmas
 mod TableLemmas
 mod OneRunLemmas
 mod Unbounding
+mod Digits
 -- what it stands on, for crates of laws that name this one alone
 pub use Rattle.yaml_scan_model.proofs as scan_model

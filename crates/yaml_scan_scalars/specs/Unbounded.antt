@@ -1,10 +1,35 @@
 -- Quoted and plain scalars as relations, with no bound on their steps.
-use Rattle.std.specs.Prelude.{◌≡◌, ◌<◌, ℕ, ◌+◌, Bool, false, List, [], ◌∷◌, length, Result, Ok, Err}
+use Rattle.std.specs.Prelude.{◌≡◌, ◌<◌, ℕ, ◌+◌, ◌*◌, ◌^◌, Bool, false, List, [], ◌∷◌, length, Some, None, Result, Ok, Err}
 use Rattle.yaml_scan_model.specs.Marks.{byte}
 use Rattle.yaml_scan_model.specs.Wrong.{Wrong}
 use Rattle.yaml_scan_scalars.specs.Pieces.{Piece, Kept, value}
-use Rattle.yaml_scan_scalars.specs.Quoted.{Closing, Pieces, Bad, standing_at, with_front, valued, quoted_at}
+use Rattle.yaml_scan_scalars.specs.Quoted.{hex_digit, hex_value, Closing, Pieces, Bad, standing_at, with_front, valued, quoted_at}
 use Rattle.yaml_scan_scalars.specs.Plain.{Ends, Takes, Faulty, spot_at, Words, words_from, plain_with, plain_text, plain_at}
+
+-- From a place on stand these hexadecimal digits, by their values.
+pub data AreDigits (text : List ℕ) : ℕ → List ℕ → Type 0 where
+  no_digits : (p : ℕ) → AreDigits text p []
+  digit : (p d : ℕ) (ds : List ℕ) → hex_digit (byte text p) ≡ Some d → AreDigits text (p + 1) ds
+      → AreDigits text p (d ∷ ds)
+
+-- the number that digits spell: each counts sixteen times the one behind it
+abbrev pub number_of : List ℕ → ℕ
+number_of [] = 0
+number_of (d ∷ ds) = d * 16 ^ length ds + number_of ds
+
+-- Hexadecimal digits are read as the number that they spell; what is read is spelled by so many, and where nothing is read, one of
+-- the characters is no digit.
+abbrev pub DigitsAreRead : Type 0
+DigitsAreRead = (text : List ℕ) (p : ℕ) (ds : List ℕ) → AreDigits text p ds
+    → hex_value text p (length ds) ≡ Some (number_of ds)
+
+abbrev pub DigitsStandThere : Type 0
+DigitsStandThere = (text : List ℕ) (p n v : ℕ) → hex_value text p n ≡ Some v
+    → (ds : List ℕ) × AreDigits text p ds × (length ds ≡ n) × (v ≡ number_of ds)
+
+abbrev pub OneIsNoDigit : Type 0
+OneIsNoDigit = (text : List ℕ) (p n : ℕ) → hex_value text p n ≡ None
+    → (k : ℕ) × (k < n) × (hex_digit (byte text (p + k)) ≡ None)
 
 -- From a place inside the quotes: pieces, one behind another, up to the closing quote and the place behind it, or what is wrong.
 pub data IsQuotedFrom (quote : ℕ) (text : List ℕ) : ℕ → Result (List Piece × ℕ) Wrong → Type 0 where

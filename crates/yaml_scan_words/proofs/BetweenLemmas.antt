@@ -179,6 +179,7 @@ gap_break n flow allowed text p q h room =
           ] room
     ]
 
+-- A gap stops at a lexeme.
 pub gap_stop : (n : ℕ) (flow allowed : Bool) (text : List ℕ) (p q : ℕ)
     → step_at (flow || not allowed) text p ≡ record { standing = standings.Lexeme; place = q }
     → length text ≤ p + n → gap_within n flow allowed text p ≡ record { place = q; broke = false }

@@ -10,16 +10,19 @@ abbrev pub Has : List ℕ → ℕ → List ℕ → Type 0
 Has text p [] = Unit {0}
 Has text p (x ∷ xs) = (byte text p ≡ x) × Has text (p + 1) xs
 
+-- What stands at a place one by one stands there as a text.
 pub has : (text : List ℕ) (p : ℕ) (xs : List ℕ) → HasAt text p xs → Has text p xs
 has text p [] h = tt
 has text p (x ∷ xs) h =
     let first : byte text (p + 0) ≡ x = h 0 (omega arith) in
     (rw add-zero at first, has text (p + 1) xs (λ k l. let e : p + 1 + k ≡ p + suc k = omega arith in ap (λ q. byte text q) e ∙ h (suc k) (omega arith)))
 
+-- What stands at a place has its front there.
 pub has_front : (text : List ℕ) (p : ℕ) (xs ys : List ℕ) → Has text p (xs ++ ys) → Has text p xs
 has_front text p [] ys h = tt
 has_front text p (x ∷ xs) ys (e, h) = (e, has_front text (p + 1) xs ys h)
 
+-- Behind the front of what stands at a place stands the rest.
 pub has_rest : (text : List ℕ) (p : ℕ) (xs ys : List ℕ) → Has text p (xs ++ ys)
     → Has text (p + length xs) ys
 has_rest text p [] ys h = rw add-zero h

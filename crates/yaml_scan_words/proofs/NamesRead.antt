@@ -17,6 +17,7 @@ pub alpha_at : (text : List ℕ) (p b : ℕ) → byte text p ≡ b → is_alpha_
 unfolding belongs
 alpha_at text p b e h = rw e h
 
+-- A byte that is no letter or digit isn't in a run of these.
 pub no_alpha_at : (text : List ℕ) (p : ℕ) → is_alpha_byte (byte text p) ≡ false
     → belongs runs.Alphas text p ≡ false
 unfolding belongs

@@ -40,6 +40,7 @@ belongs_here runs.Blanks text p h =
     ]
 belongs_here runs.Line text p h = line_parts (byte text p) (break_width text p) h
 
+-- A byte of a run stands within the text.
 pub belongs_inside : (run : Run) (text : List ℕ) (p : ℕ) → belongs run text p ≡ true
     → p < length text
 belongs_inside run text p h = within text p (belongs_here run text p h).0
@@ -53,6 +54,7 @@ unfolding run_within
 run_more zero run text p h room = let inside = belongs_inside run text p h in absurd (omega arith)
 run_more (suc n) run text p h room = (n, omega arith, rw h refl)
 
+-- A run stops at a byte that isn't of it.
 pub run_stop : (n : ℕ) (run : Run) (text : List ℕ) (p : ℕ) → belongs run text p ≡ false
     → run_within n run text p ≡ p
 unfolding run_within
@@ -83,6 +85,7 @@ run_span (suc d) n run text p q h each room =
     let (l, rest, all) = run_span d m run text (p + 1) q (omega arith) (λ k a b. each k (omega arith) b) more in
     (l, rest, same ∙ all)
 
+-- A run passes all bytes of its kind, with steps enough left for the rest.
 pub run_to : (n : ℕ) (run : Run) (text : List ℕ) (p q : ℕ) → p ≤ q
     → ((k : ℕ) → p ≤ k → k < q → belongs run text k ≡ true) → length text ≤ p + n
     → (m : ℕ) × (length text ≤ q + m) × (run_within n run text p ≡ run_within m run text q)

@@ -124,6 +124,7 @@ no_angle [] text p some h is = absurd (omega arith)
 no_angle (raw b ∷ pieces) text p some (e, h) (none, kept, is) = let (comma, angle) = kept_none b kept in rw e angle
 no_angle (escape b ∷ pieces) text p some (e, h) is = rw e (omega arith)
 
+-- A tag with the primary handle reads back.
 pub bare_is_read : (flow : Bool) (text : List ℕ) (p : ℕ) (pieces : List UriPiece)
     → HasAt text p (33 ∷ uri_text pieces) → 0 < length pieces → IsUri false 0 pieces
     → has_no_mark pieces ≡ true
@@ -150,6 +151,7 @@ bracket_plain : (62 == 37 || (is_alpha_byte 62
 unfolding is_alpha_byte is_digit_byte is_punctuation is_wide_punctuation
 bracket_plain = refl
 
+-- A verbatim tag reads back.
 pub verbatim_is_read : (flow : Bool) (text : List ℕ) (p : ℕ) (pieces : List UriPiece)
     → HasAt text p (33 ∷ (60 ∷ (uri_text pieces ++ (62 ∷ [])))) → 0 < length pieces
     → IsUri true 0 pieces
@@ -180,6 +182,7 @@ no_angle_name (b ∷ bs) rest text p (e, h) are =
     let (comma, angle, low, high) = alpha_none b front in
     rw e angle
 
+-- A tag with a named handle reads back.
 pub named_is_read : (flow : Bool) (text : List ℕ) (p : ℕ) (name : List ℕ) (pieces : List UriPiece)
     → HasAt text p (33 ∷ (name ++ (33 ∷ uri_text pieces))) → are_alphas name ≡ true
     → 0 < length pieces → IsUri false 0 pieces

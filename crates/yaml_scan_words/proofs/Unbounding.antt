@@ -1,5 +1,5 @@
 -- The bound on steps is never met.
-use Rattle.std.proofs.Common.{◌≡◌, ℕ, zero, suc, ◌+◌, ◌≤◌, Bool, true, not, ◌||◌, List, [], ◌∷◌, ◌++◌, length, Result, refl, sym, ap, subst, ◌∙◌, arith}
+use Rattle.std.proofs.Common.{◌≡◌, ℕ, zero, suc, ◌+◌, ◌≤◌, Bool, true, false, not, ◌||◌, List, [], ◌∷◌, ◌++◌, length, Result, refl, sym, ap, subst, ◌∙◌, inl, inr, ◌⊎◌, arith}
 use Rattle.yaml_scan_model.specs.declared.problem.Context.{Context}
 use Rattle.yaml_scan_model.specs.Wrong.{Wrong}
 use Rattle.yaml_scan_words.specs.declared.between.Standing.{Standing}
@@ -8,7 +8,49 @@ use Rattle.yaml_scan_words.specs.Between.{Step, Gap, with_break, step_at, gap_wi
 use Rattle.yaml_scan_words.specs.Uris.{UriSpot, Spells, Ends, Faulty, spot_at, with_bytes, uri_within}
 use Rattle.yaml_scan_words.proofs.BetweenLemmas.{gap_blank, gap_break, gap_stop}
 use Rattle.yaml_scan_words.proofs.UrisLemmas.{uri_more, uri_done, uri_bad, no_bytes}
-use Rattle.yaml_scan_words.specs.Unbounded.{Leads, arrives, passes_blank, passes_break, GapLeads, GapIsOne, IsUriAt, spells_byte, ends_there, is_faulty, UriIs, UriIsOne}
+use Rattle.yaml_scan_words.specs.declared.run.Run.{Run}
+use Rattle.yaml_scan_words.specs.Runs.{belongs, run_within}
+use Rattle.yaml_scan_words.proofs.RunsLemmas.{belongs_inside, run_more, run_stop, run_to}
+use Rattle.yaml_scan_words.specs.Unbounded.{EndsRun, RunEnds, RunEndIsOne, Leads, arrives, passes_blank, passes_break, GapLeads, GapIsOne, IsUriAt, spells_byte, ends_there, is_faulty, UriIs, UriIsOne}
+
+-- ---- runs
+
+first_or : (k p : ℕ) → p ≤ k → (k ≡ p) ⊎ (p + 1 ≤ k)
+first_or k p h = grind arith
+
+longer : (run : Run) (text : List ℕ) (p q : ℕ) → belongs run text p ≡ true
+    → EndsRun run text (p + 1) q → EndsRun run text p q
+longer run text p q e h =
+    let after = h.after in
+    let each = h.each in record {
+      after = omega arith;
+      each = λ k a b. elim (first_or k p a) [
+        | inl s ↦ rw s e
+        | inr l ↦ each k l b
+      ];
+      stops = h.stops;
+    }
+
+empty_run : (run : Run) (text : List ℕ) (p : ℕ) → belongs run text p ≡ false
+    → EndsRun run text p p
+empty_run run text p e = record { after = omega arith; each = λ k a b. absurd (omega (arith, a, b)); stops = e }
+
+ends_by : (d : ℕ) (run : Run) (text : List ℕ) (p n : ℕ) (b : Bool) → belongs run text p ≡ b
+    → length text ≤ p + d → length text ≤ p + n → EndsRun run text p (run_within n run text p)
+ends_by d run text p n false e room fuel = subst (λ (q : ℕ). EndsRun run text p q) (sym (run_stop n run text p e)) (empty_run run text p e)
+ends_by zero run text p n true e room fuel = let inside = belongs_inside run text p e in absurd (omega (arith, inside, room))
+ends_by (suc d) run text p n true e room fuel =
+    let (m, left, same) = run_more n run text p e fuel in
+    subst (λ (q : ℕ). EndsRun run text p q) (sym same)
+    (longer run text p (run_within m run text (p + 1)) e (ends_by d run text (p + 1) m (belongs run text (p + 1)) refl (omega (arith, room)) left))
+
+pub run_ends : RunEnds
+run_ends run text p = ends_by (length text) run text p (length text) (belongs run text p) refl (omega arith) (omega arith)
+
+pub run_end_is_one : RunEndIsOne
+run_end_is_one run text p q h =
+    let (m, left, same) = run_to (length text) run text p q h.after h.each (omega arith) in
+    sym (same ∙ run_stop m run text q h.stops)
 
 -- ---- gaps
 

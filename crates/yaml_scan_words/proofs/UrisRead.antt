@@ -107,6 +107,7 @@ pieces_read (escape b ∷ pieces) n context wide due text p (e, (f, (g, h))) (sm
     rw end (onward n context wide due text p b next (p + 3) (uri_bytes pieces) (p + 3 + length (uri_text pieces)) (escape_read wide due next text p b e (octet_read text p b f second small) due_is) room
     (λ m r. pieces_read pieces m context wide next text (p + 3) rest is after r))
 
+-- A URI reads back as what its pieces spell.
 pub uri_is_read : (context : Context) (wide : Bool) (text : List ℕ) (p : ℕ) (pieces : List UriPiece)
     → Has text p (uri_text pieces) → IsUri wide 0 pieces
     → (byte text (p + length (uri_text pieces)) == 37

@@ -1,11 +1,28 @@
--- Gaps and URIs as relations, with no bound on their steps.
-use Rattle.std.specs.Prelude.{◌≡◌, ℕ, Bool, true, false, not, ◌||◌, List, [], ◌∷◌, Result, Ok, Err}
+-- Runs, gaps and URIs as relations, with no bound on their steps.
+use Rattle.std.specs.Prelude.{◌≡◌, ◌<◌, ◌≤◌, ℕ, Bool, true, false, not, ◌||◌, List, [], ◌∷◌, Result, Ok, Err}
 use Rattle.yaml_scan_model.specs.declared.problem.Context.{Context}
 use Rattle.yaml_scan_model.specs.declared.problem.Problem.{Problem}
 use Rattle.yaml_scan_model.specs.Wrong.{Wrong}
 use Rattle.yaml_scan_words.specs.declared.between.Standing.TheVariants as standings
+use Rattle.yaml_scan_words.specs.declared.run.Run.{Run}
+use Rattle.yaml_scan_words.specs.Runs.{belongs, run_end}
 use Rattle.yaml_scan_words.specs.Between.{Gap, with_break, step_at, gap_at}
 use Rattle.yaml_scan_words.specs.Uris.{Spells, Ends, Faulty, spot_at, with_bytes, uri_at}
+
+-- ---- runs
+
+-- The longest run of bytes of a kind that begins at a place ends before q: all up to q belong to it, and what stands at q doesn't.
+pub record EndsRun (run : Run) (text : List ℕ) (p q : ℕ) : Type 0 where
+  pub after : p ≤ q
+  pub each : (k : ℕ) → p ≤ k → k < q → belongs run text k ≡ true
+  pub stops : belongs run text q ≡ false
+
+-- The end of the run at a place is one, and the only one.
+abbrev pub RunEnds : Type 0
+RunEnds = (run : Run) (text : List ℕ) (p : ℕ) → EndsRun run text p (run_end run text p)
+
+abbrev pub RunEndIsOne : Type 0
+RunEndIsOne = (run : Run) (text : List ℕ) (p q : ℕ) → EndsRun run text p q → q ≡ run_end run text p
 
 -- ---- gaps
 

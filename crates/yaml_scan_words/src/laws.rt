@@ -1,7 +1,7 @@
 //! Each function's contract is a law.
 
 ghost use Rattle.yaml_scan_words.specs.Laws.{AnchorReads, GapReads, BareTagReads, NamedTagReads, VerbatimTagReads, UriReads};
-ghost use Rattle.yaml_scan_words.specs.Unbounded.{GapIsOne, GapLeads, UriIs, UriIsOne};
+ghost use Rattle.yaml_scan_words.specs.Unbounded.{GapIsOne, GapLeads, RunEndIsOne, RunEnds, UriIs, UriIsOne};
 
 /// Spaces and breaks before a lexeme are one gap, whatever follows it.
 pub fn gap_reads()
@@ -25,10 +25,12 @@ pub fn tag_reads()
     ensures verbatim { VerbatimTagReads }
 {}
 
-/// The gap and the URI at a place are those of a relation that knows no bound on steps, and the only ones.
+/// The end of a run, the gap and the URI at a place are those of relations that know no bound on steps, and the only ones.
 pub fn gaps_and_uris_are_unbounded()
     ensures gap { GapLeads }
     ensures one_gap { GapIsOne }
     ensures uri { UriIs }
     ensures one_uri { UriIsOne }
+    ensures run { RunEnds }
+    ensures one_run { RunEndIsOne }
 {}

@@ -7,7 +7,7 @@ ghost use Rattle.yaml_emit_layout.specs.Content.{emitter_event};
 ghost use Rattle.yaml_emit_layout.specs.State.{among, levels_behind, outer_of, place_at, opened, placed, is_simple_event};
 ghost use Rattle.yaml_emit_state.specs.Stack.{stack_of, within};
 ghost use Rattle.yaml_emit_layout.specs.Nodes.{checked, context_of};
-ghost use Rattle.yaml_emit_state.specs.Steps.{state_of, StaysBut, MovesOn, OpensCollection, Notes, first_phase, is_document_start};
+ghost use Rattle.yaml_emit_state.specs.Steps.{state_of, StaysBut, MovesOn, OpensCollection, Notes, Halts, first_phase, is_document_start};
 
 use super::Core;
 use crate::indent::{indent_of, is_flow, spot_of};
@@ -88,6 +88,7 @@ impl Core {
         ensures memory { Notes true self.old self.new }
         ensures noted { self.old.sink.status ≡ Status.Going → self.new.sink.status ≢ Status.Going
             → self.new.starved ≡ true }
+        ensures halts { Halts self.old self.new }
     {
         self.place = Expected::Node;
         self.levels.clear();
@@ -111,6 +112,7 @@ impl Core {
         ensures memory { Notes true self.old self.new }
         ensures noted { self.old.sink.status ≡ Status.Going → self.new.sink.status ≢ Status.Going
             → self.new.starved ≡ true }
+        ensures halts { Halts self.old self.new }
     {
         match self.levels.push(level) {
             Ok(_) => (),
@@ -130,6 +132,7 @@ impl Core {
         ensures memory { Notes true self.old self.new }
         ensures noted { self.old.sink.status ≡ Status.Going → self.new.sink.status ≢ Status.Going
             → self.new.starved ≡ true }
+        ensures halts { Halts self.old self.new }
     {
         self.place = Expected::Node;
         self.levels.step(simple);
@@ -152,6 +155,7 @@ impl Core {
             ≡ self.old.sink.cursor }
         ensures text { (n : ℕ) → indent ≡ within n → Puts self.old.sink self.new.sink (checked n) }
         ensures memory { Notes true self.old self.new }
+        ensures halts { Halts self.old self.new }
     {
         match indent {
             None => self.sink.put_too_deep(),

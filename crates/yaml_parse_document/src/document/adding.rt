@@ -2,7 +2,7 @@
 
 ghost use Rattle.std.specs.Prelude.{◌≡◌, ◌<◌, ◌≤◌, ◌++◌, ◌∷◌, [], pos, suc, length, option_map, IsSome, IsUtf8, MatchResult, OnOk};
 ghost use Rattle.yaml_parse_model.specs.Constructors.{IsUtf8Option};
-ghost use Rattle.yaml_parse_model.specs.Nodes.{node_of, body_of};
+ghost use Rattle.yaml_parse_model.specs.Nodes.{node_of, body_of, tag_of};
 ghost use Rattle.yaml_parse_document.specs.Documents.{node_at, unplaced, new_scalar, new_sequence, new_mapping, with_node, Adds, Appends, change_body, with_item, with_pair, tag_or, IsSequenceAt, IsMappingAt, IsSequenceBody, IsMappingBody, HasRoomAt, item_count, pair_count, IsSoundNode, IsSoundBody};
 ghost use Rattle.yaml_parse_document.specs.Sizes.{IsSizedBody};
 
@@ -11,8 +11,8 @@ use simdutf8::is_utf8;
 use std::alloc::Global;
 use yaml_parse_model::{
     copy_text, is_utf8_option, yaml_mapping_style_t, yaml_mark_t, yaml_node_body_t,
-    yaml_node_item_t, yaml_node_pair_t, yaml_node_t, yaml_scalar_style_t, yaml_sequence_style_t,
-    yaml_text_fault_t,
+    yaml_node_item_t, yaml_node_pair_t, yaml_node_t, yaml_node_tag_t, yaml_scalar_style_t,
+    yaml_sequence_style_t, yaml_text_fault_t,
 };
 
 /// A list of a document has at most this many entries.
@@ -39,24 +39,27 @@ pub fn push_entry<T: Drop>(entries: &mut Vec<T>, entry: T) -> Result<(), yaml_te
     }
 }
 
-// A copy of the tag that is given, else of the default tag.
+// A copy of the tag that is given, else the default tag.
 fn tag_or_default(
     alloc: Global,
     tag: Option<&[u8]>,
-    default: &[u8],
-) -> Result<Vec<u8>, yaml_text_fault_t>
-    ensures { MatchResult result (λ copy. copy.items ≡ tag_or (option_map (λ t. t.now) tag.entry)
-        default.now) (λ f. f ≡ yaml_text_fault_t.Memory) }
+    default: yaml_node_tag_t,
+) -> Result<yaml_node_tag_t, yaml_text_fault_t>
+    ensures { MatchResult result (λ copy. tag_of copy ≡ tag_or (option_map (λ t. t.now) tag.entry)
+        (tag_of default)) (λ f. f ≡ yaml_text_fault_t.Memory) }
 {
     match tag {
-        None => copy_text(alloc, default),
-        Some(tag) => copy_text(alloc, tag),
+        None => Ok(default),
+        Some(tag) => {
+            let text = copy_text(alloc, tag)?;
+            Ok(yaml_node_tag_t::Spelled { text })
+        }
     }
 }
 
 // A node with zero marks.
-fn unplaced_node(body: yaml_node_body_t, tag: Vec<u8>) -> yaml_node_t
-    ensures { node_of result ≡ unplaced (body_of body) tag.items }
+fn unplaced_node(body: yaml_node_body_t, tag: yaml_node_tag_t) -> yaml_node_t
+    ensures { node_of result ≡ unplaced (body_of body) (tag_of tag) }
 {
     let zero = yaml_mark_t {
         index: 0,
@@ -99,7 +102,7 @@ pub fn yaml_document_add_scalar(
     if !is_utf8_option(tag) || !is_utf8(value) {
         return Err(yaml_text_fault_t::NotUtf8);
     }
-    let tag = tag_or_default(document.alloc, tag, b"tag:yaml.org,2002:str")?;
+    let tag = tag_or_default(document.alloc, tag, yaml_node_tag_t::Str)?;
     let value = copy_text(document.alloc, value)?;
     add_node(
         document,
@@ -120,7 +123,7 @@ pub fn yaml_document_add_sequence(
     if !is_utf8_option(tag) {
         return Err(yaml_text_fault_t::NotUtf8);
     }
-    let tag = tag_or_default(document.alloc, tag, b"tag:yaml.org,2002:seq")?;
+    let tag = tag_or_default(document.alloc, tag, yaml_node_tag_t::Seq)?;
     let items = Vec::new(document.alloc);
     add_node(
         document,
@@ -141,7 +144,7 @@ pub fn yaml_document_add_mapping(
     if !is_utf8_option(tag) {
         return Err(yaml_text_fault_t::NotUtf8);
     }
-    let tag = tag_or_default(document.alloc, tag, b"tag:yaml.org,2002:map")?;
+    let tag = tag_or_default(document.alloc, tag, yaml_node_tag_t::Map)?;
     let pairs = Vec::new(document.alloc);
     add_node(
         document,

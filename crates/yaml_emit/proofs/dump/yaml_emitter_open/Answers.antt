@@ -2,6 +2,7 @@ use Rattle.std.proofs.Common.{true, [], ◌∷◌, ap}
 use Rattle.yaml_emit_machine.specs.Emitter.{Emitter}
 use Rattle.yaml_emit_machine.specs.Dumping.{opening_event}
 use Rattle.yaml_emit_machine.proofs.Taking.{takes_marked, notes_marked, tells_marked}
+use Rattle.yaml_emit_machine.proofs.Blaming.{blames_marked}
 use Rattle.yaml_emit.proofs.dump.yaml_emitter_open.Goals as goal
 
 pub returns-clause-takes : goal.returns-clause-takes
@@ -15,3 +16,6 @@ returns-clause-tells c = tells_marked c.emit.new.emitter _ true c.emit.new.emitt
 
 pub returns-clause-opened : goal.returns-clause-opened
 returns-clause-opened c = ap (λ (e : Emitter). e.opened) c.set_opened.ensures
+
+pub returns-clause-blames : goal.returns-clause-blames
+returns-clause-blames c = blames_marked opening_event c.args.emitter.now c.emit.new.emitter _ true c.emit.new.emitter.closed c.set_opened.ensures c.emit.ensures.blames

@@ -23,3 +23,6 @@ returns-clause-few c = c.give_over.ensures.few
 
 pub returns-clause-opened : goal.returns-clause-opened
 returns-clause-opened c = c.give_over.ensures.opened
+
+pub returns-clause-blames : goal.returns-clause-blames
+returns-clause-blames c = c.give_over.ensures.blames

@@ -17,3 +17,6 @@ returns-clause-opened c = c.give_early.ensures.opened
 
 pub returns-clause-begun : goal.returns-clause-begun
 returns-clause-begun c = c.give_early.ensures.begun
+
+pub returns-clause-blames : goal.returns-clause-blames
+returns-clause-blames c = c.give_early.ensures.blames

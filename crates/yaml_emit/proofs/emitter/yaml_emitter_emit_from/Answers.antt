@@ -17,3 +17,6 @@ returns-clause-opened c = c.give.ensures.opened
 
 pub returns-clause-last : goal.returns-clause-last
 returns-clause-last c = c.give.ensures.last
+
+pub returns-clause-blames : goal.returns-clause-blames
+returns-clause-blames c = c.give.ensures.blames

@@ -1,7 +1,7 @@
 use Rattle.std.proofs.Common.{sym, ◌∙◌, arith}
 use Rattle.std.proofs.lemmas.Bool.{and_parts}
 use Rattle.yaml_emit_held.proofs.Holding.{few_short, pushed_most, both_false, passed_waits, pushed_waits}
-use Rattle.yaml_emit_held.proofs.Judging.{lays_past, lays_held}
+use Rattle.yaml_emit_held.proofs.Following.{lays_past, lays_held}
 use Rattle.yaml_emit_held.proofs.Lasting.{last_passed, last_pushed}
 use Rattle.yaml_emit_held.proofs.release.give.Goals as goal
 

@@ -1,7 +1,7 @@
 use Rattle.std.proofs.Common.{sym, refl, ◌∙◌}
 use Rattle.std.proofs.lemmas.Bool.{and_parts}
 use Rattle.yaml_emit_held.proofs.Holding.{both_false, less_most, one_less, one_gone, released_ready, room_held}
-use Rattle.yaml_emit_held.proofs.Judging.{lays_none, lays_more}
+use Rattle.yaml_emit_held.proofs.Following.{lays_none, lays_more}
 use Rattle.yaml_emit_held.proofs.Lasting.{last_none, last_less}
 use Rattle.yaml_emit_held.proofs.release.release.Goals as goal
 

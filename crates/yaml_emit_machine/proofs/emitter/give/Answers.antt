@@ -2,6 +2,7 @@ use Rattle.std.proofs.Common.{◌≡◌, [], false, ap, option_map}
 use Rattle.yaml_scan_model.specs.Faults.{fault_of}
 use Rattle.yaml_emit_machine.proofs.Emitting.{not_true}
 use Rattle.yaml_emit_machine.proofs.Taking.{inside_stuck, taken_begun}
+use Rattle.yaml_emit_machine.proofs.Blaming.{blames_none}
 use Rattle.yaml_emit_machine.proofs.emitter.give.Goals as goal
 
 pub returns-in-Some-clause-takes : goal.returns-in-Some-clause-takes
@@ -24,3 +25,9 @@ returns-in-Some-clause-last c = λ none. absurd (let some = ap (option_map fault
 
 pub returns-in-None-clause-last : goal.returns-in-None-clause-last
 returns-in-None-clause-last c = λ none. c.take.ensures.last
+
+pub returns-in-Some-clause-blames : goal.returns-in-Some-clause-blames
+returns-in-Some-clause-blames c = blames_none _ _
+
+pub returns-in-None-clause-blames : goal.returns-in-None-clause-blames
+returns-in-None-clause-blames c = c.take.ensures.blames

@@ -1,9 +1,7 @@
 -- What is to come ends in the fault that all events end in.
 use Rattle.std.proofs.Common.{◌∙◌, refl, sym, subst, Option, Some, ap}
-use Rattle.yaml_scan.specs.declared.yaml_mark_t.{yaml_mark_t}
 use Rattle.yaml_scan.specs.Faults.{Fault}
 use Rattle.yaml_parse.specs.Events.{event_of}
-use Rattle.yaml_parse.specs.Numbering.{undefined_alias}
 use Rattle.yaml_parse.specs.Loading.{nothing_loaded}
 use Rattle.yaml_round_writing.specs.Checking.{LoadsOn}
 use Rattle.yaml_round_writing.proofs.Knowing.{unknown}
@@ -16,7 +14,7 @@ events-init c = (nothing_loaded, (unknown c.args.known.now nothing_loaded c.requ
 pub events-preserved : goal.events-preserved
 events-preserved c =
     next_event c.events.reading.parser c.yaml_parser_parse_into.new.parser (event_of c.yaml_parser_parse_into.new.event) c.events.known c.pass.new.self c.pass.result _
-    c.in-Event.ensures.finds c.pass.ensures.follows c.in-On.is c.events.invariant
+    c.in-Event.ensures.finds c.pass.ensures c.in-On.is c.events.invariant
 
 pub returns-in-Refused : goal.returns-in-Refused
 returns-in-Refused c = λ from input h.
@@ -32,12 +30,11 @@ returns-in-End c = λ from input h.
 pub returns-in-Over : goal.returns-in-Over
 returns-in-Over c = λ from input h.
     let loads = subst (λ (z : Option Fault). LoadsOn c.events.known c.events.reading.parser z) (first_event from input c.args.reading.now.parser h) c.events.invariant in
-    accepted from input (over_event c.events.reading.parser c.yaml_parser_parse_into.new.parser (event_of c.yaml_parser_parse_into.new.event) c.events.known c.pass.new.self c.pass.result _ c.in-Event.ensures.finds c.pass.ensures.follows c.in-Over.is loads)
+    accepted from input (over_event c.events.reading.parser c.yaml_parser_parse_into.new.parser (event_of c.yaml_parser_parse_into.new.event) c.events.known c.pass.new.self c.pass.result _ c.in-Event.ensures.finds c.pass.ensures c.in-Over.is loads)
 
 pub returns-in-Undefined : goal.returns-in-Undefined
 returns-in-Undefined c = λ from input h.
     let loads = subst (λ (z : Option Fault). LoadsOn c.events.known c.events.reading.parser z) (first_event from input c.args.reading.now.parser h) c.events.invariant in
     faulty from input c.undefined_alias_fault.result
-    (undefined_event c.events.reading.parser c.yaml_parser_parse_into.new.parser (event_of c.yaml_parser_parse_into.new.event) c.events.known c.pass.new.self c.pass.result _ c.in-Event.ensures.finds c.pass.ensures.follows c.in-Undefined.is loads
-    ∙ ap (λ (z : yaml_mark_t). Some (undefined_alias z)) (sym c.pass.ensures.mark)
+    (undefined_event c.events.reading.parser c.yaml_parser_parse_into.new.parser (event_of c.yaml_parser_parse_into.new.event) c.events.known c.pass.new.self c.pass.result _ c.in-Event.ensures.finds c.pass.ensures c.in-Undefined.is loads
     ∙ ap Some (sym c.undefined_alias_fault.ensures))

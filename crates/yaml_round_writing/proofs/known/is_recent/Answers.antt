@@ -1,14 +1,8 @@
 -- One of the last names is this one.
-use Rattle.std.proofs.Common.{◌∙◌, ap, rules, ◌-◌, length, ℕ, Vec}
-use Rattle.std.specs.Global.{Global}
-use Rattle.std.specs.Str.{bytes_eq}
+use Rattle.std.proofs.Common.{rules, ◌-◌, length}
 use Rattle.yaml_round_writing.proofs.Knowing.{is_last}
 use Rattle.yaml_round_writing.proofs.known.is_recent.Goals as goal
 
 pub returns-then-eq : goal.returns-then-eq
 returns-then-eq c = λ t.
-    is_last c.args.name.now c.args.names.now (length c.args.names.now - c.names.back) c.index-names-names.result c.eq.result (search rules)
-    (c.eq.ensures
-    ∙ ap (bytes_eq c.args.name.now) c.as_slice.ensures.value
-    ∙ ap (λ (k : Vec ℕ Global). bytes_eq c.args.name.now k.items) c.index-names-names.is)
-    c.if-eq.true
+    is_last c.args.name.now c.args.text.now c.name_at.result.now c.args.spans.now (length c.args.spans.now - c.names.back) _ c.eq.result (search rules) c.name_at.ensures c.eq.ensures c.if-eq.true

@@ -1,7 +1,7 @@
 use Rattle.std.proofs.Common.{refl, sym, ◌∙◌, arith}
 use Rattle.yaml_scan_model.specs.Faults.{fault_of}
 use Rattle.yaml_scan_machine.proofs.ComesLemmas.{end_machine, goes_same, left_is, told_refused, steps_on, steps_off}
-use Rattle.yaml_scan.proofs.FoundLemmas.{reads_behind}
+use Rattle.yaml_scan.proofs.FoundLemmas.{reads_behind, reads_itself, reads_more, refused_lacks, decoded_plain}
 use Rattle.yaml_scan.proofs.MoreLemmas.{denied_more}
 use Rattle.yaml_scan.proofs.reading.fill_first.Goals as goal
 
@@ -13,6 +13,7 @@ returns-then-machine c =
       stands = c.requires.stands;
       left = left_is m c.requires.started ∙ none;
       none = left_is m c.requires.started ∙ none;
+      reads = reads_itself m;
     }
 
 pub returns-then-not-begin : goal.returns-then-not-begin
@@ -23,6 +24,8 @@ returns-then-not-begin c =
       sought = c.requires.sought;
       more = denied_more m m c.requires.started refl c.requires.stands c.requires.sought c.if-machine.false;
       told = told_refused m m (fault_of c.begin.new.fault) c.requires.started refl c.requires.stands c.requires.sought c.if-machine.false refused;
+      reader = refused_lacks m m (fault_of c.begin.new.fault) refused;
+      plain = decoded_plain m (fault_of c.begin.new.fault) c.requires.stands c.requires.started;
       few = few;
     }
 
@@ -34,6 +37,7 @@ returns-then-has_token c =
       stands = stands;
       left = left_is c.begin.new.self (on.started ∙ c.requires.started) ∙ goes_same m c.begin.new.self on ∙ sym (left_is m c.requires.started);
       ready = sym c.has_token.ensures ∙ c.if-has_token.true;
+      reads = reads_more m c.begin.new.self c.requires.stands c.requires.sought on;
     }
 
 pub fill_further-requires-clause-stands : goal.fill_further-requires-clause-stands
@@ -58,4 +62,4 @@ returns c =
     let (stands, on) = steps_on m c.begin.new.self (fault_of c.begin.new.fault) c.begin.result c.if-not-begin.false c.begin.ensures in
     let sought = sym c.has_token.ensures ∙ c.if-has_token.false in
     let left = left_is c.begin.new.self (on.started ∙ c.requires.started) ∙ goes_same m c.begin.new.self on ∙ sym (left_is m c.requires.started) in
-    reads_behind m c.begin.new.self c.fill_further.new.machine (fault_of c.fill_further.new.fault) c.fill_further.result left (sought ∙ sym c.requires.sought) c.fill_further.ensures
+    reads_behind m c.begin.new.self c.fill_further.new.machine (fault_of c.fill_further.new.fault) c.fill_further.result left (sought ∙ sym c.requires.sought) (reads_more m c.begin.new.self c.requires.stands c.requires.sought on) c.fill_further.ensures

@@ -1,6 +1,7 @@
 use Rattle.std.proofs.Common.{sym, ◌∙◌, arith}
 use Rattle.yaml_scan_model.specs.Faults.{fault_of}
 use Rattle.yaml_scan_machine.proofs.ComesLemmas.{end_machine, goes_same, left_is, told_refused, steps_on, steps_off}
+use Rattle.yaml_scan.proofs.FoundLemmas.{reads_both, reads_more, refused_lacks, same_left, decoded_plain}
 use Rattle.yaml_scan.proofs.MoreLemmas.{denied_more}
 use Rattle.yaml_scan.proofs.reading.fill_further.Goals as goal
 
@@ -12,6 +13,7 @@ steps-preserved c =
       stands = stands;
       same = goes_same c.steps.machine c.step.new.machine on ∙ i.same;
       started = on.started ∙ i.started;
+      reads = reads_both c.args.machine.now c.steps.machine c.step.new.machine (same_left c.args.machine.now c.steps.machine c.requires.started i.started i.same) i.reads (reads_more c.steps.machine c.step.new.machine i.stands i.sought on);
       sought = sym c.has_token-known.ensures ∙ c.if-known.false;
       some = omega (arith, on.dropped, on.further);
     }
@@ -24,6 +26,7 @@ returns-then-machine c =
       stands = i.stands;
       left = left_is c.args.machine.now c.requires.started ∙ sym i.same ∙ none;
       none = left_is c.steps.machine i.started ∙ none;
+      reads = i.reads;
     }
 
 pub step-requires-clause-may : goal.step-requires-clause-may
@@ -39,6 +42,8 @@ returns-then-not-step c =
       sought = c.requires.sought;
       more = denied_more c.args.machine.now c.steps.machine c.requires.started i.same i.stands i.sought c.if-machine.false;
       told = told_refused c.args.machine.now c.steps.machine (fault_of c.step.new.fault) c.requires.started i.same i.stands i.sought c.if-machine.false refused;
+      reader = refused_lacks c.args.machine.now c.steps.machine (fault_of c.step.new.fault) refused;
+      plain = decoded_plain c.args.machine.now (fault_of c.step.new.fault) c.requires.stands c.requires.started;
       few = few;
     }
 
@@ -50,4 +55,5 @@ returns-then-known c =
       stands = stands;
       left = left_is c.step.new.machine (on.started ∙ i.started) ∙ goes_same c.steps.machine c.step.new.machine on ∙ i.same ∙ sym (left_is c.args.machine.now c.requires.started);
       ready = sym c.has_token-known.ensures ∙ c.if-known.true;
+      reads = reads_both c.args.machine.now c.steps.machine c.step.new.machine (same_left c.args.machine.now c.steps.machine c.requires.started i.started i.same) i.reads (reads_more c.steps.machine c.step.new.machine i.stands i.sought on);
     }

@@ -2,9 +2,10 @@ use Rattle.std.proofs.Common.{None, refl, ◌∙◌, sym}
 use Rattle.std.proofs.lemmas.Bool.{false≢true}
 use Rattle.yaml_parse_model.specs.Events.{body_of}
 use Rattle.yaml_emit_layout.specs.Content.{emitter_event}
-use Rattle.yaml_emit_held.proofs.Judging.{lays_unnoted}
+use Rattle.yaml_emit_held.proofs.Following.{lays_unnoted}
 use Rattle.yaml_emit_machine.proofs.Taking.{inside_takes, inside_notes, inside_going}
 use Rattle.yaml_emit_machine.proofs.Forced.{forced_same}
+use Rattle.yaml_emit_machine.proofs.Blaming.{inside_blames}
 use Rattle.yaml_emit_machine.proofs.emitter.yaml_emitter_t.lay.Goals as goal
 
 pub invariant_of-self : goal.invariant_of-self
@@ -33,3 +34,8 @@ returns-clause-memory c = rw (← c.self.view_is) (inside_notes c.self.inside c.
 
 pub returns-clause-last : goal.returns-clause-last
 returns-clause-last c = rw (← c.self.view_is) c.give.ensures.last
+
+pub returns-clause-blames : goal.returns-clause-blames
+returns-clause-blames c =
+    let fr = rw (← c.self.view_is) at c.requires.begun in
+    rw (← c.self.view_is) (inside_blames c.self.inside c.give.new.core c.give.new.held None (emitter_event (body_of c.args.event.now)) fr c.give.ensures.lays)

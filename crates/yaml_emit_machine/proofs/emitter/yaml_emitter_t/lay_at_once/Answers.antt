@@ -4,9 +4,9 @@ use Rattle.yaml_parse_model.specs.Events.{body_of}
 use Rattle.yaml_emit_layout.specs.Content.{emitter_event}
 use Rattle.yaml_emit_held.specs.Held.{is_ready}
 use Rattle.yaml_emit_held.proofs.Judging.{going_notes}
-use Rattle.yaml_emit_machine.proofs.Early.{inside_gives, inside_notes_early}
-use Rattle.yaml_emit_machine.proofs.Taking.{inside_open}
 use Rattle.yaml_emit_machine.proofs.Forced.{forced_same}
+use Rattle.yaml_emit_machine.proofs.Early.{inside_gives, inside_notes_early, inside_blames_early}
+use Rattle.yaml_emit_machine.proofs.Taking.{inside_open, inside_going}
 use Rattle.yaml_emit_machine.proofs.emitter.yaml_emitter_t.lay_at_once.Goals as goal
 
 pub invariant_of-self : goal.invariant_of-self
@@ -35,3 +35,8 @@ pub returns-clause-memory : goal.returns-clause-memory
 returns-clause-memory c =
     let once = rw (← c.self.view_is) at c.requires.once in
     rw (← c.self.view_is) (inside_notes_early c.self.inside c.lay_out.new.self None (emitter_event (body_of c.args.event.now)) once c.lay_out.ensures)
+
+pub returns-clause-blames : goal.returns-clause-blames
+returns-clause-blames c =
+    let once = rw (← c.self.view_is) at c.requires.once in
+    rw (← c.self.view_is) (inside_blames_early c.self.inside c.lay_out.new.self None (emitter_event (body_of c.args.event.now)) (inside_open c.self.inside c.self.invariant once.right) (inside_going c.self.inside c.self.invariant once.right) once c.lay_out.ensures)

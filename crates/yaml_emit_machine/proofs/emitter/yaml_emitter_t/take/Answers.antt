@@ -1,6 +1,7 @@
 -- What begins comes into force first; what a call has said of the same is named, so that nothing is searched for.
 use Rattle.yaml_emit_machine.proofs.Taking.{begins_takes, begins_notes}
 use Rattle.yaml_emit_machine.proofs.Resuming.{begins_last}
+use Rattle.yaml_emit_machine.proofs.Blaming.{begins_blames}
 use Rattle.yaml_emit_machine.proofs.emitter.yaml_emitter_t.take.Goals as goal
 
 pub returns-then-self-clause-takes : goal.returns-then-self-clause-takes
@@ -29,3 +30,9 @@ returns-then-self-clause-last c = begins_last _ _ c.lay.new.self _ c.begin.ensur
 
 pub returns-else-self-clause-last : goal.returns-else-self-clause-last
 returns-else-self-clause-last c = c.lay-else-self.ensures.last
+
+pub returns-then-self-clause-blames : goal.returns-then-self-clause-blames
+returns-then-self-clause-blames c = begins_blames _ _ c.lay.new.self _ c.begin.ensures.begins c.lay.ensures.blames
+
+pub returns-else-self-clause-blames : goal.returns-else-self-clause-blames
+returns-else-self-clause-blames c = c.lay-else-self.ensures.blames

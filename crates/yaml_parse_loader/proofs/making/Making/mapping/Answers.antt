@@ -7,4 +7,4 @@ pub returns : goal.returns
 returns c =
     let place_is : c.len-place.result ≡ length (map node_of c.args.self.now.parts.nodes.items)
     = c.len-place.ensures ∙ c.args.self.now.parts.nodes.ok.0 ∙ sym (length-map _ node_of) in
-    rw (c.in_ok-tag.ensures, c.new-pairs.ensures.items, c.new-gathered.ensures.items, place_is) at c.open.ensures
+    rw (c.tag_or_default-tag.ensures, c.take-given.ensures.value, c.take-name.ensures.value, c.new-pairs.ensures.items, c.new-gathered.ensures.items, place_is) at c.open.ensures

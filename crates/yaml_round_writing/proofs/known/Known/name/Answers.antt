@@ -1,10 +1,8 @@
 -- The document has the name too.
-use Rattle.yaml_round_writing.proofs.Knowing.{put, not_put}
-use Rattle.yaml_round_writing.proofs.known.Known.name.Goals.{in-Ok, in-Err}
+use Rattle.std.proofs.Common.{refl, ◌∙◌}
+use Rattle.yaml_round_writing.proofs.Knowing.{put}
 use Rattle.yaml_round_writing.proofs.known.Known.name.Goals as goal
 
-pub returns : goal.returns
-returns c = elim c.match-push.branch [
-  | in-Ok w ↦ put c.args.self.now c.push.new.self c.args.name c.match-push.result w.result-is c.requires w.in-Ok.ensures.items
-  | in-Err w ↦ not_put c.args.self.now c.push.new.self c.args.name c.match-push.result w.result-is
-]
+pub returns-in-Ok-push : goal.returns-in-Ok-push
+returns-in-Ok-push c =
+    put c.args.self.now _ c.args.name.now _ _ refl c.requires refl refl c.in-Ok.ensures.items c.in-Ok-push.ensures.items (c.len-from.ensures ∙ c.args.self.now.text.ok.0) (c.len-to.ensures ∙ c.extend_from_slice.new.self.ok.0)

@@ -16,22 +16,22 @@ abbrev Comes : Known → yaml_mark_t → yaml_mark_t → Passed → Known → ya
 Comes old from to r new b = (l : Loading) → IsKnown old l
     → Follows (step_body (body_of b) from to l) from r new
 
-pub returns-in-DocumentStart-clause-follows : goal.returns-in-DocumentStart-clause-follows
-returns-in-DocumentStart-clause-follows c =
+pub returns-in-DocumentStart : goal.returns-in-DocumentStart
+returns-in-DocumentStart c =
     subst (Comes c.args.self.now c.args.event.now.start_mark c.args.event.now.end_mark passed.On c.forget.new.self) (sym c.in-DocumentStart.is) (λ l h. unknown c.forget.new.self _ c.forget.ensures refl refl)
 
-pub returns-in-DocumentEnd-clause-follows : goal.returns-in-DocumentEnd-clause-follows
-returns-in-DocumentEnd-clause-follows c =
+pub returns-in-DocumentEnd : goal.returns-in-DocumentEnd
+returns-in-DocumentEnd c =
     subst (Comes c.args.self.now c.args.event.now.start_mark c.args.event.now.end_mark c.end.result c.end.new.self) (sym c.in-DocumentEnd.is) (λ l h. ended_known c.args.self.now c.end.new.self c.end.result l c.in-DocumentEnd.implicit c.args.event.now.start_mark c.args.event.now.end_mark c.end.ensures h)
 
-pub returns-in-Scalar-clause-follows : goal.returns-in-Scalar-clause-follows
-returns-in-Scalar-clause-follows c =
+pub returns-in-Scalar : goal.returns-in-Scalar
+returns-in-Scalar c =
     subst (Comes c.args.self.now c.args.event.now.start_mark c.args.event.now.end_mark c.note.result c.note.new.self) (sym c.in-Scalar.is) (λ l h. noted (text_of c.in-Scalar.anchor) (next l) c.args.self.now c.note.new.self c.note.result l _ c.args.event.now.start_mark c.note.ensures h (appended l.document.nodes _) refl)
 
-pub returns-in-SequenceStart-clause-follows : goal.returns-in-SequenceStart-clause-follows
-returns-in-SequenceStart-clause-follows c =
+pub returns-in-SequenceStart : goal.returns-in-SequenceStart
+returns-in-SequenceStart c =
     subst (Comes c.args.self.now c.args.event.now.start_mark c.args.event.now.end_mark c.note-in-SequenceStart.result c.note-in-SequenceStart.new.self) (sym c.in-SequenceStart.is) (λ l h. noted (text_of c.in-SequenceStart.anchor) (next l) c.args.self.now c.note-in-SequenceStart.new.self c.note-in-SequenceStart.result l _ c.args.event.now.start_mark c.note-in-SequenceStart.ensures h (appended l.document.nodes _) refl)
 
-pub returns-in-MappingStart-clause-follows : goal.returns-in-MappingStart-clause-follows
-returns-in-MappingStart-clause-follows c =
+pub returns-in-MappingStart : goal.returns-in-MappingStart
+returns-in-MappingStart c =
     subst (Comes c.args.self.now c.args.event.now.start_mark c.args.event.now.end_mark c.note-in-MappingStart.result c.note-in-MappingStart.new.self) (sym c.in-MappingStart.is) (λ l h. noted (text_of c.in-MappingStart.anchor) (next l) c.args.self.now c.note-in-MappingStart.new.self c.note-in-MappingStart.result l _ c.args.event.now.start_mark c.note-in-MappingStart.ensures h (appended l.document.nodes _) refl)

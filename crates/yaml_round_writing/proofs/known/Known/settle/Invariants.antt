@@ -7,4 +7,4 @@ abbrev pub invariant-names : goal.invariant-names
 invariant-names l = Keeps l.fn.self l.self
 
 abbrev pub decreases-names : goal.decreases-names
-decreases-names l = length l.self.recent.items
+decreases-names l = length l.self.spans.items

@@ -1,4 +1,4 @@
-use Rattle.std.proofs.Common.{◌≡◌, ℕ, List, sym, ap, subst, arith, ◌+◌, length}
+use Rattle.std.proofs.Common.{◌≡◌, ℕ, List, refl, sym, ap, subst, arith, ◌+◌, length}
 use Rattle.std.specs.Prelude.{map}
 use Rattle.yaml_scan_decode.specs.DecodedText.{text_bytes}
 use Rattle.yaml_scan_model.specs.declared.name.yaml_encoding_t.{yaml_encoding_t}
@@ -22,7 +22,7 @@ returns-clause-stands c =
     record {
       long = (let same : length c.as_slice-length.result.now ≡ length (text_bytes c.args.text) = ap (λ (t : List ℕ). length t) c.as_slice-length.ensures in omega (arith, same));
       few = rw c.new.ensures.items (omega arith);
-      short = rw c.new.ensures.items (omega arith);
+      short = (rw c.new.ensures.items (omega arith), omega (arith, c.new.ensures.slots));
       taken = omega arith;
       settled = omega arith;
       depth = omega arith;
@@ -30,6 +30,9 @@ returns-clause-stands c =
       inside = λ k w lt. absurd (let bad = rw c.new.ensures.items at lt in omega (arith, bad));
       place = λ _. start_place (text_bytes c.args.text);
       begun = λ off. c.new.ensures.items;
+      fresh = λ off. refl;
+      decoded = c.requires;
+      spelled = c.stream_encoding.ensures;
       given = given_none 0 0 (map (λ (x : Waiting). kept_of x) c.new.result.items);
       shown = shown_start c.stream_encoding.result (text_bytes c.args.text) c.new.result.items c.new-3.result (stack_of c.new-2.result) c.new.ensures.items c.new-3.ensures (start_keys (stack_of c.new-2.result) zero_mark c.new-2.ensures.gone c.new-2.ensures.outer c.new-2.ensures.none c.new-2.ensures.stale);
     }

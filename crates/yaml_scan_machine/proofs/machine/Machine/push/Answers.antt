@@ -7,7 +7,7 @@ use Rattle.yaml_scan_decode.specs.DecodedText.{text_bytes}
 use Rattle.yaml_scan_machine.specs.declared.machine.Machine.{Machine}
 use Rattle.yaml_scan_queue.specs.declared.waiting.Waiting.{Waiting}
 use Rattle.yaml_scan_queue.specs.Waits.{Kept, kept_of}
-use Rattle.yaml_scan_machine.specs.State.{IsMachine, GoesOn, AreInside, IsNarrow, IsPlace}
+use Rattle.yaml_scan_machine.specs.State.{IsShort, IsMachine, GoesOn, AreInside, IsNarrow, IsPlace}
 use Rattle.yaml_scan_history.specs.declared.lexeme.Lexeme.{Lexeme}
 use Rattle.yaml_scan_history.specs.History.{inside, left_by, entry_of, reached}
 use Rattle.yaml_scan_laws_order.proofs.HistoryForward.{goes_forward}
@@ -20,7 +20,8 @@ use Rattle.yaml_scan_machine.proofs.MarkLemmas.{IsPushed, kept_entries, settled_
 use Rattle.yaml_scan_machine.proofs.PushLemmas.{marks_are, levels_is, kept_is, column_is, allowed_is, settled_value, room_is}
 use Rattle.yaml_scan_machine.proofs.KeysLemmas.{put_keys}
 use Rattle.yaml_scan_machine.proofs.StepLemmas.{saved_keeps}
-use Rattle.yaml_scan_machine.proofs.ComesLemmas.{waits_short}
+use Rattle.yaml_scan_machine.proofs.ComesLemmas.{waits_short, decoded_as, spelled_as}
+use Rattle.yaml_scan_machine.proofs.RowLemmas.{on_err, row_grows, row_short}
 use Rattle.yaml_scan_machine.proofs.GivenLemmas.{given_goes}
 use Rattle.yaml_scan_machine.proofs.machine.Machine.push.Goals as goal
 
@@ -167,13 +168,19 @@ returns-clause-ok c =
     let shown_now = shown_by f done l go c.requires.stands.shown e q now in
     let gives : d.given ≡ m.given = ap (λ (x : Machine). x.given) to_d ∙ ap (λ (x : Machine). x.given) to_b ∙ ap (λ (x : Machine). x.given) to_a in
     let on : d.started ≡ m.started = ap (λ (x : Machine). x.started) to_d ∙ ap (λ (x : Machine). x.started) to_b ∙ ap (λ (x : Machine). x.started) to_a in
+    let settings : d.setting ≡ m.setting = ap (λ (x : Machine). x.setting) to_d ∙ ap (λ (x : Machine). x.setting) to_b ∙ ap (λ (x : Machine). x.setting) to_a in
+    let inputs : d.input.now ≡ m.input.now = ap (λ (x : Machine). x.input.now) to_d ∙ ap (λ (x : Machine). x.input.now) to_b ∙ ap (λ (x : Machine). x.input.now) to_a in
+    let slots : d.waiting.slots ≡ m.waiting.slots = c.mark_key.ensures.slots ∙ ap (λ (x : Machine). x.waiting.slots) to_b ∙ ap (λ (x : Machine). x.waiting.slots) to_a in
     let pushed : Machine = record d { waiting = c.push_back_reserved.new.self; keys = z.keys; place = l.reached; depth = c.depth_after-self.result; allowed = c.allows-allowed.result; ended = c.is_end-self.result; settled = c.settle-self.result } in
     let is : record z { settled = c.settle-self.result } ≡ pushed = ap (λ (y : Machine). record y { settled = c.settle-self.result }) to_z in
     subst (λ (y : Machine). IsMachine y × GoesOn m y) (sym is) (
       record {
         long = omega (arith, len, c.requires.stands.long);
         few = omega (arith, len, drops, more, room, long);
-        short = omega (arith, more, waits_short m l c.requires.stands c.requires.sought c.requires.more e);
+        short = (
+          omega (arith, more, waits_short m l c.requires.stands c.requires.sought c.requires.more e),
+          row_grows m.waiting d.waiting c.reserve.new.self c.push_back_reserved.new.self (waits_short m l c.requires.stands c.requires.sought c.requires.more e) c.requires.stands.short.1 count slots c.reserve.ensures.slots c.push_back_reserved.ensures.slots,
+        );
         taken = omega (arith, drops, now, grows, c.requires.stands.taken);
         settled = omega (arith, now, most, drops, more, long, c.requires.stands.shown.count);
         depth = omega (arith, above, next.depth, drops, more, c.requires.stands.depth);
@@ -181,8 +188,24 @@ returns-clause-ok c =
         inside = subst AtInside (sym len) all;
         place = λ e. subst Place (sym text) (next.place (sym c.is_end-self.ensures ∙ e));
         begun = λ off. let bad : true ≡ false = sym c.requires.started ∙ sym on ∙ off in cc;
+        fresh = λ off. let bad : true ≡ false = sym c.requires.started ∙ sym on ∙ off in cc;
+        decoded = λ begun. decoded_as m d texts settings inputs (c.requires.stands.decoded c.requires.started);
+        spelled = spelled_as m d codes settings inputs c.requires.stands.spelled;
         shown = shown_now;
         given = given_goes f done l c.requires.stands.shown shown_now go e same drops gives (omega (arith, now, grows)) c.requires.stands.given;
       },
-      record { text = texts; dropped = drops; further = more; given = gives; encoding = codes; started = on },
+      record { text = texts; dropped = drops; further = more; given = gives; encoding = codes; started = on; setting = settings; bytes = inputs },
     )
+
+pub returns-in_err-reserve-clause-few : goal.returns-in_err-reserve-clause-few
+returns-in_err-reserve-clause-few c =
+    let m = c.args.self.now in
+    let b = c.open_level.new.self in
+    let d = c.mark_key.new.self in
+    let to_a = c.close_levels-ends.ensures.same in
+    let to_b = c.in_ok-opens.ensures.same in
+    let (e, spoken, key) = ok_read m c.args.read _ c.requires.next.exact in
+    let waits : b.waiting.items ≡ m.waiting.items = ap (λ (x : Machine). x.waiting.items) to_b ∙ ap (λ (x : Machine). x.waiting.items) to_a in
+    let count : length d.waiting.items ≡ length m.waiting.items = c.mark_key.ensures.length ∙ ap (λ (ws : List Waiting). length ws) waits in
+    let slots : d.waiting.slots ≡ m.waiting.slots = c.mark_key.ensures.slots ∙ ap (λ (x : Machine). x.waiting.slots) to_b ∙ ap (λ (x : Machine). x.waiting.slots) to_a in
+    on_err c.from_residual-in_err-reserve.result (IsShort c.reserve.new.self) (row_short m.waiting d.waiting c.reserve.new.self (waits_short m c.args.read.lexeme c.requires.stands c.requires.sought c.requires.more e) c.requires.stands.short.1 count slots c.reserve.ensures.items c.reserve.ensures.slots)

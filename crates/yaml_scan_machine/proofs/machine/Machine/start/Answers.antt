@@ -1,6 +1,25 @@
+use Rattle.std.proofs.Common.{arith, ap, length, List}
 use Rattle.yaml_scan_model.specs.Faults.{fault_of}
+use Rattle.yaml_scan_queue.specs.declared.waiting.Waiting.{Waiting}
 use Rattle.yaml_scan_machine.proofs.ComesLemmas.{told_decoding}
 use Rattle.yaml_scan_machine.proofs.machine.Machine.start.Goals as goal
 
 pub returns-in-Err-clause-told : goal.returns-in-Err-clause-told
 returns-in-Err-clause-told c = told_decoding c.args.self.now (fault_of c.in-Err.fault) c.if-self.false c.in-Err.ensures.fault
+
+pub returns-in-Err-clause-utf8 : goal.returns-in-Err-clause-utf8
+returns-in-Err-clause-utf8 c = c.in-Err.ensures.no_memory
+
+pub over-requires : goal.over-requires
+over-requires c = λ on. c.in-Ok.ensures.text
+
+pub returns-in-Ok-clause-keeps : goal.returns-in-Ok-clause-keeps
+returns-in-Ok-clause-keeps c =
+    let i = c.requires in
+    let none = ap (λ (ws : List Waiting). length ws) (i.begun c.if-self.false) in
+    let fresh = i.fresh c.if-self.false in
+    record {
+      setting = c.over.ensures.setting;
+      bytes = c.over.ensures.bytes;
+      read = omega (arith, none, fresh, c.over.ensures.dropped, c.over.ensures.waiting);
+    }

@@ -77,7 +77,7 @@ returns-then-give-clause-stands c =
     record {
       long = c.requires.stands.long;
       few = omega (arith, len, c.requires.stands.few);
-      short = omega (arith, len, c.requires.stands.short);
+      short = (omega (arith, len, c.requires.stands.short.0), omega (arith, hands.slots, c.requires.stands.short.1));
       taken = omega (arith, low);
       settled = omega (arith, len, c.requires.stands.settled);
       depth = omega (arith, len, c.requires.stands.depth);
@@ -85,6 +85,9 @@ returns-then-give-clause-stands c =
       inside = inside_rest (length (text_bytes m.text)) front rest (subst Q items c.requires.stands.inside);
       place = c.requires.stands.place;
       begun = λ off. let bad : front ∷ rest ≡ [] = sym items ∙ c.requires.stands.begun off in cc;
+      fresh = λ off. let bad : front ∷ rest ≡ [] = sym items ∙ c.requires.stands.begun off in cc;
+      decoded = c.requires.stands.decoded;
+      spelled = c.requires.stands.spelled;
       shown = shown_popped (fields_of m) m.waiting.items front rest c.requires.stands.shown refl items low;
       given = given_none (m.dropped + 1) m.settled (map (λ (x : Waiting). kept_of x) rest);
     }
@@ -107,3 +110,24 @@ returns-then-give-clause-gives c =
     let (tokens, fault) = gives_own m front rest c.requires.stands items low none in
     let on = ready_started m c.requires.stands c.requires.ready in
     left_gives m record m { waiting = c.give.new.self; dropped = m.dropped + 1; given = 0 } (token_of c.give.new.slot) on on (tokens ∙ ap (λ (t : Token). t ∷ (remaining (stream_of m) (m.dropped + 1) 0).tokens) (own ∙ sym is), fault)
+
+pub returns-else-give-clause-keeps : goal.returns-else-give-clause-keeps
+returns-else-give-clause-keeps c =
+    let m = c.args.self.now in
+    let (front, rest, items) = first_waits m.dropped m.settled m.given m.waiting.items c.requires.ready in
+    let here : get_or m.waiting.items 0 front ≡ front = ap (λ (ws : List Waiting). get_or ws 0 front) items in
+    let first : Hands m.given front m.waiting c.give.new.self c.give.new.slot c.give.result = subst (λ (w : Waiting). Hands m.given w m.waiting c.give.new.self c.give.new.slot c.give.result) here (c.give.ensures front) in
+    let hands : IsInFront m.given front m.waiting c.give.new.self c.give.new.slot = subst (λ (b : Bool). Hands m.given front m.waiting c.give.new.self c.give.new.slot b) c.if-give.false first in
+    record { setting = refl; bytes = refl; read = ap (λ (q : Line). m.dropped + length q.items) hands.same }
+
+pub returns-then-give-clause-keeps : goal.returns-then-give-clause-keeps
+returns-then-give-clause-keeps c =
+    let m = c.args.self.now in
+    let (front, after, start) = first_waits m.dropped m.settled m.given m.waiting.items c.requires.ready in
+    let here : get_or m.waiting.items 0 front ≡ front = ap (λ (ws : List Waiting). get_or ws 0 front) start in
+    let first : Hands m.given front m.waiting c.give.new.self c.give.new.slot c.give.result = subst (λ (w : Waiting). Hands m.given w m.waiting c.give.new.self c.give.new.slot c.give.result) here (c.give.ensures front) in
+    let hands : IsItsOwn m.given front m.waiting c.give.new.self c.give.new.slot = subst (λ (b : Bool). Hands m.given front m.waiting c.give.new.self c.give.new.slot b) c.if-give.true first in
+    let rest = c.give.new.self.items in
+    let items = popped_waits m front rest c.requires.ready (sym here) hands.rest in
+    let len : length m.waiting.items ≡ length rest + 1 = ap (λ (ws : List Waiting). length ws) items ∙ omega arith in
+    record { setting = refl; bytes = refl; read = omega (arith, len) }

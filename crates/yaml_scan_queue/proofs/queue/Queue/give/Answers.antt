@@ -22,6 +22,7 @@ returns-then-at-self c = λ w.
       start = c.mark_again-slot.ensures ∙ ap (λ (x : Waiting). x.start) first;
       end = c.mark_again-slot-2.ensures ∙ ap (λ (x : Waiting). x.end) first;
       rest = part_last q.slots.items q.first q.last c.args.self.now.items is c.self.invariant.last c.if-at-self.true;
+      slots = length-set q.slots.items q.first (record c.index_mut.result.now { body = c.hand_out.new.from }) ∙ ap (λ (x : Line). x.slots) c.self.view_is;
     }
 
 pub returns-else-at-self : goal.returns-else-at-self
@@ -37,6 +38,7 @@ returns-else-at-self c = λ w.
       start = c.mark_again-slot.ensures ∙ ap (λ (x : Waiting). x.start) first;
       end = c.mark_again-slot-2.ensures ∙ ap (λ (x : Waiting). x.end) first;
       rest = part_pop q.slots.items q.first q.last _ (part_some q.slots.items q.first q.last c.args.self.now.items is c.self.invariant.last c.requires.some) ∙ ap (λ (x : Line). drop 1 x.items) c.self.view_is;
+      slots = length-set q.slots.items q.first (record c.index_mut.result.now { body = c.hand_out.new.from }) ∙ ap (λ (x : Line). x.slots) c.self.view_is;
     }
 
 pub invariant_of-self : goal.invariant_of-self

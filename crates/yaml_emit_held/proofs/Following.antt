@@ -1,0 +1,146 @@
+-- Events that are laid out one after another.
+use Rattle.std.proofs.Common.{◌≡◌, ◌⊎◌, inl, inr, ℕ, zero, suc, ◌+◌, drop, List, [], ◌∷◌, ◌++◌, Bool, true, false, refl, sym, subst, ◌∙◌, ap, arith, Option, Some, None}
+use Rattle.std.proofs.lemmas.Bool.{false≢true, or_parts}
+use Rattle.yaml_emit_text.specs.declared.Encoding.{Encoding}
+use Rattle.yaml_emit_text.specs.declared.Status.TheVariants.{Going}
+use Rattle.yaml_emit_text.specs.Text.{Item, encode}
+use Rattle.yaml_emit_text.specs.Layout.{stay}
+use Rattle.yaml_emit_text.proofs.Sinks.{grows_none, grows_both}
+use Rattle.yaml_emit_layout.specs.Content.{Event}
+use Rattle.yaml_emit_layout.specs.State.{piece, problem_at, opens_empty}
+use Rattle.yaml_emit_state.specs.declared.Core.{Core}
+use Rattle.yaml_emit_state.specs.Steps.{state_of, settings_of, next_piece, LaysOut, IsPut, takes_memory, is_document_start, goes_on}
+use Rattle.yaml_emit_state.specs.Finish.{Finishes}
+use Rattle.yaml_emit_state.proofs.Finishing.{finishes_on}
+use Rattle.yaml_emit_state.proofs.Noting.{notes_both, notes_within}
+use Rattle.yaml_emit_held.specs.Held.{is_ready, passes}
+use Rattle.yaml_emit_held.specs.Judged.{refused_at, refusal_behind, LetsOut, first_wrong, LaysAll, take_memory, LaysSome, Refuses}
+use Rattle.yaml_emit_held.specs.Laying.{HasLaid, LaysEvents}
+use Rattle.yaml_emit_held.proofs.Opening.{opens_none}
+use Rattle.yaml_emit_held.proofs.Holding.{ready_empty}
+use Rattle.yaml_emit_held.proofs.Judging.{ready_more, going_open, goes_going, done, text_step, some_step, some_one, some_none, going_notes, noted_takes, drop_next, first_there, start_there, refusal_on, wrong_on, lays_first}
+
+pub lays_none : (a : Core) (h : List Event) → LaysEvents a h a h
+lays_none a h = record {
+  finishes = λ es whole f. f;
+  refuses = λ g es. refl;
+  lets_out = λ es whole f. f;
+  first = λ g es. refl;
+  lays = λ es whole f. f;
+  grows = grows_none a.sink.bytes;
+  going = λ g. g;
+  encoding = refl;
+  limit = refl;
+  memory = λ n. refl;
+  left = λ n. n;
+  laid = zero;
+  rest = refl;
+  some = λ g m n is es whole f. let same : m ≡ n = omega (arith, is) in let P : ℕ → Type 0 = λ k. LaysSome k (settings_of a) (state_of a) a.sink (h ++ es) whole in subst P same f;
+  blames = λ off on. absurd (false≢true (sym off ∙ on));
+}
+
+-- no event of a list takes memory outside the output
+none_takes : (e : Event) (es : List Event) → take_memory (e ∷ es) ≡ false
+    → (takes_memory e ≡ false) × (take_memory es ≡ false)
+none_takes e es h = or_parts (takes_memory e) (take_memory es) h
+
+-- which of the events it was, and what stands in the output then
+blamed : (a b c : Core) (h x y : List Event) (e : Event) (empty : Bool) → LaysEvents a h b x
+    → x ≡ e ∷ y → refused_at b.place ≡ None → b.sink.status ≡ Going
+    → ((es : List Event) → empty ≡ opens_empty e (y ++ es)) → takes_memory e ≡ true
+    → LaysOut b c e empty
+    → (IsPut b.sink c.sink (next_piece (problem_at (settings_of b) (state_of b) e)
+    (piece (settings_of b) (state_of b) e empty))
+    ⊎ ((is_document_start e ≡ true) × IsPut b.sink c.sink stay))
+    → Refuses h (HasLaid a h c.sink.bytes)
+blamed a b c h x y e empty p same o g is takes l (inl put) = record {
+  front = p.laid;
+  takes = first_there p.laid h e y (p.rest ∙ same) takes;
+  stands = inl (λ es whole f.
+      let m : suc p.laid ≡ p.laid + suc zero = omega arith in
+      let P : List Event → Type 0 = λ z. LaysSome (suc zero) (settings_of b) (state_of b) b.sink (z ++ es) whole in
+      let Q : Encoding → Type 0 = λ z. encode z whole ≡ c.sink.bytes in
+      subst Q p.encoding (put whole (some_one (problem_at (settings_of b) (state_of b) e) (settings_of b) (state_of b) b.sink e (y ++ es) empty whole o refl (is es) (subst P same (p.some g (suc p.laid) (suc zero) m es whole f)))));
+}
+blamed a b c h x y e empty p same o g is takes l (inr put) = record {
+  front = p.laid;
+  takes = first_there p.laid h e y (p.rest ∙ same) takes;
+  stands = inr (
+    start_there p.laid h e y (p.rest ∙ same) put.0,
+    λ es whole f.
+        let m : p.laid ≡ p.laid + zero = omega arith in
+        let Q : Encoding → Type 0 = λ z. encode z whole ≡ c.sink.bytes in
+        subst Q p.encoding (put.1 whole (some_none (settings_of b) (state_of b) b.sink (x ++ es) whole o (p.some g p.laid zero m es whole f))),
+  );
+}
+
+pub lays_more : (a b c : Core) (h x y : List Event) (e : Event) (empty : Bool) → LaysEvents a h b x
+    → x ≡ e ∷ y → goes_on b.sink.status b.place ≡ true → is_ready x ≡ true → empty ≡ opens_empty e y
+    → LaysOut b c e empty → LaysEvents a h c y
+lays_more a b c h x y e empty p same goes r is l =
+    let Q : List Event → Type 0 = λ z. is_ready z ≡ true in
+    let r' : is_ready (e ∷ y) ≡ true = subst Q same r in
+    let o : refused_at b.place ≡ None = going_open b.sink.status b.place goes in
+    let is_empty : (es : List Event) → empty ≡ opens_empty e (y ++ es) = λ es. is ∙ sym (ready_empty e y es r') in
+    record {
+      finishes = λ es whole f.
+          let P : List Event → Type 0 = λ z. Finishes (settings_of b) (state_of b) b.sink (z ++ es) whole in
+          let R : Bool → Type 0 = λ v. LaysOut b c e v in
+          finishes_on b c e (y ++ es) whole (subst R (is ∙ sym (ready_empty e y es r')) l) (subst P same (p.finishes es whole f));
+      refuses = λ g es.
+          refusal_on b c e (y ++ es) empty o (ready_more e y es r') l g
+          ∙ (ap (λ z. refusal_behind (settings_of b) (state_of b) (z ++ es)) (sym same) ∙ p.refuses (l.text.going g) es);
+      lets_out = λ es whole f.
+          let P : List Event → Type 0 = λ z. LetsOut (settings_of b) (state_of b) b.sink (z ++ es) whole in
+          let R : Bool → Type 0 = λ v. LaysOut b c e v in
+          let l' : LaysOut b c e (opens_empty e (y ++ es)) = subst R (is ∙ sym (ready_empty e y es r')) l in
+          text_step b c e (y ++ es) whole o (ready_more e y es r') l' (subst P same (p.lets_out es whole f));
+      first = λ g es.
+          wrong_on b c e (y ++ es) empty o l g
+          ∙ (ap (λ z. first_wrong (settings_of b) (state_of b) (z ++ es)) (sym same) ∙ p.first (l.text.going g) es);
+      lays = λ es whole f.
+          let P : List Event → Type 0 = λ z. LaysAll (settings_of b) (state_of b) b.sink (z ++ es) whole in
+          let R : Bool → Type 0 = λ v. LaysOut b c e v in
+          lays_first b c e (y ++ es) whole o (subst R (is ∙ sym (ready_empty e y es r')) l) (subst P same (p.lays es whole f));
+      grows = grows_both a.sink.bytes b.sink.bytes c.sink.bytes p.grows l.text.grows;
+      going = λ g. p.going (l.text.going g);
+      encoding = l.text.encoding ∙ p.encoding;
+      limit = l.text.limit ∙ p.limit;
+      memory = λ n.
+          let k = notes_both (take_memory h) _ _ _ p.going l.text.going n in
+          l.memory (notes_within (take_memory h) (takes_memory e) _ _ (λ z. (none_takes e y (sym (ap take_memory same) ∙ p.left z)).0) k.1) ∙ p.memory k.0;
+      left = λ z. (none_takes e y (sym (ap take_memory same) ∙ p.left z)).1;
+      laid = suc p.laid;
+      rest = drop_next p.laid h e y (p.rest ∙ same);
+      some = λ g m n is es whole f.
+          let on : b.sink.status ≡ Going = l.text.going g in
+          let m' : m ≡ p.laid + suc n = omega (arith, is) in
+          let P : List Event → Type 0 = λ z. LaysSome (suc n) (settings_of b) (state_of b) b.sink (z ++ es) whole in
+          let R : Bool → Type 0 = λ v. LaysOut b c e v in
+          let l' : LaysOut b c e (opens_empty e (y ++ es)) = subst R (is_empty es) l in
+          some_step (problem_at (settings_of b) (state_of b) e) n b c e (y ++ es) whole o g (done b c e _ l') (subst P same (p.some on m (suc n) m' es whole f));
+      blames = λ off on.
+          let on_still : b.sink.status ≡ Going = goes_going b.sink.status b.place goes in
+          let off' : b.starved ≡ false = p.memory (going_notes (take_memory h) a.sink.status b.sink.status on_still) ∙ off in
+          let takes : takes_memory e ≡ true = noted_takes (takes_memory e) b.sink.status c.sink.status b.starved c.starved off' on l.memory in
+          blamed a b c h x y e empty p same o on_still is_empty takes l (l.blames.levels on_still off' on);
+    }
+
+-- an event that isn't held
+pub lays_past : (a b c : Core) (x h : List Event) (e : Event) → LaysEvents a x b (h ++ e ∷ [])
+    → goes_on b.sink.status b.place ≡ true → passes h e ≡ true → LaysOut b c e false
+    → LaysEvents a x c h
+lays_past a b c x [] e j g p l = lays_more a b c x (e ∷ []) [] e false j refl g p (sym (opens_none e)) l
+lays_past a b c x (f ∷ fs) e j g p l = absurd (cc)
+
+-- one that is
+pub lays_held : (a b : Core) (x y z : List Event) → z ≡ y → LaysEvents a x b y → LaysEvents a x b z
+lays_held a b x y z same j = let P : List Event → Type 0 = λ t. LaysEvents a x b t in subst P (sym same) j
+
+-- ---- memory
+
+-- while the output goes on, none was refused outside it
+pub lays_unnoted : (old new : Core) (before after : List Event) → LaysEvents old before new after
+    → (old.sink.status ≡ Going → old.starved ≡ false) → new.sink.status ≡ Going
+    → new.starved ≡ false
+lays_unnoted old new before after j n g = j.memory (going_notes _ old.sink.status new.sink.status g) ∙ n (j.going g)

@@ -1,0 +1,4 @@
+mod Grounding
+mod Noting
+mod Parting
+pub mod Following

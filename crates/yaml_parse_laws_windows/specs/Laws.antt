@@ -1,0 +1,37 @@
+-- The events of tokens behind a document's end.
+use Rattle.std.specs.Prelude.{◌≡◌, ◌≢◌, List, [], ◌∷◌, ◌++◌, map, Option, None}
+use Rattle.yaml_parse_grammar.specs.parse_model.declared.yaml_encoding_t.{yaml_encoding_t}
+use Rattle.yaml_parse_grammar.specs.parse_model.Tokens.{Token, stream_start, stream_end, document_start}
+use Rattle.yaml_parse_grammar.specs.parse_model.Faults.{Fault}
+use Rattle.yaml_parse_grammar.specs.parse_model.Events.{Event}
+use Rattle.yaml_parse_grammar.specs.Machine.{run, initial}
+use Rattle.yaml_parse_grammar.specs.Resolve.{Reading, Told, no_directives}
+use Rattle.yaml_parse_grammar.specs.Remaining.{reading_of}
+
+-- what a parser reads of tokens, and of the fault behind them
+abbrev pub parse_of : List Token → Option Fault → Reading
+parse_of tokens own = reading_of (run tokens initial own) no_directives
+
+-- the events, without how many tokens were asked for
+abbrev pub events_in : Reading → List Event
+events_in r = map (λ (t : Told). t.0) r.events
+
+-- the stream's end is none of them
+abbrev pub GoOn : List Token → Type 0
+GoOn [] = Unit {0}
+GoOn (t ∷ ts) = (t.body ≢ stream_end) × GoOn ts
+
+-- Where tokens that end in STREAM-END are accepted, and a DOCUMENT-START stands in its place, with others behind it, the events are
+-- those in front of the stream's end, and then those that these tokens have behind a STREAM-START; and so is what they end in.
+abbrev pub WindowsAreParsed : Type 0
+WindowsAreParsed = (front : List Token) (last : Token) → GoOn front → last.body ≡ stream_end
+    → (parse_of (front ++ last ∷ []) None).ending ≡ None
+    → (mark : Token) → mark.body ≡ document_start → mark.start_mark ≡ last.start_mark
+    → (first : Token) (encoding : yaml_encoding_t) → first.body ≡ stream_start encoding
+    → (behind : List Token) (own : Option Fault) (before : List Event) (end : Event)
+    → events_in (parse_of (front ++ last ∷ []) None) ≡ before ++ end ∷ []
+    → (start : Event) (later : List Event)
+    → events_in (parse_of (first ∷ mark ∷ behind) own) ≡ start ∷ later
+    → (events_in (parse_of (front ++ mark ∷ behind) own) ≡ before ++ later)
+    × ((parse_of (front ++ mark ∷ behind) own).ending ≡ (parse_of
+    (first ∷ mark ∷ behind) own).ending)

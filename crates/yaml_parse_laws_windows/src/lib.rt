@@ -1,0 +1,6 @@
+//! Laws of tokens behind a document's end: what a parser reads of them is what it reads of them behind a stream's start. No code.
+#![tactic(auto)]
+
+mod laws;
+
+pub use laws::windows_are_parsed;

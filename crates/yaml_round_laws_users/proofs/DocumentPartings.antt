@@ -1,0 +1,93 @@
+-- The documents of two inputs part at one place.
+use Rattle.std.proofs.Common.{◌≡◌, ◌∙◌, sym, ap, refl, subst, ℕ, List, [], ◌∷◌, ◌++◌, length, Some}
+use Rattle.yaml_round.specs.declared.yaml_encoding_t.{yaml_encoding_t}
+use Rattle.yaml_round.specs.declared.yaml_difference_t.{yaml_difference_t}
+use Rattle.yaml_round.specs.round_laws_documents.round_content.parse_model.Events.{EventBody, type_of}
+use Rattle.yaml_round.specs.round_laws_documents.round_content.parse_laws_trees.parse_document.Documents.{Document}
+use Rattle.yaml_round.specs.round_laws_documents.round_content.Agree.{AreAgreeing}
+use Rattle.yaml_round.specs.Input.{events_of}
+use Rattle.yaml_round.specs.Loaded.{dumps_say, next_of, event_at, SameDocuments, IsDocumentsParting}
+use Rattle.yaml_round_laws_users.specs.Partings.{TellTheSame, DocumentDiffsAgree, turned}
+use Rattle.yaml_round_laws_users.proofs.Limits.{same_loading}
+use Rattle.yaml_round_laws_users.proofs.Partings.{one_path}
+
+-- ---- lists
+
+tails : (a b : EventBody) (x y : List EventBody) → a ∷ x ≡ b ∷ y → x ≡ y
+tails a b x y e = cc
+
+-- Two lists that go on apart behind a front do so behind no other.
+one_front : (b b' l o l' o' : List EventBody) → b ++ l ≡ b' ++ l' → b ++ o ≡ b' ++ o'
+    → (next_of l ≡ next_of o → ⊥) → (next_of l' ≡ next_of o' → ⊥) → b ≡ b'
+one_front [] [] l o l' o' p q d d' = refl
+one_front [] (x ∷ xs) l o l' o' p q d d' = absurd (d (ap next_of p ∙ sym (ap next_of q)))
+one_front (x ∷ xs) [] l o l' o' p q d d' = absurd (d' (sym (ap next_of p) ∙ ap next_of q))
+one_front (x ∷ xs) (y ∷ ys) l o l' o' p q d d' =
+    let e : xs ≡ ys = one_front xs ys l o l' o' (tails x y (xs ++ l) (ys ++ l') p) (tails x y (xs ++ o) (ys ++ o') q) d d' in
+    let h : Some x ≡ Some y = ap next_of p in
+    cc
+
+-- ---- inputs
+
+same_front : (a_from b_from : yaml_encoding_t) (a b : List ℕ) (d e : yaml_difference_t)
+    → (h : IsDocumentsParting a_from a b_from b d) → (k : IsDocumentsParting a_from a b_from b e)
+    → h.before ≡ k.before
+same_front a_from b_from a b d e h k =
+    one_front h.before k.before h.left h.other_left k.left k.other_left
+    (sym h.first_says ∙ sym (ap dumps_say (same_loading a_from a h.first k.first h.first_loads k.first_loads)) ∙ k.first_says)
+    (sym h.second_says ∙ sym (ap dumps_say (same_loading b_from b h.second k.second h.second_loads k.second_loads)) ∙ k.second_says)
+    h.differ k.differ
+
+once : (a_from b_from : yaml_encoding_t) (a b : List ℕ) (d e : yaml_difference_t)
+    → IsDocumentsParting a_from a b_from b d → IsDocumentsParting a_from a b_from b e
+    → TellTheSame d e
+once a_from b_from a b d e h k =
+    let f = same_front a_from b_from a b d e h k in
+    let first = events_of a_from a in
+    let second = events_of b_from b in
+    record {
+      path = h.path ∙ one_path h.place k.place (sym h.in_front ∙ f ∙ k.in_front) ∙ sym k.path;
+      first_mark = h.tells.first_mark ∙ ap (λ (es : List EventBody). (event_at first (length es)).start_mark) f ∙ sym k.tells.first_mark;
+      first_type = h.tells.first_type ∙ ap (λ (es : List EventBody). type_of (event_at first (length es)).body) f ∙ sym k.tells.first_type;
+      second_mark = h.tells.second_mark ∙ ap (λ (es : List EventBody). (event_at second (length es)).start_mark) f ∙ sym k.tells.second_mark;
+      second_type = h.tells.second_type ∙ ap (λ (es : List EventBody). type_of (event_at second (length es)).body) f ∙ sym k.tells.second_type;
+    }
+
+other_way : (a_from b_from : yaml_encoding_t) (a b : List ℕ) (d : yaml_difference_t)
+    → IsDocumentsParting b_from b a_from a d → IsDocumentsParting a_from a b_from b (turned d)
+other_way a_from b_from a b d h = record {
+  first = h.second;
+  second = h.first;
+  first_loads = h.second_loads;
+  second_loads = h.first_loads;
+  apart = λ s. h.apart (sym s);
+  before = h.before;
+  left = h.other_left;
+  other_left = h.left;
+  first_says = h.second_says;
+  second_says = h.first_says;
+  differ = λ e. h.differ (sym e);
+  tells = record { first_mark = h.tells.second_mark; first_type = h.tells.second_type; second_mark = h.tells.first_mark; second_type = h.tells.first_type };
+  place = h.place;
+  in_front = h.in_front;
+  path = h.path;
+}
+
+same_turned : (a_from b_from : yaml_encoding_t) (a b : List ℕ)
+    → SameDocuments a_from a b_from b → SameDocuments b_from b a_from a
+same_turned a_from b_from a b s = record { first = s.second; second = s.first; first_loads = s.second_loads; second_loads = s.first_loads; agree = sym s.agree }
+
+not_apart : (a_from b_from : yaml_encoding_t) (a b : List ℕ) (d : yaml_difference_t)
+    → SameDocuments a_from a b_from b → IsDocumentsParting a_from a b_from b d → ⊥
+not_apart a_from b_from a b d s h =
+    let first : h.first ≡ s.first = same_loading a_from a s.first h.first s.first_loads h.first_loads in
+    let second : h.second ≡ s.second = same_loading b_from b s.second h.second s.second_loads h.second_loads in
+    h.apart (subst (λ (ds : List Document). AreAgreeing ds h.second) (sym first) (subst (λ (es : List Document). AreAgreeing s.first es) (sym second) s.agree))
+
+pub agree : DocumentDiffsAgree
+agree = record {
+  either = λ a_from b_from a b s. same_turned a_from b_from a b s;
+  not_both = λ a_from b_from a b d s h. not_apart a_from b_from a b d s h;
+  again = λ a_from b_from a b d e h k. once a_from b_from a b d e h k;
+  turned = λ a_from b_from a b d e h k. once a_from b_from a b d (turned e) h (other_way a_from b_from a b e k);
+}

@@ -1,0 +1,47 @@
+-- Which tokens the lexemes that were read settle: whatever follows, they are told.
+use Rattle.std.specs.Prelude.{ℕ, ◌-◌, ◌≡◌, nat_lt, Bool, List, [], ◌++◌, length, take, drop, Result, Ok, Err, All}
+use Rattle.std.specs.List.{flat_map}
+use Rattle.yaml_scan_model.specs.declared.name.yaml_encoding_t.{yaml_encoding_t}
+use Rattle.yaml_scan_model.specs.Tokens.{Token}
+use Rattle.yaml_scan_decode.specs.declared.offence.Offence.{Offence}
+use Rattle.yaml_scan_decode.specs.Encodings.{encoding_of}
+use Rattle.yaml_scan_decode.specs.Decoding.{decoded_text}
+use Rattle.yaml_scan_history.specs.declared.lexeme.Lexeme.{Lexeme}
+use Rattle.yaml_scan_history.specs.History.{entries}
+use Rattle.yaml_scan_history.specs.Next.{history}
+use Rattle.yaml_scan_history.specs.Remaining.{SpelledText, body_in, spell, front_ends, offline}
+use Rattle.yaml_scan_history.specs.Scanned.{scanned_in}
+use Rattle.yaml_scan_machine.specs.Shows.{settled_in}
+
+-- The tokens of the lexemes that no later one changes, those before the earliest open candidate, or all at the end; and
+-- the BLOCK-END tokens in front of the next lexeme, whatever that becomes.
+abbrev pub settled_behind : SpelledText → List Lexeme → List Token
+settled_behind s h = flat_map (spell s) (take (settled_in h) (entries h))
+    ++ front_ends (drop (settled_in h) (entries h))
+
+-- what the first n lexemes of a text settle
+unfoldable pub settled_tokens : SpelledText → ℕ → List Token
+settled_tokens s n = settled_behind s (history s.text n)
+
+abbrev pub settled_of : yaml_encoding_t → Result (List ℕ) Offence → ℕ → List Token
+settled_of encoding (Ok text) n = settled_tokens record { encoding = encoding; text = text } n
+settled_of encoding (Err o) n = []
+
+-- how many tokens n lexemes of a decoded text leave open
+abbrev pub open_of : yaml_encoding_t → Result (List ℕ) Offence → ℕ → ℕ
+open_of encoding r n = length (scanned_in encoding r).tokens - length (settled_of encoding r n)
+
+-- how many tokens of an input n of its lexemes leave open
+abbrev pub open_count : yaml_encoding_t → List ℕ → ℕ → ℕ
+open_count setting bytes n = open_of (encoding_of setting bytes) (decoded_text setting bytes) n
+
+-- n lexemes of an input settle the first of the tokens that are to come: more are to come than these leave open
+abbrev pub settles : yaml_encoding_t → List ℕ → List Token → ℕ → Bool
+settles setting bytes tokens n = nat_lt (open_count setting bytes n) (length tokens)
+
+-- Whatever follows n lexemes of a text: of every text that has these too, which carry the same, the first tokens are those
+-- that they settle.
+abbrev pub WhateverFollows : Type 0
+WhateverFollows = (s t : SpelledText) (n : ℕ) → history t.text n ≡ history s.text n
+    → All (λ e. body_in t e.lexeme ≡ body_in s e.lexeme) (entries (history s.text n))
+    → (rest : List Token) × ((offline t).tokens ≡ settled_tokens s n ++ rest)

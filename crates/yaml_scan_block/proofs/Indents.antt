@@ -1,0 +1,199 @@
+-- Where runs end, and the deepest indentation of the lines in front.
+use Rattle.std.proofs.Common.{◌≡◌, ◌≢◌, ℕ, zero, suc, ◌+◌, ◌<◌, ◌≤◌, ◌==◌, Bool, true, false, List, length, Result, Ok, Err, refl, sym, ap, subst, ◌∙◌, inl, inr, ◌⊎◌, arith}
+use Rattle.std.proofs.lemmas.Bool.Decides.{nat_tests}
+use Rattle.yaml_scan_model.specs.declared.problem.Problem.TheVariants as problems
+use Rattle.yaml_scan_model.specs.Marks.{byte, break_width, is_blank}
+use Rattle.yaml_scan_model.specs.Runs.{past, is_blank_there, is_space_there, is_text, past_spaces}
+use Rattle.yaml_scan_model.specs.Wrong.{Wrong}
+use Rattle.yaml_scan_model.proofs.MarksLemmas.{within, past_break, no_break}
+use Rattle.yaml_scan_model.proofs.RunsLemmas.{past_more, past_stop, text_parts}
+use Rattle.yaml_scan_block.specs.Lines.{in_block}
+use Rattle.yaml_scan_block.specs.Block.{larger, larger_of, deepest}
+use Rattle.yaml_scan_block.specs.Unbounded.{EndsRun, RunsEnd, RunEndsOnce, LeadsTo, at_once, behind_blank, indent_at, Deepest, DeepestIs, DeepestIsOne}
+use Rattle.yaml_scan_block.proofs.DepthLemmas.{larger_zero, larger_start, depth_tab, depth_done, depth_more, spaces-le}
+
+-- ---- runs
+
+first_or : (k p : ℕ) → p ≤ k → (k ≡ p) ⊎ (p + 1 ≤ k)
+first_or k p h = grind arith
+
+longer : (kind : List ℕ → ℕ → Bool) (text : List ℕ) (p q : ℕ) → kind text p ≡ true
+    → EndsRun kind text (p + 1) q → EndsRun kind text p q
+longer kind text p q e h =
+    let after = h.after in
+    let each = h.each in record {
+      after = omega arith;
+      each = λ k a b. elim (first_or k p a) [
+        | inl s ↦ rw s e
+        | inr l ↦ each k l b
+      ];
+      stops = h.stops;
+    }
+
+empty_run : (kind : List ℕ → ℕ → Bool) (text : List ℕ) (p : ℕ) → kind text p ≡ false
+    → EndsRun kind text p p
+empty_run kind text p e = record { after = omega arith; each = λ k a b. absurd (omega (arith, a, b)); stops = e }
+
+-- nothing of the kind stands past the end
+abbrev Inside : (List ℕ → ℕ → Bool) → Type 0
+Inside kind = (text : List ℕ) (p : ℕ) → kind text p ≡ true → p < length text
+
+ends_by : (n : ℕ) (kind : List ℕ → ℕ → Bool) → Inside kind → (text : List ℕ) (p : ℕ) (b : Bool)
+    → kind text p ≡ b → length text ≤ p + n → EndsRun kind text p (past kind n text p)
+ends_by n kind inside text p false e room = subst (λ (q : ℕ). EndsRun kind text p q) (sym (past_stop kind n text p e)) (empty_run kind text p e)
+ends_by zero kind inside text p true e room = let there = inside text p e in absurd (omega (arith, there, room))
+ends_by (suc n) kind inside text p true e room =
+    subst (λ (q : ℕ). EndsRun kind text p q) (sym (past_more kind n text p e))
+    (longer kind text p (past kind n text (p + 1)) e (ends_by n kind inside text (p + 1) (kind text (p + 1)) refl (omega (arith, room))))
+
+ends : (kind : List ℕ → ℕ → Bool) → Inside kind → (text : List ℕ) (p : ℕ)
+    → EndsRun kind text p (past kind (length text) text p)
+ends kind inside text p = ends_by (length text) kind inside text p (kind text p) refl (omega arith)
+
+blank_byte : (b : ℕ) → is_blank b ≡ true → 0 < b
+blank_byte b h = grind (arith, nat_tests)
+
+space_byte : (b : ℕ) → (b == 32) ≡ true → 0 < b
+space_byte b h = grind (arith, nat_tests)
+
+pub runs_end : RunsEnd
+runs_end text p = (
+  ends is_blank_there (λ text p e. within text p (blank_byte (byte text p) e)) text p,
+  ends is_space_there (λ text p e. within text p (space_byte (byte text p) e)) text p,
+  ends is_text (λ text p e. within text p (text_parts text p e).0) text p,
+)
+
+order : (q r : ℕ) → (q < r) ⊎ ((q ≡ r) ⊎ (r < q))
+order q r = grind arith
+
+pub run_ends_once : RunEndsOnce
+run_ends_once kind text p q r a b =
+    elim (order q r) [
+      | inl l ↦ let e : true ≡ false = sym (b.each q a.after l) ∙ a.stops in absurd cc
+      | inr (inl e) ↦ e
+      | inr (inr g) ↦ let e : true ≡ false = sym (a.each r b.after g) ∙ b.stops in absurd cc
+    ]
+
+-- ---- indentation
+
+tab_there : (text : List ℕ) (p : ℕ) → byte text (past_spaces text p) ≡ 9
+    → Deepest text p (Err (in_block problems.TabForSpace (past_spaces text p)))
+tab_there text p e = record { line = p; led = at_once p; tab = e; told = refl }
+
+alone : (text : List ℕ) (p q : ℕ) → break_width text (past_spaces text p) ≡ 0 → LeadsTo text p q
+    → q ≡ p
+alone text p q z (at_once x) = refl
+alone text p q z (behind_blank x y w l) = absurd (omega (arith, w, z))
+
+one_line : (text : List ℕ) (p : ℕ) → byte text (past_spaces text p) ≢ 9
+    → break_width text (past_spaces text p) ≡ 0 → Deepest text p (Ok (indent_at text p))
+one_line text p n z = record {
+  line = p;
+  led = at_once p;
+  reached = refl;
+  most = λ q l. rw (alone text p q z l) (omega arith);
+  no_tab = λ q l. rw (alone text p q z l) n;
+}
+
+chosen : (a b : ℕ) → ((larger a b ≡ b) × (a ≤ b)) ⊎ ((larger a b ≡ a) × (b ≤ a))
+unfolding larger
+chosen a b = grind (arith, nat_tests)
+
+at_most : (text : List ℕ) (p c : ℕ)
+    → indent_at text p ≤ c
+    → ((q : ℕ) → LeadsTo text (past_spaces text p + break_width text (past_spaces text p)) q
+    → indent_at text q ≤ c) → (q : ℕ) → LeadsTo text p q → indent_at text q ≤ c
+at_most text p c a more q (at_once x) = a
+at_most text p c a more q (behind_blank x y w l) = more y l
+
+none_tabbed : (text : List ℕ) (p : ℕ) → byte text (past_spaces text p) ≢ 9
+    → ((q : ℕ) → LeadsTo text (past_spaces text p + break_width text (past_spaces text p)) q
+    → byte text (past_spaces text q) ≢ 9) → (q : ℕ) → LeadsTo text p q
+    → byte text (past_spaces text q) ≢ 9
+none_tabbed text p a more q (at_once x) = a
+none_tabbed text p a more q (behind_blank x y w l) = more y l
+
+behind : (text : List ℕ) (p : ℕ) → byte text (past_spaces text p) ≢ 9
+    → 0 < break_width text (past_spaces text p) → (r : Result ℕ Wrong)
+    → Deepest text (past_spaces text p + break_width text (past_spaces text p)) r
+    → Deepest text p (larger_of (indent_at text p) r)
+behind text p n w (Err x) h = record {
+  line = h.line;
+  led = behind_blank p h.line w h.led;
+  tab = h.tab;
+  told = h.told;
+}
+behind text p n w (Ok b) h =
+    elim (chosen (indent_at text p) b) [
+      | inl (e, le) ↦ rw e record {
+        line = h.line;
+        led = behind_blank p h.line w h.led;
+        reached = h.reached;
+        most = at_most text p b le h.most;
+        no_tab = none_tabbed text p n h.no_tab;
+      }
+      | inr (e, ge) ↦ rw e record {
+        line = p;
+        led = at_once p;
+        reached = refl;
+        most = at_most text p (indent_at text p) (omega arith) (λ q l. let m = h.most q l in omega (arith, m, ge));
+        no_tab = none_tabbed text p n h.no_tab;
+      }
+    ]
+
+tab_or : (b : ℕ) → (b ≡ 9) ⊎ (b ≢ 9)
+tab_or b = grind arith
+
+width_or : (w : ℕ) → (w ≡ 0) ⊎ (0 < w)
+width_or w = grind arith
+
+found_by : (d : ℕ) (text : List ℕ) (p n : ℕ)
+    → (byte text (past_spaces text p) ≡ 9) ⊎ (byte text (past_spaces text p) ≢ 9)
+    → (break_width text (past_spaces text p) ≡ 0) ⊎ (0 < break_width text (past_spaces text p))
+    → length text ≤ p + d → length text ≤ p + n → Deepest text p (deepest (suc n) text p)
+found_by d text p n (inl e) w room fuel =
+    subst (λ (r : Result ℕ Wrong). Deepest text p r) (sym (larger_start (deepest (suc n) text p) ∙ depth_tab n text p 0 e)) (tab_there text p e)
+found_by d text p n (inr e) (inl z) room fuel =
+    subst (λ (r : Result ℕ Wrong). Deepest text p r)
+    (sym (larger_start (deepest (suc n) text p) ∙ depth_done n text p 0 e z ∙ ap (λ (c : ℕ). Ok c) (larger_zero (indent_at text p))))
+    (one_line text p e z)
+found_by zero text p n (inr e) (inr w) room fuel =
+    let le = spaces-le text p in
+    let end = past_break text (past_spaces text p) w in
+    let inside = end.inside in
+    absurd (omega (arith, le, inside, room))
+found_by (suc d) text p n (inr e) (inr w) room fuel =
+    let le = spaces-le text p in
+    let (m, left, same) = depth_more n text p 0 (deepest (suc n) text p) fuel (larger_start (deepest (suc n) text p)) e w in
+    let next : ℕ = past_spaces text p + break_width text (past_spaces text p) in
+    subst (λ (r : Result ℕ Wrong). Deepest text p r)
+    (sym (same ∙ ap (λ (c : ℕ). larger_of c (deepest (suc m) text next)) (larger_zero (indent_at text p))))
+    (behind text p e w (deepest (suc m) text next)
+    (found_by d text next m (tab_or (byte text (past_spaces text next))) (width_or (break_width text (past_spaces text next))) (omega (arith, le, w, room)) left))
+
+pub deepest_is : DeepestIs
+deepest_is text p = found_by (length text) text p (length text) (tab_or (byte text (past_spaces text p))) (width_or (break_width text (past_spaces text p))) (omega arith) (omega arith)
+
+no_break_tab : (text : List ℕ) (p : ℕ) → byte text (past_spaces text p) ≡ 9
+    → break_width text (past_spaces text p) ≡ 0
+no_break_tab text p e = no_break _ _ _ (omega (arith, e)) (omega (arith, e)) (omega (arith, e)) (omega (arith, e))
+
+same_line : (text : List ℕ) (p q r : ℕ) → LeadsTo text p q → LeadsTo text p r
+    → byte text (past_spaces text q) ≡ 9 → byte text (past_spaces text r) ≡ 9 → q ≡ r
+same_line text p q r (at_once x) b e f = sym (alone text q r (no_break_tab text q e) b)
+same_line text p q r (behind_blank x y w l) (at_once z) e f = let none = no_break_tab text r f in absurd (omega (arith, w, none))
+same_line text p q r (behind_blank x y w l) (behind_blank z u v m) e f = same_line text _ y u l m e f
+
+both : (text : List ℕ) (p : ℕ) (r s : Result ℕ Wrong) → Deepest text p r → Deepest text p s → r ≡ s
+both text p (Ok c) (Ok d) a b =
+    let x = a.most b.line b.led in
+    let y = b.most a.line a.led in
+    let u = a.reached in
+    let v = b.reached in
+    ap (λ (k : ℕ). Ok k) (omega (arith, x, y, u, v))
+both text p (Ok c) (Err w) a b = absurd (a.no_tab b.line b.led b.tab)
+both text p (Err w) (Ok c) a b = absurd (b.no_tab a.line a.led a.tab)
+both text p (Err w) (Err x) a b = ap (λ (z : Wrong). Err z) (a.told ∙ ap (λ (q : ℕ). in_block problems.TabForSpace (past_spaces text q)) (same_line text p a.line b.line a.led b.led a.tab b.tab) ∙ sym b.told)
+
+pub deepest_is_one : DeepestIsOne
+deepest_is_one text p r h = both text p r (deepest (suc (length text)) text p) h (deepest_is text p)

@@ -1,0 +1,456 @@
+-- What each rule tells.
+use Rattle.std.proofs.Common.{◌≡◌, ◌≢◌, ◌⊎◌, ◌<◌, ◌≤◌, ◌==◌, ◌&&◌, ◌||◌, not, nat_lt, codes, ℕ, suc, ◌+◌, ◌-◌, Bool, true, false, List, [], length, Option, Some, None, Result, Ok, Err, refl, sym, ap, ◌∙◌, inl, inr, arith}
+use Rattle.std.proofs.lemmas.Bool.Decides.{nat_tests}
+use Rattle.std.proofs.lemmas.Bool.{cases_Bool, eq-eqb, ne_eqb, lt-ltb}
+use Rattle.yaml_scan_model.specs.declared.problem.Context.{Context}
+use Rattle.yaml_scan_model.specs.declared.problem.Context.TheVariants as contexts
+use Rattle.yaml_scan_model.specs.declared.problem.Problem.{Problem}
+use Rattle.yaml_scan_model.specs.declared.problem.Problem.TheVariants as problems
+use Rattle.yaml_scan_model.specs.Problems.{problem_text_of, context_text_of}
+use Rattle.yaml_scan_model.specs.Marks.{byte, break_width, column_at, is_blank_or_end}
+use Rattle.yaml_scan_model.specs.Breaks.{is_document_indicator}
+use Rattle.yaml_scan_model.specs.Classes.{is_alpha, is_digit, is_blank}
+use Rattle.yaml_scan_model.specs.Runs.{is_text, past_spaces}
+use Rattle.yaml_scan_model.specs.Wrong.{Wrong}
+use Rattle.yaml_scan_words.specs.Runs.{belongs, run_end}
+use Rattle.yaml_scan_block.specs.Unbounded.{EndsRun, IsTabbed}
+use Rattle.yaml_scan_words.specs.Anchors.{may_end_name, name_between, anchor_at}
+use Rattle.yaml_scan_words.specs.Uris.{due_behind, spot_at, uri_at, some_uri_at, filled}
+use Rattle.yaml_scan_words.specs.Tags.{TagText, name_end, bracketed, parts_at, may_end_tag, ended}
+use Rattle.yaml_scan_words.specs.Directives.{is_yaml, is_tag, name_between as directive_between, name_at, decimal, number_between, number_at, minor_at, version_at, handle_between, handle_at, prefix_ended, with_prefix, prefix_at, tag_directive_at, named_value_at, value_at, ValueText, then_at, comment_end, break_end, with_line, finished, directive_at}
+use Rattle.yaml_scan_words.proofs.RunsLemmas.{run_to, run_stop}
+use Rattle.yaml_scan_scalars.specs.Quoted.{standing_at, escape_at, hex_len, hex_value, is_scalar, simple_escape, coded, escaped}
+use Rattle.yaml_scan_scalars.specs.Plain as plain
+use Rattle.yaml_scan_block.specs.Header.{digit_place, header_end, header_at}
+use Rattle.yaml_scan_block.specs.Lines.{Tab, line_spot, lines_from}
+use Rattle.yaml_scan_history.specs.declared.kind.Kind.TheVariants as kinds
+use Rattle.yaml_scan_history.specs.Words.{word_at}
+use Rattle.yaml_scan_history.specs.Rules.{Tells, IsTold, NoName, NamesAreTold, TagsAreTold, IsYaml, IsTag, DirectivesAreTold, IsStandingTold, IsEscape, QuotesAreTold, IsPlainTold, PlainsAreTold, BlocksAreTold, PlacesAreTold}
+
+-- ---- names
+
+ends_here : (run : _) (text : List ℕ) (p q : ℕ) → p ≤ q
+    → ((k : ℕ) → p ≤ k → k < q → belongs run text k ≡ true) → belongs run text q ≡ false
+    → run_end run text p ≡ q
+ends_here run text p q after each stops =
+    let (m, left, same) = run_to (length text) run text p q after each (omega arith) in
+    same ∙ run_stop m run text q stops
+
+name_ends : (text : List ℕ) (p q : ℕ) → EndsRun is_alpha text (p + 1) q → name_end text p ≡ q
+unfolding belongs
+name_ends text p q h = ends_here _ text (p + 1) q h.after h.each h.stops
+
+no_end : (context : Context) (text : List ℕ) (p q : ℕ) → may_end_name text q ≡ false
+    → name_between context text p q ≡ Err record {
+      problem = problems.NoAlphanumeric;
+      context = context;
+      place = q;
+    }
+no_end context text p q n =
+    elim (cases_Bool (p == q)) [
+      | inl e ↦ rw e refl
+      | inr e ↦ rw (e, n) refl
+    ]
+
+no_name : (context : Context) (text : List ℕ) (p q : ℕ) → NoName text p q
+    → anchor_at context text p ≡ Err record {
+      problem = problems.NoAlphanumeric;
+      context = context;
+      place = q;
+    }
+no_name context text p q (run, inl e) =
+    ap (name_between context text (p + 1)) (name_ends text p q run) ∙ rw (eq-eqb (p + 1) q (sym e)) refl
+no_name context text p q (run, inr n) =
+    ap (name_between context text (p + 1)) (name_ends text p q run) ∙ no_end context text (p + 1) q n
+
+pub names_are_told : NamesAreTold
+unfolding word_at problem_text_of context_text_of
+names_are_told = record {
+  anchor = λ flow level text p q h. rw (no_name contexts.Anchor text p q h) record { context = refl; problem = refl; place = refl };
+  alias = λ flow level text p q h. rw (no_name contexts.Alias text p q h) record { context = refl; problem = refl; place = refl };
+}
+
+-- ---- tags
+
+verbatim_wrong : (text : List ℕ) (p : ℕ) (r : Result (List ℕ × ℕ) Wrong) → byte text (p + 1) ≡ 60
+    → some_uri_at contexts.TagUri true text (p + 2) ≡ r → parts_at text p ≡ bracketed text r
+unfolding parts_at
+verbatim_wrong text p r b e = rw (eq-eqb (byte text (p + 1)) 60 b) (ap (bracketed text) e)
+
+no_bracket : (text : List ℕ) (u : List ℕ × ℕ) → byte text u.1 ≢ 62
+    → bracketed text (Ok u) ≡ Err record {
+      problem = problems.NoClosingBracket;
+      context = contexts.Tag;
+      place = u.1;
+    }
+no_bracket text u n = rw (ne_eqb (byte text u.1) 62 n) refl
+
+bracket_wrong : (flow : Bool) (text : List ℕ) (p : ℕ) (u : List ℕ × ℕ) → byte text (p + 1) ≡ 60
+    → some_uri_at contexts.TagUri true text (p + 2) ≡ Ok u → byte text u.1 ≢ 62
+    → ended flow text (parts_at text p) ≡ Err record {
+      problem = problems.NoClosingBracket;
+      context = contexts.Tag;
+      place = u.1;
+    }
+bracket_wrong flow text p u b e n = ap (ended flow text) (verbatim_wrong text p (Ok u) b e ∙ no_bracket text u n)
+
+empty_wrong : (flow : Bool) (text : List ℕ) (p q : ℕ) → byte text (p + 1) ≡ 60
+    → uri_at contexts.TagUri true text (p + 2) ≡ Ok ([], q)
+    → ended flow text (parts_at text p) ≡ Err record {
+      problem = problems.NoTagUri;
+      context = contexts.TagUri;
+      place = q;
+    }
+empty_wrong flow text p q b e =
+    ap (ended flow text) (verbatim_wrong text p (Err record { problem = problems.NoTagUri; context = contexts.TagUri; place = q }) b (ap (filled contexts.TagUri) e))
+
+end_wrong : (flow : Bool) (text : List ℕ) (p : ℕ) (t : TagText) → parts_at text p ≡ Ok t
+    → may_end_tag flow text t.end ≡ false → ended flow text (parts_at text p) ≡ Err record {
+      problem = problems.NoWhitespaceOrBreak;
+      context = contexts.Tag;
+      place = t.end;
+    }
+end_wrong flow text p t e n = ap (ended flow text) e ∙ rw n refl
+
+leads_none : (b : ℕ) → ((0x80 ≤ b) × (b < 0xC0)) ⊎ (0xF8 ≤ b)
+    → due_behind b 0 ≡ Err problems.WrongLeadingOctet
+unfolding due_behind
+leads_none b (inl (low, high)) = grind (arith, nat_tests, low, high)
+leads_none b (inr far) = grind (arith, nat_tests, far)
+
+trails_none : (b due : ℕ) → 0 < due → (b < 0x80) ⊎ (0xC0 ≤ b)
+    → due_behind b due ≡ Err problems.WrongTrailingOctet
+unfolding due_behind
+trails_none b due d (inl low) = grind (arith, nat_tests, d, low)
+trails_none b due d (inr high) = grind (arith, nat_tests, d, high)
+
+pub tags_are_told : TagsAreTold
+unfolding word_at problem_text_of context_text_of spot_at
+tags_are_told = record {
+  bracket = λ flow level text p u b e n. rw (bracket_wrong flow text p u b e n) record { context = refl; problem = refl; place = refl };
+  empty = λ flow level text p q b e. rw (empty_wrong flow text p q b e) record { context = refl; problem = refl; place = refl };
+  end = λ flow level text p t e n. rw (end_wrong flow text p t e n) record { context = refl; problem = refl; place = refl };
+  escape = λ wide due text p b e. rw (eq-eqb (byte text p) 37 b, e) (refl, refl);
+  no_escape = λ wide due text p b d. rw (ne_eqb (byte text p) 37 b, lt-ltb 0 due d) (refl, refl);
+  leading = λ wide text p b e o r. rw (eq-eqb (byte text p) 37 e, o, leads_none b r) (refl, refl);
+  trailing = λ wide due text p b e o d r. rw (eq-eqb (byte text p) 37 e, o, trails_none b due d r) (refl, refl);
+  in_tag = refl;
+  in_directive = refl;
+}
+
+-- ---- directives
+
+directive_told : (flow : Bool) (level : ℕ) (text : List ℕ) (p q : ℕ) (w : Wrong)
+    (context problem : List ℕ) → directive_at text p ≡ Err w → Tells w context problem q
+    → IsTold (word_at kinds.Directive flow level text p) context problem q
+unfolding word_at
+directive_told flow level text p q w context problem e t = rw e t
+
+by_name : (text : List ℕ) (p : ℕ) (w : Wrong) → name_at text p ≡ Err w
+    → directive_at text p ≡ Err w
+by_name text p w e = ap (λ r. finished text (then_at (named_value_at text) r)) e
+
+by_value : (text : List ℕ) (p : ℕ) (w : Wrong) → value_at text p ≡ Err w
+    → directive_at text p ≡ Err w
+by_value text p w e = ap (finished text) e
+
+and_so : (a b : Bool) → a ≡ true → b ≡ true → (a && b) ≡ true
+and_so a b e f = rw (e, f) refl
+
+and_not : (a b : Bool) → b ≡ false → (a && b) ≡ false
+and_not true b e = e
+and_not false b e = refl
+
+apart : (p q : ℕ) → p < q → (p == q) ≡ false
+apart p q h = grind (arith, nat_tests)
+
+four : (p : ℕ) → (p + 5 - (p + 1) == 4) ≡ true
+four p = grind (arith, nat_tests)
+
+three : (p : ℕ) → (p + 4 - (p + 1) == 3) ≡ true
+three p = grind (arith, nat_tests)
+
+not_four : (p : ℕ) → (p + 4 - (p + 1) == 4) ≡ false
+not_four p = grind (arith, nat_tests)
+
+yaml_value : (text : List ℕ) (p r : ℕ) → IsYaml text p r → value_at text p ≡ version_at text (p + 5)
+yaml_value text p r h =
+    ap (λ z. then_at (named_value_at text) (directive_between text (p + 1) z)) (name_ends text p (p + 5) h.letters)
+    ∙ rw (apart (p + 1) (p + 5) (omega arith), h.ended, and_so (is_yaml text (p + 1)) (p + 5 - (p + 1) == 4) h.name (four p)) refl
+
+tag_value : (text : List ℕ) (p r : ℕ) → IsTag text p r
+    → value_at text p ≡ tag_directive_at text (p + 4)
+tag_value text p r h =
+    ap (λ z. then_at (named_value_at text) (directive_between text (p + 1) z)) (name_ends text p (p + 4) h.letters)
+    ∙ rw (apart (p + 1) (p + 4) (omega arith), h.ended, and_not (is_yaml text (p + 1)) (p + 4 - (p + 1) == 4) (not_four p), and_so (is_tag text (p + 1)) (p + 4 - (p + 1) == 3) h.name (three p)) refl
+
+abbrev wrong_here : Problem → Context → ℕ → Wrong
+wrong_here problem context q = record { problem = problem; context = context; place = q }
+
+name_none : (text : List ℕ) (p : ℕ) → EndsRun is_alpha text (p + 1) (p + 1)
+    → name_at text p ≡ Err (wrong_here problems.NoDirectiveName contexts.Directive (p + 1))
+name_none text p h = ap (directive_between text (p + 1)) (name_ends text p (p + 1) h) ∙ rw (eq-eqb (p + 1) (p + 1) refl) refl
+
+name_letters : (text : List ℕ) (p q : ℕ) → EndsRun is_alpha text (p + 1) q → p + 1 < q
+    → is_blank_or_end text q ≡ false
+    → name_at text p ≡ Err (wrong_here problems.NotAlphabetical contexts.Directive q)
+name_letters text p q h l n = ap (directive_between text (p + 1)) (name_ends text p q h) ∙ rw (apart (p + 1) q l, n) refl
+
+name_unknown : (text : List ℕ) (p q : ℕ) → EndsRun is_alpha text (p + 1) q → p + 1 < q
+    → is_blank_or_end text q ≡ true → (is_yaml text (p + 1) && q - (p + 1) == 4) ≡ false
+    → (is_tag text (p + 1) && q - (p + 1) == 3) ≡ false
+    → name_at text p ≡ Err (wrong_here problems.UnknownDirective contexts.Directive q)
+name_unknown text p q h l n y t = ap (directive_between text (p + 1)) (name_ends text p q h) ∙ rw (apart (p + 1) q l, n, y, t) refl
+
+number_to : (text : List ℕ) (r e : ℕ) → EndsRun is_digit text r e
+    → number_at text r ≡ number_between text r e
+unfolding belongs
+number_to text r e h = ap (number_between text r) (ends_here _ text r e h.after h.each h.stops)
+
+version_from : (text : List ℕ) (q r : ℕ) → EndsRun is_blank text q r
+    → version_at text q ≡ then_at (minor_at text) (number_at text r)
+unfolding belongs
+version_from text q r h = ap (λ z. then_at (minor_at text) (number_at text z)) (ends_here _ text q r h.after h.each h.stops)
+
+no_digits : (text : List ℕ) (r : ℕ)
+    → number_between text r r ≡ Err (wrong_here problems.NoVersionNumber contexts.VersionDirective r)
+no_digits text r = rw (eq-eqb r r refl) refl
+
+number_none : (text : List ℕ) (q r : ℕ) → EndsRun is_blank text q r → EndsRun is_digit text r r
+    → version_at text q ≡ Err (wrong_here problems.NoVersionNumber contexts.VersionDirective r)
+number_none text q r b d = version_from text q r b ∙ ap (then_at (minor_at text)) (number_to text r r d ∙ no_digits text r)
+
+further : (r e : ℕ) → r < e → (e == r) ≡ false
+further r e h = grind (arith, nat_tests)
+
+few : (r e : ℕ) → e ≤ r + 9 → nat_lt (r + 9) e ≡ false
+few r e h = grind (arith, nat_tests)
+
+many_digits : (text : List ℕ) (r e : ℕ) → r + 9 < e
+    → number_between text r e
+    ≡ Err (wrong_here problems.LongVersionNumber contexts.VersionDirective (r + 9))
+many_digits text r e l = rw (further r e (omega (arith, l)), lt-ltb (r + 9) e l) refl
+
+number_long : (text : List ℕ) (q r e : ℕ) → EndsRun is_blank text q r
+    → EndsRun is_digit text r e → r + 9 < e
+    → version_at text q ≡ Err (wrong_here problems.LongVersionNumber contexts.VersionDirective (r + 9))
+number_long text q r e b d l =
+    version_from text q r b ∙ ap (then_at (minor_at text)) (number_to text r e d ∙ many_digits text r e l)
+
+some_digits : (text : List ℕ) (r e : ℕ) → r < e → e ≤ r + 9
+    → number_between text r e ≡ Ok (decimal text r (e - r), e)
+some_digits text r e l m = rw (further r e l, few r e m) refl
+
+dot_wanted : (text : List ℕ) (n e : ℕ) → byte text e ≢ 46
+    → minor_at text n e ≡ Err (wrong_here problems.NoDigitOrDot contexts.VersionDirective e)
+dot_wanted text n e h = rw (ne_eqb (byte text e) 46 h) refl
+
+number_alone : (text : List ℕ) (q r e : ℕ) → EndsRun is_blank text q r
+    → EndsRun is_digit text r e → r < e → e ≤ r + 9 → byte text e ≢ 46
+    → version_at text q ≡ Err (wrong_here problems.NoDigitOrDot contexts.VersionDirective e)
+number_alone text q r e b d l m n =
+    version_from text q r b ∙ ap (then_at (minor_at text)) (number_to text r e d ∙ some_digits text r e l m)
+    ∙ dot_wanted text (decimal text r (e - r)) e n
+
+tag_from : (text : List ℕ) (q r : ℕ) → EndsRun is_blank text q r
+    → tag_directive_at text q
+    ≡ then_at (λ handle e. with_prefix handle (prefix_at text e)) (handle_at text r)
+unfolding belongs
+tag_from text q r h = ap (λ z. then_at (λ handle e. with_prefix handle (prefix_at text e)) (handle_at text z)) (ends_here _ text q r h.after h.each h.stops)
+
+mark_wanted : (text : List ℕ) (r : ℕ) → byte text r ≢ 33
+    → handle_at text r ≡ Err (wrong_here problems.NoExclamationMark contexts.TagDirectiveStart r)
+mark_wanted text r n = rw (ne_eqb (byte text r) 33 n) refl
+
+handle_none : (text : List ℕ) (q r : ℕ) → EndsRun is_blank text q r → byte text r ≢ 33
+    → tag_directive_at text q ≡ Err (wrong_here problems.NoExclamationMark contexts.TagDirectiveStart r)
+handle_none text q r b n = tag_from text q r b ∙ ap (then_at (λ handle e. with_prefix handle (prefix_at text e))) (mark_wanted text r n)
+
+handle_open : (text : List ℕ) (r e : ℕ) → byte text r ≡ 33 → EndsRun is_alpha text (r + 1) e
+    → r + 1 < e → byte text e ≢ 33
+    → handle_at text r ≡ Err (wrong_here problems.NoExclamationMark contexts.TagDirectiveHandle e)
+handle_open text r e m h l n =
+    rw (eq-eqb (byte text r) 33 m) (ap (handle_between text r) (name_ends text r e h) ∙ rw (ne_eqb (byte text e) 33 n, further (r + 1) e l) refl)
+
+white_none : (text : List ℕ) (q r : ℕ) (h : List ℕ × ℕ) → EndsRun is_blank text q r
+    → handle_at text r ≡ Ok h → is_blank text h.1 ≡ false
+    → tag_directive_at text q ≡ Err (wrong_here problems.NoWhitespace contexts.TagDirective h.1)
+unfolding belongs
+white_none text q r h b e n = tag_from text q r b ∙ ap (then_at (λ handle e. with_prefix handle (prefix_at text e))) e ∙ rw n refl
+
+prefix_wrong : (text : List ℕ) (q r f : ℕ) (h u : List ℕ × ℕ) → EndsRun is_blank text q r
+    → handle_at text r ≡ Ok h → is_blank text h.1 ≡ true
+    → EndsRun is_blank text h.1 f
+    → some_uri_at contexts.TagDirectiveUri true text f ≡ Ok u → is_blank_or_end text u.1 ≡ false
+    → tag_directive_at text q ≡ Err (wrong_here problems.NoWhitespaceOrBreak contexts.TagDirective u.1)
+unfolding belongs
+prefix_wrong text q r f h u b e m w x n =
+    tag_from text q r b ∙ ap (then_at (λ handle e. with_prefix handle (prefix_at text e))) e
+    ∙ rw m (ap (λ z. with_prefix h.0 (prefix_ended text (some_uri_at contexts.TagDirectiveUri true text z))) (ends_here _ text h.1 f w.after w.each w.stops) ∙ ap (λ z. with_prefix h.0 (prefix_ended text z)) x ∙ rw n refl)
+
+line_wrong : (text : List ℕ) (p r : ℕ) (v : ValueText) → value_at text p ≡ Ok v
+    → EndsRun is_blank text v.end r → break_width text (comment_end text r) ≡ 0
+    → byte text (comment_end text r) ≢ 0
+    → directive_at text p ≡ Err (wrong_here problems.NoCommentOrBreak contexts.Directive (comment_end text r))
+unfolding belongs
+line_wrong text p r v e b w n =
+    ap (finished text) e ∙ ap (λ z. with_line v (break_end text (comment_end text z))) (ends_here _ text v.end r b.after b.each b.stops)
+    ∙ rw (w, ne_eqb (byte text (comment_end text r)) 0 n) refl
+
+pub directives_are_told : DirectivesAreTold
+unfolding problem_text_of context_text_of
+directives_are_told = record {
+  no_name = λ flow level text p h.
+      directive_told flow level text p (p + 1) _ _ _ (by_name text p _ (name_none text p h)) record { context = refl; problem = refl; place = refl };
+  letters = λ flow level text p q h l n.
+      directive_told flow level text p q _ _ _ (by_name text p _ (name_letters text p q h l n)) record { context = refl; problem = refl; place = refl };
+  unknown = λ flow level text p q h l n y t.
+      directive_told flow level text p q _ _ _ (by_name text p _ (name_unknown text p q h l n y t)) record { context = refl; problem = refl; place = refl };
+  no_number = λ flow level text p r h d.
+      directive_told flow level text p r _ _ _ (by_value text p _ (yaml_value text p r h ∙ number_none text (p + 5) r h.blanks d)) record { context = refl; problem = refl; place = refl };
+  long_number = λ flow level text p r e h d l.
+      directive_told flow level text p (r + 9) _ _ _ (by_value text p _ (yaml_value text p r h ∙ number_long text (p + 5) r e h.blanks d l)) record { context = refl; problem = refl; place = refl };
+  no_dot = λ flow level text p r e h d l m n.
+      directive_told flow level text p e _ _ _ (by_value text p _ (yaml_value text p r h ∙ number_alone text (p + 5) r e h.blanks d l m n)) record { context = refl; problem = refl; place = refl };
+  no_handle = λ flow level text p r h n.
+      directive_told flow level text p r _ _ _ (by_value text p _ (tag_value text p r h ∙ handle_none text (p + 4) r h.blanks n)) record { context = refl; problem = refl; place = refl };
+  open_handle = λ flow level text p r e h m a l n.
+      directive_told flow level text p e _ _ _
+      (by_value text p _ (tag_value text p r h ∙ tag_from text (p + 4) r h.blanks ∙ ap (then_at (λ handle e. with_prefix handle (prefix_at text e))) (handle_open text r e m a l n)))
+      record { context = refl; problem = refl; place = refl };
+  no_white = λ flow level text p r x h e n.
+      directive_told flow level text p x.1 _ _ _ (by_value text p _ (tag_value text p r h ∙ white_none text (p + 4) r x h.blanks e n)) record { context = refl; problem = refl; place = refl };
+  behind_prefix = λ flow level text p r f x u h e m w y n.
+      directive_told flow level text p u.1 _ _ _ (by_value text p _ (tag_value text p r h ∙ prefix_wrong text (p + 4) r f x u h.blanks e m w y n)) record { context = refl; problem = refl; place = refl };
+  line = λ flow level text p r v e b w n.
+      directive_told flow level text p (comment_end text r) _ _ _ (line_wrong text p r v e b w n) record { context = refl; problem = refl; place = refl };
+}
+
+-- ---- quotes
+
+-- a `\` begins an escape
+escape_there : (text : List ℕ) (p : ℕ) → IsEscape text p → standing_at 34 text p ≡ escape_at text p
+unfolding standing_at
+escape_there text p h = rw (h.mark, h.width, h.backslash) refl
+
+letter_wrong : (text : List ℕ) (p : ℕ) → IsEscape text p → hex_len (byte text (p + 1)) ≡ 0
+    → simple_escape (byte text (p + 1)) ≡ None → standing_at 34 text p ≡ escaped p None
+unfolding escape_at
+letter_wrong text p h n s = escape_there text p h ∙ rw (h.no_break, n, s) refl
+
+coded_wrong : (text : List ℕ) (p : ℕ) (o : Option ℕ) → IsEscape text p
+    → 0 < hex_len (byte text (p + 1)) → hex_value text (p + 2) (hex_len (byte text (p + 1))) ≡ o
+    → standing_at 34 text p ≡ coded (p + 2) (p + 2 + hex_len (byte text (p + 1))) o
+unfolding escape_at
+coded_wrong text p o h n e =
+    escape_there text p h
+    ∙ rw (h.no_break, lt-ltb 0 (hex_len (byte text (p + 1))) n) (ap (coded (p + 2) (p + 2 + hex_len (byte text (p + 1)))) e)
+
+letter_told : (text : List ℕ) (p : ℕ) → standing_at 34 text p ≡ escaped p None
+    → IsStandingTold (standing_at 34 text p) (codes "while parsing a quoted scalar")
+    (codes "found unknown escape character") p
+unfolding problem_text_of context_text_of
+letter_told text p e = rw e record { context = refl; problem = refl; place = refl }
+
+digits_told : (text : List ℕ) (p q : ℕ) → standing_at 34 text p ≡ coded (p + 2) q None
+    → IsStandingTold (standing_at 34 text p) (codes "while parsing a quoted scalar")
+    (codes "did not find expected hexdecimal number") (p + 2)
+unfolding problem_text_of context_text_of
+digits_told text p q e = rw e record { context = refl; problem = refl; place = refl }
+
+code_told : (text : List ℕ) (p q c : ℕ) → is_scalar c ≡ false
+    → standing_at 34 text p ≡ coded (p + 2) q (Some c)
+    → IsStandingTold (standing_at 34 text p) (codes "while parsing a quoted scalar")
+    (codes "found invalid Unicode character escape code") (p + 2)
+unfolding problem_text_of context_text_of
+code_told text p q c s e = rw (e, s) record { context = refl; problem = refl; place = refl }
+
+indicator_told : (quote : ℕ) (text : List ℕ) (p : ℕ) → is_document_indicator text p ≡ true
+    → IsStandingTold (standing_at quote text p) (codes "while scanning a quoted scalar")
+    (codes "found unexpected document indicator") p
+unfolding problem_text_of context_text_of standing_at
+indicator_told quote text p h = rw h record { context = refl; problem = refl; place = refl }
+
+end_told : (quote : ℕ) (text : List ℕ) (p : ℕ) → is_document_indicator text p ≡ false
+    → byte text p ≡ 0
+    → IsStandingTold (standing_at quote text p) (codes "while scanning a quoted scalar")
+    (codes "found unexpected end of stream") p
+unfolding problem_text_of context_text_of standing_at
+end_told quote text p h z = rw (h, eq-eqb (byte text p) 0 z) record { context = refl; problem = refl; place = refl }
+
+pub quotes_are_told : QuotesAreTold
+quotes_are_told = record {
+  indicator = indicator_told;
+  end = end_told;
+  letter = λ text p h n s. letter_told text p (letter_wrong text p h n s);
+  digits = λ text p h n e. digits_told text p (p + 2 + hex_len (byte text (p + 1))) (coded_wrong text p None h n e);
+  code = λ text p c h n e s. code_told text p (p + 2 + hex_len (byte text (p + 1))) c s (coded_wrong text p (Some c) h n e);
+}
+
+-- ---- plain scalars
+
+tab_told : (flow : Bool) (level : ℕ) (text : List ℕ) (p : ℕ) → byte text p ≡ 9
+    → break_width text p ≡ 0 → plain.leads text p ≡ true → column_at text p < level
+    → IsPlainTold (plain.spot_at flow level text p) (codes "while scanning a plain scalar")
+    (codes "found a tab character that violates indentation") p
+unfolding plain.spot_at problem_text_of context_text_of
+tab_told flow level text p b w l c = rw (w, b, l, lt-ltb (column_at text p) level c) record { context = refl; problem = refl; place = refl }
+
+colon_told : (level : ℕ) (text : List ℕ) (p : ℕ) → byte text p ≡ 58 → break_width text p ≡ 0
+    → plain.ends_at true level text p ≡ false
+    → (plain.is_bracket (byte text (p + 1)) || byte text (p + 1) == 63) ≡ true
+    → IsPlainTold (plain.spot_at true level text p) (codes "while scanning a plain scalar")
+    (codes "found unexpected ':'") p
+unfolding plain.spot_at problem_text_of context_text_of
+colon_told level text p b w e n = rw (w, e, b, n) record { context = refl; problem = refl; place = refl }
+
+pub plains_are_told : PlainsAreTold
+plains_are_told = record { tab = tab_told; colon = colon_told }
+
+-- ---- block scalars
+
+zero_told : (text : List ℕ) (p : ℕ) → byte text (digit_place text p) ≡ 48
+    → IsTold (header_at text p) (codes "while scanning a block scalar")
+    (codes "found an indentation indicator equal to 0") (digit_place text p)
+unfolding header_at problem_text_of context_text_of
+zero_told text p b = rw (eq-eqb (byte text (digit_place text p)) 48 b) record { context = refl; problem = refl; place = refl }
+
+comment_told : (text : List ℕ) (p : ℕ) → byte text (digit_place text p) ≢ 48
+    → is_text text (header_end text p) ≡ true
+    → IsTold (header_at text p) (codes "while scanning a block scalar")
+    (codes "did not find expected comment or line break") (header_end text p)
+unfolding header_at problem_text_of context_text_of
+comment_told text p b t = rw (ne_eqb (byte text (digit_place text p)) 48 b, t) record { context = refl; problem = refl; place = refl }
+
+tab_found : (text : List ℕ) (p : ℕ) (w : Wrong) (t : IsTabbed text p w)
+    → Tells w (codes "while scanning a block scalar")
+    (codes "found a tab character where an indentation space is expected")
+    (past_spaces text t.line)
+unfolding problem_text_of context_text_of
+tab_found text p w t = rw t.told record { context = refl; problem = refl; place = refl }
+
+tab_in_line : (c : ℕ) (text : List ℕ) (end p q : ℕ) → line_spot c text p ≡ Tab q
+    → IsTold (lines_from (suc (length text)) c text end p) (codes "while scanning a block scalar")
+    (codes "found a tab character where an indentation space is expected") q
+unfolding lines_from problem_text_of context_text_of
+tab_in_line c text end p q e = rw e record { context = refl; problem = refl; place = refl }
+
+pub blocks_are_told : BlocksAreTold
+blocks_are_told = record {
+  zero_digit = zero_told;
+  comment = comment_told;
+  tab = tab_found;
+  line = tab_in_line;
+}
+
+-- ---- between lexemes
+
+pub places_are_told : PlacesAreTold
+unfolding problem_text_of context_text_of
+places_are_told = record {
+  start = λ m. record { context = refl; problem = refl; context_mark = refl; problem_mark = refl };
+  key = λ m n. record { context = refl; problem = refl; context_mark = refl; problem_mark = refl };
+  entry = λ m. record { context = refl; problem = refl; context_mark = refl; problem_mark = refl };
+  question = λ m. record { context = refl; problem = refl; context_mark = refl; problem_mark = refl };
+  colon = λ m. record { context = refl; problem = refl; context_mark = refl; problem_mark = refl };
+}

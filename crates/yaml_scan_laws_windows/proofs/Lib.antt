@@ -1,0 +1,21 @@
+mod Bytes
+mod Running
+mod Gaps
+mod Moving
+mod Plains
+mod Quotes
+mod Names
+mod Directives
+mod Blocks
+mod Words
+mod Cutting
+mod Histories
+mod Coming
+mod Stepping
+mod Fronts
+mod Marking
+mod Turning
+mod Rests
+mod Entering
+mod Joining
+pub mod Windows

@@ -1,0 +1,4 @@
+pub mod Alike
+pub mod Cuts
+pub mod Moved
+pub mod Laws

@@ -1,0 +1,7 @@
+//! Laws of texts that are cut in two in front of a line that begins with `---` or `...`: what a scanner reads of the whole is what
+//! it reads of both parts, one behind the other. No code.
+#![tactic(auto)]
+
+mod laws;
+
+pub use laws::windows_are_scanned;

@@ -43,6 +43,7 @@ onward_kind : (old new : yaml_c_stand) (r : Result (List ℕ × Standing) Fault)
 onward_kind old new (Ok o) a h = text_kind o.0 (pos 0) a h.0
 onward_kind old new (Err f) a h = fault_kind f (pos 0) a h.0
 
+-- The kind is -1 exactly where something that is given means nothing.
 pub onward_exact : (given : yaml_c_parsed) (settings : yaml_c_settings)
     (stand old new : yaml_c_stand) (a : yaml_c_answer) (k : ℤ) → k ≡ a.kind
     → AnswersMeant (onward_meant given settings stand) (EmitsOn old new) a

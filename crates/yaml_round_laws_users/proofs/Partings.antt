@@ -1,15 +1,15 @@
 -- Two inputs part at one place.
-use Rattle.std.proofs.Common.{◌≡◌, ◌∙◌, sym, ap, refl, ℕ, List, [], ◌∷◌, ◌++◌, Bool, true, false, IsTrue, None, Some, Ok}
+use Rattle.std.proofs.Common.{◌≡◌, ◌∙◌, sym, ap, refl, ℕ, List, [], ◌∷◌, ◌++◌, Bool, true, false, IsTrue}
 use Rattle.std.proofs.lemmas.List.{map-append}
 use Rattle.yaml_round.specs.declared.yaml_encoding_t.{yaml_encoding_t}
 use Rattle.yaml_round.specs.declared.yaml_difference_t.{yaml_difference_t}
 use Rattle.yaml_round.specs.round_laws_documents.round_content.parse_grammar.Resolve.{Told}
 use Rattle.yaml_round.specs.round_laws_documents.round_content.parse_model.Events.{EventBody, type_of}
 use Rattle.yaml_round.specs.Reading.{contents}
-use Rattle.yaml_round.specs.Answers.{IsCompared, SameContent}
-use Rattle.yaml_round.specs.Places.{Place, place_says, path_to, path_of}
+use Rattle.yaml_round.specs.Answers.{SameContent}
+use Rattle.yaml_round.specs.Places.{Place, place_says, path_to}
 use Rattle.yaml_round.specs.Walking.{past, start}
-use Rattle.yaml_round.specs.Differences.{saying, IsDiff, IsParting}
+use Rattle.yaml_round.specs.Differences.{saying, IsParting}
 use Rattle.yaml_round.proofs.Pathing.{place_walked}
 use Rattle.yaml_round.proofs.Plain.{content_same, events_are}
 use Rattle.yaml_round_laws_users.specs.Partings.{TellTheSame, DiffsAgree, turned}

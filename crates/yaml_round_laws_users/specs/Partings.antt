@@ -1,5 +1,5 @@
 -- What follows from the definition of where two inputs part.
-use Rattle.std.specs.Prelude.{◌≡◌, ℕ, Bool, true, false, List, Option, Some, None, Ok}
+use Rattle.std.specs.Prelude.{◌≡◌, ℕ, Bool, true, false, List, Some, None, Ok}
 use Rattle.yaml_round.specs.declared.yaml_encoding_t.{yaml_encoding_t}
 use Rattle.yaml_round.specs.declared.yaml_difference_t.{yaml_difference_t}
 use Rattle.yaml_round.specs.Answers.{IsCompared}

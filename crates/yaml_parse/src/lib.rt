@@ -16,7 +16,7 @@ pub use yaml_parse_document::{
     yaml_document_get_root_node, yaml_document_initialize, yaml_document_set_end_implicit,
     yaml_document_t,
 };
-pub use yaml_parse_loader::{undefined_alias_fault, undefined_alias_fault};
+pub use yaml_parse_loader::undefined_alias_fault;
 pub use yaml_parse_model::{
     yaml_alias_data_t, yaml_alias_event_initialize, yaml_document_end_event_initialize,
     yaml_document_start_event_initialize, yaml_event_body_t, yaml_event_delete, yaml_event_t,

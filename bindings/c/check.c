@@ -71,7 +71,7 @@ static const char *const TEXTS[] = {
     "\377",
     "\377\376a",
 };
-enum { TEXT_NUMBER = sizeof TEXTS / sizeof *TEXTS, CANONICAL = 0, PRETTY, NORMALIZE, RELOAD, CHECK, SAME, EVENTS, PARSE, FRONT, SCAN, DECODE, EMIT, EMIT_AGAIN, CALL_NUMBER };
+enum { TEXT_NUMBER = sizeof TEXTS / sizeof *TEXTS, CANONICAL = 0, PRETTY, NORMALIZE, RELOAD, CHECK, SAME, EVENTS, PARSE, FRONT, SCAN, DECODE, EMIT, EMIT_ON, EMIT_AGAIN, CALL_NUMBER };
 
 static const uint8_t *bytes_of(int text)
 {
@@ -123,6 +123,7 @@ typedef struct {
     yaml_c_parsed parsed;
     yaml_c_scanned scanned;
     yaml_c_answer answer;
+    yaml_c_stand stand, behind;
 } records;
 
 static void init(records *r)
@@ -130,6 +131,8 @@ static void init(records *r)
     yaml_c_parsed_init(&r->parsed);
     yaml_c_scanned_init(&r->scanned);
     yaml_c_answer_init(&r->answer);
+    yaml_c_stand_init(&r->stand);
+    yaml_c_stand_init(&r->behind);
 }
 
 static void give_back(records *r)
@@ -137,6 +140,52 @@ static void give_back(records *r)
     yaml_c_parsed_free(&r->parsed);
     yaml_c_scanned_free(&r->scanned);
     yaml_c_answer_free(&r->answer);
+    yaml_c_stand_free(&r->stand);
+    yaml_c_stand_free(&r->behind);
+}
+
+/* The text of the events in pieces of so many, each given from where the one before it ended, behind the events that wait there. It
+ * stands in `whole` as far as that goes. The last piece's answer and stand stay in the records. */
+static int emit_pieces(const yaml_c_parsed *all, size_t piece, const yaml_c_settings *settings, const yaml_c_bytes *whole, records *r)
+{
+    size_t given = 0, written = 0;
+    int kind = 0;
+    while (!kind && given < all->events_len) {
+        size_t from = given - r->stand.place.waiting;
+        yaml_c_parsed part = *all;
+        given = all->events_len - given < piece ? all->events_len : given + piece;
+        part.events += from;
+        part.events_len = given - from;
+        yaml_c_answer_free(&r->answer);
+        kind = yaml_c_emit_on(&part, settings, &r->stand, &r->behind, &r->answer);
+        if (kind)
+            continue;
+        EXPECT(!whole || (written + r->answer.text.len <= whole->len && !memcmp(whole->at + written, r->answer.text.at, r->answer.text.len)));
+        written += r->answer.text.len;
+        yaml_c_stand_free(&r->stand);
+        r->stand = r->behind;
+        yaml_c_stand_init(&r->behind);
+        EXPECT(r->stand.place.waiting <= 3);
+    }
+    EXPECT(kind || !whole || written == whole->len);
+    return kind;
+}
+
+/* The list of that number in pieces of two: as emit_list. */
+static int emit_list_on(int list, yaml_c_settings *settings, const yaml_c_bytes *whole, records *r)
+{
+    static const size_t lengths[TEXT_NUMBER] = {STREAM_LENGTH, 0, 1, 5, 8, 10, STREAM_LENGTH - 1, STREAM_LENGTH};
+    yaml_c_parsed all;
+    yaml_c_parsed_init(&all);
+    all.events = STREAM + (list == 6);
+    all.events_len = lengths[list];
+    all.directives = &DIRECTIVE;
+    all.directives_len = 1;
+    all.bytes.at = (const uint8_t *)NAMED;
+    all.bytes.len = strlen(NAMED);
+    if (list == 7)
+        settings->limit = 9;
+    return emit_pieces(&all, 2, settings, whole, r);
 }
 
 /* The call of that number on a text. What it hands out stays in the records. */
@@ -160,6 +209,7 @@ static int call_on(int call, int text, yaml_c_settings *settings, records *r)
     case SCAN: return yaml_c_scan(at, len, 0, &r->scanned, answer);
     case DECODE: return yaml_c_decode(at, len, 0, answer);
     case EMIT: return emit_list(text, settings, answer);
+    case EMIT_ON: return emit_list_on(text, settings, NULL, r);
     default: return emit_parsed(text, settings, answer);
     }
 }
@@ -456,6 +506,7 @@ static void emitted(void)
     static const int kinds[TEXT_NUMBER] = {0, 0, 0, 0, 0, 0, YAML_C_EMITTER_ERROR, YAML_C_WRITER_ERROR};
     yaml_c_settings settings;
     yaml_c_answer answer, same;
+    records pieces;
     yaml_c_answer_init(&answer);
     yaml_c_answer_init(&same);
     for (int list = 0; list < TEXT_NUMBER; list++) {
@@ -468,8 +519,81 @@ static void emitted(void)
             EXPECT(yaml_c_same(answer.text.at, answer.text.len, 0, (const uint8_t *)STREAM_TEXT, strlen(STREAM_TEXT), 0, &same) == 0);
             EXPECT(same.is == 1);
         }
+        calls++;
+        init(&pieces);
+        EXPECT(emit_list_on(list, &settings, &answer.text, &pieces) == kinds[list]);
+        give_back(&pieces);
         yaml_c_answer_free(&answer);
         yaml_c_answer_free(&same);
+    }
+}
+
+/* Likewise of the events of each text, in pieces of each length up to eight. */
+static void emitted_in_pieces(void)
+{
+    yaml_c_settings settings;
+    yaml_c_answer answer;
+    records r;
+    yaml_c_answer_init(&answer);
+    for (int text = 0; text < TEXT_NUMBER; text++)
+        for (size_t piece = 1; piece <= 8; piece++) {
+            yaml_c_defaults(&settings);
+            settings.canonical = piece % 2;
+            settings.encoding = (int)(piece % 4);
+            calls += 2;
+            EXPECT(emit_parsed(text, &settings, &answer) == 0);
+            init(&r);
+            EXPECT(emit_pieces(&parsed_texts[text], piece, &settings, &answer.text, &r) == 0);
+            EXPECT(parsed_texts[text].events_len == 0 || r.stand.place.state == 17);
+            give_back(&r);
+            yaml_c_answer_free(&answer);
+        }
+}
+
+/* A stand that means nothing, by a field of its place. */
+static void wrong_stand(yaml_c_place place)
+{
+    yaml_c_settings settings;
+    yaml_c_parsed none;
+    records r;
+    yaml_c_defaults(&settings);
+    yaml_c_parsed_init(&none);
+    init(&r);
+    r.stand.place = place;
+    calls++;
+    EXPECT(yaml_c_emit_on(&none, &settings, &r.stand, &r.behind, &r.answer) == YAML_C_REFUSED_ARGUMENT);
+    EXPECT(r.behind.place.state == 0 && r.behind.levels_len == 0);
+    yaml_c_stand_init(&r.stand);
+    give_back(&r);
+}
+
+static void wrong_stands(void)
+{
+    static const yaml_c_place there = {.state = 3, .encoding = 1};
+    static const yaml_c_level level = {4, 0};
+    static const yaml_c_directive outside = {{0, 1}, {0, 0}};
+    yaml_c_settings settings;
+    yaml_c_parsed none;
+    records r;
+    yaml_c_place place;
+    place = there, place.state = 5, wrong_stand(place);
+    place = there, place.state = -1, wrong_stand(place);
+    place = there, place.encoding = 4, wrong_stand(place);
+    place = there, place.innermost.state = 17, wrong_stand(place);
+    place = there, place.column = (uint64_t)1 << 62, wrong_stand(place);
+    yaml_c_defaults(&settings);
+    yaml_c_parsed_init(&none);
+    for (int list = 0; list < 2; list++) {
+        init(&r);
+        r.stand.place = there;
+        if (list)
+            r.stand.levels = &level, r.stand.levels_len = 1;
+        else
+            r.stand.directives = &outside, r.stand.directives_len = 1;
+        calls++;
+        EXPECT(yaml_c_emit_on(&none, &settings, &r.stand, &r.behind, &r.answer) == YAML_C_REFUSED_ARGUMENT);
+        yaml_c_stand_init(&r.stand);
+        give_back(&r);
     }
 }
 
@@ -562,6 +686,8 @@ int main(void)
     numbers();
     emitted();
     emitted_again();
+    emitted_in_pieces();
+    wrong_stands();
     partings();
     wrong_events();
     for (int text = 0; text < TEXT_NUMBER; text++)

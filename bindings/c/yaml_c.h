@@ -214,6 +214,37 @@ typedef struct {
     yaml_c_bytes bytes;
 } yaml_c_parsed;
 
+/* An open collection as an emitter knows it. */
+typedef struct {
+    int32_t state;   /* libyaml's number of the state in which its emitter waits there: 5 to 10 flow style, 11 to 16 block style */
+    uint64_t indent; /* its indentation, in columns */
+} yaml_c_level;
+
+/* Where an emitter stands, but for lists. Only `waiting` is of use to a caller. */
+typedef struct {
+    int32_t state;    /* what is expected next: 0 the stream's start, 1 the first document, 2 another one, 3 a node or the end of
+                       * the innermost collection, 4 the document's end, 17 nothing */
+    int32_t encoding; /* of the text; 0 where no event was given yet: then nothing else is looked at */
+    int32_t implicit; /* the last document ended implicitly */
+    int32_t white, bare, kept; /* what was written last: white space; nothing but indentation and block indicators in the line; a
+                                * block scalar that keeps its breaks */
+    uint64_t column;  /* characters since the last line break, fewer than 2^62 */
+    uint64_t waiting; /* so many of the events that were given, the last ones and at most three, wait for later ones: give them again
+                       * in front of these. Not looked at in a stand that is given */
+    yaml_c_level innermost; /* the innermost open collection; its state is 0 where none is open */
+} yaml_c_place;
+
+/* Where an emitter stands: with the open collections round the innermost one, the outermost first, the %TAG directives of the
+ * document, and the block of bytes that hold their texts. */
+typedef struct {
+    yaml_c_place place;
+    const yaml_c_level *levels;
+    size_t levels_len;
+    const yaml_c_directive *directives;
+    size_t directives_len;
+    yaml_c_bytes bytes;
+} yaml_c_stand;
+
 /* A token. What a kind doesn't name below is 0. */
 typedef struct {
     int32_t kind;
@@ -307,6 +338,15 @@ int32_t yaml_c_emit(const yaml_c_event *events, size_t events_len, const yaml_c_
                     size_t directives_len, const uint8_t *bytes, size_t len, const yaml_c_settings *settings,
                     yaml_c_answer *answer);
 
+/* The text that more events add, so that a stream may be given in pieces: `stand` is where the emitter stands that was given those
+ * before (yaml_c_stand_init: none yet), and `behind` becomes where it stands then, for the next call. Of the events that were
+ * given, the last `stand->place.waiting` ones wait: they are to be the first of `given`, with their texts. The texts of the calls,
+ * one behind another, are then what yaml_c_emit answers for all events under the same settings. Refused as yaml_c_emit, -1 also
+ * where the stand means nothing; `behind` is left as it is then, and there is nothing to go on from. The limit is the call's text's,
+ * at most 2^62. `stand` and `behind` are two records: free the old one behind the call. */
+int32_t yaml_c_emit_on(const yaml_c_parsed *given, const yaml_c_settings *settings, const yaml_c_stand *stand,
+                       yaml_c_stand *behind, yaml_c_answer *answer);
+
 /* ---- setting up and freeing records */
 
 /* What to pass for an input without a byte. */
@@ -360,6 +400,24 @@ static inline void yaml_c_parsed_free(yaml_c_parsed *parsed) {
     yaml_c_parsed_init(parsed);
 }
 
+/* Where an emitter stands that was given no event. Before the first call with the record. */
+static inline void yaml_c_stand_init(yaml_c_stand *stand) {
+    static const yaml_c_level no_level = {0, 0};
+    static const yaml_c_directive no_directive = {{0, 0}, {0, 0}};
+    memset(stand, 0, sizeof *stand);
+    stand->levels = &no_level;
+    stand->directives = &no_directive;
+    stand->bytes.at = YAML_C_NOTHING;
+}
+
+/* Frees the levels, directives and bytes. After the call that went on from there; a second time does nothing. */
+static inline void yaml_c_stand_free(yaml_c_stand *stand) {
+    if (stand->levels_len) free((void *)stand->levels);
+    if (stand->directives_len) free((void *)stand->directives);
+    if (stand->bytes.len) free((void *)stand->bytes.at);
+    yaml_c_stand_init(stand);
+}
+
 /* No tokens. Before the first call with the record. */
 static inline void yaml_c_scanned_init(yaml_c_scanned *scanned) {
     static const yaml_c_token no_token = {0, 0, 0, 0, 0, {0, 0}, {0, 0}, {0, 0, 0}, {0, 0, 0}};
@@ -396,6 +454,15 @@ YAML_C_ASSERT(offsetof(yaml_c_answer, offset) == 16 && offsetof(yaml_c_answer, p
 YAML_C_ASSERT(offsetof(yaml_c_answer, context_mark) == 48 && offsetof(yaml_c_answer, problem) == 72);
 YAML_C_ASSERT(offsetof(yaml_c_answer, context) == 88 && offsetof(yaml_c_answer, text) == 104);
 YAML_C_ASSERT(offsetof(yaml_c_answer, line) == 120);
+YAML_C_ASSERT(sizeof(yaml_c_level) == 16 && offsetof(yaml_c_level, indent) == 8);
+YAML_C_ASSERT(sizeof(yaml_c_place) == 56 && offsetof(yaml_c_place, encoding) == 4);
+YAML_C_ASSERT(offsetof(yaml_c_place, implicit) == 8 && offsetof(yaml_c_place, white) == 12);
+YAML_C_ASSERT(offsetof(yaml_c_place, bare) == 16 && offsetof(yaml_c_place, kept) == 20);
+YAML_C_ASSERT(offsetof(yaml_c_place, column) == 24 && offsetof(yaml_c_place, waiting) == 32);
+YAML_C_ASSERT(offsetof(yaml_c_place, innermost) == 40);
+YAML_C_ASSERT(sizeof(yaml_c_stand) == 104 && offsetof(yaml_c_stand, levels) == 56);
+YAML_C_ASSERT(offsetof(yaml_c_stand, levels_len) == 64 && offsetof(yaml_c_stand, directives) == 72);
+YAML_C_ASSERT(offsetof(yaml_c_stand, directives_len) == 80 && offsetof(yaml_c_stand, bytes) == 88);
 YAML_C_ASSERT(sizeof(yaml_c_parting) == 200 && offsetof(yaml_c_parting, document) == 136);
 YAML_C_ASSERT(offsetof(yaml_c_parting, first_kind) == 144 && offsetof(yaml_c_parting, second_kind) == 148);
 YAML_C_ASSERT(offsetof(yaml_c_parting, first_mark) == 152 && offsetof(yaml_c_parting, second_mark) == 176);

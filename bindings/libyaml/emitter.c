@@ -1,5 +1,5 @@
-/* The emitter: events are kept as records, and laid out by the proved core: at the end of a document, at a flush, and within a
- * document each time that enough are kept; then a stand-in replaces them (stand_in.c). */
+/* The emitter: events are kept as records, and laid out by the proved core, which goes on from where it stood (yaml_c_emit_on): each
+ * time that enough are kept, at the end of a document, and at a flush. */
 #include "layer.h"
 
 static int no_memory(yaml_emitter_t *emitter)
@@ -15,6 +15,7 @@ YAML_DECLARE(int) yaml_emitter_initialize(yaml_emitter_t *emitter)
     layer_writing *w = calloc(1, sizeof *w);
     if (!w)
         return no_memory(emitter);
+    yaml_c_stand_init(&w->stand);
     LAYER_SET_STATE(emitter, w);
     return 1;
 }
@@ -24,6 +25,7 @@ YAML_DECLARE(void) yaml_emitter_delete(yaml_emitter_t *emitter)
     assert(emitter);
     layer_writing *w = LAYER_STATE(layer_writing, emitter);
     if (w) {
+        yaml_c_stand_free(&w->stand);
         free(w->levels.at);
         free(w->events.at);
         free(w->directives.at);
@@ -49,16 +51,24 @@ static yaml_c_settings settings_of(const yaml_emitter_t *emitter)
     return settings;
 }
 
-/* The text of that many of the events that are kept. */
-static int32_t emit(const layer_writing *w, size_t len, yaml_c_answer *answer)
+/* What is kept. */
+static yaml_c_parsed kept(const layer_writing *w)
 {
-    static const yaml_c_event no_event;
-    static const yaml_c_directive no_directive;
-    const yaml_c_event *events = len ? (const void *)w->events.at : &no_event;
-    const yaml_c_directive *directives = w->directives.len ? (const void *)w->directives.at : &no_directive;
-    yaml_c_answer_init(answer);
-    return yaml_c_emit(events, len, directives, w->directives.len / sizeof *directives, w->bytes.len ? w->bytes.at : YAML_C_NOTHING,
-                       w->bytes.len, &w->settings, answer);
+    yaml_c_parsed given;
+    yaml_c_parsed_init(&given);
+    if (w->events.len) {
+        given.events = (const void *)w->events.at;
+        given.events_len = layer_events_len(w);
+    }
+    if (w->directives.len) {
+        given.directives = (const void *)w->directives.at;
+        given.directives_len = w->directives.len / sizeof *given.directives;
+    }
+    if (w->bytes.len) {
+        given.bytes.at = w->bytes.at;
+        given.bytes.len = w->bytes.len;
+    }
+    return given;
 }
 
 /* Tells a layout's fault, and frees the answer. */
@@ -78,69 +88,79 @@ static int fault(yaml_emitter_t *emitter, layer_writing *w, yaml_c_answer *answe
     return 0;
 }
 
-/* How long the stand-in's text is. */
-static int measure(yaml_emitter_t *emitter, layer_writing *w)
+/* Moves a text to the front, in which order it may lie on itself. */
+static void move_text(layer_writing *w, yaml_c_span *span)
 {
-    yaml_c_answer answer;
-    if (emit(w, w->stand_in, &answer))
-        return fault(emitter, w, &answer);
-    w->cut = answer.text.len;
-    yaml_c_answer_free(&answer);
-    return 1;
+    if (span->len)
+        memmove(w->bytes.at + w->bytes.len, w->bytes.at + span->at, span->len);
+    span->at = w->bytes.len;
+    w->bytes.len += span->len;
 }
 
-/* Likewise of one that replaces documents, which is measured once. */
-static int measure_documents(yaml_emitter_t *emitter, layer_writing *w)
+/* Moves a document's directives to the front, with their texts. */
+static void move_directives(layer_writing *w, yaml_c_span *span)
 {
-    int is_implicit = layer_event_at(w, w->stand_in - 1).implicit != 0;
-    if (memcmp(&w->settings, &w->cut_by, sizeof w->settings)) {
-        w->cut_by = w->settings;
-        w->has_cut[0] = w->has_cut[1] = 0;
+    yaml_c_directive *directives = (void *)w->directives.at;
+    size_t to = w->directives.len / sizeof *directives;
+    for (size_t i = 0; i < span->len; i++) {
+        yaml_c_directive directive = directives[span->at + i];
+        move_text(w, &directive.handle);
+        move_text(w, &directive.prefix);
+        directives[to + i] = directive;
     }
-    if (!w->has_cut[is_implicit] && !measure(emitter, w))
-        return 0;
-    if (!w->has_cut[is_implicit])
-        w->cuts[is_implicit] = w->cut;
-    w->has_cut[is_implicit] = 1;
-    w->cut = w->cuts[is_implicit];
-    return 1;
+    span->at = to;
+    w->directives.len += span->len * sizeof *directives;
 }
 
-/* The settings hold from the first layout on, until what was laid out is replaced. */
-static int settle_layout(yaml_emitter_t *emitter, layer_writing *w)
+/* Of what is kept the last events stay, as many as wait for later ones. */
+static void keep_waiting(layer_writing *w)
 {
-    w->is_settled = 1;
-    w->cut = 0;
-    w->settings = settings_of(emitter);
-    if (!w->stand_in)
-        return 1;
-    int is_documents = layer_event_at(w, w->stand_in - 1).kind == YAML_C_DOCUMENT_END_EVENT;
-    return is_documents ? measure_documents(emitter, w) : measure(emitter, w);
+    yaml_c_event *events = (void *)w->events.at;
+    size_t waiting = w->stand.place.waiting, from = layer_events_len(w) - waiting;
+    w->bytes.len = w->directives.len = 0;
+    for (size_t i = 0; i < waiting; i++) {
+        events[i] = events[from + i];
+        move_directives(w, &events[i].directives);
+        move_text(w, &events[i].anchor);
+        move_text(w, &events[i].tag);
+        move_text(w, &events[i].value);
+    }
+    w->events.len = waiting * sizeof *events;
 }
 
-/* Lays out what is kept, and has written what isn't yet. */
-static int lay_out(yaml_emitter_t *emitter, layer_writing *w)
+/* Has the handler take a text, and frees the answer. */
+static int write_out(yaml_emitter_t *emitter, yaml_c_answer *answer)
 {
-    yaml_c_answer answer;
     int is_written = 1;
-    if (!w->is_settled && !settle_layout(emitter, w))
-        return 0;
-    if (emit(w, layer_events_len(w), &answer))
-        return fault(emitter, w, &answer);
-    size_t from = w->cut + w->written;
-    w->column = layer_last_column(answer.text.at, answer.text.len);
-    if (answer.text.len > from) {
+    if (answer->text.len) {
         assert(emitter->write_handler);
-        unsigned char *rest = (unsigned char *)answer.text.at + from;
-        is_written = emitter->write_handler(emitter->write_handler_data, rest, answer.text.len - from);
-        w->written = answer.text.len - w->cut;
+        is_written = emitter->write_handler(emitter->write_handler_data, (unsigned char *)answer->text.at, answer->text.len);
     }
-    yaml_c_answer_free(&answer);
+    yaml_c_answer_free(answer);
     if (is_written)
         return 1;
     emitter->error = YAML_WRITER_ERROR;
     emitter->problem = "write error";
     return 0;
+}
+
+/* Lays out what is kept, and has it written. */
+static int lay_out(yaml_emitter_t *emitter, layer_writing *w)
+{
+    yaml_c_answer answer;
+    yaml_c_stand behind;
+    yaml_c_parsed given = kept(w);
+    yaml_c_settings settings = settings_of(emitter);
+    if (given.events_len == w->stand.place.waiting)
+        return 1;
+    yaml_c_answer_init(&answer);
+    yaml_c_stand_init(&behind);
+    if (yaml_c_emit_on(&given, &settings, &w->stand, &behind, &answer))
+        return fault(emitter, w, &answer);
+    yaml_c_stand_free(&w->stand);
+    w->stand = behind;
+    keep_waiting(w);
+    return write_out(emitter, &answer);
 }
 
 YAML_DECLARE(int) yaml_emitter_flush(yaml_emitter_t *emitter)
@@ -149,106 +169,66 @@ YAML_DECLARE(int) yaml_emitter_flush(yaml_emitter_t *emitter)
     return !emitter->error && lay_out(emitter, LAYER_STATE(layer_writing, emitter));
 }
 
-/* ---- where the events lead */
+/* ---- where the events lead: an event in a wrong place is laid out at once, which tells the fault */
 
-static int is_break_byte(yaml_char_t byte)
-{
-    return byte == '\n' || byte == '\r' || byte >= 0x80; /* or a break's last byte, if it isn't ASCII */
-}
-
-/* Whether a scalar may be a block scalar that keeps its breaks: it ends in two, or is one. */
-static int is_kept(const yaml_event_t *event)
-{
-    const yaml_char_t *value = event->data.scalar.value;
-    size_t len = event->data.scalar.length;
-    int is_block = event->data.scalar.style == YAML_LITERAL_SCALAR_STYLE || event->data.scalar.style == YAML_FOLDED_SCALAR_STYLE;
-    return is_block && len && is_break_byte(value[len - 1])
-           && (len == 1 || value[len - 1] >= 0x80 || is_break_byte(value[len - 2]));
-}
-
-/* A collection begins. A stand-in replaces none in a key, and in flow style only those of which all around them are so too. */
-static int open_level(layer_writing *w, int is_mapping, int is_flow)
-{
-    layer_level *around = layer_innermost(w);
-    int is_due = !around || (around->is_replaced && (!around->is_mapping || (around->is_value && around->key)));
-    int is_deep_flow = around ? around->is_deep_flow : is_flow;
-    layer_level level = {layer_events_len(w), 0, is_mapping, 0, is_flow, is_due && (!is_flow || is_deep_flow), is_deep_flow};
-    w->is_line_next = 0;
-    return layer_put(&w->levels, &level, sizeof level);
-}
-
-/* A node has come: that record, or a collection (0). */
-static void go_on(layer_writing *w, size_t number)
-{
-    layer_level *around = layer_innermost(w);
-    if (!around || !around->is_mapping)
-        return;
-    if (!around->is_value)
-        around->key = number;
-    around->is_value = !around->is_value;
-}
-
-static void come(layer_writing *w)
-{
-    w->is_line_next = 1;
-    go_on(w, layer_events_len(w));
-}
-
-/* A collection ends. 0: none of that kind can end there. */
-static int close_level(layer_writing *w, int is_mapping)
-{
-    layer_level *level = layer_innermost(w);
-    if (!level || level->is_mapping != is_mapping || level->is_value)
-        return 0;
-    w->is_line_next = level->is_flow || level->start + 1 == layer_events_len(w); /* an empty one is flow */
-    w->levels.len -= sizeof *level;
-    go_on(w, 0);
-    return 1;
-}
+enum { IS_MAPPING = 1, IS_VALUE = 2 };
 
 enum due { KEEP, LAY_OUT, NO_MEMORY };
 
-/* What is due with an event within a document. What can't stand there is laid out, which tells the fault. */
+/* The collection that was opened last; NULL: none is open. */
+static uint8_t *innermost(const layer_writing *w)
+{
+    return w->levels.len ? w->levels.at + w->levels.len - 1 : NULL;
+}
+
+/* A node has come. */
+static void go_on(layer_writing *w)
+{
+    uint8_t *around = innermost(w);
+    if (around && *around & IS_MAPPING)
+        *around ^= IS_VALUE;
+}
+
+static enum due open_level(layer_writing *w, uint8_t kind)
+{
+    return layer_put(&w->levels, &kind, 1) ? KEEP : NO_MEMORY;
+}
+
+static enum due close_level(layer_writing *w, uint8_t kind)
+{
+    const uint8_t *level = innermost(w);
+    if (!level || *level != kind)
+        return LAY_OUT;
+    w->levels.len--;
+    go_on(w);
+    return KEEP;
+}
+
+/* What is due with an event within a document. */
 static enum due due_in_document(layer_writing *w, const yaml_event_t *event)
 {
-    int is_flow;
     switch (event->type) {
     case YAML_SCALAR_EVENT:
-        w->has_kept |= is_kept(event);
-        come(w);
-        return KEEP;
-    case YAML_ALIAS_EVENT: come(w); return KEEP;
-    case YAML_SEQUENCE_START_EVENT:
-        is_flow = event->data.sequence_start.style == YAML_FLOW_SEQUENCE_STYLE;
-        return open_level(w, 0, is_flow) ? KEEP : NO_MEMORY;
-    case YAML_MAPPING_START_EVENT:
-        is_flow = event->data.mapping_start.style == YAML_FLOW_MAPPING_STYLE;
-        return open_level(w, 1, is_flow) ? KEEP : NO_MEMORY;
-    case YAML_SEQUENCE_END_EVENT: return close_level(w, 0) ? KEEP : LAY_OUT;
-    case YAML_MAPPING_END_EVENT: return close_level(w, 1) ? KEEP : LAY_OUT;
+    case YAML_ALIAS_EVENT: go_on(w); return KEEP;
+    case YAML_SEQUENCE_START_EVENT: return open_level(w, 0);
+    case YAML_MAPPING_START_EVENT: return open_level(w, IS_MAPPING);
+    case YAML_SEQUENCE_END_EVENT: return close_level(w, 0);
+    case YAML_MAPPING_END_EVENT: return close_level(w, IS_MAPPING);
     case YAML_DOCUMENT_END_EVENT: w->place = LAYER_BETWEEN_DOCUMENTS; return LAY_OUT;
     default: return LAY_OUT;
     }
 }
 
-/* Begins a document: what is kept of the last one is replaced. */
-static int begin_document(layer_writing *w)
-{
-    w->place = LAYER_IN_DOCUMENT;
-    w->levels.len = 0;
-    w->has_kept = w->is_settled = w->is_line_next = 0;
-    return layer_events_len(w) == 1 || layer_replace_documents(w);
-}
-
-/* Likewise between documents; at the stream's end there is text where there was no document, or one with a kept break. */
+/* Likewise between documents. */
 static enum due due_between(layer_writing *w, const yaml_event_t *event)
 {
-    if (event->type == YAML_DOCUMENT_START_EVENT)
-        return begin_document(w) ? KEEP : NO_MEMORY;
-    if (event->type != YAML_STREAM_END_EVENT)
+    if (event->type == YAML_STREAM_END_EVENT)
+        w->place = LAYER_BEHIND_STREAM;
+    if (event->type != YAML_DOCUMENT_START_EVENT)
         return LAY_OUT;
-    w->place = LAYER_BEHIND_STREAM;
-    return w->has_kept || layer_events_len(w) == 1 ? LAY_OUT : KEEP;
+    w->place = LAYER_IN_DOCUMENT;
+    w->levels.len = 0;
+    return KEEP;
 }
 
 /* What libyaml settles in its structure as a stream begins, and some clients read. */
@@ -283,22 +263,16 @@ static enum due due_with(yaml_emitter_t *emitter, layer_writing *w, const yaml_e
 
 /* ---- events */
 
-/* How many events are kept, or a 64th of the bytes of their texts, before they are laid out within a document; 0: none more than
- * have to be. */
+/* How many events are kept, or a 64th of the bytes of their texts, before they are laid out; 0: none more than have to be. */
 #ifndef LAYER_PIECE
-#define LAYER_PIECE 1024
+#define LAYER_PIECE 512
 #endif
 
-/* Whether enough is kept behind the stand-in, which is laid out again with it, and a stand-in can replace all. */
-static int is_enough(const yaml_emitter_t *emitter, const layer_writing *w)
+/* Whether enough is kept: more where more collections are open, which are handed over with each layout. */
+static int is_enough(const layer_writing *w)
 {
-    const layer_level *level = layer_innermost(w);
-    size_t len = layer_events_len(w);
-    if (LAYER_PIECE && len < LAYER_PIECE + 5 * w->stand_in && w->bytes.len < 64 * LAYER_PIECE + 5 * w->stand_in_bytes)
-        return 0;
-    /* behind the fourth event the start isn't held */
-    return level && level->is_replaced && !level->is_value && w->is_line_next && len >= level->start + 4 && !w->has_kept
-           && !emitter->canonical;
+    size_t most = LAYER_PIECE ? LAYER_PIECE + w->stand.levels_len : 0;
+    return layer_events_len(w) >= most || w->bytes.len >= 64 * most;
 }
 
 static int take(yaml_emitter_t *emitter, layer_writing *w, const yaml_event_t *event)
@@ -306,15 +280,7 @@ static int take(yaml_emitter_t *emitter, layer_writing *w, const yaml_event_t *e
     enum due due = due_with(emitter, w, event);
     if (due == NO_MEMORY || !layer_record(w, event))
         return no_memory(emitter);
-    if (event->type == YAML_DOCUMENT_START_EVENT)
-        w->head = w->bytes.len;
-    if (due == LAY_OUT)
-        return lay_out(emitter, w);
-    if (w->place != LAYER_IN_DOCUMENT || !is_enough(emitter, w))
-        return 1;
-    if (!lay_out(emitter, w))
-        return 0;
-    return !layer_reaches_column(w) || layer_replace_levels(w) || no_memory(emitter);
+    return (due == KEEP && !is_enough(w)) || lay_out(emitter, w);
 }
 
 YAML_DECLARE(int) yaml_emitter_emit(yaml_emitter_t *emitter, yaml_event_t *event)

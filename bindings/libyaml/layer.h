@@ -188,36 +188,13 @@ enum layer_root layer_root_of(const uint8_t *text, size_t len, size_t *from);
 /* The last place behind `from` where an item of the root begins; 0: none is known by now. */
 size_t layer_last_item(const uint8_t *text, size_t len, size_t from, enum layer_root root);
 
-/* A collection that is open in what an emitter keeps: a level of the layout. */
-typedef struct {
-    size_t start;    /* the number of its start's record */
-    size_t key;      /* of a mapping: that of the key whose value is due or open */
-    int is_mapping;
-    int is_value;    /* a value is due or open */
-    int is_flow;
-    int is_replaced; /* a stand-in can replace what was laid out of it: see stand_in.c */
-    int is_deep_flow; /* it and all around it is flow */
-} layer_level;
-
 enum layer_place { LAYER_BEFORE_STREAM, LAYER_BETWEEN_DOCUMENTS, LAYER_IN_DOCUMENT, LAYER_BEHIND_STREAM };
 
-/* What an emitter keeps: the records of a stand-in for what was written, and of the events behind it. */
+/* What an emitter keeps: where it stands, and the records of the events behind that. */
 typedef struct {
     enum layer_place place;
-    layer_bytes levels;     /* layer_level, the outermost first */
-    int has_kept;           /* a block scalar of the document may keep its breaks, which may ask for `...` at the end */
-    int is_line_next;       /* the last event is a scalar, an alias or the end of a flow collection */
-    int is_settled;         /* the settings of this document, and its stand-in's length, are known: it was laid out */
-    yaml_c_settings settings;
-    size_t stand_in;        /* how many records are the stand-in's, of how many bytes, and the length of its text */
-    size_t stand_in_bytes;
-    size_t cut;
-    size_t written;         /* how much of the text behind it the handler has taken */
-    size_t column;          /* where the text that was laid out ends: characters of its last line */
-    int has_cut[2];         /* whether a stand-in's length is known that replaces documents, by how it ends */
-    size_t cuts[2];         /* that length */
-    yaml_c_settings cut_by; /* the settings that give it */
-    size_t head;            /* up to where the bytes belong to the stand-in for documents and to the document's start */
+    layer_bytes levels; /* a byte for each open collection, the outermost first: whether it is a mapping, and a value is due there */
+    yaml_c_stand stand;
     layer_bytes events;
     layer_bytes directives;
     layer_bytes bytes;
@@ -226,28 +203,11 @@ typedef struct {
 
 /* Keeps the event as a record. 0: memory was refused, and none is kept. */
 int layer_record(layer_writing *w, const yaml_event_t *event);
-yaml_c_event layer_event_at(const layer_writing *w, size_t number);
-int layer_keep(layer_writing *w, const yaml_c_event *record);
 
 static inline size_t layer_events_len(const layer_writing *w)
 {
     return w->events.len / sizeof(yaml_c_event);
 }
-
-/* The collection that was opened last; NULL: none is open. */
-static inline layer_level *layer_innermost(const layer_writing *w)
-{
-    return w->levels.len ? (layer_level *)(void *)(w->levels.at + w->levels.len) - 1 : NULL;
-}
-
-/* Replace what is kept by a stand-in: all documents, in front of one that begins, or all that was laid out of one. 0: memory was
- * refused. */
-int layer_replace_documents(layer_writing *w);
-int layer_replace_levels(layer_writing *w);
-/* Whether a stand-in can end in that column, where the innermost collection is in flow style. */
-int layer_reaches_column(const layer_writing *w);
-/* The column in which a text in UTF-8 ends. */
-size_t layer_last_column(const uint8_t *text, size_t len);
 
 /* Adds a node, whose tag and value are the document's then. Its number; 0: memory was refused, and both are freed. */
 int layer_add_node(yaml_document_t *document, const yaml_node_t *node);

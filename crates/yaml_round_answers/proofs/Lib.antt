@@ -7,3 +7,4 @@ pub mod NormalExact
 pub mod Offsets
 pub mod Rows
 pub mod PartingExact
+pub mod Going

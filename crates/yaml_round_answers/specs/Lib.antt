@@ -2,6 +2,7 @@ pub mod Settings
 pub mod Told
 pub mod Offsets
 pub mod Emitting
+pub mod Onward
 pub mod Parses
 pub mod Scans
 pub mod Decodes

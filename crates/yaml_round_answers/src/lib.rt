@@ -6,6 +6,7 @@ mod decoding;
 mod emitting;
 mod engine;
 mod normalizing;
+mod onward;
 mod parsing;
 mod parting;
 mod path;
@@ -17,10 +18,12 @@ pub use decoding::decoded_by;
 pub use emitting::answered_by;
 pub use engine::{compared_by, listed_by, reformatted_by, reloaded_by};
 pub use normalizing::{checked_by, normalized_by};
+pub use onward::onward_by;
 pub use parsing::{front_by, parsed_by, yaml_c_parsed};
 pub use parting::{documents_parted_by, parted_by, yaml_c_parting};
 pub use scanning::{scanned_by, yaml_c_scanned};
 pub use yaml_round_records::{
-    yaml_c_directive, yaml_c_event, yaml_c_mark, yaml_c_settings, yaml_c_span,
+    yaml_c_directive, yaml_c_event, yaml_c_level, yaml_c_mark, yaml_c_place, yaml_c_settings,
+    yaml_c_span, yaml_c_stand,
 };
 pub use yaml_round_tokens::yaml_c_token;

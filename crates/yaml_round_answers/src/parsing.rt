@@ -73,7 +73,7 @@ fn events_out(events: Vec<yaml_c_event>) -> &'static [yaml_c_event]
     events.leak()
 }
 
-fn directives_out(directives: Vec<yaml_c_directive>) -> &'static [yaml_c_directive]
+pub(crate) fn directives_out(directives: Vec<yaml_c_directive>) -> &'static [yaml_c_directive]
     ensures { result.now ≡ directives.items }
 {
     if directives.is_empty() {

@@ -1,0 +1,96 @@
+//! The text of events that are given as records, piece by piece.
+
+ghost use Rattle.std.specs.Prelude.{◌≡◌, ◌⊎◌, pos, IsSome};
+ghost use Rattle.yaml_round_records.specs.Meaning.{events_meant};
+ghost use Rattle.yaml_round_records.specs.Leading.{asked_for};
+ghost use Rattle.yaml_round_answers.specs.Told.{AnswersMeant};
+ghost use Rattle.yaml_round_answers.specs.Onward.{at_meant_by, onward_meant, HandsStand, EmitsOn, EmitsAllOn};
+
+use crate::answer::{handed_out, misused, refused, told, yaml_c_answer};
+use crate::parsing::{directives_out, yaml_c_parsed};
+use std::alloc::Global;
+use yaml_round_records::{
+    Asked, Standing, are_meant, asked_of, emitted_on, is_stand, yaml_c_level, yaml_c_settings,
+    yaml_c_stand,
+};
+
+fn levels_out(levels: Vec<yaml_c_level>) -> &'static [yaml_c_level]
+    ensures { result.now ≡ levels.items }
+{
+    if levels.is_empty() {
+        return &[];
+    }
+    levels.leak()
+}
+
+// Lists that live on for C.
+fn stand_out(stand: Standing) -> yaml_c_stand
+    ensures { HandsStand stand result }
+{
+    let Standing {
+        place,
+        levels,
+        directives,
+        bytes,
+    } = stand;
+    yaml_c_stand {
+        place,
+        levels: levels_out(levels),
+        directives: directives_out(directives),
+        bytes: handed_out(bytes),
+    }
+}
+
+fn answered(
+    alloc: Global,
+    given: &yaml_c_parsed,
+    asked: &Asked,
+    stand: &yaml_c_stand,
+    behind: &mut yaml_c_stand,
+) -> yaml_c_answer
+    requires events { IsSome (events_meant given.now.bytes.now given.now.directives.now
+        given.now.events.now) }
+    requires stand { IsSome (at_meant_by stand.now) }
+    ensures { EmitsAllOn behind.old behind.new (events_meant given.now.bytes.now
+        given.now.directives.now given.now.events.now) (asked_for asked.now)
+        (at_meant_by stand.now) result }
+{
+    match emitted_on(
+        alloc,
+        given.bytes,
+        given.directives,
+        given.events,
+        asked,
+        stand,
+    ) {
+        Ok(onward) => {
+            *behind = stand_out(onward.stand);
+            told(onward.text, 0)
+        }
+        Err(fault) => refused(alloc, &fault, 0),
+    }
+}
+
+/// What an emitter under the settings adds for the events, from where another one stood, where all that is given means something.
+pub fn onward_by(
+    alloc: Global,
+    given: &yaml_c_parsed,
+    settings: &yaml_c_settings,
+    stand: &yaml_c_stand,
+    behind: &mut yaml_c_stand,
+) -> yaml_c_answer
+    ensures { AnswersMeant (onward_meant given.now settings.now stand.now)
+        (EmitsOn behind.old behind.new) result }
+{
+    let Some(asked) = asked_of(settings) else {
+        return misused();
+    };
+    if !is_stand(stand) {
+        return misused();
+    }
+    if are_meant(given.bytes, given.directives, given.events) {
+        answered(alloc, given, &asked, stand, behind)
+    } else {
+        misused()
+    }
+}

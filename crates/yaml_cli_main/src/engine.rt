@@ -1,5 +1,12 @@
 //! The engine that the program runs.
 
+ghost use Rattle.std.specs.Prelude.{◌≡◌};
+ghost use Rattle.yaml_round.specs.emit.emit_layout.scan_model.Faults.{Answers};
+ghost use Rattle.yaml_round.specs.Answers.{bytes_of};
+ghost use Rattle.yaml_round.specs.Layers.{reformat_layers};
+ghost use Rattle.yaml_round.specs.Readable.{IsReadableAnswer};
+ghost use Rattle.yaml_cli_main.specs.Asked.{IsRun, IsSameAnswer, IsDifference, IsParted, IsJudgedBy, judge_layers, side_told, TellsDifference};
+
 use std::alloc::{AllocError, Global};
 use std::io::{Read, Write};
 use yaml_cli_program::{
@@ -15,7 +22,9 @@ use yaml_round::{
 /// The engine of `yaml_round`, with the program's limit.
 pub struct Rounds;
 
-fn side_of(side: yaml_side_t) -> Side {
+fn side_of(side: yaml_side_t) -> Side
+    ensures { side_told result ≡ side }
+{
     match side {
         yaml_side_t::First => Side::First,
         yaml_side_t::Second => Side::Second,
@@ -40,7 +49,9 @@ fn path_of(alloc: Global, difference: &yaml_difference_t) -> Result<String, Allo
     Ok(path)
 }
 
-fn difference_of(alloc: Global, difference: &yaml_difference_t) -> Difference {
+fn difference_of(alloc: Global, difference: &yaml_difference_t) -> Difference
+    ensures { TellsDifference result difference.now }
+{
     Difference {
         path: path_of(alloc, difference).ok(),
         first: Met {
@@ -54,6 +65,22 @@ fn difference_of(alloc: Global, difference: &yaml_difference_t) -> Difference {
     }
 }
 
+// Where they part, by that measure.
+fn found_by(
+    alloc: Global,
+    by: Measure,
+    first: &[u8],
+    second: &[u8],
+) -> Result<Option<yaml_difference_t>, (yaml_side_t, yaml_fault_t)>
+    ensures { IsDifference by.documents by.from first.now second.now result }
+{
+    if by.documents {
+        yaml_diff_documents(alloc, first, by.from, second, by.from)
+    } else {
+        yaml_diff(alloc, first, by.from, second, by.from)
+    }
+}
+
 impl Engine for Rounds {
     fn run<R: Read, W: Write>(
         &self,
@@ -61,7 +88,9 @@ impl Engine for Rounds {
         task: &Task,
         reader: &mut R,
         writer: &mut W,
-    ) -> Ended {
+    ) -> Ended
+        ensures { IsRun task.now (R.remaining reader.old) (W.contents writer.old) result }
+    {
         let mut input = yaml_std_input_t::new(reader);
         let mut output = yaml_std_output_t::new(writer);
         yaml_run(
@@ -80,11 +109,17 @@ impl Engine for Rounds {
         alloc: Global,
         manner: &Manner,
         input: &[u8],
-    ) -> Result<Vec<u8>, yaml_fault_t> {
+    ) -> Result<Vec<u8>, yaml_fault_t>
+        ensures { Answers reformat_layers bytes_of
+            (IsReadableAnswer manner.now.from manner.now.settings input.now) result }
+    {
         yaml_normalize(alloc, input, manner.from, &manner.settings)
     }
 
-    fn judge(&self, alloc: Global, judging: &Judging, input: &[u8]) -> Result<bool, yaml_fault_t> {
+    fn judge(&self, alloc: Global, judging: &Judging, input: &[u8]) -> Result<bool, yaml_fault_t>
+        ensures { Answers (judge_layers judging.now.question) (λ b. b)
+            (IsJudgedBy judging.now.question judging.now.manner input.now) result }
+    {
         let Manner { from, settings } = judging.manner;
         match judging.question {
             Question::Loads => match yaml_check(alloc, input, from) {
@@ -102,20 +137,20 @@ impl Engine for Rounds {
         }
     }
 
-    fn same(&self, alloc: Global, from: yaml_encoding_t, first: &[u8], second: &[u8]) -> Compared {
+    fn same(&self, alloc: Global, from: yaml_encoding_t, first: &[u8], second: &[u8]) -> Compared
+        ensures { IsSameAnswer from first.now second.now result }
+    {
         match yaml_same(alloc, first, from, second, from) {
             Ok(same) => Ok(same),
             Err((side, fault)) => Err((side_of(side), yaml_run_fault_t::Yaml(fault))),
         }
     }
 
-    fn diff(&self, alloc: Global, by: Measure, first: &[u8], second: &[u8]) -> Parted {
-        let difference = if by.documents {
-            yaml_diff_documents(alloc, first, by.from, second, by.from)
-        } else {
-            yaml_diff(alloc, first, by.from, second, by.from)
-        };
-        match difference {
+    fn diff(&self, alloc: Global, by: Measure, first: &[u8], second: &[u8]) -> Parted
+        ensures { IsParted by first.now second.now result }
+    {
+        let found = found_by(alloc, by, first, second);
+        match found {
             Ok(None) => Ok(None),
             Ok(Some(difference)) => Ok(Some(difference_of(alloc, &difference))),
             Err((side, fault)) => Err((side_of(side), fault)),

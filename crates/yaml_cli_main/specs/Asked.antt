@@ -1,0 +1,99 @@
+-- What the program's engine answers, in the words of the program.
+use Rattle.std.specs.Prelude.{◌≡◌, ℕ, Bool, true, false, List, Option, None, Some, Result, Ok, Err}
+use Rattle.yaml_round.specs.declared.yaml_encoding_t.{yaml_encoding_t}
+use Rattle.yaml_round.specs.declared.yaml_origin_t.{yaml_origin_t}
+use Rattle.yaml_round.specs.declared.yaml_fault_t.{yaml_fault_t}
+use Rattle.yaml_round.specs.emit.emit_layout.scan_model.Faults.{Fault, load_layers}
+use Rattle.yaml_round.specs.declared.yaml_form_t.{yaml_form_t}
+use Rattle.yaml_round.specs.declared.yaml_run_fault_t.{yaml_run_fault_t}
+use Rattle.yaml_round.specs.declared.yaml_run_fault_t.TheVariants.{Read, TooLong, Yaml, Write}
+use Rattle.yaml_cli_program.specs.declared.Task.{Task}
+use Rattle.yaml_cli_program.specs.declared.Side.{Side}
+use Rattle.yaml_cli_program.specs.declared.Side.TheVariants as side
+use Rattle.yaml_cli_program.specs.declared.Difference.{Difference}
+use Rattle.yaml_cli_program.specs.declared.Manner.{Manner}
+use Rattle.yaml_cli_program.specs.declared.Measure.{Measure}
+use Rattle.yaml_cli_program.specs.declared.Question.{Question}
+use Rattle.yaml_cli_program.specs.declared.Question.TheVariants as question
+use Rattle.yaml_round.specs.declared.yaml_side_t.{yaml_side_t}
+use Rattle.yaml_round.specs.declared.yaml_side_t.TheVariants as told
+use Rattle.yaml_round.specs.declared.yaml_difference_t.{yaml_difference_t}
+use Rattle.yaml_round.specs.Answers.{IsSame, IsReformatted}
+use Rattle.yaml_round.specs.Differences.{IsDiff}
+use Rattle.yaml_round.specs.Loaded.{IsDocumentsDiff}
+use Rattle.yaml_round.specs.Checking.{IsChecked}
+use Rattle.yaml_round.specs.Readable.{IsReadableAnswer}
+use Rattle.yaml_round.specs.Commands.{IsRunAnswer, run_layers}
+use Rattle.yaml_round.specs.Layers.{reformat_layers}
+use Rattle.yaml_round.specs.Run.{Bytes, Runs}
+
+-- What a run answers for a reader that is to give these bytes, and a writer that has received those, where they are told: what the
+-- command answers for at most a gibibyte, by the task's encoding and settings. What both are left with is said of the devices.
+abbrev pub IsRun : Task → Option (List ℕ) → Option (List ℕ)
+    → Result (Option yaml_form_t) yaml_run_fault_t → Type 0
+IsRun task to_come received result = (after : Bytes) × Runs
+    (record {
+      limit = 1073741824;
+      layers = run_layers task.command;
+      IsAnswer = IsRunAnswer task.command task.manner.from task.manner.settings;
+    })
+    (record { to_come = to_come; received = received }) after result
+
+abbrev pub side_told : Side → yaml_side_t
+side_told side.First = told.First
+side_told side.Second = told.Second
+
+-- whether two inputs have the same content, or the fault of one of them
+abbrev pub IsSameAnswer : yaml_encoding_t → List ℕ → List ℕ
+    → Result Bool (Side × yaml_run_fault_t) → Type 0
+IsSameAnswer from first second (Ok same) = IsSame from first from second (Ok same)
+IsSameAnswer from first second (Err (s, Yaml f)) = IsSame from first from second
+    (Err (side_told s, f))
+IsSameAnswer from first second (Err (s, Read)) = ⊥
+IsSameAnswer from first second (Err (s, TooLong)) = ⊥
+IsSameAnswer from first second (Err (s, Write written)) = ⊥
+
+-- it has the places and the kinds of events of that difference
+pub record TellsDifference (d : Difference) (x : yaml_difference_t) : Type 0 where
+  pub first_mark : d.first.mark ≡ x.first_mark
+  pub first_kind : d.first.kind ≡ x.first_type
+  pub second_mark : d.second.mark ≡ x.second_mark
+  pub second_kind : d.second.kind ≡ x.second_type
+
+abbrev pub IsPartedBy : (Result (Option yaml_difference_t) (yaml_side_t × yaml_fault_t) → Type 0)
+    → Result (Option Difference) (Side × yaml_fault_t) → Type 0
+IsPartedBy Is (Ok None) = Is (Ok None)
+IsPartedBy Is (Ok (Some d)) = (x : yaml_difference_t) × Is (Ok (Some x)) × TellsDifference d x
+IsPartedBy Is (Err (s, f)) = Is (Err (side_told s, f))
+
+-- how two inputs are compared: by their documents, or by their contents
+abbrev pub IsDifference : Bool → yaml_encoding_t → List ℕ → List ℕ
+    → Result (Option yaml_difference_t) (yaml_side_t × yaml_fault_t) → Type 0
+IsDifference true from first second r = IsDocumentsDiff from first from second r
+IsDifference false from first second r = IsDiff from first from second r
+
+-- where two inputs part, or the fault of one of them
+abbrev pub IsParted : Measure → List ℕ → List ℕ → Result (Option Difference) (Side × yaml_fault_t)
+    → Type 0
+IsParted by first second r = IsPartedBy (IsDifference by.documents by.from first second) r
+
+-- the answer to whether that is so
+abbrev pub Tells : Bool → Type 0 → Type 0
+Tells true A = A
+Tells false A = A → ⊥
+
+-- a file is as the question asks: it loads, or is the text that a rewriting of it would be
+abbrev pub IsJudgedBy : Question → Manner → List ℕ → Result Bool Fault → Type 0
+IsJudgedBy question.Loads m input (Ok b) = (b ≡ true) × IsChecked m.from input (Ok tt)
+IsJudgedBy question.Loads m input (Err f) = IsChecked m.from input (Err f)
+IsJudgedBy question.HasForm m input (Ok b) = (text : List ℕ) × (form : yaml_form_t)
+    × IsReformatted m.from m.settings input (Ok (text, form)) × Tells b (text ≡ input)
+IsJudgedBy question.HasForm m input (Err f) = IsReformatted m.from m.settings input (Err f)
+IsJudgedBy question.IsNormal m input (Ok b) = (text : List ℕ)
+    × IsReadableAnswer m.from m.settings input (Ok text) × Tells b (text ≡ input)
+IsJudgedBy question.IsNormal m input (Err f) = IsReadableAnswer m.from m.settings input (Err f)
+
+abbrev pub judge_layers : Question → List yaml_origin_t
+judge_layers question.Loads = load_layers
+judge_layers question.HasForm = reformat_layers
+judge_layers question.IsNormal = reformat_layers

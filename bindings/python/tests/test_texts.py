@@ -77,6 +77,7 @@ class Normalize(unittest.TestCase):
             self.assertEqual(yaml_c.normalize(text), wanted)
         self.assertNotEqual(yaml_c.normalize(b"a: 1"), yaml_c.normalize(b"a: '1'"))
         self.assertEqual(yaml_c.normalize(""), b"")
+        self.assertIs(yaml_c.norm, yaml_c.normalize)
         # its plain text would be nothing at all
         self.assertTrue(yaml_c.same(yaml_c.normalize("!"), "!"))
 

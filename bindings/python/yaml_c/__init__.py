@@ -80,8 +80,8 @@ __all__ = [
     "ManyDocuments", "MappingEnd", "MappingNode", "MappingStart", "Mark", "MemoryFault", "Node", "ParserFault",
     "ReaderFault", "Scalar", "ScalarNode", "ScalarStyle", "ScannerFault", "SequenceEnd", "SequenceNode", "SequenceStart",
     "Settings", "Step", "StreamEnd", "StreamStart", "Style", "Text", "ValueStep", "WriterFault", "YamlFault", "check",
-    "compose", "compose_all", "diff", "dump", "dump_all", "emit", "events", "load", "load_all", "normalize", "parse",
-    "reformat", "reformat_with_form", "reload", "same",
+    "compose", "compose_all", "diff", "dump", "dump_all", "emit", "events", "load", "load_all", "norm", "normalize",
+    "parse", "reformat", "reformat_with_form", "reload", "same",
 ]  # fmt: skip
 
 #: The version of the package, and of the repository that it stands in.
@@ -120,6 +120,10 @@ def normalize(text: Text, settings: Settings = _USUAL, *, encoding: Encoding = E
     b"a: 'b'\\nc:\\n- d\\n- e\\n"
     """
     return ask(_library.normalize, *input_of(text, encoding), record_of(settings))[0]
+
+
+# `normalize` by its command's name.
+norm = normalize
 
 
 def reload(text: Text, settings: Settings = _USUAL, *, encoding: Encoding = Encoding.ANY) -> bytes:

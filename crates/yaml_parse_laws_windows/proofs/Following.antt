@@ -143,7 +143,9 @@ through_parts (i ∷ is) js ds behind es h = by (settle i ds) refl h (λ z es k.
 
 -- ---- a list of tokens behind others
 
-items_numbered : (n : ℕ) (is : List RawEvent) → items_of (map (λ (i : RawEvent). (i, n)) is) ≡ is
+-- Items are the same without their numbers.
+pub items_numbered : (n : ℕ) (is : List RawEvent)
+    → items_of (map (λ (i : RawEvent). (i, n)) is) ≡ is
 items_numbered n [] = refl
 items_numbered n (i ∷ is) = ap (λ z. i ∷ z) (items_numbered n is)
 
@@ -151,7 +153,8 @@ items_joined : (n : ℕ) (is : List RawEvent) (gs : List Given)
     → items_of (map (λ (i : RawEvent). (i, n)) is ++ gs) ≡ is ++ items_of gs
 items_joined n is gs = map-append (λ (g : Given). g.0) (map (λ (i : RawEvent). (i, n)) is) gs ∙ ap (λ z. z ++ items_of gs) (items_numbered n is)
 
-run_step : (t : Token) (ts : List Token) (s : List State) (f : Option Fault)
+-- The first token is fed to the stack, and then the others are.
+pub run_step : (t : Token) (ts : List Token) (s : List State) (f : Option Fault)
     → run (t ∷ ts) s f ≡ carry (length ts) (feed s t) (λ z. run ts z f)
 unfolding run
 run_step t ts s f = refl
@@ -176,12 +179,6 @@ pub step_ending : (t : Token) (ts : List Token) (s z : List State) (f : Option F
     → feed s t ≡ go is z → (run (t ∷ ts) s f).ending ≡ (run ts z f).ending
 step_ending t ts s z f is e = ap (λ y. y.ending) (run_step t ts s f) ∙ carried_ending (length ts) (feed s t) is z (λ z. run ts z f) e
 
--- feeding tokens to a stack gives these items, and leads to that stack
-abbrev pub Reaches : List Token → List State → List RawEvent → List State → Type 0
-Reaches [] s is z = (is ≡ []) × (z ≡ s)
-Reaches (t ∷ ts) s is z = (js : List RawEvent) × (y : List State) × (ks : List RawEvent)
-    × (feed s t ≡ go js y) × Reaches ts y ks z × (is ≡ js ++ ks)
-
 -- what a stack is behind tokens that are taken
 pub record After (front : List Token) (s : List State) (ds : Directives) : Type 0 where
   pub items : List RawEvent
@@ -189,7 +186,6 @@ pub record After (front : List Token) (s : List State) (ds : Directives) : Type 
   pub noted : Directives
   pub events : List Event
   pub told : through items ds ≡ Some (events, noted)
-  pub reaches : Reaches front s items stack
   pub stands : Stands stack noted
   pub gives : (ts : List Token) (f : Option Fault) → items_of (run (front ++ ts) s f).items ≡ items ++ items_of (run ts stack f).items
   pub ends : (ts : List Token) (f : Option Fault) → (run (front ++ ts) s f).ending ≡ (run ts stack f).ending
@@ -239,7 +235,6 @@ after [] s ds g goes last es behind told none = record {
   noted = ds;
   events = [];
   told = refl;
-  reaches = (refl, refl);
   stands = g;
   gives = λ ts f. refl;
   ends = λ ts f. refl;
@@ -263,7 +258,6 @@ after (t ∷ front) s ds g goes last es behind told none = by (feed s t) refl (s
           noted = a.noted;
           events = fs ++ a.events;
           told = through_joined is a.items ds w a.noted fs a.events one a.told;
-          reaches = (is, z, a.items, e, a.reaches, refl);
           stands = a.stands;
           gives = λ ts f. step_items t (front ++ ts) s z f is e ∙ ap (λ y. is ++ y) (a.gives ts f) ∙ sym (append_assoc is a.items (items_of (run ts a.stack f).items));
           ends = λ ts f. step_ending t (front ++ ts) s z f is e ∙ a.ends ts f;
@@ -361,6 +355,7 @@ front_plain front m e f x is g =
     ∙ ap (with_front x.taken.events) (plain_through x.ended.left is g x.taken.noted no_directives x.events x.told)
     ∙ ap (λ (y : List Event). record { events = y; ending = (plain is g no_directives).ending }) (sym (append_assoc x.taken.events x.events (plain is g no_directives).events))
 
+-- The events of a front with its end.
 pub front_events : (front : List Token) (m e f : yaml_mark_t) → (x : Front front m e f)
     → events_in (parse_of (front ++ end_at m e ∷ []) None)
     ≡ (x.taken.events ++ x.events) ++ placed event.stream_end (event_at event.stream_end m e) ∷ []

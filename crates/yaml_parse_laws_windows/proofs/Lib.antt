@@ -1,4 +1,4 @@
-mod Grounding
+pub mod Grounding
 pub mod Noting
 pub mod Parting
 pub mod Following

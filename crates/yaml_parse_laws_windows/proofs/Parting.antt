@@ -117,6 +117,7 @@ left_parts x s m e f (inl (leaves, leaves_too)) stands (inl r) = inl record {
   clean = λ ds g. clean_behind (left_at x m) r.left ds (settle (left_at x m) ds) refl (λ z follows. r.clean z (stands ds g z follows));
 }
 
+-- A stack that stands ends at the stream's end, or refuses it.
 pub parts : (s : List State) (ds : Directives) → Stands s ds → (m e f : yaml_mark_t) → Parts s m e f
 unfolding feed
 parts [] ds g m e f = absurd g

@@ -1,3 +1,3 @@
 mod Machine
-mod Accepted
+mod Readings
 mod Joining

@@ -1,5 +1,5 @@
 -- The law of windows, for a parser.
-use Rattle.std.proofs.Common.{◌≡◌, ℕ, false, List, [], ◌∷◌, ◌++◌, map, length, Option, Some, None, refl, sym, ap, ◌∙◌, inl, inr}
+use Rattle.std.proofs.Common.{◌≡◌, ℕ, false, List, [], ◌∷◌, ◌++◌, map, length, Option, Some, None, refl, sym, ap, subst, ◌∙◌, inl, inr}
 use Rattle.std.proofs.lemmas.List.{append-nil, append_assoc, map-append, same_from_push}
 use Rattle.yaml_parse_grammar.specs.parse_model.declared.yaml_mark_t.{yaml_mark_t}
 use Rattle.yaml_parse_grammar.specs.parse_model.declared.yaml_encoding_t.{yaml_encoding_t}
@@ -15,9 +15,11 @@ use Rattle.yaml_parse_grammar.specs.Resolve.{Directives, no_directives, Settled,
 use Rattle.yaml_parse_grammar.specs.States.{State}
 use Rattle.yaml_parse_grammar.specs.States as state
 use Rattle.yaml_parse_grammar.specs.Machine.{Fed, stop, go, feed, Outcome, carry, run, initial}
-use Rattle.yaml_parse_laws_windows.specs.Laws.{parse_of, events_in, GoOn, WindowsAreParsed}
+use Rattle.yaml_parse_laws_windows.specs.Depths.{depth_behind}
+use Rattle.yaml_parse_laws_windows.specs.Laws.{parse_of, events_in, GoOn, WindowsAreParsed, BracketsAreClosed}
 use Rattle.yaml_parse_laws_windows.proofs.Grounding.{Stands}
 use Rattle.yaml_parse_laws_windows.proofs.Noting.{with_event, then_through, through, none_some, Fine, stands_feed}
+use Rattle.yaml_parse_laws_windows.proofs.Closing.{opened, IsLevel, feed_level}
 use Rattle.yaml_parse_laws_windows.proofs.Parting.{end_at, start_at, begun, Ended, parts}
 
 -- ---- items without numbers
@@ -187,6 +189,7 @@ pub record After (front : List Token) (s : List State) (ds : Directives) : Type 
   pub events : List Event
   pub told : through items ds ≡ Some (events, noted)
   pub stands : Stands stack noted
+  pub level : opened stack ≡ depth_behind front (opened s)
   pub gives : (ts : List Token) (f : Option Fault) → items_of (run (front ++ ts) s f).items ≡ items ++ items_of (run ts stack f).items
   pub ends : (ts : List Token) (f : Option Fault) → (run (front ++ ts) s f).ending ≡ (run ts stack f).ending
 
@@ -236,6 +239,7 @@ after [] s ds g goes last es behind told none = record {
   events = [];
   told = refl;
   stands = g;
+  level = refl;
   gives = λ ts f. refl;
   ends = λ ts f. refl;
 }
@@ -259,6 +263,7 @@ after (t ∷ front) s ds g goes last es behind told none = by (feed s t) refl (s
           events = fs ++ a.events;
           told = through_joined is a.items ds w a.noted fs a.events one a.told;
           stands = a.stands;
+          level = a.level ∙ ap (depth_behind front) (subst (λ y. IsLevel y t.body (opened s)) e (feed_level s ds g t));
           gives = λ ts f. step_items t (front ++ ts) s z f is e ∙ ap (λ y. is ++ y) (a.gives ts f) ∙ sym (append_assoc is a.items (items_of (run ts a.stack f).items));
           ends = λ ts f. step_ending t (front ++ ts) s z f is e ∙ a.ends ts f;
         }
@@ -438,3 +443,13 @@ windows_are_parsed front last goes ends none mark begins there first x starts be
       ap (λ t. (parse_of (front ++ t ∷ behind) own).ending) D ∙ ending
           ∙ sym (ap (λ t. (parse_of (first ∷ t ∷ behind) own).ending) D ∙ ap (λ t. (parse_of (t ∷ start_at m mark.end_mark ∷ behind) own).ending) S),
     )
+
+pub brackets_are_closed : BracketsAreClosed
+brackets_are_closed front last goes ends none =
+    let m = last.start_mark in
+    let e = last.end_mark in
+    let E = body_at last token.stream_end m ends refl in
+    let x = front_of front goes m e e (ap (λ t. (parse_of (front ++ t ∷ []) None).ending) (sym E) ∙ none) in
+    let s = x.taken.stack in
+    let over : opened [] ≡ opened s = subst (λ y. IsLevel y token.stream_end (opened s)) x.ended.ends (feed_level s x.taken.noted x.taken.stands (end_at m e)) in
+    sym x.taken.level ∙ sym over

@@ -1,4 +1,5 @@
 pub mod Grounding
 pub mod Noting
 pub mod Parting
+mod Closing
 pub mod Following

@@ -25,10 +25,12 @@ use Rattle.yaml_scan_laws_windows.proofs.Windows.{windows_are_scanned, at_cut}
 use Rattle.yaml_scan_laws_windows.proofs.OrderLaws.{stream_starts, stream_ends}
 use Rattle.yaml_parse_laws_windows.specs.Laws.{parse_of, GoOn}
 use Rattle.yaml_parse_laws_windows.specs.Laws as parse
-use Rattle.yaml_parse_laws_windows.proofs.Following.{items_of, Plain, plain, seen, parse_plain, step_items, front_of, front_events, windows_are_parsed, body_at}
+use Rattle.yaml_parse_laws_windows.specs.Depths.{depth_after, depth_behind}
+use Rattle.yaml_parse_laws_windows.proofs.Following.{items_of, Plain, plain, seen, parse_plain, step_items, front_of, front_events, windows_are_parsed, brackets_are_closed, body_at}
 use Rattle.yaml_parse_laws_windows.proofs.Parting.{end_at}
 use Rattle.yaml_round_laws_windows.specs.Moved.{moved_event, IsMovedEnd}
-use Rattle.yaml_round_laws_windows.specs.Laws.{tokens_in, reading_in, WindowsAreRead, WindowsAreAccepted}
+use Rattle.yaml_round_laws_windows.specs.Laws.{tokens_in, reading_in, IsAccepted, WindowsAreRead, WindowsAreAccepted}
+use Rattle.yaml_round_laws_windows.proofs.Depths.{behind_both, told_deep}
 use Rattle.yaml_round_laws_windows.proofs.Readings.{moved_tokens, IsMovedPlain, moved_as, refused_moved, ended_moved}
 
 -- ---- tokens that pass the adapter
@@ -104,6 +106,16 @@ go_on (t ∷ ts) h = (All-head IsInner t ts h, go_on ts (All-tail IsInner t ts h
 
 -- ---- the law
 
+-- a front that is accepted leaves no bracket open
+no_bracket : (x : yaml_encoding_t) (text : List ℕ) → IsAccepted x text → depth (all text) ≡ 0
+no_bracket x text g =
+    let p = passed x text g.scanned in
+    let (front, last, are, ends, others) = stream_ends (record { encoding = x; text = text }) p.none in
+    let closed = brackets_are_closed front last (go_on front others) ends
+    (ap (λ ts. (parse_of ts None).ending) (sym are) ∙ ap (λ (r : Reading). r.ending) (sym p.reads) ∙ g.parsed) in
+    sym (told_deep x text p.none) ∙ ap (λ ts. depth_behind ts 0) are ∙ behind_both front (last ∷ []) 0
+    ∙ ap (λ b. depth_after b (depth_behind front 0)) ends ∙ closed
+
 abbrev read_to : Remaining → Reading
 read_to r = parse_of r.tokens r.fault
 
@@ -174,12 +186,12 @@ handed x a b at begins outer none spell front last are =
     }
 
 pub windows_are_read : WindowsAreRead
-windows_are_read x a b at begins outer ga before end came start later come =
+windows_are_read x a b at begins ga before end came start later come =
     let d = length a in
     let n = line_at a (length a) in
     let pa = passed x a ga.scanned in
     let (front, last, are, ends, others) = stream_ends (record { encoding = x; text = a }) pa.none in
-    let h = handed x a b at begins outer pa.none pa.spell front last are in
+    let h = handed x a b at begins (no_bracket x a ga) pa.none pa.spell front last are in
     let mark = moved_token d n h.mark in
     let first = moved_token d n h.first in
     let behind = moved_remaining d n h.behind in
@@ -222,7 +234,7 @@ started x m e ts own =
     )
 
 pub windows_are_accepted : WindowsAreAccepted
-windows_are_accepted x a b at begins outer ga gb =
+windows_are_accepted x a b at begins ga gb =
     let pa = passed x a ga.scanned in
     let (front, last, are, ends, others) = stream_ends (record { encoding = x; text = a }) pa.none in
     let m = last.start_mark in
@@ -232,10 +244,10 @@ windows_are_accepted x a b at begins outer ga gb =
     let before = f.taken.events ++ f.events in
     let final : Event = placed event.stream_end (event_at event.stream_end m e) in
     let came : parse.events_in (reading_in x a) ≡ before ++ final ∷ [] = ap parse.events_in pa.reads ∙ ap (λ ts. parse.events_in (parse_of ts None)) list ∙ front_events front m e e f in
-    let h = handed x a b at begins outer pa.none pa.spell front last are in
+    let h = handed x a b at begins (no_bracket x a ga) pa.none pa.spell front last are in
     let (start, later, come) = started x h.first.start_mark h.first.end_mark (h.mark ∷ h.behind.tokens) h.behind.fault in
     let rest = ap read_to h.rest ∙ ap (λ t. parse_of (t ∷ h.mark ∷ h.behind.tokens) h.behind.fault) (body_at h.first (stream_start x) h.first.start_mark h.starts refl) in
-    let (fault, events, ending) = windows_are_read x a b at begins outer ga before final came start later (ap parse.events_in rest ∙ come) in
+    let (fault, events, ending) = windows_are_read x a b at begins ga before final came start later (ap parse.events_in rest ∙ come) in
     record {
       scanned = fault ∙ ap (option_map (moved_fault (length a) (line_at a (length a)))) gb.scanned;
       parsed = none_moved (length a) (line_at a (length a)) _ _ ending gb.parsed;

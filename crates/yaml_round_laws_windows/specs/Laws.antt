@@ -2,7 +2,6 @@
 use Rattle.std.specs.Prelude.{◌≡◌, ℕ, true, List, [], ◌∷◌, ◌++◌, map, length, None, option_map}
 use Rattle.yaml_round_content.specs.scan_model.declared.yaml_encoding_t.{yaml_encoding_t}
 use Rattle.yaml_round_content.specs.scan_model.Marks.{line_at}
-use Rattle.yaml_round_content.specs.scan_history.History.{depth}
 use Rattle.yaml_round_content.specs.scan_history.Remaining as scan
 use Rattle.yaml_round_content.specs.scan_history.scan_words.Indicators.{is_document_start}
 use Rattle.yaml_round_content.specs.parse_model.Events.{Event}
@@ -31,13 +30,12 @@ pub record IsAccepted (encoding : yaml_encoding_t) (text : List ℕ) : Type 0 wh
   pub scanned : (tokens_in encoding text).fault ≡ None
   pub parsed : (reading_in encoding text).ending ≡ None
 
--- Where a text is cut in front of a line `---`, and its front is accepted and leaves no bracket open, the events are those of the
--- front without STREAM-END, and then those of the rest without STREAM-START, moved by the front's bytes and lines. The whole ends
--- as the rest does: it is accepted, or has the rest's fault, moved.
+-- Where a text is cut in front of a line `---`, and its front is accepted, the events are those of the front without STREAM-END,
+-- and then those of the rest without STREAM-START, moved by the front's bytes and lines. The whole ends as the rest does: it is
+-- accepted, or has the rest's fault, moved.
 abbrev pub WindowsAreRead : Type 0
 WindowsAreRead = (encoding : yaml_encoding_t) (front rest : List ℕ) → IsCut front rest
-    → is_document_start rest 0 ≡ true → depth (scan.all front) ≡ 0
-    → IsAccepted encoding front
+    → is_document_start rest 0 ≡ true → IsAccepted encoding front
     → (before : List Event) (end : Event) → events_in encoding front ≡ before ++ end ∷ []
     → (start : Event) (later : List Event) → events_in encoding rest ≡ start ∷ later
     → let d = length front in let n = line_at front (length front) in
@@ -49,5 +47,5 @@ WindowsAreRead = (encoding : yaml_encoding_t) (front rest : List ℕ) → IsCut 
 -- So the whole is accepted where both parts are.
 abbrev pub WindowsAreAccepted : Type 0
 WindowsAreAccepted = (encoding : yaml_encoding_t) (front rest : List ℕ) → IsCut front rest
-    → is_document_start rest 0 ≡ true → depth (scan.all front) ≡ 0
+    → is_document_start rest 0 ≡ true
     → IsAccepted encoding front → IsAccepted encoding rest → IsAccepted encoding (front ++ rest)

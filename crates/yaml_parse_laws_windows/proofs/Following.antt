@@ -1,5 +1,5 @@
 -- The law of windows, for a parser.
-use Rattle.std.proofs.Common.{◌≡◌, ℕ, false, List, [], ◌∷◌, ◌++◌, map, length, Option, Some, None, refl, sym, ap, ◌∙◌, inl, inr}
+use Rattle.std.proofs.Common.{◌≡◌, ℕ, false, List, [], ◌∷◌, ◌++◌, map, length, Option, Some, None, refl, sym, ap, subst, ◌∙◌, inl, inr}
 use Rattle.std.proofs.lemmas.List.{append-nil, append_assoc, map-append, same_from_push}
 use Rattle.yaml_parse_grammar.specs.parse_model.declared.yaml_mark_t.{yaml_mark_t}
 use Rattle.yaml_parse_grammar.specs.parse_model.declared.yaml_encoding_t.{yaml_encoding_t}
@@ -15,9 +15,11 @@ use Rattle.yaml_parse_grammar.specs.Resolve.{Directives, no_directives, Settled,
 use Rattle.yaml_parse_grammar.specs.States.{State}
 use Rattle.yaml_parse_grammar.specs.States as state
 use Rattle.yaml_parse_grammar.specs.Machine.{Fed, stop, go, feed, Outcome, carry, run, initial}
-use Rattle.yaml_parse_laws_windows.specs.Laws.{parse_of, events_in, GoOn, WindowsAreParsed}
+use Rattle.yaml_parse_laws_windows.specs.Depths.{depth_behind}
+use Rattle.yaml_parse_laws_windows.specs.Laws.{parse_of, events_in, GoOn, WindowsAreParsed, BracketsAreClosed}
 use Rattle.yaml_parse_laws_windows.proofs.Grounding.{Stands}
 use Rattle.yaml_parse_laws_windows.proofs.Noting.{with_event, then_through, through, none_some, Fine, stands_feed}
+use Rattle.yaml_parse_laws_windows.proofs.Closing.{opened, IsLevel, feed_level}
 use Rattle.yaml_parse_laws_windows.proofs.Parting.{end_at, start_at, begun, Ended, parts}
 
 -- ---- items without numbers
@@ -143,7 +145,9 @@ through_parts (i ∷ is) js ds behind es h = by (settle i ds) refl h (λ z es k.
 
 -- ---- a list of tokens behind others
 
-items_numbered : (n : ℕ) (is : List RawEvent) → items_of (map (λ (i : RawEvent). (i, n)) is) ≡ is
+-- Items are the same without their numbers.
+pub items_numbered : (n : ℕ) (is : List RawEvent)
+    → items_of (map (λ (i : RawEvent). (i, n)) is) ≡ is
 items_numbered n [] = refl
 items_numbered n (i ∷ is) = ap (λ z. i ∷ z) (items_numbered n is)
 
@@ -151,7 +155,8 @@ items_joined : (n : ℕ) (is : List RawEvent) (gs : List Given)
     → items_of (map (λ (i : RawEvent). (i, n)) is ++ gs) ≡ is ++ items_of gs
 items_joined n is gs = map-append (λ (g : Given). g.0) (map (λ (i : RawEvent). (i, n)) is) gs ∙ ap (λ z. z ++ items_of gs) (items_numbered n is)
 
-run_step : (t : Token) (ts : List Token) (s : List State) (f : Option Fault)
+-- The first token is fed to the stack, and then the others are.
+pub run_step : (t : Token) (ts : List Token) (s : List State) (f : Option Fault)
     → run (t ∷ ts) s f ≡ carry (length ts) (feed s t) (λ z. run ts z f)
 unfolding run
 run_step t ts s f = refl
@@ -176,12 +181,6 @@ pub step_ending : (t : Token) (ts : List Token) (s z : List State) (f : Option F
     → feed s t ≡ go is z → (run (t ∷ ts) s f).ending ≡ (run ts z f).ending
 step_ending t ts s z f is e = ap (λ y. y.ending) (run_step t ts s f) ∙ carried_ending (length ts) (feed s t) is z (λ z. run ts z f) e
 
--- feeding tokens to a stack gives these items, and leads to that stack
-abbrev pub Reaches : List Token → List State → List RawEvent → List State → Type 0
-Reaches [] s is z = (is ≡ []) × (z ≡ s)
-Reaches (t ∷ ts) s is z = (js : List RawEvent) × (y : List State) × (ks : List RawEvent)
-    × (feed s t ≡ go js y) × Reaches ts y ks z × (is ≡ js ++ ks)
-
 -- what a stack is behind tokens that are taken
 pub record After (front : List Token) (s : List State) (ds : Directives) : Type 0 where
   pub items : List RawEvent
@@ -189,8 +188,8 @@ pub record After (front : List Token) (s : List State) (ds : Directives) : Type 
   pub noted : Directives
   pub events : List Event
   pub told : through items ds ≡ Some (events, noted)
-  pub reaches : Reaches front s items stack
   pub stands : Stands stack noted
+  pub level : opened stack ≡ depth_behind front (opened s)
   pub gives : (ts : List Token) (f : Option Fault) → items_of (run (front ++ ts) s f).items ≡ items ++ items_of (run ts stack f).items
   pub ends : (ts : List Token) (f : Option Fault) → (run (front ++ ts) s f).ending ≡ (run ts stack f).ending
 
@@ -239,8 +238,8 @@ after [] s ds g goes last es behind told none = record {
   noted = ds;
   events = [];
   told = refl;
-  reaches = (refl, refl);
   stands = g;
+  level = refl;
   gives = λ ts f. refl;
   ends = λ ts f. refl;
 }
@@ -263,8 +262,8 @@ after (t ∷ front) s ds g goes last es behind told none = by (feed s t) refl (s
           noted = a.noted;
           events = fs ++ a.events;
           told = through_joined is a.items ds w a.noted fs a.events one a.told;
-          reaches = (is, z, a.items, e, a.reaches, refl);
           stands = a.stands;
+          level = a.level ∙ ap (depth_behind front) (subst (λ y. IsLevel y t.body (opened s)) e (feed_level s ds g t));
           gives = λ ts f. step_items t (front ++ ts) s z f is e ∙ ap (λ y. is ++ y) (a.gives ts f) ∙ sym (append_assoc is a.items (items_of (run ts a.stack f).items));
           ends = λ ts f. step_ending t (front ++ ts) s z f is e ∙ a.ends ts f;
         }
@@ -361,6 +360,7 @@ front_plain front m e f x is g =
     ∙ ap (with_front x.taken.events) (plain_through x.ended.left is g x.taken.noted no_directives x.events x.told)
     ∙ ap (λ (y : List Event). record { events = y; ending = (plain is g no_directives).ending }) (sym (append_assoc x.taken.events x.events (plain is g no_directives).events))
 
+-- The events of a front with its end.
 pub front_events : (front : List Token) (m e f : yaml_mark_t) → (x : Front front m e f)
     → events_in (parse_of (front ++ end_at m e ∷ []) None)
     ≡ (x.taken.events ++ x.events) ++ placed event.stream_end (event_at event.stream_end m e) ∷ []
@@ -443,3 +443,13 @@ windows_are_parsed front last goes ends none mark begins there first x starts be
       ap (λ t. (parse_of (front ++ t ∷ behind) own).ending) D ∙ ending
           ∙ sym (ap (λ t. (parse_of (first ∷ t ∷ behind) own).ending) D ∙ ap (λ t. (parse_of (t ∷ start_at m mark.end_mark ∷ behind) own).ending) S),
     )
+
+pub brackets_are_closed : BracketsAreClosed
+brackets_are_closed front last goes ends none =
+    let m = last.start_mark in
+    let e = last.end_mark in
+    let E = body_at last token.stream_end m ends refl in
+    let x = front_of front goes m e e (ap (λ t. (parse_of (front ++ t ∷ []) None).ending) (sym E) ∙ none) in
+    let s = x.taken.stack in
+    let over : opened [] ≡ opened s = subst (λ y. IsLevel y token.stream_end (opened s)) x.ended.ends (feed_level s x.taken.noted x.taken.stands (end_at m e)) in
+    sym x.taken.level ∙ sym over

@@ -15,7 +15,7 @@ use Rattle.yaml_parse_grammar.specs.declared.Choice.{Choice}
 use Rattle.yaml_parse_grammar.specs.declared.ParseProblem.TheVariants as problem
 use Rattle.yaml_parse_grammar.specs.Items.{Properties}
 use Rattle.yaml_parse_grammar.specs.Resolve.{Directives, no_directives}
-use Rattle.yaml_parse_grammar.specs.States.{State, Taken}
+use Rattle.yaml_parse_grammar.specs.States.{State}
 use Rattle.yaml_parse_grammar.specs.States as state
 use Rattle.yaml_parse_grammar.specs.Machine.{starts_content, starts_node, follows, joins, no_node, no_end, choice_at, content_taken, node_taken, with_properties_taken, lone_below, items_taken, more_taken, entries_taken, pairs_taken, taken_at, wants_of}
 

@@ -1,4 +1,5 @@
-mod Grounding
+pub mod Grounding
 pub mod Noting
 pub mod Parting
+mod Closing
 pub mod Following

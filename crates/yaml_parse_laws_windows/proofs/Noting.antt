@@ -14,7 +14,7 @@ use Rattle.yaml_parse_grammar.specs.declared.ParseProblem.TheVariants as problem
 use Rattle.yaml_parse_grammar.specs.Items.{RawEvent, item_at}
 use Rattle.yaml_parse_grammar.specs.Items as item
 use Rattle.yaml_parse_grammar.specs.Resolve.{Directives, no_directives, Settled, refused, gave, noted, settle, placed}
-use Rattle.yaml_parse_grammar.specs.States.{State, Taken}
+use Rattle.yaml_parse_grammar.specs.States.{State}
 use Rattle.yaml_parse_grammar.specs.States as state
 use Rattle.yaml_parse_grammar.specs.Machine.{starts_node, parts_documents, wants_of, choice_at, documents_taken, taken_at, left_at, Fed, stop, go, with_item, given_by, turn, feed}
 use Rattle.yaml_parse_laws_windows.proofs.Grounding.{Within, Stands, inner, inner_on, taken_inner, node_inner, not_open}

@@ -4,7 +4,7 @@ use Rattle.yaml_parse_grammar.specs.parse_model.declared.yaml_mark_t.{yaml_mark_
 use Rattle.yaml_parse_grammar.specs.parse_model.declared.yaml_token_type_t.TheVariants as kind
 use Rattle.yaml_parse_grammar.specs.parse_model.Tokens.{Token}
 use Rattle.yaml_parse_grammar.specs.parse_model.Tokens as token
-use Rattle.yaml_parse_grammar.specs.parse_model.Events.{Event, EventBody}
+use Rattle.yaml_parse_grammar.specs.parse_model.Events.{Event}
 use Rattle.yaml_parse_grammar.specs.parse_model.Events as event
 use Rattle.yaml_parse_grammar.specs.parse_model.Faults.{Fault}
 use Rattle.yaml_parse_grammar.specs.declared.Brackets.TheVariants as brackets
@@ -17,7 +17,7 @@ use Rattle.yaml_parse_grammar.specs.Items.{RawEvent, item_at}
 use Rattle.yaml_parse_grammar.specs.Items as item
 use Rattle.yaml_parse_grammar.specs.Trees.{event_at}
 use Rattle.yaml_parse_grammar.specs.Resolve.{Directives, no_directives, Settled, refused, gave, noted, settle, placed}
-use Rattle.yaml_parse_grammar.specs.States.{State, Taken}
+use Rattle.yaml_parse_grammar.specs.States.{State}
 use Rattle.yaml_parse_grammar.specs.States as state
 use Rattle.yaml_parse_grammar.specs.Machine.{choice_at, left_at, stop, go, with_item, turn, feed}
 use Rattle.yaml_parse_laws_windows.proofs.Grounding.{Stands}
@@ -117,6 +117,7 @@ left_parts x s m e f (inl (leaves, leaves_too)) stands (inl r) = inl record {
   clean = λ ds g. clean_behind (left_at x m) r.left ds (settle (left_at x m) ds) refl (λ z follows. r.clean z (stands ds g z follows));
 }
 
+-- A stack that stands ends at the stream's end, or refuses it.
 pub parts : (s : List State) (ds : Directives) → Stands s ds → (m e f : yaml_mark_t) → Parts s m e f
 unfolding feed
 parts [] ds g m e f = absurd g

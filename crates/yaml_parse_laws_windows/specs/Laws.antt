@@ -7,6 +7,7 @@ use Rattle.yaml_parse_grammar.specs.parse_model.Events.{Event}
 use Rattle.yaml_parse_grammar.specs.Machine.{run, initial}
 use Rattle.yaml_parse_grammar.specs.Resolve.{Reading, Told, no_directives}
 use Rattle.yaml_parse_grammar.specs.Remaining.{reading_of}
+use Rattle.yaml_parse_laws_windows.specs.Depths.{depth_behind}
 
 -- what a parser reads of tokens, and of the fault behind them
 abbrev pub parse_of : List Token → Option Fault → Reading
@@ -35,3 +36,9 @@ WindowsAreParsed = (front : List Token) (last : Token) → GoOn front → last.b
     → (events_in (parse_of (front ++ mark ∷ behind) own) ≡ before ++ later)
     × ((parse_of (front ++ mark ∷ behind) own).ending ≡ (parse_of
     (first ∷ mark ∷ behind) own).ending)
+
+-- Tokens that end in STREAM-END and are accepted leave no bracket open.
+abbrev pub BracketsAreClosed : Type 0
+BracketsAreClosed = (front : List Token) (last : Token) → GoOn front → last.body ≡ stream_end
+    → (parse_of (front ++ last ∷ []) None).ending ≡ None
+    → depth_behind front 0 ≡ 0

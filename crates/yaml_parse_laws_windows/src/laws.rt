@@ -1,9 +1,14 @@
 //! Each function's contract is a law.
 
-ghost use Rattle.yaml_parse_laws_windows.specs.Laws.{WindowsAreParsed};
+ghost use Rattle.yaml_parse_laws_windows.specs.Laws.{WindowsAreParsed, BracketsAreClosed};
 
 /// The events of tokens that go on with a document's start where others end are those of these others, without the stream's end,
 /// and then those of what comes behind, without the stream's start.
 pub fn windows_are_parsed()
     ensures { WindowsAreParsed }
+{}
+
+/// Tokens that are accepted leave no bracket open.
+pub fn brackets_are_closed()
+    ensures { BracketsAreClosed }
 {}

@@ -4,26 +4,34 @@ use Rattle.std.proofs.lemmas.Bool.{cases_Bool}
 use Rattle.std.proofs.lemmas.List.Elements.{All-head, All-tail}
 use Rattle.std.specs.Prelude.{All}
 use Rattle.yaml_round_content.specs.scan_model.declared.yaml_encoding_t.{yaml_encoding_t}
+use Rattle.yaml_round_content.specs.scan_model.declared.yaml_mark_t.{yaml_mark_t}
 use Rattle.yaml_round_content.specs.scan_model.Faults.{Fault}
 use Rattle.yaml_round_content.specs.scan_model.Marks.{line_at}
-use Rattle.yaml_round_content.specs.scan_model.Tokens.{Token, stream_start, stream_end, zero_mark}
+use Rattle.yaml_round_content.specs.scan_model.Tokens.{Token, stream_start, stream_end, document_start, zero_mark}
 use Rattle.yaml_round_content.specs.scan_history.Remaining.{Remaining, all}
 use Rattle.yaml_round_content.specs.scan_history.History.{depth}
 use Rattle.yaml_round_content.specs.scan_history.scan_words.Indicators.{is_document_start}
-use Rattle.yaml_round_content.specs.parse_grammar.Resolve.{Reading}
+use Rattle.yaml_round_content.specs.parse_grammar.Trees.{event_at}
+use Rattle.yaml_round_content.specs.parse_grammar.States as state
+use Rattle.yaml_round_content.specs.parse_grammar.Machine.{feed, run, initial}
+use Rattle.yaml_round_content.specs.parse_grammar.Resolve.{Reading, no_directives, placed}
 use Rattle.yaml_scan_laws_windows.specs.Cuts.{IsCut}
 use Rattle.yaml_round_content.specs.parse_model.Events.{Event}
+use Rattle.yaml_round_content.specs.parse_model.Events as event
 use Rattle.yaml_round_content.specs.round_laws_adapted.Adapted.{spells_text, with_token, cut}
 use Rattle.yaml_scan_laws_windows.specs.Laws.{scan_of}
-use Rattle.yaml_scan_laws_windows.specs.Moved.{moved_token, moved_fault}
+use Rattle.yaml_scan_laws_windows.specs.Moved.{moved_mark, moved_token, moved_fault}
 use Rattle.yaml_scan_laws_windows.proofs.Windows.{windows_are_scanned, at_cut}
 use Rattle.yaml_scan_laws_windows.proofs.OrderLaws.{stream_starts, stream_ends}
 use Rattle.yaml_parse_laws_windows.specs.Laws.{parse_of, GoOn}
 use Rattle.yaml_parse_laws_windows.specs.Laws as parse
-use Rattle.yaml_parse_laws_windows.proofs.Following.{windows_are_parsed, body_at}
-use Rattle.yaml_round_laws_windows.specs.Moved.{moved_event}
-use Rattle.yaml_round_laws_windows.specs.Laws.{tokens_in, reading_in, WindowsAreRead}
-use Rattle.yaml_round_laws_windows.proofs.Accepted.{accepted_moved}
+use Rattle.yaml_parse_laws_windows.specs.Depths.{depth_after, depth_behind}
+use Rattle.yaml_parse_laws_windows.proofs.Following.{items_of, Plain, plain, seen, parse_plain, step_items, front_of, front_events, windows_are_parsed, brackets_are_closed, body_at}
+use Rattle.yaml_parse_laws_windows.proofs.Parting.{end_at}
+use Rattle.yaml_round_laws_windows.specs.Moved.{moved_event, IsMovedEnd}
+use Rattle.yaml_round_laws_windows.specs.Laws.{tokens_in, reading_in, IsAccepted, WindowsAreRead, WindowsAreAccepted}
+use Rattle.yaml_round_laws_windows.proofs.Depths.{behind_both, told_deep}
+use Rattle.yaml_round_laws_windows.proofs.Readings.{moved_tokens, IsMovedPlain, moved_as, refused_moved, ended_moved}
 
 -- ---- tokens that pass the adapter
 
@@ -48,17 +56,30 @@ cut_same : (f : Option Fault) (ts : List Token) → AllSpell ts → cut f ts
 cut_same f [] h = refl
 cut_same f (t ∷ ts) h = rw (h.0) (ap (with_token t) (cut_same f ts h.1))
 
-spell_append : (xs ys : List Token) → AllSpell xs → AllSpell ys → AllSpell (xs ++ ys)
-spell_append [] ys h k = k
-spell_append (x ∷ xs) ys h k = (h.0, spell_append xs ys h.1 k)
-
 spell_left : (xs ys : List Token) → AllSpell (xs ++ ys) → AllSpell xs
 spell_left [] ys h = tt
 spell_left (x ∷ xs) ys h = (h.0, spell_left xs ys h.1)
 
-spell_moved : (d n : ℕ) (ts : List Token) → AllSpell ts → AllSpell (map (moved_token d n) ts)
-spell_moved d n [] h = tt
-spell_moved d n (t ∷ ts) h = (h.0, spell_moved d n ts h.1)
+abbrev behind_tokens : List Token → Remaining → Remaining
+behind_tokens ts r = record { tokens = ts ++ r.tokens; fault = r.fault }
+
+cut_behind : (f : Option Fault) (xs ts : List Token) → AllSpell xs
+    → cut f (xs ++ ts) ≡ behind_tokens xs (cut f ts)
+cut_behind f [] ts h = refl
+cut_behind f (x ∷ xs) ts h = rw (h.0) (ap (with_token x) (cut_behind f xs ts h.1))
+
+abbrev moved_remaining : ℕ → ℕ → Remaining → Remaining
+moved_remaining d n r = record { tokens = moved_tokens d n r.tokens; fault = option_map (moved_fault d n) r.fault }
+
+-- the adapter does to moved tokens what it does to the tokens, moved
+cut_moved : (d n : ℕ) (f : Option Fault) (ts : List Token)
+    → cut (option_map (moved_fault d n) f) (moved_tokens d n ts) ≡ moved_remaining d n (cut f ts)
+cut_moved d n f [] = refl
+cut_moved d n f (t ∷ ts) =
+    elim (cases_Bool (spells_text t.body)) [
+      | inl e ↦ rw e (ap (with_token (moved_token d n t)) (cut_moved d n f ts))
+      | inr e ↦ rw e refl
+    ]
 
 -- a text that is accepted has its own tokens, and no fault
 record Passed (x : yaml_encoding_t) (text : List ℕ) : Type 0 where
@@ -85,65 +106,149 @@ go_on (t ∷ ts) h = (All-head IsInner t ts h, go_on ts (All-tail IsInner t ts h
 
 -- ---- the law
 
--- accepted tokens that end a stream, moved
-moved_all : (d n : ℕ) (x : yaml_encoding_t) (text : List ℕ) → (scan_of x text).fault ≡ None
-    → (parse_of (scan_of x text).tokens None).ending ≡ None
-    → let ts = (scan_of x text).tokens in
-    (parse.events_in (parse_of (map (moved_token d n) ts) None) ≡ map (moved_event d n) (parse.events_in (parse_of ts None)))
-    × ((parse_of (map (moved_token d n) ts) None).ending ≡ None)
-moved_all d n x text none accepted =
-    let (front, last, are, end, others) = stream_ends (record { encoding = x; text = text }) none in
-    let list = are ∙ ap (λ t. front ++ t ∷ []) (body_at last stream_end last.start_mark end refl) in
-    subst (λ ts. (parse.events_in (parse_of (map (moved_token d n) ts) None) ≡ map (moved_event d n) (parse.events_in (parse_of ts None))) × ((parse_of (map (moved_token d n) ts) None).ending ≡ None)) (sym list)
-    (accepted_moved d n front (go_on front others) last.start_mark last.end_mark (ap (λ ts. (parse_of ts None).ending) (sym list) ∙ accepted))
+-- a front that is accepted leaves no bracket open
+no_bracket : (x : yaml_encoding_t) (text : List ℕ) → IsAccepted x text → depth (all text) ≡ 0
+no_bracket x text g =
+    let p = passed x text g.scanned in
+    let (front, last, are, ends, others) = stream_ends (record { encoding = x; text = text }) p.none in
+    let closed = brackets_are_closed front last (go_on front others) ends
+    (ap (λ ts. (parse_of ts None).ending) (sym are) ∙ ap (λ (r : Reading). r.ending) (sym p.reads) ∙ g.parsed) in
+    sym (told_deep x text p.none) ∙ ap (λ ts. depth_behind ts 0) are ∙ behind_both front (last ∷ []) 0
+    ∙ ap (λ b. depth_after b (depth_behind front 0)) ends ∙ closed
 
-joins : (x : yaml_encoding_t) (a b : List ℕ) → IsCut a b → is_document_start b 0 ≡ true
+abbrev read_to : Remaining → Reading
+read_to r = parse_of r.tokens r.fault
+
+-- what is read of a text's tokens, where they are moved
+reading_moved : (d n : ℕ) (x : yaml_encoding_t) (text : List ℕ)
+    → IsMovedPlain d n (seen (read_to (tokens_in x text))) (seen (read_to (moved_remaining d n (tokens_in x text))))
+reading_moved d n x text = by (tokens_in x text).fault refl
+  where
+    by : (o : Option Fault) → (tokens_in x text).fault ≡ o
+        → let ts = (tokens_in x text).tokens in
+        IsMovedPlain d n (seen (parse_of ts o)) (seen (parse_of (moved_tokens d n ts) (option_map (moved_fault d n) o)))
+    by (Some f) e =
+        let ts = (tokens_in x text).tokens in
+        moved_as d n _ _ _ _ (parse_plain ts (Some f)) (parse_plain (moved_tokens d n ts) (Some (moved_fault d n f))) (refused_moved d n ts initial no_directives f)
+    by None e =
+        let c = scan_of x text in
+        let (spell, none) = cut_whole c.fault c.tokens e in
+        let (front, last, are, end, others) = stream_ends (record { encoding = x; text = text }) none in
+        let list : (tokens_in x text).tokens ≡ front ++ end_at last.start_mark last.end_mark ∷ [] =
+        ap (λ (r : Remaining). r.tokens) (cut_same c.fault c.tokens spell) ∙ are ∙ ap (λ t. front ++ t ∷ []) (body_at last stream_end last.start_mark end refl) in
+        let ts = front ++ end_at last.start_mark last.end_mark ∷ [] in
+        subst (λ (z : List Token). IsMovedPlain d n (seen (parse_of z None)) (seen (parse_of (moved_tokens d n z) None))) (sym list)
+        (moved_as d n _ _ _ _ (parse_plain ts None) (parse_plain (moved_tokens d n ts) None)
+        (ended_moved d n front initial no_directives (refl, refl) (go_on front others) last.start_mark last.end_mark))
+
+cut_marked : (f : Option Fault) (t : Token) (ts : List Token) → t.body ≡ document_start
+    → cut f (t ∷ ts) ≡ with_token t (cut f ts)
+cut_marked f t ts e = rw e refl
+
+-- what the adapter hands on of the whole and of the rest
+record Handed (x : yaml_encoding_t) (a b : List ℕ) (front : List Token) (last : Token) : Type 0 where
+  pub mark : Token
+  pub begins : mark.body ≡ document_start
+  pub there : moved_mark (length a) (line_at a (length a)) mark.start_mark ≡ last.start_mark
+  pub first : Token
+  pub starts : first.body ≡ stream_start x
+  pub behind : Remaining
+  pub rest : tokens_in x b ≡ with_token first (with_token mark behind)
+  pub whole : tokens_in x (a ++ b)
+      ≡ behind_tokens front (moved_remaining (length a) (line_at a (length a)) (with_token mark behind))
+
+handed : (x : yaml_encoding_t) (a b : List ℕ) → IsCut a b → is_document_start b 0 ≡ true
     → depth (all a) ≡ 0
-    → Passed x a → Passed x b → (parse_of (scan_of x a).tokens None).ending ≡ None
-    → (parse_of (scan_of x b).tokens None).ending ≡ None
-    → (before : List Event) (end : Event) → parse.events_in (parse_of (scan_of x a).tokens None) ≡ before ++ end ∷ []
-    → (start : Event) (later : List Event) → parse.events_in (parse_of (scan_of x b).tokens None) ≡ start ∷ later
-    → let d = length a in let n = line_at a (length a) in
-    ((scan_of x (a ++ b)).fault ≡ None) × AllSpell (scan_of x (a ++ b)).tokens
-    × (parse.events_in (parse_of (scan_of x (a ++ b)).tokens None) ≡ before ++ map (moved_event d n) later)
-    × ((parse_of (scan_of x (a ++ b)).tokens None).ending ≡ None)
-joins x a b cut begins outer pa pb okay fine before end came start later come =
+    → (scan_of x a).fault ≡ None → AllSpell (scan_of x a).tokens
+    → (front : List Token) (last : Token) → (scan_of x a).tokens ≡ front ++ last ∷ []
+    → Handed x a b front last
+handed x a b at begins outer none spell front last are =
     let d = length a in
     let n = line_at a (length a) in
-    let f = moved_token d n in
+    let c = scan_of x b in
+    let own = option_map (moved_fault d n) c.fault in
     let first : Token = record { body = stream_start x; start_mark = zero_mark; end_mark = zero_mark } in
-    let (front, last, are, ends, others) = stream_ends (record { encoding = x; text = a }) pa.none in
     let (behind, starts) = stream_starts (record { encoding = x; text = b }) in
-    let at = at_cut x a b cut begins pa.none outer front last are first behind starts in
-    let whole = windows_are_scanned x a b cut pa.none outer front last are first behind starts in
-    let tokens : (scan_of x (a ++ b)).tokens ≡ front ++ map f behind = ap (λ (y : Remaining). y.tokens) whole in
-    let fault : (scan_of x (a ++ b)).fault ≡ None = ap (λ (y : Remaining). y.fault) whole ∙ ap (option_map (moved_fault d n)) pb.none in
-    let spell_b = subst AllSpell starts pb.spell in
-    let spell_w = subst AllSpell (sym tokens) (spell_append front (map f behind) (spell_left front (last ∷ []) (subst AllSpell are pa.spell)) (spell_moved d n behind spell_b.1)) in
-    let (events, ending) = moved_all d n x b pb.none fine in
-    let list : map f (scan_of x b).tokens ≡ f first ∷ f at.mark ∷ map f at.rest = ap (map f) (starts ∙ ap (λ z. first ∷ z) at.are) in
-    let come_there : parse.events_in (parse_of (f first ∷ f at.mark ∷ map f at.rest) None) ≡ moved_event d n start ∷ map (moved_event d n) later =
-    ap (λ ts. parse.events_in (parse_of ts None)) (sym list) ∙ events ∙ ap (map (moved_event d n)) come in
-    let (read, over) = windows_are_parsed front last (go_on front others) ends (ap (λ ts. (parse_of ts None).ending) (sym are) ∙ okay)
-    (f at.mark) at.begins at.there (f first) x at.start (map f at.rest) None before end (ap (λ ts. parse.events_in (parse_of ts None)) (sym are) ∙ came)
-    (moved_event d n start) (map (moved_event d n) later) come_there in
-    let same : front ++ map f behind ≡ front ++ f at.mark ∷ map f at.rest = ap (λ z. front ++ map f z) at.are in (
-      fault,
-      spell_w,
-      ap (λ ts. parse.events_in (parse_of ts None)) (tokens ∙ same) ∙ read,
-      ap (λ ts. (parse_of ts None).ending) (tokens ∙ same) ∙ over ∙ ap (λ ts. (parse_of ts None).ending) (sym list) ∙ ending,
-    )
+    let m = at_cut x a b at begins none outer front last are first behind starts in
+    let kept : cut c.fault behind ≡ with_token m.mark (cut c.fault m.rest) = ap (cut c.fault) m.are ∙ cut_marked c.fault m.mark m.rest m.begins in
+    let whole = windows_are_scanned x a b at none outer front last are first behind starts in
+    record {
+      mark = m.mark;
+      begins = m.begins;
+      there = m.there;
+      first = first;
+      starts = refl;
+      behind = cut c.fault m.rest;
+      rest = ap (cut c.fault) starts ∙ ap (with_token first) kept;
+      whole = ap (λ (y : Remaining). cut y.fault y.tokens) whole
+          ∙ cut_behind own front (moved_tokens d n behind) (spell_left front (last ∷ []) (subst AllSpell are spell))
+          ∙ ap (behind_tokens front) (cut_moved d n c.fault behind ∙ ap (moved_remaining d n) kept);
+    }
 
 pub windows_are_read : WindowsAreRead
-windows_are_read x a b cut begins outer ga gb before end came start later come =
+windows_are_read x a b at begins ga before end came start later come =
+    let d = length a in
+    let n = line_at a (length a) in
     let pa = passed x a ga.scanned in
-    let pb = passed x b gb.scanned in
-    let (fault, spell, events, ending) = joins x a b cut begins outer pa pb
-    (ap (λ (r : Reading). r.ending) (sym pa.reads) ∙ ga.parsed) (ap (λ (r : Reading). r.ending) (sym pb.reads) ∙ gb.parsed)
-    before end (ap parse.events_in (sym pa.reads) ∙ came) start later (ap parse.events_in (sym pb.reads) ∙ come) in
-    let c = scan_of x (a ++ b) in
-    let same = cut_same c.fault c.tokens spell in
-    let reads : reading_in x (a ++ b) ≡ parse_of c.tokens None = ap (λ (y : Remaining). parse_of y.tokens y.fault) same ∙ ap (λ y. parse_of c.tokens y) fault in (
-      record { scanned = ap (λ (y : Remaining). y.fault) same ∙ fault; parsed = ap (λ (r : Reading). r.ending) reads ∙ ending },
-      ap parse.events_in reads ∙ events,
+    let (front, last, are, ends, others) = stream_ends (record { encoding = x; text = a }) pa.none in
+    let h = handed x a b at begins (no_bracket x a ga) pa.none pa.spell front last are in
+    let mark = moved_token d n h.mark in
+    let first = moved_token d n h.first in
+    let behind = moved_remaining d n h.behind in
+    let (events, ending) = subst (λ (r : Remaining). IsMovedPlain d n (seen (read_to r)) (seen (read_to (moved_remaining d n r)))) h.rest (reading_moved d n x b) in
+    let rest : reading_in x b ≡ read_to (with_token h.first (with_token h.mark h.behind)) = ap read_to h.rest in
+    let whole : reading_in x (a ++ b) ≡ parse_of (front ++ mark ∷ behind.tokens) behind.fault = ap read_to h.whole in
+    let (read, over) = windows_are_parsed front last (go_on front others) ends
+    (ap (λ ts. (parse_of ts None).ending) (sym are) ∙ ap (λ (r : Reading). r.ending) (sym pa.reads) ∙ ga.parsed)
+    mark h.begins h.there first x h.starts behind.tokens behind.fault before end
+    (ap (λ ts. parse.events_in (parse_of ts None)) (sym are) ∙ ap parse.events_in (sym pa.reads) ∙ came)
+    (moved_event d n start) (map (moved_event d n) later)
+    (events ∙ ap (map (moved_event d n)) (ap parse.events_in (sym rest) ∙ come)) in (
+      ap (λ (r : Remaining). r.fault) h.whole ∙ ap (option_map (moved_fault d n)) (sym (ap (λ (r : Remaining). r.fault) h.rest)),
+      ap parse.events_in whole ∙ read,
+      subst (λ (r : Reading). IsMovedEnd d n r.ending (reading_in x (a ++ b)).ending) (sym rest)
+          (subst (λ (o : Option Fault). IsMovedEnd d n (read_to (with_token h.first (with_token h.mark h.behind))).ending o) (sym (ap (λ (r : Reading). r.ending) whole ∙ over)) ending),
     )
+
+-- ---- both parts accepted
+
+none_moved : (d n : ℕ) (p q : Option Fault) → IsMovedEnd d n p q → p ≡ None → q ≡ None
+none_moved d n None None h e = refl
+none_moved d n None (Some g) h e = absurd h
+none_moved d n (Some f) q h e = absurd (some_none e)
+  where
+    some_none : {A : Type 0} {x : A} → Some x ≡ None → ⊥
+    some_none e = cc
+
+-- tokens that begin with STREAM-START have its event first
+started : (x : yaml_encoding_t) (m e : yaml_mark_t) (ts : List Token) (own : Option Fault)
+    → (start : Event) × (later : List Event) × (parse.events_in (parse_of (record { body = stream_start x; start_mark = m; end_mark = e } ∷ ts) own) ≡ start ∷ later)
+unfolding feed
+started x m e ts own =
+    let first : Token = record { body = stream_start x; start_mark = m; end_mark = e } in
+    let i = event_at (event.stream_start x) m e in
+    let ending = (run (first ∷ ts) initial own).ending in (
+      placed (event.stream_start x) i,
+      (plain (items_of (run ts (state.first ∷ []) own).items) ending no_directives).events,
+      ap (λ (p : Plain). p.events) (parse_plain (first ∷ ts) own ∙ ap (λ y. plain y ending no_directives) (step_items first ts initial (state.first ∷ []) own (i ∷ []) refl)),
+    )
+
+pub windows_are_accepted : WindowsAreAccepted
+windows_are_accepted x a b at begins ga gb =
+    let pa = passed x a ga.scanned in
+    let (front, last, are, ends, others) = stream_ends (record { encoding = x; text = a }) pa.none in
+    let m = last.start_mark in
+    let e = last.end_mark in
+    let list : (scan_of x a).tokens ≡ front ++ end_at m e ∷ [] = are ∙ ap (λ t. front ++ t ∷ []) (body_at last stream_end m ends refl) in
+    let f = front_of front (go_on front others) m e e (ap (λ ts. (parse_of ts None).ending) (sym list) ∙ ap (λ (r : Reading). r.ending) (sym pa.reads) ∙ ga.parsed) in
+    let before = f.taken.events ++ f.events in
+    let final : Event = placed event.stream_end (event_at event.stream_end m e) in
+    let came : parse.events_in (reading_in x a) ≡ before ++ final ∷ [] = ap parse.events_in pa.reads ∙ ap (λ ts. parse.events_in (parse_of ts None)) list ∙ front_events front m e e f in
+    let h = handed x a b at begins (no_bracket x a ga) pa.none pa.spell front last are in
+    let (start, later, come) = started x h.first.start_mark h.first.end_mark (h.mark ∷ h.behind.tokens) h.behind.fault in
+    let rest = ap read_to h.rest ∙ ap (λ t. parse_of (t ∷ h.mark ∷ h.behind.tokens) h.behind.fault) (body_at h.first (stream_start x) h.first.start_mark h.starts refl) in
+    let (fault, events, ending) = windows_are_read x a b at begins ga before final came start later (ap parse.events_in rest ∙ come) in
+    record {
+      scanned = fault ∙ ap (option_map (moved_fault (length a) (line_at a (length a)))) gb.scanned;
+      parsed = none_moved (length a) (line_at a (length a)) _ _ ending gb.parsed;
+    }

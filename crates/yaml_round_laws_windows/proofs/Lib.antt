@@ -1,3 +1,4 @@
 mod Machine
-mod Accepted
+mod Readings
+mod Depths
 mod Joining

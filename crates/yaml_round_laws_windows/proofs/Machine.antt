@@ -16,7 +16,7 @@ use Rattle.yaml_round_content.specs.parse_grammar.declared.Site.TheVariants.{Roo
 use Rattle.yaml_round_content.specs.parse_grammar.declared.Wants.{Wants}
 use Rattle.yaml_round_content.specs.parse_grammar.declared.Wants.TheVariants.{Flow, Block}
 use Rattle.yaml_round_content.specs.parse_grammar.Problems.{context_place, parser_fault}
-use Rattle.yaml_round_content.specs.parse_grammar.Items.{RawEvent, RawEventBody, Tag, Properties, Shape, item_at, node_at}
+use Rattle.yaml_round_content.specs.parse_grammar.Items.{RawEvent, RawEventBody, Tag, Properties, item_at}
 use Rattle.yaml_round_content.specs.parse_grammar.Items as item
 use Rattle.yaml_round_content.specs.parse_grammar.States.{State, Taken}
 use Rattle.yaml_round_content.specs.parse_grammar.States as state

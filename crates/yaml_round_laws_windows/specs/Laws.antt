@@ -1,8 +1,7 @@
 -- What is read of a text that is cut in two.
-use Rattle.std.specs.Prelude.{◌≡◌, ℕ, true, List, [], ◌∷◌, ◌++◌, map, length, None}
+use Rattle.std.specs.Prelude.{◌≡◌, ℕ, true, List, [], ◌∷◌, ◌++◌, map, length, None, option_map}
 use Rattle.yaml_round_content.specs.scan_model.declared.yaml_encoding_t.{yaml_encoding_t}
 use Rattle.yaml_round_content.specs.scan_model.Marks.{line_at}
-use Rattle.yaml_round_content.specs.scan_history.History.{depth}
 use Rattle.yaml_round_content.specs.scan_history.Remaining as scan
 use Rattle.yaml_round_content.specs.scan_history.scan_words.Indicators.{is_document_start}
 use Rattle.yaml_round_content.specs.parse_model.Events.{Event}
@@ -11,7 +10,8 @@ use Rattle.yaml_round_content.specs.round_laws_adapted.Adapted.{adapted}
 use Rattle.yaml_round_content.specs.Input.{parsed}
 use Rattle.yaml_scan_laws_windows.specs.Cuts.{IsCut}
 use Rattle.yaml_scan_laws_windows.specs.Laws.{scan_of}
-use Rattle.yaml_round_laws_windows.specs.Moved.{moved_event}
+use Rattle.yaml_scan_laws_windows.specs.Moved.{moved_fault}
+use Rattle.yaml_round_laws_windows.specs.Moved.{moved_event, IsMovedEnd}
 
 -- a text's tokens as a parser takes them
 abbrev pub tokens_in : yaml_encoding_t → List ℕ → scan.Remaining
@@ -30,15 +30,22 @@ pub record IsAccepted (encoding : yaml_encoding_t) (text : List ℕ) : Type 0 wh
   pub scanned : (tokens_in encoding text).fault ≡ None
   pub parsed : (reading_in encoding text).ending ≡ None
 
--- Where a text is cut in front of a line `---`, and both parts are accepted, and the front leaves no bracket open, the whole is
--- accepted, and its events are those of the front without STREAM-END, and then those of the rest without STREAM-START, moved by the
--- front's bytes and lines.
+-- Where a text is cut in front of a line `---`, and its front is accepted, the events are those of the front without STREAM-END,
+-- and then those of the rest without STREAM-START, moved by the front's bytes and lines. The whole ends as the rest does: it is
+-- accepted, or has the rest's fault, moved.
 abbrev pub WindowsAreRead : Type 0
 WindowsAreRead = (encoding : yaml_encoding_t) (front rest : List ℕ) → IsCut front rest
-    → is_document_start rest 0 ≡ true → depth (scan.all front) ≡ 0
-    → IsAccepted encoding front → IsAccepted encoding rest
+    → is_document_start rest 0 ≡ true → IsAccepted encoding front
     → (before : List Event) (end : Event) → events_in encoding front ≡ before ++ end ∷ []
     → (start : Event) (later : List Event) → events_in encoding rest ≡ start ∷ later
-    → IsAccepted encoding (front ++ rest)
-    × (events_in encoding (front ++ rest)
-    ≡ before ++ map (moved_event (length front) (line_at front (length front))) later)
+    → let d = length front in let n = line_at front (length front) in
+    ((tokens_in encoding (front ++ rest)).fault
+    ≡ option_map (moved_fault d n) (tokens_in encoding rest).fault)
+    × (events_in encoding (front ++ rest) ≡ before ++ map (moved_event d n) later)
+    × IsMovedEnd d n (reading_in encoding rest).ending (reading_in encoding (front ++ rest)).ending
+
+-- So the whole is accepted where both parts are.
+abbrev pub WindowsAreAccepted : Type 0
+WindowsAreAccepted = (encoding : yaml_encoding_t) (front rest : List ℕ) → IsCut front rest
+    → is_document_start rest 0 ≡ true
+    → IsAccepted encoding front → IsAccepted encoding rest → IsAccepted encoding (front ++ rest)

@@ -1,9 +1,14 @@
 //! Each function's contract is a law.
 
-ghost use Rattle.yaml_round_laws_windows.specs.Laws.{WindowsAreRead};
+ghost use Rattle.yaml_round_laws_windows.specs.Laws.{WindowsAreRead, WindowsAreAccepted};
 
-/// The events of a text that is cut in front of a line `---`, and whose parts are accepted, are those of its front, without the
-/// end, and then those of the rest, without the start, with their places moved.
+/// The events of a text that is cut in front of a line `---` behind a front that is accepted are those of the front, without the
+/// end, and then those of the rest, without the start, with their places moved; so is the fault that ends the rest, if one does.
 pub fn windows_are_read()
     ensures { WindowsAreRead }
+{}
+
+/// Such a text is accepted where both parts are.
+pub fn windows_are_accepted()
+    ensures { WindowsAreAccepted }
 {}

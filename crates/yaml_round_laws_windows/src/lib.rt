@@ -1,6 +1,6 @@
-//! Law of windows: a text that is cut in front of a line `---` is read as its two parts, one behind the other. No code.
+//! Laws of windows: a text that is cut in front of a line `---` is read as its two parts, one behind the other. No code.
 #![tactic(auto)]
 
 mod laws;
 
-pub use laws::windows_are_read;
+pub use laws::{windows_are_accepted, windows_are_read};

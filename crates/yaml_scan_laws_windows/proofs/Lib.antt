@@ -16,6 +16,7 @@ mod Fronts
 mod Marking
 mod Turning
 mod Rests
+pub mod Depths
 mod Entering
 mod Joining
 pub mod Windows

@@ -18,8 +18,8 @@ use Rattle.yaml_scan_history.specs.declared.lexeme.Entry.{Entry}
 use Rattle.yaml_scan_history.specs.Kinds.{depth_after, is_end}
 use Rattle.yaml_scan_history.specs.History.{depth, ended, candidate, levels, entry_of, entries}
 use Rattle.yaml_scan_history.specs.Words.{word_at}
-use Rattle.yaml_scan_history.specs.Next.{Next, Read, Fails, Ends, first_lexeme, begun_behind, word_behind, lexeme_behind, no_start, place_behind, stale_before, first_fault_or, kind_behind, coming, next, extended, history, indicator_misplaced, candidate_lost, text_wrong, stale_after}
-use Rattle.yaml_scan_history.specs.Remaining.{SpelledText, body_of_word, body_by, body_in, token_in, start_tokens, end_tokens, spell, all, fault_in, Remaining}
+use Rattle.yaml_scan_history.specs.Next.{Next, Read, Fails, Ends, first_lexeme, lexeme_behind, no_start, place_behind, stale_before, first_fault_or, kind_behind, coming, next, extended, history, indicator_misplaced, candidate_lost, text_wrong, stale_after}
+use Rattle.yaml_scan_history.specs.Remaining.{SpelledText, body_of_word, body_by, body_in, token_in, start_tokens, end_tokens, spell, all, fault_in, Remaining, offline}
 use Rattle.yaml_scan_laws_order.proofs.HistoryForward.{Stands, history_stands, first_is, not_ended, all_ends, last_is_all}
 use Rattle.yaml_scan_laws_windows.specs.Cuts.{IsCut}
 use Rattle.yaml_scan_laws_windows.specs.Moved.{moved_mark, moved_token, moved_lexeme, moved_fault, moved_next}
@@ -29,7 +29,8 @@ use Rattle.yaml_scan_laws_windows.proofs.Stepping.{has_read, front_said}
 use Rattle.yaml_scan_laws_windows.proofs.Fronts.{mark_zero, lexeme_zero, front_pair, next_open, history_more, EndsAt, reads_before, front_history, end_step}
 use Rattle.yaml_scan_laws_windows.proofs.Marking.{start_mark, IsMark, mark_lexeme, none_left}
 use Rattle.yaml_scan_laws_windows.proofs.Turning.{starts, MarkStands, mark_stands, Turns, turns, mark_there}
-use Rattle.yaml_scan_laws_windows.proofs.Rests.{body_same, depth_placed, carries, AllCarry, rest_base, whole_base, rest_bases, rest_next, rest_marks, grown}
+use Rattle.yaml_scan_laws_windows.proofs.Depths.{read_deep}
+use Rattle.yaml_scan_laws_windows.proofs.Rests.{body_same, carries, AllCarry, rest_base, whole_base, rest_bases, rest_next, rest_marks, grown}
 use Rattle.yaml_scan_laws_windows.proofs.Entering.{moved_entry, entered}
 use Rattle.yaml_scan_laws_windows.proofs.Joining.{spells_moved, told, offline_told, offline_fault, parted}
 
@@ -236,9 +237,7 @@ end_depth : (a : List ℕ) (H : List Lexeme) (E : Lexeme) → next a H ≡ Read 
 end_depth a [] E e end z = refl
 end_depth a (x ∷ h) E e end z =
     let H = x ∷ h in
-    let r = has_read a H E (sym (next_open a x h (not_ended a x h E e)) ∙ e) in
-    let same : E.depth ≡ depth H = ap (λ (l : Lexeme). l.depth) (sym r.clean.is) ∙ depth_placed a (begun_behind r.kind a H) (word_behind r.kind a H) in
-    sym same ∙ sym (over E.kind E.depth end) ∙ z
+    sym (read_deep a H E e) ∙ sym (over E.kind E.depth end) ∙ z
   where
     over : (k : Kind) (d : ℕ) → is_end k ≡ true → depth_after k d ≡ d
     over kinds.StreamEnd d h = refl
@@ -370,6 +369,13 @@ windows_are_scanned x a b cut none outer front last are first behind come =
     made (scan_of x (a ++ b)) _ _
     (tokens ∙ ap (λ n. front ++ map (moved_token (length a) n) behind) lines)
     (fault ∙ ap (λ n. option_map (moved_fault (length a) n) (scan_of x b).fault) lines)
+
+-- The tokens of a text without fault are those of its lexemes.
+pub ended_told : (s : SpelledText) → (offline s).fault ≡ None
+    → (offline s).tokens ≡ flat_map (spell s) (entries (all s.text))
+ended_told s none =
+    let over = fault_none (next s.text (all s.text)) (sym (offline_fault s) ∙ none) (all_ends s.text) in
+    offline_told s ∙ ap (λ z. told s z (all s.text)) over ∙ append-nil (flat_map (spell s) (entries (all s.text)))
 
 -- ---- the tokens at the cut
 

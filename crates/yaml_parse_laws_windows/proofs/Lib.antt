@@ -3,3 +3,4 @@ pub mod Noting
 pub mod Parting
 mod Closing
 pub mod Following
+mod Beginning

@@ -3,4 +3,4 @@
 
 mod laws;
 
-pub use laws::{brackets_are_closed, windows_are_parsed};
+pub use laws::{brackets_are_closed, directives_are_parsed, windows_are_parsed};

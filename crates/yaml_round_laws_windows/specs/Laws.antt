@@ -4,7 +4,7 @@ use Rattle.yaml_round_content.specs.scan_model.declared.yaml_encoding_t.{yaml_en
 use Rattle.yaml_round_content.specs.scan_model.Marks.{line_at}
 use Rattle.yaml_round_content.specs.scan_history.Remaining as scan
 use Rattle.yaml_round_content.specs.scan_history.scan_words.Indicators.{is_document_start}
-use Rattle.yaml_round_content.specs.parse_model.Events.{Event}
+use Rattle.yaml_round_content.specs.parse_model.Events.{Event, stream_start, stream_end}
 use Rattle.yaml_round_content.specs.parse_grammar.Resolve.{Reading, Told}
 use Rattle.yaml_round_content.specs.round_laws_adapted.Adapted.{adapted}
 use Rattle.yaml_round_content.specs.Input.{parsed}
@@ -49,3 +49,11 @@ abbrev pub WindowsAreAccepted : Type 0
 WindowsAreAccepted = (encoding : yaml_encoding_t) (front rest : List ℕ) → IsCut front rest
     → is_document_start rest 0 ≡ true
     → IsAccepted encoding front → IsAccepted encoding rest → IsAccepted encoding (front ++ rest)
+
+-- Every text's events begin with STREAM-START, and those of one that is accepted end with STREAM-END.
+abbrev pub ReadingsAreFramed : Type 0
+ReadingsAreFramed = (encoding : yaml_encoding_t) (text : List ℕ)
+    → ((start : Event) × (later : List Event) × (events_in encoding text ≡ start ∷ later)
+    × (start.body ≡ stream_start encoding))
+    × (IsAccepted encoding text → (before : List Event) × (end : Event)
+    × (events_in encoding text ≡ before ++ end ∷ []) × (end.body ≡ stream_end))

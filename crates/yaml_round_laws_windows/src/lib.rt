@@ -3,4 +3,4 @@
 
 mod laws;
 
-pub use laws::{windows_are_accepted, windows_are_read};
+pub use laws::{readings_are_framed, windows_are_accepted, windows_are_read};

@@ -145,8 +145,7 @@ through_parts (i ∷ is) js ds behind es h = by (settle i ds) refl h (λ z es k.
 
 -- ---- a list of tokens behind others
 
--- Items are the same without their numbers.
-pub items_numbered : (n : ℕ) (is : List RawEvent)
+items_numbered : (n : ℕ) (is : List RawEvent)
     → items_of (map (λ (i : RawEvent). (i, n)) is) ≡ is
 items_numbered n [] = refl
 items_numbered n (i ∷ is) = ap (λ z. i ∷ z) (items_numbered n is)
@@ -180,6 +179,26 @@ pub step_ending : (t : Token) (ts : List Token) (s z : List State) (f : Option F
     (is : List RawEvent)
     → feed s t ≡ go is z → (run (t ∷ ts) s f).ending ≡ (run ts z f).ending
 step_ending t ts s z f is e = ap (λ y. y.ending) (run_step t ts s f) ∙ carried_ending (length ts) (feed s t) is z (λ z. run ts z f) e
+
+abbrev pub read_of : Outcome → Directives → Plain
+read_of o ds = plain (items_of o.items) o.ending ds
+
+-- What is read where the first token is taken.
+pub went : (t : Token) (ts : List Token) (s z : List State) (f : Option Fault) (is : List RawEvent)
+    (ds : Directives)
+    → feed s t ≡ go is z
+    → read_of (run (t ∷ ts) s f) ds ≡ plain (is ++ items_of (run ts z f).items) (run ts z f).ending ds
+went t ts s z f is ds e =
+    ap (λ y. plain y (run (t ∷ ts) s f).ending ds) (step_items t ts s z f is e)
+    ∙ ap (λ y. plain (is ++ items_of (run ts z f).items) y ds) (step_ending t ts s z f is e)
+
+-- What is read where it is refused.
+pub halted : (t : Token) (ts : List Token) (s : List State) (f : Option Fault) (is : List RawEvent)
+    (p : Fault) (ds : Directives)
+    → feed s t ≡ stop is p → read_of (run (t ∷ ts) s f) ds ≡ plain (is ++ []) (Some p) ds
+halted t ts s f is p ds e =
+    ap (λ o. read_of o ds) (run_step t ts s f ∙ ap (λ y. carry (length ts) y (λ z. run ts z f)) e)
+    ∙ ap (λ y. plain y (Some p) ds) (items_numbered (length ts) is ∙ sym (append-nil is))
 
 -- what a stack is behind tokens that are taken
 pub record After (front : List Token) (s : List State) (ds : Directives) : Type 0 where

@@ -4,3 +4,4 @@ pub mod Parting
 mod Closing
 pub mod Following
 mod Beginning
+pub mod Refusing

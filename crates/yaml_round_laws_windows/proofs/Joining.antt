@@ -28,8 +28,9 @@ use Rattle.yaml_parse_laws_windows.specs.Laws as parse
 use Rattle.yaml_parse_laws_windows.specs.Depths.{depth_after, depth_behind}
 use Rattle.yaml_parse_laws_windows.proofs.Following.{items_of, Plain, plain, seen, parse_plain, step_items, Front, front_of, front_events, windows_are_parsed, brackets_are_closed, body_at}
 use Rattle.yaml_parse_laws_windows.proofs.Parting.{end_at}
+use Rattle.yaml_parse_laws_windows.proofs.Refusing.{refused_fronts_stay}
 use Rattle.yaml_round_laws_windows.specs.Moved.{moved_event, IsMovedEnd}
-use Rattle.yaml_round_laws_windows.specs.Laws.{tokens_in, reading_in, IsAccepted, WindowsAreRead, WindowsAreAccepted, ReadingsAreFramed}
+use Rattle.yaml_round_laws_windows.specs.Laws.{tokens_in, reading_in, IsAccepted, WindowsAreRead, WindowsAreAccepted, ReadingsAreFramed, RefusedFrontsAreRead}
 use Rattle.yaml_round_laws_windows.proofs.Depths.{behind_both, told_deep}
 use Rattle.yaml_round_laws_windows.proofs.Readings.{moved_tokens, IsMovedPlain, moved_as, refused_moved, ended_moved}
 
@@ -279,3 +280,20 @@ windows_are_accepted x a b at begins ga gb =
       scanned = fault ∙ ap (option_map (moved_fault (length a) (line_at a (length a)))) gb.scanned;
       parsed = none_moved (length a) (line_at a (length a)) _ _ ending gb.parsed;
     }
+
+-- ---- a front that is refused
+
+pub refused_fronts_are_read : RefusedFrontsAreRead
+refused_fronts_are_read x a b at begins clean outer f refused other =
+    let d = length a in
+    let n = line_at a (length a) in
+    let pa = passed x a clean in
+    let (front, last, are, ends, others) = stream_ends (record { encoding = x; text = a }) pa.none in
+    let h = handed x a b at begins outer pa.none pa.spell front last are in
+    let mark = moved_token d n h.mark in
+    let behind = moved_remaining d n h.behind in
+    let mine : reading_in x a ≡ parse_of (front ++ last ∷ []) None = pa.reads ∙ ap (λ ts. parse_of ts None) are in
+    let whole : reading_in x (a ++ b) ≡ parse_of (front ++ mark ∷ behind.tokens) behind.fault = ap read_to h.whole in
+    let (events, ending) = refused_fronts_stay front last (go_on front others) ends f (ap (λ (r : Reading). r.ending) (sym mine) ∙ refused)
+    (λ e. other (front, last, are, e)) mark h.begins h.there behind.tokens behind.fault in
+    (ap parse.events_in whole ∙ events ∙ ap parse.events_in (sym mine), ap (λ (r : Reading). r.ending) whole ∙ ending)

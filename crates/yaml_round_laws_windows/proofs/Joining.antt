@@ -1,5 +1,5 @@
 -- The law of windows.
-use Rattle.std.proofs.Common.{◌≡◌, ◌≢◌, ℕ, true, List, [], ◌∷◌, ◌++◌, map, length, Option, Some, None, option_map, refl, sym, ap, subst, ◌∙◌, inl, inr}
+use Rattle.std.proofs.Common.{◌≡◌, ◌≢◌, ℕ, true, List, [], ◌∷◌, ◌++◌, map, length, Option, Some, None, option_map, refl, sym, ap, subst, ◌∙◌, inl, inr, ◌⊎◌}
 use Rattle.std.proofs.lemmas.Bool.{cases_Bool}
 use Rattle.std.proofs.lemmas.List.Elements.{All-head, All-tail}
 use Rattle.std.specs.Prelude.{All}
@@ -30,7 +30,7 @@ use Rattle.yaml_parse_laws_windows.proofs.Following.{items_of, Plain, plain, see
 use Rattle.yaml_parse_laws_windows.proofs.Parting.{end_at}
 use Rattle.yaml_parse_laws_windows.proofs.Refusing.{refused_fronts_stay}
 use Rattle.yaml_round_laws_windows.specs.Moved.{moved_event, IsMovedEnd}
-use Rattle.yaml_round_laws_windows.specs.Laws.{tokens_in, reading_in, IsAccepted, WindowsAreRead, WindowsAreAccepted, ReadingsAreFramed, RefusedFrontsAreRead}
+use Rattle.yaml_round_laws_windows.specs.Laws.{tokens_in, reading_in, IsAccepted, WindowsAreRead, WindowsAreAccepted, ReadingsAreFramed, AwaitsDocument, RefusedFrontsAreRead}
 use Rattle.yaml_round_laws_windows.proofs.Depths.{behind_both, told_deep}
 use Rattle.yaml_round_laws_windows.proofs.Readings.{moved_tokens, IsMovedPlain, moved_as, refused_moved, ended_moved}
 
@@ -283,8 +283,30 @@ windows_are_accepted x a b at begins ga gb =
 
 -- ---- a front that is refused
 
-pub refused_fronts_are_read : RefusedFrontsAreRead
-refused_fronts_are_read x a b at begins clean outer f refused other =
+spell_push : (xs : List Token) (t : Token) → AllSpell xs → spells_text t.body ≡ true
+    → AllSpell (xs ++ t ∷ [])
+spell_push [] t h k = (k, tt)
+spell_push (x ∷ xs) t h k = (h.0, spell_push xs t h.1 k)
+
+-- tokens pass the adapter, or it stops within them
+spell_or : (front : List Token) → AllSpell front
+    ⊎ ((f g : Option Fault) (ts us : List Token) → cut f (front ++ ts) ≡ cut g (front ++ us))
+spell_or [] = inl tt
+spell_or (t ∷ front) =
+    elim (cases_Bool (spells_text t.body)) [
+      | inr e ↦ inr (λ f g ts us. rw e refl)
+      | inl e ↦ elim (spell_or front) [
+        | inl h ↦ inl (e, h)
+        | inr h ↦ inr (λ f g ts us. rw e (ap (with_token t) (h f g ts us)))
+      ]
+    ]
+
+parser_refuses : (x : yaml_encoding_t) (a b : List ℕ) → IsCut a b → is_document_start b 0 ≡ true
+    → (tokens_in x a).fault ≡ None → depth (all a) ≡ 0
+    → (f : Fault) → (reading_in x a).ending ≡ Some f → (AwaitsDocument x a f → ⊥)
+    → (parse.events_in (reading_in x (a ++ b)) ≡ parse.events_in (reading_in x a))
+    × ((reading_in x (a ++ b)).ending ≡ Some f)
+parser_refuses x a b at begins clean outer f refused other =
     let d = length a in
     let n = line_at a (length a) in
     let pa = passed x a clean in
@@ -297,3 +319,25 @@ refused_fronts_are_read x a b at begins clean outer f refused other =
     let (events, ending) = refused_fronts_stay front last (go_on front others) ends f (ap (λ (r : Reading). r.ending) (sym mine) ∙ refused)
     (λ e. other (front, last, are, e)) mark h.begins h.there behind.tokens behind.fault in
     (ap parse.events_in whole ∙ events ∙ ap parse.events_in (sym mine), ap (λ (r : Reading). r.ending) whole ∙ ending)
+
+pub refused_fronts_are_read : RefusedFrontsAreRead
+refused_fronts_are_read x a b at begins clean outer f refused other =
+    let c = scan_of x a in
+    let (front, last, are, ends, others) = stream_ends (record { encoding = x; text = a }) clean in
+    elim (spell_or front) [
+      | inl h ↦
+          let spell : AllSpell c.tokens = subst AllSpell (sym are) (spell_push front last h (ap spells_text ends)) in
+          let none : (tokens_in x a).fault ≡ None = ap (λ (r : Remaining). r.fault) (cut_same c.fault c.tokens spell) ∙ clean in
+          parser_refuses x a b at begins none outer f refused other
+      | inr stops ↦
+          let (behind, starts) = stream_starts (record { encoding = x; text = b }) in
+          let first : Token = record { body = stream_start x; start_mark = zero_mark; end_mark = zero_mark } in
+          let whole = windows_are_scanned x a b at clean outer front last are first behind starts in
+          let d = length a in
+          let n = line_at a (length a) in
+          let same : tokens_in x (a ++ b) ≡ tokens_in x a =
+          ap (λ (y : Remaining). cut y.fault y.tokens) whole
+          ∙ stops (option_map (moved_fault d n) (scan_of x b).fault) c.fault (moved_tokens d n behind) (last ∷ [])
+          ∙ ap (cut c.fault) (sym are) in
+          (ap (λ r. parse.events_in (read_to r)) same, ap (λ r. (read_to r).ending) same ∙ refused)
+    ]

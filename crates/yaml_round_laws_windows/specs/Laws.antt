@@ -61,12 +61,12 @@ AwaitsDocument encoding text f = (before : List Token) × (last : Token)
     × ((scan_of encoding text).tokens ≡ before ++ last ∷ [])
     × (f ≡ parser_fault NoDocumentStart last.start_mark last.start_mark)
 
--- Where it is the parser that refuses a front, which leaves no bracket open, and it doesn't end behind directives, the whole has the
--- front's events and its fault.
+-- Where a front is refused, but not by the scanner, and leaves no bracket open, nor ends behind directives, the whole has its events
+-- and its fault.
 abbrev pub RefusedFrontsAreRead : Type 0
 RefusedFrontsAreRead = (encoding : yaml_encoding_t) (front rest : List ℕ) → IsCut front rest
     → is_document_start rest 0 ≡ true
-    → (tokens_in encoding front).fault ≡ None → depth (scan.all front) ≡ 0
+    → (scan_of encoding front).fault ≡ None → depth (scan.all front) ≡ 0
     → (f : Fault) → (reading_in encoding front).ending ≡ Some f
     → (AwaitsDocument encoding front f → ⊥)
     → (events_in encoding (front ++ rest) ≡ events_in encoding front)

@@ -13,7 +13,7 @@ pub fn windows_are_accepted()
     ensures { WindowsAreAccepted }
 {}
 
-/// Where the parser refuses the front, it refuses such a text so, behind the same events.
+/// Where a front is refused, but not by the scanner, such a text is refused so, behind the same events.
 pub fn refused_fronts_are_read()
     ensures { RefusedFrontsAreRead }
 {}

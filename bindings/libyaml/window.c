@@ -6,8 +6,10 @@
  * (layer_is_doubtful). Laws say so of the proved core: where a text is cut behind LF or CR in front of a line that begins with `---`
  * or `...`, and the front has no fault and no open bracket, the tokens of the whole are the front's without STREAM-END and then the
  * rest's without STREAM-START, moved by the front's bytes and lines, and its fault is the rest's, moved (windows_are_scanned of
- * yaml_scan_laws_windows); and where that line is `---` and both parts are accepted, so are the events (windows_are_read of
- * yaml_round_laws_windows). No law says anything of a cut in front of directives, nor of events in front of a fault of the rest.
+ * yaml_scan_laws_windows); and where that line is `---` and the front is accepted, so are the events, and so is the rest's fault
+ * or that it is accepted (windows_are_read of yaml_round_laws_windows). Where the front is refused, but not by the scanner, and
+ * has no open bracket, nor directives at its end, the whole has its events and its fault (refused_fronts_are_read). No law says
+ * anything of texts that are cut in front of directives; of tokens one does (directives_are_parsed of yaml_parse_laws_windows).
  *
  * Within a document, where its root is a block collection at column 0, without anchor, tag and directives: in front of an item at
  * column 0. What stands behind it is parsed behind a stand-in, a root of that kind with one item; of both the events of what

@@ -98,9 +98,9 @@ plain_through (i ∷ is) js f ds behind es h = by (settle i ds) h (λ z es e. pl
     by (gave body z) k rec = on body (through is z) z refl k rec
     by (noted z) k rec = rec z es k
 
--- what is accepted goes through
-plain_accepts : (is : List RawEvent) (f : Option Fault) (ds : Directives) → (plain is f ds).ending
-    ≡ None
+-- What is accepted goes through.
+pub plain_accepts : (is : List RawEvent) (f : Option Fault) (ds : Directives)
+    → (plain is f ds).ending ≡ None
     → (es : List Event) × (behind : Directives) × (through is ds ≡ Some (es, behind)) × (f ≡ None)
 plain_accepts [] f ds h = ([], ds, refl, h)
 plain_accepts (i ∷ is) f ds h = by (settle i ds) refl h (λ z k. plain_accepts is f z k)
@@ -116,8 +116,8 @@ plain_accepts (i ∷ is) f ds h = by (settle i ds) refl h (λ z k. plain_accepts
         let (es, behind, told, none) = rec z k in
         (es, behind, ap (λ w. then_through w i (λ x. through is x)) e ∙ told, none)
 
--- what goes through does so in two parts
-through_parts : (is js : List RawEvent) (ds behind : Directives) (es : List Event)
+-- What goes through does so in two parts.
+pub through_parts : (is js : List RawEvent) (ds behind : Directives) (es : List Event)
     → through (is ++ js) ds ≡ Some (es, behind)
     → (fs : List Event) × (z : Directives) × (gs : List Event) × (through is ds ≡ Some (fs, z)) × (through js z ≡ Some (gs, behind))
 through_parts [] js ds behind es h = ([], ds, es, refl, h)
@@ -145,8 +145,7 @@ through_parts (i ∷ is) js ds behind es h = by (settle i ds) refl h (λ z es k.
 
 -- ---- a list of tokens behind others
 
--- Items are the same without their numbers.
-pub items_numbered : (n : ℕ) (is : List RawEvent)
+items_numbered : (n : ℕ) (is : List RawEvent)
     → items_of (map (λ (i : RawEvent). (i, n)) is) ≡ is
 items_numbered n [] = refl
 items_numbered n (i ∷ is) = ap (λ z. i ∷ z) (items_numbered n is)
@@ -180,6 +179,26 @@ pub step_ending : (t : Token) (ts : List Token) (s z : List State) (f : Option F
     (is : List RawEvent)
     → feed s t ≡ go is z → (run (t ∷ ts) s f).ending ≡ (run ts z f).ending
 step_ending t ts s z f is e = ap (λ y. y.ending) (run_step t ts s f) ∙ carried_ending (length ts) (feed s t) is z (λ z. run ts z f) e
+
+abbrev pub read_of : Outcome → Directives → Plain
+read_of o ds = plain (items_of o.items) o.ending ds
+
+-- What is read where the first token is taken.
+pub went : (t : Token) (ts : List Token) (s z : List State) (f : Option Fault) (is : List RawEvent)
+    (ds : Directives)
+    → feed s t ≡ go is z
+    → read_of (run (t ∷ ts) s f) ds ≡ plain (is ++ items_of (run ts z f).items) (run ts z f).ending ds
+went t ts s z f is ds e =
+    ap (λ y. plain y (run (t ∷ ts) s f).ending ds) (step_items t ts s z f is e)
+    ∙ ap (λ y. plain (is ++ items_of (run ts z f).items) y ds) (step_ending t ts s z f is e)
+
+-- What is read where it is refused.
+pub halted : (t : Token) (ts : List Token) (s : List State) (f : Option Fault) (is : List RawEvent)
+    (p : Fault) (ds : Directives)
+    → feed s t ≡ stop is p → read_of (run (t ∷ ts) s f) ds ≡ plain (is ++ []) (Some p) ds
+halted t ts s f is p ds e =
+    ap (λ o. read_of o ds) (run_step t ts s f ∙ ap (λ y. carry (length ts) y (λ z. run ts z f)) e)
+    ∙ ap (λ y. plain y (Some p) ds) (items_numbered (length ts) is ∙ sym (append-nil is))
 
 -- what a stack is behind tokens that are taken
 pub record After (front : List Token) (s : List State) (ds : Directives) : Type 0 where
@@ -227,12 +246,13 @@ through_joined (i ∷ is) js ds w behind fs gs one two = by (settle i ds) one (�
     by (gave body z) k rec = on body (through is z) z refl k rec
     by (noted z) k rec = rec z fs k
 
-after : (front : List Token) (s : List State) (ds : Directives) → Stands s ds → GoOn front
-    → (last : Token)
+-- Tokens in front of others that are accepted.
+pub after : (front : List Token) (s : List State) (ds : Directives) → Stands s ds → GoOn front
+    → (ts : List Token)
     → (es : List Event) (behind : Directives)
-    → through (items_of (run (front ++ last ∷ []) s None).items) ds ≡ Some (es, behind)
-    → (run (front ++ last ∷ []) s None).ending ≡ None → After front s ds
-after [] s ds g goes last es behind told none = record {
+    → through (items_of (run (front ++ ts) s None).items) ds ≡ Some (es, behind)
+    → (run (front ++ ts) s None).ending ≡ None → After front s ds
+after [] s ds g goes ts es behind told none = record {
   items = [];
   stack = s;
   noted = ds;
@@ -240,21 +260,21 @@ after [] s ds g goes last es behind told none = record {
   told = refl;
   stands = g;
   level = refl;
-  gives = λ ts f. refl;
-  ends = λ ts f. refl;
+  gives = λ us f. refl;
+  ends = λ us f. refl;
 }
-after (t ∷ front) s ds g goes last es behind told none = by (feed s t) refl (stands_feed s ds g t goes.0)
-    (λ z x y fs w h k. after front z x y goes.1 last fs w h k)
+after (t ∷ front) s ds g goes ts es behind told none = by (feed s t) refl (stands_feed s ds g t goes.0)
+    (λ z x y fs w h k. after front z x y goes.1 ts fs w h k)
   where
     by : (x : Fed) → feed s t ≡ x → Fine x ds
         → ((z : List State) (x : Directives) → Stands z x → (fs : List Event) (w : Directives)
-        → through (items_of (run (front ++ last ∷ []) z None).items) x ≡ Some (fs, w)
-        → (run (front ++ last ∷ []) z None).ending ≡ None → After front z x) → After (t ∷ front) s ds
-    by (stop is f) e fine rec = absurd (none_some (sym (sym (ap (λ y. y.ending) (run_step t (front ++ last ∷ []) s None) ∙ ap (λ y. (carry (length (front ++ last ∷ [])) y (λ z. run (front ++ last ∷ []) z None)).ending) e) ∙ none)))
+        → through (items_of (run (front ++ ts) z None).items) x ≡ Some (fs, w)
+        → (run (front ++ ts) z None).ending ≡ None → After front z x) → After (t ∷ front) s ds
+    by (stop is f) e fine rec = absurd (none_some (sym (sym (ap (λ y. y.ending) (run_step t (front ++ ts) s None) ∙ ap (λ y. (carry (length (front ++ ts)) y (λ z. run (front ++ ts) z None)).ending) e) ∙ none)))
     by (go is z) e fine rec =
-        let items = step_items t (front ++ last ∷ []) s z None is e in
-        let ending = step_ending t (front ++ last ∷ []) s z None is e in
-        let (fs, w, gs, one, two) = through_parts is (items_of (run (front ++ last ∷ []) z None).items) ds behind es (ap (λ y. through y ds) (sym items) ∙ told) in
+        let items = step_items t (front ++ ts) s z None is e in
+        let ending = step_ending t (front ++ ts) s z None is e in
+        let (fs, w, gs, one, two) = through_parts is (items_of (run (front ++ ts) z None).items) ds behind es (ap (λ y. through y ds) (sym items) ∙ told) in
         let a = rec z w (fine fs w one) gs behind two (sym ending ∙ none) in
         record {
           items = is ++ a.items;
@@ -264,8 +284,8 @@ after (t ∷ front) s ds g goes last es behind told none = by (feed s t) refl (s
           told = through_joined is a.items ds w a.noted fs a.events one a.told;
           stands = a.stands;
           level = a.level ∙ ap (depth_behind front) (subst (λ y. IsLevel y t.body (opened s)) e (feed_level s ds g t));
-          gives = λ ts f. step_items t (front ++ ts) s z f is e ∙ ap (λ y. is ++ y) (a.gives ts f) ∙ sym (append_assoc is a.items (items_of (run ts a.stack f).items));
-          ends = λ ts f. step_ending t (front ++ ts) s z f is e ∙ a.ends ts f;
+          gives = λ us f. step_items t (front ++ us) s z f is e ∙ ap (λ y. is ++ y) (a.gives us f) ∙ sym (append_assoc is a.items (items_of (run us a.stack f).items));
+          ends = λ us f. step_ending t (front ++ us) s z f is e ∙ a.ends us f;
         }
 
 -- ---- the law
@@ -301,7 +321,8 @@ rest_ending x a c m f behind own =
     step_ending first (start_at m f ∷ behind) initial (state.first ∷ []) own (event_at (event.stream_start x) a c ∷ []) refl
     ∙ step_ending (start_at m f) behind (state.first ∷ []) (begun f) own (item_at (item.document false) m f ∷ []) refl
 
-uncons : {A : Type 0} (x y : A) (xs ys : List A) → x ∷ xs ≡ y ∷ ys → xs ≡ ys
+-- What stands behind the first is the same where all is.
+pub uncons : {A : Type 0} (x y : A) (xs ys : List A) → x ∷ xs ≡ y ∷ ys → xs ≡ ys
 uncons x y xs ys e = cc
 
 -- The events of tokens are those of the items that the machine gives.
@@ -309,7 +330,8 @@ pub parse_plain : (ts : List Token) (own : Option Fault)
     → seen (parse_of ts own) ≡ plain (items_of (run ts initial own).items) (run ts initial own).ending no_directives
 parse_plain ts own = reading_plain (run ts initial own).items (run ts initial own).ending no_directives
 
-inner_pair : {x y : List Event × Directives} → Some x ≡ Some y → x ≡ y
+-- What equals the same says the same.
+pub inner_pair : {x y : List Event × Directives} → Some x ≡ Some y → x ≡ y
 inner_pair e = cc
 
 -- what is given in front of the end, and the directives there
@@ -344,7 +366,7 @@ front_of front goes m e f none =
     let A = run (front ++ end_at m e ∷ []) initial None in
     let ending : (plain (items_of A.items) A.ending no_directives).ending ≡ None = ap (λ (p : Plain). p.ending) (sym (parse_plain (front ++ end_at m e ∷ []) None)) ∙ none in
     let (es, z, told, quiet) = plain_accepts (items_of A.items) A.ending no_directives ending in
-    let s = after front initial no_directives (refl, refl) goes (end_at m e) es z told quiet in
+    let s = after front initial no_directives (refl, refl) goes (end_at m e ∷ []) es z told quiet in
     elim (parts s.stack s.noted s.stands m e f) [
       | inr (is, g, stops) ↦ absurd (stopped m e s.stack is g stops (sym (s.ends (end_at m e ∷ []) None) ∙ quiet))
       | inl r ↦ fronted front m e f s r es z told

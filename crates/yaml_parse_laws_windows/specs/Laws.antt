@@ -1,9 +1,11 @@
 -- The events of tokens behind a document's end.
-use Rattle.std.specs.Prelude.{◌≡◌, ◌≢◌, List, [], ◌∷◌, ◌++◌, map, Option, None}
+use Rattle.std.specs.Prelude.{◌≡◌, ◌≢◌, List, [], ◌∷◌, ◌++◌, map, Option, Some, None}
 use Rattle.yaml_parse_grammar.specs.parse_model.declared.yaml_encoding_t.{yaml_encoding_t}
-use Rattle.yaml_parse_grammar.specs.parse_model.Tokens.{Token, stream_start, stream_end, document_start}
+use Rattle.yaml_parse_grammar.specs.parse_model.Tokens.{Token, TokenBody, stream_start, stream_end, document_start, document_end, version_directive, tag_directive}
 use Rattle.yaml_parse_grammar.specs.parse_model.Faults.{Fault}
 use Rattle.yaml_parse_grammar.specs.parse_model.Events.{Event}
+use Rattle.yaml_parse_grammar.specs.declared.ParseProblem.TheVariants.{NoDocumentStart}
+use Rattle.yaml_parse_grammar.specs.Problems.{parser_fault}
 use Rattle.yaml_parse_grammar.specs.Machine.{run, initial}
 use Rattle.yaml_parse_grammar.specs.Resolve.{Reading, Told, no_directives}
 use Rattle.yaml_parse_grammar.specs.Remaining.{reading_of}
@@ -36,6 +38,40 @@ WindowsAreParsed = (front : List Token) (last : Token) → GoOn front → last.b
     → (events_in (parse_of (front ++ mark ∷ behind) own) ≡ before ++ later)
     × ((parse_of (front ++ mark ∷ behind) own).ending ≡ (parse_of
     (first ∷ mark ∷ behind) own).ending)
+
+-- a directive or DOCUMENT-START
+abbrev pub BeginsDocument : TokenBody → Type 0
+BeginsDocument (version_directive major minor) = Unit {0}
+BeginsDocument (tag_directive handle prefix) = Unit {0}
+BeginsDocument document_start = Unit {0}
+BeginsDocument _ = ⊥
+
+-- Where DOCUMENT-END stands in front of STREAM-END, a directive may stand in the latter's place too, wherever it is told.
+abbrev pub DirectivesAreParsed : Type 0
+DirectivesAreParsed = (front : List Token) (over last : Token) → GoOn front
+    → over.body ≡ document_end → last.body ≡ stream_end
+    → (parse_of (front ++ over ∷ last ∷ []) None).ending ≡ None
+    → (mark : Token) → BeginsDocument mark.body
+    → (first : Token) (encoding : yaml_encoding_t) → first.body ≡ stream_start encoding
+    → (behind : List Token) (own : Option Fault) (before : List Event) (end : Event)
+    → events_in (parse_of (front ++ over ∷ last ∷ []) None) ≡ before ++ end ∷ []
+    → (start : Event) (later : List Event)
+    → events_in (parse_of (first ∷ mark ∷ behind) own) ≡ start ∷ later
+    → (events_in (parse_of (front ++ over ∷ mark ∷ behind) own) ≡ before ++ later)
+    × ((parse_of (front ++ over ∷ mark ∷ behind) own).ending ≡ (parse_of
+    (first ∷ mark ∷ behind) own).ending)
+
+-- Where tokens that end in STREAM-END are refused, and not for want of a document behind directives that end them, they are refused
+-- so with a DOCUMENT-START in its place, whatever stands behind.
+abbrev pub RefusedFrontsStay : Type 0
+RefusedFrontsStay = (front : List Token) (last : Token) → GoOn front → last.body ≡ stream_end
+    → (f : Fault) → (parse_of (front ++ last ∷ []) None).ending ≡ Some f
+    → f ≢ parser_fault NoDocumentStart last.start_mark last.start_mark
+    → (mark : Token) → mark.body ≡ document_start → mark.start_mark ≡ last.start_mark
+    → (behind : List Token) (own : Option Fault)
+    → (events_in (parse_of (front ++ mark ∷ behind) own)
+    ≡ events_in (parse_of (front ++ last ∷ []) None))
+    × ((parse_of (front ++ mark ∷ behind) own).ending ≡ Some f)
 
 -- Tokens that end in STREAM-END and are accepted leave no bracket open.
 abbrev pub BracketsAreClosed : Type 0

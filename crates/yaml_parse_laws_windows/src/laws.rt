@@ -1,11 +1,21 @@
 //! Each function's contract is a law.
 
-ghost use Rattle.yaml_parse_laws_windows.specs.Laws.{WindowsAreParsed, BracketsAreClosed};
+ghost use Rattle.yaml_parse_laws_windows.specs.Laws.{WindowsAreParsed, DirectivesAreParsed, RefusedFrontsStay, BracketsAreClosed};
 
 /// The events of tokens that go on with a document's start where others end are those of these others, without the stream's end,
 /// and then those of what comes behind, without the stream's start.
 pub fn windows_are_parsed()
     ensures { WindowsAreParsed }
+{}
+
+/// So may they go on with a directive, where a document's end stands in front of it.
+pub fn directives_are_parsed()
+    ensures { DirectivesAreParsed }
+{}
+
+/// Tokens that are refused are refused so where such tokens follow.
+pub fn refused_fronts_stay()
+    ensures { RefusedFrontsStay }
 {}
 
 /// Tokens that are accepted leave no bracket open.

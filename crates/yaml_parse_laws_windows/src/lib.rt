@@ -3,4 +3,6 @@
 
 mod laws;
 
-pub use laws::{brackets_are_closed, windows_are_parsed};
+pub use laws::{
+    brackets_are_closed, directives_are_parsed, refused_fronts_stay, windows_are_parsed,
+};

@@ -1,5 +1,5 @@
 -- The law of windows.
-use Rattle.std.proofs.Common.{◌≡◌, ◌≢◌, ℕ, true, List, [], ◌∷◌, ◌++◌, map, length, Option, Some, None, option_map, refl, sym, ap, subst, ◌∙◌, inl, inr}
+use Rattle.std.proofs.Common.{◌≡◌, ◌≢◌, ℕ, true, List, [], ◌∷◌, ◌++◌, map, length, Option, Some, None, option_map, refl, sym, ap, subst, ◌∙◌, inl, inr, ◌⊎◌}
 use Rattle.std.proofs.lemmas.Bool.{cases_Bool}
 use Rattle.std.proofs.lemmas.List.Elements.{All-head, All-tail}
 use Rattle.std.specs.Prelude.{All}
@@ -26,10 +26,11 @@ use Rattle.yaml_scan_laws_windows.proofs.OrderLaws.{stream_starts, stream_ends}
 use Rattle.yaml_parse_laws_windows.specs.Laws.{parse_of, GoOn}
 use Rattle.yaml_parse_laws_windows.specs.Laws as parse
 use Rattle.yaml_parse_laws_windows.specs.Depths.{depth_after, depth_behind}
-use Rattle.yaml_parse_laws_windows.proofs.Following.{items_of, Plain, plain, seen, parse_plain, step_items, front_of, front_events, windows_are_parsed, brackets_are_closed, body_at}
+use Rattle.yaml_parse_laws_windows.proofs.Following.{items_of, Plain, plain, seen, parse_plain, step_items, Front, front_of, front_events, windows_are_parsed, brackets_are_closed, body_at}
 use Rattle.yaml_parse_laws_windows.proofs.Parting.{end_at}
+use Rattle.yaml_parse_laws_windows.proofs.Refusing.{refused_fronts_stay}
 use Rattle.yaml_round_laws_windows.specs.Moved.{moved_event, IsMovedEnd}
-use Rattle.yaml_round_laws_windows.specs.Laws.{tokens_in, reading_in, IsAccepted, WindowsAreRead, WindowsAreAccepted}
+use Rattle.yaml_round_laws_windows.specs.Laws.{tokens_in, reading_in, IsAccepted, WindowsAreRead, WindowsAreAccepted, ReadingsAreFramed, AwaitsDocument, RefusedFrontsAreRead}
 use Rattle.yaml_round_laws_windows.proofs.Depths.{behind_both, told_deep}
 use Rattle.yaml_round_laws_windows.proofs.Readings.{moved_tokens, IsMovedPlain, moved_as, refused_moved, ended_moved}
 
@@ -210,6 +211,56 @@ windows_are_read x a b at begins ga before end came start later come =
           (subst (λ (o : Option Fault). IsMovedEnd d n (read_to (with_token h.first (with_token h.mark h.behind))).ending o) (sym (ap (λ (r : Reading). r.ending) whole ∙ over)) ending),
     )
 
+-- ---- how readings begin and end
+
+-- tokens that begin with STREAM-START have its event first
+started : (x : yaml_encoding_t) (m e : yaml_mark_t) (ts : List Token) (own : Option Fault)
+    → (start : Event) × (later : List Event)
+    × (parse.events_in (parse_of (record { body = stream_start x; start_mark = m; end_mark = e } ∷ ts) own) ≡ start ∷ later)
+    × (start.body ≡ event.stream_start x)
+unfolding feed
+started x m e ts own =
+    let first : Token = record { body = stream_start x; start_mark = m; end_mark = e } in
+    let i = event_at (event.stream_start x) m e in
+    let ending = (run (first ∷ ts) initial own).ending in (
+      placed (event.stream_start x) i,
+      (plain (items_of (run ts (state.first ∷ []) own).items) ending no_directives).events,
+      ap (λ (p : Plain). p.events) (parse_plain (first ∷ ts) own ∙ ap (λ y. plain y ending no_directives) (step_items first ts initial (state.first ∷ []) own (i ∷ []) refl)),
+      refl,
+    )
+
+begins_so : (x : yaml_encoding_t) (text : List ℕ)
+    → (start : Event) × (later : List Event)
+    × (parse.events_in (reading_in x text) ≡ start ∷ later) × (start.body ≡ event.stream_start x)
+begins_so x text =
+    let c = scan_of x text in
+    let (behind, starts) = stream_starts (record { encoding = x; text = text }) in
+    let (start, later, come, is) = started x zero_mark zero_mark (cut c.fault behind).tokens (cut c.fault behind).fault in
+    (start, later, ap (λ ts. parse.events_in (read_to (cut c.fault ts))) starts ∙ come, is)
+
+-- tokens that a stream's end closes have its event last
+closed : (front : List Token) (m e : yaml_mark_t) → Front front m e e → (r : Reading)
+    → r ≡ parse_of (front ++ end_at m e ∷ []) None
+    → (before : List Event) × (end : Event)
+    × (parse.events_in r ≡ before ++ end ∷ []) × (end.body ≡ event.stream_end)
+closed front m e f r is =
+    (f.taken.events ++ f.events, placed event.stream_end (event_at event.stream_end m e), ap parse.events_in is ∙ front_events front m e e f, refl)
+
+ends_so : (x : yaml_encoding_t) (text : List ℕ) → IsAccepted x text
+    → (before : List Event) × (end : Event)
+    × (parse.events_in (reading_in x text) ≡ before ++ end ∷ []) × (end.body ≡ event.stream_end)
+ends_so x text g =
+    let p = passed x text g.scanned in
+    let (front, last, are, ends, others) = stream_ends (record { encoding = x; text = text }) p.none in
+    let m = last.start_mark in
+    let e = last.end_mark in
+    let list : (scan_of x text).tokens ≡ front ++ end_at m e ∷ [] = are ∙ ap (λ t. front ++ t ∷ []) (body_at last stream_end m ends refl) in
+    let is : reading_in x text ≡ parse_of (front ++ end_at m e ∷ []) None = p.reads ∙ ap (λ ts. parse_of ts None) list in
+    closed front m e (front_of front (go_on front others) m e e (ap (λ (r : Reading). r.ending) (sym is) ∙ g.parsed)) (reading_in x text) is
+
+pub readings_are_framed : ReadingsAreFramed
+readings_are_framed x text = (begins_so x text, ends_so x text)
+
 -- ---- both parts accepted
 
 none_moved : (d n : ℕ) (p q : Option Fault) → IsMovedEnd d n p q → p ≡ None → q ≡ None
@@ -220,35 +271,73 @@ none_moved d n (Some f) q h e = absurd (some_none e)
     some_none : {A : Type 0} {x : A} → Some x ≡ None → ⊥
     some_none e = cc
 
--- tokens that begin with STREAM-START have its event first
-started : (x : yaml_encoding_t) (m e : yaml_mark_t) (ts : List Token) (own : Option Fault)
-    → (start : Event) × (later : List Event) × (parse.events_in (parse_of (record { body = stream_start x; start_mark = m; end_mark = e } ∷ ts) own) ≡ start ∷ later)
-unfolding feed
-started x m e ts own =
-    let first : Token = record { body = stream_start x; start_mark = m; end_mark = e } in
-    let i = event_at (event.stream_start x) m e in
-    let ending = (run (first ∷ ts) initial own).ending in (
-      placed (event.stream_start x) i,
-      (plain (items_of (run ts (state.first ∷ []) own).items) ending no_directives).events,
-      ap (λ (p : Plain). p.events) (parse_plain (first ∷ ts) own ∙ ap (λ y. plain y ending no_directives) (step_items first ts initial (state.first ∷ []) own (i ∷ []) refl)),
-    )
-
 pub windows_are_accepted : WindowsAreAccepted
 windows_are_accepted x a b at begins ga gb =
-    let pa = passed x a ga.scanned in
-    let (front, last, are, ends, others) = stream_ends (record { encoding = x; text = a }) pa.none in
-    let m = last.start_mark in
-    let e = last.end_mark in
-    let list : (scan_of x a).tokens ≡ front ++ end_at m e ∷ [] = are ∙ ap (λ t. front ++ t ∷ []) (body_at last stream_end m ends refl) in
-    let f = front_of front (go_on front others) m e e (ap (λ ts. (parse_of ts None).ending) (sym list) ∙ ap (λ (r : Reading). r.ending) (sym pa.reads) ∙ ga.parsed) in
-    let before = f.taken.events ++ f.events in
-    let final : Event = placed event.stream_end (event_at event.stream_end m e) in
-    let came : parse.events_in (reading_in x a) ≡ before ++ final ∷ [] = ap parse.events_in pa.reads ∙ ap (λ ts. parse.events_in (parse_of ts None)) list ∙ front_events front m e e f in
-    let h = handed x a b at begins (no_bracket x a ga) pa.none pa.spell front last are in
-    let (start, later, come) = started x h.first.start_mark h.first.end_mark (h.mark ∷ h.behind.tokens) h.behind.fault in
-    let rest = ap read_to h.rest ∙ ap (λ t. parse_of (t ∷ h.mark ∷ h.behind.tokens) h.behind.fault) (body_at h.first (stream_start x) h.first.start_mark h.starts refl) in
-    let (fault, events, ending) = windows_are_read x a b at begins ga before final came start later (ap parse.events_in rest ∙ come) in
+    let (start, later, come, starts) = begins_so x b in
+    let (before, end, came, ends) = ends_so x a ga in
+    let (fault, events, ending) = windows_are_read x a b at begins ga before end came start later come in
     record {
       scanned = fault ∙ ap (option_map (moved_fault (length a) (line_at a (length a)))) gb.scanned;
       parsed = none_moved (length a) (line_at a (length a)) _ _ ending gb.parsed;
     }
+
+-- ---- a front that is refused
+
+spell_push : (xs : List Token) (t : Token) → AllSpell xs → spells_text t.body ≡ true
+    → AllSpell (xs ++ t ∷ [])
+spell_push [] t h k = (k, tt)
+spell_push (x ∷ xs) t h k = (h.0, spell_push xs t h.1 k)
+
+-- tokens pass the adapter, or it stops within them
+spell_or : (front : List Token) → AllSpell front
+    ⊎ ((f g : Option Fault) (ts us : List Token) → cut f (front ++ ts) ≡ cut g (front ++ us))
+spell_or [] = inl tt
+spell_or (t ∷ front) =
+    elim (cases_Bool (spells_text t.body)) [
+      | inr e ↦ inr (λ f g ts us. rw e refl)
+      | inl e ↦ elim (spell_or front) [
+        | inl h ↦ inl (e, h)
+        | inr h ↦ inr (λ f g ts us. rw e (ap (with_token t) (h f g ts us)))
+      ]
+    ]
+
+parser_refuses : (x : yaml_encoding_t) (a b : List ℕ) → IsCut a b → is_document_start b 0 ≡ true
+    → (tokens_in x a).fault ≡ None → depth (all a) ≡ 0
+    → (f : Fault) → (reading_in x a).ending ≡ Some f → (AwaitsDocument x a f → ⊥)
+    → (parse.events_in (reading_in x (a ++ b)) ≡ parse.events_in (reading_in x a))
+    × ((reading_in x (a ++ b)).ending ≡ Some f)
+parser_refuses x a b at begins clean outer f refused other =
+    let d = length a in
+    let n = line_at a (length a) in
+    let pa = passed x a clean in
+    let (front, last, are, ends, others) = stream_ends (record { encoding = x; text = a }) pa.none in
+    let h = handed x a b at begins outer pa.none pa.spell front last are in
+    let mark = moved_token d n h.mark in
+    let behind = moved_remaining d n h.behind in
+    let mine : reading_in x a ≡ parse_of (front ++ last ∷ []) None = pa.reads ∙ ap (λ ts. parse_of ts None) are in
+    let whole : reading_in x (a ++ b) ≡ parse_of (front ++ mark ∷ behind.tokens) behind.fault = ap read_to h.whole in
+    let (events, ending) = refused_fronts_stay front last (go_on front others) ends f (ap (λ (r : Reading). r.ending) (sym mine) ∙ refused)
+    (λ e. other (front, last, are, e)) mark h.begins h.there behind.tokens behind.fault in
+    (ap parse.events_in whole ∙ events ∙ ap parse.events_in (sym mine), ap (λ (r : Reading). r.ending) whole ∙ ending)
+
+pub refused_fronts_are_read : RefusedFrontsAreRead
+refused_fronts_are_read x a b at begins clean outer f refused other =
+    let c = scan_of x a in
+    let (front, last, are, ends, others) = stream_ends (record { encoding = x; text = a }) clean in
+    elim (spell_or front) [
+      | inl h ↦
+          let spell : AllSpell c.tokens = subst AllSpell (sym are) (spell_push front last h (ap spells_text ends)) in
+          let none : (tokens_in x a).fault ≡ None = ap (λ (r : Remaining). r.fault) (cut_same c.fault c.tokens spell) ∙ clean in
+          parser_refuses x a b at begins none outer f refused other
+      | inr stops ↦
+          let (behind, starts) = stream_starts (record { encoding = x; text = b }) in
+          let first : Token = record { body = stream_start x; start_mark = zero_mark; end_mark = zero_mark } in
+          let whole = windows_are_scanned x a b at clean outer front last are first behind starts in
+          let d = length a in
+          let n = line_at a (length a) in
+          let same : tokens_in x (a ++ b) ≡ tokens_in x a =
+          ap (λ (y : Remaining). cut y.fault y.tokens) whole
+          ∙ stops (option_map (moved_fault d n) (scan_of x b).fault) c.fault (moved_tokens d n behind) (last ∷ [])
+          ∙ ap (cut c.fault) (sym are) in
+          (ap (λ r. parse.events_in (read_to r)) same, ap (λ r. (read_to r).ending) same ∙ refused)
+    ]

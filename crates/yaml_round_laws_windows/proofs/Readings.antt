@@ -1,7 +1,6 @@
 -- Tokens have the same events where they are moved, moved, and end in the same fault, or in none.
-use Rattle.std.proofs.Common.{◌≡◌, ℕ, List, [], ◌∷◌, ◌++◌, map, length, Option, Some, None, refl, sym, ap, subst, ◌∙◌, inl, inr}
+use Rattle.std.proofs.Common.{◌≡◌, ℕ, List, [], ◌∷◌, ◌++◌, map, Option, Some, None, refl, sym, ap, subst, ◌∙◌, inl, inr}
 use Rattle.std.proofs.lemmas.Bool.{cases_Bool}
-use Rattle.std.proofs.lemmas.List.{append-nil}
 use Rattle.yaml_round_content.specs.scan_model.declared.yaml_mark_t.{yaml_mark_t}
 use Rattle.yaml_round_content.specs.scan_model.Faults.{Fault}
 use Rattle.yaml_round_content.specs.parse_model.Tokens.{Token}
@@ -11,13 +10,13 @@ use Rattle.yaml_round_content.specs.parse_grammar.Items.{RawEvent, RawEventBody,
 use Rattle.yaml_round_content.specs.parse_grammar.Items as item
 use Rattle.yaml_round_content.specs.parse_grammar.Resolve.{Directives, Settled, refused, gave, noted, settle, settle_body, resolved, with_resolved, is_known_version, with_version, with_tag, directive_for, placed}
 use Rattle.yaml_round_content.specs.parse_grammar.States.{State}
-use Rattle.yaml_round_content.specs.parse_grammar.Machine.{Fed, stop, go, feed, Outcome, carry, run}
+use Rattle.yaml_round_content.specs.parse_grammar.Machine.{Fed, stop, go, feed, run}
 use Rattle.yaml_scan_laws_windows.specs.Moved.{moved_mark, moved_token, moved_fault}
 use Rattle.yaml_parse_laws_windows.specs.Laws.{GoOn}
 use Rattle.yaml_parse_laws_windows.proofs.Grounding.{Stands}
 use Rattle.yaml_parse_laws_windows.proofs.Noting.{with_event, then_through, through, Fine, stands_feed}
 use Rattle.yaml_parse_laws_windows.proofs.Parting.{end_at, parts}
-use Rattle.yaml_parse_laws_windows.proofs.Following.{items_of, Plain, told_by, plain, items_numbered, run_step, step_items, step_ending}
+use Rattle.yaml_parse_laws_windows.proofs.Following.{items_of, Plain, told_by, plain, read_of, went, halted}
 use Rattle.yaml_round_laws_windows.specs.Moved.{moved_event, IsMovedFault, IsMovedEnd}
 use Rattle.yaml_round_laws_windows.proofs.Machine.{moved_state, moved_item, moved_body, IsMovedFed, fault_moved, feed_moved}
 
@@ -115,24 +114,6 @@ front_moved d n (i ∷ is) ds js ks f g h =
         (rec z (λ es behind t. h es behind (ap (λ v. then_through v i (λ x. through is x)) e ∙ t)))
 
 -- ---- tokens
-
-abbrev pub read_of : Outcome → Directives → Plain
-read_of o ds = plain (items_of o.items) o.ending ds
-
-went : (t : Token) (ts : List Token) (s z : List State) (f : Option Fault) (is : List RawEvent)
-    (ds : Directives)
-    → feed s t ≡ go is z
-    → read_of (run (t ∷ ts) s f) ds ≡ plain (is ++ items_of (run ts z f).items) (run ts z f).ending ds
-went t ts s z f is ds e =
-    ap (λ y. plain y (run (t ∷ ts) s f).ending ds) (step_items t ts s z f is e)
-    ∙ ap (λ y. plain (is ++ items_of (run ts z f).items) y ds) (step_ending t ts s z f is e)
-
-halted : (t : Token) (ts : List Token) (s : List State) (f : Option Fault) (is : List RawEvent)
-    (p : Fault) (ds : Directives)
-    → feed s t ≡ stop is p → read_of (run (t ∷ ts) s f) ds ≡ plain (is ++ []) (Some p) ds
-halted t ts s f is p ds e =
-    ap (λ o. read_of o ds) (run_step t ts s f ∙ ap (λ y. carry (length ts) y (λ z. run ts z f)) e)
-    ∙ ap (λ y. plain y (Some p) ds) (items_numbered (length ts) is ∙ sym (append-nil is))
 
 -- A token: the others count where it is taken, and its items settle.
 step_moved : (d n : ℕ) (t : Token) (ts : List Token) (s : List State) (ds : Directives)

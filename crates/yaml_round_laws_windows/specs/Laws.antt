@@ -1,10 +1,15 @@
 -- What is read of a text that is cut in two.
-use Rattle.std.specs.Prelude.{◌≡◌, ℕ, true, List, [], ◌∷◌, ◌++◌, map, length, None, option_map}
+use Rattle.std.specs.Prelude.{◌≡◌, ℕ, true, List, [], ◌∷◌, ◌++◌, map, length, Some, None, option_map}
 use Rattle.yaml_round_content.specs.scan_model.declared.yaml_encoding_t.{yaml_encoding_t}
 use Rattle.yaml_round_content.specs.scan_model.Marks.{line_at}
+use Rattle.yaml_round_content.specs.scan_model.Faults.{Fault}
+use Rattle.yaml_round_content.specs.scan_model.Tokens.{Token}
+use Rattle.yaml_round_content.specs.scan_history.History.{depth}
 use Rattle.yaml_round_content.specs.scan_history.Remaining as scan
 use Rattle.yaml_round_content.specs.scan_history.scan_words.Indicators.{is_document_start}
-use Rattle.yaml_round_content.specs.parse_model.Events.{Event}
+use Rattle.yaml_round_content.specs.parse_model.Events.{Event, stream_start, stream_end}
+use Rattle.yaml_round_content.specs.parse_grammar.declared.ParseProblem.TheVariants.{NoDocumentStart}
+use Rattle.yaml_round_content.specs.parse_grammar.Problems.{parser_fault}
 use Rattle.yaml_round_content.specs.parse_grammar.Resolve.{Reading, Told}
 use Rattle.yaml_round_content.specs.round_laws_adapted.Adapted.{adapted}
 use Rattle.yaml_round_content.specs.Input.{parsed}
@@ -49,3 +54,28 @@ abbrev pub WindowsAreAccepted : Type 0
 WindowsAreAccepted = (encoding : yaml_encoding_t) (front rest : List ℕ) → IsCut front rest
     → is_document_start rest 0 ≡ true
     → IsAccepted encoding front → IsAccepted encoding rest → IsAccepted encoding (front ++ rest)
+
+-- the fault of a text that ends behind directives
+abbrev pub AwaitsDocument : yaml_encoding_t → List ℕ → Fault → Type 0
+AwaitsDocument encoding text f = (before : List Token) × (last : Token)
+    × ((scan_of encoding text).tokens ≡ before ++ last ∷ [])
+    × (f ≡ parser_fault NoDocumentStart last.start_mark last.start_mark)
+
+-- Where a front is refused, but not by the scanner, and leaves no bracket open, nor ends behind directives, the whole has its events
+-- and its fault.
+abbrev pub RefusedFrontsAreRead : Type 0
+RefusedFrontsAreRead = (encoding : yaml_encoding_t) (front rest : List ℕ) → IsCut front rest
+    → is_document_start rest 0 ≡ true
+    → (scan_of encoding front).fault ≡ None → depth (scan.all front) ≡ 0
+    → (f : Fault) → (reading_in encoding front).ending ≡ Some f
+    → (AwaitsDocument encoding front f → ⊥)
+    → (events_in encoding (front ++ rest) ≡ events_in encoding front)
+    × ((reading_in encoding (front ++ rest)).ending ≡ Some f)
+
+-- Every text's events begin with STREAM-START, and those of one that is accepted end with STREAM-END.
+abbrev pub ReadingsAreFramed : Type 0
+ReadingsAreFramed = (encoding : yaml_encoding_t) (text : List ℕ)
+    → ((start : Event) × (later : List Event) × (events_in encoding text ≡ start ∷ later)
+    × (start.body ≡ stream_start encoding))
+    × (IsAccepted encoding text → (before : List Event) × (end : Event)
+    × (events_in encoding text ≡ before ++ end ∷ []) × (end.body ≡ stream_end))

@@ -1,6 +1,6 @@
 //! Each function's contract is a law.
 
-ghost use Rattle.yaml_round_laws_windows.specs.Laws.{WindowsAreRead, WindowsAreAccepted};
+ghost use Rattle.yaml_round_laws_windows.specs.Laws.{WindowsAreRead, WindowsAreAccepted, RefusedFrontsAreRead, ReadingsAreFramed};
 
 /// The events of a text that is cut in front of a line `---` behind a front that is accepted are those of the front, without the
 /// end, and then those of the rest, without the start, with their places moved; so is the fault that ends the rest, if one does.
@@ -11,4 +11,14 @@ pub fn windows_are_read()
 /// Such a text is accepted where both parts are.
 pub fn windows_are_accepted()
     ensures { WindowsAreAccepted }
+{}
+
+/// Where a front is refused, but not by the scanner, such a text is refused so, behind the same events.
+pub fn refused_fronts_are_read()
+    ensures { RefusedFrontsAreRead }
+{}
+
+/// The events of a text begin with the stream's start; where it is accepted they end with the stream's end.
+pub fn readings_are_framed()
+    ensures { ReadingsAreFramed }
 {}

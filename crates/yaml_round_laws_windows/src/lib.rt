@@ -3,4 +3,6 @@
 
 mod laws;
 
-pub use laws::{windows_are_accepted, windows_are_read};
+pub use laws::{
+    readings_are_framed, refused_fronts_are_read, windows_are_accepted, windows_are_read,
+};

@@ -1,5 +1,5 @@
 /* The emitter: events are kept as records, and laid out by the proved core, which goes on from where it stood (yaml_c_emit_on): each
- * time that enough are kept, at the end of a document, and at a flush. */
+ * time that enough are kept, at the end of a document, at a flush, and with an event that may be wrong. */
 #include "layer.h"
 
 static int no_memory(yaml_emitter_t *emitter)
@@ -164,6 +164,7 @@ static int lay_out(yaml_emitter_t *emitter, layer_writing *w)
         return fault(emitter, w, &answer);
     yaml_c_stand_free(&w->stand);
     w->stand = behind;
+    w->is_doubtful &= behind.place.waiting != 0;
     keep_waiting(w);
     return write_out(emitter, &answer);
 }
@@ -172,6 +173,28 @@ YAML_DECLARE(int) yaml_emitter_flush(yaml_emitter_t *emitter)
 {
     assert(emitter && emitter->write_handler && emitter->encoding);
     return !emitter->error && lay_out(emitter, LAYER_STATE(layer_writing, emitter));
+}
+
+/* ---- what may be wrong with an event: where that isn't ruled out at a glance it is laid out at once, and the core judges */
+
+/* Whether a name has letters, digits, `_` and `-` alone. */
+static int is_simple(const yaml_char_t *name)
+{
+    static const char kinds[] = "00000000000000000000000000000000"
+                                "00000000000001001111111111000000"
+                                "01111111111111111111111111100001"
+                                "01111111111111111111111111100000";
+    size_t at = 0;
+    while (name[at] < 0x80 && kinds[name[at]] == '1')
+        at++;
+    return at && !name[at];
+}
+
+/* Looks at a node's properties. */
+static inline void look_at(layer_writing *w, const yaml_char_t *anchor, const yaml_char_t *tag, int may_lack_tag)
+{
+    if ((anchor && !is_simple(anchor)) || (tag ? !*tag : !may_lack_tag))
+        w->is_doubtful = 1;
 }
 
 /* ---- where the events lead: an event in a wrong place is laid out at once, which tells the fault */
@@ -213,13 +236,22 @@ static enum due close_level(layer_writing *w, uint8_t kind)
 static inline enum due due_in_document(layer_writing *w, const yaml_event_t *event)
 {
     if (event->type == YAML_SCALAR_EVENT) {
+        look_at(w, event->data.scalar.anchor, event->data.scalar.tag,
+                event->data.scalar.plain_implicit || event->data.scalar.quoted_implicit);
         go_on(w);
         return KEEP;
     }
     switch (event->type) {
-    case YAML_ALIAS_EVENT: go_on(w); return KEEP;
-    case YAML_SEQUENCE_START_EVENT: return open_level(w, 0);
-    case YAML_MAPPING_START_EVENT: return open_level(w, IS_MAPPING);
+    case YAML_ALIAS_EVENT:
+        look_at(w, event->data.alias.anchor, NULL, event->data.alias.anchor != NULL);
+        go_on(w);
+        return KEEP;
+    case YAML_SEQUENCE_START_EVENT:
+        look_at(w, event->data.sequence_start.anchor, event->data.sequence_start.tag, 1);
+        return open_level(w, 0);
+    case YAML_MAPPING_START_EVENT:
+        look_at(w, event->data.mapping_start.anchor, event->data.mapping_start.tag, 1);
+        return open_level(w, IS_MAPPING);
     case YAML_SEQUENCE_END_EVENT: return close_level(w, 0);
     case YAML_MAPPING_END_EVENT: return close_level(w, IS_MAPPING);
     case YAML_DOCUMENT_END_EVENT: w->place = LAYER_BETWEEN_DOCUMENTS; return LAY_OUT;
@@ -236,6 +268,9 @@ static enum due due_between(layer_writing *w, const yaml_event_t *event)
         return LAY_OUT;
     w->place = LAYER_IN_DOCUMENT;
     w->levels.len = 0;
+    if (event->data.document_start.version_directive
+        || event->data.document_start.tag_directives.start != event->data.document_start.tag_directives.end)
+        w->is_doubtful = 1;
     return KEEP;
 }
 
@@ -289,7 +324,7 @@ static inline int take(yaml_emitter_t *emitter, layer_writing *w, const yaml_eve
     enum due due = due_with(emitter, w, event);
     if (due == NO_MEMORY || !layer_record(w, event))
         return no_memory(emitter);
-    return (due == KEEP && !is_enough(w)) || lay_out(emitter, w);
+    return (due == KEEP && !w->is_doubtful && !is_enough(w)) || lay_out(emitter, w);
 }
 
 YAML_DECLARE(int) yaml_emitter_emit(yaml_emitter_t *emitter, yaml_event_t *event)

@@ -253,6 +253,7 @@ enum layer_place { LAYER_BEFORE_STREAM, LAYER_BETWEEN_DOCUMENTS, LAYER_IN_DOCUME
 /* What an emitter keeps: where it stands, and the records of the events behind that. */
 typedef struct {
     enum layer_place place;
+    int is_doubtful; /* an event that may be wrong is kept */
     layer_bytes levels; /* a byte for each open collection, the outermost first: whether it is a mapping, and a value is due there */
     yaml_c_stand stand;
     layer_bytes events;

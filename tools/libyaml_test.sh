@@ -9,8 +9,8 @@
 # By itself: symbols, soname and layouts; events, tokens and texts of the vectors' inputs, and of two broken ones of each, beside
 # the proved core's own, also from a reader of single bytes, with flushes, and cut at each place where that can be; that documents
 # and output come in time; the symbols that no header declares; each allocation refused in turn; all these inputs under
-# AddressSanitizer and UBSan, with readers and writers that fail. Beside
-# Debian's libyaml: all answers for each file, by a C program and by the bindings of Python, Ruby and Perl, where
+# AddressSanitizer and UBSan, with readers and writers that fail. Beside Debian's libyaml: at which events an emitter refuses
+# streams made by chance, and all answers for each file, by a C program and by the bindings of Python, Ruby and Perl, where
 # bindings/libyaml/tests/expected.txt lists what differs and why; a difference that isn't there fails, and so does one that is
 # there and isn't seen.
 set -u
@@ -123,6 +123,16 @@ beside() {
     if [ -n "${LIST:-}" ]; then cat "$work/output"; else sed 's/^/libyaml-test: /' "$work/output" | tail -n 40; fi
 }
 
+# At which event an emitter refuses a stream, and why.
+refusals() {
+    local streams=20000
+    compile refused refused.c -lyaml || return
+    "$work/refused" $streams >"$work/theirs.txt" || wrong "refused fails with Debian's"
+    LD_LIBRARY_PATH=$library "$work/refused" $streams >"$work/ours.txt" || wrong "refused fails"
+    cmp -s "$work/theirs.txt" "$work/ours.txt" || wrong "refused: $(diff "$work/theirs.txt" "$work/ours.txt" | head -5)"
+    say "refused: $streams streams, $(grep -c ' 0 7 ' "$work/theirs.txt") with a fault, told at the same events"
+}
+
 c_client() {
     local section
     if ! $compiler $strict -I "$source" -o "$work/show" "$tests/show.c" -lyaml 2>"$work/errors"; then
@@ -131,6 +141,7 @@ c_client() {
     fi
     compile theirs undeclared.c -lyaml && judges "undeclared, Debian's" "$work/theirs"
     compile theirs promptly.c -lyaml && judges "promptly, Debian's" "$work/theirs"
+    refusals
     for section in events tokens documents plain canonical unicode wide utf16 dumped; do
         beside "$section" "$work/inputs/given" "$work/show" "$section"
     done

@@ -1,5 +1,5 @@
 /* The emitter: events are kept as records, and laid out by the proved core, which goes on from where it stood (yaml_c_emit_on): each
- * time that enough are kept, at the end of a document, and at a flush. */
+ * time that enough are kept, at the end of a document, at a flush, and with an event that may be wrong. */
 #include "layer.h"
 
 static int no_memory(yaml_emitter_t *emitter)
@@ -119,11 +119,16 @@ static void keep_waiting(layer_writing *w)
     size_t waiting = w->stand.place.waiting, from = layer_events_len(w) - waiting;
     w->bytes.len = w->directives.len = 0;
     for (size_t i = 0; i < waiting; i++) {
-        events[i] = events[from + i];
-        move_directives(w, &events[i].directives);
-        move_text(w, &events[i].anchor);
-        move_text(w, &events[i].tag);
-        move_text(w, &events[i].value);
+        yaml_c_event *it = &events[i];
+        *it = events[from + i];
+        if (it->kind == YAML_C_DOCUMENT_START_EVENT)
+            move_directives(w, &it->directives);
+        if (it->has_anchor || it->kind == YAML_C_ALIAS_EVENT)
+            move_text(w, &it->anchor);
+        if (it->has_tag)
+            move_text(w, &it->tag);
+        if (it->kind == YAML_C_SCALAR_EVENT)
+            move_text(w, &it->value);
     }
     w->events.len = waiting * sizeof *events;
 }
@@ -159,6 +164,7 @@ static int lay_out(yaml_emitter_t *emitter, layer_writing *w)
         return fault(emitter, w, &answer);
     yaml_c_stand_free(&w->stand);
     w->stand = behind;
+    w->is_doubtful &= behind.place.waiting != 0;
     keep_waiting(w);
     return write_out(emitter, &answer);
 }
@@ -169,6 +175,28 @@ YAML_DECLARE(int) yaml_emitter_flush(yaml_emitter_t *emitter)
     return !emitter->error && lay_out(emitter, LAYER_STATE(layer_writing, emitter));
 }
 
+/* ---- what may be wrong with an event: where that isn't ruled out at a glance it is laid out at once, and the core judges */
+
+/* Whether a name has letters, digits, `_` and `-` alone. */
+static int is_simple(const yaml_char_t *name)
+{
+    static const char kinds[] = "00000000000000000000000000000000"
+                                "00000000000001001111111111000000"
+                                "01111111111111111111111111100001"
+                                "01111111111111111111111111100000";
+    size_t at = 0;
+    while (name[at] < 0x80 && kinds[name[at]] == '1')
+        at++;
+    return at && !name[at];
+}
+
+/* Looks at a node's properties. */
+static inline void look_at(layer_writing *w, const yaml_char_t *anchor, const yaml_char_t *tag, int may_lack_tag)
+{
+    if ((anchor && !is_simple(anchor)) || (tag ? !*tag : !may_lack_tag))
+        w->is_doubtful = 1;
+}
+
 /* ---- where the events lead: an event in a wrong place is laid out at once, which tells the fault */
 
 enum { IS_MAPPING = 1, IS_VALUE = 2 };
@@ -176,17 +204,17 @@ enum { IS_MAPPING = 1, IS_VALUE = 2 };
 enum due { KEEP, LAY_OUT, NO_MEMORY };
 
 /* The collection that was opened last; NULL: none is open. */
-static uint8_t *innermost(const layer_writing *w)
+static inline uint8_t *innermost(const layer_writing *w)
 {
     return w->levels.len ? w->levels.at + w->levels.len - 1 : NULL;
 }
 
 /* A node has come. */
-static void go_on(layer_writing *w)
+static inline void go_on(layer_writing *w)
 {
     uint8_t *around = innermost(w);
-    if (around && *around & IS_MAPPING)
-        *around ^= IS_VALUE;
+    if (around)
+        *around ^= (uint8_t)((*around & IS_MAPPING) * IS_VALUE);
 }
 
 static enum due open_level(layer_writing *w, uint8_t kind)
@@ -205,13 +233,25 @@ static enum due close_level(layer_writing *w, uint8_t kind)
 }
 
 /* What is due with an event within a document. */
-static enum due due_in_document(layer_writing *w, const yaml_event_t *event)
+static inline enum due due_in_document(layer_writing *w, const yaml_event_t *event)
 {
+    if (event->type == YAML_SCALAR_EVENT) {
+        look_at(w, event->data.scalar.anchor, event->data.scalar.tag,
+                event->data.scalar.plain_implicit || event->data.scalar.quoted_implicit);
+        go_on(w);
+        return KEEP;
+    }
     switch (event->type) {
-    case YAML_SCALAR_EVENT:
-    case YAML_ALIAS_EVENT: go_on(w); return KEEP;
-    case YAML_SEQUENCE_START_EVENT: return open_level(w, 0);
-    case YAML_MAPPING_START_EVENT: return open_level(w, IS_MAPPING);
+    case YAML_ALIAS_EVENT:
+        look_at(w, event->data.alias.anchor, NULL, event->data.alias.anchor != NULL);
+        go_on(w);
+        return KEEP;
+    case YAML_SEQUENCE_START_EVENT:
+        look_at(w, event->data.sequence_start.anchor, event->data.sequence_start.tag, 1);
+        return open_level(w, 0);
+    case YAML_MAPPING_START_EVENT:
+        look_at(w, event->data.mapping_start.anchor, event->data.mapping_start.tag, 1);
+        return open_level(w, IS_MAPPING);
     case YAML_SEQUENCE_END_EVENT: return close_level(w, 0);
     case YAML_MAPPING_END_EVENT: return close_level(w, IS_MAPPING);
     case YAML_DOCUMENT_END_EVENT: w->place = LAYER_BETWEEN_DOCUMENTS; return LAY_OUT;
@@ -228,6 +268,9 @@ static enum due due_between(layer_writing *w, const yaml_event_t *event)
         return LAY_OUT;
     w->place = LAYER_IN_DOCUMENT;
     w->levels.len = 0;
+    if (event->data.document_start.version_directive
+        || event->data.document_start.tag_directives.start != event->data.document_start.tag_directives.end)
+        w->is_doubtful = 1;
     return KEEP;
 }
 
@@ -246,8 +289,10 @@ static void settle(yaml_emitter_t *emitter, yaml_encoding_t encoding)
         emitter->line_break = YAML_LN_BREAK;
 }
 
-static enum due due_with(yaml_emitter_t *emitter, layer_writing *w, const yaml_event_t *event)
+static inline enum due due_with(yaml_emitter_t *emitter, layer_writing *w, const yaml_event_t *event)
 {
+    if (w->place == LAYER_IN_DOCUMENT)
+        return due_in_document(w, event);
     switch (w->place) {
     case LAYER_BEFORE_STREAM:
         if (event->type != YAML_STREAM_START_EVENT)
@@ -256,7 +301,6 @@ static enum due due_with(yaml_emitter_t *emitter, layer_writing *w, const yaml_e
         settle(emitter, event->data.stream_start.encoding);
         return KEEP;
     case LAYER_BETWEEN_DOCUMENTS: return due_between(w, event);
-    case LAYER_IN_DOCUMENT: return due_in_document(w, event);
     default: return LAY_OUT;
     }
 }
@@ -269,24 +313,24 @@ static enum due due_with(yaml_emitter_t *emitter, layer_writing *w, const yaml_e
 #endif
 
 /* Whether enough is kept: more where more collections are open, which are handed over with each layout. */
-static int is_enough(const layer_writing *w)
+static inline int is_enough(const layer_writing *w)
 {
-    size_t most = LAYER_PIECE ? LAYER_PIECE + w->stand.levels_len : 0;
-    return layer_events_len(w) >= most || w->bytes.len >= 64 * most;
+    size_t most = LAYER_PIECE ? LAYER_PIECE + 8 * w->stand.levels_len : 0;
+    return w->events.len >= most * sizeof(yaml_c_event) || w->bytes.len >= 64 * most;
 }
 
-static int take(yaml_emitter_t *emitter, layer_writing *w, const yaml_event_t *event)
+static inline int take(yaml_emitter_t *emitter, layer_writing *w, const yaml_event_t *event)
 {
     enum due due = due_with(emitter, w, event);
     if (due == NO_MEMORY || !layer_record(w, event))
         return no_memory(emitter);
-    return (due == KEEP && !is_enough(w)) || lay_out(emitter, w);
+    return (due == KEEP && !w->is_doubtful && !is_enough(w)) || lay_out(emitter, w);
 }
 
 YAML_DECLARE(int) yaml_emitter_emit(yaml_emitter_t *emitter, yaml_event_t *event)
 {
     assert(emitter && event);
     int is_taken = !emitter->error && take(emitter, LAYER_STATE(layer_writing, emitter), event);
-    yaml_event_delete(event);
+    layer_done(event);
     return is_taken;
 }

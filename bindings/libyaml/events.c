@@ -2,7 +2,7 @@
 #include "layer.h"
 
 /* Most nodes have no anchor and no tag. */
-static void free_if(void *block)
+static inline void free_if(void *block)
 {
     if (block)
         free(block);
@@ -17,20 +17,21 @@ static void free_directives(yaml_tag_directive_t *start, yaml_tag_directive_t *e
     free(start);
 }
 
-YAML_DECLARE(void) yaml_event_delete(yaml_event_t *event)
+/* Frees the event's texts. */
+static inline void free_texts(const yaml_event_t *event)
 {
-    assert(event);
+    if (event->type == YAML_SCALAR_EVENT) {
+        free_if(event->data.scalar.anchor);
+        free_if(event->data.scalar.tag);
+        free(event->data.scalar.value);
+        return;
+    }
     switch (event->type) {
     case YAML_DOCUMENT_START_EVENT:
         free(event->data.document_start.version_directive);
         free_directives(event->data.document_start.tag_directives.start, event->data.document_start.tag_directives.end);
         break;
     case YAML_ALIAS_EVENT: free(event->data.alias.anchor); break;
-    case YAML_SCALAR_EVENT:
-        free_if(event->data.scalar.anchor);
-        free_if(event->data.scalar.tag);
-        free(event->data.scalar.value);
-        break;
     case YAML_SEQUENCE_START_EVENT:
         free_if(event->data.sequence_start.anchor);
         free_if(event->data.sequence_start.tag);
@@ -41,6 +42,19 @@ YAML_DECLARE(void) yaml_event_delete(yaml_event_t *event)
         break;
     default: break;
     }
+}
+
+void layer_done(yaml_event_t *event)
+{
+    free_texts(event);
+    event->type = YAML_NO_EVENT;
+    memset(&event->data, 0, sizeof event->data);
+}
+
+YAML_DECLARE(void) yaml_event_delete(yaml_event_t *event)
+{
+    assert(event);
+    free_texts(event);
     layer_clear(event);
 }
 
@@ -65,7 +79,7 @@ YAML_DECLARE(void) yaml_token_delete(yaml_token_t *token)
 }
 
 /* An event of that kind, all else 0. */
-static void begin(yaml_event_t *event, yaml_event_type_t type)
+static inline void begin(yaml_event_t *event, yaml_event_type_t type)
 {
     assert(event);
     layer_clear(event);
@@ -73,20 +87,23 @@ static void begin(yaml_event_t *event, yaml_event_type_t type)
 }
 
 /* Whether all went well; where it didn't, the event is deleted. */
-static int made(yaml_event_t *event, int is_well)
+static inline int made(yaml_event_t *event, int is_well)
 {
     if (!is_well)
         yaml_event_delete(event);
     return is_well;
 }
 
-/* A copy of a text that may be missing. */
 static int copied(yaml_char_t **to, const yaml_char_t *text)
 {
-    if (!text)
-        return 1;
     size_t len = strlen((const char *)text);
     return layer_is_utf8(text, len) && (*to = layer_copy(text, len)) != NULL;
+}
+
+/* A copy of a text that may be missing. */
+static inline int copied_if(yaml_char_t **to, const yaml_char_t *text)
+{
+    return !text || copied(to, text);
 }
 
 YAML_DECLARE(int) yaml_stream_start_event_initialize(yaml_event_t *event, yaml_encoding_t encoding)
@@ -158,13 +175,13 @@ yaml_scalar_event_initialize(yaml_event_t *event, const yaml_char_t *anchor, con
                              int length, int plain_implicit, int quoted_implicit, yaml_scalar_style_t style)
 {
     assert(value);
-    begin(event, YAML_SCALAR_EVENT);
     size_t len = length < 0 ? strlen((const char *)value) : (size_t)length;
+    begin(event, YAML_SCALAR_EVENT);
     event->data.scalar.length = len;
     event->data.scalar.plain_implicit = plain_implicit;
     event->data.scalar.quoted_implicit = quoted_implicit;
     event->data.scalar.style = style;
-    return made(event, copied(&event->data.scalar.anchor, anchor) && copied(&event->data.scalar.tag, tag)
+    return made(event, copied_if(&event->data.scalar.anchor, anchor) && copied_if(&event->data.scalar.tag, tag)
                            && layer_is_utf8(value, len) && (event->data.scalar.value = layer_copy(value, len)) != NULL);
 }
 
@@ -175,7 +192,7 @@ yaml_sequence_start_event_initialize(yaml_event_t *event, const yaml_char_t *anc
     begin(event, YAML_SEQUENCE_START_EVENT);
     event->data.sequence_start.implicit = implicit;
     event->data.sequence_start.style = style;
-    return made(event, copied(&event->data.sequence_start.anchor, anchor) && copied(&event->data.sequence_start.tag, tag));
+    return made(event, copied_if(&event->data.sequence_start.anchor, anchor) && copied_if(&event->data.sequence_start.tag, tag));
 }
 
 YAML_DECLARE(int) yaml_sequence_end_event_initialize(yaml_event_t *event)
@@ -191,7 +208,7 @@ yaml_mapping_start_event_initialize(yaml_event_t *event, const yaml_char_t *anch
     begin(event, YAML_MAPPING_START_EVENT);
     event->data.mapping_start.implicit = implicit;
     event->data.mapping_start.style = style;
-    return made(event, copied(&event->data.mapping_start.anchor, anchor) && copied(&event->data.mapping_start.tag, tag));
+    return made(event, copied_if(&event->data.mapping_start.anchor, anchor) && copied_if(&event->data.mapping_start.tag, tag));
 }
 
 YAML_DECLARE(int) yaml_mapping_end_event_initialize(yaml_event_t *event)

@@ -26,8 +26,37 @@ int yaml_parser_fetch_more_tokens(yaml_parser_t *parser);
 
 /* ---- memory */
 
+/* Copies bytes to where others are. Most texts are short: those are copied without a call, by two steps that may meet. */
+static inline void layer_move(uint8_t *to, const uint8_t *from, size_t len)
+{
+    if (len > 32) {
+        memcpy(to, from, len);
+    } else if (len >= 16) {
+        memcpy(to, from, 16);
+        memcpy(to + len - 16, from + len - 16, 16);
+    } else if (len >= 8) {
+        memcpy(to, from, 8);
+        memcpy(to + len - 8, from + len - 8, 8);
+    } else if (len >= 4) {
+        memcpy(to, from, 4);
+        memcpy(to + len - 4, from + len - 4, 4);
+    } else if (len) {
+        to[0] = from[0];
+        to[len / 2] = from[len / 2];
+        to[len - 1] = from[len - 1];
+    }
+}
+
 /* A text of that many bytes, with a byte 0 behind it; NULL where memory was refused. */
-yaml_char_t *layer_copy(const void *text, size_t len);
+static inline yaml_char_t *layer_copy(const void *text, size_t len)
+{
+    yaml_char_t *copy = malloc(len + 1);
+    if (copy) {
+        layer_move(copy, text, len);
+        copy[len] = 0;
+    }
+    return copy;
+}
 
 /* Bytes that grow. */
 typedef struct {
@@ -44,8 +73,7 @@ static inline int layer_put(layer_bytes *bytes, const void *text, size_t len)
 {
     if (len > bytes->room - bytes->len && !layer_make_room(bytes, len))
         return 0;
-    if (len)
-        memcpy(bytes->at + bytes->len, text, len);
+    layer_move(bytes->at + bytes->len, text, len);
     bytes->len += len;
     return 1;
 }
@@ -70,12 +98,41 @@ void *layer_grown(void *block, size_t len, size_t item, size_t *room);
         }                                                                                              \
     } while (0)
 
-/* Whether the bytes are UTF-8, without surrogates. */
-int layer_is_utf8(const yaml_char_t *text, size_t len);
+/* All bytes of a text of fewer than eight, one upon another. */
+static inline uint64_t layer_few(const uint8_t *text, size_t len)
+{
+    uint32_t first, last;
+    if (len < sizeof first)
+        return len ? (uint64_t)(text[0] | text[len / 2] | text[len - 1]) : 0;
+    memcpy(&first, text, sizeof first);
+    memcpy(&last, text + len - sizeof last, sizeof last);
+    return first | last;
+}
+
+/* Whether all bytes are ASCII. They are looked at by eight, the last ones with some of those before. */
+static inline int layer_is_ascii(const uint8_t *text, size_t len)
+{
+    uint64_t all, word;
+    if (len < sizeof word)
+        return !(layer_few(text, len) & UINT64_C(0x80808080));
+    memcpy(&all, text + len - sizeof all, sizeof all);
+    for (size_t at = 0; at + sizeof word < len; at += sizeof word) {
+        memcpy(&word, text + at, sizeof word);
+        all |= word;
+    }
+    return !(all & UINT64_C(0x8080808080808080));
+}
+
+/* Whether the bytes are UTF-8, without surrogates: each character is looked at. */
+int layer_is_wide(const yaml_char_t *text, size_t len);
+/* The same, quicker where they are ASCII. */
+static inline int layer_is_utf8(const yaml_char_t *text, size_t len)
+{
+    return layer_is_ascii(text, len) || layer_is_wide(text, len);
+}
 /* Whether the bytes from `from` on are UTF-8 and what a text may have, as far as four bytes tell; `from` is then where that isn't
  * known. */
 int layer_is_text(const yaml_char_t *text, size_t len, size_t *from);
-int layer_is_ascii(const uint8_t *text, size_t len);
 
 /* No event. It is cleared part by part: compilers clear the whole of such a size by an instruction that takes longer. */
 static inline void layer_clear(yaml_event_t *event)
@@ -85,6 +142,9 @@ static inline void layer_clear(yaml_event_t *event)
     memset(&event->start_mark, 0, sizeof event->start_mark);
     memset(&event->end_mark, 0, sizeof event->end_mark);
 }
+
+/* Deletes an event that was emitted; its places stay. */
+void layer_done(yaml_event_t *event);
 
 /* ---- the layer's own state, which hangs on a pointer that no client has a use for */
 
@@ -193,6 +253,7 @@ enum layer_place { LAYER_BEFORE_STREAM, LAYER_BETWEEN_DOCUMENTS, LAYER_IN_DOCUME
 /* What an emitter keeps: where it stands, and the records of the events behind that. */
 typedef struct {
     enum layer_place place;
+    int is_doubtful; /* an event that may be wrong is kept */
     layer_bytes levels; /* a byte for each open collection, the outermost first: whether it is a mapping, and a value is due there */
     yaml_c_stand stand;
     layer_bytes events;

@@ -33,17 +33,6 @@ YAML_DECLARE(yaml_char_t *) yaml_strdup(const yaml_char_t *text)
     return text ? layer_copy(text, strlen((const char *)text)) : NULL;
 }
 
-yaml_char_t *layer_copy(const void *text, size_t len)
-{
-    yaml_char_t *copy = malloc(len + 1);
-    if (copy) {
-        if (len)
-            memcpy(copy, text, len);
-        copy[len] = 0;
-    }
-    return copy;
-}
-
 int layer_make_room(layer_bytes *bytes, size_t len)
 {
     size_t room = bytes->room ? bytes->room : 256;
@@ -99,7 +88,7 @@ static unsigned character(const yaml_char_t *text, size_t width)
     return is_wrong ? UINT32_MAX : value;
 }
 
-int layer_is_utf8(const yaml_char_t *text, size_t len)
+int layer_is_wide(const yaml_char_t *text, size_t len)
 {
     for (size_t i = 0; i < len;) {
         size_t width = width_of(text[i]);
@@ -152,16 +141,4 @@ int layer_is_text(const yaml_char_t *text, size_t len, size_t *from)
                 return len - *from < 4;
     }
     return 1;
-}
-
-int layer_is_ascii(const uint8_t *text, size_t len)
-{
-    size_t at = 0;
-    uint8_t all = 0;
-    for (; at + 64 <= len; at += 64)
-        for (size_t i = 0; i < 64; i++)
-            all |= text[at + i];
-    for (; at < len; at++)
-        all |= text[at];
-    return all < 0x80;
 }

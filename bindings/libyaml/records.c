@@ -1,7 +1,7 @@
 /* Events as records, whose texts stand one behind another in a block of bytes. */
 #include "layer.h"
 
-static int put(layer_writing *w, yaml_c_span *span, const yaml_char_t *text, size_t len)
+static inline int put(layer_writing *w, yaml_c_span *span, const yaml_char_t *text, size_t len)
 {
     span->at = w->bytes.len;
     span->len = len;
@@ -9,13 +9,15 @@ static int put(layer_writing *w, yaml_c_span *span, const yaml_char_t *text, siz
 }
 
 /* A text that may be missing. */
-static int put_if(layer_writing *w, yaml_c_span *span, const yaml_char_t *text)
+static inline int put_if(layer_writing *w, yaml_c_span *span, const yaml_char_t *text)
 {
     return !text || put(w, span, text, strlen((const char *)text));
 }
 
-static int put_properties(layer_writing *w, yaml_c_event *record, const yaml_char_t *anchor, const yaml_char_t *tag)
+static inline int put_properties(layer_writing *w, yaml_c_event *record, const yaml_char_t *anchor, const yaml_char_t *tag)
 {
+    if (!anchor && !tag)
+        return 1;
     record->has_anchor = anchor != NULL;
     record->has_tag = tag != NULL;
     return put_if(w, &record->anchor, anchor) && put_if(w, &record->tag, tag);
@@ -32,6 +34,7 @@ static int put_document_start(layer_writing *w, yaml_c_event *record, const yaml
         record->minor = version->minor;
     }
     record->directives.at = w->directives.len / sizeof(yaml_c_directive);
+    record->directives.len = 0;
     for (; it != event->data.document_start.tag_directives.end; it++) {
         yaml_c_directive directive = {{0, 0}, {0, 0}};
         if (!put_if(w, &directive.handle, it->handle) || !put_if(w, &directive.prefix, it->prefix)
@@ -42,7 +45,7 @@ static int put_document_start(layer_writing *w, yaml_c_event *record, const yaml
     return 1;
 }
 
-static int put_scalar(layer_writing *w, yaml_c_event *record, const yaml_event_t *event)
+static inline int put_scalar(layer_writing *w, yaml_c_event *record, const yaml_event_t *event)
 {
     record->implicit = event->data.scalar.plain_implicit;
     record->quoted_implicit = event->data.scalar.quoted_implicit;
@@ -51,15 +54,22 @@ static int put_scalar(layer_writing *w, yaml_c_event *record, const yaml_event_t
            && put(w, &record->value, event->data.scalar.value, event->data.scalar.length);
 }
 
-/* Fills what the event's kind has. 0: memory was refused. */
-static int filled(layer_writing *w, yaml_c_event *record, const yaml_event_t *event)
+static int put_alias(layer_writing *w, yaml_c_event *record, const yaml_char_t *anchor)
 {
+    record->anchor.at = record->anchor.len = 0;
+    return put_if(w, &record->anchor, anchor);
+}
+
+/* Fills what the event's kind has. 0: memory was refused. */
+static inline int filled(layer_writing *w, yaml_c_event *record, const yaml_event_t *event)
+{
+    if (event->type == YAML_SCALAR_EVENT)
+        return put_scalar(w, record, event);
     switch (event->type) {
     case YAML_STREAM_START_EVENT: record->encoding = (int32_t)event->data.stream_start.encoding; return 1;
     case YAML_DOCUMENT_START_EVENT: return put_document_start(w, record, event);
     case YAML_DOCUMENT_END_EVENT: record->implicit = event->data.document_end.implicit; return 1;
-    case YAML_ALIAS_EVENT: return put_if(w, &record->anchor, event->data.alias.anchor);
-    case YAML_SCALAR_EVENT: return put_scalar(w, record, event);
+    case YAML_ALIAS_EVENT: return put_alias(w, record, event->data.alias.anchor);
     case YAML_SEQUENCE_START_EVENT:
         record->implicit = event->data.sequence_start.implicit;
         record->style = (int32_t)event->data.sequence_start.style;
@@ -78,11 +88,8 @@ int layer_record(layer_writing *w, const yaml_event_t *event)
     if (sizeof *record > w->events.room - w->events.len && !layer_make_room(&w->events, sizeof *record))
         return 0;
     record = (void *)(w->events.at + w->events.len);
-    /* part by part, as in layer_clear */
-    memset(record, 0, offsetof(yaml_c_event, anchor));
-    memset(&record->anchor, 0, offsetof(yaml_c_event, start) - offsetof(yaml_c_event, anchor));
-    memset(&record->start, 0, sizeof record->start);
-    memset(&record->end, 0, sizeof record->end);
+    /* nothing looks at its places, nor at texts that its kind and its flags don't name */
+    memset(record, 0, offsetof(yaml_c_event, directives));
     record->kind = (int32_t)event->type;
     if (!filled(w, record, event))
         return 0;

@@ -149,6 +149,53 @@ static void writes(yaml_mapping_style_t style)
     yaml_emitter_delete(&emitter);
 }
 
+/* Has a sequence written with an event behind ten items, and more items. How many events are taken behind it before its fault is
+ * told, of at most ten. */
+static int taken_behind(yaml_event_t *event, const char *problem)
+{
+    yaml_emitter_t emitter;
+    yaml_event_t it;
+    size_t written = 0;
+    int taken = 0;
+    yaml_emitter_initialize(&emitter);
+    yaml_emitter_set_output(&emitter, take, &written);
+    yaml_stream_start_event_initialize(&it, YAML_UTF8_ENCODING);
+    EXPECT(yaml_emitter_emit(&emitter, &it));
+    yaml_document_start_event_initialize(&it, NULL, NULL, NULL, 1);
+    EXPECT(yaml_emitter_emit(&emitter, &it));
+    yaml_sequence_start_event_initialize(&it, (const yaml_char_t *)"a-1", NULL, 1, YAML_BLOCK_SEQUENCE_STYLE);
+    EXPECT(yaml_emitter_emit(&emitter, &it));
+    for (int i = 0; i < 10; i++)
+        item(&emitter, "x");
+    for (int is_well = yaml_emitter_emit(&emitter, event); is_well && taken < 10; taken++) {
+        yaml_scalar_event_initialize(&it, NULL, NULL, (const yaml_char_t *)"x", 1, 1, 1, YAML_PLAIN_SCALAR_STYLE);
+        is_well = yaml_emitter_emit(&emitter, &it);
+    }
+    EXPECT(emitter.error == YAML_EMITTER_ERROR && !strcmp(emitter.problem, problem));
+    yaml_emitter_delete(&emitter);
+    return taken;
+}
+
+static void refuses(void)
+{
+    yaml_event_t event;
+    const yaml_char_t *wrong_name = (const yaml_char_t *)"a b", *empty = (const yaml_char_t *)"", *text = (const yaml_char_t *)"x";
+    yaml_alias_event_initialize(&event, wrong_name);
+    EXPECT(taken_behind(&event, "alias value must contain alphanumerical characters only") == 0);
+    yaml_alias_event_initialize(&event, empty);
+    EXPECT(taken_behind(&event, "alias value must not be empty") == 0);
+    yaml_scalar_event_initialize(&event, wrong_name, NULL, text, 1, 1, 1, YAML_PLAIN_SCALAR_STYLE);
+    EXPECT(taken_behind(&event, "anchor value must contain alphanumerical characters only") == 0);
+    yaml_scalar_event_initialize(&event, NULL, NULL, text, 1, 0, 0, YAML_PLAIN_SCALAR_STYLE);
+    EXPECT(taken_behind(&event, "neither tag nor implicit flags are specified") == 0);
+    yaml_scalar_event_initialize(&event, NULL, empty, text, 1, 0, 0, YAML_PLAIN_SCALAR_STYLE);
+    EXPECT(taken_behind(&event, "tag value must not be empty") == 0);
+    yaml_sequence_start_event_initialize(&event, empty, NULL, 1, YAML_BLOCK_SEQUENCE_STYLE);
+    EXPECT(taken_behind(&event, "anchor value must not be empty") <= 2);
+    yaml_mapping_start_event_initialize(&event, NULL, empty, 0, YAML_BLOCK_MAPPING_STYLE);
+    EXPECT(taken_behind(&event, "tag value must not be empty") <= 3);
+}
+
 int main(void)
 {
     reads();
@@ -156,6 +203,7 @@ int main(void)
     reads_flow();
     writes(YAML_BLOCK_MAPPING_STYLE);
     writes(YAML_FLOW_MAPPING_STYLE);
+    refuses();
     printf("promptly: %d wrong\n", wrong);
     return wrong != 0;
 }

@@ -330,7 +330,11 @@ static inline int take(yaml_emitter_t *emitter, layer_writing *w, const yaml_eve
 YAML_DECLARE(int) yaml_emitter_emit(yaml_emitter_t *emitter, yaml_event_t *event)
 {
     assert(emitter && event);
-    int is_taken = !emitter->error && take(emitter, LAYER_STATE(layer_writing, emitter), event);
-    layer_done(event);
-    return is_taken;
+    if (emitter->error || !take(emitter, LAYER_STATE(layer_writing, emitter), event)) {
+        yaml_event_delete(event);
+        return 0;
+    }
+    /* as with libyaml, nothing is written where the event stands, which may be far from the processor */
+    layer_free_texts(event);
+    return 1;
 }

@@ -17,8 +17,7 @@ static void free_directives(yaml_tag_directive_t *start, yaml_tag_directive_t *e
     free(start);
 }
 
-/* Frees the event's texts. */
-static inline void free_texts(const yaml_event_t *event)
+void layer_free_texts(const yaml_event_t *event)
 {
     if (event->type == YAML_SCALAR_EVENT) {
         free_if(event->data.scalar.anchor);
@@ -44,17 +43,10 @@ static inline void free_texts(const yaml_event_t *event)
     }
 }
 
-void layer_done(yaml_event_t *event)
-{
-    free_texts(event);
-    event->type = YAML_NO_EVENT;
-    memset(&event->data, 0, sizeof event->data);
-}
-
 YAML_DECLARE(void) yaml_event_delete(yaml_event_t *event)
 {
     assert(event);
-    free_texts(event);
+    layer_free_texts(event);
     layer_clear(event);
 }
 

@@ -143,8 +143,8 @@ static inline void layer_clear(yaml_event_t *event)
     memset(&event->end_mark, 0, sizeof event->end_mark);
 }
 
-/* Deletes an event that was emitted; its places stay. */
-void layer_done(yaml_event_t *event);
+/* Frees an event's texts. */
+void layer_free_texts(const yaml_event_t *event);
 
 /* ---- the layer's own state, which hangs on a pointer that no client has a use for */
 

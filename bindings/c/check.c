@@ -71,7 +71,7 @@ static const char *const TEXTS[] = {
     "\377",
     "\377\376a",
 };
-enum { TEXT_NUMBER = sizeof TEXTS / sizeof *TEXTS, CANONICAL = 0, PRETTY, NORMALIZE, RELOAD, CHECK, SAME, EVENTS, PARSE, FRONT, SCAN, DECODE, EMIT, EMIT_ON, EMIT_AGAIN, SERIALIZE, CALL_NUMBER };
+enum { TEXT_NUMBER = sizeof TEXTS / sizeof *TEXTS, CANONICAL = 0, PRETTY, NORMALIZE, RELOAD, CHECK, SAME, EVENTS, PARSE, FRONT, SCAN, DECODE, EMIT, EMIT_ON, EMIT_AGAIN, SERIALIZE, COMPOSE, CALL_NUMBER };
 
 static const uint8_t *bytes_of(int text)
 {
@@ -105,6 +105,12 @@ static const yaml_c_node NODES[] = {{3, 0, 4}, {1, 0, 0}, {2, 4, 2}, {1, 9, 9}, 
 static const int32_t HELD[] = {2, 3, 4, 1, 2, 5};
 static const yaml_c_graph GRAPH = {NODES, sizeof NODES / sizeof *NODES, HELD, sizeof HELD / sizeof *HELD};
 
+/* The events of a document, `&a {k: [*a, &a b, *a], c: *a}`, with one more: an alias that no node has the name of. */
+static const yaml_c_step STEPS[] = {
+    {9, 1, 0, 1}, {6, 0, 0, 0}, {7, 0, 0, 0}, {5, 1, 0, 1}, {6, 1, 0, 1}, {5, 7, 0, 1}, {8, 0, 0, 0}, {6, 0, 9, 9}, {5, 1, 0, 1}, {10, 0, 0, 0}, {5, 1, 1, 1},
+};
+enum { STEPS_LENGTH = sizeof STEPS / sizeof *STEPS };
+
 /* A list of events for each text's number: the stream, fronts of it, one without its start, and one past the limit. */
 static int emit_list(int list, yaml_c_settings *settings, yaml_c_answer *answer)
 {
@@ -130,6 +136,7 @@ typedef struct {
     yaml_c_answer answer;
     yaml_c_stand stand, behind;
     yaml_c_turns turns;
+    yaml_c_spots spots;
 } records;
 
 static void init(records *r)
@@ -140,6 +147,7 @@ static void init(records *r)
     yaml_c_stand_init(&r->stand);
     yaml_c_stand_init(&r->behind);
     yaml_c_turns_init(&r->turns);
+    yaml_c_spots_init(&r->spots);
 }
 
 static void give_back(records *r)
@@ -150,6 +158,7 @@ static void give_back(records *r)
     yaml_c_stand_free(&r->stand);
     yaml_c_stand_free(&r->behind);
     yaml_c_turns_free(&r->turns);
+    yaml_c_spots_free(&r->spots);
 }
 
 /* The text of the events in pieces of so many, each given from where the one before it ended, behind the events that wait there. It
@@ -219,6 +228,7 @@ static int call_on(int call, int text, yaml_c_settings *settings, records *r)
     case EMIT: return emit_list(text, settings, answer);
     case EMIT_ON: return emit_list_on(text, settings, NULL, r);
     case SERIALIZE: return yaml_c_serialize(&GRAPH, &r->turns, answer);
+    case COMPOSE: return yaml_c_compose(STEPS, STEPS_LENGTH - (text > 1), (const uint8_t *)"ab", 2, &r->spots, answer);
     default: return emit_parsed(text, settings, answer);
     }
 }
@@ -231,6 +241,7 @@ static void is_in_order(int call, int kind, const records *r)
     EXPECT(answer->kind == kind && kind >= 0 && kind <= 7);
     EXPECT(call == SCAN || (r->scanned.tokens_len == 0 && r->scanned.bytes.len == 0));
     EXPECT((r->turns.turns_len > 0) == (call == SERIALIZE && !kind));
+    EXPECT(call == COMPOSE || r->spots.spots_len == 0);
     if (kind) {
         EXPECT(answer->text.len == 0 && answer->is == 0 && answer->problem.len > 0);
         EXPECT(kind == YAML_C_MEMORY_ERROR || answer->line.len > 0);
@@ -703,6 +714,38 @@ static void serialized(void)
     give_back(&r);
 }
 
+/* Records of events that mean nothing: another kind, a name that lies outside, an alias without one. */
+static void wrong_steps(void)
+{
+    static const yaml_c_step wrong[] = {
+        {4, 0, 0, 0}, {11, 0, 0, 0}, {-1, 0, 0, 0}, {6, 1, 2, 1}, {7, 1, UINT64_MAX, 2}, {9, 1, 1, UINT64_MAX}, {5, 1, 3, 0}, {5, 0, 0, 1},
+    };
+    for (size_t i = 0; i < sizeof wrong / sizeof *wrong; i++) {
+        yaml_c_step steps[2] = {STEPS[0], wrong[i]};
+        records r;
+        init(&r);
+        calls++;
+        EXPECT(yaml_c_compose(steps, 2, (const uint8_t *)"ab", 2, &r.spots, &r.answer) == YAML_C_REFUSED_ARGUMENT && r.spots.spots_len == 0);
+        give_back(&r);
+    }
+}
+
+/* What events come to, also in front of an alias that is refused. */
+static void composed(void)
+{
+    static const yaml_c_spot spots[] = {{1, 0}, {2, 1}, {3, 1}, {1, 3}, {4, 3}, {4, 3}, {3, 0}, {5, 1}, {4, 1}, {1, 0}};
+    for (int is_whole = 0; is_whole < 2; is_whole++) {
+        records r;
+        init(&r);
+        calls++;
+        int kind = yaml_c_compose(STEPS, STEPS_LENGTH - is_whole, (const uint8_t *)"ab", 2, &r.spots, &r.answer);
+        EXPECT(kind == (is_whole ? 0 : YAML_C_COMPOSER_ERROR) && r.spots.spots_len == sizeof spots / sizeof *spots);
+        EXPECT(!memcmp(r.spots.spots, spots, sizeof spots));
+        EXPECT(is_whole || (r.answer.problem.len == 21 && !memcmp(r.answer.problem.at, "found undefined alias", 21)));
+        give_back(&r);
+    }
+}
+
 int main(void)
 {
     yaml_c_answer answer;
@@ -729,6 +772,8 @@ int main(void)
     wrong_events();
     wrong_graphs();
     serialized();
+    wrong_steps();
+    composed();
     for (int text = 0; text < TEXT_NUMBER; text++)
         yaml_c_parsed_free(&parsed_texts[text]);
     EXPECT(blocks == begun);

@@ -13,20 +13,20 @@
  *
  * Ownership. The caller owns every record and every input, and the call keeps no pointer to them. Blocks that a call
  * hands out are malloc's and the caller's: `text` and `line` of an answer, the three parts of a yaml_c_parsed, the two of
- * a yaml_c_scanned, and the list of a yaml_c_turns, each where its length is not 0. The functions below free them. `problem` and `context` are
- * constants of the library: never free or write them. A call overwrites the record's pointers without freeing what they
- * named, so free a record before it is used again.
+ * a yaml_c_scanned, and the lists of a yaml_c_turns and a yaml_c_spots, each where its length is not 0. The functions
+ * below free them. `problem` and `context` are constants of the library: never free or write them. A call overwrites the
+ * record's pointers without freeing what they named, so free a record before it is used again.
  *
- * Errors. A refused call hands out no text and, but for yaml_c_front and yaml_c_scan, no records; its one block is
- * `line`, the fault in words. Where that met no memory, YAML_C_MEMORY_ERROR is told in the fault's place, with an empty
- * line, which no other fault has. `problem` names what is told in any case.
+ * Errors. A refused call hands out no text and, but for yaml_c_front, yaml_c_scan and yaml_c_compose, no records; its one
+ * block is `line`, the fault in words. Where that met no memory, YAML_C_MEMORY_ERROR is told in the fault's place, with an
+ * empty line, which no other fault has. `problem` names what is told in any case.
  *
  * What nothing checks, and the caller keeps:
  *  - a pointer with a length names that many readable bytes (or records), fewer than 2^63 bytes in all, which nothing
  *    writes while the call runs. It isn't NULL, even where the length is 0: pass YAML_C_NOTHING or any other pointer;
  *  - the records that a call writes are writable, set up once by yaml_c_answer_init, yaml_c_parting_init,
- *    yaml_c_parsed_init, yaml_c_scanned_init and yaml_c_turns_init, and neither read nor written by others while the call
- *    runs; they don't overlap one another or the inputs;
+ *    yaml_c_parsed_init, yaml_c_scanned_init, yaml_c_turns_init and yaml_c_spots_init, and neither read nor written by
+ *    others while the call runs; they don't overlap one another or the inputs;
  *  - malloc, realloc and free are one allocator's, of blocks aligned as C's are;
  *  - no call is made from a signal handler, or in the forked child of a process with threads.
  *
@@ -292,6 +292,26 @@ typedef struct {
     size_t turns_len;
 } yaml_c_turns;
 
+/* An event within a document, as a loader looks at it. */
+typedef struct {
+    int32_t kind;     /* YAML_C_ALIAS_EVENT to YAML_C_MAPPING_END_EVENT */
+    int32_t has_name; /* 0: none; else its anchor, or the name of an alias, is there */
+    uint64_t first;   /* the name: `count` bytes from here on */
+    uint64_t count;
+} yaml_c_step;
+
+/* What an event comes to in its document. */
+typedef struct {
+    int32_t node; /* the node that it begins, stands for or ends; nodes count from 1 in the order in which they begin */
+    int32_t into; /* the collection that is open then and takes it, as an item, a key or a value; 0: none, and at an end */
+} yaml_c_spot;
+
+/* What the events of a document come to. */
+typedef struct {
+    const yaml_c_spot *spots;
+    size_t spots_len;
+} yaml_c_spots;
+
 /* ---- calls. `from` is the input's encoding. */
 
 /* Sets UTF-8, canonical form, indent 2, width 80, unicode on, LF, and a limit of 2^40 bytes. */
@@ -374,6 +394,14 @@ int32_t yaml_c_emit(const yaml_c_event *events, size_t events_len, const yaml_c_
  * at most 2^62. `stand` and `behind` are two records: free the old one behind the call. */
 int32_t yaml_c_emit_on(const yaml_c_parsed *given, const yaml_c_settings *settings, const yaml_c_stand *stand,
                        yaml_c_stand *behind, yaml_c_answer *answer);
+
+/* Which node each event between a document's start and its end is of, and which collection takes it: what the loader of
+ * yaml_c_reload does with events of these kinds and names. An alias stands for the last node before it that has its name as
+ * anchor; one that none has is refused (5, without a place), with the records of the events in front of it. -1 exactly
+ * where a kind isn't one of the six, an alias has no name, or a name doesn't lie within `bytes`; there is nothing then, nor
+ * where memory was refused while the events were composed. */
+int32_t yaml_c_compose(const yaml_c_step *steps, size_t steps_len, const uint8_t *bytes, size_t len, yaml_c_spots *spots,
+                       yaml_c_answer *answer);
 
 /* What a dump of the document has of its nodes, in order: a node that is met first is begun, and a collection ended behind what it
  * holds, a pair's key before its value; one that is met again is an alias. A node that is met again has a number, from 1 in the
@@ -482,6 +510,19 @@ static inline void yaml_c_turns_free(yaml_c_turns *turns) {
     yaml_c_turns_init(turns);
 }
 
+/* No spots. Before the first call with the record. */
+static inline void yaml_c_spots_init(yaml_c_spots *spots) {
+    static const yaml_c_spot no_spot = {0, 0};
+    spots->spots = &no_spot;
+    spots->spots_len = 0;
+}
+
+/* Frees the spots; there are none then. After each call; a second time does nothing. */
+static inline void yaml_c_spots_free(yaml_c_spots *spots) {
+    if (spots->spots_len) free((void *)spots->spots);
+    yaml_c_spots_init(spots);
+}
+
 /* ---- the layout that the proved code has, on a machine of 64 bits */
 
 #if defined(__cplusplus)
@@ -539,6 +580,10 @@ YAML_C_ASSERT(sizeof(yaml_c_graph) == 32 && offsetof(yaml_c_graph, nodes_len) ==
 YAML_C_ASSERT(offsetof(yaml_c_graph, held) == 16 && offsetof(yaml_c_graph, held_len) == 24);
 YAML_C_ASSERT(sizeof(yaml_c_turn) == 16 && offsetof(yaml_c_turn, node) == 4 && offsetof(yaml_c_turn, number) == 8);
 YAML_C_ASSERT(sizeof(yaml_c_turns) == 16 && offsetof(yaml_c_turns, turns_len) == 8);
+YAML_C_ASSERT(sizeof(yaml_c_step) == 24 && offsetof(yaml_c_step, has_name) == 4);
+YAML_C_ASSERT(offsetof(yaml_c_step, first) == 8 && offsetof(yaml_c_step, count) == 16);
+YAML_C_ASSERT(sizeof(yaml_c_spot) == 8 && offsetof(yaml_c_spot, into) == 4);
+YAML_C_ASSERT(sizeof(yaml_c_spots) == 16 && offsetof(yaml_c_spots, spots_len) == 8);
 #undef YAML_C_ASSERT
 
 #ifdef __cplusplus

@@ -67,7 +67,8 @@ YAML_DECLARE(yaml_node_t *) yaml_document_get_root_node(yaml_document_t *documen
     return nodes_len(document) ? document->nodes.start : NULL;
 }
 
-int layer_add_node(yaml_document_t *document, const yaml_node_t *node)
+/* Adds a node, whose tag and value are the document's then. Its number; 0: memory was refused, and both are freed. */
+static int add_node(yaml_document_t *document, const yaml_node_t *node)
 {
     int has_room;
     LAYER_MAKE_ROOM(has_room, &document->nodes);
@@ -105,7 +106,7 @@ yaml_document_add_scalar(yaml_document_t *document, const yaml_char_t *tag, cons
         free(node.tag);
         return 0;
     }
-    return layer_add_node(document, &node);
+    return add_node(document, &node);
 }
 
 YAML_DECLARE(int)
@@ -116,7 +117,7 @@ yaml_document_add_sequence(yaml_document_t *document, const yaml_char_t *tag, ya
     if (!begin(&node, YAML_SEQUENCE_NODE, tag, YAML_DEFAULT_SEQUENCE_TAG))
         return 0;
     node.data.sequence.style = style;
-    return layer_add_node(document, &node);
+    return add_node(document, &node);
 }
 
 YAML_DECLARE(int)
@@ -127,7 +128,7 @@ yaml_document_add_mapping(yaml_document_t *document, const yaml_char_t *tag, yam
     if (!begin(&node, YAML_MAPPING_NODE, tag, YAML_DEFAULT_MAPPING_TAG))
         return 0;
     node.data.mapping.style = style;
-    return layer_add_node(document, &node);
+    return add_node(document, &node);
 }
 
 YAML_DECLARE(int) yaml_document_append_sequence_item(yaml_document_t *document, int sequence, int item)

@@ -270,7 +270,4 @@ static inline size_t layer_events_len(const layer_writing *w)
     return w->events.len / sizeof(yaml_c_event);
 }
 
-/* Adds a node, whose tag and value are the document's then. Its number; 0: memory was refused, and both are freed. */
-int layer_add_node(yaml_document_t *document, const yaml_node_t *node);
-
 #endif

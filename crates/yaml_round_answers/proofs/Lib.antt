@@ -9,3 +9,4 @@ pub mod Rows
 pub mod PartingExact
 pub mod Going
 pub mod Dumping
+pub mod Loading

@@ -1,6 +1,6 @@
 -- Each field lies where the header says.
 use Rattle.std.proofs.Common.{refl}
-use Rattle.yaml_round_answers.specs.Offsets.{AnswerLies, ParsedLies, ScannedLies, PartingLies, NodeLies, GraphLies, TurnLies, TurnsLie}
+use Rattle.yaml_round_answers.specs.Offsets.{AnswerLies, ParsedLies, ScannedLies, PartingLies, NodeLies, GraphLies, TurnLies, TurnsLie, StepLies, SpotLies, SpotsLie}
 
 pub answer_lies : AnswerLies
 answer_lies = record {
@@ -63,4 +63,23 @@ turn_lies = record {
 pub turns_lie : TurnsLie
 turns_lie = record {
   turns = record { is = λ d. refl; begins = refl };
+}
+
+pub step_lies : StepLies
+step_lies = record {
+  kind = record { is = λ d. refl; begins = refl };
+  has_name = record { is = λ d. refl; begins = refl };
+  first = record { is = λ d. refl; begins = refl };
+  count = record { is = λ d. refl; begins = refl };
+}
+
+pub spot_lies : SpotLies
+spot_lies = record {
+  node = record { is = λ d. refl; begins = refl };
+  into = record { is = λ d. refl; begins = refl };
+}
+
+pub spots_lie : SpotsLie
+spots_lie = record {
+  spots = record { is = λ d. refl; begins = refl };
 }

@@ -6,6 +6,7 @@ pub mod Onward
 pub mod Parses
 pub mod Scans
 pub mod Serializes
+pub mod Composes
 pub mod Decodes
 pub mod Normalizes
 -- what it speaks of, for the crate that exports its calls

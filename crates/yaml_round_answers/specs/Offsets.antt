@@ -5,6 +5,9 @@ use Rattle.yaml_round_answers.specs.contracts.parsing.yaml_c_parsed as parsed
 use Rattle.yaml_round_answers.specs.contracts.scanning.yaml_c_scanned as scanned
 use Rattle.yaml_round_answers.specs.contracts.parting.yaml_c_parting as parting
 use Rattle.yaml_round_answers.specs.contracts.serializing.yaml_c_turns as turns
+use Rattle.yaml_round_answers.specs.contracts.composing.yaml_c_spots as spots
+use Rattle.yaml_round_nodes.specs.contracts.record.yaml_c_step as step
+use Rattle.yaml_round_nodes.specs.contracts.record.yaml_c_spot as spot
 use Rattle.yaml_round_nodes.specs.contracts.record.yaml_c_node as node
 use Rattle.yaml_round_nodes.specs.contracts.record.yaml_c_graph as graph
 use Rattle.yaml_round_nodes.specs.contracts.record.yaml_c_turn as turn
@@ -57,3 +60,16 @@ pub record TurnLies : Type 0 where
 
 pub record TurnsLie : Type 0 where
   pub turns : LiesAt turns.the_type 0 (λ d. d.turns) 0
+
+pub record StepLies : Type 0 where
+  pub kind : LiesAt step.the_type 0 (λ d. d.kind) 0
+  pub has_name : LiesAt step.the_type 1 (λ d. d.has_name) 4
+  pub first : LiesAt step.the_type 2 (λ d. d.first) 8
+  pub count : LiesAt step.the_type 3 (λ d. d.count) 16
+
+pub record SpotLies : Type 0 where
+  pub node : LiesAt spot.the_type 0 (λ d. d.node) 0
+  pub into : LiesAt spot.the_type 1 (λ d. d.into) 4
+
+pub record SpotsLie : Type 0 where
+  pub spots : LiesAt spots.the_type 0 (λ d. d.spots) 0

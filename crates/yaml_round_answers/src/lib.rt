@@ -2,6 +2,7 @@
 #![tactic(auto)]
 
 mod answer;
+mod composing;
 mod decoding;
 mod emitting;
 mod engine;
@@ -15,6 +16,7 @@ mod serializing;
 mod settings;
 
 pub use answer::{told, yaml_c_answer};
+pub use composing::{composed_by, yaml_c_spots};
 pub use decoding::decoded_by;
 pub use emitting::answered_by;
 pub use engine::{compared_by, listed_by, reformatted_by, reloaded_by};
@@ -24,7 +26,7 @@ pub use parsing::{front_by, parsed_by, yaml_c_parsed};
 pub use parting::{documents_parted_by, parted_by, yaml_c_parting};
 pub use scanning::{scanned_by, yaml_c_scanned};
 pub use serializing::{serialized_by, yaml_c_turns};
-pub use yaml_round_nodes::{yaml_c_graph, yaml_c_node, yaml_c_turn};
+pub use yaml_round_nodes::{yaml_c_graph, yaml_c_node, yaml_c_spot, yaml_c_step, yaml_c_turn};
 pub use yaml_round_records::{
     yaml_c_directive, yaml_c_event, yaml_c_level, yaml_c_mark, yaml_c_place, yaml_c_settings,
     yaml_c_span, yaml_c_stand,

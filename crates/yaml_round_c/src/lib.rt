@@ -2,6 +2,7 @@
 //! names blocks that the caller frees. `bindings/c/yaml_c.h` tells C what stands here.
 #![tactic(auto)]
 
+mod composing;
 mod emitting;
 mod engine;
 mod normalizing;
@@ -12,6 +13,7 @@ mod scanning;
 mod serializing;
 mod settings;
 
+pub use composing::yaml_c_compose;
 pub use emitting::yaml_c_emit;
 pub use engine::{yaml_c_events, yaml_c_reformat, yaml_c_reload, yaml_c_same};
 pub use normalizing::{yaml_c_check, yaml_c_normalize};
@@ -24,5 +26,6 @@ pub use settings::yaml_c_defaults;
 pub use yaml_round_answers::{
     yaml_c_answer, yaml_c_directive, yaml_c_event, yaml_c_graph, yaml_c_level, yaml_c_mark,
     yaml_c_node, yaml_c_parsed, yaml_c_parting, yaml_c_place, yaml_c_scanned, yaml_c_settings,
-    yaml_c_span, yaml_c_stand, yaml_c_token, yaml_c_turn, yaml_c_turns,
+    yaml_c_span, yaml_c_spot, yaml_c_spots, yaml_c_stand, yaml_c_step, yaml_c_token, yaml_c_turn,
+    yaml_c_turns,
 };

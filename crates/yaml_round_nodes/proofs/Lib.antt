@@ -3,3 +3,5 @@ pub mod Walking
 pub mod Counting
 pub mod Telling
 pub mod Same
+pub mod Composes
+pub mod Sketches

@@ -84,11 +84,11 @@ left_nodes list rs i d h =
     ∙ ap (λ (k : ℕ). is_node list (get_or rs i d) && are_nodes list (drop k rs)) (sym (add-one i))
 
 -- a test of what is left is one of its first record and one of the rest
-none_left : (b y x t r : Bool) → x ≡ t → x ≡ (b && y) → r ≡ b → r ≡ false → false ≡ t
+pub none_left : (b y x t r : Bool) → x ≡ t → x ≡ (b && y) → r ≡ b → r ≡ false → false ≡ t
 none_left true y x t r inv e is off = absurd (cc)
 none_left false y x t r inv e is off = sym e ∙ inv
 
-some_left : (b y x t r : Bool) → x ≡ t → x ≡ (b && y) → r ≡ b → r ≡ true → y ≡ t
+pub some_left : (b y x t r : Bool) → x ≡ t → x ≡ (b && y) → r ≡ b → r ≡ true → y ≡ t
 some_left true y x t r inv e is on = sym e ∙ inv
 some_left false y x t r inv e is on = absurd (cc)
 

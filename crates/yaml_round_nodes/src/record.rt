@@ -27,6 +27,29 @@ pub struct yaml_c_turn {
     pub number: u64,
 }
 
+/// An event within a document, as a loader looks at it: its kind by libyaml's number (5 to 10), and where `has_name` isn't 0 its
+/// anchor, or the name of an alias: `count` bytes of a block from `first` on.
+#[repr(C)]
+#[derive(Clone, Copy, Drop)]
+pub struct yaml_c_step {
+    pub kind: i32,
+    pub has_name: i32,
+    pub first: u64,
+    pub count: u64,
+}
+
+/// What an event comes to in its document: the node that it begins, stands for or ends, and the collection that takes it, or 0.
+#[repr(C)]
+#[derive(Clone, Copy, Drop)]
+pub struct yaml_c_spot {
+    pub node: i32,
+    pub into: i32,
+}
+
+const _: () = prove!(size_of::<yaml_c_step>() == 24);
+
+const _: () = prove!(size_of::<yaml_c_spot>() == 8);
+
 const _: () = prove!(size_of::<yaml_c_node>() == 24);
 
 const _: () = prove!(size_of::<yaml_c_graph>() == 32);

@@ -336,7 +336,12 @@ fn put_node(
             event,
         ),
         yaml_node_body_t::Scalar { value, style } => put_scalar(
-            rooms, number, &node.tag, value, *style, event,
+            rooms,
+            number,
+            &node.tag,
+            value.as_slice(),
+            *style,
+            event,
         ),
         yaml_node_body_t::Sequence { style, .. } => put_sequence(
             rooms, number, &node.tag, *style, event,

@@ -17,7 +17,7 @@ use Rattle.yaml_parse_laws_trees.proofs.CompleteStream.{stream_runs, nothing_run
 use Rattle.yaml_parse_laws_trees.proofs.Left.{Over}
 use Rattle.yaml_parse_laws_trees.proofs.Closing.{closers, Empty, all_close, closers_end}
 use Rattle.yaml_parse_laws_trees.proofs.Sound.{accepted_trees}
-use Rattle.yaml_parse_laws_trees.proofs.Refusal.{faults_stand}
+use Rattle.yaml_parse_laws_trees.proofs.Refusal.{faults_stand, not_none}
 use Rattle.yaml_parse_laws_trees.proofs.Spelling.{spelled_before}
 use Rattle.yaml_parse_laws_trees.proofs.FaultsStanding.{Last, nothing, last_of, told}
 use Rattle.yaml_parse_laws_trees.proofs.Taking.{stack_solid, Stops, stops_at_none}
@@ -67,9 +67,6 @@ here ts n l =
     in here_at l.front l.behind w.items w.stack w.knows w.runs w.goes w.unfinished
 
 -- ---- the token behind the front is refused
-
-not_none : (e : Fault) → Some e ≡ None → ⊥
-not_none e h = cc
 
 record StoppedAt (s : List State) (at : yaml_mark_t) (is : List RawEvent) : Type 0 where
   token : Token

@@ -33,7 +33,7 @@ abbrev waiting : NodeTag → TokenBody → Option NodeTag
 waiting n (token.anchor name) = None
 waiting n _ = Some n
 
-abbrev tok : TokenBody → yaml_mark_t → yaml_mark_t → Token
+abbrev pub tok : TokenBody → yaml_mark_t → yaml_mark_t → Token
 tok b start end = record { body = b; start_mark = start; end_mark = end }
 
 abbrev pub PropsOf : Option (List ℕ) → Option Tag → yaml_mark_t → List Token → Type 0

@@ -8,7 +8,7 @@ use Rattle.yaml_emit_laws_text.specs.scan_history.Remaining.{Remaining}
 use Rattle.yaml_emit_laws_text.specs.scan_history.Scanned.{scanned, scanned_in}
 use Rattle.yaml_emit_laws_text.specs.emit_layout.emit_text.Settings.{settled}
 use Rattle.yaml_round_content.specs.Events.{contents}
-use Rattle.yaml_round_content.specs.Input.{events_of, read, parsed, tokens_of}
+use Rattle.yaml_round_content.specs.Input.{events_of, parsed, tokens_of}
 use Rattle.yaml_round_content.specs.Said.{stream_says}
 use Rattle.yaml_round_laws_adapted.specs.Adapted.{adapted}
 use Rattle.yaml_round_laws_documents.specs.BytesLaws.{canonical_text, encoding_named}

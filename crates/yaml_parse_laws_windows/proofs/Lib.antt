@@ -3,5 +3,5 @@ pub mod Noting
 pub mod Parting
 mod Closing
 pub mod Following
-mod Beginning
+pub mod Beginning
 pub mod Refusing

@@ -1,13 +1,15 @@
 -- The law of windows.
 use Rattle.std.proofs.Common.{◌≡◌, ◌≢◌, ℕ, true, List, [], ◌∷◌, ◌++◌, map, length, Option, Some, None, option_map, refl, sym, ap, subst, ◌∙◌, inl, inr, ◌⊎◌}
 use Rattle.std.proofs.lemmas.Bool.{cases_Bool}
+use Rattle.std.proofs.lemmas.List.{append_assoc, same_from_push}
 use Rattle.std.proofs.lemmas.List.Elements.{All-head, All-tail}
 use Rattle.std.specs.Prelude.{All}
 use Rattle.yaml_round_content.specs.scan_model.declared.yaml_encoding_t.{yaml_encoding_t}
 use Rattle.yaml_round_content.specs.scan_model.declared.yaml_mark_t.{yaml_mark_t}
 use Rattle.yaml_round_content.specs.scan_model.Faults.{Fault}
 use Rattle.yaml_round_content.specs.scan_model.Marks.{line_at}
-use Rattle.yaml_round_content.specs.scan_model.Tokens.{Token, stream_start, stream_end, document_start, zero_mark}
+use Rattle.yaml_round_content.specs.scan_model.Tokens.{Token, TokenBody, stream_start, stream_end, document_start, zero_mark}
+use Rattle.yaml_round_content.specs.scan_model.Tokens as token
 use Rattle.yaml_round_content.specs.scan_history.Remaining.{Remaining, all}
 use Rattle.yaml_round_content.specs.scan_history.History.{depth}
 use Rattle.yaml_round_content.specs.scan_history.scan_words.Indicators.{is_document_start}
@@ -15,13 +17,16 @@ use Rattle.yaml_round_content.specs.parse_grammar.Trees.{event_at}
 use Rattle.yaml_round_content.specs.parse_grammar.States as state
 use Rattle.yaml_round_content.specs.parse_grammar.Machine.{feed, run, initial}
 use Rattle.yaml_round_content.specs.parse_grammar.Resolve.{Reading, no_directives, placed}
-use Rattle.yaml_scan_laws_windows.specs.Cuts.{IsCut}
+use Rattle.yaml_scan_laws_windows.specs.Cuts.{IsCut, IsEndCut, LeadsToDirective}
 use Rattle.yaml_round_content.specs.parse_model.Events.{Event}
 use Rattle.yaml_round_content.specs.parse_model.Events as event
 use Rattle.yaml_round_content.specs.round_laws_adapted.Adapted.{spells_text, with_token, cut}
-use Rattle.yaml_scan_laws_windows.specs.Laws.{scan_of}
+use Rattle.yaml_scan_laws_windows.specs.Laws.{scan_of, refused_by}
 use Rattle.yaml_scan_laws_windows.specs.Moved.{moved_mark, moved_token, moved_fault}
 use Rattle.yaml_scan_laws_windows.proofs.Windows.{windows_are_scanned, at_cut}
+use Rattle.yaml_scan_laws_windows.proofs.Failing.{refused_fronts_are_scanned}
+use Rattle.yaml_scan_laws_windows.proofs.Behind.{ended_front, ended_windows_are_scanned}
+use Rattle.yaml_scan_laws_windows.proofs.Leading.{IsDirective, LeadsSo, leads_so}
 use Rattle.yaml_scan_laws_windows.proofs.OrderLaws.{stream_starts, stream_ends}
 use Rattle.yaml_parse_laws_windows.specs.Laws.{parse_of, GoOn}
 use Rattle.yaml_parse_laws_windows.specs.Laws as parse
@@ -29,8 +34,9 @@ use Rattle.yaml_parse_laws_windows.specs.Depths.{depth_after, depth_behind}
 use Rattle.yaml_parse_laws_windows.proofs.Following.{items_of, Plain, plain, seen, parse_plain, step_items, Front, front_of, front_events, windows_are_parsed, brackets_are_closed, body_at}
 use Rattle.yaml_parse_laws_windows.proofs.Parting.{end_at}
 use Rattle.yaml_parse_laws_windows.proofs.Refusing.{refused_fronts_stay}
+use Rattle.yaml_parse_laws_windows.proofs.Beginning.{directives_are_parsed}
 use Rattle.yaml_round_laws_windows.specs.Moved.{moved_event, IsMovedEnd}
-use Rattle.yaml_round_laws_windows.specs.Laws.{tokens_in, reading_in, IsAccepted, WindowsAreRead, WindowsAreAccepted, ReadingsAreFramed, AwaitsDocument, RefusedFrontsAreRead}
+use Rattle.yaml_round_laws_windows.specs.Laws.{tokens_in, reading_in, IsAccepted, WindowsAreRead, WindowsAreAccepted, ReadingsAreFramed, AwaitsDocument, RefusedFrontsAreRead, UnscannedFrontsAreRead}
 use Rattle.yaml_round_laws_windows.proofs.Depths.{behind_both, told_deep}
 use Rattle.yaml_round_laws_windows.proofs.Readings.{moved_tokens, IsMovedPlain, moved_as, refused_moved, ended_moved}
 
@@ -186,8 +192,20 @@ handed x a b at begins outer none spell front last are =
           ∙ ap (behind_tokens front) (cut_moved d n c.fault behind ∙ ap (moved_remaining d n) kept);
     }
 
-pub windows_are_read : WindowsAreRead
-windows_are_read x a b at begins ga before end came start later come =
+-- what is read in parts
+abbrev ReadInParts : yaml_encoding_t → List ℕ → List ℕ → List Event → List Event → Type 0
+ReadInParts x a b before later =
+    let d = length a in let n = line_at a (length a) in
+    ((tokens_in x (a ++ b)).fault ≡ option_map (moved_fault d n) (tokens_in x b).fault)
+    × (parse.events_in (reading_in x (a ++ b)) ≡ before ++ map (moved_event d n) later)
+    × IsMovedEnd d n (reading_in x b).ending (reading_in x (a ++ b)).ending
+
+marks_are_read : (x : yaml_encoding_t) (a b : List ℕ) → IsCut a b → is_document_start b 0 ≡ true
+    → IsAccepted x a
+    → (before : List Event) (end : Event) → parse.events_in (reading_in x a) ≡ before ++ end ∷ []
+    → (start : Event) (later : List Event) → parse.events_in (reading_in x b) ≡ start ∷ later
+    → ReadInParts x a b before later
+marks_are_read x a b at begins ga before end came start later come =
     let d = length a in
     let n = line_at a (length a) in
     let pa = passed x a ga.scanned in
@@ -210,6 +228,82 @@ windows_are_read x a b at begins ga before end came start later come =
       subst (λ (r : Reading). IsMovedEnd d n r.ending (reading_in x (a ++ b)).ending) (sym rest)
           (subst (λ (o : Option Fault). IsMovedEnd d n (read_to (with_token h.first (with_token h.mark h.behind))).ending o) (sym (ap (λ (r : Reading). r.ending) whole ∙ over)) ending),
     )
+
+-- ---- behind a line `...`
+
+directive_begins : (b : TokenBody) → IsDirective b → parse.BeginsDocument b
+directive_begins (token.version_directive major minor) h = tt
+directive_begins (token.tag_directive handle prefix) h = tt
+directive_begins _ h = absurd h
+
+-- what the adapter hands on of tokens that begin with a directive's does so too, or is a fault
+cut_leads : (d n : ℕ) (f : Option Fault) (ts : List Token) → LeadsSo ts f
+    → let r = moved_remaining d n (cut f ts) in parse.GoesOn r.tokens r.fault
+cut_leads d n None [] h = absurd (h refl)
+cut_leads d n (Some f) [] h = λ e. some_none e
+  where
+    some_none : {A : Type 0} {x : A} → Some x ≡ None → ⊥
+    some_none e = cc
+cut_leads d n f (t ∷ ts) h =
+    elim (cases_Bool (spells_text t.body)) [
+      | inl e ↦ rw e (directive_begins t.body h)
+      | inr e ↦ rw e (λ k. some_none k)
+    ]
+  where
+    some_none : {A : Type 0} {x : A} → Some x ≡ None → ⊥
+    some_none e = cc
+
+go_front : (xs : List Token) (t : Token) → GoOn (xs ++ t ∷ []) → GoOn xs
+go_front [] t h = tt
+go_front (x ∷ xs) t h = (h.0, go_front xs t h.1)
+
+directives_are_read : (x : yaml_encoding_t) (a b : List ℕ) → IsEndCut a b → LeadsToDirective b
+    → IsAccepted x a
+    → (before : List Event) (end : Event) → parse.events_in (reading_in x a) ≡ before ++ end ∷ []
+    → (start : Event) (later : List Event) → parse.events_in (reading_in x b) ≡ start ∷ later
+    → ReadInParts x a b before later
+directives_are_read x a b at lead ga before end came start later come =
+    let d = length a in
+    let n = line_at a (length a) in
+    let c = scan_of x b in
+    let pa = passed x a ga.scanned in
+    let outer = no_bracket x a ga in
+    let (front, over, last, are, ended) = ended_front x a b at pa.none outer in
+    let (mine, final, told, ends, others) = stream_ends (record { encoding = x; text = a }) pa.none in
+    let (same, is_last) = same_from_push mine (front ++ over ∷ []) final last (sym told ∙ are) in
+    let last_is : last.body ≡ stream_end = ap (λ (t : Token). t.body) (sym is_last) ∙ ends in
+    let goes : GoOn front = go_front front over (subst GoOn same (go_on mine others)) in
+    let first : Token = record { body = stream_start x; start_mark = zero_mark; end_mark = zero_mark } in
+    let (behind, starts) = stream_starts (record { encoding = x; text = b }) in
+    let own = option_map (moved_fault d n) c.fault in
+    let rest : tokens_in x b ≡ with_token first (cut c.fault behind) = ap (cut c.fault) starts in
+    let R = moved_remaining d n (cut c.fault behind) in
+    let joined = ended_windows_are_scanned x a b at pa.none outer (front ++ over ∷ []) last are first behind starts in
+    let list = spell_left (front ++ over ∷ []) (last ∷ []) (subst AllSpell are pa.spell) in
+    let whole : tokens_in x (a ++ b) ≡ behind_tokens (front ++ over ∷ []) R =
+    ap (λ (y : Remaining). cut y.fault y.tokens) joined ∙ cut_behind own (front ++ over ∷ []) (moved_tokens d n behind) list
+    ∙ ap (behind_tokens (front ++ over ∷ [])) (cut_moved d n c.fault behind) in
+    let begins = cut_leads d n c.fault behind (leads_so x b lead first behind starts) in
+    let (events, ending) = subst (λ (r : Remaining). IsMovedPlain d n (seen (read_to r)) (seen (read_to (moved_remaining d n r)))) rest (reading_moved d n x b) in
+    let rest_read : reading_in x b ≡ read_to (with_token first (cut c.fault behind)) = ap read_to rest in
+    let whole_read : reading_in x (a ++ b) ≡ parse_of (front ++ over ∷ R.tokens) R.fault =
+    ap read_to whole ∙ ap (λ ts. parse_of ts R.fault) (append_assoc front (over ∷ []) R.tokens) in
+    let list_read : (scan_of x a).tokens ≡ front ++ over ∷ last ∷ [] = are ∙ append_assoc front (over ∷ []) (last ∷ []) in
+    let (read, finish) = directives_are_parsed front over last goes ended last_is
+    (ap (λ ts. (parse_of ts None).ending) (sym list_read) ∙ ap (λ (r : Reading). r.ending) (sym pa.reads) ∙ ga.parsed)
+    R.tokens R.fault begins (moved_token d n first) x refl before end
+    (ap (λ ts. parse.events_in (parse_of ts None)) (sym list_read) ∙ ap parse.events_in (sym pa.reads) ∙ came)
+    (moved_event d n start) (map (moved_event d n) later)
+    (events ∙ ap (map (moved_event d n)) (ap parse.events_in (sym rest_read) ∙ come)) in (
+      ap (λ (r : Remaining). r.fault) whole ∙ ap (option_map (moved_fault d n)) (sym (ap (λ (r : Remaining). r.fault) rest)),
+      ap parse.events_in whole_read ∙ read,
+      subst (λ (r : Reading). IsMovedEnd d n r.ending (reading_in x (a ++ b)).ending) (sym rest_read)
+          (subst (λ (o : Option Fault). IsMovedEnd d n (read_to (with_token first (cut c.fault behind))).ending o) (sym (ap (λ (r : Reading). r.ending) whole_read ∙ finish)) ending),
+    )
+
+pub windows_are_read : WindowsAreRead
+windows_are_read x a b (inl at) ga before end came start later come = marks_are_read x a b at.0 at.1 ga before end came start later come
+windows_are_read x a b (inr at) ga before end came start later come = directives_are_read x a b at.0 at.1 ga before end came start later come
 
 -- ---- how readings begin and end
 
@@ -272,10 +366,10 @@ none_moved d n (Some f) q h e = absurd (some_none e)
     some_none e = cc
 
 pub windows_are_accepted : WindowsAreAccepted
-windows_are_accepted x a b at begins ga gb =
+windows_are_accepted x a b at ga gb =
     let (start, later, come, starts) = begins_so x b in
     let (before, end, came, ends) = ends_so x a ga in
-    let (fault, events, ending) = windows_are_read x a b at begins ga before end came start later come in
+    let (fault, events, ending) = windows_are_read x a b at ga before end came start later come in
     record {
       scanned = fault ∙ ap (option_map (moved_fault (length a) (line_at a (length a)))) gb.scanned;
       parsed = none_moved (length a) (line_at a (length a)) _ _ ending gb.parsed;
@@ -341,3 +435,10 @@ refused_fronts_are_read x a b at begins clean outer f refused other =
           ∙ ap (cut c.fault) (sym are) in
           (ap (λ r. parse.events_in (read_to r)) same, ap (λ r. (read_to r).ending) same ∙ refused)
     ]
+
+pub unscanned_fronts_are_read : UnscannedFrontsAreRead
+unscanned_fronts_are_read x a b at f fails low =
+    let (g, whole, same) = refused_fronts_are_scanned x a b at f fails in
+    let c = scan_of x a in
+    ap (λ (y : Remaining). read_to (cut y.fault y.tokens))
+    (whole ∙ ap (λ z. refused_by z c) (same low) ∙ ap (λ (o : Option Fault). record { tokens = c.tokens; fault = o }) (sym fails))

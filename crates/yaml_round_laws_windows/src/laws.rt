@@ -1,9 +1,9 @@
 //! Each function's contract is a law.
 
-ghost use Rattle.yaml_round_laws_windows.specs.Laws.{WindowsAreRead, WindowsAreAccepted, RefusedFrontsAreRead, ReadingsAreFramed};
+ghost use Rattle.yaml_round_laws_windows.specs.Laws.{WindowsAreRead, WindowsAreAccepted, RefusedFrontsAreRead, UnscannedFrontsAreRead, ReadingsAreFramed};
 
-/// The events of a text that is cut in front of a line `---` behind a front that is accepted are those of the front, without the
-/// end, and then those of the rest, without the start, with their places moved; so is the fault that ends the rest, if one does.
+/// The events of a text that is cut between documents behind a front that is accepted are those of the front, without the end, and
+/// then those of the rest, without the start, with their places moved; so is the fault that ends the rest, if one does.
 pub fn windows_are_read()
     ensures { WindowsAreRead }
 {}
@@ -13,9 +13,14 @@ pub fn windows_are_accepted()
     ensures { WindowsAreAccepted }
 {}
 
-/// Where a front is refused, but not by the scanner, such a text is refused so, behind the same events.
+/// Where the front is refused, but not by the scanner, such a text is refused so, behind the same events.
 pub fn refused_fronts_are_read()
     ensures { RefusedFrontsAreRead }
+{}
+
+/// Where the scanner refuses the front, in front of the cut, the whole is read as the front is.
+pub fn unscanned_fronts_are_read()
+    ensures { UnscannedFrontsAreRead }
 {}
 
 /// The events of a text begin with the stream's start; where it is accepted they end with the stream's end.

@@ -309,7 +309,8 @@ int layer_is_doubtful(const layer_reading *reading)
         return 0;
     if (reading->is_wrong)
         return answer->kind != YAML_C_READER_ERROR;
-    /* where a fault stands is where it was found, and what stands further on was looked at by then in no more than that */
+    /* where a fault stands is where it was found, and what stands further on was looked at by then in no more than that; of a cut in
+     * front of `---` a law asks for less (window.c) */
     return is_placed && answer->problem_mark.index + 8 > reading->read_len;
 }
 

@@ -5,3 +5,4 @@ mod Closing
 pub mod Following
 pub mod Beginning
 pub mod Refusing
+pub mod Staying

@@ -1,5 +1,5 @@
 -- The events of tokens behind a document's end.
-use Rattle.std.specs.Prelude.{◌≡◌, ◌≢◌, List, [], ◌∷◌, ◌++◌, map, Option, Some, None}
+use Rattle.std.specs.Prelude.{◌≡◌, ◌≢◌, ◌⊎◌, List, [], ◌∷◌, ◌++◌, map, Option, Some, None}
 use Rattle.yaml_parse_grammar.specs.parse_model.declared.yaml_encoding_t.{yaml_encoding_t}
 use Rattle.yaml_parse_grammar.specs.parse_model.Tokens.{Token, TokenBody, stream_start, stream_end, document_start, document_end, version_directive, tag_directive}
 use Rattle.yaml_parse_grammar.specs.parse_model.Faults.{Fault}
@@ -77,6 +77,13 @@ RefusedFrontsStay = (front : List Token) (last : Token) → GoOn front → last.
     → (events_in (parse_of (front ++ mark ∷ behind) own)
     ≡ events_in (parse_of (front ++ last ∷ []) None))
     × ((parse_of (front ++ mark ∷ behind) own).ending ≡ Some f)
+
+-- Where tokens that a fault ends are refused, that is their fault, or they are refused so whatever stands behind them.
+abbrev pub RefusedTokensStay : Type 0
+RefusedTokensStay = (front : List Token) (g f : Fault) → (parse_of front (Some g)).ending ≡ Some f
+    → (f ≡ g) ⊎ ((behind : List Token) (own : Option Fault)
+    → (events_in (parse_of (front ++ behind) own) ≡ events_in (parse_of front (Some g)))
+    × ((parse_of (front ++ behind) own).ending ≡ Some f))
 
 -- Tokens that end in STREAM-END and are accepted leave no bracket open.
 abbrev pub BracketsAreClosed : Type 0

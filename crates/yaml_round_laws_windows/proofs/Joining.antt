@@ -21,10 +21,9 @@ use Rattle.yaml_scan_laws_windows.specs.Cuts.{IsCut, IsEndCut, LeadsToDirective}
 use Rattle.yaml_round_content.specs.parse_model.Events.{Event}
 use Rattle.yaml_round_content.specs.parse_model.Events as event
 use Rattle.yaml_round_content.specs.round_laws_adapted.Adapted.{spells_text, with_token, cut}
-use Rattle.yaml_scan_laws_windows.specs.Laws.{scan_of, refused_by}
+use Rattle.yaml_scan_laws_windows.specs.Laws.{scan_of}
 use Rattle.yaml_scan_laws_windows.specs.Moved.{moved_mark, moved_token, moved_fault}
 use Rattle.yaml_scan_laws_windows.proofs.Windows.{windows_are_scanned, at_cut}
-use Rattle.yaml_scan_laws_windows.proofs.Failing.{refused_fronts_are_scanned}
 use Rattle.yaml_scan_laws_windows.proofs.Behind.{ended_front, ended_windows_are_scanned}
 use Rattle.yaml_scan_laws_windows.proofs.Leading.{IsDirective, LeadsSo, leads_so}
 use Rattle.yaml_scan_laws_windows.proofs.OrderLaws.{stream_starts, stream_ends}
@@ -36,13 +35,13 @@ use Rattle.yaml_parse_laws_windows.proofs.Parting.{end_at}
 use Rattle.yaml_parse_laws_windows.proofs.Refusing.{refused_fronts_stay}
 use Rattle.yaml_parse_laws_windows.proofs.Beginning.{directives_are_parsed}
 use Rattle.yaml_round_laws_windows.specs.Moved.{moved_event, IsMovedEnd}
-use Rattle.yaml_round_laws_windows.specs.Laws.{tokens_in, reading_in, IsAccepted, WindowsAreRead, WindowsAreAccepted, ReadingsAreFramed, AwaitsDocument, RefusedFrontsAreRead, UnscannedFrontsAreRead}
+use Rattle.yaml_round_laws_windows.specs.Laws.{tokens_in, reading_in, IsAccepted, WindowsAreRead, WindowsAreAccepted, ReadingsAreFramed, AwaitsDocument, RefusedFrontsAreRead}
 use Rattle.yaml_round_laws_windows.proofs.Depths.{behind_both, told_deep}
 use Rattle.yaml_round_laws_windows.proofs.Readings.{moved_tokens, IsMovedPlain, moved_as, refused_moved, ended_moved}
 
 -- ---- tokens that pass the adapter
 
-abbrev AllSpell : List Token → Type 0
+abbrev pub AllSpell : List Token → Type 0
 AllSpell [] = Unit {0}
 AllSpell (t ∷ ts) = (spells_text t.body ≡ true) × AllSpell ts
 
@@ -58,7 +57,7 @@ cut_whole f (t ∷ ts) h =
     some_none : {A : Type 0} {x : A} → Some x ≡ None → ⊥
     some_none e = cc
 
-cut_same : (f : Option Fault) (ts : List Token) → AllSpell ts → cut f ts
+pub cut_same : (f : Option Fault) (ts : List Token) → AllSpell ts → cut f ts
     ≡ record { tokens = ts; fault = f }
 cut_same f [] h = refl
 cut_same f (t ∷ ts) h = rw (h.0) (ap (with_token t) (cut_same f ts h.1))
@@ -67,10 +66,10 @@ spell_left : (xs ys : List Token) → AllSpell (xs ++ ys) → AllSpell xs
 spell_left [] ys h = tt
 spell_left (x ∷ xs) ys h = (h.0, spell_left xs ys h.1)
 
-abbrev behind_tokens : List Token → Remaining → Remaining
+abbrev pub behind_tokens : List Token → Remaining → Remaining
 behind_tokens ts r = record { tokens = ts ++ r.tokens; fault = r.fault }
 
-cut_behind : (f : Option Fault) (xs ts : List Token) → AllSpell xs
+pub cut_behind : (f : Option Fault) (xs ts : List Token) → AllSpell xs
     → cut f (xs ++ ts) ≡ behind_tokens xs (cut f ts)
 cut_behind f [] ts h = refl
 cut_behind f (x ∷ xs) ts h = rw (h.0) (ap (with_token x) (cut_behind f xs ts h.1))
@@ -89,12 +88,12 @@ cut_moved d n f (t ∷ ts) =
     ]
 
 -- a text that is accepted has its own tokens, and no fault
-record Passed (x : yaml_encoding_t) (text : List ℕ) : Type 0 where
+pub record Passed (x : yaml_encoding_t) (text : List ℕ) : Type 0 where
   pub none : (scan_of x text).fault ≡ None
   pub spell : AllSpell (scan_of x text).tokens
   pub reads : reading_in x text ≡ parse_of (scan_of x text).tokens None
 
-passed : (x : yaml_encoding_t) (text : List ℕ) → (tokens_in x text).fault ≡ None → Passed x text
+pub passed : (x : yaml_encoding_t) (text : List ℕ) → (tokens_in x text).fault ≡ None → Passed x text
 passed x text h =
     let c = scan_of x text in
     let (all, none) = cut_whole c.fault c.tokens h in
@@ -107,7 +106,7 @@ passed x text h =
 abbrev IsInner : Token → Type 0
 IsInner t = t.body ≢ stream_end
 
-go_on : (ts : List Token) → All IsInner ts → GoOn ts
+pub go_on : (ts : List Token) → All IsInner ts → GoOn ts
 go_on [] h = tt
 go_on (t ∷ ts) h = (All-head IsInner t ts h, go_on ts (All-tail IsInner t ts h))
 
@@ -123,7 +122,7 @@ no_bracket x text g =
     sym (told_deep x text p.none) ∙ ap (λ ts. depth_behind ts 0) are ∙ behind_both front (last ∷ []) 0
     ∙ ap (λ b. depth_after b (depth_behind front 0)) ends ∙ closed
 
-abbrev read_to : Remaining → Reading
+abbrev pub read_to : Remaining → Reading
 read_to r = parse_of r.tokens r.fault
 
 -- what is read of a text's tokens, where they are moved
@@ -148,7 +147,7 @@ reading_moved d n x text = by (tokens_in x text).fault refl
         (moved_as d n _ _ _ _ (parse_plain ts None) (parse_plain (moved_tokens d n ts) None)
         (ended_moved d n front initial no_directives (refl, refl) (go_on front others) last.start_mark last.end_mark))
 
-cut_marked : (f : Option Fault) (t : Token) (ts : List Token) → t.body ≡ document_start
+pub cut_marked : (f : Option Fault) (t : Token) (ts : List Token) → t.body ≡ document_start
     → cut f (t ∷ ts) ≡ with_token t (cut f ts)
 cut_marked f t ts e = rw e refl
 
@@ -377,13 +376,13 @@ windows_are_accepted x a b at ga gb =
 
 -- ---- a front that is refused
 
-spell_push : (xs : List Token) (t : Token) → AllSpell xs → spells_text t.body ≡ true
+pub spell_push : (xs : List Token) (t : Token) → AllSpell xs → spells_text t.body ≡ true
     → AllSpell (xs ++ t ∷ [])
 spell_push [] t h k = (k, tt)
 spell_push (x ∷ xs) t h k = (h.0, spell_push xs t h.1 k)
 
 -- tokens pass the adapter, or it stops within them
-spell_or : (front : List Token) → AllSpell front
+pub spell_or : (front : List Token) → AllSpell front
     ⊎ ((f g : Option Fault) (ts us : List Token) → cut f (front ++ ts) ≡ cut g (front ++ us))
 spell_or [] = inl tt
 spell_or (t ∷ front) =
@@ -435,10 +434,3 @@ refused_fronts_are_read x a b at begins clean outer f refused other =
           ∙ ap (cut c.fault) (sym are) in
           (ap (λ r. parse.events_in (read_to r)) same, ap (λ r. (read_to r).ending) same ∙ refused)
     ]
-
-pub unscanned_fronts_are_read : UnscannedFrontsAreRead
-unscanned_fronts_are_read x a b at f fails low =
-    let (g, whole, same) = refused_fronts_are_scanned x a b at f fails in
-    let c = scan_of x a in
-    ap (λ (y : Remaining). read_to (cut y.fault y.tokens))
-    (whole ∙ ap (λ z. refused_by z c) (same low) ∙ ap (λ (o : Option Fault). record { tokens = c.tokens; fault = o }) (sym fails))

@@ -2,3 +2,4 @@ mod Machine
 mod Readings
 mod Depths
 mod Joining
+mod Early

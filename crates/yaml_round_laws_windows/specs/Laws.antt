@@ -76,11 +76,14 @@ RefusedFrontsAreRead = (encoding : yaml_encoding_t) (front rest : List ℕ) → 
     → (events_in encoding (front ++ rest) ≡ events_in encoding front)
     × ((reading_in encoding (front ++ rest)).ending ≡ Some f)
 
--- Where a scanner refuses a front, in front of the cut, the whole is read as the front is.
-abbrev pub UnscannedFrontsAreRead : Type 0
-UnscannedFrontsAreRead = (encoding : yaml_encoding_t) (front rest : List ℕ) → IsCut front rest
-    → (f : Fault) → (scan_of encoding front).fault ≡ Some f → f.problem_mark.index < length front
-    → reading_in encoding (front ++ rest) ≡ reading_in encoding front
+-- Where a front is refused with a fault that stands in front of its end, by whomever, the whole has its events and its fault.
+abbrev pub EarlyFaultsAreRead : Type 0
+EarlyFaultsAreRead = (encoding : yaml_encoding_t) (front rest : List ℕ) → IsCut front rest
+    → is_document_start rest 0 ≡ true
+    → (f : Fault) → (reading_in encoding front).ending ≡ Some f
+    → f.problem_mark.index < length front
+    → (events_in encoding (front ++ rest) ≡ events_in encoding front)
+    × ((reading_in encoding (front ++ rest)).ending ≡ Some f)
 
 -- Every text's events begin with STREAM-START, and those of one that is accepted end with STREAM-END.
 abbrev pub ReadingsAreFramed : Type 0

@@ -1,6 +1,6 @@
 //! Each function's contract is a law.
 
-ghost use Rattle.yaml_round_laws_windows.specs.Laws.{WindowsAreRead, WindowsAreAccepted, RefusedFrontsAreRead, UnscannedFrontsAreRead, ReadingsAreFramed};
+ghost use Rattle.yaml_round_laws_windows.specs.Laws.{WindowsAreRead, WindowsAreAccepted, RefusedFrontsAreRead, EarlyFaultsAreRead, ReadingsAreFramed};
 
 /// The events of a text that is cut between documents behind a front that is accepted are those of the front, without the end, and
 /// then those of the rest, without the start, with their places moved; so is the fault that ends the rest, if one does.
@@ -18,9 +18,9 @@ pub fn refused_fronts_are_read()
     ensures { RefusedFrontsAreRead }
 {}
 
-/// Where the scanner refuses the front, in front of the cut, the whole is read as the front is.
-pub fn unscanned_fronts_are_read()
-    ensures { UnscannedFrontsAreRead }
+/// Where the front is refused in front of its end, by whomever, so is the whole, behind the same events.
+pub fn early_faults_are_read()
+    ensures { EarlyFaultsAreRead }
 {}
 
 /// The events of a text begin with the stream's start; where it is accepted they end with the stream's end.

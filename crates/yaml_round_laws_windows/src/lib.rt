@@ -4,6 +4,6 @@
 mod laws;
 
 pub use laws::{
-    readings_are_framed, refused_fronts_are_read, unscanned_fronts_are_read, windows_are_accepted,
+    early_faults_are_read, readings_are_framed, refused_fronts_are_read, windows_are_accepted,
     windows_are_read,
 };

@@ -25,4 +25,5 @@ pub mod Failing
 pub mod Ending
 pub mod Behind
 pub mod Leading
+pub mod Opening
 pub use Rattle.yaml_scan_laws_order.proofs.StreamForward as OrderLaws

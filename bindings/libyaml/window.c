@@ -10,11 +10,11 @@
  *   ended_windows_are_scanned of yaml_scan_laws_windows). What they ask of a cut: it stands behind LF, in front of a line that begins
  *   with `---`; or behind a line of `...`, blanks and breaks, which ends in LF, where of what follows `%` at column 0 comes first,
  *   behind spaces, breaks and comments. cut_before and is_document_start see to it.
- * - Where the front is refused, by the scanner or the parser, with a fault in front of its end, and the cut stands in front of `---`,
- *   the whole has its events and its fault (early_faults_are_read), and, where it is the scanner's, its tokens and its fault
- *   (refused_fronts_are_scanned). layer_is_doubtful sees to that place: where a fault stands nearer than 8 bytes to the end, the cut
- *   counts for nothing. It does so too where tokens leave a bracket open (tokens.c). No law says anything of a refused front that
- *   ends in a line `...`.
+ * - Where the front is refused, by the scanner or the parser, with a fault in front of its end, or of the line `...` that ends it, the
+ *   whole has its events and its fault (early_faults_are_read, ended_faults_are_read); where the fault is the scanner's, and the cut
+ *   stands in front of `---`, it has its tokens too (refused_fronts_are_scanned). layer_is_doubtful sees to that place: where a fault
+ *   stands nearer to the end than 16 bytes, 3 of which may be a byte order mark and 8 that line, the cut counts for nothing. It does
+ *   so too where tokens leave a bracket open (tokens.c). No law speaks of the tokens of a front with a fault that ends in `...`.
  *
  * Within a document, where its root is a block collection at column 0, without anchor, tag and directives: in front of an item at
  * column 0. What stands behind it is parsed behind a stand-in, a root of that kind with one item; of both the events of what
@@ -32,10 +32,10 @@ static int is_document_start(const uint8_t *text, size_t len, size_t at)
     return at + 3 < len && !memcmp(text + at, "---", 3) && is_blank_or_break(text[at + 3]);
 }
 
-/* Whether a line is `...` and nothing else. */
+/* Whether a line is `...` and nothing else, and so short that a fault in it is one at the window's end (layer_is_doubtful). */
 static int is_document_end(const uint8_t *text, size_t at, size_t end)
 {
-    if (end - at < 4 || memcmp(text + at, "...", 3))
+    if (end - at < 4 || end - at > 8 || memcmp(text + at, "...", 3))
         return 0;
     for (at += 3; at < end; at++)
         if (!is_blank_or_break(text[at]))

@@ -24,13 +24,13 @@ use Rattle.yaml_parse_laws_windows.proofs.Noting.{through, none_some, Fine, with
 use Rattle.yaml_parse_laws_windows.proofs.Parting.{end_at}
 use Rattle.yaml_parse_laws_windows.proofs.Following.{items_of, Plain, plain, seen, with_one, with_front, plain_through, plain_accepts, through_parts, run_step, step_items, step_ending, read_of, went, After, after, uncons, inner_pair, parse_plain, body_at}
 
-abbrev over_at : yaml_mark_t → yaml_mark_t → Token
+abbrev pub over_at : yaml_mark_t → yaml_mark_t → Token
 over_at m e = record { body = token.document_end; start_mark = m; end_mark = e }
 
 -- ---- the stack behind DOCUMENT-END
 
 -- it awaits documents
-abbrev IsOver : Fed → Type 0
+abbrev pub IsOver : Fed → Type 0
 IsOver (stop is f) = Unit {0}
 IsOver (go is s) = s ≡ state.documents ∷ []
 
@@ -59,7 +59,7 @@ beside_over Flow p m e s h = over_item (left_at (state.with_properties Flow p) m
 beside_over (Block None) p m e s h = over_item (left_at (state.with_properties (Block None) p) m) (feed s (over_at m e)) h
 beside_over (Block (Some side)) p m e s h = over_item (left_at (state.with_properties (Block (Some side)) p) m) (feed s (over_at m e)) h
 
-feed_over : (s : List State) (ds : Directives) → Stands s ds → (m e : yaml_mark_t)
+pub feed_over : (s : List State) (ds : Directives) → Stands s ds → (m e : yaml_mark_t)
     → IsOver (feed s (over_at m e))
 unfolding feed
 feed_over [] ds g m e = absurd g
@@ -168,7 +168,7 @@ over_plain front m e x rest own =
 
 -- ---- the law
 
-end_taken : (m e : yaml_mark_t)
+pub end_taken : (m e : yaml_mark_t)
     → feed (state.documents ∷ []) (end_at m e) ≡ go (event_at event.stream_end m e ∷ []) []
 unfolding feed
 end_taken m e = refl
@@ -179,7 +179,7 @@ start_taken : (x : yaml_encoding_t) (m e : yaml_mark_t)
 unfolding feed
 start_taken x m e = refl
 
-nothing_more : items_of (run [] [] None).items ≡ []
+pub nothing_more : items_of (run [] [] None).items ≡ []
 unfolding run feed
 nothing_more = refl
 

@@ -1,15 +1,23 @@
 -- Tokens that are refused before they end are refused so whatever stands behind them.
-use Rattle.std.proofs.Common.{◌≡◌, List, [], ◌∷◌, ◌++◌, Option, Some, None, refl, sym, ap, ◌∙◌, inl, inr, ◌⊎◌}
+use Rattle.std.proofs.Common.{◌≡◌, ◌≢◌, List, [], ◌∷◌, ◌++◌, Option, Some, None, refl, sym, ap, subst, ◌∙◌, inl, inr, ◌⊎◌}
+use Rattle.yaml_parse_grammar.specs.parse_model.declared.yaml_mark_t.{yaml_mark_t}
 use Rattle.yaml_parse_grammar.specs.parse_model.Tokens.{Token}
+use Rattle.yaml_parse_grammar.specs.parse_model.Tokens as token
 use Rattle.yaml_parse_grammar.specs.parse_model.Events.{Event}
+use Rattle.yaml_parse_grammar.specs.parse_model.Events as event
 use Rattle.yaml_parse_grammar.specs.parse_model.Faults.{Fault}
 use Rattle.yaml_parse_grammar.specs.Items.{RawEvent}
 use Rattle.yaml_parse_grammar.specs.Resolve.{Directives, no_directives}
+use Rattle.yaml_parse_grammar.specs.Trees.{event_at}
 use Rattle.yaml_parse_grammar.specs.States.{State}
+use Rattle.yaml_parse_grammar.specs.States as state
 use Rattle.yaml_parse_grammar.specs.Machine.{Fed, stop, go, feed, run, initial}
-use Rattle.yaml_parse_laws_windows.specs.Laws.{parse_of, events_in, RefusedTokensStay}
-use Rattle.yaml_parse_laws_windows.proofs.Noting.{through}
-use Rattle.yaml_parse_laws_windows.proofs.Following.{items_of, Plain, plain, plain_through, read_of, went, halted, parse_plain}
+use Rattle.yaml_parse_laws_windows.specs.Laws.{parse_of, events_in, GoOn, RefusedTokensStay, EndedFrontsStay}
+use Rattle.yaml_parse_laws_windows.proofs.Noting.{through, Fine, stands_feed}
+use Rattle.yaml_parse_laws_windows.proofs.Grounding.{Stands}
+use Rattle.yaml_parse_laws_windows.proofs.Parting.{end_at}
+use Rattle.yaml_parse_laws_windows.proofs.Beginning.{over_at, IsOver, feed_over, end_taken, nothing_more}
+use Rattle.yaml_parse_laws_windows.proofs.Following.{items_of, Plain, plain, plain_through, read_of, went, halted, parse_plain, body_at}
 use Rattle.yaml_parse_laws_windows.proofs.Refusing.{same_front}
 
 some_same : {x y : Fault} → Some x ≡ Some y → x ≡ y
@@ -75,3 +83,81 @@ refused_tokens_stay front g f e =
           let same = parse_plain (front ++ behind) own ∙ stays behind own ∙ sym mine in
           (ap (λ (p : Plain). p.events) same, ap (λ (p : Plain). p.ending) same ∙ e))
     ]
+
+-- ---- behind DOCUMENT-END
+
+end_none : (run [] [] None).ending ≡ None
+unfolding run feed
+end_none = refl
+
+-- the stream's end is accepted where documents are awaited
+over_accepts : (n f : yaml_mark_t) (w : Directives) → w ≡ no_directives
+    → (read_of (run (end_at n f ∷ []) (state.documents ∷ []) None) w).ending ≡ None
+over_accepts n f w e =
+    let End = event_at event.stream_end n f in
+    ap (λ (p : Plain). p.ending) (went (end_at n f) [] (state.documents ∷ []) [] None (End ∷ []) w (end_taken n f))
+    ∙ ap (λ z. (plain (End ∷ z) (run [] [] None).ending w).ending) nothing_more ∙ ap (λ z. (plain (End ∷ []) z w).ending) end_none
+
+-- a stack at DOCUMENT-END
+over_stays : (s : List State) (ds : Directives) → Stands s ds → (m e n f : yaml_mark_t) (p : Fault)
+    → (read_of (run (over_at m e ∷ end_at n f ∷ []) s None) ds).ending ≡ Some p
+    → (behind : List Token) (own : Option Fault)
+    → read_of (run (over_at m e ∷ behind) s own) ds ≡ read_of (run (over_at m e ∷ end_at n f ∷ []) s None) ds
+over_stays s ds g m e n f p ends behind own =
+    by (feed s (over_at m e)) refl (feed_over s ds g m e) (stands_feed s ds g (over_at m e) other)
+  where
+    other : token.document_end ≢ token.stream_end
+    other e = cc
+
+    by : (x : Fed) → feed s (over_at m e) ≡ x → IsOver x → Fine x ds
+        → read_of (run (over_at m e ∷ behind) s own) ds ≡ read_of (run (over_at m e ∷ end_at n f ∷ []) s None) ds
+    by (stop is q) k h fine = halted (over_at m e) behind s own is q ds k ∙ sym (halted (over_at m e) (end_at n f ∷ []) s None is q ds k)
+    by (go is z) k h fine =
+        let R = run (end_at n f ∷ []) z None in
+        let W = run behind z own in
+        let here = went (over_at m e) (end_at n f ∷ []) s z None is ds k in
+        went (over_at m e) behind s z own is ds k
+        ∙ same_front is ds (items_of W.items) (items_of R.items) W.ending R.ending
+        (λ es w told.
+        let stands : Stands (state.documents ∷ []) w = subst (λ y. Stands y w) h (fine es w told) in
+        let accepts = ap (λ y. (read_of (run (end_at n f ∷ []) y None) w).ending) h ∙ over_accepts n f w stands.1 in
+        absurd (none_some (sym accepts ∙ sym (ap (λ (q : Plain). q.ending) (here ∙ plain_through is (items_of R.items) R.ending ds w es told)) ∙ ends)))
+        ∙ sym here
+
+ended_stay : (front : List Token) (s : List State) (ds : Directives) → Stands s ds → GoOn front
+    → (m e n f : yaml_mark_t) (p : Fault)
+    → (read_of (run (front ++ over_at m e ∷ end_at n f ∷ []) s None) ds).ending ≡ Some p
+    → (behind : List Token) (own : Option Fault)
+    → read_of (run (front ++ over_at m e ∷ behind) s own) ds
+    ≡ read_of (run (front ++ over_at m e ∷ end_at n f ∷ []) s None) ds
+ended_stay [] s ds g goes m e n f p ends behind own = over_stays s ds g m e n f p ends behind own
+ended_stay (t ∷ front) s ds g goes m e n f p ends behind own =
+    by (feed s t) refl (stands_feed s ds g t goes.0) (λ z w h k. ended_stay front z w h goes.1 m e n f p k behind own)
+  where
+    by : (x : Fed) → feed s t ≡ x → Fine x ds
+        → ((z : List State) (w : Directives) → Stands z w → (read_of (run (front ++ over_at m e ∷ end_at n f ∷ []) z None) w).ending ≡ Some p
+        → read_of (run (front ++ over_at m e ∷ behind) z own) w ≡ read_of (run (front ++ over_at m e ∷ end_at n f ∷ []) z None) w)
+        → read_of (run (t ∷ (front ++ over_at m e ∷ behind)) s own) ds ≡ read_of (run (t ∷ (front ++ over_at m e ∷ end_at n f ∷ [])) s None) ds
+    by (stop is q) k fine rec = halted t (front ++ over_at m e ∷ behind) s own is q ds k ∙ sym (halted t (front ++ over_at m e ∷ end_at n f ∷ []) s None is q ds k)
+    by (go is z) k fine rec =
+        let R = run (front ++ over_at m e ∷ end_at n f ∷ []) z None in
+        let W = run (front ++ over_at m e ∷ behind) z own in
+        let here = went t (front ++ over_at m e ∷ end_at n f ∷ []) s z None is ds k in
+        went t (front ++ over_at m e ∷ behind) s z own is ds k
+        ∙ same_front is ds (items_of W.items) (items_of R.items) W.ending R.ending
+        (λ es w told. rec z w (fine es w told) (sym (ap (λ (q : Plain). q.ending) (here ∙ plain_through is (items_of R.items) R.ending ds w es told)) ∙ ends))
+        ∙ sym here
+
+pub ended_fronts_stay : EndedFrontsStay
+ended_fronts_stay front over last goes ended ends p none behind own =
+    let O = body_at over token.document_end over.start_mark ended refl in
+    let E = body_at last token.stream_end last.start_mark ends refl in
+    let list = ap (λ t. front ++ t ∷ last ∷ []) O ∙ ap (λ t. front ++ over_at over.start_mark over.end_mark ∷ t ∷ []) E in
+    let is = ap (λ ts. parse_of ts None) list in
+    let mine = parse_plain (front ++ over_at over.start_mark over.end_mark ∷ end_at last.start_mark last.end_mark ∷ []) None in
+    let none_there = sym (ap (λ (q : Plain). q.ending) mine) ∙ sym (ap (λ r. r.ending) is) ∙ none in
+    let same = parse_plain (front ++ over_at over.start_mark over.end_mark ∷ behind) own
+    ∙ ended_stay front initial no_directives (refl, refl) goes over.start_mark over.end_mark last.start_mark last.end_mark p none_there behind own ∙ sym mine in (
+      ap (λ t. events_in (parse_of (front ++ t ∷ behind) own)) O ∙ ap (λ (q : Plain). q.events) same ∙ ap events_in (sym is),
+      ap (λ t. (parse_of (front ++ t ∷ behind) own).ending) O ∙ ap (λ (q : Plain). q.ending) same ∙ ap (λ r. r.ending) (sym is) ∙ none,
+    )

@@ -78,6 +78,16 @@ RefusedFrontsStay = (front : List Token) (last : Token) → GoOn front → last.
     ≡ events_in (parse_of (front ++ last ∷ []) None))
     × ((parse_of (front ++ mark ∷ behind) own).ending ≡ Some f)
 
+-- Where tokens that end in DOCUMENT-END and STREAM-END are refused, they are refused so whatever stands behind DOCUMENT-END.
+abbrev pub EndedFrontsStay : Type 0
+EndedFrontsStay = (front : List Token) (over last : Token) → GoOn front
+    → over.body ≡ document_end → last.body ≡ stream_end
+    → (f : Fault) → (parse_of (front ++ over ∷ last ∷ []) None).ending ≡ Some f
+    → (behind : List Token) (own : Option Fault)
+    → (events_in (parse_of (front ++ over ∷ behind) own)
+    ≡ events_in (parse_of (front ++ over ∷ last ∷ []) None))
+    × ((parse_of (front ++ over ∷ behind) own).ending ≡ Some f)
+
 -- Where tokens that a fault ends are refused, that is their fault, or they are refused so whatever stands behind them.
 abbrev pub RefusedTokensStay : Type 0
 RefusedTokensStay = (front : List Token) (g f : Fault) → (parse_of front (Some g)).ending ≡ Some f

@@ -3,16 +3,15 @@ use Rattle.std.proofs.Common.{◌≡◌, ◌≢◌, ℕ, ◌<◌, true, List, []
 use Rattle.std.proofs.lemmas.List.{append-nil}
 use Rattle.yaml_round_content.specs.scan_model.declared.yaml_encoding_t.{yaml_encoding_t}
 use Rattle.yaml_round_content.specs.scan_model.Faults.{Fault}
-use Rattle.yaml_round_content.specs.scan_model.Tokens.{Token}
 use Rattle.yaml_round_content.specs.scan_history.Remaining.{Remaining}
 use Rattle.yaml_round_content.specs.scan_history.scan_words.Indicators.{is_document_start}
 use Rattle.yaml_round_content.specs.parse_grammar.declared.ParseProblem.TheVariants.{NoDocumentStart}
 use Rattle.yaml_round_content.specs.parse_grammar.Problems.{parser_fault}
 use Rattle.yaml_round_content.specs.parse_grammar.Resolve.{Reading}
-use Rattle.yaml_round_content.specs.round_laws_adapted.Adapted.{spells_text, with_token, cut}
+use Rattle.yaml_round_content.specs.round_laws_adapted.Adapted.{spells_text, cut}
 use Rattle.yaml_scan_laws_windows.specs.Cuts.{IsCut}
-use Rattle.yaml_scan_laws_windows.specs.Laws.{scan_of, refused_by}
-use Rattle.yaml_scan_laws_windows.proofs.Failing.{refused_fronts_are_scanned}
+use Rattle.yaml_scan_laws_windows.specs.Laws.{scan_of}
+use Rattle.yaml_scan_laws_windows.proofs.Refused.{refused_fronts_are_scanned}
 use Rattle.yaml_scan_laws_windows.proofs.Opening.{begun}
 use Rattle.yaml_scan_laws_windows.proofs.OrderLaws.{stream_ends}
 use Rattle.yaml_parse_laws_windows.specs.Laws.{parse_of}
@@ -52,7 +51,7 @@ scanned_early x a b at f refused low g fault =
           let others : reading_in x (a ++ b) ≡ parse_of T (Some h) = ap read_to (there ∙ cut_same (Some h) T spell) in
           elim (refused_tokens_stay T g f (ap (λ (r : Reading). r.ending) (sym mine) ∙ refused)) [
             | inl own ↦
-                let one : h ≡ g = same (subst (λ (z : Fault). z.problem_mark.index < length a) own low) in
+                let one : h ≡ g = same (inl (subst (λ (z : Fault). z.problem_mark.index < length a) own low)) in
                 same_reading x a b f refused (there ∙ ap (λ z. cut (Some z) T) one ∙ sym here)
             | inr stays ↦
                 let (events, ending) = stays [] (Some h) in

@@ -3,3 +3,4 @@ mod Readings
 mod Depths
 mod Joining
 mod Early
+mod Ended

@@ -85,6 +85,15 @@ EarlyFaultsAreRead = (encoding : yaml_encoding_t) (front rest : List ℕ) → Is
     → (events_in encoding (front ++ rest) ≡ events_in encoding front)
     × ((reading_in encoding (front ++ rest)).ending ≡ Some f)
 
+-- So it is where a front that ends in a line `...` is refused with a fault that stands in front of that line, whatever follows.
+abbrev pub EndedFaultsAreRead : Type 0
+EndedFaultsAreRead = (encoding : yaml_encoding_t) (front rest : List ℕ)
+    → (at : IsEndCut front rest)
+    → (f : Fault) → (reading_in encoding front).ending ≡ Some f
+    → f.problem_mark.index < length at.before
+    → (events_in encoding (front ++ rest) ≡ events_in encoding front)
+    × ((reading_in encoding (front ++ rest)).ending ≡ Some f)
+
 -- Every text's events begin with STREAM-START, and those of one that is accepted end with STREAM-END.
 abbrev pub ReadingsAreFramed : Type 0
 ReadingsAreFramed = (encoding : yaml_encoding_t) (text : List ℕ)

@@ -4,6 +4,6 @@
 mod laws;
 
 pub use laws::{
-    early_faults_are_read, readings_are_framed, refused_fronts_are_read, windows_are_accepted,
-    windows_are_read,
+    early_faults_are_read, ended_faults_are_read, readings_are_framed, refused_fronts_are_read,
+    windows_are_accepted, windows_are_read,
 };

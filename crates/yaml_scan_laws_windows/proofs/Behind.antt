@@ -37,7 +37,8 @@ use Rattle.yaml_scan_laws_windows.proofs.Depths.{read_deep}
 use Rattle.yaml_scan_laws_windows.proofs.Rests.{whole}
 use Rattle.yaml_scan_laws_windows.proofs.Joining.{told, offline_told, offline_fault, parted}
 use Rattle.yaml_scan_laws_windows.proofs.Windows.{windows_are_scanned, coming_goes, ends_ended, fault_none, made, all_is, uncons, first_told}
-use Rattle.yaml_scan_laws_windows.proofs.Failing.{mark_reached, refused_fronts_are_scanned}
+use Rattle.yaml_scan_laws_windows.proofs.Failing.{mark_reached}
+use Rattle.yaml_scan_laws_windows.proofs.Refused.{refused_fronts_are_scanned}
 use Rattle.yaml_scan_laws_windows.proofs.Ending.{white_kind, line_long, whole_end, line_base, line_ground, start_history, line_cut, line_history}
 
 some_none : {A : Type 0} {x : A} → Some x ≡ None → ⊥
@@ -71,16 +72,17 @@ goes_on t over n x h is more = by (next t (x ∷ h)) refl
         absurd (ends_not (sym over ∙ ap (next t) (same ∙ is) ∙ e))
     by Ends e = absurd (coming_goes (kind_behind t (x ∷ h)) t (x ∷ h) (sym (next_open t x h more) ∙ e))
 
-one_more : (t : List ℕ) (n : ℕ) (h : List Lexeme) (l : Lexeme) → history t n ≡ h → next t h ≡ Read l
+pub one_more : (t : List ℕ) (n : ℕ) (h : List Lexeme) (l : Lexeme) → history t n ≡ h
+    → next t h ≡ Read l
     → history t (suc n) ≡ l ∷ h
 one_more t n h l is e = history_more t n ∙ ap (λ z. extended (next t z) z) is ∙ ap (λ y. extended y h) e
 
-last_two : (t : List ℕ) (n : ℕ) (l : Lexeme) (h : List Lexeme) → history t n ≡ l ∷ h
+pub last_two : (t : List ℕ) (n : ℕ) (l : Lexeme) (h : List Lexeme) → history t n ≡ l ∷ h
     → is_end l.kind ≡ true → all t ≡ l ∷ h
 last_two t n l h is end = last_is_all t n (λ y r. read_not (sym (next_over t l h end) ∙ ap (next t) (sym is) ∙ r)) ∙ is
 
 -- behind the dots of a text that ends in such a line stands its end
-line_over : (a line : List ℕ) → IsEndLine line → (l : Lexeme) (h : List Lexeme)
+pub line_over : (a line : List ℕ) → IsEndLine line → (l : Lexeme) (h : List Lexeme)
     → l.reached.index ≡ length a + 3 → (y : Lexeme) → is_end l.kind ≡ false
     → next (a ++ line) (l ∷ h) ≡ Read y
     → (y.kind ≡ kinds.StreamEnd) × ((gap_behind (a ++ line) (l ∷ h)).place ≡ length (a ++ line))

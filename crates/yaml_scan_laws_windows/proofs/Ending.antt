@@ -62,6 +62,7 @@ end_indicator t h =
     let column = (and_parts (column_at t 0 == 0) (byte t 0 == 46 && (byte t 1 == 46 && byte t 2 == 46)) parts.0).0 in
     rw (column, one, two, three, parts.1) refl
 
+-- such a line has four bytes at least
 pub line_long : (line : List ℕ) → IsEndLine line → 4 ≤ length line
 line_long line e =
     let (one, two, three) = dots line e.mark in

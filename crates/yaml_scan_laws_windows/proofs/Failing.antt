@@ -1,14 +1,10 @@
 -- A front with a fault: the whole has the same tokens, and a fault there.
-use Rattle.std.proofs.Common.{◌≡◌, ◌≢◌, ℕ, zero, suc, ◌+◌, ◌<◌, ◌≤◌, ◌==◌, ◌&&◌, nat_lt, nat_le, not, Bool, true, false, List, [], ◌∷◌, ◌++◌, map, length, Option, Some, None, Result, Ok, Err, refl, sym, ap, subst, ◌∙◌, inl, inr, arith}
+use Rattle.std.proofs.Common.{◌≡◌, ◌≢◌, ℕ, suc, ◌+◌, ◌<◌, ◌≤◌, ◌==◌, ◌&&◌, nat_lt, nat_le, not, Bool, true, false, List, [], ◌∷◌, ◌++◌, length, Option, Some, None, Result, Ok, Err, refl, sym, ap, subst, ◌∙◌, inl, inr, arith}
 use Rattle.std.proofs.lemmas.Bool.{cases_Bool, cases_lt}
 use Rattle.std.proofs.lemmas.Bool.Decides.{nat_tests}
-use Rattle.std.proofs.lemmas.List.{append-nil}
-use Rattle.yaml_scan_history.specs.scan_model.declared.name.yaml_encoding_t.{yaml_encoding_t}
 use Rattle.yaml_scan_history.specs.scan_model.declared.record.yaml_mark_t.{yaml_mark_t}
 use Rattle.yaml_scan_history.specs.scan_model.declared.problem.ScanFault.{ScanFault}
-use Rattle.yaml_scan_history.specs.scan_model.Faults.{Fault}
 use Rattle.yaml_scan_history.specs.scan_model.Marks.{byte, line_at, mark_at}
-use Rattle.yaml_scan_history.specs.scan_model.Problems.{scanner_fault}
 use Rattle.yaml_scan_history.specs.scan_model.Wrong.{Wrong}
 use Rattle.yaml_scan_history.specs.declared.kind.Kind.{Kind}
 use Rattle.yaml_scan_history.specs.declared.kind.Kind.TheVariants as kinds
@@ -16,25 +12,19 @@ use Rattle.yaml_scan_history.specs.declared.lexeme.Lexeme.{Lexeme}
 use Rattle.yaml_scan_history.specs.Kinds.{is_end}
 use Rattle.yaml_scan_history.specs.History.{reached, depth, in_flow, Candidate, candidate, is_fresh, fresh, placed}
 use Rattle.yaml_scan_history.specs.Words.{WordText, kind_at, word_at}
-use Rattle.yaml_scan_history.specs.Next.{Next, Read, Fails, Ends, gap_behind, place_behind, allowed_behind, kind_behind, begun_behind, word_behind, lexeme_behind, missed, lost_by, stale_before, indicator_misplaced, candidate_lost, wrong_in, text_wrong, stale_after, colon_missing_of, first_fault_or, coming, next, extended, step, history}
-use Rattle.std.specs.List.{flat_map}
-use Rattle.yaml_scan_history.specs.Remaining.{SpelledText, spell, all, fault_in}
-use Rattle.yaml_scan_laws_order.proofs.HistoryForward.{Stands, history_stands, last_is_all}
+use Rattle.yaml_scan_history.specs.Next.{Next, Read, Fails, gap_behind, place_behind, allowed_behind, kind_behind, begun_behind, word_behind, lexeme_behind, missed, lost_by, stale_before, indicator_misplaced, candidate_lost, wrong_in, text_wrong, stale_after, colon_missing_of, first_fault_or, coming, next}
+use Rattle.yaml_scan_laws_order.proofs.HistoryForward.{Stands}
 use Rattle.yaml_scan_laws_order.proofs.MarksForward.{line_at-grows}
 use Rattle.yaml_scan_laws_windows.specs.Cuts.{IsCut}
-use Rattle.yaml_scan_laws_windows.specs.Moved.{moved_token, moved_scan_fault, moved_next}
-use Rattle.yaml_scan_laws_windows.specs.Laws.{scan_of, RefusedFrontsAreScanned}
-use Rattle.yaml_scan_laws_windows.proofs.Moving.{moved_by}
+use Rattle.yaml_scan_laws_windows.specs.Moved.{moved_scan_fault, moved_next}
+use Rattle.yaml_scan_laws_windows.proofs.Moving.{moved_wrong, moved_by}
 use Rattle.yaml_scan_laws_windows.proofs.Words.{moved_word, end_kind, kind_alike}
 use Rattle.yaml_scan_laws_windows.proofs.Cutting.{rest_alike}
 use Rattle.yaml_scan_laws_windows.proofs.Coming.{Pair, moved_fault, mark_alike, Said, place_there, kind_there, stale_there, misplaced_there, lost_there, coming_there}
 use Rattle.yaml_scan_laws_windows.proofs.Stepping.{word_there, word_inside, clean, none_reads}
-use Rattle.yaml_scan_laws_windows.proofs.Fronts.{mark_zero, front_pair, next_open, next_over, history_more, front_next}
+use Rattle.yaml_scan_laws_windows.proofs.Fronts.{mark_zero, front_pair, next_open}
 use Rattle.yaml_scan_laws_windows.proofs.Marking.{IsMark, IsFree, and_false, lost_none, mark_word}
 use Rattle.yaml_scan_laws_windows.proofs.Turning.{mark_stands, free_of, colon_none, end_begun, end_mark_placed, mark_there}
-use Rattle.yaml_scan_laws_windows.proofs.Rests.{AllCarry}
-use Rattle.yaml_scan_laws_windows.proofs.Joining.{told, offline_told, offline_fault, parted}
-use Rattle.yaml_scan_laws_windows.proofs.Windows.{coming_goes, made, all_is, front_carried, lexemes_zero, tokens_zero, no_bases, no_entries}
 
 -- ---- the stream's end
 
@@ -155,7 +145,7 @@ end_reads a b cut H inside at l there =
 
 -- ---- a fault of the front is one of the whole
 
-fails_not : {f : ScanFault} {l : Lexeme} → Fails f ≡ Read l → ⊥
+pub fails_not : {f : ScanFault} {l : Lexeme} → Fails f ≡ Read l → ⊥
 fails_not e = cc
 
 none_kind : {x : Kind} → None ≡ Some x → ⊥
@@ -190,7 +180,7 @@ said_read a b H cut inside on x e w is =
       ends = λ v k go. word_inside a H x e go v k;
     }
 
-reads_not : (a b : List ℕ) → IsCut a b → (x : Lexeme) (h : List Lexeme) → Stands a (x ∷ h)
+pub reads_not : (a b : List ℕ) → IsCut a b → (x : Lexeme) (h : List Lexeme) → Stands a (x ∷ h)
     → (f : ScanFault) → next a (x ∷ h) ≡ Fails f → is_end x.kind ≡ false
     → (l : Lexeme) → next (a ++ b) (x ∷ h) ≢ Read l
 reads_not a b cut x h stands f e more l r =
@@ -237,10 +227,10 @@ reads_not a b cut x h stands f e more l r =
 fault_zero : (f : ScanFault) → moved_scan_fault 0 0 f ≡ f
 fault_zero f = rw (mark_zero f.problem_mark, mark_zero f.context_mark) refl
 
-fails_same : {f g : ScanFault} → Fails f ≡ Fails g → f ≡ g
+pub fails_same : {f g : ScanFault} → Fails f ≡ Fails g → f ≡ g
 fails_same e = cc
 
-colon_index : (o : Option yaml_mark_t) (m : yaml_mark_t) (f : ScanFault)
+pub colon_index : (o : Option yaml_mark_t) (m : yaml_mark_t) (f : ScanFault)
     → colon_missing_of o m ≡ Some f → f.problem_mark ≡ m
 colon_index None m f e = absurd (some_none (sym e))
 colon_index (Some s) m f e = ap (λ (g : ScanFault). g.problem_mark) (inner (sym e))
@@ -277,7 +267,7 @@ placed_index k m =
       | inr h ↦ rw h refl
     ]
 
-end_late : (t : List ℕ) (H : List Lexeme) (f : ScanFault)
+pub end_late : (t : List ℕ) (H : List Lexeme) (f : ScanFault)
     → coming (Some kinds.StreamEnd) t H ≡ Fails f
     → f.problem_mark.index ≡ (gap_behind t H).place
 end_late t H f e =
@@ -295,7 +285,7 @@ end_late t H f e =
     (λ g is. ap (λ (m : yaml_mark_t). m.index) (colon_index (missed (candidate 0 (E ∷ H)) E.reached) E.reached g is) ∙ begins)
     known
 
-fails_there : (a b : List ℕ) → IsCut a b → (x : Lexeme) (h : List Lexeme) → Stands a (x ∷ h)
+pub fails_there : (a b : List ℕ) → IsCut a b → (x : Lexeme) (h : List Lexeme) → Stands a (x ∷ h)
     → (f : ScanFault) → next a (x ∷ h) ≡ Fails f → is_end x.kind ≡ false
     → f.problem_mark.index < length a → next (a ++ b) (x ∷ h) ≡ Fails f
 fails_there a b cut x h stands f e more low =
@@ -368,156 +358,115 @@ fails_there a b cut x h stands f e more low =
               ]
             ]
 
--- ---- all of the front's lexemes are all of the whole's
+-- ---- and where that of the whole does
 
--- the front's fault, as a scanner tells it
-record Refused (a : List ℕ) (f : ScanFault) : Type 0 where
-  pub fails : next a (all a) ≡ Fails f
+-- what comes first in the whole
+first_back : (a b c r e : Option ScanFault) (w f g : ScanFault) (y z : Next) (s : Option ScanFault)
+    → first_fault_or (moved_fault 0 0 a ∷ moved_fault 0 0 b ∷ moved_fault 0 0 c ∷ Some w ∷ s ∷ []) z ≡ Fails g
+    → g.problem_mark.index < w.problem_mark.index
+    → first_fault_or (a ∷ b ∷ c ∷ r ∷ e ∷ []) y ≡ Fails f → g ≡ f
+first_back (Some h) b c r e w f g y z s there l here = sym (fails_same there) ∙ fault_zero h ∙ fails_same here
+first_back None (Some h) c r e w f g y z s there l here = sym (fails_same there) ∙ fault_zero h ∙ fails_same here
+first_back None None (Some h) r e w f g y z s there l here = sym (fails_same there) ∙ fault_zero h ∙ fails_same here
+first_back None None None r e w f g y z s there l here =
+    let same = ap (λ (k : ScanFault). k.problem_mark.index) (fails_same there) in absurd (omega (arith, same, l))
 
-kept_by : (y : Next) (H : List Lexeme) → ((l : Lexeme) → y ≢ Read l) → extended y H ≡ H
-kept_by (Read l) H never = absurd (never l refl)
-kept_by (Fails f) H never = refl
-kept_by Ends H never = refl
+first_least : (a c f : Option ScanFault) (g : ScanFault) (y : Lexeme) (p : ℕ)
+    → ((h : ScanFault) → a ≡ Some h → p ≤ h.problem_mark.index)
+    → ((h : ScanFault) → c ≡ Some h → p ≤ h.problem_mark.index)
+    → ((h : ScanFault) → f ≡ Some h → p ≤ h.problem_mark.index)
+    → first_fault_or (a ∷ None ∷ c ∷ None ∷ f ∷ []) (Read y) ≡ Fails g → p ≤ g.problem_mark.index
+first_least (Some h) c f g y p i j k e = let same = ap (λ (z : ScanFault). z.problem_mark.index) (fails_same e) in let low = i h refl in omega (arith, same, low)
+first_least None (Some h) f g y p i j k e = let same = ap (λ (z : ScanFault). z.problem_mark.index) (fails_same e) in let low = j h refl in omega (arith, same, low)
+first_least None None (Some h) g y p i j k e = let same = ap (λ (z : ScanFault). z.problem_mark.index) (fails_same e) in let low = k h refl in omega (arith, same, low)
+first_least None None None g y p i j k e = absurd (fails_not (sym e))
 
-ends_not : {f : ScanFault} → Ends ≡ Fails f → ⊥
-ends_not e = cc
+-- a fault of a mark stands there or behind it
+mark_late : (K : Kind) (body : _) → IsMark K body → (t : List ℕ) (H : List Lexeme) (p : ℕ)
+    → (gap_behind t H).place ≡ p → (g : ScanFault) → coming (Some K) t H ≡ Fails g
+    → p ≤ g.problem_mark.index
+mark_late K body m t H p at g e =
+    let M = lexeme_behind K t H in
+    let misplaced : indicator_misplaced K t H ≡ None = rw (m.start, and_false (not (in_flow H) && not (allowed_behind H (gap_behind t H)))) refl in
+    let wrong : text_wrong K t H ≡ None = rw (mark_word K body m t H p at) refl in
+    let begins : (begun_behind K t H).start.index ≡ p = placed_index K (place_behind t H) ∙ at in
+    let far : M.reached ≡ mark_at t (p + 3) = mark_reached K body m t H p at in
+    let known : first_fault_or (stale_before t H ∷ None ∷ candidate_lost K t H ∷ None ∷ stale_after M H ∷ []) (Read M) ≡ Fails g =
+    ap (λ y. first_fault_or (stale_before t H ∷ None ∷ candidate_lost K t H ∷ y ∷ stale_after M H ∷ []) (Read M)) (sym wrong)
+    ∙ ap (λ y. first_fault_or (stale_before t H ∷ y ∷ candidate_lost K t H ∷ text_wrong K t H ∷ stale_after M H ∷ []) (Read M)) (sym misplaced)
+    ∙ e in
+    first_least (stale_before t H) (candidate_lost K t H) (stale_after M H) g M p
+    (λ h is. let same = ap (λ (k : yaml_mark_t). k.index) (colon_index (missed _ (place_behind t H)) (place_behind t H) h is) in omega (arith, same, at))
+    (λ h is. let same = ap (λ (k : yaml_mark_t). k.index) (colon_index (lost_by (begun_behind K t H) _) (begun_behind K t H).start h is) in omega (arith, same, begins))
+    (λ h is. let same = ap (λ (k : yaml_mark_t). k.index) (colon_index (missed (candidate 0 (M ∷ H)) M.reached) M.reached h is ∙ far) in omega (arith, same))
+    known
 
-ends_reads : {l : Lexeme} → Ends ≡ Read l → ⊥
-ends_reads e = cc
-
--- no step ends
-end_never : (a : List ℕ) (f : ScanFault) → next a (all a) ≡ Fails f → (j : ℕ)
-    → next a (history a j) ≡ Ends → ⊥
-end_never a f fails j e =
-    let same = last_is_all a j (λ l r. ends_reads (sym e ∙ r)) in
-    ends_not (sym e ∙ ap (next a) (sym same) ∙ fails)
-
-step_open : (a : List ℕ) (f : ScanFault) → next a (all a) ≡ Fails f → (j : ℕ) (l : Lexeme)
-    → next a (history a j) ≡ Read l → is_end l.kind ≡ false
-step_open a f fails j l e =
-    elim (cases_Bool (is_end l.kind)) [
-      | inr more ↦ more
-      | inl end ↦
-          let grown : history a (suc j) ≡ l ∷ history a j = history_more a j ∙ ap (λ x. extended x (history a j)) e in
-          absurd (end_never a f fails (suc j) (ap (next a) grown ∙ next_over a l (history a j) end))
+pub fails_back : (a b : List ℕ) → IsCut a b → (x : Lexeme) (h : List Lexeme) → Stands a (x ∷ h)
+    → (f : ScanFault) → next a (x ∷ h) ≡ Fails f → is_end x.kind ≡ false
+    → (g : ScanFault) → next (a ++ b) (x ∷ h) ≡ Fails g → g.problem_mark.index < length a → g ≡ f
+fails_back a b cut x h stands f e more g r low =
+    let H = x ∷ h in
+    let W = a ++ b in
+    let pair = front_pair a b cut H stands.inside in
+    let here = sym (next_open a x h more) ∙ e in
+    let there = sym (next_open W x h more) ∙ r in
+    elim (cases_lt (gap_behind a H).place (length a)) [
+      | inl on ↦ inner pair on here there (kind_behind a H) refl
+      | inr past ↦
+          let inside = pair.inside in
+          let gap = pair.place in
+          let at : (gap_behind W H).place ≡ length a = omega (arith, past, inside, gap) in
+          let m = mark_stands (in_flow H) b 0 cut.mark in
+          let first : length a + 0 ≡ length a = omega arith in
+          let mark : kind_behind W H ≡ Some m.kind =
+          ap (kind_at (in_flow H) W) (at ∙ sym first) ∙ kind_alike b W (length a) (suc (length b)) 0 (in_flow H) (rest_alike a b cut) (omega arith) ∙ m.stands in
+          let late = mark_late m.kind m.body m.is W H (length a) at g (ap (λ o. coming o W H) (sym mark) ∙ there) in
+          absurd (omega (arith, late, low))
     ]
-
-fails_open : (a b : List ℕ) → IsCut a b → (H : List Lexeme) → Stands a H → (f : ScanFault)
-    → next a H ≡ Fails f → (l : Lexeme) → next (a ++ b) H ≢ Read l
-unfolding next
-fails_open a b cut [] stands f e l r = fails_not (sym e ∙ r)
-fails_open a b cut (x ∷ h) stands f e l r =
-    elim (cases_Bool (is_end x.kind)) [
-      | inl end ↦ ends_not (sym (next_over a x h end) ∙ e)
-      | inr more ↦ reads_not a b cut x h stands f e more l r
-    ]
-
-record SameSteps (x : yaml_encoding_t) (a b : List ℕ) (j : ℕ) : Type 0 where
-  pub same : history (a ++ b) j ≡ history a j
-  pub carry : AllCarry x a (a ++ b) 0 0 (history a j)
-
-same_steps : (x : yaml_encoding_t) (a b : List ℕ) → IsCut a b → (f : ScanFault)
-    → next a (all a) ≡ Fails f → (j : ℕ) → SameSteps x a b j
-unfolding history
-same_steps x a b cut f fails zero = record { same = refl; carry = tt }
-same_steps x a b cut f fails (suc j) = by (same_steps x a b cut f fails j) (next a (history a j)) refl
   where
-    by : SameSteps x a b j → (y : Next) → next a (history a j) ≡ y → SameSteps x a b (suc j)
-    by before (Read l) e =
-        let more = step_open a f fails j l e in
-        let there = front_next a b cut (history a j) (history_stands a j) l e more in
-        record {
-          same = ap (λ h. step (a ++ b) h) before.same ∙ ap (λ y. extended y (history a j)) (there ∙ sym e);
-          carry = subst (λ y. AllCarry x a (a ++ b) 0 0 (extended y (history a j))) (sym e) (front_carried x a b cut (history a j) (history_stands a j) l e more, before.carry);
-        }
-    by before (Fails g) e =
-        record {
-          same = ap (λ h. step (a ++ b) h) before.same
-              ∙ kept_by (next (a ++ b) (history a j)) (history a j) (fails_open a b cut (history a j) (history_stands a j) g e)
-              ∙ ap (λ y. extended y (history a j)) (sym e);
-          carry = subst (λ y. AllCarry x a (a ++ b) 0 0 (extended y (history a j))) (sym e) before.carry;
-        }
-    by before Ends e = absurd (end_never a f fails j e)
+    inner : Pair a (a ++ b) 0 (length a) 0 0 (x ∷ h) (x ∷ h) → (gap_behind a (x ∷ h)).place < length a
+        → coming (kind_behind a (x ∷ h)) a (x ∷ h) ≡ Fails f
+        → coming (kind_behind (a ++ b) (x ∷ h)) (a ++ b) (x ∷ h) ≡ Fails g
+        → (o : Option Kind) → kind_behind a (x ∷ h) ≡ o → g ≡ f
+    inner pair on here there None k =
+        fails_same (sym there ∙ coming_there a (a ++ b) 0 (length a) 0 0 (x ∷ h) (x ∷ h) pair on None k (λ z s. absurd (none_kind s)) ∙ ap (moved_next 0 0) here) ∙ fault_zero f
+    inner pair on here there (Some y) k = by (word_behind y a (x ∷ h)) refl
+      where
+        by_said : Said a (a ++ b) 0 (length a) 0 y (word_behind y a (x ∷ h)) (word_behind y (a ++ b) (x ∷ h)) → g ≡ f
+        by_said said =
+            fails_same (sym there ∙ coming_there a (a ++ b) 0 (length a) 0 0 (x ∷ h) (x ∷ h) pair on (Some y) k
+            (λ z s. subst (λ v. Said a (a ++ b) 0 (length a) 0 v (word_behind v a (x ∷ h)) (word_behind v (a ++ b) (x ∷ h))) (same_kind s) said)
+            ∙ ap (moved_next 0 0) here) ∙ fault_zero f
 
--- what comes behind them in the whole is a fault
-pub failing : (t : List ℕ) (x : Lexeme) (h : List Lexeme) → is_end x.kind ≡ false
-    → ((l : Lexeme) → next t (x ∷ h) ≢ Read l) → (g : ScanFault) × (next t (x ∷ h) ≡ Fails g)
-failing t x h more never = by (next t (x ∷ h)) refl
-  where
-    by : (y : Next) → next t (x ∷ h) ≡ y → (g : ScanFault) × (next t (x ∷ h) ≡ Fails g)
-    by (Read l) e = absurd (never l e)
-    by (Fails g) e = (g, e)
-    by Ends e = absurd (coming_goes (kind_behind t (x ∷ h)) t (x ∷ h) (sym (next_open t x h more) ∙ e))
+        late : (w : Wrong) → word_behind y (a ++ b) (x ∷ h) ≡ Err w → length a ≤ w.place → g ≡ f
+        late w is far =
+            let H = x ∷ h in
+            let W = a ++ b in
+            let text : text_wrong y W H ≡ Some _ = ap (λ o. wrong_in W (begun_behind y W H).start o) is in
+            let reads = ap (λ z. first_fault_or (moved_fault 0 0 (stale_before a H) ∷ moved_fault 0 0 (indicator_misplaced y a H) ∷ moved_fault 0 0 (candidate_lost y a H) ∷ z ∷ stale_after (lexeme_behind y W H) H ∷ []) (Read (lexeme_behind y W H))) (sym text)
+            ∙ ap (λ z. first_fault_or (moved_fault 0 0 (stale_before a H) ∷ moved_fault 0 0 (indicator_misplaced y a H) ∷ z ∷ text_wrong y W H ∷ stale_after (lexeme_behind y W H) H ∷ []) (Read (lexeme_behind y W H))) (sym (lost_there a W 0 (length a) 0 0 H H pair y))
+            ∙ ap (λ z. first_fault_or (moved_fault 0 0 (stale_before a H) ∷ z ∷ candidate_lost y W H ∷ text_wrong y W H ∷ stale_after (lexeme_behind y W H) H ∷ []) (Read (lexeme_behind y W H))) (sym (misplaced_there a W 0 (length a) 0 0 H H pair y))
+            ∙ ap (λ z. first_fault_or (z ∷ indicator_misplaced y W H ∷ candidate_lost y W H ∷ text_wrong y W H ∷ stale_after (lexeme_behind y W H) H ∷ []) (Read (lexeme_behind y W H))) (sym (stale_there a W 0 (length a) 0 0 H H pair))
+            ∙ ap (λ o. coming o W H) (sym (kind_there a W 0 (length a) 0 0 H H pair on ∙ k)) ∙ there in
+            first_back (stale_before a H) (indicator_misplaced y a H) (candidate_lost y a H) (text_wrong y a H) (stale_after (lexeme_behind y a H) H) _ f g (Read (lexeme_behind y a H)) (Read (lexeme_behind y W H)) (stale_after (lexeme_behind y W H) H)
+            reads (omega (arith, far, low)) (ap (λ o. coming o a H) (sym k) ∙ here)
 
-first_fails : (t : List ℕ) (f : ScanFault) → next t [] ≢ Fails f
-unfolding next
-first_fails t f e = fails_not (sym e)
-
--- a front with a fault, and the whole's
-pub record Failing (x : yaml_encoding_t) (a b : List ℕ) (f : ScanFault) : Type 0 where
-  pub all_same : all (a ++ b) ≡ all a
-  pub carry : AllCarry x a (a ++ b) 0 0 (all a)
-  pub fault : ScanFault
-  pub fails : next (a ++ b) (all a) ≡ Fails fault
-  pub same : f.problem_mark.index < length a → fault ≡ f
-
-pub front_fails : (x : yaml_encoding_t) (a b : List ℕ) → IsCut a b → (f : ScanFault)
-    → next a (all a) ≡ Fails f → Failing x a b f
-front_fails x a b cut f fails =
-    let n = suc (suc (length a)) in
-    let steps = same_steps x a b cut f fails n in
-    let is = all_is a in
-    let stands : Stands a (all a) = subst (Stands a) (sym is) (history_stands a n) in
-    let never = fails_open a b cut (all a) stands f fails in
-    let same : all (a ++ b) ≡ all a = last_is_all (a ++ b) n (λ l e. never l (ap (next (a ++ b)) (is ∙ sym steps.same) ∙ e)) ∙ steps.same ∙ sym is in
-    by (all a) refl stands same (subst (AllCarry x a (a ++ b) 0 0) (sym is) steps.carry)
-  where
-    by : (H : List Lexeme) → all a ≡ H → Stands a H → all (a ++ b) ≡ all a
-        → AllCarry x a (a ++ b) 0 0 (all a) → Failing x a b f
-    by [] e stands same carry = absurd (first_fails a f (ap (next a) (sym e) ∙ fails))
-    by (y ∷ h) e stands same carry =
-        let here : next a (y ∷ h) ≡ Fails f = ap (next a) (sym e) ∙ fails in
-        elim (cases_Bool (is_end y.kind)) [
-          | inl end ↦ absurd (ends_not (sym (next_over a y h end) ∙ here))
-          | inr more ↦
-              let (g, is) = failing (a ++ b) y h more (reads_not a b cut y h stands f here more) in
-              record {
-                all_same = same;
-                carry = carry;
-                fault = g;
-                fails = ap (next (a ++ b)) e ∙ is;
-                same = λ low. fails_same (sym is ∙ fails_there a b cut y h stands f here more low);
-              }
-        ]
-
--- ---- the law
-
-fault_some : (y : Next) (f : Fault) → fault_in y ≡ Some f
-    → (g : ScanFault) × (y ≡ Fails g) × (scanner_fault g ≡ f)
-fault_some (Read l) f e = absurd (some_none (sym e))
-fault_some (Fails g) f e = (g, refl, inner e)
-  where
-    inner : {x y : Fault} → Some x ≡ Some y → x ≡ y
-    inner e = cc
-fault_some Ends f e = absurd (some_none (sym e))
-
-pub refused_fronts_are_scanned : RefusedFrontsAreScanned
-refused_fronts_are_scanned x a b cut f none =
-    let s : SpelledText = record { encoding = x; text = a } in
-    let v : SpelledText = record { encoding = x; text = a ++ b } in
-    let (p, fails, is) = fault_some (next a (all a)) f (sym (offline_fault s) ∙ none) in
-    let r = front_fails x a b cut p fails in
-    let parts = parted x a (a ++ b) 0 0 0 (all a) [] [] no_bases r.carry (Fails p) (λ l e. fails_not e) in
-    let h = all a in
-    let mine : (scan_of x a).tokens ≡ parts.behind =
-    offline_told s ∙ ap (λ y. told s y h) fails ∙ ap (told s (Fails p)) (sym (append-nil h)) ∙ parts.mine ∙ ap (λ es. flat_map (spell s) es ++ parts.behind) no_entries in
-    let others : (scan_of x (a ++ b)).tokens ≡ parts.behind =
-    offline_told v ∙ ap (λ z. told v (next (a ++ b) z) z) r.all_same ∙ ap (λ y. told v y h) r.fails
-    ∙ ap (told v (Fails p)) (sym (append-nil h) ∙ ap (λ z. z ++ []) (sym (lexemes_zero h))) ∙ parts.others
-    ∙ ap (λ es. flat_map (spell v) es ++ map (moved_token 0 0) parts.behind) no_entries ∙ tokens_zero parts.behind in
-    let fault : (scan_of x (a ++ b)).fault ≡ Some (scanner_fault r.fault) =
-    offline_fault v ∙ ap (λ z. fault_in (next (a ++ b) z)) r.all_same ∙ ap fault_in r.fails in (
-      scanner_fault r.fault,
-      made (scan_of x (a ++ b)) (scan_of x a).tokens (Some (scanner_fault r.fault)) (others ∙ sym mine) fault,
-      λ low. ap scanner_fault (r.same (subst (λ (z : Fault). z.problem_mark.index < length a) (sym is) low)) ∙ is,
-    )
+        by : (r : Result WordText Wrong) → word_behind y a (x ∷ h) ≡ r → g ≡ f
+        by (Ok w) is = by_said (said_read a b (x ∷ h) cut stands.inside on y k w is)
+        by (Err w) is =
+            elim (word_there a (a ++ b) 0 (length a) 0 0 (x ∷ h) (x ∷ h) pair on y k) [
+              | inr torn ↦ let at = torn.there in late torn.other torn.others (omega (arith, at))
+              | inl same ↦ elim (cases_lt w.place (length a)) [
+                | inr far ↦
+                    let bad = same ∙ ap (moved_by (moved_word 0) 0) is in
+                    late (moved_wrong 0 w) bad (omega (arith, far))
+                | inl near ↦ by_said record {
+                  same = same;
+                  wrong = λ v bad.
+                      let one : v ≡ w = err_same bad is in
+                      let place = ap (λ (z : Wrong). z.place) one in
+                      mark_alike a (a ++ b) 0 (length a) 0 v.place pair.alike pair.line (omega (arith, near, place));
+                  ends = λ v ok go. absurd (ok_not (sym ok ∙ is));
+                }
+              ]
+            ]

@@ -142,6 +142,7 @@ front_column a b feed zero l = refl
 front_column a b feed (suc p) l =
     rw (front_ends a b feed p (omega (arith, l)), front_column a b feed p (omega (arith, l)), byte_left a b p (omega (arith, l))) refl
 
+-- so do marks
 pub front_mark : (a b : List ℕ) → EndsIn a 10 → (p : ℕ) → p ≤ length a
     → mark_at (a ++ b) p ≡ mark_at a p
 front_mark a b feed p l = rw (front_line a b feed p l, front_column a b feed p l) refl

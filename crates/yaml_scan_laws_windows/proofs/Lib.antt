@@ -12,7 +12,7 @@ mod Cutting
 mod Histories
 mod Coming
 mod Stepping
-mod Feeding
+pub mod Feeding
 mod Fronts
 mod Marking
 mod Turning
@@ -21,7 +21,8 @@ pub mod Depths
 mod Entering
 mod Joining
 pub mod Windows
-pub mod Failing
+mod Failing
+pub mod Refused
 pub mod Ending
 pub mod Behind
 pub mod Leading

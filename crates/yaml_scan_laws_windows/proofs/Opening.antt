@@ -1,44 +1,48 @@
 -- A front without fault, whatever brackets it leaves open: the whole begins with its tokens, and a mark in its end's place.
-use Rattle.std.proofs.Common.{◌≡◌, ◌≢◌, ℕ, zero, suc, ◌+◌, ◌-◌, ◌<◌, ◌≤◌, ◌==◌, ◌&&◌, nat_lt, nat_le, if◌then◌else◌, not, Bool, true, false, List, [], ◌∷◌, ◌++◌, map, take, drop, filter, replicate, length, Option, Some, None, Result, Ok, Err, refl, sym, ap, subst, ◌∙◌, inl, inr, ◌⊎◌, arith}
+use Rattle.std.proofs.Common.{◌≡◌, ℕ, zero, suc, ◌+◌, ◌-◌, ◌<◌, ◌≤◌, ◌==◌, ◌&&◌, nat_lt, nat_le, if◌then◌else◌, not, Bool, true, false, List, [], ◌∷◌, ◌++◌, take, drop, filter, replicate, length, Option, Some, None, Result, Ok, Err, refl, sym, ap, subst, ◌∙◌, inl, inr, ◌⊎◌, arith}
 use Rattle.std.proofs.lemmas.Bool.{cases_Bool, cases_lt, true≢false}
 use Rattle.std.proofs.lemmas.Bool.Decides.{nat_tests}
 use Rattle.std.proofs.lemmas.Grind.{flat_map-append}
-use Rattle.std.proofs.lemmas.List.{append-nil, append_assoc, same_from_push}
+use Rattle.std.proofs.lemmas.List.{append-nil, append_assoc, same_from_push, length-append}
 use Rattle.std.specs.List.{flat_map}
 use Rattle.yaml_scan_history.specs.scan_model.declared.name.yaml_encoding_t.{yaml_encoding_t}
 use Rattle.yaml_scan_history.specs.scan_model.declared.record.yaml_mark_t.{yaml_mark_t}
 use Rattle.yaml_scan_history.specs.scan_model.declared.problem.ScanFault.{ScanFault}
 use Rattle.yaml_scan_history.specs.scan_model.Marks.{byte, ends_break, line_at, mark_at}
+use Rattle.yaml_scan_history.specs.scan_model.Faults.{Fault}
+use Rattle.yaml_scan_history.specs.scan_model.Problems.{scanner_fault}
 use Rattle.yaml_scan_history.specs.scan_model.Tokens as tokens
 use Rattle.yaml_scan_history.specs.scan_model.Tokens.{Token, TokenBody, block_end}
 use Rattle.yaml_scan_history.specs.scan_model.Wrong.{Wrong}
-use Rattle.yaml_scan_history.specs.scan_words.Indicators.{is_document_start}
+use Rattle.yaml_scan_history.specs.scan_words.Indicators.{is_document_start, is_document_end}
 use Rattle.yaml_scan_history.specs.declared.kind.Kind.{Kind}
 use Rattle.yaml_scan_history.specs.declared.kind.Kind.TheVariants as kinds
 use Rattle.yaml_scan_history.specs.declared.lexeme.Lexeme.{Lexeme}
-use Rattle.yaml_scan_history.specs.declared.lexeme.Entry.{Entry}
-use Rattle.yaml_scan_history.specs.Kinds.{is_outside, is_start, is_value, is_end, cancels}
-use Rattle.yaml_scan_history.specs.History.{reached, depth, in_flow, ended, Candidate, candidate, is_fresh, fresh, open_at, has_number, first_open, levels, left_by, entry_of, entries, placed}
+use Rattle.yaml_scan_history.specs.Kinds.{is_outside, is_start, is_value, is_end, cancels, depth_after}
+use Rattle.yaml_scan_history.specs.History.{reached, depth, in_flow, ended, Candidate, candidate, is_fresh, fresh, open_at, first_open, levels, entry_of, entries, placed, key_allowed}
 use Rattle.yaml_scan_history.specs.Words.{WordText, kind_at, word_at}
-use Rattle.yaml_scan_history.specs.Next.{Next, Read, Fails, Ends, first_lexeme, gap_behind, place_behind, allowed_behind, kind_behind, begun_behind, word_behind, with_end, lexeme_behind, missed, lost_by, colon_missing_of, stale_before, indicator_misplaced, candidate_lost, text_wrong, stale_after, coming, next, extended, history}
-use Rattle.yaml_scan_history.specs.Remaining.{SpelledText, body_by, token_in, start_tokens, end_tokens, spell, all, handed, kept_of, remaining, offline}
+use Rattle.yaml_scan_history.specs.Next.{Next, Read, Fails, Ends, gap_behind, place_behind, allowed_behind, kind_behind, begun_behind, word_behind, with_end, lexeme_behind, missed, lost_by, colon_missing_of, stale_before, indicator_misplaced, candidate_lost, text_wrong, stale_after, coming, next, extended, history, first_fault_or, no_start}
+use Rattle.yaml_scan_history.specs.Remaining.{SpelledText, body_by, token_in, start_tokens, end_tokens, spell, all, handed, kept_of, remaining, offline, front_ends, fault_in}
 use Rattle.yaml_scan_history.proofs.HistoryLemmas.{length-entries}
-use Rattle.yaml_scan_laws_order.proofs.HistoryForward.{Stands, history_stands, first_is, not_ended, all_ends, settled_stays}
+use Rattle.yaml_scan_history.proofs.PlacesLemmas.{gap_place}
+use Rattle.yaml_scan_laws_order.proofs.HistoryForward.{Stands, history_stands, first_is, not_ended, all_ends, settled_stays, last_is_all}
 use Rattle.yaml_scan_laws_order.proofs.MarksForward.{line_at-grows}
-use Rattle.yaml_scan_laws_windows.specs.Cuts.{IsCut}
+use Rattle.yaml_scan_laws_windows.specs.Cuts.{IsCut, is_white, IsEndLine}
 use Rattle.yaml_scan_laws_windows.specs.Laws.{scan_of}
 use Rattle.yaml_scan_laws_windows.proofs.Words.{end_kind, kind_alike}
-use Rattle.yaml_scan_laws_windows.proofs.Cutting.{byte_past, last_byte, line_ended, rest_alike}
+use Rattle.yaml_scan_laws_windows.proofs.Cutting.{byte_past, last_byte, line_ended, rest_alike, byte_right}
 use Rattle.yaml_scan_laws_windows.proofs.Coming.{moved_fault, place_there, stale_there}
 use Rattle.yaml_scan_laws_windows.proofs.Stepping.{has_read, read_kind, read_within}
-use Rattle.yaml_scan_laws_windows.proofs.Fronts.{mark_zero, front_pair, next_open, history_more, EndsAt, reads_before, front_history, end_step}
-use Rattle.yaml_scan_laws_windows.proofs.Marking.{start_mark, IsMark, IsFree, and_false, lost_none, mark_word}
-use Rattle.yaml_scan_laws_windows.proofs.Turning.{starts, MarkStands, free_of, colon_none, end_begun, end_mark_placed, end_byte, end_is, end_place, mark_there}
+use Rattle.yaml_scan_laws_windows.proofs.Fronts.{mark_zero, front_pair, next_open, history_more, EndsAt, reads_before, front_history, end_step, next_over}
+use Rattle.yaml_scan_laws_windows.proofs.Marking.{start_mark, IsMark, IsFree, and_false, lost_none, mark_word, end_mark, none_left}
+use Rattle.yaml_scan_laws_windows.proofs.Turning.{starts, MarkStands, free_of, colon_none, end_begun, end_mark_placed, end_byte, end_is, end_place, mark_there, finishes}
 use Rattle.yaml_scan_laws_windows.proofs.Depths.{read_deep}
 use Rattle.yaml_scan_laws_windows.proofs.Rests.{AllCarry}
 use Rattle.yaml_scan_laws_windows.proofs.Joining.{offline_told, offline_fault, told}
-use Rattle.yaml_scan_laws_windows.proofs.Windows.{ends_ended, fault_none, all_is, front_carry, front_told}
-use Rattle.yaml_scan_laws_windows.proofs.Failing.{after_none, some_none, mark_reached, mark_depth, mark_saved}
+use Rattle.yaml_scan_laws_windows.proofs.Windows.{ends_ended, fault_none, all_is, front_carry, front_told, coming_goes}
+use Rattle.yaml_scan_laws_windows.proofs.Ending.{white_kind, line_long}
+use Rattle.yaml_scan_laws_windows.proofs.Behind.{line_over, last_two, one_more}
+use Rattle.yaml_scan_laws_windows.proofs.Failing.{after_none, some_none, mark_reached, mark_depth, mark_saved, end_late, colon_index, fails_same, fails_not}
 
 -- ---- what may be a key stands in front of the front's last line
 
@@ -172,6 +176,12 @@ record MarkReads (a b : List ℕ) (K : Kind) (H : List Lexeme) (E M : Lexeme) : 
   pub below : line_at (a ++ b) (length a) ≤ M.reached.line
   pub end : E.kind ≡ kinds.StreamEnd
   pub place : E.start ≡ mark_at (a ++ b) (length a)
+  pub finish : M.end ≡ mark_at (a ++ b) (length a + 3)
+  pub far : M.reached ≡ mark_at (a ++ b) (length a + 3)
+
+mark_ends : (K : Kind) (body : TokenBody) → IsMark K body → (t : List ℕ) (H : List Lexeme) (p : ℕ)
+    → (gap_behind t H).place ≡ p → (lexeme_behind K t H).end ≡ mark_at t (p + 3)
+mark_ends K body m t H p e = rw (mark_word K body m t H p e, m.end) refl
 
 mark_start : (K : Kind) (body : TokenBody) → IsMark K body → (t : List ℕ) (H : List Lexeme) (p : ℕ)
     → (gap_behind t H).place ≡ p → (lexeme_behind K t H).start ≡ mark_at t p
@@ -269,6 +279,8 @@ mark_reads_there a b cut x h stands early E e end m =
       below = omega (arith, lines, far_line);
       end = ap (λ (l : Lexeme). l.kind) (sym same);
       place = ap (λ (l : Lexeme). l.start) (sym same) ∙ begins;
+      finish = mark_ends m.kind m.body m.is W H (length a) there;
+      far = far;
     }
 
 -- ---- the tokens up to there
@@ -300,6 +312,10 @@ module _ {A : Type 0} where
   take_all [] = refl
   take_all (x ∷ xs) = ap (λ z. x ∷ z) (take_all xs)
 
+  none_left_of : (xs : List A) → drop (length xs) xs ≡ []
+  none_left_of [] = refl
+  none_left_of (x ∷ xs) = none_left_of xs
+
   both_parts : (n : ℕ) (xs : List A) → take n xs ++ drop n xs ≡ xs
   both_parts zero xs = refl
   both_parts (suc n) [] = refl
@@ -322,22 +338,33 @@ all_tokens s = refl
 
 -- ---- the law
 
--- what the whole has in front of a mark
-pub record Begun (x : yaml_encoding_t) (a b : List ℕ) (front : List Token) (last : Token) : Type 0 where
+-- what the whole has up to a mark: its tokens, and its lexemes
+pub record Begun (x : yaml_encoding_t) (a b : List ℕ) (K : Kind) (body : TokenBody) (front : List Token)
+    (last : Token) : Type 0 where
   pub mark : Token
   pub behind : List Token
   pub are : (scan_of x (a ++ b)).tokens ≡ front ++ mark ∷ behind
-  pub begins : mark.body ≡ tokens.document_start
+  pub begins : mark.body ≡ body
   pub there : mark.start_mark ≡ last.start_mark
   pub place : last.start_mark.index ≡ length a
+  pub end : mark.end_mark ≡ mark_at (a ++ b) (length a + 3)
+  pub newest : Lexeme
+  pub older : List Lexeme
+  pub steps : ℕ
+  pub history_is : history (a ++ b) steps ≡ newest ∷ older
+  pub kind : newest.kind ≡ K
+  pub reached : newest.reached ≡ mark_at (a ++ b) (length a + 3)
+  pub shut : (e : ℕ) → open_at e (newest ∷ older) ≡ None
+  pub base : flat_map (spell (record { encoding = x; text = a ++ b })) (entries (newest ∷ older)) ≡ front ++ mark ∷ []
 
-begun_at : (x : yaml_encoding_t) (a b : List ℕ) → IsCut a b → is_document_start b 0 ≡ true
+begun_at : (x : yaml_encoding_t) (a b : List ℕ) → IsCut a b → (K : Kind) (body : TokenBody)
+    → IsMark K body → ((flow : Bool) → kind_at flow b 0 ≡ Some K)
+    → ((v : SpelledText) (l : Lexeme) → body_by K v l ≡ body)
     → (j : ℕ) (E : Lexeme) → EndsAt a j E → all a ≡ E ∷ history a j → next a (all a) ≡ Ends
     → (y : Lexeme) (h : List Lexeme) → history a j ≡ y ∷ h
     → (front : List Token) (last : Token) → (scan_of x a).tokens ≡ front ++ last ∷ []
-    → Begun x a b front last
-unfolding word_at
-begun_at x a b cut begins j E at is over y h same front last are =
+    → Begun x a b K body front last
+begun_at x a b cut K body isk stands_k told_k j E at is over y h same front last are =
     let s : SpelledText = record { encoding = x; text = a } in
     let W = a ++ b in
     let v : SpelledText = record { encoding = x; text = W } in
@@ -345,8 +372,8 @@ begun_at x a b cut begins j E at is over y h same front last are =
     let stands : Stands a H = subst (Stands a) same (history_stands a j) in
     let early : AllEarly (line_at a (length a)) H = subst (AllEarly (line_at a (length a))) same (all_early a b cut j E at j (omega arith)) in
     let reads : next a H ≡ Read E = ap (next a) (sym same) ∙ at.reads in
-    let m : MarkStands (in_flow H) b 0 = record { kind = kinds.DocumentStart; body = tokens.document_start; is = start_mark; stands = starts (in_flow H) b 0 begins } in
-    let M = lexeme_behind kinds.DocumentStart W H in
+    let m : MarkStands (in_flow H) b 0 = record { kind = K; body = body; is = isk; stands = stands_k (in_flow H) } in
+    let M = lexeme_behind K W H in
     let r = mark_reads_there a b cut y h stands early E reads at.ends m in
     let steps : history W (suc j) ≡ M ∷ H =
     history_more W j ∙ ap (λ z. extended (next W z) z) (front_history a b cut j E at j (omega arith) ∙ same) ∙ ap (λ z. extended z H) r.reads in
@@ -361,10 +388,10 @@ begun_at x a b cut begins j E at is over y h same front last are =
     let carry : AllCarry x a W 0 0 H = subst (AllCarry x a W 0 0) same (front_carry x a b cut j E at j (omega arith)) in
     let closed = closings E.depth H E.start in
     let mark_told : spell v (entry_of M H) ≡ closed ++ token_in v M ∷ [] =
-    outer_spelled v M H kinds.DocumentStart r.kind refl refl
+    outer_spelled v M H K r.kind isk.outside isk.start
     ∙ ap (λ d. closings d H M.start ++ token_in v M ∷ []) r.same_depth ∙ ap (λ k. closings E.depth H k ++ token_in v M ∷ []) r.start in
     let base : flat_map (spell v) (entries (M ∷ H)) ≡ (old ++ closed) ++ token_in v M ∷ [] =
-    ap (flat_map (spell v)) (outer_entries M H kinds.DocumentStart r.kind refl)
+    ap (flat_map (spell v)) (outer_entries M H K r.kind isk.value)
     ∙ flat_map-append (spell v) (entries H) (entry_of M H ∷ [])
     ∙ ap (λ z. z ++ (spell v (entry_of M H) ++ [])) (front_told x a b H carry)
     ∙ ap (λ z. old ++ z) (append-nil (spell v (entry_of M H)) ∙ mark_told)
@@ -386,17 +413,28 @@ begun_at x a b cut begins j E at is over y h same front last are =
           ∙ append_assoc (flat_map (spell v) (entries (M ∷ H))) (flat_map (spell v) rest) kept
           ∙ ap (λ z. z ++ more) base ∙ append_assoc (old ++ closed) (token_in v M ∷ []) more
           ∙ ap (λ z. z ++ token_in v M ∷ more) (sym fronts);
-      begins = ap (λ k. body_by k v M) r.kind;
+      begins = ap (λ k. body_by k v M) r.kind ∙ told_k v M;
       there = r.start ∙ ap (λ (t : Token). t.start_mark) (sym lasts);
       place = ap (λ (t : Token). t.start_mark.index) lasts ∙ ap (λ (k : yaml_mark_t). k.index) r.place;
+      end = r.finish;
+      newest = M;
+      older = H;
+      steps = suc j;
+      history_is = steps;
+      kind = r.kind;
+      reached = r.far;
+      shut = shut;
+      base = base ∙ ap (λ z. z ++ token_in v M ∷ []) (sym fronts);
     }
 
--- A front without fault, whatever it leaves open.
-pub begun : (x : yaml_encoding_t) (a b : List ℕ) → IsCut a b → is_document_start b 0 ≡ true
+-- A front without fault, whatever it leaves open, in front of a mark.
+begun_by : (x : yaml_encoding_t) (a b : List ℕ) → IsCut a b → (K : Kind) (body : TokenBody)
+    → IsMark K body → ((flow : Bool) → kind_at flow b 0 ≡ Some K)
+    → ((v : SpelledText) (l : Lexeme) → body_by K v l ≡ body)
     → (scan_of x a).fault ≡ None
     → (front : List Token) (last : Token) → (scan_of x a).tokens ≡ front ++ last ∷ []
-    → Begun x a b front last
-begun x a b cut begins none front last are =
+    → Begun x a b K body front last
+begun_by x a b cut K body isk stands_k told_k none front last are =
     let s : SpelledText = record { encoding = x; text = a } in
     let over = fault_none (next a (all a)) (sym (offline_fault s) ∙ none) (all_ends a) in
     let n = suc (suc (length a)) in
@@ -405,7 +443,140 @@ begun x a b cut begins none front last are =
     by over j E at (all_is a ∙ is) (history a j) refl
   where
     by : next a (all a) ≡ Ends → (j : ℕ) (E : Lexeme) → EndsAt a j E → all a ≡ E ∷ history a j
-        → (H : List Lexeme) → history a j ≡ H → Begun x a b front last
+        → (H : List Lexeme) → history a j ≡ H → Begun x a b K body front last
     by over j E at is [] same =
         absurd (true≢false (sym at.ends ∙ ap (λ (l : Lexeme). is_end l.kind) (sym (first_is a E (ap (next a) (sym same) ∙ at.reads)))))
-    by over j E at is (y ∷ h) same = begun_at x a b cut begins j E at is over y h same front last are
+    by over j E at is (y ∷ h) same = begun_at x a b cut K body isk stands_k told_k j E at is over y h same front last are
+
+-- In front of `---` the whole has its tokens, and DOCUMENT-START where its end stood.
+pub begun : (x : yaml_encoding_t) (a b : List ℕ) → IsCut a b → is_document_start b 0 ≡ true
+    → (scan_of x a).fault ≡ None
+    → (front : List Token) (last : Token) → (scan_of x a).tokens ≡ front ++ last ∷ []
+    → Begun x a b kinds.DocumentStart tokens.document_start front last
+unfolding word_at
+begun x a b cut begins none front last are =
+    begun_by x a b cut kinds.DocumentStart tokens.document_start start_mark (λ flow. starts flow b 0 begins) (λ v l. refl) none front last are
+
+-- In front of `...` it has DOCUMENT-END there.
+pub begun_over : (x : yaml_encoding_t) (a b : List ℕ) → IsCut a b → is_document_end b 0 ≡ true
+    → (scan_of x a).fault ≡ None
+    → (front : List Token) (last : Token) → (scan_of x a).tokens ≡ front ++ last ∷ []
+    → Begun x a b kinds.DocumentEnd tokens.document_end front last
+unfolding word_at
+begun_over x a b cut begins none front last are =
+    begun_by x a b cut kinds.DocumentEnd tokens.document_end end_mark (λ flow. finishes flow b 0 begins) (λ v l. refl) none front last are
+
+-- ---- a line `...` with nothing behind it
+
+outer_levels : (l : Lexeme) (H : List Lexeme) (K : Kind) → l.kind ≡ K → is_outside K ≡ true
+    → is_start K ≡ false → nat_lt 0 l.depth ≡ false → levels (l ∷ H) ≡ []
+unfolding levels
+outer_levels l H K k out start deep = rw (k, start, deep, out) (none_left H)
+
+no_closings : (l : Lexeme) (H : List Lexeme) (K : Kind) → l.kind ≡ K → is_outside K ≡ true
+    → is_start K ≡ false → (m : yaml_mark_t) → closings l.depth (l ∷ H) m ≡ []
+no_closings l H K k out start m =
+    elim (cases_Bool (nat_lt 0 l.depth)) [
+      | inl deep ↦
+          let none : length (levels (l ∷ H)) - length (levels (l ∷ H)) ≡ 0 = omega arith in
+          rw (deep, none) refl
+      | inr flat ↦ rw (flat, outer_levels l H K k out start flat) refl
+    ]
+
+-- what stands behind the dots: the end, or a fault
+abbrev pub TailSo : List ℕ → List Token → Option Fault → Type 0
+TailSo a tail own =
+    ((last : Token) × (tail ≡ last ∷ []) × (last.body ≡ tokens.stream_end) × (own ≡ None))
+    ⊎ ((g : Fault) × (tail ≡ []) × (own ≡ Some g) × (length a ≤ g.problem_mark.index))
+
+line_fails : (a line : List ℕ) → IsEndLine line → (l : Lexeme) (h : List Lexeme)
+    → l.reached.index ≡ length a + 3 → is_end l.kind ≡ false → (g : ScanFault)
+    → next (a ++ line) (l ∷ h) ≡ Fails g → length a ≤ g.problem_mark.index
+line_fails a line e l h at more g fails =
+    let t = a ++ line in
+    let H = l ∷ h in
+    let size = length-append a line in
+    let long = line_long line e in
+    let here = sym (next_open t l h more) ∙ fails in
+    let place = gap_place (in_flow H) (key_allowed H) t (reached H).index (omega (arith, at, size, long)) in
+    let inside = place.inside in
+    let forward = place.forward in
+    let q = (gap_behind t H).place in
+    elim (cases_lt q (length t)) [
+      | inr past ↦
+          let there : q ≡ length t = omega (arith, past, inside) in
+          let none : byte t q ≡ 0 = ap (λ z. byte t z) there ∙ byte_past t (length t) (omega arith) in
+          let late = end_late t H g (ap (λ o. coming o t H) (sym (end_kind (in_flow H) t q none)) ∙ here) in
+          omega (arith, late, there, size)
+      | inl on ↦
+          let p = q - length a in
+          let back : q ≡ length a + p = omega (arith, forward, at) in
+          let same : byte t q ≡ byte line p = ap (λ z. byte t z) back ∙ byte_right a line p in
+          let white = e.white p (omega (arith, forward, at)) (omega (arith, on, size, forward, at)) in
+          let none = white_kind (in_flow H) t q (ap is_white same ∙ white) in
+          let late = none_late t H g (ap (λ o. coming o t H) (sym none) ∙ here) in
+          omega (arith, late, forward, at)
+    ]
+  where
+    none_late : (t : List ℕ) (H : List Lexeme) (g : ScanFault) → coming None t H ≡ Fails g
+        → g.problem_mark.index ≡ (gap_behind t H).place
+    none_late t H g r = go (stale_before t H) refl r
+      where
+        go : (o : Option ScanFault) → stale_before t H ≡ o → first_fault_or (o ∷ []) (Fails (no_start (place_behind t H))) ≡ Fails g
+            → g.problem_mark.index ≡ (gap_behind t H).place
+        go None k r = ap (λ (z : ScanFault). z.problem_mark.index) (fails_same (sym r))
+        go (Some f) k r = ap (λ (z : ScanFault). z.problem_mark.index) (fails_same (sym r)) ∙ ap (λ (z : yaml_mark_t). z.index) (colon_index (missed _ (place_behind t H)) (place_behind t H) f k)
+
+all_taken : (s : SpelledText) (g : ScanFault) (H : List Lexeme) → ((e : ℕ) → open_at e H ≡ None)
+    → told s (Fails g) H ≡ flat_map (spell s) (entries H)
+all_taken s g H shut =
+    let n : first_open H H ≡ length (entries H) = none_open H H shut ∙ sym (length-entries H) in
+    ap (λ k. flat_map (spell s) (take k (entries H)) ++ front_ends (drop k (entries H))) n
+    ∙ ap (λ z. flat_map (spell s) z ++ front_ends (drop (length (entries H)) (entries H))) (take_all (entries H))
+    ∙ ap (λ z. flat_map (spell s) (entries H) ++ front_ends z) (none_left_of (entries H))
+    ∙ append-nil (flat_map (spell s) (entries H))
+
+-- A front's tokens, where it ends in such a line.
+pub line_tail : (x : yaml_encoding_t) (a line : List ℕ) → IsEndLine line → (front : List Token)
+    (last : Token) → (r : Begun x a line kinds.DocumentEnd tokens.document_end front last)
+    → (tail : List Token) × ((scan_of x (a ++ line)).tokens ≡ front ++ r.mark ∷ tail)
+    × TailSo a tail (scan_of x (a ++ line)).fault
+unfolding word_at
+line_tail x a line e front last r = by (next (a ++ line) (r.newest ∷ r.older)) refl
+  where
+    by : (y : Next) → next (a ++ line) (r.newest ∷ r.older) ≡ y
+        → (tail : List Token) × ((scan_of x (a ++ line)).tokens ≡ front ++ r.mark ∷ tail) × TailSo a tail (scan_of x (a ++ line)).fault
+    by (Read y) k =
+        let t = a ++ line in
+        let s : SpelledText = record { encoding = x; text = t } in
+        let H = r.newest ∷ r.older in
+        let goes : is_end r.newest.kind ≡ false = ap is_end r.kind in
+        let far : r.newest.reached.index ≡ length a + 3 = ap (λ (m : yaml_mark_t). m.index) r.reached in
+        let (ended, _) = line_over a line e r.newest r.older far y goes k in
+        let end : is_end y.kind ≡ true = ap is_end ended in
+        let is_all = last_two t (suc r.steps) y H (one_more t r.steps H y r.history_is k) end in
+        let over : next t (all t) ≡ Ends = ap (next t) is_all ∙ next_over t y H end in
+        let deep : y.depth ≡ r.newest.depth = read_deep t H y k ∙ ap (λ z. depth_after z r.newest.depth) r.kind in
+        let closed : closings y.depth H y.start ≡ [] = ap (λ d. closings d H y.start) deep ∙ no_closings r.newest r.older kinds.DocumentEnd r.kind refl refl y.start in
+        let list : (scan_of x t).tokens ≡ front ++ r.mark ∷ token_in s y ∷ [] =
+        offline_told s ∙ ap (λ z. told s z (all t)) over ∙ append-nil (flat_map (spell s) (entries (all t)))
+        ∙ ap (λ z. flat_map (spell s) (entries z)) is_all
+        ∙ ap (flat_map (spell s)) (outer_entries y H kinds.StreamEnd ended refl)
+        ∙ flat_map-append (spell s) (entries H) (entry_of y H ∷ [])
+        ∙ ap (λ z. z ++ (spell s (entry_of y H) ++ [])) r.base
+        ∙ ap (λ z. (front ++ r.mark ∷ []) ++ z) (append-nil (spell s (entry_of y H)) ∙ outer_spelled s y H kinds.StreamEnd ended refl refl ∙ ap (λ z. z ++ token_in s y ∷ []) closed)
+        ∙ append_assoc front (r.mark ∷ []) (token_in s y ∷ []) in
+        (token_in s y ∷ [], list, inl (token_in s y, refl, ap (λ z. body_by z s y) ended, offline_fault s ∙ ap fault_in over))
+    by (Fails g) k =
+        let t = a ++ line in
+        let s : SpelledText = record { encoding = x; text = t } in
+        let H = r.newest ∷ r.older in
+        let goes : is_end r.newest.kind ≡ false = ap is_end r.kind in
+        let far : r.newest.reached.index ≡ length a + 3 = ap (λ (m : yaml_mark_t). m.index) r.reached in
+        let is_all : all t ≡ H = last_is_all t r.steps (λ l q. fails_not (sym (ap (next t) r.history_is ∙ k) ∙ q)) ∙ r.history_is in
+        let fails : next t (all t) ≡ Fails g = ap (next t) is_all ∙ k in
+        let list : (scan_of x t).tokens ≡ front ++ r.mark ∷ [] =
+        offline_told s ∙ ap (λ z. told s z (all t)) fails ∙ ap (told s (Fails g)) is_all ∙ all_taken s g H r.shut ∙ r.base in
+        ([], list, inr (scanner_fault g, refl, offline_fault s ∙ ap fault_in fails, line_fails a line e r.newest r.older far goes g k))
+    by Ends k =
+        absurd (coming_goes (kind_behind (a ++ line) (r.newest ∷ r.older)) (a ++ line) (r.newest ∷ r.older) (sym (next_open (a ++ line) r.newest r.older (ap is_end r.kind)) ∙ k))

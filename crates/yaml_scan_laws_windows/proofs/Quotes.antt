@@ -248,6 +248,7 @@ pub record IsTorn (u : List ℕ) (d m : ℕ) {A : Type 0} (r s : Result A Wrong)
   pub place : wrong.place ≡ m
   pub other : Wrong
   pub others : s ≡ Err other
+  pub there : other.place ≡ d + m
 
 -- it is the same, moved; or it is torn
 abbrev pub Carried : {A : Type 0} → List ℕ → ℕ → ℕ → (A → A) → Result A Wrong → Result A Wrong
@@ -265,6 +266,7 @@ torn_by f u d m r s errs t = record {
   place = t.place;
   other = t.other;
   others = ap f t.others ∙ errs t.other;
+  there = t.there;
 }
 
 abbrev pub PairIn : {A : Type 0} → ℕ → Result (A × ℕ) Wrong → Type 0
@@ -321,6 +323,7 @@ record Tears (u : List ℕ) (d m : ℕ) (s r : Standing) : Type 0 where
   pub place : wrong.place ≡ m
   pub other : Wrong
   pub others : r ≡ Bad other
+  pub there : other.place ≡ d + m
 
 abbrev Spotted : List ℕ → List ℕ → ℕ → ℕ → ℕ → Standing → Standing → Type 0
 Spotted t u d m p s r = StandsAlike t u d m p s r ⊎ Tears u d m s r
@@ -345,6 +348,7 @@ stands_there t u d m quote p a l q =
               place = e;
               other = record { problem = problems.DocumentIndicator; context = contexts.QuotedScalar; place = d + p };
               others = mark_standing quote u (d + p) (ap (λ q. is_document_indicator u (d + q)) e ∙ i);
+              there = ap (λ q. d + q) e;
             }
           ]
     ]
@@ -372,7 +376,7 @@ pieces_torn : (t u : List ℕ) (d m quote p n o : ℕ)
 unfolding pieces
 pieces_torn t u d m quote p n o x =
     rw (x.mine, x.others) record {
-      carried = inr record { mark = x.mark; wrong = x.wrong; mine = refl; place = x.place; other = x.other; others = refl };
+      carried = inr record { mark = x.mark; wrong = x.wrong; mine = refl; place = x.place; other = x.other; others = refl; there = x.there };
       placed = tt;
     }
 

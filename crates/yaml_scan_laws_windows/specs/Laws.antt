@@ -1,5 +1,5 @@
 -- The tokens of a text that is cut in two.
-use Rattle.std.specs.Prelude.{◌≡◌, ◌<◌, ℕ, List, [], ◌∷◌, ◌++◌, map, length, Some, None, option_map}
+use Rattle.std.specs.Prelude.{◌≡◌, ◌⊎◌, ◌<◌, ℕ, List, [], ◌∷◌, ◌++◌, map, length, Some, None, option_map}
 use Rattle.yaml_scan_history.specs.scan_model.declared.name.yaml_encoding_t.{yaml_encoding_t}
 use Rattle.yaml_scan_history.specs.scan_model.Tokens.{Token}
 use Rattle.yaml_scan_history.specs.scan_model.Faults.{Fault}
@@ -35,12 +35,12 @@ abbrev pub refused_by : Fault → Remaining → Remaining
 refused_by g r = record { tokens = r.tokens; fault = Some g }
 
 -- Where what stands in front of a cut has a fault, the whole has its tokens and a fault, whatever stands behind the cut; and that is
--- the same fault, where it stands in front of the cut.
+-- the same fault, where either stands in front of the cut.
 abbrev pub RefusedFrontsAreScanned : Type 0
 RefusedFrontsAreScanned = (encoding : yaml_encoding_t) (front rest : List ℕ) → IsCut front rest
     → (f : Fault) → (scan_of encoding front).fault ≡ Some f
     → (g : Fault) × (scan_of encoding (front ++ rest) ≡ refused_by g (scan_of encoding front))
-    × (f.problem_mark.index < length front → g ≡ f)
+    × ((f.problem_mark.index < length front) ⊎ (g.problem_mark.index < length front) → g ≡ f)
 
 -- So it is where a text is cut behind a line `...`.
 abbrev pub EndedWindowsAreScanned : Type 0

@@ -1,4 +1,4 @@
-use Rattle.yaml_scan_laws_windows.proofs.Failing.{refused_fronts_are_scanned}
+use Rattle.yaml_scan_laws_windows.proofs.Refused.{refused_fronts_are_scanned}
 use Rattle.yaml_scan_laws_windows.proofs.laws.refused_fronts_are_scanned.Goals as goal
 
 pub returns : goal.returns

@@ -71,7 +71,7 @@ static const char *const TEXTS[] = {
     "\377",
     "\377\376a",
 };
-enum { TEXT_NUMBER = sizeof TEXTS / sizeof *TEXTS, CANONICAL = 0, PRETTY, NORMALIZE, RELOAD, CHECK, SAME, EVENTS, PARSE, FRONT, SCAN, DECODE, EMIT, EMIT_ON, EMIT_AGAIN, CALL_NUMBER };
+enum { TEXT_NUMBER = sizeof TEXTS / sizeof *TEXTS, CANONICAL = 0, PRETTY, NORMALIZE, RELOAD, CHECK, SAME, EVENTS, PARSE, FRONT, SCAN, DECODE, EMIT, EMIT_ON, EMIT_AGAIN, SERIALIZE, CALL_NUMBER };
 
 static const uint8_t *bytes_of(int text)
 {
@@ -100,6 +100,11 @@ static const yaml_c_event STREAM[] = {
 static const char STREAM_TEXT[] = "%YAML 1.1\n%TAG !e! tag:x,2000:\n--- &x !e!a\nk: [*x, \"text\"]\n";
 enum { STREAM_LENGTH = sizeof STREAM / sizeof *STREAM };
 
+/* A mapping whose second value is itself, and whose first one holds its first key and another scalar. */
+static const yaml_c_node NODES[] = {{3, 0, 4}, {1, 0, 0}, {2, 4, 2}, {1, 9, 9}, {1, 0, 0}};
+static const int32_t HELD[] = {2, 3, 4, 1, 2, 5};
+static const yaml_c_graph GRAPH = {NODES, sizeof NODES / sizeof *NODES, HELD, sizeof HELD / sizeof *HELD};
+
 /* A list of events for each text's number: the stream, fronts of it, one without its start, and one past the limit. */
 static int emit_list(int list, yaml_c_settings *settings, yaml_c_answer *answer)
 {
@@ -124,6 +129,7 @@ typedef struct {
     yaml_c_scanned scanned;
     yaml_c_answer answer;
     yaml_c_stand stand, behind;
+    yaml_c_turns turns;
 } records;
 
 static void init(records *r)
@@ -133,6 +139,7 @@ static void init(records *r)
     yaml_c_answer_init(&r->answer);
     yaml_c_stand_init(&r->stand);
     yaml_c_stand_init(&r->behind);
+    yaml_c_turns_init(&r->turns);
 }
 
 static void give_back(records *r)
@@ -142,6 +149,7 @@ static void give_back(records *r)
     yaml_c_answer_free(&r->answer);
     yaml_c_stand_free(&r->stand);
     yaml_c_stand_free(&r->behind);
+    yaml_c_turns_free(&r->turns);
 }
 
 /* The text of the events in pieces of so many, each given from where the one before it ended, behind the events that wait there. It
@@ -210,6 +218,7 @@ static int call_on(int call, int text, yaml_c_settings *settings, records *r)
     case DECODE: return yaml_c_decode(at, len, 0, answer);
     case EMIT: return emit_list(text, settings, answer);
     case EMIT_ON: return emit_list_on(text, settings, NULL, r);
+    case SERIALIZE: return yaml_c_serialize(&GRAPH, &r->turns, answer);
     default: return emit_parsed(text, settings, answer);
     }
 }
@@ -221,6 +230,7 @@ static void is_in_order(int call, int kind, const records *r)
     const yaml_c_parsed *parsed = &r->parsed;
     EXPECT(answer->kind == kind && kind >= 0 && kind <= 7);
     EXPECT(call == SCAN || (r->scanned.tokens_len == 0 && r->scanned.bytes.len == 0));
+    EXPECT((r->turns.turns_len > 0) == (call == SERIALIZE && !kind));
     if (kind) {
         EXPECT(answer->text.len == 0 && answer->is == 0 && answer->problem.len > 0);
         EXPECT(kind == YAML_C_MEMORY_ERROR || answer->line.len > 0);
@@ -666,6 +676,33 @@ static void wrong_events(void)
     emit_one(scalar, 2, YAML_C_REFUSED_ARGUMENT);
 }
 
+/* Records of nodes that mean nothing: another kind, and what lies outside. */
+static void wrong_graphs(void)
+{
+    static const yaml_c_node wrong[] = {{4, 0, 0}, {-1, 0, 0}, {2, 6, 1}, {3, 7, 0}, {2, UINT64_MAX, 2}, {3, 2, UINT64_MAX}};
+    for (size_t i = 0; i < sizeof wrong / sizeof *wrong; i++) {
+        yaml_c_node nodes[2] = {NODES[1], wrong[i]};
+        yaml_c_graph graph = {nodes, 2, HELD, sizeof HELD / sizeof *HELD};
+        records r;
+        init(&r);
+        calls++;
+        EXPECT(yaml_c_serialize(&graph, &r.turns, &r.answer) == YAML_C_REFUSED_ARGUMENT && r.turns.turns_len == 0);
+        give_back(&r);
+    }
+}
+
+/* The turns of a dump, each by what it is, its node and the number of its anchor. */
+static void serialized(void)
+{
+    static const yaml_c_turn turns[] = {{9, 1, 2}, {6, 2, 1}, {7, 3, 0}, {5, 2, 1}, {6, 5, 0}, {8, 3, 0}, {6, 4, 0}, {5, 1, 2}, {10, 1, 0}};
+    records r;
+    init(&r);
+    calls++;
+    EXPECT(yaml_c_serialize(&GRAPH, &r.turns, &r.answer) == 0 && r.turns.turns_len == sizeof turns / sizeof *turns);
+    EXPECT(!memcmp(r.turns.turns, turns, sizeof turns));
+    give_back(&r);
+}
+
 int main(void)
 {
     yaml_c_answer answer;
@@ -690,6 +727,8 @@ int main(void)
     wrong_stands();
     partings();
     wrong_events();
+    wrong_graphs();
+    serialized();
     for (int text = 0; text < TEXT_NUMBER; text++)
         yaml_c_parsed_free(&parsed_texts[text]);
     EXPECT(blocks == begun);

@@ -12,8 +12,8 @@
  * has a length and may hold a byte 0; none ends with one.
  *
  * Ownership. The caller owns every record and every input, and the call keeps no pointer to them. Blocks that a call
- * hands out are malloc's and the caller's: `text` and `line` of an answer, the three parts of a yaml_c_parsed, and the
- * two of a yaml_c_scanned, each where its length is not 0. The functions below free them. `problem` and `context` are
+ * hands out are malloc's and the caller's: `text` and `line` of an answer, the three parts of a yaml_c_parsed, the two of
+ * a yaml_c_scanned, and the list of a yaml_c_turns, each where its length is not 0. The functions below free them. `problem` and `context` are
  * constants of the library: never free or write them. A call overwrites the record's pointers without freeing what they
  * named, so free a record before it is used again.
  *
@@ -25,8 +25,8 @@
  *  - a pointer with a length names that many readable bytes (or records), fewer than 2^63 bytes in all, which nothing
  *    writes while the call runs. It isn't NULL, even where the length is 0: pass YAML_C_NOTHING or any other pointer;
  *  - the records that a call writes are writable, set up once by yaml_c_answer_init, yaml_c_parting_init,
- *    yaml_c_parsed_init and yaml_c_scanned_init, and neither read nor written by others while the call runs; they don't
- *    overlap one another or the inputs;
+ *    yaml_c_parsed_init, yaml_c_scanned_init and yaml_c_turns_init, and neither read nor written by others while the call
+ *    runs; they don't overlap one another or the inputs;
  *  - malloc, realloc and free are one allocator's, of blocks aligned as C's are;
  *  - no call is made from a signal handler, or in the forked child of a process with threads.
  *
@@ -264,6 +264,34 @@ typedef struct {
     yaml_c_bytes bytes;
 } yaml_c_scanned;
 
+/* A node of a document. */
+typedef struct {
+    int32_t kind;   /* 0 none, 1 a scalar, 2 a sequence, 3 a mapping */
+    uint64_t first; /* of a sequence or a mapping, as the one below: what it holds is the `count` numbers of `held` from here on, */
+    uint64_t count; /* of a mapping each pair's key and its value behind it */
+} yaml_c_node;
+
+/* The nodes of a document, and the numbers of the nodes that they hold. Nodes count from 1; the first one is the root. */
+typedef struct {
+    const yaml_c_node *nodes;
+    size_t nodes_len;
+    const int32_t *held;
+    size_t held_len;
+} yaml_c_graph;
+
+/* What a dump comes to next: an event. */
+typedef struct {
+    int32_t kind;    /* YAML_C_ALIAS_EVENT to YAML_C_MAPPING_END_EVENT */
+    int32_t node;    /* the node that it begins, stands for or ends */
+    uint64_t number; /* of the node's anchor, from 1; 0 where it has none, and at an end. In names it has three digits or more: id001 */
+} yaml_c_turn;
+
+/* The events of a dump between the start and the end of its document. */
+typedef struct {
+    const yaml_c_turn *turns;
+    size_t turns_len;
+} yaml_c_turns;
+
 /* ---- calls. `from` is the input's encoding. */
 
 /* Sets UTF-8, canonical form, indent 2, width 80, unicode on, LF, and a limit of 2^40 bytes. */
@@ -346,6 +374,13 @@ int32_t yaml_c_emit(const yaml_c_event *events, size_t events_len, const yaml_c_
  * at most 2^62. `stand` and `behind` are two records: free the old one behind the call. */
 int32_t yaml_c_emit_on(const yaml_c_parsed *given, const yaml_c_settings *settings, const yaml_c_stand *stand,
                        yaml_c_stand *behind, yaml_c_answer *answer);
+
+/* What a dump of the document has of its nodes, in order: a node that is met first is begun, and a collection ended behind what it
+ * holds, a pair's key before its value; one that is met again is an alias. A node that is met again has a number, from 1 in the
+ * order in which they are met again. Tags and values aren't asked for: each turn names the node whose they are. -1 exactly where the
+ * kind of a node is none of the four, or what a collection holds doesn't lie within `held`; else refused for want of memory alone,
+ * and there are no turns then. A number that names no node is taken for one that was met. */
+int32_t yaml_c_serialize(const yaml_c_graph *graph, yaml_c_turns *turns, yaml_c_answer *answer);
 
 /* ---- setting up and freeing records */
 
@@ -434,6 +469,19 @@ static inline void yaml_c_scanned_free(yaml_c_scanned *scanned) {
     yaml_c_scanned_init(scanned);
 }
 
+/* No turns. Before the first call with the record. */
+static inline void yaml_c_turns_init(yaml_c_turns *turns) {
+    static const yaml_c_turn no_turn = {0, 0, 0};
+    turns->turns = &no_turn;
+    turns->turns_len = 0;
+}
+
+/* Frees the turns; there are none then. After each call; a second time does nothing. */
+static inline void yaml_c_turns_free(yaml_c_turns *turns) {
+    if (turns->turns_len) free((void *)turns->turns);
+    yaml_c_turns_init(turns);
+}
+
 /* ---- the layout that the proved code has, on a machine of 64 bits */
 
 #if defined(__cplusplus)
@@ -486,6 +534,11 @@ YAML_C_ASSERT(offsetof(yaml_c_token, value) == 40 && offsetof(yaml_c_token, star
 YAML_C_ASSERT(offsetof(yaml_c_token, end) == 80);
 YAML_C_ASSERT(sizeof(yaml_c_scanned) == 32 && offsetof(yaml_c_scanned, tokens_len) == 8);
 YAML_C_ASSERT(offsetof(yaml_c_scanned, bytes) == 16);
+YAML_C_ASSERT(sizeof(yaml_c_node) == 24 && offsetof(yaml_c_node, first) == 8 && offsetof(yaml_c_node, count) == 16);
+YAML_C_ASSERT(sizeof(yaml_c_graph) == 32 && offsetof(yaml_c_graph, nodes_len) == 8);
+YAML_C_ASSERT(offsetof(yaml_c_graph, held) == 16 && offsetof(yaml_c_graph, held_len) == 24);
+YAML_C_ASSERT(sizeof(yaml_c_turn) == 16 && offsetof(yaml_c_turn, node) == 4 && offsetof(yaml_c_turn, number) == 8);
+YAML_C_ASSERT(sizeof(yaml_c_turns) == 16 && offsetof(yaml_c_turns, turns_len) == 8);
 #undef YAML_C_ASSERT
 
 #ifdef __cplusplus

@@ -1,21 +1,5 @@
-/* Documents dumped as events. */
+/* Documents dumped as events: their order, which nodes are met again and the numbers of their anchors are the core's. */
 #include "layer.h"
-
-/* A collection that is open, and the number of its next child. */
-typedef struct {
-    int id;
-    size_t next;
-} level;
-
-typedef struct {
-    level *open;
-    size_t open_len;
-    size_t open_room;
-    int *visits;      /* of each node, as a child or the root */
-    int *anchors;     /* its anchor's number, or 0 */
-    char *is_written; /* whether it has been dumped */
-    int last_anchor;
-} dumping;
 
 YAML_DECLARE(int) yaml_emitter_open(yaml_emitter_t *emitter)
 {
@@ -43,55 +27,64 @@ static int no_memory(yaml_emitter_t *emitter)
     return 0;
 }
 
-/* The child of that number, or 0 behind the last one. */
-static int child(const yaml_node_t *node, size_t number)
+/* What a node holds, as numbers of nodes: of a mapping each pair's key, and its value behind it. */
+static const int *held_by(const yaml_node_t *node, size_t *len)
 {
-    if (node->type == YAML_SEQUENCE_NODE) {
-        const yaml_node_item_t *items = node->data.sequence.items.start;
-        return items && number < (size_t)(node->data.sequence.items.top - items) ? items[number] : 0;
+    *len = 0;
+    if (node->type == YAML_SEQUENCE_NODE && node->data.sequence.items.start) {
+        *len = (size_t)(node->data.sequence.items.top - node->data.sequence.items.start);
+        return node->data.sequence.items.start;
     }
-    const yaml_node_pair_t *pairs = node->data.mapping.pairs.start;
-    if (node->type != YAML_MAPPING_NODE || !pairs || number / 2 >= (size_t)(node->data.mapping.pairs.top - pairs))
+    if (node->type == YAML_MAPPING_NODE && node->data.mapping.pairs.start) {
+        *len = 2 * (size_t)(node->data.mapping.pairs.top - node->data.mapping.pairs.start);
+        return (const int *)node->data.mapping.pairs.start;
+    }
+    return NULL;
+}
+
+/* The document's nodes as records. 0: memory was refused. */
+static int show_nodes(const yaml_document_t *document, yaml_c_node **nodes, int32_t **held, yaml_c_graph *graph)
+{
+    size_t len, total = 0;
+    graph->nodes_len = (size_t)(document->nodes.top - document->nodes.start);
+    for (size_t i = 0; i < graph->nodes_len; i++) {
+        held_by(&document->nodes.start[i], &len);
+        total += len;
+    }
+    *nodes = malloc(graph->nodes_len * sizeof **nodes);
+    *held = malloc((total + 1) * sizeof **held);
+    if (!*nodes || !*held)
         return 0;
-    return number % 2 ? pairs[number / 2].value : pairs[number / 2].key;
-}
-
-static int open_collection(dumping *d, int id)
-{
-    if (d->open_len == d->open_room) {
-        level *open = layer_grown(d->open, d->open_len, sizeof *open, &d->open_room);
-        if (!open)
-            return 0;
-        d->open = open;
+    for (size_t i = 0; i < graph->nodes_len; i++) {
+        const int *from = held_by(&document->nodes.start[i], &len);
+        (*nodes)[i] = (yaml_c_node){(int32_t)document->nodes.start[i].type, graph->held_len, len};
+        if (len)
+            memcpy(*held + graph->held_len, from, len * sizeof *from);
+        graph->held_len += len;
     }
-    d->open[d->open_len++] = (level){id, 0};
+    graph->nodes = *nodes;
+    graph->held = *held;
     return 1;
 }
 
-/* The next node below those that are open, or 0 where all is done. */
-static int next_node(const yaml_document_t *document, dumping *d)
+/* The turns of the dump: what it has of which node, and the numbers of the anchors. 0: memory was refused. */
+static int find_turns(const yaml_document_t *document, yaml_c_turns *turns)
 {
-    while (d->open_len) {
-        level *innermost = &d->open[d->open_len - 1];
-        int id = child(document->nodes.start + innermost->id - 1, innermost->next++);
-        if (id)
-            return id;
-        d->open_len--;
+    yaml_c_node *nodes = NULL;
+    int32_t *held = NULL;
+    yaml_c_graph graph = {NULL, 0, NULL, 0};
+    yaml_c_answer answer;
+    int is_found = show_nodes(document, &nodes, &held, &graph);
+    if (is_found) {
+        yaml_c_answer_init(&answer);
+        int kind = yaml_c_serialize(&graph, turns, &answer);
+        yaml_c_answer_free(&answer);
+        assert(kind >= 0); /* each node has a kind */
+        is_found = !kind;
     }
-    return 0;
-}
-
-/* Numbers the nodes that are met twice, in the order in which they are met a second time. */
-static int number_anchors(const yaml_document_t *document, dumping *d)
-{
-    for (int id = 1; id; id = next_node(document, d)) {
-        int visits = ++d->visits[id - 1];
-        if (visits == 2)
-            d->anchors[id - 1] = ++d->last_anchor;
-        if (visits == 1 && !open_collection(d, id))
-            return 0;
-    }
-    return 1;
+    free(nodes);
+    free(held);
+    return is_found;
 }
 
 /* The event that starts a node. */
@@ -113,63 +106,46 @@ static int node_event(yaml_event_t *event, const yaml_node_t *node, const yaml_c
     }
 }
 
-/* Dumps a node, but for its children: as an alias where it has been dumped. */
-static int dump_node(yaml_emitter_t *emitter, const yaml_document_t *document, dumping *d, int id)
+/* The event of a turn. */
+static int turn_event(yaml_event_t *event, const yaml_document_t *document, const yaml_c_turn *turn)
 {
-    yaml_event_t event;
-    const yaml_node_t *node = document->nodes.start + id - 1;
-    char name[16];
-    const yaml_char_t *anchor = d->anchors[id - 1] ? (const yaml_char_t *)name : NULL;
-    if (anchor)
-        snprintf(name, sizeof name, "id%03d", d->anchors[id - 1]);
-    int is_alias = d->is_written[id - 1];
-    d->is_written[id - 1] = 1;
-    if (!(is_alias ? yaml_alias_event_initialize(&event, anchor) : node_event(&event, node, anchor)))
-        return no_memory(emitter);
-    if (!yaml_emitter_emit(emitter, &event))
-        return 0;
-    return is_alias || node->type == YAML_SCALAR_NODE || open_collection(d, id) || no_memory(emitter);
+    char name[24];
+    const yaml_char_t *anchor = NULL;
+    if (turn->number) {
+        snprintf(name, sizeof name, "id%03llu", (unsigned long long)turn->number);
+        anchor = (const yaml_char_t *)name;
+    }
+    switch (turn->kind) {
+    case YAML_C_ALIAS_EVENT:
+        assert(anchor); /* the number of a node */
+        return yaml_alias_event_initialize(event, anchor);
+    case YAML_C_SEQUENCE_END_EVENT: return yaml_sequence_end_event_initialize(event);
+    case YAML_C_MAPPING_END_EVENT: return yaml_mapping_end_event_initialize(event);
+    default: return node_event(event, document->nodes.start + turn->node - 1, anchor);
+    }
 }
 
-static int dump_end(yaml_emitter_t *emitter, const yaml_node_t *node)
+static int dump_turns(yaml_emitter_t *emitter, const yaml_document_t *document, const yaml_c_turns *turns)
 {
-    yaml_event_t event;
-    if (node->type == YAML_SEQUENCE_NODE)
-        yaml_sequence_end_event_initialize(&event);
-    else
-        yaml_mapping_end_event_initialize(&event);
-    return yaml_emitter_emit(emitter, &event);
-}
-
-static int dump_nodes(yaml_emitter_t *emitter, const yaml_document_t *document, dumping *d)
-{
-    if (!dump_node(emitter, document, d, 1))
-        return 0;
-    while (d->open_len) {
-        level *innermost = &d->open[d->open_len - 1];
-        const yaml_node_t *node = document->nodes.start + innermost->id - 1;
-        int id = child(node, innermost->next++);
-        if (!id)
-            d->open_len--;
-        if (!(id ? dump_node(emitter, document, d, id) : dump_end(emitter, node)))
+    for (size_t i = 0; i < turns->turns_len; i++) {
+        yaml_event_t event;
+        if (!turn_event(&event, document, &turns->turns[i]))
+            return no_memory(emitter);
+        if (!yaml_emitter_emit(emitter, &event))
             return 0;
     }
     return 1;
 }
 
-static int dump_document(yaml_emitter_t *emitter, const yaml_document_t *document, dumping *d)
+static int dump_document(yaml_emitter_t *emitter, const yaml_document_t *document, yaml_c_turns *turns)
 {
     yaml_event_t event;
-    size_t len = (size_t)(document->nodes.top - document->nodes.start);
-    d->visits = calloc(len, sizeof *d->visits);
-    d->anchors = calloc(len, sizeof *d->anchors);
-    d->is_written = calloc(len, 1);
-    if (!d->visits || !d->anchors || !d->is_written || !number_anchors(document, d))
+    if (!find_turns(document, turns))
         return no_memory(emitter);
     if (!yaml_document_start_event_initialize(&event, document->version_directive, document->tag_directives.start,
                                               document->tag_directives.end, document->start_implicit))
         return no_memory(emitter);
-    if (!yaml_emitter_emit(emitter, &event) || !dump_nodes(emitter, document, d))
+    if (!yaml_emitter_emit(emitter, &event) || !dump_turns(emitter, document, turns))
         return 0;
     yaml_document_end_event_initialize(&event, document->end_implicit);
     return yaml_emitter_emit(emitter, &event);
@@ -178,16 +154,14 @@ static int dump_document(yaml_emitter_t *emitter, const yaml_document_t *documen
 YAML_DECLARE(int) yaml_emitter_dump(yaml_emitter_t *emitter, yaml_document_t *document)
 {
     assert(emitter && document);
-    dumping d = {NULL, 0, 0, NULL, NULL, NULL, 0};
+    yaml_c_turns turns;
+    yaml_c_turns_init(&turns);
     int is_dumped = emitter->opened || yaml_emitter_open(emitter);
     if (is_dumped && document->nodes.start == document->nodes.top)
         is_dumped = yaml_emitter_close(emitter);
     else if (is_dumped)
-        is_dumped = dump_document(emitter, document, &d);
-    free(d.visits);
-    free(d.anchors);
-    free(d.is_written);
-    free(d.open);
+        is_dumped = dump_document(emitter, document, &turns);
+    yaml_c_turns_free(&turns);
     yaml_document_delete(document);
     return is_dumped;
 }

@@ -8,3 +8,4 @@ pub mod Offsets
 pub mod Rows
 pub mod PartingExact
 pub mod Going
+pub mod Dumping

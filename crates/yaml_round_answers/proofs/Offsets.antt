@@ -1,6 +1,6 @@
 -- Each field lies where the header says.
 use Rattle.std.proofs.Common.{refl}
-use Rattle.yaml_round_answers.specs.Offsets.{AnswerLies, ParsedLies, ScannedLies, PartingLies}
+use Rattle.yaml_round_answers.specs.Offsets.{AnswerLies, ParsedLies, ScannedLies, PartingLies, NodeLies, GraphLies, TurnLies, TurnsLie}
 
 pub answer_lies : AnswerLies
 answer_lies = record {
@@ -38,4 +38,29 @@ parting_lies = record {
   second_kind = record { is = λ d. refl; begins = refl };
   first_mark = record { is = λ d. refl; begins = refl };
   second_mark = record { is = λ d. refl; begins = refl };
+}
+
+pub node_lies : NodeLies
+node_lies = record {
+  kind = record { is = λ d. refl; begins = refl };
+  first = record { is = λ d. refl; begins = refl };
+  count = record { is = λ d. refl; begins = refl };
+}
+
+pub graph_lies : GraphLies
+graph_lies = record {
+  nodes = record { is = λ d. refl; begins = refl };
+  held = record { is = λ d. refl; begins = refl };
+}
+
+pub turn_lies : TurnLies
+turn_lies = record {
+  kind = record { is = λ d. refl; begins = refl };
+  node = record { is = λ d. refl; begins = refl };
+  number = record { is = λ d. refl; begins = refl };
+}
+
+pub turns_lie : TurnsLie
+turns_lie = record {
+  turns = record { is = λ d. refl; begins = refl };
 }

@@ -5,6 +5,7 @@ pub mod Emitting
 pub mod Onward
 pub mod Parses
 pub mod Scans
+pub mod Serializes
 pub mod Decodes
 pub mod Normalizes
 -- what it speaks of, for the crate that exports its calls

@@ -4,6 +4,10 @@ use Rattle.yaml_round_answers.specs.contracts.answer.yaml_c_answer as answer
 use Rattle.yaml_round_answers.specs.contracts.parsing.yaml_c_parsed as parsed
 use Rattle.yaml_round_answers.specs.contracts.scanning.yaml_c_scanned as scanned
 use Rattle.yaml_round_answers.specs.contracts.parting.yaml_c_parting as parting
+use Rattle.yaml_round_answers.specs.contracts.serializing.yaml_c_turns as turns
+use Rattle.yaml_round_nodes.specs.contracts.record.yaml_c_node as node
+use Rattle.yaml_round_nodes.specs.contracts.record.yaml_c_graph as graph
+use Rattle.yaml_round_nodes.specs.contracts.record.yaml_c_turn as turn
 
 -- ---- the layouts, which are those that the header asserts: a list is a pointer with its length behind it
 
@@ -36,3 +40,20 @@ pub record PartingLies : Type 0 where
   pub second_kind : LiesAt parting.the_type 3 (λ d. d.second_kind) 148
   pub first_mark : LiesAt parting.the_type 4 (λ d. d.first_mark) 152
   pub second_mark : LiesAt parting.the_type 5 (λ d. d.second_mark) 176
+
+pub record NodeLies : Type 0 where
+  pub kind : LiesAt node.the_type 0 (λ d. d.kind) 0
+  pub first : LiesAt node.the_type 1 (λ d. d.first) 8
+  pub count : LiesAt node.the_type 2 (λ d. d.count) 16
+
+pub record GraphLies : Type 0 where
+  pub nodes : LiesAt graph.the_type 0 (λ d. d.nodes) 0
+  pub held : LiesAt graph.the_type 1 (λ d. d.held) 16
+
+pub record TurnLies : Type 0 where
+  pub kind : LiesAt turn.the_type 0 (λ d. d.kind) 0
+  pub node : LiesAt turn.the_type 1 (λ d. d.node) 4
+  pub number : LiesAt turn.the_type 2 (λ d. d.number) 8
+
+pub record TurnsLie : Type 0 where
+  pub turns : LiesAt turns.the_type 0 (λ d. d.turns) 0

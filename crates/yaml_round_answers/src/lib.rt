@@ -11,6 +11,7 @@ mod parsing;
 mod parting;
 mod path;
 mod scanning;
+mod serializing;
 mod settings;
 
 pub use answer::{told, yaml_c_answer};
@@ -22,6 +23,8 @@ pub use onward::onward_by;
 pub use parsing::{front_by, parsed_by, yaml_c_parsed};
 pub use parting::{documents_parted_by, parted_by, yaml_c_parting};
 pub use scanning::{scanned_by, yaml_c_scanned};
+pub use serializing::{serialized_by, yaml_c_turns};
+pub use yaml_round_nodes::{yaml_c_graph, yaml_c_node, yaml_c_turn};
 pub use yaml_round_records::{
     yaml_c_directive, yaml_c_event, yaml_c_level, yaml_c_mark, yaml_c_place, yaml_c_settings,
     yaml_c_span, yaml_c_stand,

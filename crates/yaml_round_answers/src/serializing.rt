@@ -1,0 +1,66 @@
+//! The turns of a dump, as records.
+
+ghost use Rattle.std.specs.Prelude.{◌≡◌, ◌⊎◌, [], pos};
+ghost use Rattle.yaml_round_answers.specs.Told.{AnswersMeant};
+ghost use Rattle.yaml_round_answers.specs.Serializes.{graph_meant, Serializes};
+
+use crate::answer::{misused, refused, said, yaml_c_answer};
+use std::alloc::Global;
+use yaml_parse::{yaml_memory_fault, yaml_origin_t};
+use yaml_round_nodes::{is_graph, turns_of, yaml_c_graph, yaml_c_turn};
+
+/// The turns of a dump. The list is the caller's to free, where it has any item.
+#[repr(C)]
+#[derive(Drop)]
+pub struct yaml_c_turns {
+    pub turns: &'static [yaml_c_turn],
+}
+
+const _: () = prove!(size_of::<yaml_c_turns>() == 16);
+
+fn nothing() -> yaml_c_turns
+    ensures { result.turns.now ≡ [] }
+{
+    yaml_c_turns { turns: &[] }
+}
+
+// A list that lives on for C.
+fn turns_out(turns: Vec<yaml_c_turn>) -> yaml_c_turns
+    ensures { result.turns.now ≡ turns.items }
+{
+    if turns.is_empty() {
+        return nothing();
+    }
+    yaml_c_turns {
+        turns: turns.leak(),
+    }
+}
+
+fn serialized(alloc: Global, graph: &yaml_c_graph, turns: &mut yaml_c_turns) -> yaml_c_answer
+    ensures told { Serializes turns.new.turns.now graph.now result }
+    ensures none { (result.kind ≡ pos 0) ⊎ (turns.new.turns.now ≡ []) }
+{
+    match turns_of(alloc, graph) {
+        Ok(told) => {
+            *turns = turns_out(told);
+            said(0)
+        }
+        Err(_) => {
+            *turns = nothing();
+            refused(alloc, &yaml_memory_fault(yaml_origin_t::Emitter), 0)
+        }
+    }
+}
+
+/// The turns of a dump of the nodes that the records show, where each record means a node.
+pub fn serialized_by(alloc: Global, graph: &yaml_c_graph, turns: &mut yaml_c_turns) -> yaml_c_answer
+    ensures told { AnswersMeant (graph_meant graph.now) (Serializes turns.new.turns.now) result }
+    ensures none { (result.kind ≡ pos 0) ⊎ (turns.new.turns.now ≡ []) }
+{
+    if is_graph(graph) {
+        serialized(alloc, graph, turns)
+    } else {
+        *turns = nothing();
+        misused()
+    }
+}

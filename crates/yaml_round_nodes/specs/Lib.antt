@@ -1,0 +1,4 @@
+pub mod Graphs
+pub mod Walk
+pub mod Numbers
+pub mod Turns

@@ -1,0 +1,119 @@
+//! What a walk meets, and the numbers of the nodes that it meets again.
+
+ghost use Rattle.std.specs.Prelude.{◌≡◌, ◌<◌, length, map, Some, IfOk};
+ghost use Rattle.yaml_emit_graph.specs.Graph.{turns, numbers, numbered_by, next_number, again_at, place_at, number_in, number_at, none_numbered};
+ghost use Rattle.yaml_round_nodes.specs.Graphs.{stand_ins};
+ghost use Rattle.yaml_round_nodes.specs.Walk.{turn_of};
+ghost use Rattle.yaml_emit_graph.specs.Numbers.{IsNumbering};
+ghost use Rattle.yaml_round_nodes.specs.Numbers.{numbering_of};
+
+use crate::graph::place_of;
+use crate::record::yaml_c_graph;
+use crate::walk::{Turn, Walk};
+use std::alloc::{AllocError, Global};
+
+/// The turns of a walk, and the number of each node by its place; 0 stands for none.
+#[derive(Drop)]
+pub struct Walked {
+    pub turns: Vec<Turn>,
+    pub numbers: Vec<u64>,
+}
+
+/// How many numbers were given, and the number of each node by its place; 0 stands for none.
+#[derive(Drop)]
+pub struct Numbers {
+    given: u64,
+    table: Vec<u64>,
+}
+
+fn number_in(table: &[u64], at: usize) -> u64
+    ensures { result ≡ number_in table.now (Some at) }
+{
+    if at < table.len() { table[at] } else { 0 }
+}
+
+/// The number of a node, or 0.
+pub(crate) fn number_of(table: &[u64], id: i32) -> u64
+    ensures { result ≡ number_at table.now id }
+{
+    match place_of(id) {
+        None => 0,
+        Some(at) => number_in(table, at),
+    }
+}
+
+impl Numbers {
+    fn none(alloc: Global, count: usize) -> Result<Numbers, AllocError>
+        ensures { IfOk result (λ n. numbering_of n ≡ none_numbered count) }
+    {
+        Ok(Numbers {
+            given: 0,
+            table: vec![in alloc; 0; count]?,
+        })
+    }
+
+    // The next number, to a node without one.
+    #[tactic(auto, using(crate::proofs::Counting::room, crate::proofs::Counting::same_default))]
+    fn give(&mut self, at: usize)
+        requires numbers { IsNumbering (numbering_of self.old) }
+        requires within { at < length self.old.table.items }
+        ensures gives { numbering_of self.new ≡ next_number (numbering_of self.old) at }
+        ensures numbers { IsNumbering (numbering_of self.new) }
+    {
+        if self.table[at] == 0 {
+            self.given += 1;
+            self.table[at] = self.given;
+        }
+    }
+
+    fn meet_at(&mut self, at: usize)
+        requires numbers { IsNumbering (numbering_of self.old) }
+        ensures gives { numbering_of self.new ≡ next_number (numbering_of self.old) at }
+        ensures numbers { IsNumbering (numbering_of self.new) }
+    {
+        if at < self.table.len() {
+            self.give(at);
+        }
+    }
+
+    fn meet_again(&mut self, id: i32)
+        requires numbers { IsNumbering (numbering_of self.old) }
+        ensures gives { numbering_of self.new ≡ again_at (place_at id) (numbering_of self.old) }
+        ensures numbers { IsNumbering (numbering_of self.new) }
+    {
+        match place_of(id) {
+            None => (),
+            Some(at) => self.meet_at(at),
+        }
+    }
+
+    fn take(&mut self, turn: Turn)
+        requires numbers { IsNumbering (numbering_of self.old) }
+        ensures gives { numbering_of self.new ≡ numbered_by (turn_of turn) (numbering_of self.old) }
+        ensures numbers { IsNumbering (numbering_of self.new) }
+    {
+        match turn {
+            Turn::First(_) | Turn::Leave(_) => (),
+            Turn::Again(id) => self.meet_again(id),
+        }
+    }
+}
+
+/// The walk over the nodes, and their numbers: a node's second visit gives it the next one, from 1.
+pub(crate) fn walk_nodes(alloc: Global, graph: &yaml_c_graph) -> Result<Walked, AllocError>
+    ensures { IfOk result (λ w. (map turn_of w.turns.items ≡ turns (stand_ins graph.now))
+        × (w.numbers.items ≡ numbers (stand_ins graph.now))) }
+{
+    let count = graph.nodes.len();
+    let mut walk = Walk::new(alloc, count)?;
+    let mut numbers = Numbers::none(alloc, count)?;
+    let mut turns = Vec::with_capacity(alloc, count)?;
+    while let Some(turn) = walk.next(graph)? {
+        numbers.take(turn);
+        turns.push(turn)?;
+    }
+    Ok(Walked {
+        turns,
+        numbers: numbers.table,
+    })
+}

@@ -1,0 +1,34 @@
+//! Nodes as records over one list of numbers, and the turns of a dump.
+
+/// A node. `kind` has libyaml's number: 0 none, 1 a scalar, 2 a sequence, 3 a mapping. A collection holds `count` numbers of
+/// the list from `first` on: a mapping each pair's key and its value behind it.
+#[repr(C)]
+#[derive(Clone, Copy, Drop)]
+pub struct yaml_c_node {
+    pub kind: i32,
+    pub first: u64,
+    pub count: u64,
+}
+
+/// The nodes of a document, whose numbers count from 1, and the list of what they hold.
+#[repr(C)]
+#[derive(Drop)]
+pub struct yaml_c_graph {
+    pub nodes: &'static [yaml_c_node],
+    pub held: &'static [i32],
+}
+
+/// An event of a dump: its kind by libyaml's number (5 to 10), the node that it is of, and the number of the node's anchor, or 0.
+#[repr(C)]
+#[derive(Clone, Copy, Drop)]
+pub struct yaml_c_turn {
+    pub kind: i32,
+    pub node: i32,
+    pub number: u64,
+}
+
+const _: () = prove!(size_of::<yaml_c_node>() == 24);
+
+const _: () = prove!(size_of::<yaml_c_graph>() == 32);
+
+const _: () = prove!(size_of::<yaml_c_turn>() == 16);

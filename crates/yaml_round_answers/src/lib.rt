@@ -12,6 +12,7 @@ mod parting;
 mod path;
 mod scanning;
 mod settings;
+mod spelled;
 
 pub use answer::{told, yaml_c_answer};
 pub use decoding::decoded_by;

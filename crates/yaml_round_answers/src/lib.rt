@@ -13,6 +13,7 @@ mod path;
 mod scanning;
 mod serializing;
 mod settings;
+mod spelled;
 
 pub use answer::{told, yaml_c_answer};
 pub use decoding::decoded_by;

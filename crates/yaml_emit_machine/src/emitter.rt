@@ -9,7 +9,7 @@ ghost use Rattle.yaml_emit_machine.specs.Emitter.{stream_encoding, IsNew, IsLimi
 ghost use Rattle.yaml_emit_held.specs.Held.{AreLast};
 ghost use Rattle.yaml_emit_machine.specs.Within.{IsWithin};
 ghost use Rattle.yaml_emit_machine.specs.Verdict.{TellsOutcome};
-ghost use Rattle.yaml_emit_machine.specs.Taking.{TakesEvents, GivesText, LaysAtOnce, Stuck, NotesMemoryOf, BlamesLevels, ComesIntoForce};
+ghost use Rattle.yaml_emit_machine.specs.Taking.{TakesEvents, GivesText, LaysAtOnce, StaysCanonical, Stuck, NotesMemoryOf, BlamesLevels, ComesIntoForce};
 
 mod dump;
 mod resume;
@@ -240,6 +240,7 @@ impl yaml_emitter_t {
         ensures few { self.new.held ≡ [] }
         ensures begun { self.new.fresh ≡ false }
         ensures opened { (self.new.opened ≡ self.old.opened) × (self.new.closed ≡ self.old.closed) }
+        ensures form { StaysCanonical self.old self.new }
     {
         self.core.lay_out(event, false);
         note(&self.core, &mut self.fault);

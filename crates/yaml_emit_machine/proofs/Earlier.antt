@@ -1,5 +1,5 @@
 -- Events that are laid out at once, one after another: all of a dump are taken so.
-use Rattle.std.proofs.Common.{◌≡◌, List, [], ◌∷◌, ◌++◌, Bool, true, false, refl, sym, subst, ◌∙◌, ap, Option, None}
+use Rattle.std.proofs.Common.{◌≡◌, List, [], ◌∷◌, ◌++◌, Bool, true, false, refl, sym, subst, ◌∙◌, ap, None}
 use Rattle.std.proofs.lemmas.Bool.{false≢true}
 use Rattle.yaml_parse_document.specs.Documents.{Document}
 use Rattle.yaml_emit_text.specs.declared.Encoding.{Encoding}

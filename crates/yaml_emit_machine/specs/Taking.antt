@@ -4,6 +4,7 @@ use Rattle.yaml_emit_text.specs.declared.Encoding.{Encoding}
 use Rattle.yaml_emit_text.specs.declared.Status.TheVariants.{Going}
 use Rattle.yaml_emit_text.specs.Text.{Item, encode}
 use Rattle.yaml_emit_text.specs.Sink.{Grows}
+use Rattle.yaml_emit_layout.specs.declared.Expected.TheVariants as at
 use Rattle.yaml_emit_layout.specs.Content.{Event}
 use Rattle.yaml_emit_state.specs.Steps.{may_note}
 use Rattle.yaml_emit_held.specs.Judged.{take_memory, Refuses}
@@ -70,6 +71,10 @@ pub record LaysAtOnce (e : Emitter) : Type 0 where
   pub begun : e.fresh ≡ false
   pub form : e.course.settings.canonical ≡ true
   pub none : e.held ≡ []
+
+-- a node is due
+abbrev pub AwaitsNode : Emitter → Type 0
+AwaitsNode e = e.course.state.place ≡ at.Node
 
 -- the output went on, and the form is canonical still
 abbrev pub StaysCanonical : Emitter → Emitter → Type 0

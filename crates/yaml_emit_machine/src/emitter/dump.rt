@@ -1,13 +1,15 @@
 //! The events of a document.
 
-ghost use Rattle.std.specs.Prelude.{◌≡◌, ◌<◌, ◌∷◌, [], List, length, None, true, false};
+ghost use Rattle.std.specs.Prelude.{◌≡◌, ◌<◌, ◌∷◌, [], List, length, None, true, false, IsUtf8};
+ghost use Rattle.yaml_scan_model.specs.declared.yaml_scalar_style_t.{yaml_scalar_style_t};
 ghost use Rattle.yaml_parse_model.specs.Events.{body_of};
 ghost use Rattle.yaml_parse_model.specs.Constructors.{HasUtf8};
 ghost use Rattle.yaml_emit_layout.specs.Content.{emitter_event, Event};
 ghost use Rattle.yaml_emit_graph.specs.Graph.{dumped};
+ghost use Rattle.yaml_emit_graph.specs.Texts.{text_event};
 ghost use Rattle.yaml_emit_graph.specs.Events.{IsEvents, remaining_events};
 ghost use Rattle.yaml_emit_machine.specs.Emitter.{Keeps, left_if};
-ghost use Rattle.yaml_emit_machine.specs.Taking.{TakesEvents, TakesEarly, LaysAtOnce, Stuck, NotesMemory};
+ghost use Rattle.yaml_emit_machine.specs.Taking.{TakesEvents, TakesEarly, LaysAtOnce, AwaitsNode, Stuck, NotesMemory};
 ghost use Rattle.yaml_emit_machine.specs.Dumping.{DumpsAtOnce};
 
 use super::{answer, give, yaml_emitter_t};
@@ -101,6 +103,21 @@ impl yaml_emitter_t {
         self.is_right()
     }
 
+    // A text of the dump is laid out at once, with the default tag and without an anchor.
+    // Inlined into its one caller.
+    #[inline(always)]
+    fn dump_text(&mut self, value: &[u8]) -> bool
+        requires utf8 { IsUtf8 value.now }
+        requires once { LaysAtOnce self.old }
+        requires due { AwaitsNode self.old }
+        ensures { (style : yaml_scalar_style_t) → (before after : List Event)
+            → before ≡ text_event value.now style ∷ after
+            → DumpsAtOnce self.old self.new result before after }
+    {
+        self.lay_text_at_once(value);
+        self.is_right()
+    }
+
     // Whether an event was laid out at once, by way of a slot that is lent, and no fault has come.
     fn dump_next_early(
         &mut self,
@@ -127,6 +144,56 @@ impl yaml_emitter_t {
         }
     }
 
+    // The same: a text goes without a slot.
+    // Inlined into its one caller.
+    #[inline(always)]
+    fn dump_text_early(
+        &mut self,
+        events: &mut Events,
+        document: &yaml_document_t,
+        event: &mut yaml_event_body_t,
+    ) -> bool
+        requires walk { IsEvents document.now events.old }
+        requires once { LaysAtOnce self.old }
+        requires due { AwaitsNode self.old }
+        ensures early { DumpsAtOnce self.old self.new result
+            (remaining_events document.now events.old)
+            (remaining_events document.now events.new) }
+        ensures walk { result ≡ true → IsEvents document.now events.new }
+        ensures less { result ≡ true → length (remaining_events document.now events.new)
+            < length (remaining_events document.now events.old) }
+    {
+        match events.next_text(document) {
+            Some(value) => self.dump_text(value),
+            None => self.dump_next_early(events, document, event),
+        }
+    }
+
+    // The same, by whether a node is due.
+    // Inlined into the loop.
+    #[inline(always)]
+    fn dump_some_early(
+        &mut self,
+        events: &mut Events,
+        document: &yaml_document_t,
+        event: &mut yaml_event_body_t,
+    ) -> bool
+        requires walk { IsEvents document.now events.old }
+        requires once { LaysAtOnce self.old }
+        ensures early { DumpsAtOnce self.old self.new result
+            (remaining_events document.now events.old)
+            (remaining_events document.now events.new) }
+        ensures walk { result ≡ true → IsEvents document.now events.new }
+        ensures less { result ≡ true → length (remaining_events document.now events.new)
+            < length (remaining_events document.now events.old) }
+    {
+        if self.awaits_node() {
+            self.dump_text_early(events, document, event)
+        } else {
+            self.dump_next_early(events, document, event)
+        }
+    }
+
     // In canonical form, where none is held.
     fn dump_events_early(&mut self, events: Events, document: &yaml_document_t)
         requires walk { IsEvents document.now events }
@@ -137,7 +204,7 @@ impl yaml_emitter_t {
     {
         let mut events = events;
         let mut event = yaml_event_body_t::No;
-        while self.dump_next_early(&mut events, document, &mut event) {}
+        while self.dump_some_early(&mut events, document, &mut event) {}
     }
 
     // All events of a document.

@@ -11,7 +11,7 @@ loop-init c = record {
 
 pub loop-preserved : goal.loop-preserved
 loop-preserved c =
-    let turn = c.dump_next_early.ensures in
+    let turn = c.dump_some_early.ensures in
     let early = rw c.loop-test.true at turn.early in
     record {
       walk = turn.walk c.loop-test.true;
@@ -21,7 +21,7 @@ loop-preserved c =
 
 pub returns : goal.returns
 returns c =
-    let last = rw c.loop-test.false at c.dump_next_early.ensures.early in
+    let last = rw c.loop-test.false at c.dump_some_early.ensures.early in
     let all = dumps_on _ _ _ _ _ _ _ c.loop.invariant.early last in
     record {
       takes = all.takes;

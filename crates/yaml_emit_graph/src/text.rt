@@ -32,7 +32,7 @@ fn text_in(node: &yaml_node_t) -> Option<&[u8]>
     match &node.body {
         yaml_node_body_t::Scalar { value, .. } => {
             if is_default(&node.tag) {
-                Some(value)
+                Some(value.as_slice())
             } else {
                 None
             }

@@ -1,28 +1,39 @@
 #!/usr/bin/env python3
-"""Writes docs/EDITS.md: each must-fail edit, the function whose body it changes, and the meaning that it turns; and the
-public calls that have none.
+"""Writes docs/EDITS.md: each must-fail edit, the function whose body it changes, and the meaning that it turns; the lines that
+refuse what no edit turns; and the public calls that have no edit.
 
     tools/edits.py             writes the page
     tools/edits.py --check     writes nothing, and fails where the page differs
 
 Both fail where an `old:` text does not stand exactly once in its file.
 
-An edit says what it turns in a line `turns: TEXT`; where it has none, its name stands for it.
+An edit says what it turns in a line `turns: TEXT`; where it has none, its name stands for it. A line of the vectors that is named
+in an edit's place says it in a field `turns`.
 """
 import collections
 import glob
+import json
 import os
 import sys
 
 import repository as repo
 
 PAGE = "docs/EDITS.md"
+LINES = "crates/yaml_cli_vectors/stdin"
 HEAD = """# Must-fail edits
 
 Written by `tools/edits.py`; not by hand.
 
 Each line is a change of the code that the prover must refuse (`crates/CRATE/must-fail/EDIT.edit`), and the meaning that it turns: were it still proved, the contract would not say that meaning. A call is public where a member hands it out. 'Helper' marks functions that only a helper crate hands out, and 'private' the rest: their edits stand where no public call turns the same meaning.
 
+"""
+LINES_HEAD = f"""
+## By a line
+
+No clause says these, or the crate whose clauses do has no edit, since for a first one it would be proved twice. A line of `{LINES}` refuses each. That want of memory is told where none was met is refused by every line that wants an answer: no clause can say that memory is there.
+
+| call | line | the meaning that it turns |
+|---|---|---|
 """
 
 
@@ -99,6 +110,10 @@ def why_none(it):
         return "its type leaves no other value to hand back"
     if it.name == "yaml_parser_prefix":
         return "it lends the one place that it can lend; what stands there is turned at the calls that answer faults"
+    if it.name == "undefined_alias_fault":
+        return "what it answers is turned at `yaml_parser_load`"
+    if it.label == "RequestedSettings::new":
+        return "what an emitter begins with; `yaml_emitter_initialize` promises it"
     if it.name == "document_is_sound":
         return "a law: its body reads a field for the clause and does nothing"
     if it.name.endswith("_delete") and not it.contract():
@@ -118,6 +133,12 @@ def table(edits):
     return "| function | edit | the meaning that it turns |\n|---|---|---|\n" + "\n".join(lines) + "\n"
 
 
+def lines_named():
+    """The rows of the lines that are named in an edit's place."""
+    named = [json.loads(line) for line in repo.read(LINES).split("\n") if '"turns":' in line]
+    return "".join(f"| `{it['call']}` | {it['name']} | {it['turns']} |\n" for it in named)
+
+
 def page():
     edits = all_edits()
     counts = collections.Counter(rank(it.at) for it in edits)
@@ -126,6 +147,7 @@ def page():
         own = [it for it in edits if it.crate == crate]
         if own:
             text += f"\n## `{crate}`\n\n{table(own)}"
+    text += LINES_HEAD + lines_named()
     turned = {(it.crate, it.at.path, it.at.start) for it in edits if it.at}
     public = [it for it in repo.all_functions() if repo.is_public(it)]
     without = [it for it in public if (it.crate, it.path, it.start) not in turned]

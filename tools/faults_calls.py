@@ -76,6 +76,7 @@ LAYERS = {
     "emit_events": EMIT,
     "emit_calls": EMIT,
     "emit_limits": EMIT,
+    "emit_pieces": EMIT,
     "dump": EMIT,
     "told": {"Writer"},
     "line": {"Writer"},
@@ -91,8 +92,8 @@ UNTOLD = {
 }
 # These tell no layer: `lookup` answers the fault of the load as want of memory of the line.
 OTHERS = {"tokens", "lookup", *UNTOLD} - {*LAYERS}
-# These make a call again for each limit, so that the shortest line is enough.
-AGAIN = {"least_limit", "emit_limits"}
+# These make a call again for each limit, or for each size of pieces, so that the shortest line is enough.
+AGAIN = {"least_limit", "emit_limits", "emit_pieces"}
 # What an input has where one of these stands in it.
 MARKS = "&*!%|>\"'[{#"
 

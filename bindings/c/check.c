@@ -428,7 +428,7 @@ static void is_told(const yaml_c_parsed *parsed, const yaml_c_event *it)
     uint64_t len = parsed->bytes.len;
     EXPECT(it->kind >= YAML_C_STREAM_START_EVENT && it->kind <= YAML_C_MAPPING_END_EVENT);
     EXPECT(is_flag(it->implicit) && is_flag(it->quoted_implicit) && is_flag(it->has_version));
-    EXPECT(is_flag(it->has_anchor) && is_flag(it->has_tag));
+    EXPECT(is_flag(it->has_anchor) && (is_flag(it->has_tag) || (is_scalar && it->has_tag == 2 && is_nothing(it->tag))));
     EXPECT(is_node || (it->style == 0 && !it->has_anchor && !it->has_tag && is_nothing(it->tag)));
     EXPECT(is_node || it->kind == YAML_C_ALIAS_EVENT || is_nothing(it->anchor));
     EXPECT(is_scalar || (!it->quoted_implicit && is_nothing(it->value)));
@@ -485,6 +485,61 @@ static void fronts_are_told(void)
         }
         give_back(&r);
     }
+}
+
+/* Characters are counted in front of each mark, and a tag `!` that was left out of a scalar is told. */
+static void places_are_told(void)
+{
+    static const char text[] = "- \xC3\xA9: ! x\n- &a #!\n  !<!> \xC3\xB6\n- &b z\n- !t \xE2\x82\xAC\n- !\n";
+    static const int tags[] = {0, 2, 2, 0, 1, 1};
+    static const uint64_t starts[] = {2, 5, 11, 28, 35, 42}, ends[] = {3, 8, 25, 32, 39, 43};
+    yaml_c_parsed parsed;
+    yaml_c_answer answer, same;
+    yaml_c_settings settings;
+    int scalars = 0;
+    yaml_c_parsed_init(&parsed);
+    yaml_c_answer_init(&answer);
+    yaml_c_answer_init(&same);
+    yaml_c_defaults(&settings);
+    calls += 3;
+    EXPECT(yaml_c_parse((const uint8_t *)text, sizeof text - 1, 0, &parsed, &answer) == 0);
+    for (size_t i = 0; i < parsed.events_len; i++) {
+        const yaml_c_event *it = &parsed.events[i];
+        is_told(&parsed, it);
+        if (it->kind == YAML_C_SCALAR_EVENT) {
+            EXPECT(it->has_tag == tags[scalars] && it->start.character == starts[scalars] && it->end.character == ends[scalars]);
+            scalars++;
+        }
+    }
+    EXPECT(scalars == 6 && parsed.events[parsed.events_len - 1].end.character == 44);
+    EXPECT(yaml_c_emit(parsed.events, parsed.events_len, parsed.directives, parsed.directives_len, parsed.bytes.at, parsed.bytes.len,
+                       &settings, &answer) == 0);
+    EXPECT(yaml_c_same(answer.text.at, answer.text.len, 0, (const uint8_t *)text, sizeof text - 1, 0, &same) == 0 && same.is == 1);
+    yaml_c_answer_free(&answer);
+    yaml_c_answer_free(&same);
+    yaml_c_parsed_free(&parsed);
+}
+
+/* The same of tokens, of a fault's places, and of a text in UTF-16. */
+static void characters_are_counted(void)
+{
+    static const uint8_t wide[] = {0xFF, 0xFE, 0xE9, 0, ':', 0, ' ', 0, '!', 0, ' ', 0, 0x3D, 0xD8, 0x00, 0xDE, '\n', 0};
+    static const char fault[] = "\xEF\xBB\xBF\xC3\xA9: [\xC3\xB6";
+    records r;
+    init(&r);
+    calls += 3;
+    EXPECT(yaml_c_front(wide, sizeof wide, 0, &r.parsed, &r.answer) == 0 && r.parsed.events_len == 8);
+    EXPECT(r.parsed.events[4].has_tag == 2 && r.parsed.events[4].start.index == 4 && r.parsed.events[4].start.character == 3);
+    EXPECT(r.parsed.events[4].end.index == 10 && r.parsed.events[4].end.character == 6);
+    give_back(&r);
+    EXPECT(yaml_c_front((const uint8_t *)fault, sizeof fault - 1, 0, &r.parsed, &r.answer) == YAML_C_PARSER_ERROR);
+    EXPECT(r.answer.problem_mark.index == 7 && r.answer.problem_mark.character == 5);
+    EXPECT(r.answer.context_mark.index == 4 && r.answer.context_mark.character == 3);
+    give_back(&r);
+    EXPECT(yaml_c_scan((const uint8_t *)fault, sizeof fault - 1, 0, &r.scanned, &r.answer) == 0 && r.scanned.tokens_len == 8);
+    EXPECT(r.scanned.tokens[6].start.index == 5 && r.scanned.tokens[6].start.character == 4);
+    EXPECT(r.scanned.tokens[7].end.index == 7 && r.scanned.tokens[7].end.character == 5);
+    give_back(&r);
 }
 
 /* A text in UTF-16 with a byte order mark, and the same where the encoding is set and nothing is left out. */
@@ -758,6 +813,8 @@ int main(void)
     }
     events_are_told();
     fronts_are_told();
+    places_are_told();
+    characters_are_counted();
     decoded();
     normalized();
     for (int call = 0; call < CALL_NUMBER; call++)

@@ -67,7 +67,7 @@ static void show_event(const yaml_c_parsed *parsed, const yaml_c_event *event) {
         show_span("prefix", parsed, directive->prefix);
     }
     if (event->has_anchor || event->kind == YAML_C_ALIAS_EVENT) show_span("anchor", parsed, event->anchor);
-    if (event->has_tag) show_span("tag", parsed, event->tag);
+    if (event->has_tag == 1) show_span("tag", parsed, event->tag);
     if (event->kind == YAML_C_SCALAR_EVENT) show_span("value", parsed, event->value);
     putchar('\n');
 }

@@ -132,9 +132,11 @@ typedef struct {
 
 /* A place in a text. */
 typedef struct {
-    uint64_t index;  /* bytes of the decoded text (UTF-8) before the place */
-    uint64_t line;   /* line breaks before it */
-    uint64_t column; /* characters since the last line break */
+    uint64_t index;     /* bytes of the decoded text (UTF-8) before the place */
+    uint64_t line;      /* line breaks before it */
+    uint64_t column;    /* characters since the last line break */
+    uint64_t character; /* characters of the text before it; 0 in what other calls than yaml_c_parse, yaml_c_front and yaml_c_scan
+                         * answer */
 } yaml_c_mark;
 
 /* How an answer is written. Set by yaml_c_defaults, then changed as one likes. */
@@ -185,7 +187,7 @@ typedef struct {
 } yaml_c_directive;
 
 /* An event. What a kind doesn't name below is 0 in what is handed out, and yaml_c_emit doesn't look at it. Flags are 0
- * for no; any other number means yes, and what is handed out has 1. */
+ * for no; any other number means yes, but for 2 in `has_anchor` and `has_tag`, and what is handed out has 1. */
 typedef struct {
     int32_t kind;
     int32_t style;           /* of a scalar, and of the start of a sequence or mapping */
@@ -194,7 +196,7 @@ typedef struct {
                               * style; start of a sequence or mapping: the tag may be left out */
     int32_t quoted_implicit; /* scalar: the tag may be left out in the other styles */
     int32_t has_anchor;      /* scalar, start of a sequence or mapping: `anchor` is there */
-    int32_t has_tag;         /* likewise `tag` */
+    int32_t has_tag;         /* likewise `tag`; 2: none is, since a scalar's tag `!` was left out */
     int32_t has_version;     /* document's start: `major` and `minor` are those of a %YAML directive */
     int32_t major, minor;
     yaml_c_span directives;  /* document's start: its %TAG directives, of the list of directives */
@@ -445,7 +447,7 @@ static inline void yaml_c_parting_free(yaml_c_parting *parting) {
 
 /* No events. Before the first call with the record. */
 static inline void yaml_c_parsed_init(yaml_c_parsed *parsed) {
-    static const yaml_c_event no_event = {0, 0, 0, 0, 0, 0, 0, 0, 0, 0, {0, 0}, {0, 0}, {0, 0}, {0, 0}, {0, 0, 0}, {0, 0, 0}};
+    static const yaml_c_event no_event = {0, 0, 0, 0, 0, 0, 0, 0, 0, 0, {0, 0}, {0, 0}, {0, 0}, {0, 0}, {0, 0, 0, 0}, {0, 0, 0, 0}};
     static const yaml_c_directive no_directive = {{0, 0}, {0, 0}};
     parsed->events = &no_event;
     parsed->events_len = 0;
@@ -483,7 +485,7 @@ static inline void yaml_c_stand_free(yaml_c_stand *stand) {
 
 /* No tokens. Before the first call with the record. */
 static inline void yaml_c_scanned_init(yaml_c_scanned *scanned) {
-    static const yaml_c_token no_token = {0, 0, 0, 0, 0, {0, 0}, {0, 0}, {0, 0, 0}, {0, 0, 0}};
+    static const yaml_c_token no_token = {0, 0, 0, 0, 0, {0, 0}, {0, 0}, {0, 0, 0, 0}, {0, 0, 0, 0}};
     scanned->tokens = &no_token;
     scanned->tokens_len = 0;
     scanned->bytes.at = YAML_C_NOTHING;
@@ -532,17 +534,18 @@ static inline void yaml_c_spots_free(yaml_c_spots *spots) {
 #endif
 YAML_C_ASSERT(sizeof(size_t) == 8 && sizeof(void *) == 8);
 YAML_C_ASSERT(sizeof(yaml_c_bytes) == 16 && offsetof(yaml_c_bytes, len) == 8);
-YAML_C_ASSERT(sizeof(yaml_c_mark) == 24 && offsetof(yaml_c_mark, line) == 8 && offsetof(yaml_c_mark, column) == 16);
+YAML_C_ASSERT(sizeof(yaml_c_mark) == 32 && offsetof(yaml_c_mark, line) == 8 && offsetof(yaml_c_mark, column) == 16);
+YAML_C_ASSERT(offsetof(yaml_c_mark, character) == 24);
 YAML_C_ASSERT(sizeof(yaml_c_settings) == 32 && offsetof(yaml_c_settings, canonical) == 4);
 YAML_C_ASSERT(offsetof(yaml_c_settings, indent) == 8 && offsetof(yaml_c_settings, width) == 12);
 YAML_C_ASSERT(offsetof(yaml_c_settings, unicode) == 16 && offsetof(yaml_c_settings, line_break) == 20);
 YAML_C_ASSERT(offsetof(yaml_c_settings, limit) == 24);
-YAML_C_ASSERT(sizeof(yaml_c_answer) == 136 && offsetof(yaml_c_answer, is) == 4);
+YAML_C_ASSERT(sizeof(yaml_c_answer) == 152 && offsetof(yaml_c_answer, is) == 4);
 YAML_C_ASSERT(offsetof(yaml_c_answer, second) == 8 && offsetof(yaml_c_answer, value) == 12);
 YAML_C_ASSERT(offsetof(yaml_c_answer, offset) == 16 && offsetof(yaml_c_answer, problem_mark) == 24);
-YAML_C_ASSERT(offsetof(yaml_c_answer, context_mark) == 48 && offsetof(yaml_c_answer, problem) == 72);
-YAML_C_ASSERT(offsetof(yaml_c_answer, context) == 88 && offsetof(yaml_c_answer, text) == 104);
-YAML_C_ASSERT(offsetof(yaml_c_answer, line) == 120);
+YAML_C_ASSERT(offsetof(yaml_c_answer, context_mark) == 56 && offsetof(yaml_c_answer, problem) == 88);
+YAML_C_ASSERT(offsetof(yaml_c_answer, context) == 104 && offsetof(yaml_c_answer, text) == 120);
+YAML_C_ASSERT(offsetof(yaml_c_answer, line) == 136);
 YAML_C_ASSERT(sizeof(yaml_c_level) == 16 && offsetof(yaml_c_level, indent) == 8);
 YAML_C_ASSERT(sizeof(yaml_c_place) == 56 && offsetof(yaml_c_place, encoding) == 4);
 YAML_C_ASSERT(offsetof(yaml_c_place, implicit) == 8 && offsetof(yaml_c_place, white) == 12);
@@ -552,27 +555,27 @@ YAML_C_ASSERT(offsetof(yaml_c_place, innermost) == 40);
 YAML_C_ASSERT(sizeof(yaml_c_stand) == 104 && offsetof(yaml_c_stand, levels) == 56);
 YAML_C_ASSERT(offsetof(yaml_c_stand, levels_len) == 64 && offsetof(yaml_c_stand, directives) == 72);
 YAML_C_ASSERT(offsetof(yaml_c_stand, directives_len) == 80 && offsetof(yaml_c_stand, bytes) == 88);
-YAML_C_ASSERT(sizeof(yaml_c_parting) == 200 && offsetof(yaml_c_parting, document) == 136);
-YAML_C_ASSERT(offsetof(yaml_c_parting, first_kind) == 144 && offsetof(yaml_c_parting, second_kind) == 148);
-YAML_C_ASSERT(offsetof(yaml_c_parting, first_mark) == 152 && offsetof(yaml_c_parting, second_mark) == 176);
+YAML_C_ASSERT(sizeof(yaml_c_parting) == 232 && offsetof(yaml_c_parting, document) == 152);
+YAML_C_ASSERT(offsetof(yaml_c_parting, first_kind) == 160 && offsetof(yaml_c_parting, second_kind) == 164);
+YAML_C_ASSERT(offsetof(yaml_c_parting, first_mark) == 168 && offsetof(yaml_c_parting, second_mark) == 200);
 YAML_C_ASSERT(sizeof(yaml_c_span) == 16 && offsetof(yaml_c_span, len) == 8);
 YAML_C_ASSERT(sizeof(yaml_c_directive) == 32 && offsetof(yaml_c_directive, prefix) == 16);
-YAML_C_ASSERT(sizeof(yaml_c_event) == 152 && offsetof(yaml_c_event, style) == 4);
+YAML_C_ASSERT(sizeof(yaml_c_event) == 168 && offsetof(yaml_c_event, style) == 4);
 YAML_C_ASSERT(offsetof(yaml_c_event, encoding) == 8 && offsetof(yaml_c_event, implicit) == 12);
 YAML_C_ASSERT(offsetof(yaml_c_event, quoted_implicit) == 16 && offsetof(yaml_c_event, has_anchor) == 20);
 YAML_C_ASSERT(offsetof(yaml_c_event, has_tag) == 24 && offsetof(yaml_c_event, has_version) == 28);
 YAML_C_ASSERT(offsetof(yaml_c_event, major) == 32 && offsetof(yaml_c_event, minor) == 36);
 YAML_C_ASSERT(offsetof(yaml_c_event, directives) == 40 && offsetof(yaml_c_event, anchor) == 56);
 YAML_C_ASSERT(offsetof(yaml_c_event, tag) == 72 && offsetof(yaml_c_event, value) == 88);
-YAML_C_ASSERT(offsetof(yaml_c_event, start) == 104 && offsetof(yaml_c_event, end) == 128);
+YAML_C_ASSERT(offsetof(yaml_c_event, start) == 104 && offsetof(yaml_c_event, end) == 136);
 YAML_C_ASSERT(sizeof(yaml_c_parsed) == 48 && offsetof(yaml_c_parsed, events_len) == 8);
 YAML_C_ASSERT(offsetof(yaml_c_parsed, directives) == 16 && offsetof(yaml_c_parsed, directives_len) == 24);
 YAML_C_ASSERT(offsetof(yaml_c_parsed, bytes) == 32);
-YAML_C_ASSERT(sizeof(yaml_c_token) == 104 && offsetof(yaml_c_token, style) == 4);
+YAML_C_ASSERT(sizeof(yaml_c_token) == 120 && offsetof(yaml_c_token, style) == 4);
 YAML_C_ASSERT(offsetof(yaml_c_token, encoding) == 8 && offsetof(yaml_c_token, major) == 12);
 YAML_C_ASSERT(offsetof(yaml_c_token, minor) == 16 && offsetof(yaml_c_token, handle) == 24);
 YAML_C_ASSERT(offsetof(yaml_c_token, value) == 40 && offsetof(yaml_c_token, start) == 56);
-YAML_C_ASSERT(offsetof(yaml_c_token, end) == 80);
+YAML_C_ASSERT(offsetof(yaml_c_token, end) == 88);
 YAML_C_ASSERT(sizeof(yaml_c_scanned) == 32 && offsetof(yaml_c_scanned, tokens_len) == 8);
 YAML_C_ASSERT(offsetof(yaml_c_scanned, bytes) == 16);
 YAML_C_ASSERT(sizeof(yaml_c_node) == 24 && offsetof(yaml_c_node, first) == 8 && offsetof(yaml_c_node, count) == 16);

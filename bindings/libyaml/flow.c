@@ -122,8 +122,8 @@ void layer_leave_flow(layer_reading *reading)
 {
     for (size_t i = 0; i < reading->opens_len; i++)
         if (reading->opens[i].start.index >= reading->stand_in)
-            reading->opens[i].mark = layer_mark(reading, reading->opens[i].start);
-    yaml_mark_t end = layer_mark(reading, reading->root);
+            reading->opens[i].mark = layer_mark(reading, &reading->opens[i].start);
+    yaml_mark_t end = layer_mark(reading, &reading->root);
     reading->chars_before = end.index;
     reading->lines_before = end.line;
     reading->column_before = end.column;

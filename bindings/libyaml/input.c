@@ -1,4 +1,4 @@
-/* What a parser reads, and the text that it is: marks count its characters, and the tag `!` is looked for in it. */
+/* What a parser reads, in windows, and where they stand in the input. */
 #include "layer.h"
 
 static int read_string(void *data, unsigned char *buffer, size_t size, size_t *size_read)
@@ -46,33 +46,6 @@ YAML_DECLARE(void) yaml_parser_set_encoding(yaml_parser_t *parser, yaml_encoding
 {
     assert(parser && !parser->encoding);
     parser->encoding = encoding;
-}
-
-/* ---- marks, which go forward but for a few characters, so that all of them are counted in one pass */
-
-static size_t characters_before(layer_reading *reading, uint64_t byte)
-{
-    const uint8_t *text = reading->text;
-    if (reading->is_ascii)
-        return byte;
-    if (byte > reading->text_len)
-        byte = reading->text_len;
-    for (; reading->at_byte < byte; reading->at_byte++)
-        reading->at_char += (text[reading->at_byte] & 0xC0) != 0x80;
-    for (; reading->at_byte > byte; reading->at_byte--)
-        reading->at_char -= (text[reading->at_byte - 1] & 0xC0) != 0x80;
-    return reading->at_char;
-}
-
-yaml_mark_t layer_mark(layer_reading *reading, yaml_c_mark mark)
-{
-    if (mark.index < reading->stand_in) /* of the stand-in the beginnings of collections are named alone */
-        return reading->within == LAYER_FLOW ? layer_opened_at(reading, mark.index) : reading->root_mark;
-    yaml_mark_t found = {reading->chars_to_window + characters_before(reading, mark.index),
-                         reading->lines_to_window + mark.line, mark.column};
-    if (mark.line == reading->first_line)
-        found.column += reading->column_before;
-    return found;
 }
 
 /* ---- windows */
@@ -255,8 +228,8 @@ static void leave_places(layer_reading *reading)
         return;
     }
     if (reading->cut_in && !reading->within)
-        reading->root_mark = layer_mark(reading, reading->root);
-    reading->chars_before = reading->chars_to_window + characters_before(reading, reading->text_len);
+        reading->root_mark = layer_mark(reading, &reading->root);
+    reading->chars_before = reading->chars_to_window + reading->chars;
     reading->lines_before = reading->lines_to_window + reading->lines;
 }
 
@@ -265,7 +238,6 @@ static void leave_window(layer_reading *reading)
 {
     leave_places(reading);
     reading->bytes_before += reading->len;
-    reading->at_byte = reading->at_char = 0;
     reading->given -= reading->len;
     reading->checked -= reading->checked < reading->len ? reading->checked : reading->len;
     if (!reading->input.len) {
@@ -284,6 +256,7 @@ static void begin(yaml_parser_t *parser, layer_reading *reading)
 {
     assert(parser->read_handler);
     reading->bytes = YAML_C_NOTHING;
+    reading->set = parser->encoding;
     if (parser->read_handler != read_string)
         return;
     parser->eof = 1;
@@ -309,13 +282,13 @@ int layer_is_doubtful(const layer_reading *reading)
         return 0;
     if (reading->is_wrong)
         return answer->kind != YAML_C_READER_ERROR;
-    /* where a fault stands is where it was found, and what stands further on was looked at by then in no more than that */
-    return is_placed && answer->problem_mark.index + 8 > reading->read_len;
+    /* where a fault stands is where it was found, and what stands further on was looked at by then in no more than 8
+     * bytes; between documents laws ask for less, but for the line `...` and a byte order mark (window.c) */
+    return is_placed && answer->problem_mark.index + 16 > reading->read_len;
 }
 
-/* ---- the decoded text: the input behind its byte order mark, and of UTF-16 what the core decodes */
+/* ---- the encoding that the core found, where it came so far */
 
-/* The encoding that the core found, where it came so far. */
 static yaml_encoding_t encoding_of(const layer_reading *reading, yaml_encoding_t set)
 {
     if (reading->bytes_before)
@@ -325,38 +298,28 @@ static yaml_encoding_t encoding_of(const layer_reading *reading, yaml_encoding_t
     return (yaml_encoding_t)(reading->asked == LAYER_EVENTS ? reading->events[0].encoding : reading->scanned.tokens[0].encoding);
 }
 
-int layer_decode(yaml_parser_t *parser, layer_reading *reading)
+void layer_tell_encoding(yaml_parser_t *parser, const layer_reading *reading)
 {
-    yaml_encoding_t set = parser->encoding;
-    reading->text = reading->read;
-    reading->text_len = reading->read_len;
-    parser->encoding = encoding_of(reading, set);
-    if (parser->encoding == YAML_UTF16LE_ENCODING || parser->encoding == YAML_UTF16BE_ENCODING) {
-        yaml_c_answer *decoded = &reading->decoded;
-        if (yaml_c_decode(reading->bytes, reading->len, (int32_t)set, decoded) == YAML_C_MEMORY_ERROR)
-            return layer_no_memory(parser);
-        reading->text = decoded->text.at;
-        reading->text_len = decoded->text.len;
-    } else if (!set && !reading->bytes_before && has_utf8_mark(reading)) {
-        reading->text += 3;
-        reading->text_len -= 3;
-    }
-    reading->is_ascii = layer_is_ascii(reading->text, reading->text_len);
-    return 1;
+    parser->encoding = encoding_of(reading, parser->encoding);
 }
 
 /* ---- the reader's buffer, at which libyaml's own test of its reader looks */
 
 static int serve(yaml_parser_t *parser, const layer_reading *reading)
 {
-    yaml_char_t *copy = layer_copy(reading->text, reading->text_len);
-    if (!copy)
+    yaml_c_answer decoded;
+    yaml_c_answer_init(&decoded);
+    if (yaml_c_decode(reading->bytes, reading->len, (int32_t)reading->set, &decoded) == YAML_C_MEMORY_ERROR)
         return layer_no_memory(parser);
-    parser->buffer.start = parser->buffer.pointer = copy;
-    parser->buffer.last = parser->buffer.end = copy + reading->text_len;
-    for (size_t i = 0; i < reading->text_len; i++)
-        parser->unread += (copy[i] & 0xC0) != 0x80;
-    return 1;
+    yaml_char_t *copy = layer_copy(decoded.text.at, decoded.text.len);
+    if (copy) {
+        parser->buffer.start = parser->buffer.pointer = copy;
+        parser->buffer.last = parser->buffer.end = copy + decoded.text.len;
+        for (size_t i = 0; i < decoded.text.len; i++)
+            parser->unread += (copy[i] & 0xC0) != 0x80;
+    }
+    yaml_c_answer_free(&decoded);
+    return copy ? 1 : layer_no_memory(parser);
 }
 
 YAML_DECLARE(int) yaml_parser_update_buffer(yaml_parser_t *parser, size_t length)

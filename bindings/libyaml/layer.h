@@ -168,15 +168,11 @@ enum layer_asked { LAYER_NOTHING, LAYER_EVENTS, LAYER_TOKENS };
 
 /* What a parser has read. The input is read in windows: whole documents, up to a cut, or items of a root, or all that is left. */
 typedef struct {
-    layer_bytes input;     /* what a handler gave, from the window on */
-    yaml_c_answer decoded; /* the window in UTF-8, where the input isn't */
-    const uint8_t *bytes;  /* what there is of the input from the window on, how much, and how much of it is the window */
+    layer_bytes input;    /* what a handler gave, from the window on */
+    const uint8_t *bytes; /* what there is of the input from the window on, how much, and how much of it is the window */
     size_t given;
     size_t len;
     size_t checked; /* by a handler: how much of it is known to be text */
-    const uint8_t *text; /* the window's text behind its byte order mark, and its length */
-    size_t text_len;
-    int is_ascii;
     enum layer_root within;   /* the root in which the window begins */
     enum layer_root cut_in;   /* and that in which it ends */
     size_t front;             /* of the window, in front of its first content */
@@ -193,6 +189,7 @@ typedef struct {
     size_t stand_in;
     size_t stand_in_events;
     int is_whole; /* the window is to be the whole input */
+    yaml_encoding_t set; /* the encoding that a caller set */
     int is_last;  /* the window ends with the input */
     int is_wrong; /* the window has a wrong byte, and ends with what was read by then */
     size_t bytes_before; /* of the input in front of the window, and of its text the characters and the lines */
@@ -202,9 +199,8 @@ typedef struct {
     size_t lines_to_window;
     size_t column_before; /* in flow style the window begins within a line, which is that line of what is parsed */
     size_t first_line;
-    size_t lines; /* of the window, where it isn't the last */
-    size_t at_byte; /* a place of the window's text, and the window's characters in front of it */
-    size_t at_char;
+    size_t lines; /* of the window, where it isn't the last, and of what is parsed the characters */
+    size_t chars;
     enum layer_asked asked;
     yaml_c_parsed parsed; /* without its events */
     yaml_c_answer answer;
@@ -224,7 +220,6 @@ int layer_asks(yaml_parser_t *parser, layer_reading *reading, enum layer_asked a
 /* Tells the input's fault. Answers 0. */
 int layer_fault(yaml_parser_t *parser, layer_reading *reading);
 int layer_no_memory(yaml_parser_t *parser);
-yaml_mark_t layer_mark(layer_reading *reading, yaml_c_mark mark);
 /* Cuts what was parsed of a document in flow style, whose events end there. 0: it can't be cut. */
 int layer_cut_in_flow(layer_reading *reading);
 /* Puts the places of that cut right. */
@@ -233,14 +228,23 @@ void layer_leave_flow(layer_reading *reading);
 int layer_put_opens(layer_reading *reading);
 /* The place of what begins in the stand-in there. */
 yaml_mark_t layer_opened_at(const layer_reading *reading, uint64_t index);
+/* A place of what is parsed, as one of the input. Of the stand-in the beginnings of collections are named alone. */
+static inline yaml_mark_t layer_mark(const layer_reading *reading, const yaml_c_mark *mark)
+{
+    if (mark->index < reading->stand_in)
+        return reading->within == LAYER_FLOW ? layer_opened_at(reading, mark->index) : reading->root_mark;
+    size_t column = mark->column + (mark->line == reading->first_line ? reading->column_before : 0);
+    yaml_mark_t found = {reading->chars_to_window + mark->character, reading->lines_to_window + mark->line, column};
+    return found;
+}
 /* Goes on to the next window. 0: the parser tells why. */
 int layer_next_window(yaml_parser_t *parser, layer_reading *reading);
 /* Has the window end further on: with its document, where it ends within one, or with the input. 0: the parser tells why. */
 int layer_widen(yaml_parser_t *parser, layer_reading *reading);
 /* Whether the input may go on in another way than the window tells: it ends at a cut, and its fault may be due to that. */
 int layer_is_doubtful(const layer_reading *reading);
-/* Finds the encoding and the window's text. 0: memory was refused. */
-int layer_decode(yaml_parser_t *parser, layer_reading *reading);
+/* Tells the encoding that the core found. */
+void layer_tell_encoding(yaml_parser_t *parser, const layer_reading *reading);
 /* The last place behind `from` at which an input of that length can be cut; 0: none is known by now. */
 size_t layer_last_cut(const uint8_t *text, size_t len, size_t from);
 /* The root with which a document may begin, behind `from`, which is moved on behind comments and `---`. */

@@ -18,7 +18,6 @@ YAML_DECLARE(int) yaml_parser_initialize(yaml_parser_t *parser)
     yaml_c_parsed_init(&reading->parsed);
     yaml_c_scanned_init(&reading->scanned);
     yaml_c_answer_init(&reading->answer);
-    yaml_c_answer_init(&reading->decoded);
     LAYER_SET_STATE(parser, reading);
     return 1;
 }
@@ -31,7 +30,6 @@ YAML_DECLARE(void) yaml_parser_delete(yaml_parser_t *parser)
         yaml_c_parsed_free(&reading->parsed);
         yaml_c_scanned_free(&reading->scanned);
         yaml_c_answer_free(&reading->answer);
-        yaml_c_answer_free(&reading->decoded);
         free(reading->events);
         free(reading->input.at);
         free(reading->joined.at);
@@ -77,6 +75,7 @@ static void take_events(layer_reading *reading)
         reading->end = len;
     if (!reading->is_last && reading->cut_in != LAYER_FLOW) {
         reading->lines = parsed->events[len - 1].start.line;
+        reading->chars = parsed->events[len - 1].start.character;
         reading->end -= reading->cut_in ? 3 : 1;
         if (reading->cut_in)
             reading->root = last_root(parsed)->start;
@@ -137,7 +136,8 @@ static int read_events(yaml_parser_t *parser, layer_reading *reading)
     reading->is_last |= reading->answer.kind != YAML_C_ANSWERED;
     if (reading->answer.kind != YAML_C_MEMORY_ERROR)
         take_events(reading);
-    return layer_decode(parser, reading);
+    layer_tell_encoding(parser, reading);
+    return 1;
 }
 
 int layer_asks(yaml_parser_t *parser, layer_reading *reading, enum layer_asked asked)
@@ -178,10 +178,10 @@ int layer_fault(yaml_parser_t *parser, layer_reading *reading)
     parser->problem_offset = answer->kind == YAML_C_READER_ERROR ? reading->bytes_before - reading->stand_in + answer->offset : 0;
     parser->problem_value = answer->value;
     if (parser->error != YAML_READER_ERROR) {
-        parser->problem_mark = layer_mark(reading, answer->problem_mark);
+        parser->problem_mark = layer_mark(reading, &answer->problem_mark);
         /* a scanner's fault has that mark without a context too */
         if (answer->context.len || answer->kind == YAML_C_SCANNER_ERROR)
-            parser->context_mark = layer_mark(reading, answer->context_mark);
+            parser->context_mark = layer_mark(reading, &answer->context_mark);
         parser->mark = parser->problem_mark;
     }
     return 0;
@@ -194,63 +194,18 @@ static int copied(const layer_reading *reading, yaml_char_t **to, yaml_c_span sp
     return (*to = layer_copy(reading->parsed.bytes.at + span.at, span.len)) != NULL;
 }
 
+/* The tag of a node that has one. That of a scalar which is `!` is left out of its record. */
+static int tag_copied(const layer_reading *reading, const yaml_c_event *it, yaml_char_t **tag)
+{
+    return it->has_tag == 2 ? (*tag = layer_copy("!", 1)) != NULL : copied(reading, tag, it->tag);
+}
+
 /* The anchor and the tag of a node, which most have none of. */
 static inline int properties_copied(const layer_reading *reading, const yaml_c_event *it, yaml_char_t **anchor, yaml_char_t **tag)
 {
     if (!(it->has_anchor | it->has_tag))
         return 1;
-    return (!it->has_anchor || copied(reading, anchor, it->anchor)) && (!it->has_tag || copied(reading, tag, it->tag));
-}
-
-/* How many bytes a line break has that stands there; 0: none does. */
-static size_t break_width(const uint8_t *at, const uint8_t *end)
-{
-    if (*at == '\r' || *at == '\n')
-        return 1;
-    if (end - at >= 2 && at[0] == 0xC2 && at[1] == 0x85)
-        return 2;
-    return end - at >= 3 && at[0] == 0xE2 && at[1] == 0x80 && (at[2] == 0xA8 || at[2] == 0xA9) ? 3 : 0;
-}
-
-static int is_gap(const uint8_t *at, const uint8_t *end)
-{
-    return at == end || *at == ' ' || *at == '\t' || break_width(at, end);
-}
-
-/* Behind blanks, line breaks and comments. */
-static const uint8_t *skip_gap(const uint8_t *at, const uint8_t *end)
-{
-    for (int is_comment = 0; at < end && (is_comment || *at == '#' || is_gap(at, end));) {
-        size_t width = break_width(at, end);
-        is_comment = !width && (is_comment || *at == '#');
-        at += width ? width : 1;
-    }
-    return at;
-}
-
-/* Whether a tag that means `!` stands there: `!`, or spelled out. */
-static int is_bang(const uint8_t *at, const uint8_t *end)
-{
-    size_t len = (size_t)(end - at);
-    if (!len || at[0] != '!')
-        return 0;
-    return is_gap(at + 1, end) || (len >= 4 && !memcmp(at, "!<!>", 4)) || (len >= 6 && !memcmp(at, "!<%21>", 6));
-}
-
-/* Whether a scalar has the tag `!`, which the core leaves out of its record. In the other styles the flags tell it; in plain
- * style the text does, where the tag stands first or behind an anchor. */
-static int has_bang(const layer_reading *reading, const yaml_c_event *it)
-{
-    if (it->has_tag || !it->implicit || it->quoted_implicit)
-        return 0;
-    if (it->style != YAML_C_PLAIN_SCALAR_STYLE)
-        return 1;
-    if (it->start.index >= reading->text_len || it->end.index > reading->text_len)
-        return 0;
-    const uint8_t *at = reading->text + it->start.index, *end = reading->text + it->end.index;
-    if (it->has_anchor && at < end && *at == '&' && it->anchor.len < (size_t)(end - at))
-        at = skip_gap(at + 1 + it->anchor.len, end);
-    return is_bang(at, end);
+    return (!it->has_anchor || copied(reading, anchor, it->anchor)) && (!it->has_tag || tag_copied(reading, it, tag));
 }
 
 static int scalar_made(const layer_reading *reading, const yaml_c_event *it, yaml_event_t *event)
@@ -259,8 +214,6 @@ static int scalar_made(const layer_reading *reading, const yaml_c_event *it, yam
     event->data.scalar.plain_implicit = it->implicit;
     event->data.scalar.quoted_implicit = it->quoted_implicit;
     event->data.scalar.style = (yaml_scalar_style_t)it->style;
-    if (has_bang(reading, it) && !(event->data.scalar.tag = layer_copy("!", 1)))
-        return 0;
     return properties_copied(reading, it, &event->data.scalar.anchor, &event->data.scalar.tag)
            && copied(reading, &event->data.scalar.value, it->value);
 }
@@ -325,15 +278,6 @@ static int misses_start(const layer_reading *reading)
     return reading->last == YAML_C_STREAM_START_EVENT && told->len == sizeof problem - 1 && !memcmp(told->at, problem, told->len);
 }
 
-static inline yaml_mark_t mark_of(layer_reading *reading, const yaml_c_mark *mark)
-{
-    if (!reading->is_ascii || mark->index < reading->stand_in)
-        return layer_mark(reading, *mark);
-    size_t column = mark->column + (mark->line == reading->first_line ? reading->column_before : 0);
-    yaml_mark_t found = {reading->chars_to_window + mark->index, reading->lines_to_window + mark->line, column};
-    return found;
-}
-
 /* Makes the event of a record. 0: memory was refused. */
 static int hand_out(yaml_parser_t *parser, layer_reading *reading, const yaml_c_event *it, yaml_event_t *event)
 {
@@ -343,8 +287,8 @@ static int hand_out(yaml_parser_t *parser, layer_reading *reading, const yaml_c_
         yaml_event_delete(event);
         return layer_no_memory(parser);
     }
-    event->start_mark = mark_of(reading, &it->start);
-    event->end_mark = mark_of(reading, &it->end);
+    event->start_mark = layer_mark(reading, &it->start);
+    event->end_mark = layer_mark(reading, &it->end);
     parser->mark = event->end_mark;
     parser->stream_start_produced = 1;
     parser->stream_end_produced = it->kind == YAML_C_STREAM_END_EVENT;

@@ -25,8 +25,11 @@ static void take_tokens(layer_reading *reading)
     size_t len = reading->scanned.tokens_len;
     reading->next = reading->bytes_before != 0;
     reading->end = len;
-    if (!reading->is_last && len)
-        reading->lines = reading->scanned.tokens[--reading->end].start.line;
+    if (!reading->is_last && len) {
+        const yaml_c_mark *end = &reading->scanned.tokens[--reading->end].start;
+        reading->lines = end->line;
+        reading->chars = end->character;
+    }
 }
 
 /* Reads the tokens of the next window, and where it may not tell what the input does, those of all that is left. */
@@ -47,7 +50,8 @@ static int read_tokens(yaml_parser_t *parser, layer_reading *reading)
     reading->is_last |= reading->answer.kind != YAML_C_ANSWERED;
     if (reading->answer.kind != YAML_C_MEMORY_ERROR)
         take_tokens(reading);
-    return layer_decode(parser, reading);
+    layer_tell_encoding(parser, reading);
+    return 1;
 }
 
 static int copied(const layer_reading *reading, yaml_char_t **to, yaml_c_span span)
@@ -109,8 +113,8 @@ YAML_DECLARE(int) yaml_parser_scan(yaml_parser_t *parser, yaml_token_t *token)
         yaml_token_delete(token);
         return layer_no_memory(parser);
     }
-    token->start_mark = layer_mark(reading, it->start);
-    token->end_mark = layer_mark(reading, it->end);
+    token->start_mark = layer_mark(reading, &it->start);
+    token->end_mark = layer_mark(reading, &it->end);
     parser->mark = token->end_mark;
     parser->stream_start_produced = 1;
     parser->stream_end_produced = it->kind == YAML_C_STREAM_END_TOKEN;

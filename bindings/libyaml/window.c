@@ -1,15 +1,20 @@
 /* Where an input is cut: between two documents, or within a long one.
  *
- * Between documents: what stands in front of a cut is parsed, or scanned, alone, and so is what stands
- * behind it: a line `---` at column 0 ends every token and every document, and the scanner and the parser are behind it as they
- * are at a stream's start, if the front has no fault. Where it has one at its end the cut counts for nothing
- * (layer_is_doubtful). Laws say so of the proved core: where a text is cut behind LF or CR in front of a line that begins with `---`
- * or `...`, and the front has no fault and no open bracket, the tokens of the whole are the front's without STREAM-END and then the
- * rest's without STREAM-START, moved by the front's bytes and lines, and its fault is the rest's, moved (windows_are_scanned of
- * yaml_scan_laws_windows); and where that line is `---` and the front is accepted, so are the events, and so is the rest's fault
- * or that it is accepted (windows_are_read of yaml_round_laws_windows). Where the front is refused, but not by the scanner, and
- * has no open bracket, nor directives at its end, the whole has its events and its fault (refused_fronts_are_read). No law says
- * anything of texts that are cut in front of directives; of tokens one does (directives_are_parsed of yaml_parse_laws_windows).
+ * Between documents: in front of a line `---` at column 0, or, where that document has directives, behind the line `...` in front of
+ * them. What stands in front of a cut is parsed, or scanned, alone, and so is what stands behind it. Laws say of the proved core that
+ * the whole is the same:
+ *
+ * - Where the front is accepted, the events of the whole are the front's without STREAM-END and then the rest's without STREAM-START,
+ *   moved by the front's bytes and lines, and the whole is accepted or has the rest's fault, moved (windows_are_read of
+ *   yaml_round_laws_windows); so are tokens, where the front has no fault and no open bracket (windows_are_scanned and
+ *   ended_windows_are_scanned of yaml_scan_laws_windows). What they ask of a cut: it stands behind LF, in front of a line that begins
+ *   with `---`; or behind a line of `...`, blanks and breaks, which ends in LF, where of what follows `%` at column 0 comes first,
+ *   behind spaces, breaks and comments. cut_before and is_document_start see to it.
+ * - Where the front is refused, by the scanner or the parser, with a fault in front of its end, or of the line `...` that ends it, the
+ *   whole has its events and its fault (early_faults_are_read, ended_faults_are_read); where the fault is the scanner's, and the cut
+ *   stands in front of `---`, it has its tokens too (refused_fronts_are_scanned). layer_is_doubtful sees to that place: where a fault
+ *   stands nearer to the end than 16 bytes, 3 of which may be a byte order mark and 8 that line, the cut counts for nothing. It does
+ *   so too where tokens leave a bracket open (tokens.c). No law speaks of the tokens of a front with a fault that ends in `...`.
  *
  * Within a document, where its root is a block collection at column 0, without anchor, tag and directives: in front of an item at
  * column 0. What stands behind it is parsed behind a stand-in, a root of that kind with one item; of both the events of what
@@ -27,10 +32,10 @@ static int is_document_start(const uint8_t *text, size_t len, size_t at)
     return at + 3 < len && !memcmp(text + at, "---", 3) && is_blank_or_break(text[at + 3]);
 }
 
-/* Whether a line is `...` and nothing else. */
+/* Whether a line is `...` and nothing else, and so short that a fault in it is one at the window's end (layer_is_doubtful). */
 static int is_document_end(const uint8_t *text, size_t at, size_t end)
 {
-    if (end - at < 4 || memcmp(text + at, "...", 3))
+    if (end - at < 4 || end - at > 8 || memcmp(text + at, "...", 3))
         return 0;
     for (at += 3; at < end; at++)
         if (!is_blank_or_break(text[at]))
@@ -38,11 +43,20 @@ static int is_document_end(const uint8_t *text, size_t at, size_t end)
     return 1;
 }
 
-/* What a line begins with, behind blanks where that is a comment or a break. */
+/* Whether a line has no break but at its end, as far as ASCII tells: behind CR, NEL, LS or PS no comment goes on. */
+static int is_one_line(const uint8_t *text, size_t at, size_t end)
+{
+    for (; at + 1 < end; at++)
+        if (text[at] >= 0x80 || (text[at] == '\r' && at + 2 < end))
+            return 0;
+    return 1;
+}
+
+/* What a line begins with, behind spaces where that is a comment or its break. A tab begins no lexeme there. */
 static uint8_t first_of(const uint8_t *text, size_t at, size_t end)
 {
     uint8_t first = text[at];
-    while (at + 1 < end && text[at] != '\n' && is_blank_or_break(text[at]))
+    while (at + 1 < end && (text[at] == ' ' || (text[at] == '\r' && at + 2 == end)))
         at++;
     return text[at] == '#' || text[at] == '\n' ? text[at] : first;
 }
@@ -51,15 +65,16 @@ static uint8_t first_of(const uint8_t *text, size_t at, size_t end)
 static size_t cut_before(const uint8_t *text, size_t mark)
 {
     size_t end = mark;
-    int has_directives = 0;
+    int has_directives = 0, has_lines = 1;
     while (end > 0) {
         size_t at = end - 1; /* the line's LF */
         while (at > 0 && text[at - 1] != '\n')
             at--;
         uint8_t first = first_of(text, at, end);
         if (first != '#' && first != '\n' && first != '%')
-            return !has_directives ? mark : is_document_end(text, at, end) ? end : 0;
+            return !has_directives ? mark : has_lines && is_document_end(text, at, end) ? end : 0;
         has_directives |= first == '%';
+        has_lines &= is_one_line(text, at, end);
         end = at;
     }
     return 0;

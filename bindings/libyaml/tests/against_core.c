@@ -40,7 +40,8 @@ static int is_utf16(void)
 
 static int is_mark(yaml_mark_t mark, yaml_c_mark of)
 {
-    return mark.line == of.line && mark.column == of.column && (is_utf16() || mark.index == characters(of.index));
+    return mark.line == of.line && mark.column == of.column && mark.index == of.character
+           && (is_utf16() || mark.index == characters(of.index));
 }
 
 static int is_text(const yaml_char_t *text, yaml_c_span span)
@@ -69,9 +70,10 @@ static void document_start_is(const yaml_event_t *e, const yaml_c_event *c)
 static void scalar_is(const yaml_event_t *e, const yaml_c_event *c)
 {
     const yaml_char_t *tag = e->data.scalar.tag;
-    int is_bang = tag && !c->has_tag && !strcmp((const char *)tag, "!"); /* the core leaves it out */
+    int is_bang = c->has_tag == 2; /* the core leaves it out */
     EXPECT(is_text_if(e->data.scalar.anchor, c->has_anchor, c->anchor));
-    EXPECT(is_bang ? c->implicit && !c->quoted_implicit : is_text_if(tag, c->has_tag, c->tag));
+    EXPECT(is_bang ? tag && !strcmp((const char *)tag, "!") && c->implicit && !c->quoted_implicit
+                   : is_text_if(tag, c->has_tag, c->tag));
     EXPECT(e->data.scalar.length == c->value.len && is_text(e->data.scalar.value, c->value));
     EXPECT(e->data.scalar.plain_implicit == c->implicit && e->data.scalar.quoted_implicit == c->quoted_implicit);
     EXPECT((int)e->data.scalar.style == c->style);
@@ -282,13 +284,12 @@ static size_t emit(const how *h, int flush)
     return len;
 }
 
-/* Whether some scalar has the tag `!` in libyaml's events, of which the core's records say nothing. */
+/* Whether some scalar has the tag `!` in libyaml's events, which the core leaves out. */
 static int has_bang(void)
 {
     for (size_t i = 0; i < parsed.events_len; i++) {
         const yaml_c_event *it = &parsed.events[i];
-        if (it->kind == YAML_C_SCALAR_EVENT && !it->has_tag && it->implicit && !it->quoted_implicit
-            && memchr(input, '!', input_len))
+        if (it->kind == YAML_C_SCALAR_EVENT && it->has_tag == 2)
             return 1;
     }
     return 0;

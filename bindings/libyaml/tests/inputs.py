@@ -31,6 +31,8 @@ CUT = [
     b"[a,\n{b: c,\nd: [e,\nf], 'g':\nh},\n[i,\nj]: k,\n? l : m,\nn\n,o # p\n, q]\n", b"{a: [b,\nc,\nd],\ne,\n? [f,\ng]: h,\ni: {j:\n\nk},\nl: m}: n\n",
     b"--- [a,\n[[b,\nc],\n{d: e}, f],\n\xc3\xa9, g\n, h\n--- i\n", b"[a,\nb,\n&c [d,\ne], !f [g,\nh],\n{i: &j {k: l,\nm: n},\no: p},\nq,\n{r: s,\nt: u\n",
     b"a:\n- b\n- &c\n  - d\n  - e\n- {f: g, h: [i]}\n- []\n- |\n  j\n- k: >-\n    l\n  m: n\no: p\n",
+    b"a: b\n...\n# c\rd: e\n%YAML 1.1\n---\nf\n", b"a: b\n...\n# c\xc2\x85d: e\n%YAML 1.1\n---\nf\n", b"a: b\n...\n# c\xe2\x80\xa8d\n%YAML 1.1\n---\ne\n",
+    b"a: b\n...\n \t\n%YAML 1.1\n---\nc\n", b"a: b\n...\t \r\n  # c\r\n \r\n%YAML 1.1\r\n---\r\nd\r\n", b"a: [b\n...\n%YAML 1.1\n---\nc\n",
 ]
 
 

@@ -89,7 +89,7 @@ class Layout(unittest.TestCase):
         wanted |= {"start": _records.START, "end": _records.END}
         self.assertEqual((_records.ANCHOR, _records.VALUE), (wanted["anchor"], wanted["value"]))
         self.assertEqual({name: int(place) for name, place in places}, wanted)
-        self.assertEqual((struct.calcsize(_library.EVENT), struct.calcsize(_library.DIRECTIVE)), (152, 32))
+        self.assertEqual((struct.calcsize(_library.EVENT), struct.calcsize(_library.DIRECTIVE)), (168, 32))
 
 
 class Blocks(unittest.TestCase):

@@ -26,7 +26,7 @@ from ._records import Records
 _NUMBER_OF: dict[type, int] = {it: number for number, it in enumerate(KINDS, 1)}
 _NO_SPAN = (0, 0)
 # A record without its marks, which no call looks at.
-_RECORD = struct.Struct("=10i8Q48x")
+_RECORD = struct.Struct("=10i8Q64x")
 
 # A frozen event's own `__init__` asks at each field whether it may be set; where there are many, that is most of the time.
 _new: Any = object.__new__
@@ -75,11 +75,11 @@ def unpacked(records: Records) -> list[Event]:
     """The events of the records. An event has its marks as they stand in its record, until they are asked for."""
     found: list[Event] = []
     add, text, tags = found.append, records.text, records.directives()
-    for numbers, value in zip(records.column(0, "10i6Q16x48s"), records.values()):
+    for numbers, value in zip(records.column(0, "10i6Q16x64s"), records.values()):
         (kind, style, encoding, implicit, quoted, has_anchor, has_tag, has_version, major, minor, first, count,
          anchor_at, anchor_len, tag_at, tag_len, places) = numbers  # fmt: skip
         anchor = text(anchor_at, anchor_len) if anchor_len else None
-        tag = text(tag_at, tag_len) if has_tag else None
+        tag = text(tag_at, tag_len) if has_tag == 1 else None
         it: Any
         if kind == 6:
             it = _scalar(value, tag, anchor, style, implicit, quoted)

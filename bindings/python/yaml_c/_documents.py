@@ -119,14 +119,14 @@ def _composed(records: Records, text: tuple[bytes, int, int]) -> list[Node]:
     # the sequence or mapping that takes the next node, and in a mapping the key that waits for its value
     here: Any = None
     key: Any = None
-    columns = zip(records.column(0, "2i12x2i"), records.column(ANCHOR, "4Q16x48s"), records.values())
+    columns = zip(records.column(0, "2i12x2i"), records.column(ANCHOR, "4Q16x64s"), records.values())
     for number, ((kind, style, has_anchor, has_tag), (*spans, places), value) in enumerate(columns):
         if kind in _ENDS:
             here.end = records.mark(number, END)
             here, key = around.pop()
             continue
         if kind in _MADE:
-            tag = records.text(*spans[2:]) if has_tag else "!"
+            tag = records.text(*spans[2:]) if has_tag == 1 else "!"
             node = _node(kind, tag, style, value, places)
         elif kind == _ALIAS:
             node = _named(anchors, records.text(*spans[:2]), text)

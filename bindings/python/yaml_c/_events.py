@@ -55,7 +55,7 @@ class Placed:
         # only a field that isn't set yet comes here
         if name not in ("start", "end"):
             raise AttributeError(f"{type(self).__name__!r} object has no attribute {name!r}")
-        mark = Mark(*struct.unpack_from("=3Q", self._places, 0 if name == "start" else 24))
+        mark = Mark(*struct.unpack_from("=3Q", self._places, 0 if name == "start" else 32))
         object.__setattr__(self, name, mark)
         return mark
 

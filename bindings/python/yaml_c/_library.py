@@ -12,7 +12,7 @@ from typing import Any
 _HERE = os.path.dirname(os.path.abspath(__file__))
 _NAME = "libyaml_c.so"
 # How a record of an event, and one of a directive, is laid out: ten numbers, four spans and two marks; two spans.
-EVENT = "=10i14Q"
+EVENT = "=10i16Q"
 DIRECTIVE = "=4Q"
 
 
@@ -38,7 +38,7 @@ class Bytes(ctypes.Structure):
 class MarkRecord(ctypes.Structure):
     """A place."""
 
-    _fields_ = [(name, ctypes.c_uint64) for name in ("index", "line", "column")]
+    _fields_ = [(name, ctypes.c_uint64) for name in ("index", "line", "column", "character")]
 
 
 class SettingsRecord(ctypes.Structure):
@@ -154,10 +154,10 @@ def _call(name: str, *types: Any) -> Any:
 
 _SIZES = [
     (SettingsRecord, 32),
-    (AnswerRecord, 136),
-    (PartingRecord, 200),
+    (AnswerRecord, 152),
+    (PartingRecord, 232),
     (ParsedRecord, 48),
-    (MarkRecord, 24),
+    (MarkRecord, 32),
     (Bytes, 16),
 ]
 if any(ctypes.sizeof(it) != size for it, size in _SIZES):

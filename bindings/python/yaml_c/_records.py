@@ -10,7 +10,7 @@ from . import _library
 from ._faults import Mark
 
 #: Where a record has the span of its anchor, behind it that of its tag, that of its value, and its two marks.
-ANCHOR, VALUE, START, END = 56, 88, 104, 128
+ANCHOR, VALUE, START, END = 56, 88, 104, 136
 _SIZE = struct.calcsize(_library.EVENT)
 
 

@@ -4,7 +4,7 @@ use crate::checks;
 use crate::reading::{
     Asked, Source, decode, next_tokens, parse_calls, parse_line, scan, scan_calls,
 };
-use crate::writing::{Given, emit_limits, emit_line};
+use crate::writing::{Given, emit_limits, emit_line, emit_pieces};
 use serde_json::Value;
 use yaml_cli_vector_lines::{Reply, tokens};
 
@@ -20,6 +20,7 @@ pub fn answer_member(reply: &mut Reply, call: &str, line: &Value) {
         "emit_calls" => emit_line(reply, line, Given::Calls),
         "dump" => emit_line(reply, line, Given::Document),
         "emit_limits" => emit_limits::answer(reply, line),
+        "emit_pieces" => emit_pieces::answer(reply, line),
         "decode" => decode::answer(reply, line),
         "scan" => scan::answer(reply, line),
         "scan_calls" => scan_calls::answer(reply, line),

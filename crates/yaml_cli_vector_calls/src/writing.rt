@@ -1,4 +1,4 @@
-//! What the calls that write answer on a line: emit, emit_calls, emit_events, emit_limits and dump.
+//! What the calls that write answer on a line: emit, emit_calls, emit_events, emit_limits, emit_pieces and dump.
 
 mod asked;
 mod course;
@@ -7,6 +7,7 @@ mod emit;
 mod emit_calls;
 mod emit_events;
 pub mod emit_limits;
+pub mod emit_pieces;
 mod emitter;
 mod flushed;
 

@@ -3,4 +3,5 @@ pub mod Contents
 pub mod Counting
 pub mod Naming
 pub mod Leaving
+mod Plain
 pub mod Joining

@@ -1,15 +1,16 @@
 //! The events of a document's nodes.
 
-ghost use Rattle.std.specs.Prelude.{◌≡◌, IfOk, OnOk, IsUtf8, map};
+ghost use Rattle.std.specs.Prelude.{◌≡◌, IfOk, OnOk, IfSome, None, IsUtf8, map};
 ghost use Rattle.yaml_parse_model.specs.Constructors.{HasUtf8, IsUtf8Option};
 ghost use Rattle.yaml_parse_document.specs.Documents.{str_tag, seq_tag, map_tag};
 ghost use Rattle.yaml_parse_model.specs.Events.{body_of, text_of, directive_of};
 ghost use Rattle.yaml_parse_model.specs.Nodes.{node_of, tag_of};
 ghost use Rattle.yaml_emit_layout.specs.Content.{emitter_event, scalar, alias, sequence_start, mapping_start, document_start, is_flow_sequence, is_flow_mapping};
 ghost use Rattle.yaml_emit_graph.specs.Graph.{lead, name_of, anchor_of, is_text, graph_scalar, graph_start, opening_event, closing_event, body_of_id, tag_of_id, turn_event, graph_opening, dumped};
-ghost use Rattle.yaml_emit_graph.specs.Events.{remaining_events, IsEvents, Says, GivesGraphEvent, IsUtf8Body};
+ghost use Rattle.yaml_emit_graph.specs.Events.{remaining_events, IsEvents, Says, GivesGraphEvent, IsAhead, GivesText, IsUtf8Body};
 
 use crate::numbers::{Walked, number_of, walk_nodes};
+use crate::text::text_met;
 use crate::walk::Turn;
 use std::alloc::{AllocError, Global};
 use yaml_parse_document::{yaml_document_get_node, yaml_document_t};
@@ -336,7 +337,12 @@ fn put_node(
             event,
         ),
         yaml_node_body_t::Scalar { value, style } => put_scalar(
-            rooms, number, &node.tag, value, *style, event,
+            rooms,
+            number,
+            &node.tag,
+            value.as_slice(),
+            *style,
+            event,
         ),
         yaml_node_body_t::Sequence { style, .. } => put_sequence(
             rooms, number, &node.tag, *style, event,
@@ -422,6 +428,51 @@ fn put_turn(
 }
 
 impl Events {
+    // The value of the text whose turn comes next, if it is one with the default tag and without an anchor.
+    // Inlined: mostly a look at the node.
+    #[inline(always)]
+    fn text_ahead<'a>(&self, document: &'a yaml_document_t) -> Option<&'a [u8]>
+        requires { self.now.place ≡ Stage.Nodes }
+        ensures { IfSome result (λ v. IsAhead document.now self.now v.now) }
+    {
+        if self.given < self.turns.len() {
+            match text_met(&self.numbers, document, self.turns[self.given]) {
+                None => None,
+                Some(value) => Some(value),
+            }
+        } else {
+            None
+        }
+    }
+
+    // The same, wherever the walk is.
+    // Inlined: a test.
+    #[inline(always)]
+    fn text_to_come<'a>(&self, document: &'a yaml_document_t) -> Option<&'a [u8]>
+        ensures { IfSome result (λ v. IsAhead document.now self.now v.now) }
+    {
+        match self.place {
+            Stage::Nodes => self.text_ahead(document),
+            _ => None,
+        }
+    }
+
+    /// The value of the text that comes next, if it is one with the default tag and without an anchor: then it is given.
+    // Inlined: mostly a look at the node.
+    #[inline(always)]
+    pub fn next_text<'a>(&mut self, document: &'a yaml_document_t) -> Option<&'a [u8]>
+        ensures text { IfSome result (λ v. GivesText document.now self.old v.now self.new) }
+        ensures none { result ≡ None → self.new ≡ self.old }
+    {
+        match self.text_to_come(document) {
+            None => None,
+            Some(value) => {
+                self.given += 1;
+                Some(value)
+            }
+        }
+    }
+
     /// Before the document's start.
     pub fn of(alloc: Global, document: &yaml_document_t) -> Result<Events, AllocError>
         ensures { IfOk result (λ e. IsEvents document.now e

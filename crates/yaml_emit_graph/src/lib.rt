@@ -3,6 +3,7 @@
 
 mod graph;
 mod numbers;
+mod text;
 mod walk;
 
 pub use graph::Events;

@@ -26,8 +26,9 @@ use Rattle.yaml_emit_laws_text.specs.emit_layout.Nodes.{Context, is_simple_part,
 use Rattle.yaml_emit_laws_text.proofs.Back.{front_append}
 use Rattle.yaml_emit_laws_block.specs.Lines.{closing, NoWhite}
 use Rattle.yaml_emit_laws_block.specs.Laws.{is_keep, BlockStands, BlockReads, BlockIsReadBack, BlockBeforeLine, margin_round, block_style, BlockIsChosen, BlockAtSpot}
-use Rattle.yaml_emit_laws_block.proofs.Layouts.{start_at, after_blanks, line_is, start_is}
+use Rattle.yaml_emit_laws_block.proofs.Layouts.{start_at, line_is, start_is}
 use Rattle.yaml_emit_laws_block.proofs.Reading.{spaces_encode, length_spaces}
+use Rattle.yaml_emit_laws_text.proofs.Single.{after_blanks}
 
 -- ---- the line behind
 

@@ -1,9 +1,9 @@
 -- The column of a block scalar's text, by digit and without.
-use Rattle.std.proofs.Common.{◌≡◌, ◌≢◌, ℕ, zero, suc, ◌+◌, ◌-◌, ◌<◌, ◌≤◌, true, false, ◌==◌, List, length, replicate, Ok, refl, sym, ap, subst, ◌∙◌, arith, add-zero}
+use Rattle.std.proofs.Common.{◌≡◌, ◌≢◌, ℕ, zero, suc, ◌+◌, ◌-◌, ◌<◌, ◌≤◌, true, ◌==◌, List, length, replicate, Ok, refl, sym, ap, subst, ◌∙◌, arith, add-zero}
 use Rattle.std.proofs.lemmas.Bool.Decides.{nat_tests}
 use Rattle.yaml_scan_history.specs.scan_model.Marks.{byte, break_width, column_at}
 use Rattle.yaml_scan_history.specs.scan_model.Runs.{is_space_there, past_spaces}
-use Rattle.yaml_scan_history.proofs.RunsLemmas.{InRun, run_start, run_more, run_done}
+use Rattle.yaml_scan_history.proofs.RunsLemmas.{InRun, run_start, run_more, run_done, no_space}
 use Rattle.yaml_scan_history.proofs.HasLemmas.{Has}
 use Rattle.yaml_scan_block.specs.Block.{larger, column_of}
 use Rattle.yaml_scan_block.proofs.DepthLemmas.{depth_done, column_given, column_found}
@@ -11,9 +11,6 @@ use Rattle.yaml_emit_laws_block.proofs.Reading.{spaces_column}
 
 space_is : (b : ℕ) → b ≡ 32 → (b == 32) ≡ true
 space_is b h = grind (arith, nat_tests)
-
-no_space_is : (b : ℕ) → b ≢ 32 → (b == 32) ≡ false
-no_space_is b h = grind (arith, nat_tests)
 
 spaces_run : (k : ℕ) (text : List ℕ) (a p : ℕ) → Has text p (replicate k 32)
     → InRun is_space_there text a p → InRun is_space_there text a (p + k)
@@ -24,7 +21,7 @@ spaces_run (suc k) text a p (e, h) r =
 
 past_them : (k : ℕ) (text : List ℕ) (p : ℕ) → Has text p (replicate k 32) → byte text (p + k) ≢ 32
     → past_spaces text p ≡ p + k
-past_them k text p h e = run_done is_space_there text p (p + k) (spaces_run k text p p h (run_start is_space_there text p)) (no_space_is (byte text (p + k)) e)
+past_them k text p h e = run_done is_space_there text p (p + k) (spaces_run k text p p h (run_start is_space_there text p)) (no_space (byte text (p + k)) e)
 
 larger_is : (level n : ℕ) → level ≤ n → 0 < n → larger (larger level 1) n ≡ n
 unfolding larger

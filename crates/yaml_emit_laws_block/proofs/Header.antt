@@ -42,7 +42,7 @@ begins_too : (b : ℕ) → (b ≡ 13)
 unfolding is_digit_byte is_chomping chomp_at digit_of
 begins_too b e = rw e (refl, refl, refl, refl, (λ f. omega (arith, f)), refl, refl)
 
-no_text_there : (b w : ℕ) → 0 < w → not (b == 0 || nat_lt 0 w) ≡ false
+pub no_text_there : (b w : ℕ) → 0 < w → not (b == 0 || nat_lt 0 w) ≡ false
 no_text_there b w h = grind (arith, nat_tests)
 
 break_begins : (b : LineBreak) (text : List ℕ) (p : ℕ) → Has text p (break_text b)

@@ -1,5 +1,5 @@
 -- What the layout of a block scalar's body writes for a character.
-use Rattle.std.proofs.Common.{◌≡◌, ℕ, zero, suc, ◌-◌, Bool, true, false, not, ◌&&◌, ◌||◌, ◌==◌, nat_lt, List, [], ◌∷◌, ◌++◌, replicate, refl, sym, ap, ◌∙◌, arith}
+use Rattle.std.proofs.Common.{◌≡◌, ℕ, zero, suc, Bool, true, false, not, ◌&&◌, ◌||◌, ◌==◌, nat_lt, List, [], ◌∷◌, ◌++◌, replicate, refl, sym, ap, ◌∙◌, arith}
 use Rattle.std.proofs.lemmas.Bool.Decides.{nat_tests}
 use Rattle.yaml_emit_laws_text.specs.emit_text.declared.Cursor.{Cursor}
 use Rattle.yaml_emit_laws_text.specs.emit_text.declared.LineBreak.{LineBreak}
@@ -15,24 +15,15 @@ use Rattle.yaml_emit_laws_text.proofs.Values.{cond_true, cond_false}
 use Rattle.yaml_emit_laws_text.proofs.Back.{front_append, moved_by, spaced_by}
 use Rattle.yaml_emit_laws_block.specs.Lines.{LineMark, own, separator, paragraph, mark_char, mark_text}
 use Rattle.yaml_emit_laws_block.proofs.Marks.{mark_breaks}
+use Rattle.yaml_emit_laws_text.proofs.Single.{blanks_are, after_blanks, from_start}
 
 -- the cursor at the start of a line
 abbrev pub start_at : Bool → Cursor
 start_at kept = record { column = 0; white = true; bare = true; kept = kept }
 
-abbrev pub after_blanks : ℕ → Cursor → Cursor
-after_blanks zero c = c
-after_blanks (suc n) c = after_blanks n (spaced_by c)
-
 pub blanks_kept : (n : ℕ) (c : Cursor) → (after_blanks n c).kept ≡ c.kept
 blanks_kept zero c = refl
 blanks_kept (suc n) c = blanks_kept n (spaced_by c)
-
-blanks_are : (n : ℕ) (c : Cursor) (rest : Rest)
-    → blanks n c rest ≡ in_front (replicate n 32) (rest (after_blanks n c))
-unfolding blanks in_front
-blanks_are zero c rest = refl
-blanks_are (suc n) c rest = ap (λ t. letter 32 ∷ t) (blanks_are n (spaced_by c) rest)
 
 pub new_line_is : (b : LineBreak) (c : Cursor) (rest : Rest)
     → new_line b c rest ≡ in_front (break_text b) (rest (start_at c.kept))
@@ -40,9 +31,6 @@ unfolding in_front
 new_line_is Lf c rest = refl
 new_line_is Cr c rest = refl
 new_line_is CrLf c rest = refl
-
-from_start : (n : ℕ) → n - 0 ≡ n
-from_start n = omega arith
 
 indent_is : (n : ℕ) (kept : Bool) (rest : Rest)
     → indent_to n (start_at kept) rest

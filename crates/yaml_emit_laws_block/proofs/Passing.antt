@@ -1,16 +1,13 @@
 -- A text that goes on with a block scalar goes on behind it.
-use Rattle.std.proofs.Common.{◌≡◌, ℕ, ◌+◌, ◌-◌, ◌≤◌, Bool, false, ◌==◌, nat_lt, List, [], ◌∷◌, ◌++◌, length, get_or, refl, sym, ap, subst, ◌∙◌, inl, inr, arith, append_assoc, encode_utf8, encode_utf8_all}
+use Rattle.std.proofs.Common.{◌≡◌, ℕ, ◌+◌, ◌-◌, ◌≤◌, Bool, false, ◌==◌, nat_lt, List, ◌++◌, length, get_or, sym, ap, subst, ◌∙◌, inl, inr, arith, encode_utf8_all}
 use Rattle.std.proofs.lemmas.Bool.{cases_lt, or_parts, eqb-false}
 use Rattle.std.proofs.lemmas.Bool.Decides.{nat_tests}
-use Rattle.std.proofs.lemmas.List.{length-append, get_or_past}
-use lib.Utf8.{encode as encode_char}
+use Rattle.std.proofs.lemmas.List.{get_or_past}
 use Rattle.yaml_scan_history.specs.scan_model.Marks.{byte, break_of, is_blank}
-use Rattle.yaml_scan_history.proofs.HasLemmas.{has_front, has_rest}
+use Rattle.yaml_scan_history.proofs.HasLemmas.{has_front}
 use Rattle.yaml_emit_laws_text.specs.emit_text.declared.Cursor.{Cursor}
-use Rattle.yaml_emit_laws_text.specs.emit_text.declared.Encoding.TheVariants.{Utf8}
-use Rattle.yaml_emit_laws_text.specs.emit_text.Text.{Item, char_bytes, encode}
+use Rattle.yaml_emit_laws_text.specs.emit_text.Text.{Item}
 use Rattle.yaml_emit_laws_text.specs.emit_text.Layout.{Rest}
-use Rattle.yaml_emit_laws_text.specs.emit_text.Spelling.{in_front}
 use Rattle.yaml_emit_laws_text.specs.emit_layout.Nodes.{page_at}
 use Rattle.yaml_emit_laws_text.specs.emit_text.declared.page.Page.{Page}
 use Rattle.yaml_emit_laws_text.specs.Walk.{Left, bytes}
@@ -18,17 +15,8 @@ use Rattle.yaml_emit_laws_block.specs.Lines.{NoWhite}
 use Rattle.yaml_emit_laws_block.specs.Laws.{margin_round, BlockAndLineRead, BlockAtSpot}
 use Rattle.yaml_emit_laws_block.specs.Passed.{begins_white, behind_line, BlockPassed, BlockIsPassed}
 use Rattle.yaml_emit_laws_block.proofs.Behind.{has_at}
-
-char_encodes : (c : ℕ) → char_bytes Utf8 c ≡ encode_utf8 c
-unfolding char_bytes encode_char
-char_encodes c = refl
-
-front_encodes : (xs : List ℕ) (t : List Item)
-    → bytes (in_front xs t) ≡ encode_utf8_all xs ++ bytes t
-unfolding in_front encode
-front_encodes [] t = refl
-front_encodes (x ∷ xs) t =
-    ap (λ b. b ++ encode Utf8 (in_front xs t)) (char_encodes x) ∙ ap (λ b. encode_utf8 x ++ b) (front_encodes xs t) ∙ sym (append_assoc (encode_utf8 x) (encode_utf8_all xs) (encode Utf8 t))
+use Rattle.yaml_emit_laws_text.proofs.Places.{left_rest}
+use Rattle.yaml_emit_laws_text.proofs.Words.{front_encodes}
 
 -- each byte that is left, and 0 behind the end
 left_byte : (text : List ℕ) (p : ℕ) (bs : List ℕ) (k : ℕ) → Left text p bs
@@ -58,13 +46,6 @@ left_white text p bs l e =
       no_break = ap (λ x. break_of x (byte text (p + 1)) (byte text (p + 2))) a ∙ ap (λ x. break_of (get_or bs 0 0) x (byte text (p + 2))) b ∙ ap (λ x. break_of (get_or bs 0 0) (get_or bs 1 0) x) c
           ∙ no_width (break_of (get_or bs 0 0) (get_or bs 1 0) (get_or bs 2 0)) none;
     }
-
-left_rest : (text : List ℕ) (p : ℕ) (xs ys : List ℕ) → Left text p (xs ++ ys)
-    → Left text (p + length xs) ys
-left_rest text p xs ys l =
-    let ends = l.ends in
-    let size = length-append xs ys in
-    record { has = has_rest text p xs ys l.has; ends = omega (arith, ends, size) }
 
 -- some bytes come before these spaces
 before_spaces : (p n m : ℕ) → m ≤ n → p + n - m + m ≡ p + n

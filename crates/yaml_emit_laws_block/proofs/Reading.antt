@@ -22,6 +22,7 @@ use Rattle.yaml_emit_laws_text.proofs.Chars.{encode_1, encode_2, encode_3, encod
 use Rattle.yaml_emit_laws_text.proofs.Bytes.{low_break, two_break, three_break, four_break, later_break}
 use Rattle.yaml_emit_laws_block.specs.Lines.{LineMark, own, separator, paragraph, mark_text, mark_bytes, mark_means, BodyLine, bare, full, line_text, body_text, line_bytes, body_bytes, read_line, read_lines, are_inside, AreInside, StandsLeft}
 use Rattle.yaml_emit_laws_block.proofs.Marks.{NoFeed, breaks, text_encodes}
+use Rattle.yaml_emit_laws_block.proofs.Header.{no_text_there}
 
 -- ---- bytes of a text
 
@@ -130,13 +131,10 @@ run_on text a p (b ∷ bs) (e, t) r =
     let same : p + 1 + length bs ≡ p + suc (length bs) = omega arith in
     subst (λ q. InRun is_text text a q) same (run_on text a (p + 1) bs t (run_more is_text text a p r e some))
 
-break_text_no : (b w : ℕ) → 0 < w → not (b == 0 || nat_lt 0 w) ≡ false
-break_text_no b w h = grind (arith, nat_tests)
-
 -- a text ends at the break behind it
 pub text_end : (text : List ℕ) (p : ℕ) (bs : List ℕ) → AllText text p bs
     → 0 < break_width text (p + length bs) → line_end text p ≡ p + length bs
-text_end text p bs t w = run_done is_text text p (p + length bs) (run_on text p p bs t (run_start is_text text p)) (break_text_no (byte text (p + length bs)) (break_width text (p + length bs)) w)
+text_end text p bs t w = run_done is_text text p (p + length bs) (run_on text p p bs t (run_start is_text text p)) (no_text_there (byte text (p + length bs)) (break_width text (p + length bs)) w)
 
 -- ---- spaces
 

@@ -17,8 +17,9 @@ use Rattle.yaml_emit_laws_text.specs.emit_text.Spelling.{in_front, break_text}
 use Rattle.yaml_emit_laws_text.proofs.Back.{front_append, moved_by}
 use Rattle.yaml_emit_laws_block.specs.Lines.{LineMark, own, mark_char, mark_text, mark_means, BodyLine, bare, full, body_text, read_lines, are_inside, AreInside, closing}
 use Rattle.yaml_emit_laws_block.proofs.Marks.{mark_breaks, mark_encodes, mark_some, mark_feed, mark_of, text_blank}
-use Rattle.yaml_emit_laws_block.proofs.Layouts.{start_at, after_blanks, blanks_kept, break_is, none_added, first_is, char_is, cut_is, blank_break, blank_first, blank_in}
+use Rattle.yaml_emit_laws_block.proofs.Layouts.{start_at, blanks_kept, break_is, none_added, first_is, char_is, cut_is, blank_break, blank_first, blank_in}
 use Rattle.yaml_emit_laws_block.proofs.Waiting.{read_chomp, Waits, owed, stacked_so, waits_end, waits_text, waits_break, break_owed}
+use Rattle.yaml_emit_laws_text.proofs.Single.{bool_cases, after_blanks}
 
 -- ---- characters of a value
 
@@ -26,10 +27,6 @@ use Rattle.yaml_emit_laws_block.proofs.Waiting.{read_chomp, Waits, owed, stacked
 abbrev pub AreGood : List ℕ → Type 0
 AreGood [] = Unit {0}
 AreGood (x ∷ xs) = (is_printable x ≡ true) × ((x == 32 && is_break (first xs)) ≡ false) × AreGood xs
-
-bool_cases : {P : Type 0} (b : Bool) → (b ≡ true → P) → (b ≡ false → P) → P
-bool_cases true p q = p refl
-bool_cases false p q = q refl
 
 not_printed : (x k : ℕ) → is_printable x ≡ true → is_printable k ≡ false → (x == k) ≡ false
 not_printed x k s n = ne_eqb x k (λ e. cc (sym s ∙ ap (λ t. is_printable t) e ∙ n))

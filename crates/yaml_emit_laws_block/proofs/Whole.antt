@@ -1,5 +1,5 @@
 -- What is written for a block scalar is read as its value.
-use Rattle.std.proofs.Common.{◌≡◌, ◌≢◌, ℕ, suc, ◌+◌, ◌-◌, ◌<◌, ◌≤◌, Bool, true, false, not, ◌&&◌, ◌||◌, ◌==◌, nat_lt, List, [], ◌∷◌, ◌++◌, length, replicate, Some, Result, Ok, refl, sym, ap, subst, ◌∙◌, arith, append_assoc, encode_utf8, encode_utf8_all}
+use Rattle.std.proofs.Common.{◌≡◌, ◌≢◌, ℕ, suc, ◌+◌, ◌-◌, ◌<◌, ◌≤◌, Bool, true, false, ◌&&◌, ◌||◌, ◌==◌, nat_lt, List, [], ◌∷◌, ◌++◌, length, replicate, Some, Result, Ok, refl, sym, ap, subst, ◌∙◌, arith, append_assoc, encode_utf8, encode_utf8_all}
 use Rattle.std.specs.Prelude.{if◌then◌else◌}
 use Rattle.std.specs.Str.{chars}
 use Rattle.std.proofs.lemmas.Bool.Decides.{nat_tests}
@@ -41,12 +41,9 @@ use Rattle.yaml_emit_laws_block.proofs.Values.{AreGood, HasFirst, Begins, Starts
 use Rattle.yaml_emit_laws_block.proofs.Reading.{left_of, next_feed, length_more, length_spaces, AllText, spaces_column, chars_text, body_reads, body_column, body_encodes}
 use Rattle.yaml_emit_laws_block.proofs.Column.{column_by_text, column_by_digit}
 use Rattle.yaml_emit_laws_block.proofs.Header.{digit_text, digit_value, chomp_text, header_reads}
+use Rattle.yaml_emit_laws_text.proofs.Single.{special_left}
 
 -- ---- what a value is that allows it
-
-special_left : (p b : Bool) → (not p || b) ≡ false → p ≡ true
-special_left true b e = refl
-special_left false b e = absurd (cc)
 
 all_good : (unicode : Bool) (before : ℕ) (xs : List ℕ)
     → somewhere (is_special unicode) before xs ≡ false → AreGood xs

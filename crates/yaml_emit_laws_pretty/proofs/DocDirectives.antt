@@ -1,12 +1,11 @@
 -- The lines of directives are walked.
-use Rattle.std.proofs.Common.{◌≡◌, ◌⊎◌, ℕ, ◌+◌, ◌<◌, ◌==◌, ◌||◌, nat_lt, Bool, true, false, List, [], ◌∷◌, ◌++◌, length, Option, Some, None, refl, sym, ap, subst, ◌∙◌, inl, inr, arith}
+use Rattle.std.proofs.Common.{◌≡◌, ◌⊎◌, ℕ, ◌+◌, ◌<◌, ◌||◌, nat_lt, Bool, true, false, List, [], ◌∷◌, ◌++◌, length, Option, Some, None, refl, sym, ap, subst, ◌∙◌, inl, inr, arith}
 use Rattle.std.specs.Prelude.{ℤ, pos, codes, if◌then◌else◌}
 use Rattle.std.specs.Ordering.{int_eq}
 use Rattle.std.specs.Cmp.{signed_Decides}
 use Rattle.std.proofs.lemmas.Bool.{cases_Bool, lt-ltb, and_parts}
-use Rattle.std.proofs.lemmas.Bool.Decides.{nat_tests}
 use Rattle.yaml_emit_laws_text.specs.emit_layout.scan_model.declared.yaml_encoding_t.{yaml_encoding_t}
-use Rattle.yaml_emit_laws_text.specs.scan_history.scan_model.Marks.{byte, break_of, break_width, column_at}
+use Rattle.yaml_emit_laws_text.specs.scan_history.scan_model.Marks.{byte, break_width, column_at}
 use Rattle.yaml_emit_laws_text.specs.scan_history.scan_model.Classes.{is_break}
 use Rattle.yaml_emit_laws_text.specs.scan_history.scan_words.Directives as directives
 use Rattle.yaml_emit_laws_text.specs.scan_history.scan_words.Directives.{Said, directive_at}
@@ -17,7 +16,6 @@ use Rattle.yaml_emit_laws_text.specs.scan_model.Tokens as tokens
 use Rattle.yaml_emit_laws_text.specs.scan_model.Tokens.{TokenBody}
 use Rattle.yaml_emit_laws_text.specs.scan_model.declared.yaml_version_directive_t.{yaml_version_directive_t}
 use Rattle.yaml_emit_laws_text.specs.emit_layout.parse_model.Events.{TagDirective}
-use Rattle.yaml_emit_laws_text.specs.emit_layout.declared.problem.Problem.{Problem}
 use Rattle.yaml_emit_laws_text.specs.emit_layout.emit_text.declared.Cursor.{Cursor}
 use Rattle.yaml_emit_laws_text.specs.emit_layout.emit_text.declared.Settings.{Settings}
 use Rattle.yaml_emit_laws_text.specs.emit_layout.emit_text.declared.LineBreak.{LineBreak}
@@ -26,7 +24,7 @@ use Rattle.yaml_emit_laws_text.specs.emit_layout.emit_text.Text.{letter, encode,
 use Rattle.yaml_emit_laws_text.specs.emit_layout.emit_text.Layout.{Layout, Rest, ◌▹◌, letters, word, line, blanks, must_break, new_line, indent_to}
 use Rattle.yaml_emit_laws_text.specs.emit_layout.emit_tags.Tags.{uri_text}
 use Rattle.yaml_emit_laws_text.specs.emit_layout.Content.{Opening}
-use Rattle.yaml_emit_laws_text.specs.emit_layout.Grammar.{or_else, is_version, version_problem, directives_problem}
+use Rattle.yaml_emit_laws_text.specs.emit_layout.Grammar.{is_version, version_problem, directives_problem}
 use Rattle.yaml_emit_laws_text.specs.emit_layout.Nodes.{version_word, version_text, directive_text, directives_text}
 use Rattle.yaml_emit_laws_text.specs.Bodies.{version_bodies, directives_bodies}
 use Rattle.yaml_scan_laws_texts.specs.WordsLaws.{VersionReads}
@@ -43,8 +41,12 @@ use Rattle.yaml_scan_laws_levels.proofs.Stepping.{words_leave}
 use Rattle.yaml_scan_laws_levels.proofs.Walking.{walk_white, walk_outer}
 use Rattle.yaml_emit_laws_pretty.proofs.Lining.{first_byte}
 use Rattle.yaml_emit_laws_pretty.proofs.Entries.{no_gap}
-use Rattle.yaml_emit_laws_pretty.proofs.DocWords.{percent_begins, percent_kind, directive_word, said_directive, WritesLine, ReadsLine, version_line, version_writes, tag_front, tag_writes}
+use Rattle.yaml_emit_laws_pretty.proofs.DocWords.{said_directive, WritesLine, version_writes, tag_front, tag_writes}
 use Rattle.yaml_emit_laws_pretty.proofs.DocStarts.{line_start, OnLine}
+use Rattle.yaml_emit_laws_text.proofs.TextLines.{return_width, both_width, feed_width}
+use Rattle.yaml_emit_laws_text.proofs.Resolving.{or_first}
+use Rattle.yaml_emit_laws_text.proofs.Joining.{none_all}
+use Rattle.yaml_emit_laws_text.proofs.Directives.{percent_kind, directive_word, percent_begins, ReadsLine, version_line}
 
 -- ---- the break that ends a directive
 
@@ -69,20 +71,6 @@ record Broken (text : List ℕ) (q : ℕ) (rest : Rest) (kept : Bool) : Type 0 w
   some : 0 < length white
   column : column_at text (q + length white) ≡ 0
   left : Left text (q + length white) (bytes (rest (line_start kept)))
-
-feed_width : (text : List ℕ) (q : ℕ) → byte text q ≡ 10 → break_width text q ≡ 1
-unfolding break_of
-feed_width text q h = rw h refl
-
-return_width : (text : List ℕ) (q : ℕ) → byte text q ≡ 13 → (byte text (q + 1) ≡ 10 → ⊥)
-    → break_width text q ≡ 1
-unfolding break_of
-return_width text q h calm = let e : (byte text (q + 1) == 10) ≡ false = grind (arith, nat_tests) in rw (h, e) refl
-
-both_width : (text : List ℕ) (q : ℕ) → byte text q ≡ 13 → byte text (q + 1) ≡ 10
-    → break_width text q ≡ 2
-unfolding break_of
-both_width text q h k = rw (h, k) refl
 
 new_line_broken : (b : LineBreak) (text : List ℕ) (c : Cursor) (q : ℕ) (rest : Rest)
     → IsNext (first (bytes (rest (line_start c.kept)))) → Left text q (bytes (new_line b c rest))
@@ -198,17 +186,13 @@ version_so versions b v n small low major minor says rest next =
     let two : P (version_word v) v.major (pos n) = subst (λ (x : ℤ). P (version_word v) x (pos n)) (sym major) one in
     subst (λ (y : ℤ). P (version_word v) v.major y) (sym minor) two
 
-none_true : (b : Bool) (p : Problem) → (if b then None else Some p) ≡ None → b ≡ true
-none_true true p e = refl
-none_true false p e = absurd (cc)
-
 version_walks : VersionReads → (s : Settings) (version : Option yaml_version_directive_t)
     → version_problem version ≡ None → (rest : Rest)
     → IsNext (first (bytes (rest (line_start false))))
     → WalksOver (version_text s version) (λ bs. version_bodies version bs) rest
 version_walks versions s None right rest next = nothing_walks rest
 version_walks versions s (Some v) right rest next =
-    let is = none_true (is_version v) _ right in
+    let is = none_all (is_version v) _ right in
     let major = (signed_Decides v.major (pos 1)).0 (and_parts (int_eq v.major (pos 1)) (int_eq v.minor (pos 1) || int_eq v.minor (pos 2)) is).0 in
     let either = (and_parts (int_eq v.major (pos 1)) (int_eq v.minor (pos 1) || int_eq v.minor (pos 2)) is).1 in
     elim (cases_Bool (int_eq v.minor (pos 1))) [
@@ -261,10 +245,6 @@ tags_walk reads ascii s (d ∷ ds) (own, may) rest next x text T st =
     let after : Rest = λ c. directives_text s ds c rest in
     let g = tag_walks reads ascii s d own after (tags_next s ds rest next) x text T st in
     tags_walk reads ascii s ds may rest next x text (λ bs. T (tokens.tag_directive d.handle d.prefix ∷ bs)) g
-
-or_first : (a b : Option Problem) → or_else a b ≡ None → a ≡ None
-or_first None b e = refl
-or_first (Some p) b e = absurd (cc)
 
 -- they begin as directives do, or as what follows
 pub directives_next : (s : Settings) (o : Opening) (rest : Rest)

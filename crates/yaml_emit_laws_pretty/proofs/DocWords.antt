@@ -1,39 +1,23 @@
 -- The lines that are written for directives, and how they are read.
-use Rattle.std.proofs.Common.{◌≡◌, ℕ, ◌+◌, nat_lt, Bool, true, false, List, [], ◌∷◌, ◌++◌, length, Some, Result, Ok, refl, sym, ap, subst, ◌∙◌, append_assoc}
-use Rattle.std.specs.Prelude.{codes, if◌then◌else◌}
+use Rattle.std.proofs.Common.{◌≡◌, ℕ, ◌+◌, nat_lt, Bool, true, false, List, [], ◌∷◌, ◌++◌, Result, Ok, refl, sym, ap, subst, ◌∙◌, append_assoc}
+use Rattle.std.specs.Prelude.{codes}
 use Rattle.std.proofs.lemmas.Bool.{and_parts}
-use Rattle.yaml_emit_laws_text.specs.scan_history.scan_model.Marks.{byte, break_of, break_width, column_at}
-use Rattle.yaml_emit_laws_text.specs.scan_history.scan_model.Classes.{is_break}
 use Rattle.yaml_emit_laws_text.specs.scan_history.scan_model.Wrong.{Wrong}
-use Rattle.yaml_emit_laws_text.specs.scan_history.scan_words.Directives.{Said, DirectiveText, directive_at}
-use Rattle.yaml_emit_laws_text.specs.scan_history.scan_words.Written.{begins_lexeme}
-use Rattle.yaml_emit_laws_text.specs.scan_history.declared.kind.Kind.TheVariants as kinds
-use Rattle.yaml_emit_laws_text.specs.scan_history.Words.{kind_at, word_at, body_said, directed}
+use Rattle.yaml_emit_laws_text.specs.scan_history.scan_words.Directives.{DirectiveText}
+use Rattle.yaml_emit_laws_text.specs.scan_history.Words.{body_said, directed}
 use Rattle.yaml_emit_laws_text.specs.emit_layout.emit_text.declared.Cursor.{Cursor}
 use Rattle.yaml_emit_laws_text.specs.emit_layout.emit_text.declared.LineBreak.{LineBreak}
 use Rattle.yaml_emit_laws_text.specs.emit_layout.emit_text.Text.{encode, char_bytes}
-use Rattle.yaml_emit_laws_text.specs.emit_layout.emit_text.Layout.{Layout, Rest, ◌▹◌, blank, letters, word, line}
+use Rattle.yaml_emit_laws_text.specs.emit_layout.emit_text.Layout.{Layout, Rest, ◌▹◌, letters, word, line}
 use Rattle.yaml_emit_laws_text.specs.TagsLaws.{are_ascii, IsMarked}
-use Rattle.yaml_emit_laws_text.specs.Walk.{Has, bytes}
-use Rattle.yaml_emit_laws_text.proofs.Steps.{sign_starts, letter_low}
+use Rattle.yaml_emit_laws_text.specs.Walk.{bytes}
+use Rattle.yaml_emit_laws_text.proofs.Steps.{letter_low}
 use Rattle.yaml_emit_laws_text.proofs.Words.{lettered_on}
 use Rattle.yaml_emit_laws_pretty.proofs.DocStarts.{line_start}
+use Rattle.yaml_emit_laws_text.proofs.Directives.{space_here, version_line, tag_line}
+use Rattle.yaml_emit_laws_text.proofs.Back.{spaced_by}
 
 -- ---- `%`
-
-pub percent_begins : (text : List ℕ) (p : ℕ) → byte text p ≡ 37 → begins_lexeme text p ≡ true
-unfolding break_of
-percent_begins text p h = sign_starts text p 37 h refl refl refl refl (λ c d. refl)
-
-pub percent_kind : (text : List ℕ) (p : ℕ) → byte text p ≡ 37 → column_at text p ≡ 0
-    → kind_at false text p ≡ Some kinds.Directive
-unfolding kind_at
-percent_kind text p h z = rw (h, z) refl
-
-pub directive_word : (text : List ℕ) (p : ℕ)
-    → word_at kinds.Directive false 0 text p ≡ directed (directive_at text p)
-unfolding word_at
-directive_word text p = refl
 
 pub said_directive : (r : Result DirectiveText Wrong) (d : DirectiveText) → r ≡ Ok d
     → directed r ≡ Ok (record {
@@ -53,15 +37,7 @@ pub record WritesLine (a : Layout) (b : LineBreak) (xs : List ℕ) (kept : Bool)
   pub bare : behind.bare ≡ false
   pub still : behind.kept ≡ kept
 
--- Such bytes are read as what is said, with the break behind them.
-abbrev pub ReadsLine : List ℕ → Said → Type 0
-ReadsLine xs said = (text : List ℕ) (p : ℕ) → Has text p (37 ∷ xs) → is_break text (p + length (37 ∷ xs)) ≡ true
-    → let end = p + length (37 ∷ xs) in directive_at text p ≡ Ok (record { said = said; end = end; place = end + break_width text end })
-
 -- ---- versions
-
-abbrev pub version_line : LineBreak → List ℕ → Layout
-version_line b t = word (codes "%YAML") ▹ (word t ▹ line b 0)
 
 pub version_writes : (b : LineBreak) (x : ℕ) → nat_lt x 128 ≡ true → (kept : Bool)
     → WritesLine (version_line b (49 ∷ 46 ∷ x ∷ [])) b (89 ∷ 65 ∷ 77 ∷ 76 ∷ 32 ∷ 49 ∷ 46 ∷ x ∷ [])
@@ -105,18 +81,10 @@ record Spaces (xs : List ℕ) (c : Cursor) : Type 0 where
   bare : behind.bare ≡ false
   kept : behind.kept ≡ c.kept
 
-abbrev spaced : Cursor → Cursor
-spaced c = record { column = c.column + 1; white = true; bare = c.bare; kept = c.kept }
-
-space_here : (xs : List ℕ) (c : Cursor) → c.white ≡ false → (rest : Rest)
-    → bytes (word xs c rest) ≡ 32 ∷ bytes (letters xs (spaced c) rest)
-space_here xs c white rest =
-    ap (λ (t : Bool). bytes (if t then letters xs c rest else blank c (λ e. letters xs e rest))) white ∙ letter_low 32 (letters xs (spaced c) rest) refl
-
 spaces : (xs : List ℕ) → are_ascii xs ≡ true → (c : Cursor) → c.white ≡ false → c.bare ≡ false
     → Spaces xs c
 spaces xs low c white bare =
-    let r = letters_are xs low (spaced c) in
+    let r = letters_are xs low (spaced_by c) in
     record { behind = r.behind; same = λ rest. space_here xs c white rest ∙ ap (λ (t : List ℕ). 32 ∷ t) (r.same rest); bare = r.bare bare; kept = r.kept }
 
 -- the same, with a letter at least: the cursor behind isn't white
@@ -131,10 +99,10 @@ handle_spaced : (more : List ℕ) → are_ascii more ≡ true → (c : Cursor) �
     → Handles (33 ∷ more) c
 unfolding letters
 handle_spaced more low c white =
-    let r = letters_are more low (lettered_on (spaced c)) in
+    let r = letters_are more low (lettered_on (spaced_by c)) in
     record {
       behind = r.behind;
-      same = λ rest. space_here (33 ∷ more) c white rest ∙ ap (λ (t : List ℕ). 32 ∷ t) (letter_low 33 (letters more (lettered_on (spaced c)) rest) refl ∙ ap (λ (t : List ℕ). 33 ∷ t) (r.same rest));
+      same = λ rest. space_here (33 ∷ more) c white rest ∙ ap (λ (t : List ℕ). 32 ∷ t) (letter_low 33 (letters more (lettered_on (spaced_by c)) rest) refl ∙ ap (λ (t : List ℕ). 33 ∷ t) (r.same rest));
       white = r.white refl;
       bare = r.bare refl;
       kept = r.kept;
@@ -142,9 +110,6 @@ handle_spaced more low c white =
 
 handles : (xs : List ℕ) → IsMarked xs → (c : Cursor) → c.white ≡ false → Handles xs c
 handles xs h c white = subst (λ (ys : List ℕ). Handles ys c) (sym h.begins) (handle_spaced h.more h.ascii c white)
-
-abbrev pub tag_line : LineBreak → List ℕ → List ℕ → Layout
-tag_line b handle uri = word (codes "%TAG") ▹ (word handle ▹ (word uri ▹ line b 0))
 
 pub tag_writes : (b : LineBreak) (handle uri : List ℕ) → IsMarked handle → are_ascii uri ≡ true
     → (kept : Bool)

@@ -28,6 +28,7 @@ use Rattle.yaml_scan_laws_levels.proofs.Walking.{walk_mark}
 use Rattle.yaml_emit_laws_scalars.specs.Stops.{begins_white, is_gap_byte}
 use Rattle.yaml_emit_laws_pretty.specs.Walk.{Mark, Entry, Question, Answer, mark_byte, mark_body, mark_level, IsLone, MarkIsWalked}
 use Rattle.yaml_emit_laws_pretty.proofs.Lining.{first_byte}
+use Rattle.yaml_emit_laws_pretty.proofs.NodeLines.{mark_small}
 
 pub no_gap : (text : List ℕ) (p : ℕ) → begins_lexeme text p ≡ true → IsGap text p []
 no_gap text p e = let z : p + 0 ≡ p = omega arith in record { has = λ k few. absurd (omega (arith, few)); blank = refl; ends = ap (λ n. begins_lexeme text n) z ∙ e }
@@ -55,11 +56,6 @@ mark_comes : (k : Mark) → MarkComes (mark_byte k) (mark_kind k) (mark_body k)
 mark_comes Entry = signs_come.entry
 mark_comes Question = signs_come.question
 mark_comes Answer = signs_come.colon
-
-mark_low : (k : Mark) → nat_lt (mark_byte k) 128 ≡ true
-mark_low Entry = refl
-mark_low Question = refl
-mark_low Answer = refl
 
 mark_prints : (k : Mark) → (32 < mark_byte k) × (mark_byte k < 127) × (mark_byte k ≡ 35 → ⊥)
 mark_prints Entry = (omega arith, omega arith, λ y. omega (arith, y))
@@ -89,7 +85,7 @@ mark_on k x text n kept ls more new what T rest here lone low rises opens starts
     let column = here.column in
     let e : Cursor = record { column = c.column + 1; white = false; bare = c.bare; kept = c.kept } in
     let f : Rest = λ c. letter b ∷ rest (record { column = c.column + 1; white = false; bare = c.bare; kept = c.kept }) in
-    let m = left_letter text p b (rest e) (mark_low k) (subst (λ (t : Bool). Left text p (bytes (if t then f c else blank c f))) here.white here.left) in
+    let m = left_letter text p b (rest e) (mark_small k) (subst (λ (t : Bool). Left text p (bytes (if t then f c else blank c f))) here.white here.left) in
     let at_p = left_first text p b _ m in
     let after = left_more text p b _ m in
     let z : p + 0 ≡ p = omega arith in

@@ -1,5 +1,5 @@
 -- Collections in brackets at spots of a block.
-use Rattle.std.proofs.Common.{◌≡◌, ℕ, ◌+◌, ◌≤◌, ◌||◌, not, nat_lt, Bool, true, false, List, [], ◌∷◌, refl, sym, ap, subst, ◌∙◌, inl, inr, arith, None, Some}
+use Rattle.std.proofs.Common.{◌≡◌, ℕ, ◌≤◌, ◌||◌, not, nat_lt, Bool, true, false, List, [], ◌∷◌, refl, sym, ap, subst, ◌∙◌, inl, inr, arith, None, Some}
 use Rattle.std.specs.Prelude.{Option}
 use Rattle.std.proofs.lemmas.Bool.{false≢true}
 use Rattle.yaml_emit_laws_text.specs.emit_layout.scan_model.declared.yaml_encoding_t.{yaml_encoding_t}
@@ -10,7 +10,6 @@ use Rattle.yaml_emit_laws_text.specs.scan_history.scan_model.Marks.{column_at}
 use Rattle.yaml_emit_laws_text.specs.scan_history.History.{indent}
 use Rattle.yaml_emit_laws_text.specs.emit_layout.emit_text.declared.Cursor.{Cursor}
 use Rattle.yaml_emit_laws_text.specs.emit_layout.emit_text.declared.Settings.{Settings}
-use Rattle.yaml_emit_laws_text.specs.emit_layout.emit_text.Text.{letter}
 use Rattle.yaml_emit_laws_text.specs.emit_layout.emit_text.Layout.{Layout, Rest, ◌▹◌, when, opener, line}
 use Rattle.yaml_emit_laws_text.specs.emit_layout.declared.level.Part.{Part}
 use Rattle.yaml_emit_laws_text.specs.emit_layout.Content.{Start, Opening, Node, alias_node, scalar_node, sequence_node, mapping_node, Nodes, Pairs}
@@ -31,13 +30,8 @@ use Rattle.yaml_emit_laws_pretty.proofs.FlowSigns.{opening_of, opens}
 use Rattle.yaml_emit_laws_pretty.proofs.FlowScalars.{WordLaws, kept_good}
 use Rattle.yaml_emit_laws_pretty.proofs.FlowFollows.{pretty_of, prettily, space_parts, gap_spaced, properties_spaced}
 use Rattle.yaml_emit_laws_pretty.proofs.FlowItems.{BodyIn, opened_in}
-use Rattle.yaml_emit_laws_pretty.proofs.FlowNodes.{body_checked, pretty_fine, first_in, first_pairs_in, items_keep, pairs_keep}
-
-bare_off : (b : Bool) → b ≡ false → b ≡ true → ⊥
-bare_off b e f = false≢true (sym e ∙ f)
-
-abbrev bracket : ℕ → Layout
-bracket x c rest = letter x ∷ rest (record { column = c.column + 1; white = true; bare = false; kept = c.kept })
+use Rattle.yaml_emit_laws_pretty.proofs.FlowNodes.{body_checked, pretty_fine, first_in, first_pairs_in, items_keep, pairs_keep, bracket}
+use Rattle.yaml_emit_laws_pretty.proofs.Singles.{bare_off}
 
 -- ---- brackets, behind properties or without
 

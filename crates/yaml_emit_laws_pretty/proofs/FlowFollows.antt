@@ -21,14 +21,16 @@ use Rattle.yaml_emit_laws_text.specs.emit_layout.Nodes.{Context, checked, MOST, 
 use Rattle.yaml_emit_laws_text.specs.Walk.{bytes, first}
 use Rattle.yaml_emit_laws_text.proofs.Steps.{letter_low, deep_bytes}
 use Rattle.yaml_emit_laws_scalars.specs.Stops.{stops_plain_at, begins_white}
-use Rattle.yaml_emit_laws_scalars.proofs.Lines.{line_start, after_blanks}
 use Rattle.yaml_emit_laws_scalars.proofs.Stopping.{behind_lines}
 use Rattle.yaml_emit_laws_scalars.proofs.Solid.{what_stops}
 use Rattle.yaml_emit_laws_pretty.specs.Walk.{no_comment}
 use Rattle.yaml_emit_laws_pretty.specs.Spoken.{ends_name}
 use Rattle.yaml_emit_laws_pretty.specs.Flows.{FollowsIn}
 use Rattle.yaml_emit_laws_pretty.specs.Nodes.{PartedBehind}
-use Rattle.yaml_emit_laws_pretty.proofs.Following.{line_bytes, line_calm, line_white, blanks_white}
+use Rattle.yaml_emit_laws_pretty.proofs.Following.{line_bytes, line_calm, line_white}
+use Rattle.yaml_emit_laws_text.proofs.Words.{lettered_on}
+use Rattle.yaml_emit_laws_text.proofs.Single.{after_blanks, line_start}
+use Rattle.yaml_emit_laws_scalars.proofs.Stands.{blanks_white}
 
 -- settings of pretty form
 abbrev pub pretty_of : Settings → Settings
@@ -65,9 +67,6 @@ bracket_follows rest b = record {
   name = λ e bare white. ap (λ bs. ends_name bs) (b.same e) ∙ or_right (begins_white (b.byte ∷ b.more e)) (b.byte == 44 || (b.byte == 93 || b.byte == 125)) b.is;
 }
 
-abbrev lettered_on : Cursor → Cursor
-lettered_on c = record { column = c.column + 1; white = false; bare = false; kept = c.kept }
-
 pub items_follow_in : (s : Settings) (ds : List TagDirective) (n : ℕ) (xs : Nodes) (rest : Rest)
     → FollowsIn (λ c. items_layout (prettily s ds) true n false xs c rest)
 unfolding items_layout before_item closer
@@ -86,7 +85,7 @@ pairs_follow_in s ds n (pair k v ps) rest =
 
 -- ---- the `:` of a `?` follows
 
-colon_calm : (bs : List ℕ) → no_comment (58 ∷ bs) ≡ true
+pub colon_calm : (bs : List ℕ) → no_comment (58 ∷ bs) ≡ true
 unfolding no_comment
 colon_calm bs = refl
 
@@ -115,7 +114,7 @@ pub record AnswerBytes (bs : List ℕ) : Type 0 where
   pub calm : no_comment bs ≡ true
   pub name : ends_name bs ≡ true
 
-white_ends : (bs : List ℕ) → begins_white bs ≡ true → ends_name bs ≡ true
+pub white_ends : (bs : List ℕ) → begins_white bs ≡ true → ends_name bs ≡ true
 white_ends [] e = refl
 white_ends (b ∷ bs) e = or_left (begins_white (b ∷ bs)) (b == 44 || (b == 93 || b == 125)) e
 

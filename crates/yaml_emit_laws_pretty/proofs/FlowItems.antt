@@ -22,9 +22,11 @@ use Rattle.yaml_scan_laws_levels.specs.Pushes.{IsRight}
 use Rattle.yaml_scan_laws_levels.specs.Walks.{Where, Reads, Outside}
 use Rattle.yaml_emit_laws_pretty.specs.Bodies.{node_bodies, items_bodies, pairs_bodies}
 use Rattle.yaml_emit_laws_pretty.specs.Flows.{IsClear, GoesIn, WalksIn, FollowsIn, KeyWalksIn}
-use Rattle.yaml_emit_laws_pretty.proofs.FlowSteps.{Space, space_on}
+use Rattle.yaml_emit_laws_pretty.proofs.FlowSteps.{Space, space_on, clear_same}
 use Rattle.yaml_emit_laws_pretty.proofs.FlowSigns.{wrap_in, behind_gap, gap_left, gap_kept, comma_on, opener_on, closer_on, question_on, answer_on, opening_of, opens}
 use Rattle.yaml_emit_laws_pretty.proofs.FlowFollows.{prettily, Spaced, space_parts, items_follow_in, pairs_follow_in, answer_follows}
+use Rattle.yaml_emit_laws_pretty.proofs.KeySteps.{deeper_out}
+use Rattle.yaml_emit_laws_text.proofs.Words.{lettered_on}
 
 -- Behind a closing bracket, where d are open.
 pub record Closed (x : yaml_encoding_t) (text : List ℕ) (rest : Rest) (kept : Bool) (d : ℕ) (cs ls : List ℕ) (T : List TokenBody → List TokenBody) : Type 0 where
@@ -57,9 +59,6 @@ MoreIn a B ls rest = (c : Cursor) → c.bare ≡ false → (x : yaml_encoding_t)
 abbrev pub PairIn : Layout → (List TokenBody → List TokenBody) → List ℕ → Rest → Type 0
 PairIn a B ls rest = (c : Cursor) (x : yaml_encoding_t) (text : List ℕ) (o : Where) (d : ℕ) (cs : List ℕ) (T : List TokenBody → List TokenBody) → Reads x text o cs ls [] T → o.depth ≡ d + 1 → o.now ≡ true → Outside (d + 1) cs
     → Left text o.at (bytes (a c rest)) → Closed x text rest c.kept d cs ls (λ bs. T (B bs))
-
-abbrev lettered_on : Cursor → Cursor
-lettered_on c = record { column = c.column + 1; white = false; bare = false; kept = c.kept }
 
 inside_so : (n d : ℕ) → n ≡ d + 1 → nat_lt 0 n ≡ true
 inside_so n d e = grind (arith, nat_tests)
@@ -334,23 +333,13 @@ right_space : (d c e : ℕ) (ls : List ℕ) → c ≤ e → IsRight d ls c → I
 right_space d c e ls up (inl h) = inl h
 right_space d c e ls up (inr h) = inr (omega (arith, up, h))
 
-out_deeper : (d : ℕ) (cs : List ℕ) → Outside d cs → Outside (d + 1) cs
-unfolding Outside
-out_deeper d [] out = tt
-out_deeper d (c ∷ cs) (low, out) = (omega (arith, low), out_deeper d cs out)
-
 out_next : (d : ℕ) (cs : List ℕ) → Outside d cs → Outside (d + 1) (d ∷ cs)
 unfolding Outside
-out_next d cs out = (omega arith, out_deeper d cs out)
+out_next d cs out = (omega arith, deeper_out d cs out)
 
 clear_out : (o : Where) (cs : List ℕ) → IsClear o cs → Outside (o.depth + 1) cs
-clear_out o cs (inl out) = out_deeper o.depth cs out
+clear_out o cs (inl out) = deeper_out o.depth cs out
 clear_out o cs (inr (ds, same, out, off)) = subst (λ (es : List ℕ). Outside (o.depth + 1) es) (sym same) (out_next o.depth ds out)
-
-clear_there : (o u : Where) (cs : List ℕ) → u.depth ≡ o.depth → u.now ≡ o.now → IsClear o cs
-    → IsClear u cs
-clear_there o u cs deep now (inl out) = inl (subst (λ (d : ℕ). Outside d cs) (sym deep) out)
-clear_there o u cs deep now (inr (ds, same, out, off)) = inr (ds, same ∙ ap (λ (d : ℕ). d ∷ ds) (sym deep), subst (λ (d : ℕ). Outside d ds) (sym deep) out, now ∙ off)
 
 -- a collection's brackets, at any depth
 pub opened_in : (mapping : Bool) (a : Layout) (B : List TokenBody → List TokenBody) (ls : List ℕ)
@@ -366,7 +355,7 @@ opened_in mapping a B ls rest body c x text o cs T r right clear l =
     let f : Cursor = record { column = e.column + 1; white = true; bare = false; kept = e.kept } in
     let sp = space_on (not c.white) x text (bytes (K e)) o cs ls [] T r (gap_left text o.at c.white c K l) in
     let m = left_letter text sp.place.at (opening_of mapping) (a f rest) (opening_low mapping) sp.left in
-    let clear1 = clear_there o sp.place cs sp.deep sp.same clear in
+    let clear1 = clear_same o sp.place cs sp.deep sp.same clear in
     let right1 = subst (λ (d : ℕ). IsRight d ls (column_at text sp.place.at)) (sym sp.deep) (right_space o.depth (column_at text o.at) (column_at text sp.place.at) ls sp.right right) in
     let g = opener_on mapping x text (bytes (a f rest)) sp.place cs ls T sp.reads right1 clear1 m in
     let out = subst (λ (d : ℕ). Outside (d + 1) cs) sp.deep (clear_out sp.place cs clear1) in

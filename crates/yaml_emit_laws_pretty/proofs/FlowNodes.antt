@@ -29,7 +29,7 @@ use Rattle.yaml_emit_laws_pretty.proofs.FlowItems.{NodeIn, BodyIn, KeyIn, FirstI
 
 -- ---- what nodes begin with
 
-abbrev bracket : ℕ → Layout
+abbrev pub bracket : ℕ → Layout
 bracket x c rest = letter x ∷ rest (record { column = c.column + 1; white = true; bare = false; kept = c.kept })
 
 pub node_spaced : (s : Settings) (ds : List TagDirective) (y : Node) (n : ℕ) (q : Part)

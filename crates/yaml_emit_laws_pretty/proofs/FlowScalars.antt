@@ -36,9 +36,10 @@ use Rattle.yaml_emit_laws_pretty.specs.Bodies.{style_at, style_named, node_bodie
 use Rattle.yaml_emit_laws_pretty.specs.Spoken.{ends_name}
 use Rattle.yaml_emit_laws_pretty.specs.Flows.{WalksIn, FollowsIn}
 use Rattle.yaml_emit_laws_pretty.proofs.SpokenWords.{anchor_word, alias_word, tag_word, mark_word, double_word, single_word, plain_word}
-use Rattle.yaml_emit_laws_pretty.proofs.SpokenLayouts.{anchor_says, alias_says, tag_says, mark_says, double_says, single_says, plain_says, behind_gap}
+use Rattle.yaml_emit_laws_pretty.proofs.SpokenLayouts.{anchor_says, alias_says, tag_says, mark_says, double_says, single_says, plain_says}
 use Rattle.yaml_emit_laws_pretty.proofs.FlowSteps.{word_walks, both}
 use Rattle.yaml_emit_laws_pretty.proofs.FlowFollows.{prettily, Spaced, space_parts, gap_spaced, text_spaced, checked_spaced, mark_spaced}
+use Rattle.yaml_emit_laws_pretty.proofs.FlowSigns.{behind_gap}
 
 -- the laws of lower crates that words in brackets stand on
 pub record WordLaws : Type 0 where

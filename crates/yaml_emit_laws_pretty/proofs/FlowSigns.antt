@@ -25,11 +25,12 @@ use Rattle.yaml_scan_laws_levels.proofs.Signing.{signs_come, printed_begins}
 use Rattle.yaml_scan_laws_levels.proofs.Stepping.{words_leave}
 use Rattle.yaml_scan_laws_levels.proofs.Walking.{walk_white, walk_word, walk_asks, walk_answers, deeper_leaves}
 use Rattle.yaml_emit_laws_scalars.specs.Stops.{begins_white}
-use Rattle.yaml_emit_laws_scalars.proofs.Lines.{line_start, after_blanks, blanks_kept}
+use Rattle.yaml_emit_laws_scalars.proofs.Lines.{blanks_kept}
 use Rattle.yaml_emit_laws_pretty.specs.Flows.{IsClear}
 use Rattle.yaml_emit_laws_pretty.proofs.Entries.{no_gap, white_stands}
 use Rattle.yaml_emit_laws_pretty.proofs.Following.{line_bytes}
 use Rattle.yaml_emit_laws_pretty.proofs.FlowSteps.{leave_clear}
+use Rattle.yaml_emit_laws_text.proofs.Single.{after_blanks, line_start}
 
 -- ---- lines
 

@@ -74,7 +74,7 @@ leave_clear k o a cs keeps bars (inl out) = deeper_leaves k o.depth a cs out
 leave_clear k o a cs keeps bars (inr (ds, same, out, off)) =
     subst (λ (es : List ℕ). LeaveClear k o.depth a es) (sym same) (inl (refl, ap (λ (b : Bool). b && may_be_key k) (bars off), keeps), deeper_leaves k o.depth a ds out)
 
-off_or : (a b : Bool) → a ≡ false → (a || (false && b)) ≡ false
+pub off_or : (a b : Bool) → a ≡ false → (a || (false && b)) ≡ false
 off_or a b e = rw e refl
 
 -- ---- a space

@@ -7,34 +7,18 @@ use Rattle.yaml_emit_laws_text.specs.emit_layout.emit_text.declared.LineBreak.Th
 use Rattle.yaml_emit_laws_text.specs.emit_layout.emit_text.Layout.{Rest, line}
 use Rattle.yaml_emit_laws_text.specs.emit_layout.emit_text.Spelling.{break_text}
 use Rattle.yaml_emit_laws_text.specs.Walk.{bytes, first}
-use Rattle.yaml_emit_laws_text.proofs.Back.{spaced_by}
-use Rattle.yaml_emit_laws_text.proofs.Escapes.{AreLow, low_encodes}
+use Rattle.yaml_emit_laws_text.proofs.Escapes.{low_encodes}
 use Rattle.yaml_emit_laws_text.proofs.Words.{front_encodes}
 use Rattle.yaml_emit_laws_scalars.specs.Stops.{stops_plain_at, begins_white, begins_solid}
-use Rattle.yaml_emit_laws_scalars.proofs.Lines.{line_start, after_blanks, line_is}
 use Rattle.yaml_emit_laws_scalars.proofs.Stopping.{behind_lines}
 use Rattle.yaml_emit_laws_scalars.proofs.Solid.{what_stops}
 use Rattle.yaml_emit_laws_text.specs.scan_history.scan_model.Marks.{break_of}
 use Rattle.yaml_emit_laws_block.specs.Passed.{begins_white as begins_blank}
 use Rattle.yaml_emit_laws_pretty.specs.Walk.{Follows, NoFeed, no_comment}
 use Rattle.yaml_emit_laws_pretty.specs.Nodes.{Shows, Ending, ShownEnds}
-
-spaces_low : (n : ℕ) → AreLow (replicate n 32)
-spaces_low zero = tt
-spaces_low (suc n) = (omega arith, spaces_low n)
-
-break_low : (b : LineBreak) (n : ℕ) → AreLow (break_text b ++ replicate n 32)
-break_low Lf n = (omega arith, spaces_low n)
-break_low Cr n = (omega arith, spaces_low n)
-break_low CrLf n = (omega arith, (omega arith, spaces_low n))
-
-blanks_bare : (n : ℕ) (c : Cursor) → c.bare ≡ true → (after_blanks n c).bare ≡ true
-blanks_bare zero c e = e
-blanks_bare (suc n) c e = blanks_bare n (spaced_by c) e
-
-pub blanks_white : (n : ℕ) (c : Cursor) → c.white ≡ true → (after_blanks n c).white ≡ true
-blanks_white zero c e = e
-blanks_white (suc n) c e = blanks_white n (spaced_by c) refl
+use Rattle.yaml_emit_laws_scalars.proofs.Stands.{break_low, blanks_bare, blanks_white}
+use Rattle.yaml_emit_laws_scalars.proofs.Lines.{blanks_column}
+use Rattle.yaml_emit_laws_text.proofs.Single.{line_is, after_blanks, line_start}
 
 spaces_calm : (n : ℕ) (bs : List ℕ) → no_comment (replicate n 32 ++ bs) ≡ no_comment bs
 unfolding no_comment
@@ -52,10 +36,6 @@ pub line_white : (b : LineBreak) (bs : List ℕ) → begins_white (break_text b 
 line_white Lf bs = refl
 line_white Cr bs = refl
 line_white CrLf bs = refl
-
-blanks_column : (n : ℕ) (c : Cursor) → (after_blanks n c).column ≡ c.column + n
-blanks_column zero c = omega arith
-blanks_column (suc n) c = let e = blanks_column n (spaced_by c) in omega (arith, e)
 
 start_column : (n : ℕ) (e : Cursor) → (after_blanks n (line_start e)).column ≡ n
 start_column n e = let z = blanks_column n (line_start e) in omega (arith, z)

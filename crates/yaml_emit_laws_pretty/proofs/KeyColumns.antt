@@ -2,7 +2,6 @@
 use Rattle.std.proofs.Common.{◌≡◌, ℕ, ◌+◌, ◌-◌, ◌<◌, ◌≤◌, Bool, true, false, List, [], ◌∷◌, length, zero, suc, refl, sym, ap, subst, ◌∙◌, inl, inr, arith, encode_utf8, encode_utf8_all, add-zero}
 use Rattle.std.specs.Prelude.{if◌then◌else◌}
 use Rattle.std.proofs.lemmas.Bool.{cases_Bool, cases_lt}
-use Rattle.std.proofs.lemmas.Bool.Decides.{nat_tests}
 use Rattle.yaml_emit_laws_text.proofs.Chars.{encode_1, encode_2, encode_3, encode_4}
 use Rattle.yaml_emit_laws_text.specs.scan_history.scan_model.Marks.{byte, column_at, line_at, starts, ends_break, ends_of}
 use Rattle.yaml_emit_laws_text.specs.Walk.{Has}
@@ -10,6 +9,7 @@ use Rattle.yaml_emit_laws_text.proofs.Bytes.{AreCalm, calm_end}
 use Rattle.yaml_emit_laws_text.proofs.MarksLemmas.{line_more}
 use Rattle.yaml_emit_laws_text.proofs.Places.{has_front}
 use Rattle.yaml_scan_laws_order.proofs.MarksForward.{line_at-grows}
+use Rattle.yaml_emit_laws_scalars.proofs.Standing.{high_starts, low_starts}
 
 column_step : (text : List ℕ) (q : ℕ) → line_at text (suc q) ≤ line_at text q
     → column_at text q ≤ column_at text (suc q)
@@ -50,12 +50,6 @@ columns_grow text p k h s =
     let one = column_first text p (omega (arith, h1, more)) s in
     let rest = columns_rise text (suc p) k (omega (arith, h1, up)) in
     subst (λ q. column_at text p + 1 ≤ column_at text q) (sym far) (omega (arith, one, rest))
-
-pub low_starts : (b : ℕ) → b < 128 → starts b ≡ true
-low_starts b h = grind (arith, nat_tests)
-
-high_starts : (b : ℕ) → 192 ≤ b → starts b ≡ true
-high_starts b h = grind (arith, nat_tests)
 
 char_starts : (text : List ℕ) (p x : ℕ) → Has text p (encode_utf8 x) → starts (byte text p) ≡ true
 char_starts text p x h = elim (cases_lt x 128) [

@@ -1,5 +1,5 @@
 -- Simple keys of every kind: scalars in the three styles that a key can have, aliases, and empty collections, with their properties.
-use Rattle.std.proofs.Common.{◌≡◌, ◌⊎◌, ℕ, ◌+◌, ◌-◌, ◌<◌, ◌≤◌, ◌==◌, ◌&&◌, ◌||◌, not, nat_lt, Bool, true, false, List, [], ◌∷◌, ◌++◌, length, Option, Some, None, refl, sym, ap, subst, ◌∙◌, inl, inr, arith, encode_utf8_all, IsUtf8}
+use Rattle.std.proofs.Common.{◌≡◌, ◌⊎◌, ℕ, ◌+◌, ◌-◌, ◌<◌, ◌≤◌, ◌==◌, ◌&&◌, ◌||◌, not, nat_lt, Bool, true, false, List, [], ◌∷◌, ◌++◌, length, Some, None, refl, sym, ap, subst, ◌∙◌, inl, inr, arith, encode_utf8_all, IsUtf8}
 use Rattle.std.specs.Prelude.{if◌then◌else◌}
 use Rattle.std.specs.Str.{chars}
 use Rattle.std.proofs.lemmas.Bool.{cases_Bool, false≢true}
@@ -24,11 +24,11 @@ use Rattle.yaml_emit_laws_text.specs.emit_layout.declared.level.Spot.{Spot}
 use Rattle.yaml_emit_laws_text.specs.emit_layout.declared.level.Part.{Part}
 use Rattle.yaml_emit_laws_text.specs.emit_layout.declared.level.Part.TheVariants as part
 use Rattle.yaml_emit_laws_text.specs.emit_layout.Content.{Opening, Scalar, Start, Node, alias_node, scalar_node, sequence_node, mapping_node, Nodes, no_nodes, node, Pairs, no_pairs, pair}
-use Rattle.yaml_emit_laws_text.specs.emit_layout.Grammar.{has, kept_if, scalar_tag, start_tag}
+use Rattle.yaml_emit_laws_text.specs.emit_layout.Grammar.{has, scalar_tag, start_tag}
 use Rattle.yaml_emit_laws_text.specs.emit_layout.Nodes.{Context, context_of, spot, style_of, is_plain, is_flow, is_simple, is_simple_start, anchor_text, tag_text, properties_text, page_at, deeper, checked, MOST, indented, indent_of, scalar_layout, alias_layout, closer, node_layout, items_layout, pairs_layout}
 use Rattle.yaml_emit_laws_text.specs.Bodies.{anchor_bodies, tag_bodies, mark_bodies}
 use Rattle.yaml_emit_laws_text.specs.Walk.{Left, bytes, first}
-use Rattle.yaml_emit_laws_text.specs.Writable.{IsWritable, IsWritableTag}
+use Rattle.yaml_emit_laws_text.specs.Writable.{IsWritable}
 use Rattle.yaml_emit_laws_text.proofs.QuotedWhole.{quoted_is_back}
 use Rattle.yaml_emit_laws_text.proofs.Steps.{letter_low, deep_bytes}
 use Rattle.yaml_scan_laws_texts.proofs.NamesRead.{anchor_is_read}
@@ -43,15 +43,18 @@ use Rattle.yaml_scan_laws_levels.specs.White.{IsGap}
 use Rattle.yaml_scan_laws_levels.proofs.Signing.{signs_come, printed_begins}
 use Rattle.yaml_emit_laws_pretty.specs.Bodies.{place, style_at, is_empty, is_nothing, style_named, takes_mark, value_bodies, scalar_bodies, node_bodies, sequence_opens, sequence_closes, mapping_opens, mapping_closes, items_bodies, pairs_bodies, keeps}
 use Rattle.yaml_emit_laws_pretty.specs.Nodes.{IsPretty}
-use Rattle.yaml_emit_laws_pretty.specs.Walk.{no_comment}
 use Rattle.yaml_emit_laws_pretty.specs.Spoken.{Spoken, Fits, all_bytes}
 use Rattle.yaml_emit_laws_pretty.proofs.Entries.{no_gap}
 use Rattle.yaml_emit_laws_pretty.proofs.SpokenWords.{alias_word, double_word, single_word, plain_word}
-use Rattle.yaml_emit_laws_pretty.proofs.SpokenLayouts.{behind_gap, alias_says, double_says, single_says, plain_says}
-use Rattle.yaml_emit_laws_pretty.proofs.KeyColumns.{letters_start, low_starts}
+use Rattle.yaml_emit_laws_pretty.proofs.SpokenLayouts.{alias_says, double_says, single_says, plain_says}
+use Rattle.yaml_emit_laws_pretty.proofs.KeyColumns.{letters_start}
 use Rattle.yaml_emit_laws_pretty.proofs.KeyForms.{KeyForm, KeyEnd, spaced, squares, curlies, end_bytes, end_bodies, StartsEnd, LeadsKey}
 use Rattle.yaml_emit_laws_pretty.proofs.LeafProps.{Dress, Moved, Leads, has_some, dress_all}
 use Rattle.yaml_emit_laws_pretty.proofs.KeyWords.{plains_none, calm_starts, fits_moved, form_words, form_as, LastWord}
+use Rattle.yaml_emit_laws_scalars.proofs.NearKeys.{kept_writable}
+use Rattle.yaml_emit_laws_pretty.proofs.FlowFollows.{colon_calm}
+use Rattle.yaml_emit_laws_pretty.proofs.FlowSigns.{behind_gap}
+use Rattle.yaml_emit_laws_scalars.proofs.Standing.{low_starts}
 
 -- ---- scalars
 
@@ -99,10 +102,6 @@ quote_some q letters inside low e =
 
 no_quote : (tail : List ℕ) → first (58 ∷ tail) ≡ 39 → ⊥
 no_quote tail e = omega (arith, e)
-
-colon_calm : (tail : List ℕ) → no_comment (58 ∷ tail) ≡ true
-unfolding no_comment
-colon_calm tail = refl
 
 -- what the three styles' laws are
 pub record Scalars : Type 0 where
@@ -262,11 +261,6 @@ last_of law flow level p n x c style.Single pretty same u deep far = last_single
 last_of law flow level p n x c style.Double pretty same u deep far = last_double flow level p.settings (spot flow n part.SimpleKey) x c u deep
 last_of law flow level p n x c style.Literal pretty same u deep far = let (may, out, whole) = (law.styles p (spot flow n part.SimpleKey) x).2 same in absurd (false≢true (sym whole))
 last_of law flow level p n x c style.Folded pretty same u deep far = let (may, out, whole) = (law.styles p (spot flow n part.SimpleKey) x).3 same in absurd (false≢true (sym whole))
-
-kept_writable : (b : Bool) (tag : Option (List ℕ)) → IsWritableTag tag
-    → IsWritableTag (kept_if b tag)
-kept_writable true tag h = h
-kept_writable false tag h = tt
 
 value_is : (b : Bool) (s : Style) (value : List ℕ) (bs : List TokenBody) → b ≡ false
     → value_bodies b s value bs ≡ tokens.scalar value (style_named s) ∷ bs

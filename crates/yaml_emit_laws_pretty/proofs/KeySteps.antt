@@ -369,7 +369,7 @@ record Opened (x : yaml_encoding_t) (text : List ℕ) (e d p : ℕ) (cs ls : Lis
   wide : Bool
   reads : ReadsKey x text (spot_at e line (d + 1) now wide) d (mark_at text p) cs ls T K
 
-deeper_out : (d : ℕ) (cs : List ℕ) → Outside d cs → Outside (d + 1) cs
+pub deeper_out : (d : ℕ) (cs : List ℕ) → Outside d cs → Outside (d + 1) cs
 unfolding Outside
 deeper_out d [] o = tt
 deeper_out d (c ∷ cs) (a, o) = (omega (arith, a), deeper_out d cs o)

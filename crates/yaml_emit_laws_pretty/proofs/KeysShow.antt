@@ -8,20 +8,17 @@ use Rattle.yaml_emit_laws_text.specs.scan_history.scan_words.Written.{begins_lex
 use Rattle.yaml_emit_laws_text.specs.Walk.{Has, Left}
 use Rattle.yaml_emit_laws_scalars.specs.Stops.{begins_solid, is_gap_byte}
 use Rattle.yaml_emit_laws_pretty.specs.Walk.{no_comment}
+use Rattle.yaml_emit_laws_text.proofs.Steps.{length_more}
 
 byte_here : (pre : List ℕ) (x : ℕ) (xs : List ℕ) → byte (pre ++ x ∷ xs) (length pre) ≡ x
 byte_here [] x xs = refl
 byte_here (y ∷ pre) x xs = byte_here pre x xs
 
-more_length : (pre : List ℕ) (x : ℕ) → length (pre ++ x ∷ []) ≡ length pre + 1
-more_length [] x = refl
-more_length (y ∷ pre) x = let e = more_length pre x in omega (arith, e)
-
 has_self : (pre xs : List ℕ) → Has (pre ++ xs) (length pre) xs
 has_self pre [] = tt
 has_self pre (x ∷ xs) =
     let h = has_self (pre ++ x ∷ []) xs in
-    (byte_here pre x xs, subst (λ n. Has (pre ++ x ∷ xs) n xs) (more_length pre x) (subst (λ (t : List ℕ). Has t (length (pre ++ x ∷ [])) xs) (append_assoc pre (x ∷ []) xs) h))
+    (byte_here pre x xs, subst (λ n. Has (pre ++ x ∷ xs) n xs) (length_more pre x) (subst (λ (t : List ℕ). Has t (length (pre ++ x ∷ [])) xs) (append_assoc pre (x ∷ []) xs) h))
 
 -- bytes are left of themselves
 pub left_self : (bs : List ℕ) → Left bs 0 bs

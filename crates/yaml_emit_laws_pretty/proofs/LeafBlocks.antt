@@ -43,7 +43,8 @@ use Rattle.yaml_emit_laws_pretty.specs.Bodies.{is_keep}
 use Rattle.yaml_emit_laws_pretty.specs.Walk.{Stage, LinedUp}
 use Rattle.yaml_emit_laws_pretty.specs.Nodes.{Ending, block_spot, column_round}
 use Rattle.yaml_emit_laws_pretty.proofs.Entries.{no_gap}
-use Rattle.yaml_emit_laws_pretty.proofs.KeyColumns.{columns_grow, low_starts}
+use Rattle.yaml_emit_laws_pretty.proofs.KeyColumns.{columns_grow}
+use Rattle.yaml_emit_laws_scalars.proofs.Standing.{low_starts}
 
 -- ---- the space in front
 

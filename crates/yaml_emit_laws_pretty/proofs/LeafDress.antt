@@ -29,9 +29,7 @@ use Rattle.yaml_emit_laws_pretty.proofs.KeyColumns.{calm_columns}
 use Rattle.yaml_emit_laws_pretty.proofs.KeySteps.{spot_at, front}
 use Rattle.yaml_emit_laws_pretty.proofs.LeafWords.{WordsRun, ClearFor, outside_clear, content_word, content_words}
 use Rattle.yaml_emit_laws_pretty.proofs.LeafProps.{Moved, has_words, has_some, dress_all}
-
-bare_off : (b : Bool) → b ≡ false → b ≡ true → ⊥
-bare_off b e f = false≢true (sym e ∙ f)
+use Rattle.yaml_emit_laws_pretty.proofs.Singles.{bare_off}
 
 -- ---- stages
 

@@ -1,5 +1,5 @@
 -- Aliases and scalars in a block, up to the line behind them.
-use Rattle.std.proofs.Common.{◌≡◌, ℕ, ◌+◌, ◌<◌, ◌≤◌, ◌==◌, ◌&&◌, ◌||◌, not, nat_lt, Bool, true, false, List, [], ◌∷◌, refl, sym, ap, subst, ◌∙◌, arith, Option, Some, None}
+use Rattle.std.proofs.Common.{◌≡◌, ℕ, ◌+◌, ◌<◌, ◌≤◌, ◌&&◌, ◌||◌, not, nat_lt, Bool, true, false, List, [], ◌∷◌, refl, sym, ap, subst, ◌∙◌, arith, Option, Some, None}
 use Rattle.std.specs.Prelude.{if◌then◌else◌, IsUtf8}
 use Rattle.std.specs.Str.{chars}
 use Rattle.std.proofs.lemmas.Bool.{false≢true}
@@ -19,13 +19,13 @@ use Rattle.yaml_emit_laws_text.specs.emit_layout.emit_text.Scalars.{scalar_text}
 use Rattle.yaml_emit_laws_text.specs.emit_layout.emit_text.Quoted.{double_quoted}
 use Rattle.yaml_emit_laws_text.specs.emit_layout.declared.level.Part.{Part}
 use Rattle.yaml_emit_laws_text.specs.emit_layout.Content.{Scalar, Opening, alias_node, scalar_node, sequence_node, mapping_node}
-use Rattle.yaml_emit_laws_text.specs.emit_layout.Grammar.{has, kept_if, scalar_tag}
+use Rattle.yaml_emit_laws_text.specs.emit_layout.Grammar.{has, scalar_tag}
 use Rattle.yaml_emit_laws_text.specs.emit_layout.Nodes.{Context, context_of, MOST, deeper, checked, page_at, style_of, is_plain, is_simple_part, properties_text, anchor_text, tag_text, alias_layout, scalar_layout, node_layout}
 use Rattle.yaml_emit_laws_text.specs.Bodies.{anchor_bodies, tag_bodies, mark_bodies}
 use Rattle.yaml_emit_laws_text.specs.QuotedLaws.{QuotedIsReadBack}
 use Rattle.yaml_emit_laws_text.specs.ReadBack.{between_quotes, between_single}
 use Rattle.yaml_emit_laws_text.specs.Walk.{Left, bytes, first}
-use Rattle.yaml_emit_laws_text.specs.Writable.{IsWritable, IsWritableTag}
+use Rattle.yaml_emit_laws_text.specs.Writable.{IsWritable}
 use Rattle.yaml_emit_laws_text.proofs.Steps.{letter_low, deep_bytes}
 use Rattle.yaml_scan_laws_texts.proofs.NamesRead.{anchor_is_read}
 use Rattle.yaml_scan_laws_levels.specs.Walks.{Where}
@@ -36,15 +36,17 @@ use Rattle.yaml_emit_laws_block.specs.Laws.{from_indicator, margin_round}
 use Rattle.yaml_emit_laws_pretty.specs.Bodies.{style_at, takes_mark, scalar_bodies, scalar_kept, node_bodies, node_kept}
 use Rattle.yaml_emit_laws_pretty.specs.Walk.{Stage, LinedUp, PlainIsWalked, SingleIsWalked}
 use Rattle.yaml_emit_laws_pretty.specs.Nodes.{Ending, NodeWalks, IsPretty, LeavesAreWalked, BlockScalarsAreWalked, block_spot, column_round, is_block}
-use Rattle.yaml_emit_laws_pretty.specs.Spoken.{ends_name}
 use Rattle.yaml_emit_laws_pretty.proofs.Following.{line_bytes, line_white}
 use Rattle.yaml_emit_laws_pretty.proofs.Lining.{line_ends}
 use Rattle.yaml_emit_laws_pretty.proofs.NodeLines.{up_says, word_begins_white}
 use Rattle.yaml_emit_laws_pretty.proofs.PlainLayouts.{plain_walks, plain_white}
 use Rattle.yaml_emit_laws_pretty.proofs.SpokenWords.{alias_word, double_word}
-use Rattle.yaml_emit_laws_pretty.proofs.SpokenLayouts.{alias_says, double_says, behind_gap}
+use Rattle.yaml_emit_laws_pretty.proofs.SpokenLayouts.{alias_says, double_says}
 use Rattle.yaml_emit_laws_pretty.proofs.LeafBlocks.{block_line}
 use Rattle.yaml_emit_laws_pretty.proofs.LeafDress.{dressed, word_walks}
+use Rattle.yaml_emit_laws_scalars.proofs.NearKeys.{kept_writable}
+use Rattle.yaml_emit_laws_pretty.proofs.FlowFollows.{white_ends, space_parts}
+use Rattle.yaml_emit_laws_pretty.proofs.FlowSigns.{behind_gap}
 
 -- ---- white
 
@@ -71,20 +73,16 @@ spaced_text page digit v style.Double some e R white = ap (λ (bs : List ℕ). f
 spaced_text page digit v style.Literal some e R white = ap (λ (bs : List ℕ). first bs) (gap_bytes (from_indicator page digit false v) e R white)
 spaced_text page digit v style.Folded some e R white = ap (λ (bs : List ℕ). first bs) (gap_bytes (from_indicator page digit true v) e R white)
 
-space_white : (bs : List ℕ) → first bs ≡ 32 → begins_white bs ≡ true
-space_white [] e = refl
-space_white (b ∷ bs) e = subst (λ x. begins_white (x ∷ bs) ≡ true) (sym e) refl
-
 text_white : PlainHasGap → (page : Page) (digit : ℕ) (v : List ℕ) → IsUtf8 v → (st : Style)
     → (b : LineBreak) (m : ℕ) (after : Rest) (e : Cursor) → e.white ≡ false
     → begins_white (bytes (scalar_text page digit false st (chars v) e (λ i. line b m i after)))
     ≡ true
 unfolding scalar_text
 text_white gaps page digit v u style.Plain b m after e white = plain_white gaps page e v (λ i. line b m i after) u white (λ i bare. text_line_white b m after i bare)
-text_white gaps page digit v u style.Single b m after e white = space_white (bytes (scalar_text page digit false style.Single (chars v) e (λ i. line b m i after))) (spaced_text page digit (chars v) style.Single refl e (λ i. line b m i after) white)
-text_white gaps page digit v u style.Double b m after e white = space_white (bytes (scalar_text page digit false style.Double (chars v) e (λ i. line b m i after))) (spaced_text page digit (chars v) style.Double refl e (λ i. line b m i after) white)
-text_white gaps page digit v u style.Literal b m after e white = space_white (bytes (scalar_text page digit false style.Literal (chars v) e (λ i. line b m i after))) (spaced_text page digit (chars v) style.Literal refl e (λ i. line b m i after) white)
-text_white gaps page digit v u style.Folded b m after e white = space_white (bytes (scalar_text page digit false style.Folded (chars v) e (λ i. line b m i after))) (spaced_text page digit (chars v) style.Folded refl e (λ i. line b m i after) white)
+text_white gaps page digit v u style.Single b m after e white = space_parts (bytes (scalar_text page digit false style.Single (chars v) e (λ i. line b m i after))) (spaced_text page digit (chars v) style.Single refl e (λ i. line b m i after) white)
+text_white gaps page digit v u style.Double b m after e white = space_parts (bytes (scalar_text page digit false style.Double (chars v) e (λ i. line b m i after))) (spaced_text page digit (chars v) style.Double refl e (λ i. line b m i after) white)
+text_white gaps page digit v u style.Literal b m after e white = space_parts (bytes (scalar_text page digit false style.Literal (chars v) e (λ i. line b m i after))) (spaced_text page digit (chars v) style.Literal refl e (λ i. line b m i after) white)
+text_white gaps page digit v u style.Folded b m after e white = space_parts (bytes (scalar_text page digit false style.Folded (chars v) e (λ i. line b m i after))) (spaced_text page digit (chars v) style.Folded refl e (λ i. line b m i after) white)
 
 -- ---- pages
 
@@ -115,10 +113,6 @@ scalar_shape s o pretty around q v c R =
     let body : Style → Layout = λ t. checked (deeper s around) ▹ scalar_text (page_at s at) s.indent false t (chars v.value) in
     let all : Bool → Style → Layout = λ b t. properties_text p v.anchor (scalar_tag b v) ▹ (when (not (has (scalar_tag b v)) && (not v.quoted && not (is_plain t))) (word (33 ∷ [])) ▹ body t) in
     ap (λ (b : Bool). all b (style_of p at v) c R) pretty ∙ ap (λ (t : Style). all false t c R) (spot_style p around q v)
-
-kept_tag : (b : Bool) (t : Option (List ℕ)) → IsWritableTag t → IsWritableTag (kept_if b t)
-kept_tag true t fine = fine
-kept_tag false t fine = tt
 
 -- ---- the text of a scalar, up to the line behind it
 
@@ -235,7 +229,7 @@ scalar_walks gaps s o pretty around q bare v (anchor, tag, u) lines = record {
       let t = scalar_tag false v in
       let k = marked p q v in
       let deep : (e : Cursor) → bytes (body e) ≡ bytes (a e R) = λ e. deep_bytes (nat_lt MOST n) (a e R) in
-      let h = dressed s o pretty v.anchor t k anchor (kept_tag (false || not (v.plain || v.quoted)) v.tag tag) ls c body (λ e b f. ap (λ bs. begins_white bs) (deep e) ∙ text_white gaps page s.indent v.value u chosen s.line_break m after e f)
+      let h = dressed s o pretty v.anchor t k anchor (kept_writable (false || not (v.plain || v.quoted)) v.tag tag) ls c body (λ e b f. ap (λ bs. begins_white bs) (deep e) ∙ text_white gaps page s.indent v.value u chosen s.line_break m after e f)
       (λ is e b f. ap (λ (bs : List ℕ). first bs) (deep e) ∙ spaced_text page s.indent (chars v.value) chosen (mark_plain (not (has t)) (not v.quoted) chosen is) e R f) x text w T st right
       (subst (λ ts. Left text w.at (bytes ts)) (scalar_shape s o pretty.pretty around q v c R) l) in
       let U : List TokenBody → List TokenBody = λ bs. T (anchor_bodies v.anchor (tag_bodies o.directives t (mark_bodies k bs))) in
@@ -254,10 +248,6 @@ scalar_walks gaps s o pretty around q bare v (anchor, tag, u) lines = record {
 }
 
 -- ---- aliases
-
-white_ends : (bs : List ℕ) → begins_white bs ≡ true → ends_name bs ≡ true
-white_ends [] e = refl
-white_ends (b ∷ bs) e = ap (λ (t : Bool). t || (b == 44 || (b == 93 || b == 125))) e
 
 alias_shape : (p : Context) (around : Option ℕ) (q : Part) (name : List ℕ)
     → is_simple_part q ≡ false → (c : Cursor) (R : Rest)

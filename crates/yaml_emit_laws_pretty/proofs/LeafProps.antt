@@ -1,21 +1,19 @@
 -- Properties as words: an anchor, a tag, and the `!` of an untagged scalar.
 use Rattle.std.proofs.Common.{◌≡◌, ℕ, ◌+◌, ◌/◌, ◌%◌, ◌<◌, not, nat_lt, Bool, true, false, List, [], ◌∷◌, ◌++◌, length, Option, Some, None, refl, sym, ap, subst, ◌∙◌, inl, inr, arith, append_assoc}
 use Rattle.std.specs.Prelude.{if◌then◌else◌}
-use Rattle.std.proofs.lemmas.Bool.{cases_Bool, and_parts}
+use Rattle.std.proofs.lemmas.Bool.{cases_Bool}
 use Rattle.std.proofs.lemmas.Bool.Decides.{nat_tests}
 use Rattle.yaml_emit_laws_text.specs.emit_layout.scan_model.Tokens.{TokenBody}
 use Rattle.yaml_emit_laws_text.specs.scan_history.declared.kind.Kind.TheVariants as kinds
-use Rattle.yaml_emit_laws_text.specs.scan_history.scan_model.Classes.{is_alpha_byte, is_digit_byte}
-use Rattle.yaml_emit_laws_text.specs.scan_history.scan_words.Written.{are_alphas}
 use Rattle.yaml_emit_laws_text.specs.emit_layout.emit_text.declared.Cursor.{Cursor}
 use Rattle.yaml_emit_laws_text.specs.emit_layout.emit_text.declared.Settings.{Settings}
-use Rattle.yaml_emit_laws_text.specs.emit_layout.emit_text.Hex.{hex_2, hex_digit}
+use Rattle.yaml_emit_laws_text.specs.emit_layout.emit_text.Hex.{hex_2}
 use Rattle.yaml_emit_laws_text.specs.emit_layout.emit_text.Layout.{Layout, Rest, ◌▹◌, stay, when, letters, word, blank}
-use Rattle.yaml_emit_laws_text.specs.emit_layout.emit_tags.Tags.{suffix_keeps, keeps_byte, uri_byte, uri_text, Split, shorthand, verbatim, spelled, split_tag}
+use Rattle.yaml_emit_laws_text.specs.emit_layout.emit_tags.Tags.{keeps_byte, uri_byte, uri_text, Split, shorthand, verbatim, spelled, split_tag}
 use Rattle.yaml_emit_laws_text.specs.emit_layout.Content.{Opening}
 use Rattle.yaml_emit_laws_text.specs.emit_layout.Nodes.{context_of, anchor_text, tag_text}
 use Rattle.yaml_emit_laws_text.specs.Bodies.{anchor_bodies, tag_bodies, mark_bodies}
-use Rattle.yaml_emit_laws_text.specs.TagsLaws.{IsShaped, IsReadable, are_ascii, IsMarked}
+use Rattle.yaml_emit_laws_text.specs.TagsLaws.{IsReadable}
 use Rattle.yaml_emit_laws_text.specs.Walk.{bytes, first}
 use Rattle.yaml_emit_laws_text.specs.Writable.{IsWritableAnchor, IsWritableTag, IsWritableOpening}
 use Rattle.yaml_emit_laws_text.proofs.Ascii.{spelled_ascii}
@@ -28,50 +26,17 @@ use Rattle.yaml_emit_laws_text.proofs.Words.{lettered_on}
 use Rattle.yaml_scan_laws_texts.proofs.Lines.{lone_mark_is_read}
 use Rattle.yaml_scan_laws_texts.proofs.NamesRead.{anchor_is_read}
 use Rattle.yaml_emit_laws_scalars.specs.Stops.{begins_white}
-use Rattle.yaml_emit_laws_scalars.proofs.Lines.{bool_cases}
 use Rattle.yaml_emit_laws_pretty.specs.Spoken.{Spoken, spoken_bytes, all_bytes, all_bodies, AllFit, Fits}
 use Rattle.yaml_emit_laws_pretty.proofs.SpokenWords.{anchor_word, tag_word, mark_word}
+use Rattle.yaml_emit_laws_scalars.proofs.NearKeys.{kept_above, calm_all, Above, above_append, alphas_calm, digit_above, handle_above, marked_ascii}
 
 -- ---- bytes above the controls
-
-abbrev Above : List ℕ → Type 0
-Above [] = Unit {0}
-Above (b ∷ bs) = (13 < b) × Above bs
-
-above_append : (xs ys : List ℕ) → Above xs → Above ys → Above (xs ++ ys)
-above_append [] ys h k = k
-above_append (x ∷ xs) ys (a, h) k = (a, above_append xs ys h k)
 
 less : (x : ℕ) → nat_lt x 128 ≡ true → x < 128
 less x h = grind (arith, nat_tests)
 
 low : (x : ℕ) → x < 128 → nat_lt x 128 ≡ true
 low x h = grind (arith, nat_tests)
-
-calm_all : (xs : List ℕ) → Above xs → are_ascii xs ≡ true → AreCalm xs
-calm_all [] h a = tt
-calm_all (x ∷ xs) (b, h) a = (calm_from x b (less x (and_parts (nat_lt x 128) (are_ascii xs) a).0), calm_all xs h (and_parts (nat_lt x 128) (are_ascii xs) a).1)
-
-alpha_above : (b : ℕ) → is_alpha_byte b ≡ true → (13 < b) × (b < 128)
-unfolding is_alpha_byte is_digit_byte
-alpha_above b h = (grind (arith, nat_tests), grind (arith, nat_tests))
-
-pub alphas_calm : (name : List ℕ) → are_alphas name ≡ true → AreCalm name
-alphas_calm [] h = tt
-alphas_calm (b ∷ bs) h = let a = alpha_above b (and_parts (is_alpha_byte b) (are_alphas bs) h).0 in (calm_from b a.0 a.1, alphas_calm bs (and_parts (is_alpha_byte b) (are_alphas bs) h).1)
-
-alphas_above : (name : List ℕ) → are_alphas name ≡ true → Above name
-alphas_above [] h = tt
-alphas_above (b ∷ bs) h = ((alpha_above b (and_parts (is_alpha_byte b) (are_alphas bs) h).0).0, alphas_above bs (and_parts (is_alpha_byte b) (are_alphas bs) h).1)
-
-kept_above : (flow : Bool) (b : ℕ) → keeps_byte flow b ≡ true → 13 < b
-unfolding suffix_keeps
-kept_above true b h = grind (arith, nat_tests)
-kept_above false b h = grind (arith, nat_tests)
-
-digit_above : (d : ℕ) → 13 < hex_digit d
-unfolding hex_digit
-digit_above d = bool_cases (nat_lt d 10) (λ e. rw e (omega arith)) (λ e. rw e (omega arith))
 
 byte_above : (flow : Bool) (b : ℕ) → Above (uri_byte flow b)
 byte_above flow b =
@@ -85,17 +50,10 @@ unfolding uri_text
 uri_above flow [] = tt
 uri_above flow (b ∷ bs) = above_append (uri_byte flow b) (uri_text flow bs) (byte_above flow b) (uri_above flow bs)
 
-handle_above : (handle : List ℕ) → IsShaped handle → Above handle
-handle_above handle (inl e) = subst (λ (xs : List ℕ). Above xs) (sym e) (omega arith, tt)
-handle_above handle (inr (name, e, are)) = subst (λ (xs : List ℕ). Above xs) (sym e) (omega arith, above_append name (33 ∷ []) (alphas_above name are) (omega arith, tt))
-
 split_above : (split : Split) → IsReadable split → Above (spelled split)
 unfolding spelled
 split_above (shorthand handle suffix) (shaped, u, some) = above_append handle (uri_text false suffix) (handle_above handle shaped) (uri_above false suffix)
 split_above (verbatim tag) u = (omega arith, (omega arith, above_append (uri_text true tag) (62 ∷ []) (uri_above true tag) (omega arith, tt)))
-
-marked_ascii : (xs : List ℕ) → IsMarked xs → are_ascii xs ≡ true
-marked_ascii xs m = subst (λ (ys : List ℕ). are_ascii ys ≡ true) (sym m.begins) m.ascii
 
 tag_calm : (o : Opening) → IsWritableOpening o → (t : List ℕ) → IsWritableTag (Some t)
     → AreCalm (spelled (split_tag o.directives t))

@@ -16,6 +16,7 @@ use Rattle.yaml_scan_laws_levels.specs.Walks.{Reads, LeaveClear, Outside}
 use Rattle.yaml_scan_laws_levels.proofs.Walking.{walk_white, walk_word, deeper_leaves}
 use Rattle.yaml_emit_laws_pretty.specs.Spoken.{is_text, Fits, Spoken, spoken_bytes, all_bytes, all_bodies, AllFit}
 use Rattle.yaml_emit_laws_pretty.proofs.KeySteps.{texty, stands_comes, stands_leaves, spot_at, front}
+use Rattle.yaml_emit_laws_pretty.proofs.FlowSteps.{off_or}
 
 -- words of text leave the depths without candidates so, where a key may begin as it may now
 abbrev pub ClearFor : Bool → ℕ → List ℕ → Type 0
@@ -24,13 +25,9 @@ ClearFor now d cs = (a : Bool) → (now ≡ false → a ≡ false) → (k : Kind
 pub outside_clear : (now : Bool) (d : ℕ) (cs : List ℕ) → Outside d cs → ClearFor now d cs
 outside_clear now d cs out a h k is = deeper_leaves k d a cs out
 
-no_more : (a b : Bool) → a ≡ false → (a || (false && b)) ≡ false
-no_more true b e = absurd (false≢true (sym e))
-no_more false b e = refl
-
 still : (now b : Bool) (d : ℕ) (cs : List ℕ) → ClearFor now d cs
     → ClearFor (now || (false && b)) d cs
-still now b d cs f a h k is = f a (λ e. h (no_more now b e)) k is
+still now b d cs f a h k is = f a (λ e. h (off_or now b e)) k is
 
 quiet : (now : Bool) (d : ℕ) (cs : List ℕ) → ClearFor now d cs → ClearFor false d cs
 quiet now d cs f a h k is = f a (λ e. h refl) k is
@@ -57,7 +54,7 @@ word_here d ls w bs x text q line now broken cs T reads clear right l fits =
     let t = texty w.kind w.plain in
     let z : q + 0 ≡ q = omega arith in
     let said : WordText = record { body = w.body; end = s.end; reached = s.reached; broke = s.broke } in
-    let r = walk_word x text (spot_at q line d now broken) cs ls T w.kind [] said e false s.wide reads (clear (now || (false && broken)) (λ h. no_more now broken h) w.kind w.plain)
+    let r = walk_word x text (spot_at q line d now broken) cs ls T w.kind [] said e false s.wide reads (clear (now || (false && broken)) (λ h. off_or now broken h) w.kind w.plain)
     (stands_comes d (indent ls) w.kind w.body text q e bs (omega arith) s) (t.stays d) (subst (λ i. IsRight d ls (column_at text i)) (sym z) right)
     (λ v. absurd (false≢true (sym t.lone ∙ v))) (stands_leaves d (indent ls) w.kind w.body text q e bs t s) in
     record {

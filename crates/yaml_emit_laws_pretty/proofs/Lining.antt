@@ -21,6 +21,7 @@ use Rattle.yaml_scan_laws_levels.specs.Walks.{Where}
 use Rattle.yaml_scan_laws_levels.proofs.Slotting.{letter_columns, feed_line}
 use Rattle.yaml_scan_laws_levels.proofs.Walking.{walk_white}
 use Rattle.yaml_emit_laws_pretty.specs.Walk.{Stage, NoFeed, Lined, LineIsWalked, LineEndsNode}
+use Rattle.yaml_emit_laws_text.proofs.Single.{line_start}
 
 pub first_byte : (text : List ℕ) (p : ℕ) (bs : List ℕ) → Left text p bs → byte text p ≡ first bs
 first_byte text p [] l = let e = l.ends in get_or_past text p 0 (omega (arith, e))
@@ -72,9 +73,6 @@ first_blank (suc n) c m rest none bare white column e =
     omega (arith, f)
 
 -- ---- the break that is set
-
-abbrev line_start : Cursor → Cursor
-line_start c = record { column = 0; white = true; bare = true; kept = c.kept }
 
 record Broken (x : yaml_encoding_t) (text : List ℕ) (c : Cursor) (rest : Rest) (ls more : List ℕ) (T : List TokenBody → List TokenBody) : Type 0 where
   place : Where

@@ -13,7 +13,7 @@ use Rattle.yaml_emit_laws_text.specs.emit_layout.emit_text.Layout.{Layout, Rest,
 use Rattle.yaml_emit_laws_text.specs.emit_layout.declared.level.Part.{Part}
 use Rattle.yaml_emit_laws_text.specs.emit_layout.declared.level.Part.TheVariants as part
 use Rattle.yaml_emit_laws_text.specs.emit_layout.Content.{Start, Opening, Node, Nodes, node, Pairs, pair, sequence_node, mapping_node}
-use Rattle.yaml_emit_laws_text.specs.emit_layout.Grammar.{kept_if, start_tag}
+use Rattle.yaml_emit_laws_text.specs.emit_layout.Grammar.{start_tag}
 use Rattle.yaml_emit_laws_text.specs.emit_layout.Nodes.{Context, context_of, MOST, is_of_mapping, is_flow, checked, indented, indent_of, block_indent_in, properties_text, tag_text, node_layout, items_layout, pairs_layout, before_item, before_key}
 use Rattle.yaml_emit_laws_text.specs.Bodies.{anchor_bodies, tag_bodies}
 use Rattle.yaml_emit_laws_text.specs.Walk.{Left, bytes}
@@ -28,6 +28,7 @@ use Rattle.yaml_emit_laws_pretty.specs.Nodes.{Ending, NodeWalks, IsPretty, Prope
 use Rattle.yaml_emit_laws_pretty.proofs.NodeLines.{line_begins_white, word_begins_white, up_says}
 use Rattle.yaml_emit_laws_pretty.proofs.NodeItems.{MoreItems, sequence_walks, loose_walks}
 use Rattle.yaml_emit_laws_pretty.proofs.NodePairs.{PairWalks, PairsWalk, mapping_walks}
+use Rattle.yaml_emit_laws_scalars.proofs.NearKeys.{kept_writable}
 
 -- ---- properties, or none
 
@@ -63,10 +64,6 @@ properties_white : (p : Context) (a t : Option (List ℕ)) (c : Cursor) (rest : 
 properties_white p None None c rest white next = next
 properties_white p (Some a) t c rest white next = word_begins_white (38 ∷ a) c (λ e. tag_text p t e rest) white
 properties_white p None (Some t) c rest white next = word_begins_white _ c rest white
-
-kept_tag : (b : Bool) (t : Option (List ℕ)) → IsWritableTag t → IsWritableTag (kept_if b t)
-kept_tag true t fine = fine
-kept_tag false t fine = tt
 
 -- ---- layouts
 
@@ -178,7 +175,7 @@ block_sequence law s d pretty around q bare place o y ys good fine block walk = 
       let tag = start_tag false o in
       let body : Rest = λ e. indented (indent_of s (block_spot around q) true false) (λ n. checked n ▹ items_layout p false n true (node y ys)) e R in
       let l1 = subst (λ t. Left text w.at (bytes t)) (sequence_layout s d.directives around q o y ys pretty.pretty block c R) l in
-      let h = opens_on law s d pretty o.anchor tag good (kept_tag (false || not o.implicit) o.tag fine) ls c body (λ e b white. inside_white p around q y ys e m after white) x text w T st right l1 in
+      let h = opens_on law s d pretty o.anchor tag good (kept_writable (false || not o.implicit) o.tag fine) ls c body (λ e b white. inside_white p around q y ys e m after white) x text w T st right l1 in
       let e = h.cursor in
       let U : List TokenBody → List TokenBody = λ bs. T (anchor_bodies o.anchor (tag_bodies d.directives tag bs)) in
       let loose = keeps q bare o in
@@ -244,7 +241,7 @@ block_mapping law s d pretty around q bare o k v ps good fine block walk = recor
       let n = block_indent_in s around false in
       let body : Rest = λ e. indented (indent_of s (block_spot around q) false false) (λ n. checked n ▹ pairs_layout p false n true (pair k v ps)) e R in
       let l1 = subst (λ t. Left text w.at (bytes t)) (mapping_layout s d.directives around q o k v ps pretty.pretty block c R) l in
-      let h = opens_on law s d pretty o.anchor tag good (kept_tag (false || not o.implicit) o.tag fine) ls c body (λ e b white. inside_white p around q k v ps e m after white) x text w T st right l1 in
+      let h = opens_on law s d pretty o.anchor tag good (kept_writable (false || not o.implicit) o.tag fine) ls c body (λ e b white. inside_white p around q k v ps e m after white) x text w T st right l1 in
       let e = h.cursor in
       let U : List TokenBody → List TokenBody = λ bs. T (anchor_bodies o.anchor (tag_bodies d.directives tag bs)) in
       let l2 = subst (λ (bs : List ℕ). Left text h.place.at bs) (deep_bytes (nat_lt MOST n) (pairs_layout p false n true (pair k v ps) e R)) h.left in

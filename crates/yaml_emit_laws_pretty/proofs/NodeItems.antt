@@ -115,7 +115,7 @@ sequence_line p n y xs x text c o ls m after T s l =
     let R : Rest = λ h. node_layout p (spot false n part.Item) y h (λ k. items_layout p false n false xs k (λ e. line p.settings.line_break m e after)) in
     line_on p.settings.line_break n x text c o ls [] T (λ d. indicator 45 d R) s (shows_no_feed n (λ d. indicator 45 d R) (mark_shows Entry n R)) l
 
-none_rise : (b : ℕ) → Rises b []
+pub none_rise : (b : ℕ) → Rises b []
 unfolding Rises
 none_rise b = tt
 

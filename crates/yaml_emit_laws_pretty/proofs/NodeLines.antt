@@ -81,7 +81,7 @@ mark_calm Entry bs = refl
 mark_calm Question bs = refl
 mark_calm Answer bs = refl
 
-mark_small : (k : Mark) → nat_lt (mark_byte k) 128 ≡ true
+pub mark_small : (k : Mark) → nat_lt (mark_byte k) 128 ≡ true
 mark_small Entry = refl
 mark_small Question = refl
 mark_small Answer = refl

@@ -27,6 +27,7 @@ use Rattle.yaml_emit_laws_pretty.proofs.Lining.{line_on}
 use Rattle.yaml_emit_laws_pretty.proofs.Entries.{mark_on}
 use Rattle.yaml_emit_laws_pretty.proofs.Following.{shown_ends, shows_no_feed, ending_up}
 use Rattle.yaml_emit_laws_pretty.proofs.NodeLines.{mark_shows, up_ends}
+use Rattle.yaml_emit_laws_pretty.proofs.NodeItems.{none_rise}
 
 -- ---- what a pair writes behind its line, and what follows a pair
 
@@ -232,10 +233,6 @@ all_pairs p n no_pairs all = pairs_none p n
 all_pairs p n (pair k v ps) (one, all) = pairs_more p n k v ps one all (all_pairs p n ps all)
 
 -- ---- mappings
-
-none_rise : (b : ℕ) → Rises b []
-unfolding Rises
-none_rise b = tt
 
 mapping_line : (p : Context) (n : ℕ) (k v : Node) (ps : Pairs) → PairWalks p n k v
     → (x : yaml_encoding_t) (text : List ℕ) (c : Cursor) (o : Where) (ls : List ℕ) (m : ℕ)

@@ -59,7 +59,7 @@ never e = cc
 
 -- ---- a lexeme begins behind the white
 
-no_hash : (text : List ℕ) (p : ℕ) (bs : List ℕ) → Left text p bs → no_comment bs ≡ true
+pub no_hash : (text : List ℕ) (p : ℕ) (bs : List ℕ) → Left text p bs → no_comment bs ≡ true
     → byte text (p + length (white_of bs)) ≡ 35 → ⊥
 unfolding no_comment white_of
 no_hash text p [] l h e =
@@ -83,7 +83,7 @@ no_hash text p (b ∷ bs) l h e = elim (cases_Bool (is_gap_byte b)) [
     differs : (b : ℕ) → b ≡ 35 → not (b == 35) ≡ true → ⊥
     differs b e f = grind (arith, nat_tests)
 
-begins_by : (text : List ℕ) (q : ℕ) → (is_blank (byte text q)) ≡ false
+pub begins_by : (text : List ℕ) (q : ℕ) → (is_blank (byte text q)) ≡ false
     → nat_lt 0 (break_width text q) ≡ false → (byte text q == 35) ≡ false
     → (q == 0 && is_bom text q) ≡ false → begins_lexeme text q ≡ true
 begins_by text q blank wide hash bom = let (space, tab) = either (byte text q == 32) (byte text q == 9) blank in rw (space, tab, hash, wide, bom) refl

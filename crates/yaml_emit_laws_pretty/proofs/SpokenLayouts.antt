@@ -1,12 +1,9 @@
 -- What layouts of single words say: names, tags, and scalars in the three styles of a line.
-use Rattle.std.proofs.Common.{◌≡◌, ℕ, ◌+◌, ◌<◌, ◌≤◌, not, nat_lt, Bool, true, false, List, [], ◌∷◌, ◌++◌, length, Some, refl, sym, ap, subst, ◌∙◌, arith, encode_utf8_all}
+use Rattle.std.proofs.Common.{◌≡◌, ℕ, ◌+◌, ◌<◌, ◌≤◌, not, nat_lt, Bool, true, false, List, [], ◌∷◌, ◌++◌, length, Some, refl, sym, ap, subst, ◌∙◌, encode_utf8_all}
 use Rattle.std.specs.Prelude.{if◌then◌else◌, IsUtf8}
 use Rattle.std.specs.Str.{chars}
-use Rattle.std.proofs.lemmas.Bool.Decides.{nat_tests}
 use Rattle.std.proofs.lemmas.List.{append-nil}
 use Rattle.std.proofs.lemmas.Bool.{and_parts}
-use Rattle.yaml_emit_laws_text.specs.scan_history.scan_model.Classes.{is_alpha_byte, is_digit_byte}
-use Rattle.yaml_emit_laws_text.specs.scan_history.scan_words.Written.{are_alphas}
 use Rattle.yaml_emit_laws_text.specs.scan_history.scan_words.Laws.{AnchorReads}
 use Rattle.yaml_emit_laws_text.specs.scan_history.scan_scalars.Quoted.{double_quoted_at}
 use Rattle.yaml_emit_laws_text.specs.emit_layout.emit_text.declared.Cursor.{Cursor}
@@ -26,12 +23,14 @@ use Rattle.yaml_scan_laws_texts.specs.WordsLaws.{LoneMarkReads}
 use Rattle.yaml_emit_laws_text.specs.Walk.{bytes}
 use Rattle.yaml_emit_laws_text.specs.Writable.{IsWritableName, IsWritableOpening, IsWritableTag}
 use Rattle.yaml_emit_laws_text.proofs.Steps.{letter_low}
-use Rattle.yaml_emit_laws_text.proofs.Words.{front_encodes}
+use Rattle.yaml_emit_laws_text.proofs.Words.{front_encodes, lettered_on}
 use Rattle.yaml_emit_laws_scalars.specs.PlainLaws.{PlainIsReadBack, may_be_plain}
 use Rattle.yaml_emit_laws_scalars.specs.SingleLaws.{SingleLinesAreReadBack}
 use Rattle.yaml_emit_laws_scalars.specs.StandsLaws.{PlainHasGap, ScalarsAreWords}
 use Rattle.yaml_emit_laws_pretty.specs.Spoken.{Spoken, Says}
 use Rattle.yaml_emit_laws_pretty.proofs.SpokenWords.{anchor_word, alias_word, tag_word, mark_word, double_word, single_word, plain_word}
+use Rattle.yaml_emit_laws_text.proofs.Ascii.{alphas_ascii}
+use Rattle.yaml_emit_laws_pretty.proofs.FlowSigns.{behind_gap}
 
 -- a layout writes these bytes from a cursor on, whatever follows
 pub record Wrote (a : Layout) (c : Cursor) (own : List ℕ) : Type 0 where
@@ -42,11 +41,6 @@ pub record Wrote (a : Layout) (c : Cursor) (own : List ℕ) : Type 0 where
   pub kept : behind.kept ≡ c.kept
 
 -- ---- the space in front
-
--- the cursor behind that space, by whether white was last
-abbrev pub behind_gap : Bool → Cursor → Cursor
-behind_gap true c = c
-behind_gap false c = record { column = c.column + 1; white = true; bare = c.bare; kept = c.kept }
 
 gap_case : (flow : Bool) (level : ℕ) (a : Layout) (make : Bool → Cursor → Spoken flow level)
     → ((b : Bool) (d : Cursor) → (make b d).spaced ≡ b)
@@ -88,9 +82,6 @@ gap_says flow level a make spaced wrote c =
 
 -- ---- letters
 
-abbrev lettered_on : Cursor → Cursor
-lettered_on c = record { column = c.column + 1; white = false; bare = false; kept = c.kept }
-
 -- letters in ASCII, and the cursor behind them
 record Letters (xs : List ℕ) (c : Cursor) : Type 0 where
   behind : Cursor
@@ -124,14 +115,6 @@ letters_wrote x xs low c =
       white = r.white refl;
       kept = r.kept;
     }
-
-alpha_low : (b : ℕ) → is_alpha_byte b ≡ true → nat_lt b 128 ≡ true
-unfolding is_alpha_byte is_digit_byte
-alpha_low b h = grind (arith, nat_tests)
-
-alphas_ascii : (xs : List ℕ) → are_alphas xs ≡ true → are_ascii xs ≡ true
-alphas_ascii [] are = refl
-alphas_ascii (x ∷ xs) are = rw (alpha_low x (and_parts (is_alpha_byte x) (are_alphas xs) are).0) (alphas_ascii xs (and_parts (is_alpha_byte x) (are_alphas xs) are).1)
 
 pub anchor_says : (names : AnchorReads) (flow : Bool) (level : ℕ) (name : List ℕ)
     (good : IsWritableName name) (c : Cursor)

@@ -1,8 +1,7 @@
 -- The words of a node: each is read wherever its bytes stand before what fits.
 use Rattle.std.proofs.Common.{◌≡◌, ℕ, ◌+◌, ◌≤◌, ◌==◌, ◌&&◌, ◌||◌, not, nat_lt, Bool, true, false, List, [], ◌∷◌, ◌++◌, length, zero, suc, Some, Result, Ok, refl, sym, ap, subst, ◌∙◌, inl, inr, arith, encode_utf8, encode_utf8_all}
-use Rattle.std.specs.Prelude.{if◌then◌else◌}
 use Rattle.std.specs.Str.{chars}
-use Rattle.std.proofs.lemmas.Bool.{cases_Bool, or_left, or_right, or_cases, and_parts}
+use Rattle.std.proofs.lemmas.Bool.{or_left, or_right, or_cases, and_parts}
 use Rattle.std.proofs.lemmas.Bool.Decides.{nat_tests}
 use Rattle.std.proofs.lemmas.Str.{encode_ascii}
 use Rattle.yaml_emit_laws_text.specs.emit_layout.scan_model.declared.yaml_scalar_style_t.TheVariants.{YAML_PLAIN_SCALAR_STYLE, YAML_SINGLE_QUOTED_SCALAR_STYLE, YAML_DOUBLE_QUOTED_SCALAR_STYLE}
@@ -19,7 +18,7 @@ use Rattle.yaml_emit_laws_text.specs.scan_history.scan_scalars.Plain.{ends_at}
 use Rattle.yaml_emit_laws_text.specs.scan_history.scan_scalars.Quoted.{double_quoted_at}
 use Rattle.yaml_emit_laws_text.specs.scan_history.declared.kind.Kind.{Kind}
 use Rattle.yaml_emit_laws_text.specs.scan_history.declared.kind.Kind.TheVariants as kinds
-use Rattle.yaml_emit_laws_text.specs.scan_history.Words.{WordText, indicator_of, kind_at, word_at, valued, tagged}
+use Rattle.yaml_emit_laws_text.specs.scan_history.Words.{WordText, kind_at, word_at, valued, tagged}
 use Rattle.yaml_emit_laws_text.specs.emit_layout.emit_text.declared.Cursor.{Cursor}
 use Rattle.yaml_emit_laws_text.specs.emit_layout.emit_text.declared.Page.{Page}
 use Rattle.yaml_emit_laws_text.specs.emit_layout.emit_text.Layout.{◌▹◌, after_text}
@@ -36,18 +35,20 @@ use Rattle.yaml_emit_laws_text.specs.Walk.{Left}
 use Rattle.yaml_emit_laws_text.specs.Writable.{IsWritableName, IsWritableOpening, IsWritableTag}
 use Rattle.yaml_emit_laws_text.proofs.Places.{has_front, has_at, left_first, left_more, left_rest}
 use Rattle.yaml_emit_laws_text.proofs.Steps.{Sign, sign_begins, sign_kind}
-use Rattle.yaml_emit_laws_text.proofs.Words.{sign, named, quote_sign, quote_kind, quote_first}
+use Rattle.yaml_emit_laws_text.proofs.Words.{sign, named, quote_sign, quote_kind, quote_first, alias_kind, anchor_kind}
 use Rattle.yaml_scan_laws_levels.specs.Steps.{WordLeaves}
 use Rattle.yaml_scan_laws_levels.proofs.Stepping.{words_leave}
-use Rattle.yaml_emit_laws_scalars.specs.Stops.{begins_white, white_of, is_gap_byte}
+use Rattle.yaml_emit_laws_scalars.specs.Stops.{begins_white, white_of}
 use Rattle.yaml_emit_laws_scalars.specs.PlainLaws.{PlainIsBack}
 use Rattle.yaml_emit_laws_scalars.specs.SingleLaws.{SingleIsBack}
 use Rattle.yaml_emit_laws_scalars.specs.StandsLaws.{ScalarsAreWords}
 use Rattle.yaml_emit_laws_scalars.proofs.Stopping.{goes_on, stops_end}
-use Rattle.yaml_emit_laws_pretty.specs.Walk.{no_comment}
 use Rattle.yaml_emit_laws_pretty.specs.Spoken.{Spoken, WordStands, Fits, anything, space, white, name_end, unquoted, stop, ends_name}
 use Rattle.yaml_emit_laws_pretty.proofs.Lining.{first_byte}
 use Rattle.yaml_emit_laws_pretty.proofs.Entries.{white_stands}
+use Rattle.yaml_emit_laws_pretty.proofs.Plains.{no_hash, begins_by}
+use Rattle.yaml_emit_laws_text.proofs.Tags.{mark_kind}
+use Rattle.yaml_emit_laws_scalars.proofs.Stands.{single_kind}
 
 -- a word that takes no white
 in_line : (flow : Bool) (level : ℕ) (k : Kind) (body : TokenBody) (text : List ℕ) (p e : ℕ)
@@ -82,22 +83,6 @@ mark_sign = sign 33 refl refl refl refl refl refl refl refl refl refl
 
 single_sign : Sign 39
 single_sign = sign 39 refl refl refl refl refl refl refl refl refl refl
-
-anchor_kind : (flow alone : Bool) → indicator_of flow alone 38 ≡ Some kinds.Anchor
-unfolding indicator_of
-anchor_kind flow alone = refl
-
-alias_kind : (flow alone : Bool) → indicator_of flow alone 42 ≡ Some kinds.Alias
-unfolding indicator_of
-alias_kind flow alone = refl
-
-mark_kind : (flow alone : Bool) → indicator_of flow alone 33 ≡ Some kinds.Tag
-unfolding indicator_of
-mark_kind flow alone = refl
-
-single_kind : (flow alone : Bool) → indicator_of flow alone 39 ≡ Some kinds.SingleQuoted
-unfolding indicator_of
-single_kind flow alone = refl
 
 anchor_at_word : (flow : Bool) (level : ℕ) (text : List ℕ) (p : ℕ)
     → word_at kinds.Anchor flow level text p
@@ -334,40 +319,6 @@ single_word words flow level spaced page c value r = record {
 }
 
 -- ---- plain scalars
-
-no_hash : (text : List ℕ) (p : ℕ) (bs : List ℕ) → Left text p bs → no_comment bs ≡ true
-    → byte text (p + length (white_of bs)) ≡ 35 → ⊥
-unfolding no_comment white_of
-no_hash text p [] l h e =
-    let z : p + 0 ≡ p = omega arith in
-    let f : 0 ≡ 35 = sym (first_byte text p [] l) ∙ (sym (ap (λ q. byte text q) z) ∙ e) in
-    omega (arith, f)
-no_hash text p (b ∷ bs) l h e = elim (cases_Bool (is_gap_byte b)) [
-  | inl g ↦
-      let k : no_comment bs ≡ true = subst (λ (t : Bool). (if t then no_comment bs else not (b == 35)) ≡ true) g h in
-      let far : p + 1 + length (white_of bs) ≡ p + suc (length (white_of bs)) = omega arith in
-      let f : byte text (p + suc (length (white_of bs))) ≡ 35 = subst (λ (t : Bool). byte text (p + length (if t then b ∷ white_of bs else [])) ≡ 35) g e in
-      no_hash text (p + 1) bs (left_more text p b bs l) k (ap (λ q. byte text q) far ∙ f)
-  | inr g ↦
-      let k : not (b == 35) ≡ true = subst (λ (t : Bool). (if t then no_comment bs else not (b == 35)) ≡ true) g h in
-      let z : p + 0 ≡ p = omega arith in
-      let f : byte text (p + 0) ≡ 35 = subst (λ (t : Bool). byte text (p + length (if t then b ∷ white_of bs else [])) ≡ 35) g e in
-      let same : b ≡ 35 = sym (left_first text p b bs l) ∙ (sym (ap (λ q. byte text q) z) ∙ f) in
-      differs b same k
-]
-  where
-    differs : (b : ℕ) → b ≡ 35 → not (b == 35) ≡ true → ⊥
-    differs b e f = grind (arith, nat_tests)
-
-begins_by : (text : List ℕ) (q : ℕ) → (is_blank (byte text q)) ≡ false
-    → nat_lt 0 (break_width text q) ≡ false → (byte text q == 35) ≡ false
-    → (q == 0 && is_bom text q) ≡ false → begins_lexeme text q ≡ true
-begins_by text q blank wide hash bom = let (gap, tab) = either (byte text q == 32) (byte text q == 9) blank in rw (gap, tab, hash, wide, bom) refl
-  where
-    either : (a b : Bool) → (a || b) ≡ false → (a ≡ false) × (b ≡ false)
-    either true b e = absurd (cc)
-    either false true e = absurd (cc)
-    either false false e = (refl, refl)
 
 ends_begins : (flow : Bool) (level : ℕ) (text : List ℕ) (p q : ℕ)
     → ends_plain flow level text q ≡ true → begins_lexeme text p ≡ true → (byte text q ≡ 35 → ⊥)

@@ -9,9 +9,10 @@ use Rattle.yaml_scan_history.specs.scan_words.Written.{are_gap, has_break}
 use Rattle.yaml_scan_history.proofs.HasLemmas.{Has}
 use Rattle.yaml_scan_history.proofs.RunsLemmas.{space_parts}
 use Rattle.yaml_scan_history.specs.scan_scalars.Pieces.{Blank, Break}
-use Rattle.yaml_scan_history.specs.scan_scalars.Plain.{leads, PlainSpot, Ends, Takes, spot_at, ends_at, Words, words_from, follows, words}
+use Rattle.yaml_scan_history.specs.scan_scalars.Plain.{leads, Ends, Takes, ends_at, Words, words_from, words}
 use Rattle.yaml_scan_history.proofs.PlainLemmas.{spot_break, spot_blank, spot_ends}
 use Rattle.yaml_scan_laws_texts.specs.PlainLaws.{ends_plain}
+use Rattle.yaml_emit_laws_scalars.proofs.Standing.{words_next}
 
 -- no word more: what is left ends at the place
 abbrev pub none_to : ℕ → Bool → Words
@@ -34,16 +35,10 @@ stops flow level text p h =
     let (width, ends) = and_parts (not (nat_lt 0 (break_width text p))) (ends_at flow level text p) more in
     record { blank = not-true (is_blank (byte text p)) blank; width = none (break_width text p) (not-true (nat_lt 0 (break_width text p)) width); ends = ends }
 
-step : (n : ℕ) (flow : Bool) (level : ℕ) (text : List ℕ) (p : ℕ) (s : PlainSpot)
-    → spot_at flow level text p ≡ s
-    → words (suc n) flow level text p ≡ follows (words n flow level text) p s
-unfolding words
-step n flow level text p s h = ap (λ x. follows (words n flow level text) p x) h
-
-no_tab : (b : ℕ) (x : Bool) → b ≡ 32 → (b == 9 && x) ≡ false
+pub no_tab : (b : ℕ) (x : Bool) → b ≡ 32 → (b == 9 && x) ≡ false
 no_tab b x h = grind (arith, nat_tests)
 
-space_blank : (b : ℕ) → b ≡ 32 → is_blank b ≡ true
+pub space_blank : (b : ℕ) → b ≡ 32 → is_blank b ≡ true
 space_blank b h = grind (arith, nat_tests)
 
 with_space : (n : ℕ) (flow : Bool) (level : ℕ) (text : List ℕ) (p e : ℕ) (broke : Bool)
@@ -51,7 +46,7 @@ with_space : (n : ℕ) (flow : Bool) (level : ℕ) (text : List ℕ) (p e : ℕ)
     → words (suc n) flow level text p ≡ Ok (none_to e broke)
 with_space n flow level text p e broke h rest =
     let parts = space_parts (byte text p) (byte text (p + 1)) (byte text (p + 2)) h in
-    step n flow level text p (Takes (Blank (byte text p)) (p + 1)) (spot_blank flow level text p parts.1 (space_blank (byte text p) h) (no_tab (byte text p) (leads text p && nat_lt (column_at text p) level) h))
+    words_next n flow level text p (Takes (Blank (byte text p)) (p + 1)) (spot_blank flow level text p parts.1 (space_blank (byte text p) h) (no_tab (byte text p) (leads text p && nat_lt (column_at text p) level) h))
     ∙ ap (λ (r : Result Words Wrong). words_from (Blank (byte text p)) (p + 1) r) rest
 
 with_width : (n : ℕ) (flow : Bool) (level : ℕ) (text : List ℕ) (p w e : ℕ) (broke : Bool)
@@ -61,7 +56,7 @@ with_width n flow level text p w e broke h rest =
     let some : 0 < break_width text p = omega (arith, h) in
     let q = p + break_width text p in
     let more : words n flow level text q ≡ Ok (none_to e broke) = ap (λ k. words n flow level text (p + k)) h ∙ rest in
-    step n flow level text p (Takes (Break (feed_at text p)) q) (spot_break flow level text p some) ∙ ap (λ (r : Result Words Wrong). words_from (Break (feed_at text p)) q r) more
+    words_next n flow level text p (Takes (Break (feed_at text p)) q) (spot_break flow level text p some) ∙ ap (λ (r : Result Words Wrong). words_from (Break (feed_at text p)) q r) more
 
 lf_width : (c d : ℕ) → break_of 10 c d ≡ 1
 unfolding break_of
@@ -128,7 +123,7 @@ reads k zero flow level text p gap few room h are stop = absurd (omega arith)
 reads k (suc n) flow level text p [] few room h are stop =
     let z : p + 0 ≡ p = omega arith in
     let here = subst (λ q. Stops flow level text q) z stop in
-    rw z (step n flow level text p Ends (spot_ends flow level text p here.width here.blank here.ends))
+    rw z (words_next n flow level text p Ends (spot_ends flow level text p here.width here.blank here.ends))
 reads zero (suc n) flow level text p (b ∷ bs) few room h are stop = absurd (omega arith)
 reads (suc k) (suc n) flow level text p (b ∷ bs) few room (e, h) are stop =
     let (front, back) = and_parts (b == 32 || (b == 10 || b == 13)) (are_gap bs) are in

@@ -13,12 +13,14 @@ use Rattle.yaml_emit_layout.specs.emit_text.declared.Page.{Page}
 use Rattle.yaml_emit_layout.specs.emit_text.Quoted.{is_printable, first}
 use Rattle.yaml_emit_layout.specs.emit_text.Scalars.{cuts_at, text_char}
 use Rattle.yaml_emit_layout.specs.emit_text.Spelling.{in_front, break_text}
-use Rattle.yaml_emit_laws_text.specs.Spelling.{may_turn, QuotedPart, raw, doubled, fold, may_be_raw, MayStand, spelled, meant, is_raw_blank, is_fold, is_turn, may_follow}
+use Rattle.yaml_emit_laws_text.specs.Spelling.{may_turn, QuotedPart, raw, doubled, fold, may_be_raw, MayStand, spelled, meant, is_raw_blank, is_turn, may_follow}
 use Rattle.yaml_emit_laws_text.proofs.Values.{cond_true, cond_false}
 use Rattle.yaml_emit_laws_text.proofs.Escapes.{low_encodes, end_of, fold_bytes, fold_means, space_encodes}
 use Rattle.yaml_emit_laws_text.proofs.Back.{moved_by}
-use Rattle.yaml_emit_laws_scalars.proofs.Lines.{bool_cases, line_start, after_blanks, blanks_column, blanks_kept, line_is}
+use Rattle.yaml_emit_laws_scalars.proofs.Lines.{blanks_column, blanks_kept}
 use Rattle.yaml_emit_laws_scalars.proofs.PlainParts.{IsOne, is_plain_end}
+use Rattle.yaml_emit_laws_text.proofs.Single.{blank_follows, fold_follows, other_follows, line_is, bool_cases, after_blanks, line_start}
+use Rattle.yaml_emit_laws_text.proofs.Steps.{not_start}
 
 -- ---- characters
 
@@ -139,22 +141,6 @@ cut_needs page before x xs e =
     let d = (and_parts (not (before == 32)) _ b).1 in
     record { cuts = (and_parts page.cuts _ e).0; space = eqb-true x 32 (and_parts (x == 32) _ a).0; behind = not-true (before == 32) (and_parts (not (before == 32)) _ b).0; next = not-true (first xs == 32) (and_parts (not (first xs == 32)) _ d).0 }
 
-pub fold_follows : (last q : QuotedPart) → is_fold q ≡ true → is_raw_blank q ≡ false
-    → is_raw_blank last ≡ false → is_turn last ≡ false → may_follow last q ≡ true
-fold_follows last q a b d e = rw (a, b, d, e) refl
-
-other_follows : (last q : QuotedPart) → is_fold q ≡ false → is_raw_blank q ≡ false
-    → may_follow last q ≡ true
-other_follows last q a b = rw (a, b) refl
-
-blank_follows : (last q : QuotedPart) → is_fold q ≡ false → is_turn last ≡ false
-    → may_follow last q ≡ true
-blank_follows last q a e = rw (a, e) (no_and (is_raw_blank q))
-  where
-    no_and : (b : Bool) → not (b && false) ≡ true
-    no_and true = refl
-    no_and false = refl
-
 own_plain : (b : LineBreak) → is_plain_end (end_of b) ≡ true
 own_plain Lf = refl
 own_plain Cr = refl
@@ -191,9 +177,6 @@ step_cut page quote before x xs c last deep s h inside m p =
       kept = blanks_kept n (line_start c);
     }
 
-moved_on : (n : ℕ) → n + 1 ≡ 0 → ⊥
-moved_on n e = omega (arith, e)
-
 step_doubled : (page : Page) (quote : Bool) (before x : ℕ) (xs : List ℕ) (c : Cursor)
     (last : QuotedPart) → (quote && x == 39) ≡ true → cuts_at page before x xs ≡ false
     → Step page quote before x xs c last
@@ -215,7 +198,7 @@ step_doubled page quote before x xs c last q m =
       turn = λ t. absurd (true≢false (sym t));
       bare = λ f. refl;
       one = λ f. absurd (true≢false (sym on ∙ f));
-      column = moved_on (c.column + 1);
+      column = not_start (c.column + 1);
       kept = refl;
     }
 
@@ -239,7 +222,7 @@ step_raw page quote before x xs c last s inside h q m = record {
   turn = λ t. absurd (true≢false (sym t));
   bare = λ f. refl;
   one = λ f. refl;
-  column = moved_on c.column;
+  column = not_start c.column;
   kept = refl;
 }
 

@@ -7,31 +7,21 @@ use Rattle.yaml_scan_history.specs.scan_scalars.Pieces.{gap}
 use Rattle.yaml_emit_layout.specs.emit_text.declared.Cursor.{Cursor}
 use Rattle.yaml_emit_layout.specs.emit_text.declared.LineBreak.{LineBreak}
 use Rattle.yaml_emit_layout.specs.emit_text.declared.LineBreak.TheVariants.{Lf, Cr, CrLf}
-use Rattle.yaml_emit_layout.specs.emit_text.Text.{letter, is_break}
+use Rattle.yaml_emit_layout.specs.emit_text.Text.{is_break}
 use Rattle.yaml_emit_layout.specs.emit_text.Layout.{Rest, blanks, new_line, line, indent_to, must_break}
 use Rattle.yaml_emit_layout.specs.emit_text.Quoted.{is_printable}
 use Rattle.yaml_emit_layout.specs.emit_text.Scalars.{value_break}
 use Rattle.yaml_emit_layout.specs.emit_text.Spelling.{in_front, break_text}
 use Rattle.yaml_emit_laws_text.specs.Spelling.{LineEnd, line_separator, paragraph_separator, end_bytes, end_means, is_return, is_feed_end}
 use Rattle.yaml_emit_laws_text.proofs.Chars.{encode_1, encode_3}
-use Rattle.yaml_emit_laws_text.proofs.Values.{cond_true, cond_false}
+use Rattle.yaml_emit_laws_text.proofs.Values.{cond_false}
 use Rattle.yaml_emit_laws_text.proofs.Escapes.{low_encodes, end_of}
-use Rattle.yaml_emit_laws_text.proofs.Back.{front_append, spaced_by}
-
--- Cases on a truth value.
-pub bool_cases : {P : Type 0} (b : Bool) → (b ≡ true → P) → (b ≡ false → P) → P
-bool_cases true p q = p refl
-bool_cases false p q = q refl
+use Rattle.yaml_emit_laws_text.proofs.Back.{spaced_by}
+use Rattle.yaml_emit_laws_text.proofs.Single.{new_line_is, blanks_are, bool_cases, after_blanks, line_start}
 
 -- ---- lines
 
-abbrev pub line_start : Cursor → Cursor
-line_start c = record { column = 0; white = true; bare = true; kept = c.kept }
-
-abbrev pub after_blanks : ℕ → Cursor → Cursor
-after_blanks zero c = c
-after_blanks (suc n) c = after_blanks n (spaced_by c)
-
+-- Each blank moves the column on by one.
 pub blanks_column : (n : ℕ) (c : Cursor) → (after_blanks n c).column ≡ c.column + n
 blanks_column zero c = omega arith
 blanks_column (suc n) c =
@@ -44,19 +34,6 @@ pub blanks_kept : (n : ℕ) (c : Cursor) → (after_blanks n c).kept ≡ c.kept
 blanks_kept zero c = refl
 blanks_kept (suc n) c = blanks_kept n (spaced_by c)
 
-blanks_are : (n : ℕ) (c : Cursor) (rest : Rest)
-    → blanks n c rest ≡ in_front (replicate n 32) (rest (after_blanks n c))
-unfolding blanks in_front
-blanks_are zero c rest = refl
-blanks_are (suc n) c rest = ap (λ t. letter 32 ∷ t) (blanks_are n (spaced_by c) rest)
-
-pub new_line_is : (b : LineBreak) (c : Cursor) (rest : Rest)
-    → new_line b c rest ≡ in_front (break_text b) (rest (line_start c))
-unfolding in_front
-new_line_is Lf c rest = refl
-new_line_is Cr c rest = refl
-new_line_is CrLf c rest = refl
-
 indent_is : (n : ℕ) (c : Cursor) (rest : Rest) → c.column ≡ 0
     → indent_to n c rest ≡ in_front (replicate n 32) (rest (after_blanks n c))
 indent_is n c rest e =
@@ -66,16 +43,6 @@ indent_is n c rest e =
 broken : (a b d : Bool) → a ≡ false → (not a || b || d) ≡ true
 broken false b d e = refl
 broken true b d e = absurd (true≢false e)
-
--- behind a character a line begins with a break
-pub line_is : (b : LineBreak) (n : ℕ) (c : Cursor) (rest : Rest) → c.bare ≡ false
-    → line b n c rest ≡ in_front (break_text b ++ replicate n 32)
-    (rest (after_blanks n (line_start c)))
-unfolding line
-line_is b n c rest e =
-    let due : must_break n c ≡ true = broken c.bare (nat_lt n c.column) (c.column == n && not c.white) e in
-    cond_true (must_break n c) (new_line b c (λ d. indent_to n d rest)) (indent_to n c rest) due
-    ∙ new_line_is b c (λ d. indent_to n d rest) ∙ ap (in_front (break_text b)) (indent_is n (line_start c) rest refl) ∙ sym (front_append (break_text b) (replicate n 32) (rest (after_blanks n (line_start c))))
 
 -- where a line starts
 pub record Starts (c : Cursor) : Type 0 where

@@ -35,45 +35,50 @@ use Rattle.yaml_emit_laws_text.proofs.Bytes.{AreCalm, calm_from}
 use Rattle.yaml_emit_laws_text.proofs.Joining.{written_readable}
 use Rattle.yaml_emit_laws_text.proofs.Ascii.{spelled_ascii}
 use Rattle.yaml_emit_laws_scalars.specs.KeysLaws.{StaysNear, SimpleKeysAreNear}
-use Rattle.yaml_emit_laws_scalars.proofs.Lines.{bool_cases}
 use Rattle.yaml_emit_laws_scalars.proofs.Near.{near_on, near_most, near_to, near_when, near_sign, near_gap, near_word, near_checked, near_after, near_opener, near_flow, near_body}
 use Rattle.yaml_emit_laws_scalars.proofs.OneLine.{no_breaks}
+use Rattle.yaml_emit_laws_text.proofs.Single.{bool_cases}
 
 -- ---- bytes above the controls
 
-abbrev Above : List ℕ → Type 0
+abbrev pub Above : List ℕ → Type 0
 Above [] = Unit {0}
 Above (b ∷ bs) = (13 < b) × Above bs
 
-above_append : (xs ys : List ℕ) → Above xs → Above ys → Above (xs ++ ys)
+-- Bytes above the control characters, and more of them behind.
+pub above_append : (xs ys : List ℕ) → Above xs → Above ys → Above (xs ++ ys)
 above_append [] ys h k = k
 above_append (x ∷ xs) ys (a, h) k = (a, above_append xs ys h k)
 
-calm_all : (xs : List ℕ) → Above xs → are_ascii xs ≡ true → AreCalm xs
+-- Bytes in ASCII above the control characters are calm.
+pub calm_all : (xs : List ℕ) → Above xs → are_ascii xs ≡ true → AreCalm xs
 calm_all [] h a = tt
 calm_all (x ∷ xs) (b, h) a = (calm_from x b (less x (and_parts (nat_lt x 128) (are_ascii xs) a).0), calm_all xs h (and_parts (nat_lt x 128) (are_ascii xs) a).1)
   where
     less : (x : ℕ) → nat_lt x 128 ≡ true → x < 128
     less x h = grind (arith, nat_tests)
 
-alpha_above : (b : ℕ) → is_alpha_byte b ≡ true → (13 < b) × (b < 128)
+pub alpha_above : (b : ℕ) → is_alpha_byte b ≡ true → (13 < b) × (b < 128)
 unfolding is_alpha_byte is_digit_byte
 alpha_above b h = (grind (arith, nat_tests), grind (arith, nat_tests))
 
-alphas_above : (name : List ℕ) → are_alphas name ≡ true → Above name
+pub alphas_above : (name : List ℕ) → are_alphas name ≡ true → Above name
 alphas_above [] h = tt
 alphas_above (b ∷ bs) h = ((alpha_above b (and_parts (is_alpha_byte b) (are_alphas bs) h).0).0, alphas_above bs (and_parts (is_alpha_byte b) (are_alphas bs) h).1)
 
-alphas_calm : (name : List ℕ) → are_alphas name ≡ true → AreCalm name
+-- Letters and digits are calm.
+pub alphas_calm : (name : List ℕ) → are_alphas name ≡ true → AreCalm name
 alphas_calm [] h = tt
 alphas_calm (b ∷ bs) h = let a = alpha_above b (and_parts (is_alpha_byte b) (are_alphas bs) h).0 in (calm_from b a.0 a.1, alphas_calm bs (and_parts (is_alpha_byte b) (are_alphas bs) h).1)
 
-kept_above : (flow : Bool) (b : ℕ) → keeps_byte flow b ≡ true → 13 < b
+-- A byte that a tag keeps is no control character.
+pub kept_above : (flow : Bool) (b : ℕ) → keeps_byte flow b ≡ true → 13 < b
 unfolding suffix_keeps
 kept_above true b h = grind (arith, nat_tests)
 kept_above false b h = grind (arith, nat_tests)
 
-digit_above : (d : ℕ) → 13 < hex_digit d
+-- A hexadecimal digit's byte is no control character.
+pub digit_above : (d : ℕ) → 13 < hex_digit d
 unfolding hex_digit
 digit_above d = bool_cases (nat_lt d 10) (λ e. rw e (omega arith)) (λ e. rw e (omega arith))
 
@@ -96,7 +101,8 @@ uri_above flow (b ∷ bs) =
     let e : length (uri_byte flow b ++ uri_text flow bs) ≡ length (uri_byte flow b) + length (uri_text flow bs) = length-append (uri_byte flow b) (uri_text flow bs) in
     (above_append (uri_byte flow b) (uri_text flow bs) one.0 more.0, omega (arith, e, l, m))
 
-handle_above : (handle : List ℕ) → IsShaped handle → Above handle
+-- No control character stands in a handle.
+pub handle_above : (handle : List ℕ) → IsShaped handle → Above handle
 handle_above handle (inl e) = subst (λ (xs : List ℕ). Above xs) (sym e) (omega arith, tt)
 handle_above handle (inr (name, e, are)) = subst (λ (xs : List ℕ). Above xs) (sym e) (omega arith, above_append name (33 ∷ []) (alphas_above name are) (omega arith, tt))
 
@@ -114,7 +120,8 @@ split_above (verbatim tag) u =
     let e : length (uri_text true tag ++ 62 ∷ []) ≡ length (uri_text true tag) + 1 = length-append (uri_text true tag) (62 ∷ []) in
     ((omega arith, (omega arith, above_append (uri_text true tag) (62 ∷ []) uri.0 (omega arith, tt))), omega (arith, e, l))
 
-marked_ascii : (xs : List ℕ) → IsMarked xs → are_ascii xs ≡ true
+-- A handle is in ASCII.
+pub marked_ascii : (xs : List ℕ) → IsMarked xs → are_ascii xs ≡ true
 marked_ascii xs m = subst (λ (ys : List ℕ). are_ascii ys ≡ true) (sym m.begins) m.ascii
 
 -- ---- properties
@@ -145,7 +152,8 @@ near_properties s o good anchor tag c a t =
     let one = near_anchor anchor c a in
     near_on (anchor_text anchor) (tag_text (context_of s o.directives) tag) c (2 + text_size anchor) (4 + 3 * written_size (context_of s o.directives) tag) one (near_tag s o good tag one.behind t)
 
-kept_writable : (b : Bool) (tag : Option (List ℕ)) → IsWritableTag tag
+-- A tag that is kept, or left out, may be written.
+pub kept_writable : (b : Bool) (tag : Option (List ℕ)) → IsWritableTag tag
     → IsWritableTag (kept_if b tag)
 kept_writable true tag h = h
 kept_writable false tag h = tt

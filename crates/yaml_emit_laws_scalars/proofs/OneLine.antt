@@ -5,7 +5,7 @@ use Rattle.std.proofs.lemmas.Bool.Decides.{nat_tests}
 use Rattle.std.proofs.lemmas.List.{length-append}
 use Rattle.std.proofs.lemmas.Str.{encodes-chars}
 use Rattle.std.specs.Str.{chars}
-use Rattle.yaml_scan_history.specs.scan_model.Marks.{byte, break_of, ends_of, ends_break, line_at}
+use Rattle.yaml_scan_history.specs.scan_model.Marks.{byte, break_of, line_at}
 use Rattle.yaml_scan_history.specs.scan_model.Classes.{is_break as breaks_at}
 use Rattle.yaml_scan_history.proofs.MarksLemmas.{line_more}
 use Rattle.yaml_scan_history.proofs.HasLemmas.{Has, has, has_front, has_rest}
@@ -15,7 +15,8 @@ use Rattle.yaml_emit_laws_text.specs.ReadBack.{is_one_line}
 use Rattle.yaml_emit_laws_text.proofs.Chars.{encode_1, encode_2, encode_3, encode_4}
 use Rattle.yaml_emit_laws_text.proofs.Bytes.{low_end, first_end, second_end, third_end}
 use Rattle.yaml_emit_laws_scalars.specs.KeysLaws.{NearIsFresh}
-use Rattle.yaml_emit_laws_scalars.proofs.Lines.{bool_cases}
+use Rattle.yaml_emit_laws_text.proofs.QuotedReading.{ends_2, ends_1}
+use Rattle.yaml_emit_laws_text.proofs.Single.{bool_cases}
 
 -- ---- a value without breaks
 
@@ -100,20 +101,6 @@ no_breaks value u h =
     (subst (λ (bs : List ℕ). 0 + length bs ≤ length value) (sym e) (omega arith))
 
 -- ---- places on one line
-
-ends_1 : (text : List ℕ) (p y b : ℕ) → byte text p ≡ y → byte text (p + 1) ≡ b
-    → ((x c : ℕ) → ends_of x y b c ≡ false) → ends_break text (p + 1) ≡ false
-ends_1 text p y b h k f =
-    let e : p + 1 - 1 ≡ p = omega arith in
-    rw (e, h, k) (f (byte text (p + 1 - 2)) (byte text (p + 1 + 1)))
-
-ends_2 : (text : List ℕ) (p x y b : ℕ) → byte text p ≡ x → byte text (p + 1) ≡ y
-    → byte text (p + 1 + 1) ≡ b → ((c : ℕ) → ends_of x y b c ≡ false)
-    → ends_break text (p + 1 + 1) ≡ false
-ends_2 text p x y b g h k f =
-    let e : p + 1 + 1 - 1 ≡ p + 1 = omega arith in
-    let d : p + 1 + 1 - 2 ≡ p = omega arith in
-    rw (e, d, g, h, k) (f (byte text (p + 1 + 1 + 1)))
 
 two : (text : List ℕ) (p a b : ℕ) → 192 ≤ a → 128 ≤ b → b < 192 → (b ≡ 0x85 → a ≡ 0xC2 → ⊥)
     → Has text p (a ∷ b ∷ []) → line_at text (p + 1 + 1) ≡ line_at text p

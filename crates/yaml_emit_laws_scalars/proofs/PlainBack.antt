@@ -15,9 +15,11 @@ use Rattle.yaml_emit_layout.specs.emit_text.Style.{last_or}
 use Rattle.yaml_emit_laws_text.specs.Spelling.{end_bytes, end_means, LineTurn, turn_bytes, QuotedPart, raw, doubled, named, numbered, fold, joint, spelling, meaning, IsSpelling}
 use Rattle.yaml_emit_laws_text.proofs.Chars.{encode_1}
 use Rattle.yaml_emit_laws_text.proofs.Values.{keeps, blanks_of, turns_read, read_as, all_read_as, read_kept as raw_kept, read_blank as raw_blank, spelling_value}
-use Rattle.yaml_emit_laws_scalars.proofs.Standing.{sealed, Read, read_blank, Stand, column_start, stand_behind, char_at, kept_sealed}
+use Rattle.yaml_emit_laws_scalars.proofs.Standing.{sealed, Read, read_blank, Stand, stand_behind, char_at, kept_sealed, positive}
 use Rattle.yaml_emit_laws_scalars.proofs.GapWords.{Stops, gap_words}
 use Rattle.yaml_emit_laws_scalars.proofs.PlainParts.{Spells, Good, AreGood, firm, FirmNext, char_through, space_spot, spaced, stand_space, folded_at, behind_white, colon_next}
+use Rattle.yaml_emit_laws_text.proofs.Escapes.{space_encodes}
+use Rattle.yaml_emit_laws_text.proofs.QuotedReading.{column_start}
 
 -- ---- all parts
 
@@ -39,9 +41,6 @@ space_on : (flow : Bool) (level : ℕ) (text : List ℕ) (p q : ℕ) (ps : List 
     → is_nothing ps ≡ false → ReadsOn flow level text (p + 1) q ps
     → ReadsOn flow level text p q (Blank 32 ∷ ps)
 space_on flow level text p q ps h some more place broke r = let d = spaced text p h in read_blank flow level text p 32 ps q place broke (space_spot flow level text p h) d.inside some (more place broke r)
-
-encoded_space : encode_utf8 32 ≡ 32 ∷ []
-encoded_space = encode_1 32 (omega arith)
 
 space_read : read_as (raw 32) ≡ Blank 32 ∷ []
 space_read = raw_blank 32 refl
@@ -85,7 +84,7 @@ parts_read flow level m text p before (raw c ∷ ps) (x ∷ xs) deep (e, s) (g, 
     elim (cases_Bool (x == 32)) [
       | inl k ↦
           let is = same_space c x e k in
-          let bytes : encode_utf8 c ≡ 32 ∷ [] = ap (λ i. encode_utf8 i) is ∙ encoded_space in
+          let bytes : encode_utf8 c ≡ 32 ∷ [] = ap (λ i. encode_utf8 i) is ∙ space_encodes in
           let pieces : read_as (raw c) ≡ Blank 32 ∷ [] = ap (λ i. read_as (raw i)) is ∙ space_read in
           let all = subst (λ (bs : List ℕ). Has text p (bs ++ spelling ps)) bytes h in
           let x32 : x ≡ 32 = sym e ∙ is in
@@ -180,9 +179,6 @@ begun flow level text p b ps e place broke h i r =
     ap (λ (w : Result Words Wrong). plain_with plain_text (words_from (Kept (byte text p ∷ [])) (p + 1) w)) (r.gives (length text) (omega (arith, inside)))
     ∙ ap (λ x. let y : Result PlainText Wrong = Ok (plain_text (with_piece (Kept (x ∷ [])) (p + 1) (sealed ps e place broke))) in y) h
     ∙ ap (λ (w : Words). let y : Result PlainText Wrong = Ok (plain_text w) in y) kept
-
-positive : (b : ℕ) → (b == 0) ≡ false → 0 < b
-positive b h = grind (arith, nat_tests)
 
 -- a character, which isn't white, and parts behind it
 pub scalar_read : (flow : Bool) (level m quote : ℕ) (text : List ℕ) (p c : ℕ) (ps : List QuotedPart)

@@ -3,7 +3,7 @@ use Rattle.std.proofs.Common.{◌≡◌, ◌≢◌, ℕ, suc, ◌+◌, ◌-◌, 
 use Rattle.std.proofs.lemmas.Bool.{true≢false, eq-eqb, or_right, and_parts, not-true, or_parts, eqb-false}
 use Rattle.std.proofs.lemmas.Str.{encodes-chars, scalars-chars}
 use Rattle.std.specs.Str.{all_scalars, chars}
-use lib.Utf8.{scalar, scalar_cases}
+use lib.Utf8.{scalar}
 use Rattle.yaml_scan_history.specs.scan_model.Wrong.{Wrong}
 use Rattle.yaml_scan_history.specs.scan_words.Written.{HasAt, are_gap, has_break}
 use Rattle.yaml_scan_history.specs.scan_scalars.Plain.{is_bracket, PlainText}
@@ -28,6 +28,7 @@ use Rattle.yaml_emit_laws_scalars.proofs.Single.{start_behind}
 use Rattle.yaml_emit_laws_scalars.proofs.PlainParts.{Spells, Good, AreGood}
 use Rattle.yaml_emit_laws_scalars.proofs.PlainBack.{said, gap_read, scalar_read}
 use Rattle.yaml_emit_laws_scalars.proofs.PlainStart.{Begun, raw_first, opens}
+use Rattle.yaml_emit_laws_text.proofs.Pieces.{top_of}
 
 -- ---- what is allowed
 
@@ -76,9 +77,6 @@ one_line before (x ∷ xs) h =
     both : (a b : Bool) → a ≡ false → b ≡ true → (not a && b) ≡ true
     both a b p q = rw (p, q) refl
 
-scalar_top : (c : ℕ) → scalar c ≡ true → c < 1114112
-scalar_top c h = elim (scalar_cases c h) [ inl a ↦ omega arith | inr a ↦ a.1 ]
-
 plainly_is : (x : ℕ) → is_break x ≡ false → scalar x ≡ true → Plainly x
 plainly_is x h s =
     let t29 = (or_parts _ (x == 0x2029) h).0 in
@@ -90,7 +88,7 @@ plainly_is x h s =
       no_next_line = eqb-false x 0x85 (or_parts _ (x == 0x85) t28).1;
       no_line = eqb-false x 0x2028 (or_parts _ (x == 0x2028) t29).1;
       no_paragraph = eqb-false x 0x2029 (or_parts _ (x == 0x2029) h).1;
-      top = scalar_top x s;
+      top = top_of x s;
     }
 
 -- no end of a word

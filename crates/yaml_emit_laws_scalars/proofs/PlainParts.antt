@@ -16,6 +16,7 @@ use Rattle.yaml_emit_laws_text.proofs.Chars.{encode_1, encode_2, encode_3, encod
 use Rattle.yaml_emit_laws_text.proofs.Values.{keeps, blanks_of, read_as, all_read_as, read_kept as raw_kept, read_blank as raw_blank}
 use Rattle.yaml_emit_laws_text.proofs.Bytes.{calm_end, calm_break, calm_from}
 use Rattle.yaml_emit_laws_scalars.proofs.Standing.{Read, read_blank, read_break, Stand, column_on, Stays, Through, CharAt, Plainly, char_at, through_byte, through_both}
+use Rattle.yaml_emit_laws_scalars.proofs.GapWords.{no_tab, space_blank}
 
 -- ---- what the parts say
 
@@ -147,12 +148,6 @@ char_through flow level text p before x next g space n s h =
     subst (λ (bs : List ℕ). Through flow level text p (keeps bs) (p + length (encode_utf8 x))) (sym c.is) both
 
 -- ---- a space
-
-no_tab : (b : ℕ) (x : Bool) → b ≡ 32 → (b == 9 && x) ≡ false
-no_tab b x h = grind (arith, nat_tests)
-
-space_blank : (b : ℕ) → b ≡ 32 → is_blank b ≡ true
-space_blank b h = grind (arith, nat_tests)
 
 pub space_spot : (flow : Bool) (level : ℕ) (text : List ℕ) (p : ℕ) → byte text p ≡ 32
     → spot_at flow level text p ≡ Takes (Blank 32) (p + 1)

@@ -16,18 +16,19 @@ use Rattle.yaml_emit_layout.specs.emit_text.Style.{behind, is_indicator}
 use Rattle.yaml_emit_laws_text.specs.Spelling.{LineEnd, feed, return, return_feed, next_line, line_separator, paragraph_separator, end_bytes, LineTurn, turn_bytes, QuotedPart, raw, doubled, named, numbered, fold, joint, spelling}
 use Rattle.yaml_emit_laws_text.proofs.Chars.{encode_1, encode_2, encode_3, encode_4}
 use Rattle.yaml_emit_laws_text.proofs.Bytes.{calm_end, calm_from}
-use Rattle.yaml_emit_laws_scalars.proofs.Standing.{Stand, column_start, stand_behind, Stays, not_ended, char_at}
+use Rattle.yaml_emit_laws_scalars.proofs.Standing.{Stand, stand_behind, Stays, not_ended, char_at}
 use Rattle.yaml_emit_laws_scalars.proofs.GapWords.{Stops}
-use Rattle.yaml_emit_laws_scalars.proofs.Lines.{bool_cases}
 use Rattle.yaml_emit_laws_scalars.proofs.PlainParts.{is_plain_end, Spells, AreGood, firm, when_is, colon_next}
+use Rattle.yaml_emit_laws_text.proofs.QuotedReading.{column_start}
+use Rattle.yaml_emit_laws_text.proofs.Single.{bool_cases}
 
 -- ---- what the first character isn't
 
-bracket_45 : is_bracket 45 ≡ false
+pub bracket_45 : is_bracket 45 ≡ false
 unfolding is_bracket
 bracket_45 = refl
 
-bracket_46 : is_bracket 46 ≡ false
+pub bracket_46 : is_bracket 46 ≡ false
 unfolding is_bracket
 bracket_46 = refl
 

@@ -1,22 +1,13 @@
 -- What an emitter finds in a value whose style it allows.
-use Rattle.std.proofs.Common.{◌≡◌, ℕ, Bool, true, false, not, ◌&&◌, ◌||◌, ◌==◌, nat_le, List, [], ◌∷◌, refl}
-use Rattle.std.proofs.lemmas.Bool.{true≢false, and_parts, not-true, or_parts}
+use Rattle.std.proofs.Common.{◌≡◌, ℕ, Bool, true, false, ◌&&◌, ◌==◌, List, [], ◌∷◌, refl}
+use Rattle.std.proofs.lemmas.Bool.{and_parts, not-true, or_parts}
 use Rattle.std.specs.Str.{all_scalars}
 use lib.Utf8.{scalar}
 use Rattle.yaml_emit_layout.specs.emit_text.Text.{is_break}
-use Rattle.yaml_emit_layout.specs.emit_text.Quoted.{is_printable, first}
+use Rattle.yaml_emit_layout.specs.emit_text.Quoted.{first}
 use Rattle.yaml_emit_layout.specs.emit_text.Style.{somewhere, is_special, is_break_space, allowed}
 use Rattle.yaml_emit_laws_scalars.proofs.Letters.{AllShow}
-
-special_left : (p b : Bool) → (not p || b) ≡ false → p ≡ true
-special_left true b e = refl
-special_left false b e = absurd (true≢false e)
-
-shown_first : (unicode : Bool) (before x next : ℕ) → is_special unicode before x next ≡ false
-    → is_printable x ≡ true
-shown_first unicode before x next e =
-    let a = (or_parts _ (x == 32 && is_break next) e).0 in
-    special_left (is_printable x) (not unicode && nat_le 0x80 x) a
+use Rattle.yaml_emit_laws_text.proofs.Single.{shown_first}
 
 pub all_show : (unicode : Bool) (before : ℕ) (xs : List ℕ)
     → somewhere (is_special unicode) before xs ≡ false → somewhere is_break_space before xs ≡ false

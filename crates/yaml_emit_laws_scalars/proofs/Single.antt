@@ -21,6 +21,7 @@ use Rattle.yaml_emit_laws_scalars.specs.SingleLaws.{SingleIsBack}
 use Rattle.yaml_emit_laws_scalars.proofs.Letters.{Behind}
 use Rattle.yaml_emit_laws_scalars.proofs.Writing.{left}
 use Rattle.yaml_emit_laws_scalars.proofs.Shown.{single_show}
+use Rattle.yaml_emit_laws_text.proofs.Steps.{not_start}
 
 between : (xs bs : List ℕ) → encode_utf8_all xs ≡ bs
     → encode_utf8_all (39 ∷ (xs ++ 39 ∷ [])) ≡ 39 ∷ (bs ++ 39 ∷ [])
@@ -31,9 +32,6 @@ between xs bs e =
 -- before the first character
 pub start_behind : (c : Cursor) (value : List ℕ) → Behind 32 c doubled value
 start_behind c value = record { blank = λ t. absurd (true≢false (sym t)); turn = λ t. absurd (true≢false (sym t)); bare = λ f g. absurd (true≢false f) }
-
-moved_on : (n : ℕ) → n + 1 ≡ 0 → ⊥
-moved_on n e = omega (arith, e)
 
 -- A single quoted value reads back from any cursor, where single quotes may write it.
 pub single_back : SingleSpellingReads → (page : Page) (c : Cursor) (value : List ℕ) → IsUtf8 value
@@ -60,6 +58,6 @@ single_back law page c value u cuts lines a =
           subst P (sym bytes) (λ k m. law r.parts text p r.right k m ∙ ap (λ v. Ok (v, p + length (quoted 39 r.parts))) means) h n;
       bare = refl;
       white = refl;
-      column = moved_on r.behind.column;
+      column = not_start r.behind.column;
       kept = r.kept;
     }

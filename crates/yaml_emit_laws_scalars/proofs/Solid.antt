@@ -13,6 +13,7 @@ use Rattle.yaml_emit_laws_text.proofs.Chars.{encode_1, encode_2, encode_3, encod
 use Rattle.yaml_emit_laws_text.proofs.Bytes.{low_break, two_break, three_break, four_break}
 use Rattle.yaml_emit_laws_scalars.specs.Stops.{is_gap_byte, begins_white, begins_mark, stops_here, stops_plain_at, begins_solid, WhatStopsPlain, CharactersAreSolid}
 use Rattle.yaml_emit_laws_scalars.proofs.Stopping.{stop_other}
+use Rattle.yaml_emit_laws_scalars.proofs.PlainStart.{bracket_45, bracket_46}
 
 no_stop : (flow : Bool) (level : ℕ) (at : Option ℕ) → stops_plain_at flow level at [] ≡ true
 unfolding stops_plain_at
@@ -57,24 +58,16 @@ dot_width : (c d : ℕ) → break_of 46 c d ≡ 0
 unfolding break_of
 dot_width c d = refl
 
-dash_bracket : is_bracket 45 ≡ false
-unfolding is_bracket
-dash_bracket = refl
-
-dot_bracket : is_bracket 46 ≡ false
-unfolding is_bracket
-dot_bracket = refl
-
 dashes_stop : (flow : Bool) (level : ℕ) (bs : List ℕ) → begins_white bs ≡ true
     → stops_plain_at flow level (Some 0) (45 ∷ 45 ∷ 45 ∷ bs) ≡ true
 dashes_stop flow level bs h =
-    let here : stops_here flow level (Some 0) 45 (45 ∷ 45 ∷ bs) ≡ true = rw (dash_width 45 45, dash_bracket, and-false flow, h) refl in
+    let here : stops_here flow level (Some 0) 45 (45 ∷ 45 ∷ bs) ≡ true = rw (dash_width 45 45, bracket_45, and-false flow, h) refl in
     stop_other flow level (Some 0) 45 (45 ∷ 45 ∷ bs) refl ∙ here
 
 dots_stop : (flow : Bool) (level : ℕ) (bs : List ℕ) → begins_white bs ≡ true
     → stops_plain_at flow level (Some 0) (46 ∷ 46 ∷ 46 ∷ bs) ≡ true
 dots_stop flow level bs h =
-    let here : stops_here flow level (Some 0) 46 (46 ∷ 46 ∷ bs) ≡ true = rw (dot_width 46 46, dot_bracket, and-false flow, h) refl in
+    let here : stops_here flow level (Some 0) 46 (46 ∷ 46 ∷ bs) ≡ true = rw (dot_width 46 46, bracket_46, and-false flow, h) refl in
     stop_other flow level (Some 0) 46 (46 ∷ 46 ∷ bs) refl ∙ here
 
 solid_stops : (level n : ℕ) (bs : List ℕ) → n < level → begins_solid bs ≡ true

@@ -3,8 +3,7 @@ use Rattle.std.proofs.Common.{◌≡◌, ◌≢◌, ℕ, zero, suc, ◌+◌, ◌
 use Rattle.std.proofs.lemmas.Bool.{cases_lt, true≢false, ne_eqb}
 use Rattle.std.proofs.lemmas.Bool.Decides.{nat_tests}
 use Rattle.std.proofs.Math.Bool.{and-false}
-use Rattle.yaml_scan_history.specs.scan_model.Marks.{byte, ends_of, break_width, ends_break, starts, column_at, is_blank, is_blank_or_end}
-use Rattle.yaml_scan_history.specs.scan_model.Breaks.{is_document_indicator}
+use Rattle.yaml_scan_history.specs.scan_model.Marks.{byte, break_width, ends_break, starts, column_at, is_blank, is_blank_or_end}
 use Rattle.yaml_scan_history.specs.scan_model.Wrong.{Wrong}
 use Rattle.yaml_scan_history.specs.scan_scalars.Pieces.{Piece, Kept, Blank, Break}
 use Rattle.yaml_scan_history.specs.scan_scalars.Plain.{is_bracket, after_white, leads, PlainSpot, Takes, spot_at, ends_at, Words, is_nothing, with_piece, words_from, follows, words}
@@ -14,6 +13,7 @@ use Rattle.yaml_scan_history.proofs.HasLemmas.{Has}
 use Rattle.yaml_emit_laws_text.proofs.Chars.{encode_1, encode_2, encode_3, encode_4}
 use Rattle.yaml_emit_laws_text.proofs.Values.{keeps}
 use Rattle.yaml_emit_laws_text.proofs.Bytes.{low_end, low_break, first_end, second_end, third_end, later_break, two_break, three_break, four_break, high_blank}
+use Rattle.yaml_emit_laws_text.proofs.QuotedReading.{ends_2, ends_1, in_line}
 
 -- ---- readings, from the right
 
@@ -29,7 +29,7 @@ pub record Read (flow : Bool) (level : ℕ) (text : List ℕ) (p : ℕ) (ps : Li
   pub inside : p ≤ length text → place ≤ length text
   pub gives : (n : ℕ) → place < n + p → words n flow level text p ≡ Ok (sealed ps e place broke)
 
-words_next : (n : ℕ) (flow : Bool) (level : ℕ) (text : List ℕ) (p : ℕ) (s : PlainSpot)
+pub words_next : (n : ℕ) (flow : Bool) (level : ℕ) (text : List ℕ) (p : ℕ) (s : PlainSpot)
     → spot_at flow level text p ≡ s
     → words (suc n) flow level text p ≡ follows (words n flow level text) p s
 unfolding words
@@ -116,21 +116,10 @@ pub record Stand (level : ℕ) (text : List ℕ) (p before : ℕ) : Type 0 where
   pub inner : (leads text p && nat_lt (column_at text p) level) ≡ false
   pub white : after_white text p ≡ true → before ≡ 32
 
-pub in_line : (text : List ℕ) (p : ℕ) → 0 < column_at text p → is_document_indicator text p ≡ false
-unfolding is_document_indicator
-in_line text p h =
-    let e : (column_at text p == 0) ≡ false = grind (arith, nat_tests) in
-    rw e refl
-
 pub column_on : (text : List ℕ) (p : ℕ) → ends_break text p ≡ false → 0 < column_at text p
     → 0 < column_at text (p + 1)
 unfolding column_at
 column_on text p h c = rw (add-one, h) (omega arith)
-
-pub column_start : (text : List ℕ) (p : ℕ) → ends_break text p ≡ false → starts (byte text p) ≡ true
-    → 0 < column_at text (p + 1)
-unfolding column_at
-column_start text p h s = rw (add-one, h, s) (omega arith)
 
 -- behind a byte that isn't white
 pub stand_behind : (level : ℕ) (text : List ℕ) (p x : ℕ) → is_blank (byte text p) ≡ false
@@ -190,7 +179,7 @@ through_none : (flow : Bool) (level : ℕ) (text : List ℕ) (p : ℕ) → Stand
     → Through flow level text p [] p
 through_none flow level text p s = record { reads = λ ps e place broke r. r; stand = s }
 
-positive : (b : ℕ) → (b == 0) ≡ false → 0 < b
+pub positive : (b : ℕ) → (b == 0) ≡ false → 0 < b
 positive b h = grind (arith, nat_tests)
 
 pub through_byte : (flow : Bool) (level : ℕ) (text : List ℕ) (p b before : ℕ)
@@ -222,20 +211,6 @@ high : (flow : Bool) (level : ℕ) (text : List ℕ) (p b before : ℕ) → Stan
     → Through flow level text p (Kept (b ∷ []) ∷ []) (p + 1)
 high flow level text p b before s e h ends width = through_byte flow level text p b before s (high_stays flow text p (rw e h)) e (high_blank b h) ends width
 
-ends_1 : (text : List ℕ) (p y b : ℕ) → byte text p ≡ y → byte text (p + 1) ≡ b
-    → ((x c : ℕ) → ends_of x y b c ≡ false) → ends_break text (p + 1) ≡ false
-ends_1 text p y b h k f =
-    let e : p + 1 - 1 ≡ p = omega arith in
-    rw (e, h, k) (f (byte text (p + 1 - 2)) (byte text (p + 1 + 1)))
-
-ends_2 : (text : List ℕ) (p x y b : ℕ) → byte text p ≡ x → byte text (p + 1) ≡ y
-    → byte text (p + 1 + 1) ≡ b → ((c : ℕ) → ends_of x y b c ≡ false)
-    → ends_break text (p + 1 + 1) ≡ false
-ends_2 text p x y b g h k f =
-    let e : p + 1 + 1 - 1 ≡ p + 1 = omega arith in
-    let d : p + 1 + 1 - 2 ≡ p = omega arith in
-    rw (e, d, g, h, k) (f (byte text (p + 1 + 1 + 1)))
-
 -- a character's first byte, and how the others are read
 pub record CharAt (flow : Bool) (level : ℕ) (text : List ℕ) (p c : ℕ) (bytes : List ℕ) : Type 0 where
   pub first : ℕ
@@ -250,10 +225,12 @@ pub record CharAt (flow : Bool) (level : ℕ) (text : List ℕ) (p c : ℕ) (byt
   pub tail : Stand level text (p + 1) 0
       → Through flow level text (p + 1) (keeps rest) (p + length bytes)
 
-high_starts : (b : ℕ) → 192 ≤ b → starts b ≡ true
+-- A byte that begins several starts a character.
+pub high_starts : (b : ℕ) → 192 ≤ b → starts b ≡ true
 high_starts b h = grind (arith, nat_tests)
 
-low_starts : (b : ℕ) → b < 128 → starts b ≡ true
+-- A byte in ASCII starts a character.
+pub low_starts : (b : ℕ) → b < 128 → starts b ≡ true
 low_starts b h = grind (arith, nat_tests)
 
 one_at : (flow : Bool) (level : ℕ) (text : List ℕ) (p c : ℕ) → c < 128 → c ≢ 10 → c ≢ 13

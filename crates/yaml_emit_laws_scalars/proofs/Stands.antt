@@ -2,10 +2,8 @@
 use Rattle.std.proofs.Common.{None, Some, Bool, List, Result, [], ap, append_assoc, arith, encode_utf8_all, false, length, refl, replicate, subst, suc, sym, true, zero, ℕ, ◌++◌, ◌+◌, ◌<◌, ◌||◌, ◌∙◌, ◌∷◌, ◌≡◌}
 use Rattle.std.proofs.lemmas.Str.{encode_ascii, encodes-chars}
 use Rattle.std.specs.Str.{chars}
-use Rattle.yaml_scan_history.specs.scan_model.Marks.{byte}
 use Rattle.yaml_scan_history.specs.declared.kind.Kind.TheVariants as kinds
 use Rattle.yaml_scan_history.specs.Words.{indicator_of}
-use Rattle.std.proofs.lemmas.List.{get_or_past}
 use Rattle.yaml_emit_layout.specs.emit_text.declared.Page.{Page}
 use Rattle.yaml_emit_layout.specs.emit_text.Layout.{Layout, ◌▹◌, when, gap, after_text, line}
 use Rattle.yaml_emit_layout.specs.emit_text.Scalars.{flow_body, plain}
@@ -17,15 +15,15 @@ use Rattle.yaml_emit_layout.specs.scan_model.Tokens as tokens
 use Rattle.yaml_emit_layout.specs.emit_text.declared.LineBreak.{LineBreak}
 use Rattle.yaml_emit_layout.specs.emit_text.declared.LineBreak.TheVariants.{Lf, Cr, CrLf}
 use Rattle.yaml_emit_layout.specs.emit_text.Spelling.{break_text}
-use Rattle.yaml_emit_laws_text.proofs.Escapes.{AreLow, low_encodes}
+use Rattle.yaml_emit_laws_text.proofs.Escapes.{AreLow, low_encodes, spaces_low}
 use Rattle.yaml_emit_laws_text.proofs.Back.{spaced_by}
-use Rattle.yaml_emit_laws_scalars.proofs.Lines.{line_start, after_blanks, blanks_column, blanks_kept, line_is}
+use Rattle.yaml_emit_laws_scalars.proofs.Lines.{blanks_column, blanks_kept}
 use Rattle.yaml_scan_history.specs.scan_scalars.Quoted.{single_quoted_at}
 use Rattle.yaml_emit_layout.specs.emit_text.declared.Cursor.{Cursor}
 use Rattle.yaml_emit_laws_text.specs.QuotedLaws.{SingleSpellingReads}
 use Rattle.yaml_emit_laws_text.specs.ReadBack.{between_single}
-use Rattle.yaml_emit_laws_text.specs.Walk.{Has, Left, bytes, first}
-use Rattle.yaml_emit_laws_text.proofs.Places.{has_front, has_at, left_first, left_rest}
+use Rattle.yaml_emit_laws_text.specs.Walk.{Has, Left, bytes}
+use Rattle.yaml_emit_laws_text.proofs.Places.{has_front, has_at, left_rest}
 use Rattle.yaml_emit_laws_text.proofs.Steps.{Sign, sign_begins, sign_kind}
 use Rattle.yaml_emit_laws_text.proofs.Words.{sign, front_encodes}
 use Rattle.yaml_emit_laws_scalars.specs.Stops.{stops_plain_at}
@@ -33,6 +31,8 @@ use Rattle.yaml_emit_laws_scalars.specs.StandsLaws.{ScalarsAreWords, LinesStopPl
 use Rattle.yaml_emit_laws_scalars.proofs.PlainLaw.{plain_back}
 use Rattle.yaml_emit_laws_scalars.proofs.Single.{single_back}
 use Rattle.yaml_emit_laws_scalars.proofs.Stopping.{goes_on, behind_lines}
+use Rattle.yaml_emit_laws_text.proofs.TextLines.{left_byte}
+use Rattle.yaml_emit_laws_text.proofs.Single.{line_is, after_blanks, line_start}
 
 -- ---- plain
 
@@ -67,13 +67,10 @@ stands page flow level c value u some may deep far rest stop text p l =
 single_sign : Sign 39
 single_sign = sign 39 refl refl refl refl refl refl refl refl refl refl
 
-single_kind : (flow alone : Bool) → indicator_of flow alone 39 ≡ Some kinds.SingleQuoted
+-- A single quote begins a single quoted scalar.
+pub single_kind : (flow alone : Bool) → indicator_of flow alone 39 ≡ Some kinds.SingleQuoted
 unfolding indicator_of
 single_kind flow alone = refl
-
-first_byte : (text : List ℕ) (p : ℕ) (bs : List ℕ) → Left text p bs → byte text p ≡ first bs
-first_byte text p [] l = let e = l.ends in get_or_past text p 0 (omega (arith, e))
-first_byte text p (b ∷ bs) l = left_first text p b bs l
 
 begun : (xs inside : List ℕ) → xs ≡ 39 ∷ inside → encode_utf8_all xs ≡ 39 ∷ encode_utf8_all inside
 begun xs inside e = ap (λ (ys : List ℕ). encode_utf8_all ys) e ∙ ap (λ (bs : List ℕ). bs ++ encode_utf8_all inside) (encode_ascii 39 (omega arith))
@@ -92,7 +89,7 @@ quoted_stands law page c value u deep may rest none text p l =
       goes = record { own = own; behind = back.behind; fine = fine; left = far };
       begins = sign_begins text p 39 single_sign here;
       kind = λ flow. sign_kind flow text p 39 kinds.SingleQuoted single_sign here (single_kind flow);
-      read = back.read text p (has_at text p own (has_front text p own tail m.has)) (λ e. none back.behind fine (sym (first_byte text (p + length own) tail far) ∙ e));
+      read = back.read text p (has_at text p own (has_front text p own tail m.has)) (λ e. none back.behind fine (sym (left_byte text (p + length own) tail far) ∙ e));
     }
 
 -- ---- words
@@ -116,20 +113,19 @@ are_words flow level text p value = (
 
 -- ---- lines
 
-spaces_low : (n : ℕ) → AreLow (replicate n 32)
-spaces_low zero = tt
-spaces_low (suc n) = (omega arith, spaces_low n)
-
-break_low : (b : LineBreak) (n : ℕ) → AreLow (break_text b ++ replicate n 32)
+-- A break and its indentation are low bytes.
+pub break_low : (b : LineBreak) (n : ℕ) → AreLow (break_text b ++ replicate n 32)
 break_low Lf n = (omega arith, spaces_low n)
 break_low Cr n = (omega arith, spaces_low n)
 break_low CrLf n = (omega arith, (omega arith, spaces_low n))
 
-blanks_bare : (n : ℕ) (c : Cursor) → c.bare ≡ true → (after_blanks n c).bare ≡ true
+-- Behind blanks a line that was bare is bare.
+pub blanks_bare : (n : ℕ) (c : Cursor) → c.bare ≡ true → (after_blanks n c).bare ≡ true
 blanks_bare zero c e = e
 blanks_bare (suc n) c e = blanks_bare n (spaced_by c) e
 
-blanks_white : (n : ℕ) (c : Cursor) → c.white ≡ true → (after_blanks n c).white ≡ true
+-- Behind blanks the cursor stands behind white, if it did.
+pub blanks_white : (n : ℕ) (c : Cursor) → c.white ≡ true → (after_blanks n c).white ≡ true
 blanks_white zero c e = e
 blanks_white (suc n) c e = blanks_white n (spaced_by c) refl
 

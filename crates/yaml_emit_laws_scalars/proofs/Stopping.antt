@@ -18,8 +18,8 @@ use Rattle.yaml_emit_laws_text.specs.Walk.{Has, Left}
 use Rattle.yaml_emit_laws_text.proofs.Places.{has_front, has_at, left_first, left_more, left_rest}
 use Rattle.yaml_emit_laws_text.proofs.Values.{cond_true, cond_false}
 use Rattle.yaml_emit_laws_scalars.specs.Stops.{is_gap_byte, white_of, begins_white, begins_mark, stops_line, stops_here, one_more, column_behind, stops_plain_at, StopsEndPlain, PlainGoesOn, StopsBehindLines}
-use Rattle.yaml_emit_laws_scalars.proofs.Lines.{bool_cases}
 use Rattle.yaml_emit_laws_scalars.proofs.PlainParts.{spaced}
+use Rattle.yaml_emit_laws_text.proofs.Single.{bool_cases}
 
 -- ---- bytes that are left
 

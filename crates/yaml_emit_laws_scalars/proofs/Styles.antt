@@ -15,7 +15,7 @@ use Rattle.yaml_emit_layout.specs.Grammar.{has, scalar_tag}
 use Rattle.yaml_emit_layout.specs.Nodes.{Context, is_simple_part, style_of, deeper}
 use Rattle.yaml_emit_laws_scalars.specs.StylesLaws.{StylesAreAllowed, level_of, PagesIndent}
 use Rattle.yaml_emit_layout.specs.emit_text.declared.Settings.{Settings}
-use Rattle.yaml_emit_laws_scalars.proofs.Lines.{bool_cases}
+use Rattle.yaml_emit_laws_text.proofs.Single.{bool_cases}
 
 -- what a style has to be allowed
 abbrev Fits : Allowed → Bool → Bool → Style → Type 0

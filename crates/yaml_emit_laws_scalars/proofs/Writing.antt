@@ -16,9 +16,10 @@ use Rattle.yaml_emit_laws_text.specs.ReadBack.{is_one_line}
 use Rattle.yaml_emit_laws_text.proofs.Values.{cond_true, cond_false}
 use Rattle.yaml_emit_laws_text.proofs.Escapes.{end_of, space_encodes}
 use Rattle.yaml_emit_laws_text.proofs.Back.{front_append}
-use Rattle.yaml_emit_laws_scalars.proofs.Lines.{bool_cases, line_start, after_blanks, blanks_column, blanks_kept, new_line_is, Starts, start_is, break_is, own_fits, own_means, own_bytes}
+use Rattle.yaml_emit_laws_scalars.proofs.Lines.{blanks_column, blanks_kept, Starts, start_is, break_is, own_fits, own_means, own_bytes}
 use Rattle.yaml_emit_laws_scalars.proofs.PlainParts.{Spells}
-use Rattle.yaml_emit_laws_scalars.proofs.Letters.{AllShow, quote_byte, seat, Step, step, Behind, fold_follows}
+use Rattle.yaml_emit_laws_scalars.proofs.Letters.{AllShow, quote_byte, seat, Step, step, Behind}
+use Rattle.yaml_emit_laws_text.proofs.Single.{new_line_is, fold_follows, bool_cases, after_blanks, line_start}
 
 -- ---- all characters
 

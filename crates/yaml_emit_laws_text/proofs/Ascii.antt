@@ -38,11 +38,12 @@ pieces_ascii wide due (escape b ∷ pieces) (small, (next, due_is, is)) =
 pub uri_ascii : (wide : Bool) (bs : List ℕ) → IsUtf8 bs → are_ascii (uri_text wide bs) ≡ true
 uri_ascii wide bs u = subst (λ (t : List ℕ). are_ascii t ≡ true) (text_is wide bs) (pieces_ascii wide 0 (pieces_of wide bs) (text_uri wide bs u))
 
-alpha_ascii : (b : ℕ) → is_alpha_byte b ≡ true → nat_lt b 128 ≡ true
+pub alpha_ascii : (b : ℕ) → is_alpha_byte b ≡ true → nat_lt b 128 ≡ true
 unfolding is_alpha_byte is_digit_byte
 alpha_ascii b h = grind (arith, nat_tests)
 
-alphas_ascii : (name : List ℕ) → are_alphas name ≡ true → are_ascii name ≡ true
+-- Letters and digits are in ASCII.
+pub alphas_ascii : (name : List ℕ) → are_alphas name ≡ true → are_ascii name ≡ true
 alphas_ascii [] e = refl
 alphas_ascii (b ∷ bs) e =
     and_from (nat_lt b 128) (are_ascii bs) (alpha_ascii b (and_parts (is_alpha_byte b) (are_alphas bs) e).0) (alphas_ascii bs (and_parts (is_alpha_byte b) (are_alphas bs) e).1)

@@ -23,6 +23,7 @@ use Rattle.yaml_emit_laws_text.proofs.Values.{cond_false}
 use Rattle.yaml_emit_laws_text.proofs.Parts.{spelling_reads}
 use Rattle.yaml_emit_laws_text.proofs.Escapes.{low_encodes, parts_of}
 use Rattle.yaml_emit_laws_text.proofs.Kept.{body_keeps}
+use Rattle.yaml_emit_laws_text.proofs.Steps.{not_start}
 
 -- ---- without lines that may be broken the indentation says nothing
 
@@ -75,7 +76,7 @@ pub front_more : (x : ℕ) (xs : List ℕ) (t : List Item)
 unfolding in_front
 front_more x xs t = refl
 
-char_encodes : (c : ℕ) → char_bytes Utf8 c ≡ encode_utf8 c
+pub char_encodes : (c : ℕ) → char_bytes Utf8 c ≡ encode_utf8 c
 unfolding char_bytes encode_char
 char_encodes c = refl
 
@@ -111,9 +112,6 @@ reads_as : (xs ys : List ℕ) (reading : Result (List ℕ × ℕ) Wrong) (p n m 
     → reading ≡ Ok (xs, p + n) → xs ≡ ys → n ≡ m → reading ≡ Ok (ys, p + m)
 reads_as xs ys reading p n m r a b = r ∙ ap (λ v. Ok (v, p + n)) a ∙ ap (λ k. Ok (ys, p + k)) b
 
-moved_on : (n : ℕ) → n + 1 ≡ 0 → ⊥
-moved_on n e = omega arith
-
 pub quoted_back : QuotedSpells → (page : Page) (c : Cursor) (value : List ℕ) → IsUtf8 value
     → (page.cuts ≡ true → 0 < page.indentation)
     → ValueIsReadBack double_quoted_at (between_quotes page (chars value)) c value
@@ -135,7 +133,7 @@ quoted_back law page c value u deep =
       inside = inner ++ 34 ∷ [];
       begins = refl;
       bare = refl;
-      column = λ z. moved_on s.behind.column z;
+      column = λ z. not_start s.behind.column z;
       kept = body_keeps page 32 (chars value) (moved_by c) s.behind inner s.spelled;
     }
 

@@ -6,6 +6,7 @@ use Rattle.std.proofs.lemmas.Bool.Decides.{nat_tests}
 use Rattle.yaml_scan_scalars.specs.scan_model.Marks.{byte, break_of, ends_of, is_blank}
 use Rattle.yaml_scan_scalars.specs.Quoted.{hex_digit, hex_value, hex_len, simple_escape}
 use Rattle.yaml_emit_laws_text.specs.Spelling.{number_behind}
+use Rattle.yaml_scan_words.proofs.HasLemmas.{Has}
 
 -- ---- tests
 
@@ -105,11 +106,6 @@ hex_more text p k v d h e = rw (h, e) refl
 pub hex_start : (text : List ℕ) (p : ℕ) → hex_value text p 0 ≡ Some 0
 unfolding hex_value
 hex_start text p = refl
-
--- the text has these bytes from the place on, by recursion
-abbrev pub Has : List ℕ → ℕ → List ℕ → Type 0
-Has text p [] = Unit {0}
-Has text p (x ∷ xs) = (byte text p ≡ x) × Has text (p + 1) xs
 
 -- digits behind k others, and that they are calm
 pub record Digits (text : List ℕ) (p k w : ℕ) (ds : List ℕ) : Type 0 where

@@ -17,7 +17,6 @@ use Rattle.yaml_emit_laws_text.specs.scan_history.Words.{WordText, kind_at, word
 use Rattle.yaml_emit_laws_text.specs.scan_model.Tokens as tokens
 use Rattle.yaml_emit_laws_text.specs.scan_model.declared.yaml_version_directive_t.{yaml_version_directive_t}
 use Rattle.yaml_emit_laws_text.specs.emit_layout.parse_model.Events.{TagDirective}
-use Rattle.yaml_emit_laws_text.specs.emit_layout.declared.problem.Problem.{Problem}
 use Rattle.yaml_emit_laws_text.specs.emit_layout.emit_text.declared.Cursor.{Cursor}
 use Rattle.yaml_emit_laws_text.specs.emit_layout.emit_text.declared.Settings.{Settings}
 use Rattle.yaml_emit_laws_text.specs.emit_layout.emit_text.declared.LineBreak.{LineBreak}
@@ -25,7 +24,7 @@ use Rattle.yaml_emit_laws_text.specs.emit_layout.emit_text.Text.{encode, char_by
 use Rattle.yaml_emit_laws_text.specs.emit_layout.emit_text.Layout.{Layout, Rest, ◌▹◌, blank, letters, word, line}
 use Rattle.yaml_emit_laws_text.specs.emit_layout.emit_tags.Tags.{uri_text}
 use Rattle.yaml_emit_laws_text.specs.emit_layout.Content.{Opening}
-use Rattle.yaml_emit_laws_text.specs.emit_layout.Grammar.{or_else, is_version, version_problem, directives_problem}
+use Rattle.yaml_emit_laws_text.specs.emit_layout.Grammar.{is_version, version_problem, directives_problem}
 use Rattle.yaml_emit_laws_text.specs.emit_layout.Nodes.{version_word, version_text, directive_text, directives_text}
 use Rattle.yaml_emit_laws_text.specs.Canonical.{version_kinds, directives_kinds}
 use Rattle.yaml_emit_laws_text.specs.Bodies.{version_bodies, directives_bodies}
@@ -39,19 +38,25 @@ use Rattle.yaml_emit_laws_text.proofs.Steps.{sign_starts, letter_low, push_to, w
 use Rattle.yaml_emit_laws_text.proofs.Words.{lettered_on}
 use Rattle.yaml_emit_laws_text.proofs.Tags.{letters_are}
 use Rattle.yaml_emit_laws_text.proofs.TextLines.{line_broken}
+use Rattle.yaml_emit_laws_text.proofs.Resolving.{or_first}
+use Rattle.yaml_emit_laws_text.proofs.Joining.{none_all}
+use Rattle.yaml_emit_laws_text.proofs.Back.{spaced_by}
 
 -- ---- a directive and its line
 
-percent_begins : (text : List ℕ) (p : ℕ) → byte text p ≡ 37 → begins_lexeme text p ≡ true
+-- A `%` begins a lexeme.
+pub percent_begins : (text : List ℕ) (p : ℕ) → byte text p ≡ 37 → begins_lexeme text p ≡ true
 unfolding break_of
 percent_begins text p h = sign_starts text p 37 h refl refl refl refl (λ c d. refl)
 
-percent_kind : (text : List ℕ) (p : ℕ) → byte text p ≡ 37 → column_at text p ≡ 0
+-- A `%` at a line's start begins a directive.
+pub percent_kind : (text : List ℕ) (p : ℕ) → byte text p ≡ 37 → column_at text p ≡ 0
     → kind_at false text p ≡ Some kinds.Directive
 unfolding kind_at
 percent_kind text p h z = rw (h, z) refl
 
-directive_word : (text : List ℕ) (p : ℕ)
+-- The word of a directive is what is read there.
+pub directive_word : (text : List ℕ) (p : ℕ)
     → word_at kinds.Directive false 0 text p ≡ directed (directive_at text p)
 unfolding word_at
 directive_word text p = refl
@@ -77,7 +82,7 @@ record WritesLine (a : Layout) (b : LineBreak) (xs : List ℕ) (kept : Bool) : T
   still : behind.kept ≡ kept
 
 -- Such bytes are read as what is said, with the break behind them.
-abbrev ReadsLine : List ℕ → Said → Type 0
+abbrev pub ReadsLine : List ℕ → Said → Type 0
 ReadsLine xs said = (text : List ℕ) (p : ℕ) → Has text p (37 ∷ xs) → is_break text (p + length (37 ∷ xs)) ≡ true
     → let end = p + length (37 ∷ xs) in directive_at text p ≡ Ok (record { said = said; end = end; place = end + break_width text end })
 
@@ -110,7 +115,7 @@ line_lands law a b xs said written reads rest calm kept text p ws s l =
 
 -- ---- versions
 
-abbrev version_line : LineBreak → List ℕ → Layout
+abbrev pub version_line : LineBreak → List ℕ → Layout
 version_line b t = word (codes "%YAML") ▹ (word t ▹ line b 0)
 
 version_writes : (b : LineBreak) (x : ℕ) → nat_lt x 128 ≡ true → (kept : Bool)
@@ -139,17 +144,13 @@ version_so law versions b v n small low major minor says rest calm =
     let two : P (version_word v) v.major (pos n) = subst (λ (x : ℤ). P (version_word v) x (pos n)) (sym major) one in
     subst (λ (y : ℤ). P (version_word v) v.major y) (sym minor) two
 
-none_true : (b : Bool) (p : Problem) → (if b then None else Some p) ≡ None → b ≡ true
-none_true true p e = refl
-none_true false p e = absurd (cc)
-
 version_lands : GapReads → VersionReads → (s : Settings) (version : Option yaml_version_directive_t)
     → version_problem version ≡ None → (rest : Rest) → NoFeed rest
     → LinesWalkTo rest (version_text s version) (λ ks. version_kinds version ks)
     (λ bs. version_bodies version bs)
 version_lands law versions s None right rest calm = λ kept text p ws st l. record { kept = kept; place = p; words = ws; stage = st; left = l; kinds = refl; bodies = λ bs. refl }
 version_lands law versions s (Some v) right rest calm =
-    let is = none_true (is_version v) _ right in
+    let is = none_all (is_version v) _ right in
     let major = (signed_Decides v.major (pos 1)).0 (and_parts (int_eq v.major (pos 1)) (int_eq v.minor (pos 1) || int_eq v.minor (pos 2)) is).0 in
     let either = (and_parts (int_eq v.major (pos 1)) (int_eq v.minor (pos 1) || int_eq v.minor (pos 2)) is).1 in
     elim (cases_Bool (int_eq v.minor (pos 1))) [
@@ -174,18 +175,16 @@ record Spaces (xs : List ℕ) (c : Cursor) : Type 0 where
   bare : behind.bare ≡ false
   kept : behind.kept ≡ c.kept
 
-abbrev spaced : Cursor → Cursor
-spaced c = record { column = c.column + 1; white = true; bare = c.bare; kept = c.kept }
-
-space_here : (xs : List ℕ) (c : Cursor) → c.white ≡ false → (rest : Rest)
-    → bytes (word xs c rest) ≡ 32 ∷ bytes (letters xs (spaced c) rest)
+-- A word behind another one has a space in front.
+pub space_here : (xs : List ℕ) (c : Cursor) → c.white ≡ false → (rest : Rest)
+    → bytes (word xs c rest) ≡ 32 ∷ bytes (letters xs (spaced_by c) rest)
 space_here xs c white rest =
-    ap (λ (t : Bool). bytes (if t then letters xs c rest else blank c (λ e. letters xs e rest))) white ∙ letter_low 32 (letters xs (spaced c) rest) refl
+    ap (λ (t : Bool). bytes (if t then letters xs c rest else blank c (λ e. letters xs e rest))) white ∙ letter_low 32 (letters xs (spaced_by c) rest) refl
 
 spaces : (xs : List ℕ) → are_ascii xs ≡ true → (c : Cursor) → c.white ≡ false → c.bare ≡ false
     → Spaces xs c
 spaces xs low c white bare =
-    let r = letters_are xs low (spaced c) in
+    let r = letters_are xs low (spaced_by c) in
     record { behind = r.behind; same = λ rest. space_here xs c white rest ∙ ap (λ (t : List ℕ). 32 ∷ t) (r.same rest); bare = r.bare bare; kept = r.kept }
 
 -- the same, with a letter at least: the cursor behind isn't white
@@ -200,10 +199,10 @@ handle_spaced : (more : List ℕ) → are_ascii more ≡ true → (c : Cursor) �
     → Handles (33 ∷ more) c
 unfolding letters
 handle_spaced more low c white =
-    let r = letters_are more low (lettered_on (spaced c)) in
+    let r = letters_are more low (lettered_on (spaced_by c)) in
     record {
       behind = r.behind;
-      same = λ rest. space_here (33 ∷ more) c white rest ∙ ap (λ (t : List ℕ). 32 ∷ t) (letter_low 33 (letters more (lettered_on (spaced c)) rest) refl ∙ ap (λ (t : List ℕ). 33 ∷ t) (r.same rest));
+      same = λ rest. space_here (33 ∷ more) c white rest ∙ ap (λ (t : List ℕ). 32 ∷ t) (letter_low 33 (letters more (lettered_on (spaced_by c)) rest) refl ∙ ap (λ (t : List ℕ). 33 ∷ t) (r.same rest));
       white = r.white refl;
       bare = r.bare refl;
       kept = r.kept;
@@ -212,7 +211,7 @@ handle_spaced more low c white =
 handles : (xs : List ℕ) → IsMarked xs → (c : Cursor) → c.white ≡ false → Handles xs c
 handles xs h c white = subst (λ (ys : List ℕ). Handles ys c) (sym h.begins) (handle_spaced h.more h.ascii c white)
 
-abbrev tag_line : LineBreak → List ℕ → List ℕ → Layout
+abbrev pub tag_line : LineBreak → List ℕ → List ℕ → Layout
 tag_line b handle uri = word (codes "%TAG") ▹ (word handle ▹ (word uri ▹ line b 0))
 
 tag_writes : (b : LineBreak) (handle uri : List ℕ) → IsMarked handle → are_ascii uri ≡ true
@@ -269,10 +268,6 @@ tags_land law reads ascii s (d ∷ ds) (own, may) rest calm kept text p ws st l 
     let g = tag_lands law reads ascii s d own (λ c. directives_text s ds c rest) (tags_first s ds rest calm) kept text p ws st l in
     let h = tags_land law reads ascii s ds may rest calm g.kept text g.place g.words g.stage g.left in
     record { kept = h.kept; place = h.place; words = h.words; stage = h.stage; left = h.left; kinds = h.kinds ∙ ap (λ (ks : List Kind). directives_kinds ds ks) g.kinds; bodies = λ bs. h.bodies bs ∙ g.bodies (directives_bodies ds bs) }
-
-or_first : (a b : Option Problem) → or_else a b ≡ None → a ≡ None
-or_first None b e = refl
-or_first (Some p) b e = absurd (cc)
 
 -- the lines of a document's directives
 pub directives_walk : GapReads → VersionReads → DirectivesAreRead → ReadableDirectivesAreAscii

@@ -3,7 +3,7 @@ use Rattle.std.proofs.Common.{◌≡◌, ◌≢◌, ℕ, zero, suc, ◌+◌, ◌
 use Rattle.std.proofs.lemmas.Bool.{cases_lt, cases_eq, and_parts, not-true, or_parts, ne_eqb}
 use Rattle.std.proofs.lemmas.Bool.Decides.{nat_tests}
 use Rattle.std.proofs.lemmas.Str.{encode_ascii, encodes-append}
-use lib.Utf8.{scalar, scalar_cases, encode}
+use lib.Utf8.{scalar, encode}
 use Rattle.yaml_scan_scalars.specs.Quoted.{hex_digit, hex_len, simple_escape}
 use Rattle.yaml_emit_text.specs.declared.LineBreak.{LineBreak}
 use Rattle.yaml_emit_text.specs.declared.LineBreak.TheVariants.{Lf, Cr, CrLf}
@@ -12,6 +12,7 @@ use Rattle.yaml_emit_text.specs.Hex.{hex_2, hex_digit as digit_of}
 use Rattle.yaml_emit_text.specs.Spelling as emitted
 use Rattle.yaml_emit_laws_text.specs.Spelling.{LineEnd, feed, return, return_feed, turn_bytes, turn_means, may_turn, QuotedPart, raw, named, numbered, fold, spelled, meant, spelling, meaning, number_behind, may_be_raw, MayStand, is_raw_blank, is_fold, is_turn, may_follow, may_be_next, IsSpelling}
 use Rattle.yaml_emit_laws_text.proofs.Bytes.{AreCalm, calm_from, digit_calm, named_is}
+use Rattle.yaml_emit_laws_text.proofs.Pieces.{top_of}
 
 -- ---- digits
 
@@ -203,7 +204,8 @@ calm_low (x ∷ xs) (a, b) = (a.low, calm_low xs b)
 slashed : (b : ℕ) (xs : List ℕ) → b < 128 → AreCalm xs → encode_utf8_all (92 ∷ b ∷ xs) ≡ 92 ∷ b ∷ xs
 slashed b xs h a = low_encodes (92 ∷ b ∷ xs) (omega arith, (h, calm_low xs a))
 
-spaces_low : (n : ℕ) → AreLow (replicate n 32)
+-- Spaces are low bytes.
+pub spaces_low : (n : ℕ) → AreLow (replicate n 32)
 spaces_low zero = tt
 spaces_low (suc n) = (omega arith, spaces_low n)
 
@@ -269,9 +271,6 @@ escape_numbered b c ds s e l a some h n = record {
   blank = refl;
 }
 
-scalar_top : (c : ℕ) → scalar c ≡ true → c < 1114112
-scalar_top c h = elim (scalar_cases c h) [ inl a ↦ omega arith | inr a ↦ a.1 ]
-
 len_2 : hex_len 120 ≡ 2
 unfolding hex_len
 len_2 = refl
@@ -293,7 +292,7 @@ escape_part c s =
         | inr a ↦ elim (cases_lt c 65536) [
           | inl b ↦ escape_numbered 117 c (hex_4 c) s (escape_by_4 c n a b) (omega arith) (two_calm (c / 256) (hex_2 (c % 256)) (omega arith) (two_calm (c % 256) [] (omega arith) tt)) (omega arith) len_4 (four_is c b)
           | inr b ↦
-              let top = scalar_top c s in
+              let top = top_of c s in
               escape_numbered 85 c (hex_8 c) s (escape_by_8 c n a b) (omega arith)
               (two_calm (c / 65536 / 256) (hex_2 (c / 65536 % 256) ++ hex_4 (c % 65536)) (omega arith)
               (two_calm (c / 65536 % 256) (hex_4 (c % 65536)) (omega arith)
@@ -314,7 +313,7 @@ escape_calm c s =
         | inr a ↦ elim (cases_lt c 65536) [
           | inl b ↦ subst P (sym (escape_by_4 c n a b)) (slash, (calm_from 117 (omega arith) (omega arith), two_calm (c / 256) (hex_2 (c % 256)) (omega arith) (two_calm (c % 256) [] (omega arith) tt)))
           | inr b ↦
-              let top = scalar_top c s in
+              let top = top_of c s in
               subst P (sym (escape_by_8 c n a b)) (
                 slash,
                 (

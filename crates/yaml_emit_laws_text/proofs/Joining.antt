@@ -19,7 +19,7 @@ use Rattle.yaml_emit_layout.specs.declared.problem.Problem.{Problem}
 use Rattle.yaml_emit_layout.specs.Content.{Opening}
 use Rattle.yaml_emit_layout.specs.Grammar.{or_else, between, inner_problem, ends_problem, handle_problem, prefix_problem, twice_problem, directive_problem, directives_problem, version_problem, opening_problem}
 use Rattle.yaml_emit_laws_text.specs.TagsLaws.{resolved_split, IsShaped, IsReadable, tag_text, HaveUtf8, IsTagReadBack, AreReadable}
-use Rattle.yaml_emit_laws_text.proofs.Resolving.{or_first, or_second, whole, tags_resolve}
+use Rattle.yaml_emit_laws_text.proofs.Resolving.{or_first, or_second, whole, tags_resolve, some_is}
 use Rattle.yaml_emit_laws_text.proofs.TagsReading.{split_read}
 
 -- Handles.
@@ -29,7 +29,8 @@ if_none : (b : Bool) (p : Problem) (o : Option Problem) → (if b then Some p el
 if_none false p o e = (refl, e)
 if_none true p o e = absurd (cc)
 
-none_all : (b : Bool) (p : Problem) → (if b then None else Some p) ≡ None → b ≡ true
+-- Where nothing is wrong, the test holds.
+pub none_all : (b : Bool) (p : Problem) → (if b then None else Some p) ≡ None → b ≡ true
 none_all true p e = refl
 none_all false p e = absurd (cc)
 
@@ -125,9 +126,6 @@ fine_defaults : (ds : List TagDirective) → AllFine (defaults ds)
 fine_defaults ds =
     fine_append (unless_defined ds primary) (unless_defined ds secondary) (fine_unless ds primary (primary_right, primary_utf8))
     (fine_unless ds secondary (secondary_right, secondary_utf8))
-
-some_is : (x d : TagDirective) → Some x ≡ Some d → x ≡ d
-some_is x d e = cc
 
 -- the directive that is found is fine, and begins the tag
 fine_found : (ds : List TagDirective) (tag : List ℕ) (d : TagDirective) → AllFine ds

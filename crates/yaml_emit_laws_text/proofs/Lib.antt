@@ -1,18 +1,18 @@
 pub mod Chars
 pub mod Values
 pub mod Bytes
-mod QuotedReading
+pub mod QuotedReading
 mod Turns
 pub mod Parts
 pub mod Escapes
 mod Kept
 pub mod Back
-mod Single
+pub mod Single
 pub mod Keys
 pub mod QuotedWhole
 pub mod Growing
 pub mod Resolving
-mod Pieces
+pub mod Pieces
 pub mod TagsReading
 pub mod Joining
 pub mod Ascii
@@ -21,9 +21,9 @@ pub mod Forms
 pub mod Places
 pub mod Steps
 pub mod Words
-mod Tags
-mod TextLines
-mod Directives
+pub mod Tags
+pub mod TextLines
+pub mod Directives
 pub mod Nodes
 pub mod Documents
 pub mod TextWhole

@@ -1,9 +1,9 @@
 -- All parts of a spelling are read, and what they mean.
 use Rattle.std.proofs.Common.{◌≡◌, ℕ, zero, suc, ◌+◌, ◌<◌, ◌≤◌, true, false, ◌==◌, List, [], ◌∷◌, ◌++◌, length, Result, Ok, Err, refl, sym, ap, subst, ◌∙◌, inl, inr, arith, append_assoc, encode_utf8}
-use Rattle.std.proofs.lemmas.Bool.{cases_Bool, cases_lt, and_parts, not-true, or_parts, ne_eqb, eqb-false}
+use Rattle.std.proofs.lemmas.Bool.{cases_Bool, and_parts, not-true, or_parts, ne_eqb, eqb-false}
 use Rattle.std.proofs.lemmas.Bool.Decides.{nat_tests}
-use Rattle.std.proofs.lemmas.List.{length-append, get_or_past}
-use lib.Utf8.{scalar, scalar_cases}
+use Rattle.std.proofs.lemmas.List.{length-append}
+use lib.Utf8.{scalar}
 use Rattle.yaml_scan_scalars.specs.scan_model.Marks.{byte, starts, column_at, is_blank}
 use Rattle.yaml_scan_scalars.specs.scan_model.Breaks.{is_document_indicator}
 use Rattle.yaml_scan_scalars.specs.scan_model.Wrong.{Wrong}
@@ -13,14 +13,14 @@ use Rattle.yaml_emit_laws_text.specs.Stands.{HasAt}
 use Rattle.yaml_emit_laws_text.specs.Spelling.{QuotedPart, raw, doubled, named, numbered, fold, joint, spelled, spelling, meaning, is_line_end, may_be_raw, MayStand, IsSpelling, quoted}
 use Rattle.yaml_emit_laws_text.proofs.Chars.{encode_1}
 use Rattle.yaml_emit_laws_text.proofs.Values.{read_as, all_read_as, read_blank, read_kept, spelling_value}
-use Rattle.yaml_emit_laws_text.proofs.Bytes.{same_test, IsQuote, quote_some, calm_end, calm_from, Has}
-use Rattle.yaml_emit_laws_text.proofs.QuotedReading.{has, has_front, has_rest, Read, Through, through_one, in_line, column_more, column_start, blank_through, Raw, raw_through}
+use Rattle.yaml_emit_laws_text.proofs.Bytes.{same_test, IsQuote, quote_some, calm_end, calm_from}
+use Rattle.yaml_emit_laws_text.proofs.QuotedReading.{has, Read, Through, through_one, in_line, column_more, column_start, blank_through, Raw, raw_through}
 use Rattle.yaml_emit_laws_text.proofs.Turns.{named_through, numbered_through, fold_through, joint_through}
+use Rattle.yaml_scan_model.proofs.MarksLemmas.{within}
+use Rattle.yaml_emit_laws_text.proofs.Pieces.{top_of}
+use Rattle.yaml_scan_words.proofs.HasLemmas.{has_rest, Has, has_front}
 
 -- ---- characters
-
-scalar_top : (c : ℕ) → scalar c ≡ true → c < 1114112
-scalar_top c h = elim (scalar_cases c h) [ inl a ↦ omega arith | inr a ↦ a.1 ]
 
 raw_is : (quote c : ℕ) → may_be_raw quote c ≡ true → Raw quote c
 raw_is quote c h =
@@ -41,7 +41,7 @@ raw_is quote c h =
       no_end = (or_parts (c == 0) _ more).0;
       no_quote = (or_parts (c == quote) _ past_end).0;
       no_slash = (or_parts (c == quote) _ past_end).1;
-      top = scalar_top c s;
+      top = top_of c s;
     }
 
 blank_small : (b : ℕ) → is_blank b ≡ true → b < 128
@@ -139,13 +139,6 @@ unfolding pieces
 more_fuel zero m quote text p x l e = absurd (cc)
 more_fuel (suc n) zero quote text p x l e = absurd (omega arith)
 more_fuel (suc n) (suc m) quote text p x l e = followed_more (pieces n quote text) (pieces m quote text) p (standing_at quote text p) x (λ q y k. more_fuel n m quote text q y (omega arith) k) e
-
-within : (text : List ℕ) (p : ℕ) → 0 < byte text p → p < length text
-within text p h =
-    elim (cases_lt p (length text)) [
-      | inl more ↦ more
-      | inr past ↦ let e = get_or_past text p 0 past in absurd (omega (arith, e))
-    ]
 
 valued_ok : (r : Result (List Piece × ℕ) Wrong) (qs : List Piece) (v : List ℕ) (d e : ℕ)
     → r ≡ Ok (qs, d) → value qs ≡ v → d ≡ e → valued value r ≡ Ok (v, e)

@@ -1,10 +1,10 @@
 -- The URIs that an emitter writes, as pieces.
 use Rattle.std.proofs.Common.{◌≡◌, inl, inr, ℕ, suc, ◌+◌, ◌-◌, ◌/◌, ◌%◌, ◌<◌, ◌≤◌, Bool, true, false, ◌&&◌, ◌||◌, ◌==◌, nat_lt, nat_le, if◌then◌else◌, List, [], ◌∷◌, ◌++◌, length, Ok, refl, sym, ap, subst, ◌∙◌, arith, encode_utf8}
-use Rattle.std.proofs.lemmas.Bool.{cases_Bool, cases_lt, lt-ltb, le-ltb, and_parts}
+use Rattle.std.proofs.lemmas.Bool.{cases_Bool, cases_lt, and_parts}
 use Rattle.std.proofs.lemmas.Bool.Decides.{nat_tests}
 use Rattle.std.specs.Prelude.{encode_utf8_all}
 use Rattle.std.specs.Str.{IsUtf8}
-use lib.Utf8.{scalar, scalars, encode}
+use lib.Utf8.{scalar, scalars}
 use Rattle.std.proofs.Math.Utf8.{scalar_cases}
 use Rattle.yaml_scan_model.specs.Classes.{is_alpha_byte, is_digit_byte}
 use Rattle.yaml_scan_words.specs.Uris.{is_punctuation, is_wide_punctuation, due_behind}
@@ -12,6 +12,7 @@ use Rattle.yaml_scan_words.specs.Written as written
 use Rattle.yaml_scan_words.specs.Written.{UriPiece, raw, escape, capital, piece_text, piece_byte, uri_bytes, is_kept, IsUri, has_no_mark}
 use Rattle.yaml_emit_layout.specs.emit_text.Hex.{hex_digit, hex_2}
 use Rattle.yaml_emit_layout.specs.emit_tags.Tags.{suffix_keeps, prefix_keeps, keeps_byte, uri_byte, uri_text}
+use Rattle.yaml_emit_laws_text.proofs.Chars.{encode_4, encode_3, encode_1, encode_2}
 
 -- a byte as an emitter writes it
 abbrev pub piece_by : Bool → ℕ → UriPiece
@@ -177,26 +178,8 @@ trail wide due next b pieces h g e is =
     let d : due_behind b due ≡ Ok next = due_trail b due h g (omega (arith, e)) ∙ ap (λ (n : ℕ). Ok n) (omega (arith, e)) in
     high wide due next b pieces h (omega (arith, g)) d is
 
-pub encode_1 : (c : ℕ) → c < 128 → encode_utf8 c ≡ c ∷ []
-unfolding encode
-encode_1 c a = rw (lt-ltb c 128 a) refl
-
-pub encode_2 : (c : ℕ) → 128 ≤ c → c < 2048 → encode_utf8 c ≡ (192 + c / 64) ∷ (128 + c % 64) ∷ []
-unfolding encode
-encode_2 c a b = rw (le-ltb c 128 a, lt-ltb c 2048 b) refl
-
-pub encode_3 : (c : ℕ) → 2048 ≤ c → c < 65536
-    → encode_utf8 c ≡ (224 + c / 4096) ∷ (128 + c / 64 % 64) ∷ (128 + c % 64) ∷ []
-unfolding encode
-encode_3 c a b = rw (le-ltb c 128 (omega arith), le-ltb c 2048 a, lt-ltb c 65536 b) refl
-
-pub encode_4 : (c : ℕ) → 65536 ≤ c
-    → encode_utf8 c ≡ (240 + c / 262144) ∷ (128 + c / 4096 % 64) ∷ (128 + c / 64 % 64)
-    ∷ (128 + c % 64) ∷ []
-unfolding encode
-encode_4 c a = rw (le-ltb c 128 (omega arith), le-ltb c 2048 (omega arith), le-ltb c 65536 a) refl
-
-top_of : (c : ℕ) → scalar c ≡ true → c < 1114112
+-- Each scalar value is at most U+10FFFF.
+pub top_of : (c : ℕ) → scalar c ≡ true → c < 1114112
 top_of c e = elim (scalar_cases c e) [ inl low ↦ omega (arith, low) | inr (from, to) ↦ to ]
 
 char_uri : (wide : Bool) (c : ℕ) (bs : List ℕ) → c < 1114112 → IsUri wide 0 (pieces_of wide bs)

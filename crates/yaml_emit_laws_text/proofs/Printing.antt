@@ -8,7 +8,7 @@ use Rattle.yaml_emit_layout.specs.scan_model.Classes.{is_printable_by, is_specia
 use Rattle.yaml_emit_layout.specs.scan_model.Classes as bytes
 use Rattle.yaml_emit_text.specs.Quoted.{is_printable}
 use Rattle.yaml_emit_laws_text.specs.Printing.{PrintableIsOfCharacters}
-use Rattle.yaml_emit_laws_text.proofs.Pieces.{encode_1, encode_2, encode_3, encode_4}
+use Rattle.yaml_emit_laws_text.proofs.Chars.{encode_4, encode_3, encode_1, encode_2}
 
 one : (c d e : ℕ) → c < 128 → is_printable_by c d e ≡ is_printable c
 unfolding is_printable_by

@@ -10,24 +10,14 @@ use Rattle.yaml_scan_scalars.specs.Quoted.{Pieces, standing_at, pieces}
 use Rattle.yaml_emit_laws_text.specs.Stands.{HasAt}
 use Rattle.yaml_emit_laws_text.proofs.Chars.{encode_1, encode_2, encode_3, encode_4}
 use Rattle.yaml_emit_laws_text.proofs.Values.{keeps}
-use Rattle.yaml_emit_laws_text.proofs.Bytes.{IsQuote, no_quote, no_slash, low_end, low_break, Calm, calm_end, calm_break, calm_from, Has, first_end, second_end, third_end, later_break, two_break, three_break, four_break, high_blank}
+use Rattle.yaml_emit_laws_text.proofs.Bytes.{IsQuote, no_quote, no_slash, low_end, low_break, Calm, calm_end, calm_break, calm_from, first_end, second_end, third_end, later_break, two_break, three_break, four_break, high_blank}
+use Rattle.yaml_scan_words.proofs.HasLemmas.{Has}
 
 pub has : (text : List ℕ) (p : ℕ) (xs : List ℕ) → HasAt text p xs → Has text p xs
 has text p [] h = tt
 has text p (x ∷ xs) h =
     let first : byte text (p + 0) ≡ x = h 0 (omega arith) in
     (rw add-zero at first, has text (p + 1) xs (λ k l. let e : p + 1 + k ≡ p + suc k = omega arith in ap (λ q. byte text q) e ∙ h (suc k) (omega arith)))
-
-pub has_front : (text : List ℕ) (p : ℕ) (xs ys : List ℕ) → Has text p (xs ++ ys) → Has text p xs
-has_front text p [] ys h = tt
-has_front text p (x ∷ xs) ys (e, h) = (e, has_front text (p + 1) xs ys h)
-
-pub has_rest : (text : List ℕ) (p : ℕ) (xs ys : List ℕ) → Has text p (xs ++ ys)
-    → Has text (p + length xs) ys
-has_rest text p [] ys h = rw add-zero h
-has_rest text p (x ∷ xs) ys (e, h) =
-    let same : p + 1 + length xs ≡ p + suc (length xs) = omega arith in
-    subst (λ q. Has text q ys) same (has_rest text (p + 1) xs ys h)
 
 -- ---- readings, from the right
 
@@ -68,6 +58,7 @@ through_at quote text p q r qs e t = subst (λ k. Through quote text p qs k) e t
 
 -- ---- no document begins or ends
 
+-- No mark of a document stands within a line.
 pub in_line : (text : List ℕ) (p : ℕ) → 0 < column_at text p → is_document_indicator text p ≡ false
 unfolding is_document_indicator
 in_line text p h =
@@ -86,6 +77,7 @@ pub column_more : (text : List ℕ) (p : ℕ) → ends_break text p ≡ false �
 unfolding column_at
 column_more text p h c = rw (add-one, h) (omega arith)
 
+-- Behind a character that ends no line the column is no longer 0.
 pub column_start : (text : List ℕ) (p : ℕ) → ends_break text p ≡ false → starts (byte text p) ≡ true
     → 0 < column_at text (p + 1)
 unfolding column_at
@@ -147,13 +139,15 @@ space_column text p e = column_start text p (rw e (calm_end _ _ 32 _ space_calm)
 
 -- ---- characters past ASCII
 
-ends_1 : (text : List ℕ) (p y b : ℕ) → byte text p ≡ y → byte text (p + 1) ≡ b
+-- No break ends behind two bytes that no break ends with.
+pub ends_1 : (text : List ℕ) (p y b : ℕ) → byte text p ≡ y → byte text (p + 1) ≡ b
     → ((x c : ℕ) → ends_of x y b c ≡ false) → ends_break text (p + 1) ≡ false
 ends_1 text p y b h k f =
     let e : p + 1 - 1 ≡ p = omega arith in
     rw (e, h, k) (f (byte text (p + 1 - 2)) (byte text (p + 1 + 1)))
 
-ends_2 : (text : List ℕ) (p x y b : ℕ) → byte text p ≡ x → byte text (p + 1) ≡ y
+-- The same of three bytes.
+pub ends_2 : (text : List ℕ) (p x y b : ℕ) → byte text p ≡ x → byte text (p + 1) ≡ y
     → byte text (p + 1 + 1) ≡ b → ((c : ℕ) → ends_of x y b c ≡ false)
     → ends_break text (p + 1 + 1) ≡ false
 ends_2 text p x y b g h k f =

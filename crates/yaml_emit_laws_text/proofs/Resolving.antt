@@ -23,6 +23,7 @@ same_of x y e = (bytes_eq-Decides x y).0 e
 same_self : (x : List ℕ) → bytes_eq x x ≡ true
 same_self x = (bytes_eq-Decides x x).1 refl
 
+-- Where neither is wrong, the first is not.
 pub or_first : (p q : Option Problem) → or_else p q ≡ None → p ≡ None
 or_first None q e = refl
 or_first (Some p) q e = absurd (cc)
@@ -116,7 +117,7 @@ finds_one : (d : TagDirective) (ds : List TagDirective) (tag : List ℕ)
 unfolding directive_for
 finds_one d ds tag = refl
 
-some_is : (x d : TagDirective) → Some x ≡ Some d → x ≡ d
+pub some_is : (x d : TagDirective) → Some x ≡ Some d → x ≡ d
 some_is x d e = cc
 
 -- what is known of a directive by which a tag is split

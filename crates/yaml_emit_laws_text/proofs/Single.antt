@@ -26,27 +26,30 @@ use Rattle.yaml_emit_laws_text.proofs.Back.{front_append, front_one, front_more,
 
 -- ---- layouts that write characters
 
-abbrev line_start : Cursor → Cursor
+abbrev pub line_start : Cursor → Cursor
 line_start c = record { column = 0; white = true; bare = true; kept = c.kept }
 
-abbrev after_blanks : ℕ → Cursor → Cursor
+abbrev pub after_blanks : ℕ → Cursor → Cursor
 after_blanks zero c = c
 after_blanks (suc n) c = after_blanks n (spaced_by c)
 
-blanks_are : (n : ℕ) (c : Cursor) (rest : Rest)
+-- Blanks are spaces in front of the rest.
+pub blanks_are : (n : ℕ) (c : Cursor) (rest : Rest)
     → blanks n c rest ≡ in_front (replicate n 32) (rest (after_blanks n c))
 unfolding blanks in_front
 blanks_are zero c rest = refl
 blanks_are (suc n) c rest = ap (λ t. letter 32 ∷ t) (blanks_are n (spaced_by c) rest)
 
-new_line_is : (b : LineBreak) (c : Cursor) (rest : Rest)
+-- A new line is its break in front of the rest.
+pub new_line_is : (b : LineBreak) (c : Cursor) (rest : Rest)
     → new_line b c rest ≡ in_front (break_text b) (rest (line_start c))
 unfolding in_front
 new_line_is Lf c rest = refl
 new_line_is Cr c rest = refl
 new_line_is CrLf c rest = refl
 
-from_start : (n : ℕ) → n - 0 ≡ n
+-- Nothing less is the same.
+pub from_start : (n : ℕ) → n - 0 ≡ n
 from_start n = omega arith
 
 indent_is : (n : ℕ) (c : Cursor) (rest : Rest)
@@ -59,7 +62,7 @@ broken false b d e = refl
 broken true b d e = absurd (cc)
 
 -- behind a character a line begins with a break
-line_is : (b : LineBreak) (n : ℕ) (c : Cursor) (rest : Rest) → c.bare ≡ false
+pub line_is : (b : LineBreak) (n : ℕ) (c : Cursor) (rest : Rest) → c.bare ≡ false
     → line b n c rest ≡ in_front (break_text b ++ replicate n 32)
     (rest (after_blanks n (line_start c)))
 unfolding line
@@ -151,7 +154,8 @@ record Behind (before : ℕ) (c : Cursor) (last : QuotedPart) (value : List ℕ)
   turn : is_turn last ≡ true → (before ≡ 32) × ((first value == 32) ≡ false)
   bare : (before == 32) ≡ false → c.bare ≡ false
 
-bool_cases : {P : Type 0} (b : Bool) → (b ≡ true → P) → (b ≡ false → P) → P
+-- By cases on a bool, with what it is.
+pub bool_cases : {P : Type 0} (b : Bool) → (b ≡ true → P) → (b ≡ false → P) → P
 bool_cases true p q = p refl
 bool_cases false p q = q refl
 
@@ -175,15 +179,18 @@ cut_needs page before x xs e =
     let d = (and_parts (not (before == 32)) _ b).1 in
     record { cuts = (and_parts page.cuts _ e).0; space = eqb-true x 32 (and_parts (x == 32) _ a).0; behind = not-true (before == 32) (and_parts (not (before == 32)) _ b).0; next = not-true (first xs == 32) (and_parts (not (first xs == 32)) _ d).0 }
 
-fold_follows : (last q : QuotedPart) → is_fold q ≡ true → is_raw_blank q ≡ false
+-- A fold may follow what is neither a blank nor turns the line.
+pub fold_follows : (last q : QuotedPart) → is_fold q ≡ true → is_raw_blank q ≡ false
     → is_raw_blank last ≡ false → is_turn last ≡ false → may_follow last q ≡ true
 fold_follows last q a b d e = rw (a, b, d, e) refl
 
-other_follows : (last q : QuotedPart) → is_fold q ≡ false → is_raw_blank q ≡ false
+-- What is neither a fold nor a blank may follow anything.
+pub other_follows : (last q : QuotedPart) → is_fold q ≡ false → is_raw_blank q ≡ false
     → may_follow last q ≡ true
 other_follows last q a b = rw (a, b) refl
 
-blank_follows : (last q : QuotedPart) → is_fold q ≡ false → is_turn last ≡ false
+-- Behind what turns no line anything but a fold may follow.
+pub blank_follows : (last q : QuotedPart) → is_fold q ≡ false → is_turn last ≡ false
     → may_follow last q ≡ true
 blank_follows last q a e = rw (a, e) (no_and (is_raw_blank q))
   where
@@ -317,11 +324,13 @@ left page before c last (x ∷ xs) deep (s, a) h =
 
 -- ---- what an emitter finds in a value
 
-special_left : (p b : Bool) → (not p || b) ≡ false → p ≡ true
+-- Where a disjunction with a negation is false, what is negated holds.
+pub special_left : (p b : Bool) → (not p || b) ≡ false → p ≡ true
 special_left true b e = refl
 special_left false b e = absurd (cc)
 
-shown_first : (unicode : Bool) (before x next : ℕ) → is_special unicode before x next ≡ false
+-- A character that is not special is printable.
+pub shown_first : (unicode : Bool) (before x next : ℕ) → is_special unicode before x next ≡ false
     → is_printable x ≡ true
 shown_first unicode before x next e =
     let a = (or_parts _ (x == 32 && is_break next) e).0 in

@@ -45,7 +45,8 @@ gap_more (x ∷ xs) b e f =
     and_right true b e = e
     and_right false b e = absurd (cc)
 
-length_more : (xs : List ℕ) (b : ℕ) → length (xs ++ b ∷ []) ≡ length xs + 1
+-- A byte more is one more.
+pub length_more : (xs : List ℕ) (b : ℕ) → length (xs ++ b ∷ []) ≡ length xs + 1
 length_more [] b = refl
 length_more (x ∷ xs) b = let e = length_more xs b in omega arith
 
@@ -85,7 +86,8 @@ pub record Here (text : List ℕ) (rest : Rest) (ws : List Word) (d : ℕ) : Typ
   pub stage : Stage text cursor place ws d
   pub left : Left text place (bytes (rest cursor))
 
-not_start : (n : ℕ) → n + 1 ≡ 0 → ⊥
+-- A place behind another one is not the start.
+pub not_start : (n : ℕ) → n + 1 ≡ 0 → ⊥
 not_start n e = omega arith
 
 -- ---- layouts of gaps

@@ -50,7 +50,8 @@ letters_are (x ∷ xs) are c =
 mark_sign : Sign 33
 mark_sign = sign 33 refl refl refl refl refl refl refl refl refl refl
 
-mark_kind : (flow alone : Bool) → indicator_of flow alone 33 ≡ Some kinds.Tag
+-- A `!` begins a tag.
+pub mark_kind : (flow alone : Bool) → indicator_of flow alone 33 ≡ Some kinds.Tag
 unfolding indicator_of
 mark_kind flow alone = refl
 

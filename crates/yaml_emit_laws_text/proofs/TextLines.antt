@@ -21,20 +21,24 @@ pub record Broken (text : List ℕ) (q : ℕ) (rest : Rest) (kept : Bool) : Type
   pub starts : Starts text (q + break_width text q)
   pub left : Left text (q + break_width text q) (bytes (rest (at_line kept)))
 
-left_byte : (text : List ℕ) (p : ℕ) (bs : List ℕ) → Left text p bs → byte text p ≡ first bs
+-- The byte at a place is the first of those left there.
+pub left_byte : (text : List ℕ) (p : ℕ) (bs : List ℕ) → Left text p bs → byte text p ≡ first bs
 left_byte text p [] l = let e = l.ends in get_or_past text p 0 (omega (arith, e))
 left_byte text p (b ∷ bs) l = left_first text p b bs l
 
-feed_width : (text : List ℕ) (q : ℕ) → byte text q ≡ 10 → break_width text q ≡ 1
+-- LF is a break of one byte.
+pub feed_width : (text : List ℕ) (q : ℕ) → byte text q ≡ 10 → break_width text q ≡ 1
 unfolding break_of
 feed_width text q h = rw h refl
 
-return_width : (text : List ℕ) (q : ℕ) → byte text q ≡ 13 → (byte text (q + 1) ≡ 10 → ⊥)
+-- CR without LF is a break of one byte.
+pub return_width : (text : List ℕ) (q : ℕ) → byte text q ≡ 13 → (byte text (q + 1) ≡ 10 → ⊥)
     → break_width text q ≡ 1
 unfolding break_of
 return_width text q h calm = let e : (byte text (q + 1) == 10) ≡ false = grind (arith, nat_tests) in rw (h, e) refl
 
-both_width : (text : List ℕ) (q : ℕ) → byte text q ≡ 13 → byte text (q + 1) ≡ 10
+-- CR LF is a break of two bytes.
+pub both_width : (text : List ℕ) (q : ℕ) → byte text q ≡ 13 → byte text (q + 1) ≡ 10
     → break_width text q ≡ 2
 unfolding break_of
 both_width text q h k = rw (h, k) refl

@@ -10,8 +10,9 @@ use Rattle.yaml_scan_scalars.specs.Pieces.{Piece, Kept, Blank, Break}
 use Rattle.yaml_scan_scalars.specs.Quoted.{Pieces, hex_value, hex_len, simple_escape, is_scalar, escape_at, standing_at}
 use Rattle.yaml_emit_laws_text.specs.Spelling.{LineEnd, feed, return, return_feed, next_line, line_separator, paragraph_separator, end_bytes, end_means, LineTurn, turn_bytes, is_return, is_feed_end, may_turn, number_behind}
 use Rattle.yaml_emit_laws_text.proofs.Values.{blanks_of, turns_read, turn_read}
-use Rattle.yaml_emit_laws_text.proofs.Bytes.{IsQuote, no_quote, Calm, AreCalm, calm_end, calm_break, calm_from, hex_start, Has, digits, named_is, number_calm}
-use Rattle.yaml_emit_laws_text.proofs.QuotedReading.{has_front, has_rest, Read, Through, read_step, through_one, through_at, in_line, no_mark, column_more, space_standing, space_column}
+use Rattle.yaml_emit_laws_text.proofs.Bytes.{IsQuote, no_quote, Calm, AreCalm, calm_end, calm_break, calm_from, hex_start, digits, named_is, number_calm}
+use Rattle.yaml_emit_laws_text.proofs.QuotedReading.{Read, Through, read_step, through_one, through_at, in_line, no_mark, column_more, space_standing, space_column}
+use Rattle.yaml_scan_words.proofs.HasLemmas.{has_rest, Has, has_front}
 
 -- ---- escapes
 

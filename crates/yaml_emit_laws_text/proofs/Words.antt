@@ -7,7 +7,7 @@ use Rattle.std.proofs.lemmas.Str.{encode_ascii}
 use Rattle.std.proofs.Math.Bool.{or-true}
 use lib.Utf8.{encode as encode_char}
 use Rattle.yaml_emit_laws_text.specs.scan_history.scan_model.Marks.{byte, break_of}
-use Rattle.yaml_emit_laws_text.specs.scan_history.scan_model.Classes.{is_alpha_byte, is_digit_byte}
+use Rattle.yaml_emit_laws_text.specs.scan_history.scan_model.Classes.{is_alpha_byte}
 use Rattle.yaml_emit_laws_text.specs.scan_history.scan_model.Wrong.{Wrong}
 use Rattle.yaml_emit_laws_text.specs.scan_history.scan_model.declared.problem.Context.TheVariants as contexts
 use Rattle.yaml_emit_laws_text.specs.scan_history.scan_words.Anchors.{anchor_at, may_end_name}
@@ -32,7 +32,8 @@ use Rattle.yaml_emit_laws_text.specs.QuotedLaws.{QuotedIsReadBack}
 use Rattle.yaml_emit_laws_text.specs.Walk.{Left, bytes, Walks, first, parts, Parts}
 use Rattle.yaml_emit_laws_text.proofs.Forms.{BeginsBlank}
 use Rattle.yaml_emit_laws_text.proofs.Places.{has_front, has_at, left_first, left_more, left_rest}
-use Rattle.yaml_emit_laws_text.proofs.Steps.{Sign, sign_begins, sign_kind, push, word_of, left_letter, walks_gap}
+use Rattle.yaml_emit_laws_text.proofs.Steps.{Sign, sign_begins, sign_kind, push, word_of, left_letter, walks_gap, letter_low}
+use Rattle.yaml_emit_laws_text.proofs.Ascii.{alpha_ascii}
 
 -- ---- words of one byte
 
@@ -179,14 +180,6 @@ record Lettered (xs : List ℕ) (c : Cursor) (rest : Rest) : Type 0 where
   column : (c.column ≡ 0 → ⊥) → behind.column ≡ 0 → ⊥
   kept : behind.kept ≡ c.kept
 
-alpha_low : (b : ℕ) → is_alpha_byte b ≡ true → nat_lt b 128 ≡ true
-unfolding is_alpha_byte is_digit_byte
-alpha_low b h = grind (arith, nat_tests)
-
-low_letter : (x : ℕ) (t : List Item) → nat_lt x 128 ≡ true → bytes (letter x ∷ t) ≡ x ∷ bytes t
-unfolding encode char_bytes
-low_letter x t e = rw e refl
-
 lettered : (xs : List ℕ) → are_alphas xs ≡ true → (c : Cursor) (rest : Rest) → Lettered xs c rest
 unfolding letters
 lettered [] are c rest = record { behind = c; same = refl; bare = λ e. e; column = λ h z. h z; kept = refl }
@@ -194,7 +187,7 @@ lettered (x ∷ xs) are c rest =
     let r = lettered xs (and_parts (is_alpha_byte x) (are_alphas xs) are).1 (lettered_on c) rest in
     record {
       behind = r.behind;
-      same = low_letter x (letters xs (lettered_on c) rest) (alpha_low x (and_parts (is_alpha_byte x) (are_alphas xs) are).0) ∙ ap (λ (t : List ℕ). x ∷ t) r.same;
+      same = letter_low x (letters xs (lettered_on c) rest) (alpha_ascii x (and_parts (is_alpha_byte x) (are_alphas xs) are).0) ∙ ap (λ (t : List ℕ). x ∷ t) r.same;
       bare = λ e. r.bare refl;
       column = λ h. r.column (λ z. more_than c.column z);
       kept = r.kept;
@@ -241,7 +234,8 @@ alias_word : (flow : Bool) (text : List ℕ) (p : ℕ)
 unfolding word_at
 alias_word flow text p = refl
 
-alias_kind : (flow alone : Bool) → indicator_of flow alone 42 ≡ Some kinds.Alias
+-- A `*` begins an alias.
+pub alias_kind : (flow alone : Bool) → indicator_of flow alone 42 ≡ Some kinds.Alias
 unfolding indicator_of
 alias_kind flow alone = refl
 
@@ -283,7 +277,8 @@ anchor_word : (flow : Bool) (text : List ℕ) (p : ℕ)
 unfolding word_at
 anchor_word flow text p = refl
 
-anchor_kind : (flow alone : Bool) → indicator_of flow alone 38 ≡ Some kinds.Anchor
+-- A `&` begins an anchor.
+pub anchor_kind : (flow alone : Bool) → indicator_of flow alone 38 ≡ Some kinds.Anchor
 unfolding indicator_of
 anchor_kind flow alone = refl
 
@@ -306,7 +301,7 @@ letters_are (x ∷ xs) are c =
     let r = letters_are xs (and_parts (is_alpha_byte x) (are_alphas xs) are).1 (lettered_on c) in
     record {
       behind = r.behind;
-      same = λ rest. low_letter x (letters xs (lettered_on c) rest) (alpha_low x (and_parts (is_alpha_byte x) (are_alphas xs) are).0) ∙ ap (λ (t : List ℕ). x ∷ t) (r.same rest);
+      same = λ rest. letter_low x (letters xs (lettered_on c) rest) (alpha_ascii x (and_parts (is_alpha_byte x) (are_alphas xs) are).0) ∙ ap (λ (t : List ℕ). x ∷ t) (r.same rest);
       bare = λ e. r.bare refl;
       white = λ e. r.white refl;
       column = λ h. r.column (λ z. more_than c.column z);

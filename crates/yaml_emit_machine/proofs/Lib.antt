@@ -8,6 +8,8 @@ pub mod Within
 pub mod Blaming
 pub mod Taking
 pub mod Early
+pub mod Released
+pub mod Earlier
 pub mod Verdicts
 pub mod Dumped
 pub mod Opened

@@ -1,13 +1,13 @@
 -- How far a dump has opened the stream.
-use Rattle.std.specs.Prelude.{◌≡◌, true, false, List, [], ◌∷◌, None}
+use Rattle.std.specs.Prelude.{◌≡◌, Bool, true, false, List, [], ◌∷◌, None}
 use Rattle.yaml_scan_model.specs.declared.yaml_encoding_t.TheVariants.{YAML_ANY_ENCODING}
 use Rattle.yaml_emit_text.specs.declared.Encoding.{Encoding}
 use Rattle.yaml_emit_text.specs.Text.{Item}
 use Rattle.yaml_emit_layout.specs.Content.{Event, stream_start}
-use Rattle.yaml_emit_machine.specs.Emitter.{Emitter}
+use Rattle.yaml_emit_machine.specs.Emitter.{Emitter, Keeps, left_if}
 use Rattle.yaml_emit_machine.specs.Within.{Fits}
 use Rattle.yaml_emit_machine.specs.Verdict.{verdict, Writes}
-use Rattle.yaml_emit_machine.specs.Taking.{TakesEvents, NotesMemoryOf}
+use Rattle.yaml_emit_machine.specs.Taking.{TakesEvents, TakesEarly, LaysAtOnce, NotesMemory, NotesMemoryOf}
 
 -- An event is right behind what was given: no event is refused that is let out with it, and what is written then passes no limit.
 pub record IsRightNext (e : Emitter) (event : Event) : Type 0 where
@@ -26,3 +26,11 @@ pub record OpensStream (old new : Emitter) : Type 0 where
   pub right : old.opened ≡ false → new.opened ≡ true → IsRightNext old opening_event
   pub alone : old.fault ≡ None → new.opened ≡ false → TakesEvents old (opening_event ∷ []) new []
   pub memory : old.fault ≡ None → new.opened ≡ false → NotesMemoryOf opening_event old new
+
+-- Of the events of a dump that were to come, `before`, some were laid out at once: while no fault has come, those of `after` are
+-- still to come, and else none is.
+pub record DumpsAtOnce (old new : Emitter) (going : Bool) (before after : List Event) : Type 0 where
+  pub takes : TakesEarly old before new (left_if going after)
+  pub memory : NotesMemory true old new
+  pub keeps : Keeps old new
+  pub once : going ≡ true → LaysAtOnce new

@@ -4,6 +4,7 @@ use Rattle.yaml_emit_text.specs.declared.Encoding.{Encoding}
 use Rattle.yaml_emit_text.specs.declared.Status.TheVariants.{Going}
 use Rattle.yaml_emit_text.specs.Text.{Item, encode}
 use Rattle.yaml_emit_text.specs.Sink.{Grows}
+use Rattle.yaml_emit_layout.specs.declared.Expected.TheVariants as at
 use Rattle.yaml_emit_layout.specs.Content.{Event}
 use Rattle.yaml_emit_state.specs.Steps.{may_note}
 use Rattle.yaml_emit_held.specs.Judged.{take_memory, Refuses}
@@ -46,6 +47,23 @@ pub record GivesText (old : Emitter) (e : Event) (new : Emitter) : Type 0 where
   pub requested_settings : new.requested_settings ≡ old.requested_settings
   pub limit : new.limit ≡ old.limit
 
+-- Of the events `es` that were to come those of `left` are still to come, and the others were laid out at once, as they came: none
+-- is held. It is the same as `TakesEvents`, but for what is said of those alone that are let out by now.
+pub record TakesEarly (old : Emitter) (es : List Event) (new : Emitter)
+    (left : List Event) : Type 0 where
+  pub completes : (x : Encoding) (more : List Event) (whole : List Item)
+      → Completes old x (es ++ more) whole → Completes new x (left ++ more) whole
+  pub first : new.status ≡ Going → (more : List Event)
+      → wrong new (left ++ more) ≡ wrong old (es ++ more)
+  pub lays : (x : Encoding) (more : List Event) (whole : List Item)
+      → Lays old x (es ++ more) whole → Lays new x (left ++ more) whole
+  pub grows : Grows old.output new.output
+  pub going : new.status ≡ Going → old.status ≡ Going
+  pub requested_settings : new.requested_settings ≡ old.requested_settings
+  pub limit : new.limit ≡ old.limit
+  pub held : new.held ≡ []
+  pub begun : new.fresh ≡ false
+
 -- An event that comes is laid out at once: nothing is wrong, the settings are in force, the form is canonical, and no other
 -- event is held.
 pub record LaysAtOnce (e : Emitter) : Type 0 where
@@ -53,6 +71,14 @@ pub record LaysAtOnce (e : Emitter) : Type 0 where
   pub begun : e.fresh ≡ false
   pub form : e.course.settings.canonical ≡ true
   pub none : e.held ≡ []
+
+-- a node is due
+abbrev pub AwaitsNode : Emitter → Type 0
+AwaitsNode e = e.course.state.place ≡ at.Node
+
+-- the output went on, and the form is canonical still
+abbrev pub StaysCanonical : Emitter → Emitter → Type 0
+StaysCanonical old new = (old.status ≡ Going) × (new.course.settings.canonical ≡ true)
 
 -- What is given behind a refusal counts for nothing: with any events to come it is the same as with any others.
 abbrev pub Stuck : Emitter → Type 0

@@ -1,15 +1,17 @@
 //! The emitter.
 
-ghost use Rattle.std.specs.Prelude.{◌≡◌, ◌≤◌, ◌∷◌, ◌++◌, [], length, Some, None, true, false, option_map, OnErr};
+ghost use Rattle.std.specs.Prelude.{◌≡◌, ◌≤◌, ◌∷◌, ◌++◌, [], length, Some, None, true, false, option_map, OnErr, IsUtf8};
 ghost use Rattle.yaml_scan_model.specs.Faults.{Fault, fault_of};
 ghost use Rattle.yaml_parse_model.specs.Events.{body_of};
 ghost use Rattle.yaml_parse_model.specs.Constructors.{HasUtf8};
-ghost use Rattle.yaml_emit_layout.specs.Content.{emitter_event};
+ghost use Rattle.yaml_emit_layout.specs.Content.{emitter_event, scalar};
+ghost use Rattle.yaml_emit_state.specs.Given.{plain_text};
+ghost use Rattle.yaml_scan_model.specs.declared.yaml_scalar_style_t.{yaml_scalar_style_t};
 ghost use Rattle.yaml_emit_machine.specs.Emitter.{stream_encoding, IsNew, IsLimited, ShowsFront, IsWhole, Answers, Stays};
 ghost use Rattle.yaml_emit_held.specs.Held.{AreLast};
 ghost use Rattle.yaml_emit_machine.specs.Within.{IsWithin};
 ghost use Rattle.yaml_emit_machine.specs.Verdict.{TellsOutcome};
-ghost use Rattle.yaml_emit_machine.specs.Taking.{TakesEvents, GivesText, LaysAtOnce, Stuck, NotesMemoryOf, BlamesLevels, ComesIntoForce};
+ghost use Rattle.yaml_emit_machine.specs.Taking.{TakesEvents, GivesText, LaysAtOnce, AwaitsNode, StaysCanonical, Stuck, NotesMemoryOf, BlamesLevels, ComesIntoForce};
 
 mod dump;
 mod resume;
@@ -240,8 +242,38 @@ impl yaml_emitter_t {
         ensures few { self.new.held ≡ [] }
         ensures begun { self.new.fresh ≡ false }
         ensures opened { (self.new.opened ≡ self.old.opened) × (self.new.closed ≡ self.old.closed) }
+        ensures form { StaysCanonical self.old self.new }
     {
         self.core.lay_out(event, false);
+        note(&self.core, &mut self.fault);
+    }
+
+    // Whether a node is due.
+    // Inlined: one read.
+    #[inline(always)]
+    fn awaits_node(&self) -> bool
+        ensures { result ≡ true → AwaitsNode self.now }
+    {
+        self.core.awaits_node()
+    }
+
+    // Lays out a text at once, with the default tag and without an anchor.
+    // Inlined into its one caller.
+    #[inline(always)]
+    fn lay_text_at_once(&mut self, value: &[u8])
+        requires utf8 { IsUtf8 value.now }
+        requires once { LaysAtOnce self.old }
+        requires due { AwaitsNode self.old }
+        ensures text { (style : yaml_scalar_style_t) → GivesText self.old
+            (scalar (plain_text value.now style)) self.new }
+        ensures memory { (style : yaml_scalar_style_t) → NotesMemoryOf
+            (scalar (plain_text value.now style)) self.old self.new }
+        ensures few { self.new.held ≡ [] }
+        ensures begun { self.new.fresh ≡ false }
+        ensures opened { (self.new.opened ≡ self.old.opened) × (self.new.closed ≡ self.old.closed) }
+        ensures form { StaysCanonical self.old self.new }
+    {
+        self.core.lay_text(value);
         note(&self.core, &mut self.fault);
     }
 

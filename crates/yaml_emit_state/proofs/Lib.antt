@@ -1,4 +1,5 @@
 pub mod Lists
+mod Plain
 pub mod Canonical
 pub mod Seeing
 pub mod Finishing

@@ -1,7 +1,9 @@
 -- What the lent parts of an event say.
-use Rattle.std.specs.Prelude.{◌≡◌, ℕ, List, Option, Some, None, map}
+use Rattle.std.specs.Prelude.{◌≡◌, ℕ, true, List, Option, Some, None, map}
 use Rattle.std.specs.Str.{IsAscii}
+use Rattle.yaml_scan_model.specs.declared.yaml_scalar_style_t.{yaml_scalar_style_t}
 use Rattle.yaml_parse_model.specs.Events.{text_of, directive_of}
+use Rattle.yaml_parse_model.specs.Nodes.{str_tag}
 use Rattle.yaml_emit_layout.specs.Content as said
 use Rattle.yaml_emit_layout.specs.Nodes as nodes
 use Rattle.yaml_emit_state.specs.declared.given.Context.{Context}
@@ -20,6 +22,17 @@ lent_scalar x = record {
   plain = x.plain;
   quoted = x.quoted;
   style = x.style;
+}
+
+-- a text with the default tag and without an anchor
+abbrev pub plain_text : List ℕ → yaml_scalar_style_t → said.Scalar
+plain_text value style = record {
+  anchor = None;
+  tag = Some str_tag;
+  value = value;
+  plain = true;
+  quoted = true;
+  style = style;
 }
 
 abbrev pub lent_start : Start → said.Start

@@ -2,6 +2,8 @@
 ghost use Rattle.std.specs.Prelude.{◌≡◌, ◌≢◌, ◌<◌, ◌∷◌, [], None, Some, true, false, not, ◌&&◌, ◌||◌, ◌==◌, ℕ, map, length, IsUtf8};
 ghost use Rattle.std.specs.Str.{chars, IsAscii};
 ghost use Rattle.yaml_parse_model.specs.Events.{text_of};
+ghost use Rattle.yaml_emit_tags.specs.parse_model.Nodes.{str_tag};
+ghost use Rattle.yaml_emit_tags.specs.Tags.{tag_spelling};
 ghost use Rattle.yaml_emit_text.specs.Sink.{Puts};
 ghost use Rattle.yaml_emit_text.specs.Tame.{IsTame};
 ghost use Rattle.yaml_emit_text.specs.Layout.{◌▹◌, stay, when, char, word, opener};
@@ -10,13 +12,14 @@ ghost use Rattle.yaml_emit_text.specs.Scalars.{scalar_text};
 ghost use Rattle.yaml_emit_layout.specs.Grammar.{kept_if, kept_tag, has};
 ghost use Rattle.yaml_emit_layout.specs.Nodes.{alias_layout, anchor_text, tag_text, properties_text, mark_text, scalar_layout, style_of, is_plain, checked, deeper, page_at, is_flow};
 ghost use Rattle.yaml_emit_layout.specs.State.{start_text};
-ghost use Rattle.yaml_emit_state.specs.Given.{lent_context, lent_scalar, lent_start, IsNamed};
+ghost use Rattle.yaml_scan_model.specs.declared.yaml_scalar_style_t.{yaml_scalar_style_t};
+ghost use Rattle.yaml_emit_state.specs.Given.{lent_context, lent_scalar, lent_start, plain_text, IsNamed};
 
 use crate::before::{put_blank_if, put_opener_if};
 use crate::given::{Context, Scalar, Start};
 use crate::indent::{deeper, is_flow, is_simple_part, put_checked};
 use yaml_emit_layout::Spot;
-use yaml_emit_tags::put_tag;
+use yaml_emit_tags::{DirectiveTable, put_tag};
 use yaml_emit_text::{
     Page, Settings, Sink, Style, allowed_by, are_solid, put_opening_quote, put_quoted_inside,
     put_solid, put_styled, put_tame, taken, text,
@@ -276,6 +279,40 @@ fn put_tagged(sink: &mut Sink, context: &Context, spot: Spot, tag: &[u8], value:
         spot.flow Style.Double (chars value.now))) }
 {
     put_tag(sink, context.directives, tag);
+    put_untagged(sink, context.settings, spot, true, value);
+}
+
+// Inlined: one read.
+#[inline(always)]
+fn are_none(directives: &DirectiveTable) -> bool
+    ensures { result ≡ true → directives.now ≡ [] }
+{
+    directives.list().is_empty()
+}
+
+// The tag of a text, with a space in front where one is due.
+// Inlined: mostly there is no directive, and its bytes are known.
+#[inline(always)]
+fn put_str_tag(sink: &mut Sink, directives: &DirectiveTable)
+    ensures { Puts sink.old sink.new (word (tag_spelling directives.now str_tag)) }
+{
+    if are_none(directives) {
+        sink.put_known_word(b"!!str", b" !!str");
+    } else {
+        put_tag(sink, directives, b"tag:yaml.org,2002:str");
+    }
+}
+
+/// A text with the default tag and without an anchor, in canonical form.
+// Inlined: it is a few bytes round its value.
+#[inline(always)]
+pub fn put_text(sink: &mut Sink, context: &Context, spot: Spot, value: &[u8])
+    requires utf8 { IsUtf8 value.now }
+    requires canonical { context.now.settings.now.canonical ≡ true }
+    ensures { (style : yaml_scalar_style_t) → Puts sink.old sink.new
+        (scalar_layout (lent_context context.now) spot (plain_text value.now style)) }
+{
+    put_str_tag(sink, context.directives);
     put_untagged(sink, context.settings, spot, true, value);
 }
 

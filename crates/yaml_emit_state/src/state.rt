@@ -12,7 +12,7 @@ use crate::given::{Context, Scalar, Where};
 use crate::judge::problem_of;
 use crate::keys::{is_simple, is_simple_alias, is_simple_key};
 use crate::levels::Levels;
-use event::{put_alias_node, put_event, put_scalar_node};
+use event::{put_alias_node, put_event, put_scalar_node, put_text_node};
 pub use resume::yaml_emitter_stand_t;
 use std::alloc::{AllocError, Global};
 use yaml_emit_layout::Expected;
@@ -46,7 +46,8 @@ impl Core {
     ghost use Rattle.yaml_parse_model.specs.Events.{body_of, text_of};
     ghost use Rattle.yaml_emit_layout.specs.Content.{emitter_event, alias, scalar};
     ghost use Rattle.yaml_emit_layout.specs.State.{problem_at};
-    ghost use Rattle.yaml_emit_state.specs.Given.{lent_scalar, IsNamed};
+    ghost use Rattle.yaml_scan_model.specs.declared.yaml_scalar_style_t.{yaml_scalar_style_t};
+    ghost use Rattle.yaml_emit_state.specs.Given.{lent_scalar, plain_text, IsNamed};
     ghost use Rattle.yaml_emit_state.specs.Steps.{state_of, settings_of, LaysOut, IsFresh, LaysOutRight, Starves, is_going, goes_on};
 
     /// Nothing was laid out.
@@ -454,6 +455,39 @@ impl Core {
             yaml_event_body_t::Scalar { .. } => self.lay_scalar(event, empty, false),
             _ => self.lay_any(event, empty),
         }
+    }
+
+    /// Whether a node is due.
+    // Inlined: one read.
+    #[inline(always)]
+    pub fn awaits_node(&self) -> bool
+        ensures { result ≡ true → self.now.place ≡ Expected.Node }
+    {
+        match self.place {
+            Expected::Node => true,
+            _ => false,
+        }
+    }
+
+    /// Lays out a text with the default tag and without an anchor, where a node is due, in canonical form, which doesn't ask for
+    /// its style.
+    // Out of line: what it needs is in registers.
+    #[inline(never)]
+    pub fn lay_text(&mut self, value: &[u8])
+        requires utf8 { IsUtf8 value.now }
+        requires form { (settings_of self.old).canonical ≡ true }
+        requires due { self.old.place ≡ Expected.Node }
+        ensures { (style : yaml_scalar_style_t) → (empty : Bool) → LaysOut self.old self.new
+            (scalar (plain_text value.now style)) empty }
+    {
+        let settings = self.settings(true);
+        let context = Context {
+            settings: &settings,
+            directives: &self.directives,
+        };
+        let top = self.levels.innermost();
+        put_text_node(&mut self.sink, &context, top, value);
+        self.step(false);
     }
 
     /// Lays out an event that is no longer held, by whether it opens a collection that the next event closes; or refuses it.

@@ -1,4 +1,5 @@
 mod Spells
+mod Known
 mod Directives
 pub mod Sorting
 pub mod Narrowing

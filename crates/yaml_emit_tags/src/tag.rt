@@ -184,14 +184,48 @@ fn put_primary(sink: &mut Sink, suffix: &[u8])
     }
 }
 
-// The same behind `!!`.
-fn put_secondary(sink: &mut Sink, suffix: &[u8])
+// Inlined: the length of one is known.
+#[inline(always)]
+fn is_same(suffix: &[u8], other: &[u8]) -> bool
+    ensures { result ≡ true → suffix.now ≡ other.now }
+{
+    suffix == other
+}
+
+// A suffix behind `!!`, at once where no byte of it is escaped.
+fn put_suffix(sink: &mut Sink, suffix: &[u8])
     ensures { Puts sink.old sink.new (word (spelled (shorthand (33 ∷ 33 ∷ []) suffix.now))) }
 {
     if are_kept(false, suffix) {
         sink.put_around(b"!!", b" !!", suffix, b"");
     } else {
         put_shorthand(sink, b"!!", suffix);
+    }
+}
+
+// The same, where it isn't that of a text: of a sequence and a mapping the bytes are known too.
+#[tactic(auto, using(crate::proofs::Known::map_suffix, crate::proofs::Known::seq_suffix))]
+fn put_other_suffix(sink: &mut Sink, suffix: &[u8])
+    ensures { Puts sink.old sink.new (word (spelled (shorthand (33 ∷ 33 ∷ []) suffix.now))) }
+{
+    if is_same(suffix, b"map") {
+        sink.put_known_word(b"!!map", b" !!map");
+    } else if is_same(suffix, b"seq") {
+        sink.put_known_word(b"!!seq", b" !!seq");
+    } else {
+        put_suffix(sink, suffix);
+    }
+}
+
+// The same of every suffix.
+#[tactic(auto, using(crate::proofs::Known::str_suffix))]
+fn put_secondary(sink: &mut Sink, suffix: &[u8])
+    ensures { Puts sink.old sink.new (word (spelled (shorthand (33 ∷ 33 ∷ []) suffix.now))) }
+{
+    if is_same(suffix, b"str") {
+        sink.put_known_word(b"!!str", b" !!str");
+    } else {
+        put_other_suffix(sink, suffix);
     }
 }
 

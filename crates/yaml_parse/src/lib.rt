@@ -22,7 +22,7 @@ pub use yaml_parse_model::{
     yaml_document_start_event_initialize, yaml_event_body_t, yaml_event_delete, yaml_event_t,
     yaml_event_utf8, yaml_mapping_end_event_initialize, yaml_mapping_start_event_initialize,
     yaml_node_body_t, yaml_node_item_t, yaml_node_pair_t, yaml_node_t, yaml_node_tag_t,
-    yaml_parser_state_t, yaml_parser_t_prefix, yaml_scalar_event_initialize,
+    yaml_node_text_t, yaml_parser_state_t, yaml_parser_t_prefix, yaml_scalar_event_initialize,
     yaml_sequence_end_event_initialize, yaml_sequence_start_event_initialize,
     yaml_stream_end_event_initialize, yaml_stream_start_event_initialize, yaml_text_fault_t,
     yaml_token_source_t,

@@ -1,8 +1,11 @@
 -- What a document's soundness says after a change.
 use Rattle.std.proofs.Common.{◌≡◌, ◌≤◌, ◌<◌, ℕ, zero, suc, ℤ, pos, List, [], ◌∷◌, ◌++◌, length, map, Option, Some, None, IsSome, IsUtf8, OnOk, arith, sym, ◌∙◌, ap, subst, refl, get_or, Result, Ok, Err, MatchResult}
 use Rattle.std.proofs.Math.ListN.{set}
-use Rattle.std.specs.Prelude.{slice_get, negsuc}
+use Rattle.std.specs.Prelude.{slice_get, negsuc, option_map}
+use Rattle.std.specs.Borrow.{Bor}
+use Rattle.std.specs.Slice.{IsItemAt}
 use Rattle.std.proofs.lemmas.List.{length-map}
+use Rattle.std.proofs.lemmas.Option.{slice_get-map, slice_get_read, slice_get_past}
 use Rattle.yaml_parse_model.specs.declared.yaml_node_pair_t.{yaml_node_pair_t}
 use Rattle.yaml_parse_model.specs.declared.yaml_node_t.{yaml_node_t}
 use Rattle.yaml_parse_model.specs.declared.yaml_text_fault_t.{yaml_text_fault_t}
@@ -267,3 +270,10 @@ pub sound_at : (n : ℕ) (nodes : List Node) (id : ℤ) → AreSound n nodes
 sound_at n nodes (pos zero) h = tt
 sound_at n nodes (pos (suc k)) h = sound_item n k nodes h
 sound_at n nodes (negsuc k) h = tt
+
+-- A node that is lent is the view's at that place.
+pub node_lent : (r : Option (Bor yaml_node_t)) (items : List yaml_node_t) (k : ℕ)
+    → IsItemAt items k r → option_map (λ n. node_of n.now) r ≡ slice_get (map node_of items) k
+node_lent None items k h = sym (slice_get-map node_of items k ∙ ap (option_map node_of) (slice_get_past items k h.3))
+node_lent (Some n) items k h =
+    sym (slice_get-map node_of items k ∙ ap (option_map node_of) (slice_get_read items (length items) k n.now refl h.3.0 h.1))

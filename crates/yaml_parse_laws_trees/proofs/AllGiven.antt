@@ -25,6 +25,7 @@ use Rattle.yaml_parse_loader.specs.Numbering.{spanning, DocumentContent, documen
 use Rattle.yaml_parse_laws_trees.specs.NextLoad.{told_events, IsOutside, AreOutside, LoadsByContent, contents_events}
 use Rattle.yaml_parse_laws_trees.proofs.ByContent.{by_content}
 use Rattle.yaml_parse_laws_trees.proofs.ToGive.{at_span, documents_before, Node, Documents, Stream, ToGive, Over, over_both, IsScalar, IsOf, FitsBody, Fits, FitsIf, document_more, node_fits, taking_fits, leaving_fits, opening_fits, Has, state_has, stack_has}
+use Rattle.yaml_parse_laws_trees.proofs.Rules.{leave_rule}
 
 -- ---- settled items
 
@@ -149,7 +150,7 @@ turn_fits : (P : List Event → Type 0) (c : Choice) (x : State) (t : Token) (s 
 turn_fits P (Refuse p o) x t s h e k = λ left. none_extends (ToGive x (Over s P)) (state_has x (Over s P) (stack_has s P h))
 turn_fits P Take x t s h e k = fed_taken P (ToGive x (Over s P)) (taken_at x t).item (taken_at x t).above s (taking_fits x t (Over s P) e) (state_has x (Over s P) (stack_has s P h))
 turn_fits P Leave x t s h e k =
-    fed_with P (Over s P) (ToGive x (Over s P)) (left_at x t.start_mark) (feed s t) (leaving_fits x (type_of t.body) t.start_mark (Over s P) e) (state_has x (Over s P) (stack_has s P h)) k
+    fed_with P (Over s P) (ToGive x (Over s P)) (left_at x t.start_mark) (feed s t) (leaving_fits x (type_of t.body) t.start_mark (Over s P) (leave_rule x (type_of t.body) e)) (state_has x (Over s P) (stack_has s P h)) k
 turn_fits P Open x t s h e k = opened_fits P x t s h e
 
 feed_fits : (P : List Event → Type 0) (s : List State) (t : Token) → Has P

@@ -8,7 +8,7 @@ use Rattle.yaml_parse_laws_trees.specs.SoundLaws.{TreeGoesOn}
 use Rattle.yaml_parse_laws_trees.specs.LookBack.{followed_by}
 use Rattle.yaml_parse_laws_trees.specs.Wrong.{directive_fault, handle_fault}
 use Rattle.yaml_parse_laws_trees.specs.Places.{Rank, of_handle, of_token, FaultPlace, RanksBefore, ComesBefore, WrongToken, grammar, directive, FaultAt, StandsIn, IsOfLeastPlace, IsFree, BeginsWithSentence}
-use Rattle.yaml_parse_laws_trees.proofs.Cuts.{SameCut, same_cut, IsNoFront, Reaches, reaches, followed_length}
+use Rattle.yaml_parse_laws_trees.proofs.Cuts.{SameCut, same_cut, IsNoFront, Reaches, reaches, followed_length, head_same}
 
 abbrev pub NoFault : List Token → Token → Type 0
 NoFault past t = (r : Rank) (e : Fault) → FaultAt past t r e → ⊥
@@ -21,7 +21,7 @@ Clean (t ∷ past) = NoFault past t × Clean past
 abbrev pub Unfinished : List Token → Type 0
 Unfinished past = (tree : Stream) → IsNoFront (spell tree []) past
 
-some_none : (o : Option Fault) (e : Fault) → o ≡ None → o ≡ Some e → ⊥
+pub some_none : (o : Option Fault) (e : Fault) → o ≡ None → o ≡ Some e → ⊥
 some_none o e p q = cc
 
 pub no_fault : (past : List Token) (t : Token) → handle_fault past t.body ≡ None
@@ -30,9 +30,6 @@ pub no_fault : (past : List Token) (t : Token) → handle_fault past t.body ≡ 
 no_fault past t h g d of_handle e p = some_none (handle_fault past t.body) e h p
 no_fault past t h g d of_token e (grammar n p) = n g
 no_fault past t h g d of_token e (directive k p) = some_none (directive_fault past t.body t.start_mark) e d p
-
-head_same : (a b : Token) (x y : List Token) → a ∷ x ≡ b ∷ y → a ≡ b
-head_same a b x y h = cc
 
 clean_cut : (past us other : List Token) (t : Token) (behind : List Token)
     → followed_by past us ≡ followed_by other (t ∷ behind) → length other < length past → Clean past

@@ -1,29 +1,28 @@
 -- Tokens that close all that is open. What is given at a refused token is given at these too.
-use Rattle.std.proofs.Common.{◌≡◌, Bool, true, false, if◌then◌else◌, ◌||◌, List, [], ◌∷◌, Some, None, refl, ap, subst, ◌∙◌}
+use Rattle.std.proofs.Common.{◌≡◌, true, List, [], ◌∷◌, None, refl, ap, subst, ◌∙◌}
 use Rattle.yaml_parse_laws_trees.specs.parse_grammar.parse_model.declared.yaml_mark_t.{yaml_mark_t}
 use Rattle.yaml_parse_laws_trees.specs.parse_grammar.parse_model.declared.yaml_encoding_t.TheVariants.{YAML_ANY_ENCODING}
 use Rattle.yaml_parse_laws_trees.specs.parse_grammar.parse_model.declared.yaml_token_type_t.{yaml_token_type_t}
-use Rattle.yaml_parse_laws_trees.specs.parse_grammar.parse_model.declared.yaml_token_type_t.TheVariants as kind
 use Rattle.yaml_parse_laws_trees.specs.parse_grammar.parse_model.Tokens.{Token, TokenBody, type_of}
 use Rattle.yaml_parse_laws_trees.specs.parse_grammar.parse_model.Tokens as token
 use Rattle.yaml_parse_laws_trees.specs.parse_grammar.parse_model.Faults.{Fault}
-use Rattle.yaml_parse_laws_trees.specs.parse_grammar.declared.name.Wants.TheVariants.{Flow, Block}
 use Rattle.yaml_parse_laws_trees.specs.parse_grammar.declared.name.Brackets.TheVariants as brackets
 use Rattle.yaml_parse_laws_trees.specs.parse_grammar.declared.name.Site.{Site}
 use Rattle.yaml_parse_laws_trees.specs.parse_grammar.declared.name.Choice.{Choice}
 use Rattle.yaml_parse_laws_trees.specs.parse_grammar.declared.name.Choice.TheVariants.{Refuse, Take, Leave, Open}
-use Rattle.yaml_parse_laws_trees.specs.parse_grammar.declared.problem.ParseProblem.{ParseProblem}
-use Rattle.yaml_parse_laws_trees.specs.parse_grammar.declared.problem.ParseProblem.TheVariants as problem
 use Rattle.yaml_parse_laws_trees.specs.parse_grammar.Items.{RawEvent}
 use Rattle.yaml_parse_laws_trees.specs.parse_grammar.States.{State}
 use Rattle.yaml_parse_laws_trees.specs.parse_grammar.States as state
 use Rattle.yaml_parse_laws_trees.specs.parse_grammar.Trees.{Span, closing, token_at}
 use Rattle.yaml_parse_laws_trees.specs.parse_grammar.Trees as tree
-use Rattle.yaml_parse_laws_trees.specs.parse_grammar.Machine.{starts_node, wants_of, follows, no_node, closes, no_end, parts_documents, choice_at, left_at, Fed, stop, go, with_item, turn, feed, Outcome, run}
+use Rattle.yaml_parse_laws_trees.specs.parse_grammar.Machine.{choice_at, left_at, Fed, stop, go, with_item, turn, feed, Outcome, run}
 use Rattle.yaml_parse_laws_trees.proofs.Complete.{leaves_at}
 use Rattle.yaml_parse_laws_trees.specs.SoundLaws.{bare, BeginsWithItems}
-use Rattle.yaml_parse_laws_trees.proofs.Left.{Left, Over, properties_alone, not_left, not_left_first}
+use Rattle.yaml_parse_laws_trees.proofs.Left.{Left, Over, properties_alone}
 use Rattle.yaml_parse_laws_trees.proofs.SoundStanding.{Goes, Fits, Closed, Stood, AllStood}
+use Rattle.yaml_parse_laws_trees.proofs.Rules.{MayLeave, MayRefuse, leave_rule}
+use Rattle.yaml_parse_laws_trees.specs.Given.{is_end, EndsAt}
+use Rattle.std.proofs.lemmas.Bool.{false≢true}
 
 -- ---- tokens that close all that is open
 
@@ -85,72 +84,55 @@ all_close m (x ∷ s) = closer_closes m x (Over s Empty) (closers m s) (all_clos
 
 -- ---- what leaves at them
 
-abbrev is_closing : yaml_token_type_t → Bool
-is_closing kind.YAML_STREAM_END_TOKEN = true
-is_closing kind.YAML_BLOCK_END_TOKEN = true
-is_closing kind.YAML_FLOW_SEQUENCE_END_TOKEN = true
-is_closing kind.YAML_FLOW_MAPPING_END_TOKEN = true
-is_closing _ = false
+pub closers_end : (m : yaml_mark_t) (s : List State) → Closed s → EndsAt m (closers m s)
+closers_end m [] h = h
+closers_end m (state.stream ∷ s) h = absurd h
+closers_end m (state.directives from ∷ s) h = absurd h
+closers_end m (state.first ∷ s) h = (refl, refl)
+closers_end m (state.documents ∷ s) h = (refl, refl)
+closers_end m (state.entries o ∷ s) h = (refl, refl)
+closers_end m (state.pairs o ∷ s) h = (refl, refl)
+closers_end m (state.items brackets.Sequence o ∷ s) h = (refl, refl)
+closers_end m (state.items brackets.Mapping o ∷ s) h = (refl, refl)
+closers_end m (state.more brackets.Sequence o ∷ s) h = (refl, refl)
+closers_end m (state.more brackets.Mapping o ∷ s) h = (refl, refl)
+closers_end m (state.optional place before ∷ s) h = closers_end m s h
+closers_end m (state.document_end ∷ s) h = closers_end m s h
+closers_end m (state.others side ∷ s) h = closers_end m s h
+closers_end m (state.colon place ∷ s) h = closers_end m s h
+closers_end m (state.with_properties w p ∷ s) h = closers_end m s h
+closers_end m (state.pair_end ∷ s) h = closers_end m s h
+closers_end m (state.lone ∷ s) h = closers_end m s h
 
--- the first token closes, and stands there
-abbrev ClosesAt : yaml_mark_t → List Token → Type 0
-ClosesAt m [] = ⊥
-ClosesAt m (t ∷ ts) = (is_closing (type_of t.body) ≡ true) × (t.start_mark ≡ m)
+-- a state that may always be left out
+abbrev pub IsLight : State → Type 0
+IsLight x = MayRefuse x → ⊥
 
-closes_at : (m : yaml_mark_t) (s : List State) → Closed s → ClosesAt m (closers m s)
-closes_at m [] h = h
-closes_at m (state.stream ∷ s) h = absurd h
-closes_at m (state.directives from ∷ s) h = absurd h
-closes_at m (state.first ∷ s) h = (refl, refl)
-closes_at m (state.documents ∷ s) h = (refl, refl)
-closes_at m (state.entries o ∷ s) h = (refl, refl)
-closes_at m (state.pairs o ∷ s) h = (refl, refl)
-closes_at m (state.items brackets.Sequence o ∷ s) h = (refl, refl)
-closes_at m (state.items brackets.Mapping o ∷ s) h = (refl, refl)
-closes_at m (state.more brackets.Sequence o ∷ s) h = (refl, refl)
-closes_at m (state.more brackets.Mapping o ∷ s) h = (refl, refl)
-closes_at m (state.optional place before ∷ s) h = closes_at m s h
-closes_at m (state.document_end ∷ s) h = closes_at m s h
-closes_at m (state.others side ∷ s) h = closes_at m s h
-closes_at m (state.colon place ∷ s) h = closes_at m s h
-closes_at m (state.with_properties w p ∷ s) h = closes_at m s h
-closes_at m (state.pair_end ∷ s) h = closes_at m s h
-closes_at m (state.lone ∷ s) h = closes_at m s h
-
--- a state that is left before any token that closes
-abbrev IsLight : State → Type 0
-IsLight state.document_end = Unit {0}
-IsLight (state.others side) = Unit {0}
-IsLight (state.colon place) = Unit {0}
-IsLight (state.with_properties w p) = Unit {0}
-IsLight state.pair_end = Unit {0}
-IsLight state.lone = Unit {0}
-IsLight _ = ⊥
-
-light_leaves : (x : State) (k : yaml_token_type_t) → IsLight x → is_closing k ≡ true
-    → choice_at x k ≡ Leave
-light_leaves state.document_end kind.YAML_DOCUMENT_END_TOKEN l h = cc
+-- It is left before each token that ends something.
+pub light_leaves : (x : State) (b : TokenBody) → IsLight x → is_end b ≡ true
+    → choice_at x (type_of b) ≡ Leave
+light_leaves state.document_end token.document_end l h = absurd (false≢true h)
 light_leaves state.document_end _ l h = refl
-light_leaves (state.others side) kind.YAML_BLOCK_ENTRY_TOKEN l h = cc
+light_leaves (state.others side) token.block_entry l h = absurd (false≢true h)
 light_leaves (state.others side) _ l h = refl
-light_leaves (state.colon place) kind.YAML_VALUE_TOKEN l h = cc
+light_leaves (state.colon place) token.value l h = absurd (false≢true h)
 light_leaves (state.colon place) _ l h = refl
-light_leaves (state.with_properties w p) kind.YAML_STREAM_END_TOKEN l h = refl
-light_leaves (state.with_properties w p) kind.YAML_BLOCK_END_TOKEN l h = refl
-light_leaves (state.with_properties w p) kind.YAML_FLOW_SEQUENCE_END_TOKEN l h = refl
-light_leaves (state.with_properties w p) kind.YAML_FLOW_MAPPING_END_TOKEN l h = refl
-light_leaves (state.with_properties w p) _ l h = cc
-light_leaves state.pair_end k l h = refl
-light_leaves state.lone k l h = refl
-light_leaves _ k l h = absurd l
+light_leaves (state.with_properties w p) token.stream_end l h = refl
+light_leaves (state.with_properties w p) token.block_end l h = refl
+light_leaves (state.with_properties w p) token.flow_sequence_end l h = refl
+light_leaves (state.with_properties w p) token.flow_mapping_end l h = refl
+light_leaves (state.with_properties w p) _ l h = absurd (false≢true h)
+light_leaves state.pair_end b l h = refl
+light_leaves state.lone b l h = refl
+light_leaves _ b l h = absurd (l tt)
 
 light_begins : (x : State) (m : yaml_mark_t) (ts : List Token) (s : List State) (is : List RawEvent)
-    → IsLight x → ClosesAt m ts → BeginsWithItems is (run ts s None).items
+    → IsLight x → EndsAt m ts → BeginsWithItems is (run ts s None).items
     → BeginsWithItems (left_at x m ∷ is) (run ts (x ∷ s) None).items
 light_begins x m [] s is l h b = absurd h
 light_begins x m (t ∷ ts) s is l h b = record {
   others = b.others;
-  same = ap (λ (o : Outcome). bare o.items) (leaves_at x t ts s None (light_leaves x (type_of t.body) l h.0))
+  same = ap (λ (o : Outcome). bare o.items) (leaves_at x t ts s None (light_leaves x t.body l h.0))
       ∙ ap (λ (z : yaml_mark_t). left_at x z ∷ bare (run (t ∷ ts) s None).items) h.1
       ∙ ap (λ (z : List RawEvent). left_at x m ∷ z) b.same;
 }
@@ -161,47 +143,25 @@ abbrev pub StopBegins : yaml_mark_t → List State → Fed → Type 0
 StopBegins m s (stop is f) = BeginsWithItems is (run (closers m s) s None).items
 StopBegins m s (go is s') = Unit {0}
 
-fits_follows : (a b : Bool) (p : ParseProblem)
-    → (if a then Leave else if b then Take else Refuse p None) ≡ Leave → a ≡ true
-fits_follows true b p h = refl
-fits_follows false true p h = cc
-fits_follows false false p h = cc
-
 -- a node that is left out is refused by nothing below
 fitting : (place : Site) (before : yaml_mark_t) (s : List State) (t : Token)
     → choice_at (state.optional place before) (type_of t.body) ≡ Leave → Fits place s
     → Goes (feed s t)
-fitting place before s t c f = f t (fits_follows (follows place (type_of t.body)) (starts_node (wants_of place) (type_of t.body)) (no_node (wants_of place)) c)
+fitting place before s t c f = f t (leave_rule (state.optional place before) (type_of t.body) c)
 
 left_begins : (x : State) (k : yaml_token_type_t) (m : yaml_mark_t) (s : List State)
-    (is : List RawEvent) → choice_at x k ≡ Leave → Stood x s
+    (is : List RawEvent) → MayLeave x k → Stood x s
     → ((place : Site) (before : yaml_mark_t) → x ≡ state.optional place before → ⊥)
     → BeginsWithItems is (run (closers m s) s None).items
     → BeginsWithItems (left_at x m ∷ is) (run (closers m (x ∷ s)) (x ∷ s) None).items
-left_begins state.stream kind.YAML_STREAM_START_TOKEN m s is c h u b = cc
-left_begins state.stream _ m s is c h u b = cc
-left_begins state.first k m s is c h u b = absurd (not_left_first (parts_documents k) (starts_node (Block None) k) problem.NoBlockNode c)
-left_begins state.documents kind.YAML_DOCUMENT_END_TOKEN m s is c h u b = cc
-left_begins state.documents k m s is c h u b = absurd (not_left (parts_documents k) problem.NoDocumentStart None c)
-left_begins (state.directives from) kind.YAML_STREAM_END_TOKEN m s is c h u b = cc
-left_begins (state.directives from) k m s is c h u b = absurd (not_left (parts_documents k) problem.NoDocumentStart None c)
-left_begins (state.entries o) kind.YAML_BLOCK_ENTRY_TOKEN m s is c h u b = cc
-left_begins (state.entries o) kind.YAML_BLOCK_END_TOKEN m s is c h u b = cc
-left_begins (state.entries o) _ m s is c h u b = cc
-left_begins (state.pairs o) kind.YAML_KEY_TOKEN m s is c h u b = cc
-left_begins (state.pairs o) kind.YAML_BLOCK_END_TOKEN m s is c h u b = cc
-left_begins (state.pairs o) _ m s is c h u b = cc
-left_begins (state.items d o) kind.YAML_KEY_TOKEN m s is c h u b = cc
-left_begins (state.items d o) k m s is c h u b = absurd (not_left (closes d k || starts_node Flow k) problem.NoFlowNode None c)
-left_begins (state.more d o) kind.YAML_FLOW_ENTRY_TOKEN m s is c h u b = cc
-left_begins (state.more d o) k m s is c h u b = absurd (not_left (closes d k) (no_end d) (Some o) c)
-left_begins (state.optional place before) k m s is c h u b = absurd (u place before refl)
-left_begins state.document_end k m s is c h u b = light_begins state.document_end m (closers m s) s is tt (closes_at m s h) b
-left_begins (state.others side) k m s is c h u b = light_begins (state.others side) m (closers m s) s is tt (closes_at m s h.1) b
-left_begins (state.colon place) k m s is c h u b = light_begins (state.colon place) m (closers m s) s is tt (closes_at m s h.1) b
-left_begins (state.with_properties w p) k m s is c h u b = light_begins (state.with_properties w p) m (closers m s) s is tt (closes_at m s h.1) b
-left_begins state.pair_end k m s is c h u b = light_begins state.pair_end m (closers m s) s is tt (closes_at m s h) b
-left_begins state.lone k m s is c h u b = light_begins state.lone m (closers m s) s is tt (closes_at m s h) b
+left_begins (state.optional place before) k m s is l h u b = absurd (u place before refl)
+left_begins state.document_end k m s is l h u b = light_begins state.document_end m (closers m s) s is (λ r. r) (closers_end m s h) b
+left_begins (state.others side) k m s is l h u b = light_begins (state.others side) m (closers m s) s is (λ r. r) (closers_end m s h.1) b
+left_begins (state.colon place) k m s is l h u b = light_begins (state.colon place) m (closers m s) s is (λ r. r) (closers_end m s h.1) b
+left_begins (state.with_properties w p) k m s is l h u b = light_begins (state.with_properties w p) m (closers m s) s is (λ r. r) (closers_end m s h.1) b
+left_begins state.pair_end k m s is l h u b = light_begins state.pair_end m (closers m s) s is (λ r. r) (closers_end m s h) b
+left_begins state.lone k m s is l h u b = light_begins state.lone m (closers m s) s is (λ r. r) (closers_end m s h) b
+left_begins _ k m s is l h u b = absurd l
 
 not_fitting : (x : State) (s : List State) (t : Token) → choice_at x (type_of t.body) ≡ Leave
     → Stood x s → (Goes (feed s t) → ⊥) → (place : Site) (before : yaml_mark_t)
@@ -219,7 +179,7 @@ leave_begins : (x : State) (t : Token) (s : List State) (below : Fed) → feed s
     → choice_at x (type_of t.body) ≡ Leave → Stood x s
     → StopBegins t.start_mark s below
     → StopBegins t.start_mark (x ∷ s) (with_item (left_at x t.start_mark) below)
-leave_begins x t s (stop is f) p c h b = left_begins x (type_of t.body) t.start_mark s is c h (not_fitting x s t c h (stopped s t is f p)) b
+leave_begins x t s (stop is f) p c h b = left_begins x (type_of t.body) t.start_mark s is (leave_rule x (type_of t.body) c) h (not_fitting x s t c h (stopped s t is f p)) b
 leave_begins x t s (go is s') p c h b = tt
 
 turn_begins : (c : Choice) (x : State) (t : Token) (s : List State)

@@ -1,5 +1,5 @@
 -- How many items come of a list of tokens.
-use Rattle.std.proofs.Common.{◌≡◌, ◌≤◌, ◌+◌, ◌*◌, ℕ, suc, Bool, true, false, if◌then◌else◌, ◌||◌, List, [], ◌∷◌, ◌++◌, length, map, Option, Some, None, refl, ap, arith}
+use Rattle.std.proofs.Common.{◌≡◌, ◌≤◌, ◌+◌, ◌*◌, ℕ, suc, true, List, [], ◌∷◌, ◌++◌, length, map, Option, Some, None, refl, ap, arith}
 use Rattle.yaml_parse_grammar.specs.parse_model.declared.yaml_mark_t.{yaml_mark_t}
 use Rattle.yaml_parse_grammar.specs.parse_model.declared.yaml_token_type_t.{yaml_token_type_t}
 use Rattle.yaml_parse_grammar.specs.parse_model.declared.yaml_token_type_t.TheVariants as kind
@@ -13,18 +13,16 @@ use Rattle.yaml_parse_grammar.specs.declared.name.Brackets.TheVariants as bracke
 use Rattle.yaml_parse_grammar.specs.declared.name.Site.TheVariants.{Root}
 use Rattle.yaml_parse_grammar.specs.declared.name.Choice.{Choice}
 use Rattle.yaml_parse_grammar.specs.declared.name.Choice.TheVariants.{Refuse, Take, Leave, Open}
-use Rattle.yaml_parse_grammar.specs.declared.problem.ParseProblem.{ParseProblem}
-use Rattle.yaml_parse_grammar.specs.declared.problem.ParseProblem.TheVariants as problem
 use Rattle.yaml_parse_grammar.specs.Items.{RawEvent, Properties, item_at}
 use Rattle.yaml_parse_grammar.specs.Items as item
 use Rattle.yaml_parse_grammar.specs.States.{State, Taken}
 use Rattle.yaml_parse_grammar.specs.States as state
 use Rattle.yaml_parse_grammar.specs.Trees.{Given}
-use Rattle.yaml_parse_grammar.specs.Machine.{choice_at, taken_at, documents_taken, content_taken, node_taken, with_properties_taken, items_taken, more_taken, stream_taken, entries_taken, pairs_taken, lone_below, left_at, parts_documents, starts_node, wants_of, closes, no_end, Fed, stop, go, with_item, given_by, turn, feed, Outcome, finished, carry, ending_at, run, initial}
+use Rattle.yaml_parse_grammar.specs.Machine.{choice_at, taken_at, documents_taken, content_taken, node_taken, with_properties_taken, items_taken, more_taken, stream_taken, entries_taken, pairs_taken, lone_below, left_at, wants_of, Fed, stop, go, with_item, given_by, turn, feed, Outcome, finished, carry, ending_at, run, initial}
 use Rattle.yaml_parse_grammar.specs.Resolve.{Directives, Settled, refused, gave, noted, settle, Reading, read_on, reading}
 use Rattle.yaml_parse_grammar.specs.Remaining.{reading_of}
 use Rattle.yaml_parse_grammar.proofs.Voice.{takes_a_token}
-use Rattle.yaml_parse_grammar.proofs.Single.{opens_node}
+use Rattle.yaml_parse_laws_trees.proofs.Rules.{MayLeave, leave_rule, none_opens}
 
 -- ---- what a state may still give as it is left
 
@@ -155,42 +153,15 @@ taken_cost state.lone t = omega arith
 
 -- ---- what is left owed
 
-not_left : (a : Bool) (p : ParseProblem) (o : Option yaml_mark_t)
-    → (if a then Take else Refuse p o) ≡ Leave → ⊥
-not_left true p o h = cc
-not_left false p o h = cc
-
-not_left_first : (a b : Bool) (p : ParseProblem)
-    → (if a then Take else if b then Open else Refuse p None) ≡ Leave → ⊥
-not_left_first true b p h = cc
-not_left_first false true p h = cc
-not_left_first false false p h = cc
-
-left_owes : (x : State) (k : yaml_token_type_t) → choice_at x k ≡ Leave → owes x ≡ 1
-left_owes state.stream kind.YAML_STREAM_START_TOKEN c = cc
-left_owes state.stream _ c = cc
-left_owes state.first k c = absurd (not_left_first (parts_documents k) (starts_node (Block None) k) problem.NoBlockNode c)
-left_owes state.documents kind.YAML_DOCUMENT_END_TOKEN c = cc
-left_owes state.documents k c = absurd (not_left (parts_documents k) problem.NoDocumentStart None c)
-left_owes (state.directives from) kind.YAML_STREAM_END_TOKEN c = cc
-left_owes (state.directives from) k c = absurd (not_left (parts_documents k) problem.NoDocumentStart None c)
-left_owes (state.entries o) kind.YAML_BLOCK_ENTRY_TOKEN c = cc
-left_owes (state.entries o) kind.YAML_BLOCK_END_TOKEN c = cc
-left_owes (state.entries o) _ c = cc
-left_owes (state.pairs o) kind.YAML_KEY_TOKEN c = cc
-left_owes (state.pairs o) kind.YAML_BLOCK_END_TOKEN c = cc
-left_owes (state.pairs o) _ c = cc
-left_owes (state.items b o) kind.YAML_KEY_TOKEN c = cc
-left_owes (state.items b o) k c = absurd (not_left (closes b k || starts_node Flow k) problem.NoFlowNode None c)
-left_owes (state.more b o) kind.YAML_FLOW_ENTRY_TOKEN c = cc
-left_owes (state.more b o) k c = absurd (not_left (closes b k) (no_end b) (Some o) c)
-left_owes (state.optional place before) k c = refl
-left_owes state.document_end k c = refl
-left_owes (state.others side) k c = refl
-left_owes (state.colon place) k c = refl
-left_owes (state.with_properties w q) k c = refl
-left_owes state.pair_end k c = refl
-left_owes state.lone k c = refl
+left_owes : (x : State) (k : yaml_token_type_t) → MayLeave x k → owes x ≡ 1
+left_owes (state.optional place before) k l = refl
+left_owes state.document_end k l = refl
+left_owes (state.others side) k l = refl
+left_owes (state.colon place) k l = refl
+left_owes (state.with_properties w q) k l = refl
+left_owes state.pair_end k l = refl
+left_owes state.lone k l = refl
+left_owes _ k l = absurd l
 
 -- ---- a stack at a token
 
@@ -234,7 +205,7 @@ turn_owed Open x t s below l h =
 pub feed_owed : (s : List State) (t : Token) → owed (feed s t) ≤ 4 + all_owe s
 unfolding feed
 feed_owed [] t = omega arith
-feed_owed (x ∷ s) t = turn_owed (choice_at x (type_of t.body)) x t s (feed s t) (left_owes x (type_of t.body)) (feed_owed s t)
+feed_owed (x ∷ s) t = turn_owed (choice_at x (type_of t.body)) x t s (feed s t) (λ e. left_owes x (type_of t.body) (leave_rule x (type_of t.body) e)) (feed_owed s t)
 
 -- ---- the end of the list
 
@@ -257,16 +228,10 @@ turn_given Leave x t s below l a b h =
     omega arith
 turn_given Open x t s below l a b h = absurd (b refl)
 
-opens_a_token : (x : State) → choice_at x kind.YAML_NO_TOKEN ≡ Open → ⊥
-opens_a_token x h = unlike (opens_node x kind.YAML_NO_TOKEN h)
-  where
-    unlike : false ≡ true → ⊥
-    unlike e = cc
-
 pub end_given : (s : List State) → given (feed s no_token) ≤ all_owe s
 unfolding feed
 end_given [] = omega arith
-end_given (x ∷ s) = turn_given (choice_at x kind.YAML_NO_TOKEN) x no_token s (feed s no_token) (left_owes x kind.YAML_NO_TOKEN) (takes_a_token x) (opens_a_token x) (end_given s)
+end_given (x ∷ s) = turn_given (choice_at x kind.YAML_NO_TOKEN) x no_token s (feed s no_token) (λ e. left_owes x kind.YAML_NO_TOKEN (leave_rule x kind.YAML_NO_TOKEN e)) (takes_a_token x) (none_opens x) (end_given s)
 
 -- ---- a list of tokens
 

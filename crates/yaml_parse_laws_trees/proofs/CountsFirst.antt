@@ -13,6 +13,7 @@ use Rattle.yaml_parse_grammar.specs.Trees.{Span, token_at, AnchorToken, TagToken
 use Rattle.yaml_parse_grammar.specs.Trees as tree
 use Rattle.yaml_parse_grammar.specs.Machine.{starts_node}
 use Rattle.yaml_parse_grammar.proofs.Complete.{ends, Ends, Starts, node_starts}
+use Rattle.std.proofs.lemmas.Bool.{false≢true}
 
 -- ---- first tokens
 
@@ -57,25 +58,25 @@ rest_same t u x y h = ap rest_of h
 -- ---- tokens that end a node begin none
 
 pub not_begun : (w : Wants) (k : yaml_token_type_t) → ends w k ≡ true → starts_node w k ≡ true → ⊥
-not_begun Flow kind.YAML_FLOW_ENTRY_TOKEN h s = cc
-not_begun Flow kind.YAML_VALUE_TOKEN h s = cc
-not_begun Flow kind.YAML_FLOW_SEQUENCE_END_TOKEN h s = cc
-not_begun Flow kind.YAML_FLOW_MAPPING_END_TOKEN h s = cc
-not_begun Flow _ h s = cc
-not_begun (Block (Some side)) kind.YAML_KEY_TOKEN h s = cc
-not_begun (Block (Some side)) kind.YAML_BLOCK_END_TOKEN h s = cc
-not_begun (Block (Some side)) kind.YAML_VALUE_TOKEN h s = cc
-not_begun (Block (Some side)) _ h s = cc
-not_begun (Block None) kind.YAML_BLOCK_ENTRY_TOKEN h s = cc
-not_begun (Block None) kind.YAML_BLOCK_END_TOKEN h s = cc
-not_begun (Block None) kind.YAML_KEY_TOKEN h s = cc
-not_begun (Block None) kind.YAML_VALUE_TOKEN h s = cc
-not_begun (Block None) kind.YAML_DOCUMENT_END_TOKEN h s = cc
-not_begun (Block None) kind.YAML_STREAM_END_TOKEN h s = cc
-not_begun (Block None) kind.YAML_VERSION_DIRECTIVE_TOKEN h s = cc
-not_begun (Block None) kind.YAML_TAG_DIRECTIVE_TOKEN h s = cc
-not_begun (Block None) kind.YAML_DOCUMENT_START_TOKEN h s = cc
-not_begun (Block None) _ h s = cc
+not_begun Flow kind.YAML_FLOW_ENTRY_TOKEN h s = false≢true s
+not_begun Flow kind.YAML_VALUE_TOKEN h s = false≢true s
+not_begun Flow kind.YAML_FLOW_SEQUENCE_END_TOKEN h s = false≢true s
+not_begun Flow kind.YAML_FLOW_MAPPING_END_TOKEN h s = false≢true s
+not_begun Flow _ h s = false≢true h
+not_begun (Block (Some side)) kind.YAML_KEY_TOKEN h s = false≢true s
+not_begun (Block (Some side)) kind.YAML_BLOCK_END_TOKEN h s = false≢true s
+not_begun (Block (Some side)) kind.YAML_VALUE_TOKEN h s = false≢true s
+not_begun (Block (Some side)) _ h s = false≢true h
+not_begun (Block None) kind.YAML_BLOCK_ENTRY_TOKEN h s = false≢true s
+not_begun (Block None) kind.YAML_BLOCK_END_TOKEN h s = false≢true s
+not_begun (Block None) kind.YAML_KEY_TOKEN h s = false≢true s
+not_begun (Block None) kind.YAML_VALUE_TOKEN h s = false≢true s
+not_begun (Block None) kind.YAML_DOCUMENT_END_TOKEN h s = false≢true s
+not_begun (Block None) kind.YAML_STREAM_END_TOKEN h s = false≢true s
+not_begun (Block None) kind.YAML_VERSION_DIRECTIVE_TOKEN h s = false≢true s
+not_begun (Block None) kind.YAML_TAG_DIRECTIVE_TOKEN h s = false≢true s
+not_begun (Block None) kind.YAML_DOCUMENT_START_TOKEN h s = false≢true s
+not_begun (Block None) _ h s = false≢true h
 
 pub not_both : (w : Wants) (ts : List Token) → Ends w ts → Starts w ts → ⊥
 not_both w [] e s = e
@@ -95,7 +96,7 @@ pub property_starts : (w : Wants) (k : yaml_token_type_t) → is_property k ≡ 
     → starts_node w k ≡ true
 property_starts w kind.YAML_ANCHOR_TOKEN h = refl
 property_starts w kind.YAML_TAG_TOKEN h = refl
-property_starts w _ h = cc
+property_starts w _ h = absurd (false≢true h)
 
 -- the first token is no property
 abbrev pub IsPlain : List Token → Type 0
@@ -106,12 +107,12 @@ ends_plain w [] e p = e
 ends_plain w (t ∷ ts) e p = not_begun w (type_of t.body) e (property_starts w (type_of t.body) p)
 
 pub content_plain : {w : Wants} (c : Content w) (ts : List Token) → IsPlain (spell_content c ts)
-content_plain (tree.scalar p v style) ts h = cc
-content_plain (tree.flow brackets.Sequence p i) ts h = cc
-content_plain (tree.flow brackets.Mapping p i) ts h = cc
-content_plain (tree.block_sequence p e) ts h = cc
-content_plain (tree.block_mapping p m) ts h = cc
-content_plain (tree.indentless p n o) ts h = cc
+content_plain (tree.scalar p v style) ts h = false≢true h
+content_plain (tree.flow brackets.Sequence p i) ts h = false≢true h
+content_plain (tree.flow brackets.Mapping p i) ts h = false≢true h
+content_plain (tree.block_sequence p e) ts h = false≢true h
+content_plain (tree.block_mapping p m) ts h = false≢true h
+content_plain (tree.indentless p n o) ts h = false≢true h
 
 pub not_plain : (x y : List Token) → IsPlain x → x ≡ y → is_property (kind_of y) ≡ true → ⊥
 not_plain x y d h p = d (ap (λ ts. is_property (kind_of ts)) h ∙ p)

@@ -2,17 +2,15 @@
 use Rattle.std.proofs.Common.{◌≡◌, ◌+◌, List, [], ◌∷◌, ◌++◌, length, refl, ap, sym, ◌∙◌, arith, zero-add}
 use Rattle.yaml_parse_laws_trees.specs.parse_grammar.parse_model.Tokens.{Token}
 use Rattle.yaml_parse_laws_trees.specs.LookBack.{followed_by}
+use Rattle.yaml_parse_laws_trees.proofs.CountsFirst.{rest_same}
 
 pub followed_on : (past ts us : List Token)
     → followed_by past ts ++ us ≡ followed_by past (ts ++ us)
 followed_on [] ts us = refl
 followed_on (t ∷ past) ts us = followed_on past (t ∷ ts) us
 
-head_same : (a b : Token) (x y : List Token) → a ∷ x ≡ b ∷ y → a ≡ b
+pub head_same : (a b : Token) (x y : List Token) → a ∷ x ≡ b ∷ y → a ≡ b
 head_same a b x y h = cc
-
-tail_same : (a b : Token) (x y : List Token) → a ∷ x ≡ b ∷ y → x ≡ y
-tail_same a b x y h = cc
 
 pub record SameCut (past other ts us : List Token) : Type 0 where
   pub before : past ≡ other
@@ -36,7 +34,7 @@ same_cut [] (b ∷ other) ts us h n = absurd (empty_length b other (sym n))
 same_cut (a ∷ past) [] ts us h n = absurd (empty_length a past n)
 same_cut (a ∷ past) (b ∷ other) ts us h n =
     let c : SameCut past other (a ∷ ts) (b ∷ us) = same_cut past other (a ∷ ts) (b ∷ us) h (longer a b past other n) in
-    record { before = cons_same a b past other (head_same a b ts us c.behind) c.before; behind = tail_same a b ts us c.behind }
+    record { before = cons_same a b past other (head_same a b ts us c.behind) c.before; behind = rest_same a b ts us c.behind }
 
 -- ---- a list whose front is another
 
@@ -60,7 +58,7 @@ moved x m past us rest list (y ∷ more) p q n = record {
   token = y;
   more = more;
   same = p ∙ ap (λ (z : Token). followed_by past (z ∷ y ∷ more)) (sym (head_same x m us (y ∷ (more ++ rest)) q));
-  behind = tail_same x m us (y ∷ (more ++ rest)) q;
+  behind = rest_same x m us (y ∷ (more ++ rest)) q;
 }
 
 at_start : (us list rest : List Token) → us ≡ list ++ rest → ([] ≡ list → ⊥)

@@ -31,6 +31,7 @@ use Rattle.yaml_parse_laws_trees.proofs.Going.{Stacked, FedKept, fed_kept, FedPr
 use Rattle.yaml_parse_laws_trees.proofs.Tagging.{Step, step_read}
 use Rattle.yaml_parse_laws_trees.proofs.Taking.{stack_solid, Takes, takes, Stops, stops_at_none, ending_of, front_read, last_read, number_of, front_number, last_number}
 use Rattle.yaml_parse_laws_trees.proofs.Clean.{Clean, Unfinished, FirstAt, no_fault, free, handle_first, token_first, no_sentence, no_whole_sentence}
+use Rattle.yaml_parse_laws_trees.proofs.Refusal.{not_none}
 
 -- what the stack and the directives are behind the tokens that were read
 pub record At (x : State) (s : List State) (past : List Token) (ds : Directives) : Type 0 where
@@ -114,9 +115,6 @@ sentence_tree ts h = (h.tree, h.same ∙ ap (spell h.tree) h.goes)
 goes_on : (past : List Token) (t : Token) (us : List Token)
     → Over initial Empty (followed_by past (t ∷ us)) → TreeGoesOn (followed_by past (t ∷ []))
 goes_on past t us h = record { tree = h.tree; more = us; same = followed_on past (t ∷ []) us ∙ h.same ∙ ap (spell h.tree) h.goes }
-
-not_none : (e : Fault) → Some e ≡ None → ⊥
-not_none e h = cc
 
 -- no tree goes on with a token that is refused
 refused_token : (x : State) (s : List State) (past : List Token) (ds : Directives) (t : Token)
@@ -331,7 +329,7 @@ own_number : (x : State) (s : List State) (g : Fault) (ds : Directives)
 unfolding run unasked_at_fault unasked_at_stop
 own_number x s g ds = refl
 
-no_stop : (is : List RawEvent) (s : List State) → Stops (go is s) → ⊥
+pub no_stop : (is : List RawEvent) (s : List State) → Stops (go is s) → ⊥
 no_stop is s h = h
 
 at_last : (x : State) (s : List State) (past : List Token) (ds : Directives) (fed : Fed)

@@ -6,9 +6,9 @@ use Rattle.yaml_parse_laws_trees.specs.parse_grammar.parse_model.Faults.{Fault}
 use Rattle.yaml_parse_laws_trees.specs.Wrong.{directive_fault, handle_fault}
 use Rattle.yaml_parse_laws_trees.specs.Places.{Rank, of_handle, of_token, ComesBefore, WrongToken, grammar, directive, FaultAt, StandsIn, IsOfLeastPlace, with_end, IsOwn}
 use Rattle.yaml_parse_laws_trees.specs.FaultsLaws.{FaultIsOne}
-use Rattle.yaml_parse_laws_trees.proofs.Cuts.{SameCut, same_cut}
+use Rattle.yaml_parse_laws_trees.proofs.Cuts.{SameCut, same_cut, head_same}
 
-same_some : (x : Option Fault) (e f : Fault) → x ≡ Some e → x ≡ Some f → e ≡ f
+pub same_some : (x : Option Fault) (e f : Fault) → x ≡ Some e → x ≡ Some f → e ≡ f
 same_some x e f p q = cc
 
 one_wrong : (past : List Token) (t : Token) (e f : Fault) → WrongToken past t e
@@ -23,9 +23,6 @@ pub one_at : (past : List Token) (t : Token) (r : Rank) (e f : Fault) → FaultA
     → FaultAt past t r f → e ≡ f
 one_at past t of_handle e f p q = same_some (handle_fault past t.body) e f p q
 one_at past t of_token e f p q = one_wrong past t e f p q
-
-head_same : (a b : Token) (x y : List Token) → a ∷ x ≡ b ∷ y → a ≡ b
-head_same a b x y h = cc
 
 one_standing : (ts : List Token) (n m : ℕ) (r : Rank) (e f : Fault) → n ≡ m
     → StandsIn ts (record { number = n; rank = r }) e

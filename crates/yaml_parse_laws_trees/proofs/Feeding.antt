@@ -1,28 +1,25 @@
 -- One token: what a stack gives is loaded, and the stack behind it fits the tokens from then on.
-use Rattle.std.proofs.Common.{◌≡◌, ℕ, Bool, true, false, if◌then◌else◌, ◌||◌, List, [], ◌∷◌, Option, Some, None, refl, sym, subst}
+use Rattle.std.proofs.Common.{◌≡◌, ℕ, true, List, [], ◌∷◌, Option, None, refl, sym, subst}
 use Rattle.yaml_parse_laws_trees.specs.parse_grammar.parse_model.declared.yaml_mark_t.{yaml_mark_t}
 use Rattle.yaml_parse_laws_trees.specs.parse_grammar.parse_model.declared.yaml_token_type_t.{yaml_token_type_t}
-use Rattle.yaml_parse_laws_trees.specs.parse_grammar.parse_model.declared.yaml_token_type_t.TheVariants as kind
 use Rattle.yaml_parse_laws_trees.specs.parse_grammar.parse_model.Tokens.{Token, type_of}
-use Rattle.yaml_parse_laws_trees.specs.parse_grammar.declared.name.Wants.TheVariants.{Flow, Block}
+use Rattle.yaml_parse_laws_trees.specs.parse_grammar.declared.name.Wants.TheVariants.{Block}
 use Rattle.yaml_parse_laws_trees.specs.parse_grammar.declared.name.Site.TheVariants.{Root}
 use Rattle.yaml_parse_laws_trees.specs.parse_grammar.declared.name.Choice.{Choice}
 use Rattle.yaml_parse_laws_trees.specs.parse_grammar.declared.name.Choice.TheVariants.{Refuse, Take, Leave, Open}
-use Rattle.yaml_parse_laws_trees.specs.parse_grammar.declared.problem.ParseProblem.{ParseProblem}
-use Rattle.yaml_parse_laws_trees.specs.parse_grammar.declared.problem.ParseProblem.TheVariants as problem
-use Rattle.yaml_parse_laws_trees.specs.parse_grammar.Items.{RawEvent, item_at, blank}
+use Rattle.yaml_parse_laws_trees.specs.parse_grammar.Items.{item_at, blank}
 use Rattle.yaml_parse_laws_trees.specs.parse_grammar.Items as item
 use Rattle.yaml_parse_laws_trees.specs.parse_grammar.States.{State}
 use Rattle.yaml_parse_laws_trees.specs.parse_grammar.States as state
 use Rattle.yaml_parse_laws_trees.specs.parse_grammar.Stacks.{IsInside, IsStack}
-use Rattle.yaml_parse_laws_trees.specs.parse_grammar.Machine.{parts_documents, follows, wants_of, starts_node, starts_content, joins, closes, no_node, no_end, choice_at, taken_at, left_at, Fed, with_item, given_by, turn, feed}
+use Rattle.yaml_parse_laws_trees.specs.parse_grammar.Machine.{choice_at, taken_at, left_at, Fed, with_item, given_by, turn, feed}
 use Rattle.yaml_parse_laws_trees.specs.parse_grammar.Resolve.{Directives, settle}
 use Rattle.yaml_parse_laws_trees.proofs.Single.{opens_node}
 use Rattle.yaml_parse_laws_trees.proofs.FaultsStanding.{Plain}
-use Rattle.yaml_parse_laws_trees.proofs.Taking.{solid_left}
 use Rattle.yaml_parse_loader.specs.Loading.{Loading, nothing_loaded}
 use Rattle.yaml_parse_laws_trees.proofs.Fitting.{Owes, Names, NoneNamed, Fits, fits_below, Added, added_names, Passes, passes_on, node_passes, closed_fits, whole, FedLoads, loads_with}
 use Rattle.yaml_parse_laws_trees.proofs.LoadingTaking.{SitsAt, Started, start_passes, node_loads, taken_loads}
+use Rattle.yaml_parse_laws_trees.proofs.Rules.{MayLeave, leave_rule, opens_first}
 
 -- ---- stacks
 
@@ -59,14 +56,14 @@ plain_below [] h = tt
 plain_below (x ∷ s) h = h.1
 
 -- a state that leaves has states below
-sits_left : (x : State) (k : yaml_token_type_t) (s : List State) → choice_at x k ≡ Leave
-    → Sits (x ∷ s) → Sits s
-sits_left state.stream k s c h = absurd (solid_left state.stream k ⊥ c tt)
-sits_left state.first k s c h = absurd (solid_left state.first k ⊥ c tt)
-sits_left state.documents k s c h = absurd (solid_left state.documents k ⊥ c tt)
-sits_left (state.directives from) k s c h = absurd (solid_left (state.directives from) k ⊥ c tt)
-sits_left state.document_end k s c h = sits_documents s h
-sits_left _ k s c h = h
+sits_left : (x : State) (k : yaml_token_type_t) (s : List State) → MayLeave x k → Sits (x ∷ s)
+    → Sits s
+sits_left state.document_end k s l h = sits_documents s h
+sits_left state.stream k s l h = absurd l
+sits_left state.first k s l h = absurd l
+sits_left state.documents k s l h = absurd l
+sits_left (state.directives from) k s l h = absurd l
+sits_left _ k s l h = h
 
 -- ---- a state that leaves
 
@@ -81,20 +78,18 @@ blank_passes at s past ds l pl n =
     passes_on (settle (blank at) ds) (blank at) l (λ m. Added None l m) (λ m. Fits s past m) (λ m a. added_fits None s past l m pl n a) (node_passes None None item.empty at at ds l)
 
 left_passes : (x : State) (k : yaml_token_type_t) (start : yaml_mark_t) (s : List State)
-    (past : List Token) (ds : Directives) (l : Loading) → choice_at x k ≡ Leave → Plain s
+    (past : List Token) (ds : Directives) (l : Loading) → MayLeave x k → Plain s
     → Sits (x ∷ s) → Fits (x ∷ s) past l
     → Passes (settle (left_at x start) ds) (left_at x start) l (λ m. Fits s past m)
-left_passes state.stream k start s past ds l c pl i h = absurd (solid_left state.stream k ⊥ c tt)
-left_passes state.first k start s past ds l c pl i h = absurd (solid_left state.first k ⊥ c tt)
-left_passes state.documents k start s past ds l c pl i h = absurd (solid_left state.documents k ⊥ c tt)
-left_passes (state.directives from) k start s past ds l c pl i h = absurd (solid_left (state.directives from) k ⊥ c tt)
 left_passes state.document_end k start s past ds l c pl i h = (nothing_loaded, λ q. whole l.document.nodes (q nothing_loaded) h, subst (λ (z : List State). Fits z past nothing_loaded) (sym i) tt)
 left_passes (state.optional place before) k start s past ds l c pl i h = blank_passes _ s past ds l pl h.0
 left_passes (state.others side) k start s past ds l c pl i h = (_, λ q. refl, closed_fits start l s past pl h.0 h.1)
 left_passes (state.with_properties w p) k start s past ds l c pl i h =
     passes_on _ _ l (λ m. Added p.anchor l m) (λ m. Fits s past m) (λ m a. added_fits p.anchor s past l m pl h.0 a) (node_passes p.anchor p.tag item.empty p.from p.to ds l)
 left_passes state.pair_end k start s past ds l c pl i h = (_, λ q. refl, closed_fits start l s past pl h.0 h.1)
-left_passes _ k start s past ds l c pl i h = blank_passes start s past ds l pl h.0
+left_passes (state.colon place) k start s past ds l c pl i h = blank_passes start s past ds l pl h.0
+left_passes state.lone k start s past ds l c pl i h = blank_passes start s past ds l pl h.0
+left_passes _ k start s past ds l c pl i h = absurd c
 
 -- ---- a stack at a token
 
@@ -109,49 +104,9 @@ opened_loads x t s past ds l c pl n =
     (start_passes true t.start_mark t.start_mark past ds l n)
     (λ m q d. node_loads (Block None) t.start_mark t.end_mark t.body (state.document_end ∷ state.documents ∷ s) past d m (opens_node x (type_of t.body) c) (refl, (refl, pl)) q.0 q.1)
 
-takes_or : (a : Bool) (p : ParseProblem) (o : Option yaml_mark_t)
-    → (if a then Take else Refuse p o) ≡ Open → ⊥
-takes_or true p o h = cc
-takes_or false p o h = cc
-
-leaves_or : (a b : Bool) (p : ParseProblem)
-    → (if a then Leave else if b then Take else Refuse p None) ≡ Open → ⊥
-leaves_or true b p h = cc
-leaves_or false true p h = cc
-leaves_or false false p h = cc
-
-takes_else : (a : Bool) → (if a then Take else Leave) ≡ Open → ⊥
-takes_else true h = cc
-takes_else false h = cc
-
 only_first : (x : State) (k : yaml_token_type_t) (s : List State) (past : List Token) (l : Loading)
     → choice_at x k ≡ Open → Fits (x ∷ s) past l → NoneNamed past
-only_first state.first k s past l c h = h
-only_first state.stream k s past l c h = h
-only_first state.documents kind.YAML_DOCUMENT_END_TOKEN s past l c h = absurd (cc)
-only_first state.documents k s past l c h = absurd (takes_or (parts_documents k) problem.NoDocumentStart None c)
-only_first (state.directives from) kind.YAML_STREAM_END_TOKEN s past l c h = absurd (cc)
-only_first (state.directives from) k s past l c h = absurd (takes_or (parts_documents k) problem.NoDocumentStart None c)
-only_first (state.optional place before) k s past l c h = absurd (leaves_or (follows place k) (starts_node (wants_of place) k) (no_node (wants_of place)) c)
-only_first state.document_end kind.YAML_DOCUMENT_END_TOKEN s past l c h = absurd (cc)
-only_first state.document_end _ s past l c h = absurd (cc)
-only_first (state.entries o) kind.YAML_BLOCK_ENTRY_TOKEN s past l c h = absurd (cc)
-only_first (state.entries o) kind.YAML_BLOCK_END_TOKEN s past l c h = absurd (cc)
-only_first (state.entries o) _ s past l c h = absurd (cc)
-only_first (state.others side) kind.YAML_BLOCK_ENTRY_TOKEN s past l c h = absurd (cc)
-only_first (state.others side) _ s past l c h = absurd (cc)
-only_first (state.pairs o) kind.YAML_KEY_TOKEN s past l c h = absurd (cc)
-only_first (state.pairs o) kind.YAML_BLOCK_END_TOKEN s past l c h = absurd (cc)
-only_first (state.pairs o) _ s past l c h = absurd (cc)
-only_first (state.colon place) kind.YAML_VALUE_TOKEN s past l c h = absurd (cc)
-only_first (state.colon place) _ s past l c h = absurd (cc)
-only_first (state.with_properties w p) k s past l c h = absurd (takes_else (joins p k || starts_content w k) c)
-only_first (state.items b o) kind.YAML_KEY_TOKEN s past l c h = absurd (cc)
-only_first (state.items b o) k s past l c h = absurd (takes_or (closes b k || starts_node Flow k) problem.NoFlowNode None c)
-only_first (state.more b o) kind.YAML_FLOW_ENTRY_TOKEN s past l c h = absurd (cc)
-only_first (state.more b o) k s past l c h = absurd (takes_or (closes b k) (no_end b) (Some o) c)
-only_first state.pair_end k s past l c h = absurd (cc)
-only_first state.lone k s past l c h = absurd (cc)
+only_first x k s past l c h = subst (λ (y : State). Fits (y ∷ s) past l) (opens_first x k c) h
 
 turn_loads : (c : Choice) (x : State) (t : Token) (s : List State) (fed : Fed) (past : List Token)
     (ds : Directives) (l : Loading) → choice_at x (type_of t.body) ≡ c → Plain s → Sits (x ∷ s)
@@ -161,7 +116,7 @@ turn_loads : (c : Choice) (x : State) (t : Token) (s : List State) (fed : Fed) (
 turn_loads (Refuse p o) x t s fed past ds l c pl i h k = (l, refl)
 turn_loads Take x t s fed past ds l c pl i h k = taken_loads x t s past ds l (Sits s) c pl i h
 turn_loads Leave x t s fed past ds l c pl i h k =
-    loads_with past t ds l (left_at x t.start_mark) fed (λ m. Fits s past m) (left_passes x (type_of t.body) t.start_mark s past ds l c pl i h) (k c)
+    loads_with past t ds l (left_at x t.start_mark) fed (λ m. Fits s past m) (left_passes x (type_of t.body) t.start_mark s past ds l (leave_rule x (type_of t.body) c) pl i h) (k c)
 turn_loads Open x t s fed past ds l c pl i h k = opened_loads x t s past ds l c pl (only_first x (type_of t.body) s past l c h)
 
 pub fed_loads : (s : List State) (t : Token) (past : List Token) (ds : Directives) (l : Loading)
@@ -170,4 +125,4 @@ unfolding feed
 fed_loads [] t past ds l i pl h = absurd i
 fed_loads (x ∷ s) t past ds l i pl h =
     turn_loads (choice_at x (type_of t.body)) x t s (feed s t) past ds l refl pl i h
-    (λ c m f d. fed_loads s t past d m (sits_left x (type_of t.body) s c i) (plain_below s pl) f)
+    (λ c m f d. fed_loads s t past d m (sits_left x (type_of t.body) s (leave_rule x (type_of t.body) c) i) (plain_below s pl) f)

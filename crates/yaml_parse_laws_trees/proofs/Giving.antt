@@ -15,9 +15,9 @@ use Rattle.yaml_parse_laws_trees.specs.parse_grammar.Remaining.{reading_of}
 use Rattle.yaml_parse_laws_trees.specs.SoundLaws.{TreeGoesOn, BeginsWithTree, bare, RefusedAt, RunsOut}
 use Rattle.yaml_parse_laws_trees.proofs.CompleteStream.{stream_runs, nothing_runs}
 use Rattle.yaml_parse_laws_trees.proofs.Left.{Over}
-use Rattle.yaml_parse_laws_trees.proofs.Closing.{closers, Empty, all_close}
+use Rattle.yaml_parse_laws_trees.proofs.Closing.{closers, Empty, all_close, closers_end}
 use Rattle.yaml_parse_laws_trees.proofs.Sound.{accepted_trees}
-use Rattle.yaml_parse_laws_trees.proofs.Refusal.{faults_stand}
+use Rattle.yaml_parse_laws_trees.proofs.Refusal.{faults_stand, not_none}
 use Rattle.yaml_parse_laws_trees.proofs.Spelling.{spelled_before}
 use Rattle.yaml_parse_laws_trees.proofs.FaultsStanding.{Last, nothing, last_of, told}
 use Rattle.yaml_parse_laws_trees.proofs.Taking.{stack_solid, Stops, stops_at_none}
@@ -26,7 +26,7 @@ use Rattle.yaml_parse_laws_trees.proofs.Turns.{items_given}
 use Rattle.yaml_parse_laws_trees.specs.Given.{IsLongest, LongestFront, first_items, events_of, events_of_front, events_at_next, but_last, EndsAt, last_leaves_open, has_fault, gives_no_more, GivesAt, GivesFront, BeginsWith, EventsOfTokens}
 use Rattle.yaml_parse_laws_trees.specs.GivenLaws.{events_run, HasFront, ListHasFront, EventsAreOne, RunGivesEvents, EventsAreRun, RunGivesLeast}
 use Rattle.yaml_parse_laws_trees.proofs.Walking.{raised, numbered, before, Knows, knows_step, takes_step, Unfinished, last_behind, Walked, walk}
-use Rattle.yaml_parse_laws_trees.proofs.Behind.{open_behind, front_open, GivesNone, none_given, OneMore, Alike, feed_alike, closed_top, closers_end}
+use Rattle.yaml_parse_laws_trees.proofs.Behind.{open_behind, front_open, GivesNone, none_given, OneMore, Alike, feed_alike, closed_top}
 use Rattle.yaml_parse_laws_trees.proofs.Counting.{front_items, token_items, none_from, but_one, any_ending, more_begin}
 
 -- ---- behind the front
@@ -67,9 +67,6 @@ here ts n l =
     in here_at l.front l.behind w.items w.stack w.knows w.runs w.goes w.unfinished
 
 -- ---- the token behind the front is refused
-
-not_none : (e : Fault) → Some e ≡ None → ⊥
-not_none e h = cc
 
 record StoppedAt (s : List State) (at : yaml_mark_t) (is : List RawEvent) : Type 0 where
   token : Token

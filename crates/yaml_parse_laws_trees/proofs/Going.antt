@@ -8,7 +8,7 @@ use Rattle.yaml_parse_laws_trees.specs.parse_grammar.declared.name.Wants.TheVari
 use Rattle.yaml_parse_laws_trees.specs.parse_grammar.declared.name.Site.TheVariants.{Root}
 use Rattle.yaml_parse_laws_trees.specs.parse_grammar.declared.name.Choice.{Choice}
 use Rattle.yaml_parse_laws_trees.specs.parse_grammar.declared.name.Choice.TheVariants.{Refuse, Take, Leave, Open}
-use Rattle.yaml_parse_laws_trees.specs.parse_grammar.Items.{RawEvent, Properties, item_at, properties_alone}
+use Rattle.yaml_parse_laws_trees.specs.parse_grammar.Items.{RawEvent, item_at}
 use Rattle.yaml_parse_laws_trees.specs.parse_grammar.Items as item
 use Rattle.yaml_parse_laws_trees.specs.parse_grammar.States.{State}
 use Rattle.yaml_parse_laws_trees.specs.parse_grammar.States as state
@@ -17,8 +17,8 @@ use Rattle.yaml_parse_laws_trees.specs.parse_grammar.Machine.{choice_at, taken_a
 use Rattle.yaml_parse_laws_trees.proofs.FaultsStanding.{Sign, signs_behind, open_in, asking, directive, other, last_of, last_in, told, Plain, Nested}
 use Rattle.yaml_parse_laws_trees.proofs.Refusing.{Tells, tells}
 use Rattle.yaml_parse_laws_trees.proofs.Keeping.{Kept, KeptInside, Ground, node_kept, inside_kept}
-use Rattle.yaml_parse_laws_trees.proofs.Stepping.{Within, at_end, deeper, within}
-use Rattle.yaml_parse_laws_trees.proofs.Properties.{PropsTop, node_props, taken_props}
+use Rattle.yaml_parse_laws_trees.proofs.Stepping.{Within, at_end, deeper, within, not_first}
+use Rattle.yaml_parse_laws_trees.proofs.Properties.{PropsTop, node_props, taken_props, tok}
 
 -- ---- the states
 
@@ -50,9 +50,6 @@ fed_with b at gs i (go is s) h = h
 stacked : (b : TokenBody) (at : yaml_mark_t) (gs : List Sign) (s : List State)
     → KeptInside b at gs s → Stacked b at gs s
 stacked b at gs s k = record { kept = k.kept; stack = inside_stack s k.inside }
-
-abbrev tok : TokenBody → yaml_mark_t → yaml_mark_t → Token
-tok b start end = record { body = b; start_mark = start; end_mark = end }
 
 lone : (b : TokenBody) (at : yaml_mark_t) (s : List State) → Kept b at [] s → IsStack s
     → Stacked b at [] s
@@ -128,9 +125,6 @@ given_kept : (b : TokenBody) (at : yaml_mark_t) (gs : List Sign) (i : Option Raw
     → FedKept b at gs (given_by (record { item = i; above = above }) s)
 given_kept b at gs None above s h = h
 given_kept b at gs (Some i) above s h = h
-
-not_first : (x : State) → x ≡ state.first → IsInner x → ⊥
-not_first x e h = subst IsInner e h
 
 inside_turn : (c : Choice) (x : State) (t : Token) (s : List State) (fed : Fed)
     → choice_at x (type_of t.body) ≡ c → Tells c x (open_in s) t.start_mark → IsInner x

@@ -1,5 +1,5 @@
 -- Taking a token inside a document: what is open, which token was last, and how the states stand.
-use Rattle.std.proofs.Common.{◌≡◌, Bool, true, false, if◌then◌else◌, ◌||◌, List, [], ◌∷◌, ◌++◌, Option, Some, None, refl, sym, subst}
+use Rattle.std.proofs.Common.{◌≡◌, true, false, ◌||◌, List, [], ◌∷◌, ◌++◌, Option, Some, None, refl, sym, subst}
 use Rattle.std.proofs.lemmas.List.{append_assoc}
 use Rattle.yaml_parse_laws_trees.specs.parse_grammar.parse_model.declared.yaml_mark_t.{yaml_mark_t}
 use Rattle.yaml_parse_laws_trees.specs.parse_grammar.parse_model.Tokens.{Token, TokenBody, type_of}
@@ -11,15 +11,16 @@ use Rattle.yaml_parse_laws_trees.specs.parse_grammar.declared.name.Brackets.{Bra
 use Rattle.yaml_parse_laws_trees.specs.parse_grammar.declared.name.Brackets.TheVariants as brackets
 use Rattle.yaml_parse_laws_trees.specs.parse_grammar.declared.name.Site.{Site}
 use Rattle.yaml_parse_laws_trees.specs.parse_grammar.declared.name.Site.TheVariants.{IndentlessEntry}
-use Rattle.yaml_parse_laws_trees.specs.parse_grammar.declared.name.Choice.TheVariants.{Refuse, Take, Leave}
-use Rattle.yaml_parse_laws_trees.specs.parse_grammar.declared.problem.ParseProblem.{ParseProblem}
+use Rattle.yaml_parse_laws_trees.specs.parse_grammar.declared.name.Choice.TheVariants.{Take}
 use Rattle.yaml_parse_laws_trees.specs.parse_grammar.Items.{Properties}
 use Rattle.yaml_parse_laws_trees.specs.parse_grammar.States.{State}
 use Rattle.yaml_parse_laws_trees.specs.parse_grammar.States as state
 use Rattle.yaml_parse_laws_trees.specs.parse_grammar.Stacks.{IsInner, IsInside}
-use Rattle.yaml_parse_laws_trees.specs.parse_grammar.Machine.{starts_content, starts_node, wants_of, follows, no_node, joins, choice_at, content_taken, node_taken, with_properties_taken, items_taken, more_taken, entries_taken, pairs_taken, lone_below, taken_at}
+use Rattle.yaml_parse_laws_trees.specs.parse_grammar.Machine.{starts_content, starts_node, wants_of, joins, choice_at, content_taken, node_taken, with_properties_taken, items_taken, more_taken, entries_taken, pairs_taken, lone_below, taken_at}
 use Rattle.yaml_parse_laws_trees.specs.LookBack.{is_directive, starts_document}
 use Rattle.yaml_parse_laws_trees.proofs.FaultsStanding.{Sign, signs_behind, open_in, bracketed, last_of, Plain, Topped, plain_topped, is_flow, Nested}
+use Rattle.yaml_parse_laws_trees.proofs.Rules.{take_rule, was_take}
+use Rattle.std.proofs.lemmas.Bool.{false≢true}
 
 -- the states behind a token, by what was open before it
 pub record Kept (b : TokenBody) (at : yaml_mark_t) (gs : List Sign) (s : List State) : Type 0 where
@@ -55,11 +56,11 @@ content_kept w p start end token.flow_mapping_start s c g = keep refl (refl, g.p
 content_kept (Block side) p start end token.block_sequence_start s c g = keep refl (refl, g.plain) (tt, g.nested) (tt, g.inside) refl refl
 content_kept (Block side) p start end token.block_mapping_start s c g = keep refl (refl, g.plain) (tt, g.nested) (tt, g.inside) refl refl
 content_kept (Block (Some side)) p start end token.block_entry s c g = keep refl (refl, (refl, g.plain)) (g.flow, (g.flow, g.nested)) (tt, (tt, g.inside)) refl refl
-content_kept Flow p start end token.block_sequence_start s c g = cc
-content_kept Flow p start end token.block_mapping_start s c g = cc
-content_kept Flow p start end token.block_entry s c g = cc
-content_kept (Block None) p start end token.block_entry s c g = cc
-content_kept w p start end _ s c g = cc
+content_kept Flow p start end token.block_sequence_start s c g = absurd (false≢true c)
+content_kept Flow p start end token.block_mapping_start s c g = absurd (false≢true c)
+content_kept Flow p start end token.block_entry s c g = absurd (false≢true c)
+content_kept (Block None) p start end token.block_entry s c g = absurd (false≢true c)
+content_kept w p start end _ s c g = absurd (false≢true c)
 
 pub node_kept : (w : Wants) (start end : yaml_mark_t) (b : TokenBody) (s : List State)
     → starts_node w (type_of b) ≡ true → Ground w s
@@ -105,16 +106,16 @@ items_kept brackets.Sequence o start end token.key s c p n i = keep refl (refl, 
 items_kept brackets.Mapping o start end token.key s c p n i = keep refl (refl, (refl, (refl, p))) (refl, (refl, (tt, n))) (tt, (tt, (tt, i))) refl refl
 items_kept brackets.Sequence o start end token.flow_sequence_end s c p n i = keep refl (plain_topped s p) n i refl refl
 items_kept brackets.Mapping o start end token.flow_mapping_end s c p n i = keep refl (plain_topped s p) n i refl refl
-items_kept brackets.Sequence o start end token.flow_mapping_end s c p n i = cc
-items_kept brackets.Mapping o start end token.flow_sequence_end s c p n i = cc
+items_kept brackets.Sequence o start end token.flow_mapping_end s c p n i = absurd (was_take _ c)
+items_kept brackets.Mapping o start end token.flow_sequence_end s c p n i = absurd (was_take _ c)
 items_kept bs o start end (token.alias name) s c p n i = lone_kept bs o start end (token.alias name) s refl p n i
 items_kept bs o start end (token.anchor name) s c p n i = lone_kept bs o start end (token.anchor name) s refl p n i
 items_kept bs o start end (token.tag handle suffix) s c p n i = lone_kept bs o start end (token.tag handle suffix) s refl p n i
 items_kept bs o start end (token.scalar value style) s c p n i = lone_kept bs o start end (token.scalar value style) s refl p n i
 items_kept bs o start end token.flow_sequence_start s c p n i = lone_kept bs o start end token.flow_sequence_start s refl p n i
 items_kept bs o start end token.flow_mapping_start s c p n i = lone_kept bs o start end token.flow_mapping_start s refl p n i
-items_kept brackets.Sequence o start end _ s c p n i = cc
-items_kept brackets.Mapping o start end _ s c p n i = cc
+items_kept brackets.Sequence o start end _ s c p n i = absurd (was_take _ c)
+items_kept brackets.Mapping o start end _ s c p n i = absurd (was_take _ c)
 
 more_kept : (bs : Brackets) (o start end : yaml_mark_t) (b : TokenBody) (s : List State)
     → choice_at (state.more bs o) (type_of b) ≡ Take → Plain s → Nested s → IsInside s
@@ -122,8 +123,8 @@ more_kept : (bs : Brackets) (o start end : yaml_mark_t) (b : TokenBody) (s : Lis
 more_kept bs o start end token.flow_entry s c p n i = keep refl (refl, p) (tt, n) (tt, i) refl refl
 more_kept brackets.Sequence o start end token.flow_sequence_end s c p n i = keep refl (plain_topped s p) n i refl refl
 more_kept brackets.Mapping o start end token.flow_mapping_end s c p n i = keep refl (plain_topped s p) n i refl refl
-more_kept brackets.Sequence o start end _ s c p n i = cc
-more_kept brackets.Mapping o start end _ s c p n i = cc
+more_kept brackets.Sequence o start end _ s c p n i = absurd (was_take _ c)
+more_kept brackets.Mapping o start end _ s c p n i = absurd (was_take _ c)
 
 -- ---- block collections
 
@@ -132,39 +133,29 @@ entries_kept : (o start end : yaml_mark_t) (b : TokenBody) (s : List State)
     → KeptInside b start (open_in (state.entries o ∷ s)) ((entries_taken o start end b).above ++ s)
 entries_kept o start end token.block_entry s c p n i = keep refl (refl, (refl, p)) (refl, (tt, n)) (tt, (tt, i)) refl refl
 entries_kept o start end token.block_end s c p n i = keep refl (plain_topped s p) n i refl refl
-entries_kept o start end _ s c p n i = cc
+entries_kept o start end _ s c p n i = absurd (was_take _ c)
 
 pairs_kept : (o start end : yaml_mark_t) (b : TokenBody) (s : List State)
     → choice_at (state.pairs o) (type_of b) ≡ Take → Plain s → Nested s → IsInside s
     → KeptInside b start (open_in (state.pairs o ∷ s)) ((pairs_taken o start end b).above ++ s)
 pairs_kept o start end token.key s c p n i = keep refl (refl, (refl, (refl, p))) (refl, (refl, (tt, n))) (tt, (tt, (tt, i))) refl refl
 pairs_kept o start end token.block_end s c p n i = keep refl (plain_topped s p) n i refl refl
-pairs_kept o start end _ s c p n i = cc
+pairs_kept o start end _ s c p n i = absurd (was_take _ c)
 
 others_kept : (side : Side) (start end : yaml_mark_t) (b : TokenBody) (s : List State)
     → choice_at (state.others side) (type_of b) ≡ Take → Ground (Block None) s
     → KeptInside b start (open_in s) (state.optional (IndentlessEntry side) end ∷ state.others side
     ∷ s)
 others_kept side start end token.block_entry s c g = keep refl (refl, (refl, g.plain)) (g.flow, (g.flow, g.nested)) (tt, (tt, g.inside)) refl refl
-others_kept side start end _ s c g = cc
+others_kept side start end _ s c g = absurd (was_take _ c)
 
 colon_kept : (place : Site) (start end : yaml_mark_t) (b : TokenBody) (s : List State)
     → choice_at (state.colon place) (type_of b) ≡ Take → Ground (wants_of place) s
     → KeptInside b start (open_in s) (state.optional place end ∷ s)
 colon_kept place start end token.value s c g = keep refl (refl, g.plain) (g.flow, g.nested) (tt, g.inside) refl refl
-colon_kept place start end _ s c g = cc
+colon_kept place start end _ s c g = absurd (was_take _ c)
 
 -- ---- each state
-
-taken_optional : (a b : Bool) (p : ParseProblem)
-    → (if a then Leave else if b then Take else Refuse p None) ≡ Take → b ≡ true
-taken_optional true b p h = cc
-taken_optional false true p h = refl
-taken_optional false false p h = cc
-
-taken_with_properties : (a : Bool) → (if a then Take else Leave) ≡ Take → a ≡ true
-taken_with_properties true h = refl
-taken_with_properties false h = cc
 
 ground : (w : Wants) (s : List State) → Plain s → Nested s → IsInside s
     → bracketed (open_in s) ≡ is_flow w → Ground w s
@@ -180,14 +171,14 @@ inside_kept (state.directives from) t s c h p n i = absurd h
 inside_kept state.document_end t s c h p n i = absurd h
 inside_kept (state.optional place before) t s c h p n i =
     node_kept (wants_of place) t.start_mark t.end_mark t.body s
-    (taken_optional (follows place (type_of t.body)) (starts_node (wants_of place) (type_of t.body)) (no_node (wants_of place)) c) (ground (wants_of place) s p n.1 i n.0)
+    (take_rule (state.optional place before) (type_of t.body) c) (ground (wants_of place) s p n.1 i n.0)
 inside_kept (state.entries o) t s c h p n i = entries_kept o t.start_mark t.end_mark t.body s c p n.1 i
 inside_kept (state.others side) t s c h p n i = others_kept side t.start_mark t.end_mark t.body s c (ground (Block None) s p n.1 i n.0)
 inside_kept (state.pairs o) t s c h p n i = pairs_kept o t.start_mark t.end_mark t.body s c p n.1 i
 inside_kept (state.colon place) t s c h p n i = colon_kept place t.start_mark t.end_mark t.body s c (ground (wants_of place) s p n.1 i n.0)
 inside_kept (state.with_properties w q) t s c h p n i =
-    with_properties_kept w q t.start_mark t.end_mark t.body s (taken_with_properties (joins q (type_of t.body) || starts_content w (type_of t.body)) c) (ground w s p n.1 i n.0)
+    with_properties_kept w q t.start_mark t.end_mark t.body s (take_rule (state.with_properties w q) (type_of t.body) c) (ground w s p n.1 i n.0)
 inside_kept (state.items bs o) t s c h p n i = items_kept bs o t.start_mark t.end_mark t.body s c p n.1 i
 inside_kept (state.more bs o) t s c h p n i = more_kept bs o t.start_mark t.end_mark t.body s c p n.1 i
-inside_kept state.pair_end t s c h p n i = cc
-inside_kept state.lone t s c h p n i = cc
+inside_kept state.pair_end t s c h p n i = absurd (was_take _ c)
+inside_kept state.lone t s c h p n i = absurd (was_take _ c)

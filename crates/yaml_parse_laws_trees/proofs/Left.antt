@@ -3,7 +3,6 @@ use Rattle.std.proofs.Common.{◌≡◌, ℕ, Bool, true, false, if◌then◌els
 use Rattle.std.proofs.lemmas.Bool.{false≢true}
 use Rattle.yaml_parse_laws_trees.specs.parse_grammar.parse_model.declared.yaml_mark_t.{yaml_mark_t}
 use Rattle.yaml_parse_laws_trees.specs.parse_grammar.parse_model.declared.yaml_token_type_t.{yaml_token_type_t}
-use Rattle.yaml_parse_laws_trees.specs.parse_grammar.parse_model.declared.yaml_token_type_t.TheVariants as kind
 use Rattle.yaml_parse_laws_trees.specs.parse_grammar.parse_model.Tokens.{Token, TokenBody, type_of}
 use Rattle.yaml_parse_laws_trees.specs.parse_grammar.parse_model.Tokens as token
 use Rattle.yaml_parse_laws_trees.specs.parse_grammar.declared.name.Wants.{Wants}
@@ -13,8 +12,7 @@ use Rattle.yaml_parse_laws_trees.specs.parse_grammar.declared.name.Brackets.{Bra
 use Rattle.yaml_parse_laws_trees.specs.parse_grammar.declared.name.Brackets.TheVariants as brackets
 use Rattle.yaml_parse_laws_trees.specs.parse_grammar.declared.name.Site.{Site}
 use Rattle.yaml_parse_laws_trees.specs.parse_grammar.declared.name.Site.TheVariants.{Root, IndentlessEntry}
-use Rattle.yaml_parse_laws_trees.specs.parse_grammar.declared.name.Choice.{Choice}
-use Rattle.yaml_parse_laws_trees.specs.parse_grammar.declared.name.Choice.TheVariants.{Refuse, Take, Leave, Open}
+use Rattle.yaml_parse_laws_trees.specs.parse_grammar.declared.name.Choice.TheVariants.{Refuse, Take, Open}
 use Rattle.yaml_parse_laws_trees.specs.parse_grammar.declared.problem.ParseProblem.{ParseProblem}
 use Rattle.yaml_parse_laws_trees.specs.parse_grammar.declared.problem.ParseProblem.TheVariants as problem
 use Rattle.yaml_parse_laws_trees.specs.parse_grammar.Items.{Properties, Tag}
@@ -22,8 +20,9 @@ use Rattle.yaml_parse_laws_trees.specs.parse_grammar.States.{State}
 use Rattle.yaml_parse_laws_trees.specs.parse_grammar.States as state
 use Rattle.yaml_parse_laws_trees.specs.parse_grammar.Trees.{Span, token_at, AnchorToken, TagToken, anchor_token, tag_token, PropertyTokens, spell_properties, Node, Content, Maybe, Colon, Items, More, Entries, Others, Pairs, Directive, Documents, First, Stream, spell_node, spell_content, spell_maybe, spell_colon, spell_items, spell_more, spell_entries, spell_others, spell_pairs, spell_directives, spell_ends, spell_documents, spell_first, spell}
 use Rattle.yaml_parse_laws_trees.specs.parse_grammar.Trees as tree
-use Rattle.yaml_parse_laws_trees.specs.parse_grammar.Machine.{starts_content, starts_node, wants_of, closes, parts_documents, follows, no_node, no_end, joins, choice_at, documents_taken, content_taken, node_taken, with_properties_taken, items_taken, more_taken, entries_taken, pairs_taken, stream_taken, lone_below, taken_at}
+use Rattle.yaml_parse_laws_trees.specs.parse_grammar.Machine.{starts_content, starts_node, wants_of, parts_documents, joins, choice_at, documents_taken, content_taken, node_taken, with_properties_taken, items_taken, more_taken, entries_taken, pairs_taken, stream_taken, lone_below, taken_at}
 use Rattle.yaml_parse_laws_trees.proofs.Single.{opens_node}
+use Rattle.yaml_parse_laws_trees.proofs.Rules.{MayLeave, take_rule, opens_first, was_take}
 
 -- tokens that a tree of a kind spells, in front of others
 pub record Spelled (T : Type 0) (spelling : T → List Token → List Token) (P : List Token → Type 0) (ts : List Token) : Type 0 where
@@ -84,41 +83,7 @@ pub over_both : (xs ys : List State) (P : List Token → Type 0)
 over_both [] ys P = refl
 over_both (x ∷ xs) ys P = ap (Left x) (over_both xs ys P)
 
--- ---- what can't be: each arm for a token of another kind is answered by computing
-
-abbrev pub IsTake : Choice → Type 0
-IsTake Take = Unit {0}
-IsTake _ = ⊥
-
-pub was_take : (x : Choice) → x ≡ Take → IsTake x
-was_take x e = subst IsTake (sym e) tt
-
-abbrev pub IsLeave : Choice → Type 0
-IsLeave Leave = Unit {0}
-IsLeave _ = ⊥
-
-pub was_leave : (x : Choice) → x ≡ Leave → IsLeave x
-was_leave x e = subst IsLeave (sym e) tt
-
-abbrev pub IsOpen : Choice → Type 0
-IsOpen Open = Unit {0}
-IsOpen _ = ⊥
-
-pub was_open : (x : Choice) → x ≡ Open → IsOpen x
-was_open x e = subst IsOpen (sym e) tt
-
 -- ---- a state that leaves waits for nothing
-
-pub not_left : (a : Bool) (p : ParseProblem) (o : Option yaml_mark_t)
-    → (if a then Take else Refuse p o) ≡ Leave → ⊥
-not_left true p o h = cc
-not_left false p o h = cc
-
-pub not_left_first : (a b : Bool) (p : ParseProblem)
-    → (if a then Take else if b then Open else Refuse p None) ≡ Leave → ⊥
-not_left_first true b p h = cc
-not_left_first false true p h = cc
-not_left_first false false p h = cc
 
 pub properties_alone : (w : Wants) (anchor : Option (List ℕ)) (tag : Option Tag)
     (P : List Token → Type 0) (ts : List Token) → P ts → WithPropertiesLeft w anchor tag P ts
@@ -127,32 +92,16 @@ properties_alone w None (Some t) P ts h = λ x. record { tree = tree.only_proper
 properties_alone w (Some a) (Some t) P ts h = λ d. record { tree = tree.only_properties d; rest = ts; same = refl; goes = h }
 properties_alone w None None P ts h = tt
 
-pub leaving : (x : State) (k : yaml_token_type_t) → choice_at x k ≡ Leave
-    → (P : List Token → Type 0) (ts : List Token) → P ts → Left x P ts
-leaving state.stream kind.YAML_STREAM_START_TOKEN c P ts h = absurd (was_leave _ c)
-leaving state.stream _ c P ts h = absurd (was_leave _ c)
-leaving state.first k c P ts h = absurd (not_left_first (parts_documents k) (starts_node (Block None) k) problem.NoBlockNode c)
-leaving state.documents kind.YAML_DOCUMENT_END_TOKEN c P ts h = absurd (was_leave _ c)
-leaving state.documents k c P ts h = absurd (not_left (parts_documents k) problem.NoDocumentStart None c)
-leaving (state.directives from) kind.YAML_STREAM_END_TOKEN c P ts h = absurd (was_leave _ c)
-leaving (state.directives from) k c P ts h = absurd (not_left (parts_documents k) problem.NoDocumentStart None c)
-leaving (state.entries o) kind.YAML_BLOCK_ENTRY_TOKEN c P ts h = absurd (was_leave _ c)
-leaving (state.entries o) kind.YAML_BLOCK_END_TOKEN c P ts h = absurd (was_leave _ c)
-leaving (state.entries o) _ c P ts h = absurd (was_leave _ c)
-leaving (state.pairs o) kind.YAML_KEY_TOKEN c P ts h = absurd (was_leave _ c)
-leaving (state.pairs o) kind.YAML_BLOCK_END_TOKEN c P ts h = absurd (was_leave _ c)
-leaving (state.pairs o) _ c P ts h = absurd (was_leave _ c)
-leaving (state.items b o) kind.YAML_KEY_TOKEN c P ts h = absurd (was_leave _ c)
-leaving (state.items b o) k c P ts h = absurd (not_left (closes b k || starts_node Flow k) problem.NoFlowNode None c)
-leaving (state.more b o) kind.YAML_FLOW_ENTRY_TOKEN c P ts h = absurd (was_leave _ c)
-leaving (state.more b o) k c P ts h = absurd (not_left (closes b k) (no_end b) (Some o) c)
-leaving (state.optional place before) k c P ts h = record { tree = tree.left_out; rest = ts; same = refl; goes = h }
-leaving state.document_end k c P ts h = record { tree = None; rest = ts; same = refl; goes = h }
-leaving (state.others side) k c P ts h = record { tree = tree.no_others; rest = ts; same = refl; goes = h }
-leaving (state.colon place) k c P ts h = record { tree = tree.no_colon; rest = ts; same = refl; goes = h }
-leaving (state.with_properties w p) k c P ts h = properties_alone w p.anchor p.tag P ts h
-leaving state.pair_end k c P ts h = h
-leaving state.lone k c P ts h = h
+pub leaving : (x : State) (k : yaml_token_type_t) → MayLeave x k → (P : List Token → Type 0)
+    (ts : List Token) → P ts → Left x P ts
+leaving (state.optional place before) k l P ts h = record { tree = tree.left_out; rest = ts; same = refl; goes = h }
+leaving state.document_end k l P ts h = record { tree = None; rest = ts; same = refl; goes = h }
+leaving (state.others side) k l P ts h = record { tree = tree.no_others; rest = ts; same = refl; goes = h }
+leaving (state.colon place) k l P ts h = record { tree = tree.no_colon; rest = ts; same = refl; goes = h }
+leaving (state.with_properties w p) k l P ts h = properties_alone w p.anchor p.tag P ts h
+leaving state.pair_end k l P ts h = h
+leaving state.lone k l P ts h = h
+leaving _ k l P ts h = absurd l
 
 -- ---- taking a node's first token
 
@@ -350,19 +299,9 @@ stream_left start end _ c P ts h = absurd (was_take _ c)
 
 -- ---- taking a token inside a document
 
-taken_optional : (a b : Bool) (p : ParseProblem)
-    → (if a then Leave else if b then Take else Refuse p None) ≡ Take → b ≡ true
-taken_optional true b p h = cc
-taken_optional false true p h = refl
-taken_optional false false p h = cc
-
 maybe_left : (w : Wants) (P : List Token → Type 0) (ts : List Token)
     → Spelled (Node w) spell_node P ts → Spelled (Maybe w) spell_maybe P ts
 maybe_left w P ts h = record { tree = tree.there h.tree; rest = h.rest; same = h.same; goes = h.goes }
-
-taken_with_properties : (a : Bool) → (if a then Take else Leave) ≡ Take → a ≡ true
-taken_with_properties true h = refl
-taken_with_properties false h = cc
 
 entries_left : (o start end : yaml_mark_t) (b : TokenBody)
     → choice_at (state.entries o) (type_of b) ≡ Take
@@ -492,64 +431,18 @@ taking (state.directives from) t c P ts h = opening_left from t.start_mark t.end
 taking (state.optional place before) t c P ts h =
     maybe_left (wants_of place) P _
     (node_left (wants_of place) t.start_mark t.end_mark t.body
-    (taken_optional (follows place (type_of t.body)) (starts_node (wants_of place) (type_of t.body)) (no_node (wants_of place)) c) P ts h)
+    (take_rule (state.optional place before) (type_of t.body) c) P ts h)
 taking state.document_end t c P ts h = end_left t.start_mark t.end_mark t.body c P ts h
 taking (state.entries o) t c P ts h = entries_left o t.start_mark t.end_mark t.body c P ts h
 taking (state.others side) t c P ts h = others_left side t.start_mark t.end_mark t.body c P ts h
 taking (state.pairs o) t c P ts h = pairs_left o t.start_mark t.end_mark t.body c P ts h
 taking (state.colon place) t c P ts h = colon_left place t.start_mark t.end_mark t.body c P ts h
 taking (state.with_properties w p) t c P ts h =
-    with_properties_left w p.anchor p.tag p.from p.to t.start_mark t.end_mark t.body (taken_with_properties (joins p (type_of t.body) || starts_content w (type_of t.body)) c) P ts h
+    with_properties_left w p.anchor p.tag p.from p.to t.start_mark t.end_mark t.body (take_rule (state.with_properties w p) (type_of t.body) c) P ts h
 taking (state.items b o) t c P ts h = items_left b o t.start_mark t.end_mark t.body c P ts h
 taking (state.more b o) t c P ts h = more_left b o t.start_mark t.end_mark t.body c P ts h
 taking state.pair_end t c P ts h = absurd (was_take _ c)
 taking state.lone t c P ts h = absurd (was_take _ c)
-
--- ---- a document opens at the first state alone
-
-take_or_refuse : (b : Bool) (p : ParseProblem) (o : Option yaml_mark_t)
-    → (if b then Take else Refuse p o) ≡ Open → ⊥
-take_or_refuse true p o h = cc
-take_or_refuse false p o h = cc
-
-take_or_leave : (b : Bool) → (if b then Take else Leave) ≡ Open → ⊥
-take_or_leave true h = cc
-take_or_leave false h = cc
-
-leave_or : (a b : Bool) (p : ParseProblem)
-    → (if a then Leave else if b then Take else Refuse p None) ≡ Open → ⊥
-leave_or true b p h = cc
-leave_or false true p h = cc
-leave_or false false p h = cc
-
-opens_first : (x : State) (k : yaml_token_type_t) → choice_at x k ≡ Open → x ≡ state.first
-opens_first state.stream kind.YAML_STREAM_START_TOKEN h = absurd (was_open _ h)
-opens_first state.stream _ h = absurd (was_open _ h)
-opens_first state.first k h = refl
-opens_first state.documents kind.YAML_DOCUMENT_END_TOKEN h = absurd (was_open _ h)
-opens_first state.documents k h = absurd (take_or_refuse (parts_documents k) problem.NoDocumentStart None h)
-opens_first (state.directives from) kind.YAML_STREAM_END_TOKEN h = absurd (was_open _ h)
-opens_first (state.directives from) k h = absurd (take_or_refuse (parts_documents k) problem.NoDocumentStart None h)
-opens_first (state.optional place before) k h = absurd (leave_or (follows place k) (starts_node (wants_of place) k) (no_node (wants_of place)) h)
-opens_first state.document_end kind.YAML_DOCUMENT_END_TOKEN h = absurd (was_open _ h)
-opens_first state.document_end _ h = absurd (was_open _ h)
-opens_first (state.entries o) kind.YAML_BLOCK_ENTRY_TOKEN h = absurd (was_open _ h)
-opens_first (state.entries o) kind.YAML_BLOCK_END_TOKEN h = absurd (was_open _ h)
-opens_first (state.entries o) _ h = absurd (was_open _ h)
-opens_first (state.others side) kind.YAML_BLOCK_ENTRY_TOKEN h = absurd (was_open _ h)
-opens_first (state.others side) _ h = absurd (was_open _ h)
-opens_first (state.pairs o) kind.YAML_KEY_TOKEN h = absurd (was_open _ h)
-opens_first (state.pairs o) kind.YAML_BLOCK_END_TOKEN h = absurd (was_open _ h)
-opens_first (state.pairs o) _ h = absurd (was_open _ h)
-opens_first (state.colon place) kind.YAML_VALUE_TOKEN h = absurd (was_open _ h)
-opens_first (state.colon place) _ h = absurd (was_open _ h)
-opens_first (state.with_properties w p) k h = absurd (take_or_leave (joins p k || starts_content w k) h)
-opens_first (state.items b o) kind.YAML_KEY_TOKEN h = absurd (was_open _ h)
-opens_first (state.items b o) k h = absurd (take_or_refuse (closes b k || starts_node Flow k) problem.NoFlowNode None h)
-opens_first (state.more b o) kind.YAML_FLOW_ENTRY_TOKEN h = absurd (was_open _ h)
-opens_first (state.more b o) k h = absurd (take_or_refuse (closes b k) (no_end b) (Some o) h)
-opens_first state.pair_end k h = absurd (was_open _ h)
-opens_first state.lone k h = absurd (was_open _ h)
 
 -- The same of a state at which a document opens.
 pub opening : (x : State) (t : Token) → choice_at x (type_of t.body) ≡ Open

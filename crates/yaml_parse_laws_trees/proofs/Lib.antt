@@ -3,6 +3,7 @@ pub mod SoFar
 pub mod Turns
 mod CountsFirst
 pub mod CountsUnique
+pub mod Rules
 pub mod Left
 pub mod Sound
 pub mod SoundStanding

@@ -13,13 +13,13 @@ use Rattle.yaml_parse_laws_trees.proofs.CompleteStream.{nothing_runs}
 use Rattle.yaml_parse_laws_trees.specs.LookBack.{followed_by}
 use Rattle.yaml_parse_laws_trees.specs.Wrong.{handle_fault}
 use Rattle.yaml_parse_laws_trees.specs.Places.{directive, StandsIn, with_end, FaultOfTokens}
-use Rattle.yaml_parse_laws_trees.proofs.Cuts.{Reaches, reaches, followed_on}
+use Rattle.yaml_parse_laws_trees.proofs.Cuts.{Reaches, reaches, followed_on, head_same}
 use Rattle.yaml_parse_laws_trees.proofs.Settling.{Done, bad, fine, read_all}
 use Rattle.yaml_parse_laws_trees.proofs.Stepping.{StepRead}
 use Rattle.yaml_parse_laws_trees.proofs.Tagging.{Step}
 use Rattle.yaml_parse_laws_trees.proofs.Taking.{stack_solid, Stops, stops_at_none, ending_of}
 use Rattle.yaml_parse_laws_trees.proofs.Clean.{Clean, Unfinished, FirstAt, no_fault, free, no_whole_sentence}
-use Rattle.yaml_parse_laws_trees.proofs.Ending.{At, at_start, step_at, Found, found_handle, found_token, found_first, stopped, taken_goes, taken_on, taken_at, sentence_tree, runs_fed, runs_out, ends_in_fault}
+use Rattle.yaml_parse_laws_trees.proofs.Ending.{At, at_start, step_at, Found, found_handle, found_token, found_first, stopped, taken_goes, taken_on, taken_at, sentence_tree, runs_fed, runs_out, ends_in_fault, no_stop}
 use Rattle.yaml_parse_loader.specs.Loading.{Loading, nothing_loaded}
 use Rattle.yaml_parse_laws_trees.specs.Aliases.{alias_fault}
 use Rattle.yaml_parse_laws_trees.specs.Faults.{IsFirstIn, IsLoadable, FaultOfLoading}
@@ -67,9 +67,6 @@ found_last past o a u d =
     }))
 
 -- ---- an alias without an anchor
-
-head_same : (a b : Token) (x y : List Token) → a ∷ x ≡ b ∷ y → a ≡ b
-head_same a b x y h = cc
 
 alias_found : (past : List Token) (t : Token) (ts : List Token) (f o : Option Fault) (e : Fault)
     → Clean (t ∷ past) → Anchored past → Unfinished past
@@ -199,9 +196,6 @@ stepped x s past ds l t ts f (go is s') (Some g) a n p q r j k =
     (go_ends is s' (length ts) (λ s'. run ts s' f) ds l ∙ bad_ends past t (read_all is ds) (load_items is ds l) s' g (λ d m. ends_in (reading_of (run ts s' f) d) m) r j))
 stepped x s past ds l t ts f (go is s') None a n p q r j k =
     loads_same (followed_by past (t ∷ ts)) f _ _ (go_ends is s' (length ts) (λ s'. run ts s' f) ds l) (gone x s s' past ds t ts is f (read_all is ds) (load_items is ds l) a n p q r j k)
-
-no_stop : (is : List RawEvent) (s : List State) → Stops (go is s) → ⊥
-no_stop is s h = h
 
 at_last : (x : State) (s : List State) (past : List Token) (ds : Directives) (l : Loading)
     (fed : Fed) → At x s past ds → Anchored past → feed (x ∷ s) no_token ≡ fed

@@ -21,36 +21,24 @@ use Rattle.yaml_parse_laws_trees.specs.parse_grammar.declared.name.Brackets.{Bra
 use Rattle.yaml_parse_laws_trees.specs.parse_grammar.declared.name.Brackets.TheVariants as brackets
 use Rattle.yaml_parse_laws_trees.specs.parse_grammar.declared.name.Site.{Site}
 use Rattle.yaml_parse_laws_trees.specs.parse_grammar.declared.name.Site.TheVariants.{Root, Entry, IndentlessEntry, BlockPair, FlowPair}
-use Rattle.yaml_parse_laws_trees.specs.parse_grammar.declared.name.Choice.{Choice}
 use Rattle.yaml_parse_laws_trees.specs.parse_grammar.declared.name.Choice.TheVariants.{Refuse, Take, Leave}
 use Rattle.yaml_parse_laws_trees.specs.parse_grammar.declared.problem.ParseProblem.{ParseProblem}
 use Rattle.yaml_parse_laws_trees.specs.parse_grammar.declared.problem.ParseProblem.TheVariants as problem
 use Rattle.yaml_parse_laws_trees.specs.parse_grammar.Items.{RawEvent, Properties, Tag, Shape, item_at, node_at}
 use Rattle.yaml_parse_laws_trees.specs.parse_grammar.Items as item
-use Rattle.yaml_parse_laws_trees.specs.parse_grammar.States.{State, Taken}
+use Rattle.yaml_parse_laws_trees.specs.parse_grammar.States.{State}
 use Rattle.yaml_parse_laws_trees.specs.parse_grammar.States as state
 use Rattle.yaml_parse_laws_trees.specs.parse_grammar.Trees.{flow_shape, event_at}
-use Rattle.yaml_parse_laws_trees.specs.parse_grammar.Machine.{starts_content, starts_node, wants_of, follows, no_node, choice_at, taken, documents_taken, content_taken, node_taken, with_properties_taken, items_taken, more_taken, entries_taken, pairs_taken, stream_taken, lone_below, taken_at, tag_at, Fed, go, given_by}
-use Rattle.yaml_parse_laws_trees.specs.parse_grammar.Resolve.{Directives, Settled, noted, with_version, with_tag, directive_for, is_known_version}
+use Rattle.yaml_parse_laws_trees.specs.parse_grammar.Machine.{starts_content, starts_node, wants_of, choice_at, taken, documents_taken, content_taken, node_taken, with_properties_taken, items_taken, more_taken, entries_taken, pairs_taken, stream_taken, lone_below, taken_at, tag_at, Fed, go, given_by}
+use Rattle.yaml_parse_laws_trees.specs.parse_grammar.Resolve.{Directives, noted, with_version, with_tag, directive_for, is_known_version}
 use Rattle.yaml_parse_laws_trees.specs.parse_grammar.Resolve as resolve
 use Rattle.yaml_parse_laws_trees.proofs.FaultsStanding.{Plain}
 use Rattle.yaml_parse_loader.specs.Loading.{Loading, nothing_loaded, started, aliased}
 use Rattle.yaml_parse_laws_trees.specs.Aliases.{has_anchor, undefined, alias_fault}
 use Rattle.yaml_parse_laws_trees.proofs.Faring.{onward, then_fed}
 use Rattle.yaml_parse_laws_trees.proofs.Fitting.{known, Rooted, is_named, Owes, Names, Held, held, NoneNamed, Fits, fits_below, Added, added_names, Passes, node_passes, anchor_in, placed_passes, closed_fits, whole, FedLoads, AtAlias, loads_on, loads_given}
-
-abbrev tok : TokenBody → yaml_mark_t → yaml_mark_t → Token
-tok b start end = record { body = b; start_mark = start; end_mark = end }
-
--- ---- what can't be
-
-abbrev IsTake : Choice → Type 0
-IsTake Take = Unit {0}
-IsTake _ = ⊥
-
--- each arm for a token that the state doesn't take is answered by computing
-was_take : (x : Choice) → x ≡ Take → IsTake x
-was_take x e = subst IsTake (sym e) tt
+use Rattle.yaml_parse_laws_trees.proofs.Rules.{take_rule, was_take}
+use Rattle.yaml_parse_laws_trees.proofs.Properties.{tok}
 
 -- ---- nodes
 
@@ -357,12 +345,6 @@ more_loads brackets.Mapping o start end _ s past ds l c pl h = absurd (was_take 
 
 -- ---- each state
 
-not_left_out : (a b : Bool) (p : ParseProblem)
-    → (if a then Leave else if b then Take else Refuse p None) ≡ Take → b ≡ true
-not_left_out true b p h = cc
-not_left_out false true p h = refl
-not_left_out false false p h = cc
-
 -- between documents one state stands alone, and the end of one stands above the documents behind it
 abbrev pub SitsAt : State → List State → Type 0 → Type 0
 SitsAt state.stream s below = s ≡ []
@@ -381,7 +363,7 @@ taken_loads state.first t s past ds l A c pl i h = first_loads t.start_mark t.en
 taken_loads state.documents t s past ds l A c pl i h = documents_loads t.start_mark t.end_mark t.body s past ds l c i
 taken_loads (state.directives from) t s past ds l A c pl i h = directives_loads from t.start_mark t.end_mark t.body s past ds l c i
 taken_loads (state.optional place before) t s past ds l A c pl i h =
-    node_loads (wants_of place) t.start_mark t.end_mark t.body s past ds l (not_left_out (follows place (type_of t.body)) (starts_node (wants_of place) (type_of t.body)) (no_node (wants_of place)) c) pl h.0 h.1
+    node_loads (wants_of place) t.start_mark t.end_mark t.body s past ds l (take_rule (state.optional place before) (type_of t.body) c) pl h.0 h.1
 taken_loads state.document_end t s past ds l A c pl i h = end_loads t.start_mark t.end_mark t.body s past ds l c i h
 taken_loads (state.entries o) t s past ds l A c pl i h = entries_loads o t.start_mark t.end_mark t.body s past ds l c pl h
 taken_loads (state.others side) t s past ds l A c pl i h = others_loads t.start_mark t.end_mark t.body side s past ds l c h

@@ -1,11 +1,11 @@
 -- The first fault of a list, where nothing is wrong with the tokens that were read.
-use Rattle.std.proofs.Common.{◌≡◌, ◌⊎◌, inl, inr, ℕ, ◌<◌, ◌+◌, List, [], ◌∷◌, length, Option, Some, None, refl, ap, sym, subst, ◌∙◌, arith}
+use Rattle.std.proofs.Common.{◌≡◌, ◌⊎◌, inl, inr, ℕ, ◌<◌, ◌+◌, List, [], ◌∷◌, length, Some, None, refl, ap, sym, subst, ◌∙◌, arith}
 use Rattle.std.proofs.lemmas.Bool.{cases_order}
 use Rattle.yaml_parse_laws_trees.specs.parse_grammar.parse_model.Tokens.{Token}
 use Rattle.yaml_parse_laws_trees.specs.parse_grammar.parse_model.Faults.{Fault}
 use Rattle.yaml_parse_laws_trees.specs.LookBack.{followed_by}
-use Rattle.yaml_parse_laws_trees.proofs.Cuts.{SameCut, same_cut, followed_length}
-use Rattle.yaml_parse_laws_trees.proofs.Clean.{Clean, none_earlier, FirstAt}
+use Rattle.yaml_parse_laws_trees.proofs.Cuts.{SameCut, same_cut, followed_length, head_same}
+use Rattle.yaml_parse_laws_trees.proofs.Clean.{Clean, none_earlier, FirstAt, some_none}
 use Rattle.yaml_parse_laws_trees.specs.Aliases.{alias_fault}
 use Rattle.yaml_parse_laws_trees.specs.Faults.{LoadRank, of_parser, of_alias, LoadRanksBefore, LoadFaultAt, IsFirstIn, IsLoadable}
 
@@ -13,12 +13,6 @@ use Rattle.yaml_parse_laws_trees.specs.Faults.{LoadRank, of_parser, of_alias, Lo
 abbrev pub Anchored : List Token → Type 0
 Anchored [] = Unit {0}
 Anchored (t ∷ past) = (alias_fault past t.body t.start_mark ≡ None) × Anchored past
-
-some_none : (o : Option Fault) (e : Fault) → o ≡ None → o ≡ Some e → ⊥
-some_none o e p q = cc
-
-head_same : (a b : Token) (x y : List Token) → a ∷ x ≡ b ∷ y → a ≡ b
-head_same a b x y h = cc
 
 anchored_cut : (past us other : List Token) (t : Token) (behind : List Token)
     → followed_by past us ≡ followed_by other (t ∷ behind) → length other < length past

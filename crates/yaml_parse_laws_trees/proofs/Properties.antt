@@ -1,5 +1,5 @@
 -- The properties that a state holds are the last tokens.
-use Rattle.std.proofs.Common.{◌≡◌, ℕ, Bool, true, false, if◌then◌else◌, ◌||◌, List, [], ◌∷◌, ◌++◌, Option, Some, None, refl, sym, subst, ◌∙◌}
+use Rattle.std.proofs.Common.{◌≡◌, ℕ, true, false, ◌||◌, List, [], ◌∷◌, ◌++◌, Option, Some, None, refl, sym, subst, ◌∙◌}
 use Rattle.std.proofs.lemmas.List.{append_assoc}
 use Rattle.yaml_parse_laws_trees.specs.parse_grammar.parse_model.declared.yaml_mark_t.{yaml_mark_t}
 use Rattle.yaml_parse_laws_trees.specs.parse_grammar.parse_model.Tokens.{Token, TokenBody, type_of}
@@ -9,7 +9,7 @@ use Rattle.yaml_parse_laws_trees.specs.parse_grammar.declared.name.Wants.{Wants}
 use Rattle.yaml_parse_laws_trees.specs.parse_grammar.declared.name.Wants.TheVariants.{Flow, Block}
 use Rattle.yaml_parse_laws_trees.specs.parse_grammar.declared.name.Brackets.{Brackets}
 use Rattle.yaml_parse_laws_trees.specs.parse_grammar.declared.name.Brackets.TheVariants as brackets
-use Rattle.yaml_parse_laws_trees.specs.parse_grammar.declared.name.Choice.TheVariants.{Take, Leave}
+use Rattle.yaml_parse_laws_trees.specs.parse_grammar.declared.name.Choice.TheVariants.{Take}
 use Rattle.yaml_parse_laws_trees.specs.parse_grammar.Items.{RawEvent, Properties, Tag, Shape, item_at}
 use Rattle.yaml_parse_laws_trees.specs.parse_grammar.Items as item
 use Rattle.yaml_parse_laws_trees.specs.parse_grammar.States.{State}
@@ -20,6 +20,8 @@ use Rattle.yaml_parse_laws_trees.specs.LookBack.{NodeTag, ended_tag, tag_behind,
 use Rattle.yaml_parse_laws_trees.specs.Wrong.{tag_fault}
 use Rattle.yaml_parse_laws_trees.proofs.FaultsStanding.{asking, property, other, last_of, last_in, told, Plain}
 use Rattle.yaml_parse_laws_trees.proofs.Settling.{Done, then_read, by_fault, tag_in, resolved_done, prefix_known, Agree}
+use Rattle.yaml_parse_laws_trees.proofs.Rules.{take_rule}
+use Rattle.std.proofs.lemmas.Bool.{false≢true, true≢false}
 
 -- ---- the tag among the last tokens
 
@@ -31,7 +33,7 @@ abbrev waiting : NodeTag → TokenBody → Option NodeTag
 waiting n (token.anchor name) = None
 waiting n _ = Some n
 
-abbrev tok : TokenBody → yaml_mark_t → yaml_mark_t → Token
+abbrev pub tok : TokenBody → yaml_mark_t → yaml_mark_t → Token
 tok b start end = record { body = b; start_mark = start; end_mark = end }
 
 abbrev pub PropsOf : Option (List ℕ) → Option Tag → yaml_mark_t → List Token → Type 0
@@ -52,7 +54,7 @@ pub ended : (anchor : Option (List ℕ)) (tag : Option Tag) (from to : yaml_mark
     → joins (record { anchor = anchor; tag = tag; from = from; to = to }) (type_of b) ≡ false
     → ended_tag past b ≡ tag_in (record { anchor = anchor; tag = tag; from = from; to = to })
 ended (Some a) None from to past b h j = h.0 b
-ended None (Some t) from to past (token.anchor name) h j = cc
+ended None (Some t) from to past (token.anchor name) h j = absurd (true≢false j)
 ended None (Some t) from to past b h j = h.0 b
 ended (Some a) (Some t) from to past b h j = h b
 ended None None from to past b h j = absurd h
@@ -63,11 +65,11 @@ pub joined : (anchor : Option (List ℕ)) (tag : Option Tag) (from to : yaml_mar
     → ended_tag past b ≡ None
 joined (Some a) None from to past b h j = h.0 b
 joined None (Some t) from to past (token.anchor name) h j = h.0 (token.anchor name)
-joined None (Some t) from to past (token.tag handle suffix) h j = cc
-joined None (Some t) from to past _ h j = cc
-joined (Some a) (Some t) from to past (token.anchor name) h j = cc
-joined (Some a) (Some t) from to past (token.tag handle suffix) h j = cc
-joined (Some a) (Some t) from to past _ h j = cc
+joined None (Some t) from to past (token.tag handle suffix) h j = absurd (false≢true j)
+joined None (Some t) from to past _ h j = absurd (false≢true j)
+joined (Some a) (Some t) from to past (token.anchor name) h j = absurd (false≢true j)
+joined (Some a) (Some t) from to past (token.tag handle suffix) h j = absurd (false≢true j)
+joined (Some a) (Some t) from to past _ h j = absurd (false≢true j)
 joined None None from to past b h j = absurd h
 
 -- ---- a property is taken
@@ -130,15 +132,11 @@ with_properties_props : (w : Wants) (anchor : Option (List ℕ)) (tag : Option T
     (tok b start end ∷ past)
 with_properties_props w None None from to start end b s past c h k = absurd k
 with_properties_props w None (Some t) from to start end (token.anchor name) s past c h k = k.1 name start end
-with_properties_props w (Some a) tag from to start end (token.anchor name) s past c h k = cc
+with_properties_props w (Some a) tag from to start end (token.anchor name) s past c h k = absurd (false≢true c)
 with_properties_props w (Some a) None from to start end (token.tag handle suffix) s past c h k = k.1 handle suffix start end
-with_properties_props w anchor (Some t) from to start end (token.tag handle suffix) s past c h k = cc
+with_properties_props w anchor (Some t) from to start end (token.tag handle suffix) s past c h k = absurd (false≢true c)
 with_properties_props w anchor tag from to start end b s past c h k =
     content_props w (Some (record { anchor = anchor; tag = tag; from = from; to = to })) start end b s (tok b start end ∷ past) h
-
-taken_with_properties : (a : Bool) → (if a then Take else Leave) ≡ Take → a ≡ true
-taken_with_properties true h = refl
-taken_with_properties false h = cc
 
 lone_plain : (bs : Brackets) (o : yaml_mark_t) (s : List State) → Plain s
     → Plain (lone_below bs (state.more bs o ∷ []) ++ s)
@@ -196,7 +194,7 @@ taken_props (state.others side) t s past c h e k = tt
 taken_props (state.pairs o) t s past c h e k = pairs_props o t.start_mark t.end_mark t.body s (t ∷ past) h
 taken_props (state.colon place) t s past c h e k = tt
 taken_props (state.with_properties w p) t s past c h e k =
-    with_properties_props w p.anchor p.tag p.from p.to t.start_mark t.end_mark t.body s past (taken_with_properties (joins p (type_of t.body) || starts_content w (type_of t.body)) c) h k
+    with_properties_props w p.anchor p.tag p.from p.to t.start_mark t.end_mark t.body s past (take_rule (state.with_properties w p) (type_of t.body) c) h k
 taken_props (state.items bs o) t s past c h e k = items_props bs o t.start_mark t.end_mark t.body s past h (e refl)
 taken_props (state.more bs o) t s past c h e k = more_props bs o t.start_mark t.end_mark t.body s (t ∷ past) h
 taken_props state.pair_end t s past c h e k = tt
@@ -236,8 +234,8 @@ content_read w p start end token.flow_mapping_start ts ds c a = λ k. props_read
 content_read (Block side) p start end token.block_sequence_start ts ds c a = λ k. props_read p.anchor p.tag p.from p.to _ end ts ds k a
 content_read (Block side) p start end token.block_mapping_start ts ds c a = λ k. props_read p.anchor p.tag p.from p.to _ end ts ds k a
 content_read (Block (Some side)) p start end token.block_entry ts ds c a = λ k. props_read p.anchor p.tag p.from p.to _ end ts ds k a
-content_read Flow p start end token.block_sequence_start ts ds c a = cc
-content_read Flow p start end token.block_mapping_start ts ds c a = cc
-content_read Flow p start end token.block_entry ts ds c a = cc
-content_read (Block None) p start end token.block_entry ts ds c a = cc
-content_read w p start end _ ts ds c a = cc
+content_read Flow p start end token.block_sequence_start ts ds c a = absurd (false≢true c)
+content_read Flow p start end token.block_mapping_start ts ds c a = absurd (false≢true c)
+content_read Flow p start end token.block_entry ts ds c a = absurd (false≢true c)
+content_read (Block None) p start end token.block_entry ts ds c a = absurd (false≢true c)
+content_read w p start end _ ts ds c a = absurd (false≢true c)

@@ -115,7 +115,7 @@ begins_same is js more p b = subst (λ (z : List RawEvent). BeginsWithItems z mo
 some_same : (g e : Fault) (at : yaml_mark_t) → Some g ≡ Some e → StandsAt at g → StandsAt at e
 some_same g e at p h = let same : g ≡ e = cc in subst (StandsAt at) same h
 
-not_none : (g : Fault) → Some g ≡ None → ⊥
+pub not_none : (g : Fault) → Some g ≡ None → ⊥
 not_none g p = cc
 
 further : (s : List State) (t : Token) (ts : List Token) (is : List RawEvent) (x : State)

@@ -16,7 +16,7 @@ use Rattle.yaml_parse_laws_trees.specs.parse_grammar.declared.problem.ParseProbl
 use Rattle.yaml_parse_laws_trees.specs.parse_grammar.declared.problem.ParseProblem.TheVariants as problem
 use Rattle.yaml_parse_laws_trees.specs.parse_grammar.Problems.{problem_text_of, context_text_of, context_place, parser_fault}
 use Rattle.yaml_parse_laws_trees.specs.parse_grammar.declared.name.Site.{Site}
-use Rattle.yaml_parse_laws_trees.specs.parse_grammar.Items.{RawEvent, Properties}
+use Rattle.yaml_parse_laws_trees.specs.parse_grammar.Items.{RawEvent}
 use Rattle.yaml_parse_laws_trees.specs.parse_grammar.States.{State}
 use Rattle.yaml_parse_laws_trees.specs.parse_grammar.States as state
 use Rattle.yaml_parse_laws_trees.specs.parse_grammar.Machine.{starts_content, starts_node, wants_of, closes, parts_documents, follows, no_node, no_end, joins, choice_at, context_of, left_at, Fed, stop, go, with_item, turn, feed}
@@ -24,6 +24,7 @@ use Rattle.yaml_parse_laws_trees.proofs.SoundStanding.{Goes, Stood}
 use Rattle.yaml_parse_laws_trees.specs.Wrong as wrong
 use Rattle.yaml_parse_laws_trees.specs.Wrong.{grammar_fault}
 use Rattle.yaml_parse_laws_trees.proofs.FaultsStanding.{Sign, put, open_in, bracketed, stuck, Last, nothing, asking, property, directive, other, told, Plain, is_flow, Placed, Nested, told_fault}
+use Rattle.yaml_parse_laws_trees.proofs.Rules.{MayLeave, leave_rule}
 
 -- where a choice refuses, that is the fault; where it leaves, the state has no collection; a document opens at the first state alone
 abbrev pub Tells : Choice → State → List Sign → yaml_mark_t → Type 0
@@ -168,64 +169,17 @@ plain_stops (x ∷ s) t p n =
 -- ---- a stack of which any state may be on top
 
 -- where a node is left out, nothing below refuses the token
-abbrev LeavesWell : Choice → State → Type 0 → Type 0
-LeavesWell Leave x goes = (told x ≡ asking → goes) × (told x ≡ nothing → ⊥)
-LeavesWell _ x goes = Unit {0}
-
-well_take_or : (b : Bool) (p : ParseProblem) (o : Option yaml_mark_t) (x : State) (goes : Type 0)
-    → LeavesWell (if b then Take else Refuse p o) x goes
-well_take_or true p o x goes = tt
-well_take_or false p o x goes = tt
-
-well_first : (a b : Bool) (p : ParseProblem) (x : State) (goes : Type 0)
-    → LeavesWell (if a then Take else if b then Open else Refuse p None) x goes
-well_first true b p x goes = tt
-well_first false true p x goes = tt
-well_first false false p x goes = tt
-
-well_optional : (a b : Bool) (p : ParseProblem) (place : Site) (before : yaml_mark_t)
-    (goes : Type 0) → (a ≡ true → goes)
-    → LeavesWell (if a then Leave else if b then Take else Refuse p None)
-    (state.optional place before) goes
-well_optional true b p place before goes h = (λ e. h refl, λ e. cc)
-well_optional false true p place before goes h = tt
-well_optional false false p place before goes h = tt
-
-well_take_or_leave : (b : Bool) (w : Wants) (p : Properties) (goes : Type 0)
-    → LeavesWell (if b then Take else Leave) (state.with_properties w p) goes
-well_take_or_leave true w p goes = tt
-well_take_or_leave false w p goes = (λ e. cc, λ e. cc)
-
-leaves_well : (x : State) (k : yaml_token_type_t) (goes : Type 0)
+leaves_well : (x : State) (k : yaml_token_type_t) (goes : Type 0) → MayLeave x k
     → ((place : Site) (before : yaml_mark_t) → x ≡ state.optional place before → follows place k
-    ≡ true → goes) → LeavesWell (choice_at x k) x goes
-leaves_well state.stream kind.YAML_STREAM_START_TOKEN goes h = tt
-leaves_well state.stream _ goes h = tt
-leaves_well state.first k goes h = well_first (parts_documents k) (starts_node (Block None) k) problem.NoBlockNode state.first goes
-leaves_well state.documents kind.YAML_DOCUMENT_END_TOKEN goes h = tt
-leaves_well state.documents k goes h = well_take_or (parts_documents k) problem.NoDocumentStart None state.documents goes
-leaves_well (state.directives from) kind.YAML_STREAM_END_TOKEN goes h = tt
-leaves_well (state.directives from) k goes h = well_take_or (parts_documents k) problem.NoDocumentStart None (state.directives from) goes
-leaves_well (state.optional place before) k goes h = well_optional (follows place k) (starts_node (wants_of place) k) (no_node (wants_of place)) place before goes (λ e. h place before refl e)
-leaves_well state.document_end kind.YAML_DOCUMENT_END_TOKEN goes h = tt
-leaves_well state.document_end _ goes h = (λ e. cc, λ e. cc)
-leaves_well (state.entries o) kind.YAML_BLOCK_ENTRY_TOKEN goes h = tt
-leaves_well (state.entries o) kind.YAML_BLOCK_END_TOKEN goes h = tt
-leaves_well (state.entries o) _ goes h = tt
-leaves_well (state.others side) kind.YAML_BLOCK_ENTRY_TOKEN goes h = tt
-leaves_well (state.others side) _ goes h = (λ e. cc, λ e. cc)
-leaves_well (state.pairs o) kind.YAML_KEY_TOKEN goes h = tt
-leaves_well (state.pairs o) kind.YAML_BLOCK_END_TOKEN goes h = tt
-leaves_well (state.pairs o) _ goes h = tt
-leaves_well (state.colon place) kind.YAML_VALUE_TOKEN goes h = tt
-leaves_well (state.colon place) _ goes h = (λ e. cc, λ e. cc)
-leaves_well (state.with_properties w p) k goes h = well_take_or_leave (joins p k || starts_content w k) w p goes
-leaves_well (state.items b o) kind.YAML_KEY_TOKEN goes h = tt
-leaves_well (state.items b o) k goes h = well_take_or (closes b k || starts_node Flow k) problem.NoFlowNode None (state.items b o) goes
-leaves_well (state.more b o) kind.YAML_FLOW_ENTRY_TOKEN goes h = tt
-leaves_well (state.more b o) k goes h = well_take_or (closes b k) (no_end b) (Some o) (state.more b o) goes
-leaves_well state.pair_end k goes h = (λ e. cc, λ e. cc)
-leaves_well state.lone k goes h = (λ e. cc, λ e. cc)
+    ≡ true → goes) → (told x ≡ asking → goes) × (told x ≡ nothing → ⊥)
+leaves_well (state.optional place before) k goes l h = (λ e. h place before refl l, λ e. cc)
+leaves_well state.document_end k goes l h = (λ e. cc, λ e. cc)
+leaves_well (state.others side) k goes l h = (λ e. cc, λ e. cc)
+leaves_well (state.colon place) k goes l h = (λ e. cc, λ e. cc)
+leaves_well (state.with_properties w p) k goes l h = (λ e. cc, λ e. cc)
+leaves_well state.pair_end k goes l h = (λ e. cc, λ e. cc)
+leaves_well state.lone k goes l h = (λ e. cc, λ e. cc)
+leaves_well _ k goes l h = absurd l
 
 fitting : (x : State) (s : List State) (t : Token) → Stood x s
     → (place : Site) (before : yaml_mark_t) → x ≡ state.optional place before
@@ -245,14 +199,15 @@ passed_on directive gs at fed a b h = h
 passed_on other gs at fed a b h = h
 
 top_turn : (c : Choice) (x : State) (t : Token) (s : List State) (fed : Fed)
-    → Tells c x (open_in s) t.start_mark → LeavesWell c x (Goes fed)
+    → Tells c x (open_in s) t.start_mark
+    → (c ≡ Leave → (told x ≡ asking → Goes fed) × (told x ≡ nothing → ⊥))
     → StopsWith (stuck (open_in s) t.start_mark) fed
     → StopsWith (told_fault (told x) (open_in (x ∷ s)) t.start_mark) (turn c x t s fed)
 top_turn (Refuse p o) x t s fed h w k = h
 top_turn Take x t s fed h w k = tt
 top_turn Leave x t s fed h w k =
     subst (λ (gs : List Sign). StopsWith (told_fault (told x) gs t.start_mark) (with_item (left_at x t.start_mark) fed)) (sym h)
-    (stops_with (told_fault (told x) (open_in s) t.start_mark) (left_at x t.start_mark) fed (passed_on (told x) (open_in s) t.start_mark fed w.0 w.1 k))
+    (stops_with (told_fault (told x) (open_in s) t.start_mark) (left_at x t.start_mark) fed (passed_on (told x) (open_in s) t.start_mark fed (w refl).0 (w refl).1 k))
 top_turn Open x t s fed h w k = tt
 
 -- A stack that refuses a token tells what its topmost state does.
@@ -261,4 +216,4 @@ pub top_stops : (x : State) (s : List State) (t : Token) → Plain s → Nested 
 unfolding feed
 top_stops x s t p n a =
     top_turn (choice_at x (type_of t.body)) x t s (feed s t) (tells x (type_of t.body) (open_in s) t.start_mark n.0)
-    (leaves_well x (type_of t.body) (Goes (feed s t)) (fitting x s t a)) (plain_stops s t p n.1)
+    (λ e. leaves_well x (type_of t.body) (Goes (feed s t)) (leave_rule x (type_of t.body) e) (fitting x s t a)) (plain_stops s t p n.1)

@@ -1,5 +1,5 @@
 -- What the machine accepts begins with the tokens of a tree.
-use Rattle.std.proofs.Common.{◌≡◌, ℕ, true, false, List, [], ◌∷◌, length, Option, Some, None, refl, ap, sym, subst, ◌∙◌}
+use Rattle.std.proofs.Common.{◌≡◌, ℕ, true, List, [], ◌∷◌, length, Option, Some, None, refl, ap, sym, subst, ◌∙◌}
 use Rattle.yaml_parse_laws_trees.specs.parse_grammar.parse_model.declared.yaml_token_type_t.TheVariants as kind
 use Rattle.yaml_parse_laws_trees.specs.parse_grammar.parse_model.Tokens.{Token, type_of, no_token}
 use Rattle.yaml_parse_laws_trees.specs.parse_grammar.parse_model.Faults.{Fault}
@@ -17,10 +17,10 @@ use Rattle.yaml_parse_laws_trees.specs.parse_grammar.Resolve.{Directives, Settle
 use Rattle.yaml_parse_laws_trees.specs.parse_grammar.Remaining.{reading_of}
 use Rattle.yaml_parse_laws_trees.proofs.CompleteStream.{stream_runs}
 use Rattle.yaml_parse_laws_trees.proofs.Voice.{takes_a_token}
-use Rattle.yaml_parse_laws_trees.proofs.Single.{opens_node}
 use Rattle.yaml_parse_laws_trees.proofs.Turns.{items_given}
 use Rattle.yaml_parse_laws_trees.specs.SoundLaws.{AcceptedAreTrees, AcceptedAreSentences, SentencesAreAccepted}
 use Rattle.yaml_parse_laws_trees.proofs.Left.{Left, Over, over_both, leaving, taking, opening}
+use Rattle.yaml_parse_laws_trees.proofs.Rules.{leave_rule, none_opens}
 
 -- ---- a stack at a token
 
@@ -49,7 +49,7 @@ fed_taken P x (Some i) above s t h = λ m ts k. h ts (subst (λ (Q : List Token 
 fed_left : (P : List Token → Type 0) (x : State) (s : List State) (t : Token) (fed : Fed)
     → choice_at x (type_of t.body) ≡ Leave → FedLeft P s t fed → FedLeft P (x ∷ s) t fed
 fed_left P x s t (stop is f) c h = tt
-fed_left P x s t (go is s') c h = λ m ts k. leaving x (type_of t.body) c (Over s P) (t ∷ ts) (h m ts k)
+fed_left P x s t (go is s') c h = λ m ts k. leaving x (type_of t.body) (leave_rule x (type_of t.body) c) (Over s P) (t ∷ ts) (h m ts k)
 
 fed_opened : (P : List Token → Type 0) (x : State) (s : List State) (t : Token)
     (i : Option RawEvent) (above : List State)
@@ -91,13 +91,7 @@ end_with P s i (go is s') h = h
 end_left : (P : List Token → Type 0) (x : State) (s : List State) (fed : Fed)
     → choice_at x kind.YAML_NO_TOKEN ≡ Leave → EndLeft P s fed → EndLeft P (x ∷ s) fed
 end_left P x s (stop is f) c h = tt
-end_left P x s (go is s') c h = leaving x kind.YAML_NO_TOKEN c (Over s P) [] h
-
-none_opens : (x : State) → choice_at x kind.YAML_NO_TOKEN ≡ Open → ⊥
-none_opens x h = unlike (opens_node x kind.YAML_NO_TOKEN h)
-  where
-    unlike : false ≡ true → ⊥
-    unlike e = cc
+end_left P x s (go is s') c h = leaving x kind.YAML_NO_TOKEN (leave_rule x kind.YAML_NO_TOKEN c) (Over s P) [] h
 
 turn_ends : (P : List Token → Type 0) (c : Choice) (x : State) (s : List State) (below : Fed)
     → choice_at x kind.YAML_NO_TOKEN ≡ c → EndLeft P s below

@@ -21,6 +21,8 @@ use Rattle.yaml_parse_laws_trees.specs.parse_grammar.Items as item
 use Rattle.yaml_parse_laws_trees.specs.parse_grammar.States.{State}
 use Rattle.yaml_parse_laws_trees.specs.parse_grammar.States as state
 use Rattle.yaml_parse_laws_trees.specs.parse_grammar.Machine.{wants_of, follows, choice_at, documents_taken, content_taken, node_taken, with_properties_taken, items_taken, more_taken, entries_taken, pairs_taken, stream_taken, lone_below, taken_at, left_at, Fed, stop, go, with_item, given_by, turn, feed}
+use Rattle.yaml_parse_laws_trees.proofs.Rules.{was_take}
+use Rattle.std.proofs.lemmas.Bool.{false≢true}
 
 -- ---- nothing is refused
 
@@ -58,7 +60,7 @@ entry_taken : (o : yaml_mark_t) (k : yaml_token_type_t) → follows Entry k ≡ 
     → choice_at (state.entries o) k ≡ Take
 entry_taken o kind.YAML_BLOCK_ENTRY_TOKEN h = refl
 entry_taken o kind.YAML_BLOCK_END_TOKEN h = refl
-entry_taken o _ h = cc
+entry_taken o _ h = absurd (false≢true h)
 
 entries_fit : (o : yaml_mark_t) (s : List State) → Fits Entry (state.entries o ∷ s)
 entries_fit o s t h = takes_goes (state.entries o) s t (entry_taken o (type_of t.body) h)
@@ -67,7 +69,7 @@ pair_taken : (o : yaml_mark_t) (k : yaml_token_type_t) → follows (BlockPair Va
     → choice_at (state.pairs o) k ≡ Take
 pair_taken o kind.YAML_KEY_TOKEN h = refl
 pair_taken o kind.YAML_BLOCK_END_TOKEN h = refl
-pair_taken o _ h = cc
+pair_taken o _ h = absurd (false≢true h)
 
 pairs_fit : (o : yaml_mark_t) (s : List State) → Fits (BlockPair Value) (state.pairs o ∷ s)
 pairs_fit o s t h = takes_goes (state.pairs o) s t (pair_taken o (type_of t.body) h)
@@ -81,7 +83,7 @@ block_key : (k : yaml_token_type_t) → follows (BlockPair Key) k ≡ true
 block_key kind.YAML_KEY_TOKEN h c = refl
 block_key kind.YAML_BLOCK_END_TOKEN h c = refl
 block_key kind.YAML_VALUE_TOKEN h c = cc
-block_key _ h c = cc
+block_key _ h c = absurd (false≢true h)
 
 keys_fit : (o : yaml_mark_t) (s : List State)
     → Fits (BlockPair Key) (state.colon (BlockPair Value) ∷ state.pairs o ∷ s)
@@ -93,8 +95,8 @@ more_taken_at : (b : Brackets) (o : yaml_mark_t) (k : yaml_token_type_t)
 more_taken_at b o kind.YAML_FLOW_ENTRY_TOKEN h = refl
 more_taken_at brackets.Sequence o kind.YAML_FLOW_SEQUENCE_END_TOKEN h = refl
 more_taken_at brackets.Mapping o kind.YAML_FLOW_MAPPING_END_TOKEN h = refl
-more_taken_at brackets.Sequence o _ h = cc
-more_taken_at brackets.Mapping o _ h = cc
+more_taken_at brackets.Sequence o _ h = absurd (false≢true h)
+more_taken_at brackets.Mapping o _ h = absurd (false≢true h)
 
 more_fits : (b : Brackets) (o : yaml_mark_t) (s : List State)
     → Fits (FlowPair b Value) (state.more b o ∷ s)
@@ -110,8 +112,8 @@ flow_key b kind.YAML_FLOW_ENTRY_TOKEN h c = refl
 flow_key b kind.YAML_VALUE_TOKEN h c = cc
 flow_key brackets.Sequence kind.YAML_FLOW_SEQUENCE_END_TOKEN h c = refl
 flow_key brackets.Mapping kind.YAML_FLOW_MAPPING_END_TOKEN h c = refl
-flow_key brackets.Sequence _ h c = cc
-flow_key brackets.Mapping _ h c = cc
+flow_key brackets.Sequence _ h c = absurd (false≢true h)
+flow_key brackets.Mapping _ h c = absurd (false≢true h)
 
 flow_keys_fit : (b : Brackets) (s : List State) → Fits (FlowPair b Value) s
     → Fits (FlowPair b Key) (state.colon (FlowPair b Value) ∷ s)
@@ -129,7 +131,7 @@ root_taken kind.YAML_STREAM_END_TOKEN h c = refl
 root_taken kind.YAML_VERSION_DIRECTIVE_TOKEN h c = refl
 root_taken kind.YAML_TAG_DIRECTIVE_TOKEN h c = refl
 root_taken kind.YAML_DOCUMENT_START_TOKEN h c = refl
-root_taken _ h c = cc
+root_taken _ h c = absurd (false≢true h)
 
 root_fits : (s : List State) → Fits Root (state.document_end ∷ state.documents ∷ s)
 root_fits s t h =
@@ -146,7 +148,7 @@ side_follows side kind.YAML_KEY_TOKEN h c = refl
 side_follows side kind.YAML_BLOCK_END_TOKEN h c = refl
 side_follows Key kind.YAML_VALUE_TOKEN h c = refl
 side_follows Value kind.YAML_VALUE_TOKEN h c = cc
-side_follows side _ h c = cc
+side_follows side _ h c = absurd (false≢true h)
 
 others_fit : (side : Side) (s : List State) → Fits (BlockPair side) s
     → Fits (IndentlessEntry side) (state.others side ∷ s)
@@ -233,7 +235,7 @@ stream_stood : (start end : yaml_mark_t) (b : TokenBody) (s : List State)
     → choice_at state.stream (type_of b) ≡ Take → AllStood s
     → AllStood ((stream_taken start end b).above ++ s)
 stream_stood start end (token.stream_start e) s c a = (tt, a)
-stream_stood start end _ s c a = cc
+stream_stood start end _ s c a = absurd (was_take _ c)
 
 lone_closed : (b : Brackets) (o : yaml_mark_t) (s : List State)
     → Closed (lone_below b (state.more b o ∷ []) ++ s)
@@ -287,8 +289,8 @@ taken_stood (state.colon place) t s c h a = (h, a)
 taken_stood (state.with_properties w p) t s c h a = with_properties_stood w p t.start_mark t.end_mark t.body s h.0 h.1 a
 taken_stood (state.items b o) t s c h a = items_stood b o t.start_mark t.end_mark t.body s a
 taken_stood (state.more b o) t s c h a = more_stood b o t.start_mark t.end_mark t.body s a
-taken_stood state.pair_end t s c h a = cc
-taken_stood state.lone t s c h a = cc
+taken_stood state.pair_end t s c h a = absurd (was_take _ c)
+taken_stood state.lone t s c h a = absurd (was_take _ c)
 
 abbrev pub FedStood : Fed → Type 0
 FedStood (stop is f) = Unit {0}

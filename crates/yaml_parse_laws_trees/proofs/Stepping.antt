@@ -6,7 +6,7 @@ use Rattle.yaml_parse_laws_trees.specs.parse_grammar.parse_model.Tokens as token
 use Rattle.yaml_parse_laws_trees.specs.parse_grammar.parse_model.Events as event
 use Rattle.yaml_parse_laws_trees.specs.parse_grammar.declared.name.Choice.{Choice}
 use Rattle.yaml_parse_laws_trees.specs.parse_grammar.declared.name.Choice.TheVariants.{Refuse, Take, Leave, Open}
-use Rattle.yaml_parse_laws_trees.specs.parse_grammar.Items.{RawEvent, Properties, item_at, properties_alone}
+use Rattle.yaml_parse_laws_trees.specs.parse_grammar.Items.{RawEvent, item_at}
 use Rattle.yaml_parse_laws_trees.specs.parse_grammar.Items as item
 use Rattle.yaml_parse_laws_trees.specs.parse_grammar.States.{State}
 use Rattle.yaml_parse_laws_trees.specs.parse_grammar.States as state
@@ -19,6 +19,7 @@ use Rattle.yaml_parse_laws_trees.proofs.FaultsStanding.{Sign, open_in, directive
 use Rattle.yaml_parse_laws_trees.proofs.Refusing.{Tells, tells}
 use Rattle.yaml_parse_laws_trees.proofs.Keeping.{KeptInside, inside_kept}
 use Rattle.yaml_parse_laws_trees.proofs.Settling.{Done, bad, fine, read_all, Quiet, IsMute, taken_quiet, left_quiet, Agree, none_agree, Behind, version_read, handle_read}
+use Rattle.yaml_parse_laws_trees.proofs.Properties.{tok}
 
 -- ---- the directives, by the state on top
 
@@ -88,9 +89,6 @@ inside_read past ds t gs s k a = (
 )
 
 -- ---- between documents
-
-abbrev tok : TokenBody → yaml_mark_t → yaml_mark_t → Token
-tok b start end = record { body = b; start_mark = start; end_mark = end }
 
 behind_read : (past : List Token) (t : Token) (from : yaml_mark_t) (d : Done)
     → Behind (directive_fault past t.body t.start_mark) (directives_before (t ∷ past)) d
@@ -188,7 +186,7 @@ within state.documents s h = absurd h.0
 within (state.directives from) s h = absurd h.0
 within _ s h = deeper h.0 h.1
 
-not_first : (x : State) → x ≡ state.first → IsInner x → ⊥
+pub not_first : (x : State) → x ≡ state.first → IsInner x → ⊥
 not_first x e h = subst IsInner e h
 
 mute_turn : (c : Choice) (x : State) (t : Token) (s : List State) (fed : Fed) (past : List Token)

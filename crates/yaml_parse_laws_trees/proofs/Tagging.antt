@@ -6,7 +6,7 @@ use Rattle.yaml_parse_laws_trees.specs.parse_grammar.parse_model.Tokens as token
 use Rattle.yaml_parse_laws_trees.specs.parse_grammar.parse_model.Faults.{Fault}
 use Rattle.yaml_parse_laws_trees.specs.parse_grammar.declared.name.Wants.{Wants}
 use Rattle.yaml_parse_laws_trees.specs.parse_grammar.declared.name.Choice.TheVariants.{Take, Leave}
-use Rattle.yaml_parse_laws_trees.specs.parse_grammar.Items.{RawEvent, Properties, item_at, properties_alone}
+use Rattle.yaml_parse_laws_trees.specs.parse_grammar.Items.{RawEvent, Properties, properties_alone}
 use Rattle.yaml_parse_laws_trees.specs.parse_grammar.Items as item
 use Rattle.yaml_parse_laws_trees.specs.parse_grammar.States.{State}
 use Rattle.yaml_parse_laws_trees.specs.parse_grammar.States as state
@@ -20,6 +20,7 @@ use Rattle.yaml_parse_laws_trees.proofs.Keeping.{inside_kept}
 use Rattle.yaml_parse_laws_trees.proofs.Settling.{Done, bad, fine, then_read, read_all, IsMute, Agree, tag_in, by_fault}
 use Rattle.yaml_parse_laws_trees.proofs.Properties.{PropsOf, PropsTop, ended, joined, props_read, HasFault, content_read}
 use Rattle.yaml_parse_laws_trees.proofs.Stepping.{Dirs, StepRead, Stepped, Within, within, mute_stepped, no_directives_before, none_before, inside_read, stream_stepped, first_stepped, documents_stepped, directives_stepped, plain_mute}
+use Rattle.std.proofs.lemmas.Bool.{false≢true}
 
 -- the step, by the fault of a handle that the token meets
 abbrev pub Step : List Token → Directives → Token → Option Fault → Fed → Type 0
@@ -81,13 +82,13 @@ joining : (w : Wants) (p : Properties) (start end : yaml_mark_t) (b : TokenBody)
     → joins p (type_of b) ≡ true → (with_properties_taken w p start end b).item ≡ None
 joining w p start end (token.anchor name) j = refl
 joining w p start end (token.tag handle suffix) j = refl
-joining w p start end _ j = cc
+joining w p start end _ j = absurd (false≢true j)
 
 not_joining : (w : Wants) (p : Properties) (start end : yaml_mark_t) (b : TokenBody)
     (ts : List Token) (ds : Directives) → starts_content w (type_of b) ≡ true → Agree ts ds
     → HasFault (with_properties_taken w p start end b).item (tag_fault (tag_in p) ts) ds
-not_joining w p start end (token.anchor name) ts ds c a = cc
-not_joining w p start end (token.tag handle suffix) ts ds c a = cc
+not_joining w p start end (token.anchor name) ts ds c a = absurd (false≢true c)
+not_joining w p start end (token.tag handle suffix) ts ds c a = absurd (false≢true c)
 not_joining w p start end b ts ds c a = content_read w p start end b ts ds c a
 
 by_ended : (past : List Token) (ds : Directives) (t : Token) (o : Option NodeTag) (fed : Fed)

@@ -1,27 +1,25 @@
 -- What a stack waits for, with a token in front; and the reading of what a step gives.
-use Rattle.std.proofs.Common.{◌≡◌, ℕ, true, false, List, [], ◌∷◌, ◌++◌, map, Option, Some, None, refl, sym, subst}
+use Rattle.std.proofs.Common.{◌≡◌, ℕ, true, List, [], ◌∷◌, ◌++◌, map, Option, Some, None, refl, sym, subst}
 use Rattle.yaml_parse_laws_trees.specs.parse_grammar.parse_model.declared.yaml_token_type_t.{yaml_token_type_t}
 use Rattle.yaml_parse_laws_trees.specs.parse_grammar.parse_model.declared.yaml_token_type_t.TheVariants as kind
 use Rattle.yaml_parse_laws_trees.specs.parse_grammar.parse_model.Tokens.{Token, type_of, no_token}
 use Rattle.yaml_parse_laws_trees.specs.parse_grammar.parse_model.Faults.{Fault}
-use Rattle.yaml_parse_laws_trees.specs.parse_grammar.declared.name.Wants.TheVariants.{Block}
 use Rattle.yaml_parse_laws_trees.specs.parse_grammar.declared.name.Site.TheVariants.{Root}
 use Rattle.yaml_parse_laws_trees.specs.parse_grammar.declared.name.Choice.{Choice}
 use Rattle.yaml_parse_laws_trees.specs.parse_grammar.declared.name.Choice.TheVariants.{Refuse, Take, Leave, Open}
-use Rattle.yaml_parse_laws_trees.specs.parse_grammar.declared.problem.ParseProblem.TheVariants as problem
 use Rattle.yaml_parse_laws_trees.specs.parse_grammar.Items.{RawEvent, item_at}
 use Rattle.yaml_parse_laws_trees.specs.parse_grammar.Items as item
-use Rattle.yaml_parse_laws_trees.specs.parse_grammar.States.{State, Taken}
+use Rattle.yaml_parse_laws_trees.specs.parse_grammar.States.{State}
 use Rattle.yaml_parse_laws_trees.specs.parse_grammar.States as state
 use Rattle.yaml_parse_laws_trees.specs.parse_grammar.Stacks.{IsInside, IsStack}
 use Rattle.yaml_parse_laws_trees.specs.parse_grammar.Trees.{Given}
-use Rattle.yaml_parse_laws_trees.specs.parse_grammar.Machine.{starts_node, parts_documents, choice_at, taken_at, left_at, Fed, stop, go, with_item, given_by, turn, feed}
+use Rattle.yaml_parse_laws_trees.specs.parse_grammar.Machine.{choice_at, taken_at, left_at, Fed, stop, go, with_item, given_by, turn, feed}
 use Rattle.yaml_parse_laws_trees.specs.parse_grammar.Resolve.{Directives, Settled, refused, gave, noted, settle, Reading, reading, unasked_at_fault}
 use Rattle.yaml_parse_laws_trees.specs.parse_grammar.Resolve as resolve
 use Rattle.yaml_parse_laws_trees.proofs.Voice.{takes_a_token}
-use Rattle.yaml_parse_laws_trees.proofs.Single.{opens_node}
-use Rattle.yaml_parse_laws_trees.proofs.Left.{Left, Over, over_both, leaving, taking, opening, not_left, not_left_first}
+use Rattle.yaml_parse_laws_trees.proofs.Left.{Left, Over, over_both, leaving, taking, opening}
 use Rattle.yaml_parse_laws_trees.proofs.Settling.{Done, bad, fine, then_read, read_all}
+use Rattle.yaml_parse_laws_trees.proofs.Rules.{MayLeave, leave_rule, none_opens}
 
 -- ---- a state that never leaves is at the bottom
 
@@ -55,16 +53,12 @@ stack_solid state.documents s h = tt
 stack_solid (state.directives from) s h = tt
 stack_solid x s h = inside_solid (x ∷ s) h
 
-pub solid_left : (x : State) (k : yaml_token_type_t) (A : Type 0) → choice_at x k ≡ Leave
-    → SolidAt x A → A
-solid_left state.stream kind.YAML_STREAM_START_TOKEN A c h = cc
-solid_left state.stream _ A c h = cc
-solid_left state.first k A c h = absurd (not_left_first (parts_documents k) (starts_node (Block None) k) problem.NoBlockNode c)
-solid_left state.documents kind.YAML_DOCUMENT_END_TOKEN A c h = cc
-solid_left state.documents k A c h = absurd (not_left (parts_documents k) problem.NoDocumentStart None c)
-solid_left (state.directives from) kind.YAML_STREAM_END_TOKEN A c h = cc
-solid_left (state.directives from) k A c h = absurd (not_left (parts_documents k) problem.NoDocumentStart None c)
-solid_left _ k A c h = h
+pub solid_left : (x : State) (k : yaml_token_type_t) (A : Type 0) → MayLeave x k → SolidAt x A → A
+solid_left state.stream k A l h = absurd l
+solid_left state.first k A l h = absurd l
+solid_left state.documents k A l h = absurd l
+solid_left (state.directives from) k A l h = absurd l
+solid_left _ k A l h = h
 
 -- ---- what the stack behind a token waits for, with the token in front, is what the stack before it waits for
 
@@ -87,7 +81,7 @@ takes_given P x (Some i) above s t below h = λ ts k. h ts (subst (λ (Q : List 
 takes_left : (P : List Token → Type 0) (x : State) (s : List State) (t : Token) (fed : Fed)
     → choice_at x (type_of t.body) ≡ Leave → Takes P s t fed → Takes P (x ∷ s) t fed
 takes_left P x s t (stop is e) c h = tt
-takes_left P x s t (go is s') c h = λ ts k. leaving x (type_of t.body) c (Over s P) (t ∷ ts) (h ts k)
+takes_left P x s t (go is s') c h = λ ts k. leaving x (type_of t.body) (leave_rule x (type_of t.body) c) (Over s P) (t ∷ ts) (h ts k)
 
 takes_turn : (P : List Token → Type 0) (c : Choice) (x : State) (t : Token) (s : List State)
     (fed : Fed) → choice_at x (type_of t.body) ≡ c
@@ -104,7 +98,7 @@ pub takes : (P : List Token → Type 0) (s : List State) (t : Token) → Solid s
     → Takes P s t (feed s t)
 unfolding feed
 takes P [] t h = absurd h
-takes P (x ∷ s) t h = takes_turn P (choice_at x (type_of t.body)) x t s (feed s t) refl (λ e. takes P s t (solid_left x (type_of t.body) (Solid s) e h))
+takes P (x ∷ s) t h = takes_turn P (choice_at x (type_of t.body)) x t s (feed s t) refl (λ e. takes P s t (solid_left x (type_of t.body) (Solid s) (leave_rule x (type_of t.body) e) h))
 
 -- ---- the empty token is refused
 
@@ -115,12 +109,6 @@ Stops (go is s) = ⊥
 stops_with : (i : RawEvent) (fed : Fed) → Stops fed → Stops (with_item i fed)
 stops_with i (stop is e) h = tt
 stops_with i (go is s) h = h
-
-none_opens : (x : State) → choice_at x kind.YAML_NO_TOKEN ≡ Open → ⊥
-none_opens x h = unlike (opens_node x kind.YAML_NO_TOKEN h)
-  where
-    unlike : false ≡ true → ⊥
-    unlike e = cc
 
 stops_turn : (c : Choice) (x : State) (s : List State) (fed : Fed)
     → choice_at x kind.YAML_NO_TOKEN ≡ c → (choice_at x kind.YAML_NO_TOKEN ≡ Leave → Stops fed)
@@ -133,7 +121,7 @@ stops_turn Open x s fed e h = absurd (none_opens x e)
 pub stops_at_none : (s : List State) → Solid s → Stops (feed s no_token)
 unfolding feed
 stops_at_none [] h = absurd h
-stops_at_none (x ∷ s) h = stops_turn (choice_at x kind.YAML_NO_TOKEN) x s (feed s no_token) refl (λ e. stops_at_none s (solid_left x kind.YAML_NO_TOKEN (Solid s) e h))
+stops_at_none (x ∷ s) h = stops_turn (choice_at x kind.YAML_NO_TOKEN) x s (feed s no_token) refl (λ e. stops_at_none s (solid_left x kind.YAML_NO_TOKEN (Solid s) (leave_rule x kind.YAML_NO_TOKEN e) h))
 
 -- ---- reading what a step gives
 

@@ -1,10 +1,9 @@
 -- What a state still gives: the events of a part of some documents, and what follows them.
-use Rattle.std.proofs.Common.{◌≡◌, ℕ, Bool, true, false, if◌then◌else◌, ◌||◌, List, [], ◌∷◌, ◌++◌, Option, Some, None, refl, sym, ap, subst, ◌∙◌}
+use Rattle.std.proofs.Common.{◌≡◌, ℕ, Bool, true, false, List, [], ◌∷◌, ◌++◌, Option, Some, None, refl, sym, ap, subst, ◌∙◌}
 use Rattle.yaml_parse_laws_trees.specs.parse_grammar.parse_model.declared.yaml_mark_t.{yaml_mark_t}
 use Rattle.yaml_parse_laws_trees.specs.parse_grammar.parse_model.declared.yaml_encoding_t.{yaml_encoding_t}
 use Rattle.yaml_parse_laws_trees.specs.parse_grammar.parse_model.declared.yaml_encoding_t.TheVariants.{YAML_ANY_ENCODING}
 use Rattle.yaml_parse_laws_trees.specs.parse_grammar.parse_model.declared.yaml_token_type_t.{yaml_token_type_t}
-use Rattle.yaml_parse_laws_trees.specs.parse_grammar.parse_model.declared.yaml_token_type_t.TheVariants as kind
 use Rattle.yaml_parse_laws_trees.specs.parse_grammar.parse_model.declared.yaml_version_directive_t.{yaml_version_directive_t}
 use Rattle.yaml_parse_laws_trees.specs.parse_grammar.parse_model.Tokens.{Token, TokenBody, type_of, zero_mark}
 use Rattle.yaml_parse_laws_trees.specs.parse_grammar.parse_model.Tokens as token
@@ -14,16 +13,15 @@ use Rattle.yaml_parse_laws_trees.specs.parse_grammar.declared.Wants.{Wants}
 use Rattle.yaml_parse_laws_trees.specs.parse_grammar.declared.Wants.TheVariants.{Flow, Block}
 use Rattle.yaml_parse_laws_trees.specs.parse_grammar.declared.Brackets.{Brackets}
 use Rattle.yaml_parse_laws_trees.specs.parse_grammar.declared.Brackets.TheVariants as brackets
-use Rattle.yaml_parse_laws_trees.specs.parse_grammar.declared.Choice.TheVariants.{Refuse, Take, Leave, Open}
-use Rattle.yaml_parse_laws_trees.specs.parse_grammar.declared.ParseProblem.{ParseProblem}
-use Rattle.yaml_parse_laws_trees.specs.parse_grammar.declared.ParseProblem.TheVariants as problem
+use Rattle.yaml_parse_laws_trees.specs.parse_grammar.declared.Choice.TheVariants.{Take, Open}
 use Rattle.yaml_parse_laws_trees.specs.parse_grammar.Items.{RawEvent, RawEventBody, Properties, Shape}
 use Rattle.yaml_parse_laws_trees.specs.parse_grammar.Items as item
 use Rattle.yaml_parse_laws_trees.specs.parse_grammar.States.{State}
 use Rattle.yaml_parse_laws_trees.specs.parse_grammar.States as state
-use Rattle.yaml_parse_laws_trees.specs.parse_grammar.Machine.{choice_at, taken_at, documents_taken, content_taken, node_taken, with_properties_taken, items_taken, more_taken, stream_taken, entries_taken, pairs_taken, lone_below, left_at, parts_documents, starts_node, starts_content, follows, joins, closes, no_node, no_end, wants_of}
+use Rattle.yaml_parse_laws_trees.specs.parse_grammar.Machine.{choice_at, taken_at, documents_taken, content_taken, node_taken, with_properties_taken, items_taken, more_taken, stream_taken, entries_taken, pairs_taken, lone_below, left_at, wants_of}
 use Rattle.yaml_parse_laws_trees.specs.parse_grammar.Resolve.{placed}
 use Rattle.yaml_parse_loader.specs.Numbering.{Head, Span, spanning, Content, Contents, Pairs, alias, scalar, sequence, mapping, no_items, item, no_pairs, pair, events, item_events, pair_events, DocumentContent, document_events}
+use Rattle.yaml_parse_laws_trees.proofs.Rules.{MayLeave, opens_first, was_take}
 
 -- ---- parts
 
@@ -320,7 +318,7 @@ stream_fits : (start end : yaml_mark_t) (b : TokenBody) (P : List Event → Type
     → choice_at state.stream (type_of b) ≡ Take
     → FitsIf (stream_taken start end b).item (Over (stream_taken start end b).above P) (Stream P)
 stream_fits start end (token.stream_start encoding) P c = λ es h. record { part = (encoding, span start end); rest = es; same = refl; goes = h }
-stream_fits start end _ P c = absurd (cc)
+stream_fits start end _ P c = absurd (was_take _ c)
 
 -- what a state gives as it takes a token is the front of what it had to give
 pub taking_fits : (x : State) (t : Token) (P : List Event → Type 0)
@@ -339,94 +337,28 @@ taking_fits (state.colon place) t P c = λ es h. h
 taking_fits (state.with_properties w p) t P c = with_properties_fits w p t.start_mark t.end_mark t.body P
 taking_fits (state.items b o) t P c = items_fit b o t.start_mark t.end_mark t.body P
 taking_fits (state.more b o) t P c = more_fits b o t.start_mark t.end_mark t.body P
-taking_fits state.pair_end t P c = absurd (cc)
-taking_fits state.lone t P c = absurd (cc)
+taking_fits state.pair_end t P c = absurd (was_take _ c)
+taking_fits state.lone t P c = absurd (was_take _ c)
 
 -- ---- leaving a state
 
-not_left : (a : Bool) (p : ParseProblem) (o : Option yaml_mark_t)
-    → (if a then Take else Refuse p o) ≡ Leave → ⊥
-not_left true p o h = cc
-not_left false p o h = cc
-
-not_left_first : (a b : Bool) (p : ParseProblem)
-    → (if a then Take else if b then Open else Refuse p None) ≡ Leave → ⊥
-not_left_first true b p h = cc
-not_left_first false true p h = cc
-not_left_first false false p h = cc
-
 -- and so is what it gives as it is left
 pub leaving_fits : (x : State) (k : yaml_token_type_t) (start : yaml_mark_t)
-    (P : List Event → Type 0) → choice_at x k ≡ Leave → Fits (left_at x start) P (ToGive x P)
-leaving_fits state.stream kind.YAML_STREAM_START_TOKEN start P c = absurd (cc)
-leaving_fits state.stream _ start P c = absurd (cc)
-leaving_fits state.first k start P c = absurd (not_left_first (parts_documents k) (starts_node (Block None) k) problem.NoBlockNode c)
-leaving_fits state.documents kind.YAML_DOCUMENT_END_TOKEN start P c = absurd (cc)
-leaving_fits state.documents k start P c = absurd (not_left (parts_documents k) problem.NoDocumentStart None c)
-leaving_fits (state.directives from) kind.YAML_STREAM_END_TOKEN start P c = absurd (cc)
-leaving_fits (state.directives from) k start P c = absurd (not_left (parts_documents k) problem.NoDocumentStart None c)
-leaving_fits (state.entries o) kind.YAML_BLOCK_ENTRY_TOKEN start P c = absurd (cc)
-leaving_fits (state.entries o) kind.YAML_BLOCK_END_TOKEN start P c = absurd (cc)
-leaving_fits (state.entries o) _ start P c = absurd (cc)
-leaving_fits (state.pairs o) kind.YAML_KEY_TOKEN start P c = absurd (cc)
-leaving_fits (state.pairs o) kind.YAML_BLOCK_END_TOKEN start P c = absurd (cc)
-leaving_fits (state.pairs o) _ start P c = absurd (cc)
-leaving_fits (state.items b o) kind.YAML_KEY_TOKEN start P c = absurd (cc)
-leaving_fits (state.items b o) k start P c = absurd (not_left (closes b k || starts_node Flow k) problem.NoFlowNode None c)
-leaving_fits (state.more b o) kind.YAML_FLOW_ENTRY_TOKEN start P c = absurd (cc)
-leaving_fits (state.more b o) k start P c = absurd (not_left (closes b k) (no_end b) (Some o) c)
-leaving_fits (state.optional place before) k start P c = λ b s es h. scalar_given b _ _ P es s h
-leaving_fits state.document_end k start P c = λ es h. record { part = (true, span start start); rest = es; same = refl; goes = h }
-leaving_fits (state.others side) k start P c = λ es h. no_more_items start start P es h
-leaving_fits (state.colon place) k start P c = λ b s es h. scalar_given b start start P es s h
-leaving_fits (state.with_properties w p) k start P c = λ b s es h. scalar_given b p.from p.to P es s h
-leaving_fits state.pair_end k start P c = λ es h. record { part = span start start; rest = es; same = refl; goes = h }
-leaving_fits state.lone k start P c = λ b s es h. scalar_given b start start P es s h
+    (P : List Event → Type 0) → MayLeave x k → Fits (left_at x start) P (ToGive x P)
+leaving_fits (state.optional place before) k start P l = λ b s es h. scalar_given b _ _ P es s h
+leaving_fits state.document_end k start P l = λ es h. record { part = (true, span start start); rest = es; same = refl; goes = h }
+leaving_fits (state.others side) k start P l = λ es h. no_more_items start start P es h
+leaving_fits (state.colon place) k start P l = λ b s es h. scalar_given b start start P es s h
+leaving_fits (state.with_properties w p) k start P l = λ b s es h. scalar_given b p.from p.to P es s h
+leaving_fits state.pair_end k start P l = λ es h. record { part = span start start; rest = es; same = refl; goes = h }
+leaving_fits state.lone k start P l = λ b s es h. scalar_given b start start P es s h
+leaving_fits _ k start P l = absurd l
 
 -- ---- where a document opens, documents are to come
 
-not_opened : (b : Bool) (p : ParseProblem) (o : Option yaml_mark_t)
-    → (if b then Take else Refuse p o) ≡ Open → ⊥
-not_opened true p o h = cc
-not_opened false p o h = cc
-
-not_opened_with_properties : (b : Bool) → (if b then Take else Leave) ≡ Open → ⊥
-not_opened_with_properties true h = cc
-not_opened_with_properties false h = cc
-
-not_opened_optional : (a b : Bool) (p : ParseProblem)
-    → (if a then Leave else if b then Take else Refuse p None) ≡ Open → ⊥
-not_opened_optional true b p h = cc
-not_opened_optional false true p h = cc
-not_opened_optional false false p h = cc
-
 pub opening_fits : (x : State) (k : yaml_token_type_t) (P : List Event → Type 0)
     → choice_at x k ≡ Open → (es : List Event) → Documents P es → ToGive x P es
-opening_fits state.stream kind.YAML_STREAM_START_TOKEN P c es h = absurd (cc)
-opening_fits state.stream _ P c es h = absurd (cc)
-opening_fits state.first k P c es h = h
-opening_fits state.documents k P c es h = h
-opening_fits (state.directives from) k P c es h = h
-opening_fits (state.optional place before) k P c es h = absurd (not_opened_optional (follows place k) (starts_node (wants_of place) k) (no_node (wants_of place)) c)
-opening_fits state.document_end kind.YAML_DOCUMENT_END_TOKEN P c es h = absurd (cc)
-opening_fits state.document_end _ P c es h = absurd (cc)
-opening_fits (state.entries o) kind.YAML_BLOCK_ENTRY_TOKEN P c es h = absurd (cc)
-opening_fits (state.entries o) kind.YAML_BLOCK_END_TOKEN P c es h = absurd (cc)
-opening_fits (state.entries o) _ P c es h = absurd (cc)
-opening_fits (state.others side) kind.YAML_BLOCK_ENTRY_TOKEN P c es h = absurd (cc)
-opening_fits (state.others side) _ P c es h = absurd (cc)
-opening_fits (state.pairs o) kind.YAML_KEY_TOKEN P c es h = absurd (cc)
-opening_fits (state.pairs o) kind.YAML_BLOCK_END_TOKEN P c es h = absurd (cc)
-opening_fits (state.pairs o) _ P c es h = absurd (cc)
-opening_fits (state.colon place) kind.YAML_VALUE_TOKEN P c es h = absurd (cc)
-opening_fits (state.colon place) _ P c es h = absurd (cc)
-opening_fits (state.with_properties w p) k P c es h = absurd (not_opened_with_properties (joins p k || starts_content w k) c)
-opening_fits (state.items b o) kind.YAML_KEY_TOKEN P c es h = absurd (cc)
-opening_fits (state.items b o) k P c es h = absurd (not_opened (closes b k || starts_node Flow k) problem.NoFlowNode None c)
-opening_fits (state.more b o) kind.YAML_FLOW_ENTRY_TOKEN P c es h = absurd (cc)
-opening_fits (state.more b o) k P c es h = absurd (not_opened (closes b k) (no_end b) (Some o) c)
-opening_fits state.pair_end k P c es h = absurd (cc)
-opening_fits state.lone k P c es h = absurd (cc)
+opening_fits x k P c es h = subst (λ (y : State). ToGive y P es) (sym (opens_first x k c)) h
 
 -- ---- something can be given
 

@@ -6,24 +6,18 @@ use Rattle.yaml_parse_laws_trees.specs.parse_grammar.parse_model.Faults.{Fault}
 use Rattle.yaml_parse_laws_trees.specs.parse_grammar.Trees.{Stream, spell}
 use Rattle.yaml_parse_laws_trees.specs.Places.{of_handle, of_token, BeginsWithSentence, with_end}
 use Rattle.yaml_parse_laws_trees.proofs.CountsUnique.{one_tree}
-use Rattle.yaml_parse_laws_trees.proofs.Cuts.{SameCut, same_cut}
+use Rattle.yaml_parse_laws_trees.proofs.Cuts.{SameCut, same_cut, head_same}
 use Rattle.yaml_parse_laws_trees.proofs.Spelling.{spelled_before}
-use Rattle.yaml_parse_laws_trees.proofs.FaultsUnique.{one_at}
+use Rattle.yaml_parse_laws_trees.proofs.FaultsUnique.{one_at, same_some}
 use Rattle.yaml_parse_laws_trees.specs.Aliases.{alias_fault}
 use Rattle.yaml_parse_laws_trees.specs.Faults.{LoadRank, of_parser, of_alias, LoadRanksBefore, LoadFaultAt, LoadStandsIn, IsFirstIn, FirstOf, LoadsSentence, IsLoadOwn, LoadsUnfinished}
 use Rattle.yaml_parse_laws_trees.specs.Laws.{LoadFaultIsOne}
-
-same_some : (x : Option Fault) (e f : Fault) → x ≡ Some e → x ≡ Some f → e ≡ f
-same_some x e f p q = cc
 
 -- one fault at each place
 one_here : (past : List Token) (t : Token) (r : LoadRank) (e f : Fault) → LoadFaultAt past t r e
     → LoadFaultAt past t r f → e ≡ f
 one_here past t (of_parser r) e f p q = one_at past t r e f p q
 one_here past t of_alias e f p q = same_some (alias_fault past t.body t.start_mark) e f p q
-
-head_same : (a b : Token) (x y : List Token) → a ∷ x ≡ b ∷ y → a ≡ b
-head_same a b x y h = cc
 
 abbrev standing : List Token → ℕ → LoadRank → Fault → Type 0
 standing ts n r e = LoadStandsIn ts (record { number = n; rank = r }) e

@@ -1,5 +1,5 @@
 -- The machine over the front of a list.
-use Rattle.std.proofs.Common.{◌≡◌, ◌+◌, ℕ, List, [], ◌∷◌, ◌++◌, length, map, Option, Some, None, refl, ap, sym, subst, ◌∙◌, arith, append_assoc, zero-add}
+use Rattle.std.proofs.Common.{◌≡◌, ◌+◌, ℕ, List, [], ◌∷◌, ◌++◌, length, map, Option, None, refl, ap, sym, subst, ◌∙◌, arith, append_assoc, zero-add}
 use Rattle.yaml_parse_laws_trees.specs.parse_grammar.parse_model.Tokens.{Token}
 use Rattle.yaml_parse_laws_trees.specs.parse_grammar.parse_model.Faults.{Fault}
 use Rattle.yaml_parse_laws_trees.specs.parse_grammar.Items.{RawEvent}
@@ -14,6 +14,7 @@ use Rattle.yaml_parse_laws_trees.proofs.FaultsStanding.{Last, last_of, Topped, N
 use Rattle.yaml_parse_laws_trees.proofs.Taking.{stack_solid, Takes, takes}
 use Rattle.yaml_parse_laws_trees.proofs.Going.{Stacked, FedKept, fed_kept}
 use Rattle.yaml_parse_laws_trees.proofs.Ending.{runs_fed}
+use Rattle.yaml_parse_laws_trees.proofs.Refusal.{not_none}
 
 -- ---- items with as many tokens more behind them
 
@@ -96,9 +97,6 @@ outcome_step : (n m k : ℕ) (is : List RawEvent) (gs : List Given) (o p : Outco
 outcome_step n m k is gs o p e h =
     ap (λ (z : Outcome). before (numbered k is) z) h
     ∙ ap (λ (z : List Given). let r : Outcome = record { items = z; ending = p.ending } in r) (list_step n m k is gs p.items e)
-
-not_none : (e : Fault) → Some e ≡ None → ⊥
-not_none e h = cc
 
 walk_on : (t : Token) (front behind more : List Token) (l : Last) (x : State) (s : List State)
     (fed : Fed) → feed (x ∷ s) t ≡ fed → Knows l (x ∷ s)

@@ -18,19 +18,19 @@ use Rattle.yaml_parse_grammar.specs.Resolve.{Directives, no_directives, placed}
 use Rattle.yaml_parse_grammar.specs.States.{State}
 use Rattle.yaml_parse_grammar.specs.States as state
 use Rattle.yaml_parse_grammar.specs.Machine.{left_at, Fed, stop, go, with_item, feed, carry, run, initial}
-use Rattle.yaml_parse_laws_windows.specs.Laws.{parse_of, events_in, GoOn, BeginsDocument, DirectivesAreParsed}
+use Rattle.yaml_parse_laws_windows.specs.Laws.{parse_of, events_in, GoOn, BeginsDocument, GoesOn, DirectivesAreParsed}
 use Rattle.yaml_parse_laws_windows.proofs.Grounding.{Stands}
 use Rattle.yaml_parse_laws_windows.proofs.Noting.{through, none_some, Fine, within_stands, stands_feed}
 use Rattle.yaml_parse_laws_windows.proofs.Parting.{end_at}
-use Rattle.yaml_parse_laws_windows.proofs.Following.{items_of, Plain, plain, seen, with_front, plain_through, plain_accepts, through_parts, run_step, step_items, step_ending, After, after, uncons, inner_pair, parse_plain, body_at}
+use Rattle.yaml_parse_laws_windows.proofs.Following.{items_of, Plain, plain, seen, with_one, with_front, plain_through, plain_accepts, through_parts, run_step, step_items, step_ending, read_of, went, After, after, uncons, inner_pair, parse_plain, body_at}
 
-abbrev over_at : yaml_mark_t → yaml_mark_t → Token
+abbrev pub over_at : yaml_mark_t → yaml_mark_t → Token
 over_at m e = record { body = token.document_end; start_mark = m; end_mark = e }
 
 -- ---- the stack behind DOCUMENT-END
 
 -- it awaits documents
-abbrev IsOver : Fed → Type 0
+abbrev pub IsOver : Fed → Type 0
 IsOver (stop is f) = Unit {0}
 IsOver (go is s) = s ≡ state.documents ∷ []
 
@@ -59,7 +59,7 @@ beside_over Flow p m e s h = over_item (left_at (state.with_properties Flow p) m
 beside_over (Block None) p m e s h = over_item (left_at (state.with_properties (Block None) p) m) (feed s (over_at m e)) h
 beside_over (Block (Some side)) p m e s h = over_item (left_at (state.with_properties (Block (Some side)) p) m) (feed s (over_at m e)) h
 
-feed_over : (s : List State) (ds : Directives) → Stands s ds → (m e : yaml_mark_t)
+pub feed_over : (s : List State) (ds : Directives) → Stands s ds → (m e : yaml_mark_t)
     → IsOver (feed s (over_at m e))
 unfolding feed
 feed_over [] ds g m e = absurd g
@@ -146,30 +146,29 @@ over_of front goes m e ts none =
     let s = after front initial no_directives (refl, refl) goes us es z told quiet in
     overed front m e s ts es z (ap (λ y. through y no_directives) (sym (s.gives us None)) ∙ told) (sym (s.ends us None) ∙ quiet)
 
--- what is read where a token behind DOCUMENT-END is taken
+-- what is read behind DOCUMENT-END
 over_plain : (front : List Token) (m e : yaml_mark_t) (x : Over front m e)
-    (t : Token) (ts : List Token) (own : Option Fault) (is : List RawEvent) (s : List State)
-    → feed (state.documents ∷ []) t ≡ go is s
-    → seen (parse_of (front ++ over_at m e ∷ t ∷ ts) own)
-    ≡ with_front (x.taken.events ++ x.events) (plain (is ++ items_of (run ts s own).items) (run ts s own).ending no_directives)
-over_plain front m e x t ts own is s k =
-    let us = over_at m e ∷ t ∷ ts in
+    (rest : List Token) (own : Option Fault)
+    → seen (parse_of (front ++ over_at m e ∷ rest) own)
+    ≡ with_front (x.taken.events ++ x.events) (read_of (run rest (state.documents ∷ []) own) no_directives)
+over_plain front m e x rest own =
+    let us = over_at m e ∷ rest in
     let W = run (front ++ us) initial own in
-    let js = is ++ items_of (run ts s own).items in
-    let ending = (run ts s own).ending in
+    let R = run rest (state.documents ∷ []) own in
+    let js = items_of R.items in
     let items = x.taken.gives us own
-    ∙ ap (λ y. x.taken.items ++ y) (step_items (over_at m e) (t ∷ ts) x.taken.stack (state.documents ∷ []) own x.left x.ends ∙ ap (λ y. x.left ++ y) (step_items t ts (state.documents ∷ []) s own is k)) in
-    let ends = x.taken.ends us own ∙ step_ending (over_at m e) (t ∷ ts) x.taken.stack (state.documents ∷ []) own x.left x.ends ∙ step_ending t ts (state.documents ∷ []) s own is k in
+    ∙ ap (λ y. x.taken.items ++ y) (step_items (over_at m e) rest x.taken.stack (state.documents ∷ []) own x.left x.ends) in
+    let ends = x.taken.ends us own ∙ step_ending (over_at m e) rest x.taken.stack (state.documents ∷ []) own x.left x.ends in
     parse_plain (front ++ us) own
     ∙ ap (λ y. plain y W.ending no_directives) items
     ∙ ap (λ y. plain (x.taken.items ++ (x.left ++ js)) y no_directives) ends
-    ∙ plain_through x.taken.items (x.left ++ js) ending no_directives x.taken.noted x.taken.events x.taken.told
-    ∙ ap (with_front x.taken.events) (plain_through x.left js ending x.taken.noted no_directives x.events x.told)
-    ∙ ap (λ (y : List Event). record { events = y; ending = (plain js ending no_directives).ending }) (sym (append_assoc x.taken.events x.events (plain js ending no_directives).events))
+    ∙ plain_through x.taken.items (x.left ++ js) R.ending no_directives x.taken.noted x.taken.events x.taken.told
+    ∙ ap (with_front x.taken.events) (plain_through x.left js R.ending x.taken.noted no_directives x.events x.told)
+    ∙ ap (λ (y : List Event). record { events = y; ending = (plain js R.ending no_directives).ending }) (sym (append_assoc x.taken.events x.events (plain js R.ending no_directives).events))
 
 -- ---- the law
 
-end_taken : (m e : yaml_mark_t)
+pub end_taken : (m e : yaml_mark_t)
     → feed (state.documents ∷ []) (end_at m e) ≡ go (event_at event.stream_end m e ∷ []) []
 unfolding feed
 end_taken m e = refl
@@ -180,54 +179,73 @@ start_taken : (x : yaml_encoding_t) (m e : yaml_mark_t)
 unfolding feed
 start_taken x m e = refl
 
-nothing_more : items_of (run [] [] None).items ≡ []
+pub nothing_more : items_of (run [] [] None).items ≡ []
 unfolding run feed
 nothing_more = refl
 
+-- the stream's end behind DOCUMENT-END
+end_plain : (m e : yaml_mark_t)
+    → (read_of (run (end_at m e ∷ []) (state.documents ∷ []) None) no_directives).events
+    ≡ placed event.stream_end (event_at event.stream_end m e) ∷ []
+end_plain m e =
+    let End = event_at event.stream_end m e in
+    ap (λ (p : Plain). p.events) (went (end_at m e) [] (state.documents ∷ []) [] None (End ∷ []) no_directives (end_taken m e)
+    ∙ ap (λ z. plain (End ∷ z) (run [] [] None).ending no_directives) nothing_more)
+
+-- what is read behind the stream's start
+first_plain : (x : yaml_encoding_t) (a c : yaml_mark_t) (rest : List Token) (own : Option Fault)
+    → let first : Token = record { body = token.stream_start x; start_mark = a; end_mark = c } in
+    seen (parse_of (first ∷ rest) own)
+    ≡ with_one (placed (event.stream_start x) (event_at (event.stream_start x) a c)) (read_of (run rest (state.first ∷ []) own) no_directives)
+first_plain x a c rest own =
+    let first : Token = record { body = token.stream_start x; start_mark = a; end_mark = c } in
+    parse_plain (first ∷ rest) own ∙ went first rest initial (state.first ∷ []) own (event_at (event.stream_start x) a c ∷ []) no_directives (start_taken x a c)
+
+-- it is the same behind both
+same_rest : (rest : List Token) (own : Option Fault) → GoesOn rest own
+    → read_of (run rest (state.documents ∷ []) own) no_directives ≡ read_of (run rest (state.first ∷ []) own) no_directives
+unfolding run
+same_rest [] None h = absurd (h refl)
+same_rest [] (Some f) h = refl
+same_rest (t ∷ ts) own h =
+    let b = begun_by t.body t.start_mark t.end_mark h in
+    went t ts (state.documents ∷ []) b.stack own (b.item ∷ []) no_directives b.behind
+    ∙ sym (went t ts (state.first ∷ []) b.stack own (b.item ∷ []) no_directives b.at_first)
+
 at_once : (front : List Token) → GoOn front → (m e n f : yaml_mark_t)
     → (parse_of (front ++ over_at m e ∷ end_at n f ∷ []) None).ending ≡ None
-    → (mark : Token) → Begun mark
-    → (x : yaml_encoding_t) (a c : yaml_mark_t) (behind : List Token) (own : Option Fault)
-    → (before : List Event) (end : Event)
+    → (rest : List Token) (own : Option Fault) → GoesOn rest own
+    → (x : yaml_encoding_t) (a c : yaml_mark_t) (before : List Event) (end : Event)
     → events_in (parse_of (front ++ over_at m e ∷ end_at n f ∷ []) None) ≡ before ++ end ∷ []
     → (start : Event) (later : List Event)
     → let first : Token = record { body = token.stream_start x; start_mark = a; end_mark = c } in
-    events_in (parse_of (first ∷ mark ∷ behind) own) ≡ start ∷ later
-    → (events_in (parse_of (front ++ over_at m e ∷ mark ∷ behind) own) ≡ before ++ later)
-    × ((parse_of (front ++ over_at m e ∷ mark ∷ behind) own).ending ≡ (parse_of (first ∷ mark ∷ behind) own).ending)
-at_once front goes m e n f none mark begun x a c behind own before end came start later come =
-    let first : Token = record { body = token.stream_start x; start_mark = a; end_mark = c } in
+    events_in (parse_of (first ∷ rest) own) ≡ start ∷ later
+    → (events_in (parse_of (front ++ over_at m e ∷ rest) own) ≡ before ++ later)
+    × ((parse_of (front ++ over_at m e ∷ rest) own).ending ≡ (parse_of (first ∷ rest) own).ending)
+at_once front goes m e n f none rest own begins x a c before end came start later come =
     let y = over_of front goes m e (end_at n f ∷ []) none in
-    let End = event_at event.stream_end n f in
-    let Start = event_at (event.stream_start x) a c in
-    let B = run behind begun.stack own in
-    let P = plain (begun.item ∷ items_of B.items) B.ending no_directives in
-    let front_is = over_plain front m e y (end_at n f) [] None (End ∷ []) [] (end_taken n f) ∙ ap (λ z. with_front (y.taken.events ++ y.events) (plain (End ∷ z) (run [] [] None).ending no_directives)) nothing_more in
-    let (same, last) = same_from_push before (y.taken.events ++ y.events) end (placed event.stream_end End) (sym came ∙ ap (λ (p : Plain). p.events) front_is) in
-    let R = run (first ∷ mark ∷ behind) initial own in
-    let rest_items = step_items first (mark ∷ behind) initial (state.first ∷ []) own (Start ∷ []) (start_taken x a c)
-    ∙ ap (λ z. Start ∷ z) (step_items mark behind (state.first ∷ []) begun.stack own (begun.item ∷ []) begun.at_first) in
-    let rest_ending = step_ending first (mark ∷ behind) initial (state.first ∷ []) own (Start ∷ []) (start_taken x a c)
-    ∙ step_ending mark behind (state.first ∷ []) begun.stack own (begun.item ∷ []) begun.at_first in
-    let rest = parse_plain (first ∷ mark ∷ behind) own
-    ∙ ap (λ z. plain z R.ending no_directives) rest_items
-    ∙ ap (λ z. plain (Start ∷ begun.item ∷ items_of B.items) z no_directives) rest_ending in
-    let whole = over_plain front m e y mark behind own (begun.item ∷ []) begun.stack begun.behind in
-    let others : later ≡ P.events = uncons start (placed (event.stream_start x) Start) later P.events (sym come ∙ ap (λ (p : Plain). p.events) rest) in (
+    let End = placed event.stream_end (event_at event.stream_end n f) in
+    let Start = placed (event.stream_start x) (event_at (event.stream_start x) a c) in
+    let P = read_of (run rest (state.first ∷ []) own) no_directives in
+    let front_is = ap (λ (p : Plain). p.events) (over_plain front m e y (end_at n f ∷ []) None) ∙ ap (λ es. (y.taken.events ++ y.events) ++ es) (end_plain n f) in
+    let (same, last) = same_from_push before (y.taken.events ++ y.events) end End (sym came ∙ front_is) in
+    let there = first_plain x a c rest own in
+    let whole = over_plain front m e y rest own ∙ ap (with_front (y.taken.events ++ y.events)) (same_rest rest own begins) in
+    let others : later ≡ P.events = uncons start Start later P.events (sym come ∙ ap (λ (p : Plain). p.events) there) in (
       ap (λ (p : Plain). p.events) whole ∙ ap (λ (z : List Event). z ++ P.events) (sym same) ∙ ap (λ (z : List Event). before ++ z) (sym others),
-      ap (λ (p : Plain). p.ending) whole ∙ sym (ap (λ (p : Plain). p.ending) rest),
+      ap (λ (p : Plain). p.ending) whole ∙ sym (ap (λ (p : Plain). p.ending) there),
     )
 
 pub directives_are_parsed : DirectivesAreParsed
-directives_are_parsed front over last goes ended ends none mark begins first x starts behind own before end came start later come =
+directives_are_parsed front over last goes ended ends none rest own begins first x starts before end came start later come =
     let O = body_at over token.document_end over.start_mark ended refl in
     let E = body_at last token.stream_end last.start_mark ends refl in
     let S = body_at first (token.stream_start x) first.start_mark starts refl in
     let list = ap (λ t. front ++ t ∷ last ∷ []) O ∙ ap (λ t. front ++ over_at over.start_mark over.end_mark ∷ t ∷ []) E in
     let (events, ending) = at_once front goes over.start_mark over.end_mark last.start_mark last.end_mark
-    (ap (λ ts. (parse_of ts None).ending) (sym list) ∙ none) mark (begun_by mark.body mark.start_mark mark.end_mark begins) x first.start_mark first.end_mark behind own before end
+    (ap (λ ts. (parse_of ts None).ending) (sym list) ∙ none) rest own begins x first.start_mark first.end_mark before end
     (ap (λ ts. events_in (parse_of ts None)) (sym list) ∙ came) start later
-    (ap (λ t. events_in (parse_of (t ∷ mark ∷ behind) own)) (sym S) ∙ come) in (
-      ap (λ t. events_in (parse_of (front ++ t ∷ mark ∷ behind) own)) O ∙ events,
-      ap (λ t. (parse_of (front ++ t ∷ mark ∷ behind) own).ending) O ∙ ending ∙ sym (ap (λ t. (parse_of (t ∷ mark ∷ behind) own).ending) S),
+    (ap (λ t. events_in (parse_of (t ∷ rest) own)) (sym S) ∙ come) in (
+      ap (λ t. events_in (parse_of (front ++ t ∷ rest) own)) O ∙ events,
+      ap (λ t. (parse_of (front ++ t ∷ rest) own).ending) O ∙ ending ∙ sym (ap (λ t. (parse_of (t ∷ rest) own).ending) S),
     )

@@ -3,5 +3,6 @@ pub mod Noting
 pub mod Parting
 mod Closing
 pub mod Following
-mod Beginning
+pub mod Beginning
 pub mod Refusing
+pub mod Staying

@@ -113,7 +113,7 @@ stands_halts (state.lone ∷ s) ds g m e f = inl (within_halts (state.lone ∷ s
 -- ---- items in front
 
 -- only where all of them settle the others count
-same_front : (is : List RawEvent) (ds : Directives) (js ks : List RawEvent) (f g : Option Fault)
+pub same_front : (is : List RawEvent) (ds : Directives) (js ks : List RawEvent) (f g : Option Fault)
     → ((es : List Event) (behind : Directives) → through is ds ≡ Some (es, behind) → plain js f behind ≡ plain ks g behind)
     → plain (is ++ js) f ds ≡ plain (is ++ ks) g ds
 same_front [] ds js ks f g h = h [] ds refl

@@ -1,5 +1,5 @@
 -- The events of tokens behind a document's end.
-use Rattle.std.specs.Prelude.{◌≡◌, ◌≢◌, List, [], ◌∷◌, ◌++◌, map, Option, Some, None}
+use Rattle.std.specs.Prelude.{◌≡◌, ◌≢◌, ◌⊎◌, List, [], ◌∷◌, ◌++◌, map, Option, Some, None}
 use Rattle.yaml_parse_grammar.specs.parse_model.declared.yaml_encoding_t.{yaml_encoding_t}
 use Rattle.yaml_parse_grammar.specs.parse_model.Tokens.{Token, TokenBody, stream_start, stream_end, document_start, document_end, version_directive, tag_directive}
 use Rattle.yaml_parse_grammar.specs.parse_model.Faults.{Fault}
@@ -46,20 +46,25 @@ BeginsDocument (tag_directive handle prefix) = Unit {0}
 BeginsDocument document_start = Unit {0}
 BeginsDocument _ = ⊥
 
--- Where DOCUMENT-END stands in front of STREAM-END, a directive may stand in the latter's place too, wherever it is told.
+-- what begins a document, or a fault, stands first
+abbrev pub GoesOn : List Token → Option Fault → Type 0
+GoesOn [] own = own ≢ None
+GoesOn (mark ∷ behind) own = BeginsDocument mark.body
+
+-- Where DOCUMENT-END stands in front of STREAM-END, a directive may stand in the latter's place too, wherever it is told, and so may
+-- a fault.
 abbrev pub DirectivesAreParsed : Type 0
 DirectivesAreParsed = (front : List Token) (over last : Token) → GoOn front
     → over.body ≡ document_end → last.body ≡ stream_end
     → (parse_of (front ++ over ∷ last ∷ []) None).ending ≡ None
-    → (mark : Token) → BeginsDocument mark.body
+    → (rest : List Token) (own : Option Fault) → GoesOn rest own
     → (first : Token) (encoding : yaml_encoding_t) → first.body ≡ stream_start encoding
-    → (behind : List Token) (own : Option Fault) (before : List Event) (end : Event)
+    → (before : List Event) (end : Event)
     → events_in (parse_of (front ++ over ∷ last ∷ []) None) ≡ before ++ end ∷ []
     → (start : Event) (later : List Event)
-    → events_in (parse_of (first ∷ mark ∷ behind) own) ≡ start ∷ later
-    → (events_in (parse_of (front ++ over ∷ mark ∷ behind) own) ≡ before ++ later)
-    × ((parse_of (front ++ over ∷ mark ∷ behind) own).ending ≡ (parse_of
-    (first ∷ mark ∷ behind) own).ending)
+    → events_in (parse_of (first ∷ rest) own) ≡ start ∷ later
+    → (events_in (parse_of (front ++ over ∷ rest) own) ≡ before ++ later)
+    × ((parse_of (front ++ over ∷ rest) own).ending ≡ (parse_of (first ∷ rest) own).ending)
 
 -- Where tokens that end in STREAM-END are refused, and not for want of a document behind directives that end them, they are refused
 -- so with a DOCUMENT-START in its place, whatever stands behind.
@@ -72,6 +77,23 @@ RefusedFrontsStay = (front : List Token) (last : Token) → GoOn front → last.
     → (events_in (parse_of (front ++ mark ∷ behind) own)
     ≡ events_in (parse_of (front ++ last ∷ []) None))
     × ((parse_of (front ++ mark ∷ behind) own).ending ≡ Some f)
+
+-- Where tokens that end in DOCUMENT-END and STREAM-END are refused, they are refused so whatever stands behind DOCUMENT-END.
+abbrev pub EndedFrontsStay : Type 0
+EndedFrontsStay = (front : List Token) (over last : Token) → GoOn front
+    → over.body ≡ document_end → last.body ≡ stream_end
+    → (f : Fault) → (parse_of (front ++ over ∷ last ∷ []) None).ending ≡ Some f
+    → (behind : List Token) (own : Option Fault)
+    → (events_in (parse_of (front ++ over ∷ behind) own)
+    ≡ events_in (parse_of (front ++ over ∷ last ∷ []) None))
+    × ((parse_of (front ++ over ∷ behind) own).ending ≡ Some f)
+
+-- Where tokens that a fault ends are refused, that is their fault, or they are refused so whatever stands behind them.
+abbrev pub RefusedTokensStay : Type 0
+RefusedTokensStay = (front : List Token) (g f : Fault) → (parse_of front (Some g)).ending ≡ Some f
+    → (f ≡ g) ⊎ ((behind : List Token) (own : Option Fault)
+    → (events_in (parse_of (front ++ behind) own) ≡ events_in (parse_of front (Some g)))
+    × ((parse_of (front ++ behind) own).ending ≡ Some f))
 
 -- Tokens that end in STREAM-END and are accepted leave no bracket open.
 abbrev pub BracketsAreClosed : Type 0

@@ -4,5 +4,6 @@
 mod laws;
 
 pub use laws::{
-    brackets_are_closed, directives_are_parsed, refused_fronts_stay, windows_are_parsed,
+    brackets_are_closed, directives_are_parsed, ended_fronts_stay, refused_fronts_stay,
+    refused_tokens_stay, windows_are_parsed,
 };

@@ -18,9 +18,10 @@ use std::alloc::Global;
 use std::mem;
 use yaml_parse_document::{DocumentParts, MAX_ENTRIES, push_entry, yaml_document_t};
 use yaml_parse_model::{
-    moved, yaml_event_body_t, yaml_event_t, yaml_mapping_style_t, yaml_mark_t, yaml_node_body_t,
-    yaml_node_pair_t, yaml_node_t, yaml_node_tag_t, yaml_scalar_style_t, yaml_sequence_style_t,
-    yaml_tag_directive_t, yaml_text_fault_t, yaml_version_directive_t,
+    mark_again, yaml_event_body_t, yaml_event_t, yaml_mapping_style_t, yaml_mark_t,
+    yaml_node_body_t, yaml_node_pair_t, yaml_node_t, yaml_node_tag_t, yaml_node_text_t,
+    yaml_scalar_style_t, yaml_sequence_style_t, yaml_tag_directive_t, yaml_text_fault_t,
+    yaml_version_directive_t,
 };
 
 /// An open collection: the place of its node, and what it holds so far. A mapping may have a key without its value.
@@ -190,7 +191,7 @@ fn taken(step: Result<(), yaml_text_fault_t>) -> Fed
     }
 }
 
-// The node of a scalar, whose texts are taken out.
+// The node of a scalar, whose texts are taken out; a short value leaves its room to the next one.
 // Inlined into its one caller: the node is built where it is to stand.
 #[inline(always)]
 fn scalar_of(
@@ -205,12 +206,12 @@ fn scalar_of(
 {
     let given = tag.take();
     let tag = tag_or_default(given, yaml_node_tag_t::Str);
-    let value = moved(value);
+    let value = yaml_node_text_t::taken(value);
     yaml_node_t {
         body: yaml_node_body_t::Scalar { value, style },
         tag,
-        start_mark: *start_mark,
-        end_mark: *end_mark,
+        start_mark: mark_again(start_mark),
+        end_mark: mark_again(end_mark),
     }
 }
 

@@ -1,7 +1,9 @@
 pub mod Constructors
 pub mod Events
 pub mod Nodes
+pub mod NodeTexts
 pub mod Prefix
 pub mod Source
+pub mod TextView
 pub use Rattle.yaml_scan_model.specs.Tokens
 pub use Rattle.yaml_scan_model.specs.Faults

@@ -28,7 +28,7 @@ pub record Node : Type 0 where
 
 abbrev pub body_of : yaml_node_body_t → NodeBody
 body_of body.No = no
-body_of (body.Scalar value style) = scalar value.items style
+body_of (body.Scalar style value) = scalar value style
 body_of (body.Sequence items style) = sequence items.items style
 body_of (body.Mapping pairs style) = mapping pairs.items style
 

@@ -1,8 +1,10 @@
 -- What a source of tokens gives.
-use Rattle.std.specs.Prelude.{◌≡◌, ◌⊎◌, Bool, true, false, List, [], ◌∷◌, Option, Some, None, IsUtf8}
-use Rattle.yaml_scan_model.specs.Tokens.{Token, TokenBody, no_token}
+use Rattle.std.specs.Prelude.{◌≡◌, ◌⊎◌, Bool, true, false, List, [], ◌∷◌, Option, Some, None, Result, Ok, Err, IsUtf8}
+use Rattle.yaml_scan_model.specs.declared.token.yaml_token_t.{yaml_token_t}
+use Rattle.yaml_scan_model.specs.declared.fault.yaml_fault_t.{yaml_fault_t}
+use Rattle.yaml_scan_model.specs.Tokens.{Token, TokenBody, token_of, no_token}
 use Rattle.yaml_scan_model.specs.Tokens as token
-use Rattle.yaml_scan_model.specs.Faults.{Fault, IsMemoryFault, scan_layers}
+use Rattle.yaml_scan_model.specs.Faults.{Fault, fault_of, IsMemoryFault, scan_layers}
 
 -- the first token to come, and the others; behind the last the empty token
 abbrev pub front_of : List Token → Token
@@ -56,3 +58,16 @@ abbrev pub GivesInto : Bool → List Token → Option Fault → Token → Fault 
     → Type 0
 GivesInto true old fault t f new after = GivesToken old fault t new after
 GivesInto false old fault t f new after = GivesFault old fault f new after
+
+-- what a call of a source answers
+abbrev pub Answer : Type 0
+Answer = Result Token Fault
+
+abbrev pub answer_of : Result yaml_token_t yaml_fault_t → Answer
+answer_of (Ok t) = Ok (token_of t)
+answer_of (Err f) = Err (fault_of f)
+
+-- the same of slots that were lent
+abbrev pub answer_in : Bool → Token → Fault → Answer
+answer_in true t f = Ok t
+answer_in false t f = Err f

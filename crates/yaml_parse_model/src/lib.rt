@@ -4,6 +4,7 @@
 mod constructor;
 mod event;
 mod node;
+mod node_text;
 mod prefix;
 mod source;
 mod state;
@@ -21,6 +22,7 @@ pub use node::{
     yaml_alias_data_t, yaml_node_body_t, yaml_node_item_t, yaml_node_pair_t, yaml_node_t,
     yaml_node_tag_t,
 };
+pub use node_text::yaml_node_text_t;
 pub use prefix::{yaml_parser_t_prefix, yaml_text_fault_t};
 pub use source::yaml_token_source_t;
 pub use state::yaml_parser_state_t;

@@ -3,6 +3,7 @@
 ghost use Rattle.std.specs.Prelude.{◌≡◌};
 ghost use Rattle.yaml_parse_model.specs.Nodes.{type_of, node_of, tag_of};
 
+use crate::node_text::yaml_node_text_t;
 use yaml_scan_model::{
     yaml_mapping_style_t, yaml_mark_t, yaml_node_type_t, yaml_scalar_style_t, yaml_sequence_style_t,
 };
@@ -23,8 +24,8 @@ pub enum yaml_node_body_t {
     /// The empty node, which no document holds.
     No,
     Scalar {
-        value: Vec<u8>,
         style: yaml_scalar_style_t,
+        value: yaml_node_text_t,
     },
     Sequence {
         items: Vec<yaml_node_item_t>,

@@ -1,9 +1,9 @@
 //! Where a parser's tokens come from.
 
-ghost use Rattle.std.specs.Prelude.{List, Option, IfOk, IfErr};
+ghost use Rattle.std.specs.Prelude.{List, Option, IfOk, IfErr, ⊤};
 ghost use Rattle.yaml_scan_model.specs.Tokens.{Token, token_of};
 ghost use Rattle.yaml_scan_model.specs.Faults.{Fault, fault_of};
-ghost use Rattle.yaml_parse_model.specs.Source.{GivesToken, GivesFault, GivesInto};
+ghost use Rattle.yaml_parse_model.specs.Source.{GivesToken, GivesFault, GivesInto, Answer, answer_of, answer_in};
 
 use yaml_scan_model::{yaml_fault_t, yaml_token_t};
 
@@ -17,18 +17,24 @@ pub trait yaml_token_source_t: Drop {
     // The fault that ends them, if any.
     ghost fault_to_come: { Self → Option Fault };
 
+    // How a source's own state goes on beside these, by what a call answers. A source that keeps nothing says nothing of it.
+    ghost own_step: { Self → Answer → Self → Type 0 } = { λ _ _ _. ⊤ };
+
     /// The next token; or the fault that ends the list, once; or, from then on, the empty token.
     fn next_token(&mut self) -> Result<yaml_token_t, yaml_fault_t>
         ensures ok { IfOk result (λ t. GivesToken (to_come self.old) (fault_to_come self.old)
             (token_of t) (to_come self.new) (fault_to_come self.new)) }
         ensures err { IfErr result (λ f. GivesFault (to_come self.old) (fault_to_come self.old)
-            (fault_of f) (to_come self.new) (fault_to_come self.new)) };
+            (fault_of f) (to_come self.new) (fault_to_come self.new)) }
+        ensures own { own_step self.old (answer_of result) self.new };
 
     /// The same in a slot that is lent (true), or the fault in the other one (false). A slot that isn't filled may hold
     /// anything afterwards. A source whose tokens can be put there at once has a body of its own for it.
     fn next_token_into(&mut self, token: &mut yaml_token_t, fault: &mut yaml_fault_t) -> bool
         ensures gives { GivesInto result (to_come self.old) (fault_to_come self.old)
             (token_of token.new) (fault_of fault.new) (to_come self.new) (fault_to_come self.new) }
+        ensures own { own_step self.old (answer_in result (token_of token.new) (fault_of fault.new))
+            self.new }
     {
         match self.next_token() {
             Ok(given) => {

@@ -13,7 +13,7 @@ use Rattle.yaml_round_device.specs.declared.yaml_command_t.TheVariants.{Fmt, Doc
 use Rattle.yaml_round_device.specs.declared.yaml_run_fault_t.{yaml_run_fault_t}
 use Rattle.yaml_round_device.specs.declared.yaml_run_fault_t.TheVariants as fault
 use Rattle.yaml_round_device.specs.Run.{GivesAll, IsReadFault, TakesFew, RunTakes, Work, Runs, FailsBy}
-use Rattle.yaml_round.specs.Commands.{IsRunAnswer, run_layers}
+use Rattle.yaml_round.specs.Commands.{IsRunAnswer, run_layers, EndsUnfinished}
 
 abbrev pub work_of : yaml_command_t → yaml_encoding_t → yaml_settings_t → ℕ
     → Work (Option yaml_form_t)
@@ -53,6 +53,14 @@ unread_taken before after limit fault.Read h = h
 unread_taken before after limit fault.TooLong h = h
 unread_taken before after limit (fault.Yaml f) h = h
 unread_taken before after limit (fault.Write written) h = h
+
+pub unread_unfinished : (to_come : Option (List ℕ)) (limit : ℕ) (before after finished : Bool)
+    (why : yaml_run_fault_t) → IsReadFault to_come before after limit why
+    → EndsUnfinished why finished
+unread_unfinished to_come limit before after finished fault.Read h = tt
+unread_unfinished to_come limit before after finished fault.TooLong h = tt
+unread_unfinished to_come limit before after finished (fault.Yaml f) h = tt
+unread_unfinished to_come limit before after finished (fault.Write written) h = absurd h
 
 -- the input was refused
 pub refused : (command : yaml_command_t) (from : yaml_encoding_t) (settings : yaml_settings_t)

@@ -1,5 +1,5 @@
 -- What a run of a command answers.
-use Rattle.std.specs.Prelude.{◌≡◌, ℕ, List, Option, None, Some, Result, Ok, Err}
+use Rattle.std.specs.Prelude.{◌≡◌, ℕ, Bool, false, List, Option, None, Some, Result, Ok, Err}
 use Rattle.yaml_scan_model.specs.declared.yaml_encoding_t.{yaml_encoding_t}
 use Rattle.yaml_scan_model.specs.declared.yaml_origin_t.{yaml_origin_t}
 use Rattle.yaml_scan_model.specs.Faults.{Fault}
@@ -8,6 +8,8 @@ use Rattle.yaml_round_device.specs.declared.yaml_form_t.{yaml_form_t}
 use Rattle.yaml_round_device.specs.declared.yaml_form_t.TheVariants.{Canonical}
 use Rattle.yaml_round_device.specs.declared.yaml_command_t.{yaml_command_t}
 use Rattle.yaml_round_device.specs.declared.yaml_command_t.TheVariants.{Fmt, Docs, Events}
+use Rattle.yaml_round_device.specs.declared.yaml_run_fault_t.{yaml_run_fault_t}
+use Rattle.yaml_round_device.specs.declared.yaml_run_fault_t.TheVariants.{Read, TooLong, Yaml, Write}
 use Rattle.yaml_round_writing.specs.Answers.{IsReformatted, IsListed}
 use Rattle.yaml_round_writing.specs.Reload.{IsReloaded}
 use Rattle.yaml_round_writing.specs.Layers.{list_layers, reformat_layers, reload_layers}
@@ -31,3 +33,10 @@ IsRunAnswer Docs from settings input (Err fault) = IsReloaded from settings inpu
 IsRunAnswer Events from settings input (Ok (text, form)) = (form ≡ None)
     × IsListed from input (Ok text)
 IsRunAnswer Events from settings input (Err fault) = IsListed from input (Err fault)
+
+-- after a failed write the output isn't finished
+abbrev pub EndsUnfinished : yaml_run_fault_t → Bool → Type 0
+EndsUnfinished Read finished = Unit {0}
+EndsUnfinished TooLong finished = Unit {0}
+EndsUnfinished (Yaml fault) finished = Unit {0}
+EndsUnfinished (Write written) finished = finished ≡ false

@@ -4,7 +4,7 @@ ghost use Rattle.std.specs.Prelude.{◌≡◌, true, IfErr, OnOk};
 ghost use Rattle.yaml_round_device.specs.Run.{Runs, RunTakes, FailsBy, IsBeforeWriting};
 ghost use Rattle.yaml_scan_model.specs.Faults.{Answers};
 ghost use Rattle.yaml_round_writing.specs.Answers.{text_and_maybe_form};
-ghost use Rattle.yaml_round.specs.Commands.{IsRunAnswer, run_layers};
+ghost use Rattle.yaml_round.specs.Commands.{IsRunAnswer, run_layers, EndsUnfinished};
 
 use crate::engine::{yaml_events, yaml_reformat};
 use crate::reload::yaml_reload;
@@ -65,8 +65,9 @@ pub fn yaml_run<I: yaml_input_t, O: yaml_output_t>(
         (record { to_come = I.to_come input.new; received = O.received output.new }) result }
     // No byte is taken behind the one past the limit, whether or not the input tells its bytes.
     ensures taken { RunTakes (I.given input.old) (I.given input.new) input_limit result }
-    // After a whole answer the output is finished.
+    // After a whole answer the output is finished, and after a failed write it isn't.
     ensures finished { OnOk result (O.is_finished output.new ≡ true) }
+    ensures unfinished { IfErr result (λ fault. EndsUnfinished fault (O.is_finished output.new)) }
     ensures failures { FailsBy
         (record { input = I.has_failed input.old; output = O.has_failed output.old })
         (record { input = I.has_failed input.new; output = O.has_failed output.new }) result }

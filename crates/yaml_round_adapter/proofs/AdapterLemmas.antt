@@ -1,8 +1,8 @@
 -- The token that an adapter gives, and the texts of what is left.
-use Rattle.std.proofs.Common.{◌≡◌, ℕ, Bool, true, false, true≢false, List, [], ◌∷◌, Option, Some, None, Result, Ok, Err, refl, inl, inr, All, ap, ◌∙◌}
+use Rattle.std.proofs.Common.{◌≡◌, ◌≤◌, ℕ, Bool, true, false, true≢false, List, [], ◌∷◌, Option, Some, None, Result, Ok, Err, refl, sym, inl, inr, All, ap, ◌∙◌, arith}
 use Rattle.std.proofs.lemmas.List.Elements.{All-nil, All-head, All-tail}
 use Rattle.yaml_scan.specs.declared.yaml_encoding_t.{yaml_encoding_t}
-use Rattle.yaml_scan.specs.Tokens.{Token}
+use Rattle.yaml_scan.specs.Tokens.{Token, no_token}
 use Rattle.yaml_scan.specs.Faults.{Fault}
 use Rattle.yaml_scan.specs.scan_decode.declared.offence.Offence.{Offence}
 use Rattle.yaml_scan.specs.scan_decode.Encodings.{encoding_of}
@@ -15,11 +15,10 @@ use Rattle.yaml_round_laws_adapted.proofs.TokensUtf8.{remaining_sound}
 use Rattle.yaml_scan.specs.scan_history.Remaining.{Remaining}
 use Rattle.yaml_scan.specs.Scanned.{scanned_in, scanned}
 use Rattle.yaml_scan.specs.Session as session
-use Rattle.yaml_scan.specs.Session.{View, first_of, others_of, behind_first}
-use Rattle.yaml_parse.specs.Source.{front_of, rest_of, MayAnswer, HasMore, GivesToken, GivesFault}
+use Rattle.yaml_scan.specs.Session.{View, HoldsLittle, begun, first_of, others_of, behind_first}
+use Rattle.yaml_parse_model.specs.Source.{front_of, rest_of, MayAnswer, HasMore, GivesToken, GivesFault}
 use Rattle.yaml_round_adapter.specs.Adapted.{adapted}
-use Rattle.yaml_round_adapter.specs.Adapter.{TakesText, Stops}
-use Rattle.yaml_round_adapter.specs.AdapterView.{remaining_by}
+use Rattle.yaml_round_adapter.specs.Adapter.{Adapter, TakesText, Stops, IsStep, remaining_of}
 use Rattle.yaml_round_laws_adapted.proofs.AdaptedLemmas.{taken, refused, failed}
 
 abbrev pub HaveTexts : Remaining → Type 0
@@ -34,6 +33,10 @@ in_texts s bytes (Err o) are h = All-nil (λ t. HasTexts t.body)
 pub scanned_texts : (s : yaml_encoding_t) (bytes : List ℕ) → AreBytes bytes
     → HaveTexts (scanned s bytes)
 scanned_texts s bytes are = in_texts s bytes (decoded_text s bytes) are refl
+
+-- a session of which nothing was read
+pub begun_little : (s : yaml_encoding_t) (bytes : List ℕ) → HoldsLittle (begun s bytes)
+begun_little s bytes = ((omega arith, omega arith), (omega arith, All-nil (λ room. room ≤ 256)))
 
 others_texts : (ts : List Token) → All (λ t. HasTexts t.body) ts
     → All (λ t. HasTexts t.body) (others_of ts)
@@ -79,20 +82,49 @@ gives_text old new t texts g =
     (let own : HasTexts (first_of old.remaining.tokens).body = first_texts old.remaining.tokens texts in rw g.takes.token own)
     g.text
 
-pub gives_token : (over : Bool) (old new : View) (was : Remaining) (t : Token) → over ≡ false
-    → remaining_by over old.remaining ≡ was → HaveTexts old.remaining → TakesText old t new
-    → GivesToken was.tokens was.fault t (remaining_by over new.remaining).tokens
-    (remaining_by over new.remaining).fault
+abbrev pub adapter_by : View → Bool → Adapter
+adapter_by s over = record { session = s; over = over }
+
+pub gives_token : (over : Bool) (old new : View) (was : Adapter) (t : Token) → over ≡ false
+    → adapter_by old over ≡ was → HaveTexts old.remaining → TakesText old t new
+    → GivesToken (remaining_of was).tokens (remaining_of was).fault t
+    (remaining_of (adapter_by new over)).tokens (remaining_of (adapter_by new over)).fault
 gives_token true old new was t o e texts g = absurd (true≢false o)
 gives_token false old new was t o e texts g = rw (← e) (gives_text old new t texts g)
 
 -- the session's own fault is given, or that of the next token's tag
-gives_stop : (c : Remaining) (f : Fault) → Stops c f
-    → GivesFault (adapted c).tokens (adapted c).fault f [] None
-gives_stop c f (inl (more, told)) = failed c f (same_more c.tokens c.fault more) told
-gives_stop c f (inr (s, e)) = rw e (refused c (first_of c.tokens) (first_front c.tokens) s)
+gives_stop : (old new : View) (f : Fault) → Stops old f new
+    → GivesFault (adapted old.remaining).tokens (adapted old.remaining).fault f [] None
+gives_stop old new f (inl r) = failed old.remaining f (same_more old.remaining.tokens old.remaining.fault r.more) r.told
+gives_stop old new f (inr b) = rw b.told (refused old.remaining b.token (b.takes.token ∙ first_front old.remaining.tokens) b.bytes)
 
-pub gives_fault : (over : Bool) (old was : Remaining) (f : Fault) → over ≡ false
-    → remaining_by over old ≡ was → Stops old f → GivesFault was.tokens was.fault f [] None
-gives_fault true old was f o e s = absurd (true≢false o)
-gives_fault false old was f o e s = rw (← e) (gives_stop old f s)
+pub gives_fault : (over : Bool) (old new : View) (was : Adapter) (f : Fault) → over ≡ false
+    → adapter_by old over ≡ was → Stops old f new
+    → GivesFault (remaining_of was).tokens (remaining_of was).fault f [] None
+gives_fault true old new was f o e s = absurd (true≢false o)
+gives_fault false old new was f o e s = rw (← e) (gives_stop old new f s)
+
+-- behind a fault the empty token is given
+pub gives_over : (over : Bool) (old : View) (was : Adapter) (t : Token) → over ≡ true
+    → adapter_by old over ≡ was → t ≡ no_token
+    → GivesToken (remaining_of was).tokens (remaining_of was).fault t (remaining_of was).tokens
+    (remaining_of was).fault
+gives_over true old was t o e empty = rw (← e, empty) (record { given = refl; rest = refl; same = refl; may = refl; utf8 = tt })
+gives_over false old was t o e empty = absurd (true≢false (sym o))
+
+-- a call as a step of the session: a token, the empty one behind a fault, and a refusal
+pub step_token : (over : Bool) (old new : View) (was : Adapter) (t : Token) → over ≡ false
+    → adapter_by old over ≡ was → TakesText old t new → HoldsLittle new
+    → IsStep was (Ok t) (adapter_by new over)
+step_token true old new was t o e g little = absurd (true≢false o)
+step_token false old new was t o e g little = rw (← e) ((refl, g), little)
+
+pub step_over : (over : Bool) (old : View) (was : Adapter) (t : Token) → over ≡ true
+    → adapter_by old over ≡ was → t ≡ no_token → HoldsLittle old → IsStep was (Ok t) was
+step_over true old was t o e empty little = rw (← e) ((empty, refl), little)
+step_over false old was t o e empty little = absurd (true≢false (sym o))
+
+pub step_fault : (over : Bool) (old new : View) (was : Adapter) (f : Fault) → over ≡ false
+    → adapter_by old over ≡ was → Stops old f new → HoldsLittle new
+    → IsStep was (Err f) (adapter_by new true)
+step_fault over old new was f o e s little = rw (← e) (o, refl, s, little)

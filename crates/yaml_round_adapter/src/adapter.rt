@@ -3,14 +3,15 @@
 ghost use Rattle.std.specs.Prelude.{◌≡◌, true, false};
 ghost use Rattle.yaml_scan.specs.Tokens.{token_of, no_token};
 ghost use Rattle.yaml_scan.specs.Faults.{fault_of};
+ghost use Rattle.yaml_scan.specs.Session.{HoldsLittle, begun};
 ghost use Rattle.yaml_scan.specs.Scanned.{scanned};
 ghost use Rattle.yaml_round_adapter.specs.Adapted.{adapted, spells_text};
-ghost use Rattle.yaml_round_adapter.specs.Adapter.{Checks, Adapts, is_tag};
+ghost use Rattle.yaml_round_adapter.specs.Adapter.{Checks, Adapts, IsStep, is_tag, remaining_of};
 
 use crate::refusal::{has_plain_suffix, yaml_tag_fault, yaml_token_spells_text};
 use std::alloc::Global;
 use std::marker::Model;
-use yaml_parse::yaml_token_source_t;
+use yaml_parse_model::yaml_token_source_t;
 use yaml_scan::{
     yaml_encoding_t, yaml_fault_t, yaml_memory_fault, yaml_origin_t, yaml_parser_scan_into,
     yaml_parser_t, yaml_token_body_t, yaml_token_t,
@@ -25,9 +26,9 @@ pub struct yaml_adapter_t<'a> {
 }
 
 impl<'a> Model for yaml_adapter_t<'a> {
-    ghost use Rattle.yaml_scan.specs.scan_history.Remaining.{Remaining};
+    ghost use Rattle.yaml_round_adapter.specs.Adapter.{Adapter};
 
-    ghost Value = { Remaining };
+    ghost Value = { Adapter };
 
     ghost use Rattle.yaml_round_adapter.specs.AdapterView.{adapter_view, IsAdapter};
 
@@ -37,10 +38,11 @@ impl<'a> Model for yaml_adapter_t<'a> {
 }
 
 impl<'a> yaml_adapter_t<'a> {
-    /// An adapter over a session of its own. What is to come is what a session of that input and encoding has to come, up
-    /// to the first tag that isn't UTF-8.
+    /// An adapter over a session of its own, that input's in that encoding, of which nothing is read. What is to come is what is
+    /// of the session, up to the first tag that isn't UTF-8.
     pub fn new(alloc: Global, input: &'a [u8], encoding: yaml_encoding_t) -> yaml_adapter_t<'a>
-        ensures { result ≡ adapted (scanned encoding input.now) }
+        ensures begun { result ≡ record { session = begun encoding input.now; over = false } }
+        ensures comes { remaining_of result ≡ adapted (scanned encoding input.now) }
     {
         yaml_adapter_t {
             session: yaml_parser_t::new(alloc, input, encoding),
@@ -128,7 +130,9 @@ fn checked_rare(token: &yaml_token_t, fault: &mut yaml_fault_t) -> bool
 // Inlined, as its callers are.
 #[inline(always)]
 fn take(session: &mut yaml_parser_t, token: &mut yaml_token_t, fault: &mut yaml_fault_t) -> bool
-    ensures { Adapts session.old session.new result (token_of token.new) (fault_of fault.new) }
+    ensures adapts { Adapts session.old session.new result (token_of token.new)
+        (fault_of fault.new) }
+    ensures little { HoldsLittle session.new }
 {
     if yaml_parser_scan_into(session, token, fault) {
         checked(token, fault)
@@ -147,9 +151,11 @@ fn put_empty(token: &mut yaml_token_t)
 }
 
 impl<'a> yaml_token_source_t for yaml_adapter_t<'a> {
-    ghost to_come = { λ c. c.tokens };
+    ghost to_come = { λ a. (remaining_of a).tokens };
 
-    ghost fault_to_come = { λ c. c.fault };
+    ghost fault_to_come = { λ a. (remaining_of a).fault };
+
+    ghost own_step = { IsStep };
 
     fn next_token(&mut self) -> Result<yaml_token_t, yaml_fault_t> {
         let mut token = yaml_token_t::empty();

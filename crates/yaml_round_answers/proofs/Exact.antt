@@ -14,7 +14,8 @@ use Rattle.yaml_round_records.specs.declared.yaml_c_settings.{yaml_c_settings}
 use Rattle.yaml_round_answers.specs.declared.parsing.yaml_c_parsed.{yaml_c_parsed}
 use Rattle.yaml_round_answers.specs.declared.answer.yaml_c_answer.{yaml_c_answer}
 use Rattle.yaml_round_records.specs.Numbers.{encoding_meant, error_number}
-use Rattle.yaml_round_answers.specs.Told.{TellsText, TellsFault, TellsResult, TellsForm, TellsSame, AnswersMeant, IsExact, both, call_meant, form_number, same_number, side_number, Reformats, Reloads, Lists, Compares}
+use Rattle.yaml_round_answers.specs.Told.{TellsText, TellsFault, TellsFaultIn, TellsResult, TellsForm, TellsSame, AnswersMeant, IsExact, both, call_meant, form_number, same_number, side_number, Reformats, Reloads, Lists, Compares}
+use Rattle.yaml_round_answers.specs.Spelled.{spelled_text}
 use Rattle.yaml_round_answers.specs.Parses.{TellsEvents, Parses, TellsFront, Fronts, NothingUnmeant}
 use Rattle.yaml_round_answers.specs.declared.scanning.yaml_c_scanned.{yaml_c_scanned}
 use Rattle.yaml_round_answers.specs.Decodes.{Decodes}
@@ -43,6 +44,10 @@ pub fault_kind : (f : Fault) (whose : ℤ) (a : yaml_c_answer) → TellsFault f 
     → ¬ (a.kind ≡ negsuc 0)
 fault_kind f whose a h = fault_number f.kind a.kind h.kind
 
+placed_kind : (text : List ℕ) (f : Fault) (a : yaml_c_answer) → TellsFaultIn text f a
+    → ¬ (a.kind ≡ negsuc 0)
+placed_kind text f a h = fault_number f.kind a.kind h.kind
+
 pub tells_kind : (r : Result (List ℕ) Fault) (a : yaml_c_answer) → TellsResult r a
     → ¬ (a.kind ≡ negsuc 0)
 tells_kind (Ok text) a h = text_kind text (pos 0) a h
@@ -58,10 +63,10 @@ form_kind : (r : Result (List ℕ × yaml_form_t) Fault) (a : yaml_c_answer) →
 form_kind (Ok (text, form)) a h = text_kind text (form_number form) a h
 form_kind (Err f) a h = fault_kind f (pos 0) a h
 
-events_kind : (blocks : yaml_c_parsed) (r : Result (List Told) Fault) (a : yaml_c_answer)
-    → TellsEvents blocks r a → ¬ (a.kind ≡ negsuc 0)
-events_kind blocks (Ok es) a h = text_kind [] (pos 0) a h.0
-events_kind blocks (Err f) a h = fault_kind f (pos 0) a h.0
+events_kind : (text : List ℕ) (blocks : yaml_c_parsed) (r : Result (List Told) Fault)
+    (a : yaml_c_answer) → TellsEvents text blocks r a → ¬ (a.kind ≡ negsuc 0)
+events_kind text blocks (Ok es) a h = text_kind [] (pos 0) a h.0
+events_kind text blocks (Err f) a h = placed_kind text f a h.0
 
 -- a call whose answers tell no -1
 pub exact : {M : Type 0} (o : Option M) (Is : M → yaml_c_answer → Type 0) (a : yaml_c_answer)
@@ -148,7 +153,7 @@ pub parsed_exact : (n from k : ℤ) (input : List ℕ) (blocks : yaml_c_parsed) 
     → AnswersMeant (encoding_meant n) (Parses input blocks) a → IsExact (encoding_meant from) k
 parsed_exact n from k input blocks a p q h =
     subst (λ z. IsExact (encoding_meant from) z) (sym q)
-    (exact (encoding_meant from) (Parses input blocks) a (λ m l. events_kind blocks l.result a l.told) (parsed_told n from input blocks a p h))
+    (exact (encoding_meant from) (Parses input blocks) a (λ m l. events_kind (spelled_text m input) blocks l.result a l.told) (parsed_told n from input blocks a p h))
 
 -- The answer -1 of an emission comes exactly where a number means nothing.
 pub emitted_exact : (meant : Option (List EventBody × (RequestedSettings × ℕ))) (k : ℤ)
@@ -162,7 +167,7 @@ front_kind : (m : yaml_encoding_t) (input : List ℕ) (blocks : yaml_c_parsed)
     (r : Result (List Told) Fault) (a : yaml_c_answer)
     → TellsFront m input blocks r a → ¬ (a.kind ≡ negsuc 0)
 front_kind m input blocks (Ok es) a h = text_kind [] (pos 0) a h.0
-front_kind m input blocks (Err f) a h = fault_kind f (pos 0) a h.0
+front_kind m input blocks (Err f) a h = placed_kind (spelled_text m input) f a h.0
 
 -- What is answered to events in front of a fault is so of the caller's own numbers.
 pub front_told : (n from : ℤ) (input : List ℕ) (blocks : yaml_c_parsed) (a : yaml_c_answer)
@@ -184,14 +189,15 @@ front_exact n from k input blocks a p q h =
     subst (λ z. IsExact (encoding_meant from) z) (sym q)
     (exact (encoding_meant from) (Fronts input blocks) a (λ m l. front_kind m input blocks l.result a l.told) (front_told n from input blocks a p h))
 
-end_kind : (o : Option Fault) (a : yaml_c_answer) → TellsEnd o a → ¬ (a.kind ≡ negsuc 0)
-end_kind None a h = text_kind [] (pos 0) a h
-end_kind (Some f) a h = fault_kind f (pos 0) a h
+end_kind : (text : List ℕ) (o : Option Fault) (a : yaml_c_answer) → TellsEnd text o a
+    → ¬ (a.kind ≡ negsuc 0)
+end_kind text None a h = text_kind [] (pos 0) a h
+end_kind text (Some f) a h = placed_kind text f a h
 
 scan_kind : (input : List ℕ) (blocks : yaml_c_scanned) (m : yaml_encoding_t) (a : yaml_c_answer)
     → Scans input blocks m a → ¬ (a.kind ≡ negsuc 0)
-scan_kind input blocks m a (inl h) = fault_kind h.fault (pos 0) a h.told
-scan_kind input blocks m a (inr h) = end_kind _ a h.0
+scan_kind input blocks m a (inl h) = placed_kind (spelled_text m input) h.fault a h.told
+scan_kind input blocks m a (inr h) = end_kind _ _ a h.0
 
 -- What is answered to a scan is so of the caller's own numbers.
 pub scanned_told : (n from : ℤ) (input : List ℕ) (blocks : yaml_c_scanned) (a : yaml_c_answer)

@@ -1,11 +1,11 @@
 -- What was collected is handed out, and C is told of it.
-use Rattle.std.proofs.Common.{◌≡◌, ◌∙◌, ◌⊎◌, inl, inr, ap, refl, sym, subst, ℕ, pos, List, [], ◌++◌, Some, None, Err}
+use Rattle.std.proofs.Common.{◌≡◌, ◌∙◌, ◌⊎◌, inl, inr, ap, refl, sym, subst, ℕ, List, [], ◌++◌, Some, None, Err}
 use Rattle.std.proofs.lemmas.List.{append-nil}
 use Rattle.yaml_parse.specs.declared.yaml_encoding_t.{yaml_encoding_t}
 use Rattle.yaml_parse.specs.declared.yaml_fault_t.{yaml_fault_t}
 use Rattle.yaml_parse.specs.Events.{TagDirective}
 use Rattle.yaml_parse.specs.Resolve.{Told}
-use Rattle.yaml_parse.specs.Faults.{Fault, fault_of, memory_fault, IsMemoryFault, parse_layers}
+use Rattle.yaml_parse.specs.Faults.{fault_of, memory_fault, IsMemoryFault, parse_layers}
 use Rattle.yaml_parse.specs.declared.yaml_origin_t.TheVariants.{Parser}
 use Rattle.yaml_parse.specs.Remaining.{ParserRemaining}
 use Rattle.yaml_round.specs.Answers.{IsFaulty}
@@ -18,9 +18,10 @@ use Rattle.yaml_round_records.specs.Records.{all_directives}
 use Rattle.yaml_round_records.specs.Blocks.{listed_directives}
 use Rattle.yaml_round_records.specs.Listing.{Collected, AreSaid, HoldsAll, events_alone}
 use Rattle.yaml_round_answers.specs.declared.answer.yaml_c_answer.{yaml_c_answer}
-use Rattle.yaml_round_answers.specs.Told.{TellsFault, Refuses}
+use Rattle.yaml_round_answers.specs.Told.{TellsFaultIn, TellsMemory, RefusesIn}
+use Rattle.yaml_round_answers.specs.Spelled.{spelled_text}
 use Rattle.yaml_round_answers.specs.Parses.{HasNothing, HandsOut, SayEvents, IsParsed, IsFront, TellsEvents, Parses, Fronts}
-use Rattle.yaml_round_answers.proofs.Refusing.{refused_answer}
+use Rattle.yaml_round_answers.proofs.Refusing.{refused_answer_in}
 use Rattle.yaml_round_records.proofs.Saying.{say_at}
 
 -- the events of a reading that has no fault are the input's
@@ -81,51 +82,75 @@ list_at : (b c : List ℕ) (d f : List yaml_c_directive) (ts : List TagDirective
 list_at b c d f ts p q h = subst (λ z. all_directives z f ≡ Some ts) (sym p) (subst (λ z. all_directives b z ≡ Some ts) (sym q) h)
 
 -- the blocks say what the listing does, and hold what it holds
-pub handed_says : (l : Listing) (p : yaml_c_parsed) (es : List Told) → HandsOut l p
-    → AreSaid l (events_alone es)
-    → HoldsAll l (events_alone es) → SayEvents p es
-handed_says l p es h s a =
+pub handed_says : (text : List ℕ) (l : Listing) (p : yaml_c_parsed) (es : List Told)
+    → HandsOut text l p → AreSaid l (events_alone es)
+    → HoldsAll l (events_alone es) → SayEvents text p es
+handed_says text l p es h s a =
     let bytes : p.bytes.now ≡ l.bytes.items ++ [] = h.bytes ∙ sym (append-nil l.bytes.items) in record {
-      events = say_at _ p.bytes.now _ p.directives.now _ p.events.now (events_alone es) bytes
-          (h.directives ∙ sym (append-nil l.directives.items)) h.events (s [] []);
+      said = l.events.items;
+      say = say_at _ p.bytes.now _ p.directives.now _ l.events.items (events_alone es) bytes
+          (h.directives ∙ sym (append-nil l.directives.items)) refl (s [] []);
+      events = h.events;
       bytes = h.bytes ∙ a.bytes;
       directives = list_at _ p.bytes.now _ p.directives.now (listed_directives (events_alone es)) bytes h.directives (a.directives []);
     }
 
+-- the same in the input's own text
+pub says_in : (from : yaml_encoding_t) (input text : List ℕ) (l : Listing) (p : yaml_c_parsed)
+    (es : List Told) → text ≡ spelled_text from input → HandsOut text l p
+    → AreSaid l (events_alone es) → HoldsAll l (events_alone es)
+    → SayEvents (spelled_text from input) p es
+says_in from input text l p es e h s a = handed_says (spelled_text from input) l p es (subst (λ t. HandsOut t l p) e h) s a
+
 -- the blocks say what stands in front of the fault
-pub front_says : (from : yaml_encoding_t) (input : List ℕ) (f : yaml_fault_t) (l : Listing)
-    (p : yaml_c_parsed) → HandsOut l p
+front_says : (from : yaml_encoding_t) (input text : List ℕ) (f : yaml_fault_t) (l : Listing)
+    (p : yaml_c_parsed) → text ≡ spelled_text from input → HandsOut text l p
     → IsMemoryFault parse_layers (fault_of f)
     ⊎ ((ending_of from input ≡ Some (fault_of f)) × IsFront from input l)
-    → IsMemoryFault parse_layers (fault_of f) ⊎ SayEvents p (events_of from input)
-front_says from input f l p h (inl m) = inl m
-front_says from input f l p h (inr e) = inr (handed_says l p _ h e.1.0 e.1.1)
+    → IsMemoryFault parse_layers (fault_of f)
+    ⊎ SayEvents (spelled_text from input) p (events_of from input)
+front_says from input text f l p e h (inl m) = inl m
+front_says from input text f l p e h (inr i) = inr (says_in from input text l p _ e h i.1.0 i.1.1)
 
 -- ---- a refused parse is told
 
-none_told : (p : yaml_c_parsed) (g : Fault) (a : yaml_c_answer) → HasNothing p
-    → TellsFault g (pos 0) a → TellsEvents p (Err g) a
-none_told p g a h t = (t, h)
-
-pub refused_parse : (from : yaml_encoding_t) (input : List ℕ) (f : yaml_fault_t) (p : yaml_c_parsed)
-    (a : yaml_c_answer) → HasNothing p
+pub refused_parse : (from : yaml_encoding_t) (input text : List ℕ) (f : yaml_fault_t)
+    (p : yaml_c_parsed) (a : yaml_c_answer) → text ≡ spelled_text from input → HasNothing p
     → IsMemoryFault parse_layers (fault_of f) ⊎ (ending_of from input ≡ Some (fault_of f))
-    → Refuses (fault_of f) (pos 0) a → Parses input p from a
-refused_parse from input f p a h e t =
-    refused_answer parse_layers Parser (IsParsed from input) (TellsEvents p) (fault_of f) a (inl refl) (λ g u. none_told p g a h u) (fault_plain from input f e) t
+    → RefusesIn text (fault_of f) a → Parses input p from a
+refused_parse from input text f p a e h i t =
+    refused_answer_in parse_layers Parser (IsParsed from input) (TellsEvents (spelled_text from input) p) (spelled_text from input) (fault_of f) a (inl refl)
+    (λ g u. (u, h)) (fault_plain from input f i) (subst (λ z. RefusesIn z (fault_of f) a) e t)
 
-pub refused_front : (from : yaml_encoding_t) (input : List ℕ) (f : yaml_fault_t) (l : Listing)
-    (p : yaml_c_parsed) (a : yaml_c_answer) → HandsOut l p
+pub refused_front : (from : yaml_encoding_t) (input text : List ℕ) (f : yaml_fault_t) (l : Listing)
+    (p : yaml_c_parsed) (a : yaml_c_answer) → text ≡ spelled_text from input → HandsOut text l p
     → IsMemoryFault parse_layers (fault_of f)
     ⊎ ((ending_of from input ≡ Some (fault_of f)) × IsFront from input l)
-    → Refuses (fault_of f) (pos 0) a → Fronts input p from a
-refused_front from input f l p a h e (inl t) = record {
+    → RefusesIn text (fault_of f) a → Fronts input p from a
+refused_front from input text f l p a e h i (inl t) = record {
   result = Err (fault_of f);
-  is = front_fault from input f l e;
-  told = (t, front_says from input f l p h e);
+  is = front_fault from input f l i;
+  told = (subst (λ z. TellsFaultIn z (fault_of f) a) e t, front_says from input text f l p e h i);
 }
-refused_front from input f l p a h e (inr s) = record {
+refused_front from input text f l p a e h i (inr s) = record {
   result = Err (memory_fault Parser);
   is = inl (inl refl);
-  told = (s.told Parser, inl (inl refl));
+  told = (s Parser (spelled_text from input), inl (inl refl));
+}
+
+-- memory for the text was refused
+pub starved_parse : (from : yaml_encoding_t) (input : List ℕ) (p : yaml_c_parsed)
+    (a : yaml_c_answer) → HasNothing p → TellsMemory a → Parses input p from a
+starved_parse from input p a h s = record {
+  result = Err (memory_fault Parser);
+  is = inl (inl refl);
+  told = (s Parser (spelled_text from input), h);
+}
+
+pub starved_front : (from : yaml_encoding_t) (input : List ℕ) (p : yaml_c_parsed)
+    (a : yaml_c_answer) → TellsMemory a → Fronts input p from a
+starved_front from input p a s = record {
+  result = Err (memory_fault Parser);
+  is = inl (inl refl);
+  told = (s Parser (spelled_text from input), inl (inl refl));
 }

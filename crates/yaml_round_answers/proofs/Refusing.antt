@@ -1,5 +1,5 @@
 -- A fault is told, or that memory for its line was refused.
-use Rattle.std.proofs.Common.{◌≡◌, ◌⊎◌, inl, inr, ap, sym, subst, ℕ, ℤ, pos, List, Result, Err}
+use Rattle.std.proofs.Common.{◌≡◌, ◌∙◌, ◌⊎◌, inl, inr, ap, sym, subst, refl, ℕ, ℤ, pos, List, Result, Err}
 use Rattle.yaml_parse.specs.declared.yaml_origin_t.{yaml_origin_t}
 use Rattle.yaml_parse.specs.declared.yaml_origin_t.TheVariants.{Writer, Parser}
 use Rattle.yaml_parse.specs.declared.yaml_fault_t.{yaml_fault_t}
@@ -9,7 +9,10 @@ use Rattle.yaml_round.specs.Answers.{IsRight, IsSideStarved, IsSideFaulty, IsSam
 use Rattle.yaml_round.specs.declared.yaml_side_t.{yaml_side_t}
 use Rattle.yaml_round.specs.declared.yaml_side_t.TheVariants.{First, Second}
 use Rattle.yaml_round_answers.specs.declared.answer.yaml_c_answer.{yaml_c_answer}
-use Rattle.yaml_round_answers.specs.Told.{TellsFault, TellsStarved, Refuses, OrMemory, IsAnswered, side_number, Compares}
+use Rattle.yaml_round_places.specs.Places.{characters_before}
+use Rattle.yaml_round_records.specs.declared.yaml_c_mark.{yaml_c_mark}
+use Rattle.yaml_round_records.specs.Counted.{mark_counted}
+use Rattle.yaml_round_answers.specs.Told.{TellsFault, TellsFaultIn, TellsMemory, TellsStarved, Refuses, RefusesIn, OrMemory, IsAnswered, side_number, Compares}
 
 -- C isn't told of the layer
 layered : (layer : yaml_origin_t) (whose : ℤ) (a : yaml_c_answer)
@@ -49,6 +52,81 @@ refused_answer layers layer Is TellsIt f a may tells is (inr s) = record {
   is = inl may;
   told = tells (memory_fault layer) (s.told layer);
 }
+
+-- the same where it is told with the characters in front of its places
+pub refused_answer_in : {Y : Type 0} (layers : List yaml_origin_t) (layer : yaml_origin_t)
+    (Is : Result Y Fault → Type 0) (TellsIt : Result Y Fault → yaml_c_answer → Type 0)
+    (text : List ℕ) (f : Fault) (a : yaml_c_answer) → IsMemoryFault layers (memory_fault layer)
+    → ((g : Fault) → TellsFaultIn text g a → TellsIt (Err g) a) → OrMemory layers Is (Err f)
+    → RefusesIn text f a → IsAnswered (OrMemory layers Is) TellsIt a
+refused_answer_in layers layer Is TellsIt text f a may tells is (inl t) = record { result = Err f; is = is; told = tells f t }
+refused_answer_in layers layer Is TellsIt text f a may tells is (inr s) = record {
+  result = Err (memory_fault layer);
+  is = inl may;
+  told = tells (memory_fault layer) (s layer text);
+}
+
+-- ---- the characters in front of a fault's places
+
+abbrev with_characters : ℕ → ℕ → yaml_c_answer → yaml_c_answer
+with_characters m n a = record a {
+  problem_mark = record a.problem_mark { character = m };
+  context_mark = record a.context_mark { character = n };
+}
+
+counted_in : (text : List ℕ) (f : Fault) (a : yaml_c_answer) (m n : ℕ)
+    → m ≡ characters_before text a.problem_mark.index
+    → n ≡ characters_before text a.context_mark.index → TellsFault f (pos 0) a
+    → TellsFaultIn text f (with_characters m n a)
+counted_in text f a m n e h t = record {
+  kind = t.kind;
+  is = t.is;
+  second = t.second;
+  value = t.value;
+  offset = t.offset;
+  problem_mark = ap (λ z. record a.problem_mark { character = z }) e ∙ ap (mark_counted text) t.problem_mark;
+  context_mark = ap (λ z. record a.context_mark { character = z }) h ∙ ap (mark_counted text) t.context_mark;
+  problem = t.problem;
+  context = t.context;
+  text = t.text;
+  line = t.line;
+}
+
+-- in front of the beginning no text has any
+none_before : (text other : List ℕ) (k : ℕ) → k ≡ 0
+    → characters_before text k ≡ characters_before other k
+none_before text other k e = rw e refl
+
+pub counted_refused : (text : List ℕ) (f : Fault) (a : yaml_c_answer) (m n : ℕ)
+    → m ≡ characters_before text a.problem_mark.index
+    → n ≡ characters_before text a.context_mark.index → Refuses f (pos 0) a
+    → RefusesIn text f (with_characters m n a)
+counted_refused text f a m n e h (inl t) = inl (counted_in text f a m n e h t)
+counted_refused text f a m n e h (inr s) = inr (λ layer other. counted_in other (memory_fault layer) a m n
+    (e ∙ none_before text other a.problem_mark.index (ap (λ (z : yaml_c_mark). z.index) (s.told layer).problem_mark))
+    (h ∙ none_before text other a.context_mark.index (ap (λ (z : yaml_c_mark). z.index) (s.told layer).context_mark)) (s.told layer))
+
+-- want of memory alone is refused so
+memory_told : (text : List ℕ) (layer : yaml_origin_t) (a : yaml_c_answer)
+    → RefusesIn text (memory_fault layer) a → TellsMemory a
+memory_told text layer a (inl t) = λ other_layer other. record {
+  kind = t.kind;
+  is = t.is;
+  second = t.second;
+  value = t.value;
+  offset = t.offset;
+  problem_mark = t.problem_mark;
+  context_mark = t.context_mark;
+  problem = t.problem;
+  context = t.context;
+  text = t.text;
+  line = t.line;
+}
+memory_told text layer a (inr s) = s
+
+pub memory_refused : (text : List ℕ) (layer : yaml_origin_t) (f : Fault) (a : yaml_c_answer)
+    → f ≡ memory_fault layer → RefusesIn text f a → TellsMemory a
+memory_refused text layer f a e h = memory_told text layer a (subst (λ g. RefusesIn text g a) e h)
 
 -- the same of a comparison, whose fault is told with its side
 in_layer : (refusal : yaml_fault_t) (layer : yaml_origin_t) → fault_of refusal ≡ memory_fault Writer

@@ -1,5 +1,6 @@
 pub mod Settings
 pub mod Told
+pub mod Spelled
 pub mod Offsets
 pub mod Emitting
 pub mod Onward

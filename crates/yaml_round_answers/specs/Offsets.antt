@@ -21,11 +21,11 @@ pub record AnswerLies : Type 0 where
   pub value : LiesAt answer.the_type 3 (λ d. d.value) 12
   pub offset : LiesAt answer.the_type 4 (λ d. d.offset) 16
   pub problem_mark : LiesAt answer.the_type 5 (λ d. d.problem_mark) 24
-  pub context_mark : LiesAt answer.the_type 6 (λ d. d.context_mark) 48
-  pub problem : LiesAt answer.the_type 7 (λ d. d.problem) 72
-  pub context : LiesAt answer.the_type 8 (λ d. d.context) 88
-  pub text : LiesAt answer.the_type 9 (λ d. d.text) 104
-  pub line : LiesAt answer.the_type 10 (λ d. d.line) 120
+  pub context_mark : LiesAt answer.the_type 6 (λ d. d.context_mark) 56
+  pub problem : LiesAt answer.the_type 7 (λ d. d.problem) 88
+  pub context : LiesAt answer.the_type 8 (λ d. d.context) 104
+  pub text : LiesAt answer.the_type 9 (λ d. d.text) 120
+  pub line : LiesAt answer.the_type 10 (λ d. d.line) 136
 
 pub record ParsedLies : Type 0 where
   pub events : LiesAt parsed.the_type 0 (λ d. d.events) 0
@@ -38,11 +38,11 @@ pub record ScannedLies : Type 0 where
 
 pub record PartingLies : Type 0 where
   pub answer : LiesAt parting.the_type 0 (λ d. d.answer) 0
-  pub document : LiesAt parting.the_type 1 (λ d. d.document) 136
-  pub first_kind : LiesAt parting.the_type 2 (λ d. d.first_kind) 144
-  pub second_kind : LiesAt parting.the_type 3 (λ d. d.second_kind) 148
-  pub first_mark : LiesAt parting.the_type 4 (λ d. d.first_mark) 152
-  pub second_mark : LiesAt parting.the_type 5 (λ d. d.second_mark) 176
+  pub document : LiesAt parting.the_type 1 (λ d. d.document) 152
+  pub first_kind : LiesAt parting.the_type 2 (λ d. d.first_kind) 160
+  pub second_kind : LiesAt parting.the_type 3 (λ d. d.second_kind) 164
+  pub first_mark : LiesAt parting.the_type 4 (λ d. d.first_mark) 168
+  pub second_mark : LiesAt parting.the_type 5 (λ d. d.second_mark) 200
 
 pub record NodeLies : Type 0 where
   pub kind : LiesAt node.the_type 0 (λ d. d.kind) 0

@@ -1,5 +1,5 @@
 -- What C is told of a parse.
-use Rattle.std.specs.Prelude.{◌≡◌, ◌⊎◌, pos, ℕ, List, [], Option, None, Some, Result, Ok, Err}
+use Rattle.std.specs.Prelude.{◌≡◌, ◌⊎◌, pos, ℕ, List, [], map, Option, None, Some, Result, Ok, Err}
 use Rattle.yaml_parse.specs.declared.yaml_encoding_t.{yaml_encoding_t}
 use Rattle.yaml_parse.specs.declared.yaml_fault_t.{yaml_fault_t}
 use Rattle.yaml_parse.specs.Faults.{Fault, fault_of, IsMemoryFault, parse_layers}
@@ -10,10 +10,13 @@ use Rattle.yaml_round.specs.round_content.Reading.{HasEvents}
 use Rattle.yaml_round_answers.specs.declared.answer.yaml_c_answer.{yaml_c_answer}
 use Rattle.yaml_round_records.specs.declared.Listing.{Listing}
 use Rattle.yaml_round_answers.specs.declared.parsing.yaml_c_parsed.{yaml_c_parsed}
+use Rattle.yaml_round_records.specs.declared.yaml_c_event.{yaml_c_event}
 use Rattle.yaml_round_records.specs.Records.{AllSay, all_directives}
+use Rattle.yaml_round_records.specs.Counted.{event_counted}
 use Rattle.yaml_round_records.specs.Blocks.{all_texts, listed_directives}
 use Rattle.yaml_round_records.specs.Listing.{AreSaid, HoldsAll, events_alone}
-use Rattle.yaml_round_answers.specs.Told.{TellsText, TellsFault, IsAnswered, OrMemory}
+use Rattle.yaml_round_answers.specs.Told.{TellsText, TellsFaultIn, IsAnswered, OrMemory}
+use Rattle.yaml_round_answers.specs.Spelled.{spelled_text}
 
 -- the events of an input, where it is accepted: those of the tree that its tokens are
 abbrev pub IsParsed : yaml_encoding_t → List ℕ → Result (List Told) Fault → Type 0
@@ -26,20 +29,23 @@ pub record HasNothing (p : yaml_c_parsed) : Type 0 where
   pub directives : p.directives.now ≡ []
   pub bytes : p.bytes.now ≡ []
 
--- The records say the events, one by one. The bytes are the texts of these, one behind another, and the list of directives
--- is of theirs; neither holds anything beside.
-pub record SayEvents (p : yaml_c_parsed) (es : List Told) : Type 0 where
-  pub events : AllSay p.bytes.now p.directives.now p.events.now (events_alone es)
+-- The records say the events, one by one, with what is counted and told of them in their text. The bytes are the texts that they
+-- name, one behind another, and the list of directives is of theirs; neither holds anything beside.
+pub record SayEvents (text : List ℕ) (p : yaml_c_parsed) (es : List Told) : Type 0 where
+  pub said : List yaml_c_event
+  pub say : AllSay p.bytes.now p.directives.now said (events_alone es)
+  pub events : p.events.now ≡ map (event_counted text) said
   pub bytes : p.bytes.now ≡ all_texts (events_alone es)
   pub directives : all_directives p.bytes.now p.directives.now
       ≡ Some (listed_directives (events_alone es))
 
-abbrev pub TellsEvents : yaml_c_parsed → Result (List Told) Fault → yaml_c_answer → Type 0
-TellsEvents p (Ok es) a = TellsText [] (pos 0) a × SayEvents p es
-TellsEvents p (Err fault) a = TellsFault fault (pos 0) a × HasNothing p
+abbrev pub TellsEvents : List ℕ → yaml_c_parsed → Result (List Told) Fault → yaml_c_answer → Type 0
+TellsEvents text p (Ok es) a = TellsText [] (pos 0) a × SayEvents text p es
+TellsEvents text p (Err fault) a = TellsFaultIn text fault a × HasNothing p
 
 abbrev pub Parses : List ℕ → yaml_c_parsed → yaml_encoding_t → yaml_c_answer → Type 0
-Parses input p from = IsAnswered (OrMemory parse_layers (IsParsed from input)) (TellsEvents p)
+Parses input p from = IsAnswered (OrMemory parse_layers (IsParsed from input))
+    (TellsEvents (spelled_text from input) p)
 
 -- ---- what the code hands on
 
@@ -51,9 +57,9 @@ IsCollected from input (Ok l) = (ending_of from input ≡ None)
 IsCollected from input (Err f) = IsMemoryFault parse_layers (fault_of f)
     ⊎ (ending_of from input ≡ Some (fault_of f))
 
--- the blocks are the listing's
-pub record HandsOut (l : Listing) (p : yaml_c_parsed) : Type 0 where
-  pub events : p.events.now ≡ l.events.items
+-- the blocks are the listing's, with what is counted and told of the events in their text
+pub record HandsOut (text : List ℕ) (l : Listing) (p : yaml_c_parsed) : Type 0 where
+  pub events : p.events.now ≡ map (event_counted text) l.events.items
   pub directives : p.directives.now ≡ l.directives.items
   pub bytes : p.bytes.now ≡ l.bytes.items
 
@@ -72,9 +78,11 @@ EndsFront from input (Err f) l = IsMemoryFault parse_layers (fault_of f)
 -- the records say the events in front of the fault, unless memory was refused
 abbrev pub TellsFront : yaml_encoding_t → List ℕ → yaml_c_parsed → Result (List Told) Fault
     → yaml_c_answer → Type 0
-TellsFront from input p (Ok es) a = TellsText [] (pos 0) a × SayEvents p es
-TellsFront from input p (Err fault) a = TellsFault fault (pos 0) a
-    × (IsMemoryFault parse_layers fault ⊎ SayEvents p (events_of from input))
+TellsFront from input p (Ok es) a = TellsText [] (pos 0) a
+    × SayEvents (spelled_text from input) p es
+TellsFront from input p (Err fault) a = TellsFaultIn (spelled_text from input) fault a
+    × (IsMemoryFault parse_layers fault
+    ⊎ SayEvents (spelled_text from input) p (events_of from input))
 
 abbrev pub Fronts : List ℕ → yaml_c_parsed → yaml_encoding_t → yaml_c_answer → Type 0
 Fronts input p from = IsAnswered (OrMemory parse_layers (IsParsed from input))

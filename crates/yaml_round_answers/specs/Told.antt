@@ -5,6 +5,7 @@ use Rattle.yaml_parse.specs.declared.yaml_origin_t.{yaml_origin_t}
 use Rattle.yaml_parse.specs.declared.yaml_origin_t.TheVariants.{Writer}
 use Rattle.yaml_parse.specs.declared.yaml_error_type_t.TheVariants.{YAML_MEMORY_ERROR}
 use Rattle.yaml_parse.specs.declared.yaml_fault_t.{yaml_fault_t}
+use Rattle.yaml_parse.specs.declared.yaml_mark_t.{yaml_mark_t}
 use Rattle.yaml_parse.specs.Faults.{Fault, fault_of, memory_fault, IsMemoryFault}
 use Rattle.yaml_round.specs.declared.yaml_settings_t.{yaml_settings_t}
 use Rattle.yaml_round.specs.declared.yaml_side_t.{yaml_side_t}
@@ -20,11 +21,12 @@ use Rattle.yaml_round_records.specs.declared.yaml_c_mark.{yaml_c_mark}
 use Rattle.yaml_round_records.specs.declared.yaml_c_settings.{yaml_c_settings}
 use Rattle.yaml_round_records.specs.Numbers.{encoding_meant, error_number}
 use Rattle.yaml_round_records.specs.Records.{mark_told}
+use Rattle.yaml_round_records.specs.Counted.{mark_counted}
 use Rattle.yaml_round_answers.specs.Settings.{settings_meant}
 
 -- the mark where no place is told
 abbrev pub no_mark : yaml_c_mark
-no_mark = record { index = 0; line = 0; column = 0 }
+no_mark = record { index = 0; line = 0; column = 0; character = 0 }
 
 -- ---- the record
 
@@ -49,19 +51,28 @@ abbrev pub LineTold : Fault → List ℕ → Type 0
 LineTold fault line = (line ≡ fault_line fault)
     ⊎ ((fault.kind ≡ YAML_MEMORY_ERROR) × (line ≡ []))
 
--- a fault, and whose it is; the one block is its line
-pub record TellsFault (fault : Fault) (whose : ℤ) (a : yaml_c_answer) : Type 0 where
+-- a fault, and whose it is, with its marks told so; the one block is its line
+pub record TellsFaultBy (tell : yaml_mark_t → yaml_c_mark) (fault : Fault) (whose : ℤ)
+    (a : yaml_c_answer) : Type 0 where
   pub kind : a.kind ≡ error_number fault.kind
   pub is : a.is ≡ pos 0
   pub second : a.second ≡ whose
   pub value : a.value ≡ fault.number
   pub offset : a.offset ≡ fault.offset
-  pub problem_mark : a.problem_mark ≡ mark_told fault.problem_mark
-  pub context_mark : a.context_mark ≡ mark_told fault.context_mark
+  pub problem_mark : a.problem_mark ≡ tell fault.problem_mark
+  pub context_mark : a.context_mark ≡ tell fault.context_mark
   pub problem : a.problem.now ≡ fault.problem
   pub context : a.context.now ≡ unwrap_or fault.context []
   pub text : a.text.now ≡ []
   pub line : LineTold fault a.line.now
+
+-- no character in front of its marks is counted
+abbrev pub TellsFault : Fault → ℤ → yaml_c_answer → Type 0
+TellsFault = TellsFaultBy mark_told
+
+-- a fault of a text, with the characters that stand in front of its marks
+abbrev pub TellsFaultIn : List ℕ → Fault → yaml_c_answer → Type 0
+TellsFaultIn text fault = TellsFaultBy (λ m. mark_counted text (mark_told m)) fault (pos 0)
 
 -- memory for a fault's line was refused, and this is told in the fault's place; C isn't told of a layer
 pub record TellsStarved (whose : ℤ) (a : yaml_c_answer) : Type 0 where
@@ -71,6 +82,15 @@ pub record TellsStarved (whose : ℤ) (a : yaml_c_answer) : Type 0 where
 
 abbrev pub Refuses : Fault → ℤ → yaml_c_answer → Type 0
 Refuses fault whose a = TellsFault fault whose a ⊎ TellsStarved whose a
+
+-- want of memory is told; C isn't told of the layer
+abbrev pub TellsMemory : yaml_c_answer → Type 0
+TellsMemory a = (layer : yaml_origin_t) (text : List ℕ) → TellsFaultIn text (memory_fault layer) a
+
+-- the fault of a text is told, or in its place that memory for its line was refused
+abbrev pub RefusesIn : List ℕ → Fault → yaml_c_answer → Type 0
+RefusesIn text fault a = TellsFaultIn text fault a
+    ⊎ TellsMemory a
 
 -- a number means nothing; no block, and no place
 pub record TellsMisuse (a : yaml_c_answer) : Type 0 where

@@ -2,10 +2,11 @@
 
 ghost use Rattle.std.specs.Prelude.{◌≡◌, [], pos, unwrap_or, option_map};
 ghost use Rattle.yaml_parse.specs.Faults.{fault_of};
-ghost use Rattle.yaml_round_answers.specs.Told.{TellsText, TellsFault, TellsMisuse, LineTold, Refuses};
+ghost use Rattle.yaml_round_answers.specs.Told.{TellsText, TellsFault, TellsMisuse, LineTold, Refuses, RefusesIn};
 
 use std::alloc::Global;
 use yaml_round::{yaml_fault_line, yaml_fault_t};
+use yaml_round_places::characters_before;
 use yaml_round_records::{error_number, mark_told, yaml_c_mark};
 
 /// An answer: a text, or a fault. `kind` is 0, the number of the fault's kind, or -1 where an argument means nothing.
@@ -31,12 +32,13 @@ pub struct yaml_c_answer {
     pub line: &'static [u8],
 }
 
-const _: () = prove!(size_of::<yaml_c_answer>() == 136);
+const _: () = prove!(size_of::<yaml_c_answer>() == 152);
 
 const ZERO: yaml_c_mark = yaml_c_mark {
     index: 0,
     line: 0,
     column: 0,
+    character: 0,
 };
 
 /// A block that lives on for C. With no byte there is no block.
@@ -118,6 +120,16 @@ pub(crate) fn refused(alloc: Global, fault: &yaml_fault_t, second: i32) -> yaml_
         Ok(line) => fault_told(fault, second, handed_out(line)),
         Err(refusal) => fault_told(&refusal, second, b""),
     }
+}
+
+/// An answer that is the fault of a text, with the characters counted in front of its places.
+pub(crate) fn refused_in(alloc: Global, text: &[u8], fault: &yaml_fault_t) -> yaml_c_answer
+    ensures { RefusesIn text.now (fault_of fault.now) result }
+{
+    let mut answer = refused(alloc, fault, 0);
+    answer.problem_mark.character = characters_before(text, answer.problem_mark.index);
+    answer.context_mark.character = characters_before(text, answer.context_mark.index);
+    answer
 }
 
 /// The answer where an argument means nothing.

@@ -14,6 +14,7 @@ mod path;
 mod scanning;
 mod serializing;
 mod settings;
+mod spelled;
 
 pub use answer::{told, yaml_c_answer};
 pub use composing::{composed_by, yaml_c_spots};

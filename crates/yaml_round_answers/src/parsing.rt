@@ -4,15 +4,21 @@ ghost use Rattle.std.specs.Prelude.{◌≡◌, ◌⊎◌, pos, IfOk, IfErr};
 ghost use Rattle.yaml_parse.specs.Faults.{fault_of, IsMemoryFault, parse_layers};
 ghost use Rattle.yaml_round.specs.Input.{Reads};
 ghost use Rattle.yaml_round_records.specs.Numbers.{encoding_meant};
-ghost use Rattle.yaml_round_answers.specs.Told.{AnswersMeant};
+ghost use Rattle.yaml_round_answers.specs.Told.{AnswersMeant, TellsMemory};
 ghost use Rattle.yaml_round_answers.specs.Parses.{HasNothing, HandsOut, Parses, IsCollected, EndsFront, Fronts, NothingUnmeant};
+ghost use Rattle.yaml_round_answers.specs.Spelled.{spelled_text};
 ghost use Rattle.yaml_round_records.specs.Listing.{StartsEmpty};
 
-use crate::answer::{handed_out, misused, refused, said, yaml_c_answer};
+use crate::answer::{handed_out, misused, refused_in, said, yaml_c_answer};
+use crate::spelled::spelled_text;
 use std::alloc::Global;
-use yaml_parse::{yaml_parser_delete, yaml_parser_initialize, yaml_parser_t};
+use yaml_parse::{
+    yaml_memory_fault, yaml_origin_t, yaml_parser_delete, yaml_parser_initialize, yaml_parser_t,
+};
 use yaml_round::{yaml_adapter_t, yaml_encoding_t, yaml_fault_t};
-use yaml_round_records::{Listing, collect, encoding_of, yaml_c_directive, yaml_c_event};
+use yaml_round_records::{
+    Listing, collect, count_events, encoding_of, yaml_c_directive, yaml_c_event,
+};
 
 /// The events of an input, and the bytes and directives that they speak of. All three are the caller's to free, where they
 /// have any item.
@@ -82,20 +88,53 @@ pub(crate) fn directives_out(directives: Vec<yaml_c_directive>) -> &'static [yam
     directives.leak()
 }
 
-// Blocks that live on for C.
-fn blocks_of(listing: Listing) -> yaml_c_parsed
-    ensures { HandsOut listing result }
+// Blocks that live on for C, of a listing whose events have their places in that text.
+fn blocks_of(text: &[u8], listing: Listing) -> yaml_c_parsed
+    ensures { HandsOut text.now listing result }
 {
     let Listing {
-        events,
+        mut events,
         directives,
         bytes,
     } = listing;
+    count_events(text, &mut events);
     yaml_c_parsed {
         events: events_out(events),
         directives: directives_out(directives),
         bytes: handed_out(bytes),
     }
+}
+
+fn parsed_in(
+    alloc: Global,
+    input: &[u8],
+    from: yaml_encoding_t,
+    text: &[u8],
+    blocks: &mut yaml_c_parsed,
+) -> yaml_c_answer
+    requires { text.now ≡ spelled_text from input.now }
+    ensures told { Parses input.now blocks.new from result }
+    ensures none { (result.kind ≡ pos 0) ⊎ HasNothing blocks.new }
+{
+    match collected(alloc, input, from) {
+        Ok(listing) => {
+            *blocks = blocks_of(text, listing);
+            said(0)
+        }
+        Err(fault) => {
+            *blocks = nothing();
+            refused_in(alloc, text, &fault)
+        }
+    }
+}
+
+// Nothing is handed out, for want of memory.
+fn starved(alloc: Global, blocks: &mut yaml_c_parsed) -> yaml_c_answer
+    ensures told { TellsMemory result }
+    ensures none { HasNothing blocks.new }
+{
+    *blocks = nothing();
+    refused_in(alloc, b"", &yaml_memory_fault(yaml_origin_t::Parser))
 }
 
 fn parsed(
@@ -107,15 +146,9 @@ fn parsed(
     ensures told { Parses input.now blocks.new from result }
     ensures none { (result.kind ≡ pos 0) ⊎ HasNothing blocks.new }
 {
-    match collected(alloc, input, from) {
-        Ok(listing) => {
-            *blocks = blocks_of(listing);
-            said(0)
-        }
-        Err(fault) => {
-            *blocks = nothing();
-            refused(alloc, &fault, 0)
-        }
+    match spelled_text(alloc, input, from) {
+        Some(text) => parsed_in(alloc, input, from, text.as_slice(), blocks),
+        None => starved(alloc, blocks),
     }
 }
 
@@ -156,6 +189,25 @@ fn fronted(
     }
 }
 
+fn front_in(
+    alloc: Global,
+    input: &[u8],
+    from: yaml_encoding_t,
+    text: &[u8],
+    blocks: &mut yaml_c_parsed,
+) -> yaml_c_answer
+    requires { text.now ≡ spelled_text from input.now }
+    ensures { Fronts input.now blocks.new from result }
+{
+    let mut listing = Listing::new(alloc);
+    let end = fronted(alloc, input, from, &mut listing);
+    *blocks = blocks_of(text, listing);
+    match end {
+        Ok(()) => said(0),
+        Err(fault) => refused_in(alloc, text, &fault),
+    }
+}
+
 fn front(
     alloc: Global,
     input: &[u8],
@@ -164,12 +216,9 @@ fn front(
 ) -> yaml_c_answer
     ensures { Fronts input.now blocks.new from result }
 {
-    let mut listing = Listing::new(alloc);
-    let end = fronted(alloc, input, from, &mut listing);
-    *blocks = blocks_of(listing);
-    match end {
-        Ok(()) => said(0),
-        Err(fault) => refused(alloc, &fault, 0),
+    match spelled_text(alloc, input, from) {
+        Some(text) => front_in(alloc, input, from, text.as_slice(), blocks),
+        None => starved(alloc, blocks),
     }
 }
 

@@ -29,12 +29,13 @@ pub struct yaml_c_parting {
     pub second_mark: yaml_c_mark,
 }
 
-const _: () = prove!(size_of::<yaml_c_parting>() == 200);
+const _: () = prove!(size_of::<yaml_c_parting>() == 232);
 
 const ZERO: yaml_c_mark = yaml_c_mark {
     index: 0,
     line: 0,
     column: 0,
+    character: 0,
 };
 
 // The number of an event's kind.

@@ -2,14 +2,17 @@
 
 ghost use Rattle.std.specs.Prelude.{◌≡◌};
 ghost use Rattle.yaml_round_records.specs.Numbers.{encoding_meant};
-ghost use Rattle.yaml_round_answers.specs.Told.{AnswersMeant};
+ghost use Rattle.yaml_round_answers.specs.Spelled.{spelled_text};
+ghost use Rattle.yaml_round_answers.specs.Told.{AnswersMeant, TellsMemory};
 ghost use Rattle.yaml_round_answers.specs.Scans.{HasNoToken, HandsOutTokens, Scans, NoTokenUnmeant};
 
-use crate::answer::{handed_out, misused, refused, said, yaml_c_answer};
+use crate::answer::{handed_out, misused, refused_in, said, yaml_c_answer};
+use crate::spelled::spelled_text;
 use std::alloc::Global;
 use yaml_round::yaml_encoding_t;
 use yaml_round_records::encoding_of;
-use yaml_round_tokens::{TokenListing, list_tokens, yaml_c_token};
+use yaml_round_tokens::{TokenListing, count_tokens, list_tokens, yaml_c_token};
+use yaml_scan::{yaml_memory_fault, yaml_origin_t};
 
 /// The tokens of an input, and the bytes that they speak of. Both are the caller's to free, where they have any item.
 #[repr(C)]
@@ -39,15 +42,43 @@ fn tokens_out(tokens: Vec<yaml_c_token>) -> &'static [yaml_c_token]
     tokens.leak()
 }
 
-// Blocks that live on for C.
-fn blocks_of(listing: TokenListing) -> yaml_c_scanned
-    ensures { HandsOutTokens listing result }
+// Blocks that live on for C, of a listing whose tokens have their places in that text.
+fn blocks_of(text: &[u8], listing: TokenListing) -> yaml_c_scanned
+    ensures { HandsOutTokens text.now listing result }
 {
-    let TokenListing { tokens, bytes } = listing;
+    let TokenListing { mut tokens, bytes } = listing;
+    count_tokens(text, &mut tokens);
     yaml_c_scanned {
         tokens: tokens_out(tokens),
         bytes: handed_out(bytes),
     }
+}
+
+fn scanned_in(
+    alloc: Global,
+    input: &[u8],
+    from: yaml_encoding_t,
+    text: &[u8],
+    blocks: &mut yaml_c_scanned,
+) -> yaml_c_answer
+    requires { text.now ≡ spelled_text from input.now }
+    ensures { Scans input.now blocks.new from result }
+{
+    let mut listing = TokenListing::new(alloc);
+    let end = list_tokens(alloc, input, from, &mut listing);
+    *blocks = blocks_of(text, listing);
+    match end {
+        Ok(()) => said(0),
+        Err(fault) => refused_in(alloc, text, &fault),
+    }
+}
+
+// Nothing is handed out, for want of memory.
+fn starved(alloc: Global, blocks: &mut yaml_c_scanned) -> yaml_c_answer
+    ensures { TellsMemory result }
+{
+    *blocks = nothing();
+    refused_in(alloc, b"", &yaml_memory_fault(yaml_origin_t::Scanner))
 }
 
 fn scanned(
@@ -58,12 +89,9 @@ fn scanned(
 ) -> yaml_c_answer
     ensures { Scans input.now blocks.new from result }
 {
-    let mut listing = TokenListing::new(alloc);
-    let end = list_tokens(alloc, input, from, &mut listing);
-    *blocks = blocks_of(listing);
-    match end {
-        Ok(()) => said(0),
-        Err(fault) => refused(alloc, &fault, 0),
+    match spelled_text(alloc, input, from) {
+        Some(text) => scanned_in(alloc, input, from, text.as_slice(), blocks),
+        None => starved(alloc, blocks),
     }
 }
 

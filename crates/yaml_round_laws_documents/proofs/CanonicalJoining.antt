@@ -24,7 +24,8 @@ use Rattle.yaml_round_laws_documents.proofs.Marks.{BeginsLow, no_mark, text_begi
 abbrev pub Decodes : List ℕ → List ℕ → yaml_encoding_t → Type 0
 Decodes bytes text e = (decoded_text YAML_ANY_ENCODING bytes ≡ Ok text) × (encoding_of YAML_ANY_ENCODING bytes ≡ e)
 
-decoded : (bytes : List ℕ) (t : List Item) (e : yaml_encoding_t) → Allowed t
+-- What an encoding spells for a text decodes to it.
+pub decoded : (bytes : List ℕ) (t : List Item) (e : yaml_encoding_t) → Allowed t
     → encoding_of YAML_ANY_ENCODING bytes ≡ e
     → drop (mark_length YAML_ANY_ENCODING bytes) bytes ≡ spellings e (shown t)
     → Decodes bytes (encode Utf8 t) e

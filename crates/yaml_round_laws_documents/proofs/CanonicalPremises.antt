@@ -11,6 +11,8 @@ use Rattle.yaml_emit_laws_text.specs.emit_layout.Content.{Opening}
 use Rattle.yaml_emit_laws_text.specs.emit_layout.declared.problem.Problem.{Problem}
 use Rattle.yaml_emit_laws_text.specs.emit_layout.Grammar.{or_else, is_version, version_problem, handle_problem, prefix_problem, has_handle, twice_problem, directive_problem, directives_problem, opening_problem}
 use Rattle.yaml_emit_laws_text.specs.TagsLaws.{resolved_split}
+use Rattle.yaml_emit_laws_text.proofs.Resolving.{or_first}
+use Rattle.yaml_emit_laws_text.proofs.Joining.{none_all}
 
 -- under the directives each tag is resolved as it was
 abbrev pub Resolves : List TagDirective → Type 0
@@ -25,29 +27,21 @@ abbrev pub AreFineTags : List TagDirective → List TagDirective → Type 0
 AreFineTags before [] = Unit {0}
 AreFineTags before (d ∷ ds) = (directive_for d.handle before ≡ None) × AreFineTags (before ++ d ∷ []) ds
 
-or_first : (p q : Option Problem) → or_else p q ≡ None → p ≡ None
-or_first None q e = refl
-or_first (Some p) q e = absurd (cc)
-
 or_second : (p q : Option Problem) → or_else p q ≡ None → q ≡ None
 or_second None q e = e
 or_second (Some p) q e = absurd (cc)
 
-none_true : (b : Bool) (p : Problem) → (if b then Some p else None) ≡ None → b ≡ false
+pub none_true : (b : Bool) (p : Problem) → (if b then Some p else None) ≡ None → b ≡ false
 none_true false p e = refl
 none_true true p e = absurd (cc)
 
-none_false : (b : Bool) (p : Problem) → (if b then None else Some p) ≡ None → b ≡ true
-none_false true p e = refl
-none_false false p e = absurd (cc)
-
-none_has : (h : List ℕ) (before : List TagDirective) → list_any (has_handle h) before ≡ false
+pub none_has : (h : List ℕ) (before : List TagDirective) → list_any (has_handle h) before ≡ false
     → directive_for h before ≡ None
 unfolding directive_for
 none_has h [] e = refl
 none_has h (d ∷ ds) e = rw (or_parts (bytes_eq d.handle h) (list_any (has_handle h) ds) e).0 (none_has h ds (or_parts (bytes_eq d.handle h) (list_any (has_handle h) ds) e).1)
 
-tags_fine : (before ds : List TagDirective) → directives_problem before ds ≡ None
+pub tags_fine : (before ds : List TagDirective) → directives_problem before ds ≡ None
     → AreFineTags before ds
 unfolding directives_problem
 tags_fine before [] e = tt
@@ -58,12 +52,15 @@ tags_fine before (d ∷ ds) e =
     let once = none_true (list_any (has_handle d.handle) before) _ (or_second (prefix_problem d.prefix) (twice_problem before d.handle) rest) in
     (none_has d.handle before once, tags_fine (before ++ d ∷ []) ds more)
 
-version_fine : (v : Option yaml_version_directive_t) → version_problem v ≡ None → IsFineVersion v
+pub version_fine : (v : Option yaml_version_directive_t) → version_problem v ≡ None
+    → IsFineVersion v
 version_fine None e = tt
-version_fine (Some v) e = none_false (is_version v) _ e
+version_fine (Some v) e = none_all (is_version v) _ e
 
+-- The same of its version.
 pub fine_version : (o : Opening) → opening_problem o ≡ None → IsFineVersion o.version
 fine_version o e = version_fine o.version (or_first (version_problem o.version) (directives_problem [] o.directives) e)
 
+-- Where nothing is wrong with a document's start, its tag directives are fine.
 pub fine_tags : (o : Opening) → opening_problem o ≡ None → AreFineTags [] o.directives
 fine_tags o e = tags_fine [] o.directives (or_second (version_problem o.version) (directives_problem [] o.directives) e)

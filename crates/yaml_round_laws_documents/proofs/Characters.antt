@@ -12,6 +12,7 @@ use Rattle.yaml_emit_layout.specs.emit_text.Text.{is_break}
 use Rattle.yaml_emit_layout.specs.emit_text.Quoted.{is_printable, needs_escape, escape_letter, escape_text, hex_4, hex_8}
 use Rattle.yaml_emit_layout.specs.emit_text.Hex.{hex_digit, hex_2}
 use Rattle.yaml_emit_layout.specs.emit_tags.Tags.{suffix_keeps, prefix_keeps, keeps_byte, uri_byte, uri_text}
+use Rattle.yaml_emit_laws_text.proofs.Pieces.{top_of}
 
 abbrev pub Fits : ℕ → Type 0
 Fits c = is_allowed c ≡ true
@@ -159,7 +160,7 @@ escape_fits c h =
     off_of false e = refl
 
 -- what is printed may stand
-printed : (c : ℕ) → is_printable c ≡ true → Fits c
+pub printed : (c : ℕ) → is_printable c ≡ true → Fits c
 unfolding is_allowed
 printed c e = grind (arith, nat_tests)
 
@@ -267,12 +268,9 @@ abbrev pub AreChars : List ℕ → Type 0
 AreChars [] = Unit {0}
 AreChars (c ∷ cs) = (c < 1114112) × AreChars cs
 
-scalar_below : (c : ℕ) → scalar c ≡ true → c < 1114112
-scalar_below c e = grind (arith, nat_tests)
-
 pub scalars_below : (cs : List ℕ) → scalars cs ≡ true → AreChars cs
 scalars_below [] e = tt
-scalars_below (c ∷ cs) e = (scalar_below c (and_parts (scalar c) (scalars cs) e).0, scalars_below cs (and_parts (scalar c) (scalars cs) e).1)
+scalars_below (c ∷ cs) e = (top_of c (and_parts (scalar c) (scalars cs) e).0, scalars_below cs (and_parts (scalar c) (scalars cs) e).1)
 
 chars_bytes : (cs : List ℕ) → AreChars cs → AreBytes (encode_utf8_all cs)
 chars_bytes [] h = tt

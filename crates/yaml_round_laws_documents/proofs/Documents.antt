@@ -1,5 +1,5 @@
 -- Trees of documents.
-use Rattle.std.proofs.Common.{◌≡◌, ℕ, Bool, true, false, not, ◌&&◌, ◌||◌, List, [], ◌∷◌, ◌++◌, length, Option, Some, None, refl, sym, ap, subst, ◌∙◌, append_assoc, append-nil}
+use Rattle.std.proofs.Common.{◌≡◌, ℕ, Bool, true, false, not, ◌&&◌, ◌||◌, List, [], ◌∷◌, ◌++◌, length, Option, Some, None, refl, sym, ap, ◌∙◌, append_assoc, append-nil}
 use Rattle.yaml_parse_grammar.specs.parse_model.declared.yaml_mark_t.{yaml_mark_t}
 use Rattle.yaml_parse_grammar.specs.parse_model.declared.yaml_version_directive_t.{yaml_version_directive_t}
 use Rattle.yaml_parse_grammar.specs.parse_model.Tokens.{Token, TokenBody}
@@ -24,26 +24,23 @@ use Rattle.yaml_round_laws_documents.specs.Reads.{node_reads, begins_directed, d
 use Rattle.yaml_round_laws_documents.specs.TreeLaws.{token_bodies, event_bodies, Says, HasNoMark, AreParsable, parsed_of, NodesAreParsed, CanonicalTokensAreParsed}
 use Rattle.yaml_round_laws_documents.proofs.CanonicalPremises.{IsFineVersion, AreFineTags, Resolves, fine_version, fine_tags}
 use Rattle.yaml_emit_laws_text.proofs.Resolving.{tags_resolve}
-use Rattle.yaml_round_laws_documents.proofs.Growing.{take, nodes_grown}
+use Rattle.yaml_round_laws_documents.proofs.Growing.{take, nodes_grown, on_says}
 
-resolving : (o : Opening) → opening_problem o ≡ None → Resolves o.directives
+-- Where nothing is wrong with a document's start, its directives resolve.
+pub resolving : (o : Opening) → opening_problem o ≡ None → Resolves o.directives
 resolving = tags_resolve
 
 pub nodes_parsed : NodesAreParsed
 nodes_parsed o e = nodes_grown o.directives (resolving o e)
 
--- an item that changes the directives
-turn_says : (s : Settled) (b : EventBody) (D : Directives) (i : item.RawEvent) (n : ℕ)
-    (k : Directives → Reading) → s ≡ gave b D → Says (λ es. b ∷ es) (read_on s i n k) (k D)
-turn_says s b D i n k e = let P : Settled → Type 0 = λ x. Says (λ es. b ∷ es) (read_on x i n k) (k D) in subst P (sym e) (record { events = refl; ending = refl })
-
 -- An item that settles is the reading's next event.
 pub item_says : (g : Given) (gs : List Given) (f : Option Fault) (D E : Directives) (b : EventBody)
     → settle g.0 D ≡ gave b E → Says (λ es. b ∷ es) (reading (g ∷ gs) f D) (reading gs f E)
 unfolding reading
-item_says g gs f D E b e = turn_says (settle g.0 D) b E g.0 g.1 (λ x. reading gs f x) e
+item_says g gs f D E b e = on_says (settle g.0 D) b E g.0 g.1 (λ x. reading gs f x) e
 
-note_reads : (g : Given) (gs : List Given) (f : Option Fault) (D E : Directives)
+-- A directive is noted, and what follows is read.
+pub note_reads : (g : Given) (gs : List Given) (f : Option Fault) (D E : Directives)
     → settle g.0 D ≡ noted E → reading (g ∷ gs) f D ≡ reading gs f E
 unfolding reading
 note_reads g gs f D E e = ap (λ (s : Settled). read_on s g.0 g.1 (λ x. reading gs f x)) e

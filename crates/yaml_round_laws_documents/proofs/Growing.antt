@@ -92,11 +92,11 @@ abbrev full_of : Option Named → Option (List ℕ)
 full_of None = None
 full_of (Some x) = Some x.full
 
-abbrev spell_if : Option PropertyTokens → List Token → List Token
+abbrev pub spell_if : Option PropertyTokens → List Token → List Token
 spell_if None ts = ts
 spell_if (Some d) ts = spell_properties d ts
 
-abbrev properties_if : Option PropertyTokens → Option Properties
+abbrev pub properties_if : Option PropertyTokens → Option Properties
 properties_if None = None
 properties_if (Some d) = Some (properties_of d)
 
@@ -109,7 +109,8 @@ record WithProperties (ds : List TagDirective) (anchor : Option (List ℕ)) (tag
       → settle (node_at (properties_if only_properties) shape from to) D
       ≡ gave (node_event anchor (full_of tag) shape) D
 
-resolves : (ds : List TagDirective) (handle suffix full : List ℕ) (anchor : Option (List ℕ))
+-- A tag that resolves settles as its full name.
+pub resolves : (ds : List TagDirective) (handle suffix full : List ℕ) (anchor : Option (List ℕ))
     (shape : Shape) (from at : yaml_mark_t) (D : Directives) → resolved ds handle suffix ≡ Some full
     → D.tags ≡ ds
     → with_resolved (resolved D.tags handle suffix) anchor shape from at D
@@ -146,19 +147,21 @@ with_properties ds (Some a) (Some n) h ts bs e =
     }
 
 -- the tag that is written, and what it resolves to
-abbrev split_handle : Split → List ℕ
+abbrev pub split_handle : Split → List ℕ
 split_handle (shorthand handle suffix) = handle
 split_handle (verbatim t) = []
 
-abbrev split_suffix : Split → List ℕ
+abbrev pub split_suffix : Split → List ℕ
 split_suffix (shorthand handle suffix) = suffix
 split_suffix (verbatim t) = t
 
-split_body : (s : Split) → tag_body s ≡ token.tag (split_handle s) (split_suffix s)
+-- The token of a tag, by its parts.
+pub split_body : (s : Split) → tag_body s ≡ token.tag (split_handle s) (split_suffix s)
 split_body (shorthand handle suffix) = refl
 split_body (verbatim t) = refl
 
-split_resolved : (ds : List TagDirective) (s : Split)
+-- The parts of a tag resolve to that tag.
+pub split_resolved : (ds : List TagDirective) (s : Split)
     → resolved ds (split_handle s) (split_suffix s) ≡ resolved_split ds s
 split_resolved ds (shorthand handle suffix) = refl
 split_resolved ds (verbatim t) = refl
@@ -207,7 +210,8 @@ scalar_bodies_are ds None true bs = refl
 scalar_bodies_are ds None false bs = refl
 scalar_bodies_are ds (Some t) quoted bs = tag_bodies_are ds (Some t) bs
 
-tagged_event : (b : Bool) (anchor : Option (List ℕ)) (t value : List ℕ)
+-- A scalar with a tag that is kept says that tag.
+pub tagged_event : (b : Bool) (anchor : Option (List ℕ)) (t value : List ℕ)
     (style : yaml_scalar_style_t) → b ≡ false
     → (if b then event.scalar anchor None value true false style else event.scalar anchor (Some t)
     value false false style) ≡ event.scalar anchor (Some t) value false false style
@@ -224,16 +228,18 @@ scalar_event_is ds anchor (Some t) value quoted h = tagged_event (bytes_eq t (co
 
 -- ---- nodes
 
-abbrev with_dress : {w : Wants} → Option PropertyTokens → trees.Content w → trees.Node w
+abbrev pub with_dress : {w : Wants} → Option PropertyTokens → trees.Content w → trees.Node w
 with_dress None c = trees.bare c
 with_dress (Some d) c = trees.with_properties d c
 
-dress_spells : (w : Wants) (d : Option PropertyTokens) (c : trees.Content w) (rest : List Token)
+-- It spells its properties, and then its content.
+pub dress_spells : (w : Wants) (d : Option PropertyTokens) (c : trees.Content w) (rest : List Token)
     → spell_node (with_dress d c) rest ≡ spell_if d (spell_content c rest)
 dress_spells w None c rest = refl
 dress_spells w (Some d) c rest = refl
 
-dress_gives : (w : Wants) (d : Option PropertyTokens) (c : trees.Content w) (rest : List Token)
+-- A node in its properties gives what its content gives with them.
+pub dress_gives : (w : Wants) (d : Option PropertyTokens) (c : trees.Content w) (rest : List Token)
     (more : List Given)
     → items_node (with_dress d c) rest more ≡ items_content c (properties_if d) rest more
 dress_gives w None c rest more = refl

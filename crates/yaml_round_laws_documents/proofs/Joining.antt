@@ -45,12 +45,14 @@ canon_scanned decode law w e c h =
 
 -- ---- read back
 
-ending_is : (from : yaml_encoding_t) (input : List ℕ)
+-- The fault of an input is that of its tokens.
+pub ending_is : (from : yaml_encoding_t) (input : List ℕ)
     → ending_of from input ≡ (parsed (tokens_of from input)).ending
 unfolding read
 ending_is from input = refl
 
-contents_are : (from : yaml_encoding_t) (input : List ℕ)
+-- The contents of an input are those of its tokens.
+pub contents_are : (from : yaml_encoding_t) (input : List ℕ)
     → contents (events_of from input) ≡ contents (parsed (tokens_of from input)).events
 unfolding read
 contents_are from input = refl

@@ -68,7 +68,8 @@ unfolding blanks
 blanks_tame zero = stay_tame
 blanks_tame (suc n) = both blank (blanks n) blank_tame (blanks_tame n)
 
-break_tame : (x : ℕ) → Fits x → Tame (break x)
+-- A break is tame.
+pub break_tame : (x : ℕ) → Fits x → Tame (break x)
 break_tame x f c rest h = letter_allowed x (rest _) f (h _)
 
 -- A line break is tame.

@@ -19,6 +19,8 @@ use Rattle.yaml_emit_layout.specs.Nodes.{Context, anchor_text, tag_text, version
 use Rattle.yaml_round_laws_documents.specs.BytesLaws.{IsNameOption, IsTextOption, HavePrefixes}
 use Rattle.yaml_round_laws_documents.proofs.Characters.{Fits, AllFit, AreChars, AreBytes, all_append, graphic, is_32, names_fit, escape_fits, raw_fits, uri_fits, bytes_drop, utf8_bytes, scalars_below}
 use Rattle.yaml_round_laws_documents.proofs.Layouts.{Tame, both, stay_tame, choose_tame, when_tame, char_tame, letters_tame, blanks_tame, new_line_tame, gap_tame, word_tame, line_tame}
+use Rattle.yaml_emit_laws_text.proofs.Resolving.{or_first}
+use Rattle.yaml_emit_laws_text.proofs.Joining.{none_all}
 
 -- ---- handles
 
@@ -26,14 +28,6 @@ if_none : (b : Bool) (p : Problem) (o : Option Problem) → (if b then Some p el
     → (b ≡ false) × (o ≡ None)
 if_none false p o e = (refl, e)
 if_none true p o e = absurd (cc)
-
-none_all : (b : Bool) (p : Problem) → (if b then None else Some p) ≡ None → b ≡ true
-none_all true p e = refl
-none_all false p e = absurd (cc)
-
-pub or_first : (p q : Option Problem) → or_else p q ≡ None → p ≡ None
-or_first None q e = refl
-or_first (Some p) q e = absurd (cc)
 
 -- Where neither of two problems is, the second isn't.
 pub or_second : (p q : Option Problem) → or_else p q ≡ None → q ≡ None

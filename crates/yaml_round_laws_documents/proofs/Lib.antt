@@ -1,20 +1,20 @@
-mod Saying
-mod Premises
-mod Joining
+pub mod Saying
+pub mod Premises
+pub mod Joining
 pub mod ReadBack
 mod Fronts
 mod Sound
-mod Written
+pub mod Written
 pub mod Laid
 pub mod Whole
-mod Encoding
+pub mod Encoding
 pub mod Characters
 pub mod Layouts
 pub mod Leaves
-mod Nodes
+pub mod Nodes
 pub mod Marks
 pub mod CanonicalJoining
-mod CanonicalPremises
+pub mod CanonicalPremises
 pub mod Growing
 pub mod Documents
 pub mod Passing

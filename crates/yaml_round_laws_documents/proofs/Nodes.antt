@@ -24,14 +24,16 @@ canonically s = record { encoding = s.encoding; canonical = true; indent = s.ind
 abbrev pub context : Settings → List TagDirective → Context
 context s ds = record { settings = canonically s; directives = ds }
 
-deep_tame : (b : Bool) (t : List Item) → Allowed t → Allowed (deep_if b t)
+pub deep_tame : (b : Bool) (t : List Item) → Allowed t → Allowed (deep_if b t)
 deep_tame true t h = deep_allowed t h
 deep_tame false t h = h
 
-checked_tame : (n : ℕ) → Tame (checked n)
+-- An indentation that is checked is tame.
+pub checked_tame : (n : ℕ) → Tame (checked n)
 checked_tame n c rest h = deep_tame (nat_lt MOST n) (rest c) (h c)
 
-properties_tame : (p : Context) → TagsFit p.directives → (anchor tag : Option (List ℕ))
+-- Properties that fit are tame.
+pub properties_tame : (p : Context) → TagsFit p.directives → (anchor tag : Option (List ℕ))
     → IsNameOption anchor → IsTextOption tag → Tame (properties_text p anchor tag)
 properties_tame p fit anchor tag ha ht = both (anchor_text anchor) (tag_text p tag) (anchor_tame anchor ha) (tag_tame p fit tag ht)
 
@@ -93,7 +95,8 @@ mapping_tame s ds fit q ps ha ht inner at =
 comma_fits : Fits 44
 comma_fits = graphic 44 (omega arith) (omega arith)
 
-comma_tame : (fresh : Bool) → Tame (comma fresh)
+-- A comma is tame.
+pub comma_tame : (fresh : Bool) → Tame (comma fresh)
 comma_tame fresh = when_tame (not fresh) (char 44) (char_tame 44 comma_fits)
 
 turned_tame : (s : Settings) (n : ℕ) → Tame (turned (canonically s) n)
@@ -169,7 +172,8 @@ mutual
 
 -- ---- documents
 
-dots_tame : (s : Settings) → Tame (dots s)
+-- A `...` is tame.
+pub dots_tame : (s : Settings) → Tame (dots s)
 dots_tame s =
     let dot : Fits 46 = graphic 46 (omega arith) (omega arith) in
     both (word (46 ∷ 46 ∷ 46 ∷ [])) (line_at s 0) (word_tame (46 ∷ 46 ∷ 46 ∷ []) (dot, (dot, (dot, tt)))) (line_tame s.line_break 0)

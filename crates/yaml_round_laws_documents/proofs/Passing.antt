@@ -21,31 +21,34 @@ abbrev pub Spell : List TokenBody → Type 0
 Spell [] = Unit {0}
 Spell (b ∷ bs) = (spells_text b ≡ true) × Spell bs
 
-split_spells : (s : Split) → IsReadable s → spells_text (tag_body s) ≡ true
+pub split_spells : (s : Split) → IsReadable s → spells_text (tag_body s) ≡ true
 split_spells (shorthand handle suffix) (shape, text, long) = is_utf8-from_IsUtf8 suffix text
 split_spells (verbatim tag) (text, long) = is_utf8-from_IsUtf8 tag text
 
-anchor_spells : (anchor : Option (List ℕ)) (bs : List TokenBody) → Spell bs
+pub anchor_spells : (anchor : Option (List ℕ)) (bs : List TokenBody) → Spell bs
     → Spell (anchor_bodies anchor bs)
 anchor_spells None bs s = s
 anchor_spells (Some name) bs s = (refl, s)
 
-tag_spells : (ds : List TagDirective) (tag : Option (List ℕ)) → IsReadableTag ds tag
+pub tag_spells : (ds : List TagDirective) (tag : Option (List ℕ)) → IsReadableTag ds tag
     → (bs : List TokenBody) → Spell bs → Spell (tag_bodies ds tag bs)
 tag_spells ds None r bs s = s
 tag_spells ds (Some t) r bs s = (split_spells (split_tag ds t) r, s)
 
-mark_spells : (b : Bool) (bs : List TokenBody) → Spell bs → Spell (mark_bodies b bs)
+-- So does a document's `---`.
+pub mark_spells : (b : Bool) (bs : List TokenBody) → Spell bs → Spell (mark_bodies b bs)
 unfolding lib.Utf8.encode
 mark_spells true bs s = (is_utf8-from_IsUtf8 (33 ∷ []) (33 ∷ [], (refl, refl)), s)
 mark_spells false bs s = s
 
-end_spells : (b : Bool) (bs : List TokenBody) → Spell bs → Spell (end_bodies b bs)
+-- So does the end of a document.
+pub end_spells : (b : Bool) (bs : List TokenBody) → Spell bs → Spell (end_bodies b bs)
 end_spells true bs s = (refl, s)
 end_spells false bs s = s
 
 -- an anchor, a tag, and what follows
-properties_spell : (ds : List TagDirective) (anchor tag : Option (List ℕ)) → IsReadableTag ds tag
+pub properties_spell : (ds : List TagDirective) (anchor tag : Option (List ℕ))
+    → IsReadableTag ds tag
     → (bs : List TokenBody) → Spell bs → Spell (anchor_bodies anchor (tag_bodies ds tag bs))
 properties_spell ds anchor tag r bs s = anchor_spells anchor (tag_bodies ds tag bs) (tag_spells ds tag r bs s)
 
@@ -90,12 +93,14 @@ mutual
       let after : List TokenBody = token.flow_entry ∷ pairs_bodies ds ps bs in
       (refl, node_spells ds k rk (token.value ∷ node_bodies ds v after) (refl, node_spells ds v rv after (refl, pairs_spell ds ps rs bs s)))
 
-version_spells : (v : Option yaml_version_directive_t) (bs : List TokenBody) → Spell bs
+-- So does its version.
+pub version_spells : (v : Option yaml_version_directive_t) (bs : List TokenBody) → Spell bs
     → Spell (version_bodies v bs)
 version_spells None bs s = s
 version_spells (Some v) bs s = (refl, s)
 
-directives_spell : (ds : List TagDirective) → HaveUtf8 ds → (bs : List TokenBody) → Spell bs
+-- Tag directives in UTF-8 spell, in front of what spells.
+pub directives_spell : (ds : List TagDirective) → HaveUtf8 ds → (bs : List TokenBody) → Spell bs
     → Spell (directives_bodies ds bs)
 unfolding directives_bodies
 directives_spell [] u bs s = s

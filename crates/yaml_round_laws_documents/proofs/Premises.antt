@@ -20,18 +20,22 @@ use Rattle.yaml_round_content.specs.Writable.{IsName, IsAnchor, IsTag, IsMark, I
 
 -- ---- the text
 
-alphas_are : (bs : List ℕ) → list_all is_alpha_byte bs ≡ are_alphas bs
+-- A name of letters and digits, in the words of the emitter.
+pub alphas_are : (bs : List ℕ) → list_all is_alpha_byte bs ≡ are_alphas bs
 alphas_are [] = refl
 alphas_are (b ∷ bs) = ap (λ (more : Bool). is_alpha_byte b && more) (alphas_are bs)
 
-text_name : (name : List ℕ) → IsName name → text.IsWritableName name
+-- A name that may be written is one that is read back.
+pub text_name : (name : List ℕ) → IsName name → text.IsWritableName name
 text_name name (some, alphas) = (some, sym (alphas_are name) ∙ alphas)
 
-text_anchor : (anchor : Option (List ℕ)) → IsAnchor anchor → text.IsWritableAnchor anchor
+-- An anchor that may be written is one that is read back.
+pub text_anchor : (anchor : Option (List ℕ)) → IsAnchor anchor → text.IsWritableAnchor anchor
 text_anchor None h = tt
 text_anchor (Some name) h = text_name name h
 
-text_tag : (tag : Option (List ℕ)) → IsTag tag → text.IsWritableTag tag
+-- A tag that may be written is one that is read back.
+pub text_tag : (tag : Option (List ℕ)) → IsTag tag → text.IsWritableTag tag
 text_tag None h = tt
 text_tag (Some t) h = h
 
@@ -55,7 +59,8 @@ mutual
   text_pairs no_pairs h = tt
   text_pairs (pair k v ps) (hk, hv, hs) = (text_node k hk, text_node v hv, text_pairs ps hs)
 
-have_utf8 : (ds : List TagDirective) → HavePrefixes ds → HaveUtf8 ds
+-- They are in UTF-8.
+pub have_utf8 : (ds : List TagDirective) → HavePrefixes ds → HaveUtf8 ds
 have_utf8 [] h = tt
 have_utf8 (d ∷ ds) (h, hs) = (h, have_utf8 ds hs)
 
@@ -65,11 +70,13 @@ are_writable (d ∷ ds) (h, hs) = ((h.opening, have_utf8 d.directives h.prefixes
 
 -- ---- the bytes
 
-bytes_anchor : (anchor : Option (List ℕ)) → IsAnchor anchor → bytes.IsNameOption anchor
+-- An anchor that may be written is a name, or none.
+pub bytes_anchor : (anchor : Option (List ℕ)) → IsAnchor anchor → bytes.IsNameOption anchor
 bytes_anchor None h = tt
 bytes_anchor (Some name) (some, alphas) = alphas
 
-bytes_tag : (tag : Option (List ℕ)) → IsTag tag → bytes.IsTextOption tag
+-- A tag that may be written is a text, or none.
+pub bytes_tag : (tag : Option (List ℕ)) → IsTag tag → bytes.IsTextOption tag
 bytes_tag None h = tt
 bytes_tag (Some t) (some, utf8) = utf8
 
@@ -78,7 +85,8 @@ bytes_scalar : (anchor : Option (List ℕ)) (mark : Mark) (value : List ℕ) →
 bytes_scalar anchor (untagged plain) value a m v = (bytes_anchor anchor a, tt, v)
 bytes_scalar anchor (tagged t) value a ((some, utf8), other) v = (bytes_anchor anchor a, utf8, v)
 
-bytes_name : (name : List ℕ) → IsName name → bytes.IsName name
+-- A name that may be written is a name in bytes.
+pub bytes_name : (name : List ℕ) → IsName name → bytes.IsName name
 bytes_name name (some, alphas) = alphas
 
 mutual
@@ -96,7 +104,8 @@ mutual
   bytes_pairs no_pairs h = tt
   bytes_pairs (pair k v ps) (hk, hv, hs) = (bytes_node k hk, bytes_node v hv, bytes_pairs ps hs)
 
-have_prefixes : (ds : List TagDirective) → HavePrefixes ds → bytes.HavePrefixes ds
+-- Directives that may be written have prefixes.
+pub have_prefixes : (ds : List TagDirective) → HavePrefixes ds → bytes.HavePrefixes ds
 have_prefixes [] h = tt
 have_prefixes (d ∷ ds) (h, hs) = (h, have_prefixes ds hs)
 
@@ -151,7 +160,8 @@ have_texts law (d ∷ ds) (h, hs) =
 
 -- ---- the parser
 
-not_bang : (t : List ℕ) → (t ≡ codes "!" → ⊥) → bytes_eq t (codes "!") ≡ false
+-- What is no `!` differs from it.
+pub not_bang : (t : List ℕ) → (t ≡ codes "!" → ⊥) → bytes_eq t (codes "!") ≡ false
 not_bang t other =
     elim (cases_Bool (bytes_eq t (codes "!"))) [
       | inl h ↦ absurd (other ((bytes_eq-Decides t (codes "!")).0 h))

@@ -25,10 +25,10 @@ says b = content_of (normalize_body true b)
 
 -- ---- scalars
 
-long : (a b : ℕ) (t : List ℕ) → (length (a ∷ b ∷ t) == 1) ≡ true → ⊥
+pub long : (a b : ℕ) (t : List ℕ) → (length (a ∷ b ∷ t) == 1) ≡ true → ⊥
 long a b t e = let h = eqb-true (length (a ∷ b ∷ t)) 1 e in omega (arith, h)
 
-is_mark : (t value : List ℕ) → is_lone_mark (Some t) value ≡ true → t ≡ 33 ∷ []
+pub is_mark : (t value : List ℕ) → is_lone_mark (Some t) value ≡ true → t ≡ 33 ∷ []
 is_mark [] value e = absurd (none (and_parts (length value == 0) false (and_parts (length value == 0 && false) _ e).0).1)
   where
     none : false ≡ true → ⊥
@@ -36,7 +36,9 @@ is_mark [] value e = absurd (none (and_parts (length value == 0) false (and_part
 is_mark (a ∷ []) value e = ap (λ (b : ℕ). b ∷ []) (eqb-true a 33 (and_parts (length value == 0 && true) (a == 33) e).1)
 is_mark (a ∷ b ∷ t) value e = absurd (long a b t (and_parts (length value == 0) (length (a ∷ b ∷ t) == 1) (and_parts (length value == 0 && length (a ∷ b ∷ t) == 1) _ e).0).1)
 
-no_mark : (t value : List ℕ) → bytes_eq t (codes "!") ≡ false → is_lone_mark (Some t) value ≡ false
+-- A tag that is no `!` is no lone mark.
+pub no_mark : (t value : List ℕ) → bytes_eq t (codes "!") ≡ false
+    → is_lone_mark (Some t) value ≡ false
 no_mark t value e =
     elim (cases_Bool (is_lone_mark (Some t) value)) [
       | inr h ↦ h

@@ -34,7 +34,8 @@ use Rattle.yaml_round_laws_documents.proofs.Sound.{AreDocuments, documents_sound
 
 -- ---- names
 
-some_byte : (n : ℕ) → (n == 0) ≡ false → 0 < n
+-- What is not 0 is more.
+pub some_byte : (n : ℕ) → (n == 0) ≡ false → 0 < n
 some_byte n h = grind (arith, nat_tests)
 
 tests_of : (none all : Bool) (p q : Problem)

@@ -1,15 +1,14 @@
 -- The text that people read decodes to a text whose tokens pass the adapter and are parsed as the content.
-use Rattle.std.proofs.Common.{◌≡◌, ℕ, ◌≤◌, true, ◌&&◌, nat_le, if◌then◌else◌, List, map, Ok, refl, sym, ap, ◌∙◌, ℤ, pos, negsuc, arith}
-use Rattle.std.proofs.lemmas.Bool.Decides.{nat_tests}
+use Rattle.std.proofs.Common.{◌≡◌, ℕ, true, List, map, Ok, sym, ap, ◌∙◌}
 use Rattle.yaml_parse_grammar.specs.parse_model.declared.yaml_encoding_t.{yaml_encoding_t}
 use Rattle.yaml_parse_grammar.specs.parse_model.declared.yaml_encoding_t.TheVariants.{YAML_ANY_ENCODING}
 use Rattle.yaml_parse_grammar.specs.parse_model.Events.{EventBody}
 use Rattle.yaml_round_laws_documents.specs.scan_decode.Decoding.{decoded_text}
 use Rattle.yaml_emit_laws_text.specs.scan_history.Remaining.{Remaining}
 use Rattle.yaml_emit_laws_text.specs.scan_history.Scanned.{scanned, scanned_in}
-use Rattle.yaml_emit_laws_text.specs.emit_layout.emit_text.Settings.{settled, settled_indent}
+use Rattle.yaml_emit_laws_text.specs.emit_layout.emit_text.Settings.{settled}
 use Rattle.yaml_round_content.specs.Events.{contents}
-use Rattle.yaml_round_content.specs.Input.{events_of, ending_of, read, parsed, tokens_of}
+use Rattle.yaml_round_content.specs.Input.{events_of, parsed, tokens_of}
 use Rattle.yaml_round_content.specs.Said.{stream_says}
 use Rattle.yaml_round_laws_adapted.specs.Adapted.{adapted}
 use Rattle.yaml_round_laws_documents.specs.BytesLaws.{canonical_text, encoding_named}
@@ -28,30 +27,8 @@ use Rattle.yaml_round_laws_normal.specs.Laws.{ReadableReadsBack, ReadableTellsCo
 use Rattle.yaml_round_laws_normal.proofs.Premises.{are_writable, are_spellable, have_texts, are_parsable}
 use Rattle.yaml_round_laws_normal.proofs.Saying.{have_flags, stream_said}
 use Rattle.yaml_round_laws_normal.proofs.Starting.{starts_with_something}
-
-two_at_least : (n : ℕ) → 2 ≤ (if nat_le 2 n && nat_le n 9 then n else 2)
-two_at_least n = grind (arith, nat_tests)
-
-nine_at_most : (n : ℕ) → (if nat_le 2 n && nat_le n 9 then n else 2) ≤ 9
-nine_at_most n = grind (arith, nat_tests)
-
-least : (n : ℤ) → 2 ≤ settled_indent n
-least (pos n) = two_at_least n
-least (negsuc n) = two_at_least 0
-
-most : (n : ℤ) → settled_indent n ≤ 9
-most (pos n) = nine_at_most n
-most (negsuc n) = nine_at_most 0
-
-ending_is : (from : yaml_encoding_t) (input : List ℕ)
-    → ending_of from input ≡ (parsed (tokens_of from input)).ending
-unfolding read
-ending_is from input = refl
-
-contents_are : (from : yaml_encoding_t) (input : List ℕ)
-    → contents (events_of from input) ≡ contents (parsed (tokens_of from input)).events
-unfolding read
-contents_are from input = refl
+use Rattle.yaml_round_laws_documents.proofs.Joining.{ending_is, contents_are}
+use Rattle.yaml_round_laws_pretty.proofs.Joining.{least, most}
 
 pub reads_back : ReadableReadsBack
 reads_back w pretty c h =

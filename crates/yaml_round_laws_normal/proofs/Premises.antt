@@ -1,12 +1,6 @@
 -- What reading back asks of a content's documents, from what may be written.
-use Rattle.std.proofs.Common.{◌≡◌, inl, inr, ℕ, Bool, false, ◌&&◌, List, [], ◌∷◌, Option, Some, None, refl, sym, ap, ◌∙◌, codes}
-use Rattle.std.specs.List.{list_all}
-use Rattle.std.specs.Str.{IsUtf8, bytes_eq}
-use Rattle.std.proofs.lemmas.Bool.{cases_Bool}
-use Rattle.std.proofs.lemmas.Slice.Eq.{bytes_eq-Decides}
-use Rattle.yaml_round_laws_documents.specs.emit_laws_text.scan_model.Classes.{is_alpha_byte}
-use Rattle.yaml_round_laws_documents.specs.emit_laws_text.scan_history.scan_words.Written.{are_alphas}
-use Rattle.yaml_round_laws_documents.specs.parse_grammar.parse_model.Events.{TagDirective}
+use Rattle.std.proofs.Common.{◌≡◌, ℕ, Bool, false, List, [], ◌∷◌, Option, Some, None}
+use Rattle.std.specs.Str.{IsUtf8}
 use Rattle.yaml_round_laws_documents.specs.emit_laws_text.emit_layout.Content.{Opening}
 use Rattle.yaml_round_laws_documents.specs.emit_laws_text.emit_layout.Grammar.{opening_problem}
 use Rattle.yaml_round_content.specs.Said.{Mark, untagged, tagged, Node, alias, scalar, sequence, mapping, Nodes, no_nodes, node, Pairs, no_pairs, pair, Document}
@@ -16,24 +10,10 @@ use Rattle.yaml_emit_laws_text.specs.Writable as text
 use Rattle.yaml_round_laws_documents.specs.BytesLaws as bytes
 use Rattle.yaml_round_laws_documents.specs.TreeLaws.{IsNoMark, HasNoMark, HaveNoMark, PairsHaveNoMark, AreParsable}
 use Rattle.yaml_round_laws_documents.specs.Adapting.{IsReadableTag, IsTagged, AreTagged, PairsAreTagged, HaveTexts}
-use Rattle.yaml_round_content.specs.Writable.{IsName, IsAnchor, IsTag, IsMark, IsWritable, AreItemsWritable, ArePairsWritable, HavePrefixes, AreWritable}
+use Rattle.yaml_round_content.specs.Writable.{IsAnchor, IsTag, IsMark, IsWritable, AreItemsWritable, ArePairsWritable, AreWritable}
+use Rattle.yaml_round_laws_documents.proofs.Premises.{not_bang, text_anchor, text_tag, have_utf8, bytes_anchor, bytes_tag, have_prefixes, text_name, bytes_name}
 
 -- ---- the text
-
-alphas_are : (bs : List ℕ) → list_all is_alpha_byte bs ≡ are_alphas bs
-alphas_are [] = refl
-alphas_are (b ∷ bs) = ap (λ (more : Bool). is_alpha_byte b && more) (alphas_are bs)
-
-text_name : (name : List ℕ) → IsName name → text.IsWritableName name
-text_name name (some, alphas) = (some, sym (alphas_are name) ∙ alphas)
-
-text_anchor : (anchor : Option (List ℕ)) → IsAnchor anchor → text.IsWritableAnchor anchor
-text_anchor None h = tt
-text_anchor (Some name) h = text_name name h
-
-text_tag : (tag : Option (List ℕ)) → IsTag tag → text.IsWritableTag tag
-text_tag None h = tt
-text_tag (Some t) h = h
 
 text_scalar : (b : Bool) → (anchor : Option (List ℕ)) (mark : Mark) (value : List ℕ)
     → IsAnchor anchor → IsMark mark → IsUtf8 value
@@ -56,10 +36,6 @@ mutual
   text_pairs no_pairs h = tt
   text_pairs (pair k v ps) (hk, hv, hs) = (text_node false k hk, text_node false v hv, text_pairs ps hs)
 
-have_utf8 : (ds : List TagDirective) → HavePrefixes ds → HaveUtf8 ds
-have_utf8 [] h = tt
-have_utf8 (d ∷ ds) (h, hs) = (h, have_utf8 ds hs)
-
 pub are_writable : (first : Bool) (c : List Document) → AreWritable c
     → text.AreWritable (documents_from first c)
 are_writable first [] h = tt
@@ -67,22 +43,11 @@ are_writable first (d ∷ ds) (h, hs) = ((h.opening, have_utf8 d.directives h.pr
 
 -- ---- the bytes
 
-bytes_anchor : (anchor : Option (List ℕ)) → IsAnchor anchor → bytes.IsNameOption anchor
-bytes_anchor None h = tt
-bytes_anchor (Some name) (some, alphas) = alphas
-
-bytes_tag : (tag : Option (List ℕ)) → IsTag tag → bytes.IsTextOption tag
-bytes_tag None h = tt
-bytes_tag (Some t) (some, utf8) = utf8
-
 bytes_scalar : (b : Bool) → (anchor : Option (List ℕ)) (mark : Mark) (value : List ℕ)
     → IsAnchor anchor → IsMark mark → IsUtf8 value
     → bytes.IsSpellable (readable_node b (scalar anchor mark value))
 bytes_scalar b anchor (untagged plain) value a m v = (bytes_anchor anchor a, tt, v)
 bytes_scalar b anchor (tagged t) value a ((some, utf8), other) v = (bytes_anchor anchor a, utf8, v)
-
-bytes_name : (name : List ℕ) → IsName name → bytes.IsName name
-bytes_name name (some, alphas) = alphas
 
 mutual
   bytes_node : (b : Bool) (n : Node) → IsWritable n → bytes.IsSpellable (readable_node b n)
@@ -98,10 +63,6 @@ mutual
   bytes_pairs : (ps : Pairs) → ArePairsWritable ps → bytes.PairsAreSpellable (readable_pairs ps)
   bytes_pairs no_pairs h = tt
   bytes_pairs (pair k v ps) (hk, hv, hs) = (bytes_node false k hk, bytes_node false v hv, bytes_pairs ps hs)
-
-have_prefixes : (ds : List TagDirective) → HavePrefixes ds → bytes.HavePrefixes ds
-have_prefixes [] h = tt
-have_prefixes (d ∷ ds) (h, hs) = (h, have_prefixes ds hs)
 
 pub are_spellable : (first : Bool) (c : List Document) → AreWritable c
     → bytes.DocumentsAreSpellable (documents_from first c)
@@ -153,13 +114,6 @@ have_texts law first (d ∷ ds) (h, hs) =
     (utf8, tagged_node (is_unmarked first d) law o (record { right = h.opening; utf8 = utf8 }) d.root h.root, have_texts law false ds hs)
 
 -- ---- the parser
-
-not_bang : (t : List ℕ) → (t ≡ codes "!" → ⊥) → bytes_eq t (codes "!") ≡ false
-not_bang t other =
-    elim (cases_Bool (bytes_eq t (codes "!"))) [
-      | inl h ↦ absurd (other ((bytes_eq-Decides t (codes "!")).0 h))
-      | inr h ↦ h
-    ]
 
 fine_scalar : (b : Bool) → (anchor : Option (List ℕ)) (mark : Mark) (value : List ℕ) → IsMark mark
     → IsNoMark (readable_scalar b anchor mark value).tag

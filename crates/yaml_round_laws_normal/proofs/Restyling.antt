@@ -1,7 +1,6 @@
 -- Such events are those of the content's documents, and nothing is wrong with them.
-use Rattle.std.proofs.Common.{◌≡◌, ℕ, ◌<◌, ◌==◌, Bool, true, false, if◌then◌else◌, List, [], ◌∷◌, length, Option, Some, None, refl, ap, ◌∙◌, arith}
+use Rattle.std.proofs.Common.{◌≡◌, ℕ, Bool, true, false, if◌then◌else◌, List, [], ◌∷◌, length, Option, Some, None, refl, ap, ◌∙◌}
 use Rattle.std.specs.List.{list_all}
-use Rattle.std.proofs.lemmas.Bool.Decides.{nat_tests}
 use Rattle.yaml_round_content.specs.scan_model.declared.yaml_encoding_t.TheVariants.{YAML_ANY_ENCODING}
 use Rattle.yaml_parse_grammar.specs.parse_model.Events.{EventBody}
 use Rattle.yaml_parse_grammar.specs.parse_model.Events as event
@@ -15,6 +14,8 @@ use Rattle.yaml_round_content.specs.Writable.{IsName, IsAnchor, IsTag, IsMark, I
 use Rattle.yaml_round_content.proofs.WritableContents.{are_writable as inputs_writable}
 use Rattle.yaml_round_laws_normal.specs.Readable.{readable_scalar, readable_start, readable_node, readable_nodes, readable_pairs, is_unmarked, documents_from, readable_documents}
 use Rattle.yaml_round_laws_normal.specs.Restyled.{Place, Before, Within, root_place, readable_event, readable_events, ReadableIsLaidOut}
+use Rattle.yaml_round_content.proofs.Passing.{or_none}
+use Rattle.yaml_round_content.proofs.Naming.{not_zero}
 
 -- ---- the events
 
@@ -81,15 +82,8 @@ stream_styled c = ap (λ (fs : List emit.Event). emit.stream_start YAML_ANY_ENCO
 
 -- ---- nothing is wrong with them
 
-none_else : (p q : Option Problem) → p ≡ None → q ≡ None → or_else p q ≡ None
-none_else None q e h = h
-none_else (Some p) q e h = absurd (cc)
-
-not_none : (n : ℕ) → 0 < n → (n == 0) ≡ false
-not_none n h = grind (arith, nat_tests)
-
 name_right : (a b : Problem) (name : List ℕ) → IsName name → name_problem a b name ≡ None
-name_right a b name (some, alphas) = ap (λ (z : Bool). if z then Some a else if list_all is_alpha_byte name then None else Some b) (not_none (length name) some) ∙ ap (λ (z : Bool). if z then None else Some b) alphas
+name_right a b name (some, alphas) = ap (λ (z : Bool). if z then Some a else if list_all is_alpha_byte name then None else Some b) (not_zero (length name) some) ∙ ap (λ (z : Bool). if z then None else Some b) alphas
 
 anchor_right : (anchor : Option (List ℕ)) → IsAnchor anchor → anchor_problem anchor ≡ None
 anchor_right None h = refl
@@ -97,7 +91,7 @@ anchor_right (Some name) h = name_right problem.AnchorEmpty problem.AnchorCharac
 
 tag_right : (tag : Option (List ℕ)) → IsTag tag → tag_problem tag ≡ None
 tag_right None h = refl
-tag_right (Some t) (some, utf8) = ap (λ (z : Bool). if z then Some problem.TagEmpty else None) (not_none (length t) some)
+tag_right (Some t) (some, utf8) = ap (λ (z : Bool). if z then Some problem.TagEmpty else None) (not_zero (length t) some)
 
 kept_right : (left_out : Bool) (tag : Option (List ℕ)) → IsTag tag
     → tag_problem (kept_tag false left_out tag) ≡ None
@@ -108,14 +102,14 @@ scalar_right : (b : Bool) (anchor : Option (List ℕ)) (mark : Mark) (value : Li
     → IsAnchor anchor → IsMark mark
     → own_problem false (emit.scalar (readable_scalar b anchor mark value)) ≡ None
 unfolding event_problem last_problem
-scalar_right b anchor (untagged true) value a m = none_else (or_else (anchor_problem anchor) None) None (none_else (anchor_problem anchor) None (anchor_right anchor a) refl) refl
-scalar_right b anchor (untagged false) value a m = none_else (or_else (anchor_problem anchor) None) None (none_else (anchor_problem anchor) None (anchor_right anchor a) refl) refl
-scalar_right b anchor (tagged t) value a (m, other) = none_else (or_else (anchor_problem anchor) (tag_problem (Some t))) None (none_else (anchor_problem anchor) (tag_problem (Some t)) (anchor_right anchor a) (tag_right (Some t) m)) refl
+scalar_right b anchor (untagged true) value a m = or_none (or_else (anchor_problem anchor) None) None (or_none (anchor_problem anchor) None (anchor_right anchor a) refl) refl
+scalar_right b anchor (untagged false) value a m = or_none (or_else (anchor_problem anchor) None) None (or_none (anchor_problem anchor) None (anchor_right anchor a) refl) refl
+scalar_right b anchor (tagged t) value a (m, other) = or_none (or_else (anchor_problem anchor) (tag_problem (Some t))) None (or_none (anchor_problem anchor) (tag_problem (Some t)) (anchor_right anchor a) (tag_right (Some t) m)) refl
 
 start_right : (anchor tag : Option (List ℕ)) → IsAnchor anchor → IsTag tag
     → or_else (or_else (anchor_problem anchor)
     (tag_problem (kept_tag false (readable_start anchor tag).implicit tag))) None ≡ None
-start_right anchor tag a t = none_else _ None (none_else (anchor_problem anchor) _ (anchor_right anchor a) (kept_right (readable_start anchor tag).implicit tag t)) refl
+start_right anchor tag a t = or_none _ None (or_none (anchor_problem anchor) _ (anchor_right anchor a) (kept_right (readable_start anchor tag).implicit tag t)) refl
 
 mutual
   unfolding emit.node_events emit.items_events emit.pairs_events own_problems event_problem last_problem
@@ -123,10 +117,10 @@ mutual
   node_right : (b : Bool) (n : Node) → IsWritable n → (fs : List emit.Event)
       → own_problems false fs ≡ None
       → own_problems false (emit.node_events (readable_node b n) fs) ≡ None
-  node_right b (alias name) h fs e = none_else (or_else (name_problem problem.AliasEmpty problem.AliasCharacters name) None) (own_problems false fs) (none_else (name_problem problem.AliasEmpty problem.AliasCharacters name) None (name_right problem.AliasEmpty problem.AliasCharacters name h) refl) e
-  node_right b (scalar anchor mark value) (a, m, v) fs e = none_else (own_problem false (emit.scalar (readable_scalar b anchor mark value))) (own_problems false fs) (scalar_right b anchor mark value a m) e
-  node_right b (sequence anchor tag items) (a, t, h) fs e = none_else _ _ (start_right anchor tag a t) (items_right items h (emit.sequence_end ∷ fs) e)
-  node_right b (mapping anchor tag pairs) (a, t, h) fs e = none_else _ _ (start_right anchor tag a t) (pairs_right pairs h (emit.mapping_end ∷ fs) e)
+  node_right b (alias name) h fs e = or_none (or_else (name_problem problem.AliasEmpty problem.AliasCharacters name) None) (own_problems false fs) (or_none (name_problem problem.AliasEmpty problem.AliasCharacters name) None (name_right problem.AliasEmpty problem.AliasCharacters name h) refl) e
+  node_right b (scalar anchor mark value) (a, m, v) fs e = or_none (own_problem false (emit.scalar (readable_scalar b anchor mark value))) (own_problems false fs) (scalar_right b anchor mark value a m) e
+  node_right b (sequence anchor tag items) (a, t, h) fs e = or_none _ _ (start_right anchor tag a t) (items_right items h (emit.sequence_end ∷ fs) e)
+  node_right b (mapping anchor tag pairs) (a, t, h) fs e = or_none _ _ (start_right anchor tag a t) (pairs_right pairs h (emit.mapping_end ∷ fs) e)
 
   items_right : (ns : Nodes) → AreItemsWritable ns → (fs : List emit.Event)
       → own_problems false fs ≡ None
@@ -146,7 +140,7 @@ documents_right : (first : Bool) (c : List Document) → AreWritable c
 unfolding emit.documents_events own_problems event_problem last_problem
 documents_right first [] h = refl
 documents_right first (d ∷ ds) (h, hs) =
-    none_else _ _ h.opening (node_right (is_unmarked first d) d.root h.root (emit.document_end true ∷ emit.documents_events (documents_from false ds)) (documents_right false ds hs))
+    or_none _ _ h.opening (node_right (is_unmarked first d) d.root h.root (emit.document_end true ∷ emit.documents_events (documents_from false ds)) (documents_right false ds hs))
 
 stream_right : (c : List Document) → AreWritable c
     → own_problems false (emit.stream_events YAML_ANY_ENCODING (readable_documents c)) ≡ None

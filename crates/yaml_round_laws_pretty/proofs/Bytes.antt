@@ -3,7 +3,6 @@ use Rattle.std.proofs.Common.{◌≡◌, ℕ, ◌+◌, ◌/◌, ◌%◌, ◌<◌
 use Rattle.std.specs.Prelude.{nat_eq}
 use Rattle.std.proofs.lemmas.Bool.{cases_Bool, ltb-true, and_parts, ne_eqb, eqb-true}
 use Rattle.std.proofs.lemmas.Bool.Decides.{nat_tests}
-use Rattle.yaml_parse_grammar.specs.parse_model.declared.yaml_encoding_t.{yaml_encoding_t}
 use Rattle.yaml_parse_grammar.specs.parse_model.declared.yaml_encoding_t.TheVariants.{YAML_ANY_ENCODING, YAML_UTF8_ENCODING, YAML_UTF16LE_ENCODING, YAML_UTF16BE_ENCODING}
 use Rattle.yaml_round_laws_documents.specs.scan_decode.Characters.{is_allowed}
 use Rattle.yaml_emit_laws_text.specs.emit_layout.emit_text.Text.{Item, letter, deep, shown, char_bytes, encode}
@@ -13,17 +12,15 @@ use Rattle.yaml_emit_laws_text.specs.emit_layout.emit_text.declared.Encoding.{En
 use Rattle.yaml_emit_laws_text.specs.emit_layout.emit_text.declared.Encoding.TheVariants.{Utf16Le, Utf16Be}
 use Rattle.yaml_emit_laws_text.specs.emit_layout.Nodes.{documents_layout, stream_layout}
 use Rattle.yaml_round_laws_documents.specs.scan_decode.Encodings.{encoding_of, mark_length}
-use Rattle.yaml_round_laws_documents.specs.scan_decode.Spelling.{Spells, spellings}
-use Rattle.yaml_scan_decode.proofs.CompleteLemmas.{spells_decoded}
 use Rattle.yaml_round_laws_documents.specs.BytesLaws.{encoding_named}
-use Rattle.yaml_round_laws_pretty.proofs.Encoding.{bytes_8, bytes_le, bytes_be, bytes_utf8}
-use Rattle.yaml_round_laws_documents.proofs.CanonicalJoining.{Decodes}
-use Rattle.yaml_round_laws_documents.proofs.Characters.{Fits, all_pass}
+use Rattle.yaml_round_laws_documents.proofs.CanonicalJoining.{Decodes, decoded}
+use Rattle.yaml_round_laws_documents.proofs.Characters.{Fits}
 use Rattle.yaml_round_laws_pretty.specs.Laws.{PrettyBytesDecode}
 use Rattle.yaml_round_laws_pretty.proofs.Layouts.{documents_tame}
 use Rattle.yaml_round_laws_documents.proofs.Layouts.{Allowed, nothing_allowed}
 use Rattle.yaml_round_laws_documents.proofs.Marks.{Told, low_told, low_behind, high_told, high_behind}
 use Rattle.yaml_round_laws_pretty.proofs.Marks.{NoMark, Begins, begins_nothing, told_one, told_three, documents_heads}
+use Rattle.yaml_round_laws_documents.proofs.Encoding.{bytes_le, bytes_be, bytes_8, bytes_utf8}
 
 off_by : (a b : ℕ) → b < a → nat_eq a b ≡ false
 off_by a b h = ne_eqb a b (λ e. omega (arith, h, e))
@@ -95,16 +92,6 @@ told_items (letter c ∷ t) (f, fs) h = told_char c (encode Utf8 t) f h
 told_items (deep ∷ t) a h = told_items t a h
 
 -- ---- joined
-
-decoded : (bytes : List ℕ) (t : List Item) (e : yaml_encoding_t) → Allowed t
-    → encoding_of YAML_ANY_ENCODING bytes ≡ e
-    → drop (mark_length YAML_ANY_ENCODING bytes) bytes ≡ spellings e (shown t)
-    → Decodes bytes (encode Utf8 t) e
-decoded bytes t e allowed told spelled =
-    let same : drop (mark_length YAML_ANY_ENCODING bytes) bytes ≡ spellings (encoding_of YAML_ANY_ENCODING bytes) (shown t) =
-    spelled ∙ ap (λ (x : yaml_encoding_t). spellings x (shown t)) (sym told) in
-    let spells : Spells YAML_ANY_ENCODING bytes (encode Utf8 t) = record { characters = shown t; allowed = all_pass (shown t) allowed; spelled = same; is = bytes_8 t } in
-    (spells_decoded YAML_ANY_ENCODING bytes (encode Utf8 t) spells, told)
 
 decodes : (x : Encoding) (rest : Rest) → Allowed (rest start) → Begins (rest start)
     → Decodes (encode x (order_mark x start rest)) (encode Utf8 (rest start)) (encoding_named x)

@@ -1,8 +1,7 @@
 -- What the events say that are read of pretty text.
-use Rattle.std.proofs.Common.{◌≡◌, ℕ, Bool, true, false, not, ◌&&◌, ◌||◌, ◌==◌, if◌then◌else◌, List, [], ◌∷◌, length, map, Option, Some, None, refl, ap, ◌∙◌, inl, inr, codes, arith, sym}
-use Rattle.std.specs.Str.{bytes_eq, chars}
-use Rattle.std.proofs.lemmas.Bool.{cases_Bool, eqb-true, false≢true, true≢false}
-use Rattle.std.proofs.lemmas.Slice.Eq.{bytes_eq-Decides}
+use Rattle.std.proofs.Common.{◌≡◌, ℕ, Bool, true, false, not, ◌&&◌, ◌||◌, ◌==◌, if◌then◌else◌, List, [], ◌∷◌, length, map, Option, Some, None, refl, ap, ◌∙◌}
+use Rattle.std.specs.Str.{chars}
+use Rattle.std.proofs.lemmas.Bool.{false≢true}
 use Rattle.std.proofs.Math.Bool.{and-false}
 use Rattle.yaml_parse_grammar.specs.parse_model.declared.yaml_encoding_t.{yaml_encoding_t}
 use Rattle.yaml_parse_grammar.specs.parse_model.declared.yaml_encoding_t.TheVariants.{YAML_ANY_ENCODING}
@@ -31,6 +30,7 @@ use Rattle.yaml_round_laws_documents.specs.TreeLaws.{IsNoMark, HasNoMark, HaveNo
 use Rattle.yaml_emit_laws_pretty.specs.Bodies.{style_at, is_flow_at, style_named, takes_mark}
 use Rattle.yaml_round_laws_pretty.specs.Reads.{scalar_reads, node_reads, items_reads, pairs_reads, documents_reads}
 use Rattle.yaml_round_laws_pretty.specs.Flags.{HasScalarFlags, HasStartFlags, HasFlags, HaveFlags, PairsHaveFlags, HaveReaderFlags}
+use Rattle.yaml_round_laws_documents.proofs.Saying.{no_mark}
 
 -- ---- what events say (as in `yaml_round_laws_documents`)
 
@@ -83,28 +83,13 @@ contents_by (t ∷ ts) = ap (λ (bs : List EventBody). content t.0.body ∷ bs) 
 
 -- ---- the tag `!`
 
-and_left : (a b : Bool) → (a && b) ≡ true → a ≡ true
+pub and_left : (a b : Bool) → (a && b) ≡ true → a ≡ true
 and_left true b e = refl
 and_left false b e = absurd (false≢true e)
 
 and_right : (a b : Bool) → (a && b) ≡ true → b ≡ true
 and_right true b e = e
 and_right false b e = absurd (false≢true e)
-
-long : (a b : ℕ) (t : List ℕ) → (length (a ∷ b ∷ t) == 1) ≡ true → ⊥
-long a b t e = let h = eqb-true (length (a ∷ b ∷ t)) 1 e in omega (arith, h)
-
-is_mark : (t value : List ℕ) → is_lone_mark (Some t) value ≡ true → t ≡ 33 ∷ []
-is_mark [] value e = absurd (false≢true (and_right (length value == 0) false (and_left (length value == 0 && false) _ e)))
-is_mark (a ∷ []) value e = ap (λ (b : ℕ). b ∷ []) (eqb-true a 33 (and_right (length value == 0 && true) (a == 33) e))
-is_mark (a ∷ b ∷ t) value e = absurd (long a b t (and_right (length value == 0) (length (a ∷ b ∷ t) == 1) (and_left (length value == 0 && length (a ∷ b ∷ t) == 1) _ e)))
-
-no_mark : (t value : List ℕ) → bytes_eq t (codes "!") ≡ false → is_lone_mark (Some t) value ≡ false
-no_mark t value e =
-    elim (cases_Bool (is_lone_mark (Some t) value)) [
-      | inr h ↦ h
-      | inl h ↦ absurd (true≢false (sym ((bytes_eq-Decides t (codes "!")).1 (is_mark t value h)) ∙ e))
-    ]
 
 -- ---- styles: plain is taken where the scalar is tagged or plain-implicit
 

@@ -1,8 +1,5 @@
 -- Directives in front of a document. (As the proofs of `yaml_round_laws_documents` that aren't handed on.)
-use Rattle.std.proofs.Common.{◌≡◌, ℕ, Bool, true, false, if◌then◌else◌, List, [], ◌∷◌, ◌++◌, length, Option, Some, None, refl, sym, ap, ◌∙◌, append_assoc, append-nil}
-use Rattle.std.specs.List.{list_any}
-use Rattle.std.specs.Str.{bytes_eq}
-use Rattle.std.proofs.lemmas.Bool.{or_parts}
+use Rattle.std.proofs.Common.{◌≡◌, ℕ, true, List, [], ◌∷◌, ◌++◌, length, Option, Some, None, refl, sym, ap, ◌∙◌, append_assoc, append-nil}
 use Rattle.yaml_parse_grammar.specs.parse_model.declared.yaml_mark_t.{yaml_mark_t}
 use Rattle.yaml_parse_grammar.specs.parse_model.declared.yaml_version_directive_t.{yaml_version_directive_t}
 use Rattle.yaml_parse_grammar.specs.parse_model.Tokens.{Token, TokenBody}
@@ -13,74 +10,20 @@ use Rattle.yaml_parse_grammar.specs.Items as item
 use Rattle.yaml_parse_grammar.specs.Trees.{token_at, Given, spell_directives}
 use Rattle.yaml_parse_grammar.specs.TreeSteps.{items_directives}
 use Rattle.yaml_parse_grammar.specs.Trees as trees
-use Rattle.yaml_parse_grammar.specs.Resolve.{Directives, no_directives, Settled, noted, settle, read_on, reading, with_version, with_tag, is_known_version, directive_for}
-use Rattle.yaml_emit_laws_text.specs.emit_layout.Content.{Opening}
+use Rattle.yaml_parse_grammar.specs.Resolve.{Directives, no_directives, noted, reading, with_version, with_tag, is_known_version}
 use Rattle.yaml_emit_laws_text.specs.emit_layout.declared.problem.Problem.{Problem}
-use Rattle.yaml_emit_laws_text.specs.emit_layout.Grammar.{or_else, is_version, version_problem, handle_problem, prefix_problem, has_handle, twice_problem, directive_problem, directives_problem, opening_problem}
+use Rattle.yaml_emit_laws_text.specs.emit_layout.Grammar.{or_else}
 use Rattle.yaml_emit_laws_text.specs.Bodies.{version_bodies, directives_bodies}
 use Rattle.yaml_round_laws_documents.specs.TreeLaws.{token_bodies}
 use Rattle.yaml_round_laws_documents.proofs.Growing.{take}
+use Rattle.yaml_round_laws_documents.proofs.CanonicalPremises.{IsFineVersion, AreFineTags}
+use Rattle.yaml_round_laws_documents.proofs.Documents.{note_reads}
 
 -- ---- what a parser asks of them
-
-abbrev pub IsFineVersion : Option yaml_version_directive_t → Type 0
-IsFineVersion None = Unit {0}
-IsFineVersion (Some v) = is_known_version v.major v.minor ≡ true
-
--- no handle twice
-abbrev pub AreFineTags : List TagDirective → List TagDirective → Type 0
-AreFineTags before [] = Unit {0}
-AreFineTags before (d ∷ ds) = (directive_for d.handle before ≡ None) × AreFineTags (before ++ d ∷ []) ds
-
-or_first : (p q : Option Problem) → or_else p q ≡ None → p ≡ None
-or_first None q e = refl
-or_first (Some p) q e = absurd (cc)
 
 or_second : (p q : Option Problem) → or_else p q ≡ None → q ≡ None
 or_second None q e = e
 or_second (Some p) q e = absurd (cc)
-
-none_true : (b : Bool) (p : Problem) → (if b then Some p else None) ≡ None → b ≡ false
-none_true false p e = refl
-none_true true p e = absurd (cc)
-
-none_false : (b : Bool) (p : Problem) → (if b then None else Some p) ≡ None → b ≡ true
-none_false true p e = refl
-none_false false p e = absurd (cc)
-
-none_has : (h : List ℕ) (before : List TagDirective) → list_any (has_handle h) before ≡ false
-    → directive_for h before ≡ None
-unfolding directive_for
-none_has h [] e = refl
-none_has h (d ∷ ds) e = rw (or_parts (bytes_eq d.handle h) (list_any (has_handle h) ds) e).0 (none_has h ds (or_parts (bytes_eq d.handle h) (list_any (has_handle h) ds) e).1)
-
-tags_fine : (before ds : List TagDirective) → directives_problem before ds ≡ None
-    → AreFineTags before ds
-unfolding directives_problem
-tags_fine before [] e = tt
-tags_fine before (d ∷ ds) e =
-    let own = or_first (directive_problem before d) (directives_problem (before ++ d ∷ []) ds) e in
-    let more = or_second (directive_problem before d) (directives_problem (before ++ d ∷ []) ds) e in
-    let rest = or_second (handle_problem d.handle) (or_else (prefix_problem d.prefix) (twice_problem before d.handle)) own in
-    let once = none_true (list_any (has_handle d.handle) before) _ (or_second (prefix_problem d.prefix) (twice_problem before d.handle) rest) in
-    (none_has d.handle before once, tags_fine (before ++ d ∷ []) ds more)
-
-version_fine : (v : Option yaml_version_directive_t) → version_problem v ≡ None → IsFineVersion v
-version_fine None e = tt
-version_fine (Some v) e = none_false (is_version v) _ e
-
-pub fine_version : (o : Opening) → opening_problem o ≡ None → IsFineVersion o.version
-fine_version o e = version_fine o.version (or_first (version_problem o.version) (directives_problem [] o.directives) e)
-
-pub fine_tags : (o : Opening) → opening_problem o ≡ None → AreFineTags [] o.directives
-fine_tags o e = tags_fine [] o.directives (or_second (version_problem o.version) (directives_problem [] o.directives) e)
-
--- ---- their tokens
-
-note_reads : (g : Given) (gs : List Given) (f : Option Fault) (D E : Directives)
-    → settle g.0 D ≡ noted E → reading (g ∷ gs) f D ≡ reading gs f E
-unfolding reading
-note_reads g gs f D E e = ap (λ (s : Settled). read_on s g.0 g.1 (λ x. reading gs f x)) e
 
 -- ---- directives
 

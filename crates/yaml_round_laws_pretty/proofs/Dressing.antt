@@ -1,6 +1,5 @@
 -- Properties in front of a content, and nodes that have nothing else.
 use Rattle.std.proofs.Common.{◌≡◌, ℕ, Bool, true, false, not, ◌&&◌, ◌||◌, List, [], ◌∷◌, length, Option, Some, None, refl, sym, ap, subst, ◌∙◌, codes}
-use Rattle.std.specs.Prelude.{if◌then◌else◌}
 use Rattle.std.specs.Str.{bytes_eq}
 use Rattle.std.proofs.lemmas.Bool.{false≢true, true≢false}
 use Rattle.yaml_parse_grammar.specs.parse_model.declared.yaml_mark_t.{yaml_mark_t}
@@ -8,30 +7,25 @@ use Rattle.yaml_parse_grammar.specs.parse_model.declared.yaml_scalar_style_t.{ya
 use Rattle.yaml_parse_grammar.specs.parse_model.Tokens.{Token, TokenBody}
 use Rattle.yaml_parse_grammar.specs.parse_model.Tokens as token
 use Rattle.yaml_parse_grammar.specs.parse_model.Events.{EventBody, TagDirective}
-use Rattle.yaml_parse_grammar.specs.parse_model.Events as event
 use Rattle.yaml_parse_grammar.specs.parse_model.Faults.{Fault}
 use Rattle.yaml_parse_grammar.specs.declared.name.Wants.{Wants}
 use Rattle.yaml_parse_grammar.specs.declared.name.Site.{Site}
 use Rattle.yaml_parse_grammar.specs.Items.{Shape, Properties, node_at}
 use Rattle.yaml_parse_grammar.specs.Items as item
-use Rattle.yaml_parse_grammar.specs.Trees.{Span, token_at, PropertyTokens, Given, spell_properties, spell_node, spell_content, spell_maybe, properties_of}
-use Rattle.yaml_parse_grammar.specs.TreeSteps.{items_node, items_content, items_maybe, behind}
+use Rattle.yaml_parse_grammar.specs.Trees.{token_at, PropertyTokens, Given, spell_content, spell_maybe, properties_of}
+use Rattle.yaml_parse_grammar.specs.TreeSteps.{items_content, items_maybe, behind}
 use Rattle.yaml_parse_grammar.specs.Trees as trees
-use Rattle.yaml_parse_grammar.specs.Resolve.{Directives, gave, settle, reading, resolved, with_resolved, node_event}
-use Rattle.yaml_emit_laws_text.specs.emit_layout.emit_tags.Tags.{Split, shorthand, verbatim, split_tag}
+use Rattle.yaml_parse_grammar.specs.Resolve.{Directives, gave, settle, reading, resolved, node_event}
+use Rattle.yaml_emit_laws_text.specs.emit_layout.emit_tags.Tags.{split_tag}
 use Rattle.yaml_emit_laws_text.specs.emit_layout.emit_text.declared.Style.{Style}
 use Rattle.yaml_emit_laws_text.specs.emit_layout.emit_text.declared.Style.TheVariants as style
 use Rattle.yaml_emit_laws_text.specs.emit_layout.Grammar.{has}
-use Rattle.yaml_emit_laws_text.specs.TagsLaws.{resolved_split}
-use Rattle.yaml_emit_laws_text.specs.Bodies.{tag_body, anchor_bodies, tag_bodies, mark_bodies}
+use Rattle.yaml_emit_laws_text.specs.Bodies.{anchor_bodies, tag_bodies, mark_bodies}
 use Rattle.yaml_round_laws_documents.specs.TreeLaws.{token_bodies, Says, IsNoMark, Grown}
-use Rattle.yaml_round_laws_documents.proofs.Growing.{take, step_says}
+use Rattle.yaml_round_laws_documents.proofs.Growing.{take, step_says, resolves, tagged_event, dress_gives, split_resolved, dress_spells, spell_if, properties_if, split_handle, split_suffix, split_body, with_dress}
 use Rattle.yaml_emit_laws_pretty.specs.Bodies.{style_named, takes_mark, is_bare, is_nothing, scalar_bodies}
 use Rattle.yaml_round_laws_pretty.specs.Reads.{scalar_reads}
-
--- under the directives each tag is resolved as it was
-abbrev pub Resolves : List TagDirective → Type 0
-Resolves ds = (tag : List ℕ) → resolved_split ds (split_tag ds tag) ≡ Some tag
+use Rattle.yaml_round_laws_documents.proofs.CanonicalPremises.{Resolves}
 
 -- The tokens begin with a part of a tree, of which the events are read, whatever follows.
 pub record Spelt (T : Type 0) (spell : T → List Token → List Token) (items : T → List Token → List Given → List Given) (ds : List TagDirective) (R : List EventBody → List EventBody) (ts : List Token) (bs : List TokenBody) : Type 0 where
@@ -70,14 +64,6 @@ abbrev pub full_of : Option Named → Option (List ℕ)
 full_of None = None
 full_of (Some x) = Some x.full
 
-abbrev spell_if : Option PropertyTokens → List Token → List Token
-spell_if None ts = ts
-spell_if (Some d) ts = spell_properties d ts
-
-abbrev properties_if : Option PropertyTokens → Option Properties
-properties_if None = None
-properties_if (Some d) = Some (properties_of d)
-
 abbrev some_tokens : Option PropertyTokens → Bool
 some_tokens None = false
 some_tokens (Some d) = true
@@ -95,14 +81,6 @@ record WithProperties (ds : List TagDirective) (anchor : Option (List ℕ)) (tag
   gives : (shape : Shape) (from to : yaml_mark_t) (D : Directives) → D.tags ≡ ds
       → settle (node_at (properties_if dress) shape from to) D
       ≡ gave (node_event anchor (full_of tag) shape) D
-
-resolves : (ds : List TagDirective) (handle suffix full : List ℕ) (anchor : Option (List ℕ))
-    (shape : Shape) (from at : yaml_mark_t) (D : Directives) → resolved ds handle suffix ≡ Some full
-    → D.tags ≡ ds
-    → with_resolved (resolved D.tags handle suffix) anchor shape from at D
-    ≡ gave (node_event anchor (Some full) shape) D
-resolves ds handle suffix full anchor shape from at D e t =
-    ap (λ (o : Option (List ℕ)). with_resolved o anchor shape from at D) (ap (λ (x : List TagDirective). resolved x handle suffix) t ∙ e)
 
 with_properties : (ds : List TagDirective) (anchor : Option (List ℕ)) (tag : Option Named)
     → IsNamed ds tag → (ts : List Token) (bs : List TokenBody)
@@ -133,24 +111,6 @@ with_properties ds (Some a) (Some n) h ts bs e =
       some = refl;
       gives = λ shape from to D t. resolves ds n.handle n.suffix n.full (Some a) shape x.span.from y.span.from D h t;
     }
-
--- the tag that is written, and what it resolves to
-abbrev split_handle : Split → List ℕ
-split_handle (shorthand handle suffix) = handle
-split_handle (verbatim t) = []
-
-abbrev split_suffix : Split → List ℕ
-split_suffix (shorthand handle suffix) = suffix
-split_suffix (verbatim t) = t
-
-split_body : (s : Split) → tag_body s ≡ token.tag (split_handle s) (split_suffix s)
-split_body (shorthand handle suffix) = refl
-split_body (verbatim t) = refl
-
-split_resolved : (ds : List TagDirective) (s : Split)
-    → resolved ds (split_handle s) (split_suffix s) ≡ resolved_split ds s
-split_resolved ds (shorthand handle suffix) = refl
-split_resolved ds (verbatim t) = refl
 
 abbrev tag_named : List TagDirective → Option (List ℕ) → Option Named
 tag_named ds None = None
@@ -195,21 +155,6 @@ scalar_bodies_are ds (Some t) marked bs = tag_bodies_are ds (Some t) bs
 
 -- ---- a content behind them
 
-abbrev with_dress : {w : Wants} → Option PropertyTokens → trees.Content w → trees.Node w
-with_dress None c = trees.bare c
-with_dress (Some d) c = trees.with_properties d c
-
-dress_spells : (w : Wants) (d : Option PropertyTokens) (c : trees.Content w) (rest : List Token)
-    → spell_node (with_dress d c) rest ≡ spell_if d (spell_content c rest)
-dress_spells w None c rest = refl
-dress_spells w (Some d) c rest = refl
-
-dress_gives : (w : Wants) (d : Option PropertyTokens) (c : trees.Content w) (rest : List Token)
-    (more : List Given)
-    → items_node (with_dress d c) rest more ≡ items_content c (properties_if d) rest more
-dress_gives w None c rest more = refl
-dress_gives w (Some d) c rest more = refl
-
 -- The tokens begin with a content of that shape: whatever its properties settle to stands in front of the events in it.
 pub record Contained (w : Wants) (ds : List TagDirective) (shape : Shape) (R : List EventBody → List EventBody) (ts : List Token) (bs : List TokenBody) : Type 0 where
   pub tree : trees.Content w
@@ -253,13 +198,6 @@ dressed w ds r anchor tag shape R cs bs inner ts e =
     subst P (full_is ds tag) (dressed_named w ds anchor (tag_named ds tag) (tag_is_named ds r tag) shape R cs bs inner ts named)
 
 -- ---- scalars
-
-tagged_event : (b : Bool) (anchor : Option (List ℕ)) (t value : List ℕ) (s : yaml_scalar_style_t)
-    → b ≡ false
-    → (if b then event.scalar anchor None value true false s else event.scalar anchor (Some t) value
-    false false s) ≡ event.scalar anchor (Some t) value false false s
-tagged_event true anchor t value s e = absurd (true≢false e)
-tagged_event false anchor t value s e = refl
 
 untagged_event : (anchor : Option (List ℕ)) (value : List ℕ) (s : Style)
     → node_event anchor None (item.scalar value (style_named s))

@@ -1,11 +1,10 @@
 -- The pretty layout writes characters that a stream may hold.
-use Rattle.std.proofs.Common.{◌≡◌, ℕ, ◌+◌, ◌<◌, Bool, true, false, not, ◌&&◌, ◌||◌, ◌==◌, nat_lt, nat_le, if◌then◌else◌, List, [], ◌∷◌, refl, arith, IsUtf8}
+use Rattle.std.proofs.Common.{◌≡◌, ℕ, ◌+◌, ◌<◌, Bool, true, false, not, ◌&&◌, ◌||◌, ◌==◌, nat_lt, if◌then◌else◌, List, [], ◌∷◌, refl, arith, IsUtf8}
 use Rattle.std.specs.Str.{chars}
 use Rattle.std.proofs.lemmas.Bool.Decides.{nat_tests}
-use Rattle.std.proofs.lemmas.Bool.{or_parts, not-false, and_parts, not-true}
+use Rattle.std.proofs.lemmas.Bool.{or_parts, and_parts, not-true}
 use Rattle.yaml_parse_grammar.specs.parse_model.declared.yaml_scalar_style_t.{yaml_scalar_style_t}
 use Rattle.yaml_parse_grammar.specs.parse_model.declared.yaml_scalar_style_t.TheVariants as asked
-use Rattle.yaml_round_laws_documents.specs.scan_decode.Characters.{is_allowed}
 use Rattle.yaml_emit_laws_text.specs.emit_layout.emit_text.declared.Page.{Page}
 use Rattle.yaml_emit_laws_text.specs.emit_layout.emit_text.declared.LineBreak.{LineBreak}
 use Rattle.yaml_emit_laws_text.specs.emit_layout.emit_text.declared.Style.{Style}
@@ -18,9 +17,10 @@ use Rattle.yaml_emit_laws_text.specs.emit_layout.emit_text.Style.{somewhere, is_
 use Rattle.yaml_emit_laws_text.specs.emit_layout.emit_text.Quoted.{is_printable, first, is_empty}
 use Rattle.yaml_emit_laws_text.specs.emit_layout.emit_text.Scalars.{value_break, cuts_at, cut, quote_char, text_char, flow_char, flow_body, adds_break, cuts_block, line_blank, block_text, block_char, block_body, chomp, chomp_mark, digit_char, block, scalar_text}
 use Rattle.yaml_emit_laws_text.specs.emit_layout.emit_text.Layout.{Layout, ◌▹◌, when, char, break, new_line, gap, line, is_past, keep, after_text, after_block}
-use Rattle.yaml_round_laws_documents.proofs.Characters.{Fits, graphic}
-use Rattle.yaml_round_laws_documents.proofs.Layouts.{Tame, both, stay_tame, choose_tame, when_tame, char_tame, new_line_tame, gap_tame, line_tame, keep_tame, letter_allowed}
+use Rattle.yaml_round_laws_documents.proofs.Characters.{Fits, graphic, printed}
+use Rattle.yaml_round_laws_documents.proofs.Layouts.{Tame, both, stay_tame, choose_tame, when_tame, char_tame, new_line_tame, gap_tame, line_tame, keep_tame, break_tame}
 use Rattle.yaml_round_laws_documents.proofs.Leaves.{quoted_tame}
+use Rattle.yaml_emit_laws_text.proofs.Single.{shown_first}
 
 -- ---- characters that are printed
 
@@ -28,21 +28,13 @@ abbrev pub ArePrintable : List ℕ → Type 0
 ArePrintable [] = Unit {0}
 ArePrintable (c ∷ cs) = (is_printable c ≡ true) × ArePrintable cs
 
-pub printed : (c : ℕ) → is_printable c ≡ true → Fits c
-unfolding is_allowed
-printed c e = grind (arith, nat_tests)
-
-plainly : (unicode : Bool) (before c next : ℕ) → is_special unicode before c next ≡ false
-    → is_printable c ≡ true
-plainly unicode before c next e = not-false (is_printable c) (or_parts _ (not unicode && nat_le 0x80 c) (or_parts _ _ e).0).0
-
 printable : (unicode : Bool) (before : ℕ) (cs : List ℕ)
     → somewhere (is_special unicode) before cs ≡ false → ArePrintable cs
 unfolding somewhere
 printable unicode before [] e = tt
 printable unicode before (c ∷ cs) e =
     let here = (or_parts (is_special unicode before c (first cs)) (somewhere (is_special unicode) c cs) e).0 in
-    (plainly unicode before c (first cs) here, printable unicode c cs (or_parts (is_special unicode before c (first cs)) (somewhere (is_special unicode) c cs) e).1)
+    (shown_first unicode before c (first cs) here, printable unicode c cs (or_parts (is_special unicode before c (first cs)) (somewhere (is_special unicode) c cs) e).1)
 
 -- ---- all styles but double quotes take such values alone
 
@@ -130,9 +122,6 @@ style_needs false unicode cs k untagged flow simple empty = needs_taken (allowed
 tame_if : (b : Bool) (x y : Layout) → Tame x → Tame y → Tame (if b then x else y)
 tame_if true x y f g = f
 tame_if false x y f g = g
-
-break_tame : (x : ℕ) → Fits x → Tame (break x)
-break_tame x f c rest h = letter_allowed x (rest _) f (h _)
 
 text_tame : Tame after_text
 text_tame c rest h = h _

@@ -1,14 +1,12 @@
 -- What is laid out in pretty form for an input may be written.
-use Rattle.std.proofs.Common.{◌≡◌, ℕ, ◌<◌, Bool, true, false, ◌&&◌, ◌==◌, if◌then◌else◌, List, [], ◌∷◌, length, Option, Some, None, refl, sym, ap, subst, ◌∙◌, IsUtf8, arith}
+use Rattle.std.proofs.Common.{◌≡◌, ℕ, Bool, true, false, ◌==◌, if◌then◌else◌, List, [], ◌∷◌, length, Option, Some, None, refl, sym, ap, subst, ◌∙◌, IsUtf8}
 use Rattle.std.specs.List.{list_all}
-use Rattle.std.proofs.lemmas.Bool.Decides.{nat_tests}
 use Rattle.yaml_parse_grammar.specs.parse_model.declared.yaml_scalar_style_t.{yaml_scalar_style_t}
 use Rattle.yaml_parse_grammar.specs.parse_model.Constructors.{IsUtf8Option, AreUtf8, HasUtf8}
 use Rattle.yaml_parse_grammar.specs.parse_model.Events.{EventBody, TagDirective}
 use Rattle.yaml_parse_grammar.specs.parse_model.Events as event
 use Rattle.yaml_parse_grammar.specs.Resolve.{Told}
 use Rattle.yaml_emit_laws_text.specs.emit_layout.scan_model.Classes.{is_alpha_byte}
-use Rattle.yaml_emit_laws_text.specs.scan_history.scan_words.Written.{are_alphas}
 use Rattle.yaml_emit_laws_text.specs.emit_layout.declared.problem.Problem.{Problem}
 use Rattle.yaml_emit_laws_text.specs.emit_layout.Content as emit
 use Rattle.yaml_emit_laws_text.specs.emit_layout.Grammar.{or_else, name_problem, anchor_problem, tag_problem, scalar_tag, start_tag, event_problem, last_problem, own_problem, own_problems, opening_problem}
@@ -27,7 +25,10 @@ use Rattle.yaml_round_laws_pretty.specs.Laws.{InputsLayoutIsWritable}
 use Rattle.yaml_round_laws_pretty.proofs.Contents.{start_by}
 use Rattle.yaml_round_laws_pretty.proofs.Lost.{written_is}
 use Rattle.yaml_round_laws_pretty.proofs.InputFlags.{inputs_flags}
-use Rattle.yaml_round_laws_pretty.proofs.InputPremises.{or_first, or_second, Right, head, tail, opening_right}
+use Rattle.yaml_round_laws_pretty.proofs.InputPremises.{or_second, Right, head, tail, opening_right}
+use Rattle.yaml_round_laws_documents.proofs.Premises.{alphas_are}
+use Rattle.yaml_round_laws_documents.proofs.Written.{some_byte}
+use Rattle.yaml_emit_laws_text.proofs.Resolving.{or_first}
 
 -- ---- texts of events
 
@@ -97,18 +98,11 @@ one_test : (p : Problem) (e : Bool) → (if e then Some p else None) ≡ None �
 one_test p true h = absurd (cc)
 one_test p false h = refl
 
-positive : (n : ℕ) → (n == 0) ≡ false → 0 < n
-positive n e = grind (arith, nat_tests)
-
-alphas_are : (bs : List ℕ) → list_all is_alpha_byte bs ≡ are_alphas bs
-alphas_are [] = refl
-alphas_are (b ∷ bs) = ap (λ (more : Bool). is_alpha_byte b && more) (alphas_are bs)
-
 name_good : (p q : Problem) (name : List ℕ) → name_problem p q name ≡ None
     → text.IsWritableName name × bytes.IsName name
 name_good p q name h =
     let (some, alphas) = two_tests p q (length name == 0) (list_all is_alpha_byte name) h in
-    ((positive (length name) some, sym (alphas_are name) ∙ alphas), alphas)
+    ((some_byte (length name) some, sym (alphas_are name) ∙ alphas), alphas)
 
 anchor_good : (anchor : Option (List ℕ)) → anchor_problem anchor ≡ None
     → text.IsWritableAnchor anchor × bytes.IsNameOption anchor
@@ -118,7 +112,7 @@ anchor_good (Some name) h = name_good _ _ name h
 tag_good : (tag written : Option (List ℕ)) → written ≡ tag → tag_problem written ≡ None
     → bytes.IsTextOption tag → text.IsWritableTag tag
 tag_good None written w h u = tt
-tag_good (Some t) written w h u = (positive (length t) (one_test _ (length t == 0) (sym (ap (λ (o : Option (List ℕ)). tag_problem o) w) ∙ h)), u)
+tag_good (Some t) written w h u = (some_byte (length t) (one_test _ (length t == 0) (sym (ap (λ (o : Option (List ℕ)). tag_problem o) w) ∙ h)), u)
 
 -- ---- nodes
 

@@ -1,5 +1,5 @@
 -- Pretty text reads back exactly where the input doesn't begin with nothing, by the law of text.
-use Rattle.std.proofs.Common.{◌≡◌, ℕ, ◌≤◌, false, ◌&&◌, nat_le, if◌then◌else◌, List, ◌∷◌, Ok, refl, sym, ap, ◌∙◌, ℤ, pos, negsuc, arith}
+use Rattle.std.proofs.Common.{◌≡◌, ℕ, ◌≤◌, false, ◌&&◌, nat_le, if◌then◌else◌, List, ◌∷◌, Ok, sym, ap, ◌∙◌, ℤ, pos, negsuc, arith}
 use Rattle.std.proofs.lemmas.Bool.Decides.{nat_tests}
 use Rattle.yaml_parse_grammar.specs.parse_model.declared.yaml_encoding_t.{yaml_encoding_t}
 use Rattle.yaml_parse_grammar.specs.parse_model.declared.yaml_encoding_t.TheVariants.{YAML_ANY_ENCODING}
@@ -33,30 +33,23 @@ use Rattle.yaml_round_laws_pretty.proofs.InputFlags.{inputs_flags}
 use Rattle.yaml_round_laws_pretty.proofs.InputPremises.{inputs_parsable}
 use Rattle.yaml_round_laws_pretty.proofs.InputTexts.{layout_writable}
 use Rattle.yaml_round_laws_pretty.proofs.Bytes.{bytes_decode}
+use Rattle.yaml_round_laws_documents.proofs.Joining.{ending_is, contents_are}
 
-two_at_least : (n : ℕ) → 2 ≤ (if nat_le 2 n && nat_le n 9 then n else 2)
+pub two_at_least : (n : ℕ) → 2 ≤ (if nat_le 2 n && nat_le n 9 then n else 2)
 two_at_least n = grind (arith, nat_tests)
 
-nine_at_most : (n : ℕ) → (if nat_le 2 n && nat_le n 9 then n else 2) ≤ 9
+pub nine_at_most : (n : ℕ) → (if nat_le 2 n && nat_le n 9 then n else 2) ≤ 9
 nine_at_most n = grind (arith, nat_tests)
 
-least : (n : ℤ) → 2 ≤ settled_indent n
+-- An indentation that is settled is at least 2.
+pub least : (n : ℤ) → 2 ≤ settled_indent n
 least (pos n) = two_at_least n
 least (negsuc n) = two_at_least 0
 
-most : (n : ℤ) → settled_indent n ≤ 9
+-- It is at most 9.
+pub most : (n : ℤ) → settled_indent n ≤ 9
 most (pos n) = nine_at_most n
 most (negsuc n) = nine_at_most 0
-
-ending_is : (from : yaml_encoding_t) (input : List ℕ)
-    → ending_of from input ≡ (parsed (tokens_of from input)).ending
-unfolding read
-ending_is from input = refl
-
-contents_are : (from : yaml_encoding_t) (input : List ℕ)
-    → contents (events_of from input) ≡ contents (parsed (tokens_of from input)).events
-unfolding read
-contents_are from input = refl
 
 -- the tokens of the text, which a parser takes as they are
 record Taken (w : RequestedSettings) (from : yaml_encoding_t) (input : List ℕ) (x : Encoding) (whole : List Item) (stream : IsStream w x (emitter_events false (events_of from input)) whole) : Type 0 where

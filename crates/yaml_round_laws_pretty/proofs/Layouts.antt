@@ -1,5 +1,5 @@
 -- The pretty layout of documents writes characters that a stream may hold.
-use Rattle.std.proofs.Common.{ℕ, Bool, true, false, not, ◌&&◌, ◌||◌, ◌==◌, nat_lt, if◌then◌else◌, List, [], ◌∷◌, length, Option, arith, IsUtf8}
+use Rattle.std.proofs.Common.{ℕ, Bool, true, false, not, ◌&&◌, ◌||◌, ◌==◌, if◌then◌else◌, List, [], ◌∷◌, length, Option, arith, IsUtf8}
 use Rattle.std.specs.Str.{chars}
 use Rattle.yaml_emit_laws_text.specs.emit_layout.emit_text.declared.Cursor.{Cursor}
 use Rattle.yaml_emit_laws_text.specs.emit_layout.emit_text.declared.Settings.{Settings}
@@ -10,29 +10,19 @@ use Rattle.yaml_emit_laws_text.specs.emit_layout.declared.level.Part.TheVariants
 use Rattle.yaml_emit_laws_text.specs.emit_layout.declared.level.Spot.{Spot}
 use Rattle.yaml_emit_laws_text.specs.emit_layout.Content.{Document, Scalar, Start, Node, alias_node, scalar_node, sequence_node, mapping_node, Nodes, no_nodes, node, Pairs, no_pairs, pair}
 use Rattle.yaml_emit_laws_text.specs.emit_layout.Grammar.{has, kept_tag, scalar_tag, start_tag, version_problem, directives_problem}
-use Rattle.yaml_emit_laws_text.specs.emit_layout.Nodes.{Context, context_of, MOST, is_kept, is_plain, is_simple, is_simple_part, key_part, root_spot, spot, deeper, page_at, checked, deep_if, line_at, wrap_at, anchor_text, tag_text, properties_text, style_of, mark_text, scalar_layout, alias_layout, is_flow, indent_of, indented, are_none, are_no_pairs, comma, turned, before_item, question, before_key, before_value, closer, node_layout, items_layout, pairs_layout, dots, is_directed, is_marked, version_text, directives_text, dashes, start_layout, end_layout, stop_layout, documents_layout}
+use Rattle.yaml_emit_laws_text.specs.emit_layout.Nodes.{Context, context_of, is_kept, is_plain, is_simple, is_simple_part, key_part, root_spot, spot, deeper, page_at, checked, line_at, wrap_at, properties_text, style_of, mark_text, scalar_layout, alias_layout, is_flow, indent_of, indented, are_none, are_no_pairs, comma, turned, before_item, question, before_key, before_value, closer, node_layout, items_layout, pairs_layout, dots, is_directed, is_marked, version_text, directives_text, dashes, start_layout, end_layout, stop_layout, documents_layout}
 use Rattle.yaml_round_laws_documents.specs.BytesLaws.{IsNameOption, IsTextOption, IsSpellable, AreSpellable, PairsAreSpellable, DocumentsAreSpellable}
 use Rattle.yaml_round_laws_documents.proofs.Characters.{Fits, graphic, is_32, names_fit}
-use Rattle.yaml_round_laws_documents.proofs.Layouts.{Allowed, Tame, deep_allowed, letter_allowed, both, stay_tame, choose_tame, when_tame, char_tame, gap_tame, word_tame, opener_tame, line_tame, keep_tame}
-use Rattle.yaml_round_laws_documents.proofs.Leaves.{TagsFit, or_second, handles_fit, tags_fit, anchor_tame, tag_tame, version_tame, directives_tame}
+use Rattle.yaml_round_laws_documents.proofs.Layouts.{Tame, letter_allowed, both, stay_tame, choose_tame, when_tame, char_tame, gap_tame, word_tame, opener_tame, line_tame, keep_tame}
+use Rattle.yaml_round_laws_documents.proofs.Leaves.{TagsFit, or_second, handles_fit, tags_fit, version_tame, directives_tame}
 use Rattle.yaml_round_laws_pretty.proofs.Fitting.{style_needs, scalar_text_tame}
-
-deep_tame : (b : Bool) (t : List Item) → Allowed t → Allowed (deep_if b t)
-deep_tame true t h = deep_allowed t h
-deep_tame false t h = h
-
-checked_tame : (n : ℕ) → Tame (checked n)
-checked_tame n c rest h = deep_tame (nat_lt MOST n) (rest c) (h c)
+use Rattle.yaml_round_laws_documents.proofs.Nodes.{dots_tame, properties_tame, checked_tame, comma_tame}
 
 kept_text : (canonical left_out : Bool) (t : Option (List ℕ)) → IsTextOption t
     → IsTextOption (kept_tag canonical left_out t)
 kept_text true left_out t h = h
 kept_text false true t h = tt
 kept_text false false t h = h
-
-properties_tame : (p : Context) → TagsFit p.directives → (anchor tag : Option (List ℕ))
-    → IsNameOption anchor → IsTextOption tag → Tame (properties_text p anchor tag)
-properties_tame p fit anchor tag ha ht = both (anchor_text anchor) (tag_text p tag) (anchor_tame anchor ha) (tag_tame p fit tag ht)
 
 indicator_tame : (x : ℕ) → Fits x → Tame (indicator x)
 indicator_tame x f = both gap _ gap_tame (λ c rest h. letter_allowed x (rest _) f (h _))
@@ -101,9 +91,6 @@ mapping_tame p fit q ps ha ht inner at =
 
 comma_fits : Fits 44
 comma_fits = graphic 44 (omega arith) (omega arith)
-
-comma_tame : (fresh : Bool) → Tame (comma fresh)
-comma_tame fresh = when_tame (not fresh) (char 44) (char_tame 44 comma_fits)
 
 wrap_tame : (s : Settings) (n : ℕ) → Tame (wrap_at s n)
 wrap_tame s n = choose_tame (is_past s.width) (line s.line_break n) stay (line_tame s.line_break n) stay_tame
@@ -193,11 +180,6 @@ mutual
   pairs_tame p fit (pair k v ps) (hk, hv, hs) = pair_tame p k v ps (node_tame p fit k hk) (node_tame p fit v hv) (pairs_tame p fit ps hs)
 
 -- ---- documents
-
-dots_tame : (s : Settings) → Tame (dots s)
-dots_tame s =
-    let dot : Fits 46 = graphic 46 (omega arith) (omega arith) in
-    both (word (46 ∷ 46 ∷ 46 ∷ [])) (line_at s 0) (word_tame (46 ∷ 46 ∷ 46 ∷ []) (dot, (dot, (dot, tt)))) (line_tame s.line_break 0)
 
 dashes_tame : (s : Settings) → Tame (dashes s)
 dashes_tame s =

@@ -31,7 +31,9 @@ use Rattle.yaml_round_laws_documents.specs.TreeLaws.{token_bodies, IsNoMark, Has
 use Rattle.yaml_round_laws_documents.proofs.Growing.{take, both_say, step_says}
 use Rattle.yaml_emit_laws_pretty.specs.Bodies.{style_at, is_flow_at, is_bare, keeps, sequence_opens, sequence_closes, mapping_opens, mapping_closes, node_bodies, items_bodies, pairs_bodies, is_left_out}
 use Rattle.yaml_round_laws_pretty.specs.Reads.{sequence_style, mapping_style, node_reads, items_reads, pairs_reads}
-use Rattle.yaml_round_laws_pretty.proofs.Dressing.{Resolves, Spelt, MaybeGrown, held, Contained, dressed, scalar_grown, scalar_left_out}
+use Rattle.yaml_round_laws_pretty.proofs.Dressing.{Spelt, MaybeGrown, held, Contained, dressed, scalar_grown, scalar_left_out}
+use Rattle.yaml_round_laws_pretty.proofs.Contents.{and_left}
+use Rattle.yaml_round_laws_documents.proofs.CanonicalPremises.{Resolves}
 
 -- ---- what may stand at a place
 
@@ -286,17 +288,13 @@ sequence_by false false true part.SimpleKey p r ns fill entries loose free may a
 sequence_by false false true part.Value p r ns fill entries loose free may anchor tag ts bs e =
     dressed (Block (Some Value)) p.directives r anchor tag (item.sequence YAML_BLOCK_SEQUENCE_STYLE) (λ es. items_reads p false ns (event.sequence_end ∷ es)) (items_bodies p false true ns bs) bs (λ us x. loose (free refl).1 Value us bs x) ts e
 
-kept_there : (a b : Bool) → (a && b) ≡ true → a ≡ true
-kept_there true b e = refl
-kept_there false b e = absurd (false≢true e)
-
 sequence_grows : (p : Context) → Resolves p.directives → (o : Start) (ns : Nodes) → ItemsFill p ns
     → EntriesGrow p ns → LooseGrows p ns → NodeGrows p (sequence_node o ns)
 unfolding node_bodies node_reads
 sequence_grows p r o ns fill entries loose flow q bare some ts bs e =
     sequence_by flow (is_flow_at p flow o (are_none ns)) (keeps q bare o) q p r ns fill entries loose
     (λ h. let (a, b) = flow_then p.settings.canonical flow (o.flow || are_none ns) h in (a, or_last o.flow (are_none ns) b))
-    (kept_there (is_of_mapping q) (not (bare && is_bare o.anchor (start_tag false o)))) o.anchor (start_tag false o) ts bs e
+    (and_left (is_of_mapping q) (not (bare && is_bare o.anchor (start_tag false o)))) o.anchor (start_tag false o) ts bs e
 
 mapping_by : (flow f : Bool) (q : Part) (p : Context) → Resolves p.directives → (ps : Pairs)
     → PartsFill p ps → PairsGrow p ps → (f ≡ false → flow ≡ false)

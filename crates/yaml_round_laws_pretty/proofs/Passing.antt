@@ -1,11 +1,8 @@
 -- The bodies of pretty text spell texts.
-use Rattle.std.proofs.Common.{◌≡◌, ℕ, Bool, true, false, not, ◌&&◌, List, [], ◌∷◌, Option, Some, None, refl, sym, subst}
-use Rattle.std.proofs.lemmas.Str.{is_utf8-from_IsUtf8}
+use Rattle.std.proofs.Common.{ℕ, Bool, true, false, not, ◌&&◌, List, [], ◌∷◌, Option, refl, sym, subst}
 use Rattle.yaml_emit_laws_text.specs.emit_layout.scan_model.Tokens.{TokenBody}
 use Rattle.yaml_emit_laws_text.specs.emit_layout.scan_model.Tokens as token
-use Rattle.yaml_emit_laws_text.specs.emit_layout.scan_model.declared.yaml_version_directive_t.{yaml_version_directive_t}
 use Rattle.yaml_emit_laws_text.specs.emit_layout.parse_model.Events.{TagDirective}
-use Rattle.yaml_emit_laws_text.specs.emit_layout.emit_tags.Tags.{Split, shorthand, verbatim, split_tag}
 use Rattle.yaml_emit_laws_text.specs.emit_layout.emit_text.declared.Settings.{Settings}
 use Rattle.yaml_emit_laws_text.specs.emit_layout.emit_text.declared.Style.{Style}
 use Rattle.yaml_emit_laws_text.specs.emit_layout.declared.level.Part.{Part}
@@ -13,43 +10,14 @@ use Rattle.yaml_emit_laws_text.specs.emit_layout.declared.level.Part.TheVariants
 use Rattle.yaml_emit_laws_text.specs.emit_layout.Content.{Scalar, Start, Document, Node, alias_node, scalar_node, sequence_node, mapping_node, Nodes, no_nodes, node, Pairs, no_pairs, pair}
 use Rattle.yaml_emit_laws_text.specs.emit_layout.Grammar.{has, kept_tag, scalar_tag, start_tag}
 use Rattle.yaml_emit_laws_text.specs.emit_layout.Nodes.{Context, is_simple, key_part, are_none, are_no_pairs, is_directed, is_marked}
-use Rattle.yaml_emit_laws_text.specs.TagsLaws.{IsReadable, HaveUtf8}
-use Rattle.yaml_emit_laws_text.specs.Bodies.{tag_body, anchor_bodies, tag_bodies, mark_bodies, version_bodies, directives_bodies, end_bodies}
+use Rattle.yaml_emit_laws_text.specs.Bodies.{mark_bodies, directives_bodies, end_bodies}
 use Rattle.yaml_emit_laws_text.specs.PrettyBodies.{comma_bodies, start_bodies}
-use Rattle.yaml_round_laws_adapted.specs.Adapted.{spells_text}
 use Rattle.yaml_round_laws_documents.specs.Adapting.{IsReadableTag, IsTagged, AreTagged, PairsAreTagged, HaveTexts}
-use Rattle.yaml_round_laws_documents.proofs.Passing.{Spell, passes}
+use Rattle.yaml_round_laws_documents.proofs.Passing.{Spell, passes, directives_spell, mark_spells, version_spells, end_spells, properties_spell}
 use Rattle.yaml_emit_laws_pretty.specs.Bodies.{style_at, is_flow_at, takes_mark, keeps, is_nothing, value_bodies, scalar_bodies, sequence_opens, sequence_closes, mapping_opens, mapping_closes, item_bodies, pair_bodies, node_bodies, items_bodies, pairs_bodies, context_in, root_bodies, is_root_kept, opening_bodies, documents_bodies}
 use Rattle.yaml_round_laws_pretty.specs.TokenLaws.{PrettyTokensPass}
 
 -- ---- properties
-
-split_spells : (s : Split) → IsReadable s → spells_text (tag_body s) ≡ true
-split_spells (shorthand handle suffix) (shape, text, long) = is_utf8-from_IsUtf8 suffix text
-split_spells (verbatim tag) (text, long) = is_utf8-from_IsUtf8 tag text
-
-anchor_spells : (anchor : Option (List ℕ)) (bs : List TokenBody) → Spell bs
-    → Spell (anchor_bodies anchor bs)
-anchor_spells None bs s = s
-anchor_spells (Some name) bs s = (refl, s)
-
-tag_spells : (ds : List TagDirective) (tag : Option (List ℕ)) → IsReadableTag ds tag
-    → (bs : List TokenBody) → Spell bs → Spell (tag_bodies ds tag bs)
-tag_spells ds None r bs s = s
-tag_spells ds (Some t) r bs s = (split_spells (split_tag ds t) r, s)
-
-properties_spell : (ds : List TagDirective) (anchor tag : Option (List ℕ)) → IsReadableTag ds tag
-    → (bs : List TokenBody) → Spell bs → Spell (anchor_bodies anchor (tag_bodies ds tag bs))
-properties_spell ds anchor tag r bs s = anchor_spells anchor (tag_bodies ds tag bs) (tag_spells ds tag r bs s)
-
-mark_spells : (b : Bool) (bs : List TokenBody) → Spell bs → Spell (mark_bodies b bs)
-unfolding lib.Utf8.encode
-mark_spells true bs s = (is_utf8-from_IsUtf8 (33 ∷ []) (33 ∷ [], (refl, refl)), s)
-mark_spells false bs s = s
-
-end_spells : (b : Bool) (bs : List TokenBody) → Spell bs → Spell (end_bodies b bs)
-end_spells true bs s = (refl, s)
-end_spells false bs s = s
 
 start_spells : (b : Bool) (bs : List TokenBody) → Spell bs → Spell (start_bodies b bs)
 start_spells true bs s = s
@@ -164,17 +132,6 @@ mutual
       (node_spells p k rk flow (key_part e) (not e) (token.value ∷ value) (refl, node_spells p v rv flow part.Value (not e) behind (pairs_spell p ps rs flow false bs s)))
 
 -- ---- documents
-
-version_spells : (v : Option yaml_version_directive_t) (bs : List TokenBody) → Spell bs
-    → Spell (version_bodies v bs)
-version_spells None bs s = s
-version_spells (Some v) bs s = (refl, s)
-
-directives_spell : (ds : List TagDirective) → HaveUtf8 ds → (bs : List TokenBody) → Spell bs
-    → Spell (directives_bodies ds bs)
-unfolding directives_bodies
-directives_spell [] u bs s = s
-directives_spell (d ∷ ds) (u, us) bs s = (is_utf8-from_IsUtf8 d.prefix u, directives_spell ds us bs s)
 
 documents_spell : (s : Settings) (first unended kept : Bool) (ds : List Document) → HaveTexts ds
     → Spell (documents_bodies s first unended kept ds)

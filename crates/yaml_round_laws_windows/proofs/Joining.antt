@@ -1,13 +1,15 @@
 -- The law of windows.
 use Rattle.std.proofs.Common.{◌≡◌, ◌≢◌, ℕ, true, List, [], ◌∷◌, ◌++◌, map, length, Option, Some, None, option_map, refl, sym, ap, subst, ◌∙◌, inl, inr, ◌⊎◌}
 use Rattle.std.proofs.lemmas.Bool.{cases_Bool}
+use Rattle.std.proofs.lemmas.List.{append_assoc, same_from_push}
 use Rattle.std.proofs.lemmas.List.Elements.{All-head, All-tail}
 use Rattle.std.specs.Prelude.{All}
 use Rattle.yaml_round_content.specs.scan_model.declared.yaml_encoding_t.{yaml_encoding_t}
 use Rattle.yaml_round_content.specs.scan_model.declared.yaml_mark_t.{yaml_mark_t}
 use Rattle.yaml_round_content.specs.scan_model.Faults.{Fault}
 use Rattle.yaml_round_content.specs.scan_model.Marks.{line_at}
-use Rattle.yaml_round_content.specs.scan_model.Tokens.{Token, stream_start, stream_end, document_start, zero_mark}
+use Rattle.yaml_round_content.specs.scan_model.Tokens.{Token, TokenBody, stream_start, stream_end, document_start, zero_mark}
+use Rattle.yaml_round_content.specs.scan_model.Tokens as token
 use Rattle.yaml_round_content.specs.scan_history.Remaining.{Remaining, all}
 use Rattle.yaml_round_content.specs.scan_history.History.{depth}
 use Rattle.yaml_round_content.specs.scan_history.scan_words.Indicators.{is_document_start}
@@ -15,13 +17,15 @@ use Rattle.yaml_round_content.specs.parse_grammar.Trees.{event_at}
 use Rattle.yaml_round_content.specs.parse_grammar.States as state
 use Rattle.yaml_round_content.specs.parse_grammar.Machine.{feed, run, initial}
 use Rattle.yaml_round_content.specs.parse_grammar.Resolve.{Reading, no_directives, placed}
-use Rattle.yaml_scan_laws_windows.specs.Cuts.{IsCut}
+use Rattle.yaml_scan_laws_windows.specs.Cuts.{IsCut, IsEndCut, LeadsToDirective}
 use Rattle.yaml_round_content.specs.parse_model.Events.{Event}
 use Rattle.yaml_round_content.specs.parse_model.Events as event
 use Rattle.yaml_round_content.specs.round_laws_adapted.Adapted.{spells_text, with_token, cut}
 use Rattle.yaml_scan_laws_windows.specs.Laws.{scan_of}
 use Rattle.yaml_scan_laws_windows.specs.Moved.{moved_mark, moved_token, moved_fault}
 use Rattle.yaml_scan_laws_windows.proofs.Windows.{windows_are_scanned, at_cut}
+use Rattle.yaml_scan_laws_windows.proofs.Behind.{ended_front, ended_windows_are_scanned}
+use Rattle.yaml_scan_laws_windows.proofs.Leading.{IsDirective, LeadsSo, leads_so}
 use Rattle.yaml_scan_laws_windows.proofs.OrderLaws.{stream_starts, stream_ends}
 use Rattle.yaml_parse_laws_windows.specs.Laws.{parse_of, GoOn}
 use Rattle.yaml_parse_laws_windows.specs.Laws as parse
@@ -29,6 +33,7 @@ use Rattle.yaml_parse_laws_windows.specs.Depths.{depth_after, depth_behind}
 use Rattle.yaml_parse_laws_windows.proofs.Following.{items_of, Plain, plain, seen, parse_plain, step_items, Front, front_of, front_events, windows_are_parsed, brackets_are_closed, body_at}
 use Rattle.yaml_parse_laws_windows.proofs.Parting.{end_at}
 use Rattle.yaml_parse_laws_windows.proofs.Refusing.{refused_fronts_stay}
+use Rattle.yaml_parse_laws_windows.proofs.Beginning.{directives_are_parsed}
 use Rattle.yaml_round_laws_windows.specs.Moved.{moved_event, IsMovedEnd}
 use Rattle.yaml_round_laws_windows.specs.Laws.{tokens_in, reading_in, IsAccepted, WindowsAreRead, WindowsAreAccepted, ReadingsAreFramed, AwaitsDocument, RefusedFrontsAreRead}
 use Rattle.yaml_round_laws_windows.proofs.Depths.{behind_both, told_deep}
@@ -36,7 +41,7 @@ use Rattle.yaml_round_laws_windows.proofs.Readings.{moved_tokens, IsMovedPlain, 
 
 -- ---- tokens that pass the adapter
 
-abbrev AllSpell : List Token → Type 0
+abbrev pub AllSpell : List Token → Type 0
 AllSpell [] = Unit {0}
 AllSpell (t ∷ ts) = (spells_text t.body ≡ true) × AllSpell ts
 
@@ -52,7 +57,7 @@ cut_whole f (t ∷ ts) h =
     some_none : {A : Type 0} {x : A} → Some x ≡ None → ⊥
     some_none e = cc
 
-cut_same : (f : Option Fault) (ts : List Token) → AllSpell ts → cut f ts
+pub cut_same : (f : Option Fault) (ts : List Token) → AllSpell ts → cut f ts
     ≡ record { tokens = ts; fault = f }
 cut_same f [] h = refl
 cut_same f (t ∷ ts) h = rw (h.0) (ap (with_token t) (cut_same f ts h.1))
@@ -61,10 +66,10 @@ spell_left : (xs ys : List Token) → AllSpell (xs ++ ys) → AllSpell xs
 spell_left [] ys h = tt
 spell_left (x ∷ xs) ys h = (h.0, spell_left xs ys h.1)
 
-abbrev behind_tokens : List Token → Remaining → Remaining
+abbrev pub behind_tokens : List Token → Remaining → Remaining
 behind_tokens ts r = record { tokens = ts ++ r.tokens; fault = r.fault }
 
-cut_behind : (f : Option Fault) (xs ts : List Token) → AllSpell xs
+pub cut_behind : (f : Option Fault) (xs ts : List Token) → AllSpell xs
     → cut f (xs ++ ts) ≡ behind_tokens xs (cut f ts)
 cut_behind f [] ts h = refl
 cut_behind f (x ∷ xs) ts h = rw (h.0) (ap (with_token x) (cut_behind f xs ts h.1))
@@ -83,12 +88,12 @@ cut_moved d n f (t ∷ ts) =
     ]
 
 -- a text that is accepted has its own tokens, and no fault
-record Passed (x : yaml_encoding_t) (text : List ℕ) : Type 0 where
+pub record Passed (x : yaml_encoding_t) (text : List ℕ) : Type 0 where
   pub none : (scan_of x text).fault ≡ None
   pub spell : AllSpell (scan_of x text).tokens
   pub reads : reading_in x text ≡ parse_of (scan_of x text).tokens None
 
-passed : (x : yaml_encoding_t) (text : List ℕ) → (tokens_in x text).fault ≡ None → Passed x text
+pub passed : (x : yaml_encoding_t) (text : List ℕ) → (tokens_in x text).fault ≡ None → Passed x text
 passed x text h =
     let c = scan_of x text in
     let (all, none) = cut_whole c.fault c.tokens h in
@@ -101,7 +106,7 @@ passed x text h =
 abbrev IsInner : Token → Type 0
 IsInner t = t.body ≢ stream_end
 
-go_on : (ts : List Token) → All IsInner ts → GoOn ts
+pub go_on : (ts : List Token) → All IsInner ts → GoOn ts
 go_on [] h = tt
 go_on (t ∷ ts) h = (All-head IsInner t ts h, go_on ts (All-tail IsInner t ts h))
 
@@ -117,7 +122,7 @@ no_bracket x text g =
     sym (told_deep x text p.none) ∙ ap (λ ts. depth_behind ts 0) are ∙ behind_both front (last ∷ []) 0
     ∙ ap (λ b. depth_after b (depth_behind front 0)) ends ∙ closed
 
-abbrev read_to : Remaining → Reading
+abbrev pub read_to : Remaining → Reading
 read_to r = parse_of r.tokens r.fault
 
 -- what is read of a text's tokens, where they are moved
@@ -142,7 +147,7 @@ reading_moved d n x text = by (tokens_in x text).fault refl
         (moved_as d n _ _ _ _ (parse_plain ts None) (parse_plain (moved_tokens d n ts) None)
         (ended_moved d n front initial no_directives (refl, refl) (go_on front others) last.start_mark last.end_mark))
 
-cut_marked : (f : Option Fault) (t : Token) (ts : List Token) → t.body ≡ document_start
+pub cut_marked : (f : Option Fault) (t : Token) (ts : List Token) → t.body ≡ document_start
     → cut f (t ∷ ts) ≡ with_token t (cut f ts)
 cut_marked f t ts e = rw e refl
 
@@ -186,8 +191,20 @@ handed x a b at begins outer none spell front last are =
           ∙ ap (behind_tokens front) (cut_moved d n c.fault behind ∙ ap (moved_remaining d n) kept);
     }
 
-pub windows_are_read : WindowsAreRead
-windows_are_read x a b at begins ga before end came start later come =
+-- what is read in parts
+abbrev ReadInParts : yaml_encoding_t → List ℕ → List ℕ → List Event → List Event → Type 0
+ReadInParts x a b before later =
+    let d = length a in let n = line_at a (length a) in
+    ((tokens_in x (a ++ b)).fault ≡ option_map (moved_fault d n) (tokens_in x b).fault)
+    × (parse.events_in (reading_in x (a ++ b)) ≡ before ++ map (moved_event d n) later)
+    × IsMovedEnd d n (reading_in x b).ending (reading_in x (a ++ b)).ending
+
+marks_are_read : (x : yaml_encoding_t) (a b : List ℕ) → IsCut a b → is_document_start b 0 ≡ true
+    → IsAccepted x a
+    → (before : List Event) (end : Event) → parse.events_in (reading_in x a) ≡ before ++ end ∷ []
+    → (start : Event) (later : List Event) → parse.events_in (reading_in x b) ≡ start ∷ later
+    → ReadInParts x a b before later
+marks_are_read x a b at begins ga before end came start later come =
     let d = length a in
     let n = line_at a (length a) in
     let pa = passed x a ga.scanned in
@@ -210,6 +227,82 @@ windows_are_read x a b at begins ga before end came start later come =
       subst (λ (r : Reading). IsMovedEnd d n r.ending (reading_in x (a ++ b)).ending) (sym rest)
           (subst (λ (o : Option Fault). IsMovedEnd d n (read_to (with_token h.first (with_token h.mark h.behind))).ending o) (sym (ap (λ (r : Reading). r.ending) whole ∙ over)) ending),
     )
+
+-- ---- behind a line `...`
+
+directive_begins : (b : TokenBody) → IsDirective b → parse.BeginsDocument b
+directive_begins (token.version_directive major minor) h = tt
+directive_begins (token.tag_directive handle prefix) h = tt
+directive_begins _ h = absurd h
+
+-- what the adapter hands on of tokens that begin with a directive's does so too, or is a fault
+cut_leads : (d n : ℕ) (f : Option Fault) (ts : List Token) → LeadsSo ts f
+    → let r = moved_remaining d n (cut f ts) in parse.GoesOn r.tokens r.fault
+cut_leads d n None [] h = absurd (h refl)
+cut_leads d n (Some f) [] h = λ e. some_none e
+  where
+    some_none : {A : Type 0} {x : A} → Some x ≡ None → ⊥
+    some_none e = cc
+cut_leads d n f (t ∷ ts) h =
+    elim (cases_Bool (spells_text t.body)) [
+      | inl e ↦ rw e (directive_begins t.body h)
+      | inr e ↦ rw e (λ k. some_none k)
+    ]
+  where
+    some_none : {A : Type 0} {x : A} → Some x ≡ None → ⊥
+    some_none e = cc
+
+go_front : (xs : List Token) (t : Token) → GoOn (xs ++ t ∷ []) → GoOn xs
+go_front [] t h = tt
+go_front (x ∷ xs) t h = (h.0, go_front xs t h.1)
+
+directives_are_read : (x : yaml_encoding_t) (a b : List ℕ) → IsEndCut a b → LeadsToDirective b
+    → IsAccepted x a
+    → (before : List Event) (end : Event) → parse.events_in (reading_in x a) ≡ before ++ end ∷ []
+    → (start : Event) (later : List Event) → parse.events_in (reading_in x b) ≡ start ∷ later
+    → ReadInParts x a b before later
+directives_are_read x a b at lead ga before end came start later come =
+    let d = length a in
+    let n = line_at a (length a) in
+    let c = scan_of x b in
+    let pa = passed x a ga.scanned in
+    let outer = no_bracket x a ga in
+    let (front, over, last, are, ended) = ended_front x a b at pa.none outer in
+    let (mine, final, told, ends, others) = stream_ends (record { encoding = x; text = a }) pa.none in
+    let (same, is_last) = same_from_push mine (front ++ over ∷ []) final last (sym told ∙ are) in
+    let last_is : last.body ≡ stream_end = ap (λ (t : Token). t.body) (sym is_last) ∙ ends in
+    let goes : GoOn front = go_front front over (subst GoOn same (go_on mine others)) in
+    let first : Token = record { body = stream_start x; start_mark = zero_mark; end_mark = zero_mark } in
+    let (behind, starts) = stream_starts (record { encoding = x; text = b }) in
+    let own = option_map (moved_fault d n) c.fault in
+    let rest : tokens_in x b ≡ with_token first (cut c.fault behind) = ap (cut c.fault) starts in
+    let R = moved_remaining d n (cut c.fault behind) in
+    let joined = ended_windows_are_scanned x a b at pa.none outer (front ++ over ∷ []) last are first behind starts in
+    let list = spell_left (front ++ over ∷ []) (last ∷ []) (subst AllSpell are pa.spell) in
+    let whole : tokens_in x (a ++ b) ≡ behind_tokens (front ++ over ∷ []) R =
+    ap (λ (y : Remaining). cut y.fault y.tokens) joined ∙ cut_behind own (front ++ over ∷ []) (moved_tokens d n behind) list
+    ∙ ap (behind_tokens (front ++ over ∷ [])) (cut_moved d n c.fault behind) in
+    let begins = cut_leads d n c.fault behind (leads_so x b lead first behind starts) in
+    let (events, ending) = subst (λ (r : Remaining). IsMovedPlain d n (seen (read_to r)) (seen (read_to (moved_remaining d n r)))) rest (reading_moved d n x b) in
+    let rest_read : reading_in x b ≡ read_to (with_token first (cut c.fault behind)) = ap read_to rest in
+    let whole_read : reading_in x (a ++ b) ≡ parse_of (front ++ over ∷ R.tokens) R.fault =
+    ap read_to whole ∙ ap (λ ts. parse_of ts R.fault) (append_assoc front (over ∷ []) R.tokens) in
+    let list_read : (scan_of x a).tokens ≡ front ++ over ∷ last ∷ [] = are ∙ append_assoc front (over ∷ []) (last ∷ []) in
+    let (read, finish) = directives_are_parsed front over last goes ended last_is
+    (ap (λ ts. (parse_of ts None).ending) (sym list_read) ∙ ap (λ (r : Reading). r.ending) (sym pa.reads) ∙ ga.parsed)
+    R.tokens R.fault begins (moved_token d n first) x refl before end
+    (ap (λ ts. parse.events_in (parse_of ts None)) (sym list_read) ∙ ap parse.events_in (sym pa.reads) ∙ came)
+    (moved_event d n start) (map (moved_event d n) later)
+    (events ∙ ap (map (moved_event d n)) (ap parse.events_in (sym rest_read) ∙ come)) in (
+      ap (λ (r : Remaining). r.fault) whole ∙ ap (option_map (moved_fault d n)) (sym (ap (λ (r : Remaining). r.fault) rest)),
+      ap parse.events_in whole_read ∙ read,
+      subst (λ (r : Reading). IsMovedEnd d n r.ending (reading_in x (a ++ b)).ending) (sym rest_read)
+          (subst (λ (o : Option Fault). IsMovedEnd d n (read_to (with_token first (cut c.fault behind))).ending o) (sym (ap (λ (r : Reading). r.ending) whole_read ∙ finish)) ending),
+    )
+
+pub windows_are_read : WindowsAreRead
+windows_are_read x a b (inl at) ga before end came start later come = marks_are_read x a b at.0 at.1 ga before end came start later come
+windows_are_read x a b (inr at) ga before end came start later come = directives_are_read x a b at.0 at.1 ga before end came start later come
 
 -- ---- how readings begin and end
 
@@ -272,10 +365,10 @@ none_moved d n (Some f) q h e = absurd (some_none e)
     some_none e = cc
 
 pub windows_are_accepted : WindowsAreAccepted
-windows_are_accepted x a b at begins ga gb =
+windows_are_accepted x a b at ga gb =
     let (start, later, come, starts) = begins_so x b in
     let (before, end, came, ends) = ends_so x a ga in
-    let (fault, events, ending) = windows_are_read x a b at begins ga before end came start later come in
+    let (fault, events, ending) = windows_are_read x a b at ga before end came start later come in
     record {
       scanned = fault ∙ ap (option_map (moved_fault (length a) (line_at a (length a)))) gb.scanned;
       parsed = none_moved (length a) (line_at a (length a)) _ _ ending gb.parsed;
@@ -283,13 +376,13 @@ windows_are_accepted x a b at begins ga gb =
 
 -- ---- a front that is refused
 
-spell_push : (xs : List Token) (t : Token) → AllSpell xs → spells_text t.body ≡ true
+pub spell_push : (xs : List Token) (t : Token) → AllSpell xs → spells_text t.body ≡ true
     → AllSpell (xs ++ t ∷ [])
 spell_push [] t h k = (k, tt)
 spell_push (x ∷ xs) t h k = (h.0, spell_push xs t h.1 k)
 
 -- tokens pass the adapter, or it stops within them
-spell_or : (front : List Token) → AllSpell front
+pub spell_or : (front : List Token) → AllSpell front
     ⊎ ((f g : Option Fault) (ts us : List Token) → cut f (front ++ ts) ≡ cut g (front ++ us))
 spell_or [] = inl tt
 spell_or (t ∷ front) =

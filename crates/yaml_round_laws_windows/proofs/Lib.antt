@@ -2,3 +2,5 @@ mod Machine
 mod Readings
 mod Depths
 mod Joining
+mod Early
+mod Ended

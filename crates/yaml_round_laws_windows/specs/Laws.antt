@@ -1,5 +1,5 @@
 -- What is read of a text that is cut in two.
-use Rattle.std.specs.Prelude.{◌≡◌, ℕ, true, List, [], ◌∷◌, ◌++◌, map, length, Some, None, option_map}
+use Rattle.std.specs.Prelude.{◌≡◌, ◌⊎◌, ◌<◌, ℕ, true, List, [], ◌∷◌, ◌++◌, map, length, Some, None, option_map}
 use Rattle.yaml_round_content.specs.scan_model.declared.yaml_encoding_t.{yaml_encoding_t}
 use Rattle.yaml_round_content.specs.scan_model.Marks.{line_at}
 use Rattle.yaml_round_content.specs.scan_model.Faults.{Fault}
@@ -13,7 +13,7 @@ use Rattle.yaml_round_content.specs.parse_grammar.Problems.{parser_fault}
 use Rattle.yaml_round_content.specs.parse_grammar.Resolve.{Reading, Told}
 use Rattle.yaml_round_content.specs.round_laws_adapted.Adapted.{adapted}
 use Rattle.yaml_round_content.specs.Input.{parsed}
-use Rattle.yaml_scan_laws_windows.specs.Cuts.{IsCut}
+use Rattle.yaml_scan_laws_windows.specs.Cuts.{IsCut, IsEndCut, LeadsToDirective}
 use Rattle.yaml_scan_laws_windows.specs.Laws.{scan_of}
 use Rattle.yaml_scan_laws_windows.specs.Moved.{moved_fault}
 use Rattle.yaml_round_laws_windows.specs.Moved.{moved_event, IsMovedEnd}
@@ -35,12 +35,17 @@ pub record IsAccepted (encoding : yaml_encoding_t) (text : List ℕ) : Type 0 wh
   pub scanned : (tokens_in encoding text).fault ≡ None
   pub parsed : (reading_in encoding text).ending ≡ None
 
--- Where a text is cut in front of a line `---`, and its front is accepted, the events are those of the front without STREAM-END,
--- and then those of the rest without STREAM-START, moved by the front's bytes and lines. The whole ends as the rest does: it is
--- accepted, or has the rest's fault, moved.
+-- A cut between documents: in front of a line `---`; or behind a line `...`, where the rest leads to a directive.
+abbrev pub CutsDocuments : List ℕ → List ℕ → Type 0
+CutsDocuments front rest = (IsCut front rest × (is_document_start rest 0 ≡ true))
+    ⊎ (IsEndCut front rest × LeadsToDirective rest)
+
+-- Where a text is cut between documents, and its front is accepted, the events are those of the front without STREAM-END, and then
+-- those of the rest without STREAM-START, moved by the front's bytes and lines. The whole ends as the rest does: it is accepted, or
+-- has the rest's fault, moved.
 abbrev pub WindowsAreRead : Type 0
-WindowsAreRead = (encoding : yaml_encoding_t) (front rest : List ℕ) → IsCut front rest
-    → is_document_start rest 0 ≡ true → IsAccepted encoding front
+WindowsAreRead = (encoding : yaml_encoding_t) (front rest : List ℕ) → CutsDocuments front rest
+    → IsAccepted encoding front
     → (before : List Event) (end : Event) → events_in encoding front ≡ before ++ end ∷ []
     → (start : Event) (later : List Event) → events_in encoding rest ≡ start ∷ later
     → let d = length front in let n = line_at front (length front) in
@@ -51,8 +56,7 @@ WindowsAreRead = (encoding : yaml_encoding_t) (front rest : List ℕ) → IsCut 
 
 -- So the whole is accepted where both parts are.
 abbrev pub WindowsAreAccepted : Type 0
-WindowsAreAccepted = (encoding : yaml_encoding_t) (front rest : List ℕ) → IsCut front rest
-    → is_document_start rest 0 ≡ true
+WindowsAreAccepted = (encoding : yaml_encoding_t) (front rest : List ℕ) → CutsDocuments front rest
     → IsAccepted encoding front → IsAccepted encoding rest → IsAccepted encoding (front ++ rest)
 
 -- the fault of a text that ends behind directives
@@ -69,6 +73,24 @@ RefusedFrontsAreRead = (encoding : yaml_encoding_t) (front rest : List ℕ) → 
     → (scan_of encoding front).fault ≡ None → depth (scan.all front) ≡ 0
     → (f : Fault) → (reading_in encoding front).ending ≡ Some f
     → (AwaitsDocument encoding front f → ⊥)
+    → (events_in encoding (front ++ rest) ≡ events_in encoding front)
+    × ((reading_in encoding (front ++ rest)).ending ≡ Some f)
+
+-- Where a front is refused with a fault that stands in front of its end, by whomever, the whole has its events and its fault.
+abbrev pub EarlyFaultsAreRead : Type 0
+EarlyFaultsAreRead = (encoding : yaml_encoding_t) (front rest : List ℕ) → IsCut front rest
+    → is_document_start rest 0 ≡ true
+    → (f : Fault) → (reading_in encoding front).ending ≡ Some f
+    → f.problem_mark.index < length front
+    → (events_in encoding (front ++ rest) ≡ events_in encoding front)
+    × ((reading_in encoding (front ++ rest)).ending ≡ Some f)
+
+-- So it is where a front that ends in a line `...` is refused with a fault that stands in front of that line, whatever follows.
+abbrev pub EndedFaultsAreRead : Type 0
+EndedFaultsAreRead = (encoding : yaml_encoding_t) (front rest : List ℕ)
+    → (at : IsEndCut front rest)
+    → (f : Fault) → (reading_in encoding front).ending ≡ Some f
+    → f.problem_mark.index < length at.before
     → (events_in encoding (front ++ rest) ≡ events_in encoding front)
     × ((reading_in encoding (front ++ rest)).ending ≡ Some f)
 

@@ -7,6 +7,7 @@ mark_lies = record {
   index = record { is = λ d. refl; begins = refl };
   line = record { is = λ d. refl; begins = refl };
   column = record { is = λ d. refl; begins = refl };
+  character = record { is = λ d. refl; begins = refl };
 }
 
 pub span_lies : SpanLies

@@ -8,7 +8,7 @@ use Rattle.std.proofs.lemmas.List.{append-nil}
 use Rattle.yaml_round_records.specs.declared.record.yaml_c_span.{yaml_c_span}
 use Rattle.yaml_round_records.specs.Records.{part_at, optional_at, no_span}
 use Rattle.yaml_round_records.specs.declared.record.yaml_c_event.{yaml_c_event}
-use Rattle.yaml_round_records.specs.Numbers.{is_set, flag_told}
+use Rattle.yaml_round_records.specs.Numbers.{is_set, is_there, flag_told}
 use Rattle.yaml_round_records.specs.Listing.{Grows, PutsText, PutsOptional, PutsProperties, HoldsText, HoldsOptional}
 
 -- a text behind another
@@ -64,11 +64,11 @@ holds_optional_on old new has s text g h more =
 
 there : (bytes : List ℕ) (s : yaml_c_span) (text : List ℕ) → HoldsText bytes s text
     → HoldsOptional bytes (pos 1) s (Some text)
-unfolding is_set
+unfolding is_set is_there
 there bytes s text h more = rw (h more) refl
 
 absent : (bytes : List ℕ) (s : yaml_c_span) → HoldsOptional bytes (pos 0) s None
-unfolding is_set
+unfolding is_set is_there
 absent bytes s more = refl
 
 pub put_some : (old text new : List ℕ) (s : yaml_c_span) → PutsText old text new s

@@ -9,3 +9,4 @@ pub mod Leading
 pub mod Standing
 pub mod Onward
 pub mod Listing
+pub mod Counted

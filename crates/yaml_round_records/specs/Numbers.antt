@@ -1,5 +1,5 @@
 -- What numbers mean: those of libyaml's enums. A number beside them means nothing.
-use Rattle.std.specs.Prelude.{ℕ, zero, suc, ℤ, pos, negsuc, Bool, true, false, not, if◌then◌else◌, List, [], ◌∷◌, Option, None, Some}
+use Rattle.std.specs.Prelude.{ℕ, zero, suc, ℤ, pos, negsuc, Bool, true, false, not, ◌&&◌, if◌then◌else◌, List, [], ◌∷◌, Option, None, Some}
 use Rattle.std.specs.Ordering.{int_eq}
 use Rattle.yaml_parse.specs.declared.yaml_encoding_t.{yaml_encoding_t}
 use Rattle.yaml_parse.specs.declared.yaml_encoding_t.TheVariants as encoding
@@ -19,6 +19,10 @@ use Rattle.yaml_parse.specs.declared.yaml_mapping_style_t.TheVariants as mapping
 -- a flag is off at 0 and on at every other number
 unfoldable pub is_set : ℤ → Bool
 is_set n = not (int_eq n (pos 0))
+
+-- an anchor or a tag is there: its flag is on, and isn't 2, which tells of a tag that was left out
+unfoldable pub is_there : ℤ → Bool
+is_there n = is_set n && not (int_eq n (pos 2))
 
 -- the number of a flag, as it is handed out
 abbrev pub flag_told : Bool → ℤ

@@ -46,6 +46,7 @@ pub record MarkLies : Type 0 where
   pub index : LiesAt mark.the_type 0 (λ d. d.index) 0
   pub line : LiesAt mark.the_type 1 (λ d. d.line) 8
   pub column : LiesAt mark.the_type 2 (λ d. d.column) 16
+  pub character : LiesAt mark.the_type 3 (λ d. d.character) 24
 
 pub record SpanLies : Type 0 where
   pub at : LiesAt span.the_type 0 (λ d. d.at) 0
@@ -71,7 +72,7 @@ pub record EventLies : Type 0 where
   pub tag : LiesAt event.the_type 12 (λ d. d.tag) 72
   pub value : LiesAt event.the_type 13 (λ d. d.value) 88
   pub start : LiesAt event.the_type 14 (λ d. d.start) 104
-  pub end : LiesAt event.the_type 15 (λ d. d.end) 128
+  pub end : LiesAt event.the_type 15 (λ d. d.end) 136
 
 pub record SettingsLie : Type 0 where
   pub encoding : LiesAt settings.the_type 0 (λ d. d.encoding) 0

@@ -14,10 +14,11 @@ use Rattle.yaml_round_records.specs.declared.record.yaml_c_mark.{yaml_c_mark}
 use Rattle.yaml_round_records.specs.declared.record.yaml_c_span.{yaml_c_span}
 use Rattle.yaml_round_records.specs.declared.record.yaml_c_directive.{yaml_c_directive}
 use Rattle.yaml_round_records.specs.declared.record.yaml_c_event.{yaml_c_event}
-use Rattle.yaml_round_records.specs.Numbers.{is_set, flag_told, encoding_meant, kind_meant, scalar_style_meant, sequence_style_meant, mapping_style_meant}
+use Rattle.yaml_round_records.specs.Numbers.{is_set, is_there, flag_told, encoding_meant, kind_meant, scalar_style_meant, sequence_style_meant, mapping_style_meant}
 
+-- a mark as C reads it, in front of which no character is counted yet
 abbrev pub mark_told : yaml_mark_t → yaml_c_mark
-mark_told m = record { index = m.index; line = m.line; column = m.column }
+mark_told m = record { index = m.index; line = m.line; column = m.column; character = 0 }
 
 -- ---- texts and directives
 
@@ -33,7 +34,7 @@ optional true (Some t) = Some (Some t)
 
 -- a text that may be left out, as its flag tells
 abbrev pub optional_at : List ℕ → ℤ → yaml_c_span → Option (Option (List ℕ))
-optional_at bytes has s = optional (is_set has) (part_at bytes s)
+optional_at bytes has s = optional (is_there has) (part_at bytes s)
 
 abbrev pub directive_by : Option (List ℕ) → Option (List ℕ) → Option TagDirective
 directive_by None p = None

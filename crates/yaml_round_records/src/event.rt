@@ -10,7 +10,7 @@ ghost use Rattle.yaml_round_records.specs.Meaning.{event_meant};
 
 use crate::meaning::{list_within, text_within};
 use crate::number::{
-    encoding_of, is_set, kind_of, mapping_style_of, scalar_style_of, sequence_style_of,
+    encoding_of, is_set, is_there, kind_of, mapping_style_of, scalar_style_of, sequence_style_of,
 };
 use crate::record::{yaml_c_directive, yaml_c_event, yaml_c_span};
 use std::alloc::Global;
@@ -40,7 +40,7 @@ fn text_at(alloc: Global, bytes: &[u8], span: yaml_c_span) -> Option<Vec<u8>>
 fn optional_at(alloc: Global, bytes: &[u8], has: i32, span: yaml_c_span) -> Option<Option<Vec<u8>>>
     ensures { IfSome result (λ t. optional_at bytes.now has span ≡ Some (text_of t)) }
 {
-    if !is_set(has) {
+    if !is_there(has) {
         return Some(None);
     }
     match text_at(alloc, bytes, span) {

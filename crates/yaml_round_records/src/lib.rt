@@ -2,6 +2,7 @@
 #![tactic(auto)]
 
 mod collecting;
+mod counted;
 mod emitter;
 mod event;
 mod listing;
@@ -12,6 +13,7 @@ mod record;
 mod standing;
 
 pub use collecting::collect;
+pub use counted::{count_events, count_mark};
 pub use emitter::{Asked, asked_of, emitted};
 pub use listing::Listing;
 pub use meaning::are_meant;

@@ -9,7 +9,7 @@ ghost use Rattle.yaml_round_records.specs.Meaning.{events_meant};
 ghost use Rattle.yaml_round_records.specs.Checking.{is_text, is_optional, is_directive, are_directives, is_event};
 
 use crate::number::{
-    encoding_of, is_set, kind_of, mapping_style_of, scalar_style_of, sequence_style_of,
+    encoding_of, is_there, kind_of, mapping_style_of, scalar_style_of, sequence_style_of,
 };
 use crate::record::{yaml_c_directive, yaml_c_event, yaml_c_span};
 use simdutf8::is_utf8;
@@ -72,7 +72,7 @@ fn is_text(bytes: &[u8], span: yaml_c_span) -> bool
 fn is_optional(bytes: &[u8], has: i32, span: yaml_c_span) -> bool
     ensures { result ≡ is_optional (optional_at bytes.now has span) }
 {
-    if is_set(has) {
+    if is_there(has) {
         is_text(bytes, span)
     } else {
         true

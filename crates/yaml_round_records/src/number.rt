@@ -1,7 +1,7 @@
 //! The numbers of C, and what they mean.
 
 ghost use Rattle.std.specs.Prelude.{◌≡◌, Some};
-ghost use Rattle.yaml_round_records.specs.Numbers.{is_set, flag_told, encoding_meant, break_meant, kind_meant, scalar_style_meant, sequence_style_meant, mapping_style_meant, error_number};
+ghost use Rattle.yaml_round_records.specs.Numbers.{is_set, is_there, flag_told, encoding_meant, break_meant, kind_meant, scalar_style_meant, sequence_style_meant, mapping_style_meant, error_number};
 
 use yaml_parse::{
     yaml_break_t, yaml_encoding_t, yaml_error_type_t, yaml_event_type_t, yaml_mapping_style_t,
@@ -14,6 +14,14 @@ pub fn is_set(number: i32) -> bool
     ensures { result ≡ is_set number }
 {
     number != 0
+}
+
+/// Whether an anchor or a tag is there, by its flag: 2 tells of a tag that was left out.
+#[tactic(auto, unfolding(crate::specs::Numbers::is_there))]
+pub(crate) fn is_there(number: i32) -> bool
+    ensures { result ≡ is_there number }
+{
+    is_set(number) && number != 2
 }
 
 /// The number of a flag: 0 or 1.

@@ -12,6 +12,8 @@ pub struct yaml_c_mark {
     pub index: u64,
     pub line: u64,
     pub column: u64,
+    /// How many characters stand in front of it, where they are counted.
+    pub character: u64,
 }
 
 /// A part of a list: `len` items from `at` on.
@@ -43,6 +45,7 @@ pub struct yaml_c_event {
     /// Of a scalar: the tag may be left out in every other style.
     pub quoted_implicit: i32,
     pub has_anchor: i32,
+    /// 2 where there is none, since the input's was `!`, which is left out of scalars.
     pub has_tag: i32,
     pub has_version: i32,
     pub major: i32,
@@ -71,7 +74,7 @@ pub struct yaml_c_settings {
     pub limit: u64,
 }
 
-const _: () = prove!(size_of::<yaml_c_mark>() == 24);
+const _: () = prove!(size_of::<yaml_c_mark>() == 32);
 
 const _: () = prove!(size_of::<yaml_c_settings>() == 32);
 
@@ -79,9 +82,9 @@ const _: () = prove!(size_of::<yaml_c_span>() == 16);
 
 const _: () = prove!(size_of::<yaml_c_directive>() == 32);
 
-const _: () = prove!(size_of::<yaml_c_event>() == 152);
+const _: () = prove!(size_of::<yaml_c_event>() == 168);
 
-/// A mark as C reads it.
+/// A mark as C reads it, in front of which no character is counted yet.
 pub fn mark_told(mark: yaml_mark_t) -> yaml_c_mark
     ensures { result ≡ mark_told mark }
 {
@@ -89,5 +92,6 @@ pub fn mark_told(mark: yaml_mark_t) -> yaml_c_mark
         index: mark.index,
         line: mark.line,
         column: mark.column,
+        character: 0,
     }
 }

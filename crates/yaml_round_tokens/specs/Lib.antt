@@ -1,4 +1,5 @@
 pub mod Listed
+pub mod Counted
 pub mod Offsets
 pub mod Rows
 -- what it speaks of, for those above

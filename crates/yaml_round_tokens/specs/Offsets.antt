@@ -12,4 +12,4 @@ pub record TokenLies : Type 0 where
   pub handle : LiesAt token.the_type 5 (λ d. d.handle) 24
   pub value : LiesAt token.the_type 6 (λ d. d.value) 40
   pub start : LiesAt token.the_type 7 (λ d. d.start) 56
-  pub end : LiesAt token.the_type 8 (λ d. d.end) 80
+  pub end : LiesAt token.the_type 8 (λ d. d.end) 88

@@ -27,7 +27,7 @@ pub struct yaml_c_token {
     pub end: yaml_c_mark,
 }
 
-const _: () = prove!(size_of::<yaml_c_token>() == 104);
+const _: () = prove!(size_of::<yaml_c_token>() == 120);
 
 const NOTHING: yaml_c_span = yaml_c_span { at: 0, len: 0 };
 

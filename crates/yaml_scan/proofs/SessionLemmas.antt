@@ -1,5 +1,5 @@
 -- What is to come of a session.
-use Rattle.std.proofs.Common.{ℕ, ◌≡◌, ◌≤◌, length, Bool, true, false, true≢false, ltb, List, ◌∷◌, Option, Some, None, refl, sym, ap, subst, ◌∙◌, inl, inr, arith}
+use Rattle.std.proofs.Common.{ℕ, ◌≡◌, ◌≤◌, length, Bool, true, false, true≢false, ltb, List, [], ◌∷◌, Option, Some, None, refl, sym, ap, subst, ◌∙◌, inl, inr, arith}
 use Rattle.std.proofs.lemmas.Bool.Decides.{nat_tests}
 use Rattle.std.specs.Prelude.{is_some}
 use Rattle.yaml_scan_model.specs.declared.fault.yaml_fault_t.{yaml_fault_t}
@@ -31,24 +31,24 @@ none_below n = grind (arith, nat_tests)
 
 -- where the next token is settled, no fault was answered
 pub ready_fault : (m : Machine) (o : Option yaml_fault_t) (s : Token) (aside : Bool)
-    → is_settled (view_by m o s aside) ≡ true → o ≡ None
+    → is_settled (view_by m o s aside []) ≡ true → o ≡ None
 ready_fault m None s aside e = refl
 ready_fault m (Some f) s aside e = absurd (true≢false (sym e ∙ none_below (open_count m.setting m.input.now (read_by m))))
 
 own_settled : (m : Machine) (o : Option yaml_fault_t) (s : Token) (aside : Bool) → IsMachine m
-    → is_some o ≡ false → aside ≡ false → is_ready m ≡ is_settled (view_by m o s aside)
+    → is_some o ≡ false → aside ≡ false → is_ready m ≡ is_settled (view_by m o s aside [])
 own_settled m None s false i e off = (machine_tells m i).is
 own_settled m None s true i e off = cc
 own_settled m (Some f) s aside i e off = cc
 
 -- where it wasn't put aside, the reader knows it
 pub ready_own : (m : Machine) (o : Option yaml_fault_t) (s : Token) (aside : Bool) → IsMachine m
-    → is_settled (view_by m o s aside) ≡ true → aside ≡ false → is_ready m ≡ true
+    → is_settled (view_by m o s aside []) ≡ true → aside ≡ false → is_ready m ≡ true
 ready_own m o s aside i e off = own_settled m o s aside i (none_some o (ready_fault m o s aside e)) off ∙ e
 
 -- none is settled behind a fault
 pub ready_over : (m : Machine) (o : Option yaml_fault_t) (s : Token) (aside : Bool)
-    → is_some o ≡ true → false ≡ is_settled (view_by m o s aside)
+    → is_some o ≡ true → false ≡ is_settled (view_by m o s aside [])
 ready_over m None s aside e = cc
 ready_over m (Some f) s aside e = sym (none_below (open_count m.setting m.input.now (read_by m)))
 
@@ -58,7 +58,7 @@ longer u t ts few = grind (arith, nat_tests)
 -- the token that was put aside is settled
 pub ready_held : (m : Machine) (o : Option yaml_fault_t) (s : Token) (aside : Bool)
     → (o ≡ None → IsMachine m) → is_some o ≡ false → aside ≡ true
-    → true ≡ is_settled (view_by m o s aside)
+    → true ≡ is_settled (view_by m o s aside [])
 ready_held m None s true i e on = longer (open_count m.setting m.input.now (read_by m)) s (left_in m).tokens (machine_tells m (i refl)).few
 ready_held m None s false i e on = cc
 ready_held m (Some f) s aside i e on = cc
@@ -66,7 +66,7 @@ ready_held m (Some f) s aside i e on = cc
 -- else the reader's is, where it knows it
 pub ready_known : (m : Machine) (o : Option yaml_fault_t) (s : Token) (aside known : Bool)
     → (o ≡ None → IsMachine m) → is_some o ≡ false → aside ≡ false → known ≡ is_ready m
-    → known ≡ is_settled (view_by m o s aside)
+    → known ≡ is_settled (view_by m o s aside [])
 ready_known m o s aside known i e off same = same ∙ own_settled m o s aside (i (no_fault o e)) e off
 
 has_first : (c d : Remaining) (t : Token) → GivesFirst c t d → HasFirst c.tokens
@@ -80,7 +80,7 @@ first_by (Some f) aside t c none h = cc
 
 -- where the next token is settled, one is to come
 pub first_comes : (m : Machine) (o : Option yaml_fault_t) (t : Token) (aside : Bool)
-    → is_settled (view_by m o t aside) ≡ true → (o ≡ None → IsMachine m)
+    → is_settled (view_by m o t aside []) ≡ true → (o ≡ None → IsMachine m)
     → HasFirst (remaining_by o aside t (left_in m)).tokens
 first_comes m o t aside ready i =
     let none = ready_fault m o t aside ready in
@@ -102,40 +102,42 @@ pub same_reads : (old new : View) → new.setting ≡ old.setting → new.bytes 
 same_reads old new setting bytes read = record { setting = setting; bytes = bytes; further = omega (arith, read); needed = λ n least most. absurd (omega (arith, read, least, most)) }
 
 -- the reader reads on, where no token was put aside
-pub own_reads : (o p : Option yaml_fault_t) (aside after : Bool) (s t : Token) (m n : Machine)
+pub own_reads : (x y : List ℕ) (o p : Option yaml_fault_t) (aside after : Bool) (s t : Token)
+    (m n : Machine)
     → is_some o ≡ false → aside ≡ false → Reads m n
-    → ReadsNeeded (view_by m o s aside) (view_by n p t after)
-own_reads None p false after s t m n e off r = record { setting = r.setting; bytes = r.bytes; further = r.further; needed = r.needed }
-own_reads None p true after s t m n e off r = cc
-own_reads (Some f) p aside after s t m n e off r = cc
+    → ReadsNeeded (view_by m o s aside x) (view_by n p t after y)
+own_reads x y None p false after s t m n e off r = record { setting = r.setting; bytes = r.bytes; further = r.further; needed = r.needed }
+own_reads x y None p true after s t m n e off r = cc
+own_reads x y (Some f) p aside after s t m n e off r = cc
 
 -- behind a fault that was answered, the empty token is taken
-pub takes_over : (o : Option yaml_fault_t) (aside : Bool) (s t : Token) (m : Machine)
-    → is_some o ≡ true → t ≡ no_token → Takes (view_by m o s aside) t (view_by m o s aside)
-takes_over None aside s t m e empty = cc
-takes_over (Some f) aside s t m e empty = record { token = empty; rest = refl; may = refl; same = refl; reads = same_reads (view_by m (Some f) s aside) (view_by m (Some f) s aside) refl refl refl; over = λ g is. refl }
+pub takes_over : (x y : List ℕ) (o : Option yaml_fault_t) (aside : Bool) (s t : Token) (m : Machine)
+    → is_some o ≡ true → t ≡ no_token → Takes (view_by m o s aside x) t (view_by m o s aside y)
+takes_over x y None aside s t m e empty = cc
+takes_over x y (Some f) aside s t m e empty = record { token = empty; rest = refl; may = refl; same = refl; reads = same_reads (view_by m (Some f) s aside x) (view_by m (Some f) s aside y) refl refl refl; over = λ g is. refl }
 
 -- the token that was put aside is taken
-pub takes_held : (o : Option yaml_fault_t) (aside : Bool) (s t : Token) (m : Machine)
-    → is_some o ≡ false → aside ≡ true → Takes (view_by m o s aside) s (view_by m o t false)
-takes_held None true s t m e on = record { token = refl; rest = refl; may = tt; same = refl; reads = same_reads (view_by m None s true) (view_by m None t false) refl refl refl; over = λ g bad. cc }
-takes_held None false s t m e on = cc
-takes_held (Some f) aside s t m e on = cc
+pub takes_held : (x y : List ℕ) (o : Option yaml_fault_t) (aside : Bool) (s t : Token) (m : Machine)
+    → is_some o ≡ false → aside ≡ true → Takes (view_by m o s aside x) s (view_by m o t false y)
+takes_held x y None true s t m e on = record { token = refl; rest = refl; may = tt; same = refl; reads = same_reads (view_by m None s true x) (view_by m None t false y) refl refl refl; over = λ g bad. cc }
+takes_held x y None false s t m e on = cc
+takes_held x y (Some f) aside s t m e on = cc
 
 -- the reader's next token is taken
-pub takes_own : (o : Option yaml_fault_t) (aside : Bool) (s t : Token) (m n : Machine)
+pub takes_own : (x y : List ℕ) (o : Option yaml_fault_t) (aside : Bool) (s t : Token)
+    (m n : Machine)
     → is_some o ≡ false → aside ≡ false → Gives m n t
-    → Takes (view_by m o s aside) t (view_by n o s aside)
-takes_own None false s t m n e off g = record {
+    → Takes (view_by m o s aside x) t (view_by n o s aside y)
+takes_own x y None false s t m n e off g = record {
   token = sym (ap (λ (ts : List Token). first_of ts) g.first.0);
   rest = taken_rest (left_in m) (left_in n) t g.first;
   may = taken_may (left_in m) (left_in n) t g.first;
   same = refl;
-  reads = own_reads None None false false s s m n refl refl g.reads;
+  reads = own_reads x y None None false false s s m n refl refl g.reads;
   over = λ f bad. cc;
 }
-takes_own None true s t m n e off g = cc
-takes_own (Some f) aside s t m n e off g = cc
+takes_own x y None true s t m n e off g = cc
+takes_own x y (Some f) aside s t m n e off g = cc
 
 none_first : (c : Remaining) (t : Token) → c ≡ nothing → t ≡ no_token → t ≡ first_of c.tokens
 none_first c t e empty = empty ∙ sym (ap (λ (x : Remaining). first_of x.tokens) e)
@@ -147,67 +149,72 @@ none_may : (c : Remaining) → c ≡ nothing → MayAnswer c.tokens c.fault
 none_may c e = subst (λ (x : Remaining). MayAnswer x.tokens x.fault) (sym e) refl
 
 -- where none is to come, the empty token is taken
-pub takes_none : (o : Option yaml_fault_t) (aside : Bool) (s t : Token) (m n : Machine)
+pub takes_none : (x y : List ℕ) (o : Option yaml_fault_t) (aside : Bool) (s t : Token)
+    (m n : Machine)
     → is_some o ≡ false → aside ≡ false → Lacks m n t
-    → Takes (view_by m o s aside) t (view_by n o s aside)
-takes_none None false s t m n e off l = record {
+    → Takes (view_by m o s aside x) t (view_by n o s aside y)
+takes_none x y None false s t m n e off l = record {
   token = none_first (left_in m) t l.finishes.left l.empty;
   rest = none_rest (left_in m) (left_in n) l.finishes.left l.finishes.none;
   may = none_may (left_in m) l.finishes.left;
   same = refl;
-  reads = own_reads None None false false s s m n refl refl l.finishes.reads;
+  reads = own_reads x y None None false false s s m n refl refl l.finishes.reads;
   over = λ g bad. cc;
 }
-takes_none None true s t m n e off l = cc
-takes_none (Some f) aside s t m n e off l = cc
+takes_none x y None true s t m n e off l = cc
+takes_none x y (Some f) aside s t m n e off l = cc
 
 -- a refusal is answered and kept
-pub refuses : (o : Option yaml_fault_t) (aside after : Bool) (s t : Token) (m n : Machine)
+pub refuses : (x y : List ℕ) (o : Option yaml_fault_t) (aside after : Bool) (s t : Token)
+    (m n : Machine)
     (f : yaml_fault_t) → is_some o ≡ false → aside ≡ false → IsMachine m → Denies m n (fault_of f)
-    → Refuses (view_by m o s aside) (fault_of f) (view_by n (Some f) t after)
-refuses None false after s t m n f e off i d = record { sought = sym (own_settled m None s false i refl refl) ∙ d.sought; more = d.more; told = d.told; reader = d.reader; plain = d.plain; once = refl; kept = refl; over = refl }
-refuses None true after s t m n f e off i d = cc
-refuses (Some g) aside after s t m n f e off i d = cc
+    → Refuses (view_by m o s aside x) (fault_of f) (view_by n (Some f) t after y)
+refuses x y None false after s t m n f e off i d = record { sought = sym (own_settled m None s false i refl refl) ∙ d.sought; more = d.more; told = d.told; reader = d.reader; plain = d.plain; once = refl; kept = refl; over = refl }
+refuses x y None true after s t m n f e off i d = cc
+refuses x y (Some g) aside after s t m n f e off i d = cc
 
 -- the token that was put aside is lent, or behind a fault that was answered the empty one
-pub lends_aside : (o : Option yaml_fault_t) (aside : Bool) (s : Token) (m : Machine) → aside ≡ true
+pub lends_aside : (x y : List ℕ) (o : Option yaml_fault_t) (aside : Bool) (s : Token)
+    (m : Machine) → aside ≡ true
     → (o ≡ None → IsMachine m) → ((f : yaml_fault_t) → o ≡ Some f → s ≡ no_token)
-    → Lends (view_by m o s aside) s (view_by m o s aside)
-lends_aside None true s m on i over = record { token = refl; all = refl; may = tt; same = refl; reads = same_reads (view_by m None s true) (view_by m None s true) refl refl refl; known = inl (sym (ready_held m None s true i refl refl)); over = λ g bad. cc }
-lends_aside None false s m on i over = cc
-lends_aside (Some f) aside s m on i over = record { token = over f refl; all = refl; may = refl; same = refl; reads = same_reads (view_by m (Some f) s aside) (view_by m (Some f) s aside) refl refl refl; known = inr refl; over = λ g is. refl }
+    → Lends (view_by m o s aside x) s (view_by m o s aside y)
+lends_aside x y None true s m on i over = record { token = refl; all = refl; may = tt; same = refl; reads = same_reads (view_by m None s true x) (view_by m None s true y) refl refl refl; known = inl (sym (ready_held m None s true i refl refl)); over = λ g bad. cc }
+lends_aside x y None false s m on i over = cc
+lends_aside x y (Some f) aside s m on i over = record { token = over f refl; all = refl; may = refl; same = refl; reads = same_reads (view_by m (Some f) s aside x) (view_by m (Some f) s aside y) refl refl refl; known = inr refl; over = λ g is. refl }
 
 -- the reader's next token is put aside and lent
-pub lends_own : (o : Option yaml_fault_t) (aside : Bool) (s t : Token) (m n : Machine)
+pub lends_own : (x y : List ℕ) (o : Option yaml_fault_t) (aside : Bool) (s t : Token)
+    (m n : Machine)
     → is_some o ≡ false → aside ≡ false → Gives m n t
-    → Lends (view_by m o s aside) t (view_by n o t true)
-lends_own None false s t m n e off g = record {
+    → Lends (view_by m o s aside x) t (view_by n o t true y)
+lends_own x y None false s t m n e off g = record {
   token = sym (ap (λ (ts : List Token). first_of ts) g.first.0);
   all = given_all (left_in m) (left_in n) t g.first;
   may = taken_may (left_in m) (left_in n) t g.first;
   same = refl;
-  reads = own_reads None None false true s t m n refl refl g.reads;
+  reads = own_reads x y None None false true s t m n refl refl g.reads;
   known = inl (sym (ready_held n None t true (λ _. g.stands) refl refl));
   over = λ f bad. cc;
 }
-lends_own None true s t m n e off g = cc
-lends_own (Some f) aside s t m n e off g = cc
+lends_own x y None true s t m n e off g = cc
+lends_own x y (Some f) aside s t m n e off g = cc
 
 -- where none is to come, the empty token is lent
-pub lends_none : (o : Option yaml_fault_t) (aside : Bool) (s t : Token) (m n : Machine)
+pub lends_none : (x y : List ℕ) (o : Option yaml_fault_t) (aside : Bool) (s t : Token)
+    (m n : Machine)
     → is_some o ≡ false → aside ≡ false → Lacks m n t
-    → Lends (view_by m o s aside) t (view_by n o t aside)
-lends_none None false s t m n e off l = record {
+    → Lends (view_by m o s aside x) t (view_by n o t aside y)
+lends_none x y None false s t m n e off l = record {
   token = none_first (left_in m) t l.finishes.left l.empty;
   all = l.finishes.none ∙ sym l.finishes.left;
   may = none_may (left_in m) l.finishes.left;
   same = refl;
-  reads = own_reads None None false false s t m n refl refl l.finishes.reads;
+  reads = own_reads x y None None false false s t m n refl refl l.finishes.reads;
   known = inr l.finishes.none;
   over = λ g bad. cc;
 }
-lends_none None true s t m n e off l = cc
-lends_none (Some f) aside s t m n e off l = cc
+lends_none x y None true s t m n e off l = cc
+lends_none x y (Some f) aside s t m n e off l = cc
 
 -- a session whose next token was put aside
 pub whole_held : (o : Option yaml_fault_t) (m : Machine) (t : yaml_token_t) → is_some o ≡ false

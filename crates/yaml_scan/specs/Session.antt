@@ -8,15 +8,17 @@ use Rattle.yaml_scan_model.specs.Faults.{Fault, fault_of, memory_fault}
 use Rattle.yaml_scan_model.specs.declared.fault.yaml_origin_t.TheVariants.{Reader}
 use Rattle.yaml_scan_model.specs.declared.name.yaml_encoding_t.{yaml_encoding_t}
 use Rattle.yaml_scan_model.specs.declared.name.yaml_encoding_t.TheVariants.{YAML_UTF8_ENCODING}
+use Rattle.yaml_scan_model.specs.Rooms.{KeepsFew}
 use Rattle.yaml_scan_decode.specs.Encodings.{encoding_of}
 use Rattle.yaml_scan_decode.specs.DecodedText.{decoding_fault}
 use Rattle.yaml_scan_history.specs.Remaining.{Remaining, nothing}
+use Rattle.yaml_scan_history.specs.Scanned.{scanned}
 use Rattle.yaml_scan_machine.specs.Left.{IsTold}
 use Rattle.yaml_scan.specs.Settled.{settles}
 
 -- An input and the encoding that is set, and how many lexemes of its text were read; the tokens that are still to come and
 -- the fault that ends them, the fault that was answered, and how many lexemes wait: they were read, and not all their
--- tokens are taken; and how many slots there are for them.
+-- tokens are taken; how many slots there are for them; and the room of each text that was let go and is kept.
 pub record View : Type 0 where
   pub setting : yaml_encoding_t
   pub bytes : List ℕ
@@ -25,6 +27,20 @@ pub record View : Type 0 where
   pub answered : Option Fault
   pub waiting : ℕ
   pub slots : ℕ
+  pub spares : List ℕ
+
+-- a session of an input that was read nowhere: all its tokens are to come, and nothing is kept
+abbrev pub begun : yaml_encoding_t → List ℕ → View
+begun encoding bytes = record {
+  setting = encoding;
+  bytes = bytes;
+  read = 0;
+  remaining = scanned encoding bytes;
+  answered = None;
+  waiting = 0;
+  slots = 0;
+  spares = [];
+}
 
 -- A token is to come, and the lexemes that were read settle which: no later text can change it.
 abbrev pub is_settled : View → Bool
@@ -75,6 +91,10 @@ EndsAnswered v = (f : Fault) → v.answered ≡ Some f → v.remaining ≡ nothi
 -- 1,024 bytes of its key, and a slot is made only where at least half of them hold what waits.
 abbrev pub FewWait : View → Type 0
 FewWait v = (v.waiting ≤ 1025) × (v.slots ≤ 2049)
+
+-- Few lexemes wait, and few spare texts are kept: at most 64, each with at most 256 bytes of room.
+abbrev pub HoldsLittle : View → Type 0
+HoldsLittle v = FewWait v × KeepsFew v.spares
 
 -- the next token is settled, or there is none
 abbrev pub IsKnown : View → Type 0

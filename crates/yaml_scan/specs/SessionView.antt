@@ -1,8 +1,10 @@
 -- What a clause sees of a session.
-use Rattle.std.specs.Prelude.{◌≡◌, length, Bool, true, false, ◌∷◌, Option, Some, None, option_map}
+use Rattle.std.specs.Prelude.{ℕ, ◌≡◌, List, length, Bool, true, false, ◌∷◌, Option, Some, None, option_map}
 use Rattle.yaml_scan_model.specs.declared.fault.yaml_fault_t.{yaml_fault_t}
 use Rattle.yaml_scan_model.specs.declared.token.yaml_token_t.{yaml_token_t}
 use Rattle.yaml_scan_machine.specs.declared.machine.Machine.{Machine}
+use Rattle.yaml_scan_model.specs.declared.keeping.Spares.{Spares}
+use Rattle.yaml_scan_model.specs.Rooms.{rooms_of}
 use Rattle.yaml_scan_model.specs.Tokens.{Token, token_of, no_token}
 use Rattle.yaml_scan_model.specs.Faults.{fault_of}
 use Rattle.yaml_scan_history.specs.Remaining.{Remaining, nothing}
@@ -22,9 +24,10 @@ abbrev pub remaining_by : Option yaml_fault_t → Bool → Token → Remaining �
 remaining_by (Some f) aside t c = nothing
 remaining_by None aside t c = with_shown aside t c
 
--- a session's view, by its reader, the fault that was answered, the token that was put aside, and whether one was
-abbrev pub view_by : Machine → Option yaml_fault_t → Token → Bool → View
-view_by m fault t aside = record {
+-- a session's view, by its reader, the fault that was answered, the token that was put aside, whether one was, and the room of
+-- each spare text
+abbrev pub view_by : Machine → Option yaml_fault_t → Token → Bool → List ℕ → View
+view_by m fault t aside rooms = record {
   setting = m.setting;
   bytes = m.input.now;
   read = read_by m;
@@ -32,10 +35,11 @@ view_by m fault t aside = record {
   answered = option_map (λ f. fault_of f) fault;
   waiting = length m.waiting.items;
   slots = m.waiting.slots;
+  spares = rooms;
 }
 
-abbrev pub view_of : Machine → Option yaml_fault_t → yaml_token_t → Bool → View
-view_of m fault shown aside = view_by m fault (token_of shown) aside
+abbrev pub view_of : Machine → Option yaml_fault_t → yaml_token_t → Bool → Spares → View
+view_of m fault shown aside spares = view_by m fault (token_of shown) aside (rooms_of spares)
 
 pub record IsWhole (m : Machine) (fault : Option yaml_fault_t) (shown : yaml_token_t)
     (aside : Bool) : Type 0 where
@@ -46,7 +50,7 @@ pub record IsWhole (m : Machine) (fault : Option yaml_fault_t) (shown : yaml_tok
   pub short : IsShort m.waiting
 
 abbrev pub session_view : Inside → View
-session_view s = view_of s.machine s.fault s.shown s.aside
+session_view s = view_of s.machine s.fault s.shown s.aside s.spares
 
 abbrev pub IsSession : Inside → Type 0
 IsSession s = IsWhole s.machine s.fault s.shown s.aside

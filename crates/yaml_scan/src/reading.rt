@@ -10,7 +10,7 @@ ghost use Rattle.yaml_scan.specs.Found.{Comes, ReadsOn};
 
 use std::mem;
 use yaml_scan_machine::{Machine, Spot};
-use yaml_scan_model::{moved, yaml_fault_t, yaml_token_body_t, yaml_token_t};
+use yaml_scan_model::{Spares, moved, yaml_fault_t, yaml_token_body_t, yaml_token_t};
 
 /// What reading on came to: the next token is known, or there is none, or a fault stands in the slot that was lent.
 #[derive(Clone, Copy)]
@@ -25,7 +25,7 @@ pub(crate) enum Sought {
 #[inline(always)]
 pub(crate) fn next_into(
     machine: &mut Machine,
-    spares: &mut Vec<Vec<u8>>,
+    spares: &mut Spares,
     token: &mut yaml_token_t,
     fault: &mut yaml_fault_t,
 ) -> Sought
@@ -47,20 +47,14 @@ pub(crate) fn next_into(
     }
 }
 
-/// How many texts are kept.
-const TEXTS_KEPT: usize = 64;
-
-/// With how much room each at most.
-const ROOM_KEPT: usize = 256;
-
 /// Lets go of the texts that a slot holds, and keeps the room of one. An empty text without room may be left.
 // Inlined: mostly a look at the kind.
 #[inline(always)]
-pub(crate) fn take_back(slot: &mut yaml_token_body_t, spares: &mut Vec<Vec<u8>>)
+pub(crate) fn take_back(slot: &mut yaml_token_body_t, spares: &mut Spares)
     ensures { is_bare (body_of slot.new) ≡ true }
 {
     match slot {
-        yaml_token_body_t::Scalar { value, .. } => keep_room(moved(value), spares),
+        yaml_token_body_t::Scalar { value, .. } => spares.keep(moved(value)),
         _ => {
             if has_text(slot) {
                 let_go(slot, spares);
@@ -88,15 +82,15 @@ fn has_text(slot: &yaml_token_body_t) -> bool
 /// Lets go of what a slot holds, and keeps the room of a name, and that of both texts of a tag.
 // Inlined: out of line each name paid for registers that a tag alone needs.
 #[inline(always)]
-fn let_go(slot: &mut yaml_token_body_t, spares: &mut Vec<Vec<u8>>)
+fn let_go(slot: &mut yaml_token_body_t, spares: &mut Spares)
     ensures { is_bare (body_of slot.new) ≡ true }
 {
     match slot {
-        yaml_token_body_t::Alias { value } => keep_room(moved(value), spares),
-        yaml_token_body_t::Anchor { value } => keep_room(moved(value), spares),
+        yaml_token_body_t::Alias { value } => spares.keep(moved(value)),
+        yaml_token_body_t::Anchor { value } => spares.keep(moved(value)),
         yaml_token_body_t::Tag { handle, suffix } => {
-            keep_room(moved(handle), spares);
-            keep_room(moved(suffix), spares);
+            spares.keep(moved(handle));
+            spares.keep(moved(suffix));
         }
         _ => clear(slot),
     }
@@ -109,42 +103,6 @@ fn clear(slot: &mut yaml_token_body_t)
     ensures { is_bare (body_of slot.new) ≡ true }
 {
     *slot = yaml_token_body_t::No;
-}
-
-/// Keeps the room of a text, where it has some and not too much, and not enough are kept.
-// The text is taken first: one whose capacity is asked where it lies would be moved by way of the stack.
-// Inlined: some moves.
-#[inline(always)]
-fn keep_room(text: Vec<u8>, spares: &mut Vec<Vec<u8>>) {
-    if text.capacity() == 0 {
-        return;
-    }
-    if ROOM_KEPT < text.capacity() {
-        drop_text(text);
-        return;
-    }
-    if spares.len() < spares.capacity() {
-        spares.push_reserved(text);
-        return;
-    }
-    make_place(text, spares);
-}
-
-/// Lets go of a text.
-// Out of line: mostly a text is kept.
-#[inline(never)]
-fn drop_text(text: Vec<u8>) {
-    drop(text);
-}
-
-/// Makes the places of the texts that are kept, once, and lets go of a text. Where they are refused none is kept.
-// Out of line: they are made once.
-#[inline(never)]
-fn make_place(text: Vec<u8>, spares: &mut Vec<Vec<u8>>) {
-    if spares.capacity() == 0 {
-        drop(spares.reserve(TEXTS_KEPT));
-    }
-    drop(text);
 }
 
 /// Puts a token into a slot.
@@ -180,7 +138,7 @@ pub(crate) fn put_shown(slot: &mut yaml_token_t, shown: &mut yaml_token_t)
 /// Reads on until the next token is known, or there is none. What is to come stays.
 // Inlined: mostly the next token is known.
 #[inline(always)]
-fn read_on(machine: &mut Machine, spares: &mut Vec<Vec<u8>>, fault: &mut yaml_fault_t) -> Sought
+fn read_on(machine: &mut Machine, spares: &mut Spares, fault: &mut yaml_fault_t) -> Sought
     requires { IsMachine machine.old }
     ensures { ReadsOn machine.old machine.new (fault_of fault.new) result }
 {
@@ -196,7 +154,7 @@ fn read_on(machine: &mut Machine, spares: &mut Vec<Vec<u8>>, fault: &mut yaml_fa
 /// Decodes the input, and reads on in its text.
 // Out of line: it is called once, and in line the room of its fault would be set to zero for each token.
 #[inline(never)]
-fn begin(machine: &mut Machine, spares: &mut Vec<Vec<u8>>, fault: &mut yaml_fault_t) -> Sought
+fn begin(machine: &mut Machine, spares: &mut Spares, fault: &mut yaml_fault_t) -> Sought
     requires stands { IsMachine machine.old }
     requires fresh { machine.old.started ≡ false }
     requires sought { is_ready machine.old ≡ false }
@@ -214,7 +172,7 @@ fn begin(machine: &mut Machine, spares: &mut Vec<Vec<u8>>, fault: &mut yaml_faul
 /// Reads on in the decoded text until the next token is known, or there is none. It isn't known yet.
 // Inlined: a look whether a lexeme was read. Asked here, it isn't asked for each lexeme.
 #[inline(always)]
-fn fill(machine: &mut Machine, spares: &mut Vec<Vec<u8>>, fault: &mut yaml_fault_t) -> Sought
+fn fill(machine: &mut Machine, spares: &mut Spares, fault: &mut yaml_fault_t) -> Sought
     requires stands { IsMachine machine.old }
     requires started { machine.old.started ≡ true }
     requires sought { is_ready machine.old ≡ false }
@@ -230,7 +188,7 @@ fn fill(machine: &mut Machine, spares: &mut Vec<Vec<u8>>, fault: &mut yaml_fault
 // Out of line: it is called once. Cold: so a lexeme that isn't the first is asked for first.
 #[cold]
 #[inline(never)]
-fn fill_first(machine: &mut Machine, spares: &mut Vec<Vec<u8>>, fault: &mut yaml_fault_t) -> Sought
+fn fill_first(machine: &mut Machine, spares: &mut Spares, fault: &mut yaml_fault_t) -> Sought
     requires stands { IsMachine machine.old }
     requires started { machine.old.started ≡ true }
     requires sought { is_ready machine.old ≡ false }
@@ -252,11 +210,7 @@ fn fill_first(machine: &mut Machine, spares: &mut Vec<Vec<u8>>, fault: &mut yaml
 /// Reads on behind the lexemes that were read until the next token is known, or there is none. It isn't known yet.
 // Out of line: mostly the next token is known.
 #[inline(never)]
-fn fill_further(
-    machine: &mut Machine,
-    spares: &mut Vec<Vec<u8>>,
-    fault: &mut yaml_fault_t,
-) -> Sought
+fn fill_further(machine: &mut Machine, spares: &mut Spares, fault: &mut yaml_fault_t) -> Sought
     requires stands { IsMachine machine.old }
     requires started { machine.old.started ≡ true }
     requires sought { is_ready machine.old ≡ false }
@@ -284,7 +238,7 @@ fn fill_further(
 fn step(
     machine: &mut Machine,
     spot: &mut Spot,
-    spares: &mut Vec<Vec<u8>>,
+    spares: &mut Spares,
     fault: &mut yaml_fault_t,
 ) -> bool
     requires may { MayRead machine.old }

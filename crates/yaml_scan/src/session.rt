@@ -6,20 +6,21 @@ ghost use mir.Syntax.{named};
 ghost use mathlib.Core.Option.{none};
 ghost use Rattle.yaml_scan_model.specs.Tokens.{token_of};
 ghost use Rattle.yaml_scan_model.specs.Faults.{fault_of};
+ghost use Rattle.yaml_scan_model.specs.Rooms.{KeepsFew, rooms_of};
 ghost use Rattle.yaml_scan.specs.contracts.session.yaml_parser_t.{the_row};
-ghost use Rattle.yaml_scan.specs.Session.{HasFirst, ReadsNeeded, Scans, ScansInto, Looks, Shows, Peeks, FewWait, behind_first, is_settled};
+ghost use Rattle.yaml_scan.specs.Session.{HasFirst, ReadsNeeded, Scans, ScansInto, Looks, Shows, Peeks, HoldsLittle, begun, behind_first, is_settled};
 ghost use Rattle.yaml_scan.specs.SessionView.{IsWhole, view_of};
-ghost use Rattle.yaml_scan_history.specs.Scanned.{scanned};
 
 use crate::reading::{Sought, next_into, put, put_empty, put_shown, take_back};
 use std::alloc::Global;
 use std::marker::Model;
 use yaml_scan_machine::Machine;
 use yaml_scan_model::{
-    yaml_encoding_t, yaml_fault_t, yaml_memory_fault, yaml_origin_t, yaml_token_t,
+    Spares, yaml_encoding_t, yaml_fault_t, yaml_memory_fault, yaml_origin_t, yaml_token_t,
 };
 
-/// The tokens of an input that are still to come, and the fault that ends them. At most 1,025 lexemes that were read wait.
+/// The tokens of an input that are still to come, and the fault that ends them. At most 1,025 lexemes that were read wait, and
+/// at most 64 spare texts are kept.
 #[derive(Drop)]
 pub struct yaml_parser_t<'a> {
     /// What reads the input.
@@ -31,7 +32,7 @@ pub struct yaml_parser_t<'a> {
     /// The next token isn't the reader's: a peek put it aside, or a fault was answered.
     aside: bool,
     /// Texts that were let go, whose room the next ones take.
-    spares: Vec<Vec<u8>>,
+    spares: Spares,
 }
 
 impl<'a> Model for yaml_parser_t<'a> {
@@ -50,22 +51,14 @@ impl<'a> yaml_parser_t<'a> {
     /// A session over an input, in that encoding; with `YAML_ANY_ENCODING` in the one that a byte order mark tells, or
     /// UTF-8 (YAML 1.1, 5.2).
     pub fn new(alloc: Global, input: &'a [u8], encoding: yaml_encoding_t) -> yaml_parser_t<'a>
-        ensures { result ≡ record {
-          setting = encoding;
-          bytes = input.now;
-          read = 0;
-          remaining = scanned encoding input.now;
-          answered = None;
-          waiting = 0;
-          slots = 0;
-        } }
+        ensures { result ≡ begun encoding input.now }
     {
         yaml_parser_t {
             machine: Machine::new(alloc, input, encoding),
             fault: None,
             shown: yaml_token_t::empty(),
             aside: false,
-            spares: Vec::new(alloc),
+            spares: Spares::new(alloc),
         }
     }
 }
@@ -77,7 +70,7 @@ impl<'a> yaml_parser_t<'a> {
 /// once; behind it, and behind the last token, comes the empty token.
 pub fn yaml_parser_scan(parser: &mut yaml_parser_t) -> Result<yaml_token_t, yaml_fault_t>
     ensures scans { Scans parser.old parser.new result }
-    ensures few { FewWait parser.new }
+    ensures few { HoldsLittle parser.new }
 {
     let mut token = yaml_token_t::empty();
     let mut fault = yaml_memory_fault(yaml_origin_t::Scanner);
@@ -99,7 +92,7 @@ pub fn yaml_parser_scan_into(
 ) -> bool
     ensures scans { ScansInto parser.old parser.new result (token_of token.new)
         (fault_of fault.new) }
-    ensures few { FewWait parser.new }
+    ensures few { HoldsLittle parser.new }
 {
     if parser.aside {
         if parser.fault.is_some() {
@@ -128,7 +121,7 @@ pub fn yaml_parser_peek<'p>(parser: &'p mut yaml_parser_t) -> Result<&'p yaml_to
     // What the session becomes, once the token is given back.
     ensures* lends { sem 𝓛 (follows_so (the_row (record { mir = named 1; lft = [] }))
         (the_row (record { mir = named 1; lft = [] })) parser.entry.ghost_name none (λ _ _. ⊤)
-        (λ new. Peeks parser.old new result × FewWait new)) }
+        (λ new. Peeks parser.old new result × HoldsLittle new)) }
 {
     put_aside(
         &mut parser.machine,
@@ -146,12 +139,13 @@ fn put_aside(
     kept: &mut Option<yaml_fault_t>,
     shown: &mut yaml_token_t,
     aside: &mut bool,
-    spares: &mut Vec<Vec<u8>>,
+    spares: &mut Spares,
 ) -> Result<(), yaml_fault_t>
     requires { IsWhole machine.old kept.old shown.old aside.old }
     ensures stands { IsWhole machine.new kept.new shown.new aside.new }
-    ensures looks { Looks (view_of machine.old kept.old shown.old aside.old)
-        (view_of machine.new kept.new shown.new aside.new) (token_of shown.new) result }
+    ensures looks { Looks (view_of machine.old kept.old shown.old aside.old spares.old)
+        (view_of machine.new kept.new shown.new aside.new spares.new) (token_of shown.new) result }
+    ensures few { KeepsFew (rooms_of spares.new) }
 {
     if *aside {
         return Ok(());
@@ -192,7 +186,7 @@ pub fn yaml_parser_skip(parser: &mut yaml_parser_t)
     ensures rest { parser.new.remaining ≡ behind_first parser.old.remaining }
     ensures same { parser.new.answered ≡ parser.old.answered }
     ensures reads { ReadsNeeded parser.old parser.new }
-    ensures few { FewWait parser.new }
+    ensures few { HoldsLittle parser.new }
 {
     if parser.aside {
         parser.aside = false;

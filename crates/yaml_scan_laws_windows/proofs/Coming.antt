@@ -18,7 +18,7 @@ use Rattle.yaml_scan_laws_windows.proofs.Bytes.{column_alike, line_alike}
 use Rattle.yaml_scan_laws_windows.proofs.Gaps.{GapsAlike, gap_alike}
 use Rattle.yaml_scan_laws_windows.proofs.Moving.{moved_by}
 use Rattle.yaml_scan_laws_windows.proofs.Words.{kind_alike, moved_word}
-use Rattle.yaml_scan_laws_windows.proofs.Histories.{Bases, moved_lexemes, moved_found, depth_on, reached_on, length_on, candidate_on, near_moved, fresh_moved, has_moved, levels_on, allowed_on}
+use Rattle.yaml_scan_laws_windows.proofs.Histories.{Bases, moved_lexemes, moved_found, depth_on, length_on, candidate_on, near_moved, fresh_moved, has_moved, levels_on, allowed_on}
 
 -- ---- parts of the definitions, moved
 
@@ -86,8 +86,21 @@ pub mark_alike : (t u : List ℕ) (d m n p : ℕ) → Alike t u d m → line_at 
     → mark_at u (d + p) ≡ moved_mark d n (mark_at t p)
 mark_alike t u d m n p a line l = rw (line_alike t u d m p a l, column_alike t u d m p a l, line) refl
 
--- both histories, each over its text
+-- both histories, each over its text, in front of alike lexemes
 pub record Pair (t u : List ℕ) (d m n k : ℕ) (H G : List Lexeme) : Type 0 where
+  pub alike : Alike t u d m
+  pub line : line_at u d ≡ n
+  pub same_depth : depth G ≡ depth H
+  pub same_levels : levels G ≡ levels H
+  pub candidates : (e : ℕ) → candidate e G ≡ moved_found d n k (candidate e H)
+  pub count : length G ≡ k + length H
+  pub place : (gap_behind u G).place ≡ d + (gap_behind t H).place
+  pub inside : (gap_behind t H).place ≤ m
+  pub allowed : allowed_behind G (gap_behind u G) ≡ allowed_behind H (gap_behind t H)
+  pub held : open_at 0 G ≡ moved_found d n k (open_at 0 H)
+
+-- both histories, each over its text, behind alike lexemes
+pub record Abreast (t u : List ℕ) (d m n k : ℕ) (H G : List Lexeme) : Type 0 where
   pub alike : Alike t u d m
   pub line : line_at u d ≡ n
   pub same_depth : depth G ≡ depth H
@@ -98,46 +111,57 @@ pub record Pair (t u : List ℕ) (d m n k : ℕ) (H G : List Lexeme) : Type 0 wh
   pub count : length G ≡ k + length H
   pub within : (reached H).index ≤ m
 
-pub pair_on : (t u : List ℕ) (d m n k : ℕ) (h b c : List Lexeme) → Alike t u d m
-    → line_at u d ≡ n → Bases d n k b c → (reached (h ++ b)).index ≤ m
-    → Pair t u d m n k (h ++ b) (moved_lexemes d n h ++ c)
-pair_on t u d m n k h b c a line s within = record {
-  alike = a;
-  line = line;
-  same_depth = depth_on d n k h b c s;
-  same_place = reached_on d n k h b c s;
-  same_allowed = allowed_on d n k h b c s;
-  same_levels = levels_on d n k h b c s;
-  candidates = λ e. candidate_on d n k e h b c s;
-  count = length_on d n k h b c s;
-  within = within;
-}
-
-pub gap_there : (t u : List ℕ) (d m n k : ℕ) (H G : List Lexeme) → Pair t u d m n k H G
+gap_there : (t u : List ℕ) (d m n k : ℕ) (H G : List Lexeme) → Abreast t u d m n k H G
     → GapsAlike d m (gap_behind t H) (gap_behind u G)
 gap_there t u d m n k H G x = rw (x.same_depth, x.same_allowed, x.same_place) (gap_alike t u d m (in_flow H) (key_allowed H) (reached H).index x.alike x.within)
+
+pub abreast : (t u : List ℕ) (d m n k : ℕ) (H G : List Lexeme) → Abreast t u d m n k H G
+    → Pair t u d m n k H G
+abreast t u d m n k H G x =
+    let gap = gap_there t u d m n k H G x in
+    record {
+      alike = x.alike;
+      line = x.line;
+      same_depth = x.same_depth;
+      same_levels = x.same_levels;
+      candidates = x.candidates;
+      count = x.count;
+      place = ap (λ (g : Gap). g.place) gap.same;
+      inside = gap.inside;
+      allowed = ap (λ (g : Gap). allowed_behind G g) gap.same
+          ∙ ap (λ (e : Bool). e || ((gap_behind t H).broke && not (in_flow G))) x.same_allowed
+          ∙ ap (λ (e : ℕ). key_allowed H || ((gap_behind t H).broke && not (nat_lt 0 e))) x.same_depth;
+      held = ap (λ o. fresh o (reached G)) (x.candidates 0) ∙ ap (λ (m : yaml_mark_t). fresh (moved_found d n k (candidate 0 H)) m) x.same_place ∙ fresh_moved d n k (candidate 0 H) (reached H);
+    }
+
+-- So are lexemes on bases that are.
+pub pair_on : (t u : List ℕ) (d m n k : ℕ) (h b c : List Lexeme) → Bases d n k b c
+    → Pair t u d m n k b c → (reached (h ++ b)).index ≤ m
+    → Pair t u d m n k (h ++ b) (moved_lexemes d n h ++ c)
+pair_on t u d m n k [] b c s p within = p
+pair_on t u d m n k (l ∷ h) b c s p within = abreast t u d m n k (l ∷ h ++ b) (moved_lexemes d n (l ∷ h) ++ c) record {
+  alike = p.alike;
+  line = p.line;
+  same_depth = depth_on d n k (l ∷ h) b c s;
+  same_place = refl;
+  same_allowed = allowed_on d n k l h b c s;
+  same_levels = levels_on d n k (l ∷ h) b c s;
+  candidates = λ e. candidate_on d n k e (l ∷ h) b c s;
+  count = length_on d n k (l ∷ h) b c s;
+  within = within;
+}
 
 pub place_there : (t u : List ℕ) (d m n k : ℕ) (H G : List Lexeme) → Pair t u d m n k H G
     → place_behind u G ≡ moved_mark d n (place_behind t H)
 place_there t u d m n k H G x =
-    let gap = gap_there t u d m n k H G x in
-    ap (λ (g : Gap). mark_at u g.place) gap.same ∙ mark_alike t u d m n (gap_behind t H).place x.alike x.line gap.inside
+    ap (mark_at u) x.place ∙ mark_alike t u d m n (gap_behind t H).place x.alike x.line x.inside
 
 pub kind_there : (t u : List ℕ) (d m n k : ℕ) (H G : List Lexeme) → Pair t u d m n k H G
     → (gap_behind t H).place < m → kind_behind u G ≡ kind_behind t H
 kind_there t u d m n k H G x l =
-    let gap = gap_there t u d m n k H G x in
-    ap (λ (g : Gap). kind_at (in_flow G) u g.place) gap.same
+    ap (kind_at (in_flow G) u) x.place
     ∙ ap (λ (e : ℕ). kind_at (nat_lt 0 e) u (d + (gap_behind t H).place)) x.same_depth
     ∙ kind_alike t u d m (gap_behind t H).place (in_flow H) x.alike l
-
-pub allowed_there : (t u : List ℕ) (d m n k : ℕ) (H G : List Lexeme) → Pair t u d m n k H G
-    → allowed_behind G (gap_behind u G) ≡ allowed_behind H (gap_behind t H)
-allowed_there t u d m n k H G x =
-    let gap = gap_there t u d m n k H G x in
-    ap (λ (g : Gap). allowed_behind G g) gap.same
-    ∙ ap (λ (e : Bool). e || ((gap_behind t H).broke && not (in_flow G))) x.same_allowed
-    ∙ ap (λ (e : ℕ). key_allowed H || ((gap_behind t H).broke && not (nat_lt 0 e))) x.same_depth
 
 begun_moved : (d n : ℕ) (k : Kind) (m : yaml_mark_t) (a : Bool) (H G : List Lexeme)
     → depth G ≡ depth H → levels G ≡ levels H
@@ -150,7 +174,7 @@ pub begun_there : (t u : List ℕ) (d m n k : ℕ) (H G : List Lexeme) → Pair 
 begun_there t u d m n k H G p x =
     let start = ap (placed x) (place_there t u d m n k H G p) ∙ placed_moved d n x (place_behind t H) in
     ap (λ (a : yaml_mark_t). begun x a (allowed_behind G (gap_behind u G)) G) start
-    ∙ ap (λ (a : Bool). begun x (moved_mark d n (placed x (place_behind t H))) a G) (allowed_there t u d m n k H G p)
+    ∙ ap (λ (a : Bool). begun x (moved_mark d n (placed x (place_behind t H))) a G) p.allowed
     ∙ begun_moved d n x (placed x (place_behind t H)) (allowed_behind H (gap_behind t H)) H G p.same_depth p.same_levels
 
 -- ---- the word there
@@ -200,8 +224,7 @@ pub stale_there : (t u : List ℕ) (d m n k : ℕ) (H G : List Lexeme) → Pair 
     → stale_before u G ≡ moved_fault d n (stale_before t H)
 stale_there t u d m n k H G p =
     let place = place_there t u d m n k H G p in
-    let held = ap (λ o. fresh o (reached G)) (p.candidates 0) ∙ ap (λ (m : yaml_mark_t). fresh (moved_found d n k (candidate 0 H)) m) p.same_place ∙ fresh_moved d n k (candidate 0 H) (reached H) in
-    ap (λ o. colon_missing_of (missed o (place_behind u G)) (place_behind u G)) held
+    ap (λ o. colon_missing_of (missed o (place_behind u G)) (place_behind u G)) p.held
     ∙ ap (λ (m : yaml_mark_t). colon_missing_of (missed (moved_found d n k (open_at 0 H)) m) m) place
     ∙ ap (λ o. colon_missing_of o (moved_mark d n (place_behind t H))) (missed_moved d n k (open_at 0 H) (place_behind t H))
     ∙ colon_moved d n (missed (open_at 0 H) (place_behind t H)) (place_behind t H)
@@ -217,13 +240,12 @@ misplaced_moved d n k x m a H G e f =
     ap (λ (z : ℕ). (not (nat_lt 0 z) && not a) && (is_start x && not (is_value x && has (fresh (candidate (depth G) G) (moved_mark d n m))))) e
     ∙ ap (λ (z : Bool). (not (in_flow H) && not a) && (is_start x && not (is_value x && z))) found
 
-misplaced_there : (t u : List ℕ) (d m n k : ℕ) (H G : List Lexeme) → Pair t u d m n k H G
+pub misplaced_there : (t u : List ℕ) (d m n k : ℕ) (H G : List Lexeme) → Pair t u d m n k H G
     → (x : Kind) → indicator_misplaced x u G ≡ moved_fault d n (indicator_misplaced x t H)
 misplaced_there t u d m n k H G p x =
     let place = place_there t u d m n k H G p in
-    let allowed = allowed_there t u d m n k H G p in
     let test = ap (λ (m : yaml_mark_t). misplaced x m (allowed_behind G (gap_behind u G)) G) place
-    ∙ ap (λ (a : Bool). misplaced x (moved_mark d n (place_behind t H)) a G) allowed
+    ∙ ap (λ (a : Bool). misplaced x (moved_mark d n (place_behind t H)) a G) p.allowed
     ∙ misplaced_moved d n k x (place_behind t H) (allowed_behind H (gap_behind t H)) H G p.same_depth p.candidates in
     told (misplaced x (place_behind t H) (allowed_behind H (gap_behind t H)) H) (misplaced x (place_behind u G) (allowed_behind G (gap_behind u G)) G) (place_behind t H) (place_behind u G) test place
   where
@@ -232,7 +254,7 @@ misplaced_there t u d m n k H G p x =
     told true b y z e f = rw (e, f) refl
     told false b y z e f = rw e refl
 
-lost_there : (t u : List ℕ) (d m n k : ℕ) (H G : List Lexeme) → Pair t u d m n k H G
+pub lost_there : (t u : List ℕ) (d m n k : ℕ) (H G : List Lexeme) → Pair t u d m n k H G
     → (x : Kind) → candidate_lost x u G ≡ moved_fault d n (candidate_lost x t H)
 lost_there t u d m n k H G p x =
     let place = place_there t u d m n k H G p in

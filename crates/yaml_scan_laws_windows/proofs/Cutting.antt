@@ -3,22 +3,21 @@ use Rattle.std.proofs.Common.{◌≡◌, ℕ, zero, suc, ◌+◌, ◌-◌, ◌<�
 use Rattle.std.proofs.lemmas.Bool.{cases_Bool, cases_lt, eqb-true, true≢false}
 use Rattle.std.proofs.lemmas.Bool.Decides.{nat_tests}
 use Rattle.std.proofs.lemmas.List.{get_or_append_left, get_or-append-add, get_or_past, get_or_push, length-append, length_push}
-use Rattle.yaml_scan_history.specs.scan_model.Marks.{byte, ends_of, ends_break, line_at, column_at, is_blank, is_blank_or_end}
+use Rattle.yaml_scan_history.specs.scan_model.Marks.{byte, ends_of, ends_break, line_at, column_at, is_blank_or_end}
 use Rattle.yaml_scan_history.specs.scan_model.Classes.{is_bom}
 use Rattle.yaml_scan_history.specs.scan_model.Breaks.{is_document_indicator}
-use Rattle.yaml_scan_history.specs.scan_scalars.Plain.{leads}
 use Rattle.yaml_scan_history.proofs.MarksLemmas.{within, column_end, start_column}
 use Rattle.yaml_scan_laws_windows.specs.Alike.{Alike, is_onward}
 use Rattle.yaml_scan_laws_windows.specs.Cuts.{EndsLine, IsCut}
 use Rattle.yaml_scan_laws_windows.proofs.Bytes.{and_alike, indicator_alike, onward_some, off_break}
 
-byte_left : (a b : List ℕ) (p : ℕ) → p < length a → byte (a ++ b) p ≡ byte a p
+pub byte_left : (a b : List ℕ) (p : ℕ) → p < length a → byte (a ++ b) p ≡ byte a p
 byte_left a b p l = get_or_append_left a b 0 p l
 
-byte_right : (a b : List ℕ) (p : ℕ) → byte (a ++ b) (length a + p) ≡ byte b p
+pub byte_right : (a b : List ℕ) (p : ℕ) → byte (a ++ b) (length a + p) ≡ byte b p
 byte_right a b p = get_or-append-add a b p 0
 
-byte_past : (a : List ℕ) (p : ℕ) → length a ≤ p → byte a p ≡ 0
+pub byte_past : (a : List ℕ) (p : ℕ) → length a ≤ p → byte a p ≡ 0
 byte_past a p l = get_or_past a p 0 l
 
 -- ---- the first byte of the rest
@@ -38,13 +37,14 @@ first_mark b h = mark_cases (column_at b 0 == 0) (is_blank_or_end b 3) (byte b 0
 
 -- ---- the last byte of the front
 
-last_is : (a xs : List ℕ) (p c : ℕ) → a ≡ xs ++ c ∷ [] → p + 1 ≡ length a → byte a p ≡ c
+pub last_is : (a xs : List ℕ) (p c : ℕ) → a ≡ xs ++ c ∷ [] → p + 1 ≡ length a → byte a p ≡ c
 last_is a xs p c is e =
     let long : length a ≡ length xs + 1 = ap length is ∙ length_push xs c in
     let here : length xs ≡ p = omega (arith, long, e) in
     ap (λ z. byte z p) is ∙ get_or_push xs c 0 p here
 
-last_byte : (a : List ℕ) (p : ℕ) → EndsLine a → p + 1 ≡ length a → (byte a p ≡ 10) ⊎ (byte a p ≡ 13)
+pub last_byte : (a : List ℕ) (p : ℕ) → EndsLine a → p + 1 ≡ length a
+    → (byte a p ≡ 10) ⊎ (byte a p ≡ 13)
 last_byte a p (inl none) e = let zero : length a ≡ 0 = ap length none in absurd (omega (arith, e, zero))
 last_byte a p (inr (inl (xs, is))) e = inl (last_is a xs p 10 is e)
 last_byte a p (inr (inr (xs, is))) e = inr (last_is a xs p 13 is e)
@@ -57,7 +57,7 @@ feed_same : (x y b c e : ℕ) → (c == 10) ≡ (e == 10) → ends_of x y b c �
 unfolding ends_of
 feed_same x y b c e h = rw h refl
 
-line_ended : (x y b c : ℕ) → (b ≡ 10) ⊎ (b ≡ 13) → (c == 10) ≡ false → ends_of x y b c ≡ true
+pub line_ended : (x y b c : ℕ) → (b ≡ 10) ⊎ (b ≡ 13) → (c == 10) ≡ false → ends_of x y b c ≡ true
 unfolding ends_of
 line_ended x y b c (inl z) h = rw z refl
 line_ended x y b c (inr z) h = rw (z, h) refl
@@ -119,26 +119,32 @@ rest_ends a b cut (suc (suc p)) =
     let g : length a + n - 2 ≡ length a + (n - 2) = omega arith in
     rw (e, f, g, byte_right a b n, byte_right a b (n + 1), byte_right a b (n - 1), byte_right a b (n - 2)) refl
 
--- the rest's columns and lines, at every place
-pub rest_columns : (a b : List ℕ) → IsCut a b → (p : ℕ)
+-- the columns and lines of what stands behind, at every place, where its breaks end alike
+pub columns_by : (a b : List ℕ) → column_at (a ++ b) (length a) ≡ 0
+    → ((p : ℕ) → ends_break (a ++ b) (length a + p) ≡ ends_break b p) → (p : ℕ)
     → column_at (a ++ b) (length a + p) ≡ column_at b p
 unfolding column_at
-rest_columns a b cut zero = let e : length a + 0 ≡ length a = omega arith in rw e (cut_column a b cut)
-rest_columns a b cut (suc p) =
+columns_by a b first ends zero = let e : length a + 0 ≡ length a = omega arith in rw e first
+columns_by a b first ends (suc p) =
     let e : length a + suc p ≡ suc (length a + p) = omega arith in
-    rw (e, rest_ends a b cut p, byte_right a b p, rest_columns a b cut p) refl
+    rw (e, ends p, byte_right a b p, columns_by a b first ends p) refl
+
+pub lines_by : (a b : List ℕ) → ((p : ℕ) → ends_break (a ++ b) (length a + p) ≡ ends_break b p)
+    → (p : ℕ) → line_at (a ++ b) (length a + p) ≡ line_at (a ++ b) (length a) + line_at b p
+unfolding line_at
+lines_by a b ends zero = let e : length a + 0 ≡ length a = omega arith in rw e (omega arith)
+lines_by a b ends (suc p) =
+    let e : length a + suc p ≡ suc (length a + p) = omega arith in
+    rw (e, ends p, lines_by a b ends p) (omega arith)
+
+-- the rest's columns and lines
+pub rest_columns : (a b : List ℕ) → IsCut a b → (p : ℕ)
+    → column_at (a ++ b) (length a + p) ≡ column_at b p
+rest_columns a b cut p = columns_by a b (cut_column a b cut) (rest_ends a b cut) p
 
 pub rest_lines : (a b : List ℕ) → IsCut a b → (p : ℕ)
     → line_at (a ++ b) (length a + p) ≡ line_at (a ++ b) (length a) + line_at b p
-unfolding line_at
-rest_lines a b cut zero = let e : length a + 0 ≡ length a = omega arith in rw e (omega arith)
-rest_lines a b cut (suc p) =
-    let e : length a + suc p ≡ suc (length a + p) = omega arith in
-    rw (e, rest_ends a b cut p, rest_lines a b cut p) (omega arith)
-
-mark_not_blank : (b : ℕ) → (b ≡ 45) ⊎ (b ≡ 46) → is_blank b ≡ false
-mark_not_blank b (inl z) = rw z refl
-mark_not_blank b (inr z) = rw z refl
+rest_lines a b cut p = lines_by a b (rest_ends a b cut) p
 
 not_bom : (b c e : ℕ) → (b ≡ 45) ⊎ (b ≡ 46) → (b == 0xEF && (c == 0xBB && e == 0xBF)) ≡ false
 not_bom b c e (inl z) = rw z refl
@@ -178,7 +184,6 @@ rest_alike a b cut =
       stops = inl (byte_right a b (suc (length b)) ∙ byte_past b (suc (length b)) (omega arith));
       column = cut_column a b cut;
       ends = λ p l. rest_ends a b cut p;
-      led = inr (mark_not_blank (byte b 0) (first_mark b cut.mark));
       short = omega arith;
       long = omega (arith, long);
       covers = omega arith;
@@ -235,10 +240,6 @@ front_bom a b cut p l =
     let most = front_onward a b cut (p + 1) more (wide_onward (byte a (p + 1)) 0xBB i (omega arith)) in
     ap (λ c. c == 0xBF) (byte_left a b (p + 2) (omega (arith, most)))))))
 
-no_lead : (u : List ℕ) → leads u 0 ≡ false
-unfolding leads
-no_lead u = refl
-
 -- The front stands in the whole.
 pub front_alike : (a b : List ℕ) → IsCut a b → Alike a (a ++ b) 0 (length a)
 front_alike a b cut =
@@ -253,7 +254,6 @@ front_alike a b cut =
       stops = inr (rw e at);
       column = sym (start_column (a ++ b));
       ends = λ p l. front_ends a b cut p l;
-      led = inl (no_lead (a ++ b));
       short = omega arith;
       long = omega (arith, long);
       covers = omega arith;

@@ -12,7 +12,7 @@ use Rattle.yaml_scan_history.specs.Remaining.{body_in}
 use Rattle.yaml_scan_history.proofs.HistoryLemmas.{candidate-more, fresh_is, length-entries, first_open-le}
 use Rattle.yaml_scan_laws_windows.specs.Moved.{moved_lexeme}
 use Rattle.yaml_scan_laws_windows.proofs.Rests.{AllCarry}
-use Rattle.yaml_scan_laws_windows.proofs.Histories.{Bases, moved_lexemes, moved_candidate, moved_found, reached_on, length_on, candidate_on, fresh_moved, found_on, has_moved, levels_on}
+use Rattle.yaml_scan_laws_windows.proofs.Histories.{Bases, moved_lexemes, moved_candidate, moved_found, length_on, candidate_on, fresh_moved, found_on, has_moved, levels_on}
 
 abbrev pub moved_entry : ℕ → ℕ → Entry → Entry
 moved_entry d n e = record { lexeme = moved_lexeme d n e.lexeme; ends = e.ends; opens = e.opens; key = e.key }
@@ -211,10 +211,10 @@ first_moved k first n is_open =
 
 open_on : (d n k e : ℕ) (h b c : List Lexeme) → Bases d n k b c
     → open_at e (moved_lexemes d n h ++ c) ≡ moved_found d n k (open_at e (h ++ b))
-open_on d n k e h b c s =
-    ap (λ o. fresh o (reached (moved_lexemes d n h ++ c))) (candidate_on d n k e h b c s)
-    ∙ ap (fresh (moved_found d n k (candidate e (h ++ b)))) (reached_on d n k h b c s)
-    ∙ fresh_moved d n k (candidate e (h ++ b)) (reached (h ++ b))
+open_on d n k e [] b c s = rw (s.mine e, s.others e) refl
+open_on d n k e (l ∷ h) b c s =
+    ap (λ o. fresh o (reached (moved_lexemes d n (l ∷ h) ++ c))) (candidate_on d n k e (l ∷ h) b c s)
+    ∙ fresh_moved d n k (candidate e (l ∷ h ++ b)) (reached (l ∷ h ++ b))
 
 -- of the lexemes g, seen from all of them, h
 first_on : (d n k : ℕ) (g h b c : List Lexeme) → Bases d n k b c

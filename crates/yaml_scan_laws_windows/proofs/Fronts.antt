@@ -13,7 +13,7 @@ use Rattle.yaml_scan_laws_windows.specs.Cuts.{IsCut}
 use Rattle.yaml_scan_laws_windows.specs.Moved.{moved_mark, moved_lexeme}
 use Rattle.yaml_scan_laws_windows.proofs.Cutting.{front_alike}
 use Rattle.yaml_scan_laws_windows.proofs.Histories.{moved_found}
-use Rattle.yaml_scan_laws_windows.proofs.Coming.{Pair}
+use Rattle.yaml_scan_laws_windows.proofs.Coming.{Pair, abreast}
 use Rattle.yaml_scan_laws_windows.proofs.Stepping.{front_comes}
 
 -- ---- what is moved by nothing
@@ -36,7 +36,7 @@ found_zero (Some c) =
 -- the same lexemes stand in both
 pub front_pair : (a b : List ℕ) → IsCut a b → (H : List Lexeme) → (reached H).index ≤ length a
     → Pair a (a ++ b) 0 (length a) 0 0 H H
-front_pair a b cut H inside = record {
+front_pair a b cut H inside = abreast a (a ++ b) 0 (length a) 0 0 H H record {
   alike = front_alike a b cut;
   line = sym (start_line (a ++ b));
   same_depth = refl;
@@ -64,7 +64,7 @@ first_same : (a b : List ℕ) (l : Lexeme) → next a [] ≡ Read l → next b [
 unfolding next
 first_same a b l e = e
 
-front_next : (a b : List ℕ) → IsCut a b → (H : List Lexeme) → Stands a H → (l : Lexeme)
+pub front_next : (a b : List ℕ) → IsCut a b → (H : List Lexeme) → Stands a H → (l : Lexeme)
     → next a H ≡ Read l → is_end l.kind ≡ false → next (a ++ b) H ≡ Read l
 front_next a b cut [] stands l e go = first_same a (a ++ b) l e
 front_next a b cut (x ∷ h) stands l e go =

@@ -48,10 +48,10 @@ break_within t u d m p a l =
 -- ---- a step
 
 -- a blank, a comment or a byte order mark stands there
-abbrev is_passed : Bool → List ℕ → ℕ → Bool
+abbrev pub is_passed : Bool → List ℕ → ℕ → Bool
 is_passed tabs text p = (p == 0 && is_bom text p) || (is_skipped tabs text p || byte text p == 35)
 
-passed_alike : (tabs : Bool) (t u : List ℕ) (d m p : ℕ) → Alike t u d m → p < m
+pub passed_alike : (tabs : Bool) (t u : List ℕ) (d m p : ℕ) → Alike t u d m → p < m
     → is_passed tabs u (d + p) ≡ is_passed tabs t p
 passed_alike tabs t u d m p a l = rw (a.bom p l, a.bytes p l) refl
 
@@ -111,7 +111,7 @@ passed_place tabs t u d m p a l h =
       ]
     ]
 
-gap_passes : (n : ℕ) (flow allowed : Bool) (text : List ℕ) (p : ℕ)
+pub gap_passes : (n : ℕ) (flow allowed : Bool) (text : List ℕ) (p : ℕ)
     → is_passed (flow || not allowed) text p ≡ true
     → gap_within (suc n) flow allowed text p
     ≡ gap_within n flow allowed text (step_at (flow || not allowed) text p).place
@@ -131,7 +131,7 @@ none_passed true b c h = absurd (true≢false h)
 none_passed false true c h = absurd (true≢false h)
 none_passed false false true h = absurd (true≢false h)
 
-gap_breaks : (n : ℕ) (flow allowed : Bool) (text : List ℕ) (p : ℕ)
+pub gap_breaks : (n : ℕ) (flow allowed : Bool) (text : List ℕ) (p : ℕ)
     → is_passed (flow || not allowed) text p ≡ false → nat_lt 0 (break_width text p) ≡ true
     → gap_within (suc n) flow allowed text p
     ≡ with_break true (gap_within n flow (allowed || not flow) text (p + break_width text p))
@@ -140,7 +140,7 @@ gap_breaks n flow allowed text p h k =
     let (x, y, z) = none_passed (p == 0 && is_bom text p) (is_skipped (flow || not allowed) text p) (byte text p == 35) h in
     rw (x, y, z, k) refl
 
-gap_stops : (n : ℕ) (flow allowed : Bool) (text : List ℕ) (p : ℕ)
+pub gap_stops : (n : ℕ) (flow allowed : Bool) (text : List ℕ) (p : ℕ)
     → is_passed (flow || not allowed) text p ≡ false → nat_lt 0 (break_width text p) ≡ false
     → gap_within n flow allowed text p ≡ record { place = p; broke = false }
 unfolding gap_within step_at
@@ -195,11 +195,11 @@ gap_edge t u d m flow allowed p n o a e =
     gap_over t u d m flow allowed p n o (omega (arith, e)) (quiet_gap n flow allowed t p (inl here)) (quiet_gap o flow allowed u (d + p) there)
 
 -- a step is left
-left_step : (p n x : ℕ) → x ≤ p + n → p < x → (k : ℕ) × (n ≡ suc k) × (x ≤ p + 1 + k)
+pub left_step : (p n x : ℕ) → x ≤ p + n → p < x → (k : ℕ) × (n ≡ suc k) × (x ≤ p + 1 + k)
 left_step p zero x h l = absurd (omega (arith, h, l))
 left_step p (suc n) x h l = (n, refl, omega (arith, h))
 
-gap_by : (k : ℕ) (t u : List ℕ) (d m : ℕ) (flow allowed : Bool) (p n o : ℕ) → Alike t u d m
+pub gap_by : (k : ℕ) (t u : List ℕ) (d m : ℕ) (flow allowed : Bool) (p n o : ℕ) → Alike t u d m
     → p ≤ m → length t ≤ p + k → length t ≤ p + n → length u ≤ d + p + o
     → Gaps t u d m flow allowed p n o
 gap_by zero t u d m flow allowed p n o a l room fuel more =

@@ -7,15 +7,13 @@ use Rattle.yaml_scan_history.specs.scan_model.declared.record.yaml_mark_t.{yaml_
 use Rattle.yaml_scan_history.specs.declared.kind.Kind.{Kind}
 use Rattle.yaml_scan_history.specs.declared.lexeme.Lexeme.{Lexeme}
 use Rattle.yaml_scan_history.specs.Kinds.{cancels, is_start, allows_key}
-use Rattle.yaml_scan_history.specs.History.{reached, depth, Candidate, candidate, is_fresh, fresh, found_by, has, opens_at, opened, left_by, levels, key_allowed}
+use Rattle.yaml_scan_history.specs.History.{depth, Candidate, candidate, is_fresh, fresh, found_by, has, opens_at, opened, left_by, levels, key_allowed}
 use Rattle.yaml_scan_laws_windows.specs.Moved.{moved_mark, moved_lexeme}
 
--- Two lists of lexemes that decide the same of what stands on them, but for the places: no candidate is open in either, and the
+-- Two lists of lexemes that decide the same of what stands on them behind another one: no candidate is open in either, and the
 -- second one has k more.
 pub record Bases (d n k : ℕ) (b c : List Lexeme) : Type 0 where
   pub depth : depth c ≡ depth b
-  pub reached : reached c ≡ moved_mark d n (reached b)
-  pub allowed : key_allowed c ≡ key_allowed b
   pub mine : (e : ℕ) → candidate e b ≡ None
   pub others : (e : ℕ) → candidate e c ≡ None
   pub levels : levels c ≡ levels b
@@ -35,11 +33,6 @@ pub depth_on : (d n k : ℕ) (h b c : List Lexeme) → Bases d n k b c
     → depth (moved_lexemes d n h ++ c) ≡ depth (h ++ b)
 depth_on d n k [] b c s = s.depth
 depth_on d n k (l ∷ h) b c s = refl
-
-pub reached_on : (d n k : ℕ) (h b c : List Lexeme) → Bases d n k b c
-    → reached (moved_lexemes d n h ++ c) ≡ moved_mark d n (reached (h ++ b))
-reached_on d n k [] b c s = s.reached
-reached_on d n k (l ∷ h) b c s = refl
 
 pub length_on : (d n k : ℕ) (h b c : List Lexeme) → Bases d n k b c
     → length (moved_lexemes d n h ++ c) ≡ k + length (h ++ b)
@@ -111,8 +104,7 @@ levels_on d n k (l ∷ h) b c s =
     ap (λ x. opened may x (left_by l.kind l.depth l.start.column (levels (moved_lexemes d n h ++ c)))) opens
     ∙ ap (λ x. opened may (opens_at (found_by l (h ++ b)) l.kind l.start.column) (left_by l.kind l.depth l.start.column x)) before
 
-pub allowed_on : (d n k : ℕ) (h b c : List Lexeme) → Bases d n k b c
-    → key_allowed (moved_lexemes d n h ++ c) ≡ key_allowed (h ++ b)
-allowed_on d n k [] b c s = s.allowed
-allowed_on d n k (l ∷ h) b c s =
+pub allowed_on : (d n k : ℕ) (l : Lexeme) (h b c : List Lexeme) → Bases d n k b c
+    → key_allowed (moved_lexemes d n (l ∷ h) ++ c) ≡ key_allowed (l ∷ h ++ b)
+allowed_on d n k l h b c s =
     ap (λ x. allows_key l.kind (l.depth == 0) x || l.broke) (ap has (found_on d n k l h b c s) ∙ has_moved d n k (found_by l (h ++ b)))

@@ -12,6 +12,7 @@ mod Cutting
 mod Histories
 mod Coming
 mod Stepping
+pub mod Feeding
 mod Fronts
 mod Marking
 mod Turning
@@ -20,4 +21,10 @@ pub mod Depths
 mod Entering
 mod Joining
 pub mod Windows
+mod Failing
+pub mod Refused
+pub mod Ending
+pub mod Behind
+pub mod Leading
+pub mod Opening
 pub use Rattle.yaml_scan_laws_order.proofs.StreamForward as OrderLaws

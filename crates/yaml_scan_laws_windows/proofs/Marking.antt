@@ -125,7 +125,7 @@ abbrev pub IsFree : Option Candidate → Type 0
 IsFree None = Unit {0}
 IsFree (Some c) = c.lexeme.required ≡ false
 
-and_false : (x : Bool) → (x && false) ≡ false
+pub and_false : (x : Bool) → (x && false) ≡ false
 and_false true = refl
 and_false false = refl
 
@@ -152,11 +152,11 @@ mark_begun K body m text H p e z =
     let level = outside_level K body m H (column_at text p) z in
     rw (e, m.end, m.key, and_false (allowed_behind H (gap_behind text H)), level, z) refl
 
-lost_none : (l : Lexeme) (o : Option Candidate) → IsFree o → lost_by l o ≡ None
+pub lost_none : (l : Lexeme) (o : Option Candidate) → IsFree o → lost_by l o ≡ None
 lost_none l None f = refl
 lost_none l (Some c) f = rw f refl
 
-mark_word : (K : Kind) (body : TokenBody) → IsMark K body
+pub mark_word : (K : Kind) (body : TokenBody) → IsMark K body
     → (text : List ℕ) (H : List Lexeme) (p : ℕ)
     → (gap_behind text H).place ≡ p → word_behind K text H ≡ carrying body (p + 3)
 mark_word K body m text H p e = m.word (in_flow H) (begun_behind K text H).level text (gap_behind text H).place ∙ ap (λ q. carrying body (q + 3)) e

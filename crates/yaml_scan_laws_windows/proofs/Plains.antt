@@ -1,6 +1,6 @@
 -- Plain scalars are the same in both texts.
 use Rattle.std.proofs.Common.{◌≡◌, ℕ, zero, suc, ◌+◌, ◌-◌, ◌<◌, ◌≤◌, ◌==◌, ◌&&◌, ◌||◌, nat_lt, if◌then◌else◌, Bool, true, false, not, List, [], ◌∷◌, length, Result, Ok, Err, refl, sym, ap, ◌∙◌, inl, inr, ◌⊎◌, arith}
-use Rattle.std.proofs.lemmas.Bool.{cases_Bool, cases_lt, eqb-true, ltb-true}
+use Rattle.std.proofs.lemmas.Bool.{cases_Bool, cases_lt, eqb-true, ltb-true, true≢false}
 use Rattle.std.proofs.lemmas.Bool.Decides.{nat_tests}
 use Rattle.yaml_scan_history.specs.scan_model.Marks.{byte, break_of, break_width, column_at, is_blank}
 use Rattle.yaml_scan_history.specs.scan_model.Breaks.{break_value, is_document_indicator}
@@ -34,24 +34,47 @@ value_alike t u d m p a l some =
           rw (same, h, third) refl
     ]
 
-leads_alike : (t u : List ℕ) (d m p : ℕ) → Alike t u d m → p < m
+-- what is no blank stands there or in front of it
+record Led (t : List ℕ) (p : ℕ) : Type 0 where
+  pub start : ℕ
+  pub order : start ≤ p
+  pub text : is_blank (byte t start) ≡ false
+
+later : (t : List ℕ) (p q : ℕ) → Led t p → p ≤ q → Led t q
+later t p q k l = let order = k.order in record { start = k.start; order = omega (arith, order, l); text = k.text }
+
+-- it doesn't stand there where a blank does
+sooner : (t : List ℕ) (p : ℕ) → Led t (suc p) → is_blank (byte t (suc p)) ≡ true → Led t p
+sooner t p k h =
+    let order = k.order in
+    elim (cases_lt k.start (suc p)) [
+      | inl l ↦ record { start = k.start; order = omega (arith, l); text = k.text }
+      | inr l ↦
+          let e : k.start ≡ suc p = omega (arith, l, order) in
+          absurd (true≢false (sym h ∙ ap (λ q. is_blank (byte t q)) (sym e) ∙ k.text))
+    ]
+
+leads_alike : (t u : List ℕ) (d m p : ℕ) → Alike t u d m → Led t p → p < m
     → leads u (d + p + 1) ≡ leads t (p + 1)
 unfolding leads
-leads_alike t u d m zero a l =
+leads_alike t u d m zero a k l =
     let e : d + 0 + 1 ≡ suc (d + 0) = omega arith in
     let f : 0 + 1 ≡ suc 0 = omega arith in
-    let g : d + 0 ≡ d = omega arith in
-    elim a.led [
-      | inl h ↦ rw (e, f, a.ends 0 l, a.bytes 0 l, g, h) refl
-      | inr h ↦ rw (e, f, a.ends 0 l, a.bytes 0 l, h) refl
-    ]
-leads_alike t u d m (suc p) a l =
+    let order = k.order in
+    let first : k.start ≡ 0 = omega (arith, order) in
+    let h : is_blank (byte t 0) ≡ false = ap (λ q. is_blank (byte t q)) (sym first) ∙ k.text in
+    rw (e, f, a.ends 0 l, a.bytes 0 l, h) refl
+leads_alike t u d m (suc p) a k l =
     let e : d + suc p + 1 ≡ suc (d + suc p) = omega arith in
     let f : suc p + 1 ≡ suc (suc p) = omega arith in
     let g : d + suc p ≡ d + p + 1 = omega arith in
     let h : suc p ≡ p + 1 = omega arith in
-    let before : leads u (d + suc p) ≡ leads t (suc p) = ap (leads u) g ∙ leads_alike t u d m p a (omega (arith, l)) ∙ ap (leads t) (sym h) in
-    rw (e, f, a.ends (suc p) l, a.bytes (suc p) l, before) refl
+    elim (cases_Bool (is_blank (byte t (suc p)))) [
+      | inr i ↦ rw (e, f, a.ends (suc p) l, a.bytes (suc p) l, i) refl
+      | inl i ↦
+          let before : leads u (d + suc p) ≡ leads t (suc p) = ap (leads u) g ∙ leads_alike t u d m p a (sooner t p k i) (omega (arith, l)) ∙ ap (leads t) (sym h) in
+          rw (e, f, a.ends (suc p) l, a.bytes (suc p) l, before) refl
+    ]
 
 white_alike : (t u : List ℕ) (d m x : ℕ) → Alike t u d m → x < m
     → after_white u (d + (x + 1)) ≡ after_white t (x + 1)
@@ -80,23 +103,24 @@ if_same : (c : Bool) (a b x y : Bool) → a ≡ b → x ≡ y
 if_same true a b x y h k = h
 if_same false a b x y h k = k
 
-left_alike : (t u : List ℕ) (d m x level : ℕ) → Alike t u d m → x + 1 < m
+left_alike : (t u : List ℕ) (d m x level : ℕ) → Alike t u d m → Led t x → x + 1 < m
     → (leads u (d + (x + 1)) && nat_lt (column_at u (d + (x + 1))) level)
     ≡ (leads t (x + 1) && nat_lt (column_at t (x + 1)) level)
-left_alike t u d m x level a l =
+left_alike t u d m x level a k l =
     let e : d + (x + 1) ≡ d + x + 1 = omega arith in
-    let led : leads u (d + (x + 1)) ≡ leads t (x + 1) = rw e (leads_alike t u d m x a (omega (arith, l))) in
+    let led : leads u (d + (x + 1)) ≡ leads t (x + 1) = rw e (leads_alike t u d m x a k (omega (arith, l))) in
     and_alike _ _ _ _ led (λ h. ap (λ c. nat_lt c level) (column_alike t u d m (x + 1) a (omega (arith, l))))
 
-ends_alike : (t u : List ℕ) (d m : ℕ) (flow : Bool) (level x : ℕ) → Alike t u d m → x + 1 < m
+ends_alike : (t u : List ℕ) (d m : ℕ) (flow : Bool) (level x : ℕ) → Alike t u d m → Led t x
+    → x + 1 < m
     → ends_at flow level u (d + (x + 1)) ≡ ends_at flow level t (x + 1)
 unfolding ends_at
-ends_alike t u d m flow level x a l =
+ends_alike t u d m flow level x a k l =
     let same = a.bytes (x + 1) l in
     or_same _ _ _ _ (or_same _ _ _ _ (ap (λ b. b == 0) same) (indicator_alike t u d m (x + 1) a l))
     (or_same _ _ _ _ (and_alike _ _ _ _ (ap (λ b. b == 35) same) (λ h. white_alike t u d m x a (omega (arith, l))))
     (or_same _ _ _ _ (and_alike _ _ _ _ (ap (λ b. b == 58) same) (λ h. next_end t u d m (x + 1) a l (colon_onward _ h)))
-    (if_same flow _ _ _ _ (ap is_bracket same) (left_alike t u d m x level a l))))
+    (if_same flow _ _ _ _ (ap is_bracket same) (left_alike t u d m x level a k l))))
 
 -- ---- a spot
 
@@ -141,10 +165,11 @@ question_alike t u d m p flow a l =
     and_alike flow flow _ _ refl (λ f. and_alike _ _ _ _ (ap (λ b. b == 58) (a.bytes p l))
     (λ h. ap (λ b. is_bracket b || b == 63) (next_byte t u d m p a l (colon_onward _ h)).1))
 
-spot_alike : (t u : List ℕ) (d m : ℕ) (flow : Bool) (level x : ℕ) → Alike t u d m → x + 1 < m
+spot_alike : (t u : List ℕ) (d m : ℕ) (flow : Bool) (level x : ℕ) → Alike t u d m → Led t x
+    → x + 1 < m
     → SpotAlike t u d m (x + 1) (spot_at flow level t (x + 1)) (spot_at flow level u (d + (x + 1)))
 unfolding spot_at
-spot_alike t u d m flow level x a l =
+spot_alike t u d m flow level x a k l =
     let p = x + 1 in
     let width = width_alike t u d m p a l in
     let byte_same = a.bytes p l in
@@ -164,14 +189,14 @@ spot_alike t u d m flow level x a l =
                 let some = blank_some _ i in
                 let (here, there) = byte_at t u d m p a l some in
                 let move : d + p + 1 ≡ d + (p + 1) = omega arith in
-                let tab = and_alike _ _ _ _ (ap (λ b. b == 9) byte_same) (λ z. left_alike t u d m x level a l) in
+                let tab = and_alike _ _ _ _ (ap (λ b. b == 9) byte_same) (λ z. left_alike t u d m x level a k l) in
                 elim (cases_Bool (byte t p == 9 && (leads t p && nat_lt (column_at t p) level))) [
                   | inl j ↦ rw (h, other, i, blank, j, tab ∙ j) record { same = refl; lies = tt }
                   | inr j ↦ rw (h, other, i, blank, j, tab ∙ j, byte_same, move) record { same = refl; lies = (at_step t u d m p a l some, omega arith, here, there) }
                 ]
             | inr i ↦
                 let blank : is_blank (byte u (d + p)) ≡ false = ap is_blank byte_same ∙ i in
-                let end = ends_alike t u d m flow level x a l in
+                let end = ends_alike t u d m flow level x a k l in
                 elim (cases_Bool (ends_at flow level t p)) [
                   | inl j ↦ rw (h, other, i, blank, j, end ∙ j) record { same = refl; lies = tt }
                   | inr j ↦
@@ -180,8 +205,8 @@ spot_alike t u d m flow level x a l =
                       let move : d + p + 1 ≡ d + (p + 1) = omega arith in
                       let ask = question_alike t u d m p flow a l in
                       elim (cases_Bool (flow && (byte t p == 58 && (is_bracket (byte t (p + 1)) || byte t (p + 1) == 63)))) [
-                        | inl k ↦ rw (h, other, i, blank, j, end ∙ j, k, ask ∙ k) record { same = refl; lies = tt }
-                        | inr k ↦ rw (h, other, i, blank, j, end ∙ j, k, ask ∙ k, byte_same, move) record { same = refl; lies = (at_step t u d m p a l some, omega arith, here, there) }
+                        | inl o ↦ rw (h, other, i, blank, j, end ∙ j, o, ask ∙ o) record { same = refl; lies = tt }
+                        | inr o ↦ rw (h, other, i, blank, j, end ∙ j, o, ask ∙ o, byte_same, move) record { same = refl; lies = (at_step t u d m p a l some, omega arith, here, there) }
                       ]
                 ]
           ]
@@ -295,11 +320,12 @@ pub left_step : (p n x : ℕ) → x < p + n → p ≤ x → (k : ℕ) × (n ≡ 
 left_step p zero x h l = absurd (omega (arith, h, l))
 left_step p (suc n) x h l = (n, refl)
 
-spot_there : (t u : List ℕ) (d m : ℕ) (flow : Bool) (level x : ℕ) → Alike t u d m → x + 1 ≤ m
+spot_there : (t u : List ℕ) (d m : ℕ) (flow : Bool) (level x : ℕ) → Alike t u d m → Led t x
+    → x + 1 ≤ m
     → SpotAlike t u d m (x + 1) (spot_at flow level t (x + 1)) (spot_at flow level u (d + (x + 1)))
-spot_there t u d m flow level x a l =
+spot_there t u d m flow level x a k l =
     elim (cases_lt (x + 1) m) [
-      | inl on ↦ spot_alike t u d m flow level x a on
+      | inl on ↦ spot_alike t u d m flow level x a k on
       | inr past ↦
           let e : x + 1 ≡ m = omega (arith, l, past) in
           let mine = edge_ends t (x + 1) flow level (inl (rw e a.edge)) (inl (rw e a.edge)) in
@@ -308,26 +334,27 @@ spot_there t u d m flow level x a l =
     ]
 
 words_by : (k : ℕ) (t u : List ℕ) (d m : ℕ) (flow : Bool) (level x n o : ℕ) (s : PlainSpot)
-    → Alike t u d m
+    → Alike t u d m → Led t x
     → At t u d m (x + 1) → length t ≤ x + 1 + k → length t < x + 1 + n
     → length u < d + (x + 1) + o
     → spot_at flow level t (x + 1) ≡ s → spot_at flow level u (d + (x + 1)) ≡ moved_spot d s
     → Within t u d m (x + 1) s
     → Told t u d m flow level (x + 1) n o
-words_by k t u d m flow level x n o Ends a here room fuel more e f lies =
+words_by k t u d m flow level x n o Ends a led here room fuel more e f lies =
     words_end t u d m flow level (x + 1) n o here.inside fuel here.short more here.long e f
-words_by k t u d m flow level x n o (Faulty w) a here room fuel more e f lies =
+words_by k t u d m flow level x n o (Faulty w) a led here room fuel more e f lies =
     words_fail t u d m flow level (x + 1) n o w fuel here.short more here.long e f
-words_by zero t u d m flow level x n o (Takes y q) a here room fuel more e f (at, further, mine, others) = absurd (omega (arith, room, mine))
-words_by (suc k) t u d m flow level x n o (Takes y q) a here room fuel more e f (at, further, mine, others) =
+words_by zero t u d m flow level x n o (Takes y q) a led here room fuel more e f (at, further, mine, others) = absurd (omega (arith, room, mine))
+words_by (suc k) t u d m flow level x n o (Takes y q) a led here room fuel more e f (at, further, mine, others) =
     let (i, en) = left_step (x + 1) n (length t) fuel here.short in
     let (j, eo) = left_step (d + (x + 1)) o (length u) more here.long in
     let back : q - 1 + 1 ≡ q = omega (arith, further) in
     let there : At t u d m (q - 1 + 1) = rw back at in
     let less : length t < q - 1 + 1 + i = omega (arith, fuel, en, further) in
     let fewer : length u < d + (q - 1 + 1) + j = omega (arith, more, eo, further) in
-    let spot = spot_there t u d m flow level (q - 1) a there.inside in
-    let step = words_by k t u d m flow level (q - 1) i j (spot_at flow level t (q - 1 + 1)) a there (omega (arith, room, further)) less fewer refl spot.same spot.lies in
+    let on = later t x (q - 1) led (omega (arith, further)) in
+    let spot = spot_there t u d m flow level (q - 1) a on there.inside in
+    let step = words_by k t u d m flow level (q - 1) i j (spot_at flow level t (q - 1 + 1)) a on there (omega (arith, room, further)) less fewer refl spot.same spot.lies in
     let told : Told t u d m flow level q i j = rw back at step in
     rw (en, eo) (words_more t u d m flow level (x + 1) i j y q e f told)
 
@@ -352,14 +379,15 @@ plain_in m (Err e) h = tt
 
 -- a plain scalar is the same, moved, and ends within
 pub plain_alike : (t u : List ℕ) (d m : ℕ) (flow : Bool) (level p : ℕ) → Alike t u d m → p < m
-    → 0 < byte t p
+    → 0 < byte t p → is_blank (byte t p) ≡ false
     → (plain_at flow level u (d + p) ≡ moved_by (moved_plain d) d (plain_at flow level t p))
     × PlainIn m (plain_at flow level t p)
-plain_alike t u d m flow level p a l some =
+plain_alike t u d m flow level p a l some text =
+    let led : Led t p = record { start = p; order = omega arith; text = text } in
     let first = Kept (byte t p ∷ []) in
     let here = at_step t u d m p a l some in
-    let spot = spot_there t u d m flow level p a here.inside in
-    let told = words_by (length t) t u d m flow level p (length t) (length u) (spot_at flow level t (p + 1)) a here (omega arith) (omega arith) (omega arith) refl spot.same spot.lies in
+    let spot = spot_there t u d m flow level p a led here.inside in
+    let told = words_by (length t) t u d m flow level p (length t) (length u) (spot_at flow level t (p + 1)) a led here (omega arith) (omega arith) (omega arith) refl spot.same spot.lies in
     let r = words (length t) flow level t (p + 1) in
     let move : d + p + 1 ≡ d + (p + 1) = omega arith in
     let same : words_from (Kept (byte u (d + p) ∷ [])) (d + p + 1) (words (length u) flow level u (d + p + 1))

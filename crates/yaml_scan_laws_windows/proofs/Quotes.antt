@@ -1,5 +1,5 @@
 -- Quoted scalars are the same in both texts, unless they are open where the first one ends.
-use Rattle.std.proofs.Common.{◌≡◌, ◌≢◌, ℕ, zero, suc, ◌+◌, ◌*◌, ◌<◌, ◌≤◌, ◌==◌, ◌&&◌, ◌||◌, nat_lt, Bool, true, false, List, length, Option, Some, None, option_and_then, option_map, Result, Ok, Err, refl, ap, ◌∙◌, inl, inr, ◌⊎◌, arith}
+use Rattle.std.proofs.Common.{◌≡◌, ◌≢◌, ℕ, zero, suc, ◌+◌, ◌*◌, ◌<◌, ◌≤◌, ◌==◌, ◌&&◌, ◌||◌, nat_lt, Bool, true, false, List, length, Option, Some, None, option_and_then, option_map, Result, Ok, Err, refl, sym, ap, subst, ◌∙◌, inl, inr, ◌⊎◌, arith}
 use Rattle.std.proofs.lemmas.Bool.{cases_Bool, cases_lt, and_parts, eqb-true, ltb-true}
 use Rattle.std.proofs.lemmas.Bool.Decides.{nat_tests}
 use Rattle.yaml_scan_history.specs.scan_model.declared.problem.Problem.TheVariants as problems
@@ -240,11 +240,34 @@ stands_alike t u d m quote p a l q =
 abbrev pub moved_pair : {A : Type 0} → ℕ → A × ℕ → A × ℕ
 moved_pair d x = (x.0, d + x.1)
 
--- it is the same, moved; or it is wrong, where the other text goes on with a mark of documents
+-- where the first text ends either is wrong, where the other goes on with a mark of documents
+pub record IsTorn (u : List ℕ) (d m : ℕ) {A : Type 0} (r s : Result A Wrong) : Type 0 where
+  pub mark : is_document_indicator u (d + m) ≡ true
+  pub wrong : Wrong
+  pub mine : r ≡ Err wrong
+  pub place : wrong.place ≡ m
+  pub other : Wrong
+  pub others : s ≡ Err other
+  pub there : other.place ≡ d + m
+
+-- it is the same, moved; or it is torn
 abbrev pub Carried : {A : Type 0} → List ℕ → ℕ → ℕ → (A → A) → Result A Wrong → Result A Wrong
     → Type 0
-Carried u d m f r s = (s ≡ moved_by f d r)
-    ⊎ ((is_document_indicator u (d + m) ≡ true) × (w : Wrong) × (r ≡ Err w))
+Carried u d m f r s = (s ≡ moved_by f d r) ⊎ IsTorn u d m r s
+
+-- what is torn stays so
+pub torn_by : {A B : Type 0} (f : Result A Wrong → Result B Wrong) (u : List ℕ) (d m : ℕ)
+    (r s : Result A Wrong) → ((w : Wrong) → f (Err w) ≡ Err w) → IsTorn u d m r s
+    → IsTorn u d m (f r) (f s)
+torn_by f u d m r s errs t = record {
+  mark = t.mark;
+  wrong = t.wrong;
+  mine = ap f t.mine ∙ errs t.wrong;
+  place = t.place;
+  other = t.other;
+  others = ap f t.others ∙ errs t.other;
+  there = t.there;
+}
 
 abbrev pub PairIn : {A : Type 0} → ℕ → Result (A × ℕ) Wrong → Type 0
 PairIn m (Ok x) = x.1 ≤ m
@@ -267,7 +290,7 @@ front_alike u d m ps r s h = record { carried = carry ps r s h.carried; placed =
         → Carried u d m (moved_pair d) r s
         → Carried u d m (moved_pair d) (with_front ps r) (with_front ps s)
     carry ps r s (inl e) = inl (ap (with_front ps) e ∙ moves ps r)
-    carry ps r s (inr (i, w, e)) = inr (i, w, ap (with_front ps) e)
+    carry ps r s (inr t) = inr (torn_by (with_front ps) u d m r s (λ w. refl) t)
 
     placed : (ps : List Piece) (r : Result (List Piece × ℕ) Wrong) → PairIn m r → PairIn m (with_front ps r)
     placed ps (Ok x) h = h
@@ -287,10 +310,23 @@ end_stands : (quote : ℕ) (u : List ℕ) (p : ℕ) → byte u p ≡ 0
 unfolding standing_at
 end_stands quote u p h = rw (end_no_mark u p h, h) refl
 
+mark_standing : (quote : ℕ) (u : List ℕ) (p : ℕ) → is_document_indicator u p ≡ true
+    → standing_at quote u p ≡ in_quotes problems.DocumentIndicator p
+unfolding standing_at
+mark_standing quote u p h = rw h refl
+
 -- where the first text ends, either ends, or a mark of documents stands in the other
+record Tears (u : List ℕ) (d m : ℕ) (s r : Standing) : Type 0 where
+  pub mark : is_document_indicator u (d + m) ≡ true
+  pub wrong : Wrong
+  pub mine : s ≡ Bad wrong
+  pub place : wrong.place ≡ m
+  pub other : Wrong
+  pub others : r ≡ Bad other
+  pub there : other.place ≡ d + m
+
 abbrev Spotted : List ℕ → List ℕ → ℕ → ℕ → ℕ → Standing → Standing → Type 0
-Spotted t u d m p s r = StandsAlike t u d m p s r
-    ⊎ ((is_document_indicator u (d + m) ≡ true) × (w : Wrong) × (s ≡ Bad w))
+Spotted t u d m p s r = StandsAlike t u d m p s r ⊎ Tears u d m s r
 
 stands_there : (t u : List ℕ) (d m quote p : ℕ) → Alike t u d m → p ≤ m → IsQuote quote
     → Spotted t u d m p (standing_at quote t p) (standing_at quote u (d + p))
@@ -305,7 +341,15 @@ stands_there t u d m quote p a l q =
                 let there : byte u (d + p) ≡ 0 = rw e z in
                 let others = end_stands quote u (d + p) there in
                 inl (rw (mine, others) record { same = refl; lies = tt })
-            | inr i ↦ inr (i, record { problem = problems.EndOfStream; context = contexts.QuotedScalar; place = p }, mine)
+            | inr i ↦ inr record {
+              mark = i;
+              wrong = record { problem = problems.EndOfStream; context = contexts.QuotedScalar; place = p };
+              mine = mine;
+              place = e;
+              other = record { problem = problems.DocumentIndicator; context = contexts.QuotedScalar; place = d + p };
+              others = mark_standing quote u (d + p) (ap (λ q. is_document_indicator u (d + q)) e ∙ i);
+              there = ap (λ q. d + q) e;
+            }
           ]
     ]
 
@@ -326,11 +370,15 @@ pieces_bad : (t u : List ℕ) (d m quote p n o : ℕ) (w : Wrong)
 unfolding pieces
 pieces_bad t u d m quote p n o w e f = rw (e, f) record { carried = inl refl; placed = tt }
 
-pieces_torn : (t u : List ℕ) (d m quote p n o : ℕ) (w : Wrong)
-    → is_document_indicator u (d + m) ≡ true
-    → standing_at quote t p ≡ Bad w → Told t u d m quote p (suc n) o
+pieces_torn : (t u : List ℕ) (d m quote p n o : ℕ)
+    → (x : Tears u d m (standing_at quote t p) (standing_at quote u (d + p)))
+    → Told t u d m quote p (suc n) (suc o)
 unfolding pieces
-pieces_torn t u d m quote p n o w i e = rw e record { carried = inr (i, w, refl); placed = tt }
+pieces_torn t u d m quote p n o x =
+    rw (x.mine, x.others) record {
+      carried = inr record { mark = x.mark; wrong = x.wrong; mine = refl; place = x.place; other = x.other; others = refl; there = x.there };
+      placed = tt;
+    }
 
 pieces_more : (t u : List ℕ) (d m quote p n o : ℕ) (ps : List Piece) (q : ℕ)
     → standing_at quote t p ≡ Pieces ps q → standing_at quote u (d + p) ≡ Pieces ps (d + q)
@@ -343,9 +391,10 @@ pieces_by : (k : ℕ) (t u : List ℕ) (d m quote p n o : ℕ) (s : Standing) �
     → IsQuote quote → At t u d m p → length t ≤ p + k → length t < p + n → length u < d + p + o
     → standing_at quote t p ≡ s → Spotted t u d m p s (standing_at quote u (d + p))
     → Told t u d m quote p n o
-pieces_by k t u d m quote p n o s a q here room fuel more e (inr (i, w, f)) =
+pieces_by k t u d m quote p n o s a q here room fuel more e (inr f) =
     let (x, en) = left_step p n (length t) fuel here.short in
-    rw en (pieces_torn t u d m quote p x o w i (e ∙ f))
+    let (y, eo) = left_step (d + p) o (length u) more here.long in
+    rw (en, eo) (pieces_torn t u d m quote p x y (subst (λ z. Tears u d m z (standing_at quote u (d + p))) (sym e) f))
 pieces_by k t u d m quote p n o Closing a q here room fuel more e (inl f) =
     let (x, en) = left_step p n (length t) fuel here.short in
     let (y, eo) = left_step (d + p) o (length u) more here.long in
@@ -383,7 +432,7 @@ valued_alike u d m r s h = record { carried = carry r s h.carried; placed = plac
     carry : (r s : Result (List Piece × ℕ) Wrong) → Carried u d m (moved_pair d) r s
         → Carried u d m (moved_pair d) (valued value r) (valued value s)
     carry r s (inl e) = inl (ap (valued value) e ∙ moves r)
-    carry r s (inr (i, w, e)) = inr (i, w, ap (valued value) e)
+    carry r s (inr t) = inr (torn_by (valued value) u d m r s (λ w. refl) t)
 
     placed : (r : Result (List Piece × ℕ) Wrong) → PairIn m r → PairIn m (valued value r)
     placed (Ok x) h = h

@@ -1,5 +1,5 @@
 -- The lexemes of the rest are the last ones of the whole, moved.
-use Rattle.std.proofs.Common.{◌≡◌, ℕ, zero, suc, ◌+◌, ◌-◌, ◌<◌, ◌≤◌, ◌==◌, ◌&&◌, nat_lt, true, false, List, [], ◌∷◌, ◌++◌, length, Some, None, Result, Ok, Err, refl, sym, ap, subst, ◌∙◌, inl, inr, ◌⊎◌, arith}
+use Rattle.std.proofs.Common.{◌≡◌, ℕ, zero, suc, ◌+◌, ◌-◌, ◌<◌, ◌≤◌, ◌==◌, ◌&&◌, nat_lt, true, false, List, [], ◌∷◌, ◌++◌, length, Some, None, Result, Ok, Err, refl, sym, ap, subst, ◌∙◌, inl, inr, ◌⊎◌, ◌≢◌, arith}
 use Rattle.std.proofs.lemmas.Bool.{cases_Bool}
 use Rattle.std.proofs.lemmas.Bool.Decides.{nat_tests}
 use Rattle.yaml_scan_history.specs.scan_model.declared.name.yaml_encoding_t.{yaml_encoding_t}
@@ -14,9 +14,10 @@ use Rattle.yaml_scan_history.specs.Kinds.{is_end}
 use Rattle.yaml_scan_history.specs.History.{reached, depth, in_flow, candidate, has, found_by, levels, key_allowed}
 use Rattle.yaml_scan_history.specs.Words.{WordText, kind_at, word_at}
 use Rattle.yaml_scan_history.specs.Next.{Next, Read, Fails, Ends, first_lexeme, gap_behind, kind_behind, begun_behind, word_behind, with_end, lexeme_behind, stale_before, coming, next, extended, step, history}
-use Rattle.yaml_scan_history.specs.Remaining.{SpelledText, body_of_word, body_by, body_in}
+use Rattle.yaml_scan_history.specs.Remaining.{SpelledText, body_of_word, body_by, body_in, all}
 use Rattle.yaml_scan_history.proofs.PlacesLemmas.{gap_place}
-use Rattle.yaml_scan_laws_order.proofs.HistoryForward.{Stands, history_stands, not_ended}
+use Rattle.yaml_scan_laws_order.proofs.HistoryForward.{Stands, history_stands, not_ended, all_ends, stays_all, last_is_all}
+use Rattle.yaml_scan_laws_windows.specs.Alike.{Alike}
 use Rattle.yaml_scan_laws_windows.specs.Cuts.{IsCut}
 use Rattle.yaml_scan_laws_windows.specs.Moved.{moved_mark, moved_lexeme, moved_next}
 use Rattle.yaml_scan_laws_windows.proofs.Bytes.{IsQuiet}
@@ -26,7 +27,7 @@ use Rattle.yaml_scan_laws_windows.proofs.Quotes.{end_no_mark}
 use Rattle.yaml_scan_laws_windows.proofs.Words.{moved_word}
 use Rattle.yaml_scan_laws_windows.proofs.Cutting.{first_mark, rest_columns, rest_lines, rest_alike, rest_end}
 use Rattle.yaml_scan_laws_windows.proofs.Histories.{Bases, moved_lexemes}
-use Rattle.yaml_scan_laws_windows.proofs.Coming.{Pair, pair_on, Said, lexeme_there}
+use Rattle.yaml_scan_laws_windows.proofs.Coming.{Pair, abreast, pair_on, Said, lexeme_there}
 use Rattle.yaml_scan_laws_windows.proofs.Stepping.{rest_said, rest_comes, HasRead, has_read, read_kind}
 use Rattle.yaml_scan_laws_windows.proofs.Fronts.{next_open, next_over, history_more}
 use Rattle.yaml_scan_laws_windows.proofs.Marking.{IsMark, mark_lexeme, mark_reads, none_left}
@@ -77,7 +78,7 @@ start_index x t H =
     ]
 
 -- the word of a lexeme that stands there
-word_of : (x : Kind) (t : List ℕ) (H : List Lexeme) (l : Lexeme) → lexeme_behind x t H ≡ l
+pub word_of : (x : Kind) (t : List ℕ) (H : List Lexeme) (l : Lexeme) → lexeme_behind x t H ≡ l
     → word_at x (nat_lt 0 l.depth) l.level t l.start.index ≡ word_behind x t H
 word_of x t H l e =
     let y = begun_behind x t H in
@@ -149,7 +150,7 @@ rest_marks a b cut q = rw (rest_lines a b cut q, rest_columns a b cut q) refl
 abbrev pub whole_base : Kind → List ℕ → List ℕ → List Lexeme → List Lexeme
 whole_base K a b H = mark_lexeme K (a ++ b) (length a) ∷ H
 
-mark_candidate : (K : Kind) (body : TokenBody) → IsMark K body
+pub mark_candidate : (K : Kind) (body : TokenBody) → IsMark K body
     → (t : List ℕ) (p : ℕ) (H : List Lexeme)
     (e : ℕ) → candidate e (mark_lexeme K t p ∷ H) ≡ None
 unfolding candidate
@@ -165,7 +166,8 @@ mark_candidate K body m t p H (suc e) =
     some : (e : ℕ) → nat_lt 0 (suc e) ≡ true
     some e = grind (arith, nat_tests)
 
-mark_levels : (K : Kind) (body : TokenBody) → IsMark K body → (t : List ℕ) (p : ℕ) (H : List Lexeme)
+pub mark_levels : (K : Kind) (body : TokenBody) → IsMark K body
+    → (t : List ℕ) (p : ℕ) (H : List Lexeme)
     → levels (mark_lexeme K t p ∷ H) ≡ []
 unfolding levels
 mark_levels K body m t p H = rw (m.start, m.outside) (none_left H)
@@ -175,26 +177,57 @@ pub rest_bases : (a b : List ℕ) → IsCut a b → (m : MarkStands false b 0) �
     → Bases (length a) (line_at (a ++ b) (length a)) (length H - 1) (rest_base m.kind b) (whole_base m.kind a b H)
 rest_bases a b cut m H some = record {
   depth = refl;
-  reached = rest_marks a b cut 3;
-  allowed = rw (m.is.allows true (has (found_by (mark_lexeme m.kind (a ++ b) (length a)) H)), m.is.allows true (has (found_by (mark_lexeme m.kind b 0) (first_lexeme ∷ [])))) refl;
   mine = λ e. mark_candidate m.kind m.body m.is b 0 (first_lexeme ∷ []) e;
   others = λ e. mark_candidate m.kind m.body m.is (a ++ b) (length a) H e;
   levels = mark_levels m.kind m.body m.is (a ++ b) (length a) H ∙ sym (mark_levels m.kind m.body m.is b 0 (first_lexeme ∷ []));
   count = omega (arith, some);
 }
 
+-- The rest's lexemes B, and the whole's C, in front of alike ones.
+pub record Ground (a b : List ℕ) (k : ℕ) (B C : List Lexeme) : Type 0 where
+  pub alike : Alike b (a ++ b) (length a) (suc (length b))
+  pub marks : (q : ℕ) → mark_at (a ++ b) (length a + q) ≡ moved_mark (length a) (line_at (a ++ b) (length a)) (mark_at b q)
+  pub bases : Bases (length a) (line_at (a ++ b) (length a)) k B C
+  pub pair : Pair b (a ++ b) (length a) (suc (length b)) (line_at (a ++ b) (length a)) k B C
+  pub mine : next b B ≡ coming (kind_behind b B) b B
+  pub others : next (a ++ b) C ≡ coming (kind_behind (a ++ b) C) (a ++ b) C
+
 reached_in : (t : List ℕ) (H : List Lexeme) → Stands t H → (reached H).index ≤ length t
 reached_in t [] s = omega arith
 reached_in t (l ∷ h) s = s.inside
 
-pub rest_pair : (a b : List ℕ) → IsCut a b → (m : MarkStands false b 0) → (H h : List Lexeme)
-    → 0 < length H → Stands b (h ++ rest_base m.kind b)
-    → Pair b (a ++ b) (length a) (suc (length b)) (line_at (a ++ b) (length a)) (length H - 1)
-    (h ++ rest_base m.kind b)
-    (moved_lexemes (length a) (line_at (a ++ b) (length a)) h ++ whole_base m.kind a b H)
-rest_pair a b cut m H h some s =
-    let inside = reached_in b (h ++ rest_base m.kind b) s in
-    pair_on b (a ++ b) (length a) (suc (length b)) (line_at (a ++ b) (length a)) (length H - 1) h (rest_base m.kind b) (whole_base m.kind a b H) (rest_alike a b cut) refl (rest_bases a b cut m H some) (omega (arith, inside))
+-- behind a mark
+pub rest_ground : (a b : List ℕ) → IsCut a b → (m : MarkStands false b 0) → (H : List Lexeme)
+    → 0 < length H → Ground a b (length H - 1) (rest_base m.kind b) (whole_base m.kind a b H)
+rest_ground a b cut m H some =
+    let bases = rest_bases a b cut m H some in
+    let inside = reached_in b (rest_base m.kind b) (subst (Stands b) (rest_begins a b cut m) (history_stands b 2)) in
+    record {
+      alike = rest_alike a b cut;
+      marks = rest_marks a b cut;
+      bases = bases;
+      pair = abreast b (a ++ b) (length a) (suc (length b)) (line_at (a ++ b) (length a)) (length H - 1) (rest_base m.kind b) (whole_base m.kind a b H) record {
+        alike = rest_alike a b cut;
+        line = refl;
+        same_depth = refl;
+        same_place = rest_marks a b cut 3;
+        same_allowed = rw (m.is.allows true (has (found_by (mark_lexeme m.kind (a ++ b) (length a)) H)), m.is.allows true (has (found_by (mark_lexeme m.kind b 0) (first_lexeme ∷ [])))) refl;
+        same_levels = bases.levels;
+        candidates = λ e. rw (bases.mine e, bases.others e) refl;
+        count = bases.count;
+        within = omega (arith, inside);
+      };
+      mine = next_open b (mark_lexeme m.kind b 0) (first_lexeme ∷ []) m.is.end;
+      others = next_open (a ++ b) (mark_lexeme m.kind (a ++ b) (length a)) H m.is.end;
+    }
+
+rest_pair : (a b : List ℕ) (k : ℕ) (B C : List Lexeme) → Ground a b k B C → (h : List Lexeme)
+    → Stands b (h ++ B)
+    → Pair b (a ++ b) (length a) (suc (length b)) (line_at (a ++ b) (length a)) k (h ++ B)
+    (moved_lexemes (length a) (line_at (a ++ b) (length a)) h ++ C)
+rest_pair a b k B C g h s =
+    let inside = reached_in b (h ++ B) s in
+    pair_on b (a ++ b) (length a) (suc (length b)) (line_at (a ++ b) (length a)) k h B C g.bases g.pair (omega (arith, inside))
 
 gap_in : (t : List ℕ) (H : List Lexeme) → Stands t H → (gap_behind t H).place < suc (length t)
 gap_in t H s =
@@ -202,31 +235,29 @@ gap_in t H s =
     let inside = place.inside in
     omega (arith, inside)
 
-rest_coming : (a b : List ℕ) → IsCut a b → (m : MarkStands false b 0) → (H h : List Lexeme)
-    → 0 < length H → Stands b (h ++ rest_base m.kind b)
-    → let G = moved_lexemes (length a) (line_at (a ++ b) (length a)) h ++ whole_base m.kind a b H in
+rest_coming : (a b : List ℕ) (k : ℕ) (B C : List Lexeme) → Ground a b k B C → (h : List Lexeme)
+    → Stands b (h ++ B)
+    → let G = moved_lexemes (length a) (line_at (a ++ b) (length a)) h ++ C in
     coming (kind_behind (a ++ b) G) (a ++ b) G
-    ≡ moved_next (length a) (line_at (a ++ b) (length a)) (coming (kind_behind b (h ++ rest_base m.kind b)) b (h ++ rest_base m.kind b))
-rest_coming a b cut m H h some s =
-    rest_comes b (a ++ b) (length a) (suc (length b)) (line_at (a ++ b) (length a)) (length H - 1) (h ++ rest_base m.kind b) (moved_lexemes (length a) (line_at (a ++ b) (length a)) h ++ whole_base m.kind a b H)
-    (rest_pair a b cut m H h some s) (end_no_mark (a ++ b) (length a + suc (length b)) (rest_end a b)) (rest_marks a b cut) (gap_in b (h ++ rest_base m.kind b) s)
+    ≡ moved_next (length a) (line_at (a ++ b) (length a)) (coming (kind_behind b (h ++ B)) b (h ++ B))
+rest_coming a b k B C g h s =
+    rest_comes b (a ++ b) (length a) (suc (length b)) (line_at (a ++ b) (length a)) k (h ++ B) (moved_lexemes (length a) (line_at (a ++ b) (length a)) h ++ C)
+    (rest_pair a b k B C g h s) (end_no_mark (a ++ b) (length a + suc (length b)) (rest_end a b)) g.marks (gap_in b (h ++ B) s)
 
-pub rest_next : (a b : List ℕ) → IsCut a b → (m : MarkStands false b 0) → (H h : List Lexeme)
-    → 0 < length H → Stands b (h ++ rest_base m.kind b)
-    → next (a ++ b) (moved_lexemes (length a) (line_at (a ++ b) (length a)) h ++ whole_base m.kind a b H)
-    ≡ moved_next (length a) (line_at (a ++ b) (length a)) (next b (h ++ rest_base m.kind b))
-rest_next a b cut m H [] some s =
-    next_open (a ++ b) (mark_lexeme m.kind (a ++ b) (length a)) H m.is.end ∙ rest_coming a b cut m H [] some s
-    ∙ ap (moved_next (length a) (line_at (a ++ b) (length a))) (sym (next_open b (mark_lexeme m.kind b 0) (first_lexeme ∷ []) m.is.end))
-rest_next a b cut m H (l ∷ h) some s =
+pub rest_next : (a b : List ℕ) (k : ℕ) (B C : List Lexeme) → Ground a b k B C → (h : List Lexeme)
+    → Stands b (h ++ B)
+    → next (a ++ b) (moved_lexemes (length a) (line_at (a ++ b) (length a)) h ++ C)
+    ≡ moved_next (length a) (line_at (a ++ b) (length a)) (next b (h ++ B))
+rest_next a b k B C g [] s = g.others ∙ rest_coming a b k B C g [] s ∙ ap (moved_next (length a) (line_at (a ++ b) (length a))) (sym g.mine)
+rest_next a b k B C g (l ∷ h) s =
     elim (cases_Bool (is_end l.kind)) [
       | inl e ↦
-          next_over (a ++ b) (moved_lexeme (length a) (line_at (a ++ b) (length a)) l) (moved_lexemes (length a) (line_at (a ++ b) (length a)) h ++ whole_base m.kind a b H) e
-          ∙ ap (moved_next (length a) (line_at (a ++ b) (length a))) (sym (next_over b l (h ++ rest_base m.kind b) e))
+          next_over (a ++ b) (moved_lexeme (length a) (line_at (a ++ b) (length a)) l) (moved_lexemes (length a) (line_at (a ++ b) (length a)) h ++ C) e
+          ∙ ap (moved_next (length a) (line_at (a ++ b) (length a))) (sym (next_over b l (h ++ B) e))
       | inr e ↦
-          next_open (a ++ b) (moved_lexeme (length a) (line_at (a ++ b) (length a)) l) (moved_lexemes (length a) (line_at (a ++ b) (length a)) h ++ whole_base m.kind a b H) e
-          ∙ rest_coming a b cut m H (l ∷ h) some s
-          ∙ ap (moved_next (length a) (line_at (a ++ b) (length a))) (sym (next_open b l (h ++ rest_base m.kind b) e))
+          next_open (a ++ b) (moved_lexeme (length a) (line_at (a ++ b) (length a)) l) (moved_lexemes (length a) (line_at (a ++ b) (length a)) h ++ C) e
+          ∙ rest_coming a b k B C g (l ∷ h) s
+          ∙ ap (moved_next (length a) (line_at (a ++ b) (length a))) (sym (next_open b l (h ++ B) e))
     ]
 
 -- what each of the lexemes carries is the same
@@ -236,71 +267,111 @@ AllCarry x t u d n (l ∷ h) =
     (body_in (record { encoding = x; text = u }) (moved_lexeme d n l) ≡ body_in (record { encoding = x; text = t }) l)
     × AllCarry x t u d n h
 
-rest_open : (a b : List ℕ) (m : MarkStands false b 0) (h : List Lexeme) (l : Lexeme)
-    → next b (h ++ rest_base m.kind b) ≡ Read l
-    → coming (kind_behind b (h ++ rest_base m.kind b)) b (h ++ rest_base m.kind b) ≡ Read l
-rest_open a b m [] l e = sym (next_open b (mark_lexeme m.kind b 0) (first_lexeme ∷ []) m.is.end) ∙ e
-rest_open a b m (y ∷ h) l e = sym (next_open b y (h ++ rest_base m.kind b) (not_ended b y (h ++ rest_base m.kind b) l e)) ∙ e
+rest_open : (a b : List ℕ) (k : ℕ) (B C : List Lexeme) → Ground a b k B C → (h : List Lexeme)
+    (l : Lexeme)
+    → next b (h ++ B) ≡ Read l → coming (kind_behind b (h ++ B)) b (h ++ B) ≡ Read l
+rest_open a b k B C g [] l e = sym g.mine ∙ e
+rest_open a b k B C g (y ∷ h) l e = sym (next_open b y (h ++ B) (not_ended b y (h ++ B) l e)) ∙ e
 
-rest_carries : (x : yaml_encoding_t) (a b : List ℕ) → IsCut a b → (m : MarkStands false b 0)
-    → (H h : List Lexeme) → 0 < length H → Stands b (h ++ rest_base m.kind b) → (l : Lexeme)
-    → next b (h ++ rest_base m.kind b) ≡ Read l
+rest_carries : (x : yaml_encoding_t) (a b : List ℕ) (k : ℕ) (B C : List Lexeme) → Ground a b k B C
+    → (h : List Lexeme) → Stands b (h ++ B) → (l : Lexeme) → next b (h ++ B) ≡ Read l
     → body_in (record { encoding = x; text = a ++ b }) (moved_lexeme (length a) (line_at (a ++ b) (length a)) l)
     ≡ body_in (record { encoding = x; text = b }) l
-rest_carries x a b cut m H h some s l e =
-    let G = moved_lexemes (length a) (line_at (a ++ b) (length a)) h ++ whole_base m.kind a b H in
-    let pair = rest_pair a b cut m H h some s in
-    let r = has_read b (h ++ rest_base m.kind b) l (rest_open a b m h l e) in
-    carries x b (a ++ b) (length a) (suc (length b)) (line_at (a ++ b) (length a)) (length H - 1) (h ++ rest_base m.kind b) G pair l r
-    (rest_said b (a ++ b) (length a) (suc (length b)) (line_at (a ++ b) (length a)) (length H - 1) (h ++ rest_base m.kind b) G pair (end_no_mark (a ++ b) (length a + suc (length b)) (rest_end a b)) (rest_marks a b cut) (gap_in b (h ++ rest_base m.kind b) s) r.kind r.stands)
+rest_carries x a b k B C g h s l e =
+    let G = moved_lexemes (length a) (line_at (a ++ b) (length a)) h ++ C in
+    let pair = rest_pair a b k B C g h s in
+    let r = has_read b (h ++ B) l (rest_open a b k B C g h l e) in
+    carries x b (a ++ b) (length a) (suc (length b)) (line_at (a ++ b) (length a)) k (h ++ B) G pair l r
+    (rest_said b (a ++ b) (length a) (suc (length b)) (line_at (a ++ b) (length a)) k (h ++ B) G pair (end_no_mark (a ++ b) (length a + suc (length b)) (rest_end a b)) g.marks (gap_in b (h ++ B) s) r.kind r.stands)
 
--- The lexemes of two steps and j more in the rest, and those of some in the whole.
-pub record Grown (x : yaml_encoding_t) (a b : List ℕ) (K : Kind) (H : List Lexeme) (j : ℕ) : Type 0 where
+-- so many steps more
+abbrev pub further : ℕ → ℕ → ℕ
+further zero i = i
+further (suc j) i = suc (further j i)
+
+pub further_is : (j i : ℕ) → further j i ≡ j + i
+further_is zero i = omega arith
+further_is (suc j) i = let e = further_is j i in omega (arith, e)
+
+-- The lexemes of i steps and j more in the rest, and those of some in the whole.
+pub record Grown (x : yaml_encoding_t) (a b : List ℕ) (B C : List Lexeme) (i j : ℕ) : Type 0 where
   pub lexemes : List Lexeme
-  pub mine : history b (suc (suc j)) ≡ lexemes ++ rest_base K b
+  pub mine : history b (further j i) ≡ lexemes ++ B
   pub steps : ℕ
   pub others : history (a ++ b) steps
-      ≡ moved_lexemes (length a) (line_at (a ++ b) (length a)) lexemes ++ whole_base K a b H
+      ≡ moved_lexemes (length a) (line_at (a ++ b) (length a)) lexemes ++ C
   pub carry : AllCarry x b (a ++ b) (length a) (line_at (a ++ b) (length a)) lexemes
 
-grow : (x : yaml_encoding_t) (a b : List ℕ) → IsCut a b → (m : MarkStands false b 0)
-    → (H : List Lexeme) → 0 < length H → (j : ℕ) → Grown x a b m.kind H j → (y : Next)
-    → next b (history b (suc (suc j))) ≡ y → Grown x a b m.kind H (suc j)
-grow x a b cut m H some j g (Read l) e =
+grow : (x : yaml_encoding_t) (a b : List ℕ) (k : ℕ) (B C : List Lexeme) → Ground a b k B C
+    → (i j : ℕ) → Grown x a b B C i j → (y : Next)
+    → next b (history b (further j i)) ≡ y → Grown x a b B C i (suc j)
+grow x a b k B C base i j g (Read l) e =
     let h = g.lexemes in
-    let stands : Stands b (h ++ rest_base m.kind b) = subst (Stands b) g.mine (history_stands b (suc (suc j))) in
-    let here : next b (h ++ rest_base m.kind b) ≡ Read l = ap (next b) (sym g.mine) ∙ e in
-    let there = rest_next a b cut m H h some stands ∙ ap (moved_next (length a) (line_at (a ++ b) (length a))) here in
+    let stands : Stands b (h ++ B) = subst (Stands b) g.mine (history_stands b (further j i)) in
+    let here : next b (h ++ B) ≡ Read l = ap (next b) (sym g.mine) ∙ e in
+    let there = rest_next a b k B C base h stands ∙ ap (moved_next (length a) (line_at (a ++ b) (length a))) here in
     record {
       lexemes = l ∷ h;
-      mine = history_more b (suc (suc j)) ∙ ap (λ z. extended z (history b (suc (suc j)))) e ∙ ap (λ z. l ∷ z) g.mine;
+      mine = history_more b (further j i) ∙ ap (λ z. extended z (history b (further j i))) e ∙ ap (λ z. l ∷ z) g.mine;
       steps = suc g.steps;
-      others = history_more (a ++ b) g.steps ∙ ap (step (a ++ b)) g.others ∙ ap (λ z. extended z (moved_lexemes (length a) (line_at (a ++ b) (length a)) h ++ whole_base m.kind a b H)) there;
-      carry = (rest_carries x a b cut m H h some stands l here, g.carry);
+      others = history_more (a ++ b) g.steps ∙ ap (step (a ++ b)) g.others ∙ ap (λ z. extended z (moved_lexemes (length a) (line_at (a ++ b) (length a)) h ++ C)) there;
+      carry = (rest_carries x a b k B C base h stands l here, g.carry);
     }
-grow x a b cut m H some j g (Fails f) e = record {
+grow x a b k B C base i j g (Fails f) e = record {
   lexemes = g.lexemes;
-  mine = history_more b (suc (suc j)) ∙ ap (λ z. extended z (history b (suc (suc j)))) e ∙ g.mine;
+  mine = history_more b (further j i) ∙ ap (λ z. extended z (history b (further j i))) e ∙ g.mine;
   steps = g.steps;
   others = g.others;
   carry = g.carry;
 }
-grow x a b cut m H some j g Ends e = record {
+grow x a b k B C base i j g Ends e = record {
   lexemes = g.lexemes;
-  mine = history_more b (suc (suc j)) ∙ ap (λ z. extended z (history b (suc (suc j)))) e ∙ g.mine;
+  mine = history_more b (further j i) ∙ ap (λ z. extended z (history b (further j i))) e ∙ g.mine;
   steps = g.steps;
   others = g.others;
   carry = g.carry;
 }
 
-pub grown : (x : yaml_encoding_t) (a b : List ℕ) → IsCut a b → (m : MarkStands false b 0)
-    → (H : List Lexeme) → 0 < length H → (n : ℕ)
-    → history (a ++ b) n ≡ whole_base m.kind a b H → (j : ℕ) → Grown x a b m.kind H j
-grown x a b cut m H some n e zero = record {
+pub grown : (x : yaml_encoding_t) (a b : List ℕ) (k : ℕ) (B C : List Lexeme) → Ground a b k B C
+    → (i : ℕ) → history b i ≡ B → (n : ℕ) → history (a ++ b) n ≡ C → (j : ℕ) → Grown x a b B C i j
+grown x a b k B C g i begins n e zero = record {
   lexemes = [];
-  mine = rest_begins a b cut m;
+  mine = begins;
   steps = n;
   others = e;
   carry = tt;
 }
-grown x a b cut m H some n e (suc j) = grow x a b cut m H some j (grown x a b cut m H some n e j) (next b (history b (suc (suc j)))) refl
+grown x a b k B C g i begins n e (suc j) = grow x a b k B C g i j (grown x a b k B C g i begins n e j) (next b (history b (further j i))) refl
+
+moved_never : (d n : ℕ) (y : Next) → ((l : Lexeme) → y ≢ Read l) → (l : Lexeme)
+    → moved_next d n y ≢ Read l
+moved_never d n (Read k) never l e = never k refl
+moved_never d n (Fails p) never l e = cc
+moved_never d n Ends never l e = cc
+
+-- all of the whole's lexemes, and what comes behind them
+pub record Whole (x : yaml_encoding_t) (a b : List ℕ) (B C : List Lexeme) : Type 0 where
+  pub lexemes : List Lexeme
+  pub mine : all b ≡ lexemes ++ B
+  pub others : all (a ++ b) ≡ moved_lexemes (length a) (line_at (a ++ b) (length a)) lexemes ++ C
+  pub comes : next (a ++ b) (all (a ++ b)) ≡ moved_next (length a) (line_at (a ++ b) (length a)) (next b (all b))
+  pub carry : AllCarry x b (a ++ b) (length a) (line_at (a ++ b) (length a)) lexemes
+
+pub whole : (x : yaml_encoding_t) (a b : List ℕ) (k : ℕ) (B C : List Lexeme) → Ground a b k B C
+    → (i : ℕ) → history b i ≡ B → (n : ℕ) → history (a ++ b) n ≡ C → Whole x a b B C
+whole x a b k B C base i begins n e =
+    let j = length b + 2 in
+    let far = further_is j i in
+    let g = grown x a b k B C base i begins n e j in
+    let mine = sym (stays_all b (further j i) (omega (arith, far))) ∙ g.mine in
+    let stands : Stands b (g.lexemes ++ B) = subst (Stands b) g.mine (history_stands b (further j i)) in
+    let comes = rest_next a b k B C base g.lexemes stands ∙ ap (λ h. moved_next (length a) (line_at (a ++ b) (length a)) (next b h)) (sym mine) in
+    let never = moved_never (length a) (line_at (a ++ b) (length a)) (next b (all b)) (all_ends b) in
+    let others = last_is_all (a ++ b) g.steps (λ l f. never l (sym (ap (next (a ++ b)) g.others ∙ comes) ∙ f)) ∙ g.others in
+    record {
+      lexemes = g.lexemes;
+      mine = mine;
+      others = others;
+      comes = ap (next (a ++ b)) others ∙ comes;
+      carry = g.carry;
+    }

@@ -5,7 +5,6 @@ use Rattle.yaml_scan_history.specs.scan_model.declared.problem.ScanFault.{ScanFa
 use Rattle.yaml_scan_history.specs.scan_model.Marks.{byte, mark_at}
 use Rattle.yaml_scan_history.specs.scan_model.Breaks.{is_document_indicator}
 use Rattle.yaml_scan_history.specs.scan_model.Wrong.{Wrong}
-use Rattle.yaml_scan_history.specs.scan_words.Between.{Gap}
 use Rattle.yaml_scan_history.specs.declared.kind.Kind.{Kind}
 use Rattle.yaml_scan_history.specs.declared.kind.Kind.TheVariants as kinds
 use Rattle.yaml_scan_history.specs.declared.lexeme.Lexeme.{Lexeme}
@@ -15,25 +14,24 @@ use Rattle.yaml_scan_history.specs.Words.{WordText, word_at}
 use Rattle.yaml_scan_history.specs.Next.{Read, Fails, gap_behind, place_behind, kind_behind, begun_behind, word_behind, with_end, lexeme_behind, stale_before, indicator_misplaced, candidate_lost, wrong_in, text_wrong, stale_after, first_fault_or, coming, no_start}
 use Rattle.yaml_scan_laws_order.proofs.WordForward.{Fits, FitsAny, kind_fits, LandsWord, IsWordFrom, word_lands}
 use Rattle.yaml_scan_laws_windows.specs.Moved.{moved_mark, moved_lexeme, moved_next}
-use Rattle.yaml_scan_laws_windows.proofs.Words.{end_kind, kind_onward, WordCarried, word_alike}
-use Rattle.yaml_scan_laws_windows.proofs.Coming.{Pair, gap_there, begun_there, Said, coming_there}
+use Rattle.yaml_scan_laws_windows.proofs.Words.{end_kind, kind_onward, kind_text, WordCarried, word_alike}
+use Rattle.yaml_scan_laws_windows.proofs.Coming.{Pair, begun_there, Said, coming_there}
 
 -- ---- the word there
 
-word_there : (t u : List ℕ) (d m n k : ℕ) (H G : List Lexeme) → Pair t u d m n k H G
+pub word_there : (t u : List ℕ) (d m n k : ℕ) (H G : List Lexeme) → Pair t u d m n k H G
     → (gap_behind t H).place < m → (x : Kind) → kind_behind t H ≡ Some x
     → WordCarried u d m (word_behind x t H) (word_behind x u G)
 word_there t u d m n k H G p l x e =
-    let gap = gap_there t u d m n k H G p in
     let at = (gap_behind t H).place in
-    let same = ap (λ (g : Gap). word_at x (in_flow G) (begun_behind x u G).level u g.place) gap.same
+    let same = ap (word_at x (in_flow G) (begun_behind x u G).level u) p.place
     ∙ ap (λ (y : Lexeme). word_at x (in_flow G) y.level u (d + at)) (begun_there t u d m n k H G p x)
     ∙ ap (λ (y : ℕ). word_at x (nat_lt 0 y) (begun_behind x t H).level u (d + at)) p.same_depth in
     subst (λ s. WordCarried u d m (word_behind x t H) s) (sym same)
-    (word_alike x (in_flow H) (begun_behind x t H).level t u d m at p.alike l (λ go. kind_onward (in_flow H) t at x e go))
+    (word_alike x (in_flow H) (begun_behind x t H).level t u d m at p.alike l (λ go. kind_onward (in_flow H) t at x e go) (kind_text (in_flow H) t at x e))
 
 -- what is read lies in the text
-word_inside : (t : List ℕ) (H : List Lexeme) (x : Kind) → kind_behind t H ≡ Some x
+pub word_inside : (t : List ℕ) (H : List Lexeme) (x : Kind) → kind_behind t H ≡ Some x
     → is_end x ≡ false → (w : WordText) → word_behind x t H ≡ Ok w
     → (w.end ≤ length t) × (w.reached ≤ length t)
 word_inside t H x e go w is =
@@ -57,7 +55,7 @@ rest_said t u d m n k H G p none marks l x e =
     record {
       same = elim (word_there t u d m n k H G p l x e) [
         | inl same ↦ same
-        | inr (mark, w, bad) ↦ absurd (true≢false (sym mark ∙ none))
+        | inr torn ↦ absurd (true≢false (sym torn.mark ∙ none))
       ];
       wrong = λ w bad. marks w.place;
       ends = λ w is go. let (end, place) = word_inside t H x e go w is in (omega (arith, end, covers), omega (arith, place, covers));
@@ -103,7 +101,7 @@ pub clean : (t : List ℕ) (H : List Lexeme) (x : Kind) (l : Lexeme)
     → coming (Some x) t H ≡ Read l → IsClean t H x l
 clean t H x l r = clean_of t H x l (lexeme_behind x t H) (stale_before t H) (indicator_misplaced x t H) (candidate_lost x t H) (text_wrong x t H) (stale_after (lexeme_behind x t H) H) refl refl refl refl refl r
 
-none_reads : (t : List ℕ) (H : List Lexeme) (l : Lexeme) → coming None t H ≢ Read l
+pub none_reads : (t : List ℕ) (H : List Lexeme) (l : Lexeme) → coming None t H ≢ Read l
 none_reads t H l e = go (stale_before t H) e
   where
     go : (o : Option ScanFault) → first_fault_or (o ∷ []) (Fails (no_start (place_behind t H))) ≡ Read l → ⊥
@@ -159,7 +157,7 @@ read_within t u d m n k H G p l r go =
     elim (cases_lt (gap_behind t H).place m) [
       | inl on ↦ on
       | inr past ↦
-          let inside = (gap_there t u d m n k H G p).inside in
+          let inside = p.inside in
           let e : (gap_behind t H).place ≡ m = omega (arith, past, inside) in
           let zero : byte t (gap_behind t H).place ≡ 0 = ap (λ q. byte t q) e ∙ p.alike.edge in
           let same = some_same kinds.StreamEnd r.kind (sym (end_kind (in_flow H) t (gap_behind t H).place zero) ∙ r.stands) in
@@ -174,7 +172,7 @@ front_said t u d m n k H G p l r go =
     record {
       same = elim (word_there t u d m n k H G p (read_within t u d m n k H G p l r go) r.kind r.stands) [
         | inl same ↦ same
-        | inr (mark, w, bad) ↦ absurd (ok_not r.word w (sym r.reads ∙ bad))
+        | inr torn ↦ absurd (ok_not r.word torn.wrong (sym r.reads ∙ torn.mine))
       ];
       wrong = λ w bad. absurd (ok_not r.word w (sym r.reads ∙ bad));
       ends = λ w is go. let (end, place) = word_inside t H r.kind r.stands go w is in (omega (arith, end, covers), omega (arith, place, covers));

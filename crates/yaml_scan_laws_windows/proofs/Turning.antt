@@ -7,7 +7,6 @@ use Rattle.yaml_scan_history.specs.scan_model.Tokens.{TokenBody}
 use Rattle.yaml_scan_history.specs.scan_model.Marks.{byte, column_at, mark_at, is_blank_or_end}
 use Rattle.yaml_scan_history.specs.scan_model.Breaks.{is_document_indicator}
 use Rattle.yaml_scan_history.specs.scan_words.Indicators.{is_document_start, is_document_end}
-use Rattle.yaml_scan_history.specs.scan_words.Between.{Gap}
 use Rattle.yaml_scan_history.specs.scan_scalars.Plain.{starts_plain}
 use Rattle.yaml_scan_history.specs.declared.kind.Kind.{Kind}
 use Rattle.yaml_scan_history.specs.declared.kind.Kind.TheVariants as kinds
@@ -23,7 +22,7 @@ use Rattle.yaml_scan_laws_windows.specs.Cuts.{IsCut}
 use Rattle.yaml_scan_laws_windows.specs.Moved.{moved_mark}
 use Rattle.yaml_scan_laws_windows.proofs.Words.{kind_alike}
 use Rattle.yaml_scan_laws_windows.proofs.Cutting.{cut_column, front_alike, rest_alike}
-use Rattle.yaml_scan_laws_windows.proofs.Coming.{moved_fault, mark_alike, gap_there, place_there, stale_there}
+use Rattle.yaml_scan_laws_windows.proofs.Coming.{moved_fault, mark_alike, place_there, stale_there}
 use Rattle.yaml_scan_laws_windows.proofs.Stepping.{has_read, read_kind}
 use Rattle.yaml_scan_laws_windows.proofs.Fronts.{mark_zero, front_pair, next_open}
 use Rattle.yaml_scan_laws_windows.proofs.Marking.{IsMark, start_mark, end_mark, mark_lexeme, IsFree, mark_reads}
@@ -71,7 +70,7 @@ kind_goes flow t p h =
     (pick (is_document_end t p) kinds.DocumentEnd _ refl
     (plain_goes (indicator_of flow (is_blank_or_end t (p + 1)) (byte t p)) (starts_plain flow t p) (indicator_goes flow (is_blank_or_end t (p + 1)) (byte t p))))))
 
-end_byte : (flow : Bool) (t : List ℕ) (p : ℕ) (k : Kind) → kind_at flow t p ≡ Some k
+pub end_byte : (flow : Bool) (t : List ℕ) (p : ℕ) (k : Kind) → kind_at flow t p ≡ Some k
     → is_end k ≡ true
     → byte t p ≡ 0
 end_byte flow t p k e end =
@@ -80,7 +79,7 @@ end_byte flow t p k e end =
       | inr h ↦ absurd (true≢false (sym end ∙ subst NotEnd e (kind_goes flow t p h)))
     ]
 
-end_is : (k : Kind) → is_end k ≡ true → k ≡ kinds.StreamEnd
+pub end_is : (k : Kind) → is_end k ≡ true → k ≡ kinds.StreamEnd
 end_is kinds.StreamEnd h = refl
 end_is _ h = absurd (true≢false (sym h))
 
@@ -146,7 +145,7 @@ starts flow t p h =
     let percent : (byte t p == 37) ≡ false = rw b refl in
     rw (zero, percent, h) refl
 
-finishes : (flow : Bool) (t : List ℕ) (p : ℕ) → is_document_end t p ≡ true
+pub finishes : (flow : Bool) (t : List ℕ) (p : ℕ) → is_document_end t p ≡ true
     → kind_at flow t p ≡ Some kinds.DocumentEnd
 unfolding kind_at
 finishes flow t p h =
@@ -166,7 +165,7 @@ mark_stands flow t p h =
 
 -- ---- the turn
 
-free_of : (l : Lexeme) (o : Option Candidate) → cancels l.kind ≡ true → is_value l.kind ≡ false
+pub free_of : (l : Lexeme) (o : Option Candidate) → cancels l.kind ≡ true → is_value l.kind ≡ false
     → lost_by l o ≡ None → IsFree o
 free_of l None c v e = tt
 free_of l (Some x) c v e =
@@ -181,14 +180,14 @@ free_of l (Some x) c v e =
     some_not : {A : Type 0} {y : A} → Some y ≡ None → ⊥
     some_not e = cc
 
-colon_none : (o : Option yaml_mark_t) (m : yaml_mark_t) → colon_missing_of o m ≡ None → o ≡ None
+pub colon_none : (o : Option yaml_mark_t) (m : yaml_mark_t) → colon_missing_of o m ≡ None → o ≡ None
 colon_none None m e = refl
 colon_none (Some x) m e = absurd (some_not e)
   where
     some_not : {A : Type 0} {y : A} → Some y ≡ None → ⊥
     some_not e = cc
 
-end_begun : (t : List ℕ) (H : List Lexeme)
+pub end_begun : (t : List ℕ) (H : List Lexeme)
     → lexeme_behind kinds.StreamEnd t H ≡ begun_behind kinds.StreamEnd t H
 unfolding word_at
 end_begun t H = refl
@@ -201,7 +200,7 @@ pub record Turns (a b : List ℕ) (K : Kind) (H : List Lexeme) (E : Lexeme) : Ty
   pub end : E.end ≡ E.start
   pub outer : E.depth ≡ 0
 
-end_place : (a b : List ℕ) → IsCut a b → (H : List Lexeme) → (reached H).index ≤ length a
+pub end_place : (a b : List ℕ) → IsCut a b → (H : List Lexeme) → (reached H).index ≤ length a
     → byte a (gap_behind a H).place ≡ 0 → (gap_behind a H).place ≡ length a
 end_place a b cut H inside none =
     let place = gap_place (in_flow H) (key_allowed H) a (reached H).index inside in
@@ -219,7 +218,7 @@ mark_there a b cut =
     mark_alike a (a ++ b) 0 (length a) 0 (length a) alike (sym (start_line (a ++ b))) (omega arith) in
     sym (ap (mark_at (a ++ b)) (sym e) ∙ there ∙ mark_zero (mark_at a (length a)))
 
-end_mark_placed : (a b : List ℕ) → IsCut a b
+pub end_mark_placed : (a b : List ℕ) → IsCut a b
     → placed kinds.StreamEnd (mark_at (a ++ b) (length a)) ≡ mark_at (a ++ b) (length a)
 end_mark_placed a b cut = rw (cut_column a b cut) refl
 
@@ -238,8 +237,8 @@ turns a b cut (x ∷ h) stands E e end z m =
     let none = end_byte (in_flow H) a (gap_behind a H).place r.kind r.stands over in
     let at = end_place a b cut H stands.inside none in
     let pair = front_pair a b cut H stands.inside in
-    let gap = (gap_there a W 0 (length a) 0 0 H H pair).same in
-    let there : (gap_behind W H).place ≡ length a = omega (arith, ap (λ (g : Gap). g.place) gap, at) in
+    let gap = pair.place in
+    let there : (gap_behind W H).place ≡ length a = omega (arith, gap, at) in
     let stale : stale_before W H ≡ None = stale_there a W 0 (length a) 0 0 H H pair ∙ ap (moved_fault 0 0) r.clean.stale in
     let place : place_behind W H ≡ place_behind a H = place_there a W 0 (length a) 0 0 H H pair ∙ mark_zero (place_behind a H) in
     let lost : candidate_lost kinds.StreamEnd a H ≡ None = ap (λ k. candidate_lost k a H) (sym is) ∙ r.clean.lost in

@@ -7,7 +7,7 @@ use Rattle.std.specs.List.{flat_map}
 use Rattle.yaml_scan_history.specs.scan_model.declared.name.yaml_encoding_t.{yaml_encoding_t}
 use Rattle.yaml_scan_history.specs.scan_model.declared.record.yaml_mark_t.{yaml_mark_t}
 use Rattle.yaml_scan_history.specs.scan_model.declared.problem.ScanFault.{ScanFault}
-use Rattle.yaml_scan_history.specs.scan_model.Tokens.{stream_start, document_start, stream_end, Token, TokenBody, block_end, zero_mark}
+use Rattle.yaml_scan_history.specs.scan_model.Tokens.{stream_start, document_start, stream_end, Token, TokenBody, block_end}
 use Rattle.yaml_scan_history.specs.scan_model.Faults.{Fault}
 use Rattle.yaml_scan_history.specs.scan_model.Marks.{line_at, mark_at}
 use Rattle.yaml_scan_history.specs.scan_words.Indicators.{is_document_start}
@@ -20,7 +20,7 @@ use Rattle.yaml_scan_history.specs.History.{depth, ended, candidate, levels, ent
 use Rattle.yaml_scan_history.specs.Words.{word_at}
 use Rattle.yaml_scan_history.specs.Next.{Next, Read, Fails, Ends, first_lexeme, lexeme_behind, no_start, place_behind, stale_before, first_fault_or, kind_behind, coming, next, extended, history, indicator_misplaced, candidate_lost, text_wrong, stale_after}
 use Rattle.yaml_scan_history.specs.Remaining.{SpelledText, body_of_word, body_by, body_in, token_in, start_tokens, end_tokens, spell, all, fault_in, Remaining, offline}
-use Rattle.yaml_scan_laws_order.proofs.HistoryForward.{Stands, history_stands, first_is, not_ended, all_ends, last_is_all}
+use Rattle.yaml_scan_laws_order.proofs.HistoryForward.{Stands, history_stands, first_is, not_ended, all_ends}
 use Rattle.yaml_scan_laws_windows.specs.Cuts.{IsCut}
 use Rattle.yaml_scan_laws_windows.specs.Moved.{moved_mark, moved_token, moved_lexeme, moved_fault, moved_next}
 use Rattle.yaml_scan_laws_windows.specs.Laws.{scan_of, WindowsAreScanned}
@@ -30,7 +30,7 @@ use Rattle.yaml_scan_laws_windows.proofs.Fronts.{mark_zero, lexeme_zero, front_p
 use Rattle.yaml_scan_laws_windows.proofs.Marking.{start_mark, IsMark, mark_lexeme, none_left}
 use Rattle.yaml_scan_laws_windows.proofs.Turning.{starts, MarkStands, mark_stands, Turns, turns, mark_there}
 use Rattle.yaml_scan_laws_windows.proofs.Depths.{read_deep}
-use Rattle.yaml_scan_laws_windows.proofs.Rests.{body_same, carries, AllCarry, rest_base, whole_base, rest_bases, rest_next, rest_marks, grown}
+use Rattle.yaml_scan_laws_windows.proofs.Rests.{body_same, carries, AllCarry, rest_base, whole_base, rest_begins, rest_bases, rest_ground, rest_marks, Whole, whole}
 use Rattle.yaml_scan_laws_windows.proofs.Entering.{moved_entry, entered}
 use Rattle.yaml_scan_laws_windows.proofs.Joining.{spells_moved, told, offline_told, offline_fault, parted}
 
@@ -39,7 +39,7 @@ use Rattle.yaml_scan_laws_windows.proofs.Joining.{spells_moved, told, offline_to
 none_some : {A : Type 0} {x : A} → None ≡ Some x → ⊥
 none_some e = cc
 
-fault_none : (x : Next) → fault_in x ≡ None → ((l : Lexeme) → x ≢ Read l) → x ≡ Ends
+pub fault_none : (x : Next) → fault_in x ≡ None → ((l : Lexeme) → x ≢ Read l) → x ≡ Ends
 fault_none (Read l) e never = absurd (never l refl)
 fault_none (Fails p) e never = absurd (none_some (sym e))
 fault_none Ends e never = refl
@@ -57,19 +57,19 @@ never_over : (a : Option ScanFault) (f : ScanFault) → first_fault_or (a ∷ []
 never_over (Some x) f is = cc
 never_over None f is = cc
 
-coming_goes : (o : Option Kind) (t : List ℕ) (h : List Lexeme) → coming o t h ≡ Ends → ⊥
+pub coming_goes : (o : Option Kind) (t : List ℕ) (h : List Lexeme) → coming o t h ≡ Ends → ⊥
 coming_goes None t h e = never_over (stale_before t h) (no_start (place_behind t h)) e
 coming_goes (Some k) t h e =
     never_ends (stale_before t h) (indicator_misplaced k t h) (candidate_lost k t h) (text_wrong k t h) (stale_after (lexeme_behind k t h) h) (lexeme_behind k t h) e
 
-first_goes : (t : List ℕ) → next t [] ≡ Ends → ⊥
+pub first_goes : (t : List ℕ) → next t [] ≡ Ends → ⊥
 unfolding next
 first_goes t e = read_ends first_lexeme e
   where
     read_ends : (l : Lexeme) → Read l ≡ Ends → ⊥
     read_ends l e = cc
 
-ends_ended : (t : List ℕ) (h : List Lexeme) → next t h ≡ Ends → ended h ≡ true
+pub ends_ended : (t : List ℕ) (h : List Lexeme) → next t h ≡ Ends → ended h ≡ true
 ends_ended t [] e = absurd (first_goes t e)
 ends_ended t (x ∷ h) e =
     elim (cases_Bool (is_end x.kind)) [
@@ -79,25 +79,30 @@ ends_ended t (x ∷ h) e =
 
 -- ---- what the front's lexemes carry
 
-front_carry : (x : yaml_encoding_t) (a b : List ℕ) → IsCut a b → (n : ℕ) (E : Lexeme) → EndsAt a n E
+-- what a lexeme of the front carries is the same in the whole
+pub front_carried : (x : yaml_encoding_t) (a b : List ℕ) → IsCut a b → (H : List Lexeme)
+    → Stands a H
+    → (l : Lexeme)
+    → next a H ≡ Read l → is_end l.kind ≡ false
+    → body_in (record { encoding = x; text = a ++ b }) (moved_lexeme 0 0 l) ≡ body_in (record { encoding = x; text = a }) l
+front_carried x a b cut [] s l e go = subst (λ (y : Lexeme). body_in (record { encoding = x; text = a ++ b }) (moved_lexeme 0 0 y) ≡ body_in (record { encoding = x; text = a }) y) (first_is a l e) refl
+front_carried x a b cut (y ∷ h) s l e go =
+    let H = y ∷ h in
+    let pair = front_pair a b cut H s.inside in
+    let r = has_read a H l (sym (next_open a y h (not_ended a y h l e)) ∙ e) in
+    carries x a (a ++ b) 0 (length a) 0 0 H H pair l r (front_said a (a ++ b) 0 (length a) 0 0 H H pair l r go)
+
+pub front_carry : (x : yaml_encoding_t) (a b : List ℕ) → IsCut a b → (n : ℕ) (E : Lexeme)
+    → EndsAt a n E
     → (j : ℕ) → j ≤ n → AllCarry x a (a ++ b) 0 0 (history a j)
 unfolding history
 front_carry x a b cut n E at zero le = tt
 front_carry x a b cut n E at (suc j) le =
     let (l, reads, more) = reads_before a n j E at (omega (arith, le)) in
     let rest = front_carry x a b cut n E at j (omega (arith, le)) in
-    subst (λ y. AllCarry x a (a ++ b) 0 0 (extended y (history a j))) (sym reads) (carried (history a j) (history_stands a j) l reads more, rest)
-  where
-    carried : (H : List Lexeme) → Stands a H → (l : Lexeme) → next a H ≡ Read l → is_end l.kind ≡ false
-        → body_in (record { encoding = x; text = a ++ b }) (moved_lexeme 0 0 l) ≡ body_in (record { encoding = x; text = a }) l
-    carried [] s l e go = subst (λ (y : Lexeme). body_in (record { encoding = x; text = a ++ b }) (moved_lexeme 0 0 y) ≡ body_in (record { encoding = x; text = a }) y) (first_is a l e) refl
-    carried (y ∷ h) s l e go =
-        let H = y ∷ h in
-        let pair = front_pair a b cut H s.inside in
-        let r = has_read a H l (sym (next_open a y h (not_ended a y h l e)) ∙ e) in
-        carries x a (a ++ b) 0 (length a) 0 0 H H pair l r (front_said a (a ++ b) 0 (length a) 0 0 H H pair l r go)
+    subst (λ y. AllCarry x a (a ++ b) 0 0 (extended y (history a j))) (sym reads) (front_carried x a b cut (history a j) (history_stands a j) l reads more, rest)
 
-lexemes_zero : (h : List Lexeme) → moved_lexemes 0 0 h ≡ h
+pub lexemes_zero : (h : List Lexeme) → moved_lexemes 0 0 h ≡ h
 lexemes_zero [] = refl
 lexemes_zero (l ∷ h) = ap (λ z. z ∷ moved_lexemes 0 0 h) (lexeme_zero l) ∙ ap (λ z. l ∷ z) (lexemes_zero h)
 
@@ -108,31 +113,30 @@ entries_zero (e ∷ es) = ap (λ z. z ∷ map (moved_entry 0 0) es) (entry_zero 
     entry_zero : (e : Entry) → moved_entry 0 0 e ≡ e
     entry_zero e = rw (lexeme_zero e.lexeme) refl
 
-tokens_zero : (ts : List Token) → map (moved_token 0 0) ts ≡ ts
+pub tokens_zero : (ts : List Token) → map (moved_token 0 0) ts ≡ ts
 tokens_zero [] = refl
 tokens_zero (t ∷ ts) = ap (λ z. z ∷ map (moved_token 0 0) ts) (token_zero t) ∙ ap (λ z. t ∷ z) (tokens_zero ts)
   where
     token_zero : (t : Token) → moved_token 0 0 t ≡ t
     token_zero t = rw (mark_zero t.start_mark, mark_zero t.end_mark) refl
 
-no_bases : Bases 0 0 0 [] []
+pub no_bases : Bases 0 0 0 [] []
 unfolding candidate levels
 no_bases = record {
   depth = refl;
-  reached = sym (mark_zero zero_mark);
-  allowed = refl;
   mine = λ e. refl;
   others = λ e. refl;
   levels = refl;
   count = refl;
 }
 
-no_entries : entries [] ≡ []
+pub no_entries : entries [] ≡ []
 unfolding entries
 no_entries = refl
 
 -- the front's tokens in front of its end
-front_told : (x : yaml_encoding_t) (a b : List ℕ) (h : List Lexeme) → AllCarry x a (a ++ b) 0 0 h
+pub front_told : (x : yaml_encoding_t) (a b : List ℕ) (h : List Lexeme)
+    → AllCarry x a (a ++ b) 0 0 h
     → flat_map (spell (record { encoding = x; text = a ++ b })) (entries h)
     ≡ flat_map (spell (record { encoding = x; text = a })) (entries h)
 front_told x a b h carry =
@@ -151,12 +155,12 @@ closing m = record { body = block_end; start_mark = m; end_mark = m }
 abbrev closings : List Lexeme → yaml_mark_t → List Token
 closings H m = replicate (length (levels H) - 0) (closing m)
 
-end_entries : (E : Lexeme) (H : List Lexeme) → E.kind ≡ kinds.StreamEnd
+pub end_entries : (E : Lexeme) (H : List Lexeme) → E.kind ≡ kinds.StreamEnd
     → entries (E ∷ H) ≡ entries H ++ entry_of E H ∷ []
 unfolding entries
 end_entries E H k = rw k refl
 
-end_spelled : (s : SpelledText) (E : Lexeme) (H : List Lexeme) (m : yaml_mark_t)
+pub end_spelled : (s : SpelledText) (E : Lexeme) (H : List Lexeme) (m : yaml_mark_t)
     → E.kind ≡ kinds.StreamEnd → E.depth ≡ 0 → E.start ≡ m
     → spell s (entry_of E H) ≡ closings H m ++ token_in s E ∷ []
 end_spelled s E H m k z e =
@@ -185,7 +189,7 @@ mark_spelled s K body m t p H =
     ∙ ap (λ y. y ++ token_in s E ∷ []) (append-nil (closings H (mark_at t p)))
 
 -- STREAM-START and the mark
-first_told : (s : SpelledText) (K : Kind) (body : TokenBody) → IsMark K body → (b : List ℕ)
+pub first_told : (s : SpelledText) (K : Kind) (body : TokenBody) → IsMark K body → (b : List ℕ)
     → flat_map (spell s) (entries (rest_base K b)) ≡ token_in s first_lexeme ∷ token_in s (mark_lexeme K b 0) ∷ []
 unfolding entries levels candidate
 first_told s K body m b = rw (m.value, m.start) refl
@@ -216,15 +220,9 @@ fault_moved d n (Read l) = refl
 fault_moved d n (Fails p) = refl
 fault_moved d n Ends = refl
 
-made : (r : Remaining) (ts : List Token) (f : Option Fault) → r.tokens ≡ ts → r.fault ≡ f
+pub made : (r : Remaining) (ts : List Token) (f : Option Fault) → r.tokens ≡ ts → r.fault ≡ f
     → r ≡ record { tokens = ts; fault = f }
 made r ts f e g = ap (λ (z : List Token). record { tokens = z; fault = r.fault }) e ∙ ap (λ (z : Option Fault). record { tokens = ts; fault = z }) g
-
-moved_never : (d n : ℕ) (y : Next) → ((l : Lexeme) → y ≢ Read l) → (l : Lexeme)
-    → moved_next d n y ≢ Read l
-moved_never d n (Read k) never l e = never k refl
-moved_never d n (Fails p) never l e = cc
-moved_never d n Ends never l e = cc
 
 some_before : (a : List ℕ) (H : List Lexeme) (E : Lexeme) → next a H ≡ Read E → is_end E.kind ≡ true
     → 0 < length H
@@ -243,39 +241,19 @@ end_depth a (x ∷ h) E e end z =
     over kinds.StreamEnd d h = refl
     over _ d h = absurd (true≢false (sym h))
 
--- all of the whole's lexemes, and what comes behind them
-record Whole (x : yaml_encoding_t) (a b : List ℕ) (K : Kind) (H : List Lexeme) : Type 0 where
-  pub lexemes : List Lexeme
-  pub mine : all b ≡ lexemes ++ rest_base K b
-  pub others : all (a ++ b)
-      ≡ moved_lexemes (length a) (line_at (a ++ b) (length a)) lexemes ++ whole_base K a b H
-  pub comes : next (a ++ b) (all (a ++ b)) ≡ moved_next (length a) (line_at (a ++ b) (length a)) (next b (all b))
-  pub carry : AllCarry x b (a ++ b) (length a) (line_at (a ++ b) (length a)) lexemes
-
-all_is : (t : List ℕ) → all t ≡ history t (suc (suc (length t)))
+pub all_is : (t : List ℕ) → all t ≡ history t (suc (suc (length t)))
 unfolding all
 all_is t = let e : length t + 2 ≡ suc (suc (length t)) = omega arith in ap (history t) e
 
-whole : (x : yaml_encoding_t) (a b : List ℕ) → IsCut a b → (m : MarkStands false b 0)
+-- all of the whole's lexemes, where the rest begins with a mark
+marked : (x : yaml_encoding_t) (a b : List ℕ) → IsCut a b → (m : MarkStands false b 0)
     → (H : List Lexeme)
-    → 0 < length H → (n : ℕ) → history (a ++ b) n ≡ whole_base m.kind a b H → Whole x a b m.kind H
-whole x a b cut m H some n e =
-    let g = grown x a b cut m H some n e (length b) in
-    let G = moved_lexemes (length a) (line_at (a ++ b) (length a)) g.lexemes ++ whole_base m.kind a b H in
-    let mine = all_is b ∙ g.mine in
-    let stands : Stands b (g.lexemes ++ rest_base m.kind b) = subst (Stands b) g.mine (history_stands b (suc (suc (length b)))) in
-    let comes = rest_next a b cut m H g.lexemes some stands ∙ ap (λ h. moved_next (length a) (line_at (a ++ b) (length a)) (next b h)) (sym mine) in
-    let never = moved_never (length a) (line_at (a ++ b) (length a)) (next b (all b)) (all_ends b) in
-    let others = last_is_all (a ++ b) g.steps (λ l f. never l (sym (ap (next (a ++ b)) g.others ∙ comes) ∙ f)) ∙ g.others in
-    record {
-      lexemes = g.lexemes;
-      mine = mine;
-      others = others;
-      comes = ap (next (a ++ b)) others ∙ comes;
-      carry = g.carry;
-    }
+    → 0 < length H → (n : ℕ) → history (a ++ b) n ≡ whole_base m.kind a b H
+    → Whole x a b (rest_base m.kind b) (whole_base m.kind a b H)
+marked x a b cut m H some n e =
+    whole x a b (length H - 1) (rest_base m.kind b) (whole_base m.kind a b H) (rest_ground a b cut m H some) 2 (rest_begins a b cut m) n e
 
-uncons : {A : Type 0} (x y : A) (xs ys : List A) → x ∷ xs ≡ y ∷ ys → xs ≡ ys
+pub uncons : {A : Type 0} (x y : A) (xs ys : List A) → x ∷ xs ≡ y ∷ ys → xs ≡ ys
 uncons x y xs ys e = cc
 
 -- where the front's end is read
@@ -326,7 +304,7 @@ tokens_joined x a b cut m over outer front last are first behind come =
     let n = line_at (a ++ b) (length a) in
     let t = turned x a b cut m over outer in
     let H = t.lexemes in
-    let w = whole x a b cut m H t.some t.steps t.there in
+    let w = marked x a b cut m H t.some t.steps t.there in
     let y = next b (all b) in
     let c = whole_base m.kind a b H in
     let p = parted x b (a ++ b) d n (length H - 1) w.lexemes (rest_base m.kind b) c (rest_bases a b cut m H t.some) w.carry y (all_ends b) in
@@ -406,7 +384,7 @@ at_cut x a b cut begins none outer front last are first behind come =
     let over = fault_none (next a (all a)) (sym (offline_fault s) ∙ none) (all_ends a) in
     let t = turned x a b cut m over outer in
     let H = t.lexemes in
-    let w = whole x a b cut m H t.some t.steps t.there in
+    let w = marked x a b cut m H t.some t.steps t.there in
     let n = line_at (a ++ b) (length a) in
     let p = parted x b (a ++ b) (length a) n (length H - 1) w.lexemes (rest_base m.kind b) (whole_base m.kind a b H) (rest_bases a b cut m H t.some) w.carry (next b (all b)) (all_ends b) in
     let closed = closings H (mark_at (a ++ b) (length a)) in

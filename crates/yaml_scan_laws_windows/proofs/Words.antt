@@ -1,12 +1,13 @@
 -- Lexemes of every kind are the same in both texts.
 use Rattle.std.proofs.Common.{◌≡◌, ℕ, ◌+◌, ◌<◌, ◌==◌, ◌&&◌, ◌||◌, nat_lt, if◌then◌else◌, Bool, true, false, List, Some, None, Result, Ok, Err, refl, sym, ap, ◌∙◌, inl, inr, ◌⊎◌, arith}
 use Rattle.std.proofs.lemmas.Bool.{cases_Bool, true≢false}
+use Rattle.std.proofs.lemmas.Bool.Decides.{nat_tests}
 use Rattle.yaml_scan_history.specs.scan_model.declared.name.yaml_scalar_style_t.{yaml_scalar_style_t}
 use Rattle.yaml_scan_history.specs.scan_model.declared.name.yaml_scalar_style_t.TheVariants as styles
 use Rattle.yaml_scan_history.specs.scan_model.declared.problem.Context.TheVariants as contexts
 use Rattle.yaml_scan_history.specs.scan_model.Tokens as tokens
 use Rattle.yaml_scan_history.specs.scan_model.Tokens.{TokenBody}
-use Rattle.yaml_scan_history.specs.scan_model.Marks.{byte, break_of, break_width, column_at, is_blank_or_end}
+use Rattle.yaml_scan_history.specs.scan_model.Marks.{byte, break_of, break_width, column_at, is_blank, is_blank_or_end}
 use Rattle.yaml_scan_history.specs.scan_model.Wrong.{Wrong}
 use Rattle.yaml_scan_history.specs.scan_words.Indicators.{is_document_start, is_document_end}
 use Rattle.yaml_scan_history.specs.scan_words.Anchors.{anchor_at}
@@ -23,12 +24,15 @@ use Rattle.yaml_scan_laws_windows.specs.Alike.{Alike, is_onward}
 use Rattle.yaml_scan_laws_windows.proofs.Bytes.{column_alike, start_alike, finish_alike, next_end, off_cases, off_break, onward_some}
 use Rattle.yaml_scan_laws_windows.proofs.Moving.{moved_by}
 use Rattle.yaml_scan_laws_windows.proofs.Plains.{moved_plain, plain_alike, starts_alike}
-use Rattle.yaml_scan_laws_windows.proofs.Quotes.{Carried, moved_pair, quoted_alike}
+use Rattle.yaml_scan_laws_windows.proofs.Quotes.{Carried, torn_by, moved_pair, quoted_alike}
 use Rattle.yaml_scan_laws_windows.proofs.Names.{moved_tag, anchor_alike, tag_alike}
 use Rattle.yaml_scan_laws_windows.proofs.Directives.{moved_directive, directive_alike}
 use Rattle.yaml_scan_laws_windows.proofs.Blocks.{moved_block, block_alike}
 
 -- ---- kinds
+
+blank_cases : (b : ℕ) → is_blank b ≡ true → (b ≡ 32) ⊎ (b ≡ 9)
+blank_cases b h = grind (arith, nat_tests)
 
 no_indicator : (flow alone : Bool) (b : ℕ) → is_onward b ≡ false → indicator_of flow alone b ≡ None
 unfolding indicator_of
@@ -69,7 +73,7 @@ kind_alike t u d m p flow a l =
     ap (λ x. indicator_of flow (is_blank_or_end u (d + p + 1)) x) b ∙ indicators_alike flow (is_blank_or_end t (p + 1)) (is_blank_or_end u (d + p + 1)) (byte t p) (λ on. next_end t u d m p a l on) in
     rw (zero, percent, start, finish, indicator, plain) refl
 
-break_byte : (b c e : ℕ) → (b ≡ 10) ⊎ (b ≡ 13) → nat_lt 0 (break_of b c e) ≡ true
+pub break_byte : (b c e : ℕ) → (b ≡ 10) ⊎ (b ≡ 13) → nat_lt 0 (break_of b c e) ≡ true
 unfolding break_of
 break_byte b c e (inl z) = rw z refl
 break_byte b c e (inr z) = rw z (cr_width (c == 10))
@@ -103,7 +107,7 @@ not_finish : (t : List ℕ) (p : ℕ) → (byte t p == 46) ≡ false → is_docu
 unfolding is_document_end
 not_finish t p h = no_thrice (column_at t p == 0) (is_blank_or_end t (p + 3)) (byte t p) (byte t (p + 1)) (byte t (p + 2)) 46 h
 
-break_kind : (flow : Bool) (t : List ℕ) (p : ℕ) → (byte t p ≡ 10) ⊎ (byte t p ≡ 13)
+pub break_kind : (flow : Bool) (t : List ℕ) (p : ℕ) → (byte t p ≡ 10) ⊎ (byte t p ≡ 13)
     → kind_at flow t p ≡ None
 unfolding kind_at
 break_kind flow t p h =
@@ -122,6 +126,44 @@ pub end_kind : (flow : Bool) (t : List ℕ) (p : ℕ) → byte t p ≡ 0
     → kind_at flow t p ≡ Some kinds.StreamEnd
 unfolding kind_at
 end_kind flow t p h = rw h refl
+
+blank_indicator : (flow alone : Bool) (b : ℕ) → is_blank b ≡ true → indicator_of flow alone b ≡ None
+unfolding indicator_of
+blank_indicator flow alone b h =
+    elim (blank_cases b h) [
+      | inl z ↦ rw z (by flow)
+      | inr z ↦ rw z (by_tab flow)
+    ]
+  where
+    by : (flow : Bool) → indicator_of flow alone 32 ≡ None
+    by true = refl
+    by false = refl
+
+    by_tab : (flow : Bool) → indicator_of flow alone 9 ≡ None
+    by_tab true = refl
+    by_tab false = refl
+
+blank_plain : (flow : Bool) (t : List ℕ) (p : ℕ) → is_blank (byte t p) ≡ true
+    → starts_plain flow t p ≡ false
+unfolding starts_plain
+blank_plain flow t p h = rw h refl
+
+-- no lexeme starts at a blank
+pub blank_kind : (flow : Bool) (t : List ℕ) (p : ℕ) → is_blank (byte t p) ≡ true
+    → kind_at flow t p ≡ None
+unfolding kind_at
+blank_kind flow t p h =
+    let zero : (byte t p == 0) ≡ false = other (byte t p) 0 h refl refl in
+    let percent : (byte t p == 37) ≡ false = other (byte t p) 37 h refl refl in
+    let dash : (byte t p == 45) ≡ false = other (byte t p) 45 h refl refl in
+    let dot : (byte t p == 46) ≡ false = other (byte t p) 46 h refl refl in
+    rw (zero, percent, not_start t p dash, not_finish t p dot, blank_indicator flow (is_blank_or_end t (p + 1)) (byte t p) h, blank_plain flow t p h) refl
+  where
+    other : (b n : ℕ) → is_blank b ≡ true → (32 == n) ≡ false → (9 == n) ≡ false → (b == n) ≡ false
+    other b n h x y = elim (blank_cases b h) [
+      | inl z ↦ rw z x
+      | inr z ↦ rw z y
+    ]
 
 none_some : (k : Kind) → None ≡ Some k → ⊥
 none_some k e = cc
@@ -143,6 +185,15 @@ kind_onward flow t p k e go =
       ]
     ]
 
+-- and is no blank
+pub kind_text : (flow : Bool) (t : List ℕ) (p : ℕ) (k : Kind) → kind_at flow t p ≡ Some k
+    → is_blank (byte t p) ≡ false
+kind_text flow t p k e =
+    elim (cases_Bool (is_blank (byte t p))) [
+      | inr text ↦ text
+      | inl blank ↦ absurd (none_some k (sym (blank_kind flow t p blank) ∙ e))
+    ]
+
 -- ---- words
 
 abbrev pub moved_word : ℕ → WordText → WordText
@@ -159,7 +210,7 @@ carry_valued u d m f r s (inl e) = inl (ap (valued f) e ∙ moves r)
         → valued f (moved_by (moved_pair d) d r) ≡ moved_by (moved_word d) d (valued f r)
     moves (Ok x) = refl
     moves (Err w) = refl
-carry_valued u d m f r s (inr (i, w, e)) = inr (i, w, ap (valued f) e)
+carry_valued u d m f r s (inr t) = inr (torn_by (valued f) u d m r s (λ w. refl) t)
 
 tagged_moves : (d : ℕ) (r : Result TagText Wrong)
     → tagged (moved_by (moved_tag d) d r) ≡ moved_by (moved_word d) d (tagged r)
@@ -195,39 +246,39 @@ block_word t u d m p level a l on =
 
 -- what stands there is the same, moved, unless it is open where the first text ends
 pub word_alike : (k : Kind) (flow : Bool) (level : ℕ) (t u : List ℕ) (d m p : ℕ) → Alike t u d m
-    → p < m → (is_end k ≡ false → is_onward (byte t p) ≡ true)
+    → p < m → (is_end k ≡ false → is_onward (byte t p) ≡ true) → is_blank (byte t p) ≡ false
     → WordCarried u d m (word_at k flow level t p) (word_at k flow level u (d + p))
 unfolding word_at
-word_alike kinds.StreamStart flow level t u d m p a l on = inl refl
-word_alike kinds.StreamEnd flow level t u d m p a l on = inl refl
-word_alike kinds.Directive flow level t u d m p a l on =
+word_alike kinds.StreamStart flow level t u d m p a l on text = inl refl
+word_alike kinds.StreamEnd flow level t u d m p a l on text = inl refl
+word_alike kinds.Directive flow level t u d m p a l on text =
     let x = directive_alike t u d m p a l (on refl) in inl (ap directed x.same ∙ directed_moves d (directive_at t p))
-word_alike kinds.DocumentStart flow level t u d m p a l on = inl (carrying_moves d p 3 tokens.document_start)
-word_alike kinds.DocumentEnd flow level t u d m p a l on = inl (carrying_moves d p 3 tokens.document_end)
-word_alike kinds.FlowSequenceStart flow level t u d m p a l on = inl (carrying_moves d p 1 tokens.flow_sequence_start)
-word_alike kinds.FlowMappingStart flow level t u d m p a l on = inl (carrying_moves d p 1 tokens.flow_mapping_start)
-word_alike kinds.FlowSequenceEnd flow level t u d m p a l on = inl (carrying_moves d p 1 tokens.flow_sequence_end)
-word_alike kinds.FlowMappingEnd flow level t u d m p a l on = inl (carrying_moves d p 1 tokens.flow_mapping_end)
-word_alike kinds.FlowEntry flow level t u d m p a l on = inl (carrying_moves d p 1 tokens.flow_entry)
-word_alike kinds.BlockEntry flow level t u d m p a l on = inl (carrying_moves d p 1 tokens.block_entry)
-word_alike kinds.KeyMark flow level t u d m p a l on = inl (carrying_moves d p 1 tokens.key)
-word_alike kinds.ValueMark flow level t u d m p a l on = inl (carrying_moves d p 1 tokens.value)
-word_alike kinds.Alias flow level t u d m p a l on =
+word_alike kinds.DocumentStart flow level t u d m p a l on text = inl (carrying_moves d p 3 tokens.document_start)
+word_alike kinds.DocumentEnd flow level t u d m p a l on text = inl (carrying_moves d p 3 tokens.document_end)
+word_alike kinds.FlowSequenceStart flow level t u d m p a l on text = inl (carrying_moves d p 1 tokens.flow_sequence_start)
+word_alike kinds.FlowMappingStart flow level t u d m p a l on text = inl (carrying_moves d p 1 tokens.flow_mapping_start)
+word_alike kinds.FlowSequenceEnd flow level t u d m p a l on text = inl (carrying_moves d p 1 tokens.flow_sequence_end)
+word_alike kinds.FlowMappingEnd flow level t u d m p a l on text = inl (carrying_moves d p 1 tokens.flow_mapping_end)
+word_alike kinds.FlowEntry flow level t u d m p a l on text = inl (carrying_moves d p 1 tokens.flow_entry)
+word_alike kinds.BlockEntry flow level t u d m p a l on text = inl (carrying_moves d p 1 tokens.block_entry)
+word_alike kinds.KeyMark flow level t u d m p a l on text = inl (carrying_moves d p 1 tokens.key)
+word_alike kinds.ValueMark flow level t u d m p a l on text = inl (carrying_moves d p 1 tokens.value)
+word_alike kinds.Alias flow level t u d m p a l on text =
     let x = anchor_alike contexts.Alias t u d m p a l (on refl) in
     carry_valued u d m tokens.alias (anchor_at contexts.Alias t p) (anchor_at contexts.Alias u (d + p)) (inl x.same)
-word_alike kinds.Anchor flow level t u d m p a l on =
+word_alike kinds.Anchor flow level t u d m p a l on text =
     let x = anchor_alike contexts.Anchor t u d m p a l (on refl) in
     carry_valued u d m tokens.anchor (anchor_at contexts.Anchor t p) (anchor_at contexts.Anchor u (d + p)) (inl x.same)
-word_alike kinds.Tag flow level t u d m p a l on =
+word_alike kinds.Tag flow level t u d m p a l on text =
     let x = tag_alike t u d m p flow a l (on refl) in inl (ap tagged x.same ∙ tagged_moves d (tag_at flow t p))
-word_alike kinds.Literal flow level t u d m p a l on = inl (block_word t u d m p level a l (on refl))
-word_alike kinds.Folded flow level t u d m p a l on = inl (block_word t u d m p level a l (on refl))
-word_alike kinds.SingleQuoted flow level t u d m p a l on =
+word_alike kinds.Literal flow level t u d m p a l on text = inl (block_word t u d m p level a l (on refl))
+word_alike kinds.Folded flow level t u d m p a l on text = inl (block_word t u d m p level a l (on refl))
+word_alike kinds.SingleQuoted flow level t u d m p a l on text =
     let x = quoted_alike t u d m 39 p a l (inr refl) (onward_some _ (on refl)) in
     carry_valued u d m (λ v. tokens.scalar v styles.YAML_SINGLE_QUOTED_SCALAR_STYLE) (single_quoted_at t p) (single_quoted_at u (d + p)) x.carried
-word_alike kinds.DoubleQuoted flow level t u d m p a l on =
+word_alike kinds.DoubleQuoted flow level t u d m p a l on text =
     let x = quoted_alike t u d m 34 p a l (inl refl) (onward_some _ (on refl)) in
     carry_valued u d m (λ v. tokens.scalar v styles.YAML_DOUBLE_QUOTED_SCALAR_STYLE) (double_quoted_at t p) (double_quoted_at u (d + p)) x.carried
-word_alike kinds.Plain flow level t u d m p a l on =
-    let x = plain_alike t u d m flow level p a l (onward_some _ (on refl)) in
+word_alike kinds.Plain flow level t u d m p a l on text =
+    let x = plain_alike t u d m flow level p a l (onward_some _ (on refl)) text in
     inl (ap plainly x.0 ∙ plainly_moves d (plain_at flow level t p))

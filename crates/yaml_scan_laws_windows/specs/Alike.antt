@@ -1,9 +1,8 @@
 -- A text within another one.
-use Rattle.std.specs.Prelude.{◌≡◌, ◌⊎◌, ◌<◌, ◌≤◌, ℕ, ◌+◌, Bool, true, false, not, ◌&&◌, ◌||◌, ◌==◌, List, length}
-use Rattle.yaml_scan_history.specs.scan_model.Marks.{byte, ends_break, column_at, is_blank}
+use Rattle.std.specs.Prelude.{◌≡◌, ◌⊎◌, ◌<◌, ◌≤◌, ℕ, ◌+◌, Bool, true, not, ◌&&◌, ◌||◌, ◌==◌, List, length}
+use Rattle.yaml_scan_history.specs.scan_model.Marks.{byte, ends_break, column_at}
 use Rattle.yaml_scan_history.specs.scan_model.Classes.{is_bom}
 use Rattle.yaml_scan_history.specs.scan_model.Breaks.{is_document_indicator}
-use Rattle.yaml_scan_history.specs.scan_scalars.Plain.{leads}
 
 -- the byte is neither the end nor CR nor LF
 unfoldable pub is_onward : ℕ → Bool
@@ -18,7 +17,6 @@ pub record Alike (t u : List ℕ) (d m : ℕ) : Type 0 where
   pub stops : (byte u (d + m) ≡ 0) ⊎ (is_document_indicator u (d + m) ≡ true)
   pub column : column_at u d ≡ 0
   pub ends : (p : ℕ) → p < m → ends_break u (d + p) ≡ ends_break t p
-  pub led : (leads u d ≡ false) ⊎ (is_blank (byte t 0) ≡ false)
   pub short : m ≤ length t + 1
   pub long : d + m ≤ length u + 1
   pub covers : length t ≤ m

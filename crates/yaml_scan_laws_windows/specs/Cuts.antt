@@ -1,7 +1,10 @@
 -- Where a text is cut in two.
-use Rattle.std.specs.Prelude.{◌≡◌, ◌⊎◌, ℕ, true, List, [], ◌∷◌, ◌++◌, ◌<◌, length}
-use Rattle.yaml_scan_history.specs.scan_model.Marks.{byte}
+use Rattle.std.specs.Prelude.{◌≡◌, ◌⊎◌, ℕ, Bool, true, false, ◌==◌, ◌||◌, List, [], ◌∷◌, ◌++◌, ◌<◌, ◌≤◌, length}
+use Rattle.yaml_scan_history.specs.scan_model.Marks.{byte, column_at, is_blank}
+use Rattle.yaml_scan_history.specs.scan_model.Classes.{is_bom}
 use Rattle.yaml_scan_history.specs.scan_model.Breaks.{is_document_indicator}
+use Rattle.yaml_scan_history.specs.scan_words.Indicators.{is_document_end}
+use Rattle.yaml_scan_history.specs.scan_words.Between.{gap_at}
 
 -- the text's last byte
 abbrev pub EndsIn : List ℕ → ℕ → Type 0
@@ -17,3 +20,32 @@ pub record IsCut (front rest : List ℕ) : Type 0 where
   pub line : EndsLine front
   pub some : (p : ℕ) → p < length front → 0 < byte front p
   pub mark : is_document_indicator rest 0 ≡ true
+
+-- a blank, LF or CR
+abbrev pub is_white : ℕ → Bool
+is_white b = is_blank b || (b == 10 || b == 13)
+
+-- a line `...`, and blanks and breaks behind it, the last of which is LF
+pub record IsEndLine (line : List ℕ) : Type 0 where
+  pub mark : is_document_end line 0 ≡ true
+  pub white : (p : ℕ) → 3 ≤ p → p < length line → is_white (byte line p) ≡ true
+  pub feed : EndsIn line 10
+
+-- A text may be cut behind such a line too, in front of whatever doesn't begin with U+FEFF.
+pub record IsEndCut (front rest : List ℕ) : Type 0 where
+  pub before : List ℕ
+  pub line : List ℕ
+  pub parts : front ≡ before ++ line
+  pub lines : EndsLine before
+  pub some : (p : ℕ) → p < length before → 0 < byte before p
+  pub ends : IsEndLine line
+  pub mark : is_bom rest 0 ≡ false
+
+-- the place of a text's first lexeme, behind blanks, comments and breaks
+abbrev pub first_place : List ℕ → ℕ
+first_place text = (gap_at false true text 0).place
+
+-- there stands `%` at column 0
+pub record LeadsToDirective (text : List ℕ) : Type 0 where
+  pub percent : byte text (first_place text) ≡ 37
+  pub column : column_at text (first_place text) ≡ 0

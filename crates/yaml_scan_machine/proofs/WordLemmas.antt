@@ -3,7 +3,7 @@ use Rattle.std.proofs.Common.{◌≡◌, eqb, ℕ, Bool, true, false, refl, List
 use Rattle.yaml_scan_model.specs.declared.problem.ScanError.{ScanError}
 use Rattle.yaml_scan_model.specs.Marks.{Place, mark_at}
 use Rattle.yaml_scan_model.specs.Wrong.{Wrong}
-use Rattle.yaml_scan_scalars.specs.Joined.{told}
+use Rattle.yaml_scan_scalars.specs.Joined.{break_number}
 use Rattle.yaml_scan_words.specs.Readings.{ReadsAs}
 use Rattle.yaml_scan_words.specs.Directives.{DirectiveText}
 use Rattle.yaml_scan_words.specs.DirectivesGiven.{IsDirective}
@@ -17,6 +17,6 @@ pub directive_refused : (text : List ℕ) (p : ℕ) (place : Place) (e : ScanErr
 directive_refused text p place e (Ok x) r = r
 directive_refused text p place e (Err w) r = r
 
-pub one_told : (b : Bool) (n : ℕ) → n ≡ told b → eqb n 1 ≡ b
-one_told true n e = rw e refl
-one_told false n e = rw e refl
+pub one_break : (b : Bool) (n : ℕ) → n ≡ break_number b → eqb n 1 ≡ b
+one_break true n e = rw e refl
+one_break false n e = rw e refl

@@ -21,7 +21,8 @@ use crate::machine::Machine;
 use crate::word::{Reading, Word, read_word};
 use yaml_scan_history::{Kind, Lexeme, is_fresh, moved_end};
 use yaml_scan_model::{
-    Context, Problem, Reader, ScanError, ScanFault, yaml_encoding_t, yaml_mark_t, yaml_token_body_t,
+    Context, Problem, Reader, ScanError, ScanFault, Spares, yaml_encoding_t, yaml_mark_t,
+    yaml_token_body_t,
 };
 
 /// A lexeme that was read, and what its own token carries.
@@ -81,7 +82,7 @@ impl<'a> Machine<'a> {
         reading: &R,
         spot: Spot,
         required: Option<yaml_mark_t>,
-        spares: &mut Vec<Vec<u8>>,
+        spares: &mut Spares,
     ) -> Result<Read, ScanError>
         requires stands { IsMachine self.now }
         requires more { self.now.ended ≡ false }
@@ -111,7 +112,7 @@ impl<'a> Machine<'a> {
         reader: &mut Reader,
         stand: Stand,
         required: Option<yaml_mark_t>,
-        spares: &mut Vec<Vec<u8>>,
+        spares: &mut Spares,
     ) -> Result<Read, ScanError>
         requires stands { IsMachine self.now }
         requires more { self.now.ended ≡ false }
@@ -159,7 +160,7 @@ impl<'a> Machine<'a> {
         reader: &mut Reader,
         lexeme: Lexeme,
         required: Option<yaml_mark_t>,
-        spares: &mut Vec<Vec<u8>>,
+        spares: &mut Spares,
     ) -> Result<(Lexeme, yaml_token_body_t), ScanError>
         requires same { lexeme.kind ≡ R.reads reading.now }
         requires text { reader.old.text ≡ text_bytes self.now.text }

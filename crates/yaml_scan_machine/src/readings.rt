@@ -7,7 +7,7 @@ use crate::word::{
     tag_word,
 };
 use yaml_scan_history::Kind;
-use yaml_scan_model::{Reader, ScanError};
+use yaml_scan_model::{Reader, ScanError, Spares};
 
 impl Reading for Kind {
     ghost reads = { λ k. k };
@@ -22,7 +22,7 @@ impl Reading for Kind {
     #[inline(always)]
     fn word(
         &self,
-        spares: &mut Vec<Vec<u8>>,
+        spares: &mut Spares,
         reader: &mut Reader,
         flow: bool,
         level: u64,
@@ -49,7 +49,7 @@ impl Reading for AliasReading {
     #[tactic(auto, unfolding(yaml_scan_history::specs::Words::word_at))]
     fn word(
         &self,
-        spares: &mut Vec<Vec<u8>>,
+        spares: &mut Spares,
         reader: &mut Reader,
         _flow: bool,
         _level: u64,
@@ -76,7 +76,7 @@ impl Reading for AnchorReading {
     #[tactic(auto, unfolding(yaml_scan_history::specs::Words::word_at))]
     fn word(
         &self,
-        spares: &mut Vec<Vec<u8>>,
+        spares: &mut Spares,
         reader: &mut Reader,
         _flow: bool,
         _level: u64,
@@ -103,7 +103,7 @@ impl Reading for TagReading {
     #[tactic(auto, unfolding(yaml_scan_history::specs::Words::word_at))]
     fn word(
         &self,
-        spares: &mut Vec<Vec<u8>>,
+        spares: &mut Spares,
         reader: &mut Reader,
         flow: bool,
         _level: u64,
@@ -130,7 +130,7 @@ impl Reading for SingleQuotedReading {
     #[tactic(auto, unfolding(yaml_scan_history::specs::Words::word_at))]
     fn word(
         &self,
-        spares: &mut Vec<Vec<u8>>,
+        spares: &mut Spares,
         reader: &mut Reader,
         _flow: bool,
         _level: u64,
@@ -157,7 +157,7 @@ impl Reading for DoubleQuotedReading {
     #[tactic(auto, unfolding(yaml_scan_history::specs::Words::word_at))]
     fn word(
         &self,
-        spares: &mut Vec<Vec<u8>>,
+        spares: &mut Spares,
         reader: &mut Reader,
         _flow: bool,
         _level: u64,
@@ -184,7 +184,7 @@ impl Reading for PlainReading {
     #[tactic(auto, unfolding(yaml_scan_history::specs::Words::word_at))]
     fn word(
         &self,
-        spares: &mut Vec<Vec<u8>>,
+        spares: &mut Spares,
         reader: &mut Reader,
         flow: bool,
         level: u64,

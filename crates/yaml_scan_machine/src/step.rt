@@ -9,7 +9,7 @@ use crate::next::{Read, Spot};
 use crate::word::Reading;
 use std::alloc::AllocError;
 use yaml_scan_history::Kind;
-use yaml_scan_model::{ScanError, yaml_fault_t, yaml_mark_t};
+use yaml_scan_model::{ScanError, Spares, yaml_fault_t, yaml_mark_t};
 use yaml_scan_queue::Waiting;
 
 impl<'a> Machine<'a> {
@@ -43,7 +43,7 @@ impl<'a> Machine<'a> {
         &mut self,
         reading: &R,
         spot: &Spot,
-        spares: &mut Vec<Vec<u8>>,
+        spares: &mut Spares,
         fault: &mut yaml_fault_t,
     ) -> bool
         requires { MayReadAt self.old (R.reads reading.now) spot.now }
@@ -72,7 +72,7 @@ impl<'a> Machine<'a> {
         reading: &R,
         spot: Spot,
         required: Option<yaml_mark_t>,
-        spares: &mut Vec<Vec<u8>>,
+        spares: &mut Spares,
         fault: &mut yaml_fault_t,
     ) -> bool
         requires may { MayReadAt self.old (R.reads reading.now) spot }

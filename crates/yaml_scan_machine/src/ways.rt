@@ -11,7 +11,7 @@ use crate::readings::{
     AliasReading, AnchorReading, DoubleQuotedReading, PlainReading, SingleQuotedReading, TagReading,
 };
 use yaml_scan_history::Kind;
-use yaml_scan_model::yaml_fault_t;
+use yaml_scan_model::{Spares, yaml_fault_t};
 
 impl<'a> Machine<'a> {
     ghost use Rattle.yaml_scan_machine.specs.Stood.{MayReadAt, Steps};
@@ -24,7 +24,7 @@ impl<'a> Machine<'a> {
         &mut self,
         kind: Kind,
         spot: &Spot,
-        spares: &mut Vec<Vec<u8>>,
+        spares: &mut Spares,
         fault: &mut yaml_fault_t,
     ) -> bool
         requires { MayReadAt self.old kind spot.now }
@@ -51,12 +51,7 @@ impl<'a> Machine<'a> {
     /// Reads a `,`.
     // Out of line, as is each way.
     #[inline(never)]
-    fn flow_entry(
-        &mut self,
-        spot: &Spot,
-        spares: &mut Vec<Vec<u8>>,
-        fault: &mut yaml_fault_t,
-    ) -> bool
+    fn flow_entry(&mut self, spot: &Spot, spares: &mut Spares, fault: &mut yaml_fault_t) -> bool
         requires { MayReadAt self.old kinds.FlowEntry spot.now }
         ensures { Steps self.old self.new (fault_of fault.new) result }
     {
@@ -66,12 +61,7 @@ impl<'a> Machine<'a> {
     /// Reads a `:`.
     // Out of line, as is each way.
     #[inline(never)]
-    fn value_mark(
-        &mut self,
-        spot: &Spot,
-        spares: &mut Vec<Vec<u8>>,
-        fault: &mut yaml_fault_t,
-    ) -> bool
+    fn value_mark(&mut self, spot: &Spot, spares: &mut Spares, fault: &mut yaml_fault_t) -> bool
         requires { MayReadAt self.old kinds.ValueMark spot.now }
         ensures { Steps self.old self.new (fault_of fault.new) result }
     {
@@ -81,7 +71,7 @@ impl<'a> Machine<'a> {
     /// Reads a plain scalar.
     // Out of line, as is each way.
     #[inline(never)]
-    fn plain(&mut self, spot: &Spot, spares: &mut Vec<Vec<u8>>, fault: &mut yaml_fault_t) -> bool
+    fn plain(&mut self, spot: &Spot, spares: &mut Spares, fault: &mut yaml_fault_t) -> bool
         requires { MayReadAt self.old kinds.Plain spot.now }
         ensures { Steps self.old self.new (fault_of fault.new) result }
     {
@@ -91,12 +81,7 @@ impl<'a> Machine<'a> {
     /// Reads a double quoted scalar.
     // Out of line, as is each way.
     #[inline(never)]
-    fn double_quoted(
-        &mut self,
-        spot: &Spot,
-        spares: &mut Vec<Vec<u8>>,
-        fault: &mut yaml_fault_t,
-    ) -> bool
+    fn double_quoted(&mut self, spot: &Spot, spares: &mut Spares, fault: &mut yaml_fault_t) -> bool
         requires { MayReadAt self.old kinds.DoubleQuoted spot.now }
         ensures { Steps self.old self.new (fault_of fault.new) result }
     {
@@ -106,12 +91,7 @@ impl<'a> Machine<'a> {
     /// Reads a `]`.
     // Out of line, as is each way.
     #[inline(never)]
-    fn sequence_end(
-        &mut self,
-        spot: &Spot,
-        spares: &mut Vec<Vec<u8>>,
-        fault: &mut yaml_fault_t,
-    ) -> bool
+    fn sequence_end(&mut self, spot: &Spot, spares: &mut Spares, fault: &mut yaml_fault_t) -> bool
         requires { MayReadAt self.old kinds.FlowSequenceEnd spot.now }
         ensures { Steps self.old self.new (fault_of fault.new) result }
     {
@@ -121,12 +101,7 @@ impl<'a> Machine<'a> {
     /// Reads a `}`.
     // Out of line, as is each way.
     #[inline(never)]
-    fn mapping_end(
-        &mut self,
-        spot: &Spot,
-        spares: &mut Vec<Vec<u8>>,
-        fault: &mut yaml_fault_t,
-    ) -> bool
+    fn mapping_end(&mut self, spot: &Spot, spares: &mut Spares, fault: &mut yaml_fault_t) -> bool
         requires { MayReadAt self.old kinds.FlowMappingEnd spot.now }
         ensures { Steps self.old self.new (fault_of fault.new) result }
     {
@@ -136,12 +111,7 @@ impl<'a> Machine<'a> {
     /// Reads a `[`.
     // Out of line, as is each way.
     #[inline(never)]
-    fn sequence_start(
-        &mut self,
-        spot: &Spot,
-        spares: &mut Vec<Vec<u8>>,
-        fault: &mut yaml_fault_t,
-    ) -> bool
+    fn sequence_start(&mut self, spot: &Spot, spares: &mut Spares, fault: &mut yaml_fault_t) -> bool
         requires { MayReadAt self.old kinds.FlowSequenceStart spot.now }
         ensures { Steps self.old self.new (fault_of fault.new) result }
     {
@@ -151,12 +121,7 @@ impl<'a> Machine<'a> {
     /// Reads a `{`.
     // Out of line, as is each way.
     #[inline(never)]
-    fn mapping_start(
-        &mut self,
-        spot: &Spot,
-        spares: &mut Vec<Vec<u8>>,
-        fault: &mut yaml_fault_t,
-    ) -> bool
+    fn mapping_start(&mut self, spot: &Spot, spares: &mut Spares, fault: &mut yaml_fault_t) -> bool
         requires { MayReadAt self.old kinds.FlowMappingStart spot.now }
         ensures { Steps self.old self.new (fault_of fault.new) result }
     {
@@ -166,12 +131,7 @@ impl<'a> Machine<'a> {
     /// Reads a `-`.
     // Out of line, as is each way.
     #[inline(never)]
-    fn block_entry(
-        &mut self,
-        spot: &Spot,
-        spares: &mut Vec<Vec<u8>>,
-        fault: &mut yaml_fault_t,
-    ) -> bool
+    fn block_entry(&mut self, spot: &Spot, spares: &mut Spares, fault: &mut yaml_fault_t) -> bool
         requires { MayReadAt self.old kinds.BlockEntry spot.now }
         ensures { Steps self.old self.new (fault_of fault.new) result }
     {
@@ -181,12 +141,7 @@ impl<'a> Machine<'a> {
     /// Reads a single quoted scalar.
     // Out of line, as is each way.
     #[inline(never)]
-    fn single_quoted(
-        &mut self,
-        spot: &Spot,
-        spares: &mut Vec<Vec<u8>>,
-        fault: &mut yaml_fault_t,
-    ) -> bool
+    fn single_quoted(&mut self, spot: &Spot, spares: &mut Spares, fault: &mut yaml_fault_t) -> bool
         requires { MayReadAt self.old kinds.SingleQuoted spot.now }
         ensures { Steps self.old self.new (fault_of fault.new) result }
     {
@@ -196,7 +151,7 @@ impl<'a> Machine<'a> {
     /// Reads an anchor.
     // Out of line, as is each way.
     #[inline(never)]
-    fn anchor(&mut self, spot: &Spot, spares: &mut Vec<Vec<u8>>, fault: &mut yaml_fault_t) -> bool
+    fn anchor(&mut self, spot: &Spot, spares: &mut Spares, fault: &mut yaml_fault_t) -> bool
         requires { MayReadAt self.old kinds.Anchor spot.now }
         ensures { Steps self.old self.new (fault_of fault.new) result }
     {
@@ -206,7 +161,7 @@ impl<'a> Machine<'a> {
     /// Reads an alias.
     // Out of line, as is each way.
     #[inline(never)]
-    fn alias(&mut self, spot: &Spot, spares: &mut Vec<Vec<u8>>, fault: &mut yaml_fault_t) -> bool
+    fn alias(&mut self, spot: &Spot, spares: &mut Spares, fault: &mut yaml_fault_t) -> bool
         requires { MayReadAt self.old kinds.Alias spot.now }
         ensures { Steps self.old self.new (fault_of fault.new) result }
     {
@@ -216,7 +171,7 @@ impl<'a> Machine<'a> {
     /// Reads a tag.
     // Out of line, as is each way.
     #[inline(never)]
-    fn tag(&mut self, spot: &Spot, spares: &mut Vec<Vec<u8>>, fault: &mut yaml_fault_t) -> bool
+    fn tag(&mut self, spot: &Spot, spares: &mut Spares, fault: &mut yaml_fault_t) -> bool
         requires { MayReadAt self.old kinds.Tag spot.now }
         ensures { Steps self.old self.new (fault_of fault.new) result }
     {
@@ -231,7 +186,7 @@ impl<'a> Machine<'a> {
         &mut self,
         kind: Kind,
         spot: &Spot,
-        spares: &mut Vec<Vec<u8>>,
+        spares: &mut Spares,
         fault: &mut yaml_fault_t,
     ) -> bool
         requires { MayReadAt self.old kind spot.now }

@@ -2,7 +2,7 @@
 
 ghost use Rattle.std.specs.Prelude.{Bool, ◌≡◌, ◌+◌, ◌<◌, ◌≤◌, ◌⊎◌, IfSome, None, option_map, true, false, length};
 ghost use Rattle.yaml_scan_model.specs.Marks.{byte, break_width, is_blank_or_end};
-ghost use Rattle.yaml_scan_scalars.specs.Joined.{told};
+ghost use Rattle.yaml_scan_scalars.specs.Joined.{break_number};
 ghost use Rattle.yaml_scan_scalars.specs.Plain as plains;
 ghost use Rattle.yaml_scan_model.specs.Tokens as tokens;
 ghost use Rattle.yaml_scan_model.specs.Tokens.{body_of};
@@ -20,7 +20,7 @@ use std::alloc::Global;
 use yaml_scan_block::block_scalar;
 use yaml_scan_history::Kind;
 use yaml_scan_model::{
-    Context, Reader, ScanError, yaml_mark_t, yaml_scalar_style_t, yaml_token_body_t,
+    Context, Reader, ScanError, Spares, yaml_mark_t, yaml_scalar_style_t, yaml_token_body_t,
 };
 use yaml_scan_scalars::{double_quoted, plain_scalar, single_quoted, starts_plain};
 use yaml_scan_words::{Directive, anchor, directive, is_document_end, is_document_start, tag};
@@ -127,7 +127,7 @@ pub(crate) trait Reading {
     /// Reads the lexeme of that kind, which stands here. Its text may take a spare one's room.
     fn word(
         &self,
-        spares: &mut Vec<Vec<u8>>,
+        spares: &mut Spares,
         reader: &mut Reader,
         flow: bool,
         level: u64,
@@ -143,7 +143,7 @@ pub(crate) trait Reading {
 #[inline(always)]
 pub(crate) fn read_word<R: Reading>(
     reading: &R,
-    spares: &mut Vec<Vec<u8>>,
+    spares: &mut Spares,
     reader: &mut Reader,
     kind: Kind,
     flow: bool,
@@ -162,7 +162,7 @@ pub(crate) fn read_word<R: Reading>(
 // Inlined: an indicator's kind is known where it is called.
 #[inline(always)]
 pub(crate) fn any_word(
-    spares: &mut Vec<Vec<u8>>,
+    spares: &mut Spares,
     reader: &mut Reader,
     kind: Kind,
     flow: bool,
@@ -203,7 +203,7 @@ fn indicator_body(kind: Kind) -> Option<yaml_token_body_t>
 // Out of line: the kinds that are met often have a reading of their own.
 #[inline(never)]
 fn text_word(
-    spares: &mut Vec<Vec<u8>>,
+    spares: &mut Spares,
     reader: &mut Reader,
     kind: Kind,
     flow: bool,
@@ -312,7 +312,7 @@ fn document_mark(reader: &mut Reader, body: yaml_token_body_t) -> Word
 
 // Out of line: it is rare.
 #[inline(never)]
-fn directive_word(spares: &mut Vec<Vec<u8>>, reader: &mut Reader) -> Result<Word, ScanError>
+fn directive_word(spares: &mut Spares, reader: &mut Reader) -> Result<Word, ScanError>
     requires { byte reader.old.text reader.old.at ≡ 37 }
     ensures { ReadsWord reader.old.text reader.old.at reader.new result
         (spec.directed (directive_at reader.old.text reader.old.at)) }
@@ -338,7 +338,7 @@ fn directive_body(directive: Directive) -> yaml_token_body_t
 
 // Inlined: in the way of its kind its answer isn't put together.
 #[inline(always)]
-pub(crate) fn alias_word(spares: &mut Vec<Vec<u8>>, reader: &mut Reader) -> Result<Word, ScanError>
+pub(crate) fn alias_word(spares: &mut Spares, reader: &mut Reader) -> Result<Word, ScanError>
     requires { byte reader.old.text reader.old.at ≡ 42 }
     ensures { ReadsWord reader.old.text reader.old.at reader.new result
         (spec.valued (λ v. tokens.alias v)
@@ -354,7 +354,7 @@ pub(crate) fn alias_word(spares: &mut Vec<Vec<u8>>, reader: &mut Reader) -> Resu
 
 // Inlined: in the way of its kind its answer isn't put together.
 #[inline(always)]
-pub(crate) fn anchor_word(spares: &mut Vec<Vec<u8>>, reader: &mut Reader) -> Result<Word, ScanError>
+pub(crate) fn anchor_word(spares: &mut Spares, reader: &mut Reader) -> Result<Word, ScanError>
     requires { byte reader.old.text reader.old.at ≡ 38 }
     ensures { ReadsWord reader.old.text reader.old.at reader.new result
         (spec.valued (λ v. tokens.anchor v)
@@ -371,7 +371,7 @@ pub(crate) fn anchor_word(spares: &mut Vec<Vec<u8>>, reader: &mut Reader) -> Res
 // Inlined: in the way of its kind its answer isn't put together.
 #[inline(always)]
 pub(crate) fn tag_word(
-    spares: &mut Vec<Vec<u8>>,
+    spares: &mut Spares,
     reader: &mut Reader,
     flow: bool,
 ) -> Result<Word, ScanError>
@@ -413,7 +413,7 @@ fn block_word(alloc: Global, reader: &mut Reader, level: u64) -> Result<Word, Sc
 
 // Inlined: in the way of its kind its answer isn't put together.
 #[inline(always)]
-pub(crate) fn single_word(spares: &mut Vec<Vec<u8>>, reader: &mut Reader) -> Result<Word, ScanError>
+pub(crate) fn single_word(spares: &mut Spares, reader: &mut Reader) -> Result<Word, ScanError>
     requires { byte reader.old.text reader.old.at ≡ 39 }
     ensures { ReadsWord reader.old.text reader.old.at reader.new result
         (spec.valued (λ v. tokens.scalar v yaml_scalar_style_t.YAML_SINGLE_QUOTED_SCALAR_STYLE)
@@ -432,7 +432,7 @@ pub(crate) fn single_word(spares: &mut Vec<Vec<u8>>, reader: &mut Reader) -> Res
 
 // Inlined: in the way of its kind its answer isn't put together.
 #[inline(always)]
-pub(crate) fn double_word(spares: &mut Vec<Vec<u8>>, reader: &mut Reader) -> Result<Word, ScanError>
+pub(crate) fn double_word(spares: &mut Spares, reader: &mut Reader) -> Result<Word, ScanError>
     requires { byte reader.old.text reader.old.at ≡ 34 }
     ensures { ReadsWord reader.old.text reader.old.at reader.new result
         (spec.valued (λ v. tokens.scalar v yaml_scalar_style_t.YAML_DOUBLE_QUOTED_SCALAR_STYLE)
@@ -452,7 +452,7 @@ pub(crate) fn double_word(spares: &mut Vec<Vec<u8>>, reader: &mut Reader) -> Res
 // Inlined: in the way of its kind its answer isn't put together.
 #[inline(always)]
 pub(crate) fn plain_word(
-    spares: &mut Vec<Vec<u8>>,
+    spares: &mut Spares,
     reader: &mut Reader,
     flow: bool,
     level: u64,
@@ -476,7 +476,7 @@ pub(crate) fn plain_word(
 // Inlined: a comparison.
 #[inline(always)]
 fn is_one(n: u64) -> bool
-    ensures { (b : Bool) → n ≡ told b → result ≡ b }
+    ensures { (b : Bool) → n ≡ break_number b → result ≡ b }
 {
     n == 1
 }

@@ -7,5 +7,6 @@ pub mod Problems
 pub mod Breaks
 pub mod Runs
 pub mod Spares
+pub mod Rooms
 pub mod Views
 pub mod Wrong

@@ -2,6 +2,7 @@
 #![tactic(auto)]
 
 pub mod fault;
+mod keeping;
 pub mod name;
 mod problem;
 mod reader;
@@ -11,6 +12,7 @@ mod spares;
 pub mod token;
 
 pub use fault::{yaml_fault_t, yaml_origin_t};
+pub use keeping::Spares;
 pub use name::{
     yaml_break_t, yaml_encoding_t, yaml_error_type_t, yaml_event_type_t, yaml_mapping_style_t,
     yaml_node_type_t, yaml_scalar_style_t, yaml_sequence_style_t, yaml_token_type_t,

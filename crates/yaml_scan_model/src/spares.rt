@@ -3,6 +3,7 @@
 ghost use Rattle.std.specs.Prelude.{◌≡◌, ◌+◌, ◌≤◌, [], IfOk, length, vec_capacity};
 ghost use Rattle.yaml_scan_model.specs.Spares.{HoldsAt, bytes_at};
 
+use crate::keeping::Spares;
 use std::alloc::{AllocError, Global};
 use std::mem;
 use yaml_scan_types::push_each;
@@ -17,7 +18,7 @@ const CHUNK: usize = 16;
 // Inlined: mostly one move.
 #[inline(always)]
 pub fn copied(
-    spares: &mut Vec<Vec<u8>>,
+    spares: &mut Spares,
     text: &[u8],
     from: usize,
     bytes: &[u8],
@@ -70,7 +71,7 @@ fn chunk_at(text: &[u8], at: usize) -> [u8; CHUNK]
 /// A copy of bytes, in the room of a spare text where they fit.
 // Inlined: so the answer of the call out of line has a place of its own, and the other one none in memory.
 #[inline(always)]
-fn copied_apart(spares: &mut Vec<Vec<u8>>, bytes: &[u8]) -> Result<Vec<u8>, AllocError>
+fn copied_apart(spares: &mut Spares, bytes: &[u8]) -> Result<Vec<u8>, AllocError>
     ensures { IfOk result (λ v. v.items ≡ bytes.now) }
 {
     let copy = copied_whole(spares, bytes)?;
@@ -80,7 +81,7 @@ fn copied_apart(spares: &mut Vec<Vec<u8>>, bytes: &[u8]) -> Result<Vec<u8>, Allo
 /// A copy of bytes, in the room of a spare text where they fit.
 // Out of line: most runs are short.
 #[inline(never)]
-pub fn copied_whole(spares: &mut Vec<Vec<u8>>, bytes: &[u8]) -> Result<Vec<u8>, AllocError>
+pub fn copied_whole(spares: &mut Spares, bytes: &[u8]) -> Result<Vec<u8>, AllocError>
     ensures { IfOk result (λ v. v.items ≡ bytes.now) }
 {
     let mut copy = room(spares, bytes.len())?;
@@ -91,11 +92,11 @@ pub fn copied_whole(spares: &mut Vec<Vec<u8>>, bytes: &[u8]) -> Result<Vec<u8>, 
 /// An empty text with room for so many bytes: a spare one, where it has that.
 // Inlined: mostly it has it.
 #[inline(always)]
-pub fn room(spares: &mut Vec<Vec<u8>>, count: usize) -> Result<Vec<u8>, AllocError>
+pub fn room(spares: &mut Spares, count: usize) -> Result<Vec<u8>, AllocError>
     ensures { IfOk result (λ v. v.items ≡ []) }
 {
     let alloc = *spares.allocator();
-    match spares.pop() {
+    match spares.take() {
         Some(text) => cleared(alloc, text, count),
         None => Vec::with_capacity(alloc, count.max(LEAST_ROOM)),
     }

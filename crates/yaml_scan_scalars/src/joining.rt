@@ -8,7 +8,7 @@ ghost use Rattle.yaml_scan_scalars.specs.declared.folding.Gap.TheVariants as gap
 
 use crate::folding::Folding;
 use std::alloc::AllocError;
-use yaml_scan_model::yaml_mark_t;
+use yaml_scan_model::{Spares, yaml_mark_t};
 
 /// What is read of a plain scalar so far.
 #[derive(Drop)]
@@ -28,7 +28,7 @@ pub(crate) struct Joining {
 impl Joining {
     /// With bytes of characters, and the place after them.
     pub(crate) fn new(
-        spares: &mut Vec<Vec<u8>>,
+        spares: &mut Spares,
         bytes: &[u8],
         end: yaml_mark_t,
     ) -> Result<Joining, AllocError>

@@ -4,7 +4,7 @@ ghost use Rattle.std.specs.Prelude.{◌≡◌, ◌+◌, ◌-◌, ◌||◌, ◌&&
 ghost use Rattle.yaml_scan_model.specs.Spares.{HoldsAt};
 ghost use Rattle.yaml_scan_model.specs.Marks.{byte, break_width, ends_break, is_blank, is_blank_or_end, mark_at};
 ghost use Rattle.yaml_scan_scalars.specs.Plain as spec;
-ghost use Rattle.yaml_scan_scalars.specs.Joined.{IsJoining, Steps, ReadsPlain, TookWords, told};
+ghost use Rattle.yaml_scan_scalars.specs.Joined.{IsJoining, Steps, ReadsPlain, TookWords, break_number};
 ghost use Rattle.yaml_scan_scalars.specs.Ordinary.{IsRun, bytes_at};
 
 use crate::joining::Joining;
@@ -12,7 +12,7 @@ use crate::run::{ordinary_run, pass_byte};
 use crate::scalar::PlainScalar;
 use std::alloc::AllocError;
 use yaml_scan_model::{
-    Context, Problem, Reader, ScanError, copied, is_blank_byte, skip_spaces, yaml_mark_t,
+    Context, Problem, Reader, ScanError, Spares, copied, is_blank_byte, skip_spaces, yaml_mark_t,
 };
 
 /// The plain scalar that starts here, in flow context or not. The level is the column of the innermost open block
@@ -21,7 +21,7 @@ use yaml_scan_model::{
 // Inlined into the way of its kind.
 #[inline(always)]
 pub fn plain_scalar(
-    spares: &mut Vec<Vec<u8>>,
+    spares: &mut Spares,
     reader: &mut Reader,
     flow: bool,
     level: u64,
@@ -91,7 +91,7 @@ fn is_white_behind(reader: &Reader) -> bool
 // Inlined: its answer isn't put together in memory.
 #[inline(always)]
 fn one_run(
-    spares: &mut Vec<Vec<u8>>,
+    spares: &mut Spares,
     reader: &Reader,
     bytes: &[u8],
     start: yaml_mark_t,
@@ -168,7 +168,7 @@ fn begins_word(byte: u8) -> bool
 // Inlined: its answer isn't put together in memory.
 #[inline(always)]
 fn one_line<'a>(
-    spares: &mut Vec<Vec<u8>>,
+    spares: &mut Spares,
     reader: &mut Reader<'a>,
     ahead: &Reader<'a>,
     bytes: &[u8],
@@ -202,7 +202,7 @@ fn one_line<'a>(
 // lent lies in memory.
 #[inline(always)]
 fn many_runs(
-    spares: &mut Vec<Vec<u8>>,
+    spares: &mut Spares,
     reader: &mut Reader,
     bytes: &[u8],
     start: yaml_mark_t,
@@ -235,7 +235,7 @@ fn many_runs(
 #[cold]
 #[inline(never)]
 fn join_runs(
-    spares: &mut Vec<Vec<u8>>,
+    spares: &mut Spares,
     reader: &mut Reader,
     bytes: &[u8],
     start: yaml_mark_t,
@@ -257,7 +257,7 @@ fn join_runs(
         let more = piece(reader, &mut joining, start, flow, level)?;
         if !more {
             let end_mark = joining.end;
-            let breaks = told(joining.broke);
+            let breaks = break_number(joining.broke);
             return Ok(PlainScalar {
                 value: joining.finish(),
                 start_mark: start,
@@ -270,8 +270,8 @@ fn join_runs(
 }
 
 /// 1 where a break stands behind the scalar, or else 0.
-fn told(broke: bool) -> u64
-    ensures { result ≡ told broke }
+fn break_number(broke: bool) -> u64
+    ensures { result ≡ break_number broke }
 {
     if broke { 1 } else { 0 }
 }

@@ -16,14 +16,14 @@ use crate::folding::Folding;
 use crate::run::{ordinary_run, pass_byte};
 use std::alloc::AllocError;
 use yaml_scan_model::{
-    Context, Problem, Reader, ScanError, copied, is_blank_byte, room, yaml_mark_t,
+    Context, Problem, Reader, ScanError, Spares, copied, is_blank_byte, room, yaml_mark_t,
 };
 
 /// The value of the double quoted scalar whose opening quote stands here. The reader is left after the closing one. The value
 /// may take the room of a spare text.
 // Inlined into the way of its kind.
 #[inline(always)]
-pub fn double_quoted(spares: &mut Vec<Vec<u8>>, reader: &mut Reader) -> Result<Vec<u8>, ScanError>
+pub fn double_quoted(spares: &mut Spares, reader: &mut Reader) -> Result<Vec<u8>, ScanError>
     requires { byte reader.old.text reader.old.at ≡ 34 }
     ensures { Reads reader.old.text reader.old.at reader.new result
         (spec.double_quoted_at reader.old.text reader.old.at) }
@@ -35,7 +35,7 @@ pub fn double_quoted(spares: &mut Vec<Vec<u8>>, reader: &mut Reader) -> Result<V
 /// may take the room of a spare text.
 // Inlined into the way of its kind.
 #[inline(always)]
-pub fn single_quoted(spares: &mut Vec<Vec<u8>>, reader: &mut Reader) -> Result<Vec<u8>, ScanError>
+pub fn single_quoted(spares: &mut Spares, reader: &mut Reader) -> Result<Vec<u8>, ScanError>
     requires { byte reader.old.text reader.old.at ≡ 39 }
     ensures { Reads reader.old.text reader.old.at reader.new result
         (spec.single_quoted_at reader.old.text reader.old.at) }
@@ -46,7 +46,7 @@ pub fn single_quoted(spares: &mut Vec<Vec<u8>>, reader: &mut Reader) -> Result<V
 /// The value of the scalar whose opening quote stands here, of that byte.
 // Inlined: the byte is known where it is called.
 #[inline(always)]
-fn quoted(spares: &mut Vec<Vec<u8>>, reader: &mut Reader, quote: u8) -> Result<Vec<u8>, ScanError>
+fn quoted(spares: &mut Spares, reader: &mut Reader, quote: u8) -> Result<Vec<u8>, ScanError>
     requires opened { byte reader.old.text reader.old.at ≡ quote }
     requires quote { (quote ≡ 34) ⊎ (quote ≡ 39) }
     ensures { Reads reader.old.text reader.old.at reader.new result
@@ -78,7 +78,7 @@ fn closes(reader: &Reader, quote: u8) -> bool
 // Inlined: a text of up to sixteen bytes is one load and one store.
 #[inline(always)]
 fn one_run(
-    spares: &mut Vec<Vec<u8>>,
+    spares: &mut Spares,
     reader: &mut Reader,
     from: usize,
     bytes: &[u8],
@@ -104,7 +104,7 @@ fn one_run(
 // lent lies in memory.
 #[inline(always)]
 fn many_runs(
-    spares: &mut Vec<Vec<u8>>,
+    spares: &mut Spares,
     reader: &mut Reader,
     bytes: &[u8],
     start: yaml_mark_t,
@@ -134,7 +134,7 @@ fn many_runs(
 // Out of line: most scalars have one run.
 #[inline(never)]
 fn fold_runs(
-    spares: &mut Vec<Vec<u8>>,
+    spares: &mut Spares,
     reader: &mut Reader,
     bytes: &[u8],
     start: yaml_mark_t,

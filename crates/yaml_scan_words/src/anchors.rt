@@ -7,7 +7,7 @@ ghost use Rattle.yaml_scan_words.specs.Readings.{ReadsAs, IsNameWord, behind_byt
 
 use crate::run::{copied_since, name_end};
 use crate::word::{Word, refusal};
-use yaml_scan_model::{Context, Problem, Reader, ScanError, leap, yaml_mark_t};
+use yaml_scan_model::{Context, Problem, Reader, ScanError, Spares, leap, yaml_mark_t};
 
 /// The anchor or alias whose `&` or `*` stands here (YAML 1.1, 3.2.2.2): its name is one or more alphas.
 ///
@@ -15,11 +15,7 @@ use yaml_scan_model::{Context, Problem, Reader, ScanError, leap, yaml_mark_t};
 /// refused at its end. The name may take the room of a spare text.
 // Inlined into its two callers, each a call of its own.
 #[inline(always)]
-pub fn anchor(
-    spares: &mut Vec<Vec<u8>>,
-    reader: &mut Reader,
-    context: Context,
-) -> Result<Word, ScanError>
+pub fn anchor(spares: &mut Spares, reader: &mut Reader, context: Context) -> Result<Word, ScanError>
     requires { (byte reader.old.text reader.old.at ≡ 38)
         ⊎ (byte reader.old.text reader.old.at ≡ 42) }
     ensures { ReadsAs (IsNameWord reader.old.text reader.old.at) behind_bytes reader.old.text

@@ -10,7 +10,7 @@ use crate::prefixes::tag_directive;
 use crate::run::{Run, skip_indicator, skip_run};
 use crate::versions::version;
 use crate::word::{Directive, DirectiveWord, refusal};
-use yaml_scan_model::{Context, Problem, Reader, ScanError, yaml_mark_t};
+use yaml_scan_model::{Context, Problem, Reader, ScanError, Spares, yaml_mark_t};
 
 /// Which directive a name tells.
 #[derive(Clone, Copy)]
@@ -22,7 +22,7 @@ pub(crate) enum DirectiveName {
 /// The directive whose `%` stands here (YAML 1.1, 7.1): `%YAML` with a version, or `%TAG` with a handle and a prefix.
 ///
 /// Behind it blanks, a comment and the break are passed. The directive's end mark stands behind its value.
-pub fn directive(spares: &mut Vec<Vec<u8>>, reader: &mut Reader) -> Result<DirectiveWord, ScanError>
+pub fn directive(spares: &mut Spares, reader: &mut Reader) -> Result<DirectiveWord, ScanError>
     requires { byte reader.old.text reader.old.at ≡ 37 }
     ensures { ReadsAs (IsDirective reader.old.text reader.old.at) spec.directive_place
         reader.old.text (mark_at reader.old.text reader.old.at) reader.new result
@@ -41,7 +41,7 @@ pub fn directive(spares: &mut Vec<Vec<u8>>, reader: &mut Reader) -> Result<Direc
 
 /// The directive that stands here, up to the end of its value.
 fn directive_value(
-    spares: &mut Vec<Vec<u8>>,
+    spares: &mut Spares,
     reader: &mut Reader,
     start: yaml_mark_t,
 ) -> Result<Directive, ScanError>

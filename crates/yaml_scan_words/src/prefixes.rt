@@ -9,11 +9,11 @@ ghost use Rattle.yaml_scan_words.specs.DirectivesGiven.{IsSaid};
 use crate::run::{Run, belongs, copied_since, skip_indicator, skip_run};
 use crate::uris::some_uri;
 use crate::word::{Directive, refusal};
-use yaml_scan_model::{Context, Problem, Reader, ScanError, yaml_mark_t};
+use yaml_scan_model::{Context, Problem, Reader, ScanError, Spares, yaml_mark_t};
 
 /// What follows here: blanks, a handle, blanks and a prefix (YAML 1.1, 7.1.2).
 pub(crate) fn tag_directive(
-    spares: &mut Vec<Vec<u8>>,
+    spares: &mut Spares,
     reader: &mut Reader,
     start: yaml_mark_t,
 ) -> Result<Directive, ScanError>
@@ -28,7 +28,7 @@ pub(crate) fn tag_directive(
 
 /// The handle that stands here: `!` or `!alphas!`.
 fn tag_handle(
-    spares: &mut Vec<Vec<u8>>,
+    spares: &mut Spares,
     reader: &mut Reader,
     start: yaml_mark_t,
 ) -> Result<Vec<u8>, ScanError>
@@ -64,7 +64,7 @@ fn tag_handle(
 
 /// The prefix that follows here behind blanks, which end the handle.
 fn tag_prefix(
-    spares: &mut Vec<Vec<u8>>,
+    spares: &mut Spares,
     reader: &mut Reader,
     start: yaml_mark_t,
 ) -> Result<Vec<u8>, ScanError>

@@ -9,7 +9,7 @@ ghost use Rattle.yaml_scan_words.specs.Written.{is_kept};
 
 use std::alloc::AllocError;
 use yaml_scan_classes::{IS_ALPHA, IS_BLANK, IS_BREAKZ, IS_DIGIT};
-use yaml_scan_model::{Reader, copied as copied_bytes};
+use yaml_scan_model::{Reader, Spares, copied as copied_bytes};
 
 /// Which bytes go together.
 #[derive(Clone, Copy)]
@@ -178,7 +178,7 @@ pub(crate) fn skip_indicator(reader: &mut Reader)
 // Inlined: a reader that is lent to a call out of line lies in memory.
 #[inline(always)]
 pub(crate) fn copied_since(
-    spares: &mut Vec<Vec<u8>>,
+    spares: &mut Spares,
     reader: &Reader,
     from: usize,
 ) -> Result<Vec<u8>, AllocError>
@@ -194,7 +194,7 @@ pub(crate) fn copied_since(
 // Inlined: a text of up to sixteen bytes is one load and one store.
 #[inline(always)]
 pub(crate) fn copied(
-    spares: &mut Vec<Vec<u8>>,
+    spares: &mut Spares,
     text: &[u8],
     from: usize,
     to: usize,

@@ -9,7 +9,7 @@ ghost use Rattle.yaml_scan_words.specs.TagsGiven.{IsTag, IsParts, IsShort};
 use crate::run::{copied, copied_since, name_end, skip_indicator};
 use crate::uris::{kept_end, some_uri, uri};
 use crate::word::{TagWord, refusal};
-use yaml_scan_model::{Context, Problem, Reader, ScanError, leap, room, yaml_mark_t};
+use yaml_scan_model::{Context, Problem, Reader, ScanError, Spares, leap, room, yaml_mark_t};
 
 /// A tag's handle and suffix.
 #[derive(Drop)]
@@ -26,7 +26,7 @@ pub(crate) struct TagParts {
 /// A short form without escapes is read here, in which the handle's end is where its suffix begins; all else by `whole_tag`.
 // Inlined into its one caller, which is a call of its own.
 #[inline(always)]
-pub fn tag(spares: &mut Vec<Vec<u8>>, reader: &mut Reader, flow: bool) -> Result<TagWord, ScanError>
+pub fn tag(spares: &mut Spares, reader: &mut Reader, flow: bool) -> Result<TagWord, ScanError>
     requires { byte reader.old.text reader.old.at ≡ 33 }
     ensures { ReadsAs (IsTag reader.old.text reader.old.at) spec.tag_end reader.old.text
         (mark_at reader.old.text reader.old.at) reader.new result
@@ -105,11 +105,7 @@ fn is_short(second: u8, middle: usize, behind: &Reader, flow: bool) -> bool
 // Inlined: so the answer of the call out of line has a place of its own. It is lent a copy of the reader: one that is lent
 // lies in memory.
 #[inline(always)]
-fn tag_apart(
-    spares: &mut Vec<Vec<u8>>,
-    reader: &mut Reader,
-    flow: bool,
-) -> Result<TagWord, ScanError>
+fn tag_apart(spares: &mut Spares, reader: &mut Reader, flow: bool) -> Result<TagWord, ScanError>
     requires { byte reader.old.text reader.old.at ≡ 33 }
     ensures { ReadsAs (IsTag reader.old.text reader.old.at) spec.tag_end reader.old.text
         (mark_at reader.old.text reader.old.at) reader.new result
@@ -125,11 +121,7 @@ fn tag_apart(
 // Out of line and cold: most tags have a short form without escapes.
 #[cold]
 #[inline(never)]
-fn whole_tag(
-    spares: &mut Vec<Vec<u8>>,
-    reader: &mut Reader,
-    flow: bool,
-) -> Result<TagWord, ScanError>
+fn whole_tag(spares: &mut Spares, reader: &mut Reader, flow: bool) -> Result<TagWord, ScanError>
     requires { byte reader.old.text reader.old.at ≡ 33 }
     ensures { ReadsAs (IsTag reader.old.text reader.old.at) spec.tag_end reader.old.text
         (mark_at reader.old.text reader.old.at) reader.new result
@@ -169,7 +161,7 @@ fn may_end_tag(reader: &Reader, flow: bool) -> bool
 /// The tag that stands here, whatever follows it.
 #[tactic(auto, unfolding(crate::specs::Tags::parts_at))]
 fn tag_parts(
-    spares: &mut Vec<Vec<u8>>,
+    spares: &mut Spares,
     reader: &mut Reader,
     start: yaml_mark_t,
 ) -> Result<TagParts, ScanError>
@@ -189,7 +181,7 @@ fn tag_parts(
 
 /// The tag `!<uri>` that stands here.
 fn verbatim(
-    spares: &mut Vec<Vec<u8>>,
+    spares: &mut Spares,
     reader: &mut Reader,
     start: yaml_mark_t,
 ) -> Result<TagParts, ScanError>
@@ -213,7 +205,7 @@ fn verbatim(
 
 /// The tag with a handle `!alphas!` that stands here; the alphas end at that place.
 fn named(
-    spares: &mut Vec<Vec<u8>>,
+    spares: &mut Spares,
     reader: &mut Reader,
     end: usize,
     start: yaml_mark_t,
@@ -233,11 +225,7 @@ fn named(
 }
 
 /// The tag `!uri` or `!` that stands here.
-fn bare(
-    spares: &mut Vec<Vec<u8>>,
-    reader: &mut Reader,
-    start: yaml_mark_t,
-) -> Result<TagParts, ScanError>
+fn bare(spares: &mut Spares, reader: &mut Reader, start: yaml_mark_t) -> Result<TagParts, ScanError>
     requires { byte reader.old.text reader.old.at ≡ 33 }
     ensures { ReadsAs IsParts spec.tag_end reader.old.text start reader.new result
         (spec.bare_at reader.old.text reader.old.at) }

@@ -9,7 +9,7 @@ ghost use Rattle.yaml_scan_words.specs.Written.{is_kept};
 
 use crate::run::{copied_since, is_kept, skip_indicator};
 use crate::word::refusal;
-use yaml_scan_model::{Context, Problem, Reader, ScanError, leap, yaml_mark_t};
+use yaml_scan_model::{Context, Problem, Reader, ScanError, Spares, leap, yaml_mark_t};
 
 /// A byte of a URI, and how many escapes have to follow it to spell the rest of its character.
 #[derive(Clone, Copy)]
@@ -22,7 +22,7 @@ pub(crate) struct Spelling {
 // Inlined into its callers, which are calls of their own.
 #[inline(always)]
 pub(crate) fn some_uri(
-    spares: &mut Vec<Vec<u8>>,
+    spares: &mut Spares,
     reader: &mut Reader,
     context: Context,
     wide: bool,
@@ -42,7 +42,7 @@ pub(crate) fn some_uri(
 // Inlined into its callers, which are calls of their own.
 #[inline(always)]
 pub(crate) fn uri(
-    spares: &mut Vec<Vec<u8>>,
+    spares: &mut Spares,
     reader: &mut Reader,
     context: Context,
     wide: bool,

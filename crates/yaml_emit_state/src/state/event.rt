@@ -1,5 +1,5 @@
 //! What is written for an event.
-ghost use Rattle.std.specs.Prelude.{◌≡◌, true, map, IsUtf8};
+ghost use Rattle.std.specs.Prelude.{◌≡◌, true, false, map, IsUtf8};
 ghost use Rattle.std.specs.Str.{IsAscii};
 ghost use Rattle.yaml_parse_model.specs.Events.{body_of, text_of};
 ghost use Rattle.yaml_parse_model.specs.Constructors.{HasUtf8};
@@ -9,14 +9,15 @@ ghost use Rattle.yaml_emit_layout.specs.Content.{emitter_event};
 ghost use Rattle.yaml_emit_text.specs.Layout.{◌▹◌};
 ghost use Rattle.yaml_emit_layout.specs.Nodes.{alias_layout, scalar_layout};
 ghost use Rattle.yaml_emit_layout.specs.State.{text_at, is_simple_event, before_node, spot_of, start_text};
-ghost use Rattle.yaml_emit_state.specs.Given.{lent_context, lent_scalar, lent_start, name_of, IsNamed};
+ghost use Rattle.yaml_scan_model.specs.declared.yaml_scalar_style_t.{yaml_scalar_style_t};
+ghost use Rattle.yaml_emit_state.specs.Given.{lent_context, lent_scalar, lent_start, plain_text, name_of, IsNamed};
 
 use crate::before::{put_before, put_closer_at};
 use crate::documents::{put_end, put_start_at, put_stop_at};
 use crate::given::{Context, Opening, Scalar, Start, Where};
 use crate::indent::spot_of;
 use crate::keys::{is_flow_mapping, is_flow_sequence};
-use crate::nodes::{put_alias, put_collection, put_scalar};
+use crate::nodes::{put_alias, put_collection, put_scalar, put_text};
 use yaml_emit_layout::Level;
 use yaml_emit_text::{Settings, Sink};
 use yaml_parse_model::yaml_event_body_t;
@@ -77,6 +78,21 @@ pub(super) fn put_scalar_node(
 {
     put_before(sink, context.settings, top, simple);
     put_scalar(sink, context, spot_of(*top, simple), scalar, canonical);
+}
+
+// A text with the default tag and without an anchor in the innermost collection, with what comes before it, in canonical form.
+// Inlined into its one caller.
+#[inline(always)]
+pub(super) fn put_text_node(sink: &mut Sink, context: &Context, top: &Option<Level>, value: &[u8])
+    requires utf8 { IsUtf8 value.now }
+    requires form { context.now.settings.now.canonical ≡ true }
+    ensures { (style : yaml_scalar_style_t) → Puts sink.old sink.new
+        (before_node context.now.settings.now top.now false
+        ▹ scalar_layout (lent_context context.now) (spot_of top.now false)
+        (plain_text value.now style)) }
+{
+    put_before(sink, context.settings, top, false);
+    put_text(sink, context, spot_of(*top, false), value);
 }
 
 // The same in either form.

@@ -11,8 +11,8 @@ use simdutf8::is_utf8;
 use std::alloc::Global;
 use yaml_parse_model::{
     copy_text, is_utf8_option, yaml_mapping_style_t, yaml_mark_t, yaml_node_body_t,
-    yaml_node_item_t, yaml_node_pair_t, yaml_node_t, yaml_node_tag_t, yaml_scalar_style_t,
-    yaml_sequence_style_t, yaml_text_fault_t,
+    yaml_node_item_t, yaml_node_pair_t, yaml_node_t, yaml_node_tag_t, yaml_node_text_t,
+    yaml_scalar_style_t, yaml_sequence_style_t, yaml_text_fault_t,
 };
 
 /// A list of a document has at most this many entries.
@@ -103,7 +103,7 @@ pub fn yaml_document_add_scalar(
         return Err(yaml_text_fault_t::NotUtf8);
     }
     let tag = tag_or_default(document.alloc, tag, yaml_node_tag_t::Str)?;
-    let value = copy_text(document.alloc, value)?;
+    let value = yaml_node_text_t::copied(document.alloc, value)?;
     add_node(
         document,
         unplaced_node(yaml_node_body_t::Scalar { value, style }, tag),

@@ -3,7 +3,7 @@ use Rattle.std.proofs.Common.{◌⊎◌, ◌≤◌, subst, refl, length, take, �
 use Rattle.std.specs.Io.KnownBytes.{Appends}
 use Rattle.yaml_scan_model.specs.Faults.{fault_of, IsMemoryFault}
 use Rattle.yaml_round.specs.Commands.{IsRunAnswer, run_layers}
-use Rattle.yaml_round.proofs.Running.{unread, unread_failures, unread_taken, refused, told, told_in_part}
+use Rattle.yaml_round.proofs.Running.{unread, unread_failures, unread_taken, unread_unfinished, refused, told, told_in_part}
 use Rattle.yaml_round.proofs.run.yaml_run.Goals as goal
 
 pub returns-in-Err-clause-untouched : goal.returns-in-Err-clause-untouched
@@ -77,3 +77,14 @@ returns-in-Ok-yaml_write_all-clause-taken g c = (length c.in-Ok.bytes.items, c.i
 
 pub returns-clause-taken : goal.returns-clause-taken
 returns-clause-taken g c = (length c.in-Ok.bytes.items, c.in-Ok.ensures.all.within, c.in-Ok.ensures.count)
+
+pub returns-in-Err-clause-unfinished : goal.returns-in-Err-clause-unfinished
+returns-in-Err-clause-unfinished g c =
+    unread_unfinished (g.I.yaml_input_t.to_come c.args.input.now) c.args.input_limit
+    (g.I.yaml_input_t.has_failed c.args.input.now) (g.I.yaml_input_t.has_failed c.yaml_read_all.new.input) (g.O.yaml_output_t.is_finished c.args.output.now) c.in-Err.fault c.in-Err.ensures.cause
+
+pub returns-in-Err-answer_of-clause-unfinished : goal.returns-in-Err-answer_of-clause-unfinished
+returns-in-Err-answer_of-clause-unfinished g c = tt
+
+pub returns-clause-unfinished : goal.returns-clause-unfinished
+returns-clause-unfinished g c = c.in-Err-yaml_write_all.ensures.unfinished

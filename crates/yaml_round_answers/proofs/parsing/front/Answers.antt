@@ -1,20 +1,6 @@
--- What stands in front of the end is what C is told.
-use Rattle.std.proofs.Common.{refl}
-use Rattle.std.specs.Prelude.{Ok}
-use Rattle.yaml_round.specs.Input.{events_of}
-use Rattle.yaml_round.proofs.Plain.{has_events}
-use Rattle.yaml_round_answers.proofs.Handing.{handed_says, refused_front}
+-- Where there is no memory for the text, that is told.
+use Rattle.yaml_round_answers.proofs.Handing.{starved_front}
 use Rattle.yaml_round_answers.proofs.parsing.front.Goals as goal
 
-pub returns-in-Ok : goal.returns-in-Ok
-returns-in-Ok c =
-    let e = rw c.in-Ok.is at c.fronted-end.ensures in record {
-      result = Ok (events_of c.args.from c.args.input.now);
-      is = has_events c.args.from c.args.input.now (events_of c.args.from c.args.input.now) e.0 refl;
-      told = (c.said.ensures, handed_says _ _ _ c.blocks_of.ensures e.1.0 e.1.1);
-    }
-
-pub returns-in-Err : goal.returns-in-Err
-returns-in-Err c =
-    let e = rw c.in-Err.is at c.fronted-end.ensures in
-    refused_front c.args.from c.args.input.now c.in-Err.fault _ _ _ c.blocks_of.ensures e c.refused.ensures
+pub returns-in-None : goal.returns-in-None
+returns-in-None c = starved_front _ _ _ _ c.starved.ensures.told

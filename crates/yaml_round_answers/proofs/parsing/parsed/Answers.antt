@@ -1,17 +1,6 @@
--- What was collected is what C is told.
-use Rattle.std.proofs.Common.{refl}
-use Rattle.std.specs.Prelude.{Ok}
-use Rattle.yaml_round.specs.Input.{events_of}
-use Rattle.yaml_round.proofs.Plain.{has_events}
-use Rattle.yaml_round_answers.proofs.Handing.{handed_says, refused_parse}
+-- Where there is no memory for the text, that is told.
+use Rattle.yaml_round_answers.proofs.Handing.{starved_parse}
 use Rattle.yaml_round_answers.proofs.parsing.parsed.Goals as goal
 
-pub returns-in-Ok-clause-told : goal.returns-in-Ok-clause-told
-returns-in-Ok-clause-told c = record {
-  result = Ok (events_of c.args.from c.args.input.now);
-  is = has_events c.args.from c.args.input.now (events_of c.args.from c.args.input.now) c.in-Ok.ensures.0 refl;
-  told = (c.said.ensures, handed_says c.in-Ok.listing _ _ c.blocks_of.ensures c.in-Ok.ensures.1 c.in-Ok.ensures.2);
-}
-
-pub returns-in-Err-clause-told : goal.returns-in-Err-clause-told
-returns-in-Err-clause-told c = refused_parse c.args.from c.args.input.now c.in-Err.fault _ _ c.nothing.ensures c.in-Err.ensures c.refused.ensures
+pub returns-in-None-clause-told : goal.returns-in-None-clause-told
+returns-in-None-clause-told c = starved_parse _ _ _ _ c.starved.ensures.none c.starved.ensures.told

@@ -1,13 +1,6 @@
--- What was listed is what C is told.
-use Rattle.yaml_round_answers.proofs.ScanTelling.{scan_ends, scan_fails}
+-- Where there is no memory for the text, that is told.
+use Rattle.yaml_round_answers.proofs.ScanTelling.{scan_starves}
 use Rattle.yaml_round_answers.proofs.scanning.scanned.Goals as goal
 
-pub returns-in-Ok : goal.returns-in-Ok
-returns-in-Ok c =
-    let e = rw c.in-Ok.is at c.list_tokens-end.ensures in
-    scan_ends _ _ _ _ _ c.blocks_of.ensures c.said.ensures e
-
-pub returns-in-Err : goal.returns-in-Err
-returns-in-Err c =
-    let e = rw c.in-Err.is at c.list_tokens-end.ensures in
-    scan_fails _ _ c.in-Err.fault _ _ _ c.blocks_of.ensures c.refused.ensures e
+pub returns-in-None : goal.returns-in-None
+returns-in-None c = scan_starves _ _ _ _ c.starved.ensures

@@ -1,12 +1,14 @@
 use Rattle.std.proofs.Common.{sym, refl, ◌∙◌, true}
 use Rattle.yaml_scan_model.specs.Tokens.{token_of}
+use Rattle.yaml_scan_model.specs.Rooms.{rooms_of}
+use Rattle.yaml_scan_model.proofs.RoomsLemmas.{few_kept}
 use Rattle.yaml_scan.proofs.SessionLemmas.{none_some, takes_over, takes_held, takes_own, takes_none, refuses, whole_taken, whole_idle, whole_refused}
 use Rattle.yaml_scan.proofs.session.yaml_parser_scan_into.Goals as goal
 
 pub returns-then-is_some-clause-scans : goal.returns-then-is_some-clause-scans
 returns-then-is_some-clause-scans c =
     let s = c.parser.inside in
-    rw (← c.parser.view_is) (takes_over s.fault s.aside (token_of s.shown) (token_of c.put_empty.new.slot) s.machine (sym c.is_some.ensures ∙ c.if-is_some.true) c.put_empty.ensures)
+    rw (← c.parser.view_is) (takes_over (rooms_of s.spares) (rooms_of s.spares) s.fault s.aside (token_of s.shown) (token_of c.put_empty.new.slot) s.machine (sym c.is_some.ensures ∙ c.if-is_some.true) c.put_empty.ensures)
 
 pub invariant_of-parser : goal.invariant_of-parser
 invariant_of-parser c =
@@ -16,7 +18,7 @@ invariant_of-parser c =
 pub returns-then-parser-clause-scans : goal.returns-then-parser-clause-scans
 returns-then-parser-clause-scans c =
     let s = c.parser.inside in
-    rw (← c.parser.view_is, c.put_shown.ensures.given) (takes_held s.fault s.aside (token_of s.shown) (token_of c.put_shown.new.shown) s.machine (sym c.is_some.ensures ∙ c.if-is_some.false) c.if-parser.true)
+    rw (← c.parser.view_is, c.put_shown.ensures.given) (takes_held (rooms_of s.spares) (rooms_of s.spares) s.fault s.aside (token_of s.shown) (token_of c.put_shown.new.shown) s.machine (sym c.is_some.ensures ∙ c.if-is_some.false) c.if-parser.true)
 
 pub next_into-requires-clause-stands : goal.next_into-requires-clause-stands
 next_into-requires-clause-stands c = c.parser.invariant.machine (c.parser.invariant.free c.if-parser.false)
@@ -25,7 +27,7 @@ pub returns-in-Known-clause-scans : goal.returns-in-Known-clause-scans
 returns-in-Known-clause-scans c =
     let s = c.parser.inside in
     let n = c.next_into.new.machine in
-    rw (← c.parser.view_is) (takes_own s.fault s.aside (token_of s.shown) (token_of c.next_into.new.token) s.machine n (none_some s.fault (c.parser.invariant.free c.if-parser.false)) c.if-parser.false c.in-Known.ensures)
+    rw (← c.parser.view_is) (takes_own (rooms_of s.spares) (rooms_of c.next_into.new.spares) s.fault s.aside (token_of s.shown) (token_of c.next_into.new.token) s.machine n (none_some s.fault (c.parser.invariant.free c.if-parser.false)) c.if-parser.false c.in-Known.ensures)
 
 pub invariant_of-parser-in-Known : goal.invariant_of-parser-in-Known
 invariant_of-parser-in-Known c =
@@ -46,25 +48,25 @@ pub returns-in-Nothing-clause-scans : goal.returns-in-Nothing-clause-scans
 returns-in-Nothing-clause-scans c =
     let s = c.parser.inside in
     let n = c.next_into.new.machine in
-    rw (← c.parser.view_is) (takes_none s.fault s.aside (token_of s.shown) (token_of c.next_into.new.token) s.machine n (none_some s.fault (c.parser.invariant.free c.if-parser.false)) c.if-parser.false c.in-Nothing.ensures)
+    rw (← c.parser.view_is) (takes_none (rooms_of s.spares) (rooms_of c.next_into.new.spares) s.fault s.aside (token_of s.shown) (token_of c.next_into.new.token) s.machine n (none_some s.fault (c.parser.invariant.free c.if-parser.false)) c.if-parser.false c.in-Nothing.ensures)
 
 pub returns-in-Refused-clause-scans : goal.returns-in-Refused-clause-scans
 returns-in-Refused-clause-scans c =
     let s = c.parser.inside in
     let n = c.next_into.new.machine in
-    rw (← c.parser.view_is, c.keep.ensures) (refuses s.fault s.aside true (token_of s.shown) (token_of s.shown) s.machine n c.next_into.new.fault (none_some s.fault (c.parser.invariant.free c.if-parser.false)) c.if-parser.false (c.parser.invariant.machine (c.parser.invariant.free c.if-parser.false)) c.in-Refused.ensures.denies)
+    rw (← c.parser.view_is, c.keep.ensures) (refuses (rooms_of s.spares) (rooms_of c.next_into.new.spares) s.fault s.aside true (token_of s.shown) (token_of s.shown) s.machine n c.next_into.new.fault (none_some s.fault (c.parser.invariant.free c.if-parser.false)) c.if-parser.false (c.parser.invariant.machine (c.parser.invariant.free c.if-parser.false)) c.in-Refused.ensures.denies)
 
 pub returns-then-is_some-clause-few : goal.returns-then-is_some-clause-few
-returns-then-is_some-clause-few c = rw (← c.parser.view_is) c.parser.invariant.short
+returns-then-is_some-clause-few c = rw (← c.parser.view_is) (c.parser.invariant.short, few_kept c.parser.inside.spares)
 
 pub returns-then-parser-clause-few : goal.returns-then-parser-clause-few
-returns-then-parser-clause-few c = c.parser.invariant.short
+returns-then-parser-clause-few c = (c.parser.invariant.short, few_kept c.parser.inside.spares)
 
 pub returns-in-Known-clause-few : goal.returns-in-Known-clause-few
-returns-in-Known-clause-few c = c.in-Known.ensures.stands.short
+returns-in-Known-clause-few c = (c.in-Known.ensures.stands.short, few_kept c.next_into.new.spares)
 
 pub returns-in-Nothing-clause-few : goal.returns-in-Nothing-clause-few
-returns-in-Nothing-clause-few c = c.in-Nothing.ensures.finishes.stands.short
+returns-in-Nothing-clause-few c = (c.in-Nothing.ensures.finishes.stands.short, few_kept c.next_into.new.spares)
 
 pub returns-in-Refused-clause-few : goal.returns-in-Refused-clause-few
-returns-in-Refused-clause-few c = c.in-Refused.ensures.denies.few
+returns-in-Refused-clause-few c = (c.in-Refused.ensures.denies.few, few_kept c.next_into.new.spares)

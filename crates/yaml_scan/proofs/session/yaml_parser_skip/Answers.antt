@@ -1,6 +1,8 @@
 use Rattle.std.proofs.Common.{ap, refl, ◌∙◌, false}
 use Rattle.yaml_scan_model.specs.declared.token.yaml_token_t.{yaml_token_t}
 use Rattle.yaml_scan_model.specs.Tokens.{token_of}
+use Rattle.yaml_scan_model.specs.Rooms.{rooms_of}
+use Rattle.yaml_scan_model.proofs.RoomsLemmas.{few_kept}
 use Rattle.yaml_scan_machine.specs.Left.{left_in}
 use Rattle.yaml_scan.specs.Session.{View, is_settled}
 use Rattle.yaml_scan.proofs.SessionLemmas.{none_some, ready_fault, ready_own, left_held, left_own, whole_idle, whole_taken, same_reads, own_reads}
@@ -50,18 +52,18 @@ pub returns-clause-same : goal.returns-clause-same
 returns-clause-same c = ap (λ (v : View). v.answered) c.parser.view_is
 
 pub returns-then-parser-clause-few : goal.returns-then-parser-clause-few
-returns-then-parser-clause-few c = c.parser.invariant.short
+returns-then-parser-clause-few c = (c.parser.invariant.short, few_kept c.parser.inside.spares)
 
 pub returns-clause-few : goal.returns-clause-few
-returns-clause-few c = c.take_token.ensures.stands.short
+returns-clause-few c = (c.take_token.ensures.stands.short, few_kept c.parser.inside.spares)
 
 pub returns-then-parser-clause-reads : goal.returns-then-parser-clause-reads
 returns-then-parser-clause-reads c =
     let s = c.parser.inside in
-    rw (← c.parser.view_is) (same_reads (view_by s.machine s.fault (token_of s.shown) s.aside) (view_by s.machine s.fault (token_of c.put.new.slot) false) refl refl refl)
+    rw (← c.parser.view_is) (same_reads (view_by s.machine s.fault (token_of s.shown) s.aside (rooms_of s.spares)) (view_by s.machine s.fault (token_of c.put.new.slot) false (rooms_of s.spares)) refl refl refl)
 
 pub returns-clause-reads : goal.returns-clause-reads
 returns-clause-reads c =
     let s = c.parser.inside in
     let ready = ap (λ (v : View). is_settled v) c.parser.view_is ∙ c.requires in
-    rw (← c.parser.view_is) (own_reads s.fault s.fault s.aside s.aside (token_of s.shown) (token_of s.shown) s.machine c.take_token.new.self (none_some s.fault (ready_fault s.machine s.fault (token_of s.shown) s.aside ready)) c.if-parser.false (reads_none s.machine c.take_token.new.self c.take_token.ensures.keeps))
+    rw (← c.parser.view_is) (own_reads (rooms_of s.spares) (rooms_of s.spares) s.fault s.fault s.aside s.aside (token_of s.shown) (token_of s.shown) s.machine c.take_token.new.self (none_some s.fault (ready_fault s.machine s.fault (token_of s.shown) s.aside ready)) c.if-parser.false (reads_none s.machine c.take_token.new.self c.take_token.ensures.keeps))

@@ -11,7 +11,7 @@ pub returns-in-Err-clause-keeps : goal.returns-in-Err-clause-keeps
 returns-in-Err-clause-keeps c = c.starve.ensures.keeps
 
 pub returns-in-Ok-clause-memory : goal.returns-in-Ok-clause-memory
-returns-in-Ok-clause-memory c = c.dump_events.ensures.memory
+returns-in-Ok-clause-memory c = c.dump_all.ensures.memory
 
 pub returns-in-Ok-clause-keeps : goal.returns-in-Ok-clause-keeps
-returns-in-Ok-clause-keeps c = c.dump_events.ensures.keeps
+returns-in-Ok-clause-keeps c = c.dump_all.ensures.keeps

@@ -1,6 +1,7 @@
 use Rattle.std.proofs.Common.{None, ap, ◌∙◌, sym}
 use Rattle.std.proofs.lemmas.Bool.{false≢true}
 use Rattle.yaml_parse_model.specs.Events.{body_of}
+use Rattle.yaml_emit_text.specs.declared.Settings.{Settings}
 use Rattle.yaml_emit_layout.specs.Content.{emitter_event}
 use Rattle.yaml_emit_held.specs.Held.{is_ready}
 use Rattle.yaml_emit_held.proofs.Judging.{going_notes}
@@ -30,6 +31,11 @@ pub returns-clause-text : goal.returns-clause-text
 returns-clause-text c =
     let once = rw (← c.self.view_is) at c.requires.once in
     rw (← c.self.view_is) (inside_gives c.self.inside c.lay_out.new.self _ _ (inside_open c.self.inside c.self.invariant once.right) once c.lay_out.ensures)
+
+pub returns-clause-form : goal.returns-clause-form
+returns-clause-form c =
+    let once = rw (← c.self.view_is) at c.requires.once in
+    rw (← c.self.view_is) (inside_going c.self.inside c.self.invariant once.right, ap (λ (s : Settings). s.canonical) c.lay_out.ensures.settings ∙ once.form)
 
 pub returns-clause-memory : goal.returns-clause-memory
 returns-clause-memory c =

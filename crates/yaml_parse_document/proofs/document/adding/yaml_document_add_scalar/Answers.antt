@@ -22,7 +22,7 @@ add_node-requires-clause-sound c =
     let tag : IsUtf8Option (option_map (λ t. t.now) c.args.tag) = c.if-not-is_utf8_option.ensures.0 refl in
     let value : IsUtf8 c.args.value.now = c.if-not-is_utf8.ensures.0 refl in
     subst (λ (n : Node). IsSoundNode (length c.args.document.now.nodes) n) (sym c.unplaced_node.ensures)
-    (subst IsUtf8 (sym c.in_ok-tag.ensures) (tag_utf8 _ _ str_utf8 tag), subst IsUtf8 (sym c.in_ok-value.ensures) value)
+    (subst IsUtf8 (sym c.in_ok-tag.ensures) (tag_utf8 _ _ str_utf8 tag), subst IsUtf8 (sym c.in_ok-value.ensures.is) value)
 
 pub add_node-requires-clause-sized : goal.add_node-requires-clause-sized
 add_node-requires-clause-sized c = subst (λ (n : Node). IsSizedBody n.body) (sym c.unplaced_node.ensures) nothing_listed
@@ -39,11 +39,11 @@ returns-in_err-value c =
     let tag : IsUtf8Option (option_map (λ t. t.now) c.args.tag) = c.if-not-is_utf8_option.ensures.0 refl in
     let value : IsUtf8 c.args.value.now = c.if-not-is_utf8.ensures.0 refl in
     let e = err_from_is_err_and c.from_residual-in_err-value.result c.from_residual-in_err-value.ensures.1 in
-    rw (e.1, e.2 ∙ c.in_err-value.ensures) (refl, (tag, value))
+    rw (e.1, e.2 ∙ c.in_err-value.ensures.is) (refl, (tag, value))
 
 pub returns : goal.returns
 returns c =
     let tag : IsUtf8Option (option_map (λ t. t.now) c.args.tag) = c.if-not-is_utf8_option.ensures.0 refl in
     let value : IsUtf8 c.args.value.now = c.if-not-is_utf8.ensures.0 refl in
-    let same : node_of c.unplaced_node.result ≡ new_scalar (option_map (λ t. t.now) c.args.tag) c.args.value.now c.args.style = rw (c.unplaced_node.ensures, c.in_ok-tag.ensures, c.in_ok-value.ensures) refl in
+    let same : node_of c.unplaced_node.result ≡ new_scalar (option_map (λ t. t.now) c.args.tag) c.args.value.now c.args.style = rw (c.unplaced_node.ensures, c.in_ok-tag.ensures, c.in_ok-value.ensures.is) refl in
     added _ _ _ _ _ _ same (tag, value) c.add_node.ensures

@@ -1,6 +1,6 @@
 use Rattle.std.proofs.Common.{◌∷◌, [], sym, ◌∙◌}
 use Rattle.yaml_emit_tags.proofs.Kept.{secondary_ascii, puts_behind}
-use Rattle.yaml_emit_tags.proofs.tag.put_secondary.Goals as goal
+use Rattle.yaml_emit_tags.proofs.tag.put_suffix.Goals as goal
 
 pub put_around-requires-clause-ascii : goal.put_around-requires-clause-ascii
 put_around-requires-clause-ascii c = secondary_ascii _ (sym c.are_kept.ensures ∙ c.if-are_kept.true)

@@ -1,0 +1,239 @@
+//! The call `emit_pieces`.
+
+ghost use Rattle.std.specs.Prelude.{◌≡◌, ◌≤◌, ◌<◌, ◌^◌, None, IfSome};
+ghost use Rattle.yaml_emit.specs.Judged.{refused_at};
+
+use super::course::Course;
+use super::emitter::{emitter_under, flush, give_listed};
+use serde_json::Value;
+use std::mem;
+use yaml_cli_vector_lines::{Reply, Settings, VectorError, settings_of};
+use yaml_emit::{
+    Expected, Level, RequestedSettings, yaml_emitter_delete, yaml_emitter_directives,
+    yaml_emitter_fresh, yaml_emitter_outer, yaml_emitter_output, yaml_emitter_resume,
+    yaml_emitter_stand, yaml_emitter_stand_t, yaml_emitter_t,
+};
+use yaml_parse::yaml_tag_directive_t;
+use yaml_scan::{yaml_error_type_t, yaml_fault_t};
+
+// No emitter goes on with a larger limit, nor in a line of more columns.
+const MOST: u64 = 4_611_686_018_427_387_904;
+
+// What was written in pieces, and where the last of their emitters stands.
+#[derive(Drop)]
+struct Pieces {
+    text: Vec<u8>,
+    fault: Option<yaml_fault_t>,
+    // How many events were given, without those that wait.
+    taken: usize,
+    // None where no event was given.
+    stand: Option<yaml_emitter_stand_t>,
+    around: Vec<Level>,
+    directives: Vec<yaml_tag_directive_t>,
+}
+
+impl Pieces {
+    fn new(reply: &Reply) -> Pieces {
+        Pieces {
+            text: Vec::new(reply.alloc()),
+            fault: None,
+            taken: 0,
+            stand: None,
+            around: Vec::new(reply.alloc()),
+            directives: Vec::new(reply.alloc()),
+        }
+    }
+}
+
+// Where an emitter may go on: no event was refused there, and the line isn't too long.
+fn right_stand(stand: yaml_emitter_stand_t) -> Option<yaml_emitter_stand_t>
+    ensures right { IfSome result (λ s. refused_at s.place ≡ None) }
+    ensures column { IfSome result (λ s. s.cursor.column < 2 ^ 62) }
+{
+    if stand.cursor.column >= MOST {
+        return None;
+    }
+    match stand.place {
+        Expected::Refused(_) => None,
+        Expected::StreamStart => Some(stand),
+        Expected::Documents(_, _) => Some(stand),
+        Expected::Node => Some(stand),
+        Expected::DocumentEnd => Some(stand),
+        Expected::End => Some(stand),
+    }
+}
+
+// Where the last emitter stands, if one may go on there.
+fn stand_of(pieces: &Pieces) -> Option<yaml_emitter_stand_t>
+    ensures right { IfSome result (λ s. refused_at s.place ≡ None) }
+    ensures column { IfSome result (λ s. s.cursor.column < 2 ^ 62) }
+{
+    match pieces.stand {
+        Some(stand) => right_stand(stand),
+        None => None,
+    }
+}
+
+// What is left of a limit.
+fn rest_of(limit: u64, text: &[u8]) -> u64
+    ensures { result ≤ 2 ^ 62 }
+{
+    let rest = limit.saturating_sub(text.len() as u64);
+    if rest <= MOST { rest } else { MOST }
+}
+
+fn requested(settings: &Settings) -> RequestedSettings {
+    RequestedSettings {
+        encoding: settings.encoding,
+        canonical: settings.canonical,
+        indent: settings.indent,
+        width: settings.width,
+        unicode: settings.unicode,
+        line_break: settings.line_break,
+    }
+}
+
+// An emitter that goes on where the last one stood, or that begins.
+fn next_emitter(
+    reply: &Reply,
+    settings: &Settings,
+    pieces: &mut Pieces,
+) -> Result<yaml_emitter_t, yaml_fault_t> {
+    let alloc = reply.alloc();
+    let limit = rest_of(settings.limit, pieces.text.as_slice());
+    match stand_of(pieces) {
+        Some(stand) => {
+            let around = mem::replace(&mut pieces.around, Vec::new(alloc));
+            let directives = mem::replace(&mut pieces.directives, Vec::new(alloc));
+            yaml_emitter_resume(alloc, requested(settings), limit, stand, around, directives)
+        }
+        None => emitter_under(alloc, settings, limit),
+    }
+}
+
+fn copied(reply: &mut Reply, text: &[u8]) -> Vec<u8> {
+    match Vec::from_slice(reply.alloc(), text) {
+        Ok(copied) => copied,
+        Err(_) => {
+            reply.refuse(VectorError::Memory);
+            Vec::new(reply.alloc())
+        }
+    }
+}
+
+// Copies the open collections and the directives.
+fn keep_lists(reply: &mut Reply, emitter: &yaml_emitter_t, pieces: &mut Pieces) {
+    for level in yaml_emitter_outer(emitter) {
+        reply.push(&mut pieces.around, *level);
+    }
+    for directive in yaml_emitter_directives(emitter) {
+        let handle = copied(reply, directive.handle.as_slice());
+        let prefix = copied(reply, directive.prefix.as_slice());
+        reply.push(
+            &mut pieces.directives,
+            yaml_tag_directive_t { handle, prefix },
+        );
+    }
+}
+
+// Keeps where an emitter stands that was given the line's events up to there.
+fn keep_stand(reply: &mut Reply, emitter: &yaml_emitter_t, upto: usize, pieces: &mut Pieces) {
+    if yaml_emitter_fresh(emitter) {
+        return;
+    }
+    let stand = yaml_emitter_stand(emitter);
+    pieces.taken = upto.saturating_sub(stand.waiting as usize);
+    pieces.stand = Some(stand);
+    keep_lists(reply, emitter, pieces);
+}
+
+// Gives the line's events up to there, from the first that wasn't taken, and keeps what became of them.
+fn give(
+    reply: &mut Reply,
+    line: &Value,
+    upto: usize,
+    emitter: &mut yaml_emitter_t,
+    pieces: &mut Pieces,
+) {
+    let mut course = Course::new();
+    let events = reply.list(line, "events");
+    for listed in events.get(pieces.taken..upto).unwrap_or(&[]) {
+        give_listed(reply, listed, emitter, &mut course);
+    }
+    pieces.fault = if upto == events.len() {
+        flush(emitter)
+    } else {
+        course.fault
+    };
+    reply.room(pieces.text.extend_from_slice(yaml_emitter_output(emitter)));
+    keep_stand(reply, emitter, upto, pieces);
+}
+
+// Has a further emitter write the piece up to that event.
+fn put_piece(
+    reply: &mut Reply,
+    line: &Value,
+    settings: &Settings,
+    upto: usize,
+    pieces: &mut Pieces,
+) {
+    match next_emitter(reply, settings, pieces) {
+        Ok(mut emitter) => {
+            give(reply, line, upto, &mut emitter, pieces);
+            yaml_emitter_delete(emitter);
+        }
+        Err(fault) => pieces.fault = Some(fault),
+    }
+}
+
+// What is written of the line's events in pieces of so many, up to the first fault.
+fn written(reply: &mut Reply, line: &Value, settings: &Settings, size: usize) -> Pieces {
+    let mut pieces = Pieces::new(reply);
+    let count = reply.list(line, "events").len();
+    for upto in 1..count.saturating_add(1) {
+        if pieces.fault.is_none() && ends_piece(upto, size, count) {
+            put_piece(reply, line, settings, upto, &mut pieces);
+        }
+    }
+    tell_starved(reply, &pieces);
+    pieces
+}
+
+// Want of memory is answered whichever pieces meet it.
+fn tell_starved(reply: &mut Reply, pieces: &Pieces) {
+    match pieces.fault {
+        Some(fault) if fault.kind == yaml_error_type_t::YAML_MEMORY_ERROR => reply.fault(fault),
+        _ => {}
+    }
+}
+
+// Whether a piece of so many events ends behind that event.
+fn ends_piece(upto: usize, size: usize, count: usize) -> bool {
+    upto == count || upto.checked_rem(size) == Some(0)
+}
+
+// The least size of pieces whose text and fault aren't those of the whole.
+fn wrong_size(reply: &mut Reply, line: &Value, settings: &Settings, whole: &Pieces) -> Option<u64> {
+    for size in 1..reply.list(line, "events").len() {
+        let pieces = written(reply, line, settings, size);
+        if pieces.text != whole.text || pieces.fault != whole.fault {
+            return Some(size as u64);
+        }
+    }
+    None
+}
+
+/// The text, or the fault, of the line's events, which pieces of 1, 2 and more of them have too, each given to an emitter
+/// that goes on where the one before it stood; else the least size of pieces that haven't.
+pub fn answer(reply: &mut Reply, line: &Value) {
+    let settings = settings_of(reply, line);
+    let count = reply.list(line, "events").len();
+    let whole = written(reply, line, &settings, count);
+    match wrong_size(reply, line, &settings, &whole) {
+        Some(size) => reply.answer_count(size),
+        None => match whole.fault {
+            Some(fault) => reply.fault(fault),
+            None => reply.answer(whole.text.as_slice()),
+        },
+    }
+}

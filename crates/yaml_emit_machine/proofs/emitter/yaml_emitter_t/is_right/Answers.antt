@@ -1,0 +1,7 @@
+use Rattle.std.proofs.Common.{ap, option_map}
+use Rattle.yaml_scan_model.specs.Faults.{fault_of}
+use Rattle.yaml_emit_machine.proofs.Taking.{inside_stuck}
+use Rattle.yaml_emit_machine.proofs.emitter.yaml_emitter_t.is_right.Goals as goal
+
+pub returns-in-Some-clause-stuck : goal.returns-in-Some-clause-stuck
+returns-in-Some-clause-stuck c = λ off. rw (← c.self.view_is) (inside_stuck c.self.inside c.self.invariant _ (ap (option_map fault_of) c.in-Some.is))

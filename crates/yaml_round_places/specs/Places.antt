@@ -1,0 +1,36 @@
+-- Characters in front of a place, and what stands where a node begins.
+use Rattle.std.specs.Prelude.{◌≡◌, ◌≤◌, ℕ, Bool, true, false, ◌&&◌, ◌||◌, ◌==◌, List, length, take, drop, slice_range}
+use Rattle.std.specs.List.{count_by}
+use Rattle.yaml_scan_model.specs.Marks.{byte, starts}
+use Rattle.yaml_scan_words.specs.Between.{gap_at}
+use Rattle.yaml_round_places.specs.declared.counting.Count.{Count}
+
+-- ---- characters
+
+-- how many characters begin in front of a place of a text; behind its end, all
+abbrev pub characters_before : List ℕ → ℕ → ℕ
+characters_before text place = count_by starts (take place text)
+
+-- so many stand in front of that place; where each byte begins one, that is known alone
+pub record Counts (text : List ℕ) (c : Count) : Type 0 where
+  pub single : c.is_single ≡ true → count_by starts text ≡ length text
+  pub within : c.place ≤ length text
+  pub is : c.characters ≡ characters_before text c.place
+
+-- ---- tags
+
+-- the byte behind the blanks, comments and breaks with which a text begins
+abbrev pub behind_gap : List ℕ → ℕ
+behind_gap text = byte text (gap_at true false text 0).place
+
+-- the tag of a node stands behind an anchor, whose name has so many bytes
+abbrev pub stands_behind : List ℕ → ℕ → Bool
+stands_behind node name = behind_gap (drop name (drop 1 node)) == 33
+
+-- a node begins with its tag, which begins with `!`, or with an anchor, and has it behind that
+abbrev pub begins_tag : List ℕ → ℕ → Bool
+begins_tag node name = byte node 0 == 33 || (byte node 0 == 38 && stands_behind node name)
+
+-- The node that stands in a text from one place to another has a tag; `name` is the length of its anchor's name.
+abbrev pub has_tag : List ℕ → ℕ → ℕ → ℕ → Bool
+has_tag text start end name = begins_tag (slice_range text start end) name

@@ -7,9 +7,12 @@
                                without `long` in the comment above; functions of more than 6 arguments, without `arguments`
                                there; laws that code calls; hints of inlining and reads that nothing uses, without a reason;
                                public items without a doc comment; lemmas that another crate brings in without a line of
-                               comment, unless the statement is laws' names alone, which are commented where they stand
+                               comment, unless the statement is laws' names alone, which are commented where they stand;
+                               and what --names lists
     tools/house.py --names     records and data types of specs/ of which more than one crate has one of the name, but for
-                               the nouns that docs/GLOSSARY.md says layer by layer
+                               the nouns that docs/GLOSSARY.md says layer by layer; and functions (no methods, the vectors'
+                               crates aside) of which more than one crate of a member has one of the name, but for those that
+                               have one meaning there (the glossary's last table)
 """
 import collections
 import glob
@@ -25,6 +28,8 @@ STATEMENT = re.compile(r"(?:(?:pub|abbrev|opaque|unfoldable) )*[^\s:({=]+(?: [({
 # What is brought in of another crate's lemmas, and a statement that is the names of laws.
 CITES = re.compile(rf"use Rattle\.(\w+)\.proofs\.(\w+)\.(?:\{{([^}}]*)\}}|({repo.NAME}))")
 LAWS = re.compile(r"(?:[A-Z]\w* → )*[A-Z]\w*")
+# A function that is no method.
+FUNCTION = re.compile(r"^(?:pub(?:\([a-z]+\))? )?(?:const )?fn (\w+)", re.M)
 ITEM = re.compile(r"\s*pub (?:fn|struct|enum|trait|const|extern|type)\b")
 
 
@@ -134,9 +139,9 @@ def uncommented_lemmas():
                 yield f"{path}:{at + 1}: {name} is cited by another crate, without a comment"
 
 
-def layered_nouns():
-    """The nouns that each layer may have as its own: the second table of the glossary."""
-    table = repo.read("docs/GLOSSARY.md").partition("## One name in several layers")[2]
+def glossary_names(heading):
+    """The names of the glossary's table below that heading: nouns that each layer may have, or functions of one meaning."""
+    table = repo.read("docs/GLOSSARY.md").partition(f"## {heading}")[2].partition("\n## ")[0]
     return re.findall(r"^\| `(\w+)` \|", table, re.M)
 
 
@@ -149,13 +154,26 @@ def twice_named():
                 if re.search(rf"^ *{repo.MODS}(?:record|data)\s", it.text, re.M):
                     found[name].append(it)
     for name, them in sorted(found.items()):
-        if len({it.crate for it in them}) > 1 and name not in layered_nouns():
+        if len({it.crate for it in them}) > 1 and name not in glossary_names("One name in several layers"):
             yield f"{name}: {', '.join(str(it) for it in them)}"
+
+
+def functions_twice_named():
+    """Functions of src/ of which more than one crate of a member has one of the name."""
+    found = collections.defaultdict(set)
+    for path in files():
+        crate = path.split("/")[1]
+        if "/src/" in path and not crate.startswith("yaml_cli_vector"):
+            for name in FUNCTION.findall(repo.read(path)):
+                found["_".join(crate.split("_")[:2]), name].add(path)
+    for (_, name), them in sorted(found.items()):
+        if len({path.split("/")[1] for path in them}) > 1 and name not in glossary_names("One function's name in a member"):
+            yield f"fn {name}: {', '.join(sorted(them))}"
 
 
 def main():
     if "--names" in sys.argv[1:]:
-        print("\n".join(twice_named()))
+        print("\n".join([*twice_named(), *functions_twice_named()]))
         return 0
     wrong = []
     for path in files():
@@ -163,7 +181,7 @@ def main():
         wrong += [f"{path}: {len(lines) - 1} lines"] if len(lines) > 601 else []
         wrong += wide_statements(path, lines) if "/proofs/" in path else wide_lines(path, lines)
         wrong += unexplained(path, lines) if path.endswith(".rt") else []
-    wrong += [*wrong_functions(), *uncommented_lemmas()]
+    wrong += [*wrong_functions(), *uncommented_lemmas(), *twice_named(), *functions_twice_named()]
     print("\n".join(wrong) if wrong else "house: in order")
     return bool(wrong)
 

@@ -1,7 +1,7 @@
 //! The characters of a text, as far as its bytes spell any.
 
 use bstr::decode_utf8;
-use yaml_scan_types::yaml_encoding_t;
+use yaml_types::yaml_encoding_t;
 
 // How many bytes are looked at in a row.
 const ROW: usize = 32;
@@ -111,7 +111,7 @@ impl<'a> Chars<'a> {
     }
 
     /// The next character, whatever it is.
-    pub(crate) fn take(&mut self) -> Next {
+    pub(crate) fn next_char(&mut self) -> Next {
         if self.left.is_empty() {
             return Next::End;
         }
@@ -128,10 +128,10 @@ impl<'a> Chars<'a> {
 
     /// The next character; a CR and a LF behind it are one line feed.
     pub(crate) fn next(&mut self) -> Next {
-        let next = self.take();
+        let next = self.next_char();
         if let Next::Char('\r') = next {
             let mut ahead = *self;
-            if let Next::Char('\n') = ahead.take() {
+            if let Next::Char('\n') = ahead.next_char() {
                 *self = ahead;
             }
             return Next::Char('\n');

@@ -4,7 +4,7 @@ use crate::chars::{Chars, Source};
 use crate::place::from_place;
 use std::alloc::AllocError;
 use unicode_width::UnicodeWidthChar;
-use yaml_scan_types::yaml_mark_t;
+use yaml_types::yaml_mark_t;
 
 // A line is shown from that many characters before the place on, where there are more than a few in front of these.
 const BEFORE: u64 = 50;

@@ -3,7 +3,7 @@
 use crate::chars::{Chars, Next};
 use crate::excerpt::{is_hidden, push_shown};
 use std::alloc::AllocError;
-use yaml_scan_types::yaml_encoding_t;
+use yaml_types::yaml_encoding_t;
 
 // How many characters of a key are shown.
 const MOST_OF_KEY: usize = 40;
@@ -49,7 +49,7 @@ fn is_word(mut key: Chars<'_>) -> bool {
         return false;
     }
     for _ in 0..MOST_OF_KEY {
-        match key.take() {
+        match key.next_char() {
             Next::Char('_' | '-' | '0'..='9' | 'A'..='Z' | 'a'..='z') => {}
             Next::Char(c) if !c.is_ascii() && !c.is_whitespace() && !is_hidden(c) => {}
             next => return matches!(next, Next::End),
@@ -61,7 +61,7 @@ fn is_word(mut key: Chars<'_>) -> bool {
 // Adds a key, a long one cut, with `\` before what would end it.
 fn push_front(path: &mut String, mut key: Chars<'_>) -> Result<(), AllocError> {
     for _ in 0..MOST_OF_KEY {
-        match key.take() {
+        match key.next_char() {
             Next::Char('"') => path.push_str("\\\"")?,
             Next::Char('\\') => path.push_str("\\\\")?,
             Next::Char(c) => push_shown(path, c)?,

@@ -5,7 +5,7 @@ use crate::excerpt::{push_excerpt, push_shown};
 use crate::place::{from_place, place_of};
 use std::alloc::{AllocError, Global};
 use yaml_round_device::headline;
-use yaml_scan_types::{yaml_error_type_t, yaml_fault_t, yaml_mark_t};
+use yaml_types::{yaml_error_type_t, yaml_fault_t, yaml_mark_t};
 
 // How many characters of a wrong word are told.
 const MOST_OF_WORD: usize = 40;

@@ -8,7 +8,7 @@ use std::alloc::Global;
 use std::io::{Read, Write};
 use std::rt::Files;
 use yaml_cli_places::{Source, Stand, difference_text};
-use yaml_parse_types::yaml_event_type_t;
+use yaml_types::yaml_event_type_t;
 
 fn is_itself(pair: &Pair<'_>) -> bool {
     pair.first == STANDARD && pair.second == STANDARD
@@ -92,7 +92,12 @@ fn stand_of<'a>(source: Source<'a>, met: Met) -> Stand<'a> {
     }
 }
 
-fn told(alloc: Global, difference: &Difference, first: Source<'_>, second: Source<'_>) -> Found {
+fn tell_difference(
+    alloc: Global,
+    difference: &Difference,
+    first: Source<'_>,
+    second: Source<'_>,
+) -> Found {
     let Some(path) = &difference.path else {
         return Found::Refused;
     };
@@ -114,7 +119,7 @@ fn diff_texts<G: Engine, E: Write>(
 ) -> Found {
     match engine.diff(alloc, by, first.input, second.input) {
         Ok(None) => Found::Nothing,
-        Ok(Some(difference)) => told(alloc, &difference, first, second),
+        Ok(Some(difference)) => tell_difference(alloc, &difference, first, second),
         Err((side, fault)) => {
             let source = match side {
                 Side::First => first,

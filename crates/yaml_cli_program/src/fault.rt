@@ -7,7 +7,7 @@ use std::alloc::Global;
 use std::io::{Error, ErrorKind, Write};
 use yaml_cli_places::{Source, fault_text};
 use yaml_round_device::{yaml_fault_line, yaml_run_fault_t};
-use yaml_scan_types::yaml_fault_t;
+use yaml_types::yaml_fault_t;
 
 /// How many bytes an input may have.
 pub const INPUT_LIMIT: u64 = 1_073_741_824;

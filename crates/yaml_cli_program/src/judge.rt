@@ -9,7 +9,7 @@ use std::alloc::Global;
 use std::io::{Read, Write};
 use std::rt::Files;
 use yaml_cli_places::Source;
-use yaml_scan_types::{yaml_error_type_t, yaml_fault_t};
+use yaml_types::{yaml_error_type_t, yaml_fault_t};
 
 // An engine, and what it is asked.
 #[derive(Drop)]

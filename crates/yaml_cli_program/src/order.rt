@@ -1,9 +1,8 @@
 //! What the words of a command say that it is to do. They are judged here, as texts: what judges them doesn't see where they
 //! were found.
 
-use yaml_parse_types::yaml_break_t;
 use yaml_round_device::{yaml_command_t, yaml_output_encoding_t, yaml_settings_t};
-use yaml_scan_types::yaml_encoding_t;
+use yaml_types::{yaml_break_t, yaml_encoding_t};
 
 /// The status where the words are wrong.
 pub(crate) const WRONG_WORDS: u8 = 2;

@@ -36,7 +36,7 @@ pub(crate) fn order_of<'a, S: AsStr>(
     }
 }
 
-fn told<W: Write, E: Write>(error: &WordFault, output: &mut W, errors: &mut E) -> u8 {
+fn tell_words<W: Write, E: Write>(error: &WordFault, output: &mut W, errors: &mut E) -> u8 {
     if error.kind() == ErrorKind::OutOfMemory {
         WRONG_WORDS
     } else if error.use_stderr() {
@@ -57,7 +57,7 @@ fn told<W: Write, E: Write>(error: &WordFault, output: &mut W, errors: &mut E) -
 /// Tells what is wrong with the words, or the help that they ask for, and answers the status: of wrong words their own, whether or
 /// not the text could be written. Of want of memory only the status tells.
 pub(crate) fn tell<W: Write, E: Write>(error: WordFault, output: &mut W, errors: &mut E) -> u8 {
-    let status = told(&error, output, errors);
+    let status = tell_words(&error, output, errors);
     drop(error);
     status
 }

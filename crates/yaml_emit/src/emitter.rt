@@ -14,8 +14,8 @@ ghost use Rattle.yaml_emit_machine.specs.Taking.{TakesEvents, GivesText, NotesMe
 
 use std::alloc::Global;
 use yaml_emit_machine::{
-    answer, first_fault, give, give_early, give_over, into_output, is_fresh, is_opened, let_go,
-    new_emitter, output, requested_settings, set_requested_settings, yaml_emitter_t,
+    answer, first_fault, give_early, into_output, is_fresh, is_opened, let_go, new_emitter, output,
+    requested_settings, set_requested_settings, take_event, take_event_over, yaml_emitter_t,
 };
 use yaml_emit_text::RequestedSettings;
 use yaml_parse_model::yaml_event_t;
@@ -178,7 +178,7 @@ pub fn yaml_emitter_delete(emitter: yaml_emitter_t) {
 // The answer of a call behind which there is that fault, or none.
 // Inlined: one look at it.
 #[inline(always)]
-fn told(fault: Option<&yaml_fault_t>) -> Result<(), yaml_fault_t>
+fn outcome_of(fault: Option<&yaml_fault_t>) -> Result<(), yaml_fault_t>
     ensures { Answers (option_map (λ f. fault_of f.now) fault.entry) result }
 {
     match fault {
@@ -207,8 +207,8 @@ pub fn yaml_emitter_emit(
         × (emitter.new.closed ≡ emitter.old.closed) }
 {
     let yaml_event_t { body, .. } = event;
-    give_over(emitter, body);
-    told(first_fault(emitter))
+    take_event_over(emitter, body);
+    outcome_of(first_fault(emitter))
 }
 
 /// `yaml_emitter_emit` of an event that stays where it stands; what is left of it counts for nothing. The fault, if there
@@ -228,7 +228,7 @@ pub fn yaml_emitter_emit_from(emitter: &mut yaml_emitter_t, event: &mut yaml_eve
     ensures last { emitter.old.fault ≡ None → AreLast (emitter.old.held
         ++ emitter_event (event_of event.old).body ∷ []) emitter.new.held }
 {
-    give(emitter, &mut event.body);
+    take_event(emitter, &mut event.body);
 }
 
 /// `yaml_emitter_emit_from` for a text that is wanted whole, as a reader's of all events is: in canonical form no event is held,

@@ -7,7 +7,7 @@ ghost use Rattle.yaml_parse_model.specs.Events.{directive_of};
 ghost use Rattle.yaml_emit_machine.specs.emit_layout.State.{top_of};
 ghost use Rattle.yaml_emit_machine.specs.emit_state.Stack.{stack};
 ghost use Rattle.yaml_emit_machine.specs.emit_held.Judged.{refused_at};
-ghost use Rattle.yaml_emit_machine.specs.Resuming.{resumed, StandsAt};
+ghost use Rattle.yaml_emit_machine.specs.Resuming.{resumed, StandsWhere};
 
 use std::alloc::Global;
 use yaml_emit_machine::{
@@ -43,7 +43,7 @@ pub fn yaml_emitter_resume(
 
 /// Where an emitter stands.
 pub fn yaml_emitter_stand(emitter: &yaml_emitter_t) -> yaml_emitter_stand_t
-    ensures { StandsAt emitter.now result }
+    ensures { StandsWhere emitter.now result }
 {
     let told = stand(emitter);
     told

@@ -8,13 +8,13 @@ use Rattle.yaml_emit_graph.specs.declared.graph.Events.{Events}
 use Rattle.yaml_emit_graph.specs.declared.walk.Turn.{Turn}
 use Rattle.yaml_emit_graph.specs.declared.walk.Turn.TheVariants.{First}
 use Rattle.yaml_emit_graph.specs.Graph.{number_at, tag_at, body_at, anchor_of, opening_event, turn_event}
-use Rattle.yaml_emit_graph.specs.Texts.{NamesText, IsText}
-use Rattle.yaml_emit_graph.specs.Events.{IsAhead, GivesText}
+use Rattle.yaml_emit_graph.specs.Texts.{NamesText, IsPlainText}
+use Rattle.yaml_emit_graph.specs.Events.{IsAhead, GivesPlainText}
 use Rattle.yaml_emit_graph.proofs.Leaving.{turn_comes}
 
 text_by : (o : Option model.Node) (n : ℕ) (value : List ℕ) (count : ℕ) → n ≡ 0
     → NamesText o value → IsSoundAt count o
-    → IsText (opening_event (anchor_of n) (tag_at o) (body_at o)) value
+    → IsPlainText (opening_event (anchor_of n) (tag_at o) (body_at o)) value
 text_by None n value count z h s = absurd h
 text_by (Some m) n value count z h s =
     let P : model.NodeBody → Type 0 = λ b. IsSoundBody count b in
@@ -26,13 +26,13 @@ text_by (Some m) n value count z h s =
 
 pub text_there : (table : List ℕ) (nodes : List model.Node) (id : ℤ) (value : List ℕ) (count : ℕ)
     → number_at table id ≡ 0 → NamesText (node_at nodes id) value
-    → IsSoundAt count (node_at nodes id) → IsText (turn_event table nodes (First id)) value
+    → IsSoundAt count (node_at nodes id) → IsPlainText (turn_event table nodes (First id)) value
 unfolding turn_event
 text_there table nodes id value count z h s = text_by (node_at nodes id) (number_at table id) value count z h s
 
 pub text_comes : (d : Document) (old new : Events) (value : List ℕ) → IsAhead d old value
     → new.numbers ≡ old.numbers → new.turns ≡ old.turns → new.place ≡ old.place
-    → new.given ≡ old.given + 1 → GivesText d old value new
+    → new.given ≡ old.given + 1 → GivesPlainText d old value new
 text_comes d old new value h n k q g = record {
   style = h.text.style;
   next = turn_comes d old new h.turn _ h.place n k q h.within g h.there (sym h.text.is);

@@ -12,7 +12,7 @@ use Rattle.yaml_emit_graph.specs.declared.graph.Stage.{Stage}
 use Rattle.yaml_emit_graph.specs.declared.graph.Stage.TheVariants as at
 use Rattle.yaml_emit_graph.specs.Graph.{graph_opening, turn_event}
 use Rattle.yaml_emit_graph.specs.declared.walk.Turn.{Turn}
-use Rattle.yaml_emit_graph.specs.Texts.{text_event, IsText}
+use Rattle.yaml_emit_graph.specs.Texts.{text_event, IsPlainText}
 
 -- a call put that event, with texts that are UTF-8, into a slot
 abbrev pub Says : Event → Result Unit AllocError → EventBody → Type 0
@@ -47,14 +47,15 @@ pub record IsAhead (d : Document) (e : Events) (value : List ℕ) : Type 0 where
   pub within : e.given < length e.turns.items
   pub turn : Turn
   pub there : turn ≡ get_or e.turns.items e.given turn
-  pub text : IsText (turn_event e.numbers.items d.nodes turn) value
+  pub text : IsPlainText (turn_event e.numbers.items d.nodes turn) value
 
 -- the next event is a text with the default tag and without an anchor, and the others are still to come
-pub record GivesText (d : Document) (old : Events) (value : List ℕ) (new : Events) : Type 0 where
-  pub style : yaml_scalar_style_t
-  pub next : remaining_events d old ≡ text_event value style ∷ remaining_events d new
-  pub utf8 : IsUtf8 value
-  pub walk : IsEvents d new
+pub record GivesPlainText (d : Document) (old : Events) (value : List ℕ) (new : Events) : Type 0
+  where
+    pub style : yaml_scalar_style_t
+    pub next : remaining_events d old ≡ text_event value style ∷ remaining_events d new
+    pub utf8 : IsUtf8 value
+    pub walk : IsEvents d new
 
 -- the next event stands in a slot, and the others are still to come
 abbrev pub GivesGraphEvent : Document → Events → Result Bool AllocError → EventBody → Events

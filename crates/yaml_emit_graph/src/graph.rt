@@ -7,7 +7,7 @@ ghost use Rattle.yaml_parse_model.specs.Events.{body_of, text_of, directive_of};
 ghost use Rattle.yaml_parse_model.specs.Nodes.{node_of, tag_of};
 ghost use Rattle.yaml_emit_layout.specs.Content.{emitter_event, scalar, alias, sequence_start, mapping_start, document_start, is_flow_sequence, is_flow_mapping};
 ghost use Rattle.yaml_emit_graph.specs.Graph.{lead, name_of, anchor_of, is_text, graph_scalar, graph_start, opening_event, closing_event, body_of_id, tag_of_id, turn_event, graph_opening, dumped};
-ghost use Rattle.yaml_emit_graph.specs.Events.{remaining_events, IsEvents, Says, GivesGraphEvent, IsAhead, GivesText, IsUtf8Body};
+ghost use Rattle.yaml_emit_graph.specs.Events.{remaining_events, IsEvents, Says, GivesGraphEvent, IsAhead, GivesPlainText, IsUtf8Body};
 
 use crate::numbers::{Walked, number_of, walk_nodes};
 use crate::text::text_met;
@@ -173,7 +173,7 @@ fn room_of(text: &mut Option<Vec<u8>>, aside: &mut Vec<u8>) -> Vec<u8> {
 // A text in the room of another.
 // Inlined: a short one is two moves.
 #[inline(always)]
-fn put_text(room: &mut Vec<u8>, text: &[u8]) -> Result<(), AllocError>
+fn put_over_text(room: &mut Vec<u8>, text: &[u8]) -> Result<(), AllocError>
     ensures { OnOk result (room.new.items ≡ text.now) }
 {
     room.clear();
@@ -204,9 +204,9 @@ fn put_other_scalar(
     let anchor = anchor_of(rooms.alloc, number)?;
     let plain = is_str(tag);
     let mut tag_text = moved(&mut rooms.tag);
-    put_text(&mut tag_text, tag.as_slice())?;
+    put_over_text(&mut tag_text, tag.as_slice())?;
     let mut text = moved(&mut rooms.value);
-    put_text(&mut text, value)?;
+    put_over_text(&mut text, value)?;
     *event = yaml_event_body_t::Scalar {
         anchor,
         tag: Some(tag_text),
@@ -221,7 +221,7 @@ fn put_other_scalar(
 // A scalar whose tag may be left out where it is that of a text: in the rooms of the one before it, where the slot holds one.
 // Inlined into its one caller.
 #[inline(always)]
-fn put_scalar(
+fn put_scalar_event(
     rooms: &mut Rooms,
     number: u64,
     tag: &yaml_node_tag_t,
@@ -245,9 +245,9 @@ fn put_scalar(
             let anchor = anchor_of(rooms.alloc, number)?;
             let plain = is_str(tag);
             let mut tag_text = room_of(held_tag, &mut rooms.tag);
-            put_text(&mut tag_text, tag.as_slice())?;
+            put_over_text(&mut tag_text, tag.as_slice())?;
             let mut text = moved(held_value);
-            put_text(&mut text, value)?;
+            put_over_text(&mut text, value)?;
             *name = anchor;
             *held_tag = Some(tag_text);
             *held_value = text;
@@ -277,7 +277,7 @@ fn put_sequence(
     let anchor = anchor_of(rooms.alloc, number)?;
     let implicit = is_seq(tag);
     let mut tag_text = moved(&mut rooms.tag);
-    put_text(&mut tag_text, tag.as_slice())?;
+    put_over_text(&mut tag_text, tag.as_slice())?;
     *event = yaml_event_body_t::SequenceStart {
         anchor,
         tag: Some(tag_text),
@@ -304,7 +304,7 @@ fn put_mapping(
     let anchor = anchor_of(rooms.alloc, number)?;
     let implicit = is_map(tag);
     let mut tag_text = moved(&mut rooms.tag);
-    put_text(&mut tag_text, tag.as_slice())?;
+    put_over_text(&mut tag_text, tag.as_slice())?;
     *event = yaml_event_body_t::MappingStart {
         anchor,
         tag: Some(tag_text),
@@ -336,7 +336,7 @@ fn put_node(
             yaml_scalar_style_t::YAML_ANY_SCALAR_STYLE,
             event,
         ),
-        yaml_node_body_t::Scalar { value, style } => put_scalar(
+        yaml_node_body_t::Scalar { value, style } => put_scalar_event(
             rooms,
             number,
             &node.tag,
@@ -356,7 +356,7 @@ fn put_node(
 // How the node under a number begins.
 // Inlined into its one caller.
 #[inline(always)]
-fn put_opening(
+fn put_node_start(
     rooms: &mut Rooms,
     document: &yaml_document_t,
     number: u64,
@@ -395,7 +395,11 @@ fn closing_event(document: &yaml_document_t, id: i32) -> yaml_event_body_t
 
 // Out of line: it has much room of its own.
 #[inline(never)]
-fn put_alias(alloc: Global, number: u64, event: &mut yaml_event_body_t) -> Result<(), AllocError>
+fn put_alias_event(
+    alloc: Global,
+    number: u64,
+    event: &mut yaml_event_body_t,
+) -> Result<(), AllocError>
     ensures { Says (alias (name_of number)) result (body_of event.new) }
 {
     *event = yaml_event_body_t::Alias {
@@ -407,7 +411,7 @@ fn put_alias(alloc: Global, number: u64, event: &mut yaml_event_body_t) -> Resul
 // The event of a turn of the walk.
 // Inlined into its one caller.
 #[inline(always)]
-fn put_turn(
+fn put_turn_event(
     numbers: &[u64],
     rooms: &mut Rooms,
     document: &yaml_document_t,
@@ -417,8 +421,8 @@ fn put_turn(
     ensures { Says (turn_event numbers.now document.now.nodes turn) result (body_of event.new) }
 {
     match turn {
-        Turn::First(id) => put_opening(rooms, document, number_of(numbers, id), id, event),
-        Turn::Again(id) => put_alias(rooms.alloc, number_of(numbers, id), event),
+        Turn::First(id) => put_node_start(rooms, document, number_of(numbers, id), id, event),
+        Turn::Again(id) => put_alias_event(rooms.alloc, number_of(numbers, id), event),
         Turn::Leave(id) => {
             put_aside(rooms, event);
             *event = closing_event(document, id);
@@ -461,7 +465,7 @@ impl Events {
     // Inlined: mostly a look at the node.
     #[inline(always)]
     pub fn next_text<'a>(&mut self, document: &'a yaml_document_t) -> Option<&'a [u8]>
-        ensures text { IfSome result (λ v. GivesText document.now self.old v.now self.new) }
+        ensures text { IfSome result (λ v. GivesPlainText document.now self.old v.now self.new) }
         ensures none { result ≡ None → self.new ≡ self.old }
     {
         match self.text_to_come(document) {
@@ -535,7 +539,7 @@ impl Events {
         if self.given < self.turns.len() {
             let turn = self.turns[self.given];
             self.given += 1;
-            put_turn(&self.numbers, &mut self.rooms, document, turn, event)?;
+            put_turn_event(&self.numbers, &mut self.rooms, document, turn, event)?;
             Ok(true)
         } else {
             self.place = Stage::End;

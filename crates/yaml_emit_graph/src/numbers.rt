@@ -50,7 +50,7 @@ impl Numbers {
 
     // The next number, to a node without one.
     #[tactic(auto, using(crate::proofs::Counting::room, crate::proofs::Counting::same_default))]
-    fn give(&mut self, at: usize)
+    fn number_node(&mut self, at: usize)
         requires numbers { IsNumbering (numbering_of self.old) }
         requires within { at < length self.old.table.items }
         ensures gives { numbering_of self.new ≡ next_number (numbering_of self.old) at }
@@ -68,7 +68,7 @@ impl Numbers {
         ensures numbers { IsNumbering (numbering_of self.new) }
     {
         if at < self.table.len() {
-            self.give(at);
+            self.number_node(at);
         }
     }
 
@@ -83,7 +83,7 @@ impl Numbers {
         }
     }
 
-    fn take(&mut self, turn: Turn)
+    fn number_turn(&mut self, turn: Turn)
         requires numbers { IsNumbering (numbering_of self.old) }
         ensures gives { numbering_of self.new ≡ numbered_by turn (numbering_of self.old) }
         ensures numbers { IsNumbering (numbering_of self.new) }
@@ -105,7 +105,7 @@ pub fn walk_nodes(alloc: Global, document: &yaml_document_t) -> Result<Walked, A
     let mut numbers = Numbers::none(alloc, count)?;
     let mut turns = Vec::with_capacity(alloc, count)?;
     while let Some(turn) = walk.next(document)? {
-        numbers.take(turn);
+        numbers.number_turn(turn);
         turns.push(turn)?;
     }
     Ok(Walked {

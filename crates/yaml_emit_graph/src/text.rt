@@ -4,7 +4,7 @@ ghost use Rattle.std.specs.Prelude.{◌≡◌, true, length, IfSome};
 ghost use Rattle.yaml_parse_document.specs.Documents.{node_at, IsSoundAt, str_tag};
 ghost use Rattle.yaml_parse_model.specs.Nodes.{node_of, tag_of};
 ghost use Rattle.yaml_emit_graph.specs.Graph.{turn_event};
-ghost use Rattle.yaml_emit_graph.specs.Texts.{HasText, NamesText, IsText};
+ghost use Rattle.yaml_emit_graph.specs.Texts.{HasPlainText, NamesText, IsPlainText};
 
 use crate::numbers::number_of;
 use crate::walk::Turn;
@@ -27,7 +27,7 @@ fn is_default(tag: &yaml_node_tag_t) -> bool
 // Inlined: a look at the node.
 #[inline(always)]
 fn text_in(node: &yaml_node_t) -> Option<&[u8]>
-    ensures { IfSome result (λ v. HasText (node_of node.now) v.now) }
+    ensures { IfSome result (λ v. HasPlainText (node_of node.now) v.now) }
 {
     match &node.body {
         yaml_node_body_t::Scalar { value, .. } => {
@@ -58,7 +58,8 @@ fn text_under(document: &yaml_document_t, id: i32) -> Option<&[u8]>
 // Inlined: a look at the node.
 #[inline(always)]
 fn text_at<'a>(numbers: &[u64], document: &'a yaml_document_t, id: i32) -> Option<&'a [u8]>
-    ensures { IfSome result (λ v. IsText (turn_event numbers.now document.now.nodes (Turn.First id))
+    ensures { IfSome result (λ v. IsPlainText (turn_event numbers.now document.now.nodes
+        (Turn.First id))
         v.now) }
 {
     match text_under(document, id) {
@@ -77,7 +78,8 @@ fn text_at<'a>(numbers: &[u64], document: &'a yaml_document_t, id: i32) -> Optio
 // Inlined into its one caller.
 #[inline(always)]
 pub fn text_met<'a>(numbers: &[u64], document: &'a yaml_document_t, turn: Turn) -> Option<&'a [u8]>
-    ensures { IfSome result (λ v. IsText (turn_event numbers.now document.now.nodes turn) v.now) }
+    ensures { IfSome result (λ v. IsPlainText (turn_event numbers.now document.now.nodes turn)
+        v.now) }
 {
     match turn {
         Turn::First(id) => text_at(numbers, document, id),

@@ -14,7 +14,7 @@ use Rattle.yaml_emit_state.specs.Finish.{Finishes}
 use Rattle.yaml_emit_state.proofs.Finishing.{finishes_on}
 use Rattle.yaml_emit_state.proofs.Noting.{notes_both, notes_within}
 use Rattle.yaml_emit_held.specs.Held.{is_ready, passes}
-use Rattle.yaml_emit_held.specs.Judged.{refused_at, refusal_behind, LetsOut, first_wrong, LaysAll, take_memory, LaysSome, Refuses}
+use Rattle.yaml_emit_held.specs.Judged.{refused_at, refusal_behind, LetsOut, first_wrong, LaysAll, take_memory, LaysSome, RefusesHeld}
 use Rattle.yaml_emit_held.specs.Laying.{HasLaid, LaysEvents}
 use Rattle.yaml_emit_held.proofs.Opening.{opens_none}
 use Rattle.yaml_emit_held.proofs.Holding.{ready_empty}
@@ -52,7 +52,7 @@ blamed : (a b c : Core) (h x y : List Event) (e : Event) (empty : Bool) → Lays
     → (IsPut b.sink c.sink (next_piece (problem_at (settings_of b) (state_of b) e)
     (piece (settings_of b) (state_of b) e empty))
     ⊎ ((is_document_start e ≡ true) × IsPut b.sink c.sink stay))
-    → Refuses h (HasLaid a h c.sink.bytes)
+    → RefusesHeld h (HasLaid a h c.sink.bytes)
 blamed a b c h x y e empty p same o g is takes l (inl put) = record {
   front = p.laid;
   takes = first_there p.laid h e y (p.rest ∙ same) takes;

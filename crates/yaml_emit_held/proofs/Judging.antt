@@ -30,7 +30,7 @@ use Rattle.yaml_emit_state.proofs.Finishing.{finishes_on}
 use Rattle.yaml_emit_state.proofs.Noting.{notes_both, notes_within}
 use Rattle.yaml_emit_held.specs.Held.{is_ready, needs, closes, passes, opens_level, ends_level}
 use Rattle.yaml_emit_layout.specs.Progress.{Due, item_due, key_due, progress_after, inside, behind_node, outer_due, phase_due, level_due, problem_in, first_refusal}
-use Rattle.yaml_emit_held.specs.Judged.{let_out, unless, laid, refused_at, due_in, due_of, shape_of, refusal_among, text_among, refusal_from, refusal_behind, LetsOut, first_wrong, LaysAll, take_memory, laid_some, some_among, LaysSome, first_takes, first_starts, Refuses}
+use Rattle.yaml_emit_held.specs.Judged.{let_out, unless, laid, refused_at, due_in, due_of, shape_of, refusal_among, text_among, refusal_from, refusal_behind, LetsOut, first_wrong, LaysAll, take_memory, laid_some, some_among, LaysSome, first_takes, first_starts, RefusesHeld}
 use Rattle.yaml_emit_held.specs.Laying.{HasLaid, LaysEvents}
 use Rattle.yaml_emit_held.proofs.Opening.{opens_none}
 use Rattle.yaml_emit_held.proofs.Holding.{ready_empty, none_needed}

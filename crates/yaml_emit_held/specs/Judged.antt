@@ -121,7 +121,7 @@ first_starts (e ∷ es) = is_document_start e
 
 -- Memory was refused outside the output for one of these events: all in front of it are laid out, and it is too; or, where it begins
 -- a document, whose directives are looked at first, nothing of it. `laid n` tells that the first n are laid out, and nothing else.
-pub record Refuses (es : List Event) (laid : ℕ → Type 0) : Type 0 where
+pub record RefusesHeld (es : List Event) (laid : ℕ → Type 0) : Type 0 where
   pub front : ℕ
   pub takes : first_takes (drop front es) ≡ true
   pub stands : laid (suc front) ⊎ ((first_starts (drop front es) ≡ true) × laid front)

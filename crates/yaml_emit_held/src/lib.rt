@@ -5,4 +5,4 @@ mod held;
 mod release;
 
 pub use held::Held;
-pub use release::give;
+pub use release::hold_or_lay;

@@ -49,7 +49,7 @@ fn release(core: &mut Core, held: &mut Held, event: &yaml_event_body_t)
 
 /// An event is given behind the held ones, and what no longer has to be held is laid out, the event itself where it lies. What
 /// is left of the event counts for nothing.
-pub fn give(core: &mut Core, held: &mut Held, event: &mut yaml_event_body_t)
+pub fn hold_or_lay(core: &mut Core, held: &mut Held, event: &mut yaml_event_body_t)
     requires few { is_ready (held_events held.old) ≡ false }
     requires going { goes_on core.old.sink.status core.old.place ≡ true }
     requires utf8 { HeldUtf8 held.old × HasUtf8 (body_of event.old) }

@@ -20,7 +20,7 @@ use Rattle.yaml_scan_laws_levels.specs.Steps.{Comes}
 use Rattle.yaml_scan_laws_levels.specs.Walks.{Where, behind}
 use Rattle.yaml_scan_laws_levels.proofs.Stepping.{words_leave}
 use Rattle.yaml_scan_laws_levels.proofs.Walking.{walk_outer}
-use Rattle.yaml_emit_laws_pretty.specs.Walk.{Stage, NoFeed}
+use Rattle.yaml_emit_laws_pretty.specs.Walk.{NodeStage, NoFeed}
 use Rattle.yaml_emit_laws_pretty.proofs.Entries.{no_gap}
 use Rattle.yaml_emit_laws_pretty.proofs.DocStarts.{line_start, AtLine, OnLine, on_from, line_lands}
 
@@ -49,7 +49,7 @@ threes text p x low kept rest l =
 -- Behind a document's mark.
 pub record Marked (x : yaml_encoding_t) (text : List ℕ) (rest : Rest) (kept : Bool) (T : List TokenBody → List TokenBody) : Type 0 where
   pub place : Where
-  pub stage : Stage x text (behind_three kept) place [] [] T
+  pub stage : NodeStage x text (behind_three kept) place [] [] T
   pub left : Left text place.at (bytes (rest (behind_three kept)))
 
 three_walks : (s : ℕ) (k : Kind) (body : TokenBody) → Thrice s k body

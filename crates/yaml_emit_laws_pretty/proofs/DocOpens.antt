@@ -22,7 +22,7 @@ use Rattle.yaml_scan_laws_texts.specs.WordsLaws.{VersionReads}
 use Rattle.yaml_scan_laws_levels.specs.Walks.{Where}
 use Rattle.yaml_emit_laws_scalars.specs.Stops.{begins_white}
 use Rattle.yaml_emit_laws_pretty.specs.Bodies.{opening_bodies}
-use Rattle.yaml_emit_laws_pretty.specs.Walk.{Stage, NoFeed}
+use Rattle.yaml_emit_laws_pretty.specs.Walk.{NodeStage, NoFeed}
 use Rattle.yaml_emit_laws_pretty.proofs.Entries.{white_stands}
 use Rattle.yaml_emit_laws_pretty.proofs.DocStarts.{line_start, at_start, AtLine, OnLine}
 use Rattle.yaml_emit_laws_pretty.proofs.DocLines.{dashes_walk, dots_walk}
@@ -34,7 +34,7 @@ pub record Opens (x : yaml_encoding_t) (text : List ℕ) (rest : Rest) (T : List
   pub cursor : Cursor
   pub kept : cursor.kept ≡ false
   pub place : Where
-  pub stage : Stage x text cursor place [] [] T
+  pub stage : NodeStage x text cursor place [] [] T
   pub left : Left text place.at (bytes (rest cursor))
 
 -- the laws of directives
@@ -101,7 +101,7 @@ plain_opens : (s : Settings) (fresh : Bool) (version : Option yaml_version_direc
     { version = version; directives = directives; implicit = implicit }) ≡ false
     → (x : yaml_encoding_t) (text : List ℕ) (rest : Rest) (kept : Bool)
     (T : List TokenBody → List TokenBody) (place : Where)
-    → Stage x text (line_start kept) place [] [] T
+    → NodeStage x text (line_start kept) place [] [] T
     → Left text place.at (bytes (start_layout (pretty s) fresh false
     (record { version = version; directives = directives; implicit = implicit }) (line_start kept)
     rest))
@@ -137,7 +137,7 @@ unmarked_fresh s false o e = absurd (true≢false e)
 pub opening_walks : Directing → (s : Settings) (o : Opening) → IsWritableOpening o
     → (fresh unended : Bool) (x : yaml_encoding_t) (text : List ℕ) (rest : Rest) (kept : Bool)
     (T : List TokenBody → List TokenBody) (place : Where) (more : List ℕ)
-    → (fresh ≡ true → Fresh more unended) → Stage x text (line_start kept) place [] more T
+    → (fresh ≡ true → Fresh more unended) → NodeStage x text (line_start kept) place [] more T
     → Left text place.at (bytes (start_layout (pretty s) fresh unended o (line_start kept) rest))
     → begins_white (bytes (rest (behind_three false))) ≡ true
     → Opens x text rest (λ bs. T (end_bodies (unended && is_directed o)
@@ -154,5 +154,5 @@ opening_walks laws s o right fresh unended x text rest kept T place more first s
       | inr e ↦
           let f = first (unmarked_fresh s fresh o e) in
           subst (λ (u : Bool). Left text place.at (bytes (start_layout z fresh u o (line_start kept) rest)) → Opens x text rest (λ bs. T (end_bodies (u && is_directed o) (opening_bodies z fresh o bs)))) (sym f.ended)
-          (λ k. plain_opens s fresh o.version o.directives o.implicit e x text rest kept T place (subst (λ ms. Stage x text (line_start kept) place [] ms T) f.none st) k) l
+          (λ k. plain_opens s fresh o.version o.directives o.implicit e x text rest kept T place (subst (λ ms. NodeStage x text (line_start kept) place [] ms T) f.none st) k) l
     ]

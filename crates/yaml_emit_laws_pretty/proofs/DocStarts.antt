@@ -12,10 +12,10 @@ use Rattle.yaml_emit_laws_text.specs.emit_layout.emit_text.Layout.{Rest, line, b
 use Rattle.yaml_emit_laws_text.specs.emit_layout.emit_text.Spelling.{break_text}
 use Rattle.yaml_emit_laws_text.specs.Walk.{Left, bytes, first}
 use Rattle.yaml_emit_laws_text.proofs.Steps.{letter_low}
-use Rattle.yaml_scan_laws_levels.specs.Walks.{Where, Reads}
+use Rattle.yaml_scan_laws_levels.specs.Walks.{Where, WalkReads}
 use Rattle.yaml_emit_laws_scalars.specs.Stops.{begins_white, begins_mark, stops_plain_at}
 use Rattle.yaml_emit_laws_block.specs.Passed.{begins_white as begins_blank}
-use Rattle.yaml_emit_laws_pretty.specs.Walk.{Stage, Lined, NoFeed, no_comment}
+use Rattle.yaml_emit_laws_pretty.specs.Walk.{NodeStage, Lined, NoFeed, no_comment}
 use Rattle.yaml_emit_laws_pretty.specs.Nodes.{Ending}
 use Rattle.yaml_emit_laws_pretty.proofs.Lining.{line_on}
 
@@ -35,7 +35,7 @@ at_start e kept bare white column same =
 pub record AtLine (x : yaml_encoding_t) (text : List ℕ) (after : Rest) (kept : Bool) (T : List TokenBody → List TokenBody) : Type 0 where
   pub place : Where
   pub more : List ℕ
-  pub stage : Stage x text (line_start kept) place [] more T
+  pub stage : NodeStage x text (line_start kept) place [] more T
   pub left : Left text place.at (bytes (after (line_start kept)))
 
 pub from_lined : (x : yaml_encoding_t) (text : List ℕ) (after : Rest) (kept : Bool) (more : List ℕ)
@@ -46,7 +46,7 @@ from_lined x text after kept more T h =
     record {
       place = h.place;
       more = more;
-      stage = subst (λ (c : Cursor). Stage x text c h.place [] more T) same h.stage;
+      stage = subst (λ (c : Cursor). NodeStage x text c h.place [] more T) same h.stage;
       left = subst (λ (c : Cursor). Left text h.place.at (bytes (after c))) same h.left;
     }
 
@@ -54,7 +54,7 @@ from_lined x text after kept more T h =
 pub record OnLine (x : yaml_encoding_t) (text : List ℕ) (rest : Rest) (kept : Bool) (T : List TokenBody → List TokenBody) : Type 0 where
   pub place : Where
   pub more : List ℕ
-  pub reads : Reads x text place [] [] more T
+  pub reads : WalkReads x text place [] [] more T
   pub flat : place.depth ≡ 0
   pub column : column_at text place.at ≡ 0
   pub left : Left text place.at (bytes (rest (line_start kept)))
@@ -183,7 +183,7 @@ root_ending b after ends = record {
 -- ---- the line behind text
 
 pub line_lands : (b : LineBreak) (x : yaml_encoding_t) (text : List ℕ) (c : Cursor) (o : Where)
-    (more : List ℕ) (T : List TokenBody → List TokenBody) (rest : Rest) → Stage x text c o [] more T
+    (more : List ℕ) (T : List TokenBody → List TokenBody) (rest : Rest) → NodeStage x text c o [] more T
     → NoFeed 0 rest
     → Left text o.at (bytes (line b 0 c rest)) → AtLine x text rest c.kept T
 line_lands b x text c o more T rest s calm l = from_lined x text rest c.kept more T (line_on b 0 x text c o [] more T rest s calm l)

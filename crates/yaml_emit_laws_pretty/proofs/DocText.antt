@@ -22,7 +22,7 @@ use Rattle.yaml_scan_laws_levels.specs.Walks.{Where, Done}
 use Rattle.yaml_scan_laws_levels.proofs.Signing.{marks_come}
 use Rattle.yaml_scan_laws_levels.proofs.Walking.{walk_starts, walk_stops, walk_says}
 use Rattle.yaml_emit_laws_pretty.specs.Bodies.{node_bodies, node_kept, root_bodies, is_root_kept, opening_bodies, documents_bodies, stream_bodies}
-use Rattle.yaml_emit_laws_pretty.specs.Walk.{Stage}
+use Rattle.yaml_emit_laws_pretty.specs.Walk.{NodeStage}
 use Rattle.yaml_emit_laws_pretty.specs.DocLaws.{DocumentsAreRead}
 use Rattle.yaml_emit_laws_pretty.proofs.Entries.{no_gap}
 use Rattle.yaml_emit_laws_pretty.proofs.DocStarts.{line_start, AtLine, from_lined, outer_calm, root_ending}
@@ -34,7 +34,7 @@ use Rattle.yaml_emit_laws_pretty.proofs.DocDirectives.{next_calm, directives_nex
 -- ---- the end
 
 ended : (x : yaml_encoding_t) (text : List ℕ) (c : Cursor) (o : Where) (more : List ℕ)
-    (T : List TokenBody → List TokenBody) → Stage x text c o [] more T → Left text o.at (bytes [])
+    (T : List TokenBody → List TokenBody) → NodeStage x text c o [] more T → Left text o.at (bytes [])
     → Done x text (T (tokens.stream_end ∷ []))
 ended x text c o more T s l =
     let p = o.at in
@@ -45,7 +45,7 @@ ended x text c o more T s l =
 
 stop_walks : (s : Settings) (unended kept : Bool) (x : yaml_encoding_t) (text : List ℕ) (o : Where)
     (more : List ℕ) (T : List TokenBody → List TokenBody)
-    → Stage x text (line_start kept) o [] more T
+    → NodeStage x text (line_start kept) o [] more T
     → Left text o.at (bytes (stop_layout s unended (line_start kept) nothing_more))
     → Done x text (T (end_bodies (unended && kept) (tokens.stream_end ∷ [])))
 unfolding stop_layout
@@ -82,7 +82,7 @@ says_as x text after kept T U e a =
 root_walks : (s : Settings) → RootsWalk (pretty s) → (d : Document) (ds : List Document)
     → AreWritable (d ∷ ds)
     → (x : yaml_encoding_t) (text : List ℕ) (c : Cursor) (o : Where)
-    (T : List TokenBody → List TokenBody) → c.kept ≡ false → Stage x text c o [] [] T
+    (T : List TokenBody → List TokenBody) → c.kept ≡ false → NodeStage x text c o [] [] T
     → Left text o.at (bytes (from_root (pretty s) d ds c))
     → AtLine x text (behind_root (pretty s) d.implicit_end ds) (is_root_kept (pretty s) d)
     (λ bs. T (root_bodies (pretty s) d bs))
@@ -126,7 +126,7 @@ documents_walk : Directing → (s : Settings) → RootsWalk (pretty s) → (ds :
     → AreWritable ds
     → (fresh unended kept : Bool) (x : yaml_encoding_t) (text : List ℕ) (place : Where)
     (more : List ℕ) (T : List TokenBody → List TokenBody)
-    → (fresh ≡ true → Fresh more unended) → Stage x text (line_start kept) place [] more T
+    → (fresh ≡ true → Fresh more unended) → NodeStage x text (line_start kept) place [] more T
     → Left text place.at (bytes (documents_layout (pretty s) fresh unended ds (line_start kept)
     nothing_more))
     → Done x text (T (documents_bodies (pretty s) fresh unended kept ds))
@@ -145,7 +145,7 @@ documents_walk laws s roots (d ∷ ds) (right, root, good) fresh unended kept x 
 -- ---- the whole text
 
 start_stage : (x : yaml_encoding_t) (text : List ℕ)
-    → Stage x text start (record { at = 0; line = 0; depth = 0; now = true; broken = true }) [] []
+    → NodeStage x text start (record { at = 0; line = 0; depth = 0; now = true; broken = true }) [] []
     (λ bs. tokens.stream_start x ∷ bs)
 unfolding column_at
 start_stage x text = record { reads = walk_starts x text; flat = refl; broken = refl; bare = λ b. (refl, refl); line = omega arith }

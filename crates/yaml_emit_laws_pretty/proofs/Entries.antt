@@ -26,7 +26,7 @@ use Rattle.yaml_scan_laws_levels.proofs.Slotting.{letter_columns}
 use Rattle.yaml_scan_laws_levels.proofs.Stepping.{words_leave}
 use Rattle.yaml_scan_laws_levels.proofs.Walking.{walk_mark}
 use Rattle.yaml_emit_laws_scalars.specs.Stops.{begins_white, is_gap_byte}
-use Rattle.yaml_emit_laws_pretty.specs.Walk.{Mark, Entry, Question, Answer, mark_byte, mark_body, mark_level, IsLone, MarkIsWalked}
+use Rattle.yaml_emit_laws_pretty.specs.Walk.{BareIndicator, Entry, Question, Answer, mark_byte, mark_body, mark_level, IsLone, MarkIsWalked}
 use Rattle.yaml_emit_laws_pretty.proofs.Lining.{first_byte}
 use Rattle.yaml_emit_laws_pretty.proofs.NodeLines.{mark_small}
 
@@ -47,29 +47,30 @@ white_stands text p (b ∷ bs) l e = space_white (byte text (p + 1)) (byte text 
 
 -- ---- the three indicators
 
-abbrev mark_kind : Mark → Kind
+abbrev mark_kind : BareIndicator → Kind
 mark_kind Entry = kinds.BlockEntry
 mark_kind Question = kinds.KeyMark
 mark_kind Answer = kinds.ValueMark
 
-mark_comes : (k : Mark) → MarkComes (mark_byte k) (mark_kind k) (mark_body k)
+mark_comes : (k : BareIndicator) → MarkComes (mark_byte k) (mark_kind k) (mark_body k)
 mark_comes Entry = signs_come.entry
 mark_comes Question = signs_come.question
 mark_comes Answer = signs_come.colon
 
-mark_prints : (k : Mark) → (32 < mark_byte k) × (mark_byte k < 127) × (mark_byte k ≡ 35 → ⊥)
+mark_prints : (k : BareIndicator) → (32 < mark_byte k) × (mark_byte k < 127) × (mark_byte k ≡ 35
+    → ⊥)
 mark_prints Entry = (omega arith, omega arith, λ y. omega (arith, y))
 mark_prints Question = (omega arith, omega arith, λ y. omega (arith, y))
 mark_prints Answer = (omega arith, omega arith, λ y. omega (arith, y))
 
-mark_starts : (k : Mark)
+mark_starts : (k : BareIndicator)
     → (is_start (mark_kind k) ≡ true) × (level_of (mark_kind k) ≡ mark_level k)
     × (allows_key (mark_kind k) true false ≡ true)
 mark_starts Entry = (refl, refl, refl)
 mark_starts Question = (refl, refl, refl)
 mark_starts Answer = (refl, refl, refl)
 
-lone_at : (k : Mark) (text : List ℕ) (o : Where) (q : ℕ) → q ≡ o.at → IsLone k text o
+lone_at : (k : BareIndicator) (text : List ℕ) (o : Where) (q : ℕ) → q ≡ o.at → IsLone k text o
     → is_value (mark_kind k) ≡ true → o.line < line_at text q
 lone_at Entry text o q e l v = absurd (false≢true v)
 lone_at Question text o q e l v = absurd (false≢true v)

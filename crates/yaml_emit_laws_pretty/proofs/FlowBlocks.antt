@@ -22,7 +22,7 @@ use Rattle.yaml_scan_laws_levels.specs.Walks.{Where, Outside}
 use Rattle.yaml_emit_laws_scalars.specs.Stops.{begins_white}
 use Rattle.yaml_emit_laws_block.specs.Laws.{margin_round}
 use Rattle.yaml_emit_laws_pretty.specs.Bodies.{is_flow_at, keeps, sequence_opens, sequence_closes, mapping_opens, mapping_closes, node_bodies, items_bodies, pairs_bodies, node_kept, items_kept, pairs_kept}
-use Rattle.yaml_emit_laws_pretty.specs.Walk.{Stage, Goes}
+use Rattle.yaml_emit_laws_pretty.specs.Walk.{NodeStage, GoesBehindNode}
 use Rattle.yaml_emit_laws_pretty.specs.Nodes.{IsPretty, NodeWalks, PartedBehind, PropertiesAreWalked, block_spot, is_bracketed}
 use Rattle.yaml_emit_laws_pretty.specs.Flows.{KeysAreWalkedIn, BracketsFollow}
 use Rattle.yaml_emit_laws_pretty.proofs.Lining.{line_ends}
@@ -38,10 +38,10 @@ use Rattle.yaml_emit_laws_pretty.proofs.Singles.{bare_off}
 opened_block : (mapping : Bool) (a : Layout) (B : List TokenBody → List TokenBody) (ls : List ℕ)
     (rest : Rest) → BodyIn a B ls rest
     → (c : Cursor) (x : yaml_encoding_t) (text : List ℕ) (o : Where)
-    (T : List TokenBody → List TokenBody) → Stage x text c o ls [] T
+    (T : List TokenBody → List TokenBody) → NodeStage x text c o ls [] T
     → indent ls ≤ column_at text o.at
     → Left text o.at (bytes ((opener (opening_of mapping) ▹ a) c rest))
-    → Goes x text rest c.kept ls (λ bs. T (opens mapping ∷ B bs))
+    → GoesBehindNode x text rest c.kept ls (λ bs. T (opens mapping ∷ B bs))
 unfolding Outside
 opened_block mapping a B ls rest body c x text o T st right l =
     let g = opened_in mapping a B ls rest body c x text o [] T st.reads (inr right) (inl tt) l in
@@ -72,28 +72,28 @@ dressed_block : PropertiesAreWalked → (s : Settings) (d : Opening) → IsPrett
     → (mapping : Bool) (a : Layout) (B : List TokenBody → List TokenBody) (ls : List ℕ)
     (rest : Rest) → BodyIn a B ls rest
     → (c : Cursor) (x : yaml_encoding_t) (text : List ℕ) (o : Where)
-    (T : List TokenBody → List TokenBody) → Stage x text c o ls [] T
+    (T : List TokenBody → List TokenBody) → NodeStage x text c o ls [] T
     → indent ls ≤ column_at text o.at
     → Left text o.at (bytes ((properties_text (prettily s d.directives) anchor tag ▹
     (opener (opening_of mapping) ▹ a)) c rest))
-    → Goes x text rest c.kept ls (λ bs. T
+    → GoesBehindNode x text rest c.kept ls (λ bs. T
     (anchor_bodies anchor (tag_bodies d.directives tag (opens mapping ∷ B bs))))
 dressed_block law s d is anchor tag good fine some mapping a B ls rest body c x text o T st right l =
     let after : Rest = λ e. (opener (opening_of mapping) ▹ a) e rest in
     let g = law (pretty_of s) d (pretty_fine s d is) anchor tag good fine some ls c after (parted_opener mapping a rest) x text o T st right l in
     let h = opened_block mapping a B ls rest body g.cursor x text g.place (λ bs. T (anchor_bodies anchor (tag_bodies d.directives tag bs))) g.stage g.right g.left in
-    subst (λ (k : Bool). Goes x text rest k ls (λ bs. T (anchor_bodies anchor (tag_bodies d.directives tag (opens mapping ∷ B bs))))) g.same h
+    subst (λ (k : Bool). GoesBehindNode x text rest k ls (λ bs. T (anchor_bodies anchor (tag_bodies d.directives tag (opens mapping ∷ B bs))))) g.same h
 
 any_block : PropertiesAreWalked → (s : Settings) (d : Opening) → IsPretty s d
     → (anchor tag : Option (List ℕ)) → IsWritableAnchor anchor → IsWritableTag tag
     → (mapping : Bool) (a : Layout) (B : List TokenBody → List TokenBody) (ls : List ℕ)
     (rest : Rest) → BodyIn a B ls rest
     → (c : Cursor) (x : yaml_encoding_t) (text : List ℕ) (o : Where)
-    (T : List TokenBody → List TokenBody) → Stage x text c o ls [] T
+    (T : List TokenBody → List TokenBody) → NodeStage x text c o ls [] T
     → indent ls ≤ column_at text o.at
     → Left text o.at (bytes ((properties_text (prettily s d.directives) anchor tag ▹
     (opener (opening_of mapping) ▹ a)) c rest))
-    → Goes x text rest c.kept ls (λ bs. T
+    → GoesBehindNode x text rest c.kept ls (λ bs. T
     (anchor_bodies anchor (tag_bodies d.directives tag (opens mapping ∷ B bs))))
 any_block law s d is None None good fine mapping a B ls rest body c x text o T st right l = opened_block mapping a B ls rest body c x text o T st right l
 any_block law s d is None (Some t) good fine mapping a B ls rest body c x text o T st right l = dressed_block law s d is None (Some t) good fine refl mapping a B ls rest body c x text o T st right l
@@ -186,8 +186,8 @@ bracketed law s d is around q bare y anchor tag good fine mapping a B body laid 
       let R : Rest = λ e. line s.line_break m e after in
       let k = node_kept p false q y c.kept in
       let g = any_block law s d is anchor tag good fine mapping a B ls R (body ls R level) c x text o T st right (subst (λ (b : Layout). Left text o.at (bytes (b c R))) laid l) in
-      let h = subst (λ (U : List TokenBody → List TokenBody). Goes x text R c.kept ls (λ bs. T (U bs))) told g in
-      let i = subst (λ (b : Bool). Goes x text R b ls (λ bs. T (node_bodies p false q bare y bs))) (kept_so c.kept) h in
+      let h = subst (λ (U : List TokenBody → List TokenBody). GoesBehindNode x text R c.kept ls (λ bs. T (U bs))) told g in
+      let i = subst (λ (b : Bool). GoesBehindNode x text R b ls (λ bs. T (node_bodies p false q bare y bs))) (kept_so c.kept) h in
       line_ends s.line_break m x text k ls (λ bs. T (node_bodies p false q bare y bs)) after ending.feed i;
   white = λ c m after white.
       let p = prettily s d.directives in

@@ -19,7 +19,7 @@ use Rattle.yaml_emit_laws_text.specs.emit_layout.Nodes.{spot, is_simple_part, is
 use Rattle.yaml_emit_laws_text.specs.Walk.{Left, bytes}
 use Rattle.yaml_emit_laws_text.proofs.Steps.{left_letter}
 use Rattle.yaml_scan_laws_levels.specs.Pushes.{IsRight}
-use Rattle.yaml_scan_laws_levels.specs.Walks.{Where, Reads, Outside}
+use Rattle.yaml_scan_laws_levels.specs.Walks.{Where, WalkReads, Outside}
 use Rattle.yaml_emit_laws_pretty.specs.Bodies.{node_bodies, items_bodies, pairs_bodies}
 use Rattle.yaml_emit_laws_pretty.specs.Flows.{IsClear, GoesIn, WalksIn, FollowsIn, KeyWalksIn}
 use Rattle.yaml_emit_laws_pretty.proofs.FlowSteps.{Space, space_on, clear_same}
@@ -32,7 +32,7 @@ use Rattle.yaml_emit_laws_text.proofs.Words.{lettered_on}
 pub record Closed (x : yaml_encoding_t) (text : List ℕ) (rest : Rest) (kept : Bool) (d : ℕ) (cs ls : List ℕ) (T : List TokenBody → List TokenBody) : Type 0 where
   pub behind : Cursor
   pub place : Where
-  pub reads : Reads x text place cs ls [] T
+  pub reads : WalkReads x text place cs ls [] T
   pub deep : place.depth ≡ d
   pub now : place.now ≡ false
   pub broken : place.broken ≡ not (nat_lt 0 d)
@@ -47,17 +47,17 @@ NodeIn s ds y = (n : ℕ) (q : Part) → is_simple_part q ≡ false → (bare : 
 
 -- what stands behind an opening bracket, with what closes it
 abbrev pub BodyIn : Layout → (List TokenBody → List TokenBody) → List ℕ → Rest → Type 0
-BodyIn a B ls rest = (c : Cursor) → c.bare ≡ false → (x : yaml_encoding_t) (text : List ℕ) (o : Where) (d : ℕ) (cs : List ℕ) (T : List TokenBody → List TokenBody) → Reads x text o cs ls [] T → o.depth ≡ d + 1 → o.now ≡ true → Outside (d + 1) cs
+BodyIn a B ls rest = (c : Cursor) → c.bare ≡ false → (x : yaml_encoding_t) (text : List ℕ) (o : Where) (d : ℕ) (cs : List ℕ) (T : List TokenBody → List TokenBody) → WalkReads x text o cs ls [] T → o.depth ≡ d + 1 → o.now ≡ true → Outside (d + 1) cs
     → Left text o.at (bytes (a c rest)) → Closed x text rest c.kept d cs ls (λ bs. T (B bs))
 
 -- likewise behind an item or a pair
 abbrev pub MoreIn : Layout → (List TokenBody → List TokenBody) → List ℕ → Rest → Type 0
-MoreIn a B ls rest = (c : Cursor) → c.bare ≡ false → (x : yaml_encoding_t) (text : List ℕ) (o : Where) (d : ℕ) (cs : List ℕ) (T : List TokenBody → List TokenBody) → Reads x text o cs ls [] T → o.depth ≡ d + 1 → Outside (d + 1) cs
+MoreIn a B ls rest = (c : Cursor) → c.bare ≡ false → (x : yaml_encoding_t) (text : List ℕ) (o : Where) (d : ℕ) (cs : List ℕ) (T : List TokenBody → List TokenBody) → WalkReads x text o cs ls [] T → o.depth ≡ d + 1 → Outside (d + 1) cs
     → Left text o.at (bytes (a c rest)) → Closed x text rest c.kept d cs ls (λ bs. T (B bs))
 
 -- likewise where white may be last on a bare line
 abbrev pub PairIn : Layout → (List TokenBody → List TokenBody) → List ℕ → Rest → Type 0
-PairIn a B ls rest = (c : Cursor) (x : yaml_encoding_t) (text : List ℕ) (o : Where) (d : ℕ) (cs : List ℕ) (T : List TokenBody → List TokenBody) → Reads x text o cs ls [] T → o.depth ≡ d + 1 → o.now ≡ true → Outside (d + 1) cs
+PairIn a B ls rest = (c : Cursor) (x : yaml_encoding_t) (text : List ℕ) (o : Where) (d : ℕ) (cs : List ℕ) (T : List TokenBody → List TokenBody) → WalkReads x text o cs ls [] T → o.depth ≡ d + 1 → o.now ≡ true → Outside (d + 1) cs
     → Left text o.at (bytes (a c rest)) → Closed x text rest c.kept d cs ls (λ bs. T (B bs))
 
 inside_so : (n d : ℕ) → n ≡ d + 1 → nat_lt 0 n ≡ true
@@ -165,7 +165,7 @@ value_in s ds v ps value more b n ls low rest c bare x text o d cs T r deep out 
 -- a byte that is a word, behind the space that is due
 sign_left : (b : ℕ) → nat_lt b 128 ≡ true
     → (x : yaml_encoding_t) (text : List ℕ) (c : Cursor) (rest : Rest) (o : Where) (cs ls : List ℕ)
-    (T : List TokenBody → List TokenBody) → Reads x text o cs ls [] T
+    (T : List TokenBody → List TokenBody) → WalkReads x text o cs ls [] T
     → Left text o.at (bytes (word (b ∷ []) c rest))
     → Space x text (b ∷ bytes (rest (lettered_on (behind_gap c.white c)))) o cs ls [] T
 unfolding letters
@@ -179,7 +179,7 @@ sign_left b low x text c rest o cs ls T r l =
 record Asked (x : yaml_encoding_t) (text : List ℕ) (rest : Rest) (kept : Bool) (d : ℕ) (cs ls : List ℕ) (T : List TokenBody → List TokenBody) : Type 0 where
   cursor : Cursor
   place : Where
-  reads : Reads x text place cs ls [] T
+  reads : WalkReads x text place cs ls [] T
   deep : place.depth ≡ d + 1
   now : place.now ≡ false
   left : Left text place.at (bytes (rest cursor))
@@ -187,7 +187,7 @@ record Asked (x : yaml_encoding_t) (text : List ℕ) (rest : Rest) (kept : Bool)
   same : cursor.kept ≡ kept
 
 ask_then : (x : yaml_encoding_t) (text : List ℕ) (c : Cursor) (rest : Rest) (o : Where) (d : ℕ)
-    (cs ls : List ℕ) (T : List TokenBody → List TokenBody) → Spaced rest → Reads x text o cs ls [] T
+    (cs ls : List ℕ) (T : List TokenBody → List TokenBody) → Spaced rest → WalkReads x text o cs ls [] T
     → o.depth ≡ d + 1 → Outside (d + 1) cs → Left text o.at (bytes (word (63 ∷ []) c rest))
     → Asked x text rest c.kept d ((d + 1) ∷ cs) ls (λ bs. T (tokens.key ∷ bs))
 ask_then x text c rest o d cs ls T spaced r deep out l =
@@ -198,7 +198,7 @@ ask_then x text c rest o d cs ls T spaced r deep out l =
     record {
       cursor = e;
       place = q.place;
-      reads = subst (λ (i : ℕ). Reads x text q.place (i ∷ cs) ls [] (λ bs. T (tokens.key ∷ bs))) deep1 q.reads;
+      reads = subst (λ (i : ℕ). WalkReads x text q.place (i ∷ cs) ls [] (λ bs. T (tokens.key ∷ bs))) deep1 q.reads;
       deep = q.deep ∙ deep1;
       now = q.begin;
       left = q.left;
@@ -208,14 +208,14 @@ ask_then x text c rest o d cs ls T spaced r deep out l =
 
 answer_then : (x : yaml_encoding_t) (text : List ℕ) (c : Cursor) (rest : Rest) (o : Where) (d : ℕ)
     (cs ls : List ℕ) (T : List TokenBody → List TokenBody) → Spaced rest
-    → Reads x text o ((d + 1) ∷ cs) ls [] T → o.depth ≡ d + 1 → Outside (d + 1) cs
+    → WalkReads x text o ((d + 1) ∷ cs) ls [] T → o.depth ≡ d + 1 → Outside (d + 1) cs
     → Left text o.at (bytes (word (58 ∷ []) c rest))
     → Asked x text rest c.kept d cs ls (λ bs. T (tokens.value ∷ bs))
 answer_then x text c rest o d cs ls T spaced r deep out l =
     let e = lettered_on (behind_gap c.white c) in
     let sp = sign_left 58 refl x text c rest o ((d + 1) ∷ cs) ls T r l in
     let deep1 = sp.deep ∙ deep in
-    let reads1 = subst (λ (i : ℕ). Reads x text sp.place (i ∷ cs) ls [] T) (sym deep1) sp.reads in
+    let reads1 = subst (λ (i : ℕ). WalkReads x text sp.place (i ∷ cs) ls [] T) (sym deep1) sp.reads in
     let v = answer_on x text (bytes (rest e)) sp.place cs ls T reads1 (inside_so sp.place.depth d deep1) (out_at sp.place.depth d cs deep1 out) (space_parts (bytes (rest e)) (spaced e refl)) sp.left in
     record {
       cursor = e;
@@ -233,7 +233,7 @@ asked_key : (s : Settings) (ds : List TagDirective) (k : Node) → NodeIn s ds k
     → (n : ℕ) (ls : List ℕ) → indent ls ≤ n → (after : Rest) → Spaced after
     → (x : yaml_encoding_t) (text : List ℕ) (c : Cursor) (o : Where) (d : ℕ) (cs : List ℕ)
     (T : List TokenBody → List TokenBody)
-    → Reads x text o ((d + 1) ∷ cs) ls [] T → o.depth ≡ d + 1 → o.now ≡ false → Outside (d + 1) cs
+    → WalkReads x text o ((d + 1) ∷ cs) ls [] T → o.depth ≡ d + 1 → o.now ≡ false → Outside (d + 1) cs
     → Left text o.at (bytes (node_layout (prettily s ds) (spot true n part.Key) k c
     (λ e. wrap s.width s.line_break n e (λ f. word (58 ∷ []) f after))))
     → GoesIn x text (λ e. wrap s.width s.line_break n e (λ f. word (58 ∷ []) f after)) c.kept
@@ -245,7 +245,7 @@ asked_key s ds k key n ls low after parted x text c o d cs T r deep now out l =
 -- its `:`, on the same line or a later one
 asked_answer : (s : Settings) (n : ℕ) (after : Rest) → Spaced after
     → (x : yaml_encoding_t) (text : List ℕ) (c : Cursor) (o : Where) (d : ℕ) (cs ls : List ℕ)
-    (T : List TokenBody → List TokenBody) → c.bare ≡ false → Reads x text o ((d + 1) ∷ cs) ls [] T
+    (T : List TokenBody → List TokenBody) → c.bare ≡ false → WalkReads x text o ((d + 1) ∷ cs) ls [] T
     → o.depth ≡ d + 1 → Outside (d + 1) cs
     → Left text o.at (bytes (wrap s.width s.line_break n c (λ f. word (58 ∷ []) f after)))
     → Asked x text after c.kept d cs ls (λ bs. T (tokens.value ∷ bs))
@@ -345,7 +345,7 @@ clear_out o cs (inr (ds, same, out, off)) = subst (λ (es : List ℕ). Outside (
 pub opened_in : (mapping : Bool) (a : Layout) (B : List TokenBody → List TokenBody) (ls : List ℕ)
     (rest : Rest) → BodyIn a B ls rest
     → (c : Cursor) (x : yaml_encoding_t) (text : List ℕ) (o : Where) (cs : List ℕ)
-    (T : List TokenBody → List TokenBody) → Reads x text o cs ls [] T
+    (T : List TokenBody → List TokenBody) → WalkReads x text o cs ls [] T
     → IsRight o.depth ls (column_at text o.at) → IsClear o cs
     → Left text o.at (bytes ((opener (opening_of mapping) ▹ a) c rest))
     → Closed x text rest c.kept o.depth cs ls (λ bs. T (opens mapping ∷ B bs))

@@ -16,10 +16,10 @@ use Rattle.yaml_emit_laws_text.specs.Walk.{Left, bytes}
 use Rattle.yaml_emit_laws_text.proofs.Places.{has_at, left_first, left_more, left_rest}
 use Rattle.yaml_scan_laws_levels.specs.Pushes.{stays_level}
 use Rattle.yaml_scan_laws_levels.specs.Steps.{Comes, WordLeaves}
-use Rattle.yaml_scan_laws_levels.specs.Walks.{Where, Reads, LeaveClear, Outside, behind}
+use Rattle.yaml_scan_laws_levels.specs.Walks.{Where, WalkReads, LeaveClear, Outside, behind}
 use Rattle.yaml_scan_laws_levels.proofs.Slotting.{letter_columns}
 use Rattle.yaml_scan_laws_levels.proofs.Walking.{walk_white, walk_word, deeper_leaves}
-use Rattle.yaml_emit_laws_pretty.specs.Spoken.{is_text, Fits, Spoken, Says}
+use Rattle.yaml_emit_laws_pretty.specs.Spoken.{is_text, Fits, Spoken, SaysTokens}
 use Rattle.yaml_emit_laws_pretty.specs.Flows.{IsClear, WalksIn}
 use Rattle.yaml_emit_laws_pretty.proofs.Entries.{no_gap}
 
@@ -81,7 +81,7 @@ off_or a b e = rw e refl
 
 pub record Space (x : yaml_encoding_t) (text bs : List ℕ) (o : Where) (cs ls more : List ℕ) (T : List TokenBody → List TokenBody) : Type 0 where
   pub place : Where
-  pub reads : Reads x text place cs ls more T
+  pub reads : WalkReads x text place cs ls more T
   pub deep : place.depth ≡ o.depth
   pub same : place.now ≡ o.now
   pub broken : place.broken ≡ o.broken
@@ -93,7 +93,7 @@ same_or true b = refl
 same_or false b = refl
 
 pub space_on : (b : Bool) (x : yaml_encoding_t) (text bs : List ℕ) (o : Where) (cs ls more : List ℕ)
-    (T : List TokenBody → List TokenBody) → Reads x text o cs ls more T
+    (T : List TokenBody → List TokenBody) → WalkReads x text o cs ls more T
     → Left text o.at (if b then 32 ∷ bs else bs) → Space x text bs o cs ls more T
 space_on true x text bs o cs ls more T r l =
     let here = left_first text o.at 32 bs l in
@@ -117,13 +117,13 @@ clear_same o u cs deep now (inr (ds, same, out, off)) = inr (ds, same ∙ ap (λ
 
 pub record Worded (x : yaml_encoding_t) (text bs : List ℕ) (o : Where) (cs ls : List ℕ) (T : List TokenBody → List TokenBody) : Type 0 where
   pub place : Where
-  pub reads : Reads x text place cs ls [] T
+  pub reads : WalkReads x text place cs ls [] T
   pub deep : place.depth ≡ o.depth
   pub now : place.now ≡ false
   pub left : Left text place.at bs
 
 here_on : (x : yaml_encoding_t) (text bs : List ℕ) (o : Where) (cs ls : List ℕ)
-    (T : List TokenBody → List TokenBody) (w : Spoken true (indent ls)) → Reads x text o cs ls [] T
+    (T : List TokenBody → List TokenBody) (w : Spoken true (indent ls)) → WalkReads x text o cs ls [] T
     → nat_lt 0 o.depth ≡ true → IsClear o cs → Left text o.at (w.own ++ bs)
     → Fits w.wants true (indent ls) bs → Worded x text bs o cs ls (λ ds. T (w.body ∷ ds))
 here_on x text bs o cs ls T w r deep clear l fits =
@@ -163,7 +163,7 @@ append_none xs ys = append_assoc xs [] ys
 
 -- a layout that says one word is walked as content
 pub word_walks : (ls : List ℕ) (a : Layout) (c : Cursor) (w : Spoken true (indent ls))
-    (says : Says true (indent ls) a c (w ∷ [])) (rest : Rest)
+    (says : SaysTokens true (indent ls) a c (w ∷ [])) (rest : Rest)
     → Fits w.wants true (indent ls) (bytes (rest says.behind))
     → WalksIn a (λ bs. w.body ∷ bs) ls c rest
 word_walks ls a c w says rest fits x text o cs T r deep clear l =

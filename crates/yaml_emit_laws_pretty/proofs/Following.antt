@@ -15,7 +15,7 @@ use Rattle.yaml_emit_laws_scalars.proofs.Solid.{what_stops}
 use Rattle.yaml_emit_laws_text.specs.scan_history.scan_model.Marks.{break_of}
 use Rattle.yaml_emit_laws_block.specs.Passed.{begins_white as begins_blank}
 use Rattle.yaml_emit_laws_pretty.specs.Walk.{Follows, NoFeed, no_comment}
-use Rattle.yaml_emit_laws_pretty.specs.Nodes.{Shows, Ending, ShownEnds}
+use Rattle.yaml_emit_laws_pretty.specs.Nodes.{ShowsNode, Ending, ShownEnds}
 use Rattle.yaml_emit_laws_scalars.proofs.Stands.{break_low, blanks_bare, blanks_white}
 use Rattle.yaml_emit_laws_scalars.proofs.Lines.{blanks_column}
 use Rattle.yaml_emit_laws_text.proofs.Single.{line_is, after_blanks, line_start}
@@ -48,7 +48,7 @@ line_bytes b n c rest bare =
     ap (λ t. bytes t) (line_is b n c rest bare) ∙ front_encodes (break_text b ++ replicate n 32) (rest e)
     ∙ ap (λ (bs : List ℕ). bs ++ bytes (rest e)) (low_encodes (break_text b ++ replicate n 32) (break_low b n)) ∙ append_assoc (break_text b) (replicate n 32) (bytes (rest e))
 
-pub follows_line : (b : LineBreak) (n : ℕ) (rest : Rest) → Shows n rest
+pub follows_line : (b : LineBreak) (n : ℕ) (rest : Rest) → ShowsNode n rest
     → Follows (n + 1) (λ e. line b n e rest)
 follows_line b n rest shows = record {
   stops = λ level low e bare. let d = after_blanks n (line_start e) in
@@ -69,7 +69,7 @@ solid_no_feed (b ∷ bs) h e =
     never : false ≡ true → ⊥
     never e = cc
 
-pub shows_no_feed : (n : ℕ) (rest : Rest) → Shows n rest → NoFeed n rest
+pub shows_no_feed : (n : ℕ) (rest : Rest) → ShowsNode n rest → NoFeed n rest
 shows_no_feed n rest shows e bare white column f = solid_no_feed (bytes (rest e)) (shows.solid e bare white column) f
 
 pub follows_up : (m n : ℕ) (rest : Rest) → m ≤ n → Follows m rest → Follows n rest

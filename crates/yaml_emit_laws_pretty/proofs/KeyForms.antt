@@ -19,7 +19,7 @@ use Rattle.yaml_emit_laws_text.proofs.Places.{has_at, has_front, left_first, lef
 use Rattle.yaml_emit_laws_text.proofs.Steps.{letter_low}
 use Rattle.yaml_scan_laws_levels.specs.Pushes.{IsRight}
 use Rattle.yaml_scan_laws_levels.specs.Tokens.{start_bodies}
-use Rattle.yaml_scan_laws_levels.specs.Walks.{Where, Reads, ClosesAt, Outside}
+use Rattle.yaml_scan_laws_levels.specs.Walks.{Where, WalkReads, ClosesAt, Outside}
 use Rattle.yaml_scan_laws_levels.proofs.Walking.{walk_says}
 use Rattle.yaml_scan_laws_levels.proofs.Slotting.{letter_columns, near_before}
 use Rattle.yaml_emit_laws_scalars.specs.Stops.{begins_white}
@@ -106,7 +106,7 @@ two_behind false o first last = omega arith
 ends_first : (k : KeyEnd) (b : Bool) → StartsEnd k b
     → (d : ℕ) (ls tail : List ℕ) (x : yaml_encoding_t) (text : List ℕ) (o line end : ℕ)
     (broken : Bool) (cs more : List ℕ) (T : List TokenBody → List TokenBody)
-    → Reads x text (spot_at o line d true broken) cs ls more T
+    → WalkReads x text (spot_at o line d true broken) cs ls more T
     → ClosesAt d (column_at text (o + front b)) ls more → Frame text d (o + front b) end cs ls
     → o + length (end_bytes k) ≤ end → Left text o (end_bytes k ++ tail)
     → KeyRuns x text (o + length (end_bytes k)) d (o + front b) cs ls T (λ bs. end_bodies k bs)
@@ -148,7 +148,7 @@ key_runs : (d : ℕ) (ls : List ℕ) (words : List (Spoken (nat_lt 0 d) (indent 
     (b : Bool) → LeadsKey words k b
     → (tail : List ℕ) (x : yaml_encoding_t) (text : List ℕ) (o line end : ℕ) (broken : Bool)
     (cs more : List ℕ) (T : List TokenBody → List TokenBody)
-    → Reads x text (spot_at o line d true broken) cs ls more T
+    → WalkReads x text (spot_at o line d true broken) cs ls more T
     → ClosesAt d (column_at text (o + front b)) ls more → Frame text d (o + front b) end cs ls
     → o + length (all_bytes words ++ end_bytes k) ≤ end
     → Left text o (all_bytes words ++ (end_bytes k ++ tail)) → AllFit words (end_bytes k ++ tail)
@@ -224,15 +224,15 @@ abbrev pub behind_colon : Cursor → Cursor
 behind_colon b = record { column = b.column + 1; white = false; bare = false; kept = b.kept }
 
 reads_as : (x : yaml_encoding_t) (text : List ℕ) (o : Where) (cs ls : List ℕ)
-    (T U : List TokenBody → List TokenBody) → Reads x text o cs ls [] T
-    → ((bs : List TokenBody) → T bs ≡ U bs) → Reads x text o cs ls [] U
+    (T U : List TokenBody → List TokenBody) → WalkReads x text o cs ls [] T
+    → ((bs : List TokenBody) → T bs ≡ U bs) → WalkReads x text o cs ls [] U
 reads_as x text o cs ls T U r e = walk_says.other x text o cs ls [] T U r e
 
 -- Behind a key's `:`, at that depth.
 pub record KeyDone (x : yaml_encoding_t) (text : List ℕ) (rest : Rest) (c : Cursor) (o d : ℕ) (cs ls : List ℕ) (T : List TokenBody → List TokenBody) : Type 0 where
   pub behind : Cursor
   pub at : ℕ
-  pub reads : Reads x text (spot_at (at + 1) (line_at text at) d false (not (nat_lt 0 d))) cs ls []
+  pub reads : WalkReads x text (spot_at (at + 1) (line_at text at) d false (not (nat_lt 0 d))) cs ls []
       T
   pub left : Left text (at + 1) (bytes (rest (behind_colon behind)))
   pub kept : behind.kept ≡ c.kept
@@ -242,7 +242,7 @@ pub key_done : (d : ℕ) (ls : List ℕ) (a : Layout) (c : Cursor) (B : List Tok
     → KeyForm (nat_lt 0 d) (indent ls) a c B → StaysNear a c 530
     → (x : yaml_encoding_t) (text : List ℕ) (o line : ℕ) (broken : Bool) (cs more new : List ℕ)
     (what : Opens) (T : List TokenBody → List TokenBody) (rest : Rest)
-    → Reads x text (spot_at o line d true broken) cs ls more T → Outside d cs
+    → WalkReads x text (spot_at o line d true broken) cs ls more T → Outside d cs
     → (let at = column_at text (o + front (not c.white)) in ClosesAt d at ls more
     × ((nat_lt 0 d ≡ true) ⊎ (indent ls ≤ at + 1))
     × (opened (not (nat_lt 0 d)) (margin_at at) ls ≡ new)

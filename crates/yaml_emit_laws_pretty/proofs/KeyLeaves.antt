@@ -24,7 +24,7 @@ use Rattle.yaml_emit_laws_text.proofs.Steps.{letter_low}
 use Rattle.yaml_scan_laws_order.proofs.MarksForward.{line_at-grows}
 use Rattle.yaml_scan_laws_levels.specs.Fronts.{Rises}
 use Rattle.yaml_scan_laws_levels.specs.Tokens.{start_bodies}
-use Rattle.yaml_scan_laws_levels.specs.Walks.{Reads, ClosesAt, Outside}
+use Rattle.yaml_scan_laws_levels.specs.Walks.{WalkReads, ClosesAt, Outside}
 use Rattle.yaml_scan_laws_levels.proofs.Signing.{printed_begins}
 use Rattle.yaml_scan_laws_levels.proofs.Slotting.{level_opens}
 use Rattle.yaml_emit_laws_scalars.specs.Stops.{begins_solid}
@@ -65,8 +65,8 @@ key_walks law s d good k w simple x text n kept ls more new what T rest here low
     let form = key_form law s d good k w simple false (indent ls) n (omega (arith, low, least)) c in
     let near = keys_near s d good.fine k w simple false n c in
     let (now, at_column) = st.bare here.bare in
-    let flat : Reads x text (spot_at o.at o.line 0 o.now o.broken) [] ls more T = subst (λ i. Reads x text (spot_at o.at o.line i o.now o.broken) [] ls more T) st.flat st.reads in
-    let reads : Reads x text (spot_at o.at o.line 0 true o.broken) [] ls more T = subst (λ b. Reads x text (spot_at o.at o.line 0 b o.broken) [] ls more T) now flat in
+    let flat : WalkReads x text (spot_at o.at o.line 0 o.now o.broken) [] ls more T = subst (λ i. WalkReads x text (spot_at o.at o.line i o.now o.broken) [] ls more T) st.flat st.reads in
+    let reads : WalkReads x text (spot_at o.at o.line 0 true o.broken) [] ls more T = subst (λ b. WalkReads x text (spot_at o.at o.line 0 b o.broken) [] ls more T) now flat in
     let z : o.at + 0 ≡ o.at = omega arith in
     let from : column_at text (o.at + front (not c.white)) ≡ n = ap (λ (b : Bool). column_at text (o.at + front (not b))) here.white ∙ ap (λ i. column_at text i) z ∙ at_column ∙ here.column in
     let margin : margin_at (column_at text (o.at + front (not c.white))) ≡ n + 1 = ap (λ i. i + 1) from in
@@ -174,7 +174,7 @@ keys_walk_in law s d good k w simple n ls c rest low parted x text o cs T reads 
     let B = node_bodies p true part.SimpleKey false k in
     let form : KeyForm (nat_lt 0 o.depth) (indent ls) L c B = subst (λ (f : Bool). KeyForm f (indent ls) L c B) (sym deep) (key_form law s d good k w simple true (indent ls) n (omega (arith, low)) c) in
     let near = keys_near s d good.fine k w simple true n c in
-    let fresh : Reads x text (spot_at o.at o.line o.depth true o.broken) cs ls [] T = subst (λ b. Reads x text (spot_at o.at o.line o.depth b o.broken) cs ls [] T) now reads in
+    let fresh : WalkReads x text (spot_at o.at o.line o.depth true o.broken) cs ls [] T = subst (λ b. WalkReads x text (spot_at o.at o.line o.depth b o.broken) cs ls [] T) now reads in
     let inside = level_opens.inside o.depth (margin_at (column_at text (o.at + front (not c.white)))) ls opening.Mapping deep in
     let done = key_done o.depth ls L c B form near x text o.at o.line o.broken cs [] ls opening.Nothing T rest fresh out (inl (deep, refl), inl deep, inside.0, inside.1) parted l in
     record {

@@ -20,7 +20,7 @@ use Rattle.yaml_scan_laws_levels.specs.Pushes.{IsRight, stays_level}
 use Rattle.yaml_scan_laws_levels.specs.Steps.{Comes, WordLeaves}
 use Rattle.yaml_scan_laws_levels.specs.Signs.{SignComes, sign}
 use Rattle.yaml_scan_laws_levels.specs.Tokens.{start_bodies}
-use Rattle.yaml_scan_laws_levels.specs.Walks.{Where, Reads, ReadsKey, ClosesAt, Outside, behind}
+use Rattle.yaml_scan_laws_levels.specs.Walks.{Where, WalkReads, ReadsKey, ClosesAt, Outside, behind}
 use Rattle.yaml_scan_laws_levels.proofs.Signing.{signs_come, printed_begins}
 use Rattle.yaml_scan_laws_levels.proofs.Stepping.{words_leave}
 use Rattle.yaml_scan_laws_levels.proofs.Walking.{walk_white, walk_key_starts, walk_key_goes, walk_key_stops, walk_says, deeper_leaves}
@@ -115,7 +115,7 @@ pub record KeyRuns (x : yaml_encoding_t) (text : List ℕ) (e d p : ℕ) (cs ls 
 pub key_first : (d : ℕ) (ls : List ℕ) (w : Spoken (nat_lt 0 d) (indent ls)) (bs : List ℕ)
     (x : yaml_encoding_t) (text : List ℕ) (p line : ℕ) (broken : Bool) (cs more : List ℕ)
     (T : List TokenBody → List TokenBody)
-    → Reads x text (spot_at p line d true broken) cs ls more T → Outside d cs
+    → WalkReads x text (spot_at p line d true broken) cs ls more T → Outside d cs
     → ClosesAt d (column_at text p) ls more → Left text p (w.own ++ bs)
     → Fits w.wants (nat_lt 0 d) (indent ls) bs → (w.kind ≡ kinds.Plain → white_of bs ≡ [])
     → is_fresh (mark_at text p) (mark_at text (p + length w.own)) ≡ true
@@ -241,12 +241,12 @@ key_list d ls (w ∷ ws) bs x text p q end cs T K f more few r l (fit, fits) (pl
 -- behind the space in front of the first word, if any
 pub record Begun (x : yaml_encoding_t) (text : List ℕ) (p line d : ℕ) (cs ls more : List ℕ) (T : List TokenBody → List TokenBody) (bs : List ℕ) : Type 0 where
   pub broken : Bool
-  pub reads : Reads x text (spot_at p line d true broken) cs ls more T
+  pub reads : WalkReads x text (spot_at p line d true broken) cs ls more T
   pub left : Left text p bs
 
 pub key_begun : (x : yaml_encoding_t) (text : List ℕ) (o line d : ℕ) (broken : Bool)
     (cs ls more : List ℕ) (T : List TokenBody → List TokenBody) (spaced : Bool) (own bs : List ℕ)
-    → Reads x text (spot_at o line d true broken) cs ls more T
+    → WalkReads x text (spot_at o line d true broken) cs ls more T
     → Left text o ((if spaced then 32 ∷ own else own) ++ bs)
     → Begun x text (o + front spaced) line d cs ls more T (own ++ bs)
 key_begun x text o line d broken cs ls more T false own bs r l = let z : o ≡ o + 0 = omega arith in subst (λ i. Begun x text i line d cs ls more T (own ++ bs)) z (record { broken = broken; reads = r; left = l })
@@ -260,7 +260,7 @@ pub key_words : (d : ℕ) (ls : List ℕ) (w : Spoken (nat_lt 0 d) (indent ls))
     (ws : List (Spoken (nat_lt 0 d) (indent ls))) (bs : List ℕ) (x : yaml_encoding_t)
     (text : List ℕ) (o line end : ℕ) (broken : Bool) (cs more : List ℕ)
     (T : List TokenBody → List TokenBody)
-    → Reads x text (spot_at o line d true broken) cs ls more T
+    → WalkReads x text (spot_at o line d true broken) cs ls more T
     → ClosesAt d (column_at text (o + front w.spaced)) ls more
     → Frame text d (o + front w.spaced) end cs ls → 0 < length w.own
     → o + length (all_bytes (w ∷ ws)) ≤ end → Left text o (all_bytes (w ∷ ws) ++ bs)
@@ -293,7 +293,7 @@ pub key_colon : (d : ℕ) (ls new : List ℕ) (what : Opens) (tail : List ℕ) (
     → Left text e (58 ∷ tail) → begins_white tail ≡ true
     → opened (not (nat_lt 0 d)) (margin_at (column_at text p)) ls ≡ new
     → start_of d (margin_at (column_at text p)) ls opening.Mapping ≡ what
-    → Reads x text (behind text e (e + 1) d false (not (nat_lt 0 d))) cs new []
+    → WalkReads x text (behind text e (e + 1) d false (not (nat_lt 0 d))) cs new []
     (λ bs. T (start_bodies what (tokens.key ∷ K (tokens.value ∷ bs))))
 key_colon d ls new what tail x text p e end cs T K f some few r l white opens starts =
     let z : e + 0 ≡ e = omega arith in
@@ -306,7 +306,7 @@ key_colon d ls new what tail x text p e end cs T K f some few r l white opens st
     let r = walk_key_stops x text (spot_at e r.line d false r.wide) (mark_at text p) cs ls new what T K [] w (e + 0 + 1) false (not (nat_lt 0 d)) r.reads (deeper_leaves kinds.ValueMark d false cs f.out) comes
     (subst (λ i. IsRight d ls (column_at text i)) (sym z) (f.right e some few)) (subst (λ i. is_fresh (mark_at text p) (mark_at text i) ≡ true) (sym z) (f.near e few)) opens starts
     (words_leave.all text d false w refl) in
-    subst (λ i. Reads x text (behind text i (i + 1) d false (not (nat_lt 0 d))) cs new [] (λ bs. T (start_bodies what (tokens.key ∷ K (tokens.value ∷ bs))))) z r
+    subst (λ i. WalkReads x text (behind text i (i + 1) d false (not (nat_lt 0 d))) cs new [] (λ bs. T (start_bodies what (tokens.key ∷ K (tokens.value ∷ bs))))) z r
 
 -- ---- an empty collection in brackets
 
@@ -409,7 +409,7 @@ pub brackets_first : (first last : ℕ) (k l : Kind) (opens closes : TokenBody)
     → Brackets first last k l opens closes
     → (d : ℕ) (ls bs : List ℕ) (x : yaml_encoding_t) (text : List ℕ) (p line end : ℕ)
     (broken : Bool) (cs more : List ℕ) (T : List TokenBody → List TokenBody)
-    → Reads x text (spot_at p line d true broken) cs ls more T
+    → WalkReads x text (spot_at p line d true broken) cs ls more T
     → ClosesAt d (column_at text p) ls more → Frame text d p end cs ls → p + 2 ≤ end
     → Left text p (first ∷ last ∷ bs)
     → KeyRuns x text (p + 2) d p cs ls T (λ bs. opens ∷ closes ∷ bs)

@@ -9,7 +9,7 @@ use Rattle.yaml_emit_laws_text.specs.emit_layout.Grammar.{has}
 use Rattle.yaml_emit_laws_text.specs.Walk.{Has, bytes, first}
 use Rattle.yaml_emit_laws_text.proofs.Bytes.{AreCalm}
 use Rattle.yaml_emit_laws_scalars.specs.Stops.{begins_white, white_of}
-use Rattle.yaml_emit_laws_pretty.specs.Spoken.{Spoken, Says, Fits, spoken_bytes, all_bytes, all_bodies, AllFit}
+use Rattle.yaml_emit_laws_pretty.specs.Spoken.{Spoken, SaysTokens, Fits, spoken_bytes, all_bytes, all_bodies, AllFit}
 use Rattle.yaml_emit_laws_pretty.proofs.KeySteps.{KeyFit}
 use Rattle.yaml_emit_laws_pretty.proofs.KeyForms.{KeyForm, at_once, spaced, LeadsKey}
 use Rattle.yaml_emit_laws_pretty.proofs.LeafProps.{Dress, Moved, Leads, NonePlain}
@@ -57,7 +57,7 @@ calm_starts (x ∷ xs) some (a, all) text p (e, h) = ap (λ n. starts n) e ∙ l
 
 -- the last word of a key, before the `:`
 pub record LastWord (flow : Bool) (level : ℕ) (a : Layout) (c : Cursor) (w : Spoken flow level) : Type 0 where
-  pub says : Says flow level a c (w ∷ [])
+  pub says : SaysTokens flow level a c (w ∷ [])
   pub spaced : w.spaced ≡ not c.white
   pub some : 0 < length w.own
   pub starts : (text : List ℕ) (p : ℕ) → Has text p w.own → starts (byte text p) ≡ true

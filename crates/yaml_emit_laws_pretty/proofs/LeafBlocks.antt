@@ -34,13 +34,13 @@ use Rattle.yaml_scan_laws_order.proofs.MarksForward.{line_at-grows}
 use Rattle.yaml_scan_laws_order.proofs.WordForward.{Fits, LandsWord, IsWordFrom, word_lands}
 use Rattle.yaml_scan_laws_levels.specs.Pushes.{stays_level}
 use Rattle.yaml_scan_laws_levels.specs.Steps.{Comes, WordLeaves}
-use Rattle.yaml_scan_laws_levels.specs.Walks.{Where, Reads, LeaveClear, behind}
+use Rattle.yaml_scan_laws_levels.specs.Walks.{Where, WalkReads, LeaveClear, behind}
 use Rattle.yaml_scan_laws_levels.proofs.Signing.{printed_begins}
 use Rattle.yaml_scan_laws_levels.proofs.Slotting.{letter_columns}
 use Rattle.yaml_scan_laws_levels.proofs.Stepping.{words_leave}
 use Rattle.yaml_scan_laws_levels.proofs.Walking.{walk_white, walk_word}
 use Rattle.yaml_emit_laws_pretty.specs.Bodies.{is_keep}
-use Rattle.yaml_emit_laws_pretty.specs.Walk.{Stage, LinedUp}
+use Rattle.yaml_emit_laws_pretty.specs.Walk.{NodeStage, LinedUp}
 use Rattle.yaml_emit_laws_pretty.specs.Nodes.{Ending, block_spot, column_round}
 use Rattle.yaml_emit_laws_pretty.proofs.Entries.{no_gap}
 use Rattle.yaml_emit_laws_pretty.proofs.KeyColumns.{columns_grow}
@@ -51,12 +51,12 @@ use Rattle.yaml_emit_laws_scalars.proofs.Standing.{low_starts}
 record Gapped (x : yaml_encoding_t) (text : List ℕ) (ls : List ℕ) (T : List TokenBody → List TokenBody) (rest : Rest) : Type 0 where
   cursor : Cursor
   place : Where
-  stage : Stage x text cursor place ls [] T
+  stage : NodeStage x text cursor place ls [] T
   right : indent ls ≤ column_at text place.at
   left : Left text place.at (bytes (rest cursor))
 
 gap_on : (x : yaml_encoding_t) (text : List ℕ) (c : Cursor) (o : Where) (ls : List ℕ)
-    (T : List TokenBody → List TokenBody) (rest : Rest) → Stage x text c o ls [] T
+    (T : List TokenBody → List TokenBody) (rest : Rest) → NodeStage x text c o ls [] T
     → indent ls ≤ column_at text o.at → Left text o.at (bytes (gap c rest))
     → Gapped x text ls T rest
 gap_on x text c o ls T rest s right l =
@@ -113,7 +113,7 @@ same_line text p e b m here high far u column left_of =
 word_on : (k : Kind) → IsBlock k
     → (x : yaml_encoding_t) (text : List ℕ) (c d : Cursor) (o : Where) (ls : List ℕ)
     (T : List TokenBody → List TokenBody) (b e : ℕ) (w : WordText) (m : ℕ) (rest : Rest)
-    → Stage x text c o ls [] T → indent ls ≤ column_at text o.at
+    → NodeStage x text c o ls [] T → indent ls ≤ column_at text o.at
     → byte text o.at ≡ b → 32 < b → b < 127 → (b ≡ 35 → ⊥) → kind_at false text o.at ≡ Some k
     → word_at k false (indent ls) text o.at ≡ Ok w → w.reached ≡ e → w.broke ≡ false → o.at < e
     → column_at text e ≡ m → m ≤ column_at text o.at
@@ -123,8 +123,8 @@ unfolding LeaveClear
 word_on k is x text c d o ls T b e w m rest s right here low high hash kind word reached broke far column left_of at_column at_bare at_white kept same l =
     let p = o.at in
     let z : p + 0 ≡ p = omega arith in
-    let flat : Reads x text (record { at = o.at; line = o.line; depth = 0; now = o.now; broken = o.broken }) [] ls [] T =
-    subst (λ (i : ℕ). Reads x text (record { at = o.at; line = o.line; depth = i; now = o.now; broken = o.broken }) [] ls [] T) s.flat s.reads in
+    let flat : WalkReads x text (record { at = o.at; line = o.line; depth = 0; now = o.now; broken = o.broken }) [] ls [] T =
+    subst (λ (i : ℕ). WalkReads x text (record { at = o.at; line = o.line; depth = i; now = o.now; broken = o.broken }) [] ls [] T) s.flat s.reads in
     let comes : Comes text p 0 (indent ls) k [] w e = record {
       behind = no_gap text p (printed_begins text p b here low high hash);
       kind = ap (λ n. kind_at false text n) z ∙ kind;
@@ -191,7 +191,7 @@ lands k text p level w no_end fits e =
 
 block_from : (folded : Bool) (page : Page) (digit : ℕ) (x : yaml_encoding_t) (text : List ℕ)
     (c : Cursor) (o : Where) (ls : List ℕ) (T : List TokenBody → List TokenBody) (value : List ℕ)
-    (m : ℕ) (rest k : Rest) → Stage x text c o ls [] T → indent ls ≤ column_at text o.at
+    (m : ℕ) (rest k : Rest) → NodeStage x text c o ls [] T → indent ls ≤ column_at text o.at
     → m ≤ column_at text o.at
     → Left text o.at (bytes (from_indicator page digit folded (chars value) c k))
     → BlockPassed folded (indent ls) text o.at value m (bytes (rest (behind_line m value)))
@@ -220,7 +220,7 @@ pub block_line : (p : Context) (around : Option ℕ) (q : Part) (v : Scalar) (fo
     → indent ls ≡ margin_round around → m ≤ column_round around
     → Ending p.settings.line_break m (indent ls) after
     → (x : yaml_encoding_t) (text : List ℕ) (o : Where) (T : List TokenBody → List TokenBody)
-    → Stage x text c o ls [] T → indent ls ≤ column_at text o.at
+    → NodeStage x text c o ls [] T → indent ls ≤ column_at text o.at
     → Left text o.at (bytes ((gap ▹ from_indicator (page_at p.settings (block_spot around q))
     p.settings.indent folded (chars v.value)) c (λ e. line p.settings.line_break m e after)))
     → LinedUp x text after m (is_keep (chomp true true (chars v.value))) ls

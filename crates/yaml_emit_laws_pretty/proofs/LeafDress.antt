@@ -18,13 +18,13 @@ use Rattle.yaml_emit_laws_text.specs.Walk.{Left, bytes, first}
 use Rattle.yaml_emit_laws_text.specs.Writable.{IsWritableAnchor, IsWritableTag}
 use Rattle.yaml_emit_laws_text.proofs.Bytes.{AreCalm}
 use Rattle.yaml_emit_laws_text.proofs.Places.{has_front, left_first, left_rest}
-use Rattle.yaml_scan_laws_levels.specs.Walks.{Where, Reads, Outside}
+use Rattle.yaml_scan_laws_levels.specs.Walks.{Where, WalkReads, Outside}
 use Rattle.yaml_scan_laws_levels.proofs.Slotting.{letter_columns}
 use Rattle.yaml_scan_laws_levels.proofs.Walking.{walk_says}
 use Rattle.yaml_emit_laws_scalars.specs.Stops.{begins_white}
-use Rattle.yaml_emit_laws_pretty.specs.Walk.{Stage, Walks}
+use Rattle.yaml_emit_laws_pretty.specs.Walk.{NodeStage, Walks}
 use Rattle.yaml_emit_laws_pretty.specs.Nodes.{IsPretty, PropertiesAreWalked}
-use Rattle.yaml_emit_laws_pretty.specs.Spoken.{Fits, Spoken, Says, spoken_bytes, all_bytes, all_bodies, AllFit}
+use Rattle.yaml_emit_laws_pretty.specs.Spoken.{Fits, Spoken, SaysTokens, spoken_bytes, all_bytes, all_bodies, AllFit}
 use Rattle.yaml_emit_laws_pretty.proofs.KeyColumns.{calm_columns}
 use Rattle.yaml_emit_laws_pretty.proofs.KeySteps.{spot_at, front}
 use Rattle.yaml_emit_laws_pretty.proofs.LeafWords.{WordsRun, ClearFor, outside_clear, content_word, content_words}
@@ -34,13 +34,13 @@ use Rattle.yaml_emit_laws_pretty.proofs.Singles.{bare_off}
 -- ---- stages
 
 stage_reads : (x : yaml_encoding_t) (text : List ℕ) (c : Cursor) (o : Where) (ls : List ℕ)
-    (T : List TokenBody → List TokenBody) → Stage x text c o ls [] T
-    → Reads x text (spot_at o.at o.line 0 o.now o.broken) [] ls [] T
-stage_reads x text c o ls T s = subst (λ i. Reads x text (spot_at o.at o.line i o.now o.broken) [] ls [] T) s.flat s.reads
+    (T : List TokenBody → List TokenBody) → NodeStage x text c o ls [] T
+    → WalkReads x text (spot_at o.at o.line 0 o.now o.broken) [] ls [] T
+stage_reads x text c o ls T s = subst (λ i. WalkReads x text (spot_at o.at o.line i o.now o.broken) [] ls [] T) s.flat s.reads
 
 run_stage : (x : yaml_encoding_t) (text : List ℕ) (e : ℕ) (ls : List ℕ)
     (T : List TokenBody → List TokenBody) (r : WordsRun x text e 0 [] ls T) (c : Cursor)
-    → c.bare ≡ false → Stage x text c (spot_at e r.line 0 false r.wide) ls [] T
+    → c.bare ≡ false → NodeStage x text c (spot_at e r.line 0 false r.wide) ls [] T
 run_stage x text e ls T r c bare = record { reads = r.reads; flat = refl; broken = r.block refl; bare = λ b. absurd (bare_off c.bare bare b); line = r.before }
 
 all_clear : (now : Bool) → ClearFor now 0 []
@@ -55,7 +55,7 @@ spaced_right text p n false own bs right l = let z : p + 0 ≡ p = omega arith i
 spaced_right text p n true own bs right l = let (next, line) = letter_columns text p 32 (left_first text p 32 (own ++ bs) l) (omega arith) (omega arith) in omega (arith, next, right)
 
 pub word_walks : (a : Layout) (c : Cursor) (ls : List ℕ) (w : Spoken false (indent ls))
-    (says : Says false (indent ls) a c (w ∷ [])) (rest : Rest)
+    (says : SaysTokens false (indent ls) a c (w ∷ [])) (rest : Rest)
     → Fits w.wants false (indent ls) (bytes (rest says.behind))
     → Walks a (λ bs. w.body ∷ bs) ls c rest
 word_walks a c ls w says rest fits x text o T s right l =
@@ -79,7 +79,7 @@ word_walks a c ls w says rest fits x text o T s right l =
 pub record Dressing (x : yaml_encoding_t) (text : List ℕ) (rest : Rest) (c : Cursor) (some : Bool) (ls : List ℕ) (T : List TokenBody → List TokenBody) : Type 0 where
   pub cursor : Cursor
   pub place : Where
-  pub stage : Stage x text cursor place ls [] T
+  pub stage : NodeStage x text cursor place ls [] T
   pub left : Left text place.at (bytes (rest cursor))
   pub right : indent ls ≤ column_at text place.at
   pub same : cursor.kept ≡ c.kept
@@ -90,7 +90,7 @@ dress_run : (ls : List ℕ) (ws : List (Spoken false (indent ls))) (c e : Cursor
     → Moved ws c e → has_words ws ≡ some → AreCalm (all_bytes ws) → e.kept ≡ c.kept → (rest : Rest)
     → (e.bare ≡ false → e.white ≡ false → AllFit ws (bytes (rest e)))
     → (x : yaml_encoding_t) (text : List ℕ) (o : Where) (T : List TokenBody → List TokenBody)
-    → Stage x text c o ls [] T → indent ls ≤ column_at text o.at
+    → NodeStage x text c o ls [] T → indent ls ≤ column_at text o.at
     → Left text o.at (all_bytes ws ++ bytes (rest e))
     → Dressing x text rest c some ls (λ bs. T (all_bodies ws bs))
 dress_run ls [] c e some moved is calm kept rest fits x text o T s right l = record {
@@ -139,7 +139,7 @@ pub dressed : (s : Settings) (o : Opening) → IsPretty s o → (a t : Option (L
     → ((e : Cursor) → e.bare ≡ false → e.white ≡ false → begins_white (bytes (rest e)) ≡ true)
     → (m ≡ true → (e : Cursor) → e.bare ≡ false → e.white ≡ false → first (bytes (rest e)) ≡ 32)
     → (x : yaml_encoding_t) (text : List ℕ) (w : Where) (T : List TokenBody → List TokenBody)
-    → Stage x text c w ls [] T → indent ls ≤ column_at text w.at
+    → NodeStage x text c w ls [] T → indent ls ≤ column_at text w.at
     → Left text w.at (bytes ((anchor_text a ▹
     (tag_text (context_of s o.directives) t ▹ when m (word (33 ∷ [])))) c rest))
     → Dressing x text rest c (has_some a (has_some t m)) ls

@@ -34,7 +34,7 @@ use Rattle.yaml_emit_laws_scalars.specs.StandsLaws.{PlainHasGap}
 use Rattle.yaml_emit_laws_scalars.specs.StylesLaws.{StylesAreAllowed}
 use Rattle.yaml_emit_laws_block.specs.Laws.{from_indicator, margin_round}
 use Rattle.yaml_emit_laws_pretty.specs.Bodies.{style_at, takes_mark, scalar_bodies, scalar_kept, node_bodies, node_kept}
-use Rattle.yaml_emit_laws_pretty.specs.Walk.{Stage, LinedUp, PlainIsWalked, SingleIsWalked}
+use Rattle.yaml_emit_laws_pretty.specs.Walk.{NodeStage, LinedUp, PlainIsWalked, SingleIsWalked}
 use Rattle.yaml_emit_laws_pretty.specs.Nodes.{Ending, NodeWalks, IsPretty, LeavesAreWalked, BlockScalarsAreWalked, block_spot, column_round, is_block}
 use Rattle.yaml_emit_laws_pretty.proofs.Following.{line_bytes, line_white}
 use Rattle.yaml_emit_laws_pretty.proofs.Lining.{line_ends}
@@ -119,7 +119,7 @@ scalar_shape s o pretty around q v c R =
 -- behind its properties
 abbrev TextLines : Settings → Opening → Option ℕ → Part → Scalar → Style → Type 0
 TextLines s o around q v st = (ls : List ℕ) (c : Cursor) (m : ℕ) (after : Rest) → indent ls ≡ margin_round around → m ≤ column_round around → Ending s.line_break m (indent ls) after
-    → (x : yaml_encoding_t) (text : List ℕ) (w : Where) (T : List TokenBody → List TokenBody) → Stage x text c w ls [] T → indent ls ≤ column_at text w.at
+    → (x : yaml_encoding_t) (text : List ℕ) (w : Where) (T : List TokenBody → List TokenBody) → NodeStage x text c w ls [] T → indent ls ≤ column_at text w.at
     → Left text w.at (bytes (scalar_text (page_at s (block_spot around q)) s.indent false st (chars v.value) c (λ e. line s.line_break m e after)))
     → LinedUp x text after m (scalar_kept st v.value c.kept) ls (λ bs. T (scalar_bodies false st v.value bs))
 

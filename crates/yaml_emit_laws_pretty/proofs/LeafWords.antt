@@ -12,7 +12,7 @@ use Rattle.yaml_emit_laws_text.specs.Walk.{Left}
 use Rattle.yaml_emit_laws_text.proofs.Places.{has_at, left_first, left_more, left_rest}
 use Rattle.yaml_scan_laws_order.proofs.MarksForward.{line_at-grows}
 use Rattle.yaml_scan_laws_levels.specs.Pushes.{IsRight}
-use Rattle.yaml_scan_laws_levels.specs.Walks.{Reads, LeaveClear, Outside}
+use Rattle.yaml_scan_laws_levels.specs.Walks.{WalkReads, LeaveClear, Outside}
 use Rattle.yaml_scan_laws_levels.proofs.Walking.{walk_white, walk_word, deeper_leaves}
 use Rattle.yaml_emit_laws_pretty.specs.Spoken.{is_text, Fits, Spoken, spoken_bytes, all_bytes, all_bodies, AllFit}
 use Rattle.yaml_emit_laws_pretty.proofs.KeySteps.{texty, stands_comes, stands_leaves, spot_at, front}
@@ -37,14 +37,14 @@ pub record WordsRun (x : yaml_encoding_t) (text : List ℕ) (e d : ℕ) (cs ls :
   pub line : ℕ
   pub wide : Bool
   pub block : nat_lt 0 d ≡ false → wide ≡ true
-  pub reads : Reads x text (spot_at e line d false wide) cs ls [] T
+  pub reads : WalkReads x text (spot_at e line d false wide) cs ls [] T
   pub before : line ≤ line_at text e
 
 -- a word where it stands
 word_here : (d : ℕ) (ls : List ℕ) (w : Spoken (nat_lt 0 d) (indent ls)) (bs : List ℕ)
     (x : yaml_encoding_t) (text : List ℕ) (q line : ℕ) (now broken : Bool) (cs : List ℕ)
     (T : List TokenBody → List TokenBody)
-    → Reads x text (spot_at q line d now broken) cs ls [] T → ClearFor now d cs
+    → WalkReads x text (spot_at q line d now broken) cs ls [] T → ClearFor now d cs
     → IsRight d ls (column_at text q) → Left text q (w.own ++ bs)
     → Fits w.wants (nat_lt 0 d) (indent ls) bs
     → WordsRun x text (q + length w.own) d cs ls (λ bs. T (w.body ∷ bs))
@@ -61,7 +61,7 @@ word_here d ls w bs x text q line now broken cs T reads clear right l fits =
       line = line_at text (q + 0);
       wide = s.wide;
       block = s.block;
-      reads = subst (λ i. Reads x text (spot_at e (line_at text (q + 0)) i false s.wide) cs ls [] (λ bs. T (w.body ∷ bs))) (t.same d) r;
+      reads = subst (λ i. WalkReads x text (spot_at e (line_at text (q + 0)) i false s.wide) cs ls [] (λ bs. T (w.body ∷ bs))) (t.same d) r;
       before = line_at-grows text (q + 0) e (omega arith);
     }
 
@@ -69,7 +69,7 @@ word_here d ls w bs x text q line now broken cs T reads clear right l fits =
 pub content_word : (d : ℕ) (ls : List ℕ) (w : Spoken (nat_lt 0 d) (indent ls)) (bs : List ℕ)
     (x : yaml_encoding_t) (text : List ℕ) (o line : ℕ) (now broken : Bool) (cs : List ℕ)
     (T : List TokenBody → List TokenBody)
-    → Reads x text (spot_at o line d now broken) cs ls [] T → ClearFor now d cs
+    → WalkReads x text (spot_at o line d now broken) cs ls [] T → ClearFor now d cs
     → IsRight d ls (column_at text (o + front w.spaced)) → Left text o (spoken_bytes w ++ bs)
     → Fits w.wants (nat_lt 0 d) (indent ls) bs
     → WordsRun x text (o + length (spoken_bytes w)) d cs ls (λ bs. T (w.body ∷ bs))
@@ -114,7 +114,7 @@ pub content_words : (d : ℕ) (ls : List ℕ) (w : Spoken (nat_lt 0 d) (indent l
     (ws : List (Spoken (nat_lt 0 d) (indent ls))) (bs : List ℕ) (x : yaml_encoding_t)
     (text : List ℕ) (o line : ℕ) (now broken : Bool) (cs : List ℕ)
     (T : List TokenBody → List TokenBody)
-    → Reads x text (spot_at o line d now broken) cs ls [] T → ClearFor now d cs
+    → WalkReads x text (spot_at o line d now broken) cs ls [] T → ClearFor now d cs
     → ((q : ℕ) → o ≤ q → q ≤ o + length (all_bytes (w ∷ ws)) → IsRight d ls (column_at text q))
     → Left text o (all_bytes (w ∷ ws) ++ bs) → AllFit (w ∷ ws) bs
     → WordsRun x text (o + length (all_bytes (w ∷ ws))) d cs ls

@@ -20,7 +20,7 @@ use Rattle.yaml_scan_laws_order.proofs.MarksForward.{line_at-grows}
 use Rattle.yaml_scan_laws_levels.specs.Walks.{Where}
 use Rattle.yaml_scan_laws_levels.proofs.Slotting.{letter_columns, feed_line}
 use Rattle.yaml_scan_laws_levels.proofs.Walking.{walk_white}
-use Rattle.yaml_emit_laws_pretty.specs.Walk.{Stage, NoFeed, Lined, LineIsWalked, LineEndsNode}
+use Rattle.yaml_emit_laws_pretty.specs.Walk.{NodeStage, NoFeed, Lined, LineIsWalked, LineEndsNode}
 use Rattle.yaml_emit_laws_text.proofs.Single.{line_start}
 
 pub first_byte : (text : List ℕ) (p : ℕ) (bs : List ℕ) → Left text p bs → byte text p ≡ first bs
@@ -35,7 +35,7 @@ line_on_to text p q i low up = let more = line_at-grows text p q up in omega (ar
 
 pub blanks_on : (n : ℕ) (x : yaml_encoding_t) (text : List ℕ) (c : Cursor) (o : Where)
     (ls more : List ℕ) (T : List TokenBody → List TokenBody) (rest : Rest)
-    → Stage x text c o ls more T → c.bare ≡ true → (n ≡ 0 → c.white ≡ true)
+    → NodeStage x text c o ls more T → c.bare ≡ true → (n ≡ 0 → c.white ≡ true)
     → Left text o.at (bytes (blanks n c rest)) → Lined x text rest (c.column + n) c.kept ls more T
 unfolding blanks
 blanks_on zero x text c o ls more T rest s bare white l = record { cursor = c; place = o; stage = s; left = l; bare = bare; white = white refl; column = omega arith; same = refl }
@@ -47,14 +47,14 @@ blanks_on (suc n) x text c o ls more T rest s bare white l =
     let (now, column) = s.bare bare in
     let (next, line_same) = letter_columns text o.at 32 here (omega arith) (omega arith) in
     let u : Where = record { at = o.at + 1; line = o.line; depth = o.depth; now = o.now || (false && o.broken); broken = o.broken } in
-    let t : Stage x text e u ls more T = record { reads = r; flat = s.flat; broken = s.broken; bare = λ b. (or_left o.now (false && o.broken) now, next ∙ ap (λ k. k + 1) column); line = line_on_to text o.at (o.at + 1) o.line s.line (omega arith) } in
+    let t : NodeStage x text e u ls more T = record { reads = r; flat = s.flat; broken = s.broken; bare = λ b. (or_left o.now (false && o.broken) now, next ∙ ap (λ k. k + 1) column); line = line_on_to text o.at (o.at + 1) o.line s.line (omega arith) } in
     let all = blanks_on n x text e u ls more T rest t bare (λ z. refl) (left_more text o.at 32 _ m) in
     record { cursor = all.cursor; place = all.place; stage = all.stage; left = all.left; bare = all.bare; white = all.white; column = all.column ∙ omega arith; same = all.same }
 
 -- spaces stay on later lines
 blanks_later : (n : ℕ) (x : yaml_encoding_t) (text : List ℕ) (c : Cursor) (o : Where)
     (ls more : List ℕ) (T : List TokenBody → List TokenBody) (rest : Rest)
-    (s : Stage x text c o ls more T) (bare : c.bare ≡ true) (white : n ≡ 0 → c.white ≡ true)
+    (s : NodeStage x text c o ls more T) (bare : c.bare ≡ true) (white : n ≡ 0 → c.white ≡ true)
     (l : Left text o.at (bytes (blanks n c rest))) → o.line < line_at text o.at
     → let all = blanks_on n x text c o ls more T rest s bare white l in
     all.place.line < line_at text all.place.at
@@ -76,7 +76,7 @@ first_blank (suc n) c m rest none bare white column e =
 
 record Broken (x : yaml_encoding_t) (text : List ℕ) (c : Cursor) (rest : Rest) (ls more : List ℕ) (T : List TokenBody → List TokenBody) : Type 0 where
   place : Where
-  stage : Stage x text (line_start c) place ls more T
+  stage : NodeStage x text (line_start c) place ls more T
   left : Left text place.at (bytes (rest (line_start c)))
   later : place.line < line_at text place.at
 
@@ -93,7 +93,7 @@ behind_white o n = record { at = o.at + n; line = o.line; depth = o.depth; now =
 
 break_on : (b : LineBreak) (x : yaml_encoding_t) (text : List ℕ) (c : Cursor) (o : Where)
     (ls more : List ℕ) (T : List TokenBody → List TokenBody) (rest : Rest)
-    → Stage x text c o ls more T → (first (bytes (rest (line_start c))) ≡ 10 → ⊥)
+    → NodeStage x text c o ls more T → (first (bytes (rest (line_start c))) ≡ 10 → ⊥)
     → Left text o.at (bytes (new_line b c rest)) → Broken x text c rest ls more T
 break_on Lf x text c o ls more T rest s none l =
     let m = left_letter text o.at 10 _ refl l in

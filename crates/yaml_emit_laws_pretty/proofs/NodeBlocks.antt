@@ -23,7 +23,7 @@ use Rattle.yaml_scan_laws_levels.specs.Walks.{Where}
 use Rattle.yaml_emit_laws_scalars.specs.Stops.{begins_white}
 use Rattle.yaml_emit_laws_block.specs.Laws.{margin_round}
 use Rattle.yaml_emit_laws_pretty.specs.Bodies.{keeps, is_bare, is_flow_at, node_bodies, items_bodies, pairs_bodies, sequence_opens, sequence_closes, mapping_opens, mapping_closes, node_kept, items_kept, pairs_kept}
-use Rattle.yaml_emit_laws_pretty.specs.Walk.{Stage, LinedUp}
+use Rattle.yaml_emit_laws_pretty.specs.Walk.{NodeStage, LinedUp}
 use Rattle.yaml_emit_laws_pretty.specs.Nodes.{Ending, NodeWalks, IsPretty, PropertiesAreWalked, PartedBehind, block_spot, column_round, is_place}
 use Rattle.yaml_emit_laws_pretty.proofs.NodeLines.{line_begins_white, word_begins_white, up_says}
 use Rattle.yaml_emit_laws_pretty.proofs.NodeItems.{MoreItems, sequence_walks, loose_walks}
@@ -36,7 +36,7 @@ use Rattle.yaml_emit_laws_scalars.proofs.NearKeys.{kept_writable}
 record Opened (x : yaml_encoding_t) (text : List ℕ) (rest : Rest) (kept bare : Bool) (ls : List ℕ) (T : List TokenBody → List TokenBody) : Type 0 where
   cursor : Cursor
   place : Where
-  stage : Stage x text cursor place ls [] T
+  stage : NodeStage x text cursor place ls [] T
   left : Left text place.at (bytes (rest cursor))
   right : indent ls ≤ column_at text place.at
   same : cursor.kept ≡ kept
@@ -46,7 +46,7 @@ opens_on : PropertiesAreWalked → (s : Settings) (d : Opening) → IsPretty s d
     → (a t : Option (List ℕ)) → IsWritableAnchor a → IsWritableTag t
     → (ls : List ℕ) (c : Cursor) (rest : Rest) → PartedBehind rest
     → (x : yaml_encoding_t) (text : List ℕ) (o : Where) (T : List TokenBody → List TokenBody)
-    → Stage x text c o ls [] T → indent ls ≤ column_at text o.at
+    → NodeStage x text c o ls [] T → indent ls ≤ column_at text o.at
     → Left text o.at (bytes (properties_text (context_of s d.directives) a t c rest))
     → Opened x text rest c.kept (c.bare && is_bare a t) ls
     (λ bs. T (anchor_bodies a (tag_bodies d.directives t bs)))
@@ -141,7 +141,7 @@ items_on : (p : Context) (around : Option ℕ) (q : Part) (loose : Bool) (y : No
     → 1 < p.settings.indent → is_place around q ≡ true → ItemsWalk p y ys
     → (x : yaml_encoding_t) (text : List ℕ) (c : Cursor) (o : Where) (ls : List ℕ) (m : ℕ)
     (after : Rest) (T : List TokenBody → List TokenBody)
-    → Stage x text c o ls [] T → indent ls ≡ margin_round around → m ≤ column_round around
+    → NodeStage x text c o ls [] T → indent ls ≡ margin_round around → m ≤ column_round around
     → Ending p.settings.line_break m (indent ls) after → (is_of_mapping q && not c.bare) ≡ loose
     → Left text o.at (bytes (items_layout p false (block_indent_in p.settings around loose) true
     (node y ys) c (λ e. line p.settings.line_break m e after)))
@@ -214,7 +214,7 @@ pairs_on : (p : Context) (around : Option ℕ) (k v : Node) (ps : Pairs) → 1 <
     → BothWalk p k v ps
     → (x : yaml_encoding_t) (text : List ℕ) (c : Cursor) (o : Where) (ls : List ℕ) (m : ℕ)
     (after : Rest) (T : List TokenBody → List TokenBody)
-    → Stage x text c o ls [] T → indent ls ≡ margin_round around → m ≤ column_round around
+    → NodeStage x text c o ls [] T → indent ls ≡ margin_round around → m ≤ column_round around
     → Ending p.settings.line_break m (indent ls) after
     → Left text o.at (bytes (pairs_layout p false (block_indent_in p.settings around false) true
     (pair k v ps) c (λ e. line p.settings.line_break m e after)))

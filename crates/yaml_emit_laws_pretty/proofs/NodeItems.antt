@@ -19,7 +19,7 @@ use Rattle.yaml_scan_laws_levels.proofs.Slotting.{level_opens}
 use Rattle.yaml_scan_laws_levels.proofs.Walking.{levels_part}
 use Rattle.yaml_emit_laws_scalars.specs.Stops.{begins_white}
 use Rattle.yaml_emit_laws_pretty.specs.Bodies.{node_bodies, items_bodies, node_kept, items_kept}
-use Rattle.yaml_emit_laws_pretty.specs.Walk.{Stage, Lined, LinedUp, Entry}
+use Rattle.yaml_emit_laws_pretty.specs.Walk.{NodeStage, Lined, LinedUp, Entry}
 use Rattle.yaml_emit_laws_pretty.specs.Nodes.{Ending, NodeWalks}
 use Rattle.yaml_emit_laws_pretty.proofs.Lining.{line_on}
 use Rattle.yaml_emit_laws_pretty.proofs.Entries.{mark_on}
@@ -106,7 +106,7 @@ more_item p n y xs walk others x text kept now m after T last up ending line =
 -- from the line of the first item on
 sequence_line : (p : Context) (n : ℕ) (y : Node) (xs : Nodes) (x : yaml_encoding_t) (text : List ℕ)
     (c : Cursor) (o : Where) (ls : List ℕ) (m : ℕ) (after : Rest)
-    (T : List TokenBody → List TokenBody) → Stage x text c o ls [] T
+    (T : List TokenBody → List TokenBody) → NodeStage x text c o ls [] T
     → Left text o.at (bytes (items_layout p false n true (node y xs) c
     (λ e. line p.settings.line_break m e after)))
     → Lined x text (items_after p n m after (node y xs)) n c.kept ls [] T
@@ -124,7 +124,7 @@ pub sequence_walks : (p : Context) (n : ℕ) (y : Node) (xs : Nodes)
     → NodeWalks p (Some n) part.Item true y → MoreItems p n xs
     → (x : yaml_encoding_t) (text : List ℕ) (c : Cursor) (o : Where) (ls : List ℕ) (m : ℕ)
     (after : Rest) (T : List TokenBody → List TokenBody)
-    → Stage x text c o ls [] T → indent ls < n + 1 → m ≤ n
+    → NodeStage x text c o ls [] T → indent ls < n + 1 → m ≤ n
     → Ending p.settings.line_break m (indent ls) after
     → Left text o.at (bytes (items_layout p false n true (node y xs) c
     (λ e. line p.settings.line_break m e after)))
@@ -144,7 +144,7 @@ pub loose_walks : (p : Context) (n : ℕ) (y : Node) (xs : Nodes)
     → NodeWalks p (Some n) part.Item true y → MoreItems p n xs
     → (x : yaml_encoding_t) (text : List ℕ) (c : Cursor) (o : Where) (ls : List ℕ) (m : ℕ)
     (after : Rest) (T : List TokenBody → List TokenBody)
-    → Stage x text c o ls [] T → indent ls ≡ n + 1 → m ≤ n
+    → NodeStage x text c o ls [] T → indent ls ≡ n + 1 → m ≤ n
     → Ending p.settings.line_break m (indent ls) after
     → Left text o.at (bytes (items_layout p false n true (node y xs) c
     (λ e. line p.settings.line_break m e after)))

@@ -16,8 +16,8 @@ use Rattle.yaml_emit_laws_text.specs.Walk.{bytes}
 use Rattle.yaml_emit_laws_text.proofs.Steps.{letter_low}
 use Rattle.yaml_scan_laws_levels.proofs.Walking.{walk_ends, walk_says}
 use Rattle.yaml_emit_laws_scalars.specs.Stops.{begins_white, begins_solid}
-use Rattle.yaml_emit_laws_pretty.specs.Walk.{LinedUp, Mark, Entry, Question, Answer, mark_byte, no_comment}
-use Rattle.yaml_emit_laws_pretty.specs.Nodes.{Shows}
+use Rattle.yaml_emit_laws_pretty.specs.Walk.{LinedUp, BareIndicator, Entry, Question, Answer, mark_byte, no_comment}
+use Rattle.yaml_emit_laws_pretty.specs.Nodes.{ShowsNode}
 
 -- ---- white
 
@@ -69,24 +69,25 @@ indicator_bytes b rest e low white =
     let k : Rest = λ c. letter b ∷ rest (record { column = c.column + 1; white = false; bare = c.bare; kept = c.kept }) in
     ap (λ (t : Bool). bytes (if t then k e else blank e k)) white ∙ letter_low b (rest (record { column = e.column + 1; white = false; bare = e.bare; kept = e.kept })) low
 
-mark_solid : (k : Mark) (bs : List ℕ) → begins_solid (mark_byte k ∷ bs) ≡ true
+mark_solid : (k : BareIndicator) (bs : List ℕ) → begins_solid (mark_byte k ∷ bs) ≡ true
 unfolding break_of
 mark_solid Entry bs = refl
 mark_solid Question bs = refl
 mark_solid Answer bs = refl
 
-mark_calm : (k : Mark) (bs : List ℕ) → no_comment (mark_byte k ∷ bs) ≡ true
+mark_calm : (k : BareIndicator) (bs : List ℕ) → no_comment (mark_byte k ∷ bs) ≡ true
 unfolding no_comment
 mark_calm Entry bs = refl
 mark_calm Question bs = refl
 mark_calm Answer bs = refl
 
-pub mark_small : (k : Mark) → nat_lt (mark_byte k) 128 ≡ true
+pub mark_small : (k : BareIndicator) → nat_lt (mark_byte k) 128 ≡ true
 mark_small Entry = refl
 mark_small Question = refl
 mark_small Answer = refl
 
-pub mark_shows : (k : Mark) (n : ℕ) (rest : Rest) → Shows n (λ e. indicator (mark_byte k) e rest)
+pub mark_shows : (k : BareIndicator) (n : ℕ) (rest : Rest)
+    → ShowsNode n (λ e. indicator (mark_byte k) e rest)
 mark_shows k n rest = record {
   solid = λ e bare white column. ap (λ bs. begins_solid bs) (indicator_bytes (mark_byte k) rest e (mark_small k) white) ∙ mark_solid k (bytes (rest (record { column = e.column + 1; white = false; bare = e.bare; kept = e.kept })));
   calm = λ e bare white column. ap (λ bs. no_comment bs) (indicator_bytes (mark_byte k) rest e (mark_small k) white) ∙ mark_calm k (bytes (rest (record { column = e.column + 1; white = false; bare = e.bare; kept = e.kept })));

@@ -21,8 +21,8 @@ use Rattle.yaml_scan_laws_levels.proofs.Slotting.{level_opens}
 use Rattle.yaml_scan_laws_levels.proofs.Walking.{levels_part}
 use Rattle.yaml_emit_laws_scalars.specs.Stops.{begins_white}
 use Rattle.yaml_emit_laws_pretty.specs.Bodies.{node_bodies, pairs_bodies, node_kept, pairs_kept}
-use Rattle.yaml_emit_laws_pretty.specs.Walk.{Stage, Lined, LinedUp, Question, Answer}
-use Rattle.yaml_emit_laws_pretty.specs.Nodes.{Shows, Ending, NodeWalks, KeyWalks}
+use Rattle.yaml_emit_laws_pretty.specs.Walk.{NodeStage, Lined, LinedUp, Question, Answer}
+use Rattle.yaml_emit_laws_pretty.specs.Nodes.{ShowsNode, Ending, NodeWalks, KeyWalks}
 use Rattle.yaml_emit_laws_pretty.proofs.Lining.{line_on}
 use Rattle.yaml_emit_laws_pretty.proofs.Entries.{mark_on}
 use Rattle.yaml_emit_laws_pretty.proofs.Following.{shown_ends, shows_no_feed, ending_up}
@@ -98,10 +98,10 @@ value_parted p n m after k v ps walk e white =
     ap (λ (r : Rest). begins_white (bytes (node_layout p (spot false n part.Value) v e r))) (pairs_line p n m after ps) ∙ (walk.value false).white e (pairs_column n m ps) (pairs_after p n m after ps) white
 
 pair_shows : (p : Context) (n m : ℕ) (after : Rest) (k v : Node) (ps : Pairs) → PairWalks p n k v
-    → Shows n (pair_rest p n m after k v ps (is_simple p k))
+    → ShowsNode n (pair_rest p n m after k v ps (is_simple p k))
 pair_shows p n m after k v ps walk = elim (cases_Bool (is_simple p k)) [
-  | inl e ↦ subst (λ (r : Rest). Shows n r) (sym (pair_simple p n m after k v ps (is_simple p k) e)) ((walk.simple e).shows n (value_rest p n m after v ps) (λ d bare white. value_parted p n m after k v ps walk d white))
-  | inr e ↦ subst (λ (r : Rest). Shows n r) (sym (pair_asks p n m after k v ps (is_simple p k) e)) (mark_shows Question n (asked_rest p n m after k v ps))
+  | inl e ↦ subst (λ (r : Rest). ShowsNode n r) (sym (pair_simple p n m after k v ps (is_simple p k) e)) ((walk.simple e).shows n (value_rest p n m after v ps) (λ d bare white. value_parted p n m after k v ps walk d white))
+  | inr e ↦ subst (λ (r : Rest). ShowsNode n r) (sym (pair_asks p n m after k v ps (is_simple p k) e)) (mark_shows Question n (asked_rest p n m after k v ps))
 ]
 
 -- all pairs
@@ -122,7 +122,7 @@ value_on : (p : Context) (n : ℕ) (k v : Node) (ps : Pairs) (bare : Bool) → P
     → PairsWalk p n ps
     → (x : yaml_encoding_t) (text : List ℕ) (c : Cursor) (o : Where) (kept : Bool) (new : List ℕ)
     (m : ℕ) (after : Rest) (U : List TokenBody → List TokenBody)
-    → Stage x text c o new [] U → c.bare ≡ bare → c.kept ≡ kept → indent new ≤ column_at text o.at
+    → NodeStage x text c o new [] U → c.bare ≡ bare → c.kept ≡ kept → indent new ≤ column_at text o.at
     → indent new ≡ n + 1 → m ≤ n → Ending p.settings.line_break m (n + 1) after
     → Left text o.at (bytes (value_rest p n m after v ps c))
     → LinedUp x text (pairs_after p n m after ps) (pairs_column n m ps)
@@ -236,7 +236,7 @@ all_pairs p n (pair k v ps) (one, all) = pairs_more p n k v ps one all (all_pair
 
 mapping_line : (p : Context) (n : ℕ) (k v : Node) (ps : Pairs) → PairWalks p n k v
     → (x : yaml_encoding_t) (text : List ℕ) (c : Cursor) (o : Where) (ls : List ℕ) (m : ℕ)
-    (after : Rest) (T : List TokenBody → List TokenBody) → Stage x text c o ls [] T
+    (after : Rest) (T : List TokenBody → List TokenBody) → NodeStage x text c o ls [] T
     → Left text o.at (bytes (pairs_layout p false n true (pair k v ps) c
     (λ e. line p.settings.line_break m e after)))
     → Lined x text (pairs_after p n m after (pair k v ps)) n c.kept ls [] T
@@ -249,7 +249,7 @@ pub mapping_walks : (p : Context) (n : ℕ) (k v : Node) (ps : Pairs) → PairWa
     → PairsWalk p n ps
     → (x : yaml_encoding_t) (text : List ℕ) (c : Cursor) (o : Where) (ls : List ℕ) (m : ℕ)
     (after : Rest) (T : List TokenBody → List TokenBody)
-    → Stage x text c o ls [] T → indent ls < n + 1 → m ≤ n
+    → NodeStage x text c o ls [] T → indent ls < n + 1 → m ≤ n
     → Ending p.settings.line_break m (indent ls) after
     → Left text o.at (bytes (pairs_layout p false n true (pair k v ps) c
     (λ e. line p.settings.line_break m e after)))

@@ -19,13 +19,13 @@ use Rattle.yaml_emit_laws_scalars.specs.Stops.{begins_white}
 use Rattle.yaml_emit_laws_scalars.specs.StandsLaws.{PlainHasGap}
 use Rattle.yaml_emit_laws_scalars.specs.PlainLaws.{may_be_plain}
 use Rattle.yaml_emit_laws_pretty.specs.Bodies.{scalar_bodies}
-use Rattle.yaml_emit_laws_pretty.specs.Walk.{Goes, Walks, Follows, PlainIsWalked}
+use Rattle.yaml_emit_laws_pretty.specs.Walk.{GoesBehindNode, Walks, Follows, PlainIsWalked}
 
 -- ---- the same tokens, the same layout
 
 says_as : (x : yaml_encoding_t) (text : List ℕ) (rest : Rest) (kept : Bool) (ls : List ℕ)
-    (T U : List TokenBody → List TokenBody) → Goes x text rest kept ls T
-    → ((bs : List TokenBody) → T bs ≡ U bs) → Goes x text rest kept ls U
+    (T U : List TokenBody → List TokenBody) → GoesBehindNode x text rest kept ls T
+    → ((bs : List TokenBody) → T bs ≡ U bs) → GoesBehindNode x text rest kept ls U
 says_as x text rest kept ls T U g e = record {
   behind = g.behind;
   place = g.place;

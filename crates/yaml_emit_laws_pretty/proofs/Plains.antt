@@ -33,7 +33,7 @@ use Rattle.yaml_emit_laws_scalars.specs.Stops.{white_of, is_gap_byte}
 use Rattle.yaml_emit_laws_scalars.specs.PlainLaws.{may_be_plain}
 use Rattle.yaml_emit_laws_scalars.specs.StandsLaws.{PlainHasGap, PlainStands, ScalarsAreWords}
 use Rattle.yaml_emit_laws_scalars.proofs.Stopping.{stops_end}
-use Rattle.yaml_emit_laws_pretty.specs.Walk.{Stage, Walks, Follows, no_comment, PlainIsWalked}
+use Rattle.yaml_emit_laws_pretty.specs.Walk.{NodeStage, Walks, Follows, no_comment, PlainIsWalked}
 use Rattle.yaml_emit_laws_pretty.proofs.Lining.{first_byte, line_on_to}
 use Rattle.yaml_emit_laws_pretty.proofs.Entries.{no_gap}
 
@@ -50,7 +50,7 @@ walks_gap a B ls c rest w x text o T s right l =
           let r = walk_white x text o [] ls [] T (32 ∷ []) s.reads (has_at text o.at (32 ∷ []) (here, tt)) refl in
           let (next, line_same) = letter_columns text o.at 32 here (omega arith) (omega arith) in
           let u : Where = record { at = o.at + 1; line = o.line; depth = o.depth; now = o.now || (false && o.broken); broken = o.broken } in
-          let t : Stage x text d u ls [] T = record { reads = r; flat = s.flat; broken = s.broken; bare = λ b. let (now, column) = s.bare b in (or_left o.now (false && o.broken) now, next ∙ ap (λ k. k + 1) column); line = line_on_to text o.at (o.at + 1) o.line s.line (omega arith) } in
+          let t : NodeStage x text d u ls [] T = record { reads = r; flat = s.flat; broken = s.broken; bare = λ b. let (now, column) = s.bare b in (or_left o.now (false && o.broken) now, next ∙ ap (λ k. k + 1) column); line = line_on_to text o.at (o.at + 1) o.line s.line (omega arith) } in
           w d x text u T t (omega (arith, next, right)) (left_more text o.at 32 _ m)
     ]
 

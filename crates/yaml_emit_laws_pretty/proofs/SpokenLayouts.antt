@@ -27,7 +27,7 @@ use Rattle.yaml_emit_laws_text.proofs.Words.{front_encodes, lettered_on}
 use Rattle.yaml_emit_laws_scalars.specs.PlainLaws.{PlainIsReadBack, may_be_plain}
 use Rattle.yaml_emit_laws_scalars.specs.SingleLaws.{SingleLinesAreReadBack}
 use Rattle.yaml_emit_laws_scalars.specs.StandsLaws.{PlainHasGap, ScalarsAreWords}
-use Rattle.yaml_emit_laws_pretty.specs.Spoken.{Spoken, Says}
+use Rattle.yaml_emit_laws_pretty.specs.Spoken.{Spoken, SaysTokens}
 use Rattle.yaml_emit_laws_pretty.proofs.SpokenWords.{anchor_word, alias_word, tag_word, mark_word, double_word, single_word, plain_word}
 use Rattle.yaml_emit_laws_text.proofs.Ascii.{alphas_ascii}
 use Rattle.yaml_emit_laws_pretty.proofs.FlowSigns.{behind_gap}
@@ -45,7 +45,7 @@ pub record Wrote (a : Layout) (c : Cursor) (own : List ℕ) : Type 0 where
 gap_case : (flow : Bool) (level : ℕ) (a : Layout) (make : Bool → Cursor → Spoken flow level)
     → ((b : Bool) (d : Cursor) → (make b d).spaced ≡ b)
     → ((b : Bool) (d : Cursor) → Wrote a d (make b d).own) → (c : Cursor) (b : Bool)
-    → Says flow level (λ e rest. if b then a e rest else blank e (λ d. a d rest)) c
+    → SaysTokens flow level (λ e rest. if b then a e rest else blank e (λ d. a d rest)) c
     (make (not b) (behind_gap b c) ∷ [])
 gap_case flow level a make spaced wrote c true =
     let w = make false c in
@@ -75,7 +75,7 @@ gap_case flow level a make spaced wrote c false =
 pub gap_says : (flow : Bool) (level : ℕ) (a : Layout) (make : Bool → Cursor → Spoken flow level)
     → ((b : Bool) (d : Cursor) → (make b d).spaced ≡ b)
     → ((b : Bool) (d : Cursor) → Wrote a d (make b d).own) → (c : Cursor)
-    → Says flow level (gap ▹ a) c (make (not c.white) (behind_gap c.white c) ∷ [])
+    → SaysTokens flow level (gap ▹ a) c (make (not c.white) (behind_gap c.white c) ∷ [])
 gap_says flow level a make spaced wrote c =
     let r = gap_case flow level a make spaced wrote c c.white in
     record { behind = r.behind; written = λ rest. r.written rest; bare = r.bare; white = r.white; kept = r.kept }
@@ -118,24 +118,24 @@ letters_wrote x xs low c =
 
 pub anchor_says : (names : AnchorReads) (flow : Bool) (level : ℕ) (name : List ℕ)
     (good : IsWritableName name) (c : Cursor)
-    → Says flow level (word (38 ∷ name)) c
+    → SaysTokens flow level (word (38 ∷ name)) c
     (anchor_word names flow level (not c.white) name good ∷ [])
 anchor_says names flow level name good c = gap_says flow level (letters (38 ∷ name)) (λ b d. anchor_word names flow level b name good) (λ b d. refl) (λ b d. letters_wrote 38 name (alphas_ascii name good.1) d) c
 
 pub alias_says : (names : AnchorReads) (flow : Bool) (level : ℕ) (name : List ℕ)
     (good : IsWritableName name) (c : Cursor)
-    → Says flow level (word (42 ∷ name)) c
+    → SaysTokens flow level (word (42 ∷ name)) c
     (alias_word names flow level (not c.white) name good ∷ [])
 alias_says names flow level name good c = gap_says flow level (letters (42 ∷ name)) (λ b d. alias_word names flow level b name good) (λ b d. refl) (λ b d. letters_wrote 42 name (alphas_ascii name good.1) d) c
 
 pub mark_says : (lone : LoneMarkReads) (flow : Bool) (level : ℕ) (c : Cursor)
-    → Says flow level (word (33 ∷ [])) c (mark_word lone flow level (not c.white) ∷ [])
+    → SaysTokens flow level (word (33 ∷ [])) c (mark_word lone flow level (not c.white) ∷ [])
 mark_says lone flow level c = gap_says flow level (letters (33 ∷ [])) (λ b d. mark_word lone flow level b) (λ b d. refl) (λ b d. letters_wrote 33 [] refl d) c
 
 pub tag_says : (split : SplitTagsAreRead) (ascii : ReadableTagsAreAscii)
     (readable : WrittenTagsAreReadable) (flow : Bool) (level : ℕ) (o : Opening)
     (fine : IsWritableOpening o) (t : List ℕ) (good : IsWritableTag (Some t)) (c : Cursor)
-    → Says flow level (word (tag_spelling o.directives t)) c
+    → SaysTokens flow level (word (tag_spelling o.directives t)) c
     (tag_word split ascii readable flow level (not c.white) o fine t good ∷ [])
 tag_says split ascii readable flow level o fine t good c =
     let s = split_tag o.directives t in
@@ -180,7 +180,7 @@ double_wrote page c value r = record {
 
 pub double_says : (quoted : QuotedIsReadBack) (flow : Bool) (level : ℕ) (page : Page)
     (value : List ℕ) (u : IsUtf8 value) (deep : 0 < page.indentation) (c : Cursor)
-    → Says flow level (double_quoted page (chars value)) c
+    → SaysTokens flow level (double_quoted page (chars value)) c
     (double_word flow level (not c.white) page (behind_gap c.white c) value
     (quoted page (behind_gap c.white c) value u (λ cuts. deep)) ∷ [])
 double_says quoted flow level page value u deep c =
@@ -189,7 +189,7 @@ double_says quoted flow level page value u deep c =
 pub single_says : (singles : SingleLinesAreReadBack) (words : ScalarsAreWords) (flow : Bool)
     (level : ℕ) (page : Page) (value : List ℕ) (u : IsUtf8 value) (deep : 0 < page.indentation)
     (may : (allowed page.unicode (chars value)).single ≡ true) (c : Cursor)
-    → Says flow level (single_quoted page (chars value)) c
+    → SaysTokens flow level (single_quoted page (chars value)) c
     (single_word words flow level (not c.white) page (behind_gap c.white c) value
     (singles page (behind_gap c.white c) value u (λ cuts. deep) (λ lines. deep) may) ∷ [])
 single_says singles words flow level page value u deep may c =
@@ -201,11 +201,11 @@ pub plain_says : (gaps : PlainHasGap) (plains : PlainIsReadBack) (words : Scalar
     (flow : Bool) (level : ℕ) (page : Page) (value : List ℕ) (u : IsUtf8 value)
     (some : 0 < length value) (may : may_be_plain page.unicode flow (chars value) ≡ true)
     (deep : 0 < page.indentation) (far : level ≤ page.indentation) (c : Cursor)
-    → Says flow level (plain page flow (chars value)) c
+    → SaysTokens flow level (plain page flow (chars value)) c
     (plain_word words flow level (not c.white) page (behind_gap c.white c) value
     (plains page flow level (behind_gap c.white c) value u some may deep far) ∷ [])
 plain_says gaps plains words flow level page value u some may deep far c =
-    subst (λ (a : Layout). Says flow level a c (plain_word words flow level (not c.white) page (behind_gap c.white c) value (plains page flow level (behind_gap c.white c) value u some may deep far) ∷ [])) (sym (gaps page flow value u some))
+    subst (λ (a : Layout). SaysTokens flow level a c (plain_word words flow level (not c.white) page (behind_gap c.white c) value (plains page flow level (behind_gap c.white c) value u some may deep far) ∷ [])) (sym (gaps page flow value u some))
     (gap_says flow level (flow_body page false 32 (chars value) ▹ after_text) (λ b d. plain_word words flow level b page d value (plains page flow level d value u some may deep far)) (λ b d. refl)
     (λ b d. let r = plains page flow level d value u some may deep far in
     record { behind = r.behind; written = λ rest. ap (λ (t : List Item). bytes t) (r.written rest) ∙ front_encodes r.letters (rest r.behind); bare = r.bare; white = r.white; kept = r.kept }) c)

@@ -12,7 +12,7 @@ use Rattle.yaml_emit_laws_text.specs.emit_layout.Content.{Opening, Node}
 use Rattle.yaml_emit_laws_text.specs.emit_layout.Nodes.{Context, context_of, spot, is_simple, node_layout}
 use Rattle.yaml_emit_laws_text.specs.Walk.{Left, bytes}
 use Rattle.yaml_emit_laws_text.specs.Writable.{IsWritable}
-use Rattle.yaml_scan_laws_levels.specs.Walks.{Where, Reads, Outside}
+use Rattle.yaml_scan_laws_levels.specs.Walks.{Where, WalkReads, Outside}
 use Rattle.yaml_emit_laws_scalars.specs.Stops.{stops_plain_at}
 use Rattle.yaml_emit_laws_pretty.specs.Bodies.{node_bodies}
 use Rattle.yaml_emit_laws_pretty.specs.Walk.{no_comment}
@@ -29,7 +29,7 @@ pub record GoesIn (x : yaml_encoding_t) (text : List ℕ) (rest : Rest) (kept : 
     (cs ls : List ℕ) (T : List TokenBody → List TokenBody) : Type 0 where
   pub behind : Cursor
   pub place : Where
-  pub reads : Reads x text place cs ls [] T
+  pub reads : WalkReads x text place cs ls [] T
   pub deep : place.depth ≡ d
   pub now : place.now ≡ false
   pub left : Left text place.at (bytes (rest behind))
@@ -40,7 +40,7 @@ pub record GoesIn (x : yaml_encoding_t) (text : List ℕ) (rest : Rest) (kept : 
 -- Where a text goes on as the layout does and then as `rest`, in brackets, these tokens come.
 abbrev pub WalksIn : Layout → (List TokenBody → List TokenBody) → List ℕ → Cursor → Rest → Type 0
 WalksIn a B ls c rest = (x : yaml_encoding_t) (text : List ℕ) (o : Where) (cs : List ℕ)
-    (T : List TokenBody → List TokenBody) → Reads x text o cs ls [] T → nat_lt 0 o.depth ≡ true
+    (T : List TokenBody → List TokenBody) → WalkReads x text o cs ls [] T → nat_lt 0 o.depth ≡ true
     → IsClear o cs → Left text o.at (bytes (a c rest))
     → GoesIn x text rest c.kept o.depth cs ls (λ bs. T (B bs))
 
@@ -59,7 +59,7 @@ abbrev pub KeyWalksIn : Context → Node → Type 0
 KeyWalksIn p k = (n : ℕ) (ls : List ℕ) (c : Cursor) (rest : Rest) → indent ls ≤ n
     → PartedBehind rest
     → (x : yaml_encoding_t) (text : List ℕ) (o : Where) (cs : List ℕ)
-    (T : List TokenBody → List TokenBody) → Reads x text o cs ls [] T → nat_lt 0 o.depth ≡ true
+    (T : List TokenBody → List TokenBody) → WalkReads x text o cs ls [] T → nat_lt 0 o.depth ≡ true
     → o.now ≡ true → Outside o.depth cs
     → Left text o.at (bytes ((node_layout p (spot true n part.SimpleKey) k ▹ char 58) c rest))
     → GoesIn x text rest c.kept o.depth cs ls (λ bs. T (tokens.key

@@ -29,13 +29,13 @@ use Rattle.yaml_emit_laws_scalars.specs.Stops.{begins_white, begins_solid}
 use Rattle.yaml_emit_laws_block.specs.Laws.{margin_round}
 use Rattle.yaml_emit_laws_block.specs.Passed.{begins_white as begins_blank}
 use Rattle.yaml_emit_laws_pretty.specs.Bodies.{style_at, is_flow_at, node_bodies, node_kept}
-use Rattle.yaml_emit_laws_pretty.specs.Walk.{Stage, Lined, LinedUp, Follows, NoFeed, no_comment}
+use Rattle.yaml_emit_laws_pretty.specs.Walk.{NodeStage, Lined, LinedUp, Follows, NoFeed, no_comment}
 use Rattle.yaml_emit_laws_pretty.specs.KeyLaws.{Keyed}
 
 -- ---- what stands behind a node
 
 -- What stands behind a line is neither white nor a comment.
-pub record Shows (n : ℕ) (rest : Rest) : Type 0 where
+pub record ShowsNode (n : ℕ) (rest : Rest) : Type 0 where
   pub solid : (e : Cursor) → e.bare ≡ true → e.white ≡ true → e.column ≡ n
       → begins_solid (bytes (rest e)) ≡ true
   pub calm : (e : Cursor) → e.bare ≡ true → e.white ≡ true → e.column ≡ n
@@ -51,7 +51,7 @@ pub record Ending (b : LineBreak) (m level : ℕ) (after : Rest) : Type 0 where
 
 -- What shows ends what stands in a level right of it.
 abbrev pub ShownEnds : Type 0
-ShownEnds = (b : LineBreak) (n : ℕ) (after : Rest) → Shows n after → Ending b n (n + 1) after
+ShownEnds = (b : LineBreak) (n : ℕ) (after : Rest) → ShowsNode n after → Ending b n (n + 1) after
 
 -- ---- nodes
 
@@ -85,7 +85,7 @@ pub record NodeWalks (p : Context) (around : Option ℕ) (q : Part) (bare : Bool
       → indent ls ≡ margin_round around → m ≤ column_round around
       → Ending p.settings.line_break m (indent ls) after
       → (x : yaml_encoding_t) (text : List ℕ) (o : Where) (T : List TokenBody → List TokenBody)
-      → Stage x text c o ls [] T → indent ls ≤ column_at text o.at
+      → NodeStage x text c o ls [] T → indent ls ≤ column_at text o.at
       → Left text o.at (bytes (node_layout p (block_spot around q) y c
       (λ e. line p.settings.line_break m e after)))
       → LinedUp x text after m (node_kept p false q y c.kept) ls
@@ -154,7 +154,7 @@ pub record Dressed (x : yaml_encoding_t) (text : List ℕ) (rest : Rest) (kept :
     (T : List TokenBody → List TokenBody) : Type 0 where
   pub cursor : Cursor
   pub place : Where
-  pub stage : Stage x text cursor place ls [] T
+  pub stage : NodeStage x text cursor place ls [] T
   pub left : Left text place.at (bytes (rest cursor))
   pub bare : cursor.bare ≡ false
   pub white : cursor.white ≡ false
@@ -172,7 +172,7 @@ PropertiesAreWalked = (s : Settings) (d : Opening) → IsPretty s d → (anchor 
     → IsWritableAnchor anchor → IsWritableTag tag → (has anchor || has tag) ≡ true
     → (ls : List ℕ) (c : Cursor) (rest : Rest) → PartedBehind rest
     → (x : yaml_encoding_t) (text : List ℕ) (o : Where) (T : List TokenBody → List TokenBody)
-    → Stage x text c o ls [] T → indent ls ≤ column_at text o.at
+    → NodeStage x text c o ls [] T → indent ls ≤ column_at text o.at
     → Left text o.at (bytes (properties_text (context_of s d.directives) anchor tag c rest))
     → Dressed x text rest c.kept ls
     (λ bs. T (anchor_bodies anchor (tag_bodies d.directives tag bs)))
@@ -191,7 +191,7 @@ pub record KeyWalks (p : Context) (k : Node) : Type 0 where
       → Keyed x text rest n kept new (λ bs. T (start_bodies what (tokens.key
       ∷ node_bodies p false part.SimpleKey false k (tokens.value ∷ bs))))
   pub shows : (n : ℕ) (rest : Rest) → PartedBehind rest
-      → Shows n (λ e. (node_layout p (block_spot (Some n) part.SimpleKey) k ▹ char 58) e rest)
+      → ShowsNode n (λ e. (node_layout p (block_spot (Some n) part.SimpleKey) k ▹ char 58) e rest)
   pub same : (kept : Bool) → node_kept p false part.SimpleKey k kept ≡ kept
 
 -- All simple keys that may be written.

@@ -95,7 +95,7 @@ AllFit {flow} {level} [] bs = Unit {0}
 AllFit {flow} {level} (w ∷ ws) bs = Fits w.wants flow level (all_bytes ws ++ bs) × AllFit ws bs
 
 -- From a cursor on, a layout writes these words, whatever follows.
-pub record Says (flow : Bool) (level : ℕ) (a : Layout) (c : Cursor)
+pub record SaysTokens (flow : Bool) (level : ℕ) (a : Layout) (c : Cursor)
     (ws : List (Spoken flow level)) : Type 0 where
   pub behind : Cursor
   pub written : (rest : Rest) → bytes (a c rest) ≡ all_bytes ws ++ bytes (rest behind)

@@ -19,26 +19,28 @@ use Rattle.yaml_emit_laws_text.specs.emit_layout.emit_text.declared.Cursor.{Curs
 use Rattle.yaml_emit_laws_text.specs.emit_layout.emit_text.declared.LineBreak.{LineBreak}
 use Rattle.yaml_emit_laws_text.specs.emit_layout.emit_text.Layout.{Layout, Rest, line, indicator}
 use Rattle.yaml_emit_laws_text.specs.Walk.{Left, bytes, first}
-use Rattle.yaml_scan_laws_levels.specs.Walks.{Where, Reads}
+use Rattle.yaml_scan_laws_levels.specs.Walks.{Where, WalkReads}
 use Rattle.yaml_emit_laws_scalars.specs.Stops.{stops_plain_at, begins_white, is_gap_byte}
 
 -- The lexemes up to a cursor, with levels `ls` and beside them `more`, told T. Where the line is bare, a key may begin, and the cursor's
 -- column is the text's. The line from which keys may be looked for is that of the place or an earlier one.
-pub record Stage (x : yaml_encoding_t) (text : List ℕ) (c : Cursor) (o : Where) (ls more : List ℕ)
+pub record NodeStage (x : yaml_encoding_t) (text : List ℕ) (c : Cursor) (o : Where) (ls more : List
+    ℕ)
     (T : List TokenBody → List TokenBody) : Type 0 where
-  pub reads : Reads x text o [] ls more T
+  pub reads : WalkReads x text o [] ls more T
   pub flat : o.depth ≡ 0
   pub broken : o.broken ≡ true
   pub bare : c.bare ≡ true → (o.now ≡ true) × (column_at text o.at ≡ c.column)
   pub line : o.line ≤ line_at text o.at
 
 -- Behind a node: its levels are left to whoever closes them, and the line has text. The document's last block scalar is the one before.
-pub record Goes (x : yaml_encoding_t) (text : List ℕ) (rest : Rest) (kept : Bool) (ls : List ℕ)
+pub record GoesBehindNode (x : yaml_encoding_t) (text : List ℕ) (rest : Rest) (kept : Bool) (ls :
+    List ℕ)
     (T : List TokenBody → List TokenBody) : Type 0 where
   pub behind : Cursor
   pub place : Where
   pub more : List ℕ
-  pub stage : Stage x text behind place ls more T
+  pub stage : NodeStage x text behind place ls more T
   pub left : Left text place.at (bytes (rest behind))
   pub bare : behind.bare ≡ false
   pub same : behind.kept ≡ kept
@@ -46,9 +48,9 @@ pub record Goes (x : yaml_encoding_t) (text : List ℕ) (rest : Rest) (kept : Bo
 -- Where a text goes on as the layout does and then as `rest`, right of the innermost level or at it, these tokens come.
 abbrev pub Walks : Layout → (List TokenBody → List TokenBody) → List ℕ → Cursor → Rest → Type 0
 Walks a B ls c rest = (x : yaml_encoding_t) (text : List ℕ) (o : Where)
-    (T : List TokenBody → List TokenBody) → Stage x text c o ls [] T
+    (T : List TokenBody → List TokenBody) → NodeStage x text c o ls [] T
     → indent ls ≤ column_at text o.at → Left text o.at (bytes (a c rest))
-    → Goes x text rest c.kept ls (λ bs. T (B bs))
+    → GoesBehindNode x text rest c.kept ls (λ bs. T (B bs))
 
 -- behind the white that bytes begin with stands no `#`
 unfoldable pub no_comment : List ℕ → Bool
@@ -72,7 +74,7 @@ pub record Lined (x : yaml_encoding_t) (text : List ℕ) (rest : Rest) (n : ℕ)
     (ls more : List ℕ) (T : List TokenBody → List TokenBody) : Type 0 where
   pub cursor : Cursor
   pub place : Where
-  pub stage : Stage x text cursor place ls more T
+  pub stage : NodeStage x text cursor place ls more T
   pub left : Left text place.at (bytes (rest cursor))
   pub bare : cursor.bare ≡ true
   pub white : cursor.white ≡ true
@@ -83,7 +85,7 @@ pub record Lined (x : yaml_encoding_t) (text : List ℕ) (rest : Rest) (n : ℕ)
 abbrev pub LineIsWalked : Type 0
 LineIsWalked = (b : LineBreak) (n : ℕ) (x : yaml_encoding_t) (text : List ℕ) (c : Cursor)
     (o : Where) (ls more : List ℕ) (T : List TokenBody → List TokenBody) (rest : Rest)
-    → Stage x text c o ls more T → NoFeed n rest → Left text o.at (bytes (line b n c rest))
+    → NodeStage x text c o ls more T → NoFeed n rest → Left text o.at (bytes (line b n c rest))
     → Lined x text rest n c.kept ls more T
 
 -- A line behind a node, whose levels are left to whoever closes them: no key of the node's lines may be looked for there.
@@ -97,34 +99,34 @@ pub record LinedUp (x : yaml_encoding_t) (text : List ℕ) (rest : Rest) (n : �
 abbrev pub LineEndsNode : Type 0
 LineEndsNode = (b : LineBreak) (n : ℕ) (x : yaml_encoding_t) (text : List ℕ) (kept : Bool)
     (ls : List ℕ) (T : List TokenBody → List TokenBody) (rest : Rest) → NoFeed n rest
-    → Goes x text (λ e. line b n e rest) kept ls T → LinedUp x text rest n kept ls T
+    → GoesBehindNode x text (λ e. line b n e rest) kept ls T → LinedUp x text rest n kept ls T
 
 -- ---- `-`, `?` and the `:` of a `?`
 
 -- an indicator of a bare line
-pub data Mark : Type 0 where
-  Entry : Mark
-  Question : Mark
-  Answer : Mark
+pub data BareIndicator : Type 0 where
+  Entry : BareIndicator
+  Question : BareIndicator
+  Answer : BareIndicator
 
-abbrev pub mark_byte : Mark → ℕ
+abbrev pub mark_byte : BareIndicator → ℕ
 mark_byte Entry = 45
 mark_byte Question = 63
 mark_byte Answer = 58
 
-abbrev pub mark_body : Mark → TokenBody
+abbrev pub mark_body : BareIndicator → TokenBody
 mark_body Entry = tokens.block_entry
 mark_body Question = tokens.key
 mark_body Answer = tokens.value
 
 -- the level that it may open
-abbrev pub mark_level : Mark → Opens
+abbrev pub mark_level : BareIndicator → Opens
 mark_level Entry = opening.Sequence
 mark_level Question = opening.Mapping
 mark_level Answer = opening.Mapping
 
 -- a `:` stands on a later line than all that could be its key
-abbrev pub IsLone : Mark → List ℕ → Where → Type 0
+abbrev pub IsLone : BareIndicator → List ℕ → Where → Type 0
 IsLone Entry text o = Unit {0}
 IsLone Question text o = Unit {0}
 IsLone Answer text o = o.line < line_at text o.at
@@ -139,7 +141,7 @@ pub record Entered (x : yaml_encoding_t) (text : List ℕ) (rest : Rest) (n : �
     (ls : List ℕ) (T : List TokenBody → List TokenBody) : Type 0 where
   pub cursor : Cursor
   pub place : Where
-  pub stage : Stage x text cursor place ls [] T
+  pub stage : NodeStage x text cursor place ls [] T
   pub left : Left text place.at (bytes (rest cursor))
   pub bare : cursor.bare ≡ true
   pub white : cursor.white ≡ false
@@ -149,7 +151,7 @@ pub record Entered (x : yaml_encoding_t) (text : List ℕ) (rest : Rest) (n : �
 
 -- An indicator at a column of a bare line: a level opens there, or is there, and all that is open right of it is closed.
 abbrev pub MarkIsWalked : Type 0
-MarkIsWalked = (k : Mark) (x : yaml_encoding_t) (text : List ℕ) (n : ℕ) (kept : Bool)
+MarkIsWalked = (k : BareIndicator) (x : yaml_encoding_t) (text : List ℕ) (n : ℕ) (kept : Bool)
     (ls more new : List ℕ) (what : Opens) (T : List TokenBody → List TokenBody) (rest : Rest)
     → (here : Lined x text (λ e. indicator (mark_byte k) e rest) n kept ls more T)
     → IsLone k text here.place → indent ls ≤ n + 1 → Rises (n + 1) more

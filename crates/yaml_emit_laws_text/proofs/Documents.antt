@@ -29,7 +29,7 @@ use Rattle.yaml_emit_laws_text.specs.CanonicalLaws.{CanonicalWordsAreRead}
 use Rattle.yaml_emit_laws_text.specs.QuotedLaws.{QuotedIsReadBack}
 use Rattle.yaml_emit_laws_text.specs.Canonical.{put_if, node_kinds, version_kinds, directives_kinds, opening_kinds, documents_kinds}
 use Rattle.yaml_emit_laws_text.specs.Bodies.{node_bodies, version_bodies, directives_bodies, end_bodies, opening_bodies, documents_bodies}
-use Rattle.yaml_emit_laws_text.specs.Walk.{Has, Left, Stage, told, bytes, first}
+use Rattle.yaml_emit_laws_text.specs.Walk.{Has, Left, WordStage, told, bytes, first}
 use Rattle.yaml_emit_laws_text.specs.Writable.{IsWritable, IsWritableOpening, AreWritable}
 use Rattle.yaml_emit_laws_text.specs.TextLaws.{text_of_documents, IsReadAs}
 use Rattle.yaml_emit_laws_text.proofs.Forms.{canonical_settings, TagWalks, MarkWalks, at_line, LinesWalk, NoFeed, DirectivesWalk}
@@ -42,11 +42,11 @@ use Rattle.yaml_emit_laws_text.proofs.Nodes.{nodes_read, line_parts}
 
 pub record Lined (text : List ℕ) (rest : Rest) (kept : Bool) (ws : List Word) (d : ℕ) : Type 0 where
   pub place : ℕ
-  pub stage : Stage text (at_line kept) place ws d
+  pub stage : WordStage text (at_line kept) place ws d
   pub left : Left text place (bytes (rest (at_line kept)))
 
 new_line_lined : (b : LineBreak) (text : List ℕ) (c : Cursor) (p : ℕ) (ws : List Word) (d : ℕ)
-    (rest : Rest) → Stage text c p ws d → Left text p (bytes (new_line b c rest))
+    (rest : Rest) → WordStage text c p ws d → Left text p (bytes (new_line b c rest))
     → Lined text rest c.kept ws d
 new_line_lined Lf text c p ws d rest s l =
     let m = left_letter text p 10 (rest (at_line c.kept)) refl l in
@@ -68,7 +68,7 @@ new_line_lined CrLf text c p ws d rest s l =
     not_start n e = omega arith
 
 pub line_lined : (b : LineBreak) (text : List ℕ) (c : Cursor) (p : ℕ) (ws : List Word) (d : ℕ)
-    (rest : Rest) → c.bare ≡ false → Stage text c p ws d → Left text p (bytes (line b 0 c rest))
+    (rest : Rest) → c.bare ≡ false → WordStage text c p ws d → Left text p (bytes (line b 0 c rest))
     → Lined text rest c.kept ws d
 unfolding line blanks
 line_lined b text c p ws d rest e s l =
@@ -180,7 +180,7 @@ thrice_lands law x k body t b rest kept text p ws s l =
     let said : WordText = record { body = body; end = p + 3; reached = p + 3; broke = false } in
     let kind = t.kind text p h0 h1 (ap (λ q. byte text q) (sym two) ∙ h2) (line_blank b text (behind_three kept) (p + 3) rest refl n) column in
     let stage = push law text (at_line kept) (behind_three kept) p ws 0 k said s (t.begins text p h0) kind (t.said text p) t.more (λ e. omega arith) refl in
-    let g = line_lined b text (behind_three kept) (p + 3) (word_of k p said ∷ ws) 0 rest refl (subst (λ (d : ℕ). Stage text (behind_three kept) (p + 3) (word_of k p said ∷ ws) d) t.flat stage) n in
+    let g = line_lined b text (behind_three kept) (p + 3) (word_of k p said ∷ ws) 0 rest refl (subst (λ (d : ℕ). WordStage text (behind_three kept) (p + 3) (word_of k p said ∷ ws) d) t.flat stage) n in
     record { kept = kept; place = g.place; words = word_of k p said ∷ ws; stage = g.stage; left = g.left; kinds = refl; bodies = λ bs. refl }
 
 -- ---- lines one behind another
@@ -297,7 +297,7 @@ pub end_begins : (text : List ℕ) (p : ℕ) → byte text p ≡ 0 → begins_le
 unfolding break_of
 end_begins text p h = sign_starts text p 0 h refl refl refl refl (λ c d. refl)
 
-ended : GapReads → (text : List ℕ) (c : Cursor) (p : ℕ) (ws : List Word) → Stage text c p ws 0
+ended : GapReads → (text : List ℕ) (c : Cursor) (p : ℕ) (ws : List Word) → WordStage text c p ws 0
     → Left text p (bytes [])
     → Ended text (kinds.StreamEnd ∷ word_kinds ws) ws (tokens.stream_end ∷ [])
 unfolding Stand
@@ -336,7 +336,7 @@ OpeningsWalk s = (o : Opening) → IsWritableOpening o → DirectivesWalk s o ×
 documents_end : GapReads → AnchorReads → QuotedIsReadBack → MarkWalks → (s : Settings)
     → 0 < s.indent → OpeningsWalk (canonical_settings s) → (ds : List Document) → AreWritable ds
     → (fresh unended kept : Bool) (text : List ℕ) (p : ℕ) (ws : List Word)
-    → Stage text (at_line kept) p ws 0
+    → WordStage text (at_line kept) p ws 0
     → Left text p (bytes (documents_layout (canonical_settings s) fresh unended ds (at_line kept)
     nothing_more))
     → Ended text (kinds.StreamEnd ∷ documents_kinds unended ds (word_kinds ws)) ws
@@ -373,7 +373,7 @@ has_all text before (x ∷ rest) e =
     length_one [] x = refl
     length_one (y ∷ xs) x = let e = length_one xs x in omega arith
 
-pub first_stage : (text : List ℕ) → Stage text start 0 [] 0
+pub first_stage : (text : List ℕ) → WordStage text start 0 [] 0
 unfolding Stand lexemes column_at
 first_stage text = record { stand = tt; gap = []; from = refl; stands = tt; blank = refl; deep = refl; column = λ z n. refl; plain = refl }
 

@@ -15,7 +15,7 @@ use Rattle.yaml_emit_laws_text.specs.scan_laws_texts.KeysTexts.{Word, word_kinds
 use Rattle.yaml_emit_laws_text.specs.Canonical.{version_kinds, directives_kinds}
 use Rattle.yaml_emit_laws_text.specs.Bodies.{tag_body, version_bodies, directives_bodies}
 use Rattle.yaml_emit_laws_text.specs.Writable.{IsWritableTag}
-use Rattle.yaml_emit_laws_text.specs.Walk.{bytes, first, Left, Stage, told, Walks}
+use Rattle.yaml_emit_laws_text.specs.Walk.{bytes, first, Left, WordStage, told, Walks}
 
 -- settings in canonical form, and a context of them
 abbrev pub canonically : Settings → List TagDirective → Context
@@ -55,14 +55,14 @@ pub record Lands (text : List ℕ) (rest : Rest) (ks : List Kind) (B : List Toke
   pub kept : Bool
   pub place : ℕ
   pub words : List Word
-  pub stage : Stage text (at_line kept) place words 0
+  pub stage : WordStage text (at_line kept) place words 0
   pub left : Left text place (bytes (rest (at_line kept)))
   pub kinds : word_kinds words ≡ ks
   pub bodies : (bs : List TokenBody) → told words bs ≡ told ws (B bs)
 
 abbrev pub LinesWalkTo : Rest → Layout → (List Kind → List Kind) → (List TokenBody → List TokenBody)
     → Type 0
-LinesWalkTo rest a K B = (kept : Bool) (text : List ℕ) (p : ℕ) (ws : List Word) → Stage text (at_line kept) p ws 0 → Left text p (bytes (a (at_line kept) rest)) → Lands text rest (K (word_kinds ws)) B ws
+LinesWalkTo rest a K B = (kept : Bool) (text : List ℕ) (p : ℕ) (ws : List Word) → WordStage text (at_line kept) p ws 0 → Left text p (bytes (a (at_line kept) rest)) → Lands text rest (K (word_kinds ws)) B ws
 
 abbrev pub LinesWalk : Layout → (List Kind → List Kind) → (List TokenBody → List TokenBody) → Type 0
 LinesWalk a K B = (rest : Rest) → LinesWalkTo rest a K B

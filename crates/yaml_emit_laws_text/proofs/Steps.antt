@@ -21,7 +21,7 @@ use Rattle.yaml_emit_laws_text.specs.emit_layout.emit_text.declared.LineBreak.Th
 use Rattle.yaml_emit_laws_text.specs.emit_layout.emit_text.Text.{Item, letter, encode, char_bytes}
 use Rattle.yaml_emit_laws_text.specs.emit_layout.emit_text.Layout.{Layout, Rest, ◌▹◌, gap, blank, line, blanks, new_line, indent_to, must_break}
 use Rattle.yaml_emit_laws_text.specs.emit_layout.Nodes.{checked, deep_if, MOST}
-use Rattle.yaml_emit_laws_text.specs.Walk.{Left, Starts, Stage, bytes, Goes, Walks}
+use Rattle.yaml_emit_laws_text.specs.Walk.{Left, Starts, WordStage, bytes, GoesBehindWords, Walks}
 use Rattle.yaml_emit_laws_text.proofs.Places.{has_both, has_at, left_first, left_more}
 
 and_false : (a : Bool) → (a && false) ≡ false
@@ -52,8 +52,8 @@ length_more (x ∷ xs) b = let e = length_more xs b in omega arith
 
 pub gap_byte : (text : List ℕ) (c e : Cursor) (p b : ℕ) (ws : List Word) (d : ℕ)
     → (b == 32 || (b == 10 || b == 13)) ≡ true → byte text p ≡ b
-    → (e.column ≡ 0 → Starts text (p + 1)) → e.kept ≡ c.kept → Stage text c p ws d
-    → Stage text e (p + 1) ws d
+    → (e.column ≡ 0 → Starts text (p + 1)) → e.kept ≡ c.kept → WordStage text c p ws d
+    → WordStage text e (p + 1) ws d
 gap_byte text c e p b ws d k h column same s =
     let r = (reached (lexemes text ws)).index in
     let from = s.from in
@@ -83,7 +83,7 @@ left_letter text p x t e l = subst (λ (bs : List ℕ). Left text p bs) (letter_
 pub record Here (text : List ℕ) (rest : Rest) (ws : List Word) (d : ℕ) : Type 0 where
   pub cursor : Cursor
   pub place : ℕ
-  pub stage : Stage text cursor place ws d
+  pub stage : WordStage text cursor place ws d
   pub left : Left text place (bytes (rest cursor))
 
 -- A place behind another one is not the start.
@@ -94,7 +94,7 @@ not_start n e = omega arith
 
 -- a space, where one is due
 pub gap_here : (text : List ℕ) (c : Cursor) (p : ℕ) (ws : List Word) (d : ℕ) (rest : Rest)
-    → Stage text c p ws d → Left text p (bytes (gap c rest)) → Here text rest ws d
+    → WordStage text c p ws d → Left text p (bytes (gap c rest)) → Here text rest ws d
 gap_here text c p ws d rest s l =
     elim (cases_Bool c.white) [
       | inl e ↦ record { cursor = c; place = p; stage = s; left = subst (λ (b : Bool). Left text p (bytes (if b then rest c else blank c rest))) e l }
@@ -110,7 +110,7 @@ gap_here text c p ws d rest s l =
 
 -- spaces
 pub blanks_here : (n : ℕ) (text : List ℕ) (c : Cursor) (p : ℕ) (ws : List Word) (d : ℕ)
-    (rest : Rest) → Stage text c p ws d → Left text p (bytes (blanks n c rest))
+    (rest : Rest) → WordStage text c p ws d → Left text p (bytes (blanks n c rest))
     → Here text rest ws d
 unfolding blanks
 blanks_here zero text c p ws d rest s l = record { cursor = c; place = p; stage = s; left = l }
@@ -141,7 +141,7 @@ behind_return text p h n = behind_break text p (rw h (return_ends _ _ (byte text
 
 -- the break that is set
 pub new_line_here : (b : LineBreak) (text : List ℕ) (c : Cursor) (p : ℕ) (ws : List Word) (d : ℕ)
-    (rest : Rest) → Stage text c p ws d → Left text p (bytes (new_line b c rest))
+    (rest : Rest) → WordStage text c p ws d → Left text p (bytes (new_line b c rest))
     → Here text rest ws d
 new_line_here Lf text c p ws d rest s l =
     let m = left_letter text p 10 _ refl l in
@@ -175,7 +175,7 @@ new_line_here CrLf text c p ws d rest s l =
 
 -- a line, where the last one is not bare
 pub line_here : (b : LineBreak) (n : ℕ) (text : List ℕ) (c : Cursor) (p : ℕ) (ws : List Word)
-    (d : ℕ) (rest : Rest) → c.bare ≡ false → Stage text c p ws d
+    (d : ℕ) (rest : Rest) → c.bare ≡ false → WordStage text c p ws d
     → Left text p (bytes (line b n c rest)) → Here text rest ws d
 unfolding line
 line_here b n text c p ws d rest e s l =
@@ -188,7 +188,7 @@ line_here b n text c p ws d rest e s l =
 pub from_here : (a : Layout) (K : List Kind → List Kind) (B : List TokenBody → List TokenBody)
     (d e : ℕ) (rest : Rest) (text : List ℕ) (ws : List Word) → Here text (λ c. a c rest) ws d
     → ((c : Cursor) → Walks a K B d e c rest)
-    → Goes text rest e (K (word_kinds ws)) B ws
+    → GoesBehindWords text rest e (K (word_kinds ws)) B ws
 from_here a K B d e rest text ws h w = w h.cursor text h.place ws h.stage h.left
 
 pub walks_gap : (a : Layout) (K : List Kind → List Kind) (B : List TokenBody → List TokenBody)
@@ -245,10 +245,10 @@ reached_index text k start end e = rw e refl
 -- a word behind which a line may start
 pub push_to : GapReads
     → (text : List ℕ) (c e : Cursor) (p : ℕ) (ws : List Word) (d : ℕ) (k : Kind) (said : WordText)
-    → Stage text c p ws d → begins_lexeme text p ≡ true → kind_at (nat_lt 0 d) text p ≡ Some k
+    → WordStage text c p ws d → begins_lexeme text p ≡ true → kind_at (nat_lt 0 d) text p ≡ Some k
     → word_at k (nat_lt 0 d) 0 text p ≡ Ok said → is_end k ≡ false
     → (e.column ≡ 0 → Starts text said.reached) → e.kept ≡ c.kept
-    → Stage text e said.reached (word_of k p said ∷ ws) (depth_after k d)
+    → WordStage text e said.reached (word_of k p said ∷ ws) (depth_after k d)
 unfolding lexemes Stand
 push_to law text c e p ws d k said s begins kind reads more column same =
     let h = lexemes text ws in
@@ -275,9 +275,9 @@ push_to law text c e p ws d k said s begins kind reads more column same =
 -- one in the midst of a line
 pub push : GapReads
     → (text : List ℕ) (c e : Cursor) (p : ℕ) (ws : List Word) (d : ℕ) (k : Kind) (said : WordText)
-    → Stage text c p ws d → begins_lexeme text p ≡ true → kind_at (nat_lt 0 d) text p ≡ Some k
+    → WordStage text c p ws d → begins_lexeme text p ≡ true → kind_at (nat_lt 0 d) text p ≡ Some k
     → word_at k (nat_lt 0 d) 0 text p ≡ Ok said → is_end k ≡ false → (e.column ≡ 0 → ⊥)
-    → e.kept ≡ c.kept → Stage text e said.reached (word_of k p said ∷ ws) (depth_after k d)
+    → e.kept ≡ c.kept → WordStage text e said.reached (word_of k p said ∷ ws) (depth_after k d)
 push law text c e p ws d k said s begins kind reads more column same = push_to law text c e p ws d k said s begins kind reads more (λ z. absurd (column z)) same
 
 -- ---- signs

@@ -26,7 +26,7 @@ abbrev pub Starts : List ℕ → ℕ → Type 0
 Starts text p = (byte text p ≡ 10 → ⊥) → column_at text p ≡ 0
 
 -- Words stand in the text up to a gap that goes up to the place; so many brackets are open.
-pub record Stage (text : List ℕ) (c : Cursor) (p : ℕ) (ws : List Word) (d : ℕ) : Type 0 where
+pub record WordStage (text : List ℕ) (c : Cursor) (p : ℕ) (ws : List Word) (d : ℕ) : Type 0 where
   pub stand : Stand text ws
   pub gap : List ℕ
   pub from : (reached (lexemes text ws)).index + length gap ≡ p
@@ -46,12 +46,12 @@ abbrev pub bytes : List Item → List ℕ
 bytes t = encode Utf8 t
 
 -- Behind the words ws stand more, up to a place from which on the text goes on with `rest`.
-pub record Goes (text : List ℕ) (rest : Rest) (d : ℕ) (ks : List Kind)
+pub record GoesBehindWords (text : List ℕ) (rest : Rest) (d : ℕ) (ks : List Kind)
     (B : List TokenBody → List TokenBody) (ws : List Word) : Type 0 where
   pub behind : Cursor
   pub place : ℕ
   pub words : List Word
-  pub stage : Stage text behind place words d
+  pub stage : WordStage text behind place words d
   pub left : Left text place (bytes (rest behind))
   pub kinds : word_kinds words ≡ ks
   pub bodies : (bs : List TokenBody) → told words bs ≡ told ws (B bs)
@@ -60,8 +60,8 @@ pub record Goes (text : List ℕ) (rest : Rest) (d : ℕ) (ks : List Kind)
 -- Where a text goes on as the layout does and then as `rest`, these kinds and these tokens come.
 abbrev pub Walks : Layout → (List Kind → List Kind) → (List TokenBody → List TokenBody) → ℕ → ℕ
     → Cursor → Rest → Type 0
-Walks a K B d e c rest = (text : List ℕ) (p : ℕ) (ws : List Word) → Stage text c p ws d
-    → Left text p (bytes (a c rest)) → Goes text rest e (K (word_kinds ws)) B ws
+Walks a K B d e c rest = (text : List ℕ) (p : ℕ) (ws : List Word) → WordStage text c p ws d
+    → Left text p (bytes (a c rest)) → GoesBehindWords text rest e (K (word_kinds ws)) B ws
 
 -- the first byte, 0 at the end
 abbrev pub first : List ℕ → ℕ

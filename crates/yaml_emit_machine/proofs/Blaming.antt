@@ -15,15 +15,15 @@ use Rattle.yaml_emit_layout.specs.declared.Expected.TheVariants as at
 use Rattle.yaml_emit_layout.specs.Content.{Event}
 use Rattle.yaml_emit_layout.specs.State.{State, placed}
 use Rattle.yaml_emit_state.specs.declared.Core.{Core}
-use Rattle.yaml_emit_state.specs.Steps.{state_of, settings_of, IsFresh}
+use Rattle.yaml_emit_state.specs.Steps.{state_of, settings_of, IsFreshCore}
 use Rattle.yaml_emit_held.specs.Held.{held_events}
 use Rattle.yaml_emit_held.specs.declared.Held.{Held}
-use Rattle.yaml_emit_held.specs.Judged.{laid_some, some_among, LaysSome, first_starts, Refuses}
+use Rattle.yaml_emit_held.specs.Judged.{laid_some, some_among, LaysSome, first_starts, RefusesHeld}
 use Rattle.yaml_emit_held.specs.Laying.{HasLaid, LaysEvents}
 use Rattle.yaml_emit_machine.specs.declared.emitter.yaml_emitter_t.TheInside.{Inside}
 use Rattle.yaml_emit_machine.specs.Emitter.{Emitter, text_of, stream_encoding}
 use Rattle.yaml_emit_machine.specs.Views.{emitter_of}
-use Rattle.yaml_emit_machine.specs.Verdict.{IsFirst, FirstBy, LaysFirst}
+use Rattle.yaml_emit_machine.specs.Verdict.{IsFirstText, FirstBy, LaysFirst}
 use Rattle.yaml_emit_machine.specs.Taking.{HasFirst, BlamesLevels, ComesIntoForce}
 use Rattle.yaml_emit_machine.proofs.Viewing.{seen}
 
@@ -34,8 +34,8 @@ stands_as : (n : ℕ) (A : Type 0) (P Q : ℕ → Type 0) → ((k : ℕ) → P k
 stands_as n A P Q f (inl p) = inl (f (suc n) p)
 stands_as n A P Q f (inr p) = inr (p.0, f n p.1)
 
-pub refuses_as : (es : List Event) (P Q : ℕ → Type 0) → ((k : ℕ) → P k → Q k) → Refuses es P
-    → Refuses es Q
+pub refuses_as : (es : List Event) (P Q : ℕ → Type 0) → ((k : ℕ) → P k → Q k) → RefusesHeld es P
+    → RefusesHeld es Q
 refuses_as es P Q f r = record {
   front = r.front;
   takes = r.takes;
@@ -81,7 +81,7 @@ ends_new o t b g =
     let P : Status → Type 0 = λ z. EndsBy z o.limit o.encoding o.bytes t t in
     subst P (sym g) (rw b refl, (rw b (omega arith), (refl, rw b refl)))
 
-fresh_some : (n : ℕ) (core : Core) (s : Settings) (es : List Event) → IsFresh core s
+fresh_some : (n : ℕ) (core : Core) (s : Settings) (es : List Event) → IsFreshCore core s
     → LaysSome n (settings_of core) (state_of core) core.sink es
     (written (laid_some n s (placed at.StreamStart) es))
 unfolding LaysSome
@@ -96,14 +96,14 @@ fresh_some n core s es f =
 pub begin_first : (n : ℕ) (old : Emitter) (core : Core) (held : List Event) (opened closed : Bool)
     (fault : Option Fault) (e : Event) (x : Encoding) (es : List Event) (whole : List Item)
     → old.fresh ≡ true → held ≡ []
-    → IsFresh core (settled old.requested_settings (stream_encoding e))
+    → IsFreshCore core (settled old.requested_settings (stream_encoding e))
     → LaysFirst n old x (e ∷ es) whole
     → LaysFirst n (seen old.requested_settings core held false opened closed fault) x (e ∷ es) whole
 unfolding LaysFirst
 begin_first n old core held opened closed fault e x es whole a none f c =
     let P : Bool → Type 0 = λ z. FirstBy z n old x (e ∷ es) whole in
     let s : Settings = settled old.requested_settings (stream_encoding e) in
-    let k : IsFirst n old.requested_settings x (e ∷ es) whole = subst P a c in
+    let k : IsFirstText n old.requested_settings x (e ∷ es) whole = subst P a c in
     let R : List Event → Type 0 = λ t. LaysSome n (settings_of core) (state_of core) core.sink (t ++ (e ∷ es)) (written (laid_some n s (placed at.StreamStart) (e ∷ es))) in
     let S : List Item → Type 0 = λ t. LaysSome n (settings_of core) (state_of core) core.sink (held ++ (e ∷ es)) t in
     (ap (λ (z : Settings). z.encoding) f.settings ∙ sym k.coded, subst S (sym k.is) (subst R (sym none) (fresh_some n core s (e ∷ es) f)))
@@ -111,7 +111,7 @@ begin_first n old core held opened closed fault e x es whole a none f c =
 pub begins_blames : (old mid new : Emitter) (e : Event) → ComesIntoForce old e mid
     → BlamesLevels e mid new → BlamesLevels e old new
 begins_blames old mid new e p b = λ off on.
-    let P : List Event → Type 0 = λ z. Refuses (z ++ e ∷ []) (HasFirst old (e ∷ []) new.output) in
+    let P : List Event → Type 0 = λ z. RefusesHeld (z ++ e ∷ []) (HasFirst old (e ∷ []) new.output) in
     subst P p.held (refuses_as (mid.held ++ e ∷ []) (HasFirst mid (e ∷ []) new.output) (HasFirst old (e ∷ []) new.output) (λ n laid x more whole k. laid x more whole (p.front n x more whole k)) (b (p.starved ∙ off) on))
 
 -- ---- that the stream was opened or closed is noted

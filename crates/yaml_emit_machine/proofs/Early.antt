@@ -17,7 +17,7 @@ use Rattle.yaml_emit_state.specs.Steps.{state_of, settings_of, next_state, next_
 use Rattle.yaml_emit_state.specs.Finish.{Finishes}
 use Rattle.yaml_emit_state.proofs.Finishing.{finishes_on}
 use Rattle.yaml_emit_held.specs.Held.{held_events}
-use Rattle.yaml_emit_held.specs.Judged.{refused_at, first_wrong, LaysAll, take_memory, LaysSome, first_takes, first_starts, Refuses}
+use Rattle.yaml_emit_held.specs.Judged.{refused_at, first_wrong, LaysAll, take_memory, LaysSome, first_takes, first_starts, RefusesHeld}
 use Rattle.yaml_emit_held.proofs.Judging.{wrong_on, lays_first, some_one, some_none, noted_takes}
 use Rattle.yaml_emit_machine.specs.declared.emitter.yaml_emitter_t.TheInside.{Inside}
 use Rattle.yaml_emit_machine.specs.Emitter.{Emitter}
@@ -150,7 +150,7 @@ blamed_early : (i : Inside) (core : Core) (e : Event) → refused_at i.core.plac
     → (IsPut i.core.sink core.sink (next_piece (problem_at (settings_of i.core) (state_of i.core) e)
     (piece (settings_of i.core) (state_of i.core) e false))
     ⊎ ((is_document_start e ≡ true) × IsPut i.core.sink core.sink stay))
-    → Refuses (held_events i.held ++ e ∷ []) (HasFirst (emitter_of i) (e ∷ []) core.sink.bytes)
+    → RefusesHeld (held_events i.held ++ e ∷ []) (HasFirst (emitter_of i) (e ∷ []) core.sink.bytes)
 blamed_early i core e o once takes (inl put) = record {
   front = zero;
   takes = let T : List Event → Type 0 = λ t. first_takes (t ++ e ∷ []) ≡ true in subst T (sym once.none) takes;

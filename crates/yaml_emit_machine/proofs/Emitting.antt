@@ -21,7 +21,7 @@ use Rattle.yaml_emit_layout.specs.State.{State}
 use Rattle.yaml_emit_layout.specs.ToCome.{ToCome, stream, documents, root, frames, nothing, Frame, level_of, levels_of}
 use Rattle.yaml_emit_layout.specs.ToCome as come
 use Rattle.yaml_emit_state.specs.declared.Core.{Core}
-use Rattle.yaml_emit_state.specs.Steps.{state_of, settings_of, goes_on, IsFresh}
+use Rattle.yaml_emit_state.specs.Steps.{state_of, settings_of, goes_on, IsFreshCore}
 use Rattle.yaml_emit_state.specs.Finish.{Finishes, FinishesAt, FinishesBy}
 use Rattle.yaml_emit_state.proofs.Finishing.{fresh_finishes}
 use Rattle.yaml_emit_machine.specs.declared.emitter.yaml_emitter_t.TheInside.{Inside}
@@ -104,7 +104,7 @@ lay_completes old new e h x es whole a b same on coded c =
 pub begin_completes : (old : Emitter) (core : Core) (held : List Event) (opened closed : Bool)
     (fault : Option Fault) (e : Event) (x : Encoding) (es : List Event) (whole : List Item)
     → old.fresh ≡ true → held ≡ []
-    → IsFresh core (settled old.requested_settings (stream_encoding e))
+    → IsFreshCore core (settled old.requested_settings (stream_encoding e))
     → Completes old x (e ∷ es) whole
     → Completes (seen old.requested_settings core held false opened closed fault) x (e ∷ es) whole
 unfolding Completes
@@ -112,8 +112,8 @@ begin_completes old core held opened closed fault e x es whole a none f c =
     let P : Bool → Type 0 = λ z. CompletesBy z old x (e ∷ es) whole in
     let k : IsStream old.requested_settings x (e ∷ es) whole = subst P a c in
     let head : e ≡ stream_start k.encoding = (let w = k.same in cc) in
-    let F : yaml_encoding_t → Type 0 = λ z. IsFresh core (settled old.requested_settings z) in
-    let f' : IsFresh core (settled old.requested_settings k.encoding) = subst F (ap stream_encoding head) f in
+    let F : yaml_encoding_t → Type 0 = λ z. IsFreshCore core (settled old.requested_settings z) in
+    let f' : IsFreshCore core (settled old.requested_settings k.encoding) = subst F (ap stream_encoding head) f in
     let O : List Event → Type 0 = λ t. own_problems old.requested_settings.canonical t ≡ None in
     let done = fresh_finishes core (settled old.requested_settings k.encoding) k.encoding k.documents f' (subst O k.same k.right) in
     let R : List Event → Type 0 = λ t. Finishes (settings_of core) (state_of core) core.sink t (written (stream_layout (settled old.requested_settings k.encoding) k.documents)) in
@@ -211,7 +211,7 @@ unnoted core f none h =
     let Q : Status → Type 0 = λ s. goes_on s core.place ≡ true in
     none ∙ sym (subst P (sym g) (going_none core.place core.starved (subst Q g h)))
 
-pub fresh_refusal : (core : Core) (s : Settings) → IsFresh core s
+pub fresh_refusal : (core : Core) (s : Settings) → IsFreshCore core s
     → refusal_by core.place core.sink.status core.starved ≡ None
 fresh_refusal core s f = let k : core.place ≡ at.StreamStart = ap (λ (z : State). z.place) f.state in rw (k, f.status) refl
 

@@ -14,7 +14,7 @@ use Rattle.yaml_emit_layout.specs.State.{State}
 use Rattle.yaml_emit_state.specs.declared.Core.{Core}
 use Rattle.yaml_emit_state.specs.declared.yaml_emitter_stand_t.{yaml_emitter_stand_t}
 use Rattle.yaml_emit_state.specs.Steps.{state_of, settings_of}
-use Rattle.yaml_emit_state.specs.Standing.{Resumes, IsStand}
+use Rattle.yaml_emit_state.specs.Standing.{Resumes, IsStandOfCore}
 use Rattle.yaml_emit_held.specs.Held.{AreLast}
 use Rattle.yaml_emit_held.specs.Judged.{refused_at}
 use Rattle.yaml_emit_machine.specs.Emitter.{Emitter, Course, refusal_by, settings_in}
@@ -86,7 +86,7 @@ resumed_forced w s limit stand outer ds core asked r =
     ap in_core r.settings ∙ ap in_core asked
 
 pub stands_forced : (core : Core) (w : RequestedSettings) (count : ℕ)
-    (stand : yaml_emitter_stand_t) → IsStand core count stand
+    (stand : yaml_emitter_stand_t) → IsStandOfCore core count stand
     → settings_of core ≡ settings_in w core.sink.encoding
     → settings_of core ≡ settings_in w stand.encoding
 stands_forced core w count stand is h = h ∙ ap (settings_in w) (sym is.encoding)

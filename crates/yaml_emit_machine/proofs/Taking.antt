@@ -17,7 +17,7 @@ use Rattle.yaml_emit_layout.specs.declared.Expected.TheVariants as at
 use Rattle.yaml_emit_layout.specs.Content.{Event}
 use Rattle.yaml_emit_layout.specs.State.{State, placed}
 use Rattle.yaml_emit_state.specs.declared.Core.{Core}
-use Rattle.yaml_emit_state.specs.Steps.{state_of, settings_of, IsFresh, may_note}
+use Rattle.yaml_emit_state.specs.Steps.{state_of, settings_of, IsFreshCore, may_note}
 use Rattle.yaml_emit_state.proofs.Noting.{notes_both, notes_some}
 use Rattle.yaml_emit_held.specs.Held.{held_events}
 use Rattle.yaml_emit_held.specs.declared.Held.{Held}
@@ -205,14 +205,14 @@ inside_open i inv none =
 
 -- ---- the settings came into force
 
-fresh_wrong : (core : Core) (s : Settings) (es : List Event) → IsFresh core s
+fresh_wrong : (core : Core) (s : Settings) (es : List Event) → IsFreshCore core s
     → first_wrong (settings_of core) (state_of core) es
     ≡ first_refusal s.canonical first_progress es
 unfolding first_wrong
 fresh_wrong core s es f =
     ap (λ (z : Settings). refusal_among z.canonical (state_of core) es) f.settings ∙ ap (λ (z : State). refusal_among s.canonical z es) f.state
 
-fresh_refuses : (core : Core) (s : Settings) (es : List Event) → IsFresh core s
+fresh_refuses : (core : Core) (s : Settings) (es : List Event) → IsFreshCore core s
     → refusal_behind (settings_of core) (state_of core) es
     ≡ first_refusal s.canonical first_progress (let_out es)
 unfolding refusal_behind first_wrong
@@ -224,7 +224,7 @@ ends_fresh o t b g =
     let P : Status → Type 0 = λ z. EndsBy z o.limit o.encoding o.bytes t t in
     subst P (sym g) (rw b refl, (rw b (omega arith), (refl, rw b refl)))
 
-fresh_lays : (core : Core) (s : Settings) (es : List Event) → IsFresh core s
+fresh_lays : (core : Core) (s : Settings) (es : List Event) → IsFreshCore core s
     → LaysAll (settings_of core) (state_of core) core.sink es
     (written (laid s (placed at.StreamStart) es))
 unfolding LaysAll
@@ -236,7 +236,7 @@ fresh_lays core s es f =
     let P : List Item → Type 0 = λ t. Ends core.sink text t in
     subst P same (ends_fresh core.sink text f.output f.status)
 
-fresh_lets_out : (core : Core) (s : Settings) (es : List Event) → IsFresh core s
+fresh_lets_out : (core : Core) (s : Settings) (es : List Event) → IsFreshCore core s
     → LetsOut (settings_of core) (state_of core) core.sink es
     (written (laid s (placed at.StreamStart) (let_out es)))
 unfolding LetsOut LaysAll
@@ -244,7 +244,7 @@ fresh_lets_out core s es f = fresh_lays core s (let_out es) f
 
 begin_wrong : (old : Emitter) (core : Core) (held : List Event) (opened closed : Bool)
     (fault : Option Fault) (e : Event) (es : List Event) → old.fresh ≡ true → held ≡ []
-    → IsFresh core (settled old.requested_settings (stream_encoding e))
+    → IsFreshCore core (settled old.requested_settings (stream_encoding e))
     → wrong (seen old.requested_settings core held false opened closed fault) (e ∷ es)
     ≡ wrong old (e ∷ es)
 unfolding wrong
@@ -255,7 +255,7 @@ begin_wrong old core held opened closed fault e es a none f =
 begin_lays : (old : Emitter) (core : Core) (held : List Event) (opened closed : Bool)
     (fault : Option Fault) (e : Event) (x : Encoding) (es : List Event) (whole : List Item)
     → old.fresh ≡ true → held ≡ []
-    → IsFresh core (settled old.requested_settings (stream_encoding e)) → Lays old x (e ∷ es) whole
+    → IsFreshCore core (settled old.requested_settings (stream_encoding e)) → Lays old x (e ∷ es) whole
     → Lays (seen old.requested_settings core held false opened closed fault) x (e ∷ es) whole
 unfolding Lays
 begin_lays old core held opened closed fault e x es whole a none f c =
@@ -268,7 +268,7 @@ begin_lays old core held opened closed fault e x es whole a none f c =
 
 begin_refuses : (old : Emitter) (core : Core) (held : List Event) (opened closed : Bool)
     (fault : Option Fault) (e : Event) (es : List Event) → old.fresh ≡ true → held ≡ []
-    → IsFresh core (settled old.requested_settings (stream_encoding e))
+    → IsFreshCore core (settled old.requested_settings (stream_encoding e))
     → verdict (seen old.requested_settings core held false opened closed fault) (e ∷ es)
     ≡ verdict old (e ∷ es)
 unfolding verdict
@@ -279,7 +279,7 @@ begin_refuses old core held opened closed fault e es a none f =
 begin_writes : (old : Emitter) (core : Core) (held : List Event) (opened closed : Bool)
     (fault : Option Fault) (e : Event) (x : Encoding) (es : List Event) (whole : List Item)
     → old.fresh ≡ true → held ≡ []
-    → IsFresh core (settled old.requested_settings (stream_encoding e))
+    → IsFreshCore core (settled old.requested_settings (stream_encoding e))
     → Writes old x (e ∷ es) whole
     → Writes (seen old.requested_settings core held false opened closed fault) x (e ∷ es) whole
 unfolding Writes
@@ -293,14 +293,14 @@ begin_writes old core held opened closed fault e x es whole a none f c =
 
 pub inside_begins : (i : Inside) (core : Core) (e : Event) (s : Settings) (z : yaml_encoding_t)
     → IsEmitter i → i.fresh ≡ true → s ≡ settled i.requested_settings z → z ≡ stream_encoding e
-    → IsFresh core s → core.sink.limit ≡ i.limit
+    → IsFreshCore core s → core.sink.limit ≡ i.limit
     → ComesIntoForce (emitter_of i) e
     (seen i.requested_settings core (held_events i.held) false i.opened i.closed
     (option_map fault_of i.fault))
 inside_begins i core e s z inv fr a b f most =
-    let P : Settings → Type 0 = λ t. IsFresh core t in
-    let Q : yaml_encoding_t → Type 0 = λ t. IsFresh core (settled i.requested_settings t) in
-    let f' : IsFresh core (settled i.requested_settings (stream_encoding e)) = subst Q b (subst P a f) in
+    let P : Settings → Type 0 = λ t. IsFreshCore core t in
+    let Q : yaml_encoding_t → Type 0 = λ t. IsFreshCore core (settled i.requested_settings t) in
+    let f' : IsFreshCore core (settled i.requested_settings (stream_encoding e)) = subst Q b (subst P a f) in
     let was : i.core.sink.status ≡ Going = (inv.begun fr).1.1.1 in
     record {
       takes = record {

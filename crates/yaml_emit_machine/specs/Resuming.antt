@@ -37,7 +37,7 @@ resumed w limit stand outer directives = record {
 }
 
 -- that is where an emitter stands
-pub record StandsAt (e : Emitter) (stand : yaml_emitter_stand_t) : Type 0 where
+pub record StandsWhere (e : Emitter) (stand : yaml_emitter_stand_t) : Type 0 where
   pub encoding : stand.encoding ≡ e.course.settings.encoding
   pub place : stand.place ≡ e.course.state.place
   pub innermost : stand.innermost ≡ top_of e.course.state.levels

@@ -7,7 +7,7 @@ use Rattle.yaml_emit_text.specs.Sink.{Grows}
 use Rattle.yaml_emit_layout.specs.declared.Expected.TheVariants as at
 use Rattle.yaml_emit_layout.specs.Content.{Event}
 use Rattle.yaml_emit_state.specs.Steps.{may_note}
-use Rattle.yaml_emit_held.specs.Judged.{take_memory, Refuses}
+use Rattle.yaml_emit_held.specs.Judged.{take_memory, RefusesHeld}
 use Rattle.yaml_emit_machine.specs.Emitter.{Emitter, Completes, Keeps}
 use Rattle.yaml_emit_machine.specs.Verdict.{verdict, Writes, wrong, Lays, LaysFirst}
 
@@ -103,7 +103,7 @@ HasFirst old es output n = (x : Encoding) (more : List Event) (whole : List Item
 -- document, or in front of a document's start.
 abbrev pub BlamesLevels : Event → Emitter → Emitter → Type 0
 BlamesLevels e old new = old.starved ≡ false → new.starved ≡ true
-    → Refuses (old.held ++ e ∷ []) (HasFirst old (e ∷ []) new.output)
+    → RefusesHeld (old.held ++ e ∷ []) (HasFirst old (e ∷ []) new.output)
 
 -- The settings came into force in front of the first event, which is still to come.
 pub record ComesIntoForce (old : Emitter) (e : Event) (new : Emitter) : Type 0 where

@@ -74,13 +74,13 @@ Lays e x es whole = LaysBy e.fresh e x es whole
 -- ---- of the first few
 
 -- a fresh emitter's text, and its encoding
-pub record IsFirst (n : ℕ) (w : RequestedSettings) (x : Encoding) (es : List Event)
+pub record IsFirstText (n : ℕ) (w : RequestedSettings) (x : Encoding) (es : List Event)
     (whole : List Item) : Type 0 where
   pub coded : x ≡ (first_settings w es).encoding
   pub is : whole ≡ written (laid_some n (first_settings w es) (placed at.StreamStart) es)
 
 abbrev pub FirstBy : Bool → ℕ → Emitter → Encoding → List Event → List Item → Type 0
-FirstBy true n e x es whole = IsFirst n e.requested_settings x es whole
+FirstBy true n e x es whole = IsFirstText n e.requested_settings x es whole
 FirstBy false n e x es whole = (e.course.settings.encoding ≡ x)
     × LaysSome n e.course.settings e.course.state (text_of e) (e.held ++ es) whole
 

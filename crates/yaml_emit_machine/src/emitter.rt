@@ -214,7 +214,7 @@ impl yaml_emitter_t {
         ensures last { AreLast (self.old.held ++ emitter_event (body_of event.old) ∷ [])
             self.new.held }
     {
-        yaml_emit_held::give(&mut self.core, &mut self.held, event);
+        yaml_emit_held::hold_or_lay(&mut self.core, &mut self.held, event);
         note(&self.core, &mut self.fault);
     }
 
@@ -279,7 +279,7 @@ impl yaml_emitter_t {
 
     // An emitter without a fault takes an event.
     #[tactic(auto, using(crate::proofs::Taking::begins_takes, crate::proofs::Taking::begins_notes))]
-    fn take(&mut self, event: &mut yaml_event_body_t)
+    fn begin_or_lay(&mut self, event: &mut yaml_event_body_t)
         requires utf8 { HasUtf8 (body_of event.old) }
         requires right { self.old.fault ≡ None }
         ensures takes { TakesEvents self.old (emitter_event (body_of event.old) ∷ []) self.new [] }
@@ -319,7 +319,7 @@ pub fn answer(emitter: &yaml_emitter_t) -> Result<(), yaml_fault_t>
 /// Takes an event, unless a fault has come. What is left of the event counts for nothing.
 // Out of line: the whole work on an event stands once, not in each of its callers.
 #[inline(never)]
-pub fn give(emitter: &mut yaml_emitter_t, event: &mut yaml_event_body_t)
+pub fn take_event(emitter: &mut yaml_emitter_t, event: &mut yaml_event_body_t)
     requires { HasUtf8 (body_of event.old) }
     ensures takes { TakesEvents emitter.old (emitter_event (body_of event.old) ∷ []) emitter.new
         [] }
@@ -336,7 +336,7 @@ pub fn give(emitter: &mut yaml_emitter_t, event: &mut yaml_event_body_t)
     match emitter.fault {
         Some(_) => (),
         None => {
-            emitter.take(event);
+            emitter.begin_or_lay(event);
         }
     }
 }
@@ -359,12 +359,12 @@ pub fn give_early(emitter: &mut yaml_emitter_t, event: &mut yaml_event_body_t)
     if emitter.lays_at_once() {
         emitter.lay_at_once(event);
     } else {
-        give(emitter, event);
+        take_event(emitter, event);
     }
 }
 
 /// The same of an event that is handed over.
-pub fn give_over(emitter: &mut yaml_emitter_t, event: yaml_event_body_t)
+pub fn take_event_over(emitter: &mut yaml_emitter_t, event: yaml_event_body_t)
     requires { HasUtf8 (body_of event) }
     ensures takes { TakesEvents emitter.old (emitter_event (body_of event) ∷ []) emitter.new [] }
     ensures memory { NotesMemoryOf (emitter_event (body_of event)) emitter.old emitter.new }
@@ -376,7 +376,7 @@ pub fn give_over(emitter: &mut yaml_emitter_t, event: yaml_event_body_t)
     ensures begun { emitter.new.fresh ≡ false }
 {
     let mut event = event;
-    give(emitter, &mut event);
+    take_event(emitter, &mut event);
     drop(event);
 }
 
@@ -395,6 +395,6 @@ pub fn emit(emitter: &mut yaml_emitter_t, event: yaml_event_body_t) -> Result<()
     ensures begun { emitter.new.fresh ≡ false }
     ensures stuck { OnErr result (Stuck emitter.new) }
 {
-    give_over(emitter, event);
+    take_event_over(emitter, event);
     answer(emitter)
 }

@@ -9,7 +9,7 @@ use crate::bytes::bytes_of;
 use crate::cursor::{Cursor, Status};
 use crate::settings::Encoding;
 use std::alloc::AllocError;
-use yaml_scan_types::{push_each, push_near};
+use yaml_types::{push_each, push_near};
 
 // These bytes, as far as the limit and the memory allow, and what becomes of the output.
 pub(crate) fn append(output: &mut Vec<u8>, limit: u64, bytes: &[u8]) -> Status

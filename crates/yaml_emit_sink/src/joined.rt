@@ -3,7 +3,7 @@
 ghost use Rattle.std.specs.Prelude.{◌≡◌, ◌≤◌, ◌+◌, ◌++◌, [], length, vec_len, vec_capacity};
 
 use std::mem;
-use yaml_scan_types::{BRIEF, push_each, push_near, put_brief};
+use yaml_types::{BRIEF, push_each, push_near, put_brief};
 
 // The bytes, of which none and no room are left.
 // Inlined: some moves.

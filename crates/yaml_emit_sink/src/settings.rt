@@ -3,8 +3,7 @@
 ghost use Rattle.std.specs.Prelude.{◌≡◌, ◌<◌, pos, false};
 ghost use Rattle.yaml_emit_sink.specs.Settings.{settled, settled_indent, settled_width, settled_break, settled_encoding, encoding_or};
 
-use yaml_parse_types::yaml_break_t;
-use yaml_scan_types::yaml_encoding_t;
+use yaml_types::{yaml_break_t, yaml_encoding_t};
 
 /// How the characters are spelled in bytes.
 #[derive(Clone, Copy)]

@@ -14,7 +14,7 @@ use crate::narrow::is_long_ascii;
 use crate::settings::{Encoding, LineBreak};
 use std::alloc::{AllocError, Global};
 use std::marker::Model;
-use yaml_scan_types::{push_each, push_near};
+use yaml_types::{push_each, push_near};
 
 /// An output: bytes up to a limit, the cursor, and whether it goes on. Once it has stopped, nothing more is written, and it
 /// stays stopped.

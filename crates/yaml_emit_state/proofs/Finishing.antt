@@ -17,7 +17,7 @@ use Rattle.yaml_emit_layout.specs.ToCome.{ToCome, stream, events, layout}
 use Rattle.yaml_emit_layout.specs.ToCome as come
 use Rattle.yaml_emit_layout.proofs.Going.{Goes, goes}
 use Rattle.yaml_emit_state.specs.declared.state.Core.{Core}
-use Rattle.yaml_emit_state.specs.Steps.{state_of, settings_of, next_state, next_piece, LaysOut, IsFresh}
+use Rattle.yaml_emit_state.specs.Steps.{state_of, settings_of, next_state, next_piece, LaysOut, IsFreshCore}
 use Rattle.yaml_emit_state.specs.Finish.{Finishes, FinishesAt, FinishesBy}
 
 going_by : (s : Status) (core : Core) (es : List Event) (whole : List Item) → s ≡ Going
@@ -128,7 +128,7 @@ finishes_on old new e es whole l h =
 
 -- A fresh emitter finishes the layout of a stream that is right.
 pub fresh_finishes : (core : Core) (s : Settings) (x : yaml_encoding_t) (ds : List Document)
-    → IsFresh core s → own_problems s.canonical (stream_events x ds) ≡ None
+    → IsFreshCore core s → own_problems s.canonical (stream_events x ds) ≡ None
     → Finishes (settings_of core) (state_of core) core.sink (stream_events x ds)
     (written (stream_layout s ds))
 unfolding Finishes Ends events layout come.state_of

@@ -37,7 +37,7 @@ pub record Resumes (s : Settings) (limit : ℕ) (stand : yaml_emitter_stand_t) (
   pub starved : core.starved ≡ false
 
 -- that is where it stands
-pub record IsStand (core : Core) (count : ℕ) (stand : yaml_emitter_stand_t) : Type 0 where
+pub record IsStandOfCore (core : Core) (count : ℕ) (stand : yaml_emitter_stand_t) : Type 0 where
   pub encoding : stand.encoding ≡ core.sink.encoding
   pub place : stand.place ≡ core.place
   pub innermost : stand.innermost ≡ top_of (stack_of core.levels)

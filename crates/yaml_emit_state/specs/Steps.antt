@@ -158,7 +158,7 @@ pub record Starves (old new : Core) : Type 0 where
   pub stopped : new.sink.status ≢ Going
 
 -- nothing was laid out
-pub record IsFresh (core : Core) (s : Settings) : Type 0 where
+pub record IsFreshCore (core : Core) (s : Settings) : Type 0 where
   pub settings : settings_of core ≡ s
   pub state : state_of core ≡ placed at.StreamStart
   pub output : core.sink.bytes ≡ []

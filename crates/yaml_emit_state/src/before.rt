@@ -191,7 +191,7 @@ fn put_closer(sink: &mut Sink, settings: &Settings, flow: bool, indent: u64, fre
     }
 }
 
-fn is_fresh(phase: Phase) -> bool
+fn is_fresh_phase(phase: Phase) -> bool
     ensures { result ≡ is_fresh phase }
 {
     match phase {
@@ -214,7 +214,7 @@ pub fn put_closer_at(sink: &mut Sink, settings: &Settings, top: &Option<Level>, 
             settings,
             level.flow,
             level.indent,
-            is_fresh(level.phase),
+            is_fresh_phase(level.phase),
             c,
         ),
     }

@@ -83,10 +83,10 @@ fn put_dashes(sink: &mut Sink, settings: &Settings)
 {
     sink.put_line(settings.line_break, 0);
     sink.put_word(b"---");
-    put_line_if(sink, settings.canonical, settings);
+    put_line_where_due(sink, settings.canonical, settings);
 }
 
-fn put_line_if(sink: &mut Sink, due: bool, settings: &Settings)
+fn put_line_where_due(sink: &mut Sink, due: bool, settings: &Settings)
     ensures { Puts sink.old sink.new (when due (line_at settings.now 0)) }
 {
     if due {

@@ -207,7 +207,7 @@ fn handle_problem(handle: &[u8]) -> Option<Problem>
     }
 }
 
-fn is_empty(text: &[u8]) -> Option<Problem>
+fn empty_problem(text: &[u8]) -> Option<Problem>
     ensures { result ≡ prefix_problem text.now }
 {
     if text.is_empty() {
@@ -242,7 +242,7 @@ fn directive_problem<'a>(
     if let Some(problem) = handle_problem(&directive.handle) {
         return Ok(Some(problem));
     }
-    if let Some(problem) = is_empty(&directive.prefix) {
+    if let Some(problem) = empty_problem(&directive.prefix) {
         return Ok(Some(problem));
     }
     twice_problem(seen, &directive.handle)

@@ -19,7 +19,7 @@ use yaml_scan_model::{yaml_mapping_style_t, yaml_sequence_style_t};
 // Whether a break begins there. Most bytes tell by themselves that none does.
 // Inlined: two comparisons a byte.
 #[inline(always)]
-#[tactic(auto, unfolding(yaml_scan_types::specs::Marks::break_of))]
+#[tactic(auto, unfolding(yaml_types::specs::Marks::break_of))]
 fn begins_break(value: &[u8], place: usize) -> bool
     requires { place < length value.now }
     ensures { result ≡ is_break value.now place }

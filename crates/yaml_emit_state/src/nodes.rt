@@ -37,7 +37,7 @@ fn put_name(sink: &mut Sink, indicator: u8, name: &[u8])
 
 /// An alias.
 #[tactic(auto, unfolding(yaml_emit_layout::specs::Nodes::alias_layout))]
-pub fn put_alias(sink: &mut Sink, spot: Spot, name: &[u8])
+pub fn put_alias_at(sink: &mut Sink, spot: Spot, name: &[u8])
     requires { IsAscii name.now }
     ensures { Puts sink.old sink.new (alias_layout spot name.now) }
 {
@@ -45,7 +45,7 @@ pub fn put_alias(sink: &mut Sink, spot: Spot, name: &[u8])
     put_blank_if(sink, is_simple_part(spot.part));
 }
 
-fn put_anchor(sink: &mut Sink, anchor: &Option<Vec<u8>>)
+fn put_anchor_if(sink: &mut Sink, anchor: &Option<Vec<u8>>)
     requires { IsNamed (text_of anchor.now) }
     ensures { Puts sink.old sink.new (anchor_text (text_of anchor.now)) }
 {
@@ -94,7 +94,7 @@ fn put_properties(
         (text_of anchor.now)
         (kept_tag context.now.settings.now.canonical left_out (text_of tag.now))) }
 {
-    put_anchor(sink, anchor);
+    put_anchor_if(sink, anchor);
     put_tag_if(
         sink,
         context,
@@ -326,7 +326,7 @@ fn put_canonical_scalar(sink: &mut Sink, context: &Context, spot: Spot, scalar: 
     ensures { Puts sink.old sink.new (scalar_layout (lent_context context.now) spot
         (lent_scalar scalar.now)) }
 {
-    put_anchor(sink, scalar.anchor);
+    put_anchor_if(sink, scalar.anchor);
     match scalar.tag {
         None => put_untagged(sink, context.settings, spot, scalar.quoted, scalar.value),
         Some(tag) => put_tagged(sink, context, spot, tag, scalar.value),

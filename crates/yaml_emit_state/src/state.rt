@@ -48,11 +48,11 @@ impl Core {
     ghost use Rattle.yaml_emit_layout.specs.State.{problem_at};
     ghost use Rattle.yaml_scan_model.specs.declared.yaml_scalar_style_t.{yaml_scalar_style_t};
     ghost use Rattle.yaml_emit_state.specs.Given.{lent_scalar, plain_text, IsNamed};
-    ghost use Rattle.yaml_emit_state.specs.Steps.{state_of, settings_of, LaysOut, IsFresh, LaysOutRight, Starves, is_going, goes_on};
+    ghost use Rattle.yaml_emit_state.specs.Steps.{state_of, settings_of, LaysOut, IsFreshCore, LaysOutRight, Starves, is_going, goes_on};
 
     /// Nothing was laid out.
     pub fn new(alloc: Global, settings: Settings, limit: u64) -> Core
-        ensures fresh { IsFresh result settings }
+        ensures fresh { IsFreshCore result settings }
         ensures limit { result.sink.limit ≡ limit }
     {
         let mut sink = Sink::new(alloc, limit);
@@ -150,7 +150,7 @@ impl Core {
     // Inlined into its callers: no call stands between an event's judgement and its text.
     #[inline(always)]
     #[tactic(auto, unfolding(yaml_emit_layout::specs::State::text_at, yaml_emit_layout::specs::State::next_at, yaml_emit_layout::specs::State::depth_at))]
-    fn take(&mut self, event: &mut yaml_event_body_t, empty: bool, canonical: bool)
+    fn lay_event(&mut self, event: &mut yaml_event_body_t, empty: bool, canonical: bool)
         requires utf8 { HasUtf8 (body_of event.old) }
         requires right { problem_at (settings_of self.old) (state_of self.old)
             (emitter_event (body_of event.old)) ≡ None }
@@ -181,7 +181,7 @@ impl Core {
             (emitter_event (body_of event.old)) ≡ None }
         ensures { LaysOutRight self.old self.new (emitter_event (body_of event.old)) empty }
     {
-        self.take(event, empty, self.settings.canonical);
+        self.lay_event(event, empty, self.settings.canonical);
     }
 
     // The same, where it is known to be a scalar, and in which form.
@@ -328,7 +328,7 @@ impl Core {
         ensures { LaysOut self.old self.new (emitter_event (body_of event.old)) empty }
     {
         if self.admits(event, canonical) {
-            self.take(event, empty, canonical);
+            self.lay_event(event, empty, canonical);
         }
     }
 

@@ -6,7 +6,7 @@ use Rattle.std.proofs.lemmas.List.{length-map}
 use Rattle.yaml_scan_model.specs.declared.yaml_tag_directive_t.{yaml_tag_directive_t}
 use Rattle.yaml_parse_model.specs.Events.{TagDirective, directive_of}
 use Rattle.yaml_emit_tags.specs.Tags.{has_shorter_prefix, directive_for, defines}
-use Rattle.yaml_emit_tags.specs.Prefixes.{entry_of, directive_at, IsIndex, IsFirst, IsNumber}
+use Rattle.yaml_emit_tags.specs.Prefixes.{entry_of, directive_at, IsIndex, IsFirstShorter, IsNumber}
 use Rattle.yaml_emit_tags.specs.TableView.{IsIndexed}
 use Rattle.yaml_emit_tags.proofs.Directives.{next_of, none_of}
 use Rattle.yaml_emit_tags.proofs.Sorting.{begins}
@@ -61,8 +61,8 @@ walk_none ds i tag h e = e ∙ ap (λ z. directive_for z tag) (none_of ds i h)
 pub number_indexed : (ds : List TagDirective) (s : Option (Vec (Vec ℕ Global × ℕ) Global))
     (es : Vec (Vec ℕ Global × ℕ) Global) (items : List (Vec ℕ Global × ℕ)) (tag : List ℕ)
     (best : Option ℕ) → s ≡ Some es → items ≡ es.items → IsIndexed ds s
-    → IsFirst (map entry_of items) tag (length tag) best → IsNumber ds tag best
+    → IsFirstShorter (map entry_of items) tag (length tag) best → IsNumber ds tag best
 number_indexed ds s es items tag best is same x f =
     let P : Option (Vec (Vec ℕ Global × ℕ) Global) → Type 0 = λ o. IsIndexed ds o in
-    let Q : List (Vec ℕ Global × ℕ) → Type 0 = λ z. IsFirst (map entry_of z) tag (length tag) best in
+    let Q : List (Vec ℕ Global × ℕ) → Type 0 = λ z. IsFirstShorter (map entry_of z) tag (length tag) best in
     number_by ds (map entry_of es.items) tag best (subst P is x) (subst Q same f)

@@ -14,7 +14,7 @@ use Rattle.std.proofs.Common.{eq-eqb}
 use Rattle.std.proofs.lemmas.Cmp.{then_total, on_total, nat_list_cmp_total, nat_cmp_total, tied_itself}
 use Rattle.std.proofs.lemmas.List.Sorted.{sorted_far, ranks_by}
 use Rattle.yaml_emit_tags.specs.Tags.{has_shorter_prefix}
-use Rattle.yaml_emit_tags.specs.Prefixes.{Entry, entry_of, at, entry_cmp, key, smaller, IsFirst, IsFound, IsAtMost}
+use Rattle.yaml_emit_tags.specs.Prefixes.{Entry, entry_of, at, entry_cmp, key, smaller, IsFirstShorter, IsFound, IsAtMost}
 use Rattle.yaml_emit_tags.proofs.Sorting.{at_of, Agree, Begins, begins, begun, begins_agree, begins_key, agree_more, key_behind, key_within, less_or}
 
 -- ---- the order of two prefixes
@@ -86,7 +86,7 @@ pub record Searching (xs : List Entry) (tag : List ℕ) (from to depth : ℕ) (b
   pub agree : (k : ℕ) → from ≤ k → k < to → Agree depth (at xs k).0 tag
   pub others : (k : ℕ) → k < length xs → has_shorter_prefix (at xs k).0 tag ≡ true
       → depth ≤ length (at xs k).0 → (from ≤ k) × (k < to)
-  pub first : IsFirst xs tag depth best
+  pub first : IsFirstShorter xs tag depth best
 
 pub searching : (xs : List Entry) (tag : List ℕ) → Searching xs tag 0 (length xs) 0 None
 searching xs tag = record {
@@ -176,7 +176,7 @@ least_here xs tag from to depth best s w k a b h =
 
 pub better : (xs : List Entry) (tag : List ℕ) (from to depth : ℕ) (best : Option ℕ)
     → IsSorted entry_cmp xs → Searching xs tag from to depth best → from < to → depth < length tag
-    → IsFirst xs tag (depth + 1) (smaller best (ended (at xs from) depth))
+    → IsFirstShorter xs tag (depth + 1) (smaller best (ended (at xs from) depth))
 better xs tag from to depth best s w h l = record {
   found = found_smaller xs tag best (ended (at xs from) depth) w.first.found (found_by xs tag from depth (length (at xs from).0 == depth) (omega (arith, w.inside)) (w.agree from (omega arith) h) l refl);
   least = λ k r e m. elim (less_or (length (at xs k).0) depth) [
@@ -189,7 +189,7 @@ better xs tag from to depth best s w h l = record {
 
 pub narrowed : (xs : List Entry) (tag : List ℕ) (from to depth start end byte : ℕ)
     (best more : Option ℕ) → Searching xs tag from to depth best → depth < length tag
-    → byte ≡ get_or tag depth 0 → IsFirst xs tag (depth + 1) more
+    → byte ≡ get_or tag depth 0 → IsFirstShorter xs tag (depth + 1) more
     → from ≤ start → start ≤ to
     → ((k : ℕ) → from ≤ k → k < start → key (at xs k).0 depth < byte + 1)
     → ((k : ℕ) → start ≤ k → k < to → byte + 1 ≤ key (at xs k).0 depth)
@@ -216,7 +216,7 @@ narrowed xs tag from to depth start end byte best more w l is f a b below above 
 -- ---- the end of the search
 
 pub none_left : (xs : List Entry) (tag : List ℕ) (from to depth : ℕ) (best : Option ℕ)
-    → Searching xs tag from to depth best → from ≡ to → IsFirst xs tag (length tag) best
+    → Searching xs tag from to depth best → from ≡ to → IsFirstShorter xs tag (length tag) best
 none_left xs tag from to depth best w same = record {
   found = w.first.found;
   least = λ k r e m. elim (less_or (length (at xs k).0) depth) [
@@ -226,7 +226,7 @@ none_left xs tag from to depth best w same = record {
 }
 
 pub all_read : (xs : List Entry) (tag : List ℕ) (depth : ℕ) (best : Option ℕ)
-    → IsFirst xs tag depth best → length tag ≤ depth → IsFirst xs tag (length tag) best
+    → IsFirstShorter xs tag depth best → length tag ≤ depth → IsFirstShorter xs tag (length tag) best
 all_read xs tag depth best f h = record { found = f.found; least = λ k r e m. f.least k r e (omega arith) }
 
 -- ---- what the code holds
@@ -235,9 +235,9 @@ pub better_by : (es : List (Vec ℕ Global × ℕ)) (tag : List ℕ) (from to de
     (best r more : Option ℕ) (e : Vec ℕ Global × ℕ) → IsSorted entry_cmp (map entry_of es)
     → Searching (map entry_of es) tag from to depth best → from < to → depth < length tag
     → e ≡ get_or es from e → r ≡ ended (entry_of e) depth → more ≡ smaller best r
-    → IsFirst (map entry_of es) tag (depth + 1) more
+    → IsFirstShorter (map entry_of es) tag (depth + 1) more
 better_by es tag from to depth best r more e s w h l is re me =
     let n : length (map entry_of es) ≡ length es = length-map es entry_of in
     let there : at (map entry_of es) from ≡ entry_of e = at_of es from e (omega (arith, w.inside)) is in
-    let P : Option ℕ → Type 0 = λ o. IsFirst (map entry_of es) tag (depth + 1) o in
+    let P : Option ℕ → Type 0 = λ o. IsFirstShorter (map entry_of es) tag (depth + 1) o in
     subst P (ap (λ (x : Entry). smaller best (ended x depth)) there ∙ sym (ap (smaller best) re) ∙ sym me) (better (map entry_of es) tag from to depth best s w h l)

@@ -12,7 +12,7 @@ use Rattle.std.proofs.lemmas.List.Sorted.{IsPermutation-map, All-permutation, Co
 use Rattle.yaml_scan_model.specs.declared.yaml_tag_directive_t.{yaml_tag_directive_t}
 use Rattle.yaml_parse_model.specs.Events.{TagDirective, directive_of}
 use Rattle.yaml_emit_tags.specs.Tags.{has_shorter_prefix, directive_for}
-use Rattle.yaml_emit_tags.specs.Prefixes.{Entry, entry_of, at, entry_cmp, numbered, directive_at, IsIndex, IsFirst, IsAtMost, IsNumber}
+use Rattle.yaml_emit_tags.specs.Prefixes.{Entry, entry_of, at, entry_cmp, numbered, directive_at, IsIndex, IsFirstShorter, IsAtMost, IsNumber}
 use Rattle.yaml_emit_tags.proofs.Sorting.{Begins, begins}
 
 -- ---- numbering
@@ -108,7 +108,7 @@ at_default (x ∷ xs) (suc k) d h = at_default xs k d (omega arith)
 
 -- a directive that the tag can be written by isn't before the first
 not_before : (ds : List TagDirective) (xs : List Entry) (tag : List ℕ) (best : Option ℕ) (j : ℕ)
-    → IsIndex ds xs → IsFirst xs tag (length tag) best → j < length ds
+    → IsIndex ds xs → IsFirstShorter xs tag (length tag) best → j < length ds
     → has_shorter_prefix (directive_at ds j).prefix tag ≡ true → IsAtMost best j
 not_before ds xs tag best j x f h e =
     let c = has ds xs j x h in
@@ -119,7 +119,7 @@ not_before ds xs tag best j x f h e =
     subst P (ap (λ (z : Entry). z.1) is) (f.least c.0 c.1 e' b.shorter)
 
 found_there : (ds : List TagDirective) (xs : List Entry) (tag : List ℕ) (n : ℕ) → IsIndex ds xs
-    → IsFirst xs tag (length tag) (Some n)
+    → IsFirstShorter xs tag (length tag) (Some n)
     → (n < length ds) × (has_shorter_prefix (directive_at ds n).prefix tag ≡ true)
 unfolding Names
 found_there ds xs tag n x f =
@@ -169,7 +169,7 @@ some_for (d ∷ ds) tag (suc n) h e first =
     (some_for ds tag n (omega arith) e (λ j l k. let m : suc n ≤ suc j = first (suc j) (omega arith) k in omega arith))
 
 pub number_by : (ds : List TagDirective) (xs : List Entry) (tag : List ℕ) (best : Option ℕ)
-    → IsIndex ds xs → IsFirst xs tag (length tag) best → IsNumber ds tag best
+    → IsIndex ds xs → IsFirstShorter xs tag (length tag) best → IsNumber ds tag best
 number_by ds xs tag None x f = none_for ds tag (λ j h e. not_before ds xs tag None j x f h e)
 number_by ds xs tag (Some n) x f =
     let k = found_there ds xs tag n x f in

@@ -54,10 +54,11 @@ IsFound xs tag (Some n) = (k : ℕ) × (k < length xs) × (has_shorter_prefix (a
     × ((at xs k).1 ≡ n)
 
 -- the smallest number beside a strictly shorter prefix of the tag that has fewer bytes than this
-pub record IsFirst (xs : List Entry) (tag : List ℕ) (depth : ℕ) (best : Option ℕ) : Type 0 where
-  pub found : IsFound xs tag best
-  pub least : (k : ℕ) → k < length xs → has_shorter_prefix (at xs k).0 tag ≡ true
-      → length (at xs k).0 < depth → IsAtMost best (at xs k).1
+pub record IsFirstShorter (xs : List Entry) (tag : List ℕ) (depth : ℕ) (best : Option ℕ) : Type 0
+  where
+    pub found : IsFound xs tag best
+    pub least : (k : ℕ) → k < length xs → has_shorter_prefix (at xs k).0 tag ≡ true
+        → length (at xs k).0 < depth → IsAtMost best (at xs k).1
 
 -- a directive of a list
 abbrev pub directive_at : List TagDirective → ℕ → TagDirective

@@ -3,7 +3,7 @@
 ghost use Rattle.std.specs.Prelude.{◌≡◌, ◌==◌, ◌<◌, ◌≤◌, ℕ, map, length, Some, None, if◌then◌else◌, IfOk, true};
 ghost use Rattle.std.specs.List.Sorted.{IsSorted};
 ghost use Rattle.yaml_parse_model.specs.Events.{directive_of};
-ghost use Rattle.yaml_emit_tags.specs.Prefixes.{key, at, entry_of, entry_cmp, smaller, numbered, IsIndex, IsFirst};
+ghost use Rattle.yaml_emit_tags.specs.Prefixes.{key, at, entry_of, entry_cmp, smaller, numbered, IsIndex, IsFirstShorter};
 ghost use Rattle.yaml_emit_tags.specs.Tags.{has_shorter_prefix};
 
 use std::alloc::{AllocError, Global};
@@ -89,7 +89,7 @@ fn edge(entries: &[(Vec<u8>, usize)], from: usize, to: usize, depth: usize, leas
 /// The smallest number of a strictly shorter prefix of the tag.
 pub fn first_among(entries: &[(Vec<u8>, usize)], tag: &[u8]) -> Option<usize>
     requires { IsSorted entry_cmp (map entry_of entries.now) }
-    ensures { IsFirst (map entry_of entries.now) tag.now (length tag.now) result }
+    ensures { IsFirstShorter (map entry_of entries.now) tag.now (length tag.now) result }
 {
     let mut best = None;
     let mut from = 0;

@@ -75,7 +75,7 @@ fn indexed(
 }
 
 // The number of the first directive by which the tag can be written.
-fn number_of(
+fn first_usable(
     directives: &[yaml_tag_directive_t],
     sorted: &Option<Vec<(Vec<u8>, usize)>>,
     tag: &[u8],
@@ -170,7 +170,7 @@ impl DirectiveTable {
             tag.now }
         ensures inside { IfSome result (λ d. length d.now.prefix.items < length tag.now) }
     {
-        match number_of(&self.list, &self.sorted, tag) {
+        match first_usable(&self.list, &self.sorted, tag) {
             None => None,
             Some(number) => Some(&self.list[number]),
         }

@@ -132,7 +132,7 @@ fn split_by_default<'a>(directives: &DirectiveTable, tag: &'a [u8]) -> SplitTag<
     }
 }
 
-fn behind<'a>(prefix: &[u8], tag: &'a [u8]) -> &'a [u8]
+fn suffix_behind<'a>(prefix: &[u8], tag: &'a [u8]) -> &'a [u8]
     requires { length prefix.now < length tag.now }
     ensures { result.now ≡ drop (length prefix.now) tag.now }
 {
@@ -144,7 +144,10 @@ fn split_tag<'a>(directives: &'a DirectiveTable, tag: &'a [u8]) -> SplitTag<'a>
     ensures { split_of result ≡ split_tag directives.now tag.now }
 {
     match directives.first_for(tag) {
-        Some(directive) => SplitTag::Shorthand(&directive.handle, behind(&directive.prefix, tag)),
+        Some(directive) => SplitTag::Shorthand(
+            &directive.handle,
+            suffix_behind(&directive.prefix, tag),
+        ),
         None => split_by_default(directives, tag),
     }
 }
@@ -251,7 +254,11 @@ pub fn put_tag(sink: &mut Sink, directives: &DirectiveTable, tag: &[u8])
 {
     match directives.first_for(tag) {
         Some(directive) => {
-            put_shorthand(sink, &directive.handle, behind(&directive.prefix, tag))
+            put_shorthand(
+                sink,
+                &directive.handle,
+                suffix_behind(&directive.prefix, tag),
+            )
         }
         None => put_by_default(sink, directives, tag),
     }

@@ -1,7 +1,7 @@
 -- Worked examples, computed by the definitions.
 use Rattle.std.proofs.Common.{◌≡◌, ℕ, List, [], ◌∷◌, refl, true, false}
 use Rattle.std.specs.Prelude.{codes}
-use Rattle.yaml_scan_types.specs.declared.yaml_scalar_style_t.TheVariants as asked
+use Rattle.yaml_types.specs.declared.yaml_scalar_style_t.TheVariants as asked
 use Rattle.yaml_emit_text.specs.declared.page.Page.{Page}
 use Rattle.yaml_emit_text.specs.declared.page.Style.TheVariants as style
 use Rattle.yaml_emit_sink.specs.declared.Encoding.TheVariants.{Utf16Le, Utf16Be}

@@ -10,7 +10,7 @@ use crate::letters::{first, is_break, is_empty, split_first};
 use crate::page::{Allowed, Seen, Style};
 use crate::quoted::is_printable;
 use crate::run::{last_of, split_calm};
-use yaml_scan_types::yaml_scalar_style_t;
+use yaml_types::yaml_scalar_style_t;
 
 pub(crate) fn is_blank(c: char) -> bool
     ensures { result ≡ is_blank c }
@@ -204,7 +204,7 @@ fn look(unicode: bool, value: &str, before: char, rest: &str) -> (Seen, char)
     (all, last)
 }
 
-fn behind(text: &str) -> &str
+fn rest_behind(text: &str) -> &str
     ensures { chars result.now ≡ behind (chars text.now) }
 {
     match split_first(text) {
@@ -229,8 +229,8 @@ fn starts_badly(value: &str) -> bool
     if begins_well(first_one) {
         return false;
     }
-    let second = behind(value);
-    is_badly_begun(first_one, first(second), first(behind(second)))
+    let second = rest_behind(value);
+    is_badly_begun(first_one, first(second), first(rest_behind(second)))
 }
 
 fn allowed_by(all: Seen, spaced: bool, badly: bool) -> Allowed

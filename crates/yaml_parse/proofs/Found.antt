@@ -5,10 +5,10 @@ use Rattle.yaml_parse_model.specs.Events.{Event, no_event}
 use Rattle.yaml_parse_step.specs.parse_grammar.Resolve.{Told}
 use Rattle.yaml_parse_step.specs.parse_grammar.Remaining.{ParserRemaining, GivesEvent, EventOf}
 use Rattle.yaml_parse_step.specs.Finds.{GivesNext, GivesEnd}
-use Rattle.yaml_parse_step.specs.Steps.{Kept}
+use Rattle.yaml_parse_step.specs.Steps.{KeptOverTurns}
 
 -- behind turns that gave nothing
-pub found_behind : (e : Event) (i o n : ParserRemaining) → Kept i o → GivesNext e o n
+pub found_behind : (e : Event) (i o n : ParserRemaining) → KeptOverTurns i o → GivesNext e o n
     → GivesNext e i n
 found_behind e i o n k g =
     record { events = sym k.events ∙ g.events; ending = g.ending ∙ k.ending; ending_unasked = g.ending_unasked ∙ k.ending_unasked; answered = g.answered ∙ k.answered }

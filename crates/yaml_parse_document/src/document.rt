@@ -170,7 +170,7 @@ pub fn yaml_document_set_end_implicit(document: &mut yaml_document_t, end_implic
 }
 
 // The place in the list of nodes of the node under a number.
-fn place(number: i32) -> usize
+fn node_place(number: i32) -> usize
     requires { pos 1 ≤ℤ number }
     ensures { number ≡ pos (suc result) }
 {
@@ -185,7 +185,7 @@ pub fn yaml_document_get_node(document: &yaml_document_t, index: i32) -> Option<
     if index < 1 {
         return None;
     }
-    document.nodes.get(place(index))
+    document.nodes.get(node_place(index))
 }
 
 /// The root, if the document has one: its first node.

@@ -13,7 +13,7 @@ use Rattle.yaml_parse_laws_trees.specs.parse_grammar.TreeSteps.{items}
 use Rattle.yaml_parse_laws_trees.specs.parse_grammar.Machine.{choice_at, left_at, Fed, stop, go, with_item, turn, feed, Outcome, finished, carry, ending_at, run, initial}
 use Rattle.yaml_parse_laws_trees.proofs.CompleteStream.{stream_runs, nothing_runs}
 use Rattle.yaml_parse_laws_trees.proofs.Turns.{items_given}
-use Rattle.yaml_parse_laws_trees.specs.SoundLaws.{bare, BeginsWithItems, TreeGoesOn, TreeGoesOnGiving, StandsAt, RefusedAt, RunsOut, FaultsStandAtFirst, FrontsAreNotRefused}
+use Rattle.yaml_parse_laws_trees.specs.SoundLaws.{bare, BeginsWithItems, TreeGoesOn, TreeGoesOnGiving, StandsAtLoad, RefusedAt, RunsOut, FaultsStandAtFirst, FrontsAreNotRefused}
 use Rattle.yaml_parse_laws_trees.proofs.Left.{Over}
 use Rattle.yaml_parse_laws_trees.proofs.Sound.{FedLeft, feed_left}
 use Rattle.yaml_parse_laws_trees.proofs.SoundStanding.{AllStood, FedStood, feed_stood}
@@ -22,7 +22,7 @@ use Rattle.yaml_parse_laws_trees.proofs.Closing.{closers, Empty, all_close, Stop
 -- ---- a fault's mark
 
 abbrev StopsAt : yaml_mark_t → Fed → Type 0
-StopsAt at (stop is e) = StandsAt at e
+StopsAt at (stop is e) = StandsAtLoad at e
 StopsAt at (go is s) = Unit {0}
 
 stops_with : (at : yaml_mark_t) (i : RawEvent) (fed : Fed) → StopsAt at fed
@@ -55,14 +55,14 @@ record RefusedFrom (s : List State) (ts : List Token) (given : List RawEvent) (e
   begins : BeginsWithItems given (run (front ++ closing) s None).items
   wrong : (more : List Token) (f : Option Fault) → (run (front ++ token ∷ more) s f).ending ≡ None
       → ⊥
-  stands : StandsAt token.start_mark e
+  stands : StandsAtLoad token.start_mark e
 
 -- what the stack waits for begins with the whole list, and gives what was given
 record RunsOutFrom (s : List State) (ts : List Token) (f : Option Fault) (given : List RawEvent) (e : Fault) : Type 0 where
   closing : List Token
   before : Over s Empty (ts ++ closing)
   begins : BeginsWithItems given (run (ts ++ closing) s None).items
-  own : (f ≡ Some e) ⊎ ((f ≡ None) × StandsAt zero_mark e)
+  own : (f ≡ Some e) ⊎ ((f ≡ None) × StandsAtLoad zero_mark e)
 
 abbrev given_from : List State → List Token → Option Fault → List RawEvent
 given_from s ts f = bare (run ts s f).items
@@ -112,8 +112,9 @@ begins_same : (is js : List RawEvent) (more : List Given) → is ≡ js → Begi
     → BeginsWithItems js more
 begins_same is js more p b = subst (λ (z : List RawEvent). BeginsWithItems z more) p b
 
-some_same : (g e : Fault) (at : yaml_mark_t) → Some g ≡ Some e → StandsAt at g → StandsAt at e
-some_same g e at p h = let same : g ≡ e = cc in subst (StandsAt at) same h
+some_same : (g e : Fault) (at : yaml_mark_t) → Some g ≡ Some e → StandsAtLoad at g
+    → StandsAtLoad at e
+some_same g e at p h = let same : g ≡ e = cc in subst (StandsAtLoad at) same h
 
 pub not_none : (g : Fault) → Some g ≡ None → ⊥
 not_none g p = cc
@@ -163,12 +164,12 @@ placed_at s t ts f e (go is []) p a b d h r q = absurd (never ts f e q)
 placed_at s t ts f e (go is (x ∷ s')) p a b d h r q = further s t ts is x s' f e p h (r (x ∷ s') d q)
 
 placed_end : (s : List State) (e : Fault) (fed : Fed) → StopsAt zero_mark fed
-    → (carry 0 fed (λ _. finished)).ending ≡ Some e → StandsAt zero_mark e
+    → (carry 0 fed (λ _. finished)).ending ≡ Some e → StandsAtLoad zero_mark e
 placed_end s e (stop is g) a q = some_same g e zero_mark q a
 placed_end s e (go is s') a q = cc
 
 own_end : (s : List State) (f : Option Fault) (e : Fault) → (run [] s f).ending ≡ Some e
-    → (f ≡ Some e) ⊎ ((f ≡ None) × StandsAt zero_mark e)
+    → (f ≡ Some e) ⊎ ((f ≡ None) × StandsAtLoad zero_mark e)
 unfolding run
 own_end [] (Some g) e q = cc
 own_end (x ∷ s) (Some g) e q = inl q

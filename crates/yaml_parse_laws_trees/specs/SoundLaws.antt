@@ -67,7 +67,7 @@ pub record TreeGoesOnGiving (ts : List Token) (given : List RawEvent) : Type 0 w
   pub begins : BeginsWithItems given (given_of tree 0)
 
 -- a fault of the parser, at a mark
-pub record StandsAt (mark : yaml_mark_t) (e : Fault) : Type 0 where
+pub record StandsAtLoad (mark : yaml_mark_t) (e : Fault) : Type 0 where
   pub kind : e.kind ≡ YAML_PARSER_ERROR
   pub origin : e.origin ≡ Parser
   pub place : e.problem_mark ≡ mark
@@ -80,13 +80,13 @@ pub record RefusedAt (ts : List Token) (given : List RawEvent) (e : Fault) : Typ
   pub list : ts ≡ front ++ token ∷ behind
   pub before : TreeGoesOnGiving front given
   pub wrong : TreeGoesOn (front ++ token ∷ []) → ⊥
-  pub stands : StandsAt token.start_mark e
+  pub stands : StandsAtLoad token.start_mark e
 
 -- a tree goes on with the whole list and gives what was given: the fault is the source's own, or where it has none, stands at the empty token behind the list
 pub record RunsOut (ts : List Token) (f : Option Fault) (given : List RawEvent) (e : Fault) : Type 0
   where
     pub before : TreeGoesOnGiving ts given
-    pub own : (f ≡ Some e) ⊎ ((f ≡ None) × StandsAt zero_mark e)
+    pub own : (f ≡ Some e) ⊎ ((f ≡ None) × StandsAtLoad zero_mark e)
 
 -- A list ends in a fault at the first token that no tree goes on with, or else behind its last token.
 abbrev pub FaultsStandAtFirst : Type 0

@@ -87,7 +87,7 @@ impl Loader {
         let at = event.start_mark;
         match self.making.apply(event) {
             Fed::Taken => Ok(None),
-            Fed::Whole => Ok(Some(self.making.give())),
+            Fed::Whole => Ok(Some(self.making.take_document())),
             Fed::Undefined => {
                 self.making.begin_anew();
                 Err(undefined_alias_fault(at))

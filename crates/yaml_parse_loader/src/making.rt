@@ -133,7 +133,7 @@ fn attach(levels: &mut Vec<Level>, number: i32) -> Result<(), yaml_text_fault_t>
 }
 
 // What a collection holds, and its end.
-fn fill(node: &mut yaml_node_t, level: Level, end_mark: yaml_mark_t)
+fn fill_collection(node: &mut yaml_node_t, level: Level, end_mark: yaml_mark_t)
     ensures { node_of node.new ≡ filled (level_of level) end_mark (node_of node.old) }
 {
     node.end_mark = end_mark;
@@ -182,7 +182,7 @@ pub enum Fed {
 
 // What a step came to that only want of memory refuses.
 #[inline(always)]
-fn taken(step: Result<(), yaml_text_fault_t>) -> Fed
+fn fed_of(step: Result<(), yaml_text_fault_t>) -> Fed
     ensures { result ≡ taken_by step }
 {
     match step {
@@ -253,7 +253,7 @@ impl Making {
     /// The document. It starts anew.
     // Out of line: in line its room would be set to zero for each event.
     #[inline(never)]
-    pub fn give(&mut self) -> yaml_document_t
+    pub fn take_document(&mut self) -> yaml_document_t
         requires sound { IsDocument (loading_of self.old).document }
         requires sized { IsSized (loading_of self.old).document }
         ensures document { result ≡ (loading_of self.old).document }
@@ -290,7 +290,7 @@ impl Making {
     {
         match self.anchors.get(name) {
             None => Fed::Undefined,
-            Some(number) => taken(attach(&mut self.levels, number)),
+            Some(number) => fed_of(attach(&mut self.levels, number)),
         }
     }
 
@@ -339,7 +339,7 @@ impl Making {
         };
         let place = level.place();
         if place < self.parts.nodes.len() {
-            fill(&mut self.parts.nodes[place], level, end_mark);
+            fill_collection(&mut self.parts.nodes[place], level, end_mark);
         }
     }
 
@@ -456,20 +456,20 @@ impl Making {
             } => {
                 let name = anchor.take();
                 let node = scalar_of(tag, value, *style, start_mark, end_mark);
-                taken(self.add(name, node))
+                fed_of(self.add(name, node))
             }
             yaml_event_body_t::SequenceStart {
                 anchor,
                 tag,
                 style,
                 ..
-            } => taken(self.sequence(anchor, tag, *style, start_mark, end_mark)),
+            } => fed_of(self.sequence(anchor, tag, *style, start_mark, end_mark)),
             yaml_event_body_t::MappingStart {
                 anchor,
                 tag,
                 style,
                 ..
-            } => taken(self.mapping(anchor, tag, *style, start_mark, end_mark)),
+            } => fed_of(self.mapping(anchor, tag, *style, start_mark, end_mark)),
             yaml_event_body_t::SequenceEnd | yaml_event_body_t::MappingEnd => {
                 self.close(*end_mark);
                 Fed::Taken

@@ -277,7 +277,7 @@ pub fn exchanged(earlier: &mut yaml_event_body_t, text: &mut Vec<u8>) -> Vec<u8>
 // Another text in a place for one, in whose place the room of the earlier one is left.
 // Inlined: some moves.
 #[inline(always)]
-fn fill(place: &mut Option<Vec<u8>>, text: &mut Vec<u8>)
+fn fill_place(place: &mut Option<Vec<u8>>, text: &mut Vec<u8>)
     ensures { text_of place.new ≡ Some text.old.items }
 {
     match place {
@@ -309,7 +309,7 @@ pub(crate) fn exchange(place: &mut Option<Vec<u8>>, is_there: bool, text: &mut V
     ensures { text_of place.new ≡ text_if is_there text.old.items }
 {
     if is_there {
-        fill(place, text);
+        fill_place(place, text);
     } else {
         give_back(place, text);
     }

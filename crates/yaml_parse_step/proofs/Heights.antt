@@ -10,7 +10,7 @@ use Rattle.yaml_parse_grammar.specs.Resolve.{Directives, Settled, gave, settle}
 use Rattle.yaml_parse_grammar.specs.Remaining.{is_between}
 use Rattle.yaml_parse_grammar.specs.Stacks.{IsStack, StandsBehind, parts_documents_behind}
 use Rattle.yaml_parse_grammar.proofs.Standing.{StandsOn, taken_stands, left_stands, opened_stands, SettledBehind, settled_behind}
-use Rattle.yaml_parse_step.specs.Stepped.{Stepped}
+use Rattle.yaml_parse_step.specs.Stepped.{SteppedOnce}
 use Rattle.yaml_parse_step.specs.Stepped as step
 use Rattle.yaml_parse_step.specs.Steps.{Raw, IsDone, OpensAt, IsStackStep}
 
@@ -34,7 +34,7 @@ leave_stands x t s i c e h =
     let u : IsStack s × StandsBehind (left_at x t.start_mark).body (is_between s) = left_stands x (type_of t.body) t.start_mark s c h in
     (u.0, subst (λ (j : RawEvent). StandsBehind j.body (is_between s)) (sym e) u.1)
 
-pub open_stands : (x : State) (t : Token) (s s' : List State) (r : Stepped)
+pub open_stands : (x : State) (t : Token) (s s' : List State) (r : SteppedOnce)
     → choice_at x (type_of t.body) ≡ Open → OpensAt t.start_mark s r s' → IsStack (x ∷ s)
     → IsStackStep r s'
 open_stands x t s s' (step.given i) c o h =

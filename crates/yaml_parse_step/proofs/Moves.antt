@@ -26,7 +26,7 @@ use Rattle.yaml_parse_core.specs.Turns.{Takes, TurnsOn, context_if}
 use Rattle.yaml_parse_step.specs.Moves.{Moves, MovesSilently, Stops}
 use Rattle.yaml_parse_step.proofs.Texts.{take_item_utf8, take_silent_utf8, leave_utf8, open_utf8}
 use Rattle.yaml_parse_step.proofs.Heights.{take_item_stands, take_silent_stands, leave_stands, open_stands}
-use Rattle.yaml_parse_step.specs.Stepped.{Stepped}
+use Rattle.yaml_parse_step.specs.Stepped.{SteppedOnce}
 use Rattle.yaml_parse_step.specs.Stepped as step
 use Rattle.yaml_parse_step.specs.Steps.{Raw, raw, outcome, stop_of, budget, IsFront, HasNoFront, IsDirective, GivesItem, GivesNoItem, IsRefused, Steps, OpensAt, IsReal, IsRealOn}
 
@@ -108,14 +108,14 @@ open_item x t rest f s s' i h e q = record {
 }
 
 pub open_step : (x : State) (t : Token) (rest : List Token) (f : Option Fault) (s s' : List State)
-    (r : Stepped) → choice_at x (type_of t.body) ≡ Open
+    (r : SteppedOnce) → choice_at x (type_of t.body) ≡ Open
     → OpensAt t.start_mark s r s' → Steps (raw (Some t) rest f (x ∷ s)) r (raw (Some t) rest f s')
 open_step x t rest f s s' (step.given i) h o = open_item x t rest f s s' i h o.0 o.1
 open_step x t rest f s s' (step.refused e) h o = record { reason = inl (inl o); unasked = inl (inl o) }
 open_step x t rest f s s' step.silent h o = absurd o
 open_step x t rest f s s' step.done h o = absurd o
 
-pub open_real : (x : State) (t : Token) (start : yaml_mark_t) (s s' : List State) (r : Stepped)
+pub open_real : (x : State) (t : Token) (start : yaml_mark_t) (s s' : List State) (r : SteppedOnce)
     → OpensAt start s r s' → IsReal x t r
 open_real x t start s s' (step.given i) o = λ d. absurd (subst (λ (j : RawEvent). IsDirective j.body) o.0 d)
 open_real x t start s s' (step.refused e) o = tt
@@ -123,7 +123,7 @@ open_real x t start s s' step.silent o = absurd o
 open_real x t start s s' step.done o = absurd o
 
 -- what takes a token is real
-pub take_real : (x : State) (t : Token) (s : List State) (new : Raw) (r : Stepped)
+pub take_real : (x : State) (t : Token) (s : List State) (new : Raw) (r : SteppedOnce)
     → choice_at x (type_of t.body) ≡ Take → Steps (raw (Some t) [] None (x ∷ s)) r new
     → IsReal x t r
 take_real x t s new (step.given i) h o = λ d. h
@@ -143,7 +143,7 @@ less_of : (old middle new : ℕ) (x : State) (t : Token) → new < middle
     → (middle ≡ old) ⊎ (t ≡ no_token) → choice_at x (type_of t.body) ≡ Take → new < old
 less_of old middle new x t l a h = elim a [ inl e ↦ omega arith | inr e ↦ absurd (takes_real_token x t h e) ]
 
-pub bridge : (old middle new : Raw) (x : State) (t : Token) (r : Stepped) → Steps middle r new
+pub bridge : (old middle new : Raw) (x : State) (t : Token) (r : SteppedOnce) → Steps middle r new
     → outcome middle ≡ outcome old → stop_of middle ≡ stop_of old
     → (budget middle ≡ budget old) ⊎ (t ≡ no_token)
     → IsReal x t r → Steps old r new
@@ -167,7 +167,7 @@ bridge old middle new x t step.done h e q a l = absurd l
 
 -- the topmost state at the token of the source
 front_at : (peeked : Option Token) (ts : List Token) (f : Option Fault) (s : List State) (t : Token)
-    (rest : List Token) (after : Option Fault) (new : Raw) (r : Stepped)
+    (rest : List Token) (after : Option Fault) (new : Raw) (r : SteppedOnce)
     → (length s ≡ 0 → ⊥) → IsFront peeked ts f t rest after
     → Steps (raw (Some t) rest after s) r new → IsRealOn s t r → Steps (raw peeked ts f s) r new
 front_at peeked ts f [] t rest after new r n h k l = absurd (n refl)
@@ -201,7 +201,7 @@ some_left (x ∷ s) e n = omega (arith, n)
 
 -- the states go on behind the token in front
 pub over_front : (peeked : Option Token) (ts : List Token) (f : Option Fault) (s : List State)
-    (t : Token) (rest : List Token) (after : Option Fault) (new : Raw) (r : Stepped)
+    (t : Token) (rest : List Token) (after : Option Fault) (new : Raw) (r : SteppedOnce)
     → is_nothing s ≡ false → IsFront peeked ts f t rest after
     → Steps (raw (Some t) rest after s) r new → IsRealOn s t r → Steps (raw peeked ts f s) r new
 over_front peeked ts f s t rest after new r z h k l = front_at peeked ts f s t rest after new r (some_left s z) h k l

@@ -11,7 +11,7 @@ use Rattle.yaml_parse_grammar.specs.Machine.{taken_at, left_at, opened}
 use Rattle.yaml_parse_grammar.specs.Resolve.{Directives, gave, noted, settle}
 use Rattle.yaml_parse_grammar.specs.Texts.{IsUtf8Item, AreUtf8States, IsUtf8Token, IsUtf8Held}
 use Rattle.yaml_parse_grammar.proofs.Utf8.{IsUtf8Taken, taken_utf8, left_utf8, opened_utf8, states_over, IsUtf8Settled, settled_utf8, held_utf8}
-use Rattle.yaml_parse_step.specs.Stepped.{Stepped}
+use Rattle.yaml_parse_step.specs.Stepped.{SteppedOnce}
 use Rattle.yaml_parse_step.specs.Stepped as step
 use Rattle.yaml_parse_step.specs.Steps.{Raw, IsDone, OpensAt, IsUtf8Step}
 
@@ -41,7 +41,7 @@ pub leave_utf8 : (x : State) (t : Token) (start : yaml_mark_t) (s : List State) 
     → IsUtf8Item i.body × (IsUtf8Token (Some t) × (AreUtf8States s × AreUtf8 ds.tags))
 leave_utf8 x t start s i ds e h = (subst (λ (j : RawEvent). IsUtf8Item j.body) (sym e) (left_utf8 x start h.1.0.0), (h.0, (h.1.0.1, h.1.1)))
 
-pub open_utf8 : (x : State) (t : Token) (start : yaml_mark_t) (s s' : List State) (r : Stepped)
+pub open_utf8 : (x : State) (t : Token) (start : yaml_mark_t) (s s' : List State) (r : SteppedOnce)
     (ds : Directives) → OpensAt start s r s'
     → IsUtf8Held (Some t) (x ∷ s) ds → IsUtf8Step r (Some t) s' ds
 open_utf8 x t start s s' (step.given i) ds o h =
@@ -52,7 +52,7 @@ open_utf8 x t start s s' step.done ds o h = tt
 
 -- the state on top, at the token in front
 pub advance_utf8 : (peeked : Option Token) (s : List State) (t : Token) (after : Option Token)
-    (s' : List State) (r : Stepped) (ds : Directives)
+    (s' : List State) (r : SteppedOnce) (ds : Directives)
     → (IsUtf8Token peeked → source.HasUtf8 t.body)
     → (IsUtf8Held (Some t) s ds → IsUtf8Step r after s' ds) → IsUtf8Held peeked s ds
     → IsUtf8Step r after s' ds

@@ -18,7 +18,7 @@ use Rattle.yaml_parse_grammar.proofs.CompleteStream.{nothing_runs, stream_runs}
 use Rattle.yaml_parse_grammar.proofs.Voice.{speaks, reading_speaks, not_noted}
 use Rattle.yaml_parse_laws_trees.proofs.Turns.{items_given}
 use Rattle.yaml_parse_laws_trees.proofs.Falling.{has_more}
-use Rattle.yaml_parse_step.specs.Steps.{Raw, outcome, stop_of, IsDirective, GivesItem, GivesNoItem, IsRefused, IsDone, IsSilent, IsTurnRefused, IsOver, Kept}
+use Rattle.yaml_parse_step.specs.Steps.{Raw, outcome, stop_of, IsDirective, GivesItem, GivesNoItem, IsRefused, IsDone, IsSilent, IsTurnRefused, IsOver, KeptOverTurns}
 use Rattle.yaml_parse_step.specs.Finds.{GivesNext, GivesEnd}
 
 -- what is to come of it
@@ -272,10 +272,10 @@ one_held (Some t) = omega arith
 
 -- ---- the turns of a call
 
-pub kept_first : (c : ParserRemaining) → Kept c c
+pub kept_first : (c : ParserRemaining) → KeptOverTurns c c
 kept_first c = record { events = refl; ending = refl; ending_unasked = refl; answered = refl; unasked = inl (refl, refl) }
 
-pub kept_silent : (i o n : ParserRemaining) → Kept i o → IsSilent o n → Kept i n
+pub kept_silent : (i o n : ParserRemaining) → KeptOverTurns i o → IsSilent o n → KeptOverTurns i n
 kept_silent i o n k s = record {
   events = s.events ∙ k.events;
   ending = s.ending ∙ k.ending;
@@ -284,16 +284,16 @@ kept_silent i o n k s = record {
   unasked = inr (λ p q. s.speaks (k.events ∙ p) (k.ending ∙ q));
 }
 
-same_unasked : (i o : ParserRemaining) → Kept i o → i.events ≡ [] → i.ending ≡ None
+same_unasked : (i o : ParserRemaining) → KeptOverTurns i o → i.events ≡ [] → i.ending ≡ None
     → (o.unasked ≡ i.unasked) × (o.held ≡ i.held)
 same_unasked i o k p q = elim k.unasked [ inl a ↦ a | inr s ↦ absurd (s p q) ]
 
 -- the next event
-pub kept_event : (i o n : ParserRemaining) (e : Event) → Kept i o → GivesNext e o n
+pub kept_event : (i o n : ParserRemaining) (e : Event) → KeptOverTurns i o → GivesNext e o n
     → GivesNext e i n
 kept_event i o n e k h = record { events = sym k.events ∙ h.events; ending = h.ending ∙ k.ending; ending_unasked = h.ending_unasked ∙ k.ending_unasked; answered = h.answered ∙ k.answered }
 
-pub kept_end : (i o n : ParserRemaining) → Kept i o → IsOver o n → GivesEnd i n
+pub kept_end : (i o n : ParserRemaining) → KeptOverTurns i o → IsOver o n → GivesEnd i n
 kept_end i o n k h =
     let p : i.events ≡ [] = sym k.events ∙ h.finished.events in
     let q : i.ending ≡ None = sym k.ending ∙ h.finished.ending in
@@ -325,14 +325,15 @@ given_end es f e i n p q r h = rw (p, q, r) h
 pub parsed_end : (i n : ParserRemaining) (e : Event) → GivesEnd i n → e ≡ no_event → EventOf i e n
 parsed_end i n e h p = given_end i.events i.ending e i n h.events h.ending p h.nothing
 
-asked_same : (i o n n' : ParserRemaining) → Kept i o
+asked_same : (i o n n' : ParserRemaining) → KeptOverTurns i o
     → next_unasked o.events o.ending_unasked ≤ n.unasked → n'.unasked ≡ n.unasked
     → next_unasked i.events i.ending_unasked ≤ n'.unasked
 asked_same i o n n' k l u =
     subst (λ (x : ℕ). next_unasked i.events i.ending_unasked ≤ x) (sym u)
     (subst (λ (x : ℕ). next_unasked i.events x ≤ n.unasked) k.ending_unasked (subst (λ (gs : List Told). next_unasked gs o.ending_unasked ≤ n.unasked) k.events l))
 
-pub parsed_fault : (i o n n' : ParserRemaining) (f : Fault) → Kept i o → IsTurnRefused f o n
+pub parsed_fault : (i o n n' : ParserRemaining) (f : Fault) → KeptOverTurns i o
+    → IsTurnRefused f o n
     → n'.events ≡ n.events → n'.ending ≡ n.ending → n'.between ≡ n.between → n'.unasked ≡ n.unasked
     → n'.answered ≡ f → FaultOf i f n'
 parsed_fault i o n n' f k h a b c u d = record {

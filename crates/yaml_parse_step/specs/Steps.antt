@@ -20,7 +20,7 @@ use Rattle.yaml_parse_model.specs.Events.{event_of, body_of}
 use Rattle.yaml_parse_core.specs.Owned.{owned_states}
 use Rattle.yaml_parse_step.specs.declared.step.StepBuffers.{StepBuffers}
 use Rattle.yaml_parse_step.specs.Finds.{GivesNext}
-use Rattle.yaml_parse_step.specs.Stepped.{Stepped}
+use Rattle.yaml_parse_step.specs.Stepped.{SteppedOnce}
 use Rattle.yaml_parse_step.specs.Stepped as step
 use Rattle.yaml_parse_step.specs.Turned.{Turned}
 use Rattle.yaml_parse_step.specs.Turned as turn
@@ -114,14 +114,14 @@ pub record IsDone (old new : Raw) : Type 0 where
   pub empty : old.stack ≡ []
   pub same : new ≡ old
 
-abbrev pub Steps : Raw → Stepped → Raw → Type 0
+abbrev pub Steps : Raw → SteppedOnce → Raw → Type 0
 Steps old (step.given i) new = GivesItem i old new
 Steps old step.silent new = GivesNoItem old new
 Steps old (step.refused f) new = IsRefused f old new
 Steps old step.done new = IsDone old new
 
 -- an implicit document begins there
-abbrev pub OpensAt : yaml_mark_t → List State → Stepped → List State → Type 0
+abbrev pub OpensAt : yaml_mark_t → List State → SteppedOnce → List State → Type 0
 OpensAt start old (step.given i) new = (i ≡ item_at (item.document true) start start)
     × (new ≡ opened start ++ old)
 OpensAt start old (step.refused f) new = f ≡ memory_fault Parser
@@ -129,14 +129,14 @@ OpensAt start old step.silent new = ⊥
 OpensAt start old step.done new = ⊥
 
 -- what takes no item, or a directive, takes a token
-abbrev pub IsReal : State → Token → Stepped → Type 0
+abbrev pub IsReal : State → Token → SteppedOnce → Type 0
 IsReal x t (step.given i) = IsDirective i.body → choice_at x (type_of t.body) ≡ Take
 IsReal x t step.silent = choice_at x (type_of t.body) ≡ Take
 IsReal x t (step.refused f) = Unit {0}
 IsReal x t step.done = ⊥
 
 -- the same of the topmost state, if there is one
-abbrev pub IsRealOn : List State → Token → Stepped → Type 0
+abbrev pub IsRealOn : List State → Token → SteppedOnce → Type 0
 IsRealOn [] t r = Unit {0}
 IsRealOn (x ∷ s) t r = IsReal x t r
 
@@ -149,7 +149,7 @@ ComesTo s i (Some false) e f new = s ≡ noted new
 ComesTo s i None e f new = (f ≡ memory_fault Parser) ⊎ (s ≡ refused f)
 
 -- the texts of what a step gives are UTF-8, and those of what is held then
-abbrev pub IsUtf8Step : Stepped → Option Token → List State → Directives → Type 0
+abbrev pub IsUtf8Step : SteppedOnce → Option Token → List State → Directives → Type 0
 IsUtf8Step (step.given i) peeked s ds = IsUtf8Item i.body
     × (IsUtf8Token peeked × (AreUtf8States s × AreUtf8 ds.tags))
 IsUtf8Step step.silent peeked s ds = IsUtf8Token peeked × (AreUtf8States s × AreUtf8 ds.tags)
@@ -157,7 +157,7 @@ IsUtf8Step (step.refused f) peeked s ds = Unit {0}
 IsUtf8Step step.done peeked s ds = Unit {0}
 
 -- a step keeps how the states stand above one another, and what it gives tells whether a document is half taken then
-abbrev pub IsStackStep : Stepped → List State → Type 0
+abbrev pub IsStackStep : SteppedOnce → List State → Type 0
 IsStackStep (step.given i) s = IsStack s × StandsBehind i.body (is_between s)
 IsStackStep step.silent s = IsStack s
 IsStackStep (step.refused f) s = Unit {0}
@@ -199,7 +199,7 @@ Turns old (turn.refused f) new = IsTurnRefused f old new
 Turns old turn.done new = IsOver old new
 
 -- What lasts over the turns of a call. No token is taken unless something is to come.
-pub record Kept (initial now : ParserRemaining) : Type 0 where
+pub record KeptOverTurns (initial now : ParserRemaining) : Type 0 where
   pub events : now.events ≡ initial.events
   pub ending : now.ending ≡ initial.ending
   pub ending_unasked : now.ending_unasked ≡ initial.ending_unasked

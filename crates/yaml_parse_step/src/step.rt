@@ -135,7 +135,7 @@ fn tell(shape: Shape, buffers: &mut StepBuffers, event: &mut yaml_event_t) -> St
 // A node behind properties.
 // Out of line: few have them.
 #[inline(never)]
-fn tell_named(
+fn step_named(
     shape: Shape,
     buffers: &mut StepBuffers,
     event: &mut yaml_event_t,
@@ -199,7 +199,7 @@ fn tell_rare(
 }
 
 // Where it stands: where the indicator before it ends, or the token begins.
-fn place(implied: Implied, before: yaml_mark_t, start: yaml_mark_t) -> yaml_mark_t
+fn implied_place(implied: Implied, before: yaml_mark_t, start: yaml_mark_t) -> yaml_mark_t
     ensures { (p : Properties) → implied_item implied p result result
         ≡ implied_item implied p before start }
 {
@@ -227,7 +227,7 @@ fn leave(
         (fault_of fault.new) buffers.new }
 {
     buffers.is_held = true;
-    let at = place(implied, buffers.machine.before, buffers.token.start_mark);
+    let at = implied_place(implied, buffers.machine.before, buffers.token.start_mark);
     let came = settle_implied(
         &mut buffers.directives,
         implied,
@@ -242,7 +242,11 @@ fn leave(
 // A document begins before the token, which stays.
 // Out of line: it is met once a document.
 #[inline(never)]
-fn open(buffers: &mut StepBuffers, event: &mut yaml_event_t, fault: &mut yaml_fault_t) -> Step
+fn open_document(
+    buffers: &mut StepBuffers,
+    event: &mut yaml_event_t,
+    fault: &mut yaml_fault_t,
+) -> Step
     ensures { (s : List State) (t : Token) → Turned buffers.old s t (kinds.opened)
         → token_of buffers.old.token ≡ t → WentOn s t buffers.old result (event_of event.new)
         (fault_of fault.new) buffers.new }
@@ -293,11 +297,11 @@ fn going(
         Turn::BlockMapping => tell(Shape::BlockMapping, buffers, event),
         Turn::FlowSequence => tell(Shape::FlowSequence, buffers, event),
         Turn::FlowMapping => tell(Shape::FlowMapping, buffers, event),
-        Turn::NamedScalar => tell_named(Shape::Scalar, buffers, event, fault),
-        Turn::NamedBlockSequence => tell_named(Shape::BlockSequence, buffers, event, fault),
-        Turn::NamedBlockMapping => tell_named(Shape::BlockMapping, buffers, event, fault),
-        Turn::NamedFlowSequence => tell_named(Shape::FlowSequence, buffers, event, fault),
-        Turn::NamedFlowMapping => tell_named(Shape::FlowMapping, buffers, event, fault),
+        Turn::NamedScalar => step_named(Shape::Scalar, buffers, event, fault),
+        Turn::NamedBlockSequence => step_named(Shape::BlockSequence, buffers, event, fault),
+        Turn::NamedBlockMapping => step_named(Shape::BlockMapping, buffers, event, fault),
+        Turn::NamedFlowSequence => step_named(Shape::FlowSequence, buffers, event, fault),
+        Turn::NamedFlowMapping => step_named(Shape::FlowMapping, buffers, event, fault),
         Turn::SequenceEnd => tell_other(Told::SequenceEnd, buffers, event, fault),
         Turn::MappingEnd => tell_other(Told::MappingEnd, buffers, event, fault),
         Turn::Alias => tell_other(Told::Alias, buffers, event, fault),
@@ -318,7 +322,7 @@ fn going(
         Turn::LeftSequenceEnd => leave(Implied::SequenceEnd, buffers, event, fault),
         Turn::LeftMappingEnd => leave(Implied::MappingEnd, buffers, event, fault),
         Turn::LeftDocumentEnd => leave(Implied::DocumentEnd, buffers, event, fault),
-        Turn::Opened => open(buffers, event, fault),
+        Turn::Opened => open_document(buffers, event, fault),
         Turn::NoStreamStart => refused(ParseProblem::NoStreamStart, buffers, fault),
         Turn::NoDocumentStart => refused(ParseProblem::NoDocumentStart, buffers, fault),
         Turn::NoDash => refused(ParseProblem::NoDash, buffers, fault),

@@ -12,7 +12,7 @@ use Rattle.yaml_round_device.specs.declared.yaml_command_t.{yaml_command_t}
 use Rattle.yaml_round_device.specs.declared.yaml_command_t.TheVariants.{Fmt, Docs, Events}
 use Rattle.yaml_round_device.specs.declared.yaml_run_fault_t.{yaml_run_fault_t}
 use Rattle.yaml_round_device.specs.declared.yaml_run_fault_t.TheVariants as fault
-use Rattle.yaml_round_device.specs.Run.{GivesAll, IsReadFault, TakesFew, RunTakes, Work, Runs, FailsBy}
+use Rattle.yaml_round_device.specs.Run.{GivesWholeInput, IsReadFault, TakesFew, RunTakes, Work, Runs, FailsBy}
 use Rattle.yaml_round.specs.Commands.{IsRunAnswer, run_layers, EndsUnfinished}
 
 abbrev pub work_of : yaml_command_t → yaml_encoding_t → yaml_settings_t → ℕ
@@ -65,7 +65,7 @@ unread_unfinished to_come limit before after finished (fault.Write written) h = 
 -- the input was refused
 pub refused : (command : yaml_command_t) (from : yaml_encoding_t) (settings : yaml_settings_t)
     (limit : ℕ) (to_come left received : Option (List ℕ)) (input : List ℕ) (f : yaml_fault_t)
-    → GivesAll to_come left limit input
+    → GivesWholeInput to_come left limit input
     → IsMemoryFault (run_layers command) (fault_of f)
     ⊎ IsRunAnswer command from settings input (Err (fault_of f))
     → Runs (work_of command from settings limit) (record { to_come = to_come; received = received })
@@ -77,7 +77,7 @@ refused command from settings limit to_come left received input f all said =
 pub told : (command : yaml_command_t) (from : yaml_encoding_t) (settings : yaml_settings_t)
     (limit : ℕ) (to_come left old new : Option (List ℕ)) (input text : List ℕ)
     (form : Option yaml_form_t)
-    → GivesAll to_come left limit input → IsRunAnswer command from settings input (Ok (text, form))
+    → GivesWholeInput to_come left limit input → IsRunAnswer command from settings input (Ok (text, form))
     → Appends old new text
     → Runs (work_of command from settings limit) (record { to_come = to_come; received = old })
     (record { to_come = left; received = new }) (Ok form)
@@ -87,7 +87,7 @@ told command from settings limit to_come left old new input text form all said a
 pub told_in_part : (command : yaml_command_t) (from : yaml_encoding_t) (settings : yaml_settings_t)
     (limit : ℕ) (to_come left old new : Option (List ℕ)) (input text : List ℕ)
     (form : Option yaml_form_t) (written : ℕ)
-    → GivesAll to_come left limit input → IsRunAnswer command from settings input (Ok (text, form))
+    → GivesWholeInput to_come left limit input → IsRunAnswer command from settings input (Ok (text, form))
     → written ≤ length text → Appends old new (take written text)
     → Runs (work_of command from settings limit) (record { to_come = to_come; received = old })
     (record { to_come = left; received = new }) (Err (fault.Write written))

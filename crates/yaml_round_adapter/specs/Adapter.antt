@@ -37,7 +37,7 @@ pub record TakesText (old : View) (t : Token) (new : View) : Type 0 where
   pub text : spells_text t.body ≡ true
 
 -- a token was taken whose tag isn't UTF-8: the fault is that of the tag
-pub record TakesBytes (old : View) (f : Fault) (new : View) : Type 0 where
+pub record TakesOtherBytes (old : View) (f : Fault) (new : View) : Type 0 where
   pub token : Token
   pub takes : Takes old token new
   pub bytes : spells_text token.body ≡ false
@@ -45,7 +45,7 @@ pub record TakesBytes (old : View) (f : Fault) (new : View) : Type 0 where
 
 -- A refusal is the session's own, which keeps it, with what it says of want of memory; or it is the next token's tag's.
 abbrev pub Stops : View → Fault → View → Type 0
-Stops old f new = Refuses old f new ⊎ TakesBytes old f new
+Stops old f new = Refuses old f new ⊎ TakesOtherBytes old f new
 
 abbrev pub Adapts : View → View → Bool → Token → Fault → Type 0
 Adapts old new true t f = TakesText old t new

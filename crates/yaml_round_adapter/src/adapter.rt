@@ -57,7 +57,7 @@ impl<'a> yaml_adapter_t<'a> {
 fn checked(token: &yaml_token_t, fault: &mut yaml_fault_t) -> bool
     ensures { Checks (token_of token.now) result (fault_of fault.new) }
 {
-    if has_tag(token) {
+    if carries_tag(token) {
         return checked_tag(token, fault);
     }
     true
@@ -67,7 +67,7 @@ fn checked(token: &yaml_token_t, fault: &mut yaml_fault_t) -> bool
 // Each of the two kinds is asked for by itself: a match on both would be told by ranges of kinds, a scalar's last.
 // Inlined: two comparisons.
 #[inline(always)]
-fn has_tag(token: &yaml_token_t) -> bool
+fn carries_tag(token: &yaml_token_t) -> bool
     ensures { result ≡ false → spells_text (token_of token.now).body ≡ true }
 {
     if is_tag(token) {
@@ -129,7 +129,11 @@ fn checked_rare(token: &yaml_token_t, fault: &mut yaml_fault_t) -> bool
 // The session's next token, or its fault, or that of its tag.
 // Inlined, as its callers are.
 #[inline(always)]
-fn take(session: &mut yaml_parser_t, token: &mut yaml_token_t, fault: &mut yaml_fault_t) -> bool
+fn scan_checked(
+    session: &mut yaml_parser_t,
+    token: &mut yaml_token_t,
+    fault: &mut yaml_fault_t,
+) -> bool
     ensures adapts { Adapts session.old session.new result (token_of token.new)
         (fault_of fault.new) }
     ensures little { HoldsLittle session.new }
@@ -174,7 +178,7 @@ impl<'a> yaml_token_source_t for yaml_adapter_t<'a> {
             put_empty(token);
             return true;
         }
-        if take(&mut self.session, token, fault) {
+        if scan_checked(&mut self.session, token, fault) {
             return true;
         }
         self.over = true;

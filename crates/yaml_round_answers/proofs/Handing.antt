@@ -9,7 +9,7 @@ use Rattle.yaml_parse.specs.Faults.{fault_of, memory_fault, IsMemoryFault, parse
 use Rattle.yaml_parse.specs.declared.yaml_origin_t.TheVariants.{Parser}
 use Rattle.yaml_parse.specs.Remaining.{ParserRemaining}
 use Rattle.yaml_round.specs.Answers.{IsFaulty}
-use Rattle.yaml_round.specs.Input.{Reads, events_of, ending_of}
+use Rattle.yaml_round.specs.Input.{ReadsInput, events_of, ending_of}
 use Rattle.yaml_round.proofs.Plain.{faulty}
 use Rattle.yaml_round_records.specs.declared.Listing.{Listing}
 use Rattle.yaml_round_records.specs.declared.yaml_c_directive.{yaml_c_directive}
@@ -26,7 +26,7 @@ use Rattle.yaml_round_records.proofs.Saying.{say_at}
 
 -- the events of a reading that has no fault are the input's
 pub all_taken : (from : yaml_encoding_t) (input : List ℕ) (p : ParserRemaining) (l : Listing)
-    → Reads from input p → p.ending ≡ None
+    → ReadsInput from input p → p.ending ≡ None
     → Collected p.events [] l
     → (ending_of from input ≡ None) × AreSaid l (events_alone (events_of from input))
     × HoldsAll l (events_alone (events_of from input))
@@ -36,7 +36,7 @@ all_taken from input p l r e c =
 
 -- its fault is the input's
 pub fault_taken : (from : yaml_encoding_t) (input : List ℕ) (p : ParserRemaining) (f : yaml_fault_t)
-    → Reads from input p
+    → ReadsInput from input p
     → (l : Listing)
     → IsMemoryFault parse_layers (fault_of f)
     ⊎ ((p.ending ≡ Some (fault_of f)) × Collected p.events [] l)
@@ -46,13 +46,13 @@ fault_taken from input p f r l (inr e) = inr (sym r.ending ∙ e.0)
 
 -- the events of a reading up to its end are the input's
 pub whole_taken : (from : yaml_encoding_t) (input : List ℕ) (p : ParserRemaining) (l : Listing)
-    → Reads from input p → p.ending ≡ None
+    → ReadsInput from input p → p.ending ≡ None
     → Collected p.events [] l → (ending_of from input ≡ None) × IsFront from input l
 whole_taken from input p l r e c = let a = all_taken from input p l r e c in (a.0, (a.1, a.2))
 
 -- the events of a reading up to its fault are the input's
 pub front_taken : (from : yaml_encoding_t) (input : List ℕ) (p : ParserRemaining) (f : yaml_fault_t)
-    (l : Listing) → Reads from input p
+    (l : Listing) → ReadsInput from input p
     → IsMemoryFault parse_layers (fault_of f)
     ⊎ ((p.ending ≡ Some (fault_of f)) × Collected p.events [] l)
     → IsMemoryFault parse_layers (fault_of f)

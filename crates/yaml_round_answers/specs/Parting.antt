@@ -38,13 +38,14 @@ pub record TellsNoPlace (p : yaml_c_parting) : Type 0 where
   pub second_mark : p.second_mark ≡ no_mark
 
 -- a place, and its path, spelled
-pub record TellsPlace (path : List ℕ) (d : yaml_difference_t) (p : yaml_c_parting) : Type 0 where
-  pub answer : TellsText path (pos 0) p.answer
-  pub document : p.document ≡ d.document
-  pub first_kind : p.first_kind ≡ kind_number d.first_type
-  pub second_kind : p.second_kind ≡ kind_number d.second_type
-  pub first_mark : p.first_mark ≡ mark_told d.first_mark
-  pub second_mark : p.second_mark ≡ mark_told d.second_mark
+pub record TellsPartingPlace (path : List ℕ) (d : yaml_difference_t) (p : yaml_c_parting) : Type 0
+  where
+    pub answer : TellsText path (pos 0) p.answer
+    pub document : p.document ≡ d.document
+    pub first_kind : p.first_kind ≡ kind_number d.first_type
+    pub second_kind : p.second_kind ≡ kind_number d.second_type
+    pub first_mark : p.first_mark ≡ mark_told d.first_mark
+    pub second_mark : p.second_mark ≡ mark_told d.second_mark
 
 -- the answer tells that, and no place is told beside it
 abbrev pub NoPlaceBeside : (yaml_c_answer → Type 0) → yaml_c_parting → Type 0
@@ -54,7 +55,7 @@ NoPlaceBeside Tells p = Tells p.answer × TellsNoPlace p
 abbrev pub TellsParting : Result (Option yaml_difference_t) (yaml_side_t × yaml_fault_t)
     → yaml_c_parting → Type 0
 TellsParting (Ok None) p = NoPlaceBeside (TellsText [] (pos 1)) p
-TellsParting (Ok (Some d)) p = TellsPlace (path_spelled d.path.items) d p
+TellsParting (Ok (Some d)) p = TellsPartingPlace (path_spelled d.path.items) d p
     ⊎ NoPlaceBeside (Refuses (memory_fault Parser) (pos 0)) p
 TellsParting (Err f) p = NoPlaceBeside (Refuses (fault_of f.1) (side_number f.0)) p
 

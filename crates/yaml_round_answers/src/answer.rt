@@ -70,7 +70,7 @@ fn text_told(text: &'static [u8], is: i32) -> yaml_c_answer
 }
 
 /// An answer with a text, and a number beside it.
-pub fn told(text: Vec<u8>, is: i32) -> yaml_c_answer
+pub fn text_answer(text: Vec<u8>, is: i32) -> yaml_c_answer
     ensures { TellsText text.items is result }
 {
     text_told(handed_out(text), is)

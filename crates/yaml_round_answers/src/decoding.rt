@@ -7,7 +7,7 @@ ghost use Rattle.yaml_round_records.specs.Numbers.{encoding_meant};
 ghost use Rattle.yaml_round_answers.specs.Told.{AnswersMeant};
 ghost use Rattle.yaml_round_answers.specs.Decodes.{decode_layers, IsDecoded, Decodes};
 
-use crate::answer::{misused, refused, told, yaml_c_answer};
+use crate::answer::{misused, refused, text_answer, yaml_c_answer};
 use std::alloc::Global;
 use yaml_round::{yaml_encoding_t, yaml_fault_t};
 use yaml_round_records::encoding_of;
@@ -30,7 +30,7 @@ fn decoded(alloc: Global, input: &[u8], from: yaml_encoding_t) -> yaml_c_answer
     ensures { Decodes input.now from result }
 {
     match text_of(alloc, input, from) {
-        Ok(text) => told(text, 0),
+        Ok(text) => text_answer(text, 0),
         Err(fault) => refused(alloc, &fault, 0),
     }
 }

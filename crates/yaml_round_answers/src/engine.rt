@@ -4,7 +4,7 @@ ghost use Rattle.std.specs.Prelude.{◌≡◌};
 ghost use Rattle.yaml_round_records.specs.Numbers.{encoding_meant};
 ghost use Rattle.yaml_round_answers.specs.Told.{form_number, same_number, side_number, AnswersMeant, both, call_meant, Reformats, Reloads, Compares, Lists};
 
-use crate::answer::{misused, refused, said, told, yaml_c_answer};
+use crate::answer::{misused, refused, said, text_answer, yaml_c_answer};
 use crate::settings::settings_of;
 use std::alloc::Global;
 use yaml_round::{
@@ -46,7 +46,7 @@ fn reformatted(
     ensures { Reformats input.now (from, settings.now) result }
 {
     match yaml_reformat(alloc, input, from, settings) {
-        Ok((text, form)) => told(text, form_number(form)),
+        Ok((text, form)) => text_answer(text, form_number(form)),
         Err(fault) => refused(alloc, &fault, 0),
     }
 }
@@ -78,7 +78,7 @@ fn reloaded(
     ensures { Reloads input.now (from, settings.now) result }
 {
     match yaml_reload(alloc, input, from, settings) {
-        Ok(text) => told(text, 0),
+        Ok(text) => text_answer(text, 0),
         Err(fault) => refused(alloc, &fault, 0),
     }
 }
@@ -101,7 +101,7 @@ pub fn reloaded_by(
     reloaded(alloc, input, from, &settings)
 }
 
-fn compared(
+fn same_answer(
     alloc: Global,
     first: &[u8],
     first_from: yaml_encoding_t,
@@ -133,14 +133,14 @@ pub fn compared_by(
     let Some(second_from) = encoding_of(second_from) else {
         return misused();
     };
-    compared(alloc, first, first_from, second, second_from)
+    same_answer(alloc, first, first_from, second, second_from)
 }
 
 fn listed(alloc: Global, input: &[u8], from: yaml_encoding_t) -> yaml_c_answer
     ensures { Lists input.now from result }
 {
     match yaml_events(alloc, input, from) {
-        Ok(lines) => told(lines, 0),
+        Ok(lines) => text_answer(lines, 0),
         Err(fault) => refused(alloc, &fault, 0),
     }
 }

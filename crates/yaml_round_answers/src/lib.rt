@@ -16,7 +16,7 @@ mod serializing;
 mod settings;
 mod spelled;
 
-pub use answer::{told, yaml_c_answer};
+pub use answer::{text_answer, yaml_c_answer};
 pub use composing::{composed_by, yaml_c_spots};
 pub use decoding::decoded_by;
 pub use emitting::answered_by;

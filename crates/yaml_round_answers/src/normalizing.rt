@@ -4,7 +4,7 @@ ghost use Rattle.yaml_round_records.specs.Numbers.{encoding_meant};
 ghost use Rattle.yaml_round_answers.specs.Told.{AnswersMeant, call_meant};
 ghost use Rattle.yaml_round_answers.specs.Normalizes.{Normalizes, Checks};
 
-use crate::answer::{misused, refused, said, told, yaml_c_answer};
+use crate::answer::{misused, refused, said, text_answer, yaml_c_answer};
 use crate::settings::settings_of;
 use std::alloc::Global;
 use yaml_round::{yaml_check, yaml_encoding_t, yaml_normalize, yaml_settings_t};
@@ -19,7 +19,7 @@ fn normalized(
     ensures { Normalizes input.now (from, settings.now) result }
 {
     match yaml_normalize(alloc, input, from, settings) {
-        Ok(text) => told(text, 0),
+        Ok(text) => text_answer(text, 0),
         Err(fault) => refused(alloc, &fault, 0),
     }
 }
@@ -42,7 +42,7 @@ pub fn normalized_by(
     normalized(alloc, input, from, &settings)
 }
 
-fn checked(alloc: Global, input: &[u8], from: yaml_encoding_t) -> yaml_c_answer
+fn check_answer(alloc: Global, input: &[u8], from: yaml_encoding_t) -> yaml_c_answer
     ensures { Checks input.now from result }
 {
     match yaml_check(alloc, input, from) {
@@ -56,7 +56,7 @@ pub fn checked_by(alloc: Global, input: &[u8], from: i32) -> yaml_c_answer
     ensures { AnswersMeant (encoding_meant from) (Checks input.now) result }
 {
     match encoding_of(from) {
-        Some(from) => checked(alloc, input, from),
+        Some(from) => check_answer(alloc, input, from),
         None => misused(),
     }
 }

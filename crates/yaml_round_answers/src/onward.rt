@@ -6,7 +6,7 @@ ghost use Rattle.yaml_round_records.specs.Leading.{asked_for};
 ghost use Rattle.yaml_round_answers.specs.Told.{AnswersMeant};
 ghost use Rattle.yaml_round_answers.specs.Onward.{at_meant_by, onward_meant, HandsStand, EmitsOn, EmitsAllOn};
 
-use crate::answer::{handed_out, misused, refused, told, yaml_c_answer};
+use crate::answer::{handed_out, misused, refused, text_answer, yaml_c_answer};
 use crate::parsing::{directives_out, yaml_c_parsed};
 use std::alloc::Global;
 use yaml_round_records::{
@@ -65,7 +65,7 @@ fn answered(
     ) {
         Ok(onward) => {
             *behind = stand_out(onward.stand);
-            told(onward.text, 0)
+            text_answer(onward.text, 0)
         }
         Err(fault) => refused(alloc, &fault, 0),
     }

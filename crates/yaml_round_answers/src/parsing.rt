@@ -2,7 +2,7 @@
 
 ghost use Rattle.std.specs.Prelude.{◌≡◌, ◌⊎◌, pos, IfOk, IfErr};
 ghost use Rattle.yaml_parse.specs.Faults.{fault_of, IsMemoryFault, parse_layers};
-ghost use Rattle.yaml_round.specs.Input.{Reads};
+ghost use Rattle.yaml_round.specs.Input.{ReadsInput};
 ghost use Rattle.yaml_round_records.specs.Numbers.{encoding_meant};
 ghost use Rattle.yaml_round_answers.specs.Told.{AnswersMeant, TellsMemory};
 ghost use Rattle.yaml_round_answers.specs.Parses.{HasNothing, HandsOut, Parses, IsCollected, EndsFront, Fronts, NothingUnmeant};
@@ -33,12 +33,12 @@ pub struct yaml_c_parsed {
 const _: () = prove!(size_of::<yaml_c_parsed>() == 48);
 
 // A parser of the input that has given nothing yet.
-fn reading_of<'a>(
+fn parser_of<'a>(
     alloc: Global,
     input: &'a [u8],
     from: yaml_encoding_t,
 ) -> Result<yaml_parser_t<yaml_adapter_t<'a>>, yaml_fault_t>
-    ensures reads { IfOk result (Reads from input.now) }
+    ensures reads { IfOk result (ReadsInput from input.now) }
     ensures memory { IfErr result (λ f. IsMemoryFault parse_layers (fault_of f)) }
 {
     match yaml_parser_initialize(alloc, yaml_adapter_t::new(alloc, input, from)) {
@@ -50,7 +50,7 @@ fn reading_of<'a>(
 fn collected(alloc: Global, input: &[u8], from: yaml_encoding_t) -> Result<Listing, yaml_fault_t>
     ensures { IsCollected from input.now result }
 {
-    let mut reading = reading_of(alloc, input, from)?;
+    let mut reading = parser_of(alloc, input, from)?;
     let mut listing = Listing::new(alloc);
     let end = collect(&mut reading, &mut listing);
     yaml_parser_delete(reading);
@@ -180,7 +180,7 @@ fn fronted(
     requires { StartsEmpty listing.old }
     ensures { EndsFront from input.now result listing.new }
 {
-    let mut reading = reading_of(alloc, input, from)?;
+    let mut reading = parser_of(alloc, input, from)?;
     let end = collect(&mut reading, listing);
     yaml_parser_delete(reading);
     match end {

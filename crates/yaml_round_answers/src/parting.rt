@@ -3,9 +3,9 @@
 ghost use Rattle.std.specs.Prelude.{◌≡◌};
 ghost use Rattle.yaml_round_records.specs.Numbers.{encoding_meant};
 ghost use Rattle.yaml_round_answers.specs.Told.{both};
-ghost use Rattle.yaml_round_answers.specs.Parting.{kind_number, TellsNoPlace, TellsPlace, TellsParting, PartingMeant, Parts, PartsDocuments};
+ghost use Rattle.yaml_round_answers.specs.Parting.{kind_number, TellsNoPlace, TellsPartingPlace, TellsParting, PartingMeant, Parts, PartsDocuments};
 
-use crate::answer::{misused, refused, said, told, yaml_c_answer};
+use crate::answer::{misused, refused, said, text_answer, yaml_c_answer};
 use crate::path::path_text;
 use std::alloc::Global;
 use yaml_parse::{yaml_memory_fault, yaml_origin_t};
@@ -74,10 +74,10 @@ fn without_place(answer: yaml_c_answer) -> yaml_c_parting
 
 // A place, with its path.
 fn with_place(path: Vec<u8>, difference: &yaml_difference_t) -> yaml_c_parting
-    ensures { TellsPlace path.items difference.now result }
+    ensures { TellsPartingPlace path.items difference.now result }
 {
     yaml_c_parting {
-        answer: told(path, 0),
+        answer: text_answer(path, 0),
         document: difference.document,
         first_kind: kind_number(difference.first_type),
         second_kind: kind_number(difference.second_type),

@@ -28,7 +28,7 @@ fn push_head(head: &mut String, step: &yaml_step_t) -> Result<(), AllocError>
     }
 }
 
-fn push_step(alloc: Global, path: &mut Vec<u8>, step: &yaml_step_t) -> Result<(), AllocError>
+fn put_step(alloc: Global, path: &mut Vec<u8>, step: &yaml_step_t) -> Result<(), AllocError>
     ensures { OnOk result (path.new.items ≡ path.old.items ++ step_spelled step.now) }
 {
     let mut head = String::new(alloc);
@@ -46,7 +46,7 @@ pub(crate) fn path_text(alloc: Global, steps: &[yaml_step_t]) -> Result<Vec<u8>,
 {
     let mut path = Vec::new(alloc);
     for step in steps {
-        push_step(alloc, &mut path, step)?;
+        put_step(alloc, &mut path, step)?;
     }
     Ok(path)
 }

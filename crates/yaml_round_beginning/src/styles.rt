@@ -33,7 +33,7 @@ pub enum Place {
 // Whether the byte there tells by itself that no break begins there, as most do.
 // Inlined: two comparisons a byte.
 #[inline(always)]
-#[tactic(auto, unfolding(yaml_scan_types::specs::Marks::break_of))]
+#[tactic(auto, unfolding(yaml_types::specs::Marks::break_of))]
 fn tells_none(value: &[u8], place: usize) -> bool
     requires { place < length value.now }
     ensures { result ≡ true → is_break value.now place ≡ false }
@@ -179,7 +179,7 @@ fn is_unmarked(
 }
 
 // Where the next event stands.
-fn place_behind(event: &yaml_event_t, at: Place) -> Place
+fn place_after(event: &yaml_event_t, at: Place) -> Place
     ensures { spec.place_of result ≡ spec.behind (spec.place_of at) (event_of event.now).body }
 {
     match at {
@@ -265,7 +265,7 @@ pub fn restyle(event: &mut yaml_event_t, at: Place) -> Place
         ≡ spec.behind (spec.place_of at) (event_of event.old).body }
     ensures utf8 { HasUtf8 (event_of event.old).body → HasUtf8 (event_of event.new).body }
 {
-    let next = place_behind(event, at);
+    let next = place_after(event, at);
     put_style(event, at);
     next
 }

@@ -3,7 +3,7 @@ use Rattle.std.proofs.Common.{◌≡◌, ◌∙◌, ℕ, suc, List, [], ◌∷�
 use Rattle.yaml_round_content.specs.scan_model.declared.yaml_encoding_t.TheVariants.{YAML_ANY_ENCODING}
 use Rattle.yaml_parse.specs.Events.{EventBody}
 use Rattle.yaml_parse.specs.Events as event
-use Rattle.yaml_round_content.specs.Said.{Mark, untagged, tagged, Node, alias, scalar, sequence, mapping, Nodes, no_nodes, node, Pairs, no_pairs, pair, Document, scalar_says, node_says, items_say, pairs_say, documents_say, stream_says}
+use Rattle.yaml_round_content.specs.Said.{ScalarMark, untagged, tagged, Node, alias, scalar, sequence, mapping, Nodes, no_nodes, node, Pairs, no_pairs, pair, Document, scalar_says, node_says, items_say, pairs_say, documents_say, stream_says}
 use Rattle.yaml_round_compare.specs.Places.{Inside, at_root, at_item, at_key, at_value, Place, between, within, at_end, inside_says, whole_say, place_says}
 use Rattle.yaml_round_compare.proofs.Placing.{placed}
 
@@ -13,7 +13,7 @@ ends [] = 0
 ends (event.stream_end ∷ es) = suc (ends es)
 ends (e ∷ es) = ends es
 
-scalar_ends : (anchor : Option (List ℕ)) (mark : Mark) (text : List ℕ) (es : List EventBody)
+scalar_ends : (anchor : Option (List ℕ)) (mark : ScalarMark) (text : List ℕ) (es : List EventBody)
     → ends (scalar_says anchor mark text ∷ es) ≡ ends es
 scalar_ends anchor (untagged plain) text es = refl
 scalar_ends anchor (tagged t) text es = refl

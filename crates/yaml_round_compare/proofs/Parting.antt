@@ -9,7 +9,7 @@ use Rattle.yaml_parse.specs.Events as event
 use Rattle.yaml_parse.specs.Resolve.{Told}
 use Rattle.yaml_parse.specs.Remaining.{ParserRemaining}
 use Rattle.yaml_round_content.specs.scan_model.declared.yaml_encoding_t.TheVariants.{YAML_ANY_ENCODING}
-use Rattle.yaml_round_content.specs.Input.{Reads, events_of, ending_of}
+use Rattle.yaml_round_content.specs.Input.{ReadsInput, events_of, ending_of}
 use Rattle.yaml_round_content.specs.Said.{Document, stream_says, documents_say}
 use Rattle.yaml_round_content.proofs.ContentInputs.{have_content}
 use Rattle.yaml_round_reading.specs.Reading.{contents}
@@ -17,7 +17,7 @@ use Rattle.yaml_round_reading.proofs.Plain.{has_events}
 use Rattle.yaml_round_compare.specs.declared.difference.yaml_difference_t.{yaml_difference_t}
 use Rattle.yaml_round_compare.specs.declared.trail.Trail.{Trail}
 use Rattle.yaml_round_compare.specs.Places.{Place, place_says, Path, path_of}
-use Rattle.yaml_round_compare.specs.Walking.{past, start, IsFresh}
+use Rattle.yaml_round_compare.specs.Walking.{past, start, IsFreshTrail}
 use Rattle.yaml_round_compare.specs.Compare.{AreApart, Parted, WhereDifferent, ComparesReadings}
 use Rattle.yaml_round_compare.specs.Differences.{saying, IsParting}
 use Rattle.yaml_round_compare.proofs.Walks.{place_walked}
@@ -111,8 +111,8 @@ parted_at a_from a b_from b place before other_before (x ∷ xs) (y ∷ ys) p q 
     }
 
 pub parting_told : (kept : Bool) (a_from : yaml_encoding_t) (a : List ℕ) (b_from : yaml_encoding_t)
-    (b : List ℕ) (p q : ParserRemaining) (old new : Trail) → Reads a_from a p → Reads b_from b q
-    → p.ending ≡ None → q.ending ≡ None → IsFresh kept old → Parted kept p.events q.events old new
+    (b : List ℕ) (p q : ParserRemaining) (old new : Trail) → ReadsInput a_from a p → ReadsInput b_from b q
+    → p.ending ≡ None → q.ending ≡ None → IsFreshTrail kept old → Parted kept p.events q.events old new
     → IsParting a_from a b_from b new.place
 parting_told kept a_from a b_from b p q old new h k first_ending second_ending fresh d =
     parted_at a_from a b_from b new.place d.before d.other_before d.left d.other_left
@@ -122,8 +122,8 @@ parting_told kept a_from a b_from b p q old new h k first_ending second_ending f
 pub told_where : (kept : Bool) (a_from : yaml_encoding_t) (a : List ℕ) (b_from : yaml_encoding_t)
     (b : List ℕ) (p q : ParserRemaining) (old new : Trail)
     (result : Result Bool (yaml_side_t × yaml_fault_t))
-    → Reads a_from a p → Reads b_from b q → ComparesReadings p q result
-    → WhereDifferent result (Parted kept p.events q.events old new) → IsFresh kept old
+    → ReadsInput a_from a p → ReadsInput b_from b q → ComparesReadings p q result
+    → WhereDifferent result (Parted kept p.events q.events old new) → IsFreshTrail kept old
     → WhereDifferent result (IsParting a_from a b_from b new.place)
 told_where kept a_from a b_from b p q old new (Ok false) h k e d fresh = parting_told kept a_from a b_from b p q old new h k e.first_ending e.second_ending fresh d
 told_where kept a_from a b_from b p q old new (Ok true) h k e d fresh = tt

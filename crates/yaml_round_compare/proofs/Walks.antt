@@ -4,16 +4,16 @@ use Rattle.yaml_round_content.specs.scan_model.declared.yaml_sequence_style_t.Th
 use Rattle.yaml_round_content.specs.scan_model.declared.yaml_mapping_style_t.TheVariants.{YAML_ANY_MAPPING_STYLE}
 use Rattle.yaml_parse.specs.Events.{EventBody}
 use Rattle.yaml_parse.specs.Events as event
-use Rattle.yaml_round_content.specs.Said.{Mark, untagged, tagged, Node, alias, scalar, sequence, mapping, Nodes, no_nodes, node, Pairs, no_pairs, pair, Document, scalar_says, node_says, items_say, pairs_say}
-use Rattle.yaml_round_compare.specs.Places.{Inside, at_root, at_item, at_key, at_value, Place, between, within, at_end, inside_says, whole_say, place_says, Step, item, key, value, Path, text_of_key, count_items, count_pairs, steps_to, path_to}
+use Rattle.yaml_round_content.specs.Said.{ScalarMark, untagged, tagged, Node, alias, scalar, sequence, mapping, Nodes, no_nodes, node, Pairs, no_pairs, pair, Document, scalar_says, node_says, items_say, pairs_say}
+use Rattle.yaml_round_compare.specs.Places.{Inside, at_root, at_item, at_key, at_value, Place, between, within, at_end, inside_says, whole_say, place_says, PathStep, item, key, value, Path, text_of_key, count_items, count_pairs, steps_to, path_to}
 use Rattle.yaml_round_compare.specs.Walking.{past, past_node, start}
 
 -- in a document of that number
-abbrev at : ℕ → List Step → Path
+abbrev at : ℕ → List PathStep → Path
 at d ss = record { document = d; steps = ss }
 
-scalar_walked : (anchor : Option (List ℕ)) (mark : Mark) (text : List ℕ) (es : List EventBody)
-    (d : ℕ) (ss : List Step)
+scalar_walked : (anchor : Option (List ℕ)) (mark : ScalarMark) (text : List ℕ) (es : List EventBody)
+    (d : ℕ) (ss : List PathStep)
     → past (scalar_says anchor mark text ∷ es) (at d ss) ≡ past es (at d (past_node (Some text) ss))
 scalar_walked anchor (untagged plain) text es d ss = refl
 scalar_walked anchor (tagged t) text es d ss = refl
@@ -30,14 +30,14 @@ from_none n = omega arith
 mutual
   unfolding node_says items_say pairs_say
 
-  node_walked : (n : Node) (es : List EventBody) (d : ℕ) (ss : List Step)
+  node_walked : (n : Node) (es : List EventBody) (d : ℕ) (ss : List PathStep)
       → past (node_says n es) (at d ss) ≡ past es (at d (past_node (text_of_key n) ss))
   node_walked (alias name) es d ss = refl
   node_walked (scalar anchor mark text) es d ss = scalar_walked anchor mark text es d ss
   node_walked (sequence anchor tag items) es d ss = items_walked items (event.sequence_end ∷ es) 0 d ss
   node_walked (mapping anchor tag pairs) es d ss = pairs_walked pairs (event.mapping_end ∷ es) 0 d ss
 
-  items_walked : (ns : Nodes) (es : List EventBody) (k d : ℕ) (ss : List Step)
+  items_walked : (ns : Nodes) (es : List EventBody) (k d : ℕ) (ss : List PathStep)
       → past (items_say ns es) (at d (item k ∷ ss))
       ≡ past es (at d (item (k + count_items ns) ∷ ss))
   items_walked no_nodes es k d ss = ap (λ (m : ℕ). past es (at d (item m ∷ ss))) (nothing_on k)
@@ -46,7 +46,7 @@ mutual
       ∙ items_walked ns es (suc k) d ss
       ∙ ap (λ (m : ℕ). past es (at d (item m ∷ ss))) (one_on k (count_items ns))
 
-  pairs_walked : (ps : Pairs) (es : List EventBody) (k d : ℕ) (ss : List Step)
+  pairs_walked : (ps : Pairs) (es : List EventBody) (k d : ℕ) (ss : List PathStep)
       → past (pairs_say ps es) (at d (key k ∷ ss)) ≡ past es (at d (key (k + count_pairs ps) ∷ ss))
   pairs_walked no_pairs es k d ss = ap (λ (m : ℕ). past es (at d (key m ∷ ss))) (nothing_on k)
   pairs_walked (pair n v ps) es k d ss =

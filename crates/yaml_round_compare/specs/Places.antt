@@ -55,15 +55,15 @@ place_says (at_end ds d) es = event.stream_start YAML_ANY_ENCODING
 
 -- A step into an open collection: an item of a sequence, the key of a mapping's pair, or a pair's value, with
 -- the text of its key where that is a scalar. All count from 0.
-pub data Step : Type 0 where
-  item : ℕ → Step
-  key : ℕ → Step
-  value : ℕ → Option (List ℕ) → Step
+pub data PathStep : Type 0 where
+  item : ℕ → PathStep
+  key : ℕ → PathStep
+  value : ℕ → Option (List ℕ) → PathStep
 
 -- so many documents have ended, and steps in the one that is open, the innermost first
 pub record Path : Type 0 where
   pub document : ℕ
-  pub steps : List Step
+  pub steps : List PathStep
 
 abbrev pub text_of_key : Node → Option (List ℕ)
 text_of_key (scalar anchor mark text) = Some text
@@ -77,7 +77,7 @@ abbrev pub count_pairs : Pairs → ℕ
 count_pairs no_pairs = 0
 count_pairs (pair k v ps) = suc (count_pairs ps)
 
-abbrev pub steps_to : Inside → List Step
+abbrev pub steps_to : Inside → List PathStep
 steps_to at_root = []
 steps_to (at_item outer anchor tag items) = item (count_items items) ∷ steps_to outer
 steps_to (at_key outer anchor tag pairs) = key (count_pairs pairs) ∷ steps_to outer
@@ -92,13 +92,13 @@ path_to (at_end ds d) = record { document = length ds; steps = [] }
 
 -- ---- what a difference tells
 
-abbrev pub step_of : yaml_step_t → Step
+abbrev pub step_of : yaml_step_t → PathStep
 step_of (declared.Item number) = item number
 step_of (declared.Key number) = key number
 step_of (declared.Value number text) = value number (text_of text)
 
 -- the innermost first
-abbrev pub steps_of : List yaml_step_t → List Step
+abbrev pub steps_of : List yaml_step_t → List PathStep
 steps_of ss = reverse (map step_of ss)
 
 abbrev pub path_of : yaml_difference_t → Path

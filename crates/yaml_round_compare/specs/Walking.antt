@@ -3,22 +3,22 @@ use Rattle.std.specs.Prelude.{◌≡◌, Bool, true, ℕ, suc, List, [], ◌∷�
 use Rattle.yaml_parse.specs.Events.{EventBody}
 use Rattle.yaml_parse.specs.Events as event
 use Rattle.yaml_round_compare.specs.declared.trail.Trail.{Trail}
-use Rattle.yaml_round_compare.specs.Places.{Step, Path, path_of}
+use Rattle.yaml_round_compare.specs.Places.{PathStep, Path, path_of}
 use Rattle.yaml_round_compare.specs.Places as place
 
 -- ---- the steps
 
 -- behind a node in the same collection; the text is that of the node, where it is a scalar
-abbrev pub step_behind : Step → Option (List ℕ) → Step
+abbrev pub step_behind : PathStep → Option (List ℕ) → PathStep
 step_behind (place.item n) text = place.item (suc n)
 step_behind (place.key n) text = place.value n text
 step_behind (place.value n key) text = place.key (suc n)
 
-abbrev pub past_node : Option (List ℕ) → List Step → List Step
+abbrev pub past_node : Option (List ℕ) → List PathStep → List PathStep
 past_node text [] = []
 past_node text (s ∷ ss) = step_behind s text ∷ ss
 
-abbrev pub past_end : List Step → List Step
+abbrev pub past_end : List PathStep → List PathStep
 past_end [] = []
 past_end (s ∷ ss) = past_node None ss
 
@@ -45,6 +45,6 @@ abbrev pub start : Path
 start = record { document = 0; steps = [] }
 
 -- in front of a stream, and the path is kept
-pub record IsFresh (keeps : Bool) (t : Trail) : Type 0 where
+pub record IsFreshTrail (keeps : Bool) (t : Trail) : Type 0 where
   pub kept : keeps ≡ true
   pub path : path_of t.place ≡ start

@@ -1,10 +1,10 @@
 //! Comparisons of inputs, by their events side by side; no tree is held.
 
 ghost use Rattle.std.specs.Prelude.{◌≡◌, ℕ, List};
-ghost use Rattle.yaml_round_content.specs.Input.{Reads};
+ghost use Rattle.yaml_round_content.specs.Input.{ReadsInput};
 ghost use Rattle.yaml_round_compare.specs.Compare.{BothReal, JudgesEvents, normalized, StepsBeside, StepsAlone, StepsOn, Sided, Parted, WhereDifferent, ReadsOutBoth, IsBehindFirst, ComparesReadings};
 ghost use Rattle.yaml_round_compare.specs.Differences.{IsParting};
-ghost use Rattle.yaml_round_compare.specs.Walking.{IsFresh};
+ghost use Rattle.yaml_round_compare.specs.Walking.{IsFreshTrail};
 ghost use Rattle.yaml_parse.specs.Events.{event_of};
 ghost use Rattle.yaml_round_reading.specs.Reading.{AreReal};
 ghost use Rattle.yaml_round_reading.specs.Answers.{IsSame};
@@ -188,10 +188,11 @@ pub fn same_as(
     kept: bool,
 ) -> Result<bool, (yaml_side_t, yaml_fault_t)>
     requires { AreReal first.old.parser.events }
-    ensures same { (from : yaml_encoding_t) (input : List ℕ) → Reads from input first.old.parser
+    ensures same { (from : yaml_encoding_t) (input : List ℕ)
+        → ReadsInput from input first.old.parser
         → IsSame from input b_encoding b.now result }
     ensures parting { (from : yaml_encoding_t) (input : List ℕ)
-        → Reads from input first.old.parser → IsFresh kept trail.old
+        → ReadsInput from input first.old.parser → IsFreshTrail kept trail.old
         → WhereDifferent result (IsParting from input b_encoding b.now trail.new.place) }
 {
     match reading_of(alloc, b, b_encoding) {

@@ -14,7 +14,7 @@ use Rattle.yaml_parse_loader.specs.Numbering.{events, item_events, pair_events}
 use Rattle.yaml_round_content.specs.Normalize.{is_lone_mark, normalize_scalar}
 use Rattle.yaml_round_content.specs.Content.{content_of}
 use Rattle.yaml_round_content.specs.Events.{contents}
-use Rattle.yaml_round_content.specs.Said.{Mark, untagged, tagged, Node, alias, scalar, sequence, mapping, Nodes, no_nodes, node, Pairs, no_pairs, pair, Document, scalar_says, node_says, items_say, pairs_say, documents_say}
+use Rattle.yaml_round_content.specs.Said.{ScalarMark, untagged, tagged, Node, alias, scalar, sequence, mapping, Nodes, no_nodes, node, Pairs, no_pairs, pair, Document, scalar_says, node_says, items_say, pairs_say, documents_say}
 use Rattle.yaml_round_content.specs.Canon.{written_node, written_nodes, written_pairs}
 use Rattle.yaml_round_content.specs.Writable.{IsMark, IsWritable, AreItemsWritable, ArePairsWritable, AreWritable}
 use Rattle.yaml_emit_laws_dumps.specs.Dumps.{as_content, as_contents, as_pairs}
@@ -41,7 +41,7 @@ other_mark (c ∷ d ∷ more) value h =
 
 -- ---- nodes
 
-scalar_said : (anchor : Option (List ℕ)) (mark : Mark) (value : List ℕ) → IsMark mark
+scalar_said : (anchor : Option (List ℕ)) (mark : ScalarMark) (value : List ℕ) → IsMark mark
     → (rest : List Event)
     → contents (told_by (events (as_content (written_node (scalar anchor mark value))) rest))
     ≡ scalar_says anchor mark value ∷ contents (told_by rest)

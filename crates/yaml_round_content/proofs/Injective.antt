@@ -5,7 +5,7 @@ use Rattle.yaml_round_content.specs.scan_model.declared.yaml_sequence_style_t.Th
 use Rattle.yaml_round_content.specs.scan_model.declared.yaml_mapping_style_t.TheVariants.{YAML_ANY_MAPPING_STYLE}
 use Rattle.yaml_round_content.specs.parse_model.Events.{EventBody, TagDirective}
 use Rattle.yaml_round_content.specs.parse_model.Events as event
-use Rattle.yaml_round_content.specs.Said.{Mark, untagged, tagged, Node, alias, scalar, sequence, mapping, Nodes, no_nodes, node, Pairs, no_pairs, pair, Document, scalar_says, node_says, items_say, pairs_say, documents_say}
+use Rattle.yaml_round_content.specs.Said.{ScalarMark, untagged, tagged, Node, alias, scalar, sequence, mapping, Nodes, no_nodes, node, Pairs, no_pairs, pair, Document, scalar_says, node_says, items_say, pairs_say, documents_say}
 use Rattle.yaml_round_content.specs.ContentLaws.{SaysIsInjective}
 
 abbrev Text : Type 0
@@ -31,7 +31,7 @@ node_kind (scalar anchor mark value) = 2
 node_kind (sequence anchor tag items) = 3
 node_kind (mapping anchor tag pairs) = 4
 
-scalar_kind : (anchor : Text) (mark : Mark) (value : List ℕ)
+scalar_kind : (anchor : Text) (mark : ScalarMark) (value : List ℕ)
     → kind (scalar_says anchor mark value) ≡ 2
 scalar_kind anchor (untagged plain) value = refl
 scalar_kind anchor (tagged t) value = refl
@@ -66,10 +66,11 @@ alias_parts : (a b : List ℕ) (x y : List EventBody) → event.alias a ∷ x �
     → (alias a ≡ alias b) × (x ≡ y)
 alias_parts a b x y e = let n : a ≡ b = cc in (ap (λ (z : List ℕ). alias z) n, cc)
 
-scalar_same : (a b : Text) (m : Mark) (v w : List ℕ) → a ≡ b → v ≡ w → scalar a m v ≡ scalar b m w
+scalar_same : (a b : Text) (m : ScalarMark) (v w : List ℕ) → a ≡ b → v ≡ w
+    → scalar a m v ≡ scalar b m w
 scalar_same a b m v w e f = ap (λ (z : Text). scalar z m v) e ∙ ap (λ (z : List ℕ). scalar b m z) f
 
-scalar_parts : (a b : Text) (m n : Mark) (v w : List ℕ) (x y : List EventBody)
+scalar_parts : (a b : Text) (m n : ScalarMark) (v w : List ℕ) (x y : List EventBody)
     → scalar_says a m v ∷ x ≡ scalar_says b n w ∷ y → (scalar a m v ≡ scalar b n w) × (x ≡ y)
 scalar_parts a b (untagged p) (untagged q) v w x y e =
     let i : a ≡ b = cc in let j : v ≡ w = cc in let s : p ≡ q = cc in (scalar_same a b (untagged p) v w i j ∙ ap (λ (z : Bool). scalar b (untagged z) w) s, cc)
@@ -123,7 +124,7 @@ alias_known a (scalar b m v) x y e = absurd (apart_kinds (alias a) (scalar b m v
 alias_known a (sequence b t m) x y e = absurd (apart_kinds (alias a) (sequence b t m) 1 3 refl refl (λ z. cc) x y e)
 alias_known a (mapping b t m) x y e = absurd (apart_kinds (alias a) (mapping b t m) 1 4 refl refl (λ z. cc) x y e)
 
-scalar_known : (a : Text) (m : Mark) (v : List ℕ) → Known (scalar a m v)
+scalar_known : (a : Text) (m : ScalarMark) (v : List ℕ) → Known (scalar a m v)
 unfolding node_says
 scalar_known a m v (scalar b n w) x y e = scalar_parts a b m n v w x y e
 scalar_known a m v (alias b) x y e = absurd (apart_kinds (scalar a m v) (alias b) 2 1 refl refl (λ z. cc) x y e)

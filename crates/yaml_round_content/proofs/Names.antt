@@ -13,7 +13,7 @@ use Rattle.yaml_round_content.specs.parse_model.Events as event
 use Rattle.yaml_parse_loader.specs.Loading.{Open, open_sequence, open_mapping, attach, named, nothing_loaded}
 use Rattle.yaml_round_content.specs.Events.{contents}
 use Rattle.yaml_round_content.specs.Loads.{load_all}
-use Rattle.yaml_round_content.specs.Said.{Mark, untagged, tagged, Node, alias, scalar, sequence, mapping, Nodes, no_nodes, node, Pairs, no_pairs, pair, Document, scalar_says, node_says, items_say, pairs_say, documents_say}
+use Rattle.yaml_round_content.specs.Said.{ScalarMark, untagged, tagged, Node, alias, scalar, sequence, mapping, Nodes, no_nodes, node, Pairs, no_pairs, pair, Document, scalar_says, node_says, items_say, pairs_say, documents_say}
 use Rattle.yaml_round_content.specs.Agree.{Core, CoreNode}
 use Rattle.yaml_round_content.specs.Renamed.{Renaming, renamed_anchor, renamed_node, renamed_items, renamed_pairs, renamed, IsAnchorName, HasName, ItemsHaveName, PairsHaveName, AreOneToOne}
 use Rattle.yaml_round_content.specs.DumpsLoads.{LoadsOfRenamed}
@@ -125,7 +125,7 @@ module _ (IsIn : List ℕ → Type 0) (r : Renaming) (one : (a b : List ℕ) →
     same = λ l m b. ap (λ (o : Option ℤ). core_on (core_aliased o l) (core_loads bs f)) (b.known name i) ∙ alias_on (map.get m.anchors (r name)) bs cs l m g b;
   }
 
-  scalar_goes : (anchor : Option (List ℕ)) (mark : Mark) (value : List ℕ) (bs cs : List EventBody)
+  scalar_goes : (anchor : Option (List ℕ)) (mark : ScalarMark) (value : List ℕ) (bs cs : List EventBody)
       → ((a : List ℕ) → IsAnchorName anchor a → IsIn a) → Goes bs cs
       → Goes (scalar_says anchor mark value ∷ bs)
       (scalar_says (renamed_anchor r anchor) mark value ∷ cs)

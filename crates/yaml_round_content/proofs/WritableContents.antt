@@ -3,7 +3,7 @@ use Rattle.std.proofs.Common.{ℕ, true, List, [], ◌∷◌, Option, subst}
 use Rattle.yaml_round_content.specs.parse_model.Events.{EventBody}
 use Rattle.yaml_round_content.specs.parse_model.Events as event
 use Rattle.yaml_round_content.specs.Input.{events_of}
-use Rattle.yaml_round_content.specs.Said.{Mark, untagged, tagged, Node, alias, scalar, sequence, mapping, Nodes, no_nodes, node, Pairs, no_pairs, pair, Document, scalar_says, node_says, items_say, pairs_say, documents_say}
+use Rattle.yaml_round_content.specs.Said.{ScalarMark, untagged, tagged, Node, alias, scalar, sequence, mapping, Nodes, no_nodes, node, Pairs, no_pairs, pair, Document, scalar_says, node_says, items_say, pairs_say, documents_say}
 use Rattle.yaml_round_content.proofs.ContentInputs.{input_stream}
 use Rattle.yaml_round_content.specs.Writable.{IsWritable, AreItemsWritable, ArePairsWritable, AreWritable}
 use Rattle.yaml_round_content.specs.WritableLaws.{InputsAreWritable}
@@ -11,7 +11,7 @@ use Rattle.yaml_round_content.proofs.Scalars.{input_right}
 use Rattle.yaml_round_content.proofs.Utf8.{input_utf8}
 use Rattle.yaml_round_content.proofs.Events.{MaySay, MaySayAll, told_say}
 
-scalar_writable : (anchor : Option (List ℕ)) (mark : Mark) (value : List ℕ)
+scalar_writable : (anchor : Option (List ℕ)) (mark : ScalarMark) (value : List ℕ)
     → MaySay (scalar_says anchor mark value) → IsWritable (scalar anchor mark value)
 scalar_writable anchor (untagged plain) value h = h
 scalar_writable anchor (tagged t) value h = h

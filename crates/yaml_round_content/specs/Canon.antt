@@ -10,10 +10,10 @@ use Rattle.yaml_round_content.specs.emit_text.Layout.{written}
 use Rattle.yaml_round_content.specs.emit_layout.Content as emit
 use Rattle.yaml_round_content.specs.emit_layout.Nodes.{stream_layout}
 use Rattle.yaml_round_content.specs.Said as content
-use Rattle.yaml_round_content.specs.Said.{Mark, untagged, tagged, Node, Nodes, Pairs, Document}
+use Rattle.yaml_round_content.specs.Said.{ScalarMark, untagged, tagged, Node, Nodes, Pairs, Document}
 
 -- An untagged scalar may be quoted where it doesn't count as plain; of a tagged one no flag is set.
-abbrev pub written_scalar : Option (List ℕ) → Mark → List ℕ → emit.Scalar
+abbrev pub written_scalar : Option (List ℕ) → ScalarMark → List ℕ → emit.Scalar
 written_scalar anchor (untagged plain) value =
     record {
       anchor = anchor;

@@ -28,6 +28,7 @@ abbrev pub ending_of : yaml_encoding_t → List ℕ → Option Fault
 ending_of from input = (read from input).ending
 
 -- a parser that reads the input from its start
-pub record Reads (from : yaml_encoding_t) (input : List ℕ) (parser : ParserRemaining) : Type 0 where
-  pub events : parser.events ≡ events_of from input
-  pub ending : parser.ending ≡ ending_of from input
+pub record ReadsInput (from : yaml_encoding_t) (input : List ℕ) (parser : ParserRemaining) : Type 0
+  where
+    pub events : parser.events ≡ events_of from input
+    pub ending : parser.ending ≡ ending_of from input

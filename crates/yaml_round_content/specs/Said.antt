@@ -12,15 +12,15 @@ use Rattle.yaml_round_content.specs.Events.{contents}
 use Rattle.yaml_round_content.specs.Input.{events_of, ending_of}
 
 -- An untagged scalar counts as plain or not; of a tagged one nothing more is told.
-pub data Mark : Type 0 where
-  untagged : Bool → Mark
-  tagged : List ℕ → Mark
+pub data ScalarMark : Type 0 where
+  untagged : Bool → ScalarMark
+  tagged : List ℕ → ScalarMark
 
 mutual
   pub data Node : Type 0 where
     alias : List ℕ → Node
     -- anchor, mark, value
-    scalar : Option (List ℕ) → Mark → List ℕ → Node
+    scalar : Option (List ℕ) → ScalarMark → List ℕ → Node
     -- anchor, tag, items
     sequence : Option (List ℕ) → Option (List ℕ) → Nodes → Node
     -- anchor, tag, pairs
@@ -41,7 +41,7 @@ pub record Document : Type 0 where
 
 -- ---- what it says
 
-abbrev pub scalar_says : Option (List ℕ) → Mark → List ℕ → EventBody
+abbrev pub scalar_says : Option (List ℕ) → ScalarMark → List ℕ → EventBody
 scalar_says anchor (untagged plain) value = event.scalar anchor None value plain false
     YAML_ANY_SCALAR_STYLE
 scalar_says anchor (tagged t) value = event.scalar anchor (Some t) value false false

@@ -10,7 +10,7 @@ use Rattle.yaml_round_content.specs.parse_grammar.declared.Brackets.TheVariants 
 use Rattle.yaml_round_content.specs.parse_grammar.Items.{Properties, Tag}
 use Rattle.yaml_round_content.specs.parse_grammar.Trees.{properties_of}
 use Rattle.yaml_round_content.specs.parse_grammar.Trees as tree
-use Rattle.yaml_round_content.specs.Said.{Mark, untagged, tagged, Node, Nodes, Pairs, Document, no_nodes, node, no_pairs, pair}
+use Rattle.yaml_round_content.specs.Said.{ScalarMark, untagged, tagged, Node, Nodes, Pairs, Document, no_nodes, node, no_pairs, pair}
 use Rattle.yaml_round_content.specs.Said as content
 
 -- ---- tags
@@ -44,7 +44,7 @@ is_plain YAML_PLAIN_SCALAR_STYLE = true
 is_plain _ = false
 
 -- an untagged scalar counts as plain or not; with the tag `!` it is untagged and counts as plain
-abbrev pub mark_of : Option (List ℕ) → Bool → Mark
+abbrev pub mark_of : Option (List ℕ) → Bool → ScalarMark
 mark_of None plain = untagged plain
 mark_of (Some t) plain = if bytes_eq t (codes "!") then untagged true else tagged t
 

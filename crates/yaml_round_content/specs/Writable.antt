@@ -7,7 +7,7 @@ use Rattle.std.specs.Str.{IsUtf8}
 use Rattle.yaml_round_content.specs.scan_model.Classes.{is_alpha_byte}
 use Rattle.yaml_round_content.specs.parse_model.Events.{TagDirective}
 use Rattle.yaml_round_content.specs.emit_layout.Grammar.{opening_problem}
-use Rattle.yaml_round_content.specs.Said.{Mark, untagged, tagged, Node, alias, scalar, sequence, mapping, Nodes, no_nodes, node, Pairs, no_pairs, pair, Document}
+use Rattle.yaml_round_content.specs.Said.{ScalarMark, untagged, tagged, Node, alias, scalar, sequence, mapping, Nodes, no_nodes, node, Pairs, no_pairs, pair, Document}
 use Rattle.yaml_round_content.specs.Canon.{written_document}
 
 -- one or more of 0-9 A-Z a-z _ -
@@ -22,7 +22,7 @@ abbrev pub IsTag : Option (List ℕ) → Type 0
 IsTag None = Unit {0}
 IsTag (Some t) = (0 < length t) × IsUtf8 t
 
-abbrev pub IsMark : Mark → Type 0
+abbrev pub IsMark : ScalarMark → Type 0
 IsMark (untagged plain) = Unit {0}
 IsMark (tagged t) = IsTag (Some t) × (t ≡ codes "!" → ⊥)
 

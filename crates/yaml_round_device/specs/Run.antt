@@ -1,20 +1,21 @@
 -- What a run over devices does, told by its answer.
 use Rattle.std.specs.Prelude.{◌≡◌, ◌⊎◌, ℕ, ◌+◌, ◌<◌, ◌≤◌, Bool, true, List, take, length, Option, IfSome, Result, Ok, Err}
 use Rattle.std.specs.Io.KnownBytes.{Keeps, Appends, Consumes, IsAtEnd}
-use Rattle.yaml_scan_types.specs.declared.yaml_origin_t.{yaml_origin_t}
-use Rattle.yaml_scan_types.specs.declared.yaml_origin_t.TheVariants.{Reader}
+use Rattle.yaml_types.specs.declared.yaml_origin_t.{yaml_origin_t}
+use Rattle.yaml_types.specs.declared.yaml_origin_t.TheVariants.{Reader}
 use Rattle.yaml_round_device.specs.Counts.{counted}
 use Rattle.yaml_round_device.specs.declared.read_all.Cause.{Cause}
 use Rattle.yaml_round_device.specs.declared.read_all.Cause.TheVariants as cause
 use Rattle.yaml_round_device.specs.declared.run_fault.yaml_run_fault_t.{yaml_run_fault_t}
 use Rattle.yaml_round_device.specs.declared.run_fault.yaml_run_fault_t.TheVariants.{Read, TooLong, Yaml, Write}
-use Rattle.yaml_scan_types.specs.Faults.{Fault, fault_of, memory_fault, IsMemoryFault}
+use Rattle.yaml_types.specs.Faults.{Fault, fault_of, memory_fault, IsMemoryFault}
 
 -- these bytes are all that the input gave up to its end, and no more than the limit
-pub record GivesAll (to_come rest : Option (List ℕ)) (limit : ℕ) (bytes : List ℕ) : Type 0 where
-  pub taken : Consumes to_come rest bytes
-  pub ended : IsAtEnd rest
-  pub within : length bytes ≤ limit
+pub record GivesWholeInput (to_come rest : Option (List ℕ)) (limit : ℕ) (bytes : List ℕ) : Type 0
+  where
+    pub taken : Consumes to_come rest bytes
+    pub ended : IsAtEnd rest
+    pub within : length bytes ≤ limit
 
 -- why the bytes of an input were not read to the end, before it is told as a fault
 abbrev pub IsCause : Option (List ℕ) → (failed_before failed_after : Bool) → ℕ → Cause → Type 0
@@ -79,7 +80,7 @@ pub record Failures : Type 0 where
 pub record AnswersAll {F : Type 0} (work : Work F) (before after : Bytes)
     (said : Result (List ℕ × F) Fault) : Type 0 where
   pub input : List ℕ
-  pub all : GivesAll before.to_come after.to_come work.limit input
+  pub all : GivesWholeInput before.to_come after.to_come work.limit input
   pub answered : work.IsAnswer input said
 
 -- what the output received, and why, told by a run's answer; memory may run out in the layers of the work

@@ -1,6 +1,6 @@
 -- The settings that are used where none are chosen.
 use Rattle.std.specs.Prelude.{pos, true}
-use Rattle.yaml_parse_types.specs.declared.yaml_break_t.TheVariants.{YAML_LN_BREAK}
+use Rattle.yaml_types.specs.declared.yaml_break_t.TheVariants.{YAML_LN_BREAK}
 use Rattle.yaml_round_device.specs.declared.settings.yaml_settings_t.{yaml_settings_t}
 use Rattle.yaml_round_device.specs.declared.settings.yaml_output_encoding_t.TheVariants.{Utf8}
 

@@ -2,12 +2,12 @@
 
 ghost use Rattle.std.specs.Prelude.{◌≡◌, length, IfOk, IfErr, OnOk};
 ghost use Rattle.yaml_round_device.specs.Counts.{counted};
-ghost use Rattle.yaml_round_device.specs.Run.{GivesAll, IsCause, IsReadFault, CausedBy, TakesFew};
+ghost use Rattle.yaml_round_device.specs.Run.{GivesWholeInput, IsCause, IsReadFault, CausedBy, TakesFew};
 
 use crate::device::yaml_input_t;
 use crate::run_fault::yaml_run_fault_t;
 use std::alloc::Global;
-use yaml_scan_types::{yaml_memory_fault, yaml_origin_t};
+use yaml_types::{yaml_memory_fault, yaml_origin_t};
 
 // How many bytes are asked for at most, but for the one that tells whether there are more.
 const PIECE: u64 = 4095;
@@ -25,7 +25,7 @@ fn read_to_end<I: yaml_input_t>(
     input: &mut I,
     input_limit: u64,
 ) -> Result<Vec<u8>, Cause>
-    ensures all { IfOk result (λ bytes. GivesAll (I.to_come input.old) (I.to_come input.new)
+    ensures all { IfOk result (λ bytes. GivesWholeInput (I.to_come input.old) (I.to_come input.new)
         input_limit bytes.items) }
     ensures sound { OnOk result (I.has_failed input.new ≡ I.has_failed input.old) }
     ensures cause { IfErr result (IsCause (I.to_come input.old) (I.has_failed input.old)
@@ -63,7 +63,7 @@ pub fn yaml_read_all<I: yaml_input_t>(
     input: &mut I,
     input_limit: u64,
 ) -> Result<Vec<u8>, yaml_run_fault_t>
-    ensures all { IfOk result (λ bytes. GivesAll (I.to_come input.old) (I.to_come input.new)
+    ensures all { IfOk result (λ bytes. GivesWholeInput (I.to_come input.old) (I.to_come input.new)
         input_limit bytes.items) }
     ensures sound { OnOk result (I.has_failed input.new ≡ I.has_failed input.old) }
     ensures cause { IfErr result (IsReadFault (I.to_come input.old) (I.has_failed input.old)

@@ -2,7 +2,7 @@
 
 ghost use Rattle.std.specs.Prelude.{◌≡◌};
 
-use yaml_parse_types::yaml_break_t;
+use yaml_types::yaml_break_t;
 
 /// How the bytes of the answer spell its characters. A UTF-16 text begins with U+FEFF.
 #[derive(Clone, Copy, PartialEq, Eq, Debug)]

@@ -21,7 +21,7 @@ use Rattle.yaml_emit_laws_text.specs.emit_layout.Nodes.{is_directed}
 use Rattle.yaml_emit_laws_text.specs.emit_layout.Grammar.{opening_problem}
 use Rattle.yaml_emit_laws_text.specs.Bodies.{node_bodies, version_bodies, directives_bodies, end_bodies, documents_bodies}
 use Rattle.yaml_round_laws_documents.specs.Reads.{node_reads, begins_directed, documents_reads}
-use Rattle.yaml_round_laws_documents.specs.TreeLaws.{token_bodies, event_bodies, Says, HasNoMark, AreParsable, parsed_of, NodesAreParsed, CanonicalTokensAreParsed}
+use Rattle.yaml_round_laws_documents.specs.TreeLaws.{token_bodies, event_bodies, SaysTree, HasNoMark, AreParsable, parsed_of, NodesAreParsed, CanonicalTokensAreParsed}
 use Rattle.yaml_round_laws_documents.proofs.CanonicalPremises.{IsFineVersion, AreFineTags, Resolves, fine_version, fine_tags}
 use Rattle.yaml_emit_laws_text.proofs.Resolving.{tags_resolve}
 use Rattle.yaml_round_laws_documents.proofs.Growing.{take, nodes_grown, on_says}
@@ -35,7 +35,7 @@ nodes_parsed o e = nodes_grown o.directives (resolving o e)
 
 -- An item that settles is the reading's next event.
 pub item_says : (g : Given) (gs : List Given) (f : Option Fault) (D E : Directives) (b : EventBody)
-    → settle g.0 D ≡ gave b E → Says (λ es. b ∷ es) (reading (g ∷ gs) f D) (reading gs f E)
+    → settle g.0 D ≡ gave b E → SaysTree (λ es. b ∷ es) (reading (g ∷ gs) f D) (reading gs f E)
 unfolding reading
 item_says g gs f D E b e = on_says (settle g.0 D) b E g.0 g.1 (λ x. reading gs f x) e
 
@@ -117,7 +117,7 @@ no_spans (s ∷ ss) = false
 -- Behind `...` the reading goes on without directives.
 pub ends_say : (ends : List Span) (more : List Token) (gs : List Given) (f : Option Fault)
     (D : Directives)
-    → Says (λ es. event.document_end (no_spans ends) ∷ es) (reading (items_ends ends more gs) f D)
+    → SaysTree (λ es. event.document_end (no_spans ends) ∷ es) (reading (items_ends ends more gs) f D)
     (reading gs f no_directives)
 ends_say [] more gs f D = item_says _ gs f D no_directives (event.document_end true) refl
 ends_say (s ∷ ends) more gs f D = item_says _ gs f D no_directives (event.document_end false) refl

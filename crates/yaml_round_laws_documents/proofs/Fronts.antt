@@ -10,7 +10,7 @@ use Rattle.yaml_round_content.specs.parse_laws_trees.parse_loader.Loading.{nothi
 use Rattle.yaml_round_content.specs.parse_laws_trees.parse_loader.Numbering.{events, item_events, pair_events}
 use Rattle.yaml_round_content.specs.Input.{events_of, ending_of}
 use Rattle.yaml_round_content.specs.Events.{contents}
-use Rattle.yaml_round_content.specs.Said.{Mark, untagged, tagged, Node, alias, scalar, sequence, mapping, Nodes, no_nodes, node, Pairs, no_pairs, pair, Document, scalar_says, node_says, items_say, pairs_say, documents_say, stream_says}
+use Rattle.yaml_round_content.specs.Said.{ScalarMark, untagged, tagged, Node, alias, scalar, sequence, mapping, Nodes, no_nodes, node, Pairs, no_pairs, pair, Document, scalar_says, node_says, items_say, pairs_say, documents_say, stream_says}
 use Rattle.yaml_round_content.specs.Canon.{written_node, written_nodes, written_pairs}
 use Rattle.yaml_round_content.specs.ContentLaws.{InputsSayFronts}
 use Rattle.yaml_round_content.specs.Loads.{Loads, loads_of}
@@ -36,7 +36,8 @@ next f b c es bs h s = record {
   same = λ l. ap (λ (x : CoreFed). core_on x (core_loads (bodies (told_by es)) f)) (h l) ∙ on_same (core_step c l) (core_loads (bodies (told_by es)) f) (core_loads bs f) s.same;
 }
 
-scalar_same : (f : Bool) (anchor : Option (List ℕ)) (mark : Mark) (value : List ℕ) (es : List Event)
+scalar_same : (f : Bool) (anchor : Option (List ℕ)) (mark : ScalarMark) (value : List ℕ) (es : List
+    Event)
     (bs : List EventBody) → Same f es bs
     → Same f (events (as_content (written_node (scalar anchor mark value))) es)
     (scalar_says anchor mark value ∷ bs)

@@ -28,7 +28,7 @@ use Rattle.yaml_emit_laws_text.specs.emit_layout.Grammar.{has}
 use Rattle.yaml_emit_laws_text.specs.TagsLaws.{resolved_split}
 use Rattle.yaml_emit_laws_text.specs.Bodies.{tag_body, anchor_bodies, tag_bodies, mark_bodies, node_bodies, items_bodies, pairs_bodies}
 use Rattle.yaml_round_laws_documents.specs.Reads.{scalar_reads, node_reads, items_reads, pairs_reads}
-use Rattle.yaml_round_laws_documents.specs.TreeLaws.{token_bodies, Says, IsNoMark, HasNoMark, HaveNoMark, PairsHaveNoMark, Grown}
+use Rattle.yaml_round_laws_documents.specs.TreeLaws.{token_bodies, SaysTree, IsNoMark, HasNoMark, HaveNoMark, PairsHaveNoMark, Grown}
 use Rattle.yaml_round_laws_documents.proofs.CanonicalPremises.{Resolves}
 
 -- ---- one token
@@ -55,21 +55,22 @@ take (t ∷ ts) b bs e =
 
 -- ---- one item
 
-same_says : (r : Reading) → Says (λ es. es) r r
+same_says : (r : Reading) → SaysTree (λ es. es) r r
 same_says r = record { events = refl; ending = refl }
 
 -- What two readings have in front is put together.
-pub both_say : (R Q : List EventBody → List EventBody) (r q p : Reading) → Says R r q → Says Q q p
-    → Says (λ es. R (Q es)) r p
+pub both_say : (R Q : List EventBody → List EventBody) (r q p : Reading) → SaysTree R r q
+    → SaysTree Q q p
+    → SaysTree (λ es. R (Q es)) r p
 both_say R Q r q p a b = record { events = a.events ∙ ap (λ (es : List EventBody). R es) b.events; ending = a.ending ∙ b.ending }
 
 pub on_says : (s : Settled) (b : EventBody) (D : Directives) (i : RawEvent) (n : ℕ)
-    (k : Directives → Reading) → s ≡ gave b D → Says (λ es. b ∷ es) (read_on s i n k) (k D)
-on_says s b D i n k e = let P : Settled → Type 0 = λ x. Says (λ es. b ∷ es) (read_on x i n k) (k D) in subst P (sym e) (record { events = refl; ending = refl })
+    (k : Directives → Reading) → s ≡ gave b D → SaysTree (λ es. b ∷ es) (read_on s i n k) (k D)
+on_says s b D i n k e = let P : Settled → Type 0 = λ x. SaysTree (λ es. b ∷ es) (read_on x i n k) (k D) in subst P (sym e) (record { events = refl; ending = refl })
 
 -- An item that settles and leaves the directives is the reading's next event.
 pub step_says : (g : Given) (gs : List Given) (f : Option Fault) (D : Directives) (b : EventBody)
-    → settle g.0 D ≡ gave b D → Says (λ es. b ∷ es) (reading (g ∷ gs) f D) (reading gs f D)
+    → settle g.0 D ≡ gave b D → SaysTree (λ es. b ∷ es) (reading (g ∷ gs) f D) (reading gs f D)
 unfolding reading
 step_says g gs f D b e = on_says (settle g.0 D) b D g.0 g.1 (λ x. reading gs f x) e
 
@@ -252,7 +253,7 @@ record Filled (b : Brackets) (ds : List TagDirective) (R : List EventBody → Li
   same : ts ≡ spell_items b items rest
   left : token_bodies rest ≡ bs
   gives : (more : List Token) (gs : List Given) (f : Option Fault) (D : Directives) → D.tags ≡ ds
-      → Says R (reading (items_items b items more gs) f D) (reading gs f D)
+      → SaysTree R (reading (items_items b items more gs) f D) (reading gs f D)
 
 scalar_grown : (ds : List TagDirective) → Resolves ds → (w : Wants) (x : Scalar) → IsNoMark x.tag
     → (ts : List Token) (bs : List TokenBody) → token_bodies ts ≡ node_bodies ds (scalar_node x) bs
@@ -270,7 +271,7 @@ scalar_grown ds r w x fine ts bs e =
       same = d.same ∙ ap (λ (y : List Token). spell_if d.only_properties y) t.same ∙ sym (dress_spells w d.only_properties c t.rest);
       left = t.left;
       gives = λ more gs f D same.
-          let P : List Given → Type 0 = λ y. Says (λ es. scalar_reads x.anchor x.tag x.value x.quoted ∷ es) (reading y f D) (reading gs f D) in
+          let P : List Given → Type 0 = λ y. SaysTree (λ es. scalar_reads x.anchor x.tag x.value x.quoted ∷ es) (reading y f D) (reading gs f D) in
           subst P (sym (dress_gives w d.only_properties c more gs))
           (step_says (node_at (properties_if d.only_properties) (item.scalar x.value YAML_DOUBLE_QUOTED_SCALAR_STYLE) t.span.from t.span.to, length more) gs f D (scalar_reads x.anchor x.tag x.value x.quoted)
           (d.gives (item.scalar x.value YAML_DOUBLE_QUOTED_SCALAR_STYLE) t.span.from t.span.to D same ∙ ap (λ (b : EventBody). gave b D) (scalar_event_is ds x.anchor x.tag x.value x.quoted fine)));
@@ -298,7 +299,7 @@ sequence_grown ds r w q ns inner ts bs e =
       same = d.same ∙ ap (λ (y : List Token). spell_if d.only_properties y) (t.same ∙ ap (λ (y : List Token). token_at token.flow_sequence_start t.span ∷ y) i.same) ∙ sym (dress_spells w d.only_properties c i.rest);
       left = i.left;
       gives = λ more gs f D same.
-          let P : List Given → Type 0 = λ y. Says (λ es. start ∷ items_reads ns (event.sequence_end ∷ es)) (reading y f D) (reading gs f D) in
+          let P : List Given → Type 0 = λ y. SaysTree (λ es. start ∷ items_reads ns (event.sequence_end ∷ es)) (reading y f D) (reading gs f D) in
           let shape = item.sequence YAML_FLOW_SEQUENCE_STYLE in
           subst P (sym (dress_gives w d.only_properties c more gs))
           (both_say (λ es. start ∷ es) (λ es. items_reads ns (event.sequence_end ∷ es)) _ (reading (items_items brackets.Sequence i.items more gs) f D) (reading gs f D)
@@ -329,7 +330,7 @@ mapping_grown ds r w q ps inner ts bs e =
       same = d.same ∙ ap (λ (y : List Token). spell_if d.only_properties y) (t.same ∙ ap (λ (y : List Token). token_at token.flow_mapping_start t.span ∷ y) i.same) ∙ sym (dress_spells w d.only_properties c i.rest);
       left = i.left;
       gives = λ more gs f D same.
-          let P : List Given → Type 0 = λ y. Says (λ es. start ∷ pairs_reads ps (event.mapping_end ∷ es)) (reading y f D) (reading gs f D) in
+          let P : List Given → Type 0 = λ y. SaysTree (λ es. start ∷ pairs_reads ps (event.mapping_end ∷ es)) (reading y f D) (reading gs f D) in
           let shape = item.mapping YAML_FLOW_MAPPING_STYLE in
           subst P (sym (dress_gives w d.only_properties c more gs))
           (both_say (λ es. start ∷ es) (λ es. pairs_reads ps (event.mapping_end ∷ es)) _ (reading (items_items brackets.Mapping i.items more gs) f D) (reading gs f D)

@@ -9,7 +9,7 @@ use Rattle.yaml_round_laws_documents.specs.emit_laws_text.scan_history.scan_word
 use Rattle.yaml_round_laws_documents.specs.parse_grammar.parse_model.Events.{TagDirective}
 use Rattle.yaml_round_laws_documents.specs.emit_laws_text.emit_layout.Content.{Opening}
 use Rattle.yaml_round_laws_documents.specs.emit_laws_text.emit_layout.Grammar.{opening_problem}
-use Rattle.yaml_round_content.specs.Said.{Mark, untagged, tagged, Node, alias, scalar, sequence, mapping, Nodes, no_nodes, node, Pairs, no_pairs, pair, Document}
+use Rattle.yaml_round_content.specs.Said.{ScalarMark, untagged, tagged, Node, alias, scalar, sequence, mapping, Nodes, no_nodes, node, Pairs, no_pairs, pair, Document}
 use Rattle.yaml_round_content.specs.Canon.{written_scalar, written_node, written_nodes, written_pairs, written_document, written_documents}
 use Rattle.yaml_emit_laws_text.specs.TagsLaws.{HaveUtf8, WrittenTagsAreReadable}
 use Rattle.yaml_emit_laws_text.specs.Writable as text
@@ -39,7 +39,7 @@ pub text_tag : (tag : Option (List ℕ)) → IsTag tag → text.IsWritableTag ta
 text_tag None h = tt
 text_tag (Some t) h = h
 
-text_scalar : (anchor : Option (List ℕ)) (mark : Mark) (value : List ℕ) → IsAnchor anchor
+text_scalar : (anchor : Option (List ℕ)) (mark : ScalarMark) (value : List ℕ) → IsAnchor anchor
     → IsMark mark → IsUtf8 value → text.IsWritable (written_node (scalar anchor mark value))
 text_scalar anchor (untagged plain) value a m v = (text_anchor anchor a, tt, v)
 text_scalar anchor (tagged t) value a (m, other) v = (text_anchor anchor a, m, v)
@@ -80,7 +80,7 @@ pub bytes_tag : (tag : Option (List ℕ)) → IsTag tag → bytes.IsTextOption t
 bytes_tag None h = tt
 bytes_tag (Some t) (some, utf8) = utf8
 
-bytes_scalar : (anchor : Option (List ℕ)) (mark : Mark) (value : List ℕ) → IsAnchor anchor
+bytes_scalar : (anchor : Option (List ℕ)) (mark : ScalarMark) (value : List ℕ) → IsAnchor anchor
     → IsMark mark → IsUtf8 value → bytes.IsSpellable (written_node (scalar anchor mark value))
 bytes_scalar anchor (untagged plain) value a m v = (bytes_anchor anchor a, tt, v)
 bytes_scalar anchor (tagged t) value a ((some, utf8), other) v = (bytes_anchor anchor a, utf8, v)
@@ -127,7 +127,7 @@ readable_tag law o h None t = tt
 readable_tag law o h (Some t) (some, utf8) = law o h.right h.utf8 t utf8 some
 
 tagged_scalar : WrittenTagsAreReadable → (o : Opening) → Opened o
-    → (anchor : Option (List ℕ)) (mark : Mark) (value : List ℕ) → IsMark mark
+    → (anchor : Option (List ℕ)) (mark : ScalarMark) (value : List ℕ) → IsMark mark
     → IsTagged o.directives (written_node (scalar anchor mark value))
 tagged_scalar law o h anchor (untagged plain) value m = tt
 tagged_scalar law o h anchor (tagged t) value (m, other) = readable_tag law o h (Some t) m
@@ -168,7 +168,7 @@ not_bang t other =
       | inr h ↦ h
     ]
 
-fine_scalar : (anchor : Option (List ℕ)) (mark : Mark) (value : List ℕ) → IsMark mark
+fine_scalar : (anchor : Option (List ℕ)) (mark : ScalarMark) (value : List ℕ) → IsMark mark
     → IsNoMark (written_scalar anchor mark value).tag
 fine_scalar anchor (untagged plain) value m = tt
 fine_scalar anchor (tagged t) value (m, other) = not_bang t other

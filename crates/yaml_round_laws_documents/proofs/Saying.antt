@@ -13,7 +13,7 @@ use Rattle.yaml_round_laws_documents.specs.parse_grammar.Resolve.{Told}
 use Rattle.yaml_round_content.specs.Normalize.{is_lone_mark, normalize_scalar, normalize_body}
 use Rattle.yaml_round_content.specs.Content.{content_of}
 use Rattle.yaml_round_content.specs.Events.{contents}
-use Rattle.yaml_round_content.specs.Said.{Mark, untagged, tagged, Node, alias, scalar, sequence, mapping, Nodes, no_nodes, node, Pairs, no_pairs, pair, Document, scalar_says, node_says, items_say, pairs_say, documents_say}
+use Rattle.yaml_round_content.specs.Said.{ScalarMark, untagged, tagged, Node, alias, scalar, sequence, mapping, Nodes, no_nodes, node, Pairs, no_pairs, pair, Document, scalar_says, node_says, items_say, pairs_say, documents_say}
 use Rattle.yaml_round_content.specs.Canon.{written_scalar, written_node, written_nodes, written_pairs, written_documents}
 use Rattle.yaml_round_laws_documents.specs.Reads.{scalar_reads, node_reads, items_reads, pairs_reads, documents_reads, begins_directed}
 use Rattle.yaml_round_laws_documents.specs.TreeLaws.{IsNoMark, HasNoMark, HaveNoMark, PairsHaveNoMark, AreParsable, parsed_of}
@@ -45,7 +45,7 @@ no_mark t value e =
       | inl h ↦ absurd (true≢false (sym ((bytes_eq-Decides t (codes "!")).1 (is_mark t value h)) ∙ e))
     ]
 
-scalar_said : (anchor : Option (List ℕ)) (mark : Mark) (value : List ℕ)
+scalar_said : (anchor : Option (List ℕ)) (mark : ScalarMark) (value : List ℕ)
     → IsNoMark (written_scalar anchor mark value).tag
     → says (scalar_reads anchor (written_scalar anchor mark value).tag value
     (written_scalar anchor mark value).quoted) ≡ scalar_says anchor mark value
@@ -54,7 +54,7 @@ scalar_said anchor (untagged false) value h = refl
 scalar_said anchor (tagged t) value h =
     ap (λ (b : Bool). content_of (normalize_scalar b anchor (Some t) value false false YAML_DOUBLE_QUOTED_SCALAR_STYLE)) (no_mark t value h)
 
-leaf_said : (anchor : Option (List ℕ)) (mark : Mark) (value : List ℕ)
+leaf_said : (anchor : Option (List ℕ)) (mark : ScalarMark) (value : List ℕ)
     → IsNoMark (written_scalar anchor mark value).tag
     → says (scalar_reads (written_scalar anchor mark value).anchor
     (written_scalar anchor mark value).tag (written_scalar anchor mark value).value

@@ -26,7 +26,7 @@ abbrev pub event_bodies : Reading → List EventBody
 event_bodies r = map (λ (g : Told). g.0.body) r.events
 
 -- one reading has these events in front of the other, and ends as it does
-pub record Says (R : List EventBody → List EventBody) (r q : Reading) : Type 0 where
+pub record SaysTree (R : List EventBody → List EventBody) (r q : Reading) : Type 0 where
   pub events : event_bodies r ≡ R (event_bodies q)
   pub ending : r.ending ≡ q.ending
 
@@ -60,7 +60,7 @@ pub record Grown (w : Wants) (ds : List TagDirective) (R : List EventBody → Li
   pub same : ts ≡ spell_node tree rest
   pub left : token_bodies rest ≡ bs
   pub gives : (more : List Token) (gs : List Given) (f : Option Fault) (D : Directives)
-      → D.tags ≡ ds → Says R (reading (items_node tree more gs) f D) (reading gs f D)
+      → D.tags ≡ ds → SaysTree R (reading (items_node tree more gs) f D) (reading gs f D)
 
 -- Under directives that may be written, tokens with the bodies of a node begin with a tree of that node.
 abbrev pub NodesAreParsed : Type 0

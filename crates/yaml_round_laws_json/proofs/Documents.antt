@@ -15,7 +15,7 @@ use Rattle.yaml_round_laws_documents.specs.parse_grammar.Remaining.{reading_of}
 use Rattle.yaml_round_laws_documents.proofs.CompleteStream.{stream_runs}
 use Rattle.yaml_emit_laws_text.specs.emit_layout.Content.{Document}
 use Rattle.yaml_emit_laws_text.specs.PrettyBodies.{json_bodies, start_bodies, stop_bodies, document_bodies}
-use Rattle.yaml_round_laws_documents.specs.TreeLaws.{token_bodies, event_bodies, Says, parsed_of}
+use Rattle.yaml_round_laws_documents.specs.TreeLaws.{token_bodies, event_bodies, SaysTree, parsed_of}
 use Rattle.yaml_round_laws_documents.proofs.Growing.{take}
 use Rattle.yaml_round_laws_documents.proofs.Documents.{item_says, no_spans, ends_say}
 use Rattle.yaml_round_laws_json.proofs.EventsRead.{json_reads, document_reads}
@@ -53,7 +53,8 @@ record Ends (r : Reading) (bs : List EventBody) : Type 0 where
   events : event_bodies r ≡ bs
   ending : r.ending ≡ None
 
-ends_by : (R : List EventBody → List EventBody) (r q : Reading) (bs : List EventBody) → Says R r q
+ends_by : (R : List EventBody → List EventBody) (r q : Reading) (bs : List EventBody)
+    → SaysTree R r q
     → Ends q bs → Ends r (R bs)
 ends_by R r q bs s e = record { events = s.events ∙ ap (λ (x : List EventBody). R x) e.events; ending = s.ending ∙ e.ending }
 

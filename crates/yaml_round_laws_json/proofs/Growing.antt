@@ -19,7 +19,7 @@ use Rattle.yaml_round_laws_documents.specs.parse_grammar.Trees as trees
 use Rattle.yaml_round_laws_documents.specs.parse_grammar.Resolve.{Directives, reading, scalar_event}
 use Rattle.yaml_emit_laws_text.specs.emit_layout.Content.{Scalar, Start, Node, alias_node, scalar_node, sequence_node, mapping_node, Nodes, no_nodes, node, Pairs, no_pairs, pair}
 use Rattle.yaml_emit_laws_text.specs.PrettyBodies.{json_bodies, json_items, json_pairs}
-use Rattle.yaml_round_laws_documents.specs.TreeLaws.{token_bodies, Says, Grown}
+use Rattle.yaml_round_laws_documents.specs.TreeLaws.{token_bodies, SaysTree, Grown}
 use Rattle.yaml_round_laws_documents.proofs.Growing.{take, both_say, step_says}
 use Rattle.yaml_round_laws_json.proofs.EventsRead.{json_reads, json_items_reads, json_pairs_reads}
 
@@ -30,7 +30,7 @@ record Filled (b : Brackets) (R : List EventBody → List EventBody) (ts : List 
   same : ts ≡ spell_items b items rest
   left : token_bodies rest ≡ bs
   gives : (more : List Token) (gs : List Given) (f : Option Fault) (D : Directives) → D.tags ≡ []
-      → Says R (reading (items_items b items more gs) f D) (reading gs f D)
+      → SaysTree R (reading (items_items b items more gs) f D) (reading gs f D)
 
 -- what follows an item or a pair
 record Followed (b : Brackets) (R : List EventBody → List EventBody) (ts : List Token) (bs : List TokenBody) : Type 0 where
@@ -39,7 +39,7 @@ record Followed (b : Brackets) (R : List EventBody → List EventBody) (ts : Lis
   same : ts ≡ spell_more b others rest
   left : token_bodies rest ≡ bs
   gives : (more : List Token) (gs : List Given) (f : Option Fault) (D : Directives) → D.tags ≡ []
-      → Says R (reading (items_more b others more gs) f D) (reading gs f D)
+      → SaysTree R (reading (items_more b others more gs) f D) (reading gs f D)
 
 abbrev NodeGrows : Node → Type 0
 NodeGrows n = (w : Wants) (ts : List Token) (bs : List TokenBody) → token_bodies ts ≡ json_bodies n bs → Grown w [] (json_reads n) ts bs

@@ -3,7 +3,7 @@ use Rattle.std.proofs.Common.{◌≡◌, ℕ, Bool, false, List, [], ◌∷◌, 
 use Rattle.std.specs.Str.{IsUtf8}
 use Rattle.yaml_round_laws_documents.specs.emit_laws_text.emit_layout.Content.{Opening}
 use Rattle.yaml_round_laws_documents.specs.emit_laws_text.emit_layout.Grammar.{opening_problem}
-use Rattle.yaml_round_content.specs.Said.{Mark, untagged, tagged, Node, alias, scalar, sequence, mapping, Nodes, no_nodes, node, Pairs, no_pairs, pair, Document}
+use Rattle.yaml_round_content.specs.Said.{ScalarMark, untagged, tagged, Node, alias, scalar, sequence, mapping, Nodes, no_nodes, node, Pairs, no_pairs, pair, Document}
 use Rattle.yaml_round_laws_normal.specs.Readable.{readable_scalar, readable_node, readable_nodes, readable_pairs, readable_document, is_unmarked, documents_from}
 use Rattle.yaml_emit_laws_text.specs.TagsLaws.{HaveUtf8, WrittenTagsAreReadable}
 use Rattle.yaml_emit_laws_text.specs.Writable as text
@@ -15,7 +15,7 @@ use Rattle.yaml_round_laws_documents.proofs.Premises.{not_bang, text_anchor, tex
 
 -- ---- the text
 
-text_scalar : (b : Bool) → (anchor : Option (List ℕ)) (mark : Mark) (value : List ℕ)
+text_scalar : (b : Bool) → (anchor : Option (List ℕ)) (mark : ScalarMark) (value : List ℕ)
     → IsAnchor anchor → IsMark mark → IsUtf8 value
     → text.IsWritable (readable_node b (scalar anchor mark value))
 text_scalar b anchor (untagged plain) value a m v = (text_anchor anchor a, tt, v)
@@ -43,7 +43,7 @@ are_writable first (d ∷ ds) (h, hs) = ((h.opening, have_utf8 d.directives h.pr
 
 -- ---- the bytes
 
-bytes_scalar : (b : Bool) → (anchor : Option (List ℕ)) (mark : Mark) (value : List ℕ)
+bytes_scalar : (b : Bool) → (anchor : Option (List ℕ)) (mark : ScalarMark) (value : List ℕ)
     → IsAnchor anchor → IsMark mark → IsUtf8 value
     → bytes.IsSpellable (readable_node b (scalar anchor mark value))
 bytes_scalar b anchor (untagged plain) value a m v = (bytes_anchor anchor a, tt, v)
@@ -82,7 +82,7 @@ readable_tag law o h None t = tt
 readable_tag law o h (Some t) (some, utf8) = law o h.right h.utf8 t utf8 some
 
 tagged_scalar : (b : Bool) → WrittenTagsAreReadable → (o : Opening) → Opened o
-    → (anchor : Option (List ℕ)) (mark : Mark) (value : List ℕ) → IsMark mark
+    → (anchor : Option (List ℕ)) (mark : ScalarMark) (value : List ℕ) → IsMark mark
     → IsTagged o.directives (readable_node b (scalar anchor mark value))
 tagged_scalar b law o h anchor (untagged plain) value m = tt
 tagged_scalar b law o h anchor (tagged t) value (m, other) = readable_tag law o h (Some t) m
@@ -115,7 +115,8 @@ have_texts law first (d ∷ ds) (h, hs) =
 
 -- ---- the parser
 
-fine_scalar : (b : Bool) → (anchor : Option (List ℕ)) (mark : Mark) (value : List ℕ) → IsMark mark
+fine_scalar : (b : Bool) → (anchor : Option (List ℕ)) (mark : ScalarMark) (value : List ℕ)
+    → IsMark mark
     → IsNoMark (readable_scalar b anchor mark value).tag
 fine_scalar b anchor (untagged plain) value m = tt
 fine_scalar b anchor (tagged t) value (m, other) = not_bang t other

@@ -9,7 +9,7 @@ use Rattle.yaml_emit_laws_text.specs.emit_layout.declared.problem.Problem.TheVar
 use Rattle.yaml_emit_laws_text.specs.emit_layout.Content as emit
 use Rattle.yaml_emit_laws_text.specs.emit_layout.Grammar.{or_else, kept_tag, name_problem, anchor_problem, tag_problem, event_problem, last_problem, own_problem, own_problems}
 use Rattle.yaml_round_laws_documents.specs.emit_laws_text.scan_model.Classes.{is_alpha_byte}
-use Rattle.yaml_round_content.specs.Said.{Mark, untagged, tagged, Node, alias, scalar, sequence, mapping, Nodes, no_nodes, node, Pairs, no_pairs, pair, Document, scalar_says, node_says, items_say, pairs_say, documents_say, stream_says}
+use Rattle.yaml_round_content.specs.Said.{ScalarMark, untagged, tagged, Node, alias, scalar, sequence, mapping, Nodes, no_nodes, node, Pairs, no_pairs, pair, Document, scalar_says, node_says, items_say, pairs_say, documents_say, stream_says}
 use Rattle.yaml_round_content.specs.Writable.{IsName, IsAnchor, IsTag, IsMark, IsWritable, AreItemsWritable, ArePairsWritable, AreWritable}
 use Rattle.yaml_round_content.proofs.WritableContents.{are_writable as inputs_writable}
 use Rattle.yaml_round_laws_normal.specs.Readable.{readable_scalar, readable_start, readable_node, readable_nodes, readable_pairs, is_unmarked, documents_from, readable_documents}
@@ -19,7 +19,8 @@ use Rattle.yaml_round_content.proofs.Naming.{not_zero}
 
 -- ---- the events
 
-scalar_event : (at : Place) (b : Bool) (anchor : Option (List ℕ)) (mark : Mark) (value : List ℕ)
+scalar_event : (at : Place) (b : Bool) (anchor : Option (List ℕ)) (mark : ScalarMark) (value : List
+    ℕ)
     → readable_event (root_place b) (scalar_says anchor mark value)
     ≡ emit.scalar (readable_scalar b anchor mark value)
 scalar_event at true anchor (untagged plain) value = refl
@@ -98,7 +99,7 @@ kept_right : (left_out : Bool) (tag : Option (List ℕ)) → IsTag tag
 kept_right true tag h = refl
 kept_right false tag h = tag_right tag h
 
-scalar_right : (b : Bool) (anchor : Option (List ℕ)) (mark : Mark) (value : List ℕ)
+scalar_right : (b : Bool) (anchor : Option (List ℕ)) (mark : ScalarMark) (value : List ℕ)
     → IsAnchor anchor → IsMark mark
     → own_problem false (emit.scalar (readable_scalar b anchor mark value)) ≡ None
 unfolding event_problem last_problem

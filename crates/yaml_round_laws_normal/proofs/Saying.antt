@@ -7,14 +7,14 @@ use Rattle.yaml_parse_grammar.specs.parse_model.declared.yaml_mapping_style_t.Th
 use Rattle.yaml_parse_grammar.specs.parse_model.Events.{EventBody}
 use Rattle.yaml_parse_grammar.specs.parse_model.Events as event
 use Rattle.yaml_round_content.specs.emit_layout.Content as emit
-use Rattle.yaml_round_content.specs.Said.{Mark, untagged, tagged, Node, alias, scalar, sequence, mapping, Nodes, no_nodes, node, Pairs, no_pairs, pair, Document, scalar_says, node_says, items_say, pairs_say, documents_say, stream_says}
+use Rattle.yaml_round_content.specs.Said.{ScalarMark, untagged, tagged, Node, alias, scalar, sequence, mapping, Nodes, no_nodes, node, Pairs, no_pairs, pair, Document, scalar_says, node_says, items_say, pairs_say, documents_say, stream_says}
 use Rattle.yaml_round_laws_pretty.specs.Flags.{HasScalarFlags, HasFlags, HaveFlags, PairsHaveFlags, HaveReaderFlags}
 use Rattle.yaml_round_laws_pretty.proofs.Contents.{says}
 use Rattle.yaml_round_laws_normal.specs.Readable.{readable_scalar, readable_node, readable_nodes, readable_pairs, is_unmarked, documents_from, readable_documents}
 
 -- ---- flags
 
-scalar_flags : (b : Bool) (anchor : Option (List _)) (mark : Mark) (value : List _)
+scalar_flags : (b : Bool) (anchor : Option (List _)) (mark : ScalarMark) (value : List _)
     → HasScalarFlags (readable_scalar b anchor mark value).tag
     (readable_scalar b anchor mark value).plain (readable_scalar b anchor mark value).quoted
 scalar_flags b anchor (untagged plain) value = refl
@@ -41,7 +41,7 @@ have_flags first (d ∷ ds) = (node_flags (is_unmarked first d) d.root, have_fla
 
 -- ---- what they say
 
-scalar_said : (b : Bool) (anchor : Option (List _)) (mark : Mark) (value : List _)
+scalar_said : (b : Bool) (anchor : Option (List _)) (mark : ScalarMark) (value : List _)
     → says (emit.scalar (readable_scalar b anchor mark value)) ≡ scalar_says anchor mark value
 scalar_said b anchor (untagged plain) value = refl
 scalar_said b anchor (tagged t) value = refl

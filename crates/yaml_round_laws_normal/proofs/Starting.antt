@@ -13,7 +13,7 @@ use Rattle.yaml_emit_laws_text.specs.emit_layout.Grammar.{has, scalar_tag}
 use Rattle.yaml_emit_laws_text.specs.emit_layout.Nodes.{Context, is_plain, style_of, has_version, has_directives}
 use Rattle.yaml_round_content.specs.scan_model.declared.yaml_scalar_style_t.{yaml_scalar_style_t}
 use Rattle.yaml_round_content.specs.scan_model.declared.yaml_scalar_style_t.TheVariants.{YAML_SINGLE_QUOTED_SCALAR_STYLE}
-use Rattle.yaml_round_content.specs.Said.{Mark, untagged, tagged, Node, alias, scalar, sequence, mapping, Document}
+use Rattle.yaml_round_content.specs.Said.{ScalarMark, untagged, tagged, Node, alias, scalar, sequence, mapping, Document}
 use Rattle.yaml_emit_laws_pretty.specs.Bodies as bodies
 use Rattle.yaml_emit_laws_pretty.specs.Bodies.{style_at, is_bare, is_empty, is_left_out, context_in, starts_with_nothing}
 use Rattle.yaml_round_laws_pretty.proofs.Contents.{style_not_plain}
@@ -46,7 +46,7 @@ nothing_left plain empty bare e = rw e refl
 
 -- by whether it is the first and unmarked: a root is something
 scalar_left : (p : Context) → p.settings.canonical ≡ false
-    → (anchor : Option (List ℕ)) (mark : Mark) (value : List ℕ)
+    → (anchor : Option (List ℕ)) (mark : ScalarMark) (value : List ℕ)
     → is_left_out p false part.Item (emit.scalar_node (readable_scalar true anchor mark value))
     ≡ false
 scalar_left p pretty anchor (untagged false) value =

@@ -12,7 +12,7 @@ use Rattle.yaml_round_content.specs.emit_layout.Content as emit
 use Rattle.yaml_round_content.specs.emit_layout.Grammar.{has}
 use Rattle.yaml_round_content.specs.emit_layout.Nodes.{has_break, has_version, has_directives, stream_layout}
 use Rattle.yaml_round_content.specs.Said as content
-use Rattle.yaml_round_content.specs.Said.{Mark, untagged, tagged, Node, Nodes, Pairs, Document}
+use Rattle.yaml_round_content.specs.Said.{ScalarMark, untagged, tagged, Node, Nodes, Pairs, Document}
 use Rattle.yaml_round_content.specs.Canon.{canon_encoding}
 
 -- an empty value without anchor
@@ -31,7 +31,7 @@ quoted_style value = if may_be_literal value then YAML_LITERAL_SCALAR_STYLE
 
 -- By whether nothing but it would begin the text: what counts as plain is plain, but for what would be nothing there. A tagged scalar
 -- is plain in one line.
-abbrev pub readable_style : Bool → Option (List ℕ) → Mark → List ℕ → yaml_scalar_style_t
+abbrev pub readable_style : Bool → Option (List ℕ) → ScalarMark → List ℕ → yaml_scalar_style_t
 readable_style starts anchor (untagged true) value =
     if starts && is_nothing anchor value then YAML_SINGLE_QUOTED_SCALAR_STYLE
     else YAML_PLAIN_SCALAR_STYLE
@@ -40,7 +40,7 @@ readable_style starts anchor (tagged t) value =
     if has_break value then quoted_style value else YAML_PLAIN_SCALAR_STYLE
 
 -- its flags are as a reader gives them
-abbrev pub readable_scalar : Bool → Option (List ℕ) → Mark → List ℕ → emit.Scalar
+abbrev pub readable_scalar : Bool → Option (List ℕ) → ScalarMark → List ℕ → emit.Scalar
 readable_scalar starts anchor (untagged plain) value =
     record {
       anchor = anchor;

@@ -7,7 +7,7 @@ use Rattle.yaml_round_content.specs.emit_text.declared.RequestedSettings.{Reques
 use Rattle.yaml_round_content.specs.emit_layout.Content as emit
 use Rattle.yaml_round_content.specs.emit_layout.Nodes.{has_version, has_directives}
 use Rattle.yaml_round_content.specs.emit_layout.Streams.{IsStream}
-use Rattle.yaml_round_content.specs.Said.{Mark, untagged, tagged, Document, HasContent}
+use Rattle.yaml_round_content.specs.Said.{ScalarMark, untagged, tagged, Document, HasContent}
 use Rattle.yaml_round_content.specs.Canon.{canon_encoding}
 use Rattle.yaml_round_content.specs.Events.{contents}
 use Rattle.yaml_round_content.specs.Input.{events_of}
@@ -40,7 +40,7 @@ is_start Before = false
 is_start Starts = true
 is_start Within = false
 
-abbrev pub mark_by : Option (List ℕ) → Bool → Mark
+abbrev pub mark_by : Option (List ℕ) → Bool → ScalarMark
 mark_by None plain = untagged plain
 mark_by (Some t) plain = tagged t
 

@@ -5,7 +5,7 @@ use Rattle.yaml_emit_text.specs.declared.Settings.{Settings}
 use Rattle.yaml_emit_text.specs.Text.{Item, letter, deep, char_bytes, encode}
 use Rattle.yaml_emit_layout.specs.Content.{Event}
 use Rattle.yaml_emit_held.specs.Judged.{let_out, laid}
-use Rattle.yaml_round_laws_pieces.specs.Pieces.{Stand, first_stand, added, whole, Leads, joined, Cuts, no_piece, piece}
+use Rattle.yaml_round_laws_pieces.specs.Pieces.{Stand, first_stand, added, whole, LeadsToStand, joined, Cuts, no_piece, piece}
 use Rattle.yaml_round_laws_pieces.specs.Laws.{CuttingsAreWholes, CutsAreThere, FrontsAreShown, StandInsStand}
 use Rattle.yaml_round_laws_pieces.proofs.Leading.{there}
 
@@ -28,11 +28,12 @@ no_more xs (y ∷ ys) h =
     let k : length xs ≡ length xs + suc (length ys) = ap length h ∙ length-append xs (y ∷ ys) in
     absurd (omega arith)
 
-waits : (s : Settings) (a b : Stand) (es : List Event) → Leads s a es b → added s b [] ≡ []
+waits : (s : Settings) (a b : Stand) (es : List Event) → LeadsToStand s a es b → added s b [] ≡ []
 waits s a b es l = no_more (added s a es) (added s b []) (sym (ap (added s a) (append-nil es)) ∙ l.texts [])
 
 -- of one piece, and those behind it
-one_more : (s : Settings) (a b : Stand) (es more : List Event) (texts : List Item) → Leads s a es b
+one_more : (s : Settings) (a b : Stand) (es more : List Event) (texts : List Item)
+    → LeadsToStand s a es b
     → texts ≡ added s b more → added s a es ++ texts ≡ added s a (es ++ more)
 one_more s a b es more texts l h = ap (λ z. added s a es ++ z) h ∙ sym (l.texts more)
 

@@ -13,12 +13,12 @@ use Rattle.yaml_emit_layout.specs.parse_model.Events.{TagDirective}
 use Rattle.yaml_emit_layout.specs.Content.{Opening, Event, document_start}
 use Rattle.yaml_emit_layout.specs.State.{placed, among}
 use Rattle.yaml_emit_held.specs.Judged.{let_out, laid}
-use Rattle.yaml_round_laws_pieces.specs.Pieces.{Stand, first_stand, added, whole, Leads, Waits, joined, Cuts, Alike}
+use Rattle.yaml_round_laws_pieces.specs.Pieces.{Stand, first_stand, added, whole, LeadsToStand, Waits, joined, Cuts, Alike}
 
 -- From each stand each list of events leads to one, where at most three of them wait.
 abbrev pub StandsAreThere : Type 0
 StandsAreThere = (s : Settings) (a : Stand) (es : List Event) → (b : Stand)
-    × (Leads s a es b × Waits a es b)
+    × (LeadsToStand s a es b × Waits a es b)
 
 -- However a list is cut, the texts of its pieces, one behind another, are the text of the whole, in bytes too.
 abbrev pub CuttingsAreWholes : Type 0
@@ -41,7 +41,7 @@ FrontsAreShown = (s : Settings) (es more : List Event)
 -- Where events and others in their stead lead to stands that are alike, what follows adds the same to the text of either.
 abbrev pub StandInsStand : Type 0
 StandInsStand = (s : Settings) (es others : List Event) (a b : Stand)
-    → Leads s first_stand es a → Leads s first_stand others b → Alike s a b
+    → LeadsToStand s first_stand es a → LeadsToStand s first_stand others b → Alike s a b
     → (more : List Event) → (rest : List Item) × ((whole s (es ++ more) ≡ whole s es ++ rest)
     × (whole s (others ++ more) ≡ whole s others ++ rest))
 

@@ -30,7 +30,7 @@ whole s es = added s first_stand es
 
 -- These events lead from one stand to another: whatever follows, their text comes first, and what the others add is told by where
 -- they lead; and so is the first event that is refused.
-pub record Leads (s : Settings) (a : Stand) (es : List Event) (b : Stand) : Type 0 where
+pub record LeadsToStand (s : Settings) (a : Stand) (es : List Event) (b : Stand) : Type 0 where
   pub texts : (more : List Event) → added s a (es ++ more) ≡ added s a es ++ added s b more
   pub refusals : (more : List Event) → refusal_behind s a.state (a.held ++ (es ++ more))
       ≡ refusal_behind s b.state (b.held ++ more)
@@ -50,7 +50,8 @@ joined (x ∷ xs) = x ++ joined xs
 pub data Cuts (s : Settings) : Stand → List (List Event) → List (List Item) → Type 0 where
   no_piece : (a : Stand) → Cuts s a [] []
   piece : (a b : Stand) (es : List Event) (pieces : List (List Event)) (texts : List (List Item))
-      → Leads s a es b → Cuts s b pieces texts → Cuts s a (es ∷ pieces) (added s a es ∷ texts)
+      → LeadsToStand s a es b → Cuts s b pieces texts
+      → Cuts s a (es ∷ pieces) (added s a es ∷ texts)
 
 -- Whatever follows, it adds the same.
 abbrev pub Alike : Settings → Stand → Stand → Type 0

@@ -23,7 +23,7 @@ use Rattle.yaml_emit_laws_text.specs.emit_layout.Nodes.{has_version, has_directi
 use Rattle.yaml_emit_laws_text.specs.emit_layout.Grammar.{opening_problem}
 use Rattle.yaml_emit_laws_text.specs.Bodies.{version_bodies, directives_bodies, end_bodies}
 use Rattle.yaml_emit_laws_text.specs.PrettyBodies.{start_bodies}
-use Rattle.yaml_round_laws_documents.specs.TreeLaws.{token_bodies, event_bodies, Says, HasNoMark, AreParsable, parsed_of}
+use Rattle.yaml_round_laws_documents.specs.TreeLaws.{token_bodies, event_bodies, SaysTree, HasNoMark, AreParsable, parsed_of}
 use Rattle.yaml_round_laws_documents.proofs.Growing.{take}
 use Rattle.yaml_round_laws_documents.proofs.Documents.{item_says, no_spans, ends_say, resolving}
 use Rattle.yaml_emit_laws_pretty.specs.Bodies.{context_in, root_bodies, is_root_kept, is_left_out, has_dots, opening_bodies, documents_bodies, starts_with_nothing}
@@ -38,7 +38,8 @@ pub record Ends (r : Reading) (bs : List EventBody) : Type 0 where
   pub events : event_bodies r ≡ bs
   pub ending : r.ending ≡ None
 
-ends_by : (R : List EventBody → List EventBody) (r q : Reading) (bs : List EventBody) → Says R r q
+ends_by : (R : List EventBody → List EventBody) (r q : Reading) (bs : List EventBody)
+    → SaysTree R r q
     → Ends q bs → Ends r (R bs)
 ends_by R r q bs s e = record { events = s.events ∙ ap (λ (x : List EventBody). R x) e.events; ending = s.ending ∙ e.ending }
 

@@ -21,7 +21,7 @@ use Rattle.yaml_emit_laws_text.specs.emit_layout.emit_text.declared.Style.{Style
 use Rattle.yaml_emit_laws_text.specs.emit_layout.emit_text.declared.Style.TheVariants as style
 use Rattle.yaml_emit_laws_text.specs.emit_layout.Grammar.{has}
 use Rattle.yaml_emit_laws_text.specs.Bodies.{anchor_bodies, tag_bodies, mark_bodies}
-use Rattle.yaml_round_laws_documents.specs.TreeLaws.{token_bodies, Says, IsNoMark, Grown}
+use Rattle.yaml_round_laws_documents.specs.TreeLaws.{token_bodies, SaysTree, IsNoMark, Grown}
 use Rattle.yaml_round_laws_documents.proofs.Growing.{take, step_says, resolves, tagged_event, dress_gives, split_resolved, dress_spells, spell_if, properties_if, split_handle, split_suffix, split_body, with_dress}
 use Rattle.yaml_emit_laws_pretty.specs.Bodies.{style_named, takes_mark, is_bare, is_nothing, scalar_bodies}
 use Rattle.yaml_round_laws_pretty.specs.Reads.{scalar_reads}
@@ -34,7 +34,7 @@ pub record Spelt (T : Type 0) (spell : T → List Token → List Token) (items :
   pub same : ts ≡ spell tree rest
   pub left : token_bodies rest ≡ bs
   pub gives : (more : List Token) (gs : List Given) (f : Option Fault) (D : Directives)
-      → D.tags ≡ ds → Says R (reading (items tree more gs) f D) (reading gs f D)
+      → D.tags ≡ ds → SaysTree R (reading (items tree more gs) f D) (reading gs f D)
 
 abbrev pub MaybeGrown : Wants → Site → yaml_mark_t → List TagDirective
     → (List EventBody → List EventBody) → List Token → List TokenBody → Type 0
@@ -164,7 +164,7 @@ pub record Contained (w : Wants) (ds : List TagDirective) (shape : Shape) (R : L
   pub gives : (o : Option Properties) (b : EventBody) (more : List Token) (gs : List Given)
       (f : Option Fault) (D : Directives) → D.tags ≡ ds
       → ((from to : yaml_mark_t) → settle (node_at o shape from to) D ≡ gave b D)
-      → Says (λ es. b ∷ R es) (reading (items_content tree o more gs) f D) (reading gs f D)
+      → SaysTree (λ es. b ∷ R es) (reading (items_content tree o more gs) f D) (reading gs f D)
 
 dressed_named : (w : Wants) (ds : List TagDirective) (anchor : Option (List ℕ)) (tag : Option Named)
     → IsNamed ds tag
@@ -181,7 +181,7 @@ dressed_named w ds anchor tag h shape R cs bs inner ts e =
       same = d.same ∙ ap (λ (y : List Token). spell_if d.dress y) c.same ∙ sym (dress_spells w d.dress c.tree c.rest);
       left = c.left;
       gives = λ more gs f D same.
-          let P : List Given → Type 0 = λ y. Says (λ es. node_event anchor (full_of tag) shape ∷ R es) (reading y f D) (reading gs f D) in
+          let P : List Given → Type 0 = λ y. SaysTree (λ es. node_event anchor (full_of tag) shape ∷ R es) (reading y f D) (reading gs f D) in
           subst P (sym (dress_gives w d.dress c.tree more gs)) (c.gives (properties_if d.dress) (node_event anchor (full_of tag) shape) more gs f D same (λ from to. d.gives shape from to D same));
     }
 

@@ -13,7 +13,7 @@ use Rattle.yaml_emit_graph.proofs.Joining.{turns_joined}
 use Rattle.yaml_round_nodes.specs.declared.record.yaml_c_node.{yaml_c_node}
 use Rattle.yaml_round_nodes.specs.declared.record.yaml_c_graph.{yaml_c_graph}
 use Rattle.yaml_round_nodes.specs.declared.record.yaml_c_turn.{yaml_c_turn}
-use Rattle.yaml_round_nodes.specs.Graphs.{holds, held_by, body_if, stand_in, stand_ins, kind_of, kind_at, kind_in, record_in, ShowsNode, ShowNodes, Shows}
+use Rattle.yaml_round_nodes.specs.Graphs.{holds, held_by, body_if, stand_in, stand_ins, kind_of, kind_at, kind_in, record_in, ShowsNodeRecord, ShowNodes, Shows}
 use Rattle.yaml_round_nodes.specs.Turns.{turn_told, node_kind, turn_by, turns_by, TellsTurns, opening_kind, closing_kind}
 use Rattle.yaml_round_nodes.proofs.Showing.{ids_held}
 
@@ -94,7 +94,7 @@ is_if false held = refl
 
 -- what is so of each record and its node, by number: of none too
 each : (P : NodeBody → NodeBody → Type 0) (list : List ℤ) → P node.no node.no
-    → ((r : yaml_c_node) (n : Node) → ShowsNode list r n → P (body_if (holds r.kind) (held_by list r)) n.body)
+    → ((r : yaml_c_node) (n : Node) → ShowsNodeRecord list r n → P (body_if (holds r.kind) (held_by list r)) n.body)
     → (rs : List yaml_c_node) (ns : List Node) → ShowNodes list rs ns
     → (id : ℤ) → P (body_of_id (map (stand_in list) rs) id) (body_of_id ns id)
 each P list p f [] [] s (pos zero) = p

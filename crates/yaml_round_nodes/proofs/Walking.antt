@@ -13,7 +13,7 @@ use Rattle.yaml_round_nodes.specs.declared.walk.Turn.{Turn}
 use Rattle.yaml_round_nodes.specs.declared.walk.Turn.TheVariants.{First, Again, Leave}
 use Rattle.yaml_round_nodes.specs.declared.walk.Open.{Open}
 use Rattle.yaml_round_nodes.specs.declared.walk.Walk.{Walk}
-use Rattle.yaml_round_nodes.specs.Walk.{turn_of, NextChild, rest_of, stack, stack_of, opened, frames, remaining_by, remaining_turns, IsWalk, with_opened, Visited, Comes}
+use Rattle.yaml_round_nodes.specs.Walk.{turn_of, NextChild, rest_of, stack, stack_of, opened, frames, remaining_by, remaining_turns, IsGraphWalk, with_opened, Visited, Comes}
 
 visit_again : (n : ℕ) (nodes : List model.Node) (id : ℤ) (r : Rest) (met : Met)
     → is_met met id ≡ true → visits (suc n) nodes id r met ≡ graph_turn.Again id ∷ r met
@@ -48,11 +48,11 @@ length_opened : (b : Bool) (id : ℤ) (os : List Open)
 length_opened true id os = omega arith
 length_opened false id os = omega arith
 
-first_walk : (nodes : List model.Node) (old new : Walk) (id : ℤ) → IsWalk nodes old
+first_walk : (nodes : List model.Node) (old new : Walk) (id : ℤ) → IsGraphWalk nodes old
     → old.started ≡ true → is_met old.met.items id ≡ false → new.met.items ≡ meet old.met.items id
     → new.started ≡ old.started
     → stack_of new ≡ with_opened (is_collection (body_of_id nodes id)) id (stack_of old)
-    → IsWalk nodes new
+    → IsGraphWalk nodes new
 first_walk nodes old new id w s h m t k = record {
   sized = ap length m ∙ walking.length_meet_at old.met.items (place_at id) ∙ w.sized;
   deep =
@@ -67,15 +67,15 @@ first_walk nodes old new id w s h m t k = record {
 
 -- a node was visited, with the open nodes to come
 pub visited : (nodes : List model.Node) (mid new : Walk) (id : ℤ) (t : Turn) (n : ℕ)
-    → mid.started ≡ true → IsWalk nodes mid → n ≡ length nodes - length (stack_of mid)
+    → mid.started ≡ true → IsGraphWalk nodes mid → n ≡ length nodes - length (stack_of mid)
     → Visited nodes id mid (Ok t) new
     → (visits (suc n) nodes id (frames nodes (stack_of mid)) mid.met.items ≡ turn_of t
-    ∷ remaining_turns nodes new) × IsWalk nodes new
+    ∷ remaining_turns nodes new) × IsGraphWalk nodes new
 unfolding remaining_turns
 visited nodes mid new id (Again i) n s w k v =
     let a = visit_again n nodes id (frames nodes (stack_of mid)) mid.met.items v.1 in
     let c : remaining_turns nodes mid ≡ frames nodes (stack_of mid) mid.met.items = ap (λ z. remaining_by z nodes (stack_of mid) mid.met.items) s in
-    let P : Walk → Type 0 = λ z. IsWalk nodes z in
+    let P : Walk → Type 0 = λ z. IsGraphWalk nodes z in
     (a ∙ ap (λ z. graph_turn.Again z ∷ frames nodes (stack_of mid) mid.met.items) (sym v.0) ∙ ap (λ z. graph_turn.Again i ∷ z) (sym c ∙ ap (remaining_turns nodes) (sym v.2)), subst P (sym v.2) w)
 visited nodes mid new id (First i) n s w k v =
     let a = visit_first n nodes id (frames nodes (stack_of mid)) mid.met.items v.1 in
@@ -103,7 +103,8 @@ child_comes nodes old o p os id n s k f l e =
     a ∙ b ∙ c ∙ ap (λ z. visits z nodes id (frames nodes (p ∷ os)) met) f
 
 -- the depth is less than the number of nodes
-pub depth_left : (nodes : List model.Node) (w : Walk) (o : Open) (os : List Open) → IsWalk nodes w
+pub depth_left : (nodes : List model.Node) (w : Walk) (o : Open) (os : List Open)
+    → IsGraphWalk nodes w
     → stack_of w ≡ o ∷ os → length nodes - length os ≡ suc (length nodes - length (o ∷ os))
 depth_left nodes w o os h k =
     let a = walking.sum_most w.met.items in
@@ -119,8 +120,8 @@ unfolding remaining_turns frames
 none_comes nodes w s t = rw (s, t) refl
 
 -- a walk with the same marks and no more open nodes
-same_walk : (nodes : List model.Node) (old new : Walk) → IsWalk nodes old → new.started ≡ true
-    → new.met ≡ old.met → length (stack_of new) ≤ length (stack_of old) → IsWalk nodes new
+same_walk : (nodes : List model.Node) (old new : Walk) → IsGraphWalk nodes old → new.started ≡ true
+    → new.met ≡ old.met → length (stack_of new) ≤ length (stack_of old) → IsGraphWalk nodes new
 same_walk nodes old new w s m l = record {
   sized = ap (λ (z : Vec Bool Global). length z.items) m ∙ w.sized;
   deep =
@@ -132,9 +133,9 @@ same_walk nodes old new w s m l = record {
 
 -- an open node ends
 pub leave_comes : (nodes : List model.Node) (old new : Walk) (o : Open) → old.started ≡ true
-    → old.top ≡ Some o → IsWalk nodes old → drop o.index (child_ids (body_of_id nodes o.node)) ≡ []
+    → old.top ≡ Some o → IsGraphWalk nodes old → drop o.index (child_ids (body_of_id nodes o.node)) ≡ []
     → stack_of new ≡ rest_of (stack_of old) → new.met ≡ old.met → new.started ≡ old.started
-    → (remaining_turns nodes old ≡ graph_turn.Leave o.node ∷ remaining_turns nodes new) × IsWalk nodes new
+    → (remaining_turns nodes old ≡ graph_turn.Leave o.node ∷ remaining_turns nodes new) × IsGraphWalk nodes new
 unfolding remaining_turns frames over
 leave_comes nodes old new o s t w l k m b =
     let os : List Open = reverse old.outer.items in
@@ -151,11 +152,11 @@ leave_comes nodes old new o s t w l k m b =
 
 -- the next child of the innermost open node is visited
 pub child_met : (nodes : List model.Node) (old mid new : Walk) (o p : Open) (id : ℤ) (t : Turn)
-    → old.started ≡ true → old.top ≡ Some o → IsWalk nodes old
+    → old.started ≡ true → old.top ≡ Some o → IsGraphWalk nodes old
     → mid.top ≡ Some p → mid.outer ≡ old.outer → mid.met ≡ old.met → mid.started ≡ true
     → NextChild (body_of_id nodes o.node) o (Some (id, p)) → (i : ℤ) → i ≡ id
     → Visited nodes i mid (Ok t) new
-    → (remaining_turns nodes old ≡ turn_of t ∷ remaining_turns nodes new) × IsWalk nodes new
+    → (remaining_turns nodes old ≡ turn_of t ∷ remaining_turns nodes new) × IsGraphWalk nodes new
 child_met nodes old mid new o p id t s k w km out m sm next i same u =
     let V : ℤ → Type 0 = λ z. Visited nodes z mid (Ok t) new in
     let v : Visited nodes id mid (Ok t) new = subst V same u in
@@ -167,16 +168,16 @@ child_met nodes old mid new o p id t s k w km out m sm next i same u =
     let h : length (stack_of mid) ≡ suc (length os) = ap length f in
     let a : remaining_turns nodes old ≡ visits (suc n) nodes id (frames nodes (p ∷ os)) old.met.items = child_comes nodes old o p os id n s e (depth_left nodes old o os w e) next.0 next.1 in
     let b : visits (suc n) nodes id (frames nodes (p ∷ os)) old.met.items ≡ visits (suc n) nodes id (frames nodes (stack_of mid)) mid.met.items = rw (f, m) refl in
-    let w' : IsWalk nodes mid = same_walk nodes old mid w sm m (omega (arith, g, h)) in
+    let w' : IsGraphWalk nodes mid = same_walk nodes old mid w sm m (omega (arith, g, h)) in
     let c = visited nodes mid new id t n sm w' (ap (λ z. length nodes - z) (sym h)) v in
     (a ∙ b ∙ c.0, c.1)
 
 -- the root is visited
 pub root_met : (nodes : List model.Node) (old mid new : Walk) (t : Turn) → old.started ≡ false
-    → IsWalk nodes old
+    → IsGraphWalk nodes old
     → mid.top ≡ old.top → mid.outer ≡ old.outer → mid.met ≡ old.met → mid.started ≡ true
     → Visited nodes (pos 1) mid (Ok t) new
-    → (remaining_turns nodes old ≡ turn_of t ∷ remaining_turns nodes new) × IsWalk nodes new
+    → (remaining_turns nodes old ≡ turn_of t ∷ remaining_turns nodes new) × IsGraphWalk nodes new
 unfolding remaining_turns frames
 root_met nodes old mid new t s w km out m sm v =
     let e : stack_of old ≡ [] = w.begun s in
@@ -184,14 +185,14 @@ root_met nodes old mid new t s w km out m sm v =
     let h : length (stack_of mid) ≡ 0 = ap length (f ∙ e) in
     let a : remaining_turns nodes old ≡ visits (suc (length nodes)) nodes (pos 1) nothing_left old.met.items = ap (λ z. remaining_by z nodes (stack_of old) old.met.items) s in
     let b : visits (suc (length nodes)) nodes (pos 1) nothing_left old.met.items ≡ visits (suc (length nodes)) nodes (pos 1) (frames nodes (stack_of mid)) mid.met.items = rw (f ∙ e, m) refl in
-    let w' : IsWalk nodes mid = same_walk nodes old mid w sm m (omega (arith, ap length f)) in
+    let w' : IsGraphWalk nodes mid = same_walk nodes old mid w sm m (omega (arith, ap length f)) in
     let c = visited nodes mid new (pos 1) t (length nodes) sm w' (omega (arith, h)) v in
     (a ∙ b ∙ c.0, c.1)
 
 -- nothing was met
 pub fresh_walk : (nodes : List model.Node) (w : Walk) (count : ℕ) → count ≡ length nodes
     → w.started ≡ false → stack_of w ≡ [] → w.met.items ≡ replicate count false
-    → IsWalk nodes w × (remaining_turns nodes w ≡ turns_onward nodes)
+    → IsGraphWalk nodes w × (remaining_turns nodes w ≡ turns_onward nodes)
 unfolding remaining_turns turns_onward
 fresh_walk nodes w count n s k m = (
   record {

@@ -54,13 +54,13 @@ kind_of (node.sequence items style) = pos 2
 kind_of (node.mapping pairs style) = pos 3
 
 -- the record of a node: its kind, and the numbers that it holds, of a mapping each pair's key and its value
-pub record ShowsNode (list : List ℤ) (r : yaml_c_node) (n : Node) : Type 0 where
+pub record ShowsNodeRecord (list : List ℤ) (r : yaml_c_node) (n : Node) : Type 0 where
   pub kind : r.kind ≡ kind_of n.body
   pub held : held_by list r ≡ child_ids n.body
 
 abbrev pub ShowNodes : List ℤ → List yaml_c_node → List Node → Type 0
 ShowNodes list [] [] = Unit {0}
-ShowNodes list (r ∷ rs) (n ∷ ns) = ShowsNode list r n × ShowNodes list rs ns
+ShowNodes list (r ∷ rs) (n ∷ ns) = ShowsNodeRecord list r n × ShowNodes list rs ns
 ShowNodes list [] (n ∷ ns) = ⊥
 ShowNodes list (r ∷ rs) [] = ⊥
 

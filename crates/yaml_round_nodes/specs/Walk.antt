@@ -53,7 +53,7 @@ unfoldable pub remaining_turns : List model.Node → Walk → List graph.Turn
 remaining_turns nodes w = remaining_by w.started nodes (stack_of w) w.met.items
 
 -- the marks are those of the nodes, and each open node was met
-pub record IsWalk (nodes : List model.Node) (w : Walk) : Type 0 where
+pub record IsGraphWalk (nodes : List model.Node) (w : Walk) : Type 0 where
   pub sized : length w.met.items ≡ length nodes
   pub deep : length (stack_of w) ≤ marked w.met.items
   pub begun : w.started ≡ false → stack_of w ≡ []
@@ -82,7 +82,7 @@ Visited nodes id old (Err e) new = Unit {0}
 
 -- a walk gives what comes next, and the rest is still to come
 abbrev pub Comes : List model.Node → Walk → Result (Option Turn) AllocError → Walk → Type 0
-Comes nodes old (Ok None) new = (remaining_turns nodes old ≡ []) × IsWalk nodes new
+Comes nodes old (Ok None) new = (remaining_turns nodes old ≡ []) × IsGraphWalk nodes new
 Comes nodes old (Ok (Some t)) new = (remaining_turns nodes old ≡ turn_of t
-    ∷ remaining_turns nodes new) × IsWalk nodes new
+    ∷ remaining_turns nodes new) × IsGraphWalk nodes new
 Comes nodes old (Err e) new = Unit {0}

@@ -7,7 +7,7 @@ ghost use Rattle.yaml_round_nodes.specs.Graphs.{part, held_by, holds, is_node, a
 use crate::record::{yaml_c_graph, yaml_c_node};
 
 /// The place of a node in the list of nodes, by its number.
-pub(crate) fn place_of(id: i32) -> Option<usize>
+pub(crate) fn node_place(id: i32) -> Option<usize>
     ensures { result ≡ place_at id }
 {
     if id < 1 {
@@ -85,7 +85,7 @@ pub fn is_graph(graph: &yaml_c_graph) -> bool
 pub(crate) fn record_at(graph: &yaml_c_graph, id: i32) -> Option<yaml_c_node>
     ensures { result ≡ record_in graph.now.nodes.now (place_at id) }
 {
-    match place_of(id) {
+    match node_place(id) {
         None => None,
         Some(at) => graph.nodes.get(at).copied(),
     }

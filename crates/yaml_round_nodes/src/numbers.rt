@@ -7,7 +7,7 @@ ghost use Rattle.yaml_round_nodes.specs.Walk.{turn_of};
 ghost use Rattle.yaml_emit_graph.specs.Numbers.{IsNumbering};
 ghost use Rattle.yaml_round_nodes.specs.Numbers.{numbering_of};
 
-use crate::graph::place_of;
+use crate::graph::node_place;
 use crate::record::yaml_c_graph;
 use crate::walk::{Turn, Walk};
 use std::alloc::{AllocError, Global};
@@ -33,10 +33,10 @@ fn number_in(table: &[u64], at: usize) -> u64
 }
 
 /// The number of a node, or 0.
-pub(crate) fn number_of(table: &[u64], id: i32) -> u64
+pub(crate) fn node_number(table: &[u64], id: i32) -> u64
     ensures { result ≡ number_at table.now id }
 {
-    match place_of(id) {
+    match node_place(id) {
         None => 0,
         Some(at) => number_in(table, at),
     }
@@ -81,7 +81,7 @@ impl Numbers {
         ensures gives { numbering_of self.new ≡ again_at (place_at id) (numbering_of self.old) }
         ensures numbers { IsNumbering (numbering_of self.new) }
     {
-        match place_of(id) {
+        match node_place(id) {
             None => (),
             Some(at) => self.meet_at(at),
         }

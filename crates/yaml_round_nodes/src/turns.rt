@@ -7,7 +7,7 @@ ghost use Rattle.yaml_round_nodes.specs.Walk.{turn_of};
 ghost use Rattle.yaml_round_nodes.specs.Turns.{opening_kind, closing_kind, turn_by, turns_by};
 
 use crate::graph::record_at;
-use crate::numbers::{Walked, number_of, walk_nodes};
+use crate::numbers::{Walked, node_number, walk_nodes};
 use crate::record::{yaml_c_graph, yaml_c_turn};
 use crate::walk::Turn;
 use std::alloc::{AllocError, Global};
@@ -53,12 +53,12 @@ fn turn_by(graph: &yaml_c_graph, numbers: &[u64], turn: Turn) -> yaml_c_turn
         Turn::First(node) => yaml_c_turn {
             kind: opening_kind(kind_at(graph, node)),
             node,
-            number: number_of(numbers, node),
+            number: node_number(numbers, node),
         },
         Turn::Again(node) => yaml_c_turn {
             kind: 5,
             node,
-            number: number_of(numbers, node),
+            number: node_number(numbers, node),
         },
         Turn::Leave(node) => yaml_c_turn {
             kind: closing_kind(kind_at(graph, node)),

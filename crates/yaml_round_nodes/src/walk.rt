@@ -3,9 +3,9 @@
 ghost use Rattle.std.specs.Prelude.{◌≡◌, ◌∷◌, [], None, Some, IfOk, OnOk, replicate, true, false};
 ghost use Rattle.yaml_emit_graph.specs.Graph.{met_at, meet_at, is_met, meet, is_collection, body_of_id};
 ghost use Rattle.yaml_round_nodes.specs.Graphs.{stand_ins};
-ghost use Rattle.yaml_round_nodes.specs.Walk.{next_of, NextChild, IsWalk, stack_of, rest_of, with_opened, Marks, Visited, Comes};
+ghost use Rattle.yaml_round_nodes.specs.Walk.{next_of, NextChild, IsGraphWalk, stack_of, rest_of, with_opened, Marks, Visited, Comes};
 
-use crate::graph::{held_by, holds_nodes, place_of, record_at};
+use crate::graph::{held_by, holds_nodes, node_place, record_at};
 use crate::record::yaml_c_graph;
 use std::alloc::{AllocError, Global};
 
@@ -99,7 +99,7 @@ impl Walk {
     fn is_met(&self, id: i32) -> bool
         ensures { result ≡ is_met self.now.met.items id }
     {
-        match place_of(id) {
+        match node_place(id) {
             None => true,
             Some(at) => self.is_met_at(at),
         }
@@ -118,7 +118,7 @@ impl Walk {
         ensures marks { self.new.met.items ≡ meet self.old.met.items id }
         ensures rest { Marks self.old self.new }
     {
-        match place_of(id) {
+        match node_place(id) {
             None => (),
             Some(at) => self.mark_at(at),
         }
@@ -182,7 +182,7 @@ impl Walk {
 
     // What comes next in the innermost open node, or its end.
     fn step(&mut self, graph: &yaml_c_graph, from: Open) -> Result<Option<Turn>, AllocError>
-        requires walk { IsWalk (stand_ins graph.now) self.old }
+        requires walk { IsGraphWalk (stand_ins graph.now) self.old }
         requires going { self.old.started ≡ true }
         requires top { self.old.top ≡ Some from }
         ensures { Comes (stand_ins graph.now) self.old result self.new }
@@ -200,7 +200,7 @@ impl Walk {
     }
 
     fn go_on(&mut self, graph: &yaml_c_graph) -> Result<Option<Turn>, AllocError>
-        requires walk { IsWalk (stand_ins graph.now) self.old }
+        requires walk { IsGraphWalk (stand_ins graph.now) self.old }
         requires going { self.old.started ≡ true }
         ensures { Comes (stand_ins graph.now) self.old result self.new }
     {
@@ -211,7 +211,7 @@ impl Walk {
     }
 
     fn begin(&mut self, graph: &yaml_c_graph) -> Result<Option<Turn>, AllocError>
-        requires walk { IsWalk (stand_ins graph.now) self.old }
+        requires walk { IsGraphWalk (stand_ins graph.now) self.old }
         requires fresh { self.old.started ≡ false }
         ensures { Comes (stand_ins graph.now) self.old result self.new }
     {
@@ -221,7 +221,7 @@ impl Walk {
 
     /// What comes next, and nothing at the end.
     pub fn next(&mut self, graph: &yaml_c_graph) -> Result<Option<Turn>, AllocError>
-        requires { IsWalk (stand_ins graph.now) self.old }
+        requires { IsGraphWalk (stand_ins graph.now) self.old }
         ensures { Comes (stand_ins graph.now) self.old result self.new }
     {
         if self.started {

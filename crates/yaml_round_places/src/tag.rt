@@ -9,14 +9,14 @@ use yaml_scan_model::Reader;
 use yaml_scan_words::skip_gap;
 
 // What stands behind so many bytes of a text.
-fn behind(text: &[u8], count: u64) -> &[u8]
+fn past(text: &[u8], count: u64) -> &[u8]
     ensures { result.now ≡ drop count text.now }
 {
     &text[text.len().min(count as usize)..]
 }
 
 // So many bytes of a text.
-fn front(text: &[u8], count: u64) -> &[u8]
+fn up_to(text: &[u8], count: u64) -> &[u8]
     ensures { result.now ≡ take count text.now }
 {
     &text[..text.len().min(count as usize)]
@@ -38,7 +38,7 @@ fn behind_gap(text: &[u8]) -> u8
 fn stands_behind(part: &[u8], name: u64) -> bool
     ensures { result ≡ stands_behind part.now name }
 {
-    behind_gap(behind(behind(part, 1), name)) == b'!'
+    behind_gap(past(past(part, 1), name)) == b'!'
 }
 
 // Whether a node begins with its tag, or has it behind its anchor.
@@ -57,5 +57,5 @@ fn begins_tag(part: &[u8], name: u64) -> bool
 pub fn has_tag(text: &[u8], start: u64, end: u64, name: u64) -> bool
     ensures { result ≡ has_tag text.now start end name }
 {
-    begins_tag(front(behind(text, start), end.saturating_sub(start)), name)
+    begins_tag(up_to(past(text, start), end.saturating_sub(start)), name)
 }

@@ -6,7 +6,7 @@ use Rattle.yaml_scan.specs.Faults.{Fault, fault_of, IsMemoryFault, parse_layers}
 use Rattle.yaml_parse.specs.Remaining.{ParserRemaining}
 use Rattle.yaml_parse.specs.Resolve.{Told}
 use Rattle.yaml_round_reading.specs.Reading.{contents, IsFaultOf}
-use Rattle.yaml_round_content.specs.Input.{Reads, events_of, ending_of}
+use Rattle.yaml_round_content.specs.Input.{ReadsInput, events_of, ending_of}
 use Rattle.yaml_round_content.specs.Said.{HasContent}
 use Rattle.yaml_round_content.specs.TreeContent.{tree_content}
 use Rattle.yaml_round_content.specs.Reading.{PlainReading, HasEvents}
@@ -42,7 +42,7 @@ right_ending from input h = (read_said from input h.0 h.1).right
 
 -- the fault that a reading has met
 pub fault_met : (from : yaml_encoding_t) (input : List ℕ) (r : ParserRemaining) (f : yaml_fault_t)
-    → Reads from input r → IsFaultOf r.ending f
+    → ReadsInput from input r → IsFaultOf r.ending f
     → IsMemoryFault parse_layers (fault_of f) ⊎ IsFaulty from input (fault_of f)
 fault_met from input r f h e = elim e [ inl m ↦ inl m | inr k ↦ inr (faulty from input (fault_of f) (sym h.ending ∙ k)) ]
 

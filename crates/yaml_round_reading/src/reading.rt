@@ -4,7 +4,7 @@ ghost use Rattle.std.specs.Prelude.{◌≡◌, true, IfOk, IfErr};
 ghost use Rattle.yaml_scan.specs.Faults.{fault_of, memory_fault};
 ghost use Rattle.yaml_parse.specs.Events.{event_of};
 ghost use Rattle.yaml_parse.specs.NextLoad.{AreLoadsByContent, LoadIsNext, RefusalIsNext};
-ghost use Rattle.yaml_round_content.specs.Input.{Reads};
+ghost use Rattle.yaml_round_content.specs.Input.{ReadsInput};
 ghost use Rattle.yaml_round_reading.specs.Reading.{AreReal, FindsNextEvent, EndsWith};
 
 use std::alloc::Global;
@@ -29,7 +29,7 @@ pub fn reading_of<'a>(
     input: &'a [u8],
     from: yaml_encoding_t,
 ) -> Result<Reading<'a>, yaml_fault_t>
-    ensures reads { IfOk result (λ r. Reads from input.now r.parser) }
+    ensures reads { IfOk result (λ r. ReadsInput from input.now r.parser) }
     ensures real { IfOk result (λ r. AreReal r.parser.events) }
     ensures between { IfOk result (λ r. r.parser.between ≡ true) }
     ensures memory { IfErr result (λ f. fault_of f ≡ memory_fault yaml_origin_t.Parser) }
@@ -75,7 +75,7 @@ pub fn let_go(reading: Reading<'_>) {
     drop(event);
 }
 
-/// Reads to the end. The fault that is met is the answer.
+/// ReadsInput to the end. The fault that is met is the answer.
 pub fn read_out(reading: &mut Reading<'_>) -> Result<(), yaml_fault_t>
     requires { AreReal reading.old.parser.events }
     ensures { EndsWith reading.old.parser.ending result }

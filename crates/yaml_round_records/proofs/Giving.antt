@@ -12,7 +12,7 @@ use Rattle.yaml_round_records.specs.declared.record.yaml_c_directive.{yaml_c_dir
 use Rattle.yaml_round_records.specs.declared.record.yaml_c_event.{yaml_c_event}
 use Rattle.yaml_round_records.specs.Records.{body_in_front}
 use Rattle.yaml_round_records.specs.Meaning.{event_meant, events_meant}
-use Rattle.yaml_round_records.specs.Leading.{all_events, LeadsOnward, GivesAll}
+use Rattle.yaml_round_records.specs.Leading.{all_events, LeadsOnward, TakesAllEvents}
 use Rattle.yaml_round_records.proofs.Leading.{events_left, none_left, leads_same, leads_end}
 
 -- Of all events those in front of `left` were given, and those that are held are the last of what was held and these.
@@ -76,9 +76,9 @@ no_records bytes list (x ∷ rs) r is on = absurd (some_long x rs (sym is ∙ on
 
 pub gives_none : (bytes : List ℕ) (list : List yaml_c_directive) (rs : List yaml_c_event)
     (e : Emitter) (r : Bool) → r ≡ (length rs == 0) → r ≡ true
-    → GivesAll e (all_events (events_meant bytes list rs)) e
+    → TakesAllEvents e (all_events (events_meant bytes list rs)) e
 gives_none bytes list rs e r is on =
-    let P : List Event → Type 0 = λ es. GivesAll e es e in
+    let P : List Event → Type 0 = λ es. TakesAllEvents e es e in
     subst P (sym (no_records bytes list rs r is on)) (record {
       leads = leads_same e [];
       last = λ none. ([], append-nil e.held);
@@ -113,7 +113,7 @@ pub gives_end : (bytes : List ℕ) (list : List yaml_c_directive) (rs : List yam
     → (new.fault ≡ None → LastGiven first.held (all_events (events_meant bytes list rs))
     (all_events (events_meant bytes list (drop i rs))) new.held)
     → (length first.held ≤ 3 → length new.held ≤ 3)
-    → GivesAll first (all_events (events_meant bytes list rs)) new
+    → TakesAllEvents first (all_events (events_meant bytes list rs)) new
 gives_end bytes list rs i first new r is off m h l last few =
     let all = all_events (events_meant bytes list rs) in
     let gone : all_events (events_meant bytes list (drop i rs)) ≡ [] = ap (λ es. all_events (events_meant bytes list es)) (drop_all i rs h) ∙ none_left bytes list in

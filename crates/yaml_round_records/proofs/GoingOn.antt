@@ -27,9 +27,9 @@ use Rattle.yaml_round_laws_pieces.specs.Calls.{LeadsIn}
 use Rattle.yaml_round_records.specs.declared.onward.Onward.{Onward}
 use Rattle.yaml_round_records.specs.declared.onward.Standing.{Standing}
 use Rattle.yaml_round_records.specs.Written.{whole_text}
-use Rattle.yaml_round_records.specs.Leading.{StartsUnder, LeadsOnward, GivesAll}
+use Rattle.yaml_round_records.specs.Leading.{StartsUnder, LeadsOnward, TakesAllEvents}
 use Rattle.yaml_round_records.specs.Standing.{At}
-use Rattle.yaml_round_records.specs.Onward.{added_on, refusal_on, GoesOn, GoesFrom, StartsFrom, TellsStand, GoneOn, StopsOn, Means, IsOnward, onward_of, at_of}
+use Rattle.yaml_round_records.specs.Onward.{added_on, refusal_on, AddsWholeText, GoesFrom, StartsFrom, TellsStand, GoneOn, StopsOn, Means, IsOnward, onward_of, at_of}
 use Rattle.yaml_round_records.proofs.Leading.{first_writes, first_verdict, has_all, fits, some_fault, none_going}
 
 -- ---- an emitter that was given nothing
@@ -268,9 +268,9 @@ from_onward first w limit a es g = record {
 }
 
 from_goes : (first e : Emitter) (w : RequestedSettings) (limit : ℕ) (a : At) (es : List Event)
-    (text : List ℕ) (sd : Standing) → GoesFrom first w limit a → GivesAll first es e
+    (text : List ℕ) (sd : Standing) → GoesFrom first w limit a → TakesAllEvents first es e
     → e.fault ≡ None → text ≡ e.output → TellsOutcome e → TellsStand e sd
-    → GoesOn w limit (Some a) es text sd
+    → AddsWholeText w limit (Some a) es text sd
 unfolding added_on refusal_on
 from_goes first e w limit a es text sd g all none is t told =
     let off = not_true e.fresh (λ f. false≢true (sym g.fresh ∙ (all.leads.begun f).0)) in
@@ -289,7 +289,7 @@ from_goes first e w limit a es text sd g all none is t told =
     }
 
 from_stops : (first e : Emitter) (w : RequestedSettings) (limit : ℕ) (a : At) (es : List Event)
-    (f : Fault) → GoesFrom first w limit a → GivesAll first es e → e.fault ≡ Some f
+    (f : Fault) → GoesFrom first w limit a → TakesAllEvents first es e → e.fault ≡ Some f
     → TellsOutcome e → IsMemoryFault emit_layers f ⊎ StopsOn w limit (Some a) es f
 unfolding added_on refusal_on
 from_stops first e w limit a es f g all is t =
@@ -340,9 +340,9 @@ none_leads x s a st h = record {
 }
 
 start_goes : (first e : Emitter) (w : RequestedSettings) (limit : ℕ) (es : List Event)
-    (text : List ℕ) (sd : Standing) → StartsUnder first w limit → GivesAll first es e
+    (text : List ℕ) (sd : Standing) → StartsUnder first w limit → TakesAllEvents first es e
     → e.fault ≡ None → text ≡ e.output → TellsOutcome e → TellsStand e sd
-    → GoesOn w limit None es text sd
+    → AddsWholeText w limit None es text sd
 unfolding added_on refusal_on
 start_goes first e w limit [] text sd s all none is t told =
     let k = start_known first e w limit [] s all.leads t in
@@ -379,7 +379,7 @@ start_goes first e w limit (f ∷ es) text sd s all none is t told =
     }
 
 start_stops : (first e : Emitter) (w : RequestedSettings) (limit : ℕ) (es : List Event) (f : Fault)
-    → StartsUnder first w limit → GivesAll first es e → e.fault ≡ Some f → TellsOutcome e
+    → StartsUnder first w limit → TakesAllEvents first es e → e.fault ≡ Some f → TellsOutcome e
     → IsMemoryFault emit_layers f ⊎ StopsOn w limit None es f
 unfolding added_on refusal_on
 start_stops first e w limit es f s all is t =
@@ -395,7 +395,7 @@ start_stops first e w limit es f s all is t =
 
 pub onward_answer : (first e : Emitter) (w : RequestedSettings) (limit : ℕ) (o : Option At)
     (es : List Event) (r : Result Onward yaml_fault_t) → StartsFrom first w limit o
-    → GivesAll first es e → GoneOn e r → Answers emit_layers onward_of (IsOnward w limit o es) r
+    → TakesAllEvents first es e → GoneOn e r → Answers emit_layers onward_of (IsOnward w limit o es) r
 onward_answer first e w limit None es (Ok r) s all h = start_goes first e w limit es r.text.items r.stand s all h.0 h.1 h.2 h.3
 onward_answer first e w limit (Some a) es (Ok r) s all h = from_goes first e w limit a es r.text.items r.stand s all h.0 h.1 h.2 h.3
 onward_answer first e w limit None es (Err f) s all h = elim h [

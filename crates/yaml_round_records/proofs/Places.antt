@@ -10,7 +10,7 @@ use Rattle.yaml_parse.specs.Events.{TagDirective}
 use Rattle.yaml_emit.specs.Content.{Event}
 use Rattle.yaml_emit.specs.Emitter.{Emitter, settings_in}
 use Rattle.yaml_emit.specs.Judged.{refused_at}
-use Rattle.yaml_emit.specs.Resuming.{resumed, StandsAt}
+use Rattle.yaml_emit.specs.Resuming.{resumed, StandsWhere}
 use Rattle.yaml_emit.specs.emit_text.declared.Cursor.{Cursor}
 use Rattle.yaml_emit.specs.emit_text.declared.Encoding.{Encoding}
 use Rattle.yaml_emit.specs.emit_text.declared.RequestedSettings.{RequestedSettings}
@@ -29,9 +29,9 @@ use Rattle.yaml_round_records.specs.declared.standing.yaml_c_level.{yaml_c_level
 use Rattle.yaml_round_records.specs.declared.standing.yaml_c_place.{yaml_c_place}
 use Rattle.yaml_round_records.specs.Numbers.{is_set}
 use Rattle.yaml_round_records.specs.Records.{all_directives}
-use Rattle.yaml_round_records.specs.Leading.{StartsUnder, GivesAll}
+use Rattle.yaml_round_records.specs.Leading.{StartsUnder, TakesAllEvents}
 use Rattle.yaml_round_records.specs.Standing.{At, at_meant, stand_if, stand_meant, levels_meant, IsFew}
-use Rattle.yaml_round_records.specs.Onward.{GoesFrom, StartsAt, IsStandBy, TellsPlace, TellsStand, GoneOn, IsOnwardAt, onward_of, at_of}
+use Rattle.yaml_round_records.specs.Onward.{GoesFrom, StartsAt, IsStandBy, TellsStandPlace, TellsStand, GoneOn, IsOnwardAt, onward_of, at_of}
 use Rattle.yaml_round_records.proofs.Stands.{stand_there, some_map, few_at, at_there, cursor_by}
 use Rattle.yaml_round_records.proofs.GoingOn.{onward_answer}
 
@@ -150,9 +150,9 @@ told_at x p ls ds c = record {
 }
 
 same_at : (e : Emitter) (stand : yaml_emitter_stand_t) (outer : List Level)
-    (ds : List TagDirective) (r : yaml_c_place) → StandsAt e stand
+    (ds : List TagDirective) (r : yaml_c_place) → StandsWhere e stand
     → stack (top_of e.course.state.levels) outer ≡ e.course.state.levels
-    → ds ≡ e.course.state.directives → TellsPlace stand r
+    → ds ≡ e.course.state.directives → TellsStandPlace stand r
     → told_at stand.encoding stand.place (stack stand.innermost outer) ds (cursor_by r) ≡ at_of e
 unfolding told_at
 same_at e stand outer ds r is o d t =
@@ -165,9 +165,9 @@ same_at e stand outer ds r is o d t =
 
 pub stands_there : (e : Emitter) (stand : yaml_emitter_stand_t) (outer : List Level)
     (ds : List TagDirective) (r : yaml_c_place) (ls : List yaml_c_level)
-    (list : List yaml_c_directive) (bytes : List ℕ) → StandsAt e stand
+    (list : List yaml_c_directive) (bytes : List ℕ) → StandsWhere e stand
     → stack (top_of e.course.state.levels) outer ≡ e.course.state.levels
-    → ds ≡ e.course.state.directives → TellsPlace stand r → levels_meant ls ≡ Some outer
+    → ds ≡ e.course.state.directives → TellsStandPlace stand r → levels_meant ls ≡ Some outer
     → all_directives bytes list ≡ Some ds → refused_at e.course.state.place ≡ None
     → IsFew r.column → stand_meant r ls list bytes ≡ Some (Some (at_of e))
 unfolding stand_meant told_at
@@ -187,9 +187,9 @@ listed_mean old new ts s none p =
     ∙ ap (λ (z : List ℕ). all_directives z p.list.added) (sym (append-nil new.bytes.items)) ∙ p.list.hold []
 
 pub told_stand : (e : Emitter) (s : Standing) (stand : yaml_emitter_stand_t) (outer : List Level)
-    (ds : List TagDirective) → e.fresh ≡ false → StandsAt e stand
+    (ds : List TagDirective) → e.fresh ≡ false → StandsWhere e stand
     → stack (top_of e.course.state.levels) outer ≡ e.course.state.levels
-    → ds ≡ e.course.state.directives → TellsPlace stand s.place
+    → ds ≡ e.course.state.directives → TellsStandPlace stand s.place
     → levels_meant s.levels.items ≡ Some outer
     → all_directives s.bytes.items s.directives.items ≡ Some ds → TellsStand e s
 told_stand e s stand outer ds off is o d t l k = record {
@@ -205,12 +205,12 @@ told_stand e s stand outer ds off is o d t l k = record {
 
 meant_answer : (first e : Emitter) (w : RequestedSettings) (limit : ℕ) (o : Option (Option At))
     (es : List Event) (r : Result Onward yaml_fault_t) → StartsAt first w limit o
-    → GivesAll first es e → GoneOn e r → Answers emit_layers onward_of (IsOnwardAt w limit o es) r
+    → TakesAllEvents first es e → GoneOn e r → Answers emit_layers onward_of (IsOnwardAt w limit o es) r
 meant_answer first e w limit None es (Ok r) s all h = tt
 meant_answer first e w limit None es (Err f) s all h = inr tt
 meant_answer first e w limit (Some at) es r s all h = onward_answer first e w limit at es r s all h
 
 pub onward_at : (first e : Emitter) (w : RequestedSettings) (n limit : ℕ) (o : Option (Option At))
     (es : List Event) (r : Result Onward yaml_fault_t) → n ≡ limit → StartsAt first w n o
-    → GivesAll first es e → GoneOn e r → Answers emit_layers onward_of (IsOnwardAt w limit o es) r
+    → TakesAllEvents first es e → GoneOn e r → Answers emit_layers onward_of (IsOnwardAt w limit o es) r
 onward_at first e w n limit o es r is s all h = meant_answer first e w limit o es r (subst (λ (k : ℕ). StartsAt first w k o) is s) all h

@@ -73,7 +73,7 @@ pub record LeadsOnward (old : Emitter) (before : List Event) (new : Emitter)
 
 -- Events were given: all of them are taken, and without a fault those that are held are the last of them. Where there were none,
 -- nothing changed.
-pub record GivesAll (old : Emitter) (es : List Event) (new : Emitter) : Type 0 where
+pub record TakesAllEvents (old : Emitter) (es : List Event) (new : Emitter) : Type 0 where
   pub leads : LeadsOnward old es new []
   pub last : new.fault ≡ None → AreLast (old.held ++ es) new.held
   pub few : length old.held ≤ 3 → length new.held ≤ 3

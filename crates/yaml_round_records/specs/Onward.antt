@@ -53,7 +53,7 @@ Means s next = IsFew s.place.column
 
 -- No event is refused, and what is added is the text, which passes no limit. The records mean the stand to which the events lead;
 -- the last of them wait there, as many as is told, and gone on from there the settings in force are the same.
-pub record GoesOn (w : RequestedSettings) (limit : ℕ) (at : Option At) (es : List Event)
+pub record AddsWholeText (w : RequestedSettings) (limit : ℕ) (at : Option At) (es : List Event)
     (text : List ℕ) (s : Standing) : Type 0 where
   pub right : refusal_on w at es ≡ None
   pub is : text ≡ bytes_on w at es
@@ -83,7 +83,7 @@ StopsOn w limit at es fault = IsRefusedOn w limit at es fault
 -- An emitter that goes on from there may answer this.
 abbrev pub IsOnward : RequestedSettings → ℕ → Option At → List Event
     → Result (List ℕ × Standing) Fault → Type 0
-IsOnward w limit at es (Ok o) = GoesOn w limit at es o.0 o.1
+IsOnward w limit at es (Ok o) = AddsWholeText w limit at es o.0 o.1
 IsOnward w limit at es (Err fault) = StopsOn w limit at es fault
 
 -- the same, where a stand is meant
@@ -148,7 +148,7 @@ pub record IsStandBy (r : yaml_c_place) (stand : yaml_emitter_stand_t) : Type 0 
   }
 
 -- The numbers of a place tell a stand.
-pub record TellsPlace (stand : yaml_emitter_stand_t) (r : yaml_c_place) : Type 0 where
+pub record TellsStandPlace (stand : yaml_emitter_stand_t) (r : yaml_c_place) : Type 0 where
   pub encoding : spelling_meant r.encoding ≡ Some stand.encoding
   pub some : is_set r.encoding ≡ true
   pub place : refused_at stand.place ≡ None

@@ -11,7 +11,7 @@ ghost use Rattle.yaml_emit.specs.Taking.{TakesEvents};
 ghost use Rattle.yaml_emit.specs.Verdict.{TellsOutcome};
 ghost use Rattle.yaml_round_records.specs.Meaning.{events_meant, asked_meant};
 ghost use Rattle.yaml_round_records.specs.Written.{IsEmitted};
-ghost use Rattle.yaml_round_records.specs.Leading.{bytes_of, requested, asked_for, all_events, StartsUnder, GivesAll, FinishesEmitter};
+ghost use Rattle.yaml_round_records.specs.Leading.{bytes_of, requested, asked_for, all_events, StartsUnder, TakesAllEvents, FinishesEmitter};
 
 use crate::event::event_of;
 use crate::number::{break_of, encoding_of, is_set};
@@ -96,7 +96,7 @@ pub(crate) fn emitter_under(
 }
 
 // Gives an event. The emitter keeps its first fault.
-fn give(emitter: &mut yaml_emitter_t, event: yaml_event_t)
+fn emit_record(emitter: &mut yaml_emitter_t, event: yaml_event_t)
     requires { HasUtf8 (event_of event).body }
     ensures takes { TakesEvents emitter.old (emitter_event (event_of event).body ∷ []) emitter.new
         [] }
@@ -119,7 +119,7 @@ pub(crate) fn give_all(
     emitter: &mut yaml_emitter_t,
 ) -> Result<(), yaml_fault_t>
     requires { IsSome (events_meant bytes.now list.now records.now) }
-    ensures given { OnOk result (GivesAll emitter.old
+    ensures given { OnOk result (TakesAllEvents emitter.old
         (all_events (events_meant bytes.now list.now records.now)) emitter.new) }
     ensures memory { IfErr result (λ f. IsMemoryFault emit_layers (fault_of f)) }
 {
@@ -130,7 +130,7 @@ pub(crate) fn give_all(
         let Some(event) = event_of(alloc, bytes, list, record) else {
             return Err(yaml_memory_fault(yaml_origin_t::Emitter));
         };
-        give(emitter, event);
+        emit_record(emitter, event);
     }
     Ok(())
 }

@@ -59,7 +59,7 @@ fn is_readable(text: &[u8]) -> bool
 }
 
 // Whether a span names a text in UTF-8.
-fn is_text(bytes: &[u8], span: yaml_c_span) -> bool
+fn names_text(bytes: &[u8], span: yaml_c_span) -> bool
     ensures { result ≡ is_text (part_at bytes.now span) }
 {
     match text_within(bytes, span) {
@@ -73,7 +73,7 @@ fn is_optional(bytes: &[u8], has: i32, span: yaml_c_span) -> bool
     ensures { result ≡ is_optional (optional_at bytes.now has span) }
 {
     if is_there(has) {
-        is_text(bytes, span)
+        names_text(bytes, span)
     } else {
         true
     }
@@ -82,8 +82,8 @@ fn is_optional(bytes: &[u8], has: i32, span: yaml_c_span) -> bool
 fn is_directive(bytes: &[u8], directive: &yaml_c_directive) -> bool
     ensures { result ≡ is_directive (directive_at bytes.now directive.now) }
 {
-    if is_text(bytes, directive.handle) {
-        is_text(bytes, directive.prefix)
+    if names_text(bytes, directive.handle) {
+        names_text(bytes, directive.prefix)
     } else {
         false
     }
@@ -146,7 +146,7 @@ fn is_scalar(bytes: &[u8], given: &yaml_c_event) -> bool
     if !has_properties(bytes, given) {
         return false;
     }
-    if !is_text(bytes, given.value) {
+    if !names_text(bytes, given.value) {
         return false;
     }
     scalar_style_of(given.style).is_some()
@@ -194,7 +194,7 @@ fn is_meant(bytes: &[u8], list: &[yaml_c_directive], given: &yaml_c_event) -> bo
         yaml_event_type_t::YAML_STREAM_END_EVENT => true,
         yaml_event_type_t::YAML_DOCUMENT_START_EVENT => is_document_start(bytes, list, given),
         yaml_event_type_t::YAML_DOCUMENT_END_EVENT => true,
-        yaml_event_type_t::YAML_ALIAS_EVENT => is_text(bytes, given.anchor),
+        yaml_event_type_t::YAML_ALIAS_EVENT => names_text(bytes, given.anchor),
         yaml_event_type_t::YAML_SCALAR_EVENT => is_scalar(bytes, given),
         yaml_event_type_t::YAML_SEQUENCE_START_EVENT => is_sequence(bytes, given),
         yaml_event_type_t::YAML_SEQUENCE_END_EVENT => true,

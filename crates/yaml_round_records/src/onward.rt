@@ -5,7 +5,7 @@ ghost use Rattle.yaml_parse.specs.Faults.{fault_of, IsMemoryFault, emit_layers, 
 ghost use Rattle.yaml_round_records.specs.Meaning.{events_meant};
 ghost use Rattle.yaml_round_records.specs.Leading.{requested, all_events};
 ghost use Rattle.yaml_round_records.specs.Standing.{stand_meant, at_meant};
-ghost use Rattle.yaml_round_records.specs.Onward.{most_on, StartsAt, IsStandBy, TellsPlace, TellsStand, Means, GoneTold, GoneOn, IsOnwardAt, onward_of};
+ghost use Rattle.yaml_round_records.specs.Onward.{most_on, StartsAt, IsStandBy, TellsStandPlace, TellsStand, Means, GoneTold, GoneOn, IsOnwardAt, onward_of};
 
 use crate::emitter::{Asked, emitter_under, fault_in, give_all, requested_of};
 use crate::event::all_directives;
@@ -127,7 +127,7 @@ fn emitter_from(
 
 // Where an emitter stands as C reads it.
 fn place_told(stand: yaml_emitter_stand_t) -> yaml_c_place
-    ensures { TellsPlace stand result }
+    ensures { TellsStandPlace stand result }
 {
     let implicit = flag(ends_implicitly(stand.place));
     let white = flag(stand.cursor.white);

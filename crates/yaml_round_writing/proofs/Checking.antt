@@ -13,7 +13,7 @@ use Rattle.yaml_parse.specs.Remaining.{ParserRemaining}
 use Rattle.yaml_parse.specs.Finds.{GivesNext}
 use Rattle.yaml_parse.specs.Numbering.{undefined_alias}
 use Rattle.yaml_parse.specs.Loading.{Loading, LoadStep, goes_on, loaded, refused, nothing_loaded, step}
-use Rattle.yaml_round_laws_documents.specs.round_content.Input.{Reads}
+use Rattle.yaml_round_laws_documents.specs.round_content.Input.{ReadsInput}
 use Rattle.yaml_round_laws_documents.specs.round_content.Loads.{Loads, in_front, load_on, load_all, loads_of}
 use Rattle.yaml_round_laws_documents.proofs.Loaded.{faultless_load, faulty_load}
 use Rattle.yaml_round_writing.specs.declared.known.Known.{Known}
@@ -107,7 +107,7 @@ undefined_event old new e k after r fault g f is h =
     subst (λ (z : Passed). Stops z e.start_mark fault) is (last_event old new e k after r fault g f h)
 
 pub first_event : (from : yaml_encoding_t) (input : List ℕ) (r : ParserRemaining)
-    → Reads from input r
+    → ReadsInput from input r
     → (load_all r.events r.ending nothing_loaded).fault ≡ (loads_of from input).fault
 first_event from input r h = rw (h.events, h.ending) refl
 

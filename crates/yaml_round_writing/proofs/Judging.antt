@@ -15,7 +15,7 @@ use Rattle.yaml_round_reading.specs.Reading.{GivesNextEvent, IsFaultOf, EndsWith
 use Rattle.yaml_round_writing.specs.Lines.{event_lines}
 use Rattle.yaml_round_writing.specs.declared.writing.Form.{Form}
 use Rattle.yaml_round_writing.specs.Writing.{LeadsOn, WritesAll}
-use Rattle.yaml_round_laws_documents.specs.round_content.Input.{Reads, ending_of}
+use Rattle.yaml_round_laws_documents.specs.round_content.Input.{ReadsInput, ending_of}
 use Rattle.yaml_round_reading.proofs.Plain.{faulty, faulty_ending, fault_met, right, has_events}
 use Rattle.yaml_round_reading.specs.Answers.{IsFaulty}
 use Rattle.yaml_round_writing.specs.Answers.{IsJudged, IsWrittenPast, HasLines}
@@ -23,13 +23,13 @@ use Rattle.yaml_round_writing.specs.Answers.{IsJudged, IsWrittenPast, HasLines}
 -- ---- one input
 
 pub judged : (from : yaml_encoding_t) (input : List ℕ) (r : ParserRemaining)
-    (result : Result (Unit {0}) yaml_fault_t) → Reads from input r → EndsWith r.ending result
+    (result : Result (Unit {0}) yaml_fault_t) → ReadsInput from input r → EndsWith r.ending result
     → Answers parse_layers (λ (done : Unit {0}). done) (IsJudged from input) result
 judged from input r (Ok done) h e = right from input (sym h.ending ∙ e)
 judged from input r (Err f) h e = fault_met from input r f h e
 
 pub listed : (from : yaml_encoding_t) (input : List ℕ) (r : ParserRemaining) (lines : List ℕ)
-    (old : List ℕ) → Reads from input r → old ≡ [] → r.ending ≡ None
+    (old : List ℕ) → ReadsInput from input r → old ≡ [] → r.ending ≡ None
     → lines ≡ old ++ event_lines r.events
     → HasLines from input lines
 listed from input r lines old h none e l = record {
@@ -51,7 +51,7 @@ told_on all lines new before after v h f n =
 
 -- a fault of the input ends them
 pub not_listed : (from : yaml_encoding_t) (input : List ℕ) (r : ParserRemaining) (f : yaml_fault_t)
-    → Reads from input r → IsMemoryFault list_layers (fault_of f) ⊎ (r.ending ≡ Some (fault_of f))
+    → ReadsInput from input r → IsMemoryFault list_layers (fault_of f) ⊎ (r.ending ≡ Some (fault_of f))
     → IsMemoryFault list_layers (fault_of f) ⊎ IsFaulty from input (fault_of f)
 not_listed from input r f h e = elim e [ inl m ↦ inl m | inr k ↦ inr (faulty from input (fault_of f) (sym h.ending ∙ k)) ]
 
@@ -81,7 +81,7 @@ pub met_again : (from : yaml_encoding_t) (input : List ℕ) (ending : Option Fau
 met_again from input ending f e h = elim h [ inl m ↦ inl m | inr k ↦ inr (e ∙ faulty_ending from input (fault_of f) k) ]
 
 pub not_written : (w : Form) (from : yaml_encoding_t) (settings : yaml_settings_t) (input : List ℕ)
-    (r : ParserRemaining) (f : yaml_fault_t) → Reads from input r → IsFaultOf r.ending f
+    (r : ParserRemaining) (f : yaml_fault_t) → ReadsInput from input r → IsFaultOf r.ending f
     → IsMemoryFault reformat_layers (fault_of f)
     ⊎ (IsFaulty from input (fault_of f) ⊎ IsWrittenPast w from settings input (fault_of f))
 not_written w from settings input r f h e = elim (fault_met from input r f h e) [ inl m ↦ inl (inr (inr m)) | inr q ↦ inr (inl q) ]

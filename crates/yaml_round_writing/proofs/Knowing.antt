@@ -24,7 +24,7 @@ use Rattle.yaml_round_writing.specs.declared.known.Span.{Span}
 use Rattle.yaml_round_writing.specs.declared.known.Known.{Known}
 use Rattle.yaml_round_writing.specs.declared.known.Passed.{Passed}
 use Rattle.yaml_round_writing.specs.declared.known.Passed.TheVariants as passed
-use Rattle.yaml_round_writing.specs.Knowing.{has_nodes, name_at, stands_at, is_called, has_name, AreWithin, IsWithin, IsKnown, Follows, is_name, Notes, IsUnknown, Ends, Keeps, Asks, Settles}
+use Rattle.yaml_round_writing.specs.Knowing.{has_nodes, name_at, stands_at, is_called, has_name, AreWithin, IsWithin, IsKnown, Follows, is_name, Notes, IsUnknown, Ends, KeepsNames, Asks, Settles}
 
 abbrev Text : Type 0
 Text = Vec ℕ Global
@@ -220,9 +220,9 @@ put old new anchor s r is rooted same keys text spans from to =
 
 -- a name goes from the last ones into the set
 pub moved : (first old : Known) (spans : Vec Span Global) (names : BTreeSet Text) (s : Span)
-    (k : Text) → Keeps first old → old.spans.items ≡ spans.items ++ s ∷ []
+    (k : Text) → KeepsNames first old → old.spans.items ≡ spans.items ++ s ∷ []
     → k.items ≡ name_at old.text.items s → names.keys ≡ insert_key order old.names.keys k
-    → Keeps first (record { rooted = old.rooted; text = old.text; spans = spans; names = names })
+    → KeepsNames first (record { rooted = old.rooted; text = old.text; spans = spans; names = names })
 moved first old spans names s k h e n i = record {
   rooted = h.rooted;
   within = λ w. within_less old.text.items spans.items s (subst (AreWithin old.text.items) e (h.within w));

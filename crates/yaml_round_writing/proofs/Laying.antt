@@ -21,7 +21,7 @@ use Rattle.yaml_round_beginning.specs.declared.beginning.Beginning.{Beginning}
 use Rattle.yaml_round_writing.specs.declared.writing.Form.{Form}
 use Rattle.yaml_round_writing.specs.declared.writing.Form.TheVariants as form
 use Rattle.yaml_round_writing.specs.Writing.{IsUnder, LeadsOn, FinishesText, requested_under, requested_in, given_in, comes_to_nothing, IsText, IsEachLayout, IsPastEach}
-use Rattle.yaml_round_laws_documents.specs.round_content.Input.{Reads, events_of, ending_of}
+use Rattle.yaml_round_laws_documents.specs.round_content.Input.{ReadsInput, events_of, ending_of}
 use Rattle.yaml_round_writing.specs.Answers.{IsLayout, IsPast, IsLaidOut, IsTooLong, IsWritten, IsWrittenIn, bytes_of}
 use Rattle.yaml_round_reading.proofs.Plain.{has_events, events_right, right, right_ending}
 use Rattle.yaml_round_reading.specs.Answers.{IsRight}
@@ -72,7 +72,7 @@ none_given (form.Readable at) = refl
 -- all events of a reading
 pub led : (from : yaml_encoding_t) (input : List ℕ) (settings : yaml_settings_t) (w v : Form)
     (r : ParserRemaining) (old new : Emitter)
-    → Reads from input r → IsUnder old (requested_in w settings) settings.limit
+    → ReadsInput from input r → IsUnder old (requested_in w settings) settings.limit
     → LeadsOn w old r.events v new []
     → Led (requested_in w settings) settings.limit (given_in w (events_of from input)) new []
 led from input settings w v r old new h u l = (
@@ -84,7 +84,7 @@ led from input settings w v r old new h u l = (
 
 -- and whether they come to nothing
 pub began : (from : yaml_encoding_t) (input : List ℕ) (w v : Form) (r : ParserRemaining)
-    (old new : Emitter) → Reads from input r → LeadsOn w old r.events v new []
+    (old new : Emitter) → ReadsInput from input r → LeadsOn w old r.events v new []
     → comes_to_nothing w (events_of from input) ≡ comes_to_nothing v []
 began from input w v r old new h l = sym (ap (comes_to_nothing w) h.events) ∙ l.beginning
 
@@ -119,7 +119,7 @@ emits f m = elim m [ inl e ↦ inl e | inr w ↦ inr (inl w) ]
 
 pub wrote : (from : yaml_encoding_t) (input : List ℕ) (settings : yaml_settings_t) (a b : Form)
     (r : ParserRemaining) (old new : Emitter) (result : Result (Vec ℕ Global) yaml_fault_t)
-    → Reads from input r → IsUnder old (requested_in a settings) settings.limit
+    → ReadsInput from input r → IsUnder old (requested_in a settings) settings.limit
     → (r.ending ≡ None) × LeadsOn a old r.events b new [] → FinishesText new result
     → Answers reformat_layers bytes_of (IsWrittenIn a from settings input) result
 wrote from input settings a b r old new (Ok text) h u l f = record {

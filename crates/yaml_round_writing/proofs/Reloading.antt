@@ -21,7 +21,7 @@ use Rattle.yaml_emit.specs.Emitter.{Emitter, dump_events, document_events_by, op
 use Rattle.yaml_emit.specs.Taking.{TakesEvents}
 use Rattle.yaml_emit.specs.emit_text.declared.RequestedSettings.{RequestedSettings}
 use Rattle.yaml_round_device.specs.declared.yaml_settings_t.{yaml_settings_t}
-use Rattle.yaml_round_laws_documents.specs.round_content.Input.{Reads}
+use Rattle.yaml_round_laws_documents.specs.round_content.Input.{ReadsInput}
 use Rattle.yaml_round_writing.specs.Writing.{IsUnder, FinishesText, requested_under}
 use Rattle.yaml_round_writing.specs.Layers.{reload_layers}
 use Rattle.yaml_round_writing.specs.Answers.{bytes_of}
@@ -180,7 +180,7 @@ pub all_rooted : (from : yaml_encoding_t) (input : List ℕ) (ds : List Document
 all_rooted from input ds a = subst (All HasRoot) (sym a.same) (ended_rooted (loads_of from input).documents (rooted _ _ nothing_loaded))
 
 pub reads_to_load : (from : yaml_encoding_t) (input : List ℕ) (r : ParserRemaining)
-    → Reads from input r → to_load r ≡ to_write (loads_of from input)
+    → ReadsInput from input r → to_load r ≡ to_write (loads_of from input)
 reads_to_load from input r h = rw (h.events, h.ending) refl
 
 -- a document more

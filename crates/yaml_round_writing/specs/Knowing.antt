@@ -92,7 +92,7 @@ Ends old passed.Over new = old.rooted ≡ false
 Ends old passed.Undefined new = ⊥
 
 -- the names stay, wherever they are kept
-pub record Keeps (old new : Known) : Type 0 where
+pub record KeepsNames (old new : Known) : Type 0 where
   pub rooted : new.rooted ≡ old.rooted
   pub within : IsWithin old → IsWithin new
   pub names : (name : List ℕ) → has_name name new ≡ has_name name old
@@ -100,11 +100,11 @@ pub record Keeps (old new : Known) : Type 0 where
 -- an alias of a name that is known or not
 abbrev pub Asks : Bool → Known → Passed → Known → Type 0
 Asks known old passed.Starved new = Unit {0}
-Asks known old passed.On new = (known ≡ true) × Keeps old new
+Asks known old passed.On new = (known ≡ true) × KeepsNames old new
 Asks known old passed.Over new = ⊥
 Asks known old passed.Undefined new = known ≡ false
 
 -- All names are in the set.
 pub record Settles (old new : Known) : Type 0 where
-  pub keeps : Keeps old new
+  pub keeps : KeepsNames old new
   pub spans : new.spans.items ≡ []

@@ -1,7 +1,7 @@
 //! Whether an input loads, told by its events and the anchors that its document has so far: no document is made.
 
 ghost use Rattle.std.specs.Prelude.{ℕ, List};
-ghost use Rattle.yaml_round_laws_documents.specs.round_content.Input.{Reads};
+ghost use Rattle.yaml_round_laws_documents.specs.round_content.Input.{ReadsInput};
 ghost use Rattle.yaml_scan.specs.Faults.{Answers, load_layers};
 ghost use Rattle.yaml_round_writing.specs.Checking.{IsChecked};
 ghost use Rattle.yaml_round_writing.specs.Knowing.{IsUnknown};
@@ -12,10 +12,10 @@ use yaml_parse::{undefined_alias_fault, yaml_found_t, yaml_parser_parse_into};
 use yaml_round_reading::{Reading, let_go, reading_of};
 use yaml_scan::{yaml_encoding_t, yaml_fault_t, yaml_memory_fault, yaml_origin_t};
 
-// Reads to the end, or to what loading refuses or ends at.
+// ReadsInput to the end, or to what loading refuses or ends at.
 fn look_through(reading: &mut Reading<'_>, known: &mut Known) -> Result<(), yaml_fault_t>
     requires { IsUnknown known.old }
-    ensures { (from : yaml_encoding_t) (input : List ℕ) → Reads from input reading.old.parser
+    ensures { (from : yaml_encoding_t) (input : List ℕ) → ReadsInput from input reading.old.parser
         → Answers load_layers (λ done. done) (IsChecked from input) result }
 {
     'events: loop {

@@ -2,7 +2,7 @@
 
 ghost use Rattle.std.specs.Prelude.{ℕ, List};
 ghost use Rattle.yaml_scan.specs.Faults.{Answers};
-ghost use Rattle.yaml_round_laws_documents.specs.round_content.Input.{Reads};
+ghost use Rattle.yaml_round_laws_documents.specs.round_content.Input.{ReadsInput};
 ghost use Rattle.yaml_round_reading.specs.Reading.{AreReal};
 ghost use Rattle.yaml_round_writing.specs.Layers.{list_layers};
 ghost use Rattle.yaml_round_writing.specs.Lines.{AddsLines};
@@ -36,7 +36,7 @@ fn push_lines(reading: &mut Reading<'_>, lines: &mut Vec<u8>) -> Result<(), yaml
 #[tactic(auto, using(crate::proofs::Judging::listed, crate::proofs::Judging::not_listed))]
 pub fn lines_of(alloc: Global, reading: &mut Reading<'_>) -> Result<Vec<u8>, yaml_fault_t>
     requires { AreReal reading.old.parser.events }
-    ensures { (from : yaml_encoding_t) (input : List ℕ) → Reads from input reading.old.parser
+    ensures { (from : yaml_encoding_t) (input : List ℕ) → ReadsInput from input reading.old.parser
         → Answers list_layers bytes_of (IsListed from input) result }
 {
     let mut lines = Vec::new(alloc);

@@ -1,7 +1,7 @@
 //! Documents loaded and written again.
 
 ghost use Rattle.std.specs.Prelude.{◌≡◌, ℕ, List, true, false, All};
-ghost use Rattle.yaml_round_laws_documents.specs.round_content.Input.{Reads};
+ghost use Rattle.yaml_round_laws_documents.specs.round_content.Input.{ReadsInput};
 ghost use Rattle.yaml_scan.specs.Faults.{Answers, load_layers, emit_layers};
 ghost use Rattle.yaml_round_writing.specs.Answers.{bytes_of};
 ghost use Rattle.yaml_round_writing.specs.Reload.{LoadsNext, IsLoaded, HasRoot, IsWithinStream, DumpsAll, DumpsStream, IsEachDump};
@@ -43,7 +43,7 @@ fn documents_from(
     reading: &mut Reading<'_>,
 ) -> Result<VecDeque<yaml_document_t>, yaml_fault_t>
     requires { reading.old.parser.between ≡ true }
-    ensures { (from : yaml_encoding_t) (input : List ℕ) → Reads from input reading.old.parser
+    ensures { (from : yaml_encoding_t) (input : List ℕ) → ReadsInput from input reading.old.parser
         → Answers load_layers (λ ds. ds.items) (IsLoaded from input) result }
 {
     let mut documents = VecDeque::new(alloc);

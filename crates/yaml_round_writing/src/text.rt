@@ -3,7 +3,7 @@
 ghost use Rattle.std.specs.Prelude.{◌≡◌, [], IfOk};
 ghost use Rattle.yaml_scan.specs.Faults.{Answers, parse_layers};
 ghost use Rattle.yaml_round_writing.specs.Layers.{reformat_layers};
-ghost use Rattle.yaml_round_laws_documents.specs.round_content.Input.{Reads, ending_of, events_of};
+ghost use Rattle.yaml_round_laws_documents.specs.round_content.Input.{ReadsInput, ending_of, events_of};
 ghost use Rattle.yaml_round_reading.specs.Reading.{AreReal};
 ghost use Rattle.yaml_round_writing.specs.Answers.{IsInPrettyForm, IsJudged, IsWrittenIn, text_and_whether, bytes_of};
 ghost use Rattle.yaml_round_writing.specs.Writing.{WritesAll, comes_to_nothing};
@@ -21,7 +21,7 @@ use yaml_scan::{yaml_encoding_t, yaml_fault_t};
 // A text that has more than this many bytes for each byte of its input has outgrown it.
 const OUTGROWN: usize = 32;
 
-// Reads the input to its end and writes nothing. Its fault is the answer.
+// ReadsInput the input to its end and writes nothing. Its fault is the answer.
 fn judge(alloc: Global, input: &[u8], from: yaml_encoding_t) -> Result<(), yaml_fault_t>
     ensures { Answers parse_layers (λ done. done) (IsJudged from input.now) result }
 {
@@ -67,7 +67,7 @@ fn written_from(
     settings: &yaml_settings_t,
     form: &mut Form,
 ) -> Result<Vec<u8>, yaml_fault_t>
-    requires reads { Reads from input.now reading.old.parser }
+    requires reads { ReadsInput from input.now reading.old.parser }
     requires real { AreReal reading.old.parser.events }
     ensures text { Answers reformat_layers bytes_of (IsWrittenIn form.old from settings.now
         input.now) result }

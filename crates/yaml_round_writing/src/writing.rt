@@ -54,7 +54,7 @@ pub(crate) fn begins_with_nothing(form: Form) -> bool
     }
 }
 
-fn encoding_of(encoding: yaml_output_encoding_t) -> yaml_encoding_t
+fn output_encoding(encoding: yaml_output_encoding_t) -> yaml_encoding_t
     ensures { result ≡ encoding_under encoding }
 {
     match encoding {
@@ -77,7 +77,7 @@ pub(crate) fn emitter_under(
     let Ok(mut emitter) = yaml_emitter_initialize(alloc, settings.limit) else {
         return Err(yaml_memory_fault(yaml_origin_t::Emitter));
     };
-    yaml_emitter_set_encoding(&mut emitter, encoding_of(settings.encoding));
+    yaml_emitter_set_encoding(&mut emitter, output_encoding(settings.encoding));
     yaml_emitter_set_canonical(&mut emitter, canonical);
     yaml_emitter_set_indent(&mut emitter, settings.indent);
     yaml_emitter_set_width(&mut emitter, settings.width);
@@ -102,7 +102,7 @@ fn see(beginning: &mut Beginning, event: &yaml_event_t)
 }
 
 // Gives the event in the slot, as its form has it; what is left there counts for nothing. The emitter keeps its first fault.
-fn give(emitter: &mut yaml_emitter_t, form: &mut Form, event: &mut yaml_event_t)
+fn emit_formed(emitter: &mut yaml_emitter_t, form: &mut Form, event: &mut yaml_event_t)
     requires { HasUtf8 (event_of event.old).body }
     ensures { Gives form.old emitter.old (event_of event.old) form.new emitter.new }
 {
@@ -143,7 +143,7 @@ pub(crate) fn write_up_to(
         match reading.next() {
             yaml_found_t::Refused => return Err(reading.fault),
             yaml_found_t::End => return Ok(true),
-            yaml_found_t::Event => give(emitter, form, &mut reading.event),
+            yaml_found_t::Event => emit_formed(emitter, form, &mut reading.event),
         }
     }
 }
@@ -161,7 +161,7 @@ pub(crate) fn write_rest(
         match reading.next() {
             yaml_found_t::Refused => return Err(reading.fault),
             yaml_found_t::End => return Ok(()),
-            yaml_found_t::Event => give(emitter, form, &mut reading.event),
+            yaml_found_t::Event => emit_formed(emitter, form, &mut reading.event),
         }
     }
 }

@@ -18,13 +18,13 @@ use Rattle.yaml_scan_machine.specs.declared.machine.Machine.{Machine}
 use Rattle.yaml_scan_machine.specs.Left.{left_in, IsTold, IsLocated}
 use Rattle.yaml_scan_machine.specs.Comes.{to_come}
 use Rattle.yaml_scan_machine.proofs.ComesLemmas.{left_is, reader_wide}
-use Rattle.yaml_scan_machine.specs.State.{IsMachine, GoesOn, Keeps, TellsUtf8, is_ready}
+use Rattle.yaml_scan_machine.specs.State.{IsMachine, ReadsOneMore, KeepsInput, TellsUtf8, is_ready}
 use Rattle.yaml_scan_machine.specs.Stood.{IsRefused}
 use Rattle.yaml_scan.specs.declared.reading.Sought.{Sought}
 use Rattle.yaml_scan.specs.declared.reading.Sought.TheVariants as found
 use Rattle.yaml_scan.specs.Session.{HasMore}
 use Rattle.yaml_scan.specs.Settled.{settles}
-use Rattle.yaml_scan.specs.Found.{ReadsOn, Reads, ReaderLacks, PlainIsTold, read_by}
+use Rattle.yaml_scan.specs.Found.{ReadsOn, ReadsAsNeeded, ReaderLacks, PlainIsTold, read_by}
 use Rattle.yaml_scan.proofs.SettledLemmas.{machine_tells}
 
 -- whether n lexemes settle what comes next
@@ -44,14 +44,14 @@ pub same_left : (first m : Machine) → first.started ≡ true → m.started ≡
 same_left first m on still same = left_is m still ∙ same ∙ sym (left_is first on)
 
 -- nothing is read
-pub reads_none : (old new : Machine) → Keeps old new → Reads old new
+pub reads_none : (old new : Machine) → KeepsInput old new → ReadsAsNeeded old new
 reads_none old new k = record { setting = k.setting; bytes = k.bytes; further = omega (arith, k.read); needed = λ n least most. absurd (omega (arith, k.read, least, most)) }
 
-pub reads_itself : (m : Machine) → Reads m m
+pub reads_itself : (m : Machine) → ReadsAsNeeded m m
 reads_itself m = record { setting = refl; bytes = refl; further = omega arith; needed = λ n least most. absurd (omega (arith, least, most)) }
 
-pub reads_both : (old mid new : Machine) → left_in mid ≡ left_in old → Reads old mid
-    → Reads mid new → Reads old new
+pub reads_both : (old mid new : Machine) → left_in mid ≡ left_in old → ReadsAsNeeded old mid
+    → ReadsAsNeeded mid new → ReadsAsNeeded old new
 reads_both old mid new left a b = record {
   setting = b.setting ∙ a.setting;
   bytes = b.bytes ∙ a.bytes;
@@ -63,7 +63,8 @@ reads_both old mid new left a b = record {
 }
 
 -- a lexeme more is read where the next token isn't known
-pub reads_more : (m new : Machine) → IsMachine m → is_ready m ≡ false → GoesOn m new → Reads m new
+pub reads_more : (m new : Machine) → IsMachine m → is_ready m ≡ false → ReadsOneMore m new
+    → ReadsAsNeeded m new
 reads_more m new i stuck on = record {
   setting = on.setting;
   bytes = on.bytes;
@@ -73,13 +74,13 @@ reads_more m new i stuck on = record {
       ap (λ k. settles_in m k) same ∙ sym (machine_tells m i).is ∙ stuck;
 }
 
-reader_behind : (old mid : Machine) (f : Fault) → Reads old mid → ReaderLacks mid f
+reader_behind : (old mid : Machine) (f : Fault) → ReadsAsNeeded old mid → ReaderLacks mid f
     → ReaderLacks old f
 reader_behind old mid f a lacks is =
     let (none, wide) = lacks is in
     (omega (arith, none, a.further), λ utf8. wide (ap (λ (s : yaml_encoding_t). encoding_of s mid.input.now) a.setting ∙ ap (λ (bytes : List ℕ). encoding_of old.setting bytes) a.bytes ∙ utf8))
 
-plain_behind : (old mid : Machine) (f : Fault) → Reads old mid → PlainIsTold mid f
+plain_behind : (old mid : Machine) (f : Fault) → ReadsAsNeeded old mid → PlainIsTold mid f
     → PlainIsTold old f
 plain_behind old mid f a plain g utf8 is =
     plain g
@@ -87,7 +88,7 @@ plain_behind old mid f a plain g utf8 is =
     (ap (λ (s : yaml_encoding_t). decoding_fault s mid.input.now) a.setting ∙ ap (λ (bytes : List ℕ). decoding_fault old.setting bytes) a.bytes ∙ is)
 
 pub reads_behind : (old mid new : Machine) (f : Fault) (s : Sought) → left_in mid ≡ left_in old
-    → is_ready mid ≡ is_ready old → Reads old mid → ReadsOn mid new f s → ReadsOn old new f s
+    → is_ready mid ≡ is_ready old → ReadsAsNeeded old mid → ReadsOn mid new f s → ReadsOn old new f s
 reads_behind old mid new f found.Known left ready a r = record { stands = r.stands; left = r.left ∙ left; ready = r.ready; reads = reads_both old mid new left a r.reads }
 reads_behind old mid new f found.Nothing left ready a r = record { stands = r.stands; left = sym left ∙ r.left; none = r.none; reads = reads_both old mid new left a r.reads }
 reads_behind old mid new f found.Refused left ready a r = record {

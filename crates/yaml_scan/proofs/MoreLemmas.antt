@@ -24,7 +24,7 @@ use Rattle.yaml_scan_laws_order.proofs.HistoryForward.{all_ends, stays_all, hist
 use Rattle.yaml_scan_laws_order.proofs.RemainingForward.{SameEnds, entries_ends, fault_is, last_comes}
 use Rattle.yaml_scan_machine.specs.declared.machine.Machine.{Machine}
 use Rattle.yaml_scan_machine.specs.scan_queue.declared.waiting.Waiting.{Waiting}
-use Rattle.yaml_scan_machine.specs.scan_queue.Waits.{Kept, kept_of}
+use Rattle.yaml_scan_machine.specs.scan_queue.Waits.{KeptLexeme, kept_of}
 use Rattle.yaml_scan_machine.specs.Comes.{to_come}
 use Rattle.yaml_scan_machine.specs.Left.{left_in}
 use Rattle.yaml_scan_machine.specs.Shows.{fields_of, read, history_of, stream_of}
@@ -140,7 +140,7 @@ by_waiting m [] items i stuck unended =
     let s = i.shown in
     let n : ℕ = m.dropped + length (fields_of m).waiting in
     let wait : (fields_of m).waiting ≡ [] = ap (λ (ws : List Waiting). map (λ (x : Waiting). kept_of x) ws) items in
-    more_comes (stream_of m) n m.dropped m.given no_entry unended (omega (arith, s.count)) (inr (subst (λ (ks : List Kept). given_in m.dropped m.settled m.given ks) wait i.given))
+    more_comes (stream_of m) n m.dropped m.given no_entry unended (omega (arith, s.count)) (inr (subst (λ (ks : List KeptLexeme). given_in m.dropped m.settled m.given ks) wait i.given))
 by_waiting m (w ∷ ws) items i stuck unended =
     let f = fields_of m in
     let s = i.shown in
@@ -149,8 +149,8 @@ by_waiting m (w ∷ ws) items i stuck unended =
     let wait : f.waiting ≡ kept_of w ∷ ks = ap (λ (ws : List Waiting). map (λ (x : Waiting). kept_of x) ws) items in
     let first : ready_in m.dropped m.settled m.given (w ∷ ws) ≡ false = ap (λ (ws : List Waiting). ready_in m.dropped m.settled m.given ws) (sym items) ∙ stuck in
     let (here, inside) = front_is f (kept_of w) ks no_entry s wait in
-    let ends : (get_or (entries (history_of m)) m.dropped no_entry).ends ≡ w.ends = ap (λ (k : Kept). k.ends) here in
-    let few : m.given ≤ w.ends = elim (subst (λ (ks : List Kept). given_in m.dropped m.settled m.given ks) wait i.given) [
+    let ends : (get_or (entries (history_of m)) m.dropped no_entry).ends ≡ w.ends = ap (λ (k : KeptLexeme). k.ends) here in
+    let few : m.given ≤ w.ends = elim (subst (λ (ks : List KeptLexeme). given_in m.dropped m.settled m.given ks) wait i.given) [
       | inl upto ↦ upto
       | inr (low, more) ↦ absurd (not_settled m.dropped m.settled m.given w ws first low)
     ] in

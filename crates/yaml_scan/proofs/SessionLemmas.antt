@@ -14,7 +14,7 @@ use Rattle.yaml_scan_machine.specs.Left.{left_in}
 use Rattle.yaml_scan_machine.proofs.TakeLemmas.{ready_gives}
 use Rattle.yaml_scan.specs.Session.{View, HasFirst, ReadsNeeded, Takes, Lends, Refuses, ScansInto, MayAnswer, first_of, behind_first, is_settled}
 use Rattle.yaml_scan.specs.Settled.{open_count}
-use Rattle.yaml_scan.specs.Found.{Reads, Gives, Lacks, Denies, read_by}
+use Rattle.yaml_scan.specs.Found.{ReadsAsNeeded, Gives, Lacks, Denies, read_by}
 use Rattle.yaml_scan.proofs.SettledLemmas.{machine_tells}
 use Rattle.yaml_scan.specs.SessionView.{remaining_by, view_by, IsWhole}
 
@@ -104,7 +104,7 @@ same_reads old new setting bytes read = record { setting = setting; bytes = byte
 -- the reader reads on, where no token was put aside
 pub own_reads : (x y : List ℕ) (o p : Option yaml_fault_t) (aside after : Bool) (s t : Token)
     (m n : Machine)
-    → is_some o ≡ false → aside ≡ false → Reads m n
+    → is_some o ≡ false → aside ≡ false → ReadsAsNeeded m n
     → ReadsNeeded (view_by m o s aside x) (view_by n p t after y)
 own_reads x y None p false after s t m n e off r = record { setting = r.setting; bytes = r.bytes; further = r.further; needed = r.needed }
 own_reads x y None p true after s t m n e off r = cc

@@ -21,7 +21,7 @@ use Rattle.yaml_scan_history.proofs.HistoryLemmas.{length-entries}
 use Rattle.yaml_scan_laws_order.proofs.RemainingForward.{Known, known_settled, known_ended, known_next, tokens_is, front_count, front_none, ends_token}
 use Rattle.yaml_scan_machine.specs.declared.machine.Machine.{Machine}
 use Rattle.yaml_scan_machine.specs.scan_queue.declared.waiting.Waiting.{Waiting}
-use Rattle.yaml_scan_machine.specs.scan_queue.Waits.{Kept, kept_of as waits_as}
+use Rattle.yaml_scan_machine.specs.scan_queue.Waits.{KeptLexeme, kept_of as waits_as}
 use Rattle.yaml_scan_machine.specs.Taken.{given_in, front_count as count_in_front}
 use Rattle.yaml_scan_machine.specs.Comes.{to_come}
 use Rattle.yaml_scan_machine.specs.Left.{left_in}
@@ -187,7 +187,7 @@ by_items m [] items i =
     let h = history s.text n in
     let wait : f.waiting ≡ [] = ap (λ (ws : List Waiting). map (λ (x : Waiting). waits_as x) ws) items in
     let none : length f.waiting ≡ 0 = ap length wait in
-    let given : m.given ≡ 0 = subst (λ (ks : List Kept). given_in m.dropped m.settled m.given ks) wait i.given in
+    let given : m.given ≡ 0 = subst (λ (ks : List KeptLexeme). given_in m.dropped m.settled m.given ks) wait i.given in
     let long : length m.waiting.items ≡ 0 = ap length items in
     let at : settled_in h ≡ m.dropped = omega (arith, i.shown.settled, i.taken, i.settled, long) in
     let gone = front_none (entries h) (settled_in h) (omega (arith, at, i.shown.count, none, length-entries h)) in
@@ -205,7 +205,7 @@ by_items m (w ∷ ws) items i =
     let ks = map (λ (x : Waiting). waits_as x) ws in
     let wait : f.waiting ≡ waits_as w ∷ ks = ap (λ (ws : List Waiting). map (λ (x : Waiting). waits_as x) ws) items in
     let (here, inside) = front_is f (waits_as w) ks no_entry i.shown wait in
-    let given : given_in m.dropped m.settled m.given (waits_as w ∷ ks) = subst (λ (ks : List Kept). given_in m.dropped m.settled m.given ks) wait i.given in
+    let given : given_in m.dropped m.settled m.given (waits_as w ∷ ks) = subst (λ (ks : List KeptLexeme). given_in m.dropped m.settled m.given ks) wait i.given in
     let long : length f.waiting ≡ length ws + 1 = ap length wait ∙ omega (arith, length-map ws (λ (x : Waiting). waits_as x)) in
     let number : n ≡ m.dropped + length (w ∷ ws) = omega (arith, long) in
     let x = get_or (entries h) m.dropped no_entry in
@@ -214,7 +214,7 @@ by_items m (w ∷ ws) items i =
     elim (cases_lt m.dropped m.settled) [
       | inl low ↦
           let few = given_few m.dropped m.settled m.given (waits_as w) ks given in
-          let count : count_in_front (kept_in s x) ≡ count_in_front (waits_as w) = ap (λ (y : Kept). count_in_front y) here in
+          let count : count_in_front (kept_in s x) ≡ count_in_front (waits_as w) = ap (λ (y : KeptLexeme). count_in_front y) here in
           let spelled = spell_length s x in
           let more = before_open s n m.dropped m.given (omega (arith, low, i.shown.settled)) (omega (arith, few, count, spelled)) in
           let t : ltb m.dropped m.settled ≡ true = grind (arith, nat_tests) in
@@ -222,7 +222,7 @@ by_items m (w ∷ ws) items i =
       | inr high ↦
           let at : settled_in h ≡ m.dropped = omega (arith, i.shown.settled, i.taken, high) in
           let same : from s (settled_in h) ≡ from s m.dropped = ap (λ k. from s k) at in
-          let ends : fronts h ≡ w.ends = ap (λ k. length (front_ends (drop k (entries h)))) at ∙ front_count (entries h) m.dropped no_entry (omega (arith, inside, length-entries h)) ∙ ap (λ (y : Kept). y.ends) here in
+          let ends : fronts h ≡ w.ends = ap (λ k. length (front_ends (drop k (entries h)))) at ∙ front_count (entries h) m.dropped no_entry (omega (arith, inside, length-entries h)) ∙ ap (λ (y : KeptLexeme). y.ends) here in
           let room = fronts_come s n in
           let upto : m.given ≤ w.ends = elim given [
             | inl few ↦ few

@@ -21,7 +21,7 @@ abbrev pub read_by : Machine → ℕ
 read_by m = m.dropped + length m.waiting.items
 
 -- The input stays. A further lexeme is read only while those before it don't settle the next token.
-pub record Reads (old new : Machine) : Type 0 where
+pub record ReadsAsNeeded (old new : Machine) : Type 0 where
   pub setting : new.setting ≡ old.setting
   pub bytes : new.input.now ≡ old.input.now
   pub further : read_by old ≤ read_by new
@@ -43,14 +43,14 @@ pub record Knows (old new : Machine) : Type 0 where
   pub stands : IsMachine new
   pub left : left_in new ≡ left_in old
   pub ready : is_ready new ≡ true
-  pub reads : Reads old new
+  pub reads : ReadsAsNeeded old new
 
 -- no token is to come, and no fault
 pub record Finishes (old new : Machine) : Type 0 where
   pub stands : IsMachine new
   pub left : left_in old ≡ nothing
   pub none : left_in new ≡ nothing
-  pub reads : Reads old new
+  pub reads : ReadsAsNeeded old new
 
 -- A refusal tells the fault that is to come, where no token is, or that memory ran out; a token that is known isn't refused, nor
 -- is the end.
@@ -71,7 +71,7 @@ ReadsOn old new f found.Refused = Denies old new f
 pub record Gives (old new : Machine) (t : Token) : Type 0 where
   pub stands : IsMachine new
   pub first : GivesFirst (left_in old) t (left_in new)
-  pub reads : Reads old new
+  pub reads : ReadsAsNeeded old new
 
 -- nothing was to come
 pub record Lacks (old new : Machine) (t : Token) : Type 0 where
@@ -79,11 +79,11 @@ pub record Lacks (old new : Machine) (t : Token) : Type 0 where
   pub empty : t ≡ no_token
 
 -- a refusal leaves the slot as it was
-pub record Leaves (old new : Machine) (was t : Token) (f : Fault) : Type 0 where
+pub record LeavesSlot (old new : Machine) (was t : Token) (f : Fault) : Type 0 where
   pub denies : Denies old new f
   pub same : t ≡ was
 
 abbrev pub Comes : Machine → Machine → Token → Token → Fault → Sought → Type 0
 Comes old new was t f found.Known = Gives old new t
 Comes old new was t f found.Nothing = Lacks old new t
-Comes old new was t f found.Refused = Leaves old new was t f
+Comes old new was t f found.Refused = LeavesSlot old new was t f

@@ -108,7 +108,7 @@ fn clear(slot: &mut yaml_token_body_t)
 /// Puts a token into a slot.
 // Out of line: mostly the reader does it, and what the slot had is let go by a look at each kind of token.
 #[inline(never)]
-pub(crate) fn put(slot: &mut yaml_token_t, token: yaml_token_t)
+pub(crate) fn put_over(slot: &mut yaml_token_t, token: yaml_token_t)
     ensures { slot.new ≡ token }
 {
     *slot = token;
@@ -222,7 +222,7 @@ fn fill_further(machine: &mut Machine, spares: &mut Spares, fault: &mut yaml_fau
         if machine.ended {
             return Sought::Nothing;
         }
-        if !step(machine, &mut spot, spares, fault) {
+        if !read_one_more(machine, &mut spot, spares, fault) {
             return Sought::Refused;
         }
         let known = machine.has_token();
@@ -235,7 +235,7 @@ fn fill_further(machine: &mut Machine, spares: &mut Spares, fault: &mut yaml_fau
 /// Reads one lexeme more, or puts the fault into the slot that was lent. The place where the lexeme stands gets a slot too.
 // Inlined: it is called at one place.
 #[inline(always)]
-fn step(
+fn read_one_more(
     machine: &mut Machine,
     spot: &mut Spot,
     spares: &mut Spares,

@@ -11,7 +11,7 @@ ghost use Rattle.yaml_scan.specs.contracts.session.yaml_parser_t.{the_row};
 ghost use Rattle.yaml_scan.specs.Session.{HasFirst, ReadsNeeded, Scans, ScansInto, Looks, Shows, Peeks, HoldsLittle, begun, behind_first, is_settled};
 ghost use Rattle.yaml_scan.specs.SessionView.{IsWhole, view_of};
 
-use crate::reading::{Sought, next_into, put, put_empty, put_shown, take_back};
+use crate::reading::{Sought, next_into, put_empty, put_over, put_shown, take_back};
 use std::alloc::Global;
 use std::marker::Model;
 use yaml_scan_machine::Machine;
@@ -190,7 +190,7 @@ pub fn yaml_parser_skip(parser: &mut yaml_parser_t)
 {
     if parser.aside {
         parser.aside = false;
-        put(&mut parser.shown, yaml_token_t::empty());
+        put_over(&mut parser.shown, yaml_token_t::empty());
         return;
     }
     drop(parser.machine.take_token());

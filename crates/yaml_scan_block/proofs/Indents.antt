@@ -9,7 +9,7 @@ use Rattle.yaml_scan_model.proofs.MarksLemmas.{within, past_break, no_break}
 use Rattle.yaml_scan_model.proofs.RunsLemmas.{past_more, past_stop, text_parts}
 use Rattle.yaml_scan_block.specs.Lines.{in_block}
 use Rattle.yaml_scan_block.specs.Block.{larger, larger_of, deepest}
-use Rattle.yaml_scan_block.specs.Unbounded.{EndsRun, RunsEnd, RunEndsOnce, LeadsTo, at_once, behind_blank, indent_at, Deepest, DeepestIs, DeepestIsOne}
+use Rattle.yaml_scan_block.specs.Unbounded.{EndsBlockRun, RunsEnd, RunEndsOnce, LeadsTo, at_once, behind_blank, indent_at, Deepest, DeepestIs, DeepestIsOne}
 use Rattle.yaml_scan_block.proofs.DepthLemmas.{larger_zero, larger_start, depth_tab, depth_done, depth_more, spaces-le}
 
 -- ---- runs
@@ -18,7 +18,7 @@ first_or : (k p : ℕ) → p ≤ k → (k ≡ p) ⊎ (p + 1 ≤ k)
 first_or k p h = grind arith
 
 longer : (kind : List ℕ → ℕ → Bool) (text : List ℕ) (p q : ℕ) → kind text p ≡ true
-    → EndsRun kind text (p + 1) q → EndsRun kind text p q
+    → EndsBlockRun kind text (p + 1) q → EndsBlockRun kind text p q
 longer kind text p q e h =
     let after = h.after in
     let each = h.each in record {
@@ -31,7 +31,7 @@ longer kind text p q e h =
     }
 
 empty_run : (kind : List ℕ → ℕ → Bool) (text : List ℕ) (p : ℕ) → kind text p ≡ false
-    → EndsRun kind text p p
+    → EndsBlockRun kind text p p
 empty_run kind text p e = record { after = omega arith; each = λ k a b. absurd (omega (arith, a, b)); stops = e }
 
 -- nothing of the kind stands past the end
@@ -39,15 +39,15 @@ abbrev Inside : (List ℕ → ℕ → Bool) → Type 0
 Inside kind = (text : List ℕ) (p : ℕ) → kind text p ≡ true → p < length text
 
 ends_by : (n : ℕ) (kind : List ℕ → ℕ → Bool) → Inside kind → (text : List ℕ) (p : ℕ) (b : Bool)
-    → kind text p ≡ b → length text ≤ p + n → EndsRun kind text p (past kind n text p)
-ends_by n kind inside text p false e room = subst (λ (q : ℕ). EndsRun kind text p q) (sym (past_stop kind n text p e)) (empty_run kind text p e)
+    → kind text p ≡ b → length text ≤ p + n → EndsBlockRun kind text p (past kind n text p)
+ends_by n kind inside text p false e room = subst (λ (q : ℕ). EndsBlockRun kind text p q) (sym (past_stop kind n text p e)) (empty_run kind text p e)
 ends_by zero kind inside text p true e room = let there = inside text p e in absurd (omega (arith, there, room))
 ends_by (suc n) kind inside text p true e room =
-    subst (λ (q : ℕ). EndsRun kind text p q) (sym (past_more kind n text p e))
+    subst (λ (q : ℕ). EndsBlockRun kind text p q) (sym (past_more kind n text p e))
     (longer kind text p (past kind n text (p + 1)) e (ends_by n kind inside text (p + 1) (kind text (p + 1)) refl (omega (arith, room))))
 
 ends : (kind : List ℕ → ℕ → Bool) → Inside kind → (text : List ℕ) (p : ℕ)
-    → EndsRun kind text p (past kind (length text) text p)
+    → EndsBlockRun kind text p (past kind (length text) text p)
 ends kind inside text p = ends_by (length text) kind inside text p (kind text p) refl (omega arith)
 
 blank_byte : (b : ℕ) → is_blank b ≡ true → 0 < b

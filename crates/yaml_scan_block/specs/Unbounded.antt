@@ -11,20 +11,20 @@ use Rattle.yaml_scan_block.specs.Lines.{in_block, Stops, Line, Tab, line_spot, L
 -- ---- runs
 
 -- The longest run of a kind that begins at a place ends before q: all up to q is of the kind, and what stands at q isn't.
-pub record EndsRun (kind : List ℕ → ℕ → Bool) (text : List ℕ) (p q : ℕ) : Type 0 where
+pub record EndsBlockRun (kind : List ℕ → ℕ → Bool) (text : List ℕ) (p q : ℕ) : Type 0 where
   pub after : p ≤ q
   pub each : (k : ℕ) → p ≤ k → k < q → kind text k ≡ true
   pub stops : kind text q ≡ false
 
 -- Blanks, spaces and the text of a line end there, and nowhere else.
 abbrev pub RunsEnd : Type 0
-RunsEnd = (text : List ℕ) (p : ℕ) → EndsRun is_blank_there text p (past_blanks text p)
-    × EndsRun is_space_there text p (past_spaces text p)
-    × EndsRun is_text text p (line_end text p)
+RunsEnd = (text : List ℕ) (p : ℕ) → EndsBlockRun is_blank_there text p (past_blanks text p)
+    × EndsBlockRun is_space_there text p (past_spaces text p)
+    × EndsBlockRun is_text text p (line_end text p)
 
 abbrev pub RunEndsOnce : Type 0
-RunEndsOnce = (kind : List ℕ → ℕ → Bool) (text : List ℕ) (p q r : ℕ) → EndsRun kind text p q
-    → EndsRun kind text p r → q ≡ r
+RunEndsOnce = (kind : List ℕ → ℕ → Bool) (text : List ℕ) (p q r : ℕ) → EndsBlockRun kind text p q
+    → EndsBlockRun kind text p r → q ≡ r
 
 -- ---- indentation
 

@@ -43,7 +43,7 @@ pub(crate) fn read_header(reader: &mut Reader, start: yaml_mark_t) -> Result<Hea
     }
     skip_indicators(reader);
     skip_blanks(reader);
-    skip_comment(reader);
+    pass_comment(reader);
     if is_text(reader) {
         return Err(wrong_block(Problem::NoCommentOrBreak, start, reader.mark()));
     }
@@ -76,7 +76,7 @@ fn is_chomping(byte: u8) -> bool
 }
 
 /// One of `0-9`.
-#[tactic(auto, unfolding(yaml_scan_types::specs::Classes::is_digit_byte))]
+#[tactic(auto, unfolding(yaml_types::specs::Classes::is_digit_byte))]
 fn is_digit(byte: u8) -> bool
     ensures { result ≡ is_digit_byte byte }
 {
@@ -109,7 +109,7 @@ fn chomp_of(chomping: u8) -> Chomp
 }
 
 /// The digit's value, or 0.
-#[tactic(auto, unfolding(crate::specs::Header::digit_of, yaml_scan_types::specs::Classes::is_digit_byte))]
+#[tactic(auto, unfolding(crate::specs::Header::digit_of, yaml_types::specs::Classes::is_digit_byte))]
 fn digit_of(byte: u8) -> u64
     ensures value { result ≡ spec.digit_of byte }
     ensures small { result < 10 }
@@ -173,7 +173,7 @@ fn skip_indicators(reader: &mut Reader)
 
 /// Past the comment here, if one is here.
 #[tactic(auto, unfolding(crate::specs::Header::past_comment))]
-fn skip_comment(reader: &mut Reader)
+fn pass_comment(reader: &mut Reader)
     ensures { reader.new ≡ record {
       text = reader.old.text;
       at = spec.past_comment reader.old.text

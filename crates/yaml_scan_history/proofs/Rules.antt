@@ -13,7 +13,7 @@ use Rattle.yaml_scan_model.specs.Classes.{is_alpha, is_digit, is_blank}
 use Rattle.yaml_scan_model.specs.Runs.{is_text, past_spaces}
 use Rattle.yaml_scan_model.specs.Wrong.{Wrong}
 use Rattle.yaml_scan_words.specs.Runs.{belongs, run_end}
-use Rattle.yaml_scan_block.specs.Unbounded.{EndsRun, IsTabbed}
+use Rattle.yaml_scan_block.specs.Unbounded.{EndsBlockRun, IsTabbed}
 use Rattle.yaml_scan_words.specs.Anchors.{may_end_name, name_between, anchor_at}
 use Rattle.yaml_scan_words.specs.Uris.{due_behind, spot_at, uri_at, some_uri_at, filled}
 use Rattle.yaml_scan_words.specs.Tags.{TagText, name_end, bracketed, parts_at, may_end_tag, ended}
@@ -25,7 +25,7 @@ use Rattle.yaml_scan_block.specs.Header.{digit_place, header_end, header_at}
 use Rattle.yaml_scan_block.specs.Lines.{Tab, line_spot, lines_from}
 use Rattle.yaml_scan_history.specs.declared.kind.Kind.TheVariants as kinds
 use Rattle.yaml_scan_history.specs.Words.{word_at}
-use Rattle.yaml_scan_history.specs.Rules.{Tells, IsTold, NoName, NamesAreTold, TagsAreTold, IsYaml, IsTag, DirectivesAreTold, IsStandingTold, IsEscape, QuotesAreTold, IsPlainTold, PlainsAreTold, BlocksAreTold, PlacesAreTold}
+use Rattle.yaml_scan_history.specs.Rules.{TellsAll, IsTold, NoName, NamesAreTold, TagsAreTold, IsYaml, IsTagDirective, DirectivesAreTold, IsStandingTold, IsEscape, QuotesAreTold, IsPlainTold, PlainsAreTold, BlocksAreTold, PlacesAreTold}
 
 -- ---- names
 
@@ -36,7 +36,7 @@ ends_here run text p q after each stops =
     let (m, left, same) = run_to (length text) run text p q after each (omega arith) in
     same ∙ run_stop m run text q stops
 
-name_ends : (text : List ℕ) (p q : ℕ) → EndsRun is_alpha text (p + 1) q → name_end text p ≡ q
+name_ends : (text : List ℕ) (p q : ℕ) → EndsBlockRun is_alpha text (p + 1) q → name_end text p ≡ q
 unfolding belongs
 name_ends text p q h = ends_here _ text (p + 1) q h.after h.each h.stops
 
@@ -141,7 +141,7 @@ tags_are_told = record {
 -- ---- directives
 
 directive_told : (flow : Bool) (level : ℕ) (text : List ℕ) (p q : ℕ) (w : Wrong)
-    (context problem : List ℕ) → directive_at text p ≡ Err w → Tells w context problem q
+    (context problem : List ℕ) → directive_at text p ≡ Err w → TellsAll w context problem q
     → IsTold (word_at kinds.Directive flow level text p) context problem q
 unfolding word_at
 directive_told flow level text p q w context problem e t = rw e t
@@ -178,7 +178,7 @@ yaml_value text p r h =
     ap (λ z. then_at (named_value_at text) (directive_between text (p + 1) z)) (name_ends text p (p + 5) h.letters)
     ∙ rw (apart (p + 1) (p + 5) (omega arith), h.ended, and_so (is_yaml text (p + 1)) (p + 5 - (p + 1) == 4) h.name (four p)) refl
 
-tag_value : (text : List ℕ) (p r : ℕ) → IsTag text p r
+tag_value : (text : List ℕ) (p r : ℕ) → IsTagDirective text p r
     → value_at text p ≡ tag_directive_at text (p + 4)
 tag_value text p r h =
     ap (λ z. then_at (named_value_at text) (directive_between text (p + 1) z)) (name_ends text p (p + 4) h.letters)
@@ -187,27 +187,27 @@ tag_value text p r h =
 abbrev wrong_here : Problem → Context → ℕ → Wrong
 wrong_here problem context q = record { problem = problem; context = context; place = q }
 
-name_none : (text : List ℕ) (p : ℕ) → EndsRun is_alpha text (p + 1) (p + 1)
+name_none : (text : List ℕ) (p : ℕ) → EndsBlockRun is_alpha text (p + 1) (p + 1)
     → name_at text p ≡ Err (wrong_here problems.NoDirectiveName contexts.Directive (p + 1))
 name_none text p h = ap (directive_between text (p + 1)) (name_ends text p (p + 1) h) ∙ rw (eq-eqb (p + 1) (p + 1) refl) refl
 
-name_letters : (text : List ℕ) (p q : ℕ) → EndsRun is_alpha text (p + 1) q → p + 1 < q
+name_letters : (text : List ℕ) (p q : ℕ) → EndsBlockRun is_alpha text (p + 1) q → p + 1 < q
     → is_blank_or_end text q ≡ false
     → name_at text p ≡ Err (wrong_here problems.NotAlphabetical contexts.Directive q)
 name_letters text p q h l n = ap (directive_between text (p + 1)) (name_ends text p q h) ∙ rw (apart (p + 1) q l, n) refl
 
-name_unknown : (text : List ℕ) (p q : ℕ) → EndsRun is_alpha text (p + 1) q → p + 1 < q
+name_unknown : (text : List ℕ) (p q : ℕ) → EndsBlockRun is_alpha text (p + 1) q → p + 1 < q
     → is_blank_or_end text q ≡ true → (is_yaml text (p + 1) && q - (p + 1) == 4) ≡ false
     → (is_tag text (p + 1) && q - (p + 1) == 3) ≡ false
     → name_at text p ≡ Err (wrong_here problems.UnknownDirective contexts.Directive q)
 name_unknown text p q h l n y t = ap (directive_between text (p + 1)) (name_ends text p q h) ∙ rw (apart (p + 1) q l, n, y, t) refl
 
-number_to : (text : List ℕ) (r e : ℕ) → EndsRun is_digit text r e
+number_to : (text : List ℕ) (r e : ℕ) → EndsBlockRun is_digit text r e
     → number_at text r ≡ number_between text r e
 unfolding belongs
 number_to text r e h = ap (number_between text r) (ends_here _ text r e h.after h.each h.stops)
 
-version_from : (text : List ℕ) (q r : ℕ) → EndsRun is_blank text q r
+version_from : (text : List ℕ) (q r : ℕ) → EndsBlockRun is_blank text q r
     → version_at text q ≡ then_at (minor_at text) (number_at text r)
 unfolding belongs
 version_from text q r h = ap (λ z. then_at (minor_at text) (number_at text z)) (ends_here _ text q r h.after h.each h.stops)
@@ -216,7 +216,8 @@ no_digits : (text : List ℕ) (r : ℕ)
     → number_between text r r ≡ Err (wrong_here problems.NoVersionNumber contexts.VersionDirective r)
 no_digits text r = rw (eq-eqb r r refl) refl
 
-number_none : (text : List ℕ) (q r : ℕ) → EndsRun is_blank text q r → EndsRun is_digit text r r
+number_none : (text : List ℕ) (q r : ℕ) → EndsBlockRun is_blank text q r
+    → EndsBlockRun is_digit text r r
     → version_at text q ≡ Err (wrong_here problems.NoVersionNumber contexts.VersionDirective r)
 number_none text q r b d = version_from text q r b ∙ ap (then_at (minor_at text)) (number_to text r r d ∙ no_digits text r)
 
@@ -231,8 +232,8 @@ many_digits : (text : List ℕ) (r e : ℕ) → r + 9 < e
     ≡ Err (wrong_here problems.LongVersionNumber contexts.VersionDirective (r + 9))
 many_digits text r e l = rw (further r e (omega (arith, l)), lt-ltb (r + 9) e l) refl
 
-number_long : (text : List ℕ) (q r e : ℕ) → EndsRun is_blank text q r
-    → EndsRun is_digit text r e → r + 9 < e
+number_long : (text : List ℕ) (q r e : ℕ) → EndsBlockRun is_blank text q r
+    → EndsBlockRun is_digit text r e → r + 9 < e
     → version_at text q ≡ Err (wrong_here problems.LongVersionNumber contexts.VersionDirective (r + 9))
 number_long text q r e b d l =
     version_from text q r b ∙ ap (then_at (minor_at text)) (number_to text r e d ∙ many_digits text r e l)
@@ -245,14 +246,14 @@ dot_wanted : (text : List ℕ) (n e : ℕ) → byte text e ≢ 46
     → minor_at text n e ≡ Err (wrong_here problems.NoDigitOrDot contexts.VersionDirective e)
 dot_wanted text n e h = rw (ne_eqb (byte text e) 46 h) refl
 
-number_alone : (text : List ℕ) (q r e : ℕ) → EndsRun is_blank text q r
-    → EndsRun is_digit text r e → r < e → e ≤ r + 9 → byte text e ≢ 46
+number_alone : (text : List ℕ) (q r e : ℕ) → EndsBlockRun is_blank text q r
+    → EndsBlockRun is_digit text r e → r < e → e ≤ r + 9 → byte text e ≢ 46
     → version_at text q ≡ Err (wrong_here problems.NoDigitOrDot contexts.VersionDirective e)
 number_alone text q r e b d l m n =
     version_from text q r b ∙ ap (then_at (minor_at text)) (number_to text r e d ∙ some_digits text r e l m)
     ∙ dot_wanted text (decimal text r (e - r)) e n
 
-tag_from : (text : List ℕ) (q r : ℕ) → EndsRun is_blank text q r
+tag_from : (text : List ℕ) (q r : ℕ) → EndsBlockRun is_blank text q r
     → tag_directive_at text q
     ≡ then_at (λ handle e. with_prefix handle (prefix_at text e)) (handle_at text r)
 unfolding belongs
@@ -262,25 +263,25 @@ mark_wanted : (text : List ℕ) (r : ℕ) → byte text r ≢ 33
     → handle_at text r ≡ Err (wrong_here problems.NoExclamationMark contexts.TagDirectiveStart r)
 mark_wanted text r n = rw (ne_eqb (byte text r) 33 n) refl
 
-handle_none : (text : List ℕ) (q r : ℕ) → EndsRun is_blank text q r → byte text r ≢ 33
+handle_none : (text : List ℕ) (q r : ℕ) → EndsBlockRun is_blank text q r → byte text r ≢ 33
     → tag_directive_at text q ≡ Err (wrong_here problems.NoExclamationMark contexts.TagDirectiveStart r)
 handle_none text q r b n = tag_from text q r b ∙ ap (then_at (λ handle e. with_prefix handle (prefix_at text e))) (mark_wanted text r n)
 
-handle_open : (text : List ℕ) (r e : ℕ) → byte text r ≡ 33 → EndsRun is_alpha text (r + 1) e
+handle_open : (text : List ℕ) (r e : ℕ) → byte text r ≡ 33 → EndsBlockRun is_alpha text (r + 1) e
     → r + 1 < e → byte text e ≢ 33
     → handle_at text r ≡ Err (wrong_here problems.NoExclamationMark contexts.TagDirectiveHandle e)
 handle_open text r e m h l n =
     rw (eq-eqb (byte text r) 33 m) (ap (handle_between text r) (name_ends text r e h) ∙ rw (ne_eqb (byte text e) 33 n, further (r + 1) e l) refl)
 
-white_none : (text : List ℕ) (q r : ℕ) (h : List ℕ × ℕ) → EndsRun is_blank text q r
+white_none : (text : List ℕ) (q r : ℕ) (h : List ℕ × ℕ) → EndsBlockRun is_blank text q r
     → handle_at text r ≡ Ok h → is_blank text h.1 ≡ false
     → tag_directive_at text q ≡ Err (wrong_here problems.NoWhitespace contexts.TagDirective h.1)
 unfolding belongs
 white_none text q r h b e n = tag_from text q r b ∙ ap (then_at (λ handle e. with_prefix handle (prefix_at text e))) e ∙ rw n refl
 
-prefix_wrong : (text : List ℕ) (q r f : ℕ) (h u : List ℕ × ℕ) → EndsRun is_blank text q r
+prefix_wrong : (text : List ℕ) (q r f : ℕ) (h u : List ℕ × ℕ) → EndsBlockRun is_blank text q r
     → handle_at text r ≡ Ok h → is_blank text h.1 ≡ true
-    → EndsRun is_blank text h.1 f
+    → EndsBlockRun is_blank text h.1 f
     → some_uri_at contexts.TagDirectiveUri true text f ≡ Ok u → is_blank_or_end text u.1 ≡ false
     → tag_directive_at text q ≡ Err (wrong_here problems.NoWhitespaceOrBreak contexts.TagDirective u.1)
 unfolding belongs
@@ -289,7 +290,7 @@ prefix_wrong text q r f h u b e m w x n =
     ∙ rw m (ap (λ z. with_prefix h.0 (prefix_ended text (some_uri_at contexts.TagDirectiveUri true text z))) (ends_here _ text h.1 f w.after w.each w.stops) ∙ ap (λ z. with_prefix h.0 (prefix_ended text z)) x ∙ rw n refl)
 
 line_wrong : (text : List ℕ) (p r : ℕ) (v : ValueText) → value_at text p ≡ Ok v
-    → EndsRun is_blank text v.end r → break_width text (comment_end text r) ≡ 0
+    → EndsBlockRun is_blank text v.end r → break_width text (comment_end text r) ≡ 0
     → byte text (comment_end text r) ≢ 0
     → directive_at text p ≡ Err (wrong_here problems.NoCommentOrBreak contexts.Directive (comment_end text r))
 unfolding belongs
@@ -423,7 +424,7 @@ unfolding header_at problem_text_of context_text_of
 comment_told text p b t = rw (ne_eqb (byte text (digit_place text p)) 48 b, t) record { context = refl; problem = refl; place = refl }
 
 tab_found : (text : List ℕ) (p : ℕ) (w : Wrong) (t : IsTabbed text p w)
-    → Tells w (codes "while scanning a block scalar")
+    → TellsAll w (codes "while scanning a block scalar")
     (codes "found a tab character where an indentation space is expected")
     (past_spaces text t.line)
 unfolding problem_text_of context_text_of

@@ -9,7 +9,7 @@ use Rattle.yaml_scan_model.specs.Breaks.{is_document_indicator}
 use Rattle.yaml_scan_model.specs.Classes.{is_alpha, is_digit, is_blank}
 use Rattle.yaml_scan_model.specs.Runs.{is_text, past_spaces}
 use Rattle.yaml_scan_model.specs.Wrong.{Wrong}
-use Rattle.yaml_scan_block.specs.Unbounded.{EndsRun, IsTabbed}
+use Rattle.yaml_scan_block.specs.Unbounded.{EndsBlockRun, IsTabbed}
 use Rattle.yaml_scan_words.specs.Anchors.{may_end_name}
 use Rattle.yaml_scan_words.specs.Uris.{UriSpot, Spells, Ends, Faulty, octet_at, spot_at, uri_at, some_uri_at}
 use Rattle.yaml_scan_words.specs.Tags.{TagText, parts_at, may_end_tag}
@@ -24,20 +24,21 @@ use Rattle.yaml_scan_history.specs.Words.{word_at}
 use Rattle.yaml_scan_history.specs.Next.{colon_missing, no_start, not_allowed_there}
 
 -- what is wrong tells that problem, in that context, at that place
-pub record Tells (w : Wrong) (doing what : List ℕ) (q : ℕ) : Type 0 where
+pub record TellsAll (w : Wrong) (doing what : List ℕ) (q : ℕ) : Type 0 where
   pub context : context_text_of w.context ≡ Some doing
   pub problem : problem_text_of w.problem ≡ what
   pub place : w.place ≡ q
 
 abbrev pub IsTold : {A : Type 0} → Result A Wrong → List ℕ → List ℕ → ℕ → Type 0
 IsTold (Ok a) context problem q = ⊥
-IsTold (Err w) context problem q = Tells w context problem q
+IsTold (Err w) context problem q = TellsAll w context problem q
 
 -- ---- names
 
 -- Behind `&` or `*` no character of a name stands up to q, or what stands there can't end one.
 abbrev pub NoName : List ℕ → ℕ → ℕ → Type 0
-NoName text p q = EndsRun is_alpha text (p + 1) q × ((q ≡ p + 1) ⊎ (may_end_name text q ≡ false))
+NoName text p q = EndsBlockRun is_alpha text (p + 1) q
+    × ((q ≡ p + 1) ⊎ (may_end_name text q ≡ false))
 
 pub record NamesAreTold : Type 0 where
   pub anchor : (flow : Bool) (level : ℕ) (text : List ℕ) (p q : ℕ) → NoName text p q
@@ -93,75 +94,75 @@ pub record TagsAreTold : Type 0 where
 
 -- `%YAML` and blanks stand there, and then something else
 pub record IsYaml (text : List ℕ) (p r : ℕ) : Type 0 where
-  pub letters : EndsRun is_alpha text (p + 1) (p + 5)
+  pub letters : EndsBlockRun is_alpha text (p + 1) (p + 5)
   pub name : is_yaml text (p + 1) ≡ true
   pub ended : is_blank_or_end text (p + 5) ≡ true
-  pub blanks : EndsRun is_blank text (p + 5) r
+  pub blanks : EndsBlockRun is_blank text (p + 5) r
 
 -- `%TAG` and blanks
-pub record IsTag (text : List ℕ) (p r : ℕ) : Type 0 where
-  pub letters : EndsRun is_alpha text (p + 1) (p + 4)
+pub record IsTagDirective (text : List ℕ) (p r : ℕ) : Type 0 where
+  pub letters : EndsBlockRun is_alpha text (p + 1) (p + 4)
   pub name : is_tag text (p + 1) ≡ true
   pub ended : is_blank_or_end text (p + 4) ≡ true
-  pub blanks : EndsRun is_blank text (p + 4) r
+  pub blanks : EndsBlockRun is_blank text (p + 4) r
 
 pub record DirectivesAreTold : Type 0 where
   -- behind the `%` no letter, something else behind letters, and letters that aren't YAML or TAG
   pub no_name : (flow : Bool) (level : ℕ) (text : List ℕ) (p : ℕ)
-      → EndsRun is_alpha text (p + 1) (p + 1)
+      → EndsBlockRun is_alpha text (p + 1) (p + 1)
       → IsTold (word_at kinds.Directive flow level text p) (codes "while scanning a directive")
       (codes "could not find expected directive name") (p + 1)
   pub letters : (flow : Bool) (level : ℕ) (text : List ℕ) (p q : ℕ)
-      → EndsRun is_alpha text (p + 1) q → p + 1 < q → is_blank_or_end text q ≡ false
+      → EndsBlockRun is_alpha text (p + 1) q → p + 1 < q → is_blank_or_end text q ≡ false
       → IsTold (word_at kinds.Directive flow level text p) (codes "while scanning a directive")
       (codes "found unexpected non-alphabetical character") q
   pub unknown : (flow : Bool) (level : ℕ) (text : List ℕ) (p q : ℕ)
-      → EndsRun is_alpha text (p + 1) q → p + 1 < q → is_blank_or_end text q ≡ true
+      → EndsBlockRun is_alpha text (p + 1) q → p + 1 < q → is_blank_or_end text q ≡ true
       → (is_yaml text (p + 1) && q - (p + 1) == 4) ≡ false
       → (is_tag text (p + 1) && q - (p + 1) == 3) ≡ false
       → IsTold (word_at kinds.Directive flow level text p) (codes "while scanning a directive")
       (codes "found unknown directive name") q
   -- behind `%YAML` no digit, more than nine of them, and no `.` behind them
   pub no_number : (flow : Bool) (level : ℕ) (text : List ℕ) (p r : ℕ)
-      → IsYaml text p r → EndsRun is_digit text r r
+      → IsYaml text p r → EndsBlockRun is_digit text r r
       → IsTold (word_at kinds.Directive flow level text p)
       (codes "while scanning a %YAML directive") (codes "did not find expected version number") r
   pub long_number : (flow : Bool) (level : ℕ) (text : List ℕ) (p r e : ℕ)
-      → IsYaml text p r → EndsRun is_digit text r e → r + 9 < e
+      → IsYaml text p r → EndsBlockRun is_digit text r e → r + 9 < e
       → IsTold (word_at kinds.Directive flow level text p)
       (codes "while scanning a %YAML directive") (codes "found extremely long version number")
       (r + 9)
   pub no_dot : (flow : Bool) (level : ℕ) (text : List ℕ) (p r e : ℕ)
-      → IsYaml text p r → EndsRun is_digit text r e → r < e → e ≤ r + 9
+      → IsYaml text p r → EndsBlockRun is_digit text r e → r < e → e ≤ r + 9
       → byte text e ≢ 46
       → IsTold (word_at kinds.Directive flow level text p)
       (codes "while scanning a %YAML directive")
       (codes "did not find expected digit or '.' character") e
   -- behind `%TAG` no `!`, and none behind the letters of a handle
   pub no_handle : (flow : Bool) (level : ℕ) (text : List ℕ) (p r : ℕ)
-      → IsTag text p r → byte text r ≢ 33
+      → IsTagDirective text p r → byte text r ≢ 33
       → IsTold (word_at kinds.Directive flow level text p) (codes "while scanning a tag directive")
       (codes "did not find expected '!'") r
   pub open_handle : (flow : Bool) (level : ℕ) (text : List ℕ) (p r e : ℕ)
-      → IsTag text p r → byte text r ≡ 33 → EndsRun is_alpha text (r + 1) e
+      → IsTagDirective text p r → byte text r ≡ 33 → EndsBlockRun is_alpha text (r + 1) e
       → r + 1 < e → byte text e ≢ 33
       → IsTold (word_at kinds.Directive flow level text p) (codes "while parsing a tag directive")
       (codes "did not find expected '!'") e
   -- behind the handle no blank, and something else behind the prefix
   pub no_white : (flow : Bool) (level : ℕ) (text : List ℕ) (p r : ℕ) (h : List ℕ × ℕ)
-      → IsTag text p r → handle_at text r ≡ Ok h
+      → IsTagDirective text p r → handle_at text r ≡ Ok h
       → is_blank text h.1 ≡ false
       → IsTold (word_at kinds.Directive flow level text p) (codes "while scanning a %TAG directive")
       (codes "did not find expected whitespace") h.1
   pub behind_prefix : (flow : Bool) (level : ℕ) (text : List ℕ) (p r f : ℕ) (h u : List ℕ × ℕ)
-      → IsTag text p r → handle_at text r ≡ Ok h
-      → is_blank text h.1 ≡ true → EndsRun is_blank text h.1 f
+      → IsTagDirective text p r → handle_at text r ≡ Ok h
+      → is_blank text h.1 ≡ true → EndsBlockRun is_blank text h.1 f
       → some_uri_at contexts.TagDirectiveUri true text f ≡ Ok u → is_blank_or_end text u.1 ≡ false
       → IsTold (word_at kinds.Directive flow level text p) (codes "while scanning a %TAG directive")
       (codes "did not find expected whitespace or line break") u.1
   -- behind the value something else than a comment
   pub line : (flow : Bool) (level : ℕ) (text : List ℕ) (p r : ℕ) (v : ValueText)
-      → value_at text p ≡ Ok v → EndsRun is_blank text v.end r
+      → value_at text p ≡ Ok v → EndsBlockRun is_blank text v.end r
       → break_width text (comment_end text r) ≡ 0 → byte text (comment_end text r) ≢ 0
       → IsTold (word_at kinds.Directive flow level text p) (codes "while scanning a directive")
       (codes "did not find expected comment or line break") (comment_end text r)
@@ -169,7 +170,7 @@ pub record DirectivesAreTold : Type 0 where
 -- ---- quotes
 
 abbrev pub IsStandingTold : Standing → List ℕ → List ℕ → ℕ → Type 0
-IsStandingTold (Bad w) context problem q = Tells w context problem q
+IsStandingTold (Bad w) context problem q = TellsAll w context problem q
 IsStandingTold quoted.Closing context problem q = ⊥
 IsStandingTold (quoted.Pieces ps r) context problem q = ⊥
 
@@ -205,7 +206,7 @@ pub record QuotesAreTold : Type 0 where
 -- ---- plain scalars
 
 abbrev pub IsPlainTold : plain.PlainSpot → List ℕ → List ℕ → ℕ → Type 0
-IsPlainTold (plain.Faulty w) context problem q = Tells w context problem q
+IsPlainTold (plain.Faulty w) context problem q = TellsAll w context problem q
 IsPlainTold plain.Ends context problem q = ⊥
 IsPlainTold (plain.Takes x r) context problem q = ⊥
 
@@ -236,7 +237,7 @@ pub record BlocksAreTold : Type 0 where
       (codes "did not find expected comment or line break") (header_end text p)
   -- a tab behind the spaces of the lines by which the column is found, or in front of that column
   pub tab : (text : List ℕ) (p : ℕ) (w : Wrong) (t : IsTabbed text p w)
-      → Tells w (codes "while scanning a block scalar")
+      → TellsAll w (codes "while scanning a block scalar")
       (codes "found a tab character where an indentation space is expected")
       (past_spaces text t.line)
   pub line : (c : ℕ) (text : List ℕ) (end p q : ℕ) → line_spot c text p ≡ Tab q
@@ -246,7 +247,7 @@ pub record BlocksAreTold : Type 0 where
 -- ---- between lexemes
 
 -- a fault tells that problem, in a context or none, and both places
-pub record TellsFault (f : ScanFault) (doing : Option (List ℕ)) (what : List ℕ)
+pub record TellsByRule (f : ScanFault) (doing : Option (List ℕ)) (what : List ℕ)
     (from to : yaml_mark_t) : Type 0 where
   pub context : context_text_of f.context ≡ doing
   pub problem : problem_text_of f.problem ≡ what
@@ -255,16 +256,16 @@ pub record TellsFault (f : ScanFault) (doing : Option (List ℕ)) (what : List �
 
 pub record PlacesAreTold : Type 0 where
   -- no lexeme can start there
-  pub start : (m : yaml_mark_t) → TellsFault (no_start m)
+  pub start : (m : yaml_mark_t) → TellsByRule (no_start m)
       (Some (codes "while scanning for the next token"))
       (codes "found character that cannot start any token") m m
   -- a key that has to come to its `:`
-  pub key : (start place : yaml_mark_t) → TellsFault (colon_missing start place)
+  pub key : (start place : yaml_mark_t) → TellsByRule (colon_missing start place)
       (Some (codes "while scanning a simple key")) (codes "could not find expected ':'") start place
   -- `-`, `?` and `:` where no key may begin
-  pub entry : (m : yaml_mark_t) → TellsFault (not_allowed_there kinds.BlockEntry m) None
+  pub entry : (m : yaml_mark_t) → TellsByRule (not_allowed_there kinds.BlockEntry m) None
       (codes "block sequence entries are not allowed in this context") m m
-  pub question : (m : yaml_mark_t) → TellsFault (not_allowed_there kinds.KeyMark m) None
+  pub question : (m : yaml_mark_t) → TellsByRule (not_allowed_there kinds.KeyMark m) None
       (codes "mapping keys are not allowed in this context") m m
-  pub colon : (m : yaml_mark_t) → TellsFault (not_allowed_there kinds.ValueMark m) None
+  pub colon : (m : yaml_mark_t) → TellsByRule (not_allowed_there kinds.ValueMark m) None
       (codes "mapping values are not allowed in this context") m m

@@ -19,12 +19,12 @@ use Rattle.yaml_scan_history.specs.History.{depth, Candidate, candidate, is_fres
 use Rattle.yaml_scan_history.specs.Words.{WordText}
 use Rattle.yaml_scan_history.specs.Next.{first_lexeme}
 use Rattle.yaml_scan_history.specs.Remaining.{SpelledText, spell}
-use Rattle.yaml_scan_laws_levels.specs.Fronts.{Rises, Leaves, Meets, Says, entry, read_at}
+use Rattle.yaml_scan_laws_levels.specs.Fronts.{Rises, LeavesLevels, Meets, Says, entry, read_at}
 use Rattle.yaml_scan_laws_levels.specs.Pushes.{IsRight, IsLone, stays_level}
 use Rattle.yaml_scan_laws_levels.specs.Tokens.{told, start_bodies}
 use Rattle.yaml_scan_laws_levels.specs.Steps.{Stands, Comes, WordLeaves, may_begin}
 use Rattle.yaml_scan_laws_levels.specs.Ends.{end_at}
-use Rattle.yaml_scan_laws_levels.specs.Walks.{WalkSays, Content, Key, WalkGoes, Where, Clear, LeaveClear, Outside, DeeperLeaves, Reads, ClosesAt, LevelsPart, WalkEnds, behind, WalkStarts, WalkWhite, WalkWord, WalkMark, WalkOuter, WalkStops, WalkKeyStarts, WalkKeyGoes, WalkKeyStops, WalkAsks, WalkAnswers}
+use Rattle.yaml_scan_laws_levels.specs.Walks.{WalkSays, Content, Key, WalkGoes, Where, Clear, LeaveClear, Outside, DeeperLeaves, WalkReads, ClosesAt, LevelsPart, WalkEnds, behind, WalkStarts, WalkWhite, WalkWord, WalkMark, WalkOuter, WalkStops, WalkKeyStarts, WalkKeyGoes, WalkKeyStops, WalkAsks, WalkAnswers}
 use Rattle.yaml_scan_laws_levels.proofs.Levels.{rises_front, left_closes, inside_leaves}
 use Rattle.yaml_scan_laws_levels.proofs.Telling.{word_tells, level_tells, key_tells}
 use Rattle.yaml_scan_laws_levels.proofs.Slotting.{later_is_lone, none_is_lone, slots_go_on}
@@ -73,13 +73,13 @@ levels_part [] more r = (rises_front 0 [] more r, r)
 levels_part (c ∷ ls) more r = (rises_front 0 (c ∷ ls) more r, rises_last 0 c ls more r)
 
 leaves_of : (d c : ℕ) (ls more : List ℕ) → Rises 0 (ls ++ more) → ClosesAt d c ls more
-    → Leaves d c (ls ++ more) ls (length more)
+    → LeavesLevels d c (ls ++ more) ls (length more)
 leaves_of d c ls more r (inl (deep, none)) =
-    let P : List ℕ → Type 0 = λ xs. Leaves d c (ls ++ xs) ls (length xs) in
-    let Q : List ℕ → Type 0 = λ xs. Leaves d c xs ls 0 in
+    let P : List ℕ → Type 0 = λ xs. LeavesLevels d c (ls ++ xs) ls (length xs) in
+    let Q : List ℕ → Type 0 = λ xs. LeavesLevels d c xs ls 0 in
     subst P (sym none) (subst Q (sym (append-nil ls)) (inside_leaves d c ls (rises_front 0 ls more r) deep))
 leaves_of d c ls more r (inr (flat, low, above)) =
-    let P : ℕ → Type 0 = λ n. Leaves n c (ls ++ more) ls (length more) in
+    let P : ℕ → Type 0 = λ n. LeavesLevels n c (ls ++ more) ls (length more) in
     subst P (sym flat) (left_closes c ls more r low above)
 
 -- ---- what is equal may stand for it
@@ -153,12 +153,12 @@ walk_white x text o cs ls more T white r at blank = record {
 
 word_on : (x : yaml_encoding_t) (text : List ℕ) (o : Where) (cs ds ls : List ℕ)
     (T : List TokenBody → List TokenBody) (k : Kind) (gap : List ℕ) (w : WordText) (e : ℕ)
-    (then wide : Bool) (r : Reads x text o cs ls [] T) → let q = o.at + length gap in
+    (then wide : Bool) (r : WalkReads x text o cs ls [] T) → let q = o.at + length gap in
     Clear (read_at text r.lexemes k q (may_begin o.now o.broken gap) w ∷ r.lexemes) ds
     → Comes text o.at o.depth (indent ls) k gap w e → stays_level k o.depth ≡ true → let q = o.at + length gap in
     IsRight o.depth ls (column_at text q) → IsLone text r.lexemes o.depth k q
     → WordLeaves text (depth_after k o.depth) (allows_key k (o.depth == 0) false) w e then wide
-    → Reads x text (behind text q e (depth_after k o.depth) then wide) ds ls [] (λ bs. T (w.body ∷ bs))
+    → WalkReads x text (behind text q e (depth_after k o.depth) then wide) ds ls [] (λ bs. T (w.body ∷ bs))
 word_on x text o cs ds ls T k gap w e then wide r clear c stays right lone leaves =
     let q = o.at + length gap in
     let l = read_at text r.lexemes k q (may_begin o.now o.broken gap) w in

@@ -31,7 +31,7 @@ abbrev pub end_at : List ℕ → List Lexeme → ℕ → Bool → Lexeme
 end_at text h q a = begun kinds.StreamEnd (placed kinds.StreamEnd (mark_at text q)) a h
 
 -- The tokens of the text are these, without fault.
-pub record Tells (s : SpelledText) (es : List Entry) : Type 0 where
+pub record TellsEnd (s : SpelledText) (es : List Entry) : Type 0 where
   pub read : offline s ≡ record { tokens = flat_map (spell s) es; fault = None }
   pub bodies : bodies_of s es ≡ told s es 0 []
 
@@ -41,6 +41,6 @@ EndIsRead = (x : yaml_encoding_t) (text : List ℕ) (h : List Lexeme) (ms : List
     (es : List Entry) (q : ℕ) (a : Bool)
     (w : WordText) → Front text h 0 ms es → Idle h → Meets text h 0 0 kinds.StreamEnd q a w
     → let s : SpelledText = record { encoding = x; text = text } in let l = end_at text h q a in
-    Tells s (es ++ entry l (length ms) opening.Nothing ∷ [])
+    TellsEnd s (es ++ entry l (length ms) opening.Nothing ∷ [])
     × (told s (es ++ entry l (length ms) opening.Nothing ∷ []) 0 [] ≡ told s es (length ms)
     (stream_end ∷ []))

@@ -82,7 +82,7 @@ abbrev pub entry : Lexeme → ℕ → Opens → Entry
 entry l n what = record { lexeme = l; ends = n; opens = what; key = false }
 
 -- A lexeme at a column, behind so many open brackets, leaves ls of the levels ms, and closes n.
-pub record Leaves (d c : ℕ) (ms ls : List ℕ) (n : ℕ) : Type 0 where
+pub record LeavesLevels (d c : ℕ) (ms ls : List ℕ) (n : ℕ) : Type 0 where
   pub left : (k : Kind) → is_outside k ≡ false → left_by k d c ms ≡ ls
   pub closed : length ms - length ls ≡ n
   pub rises : Rises 0 ls

@@ -9,7 +9,7 @@ use Rattle.yaml_scan_history.specs.declared.lexeme.Opens.TheVariants as opening
 use Rattle.yaml_scan_history.specs.Kinds.{depth_after, may_be_key, cancels}
 use Rattle.yaml_scan_history.specs.History.{Candidate, is_fresh, margin_at, indent, opened, as_key}
 use Rattle.yaml_scan_history.specs.Words.{WordText}
-use Rattle.yaml_scan_laws_levels.specs.Fronts.{Front, Idle, Holds, Leaves, Meets, Pushed, Held, entry, read_at}
+use Rattle.yaml_scan_laws_levels.specs.Fronts.{Front, Idle, Holds, LeavesLevels, Meets, Pushed, Held, entry, read_at}
 use Rattle.yaml_scan_laws_levels.specs.Pushes.{IsRight, IsLone, stays_level}
 
 -- The first word of a key, which ends on its line, is held. At the column of the innermost level
@@ -18,7 +18,7 @@ abbrev pub KeyBegins : Type 0
 KeyBegins = (text : List ℕ) (h : List Lexeme) (d : ℕ) (ms ls : List ℕ) (n : ℕ) (es : List Entry)
     (k : Kind) (q : ℕ)
     (w : WordText) → Front text h d ms es → Idle h → may_be_key k ≡ true
-    → Meets text h d (indent ls) k q true w → Leaves d (column_at text q) ms ls n
+    → Meets text h d (indent ls) k q true w → LeavesLevels d (column_at text q) ms ls n
     → is_fresh (mark_at text q) (mark_at text w.reached) ≡ true
     → let l = read_at text h k q true w in
     Held text h l w d (depth_after k d) record { number = length es; lexeme = l } ls

@@ -9,7 +9,7 @@ use Rattle.yaml_scan_history.specs.Kinds.{depth_after, is_outside, may_be_key, c
 use Rattle.yaml_scan_history.specs.History.{has, candidate, fresh, margin_at, indent, left_by, opened, start_of, level_of}
 use Rattle.yaml_scan_history.specs.Words.{WordText}
 use Rattle.yaml_scan_history.specs.Next.{Read, next}
-use Rattle.yaml_scan_laws_levels.specs.Fronts.{Front, IsFree, InTime, Idle, Leaves, Meets, Pushed, Rises, entry, read_at}
+use Rattle.yaml_scan_laws_levels.specs.Fronts.{Front, IsFree, InTime, Idle, LeavesLevels, Meets, Pushed, Rises, entry, read_at}
 
 -- a `-`, a `?` or a `:` stands where a key may begin, or behind a candidate that takes it, or in
 -- brackets
@@ -33,16 +33,17 @@ MetIsRead = (text : List ℕ) (h : List Lexeme) (d : ℕ) (ms : List ℕ) (es : 
 
 -- In brackets no level closes.
 abbrev pub InsideLeaves : Type 0
-InsideLeaves = (d c : ℕ) (ms : List ℕ) → Rises 0 ms → nat_lt 0 d ≡ true → Leaves d c ms ms 0
+InsideLeaves = (d c : ℕ) (ms : List ℕ) → Rises 0 ms → nat_lt 0 d ≡ true → LeavesLevels d c ms ms 0
 
 -- Right of the innermost level none closes, and none at its column.
 abbrev pub RightLeaves : Type 0
-RightLeaves = (c : ℕ) (ms : List ℕ) → Rises 0 ms → indent ms ≤ margin_at c → Leaves 0 c ms ms 0
+RightLeaves = (c : ℕ) (ms : List ℕ) → Rises 0 ms → indent ms ≤ margin_at c
+    → LeavesLevels 0 c ms ms 0
 
 -- The levels right of a column close, and those before them stay.
 abbrev pub LeftCloses : Type 0
 LeftCloses = (c : ℕ) (ls more : List ℕ) → Rises 0 (ls ++ more) → indent ls ≤ margin_at c
-    → Rises (margin_at c) more → Leaves 0 c (ls ++ more) ls (length more)
+    → Rises (margin_at c) more → LeavesLevels 0 c (ls ++ more) ls (length more)
 
 -- ---- words and marks
 
@@ -75,7 +76,7 @@ MarkIsRead = (text : List ℕ) (h : List Lexeme) (ms ls : List ℕ) (n : ℕ) (e
     (k : Kind) (q : ℕ)
     (w : WordText) → Front text h 0 ms es → Idle h → is_start k ≡ true
     → Meets text h 0 (indent ls) k q true w
-    → Leaves 0 (column_at text q) ms ls n → IsLone text h 0 k q
+    → LeavesLevels 0 (column_at text q) ms ls n → IsLone text h 0 k q
     → let l = read_at text h k q true w in let m = margin_at (column_at text q) in
     Pushed text h l w 0 (opened true m ls) (es ++ entry l n (start_of 0 m ls (level_of k)) ∷ [])
 

@@ -12,7 +12,7 @@ use Rattle.yaml_scan_history.specs.Kinds.{depth_after, may_be_key, allows_key, i
 use Rattle.yaml_scan_history.specs.History.{depth, reached, key_allowed, Candidate, is_fresh, margin_at, indent, opened, start_of, level_of, as_key}
 use Rattle.yaml_scan_history.specs.Words.{WordText, kind_at, word_at}
 use Rattle.yaml_scan_history.specs.Next.{first_lexeme}
-use Rattle.yaml_scan_laws_levels.specs.Fronts.{Front, Idle, Holds, Leaves, Says, entry, read_at}
+use Rattle.yaml_scan_laws_levels.specs.Fronts.{Front, Idle, Holds, LeavesLevels, Says, entry, read_at}
 use Rattle.yaml_scan_laws_levels.specs.Pushes.{IsRight, IsLone, stays_level}
 use Rattle.yaml_scan_laws_levels.specs.Keys.{IsInKey}
 use Rattle.yaml_scan_laws_levels.specs.White.{IsGap, White}
@@ -56,7 +56,7 @@ pub record WordsLeave : Type 0 where
       → w.reached ≡ e + length white → w.broke ≡ false → WordLeaves text d allows w e allows false
 
 -- one lexeme more
-pub record Stepped (text : List ℕ) (e n : ℕ) (h : List Lexeme) (l : Lexeme) (w : WordText)
+pub record SteppedInWalk (text : List ℕ) (e n : ℕ) (h : List Lexeme) (l : Lexeme) (w : WordText)
     (d : ℕ) (ms : List ℕ) (es : List Entry) (now broken : Bool) : Type 0 where
   pub stands : Stands text e n (l ∷ h) d ms es now broken
   pub body : Says text l w
@@ -88,7 +88,8 @@ WordSteps = (text : List ℕ) (p i : ℕ) (h : List Lexeme) (d : ℕ) (ms : List
     IsRight d ms (column_at text q) → IsLone text h d k q
     → WordLeaves text (depth_after k d) (allows_key k (d == 0) false) w e then wide
     → let l = read_at text h k q (may_begin now broken gap) w in
-    Stepped text e (line_at text q) h l w (depth_after k d) ms (es ++ entry l 0 opening.Nothing
+    SteppedInWalk text e (line_at text q) h l w (depth_after k d) ms (es ++ entry l 0
+    opening.Nothing
     ∷ []) then wide
     × Idle (l ∷ h)
 
@@ -98,10 +99,11 @@ MarkSteps = (text : List ℕ) (p i : ℕ) (h : List Lexeme) (ms ls : List ℕ) (
     (k : Kind) (gap : List ℕ) (w : WordText) (e : ℕ) (then wide : Bool)
     → Stands text p i h 0 ms es now broken → Idle h
     → Comes text p 0 (indent ls) k gap w e → is_start k ≡ true → let q = p + length gap in
-    may_begin now broken gap ≡ true → Leaves 0 (column_at text q) ms ls n → IsLone text h 0 k q
+    may_begin now broken gap ≡ true → LeavesLevels 0 (column_at text q) ms ls n
+    → IsLone text h 0 k q
     → WordLeaves text 0 (allows_key k true false) w e then wide
     → let l = read_at text h k q true w in let m = margin_at (column_at text q) in
-    Stepped text e (line_at text q) h l w 0 (opened true m ls)
+    SteppedInWalk text e (line_at text q) h l w 0 (opened true m ls)
     (es ++ entry l n (start_of 0 m ls (level_of k)) ∷ []) then wide
     × Idle (l ∷ h)
 
@@ -114,7 +116,7 @@ OuterSteps = (text : List ℕ) (p i : ℕ) (h : List Lexeme) (ms : List ℕ) (es
     → let q = p + length gap in
     WordLeaves text 0 (allows_key k true false) w e then wide
     → let l = read_at text h k q (may_begin now broken gap) w in
-    Stepped text e (line_at text q) h l w 0 [] (es ++ entry l (length ms) opening.Nothing
+    SteppedInWalk text e (line_at text q) h l w 0 [] (es ++ entry l (length ms) opening.Nothing
     ∷ []) then wide
     × Idle (l ∷ h)
 
@@ -125,11 +127,12 @@ KeyStarts = (text : List ℕ) (p i : ℕ) (h : List Lexeme) (d : ℕ) (ms ls : L
     (now broken : Bool) (k : Kind) (gap : List ℕ) (w : WordText) (e : ℕ) (then wide : Bool)
     → Stands text p i h d ms es now broken → Idle h
     → Comes text p d (indent ls) k gap w e → may_be_key k ≡ true → let q = p + length gap in
-    may_begin now broken gap ≡ true → Leaves d (column_at text q) ms ls n
+    may_begin now broken gap ≡ true → LeavesLevels d (column_at text q) ms ls n
     → is_fresh (mark_at text q) (mark_at text w.reached) ≡ true
     → WordLeaves text (depth_after k d) (allows_key k (d == 0) false) w e then wide
     → let l = read_at text h k q true w in
-    Stepped text e (line_at text q) h l w (depth_after k d) ls (es ++ entry l n opening.Nothing
+    SteppedInWalk text e (line_at text q) h l w (depth_after k d) ls (es ++ entry l n
+    opening.Nothing
     ∷ []) then wide
     × Holds (l ∷ h) d record { number = length es; lexeme = l }
 
@@ -145,7 +148,8 @@ KeySteps = (text : List ℕ) (p i : ℕ) (h : List Lexeme) (d f : ℕ) (c : Cand
     → is_fresh c.lexeme.start (mark_at text w.reached) ≡ true
     → WordLeaves text (depth_after k f) (allows_key k (f == 0) false) w e then wide
     → let l = read_at text h k q (may_begin now broken gap) w in
-    Stepped text e (line_at text q) h l w (depth_after k f) ms (es ++ entry l 0 opening.Nothing
+    SteppedInWalk text e (line_at text q) h l w (depth_after k f) ms (es ++ entry l 0
+    opening.Nothing
     ∷ []) then wide
     × Holds (l ∷ h) d c
 
@@ -162,6 +166,6 @@ KeyStops = (text : List ℕ) (p i : ℕ) (h : List Lexeme) (d : ℕ) (ms : List 
     → WordLeaves text d false w e then wide
     → let l = read_at text h kinds.ValueMark q (may_begin now broken gap) w in
     let m = margin_at first.lexeme.start.column in
-    Stepped text e (line_at text q) h l w d (opened (not (nat_lt 0 d)) m ms)
+    SteppedInWalk text e (line_at text q) h l w d (opened (not (nat_lt 0 d)) m ms)
     ((done ++ as_key ms first ∷ rest) ++ entry l 0 opening.Nothing ∷ []) then wide
     × Idle (l ∷ h)

@@ -53,7 +53,7 @@ DeeperLeaves = (k : Kind) (f : ℕ) (a : Bool) (cs : List ℕ) → Outside f cs 
 -- A walk within the levels ls, beside which `more` are open, where no `:` is owed: what the lexemes
 -- tell, BLOCK-END for `more`, and then others, is what T makes of these. At the depths cs, those of
 -- a `?` in brackets, no candidate stands.
-pub record Reads (x : yaml_encoding_t) (text : List ℕ) (o : Where) (cs ls more : List ℕ)
+pub record WalkReads (x : yaml_encoding_t) (text : List ℕ) (o : Where) (cs ls more : List ℕ)
     (T : List TokenBody → List TokenBody) : Type 0 where
   pub lexemes : List Lexeme
   pub entries : List Entry
@@ -101,8 +101,8 @@ LevelsPart = (ls more : List ℕ) → Rises 0 (ls ++ more) → Rises 0 ls × Ris
 -- The innermost level is left to whoever opened the others: it owes a BLOCK-END.
 abbrev pub WalkEnds : Type 0
 WalkEnds = (x : yaml_encoding_t) (text : List ℕ) (o : Where) (m : ℕ) (cs ls more : List ℕ)
-    (T : List TokenBody → List TokenBody) → Reads x text o cs (ls ++ m ∷ []) more T
-    → Reads x text o cs ls (m ∷ more) (λ bs. T (block_end ∷ bs))
+    (T : List TokenBody → List TokenBody) → WalkReads x text o cs (ls ++ m ∷ []) more T
+    → WalkReads x text o cs ls (m ∷ more) (λ bs. T (block_end ∷ bs))
 
 -- ---- steps
 
@@ -117,14 +117,15 @@ behind text q e d then wide = record {
 
 abbrev pub WalkStarts : Type 0
 WalkStarts = (x : yaml_encoding_t) (text : List ℕ)
-    → Reads x text (record { at = 0; line = 0; depth = 0; now = true; broken = true }) [] [] []
+    → WalkReads x text (record { at = 0; line = 0; depth = 0; now = true; broken = true }) [] [] []
     (λ bs. stream_start x ∷ bs)
 
 abbrev pub WalkWhite : Type 0
 WalkWhite = (x : yaml_encoding_t) (text : List ℕ) (o : Where) (cs ls more : List ℕ)
     (T : List TokenBody → List TokenBody)
-    (white : List ℕ) → Reads x text o cs ls more T → HasAt text o.at white → are_gap white ≡ true
-    → Reads x text (record {
+    (white : List ℕ) → WalkReads x text o cs ls more T → HasAt text o.at white
+    → are_gap white ≡ true
+    → WalkReads x text (record {
       at = o.at + length white;
       line = o.line;
       depth = o.depth;
@@ -137,13 +138,14 @@ WalkWhite = (x : yaml_encoding_t) (text : List ℕ) (o : Where) (cs ls more : Li
 abbrev pub WalkWord : Type 0
 WalkWord = (x : yaml_encoding_t) (text : List ℕ) (o : Where) (cs ls : List ℕ)
     (T : List TokenBody → List TokenBody)
-    (k : Kind) (gap : List ℕ) (w : WordText) (e : ℕ) (then wide : Bool) → Reads x text o cs ls [] T
+    (k : Kind) (gap : List ℕ) (w : WordText) (e : ℕ) (then wide : Bool)
+    → WalkReads x text o cs ls [] T
     → LeaveClear k o.depth (may_begin o.now o.broken gap) cs
     → Comes text o.at o.depth (indent ls) k gap w e → stays_level k o.depth ≡ true
     → let q = o.at + length gap in
     IsRight o.depth ls (column_at text q) → (is_value k ≡ true → o.line < line_at text q)
     → WordLeaves text (depth_after k o.depth) (allows_key k (o.depth == 0) false) w e then wide
-    → Reads x text (behind text q e (depth_after k o.depth) then wide) cs ls [] (λ bs. T (w.body
+    → WalkReads x text (behind text q e (depth_after k o.depth) then wide) cs ls [] (λ bs. T (w.body
     ∷ bs))
 
 -- A `-` or a `?` in a block, or a `:` there on a later line than all candidates. Which level opens,
@@ -152,13 +154,13 @@ abbrev pub WalkMark : Type 0
 WalkMark = (x : yaml_encoding_t) (text : List ℕ) (o : Where) (ls more new : List ℕ) (what : Opens)
     (T : List TokenBody → List TokenBody) (k : Kind) (gap : List ℕ) (w : WordText) (e : ℕ)
     (then wide : Bool)
-    → Reads x text o [] ls more T → o.depth ≡ 0
+    → WalkReads x text o [] ls more T → o.depth ≡ 0
     → Comes text o.at 0 (indent ls) k gap w e → is_start k ≡ true → let q = o.at + length gap in
     may_begin o.now o.broken gap ≡ true → ClosesAt 0 (column_at text q) ls more
     → (is_value k ≡ true → o.line < line_at text q) → let m = margin_at (column_at text q) in
     opened true m ls ≡ new → start_of 0 m ls (level_of k) ≡ what
     → WordLeaves text 0 (allows_key k true false) w e then wide
-    → Reads x text (behind text q e 0 then wide) [] new [] (λ bs. T (start_bodies what (w.body
+    → WalkReads x text (behind text q e 0 then wide) [] new [] (λ bs. T (start_bodies what (w.body
     ∷ bs)))
 
 -- A document's mark or a directive.
@@ -166,11 +168,11 @@ abbrev pub WalkOuter : Type 0
 WalkOuter = (x : yaml_encoding_t) (text : List ℕ) (o : Where) (more : List ℕ)
     (T : List TokenBody → List TokenBody)
     (k : Kind) (gap : List ℕ) (w : WordText) (e : ℕ) (then wide : Bool)
-    → Reads x text o [] [] more T → o.depth ≡ 0
+    → WalkReads x text o [] [] more T → o.depth ≡ 0
     → Comes text o.at 0 0 k gap w e → (is_outside k && not (is_end k)) ≡ true
     → let q = o.at + length gap in
     WordLeaves text 0 (allows_key k true false) w e then wide
-    → Reads x text (behind text q e 0 then wide) [] [] [] (λ bs. T (w.body ∷ bs))
+    → WalkReads x text (behind text q e 0 then wide) [] [] [] (λ bs. T (w.body ∷ bs))
 
 -- The tokens of a text, without fault.
 pub record Done (x : yaml_encoding_t) (text : List ℕ) (bs : List TokenBody) : Type 0 where
@@ -185,7 +187,7 @@ pub record Done (x : yaml_encoding_t) (text : List ℕ) (bs : List TokenBody) : 
 abbrev pub WalkStops : Type 0
 WalkStops = (x : yaml_encoding_t) (text : List ℕ) (o : Where) (more : List ℕ)
     (T : List TokenBody → List TokenBody)
-    (gap : List ℕ) (w : WordText) (e : ℕ) → Reads x text o [] [] more T → o.depth ≡ 0
+    (gap : List ℕ) (w : WordText) (e : ℕ) → WalkReads x text o [] [] more T → o.depth ≡ 0
     → Comes text o.at 0 0 kinds.StreamEnd gap w e → Done x text (T (stream_end ∷ []))
 
 -- ---- keys
@@ -195,7 +197,7 @@ abbrev pub WalkKeyStarts : Type 0
 WalkKeyStarts = (x : yaml_encoding_t) (text : List ℕ) (o : Where) (cs ls more : List ℕ)
     (T : List TokenBody → List TokenBody)
     (k : Kind) (gap : List ℕ) (w : WordText) (e : ℕ) (then wide : Bool)
-    → Reads x text o cs ls more T
+    → WalkReads x text o cs ls more T
     → LeaveClear k o.depth true cs
     → Comes text o.at o.depth (indent ls) k gap w e → may_be_key k ≡ true
     → let q = o.at + length gap in
@@ -234,7 +236,7 @@ WalkKeyStops = (x : yaml_encoding_t) (text : List ℕ) (o : Where) (start : yaml
     → let m = margin_at start.column in
     opened (not (nat_lt 0 o.depth)) m ls ≡ new → start_of o.depth m ls opening.Mapping ≡ what
     → WordLeaves text o.depth false w e then wide
-    → Reads x text (behind text q e o.depth then wide) cs new []
+    → WalkReads x text (behind text q e o.depth then wide) cs new []
     (λ bs. T (start_bodies what (key ∷ K (w.body ∷ bs))))
 
 -- ---- `?` in brackets
@@ -243,45 +245,47 @@ WalkKeyStops = (x : yaml_encoding_t) (text : List ℕ) (o : Where) (start : yaml
 abbrev pub WalkAsks : Type 0
 WalkAsks = (x : yaml_encoding_t) (text : List ℕ) (o : Where) (cs ls : List ℕ)
     (T : List TokenBody → List TokenBody)
-    (gap : List ℕ) (w : WordText) (e : ℕ) (then wide : Bool) → Reads x text o cs ls [] T
+    (gap : List ℕ) (w : WordText) (e : ℕ) (then wide : Bool) → WalkReads x text o cs ls [] T
     → LeaveClear kinds.KeyMark o.depth (may_begin o.now o.broken gap) cs → nat_lt 0 o.depth ≡ true
     → Comes text o.at o.depth (indent ls) kinds.KeyMark gap w e → let q = o.at + length gap in
     WordLeaves text o.depth false w e then wide
-    → Reads x text (behind text q e o.depth then wide) (o.depth ∷ cs) ls [] (λ bs. T (w.body ∷ bs))
+    → WalkReads x text (behind text q e o.depth then wide) (o.depth ∷ cs) ls [] (λ bs. T (w.body ∷
+    bs))
 
 -- Its `:`, on the same line or a later one.
 abbrev pub WalkAnswers : Type 0
 WalkAnswers = (x : yaml_encoding_t) (text : List ℕ) (o : Where) (cs ls : List ℕ)
     (T : List TokenBody → List TokenBody)
-    (gap : List ℕ) (w : WordText) (e : ℕ) (then wide : Bool) → Reads x text o (o.depth ∷ cs) ls [] T
+    (gap : List ℕ) (w : WordText) (e : ℕ) (then wide : Bool)
+    → WalkReads x text o (o.depth ∷ cs) ls [] T
     → LeaveClear kinds.ValueMark o.depth (may_begin o.now o.broken gap) cs → nat_lt 0 o.depth ≡ true
     → Comes text o.at o.depth (indent ls) kinds.ValueMark gap w e → let q = o.at + length gap in
     WordLeaves text o.depth false w e then wide
-    → Reads x text (behind text q e o.depth then wide) cs ls [] (λ bs. T (w.body ∷ bs))
+    → WalkReads x text (behind text q e o.depth then wide) cs ls [] (λ bs. T (w.body ∷ bs))
 
 -- ---- words of content and of keys
 
 -- what a node's words are: content, or a key at that depth that started there
-pub data Role : Type 0 where
-  Content : Role
-  Key : ℕ → yaml_mark_t → Role
+pub data RoleInWalk : Type 0 where
+  Content : RoleInWalk
+  Key : ℕ → yaml_mark_t → RoleInWalk
 
 -- T was told before the node's words, K by them
-abbrev pub Goes : Role → yaml_encoding_t → List ℕ → Where → List ℕ → List ℕ
+abbrev pub Goes : RoleInWalk → yaml_encoding_t → List ℕ → Where → List ℕ → List ℕ
     → (List TokenBody → List TokenBody) → (List TokenBody → List TokenBody) → Type 0
-Goes Content x text o cs ls T K = Reads x text o cs ls [] (λ bs. T (K bs))
+Goes Content x text o cs ls T K = WalkReads x text o cs ls [] (λ bs. T (K bs))
 Goes (Key d start) x text o cs ls T K = ReadsKey x text o d start cs ls T K
 
 -- a further word may stand there, with nothing that may be a key of its own, on the key's line and
 -- near
-abbrev pub MayGo : Role → List ℕ → Kind → ℕ → Bool → ℕ → WordText → Type 0
+abbrev pub MayGo : RoleInWalk → List ℕ → Kind → ℕ → Bool → ℕ → WordText → Type 0
 MayGo Content text k f a q w = Unit {0}
 MayGo (Key d start) text k f a q w = IsInKey k d f a
     × (is_fresh start (mark_at text q) ≡ true) × (is_fresh start (mark_at text w.reached) ≡ true)
 
 -- A further word of a node, whichever it is.
 abbrev pub WalkGoes : Type 0
-WalkGoes = (r : Role) (x : yaml_encoding_t) (text : List ℕ) (o : Where) (cs ls : List ℕ)
+WalkGoes = (r : RoleInWalk) (x : yaml_encoding_t) (text : List ℕ) (o : Where) (cs ls : List ℕ)
     (T K : List TokenBody → List TokenBody) (k : Kind) (gap : List ℕ) (w : WordText) (e : ℕ)
     (then wide : Bool) → Goes r x text o cs ls T K
     → LeaveClear k o.depth (may_begin o.now o.broken gap) cs
@@ -299,11 +303,11 @@ WalkGoes = (r : Role) (x : yaml_encoding_t) (text : List ℕ) (o : Where) (cs ls
 -- What is told may be said otherwise, and depths may be forgotten.
 pub record WalkSays : Type 0 where
   pub other : (x : yaml_encoding_t) (text : List ℕ) (o : Where) (cs ls more : List ℕ)
-      (T U : List TokenBody → List TokenBody) → Reads x text o cs ls more T
-      → ((bs : List TokenBody) → T bs ≡ U bs) → Reads x text o cs ls more U
+      (T U : List TokenBody → List TokenBody) → WalkReads x text o cs ls more T
+      → ((bs : List TokenBody) → T bs ≡ U bs) → WalkReads x text o cs ls more U
   pub fewer : (x : yaml_encoding_t) (text : List ℕ) (o : Where) (c : ℕ) (cs ls more : List ℕ)
-      (T : List TokenBody → List TokenBody) → Reads x text o (c ∷ cs) ls more T
-      → Reads x text o cs ls more T
+      (T : List TokenBody → List TokenBody) → WalkReads x text o (c ∷ cs) ls more T
+      → WalkReads x text o cs ls more T
   pub key : (x : yaml_encoding_t) (text : List ℕ) (o : Where) (d : ℕ) (start : yaml_mark_t)
       (cs ls : List ℕ) (T K L : List TokenBody → List TokenBody)
       → ReadsKey x text o d start cs ls T K → ((bs : List TokenBody) → K bs ≡ L bs)

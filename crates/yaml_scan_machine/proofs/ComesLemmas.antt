@@ -32,9 +32,9 @@ use Rattle.yaml_scan_laws_order.proofs.HeldForward.{few_wait}
 use Rattle.yaml_scan_laws_order.proofs.RemainingForward.{fault_comes, end_comes, front_count, front_none}
 use Rattle.yaml_scan_machine.specs.declared.machine.Machine.{Machine}
 use Rattle.yaml_scan_queue.specs.declared.waiting.Waiting.{Waiting}
-use Rattle.yaml_scan_queue.specs.Waits.{Kept, kept_of}
+use Rattle.yaml_scan_queue.specs.Waits.{KeptLexeme, kept_of}
 use Rattle.yaml_scan_machine.specs.declared.next.Read.{Read as Answer}
-use Rattle.yaml_scan_machine.specs.State.{IsShort, IsMachine, GoesOn, ready_in, is_ready}
+use Rattle.yaml_scan_machine.specs.State.{IsShort, IsMachine, ReadsOneMore, ready_in, is_ready}
 use Rattle.yaml_scan_machine.specs.Shows.{Fields, fields_of, IsShown, read, settled_in, history_of, stream_of}
 use Rattle.yaml_scan_machine.specs.Reads.{GivesNext}
 use Rattle.yaml_scan_machine.specs.Stood.{Steps, IsRefused}
@@ -61,7 +61,7 @@ refused_any m (Ok r) g = tt
 refused_any m (Err e) g = refused_by m e g
 
 -- what is to come stays
-pub goes_same : (old new : Machine) → GoesOn old new → to_come new ≡ to_come old
+pub goes_same : (old new : Machine) → ReadsOneMore old new → to_come new ≡ to_come old
 goes_same old new g =
     ap (λ (x : yaml_encoding_t). remaining record { encoding = x; text = text_bytes new.text } new.dropped new.given) g.encoding
     ∙ ap (λ (t : List ℕ). remaining record { encoding = old.encoding; text = t } new.dropped new.given) (ap text_bytes g.text)
@@ -144,7 +144,7 @@ fault_machine m (errors.Fault p) i stuck more r =
           let z = no_entry in
           let (here, inside) = front_is f (kept_of w) (map (λ (x : Waiting). kept_of x) rest) z s (ap (λ ws. map (λ (x : Waiting). kept_of x) ws) is) in
           let count = front_count (entries h) (first_open h h) z (omega arith) in
-          let ends : (get_or (entries h) (first_open h h) z).ends ≡ w.ends = ap (λ k. (get_or (entries h) k z).ends) at ∙ ap (λ (x : Kept). x.ends) here in
+          let ends : (get_or (entries h) (first_open h h) z).ends ≡ w.ends = ap (λ k. (get_or (entries h) k z).ends) at ∙ ap (λ (x : KeptLexeme). x.ends) here in
           ap (λ k. remaining (stream_of m) k m.given) (sym at) ∙ fault_comes (stream_of m) n p m.given r (omega (arith, count, ends, few))
     ]
 
@@ -196,7 +196,7 @@ told_decoding m f off (inr fault) =
 
 -- what a step answers
 pub steps_on : (old new : Machine) (f : Fault) (b : Bool) → b ≡ true → Steps old new f b
-    → IsMachine new × GoesOn old new
+    → IsMachine new × ReadsOneMore old new
 steps_on old new f true e s = s
 steps_on old new f false e s = cc
 

@@ -8,9 +8,9 @@ use Rattle.yaml_scan_model.specs.declared.name.yaml_encoding_t.{yaml_encoding_t}
 use Rattle.yaml_scan_history.specs.History.{entries, first_open, levels}
 use Rattle.yaml_scan_history.specs.Next.{history}
 use Rattle.yaml_scan_queue.specs.declared.waiting.Waiting.{Waiting}
-use Rattle.yaml_scan_queue.specs.Waits.{Kept, kept_of}
+use Rattle.yaml_scan_queue.specs.Waits.{KeptLexeme, kept_of}
 use Rattle.yaml_scan_machine.specs.Candidates.{KeyStack, AreKeys}
-use Rattle.yaml_scan_machine.specs.Shows.{Fields, Shows, IsShown, all_kept, read, settled_in, spelled}
+use Rattle.yaml_scan_machine.specs.Shows.{Fields, ShowsMachine, IsShown, all_kept, read, settled_in, spelled}
 
 -- before the first lexeme
 pub shown_start : (encoding : yaml_encoding_t) (text : List ℕ) (ws : List Waiting) (ls : List ℕ)
@@ -36,20 +36,20 @@ shown_start encoding text ws ls ks none no_level keys = rw (none, no_level) reco
 pub shown_given : (m : Fields) (n : ℕ) → IsShown m → IsShown record m { given = n }
 shown_given m n s = record { count = s.count; waiting = s.waiting; settled = s.settled; taken = s.taken; place = s.place; levels = s.levels; depth = s.depth; allowed = s.allowed; ended = s.ended; keys = s.keys }
 
-read_rest : (text : List ℕ) (d : ℕ) (e : Kept) (es : List Kept)
+read_rest : (text : List ℕ) (d : ℕ) (e : KeptLexeme) (es : List KeptLexeme)
     → read text (d + 1) es ≡ read text d (e ∷ es)
 unfolding read
 read_rest text d e es = let k : d + 1 + length es ≡ d + length (e ∷ es) = omega arith in rw k refl
 
 -- what is left where the first one is taken
-shown_rest : (m : Fields) (e : Kept) (es : List Kept) → IsShown m → m.waiting ≡ e ∷ es
+shown_rest : (m : Fields) (e : KeptLexeme) (es : List KeptLexeme) → IsShown m → m.waiting ≡ e ∷ es
     → m.dropped < m.settled → IsShown record m { waiting = es; dropped = m.dropped + 1; given = 0 }
 shown_rest m e es s wait low =
     let h = read m.text m.dropped m.waiting in
     let len : length m.waiting ≡ length es + 1 = ap length wait ∙ omega arith in
     let same : read m.text (m.dropped + 1) es ≡ h = read_rest m.text m.dropped e es ∙ ap (λ xs. read m.text m.dropped xs) (sym wait) in
     let n : Fields = record m { waiting = es; dropped = m.dropped + 1; given = 0 } in
-    subst (λ (x : List Lexeme). Shows x n) (sym same) record {
+    subst (λ (x : List Lexeme). ShowsMachine x n) (sym same) record {
       count = omega (arith, s.count, len);
       waiting = ap (λ xs. drop 1 xs) (sym wait) ∙ ap (λ xs. drop 1 xs) s.waiting ∙ drop-drop 1 m.dropped (all_kept (spelled m) (entries h));
       settled = s.settled;

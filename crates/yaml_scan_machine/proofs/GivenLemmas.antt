@@ -15,7 +15,7 @@ use Rattle.yaml_scan_history.specs.Laws.{GoesForward}
 use Rattle.yaml_scan_history.proofs.HistoryLemmas.{length-entries, length-keyed, take-entries}
 use Rattle.yaml_scan_laws_order.proofs.RemainingForward.{entries_ends}
 use Rattle.yaml_scan_queue.specs.declared.waiting.Waiting.{Waiting}
-use Rattle.yaml_scan_queue.specs.Waits.{Kept, kept_of}
+use Rattle.yaml_scan_queue.specs.Waits.{KeptLexeme, kept_of}
 use Rattle.yaml_scan_machine.specs.State.{ready_in}
 use Rattle.yaml_scan_machine.specs.Shows.{Fields, IsShown, read, kept_in, spelled}
 use Rattle.yaml_scan_queue.specs.Front.{front_at}
@@ -25,13 +25,14 @@ use Rattle.yaml_scan_machine.proofs.MarkLemmas.{further_on, settled_open}
 use Rattle.yaml_scan_machine.proofs.SpellLemmas.{Counts, front_counts}
 
 -- the first lexeme that waits is the one of that number
-pub front_is : (m : Fields) (k : Kept) (ks : List Kept) (x : Entry) → IsShown m → m.waiting ≡ k ∷ ks
+pub front_is : (m : Fields) (k : KeptLexeme) (ks : List KeptLexeme) (x : Entry) → IsShown m
+    → m.waiting ≡ k ∷ ks
     → let h = read m.text m.dropped m.waiting in
     (kept_in (spelled m) (get_or (entries h) m.dropped x) ≡ k) × (m.dropped < length h)
 front_is m k ks x s wait =
     let h = read m.text m.dropped m.waiting in
-    let f : Entry → Kept = λ e. kept_in (spelled m) e in
-    let len : length m.waiting ≡ length ks + 1 = ap (λ (xs : List Kept). length xs) wait ∙ omega arith in
+    let f : Entry → KeptLexeme = λ e. kept_in (spelled m) e in
+    let len : length m.waiting ≡ length ks + 1 = ap (λ (xs : List KeptLexeme). length xs) wait ∙ omega arith in
     let low : m.dropped < length h = omega (arith, s.count, len) in
     let z : m.dropped + 0 ≡ m.dropped = omega arith in
     let here : get_or (map f (entries h)) (m.dropped + 0) (f x) ≡ k = sym (get_or-drop m.dropped (map f (entries h)) 0 (f x)) ∙ ap (λ xs. get_or xs 0 (f x)) (sym s.waiting ∙ wait) in
@@ -42,7 +43,7 @@ abbrev pub no_entry : Entry
 no_entry = record { lexeme = first_lexeme; ends = 0; opens = opening.Nothing; key = false }
 
 -- one more lexeme leaves how much of the first one is taken
-given_lists : (m x : Fields) (l : Lexeme) (ws xs : List Kept) → IsShown m → IsShown x
+given_lists : (m x : Fields) (l : Lexeme) (ws xs : List KeptLexeme) → IsShown m → IsShown x
     → GoesForward m.text → let h = read m.text m.dropped m.waiting in next m.text h ≡ Read l
     → read x.text x.dropped x.waiting ≡ l ∷ h
     → x.dropped ≡ m.dropped → x.given ≡ m.given → m.settled ≤ x.settled → m.waiting ≡ ws
@@ -64,7 +65,7 @@ given_lists m x l (w ∷ ws) (y ∷ ys) s t go e more drops gives grows wait now
     elim given [
       | inl few ↦
           let (same, lexeme) = entries_ends l h m.dropped z low in
-          let ends : y.ends ≡ w.ends = ap (λ (k : Kept). k.ends) (sym new) ∙ ap (λ (e : Entry). e.ends) (sym here) ∙ same ∙ ap (λ (k : Kept). k.ends) old in
+          let ends : y.ends ≡ w.ends = ap (λ (k : KeptLexeme). k.ends) (sym new) ∙ ap (λ (e : Entry). e.ends) (sym here) ∙ same ∙ ap (λ (k : KeptLexeme). k.ends) old in
           inl (omega (arith, gives, few, ends))
       | inr (settled, few) ↦
           let first = settled_open m l s e in
@@ -72,7 +73,7 @@ given_lists m x l (w ∷ ws) (y ∷ ys) s t go e more drops gives grows wait now
           let kept = take-entries l h (suc m.dropped) near (omega (arith, first, settled)) in
           let taken : (es : List Entry) → get_or (take (suc m.dropped) es) m.dropped z ≡ get_or es m.dropped z = λ es. get_or-take (suc m.dropped) es m.dropped z (omega arith) in
           let is = sym here ∙ sym (taken (entries (l ∷ h))) ∙ ap (λ es. get_or es m.dropped z) kept ∙ taken (entries h) in
-          let count : front_count y ≡ front_count w = ap (λ (k : Kept). front_count k) (sym new) ∙ ap (λ (e : Entry). front_count (kept_in (spelled m) e)) is ∙ ap (λ (k : Kept). front_count k) old in
+          let count : front_count y ≡ front_count w = ap (λ (k : KeptLexeme). front_count k) (sym new) ∙ ap (λ (e : Entry). front_count (kept_in (spelled m) e)) is ∙ ap (λ (k : KeptLexeme). front_count k) old in
           inr (omega (arith, drops, settled, grows), omega (arith, gives, few, count))
     ]
 
@@ -83,24 +84,26 @@ pub given_goes : (m x : Fields) (l : Lexeme) → IsShown m → IsShown x → Goe
 given_goes m x l s t go e more drops gives grows given = given_lists m x l m.waiting x.waiting s t go e more drops gives grows refl refl given
 
 -- nothing is taken of the next one
-pub given_none : (d s : ℕ) (es : List Kept) → given_in d s 0 es
+pub given_none : (d s : ℕ) (es : List KeptLexeme) → given_in d s 0 es
 given_none d s [] = refl
 given_none d s (e ∷ es) = inl (omega arith)
 
 -- no more is taken than stands in front
-pub given_few : (d s g : ℕ) (e : Kept) (es : List Kept) → given_in d s g (e ∷ es)
+pub given_few : (d s g : ℕ) (e : KeptLexeme) (es : List KeptLexeme) → given_in d s g (e ∷ es)
     → g ≤ front_count e
 given_few d s g e es (inl low) = omega (arith, low)
 given_few d s g e es (inr (settled, low)) = low
 
-pub front_room : (e : Kept) (g : ℕ) (b : TokenBody) → front_at e g ≡ Some b → g < front_count e
+pub front_room : (e : KeptLexeme) (g : ℕ) (b : TokenBody) → front_at e g ≡ Some b
+    → g < front_count e
 front_room e g b some = subst (λ o. Counts (front_count e) g o) some (front_counts e g)
 
-pub front_done : (e : Kept) (g : ℕ) → front_at e g ≡ None → front_count e ≤ g
+pub front_done : (e : KeptLexeme) (g : ℕ) → front_at e g ≡ None → front_count e ≤ g
 front_done e g none = subst (λ o. Counts (front_count e) g o) none (front_counts e g)
 
 -- one more of the tokens in front is taken
-pub given_more : (d s g : ℕ) (w : Waiting) (ws : List Waiting) (es : List Kept) (b : TokenBody)
+pub given_more : (d s g : ℕ) (w : Waiting) (ws : List Waiting) (es : List KeptLexeme) (b :
+    TokenBody)
     → ready_in d s g (w ∷ ws) ≡ true → front_at (kept_of w) g ≡ Some b
     → given_in d s (g + 1) (kept_of w ∷ es)
 given_more d s g w ws es b ready some =

@@ -11,7 +11,7 @@ use Rattle.yaml_scan_history.specs.declared.lexeme.Entry.{Entry}
 use Rattle.yaml_scan_history.specs.declared.lexeme.Opens.TheVariants as opening
 use Rattle.std.specs.Prelude.{map}
 use Rattle.yaml_scan_queue.specs.declared.waiting.Waiting.{Waiting}
-use Rattle.yaml_scan_queue.specs.Waits.{Kept, kept_of}
+use Rattle.yaml_scan_queue.specs.Waits.{KeptLexeme, kept_of}
 use Rattle.yaml_scan_machine.specs.Shows.{Fields, IsShown, kept_in, read, spelled, fields_of, history_of}
 use Rattle.yaml_scan_history.specs.Next.{Read, history, missed, next}
 use Rattle.yaml_scan_history.specs.Laws.{Upto, GoesForward}
@@ -421,10 +421,10 @@ key_waits m ws p n s wait more u is =
     let low : m.dropped ≤ n = omega (arith, least, now, s.taken) in
     let i : ℕ = n - m.dropped in
     let at : c.number ≡ m.dropped + i = omega (arith, low, number) in
-    let g : Waiting → Kept = λ x. kept_of x in
-    let len : length m.waiting ≡ length ws = ap (λ (ks : List Kept). length ks) wait ∙ length-map ws g in
+    let g : Waiting → KeptLexeme = λ x. kept_of x in
+    let len : length m.waiting ≡ length ws = ap (λ (ks : List KeptLexeme). length ks) wait ∙ length-map ws g in
     let room : i < length ws = omega (arith, below, number, s.count, len, low) in
-    let f : Entry → Kept = λ e. kept_in (spelled m) e in
+    let f : Entry → KeptLexeme = λ e. kept_in (spelled m) e in
     let z : Entry = record { lexeme = c.lexeme; ends = 0; opens = opening.Nothing; key = false } in
     let inside : c.number < length (entries h) = omega (arith, below, length-entries h) in (
       low,
@@ -434,8 +434,8 @@ key_waits m ws p n s wait more u is =
         here,
         at,
         λ w.
-            let there : g (get_or ws i w) ≡ f (get_or (entries h) c.number z) = sym (get_or-map g ws i w (f z) room) ∙ ap (λ (ks : List Kept). get_or ks i (f z)) (sym wait ∙ s.waiting) ∙ get_or-drop m.dropped (map f (entries h)) i (f z) ∙ ap (λ k. get_or (map f (entries h)) k (f z)) (sym at) ∙ get_or-map f (entries h) c.number z (f z) inside in
-            ap (λ (k : Kept). k.start) there ∙ ap (λ (l : Lexeme). l.start) (start_is m.depth h c z isc),
+            let there : g (get_or ws i w) ≡ f (get_or (entries h) c.number z) = sym (get_or-map g ws i w (f z) room) ∙ ap (λ (ks : List KeptLexeme). get_or ks i (f z)) (sym wait ∙ s.waiting) ∙ get_or-drop m.dropped (map f (entries h)) i (f z) ∙ ap (λ k. get_or (map f (entries h)) k (f z)) (sym at) ∙ get_or-map f (entries h) c.number z (f z) inside in
+            ap (λ (k : KeptLexeme). k.start) there ∙ ap (λ (l : Lexeme). l.start) (start_is m.depth h c z isc),
       ),
     )
 

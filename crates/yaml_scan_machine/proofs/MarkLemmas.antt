@@ -15,8 +15,8 @@ use Rattle.yaml_scan_history.specs.Next.{history, Read, Ends, next}
 use Rattle.yaml_scan_history.specs.Laws.{Upto, GoesForward}
 use Rattle.yaml_scan_machine.proofs.ReadLemmas.{next_is, first_is, begun_at, finished_depth}
 use Rattle.yaml_scan_machine.specs.Candidates.{AreKeys}
-use Rattle.yaml_scan_machine.specs.Shows.{Fields, Shows, IsShown, all_kept, kept_in, read, settled_in, spelled}
-use Rattle.yaml_scan_queue.specs.Waits.{Kept, kept_of, keyed as marked}
+use Rattle.yaml_scan_machine.specs.Shows.{Fields, ShowsMachine, IsShown, all_kept, kept_in, read, settled_in, spelled}
+use Rattle.yaml_scan_queue.specs.Waits.{KeptLexeme, kept_of, keyed as marked}
 use Rattle.yaml_scan_model.specs.declared.name.yaml_encoding_t.{yaml_encoding_t}
 use Rattle.yaml_scan_history.specs.Remaining.{SpelledText}
 use Rattle.yaml_scan_history.proofs.HistoryLemmas.{candidate_below, fresh_is, length-entries, length-keyed, first_open-le, first_open-grows}
@@ -29,7 +29,7 @@ next_ended text [] e = cc
 next_ended text (l ∷ h) e = rw e refl
 
 -- what is read next stands behind what was reached
-pub further_on : (text : List ℕ) (d : ℕ) (es : List Kept) (l : Lexeme) → GoesForward text
+pub further_on : (text : List ℕ) (d : ℕ) (es : List KeptLexeme) (l : Lexeme) → GoesForward text
     → next text (read text d es) ≡ Read l
     → Upto (reached (read text d es)) l.start × Upto l.start l.reached
 unfolding read
@@ -58,7 +58,7 @@ as_key_set ls (x ∷ es) zero e lt is = rw (← is) refl
 as_key_set ls (x ∷ es) (suc i) e lt is = ap (λ r. x ∷ r) (as_key_set ls es i e (omega arith) is)
 
 -- what waited, as a lexeme leaves it
-abbrev pub kept_entries : Fields → Lexeme → List Kept
+abbrev pub kept_entries : Fields → Lexeme → List KeptLexeme
 kept_entries m l = drop m.dropped (all_kept (spelled m) (keyed l (read m.text m.dropped m.waiting) (entries (read m.text m.dropped m.waiting))))
 
 -- what waits, where a `:` makes a key of one of them
@@ -70,8 +70,8 @@ pub keyed_some : (m : Fields) (ws : List Waiting) (w : Waiting) (c : Candidate) 
     → map (λ (x : Waiting). kept_of x) (set ws i (marked opens w)) ≡ kept_entries m l
 keyed_some m ws w c i l opens s wait is lt value found number so =
     let h = read m.text m.dropped m.waiting in
-    let g : Waiting → Kept = λ x. kept_of x in
-    let f : Entry → Kept = λ e. kept_in (spelled m) e in
+    let g : Waiting → KeptLexeme = λ x. kept_of x in
+    let f : Entry → KeptLexeme = λ e. kept_in (spelled m) e in
     let es = entries h in
     let ls = inside l h in
     let all = map f es in
@@ -81,19 +81,19 @@ keyed_some m ws w c i l opens s wait is lt value found number so =
     let low : c.number < length es = omega (arith, candidate_below l.depth h c isc, length-entries h) in
     let lexeme : e.lexeme ≡ c.lexeme = start_is l.depth h c z isc in
     let waits : map g ws ≡ drop m.dropped all = sym wait ∙ s.waiting in
-    let kept : g w ≡ f e = ap g is ∙ sym (get_or-map g ws i w (f z) lt) ∙ ap (λ (xs : List Kept). get_or xs i (f z)) waits ∙ get_or-drop m.dropped all i (f z) ∙ ap (λ k. get_or all k (f z)) (sym number) ∙ get_or-map f es c.number z (f z) low in
-    let mark : Opens → Kept → Kept = λ o k. record k { opens = o; key = true } in
+    let kept : g w ≡ f e = ap g is ∙ sym (get_or-map g ws i w (f z) lt) ∙ ap (λ (xs : List KeptLexeme). get_or xs i (f z)) waits ∙ get_or-drop m.dropped all i (f z) ∙ ap (λ k. get_or all k (f z)) (sym number) ∙ get_or-map f es c.number z (f z) low in
+    let mark : Opens → KeptLexeme → KeptLexeme = λ o k. record k { opens = o; key = true } in
     let opens_at : opens ≡ start_of e.lexeme.depth (e.lexeme.start.column + 1) ls opening.Mapping = so ∙ ap (λ (x : Lexeme). start_of x.depth (x.start.column + 1) ls opening.Mapping) (sym lexeme) in
     let now : mark opens (g w) ≡ f (as_key ls e) = ap (mark opens) kept ∙ ap (λ o. mark o (f e)) opens_at in
     let is_keyed : keyed l h es ≡ mark_key ls es c.number = rw (value, found) refl in
     let one : mark_key ls es c.number ≡ set es c.number (as_key ls e) = as_key_set ls es c.number e low (get_or_default es c.number z e low) in
     map-set g ws i (marked opens w)
-    ∙ ap (λ (xs : List Kept). set xs i (mark opens (g w))) waits ∙ ap (λ (k : Kept). set (drop m.dropped all) i k) now
+    ∙ ap (λ (xs : List KeptLexeme). set xs i (mark opens (g w))) waits ∙ ap (λ (k : KeptLexeme). set (drop m.dropped all) i k) now
     ∙ sym (drop-set-add m.dropped all i (f (as_key ls e))) ∙ ap (λ k. drop m.dropped (set all k (f (as_key ls e)))) (sym number)
-    ∙ ap (λ (xs : List Kept). drop m.dropped xs) (sym (map-set f es c.number (as_key ls e)))
+    ∙ ap (λ (xs : List KeptLexeme). drop m.dropped xs) (sym (map-set f es c.number (as_key ls e)))
     ∙ ap (λ (xs : List Entry). drop m.dropped (map f xs)) (sym (is_keyed ∙ one))
 
-pub read_more : (m : Fields) (l : Lexeme) (xs : List Kept)
+pub read_more : (m : Fields) (l : Lexeme) (xs : List KeptLexeme)
     → next m.text (read m.text m.dropped m.waiting) ≡ Read l → length xs ≡ length m.waiting + 1
     → read m.text m.dropped xs ≡ l ∷ read m.text m.dropped m.waiting
 unfolding read history
@@ -137,12 +137,12 @@ pushed_waiting : (m x : Fields) (l : Lexeme) → IsShown m → IsPushed m l x
 unfolding entries
 pushed_waiting m x l s p =
     let h = read m.text m.dropped m.waiting in
-    let f : Entry → Kept = λ e. kept_in (spelled m) e in
+    let f : Entry → KeptLexeme = λ e. kept_in (spelled m) e in
     let ks = keyed l h (entries h) in
     let e = entry_of l h in
     let same : spelled m ≡ spelled x = ap (λ (t : List ℕ). record { encoding = m.encoding; text = t }) (sym p.text) ∙ ap (λ (n : yaml_encoding_t). record { encoding = n; text = x.text }) (sym p.encoding) in
     p.waiting ∙ sym (drop-append-le m.dropped (map f ks) (f e ∷ []) (omega (arith, length-map ks f, length-keyed l h (entries h), length-entries h, s.count)))
-    ∙ ap (λ (xs : List Kept). drop m.dropped xs) (sym (map-append f ks (e ∷ []))) ∙ ap (λ d. drop d (map f (ks ++ e ∷ []))) (sym p.dropped)
+    ∙ ap (λ (xs : List KeptLexeme). drop m.dropped xs) (sym (map-append f ks (e ∷ []))) ∙ ap (λ d. drop d (map f (ks ++ e ∷ []))) (sym p.dropped)
     ∙ ap (λ (t : SpelledText). drop x.dropped (all_kept t (ks ++ e ∷ []))) same
 
 -- what is settled grows, and is read
@@ -164,7 +164,7 @@ pub shown_by : (m x : Fields) (l : Lexeme) → GoesForward m.text → IsShown m
 shown_by m x l go s e p now =
     let len = pushed_length m x l s p in
     let grows = settled_grows m l go s e in
-    subst (λ (y : List Lexeme). Shows y x) (sym (read_pushed m x l s e p)) record {
+    subst (λ (y : List Lexeme). ShowsMachine y x) (sym (read_pushed m x l s e p)) record {
       count = omega (arith, s.count, len, p.dropped);
       waiting = pushed_waiting m x l s p;
       settled = now;

@@ -18,7 +18,7 @@ use Rattle.yaml_scan_laws_order.proofs.HistoryForward.{steps_below}
 use Rattle.yaml_scan_machine.specs.declared.machine.Machine.{Machine}
 use Rattle.yaml_scan_queue.specs.declared.waiting.Waiting.{Waiting}
 use Rattle.yaml_scan_machine.specs.Shows.{Fields, fields_of, IsShown, all_kept, kept_in, read, settled_in, spelled, Picks, history_of, stream_of}
-use Rattle.yaml_scan_queue.specs.Waits.{Kept, kept_of, keyed as marked}
+use Rattle.yaml_scan_queue.specs.Waits.{KeptLexeme, kept_of, keyed as marked}
 use Rattle.yaml_scan_machine.specs.Reads.{MarksKey, IsColumn, opens_for, keyed_by}
 use Rattle.std.proofs.lemmas.List.{get_or_default}
 use Rattle.yaml_scan_history.proofs.HistoryLemmas.{fresh_is}
@@ -140,7 +140,7 @@ pub kept_is : (mc : Machine) (l : Lexeme) (h : List Lexeme) (key : Option ℕ) (
 kept_is mc l h key column ends found o here b old lv was left many has_key picks at opens is body =
     let open_to : here ≡ opens_of (found_by l h) l (inside l h) = is ∙ ap (λ b. cond b opening.Nothing o) has_key ∙ opens_is mc l h key column o picks at (opens ∙ ap (λ ls. opens_for l.kind l.depth column ls) left) in
     let closed : ends ≡ length (levels h) - length (inside l h) = many ∙ ap (λ ls. length ls - length lv) was ∙ ap (λ ls. length (levels h) - length ls) left in
-    let k : ℕ → Opens → TokenBody → Kept = λ n y c. record { start = l.start; end = l.end; ends = n; opens = y; key = false; body = c } in
+    let k : ℕ → Opens → TokenBody → KeptLexeme = λ n y c. record { start = l.start; end = l.end; ends = n; opens = y; key = false; body = c } in
     ap (λ n. k n here b) closed ∙ ap (λ y. k (length (levels h) - length (inside l h)) y b) open_to ∙ ap (λ c. k (length (levels h) - length (inside l h)) (opens_of (found_by l h) l (inside l h)) c) body
 
 -- there is room for one lexeme more

@@ -10,7 +10,7 @@ use Rattle.yaml_scan_history.specs.declared.lexeme.Opens.{Opens}
 use Rattle.yaml_scan_history.specs.declared.lexeme.Opens.TheVariants as opening
 use Rattle.yaml_scan_history.specs.Remaining.{SpelledText, before, token_in, start_tokens, end_tokens, own_tokens, spell}
 use Rattle.yaml_scan_queue.specs.Front.{key_at, start_at, front_at, start_count, key_count}
-use Rattle.yaml_scan_queue.specs.Waits.{Kept}
+use Rattle.yaml_scan_queue.specs.Waits.{KeptLexeme}
 use Rattle.yaml_scan_machine.specs.Shows.{kept_in}
 use Rattle.yaml_scan_machine.specs.Taken.{front_count, fronted}
 
@@ -45,7 +45,7 @@ start_counts opening.Nothing k n = let z : 0 + key_count k ≡ key_count k = ome
 start_counts opening.Sequence k n = behind_counts block_sequence_start k n
 start_counts opening.Mapping k n = behind_counts block_mapping_start k n
 
-pub front_counts : (e : Kept) (n : ℕ) → Counts (front_count e) n (front_at e n)
+pub front_counts : (e : KeptLexeme) (n : ℕ) → Counts (front_count e) n (front_at e n)
 front_counts e n =
     elim (cases_lt n e.ends) [
       | inl more ↦ let t : ltb n e.ends ≡ true = grind (arith, nat_tests) in rw t (omega arith)
@@ -61,7 +61,7 @@ start_count-le opening.Mapping false = omega arith
 start_count-le opening.Mapping true = omega arith
 
 -- at most a block start and KEY stand behind the levels that a lexeme closes
-pub front_count-le : (e : Kept) → front_count e ≤ e.ends + 2
+pub front_count-le : (e : KeptLexeme) → front_count e ≤ e.ends + 2
 front_count-le e = let low = start_count-le e.opens e.key in omega (arith, low)
 
 -- KEY, then the own token

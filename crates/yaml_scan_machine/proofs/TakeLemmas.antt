@@ -14,7 +14,7 @@ use Rattle.yaml_scan_laws_order.specs.Fronts.{GivesFirst}
 use Rattle.yaml_scan_laws_order.proofs.RemainingForward.{settled_comes, last_comes, ends_token}
 use Rattle.yaml_scan_machine.specs.declared.machine.Machine.{Machine}
 use Rattle.yaml_scan_queue.specs.declared.waiting.Waiting.{Waiting}
-use Rattle.yaml_scan_queue.specs.Waits.{Kept, kept_of}
+use Rattle.yaml_scan_queue.specs.Waits.{KeptLexeme, kept_of}
 use Rattle.yaml_scan_machine.specs.State.{IsMachine, is_ready, ready_in}
 use Rattle.yaml_scan_machine.specs.Shows.{Fields, fields_of, IsShown, kept_in, read, history_of, stream_of}
 use Rattle.yaml_scan_queue.specs.Front.{front_at}
@@ -52,7 +52,7 @@ token_gives s n k given e t (inl low) = settled_comes s n k given e t low
 token_gives s n k given e t (inr (over, low)) = last_comes s n k given e t over low
 
 -- a lexeme that is known gives its tokens
-settled_front : (m : Machine) (k : Kept) (ks : List Kept) → IsMachine m
+settled_front : (m : Machine) (k : KeptLexeme) (ks : List KeptLexeme) → IsMachine m
     → (fields_of m).waiting ≡ k ∷ ks → m.dropped < m.settled → m.given ≤ front_count k
     → GivesFirst (to_come m) (fronted (own_token k) (front_at k m.given))
     (remaining (stream_of m) m.dropped (m.given + 1))
@@ -69,16 +69,16 @@ settled_front m k ks i wait low few =
     let known = known_by f i.shown low in
     let (now, end) = token_gives s n m.dropped m.given no_entry no_token known in
     let (more, done) = token_gives s n m.dropped (m.given + 1) no_entry no_token known in
-    let count : front_count (kept_in s x) ≡ front_count k = ap (λ (y : Kept). front_count y) here in
+    let count : front_count (kept_in s x) ≡ front_count k = ap (λ (y : KeptLexeme). front_count y) here in
     let long : length (spell s x) ≡ front_count k + 1 = spell_length s x ∙ ap (λ (n : ℕ). n + 1) count in
-    let is : get_or (spell s x) m.given no_token ≡ fronted (own_token k) (front_at k m.given) = spell_token s x m.given no_token (omega (arith, few, count)) ∙ ap (λ (y : Kept). fronted (own_token y) (front_at y m.given)) here in
+    let is : get_or (spell s x) m.given no_token ≡ fronted (own_token k) (front_at k m.given) = spell_token s x m.given no_token (omega (arith, few, count)) ∙ ap (λ (y : KeptLexeme). fronted (own_token y) (front_at y m.given)) here in
     let (tokens, fault) = now (omega (arith, long, few)) in (
       (tokens ∙ ap (λ t. t ∷ (remaining s m.dropped (m.given + 1)).tokens) is, fault),
       λ none. let past = front_done k m.given none in done (omega (arith, long, few, past)),
     )
 
 -- the levels that the first lexeme closes come first
-ends_front : (m : Machine) (k : Kept) (ks : List Kept) → IsMachine m
+ends_front : (m : Machine) (k : KeptLexeme) (ks : List KeptLexeme) → IsMachine m
     → (fields_of m).waiting ≡ k ∷ ks → m.ended ≡ false → m.given < k.ends
     → GivesFirst (to_come m) (fronted (own_token k) (Some block_end))
     (remaining (stream_of m) m.dropped (m.given + 1))
@@ -90,9 +90,9 @@ ends_front m k ks i wait more few =
     let h = history_of m in
     let (here, inside) = front_is f k ks no_entry i.shown wait in
     let first = settled_first f i.shown more in
-    let count : (get_or (entries h) m.dropped no_entry).ends ≡ k.ends = ap (λ (x : Kept). x.ends) here in
+    let count : (get_or (entries h) m.dropped no_entry).ends ≡ k.ends = ap (λ (x : KeptLexeme). x.ends) here in
     let (tokens, fault) = ends_token s n m.dropped m.given no_entry (omega (arith, first, i.taken)) inside (omega (arith, count, few)) in
-    (tokens ∙ ap (λ (x : Kept). fronted (own_token x) (Some block_end) ∷ (remaining s m.dropped (m.given + 1)).tokens) here, fault)
+    (tokens ∙ ap (λ (x : KeptLexeme). fronted (own_token x) (Some block_end) ∷ (remaining s m.dropped (m.given + 1)).tokens) here, fault)
 
 -- the token in front of the first lexeme is what comes
 pub gives_front : (m : Machine) (w : Waiting) (rest : List Waiting) (b : TokenBody) → IsMachine m
@@ -148,7 +148,7 @@ given_room m w rest b i items some =
     let wait : f.waiting ≡ kept_of w ∷ map (λ (x : Waiting). kept_of x) rest = ap (λ ws. map (λ (x : Waiting). kept_of x) ws) items in
     let (here, inside) = front_is f (kept_of w) (map (λ (x : Waiting). kept_of x) rest) no_entry i.shown wait in
     let few = ends_few (history_of m) m.dropped no_entry inside in
-    let ends : (get_or (entries (history_of m)) m.dropped no_entry).ends ≡ w.ends = ap (λ (x : Kept). x.ends) here in
+    let ends : (get_or (entries (history_of m)) m.dropped no_entry).ends ≡ w.ends = ap (λ (x : KeptLexeme). x.ends) here in
     let long = length-map m.waiting.items (λ (x : Waiting). kept_of x) in
     let room = front_room (kept_of w) m.given b some in
     let two = front_count-le (kept_of w) in

@@ -11,10 +11,10 @@ use Rattle.yaml_scan_history.specs.Remaining.{SpelledText, body_in}
 use Rattle.yaml_scan_machine.specs.declared.machine.Machine.{Machine}
 use Rattle.yaml_scan_machine.specs.Candidates.{KeyStack, stack_of, AreKeys}
 use Rattle.yaml_scan_queue.specs.declared.waiting.Waiting.{Waiting}
-use Rattle.yaml_scan_queue.specs.Waits.{Kept, kept_of}
+use Rattle.yaml_scan_queue.specs.Waits.{KeptLexeme, kept_of}
 
 -- what is kept of an entry of a text
-abbrev pub kept_in : SpelledText → Entry → Kept
+abbrev pub kept_in : SpelledText → Entry → KeptLexeme
 kept_in s e = record {
   start = e.lexeme.start;
   end = e.lexeme.end;
@@ -25,14 +25,14 @@ kept_in s e = record {
 }
 
 -- the same of each entry
-abbrev pub all_kept : SpelledText → List Entry → List Kept
+abbrev pub all_kept : SpelledText → List Entry → List KeptLexeme
 all_kept s es = map (λ e. kept_in s e) es
 
 -- the fields of a machine, seen as numbers and lists
 pub record Fields : Type 0 where
   pub encoding : yaml_encoding_t
   pub text : List ℕ
-  pub waiting : List Kept
+  pub waiting : List KeptLexeme
   pub keys : KeyStack
   pub dropped : ℕ
   pub given : ℕ
@@ -64,7 +64,7 @@ abbrev pub spelled : Fields → SpelledText
 spelled m = record { encoding = m.encoding; text = m.text }
 
 -- the lexemes that were read so far
-unfoldable pub read : List ℕ → ℕ → List Kept → List Lexeme
+unfoldable pub read : List ℕ → ℕ → List KeptLexeme → List Lexeme
 read text dropped waiting = history text (dropped + length waiting)
 
 -- How many lexemes no later one changes: those before the earliest open candidate, or all at the end.
@@ -72,7 +72,7 @@ unfoldable pub settled_in : List Lexeme → ℕ
 settled_in h = if ended h then length h else first_open h h
 
 -- the fields that stand for a history
-pub record Shows (h : List Lexeme) (m : Fields) : Type 0 where
+pub record ShowsMachine (h : List Lexeme) (m : Fields) : Type 0 where
   pub count : length h ≡ m.dropped + length m.waiting
   pub waiting : m.waiting ≡ drop m.dropped (all_kept (spelled m) (entries h))
   pub settled : m.settled ≡ settled_in h
@@ -85,7 +85,7 @@ pub record Shows (h : List Lexeme) (m : Fields) : Type 0 where
   pub keys : AreKeys m.keys h m.place
 
 abbrev pub IsShown : Fields → Type 0
-IsShown m = Shows (read m.text m.dropped m.waiting) m
+IsShown m = ShowsMachine (read m.text m.dropped m.waiting) m
 
 -- the lexemes that a machine has read
 abbrev pub history_of : Machine → List Lexeme

@@ -75,7 +75,7 @@ pub record IsNext (m : Machine) (r : Read) : Type 0 where
   pub place : is_end r.lexeme.kind ≡ false → IsPlace (text_bytes m.text) r.lexeme.reached
 
 -- one lexeme more waits
-pub record GoesOn (old new : Machine) : Type 0 where
+pub record ReadsOneMore (old new : Machine) : Type 0 where
   pub text : new.text ≡ old.text
   pub dropped : new.dropped ≡ old.dropped
   pub given : new.given ≡ old.given
@@ -91,7 +91,7 @@ TellsUtf8 m f = encoding_of m.setting m.input.now ≡ YAML_UTF8_ENCODING
     → decoding_fault m.setting m.input.now ≡ Some f
 
 -- the input is the same, and as many lexemes of it were read
-pub record Keeps (old new : Machine) : Type 0 where
+pub record KeepsInput (old new : Machine) : Type 0 where
   pub setting : new.setting ≡ old.setting
   pub bytes : new.input.now ≡ old.input.now
   pub read : new.dropped + length new.waiting.items ≡ old.dropped + length old.waiting.items

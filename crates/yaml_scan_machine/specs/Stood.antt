@@ -17,10 +17,10 @@ use Rattle.yaml_scan_machine.specs.Shows.{history_of}
 use Rattle.yaml_scan_machine.specs.Reads.{required_in, late, GivesNext}
 use Rattle.yaml_scan_machine.specs.Comes.{Refused}
 use Rattle.yaml_scan_machine.specs.Left.{IsLocated}
-use Rattle.yaml_scan_machine.specs.State.{IsPlace, IsShort, IsMachine, IsNext, GoesOn, is_ready}
+use Rattle.yaml_scan_machine.specs.State.{IsPlace, IsShort, IsMachine, IsNext, ReadsOneMore, is_ready}
 
 -- a lexeme of a kind stands there, and comes next
-pub record IsStand (m : Machine) (k : Kind) (s : Spot) : Type 0 where
+pub record StandsAsNext (m : Machine) (k : Kind) (s : Spot) : Type 0 where
   pub place : IsPlace (text_bytes m.text) s.mark
   pub kind : Stands k (nat_lt 0 m.depth) (text_bytes m.text) s.mark.index
   pub forward : Upto (reached (history_of m)) s.mark
@@ -49,7 +49,7 @@ pub record MayRead (m : Machine) : Type 0 where
 -- a lexeme of a kind is to be read, which stands there
 pub record MayReadAt (m : Machine) (k : Kind) (s : Spot) : Type 0 where
   pub may : MayRead m
-  pub stand : IsStand m k s
+  pub stand : StandsAsNext m k s
 
 -- the fault of a refusal of the next lexeme
 abbrev pub IsRefused : Machine → Fault → Type 0
@@ -57,5 +57,5 @@ IsRefused m f = (e : ScanError) × (Refused m e) × (IsLocated e f)
 
 -- one lexeme more waits (true), or that fault is answered
 abbrev pub Steps : Machine → Machine → Fault → Bool → Type 0
-Steps old new f true = IsMachine new × GoesOn old new
+Steps old new f true = IsMachine new × ReadsOneMore old new
 Steps old new f false = IsRefused old f × IsShort new.waiting

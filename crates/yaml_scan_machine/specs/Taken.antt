@@ -2,15 +2,15 @@
 use Rattle.std.specs.Prelude.{ℕ, ◌+◌, ◌≡◌, ◌<◌, ◌≤◌, ◌⊎◌, List, [], ◌∷◌, Option, Some, None}
 use Rattle.yaml_scan_model.specs.Tokens.{Token, TokenBody}
 use Rattle.yaml_scan_queue.specs.Front.{start_count, key_count}
-use Rattle.yaml_scan_queue.specs.Waits.{Kept}
+use Rattle.yaml_scan_queue.specs.Waits.{KeptLexeme}
 use Rattle.yaml_scan_machine.specs.Shows.{Fields}
 
 -- how many tokens stand in front of a lexeme's own one
-abbrev pub front_count : Kept → ℕ
+abbrev pub front_count : KeptLexeme → ℕ
 front_count k = k.ends + (start_count k.opens + key_count k.key)
 
 -- a lexeme's own token
-abbrev pub own_token : Kept → Token
+abbrev pub own_token : KeptLexeme → Token
 own_token k = record { body = k.body; start_mark = k.start; end_mark = k.end }
 
 -- the token in front of a lexeme's own one, or that
@@ -20,7 +20,7 @@ fronted t (Some b) = record { body = b; start_mark = t.start_mark; end_mark = t.
 
 -- What is taken of the first lexeme that waits: levels that it closes, or what else stands in front of it where it is
 -- settled.
-abbrev pub given_in : ℕ → ℕ → ℕ → List Kept → Type 0
+abbrev pub given_in : ℕ → ℕ → ℕ → List KeptLexeme → Type 0
 given_in dropped settled given [] = given ≡ 0
 given_in dropped settled given (k ∷ ks) = (given ≤ k.ends)
     ⊎ ((dropped < settled) × (given ≤ front_count k))

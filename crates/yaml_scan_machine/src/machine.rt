@@ -50,7 +50,7 @@ pub struct Machine<'a> {
 }
 
 impl<'a> Machine<'a> {
-    ghost use Rattle.yaml_scan_machine.specs.State.{IsShort, IsMachine, IsNarrow, AreInside, GoesOn, Keeps, Leaves, TellsUtf8, is_ready};
+    ghost use Rattle.yaml_scan_machine.specs.State.{IsShort, IsMachine, IsNarrow, AreInside, ReadsOneMore, KeepsInput, Leaves, TellsUtf8, is_ready};
     ghost use Rattle.yaml_scan_history.specs.Scanned.{scanned};
     ghost use Rattle.yaml_scan_machine.specs.Left.{left_in, left_from, IsTold};
     ghost use Rattle.yaml_scan_decode.specs.Encodings.{encoding_of};
@@ -134,7 +134,7 @@ impl<'a> Machine<'a> {
         ensures started { OnOk result (self.new.started ≡ true) }
         ensures left { OnOk result (left_in self.new ≡ left_in self.old) }
         ensures ready { OnOk result (is_ready self.new ≡ is_ready self.old) }
-        ensures keeps { OnOk result (Keeps self.old self.new) }
+        ensures keeps { OnOk result (KeepsInput self.old self.new) }
         ensures told { IfErr result (λ f. IsTold (left_in self.old) (fault_of f)) }
         ensures utf8 { IfErr result (λ f. TellsUtf8 self.old (fault_of f)) }
         ensures few { OnErr result (IsShort self.new.waiting) }
@@ -181,7 +181,7 @@ impl<'a> Machine<'a> {
         requires ready { is_ready self.old ≡ true }
         ensures stands { IsMachine self.new }
         ensures gives { GivesFirst (left_in self.old) (token_of result) (left_in self.new) }
-        ensures keeps { Keeps self.old self.new }
+        ensures keeps { KeepsInput self.old self.new }
     {
         let mut token = yaml_token_t::empty();
         self.take_token_into(&mut token);
@@ -197,9 +197,9 @@ impl<'a> Machine<'a> {
         requires bare { is_bare (token_of slot.old).body ≡ true }
         ensures stands { IsMachine self.new }
         ensures gives { GivesFirst (left_in self.old) (token_of slot.new) (left_in self.new) }
-        ensures keeps { Keeps self.old self.new }
+        ensures keeps { KeepsInput self.old self.new }
     {
-        if self.waiting.give(self.given, slot) {
+        if self.waiting.pop_token(self.given, slot) {
             self.dropped += 1;
             self.given = 0;
         } else {

@@ -59,7 +59,7 @@ impl<'a> Machine<'a> {
     ghost use Rattle.yaml_scan_machine.specs.State.{IsMachine, IsNext};
     ghost use Rattle.yaml_scan_machine.specs.Shows.{IsShown, fields_of, history_of, stream_of, Picks};
     ghost use Rattle.yaml_scan_machine.specs.Comes.{Refused};
-    ghost use Rattle.yaml_scan_machine.specs.Stood.{IsStand};
+    ghost use Rattle.yaml_scan_machine.specs.Stood.{StandsAsNext};
     ghost use Rattle.yaml_scan_machine.specs.Reads.{GivesNext, GivesLexeme, EndsAt, keyed_by, required_in};
 
     /// The lexeme that comes first.
@@ -86,7 +86,7 @@ impl<'a> Machine<'a> {
     ) -> Result<Read, ScanError>
         requires stands { IsMachine self.now }
         requires more { self.now.ended ≡ false }
-        requires stand { IsStand self.now (R.reads reading.now) spot }
+        requires stand { StandsAsNext self.now (R.reads reading.now) spot }
         requires required { required ≡ required_in (fresh (candidate 0 (history_of self.now))
             (reached (history_of self.now))) }
         ensures safe { IfOk result (λ r. IsNext self.now r) }

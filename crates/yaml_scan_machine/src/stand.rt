@@ -16,7 +16,7 @@ use yaml_scan_words::skip_gap;
 
 impl<'a> Machine<'a> {
     ghost use Rattle.yaml_scan_machine.specs.State.{IsMachine};
-    ghost use Rattle.yaml_scan_machine.specs.Stood.{IsStand, IsRefused};
+    ghost use Rattle.yaml_scan_machine.specs.Stood.{StandsAsNext, IsRefused};
 
     /// The kind of what stands behind the gap, where a lexeme was read before, with its place in a slot; or nothing, and the
     /// fault is put into the other slot.
@@ -27,7 +27,7 @@ impl<'a> Machine<'a> {
         requires stands { IsMachine self.now }
         requires more { self.now.ended ≡ false }
         requires some { 0 < self.now.dropped + length self.now.waiting.items }
-        ensures some { IfSome result (λ k. IsStand self.now k spot.new) }
+        ensures some { IfSome result (λ k. StandsAsNext self.now k spot.new) }
         ensures none { result ≡ None → IsRefused self.now (fault_of fault.new) }
     {
         let mut reader = Reader::resume(self.text.as_slice(), self.place);

@@ -13,7 +13,7 @@ use yaml_scan_model::{ScanError, Spares, yaml_fault_t, yaml_mark_t};
 use yaml_scan_queue::Waiting;
 
 impl<'a> Machine<'a> {
-    ghost use Rattle.yaml_scan_machine.specs.State.{IsShort, IsMachine, GoesOn, is_ready};
+    ghost use Rattle.yaml_scan_machine.specs.State.{IsShort, IsMachine, ReadsOneMore, is_ready};
     ghost use Rattle.yaml_scan_machine.specs.Stood.{ComesNext, MayReadAt, Steps};
     ghost use Rattle.yaml_scan_machine.specs.Shows.{history_of};
     ghost use Rattle.yaml_scan_machine.specs.Reads.{required_in};
@@ -31,7 +31,7 @@ impl<'a> Machine<'a> {
         ensures { Steps self.old self.new (fault_of fault.new) result }
     {
         let read = self.first();
-        self.take(read, fault)
+        self.push_lexeme(read, fault)
     }
 
     /// Reads the lexeme of that kind, which stands there; or puts the fault into the slot that was lent. Where it may be
@@ -81,7 +81,7 @@ impl<'a> Machine<'a> {
         ensures { Steps self.old self.new (fault_of fault.new) result }
     {
         match self.next(reading, spot, required, spares) {
-            Ok(read) => self.take(read, fault),
+            Ok(read) => self.push_lexeme(read, fault),
             Err(error) => {
                 put_refusal(fault, error);
                 false
@@ -92,7 +92,7 @@ impl<'a> Machine<'a> {
     /// Puts a lexeme that was read behind those that wait.
     // Inlined: its kind is known where it is called.
     #[inline(always)]
-    fn take(&mut self, read: Read, fault: &mut yaml_fault_t) -> bool
+    fn push_lexeme(&mut self, read: Read, fault: &mut yaml_fault_t) -> bool
         requires stands { IsMachine self.old }
         requires started { self.old.started ≡ true }
         requires sought { is_ready self.old ≡ false }
@@ -118,7 +118,7 @@ impl<'a> Machine<'a> {
         requires sought { is_ready self.old ≡ false }
         requires more { self.old.ended ≡ false }
         requires next { ComesNext self.old read }
-        ensures ok { OnOk result (IsMachine self.new × GoesOn self.old self.new) }
+        ensures ok { OnOk result (IsMachine self.new × ReadsOneMore self.old self.new) }
         ensures few { OnErr result (IsShort self.new.waiting) }
     {
         let Read {

@@ -199,7 +199,7 @@ fn indicator_body(kind: Kind) -> Option<yaml_token_body_t>
 }
 
 /// Reads a lexeme that is no indicator of one byte.
-#[tactic(auto, unfolding(yaml_scan_types::specs::Marks::break_of, yaml_scan_history::specs::Words::word_at))]
+#[tactic(auto, unfolding(yaml_types::specs::Marks::break_of, yaml_scan_history::specs::Words::word_at))]
 // Out of line: the kinds that are met often have a reading of their own.
 #[inline(never)]
 fn text_word(
@@ -291,7 +291,7 @@ fn go_past(reader: &mut Reader)
 }
 
 /// `---` or `...`.
-#[tactic(auto, unfolding(yaml_scan_types::specs::Marks::break_of))]
+#[tactic(auto, unfolding(yaml_types::specs::Marks::break_of))]
 fn document_mark(reader: &mut Reader, body: yaml_token_body_t) -> Word
     requires { IsThrice 45 reader.old.text reader.old.at
         ⊎ IsThrice 46 reader.old.text reader.old.at }

@@ -1,8 +1,8 @@
-pub use Rattle.yaml_scan_types.specs.Marks
-pub use Rattle.yaml_scan_types.specs.Classes
-pub use Rattle.yaml_scan_types.specs.Tokens
-pub use Rattle.yaml_scan_types.specs.Faults
-pub use Rattle.yaml_scan_types.specs.Ends
+pub use Rattle.yaml_types.specs.Marks
+pub use Rattle.yaml_types.specs.Classes
+pub use Rattle.yaml_types.specs.Tokens
+pub use Rattle.yaml_types.specs.Faults
+pub use Rattle.yaml_types.specs.Ends
 pub mod Problems
 pub mod Breaks
 pub mod Runs

@@ -148,7 +148,7 @@ impl<'a> Reader<'a> {
     }
 
     /// How many bytes the break has that stands that many places ahead, or 0.
-    #[tactic(auto, unfolding(yaml_scan_types::specs::Marks::break_of))]
+    #[tactic(auto, unfolding(yaml_types::specs::Marks::break_of))]
     pub fn break_width_at(&self, ahead: usize) -> usize
         requires { ahead < 14 }
         ensures { result ≡ break_width self.now.text (self.now.at + ahead) }

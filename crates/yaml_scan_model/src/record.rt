@@ -2,8 +2,9 @@
 
 ghost use Rattle.std.specs.Prelude.{◌≡◌};
 
-pub use yaml_parse_types::{yaml_tag_directive_t, yaml_version_directive_t};
-pub use yaml_scan_types::{yaml_mark_t, yaml_simple_key_t};
+pub use yaml_types::{
+    yaml_mark_t, yaml_simple_key_t, yaml_tag_directive_t, yaml_version_directive_t,
+};
 
 /// A mark once more, number by number: of one that is copied whole LLVM computes both addresses first, or goes by way of the
 /// stack.

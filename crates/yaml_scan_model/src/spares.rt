@@ -6,7 +6,7 @@ ghost use Rattle.yaml_scan_model.specs.Spares.{HoldsAt, bytes_at};
 use crate::keeping::Spares;
 use std::alloc::{AllocError, Global};
 use std::mem;
-use yaml_scan_types::push_each;
+use yaml_types::push_each;
 
 /// The least room that is made: what the smallest block of common allocators holds.
 const LEAST_ROOM: usize = 24;

@@ -3,7 +3,7 @@ use Rattle.std.specs.Prelude.{ℕ, ◌-◌, ◌==◌, ◌&&◌, nat_lt, if◌the
 use Rattle.yaml_scan_model.specs.Tokens.{TokenBody, block_end, block_sequence_start, block_mapping_start, key}
 use Rattle.yaml_scan_history.specs.declared.lexeme.Opens.{Opens}
 use Rattle.yaml_scan_history.specs.declared.lexeme.Opens.TheVariants as opening
-use Rattle.yaml_scan_queue.specs.Waits.{Kept}
+use Rattle.yaml_scan_queue.specs.Waits.{KeptLexeme}
 
 abbrev pub key_at : Bool → ℕ → Option TokenBody
 key_at is_key n = if is_key && n == 0 then Some key else None
@@ -17,7 +17,7 @@ start_at opening.Mapping is_key n = if n == 0 then Some block_mapping_start
     else key_at is_key (n - 1)
 
 -- the token in front of a lexeme's own one behind so many of its tokens
-abbrev pub front_at : Kept → ℕ → Option TokenBody
+abbrev pub front_at : KeptLexeme → ℕ → Option TokenBody
 front_at k given = if nat_lt given k.ends then Some block_end else start_at k.opens k.key
     (given - k.ends)
 

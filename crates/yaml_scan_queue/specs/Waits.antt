@@ -6,7 +6,7 @@ use Rattle.yaml_scan_history.specs.declared.lexeme.Opens.{Opens}
 use Rattle.yaml_scan_queue.specs.declared.waiting.Waiting.{Waiting}
 
 -- what a lexeme's tokens are made of
-pub record Kept : Type 0 where
+pub record KeptLexeme : Type 0 where
   pub start : yaml_mark_t
   pub end : yaml_mark_t
   pub ends : ℕ
@@ -14,7 +14,7 @@ pub record Kept : Type 0 where
   pub key : Bool
   pub body : TokenBody
 
-abbrev pub kept_of : Waiting → Kept
+abbrev pub kept_of : Waiting → KeptLexeme
 kept_of w = record {
   start = w.start;
   end = w.end;

@@ -123,7 +123,7 @@ impl Queue {
         ensures items { self.new.items ≡ self.old.items ++ waiting ∷ [] }
         ensures slots { self.new.slots ≡ self.old.slots }
     {
-        put(&mut self.slots[self.last], waiting);
+        put_waiting(&mut self.slots[self.last], waiting);
         self.last += 1;
     }
 
@@ -146,7 +146,7 @@ impl Queue {
     // with all that it has.
     // Inlined: it is called at one place, for each token.
     #[inline(always)]
-    pub fn give(&mut self, given: usize, slot: &mut yaml_token_t) -> bool
+    pub fn pop_token(&mut self, given: usize, slot: &mut yaml_token_t) -> bool
         requires some { 0 < length self.old.items }
         requires bare { is_bare (body_of slot.old.body) ≡ true }
         ensures { (w : Waiting) → Hands given (slice_index_or self.old.items 0 w) self.old self.new
@@ -298,7 +298,7 @@ fn kind(body: &yaml_token_body_t) -> yaml_token_body_t
 /// set too.
 // Inlined: some stores.
 #[inline(always)]
-fn put(slot: &mut Waiting, waiting: Waiting)
+fn put_waiting(slot: &mut Waiting, waiting: Waiting)
     requires { is_bare (body_of slot.old.body) ≡ true }
     ensures { slot.new ≡ waiting }
 {

@@ -167,14 +167,14 @@ fn keep_run(reader: &mut Reader, folding: &mut Folding) -> Result<(), AllocError
     ensures { OnOk result (TookRun reader.old.text reader.old.at (resume folding.old)
         (resume folding.new) reader.new) }
 {
-    if !is_kept(reader, folding) {
+    if !keeps_space(reader, folding) {
         return Ok(());
     }
     keep_some(folding, ordinary_run(reader))
 }
 
 /// Whether a space that stands here is kept, or none stands here.
-fn is_kept(reader: &Reader, folding: &Folding) -> bool
+fn keeps_space(reader: &Reader, folding: &Folding) -> bool
     ensures { result ≡ true → (folding.now.gap ≡ gaps.Line)
         ⊎ ((byte reader.now.text reader.now.at == 32) ≡ false) }
 {

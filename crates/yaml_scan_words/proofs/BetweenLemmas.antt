@@ -9,7 +9,7 @@ use Rattle.yaml_scan_words.specs.declared.between.Standing.TheVariants as standi
 use Rattle.yaml_scan_words.specs.declared.run.Run.TheVariants as runs
 use Rattle.yaml_scan_words.specs.Runs.{belongs, run_end}
 use Rattle.yaml_scan_words.proofs.RunsLemmas.{run_further}
-use Rattle.yaml_scan_words.specs.Between.{Step, step_at, is_skipped, Gap, with_break, gap_within}
+use Rattle.yaml_scan_words.specs.Between.{GapStep, step_at, is_skipped, Gap, with_break, gap_within}
 
 bom_parts : (a b c : ℕ) → (a == 0xEF && (b == 0xBB && c == 0xBF)) ≡ true
     → (a ≡ 0xEF) × (b ≡ 0xBB) × (c ≡ 0xBF)
@@ -30,14 +30,14 @@ unfolding belongs
 hash_belongs text p h = hash_line _ _ h (no_break _ _ _ (omega arith) (omega arith) (omega arith) (omega arith))
 
 blank_lexeme : (p q : ℕ)
-    → ◌≡◌ {A = Step} (record { standing = standings.Blank; place = p })
+    → ◌≡◌ {A = GapStep} (record { standing = standings.Blank; place = p })
     (record { standing = standings.Lexeme; place = q }) → ⊥
-blank_lexeme p q h = let e : standings.Blank ≡ standings.Lexeme = ap (λ (s : Step). s.standing) h in cc
+blank_lexeme p q h = let e : standings.Blank ≡ standings.Lexeme = ap (λ (s : GapStep). s.standing) h in cc
 
 break_lexeme : (p q : ℕ)
-    → ◌≡◌ {A = Step} (record { standing = standings.Break; place = p })
+    → ◌≡◌ {A = GapStep} (record { standing = standings.Break; place = p })
     (record { standing = standings.Lexeme; place = q }) → ⊥
-break_lexeme p q h = let e : standings.Break ≡ standings.Lexeme = ap (λ (s : Step). s.standing) h in cc
+break_lexeme p q h = let e : standings.Break ≡ standings.Lexeme = ap (λ (s : GapStep). s.standing) h in cc
 
 not_first : (b c d : ℕ) (first : Bool) → (nat_lt 32 b && (nat_lt b 128 && not (b == 35))) ≡ true
     → (first && (b == 0xEF && (c == 0xBB && d == 0xBF))) ≡ false
@@ -62,7 +62,7 @@ no_width b c d h =
     let (low, high) = within_ascii b h in
     no_break b c d (omega arith) (omega arith) (omega arith) (omega arith)
 
-last_step : (a b c : Bool) (w : ℕ) (v x y z u : Step) → a ≡ false → b ≡ false → c ≡ false → w ≡ 0
+last_step : (a b c : Bool) (w : ℕ) (v x y z u : GapStep) → a ≡ false → b ≡ false → c ≡ false → w ≡ 0
     → (if a then v else if b then x else if c then y else if nat_lt 0 w then z else u) ≡ u
 last_step a b c w v x y z u h i j k = rw (h, i, j, k) refl
 
@@ -186,7 +186,7 @@ pub gap_stop : (n : ℕ) (flow allowed : Bool) (text : List ℕ) (p q : ℕ)
 unfolding gap_within
 gap_stop zero flow allowed text p q h room =
     elim (step_moves (flow || not allowed) text p) [
-      | inl e ↦ let same : q ≡ p = ap (λ (s : Step). s.place) (sym h ∙ e) in rw same refl
+      | inl e ↦ let same : q ≡ p = ap (λ (s : GapStep). s.place) (sym h ∙ e) in rw same refl
       | inr (far, inside) ↦ absurd (omega arith)
     ]
 gap_stop (suc n) flow allowed text p q h room = rw h refl

@@ -4,14 +4,14 @@ use Rattle.yaml_scan_model.specs.declared.problem.Context.{Context}
 use Rattle.yaml_scan_model.specs.Wrong.{Wrong}
 use Rattle.yaml_scan_words.specs.declared.between.Standing.{Standing}
 use Rattle.yaml_scan_words.specs.declared.between.Standing.TheVariants as standings
-use Rattle.yaml_scan_words.specs.Between.{Step, Gap, with_break, step_at, gap_within}
+use Rattle.yaml_scan_words.specs.Between.{GapStep, Gap, with_break, step_at, gap_within}
 use Rattle.yaml_scan_words.specs.Uris.{UriSpot, Spells, Ends, Faulty, spot_at, with_bytes, uri_within}
 use Rattle.yaml_scan_words.proofs.BetweenLemmas.{gap_blank, gap_break, gap_stop}
 use Rattle.yaml_scan_words.proofs.UrisLemmas.{uri_more, uri_done, uri_bad, no_bytes}
 use Rattle.yaml_scan_words.specs.declared.run.Run.{Run}
 use Rattle.yaml_scan_words.specs.Runs.{belongs, run_within}
 use Rattle.yaml_scan_words.proofs.RunsLemmas.{belongs_inside, run_more, run_stop, run_to}
-use Rattle.yaml_scan_words.specs.Unbounded.{EndsRun, RunEnds, RunEndIsOne, Leads, arrives, passes_blank, passes_break, GapLeads, GapIsOne, IsUriAt, spells_byte, ends_there, is_faulty, UriIs, UriIsOne}
+use Rattle.yaml_scan_words.specs.Unbounded.{EndsRun, RunEnds, RunEndIsOne, LeadsOverGap, arrives, passes_blank, passes_break, GapLeads, GapIsOne, IsUriAt, spells_byte, ends_there, is_faulty, UriIs, UriIsOne}
 
 -- ---- runs
 
@@ -55,29 +55,29 @@ run_end_is_one run text p q h =
 -- ---- gaps
 
 led_by : (d : ℕ) (flow allowed : Bool) (text : List ℕ) (p n : ℕ) (s : Standing) (q : ℕ)
-    → ◌≡◌ {A = Step} (step_at (flow || not allowed) text p) (record { standing = s; place = q })
+    → ◌≡◌ {A = GapStep} (step_at (flow || not allowed) text p) (record { standing = s; place = q })
     → length text ≤ p + d → length text ≤ p + n
-    → Leads flow text allowed p (gap_within n flow allowed text p)
+    → LeadsOverGap flow text allowed p (gap_within n flow allowed text p)
 led_by d flow allowed text p n standings.Lexeme q e room fuel =
-    subst (λ (g : Gap). Leads flow text allowed p g) (sym (gap_stop n flow allowed text p q e fuel)) (arrives allowed p q e)
+    subst (λ (g : Gap). LeadsOverGap flow text allowed p g) (sym (gap_stop n flow allowed text p q e fuel)) (arrives allowed p q e)
 led_by zero flow allowed text p n standings.Blank q e room fuel =
     let (m, left, far, inside, same) = gap_blank n flow allowed text p q e fuel in absurd (omega (arith, inside, room))
 led_by (suc d) flow allowed text p n standings.Blank q e room fuel =
     let (m, left, far, inside, same) = gap_blank n flow allowed text p q e fuel in
-    let here : Step = step_at (flow || not allowed) text q in
-    subst (λ (g : Gap). Leads flow text allowed p g) (sym same)
+    let here : GapStep = step_at (flow || not allowed) text q in
+    subst (λ (g : Gap). LeadsOverGap flow text allowed p g) (sym same)
     (passes_blank allowed p q (gap_within m flow allowed text q) e (led_by d flow allowed text q m here.standing here.place refl (omega (arith, room, far)) left))
 led_by zero flow allowed text p n standings.Break q e room fuel =
     let (m, left, far, inside, same) = gap_break n flow allowed text p q e fuel in absurd (omega (arith, inside, room))
 led_by (suc d) flow allowed text p n standings.Break q e room fuel =
     let (m, left, far, inside, same) = gap_break n flow allowed text p q e fuel in
-    let here : Step = step_at (flow || not (allowed || not flow)) text q in
-    subst (λ (g : Gap). Leads flow text allowed p g) (sym same)
+    let here : GapStep = step_at (flow || not (allowed || not flow)) text q in
+    subst (λ (g : Gap). LeadsOverGap flow text allowed p g) (sym same)
     (passes_break allowed p q (gap_within m flow (allowed || not flow) text q) e
     (led_by d flow (allowed || not flow) text q m here.standing here.place refl (omega (arith, room, far)) left))
 
 one_gap : (flow : Bool) (text : List ℕ) (allowed : Bool) (p : ℕ) (gap : Gap)
-    → Leads flow text allowed p gap → (n : ℕ) → length text ≤ p + n
+    → LeadsOverGap flow text allowed p gap → (n : ℕ) → length text ≤ p + n
     → gap_within n flow allowed text p ≡ gap
 one_gap flow text allowed p gap (arrives a r q e) n fuel = gap_stop n flow a text r q e fuel
 one_gap flow text allowed p gap (passes_blank a r q g e h) n fuel =
@@ -87,7 +87,7 @@ one_gap flow text allowed p gap (passes_break a r q g e h) n fuel =
 
 pub gap_leads : GapLeads
 gap_leads flow allowed text p =
-    let here : Step = step_at (flow || not allowed) text p in
+    let here : GapStep = step_at (flow || not allowed) text p in
     led_by (length text) flow allowed text p (length text) here.standing here.place refl (omega arith) (omega arith)
 
 pub gap_is_one : GapIsOne

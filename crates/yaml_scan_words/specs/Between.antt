@@ -8,7 +8,7 @@ use Rattle.yaml_scan_model.specs.Marks.{byte, break_width}
 use Rattle.yaml_scan_model.specs.Classes.{is_bom}
 
 -- what stands at a place between lexemes, and the place behind it
-pub record Step : Type 0 where
+pub record GapStep : Type 0 where
   pub standing : Standing
   pub place : ℕ
 
@@ -17,7 +17,7 @@ abbrev pub is_skipped : Bool → List ℕ → ℕ → Bool
 is_skipped tabs text p = byte text p == 32 || (tabs && byte text p == 9)
 
 -- U+FEFF at index 0, a blank, a comment, a break, or else a lexeme
-unfoldable pub step_at : Bool → List ℕ → ℕ → Step
+unfoldable pub step_at : Bool → List ℕ → ℕ → GapStep
 step_at tabs text p =
     if p == 0 && is_bom text p then record { standing = standings.Blank; place = p + 3 }
     else if is_skipped tabs text p then record { standing = standings.Blank; place = p + 1 }

@@ -11,7 +11,7 @@ pub record IsParts (parts : TagParts) (t : TagText) : Type 0 where
   pub suffix : parts.suffix.items ≡ t.suffix
 
 -- a tag that starts there is that handle and suffix, and ends where they do
-pub record IsTag (text : List ℕ) (start : ℕ) (tag : TagWord) (t : TagText) : Type 0 where
+pub record IsTagWord (text : List ℕ) (start : ℕ) (tag : TagWord) (t : TagText) : Type 0 where
   pub handle : tag.handle.items ≡ t.handle
   pub suffix : tag.suffix.items ≡ t.suffix
   pub start_mark : tag.start_mark ≡ mark_at text start

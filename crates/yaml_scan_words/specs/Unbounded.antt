@@ -28,26 +28,26 @@ RunEndIsOne = (run : Run) (text : List ℕ) (p q : ℕ) → EndsRun run text p q
 
 -- From a place on a gap leads to the next lexeme, past blanks, comments and breaks; by whether a key is allowed there, which a break
 -- changes outside of brackets.
-pub data Leads (flow : Bool) (text : List ℕ) : Bool → ℕ → Gap → Type 0 where
+pub data LeadsOverGap (flow : Bool) (text : List ℕ) : Bool → ℕ → Gap → Type 0 where
   arrives : (allowed : Bool) (p q : ℕ)
       → step_at (flow || not allowed) text p ≡ record { standing = standings.Lexeme; place = q }
-      → Leads flow text allowed p (record { place = q; broke = false })
+      → LeadsOverGap flow text allowed p (record { place = q; broke = false })
   passes_blank : (allowed : Bool) (p q : ℕ) (gap : Gap)
       → step_at (flow || not allowed) text p ≡ record { standing = standings.Blank; place = q }
-      → Leads flow text allowed q gap → Leads flow text allowed p gap
+      → LeadsOverGap flow text allowed q gap → LeadsOverGap flow text allowed p gap
   passes_break : (allowed : Bool) (p q : ℕ) (gap : Gap)
       → step_at (flow || not allowed) text p ≡ record { standing = standings.Break; place = q }
-      → Leads flow text (allowed || not flow) q gap
-      → Leads flow text allowed p (with_break true gap)
+      → LeadsOverGap flow text (allowed || not flow) q gap
+      → LeadsOverGap flow text allowed p (with_break true gap)
 
 -- The gap at a place is one, and the only one.
 abbrev pub GapLeads : Type 0
 GapLeads = (flow allowed : Bool) (text : List ℕ) (p : ℕ)
-    → Leads flow text allowed p (gap_at flow allowed text p)
+    → LeadsOverGap flow text allowed p (gap_at flow allowed text p)
 
 abbrev pub GapIsOne : Type 0
 GapIsOne = (flow allowed : Bool) (text : List ℕ) (p : ℕ) (gap : Gap)
-    → Leads flow text allowed p gap → gap ≡ gap_at flow allowed text p
+    → LeadsOverGap flow text allowed p gap → gap ≡ gap_at flow allowed text p
 
 -- ---- URIs
 

@@ -30,7 +30,7 @@ pub fn skip_gap(reader: &mut Reader, flow: bool, key_allowed: bool) -> bool
     let mut allowed = key_allowed;
     let mut broke = false;
     'gap: loop {
-        match step(reader, skips_tabs(flow, allowed)) {
+        match pass_one(reader, skips_tabs(flow, allowed)) {
             Standing::Blank => {}
             Standing::Break => {
                 broke = true;
@@ -57,7 +57,7 @@ fn allows_key(flow: bool, allowed: bool) -> bool
 
 /// Past what stands here, where it is no lexeme.
 #[tactic(auto, unfolding(crate::specs::Between::step_at))]
-fn step(reader: &mut Reader, tabs: bool) -> Standing
+fn pass_one(reader: &mut Reader, tabs: bool) -> Standing
     ensures step { spec.step_at tabs reader.old.text reader.old.at
         ≡ record { standing = result; place = reader.new.at } }
     ensures text { reader.new.text ≡ reader.old.text }

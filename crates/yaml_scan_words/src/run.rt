@@ -79,7 +79,7 @@ fn is_alpha(byte: u8) -> bool
 /// Whether a URI holds the character as it is.
 // Inlined into the loop over bytes.
 #[inline(always)]
-pub(crate) fn is_kept(byte: u8, wide: bool) -> bool
+pub(crate) fn stands_in_uri(byte: u8, wide: bool) -> bool
     ensures { result ≡ is_kept wide byte }
 {
     if wide {
@@ -187,13 +187,13 @@ pub(crate) fn copied_since(
 {
     // Read for the clauses: the place that is reached stands inside the text.
     let _here = reader.stop();
-    copied(spares, reader.text(), from, reader.place())
+    copied_run(spares, reader.text(), from, reader.place())
 }
 
 /// A copy of the bytes from one place to another, in the room of a spare text where they fit.
 // Inlined: a text of up to sixteen bytes is one load and one store.
 #[inline(always)]
-pub(crate) fn copied(
+pub(crate) fn copied_run(
     spares: &mut Spares,
     text: &[u8],
     from: usize,

@@ -4,9 +4,9 @@ ghost use Rattle.std.specs.Prelude.{◌≡◌, ◌≤◌, ◌+◌, ◌&&◌, ◌
 ghost use Rattle.yaml_scan_model.specs.Marks.{byte, mark_at};
 ghost use Rattle.yaml_scan_words.specs.Tags as spec;
 ghost use Rattle.yaml_scan_words.specs.Readings.{ReadsAs};
-ghost use Rattle.yaml_scan_words.specs.TagsGiven.{IsTag, IsParts, IsShort};
+ghost use Rattle.yaml_scan_words.specs.TagsGiven.{IsTagWord, IsParts, IsShort};
 
-use crate::run::{copied, copied_since, name_end, skip_indicator};
+use crate::run::{copied_run, copied_since, name_end, skip_indicator};
 use crate::uris::{kept_end, some_uri, uri};
 use crate::word::{TagWord, refusal};
 use yaml_scan_model::{Context, Problem, Reader, ScanError, Spares, leap, room, yaml_mark_t};
@@ -28,7 +28,7 @@ pub(crate) struct TagParts {
 #[inline(always)]
 pub fn tag(spares: &mut Spares, reader: &mut Reader, flow: bool) -> Result<TagWord, ScanError>
     requires { byte reader.old.text reader.old.at ≡ 33 }
-    ensures { ReadsAs (IsTag reader.old.text reader.old.at) spec.tag_end reader.old.text
+    ensures { ReadsAs (IsTagWord reader.old.text reader.old.at) spec.tag_end reader.old.text
         (mark_at reader.old.text reader.old.at) reader.new result
         (spec.tag_at flow reader.old.text reader.old.at) }
 {
@@ -36,10 +36,10 @@ pub fn tag(spares: &mut Spares, reader: &mut Reader, flow: bool) -> Result<TagWo
     let middle = handle_end(reader, name);
     let mut behind = reader.ahead();
     leap(&mut behind, suffix_end(reader, name, middle));
-    if !is_short(reader.byte(1), middle, &behind, flow) {
+    if !is_short_form(reader.byte(1), middle, &behind, flow) {
         return tag_apart(spares, reader, flow);
     }
-    let handle = copied(spares, reader.text(), reader.place(), middle)?;
+    let handle = copied_run(spares, reader.text(), reader.place(), middle)?;
     let suffix = copied_since(spares, &behind, middle)?;
     let word = TagWord {
         handle,
@@ -94,7 +94,7 @@ fn later(a: usize, b: usize) -> usize
 /// and the byte `second`.
 // Inlined: mostly a look at three bytes.
 #[inline(always)]
-fn is_short(second: u8, middle: usize, behind: &Reader, flow: bool) -> bool
+fn is_short_form(second: u8, middle: usize, behind: &Reader, flow: bool) -> bool
     ensures { result ≡ (not (second == 60) && (not (middle == behind.now.at)
         && spec.may_end_tag flow behind.now.text behind.now.at)) }
 {
@@ -107,7 +107,7 @@ fn is_short(second: u8, middle: usize, behind: &Reader, flow: bool) -> bool
 #[inline(always)]
 fn tag_apart(spares: &mut Spares, reader: &mut Reader, flow: bool) -> Result<TagWord, ScanError>
     requires { byte reader.old.text reader.old.at ≡ 33 }
-    ensures { ReadsAs (IsTag reader.old.text reader.old.at) spec.tag_end reader.old.text
+    ensures { ReadsAs (IsTagWord reader.old.text reader.old.at) spec.tag_end reader.old.text
         (mark_at reader.old.text reader.old.at) reader.new result
         (spec.tag_at flow reader.old.text reader.old.at) }
 {
@@ -123,7 +123,7 @@ fn tag_apart(spares: &mut Spares, reader: &mut Reader, flow: bool) -> Result<Tag
 #[inline(never)]
 fn whole_tag(spares: &mut Spares, reader: &mut Reader, flow: bool) -> Result<TagWord, ScanError>
     requires { byte reader.old.text reader.old.at ≡ 33 }
-    ensures { ReadsAs (IsTag reader.old.text reader.old.at) spec.tag_end reader.old.text
+    ensures { ReadsAs (IsTagWord reader.old.text reader.old.at) spec.tag_end reader.old.text
         (mark_at reader.old.text reader.old.at) reader.new result
         (spec.tag_at flow reader.old.text reader.old.at) }
 {

@@ -7,7 +7,7 @@ ghost use Rattle.yaml_scan_words.specs.Readings.{ReadsAs, IsBytes, behind_bytes}
 ghost use Rattle.yaml_scan_words.specs.Spelt.{spot_of};
 ghost use Rattle.yaml_scan_words.specs.Written.{is_kept};
 
-use crate::run::{copied_since, is_kept, skip_indicator};
+use crate::run::{copied_since, skip_indicator, stands_in_uri};
 use crate::word::refusal;
 use yaml_scan_model::{Context, Problem, Reader, ScanError, Spares, leap, yaml_mark_t};
 
@@ -95,12 +95,12 @@ fn next_byte(reader: &mut Reader, wide: bool, due: usize) -> Result<Option<Spell
     ensures text { reader.new.text ≡ reader.old.text }
 {
     if reader.here() == b'%' {
-        return escape(reader, due);
+        return percent_octet(reader, due);
     }
     if due > 0 {
         return Err(Problem::NoEscapedOctet);
     }
-    if !is_kept(reader.here(), wide) {
+    if !stands_in_uri(reader.here(), wide) {
         return Ok(None);
     }
     let byte = reader.here();
@@ -110,7 +110,7 @@ fn next_byte(reader: &mut Reader, wide: bool, due: usize) -> Result<Option<Spell
 
 /// Takes the escape whose `%` stands here, where so many escapes are due.
 #[tactic(auto, unfolding(crate::specs::Uris::octet_at))]
-fn escape(reader: &mut Reader, due: usize) -> Result<Option<Spelling>, Problem>
+fn percent_octet(reader: &mut Reader, due: usize) -> Result<Option<Spelling>, Problem>
     requires { byte reader.old.text reader.old.at ≡ 37 }
     ensures spot { spec.octet_spot due reader.old.at (spec.octet_at reader.old.text reader.old.at)
         ≡ spot_of result reader.new.at }
@@ -144,14 +144,14 @@ fn skip_escape(reader: &mut Reader)
 fn octet(reader: &Reader) -> Option<u8>
     ensures { result ≡ spec.octet_at reader.now.text reader.now.at }
 {
-    let high = hex_digit(reader.byte(1))?;
-    let low = hex_digit(reader.byte(2))?;
+    let high = hex_octet(reader.byte(1))?;
+    let low = hex_octet(reader.byte(2))?;
     Some(high * 16 + low)
 }
 
 /// The value of a hexadecimal digit.
 #[tactic(auto, unfolding(crate::specs::Uris::hex_digit))]
-fn hex_digit(byte: u8) -> Option<u8>
+fn hex_octet(byte: u8) -> Option<u8>
     ensures value { result ≡ spec.hex_digit byte }
     ensures small { IfSome result (λ d. d < 16) }
 {
@@ -204,5 +204,5 @@ pub(crate) fn kept_end(text: &[u8], from: usize, wide: bool) -> usize
 fn kept_at(text: &[u8], place: usize, wide: bool) -> bool
     ensures { result ≡ spec.is_uri wide text.now place }
 {
-    place < text.len() && is_kept(text[place], wide)
+    place < text.len() && stands_in_uri(text[place], wide)
 }

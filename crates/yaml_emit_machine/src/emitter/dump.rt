@@ -12,7 +12,7 @@ ghost use Rattle.yaml_emit_machine.specs.Emitter.{Keeps, left_if};
 ghost use Rattle.yaml_emit_machine.specs.Taking.{TakesEvents, TakesEarly, LaysAtOnce, AwaitsNode, Stuck, NotesMemory};
 ghost use Rattle.yaml_emit_machine.specs.Dumping.{DumpsAtOnce};
 
-use super::{answer, give, yaml_emitter_t};
+use super::{answer, take_event, yaml_emitter_t};
 use crate::fault::refusal;
 use std::alloc::AllocError;
 use yaml_emit_graph::Events;
@@ -43,7 +43,7 @@ impl yaml_emitter_t {
         ensures memory { NotesMemory true self.old self.new }
         ensures keeps { Keeps self.old self.new }
     {
-        give(self, event);
+        take_event(self, event);
         match answer(self) {
             Ok(()) => true,
             Err(_) => false,

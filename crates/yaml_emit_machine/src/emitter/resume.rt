@@ -5,7 +5,7 @@ ghost use Rattle.yaml_parse_model.specs.Events.{directive_of};
 ghost use Rattle.yaml_emit_layout.specs.State.{top_of};
 ghost use Rattle.yaml_emit_state.specs.Stack.{stack};
 ghost use Rattle.yaml_emit_held.specs.Judged.{refused_at};
-ghost use Rattle.yaml_emit_machine.specs.Resuming.{resumed, StandsAt};
+ghost use Rattle.yaml_emit_machine.specs.Resuming.{resumed, StandsWhere};
 
 use super::yaml_emitter_t;
 use std::alloc::{AllocError, Global};
@@ -48,7 +48,7 @@ pub fn resumed(
 
 /// Where it stands.
 pub fn stand(emitter: &yaml_emitter_t) -> yaml_emitter_stand_t
-    ensures { StandsAt emitter.now result }
+    ensures { StandsWhere emitter.now result }
 {
     emitter.core.stand(emitter.held.len())
 }

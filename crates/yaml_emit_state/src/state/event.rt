@@ -17,7 +17,7 @@ use crate::documents::{put_end, put_start_at, put_stop_at};
 use crate::given::{Context, Opening, Scalar, Start, Where};
 use crate::indent::spot_of;
 use crate::keys::{is_flow_mapping, is_flow_sequence};
-use crate::nodes::{put_alias, put_collection, put_scalar, put_text};
+use crate::nodes::{put_alias_at, put_collection, put_scalar, put_text};
 use yaml_emit_layout::Level;
 use yaml_emit_text::{Settings, Sink};
 use yaml_parse_model::yaml_event_body_t;
@@ -37,7 +37,7 @@ pub(super) fn put_alias_node(
         ▹ alias_layout (spot_of top.now simple) name.now) }
 {
     put_before(sink, settings, top, simple);
-    put_alias(sink, spot_of(*top, simple), name);
+    put_alias_at(sink, spot_of(*top, simple), name);
 }
 
 // The same in either form.

@@ -3,7 +3,7 @@ ghost use Rattle.std.specs.Prelude.{◌≡◌, ◌≤◌, ◌<◌, ◌^◌, map,
 ghost use Rattle.yaml_parse_model.specs.Events.{directive_of};
 ghost use Rattle.yaml_emit_layout.specs.State.{top_of};
 ghost use Rattle.yaml_emit_state.specs.Stack.{stack, stack_of};
-ghost use Rattle.yaml_emit_state.specs.Standing.{IsStand, Resumes};
+ghost use Rattle.yaml_emit_state.specs.Standing.{IsStandOfCore, Resumes};
 
 use super::Core;
 use crate::levels::Levels;
@@ -57,7 +57,7 @@ impl Core {
 
     /// Where it stands; that so many events wait is handed in.
     pub fn stand(&self, waiting: u64) -> yaml_emitter_stand_t
-        ensures { IsStand self.now waiting result }
+        ensures { IsStandOfCore self.now waiting result }
     {
         yaml_emitter_stand_t {
             encoding: self.sink.encoding(),

@@ -6,7 +6,7 @@ ghost use Rattle.yaml_parse_model.specs.Nodes.{node_of, body_of, tag_of};
 ghost use Rattle.yaml_parse_document.specs.Documents.{node_at, unplaced, new_scalar, new_sequence, new_mapping, with_node, Adds, Appends, change_body, with_item, with_pair, tag_or, IsSequenceAt, IsMappingAt, IsSequenceBody, IsMappingBody, HasRoomAt, item_count, pair_count, IsSoundNode, IsSoundBody};
 ghost use Rattle.yaml_parse_document.specs.Sizes.{IsSizedBody};
 
-use super::{place, yaml_document_t};
+use super::{node_place, yaml_document_t};
 use simdutf8::is_utf8;
 use std::alloc::Global;
 use yaml_parse_model::{
@@ -40,7 +40,7 @@ pub fn push_entry<T: Drop>(entries: &mut Vec<T>, entry: T) -> Result<(), yaml_te
 }
 
 // A copy of the tag that is given, else the default tag.
-fn tag_or_default(
+fn copied_tag_or_default(
     alloc: Global,
     tag: Option<&[u8]>,
     default: yaml_node_tag_t,
@@ -102,7 +102,7 @@ pub fn yaml_document_add_scalar(
     if !is_utf8_option(tag) || !is_utf8(value) {
         return Err(yaml_text_fault_t::NotUtf8);
     }
-    let tag = tag_or_default(document.alloc, tag, yaml_node_tag_t::Str)?;
+    let tag = copied_tag_or_default(document.alloc, tag, yaml_node_tag_t::Str)?;
     let value = yaml_node_text_t::copied(document.alloc, value)?;
     add_node(
         document,
@@ -123,7 +123,7 @@ pub fn yaml_document_add_sequence(
     if !is_utf8_option(tag) {
         return Err(yaml_text_fault_t::NotUtf8);
     }
-    let tag = tag_or_default(document.alloc, tag, yaml_node_tag_t::Seq)?;
+    let tag = copied_tag_or_default(document.alloc, tag, yaml_node_tag_t::Seq)?;
     let items = Vec::new(document.alloc);
     add_node(
         document,
@@ -144,7 +144,7 @@ pub fn yaml_document_add_mapping(
     if !is_utf8_option(tag) {
         return Err(yaml_text_fault_t::NotUtf8);
     }
-    let tag = tag_or_default(document.alloc, tag, yaml_node_tag_t::Map)?;
+    let tag = copied_tag_or_default(document.alloc, tag, yaml_node_tag_t::Map)?;
     let pairs = Vec::new(document.alloc);
     add_node(
         document,
@@ -196,7 +196,7 @@ pub fn yaml_document_append_sequence_item(
     // No sequence gets more than 2,147,483,647 items.
     ensures room { OnOk result (HasRoomAt item_count document.old sequence) }
 {
-    push_item(&mut document.nodes[place(sequence)], item)
+    push_item(&mut document.nodes[node_place(sequence)], item)
 }
 
 /// Appends a pair to the mapping under a number. `yaml_document_get_node` tells whether a number names a node, and of which
@@ -217,7 +217,7 @@ pub fn yaml_document_append_mapping_pair(
     ensures room { OnOk result (HasRoomAt pair_count document.old mapping) }
 {
     push_pair(
-        &mut document.nodes[place(mapping)],
+        &mut document.nodes[node_place(mapping)],
         yaml_node_pair_t { key, value },
     )
 }

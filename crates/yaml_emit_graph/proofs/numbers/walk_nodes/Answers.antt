@@ -23,8 +23,8 @@ loop-turns-preserved c =
     record {
       walk = m.1;
       met = turns_more _ _ _ _ _ _ c.loop-turns.invariant.met m.0 c.in_ok-push.ensures.items;
-      given = c.take.ensures.numbers;
-      same = numbers_more _ _ _ _ _ _ c.loop-turns.invariant.same m.0 c.take.ensures.gives;
+      given = c.number_turn.ensures.numbers;
+      same = numbers_more _ _ _ _ _ _ c.loop-turns.invariant.same m.0 c.number_turn.ensures.gives;
     }
 
 pub returns : goal.returns

@@ -2,10 +2,10 @@
 use Rattle.yaml_emit_machine.proofs.emitter.emit.Goals as goal
 
 pub returns-clause-takes : goal.returns-clause-takes
-returns-clause-takes c = c.give_over.ensures.takes
+returns-clause-takes c = c.take_event_over.ensures.takes
 
 pub returns-clause-memory : goal.returns-clause-memory
-returns-clause-memory c = c.give_over.ensures.memory
+returns-clause-memory c = c.take_event_over.ensures.memory
 
 pub returns-clause-answer : goal.returns-clause-answer
 returns-clause-answer c = c.answer.ensures.answer

@@ -9,7 +9,7 @@ use Rattle.yaml_emit_tags.proofs.tag.put_tag.Goals as goal
 pub returns-in-Some : goal.returns-in-Some
 returns-in-Some c =
     let P : Split → Type 0 = λ z. Puts c.args.sink.now c.put_shorthand.new.sink (word (spelled z)) in
-    subst P (split_found _ _ (directive_of c.in-Some.directive.now) _ (sym c.in-Some.ensures.value)) (rw (c.behind.ensures, c.deref-in-Some.ensures.value, c.deref.ensures.value) at c.put_shorthand.ensures)
+    subst P (split_found _ _ (directive_of c.in-Some.directive.now) _ (sym c.in-Some.ensures.value)) (rw (c.suffix_behind.ensures, c.deref-in-Some.ensures.value, c.deref.ensures.value) at c.put_shorthand.ensures)
 
 pub returns-in-None : goal.returns-in-None
 returns-in-None c =

@@ -10,7 +10,7 @@ use Rattle.yaml_round_answers.proofs.Refusing.{refused_answer}
 use Rattle.yaml_round_answers.proofs.engine.listed.Goals as goal
 
 pub returns-in-Ok : goal.returns-in-Ok
-returns-in-Ok c = record { result = Ok c.in-Ok.lines.items; is = c.in-Ok.ensures; told = c.told.ensures }
+returns-in-Ok c = record { result = Ok c.in-Ok.lines.items; is = c.in-Ok.ensures; told = c.text_answer.ensures }
 
 pub returns-in-Err : goal.returns-in-Err
 returns-in-Err c =

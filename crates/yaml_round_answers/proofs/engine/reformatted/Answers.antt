@@ -20,7 +20,7 @@ returns-in-Ok c =
     record {
       result = Ok (c.in-Ok.text.items, c.in-Ok.form);
       is = c.in-Ok.ensures;
-      told = subst (λ m. TellsText c.in-Ok.text.items m c.told.result) n c.told.ensures;
+      told = subst (λ m. TellsText c.in-Ok.text.items m c.text_answer.result) n c.text_answer.ensures;
     }
 
 pub returns-in-Err : goal.returns-in-Err

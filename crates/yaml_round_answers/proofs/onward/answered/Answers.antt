@@ -6,7 +6,7 @@ use Rattle.yaml_round_answers.proofs.Going.{on_told, on_refused}
 use Rattle.yaml_round_answers.proofs.onward.answered.Goals as goal
 
 pub returns-in-Ok : goal.returns-in-Ok
-returns-in-Ok c = on_told _ _ _ _ _ (onward_of c.in-Ok.onward) _ c.in-Ok.ensures (c.told.ensures, c.stand_out.ensures)
+returns-in-Ok c = on_told _ _ _ _ _ (onward_of c.in-Ok.onward) _ c.in-Ok.ensures (c.text_answer.ensures, c.stand_out.ensures)
 
 pub returns-in-Err : goal.returns-in-Err
 returns-in-Err c = on_refused _ _ _ _ _ (fault_of c.in-Err.fault) _ refl c.in-Err.ensures c.refused.ensures

@@ -16,9 +16,9 @@ loop-record-init c = record {
 pub loop-record-preserved : goal.loop-record-preserved
 loop-record-preserved c = record {
   meant = rest_meant _ _ _ _ _ _ c.loop-record-test.true c.loop-record.invariant.meant c.in-Some.ensures.is;
-  leads = leads_record _ _ _ _ _ _ _ _ _ _ c.loop-record-test.true c.loop-record.invariant.meant c.in-Some.ensures.is c.loop-record.invariant.leads c.give.ensures.takes;
-  last = last_record _ _ _ _ _ _ _ _ _ _ c.loop-record-test.true c.loop-record.invariant.meant c.in-Some.ensures.is c.loop-record.invariant.last c.give.ensures.stays c.give.ensures.last;
-  few = λ few. c.give.ensures.few;
+  leads = leads_record _ _ _ _ _ _ _ _ _ _ c.loop-record-test.true c.loop-record.invariant.meant c.in-Some.ensures.is c.loop-record.invariant.leads c.emit_record.ensures.takes;
+  last = last_record _ _ _ _ _ _ _ _ _ _ c.loop-record-test.true c.loop-record.invariant.meant c.in-Some.ensures.is c.loop-record.invariant.last c.emit_record.ensures.stays c.emit_record.ensures.last;
+  few = λ few. c.emit_record.ensures.few;
 }
 
 pub returns-then-is_empty-clause-given : goal.returns-then-is_empty-clause-given

@@ -10,6 +10,6 @@ events-preserved c =
     record {
       ending = front.ending ∙ c.events.invariant.ending;
       real = front.real;
-      leads = gives c.args.form.now c.args.emitter.now c.events.emitter c.give.new.emitter c.args.reading.now.parser.events c.events.reading.parser c.next.new.self.parser
-          (event_of c.next.new.self.event) c.events.form c.give.new.form c.events.invariant.leads front c.give.ensures;
+      leads = gives c.args.form.now c.args.emitter.now c.events.emitter c.emit_formed.new.emitter c.args.reading.now.parser.events c.events.reading.parser c.next.new.self.parser
+          (event_of c.next.new.self.event) c.events.form c.emit_formed.new.form c.events.invariant.leads front c.emit_formed.ensures;
     }

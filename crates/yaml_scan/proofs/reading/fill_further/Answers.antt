@@ -8,12 +8,12 @@ use Rattle.yaml_scan.proofs.reading.fill_further.Goals as goal
 pub steps-preserved : goal.steps-preserved
 steps-preserved c =
     let i = c.steps.invariant in
-    let (stands, on) = steps_on c.steps.machine c.step.new.machine (fault_of c.step.new.fault) c.step.result c.if-not-step.false c.step.ensures in
+    let (stands, on) = steps_on c.steps.machine c.read_one_more.new.machine (fault_of c.read_one_more.new.fault) c.read_one_more.result c.if-not-read_one_more.false c.read_one_more.ensures in
     record {
       stands = stands;
-      same = goes_same c.steps.machine c.step.new.machine on ∙ i.same;
+      same = goes_same c.steps.machine c.read_one_more.new.machine on ∙ i.same;
       started = on.started ∙ i.started;
-      reads = reads_both c.args.machine.now c.steps.machine c.step.new.machine (same_left c.args.machine.now c.steps.machine c.requires.started i.started i.same) i.reads (reads_more c.steps.machine c.step.new.machine i.stands i.sought on);
+      reads = reads_both c.args.machine.now c.steps.machine c.read_one_more.new.machine (same_left c.args.machine.now c.steps.machine c.requires.started i.started i.same) i.reads (reads_more c.steps.machine c.read_one_more.new.machine i.stands i.sought on);
       sought = sym c.has_token-known.ensures ∙ c.if-known.false;
       some = omega (arith, on.dropped, on.further);
     }
@@ -29,31 +29,31 @@ returns-then-machine c =
       reads = i.reads;
     }
 
-pub step-requires-clause-may : goal.step-requires-clause-may
-step-requires-clause-may c =
+pub read_one_more-requires-clause-may : goal.read_one_more-requires-clause-may
+read_one_more-requires-clause-may c =
     let i = c.steps.invariant in
     record { stands = i.stands; started = i.started; sought = i.sought; more = c.if-machine.false }
 
-pub returns-then-not-step : goal.returns-then-not-step
-returns-then-not-step c =
+pub returns-then-not-read_one_more : goal.returns-then-not-read_one_more
+returns-then-not-read_one_more c =
     let i = c.steps.invariant in
-    let (refused, few) = steps_off c.steps.machine c.step.new.machine (fault_of c.step.new.fault) c.step.result c.if-not-step.true c.step.ensures in
+    let (refused, few) = steps_off c.steps.machine c.read_one_more.new.machine (fault_of c.read_one_more.new.fault) c.read_one_more.result c.if-not-read_one_more.true c.read_one_more.ensures in
     record {
       sought = c.requires.sought;
       more = denied_more c.args.machine.now c.steps.machine c.requires.started i.same i.stands i.sought c.if-machine.false;
-      told = told_refused c.args.machine.now c.steps.machine (fault_of c.step.new.fault) c.requires.started i.same i.stands i.sought c.if-machine.false refused;
-      reader = refused_lacks c.args.machine.now c.steps.machine (fault_of c.step.new.fault) refused;
-      plain = decoded_plain c.args.machine.now (fault_of c.step.new.fault) c.requires.stands c.requires.started;
+      told = told_refused c.args.machine.now c.steps.machine (fault_of c.read_one_more.new.fault) c.requires.started i.same i.stands i.sought c.if-machine.false refused;
+      reader = refused_lacks c.args.machine.now c.steps.machine (fault_of c.read_one_more.new.fault) refused;
+      plain = decoded_plain c.args.machine.now (fault_of c.read_one_more.new.fault) c.requires.stands c.requires.started;
       few = few;
     }
 
 pub returns-then-known : goal.returns-then-known
 returns-then-known c =
     let i = c.steps.invariant in
-    let (stands, on) = steps_on c.steps.machine c.step.new.machine (fault_of c.step.new.fault) c.step.result c.if-not-step.false c.step.ensures in
+    let (stands, on) = steps_on c.steps.machine c.read_one_more.new.machine (fault_of c.read_one_more.new.fault) c.read_one_more.result c.if-not-read_one_more.false c.read_one_more.ensures in
     record {
       stands = stands;
-      left = left_is c.step.new.machine (on.started ∙ i.started) ∙ goes_same c.steps.machine c.step.new.machine on ∙ i.same ∙ sym (left_is c.args.machine.now c.requires.started);
+      left = left_is c.read_one_more.new.machine (on.started ∙ i.started) ∙ goes_same c.steps.machine c.read_one_more.new.machine on ∙ i.same ∙ sym (left_is c.args.machine.now c.requires.started);
       ready = sym c.has_token-known.ensures ∙ c.if-known.true;
-      reads = reads_both c.args.machine.now c.steps.machine c.step.new.machine (same_left c.args.machine.now c.steps.machine c.requires.started i.started i.same) i.reads (reads_more c.steps.machine c.step.new.machine i.stands i.sought on);
+      reads = reads_both c.args.machine.now c.steps.machine c.read_one_more.new.machine (same_left c.args.machine.now c.steps.machine c.requires.started i.started i.same) i.reads (reads_more c.steps.machine c.read_one_more.new.machine i.stands i.sought on);
     }

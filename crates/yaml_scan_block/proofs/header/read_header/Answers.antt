@@ -19,7 +19,7 @@ returns-then-is_text c =
     let p = c.args.reader.now.at in
     let d : c.if_chomping-digit.result ≡ byte text (digit_place text p) = rw (c.here-first.ensures, c.byte-second.ensures) at c.if_chomping-digit.ensures ∙ digit_there text p in
     let z : byte text (digit_place text p) ≢ 48 = omega (arith, d, c.if-digit-eq48.false) in
-    let e = rw (c.skip_blanks.ensures, c.skip_indicators.ensures) at c.skip_comment.ensures in
+    let e = rw (c.skip_blanks.ensures, c.skip_indicators.ensures) at c.pass_comment.ensures in
     let k : is_text text (header_end text p) ≡ true = rw e at (sym c.is_text.ensures ∙ c.if-is_text.true) in
     let m = rw e at c.mark.ensures in
     rw (wrong_header text p z k, c.wrong_block.ensures, m) (record { value = refl; small = tt })
@@ -31,7 +31,7 @@ returns c =
     let d : c.if_chomping-digit.result ≡ byte text (digit_place text p) = rw (c.here-first.ensures, c.byte-second.ensures) at c.if_chomping-digit.ensures ∙ digit_there text p in
     let s : c.if_digit-chomping.result ≡ byte text (chomping_place text p) = rw (c.here-first.ensures, c.byte-second.ensures) at c.if_digit-chomping.ensures ∙ chomping_there text p in
     let z : byte text (digit_place text p) ≢ 48 = omega (arith, d, c.if-digit-eq48.false) in
-    let e = rw (c.skip_blanks.ensures, c.skip_indicators.ensures) at c.skip_comment.ensures in
+    let e = rw (c.skip_blanks.ensures, c.skip_indicators.ensures) at c.pass_comment.ensures in
     let k : is_text text (header_end text p) ≡ false = rw e at (sym c.is_text.ensures ∙ c.if-is_text.false) in
     let last = rw e at c.skip_last_break.ensures in
     let chomp = rw s at c.chomp_of.ensures in

@@ -2,14 +2,14 @@ use Rattle.std.proofs.Common.{◌≡◌, ◌-◌, inl, inr, refl, arith}
 use Rattle.yaml_scan_scalars.proofs.RunLemmas.{run_start, run_ends, starts_bytes, bytes_none}
 use Rattle.yaml_scan_scalars.proofs.quoted.keep_run.Goals as goal
 
-pub returns-then-not-is_kept : goal.returns-then-not-is_kept
-returns-then-not-is_kept c =
+pub returns-then-not-keeps_space : goal.returns-then-not-keeps_space
+returns-then-not-keeps_space c =
     let p = c.args.reader.now.at in
     let z : p - p ≡ 0 = omega arith in
     (run_start c.args.reader.now.text p, λ ps. rw (z, bytes_none c.args.reader.now.text p) refl)
 
 pub keep_some-requires-clause-first : goal.keep_some-requires-clause-first
-keep_some-requires-clause-first c = elim (c.is_kept.ensures c.if-not-is_kept.false) [
+keep_some-requires-clause-first c = elim (c.keeps_space.ensures c.if-not-keeps_space.false) [
   | inl g ↦ inl g
   | inr n ↦ inr (rw c.ordinary_run.ensures.bytes (starts_bytes c.args.reader.now.text c.args.reader.now.at _ n))
 ]

@@ -16,8 +16,8 @@ leap-requires-clause-low c = rw c.ahead-behind.ensures (λ k after before. let l
 pub leap-requires-clause-high : goal.leap-requires-clause-high
 leap-requires-clause-high c = rw c.ahead-behind.ensures (λ k after before. (short_printed c.args.reader.now.text c.args.reader.now.at c.suffix_end.result k c.requires c.suffix_end.ensures after before).1)
 
-pub copied-requires-clause-forward : goal.copied-requires-clause-forward
-copied-requires-clause-forward c =
+pub copied_run-requires-clause-forward : goal.copied_run-requires-clause-forward
+copied_run-requires-clause-forward c =
     let low = handle_forward c.args.reader.now.text c.args.reader.now.at in
     rw (c.place.ensures, c.handle_end-middle.ensures) (omega arith)
 
@@ -26,7 +26,7 @@ returns c =
     let text = c.args.reader.now.text in
     let p = c.args.reader.now.at in
     let q = c.suffix_end.result in
-    let h : (not (byte text (p + 1) == 60) && (not (handle_end text p == q) && may_end_tag c.args.flow text q)) ≡ true = rw (c.byte.ensures, c.handle_end-middle.ensures, c.leap.ensures, c.ahead-behind.ensures) at (sym c.is_short.ensures ∙ c.if-not-is_short.false) in
+    let h : (not (byte text (p + 1) == 60) && (not (handle_end text p == q) && may_end_tag c.args.flow text q)) ≡ true = rw (c.byte.ensures, c.handle_end-middle.ensures, c.leap.ensures, c.ahead-behind.ensures) at (sym c.is_short_form.ensures ∙ c.if-not-is_short_form.false) in
     let handle : c.in_ok-handle.handle.items ≡ slice_range text p (handle_end text p) = rw (c.text.ensures, c.place.ensures, c.handle_end-middle.ensures) at c.in_ok-handle.ensures in
     let suffix : c.in_ok-suffix.suffix.items ≡ slice_range text (handle_end text p) q = rw (c.leap.ensures, c.ahead-behind.ensures, c.handle_end-middle.ensures) at c.in_ok-suffix.ensures in
     let end = rw (c.leap.ensures, c.ahead-behind.ensures) at c.mark-2.ensures in

@@ -3,11 +3,11 @@ use Rattle.yaml_emit_graph.specs.Graph.{turn_event}
 use Rattle.yaml_emit_graph.proofs.Leaving.{turn_comes, end_comes}
 use Rattle.yaml_emit_graph.proofs.graph.Events.step.Goals as goal
 
-pub returns-in_ok-put_turn : goal.returns-in_ok-put_turn
-returns-in_ok-put_turn c =
+pub returns-in_ok-put_turn_event : goal.returns-in_ok-put_turn_event
+returns-in_ok-put_turn_event c =
     let before : c.args.self.now.given < length c.args.self.now.turns.items = search rules in (
-      turn_comes _ _ _ _ _ c.requires.place refl refl refl before refl c.index-turn.ensures (c.in_ok-put_turn.ensures.0 ∙ ap (λ z. turn_event z c.args.document.now.nodes c.index-turn.result.now) c.deref.ensures.value),
-      c.in_ok-put_turn.ensures.1,
+      turn_comes _ _ _ _ _ c.requires.place refl refl refl before refl c.index-turn.ensures (c.in_ok-put_turn_event.ensures.0 ∙ ap (λ z. turn_event z c.args.document.now.nodes c.index-turn.result.now) c.deref.ensures.value),
+      c.in_ok-put_turn_event.ensures.1,
       search rules,
     )
 

@@ -15,14 +15,14 @@ invariant_of-self c = (
   subst FedSized c.in-Taken.ensures.0 (step_sized _ _ _ _ c.self.invariant.1 c.in-Taken.ensures.1),
 )
 
-pub give-requires : goal.give-requires
-give-requires c = record {
+pub take_document-requires : goal.take_document-requires
+take_document-requires c = record {
   sound = subst FedSound c.in-Whole.ensures.0 (step_sound _ _ _ _ c.self.invariant.0 c.requires);
   sized = subst FedSized c.in-Whole.ensures.0 (step_sized _ _ _ _ c.self.invariant.1 c.in-Whole.ensures.1);
 }
 
 pub invariant_of-self-in-Whole : goal.invariant_of-self-in-Whole
-invariant_of-self-in-Whole c = subst Keeps (sym c.give.ensures.anew) (nothing_sound, nothing_sized)
+invariant_of-self-in-Whole c = subst Keeps (sym c.take_document.ensures.anew) (nothing_sound, nothing_sized)
 
 pub invariant_of-self-in-Undefined : goal.invariant_of-self-in-Undefined
 invariant_of-self-in-Undefined c = subst Keeps (sym c.begin_anew.ensures) (nothing_sound, nothing_sized)

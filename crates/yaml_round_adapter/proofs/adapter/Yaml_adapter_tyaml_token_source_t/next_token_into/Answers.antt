@@ -11,18 +11,18 @@ returns-then-self-clause-own c = step_over c.self.inside.over c.self.inside.sess
 
 pub invariant_of-self : goal.invariant_of-self
 invariant_of-self c = record {
-  little = c.take.ensures.little;
-  texts = λ over. texts_left c.self.inside.session.remaining c.take.new.session.remaining c.if-take.ensures.adapts.takes.rest (c.self.invariant.texts over);
+  little = c.scan_checked.ensures.little;
+  texts = λ over. texts_left c.self.inside.session.remaining c.scan_checked.new.session.remaining c.if-scan_checked.ensures.adapts.takes.rest (c.self.invariant.texts over);
 }
 
-pub returns-then-take-clause-gives : goal.returns-then-take-clause-gives
-returns-then-take-clause-gives c = gives_token c.self.inside.over c.self.inside.session c.take.new.session c.args.self.now (token_of c.take.new.token) c.if-self.false c.self.view_is (c.self.invariant.texts c.if-self.false) c.if-take.ensures.adapts
+pub returns-then-scan_checked-clause-gives : goal.returns-then-scan_checked-clause-gives
+returns-then-scan_checked-clause-gives c = gives_token c.self.inside.over c.self.inside.session c.scan_checked.new.session c.args.self.now (token_of c.scan_checked.new.token) c.if-self.false c.self.view_is (c.self.invariant.texts c.if-self.false) c.if-scan_checked.ensures.adapts
 
-pub returns-then-take-clause-own : goal.returns-then-take-clause-own
-returns-then-take-clause-own c = step_token c.self.inside.over c.self.inside.session c.take.new.session c.args.self.now (token_of c.take.new.token) c.if-self.false c.self.view_is c.if-take.ensures.adapts c.take.ensures.little
+pub returns-then-scan_checked-clause-own : goal.returns-then-scan_checked-clause-own
+returns-then-scan_checked-clause-own c = step_token c.self.inside.over c.self.inside.session c.scan_checked.new.session c.args.self.now (token_of c.scan_checked.new.token) c.if-self.false c.self.view_is c.if-scan_checked.ensures.adapts c.scan_checked.ensures.little
 
 pub returns-clause-gives : goal.returns-clause-gives
-returns-clause-gives c = gives_fault c.self.inside.over c.self.inside.session c.take.new.session c.args.self.now (fault_of c.take.new.fault) c.if-self.false c.self.view_is c.if-take.ensures.adapts
+returns-clause-gives c = gives_fault c.self.inside.over c.self.inside.session c.scan_checked.new.session c.args.self.now (fault_of c.scan_checked.new.fault) c.if-self.false c.self.view_is c.if-scan_checked.ensures.adapts
 
 pub returns-clause-own : goal.returns-clause-own
-returns-clause-own c = step_fault c.self.inside.over c.self.inside.session c.take.new.session c.args.self.now (fault_of c.take.new.fault) c.if-self.false c.self.view_is c.if-take.ensures.adapts c.take.ensures.little
+returns-clause-own c = step_fault c.self.inside.over c.self.inside.session c.scan_checked.new.session c.args.self.now (fault_of c.scan_checked.new.fault) c.if-self.false c.self.view_is c.if-scan_checked.ensures.adapts c.scan_checked.ensures.little

@@ -1,4 +1,4 @@
 use Rattle.yaml_scan_machine.proofs.machine.Machine.begin.Goals as goal
 
-pub take-requires-clause-next : goal.take-requires-clause-next
-take-requires-clause-next c = record { safe = c.first-read.ensures.safe; exact = c.first-read.ensures.exact }
+pub push_lexeme-requires-clause-next : goal.push_lexeme-requires-clause-next
+push_lexeme-requires-clause-next c = record { safe = c.first-read.ensures.safe; exact = c.first-read.ensures.exact }

@@ -6,8 +6,8 @@ use Rattle.std.proofs.lemmas.List.{map-append, length-map}
 use Rattle.yaml_scan_decode.specs.DecodedText.{text_bytes}
 use Rattle.yaml_scan_machine.specs.declared.machine.Machine.{Machine}
 use Rattle.yaml_scan_queue.specs.declared.waiting.Waiting.{Waiting}
-use Rattle.yaml_scan_queue.specs.Waits.{Kept, kept_of}
-use Rattle.yaml_scan_machine.specs.State.{IsShort, IsMachine, GoesOn, AreInside, IsNarrow, IsPlace}
+use Rattle.yaml_scan_queue.specs.Waits.{KeptLexeme, kept_of}
+use Rattle.yaml_scan_machine.specs.State.{IsShort, IsMachine, ReadsOneMore, AreInside, IsNarrow, IsPlace}
 use Rattle.yaml_scan_history.specs.declared.lexeme.Lexeme.{Lexeme}
 use Rattle.yaml_scan_history.specs.History.{inside, left_by, entry_of, reached}
 use Rattle.yaml_scan_laws_order.proofs.HistoryForward.{goes_forward}
@@ -60,7 +60,7 @@ settle-self-requires c =
     let p : IsPushed f l x = record {
       encoding = codes;
       text = ap text_bytes texts;
-      waiting = ap (λ xs. map (λ (y : Waiting). kept_of y) xs) items ∙ map-append (λ (y : Waiting). kept_of y) d.waiting.items (w ∷ []) ∙ ap (λ xs. xs ++ kept_of w ∷ []) kept ∙ ap (λ (y : Kept). (kept_entries f l) ++ y ∷ []) laid;
+      waiting = ap (λ xs. map (λ (y : Waiting). kept_of y) xs) items ∙ map-append (λ (y : Waiting). kept_of y) d.waiting.items (w ∷ []) ∙ ap (λ xs. xs ++ kept_of w ∷ []) kept ∙ ap (λ (y : KeptLexeme). (kept_entries f l) ++ y ∷ []) laid;
       keys = keys;
       dropped = drops;
       place = refl;
@@ -129,7 +129,7 @@ returns-clause-ok c =
     let p : IsPushed f l x = record {
       encoding = codes;
       text = ap text_bytes texts;
-      waiting = ap (λ xs. map (λ (y : Waiting). kept_of y) xs) items ∙ map-append (λ (y : Waiting). kept_of y) d.waiting.items (w ∷ []) ∙ ap (λ xs. xs ++ kept_of w ∷ []) kept ∙ ap (λ (y : Kept). (kept_entries f l) ++ y ∷ []) laid;
+      waiting = ap (λ xs. map (λ (y : Waiting). kept_of y) xs) items ∙ map-append (λ (y : Waiting). kept_of y) d.waiting.items (w ∷ []) ∙ ap (λ xs. xs ++ kept_of w ∷ []) kept ∙ ap (λ (y : KeptLexeme). (kept_entries f l) ++ y ∷ []) laid;
       keys = keys;
       dropped = drops;
       place = refl;
@@ -173,7 +173,7 @@ returns-clause-ok c =
     let slots : d.waiting.slots ≡ m.waiting.slots = c.mark_key.ensures.slots ∙ ap (λ (x : Machine). x.waiting.slots) to_b ∙ ap (λ (x : Machine). x.waiting.slots) to_a in
     let pushed : Machine = record d { waiting = c.push_back_reserved.new.self; keys = z.keys; place = l.reached; depth = c.depth_after-self.result; allowed = c.allows-allowed.result; ended = c.is_end-self.result; settled = c.settle-self.result } in
     let is : record z { settled = c.settle-self.result } ≡ pushed = ap (λ (y : Machine). record y { settled = c.settle-self.result }) to_z in
-    subst (λ (y : Machine). IsMachine y × GoesOn m y) (sym is) (
+    subst (λ (y : Machine). IsMachine y × ReadsOneMore m y) (sym is) (
       record {
         long = omega (arith, len, c.requires.stands.long);
         few = omega (arith, len, drops, more, room, long);

@@ -19,55 +19,55 @@ use Rattle.yaml_scan_machine.proofs.TakeLemmas.{first_waits, popped_waits, gives
 use Rattle.yaml_scan_machine.proofs.ComesLemmas.{left_gives, ready_started}
 use Rattle.yaml_scan_machine.proofs.machine.Machine.take_token_into.Goals as goal
 
-pub give-requires-clause-some : goal.give-requires-clause-some
-give-requires-clause-some c =
+pub pop_token-requires-clause-some : goal.pop_token-requires-clause-some
+pop_token-requires-clause-some c =
     let m = c.args.self.now in
     let (front, rest, items) = first_waits m.dropped m.settled m.given m.waiting.items c.requires.ready in
     let len : length m.waiting.items ≡ length rest + 1 = ap (λ (ws : List Waiting). length ws) items ∙ omega arith in
     omega (arith, len)
 
-pub overflow_add-self-else-give : goal.overflow_add-self-else-give
-overflow_add-self-else-give c =
+pub overflow_add-self-else-pop_token : goal.overflow_add-self-else-pop_token
+overflow_add-self-else-pop_token c =
     let m = c.args.self.now in
     let (front, rest, items) = first_waits m.dropped m.settled m.given m.waiting.items c.requires.ready in
     let here : get_or m.waiting.items 0 front ≡ front = ap (λ (ws : List Waiting). get_or ws 0 front) items in
-    let first : Hands m.given front m.waiting c.give.new.self c.give.new.slot c.give.result = subst (λ (w : Waiting). Hands m.given w m.waiting c.give.new.self c.give.new.slot c.give.result) here (c.give.ensures front) in
-    let hands : IsInFront m.given front m.waiting c.give.new.self c.give.new.slot = subst (λ (b : Bool). Hands m.given front m.waiting c.give.new.self c.give.new.slot b) c.if-give.false first in
-    let room = given_room m front rest (body_of c.give.new.slot.body) c.requires.stands items hands.some in
+    let first : Hands m.given front m.waiting c.pop_token.new.self c.pop_token.new.slot c.pop_token.result = subst (λ (w : Waiting). Hands m.given w m.waiting c.pop_token.new.self c.pop_token.new.slot c.pop_token.result) here (c.pop_token.ensures front) in
+    let hands : IsInFront m.given front m.waiting c.pop_token.new.self c.pop_token.new.slot = subst (λ (b : Bool). Hands m.given front m.waiting c.pop_token.new.self c.pop_token.new.slot b) c.if-pop_token.false first in
+    let room = given_room m front rest (body_of c.pop_token.new.slot.body) c.requires.stands items hands.some in
     omega (arith, room)
 
-pub returns-else-give-clause-stands : goal.returns-else-give-clause-stands
-returns-else-give-clause-stands c =
+pub returns-else-pop_token-clause-stands : goal.returns-else-pop_token-clause-stands
+returns-else-pop_token-clause-stands c =
     let m = c.args.self.now in
     let (front, rest, items) = first_waits m.dropped m.settled m.given m.waiting.items c.requires.ready in
     let here : get_or m.waiting.items 0 front ≡ front = ap (λ (ws : List Waiting). get_or ws 0 front) items in
-    let first : Hands m.given front m.waiting c.give.new.self c.give.new.slot c.give.result = subst (λ (w : Waiting). Hands m.given w m.waiting c.give.new.self c.give.new.slot c.give.result) here (c.give.ensures front) in
-    let hands : IsInFront m.given front m.waiting c.give.new.self c.give.new.slot = subst (λ (b : Bool). Hands m.given front m.waiting c.give.new.self c.give.new.slot b) c.if-give.false first in
-    subst (λ (q : Line). IsMachine record m { waiting = q; given = m.given + 1 }) (sym hands.same) (stands_more m front rest (body_of c.give.new.slot.body) c.requires.stands items c.requires.ready hands.some)
+    let first : Hands m.given front m.waiting c.pop_token.new.self c.pop_token.new.slot c.pop_token.result = subst (λ (w : Waiting). Hands m.given w m.waiting c.pop_token.new.self c.pop_token.new.slot c.pop_token.result) here (c.pop_token.ensures front) in
+    let hands : IsInFront m.given front m.waiting c.pop_token.new.self c.pop_token.new.slot = subst (λ (b : Bool). Hands m.given front m.waiting c.pop_token.new.self c.pop_token.new.slot b) c.if-pop_token.false first in
+    subst (λ (q : Line). IsMachine record m { waiting = q; given = m.given + 1 }) (sym hands.same) (stands_more m front rest (body_of c.pop_token.new.slot.body) c.requires.stands items c.requires.ready hands.some)
 
-pub returns-else-give-clause-gives : goal.returns-else-give-clause-gives
-returns-else-give-clause-gives c =
+pub returns-else-pop_token-clause-gives : goal.returns-else-pop_token-clause-gives
+returns-else-pop_token-clause-gives c =
     let m = c.args.self.now in
     let (front, rest, items) = first_waits m.dropped m.settled m.given m.waiting.items c.requires.ready in
     let here : get_or m.waiting.items 0 front ≡ front = ap (λ (ws : List Waiting). get_or ws 0 front) items in
-    let first : Hands m.given front m.waiting c.give.new.self c.give.new.slot c.give.result = subst (λ (w : Waiting). Hands m.given w m.waiting c.give.new.self c.give.new.slot c.give.result) here (c.give.ensures front) in
-    let hands : IsInFront m.given front m.waiting c.give.new.self c.give.new.slot = subst (λ (b : Bool). Hands m.given front m.waiting c.give.new.self c.give.new.slot b) c.if-give.false first in
-    let b = body_of c.give.new.slot.body in
+    let first : Hands m.given front m.waiting c.pop_token.new.self c.pop_token.new.slot c.pop_token.result = subst (λ (w : Waiting). Hands m.given w m.waiting c.pop_token.new.self c.pop_token.new.slot c.pop_token.result) here (c.pop_token.ensures front) in
+    let hands : IsInFront m.given front m.waiting c.pop_token.new.self c.pop_token.new.slot = subst (λ (b : Bool). Hands m.given front m.waiting c.pop_token.new.self c.pop_token.new.slot b) c.if-pop_token.false first in
+    let b = body_of c.pop_token.new.slot.body in
     let (tokens, fault) = gives_front m front rest b c.requires.stands items c.requires.ready hands.some in
     let on = ready_started m c.requires.stands c.requires.ready in
     let t = fronted (own_token (kept_of front)) (Some b) in
-    let is : token_of c.give.new.slot ≡ t = rw (hands.start, hands.end) refl in
+    let is : token_of c.pop_token.new.slot ≡ t = rw (hands.start, hands.end) refl in
     let gives : GivesFirst (left_in m) t (left_in record m { given = m.given + 1 }) = left_gives m record m { given = m.given + 1 } t on on (tokens, fault) in
-    subst (λ (q : Line). GivesFirst (left_in m) (token_of c.give.new.slot) (left_in record m { waiting = q; given = m.given + 1 })) (sym hands.same) (subst (λ (t : Token). GivesFirst (left_in m) t (left_in record m { given = m.given + 1 })) (sym is) gives)
+    subst (λ (q : Line). GivesFirst (left_in m) (token_of c.pop_token.new.slot) (left_in record m { waiting = q; given = m.given + 1 })) (sym hands.same) (subst (λ (t : Token). GivesFirst (left_in m) t (left_in record m { given = m.given + 1 })) (sym is) gives)
 
-pub returns-then-give-clause-stands : goal.returns-then-give-clause-stands
-returns-then-give-clause-stands c =
+pub returns-then-pop_token-clause-stands : goal.returns-then-pop_token-clause-stands
+returns-then-pop_token-clause-stands c =
     let m = c.args.self.now in
     let (front, after, start) = first_waits m.dropped m.settled m.given m.waiting.items c.requires.ready in
     let here : get_or m.waiting.items 0 front ≡ front = ap (λ (ws : List Waiting). get_or ws 0 front) start in
-    let first : Hands m.given front m.waiting c.give.new.self c.give.new.slot c.give.result = subst (λ (w : Waiting). Hands m.given w m.waiting c.give.new.self c.give.new.slot c.give.result) here (c.give.ensures front) in
-    let hands : IsItsOwn m.given front m.waiting c.give.new.self c.give.new.slot = subst (λ (b : Bool). Hands m.given front m.waiting c.give.new.self c.give.new.slot b) c.if-give.true first in
-    let rest = c.give.new.self.items in
+    let first : Hands m.given front m.waiting c.pop_token.new.self c.pop_token.new.slot c.pop_token.result = subst (λ (w : Waiting). Hands m.given w m.waiting c.pop_token.new.self c.pop_token.new.slot c.pop_token.result) here (c.pop_token.ensures front) in
+    let hands : IsItsOwn m.given front m.waiting c.pop_token.new.self c.pop_token.new.slot = subst (λ (b : Bool). Hands m.given front m.waiting c.pop_token.new.self c.pop_token.new.slot b) c.if-pop_token.true first in
+    let rest = c.pop_token.new.self.items in
     let items = popped_waits m front rest c.requires.ready (sym here) hands.rest in
     let none = hands.none in
     let ready : ready_in m.dropped m.settled m.given (front ∷ rest) ≡ true = ap (λ (ws : List Waiting). ready_in m.dropped m.settled m.given ws) (sym items) ∙ c.requires.ready in
@@ -92,42 +92,42 @@ returns-then-give-clause-stands c =
       given = given_none (m.dropped + 1) m.settled (map (λ (x : Waiting). kept_of x) rest);
     }
 
-pub returns-then-give-clause-gives : goal.returns-then-give-clause-gives
-returns-then-give-clause-gives c =
+pub returns-then-pop_token-clause-gives : goal.returns-then-pop_token-clause-gives
+returns-then-pop_token-clause-gives c =
     let m = c.args.self.now in
     let (front, after, start) = first_waits m.dropped m.settled m.given m.waiting.items c.requires.ready in
     let here : get_or m.waiting.items 0 front ≡ front = ap (λ (ws : List Waiting). get_or ws 0 front) start in
-    let first : Hands m.given front m.waiting c.give.new.self c.give.new.slot c.give.result = subst (λ (w : Waiting). Hands m.given w m.waiting c.give.new.self c.give.new.slot c.give.result) here (c.give.ensures front) in
-    let hands : IsItsOwn m.given front m.waiting c.give.new.self c.give.new.slot = subst (λ (b : Bool). Hands m.given front m.waiting c.give.new.self c.give.new.slot b) c.if-give.true first in
-    let rest = c.give.new.self.items in
+    let first : Hands m.given front m.waiting c.pop_token.new.self c.pop_token.new.slot c.pop_token.result = subst (λ (w : Waiting). Hands m.given w m.waiting c.pop_token.new.self c.pop_token.new.slot c.pop_token.result) here (c.pop_token.ensures front) in
+    let hands : IsItsOwn m.given front m.waiting c.pop_token.new.self c.pop_token.new.slot = subst (λ (b : Bool). Hands m.given front m.waiting c.pop_token.new.self c.pop_token.new.slot b) c.if-pop_token.true first in
+    let rest = c.pop_token.new.self.items in
     let items = popped_waits m front rest c.requires.ready (sym here) hands.rest in
     let none = hands.none in
     let ready : ready_in m.dropped m.settled m.given (front ∷ rest) ≡ true = ap (λ (ws : List Waiting). ready_in m.dropped m.settled m.given ws) (sym items) ∙ c.requires.ready in
     let low = own_settled m.dropped m.settled m.given front rest ready none in
     let given : TokenBody → Token = λ b. record { body = b; start_mark = front.start; end_mark = front.end } in
-    let own : own_token (kept_of front) ≡ given (body_of c.give.new.slot.body) = ap given (ap body_of (sym hands.body)) in
-    let is : token_of c.give.new.slot ≡ given (body_of c.give.new.slot.body) = rw (hands.start, hands.end) refl in
+    let own : own_token (kept_of front) ≡ given (body_of c.pop_token.new.slot.body) = ap given (ap body_of (sym hands.body)) in
+    let is : token_of c.pop_token.new.slot ≡ given (body_of c.pop_token.new.slot.body) = rw (hands.start, hands.end) refl in
     let (tokens, fault) = gives_own m front rest c.requires.stands items low none in
     let on = ready_started m c.requires.stands c.requires.ready in
-    left_gives m record m { waiting = c.give.new.self; dropped = m.dropped + 1; given = 0 } (token_of c.give.new.slot) on on (tokens ∙ ap (λ (t : Token). t ∷ (remaining (stream_of m) (m.dropped + 1) 0).tokens) (own ∙ sym is), fault)
+    left_gives m record m { waiting = c.pop_token.new.self; dropped = m.dropped + 1; given = 0 } (token_of c.pop_token.new.slot) on on (tokens ∙ ap (λ (t : Token). t ∷ (remaining (stream_of m) (m.dropped + 1) 0).tokens) (own ∙ sym is), fault)
 
-pub returns-else-give-clause-keeps : goal.returns-else-give-clause-keeps
-returns-else-give-clause-keeps c =
+pub returns-else-pop_token-clause-keeps : goal.returns-else-pop_token-clause-keeps
+returns-else-pop_token-clause-keeps c =
     let m = c.args.self.now in
     let (front, rest, items) = first_waits m.dropped m.settled m.given m.waiting.items c.requires.ready in
     let here : get_or m.waiting.items 0 front ≡ front = ap (λ (ws : List Waiting). get_or ws 0 front) items in
-    let first : Hands m.given front m.waiting c.give.new.self c.give.new.slot c.give.result = subst (λ (w : Waiting). Hands m.given w m.waiting c.give.new.self c.give.new.slot c.give.result) here (c.give.ensures front) in
-    let hands : IsInFront m.given front m.waiting c.give.new.self c.give.new.slot = subst (λ (b : Bool). Hands m.given front m.waiting c.give.new.self c.give.new.slot b) c.if-give.false first in
+    let first : Hands m.given front m.waiting c.pop_token.new.self c.pop_token.new.slot c.pop_token.result = subst (λ (w : Waiting). Hands m.given w m.waiting c.pop_token.new.self c.pop_token.new.slot c.pop_token.result) here (c.pop_token.ensures front) in
+    let hands : IsInFront m.given front m.waiting c.pop_token.new.self c.pop_token.new.slot = subst (λ (b : Bool). Hands m.given front m.waiting c.pop_token.new.self c.pop_token.new.slot b) c.if-pop_token.false first in
     record { setting = refl; bytes = refl; read = ap (λ (q : Line). m.dropped + length q.items) hands.same }
 
-pub returns-then-give-clause-keeps : goal.returns-then-give-clause-keeps
-returns-then-give-clause-keeps c =
+pub returns-then-pop_token-clause-keeps : goal.returns-then-pop_token-clause-keeps
+returns-then-pop_token-clause-keeps c =
     let m = c.args.self.now in
     let (front, after, start) = first_waits m.dropped m.settled m.given m.waiting.items c.requires.ready in
     let here : get_or m.waiting.items 0 front ≡ front = ap (λ (ws : List Waiting). get_or ws 0 front) start in
-    let first : Hands m.given front m.waiting c.give.new.self c.give.new.slot c.give.result = subst (λ (w : Waiting). Hands m.given w m.waiting c.give.new.self c.give.new.slot c.give.result) here (c.give.ensures front) in
-    let hands : IsItsOwn m.given front m.waiting c.give.new.self c.give.new.slot = subst (λ (b : Bool). Hands m.given front m.waiting c.give.new.self c.give.new.slot b) c.if-give.true first in
-    let rest = c.give.new.self.items in
+    let first : Hands m.given front m.waiting c.pop_token.new.self c.pop_token.new.slot c.pop_token.result = subst (λ (w : Waiting). Hands m.given w m.waiting c.pop_token.new.self c.pop_token.new.slot c.pop_token.result) here (c.pop_token.ensures front) in
+    let hands : IsItsOwn m.given front m.waiting c.pop_token.new.self c.pop_token.new.slot = subst (λ (b : Bool). Hands m.given front m.waiting c.pop_token.new.self c.pop_token.new.slot b) c.if-pop_token.true first in
+    let rest = c.pop_token.new.self.items in
     let items = popped_waits m front rest c.requires.ready (sym here) hands.rest in
     let len : length m.waiting.items ≡ length rest + 1 = ap (λ (ws : List Waiting). length ws) items ∙ omega arith in
     record { setting = refl; bytes = refl; read = omega (arith, len) }

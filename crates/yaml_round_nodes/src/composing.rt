@@ -55,7 +55,7 @@ fn is_named(step: yaml_c_step) -> bool
 
 // The name that a record has.
 #[tactic(auto, unfolding(crate::specs::Composing::name_at))]
-fn name_at(bytes: &[u8], step: yaml_c_step) -> Option<&[u8]>
+fn spot_name(bytes: &[u8], step: yaml_c_step) -> Option<&[u8]>
     ensures { option_map (λ t. t.now) result ≡ name_at bytes.now step }
 {
     if is_named(step) {
@@ -71,7 +71,7 @@ fn is_step(bytes: &[u8], step: yaml_c_step) -> bool
     ensures { result ≡ is_step bytes.now step }
 {
     match step.kind {
-        5 => name_at(bytes, step).is_some(),
+        5 => spot_name(bytes, step).is_some(),
         6 | 7 | 9 => !is_named(step) || bytes_of(bytes, step).is_some(),
         8 | 10 => true,
         _ => false,
@@ -153,7 +153,7 @@ impl Sketching {
     fn meant(&self, bytes: &[u8], step: yaml_c_step) -> Option<i32>
         ensures { result ≡ meant_by (name_at bytes.now step) (sketch_of self.now).names }
     {
-        match name_at(bytes, step) {
+        match spot_name(bytes, step) {
             None => None,
             Some(name) => meant(&self.names, name),
         }
@@ -211,7 +211,7 @@ fn note_name(
     ensures { OnOk result (names_of names.new ≡ named (name_at bytes.now step) node
         (names_of names.old)) }
 {
-    match name_at(bytes, step) {
+    match spot_name(bytes, step) {
         None => Ok(()),
         Some(name) => note(names, Vec::from_slice(alloc, name)?, node),
     }

@@ -8,11 +8,15 @@
                                there; laws that code calls; hints of inlining and reads that nothing uses, without a reason;
                                public items without a doc comment; lemmas that another crate brings in without a line of
                                comment, unless the statement is laws' names alone, which are commented where they stand;
-                               and what --names lists
+                               a README.md of more than 150 lines, or that doesn't tell in its first 40 that comments are
+                               dropped; a crate without one, or with one of more than 15; more than 4,000 words in
+                               docs/PROVING.md; dates, numbers of issues and a machine's paths in documents, but for dates in
+                               docs/MEASURED.md; comments that say `The same.` alone; and what --names lists
     tools/house.py --names     records and data types of specs/ of which more than one crate has one of the name, but for
                                the nouns that docs/GLOSSARY.md says layer by layer; and functions (no methods, the vectors'
                                crates aside) of which more than one crate of a member has one of the name, but for those that
-                               have one meaning there (the glossary's last table)
+                               have one meaning there (the glossary's last table); and types that are named by a bare word
+                               for a position, but for those that the glossary's table of positions has
 """
 import collections
 import glob
@@ -30,6 +34,12 @@ CITES = re.compile(rf"use Rattle\.(\w+)\.proofs\.(\w+)\.(?:\{{([^}}]*)\}}|({repo
 LAWS = re.compile(r"(?:[A-Z]\w* → )*[A-Z]\w*")
 # A function that is no method.
 FUNCTION = re.compile(r"^(?:pub(?:\([a-z]+\))? )?(?:const )?fn (\w+)", re.M)
+# What a document doesn't name: a day, an issue, a machine's folder.
+ELSEWHERE = re.compile(r"\b20\d\d-[01]\d-[0-3]\d\b|\b[Ii]ssue \d+|(?<![\w.~])/(?:work|opt|home|root)/")
+DATED = ("docs/MEASURED.md",)
+# Words that say of a position nothing but that it is one.
+BARE = "Location|Place|Position|Seat|Site|Spot|Stage|Stand|Standing|Where"
+TYPE = re.compile(rf"^ *(?:(?:pub(?:\([a-z]+\))?|abbrev|opaque|unfoldable) )*(?:struct|enum|record|data) ({BARE})\b", re.M)
 ITEM = re.compile(r"\s*pub (?:fn|struct|enum|trait|const|extern|type)\b")
 
 
@@ -73,6 +83,35 @@ def unexplained(path, lines):
             yield f"{path}:{at + 1}: a read that nothing uses, without a reason"
         if ITEM.match(line) and not any(it.startswith("///") for it in above):
             yield f"{path}:{at + 1}: public, without a doc comment"
+
+
+def documents():
+    """What is wrong with the pages: too long, silent on what a reader has to know first, or bound to a day or a machine."""
+    readme = repo.read("README.md").split("\n")
+    if len(readme) > 151:
+        yield f"README.md: {len(readme) - 1} lines"
+    if not re.search(r"comments [^.]*dropped", " ".join(readme[:40])):
+        yield "README.md: its first 40 lines don't tell that comments are dropped"
+    words = len(repo.read("docs/PROVING.md").split())
+    if words > 4000:
+        yield f"docs/PROVING.md: {words} words"
+    for folder in sorted(glob.glob(f"{repo.TOP}/crates/yaml_*/")):
+        page = os.path.relpath(folder, repo.TOP) + "/README.md"
+        lines = repo.read(page).count("\n") if os.path.exists(f"{repo.TOP}/{page}") else 0
+        if not 0 < lines <= 15:
+            yield f"{page}: {lines} lines"
+    for path in sorted(glob.glob(f"{repo.TOP}/*.md") + glob.glob(f"{repo.TOP}/docs/*.md") + glob.glob(f"{repo.TOP}/crates/*/README.md")):
+        page = os.path.relpath(path, repo.TOP)
+        for number, line in enumerate(repo.read(page).split("\n"), 1):
+            found = ELSEWHERE.search(line)
+            if found and page not in DATED:
+                yield f"{page}:{number}: names {found[0]}"
+
+
+def silent_comments(path, lines):
+    for number, line in enumerate(lines, 1):
+        if re.fullmatch(r"\s*(?://+|--) The same\.?", line):
+            yield f"{path}:{number}: a comment that doesn't say what it is the same as"
 
 
 def arguments(it):
@@ -158,6 +197,15 @@ def twice_named():
             yield f"{name}: {', '.join(str(it) for it in them)}"
 
 
+def bare_positions():
+    """Types that are named by a bare word for a position, once the glossary has the table that says which one names which."""
+    kinds = glossary_names("Positions")
+    for path in files() if kinds else []:
+        for name in TYPE.findall(repo.read(path)):
+            if name not in kinds and "/proofs/" not in path:
+                yield f"{name}: {path}"
+
+
 def functions_twice_named():
     """Functions of src/ of which more than one crate of a member has one of the name."""
     found = collections.defaultdict(set)
@@ -173,7 +221,7 @@ def functions_twice_named():
 
 def main():
     if "--names" in sys.argv[1:]:
-        print("\n".join([*twice_named(), *functions_twice_named()]))
+        print("\n".join([*twice_named(), *bare_positions(), *functions_twice_named()]))
         return 0
     wrong = []
     for path in files():
@@ -181,7 +229,9 @@ def main():
         wrong += [f"{path}: {len(lines) - 1} lines"] if len(lines) > 601 else []
         wrong += wide_statements(path, lines) if "/proofs/" in path else wide_lines(path, lines)
         wrong += unexplained(path, lines) if path.endswith(".rt") else []
-    wrong += [*wrong_functions(), *uncommented_lemmas(), *twice_named(), *functions_twice_named()]
+        wrong += silent_comments(path, lines)
+    wrong += [*documents(), *wrong_functions(), *uncommented_lemmas(), *twice_named(), *bare_positions()]
+    wrong += functions_twice_named()
     print("\n".join(wrong) if wrong else "house: in order")
     return bool(wrong)
 

@@ -10,4 +10,4 @@ mod telling;
 
 pub use chars::Source;
 pub use path::{Step, push_step};
-pub use telling::{Stand, difference_text, fault_text};
+pub use telling::{Label, difference_text, fault_text};

@@ -12,7 +12,7 @@ const MOST_OF_WORD: usize = 40;
 
 /// What stands at a place of a text.
 #[derive(Clone, Copy)]
-pub struct Stand<'a> {
+pub struct Label<'a> {
     pub source: Source<'a>,
     pub mark: yaml_mark_t,
     pub what: &'a str,
@@ -101,11 +101,11 @@ fn push_problem(
 }
 
 // Adds a place, what stands there, and its source line.
-fn push_stand(text: &mut String, stand: &Stand<'_>) -> Result<(), AllocError> {
-    push_place(text, stand.source.name, stand.mark)?;
-    text.push_str(stand.what)?;
+fn push_label(text: &mut String, label: &Label<'_>) -> Result<(), AllocError> {
+    push_place(text, label.source.name, label.mark)?;
+    text.push_str(label.what)?;
     text.push('\n')?;
-    push_excerpt(text, stand.source, stand.mark)
+    push_excerpt(text, label.source, label.mark)
 }
 
 fn push_fault(
@@ -120,9 +120,9 @@ fn push_fault(
     push_place(text, source.name, place)?;
     push_problem(text, source, place, fault)?;
     match fault.context {
-        Some(what) => push_stand(
+        Some(what) => push_label(
             text,
-            &Stand {
+            &Label {
                 source,
                 mark: fault.context_mark,
                 what,
@@ -149,13 +149,13 @@ pub fn fault_text(
 pub fn difference_text(
     alloc: Global,
     path: &str,
-    first: &Stand<'_>,
-    second: &Stand<'_>,
+    first: &Label<'_>,
+    second: &Label<'_>,
 ) -> Result<String, AllocError> {
     let mut text = String::new(alloc);
     text.push_str(path)?;
     text.push('\n')?;
-    push_stand(&mut text, first)?;
-    push_stand(&mut text, second)?;
+    push_label(&mut text, first)?;
+    push_label(&mut text, second)?;
     Ok(text)
 }

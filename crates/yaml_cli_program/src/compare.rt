@@ -7,7 +7,7 @@ use crate::order::{Measure, Pair};
 use std::alloc::Global;
 use std::io::{Read, Write};
 use std::rt::Files;
-use yaml_cli_places::{Source, Stand, difference_text};
+use yaml_cli_places::{Label, Source, difference_text};
 use yaml_types::yaml_event_type_t;
 
 fn is_itself(pair: &Pair<'_>) -> bool {
@@ -84,8 +84,8 @@ fn event_words(kind: yaml_event_type_t) -> &'static str {
     }
 }
 
-fn stand_of<'a>(source: Source<'a>, met: Met) -> Stand<'a> {
-    Stand {
+fn label_of<'a>(source: Source<'a>, met: Met) -> Label<'a> {
+    Label {
         source,
         mark: met.mark,
         what: event_words(met.kind),
@@ -101,8 +101,8 @@ fn tell_difference(
     let Some(path) = &difference.path else {
         return Found::Refused;
     };
-    let first = stand_of(first, difference.first);
-    let second = stand_of(second, difference.second);
+    let first = label_of(first, difference.first);
+    let second = label_of(second, difference.second);
     match difference_text(alloc, path.as_str(), &first, &second) {
         Ok(text) => Found::Difference(text),
         Err(_) => Found::Refused,

@@ -7,7 +7,7 @@ ghost use Rattle.yaml_round_writing.specs.Readable.{IsReadableAnswer};
 
 use std::alloc::Global;
 use yaml_round_device::yaml_settings_t;
-use yaml_round_writing::{Form, Place, written};
+use yaml_round_writing::{Form, OpeningPosition, written};
 use yaml_scan_model::{yaml_encoding_t, yaml_fault_t};
 
 /// The text in the normal form that people read: the pretty layout of what the input says, with styles that the content alone
@@ -25,7 +25,7 @@ pub fn yaml_normalize(
     ensures { Answers reformat_layers bytes_of
         (IsReadableAnswer from settings.now input.now) result }
 {
-    let mut form = Form::Readable(Place::Before);
+    let mut form = Form::Readable(OpeningPosition::Before);
     match written(alloc, input, from, settings, &mut form) {
         Err(fault) => Err(fault),
         Ok(text) => Ok(text),

@@ -10,14 +10,14 @@ use Rattle.yaml_round_laws_normal.specs.round_content.Content.{content_of}
 use Rattle.yaml_round_laws_normal.specs.round_content.emit_text.Style.{last_or}
 use Rattle.yaml_round_laws_normal.specs.Readable.{readable_style}
 use Rattle.yaml_round_laws_normal.specs.Restyled as restyled
-use Rattle.yaml_round_laws_normal.specs.Restyled.{mark_by, is_first, is_start, next_place, readable_event}
-use Rattle.yaml_round_beginning.specs.declared.styles.Place.{Place}
-use Rattle.yaml_round_beginning.specs.declared.styles.Place.TheVariants as place
+use Rattle.yaml_round_laws_normal.specs.Restyled.{mark_by, is_first, is_start, next_position, readable_event}
+use Rattle.yaml_round_beginning.specs.declared.styles.OpeningPosition.{OpeningPosition}
+use Rattle.yaml_round_beginning.specs.declared.styles.OpeningPosition.TheVariants as place
 
-abbrev pub place_of : Place → restyled.Place
-place_of place.Before = restyled.Before
-place_of place.Starts = restyled.Starts
-place_of place.Within = restyled.Within
+abbrev pub position_of : OpeningPosition → restyled.OpeningPosition
+position_of place.Before = restyled.Before
+position_of place.Starts = restyled.Starts
+position_of place.Within = restyled.Within
 
 abbrev pub ends_in_space : List ℕ → Bool
 ends_in_space value = last_or 0 value == 32
@@ -27,22 +27,23 @@ abbrev pub quoted_by : Bool → List ℕ → yaml_scalar_style_t
 quoted_by broken value = if broken && not (ends_in_space value) then YAML_LITERAL_SCALAR_STYLE
     else YAML_SINGLE_QUOTED_SCALAR_STYLE
 
-abbrev pub style_of : Place → Option (List ℕ) → Option (List ℕ) → List ℕ → Bool
+abbrev pub style_of : OpeningPosition → Option (List ℕ) → Option (List ℕ) → List ℕ → Bool
     → yaml_scalar_style_t
-style_of at anchor tag value plain = readable_style (is_start (place_of at)) anchor
+style_of at anchor tag value plain = readable_style (is_start (position_of at)) anchor
     (mark_by tag plain) value
 
-abbrev pub plain_style : Place → Option (List ℕ) → List ℕ → yaml_scalar_style_t
+abbrev pub plain_style : OpeningPosition → Option (List ℕ) → List ℕ → yaml_scalar_style_t
 plain_style at anchor value = style_of at anchor None value true
 
-abbrev pub is_unmarked : Place → Option yaml_version_directive_t → List TagDirective → Bool
-is_unmarked at version directives = is_first (place_of at)
+abbrev pub is_unmarked : OpeningPosition → Option yaml_version_directive_t → List TagDirective
+    → Bool
+is_unmarked at version directives = is_first (position_of at)
     && (not (has_version version) && not (has_directives directives))
 
 -- what is given of a normalized event that stands there
-abbrev pub styled : restyled.Place → EventBody → Event
+abbrev pub styled : restyled.OpeningPosition → EventBody → Event
 styled at e = readable_event at (content_of e)
 
 -- where the next one stands
-abbrev pub behind : restyled.Place → EventBody → restyled.Place
-behind at e = next_place at (content_of e)
+abbrev pub behind : restyled.OpeningPosition → EventBody → restyled.OpeningPosition
+behind at e = next_position at (content_of e)

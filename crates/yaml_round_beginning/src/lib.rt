@@ -6,4 +6,4 @@ mod beginning;
 mod styles;
 
 pub use beginning::{Beginning, behind, is_nothing};
-pub use styles::{Place, restyle};
+pub use styles::{OpeningPosition, restyle};

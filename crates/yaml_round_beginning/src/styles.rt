@@ -21,7 +21,7 @@ const ROW: usize = 32;
 
 /// Where an event stands.
 #[derive(Clone, Copy)]
-pub enum Place {
+pub enum OpeningPosition {
     /// In front of all documents.
     Before,
     /// It is the root of a first document that needs no `---`.
@@ -121,11 +121,11 @@ fn quoted_style(value: &[u8], broken: bool) -> yaml_scalar_style_t
 }
 
 // The style of a value that counts as plain: it is plain, but for what would be nothing where the text begins.
-fn plain_style(at: Place, anchor: &Option<Vec<u8>>, value: &[u8]) -> yaml_scalar_style_t
+fn plain_style(at: OpeningPosition, anchor: &Option<Vec<u8>>, value: &[u8]) -> yaml_scalar_style_t
     ensures { result ≡ spec.plain_style at (text_of anchor.now) value.now }
 {
     match (at, anchor) {
-        (Place::Starts, None) => {
+        (OpeningPosition::Starts, None) => {
             if value.is_empty() {
                 yaml_scalar_style_t::YAML_SINGLE_QUOTED_SCALAR_STYLE
             } else {
@@ -138,7 +138,7 @@ fn plain_style(at: Place, anchor: &Option<Vec<u8>>, value: &[u8]) -> yaml_scalar
 
 // The style of a scalar.
 fn style_of(
-    at: Place,
+    at: OpeningPosition,
     anchor: &Option<Vec<u8>>,
     tag: &Option<Vec<u8>>,
     value: &[u8],
@@ -166,45 +166,46 @@ fn style_of(
 
 // Whether the document needs no `---`: it is the first, and has no directives.
 fn is_unmarked(
-    at: Place,
+    at: OpeningPosition,
     version: &Option<yaml_version_directive_t>,
     directives: &[yaml_tag_directive_t],
 ) -> bool
     ensures { result ≡ spec.is_unmarked at version.now (map directive_of directives.now) }
 {
     match at {
-        Place::Before => has_none(version, directives),
-        Place::Starts | Place::Within => false,
+        OpeningPosition::Before => has_none(version, directives),
+        OpeningPosition::Starts | OpeningPosition::Within => false,
     }
 }
 
 // Where the next event stands.
-fn place_after(event: &yaml_event_t, at: Place) -> Place
-    ensures { spec.place_of result ≡ spec.behind (spec.place_of at) (event_of event.now).body }
+fn position_after(event: &yaml_event_t, at: OpeningPosition) -> OpeningPosition
+    ensures { spec.position_of result
+        ≡ spec.behind (spec.position_of at) (event_of event.now).body }
 {
     match at {
-        Place::Before => match &event.body {
+        OpeningPosition::Before => match &event.body {
             yaml_event_body_t::DocumentStart {
                 version_directive,
                 tag_directives,
                 ..
             } => {
                 if has_none(version_directive, tag_directives) {
-                    Place::Starts
+                    OpeningPosition::Starts
                 } else {
-                    Place::Within
+                    OpeningPosition::Within
                 }
             }
-            _ => Place::Before,
+            _ => OpeningPosition::Before,
         },
-        Place::Starts | Place::Within => Place::Within,
+        OpeningPosition::Starts | OpeningPosition::Within => OpeningPosition::Within,
     }
 }
 
 // Gives the event the style and the marks of its place. It is long by its patterns: an arm for each kind.
-fn put_style(event: &mut yaml_event_t, at: Place)
+fn put_style(event: &mut yaml_event_t, at: OpeningPosition)
     ensures styled { emitter_event (event_of event.new).body
-        ≡ spec.styled (spec.place_of at) (event_of event.old).body }
+        ≡ spec.styled (spec.position_of at) (event_of event.old).body }
     ensures utf8 { HasUtf8 (event_of event.old).body → HasUtf8 (event_of event.new).body }
 {
     match &mut event.body {
@@ -258,14 +259,14 @@ fn put_style(event: &mut yaml_event_t, at: Place)
 /// Gives a normalized event, which stands there, the style and the marks that what it says decides. Where the next one stands.
 // Out of line: canonical form and pretty form, whose events go by the same function, don't come here.
 #[inline(never)]
-pub fn restyle(event: &mut yaml_event_t, at: Place) -> Place
+pub fn restyle(event: &mut yaml_event_t, at: OpeningPosition) -> OpeningPosition
     ensures styled { emitter_event (event_of event.new).body
-        ≡ spec.styled (spec.place_of at) (event_of event.old).body }
-    ensures behind { spec.place_of result
-        ≡ spec.behind (spec.place_of at) (event_of event.old).body }
+        ≡ spec.styled (spec.position_of at) (event_of event.old).body }
+    ensures behind { spec.position_of result
+        ≡ spec.behind (spec.position_of at) (event_of event.old).body }
     ensures utf8 { HasUtf8 (event_of event.old).body → HasUtf8 (event_of event.new).body }
 {
-    let next = place_after(event, at);
+    let next = position_after(event, at);
     put_style(event, at);
     next
 }

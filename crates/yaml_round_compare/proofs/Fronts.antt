@@ -4,7 +4,7 @@ use Rattle.yaml_round_content.specs.scan_model.declared.yaml_encoding_t.TheVaria
 use Rattle.yaml_parse.specs.Events.{EventBody}
 use Rattle.yaml_parse.specs.Events as event
 use Rattle.yaml_round_content.specs.Said.{ScalarMark, untagged, tagged, Node, alias, scalar, sequence, mapping, Nodes, no_nodes, node, Pairs, no_pairs, pair, Document, scalar_says, node_says, items_say, pairs_say, documents_say, stream_says}
-use Rattle.yaml_round_compare.specs.Places.{Inside, at_root, at_item, at_key, at_value, Place, between, within, at_end, inside_says, whole_say, place_says}
+use Rattle.yaml_round_compare.specs.Places.{Inside, at_root, at_item, at_key, at_value, StreamPosition, between, within, at_end, inside_says, whole_say, position_says}
 use Rattle.yaml_round_compare.proofs.Placing.{placed}
 
 -- how many ends of a stream there are
@@ -45,10 +45,10 @@ whole_ends : (ds : List Document) (es : List EventBody) → ends (whole_say ds e
 whole_ends [] es = refl
 whole_ends (d ∷ ds) es = node_ends d.root (event.document_end true ∷ whole_say ds es) ∙ whole_ends ds es
 
-place_ends : (p : Place) → ends (place_says p []) ≡ 0
-place_ends (between ds) = whole_ends ds []
-place_ends (within ds version directives inside) = whole_ends ds _ ∙ inside_ends inside []
-place_ends (at_end ds d) = whole_ends ds _ ∙ node_ends d.root []
+position_ends : (p : StreamPosition) → ends (position_says p []) ≡ 0
+position_ends (between ds) = whole_ends ds []
+position_ends (within ds version directives inside) = whole_ends ds _ ∙ inside_ends inside []
+position_ends (at_end ds d) = whole_ends ds _ ∙ node_ends d.root []
 
 documents_end : (ds : List Document) → ends (documents_say ds) ≡ 1
 unfolding documents_say
@@ -63,4 +63,4 @@ pub whole_stream : (c d : List Document) (t : List EventBody) → stream_says c 
 whole_stream c d [] e = refl
 whole_stream c d (g ∷ gs) e =
     let p = placed d (event.stream_start YAML_ANY_ENCODING) (documents_say c) g gs (sym e) in
-    absurd (one_and_none (ends (stream_says c)) (documents_end c) (ap (λ (x : List EventBody). ends x) p.1 ∙ place_ends p.0))
+    absurd (one_and_none (ends (stream_says c)) (documents_end c) (ap (λ (x : List EventBody). ends x) p.1 ∙ position_ends p.0))

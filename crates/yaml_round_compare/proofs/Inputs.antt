@@ -22,12 +22,12 @@ use Rattle.yaml_round_reading.specs.Reading.{IsFaultOf}
 use Rattle.yaml_round_reading.proofs.Plain.{right_ending}
 use Rattle.yaml_round_compare.specs.declared.difference.yaml_difference_t.{yaml_difference_t}
 use Rattle.yaml_round_compare.specs.declared.front.Front.{Front}
-use Rattle.yaml_round_compare.specs.Places.{Place, place_says, Path}
+use Rattle.yaml_round_compare.specs.Places.{StreamPosition, position_says, Path}
 use Rattle.yaml_round_compare.specs.Walking.{past, start}
 use Rattle.yaml_round_compare.specs.Differences.{TellsOf}
 use Rattle.yaml_round_compare.specs.Loaded.{next_of, event_at, SameDocuments, IsDocumentsParting, IsLoadable}
 use Rattle.yaml_round_compare.specs.Dumps.{documents_left, IsStarted, PartsBehind, TellsOfInputs}
-use Rattle.yaml_round_compare.proofs.Walks.{place_walked}
+use Rattle.yaml_round_compare.proofs.Walks.{position_walked}
 use Rattle.yaml_round_compare.proofs.Placing.{placed}
 
 -- ---- what is loaded
@@ -102,7 +102,7 @@ behind_same [] ys zs e = e
 behind_same (x ∷ xs) ys zs e = behind_same xs ys zs (rest_same x (xs ++ ys) (xs ++ zs) e)
 
 abbrev InFront : List EventBody → Type 0
-InFront front = (p : Place) × (front ≡ place_says p [])
+InFront front = (p : StreamPosition) × (front ≡ position_says p [])
 
 in_front : (c d : List content.Document) (before left other_left : List EventBody)
     → documents_say c ≡ before ++ left → documents_say d ≡ before ++ other_left
@@ -149,5 +149,5 @@ all_part a_from a b_from b ds es old new d h k p q s parts t =
       tells = subst (λ (n : ℕ). TellsOf (event_at (events_of a_from a) n) (event_at (events_of b_from b) n) d) (counted new.events old.events g.before s.events g.events) t.0;
       place = there.0;
       in_front = there.1;
-      path = t.1 ∙ g.path ∙ ap (λ (w : Path). past g.before w) s.path ∙ ap (λ (x : List EventBody). past x start) there.1 ∙ place_walked there.0;
+      path = t.1 ∙ g.path ∙ ap (λ (w : Path). past g.before w) s.path ∙ ap (λ (x : List EventBody). past x start) there.1 ∙ position_walked there.0;
     }

@@ -16,11 +16,11 @@ use Rattle.yaml_round_reading.specs.Reading.{contents}
 use Rattle.yaml_round_reading.proofs.Plain.{has_events}
 use Rattle.yaml_round_compare.specs.declared.difference.yaml_difference_t.{yaml_difference_t}
 use Rattle.yaml_round_compare.specs.declared.trail.Trail.{Trail}
-use Rattle.yaml_round_compare.specs.Places.{Place, place_says, Path, path_of}
+use Rattle.yaml_round_compare.specs.Places.{StreamPosition, position_says, Path, path_of}
 use Rattle.yaml_round_compare.specs.Walking.{past, start, IsFreshTrail}
 use Rattle.yaml_round_compare.specs.Compare.{AreApart, Parted, WhereDifferent, ComparesReadings}
 use Rattle.yaml_round_compare.specs.Differences.{saying, IsParting}
-use Rattle.yaml_round_compare.proofs.Walks.{place_walked}
+use Rattle.yaml_round_compare.proofs.Walks.{position_walked}
 use Rattle.yaml_round_compare.proofs.Placing.{placed}
 use Rattle.yaml_round_compare.proofs.Fronts.{whole_stream}
 
@@ -58,7 +58,7 @@ begun_alike c d a b x y e f =
 -- ---- the place
 
 abbrev InFront : List EventBody → Type 0
-InFront front = (p : Place) × (front ≡ place_says p [])
+InFront front = (p : StreamPosition) × (front ≡ position_says p [])
 
 in_front : (c d : List Document) (before other_before : List Told) (e f : EventBody)
     (es fs : List EventBody)
@@ -107,7 +107,7 @@ parted_at a_from a b_from b place before other_before (x ∷ xs) (y ∷ ys) p q 
       tells = apart.1;
       place = there.0;
       in_front = there.1;
-      path = path ∙ ap (λ (es : List EventBody). past es start) there.1 ∙ place_walked there.0;
+      path = path ∙ ap (λ (es : List EventBody). past es start) there.1 ∙ position_walked there.0;
     }
 
 pub parting_told : (kept : Bool) (a_from : yaml_encoding_t) (a : List ℕ) (b_from : yaml_encoding_t)

@@ -6,7 +6,7 @@ use Rattle.yaml_round_content.specs.scan_model.declared.yaml_mapping_style_t.The
 use Rattle.yaml_parse.specs.Events.{EventBody}
 use Rattle.yaml_parse.specs.Events as event
 use Rattle.yaml_round_content.specs.Said.{Node, alias, scalar, sequence, mapping, Nodes, no_nodes, node, Pairs, no_pairs, pair, Document, scalar_says, node_says, items_say, pairs_say, documents_say, stream_says}
-use Rattle.yaml_round_compare.specs.Places.{Inside, at_root, at_item, at_key, at_value, Place, between, within, at_end, inside_says, whole_say, place_says}
+use Rattle.yaml_round_compare.specs.Places.{Inside, at_root, at_item, at_key, at_value, StreamPosition, between, within, at_end, inside_says, whole_say, position_says}
 
 -- ---- lists
 
@@ -193,7 +193,7 @@ mutual
 -- ---- in a stream
 
 abbrev Placed : List Document → List EventBody → Type 0
-Placed before fs = (p : Place) × (event.stream_start YAML_ANY_ENCODING ∷ whole_say before fs ≡ place_says p [])
+Placed before fs = (p : StreamPosition) × (event.stream_start YAML_ANY_ENCODING ∷ whole_say before fs ≡ position_says p [])
 
 nothing_splits : (f : EventBody) (fs : List EventBody) (g : EventBody) (gs : List EventBody)
     → Splits [] (f ∷ fs) g gs → ⊥
@@ -217,7 +217,7 @@ behind_root : (before ds : List Document) (d : Document) (g : EventBody) (gs : L
     → Placed (with_document before d) hs)
     → (fs hs : List EventBody) → Splits (event.document_end true ∷ documents_say ds) hs g gs
     → fs ≡ node_says d.root hs
-    → (p : Place) × (in_document before d fs ≡ place_says p [])
+    → (p : StreamPosition) × (in_document before d fs ≡ position_says p [])
 behind_root before ds d g gs more fs [] s e = (at_end before d, ap (λ (x : List EventBody). in_document before d x) e)
 behind_root before ds d g gs more fs (h ∷ hs) s e =
     let r = more hs (rest_splits (event.document_end true) h (documents_say ds) hs g gs s) in
@@ -254,7 +254,7 @@ in_documents (d ∷ ds) before fs g gs s = document_placed before ds d g gs (λ 
 -- What stands in front of an event of a stream is in front of a place.
 pub placed : (c : List Document) (f : EventBody) (fs : List EventBody) (g : EventBody)
     (gs : List EventBody) → stream_says c ≡ f ∷ fs ++ g ∷ gs
-    → (p : Place) × (f ∷ fs ≡ place_says p [])
+    → (p : StreamPosition) × (f ∷ fs ≡ position_says p [])
 placed c f fs g gs s =
     let head = event.stream_start YAML_ANY_ENCODING in
     let r = in_documents c [] fs g gs (rest_splits head f (documents_say c) fs g gs s) in

@@ -5,7 +5,7 @@ use Rattle.yaml_round_content.specs.scan_model.declared.yaml_mapping_style_t.The
 use Rattle.yaml_parse.specs.Events.{EventBody}
 use Rattle.yaml_parse.specs.Events as event
 use Rattle.yaml_round_content.specs.Said.{ScalarMark, untagged, tagged, Node, alias, scalar, sequence, mapping, Nodes, no_nodes, node, Pairs, no_pairs, pair, Document, scalar_says, node_says, items_say, pairs_say}
-use Rattle.yaml_round_compare.specs.Places.{Inside, at_root, at_item, at_key, at_value, Place, between, within, at_end, inside_says, whole_say, place_says, PathStep, item, key, value, Path, text_of_key, count_items, count_pairs, steps_to, path_to}
+use Rattle.yaml_round_compare.specs.Places.{Inside, at_root, at_item, at_key, at_value, StreamPosition, between, within, at_end, inside_says, whole_say, position_says, PathStep, item, key, value, Path, text_of_key, count_items, count_pairs, steps_to, path_to}
 use Rattle.yaml_round_compare.specs.Walking.{past, past_node, start}
 
 -- in a document of that number
@@ -84,11 +84,11 @@ stream_walked : (ds : List Document) (es : List EventBody)
     → past (whole_say ds es) start ≡ past es (at (length ds) [])
 stream_walked ds es = whole_walked ds es 0 ∙ ap (λ (m : ℕ). past es (at m [])) (from_none (length ds))
 
-pub place_walked : (p : Place) → past (place_says p []) start ≡ path_to p
-place_walked (between ds) = stream_walked ds []
-place_walked (within ds version directives inside) =
+pub position_walked : (p : StreamPosition) → past (position_says p []) start ≡ path_to p
+position_walked (between ds) = stream_walked ds []
+position_walked (within ds version directives inside) =
     stream_walked ds (event.document_start version directives true ∷ inside_says inside [])
     ∙ inside_walked inside [] (length ds)
-place_walked (at_end ds d) =
+position_walked (at_end ds d) =
     stream_walked ds (event.document_start d.version d.directives true ∷ node_says d.root [])
     ∙ node_walked d.root [] (length ds) []

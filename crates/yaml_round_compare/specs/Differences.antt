@@ -12,7 +12,7 @@ use Rattle.yaml_round_reading.specs.declared.side.yaml_side_t.{yaml_side_t}
 use Rattle.yaml_round_reading.specs.Reading.{contents}
 use Rattle.yaml_round_reading.specs.Answers.{SameContent, IsSideStarved, IsSideFaulty}
 use Rattle.yaml_round_compare.specs.declared.difference.yaml_difference_t.{yaml_difference_t}
-use Rattle.yaml_round_compare.specs.Places.{Place, place_says, path_to, path_of}
+use Rattle.yaml_round_compare.specs.Places.{StreamPosition, position_says, path_to, path_of}
 
 -- what an event says, normalized
 abbrev pub saying : EventBody → EventBody
@@ -40,8 +40,8 @@ pub record IsParting (a_from : yaml_encoding_t) (a : List ℕ) (b_from : yaml_en
   pub alike : contents before ≡ contents other_before
   pub differ : saying next.0.body ≡ saying other_next.0.body → ⊥
   pub tells : TellsOf next.0 other_next.0 d
-  pub place : Place
-  pub in_front : contents before ≡ place_says place []
+  pub place : StreamPosition
+  pub in_front : contents before ≡ position_says place []
   pub path : path_of d ≡ path_to place
 
 -- the answer to where two inputs part: nowhere, there, or a refusal, as where they are compared

@@ -16,7 +16,7 @@ use Rattle.yaml_round_content.specs.PlainLoading.{PlainLoading}
 use Rattle.yaml_round_reading.specs.declared.side.yaml_side_t.{yaml_side_t}
 use Rattle.yaml_round_reading.specs.declared.side.yaml_side_t.TheVariants.{First, Second}
 use Rattle.yaml_round_compare.specs.declared.difference.yaml_difference_t.{yaml_difference_t}
-use Rattle.yaml_round_compare.specs.Places.{Place, place_says, path_to, path_of}
+use Rattle.yaml_round_compare.specs.Places.{StreamPosition, position_says, path_to, path_of}
 use Rattle.yaml_round_compare.specs.Differences.{TellsOf}
 
 -- what documents say as they are dumped: a node that is met again has an anchor by number, and each tag is written
@@ -64,8 +64,8 @@ pub record IsDocumentsParting (a_from : yaml_encoding_t) (a : List ℕ) (b_from 
   pub differ : next_of left ≡ next_of other_left → ⊥
   pub tells : TellsOf (event_at (events_of a_from a) (length before))
       (event_at (events_of b_from b) (length before)) d
-  pub place : Place
-  pub in_front : before ≡ place_says place []
+  pub place : StreamPosition
+  pub in_front : before ≡ position_says place []
   pub path : path_of d ≡ path_to place
 
 abbrev pub IsLoadable : yaml_encoding_t → List ℕ → Type 0

@@ -21,10 +21,11 @@ pub data Inside : Type 0 where
 
 -- Where in a stream, behind whole documents: between two or at the end; inside one with that version and those
 -- directives; or behind the root of one, at its end.
-pub data Place : Type 0 where
-  between : List Document → Place
-  within : List Document → Option yaml_version_directive_t → List TagDirective → Inside → Place
-  at_end : List Document → Document → Place
+pub data StreamPosition : Type 0 where
+  between : List Document → StreamPosition
+  within : List Document → Option yaml_version_directive_t → List TagDirective → Inside
+      → StreamPosition
+  at_end : List Document → Document → StreamPosition
 
 -- ---- what stands in front
 
@@ -44,11 +45,11 @@ whole_say (d ∷ ds) es = event.document_start d.version d.directives true ∷ n
     (event.document_end true ∷ whole_say ds es)
 
 -- all that stands in front, and then that
-abbrev pub place_says : Place → List EventBody → List EventBody
-place_says (between ds) es = event.stream_start YAML_ANY_ENCODING ∷ whole_say ds es
-place_says (within ds version directives inside) es = event.stream_start YAML_ANY_ENCODING
+abbrev pub position_says : StreamPosition → List EventBody → List EventBody
+position_says (between ds) es = event.stream_start YAML_ANY_ENCODING ∷ whole_say ds es
+position_says (within ds version directives inside) es = event.stream_start YAML_ANY_ENCODING
     ∷ whole_say ds (event.document_start version directives true ∷ inside_says inside es)
-place_says (at_end ds d) es = event.stream_start YAML_ANY_ENCODING
+position_says (at_end ds d) es = event.stream_start YAML_ANY_ENCODING
     ∷ whole_say ds (event.document_start d.version d.directives true ∷ node_says d.root es)
 
 -- ---- the path
@@ -84,7 +85,7 @@ steps_to (at_key outer anchor tag pairs) = key (count_pairs pairs) ∷ steps_to 
 steps_to (at_value outer anchor tag pairs k) = value (count_pairs pairs) (text_of_key k)
     ∷ steps_to outer
 
-abbrev pub path_to : Place → Path
+abbrev pub path_to : StreamPosition → Path
 path_to (between ds) = record { document = length ds; steps = [] }
 path_to (within ds version directives inside) = record
     { document = length ds; steps = steps_to inside }

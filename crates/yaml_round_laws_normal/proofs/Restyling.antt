@@ -13,15 +13,16 @@ use Rattle.yaml_round_content.specs.Said.{ScalarMark, untagged, tagged, Node, al
 use Rattle.yaml_round_content.specs.Writable.{IsName, IsAnchor, IsTag, IsMark, IsWritable, AreItemsWritable, ArePairsWritable, AreWritable}
 use Rattle.yaml_round_content.proofs.WritableContents.{are_writable as inputs_writable}
 use Rattle.yaml_round_laws_normal.specs.Readable.{readable_scalar, readable_start, readable_node, readable_nodes, readable_pairs, is_unmarked, documents_from, readable_documents}
-use Rattle.yaml_round_laws_normal.specs.Restyled.{Place, Before, Within, root_place, readable_event, readable_events, ReadableIsLaidOut}
+use Rattle.yaml_round_laws_normal.specs.Restyled.{OpeningPosition, Before, Within, root_position, readable_event, readable_events, ReadableIsLaidOut}
 use Rattle.yaml_round_content.proofs.Passing.{or_none}
 use Rattle.yaml_round_content.proofs.Naming.{not_zero}
 
 -- ---- the events
 
-scalar_event : (at : Place) (b : Bool) (anchor : Option (List ℕ)) (mark : ScalarMark) (value : List
+scalar_event : (at : OpeningPosition) (b : Bool) (anchor : Option (List ℕ)) (mark : ScalarMark)
+    (value : List
     ℕ)
-    → readable_event (root_place b) (scalar_says anchor mark value)
+    → readable_event (root_position b) (scalar_says anchor mark value)
     ≡ emit.scalar (readable_scalar b anchor mark value)
 scalar_event at true anchor (untagged plain) value = refl
 scalar_event at true anchor (tagged t) value = refl
@@ -32,7 +33,7 @@ mutual
   unfolding node_says items_say pairs_say emit.node_events emit.items_events emit.pairs_events
 
   node_styled : (b : Bool) (n : Node) (es : List EventBody)
-      → readable_events (root_place b) (node_says n es)
+      → readable_events (root_position b) (node_says n es)
       ≡ emit.node_events (readable_node b n) (readable_events Within es)
   node_styled true (alias name) es = refl
   node_styled false (alias name) es = refl

@@ -14,28 +14,28 @@ use Rattle.yaml_round_content.specs.Input.{events_of}
 use Rattle.yaml_round_laws_normal.specs.Readable.{readable_scalar, readable_start, readable_items}
 
 -- Where an event stands: before all documents, at the root of a first one that needs no `---`, or elsewhere.
-pub data Place : Type 0 where
-  Before : Place
-  Starts : Place
-  Within : Place
+pub data OpeningPosition : Type 0 where
+  Before : OpeningPosition
+  Starts : OpeningPosition
+  Within : OpeningPosition
 
-abbrev pub root_place : Bool → Place
-root_place true = Starts
-root_place false = Within
+abbrev pub root_position : Bool → OpeningPosition
+root_position true = Starts
+root_position false = Within
 
-abbrev pub next_place : Place → EventBody → Place
-next_place Before (event.document_start version directives implicit) =
-    root_place (not (has_version version) && not (has_directives directives))
-next_place Before other = Before
-next_place Starts e = Within
-next_place Within e = Within
+abbrev pub next_position : OpeningPosition → EventBody → OpeningPosition
+next_position Before (event.document_start version directives implicit) =
+    root_position (not (has_version version) && not (has_directives directives))
+next_position Before other = Before
+next_position Starts e = Within
+next_position Within e = Within
 
-abbrev pub is_first : Place → Bool
+abbrev pub is_first : OpeningPosition → Bool
 is_first Before = true
 is_first Starts = false
 is_first Within = false
 
-abbrev pub is_start : Place → Bool
+abbrev pub is_start : OpeningPosition → Bool
 is_start Before = false
 is_start Starts = true
 is_start Within = false
@@ -45,7 +45,7 @@ mark_by None plain = untagged plain
 mark_by (Some t) plain = tagged t
 
 -- of what an event says
-abbrev pub readable_event : Place → EventBody → emit.Event
+abbrev pub readable_event : OpeningPosition → EventBody → emit.Event
 readable_event at event.no = emit.no_event
 readable_event at (event.stream_start encoding) = emit.stream_start encoding
 readable_event at event.stream_end = emit.stream_end
@@ -66,9 +66,9 @@ readable_event at (event.mapping_start anchor tag implicit style) = emit.mapping
     (readable_start anchor tag)
 readable_event at event.mapping_end = emit.mapping_end
 
-abbrev pub readable_events : Place → List EventBody → List emit.Event
+abbrev pub readable_events : OpeningPosition → List EventBody → List emit.Event
 readable_events at [] = []
-readable_events at (e ∷ es) = readable_event at e ∷ readable_events (next_place at e) es
+readable_events at (e ∷ es) = readable_event at e ∷ readable_events (next_position at e) es
 
 -- The text that people read is what is laid out for such events of each input that has the content.
 abbrev pub ReadableIsLaidOut : Type 0

@@ -7,10 +7,10 @@ use Rattle.yaml_round.specs.round_laws_documents.round_content.parse_grammar.Res
 use Rattle.yaml_round.specs.round_laws_documents.round_content.parse_model.Events.{EventBody, type_of}
 use Rattle.yaml_round.specs.Reading.{contents}
 use Rattle.yaml_round.specs.Answers.{SameContent}
-use Rattle.yaml_round.specs.Places.{Place, place_says, path_to}
+use Rattle.yaml_round.specs.Places.{StreamPosition, position_says, path_to}
 use Rattle.yaml_round.specs.Walking.{past, start}
 use Rattle.yaml_round.specs.Differences.{saying, IsParting}
-use Rattle.yaml_round.proofs.Pathing.{place_walked}
+use Rattle.yaml_round.proofs.Pathing.{position_walked}
 use Rattle.yaml_round.proofs.Plain.{content_same, events_are}
 use Rattle.yaml_round_laws_users.specs.Partings.{TellTheSame, DiffsAgree, turned}
 use Rattle.yaml_round_laws_users.proofs.Comparing as comparing
@@ -43,24 +43,25 @@ said_alike : (x y u v : Told) → x ≡ u → y ≡ v → say u ≡ say v → sa
 said_alike x y u v p q e = ap (λ (t : Told). say t) p ∙ e ∙ sym (ap (λ (t : Told). say t) q)
 
 -- Two lists part at one place.
-one_place : (before other before' other' : List Told) (x y x' y' : Told) (xs ys xs' ys' : List Told)
+one_position : (before other before' other' : List Told) (x y x' y' : Told)
+    (xs ys xs' ys' : List Told)
     → before ++ x ∷ xs ≡ before' ++ x' ∷ xs' → other ++ y ∷ ys ≡ other' ++ y' ∷ ys'
     → contents before ≡ contents other → contents before' ≡ contents other'
     → (say x ≡ say y → ⊥) → (say x' ≡ say y' → ⊥)
     → (contents before ≡ contents before') × (x ≡ x') × (y ≡ y')
-one_place [] (o ∷ os) before' other' x y x' y' xs ys xs' ys' p q a a' d d' = absurd (nothing_said (say o) (contents os) a)
-one_place (b ∷ bs) [] before' other' x y x' y' xs ys xs' ys' p q a a' d d' = absurd (nothing_said (say b) (contents bs) (sym a))
-one_place [] [] [] (o ∷ os) x y x' y' xs ys xs' ys' p q a a' d d' = absurd (nothing_said (say o) (contents os) a')
-one_place [] [] (b ∷ bs) [] x y x' y' xs ys xs' ys' p q a a' d d' = absurd (nothing_said (say b) (contents bs) (sym a'))
-one_place [] [] [] [] x y x' y' xs ys xs' ys' p q a a' d d' = (refl, firsts x x' xs xs' p, firsts y y' ys ys' q)
-one_place [] [] (b ∷ bs) (o ∷ os) x y x' y' xs ys xs' ys' p q a a' d d' =
+one_position [] (o ∷ os) before' other' x y x' y' xs ys xs' ys' p q a a' d d' = absurd (nothing_said (say o) (contents os) a)
+one_position (b ∷ bs) [] before' other' x y x' y' xs ys xs' ys' p q a a' d d' = absurd (nothing_said (say b) (contents bs) (sym a))
+one_position [] [] [] (o ∷ os) x y x' y' xs ys xs' ys' p q a a' d d' = absurd (nothing_said (say o) (contents os) a')
+one_position [] [] (b ∷ bs) [] x y x' y' xs ys xs' ys' p q a a' d d' = absurd (nothing_said (say b) (contents bs) (sym a'))
+one_position [] [] [] [] x y x' y' xs ys xs' ys' p q a a' d d' = (refl, firsts x x' xs xs' p, firsts y y' ys ys' q)
+one_position [] [] (b ∷ bs) (o ∷ os) x y x' y' xs ys xs' ys' p q a a' d d' =
     absurd (d (said_alike x y b o (firsts x b xs (bs ++ x' ∷ xs') p) (firsts y o ys (os ++ y' ∷ ys') q) (firsts (say b) (say o) (contents bs) (contents os) a')))
-one_place (b ∷ bs) (o ∷ os) [] (n ∷ ns) x y x' y' xs ys xs' ys' p q a a' d d' = absurd (nothing_said (say n) (contents ns) a')
-one_place (b ∷ bs) (o ∷ os) (n ∷ ns) [] x y x' y' xs ys xs' ys' p q a a' d d' = absurd (nothing_said (say n) (contents ns) (sym a'))
-one_place (b ∷ bs) (o ∷ os) [] [] x y x' y' xs ys xs' ys' p q a a' d d' =
+one_position (b ∷ bs) (o ∷ os) [] (n ∷ ns) x y x' y' xs ys xs' ys' p q a a' d d' = absurd (nothing_said (say n) (contents ns) a')
+one_position (b ∷ bs) (o ∷ os) (n ∷ ns) [] x y x' y' xs ys xs' ys' p q a a' d d' = absurd (nothing_said (say n) (contents ns) (sym a'))
+one_position (b ∷ bs) (o ∷ os) [] [] x y x' y' xs ys xs' ys' p q a a' d d' =
     absurd (d' (said_alike x' y' b o (sym (firsts b x' (bs ++ x ∷ xs) xs' p)) (sym (firsts o y' (os ++ y ∷ ys) ys' q)) (firsts (say b) (say o) (contents bs) (contents os) a)))
-one_place (b ∷ bs) (o ∷ os) (n ∷ ns) (m ∷ ms) x y x' y' xs ys xs' ys' p q a a' d d' =
-    let r = one_place bs os ns ms x y x' y' xs ys xs' ys'
+one_position (b ∷ bs) (o ∷ os) (n ∷ ns) (m ∷ ms) x y x' y' xs ys xs' ys' p q a a' d d' =
+    let r = one_position bs os ns ms x y x' y' xs ys xs' ys'
     (tails b n (bs ++ x ∷ xs) (ns ++ x' ∷ xs') p) (tails o m (os ++ y ∷ ys) (ms ++ y' ∷ ys') q)
     (tails (say b) (say o) (contents bs) (contents os) a) (tails (say n) (say m) (contents ns) (contents ms) a') d d' in
     (joined (say b) (say n) (contents bs) (contents ns) (ap (λ (t : Told). say t) (firsts b n (bs ++ x ∷ xs) (ns ++ x' ∷ xs') p)) r.0, r.1, r.2)
@@ -85,13 +86,14 @@ told_false true n = absurd (n refl)
 told_false false n = refl
 
 -- the place has one path
-pub one_path : (p q : Place) → place_says p [] ≡ place_says q [] → path_to p ≡ path_to q
-one_path p q e = sym (place_walked p) ∙ ap (λ (es : List EventBody). past es start) e ∙ place_walked q
+pub one_path : (p q : StreamPosition) → position_says p [] ≡ position_says q []
+    → path_to p ≡ path_to q
+one_path p q e = sym (position_walked p) ∙ ap (λ (es : List EventBody). past es start) e ∙ position_walked q
 
 once : (a_from b_from : yaml_encoding_t) (a b : List ℕ) (d e : yaml_difference_t)
     → IsParting a_from a b_from b d → IsParting a_from a b_from b e → TellTheSame d e
 once a_from b_from a b d e h k =
-    let r = one_place h.before h.other_before k.before k.other_before h.next h.other_next k.next k.other_next h.behind h.other_behind k.behind k.other_behind
+    let r = one_position h.before h.other_before k.before k.other_before h.next h.other_next k.next k.other_next h.behind h.other_behind k.behind k.other_behind
     (events_are a_from a (h.before ++ h.next ∷ h.behind) h.of_first ∙ sym (events_are a_from a (k.before ++ k.next ∷ k.behind) k.of_first))
     (events_are b_from b (h.other_before ++ h.other_next ∷ h.other_behind) h.of_second ∙ sym (events_are b_from b (k.other_before ++ k.other_next ∷ k.other_behind) k.of_second))
     h.alike k.alike h.differ k.differ in

@@ -15,7 +15,7 @@ use Rattle.yaml_round_laws_normal.proofs.Restyling.{laid_out}
 use Rattle.yaml_round_reading.specs.Reading.{contents}
 use Rattle.yaml_round_reading.specs.Answers.{IsRight}
 use Rattle.yaml_round_reading.proofs.Plain.{right_ending}
-use Rattle.yaml_round_beginning.specs.declared.styles.Place.TheVariants as place
+use Rattle.yaml_round_beginning.specs.declared.styles.OpeningPosition.TheVariants as place
 use Rattle.yaml_round_writing.specs.declared.writing.Form.TheVariants as form
 use Rattle.yaml_round_writing.specs.Layers.{reformat_layers}
 use Rattle.yaml_round_writing.specs.Writing.{requested_under}

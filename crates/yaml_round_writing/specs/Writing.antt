@@ -22,7 +22,7 @@ use Rattle.yaml_round_device.specs.declared.yaml_output_encoding_t.{yaml_output_
 use Rattle.yaml_round_device.specs.declared.yaml_output_encoding_t.TheVariants.{Utf8, Utf16Le, Utf16Be}
 use Rattle.yaml_round_laws_normal.specs.Restyled.{readable_events}
 use Rattle.yaml_round_beginning.specs.Beginning.{nothing_comes}
-use Rattle.yaml_round_beginning.specs.Styles.{place_of}
+use Rattle.yaml_round_beginning.specs.Styles.{position_of}
 use Rattle.yaml_round_reading.specs.Reading.{contents, emitter_events, AreReal, IsFaultOf}
 
 -- ---- the settings of an emitter
@@ -67,7 +67,7 @@ pub record IsUnder (e : Emitter) (w : RequestedSettings) (most : ℕ) : Type 0 w
 abbrev pub given_in : Form → List Told → List Event
 given_in form.Canonical es = emitter_events true es
 given_in (form.Pretty beginning) es = emitter_events false es
-given_in (form.Readable at) es = readable_events (place_of at) (contents es)
+given_in (form.Readable at) es = readable_events (position_of at) (contents es)
 
 -- with these to come in pretty form the input begins with nothing
 abbrev pub comes_to_nothing : Form → List Told → Bool

@@ -13,5 +13,5 @@ pub use lines::lines_of;
 pub use reload::{documents_of, written_documents};
 pub use text::{in_pretty_form, written};
 pub use writing::Form;
-pub use yaml_round_beginning::{Beginning, Place};
+pub use yaml_round_beginning::{Beginning, OpeningPosition};
 pub use yaml_round_reading::{let_go, reading_of, yaml_adapter_t, yaml_side_t};

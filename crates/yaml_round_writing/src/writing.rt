@@ -18,7 +18,7 @@ use yaml_emit::{
     yaml_emitter_set_unicode, yaml_emitter_set_width, yaml_emitter_t,
 };
 use yaml_parse::{yaml_event_t, yaml_found_t};
-use yaml_round_beginning::{Beginning, Place, behind, is_nothing, restyle};
+use yaml_round_beginning::{Beginning, OpeningPosition, behind, is_nothing, restyle};
 use yaml_round_device::{yaml_output_encoding_t, yaml_settings_t};
 use yaml_round_reading::{Reading, normalize_event};
 use yaml_scan::{yaml_encoding_t, yaml_fault_t, yaml_memory_fault, yaml_origin_t};
@@ -31,7 +31,7 @@ pub enum Form {
     /// Pretty form, with the events' own styles, and what they tell of their beginning.
     Pretty(Beginning),
     /// The normal form that people read, and where the next event stands.
-    Readable(Place),
+    Readable(OpeningPosition),
 }
 
 /// Whether that is canonical form.

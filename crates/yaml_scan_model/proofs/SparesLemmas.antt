@@ -1,7 +1,9 @@
 -- Bytes of a text that are copied.
-use Rattle.std.proofs.Common.{◌≡◌, ℕ, zero, suc, ◌+◌, ◌-◌, ◌≤◌, List, length, take, drop, refl, sym, ap, ◌∙◌, add-one, arith}
-use Rattle.std.proofs.lemmas.List.{length-drop, length-take-le, take_more, take-take, get_or-drop}
-use Rattle.yaml_scan_model.specs.Spares.{HoldsAt, bytes_at}
+use Rattle.std.proofs.Common.{◌≡◌, ℕ, ◌+◌, ◌-◌, ◌≤◌, List, length, take, drop, sym, ap, ◌∙◌, arith}
+use Rattle.std.proofs.lemmas.List.{length-drop, length-take-le, take-take}
+use Rattle.yaml_types.specs.Ends.{bytes_at}
+use Rattle.yaml_types.proofs.Ends.{bytes_are}
+use Rattle.yaml_scan_model.specs.Spares.{HoldsAt}
 
 -- what was cut out of a text is held by it
 pub holds_slice : (text : List ℕ) (p q : ℕ) (bytes : List ℕ) → p ≤ q → q ≤ length text
@@ -11,14 +13,6 @@ holds_slice text p q bytes h inside e =
     let l : length (take (q - p) (drop p text)) ≡ q - p = length-take-le (q - p) (drop p text) (omega (arith, d)) in
     let n : length bytes ≡ q - p = ap length e ∙ l in
     record { inside = omega (arith, n); same = rw n e }
-
-bytes_are : (n : ℕ) (text : List ℕ) (p : ℕ) → p + n ≤ length text
-    → bytes_at n text p ≡ take n (drop p text)
-unfolding bytes_at
-bytes_are zero text p inside = refl
-bytes_are (suc n) text p inside =
-    let next = take_more (drop p text) n 0 (omega (arith, length-drop p text)) in
-    rw (bytes_are n text p (omega arith), sym (get_or-drop p text n 0), sym next, add-one) refl
 
 -- so many bytes, cut behind what the text holds of them
 pub cut_holds : (n : ℕ) (text bytes : List ℕ) (p : ℕ) → HoldsAt text p bytes → length bytes ≤ n

@@ -1,12 +1,12 @@
 //! Texts that were let go, in whose room later ones are made.
 
 ghost use Rattle.std.specs.Prelude.{◌≡◌, ◌+◌, ◌≤◌, [], IfOk, length, vec_capacity};
-ghost use Rattle.yaml_scan_model.specs.Spares.{HoldsAt, bytes_at};
+ghost use Rattle.yaml_scan_model.specs.Spares.{HoldsAt};
 
 use crate::keeping::Spares;
 use std::alloc::{AllocError, Global};
 use std::mem;
-use yaml_types::push_each;
+use yaml_types::{push_each, sixteen_at};
 
 /// The least room that is made: what the smallest block of common allocators holds.
 const LEAST_ROOM: usize = 24;
@@ -35,37 +35,9 @@ pub fn copied(
     if copy.capacity() < CHUNK {
         return copied_apart(spares, bytes);
     }
-    push_each(&mut copy, &chunk_at(text, from));
+    push_each(&mut copy, &sixteen_at(text, from));
     copy.truncate(count);
     Ok(copy)
-}
-
-/// As many bytes of a text as one move copies.
-// Inlined: one load.
-#[inline(always)]
-#[tactic(auto, unfolding(crate::specs::Spares::bytes_at))]
-fn chunk_at(text: &[u8], at: usize) -> [u8; CHUNK]
-    requires { at + 16 ≤ length text.now }
-    ensures { result ≡ bytes_at 16 text.now at }
-{
-    [
-        text[at],
-        text[at + 1],
-        text[at + 2],
-        text[at + 3],
-        text[at + 4],
-        text[at + 5],
-        text[at + 6],
-        text[at + 7],
-        text[at + 8],
-        text[at + 9],
-        text[at + 10],
-        text[at + 11],
-        text[at + 12],
-        text[at + 13],
-        text[at + 14],
-        text[at + 15],
-    ]
 }
 
 /// A copy of bytes, in the room of a spare text where they fit.

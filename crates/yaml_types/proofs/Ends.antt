@@ -8,6 +8,7 @@ use Rattle.yaml_types.specs.Ends.{bytes_at, same_run}
 
 -- ---- parts
 
+-- so many bytes from a place on are that part of the text
 pub bytes_are : (n : ℕ) (text : List ℕ) (p : ℕ) → p + n ≤ length text
     → bytes_at n text p ≡ take n (drop p text)
 unfolding bytes_at

@@ -1,1 +1,1 @@
-mod Ends
+pub mod Ends

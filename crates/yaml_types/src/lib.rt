@@ -21,7 +21,7 @@ pub use fault::{yaml_fault_t, yaml_origin_t};
 pub use memory::yaml_memory_fault;
 pub use name::{yaml_encoding_t, yaml_error_type_t, yaml_scalar_style_t, yaml_token_type_t};
 pub use pushing::{push_each, push_near};
-pub use putting::{BRIEF, SHORT, is_short, put_brief, put_short};
+pub use putting::{BRIEF, SHORT, is_short, put_brief, put_short, sixteen_at};
 pub use record::{yaml_mark_t, yaml_simple_key_t};
 pub use standing::stands_in_front;
 pub use token::{yaml_token_body_t, yaml_token_delete, yaml_token_t};

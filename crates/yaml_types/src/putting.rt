@@ -53,11 +53,11 @@ fn eight_at(text: &[u8], at: usize) -> [u8; 8]
     ]
 }
 
-// Sixteen bytes of a text.
+/// Sixteen bytes of a text.
 // Inlined: one load.
 #[inline(always)]
 #[tactic(auto, unfolding(crate::specs::Ends::bytes_at))]
-fn sixteen_at(text: &[u8], at: usize) -> [u8; 16]
+pub fn sixteen_at(text: &[u8], at: usize) -> [u8; 16]
     requires { at + 16 ≤ length text.now }
     ensures { result ≡ bytes_at 16 text.now at }
 {

@@ -1,5 +1,5 @@
 use Rattle.std.proofs.Common.{◌≡◌, ◌+◌, ◌≤◌, ℕ, List, [], ◌++◌, length, take, ap, ◌∙◌, rules, arith}
-use Rattle.yaml_scan_model.specs.Spares.{bytes_at}
+use Rattle.yaml_types.specs.Ends.{bytes_at}
 use Rattle.yaml_scan_model.proofs.SparesLemmas.{cut_holds}
 use Rattle.yaml_scan_model.proofs.spares.copied.Goals as goal
 
@@ -9,7 +9,7 @@ returns c =
     let bytes = c.args.bytes.now in
     let empty : c.in_ok-copy.copy.items ≡ [] = c.in_ok-copy.ensures in
     let all : c.push_each.new.text.items ≡ bytes_at 16 text c.args.from =
-    c.push_each.ensures.items ∙ ap (λ (z : List ℕ). z ++ c.chunk_at.result) empty ∙ c.chunk_at.ensures in
+    c.push_each.ensures.items ∙ ap (λ (z : List ℕ). z ++ c.sixteen_at.result) empty ∙ c.sixteen_at.ensures in
     let cut : c.truncate.new.self.items ≡ take (length bytes) c.push_each.new.text.items = search rules in
     let few : length bytes ≤ 16 = omega (arith, c.if-count-gt-CHUNK.false) in
     let inside : c.args.from + 16 ≤ length text = omega (arith, c.requires.inside, c.if-text-from-lt-CHUNK.false) in

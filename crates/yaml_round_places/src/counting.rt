@@ -5,6 +5,8 @@ ghost use Rattle.std.specs.List.{count_by};
 ghost use Rattle.yaml_scan_model.specs.Marks.{starts as starts_of};
 ghost use Rattle.yaml_round_places.specs.Places.{characters_before, Counts};
 
+use yaml_scan_model::starts;
+
 /// How many characters stand in front of a place in a text, from which the next one is counted. Where each character of the text is a
 /// byte, none is counted.
 #[derive(Drop)]
@@ -13,15 +15,6 @@ pub struct Count {
     pub is_single: bool,
     pub place: usize,
     pub characters: u64,
-}
-
-/// Whether a character begins with the byte.
-// Inlined: a comparison, so that the bytes of a text are looked at side by side.
-#[inline(always)]
-fn starts(byte: u8) -> bool
-    ensures { result ≡ starts_of byte }
-{
-    byte < 128 || byte >= 192
 }
 
 /// How many characters begin in a text.

@@ -18,7 +18,7 @@ pub use name::{
     yaml_node_type_t, yaml_scalar_style_t, yaml_sequence_style_t, yaml_token_type_t,
 };
 pub use problem::{Context, Problem, ScanError, ScanFault};
-pub use reader::{Reader, is_blank as is_blank_byte};
+pub use reader::{Reader, is_blank as is_blank_byte, starts};
 pub use record::{
     mark_again, yaml_mark_t, yaml_simple_key_t, yaml_tag_directive_t, yaml_version_directive_t,
 };

@@ -8,8 +8,10 @@ ghost use Rattle.yaml_scan_model.specs.Breaks.{feed_at, is_document_indicator};
 use crate::record::yaml_mark_t;
 use std::marker::Model;
 
-/// Whether the byte begins a character.
-fn starts(byte: u8) -> bool
+/// Whether a character begins with the byte.
+// Inlined: a comparison, so that the bytes of a text are looked at side by side.
+#[inline(always)]
+pub fn starts(byte: u8) -> bool
     ensures { result ≡ starts_of byte }
 {
     byte < 128 || byte >= 192

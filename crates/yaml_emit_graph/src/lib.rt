@@ -1,9 +1,11 @@
 //! The events of a document that the calls built: a walk over its nodes, which of them have an anchor, and which number.
 #![tactic(auto)]
 
+mod bracket;
 mod graph;
 mod numbers;
 mod text;
 mod walk;
 
+pub use bracket::Bracket;
 pub use graph::Events;

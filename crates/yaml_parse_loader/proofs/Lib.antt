@@ -4,3 +4,4 @@ pub mod Loads
 pub mod Sizing
 pub mod Steps
 pub mod Visited
+mod Ending

@@ -6,11 +6,12 @@ ghost use Rattle.yaml_parse_document.specs.Documents.{str_tag, seq_tag, map_tag}
 ghost use Rattle.yaml_parse_model.specs.Events.{body_of, text_of, directive_of};
 ghost use Rattle.yaml_parse_model.specs.Nodes.{node_of, tag_of};
 ghost use Rattle.yaml_emit_layout.specs.Content.{emitter_event, scalar, alias, sequence_start, mapping_start, document_start, is_flow_sequence, is_flow_mapping};
-ghost use Rattle.yaml_emit_graph.specs.Graph.{lead, name_of, anchor_of, is_text, graph_scalar, graph_start, opening_event, closing_event, body_of_id, tag_of_id, turn_event, graph_opening, dumped};
+ghost use Rattle.yaml_emit_graph.specs.Graph.{lead, name_of, anchor_of, graph_scalar, graph_start, opening_event, closing_event, body_of_id, tag_of_id, turn_event, graph_opening, dumped};
 ghost use Rattle.yaml_emit_graph.specs.Events.{remaining_events, IsEvents, Says, GivesGraphEvent, IsAhead, GivesPlainText, IsBracketAhead, GivesBracket, IsUtf8Body};
 
 use crate::bracket::{Bracket, bracket_met};
 use crate::numbers::{Walked, number_of, walk_nodes};
+use crate::tags::{is_map, is_seq, is_str};
 use crate::text::text_met;
 use crate::walk::Turn;
 use std::alloc::{AllocError, Global};
@@ -90,50 +91,6 @@ fn copies(
     match copy_directives(alloc, directives) {
         Ok(copies) => Ok(copies),
         Err(_) => Err(AllocError),
-    }
-}
-
-fn is_text(text: &[u8], other: &[u8]) -> bool
-    ensures { result ≡ is_text text.now other.now }
-{
-    text == other
-}
-
-// Whether the tag is that of a text.
-// Inlined: mostly a look at the kind.
-#[inline(always)]
-fn is_str(tag: &yaml_node_tag_t) -> bool
-    ensures { result ≡ is_text (tag_of tag.now) str_tag }
-{
-    match tag {
-        yaml_node_tag_t::Str => true,
-        yaml_node_tag_t::Seq => false,
-        yaml_node_tag_t::Map => false,
-        yaml_node_tag_t::Spelled { text } => is_text(text, b"tag:yaml.org,2002:str"),
-    }
-}
-
-// Whether it is that of a sequence.
-fn is_seq(tag: &yaml_node_tag_t) -> bool
-    ensures { result ≡ is_text (tag_of tag.now) seq_tag }
-{
-    match tag {
-        yaml_node_tag_t::Str => false,
-        yaml_node_tag_t::Seq => true,
-        yaml_node_tag_t::Map => false,
-        yaml_node_tag_t::Spelled { text } => is_text(text, b"tag:yaml.org,2002:seq"),
-    }
-}
-
-// Whether it is that of a mapping.
-fn is_map(tag: &yaml_node_tag_t) -> bool
-    ensures { result ≡ is_text (tag_of tag.now) map_tag }
-{
-    match tag {
-        yaml_node_tag_t::Str => false,
-        yaml_node_tag_t::Seq => false,
-        yaml_node_tag_t::Map => true,
-        yaml_node_tag_t::Spelled { text } => is_text(text, b"tag:yaml.org,2002:map"),
     }
 }
 

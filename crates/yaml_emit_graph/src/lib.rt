@@ -4,6 +4,7 @@
 mod bracket;
 mod graph;
 mod numbers;
+mod tags;
 mod text;
 mod walk;
 

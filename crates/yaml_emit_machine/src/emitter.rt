@@ -7,7 +7,7 @@ ghost use Rattle.yaml_parse_model.specs.Constructors.{HasUtf8};
 ghost use Rattle.yaml_emit_layout.specs.Content.{emitter_event, scalar};
 ghost use Rattle.yaml_emit_state.specs.Given.{plain_text};
 ghost use Rattle.yaml_emit_state.specs.Steps.{settings_of, LaysOut};
-ghost use Rattle.yaml_emit_layout.specs.declared.Expected.{Expected};
+ghost use Rattle.yaml_emit_layout.specs.declared.Expected.TheVariants as at;
 ghost use Rattle.yaml_emit_graph.specs.Brackets.{bracket_event};
 ghost use Rattle.yaml_scan_model.specs.declared.yaml_scalar_style_t.{yaml_scalar_style_t};
 ghost use Rattle.yaml_emit_machine.specs.Emitter.{stream_encoding, IsNew, IsLimited, ShowsFront, IsWhole, Answers, Stays};
@@ -197,7 +197,7 @@ pub fn let_go(emitter: yaml_emitter_t) {
 #[inline(always)]
 fn lay_bracket(core: &mut Core, bracket: Bracket)
     requires form { (settings_of core.old).canonical ≡ true }
-    requires due { core.old.place ≡ Expected.Node }
+    requires due { core.old.place ≡ at.Node }
     ensures { (flow : Bool) → LaysOut core.old core.new (bracket_event bracket flow) false }
 {
     match bracket {

@@ -4,4 +4,3 @@ pub mod Loads
 pub mod Sizing
 pub mod Steps
 pub mod Visited
-mod Ending

@@ -1,8 +1,6 @@
 -- What a clause sees of a document in the making.
 use Rattle.std.specs.Prelude.{◌≡◌, List, map, reverse, Result, Ok, Err}
 use Rattle.yaml_parse_document.specs.Parts.{parts_view}
-use Rattle.yaml_parse_document.specs.Documents.{Document, IsDocument}
-use Rattle.yaml_parse_document.specs.Sizes.{IsSized}
 use Rattle.yaml_parse_loader.specs.declared.making.Level.{Level}
 use Rattle.yaml_parse_loader.specs.declared.making.Level.TheVariants as level
 use Rattle.yaml_parse_loader.specs.declared.making.Making.{Making}
@@ -40,17 +38,3 @@ Applies came at HadRoom fed.Taken new = (came ≡ goes_on new) × HadRoom
 Applies came at HadRoom fed.Whole new = (came ≡ loaded new.document) × HadRoom
 Applies came at HadRoom fed.Undefined new = came ≡ refused (undefined_alias at)
 Applies came at HadRoom fed.Starved new = Unit {0}
-
--- what an event came to that was a document's last, or was refused; where memory ran out nothing is said
-abbrev pub Ends : LoadStep → yaml_mark_t → Fed → Loading → Type 0
-Ends came at fed.Taken new = Unit {0}
-Ends came at fed.Whole new = came ≡ loaded new.document
-Ends came at fed.Undefined new = came ≡ refused (undefined_alias at)
-Ends came at fed.Starved new = Unit {0}
-
--- a document that is whole is sound, and no list of it has too many entries
-abbrev pub IsWholeIf : Fed → Document → Type 0
-IsWholeIf fed.Taken d = Unit {0}
-IsWholeIf fed.Whole d = IsDocument d × IsSized d
-IsWholeIf fed.Undefined d = Unit {0}
-IsWholeIf fed.Starved d = Unit {0}

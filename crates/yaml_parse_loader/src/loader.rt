@@ -6,8 +6,7 @@ ghost use Rattle.yaml_parse_model.specs.Faults.{fault_of};
 ghost use Rattle.yaml_parse_loader.specs.Numbering.{undefined_alias};
 ghost use Rattle.yaml_parse_model.specs.Constructors.{HasUtf8};
 ghost use Rattle.yaml_parse_document.specs.Sizes.{IsSized};
-ghost use Rattle.yaml_parse_loader.specs.Loading.{LoadStep, nothing_loaded, step, Feeds};
-ghost use Rattle.yaml_parse_loader.specs.Views.{loading_of, Ends, IsWholeIf};
+ghost use Rattle.yaml_parse_loader.specs.Loading.{nothing_loaded, step, Feeds};
 
 use crate::making::{Fed, Making};
 use std::alloc::Global;
@@ -36,33 +35,6 @@ pub fn undefined_alias_fault(at: yaml_mark_t) -> yaml_fault_t
             column: 0,
         },
         origin: yaml_origin_t::Loader,
-    }
-}
-
-// The document that is whole, or why an event was refused; it starts anew.
-// Out of line: in line its room would be set to zero for each event.
-#[inline(never)]
-fn ended(
-    making: &mut Making,
-    fed: Fed,
-    at: yaml_mark_t,
-) -> Result<Option<yaml_document_t>, yaml_fault_t>
-    requires { IsWholeIf fed (loading_of making.old).document }
-    ensures feeds { (came : LoadStep) → Ends came at fed (loading_of making.old) → Feeds came result
-        (loading_of making.new) }
-    ensures anew { loading_of making.new ≡ nothing_loaded }
-    ensures sized { IfOk result (λ o. IfSome o (λ d. IsSized d)) }
-{
-    match fed {
-        Fed::Whole => Ok(Some(making.take_document())),
-        Fed::Undefined => {
-            making.begin_anew();
-            Err(undefined_alias_fault(at))
-        }
-        _ => {
-            making.begin_anew();
-            Err(yaml_memory_fault(yaml_origin_t::Loader))
-        }
     }
 }
 
@@ -112,9 +84,18 @@ impl Loader {
         // No list of a document has more than 2,147,483,647 entries.
         ensures sized { IfOk result (λ o. IfSome o (λ d. IsSized d)) }
     {
+        let at = event.start_mark;
         match self.making.apply(event) {
             Fed::Taken => Ok(None),
-            fed => ended(&mut self.making, fed, event.start_mark),
+            Fed::Whole => Ok(Some(self.making.take_document())),
+            Fed::Undefined => {
+                self.making.begin_anew();
+                Err(undefined_alias_fault(at))
+            }
+            Fed::Starved => {
+                self.making.begin_anew();
+                Err(yaml_memory_fault(yaml_origin_t::Loader))
+            }
         }
     }
 }

@@ -422,11 +422,10 @@ impl Making {
 
     /// What the event makes of the document. Its texts are taken out. It is long because it has an arm for each kind of event.
     pub fn apply(&mut self, event: &mut yaml_event_t) -> Fed
-        ensures applies { Applies (step (event_of event.old) (loading_of self.old))
+        ensures { Applies (step (event_of event.old) (loading_of self.old))
             (event_of event.old).start_mark
             (HasRoomFor (event_of event.old).body (loading_of self.old)) result
             (loading_of self.new) }
-        ensures place { event.new.start_mark ≡ event.old.start_mark }
     {
         let alloc = self.parts.alloc;
         let yaml_event_t {

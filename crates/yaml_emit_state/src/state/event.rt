@@ -5,6 +5,7 @@ ghost use Rattle.yaml_parse_model.specs.Events.{body_of, text_of};
 ghost use Rattle.yaml_parse_model.specs.Constructors.{HasUtf8};
 ghost use Rattle.yaml_emit_text.specs.Sink.{Puts};
 ghost use Rattle.yaml_emit_text.specs.Tame.{IsTame};
+ghost use Rattle.yaml_emit_layout.specs.declared.Expected.{Expected};
 ghost use Rattle.yaml_emit_layout.specs.Content.{emitter_event};
 ghost use Rattle.yaml_emit_text.specs.Layout.{◌▹◌};
 ghost use Rattle.yaml_emit_layout.specs.Nodes.{alias_layout, scalar_layout};

@@ -1,5 +1,5 @@
 -- What opens and closes collections, with the default tag and without an anchor.
-use Rattle.std.proofs.Common.{◌≡◌, ◌+◌, ℕ, Bool, false, List, Vec, length, refl, sym, ap, Option, None, Some, arith}
+use Rattle.std.proofs.Common.{◌≡◌, ◌+◌, ℕ, false, List, Vec, length, refl, sym, ap, Option, None, Some, arith}
 use Rattle.std.specs.Global.{Global}
 use Rattle.std.specs.Prelude.{ℤ}
 use Rattle.yaml_parse_model.specs.Nodes as model

@@ -2,7 +2,7 @@
 use Rattle.std.specs.Prelude.{◌≡◌, ℕ, Bool, List, Option, None, Some}
 use Rattle.yaml_parse_model.specs.Nodes as model
 use Rattle.yaml_parse_document.specs.Documents.{seq_tag, map_tag}
-use Rattle.yaml_emit_layout.specs.Content.{Event, sequence_start, sequence_end, mapping_start, mapping_end, is_flow_sequence, is_flow_mapping}
+use Rattle.yaml_emit_layout.specs.Content.{Event, sequence_start, sequence_end, mapping_start, mapping_end}
 use Rattle.yaml_emit_graph.specs.declared.bracket.Bracket.{Bracket}
 use Rattle.yaml_emit_graph.specs.declared.bracket.Bracket.TheVariants.{OpensSequence, OpensMapping, ClosesSequence, ClosesMapping}
 use Rattle.yaml_emit_graph.specs.Graph.{graph_start}

@@ -1,12 +1,10 @@
 -- What opens a collection with the default tag and without an anchor, where a node is due in canonical form.
-use Rattle.std.proofs.Common.{◌≡◌, ℕ, Bool, true, false, refl, sym, subst, ◌∙◌, ap, List, [], Option, Some, None}
+use Rattle.std.proofs.Common.{◌≡◌, ℕ, Bool, true, false, refl, subst, List, Option, Some, None}
 use Rattle.std.specs.Prelude.{◌||◌}
 use Rattle.yaml_emit_tags.specs.parse_model.Events.{TagDirective}
 use Rattle.yaml_emit_tags.specs.parse_model.Nodes.{seq_tag, map_tag}
 use Rattle.yaml_emit_tags.specs.Tags.{tag_spelling}
 use Rattle.yaml_emit_text.specs.declared.Settings.{Settings}
-use Rattle.yaml_emit_text.specs.declared.Cursor.{Cursor}
-use Rattle.yaml_emit_text.specs.declared.Status.TheVariants.{Going}
 use Rattle.yaml_emit_text.specs.Sink.{Output, Puts}
 use Rattle.yaml_emit_text.specs.Layout.{◌▹◌, when, word, opener}
 use Rattle.yaml_emit_text.proofs.Sinks.{puts_both}
@@ -15,10 +13,10 @@ use Rattle.yaml_emit_layout.specs.declared.Expected.TheVariants as at
 use Rattle.yaml_emit_layout.specs.declared.Level.{Level}
 use Rattle.yaml_emit_layout.specs.declared.Phase.TheVariants.{Items, Keys}
 use Rattle.yaml_emit_layout.specs.declared.Spot.{Spot}
-use Rattle.yaml_emit_layout.specs.Content.{Event, Start, sequence_start, mapping_start}
+use Rattle.yaml_emit_layout.specs.Content.{Start, sequence_start, mapping_start}
 use Rattle.yaml_emit_layout.specs.Grammar.{event_problem, last_problem, place_problem, problem_by}
 use Rattle.yaml_emit_layout.specs.Nodes.{Context, context_of, is_flow, indent_of, indented, checked}
-use Rattle.yaml_emit_layout.specs.State.{State, problem_at, top_of, spot_of, before_node, start_text, depth_text, text_at, next_at, depth_at, opened, is_simple_event}
+use Rattle.yaml_emit_layout.specs.State.{State, problem_at, top_of, spot_of, before_node, start_text, depth_text, text_at, next_at, depth_at, opened}
 use Rattle.yaml_emit_state.specs.declared.state.Core.{Core}
 use Rattle.yaml_emit_state.specs.Stack.{stack_of}
 use Rattle.yaml_emit_state.specs.Given.{plain_start, plain_opening}

@@ -169,6 +169,21 @@ clients() {
     else
         say "libyaml-libyaml-perl isn't here: YAML::XS isn't run"
     fi
+    if lua5.1 -e 'require "yaml".scanner' 2>/dev/null; then
+        beside lua "$work/inputs/given" lua5.1 "$tests/lua_client.lua"
+    else
+        say "lua5.1 with lua-yaml isn't here: it isn't run"
+    fi
+    if php -r 'exit(function_exists("yaml_parse") ? 0 : 1);' 2>/dev/null; then
+        beside php "$work/inputs/given" php "$tests/php_client.php"
+    else
+        say "php-cli with php-yaml isn't here: it isn't run"
+    fi
+    if swipl -g 'use_module(library(yaml))' -t halt 2>/dev/null; then
+        beside swi-prolog "$work/inputs/given" swipl "$tests/prolog_client.pl"
+    else
+        say "swi-prolog with library(yaml) isn't here: it isn't run"
+    fi
 }
 
 python=$(command -v python3) || {

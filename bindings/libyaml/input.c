@@ -152,12 +152,6 @@ static int finds_cut(const yaml_parser_t *parser, layer_reading *reading, size_t
     }
 }
 
-static int window_of_string(yaml_parser_t *parser, layer_reading *reading)
-{
-    size_t from = 0, to = LAYER_WINDOW;
-    return (to < reading->given && finds_cut(parser, reading, &from, &to)) || take_all(parser, reading);
-}
-
 /* Has the core decode what a handler gave since. Whether a byte is wrong there; what stands at the end may be the beginning of a
  * character. 0 also where memory was refused, which is met again. */
 static int has_wrong_byte(layer_reading *reading)
@@ -172,21 +166,24 @@ static int has_wrong_byte(layer_reading *reading)
     return kind == YAML_C_READER_ERROR && len - right >= 4;
 }
 
-/* A wrong byte comes first, as with libyaml, which decodes what it has read before it goes on. */
-static int window_by_handler(yaml_parser_t *parser, layer_reading *reading)
+/* Finds the window. Of what a handler gives a wrong byte comes first, as with libyaml, which decodes what it has read before it goes
+ * on; and as it gives some, what is there is looked at. What is there as a whole is cut where it is long. */
+static int end_window(yaml_parser_t *parser, layer_reading *reading)
 {
-    for (size_t from = 0, to = LAYER_WINDOW; !parser->eof;) {
-        reading->is_wrong = may_be_cut(parser, reading) && has_wrong_byte(reading);
+    for (size_t from = 0, to = LAYER_WINDOW;;) {
+        reading->is_wrong = !parser->eof && may_be_cut(parser, reading) && has_wrong_byte(reading);
         if (reading->is_wrong) {
             reading->len = reading->given;
             return 1;
         }
-        if (reading->checked == reading->given && finds_cut(parser, reading, &from, &to))
+        int may_end = parser->eof ? to < reading->given : reading->checked == reading->given;
+        if (may_end && finds_cut(parser, reading, &from, &to))
             return 1;
+        if (parser->eof)
+            return take_all(parser, reading);
         if (!read_piece(parser, reading))
             return 0;
     }
-    return take_all(parser, reading);
 }
 
 /* Puts the stand-in before what is parsed. 0: memory was refused. */
@@ -218,8 +215,7 @@ static int join(yaml_parser_t *parser, layer_reading *reading)
 
 static int find_window(yaml_parser_t *parser, layer_reading *reading)
 {
-    int is_found = parser->read_handler == read_string ? window_of_string(parser, reading) : window_by_handler(parser, reading);
-    return is_found && join(parser, reading);
+    return end_window(parser, reading) && join(parser, reading);
 }
 
 int layer_widen(yaml_parser_t *parser, layer_reading *reading)

@@ -1,7 +1,7 @@
 #!/bin/bash
 # Tests the library that `make libyaml` leaves in out/libyaml: `make libyaml-test`. It isn't part of the gate. It needs a C
-# compiler (CC), binutils and python3; what of AddressSanitizer, Debian's libyaml-dev, python3-yaml, ruby with psych and
-# libyaml-libyaml-perl isn't on the machine is named, and its part is left out.
+# compiler (CC), binutils and python3; what of AddressSanitizer, Debian's libyaml-dev, python3-yaml, ruby with psych,
+# libyaml-libyaml-perl, lua-yaml, php-yaml and swi-prolog isn't on the machine is named, and its part is left out.
 #
 #     tools/libyaml_test.sh          JOBS: how many clients run side by side; LIST=1: prints what differs, for the list;
 #                                    LIBRARY: the folder of another build, of which tools/libyaml.sh made its own
@@ -9,10 +9,10 @@
 # By itself: symbols, soname and layouts; events, tokens and texts of the vectors' inputs, and of two broken ones of each, beside
 # the proved core's own, also from a reader of single bytes, with flushes, and cut at each place where that can be; that documents
 # and output come in time; the symbols that no header declares; each allocation refused in turn; all these inputs under
-# AddressSanitizer and UBSan, with readers and writers that fail. Beside Debian's libyaml: at which events an emitter refuses
-# streams made by chance, and all answers for each file, by a C program and by the bindings of Python, Ruby and Perl, where
-# bindings/libyaml/tests/expected.txt lists what differs and why; a difference that isn't there fails, and so does one that is
-# there and isn't seen.
+# AddressSanitizer and UBSan, with readers and writers that fail, and calls in orders made by chance. Beside Debian's libyaml: at which events an emitter refuses
+# streams made by chance, and all answers for each file, by a C program and by the bindings of Python, Ruby, Perl, Lua, PHP and
+# Prolog, where bindings/libyaml/tests/expected.txt lists what differs and why; a difference that isn't there fails, and so does
+# one that is there and isn't seen.
 set -u
 top=$(cd "$(dirname "$0")/.." && pwd)
 core=$(realpath -m "${LIBRARY:-$top/out/library}")/libyaml_c.a
@@ -109,6 +109,8 @@ alone() {
     if has_sanitizer; then
         compile hostile hostile.c $small "$source"/*.c "$core" -fsanitize=address,undefined -fno-sanitize-recover=all &&
             judges hostile "$work/hostile" "$work"/inputs/given/* "$work"/inputs/broken/*
+        compile orders orders.c $small "$source"/*.c "$core" $heap -fsanitize=address,undefined -fno-sanitize-recover=all &&
+            judges orders "$work/orders" 20000 "$work"/inputs/given/* "$work"/inputs/broken/*
     else
         say "$compiler has no AddressSanitizer here: broken texts aren't run under it"
     fi
@@ -168,6 +170,21 @@ clients() {
         beside yaml-xs "$work/inputs/given" perl "$tests/xs_client.pl"
     else
         say "libyaml-libyaml-perl isn't here: YAML::XS isn't run"
+    fi
+    if lua5.1 -e 'require "yaml".scanner' 2>/dev/null; then
+        beside lua "$work/inputs/given" lua5.1 "$tests/lua_client.lua"
+    else
+        say "lua5.1 with lua-yaml isn't here: it isn't run"
+    fi
+    if php -r 'exit(function_exists("yaml_parse") ? 0 : 1);' 2>/dev/null; then
+        beside php "$work/inputs/given" php "$tests/php_client.php"
+    else
+        say "php-cli with php-yaml isn't here: it isn't run"
+    fi
+    if swipl -g 'use_module(library(yaml))' -t halt 2>/dev/null; then
+        beside swi-prolog "$work/inputs/given" swipl "$tests/prolog_client.pl"
+    else
+        say "swi-prolog with library(yaml) isn't here: it isn't run"
     fi
 }
 

@@ -42,11 +42,7 @@ YAML_DECLARE(void) yaml_document_delete(yaml_document_t *document)
         free_node(it);
     free(document->nodes.start);
     free(document->version_directive);
-    for (yaml_tag_directive_t *it = document->tag_directives.start; it != document->tag_directives.end; it++) {
-        free(it->handle);
-        free(it->prefix);
-    }
-    free(document->tag_directives.start);
+    layer_free_directives(document->tag_directives.start, document->tag_directives.end);
     memset(document, 0, sizeof *document);
 }
 

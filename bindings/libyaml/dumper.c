@@ -21,12 +21,6 @@ YAML_DECLARE(int) yaml_emitter_close(yaml_emitter_t *emitter)
     return emitter->closed;
 }
 
-static int no_memory(yaml_emitter_t *emitter)
-{
-    emitter->error = YAML_MEMORY_ERROR;
-    return 0;
-}
-
 /* What a node holds, as numbers of nodes: of a mapping each pair's key, and its value behind it. */
 static const int *held_by(const yaml_node_t *node, size_t *len)
 {
@@ -130,7 +124,7 @@ static int dump_turns(yaml_emitter_t *emitter, const yaml_document_t *document, 
     for (size_t i = 0; i < turns->turns_len; i++) {
         yaml_event_t event;
         if (!turn_event(&event, document, &turns->turns[i]))
-            return no_memory(emitter);
+            return layer_no_emitter_memory(emitter);
         if (!yaml_emitter_emit(emitter, &event))
             return 0;
     }
@@ -141,10 +135,10 @@ static int dump_document(yaml_emitter_t *emitter, const yaml_document_t *documen
 {
     yaml_event_t event;
     if (!find_turns(document, turns))
-        return no_memory(emitter);
+        return layer_no_emitter_memory(emitter);
     if (!yaml_document_start_event_initialize(&event, document->version_directive, document->tag_directives.start,
                                               document->tag_directives.end, document->start_implicit))
-        return no_memory(emitter);
+        return layer_no_emitter_memory(emitter);
     if (!yaml_emitter_emit(emitter, &event) || !dump_turns(emitter, document, turns))
         return 0;
     yaml_document_end_event_initialize(&event, document->end_implicit);

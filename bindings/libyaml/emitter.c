@@ -2,7 +2,7 @@
  * time that enough are kept, at the end of a document, at a flush, and with an event that may be wrong. */
 #include "layer.h"
 
-static int no_memory(yaml_emitter_t *emitter)
+int layer_no_emitter_memory(yaml_emitter_t *emitter)
 {
     emitter->error = YAML_MEMORY_ERROR;
     return 0;
@@ -14,7 +14,7 @@ YAML_DECLARE(int) yaml_emitter_initialize(yaml_emitter_t *emitter)
     memset(emitter, 0, sizeof *emitter);
     layer_writing *w = calloc(1, sizeof *w);
     if (!w)
-        return no_memory(emitter);
+        return layer_no_emitter_memory(emitter);
     yaml_c_stand_init(&w->stand);
     LAYER_SET_STATE(emitter, w);
     return 1;
@@ -322,8 +322,9 @@ static inline int is_enough(const layer_writing *w)
 static inline int take(yaml_emitter_t *emitter, layer_writing *w, const yaml_event_t *event)
 {
     enum due due = due_with(emitter, w, event);
+    w->is_canonical = emitter->canonical;
     if (due == NO_MEMORY || !layer_record(w, event))
-        return no_memory(emitter);
+        return layer_no_emitter_memory(emitter);
     return (due == KEEP && !w->is_doubtful && !is_enough(w)) || lay_out(emitter, w);
 }
 

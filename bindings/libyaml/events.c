@@ -8,7 +8,7 @@ static inline void free_if(void *block)
         free(block);
 }
 
-static void free_directives(yaml_tag_directive_t *start, yaml_tag_directive_t *end)
+void layer_free_directives(yaml_tag_directive_t *start, yaml_tag_directive_t *end)
 {
     for (yaml_tag_directive_t *it = start; it != end; it++) {
         free(it->handle);
@@ -28,7 +28,7 @@ void layer_free_texts(const yaml_event_t *event)
     switch (event->type) {
     case YAML_DOCUMENT_START_EVENT:
         free(event->data.document_start.version_directive);
-        free_directives(event->data.document_start.tag_directives.start, event->data.document_start.tag_directives.end);
+        layer_free_directives(event->data.document_start.tag_directives.start, event->data.document_start.tag_directives.end);
         break;
     case YAML_ALIAS_EVENT: free(event->data.alias.anchor); break;
     case YAML_SEQUENCE_START_EVENT:

@@ -152,27 +152,38 @@ static int finds_cut(const yaml_parser_t *parser, layer_reading *reading, size_t
     }
 }
 
-static int window_of_string(yaml_parser_t *parser, layer_reading *reading)
+/* Has the core decode what a handler gave since. Whether a byte is wrong there; what stands at the end may be the beginning of a
+ * character. 0 also where memory was refused, which is met again. */
+static int has_wrong_byte(layer_reading *reading)
 {
-    size_t from = 0, to = LAYER_WINDOW;
-    return (to < reading->given && finds_cut(parser, reading, &from, &to)) || take_all(parser, reading);
+    yaml_c_answer decoded;
+    size_t len = reading->given - reading->checked;
+    yaml_c_answer_init(&decoded);
+    int kind = yaml_c_decode(reading->bytes + reading->checked, len, YAML_C_UTF8_ENCODING, &decoded);
+    size_t right = kind == YAML_C_ANSWERED ? len : kind == YAML_C_READER_ERROR ? decoded.offset : 0;
+    yaml_c_answer_free(&decoded);
+    reading->checked += right;
+    return kind == YAML_C_READER_ERROR && len - right >= 4;
 }
 
-/* A wrong byte comes first, as with libyaml, which decodes what it has read before it goes on. */
-static int window_by_handler(yaml_parser_t *parser, layer_reading *reading)
+/* Finds the window. Of what a handler gives a wrong byte comes first, as with libyaml, which decodes what it has read before it goes
+ * on; and as it gives some, what is there is looked at. What is there as a whole is cut where it is long. */
+static int end_window(yaml_parser_t *parser, layer_reading *reading)
 {
-    for (size_t from = 0, to = LAYER_WINDOW; !parser->eof;) {
-        reading->is_wrong = may_be_cut(parser, reading) && !layer_is_text(reading->bytes, reading->given, &reading->checked);
+    for (size_t from = 0, to = LAYER_WINDOW;;) {
+        reading->is_wrong = !parser->eof && may_be_cut(parser, reading) && has_wrong_byte(reading);
         if (reading->is_wrong) {
             reading->len = reading->given;
             return 1;
         }
-        if (reading->checked == reading->given && finds_cut(parser, reading, &from, &to))
+        int may_end = parser->eof ? to < reading->given : reading->checked == reading->given;
+        if (may_end && finds_cut(parser, reading, &from, &to))
             return 1;
+        if (parser->eof)
+            return take_all(parser, reading);
         if (!read_piece(parser, reading))
             return 0;
     }
-    return take_all(parser, reading);
 }
 
 /* Puts the stand-in before what is parsed. 0: memory was refused. */
@@ -204,8 +215,7 @@ static int join(yaml_parser_t *parser, layer_reading *reading)
 
 static int find_window(yaml_parser_t *parser, layer_reading *reading)
 {
-    int is_found = parser->read_handler == read_string ? window_of_string(parser, reading) : window_by_handler(parser, reading);
-    return is_found && join(parser, reading);
+    return end_window(parser, reading) && join(parser, reading);
 }
 
 int layer_widen(yaml_parser_t *parser, layer_reading *reading)
@@ -287,39 +297,37 @@ int layer_is_doubtful(const layer_reading *reading)
     return is_placed && answer->problem_mark.index + 16 > reading->read_len;
 }
 
-/* ---- the encoding that the core found, where it came so far */
-
-static yaml_encoding_t encoding_of(const layer_reading *reading, yaml_encoding_t set)
-{
-    if (reading->bytes_before)
-        return set;
-    if (!reading->end)
-        return set;
-    return (yaml_encoding_t)(reading->asked == LAYER_EVENTS ? reading->events[0].encoding : reading->scanned.tokens[0].encoding);
-}
-
 void layer_tell_encoding(yaml_parser_t *parser, const layer_reading *reading)
 {
-    parser->encoding = encoding_of(reading, parser->encoding);
+    if (reading->end && !reading->bytes_before)
+        parser->encoding = (yaml_encoding_t)(reading->asked == LAYER_EVENTS ? reading->events[0].encoding
+                                                                            : reading->scanned.tokens[0].encoding);
 }
 
-/* ---- the reader's buffer, at which libyaml's own test of its reader looks */
+/* ---- the reader's buffer, at which libyaml's own test of its reader looks, and some clients at a fault */
 
-static int serve(yaml_parser_t *parser, const layer_reading *reading)
+int layer_show(yaml_parser_t *parser, layer_reading *reading, const uint8_t *text, size_t len, size_t at)
+{
+    yaml_char_t *copy = layer_copy(text, len);
+    if (!copy)
+        return 0;
+    free(reading->shown);
+    reading->shown = parser->buffer.start = copy;
+    parser->buffer.pointer = copy + at;
+    parser->buffer.last = parser->buffer.end = copy + len;
+    return 1;
+}
+
+static int serve(yaml_parser_t *parser, layer_reading *reading)
 {
     yaml_c_answer decoded;
     yaml_c_answer_init(&decoded);
-    if (yaml_c_decode(reading->bytes, reading->len, (int32_t)reading->set, &decoded) == YAML_C_MEMORY_ERROR)
-        return layer_no_memory(parser);
-    yaml_char_t *copy = layer_copy(decoded.text.at, decoded.text.len);
-    if (copy) {
-        parser->buffer.start = parser->buffer.pointer = copy;
-        parser->buffer.last = parser->buffer.end = copy + decoded.text.len;
-        for (size_t i = 0; i < decoded.text.len; i++)
-            parser->unread += (copy[i] & 0xC0) != 0x80;
-    }
+    int kind = yaml_c_decode(reading->bytes, reading->len, (int32_t)reading->set, &decoded);
+    int is_shown = kind != YAML_C_MEMORY_ERROR && layer_show(parser, reading, decoded.text.at, decoded.text.len, 0);
+    for (size_t i = 0; is_shown && i < decoded.text.len; i++)
+        parser->unread += (decoded.text.at[i] & 0xC0) != 0x80;
     yaml_c_answer_free(&decoded);
-    return copy ? 1 : layer_no_memory(parser);
+    return is_shown || layer_no_memory(parser);
 }
 
 YAML_DECLARE(int) yaml_parser_update_buffer(yaml_parser_t *parser, size_t length)
@@ -329,11 +337,11 @@ YAML_DECLARE(int) yaml_parser_update_buffer(yaml_parser_t *parser, size_t length
     if (parser->unread >= length)
         return 1;
     reading->is_whole = 1;
-    if (!layer_read(parser, reading))
+    if (!layer_read(parser, reading, LAYER_EVENTS))
         return 0;
     if (reading->answer.kind == YAML_C_READER_ERROR)
         return layer_fault(parser, reading);
-    if (!parser->buffer.start && !serve(parser, reading))
+    if (!reading->shown && !serve(parser, reading))
         return 0;
     if (parser->unread < length)
         parser->unread++;

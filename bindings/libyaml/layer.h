@@ -130,9 +130,6 @@ static inline int layer_is_utf8(const yaml_char_t *text, size_t len)
 {
     return layer_is_ascii(text, len) || layer_is_wide(text, len);
 }
-/* Whether the bytes from `from` on are UTF-8 and what a text may have, as far as four bytes tell; `from` is then where that isn't
- * known. */
-int layer_is_text(const yaml_char_t *text, size_t len, size_t *from);
 
 /* No event. It is cleared part by part: compilers clear the whole of such a size by an instruction that takes longer. */
 static inline void layer_clear(yaml_event_t *event)
@@ -143,6 +140,8 @@ static inline void layer_clear(yaml_event_t *event)
     memset(&event->end_mark, 0, sizeof event->end_mark);
 }
 
+/* Frees directives, and the list of them. */
+void layer_free_directives(yaml_tag_directive_t *start, yaml_tag_directive_t *end);
 /* Frees an event's texts. */
 void layer_free_texts(const yaml_event_t *event);
 
@@ -211,12 +210,18 @@ typedef struct {
     int last; /* the kind of the event that was handed out last */
     char *problem;
     char *context;
+    yaml_char_t *shown; /* what libyaml's buffer shows */
+    yaml_char_t nothing[1];
 } layer_reading;
 
-/* Has events read until there is one, or none is left. 0: the parser tells why. */
-int layer_read(yaml_parser_t *parser, layer_reading *reading);
-/* Parsers give events or tokens, not both: whether this one gives these. 0: the parser tells so. */
-int layer_asks(yaml_parser_t *parser, layer_reading *reading, enum layer_asked asked);
+/* Has events, or tokens, read until there is one, or none is left. A parser gives one of both. 0: the parser tells why. */
+int layer_read(yaml_parser_t *parser, layer_reading *reading, enum layer_asked asked);
+/* Whether the window's tokens leave brackets open: a cut is none there. */
+int layer_is_open(const layer_reading *reading);
+/* Takes the tokens out of what was scanned. */
+void layer_take_tokens(layer_reading *reading);
+/* Has libyaml's buffer show a text, and the scanner stand there. 0: memory was refused. */
+int layer_show(yaml_parser_t *parser, layer_reading *reading, const uint8_t *text, size_t len, size_t at);
 /* Tells the input's fault. Answers 0. */
 int layer_fault(yaml_parser_t *parser, layer_reading *reading);
 int layer_no_memory(yaml_parser_t *parser);
@@ -258,6 +263,7 @@ enum layer_place { LAYER_BEFORE_STREAM, LAYER_BETWEEN_DOCUMENTS, LAYER_IN_DOCUME
 typedef struct {
     enum layer_place place;
     int is_doubtful; /* an event that may be wrong is kept */
+    int is_canonical; /* as the emitter is set */
     layer_bytes levels; /* a byte for each open collection, the outermost first: whether it is a mapping, and a value is due there */
     yaml_c_stand stand;
     layer_bytes events;
@@ -266,6 +272,7 @@ typedef struct {
     char *problem;
 } layer_writing;
 
+int layer_no_emitter_memory(yaml_emitter_t *emitter);
 /* Keeps the event as a record. 0: memory was refused, and none is kept. */
 int layer_record(layer_writing *w, const yaml_event_t *event);
 

@@ -162,6 +162,9 @@ static int undefined_alias(yaml_parser_t *parser, const gathering *g, const yaml
     memset(&parser->context_mark, 0, sizeof parser->context_mark);
     parser->problem_offset = 0;
     parser->problem_value = 0;
+    parser->token_available = 0;
+    parser->state = YAML_PARSE_STREAM_START_STATE;
+    parser->buffer.pointer = parser->buffer.last;
     parser->problem = "found undefined alias";
     parser->problem_mark = *mark;
     return 0;

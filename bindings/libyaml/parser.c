@@ -18,8 +18,20 @@ YAML_DECLARE(int) yaml_parser_initialize(yaml_parser_t *parser)
     yaml_c_parsed_init(&reading->parsed);
     yaml_c_scanned_init(&reading->scanned);
     yaml_c_answer_init(&reading->answer);
+    parser->buffer.start = parser->buffer.pointer = parser->buffer.last = parser->buffer.end = reading->nothing;
     LAYER_SET_STATE(parser, reading);
     return 1;
+}
+
+/* Frees what was read of the last window. */
+static void forget(layer_reading *reading)
+{
+    free(reading->events);
+    reading->events = NULL;
+    reading->next = reading->end = 0;
+    yaml_c_parsed_free(&reading->parsed);
+    yaml_c_scanned_free(&reading->scanned);
+    yaml_c_answer_free(&reading->answer);
 }
 
 YAML_DECLARE(void) yaml_parser_delete(yaml_parser_t *parser)
@@ -27,17 +39,14 @@ YAML_DECLARE(void) yaml_parser_delete(yaml_parser_t *parser)
     assert(parser);
     layer_reading *reading = LAYER_STATE(layer_reading, parser);
     if (reading) {
-        yaml_c_parsed_free(&reading->parsed);
-        yaml_c_scanned_free(&reading->scanned);
-        yaml_c_answer_free(&reading->answer);
-        free(reading->events);
+        forget(reading);
         free(reading->input.at);
         free(reading->joined.at);
         free(reading->problem);
         free(reading->context);
+        free(reading->shown);
         free(reading);
     }
-    free(parser->buffer.start);
     memset(parser, 0, sizeof *parser);
 }
 
@@ -98,67 +107,104 @@ static void give_back(layer_reading *reading)
         reading->events = less;
 }
 
-static void parse(const yaml_parser_t *parser, layer_reading *reading)
+static void ask_core(const yaml_parser_t *parser, layer_reading *reading)
 {
-    yaml_c_front(reading->read, reading->read_len, parser->encoding, &reading->parsed, &reading->answer);
+    if (reading->asked == LAYER_TOKENS)
+        yaml_c_scan(reading->read, reading->read_len, parser->encoding, &reading->scanned, &reading->answer);
+    else
+        yaml_c_front(reading->read, reading->read_len, parser->encoding, &reading->parsed, &reading->answer);
 }
 
-/* Whether the window's events may not be the input's. Of a document in flow style those in front of its cut are. */
+/* Whether what was read of the window may not be the input's. Of a document in flow style that in front of its cut is. */
 static int is_doubtful(layer_reading *reading)
 {
-    if (reading->cut_in != LAYER_FLOW)
-        return layer_is_doubtful(reading) || (!reading->answer.kind && reading->cut_in && !ends_in_root(reading));
-    if (reading->answer.kind == YAML_C_MEMORY_ERROR)
+    if (reading->cut_in == LAYER_FLOW) {
+        if (reading->answer.kind == YAML_C_MEMORY_ERROR)
+            return 0;
+        if (!layer_cut_in_flow(reading))
+            return 1;
+        yaml_c_answer_free(&reading->answer);
         return 0;
-    if (!layer_cut_in_flow(reading))
+    }
+    if (layer_is_doubtful(reading))
         return 1;
-    yaml_c_answer_free(&reading->answer);
-    return 0;
+    if (reading->answer.kind)
+        return 0;
+    return reading->asked == LAYER_TOKENS ? layer_is_open(reading) : reading->cut_in && !ends_in_root(reading);
 }
 
-/* Reads the events of the next window, and where they may not be the input's, those of more. */
-static int read_events(yaml_parser_t *parser, layer_reading *reading)
+/* Reads the next window, and where it may not tell what the input does, more. */
+static int read_window(yaml_parser_t *parser, layer_reading *reading)
 {
-    free(reading->events);
-    reading->events = NULL;
-    reading->next = reading->end = 0;
-    yaml_c_parsed_free(&reading->parsed);
+    forget(reading);
     if (!layer_next_window(parser, reading))
         return 0;
-    parse(parser, reading);
+    ask_core(parser, reading);
     while (is_doubtful(reading)) {
-        yaml_c_parsed_free(&reading->parsed);
-        yaml_c_answer_free(&reading->answer);
+        forget(reading);
         if (!layer_widen(parser, reading))
             return 0;
-        parse(parser, reading);
+        ask_core(parser, reading);
     }
     reading->is_last |= reading->answer.kind != YAML_C_ANSWERED;
-    if (reading->answer.kind != YAML_C_MEMORY_ERROR)
+    if (reading->answer.kind == YAML_C_MEMORY_ERROR)
+        return 1;
+    if (reading->asked == LAYER_TOKENS)
+        layer_take_tokens(reading);
+    else
         take_events(reading);
     layer_tell_encoding(parser, reading);
     return 1;
 }
 
-int layer_asks(yaml_parser_t *parser, layer_reading *reading, enum layer_asked asked)
+int layer_read(yaml_parser_t *parser, layer_reading *reading, enum layer_asked asked)
 {
     if (!reading->asked)
         reading->asked = asked;
-    if (reading->asked == asked)
-        return 1;
-    parser->error = YAML_PARSER_ERROR;
-    parser->problem = "a parser gives events or tokens, not both";
+    if (reading->asked != asked) {
+        parser->error = YAML_PARSER_ERROR;
+        parser->problem = "a parser gives events or tokens, not both";
+        return 0;
+    }
+    while (reading->next >= reading->end && !reading->is_last)
+        if (!read_window(parser, reading))
+            return 0;
+    return 1;
+}
+
+/* Whether behind the events a block mapping waits for a key that isn't its first. */
+static int waits_for_key(const layer_reading *reading)
+{
+    size_t depth = 0, nodes = 0;
+    for (size_t i = reading->events ? reading->end : 0; i-- > 0;) {
+        const yaml_c_event *it = &reading->events[i];
+        int is_start = it->kind == YAML_C_SEQUENCE_START_EVENT || it->kind == YAML_C_MAPPING_START_EVENT;
+        if (is_start && !depth)
+            return it->kind == YAML_C_MAPPING_START_EVENT && it->style == YAML_C_BLOCK_STYLE && nodes && nodes % 2 == 0;
+        depth += it->kind == YAML_C_SEQUENCE_END_EVENT || it->kind == YAML_C_MAPPING_END_EVENT;
+        depth -= is_start;
+        nodes += !depth;
+    }
     return 0;
 }
 
-int layer_read(yaml_parser_t *parser, layer_reading *reading)
+/* Settles what libyaml's private fields have at a fault, since some clients (netplan) look at them: the line at which the scanner
+ * stands, as far as it is near. In front of a reader's fault it stands at the window's beginning. */
+static int settle(yaml_parser_t *parser, layer_reading *reading)
 {
-    if (!layer_asks(parser, reading, LAYER_EVENTS))
-        return 0;
-    while (reading->next >= reading->end && !reading->is_last)
-        if (!read_events(parser, reading))
-            return 0;
-    return 1;
+    int is_read = parser->error != YAML_READER_ERROR;
+    size_t at = is_read ? reading->answer.problem_mark.index + reading->mark_len : 0;
+    size_t from = at, to = at, end = is_read ? reading->read_len : reading->answer.offset;
+    if (parser->encoding > YAML_UTF8_ENCODING || end > reading->read_len || at > end)
+        return 1;
+    while (from > 0 && at - from < 4096 && reading->read[from - 1] != '\n')
+        from--;
+    while (to < end && to - at < 4096 && reading->read[to] != '\n')
+        to++;
+    parser->token_available = parser->error == YAML_PARSER_ERROR;
+    if (waits_for_key(reading))
+        parser->state = YAML_PARSE_BLOCK_MAPPING_KEY_STATE;
+    return layer_show(parser, reading, reading->read + from, to - from, at - from);
 }
 
 int layer_fault(yaml_parser_t *parser, layer_reading *reading)
@@ -184,7 +230,7 @@ int layer_fault(yaml_parser_t *parser, layer_reading *reading)
             parser->context_mark = layer_mark(reading, &answer->context_mark);
         parser->mark = parser->problem_mark;
     }
-    return 0;
+    return settle(parser, reading) ? 0 : layer_no_memory(parser);
 }
 
 /* ---- events */
@@ -300,7 +346,7 @@ static int hand_out(yaml_parser_t *parser, layer_reading *reading, const yaml_c_
  * there. NULL: there is none, and the parser tells why. */
 static const yaml_c_event *read_on(yaml_parser_t *parser, layer_reading *reading, yaml_c_event *missed)
 {
-    if (!layer_read(parser, reading))
+    if (!layer_read(parser, reading, LAYER_EVENTS))
         return NULL;
     if (reading->next < reading->end)
         return &reading->events[reading->next++];

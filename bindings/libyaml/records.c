@@ -14,13 +14,18 @@ static inline int put_if(layer_writing *w, yaml_c_span *span, const yaml_char_t 
     return !text || put(w, span, text, strlen((const char *)text));
 }
 
-static inline int put_properties(layer_writing *w, yaml_c_event *record, const yaml_char_t *anchor, const yaml_char_t *tag)
+static int put_names(layer_writing *w, yaml_c_event *record, const yaml_char_t *anchor, const yaml_char_t *tag)
 {
-    if (!anchor && !tag)
-        return 1;
     record->has_anchor = anchor != NULL;
     record->has_tag = tag != NULL;
     return put_if(w, &record->anchor, anchor) && put_if(w, &record->tag, tag);
+}
+
+/* A node's properties. A tag that isn't written isn't kept: the core's definitions don't look at it either (kept_tag). */
+static inline int put_properties(layer_writing *w, yaml_c_event *record, const yaml_char_t *anchor, const yaml_char_t *tag)
+{
+    const yaml_char_t *written = w->is_canonical | !(record->implicit | record->quoted_implicit) ? tag : NULL;
+    return (!anchor && !written) || put_names(w, record, anchor, written);
 }
 
 static int put_document_start(layer_writing *w, yaml_c_event *record, const yaml_event_t *event)

@@ -2,16 +2,10 @@
  * a fault the fault. */
 #include "layer.h"
 
-static void scan(const yaml_parser_t *parser, layer_reading *reading)
-{
-    yaml_c_scan(reading->read, reading->read_len, parser->encoding, &reading->scanned, &reading->answer);
-}
-
-/* Whether the window leaves brackets open: a cut is none there. */
-static int is_open(const layer_reading *reading)
+int layer_is_open(const layer_reading *reading)
 {
     size_t open = 0;
-    for (size_t i = 0; i < reading->scanned.tokens_len; i++) {
+    for (size_t i = 0; i < reading->scanned.tokens_len && !reading->is_last; i++) {
         int kind = reading->scanned.tokens[i].kind;
         open += kind == YAML_C_FLOW_SEQUENCE_START_TOKEN || kind == YAML_C_FLOW_MAPPING_START_TOKEN;
         open -= open && (kind == YAML_C_FLOW_SEQUENCE_END_TOKEN || kind == YAML_C_FLOW_MAPPING_END_TOKEN);
@@ -20,7 +14,7 @@ static int is_open(const layer_reading *reading)
 }
 
 /* The stream has one start and one end: those of other windows aren't the stream's. */
-static void take_tokens(layer_reading *reading)
+void layer_take_tokens(layer_reading *reading)
 {
     size_t len = reading->scanned.tokens_len;
     reading->next = reading->bytes_before != 0;
@@ -30,28 +24,6 @@ static void take_tokens(layer_reading *reading)
         reading->lines = end->line;
         reading->chars = end->character;
     }
-}
-
-/* Reads the tokens of the next window, and where it may not tell what the input does, those of all that is left. */
-static int read_tokens(yaml_parser_t *parser, layer_reading *reading)
-{
-    yaml_c_scanned_free(&reading->scanned);
-    reading->next = reading->end = 0;
-    if (!layer_next_window(parser, reading))
-        return 0;
-    scan(parser, reading);
-    if (layer_is_doubtful(reading) || (!reading->is_last && !reading->answer.kind && is_open(reading))) {
-        yaml_c_scanned_free(&reading->scanned);
-        yaml_c_answer_free(&reading->answer);
-        if (!layer_widen(parser, reading))
-            return 0;
-        scan(parser, reading);
-    }
-    reading->is_last |= reading->answer.kind != YAML_C_ANSWERED;
-    if (reading->answer.kind != YAML_C_MEMORY_ERROR)
-        take_tokens(reading);
-    layer_tell_encoding(parser, reading);
-    return 1;
 }
 
 static int copied(const layer_reading *reading, yaml_char_t **to, yaml_c_span span)
@@ -90,11 +62,8 @@ YAML_DECLARE(int) yaml_parser_fetch_more_tokens(yaml_parser_t *parser)
     layer_reading *reading = LAYER_STATE(layer_reading, parser);
     if (parser->stream_end_produced)
         return 1;
-    if (!layer_asks(parser, reading, LAYER_TOKENS))
+    if (!layer_read(parser, reading, LAYER_TOKENS))
         return 0;
-    while (reading->next >= reading->end && !reading->is_last)
-        if (!read_tokens(parser, reading))
-            return 0;
     return reading->next < reading->end || layer_fault(parser, reading);
 }
 

@@ -1,4 +1,5 @@
-/* What libyaml exports without a declaration: each is called once, and judged. It passes over any libyaml. */
+/* What libyaml exports without a declaration: each is called once, and judged; and what clients read of its private fields. It passes
+ * over any libyaml. */
 #include <yaml.h>
 
 void *yaml_malloc(size_t size);
@@ -74,6 +75,33 @@ static void buffer(void)
     yaml_parser_delete(&parser);
 }
 
+/* Parses a text up to its fault. */
+static void parse_to_fault(yaml_parser_t *parser, const char *text)
+{
+    yaml_event_t event;
+    yaml_parser_initialize(parser);
+    yaml_parser_set_input_string(parser, (const unsigned char *)text, strlen(text));
+    while (yaml_parser_parse(parser, &event))
+        yaml_event_delete(&event);
+}
+
+/* The private fields that netplan looks at when it tells a fault, in the line that it shows. */
+static void faults(void)
+{
+    yaml_parser_t parser;
+    parse_to_fault(&parser, "a: \"b\"\n\tc: d\n");
+    EXPECT(*parser.buffer.pointer == '\t' && !parser.token_available && parser.state == YAML_PARSE_BLOCK_MAPPING_KEY_STATE);
+    EXPECT(parser.buffer.pointer - parser.buffer.start >= 0 && parser.buffer.last - parser.buffer.pointer >= 5);
+    yaml_parser_delete(&parser);
+    parse_to_fault(&parser, "a: [b\nc: d\n");
+    EXPECT(parser.token_available && parser.state != YAML_PARSE_BLOCK_MAPPING_KEY_STATE);
+    EXPECT(parser.buffer.pointer >= parser.buffer.start && parser.buffer.pointer <= parser.buffer.last);
+    yaml_parser_delete(&parser);
+    parse_to_fault(&parser, "a: \x01");
+    EXPECT(*parser.buffer.pointer == 'a' && !parser.token_available);
+    yaml_parser_delete(&parser);
+}
+
 static void tokens(void)
 {
     yaml_parser_t parser;
@@ -98,6 +126,7 @@ int main(void)
     texts();
     lists();
     buffer();
+    faults();
     tokens();
     printf("undeclared: %s\n", wrong ? "wrong" : "as libyaml's");
     return wrong;

@@ -1,11 +1,12 @@
 #!/usr/bin/env python3
 """Writes docs/EDITS.md: each must-fail edit, the function whose body it changes, and the meaning that it turns; the lines that
-refuse what no edit turns; and the public calls that have no edit.
+refuse what no edit turns; the wrong bodies that come to mind first, and what is implied, by the names of these; and the public
+calls that have no edit.
 
     tools/edits.py             writes the page
     tools/edits.py --check     writes nothing, and fails where the page differs
 
-Both fail where an `old:` text does not stand exactly once in its file.
+Both fail where an `old:` text does not stand exactly once in its file, or where FIRST or IMPLIED names what isn't there.
 
 An edit says what it turns in a line `turns: TEXT`; where it has none, its name stands for it. A line of the vectors that is named
 in an edit's place says it in a field `turns`.
@@ -30,11 +31,69 @@ Each line is a change of the code that the prover must refuse (`crates/CRATE/mus
 LINES_HEAD = f"""
 ## By a line
 
-No clause says these, or the crate whose clauses do has no edit, since for a first one it would be proved twice. A line of `{LINES}` refuses each. That want of memory is told where none was met is refused by every line that wants an answer: no clause can say that memory is there.
+No clause says these, or no edit turns them: the crate whose clauses do has none, since for a first one it would be proved twice, or the body stands too far below its public call. A line of `{LINES}` refuses each. That want of memory is told where none was met is refused by every line that wants an answer: no clause can say that memory is there.
 
 | call | line | the meaning that it turns |
 |---|---|---|
 """
+FIRST_HEAD = """
+## The wrong bodies that come to mind first
+
+What a reader may try to get past the contracts, and what refuses it: an edit, as `CRATE/EDIT`, or a line, as `CALL: LINE`. Where a body would fail several, the nearest to it are named. One that tells want of memory where none was met passes every clause, and is left to lines.
+
+| the wrong body | refused by |
+|---|---|
+"""
+# Each with the edits, `CRATE/EDIT`, and the lines, `CALL: NAME`, that refuse it; or why none does.
+FIRST = [
+    ("`,`, `[` and `]` written raw in the suffix of a shorthand", "emit_events: spelled tag 6"),
+    ("the tag `!` alone passed on", "yaml_parse/lone_mark_passed_on"),
+    ("bytes of a tag that aren't UTF-8 left out or replaced", "yaml_round_adapter/tag_bytes_replaced"),
+    ("tokens of a step that fails handed out", "yaml_scan/tokens_behind_a_fault", "scan: scans: a key without its colon"),
+    ("surrogates accepted", "yaml_scan_decode/surrogate_accepted", "yaml_scan_classes/printable_surrogate"),
+    ("lexemes read ahead of need; more spare texts kept, or larger ones", "yaml_scan/reads_ahead_of_need", "yaml_scan_model/spare_text_number_65", "yaml_scan_model/spare_text_of_257_bytes"),
+    ("a token known where a later text may change it", "yaml_scan/has_token_where_none_is", "yaml_scan/token_known_once_peeked"),
+    ("a source or a session that refuses again", "yaml_scan/memory_fault_behind_streams_end", "yaml_round_adapter/refuses_again"),
+    ("a scanner's want of memory told of the reader, a tag's fault told as want of memory", "yaml_scan/scanners_memory_told_of_the_reader", "yaml_round_adapter/tags_fault_told_as_memory"),
+    ("every deep input refused", "yaml_parse/deep_input_refused"),
+    ("an undefined handle told before the fault of the next token", "yaml_parse/undefined_handle_before_the_next_fault"),
+    ("tokens asked for past STREAM-END, behind a fault, or to the end where memory ran out", "parse_tokens: events of tokens: an empty key in a flow sequence", "yaml_parse/token_asked_for_behind_a_fault", "yaml_parse/reads_on_where_memory_ran_out"),
+    ("want of memory answered behind the end, over the first fault", "yaml_parse/memory_fault_behind_the_end"),
+    ("directives carried to the next document, by reader and emitter alike", "yaml_parse/version_carried_to_the_next_document", "reformat: fault of the input 6"),
+    ("aliases looked up once the document has ended", "load: loads: an alias before its anchor"),
+    ("the document without root, which ends the loads, never comes", "yaml_parse/ending_document_never_comes"),
+    ("names of anchors kept, a shared node written twice", "yaml_round_c/reloaded_as_a_rewriting", "reload: documents 1"),
+    ("the text thrown away behind a wrong event that is given early", "yaml_emit/early_refusal_left_out", "yaml_emit/early_event_dropped"),
+    ("the text lost where an indentation is too deep or memory ran out", "yaml_emit/goes_on_after_a_fault"),
+    ("want of memory told of another layer, or of the other input", "yaml_round/memory_fault_of_the_writer_for_lines", "yaml_round/second_blamed_for_the_firsts_memory"),
+    ("pretty text that has the values alone", "yaml_emit/properties_left_out", "reformat: not shaped as JSON 6, an anchor and an alias"),
+    ("pretty form asked for, and canonical text always answered", "yaml_round/canonical_unasked"),
+    ("another injective printer", "yaml_round/another_injective_printer"),
+    ("the input repeated as its normal form", "yaml_round/own_styles_kept"),
+    ("a size refused one byte early, or one late", "yaml_round_device/size_refused_one_byte_early", "yaml_round/normal_form_refused_one_byte_early", "yaml_round/size_refused_one_byte_late"),
+    ("a flush left out, an empty `put` that fails, reading on behind the limit", "yaml_round_device/finish_not_called", "yaml_round_device/empty_put_told_as_failed", "yaml_round_device/byte_past_the_limit"),
+    ("for C: a place told of what isn't there, a fault without its line, two fields exchanged", "yaml_round_c/absent_anchor_has_a_place", "yaml_round_c/absent_version_is_one", "yaml_round_c/line_never_told", "yaml_round_c/indent_and_width_exchanged"),
+    ("every fault told as want of memory by a caller", "yaml_cli_lookup/every_fault_told_as_want_of_memory"),
+]
+IMPLIED_HEAD = """
+## What another edit implies
+
+No edit turns these meanings at their own call, since the prover would let none of them through without the one that is named.
+
+| call | the meaning | implied by | since |
+|---|---|---|---|
+"""
+# The call, the meaning, the edits that imply it, and why they do.
+IMPLIED = [
+    ("yaml_diff", "a fault of two inputs that are compared names the input that has it", ["yaml_round/sides_turned"], "`IsDiff` says of a fault what `IsSame` says"),
+    ("yaml_diff", "nothing is answered only where the contents are the same", ["yaml_round/differing_told_alike"], "`IsDiff` says of nothing what `IsSame` says of true: `SameContent`"),
+    ("yaml_check", "an input that is refused does not load", ["yaml_round/events_alone_checked"], "it accepts some of these"),
+    ("yaml_normalize", "the input is not repeated", ["yaml_round/own_styles_kept"], "the pretty text of an input, given in, has the same content and so the same normal form"),
+    ("yaml_reformat", "what is answered unasked as canonical form is canonical", ["yaml_round/canonical_unasked"], "no text is, where the input doesn't begin with nothing"),
+    ("yaml_reformat", "a tag that isn't UTF-8 is the input's fault", ["yaml_round_adapter/tag_bytes_replaced"], "the plain reading is of the adapter's tokens"),
+    ("yaml_reformat", "want of memory is told with nothing else", ["yaml_parse/memory_fault_with_an_offset", "yaml_parse/memory_fault_with_the_text_of_an_alias", "yaml_round_device/context_of_a_memory_fault"], "`memory_fault` is one definition for all calls"),
+    ("yaml_reload", "the same", ["yaml_parse/memory_fault_with_the_text_of_an_alias"], "the same"),
+]
 
 
 class Edit:
@@ -133,10 +192,30 @@ def table(edits):
     return "| function | edit | the meaning that it turns |\n|---|---|---|\n" + "\n".join(lines) + "\n"
 
 
+def lines_with_turns():
+    return [line for line in repo.read(LINES).split("\n") if '"turns":' in line]
+
+
 def lines_named():
     """The rows of the lines that are named in an edit's place."""
-    named = [json.loads(line) for line in repo.read(LINES).split("\n") if '"turns":' in line]
+    named = [json.loads(line) for line in lines_with_turns()]
     return "".join(f"| `{it['call']}` | {it['name']} | {it['turns']} |\n" for it in named)
+
+
+def code(names):
+    return ", ".join(f"`{it}`" for it in names)
+
+
+def first_and_implied(edits):
+    """The rows of the wrong bodies that come to mind first, and of what is implied; it ends where they name what isn't there."""
+    named = {f"{it.crate}/{it.name}" for it in edits}
+    named |= {f"{it['call']}: {it['name']}" for it in map(json.loads, lines_with_turns())}
+    asked = [name for _, *names in FIRST for name in names] + [name for _, _, names, _ in IMPLIED for name in names]
+    missing = [name for name in asked if name not in named]
+    if missing:
+        sys.exit("edits: FIRST or IMPLIED names what isn't there: " + ", ".join(missing))
+    first = "".join(f"| {body} | {code(names)} |\n" for body, *names in FIRST)
+    return FIRST_HEAD + first + IMPLIED_HEAD + "".join(f"| `{call}` | {meaning} | {code(names)} | {why} |\n" for call, meaning, names, why in IMPLIED)
 
 
 def page():
@@ -147,7 +226,7 @@ def page():
         own = [it for it in edits if it.crate == crate]
         if own:
             text += f"\n## `{crate}`\n\n{table(own)}"
-    text += LINES_HEAD + lines_named()
+    text += LINES_HEAD + lines_named() + first_and_implied(edits)
     turned = {(it.crate, it.at.path, it.at.start) for it in edits if it.at}
     public = [it for it in repo.all_functions() if repo.is_public(it)]
     without = [it for it in public if (it.crate, it.path, it.start) not in turned]

@@ -26,11 +26,14 @@ What is promised, and judged for each run:
     not told apart  the answers that a call of the line's own makes of any refusal: see UNTOLD
 
 `main` isn't among the calls: tools/faults.py runs the program itself. Whatever else happens is printed, and the script fails;
-so it does where a call that has layers was never seen to tell one.
+so it does where a call that has layers was never seen to tell one, and where a member hands out a call that may lack memory and
+that no line calls: see THROUGH.
 """
 import collections
+import glob
 import json
 import os
+import re
 import subprocess
 import sys
 import tempfile
@@ -38,6 +41,7 @@ import time
 from concurrent.futures import ThreadPoolExecutor
 
 import faults
+import repository as repo
 
 TOOLS = faults.TOOLS
 TOP = os.path.dirname(TOOLS)
@@ -94,6 +98,13 @@ UNTOLD = {
 OTHERS = {"tokens", "lookup", *UNTOLD} - {*LAYERS}
 # These make a call again for each limit, or for each size of pieces, so that the shortest line is enough.
 AGAIN = {"least_limit", "emit_limits", "emit_pieces"}
+# The members' calls that may lack memory and that the program doesn't name, each by the call of a line that comes to it.
+THROUGH = {
+    "yaml_parser_scan_into": "parse",
+    "next_token_into": "parse",
+    "yaml_emitter_emit_early": "reformat",
+    "yaml_write_all": "run",
+}
 # What an input has where one of these stands in it.
 MARKS = "&*!%|>\"'[{#"
 
@@ -325,6 +336,14 @@ class Replay:
         return found, "" if found else f"{vector.call}, {vector.name}, request {at}: {told}"
 
 
+def without_line():
+    """The calls of members that may be refused, by what they answer, lend or note, and that no line comes to."""
+    texts = [repo.read(path) for path in glob.glob("crates/yaml_cli_vector*/src/**/*.rt", root_dir=TOP, recursive=True)]
+    named = {word for text in texts for word in re.findall(r"\w+", text)} | {*THROUGH}
+    refusing = [it for it in repo.all_functions() if repo.is_public(it) and re.search(r"-> Result<|fault: &mut|NotesMemory", it.head)]
+    return sorted({it.label for it in refusing if it.name not in named})
+
+
 def program(is_near):
     """The program that replays the vectors, or nothing."""
     built = lambda path: subprocess.run([f"{TOOLS}/is_built.sh", path]).returncode == 0
@@ -371,6 +390,8 @@ def main():
     unknown = {it.call for it in vectors} - {*LAYERS, *OTHERS}
     if unknown:
         raise SystemExit(f"faults: which layers may tell want of memory isn't said in LAYERS: {', '.join(sorted(unknown))}")
+    if without_line():
+        raise SystemExit(f"faults: no line calls these: {', '.join(without_line())}")
     vectors = [it for it in vectors if not words or any(word in f"{it.call}, {it.name}" for word in words)]
     total = collections.defaultdict(collections.Counter)
     calls = {it.call for it in vectors}

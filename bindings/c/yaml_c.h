@@ -363,16 +363,16 @@ int32_t yaml_c_events(const uint8_t *input, size_t len, int32_t from, yaml_c_ans
  * or for want of memory; there are none then, and none where -1 is answered. */
 int32_t yaml_c_parse(const uint8_t *input, size_t len, int32_t from, yaml_c_parsed *parsed, yaml_c_answer *answer);
 
-/* As yaml_c_parse, but a fault of the input (2 to 4) comes with the records of the events in front of it. Where memory was
- * refused, what is handed out means nothing, and is to be freed all the same; there is nothing where -1 is answered. */
+/* As yaml_c_parse, but a fault of the input (2 to 4) comes with the records of the events in front of it. Where want of memory
+ * is answered there is nothing, or all of these, where the fault's line alone met none; there is nothing where -1 is answered. */
 int32_t yaml_c_front(const uint8_t *input, size_t len, int32_t from, yaml_c_parsed *parsed, yaml_c_answer *answer);
 
 /* The text that the input's bytes spell, in UTF-8. With YAML_C_ANY_ENCODING a byte order mark tells the encoding and is left
  * out. Refused where the bytes spell no text (2), or for want of memory. */
 int32_t yaml_c_decode(const uint8_t *input, size_t len, int32_t from, yaml_c_answer *answer);
 
-/* All tokens of the input in front of its end, or of its fault (2, 3), which comes with them. Where memory was refused, what is
- * handed out means nothing, and is to be freed all the same; there is nothing where -1 is answered. */
+/* All tokens of the input in front of its end, or of its fault (2, 3), which comes with them. Where want of memory is answered
+ * there is nothing, or all of these, where the fault's line alone met none; there is nothing where -1 is answered. */
 int32_t yaml_c_scan(const uint8_t *input, size_t len, int32_t from, yaml_c_scanned *scanned, yaml_c_answer *answer);
 
 /* The text of events that are given as records, one after another: what an emitter writes for them. Spans of `anchor`, `tag`,

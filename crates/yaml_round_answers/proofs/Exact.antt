@@ -19,7 +19,7 @@ use Rattle.yaml_round_answers.specs.Spelled.{spelled_text}
 use Rattle.yaml_round_answers.specs.Parses.{TellsEvents, Parses, TellsFront, Fronts, NothingUnmeant}
 use Rattle.yaml_round_answers.specs.declared.scanning.yaml_c_scanned.{yaml_c_scanned}
 use Rattle.yaml_round_answers.specs.Decodes.{Decodes}
-use Rattle.yaml_round_answers.specs.Scans.{TellsEnd, Scans, NoTokenUnmeant}
+use Rattle.yaml_round_answers.specs.Scans.{TellsEnd, TellsScan, Scans, NoTokenUnmeant}
 use Rattle.yaml_round_answers.specs.Emitting.{Emits}
 
 -- no number of a fault's kind is -1
@@ -194,10 +194,14 @@ end_kind : (text : List ℕ) (o : Option Fault) (a : yaml_c_answer) → TellsEnd
 end_kind text None a h = text_kind [] (pos 0) a h
 end_kind text (Some f) a h = placed_kind text f a h
 
+scan_told_kind : (input : List ℕ) (m : yaml_encoding_t) (a : yaml_c_answer) → TellsScan m input a
+    → ¬ (a.kind ≡ negsuc 0)
+scan_told_kind input m a (inl h) = placed_kind (spelled_text m input) h.fault a h.told
+scan_told_kind input m a (inr h) = end_kind _ _ a h
+
 scan_kind : (input : List ℕ) (blocks : yaml_c_scanned) (m : yaml_encoding_t) (a : yaml_c_answer)
     → Scans input blocks m a → ¬ (a.kind ≡ negsuc 0)
-scan_kind input blocks m a (inl h) = placed_kind (spelled_text m input) h.fault a h.told
-scan_kind input blocks m a (inr h) = end_kind _ _ a h.0
+scan_kind input blocks m a h = scan_told_kind input m a h.0
 
 -- What is answered to a scan is so of the caller's own numbers.
 pub scanned_told : (n from : ℤ) (input : List ℕ) (blocks : yaml_c_scanned) (a : yaml_c_answer)

@@ -1,12 +1,16 @@
 -- What was collected is handed out, and C is told of it.
-use Rattle.std.proofs.Common.{◌≡◌, ◌∙◌, ◌⊎◌, inl, inr, ap, refl, sym, subst, ℕ, List, [], ◌++◌, Some, None, Err}
+use Rattle.std.proofs.Common.{◌≡◌, ◌∙◌, ◌⊎◌, inl, inr, ap, refl, sym, subst, ℕ, ℤ, pos, Bool, true, false, List, [], ◌∷◌, ◌++◌, Some, None, Result, Ok, Err}
+use Rattle.std.proofs.lemmas.Bool.{false≢true}
 use Rattle.std.proofs.lemmas.List.{append-nil}
 use Rattle.yaml_parse.specs.declared.yaml_encoding_t.{yaml_encoding_t}
 use Rattle.yaml_parse.specs.declared.yaml_fault_t.{yaml_fault_t}
 use Rattle.yaml_parse.specs.Events.{TagDirective}
 use Rattle.yaml_parse.specs.Resolve.{Told}
-use Rattle.yaml_parse.specs.Faults.{fault_of, memory_fault, IsMemoryFault, parse_layers}
+use Rattle.yaml_parse.specs.Faults.{Fault, fault_of, memory_fault, IsMemoryFault, parse_layers}
+use Rattle.yaml_parse.specs.declared.yaml_origin_t.{yaml_origin_t}
 use Rattle.yaml_parse.specs.declared.yaml_origin_t.TheVariants.{Parser}
+use Rattle.yaml_parse.specs.declared.yaml_error_type_t.{yaml_error_type_t}
+use Rattle.yaml_parse.specs.declared.yaml_error_type_t.TheVariants as error
 use Rattle.yaml_parse.specs.Remaining.{ParserRemaining}
 use Rattle.yaml_round.specs.Answers.{IsFaulty}
 use Rattle.yaml_round.specs.Input.{ReadsInput, events_of, ending_of}
@@ -18,9 +22,10 @@ use Rattle.yaml_round_records.specs.Records.{all_directives}
 use Rattle.yaml_round_records.specs.Blocks.{listed_directives}
 use Rattle.yaml_round_records.specs.Listing.{Collected, AreSaid, HoldsAll, events_alone}
 use Rattle.yaml_round_answers.specs.declared.answer.yaml_c_answer.{yaml_c_answer}
-use Rattle.yaml_round_answers.specs.Told.{TellsFaultIn, TellsMemory, RefusesIn}
-use Rattle.yaml_round_answers.specs.Spelled.{spelled_text}
-use Rattle.yaml_round_answers.specs.Parses.{HasNothing, HandsOut, SayEvents, IsParsed, IsFront, TellsEvents, Parses, Fronts}
+use Rattle.yaml_round_answers.specs.Told.{TellsFaultIn, TellsMemory, TellsWant, RefusesIn}
+use Rattle.yaml_round_records.specs.Numbers.{error_number}
+use Rattle.yaml_round_answers.specs.Spelled.{spelled_text, is_memory, is_starved}
+use Rattle.yaml_round_answers.specs.Parses.{HasNothing, HandsOut, HandsOutUnless, SayEvents, SayFront, IsParsed, IsFront, TellsEvents, Parses, Fronts}
 use Rattle.yaml_round_answers.proofs.Refusing.{refused_answer_in}
 use Rattle.yaml_round_records.proofs.Saying.{say_at}
 
@@ -102,15 +107,47 @@ pub says_in : (from : yaml_encoding_t) (input text : List ℕ) (l : Listing) (p 
     → SayEvents (spelled_text from input) p es
 says_in from input text l p es e h s a = handed_says (spelled_text from input) l p es (subst (λ t. HandsOut t l p) e h) s a
 
--- the blocks say what stands in front of the fault
+-- what ends a listing to its end isn't want of memory
+pub ended : (b : Bool) (r : Result (Unit {0}) yaml_fault_t) (text : List ℕ) (l : Listing)
+    (p : yaml_c_parsed) → b ≡ is_starved r → r ≡ Ok tt → HandsOutUnless b text l p
+    → HandsOut text l p
+ended b r text l p is done h = subst (λ c. HandsOutUnless c text l p) (is ∙ ap is_starved done) h
+
+-- the answer to want of memory tells that
+told_want : (k : yaml_error_type_t) (n : ℤ) → is_memory k ≡ true → n ≡ error_number k
+    → n ≡ error_number error.YAML_MEMORY_ERROR
+told_want error.YAML_MEMORY_ERROR n is e = e
+told_want error.YAML_NO_ERROR n is e = absurd (cc)
+told_want error.YAML_READER_ERROR n is e = absurd (cc)
+told_want error.YAML_SCANNER_ERROR n is e = absurd (cc)
+told_want error.YAML_PARSER_ERROR n is e = absurd (cc)
+told_want error.YAML_COMPOSER_ERROR n is e = absurd (cc)
+told_want error.YAML_WRITER_ERROR n is e = absurd (cc)
+told_want error.YAML_EMITTER_ERROR n is e = absurd (cc)
+
+pub tells_want : (text : List ℕ) (f : Fault) (a : yaml_c_answer) → is_memory f.kind ≡ true
+    → RefusesIn text f a → TellsWant a
+tells_want text f a is (inl t) = told_want f.kind a.kind is t.kind
+tells_want text f a is (inr s) = (s Parser []).kind
+
+-- want of memory is seen by its kind
+pub memory_kind : (layers : List yaml_origin_t) (f : Fault) → IsMemoryFault layers f
+    → is_memory f.kind ≡ true
+memory_kind [] f m = absurd m
+memory_kind (layer ∷ []) f m = ap (λ (g : Fault). is_memory g.kind) m
+memory_kind (layer ∷ other ∷ layers) f (inl m) = ap (λ (g : Fault). is_memory g.kind) m
+memory_kind (layer ∷ other ∷ layers) f (inr m) = memory_kind (other ∷ layers) f m
+
+-- the blocks say what stands in front of the fault, or there are none for want of memory
 front_says : (from : yaml_encoding_t) (input text : List ℕ) (f : yaml_fault_t) (l : Listing)
-    (p : yaml_c_parsed) → text ≡ spelled_text from input → HandsOut text l p
+    (p : yaml_c_parsed) (a : yaml_c_answer) (b : Bool) → b ≡ is_memory f.kind
+    → text ≡ spelled_text from input → HandsOutUnless b text l p
     → IsMemoryFault parse_layers (fault_of f)
     ⊎ ((ending_of from input ≡ Some (fault_of f)) × IsFront from input l)
-    → IsMemoryFault parse_layers (fault_of f)
-    ⊎ SayEvents (spelled_text from input) p (events_of from input)
-front_says from input text f l p e h (inl m) = inl m
-front_says from input text f l p e h (inr i) = inr (says_in from input text l p _ e h i.1.0 i.1.1)
+    → RefusesIn text (fault_of f) a → SayFront from input p a
+front_says from input text f l p a true is e h i t = inl (tells_want text (fault_of f) a (sym is) t, h)
+front_says from input text f l p a false is e h (inl m) t = absurd (false≢true (is ∙ memory_kind parse_layers (fault_of f) m))
+front_says from input text f l p a false is e h (inr i) t = inr (says_in from input text l p _ e h i.1.0 i.1.1)
 
 -- ---- a refused parse is told
 
@@ -122,21 +159,31 @@ refused_parse from input text f p a e h i t =
     refused_answer_in parse_layers Parser (IsParsed from input) (TellsEvents (spelled_text from input) p) (spelled_text from input) (fault_of f) a (inl refl)
     (λ g u. (u, h)) (fault_plain from input f i) (subst (λ z. RefusesIn z (fault_of f) a) e t)
 
-pub refused_front : (from : yaml_encoding_t) (input text : List ℕ) (f : yaml_fault_t) (l : Listing)
-    (p : yaml_c_parsed) (a : yaml_c_answer) → text ≡ spelled_text from input → HandsOut text l p
+fail_front : (from : yaml_encoding_t) (input text : List ℕ) (f : yaml_fault_t) (l : Listing)
+    (p : yaml_c_parsed) (a : yaml_c_answer) → text ≡ spelled_text from input
+    → SayFront from input p a
     → IsMemoryFault parse_layers (fault_of f)
     ⊎ ((ending_of from input ≡ Some (fault_of f)) × IsFront from input l)
     → RefusesIn text (fault_of f) a → Fronts input p from a
-refused_front from input text f l p a e h i (inl t) = record {
+fail_front from input text f l p a e h i (inl t) = record {
   result = Err (fault_of f);
   is = front_fault from input f l i;
-  told = (subst (λ z. TellsFaultIn z (fault_of f) a) e t, front_says from input text f l p e h i);
+  told = (subst (λ z. TellsFaultIn z (fault_of f) a) e t, h);
 }
-refused_front from input text f l p a e h i (inr s) = record {
+fail_front from input text f l p a e h i (inr s) = record {
   result = Err (memory_fault Parser);
   is = inl (inl refl);
-  told = (s Parser (spelled_text from input), inl (inl refl));
+  told = (s Parser (spelled_text from input), h);
 }
+
+pub refused_front : (from : yaml_encoding_t) (input text : List ℕ)
+    (r : Result (Unit {0}) yaml_fault_t) (f : yaml_fault_t) (l : Listing) (p : yaml_c_parsed) (a : yaml_c_answer) (b : Bool)
+    → b ≡ is_starved r → r ≡ Err f → text ≡ spelled_text from input → HandsOutUnless b text l p
+    → IsMemoryFault parse_layers (fault_of f)
+    ⊎ ((ending_of from input ≡ Some (fault_of f)) × IsFront from input l)
+    → RefusesIn text (fault_of f) a → Fronts input p from a
+refused_front from input text r f l p a b is ends e h i t =
+    fail_front from input text f l p a e (front_says from input text f l p a b (is ∙ ap is_starved ends) e h i t) i t
 
 -- memory for the text was refused
 pub starved_parse : (from : yaml_encoding_t) (input : List ℕ) (p : yaml_c_parsed)
@@ -148,9 +195,9 @@ starved_parse from input p a h s = record {
 }
 
 pub starved_front : (from : yaml_encoding_t) (input : List ℕ) (p : yaml_c_parsed)
-    (a : yaml_c_answer) → TellsMemory a → Fronts input p from a
-starved_front from input p a s = record {
+    (a : yaml_c_answer) → HasNothing p → TellsMemory a → Fronts input p from a
+starved_front from input p a h s = record {
   result = Err (memory_fault Parser);
   is = inl (inl refl);
-  told = (s Parser (spelled_text from input), inl (inl refl));
+  told = (s Parser (spelled_text from input), inl ((s Parser []).kind, h));
 }

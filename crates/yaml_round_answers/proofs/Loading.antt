@@ -38,12 +38,12 @@ alias_told m out given whole f a handed off is same (inl t) = inr (record {
   told = subst (λ z. TellsFault z (pos 0) a) same t;
   composed = are_composed m out given whole false handed off is;
 })
-alias_told m out given whole f a handed off is same (inr s) = inl (s.told Loader)
+alias_told m out given whole f a handed off is same (inr s) = inl (s.told Loader, inr (are_composed m out given whole false handed off is))
 
 pub no_spots_told : (m : Steps) (out : List yaml_c_spot) (f : Fault) (a : yaml_c_answer)
-    → f ≡ memory_fault Loader → Refuses f (pos 0) a → Composes out m a
-no_spots_told m out f a is (inl t) = inl (subst (λ z. TellsFault z (pos 0) a) is t)
-no_spots_told m out f a is (inr s) = inl (s.told Loader)
+    → out ≡ [] → f ≡ memory_fault Loader → Refuses f (pos 0) a → Composes out m a
+no_spots_told m out f a none is (inl t) = inl (subst (λ z. TellsFault z (pos 0) a) is t, inl none)
+no_spots_told m out f a none is (inr s) = inl (s.told Loader, inl none)
 
 if_steps : (b : Bool) (m : Steps) (out : List yaml_c_spot) (a : yaml_c_answer) → b ≡ true
     → Composes out m a → AnswersMeant (steps_if b m) (Composes out) a
@@ -89,7 +89,7 @@ whole_kind false a t = fault_kind (undefined_alias zero_mark) (pos 0) a t
 
 composed_kind : (out : List yaml_c_spot) (m : Steps) (a : yaml_c_answer) → Composes out m a
     → ¬ (a.kind ≡ negsuc 0)
-composed_kind out m a (inl t) = fault_kind (memory_fault Loader) (pos 0) a t
+composed_kind out m a (inl t) = fault_kind (memory_fault Loader) (pos 0) a t.0
 composed_kind out m a (inr t) = whole_kind t.whole a t.told
 
 -- The kind is -1 exactly where a record means nothing.

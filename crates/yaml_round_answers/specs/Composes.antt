@@ -36,9 +36,14 @@ pub record TellsSpots (given : List yaml_c_spot) (m : Steps) (a : yaml_c_answer)
   pub told : TellsWhole whole a
   pub composed : AreComposed m given whole
 
+-- where memory was refused there is none; or those in front of an alias whose refusal has no room for its line
+abbrev pub HoldsFew : List yaml_c_spot → Steps → Type 0
+HoldsFew given m = (given ≡ []) ⊎ AreComposed m given false
+
 -- C is told what the events come to, or that memory was refused.
 abbrev pub Composes : List yaml_c_spot → Steps → yaml_c_answer → Type 0
-Composes given m a = TellsFault (memory_fault Loader) (pos 0) a ⊎ TellsSpots given m a
+Composes given m a = (TellsFault (memory_fault Loader) (pos 0) a × HoldsFew given m)
+    ⊎ TellsSpots given m a
 
 -- where a record means nothing, nothing is handed out
 abbrev pub NoSpotUnmeant : {M : Type 0} → Option M → List yaml_c_spot → Type 0

@@ -1,5 +1,5 @@
 -- What C is told of a parse.
-use Rattle.std.specs.Prelude.{◌≡◌, ◌⊎◌, pos, ℕ, List, [], map, Option, None, Some, Result, Ok, Err}
+use Rattle.std.specs.Prelude.{◌≡◌, ◌⊎◌, pos, ℕ, Bool, true, false, List, [], map, Option, None, Some, Result, Ok, Err}
 use Rattle.yaml_parse.specs.declared.yaml_encoding_t.{yaml_encoding_t}
 use Rattle.yaml_parse.specs.declared.yaml_fault_t.{yaml_fault_t}
 use Rattle.yaml_parse.specs.Faults.{Fault, fault_of, IsMemoryFault, parse_layers}
@@ -15,7 +15,7 @@ use Rattle.yaml_round_records.specs.Records.{AllSay, all_directives}
 use Rattle.yaml_round_records.specs.Counted.{event_counted}
 use Rattle.yaml_round_records.specs.Blocks.{all_texts, listed_directives}
 use Rattle.yaml_round_records.specs.Listing.{AreSaid, HoldsAll, events_alone}
-use Rattle.yaml_round_answers.specs.Told.{TellsText, TellsFaultIn, IsAnswered, OrMemory}
+use Rattle.yaml_round_answers.specs.Told.{TellsText, TellsFaultIn, TellsWant, IsAnswered, OrMemory}
 use Rattle.yaml_round_answers.specs.Spelled.{spelled_text}
 
 -- the events of an input, where it is accepted: those of the tree that its tokens are
@@ -63,6 +63,11 @@ pub record HandsOut (text : List ℕ) (l : Listing) (p : yaml_c_parsed) : Type 0
   pub directives : p.directives.now ≡ l.directives.items
   pub bytes : p.bytes.now ≡ l.bytes.items
 
+-- the same, or no block where memory was refused
+abbrev pub HandsOutUnless : Bool → List ℕ → Listing → yaml_c_parsed → Type 0
+HandsOutUnless true text l p = HasNothing p
+HandsOutUnless false text l p = HandsOut text l p
+
 -- ---- events in front of a fault
 
 -- the listing says the events in front of what ends the input, and nothing beside
@@ -75,14 +80,17 @@ EndsFront from input (Ok done) l = (ending_of from input ≡ None) × IsFront fr
 EndsFront from input (Err f) l = IsMemoryFault parse_layers (fault_of f)
     ⊎ ((ending_of from input ≡ Some (fault_of f)) × IsFront from input l)
 
--- the records say the events in front of the fault, unless memory was refused
+-- the records say the events in front of the fault; where want of memory is told there may be none, but no other ones
+abbrev pub SayFront : yaml_encoding_t → List ℕ → yaml_c_parsed → yaml_c_answer → Type 0
+SayFront from input p a = (TellsWant a × HasNothing p)
+    ⊎ SayEvents (spelled_text from input) p (events_of from input)
+
 abbrev pub TellsFront : yaml_encoding_t → List ℕ → yaml_c_parsed → Result (List Told) Fault
     → yaml_c_answer → Type 0
 TellsFront from input p (Ok es) a = TellsText [] (pos 0) a
     × SayEvents (spelled_text from input) p es
 TellsFront from input p (Err fault) a = TellsFaultIn (spelled_text from input) fault a
-    × (IsMemoryFault parse_layers fault
-    ⊎ SayEvents (spelled_text from input) p (events_of from input))
+    × SayFront from input p a
 
 abbrev pub Fronts : List ℕ → yaml_c_parsed → yaml_encoding_t → yaml_c_answer → Type 0
 Fronts input p from = IsAnswered (OrMemory parse_layers (IsParsed from input))

@@ -1,5 +1,5 @@
 -- What C is told of a scan.
-use Rattle.std.specs.Prelude.{◌≡◌, ◌⊎◌, pos, ℕ, List, [], map, Option, None, Some}
+use Rattle.std.specs.Prelude.{◌≡◌, ◌⊎◌, pos, ℕ, Bool, true, false, List, [], map, Option, None, Some}
 use Rattle.yaml_parse.specs.declared.yaml_encoding_t.{yaml_encoding_t}
 use Rattle.yaml_parse.specs.Faults.{Fault, IsMemoryFault, scan_layers}
 use Rattle.yaml_parse.specs.Tokens.{Token}
@@ -9,7 +9,7 @@ use Rattle.yaml_round_tokens.specs.Listed.{records_from, all_texts}
 use Rattle.yaml_round_tokens.specs.Counted.{token_counted}
 use Rattle.yaml_round_answers.specs.declared.answer.yaml_c_answer.{yaml_c_answer}
 use Rattle.yaml_round_answers.specs.declared.scanning.yaml_c_scanned.{yaml_c_scanned}
-use Rattle.yaml_round_answers.specs.Told.{TellsText, TellsFaultIn}
+use Rattle.yaml_round_answers.specs.Told.{TellsText, TellsFaultIn, TellsWant}
 use Rattle.yaml_round_answers.specs.Spelled.{spelled_text}
 
 -- no block
@@ -34,12 +34,16 @@ pub record TellsRefusal (text : List ℕ) (a : yaml_c_answer) : Type 0 where
   pub memory : IsMemoryFault scan_layers fault
   pub told : TellsFaultIn text fault a
 
--- The records are those of the input's tokens, in front of its end or of the fault that ends them, and that is told. Where
--- memory was refused, that is told, and nothing is said of what is handed out.
+-- that the tokens end is told, or the fault that ends them, or that memory was refused
+abbrev pub TellsScan : yaml_encoding_t → List ℕ → yaml_c_answer → Type 0
+TellsScan from input a = TellsRefusal (spelled_text from input) a
+    ⊎ TellsEnd (spelled_text from input) (scanned from input).fault a
+
+-- The records are those of the input's tokens, in front of its end or of the fault that ends them; where want of memory is told
+-- there may be none, but no other ones.
 abbrev pub Scans : List ℕ → yaml_c_scanned → yaml_encoding_t → yaml_c_answer → Type 0
-Scans input p from a = TellsRefusal (spelled_text from input) a
-    ⊎ (TellsEnd (spelled_text from input) (scanned from input).fault a
-    × AreTokens (spelled_text from input) p (scanned from input).tokens)
+Scans input p from a = TellsScan from input a × ((TellsWant a × HasNoToken p)
+    ⊎ AreTokens (spelled_text from input) p (scanned from input).tokens)
 
 -- where the number of an encoding means nothing, nothing is handed out
 abbrev pub NoTokenUnmeant : {M : Type 0} → Option M → yaml_c_scanned → Type 0
@@ -52,3 +56,8 @@ NoTokenUnmeant (Some m) p = Unit {0}
 pub record HandsOutTokens (text : List ℕ) (l : TokenListing) (p : yaml_c_scanned) : Type 0 where
   pub tokens : p.tokens.now ≡ map (token_counted text) l.tokens.items
   pub bytes : p.bytes.now ≡ l.bytes.items
+
+-- the same, or no block where memory was refused
+abbrev pub HandsOutTokensUnless : Bool → List ℕ → TokenListing → yaml_c_scanned → Type 0
+HandsOutTokensUnless true text l p = HasNoToken p
+HandsOutTokensUnless false text l p = HandsOutTokens text l p

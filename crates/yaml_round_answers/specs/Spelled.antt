@@ -2,6 +2,7 @@
 use Rattle.std.specs.Prelude.{ℕ, Bool, true, false, List, [], Result, Ok, Err}
 use Rattle.yaml_parse.specs.declared.yaml_encoding_t.{yaml_encoding_t}
 use Rattle.yaml_parse.specs.declared.yaml_error_type_t.{yaml_error_type_t}
+use Rattle.yaml_parse.specs.declared.yaml_fault_t.{yaml_fault_t}
 use Rattle.yaml_parse.specs.declared.yaml_error_type_t.TheVariants.{YAML_MEMORY_ERROR}
 use Rattle.yaml_scan.specs.Decoding.{decoded_text}
 
@@ -17,3 +18,8 @@ spelled_text from input = text_or_none (decoded_text from input)
 abbrev pub is_memory : yaml_error_type_t → Bool
 is_memory YAML_MEMORY_ERROR = true
 is_memory _ = false
+
+-- memory was refused before the end
+abbrev pub is_starved : Result (Unit {0}) yaml_fault_t → Bool
+is_starved (Ok done) = false
+is_starved (Err f) = is_memory f.kind

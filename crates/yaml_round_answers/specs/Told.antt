@@ -83,6 +83,10 @@ pub record TellsStarved (whose : ℤ) (a : yaml_c_answer) : Type 0 where
 abbrev pub Refuses : Fault → ℤ → yaml_c_answer → Type 0
 Refuses fault whose a = TellsFault fault whose a ⊎ TellsStarved whose a
 
+-- the kind of the answer is want of memory
+abbrev pub TellsWant : yaml_c_answer → Type 0
+TellsWant a = a.kind ≡ error_number YAML_MEMORY_ERROR
+
 -- want of memory is told; C isn't told of the layer
 abbrev pub TellsMemory : yaml_c_answer → Type 0
 TellsMemory a = (layer : yaml_origin_t) (text : List ℕ) → TellsFaultIn text (memory_fault layer) a

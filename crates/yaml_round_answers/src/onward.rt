@@ -51,9 +51,10 @@ fn answered(
     requires events { IsSome (events_meant given.now.bytes.now given.now.directives.now
         given.now.events.now) }
     requires stand { IsSome (at_meant_by stand.now) }
-    ensures { EmitsAllOn behind.old behind.new (events_meant given.now.bytes.now
+    ensures told { EmitsAllOn behind.old behind.new (events_meant given.now.bytes.now
         given.now.directives.now given.now.events.now) (asked_for asked.now)
         (at_meant_by stand.now) result }
+    ensures left { (result.kind ≡ pos 0) ⊎ (behind.new ≡ behind.old) }
 {
     match emitted_on(
         alloc,
@@ -79,8 +80,9 @@ pub fn onward_by(
     stand: &yaml_c_stand,
     behind: &mut yaml_c_stand,
 ) -> yaml_c_answer
-    ensures { AnswersMeant (onward_meant given.now settings.now stand.now)
+    ensures told { AnswersMeant (onward_meant given.now settings.now stand.now)
         (EmitsOn behind.old behind.new) result }
+    ensures left { (result.kind ≡ pos 0) ⊎ (behind.new ≡ behind.old) }
 {
     let Some(asked) = asked_of(settings) else {
         return misused();

@@ -5,12 +5,12 @@ ghost use Rattle.yaml_parse.specs.Faults.{fault_of, IsMemoryFault, parse_layers}
 ghost use Rattle.yaml_round.specs.Input.{ReadsInput};
 ghost use Rattle.yaml_round_records.specs.Numbers.{encoding_meant};
 ghost use Rattle.yaml_round_answers.specs.Told.{AnswersMeant, TellsMemory};
-ghost use Rattle.yaml_round_answers.specs.Parses.{HasNothing, HandsOut, Parses, IsCollected, EndsFront, Fronts, NothingUnmeant};
+ghost use Rattle.yaml_round_answers.specs.Parses.{HasNothing, HandsOut, HandsOutUnless, Parses, IsCollected, EndsFront, Fronts, NothingUnmeant};
 ghost use Rattle.yaml_round_answers.specs.Spelled.{spelled_text};
 ghost use Rattle.yaml_round_records.specs.Listing.{StartsEmpty};
 
 use crate::answer::{handed_out, misused, refused_in, said, yaml_c_answer};
-use crate::spelled::spelled_text;
+use crate::spelled::{is_starved, spelled_text};
 use std::alloc::Global;
 use yaml_parse::{
     yaml_memory_fault, yaml_origin_t, yaml_parser_delete, yaml_parser_initialize, yaml_parser_t,
@@ -102,6 +102,18 @@ fn blocks_of(text: &[u8], listing: Listing) -> yaml_c_parsed
         events: events_out(events),
         directives: directives_out(directives),
         bytes: handed_out(bytes),
+    }
+}
+
+// The same, or no block where memory was refused: a listing that was cut off is let go.
+fn blocks_unless(cut_off: bool, text: &[u8], listing: Listing) -> yaml_c_parsed
+    ensures { HandsOutUnless cut_off text.now listing result }
+{
+    if cut_off {
+        drop(listing);
+        nothing()
+    } else {
+        blocks_of(text, listing)
     }
 }
 
@@ -201,7 +213,7 @@ fn front_in(
 {
     let mut listing = Listing::new(alloc);
     let end = fronted(alloc, input, from, &mut listing);
-    *blocks = blocks_of(text, listing);
+    *blocks = blocks_unless(is_starved(&end), text, listing);
     match end {
         Ok(()) => said(0),
         Err(fault) => refused_in(alloc, text, &fault),

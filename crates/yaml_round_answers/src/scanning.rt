@@ -4,10 +4,10 @@ ghost use Rattle.std.specs.Prelude.{◌≡◌};
 ghost use Rattle.yaml_round_records.specs.Numbers.{encoding_meant};
 ghost use Rattle.yaml_round_answers.specs.Spelled.{spelled_text};
 ghost use Rattle.yaml_round_answers.specs.Told.{AnswersMeant, TellsMemory};
-ghost use Rattle.yaml_round_answers.specs.Scans.{HasNoToken, HandsOutTokens, Scans, NoTokenUnmeant};
+ghost use Rattle.yaml_round_answers.specs.Scans.{HasNoToken, HandsOutTokens, HandsOutTokensUnless, Scans, NoTokenUnmeant};
 
 use crate::answer::{handed_out, misused, refused_in, said, yaml_c_answer};
-use crate::spelled::spelled_text;
+use crate::spelled::{is_starved, spelled_text};
 use std::alloc::Global;
 use yaml_round::yaml_encoding_t;
 use yaml_round_records::encoding_of;
@@ -54,6 +54,18 @@ fn blocks_of(text: &[u8], listing: TokenListing) -> yaml_c_scanned
     }
 }
 
+// The same, or no block where memory was refused: a listing that was cut off is let go.
+fn blocks_unless(cut_off: bool, text: &[u8], listing: TokenListing) -> yaml_c_scanned
+    ensures { HandsOutTokensUnless cut_off text.now listing result }
+{
+    if cut_off {
+        drop(listing);
+        nothing()
+    } else {
+        blocks_of(text, listing)
+    }
+}
+
 fn scanned_in(
     alloc: Global,
     input: &[u8],
@@ -66,7 +78,7 @@ fn scanned_in(
 {
     let mut listing = TokenListing::new(alloc);
     let end = list_tokens(alloc, input, from, &mut listing);
-    *blocks = blocks_of(text, listing);
+    *blocks = blocks_unless(is_starved(&end), text, listing);
     match end {
         Ok(()) => said(0),
         Err(fault) => refused_in(alloc, text, &fault),
@@ -75,7 +87,8 @@ fn scanned_in(
 
 // Nothing is handed out, for want of memory.
 fn starved(alloc: Global, blocks: &mut yaml_c_scanned) -> yaml_c_answer
-    ensures { TellsMemory result }
+    ensures told { TellsMemory result }
+    ensures none { HasNoToken blocks.new }
 {
     *blocks = nothing();
     refused_in(alloc, b"", &yaml_memory_fault(yaml_origin_t::Scanner))

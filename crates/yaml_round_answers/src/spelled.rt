@@ -2,16 +2,26 @@
 
 ghost use Rattle.std.specs.Prelude.{◌≡◌, IfSome};
 ghost use Rattle.yaml_scan.specs.DecodedText.{text_bytes};
-ghost use Rattle.yaml_round_answers.specs.Spelled.{is_memory, spelled_text};
+ghost use Rattle.yaml_round_answers.specs.Spelled.{is_memory, is_starved, spelled_text};
 
 use std::alloc::Global;
-use yaml_round::yaml_encoding_t;
+use yaml_round::{yaml_encoding_t, yaml_fault_t};
 use yaml_scan::{yaml_decode, yaml_error_type_t, yaml_text_t};
 
 fn is_memory(kind: yaml_error_type_t) -> bool
     ensures { result ≡ is_memory kind }
 {
     matches!(kind, yaml_error_type_t::YAML_MEMORY_ERROR)
+}
+
+/// Whether memory was refused before the end.
+pub(crate) fn is_starved(end: &Result<(), yaml_fault_t>) -> bool
+    ensures { result ≡ is_starved end.now }
+{
+    match end {
+        Ok(()) => false,
+        Err(fault) => is_memory(fault.kind),
+    }
 }
 
 /// The text that an input's bytes spell, and an empty one where they spell none. None for want of memory.

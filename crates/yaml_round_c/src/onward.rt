@@ -1,6 +1,6 @@
 //! The text of events that are given as records, piece by piece.
 
-ghost use Rattle.std.specs.Prelude.{◌≡◌};
+ghost use Rattle.std.specs.Prelude.{◌≡◌, ◌⊎◌, pos};
 ghost use Rattle.yaml_round_answers.specs.Told.{AnswersMeant, IsExact};
 ghost use Rattle.yaml_round_answers.specs.Onward.{onward_meant, EmitsOn};
 
@@ -22,6 +22,7 @@ pub extern "C" fn yaml_c_emit_on(
 ) -> i32
     ensures told { AnswersMeant (onward_meant given.now settings.now stand.now)
         (EmitsOn behind.old behind.new) answer.new }
+    ensures left { (result ≡ pos 0) ⊎ (behind.new ≡ behind.old) }
     ensures exact { IsExact (onward_meant given.now settings.now stand.now) result }
     ensures kind { result ≡ answer.new.kind }
 {

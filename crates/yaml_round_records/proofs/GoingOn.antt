@@ -26,10 +26,11 @@ use Rattle.yaml_round_laws_pieces.specs.Pieces.{Stand, added}
 use Rattle.yaml_round_laws_pieces.specs.Calls.{LeadsIn}
 use Rattle.yaml_round_records.specs.declared.onward.Onward.{Onward}
 use Rattle.yaml_round_records.specs.declared.onward.Standing.{Standing}
+use Rattle.yaml_round_records.specs.declared.standing.yaml_c_place.{yaml_c_place}
 use Rattle.yaml_round_records.specs.Written.{whole_text}
 use Rattle.yaml_round_records.specs.Leading.{StartsUnder, LeadsOnward, TakesAllEvents}
 use Rattle.yaml_round_records.specs.Standing.{At}
-use Rattle.yaml_round_records.specs.Onward.{added_on, refusal_on, AddsWholeText, GoesFrom, StartsFrom, TellsStand, GoneOn, StopsOn, Means, IsOnward, onward_of, at_of}
+use Rattle.yaml_round_records.specs.Onward.{added_on, refusal_on, AddsWholeText, GoesFrom, StartsFrom, TellsStand, TellsAt, GoneOn, StopsOn, Means, IsOnward, onward_of, at_of}
 use Rattle.yaml_round_records.proofs.Leading.{first_writes, first_verdict, has_all, fits, some_fault, none_going}
 
 -- ---- an emitter that was given nothing
@@ -184,6 +185,12 @@ not_true : (b : Bool) → (b ≡ true → ⊥) → b ≡ false
 not_true true h = absurd (h refl)
 not_true false h = refl
 
+told_waiting : {n : ℕ} {a : At} (s : Standing) → TellsAt s (Some a) n → s.place.waiting ≡ n
+told_waiting s t = ap (λ (z : yaml_c_place). z.waiting) t.place
+
+none_waiting : (s : Standing) → TellsAt s None 0 → s.place.waiting ≡ 0
+none_waiting s t = ap (λ (z : yaml_c_place). z.waiting) t.place
+
 -- without a fault: what is said of the events, and that they lead where the emitter stands
 record Went (e : Emitter) (limit : ℕ) (s : Settings) (st : State) (c : Cursor) (es : List Event)
     (text : List ℕ) (sd : Standing) : Type 0 where
@@ -191,7 +198,7 @@ record Went (e : Emitter) (limit : ℕ) (s : Settings) (st : State) (c : Cursor)
   is : text ≡ encode s.encoding (text_at s st c es)
   short : Fits limit s.encoding (text_at s st c es)
   means : Means sd (Some (at_of e))
-  waiting : sd.place.waiting ≡ length e.held
+  told : TellsAt sd (Some (at_of e)) (length e.held)
   leads : LeadsIn s.encoding s (record { state = st; cursor = c; held = [] }) es (record {
     state = e.course.state;
     cursor = e.course.cursor;
@@ -225,7 +232,7 @@ went first e w limit s st c es text sd k o off none is t asked l own =
       is = is ∙ all.0;
       short = all.1;
       means = there.0;
-      waiting = there.1;
+      told = there.1;
       leads = known_leads first e s st c es k o off on.0 same;
       coded = coded;
     }
@@ -282,8 +289,9 @@ from_goes first e w limit a es text sd g all none is t told =
       next = Some (at_of e);
       means = x.means;
       held = e.held;
+      told = x.told;
       last = subst (λ (z : List Event). AreLast (z ++ es) e.held) g.held (all.last none);
-      waiting = (x.waiting, all.few (subst (λ (z : List Event). length z ≤ 3) (sym g.held) (omega arith)));
+      waiting = (told_waiting sd x.told, all.few (subst (λ (z : List Event). length z ≤ 3) (sym g.held) (omega arith)));
       leads = x.leads;
       same = λ n more. ap (settings_in w) x.coded;
     }
@@ -357,8 +365,9 @@ start_goes first e w limit [] text sd s all none is t told =
       next = None;
       means = there.0;
       held = [];
+      told = there.1;
       last = ([], refl);
-      waiting = (there.1, omega arith);
+      waiting = (none_waiting sd there.1, omega arith);
       leads = none_leads _ _ _ refl refl;
       same = λ n more. absurd (n refl);
     }
@@ -372,8 +381,9 @@ start_goes first e w limit (f ∷ es) text sd s all none is t told =
       next = Some (at_of e);
       means = x.means;
       held = e.held;
+      told = x.told;
       last = subst (λ (z : List Event). AreLast (z ++ (f ∷ es)) e.held) s.held (all.last none);
-      waiting = (x.waiting, all.few (subst (λ (z : List Event). length z ≤ 3) (sym s.held) (omega arith)));
+      waiting = (told_waiting sd x.told, all.few (subst (λ (z : List Event). length z ≤ 3) (sym s.held) (omega arith)));
       leads = x.leads;
       same = λ n more. ap (settings_in w) x.coded;
     }

@@ -1,8 +1,9 @@
 -- Emitters at stands, and stands of emitters.
-use Rattle.std.proofs.Common.{◌≡◌, ◌<◌, ◌^◌, inl, inr, ℕ, Bool, true, false, List, [], ◌++◌, append-nil, refl, sym, ap, ◌∙◌, subst, arith, Option, None, Some, is_some, Result, Ok, Err}
+use Rattle.std.proofs.Common.{◌≡◌, ◌<◌, ◌^◌, inl, inr, ℕ, pos, Bool, true, false, List, [], ◌∷◌, ◌++◌, append-nil, length, refl, sym, ap, ◌∙◌, subst, arith, Option, None, Some, is_some, Result, Ok, Err}
 use Rattle.std.specs.Prelude.{nat_lt, option_map, IfOk, IfErr}
 use Rattle.std.proofs.lemmas.Bool.{false≢true}
 use Rattle.std.proofs.lemmas.Bool.Decides.{nat_tests}
+use Rattle.std.proofs.lemmas.List.{reverse-reverse}
 use Rattle.yaml_parse.specs.declared.yaml_fault_t.{yaml_fault_t}
 use Rattle.yaml_parse.specs.declared.yaml_origin_t.TheVariants as origin
 use Rattle.yaml_parse.specs.Faults.{fault_of, memory_fault, IsMemoryFault, emit_layers, Answers}
@@ -29,9 +30,10 @@ use Rattle.yaml_round_records.specs.declared.standing.yaml_c_level.{yaml_c_level
 use Rattle.yaml_round_records.specs.declared.standing.yaml_c_place.{yaml_c_place}
 use Rattle.yaml_round_records.specs.Numbers.{is_set}
 use Rattle.yaml_round_records.specs.Records.{all_directives}
+use Rattle.yaml_round_records.specs.Blocks.{directive_texts}
 use Rattle.yaml_round_records.specs.Leading.{StartsUnder, TakesAllEvents}
-use Rattle.yaml_round_records.specs.Standing.{At, at_meant, stand_if, stand_meant, levels_meant, IsFew}
-use Rattle.yaml_round_records.specs.Onward.{GoesFrom, StartsAt, IsStandBy, TellsStandPlace, TellsStand, GoneOn, IsOnwardAt, onward_of, at_of}
+use Rattle.yaml_round_records.specs.Standing.{At, at_meant, stand_if, stand_meant, levels_meant, place_record, place_told, innermost_told, levels_round, outer_levels, outer_if, directives_of, IsFew}
+use Rattle.yaml_round_records.specs.Onward.{GoesFrom, StartsAt, IsStandBy, TellsStandPlace, TellsStand, TellsAt, GoneOn, IsOnwardAt, onward_of, at_of}
 use Rattle.yaml_round_records.proofs.Stands.{stand_there, some_map, few_at, at_there, cursor_by}
 use Rattle.yaml_round_records.proofs.GoingOn.{onward_answer}
 
@@ -186,19 +188,104 @@ listed_mean old new ts s none p =
     ap (all_directives new.bytes.items) added
     ∙ ap (λ (z : List ℕ). all_directives z p.list.added) (sym (append-nil new.bytes.items)) ∙ p.list.hold []
 
+-- its bytes are their texts
+pub listed_texts : (old new : Listing) (ts : List TagDirective) (s : yaml_c_span)
+    → old.bytes.items ≡ [] → PutsDirectives old ts new s → new.bytes.items ≡ directive_texts ts
+listed_texts old new ts s none p = p.put ∙ ap (λ (z : List ℕ). z ++ directive_texts ts) none
+
+-- the numbers of a place are those of the emitter's stand
+same_place : (e : Emitter) (stand : yaml_emitter_stand_t) → StandsWhere e stand
+    → place_record stand.encoding stand.place stand.innermost stand.cursor stand.waiting
+    ≡ place_told (Some (at_of e)) (length e.held)
+same_place e stand is =
+    ap (λ z. place_record z stand.place stand.innermost stand.cursor stand.waiting) is.encoding
+    ∙ ap (λ z. place_record e.course.settings.encoding z stand.innermost stand.cursor stand.waiting) is.place
+    ∙ ap (λ z. place_record e.course.settings.encoding e.course.state.place z stand.cursor stand.waiting) is.innermost
+    ∙ ap (λ z. place_record e.course.settings.encoding e.course.state.place (top_of e.course.state.levels) z stand.waiting) is.cursor
+    ∙ ap (place_record e.course.settings.encoding e.course.state.place (top_of e.course.state.levels) e.course.cursor) is.waiting
+
+-- the collections round the innermost one
+round_these : (top : Option Level) (outer levels : List Level) → stack top outer ≡ levels
+    → outer_if top outer ≡ outer_levels levels
+round_these None outer levels h = ap outer_levels h
+round_these (Some l) outer levels h = sym (reverse-reverse outer) ∙ ap outer_levels h
+
+-- those that aren't round any make no difference
+same_stack : (top : Option Level) (outer : List Level)
+    → stack top (outer_if top outer) ≡ stack top outer
+same_stack None outer = refl
+same_stack (Some l) outer = refl
+
+tells_at : (e : Emitter) (s : Standing) (stand : yaml_emitter_stand_t) (outer : List Level)
+    (ds : List TagDirective) → StandsWhere e stand
+    → stack (top_of e.course.state.levels) outer ≡ e.course.state.levels
+    → ds ≡ e.course.state.directives → TellsStandPlace stand s.place
+    → levels_meant s.levels.items ≡ Some (outer_if stand.innermost outer)
+    → all_directives s.bytes.items s.directives.items ≡ Some ds
+    → s.bytes.items ≡ directive_texts ds → TellsAt s (Some (at_of e)) (length e.held)
+tells_at e s stand outer ds is o d t l k b = record {
+  place = t.told ∙ same_place e stand is;
+  levels = l ∙ ap (λ (z : List Level). Some z) (ap (λ z. outer_if z outer) is.innermost ∙ round_these (top_of e.course.state.levels) outer e.course.state.levels o);
+  directives = k ∙ ap (λ (z : List TagDirective). Some z) d;
+  bytes = b ∙ ap directive_texts d;
+}
+
+outer_stack : (e : Emitter) (stand : yaml_emitter_stand_t) (outer : List Level)
+    → StandsWhere e stand → stack (top_of e.course.state.levels) outer ≡ e.course.state.levels
+    → stack (top_of e.course.state.levels) (outer_if stand.innermost outer) ≡ e.course.state.levels
+outer_stack e stand outer is o =
+    ap (λ z. stack (top_of e.course.state.levels) (outer_if z outer)) is.innermost
+    ∙ same_stack (top_of e.course.state.levels) outer ∙ o
+
 pub told_stand : (e : Emitter) (s : Standing) (stand : yaml_emitter_stand_t) (outer : List Level)
     (ds : List TagDirective) → e.fresh ≡ false → StandsWhere e stand
     → stack (top_of e.course.state.levels) outer ≡ e.course.state.levels
     → ds ≡ e.course.state.directives → TellsStandPlace stand s.place
-    → levels_meant s.levels.items ≡ Some outer
-    → all_directives s.bytes.items s.directives.items ≡ Some ds → TellsStand e s
-told_stand e s stand outer ds off is o d t l k = record {
+    → levels_meant s.levels.items ≡ Some (outer_if stand.innermost outer)
+    → all_directives s.bytes.items s.directives.items ≡ Some ds
+    → s.bytes.items ≡ directive_texts ds → TellsStand e s
+told_stand e s stand outer ds off is o d t l k b = record {
   nowhere = λ f. absurd (false≢true (sym off ∙ f));
   somewhere = λ there right. (
-    λ few. stands_there e stand outer ds s.place s.levels.items s.directives.items s.bytes.items is o d t l k right few,
-    t.waiting ∙ is.waiting,
+    λ few. stands_there e stand (outer_if stand.innermost outer) ds s.place s.levels.items s.directives.items s.bytes.items is (outer_stack e stand outer is o) d t l k right few,
+    tells_at e s stand outer ds is o d t l k b,
   );
   forced = λ there. is.forced there ∙ ap (settings_in e.requested_settings) is.encoding;
+}
+
+no_levels : levels_meant [] ≡ Some (levels_round None)
+unfolding levels_meant
+no_levels = refl
+
+no_directives : all_directives [] [] ≡ Some (directives_of None)
+unfolding all_directives
+no_directives = refl
+
+no_texts : [] ≡ directive_texts (directives_of None)
+unfolding directive_texts
+no_texts = refl
+
+abbrev no_place : yaml_c_level → yaml_c_place
+no_place i = record {
+  state = pos 0;
+  encoding = pos 0;
+  implicit = pos 0;
+  white = pos 0;
+  bare = pos 0;
+  kept = pos 0;
+  column = 0;
+  waiting = 0;
+  innermost = i;
+}
+
+-- before any event nothing is told
+pub tells_none : (s : Standing) (i : yaml_c_level) → s.place ≡ no_place i → i ≡ innermost_told None
+    → s.levels.items ≡ [] → s.directives.items ≡ [] → s.bytes.items ≡ [] → TellsAt s None 0
+tells_none s i p e l d b = record {
+  place = p ∙ ap no_place e;
+  levels = ap levels_meant l ∙ no_levels;
+  directives = ap (λ z. all_directives s.bytes.items z) d ∙ ap (λ (z : List ℕ). all_directives z []) b ∙ no_directives;
+  bytes = b ∙ no_texts;
 }
 
 -- ---- the answer, where a stand is meant

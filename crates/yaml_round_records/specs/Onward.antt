@@ -21,7 +21,9 @@ use Rattle.yaml_round_records.specs.Leading.{StartsUnder}
 use Rattle.yaml_emit.specs.emit_state.declared.yaml_emitter_stand_t.{yaml_emitter_stand_t}
 use Rattle.yaml_round_records.specs.declared.standing.yaml_c_place.{yaml_c_place}
 use Rattle.yaml_round_records.specs.Numbers.{is_set}
-use Rattle.yaml_round_records.specs.Standing.{At, stand_meant, stand_of, IsFew, spelling_meant, place_meant, innermost_meant}
+use Rattle.yaml_round_records.specs.Records.{all_directives}
+use Rattle.yaml_round_records.specs.Blocks.{directive_texts}
+use Rattle.yaml_round_records.specs.Standing.{At, stand_meant, stand_of, IsFew, spelling_meant, place_meant, innermost_meant, levels_meant, place_record, place_told, levels_round, directives_of}
 
 -- the limit of a call's text
 abbrev pub most_on : ℕ → ℕ
@@ -51,8 +53,16 @@ abbrev pub Means : Standing → Option At → Type 0
 Means s next = IsFew s.place.column
     → stand_meant s.place s.levels.items s.directives.items s.bytes.items ≡ Some next
 
--- No event is refused, and what is added is the text, which passes no limit. The records mean the stand to which the events lead;
--- the last of them wait there, as many as is told, and gone on from there the settings in force are the same.
+-- The records tell a stand where so many events wait, and nothing beside: every number of its place, the collections round the
+-- innermost one, and the document's directives, with the bytes of their texts, one behind another.
+pub record TellsAt (s : Standing) (next : Option At) (waiting : ℕ) : Type 0 where
+  pub place : s.place ≡ place_told next waiting
+  pub levels : levels_meant s.levels.items ≡ Some (levels_round next)
+  pub directives : all_directives s.bytes.items s.directives.items ≡ Some (directives_of next)
+  pub bytes : s.bytes.items ≡ directive_texts (directives_of next)
+
+-- No event is refused, and what is added is the text, which passes no limit. The records mean the stand to which the events lead,
+-- and tell it; the last of them wait there, as many as is told, and gone on from there the settings in force are the same.
 pub record AddsWholeText (w : RequestedSettings) (limit : ℕ) (at : Option At) (es : List Event)
     (text : List ℕ) (s : Standing) : Type 0 where
   pub right : refusal_on w at es ≡ None
@@ -61,6 +71,7 @@ pub record AddsWholeText (w : RequestedSettings) (limit : ℕ) (at : Option At) 
   pub next : Option At
   pub means : Means s next
   pub held : List Event
+  pub told : TellsAt s next (length held)
   pub last : AreLast es held
   pub waiting : (s.place.waiting ≡ length held) × (length held ≤ 3)
   pub leads : LeadsIn (settings_on w at es).encoding (settings_on w at es) (stand_of at []) es
@@ -128,9 +139,9 @@ at_of e = record {
 
 -- the records tell where an emitter without a fault stands
 pub record TellsStand (e : Emitter) (s : Standing) : Type 0 where
-  pub nowhere : e.fresh ≡ true → Means s None × (s.place.waiting ≡ 0)
+  pub nowhere : e.fresh ≡ true → Means s None × TellsAt s None 0
   pub somewhere : e.fresh ≡ false → refused_at e.course.state.place ≡ None
-      → Means s (Some (at_of e)) × (s.place.waiting ≡ length e.held)
+      → Means s (Some (at_of e)) × TellsAt s (Some (at_of e)) (length e.held)
   pub forced : e.fresh ≡ false
       → e.course.settings ≡ settings_in e.requested_settings e.course.settings.encoding
 
@@ -161,6 +172,7 @@ pub record TellsStandPlace (stand : yaml_emitter_stand_t) (r : yaml_c_place) : T
     kept = is_set r.kept;
   }
   pub waiting : r.waiting ≡ stand.waiting
+  pub told : r ≡ place_record stand.encoding stand.place stand.innermost stand.cursor stand.waiting
 
 -- where an emitter stands, or its fault
 abbrev pub GoneTold : Emitter → Result Standing yaml_fault_t → Type 0

@@ -1,5 +1,5 @@
 -- Where an emitter stands, as C holds it from call to call.
-use Rattle.std.specs.Prelude.{ℕ, ◌<◌, ◌^◌, nat_lt, ℤ, pos, Bool, true, false, if◌then◌else◌, List, [], ◌∷◌, Option, None, Some, option_map}
+use Rattle.std.specs.Prelude.{◌≡◌, ℕ, ◌<◌, ◌^◌, nat_lt, ℤ, pos, Bool, true, false, if◌then◌else◌, List, [], ◌∷◌, reverse, Option, None, Some, option_map}
 use Rattle.std.specs.Ordering.{int_eq}
 use Rattle.yaml_parse.specs.Events.{TagDirective}
 use Rattle.yaml_emit.specs.Content.{Event}
@@ -11,13 +11,13 @@ use Rattle.yaml_emit.specs.emit_layout.declared.Expected.TheVariants as at
 use Rattle.yaml_emit.specs.emit_layout.declared.Level.{Level}
 use Rattle.yaml_emit.specs.emit_layout.declared.Phase.{Phase}
 use Rattle.yaml_emit.specs.emit_layout.declared.Phase.TheVariants.{Items, Keys, Value}
-use Rattle.yaml_emit.specs.emit_layout.State.{State}
+use Rattle.yaml_emit.specs.emit_layout.State.{State, top_of}
 use Rattle.yaml_emit.specs.emit_state.Stack.{stack}
 use Rattle.yaml_round_laws_pieces.specs.Pieces.{Stand, first_stand}
 use Rattle.yaml_round_records.specs.declared.record.yaml_c_directive.{yaml_c_directive}
 use Rattle.yaml_round_records.specs.declared.standing.yaml_c_level.{yaml_c_level}
 use Rattle.yaml_round_records.specs.declared.standing.yaml_c_place.{yaml_c_place}
-use Rattle.yaml_round_records.specs.Numbers.{is_set}
+use Rattle.yaml_round_records.specs.Numbers.{is_set, flag_told}
 use Rattle.yaml_round_records.specs.Records.{all_directives}
 
 -- ---- numbers, which are those of libyaml's states of an emitter
@@ -145,3 +145,85 @@ stand_of None held = record {
   held = held;
 }
 stand_of (Some a) held = record { state = a.state; cursor = a.cursor; held = held }
+
+-- ---- stands that are told
+
+-- the numbers, as they are handed out
+abbrev pub place_number : Expected → ℤ
+place_number at.StreamStart = pos 0
+place_number (at.Documents true implicit) = pos 1
+place_number (at.Documents false implicit) = pos 2
+place_number at.Node = pos 3
+place_number at.DocumentEnd = pos 4
+place_number at.End = pos 17
+place_number (at.Refused p) = pos 0
+
+abbrev pub spelling_number : Encoding → ℤ
+spelling_number Utf8 = pos 1
+spelling_number Utf16Le = pos 2
+spelling_number Utf16Be = pos 3
+
+abbrev pub phase_number : Phase → Bool → ℤ
+phase_number (Items true) true = pos 5
+phase_number (Items false) true = pos 6
+phase_number (Keys true) true = pos 7
+phase_number (Keys false) true = pos 8
+phase_number (Value true) true = pos 9
+phase_number (Value false) true = pos 10
+phase_number (Items true) false = pos 11
+phase_number (Items false) false = pos 12
+phase_number (Keys true) false = pos 13
+phase_number (Keys false) false = pos 14
+phase_number (Value true) false = pos 15
+phase_number (Value false) false = pos 16
+
+-- the innermost open collection, and 0 where none is open
+abbrev pub innermost_told : Option Level → yaml_c_level
+innermost_told None = record { state = pos 0; indent = 0 }
+innermost_told (Some l) = record { state = phase_number l.phase l.flow; indent = l.indent }
+
+abbrev pub place_record : Encoding → Expected → Option Level → Cursor → ℕ → yaml_c_place
+place_record x p i c n = record {
+  state = place_number p;
+  encoding = spelling_number x;
+  implicit = flag_told (ends_implicitly p);
+  white = flag_told c.white;
+  bare = flag_told c.bare;
+  kept = flag_told c.kept;
+  column = c.column;
+  waiting = n;
+  innermost = innermost_told i;
+}
+
+-- the record of a place where so many events wait; before any event all of it is 0
+abbrev pub place_told : Option At → ℕ → yaml_c_place
+place_told None n = record {
+  state = pos 0;
+  encoding = pos 0;
+  implicit = pos 0;
+  white = pos 0;
+  bare = pos 0;
+  kept = pos 0;
+  column = 0;
+  waiting = n;
+  innermost = innermost_told None;
+}
+place_told (Some a) n = place_record a.encoding a.state.place (top_of a.state.levels) a.cursor n
+
+-- the collections round the innermost one, the outermost first
+abbrev pub outer_levels : List Level → List Level
+outer_levels [] = []
+outer_levels (l ∷ ls) = reverse ls
+
+abbrev pub levels_round : Option At → List Level
+levels_round None = []
+levels_round (Some a) = outer_levels a.state.levels
+
+abbrev pub directives_of : Option At → List TagDirective
+directives_of None = []
+directives_of (Some a) = a.state.directives
+
+-- those round the innermost one, where one is open
+abbrev pub outer_if : Option Level → List Level → List Level
+outer_if None outer = []
+outer_if (Some l) outer = outer

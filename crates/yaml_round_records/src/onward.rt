@@ -5,7 +5,7 @@ ghost use Rattle.yaml_parse.specs.Faults.{fault_of, IsMemoryFault, emit_layers, 
 ghost use Rattle.yaml_round_records.specs.Meaning.{events_meant};
 ghost use Rattle.yaml_round_records.specs.Leading.{requested, all_events};
 ghost use Rattle.yaml_round_records.specs.Standing.{stand_meant, at_meant};
-ghost use Rattle.yaml_round_records.specs.Onward.{most_on, StartsAt, IsStandBy, TellsStandPlace, TellsStand, Means, GoneTold, GoneOn, IsOnwardAt, onward_of};
+ghost use Rattle.yaml_round_records.specs.Onward.{most_on, StartsAt, IsStandBy, TellsStandPlace, TellsStand, TellsAt, Means, GoneTold, GoneOn, IsOnwardAt, onward_of};
 
 use crate::emitter::{Asked, emitter_under, fault_in, give_all, requested_of};
 use crate::event::all_directives;
@@ -13,8 +13,8 @@ use crate::listing::{Listing, put_directives};
 use crate::number::{flag, is_set};
 use crate::record::{yaml_c_directive, yaml_c_event};
 use crate::standing::{
-    ends_implicitly, innermost_of, innermost_told, levels_of, levels_told, place_number, place_of,
-    spelling_number, spelling_of, yaml_c_level, yaml_c_place, yaml_c_stand,
+    ends_implicitly, innermost_of, innermost_told, levels_of, levels_told, outer_if, place_number,
+    place_of, spelling_number, spelling_of, yaml_c_level, yaml_c_place, yaml_c_stand,
 };
 use std::alloc::{AllocError, Global};
 use yaml_emit::{
@@ -150,7 +150,7 @@ fn place_told(stand: yaml_emitter_stand_t) -> yaml_c_place
 #[tactic(auto, unfolding(crate::specs::Standing::stand_meant, crate::specs::Numbers::is_set))]
 fn nowhere(alloc: Global) -> Standing
     ensures means { Means result None }
-    ensures waiting { result.place.waiting ≡ 0 }
+    ensures told { TellsAt result None 0 }
 {
     Standing {
         place: yaml_c_place {
@@ -177,8 +177,12 @@ fn somewhere(alloc: Global, emitter: &yaml_emitter_t) -> Result<Standing, AllocE
 {
     let mut listing = Listing::new(alloc);
     put_directives(&mut listing, yaml_emitter_directives(emitter))?;
-    let levels = levels_told(alloc, yaml_emitter_outer(emitter))?;
-    let place = place_told(yaml_emitter_stand(emitter));
+    let stand = yaml_emitter_stand(emitter);
+    let levels = levels_told(
+        alloc,
+        outer_if(stand.innermost, yaml_emitter_outer(emitter)),
+    )?;
+    let place = place_told(stand);
     let Listing {
         events,
         directives,

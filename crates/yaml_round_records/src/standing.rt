@@ -5,7 +5,7 @@ ghost use Rattle.std.specs.Ordering.{int_eq};
 ghost use Rattle.yaml_emit.specs.Judged.{refused_at};
 ghost use Rattle.yaml_round_records.specs.Numbers.{is_set, flag_told};
 ghost use Rattle.yaml_round_records.specs.Records.{part_at, directive_at, all_directives};
-ghost use Rattle.yaml_round_records.specs.Standing.{place_meant, spelling_meant, phase_meant, level_meant, innermost_meant, levels_meant, stand_meant, at_meant, ends_implicitly, IsFew};
+ghost use Rattle.yaml_round_records.specs.Standing.{place_meant, spelling_meant, phase_meant, level_meant, innermost_meant, levels_meant, stand_meant, at_meant, ends_implicitly, place_number, spelling_number, phase_number, innermost_told, outer_if, IsFew};
 
 use crate::meaning::text_within;
 use crate::number::{flag, is_set};
@@ -88,7 +88,8 @@ pub(crate) fn place_of(state: i32, implicit: bool) -> Option<Expected>
 /// The number of what is expected next, where no event was refused.
 #[tactic(auto, unfolding(crate::specs::Standing::place_meant))]
 pub(crate) fn place_number(place: Expected) -> i32
-    ensures { refused_at place ≡ None → place_meant result (ends_implicitly place) ≡ Some place }
+    ensures is { refused_at place ≡ None → place_meant result (ends_implicitly place) ≡ Some place }
+    ensures told { result ≡ place_number place }
 {
     match place {
         Expected::StreamStart => 0,
@@ -128,6 +129,7 @@ pub(crate) fn spelling_of(encoding: i32) -> Option<Encoding>
 pub(crate) fn spelling_number(encoding: Encoding) -> i32
     ensures is { spelling_meant result ≡ Some encoding }
     ensures some { is_set result ≡ true }
+    ensures told { result ≡ spelling_number encoding }
 {
     match encoding {
         Encoding::Utf8 => 1,
@@ -163,6 +165,7 @@ fn phase_of(state: i32) -> Option<(Phase, bool)>
 fn flow_number(phase: Phase) -> i32
     ensures is { phase_meant result ≡ Some (phase, true) }
     ensures some { int_eq result (pos 0) ≡ false }
+    ensures told { result ≡ phase_number phase true }
 {
     match phase {
         Phase::Items(fresh) => { if fresh { 5 } else { 6 } }
@@ -176,6 +179,7 @@ fn flow_number(phase: Phase) -> i32
 fn block_number(phase: Phase) -> i32
     ensures is { phase_meant result ≡ Some (phase, false) }
     ensures some { int_eq result (pos 0) ≡ false }
+    ensures told { result ≡ phase_number phase false }
 {
     match phase {
         Phase::Items(fresh) => { if fresh { 11 } else { 12 } }
@@ -188,6 +192,7 @@ fn block_number(phase: Phase) -> i32
 fn number_of(phase: Phase, flow: bool) -> i32
     ensures is { phase_meant result ≡ Some (phase, flow) }
     ensures some { int_eq result (pos 0) ≡ false }
+    ensures told { result ≡ phase_number phase flow }
 {
     if flow {
         flow_number(phase)
@@ -214,6 +219,7 @@ pub(crate) fn level_of(given: yaml_c_level) -> Option<Level>
 pub(crate) fn level_told(level: Level) -> yaml_c_level
     ensures is { level_meant result ≡ Some level }
     ensures some { int_eq result.state (pos 0) ≡ false }
+    ensures told { result ≡ innermost_told (Some level) }
 {
     yaml_c_level {
         state: number_of(level.phase, level.flow),
@@ -238,7 +244,8 @@ pub(crate) fn innermost_of(given: yaml_c_level) -> Option<Option<Level>>
 // The innermost open collection as C reads it.
 #[tactic(auto, unfolding(crate::specs::Standing::innermost_meant))]
 pub(crate) fn innermost_told(innermost: Option<Level>) -> yaml_c_level
-    ensures { innermost_meant result ≡ Some innermost }
+    ensures is { innermost_meant result ≡ Some innermost }
+    ensures told { result ≡ innermost_told innermost }
 {
     match innermost {
         Some(level) => level_told(level),
@@ -246,6 +253,16 @@ pub(crate) fn innermost_told(innermost: Option<Level>) -> yaml_c_level
             state: 0,
             indent: 0,
         },
+    }
+}
+
+/// The open collections round the innermost one, and none where that is none.
+pub(crate) fn outer_if(innermost: Option<Level>, outer: &[Level]) -> &[Level]
+    ensures { result.now ≡ outer_if innermost outer.now }
+{
+    match innermost {
+        Some(_) => outer,
+        None => &[],
     }
 }
 

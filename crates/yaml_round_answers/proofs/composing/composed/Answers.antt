@@ -8,4 +8,4 @@ pub returns-else-whole : goal.returns-else-whole
 returns-else-whole c = alias_told (c.args.bytes.now, c.args.steps.now) _ _ _ _ _ c.spots_out.ensures c.if-whole.false c.in-Ok.ensures c.undefined_alias_fault.ensures c.refused.ensures
 
 pub returns-in-Err : goal.returns-in-Err
-returns-in-Err c = no_spots_told (c.args.bytes.now, c.args.steps.now) _ _ _ c.yaml_memory_fault.ensures c.refused-in-Err.ensures
+returns-in-Err c = no_spots_told (c.args.bytes.now, c.args.steps.now) _ _ _ c.nothing.ensures c.yaml_memory_fault.ensures c.refused-in-Err.ensures

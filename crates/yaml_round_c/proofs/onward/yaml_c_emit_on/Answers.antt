@@ -7,9 +7,9 @@ use Rattle.yaml_round_answers.proofs.Going.{onward_exact}
 use Rattle.yaml_round_c.proofs.onward.yaml_c_emit_on.Goals as goal
 
 pub returns-clause-told : goal.returns-clause-told
-returns-clause-told c = c.onward_by.ensures
+returns-clause-told c = c.onward_by.ensures.told
 
 pub returns-clause-exact : goal.returns-clause-exact
 returns-clause-exact c =
     let kind : SFits w32 c.onward_by.result.kind = search rules in
-    onward_exact c.args.given.now _ c.args.stand.now _ _ _ _ (to_z-of_z w32 c.onward_by.result.kind kind) c.onward_by.ensures
+    onward_exact c.args.given.now _ c.args.stand.now _ _ _ _ (to_z-of_z w32 c.onward_by.result.kind kind) c.onward_by.ensures.told

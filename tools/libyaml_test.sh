@@ -171,7 +171,7 @@ clients() {
     else
         say "libyaml-libyaml-perl isn't here: YAML::XS isn't run"
     fi
-    if lua5.1 -e 'require "yaml".scanner' 2>/dev/null; then
+    if lua5.1 -e 'assert(require("yaml").scanner)' 2>/dev/null; then
         beside lua "$work/inputs/given" lua5.1 "$tests/lua_client.lua"
     else
         say "lua5.1 with lua-yaml isn't here: it isn't run"

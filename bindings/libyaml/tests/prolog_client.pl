@@ -6,7 +6,10 @@
 
 show(Path) :-
     format("~n@@ ~w~n", [Path]),
-    catch(read_and_write(Path), Error, told(Error)).
+    (   catch(read_and_write(Path), Error, told(Error))
+    ->  true
+    ;   writeln(fails)
+    ).
 
 read_and_write(Path) :-
     setup_call_cleanup(open(Path, read, In), yaml_read(In, Value), close(In)),

@@ -2,6 +2,7 @@
 use Rattle.std.proofs.Common.{◌≡◌, ℕ, Bool, true, false, not, ◌&&◌, ◌||◌, ◌==◌, List, [], ◌∷◌, ◌++◌, replicate, refl, sym, ap, subst, ◌∙◌, arith, append-nil, append_assoc, encode_utf8, encode_utf8_all}
 use Rattle.std.proofs.lemmas.Str.{encode_ascii}
 use Rattle.std.proofs.lemmas.Bool.{false≢true, true≢false, eqb-true, and_from, and_parts, not-true, ne_eqb}
+use Rattle.std.proofs.Math.Bool.{and-false}
 use Rattle.yaml_scan_block.specs.Header.{chomp_of as chomp_at}
 use Rattle.yaml_scan_block.specs.Value.{BlockLine, Words, texts_of, starts_blank, between, at_end, behind_text}
 use Rattle.yaml_scan_block.specs.Stacked.{stacked_with}
@@ -390,11 +391,7 @@ stays_by true true false p q h e = and_so (p && q) e
     and_so : (a : Bool) → a ≡ false → (a && true) ≡ false
     and_so false k = refl
     and_so true k = k
-stays_by true false b p q h e = and_none (p && q)
-  where
-    and_none : (a : Bool) → (a && false) ≡ false
-    and_none false = refl
-    and_none true = refl
+stays_by true false b p q h e = and-false (p && q)
 stays_by true true true p q h e = absurd (true≢false h)
 
 plain_waits : (folded blank : Bool) (before : ℕ) (m : LineMark) (xs : List ℕ)

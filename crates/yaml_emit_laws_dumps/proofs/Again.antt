@@ -65,10 +65,8 @@ held : (visit : ℤ → Rest → Rest) (id : ℤ) (body : NodeBody) (rest : Rest
     → inside visit id body rest met ≡ over visit (children body) (left (is_collection body) id rest)
     met
 unfolding over
-held visit id model.no rest met = refl
-held visit id (model.scalar value style) rest met = refl
-held visit id (model.sequence items style) rest met = refl
 held visit id (model.mapping pairs style) rest met = ap (λ (ids : List ℤ). over visit ids (left true id rest) met) (same_pairs pairs)
+held visit id _ rest met = refl
 
 -- ---- what is true of all that turns meet again
 

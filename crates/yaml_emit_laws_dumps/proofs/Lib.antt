@@ -15,7 +15,9 @@ pub mod Whole
 pub use Rattle.yaml_emit_graph.proofs.Joining
 pub use Rattle.yaml_parse_laws_trees.proofs.LoadingSound as Sound
 pub use Rattle.yaml_parse_laws_trees.proofs.CompleteStream
+pub use Rattle.yaml_parse_laws_trees.proofs.Rules
 pub use Rattle.yaml_parse_laws_trees.proofs.Single
+pub use Rattle.yaml_parse_laws_trees.proofs.Throughout
 pub use Rattle.yaml_parse_laws_trees.proofs.Utf8
 pub use Rattle.yaml_parse_laws_trees.proofs.Voice
 pub use Rattle.yaml_parse_laws_trees.proofs.AllGiven

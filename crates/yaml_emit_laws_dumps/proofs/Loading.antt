@@ -42,17 +42,11 @@ may_head anchor tag q h =
 
 pub taken : TakenAreRight
 unfolding event_problem last_problem
-taken event.no h = tt
-taken (event.stream_start encoding) h = tt
-taken event.stream_end h = tt
 taken (event.document_start version directives implicit) h = h
-taken (event.document_end implicit) h = tt
-taken (event.alias name) h = tt
 taken (event.scalar anchor tag value plain quoted style) h = may_head anchor tag _ h
 taken (event.sequence_start anchor tag implicit style) h = may_head anchor tag _ h
-taken event.sequence_end h = tt
 taken (event.mapping_start anchor tag implicit style) h = may_head anchor tag _ h
-taken event.mapping_end h = tt
+taken _ h = tt
 
 -- ---- one event
 
@@ -95,9 +89,6 @@ closed_right to l (o ∷ os) r = record { tags = changed o to _ l.document.nodes
 
 body_right : (b : event.EventBody) (from to : yaml_mark_t) (l : Loading) → RightBody b
     → RightDocument l.document → RightFed (step_body b from to l)
-body_right event.no from to l h r = r
-body_right (event.stream_start encoding) from to l h r = r
-body_right event.stream_end from to l h r = r
 body_right (event.document_start version directives implicit) from to l h r = record { tags = tt; opening = h }
 body_right (event.document_end implicit) from to l h r = record { tags = r.tags; opening = r.opening }
 body_right (event.alias name) from to l h r = aliased_right name from l r
@@ -106,6 +97,7 @@ body_right (event.sequence_start anchor tag implicit style) from to l h r = with
 body_right (event.mapping_start anchor tag implicit style) from to l h r = with_one l.document _ r (some_tag tag map_tag h (omega arith))
 body_right event.sequence_end from to l h r = closed_right to l l.levels r
 body_right event.mapping_end from to l h r = closed_right to l l.levels r
+body_right _ from to l h r = r
 
 pub steps : StepsKeepRight
 steps e l h r = body_right e.body e.start_mark e.end_mark l h r

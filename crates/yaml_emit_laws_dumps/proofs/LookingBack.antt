@@ -168,13 +168,9 @@ ends_none (Value simple) = refl
 none_misplaced : (place : Expected) (top : Option Level) → place_problem place top no_event ≡ None
     → ⊥
 unfolding place_problem
-none_misplaced at.StreamStart top h = cc
-none_misplaced (at.Documents first unended) top h = cc
 none_misplaced at.Node None h = cc
 none_misplaced at.Node (Some l) h = let bad : Some (problem.ExpectedNode) ≡ None = rw (ends_none l.phase) at h in cc
-none_misplaced at.DocumentEnd top h = cc
-none_misplaced at.End top h = cc
-none_misplaced (at.Refused p) top h = cc
+none_misplaced _ top h = cc
 
 record Fits (h : Progress) (past : List Event) : Type 0 where
   place : HasPlace h past

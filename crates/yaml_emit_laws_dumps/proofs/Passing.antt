@@ -206,14 +206,10 @@ inside_right false (value_due ∷ due) = inside_right false due
 closing_right : (canonical : Bool) (p : Expected) (due : List Due)
     → own_problems canonical (closing p due) ≡ None
 unfolding own_problems event_problem last_problem
-closing_right canonical at.StreamStart due = refl
-closing_right canonical (at.Documents first unended) due = refl
 closing_right true at.Node [] = refl
 closing_right false at.Node [] = refl
 closing_right canonical at.Node (d ∷ due) = inside_right canonical (d ∷ due)
-closing_right canonical at.DocumentEnd due = refl
-closing_right canonical at.End due = refl
-closing_right canonical (at.Refused p) due = refl
+closing_right canonical _ due = refl
 
 -- ---- a whole list
 

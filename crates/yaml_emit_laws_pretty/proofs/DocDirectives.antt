@@ -41,12 +41,11 @@ use Rattle.yaml_scan_laws_levels.proofs.Stepping.{words_leave}
 use Rattle.yaml_scan_laws_levels.proofs.Walking.{walk_white, walk_outer}
 use Rattle.yaml_emit_laws_pretty.proofs.Lining.{first_byte}
 use Rattle.yaml_emit_laws_pretty.proofs.Entries.{no_gap}
-use Rattle.yaml_emit_laws_pretty.proofs.DocWords.{said_directive, WritesLine, version_writes, tag_front, tag_writes}
 use Rattle.yaml_emit_laws_pretty.proofs.DocStarts.{line_start, OnLine}
 use Rattle.yaml_emit_laws_text.proofs.TextLines.{return_width, both_width, feed_width}
 use Rattle.yaml_emit_laws_text.proofs.Resolving.{or_first}
 use Rattle.yaml_emit_laws_text.proofs.Joining.{none_all}
-use Rattle.yaml_emit_laws_text.proofs.Directives.{percent_kind, directive_word, percent_begins, ReadsLine, version_line}
+use Rattle.yaml_emit_laws_text.proofs.Directives.{percent_kind, directive_word, percent_begins, ReadsLine, version_line, said_directive, WritesLine, version_writes, tag_front, tag_writes}
 
 -- ---- the break that ends a directive
 

@@ -138,11 +138,9 @@ style_same p q x = refl
 
 scalar_keeps : StylesAreAllowed → (p : Context) (q : Part) (x : Scalar) (st : Style)
     → style_at p true q x ≡ st → (kept : Bool) → scalar_kept st x.value kept ≡ kept
-scalar_keeps styles p q x style.Plain same kept = refl
-scalar_keeps styles p q x style.Single same kept = refl
-scalar_keeps styles p q x style.Double same kept = refl
 scalar_keeps styles p q x style.Literal same kept = let no_flow = ((styles p (place true q) x).2 same).1 in absurd (true≢false no_flow)
 scalar_keeps styles p q x style.Folded same kept = let no_flow = ((styles p (place true q) x).3 same).1 in absurd (true≢false no_flow)
+scalar_keeps styles p q x _ same kept = refl
 
 mutual
   unfolding node_kept items_kept pairs_kept

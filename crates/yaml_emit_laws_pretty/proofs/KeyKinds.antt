@@ -4,6 +4,7 @@ use Rattle.std.specs.Prelude.{if◌then◌else◌}
 use Rattle.std.specs.Str.{chars}
 use Rattle.std.proofs.lemmas.Bool.{cases_Bool, false≢true}
 use Rattle.std.proofs.lemmas.Str.{encode_ascii}
+use Rattle.std.proofs.Math.Bool.{and-false}
 use Rattle.yaml_emit_laws_text.specs.emit_layout.scan_model.Tokens as tokens
 use Rattle.yaml_emit_laws_text.specs.emit_layout.scan_model.Tokens.{TokenBody}
 use Rattle.yaml_emit_laws_text.specs.emit_layout.scan_model.declared.yaml_scalar_style_t.{yaml_scalar_style_t}
@@ -207,11 +208,7 @@ is_plain_single : (a : Allowed) → is_plain (single_or a) ≡ false
 is_plain_single a = elim (cases_Bool a.single) [ inl e ↦ rw e refl | inr e ↦ rw e refl ]
 
 fits_none : (a : Allowed) (untagged flow : Bool) → plain_fits a untagged flow true true ≡ false
-fits_none a untagged flow = none (if flow then a.flow_plain else a.plain)
-  where
-    none : (b : Bool) → (b && false) ≡ false
-    none true = refl
-    none false = refl
+fits_none a untagged flow = and-false (if flow then a.flow_plain else a.plain)
 
 plain_empty : (a : Allowed) (untagged flow : Bool)
     → is_plain (if plain_fits a untagged flow true true then style.Plain else single_or a) ≡ false

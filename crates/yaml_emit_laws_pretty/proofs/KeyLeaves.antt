@@ -139,11 +139,9 @@ spot_style p n x = refl
 
 style_kept : Scalars → (p : Context) (x : Scalar) (kept : Bool) (chosen : Style)
     → style_at p false part.SimpleKey x ≡ chosen → scalar_kept chosen x.value kept ≡ kept
-style_kept law p x kept style.Plain same = refl
-style_kept law p x kept style.Single same = refl
-style_kept law p x kept style.Double same = refl
 style_kept law p x kept style.Literal same = let (may, out, whole) = (law.styles p (spot false 0 part.SimpleKey) x).2 (spot_style p 0 x ∙ same) in absurd (false≢true (sym whole))
 style_kept law p x kept style.Folded same = let (may, out, whole) = (law.styles p (spot false 0 part.SimpleKey) x).3 (spot_style p 0 x ∙ same) in absurd (false≢true (sym whole))
+style_kept law p x kept _ same = refl
 
 key_kept : Scalars → (p : Context) (k : Node) → is_simple p k ≡ true → (kept : Bool)
     → node_kept p false part.SimpleKey k kept ≡ kept

@@ -54,21 +54,7 @@ texty kinds.Alias e = record { begins = refl; stays = stay; calm = refl; lone = 
 texty kinds.SingleQuoted e = record { begins = refl; stays = stay; calm = refl; lone = refl; same = λ d. refl; quiet = λ b. refl }
 texty kinds.DoubleQuoted e = record { begins = refl; stays = stay; calm = refl; lone = refl; same = λ d. refl; quiet = λ b. refl }
 texty kinds.Plain e = record { begins = refl; stays = stay; calm = refl; lone = refl; same = λ d. refl; quiet = λ b. refl }
-texty kinds.StreamStart e = absurd (false≢true e)
-texty kinds.StreamEnd e = absurd (false≢true e)
-texty kinds.Directive e = absurd (false≢true e)
-texty kinds.DocumentStart e = absurd (false≢true e)
-texty kinds.DocumentEnd e = absurd (false≢true e)
-texty kinds.FlowSequenceStart e = absurd (false≢true e)
-texty kinds.FlowMappingStart e = absurd (false≢true e)
-texty kinds.FlowSequenceEnd e = absurd (false≢true e)
-texty kinds.FlowMappingEnd e = absurd (false≢true e)
-texty kinds.FlowEntry e = absurd (false≢true e)
-texty kinds.BlockEntry e = absurd (false≢true e)
-texty kinds.KeyMark e = absurd (false≢true e)
-texty kinds.ValueMark e = absurd (false≢true e)
-texty kinds.Literal e = absurd (false≢true e)
-texty kinds.Folded e = absurd (false≢true e)
+texty _ e = absurd (false≢true e)
 
 -- ---- places
 

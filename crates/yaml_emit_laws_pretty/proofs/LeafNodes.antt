@@ -79,10 +79,7 @@ text_white : PlainHasGap → (page : Page) (digit : ℕ) (v : List ℕ) → IsUt
     ≡ true
 unfolding scalar_text
 text_white gaps page digit v u style.Plain b m after e white = plain_white gaps page e v (λ i. line b m i after) u white (λ i bare. text_line_white b m after i bare)
-text_white gaps page digit v u style.Single b m after e white = space_parts (bytes (scalar_text page digit false style.Single (chars v) e (λ i. line b m i after))) (spaced_text page digit (chars v) style.Single refl e (λ i. line b m i after) white)
-text_white gaps page digit v u style.Double b m after e white = space_parts (bytes (scalar_text page digit false style.Double (chars v) e (λ i. line b m i after))) (spaced_text page digit (chars v) style.Double refl e (λ i. line b m i after) white)
-text_white gaps page digit v u style.Literal b m after e white = space_parts (bytes (scalar_text page digit false style.Literal (chars v) e (λ i. line b m i after))) (spaced_text page digit (chars v) style.Literal refl e (λ i. line b m i after) white)
-text_white gaps page digit v u style.Folded b m after e white = space_parts (bytes (scalar_text page digit false style.Folded (chars v) e (λ i. line b m i after))) (spaced_text page digit (chars v) style.Folded refl e (λ i. line b m i after) white)
+text_white gaps page digit v u x b m after e white = space_parts (bytes (scalar_text page digit false x (chars v) e (λ i. line b m i after))) (spaced_text page digit (chars v) x refl e (λ i. line b m i after) white)
 
 -- ---- pages
 
@@ -187,10 +184,7 @@ mark_plain a b style.Plain e = absurd (false≢true (sym (off a b) ∙ e))
     off true true = refl
     off true false = refl
     off false b = refl
-mark_plain a b style.Single e = refl
-mark_plain a b style.Double e = refl
-mark_plain a b style.Literal e = refl
-mark_plain a b style.Folded e = refl
+mark_plain a b _ e = refl
 
 scalar_said : (p : Context) (q : Part) (bare : Bool) (v : Scalar) (bs : List TokenBody)
     → anchor_bodies v.anchor (tag_bodies p.directives (scalar_tag false v)

@@ -12,7 +12,6 @@ pub mod FlowSteps
 pub mod FlowSigns
 pub mod DocStarts
 pub mod DocLines
-pub mod DocWords
 pub mod DocDirectives
 pub mod DocEnds
 pub mod DocOpens

@@ -23,14 +23,12 @@ record Parts : Type 0 where
 
 -- what is walked as a node is no simple key
 place_whole : (around : Option ℕ) (q : Part) → is_place around q ≡ true → is_simple_part q ≡ false
-place_whole None part.Item e = refl
-place_whole None part.Key e = refl
 place_whole None part.SimpleKey e = absurd (cc)
-place_whole None part.Value e = refl
 place_whole (Some n) part.Item e = refl
 place_whole (Some n) part.Key e = refl
 place_whole (Some n) part.SimpleKey e = absurd (cc)
 place_whole (Some n) part.Value e = refl
+place_whole None _ e = refl
 
 none_flows : (a b c : Bool) → (a || (b || (c || true))) ≡ false → ⊥
 none_flows true b c e = absurd (cc)

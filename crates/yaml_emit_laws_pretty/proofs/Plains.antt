@@ -93,14 +93,16 @@ begins_by text q blank wide hash bom = let (space, tab) = either (byte text q ==
     either false true e = absurd (cc)
     either false false e = (refl, refl)
 
-ends_begins : (level : ℕ) (text : List ℕ) (p q : ℕ) → ends_plain false level text q ≡ true
-    → begins_lexeme text p ≡ true → (byte text q ≡ 35 → ⊥) → p ≤ q → begins_lexeme text q ≡ true
+-- What may end a plain scalar begins a lexeme, where the scalar begins one.
+pub ends_begins : (flow : Bool) (level : ℕ) (text : List ℕ) (p q : ℕ)
+    → ends_plain flow level text q ≡ true → begins_lexeme text p ≡ true → (byte text q ≡ 35 → ⊥)
+    → p ≤ q → begins_lexeme text q ≡ true
 unfolding ends_plain
-ends_begins level text p zero h begins hash up = let z : p ≡ 0 = omega (arith, up) in subst (λ n. begins_lexeme text n ≡ true) z begins
-ends_begins level text p (suc q) h begins hash up =
+ends_begins flow level text p zero h begins hash up = let z : p ≡ 0 = omega (arith, up) in subst (λ n. begins_lexeme text n ≡ true) z begins
+ends_begins flow level text p (suc q) h begins hash up =
     let n = suc q in
-    let (blank, more) = and_parts (not (is_blank (byte text n))) (not (nat_lt 0 (break_width text n)) && ends_at false level text n) h in
-    let (wide, ends) = and_parts (not (nat_lt 0 (break_width text n))) (ends_at false level text n) more in
+    let (blank, more) = and_parts (not (is_blank (byte text n))) (not (nat_lt 0 (break_width text n)) && ends_at flow level text n) h in
+    let (wide, ends) = and_parts (not (nat_lt 0 (break_width text n))) (ends_at flow level text n) more in
     begins_by text n (off (is_blank (byte text n)) blank) (off (nat_lt 0 (break_width text n)) wide) (apart (byte text n) hash) (ap (λ b. b && is_bom text n) (positive q))
   where
     positive : (q : ℕ) → (suc q == 0) ≡ false
@@ -139,7 +141,7 @@ body_walks stands are_words page ls value rest u some may deep far follows c x t
       up = omega arith;
     } in
     let (has, blank, ends) = stops_end false level text e left g.left (follows.stops level (omega arith) g.behind g.fine.bare) in
-    let starts = ends_begins level text p (e + length white) ends at.says.begins (no_hash text e left g.left (follows.calm g.behind g.fine.bare)) (omega arith) in
+    let starts = ends_begins false level text p (e + length white) ends at.says.begins (no_hash text e left g.left (follows.calm g.behind g.fine.bare)) (omega arith) in
     let leaves = words_leave.none text (depth_after kinds.Plain o.depth) w e white (record { has = has; blank = blank; ends = starts }) refl refl in
     let r = walk_word x text o [] ls T kinds.Plain [] w e false true s.reads tt
     (subst (λ d. Comes text p d level kinds.Plain [] w e) (sym s.flat) comes) (stays o.depth)

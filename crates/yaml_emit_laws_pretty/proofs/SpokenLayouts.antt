@@ -28,6 +28,7 @@ use Rattle.yaml_emit_laws_scalars.specs.PlainLaws.{PlainIsReadBack, may_be_plain
 use Rattle.yaml_emit_laws_scalars.specs.SingleLaws.{SingleLinesAreReadBack}
 use Rattle.yaml_emit_laws_scalars.specs.StandsLaws.{PlainHasGap, ScalarsAreWords}
 use Rattle.yaml_emit_laws_pretty.specs.Spoken.{Spoken, SaysTokens}
+use Rattle.yaml_emit_laws_text.proofs.Tags.{letters_are}
 use Rattle.yaml_emit_laws_pretty.proofs.SpokenWords.{anchor_word, alias_word, tag_word, mark_word, double_word, single_word, plain_word}
 use Rattle.yaml_emit_laws_text.proofs.Ascii.{alphas_ascii}
 use Rattle.yaml_emit_laws_pretty.proofs.FlowSigns.{behind_gap}
@@ -81,27 +82,6 @@ gap_says flow level a make spaced wrote c =
     record { behind = r.behind; written = λ rest. r.written rest; bare = r.bare; white = r.white; kept = r.kept }
 
 -- ---- letters
-
--- letters in ASCII, and the cursor behind them
-record Letters (xs : List ℕ) (c : Cursor) : Type 0 where
-  behind : Cursor
-  same : (rest : Rest) → bytes (letters xs c rest) ≡ xs ++ bytes (rest behind)
-  white : c.white ≡ false → behind.white ≡ false
-  bare : c.bare ≡ false → behind.bare ≡ false
-  kept : behind.kept ≡ c.kept
-
-letters_are : (xs : List ℕ) → are_ascii xs ≡ true → (c : Cursor) → Letters xs c
-unfolding letters
-letters_are [] are c = record { behind = c; same = λ rest. refl; white = λ e. e; bare = λ e. e; kept = refl }
-letters_are (x ∷ xs) are c =
-    let r = letters_are xs (and_parts (nat_lt x 128) (are_ascii xs) are).1 (lettered_on c) in
-    record {
-      behind = r.behind;
-      same = λ rest. letter_low x (letters xs (lettered_on c) rest) (and_parts (nat_lt x 128) (are_ascii xs) are).0 ∙ ap (λ (t : List ℕ). x ∷ t) (r.same rest);
-      white = λ e. r.white refl;
-      bare = λ e. r.bare refl;
-      kept = r.kept;
-    }
 
 letters_wrote : (x : ℕ) (xs : List ℕ) → are_ascii (x ∷ xs) ≡ true → (c : Cursor)
     → Wrote (letters (x ∷ xs)) c (x ∷ xs)

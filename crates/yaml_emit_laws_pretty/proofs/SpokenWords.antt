@@ -1,20 +1,18 @@
 -- The words of a node: each is read wherever its bytes stand before what fits.
-use Rattle.std.proofs.Common.{◌≡◌, ℕ, ◌+◌, ◌≤◌, ◌==◌, ◌&&◌, ◌||◌, not, nat_lt, Bool, true, false, List, [], ◌∷◌, ◌++◌, length, zero, suc, Some, Result, Ok, refl, sym, ap, subst, ◌∙◌, inl, inr, arith, encode_utf8, encode_utf8_all}
+use Rattle.std.proofs.Common.{◌≡◌, ℕ, ◌+◌, ◌==◌, ◌&&◌, ◌||◌, not, Bool, true, false, List, [], ◌∷◌, ◌++◌, length, suc, Some, Result, Ok, refl, sym, ap, subst, ◌∙◌, inl, inr, arith, encode_utf8, encode_utf8_all}
 use Rattle.std.specs.Str.{chars}
-use Rattle.std.proofs.lemmas.Bool.{or_left, or_right, or_cases, and_parts}
+use Rattle.std.proofs.lemmas.Bool.{or_left, or_right, or_cases}
 use Rattle.std.proofs.lemmas.Bool.Decides.{nat_tests}
 use Rattle.std.proofs.lemmas.Str.{encode_ascii}
 use Rattle.yaml_emit_laws_text.specs.emit_layout.scan_model.declared.yaml_scalar_style_t.TheVariants.{YAML_PLAIN_SCALAR_STYLE, YAML_SINGLE_QUOTED_SCALAR_STYLE, YAML_DOUBLE_QUOTED_SCALAR_STYLE}
 use Rattle.yaml_emit_laws_text.specs.emit_layout.scan_model.Tokens as tokens
 use Rattle.yaml_emit_laws_text.specs.emit_layout.scan_model.Tokens.{TokenBody}
-use Rattle.yaml_emit_laws_text.specs.scan_history.scan_model.Marks.{byte, is_blank, break_width, is_blank_or_end}
-use Rattle.yaml_emit_laws_text.specs.scan_history.scan_model.Classes.{is_bom}
+use Rattle.yaml_emit_laws_text.specs.scan_history.scan_model.Marks.{byte, is_blank_or_end}
 use Rattle.yaml_emit_laws_text.specs.scan_history.scan_model.declared.problem.Context.TheVariants as contexts
 use Rattle.yaml_emit_laws_text.specs.scan_history.scan_words.Anchors.{anchor_at, may_end_name}
 use Rattle.yaml_emit_laws_text.specs.scan_history.scan_words.Tags.{TagText, tag_at, may_end_tag}
 use Rattle.yaml_emit_laws_text.specs.scan_history.scan_words.Written.{has_break, begins_lexeme}
 use Rattle.yaml_emit_laws_text.specs.scan_history.scan_words.Laws.{AnchorReads}
-use Rattle.yaml_emit_laws_text.specs.scan_history.scan_scalars.Plain.{ends_at}
 use Rattle.yaml_emit_laws_text.specs.scan_history.scan_scalars.Quoted.{double_quoted_at}
 use Rattle.yaml_emit_laws_text.specs.scan_history.declared.kind.Kind.{Kind}
 use Rattle.yaml_emit_laws_text.specs.scan_history.declared.kind.Kind.TheVariants as kinds
@@ -30,7 +28,6 @@ use Rattle.yaml_emit_laws_text.specs.emit_layout.Content.{Opening}
 use Rattle.yaml_emit_laws_text.specs.Bodies.{tag_body}
 use Rattle.yaml_emit_laws_text.specs.TagsLaws.{SplitTagsAreRead, WrittenTagsAreReadable, IsReadable, ReadableTagsAreAscii, tag_text}
 use Rattle.yaml_scan_laws_texts.specs.WordsLaws.{LoneMarkReads}
-use Rattle.yaml_scan_laws_texts.specs.PlainLaws.{ends_plain}
 use Rattle.yaml_emit_laws_text.specs.Walk.{Left}
 use Rattle.yaml_emit_laws_text.specs.Writable.{IsWritableName, IsWritableOpening, IsWritableTag}
 use Rattle.yaml_emit_laws_text.proofs.Places.{has_front, has_at, left_first, left_more, left_rest}
@@ -46,8 +43,8 @@ use Rattle.yaml_emit_laws_scalars.proofs.Stopping.{goes_on, stops_end}
 use Rattle.yaml_emit_laws_pretty.specs.Spoken.{Spoken, WordStands, Fits, anything, space, white, name_end, unquoted, stop, ends_name}
 use Rattle.yaml_emit_laws_pretty.proofs.Lining.{first_byte}
 use Rattle.yaml_emit_laws_pretty.proofs.Entries.{white_stands}
-use Rattle.yaml_emit_laws_pretty.proofs.Plains.{no_hash, begins_by}
-use Rattle.yaml_emit_laws_text.proofs.Tags.{mark_kind}
+use Rattle.yaml_emit_laws_pretty.proofs.Plains.{no_hash, ends_begins}
+use Rattle.yaml_emit_laws_text.proofs.Tags.{mark_kind, said_tag}
 use Rattle.yaml_emit_laws_scalars.proofs.Stands.{single_kind}
 
 -- a word that takes no white
@@ -178,15 +175,6 @@ tag_at_word : (flow : Bool) (level : ℕ) (text : List ℕ) (p : ℕ)
     → word_at kinds.Tag flow level text p ≡ tagged (tag_at flow text p)
 unfolding word_at
 tag_at_word flow level text p = refl
-
-said_tag : (r : Result TagText Wrong) (t : TagText) → r ≡ Ok t
-    → tagged r ≡ Ok (record {
-      body = tokens.tag t.handle t.suffix;
-      end = t.end;
-      reached = t.end;
-      broke = false;
-    })
-said_tag r t e = rw e refl
 
 text_is : (s : Split) (e : ℕ)
     → tagged (Ok (tag_text s e)) ≡ Ok
@@ -319,27 +307,6 @@ single_word words flow level spaced page c value r = record {
 }
 
 -- ---- plain scalars
-
-ends_begins : (flow : Bool) (level : ℕ) (text : List ℕ) (p q : ℕ)
-    → ends_plain flow level text q ≡ true → begins_lexeme text p ≡ true → (byte text q ≡ 35 → ⊥)
-    → p ≤ q → begins_lexeme text q ≡ true
-unfolding ends_plain
-ends_begins flow level text p zero h begins hash up = let z : p ≡ 0 = omega (arith, up) in subst (λ n. begins_lexeme text n ≡ true) z begins
-ends_begins flow level text p (suc q) h begins hash up =
-    let n = suc q in
-    let (blank, more) = and_parts (not (is_blank (byte text n))) (not (nat_lt 0 (break_width text n)) && ends_at flow level text n) h in
-    let (wide, ends) = and_parts (not (nat_lt 0 (break_width text n))) (ends_at flow level text n) more in
-    begins_by text n (off (is_blank (byte text n)) blank) (off (nat_lt 0 (break_width text n)) wide) (apart (byte text n) hash) (ap (λ b. b && is_bom text n) (positive q))
-  where
-    positive : (q : ℕ) → (suc q == 0) ≡ false
-    positive q = grind (arith, nat_tests)
-
-    off : (a : Bool) → not a ≡ true → a ≡ false
-    off true e = absurd (cc)
-    off false e = refl
-
-    apart : (b : ℕ) → (b ≡ 35 → ⊥) → (b == 35) ≡ false
-    apart b f = grind (arith, nat_tests)
 
 pub plain_stands : ScalarsAreWords
     → (flow : Bool) (level : ℕ) (page : Page) (c : Cursor) (value : List ℕ)

@@ -6,6 +6,7 @@ use Rattle.std.proofs.lemmas.Bool.Decides.{nat_tests}
 use Rattle.std.proofs.lemmas.List.{length-append}
 use Rattle.std.proofs.lemmas.Str.{scalars-chars, encodes-chars}
 use Rattle.std.specs.Str.{chars}
+use Rattle.std.proofs.Math.Bool.{and-false}
 use Rattle.yaml_scan_history.specs.scan_model.Classes.{is_alpha_byte, is_digit_byte}
 use Rattle.yaml_scan_history.specs.scan_words.Written.{are_alphas}
 use Rattle.yaml_emit_layout.specs.scan_model.declared.yaml_scalar_style_t.{yaml_scalar_style_t}
@@ -340,12 +341,8 @@ near_close : (s : Settings) (n x : ℕ) (c : Cursor) → is_sign x ≡ true
     → StaysNear (closer s true n true x) c 1
 unfolding closer
 near_close s n x c sign =
-    let one = near_when (s.canonical && not true) (char 44 ▹ line s.line_break (n - s.indent)) c 0 (λ e. absurd (true≢false (sym e ∙ and_none s.canonical))) in
+    let one = near_when (s.canonical && not true) (char 44 ▹ line s.line_break (n - s.indent)) c 0 (λ e. absurd (true≢false (sym e ∙ and-false s.canonical))) in
     near_on (when (s.canonical && not true) (char 44 ▹ line s.line_break (n - s.indent))) (char x) c 0 1 one (near_sign_char x one.behind sign)
-  where
-    and_none : (a : Bool) → (a && false) ≡ false
-    and_none true = refl
-    and_none false = refl
 
 empty_flow : (s : Settings) (flow : Bool) (n : ℕ) (q : Start)
     → is_flow s (spot flow n part.SimpleKey) q true ≡ true

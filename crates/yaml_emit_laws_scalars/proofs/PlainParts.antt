@@ -2,6 +2,7 @@
 use Rattle.std.proofs.Common.{◌≡◌, ◌≢◌, ℕ, zero, suc, ◌+◌, ◌<◌, ◌≤◌, Bool, true, false, ◌&&◌, ◌==◌, nat_lt, List, [], ◌∷◌, ◌++◌, length, replicate, refl, sym, ap, subst, ◌∙◌, inl, inr, arith, add-zero, encode_utf8}
 use Rattle.std.proofs.lemmas.Bool.{cases_Bool, cases_lt, true≢false, le-ltb, ne_eqb}
 use Rattle.std.proofs.lemmas.Bool.Decides.{nat_tests}
+use Rattle.std.proofs.Math.Bool.{and-false}
 use Rattle.yaml_scan_history.specs.scan_model.Marks.{byte, break_of, break_width, ends_break, column_at, is_blank, is_blank_or_end}
 use Rattle.yaml_scan_history.specs.scan_model.Breaks.{break_value, feed_at}
 use Rattle.yaml_scan_history.specs.scan_scalars.Pieces.{Piece, Kept, Blank, Break}
@@ -272,14 +273,10 @@ folded_at flow level text p m e good deep h =
           (blanks_read flow level text q n ps f place broke blanks nonempty r);
       stand = record {
         column = omega (arith, col);
-        inner = ap (λ k. leads text (q + n) && nat_lt k level) col ∙ ap (λ t. leads text (q + n) && t) (le-ltb n level deep) ∙ and_none (leads text (q + n));
+        inner = ap (λ k. leads text (q + n) && nat_lt k level) col ∙ ap (λ t. leads text (q + n) && t) (le-ltb n level deep) ∙ and-false (leads text (q + n));
         white = λ w. refl;
       };
     }
-  where
-    and_none : (a : Bool) → (a && false) ≡ false
-    and_none true = refl
-    and_none false = refl
 
 -- ---- all parts
 

@@ -2,7 +2,7 @@
 use Rattle.std.proofs.Common.{◌≡◌, ◌≢◌, ℕ, suc, ◌+◌, ◌%◌, ◌<◌, ◌≤◌, Bool, true, false, not, ◌&&◌, ◌||◌, ◌==◌, nat_lt, List, [], ◌∷◌, ◌++◌, length, replicate, Some, None, refl, sym, ap, subst, ◌∙◌, inl, inr, ◌⊎◌, nat_le, arith, append_assoc, encode_utf8}
 use Rattle.std.proofs.lemmas.Bool.{cases_lt, true≢false, and_parts, eqb-true, or_parts, ne_eqb}
 use Rattle.std.proofs.lemmas.Bool.Decides.{nat_tests}
-use Rattle.std.proofs.Math.Bool.{or-true}
+use Rattle.std.proofs.Math.Bool.{or-true, and-false}
 use Rattle.yaml_scan_history.specs.scan_model.Marks.{byte, break_width, ends_break, is_blank, is_blank_or_end}
 use Rattle.yaml_scan_history.specs.scan_model.Classes.{is_bom}
 use Rattle.yaml_scan_history.specs.scan_words.Written.{are_gap, begins_lexeme}
@@ -43,8 +43,8 @@ no_stop flow level text r b which here stop next =
       some = ap (λ k. k == 0) next ∙ none which 0 (λ e. omega (arith, e)) (λ e. omega (arith, e));
       hash = ap (λ k. k == 35 && after_white text (r + 1)) next ∙ ap (λ t. t && after_white text (r + 1)) (none which 35 (λ e. omega (arith, e)) (λ e. omega (arith, e)));
       colon = ap (λ k. k == 58 && is_blank_or_end text (r + 1 + 1)) next ∙ ap (λ t. t && is_blank_or_end text (r + 1 + 1)) (none which 58 (λ e. omega (arith, e)) (λ e. omega (arith, e)));
-      bracket = ap (λ k. flow && is_bracket k) next ∙ ap (λ t. flow && t) (no_bracket which) ∙ and_none flow;
-      odd = ap (λ k. flow && k == 58) next ∙ ap (λ t. flow && t) (none which 58 (λ e. omega (arith, e)) (λ e. omega (arith, e))) ∙ and_none flow;
+      bracket = ap (λ k. flow && is_bracket k) next ∙ ap (λ t. flow && t) (no_bracket which) ∙ and-false flow;
+      odd = ap (λ k. flow && k == 58) next ∙ ap (λ t. flow && t) (none which 58 (λ e. omega (arith, e)) (λ e. omega (arith, e))) ∙ and-false flow;
     } in
     true≢false (sym stop.ends ∙ not_ended flow level text (r + 1) 0 st k)
   where
@@ -71,10 +71,6 @@ no_stop flow level text r b which here stop next =
     no_bracket : (b ≡ 45) ⊎ (b ≡ 46) → is_bracket b ≡ false
     no_bracket (inl e) = rw e bracket_45
     no_bracket (inr e) = rw e bracket_46
-
-    and_none : (a : Bool) → (a && false) ≡ false
-    and_none true = refl
-    and_none false = refl
 
 -- behind the scalar stands a gap, and then what ends it
 pub record Ended (flow : Bool) (level : ℕ) (text : List ℕ) (q : ℕ) (gap : List ℕ) : Type 0 where
@@ -290,11 +286,7 @@ kind_by : (flow : Bool) (text : List ℕ) (p : ℕ) → (byte text p == 0) ≡ f
     → indicator_of flow (is_blank_or_end text (p + 1)) (byte text p) ≡ None
     → starts_plain flow text p ≡ true → kind_at flow text p ≡ Some kinds.Plain
 unfolding kind_at is_document_start is_document_end
-kind_by flow text p z d a b n s = rw (z, d, a, b, and_none, n, s) refl
-  where
-    and_none : (t : Bool) → (t && false) ≡ false
-    and_none true = refl
-    and_none false = refl
+kind_by flow text p z d a b n s = rw (z, d, a, b, and-false, n, s) refl
 
 begun_by : (text : List ℕ) (p : ℕ) → (byte text p == 32) ≡ false → (byte text p == 9) ≡ false
     → (byte text p == 35) ≡ false → break_width text p ≡ 0 → is_bom text p ≡ false

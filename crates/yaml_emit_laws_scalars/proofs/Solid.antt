@@ -2,7 +2,7 @@
 use Rattle.std.proofs.Common.{◌≡◌, ◌≢◌, ℕ, ◌+◌, ◌/◌, ◌%◌, ◌<◌, ◌≤◌, Bool, true, false, not, ◌&&◌, ◌||◌, ◌==◌, nat_lt, List, [], ◌∷◌, ◌++◌, Option, Some, refl, sym, ap, subst, ◌∙◌, inl, inr, arith}
 use Rattle.std.proofs.lemmas.Bool.{cases_lt, true≢false, and_parts, not-true, ne_eqb}
 use Rattle.std.proofs.lemmas.Bool.Decides.{nat_tests}
-use Rattle.std.proofs.Math.Bool.{and-false}
+use Rattle.std.proofs.Math.Bool.{and-false, or-true}
 use lib.Utf8.{scalar, scalar_cases}
 use Rattle.yaml_scan_history.specs.scan_model.Marks.{break_of}
 use Rattle.yaml_scan_history.specs.scan_scalars.Plain.{is_bracket}
@@ -33,12 +33,8 @@ bracket_stops : (level : ℕ) (at : Option ℕ) (b : ℕ) (bs : List ℕ) → is
     → stops_plain_at true level at (b ∷ bs) ≡ true
 bracket_stops level at b bs h =
     let k = bracket b h in
-    let here : stops_here true level at b bs ≡ true = rw (k.tab, k.width (first bs) (first (behind bs)), h) (or_true (b == 58 && begins_white bs)) in
+    let here : stops_here true level at b bs ≡ true = rw (k.tab, k.width (first bs) (first (behind bs)), h) (or-true (b == 58 && begins_white bs)) in
     stop_other true level at b bs k.gap ∙ here
-  where
-    or_true : (a : Bool) → (a || true) ≡ true
-    or_true true = refl
-    or_true false = refl
 
 colon_width : (c d : ℕ) → break_of 58 c d ≡ 0
 unfolding break_of

@@ -2,6 +2,7 @@
 use Rattle.std.proofs.Common.{None, Some, Bool, List, Result, [], ap, append_assoc, arith, encode_utf8_all, false, length, refl, replicate, subst, suc, sym, true, zero, ℕ, ◌++◌, ◌+◌, ◌<◌, ◌||◌, ◌∙◌, ◌∷◌, ◌≡◌}
 use Rattle.std.proofs.lemmas.Str.{encode_ascii, encodes-chars}
 use Rattle.std.specs.Str.{chars}
+use Rattle.std.proofs.Math.Bool.{or-true}
 use Rattle.yaml_scan_history.specs.declared.kind.Kind.TheVariants as kinds
 use Rattle.yaml_scan_history.specs.Words.{indicator_of}
 use Rattle.yaml_emit_layout.specs.emit_text.declared.Page.{Page}
@@ -39,11 +40,7 @@ use Rattle.yaml_emit_laws_text.proofs.Single.{line_is, after_blanks, line_start}
 gap_by : (page : Page) (flow : Bool) (value cs : List ℕ) → encode_utf8_all cs ≡ value
     → 0 < length value → plain page flow cs ≡ (gap ▹ (flow_body page false 32 cs ▹ after_text))
 gap_by page flow value [] e some = let z : length value ≡ 0 = ap (λ (bs : List ℕ). length bs) (sym e) in absurd (omega (arith, some, z))
-gap_by page flow value (x ∷ xs) e some = ap (λ (b : Bool). when b gap ▹ (flow_body page false 32 (x ∷ xs) ▹ after_text)) (or_true flow)
-  where
-    or_true : (a : Bool) → (a || true) ≡ true
-    or_true true = refl
-    or_true false = refl
+gap_by page flow value (x ∷ xs) e some = ap (λ (b : Bool). when b gap ▹ (flow_body page false 32 (x ∷ xs) ▹ after_text)) (or-true flow)
 
 pub has_gap : PlainHasGap
 has_gap page flow value u some = gap_by page flow value (chars value) (encodes-chars value u) some

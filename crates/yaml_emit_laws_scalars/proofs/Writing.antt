@@ -428,11 +428,7 @@ pub record Deep (page : Page) (value : List ℕ) : Type 0 where
   pub lines : is_one_line value ≡ false → 0 < page.indentation
 
 deep_more : (page : Page) (x : ℕ) (xs : List ℕ) → Deep page (x ∷ xs) → Deep page xs
-deep_more page x xs d = record { cuts = d.cuts; lines = λ e. d.lines (ap (λ b. not (is_break x) && b) e ∙ and_none (not (is_break x))) }
-  where
-    and_none : (a : Bool) → (a && false) ≡ false
-    and_none true = refl
-    and_none false = refl
+deep_more page x xs d = record { cuts = d.cuts; lines = λ e. d.lines (ap (λ b. not (is_break x) && b) e ∙ and-false (not (is_break x))) }
 
 pub deep_all : (page : Page) (value : List ℕ) → 0 < page.indentation → Deep page value
 deep_all page value h = record { cuts = λ e. h; lines = λ e. h }

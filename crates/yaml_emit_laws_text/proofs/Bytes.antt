@@ -3,6 +3,7 @@ use Rattle.std.proofs.Common.{◌≡◌, ◌≢◌, ℕ, suc, ◌+◌, ◌*◌, 
 use Rattle.std.specs.Prelude.{option_and_then}
 use Rattle.std.proofs.lemmas.Bool.{cases_lt, cases_eq, ne_eqb}
 use Rattle.std.proofs.lemmas.Bool.Decides.{nat_tests}
+use Rattle.std.proofs.Math.Bool.{and-false}
 use Rattle.yaml_scan_scalars.specs.scan_model.Marks.{byte, break_of, ends_of, is_blank}
 use Rattle.yaml_scan_scalars.specs.Quoted.{hex_digit, hex_value, hex_len, simple_escape}
 use Rattle.yaml_emit_laws_text.specs.Spelling.{number_behind}
@@ -27,11 +28,7 @@ quote_some q (inl e) = rw e refl
 quote_some q (inr e) = rw e refl
 
 pub no_slash : (q b : ℕ) → b ≢ 92 → (q == 34 && b == 92) ≡ false
-no_slash q b n = ap (λ t. q == 34 && t) (ne_eqb b 92 n) ∙ and_false (q == 34)
-  where
-    and_false : (a : Bool) → (a && false) ≡ false
-    and_false true = refl
-    and_false false = refl
+no_slash q b n = ap (λ t. q == 34 && t) (ne_eqb b 92 n) ∙ and-false (q == 34)
 
 -- ---- calm bytes
 

@@ -61,7 +61,8 @@ pub directive_word : (text : List ℕ) (p : ℕ)
 unfolding word_at
 directive_word text p = refl
 
-said_directive : (r : Result DirectiveText Wrong) (d : DirectiveText) → r ≡ Ok d
+-- What is read of a directive is its word.
+pub said_directive : (r : Result DirectiveText Wrong) (d : DirectiveText) → r ≡ Ok d
     → directed r ≡ Ok (record {
       body = body_said d.said;
       end = d.end;
@@ -75,11 +76,11 @@ not_feed : (x : ℕ) → x ≡ 37 → x ≡ 10 → ⊥
 not_feed x e f = omega (arith, e, f)
 
 -- From a line's start the layout writes `%`, these bytes and the line's end.
-record WritesLine (a : Layout) (b : LineBreak) (xs : List ℕ) (kept : Bool) : Type 0 where
-  behind : Cursor
-  same : (rest : Rest) → bytes (a (at_line kept) rest) ≡ 37 ∷ (xs ++ bytes (line b 0 behind rest))
-  bare : behind.bare ≡ false
-  still : behind.kept ≡ kept
+pub record WritesLine (a : Layout) (b : LineBreak) (xs : List ℕ) (kept : Bool) : Type 0 where
+  pub behind : Cursor
+  pub same : (rest : Rest) → bytes (a (at_line kept) rest) ≡ 37 ∷ (xs ++ bytes (line b 0 behind rest))
+  pub bare : behind.bare ≡ false
+  pub still : behind.kept ≡ kept
 
 -- Such bytes are read as what is said, with the break behind them.
 abbrev pub ReadsLine : List ℕ → Said → Type 0
@@ -118,7 +119,8 @@ line_lands law a b xs said written reads rest calm kept text p ws s l =
 abbrev pub version_line : LineBreak → List ℕ → Layout
 version_line b t = word (codes "%YAML") ▹ (word t ▹ line b 0)
 
-version_writes : (b : LineBreak) (x : ℕ) → nat_lt x 128 ≡ true → (kept : Bool)
+-- The line of a version, from its start.
+pub version_writes : (b : LineBreak) (x : ℕ) → nat_lt x 128 ≡ true → (kept : Bool)
     → WritesLine (version_line b (49 ∷ 46 ∷ x ∷ [])) b (89 ∷ 65 ∷ 77 ∷ 76 ∷ 32 ∷ 49 ∷ 46 ∷ x ∷ [])
     kept
 unfolding letters encode char_bytes
@@ -162,7 +164,8 @@ version_lands law versions s (Some v) right rest calm =
 
 -- ---- tags
 
-tag_front : (kept : Bool) (rest : Rest)
+-- A line of `%TAG` begins with that.
+pub tag_front : (kept : Bool) (rest : Rest)
     → bytes (letters (codes "%TAG") (at_line kept) rest) ≡ 37 ∷ 84 ∷ 65 ∷ 71
     ∷ bytes (rest (record { column = 4; white = false; bare = false; kept = kept }))
 unfolding letters encode char_bytes
@@ -214,7 +217,8 @@ handles xs h c white = subst (λ (ys : List ℕ). Handles ys c) (sym h.begins) (
 abbrev pub tag_line : LineBreak → List ℕ → List ℕ → Layout
 tag_line b handle uri = word (codes "%TAG") ▹ (word handle ▹ (word uri ▹ line b 0))
 
-tag_writes : (b : LineBreak) (handle uri : List ℕ) → IsMarked handle → are_ascii uri ≡ true
+-- The line of a tag directive, from its start.
+pub tag_writes : (b : LineBreak) (handle uri : List ℕ) → IsMarked handle → are_ascii uri ≡ true
     → (kept : Bool)
     → WritesLine (tag_line b handle uri) b (84 ∷ 65 ∷ 71 ∷ 32 ∷ (handle ++ (32 ∷ uri))) kept
 tag_writes b handle uri marked low kept =

@@ -3,6 +3,7 @@ use Rattle.std.proofs.Common.{◌≡◌, ◌≢◌, ℕ, zero, suc, ◌+◌, ◌
 use Rattle.std.specs.Prelude.{if◌then◌else◌}
 use Rattle.std.proofs.lemmas.Bool.{cases_Bool}
 use Rattle.std.proofs.lemmas.Bool.Decides.{nat_tests}
+use Rattle.std.proofs.Math.Bool.{and-false}
 use Rattle.yaml_emit_laws_text.specs.scan_history.scan_model.Marks.{byte, break_of, ends_of, ends_break, column_at}
 use Rattle.yaml_emit_laws_text.specs.scan_history.scan_words.Between.{Gap}
 use Rattle.yaml_emit_laws_text.specs.scan_history.scan_words.Indicators.{is_document_start, is_document_end}
@@ -23,10 +24,6 @@ use Rattle.yaml_emit_laws_text.specs.emit_layout.emit_text.Layout.{Layout, Rest,
 use Rattle.yaml_emit_laws_text.specs.emit_layout.Nodes.{checked, deep_if, MOST}
 use Rattle.yaml_emit_laws_text.specs.Walk.{Left, Starts, WordStage, bytes, GoesBehindWords, Walks}
 use Rattle.yaml_emit_laws_text.proofs.Places.{has_both, has_at, left_first, left_more}
-
-and_false : (a : Bool) → (a && false) ≡ false
-and_false true = refl
-and_false false = refl
 
 -- ---- a byte of a gap
 
@@ -297,16 +294,16 @@ pub record Sign (b : ℕ) : Type 0 where
 
 -- A lexeme begins at a sign.
 pub sign_begins : (text : List ℕ) (p b : ℕ) → Sign b → byte text p ≡ b → begins_lexeme text p ≡ true
-sign_begins text p b s h = rw (h, s.tab, s.space, s.hash, s.order, s.calm, and_false) refl
+sign_begins text p b s h = rw (h, s.tab, s.space, s.hash, s.order, s.calm, and-false) refl
 
 -- A lexeme begins at a byte that is neither white, nor `#`, nor a mark of byte order, nor a break.
 pub sign_starts : (text : List ℕ) (p x : ℕ) → byte text p ≡ x → (x == 32) ≡ false → (x == 9) ≡ false
     → (x == 35) ≡ false → (x == 0xEF) ≡ false → ((c d : ℕ) → break_of x c d ≡ 0)
     → begins_lexeme text p ≡ true
-sign_starts text p x h a b c d e = rw (h, a, b, c, d, e, and_false) refl
+sign_starts text p x h a b c d e = rw (h, a, b, c, d, e, and-false) refl
 
 -- A sign's kind is its indicator's.
 pub sign_kind : (flow : Bool) (text : List ℕ) (p b : ℕ) (k : Kind) → Sign b → byte text p ≡ b
     → ((alone : Bool) → indicator_of flow alone b ≡ Some k) → kind_at flow text p ≡ Some k
 unfolding kind_at is_document_start is_document_end
-sign_kind flow text p b k s h is = rw (h, s.some, s.percent, s.dash, s.dot, and_false, is) refl
+sign_kind flow text p b k s h is = rw (h, s.some, s.percent, s.dash, s.dot, and-false, is) refl

@@ -33,6 +33,7 @@ pub record Letters (xs : List ℕ) (c : Cursor) : Type 0 where
   pub column : (c.column ≡ 0 → ⊥) → behind.column ≡ 0 → ⊥
   pub kept : behind.kept ≡ c.kept
 
+-- Letters in ASCII are written as they are.
 pub letters_are : (xs : List ℕ) → are_ascii xs ≡ true → (c : Cursor) → Letters xs c
 unfolding letters
 letters_are [] are c = record { behind = c; same = λ rest. refl; white = λ e. e; bare = λ e. e; column = λ h z. h z; kept = refl }
@@ -60,7 +61,8 @@ tag_word : (flow : Bool) (text : List ℕ) (p : ℕ)
 unfolding word_at
 tag_word flow text p = refl
 
-said_tag : (r : Result TagText Wrong) (t : TagText) → r ≡ Ok t
+-- What is read of a tag is its word.
+pub said_tag : (r : Result TagText Wrong) (t : TagText) → r ≡ Ok t
     → tagged r ≡ Ok (record {
       body = tokens.tag t.handle t.suffix;
       end = t.end;

@@ -1,7 +1,8 @@
 -- The machine gives the items of a tree, and goes on behind it.
-use Rattle.std.proofs.Common.{◌≡◌, ℕ, Bool, true, false, if◌then◌else◌, List, [], ◌∷◌, ◌++◌, length, Option, Some, None, refl, ap, subst, ◌∙◌}
+use Rattle.std.proofs.Common.{◌≡◌, ℕ, Bool, true, false, if◌then◌else◌, List, [], ◌∷◌, ◌++◌, length, Option, Some, None, refl, sym, ap, subst, ◌∙◌, ◌||◌, inl, inr}
 use Rattle.std.proofs.lemmas.List.{append_assoc}
 use Rattle.std.proofs.Math.Bool.{or-true}
+use Rattle.std.proofs.lemmas.Bool.{cases_Bool, false≢true}
 use Rattle.yaml_parse_model.specs.declared.yaml_mark_t.{yaml_mark_t}
 use Rattle.yaml_parse_model.specs.declared.yaml_token_type_t.{yaml_token_type_t}
 use Rattle.yaml_parse_model.specs.declared.yaml_token_type_t.TheVariants as kind
@@ -28,7 +29,7 @@ use Rattle.yaml_parse_grammar.specs.States as state
 use Rattle.yaml_parse_grammar.specs.Trees.{Span, Node, Content, Maybe, Colon, Items, More, Entries, Others, Pairs, PropertyTokens, Given, token_at, spell_properties, properties_of, closing, spell_node, spell_content, spell_maybe, spell_colon, spell_items, spell_more, spell_entries, spell_others, spell_pairs, next, flow_shape}
 use Rattle.yaml_parse_grammar.specs.TreeSteps.{items_node, items_content, items_maybe, items_colon, items_items, items_more, items_entries, items_others, items_pairs, items, behind, lone, pair_start, pair_end}
 use Rattle.yaml_parse_grammar.specs.Trees as tree
-use Rattle.yaml_parse_grammar.specs.Machine.{starts_node, wants_of, closes, parts_documents, follows, no_node, choice_at, node_taken, content_taken, items_taken, above, lone_below, taken_at, left_at, Fed, stop, go, with_item, given_by, turn, feed, Outcome, finished, carry, run}
+use Rattle.yaml_parse_grammar.specs.Machine.{starts_content, starts_node, joins, wants_of, closes, parts_documents, follows, no_node, choice_at, node_taken, content_taken, items_taken, above, lone_below, taken_at, left_at, Fed, stop, go, with_item, given_by, turn, feed, Outcome, finished, carry, run}
 
 -- what a list of items does in front of an outcome
 abbrev pub giving : (List Given → List Given) → Outcome → Outcome
@@ -95,15 +96,12 @@ follows_ends_at Root kind.YAML_STREAM_END_TOKEN h = refl
 follows_ends_at Root kind.YAML_VERSION_DIRECTIVE_TOKEN h = refl
 follows_ends_at Root kind.YAML_TAG_DIRECTIVE_TOKEN h = refl
 follows_ends_at Root kind.YAML_DOCUMENT_START_TOKEN h = refl
-follows_ends_at Root _ h = cc
 follows_ends_at Entry kind.YAML_BLOCK_ENTRY_TOKEN h = refl
 follows_ends_at Entry kind.YAML_BLOCK_END_TOKEN h = refl
-follows_ends_at Entry _ h = cc
 follows_ends_at (IndentlessEntry side) kind.YAML_BLOCK_ENTRY_TOKEN h = refl
 follows_ends_at (IndentlessEntry side) kind.YAML_KEY_TOKEN h = refl
 follows_ends_at (IndentlessEntry side) kind.YAML_BLOCK_END_TOKEN h = refl
 follows_ends_at (IndentlessEntry side) kind.YAML_VALUE_TOKEN h = refl
-follows_ends_at (IndentlessEntry side) _ h = cc
 follows_ends_at (BlockPair side) k h = h
 follows_ends_at (FlowPair b side) kind.YAML_FLOW_ENTRY_TOKEN h = refl
 follows_ends_at (FlowPair b side) kind.YAML_VALUE_TOKEN h = refl
@@ -111,7 +109,9 @@ follows_ends_at (FlowPair b side) kind.YAML_FLOW_SEQUENCE_END_TOKEN h = refl
 follows_ends_at (FlowPair b side) kind.YAML_FLOW_MAPPING_END_TOKEN h = refl
 follows_ends_at (FlowPair brackets.Sequence side) _ h = cc
 follows_ends_at (FlowPair brackets.Mapping side) _ h = cc
+follows_ends_at _ _ h = cc
 
+-- What may follow a node that is left out ends a node.
 pub follows_ends : (place : Site) (ts : List Token) → Follows place ts → Ends (wants_of place) ts
 follows_ends place [] h = h
 follows_ends place (t ∷ ts) h = follows_ends_at place (type_of t.body) h
@@ -124,27 +124,38 @@ follows_leaves place before (t ∷ ts) h =
 
 -- ---- properties
 
+-- What ends a node begins none.
+pub ends_apart : (w : Wants) (k : yaml_token_type_t) → ends w k ≡ true → starts_node w k ≡ false
+ends_apart Flow kind.YAML_FLOW_ENTRY_TOKEN h = refl
+ends_apart Flow kind.YAML_VALUE_TOKEN h = refl
+ends_apart Flow kind.YAML_FLOW_SEQUENCE_END_TOKEN h = refl
+ends_apart Flow kind.YAML_FLOW_MAPPING_END_TOKEN h = refl
+ends_apart Flow _ h = absurd (false≢true h)
+ends_apart (Block (Some side)) kind.YAML_KEY_TOKEN h = refl
+ends_apart (Block (Some side)) kind.YAML_BLOCK_END_TOKEN h = refl
+ends_apart (Block (Some side)) kind.YAML_VALUE_TOKEN h = refl
+ends_apart (Block (Some side)) _ h = absurd (false≢true h)
+ends_apart (Block None) kind.YAML_BLOCK_ENTRY_TOKEN h = refl
+ends_apart (Block None) kind.YAML_BLOCK_END_TOKEN h = refl
+ends_apart (Block None) kind.YAML_KEY_TOKEN h = refl
+ends_apart (Block None) kind.YAML_VALUE_TOKEN h = refl
+ends_apart (Block None) kind.YAML_DOCUMENT_END_TOKEN h = refl
+ends_apart (Block None) kind.YAML_STREAM_END_TOKEN h = refl
+ends_apart (Block None) kind.YAML_VERSION_DIRECTIVE_TOKEN h = refl
+ends_apart (Block None) kind.YAML_TAG_DIRECTIVE_TOKEN h = refl
+ends_apart (Block None) kind.YAML_DOCUMENT_START_TOKEN h = refl
+ends_apart (Block None) _ h = absurd (false≢true h)
+
+none_joins : (w : Wants) (p : Properties) (k : yaml_token_type_t) → starts_node w k ≡ false
+    → (joins p k || starts_content w k) ≡ false
+none_joins w p kind.YAML_ALIAS_TOKEN h = refl
+none_joins w p kind.YAML_ANCHOR_TOKEN h = absurd (false≢true (sym h))
+none_joins w p kind.YAML_TAG_TOKEN h = absurd (false≢true (sym h))
+none_joins w p _ h = h
+
 with_properties_leaves_at : (w : Wants) (p : Properties) (k : yaml_token_type_t) → ends w k ≡ true
     → choice_at (state.with_properties w p) k ≡ Leave
-with_properties_leaves_at Flow p kind.YAML_FLOW_ENTRY_TOKEN h = refl
-with_properties_leaves_at Flow p kind.YAML_VALUE_TOKEN h = refl
-with_properties_leaves_at Flow p kind.YAML_FLOW_SEQUENCE_END_TOKEN h = refl
-with_properties_leaves_at Flow p kind.YAML_FLOW_MAPPING_END_TOKEN h = refl
-with_properties_leaves_at Flow p _ h = cc
-with_properties_leaves_at (Block (Some side)) p kind.YAML_KEY_TOKEN h = refl
-with_properties_leaves_at (Block (Some side)) p kind.YAML_BLOCK_END_TOKEN h = refl
-with_properties_leaves_at (Block (Some side)) p kind.YAML_VALUE_TOKEN h = refl
-with_properties_leaves_at (Block (Some side)) p _ h = cc
-with_properties_leaves_at (Block None) p kind.YAML_BLOCK_ENTRY_TOKEN h = refl
-with_properties_leaves_at (Block None) p kind.YAML_BLOCK_END_TOKEN h = refl
-with_properties_leaves_at (Block None) p kind.YAML_KEY_TOKEN h = refl
-with_properties_leaves_at (Block None) p kind.YAML_VALUE_TOKEN h = refl
-with_properties_leaves_at (Block None) p kind.YAML_DOCUMENT_END_TOKEN h = refl
-with_properties_leaves_at (Block None) p kind.YAML_STREAM_END_TOKEN h = refl
-with_properties_leaves_at (Block None) p kind.YAML_VERSION_DIRECTIVE_TOKEN h = refl
-with_properties_leaves_at (Block None) p kind.YAML_TAG_DIRECTIVE_TOKEN h = refl
-with_properties_leaves_at (Block None) p kind.YAML_DOCUMENT_START_TOKEN h = refl
-with_properties_leaves_at (Block None) p _ h = cc
+with_properties_leaves_at w p k h = ap (λ (b : Bool). if b then Take else Leave) (none_joins w p k (ends_apart w k h))
 
 with_properties_leaves : (w : Wants) (p : Properties) (ts : List Token) → Ends w ts
     → Leaves (state.with_properties w p) ts
@@ -167,9 +178,7 @@ properties_run : (d : PropertyTokens) (w : Wants) (ts : List Token) (s : List St
     ≡ run ts (state.with_properties w (properties_of d) ∷ s) f
 unfolding run feed
 properties_run (tree.anchor a) w ts s f = refl
-properties_run (tree.anchor_tag a t) w ts s f = refl
-properties_run (tree.tag t) w ts s f = refl
-properties_run (tree.tag_anchor t a) w ts s f = refl
+properties_run _ w ts s f = refl
 
 with_properties_content : {w : Wants} (c : Content w) (p : Properties) (rest : List Token)
     (s : List State) (f : Option Fault)
@@ -179,18 +188,14 @@ unfolding run feed
 with_properties_content (tree.scalar n v style) p rest s f = refl
 with_properties_content (tree.flow brackets.Sequence n items) p rest s f = refl
 with_properties_content (tree.flow brackets.Mapping n items) p rest s f = refl
-with_properties_content (tree.block_sequence n entries) p rest s f = refl
-with_properties_content (tree.block_mapping n pairs) p rest s f = refl
-with_properties_content (tree.indentless n m o) p rest s f = refl
+with_properties_content _ p rest s f = refl
 
 bare_content : {w : Wants} (c : Content w) (rest : List Token) (s : List State) (f : Option Fault)
     → run_node w (spell_content c rest) s f ≡ run_content w None (spell_content c rest) s f
 bare_content (tree.scalar n v style) rest s f = refl
 bare_content (tree.flow brackets.Sequence n items) rest s f = refl
 bare_content (tree.flow brackets.Mapping n items) rest s f = refl
-bare_content (tree.block_sequence n entries) rest s f = refl
-bare_content (tree.block_mapping n pairs) rest s f = refl
-bare_content (tree.indentless n m o) rest s f = refl
+bare_content _ rest s f = refl
 
 -- ---- a node's first token
 
@@ -202,16 +207,12 @@ content_starts : {w : Wants} (c : Content w) (rest : List Token) → Starts w (s
 content_starts (tree.scalar n v style) rest = refl
 content_starts (tree.flow brackets.Sequence n items) rest = refl
 content_starts (tree.flow brackets.Mapping n items) rest = refl
-content_starts (tree.block_sequence n entries) rest = refl
-content_starts (tree.block_mapping n pairs) rest = refl
-content_starts (tree.indentless n m o) rest = refl
+content_starts _ rest = refl
 
 properties_start : (w : Wants) (d : PropertyTokens) (ts : List Token)
     → Starts w (spell_properties d ts)
 properties_start w (tree.anchor a) ts = refl
-properties_start w (tree.anchor_tag a t) ts = refl
-properties_start w (tree.tag t) ts = refl
-properties_start w (tree.tag_anchor t a) ts = refl
+properties_start w _ ts = refl
 
 -- A node's tokens begin as nodes that are wanted there do.
 pub node_starts : {w : Wants} (n : Node w) (rest : List Token) → Starts w (spell_node n rest)
@@ -221,32 +222,13 @@ node_starts {w = w} (tree.with_properties d c) rest = properties_start w d (spel
 node_starts (tree.bare c) rest = content_starts c rest
 
 -- no token that begins a node follows one that is left out
-not_following : (place : Site) (k : yaml_token_type_t) → starts_node (wants_of place) k ≡ true
+pub not_following : (place : Site) (k : yaml_token_type_t) → starts_node (wants_of place) k ≡ true
     → follows place k ≡ false
-not_following Root kind.YAML_DOCUMENT_END_TOKEN h = cc
-not_following Root kind.YAML_STREAM_END_TOKEN h = cc
-not_following Root kind.YAML_VERSION_DIRECTIVE_TOKEN h = cc
-not_following Root kind.YAML_TAG_DIRECTIVE_TOKEN h = cc
-not_following Root kind.YAML_DOCUMENT_START_TOKEN h = cc
-not_following Root _ h = refl
-not_following Entry kind.YAML_BLOCK_ENTRY_TOKEN h = cc
-not_following Entry kind.YAML_BLOCK_END_TOKEN h = cc
-not_following Entry _ h = refl
-not_following (IndentlessEntry side) kind.YAML_BLOCK_ENTRY_TOKEN h = cc
-not_following (IndentlessEntry side) kind.YAML_KEY_TOKEN h = cc
-not_following (IndentlessEntry side) kind.YAML_BLOCK_END_TOKEN h = cc
-not_following (IndentlessEntry side) kind.YAML_VALUE_TOKEN h = cc
-not_following (IndentlessEntry side) _ h = refl
-not_following (BlockPair side) kind.YAML_KEY_TOKEN h = cc
-not_following (BlockPair side) kind.YAML_BLOCK_END_TOKEN h = cc
-not_following (BlockPair side) kind.YAML_VALUE_TOKEN h = cc
-not_following (BlockPair side) _ h = refl
-not_following (FlowPair b side) kind.YAML_FLOW_ENTRY_TOKEN h = cc
-not_following (FlowPair b side) kind.YAML_VALUE_TOKEN h = cc
-not_following (FlowPair b side) kind.YAML_FLOW_SEQUENCE_END_TOKEN h = cc
-not_following (FlowPair b side) kind.YAML_FLOW_MAPPING_END_TOKEN h = cc
-not_following (FlowPair brackets.Sequence side) _ h = refl
-not_following (FlowPair brackets.Mapping side) _ h = refl
+not_following place k h =
+    elim (cases_Bool (follows place k)) [
+      | inl f ↦ absurd (false≢true (sym (ends_apart (wants_of place) k (follows_ends_at place k f)) ∙ h))
+      | inr n ↦ n
+    ]
 
 pub optional_takes : (place : Site) (before : yaml_mark_t) (k : yaml_token_type_t)
     → starts_node (wants_of place) k ≡ true → choice_at (state.optional place before) k ≡ Take
@@ -383,7 +365,8 @@ flow_pair_opens brackets.Mapping p o ts s f = step_take (state.items brackets.Ma
 
 -- ---- what stands behind a node
 
-more_ends : (b : Brackets) (m : More) (rest : List Token) → Ends Flow (spell_more b m rest)
+-- More in brackets ends a node.
+pub more_ends : (b : Brackets) (m : More) (rest : List Token) → Ends Flow (spell_more b m rest)
 more_ends brackets.Sequence (tree.end_more p) rest = refl
 more_ends brackets.Mapping (tree.end_more p) rest = refl
 more_ends b (tree.comma p i) rest = refl
@@ -394,7 +377,8 @@ more_follows brackets.Sequence side (tree.end_more p) rest = refl
 more_follows brackets.Mapping side (tree.end_more p) rest = refl
 more_follows b side (tree.comma p i) rest = refl
 
-colon_follows : (b : Brackets) (v : Colon Flow) (m : More) (rest : List Token)
+-- So may a value or more in brackets.
+pub colon_follows : (b : Brackets) (v : Colon Flow) (m : More) (rest : List Token)
     → Follows (FlowPair b Key) (spell_colon v (spell_more b m rest))
 colon_follows b tree.no_colon m rest = more_follows b Key m rest
 colon_follows b (tree.colon p v) m rest = refl
@@ -415,11 +399,13 @@ lone_leaves : (b : Brackets) (m : More) (rest : List Token)
 lone_leaves b (tree.end_more p) rest = refl
 lone_leaves b (tree.comma p i) rest = refl
 
-entries_follow : (e : Entries) (rest : List Token) → Follows Entry (spell_entries e rest)
+-- Entries may follow one that is left out.
+pub entries_follow : (e : Entries) (rest : List Token) → Follows Entry (spell_entries e rest)
 entries_follow (tree.end_entries p) rest = refl
 entries_follow (tree.entry p n e) rest = refl
 
-pairs_follow : (side : Side) (m : Pairs) (rest : List Token)
+-- Pairs may follow a key or value that is left out.
+pub pairs_follow : (side : Side) (m : Pairs) (rest : List Token)
     → Follows (BlockPair side) (spell_pairs m rest)
 pairs_follow side (tree.end_pairs p) rest = refl
 pairs_follow side (tree.block_pair p key v m) rest = refl
@@ -429,7 +415,8 @@ pairs_leave : (m : Pairs) (rest : List Token)
 pairs_leave (tree.end_pairs p) rest = refl
 pairs_leave (tree.block_pair p key v m) rest = refl
 
-block_colon_follows : (v : Colon (Block (Some Value))) (m : Pairs) (rest : List Token)
+-- A value or the pairs behind it may follow a key that is left out.
+pub block_colon_follows : (v : Colon (Block (Some Value))) (m : Pairs) (rest : List Token)
     → Follows (BlockPair Key) (spell_colon v (spell_pairs m rest))
 block_colon_follows tree.no_colon m rest = pairs_follow Key m rest
 block_colon_follows (tree.colon p v) m rest = refl
@@ -447,7 +434,8 @@ others_follow_none : (side : Side) (ts : List Token) → Ends (Block (Some side)
 others_follow_none side [] h = h
 others_follow_none side (t ∷ ts) h = others_follow_at side (type_of t.body) h
 
-others_follow : (side : Side) (o : Others) (rest : List Token) → Ends (Block (Some side)) rest
+-- Other entries may follow one that is left out.
+pub others_follow : (side : Side) (o : Others) (rest : List Token) → Ends (Block (Some side)) rest
     → Follows (IndentlessEntry side) (spell_others o rest)
 others_follow side tree.no_others rest h = others_follow_none side rest h
 others_follow side (tree.other p n o) rest h = refl

@@ -19,16 +19,18 @@ use Rattle.yaml_parse_grammar.specs.States as state
 use Rattle.yaml_parse_grammar.specs.Trees.{Span, Documents, First, Stream, Directive, Given, token_at, spell_node, spell_maybe, spell_directives, spell_ends, spell_documents, spell_first, spell, next, start_of, event_at}
 use Rattle.yaml_parse_grammar.specs.TreeSteps.{items_node, items_maybe, items_directives, items_ends, items_documents, items_first, items, behind}
 use Rattle.yaml_parse_grammar.specs.Trees as tree
-use Rattle.yaml_parse_grammar.specs.Machine.{starts_node, parts_documents, choice_at, taken_at, given_by, turn, feed, finished, carry, run, initial, opened}
-use Rattle.yaml_parse_grammar.proofs.Complete.{giving, Leaves, leaves, Follows, follows_ends, Starts, node_starts, run_node, carry_with_item, step_take, maybe_runs, node_runs}
+use Rattle.yaml_parse_grammar.specs.Machine.{starts_node, parts_documents, follows, choice_at, taken_at, given_by, turn, feed, finished, carry, run, initial, opened}
+use Rattle.yaml_parse_grammar.proofs.Complete.{giving, Leaves, leaves, Follows, follows_ends, Starts, node_starts, run_node, carry_with_item, not_following, step_take, maybe_runs, node_runs}
 
-documents_follow : (d : Documents) (rest : List Token) → Follows Root (spell_documents d rest)
+-- Documents may follow a root that is left out.
+pub documents_follow : (d : Documents) (rest : List Token) → Follows Root (spell_documents d rest)
 documents_follow (tree.end_stream p) rest = refl
 documents_follow (tree.document [] p n e d) rest = refl
 documents_follow (tree.document (tree.version q major minor ∷ ds) p n e d) rest = refl
 documents_follow (tree.document (tree.handle q name prefix ∷ ds) p n e d) rest = refl
 
-root_follows : (e : List Span) (d : Documents) (rest : List Token)
+-- So may the ends of a document.
+pub root_follows : (e : List Span) (d : Documents) (rest : List Token)
     → Follows Root (spell_ends e (spell_documents d rest))
 root_follows [] d rest = documents_follow d rest
 root_follows (p ∷ e) d rest = refl
@@ -125,13 +127,13 @@ first_opens_at k h =
     ap (λ (b : Bool). if b then Take else if starts_node (Block None) k then Open else Refuse problem.NoBlockNode None) (not_parting k h)
     ∙ ap (λ (b : Bool). if b then Open else Refuse problem.NoBlockNode None) h
   where
+    unparted : (k : yaml_token_type_t) → follows Root k ≡ false → parts_documents k ≡ false
+    unparted kind.YAML_DOCUMENT_END_TOKEN h = refl
+    unparted _ h = h
+
     not_parting : (k : yaml_token_type_t) → starts_node (Block None) k ≡ true
         → parts_documents k ≡ false
-    not_parting kind.YAML_STREAM_END_TOKEN h = cc
-    not_parting kind.YAML_VERSION_DIRECTIVE_TOKEN h = cc
-    not_parting kind.YAML_TAG_DIRECTIVE_TOKEN h = cc
-    not_parting kind.YAML_DOCUMENT_START_TOKEN h = cc
-    not_parting _ h = refl
+    not_parting k h = unparted k (not_following Root k h)
 
 abbrev implicit : List Token → List Given → List Given
 implicit ts more = (item_at (item.document true) (next ts) (next ts), behind ts) ∷ more

@@ -1,3 +1,5 @@
+pub mod Rules
+pub mod Throughout
 pub mod Complete
 pub mod CompleteStream
 pub mod Voice

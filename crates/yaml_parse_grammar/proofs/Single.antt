@@ -1,55 +1,36 @@
 -- One step of the machine, at a token.
-use Rattle.std.proofs.Common.{◌≡◌, ℕ, Bool, true, false, if◌then◌else◌, ◌||◌, List, [], ◌∷◌, ◌++◌, length, Option, Some, None, refl, ap, sym, ◌∙◌}
+use Rattle.std.proofs.Common.{◌≡◌, ℕ, true, List, [], ◌∷◌, ◌++◌, length, Option, Some, None, refl, ap, sym, subst, ◌∙◌}
 use Rattle.yaml_parse_model.specs.declared.yaml_mark_t.{yaml_mark_t}
 use Rattle.yaml_parse_model.specs.declared.yaml_token_type_t.{yaml_token_type_t}
 use Rattle.yaml_parse_model.specs.declared.yaml_token_type_t.TheVariants as kind
 use Rattle.yaml_parse_model.specs.Tokens.{Token, type_of, no_token}
 use Rattle.yaml_parse_model.specs.Faults.{Fault}
 use Rattle.yaml_parse_model.specs.Source.{front_of, rest_of, MayAnswer}
-use Rattle.yaml_parse_grammar.specs.declared.name.Wants.TheVariants.{Flow, Block}
-use Rattle.yaml_parse_grammar.specs.declared.name.Brackets.TheVariants as brackets
-use Rattle.yaml_parse_grammar.specs.declared.name.Site.TheVariants.{Root, Entry, IndentlessEntry, BlockPair, FlowPair}
+use Rattle.yaml_parse_grammar.specs.declared.name.Wants.TheVariants.{Block}
+use Rattle.yaml_parse_grammar.specs.declared.name.Site.TheVariants.{Root}
 use Rattle.yaml_parse_grammar.specs.declared.name.Choice.{Choice}
 use Rattle.yaml_parse_grammar.specs.declared.name.Choice.TheVariants.{Refuse, Take, Leave, Open}
 use Rattle.yaml_parse_grammar.specs.declared.problem.ParseProblem.{ParseProblem}
-use Rattle.yaml_parse_grammar.specs.declared.problem.ParseProblem.TheVariants as problem
 use Rattle.yaml_parse_grammar.specs.Problems.{parser_fault}
 use Rattle.yaml_parse_grammar.specs.Items.{RawEvent, item_at}
 use Rattle.yaml_parse_grammar.specs.Items as item
 use Rattle.yaml_parse_grammar.specs.States.{State, Taken}
 use Rattle.yaml_parse_grammar.specs.States as state
 use Rattle.yaml_parse_grammar.specs.Trees.{Given}
-use Rattle.yaml_parse_grammar.specs.Machine.{starts_node, starts_content, parts_documents, follows, wants_of, no_node, no_end, joins, closes, choice_at, taken_at, left_at, context_of, opened, Fed, stop, go, with_item, given_by, turn, feed, finished, carry, ending_at, run, left_where_stopped, unasked_at_stop}
+use Rattle.yaml_parse_grammar.specs.Machine.{starts_node, choice_at, taken_at, left_at, context_of, opened, Fed, stop, go, with_item, given_by, turn, feed, finished, carry, ending_at, run, left_where_stopped, unasked_at_stop}
 use Rattle.yaml_parse_grammar.proofs.Complete.{giving, carry_with_item, step_take, optional_takes}
+use Rattle.yaml_parse_grammar.proofs.Rules.{MayOpen, open_rule, opens_first, none_opens}
 use Rattle.yaml_parse_grammar.proofs.Voice.{takes_a_token}
 
 -- ---- the end of a list
 
-abbrev Emptied : Fed → Type 0
+abbrev pub Emptied : Fed → Type 0
 Emptied (stop is f) = Unit {0}
 Emptied (go is s) = s ≡ []
 
 emptied_with : (i : RawEvent) (below : Fed) → Emptied below → Emptied (with_item i below)
 emptied_with i (stop is f) h = tt
 emptied_with i (go is s) h = h
-
--- no document begins at the empty token
-opens_at_a_token : (x : State) → choice_at x kind.YAML_NO_TOKEN ≡ Open → ⊥
-opens_at_a_token state.stream h = cc
-opens_at_a_token (state.optional Root before) h = cc
-opens_at_a_token (state.optional Entry before) h = cc
-opens_at_a_token (state.optional (IndentlessEntry side) before) h = cc
-opens_at_a_token (state.optional (BlockPair side) before) h = cc
-opens_at_a_token (state.optional (FlowPair brackets.Sequence side) before) h = cc
-opens_at_a_token (state.optional (FlowPair brackets.Mapping side) before) h = cc
-opens_at_a_token (state.with_properties Flow p) h = cc
-opens_at_a_token (state.with_properties (Block None) p) h = cc
-opens_at_a_token (state.with_properties (Block (Some s)) p) h = cc
-opens_at_a_token (state.items brackets.Sequence o) h = cc
-opens_at_a_token (state.items brackets.Mapping o) h = cc
-opens_at_a_token (state.more brackets.Sequence o) h = cc
-opens_at_a_token (state.more brackets.Mapping o) h = cc
-opens_at_a_token _ h = cc
 
 turn_empties : (c : Choice) (x : State) (t : Token) (s : List State) (below : Fed) → (c ≡ Take → ⊥)
     → (c ≡ Open → ⊥) → Emptied below → Emptied (turn c x t s below)
@@ -58,10 +39,11 @@ turn_empties Take x t s below a b h = absurd (a refl)
 turn_empties Leave x t s below a b h = emptied_with (left_at x t.start_mark) below h
 turn_empties Open x t s below a b h = absurd (b refl)
 
-emptied : (s : List State) → Emptied (feed s no_token)
+-- At the empty token nothing stays open.
+pub emptied : (s : List State) → Emptied (feed s no_token)
 unfolding feed
 emptied [] = refl
-emptied (x ∷ s) = turn_empties (choice_at x kind.YAML_NO_TOKEN) x no_token s (feed s no_token) (takes_a_token x) (opens_at_a_token x) (emptied s)
+emptied (x ∷ s) = turn_empties (choice_at x kind.YAML_NO_TOKEN) x no_token s (feed s no_token) (takes_a_token x) (none_opens x) (emptied s)
 
 carry_emptied : (fed : Fed) → Emptied fed
     → carry 0 fed (λ _. finished) ≡ carry 0 fed (λ s. run [] s None)
@@ -109,58 +91,10 @@ pub takes_silently : (x : State) (above : List State) (t : Token) (ts : List Tok
     → run (t ∷ ts) (x ∷ s) f ≡ run ts (above ++ s) f
 takes_silently x above t ts s f h k = step_take x t ts s f h ∙ ap (λ (y : Taken). carry (length ts) (given_by y s) (λ s'. run ts s' f)) k
 
--- a document opens only before a node
-take_or_refuse : (b : Bool) (p : ParseProblem) (o : Option yaml_mark_t)
-    → (if b then Take else Refuse p o) ≡ Open → ⊥
-take_or_refuse true p o h = cc
-take_or_refuse false p o h = cc
-
-take_or_leave : (b : Bool) → (if b then Take else Leave) ≡ Open → ⊥
-take_or_leave true h = cc
-take_or_leave false h = cc
-
-leave_or : (a b : Bool) (p : ParseProblem)
-    → (if a then Leave else if b then Take else Refuse p None) ≡ Open → ⊥
-leave_or true b p h = cc
-leave_or false true p h = cc
-leave_or false false p h = cc
-
-take_or : (a b : Bool) (p : ParseProblem)
-    → (if a then Take else if b then Open else Refuse p None) ≡ Open → b ≡ true
-take_or true b p h = cc
-take_or false true p h = refl
-take_or false false p h = cc
-
 -- A document is opened at what begins a node.
 pub opens_node : (x : State) (k : yaml_token_type_t) → choice_at x k ≡ Open
     → starts_node (Block None) k ≡ true
-opens_node state.stream kind.YAML_STREAM_START_TOKEN h = cc
-opens_node state.stream _ h = cc
-opens_node state.first k h = take_or (parts_documents k) (starts_node (Block None) k) problem.NoBlockNode h
-opens_node state.documents kind.YAML_DOCUMENT_END_TOKEN h = cc
-opens_node state.documents k h = absurd (take_or_refuse (parts_documents k) problem.NoDocumentStart None h)
-opens_node (state.directives from) kind.YAML_STREAM_END_TOKEN h = cc
-opens_node (state.directives from) k h = absurd (take_or_refuse (parts_documents k) problem.NoDocumentStart None h)
-opens_node (state.optional place before) k h = absurd (leave_or (follows place k) (starts_node (wants_of place) k) (no_node (wants_of place)) h)
-opens_node state.document_end kind.YAML_DOCUMENT_END_TOKEN h = cc
-opens_node state.document_end _ h = cc
-opens_node (state.entries o) kind.YAML_BLOCK_ENTRY_TOKEN h = cc
-opens_node (state.entries o) kind.YAML_BLOCK_END_TOKEN h = cc
-opens_node (state.entries o) _ h = cc
-opens_node (state.others side) kind.YAML_BLOCK_ENTRY_TOKEN h = cc
-opens_node (state.others side) _ h = cc
-opens_node (state.pairs o) kind.YAML_KEY_TOKEN h = cc
-opens_node (state.pairs o) kind.YAML_BLOCK_END_TOKEN h = cc
-opens_node (state.pairs o) _ h = cc
-opens_node (state.colon place) kind.YAML_VALUE_TOKEN h = cc
-opens_node (state.colon place) _ h = cc
-opens_node (state.with_properties w p) k h = absurd (take_or_leave (joins p k || starts_content w k) h)
-opens_node (state.items b o) kind.YAML_KEY_TOKEN h = cc
-opens_node (state.items b o) k h = absurd (take_or_refuse (closes b k || starts_node Flow k) problem.NoFlowNode None h)
-opens_node (state.more b o) kind.YAML_FLOW_ENTRY_TOKEN h = cc
-opens_node (state.more b o) k h = absurd (take_or_refuse (closes b k) (no_end b) (Some o) h)
-opens_node state.pair_end k h = cc
-opens_node state.lone k h = cc
+opens_node x k h = subst (λ (y : State). MayOpen y k) (opens_first x k h) (open_rule x k h)
 
 opens_fed : (t : Token) (s : List State) → starts_node (Block None) (type_of t.body) ≡ true
     → given_by (taken_at (state.optional Root t.start_mark) t)

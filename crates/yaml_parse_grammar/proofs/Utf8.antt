@@ -5,80 +5,25 @@ use Rattle.std.specs.Str.{bytes_eq}
 use Rattle.yaml_parse_model.specs.declared.yaml_mark_t.{yaml_mark_t}
 use Rattle.yaml_parse_model.specs.declared.yaml_scalar_style_t.{yaml_scalar_style_t}
 use Rattle.yaml_parse_model.specs.declared.yaml_version_directive_t.{yaml_version_directive_t}
-use Rattle.yaml_parse_model.specs.Tokens.{Token, TokenBody}
-use Rattle.yaml_parse_model.specs.Tokens as token
+use Rattle.yaml_parse_model.specs.Tokens.{Token}
 use Rattle.yaml_parse_model.specs.Source as source
 use Rattle.yaml_parse_model.specs.Events.{EventBody, TagDirective}
 use Rattle.yaml_parse_model.specs.Events as event
 use Rattle.yaml_parse_model.specs.Constructors.{HasUtf8, IsUtf8Option, AreUtf8}
-use Rattle.yaml_parse_grammar.specs.declared.name.Wants.{Wants}
-use Rattle.yaml_parse_grammar.specs.declared.name.Wants.TheVariants.{Flow, Block}
-use Rattle.yaml_parse_grammar.specs.declared.name.Brackets.{Brackets}
-use Rattle.yaml_parse_grammar.specs.declared.name.Brackets.TheVariants as brackets
-use Rattle.yaml_parse_grammar.specs.Items.{RawEvent, RawEventBody, Properties, Shape}
+use Rattle.yaml_parse_grammar.specs.Items.{RawEvent, RawEventBody, Shape}
 use Rattle.yaml_parse_grammar.specs.Items as item
-use Rattle.yaml_parse_grammar.specs.States.{State, Taken}
+use Rattle.yaml_parse_grammar.specs.States.{State}
 use Rattle.yaml_parse_grammar.specs.States as state
-use Rattle.yaml_parse_grammar.specs.Machine.{taken_at, documents_taken, content_taken, node_taken, with_properties_taken, items_taken, more_taken, stream_taken, entries_taken, pairs_taken, lone_below, left_at, opened}
+use Rattle.yaml_parse_grammar.specs.Machine.{taken_at, left_at, opened}
 use Rattle.yaml_parse_grammar.specs.Resolve.{Directives, Settled, refused, gave, noted, settle_body, resolved, directive_for, or_default, default_prefix, with_resolved, with_tag, with_version, is_known_version, behind_event, node_event, scalar_event}
+use Rattle.yaml_parse_grammar.proofs.Throughout.{AllAre, AreTaken, IsTextless, bare_textless, Outer, taken_are, left_are}
 use Rattle.yaml_parse_grammar.specs.Texts.{IsUtf8Tag, IsUtf8Shape, IsUtf8Item, IsUtf8State, AreUtf8States, IsUtf8Token, IsUtf8Held}
 
--- ---- taking a token
+-- ---- the machine
 
 abbrev pub IsUtf8Taken : Option RawEvent → List State → Type 0
 IsUtf8Taken None above = AreUtf8States above
 IsUtf8Taken (Some i) above = IsUtf8Item i.body × AreUtf8States above
-
-abbrev IsUtf8Properties : Option Properties → Type 0
-IsUtf8Properties None = Unit {0}
-IsUtf8Properties (Some p) = IsUtf8Option p.anchor × IsUtf8Tag p.tag
-
-stream_utf8 : (start end : yaml_mark_t) (b : TokenBody)
-    → IsUtf8Taken (stream_taken start end b).item (stream_taken start end b).above
-stream_utf8 start end (token.stream_start e) = (tt, (tt, tt))
-stream_utf8 start end _ = (tt, tt)
-
-documents_utf8 : (from start end : yaml_mark_t) (b : TokenBody) → source.HasUtf8 b
-    → IsUtf8Taken (documents_taken from start end b).item (documents_taken from start end b).above
-documents_utf8 from start end (token.version_directive x y) h = (tt, (tt, tt))
-documents_utf8 from start end (token.tag_directive x y) h = (h, (tt, tt))
-documents_utf8 from start end token.document_start h = (tt, (tt, (tt, (tt, tt))))
-documents_utf8 from start end token.stream_end h = (tt, tt)
-documents_utf8 from start end _ h = (tt, tt)
-
-content_utf8 : (w : Wants) (p : Option Properties) (start end : yaml_mark_t) (b : TokenBody)
-    → IsUtf8Properties p → source.HasUtf8 b
-    → IsUtf8Taken (content_taken w p start end b).item (content_taken w p start end b).above
-content_utf8 w None start end (token.scalar v s) p h = ((tt, (tt, h)), tt)
-content_utf8 w (Some q) start end (token.scalar v s) p h = ((p.0, (p.1, h)), tt)
-content_utf8 w None start end token.flow_sequence_start p h = ((tt, (tt, tt)), (tt, tt))
-content_utf8 w (Some q) start end token.flow_sequence_start p h = ((p.0, (p.1, tt)), (tt, tt))
-content_utf8 w None start end token.flow_mapping_start p h = ((tt, (tt, tt)), (tt, tt))
-content_utf8 w (Some q) start end token.flow_mapping_start p h = ((p.0, (p.1, tt)), (tt, tt))
-content_utf8 w None start end token.block_sequence_start p h = ((tt, (tt, tt)), (tt, tt))
-content_utf8 w (Some q) start end token.block_sequence_start p h = ((p.0, (p.1, tt)), (tt, tt))
-content_utf8 w None start end token.block_mapping_start p h = ((tt, (tt, tt)), (tt, tt))
-content_utf8 w (Some q) start end token.block_mapping_start p h = ((p.0, (p.1, tt)), (tt, tt))
-content_utf8 (Block (Some s)) None start end token.block_entry p h = ((tt, (tt, tt)), (tt, (tt, tt)))
-content_utf8 (Block (Some s)) (Some q) start end token.block_entry p h = ((p.0, (p.1, tt)), (tt, (tt, tt)))
-content_utf8 (Block None) q start end token.block_entry p h = (tt, tt)
-content_utf8 Flow q start end token.block_entry p h = (tt, tt)
-content_utf8 w q start end _ p h = (tt, tt)
-
-node_utf8 : (w : Wants) (start end : yaml_mark_t) (b : TokenBody) → source.HasUtf8 b
-    → IsUtf8Taken (node_taken w start end b).item (node_taken w start end b).above
-node_utf8 w start end (token.alias n) h = (h, tt)
-node_utf8 w start end (token.anchor n) h = ((h, tt), tt)
-node_utf8 w start end (token.tag x y) h = ((tt, h), tt)
-node_utf8 w start end b h = content_utf8 w None start end b tt h
-
-with_properties_utf8 : (w : Wants) (p : Properties) (start end : yaml_mark_t) (b : TokenBody)
-    → IsUtf8Properties (Some p) → source.HasUtf8 b
-    → IsUtf8Taken (with_properties_taken w p start end b).item
-    (with_properties_taken w p start end b).above
-with_properties_utf8 w p start end (token.anchor n) q h = ((h, q.1), tt)
-with_properties_utf8 w p start end (token.tag x y) q h = ((q.0, h), tt)
-with_properties_utf8 w p start end b q h = content_utf8 w (Some p) start end b q h
 
 -- Two lists of states hold UTF-8 where each does.
 pub states_over : (xs ys : List State) → AreUtf8States xs → AreUtf8States ys
@@ -86,73 +31,57 @@ pub states_over : (xs ys : List State) → AreUtf8States xs → AreUtf8States ys
 states_over [] ys h k = k
 states_over (x ∷ xs) ys h k = (h.0, states_over xs ys h.1 k)
 
-taken_over : (i : Option RawEvent) (xs ys : List State) → IsUtf8Taken i xs → AreUtf8States ys
-    → IsUtf8Taken i (xs ++ ys)
-taken_over None xs ys h k = states_over xs ys h k
-taken_over (Some i) xs ys h k = (h.0, states_over xs ys h.1 k)
+textless_utf8 : (x : State) → IsTextless x → IsUtf8State x
+textless_utf8 (state.with_properties w p) h = absurd h
+textless_utf8 _ h = tt
 
-lone_utf8 : (b : Brackets) (o : yaml_mark_t) → AreUtf8States (lone_below b (state.more b o ∷ []))
-lone_utf8 brackets.Sequence o = (tt, tt)
-lone_utf8 brackets.Mapping o = (tt, (tt, tt))
+-- UTF-8 holds throughout.
+pub utf8_rules : Outer source.HasUtf8 IsUtf8Option IsUtf8Tag IsUtf8Item IsUtf8State
+utf8_rules = record {
+  inner = record {
+    unnamed = tt;
+    untagged = tt;
+    anchor = λ name h. h;
+    tag = λ handle suffix m h. h;
+    alias = λ name h. h;
+    scalar = λ a g v style h k t. (h, (k, t));
+    sequence = λ a g style h k. (h, (k, tt));
+    mapping = λ a g style h k. (h, (k, tt));
+    sequence_end = tt;
+    mapping_end = tt;
+    states = λ x h. textless_utf8 x (bare_textless x h);
+    properties = λ w p h k. (h, k);
+    held = λ w p h. h;
+  };
+  empty = λ a g h k. (h, (k, tt));
+  start = λ encoding. tt;
+  end = tt;
+  version = λ major minor. tt;
+  handle = λ handle prefix h. h;
+  document = λ implicit. tt;
+  document_end = λ implicit. tt;
+  outer = textless_utf8;
+  none = tt;
+}
 
-items_utf8 : (b : Brackets) (o start end : yaml_mark_t) (x : TokenBody) → source.HasUtf8 x
-    → IsUtf8Taken (items_taken b o start end x).item (items_taken b o start end x).above
-items_utf8 brackets.Sequence o start end token.key h = ((tt, (tt, tt)), (tt, (tt, (tt, (tt, tt)))))
-items_utf8 brackets.Mapping o start end token.key h = (tt, (tt, (tt, tt)))
-items_utf8 brackets.Sequence o start end token.flow_sequence_end h = (tt, tt)
-items_utf8 brackets.Mapping o start end token.flow_sequence_end h = (tt, tt)
-items_utf8 brackets.Sequence o start end token.flow_mapping_end h = (tt, tt)
-items_utf8 brackets.Mapping o start end token.flow_mapping_end h = (tt, tt)
-items_utf8 b o start end x h =
-    taken_over (node_taken Flow start end x).item (node_taken Flow start end x).above (lone_below b (state.more b o ∷ [])) (node_utf8 Flow start end x h) (lone_utf8 b o)
+all_utf8 : (s : List State) → AllAre IsUtf8State s → AreUtf8States s
+all_utf8 [] h = tt
+all_utf8 (x ∷ s) h = (h.0, all_utf8 s h.1)
 
-more_utf8 : (b : Brackets) (o start end : yaml_mark_t) (x : TokenBody)
-    → IsUtf8Taken (more_taken b o start end x).item (more_taken b o start end x).above
-more_utf8 b o start end token.flow_entry = (tt, tt)
-more_utf8 brackets.Sequence o start end _ = (tt, tt)
-more_utf8 brackets.Mapping o start end _ = (tt, tt)
-
-entries_utf8 : (o start end : yaml_mark_t) (x : TokenBody)
-    → IsUtf8Taken (entries_taken o start end x).item (entries_taken o start end x).above
-entries_utf8 o start end token.block_entry = (tt, (tt, tt))
-entries_utf8 o start end _ = (tt, tt)
-
-pairs_utf8 : (o start end : yaml_mark_t) (x : TokenBody)
-    → IsUtf8Taken (pairs_taken o start end x).item (pairs_taken o start end x).above
-pairs_utf8 o start end token.key = (tt, (tt, (tt, tt)))
-pairs_utf8 o start end _ = (tt, tt)
+utf8_taken : (i : Option RawEvent) (s : List State)
+    → AreTaken IsUtf8Item IsUtf8State (record { item = i; above = s }) → IsUtf8Taken i s
+utf8_taken None s h = all_utf8 s h.1
+utf8_taken (Some i) s h = (h.0, all_utf8 s h.1)
 
 -- What a state takes of a token of UTF-8 is UTF-8.
 pub taken_utf8 : (x : State) (t : Token) → IsUtf8State x → source.HasUtf8 t.body
     → IsUtf8Taken (taken_at x t).item (taken_at x t).above
-taken_utf8 state.stream t p h = stream_utf8 t.start_mark t.end_mark t.body
-taken_utf8 state.first t p h = documents_utf8 t.start_mark t.start_mark t.end_mark t.body h
-taken_utf8 state.documents t p h = documents_utf8 t.start_mark t.start_mark t.end_mark t.body h
-taken_utf8 (state.directives from) t p h = documents_utf8 from t.start_mark t.end_mark t.body h
-taken_utf8 (state.optional place before) t p h = node_utf8 _ t.start_mark t.end_mark t.body h
-taken_utf8 state.document_end t p h = (tt, tt)
-taken_utf8 (state.entries o) t p h = entries_utf8 o t.start_mark t.end_mark t.body
-taken_utf8 (state.others side) t p h = (tt, (tt, tt))
-taken_utf8 (state.pairs o) t p h = pairs_utf8 o t.start_mark t.end_mark t.body
-taken_utf8 (state.colon place) t p h = (tt, tt)
-taken_utf8 (state.with_properties w q) t p h = with_properties_utf8 w q t.start_mark t.end_mark t.body p h
-taken_utf8 (state.items b o) t p h = items_utf8 b o t.start_mark t.end_mark t.body h
-taken_utf8 (state.more b o) t p h = more_utf8 b o t.start_mark t.end_mark t.body
-taken_utf8 state.pair_end t p h = (tt, tt)
-taken_utf8 state.lone t p h = (tt, tt)
-
--- ---- leaving a state, and an implicit document
+taken_utf8 x t p h = utf8_taken (taken_at x t).item (taken_at x t).above (taken_are utf8_rules x t p h)
 
 -- What a state gives where it leaves is UTF-8.
 pub left_utf8 : (x : State) (start : yaml_mark_t) → IsUtf8State x
     → IsUtf8Item (left_at x start).body
-left_utf8 state.stream start h = (tt, (tt, tt))
-left_utf8 (state.optional place before) start h = (tt, (tt, tt))
-left_utf8 state.document_end start h = tt
-left_utf8 (state.others side) start h = tt
-left_utf8 (state.with_properties w p) start h = (h.0, (h.1, tt))
-left_utf8 state.pair_end start h = tt
-left_utf8 _ start h = (tt, (tt, tt))
+left_utf8 x start h = left_are utf8_rules x start h
 
 -- The states of a document that opens hold no text.
 pub opened_utf8 : (start : yaml_mark_t) → AreUtf8States (opened start)

@@ -5,19 +5,20 @@ use Rattle.yaml_parse_model.specs.declared.yaml_token_type_t.TheVariants as kind
 use Rattle.yaml_parse_model.specs.Tokens.{Token, TokenBody, type_of, no_token}
 use Rattle.yaml_parse_model.specs.Tokens as token
 use Rattle.yaml_parse_model.specs.Faults.{Fault}
-use Rattle.yaml_parse_grammar.specs.declared.name.Wants.{Wants}
 use Rattle.yaml_parse_grammar.specs.declared.name.Wants.TheVariants.{Flow, Block}
-use Rattle.yaml_parse_grammar.specs.declared.name.Brackets.{Brackets}
 use Rattle.yaml_parse_grammar.specs.declared.name.Brackets.TheVariants as brackets
 use Rattle.yaml_parse_grammar.specs.declared.name.Site.TheVariants.{Root, Entry, IndentlessEntry, BlockPair, FlowPair}
 use Rattle.yaml_parse_grammar.specs.declared.name.Choice.{Choice}
 use Rattle.yaml_parse_grammar.specs.declared.name.Choice.TheVariants.{Refuse, Take, Leave, Open}
-use Rattle.yaml_parse_grammar.specs.Items.{RawEvent, RawEventBody, Properties}
+use Rattle.yaml_parse_grammar.specs.Items.{RawEvent, RawEventBody}
 use Rattle.yaml_parse_grammar.specs.Items as item
-use Rattle.yaml_parse_grammar.specs.States.{State, Taken}
+use Rattle.yaml_parse_grammar.specs.States.{State}
 use Rattle.yaml_parse_grammar.specs.States as state
 use Rattle.yaml_parse_grammar.specs.Trees.{Given}
-use Rattle.yaml_parse_grammar.specs.Machine.{choice_at, taken_at, documents_taken, content_taken, node_taken, with_properties_taken, items_taken, more_taken, stream_taken, entries_taken, pairs_taken, lone_below, left_at, Fed, stop, go, with_item, given_by, turn, feed, Stands, Outcome, finished, carry, run}
+use Rattle.yaml_parse_grammar.specs.Machine.{choice_at, taken_at, documents_taken, stream_taken, left_at, Fed, stop, go, with_item, given_by, turn, feed, Stands, Outcome, finished, carry, run}
+use Rattle.yaml_parse_grammar.proofs.Standing.{IsWithin, inside_taken}
+use Rattle.yaml_parse_grammar.proofs.Throughout.{AreTaken}
+use Rattle.yaml_parse_grammar.specs.Stacks.{IsInner}
 use Rattle.yaml_parse_grammar.specs.Resolve.{Directives, Settled, refused, gave, noted, settle, settle_body, reading, read_on, with_resolved, resolved}
 
 -- the item is an event and no directive, or else the other fact holds
@@ -52,38 +53,6 @@ documents_speak from start end token.document_start = tt
 documents_speak from start end token.stream_end = tt
 documents_speak from start end _ = tt
 
-content_speaks : (w : Wants) (p : Option Properties) (start end : yaml_mark_t) (b : TokenBody)
-    → TakenSpeaks (content_taken w p start end b).item (content_taken w p start end b).above
-content_speaks w None start end (token.scalar v s) = tt
-content_speaks w (Some p) start end (token.scalar v s) = tt
-content_speaks w None start end token.flow_sequence_start = tt
-content_speaks w (Some p) start end token.flow_sequence_start = tt
-content_speaks w None start end token.flow_mapping_start = tt
-content_speaks w (Some p) start end token.flow_mapping_start = tt
-content_speaks w None start end token.block_sequence_start = tt
-content_speaks w (Some p) start end token.block_sequence_start = tt
-content_speaks w None start end token.block_mapping_start = tt
-content_speaks w (Some p) start end token.block_mapping_start = tt
-content_speaks (Block (Some s)) None start end token.block_entry = tt
-content_speaks (Block (Some s)) (Some p) start end token.block_entry = tt
-content_speaks (Block None) p start end token.block_entry = tt
-content_speaks Flow p start end token.block_entry = tt
-content_speaks w p start end _ = tt
-
-node_speaks : (w : Wants) (start end : yaml_mark_t) (b : TokenBody)
-    → TakenSpeaks (node_taken w start end b).item (node_taken w start end b).above
-node_speaks w start end (token.alias n) = tt
-node_speaks w start end (token.anchor n) = tt
-node_speaks w start end (token.tag h s) = tt
-node_speaks w start end b = content_speaks w None start end b
-
-with_properties_speaks : (w : Wants) (p : Properties) (start end : yaml_mark_t) (b : TokenBody)
-    → TakenSpeaks (with_properties_taken w p start end b).item
-    (with_properties_taken w p start end b).above
-with_properties_speaks w p start end (token.anchor n) = tt
-with_properties_speaks w p start end (token.tag h s) = tt
-with_properties_speaks w p start end b = content_speaks w (Some p) start end b
-
 stands_above : (xs ys : List State) → Stands xs → Stands (xs ++ ys)
 stands_above [] ys h = absurd h
 stands_above (x ∷ xs) ys h = tt
@@ -91,37 +60,17 @@ stands_above (x ∷ xs) ys h = tt
 voiced_map : (b : RawEventBody) {P Q : Type 0} → (P → Q) → Voiced b P → Voiced b Q
 voiced_map (item.version_directive x y) f h = f h
 voiced_map (item.tag_directive x y) f h = f h
-voiced_map (item.event e) f h = tt
-voiced_map (item.document i) f h = tt
-voiced_map (item.node a t s) f h = tt
+voiced_map _ f h = tt
 
-speaks_above : (i : Option RawEvent) (xs ys : List State) → TakenSpeaks i xs
-    → TakenSpeaks i (xs ++ ys)
-speaks_above None xs ys h = stands_above xs ys h
-speaks_above (Some i) xs ys h = voiced_map i.body (stands_above xs ys) h
+voiced_within : (b : RawEventBody) (X : Type 0) → IsWithin b → Voiced b X
+voiced_within (item.event e) X h = tt
+voiced_within (item.node a t s) X h = tt
+voiced_within _ X h = absurd h
 
-items_speak : (b : Brackets) (o start end : yaml_mark_t) (x : TokenBody)
-    → TakenSpeaks (items_taken b o start end x).item (items_taken b o start end x).above
-items_speak brackets.Sequence o start end token.key = tt
-items_speak brackets.Mapping o start end token.key = tt
-items_speak b o start end token.flow_sequence_end = tt
-items_speak b o start end token.flow_mapping_end = tt
-items_speak b o start end x = speaks_above (node_taken Flow start end x).item (node_taken Flow start end x).above (lone_below b (state.more b o ∷ [])) (node_speaks Flow start end x)
-
-more_speaks : (b : Brackets) (o start end : yaml_mark_t) (x : TokenBody)
-    → TakenSpeaks (more_taken b o start end x).item (more_taken b o start end x).above
-more_speaks b o start end token.flow_entry = tt
-more_speaks b o start end _ = tt
-
-entries_speak : (o start end : yaml_mark_t) (x : TokenBody)
-    → TakenSpeaks (entries_taken o start end x).item (entries_taken o start end x).above
-entries_speak o start end token.block_entry = tt
-entries_speak o start end _ = tt
-
-pairs_speak : (o start end : yaml_mark_t) (x : TokenBody)
-    → TakenSpeaks (pairs_taken o start end x).item (pairs_taken o start end x).above
-pairs_speak o start end token.key = tt
-pairs_speak o start end _ = tt
+within_speaks : (i : Option RawEvent) (s : List State)
+    → AreTaken IsWithin IsInner (record { item = i; above = s }) → TakenSpeaks i s
+within_speaks None s h = h.0
+within_speaks (Some i) s h = voiced_within i.body (Stands s) h.0
 
 -- what takes a token without an event leaves something open
 pub taken_speaks : (x : State) (t : Token) → TakenSpeaks (taken_at x t).item (taken_at x t).above
@@ -129,17 +78,8 @@ taken_speaks state.stream t = stream_speaks t.start_mark t.end_mark t.body
 taken_speaks state.first t = documents_speak t.start_mark t.start_mark t.end_mark t.body
 taken_speaks state.documents t = documents_speak t.start_mark t.start_mark t.end_mark t.body
 taken_speaks (state.directives from) t = documents_speak from t.start_mark t.end_mark t.body
-taken_speaks (state.optional place before) t = node_speaks _ t.start_mark t.end_mark t.body
 taken_speaks state.document_end t = tt
-taken_speaks (state.entries o) t = entries_speak o t.start_mark t.end_mark t.body
-taken_speaks (state.others side) t = tt
-taken_speaks (state.pairs o) t = pairs_speak o t.start_mark t.end_mark t.body
-taken_speaks (state.colon place) t = tt
-taken_speaks (state.with_properties w p) t = with_properties_speaks w p t.start_mark t.end_mark t.body
-taken_speaks (state.items b o) t = items_speak b o t.start_mark t.end_mark t.body
-taken_speaks (state.more b o) t = more_speaks b o t.start_mark t.end_mark t.body
-taken_speaks state.pair_end t = tt
-taken_speaks state.lone t = tt
+taken_speaks x t = within_speaks (taken_at x t).item (taken_at x t).above (inside_taken x t tt)
 
 -- leaving a state gives no directive
 pub left_voiced : (x : State) (start : yaml_mark_t) (P : Type 0) → Voiced (left_at x start).body P
@@ -213,9 +153,7 @@ carried_go left (i ∷ is) s k h b = voiced_map i.body (λ h'. carried_go left i
 voiced_any : (c : RawEventBody) {P : Type 0} → P → Voiced c P
 voiced_any (item.version_directive x y) h = h
 voiced_any (item.tag_directive x y) h = h
-voiced_any (item.event e) h = tt
-voiced_any (item.document i) h = tt
-voiced_any (item.node a t s) h = tt
+voiced_any _ h = tt
 
 stopped : (left : ℕ) (is : List RawEvent) (f : Fault)
     → HasVoice (map (λ (i : RawEvent). (i, left)) is) (Some f)

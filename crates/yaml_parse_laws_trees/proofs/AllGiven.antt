@@ -25,7 +25,7 @@ use Rattle.yaml_parse_loader.specs.Numbering.{spanning, DocumentContent, documen
 use Rattle.yaml_parse_laws_trees.specs.NextLoad.{told_events, IsOutside, AreOutside, LoadsByContent, contents_events}
 use Rattle.yaml_parse_laws_trees.proofs.ByContent.{by_content}
 use Rattle.yaml_parse_laws_trees.proofs.ToGive.{at_span, documents_before, Node, Documents, Stream, ToGive, Over, over_both, IsScalar, IsOf, FitsBody, Fits, FitsIf, document_more, node_fits, taking_fits, leaving_fits, opening_fits, Has, state_has, stack_has}
-use Rattle.yaml_parse_laws_trees.proofs.Rules.{leave_rule}
+use Rattle.yaml_parse_grammar.proofs.Rules.{leave_rule}
 
 -- ---- settled items
 
@@ -59,11 +59,9 @@ tagged_is true anchor tag value style = tt
 tagged_is false anchor tag value style = tt
 
 event_is : (anchor tag : Option (List ℕ)) (shape : Shape) → IsOf shape (node_event anchor tag shape)
-event_is anchor tag item.empty = tt
 event_is anchor None (item.scalar value style) = tt
 event_is anchor (Some tag) (item.scalar value style) = tagged_is (bytes_eq tag (codes "!")) anchor tag value style
-event_is anchor tag (item.sequence style) = tt
-event_is anchor tag (item.mapping style) = tt
+event_is anchor tag _ = tt
 
 resolved_fits : (o anchor : Option (List ℕ)) (shape : Shape) (from at : yaml_mark_t)
     (ds : Directives) (i : RawEvent) (Y X : List Event → Type 0)

@@ -16,7 +16,7 @@ use Rattle.yaml_parse_laws_trees.proofs.Closing.{IsLight, light_leaves}
 use Rattle.yaml_parse_laws_trees.proofs.FaultsStanding.{Last, nothing, asking, property, directive, other, last_of, told, Plain}
 use Rattle.yaml_parse_laws_trees.specs.Given.{is_end, leaves_open, last_leaves_open}
 use Rattle.yaml_parse_laws_trees.proofs.Walking.{last_behind}
-use Rattle.yaml_parse_laws_trees.proofs.Rules.{MayLeave, leave_rule, refuse_rule, opens_first, was_take}
+use Rattle.yaml_parse_grammar.proofs.Rules.{MayLeave, leave_rule, refuse_rule, opens_first, was_take}
 use Rattle.std.proofs.lemmas.Bool.{false≢true, true≢false}
 
 -- ---- which last tokens leave a node or a document open

@@ -20,7 +20,7 @@ use Rattle.yaml_parse_laws_trees.proofs.Complete.{leaves_at}
 use Rattle.yaml_parse_laws_trees.specs.SoundLaws.{bare, BeginsWithItems}
 use Rattle.yaml_parse_laws_trees.proofs.Left.{Left, Over, properties_alone}
 use Rattle.yaml_parse_laws_trees.proofs.SoundStanding.{Goes, Fits, Closed, Stood, AllStood}
-use Rattle.yaml_parse_laws_trees.proofs.Rules.{MayLeave, MayRefuse, leave_rule}
+use Rattle.yaml_parse_grammar.proofs.Rules.{MayLeave, MayRefuse, leave_rule}
 use Rattle.yaml_parse_laws_trees.specs.Given.{is_end, EndsAt}
 use Rattle.std.proofs.lemmas.Bool.{false≢true}
 

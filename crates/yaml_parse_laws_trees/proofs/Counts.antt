@@ -22,7 +22,7 @@ use Rattle.yaml_parse_grammar.specs.Machine.{choice_at, taken_at, documents_take
 use Rattle.yaml_parse_grammar.specs.Resolve.{Directives, Settled, refused, gave, noted, settle, Reading, read_on, reading}
 use Rattle.yaml_parse_grammar.specs.Remaining.{reading_of}
 use Rattle.yaml_parse_grammar.proofs.Voice.{takes_a_token}
-use Rattle.yaml_parse_laws_trees.proofs.Rules.{MayLeave, leave_rule, none_opens}
+use Rattle.yaml_parse_grammar.proofs.Rules.{MayLeave, leave_rule, none_opens}
 
 -- ---- what a state may still give as it is left
 
@@ -140,16 +140,12 @@ taken_cost state.first t = documents_cost t.start_mark t.start_mark t.end_mark t
 taken_cost state.documents t = documents_cost t.start_mark t.start_mark t.end_mark t.body
 taken_cost (state.directives from) t = documents_cost from t.start_mark t.end_mark t.body
 taken_cost (state.optional place before) t = less _ _ (node_cost (wants_of place) t.start_mark t.end_mark t.body) (few_extra (wants_of place))
-taken_cost state.document_end t = omega arith
 taken_cost (state.entries o) t = entries_cost o t.start_mark t.end_mark t.body
-taken_cost (state.others side) t = omega arith
 taken_cost (state.pairs o) t = pairs_cost o t.start_mark t.end_mark t.body
-taken_cost (state.colon place) t = omega arith
 taken_cost (state.with_properties w q) t = less _ _ (with_properties_cost w q t.start_mark t.end_mark t.body) (few_extra w)
 taken_cost (state.items b o) t = items_cost b o t.start_mark t.end_mark t.body
 taken_cost (state.more b o) t = more_cost b o t.start_mark t.end_mark t.body
-taken_cost state.pair_end t = omega arith
-taken_cost state.lone t = omega arith
+taken_cost _ t = omega arith
 
 -- ---- what is left owed
 

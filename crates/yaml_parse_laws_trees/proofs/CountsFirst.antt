@@ -1,5 +1,5 @@
 -- What the first token of a spelled tree is.
-use Rattle.std.proofs.Common.{◌≡◌, ℕ, Bool, true, false, List, [], ◌∷◌, Some, None, refl, ap, sym, subst, ◌∙◌}
+use Rattle.std.proofs.Common.{◌≡◌, ℕ, Bool, true, false, List, [], ◌∷◌, refl, ap, sym, subst, ◌∙◌}
 use Rattle.yaml_parse_grammar.specs.parse_model.declared.yaml_mark_t.{yaml_mark_t}
 use Rattle.yaml_parse_grammar.specs.parse_model.declared.yaml_token_type_t.{yaml_token_type_t}
 use Rattle.yaml_parse_grammar.specs.parse_model.declared.yaml_token_type_t.TheVariants as kind
@@ -7,12 +7,11 @@ use Rattle.yaml_parse_grammar.specs.parse_model.Tokens.{Token, TokenBody, type_o
 use Rattle.yaml_parse_grammar.specs.parse_model.Tokens as token
 use Rattle.yaml_parse_grammar.specs.parse_model.Source.{front_of, rest_of}
 use Rattle.yaml_parse_grammar.specs.declared.name.Wants.{Wants}
-use Rattle.yaml_parse_grammar.specs.declared.name.Wants.TheVariants.{Flow, Block}
 use Rattle.yaml_parse_grammar.specs.declared.name.Brackets.TheVariants as brackets
 use Rattle.yaml_parse_grammar.specs.Trees.{Span, token_at, AnchorToken, TagToken, anchor_token, tag_token, PropertyTokens, spell_properties, Node, Content, spell_node, spell_content}
 use Rattle.yaml_parse_grammar.specs.Trees as tree
 use Rattle.yaml_parse_grammar.specs.Machine.{starts_node}
-use Rattle.yaml_parse_grammar.proofs.Complete.{ends, Ends, Starts, node_starts}
+use Rattle.yaml_parse_grammar.proofs.Complete.{ends, Ends, ends_apart, Starts, node_starts}
 use Rattle.std.proofs.lemmas.Bool.{false≢true}
 
 -- ---- first tokens
@@ -58,25 +57,7 @@ rest_same t u x y h = ap rest_of h
 -- ---- tokens that end a node begin none
 
 pub not_begun : (w : Wants) (k : yaml_token_type_t) → ends w k ≡ true → starts_node w k ≡ true → ⊥
-not_begun Flow kind.YAML_FLOW_ENTRY_TOKEN h s = false≢true s
-not_begun Flow kind.YAML_VALUE_TOKEN h s = false≢true s
-not_begun Flow kind.YAML_FLOW_SEQUENCE_END_TOKEN h s = false≢true s
-not_begun Flow kind.YAML_FLOW_MAPPING_END_TOKEN h s = false≢true s
-not_begun Flow _ h s = false≢true h
-not_begun (Block (Some side)) kind.YAML_KEY_TOKEN h s = false≢true s
-not_begun (Block (Some side)) kind.YAML_BLOCK_END_TOKEN h s = false≢true s
-not_begun (Block (Some side)) kind.YAML_VALUE_TOKEN h s = false≢true s
-not_begun (Block (Some side)) _ h s = false≢true h
-not_begun (Block None) kind.YAML_BLOCK_ENTRY_TOKEN h s = false≢true s
-not_begun (Block None) kind.YAML_BLOCK_END_TOKEN h s = false≢true s
-not_begun (Block None) kind.YAML_KEY_TOKEN h s = false≢true s
-not_begun (Block None) kind.YAML_VALUE_TOKEN h s = false≢true s
-not_begun (Block None) kind.YAML_DOCUMENT_END_TOKEN h s = false≢true s
-not_begun (Block None) kind.YAML_STREAM_END_TOKEN h s = false≢true s
-not_begun (Block None) kind.YAML_VERSION_DIRECTIVE_TOKEN h s = false≢true s
-not_begun (Block None) kind.YAML_TAG_DIRECTIVE_TOKEN h s = false≢true s
-not_begun (Block None) kind.YAML_DOCUMENT_START_TOKEN h s = false≢true s
-not_begun (Block None) _ h s = false≢true h
+not_begun w k h s = false≢true (sym (ends_apart w k h) ∙ s)
 
 pub not_both : (w : Wants) (ts : List Token) → Ends w ts → Starts w ts → ⊥
 not_both w [] e s = e
@@ -110,9 +91,7 @@ pub content_plain : {w : Wants} (c : Content w) (ts : List Token) → IsPlain (s
 content_plain (tree.scalar p v style) ts h = false≢true h
 content_plain (tree.flow brackets.Sequence p i) ts h = false≢true h
 content_plain (tree.flow brackets.Mapping p i) ts h = false≢true h
-content_plain (tree.block_sequence p e) ts h = false≢true h
-content_plain (tree.block_mapping p m) ts h = false≢true h
-content_plain (tree.indentless p n o) ts h = false≢true h
+content_plain _ ts h = false≢true h
 
 pub not_plain : (x y : List Token) → IsPlain x → x ≡ y → is_property (kind_of y) ≡ true → ⊥
 not_plain x y d h p = d (ap (λ ts. is_property (kind_of ts)) h ∙ p)

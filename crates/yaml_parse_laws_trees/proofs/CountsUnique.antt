@@ -10,12 +10,14 @@ use Rattle.yaml_parse_grammar.specs.declared.name.Wants.{Wants}
 use Rattle.yaml_parse_grammar.specs.declared.name.Wants.TheVariants.{Flow, Block}
 use Rattle.yaml_parse_grammar.specs.declared.name.Side.{Side}
 use Rattle.yaml_parse_grammar.specs.declared.name.Side.TheVariants.{Key, Value}
+use Rattle.yaml_parse_grammar.specs.declared.name.Site.TheVariants.{Root, Entry, IndentlessEntry, BlockPair, FlowPair}
 use Rattle.yaml_parse_grammar.specs.declared.name.Brackets.{Brackets}
 use Rattle.yaml_parse_grammar.specs.declared.name.Brackets.TheVariants as brackets
 use Rattle.yaml_parse_grammar.specs.Trees.{Span, token_at, PropertyTokens, spell_properties, closing, Node, Content, Maybe, Colon, Items, More, Entries, Others, Pairs, Directive, Documents, First, Stream, spell_node, spell_content, spell_maybe, spell_colon, spell_items, spell_more, spell_entries, spell_others, spell_pairs, spell_directives, spell_ends, spell_documents, spell_first}
 use Rattle.yaml_parse_grammar.specs.Trees as tree
 use Rattle.yaml_parse_grammar.specs.Machine.{starts_node}
-use Rattle.yaml_parse_grammar.proofs.Complete.{ends, Ends, Starts, node_starts}
+use Rattle.yaml_parse_grammar.proofs.Complete.{Ends, Starts, node_starts, follows_ends, more_ends, colon_follows, entries_follow, pairs_follow, block_colon_follows, others_follow}
+use Rattle.yaml_parse_grammar.proofs.CompleteStream.{documents_follow, root_follows}
 use Rattle.yaml_parse_laws_trees.specs.CountsLaws.{TokensHaveOneTree}
 use Rattle.yaml_parse_laws_trees.proofs.CountsFirst.{kind_of, apart, both, three, four, span_same, body_same, rest_same, not_both, no_node, ends_plain, content_plain, properties_same}
 
@@ -37,18 +39,14 @@ node_sort (tree.bare c) = None
 properties_sorted : (d : PropertyTokens) (ts : List Token)
     → sort_of (kind_of (spell_properties d ts)) ≡ Some false
 properties_sorted (tree.anchor a) ts = refl
-properties_sorted (tree.anchor_tag a t) ts = refl
-properties_sorted (tree.tag t) ts = refl
-properties_sorted (tree.tag_anchor t a) ts = refl
+properties_sorted _ ts = refl
 
 content_sorted : {w : Wants} (c : Content w) (ts : List Token)
     → sort_of (kind_of (spell_content c ts)) ≡ None
 content_sorted (tree.scalar p v style) ts = refl
 content_sorted (tree.flow brackets.Sequence p i) ts = refl
 content_sorted (tree.flow brackets.Mapping p i) ts = refl
-content_sorted (tree.block_sequence p e) ts = refl
-content_sorted (tree.block_mapping p m) ts = refl
-content_sorted (tree.indentless p n o) ts = refl
+content_sorted _ ts = refl
 
 node_sorted : {w : Wants} (n : Node w) (ts : List Token)
     → sort_of (kind_of (spell_node n ts)) ≡ node_sort n
@@ -78,9 +76,7 @@ content_formed : {w : Wants} (c : Content w) (ts : List Token)
 content_formed (tree.scalar p v style) ts = refl
 content_formed (tree.flow brackets.Sequence p i) ts = refl
 content_formed (tree.flow brackets.Mapping p i) ts = refl
-content_formed (tree.block_sequence p e) ts = refl
-content_formed (tree.block_mapping p m) ts = refl
-content_formed (tree.indentless p n o) ts = refl
+content_formed _ ts = refl
 
 content_forms : {w : Wants} (c d : Content w) (x y : List Token)
     → spell_content c x ≡ spell_content d y → content_form c ≡ content_form d
@@ -121,56 +117,31 @@ items_parts b i j x y h = sym (items_parted b i x) ∙ ap (λ ts. part_of (kind_
 
 -- ---- what follows a node ends it
 
-more_ends : (b : Brackets) (m : More) (ts : List Token) → Ends Flow (spell_more b m ts)
-more_ends brackets.Sequence (tree.end_more p) ts = refl
-more_ends brackets.Mapping (tree.end_more p) ts = refl
-more_ends b (tree.comma p i) ts = refl
-
 colon_ends : (b : Brackets) (v : Colon Flow) (m : More) (ts : List Token)
     → Ends Flow (spell_colon v (spell_more b m ts))
-colon_ends b tree.no_colon m ts = more_ends b m ts
-colon_ends b (tree.colon p v) m ts = refl
+colon_ends b v m ts = follows_ends (FlowPair b Key) _ (colon_follows b v m ts)
 
 entries_end : (e : Entries) (ts : List Token) → Ends (Block None) (spell_entries e ts)
-entries_end (tree.end_entries p) ts = refl
-entries_end (tree.entry p n e) ts = refl
-
-side_ends_at : (side : Side) (k : yaml_token_type_t) → ends (Block (Some side)) k ≡ true
-    → ends (Block None) k ≡ true
-side_ends_at side kind.YAML_KEY_TOKEN h = refl
-side_ends_at side kind.YAML_BLOCK_END_TOKEN h = refl
-side_ends_at side kind.YAML_VALUE_TOKEN h = refl
-side_ends_at side _ h = cc
-
-side_ends : (side : Side) (ts : List Token) → Ends (Block (Some side)) ts → Ends (Block None) ts
-side_ends side [] h = h
-side_ends side (t ∷ ts) h = side_ends_at side (type_of t.body) h
+entries_end e ts = follows_ends Entry _ (entries_follow e ts)
 
 others_end : (side : Side) (o : Others) (ts : List Token) → Ends (Block (Some side)) ts
     → Ends (Block None) (spell_others o ts)
-others_end side tree.no_others ts h = side_ends side ts h
-others_end side (tree.other p n o) ts h = refl
+others_end side o ts h = follows_ends (IndentlessEntry side) _ (others_follow side o ts h)
 
 pairs_end : (side : Side) (m : Pairs) (ts : List Token)
     → Ends (Block (Some side)) (spell_pairs m ts)
-pairs_end side (tree.end_pairs p) ts = refl
-pairs_end side (tree.block_pair p k v m) ts = refl
+pairs_end side m ts = follows_ends (BlockPair side) _ (pairs_follow side m ts)
 
 colon_pairs_end : (v : Colon (Block (Some Value))) (m : Pairs) (ts : List Token)
     → Ends (Block (Some Key)) (spell_colon v (spell_pairs m ts))
-colon_pairs_end tree.no_colon m ts = pairs_end Key m ts
-colon_pairs_end (tree.colon p v) m ts = refl
+colon_pairs_end v m ts = follows_ends (BlockPair Key) _ (block_colon_follows v m ts)
 
 documents_end : (d : Documents) (ts : List Token) → Ends (Block None) (spell_documents d ts)
-documents_end (tree.end_stream p) ts = refl
-documents_end (tree.document [] p n e d) ts = refl
-documents_end (tree.document (tree.version q major minor ∷ ds) p n e d) ts = refl
-documents_end (tree.document (tree.handle q name prefix ∷ ds) p n e d) ts = refl
+documents_end d ts = follows_ends Root _ (documents_follow d ts)
 
 root_ends : (e : List Span) (d : Documents) (ts : List Token)
     → Ends (Block None) (spell_ends e (spell_documents d ts))
-root_ends [] d ts = documents_end d ts
-root_ends (p ∷ e) d ts = refl
+root_ends e d ts = follows_ends Root _ (root_follows e d ts)
 
 -- no VALUE comes first
 abbrev NoValue : List Token → Type 0

@@ -19,7 +19,7 @@ use Rattle.yaml_parse_laws_trees.proofs.FaultsStanding.{Plain}
 use Rattle.yaml_parse_loader.specs.Loading.{Loading, nothing_loaded}
 use Rattle.yaml_parse_laws_trees.proofs.Fitting.{Owes, Names, NoneNamed, Fits, fits_below, Added, added_names, Passes, passes_on, node_passes, closed_fits, whole, FedLoads, loads_with}
 use Rattle.yaml_parse_laws_trees.proofs.LoadingTaking.{SitsAt, Started, start_passes, node_loads, taken_loads}
-use Rattle.yaml_parse_laws_trees.proofs.Rules.{MayLeave, leave_rule, opens_first}
+use Rattle.yaml_parse_grammar.proofs.Rules.{MayLeave, leave_rule, opens_first}
 
 -- ---- stacks
 

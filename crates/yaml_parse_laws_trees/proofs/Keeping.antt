@@ -19,7 +19,7 @@ use Rattle.yaml_parse_laws_trees.specs.parse_grammar.Stacks.{IsInner, IsInside}
 use Rattle.yaml_parse_laws_trees.specs.parse_grammar.Machine.{starts_content, starts_node, wants_of, joins, choice_at, content_taken, node_taken, with_properties_taken, items_taken, more_taken, entries_taken, pairs_taken, lone_below, taken_at}
 use Rattle.yaml_parse_laws_trees.specs.LookBack.{is_directive, starts_document}
 use Rattle.yaml_parse_laws_trees.proofs.FaultsStanding.{Sign, signs_behind, open_in, bracketed, last_of, Plain, Topped, plain_topped, is_flow, Nested}
-use Rattle.yaml_parse_laws_trees.proofs.Rules.{take_rule, was_take}
+use Rattle.yaml_parse_grammar.proofs.Rules.{take_rule, was_take}
 use Rattle.std.proofs.lemmas.Bool.{false≢true}
 
 -- the states behind a token, by what was open before it
@@ -164,11 +164,6 @@ ground w s p n i f = record { plain = p; nested = n; inside = i; flow = f }
 pub inside_kept : (x : State) (t : Token) (s : List State) → choice_at x (type_of t.body) ≡ Take
     → IsInner x → Plain s → Nested (x ∷ s) → IsInside s
     → KeptInside t.body t.start_mark (open_in (x ∷ s)) ((taken_at x t).above ++ s)
-inside_kept state.stream t s c h p n i = absurd h
-inside_kept state.first t s c h p n i = absurd h
-inside_kept state.documents t s c h p n i = absurd h
-inside_kept (state.directives from) t s c h p n i = absurd h
-inside_kept state.document_end t s c h p n i = absurd h
 inside_kept (state.optional place before) t s c h p n i =
     node_kept (wants_of place) t.start_mark t.end_mark t.body s
     (take_rule (state.optional place before) (type_of t.body) c) (ground (wants_of place) s p n.1 i n.0)
@@ -182,3 +177,4 @@ inside_kept (state.items bs o) t s c h p n i = items_kept bs o t.start_mark t.en
 inside_kept (state.more bs o) t s c h p n i = more_kept bs o t.start_mark t.end_mark t.body s c p n.1 i
 inside_kept state.pair_end t s c h p n i = absurd (was_take _ c)
 inside_kept state.lone t s c h p n i = absurd (was_take _ c)
+inside_kept _ t s c h p n i = absurd h

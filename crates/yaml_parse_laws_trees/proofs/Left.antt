@@ -22,7 +22,7 @@ use Rattle.yaml_parse_laws_trees.specs.parse_grammar.Trees.{Span, token_at, Anch
 use Rattle.yaml_parse_laws_trees.specs.parse_grammar.Trees as tree
 use Rattle.yaml_parse_laws_trees.specs.parse_grammar.Machine.{starts_content, starts_node, wants_of, parts_documents, joins, choice_at, documents_taken, content_taken, node_taken, with_properties_taken, items_taken, more_taken, entries_taken, pairs_taken, stream_taken, lone_below, taken_at}
 use Rattle.yaml_parse_laws_trees.proofs.Single.{opens_node}
-use Rattle.yaml_parse_laws_trees.proofs.Rules.{MayLeave, take_rule, opens_first, was_take}
+use Rattle.yaml_parse_grammar.proofs.Rules.{MayLeave, take_rule, opens_first, was_take}
 
 -- tokens that a tree of a kind spells, in front of others
 pub record Spelled (T : Type 0) (spelling : T → List Token → List Token) (P : List Token → Type 0) (ts : List Token) : Type 0 where

@@ -3,7 +3,6 @@ pub mod SoFar
 pub mod Turns
 mod CountsFirst
 pub mod CountsUnique
-pub mod Rules
 pub mod Left
 pub mod Sound
 pub mod SoundStanding
@@ -48,6 +47,8 @@ pub mod AllGiven
 -- what it stands on, for crates that name this one alone
 pub use Rattle.yaml_parse_grammar.proofs.Complete
 pub use Rattle.yaml_parse_grammar.proofs.CompleteStream
+pub use Rattle.yaml_parse_grammar.proofs.Rules
+pub use Rattle.yaml_parse_grammar.proofs.Throughout
 pub use Rattle.yaml_parse_grammar.proofs.Single
 pub use Rattle.yaml_parse_grammar.proofs.Utf8
 pub use Rattle.yaml_parse_grammar.proofs.Voice

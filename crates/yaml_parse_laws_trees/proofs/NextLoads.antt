@@ -113,9 +113,6 @@ closed_inner to l (o ∷ os) names k = (refl, k)
 pub inner_step : (b : EventBody) (from to : yaml_mark_t) (l : Loading) (names : List (List ℕ))
     → IsInner b → Knows l.anchors names
     → Inner (step_body b from to l) (wrong_alias b from names) (names_behind b names)
-inner_step event.no from to l names h k = (refl, k)
-inner_step (event.stream_start encoding) from to l names h k = (refl, k)
-inner_step event.stream_end from to l names h k = (refl, k)
 inner_step (event.document_start version directives implicit) from to l names h k = absurd h
 inner_step (event.document_end implicit) from to l names h k = absurd h
 inner_step (event.alias name) from to l names h k = aliased_inner (map.get l.anchors name) (is_among name names) from l names k (k name)
@@ -124,6 +121,7 @@ inner_step (event.sequence_start anchor tag implicit style) from to l names h k 
 inner_step event.sequence_end from to l names h k = closed_inner to l l.levels names k
 inner_step (event.mapping_start anchor tag implicit style) from to l names h k = (refl, knows_more anchor _ l.anchors names k)
 inner_step event.mapping_end from to l names h k = closed_inner to l l.levels names k
+inner_step _ from to l names h k = (refl, k)
 
 -- ---- a front of a document
 
@@ -243,14 +241,7 @@ outside_step : (b : EventBody) (from to : yaml_mark_t) (l : Loading) → IsOutsi
 outside_step event.no from to l h = refl
 outside_step (event.stream_start encoding) from to l h = refl
 outside_step event.stream_end from to l h = refl
-outside_step (event.document_start version directives implicit) from to l h = absurd h
-outside_step (event.document_end implicit) from to l h = absurd h
-outside_step (event.alias name) from to l h = absurd h
-outside_step (event.scalar anchor tag value plain quoted style) from to l h = absurd h
-outside_step (event.sequence_start anchor tag implicit style) from to l h = absurd h
-outside_step event.sequence_end from to l h = absurd h
-outside_step (event.mapping_start anchor tag implicit style) from to l h = absurd h
-outside_step event.mapping_end from to l h = absurd h
+outside_step _ from to l h = absurd h
 
 outside_loads : (os gs : List Told) (f : Option Fault) (l : Loading) → AreOutside os
     → loads (os ++ gs) f l ≡ loads gs f l

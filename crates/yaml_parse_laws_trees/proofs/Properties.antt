@@ -20,7 +20,7 @@ use Rattle.yaml_parse_laws_trees.specs.LookBack.{NodeTag, ended_tag, tag_behind,
 use Rattle.yaml_parse_laws_trees.specs.Wrong.{tag_fault}
 use Rattle.yaml_parse_laws_trees.proofs.FaultsStanding.{asking, property, other, last_of, last_in, told, Plain}
 use Rattle.yaml_parse_laws_trees.proofs.Settling.{Done, then_read, by_fault, tag_in, resolved_done, prefix_known, Agree}
-use Rattle.yaml_parse_laws_trees.proofs.Rules.{take_rule}
+use Rattle.yaml_parse_grammar.proofs.Rules.{take_rule}
 use Rattle.std.proofs.lemmas.Bool.{false≢true, true≢false}
 
 -- ---- the tag among the last tokens
@@ -190,15 +190,12 @@ taken_props (state.directives from) t s past c h e k = documents_props from t.st
 taken_props (state.optional place before) t s past c h e k = node_props _ t.start_mark t.end_mark t.body s past h (e refl)
 taken_props state.document_end t s past c h e k = plain_props s (t ∷ past) h
 taken_props (state.entries o) t s past c h e k = entries_props o t.start_mark t.end_mark t.body s (t ∷ past) h
-taken_props (state.others side) t s past c h e k = tt
 taken_props (state.pairs o) t s past c h e k = pairs_props o t.start_mark t.end_mark t.body s (t ∷ past) h
-taken_props (state.colon place) t s past c h e k = tt
 taken_props (state.with_properties w p) t s past c h e k =
     with_properties_props w p.anchor p.tag p.from p.to t.start_mark t.end_mark t.body s past (take_rule (state.with_properties w p) (type_of t.body) c) h k
 taken_props (state.items bs o) t s past c h e k = items_props bs o t.start_mark t.end_mark t.body s past h (e refl)
 taken_props (state.more bs o) t s past c h e k = more_props bs o t.start_mark t.end_mark t.body s (t ∷ past) h
-taken_props state.pair_end t s past c h e k = tt
-taken_props state.lone t s past c h e k = tt
+taken_props _ t s past c h e k = tt
 
 -- ---- reading a node behind them
 

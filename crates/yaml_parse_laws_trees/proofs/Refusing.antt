@@ -24,7 +24,7 @@ use Rattle.yaml_parse_laws_trees.proofs.SoundStanding.{Goes, Stood}
 use Rattle.yaml_parse_laws_trees.specs.Wrong as wrong
 use Rattle.yaml_parse_laws_trees.specs.Wrong.{grammar_fault}
 use Rattle.yaml_parse_laws_trees.proofs.FaultsStanding.{Sign, put, open_in, bracketed, stuck, Last, nothing, asking, property, directive, other, told, Plain, is_flow, Placed, Nested, told_fault}
-use Rattle.yaml_parse_laws_trees.proofs.Rules.{MayLeave, leave_rule}
+use Rattle.yaml_parse_grammar.proofs.Rules.{MayLeave, leave_rule}
 
 -- where a choice refuses, that is the fault; where it leaves, the state has no collection; a document opens at the first state alone
 abbrev pub Tells : Choice → State → List Sign → yaml_mark_t → Type 0
@@ -117,17 +117,14 @@ tells (state.directives from) k gs at h = take_or (parts_documents k) problem.No
 tells (state.optional place before) k gs at h =
     leave_or (follows place k) (starts_node (wants_of place) k) (no_node (wants_of place)) (state.optional place before) gs at refl (no_node_told (wants_of place) gs at h)
 tells state.document_end kind.YAML_DOCUMENT_END_TOKEN gs at h = tt
-tells state.document_end _ gs at h = refl
 tells (state.entries o) kind.YAML_BLOCK_ENTRY_TOKEN gs at h = tt
 tells (state.entries o) kind.YAML_BLOCK_END_TOKEN gs at h = tt
 tells (state.entries o) _ gs at h = no_dash_told o at
 tells (state.others side) kind.YAML_BLOCK_ENTRY_TOKEN gs at h = tt
-tells (state.others side) _ gs at h = refl
 tells (state.pairs o) kind.YAML_KEY_TOKEN gs at h = tt
 tells (state.pairs o) kind.YAML_BLOCK_END_TOKEN gs at h = tt
 tells (state.pairs o) _ gs at h = no_key_told o at
 tells (state.colon place) kind.YAML_VALUE_TOKEN gs at h = tt
-tells (state.colon place) _ gs at h = refl
 tells (state.with_properties w p) k gs at h = take_or_leave (joins p k || starts_content w k) (state.with_properties w p) gs at refl
 tells (state.items b o) kind.YAML_KEY_TOKEN gs at h = tt
 tells (state.items b o) k gs at h = take_or (closes b k || starts_node Flow k) problem.NoFlowNode None (state.items b o) gs at (inside_told b o at gs)
@@ -135,6 +132,7 @@ tells (state.more b o) kind.YAML_FLOW_ENTRY_TOKEN gs at h = tt
 tells (state.more b o) k gs at h = take_or (closes b k) (no_end b) (Some o) (state.more b o) gs at (no_end_told b o at gs)
 tells state.pair_end k gs at h = refl
 tells state.lone k gs at h = refl
+tells _ _ gs at h = refl
 
 -- ---- a stack
 

@@ -20,7 +20,7 @@ use Rattle.yaml_parse_laws_trees.proofs.Voice.{takes_a_token}
 use Rattle.yaml_parse_laws_trees.proofs.Turns.{items_given}
 use Rattle.yaml_parse_laws_trees.specs.SoundLaws.{AcceptedAreTrees, AcceptedAreSentences, SentencesAreAccepted}
 use Rattle.yaml_parse_laws_trees.proofs.Left.{Left, Over, over_both, leaving, taking, opening}
-use Rattle.yaml_parse_laws_trees.proofs.Rules.{leave_rule, none_opens}
+use Rattle.yaml_parse_grammar.proofs.Rules.{leave_rule, none_opens}
 
 -- ---- a stack at a token
 

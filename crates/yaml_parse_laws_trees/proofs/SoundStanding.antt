@@ -21,7 +21,7 @@ use Rattle.yaml_parse_laws_trees.specs.parse_grammar.Items as item
 use Rattle.yaml_parse_laws_trees.specs.parse_grammar.States.{State}
 use Rattle.yaml_parse_laws_trees.specs.parse_grammar.States as state
 use Rattle.yaml_parse_laws_trees.specs.parse_grammar.Machine.{wants_of, follows, choice_at, documents_taken, content_taken, node_taken, with_properties_taken, items_taken, more_taken, entries_taken, pairs_taken, stream_taken, lone_below, taken_at, left_at, Fed, stop, go, with_item, given_by, turn, feed}
-use Rattle.yaml_parse_laws_trees.proofs.Rules.{was_take}
+use Rattle.yaml_parse_grammar.proofs.Rules.{was_take}
 use Rattle.std.proofs.lemmas.Bool.{false≢true}
 
 -- ---- nothing is refused

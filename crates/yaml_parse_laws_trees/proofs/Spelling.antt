@@ -13,9 +13,7 @@ behind t p = ap (λ (z : List Token). t ∷ z) p
 properties_on : (d : PropertyTokens) (xs ys : List Token)
     → spell_properties d (xs ++ ys) ≡ spell_properties d xs ++ ys
 properties_on (tree.anchor a) xs ys = refl
-properties_on (tree.anchor_tag a t) xs ys = refl
-properties_on (tree.tag t) xs ys = refl
-properties_on (tree.tag_anchor t a) xs ys = refl
+properties_on _ xs ys = refl
 
 mutual
   node_on : {w : Wants} (n : Node w) (xs ys : List Token)

@@ -21,7 +21,7 @@ use Rattle.yaml_parse_laws_trees.specs.parse_grammar.States as state
 use Rattle.yaml_parse_laws_trees.specs.parse_grammar.Machine.{choice_at, taken_at, documents_taken, content_taken, node_taken, with_properties_taken, items_taken, more_taken, stream_taken, entries_taken, pairs_taken, lone_below, left_at, wants_of}
 use Rattle.yaml_parse_laws_trees.specs.parse_grammar.Resolve.{placed}
 use Rattle.yaml_parse_loader.specs.Numbering.{Head, Span, spanning, Content, Contents, Pairs, alias, scalar, sequence, mapping, no_items, item, no_pairs, pair, events, item_events, pair_events, DocumentContent, document_events}
-use Rattle.yaml_parse_laws_trees.proofs.Rules.{MayLeave, opens_first, was_take}
+use Rattle.yaml_parse_grammar.proofs.Rules.{MayLeave, opens_first, was_take}
 
 -- ---- parts
 
@@ -148,11 +148,9 @@ FitsIf (Some i) Y X = Fits i Y X
 
 body_fits_on : (b : RawEventBody) (i : RawEvent) (Y X Z : List Event → Type 0) → FitsBody b i Y X
     → ((es : List Event) → X es → Z es) → FitsBody b i Y Z
-body_fits_on (item.event b) i Y X Z h k = λ es y. k _ (h es y)
-body_fits_on (item.version_directive major minor) i Y X Z h k = λ es y. k _ (h es y)
-body_fits_on (item.tag_directive handle prefix) i Y X Z h k = λ es y. k _ (h es y)
 body_fits_on (item.document implicit) i Y X Z h k = λ v ds es y. k _ (h v ds es y)
 body_fits_on (item.node anchor tag shape) i Y X Z h k = λ b s es y. k _ (h b s es y)
+body_fits_on _ i Y X Z h k = λ es y. k _ (h es y)
 
 fits_on : (i : Option RawEvent) (Y X Z : List Event → Type 0) → FitsIf i Y X
     → ((es : List Event) → X es → Z es) → FitsIf i Y Z
@@ -393,17 +391,14 @@ state_has state.stream P h = stream_has P (documents_have P h)
 state_has state.first P h = documents_have P h
 state_has state.documents P h = documents_have P h
 state_has (state.directives from) P h = documents_have P h
-state_has (state.optional place before) P h = node_has P h
 state_has state.document_end P h = record { given = at_span (event.document_end true) nowhere ∷ h.given; is = record { part = (true, nowhere); rest = h.given; same = refl; goes = h.is } }
 state_has (state.entries o) P h = items_have P h
 state_has (state.others side) P h = items_have P h
 state_has (state.pairs o) P h = pairs_have P h
-state_has (state.colon place) P h = node_has P h
-state_has (state.with_properties w p) P h = node_has P h
 state_has (state.items b o) P h = brackets_have b P h
 state_has (state.more b o) P h = brackets_have b P h
 state_has state.pair_end P h = record { given = at_span event.mapping_end nowhere ∷ h.given; is = record { part = nowhere; rest = h.given; same = refl; goes = h.is } }
-state_has state.lone P h = node_has P h
+state_has _ P h = node_has P h
 
 pub stack_has : (s : List State) (P : List Event → Type 0) → Has P → Has (Over s P)
 stack_has [] P h = h

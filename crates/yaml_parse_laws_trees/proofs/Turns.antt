@@ -165,17 +165,12 @@ documents_next (tree.document (tree.handle q name prefix ∷ ds) s n ends d) res
 content_next : {w : Wants} (c : Content w) (rest : List Token)
     → content_start c ≡ next (spell_content c rest)
 content_next (tree.scalar s value style) rest = refl
-content_next (tree.flow b s i) rest = refl
-content_next (tree.block_sequence s e) rest = refl
-content_next (tree.block_mapping s m) rest = refl
-content_next (tree.indentless s n o) rest = refl
+content_next _ rest = refl
 
 properties_next : (d : PropertyTokens) (rest : List Token)
     → (tree.properties_of d).from ≡ next (spell_properties d rest)
 properties_next (tree.anchor a) rest = refl
-properties_next (tree.anchor_tag a t) rest = refl
-properties_next (tree.tag t) rest = refl
-properties_next (tree.tag_anchor t a) rest = refl
+properties_next _ rest = refl
 
 node_next : {w : Wants} (n : Node w) (rest : List Token) → node_start n ≡ next (spell_node n rest)
 node_next (tree.alias s name) rest = refl

@@ -1,6 +1,7 @@
 -- The law of windows, for a parser.
 use Rattle.std.proofs.Common.{◌≡◌, ℕ, false, List, [], ◌∷◌, ◌++◌, map, length, Option, Some, None, refl, sym, ap, subst, ◌∙◌, inl, inr}
 use Rattle.std.proofs.lemmas.List.{append-nil, append_assoc, map-append, same_from_push}
+use Rattle.std.proofs.lemmas.Option.{same_Some}
 use Rattle.yaml_parse_grammar.specs.parse_model.declared.yaml_mark_t.{yaml_mark_t}
 use Rattle.yaml_parse_grammar.specs.parse_model.declared.yaml_encoding_t.{yaml_encoding_t}
 use Rattle.yaml_parse_grammar.specs.parse_model.Tokens.{Token, TokenBody}
@@ -67,25 +68,19 @@ pub plain_through : (is js : List RawEvent) (f : Option Fault) (ds behind : Dire
     → through is ds ≡ Some (es, behind)
     → plain (is ++ js) f ds ≡ with_front es (plain js f behind)
 plain_through [] js f ds behind es h =
-    let same = inner h in
+    let same = same_Some _ _ h in
     let first : [] ≡ es = ap (λ (x : List Event × Directives). x.0) same in
     let last : ds ≡ behind = ap (λ (x : List Event × Directives). x.1) same in
     ap (λ z. plain js f z) last ∙ ap (λ (z : List Event). with_front z (plain js f behind)) first
-  where
-    inner : {x y : List Event × Directives} → Some x ≡ Some y → x ≡ y
-    inner e = cc
 plain_through (i ∷ is) js f ds behind es h = by (settle i ds) h (λ z es e. plain_through is js f z behind es e)
   where
-    inner : {x y : List Event × Directives} → Some x ≡ Some y → x ≡ y
-    inner e = cc
-
     on : (body : EventBody) (o : Option (List Event × Directives)) (z : Directives) → through is z ≡ o
         → with_event (placed body i) o ≡ Some (es, behind)
         → ((z : Directives) (es : List Event) → through is z ≡ Some (es, behind) → plain (is ++ js) f z ≡ with_front es (plain js f behind))
         → with_one (placed body i) (plain (is ++ js) f z) ≡ with_front es (plain js f behind)
     on body None z e k rec = absurd (none_some k)
     on body (Some x) z e k rec =
-        let same = inner k in
+        let same = same_Some _ _ k in
         let last : x.1 ≡ behind = ap (λ (y : List Event × Directives). y.1) same in
         let told : through is z ≡ Some (x.0, behind) = e ∙ ap (λ y. Some (x.0, y)) last in
         ap (λ (p : Plain). with_one (placed body i) p) (rec z x.0 told)
@@ -123,9 +118,6 @@ pub through_parts : (is js : List RawEvent) (ds behind : Directives) (es : List 
 through_parts [] js ds behind es h = ([], ds, es, refl, h)
 through_parts (i ∷ is) js ds behind es h = by (settle i ds) refl h (λ z es k. through_parts is js z behind es k)
   where
-    inner : {x y : List Event × Directives} → Some x ≡ Some y → x ≡ y
-    inner e = cc
-
     by : (y : Settled) → settle i ds ≡ y → then_through y i (λ z. through (is ++ js) z) ≡ Some (es, behind)
         → ((z : Directives) (es : List Event) → through (is ++ js) z ≡ Some (es, behind) → (fs : List Event) × (w : Directives) × (gs : List Event) × (through is z ≡ Some (fs, w)) × (through js w ≡ Some (gs, behind)))
         → (fs : List Event) × (z : Directives) × (gs : List Event) × (through (i ∷ is) ds ≡ Some (fs, z)) × (through js z ≡ Some (gs, behind))
@@ -136,7 +128,7 @@ through_parts (i ∷ is) js ds behind es h = by (settle i ds) refl h (λ z es k.
             → (fs : List Event) × (z : Directives) × (gs : List Event) × (through (i ∷ is) ds ≡ Some (fs, z)) × (through js z ≡ Some (gs, behind))
         on None f k = absurd (none_some k)
         on (Some x) f k =
-            let last : x.1 ≡ behind = ap (λ (y : List Event × Directives). y.1) (inner k) in
+            let last : x.1 ≡ behind = ap (λ (y : List Event × Directives). y.1) (same_Some _ _ k) in
             let (fs, w, gs, told, more) = rec z x.0 (f ∙ ap (λ y. Some (x.0, y)) last) in
             (placed body i ∷ fs, w, gs, ap (λ w. then_through w i (λ x. through is x)) e ∙ ap (with_event (placed body i)) told, more)
     by (noted z) e k rec =
@@ -217,25 +209,19 @@ pub through_joined : (is js : List RawEvent) (ds w behind : Directives) (fs gs :
     → through is ds ≡ Some (fs, w) → through js w ≡ Some (gs, behind)
     → through (is ++ js) ds ≡ Some (fs ++ gs, behind)
 through_joined [] js ds w behind fs gs one two =
-    let same = inner one in
+    let same = same_Some _ _ one in
     let first : [] ≡ fs = ap (λ (x : List Event × Directives). x.0) same in
     let last : ds ≡ w = ap (λ (x : List Event × Directives). x.1) same in
     ap (λ z. through js z) last ∙ two ∙ ap (λ (z : List Event). Some (z ++ gs, behind)) first
-  where
-    inner : {x y : List Event × Directives} → Some x ≡ Some y → x ≡ y
-    inner e = cc
 through_joined (i ∷ is) js ds w behind fs gs one two = by (settle i ds) one (λ z fs e. through_joined is js z w behind fs gs e two)
   where
-    inner : {x y : List Event × Directives} → Some x ≡ Some y → x ≡ y
-    inner e = cc
-
     on : (body : EventBody) (o : Option (List Event × Directives)) (z : Directives) → through is z ≡ o
         → with_event (placed body i) o ≡ Some (fs, w)
         → ((z : Directives) (fs : List Event) → through is z ≡ Some (fs, w) → through (is ++ js) z ≡ Some (fs ++ gs, behind))
         → with_event (placed body i) (through (is ++ js) z) ≡ Some (fs ++ gs, behind)
     on body None z e k rec = absurd (none_some k)
     on body (Some x) z e k rec =
-        let same = inner k in
+        let same = same_Some _ _ k in
         let last : x.1 ≡ w = ap (λ (y : List Event × Directives). y.1) same in
         ap (with_event (placed body i)) (rec z x.0 (e ∙ ap (λ y. Some (x.0, y)) last)) ∙ ap (λ (y : List Event × Directives). Some (y.0 ++ gs, behind)) same
 

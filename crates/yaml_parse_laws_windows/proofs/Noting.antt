@@ -1,8 +1,8 @@
 -- Which directives are noted where a stack stands.
 use Rattle.std.proofs.Common.{◌≡◌, ◌≢◌, Bool, true, false, if◌then◌else◌, List, [], ◌∷◌, ◌++◌, Option, Some, None, refl, sym, ap, subst, ◌∙◌}
+use Rattle.std.proofs.lemmas.Option.{same_Some}
 use Rattle.yaml_parse_grammar.specs.parse_model.declared.yaml_mark_t.{yaml_mark_t}
 use Rattle.yaml_parse_grammar.specs.parse_model.declared.yaml_token_type_t.{yaml_token_type_t}
-use Rattle.yaml_parse_grammar.specs.parse_model.declared.yaml_token_type_t.TheVariants as kind
 use Rattle.yaml_parse_grammar.specs.parse_model.Tokens.{Token, TokenBody, type_of}
 use Rattle.yaml_parse_grammar.specs.parse_model.Tokens as token
 use Rattle.yaml_parse_grammar.specs.parse_model.Events.{Event}
@@ -16,8 +16,9 @@ use Rattle.yaml_parse_grammar.specs.Items as item
 use Rattle.yaml_parse_grammar.specs.Resolve.{Directives, no_directives, Settled, refused, gave, noted, settle, placed}
 use Rattle.yaml_parse_grammar.specs.States.{State}
 use Rattle.yaml_parse_grammar.specs.States as state
-use Rattle.yaml_parse_grammar.specs.Machine.{starts_node, parts_documents, wants_of, choice_at, documents_taken, taken_at, left_at, Fed, stop, go, with_item, given_by, turn, feed}
-use Rattle.yaml_parse_laws_windows.proofs.Grounding.{Within, Stands, inner, inner_on, taken_inner, node_inner, not_open}
+use Rattle.yaml_parse_grammar.specs.Machine.{starts_node, parts_documents, choice_at, documents_taken, taken_at, left_at, Fed, stop, go, with_item, given_by, turn, feed}
+use Rattle.yaml_parse_laws_windows.proofs.Grounding.{Within, Stands, inner, inner_on, taken_inner, not_open}
+use Rattle.yaml_parse_grammar.proofs.Rules.{leave_rule, open_rule}
 
 -- ---- what items come to, where none is refused
 
@@ -41,10 +42,7 @@ pub none_some : {A : Type 0} {x : A} → None ≡ Some x → ⊥
 none_some e = cc
 
 pub pair_last : {x y : List Event × Directives} → Some x ≡ Some y → x.1 ≡ y.1
-pair_last e = let same = some_same e in ap (λ (z : List Event × Directives). z.1) same
-  where
-    some_same : {x y : List Event × Directives} → Some x ≡ Some y → x ≡ y
-    some_same e = cc
+pair_last e = let same = same_Some _ _ e in ap (λ (z : List Event × Directives). z.1) same
 
 -- ---- a stack behind a token
 
@@ -115,7 +113,7 @@ documents_fine from start end _ ds h none = λ es behind e. (refl, sym (pair_las
 opened_fine : (t : Token) (ds : Directives)
     → Fine (with_item (item_at (item.document true) t.start_mark t.start_mark) (given_by (taken_at (state.optional Root t.start_mark) t) (state.document_end ∷ state.documents ∷ []))) ds
 opened_fine t ds = λ es behind e. within_stands ((taken_at (state.optional Root t.start_mark) t).above ++ state.document_end ∷ state.documents ∷ []) behind
-    (inner_on (taken_at (state.optional Root t.start_mark) t).above (state.document_end ∷ state.documents ∷ []) (node_inner (wants_of Root) t.start_mark t.end_mark t.body) refl)
+    (inner_on (taken_at (state.optional Root t.start_mark) t).above (state.document_end ∷ state.documents ∷ []) (taken_inner (state.optional Root t.start_mark) t refl) refl)
 
 first_fine : (a b : Bool) (t : Token) (ds : Directives) → t.body ≢ token.stream_end → ds
     ≡ no_directives
@@ -132,26 +130,9 @@ between_fine Take t ds h none k l = documents_fine t.start_mark t.start_mark t.e
 between_fine Leave t ds h none k l = absurd (k refl)
 between_fine Open t ds h none k l = absurd (l refl)
 
-take_open : Take ≢ Open
-take_open e = cc
-
-take_leave : Take ≢ Leave
-take_leave e = cc
-
-refuse_open : {p : _} {o : Option yaml_mark_t} → Refuse p o ≢ Open
-refuse_open e = cc
-
-refuse_leave : {p : _} {o : Option yaml_mark_t} → Refuse p o ≢ Leave
-refuse_leave e = cc
-
 documents_stay : (k : yaml_token_type_t) → (choice_at state.documents k ≢ Leave)
     × (choice_at state.documents k ≢ Open)
-documents_stay kind.YAML_DOCUMENT_END_TOKEN = (take_leave, take_open)
-documents_stay kind.YAML_STREAM_END_TOKEN = (take_leave, take_open)
-documents_stay kind.YAML_VERSION_DIRECTIVE_TOKEN = (take_leave, take_open)
-documents_stay kind.YAML_TAG_DIRECTIVE_TOKEN = (take_leave, take_open)
-documents_stay kind.YAML_DOCUMENT_START_TOKEN = (take_leave, take_open)
-documents_stay _ = (refuse_leave, refuse_open)
+documents_stay k = (λ e. leave_rule state.documents k e, λ e. open_rule state.documents k e)
 
 directives_fine : (from start end : yaml_mark_t) (b : TokenBody) (ds : Directives)
     → Fine (turn (choice_at (state.directives from) (type_of b)) (state.directives from) (record { body = b; start_mark = start; end_mark = end }) [] (feed [] (record { body = b; start_mark = start; end_mark = end }))) ds
@@ -182,13 +163,4 @@ stands_feed (state.directives from ∷ s) ds g t h = rw g (directives_fine from 
 stands_feed (state.document_end ∷ s) ds g t h =
     last_fine (choice_at state.document_end (type_of t.body)) t s ds g
     (stands_feed s no_directives (subst (λ z. Stands z no_directives) (sym g) (refl, refl)) t h) (not_open state.document_end (type_of t.body) refl)
-stands_feed (state.optional place before ∷ s) ds g t h = plain_fine (choice_at (state.optional place before) (type_of t.body)) (state.optional place before) t s ds (taken_inner (state.optional place before) t refl) g (λ z. stands_feed s z (within_stands s z g) t h) (not_open (state.optional place before) (type_of t.body) refl)
-stands_feed (state.entries opener ∷ s) ds g t h = plain_fine (choice_at (state.entries opener) (type_of t.body)) (state.entries opener) t s ds (taken_inner (state.entries opener) t refl) g (λ z. stands_feed s z (within_stands s z g) t h) (not_open (state.entries opener) (type_of t.body) refl)
-stands_feed (state.others side ∷ s) ds g t h = plain_fine (choice_at (state.others side) (type_of t.body)) (state.others side) t s ds (taken_inner (state.others side) t refl) g (λ z. stands_feed s z (within_stands s z g) t h) (not_open (state.others side) (type_of t.body) refl)
-stands_feed (state.pairs opener ∷ s) ds g t h = plain_fine (choice_at (state.pairs opener) (type_of t.body)) (state.pairs opener) t s ds (taken_inner (state.pairs opener) t refl) g (λ z. stands_feed s z (within_stands s z g) t h) (not_open (state.pairs opener) (type_of t.body) refl)
-stands_feed (state.colon place ∷ s) ds g t h = plain_fine (choice_at (state.colon place) (type_of t.body)) (state.colon place) t s ds (taken_inner (state.colon place) t refl) g (λ z. stands_feed s z (within_stands s z g) t h) (not_open (state.colon place) (type_of t.body) refl)
-stands_feed (state.with_properties w p ∷ s) ds g t h = plain_fine (choice_at (state.with_properties w p) (type_of t.body)) (state.with_properties w p) t s ds (taken_inner (state.with_properties w p) t refl) g (λ z. stands_feed s z (within_stands s z g) t h) (not_open (state.with_properties w p) (type_of t.body) refl)
-stands_feed (state.items b opener ∷ s) ds g t h = plain_fine (choice_at (state.items b opener) (type_of t.body)) (state.items b opener) t s ds (taken_inner (state.items b opener) t refl) g (λ z. stands_feed s z (within_stands s z g) t h) (not_open (state.items b opener) (type_of t.body) refl)
-stands_feed (state.more b opener ∷ s) ds g t h = plain_fine (choice_at (state.more b opener) (type_of t.body)) (state.more b opener) t s ds (taken_inner (state.more b opener) t refl) g (λ z. stands_feed s z (within_stands s z g) t h) (not_open (state.more b opener) (type_of t.body) refl)
-stands_feed (state.pair_end ∷ s) ds g t h = plain_fine (choice_at (state.pair_end) (type_of t.body)) (state.pair_end) t s ds (taken_inner (state.pair_end) t refl) g (λ z. stands_feed s z (within_stands s z g) t h) (not_open (state.pair_end) (type_of t.body) refl)
-stands_feed (state.lone ∷ s) ds g t h = plain_fine (choice_at (state.lone) (type_of t.body)) (state.lone) t s ds (taken_inner (state.lone) t refl) g (λ z. stands_feed s z (within_stands s z g) t h) (not_open (state.lone) (type_of t.body) refl)
+stands_feed (x ∷ s) ds g t h = plain_fine (choice_at x (type_of t.body)) x t s ds (taken_inner x t refl) g (λ z. stands_feed s z (within_stands s z g) t h) (not_open x (type_of t.body) refl)

@@ -1,6 +1,7 @@
 -- A front that is refused is refused so whatever document follows.
 use Rattle.std.proofs.Common.{◌≡◌, ◌≢◌, false, List, [], ◌∷◌, ◌++◌, Option, Some, None, refl, sym, ap, subst, ◌∙◌, inl, inr, ◌⊎◌}
 use Rattle.std.proofs.lemmas.List.{append_assoc}
+use Rattle.std.proofs.lemmas.Option.{none-some, same_Some}
 use Rattle.yaml_parse_grammar.specs.parse_model.declared.yaml_mark_t.{yaml_mark_t}
 use Rattle.yaml_parse_grammar.specs.parse_model.Tokens.{Token}
 use Rattle.yaml_parse_grammar.specs.parse_model.Tokens as token
@@ -98,17 +99,7 @@ stands_halts (state.stream ∷ s) ds g m e f = inl refl
 stands_halts (state.first ∷ s) ds g m e f = inl tt
 stands_halts (state.documents ∷ s) ds g m e f = inl tt
 stands_halts (state.directives from ∷ s) ds g m e f = inr refl
-stands_halts (state.document_end ∷ s) ds g m e f = inl (within_halts (state.document_end ∷ s) g m e f)
-stands_halts (state.optional place before ∷ s) ds g m e f = inl (within_halts (state.optional place before ∷ s) g m e f)
-stands_halts (state.entries opener ∷ s) ds g m e f = inl refl
-stands_halts (state.others side ∷ s) ds g m e f = inl (within_halts (state.others side ∷ s) g m e f)
-stands_halts (state.pairs opener ∷ s) ds g m e f = inl refl
-stands_halts (state.colon place ∷ s) ds g m e f = inl (within_halts (state.colon place ∷ s) g m e f)
-stands_halts (state.with_properties v q ∷ s) ds g m e f = inl (within_halts (state.with_properties v q ∷ s) g m e f)
-stands_halts (state.items b opener ∷ s) ds g m e f = inl (within_halts (state.items b opener ∷ s) g m e f)
-stands_halts (state.more b opener ∷ s) ds g m e f = inl (within_halts (state.more b opener ∷ s) g m e f)
-stands_halts (state.pair_end ∷ s) ds g m e f = inl (within_halts (state.pair_end ∷ s) g m e f)
-stands_halts (state.lone ∷ s) ds g m e f = inl (within_halts (state.lone ∷ s) g m e f)
+stands_halts (x ∷ s) ds g m e f = inl (within_halts (x ∷ s) g m e f)
 
 -- ---- items in front
 
@@ -128,12 +119,6 @@ same_front (i ∷ is) ds js ks f g h = by (settle i ds) refl (λ z k. same_front
         ap (λ (p : Plain). record { events = placed body i ∷ p.events; ending = p.ending })
         (rec z (λ es behind t. h (placed body i ∷ es) behind (ap (λ v. then_through v i (λ x. through is x)) e ∙ ap (with_event (placed body i)) t)))
     by (noted z) e rec = rec z (λ es behind t. h es behind (ap (λ v. then_through v i (λ x. through is x)) e ∙ t))
-
-some_same : {x y : Fault} → Some x ≡ Some y → x ≡ y
-some_same e = cc
-
-none_not : {x : Fault} → None ≡ Some x → ⊥
-none_not e = cc
 
 -- ---- tokens
 
@@ -156,7 +141,7 @@ at_end : (s : List State) (ds : Directives) → Stands s ds → (m e n : yaml_ma
     → read_of (run (start_at m n ∷ behind) s own) ds ≡ read_of (run (end_at m e ∷ []) s None) ds
 at_end s ds g m e n behind own f ends other =
     elim (stands_halts s ds g m e n) [
-      | inr stops ↦ absurd (other (some_same (sym ends ∙ ap (λ (p : Plain). p.ending) (halted (end_at m e) [] s None [] (parser_fault problem.NoDocumentStart m m) ds stops))))
+      | inr stops ↦ absurd (other (same_Some _ _ (sym ends ∙ ap (λ (p : Plain). p.ending) (halted (end_at m e) [] s None [] (parser_fault problem.NoDocumentStart m m) ds stops))))
       | inl halts ↦ elim (parts s ds g m e n) [
         | inr (is, p, stops) ↦
             let too : feed s (start_at m n) ≡ stop is p = subst (λ y. Halts y (feed s (start_at m n))) stops halts in
@@ -177,7 +162,7 @@ at_end s ds g m e n behind own f ends other =
         let there = went (start_at m n) behind s (begun n) own (r.left ++ Doc ∷ []) ds r.starts
         ∙ ap (λ y. plain y B.ending ds) (append_assoc r.left (Doc ∷ []) (items_of B.items)) in
         there ∙ same_front r.left ds (Doc ∷ items_of B.items) (End ∷ []) B.ending None
-        (λ es z told. absurd (none_not (sym (ap (λ (p : Plain). p.ending) (here ∙ plain_through r.left (End ∷ []) None ds z es told)) ∙ ends)))
+        (λ es z told. absurd (none-some _ (sym (ap (λ (p : Plain). p.ending) (here ∙ plain_through r.left (End ∷ []) None ds z es told)) ∙ ends)))
         ∙ sym here
 
 front_refused : (front : List Token) (s : List State) (ds : Directives) → Stands s ds → GoOn front

@@ -1,5 +1,6 @@
 -- Tokens that are refused before they end are refused so whatever stands behind them.
 use Rattle.std.proofs.Common.{◌≡◌, ◌≢◌, List, [], ◌∷◌, ◌++◌, Option, Some, None, refl, sym, ap, subst, ◌∙◌, inl, inr, ◌⊎◌}
+use Rattle.std.proofs.lemmas.Option.{none-some, same_Some}
 use Rattle.yaml_parse_grammar.specs.parse_model.declared.yaml_mark_t.{yaml_mark_t}
 use Rattle.yaml_parse_grammar.specs.parse_model.Tokens.{Token}
 use Rattle.yaml_parse_grammar.specs.parse_model.Tokens as token
@@ -20,12 +21,6 @@ use Rattle.yaml_parse_laws_windows.proofs.Beginning.{over_at, IsOver, feed_over,
 use Rattle.yaml_parse_laws_windows.proofs.Following.{items_of, Plain, plain, plain_through, read_of, went, halted, parse_plain, body_at}
 use Rattle.yaml_parse_laws_windows.proofs.Refusing.{same_front}
 
-some_same : {x y : Fault} → Some x ≡ Some y → x ≡ y
-some_same e = cc
-
-none_some : {A : Type 0} {x : A} → None ≡ Some x → ⊥
-none_some e = cc
-
 -- whatever follows
 abbrev Stay : List Token → List State → Directives → Fault → Type 0
 Stay front s ds g = (behind : List Token) (own : Option Fault)
@@ -34,8 +29,8 @@ Stay front s ds g = (behind : List Token) (own : Option Fault)
 nothing_left : (s : List State) (ds : Directives) (g f : Fault)
     → (read_of (run [] s (Some g)) ds).ending ≡ Some f → f ≡ g
 unfolding run
-nothing_left [] ds g f e = absurd (none_some e)
-nothing_left (x ∷ s) ds g f e = sym (some_same e)
+nothing_left [] ds g f e = absurd (none-some _ e)
+nothing_left (x ∷ s) ds g f e = sym (same_Some _ _ e)
 
 stay : (front : List Token) (s : List State) (ds : Directives) (g f : Fault)
     → (read_of (run front s (Some g)) ds).ending ≡ Some f → (f ≡ g) ⊎ Stay front s ds g
@@ -51,7 +46,7 @@ stay (t ∷ front) s ds g f e = by (feed s t) refl (λ z w k. stay front z w g f
         let W = run (front ++ behind) z own in
         let R = run front z (Some g) in
         went t (front ++ behind) s z own is ds k
-        ∙ same_front is ds (items_of W.items) (items_of R.items) W.ending R.ending (λ es w there. absurd (none_some (sym told ∙ there)))
+        ∙ same_front is ds (items_of W.items) (items_of R.items) W.ending R.ending (λ es w there. absurd (none-some _ (sym told ∙ there)))
         ∙ sym (went t front s z (Some g) is ds k))
     passing is z k (Some x) told rec =
         let R = run front z (Some g) in
@@ -121,7 +116,7 @@ over_stays s ds g m e n f p ends behind own =
         (λ es w told.
         let stands : Stands (state.documents ∷ []) w = subst (λ y. Stands y w) h (fine es w told) in
         let accepts = ap (λ y. (read_of (run (end_at n f ∷ []) y None) w).ending) h ∙ over_accepts n f w stands.1 in
-        absurd (none_some (sym accepts ∙ sym (ap (λ (q : Plain). q.ending) (here ∙ plain_through is (items_of R.items) R.ending ds w es told)) ∙ ends)))
+        absurd (none-some _ (sym accepts ∙ sym (ap (λ (q : Plain). q.ending) (here ∙ plain_through is (items_of R.items) R.ending ds w es told)) ∙ ends)))
         ∙ sym here
 
 ended_stay : (front : List Token) (s : List State) (ds : Directives) → Stands s ds → GoOn front

@@ -20,21 +20,15 @@ use Rattle.yaml_round_content.specs.DumpsLaws.{ContentIsSaid, ContentIsLoaded, C
 
 same_kind : (b : model.NodeBody) → HasKind (core_body b) → HasKind b
 same_kind model.no h = h
-same_kind (model.scalar value style) h = h
-same_kind (model.sequence items style) h = h
-same_kind (model.mapping pairs style) h = h
+same_kind _ h = h
 
 core_kind : (b : model.NodeBody) → HasKind b → HasKind (core_body b)
 core_kind model.no h = h
-core_kind (model.scalar value style) h = h
-core_kind (model.sequence items style) h = h
-core_kind (model.mapping pairs style) h = h
+core_kind _ h = h
 
 core_children : (b : model.NodeBody) → children (core_body b) ≡ children b
 core_children model.no = refl
-core_children (model.scalar value style) = refl
-core_children (model.sequence items style) = refl
-core_children (model.mapping pairs style) = refl
+core_children _ = refl
 
 node_loaded : (m n : model.Node) → core_node m ≡ core_node n → IsLoadedNode n → IsLoadedNode m
 node_loaded m n e h =
@@ -112,9 +106,7 @@ inputs_loaded said numbered loads writable alike from input c h =
 
 body_again : (b : model.NodeBody) → core_body (dumps.core_body b) ≡ core_body b
 body_again model.no = refl
-body_again (model.scalar value style) = refl
-body_again (model.sequence items style) = refl
-body_again (model.mapping pairs style) = refl
+body_again _ = refl
 
 nodes_again : (ns : List model.Node) → map core_node (map dumps.core_node ns) ≡ map core_node ns
 nodes_again [] = refl

@@ -23,15 +23,7 @@ scalar_normalized false anchor tag value plain quoted style = inl refl
 evenly : (ends : Bool) → IsNormalizing (normalize_body ends)
 evenly ends (event.document_end implicit) = (implicit || ends, refl)
 evenly ends (event.scalar anchor tag value plain quoted style) = scalar_normalized (is_lone_mark tag value) anchor tag value plain quoted style
-evenly ends event.no = refl
-evenly ends (event.stream_start encoding) = refl
-evenly ends event.stream_end = refl
-evenly ends (event.document_start version directives implicit) = refl
-evenly ends (event.alias name) = refl
-evenly ends (event.sequence_start anchor tag implicit style) = refl
-evenly ends event.sequence_end = refl
-evenly ends (event.mapping_start anchor tag implicit style) = refl
-evenly ends event.mapping_end = refl
+evenly ends _ = refl
 
 pub input_stream : (from : yaml_encoding_t) (input : List ℕ) (canonical : Bool)
     → ending_of from input ≡ None

@@ -212,17 +212,13 @@ aliased_core (Some n) at l = refl
 
 pub step_core : (b : EventBody) (from to : yaml_mark_t) (l : Loading)
     → core_fed (step_body b from to l) ≡ core_step b (core_loading l)
-step_core event.no from to l = refl
-step_core (event.stream_start encoding) from to l = refl
-step_core event.stream_end from to l = refl
-step_core (event.document_start version directives implicit) from to l = refl
-step_core (event.document_end implicit) from to l = refl
 step_core (event.alias name) from to l = aliased_core (map.get l.anchors name) from l
 step_core (event.scalar anchor tag value plain quoted style) from to l = ap (λ (m : CoreLoading). core_goes_on m) (leaf_core l anchor _)
 step_core (event.sequence_start anchor tag implicit style) from to l = ap (λ (m : CoreLoading). core_goes_on m) (open_core l anchor _ (λ k. open_sequence k []))
 step_core (event.mapping_start anchor tag implicit style) from to l = ap (λ (m : CoreLoading). core_goes_on m) (open_core l anchor _ (λ k. open_mapping k [] None))
 step_core event.sequence_end from to l = ap (λ (m : CoreLoading). core_goes_on m) (closed_core to l l.levels)
 step_core event.mapping_end from to l = ap (λ (m : CoreLoading). core_goes_on m) (closed_core to l l.levels)
+step_core _ from to l = refl
 
 -- ---- whole runs
 

@@ -49,17 +49,8 @@ scalar_said false anchor tag value plain quoted style l e = refl
 
 pub said_step : (b : EventBody) (l : CoreLoading)
     → core_step b l ≡ core_step (content_of (normalize_body true b)) l
-said_step event.no l = refl
-said_step (event.stream_start encoding) l = refl
-said_step event.stream_end l = refl
-said_step (event.document_start version directives implicit) l = refl
-said_step (event.document_end implicit) l = refl
-said_step (event.alias name) l = refl
 said_step (event.scalar anchor tag value plain quoted style) l = scalar_said (is_lone_mark tag value) anchor tag value plain quoted style l refl
-said_step (event.sequence_start anchor tag implicit style) l = refl
-said_step event.sequence_end l = refl
-said_step (event.mapping_start anchor tag implicit style) l = refl
-said_step event.mapping_end l = refl
+said_step _ l = refl
 
 -- Steps that go on alike load alike.
 pub on_same : (x : CoreFed) (f g : CoreLoading → CoreLoads) → ((l : CoreLoading) → f l ≡ g l)

@@ -31,12 +31,8 @@ plain_inside (d ∷ ds) = refl
 
 -- elsewhere it is the place itself
 pub plain_same : (p q : Expected) → (between ≡ q → ⊥) → plain_place p ≡ q → p ≡ q
-plain_same at.StreamStart q n e = e
 plain_same (at.Documents first unended) q n e = absurd (n e)
-plain_same at.Node q n e = e
-plain_same at.DocumentEnd q n e = e
-plain_same at.End q n e = e
-plain_same (at.Refused p) q n e = e
+plain_same _ q n e = e
 
 not_start : between ≡ at.StreamStart → ⊥
 not_start e = cc
@@ -83,22 +79,14 @@ stream_ends : (p : Expected) (ds : List Due) → plain_place p ≡ between
     → IsTaken p ds (emitter_event event.stream_end)
 unfolding place_problem
 stream_ends (at.Documents first unended) ds h = refl
-stream_ends at.StreamStart ds h = absurd (cc)
-stream_ends at.Node ds h = absurd (cc)
-stream_ends at.DocumentEnd ds h = absurd (cc)
-stream_ends at.End ds h = absurd (cc)
-stream_ends (at.Refused p) ds h = absurd (cc)
+stream_ends _ ds h = absurd (cc)
 
 document_starts : (p : Expected) (ds : List Due) (version : _) (directives : _) (implicit : Bool)
     → plain_place p ≡ between
     → IsTaken p ds (emitter_event (event.document_start version directives implicit))
 unfolding place_problem
 document_starts (at.Documents first unended) ds v d i h = refl
-document_starts at.StreamStart ds v d i h = absurd (cc)
-document_starts at.Node ds v d i h = absurd (cc)
-document_starts at.DocumentEnd ds v d i h = absurd (cc)
-document_starts at.End ds v d i h = absurd (cc)
-document_starts (at.Refused p) ds v d i h = absurd (cc)
+document_starts _ ds v d i h = absurd (cc)
 
 node_comes : (p : Expected) (ds : List Due) (e : Event) → begins_node e ≡ true
     → plain_place p ≡ at.Node → IsTaken p ds e
@@ -113,27 +101,19 @@ taken_there p ds (event.stream_start x) h = at_the_place p at.StreamStart ds (em
 taken_there p ds event.stream_end h = stream_ends p ds h
 taken_there p ds (event.document_start v d i) h = document_starts p ds v d i h
 taken_there p ds (event.document_end i) h = at_the_place p at.DocumentEnd ds (emitter_event (event.document_end i)) (plain_same p at.DocumentEnd not_document_end h) refl
-taken_there p ds (event.alias n) h = node_comes p ds (emitter_event (event.alias n)) refl h
-taken_there p ds (event.scalar a t v x y z) h = node_comes p ds (emitter_event (event.scalar a t v x y z)) refl h
-taken_there p ds (event.sequence_start a t i x) h = node_comes p ds (emitter_event (event.sequence_start a t i x)) refl h
-taken_there p ds (event.mapping_start a t i x) h = node_comes p ds (emitter_event (event.mapping_start a t i x)) refl h
 taken_there p ds event.sequence_end h = at_the_place p at.Node ds (emitter_event event.sequence_end) (plain_same p at.Node not_node h.0) (items_end ds h.1)
 taken_there p ds event.mapping_end h = at_the_place p at.Node ds (emitter_event event.mapping_end) (plain_same p at.Node not_node h.0) (pairs_end ds h.1)
+taken_there p ds x h = node_comes p ds (emitter_event x) refl h
 
 moved_there : (h : Progress) (b : EventBody) → Expects (plain h) b
     → plain (progress_after h (emitter_event b)) ≡ moved_by (plain h) b
 unfolding progress_after
 moved_there h event.no e = absurd e
-moved_there h (event.stream_start x) e = refl
-moved_there h event.stream_end e = refl
-moved_there h (event.document_start v d i) e = refl
-moved_there h (event.document_end i) e = refl
 moved_there h (event.alias n) e = plain_inside (behind_node h.due)
 moved_there h (event.scalar a t v x y z) e = plain_inside (behind_node h.due)
-moved_there h (event.sequence_start a t i x) e = refl
-moved_there h (event.mapping_start a t i x) e = refl
 moved_there h event.sequence_end e = plain_inside (outer_due h.due)
 moved_there h event.mapping_end e = plain_inside (outer_due h.due)
+moved_there h _ e = refl
 
 -- ---- normalized
 
@@ -142,29 +122,13 @@ normalized_expected : (b c : EventBody) (h : Progress) → IsNormalized b c → 
 normalized_expected (event.document_end i) c h e x = subst (Expects h) (sym e.1) x
 normalized_expected (event.scalar a t v p q z) c h (inl e) x = subst (Expects h) (sym e) x
 normalized_expected (event.scalar a t v p q z) c h (inr e) x = subst (Expects h) (sym e) x
-normalized_expected event.no c h e x = subst (Expects h) (sym e) x
-normalized_expected (event.stream_start y) c h e x = subst (Expects h) (sym e) x
-normalized_expected event.stream_end c h e x = subst (Expects h) (sym e) x
-normalized_expected (event.document_start v d i) c h e x = subst (Expects h) (sym e) x
-normalized_expected (event.alias n) c h e x = subst (Expects h) (sym e) x
-normalized_expected (event.sequence_start a t i y) c h e x = subst (Expects h) (sym e) x
-normalized_expected (event.mapping_start a t i y) c h e x = subst (Expects h) (sym e) x
-normalized_expected event.sequence_end c h e x = subst (Expects h) (sym e) x
-normalized_expected event.mapping_end c h e x = subst (Expects h) (sym e) x
+normalized_expected _ c h e x = subst (Expects h) (sym e) x
 
 normalized_moved : (b c : EventBody) (h : Progress) → IsNormalized b c → moved_by h c ≡ moved_by h b
 normalized_moved (event.document_end i) c h e = ap (moved_by h) e.1
 normalized_moved (event.scalar a t v p q z) c h (inl e) = ap (moved_by h) e
 normalized_moved (event.scalar a t v p q z) c h (inr e) = ap (moved_by h) e
-normalized_moved event.no c h e = ap (moved_by h) e
-normalized_moved (event.stream_start y) c h e = ap (moved_by h) e
-normalized_moved event.stream_end c h e = ap (moved_by h) e
-normalized_moved (event.document_start v d i) c h e = ap (moved_by h) e
-normalized_moved (event.alias n) c h e = ap (moved_by h) e
-normalized_moved (event.sequence_start a t i y) c h e = ap (moved_by h) e
-normalized_moved (event.mapping_start a t i y) c h e = ap (moved_by h) e
-normalized_moved event.sequence_end c h e = ap (moved_by h) e
-normalized_moved event.mapping_end c h e = ap (moved_by h) e
+normalized_moved _ c h e = ap (moved_by h) e
 
 pub normalized_taken : (b c : EventBody) (h : Progress) → IsNormalized b c → Expects (plain h) b
     → IsTaken h.place h.due (emitter_event c)
@@ -206,15 +170,7 @@ unfolding event_problem last_problem
 normalized_own canonical (event.document_end i) c e h = subst (IsOwn canonical) (sym e.1) (refl, refl)
 normalized_own canonical (event.scalar a t v p q z) c (inl e) h = subst (IsOwn canonical) (sym e) h
 normalized_own canonical (event.scalar a t v p q z) c (inr e) h = subst (IsOwn canonical) (sym e) (bare_own canonical a t v p q z h)
-normalized_own canonical event.no c e h = subst (IsOwn canonical) (sym e) h
-normalized_own canonical (event.stream_start y) c e h = subst (IsOwn canonical) (sym e) h
-normalized_own canonical event.stream_end c e h = subst (IsOwn canonical) (sym e) h
-normalized_own canonical (event.document_start v d i) c e h = subst (IsOwn canonical) (sym e) h
-normalized_own canonical (event.alias n) c e h = subst (IsOwn canonical) (sym e) h
-normalized_own canonical (event.sequence_start a t i y) c e h = subst (IsOwn canonical) (sym e) h
-normalized_own canonical (event.mapping_start a t i y) c e h = subst (IsOwn canonical) (sym e) h
-normalized_own canonical event.sequence_end c e h = subst (IsOwn canonical) (sym e) h
-normalized_own canonical event.mapping_end c e h = subst (IsOwn canonical) (sym e) h
+normalized_own canonical _ c e h = subst (IsOwn canonical) (sym e) h
 
 pub no_problem : (canonical : Bool) (h : Progress) (b : EventBody)
     → IsTaken h.place h.due (emitter_event b) → IsOwn canonical b
@@ -228,12 +184,4 @@ no_problem canonical h b t o =
 pub unchanged : IsNormalizing (λ (b : EventBody). b)
 unchanged (event.document_end i) = (i, refl)
 unchanged (event.scalar a t v p q z) = inl refl
-unchanged event.no = refl
-unchanged (event.stream_start y) = refl
-unchanged event.stream_end = refl
-unchanged (event.document_start v d i) = refl
-unchanged (event.alias n) = refl
-unchanged (event.sequence_start a t i y) = refl
-unchanged (event.mapping_start a t i y) = refl
-unchanged event.sequence_end = refl
-unchanged event.mapping_end = refl
+unchanged _ = refl

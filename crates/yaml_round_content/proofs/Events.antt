@@ -125,12 +125,7 @@ body_says (event.document_start version directives implicit) e u r = (e, prefixe
 body_says (event.alias name) e u r = name_writable problem.AliasEmpty problem.AliasCharacters name (or_both (name_problem problem.AliasEmpty problem.AliasCharacters name) None e).0
 body_says (event.sequence_start anchor tag implicit style) e u r = start_says anchor tag u.1 e
 body_says (event.mapping_start anchor tag implicit style) e u r = start_says anchor tag u.1 e
-body_says event.no e u r = tt
-body_says (event.stream_start encoding) e u r = tt
-body_says event.stream_end e u r = tt
-body_says (event.document_end implicit) e u r = tt
-body_says event.sequence_end e u r = tt
-body_says event.mapping_end e u r = tt
+body_says _ e u r = tt
 
 pub told_say : (ts : List Told) → own_problems true (emitter_events true ts) ≡ None
     → HaveUtf8Texts ts → AreRight ts → MaySayAll (contents ts)

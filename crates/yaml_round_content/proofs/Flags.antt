@@ -24,16 +24,7 @@ scalar_flagged false anchor (Some t) value plain quoted style h = λ e. absurd (
 
 body_flagged : (b : EventBody) → IsRight b → IsFlagged (emitter_event (normalize_body true b))
 body_flagged (event.scalar anchor tag value plain quoted style) h = scalar_flagged (is_lone_mark tag value) anchor tag value plain quoted style h
-body_flagged (event.document_end implicit) h = tt
-body_flagged event.no h = tt
-body_flagged (event.stream_start encoding) h = tt
-body_flagged event.stream_end h = tt
-body_flagged (event.document_start version directives implicit) h = tt
-body_flagged (event.alias name) h = tt
-body_flagged (event.sequence_start anchor tag implicit style) h = tt
-body_flagged event.sequence_end h = tt
-body_flagged (event.mapping_start anchor tag implicit style) h = tt
-body_flagged event.mapping_end h = tt
+body_flagged _ h = tt
 
 told_flagged : (ts : List Told) → AreRight ts → AreFlagged (emitter_events true ts)
 told_flagged [] h = tt

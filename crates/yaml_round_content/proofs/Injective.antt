@@ -38,10 +38,8 @@ scalar_kind anchor (tagged t) value = refl
 
 begins : (n : Node) (es : List EventBody) → first_kind (node_says n es) ≡ node_kind n
 unfolding node_says
-begins (alias name) es = refl
 begins (scalar anchor mark value) es = scalar_kind anchor mark value
-begins (sequence anchor tag items) es = refl
-begins (mapping anchor tag pairs) es = refl
+begins _ es = refl
 
 same_kind : (m n : Node) (x y : List EventBody) → node_says m x ≡ node_says n y
     → node_kind m ≡ node_kind n
@@ -49,9 +47,7 @@ same_kind m n x y e = sym (begins m x) ∙ ap (λ (es : List EventBody). first_k
 
 no_kind : (n : Node) → node_kind n ≡ 0 → ⊥
 no_kind (alias name) e = absurd (cc)
-no_kind (scalar anchor mark value) e = absurd (cc)
-no_kind (sequence anchor tag items) e = absurd (cc)
-no_kind (mapping anchor tag pairs) e = absurd (cc)
+no_kind _ e = absurd (cc)
 
 -- a node is none of the events that end one
 not_end : (n : Node) (x y : List EventBody) (b : EventBody) → kind b ≡ 0 → b ∷ x ≡ node_says n y → ⊥

@@ -144,17 +144,9 @@ normalized_implicit true anchor tag value plain quoted style = tt
 normalized_implicit false anchor tag value plain quoted style = tt
 
 body_implicit : (b : EventBody) → IsImplicit (emit.emitter_event (normalize_body true b))
-body_implicit event.no = tt
-body_implicit (event.stream_start encoding) = tt
-body_implicit event.stream_end = tt
-body_implicit (event.document_start version directives implicit) = tt
 body_implicit (event.document_end implicit) = or-true implicit
-body_implicit (event.alias name) = tt
 body_implicit (event.scalar anchor tag value plain quoted style) = normalized_implicit (is_lone_mark tag value) anchor tag value plain quoted style
-body_implicit (event.sequence_start anchor tag implicit style) = tt
-body_implicit event.sequence_end = tt
-body_implicit (event.mapping_start anchor tag implicit style) = tt
-body_implicit event.mapping_end = tt
+body_implicit _ = tt
 
 said_implicit : (es : List Told) → AreImplicit (emitter_events true es)
 said_implicit [] = tt
@@ -233,9 +225,7 @@ canonical_is s e = ap (λ (b : Bool). record { encoding = s.encoding; canonical 
 encoding_fixed : (wish stream : yaml_encoding_t) → IsSet wish
     → settled_encoding wish stream ≡ settled_encoding wish YAML_ANY_ENCODING
 encoding_fixed YAML_ANY_ENCODING stream h = absurd h
-encoding_fixed YAML_UTF8_ENCODING stream h = refl
-encoding_fixed YAML_UTF16LE_ENCODING stream h = refl
-encoding_fixed YAML_UTF16BE_ENCODING stream h = refl
+encoding_fixed _ stream h = refl
 
 settled_fixed : (w : RequestedSettings) (stream : yaml_encoding_t) → IsSet w.encoding
     → settled w stream ≡ settled w YAML_ANY_ENCODING

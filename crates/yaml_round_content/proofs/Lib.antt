@@ -22,7 +22,7 @@ mod Placed
 mod Numbered
 mod ByContent
 pub mod Loaded
-mod Tokens
+pub mod Tokens
 mod Scalars
 pub mod Flags
 mod Decoded
@@ -44,6 +44,7 @@ pub use Rattle.yaml_emit_laws_dumps.proofs.Loading as ContentLoading
 pub use Rattle.yaml_emit_laws_dumps.proofs.Naming
 pub use Rattle.yaml_emit_laws_dumps.proofs.Passing
 pub use Rattle.yaml_emit_laws_dumps.proofs.Sound
+pub use Rattle.yaml_emit_laws_dumps.proofs.Throughout
 pub use Rattle.yaml_emit_laws_dumps.proofs.CompleteStream
 pub use Rattle.yaml_emit_laws_dumps.proofs.Utf8 as ContentUtf8
 pub use Rattle.yaml_emit_laws_dumps.proofs.AllGiven

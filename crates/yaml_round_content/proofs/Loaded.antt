@@ -1,5 +1,6 @@
 -- What an input loads is its plain loading.
 use Rattle.std.proofs.Common.{◌≡◌, ℕ, List, Option, Some, None, Ok, Err, ap, sym, subst, ◌∙◌}
+use Rattle.std.proofs.lemmas.Option.{same_Some}
 use Rattle.yaml_round_content.specs.scan_model.declared.yaml_encoding_t.{yaml_encoding_t}
 use Rattle.yaml_round_content.specs.scan_model.Tokens.{Token}
 use Rattle.yaml_round_content.specs.scan_model.Faults.{Fault}
@@ -54,14 +55,11 @@ same_documents ts own ds h = h.documents ∙ sym (numbered_documents ts own h.se
 apart : (e : Fault) (A : Type 0) → None ≡ Some e → A
 apart e A h = cc
 
-same_error : (e f : Fault) → Some e ≡ Some f → e ≡ f
-same_error e f h = cc
-
 pub one_of_tokens : SourceLoadingIsOne
 one_of_tokens ts own (Ok ds) (Ok es) p q = ap (λ (z : List Document). Ok z) (same_documents ts own ds p ∙ sym (same_documents ts own es q))
 one_of_tokens ts own (Ok ds) (Err e) p q = apart e _ (one_load_fault ts own None (Some e) (as_sentence ts ds p) q)
 one_of_tokens ts own (Err e) (Ok ds) p q = apart e _ (one_load_fault ts own None (Some e) (as_sentence ts ds q) p)
-one_of_tokens ts own (Err e) (Err f) p q = ap (λ (z : Fault). Err z) (same_error e f (one_load_fault ts own (Some e) (Some f) p q))
+one_of_tokens ts own (Err e) (Err f) p q = ap (λ (z : Fault). Err z) (same_Some e f (one_load_fault ts own (Some e) (Some f) p q))
 
 -- ---- inputs
 

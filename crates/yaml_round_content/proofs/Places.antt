@@ -1,27 +1,25 @@
 -- A step of the machine gives items in their right places, and leaves a stack that stands for what has come.
-use Rattle.std.proofs.Common.{◌≡◌, Bool, true, false, if◌then◌else◌, ◌||◌, List, [], ◌∷◌, ◌++◌, Option, Some, None, refl, sym, ap, subst, ◌∙◌, append_assoc}
+use Rattle.std.proofs.Common.{◌≡◌, true, List, [], ◌∷◌, ◌++◌, Option, Some, None, refl, sym, ap, subst, ◌∙◌, append_assoc}
 use Rattle.yaml_emit_laws_dumps.specs.parse_model.declared.yaml_mark_t.{yaml_mark_t}
 use Rattle.yaml_emit_laws_dumps.specs.parse_model.declared.yaml_token_type_t.{yaml_token_type_t}
-use Rattle.yaml_emit_laws_dumps.specs.parse_model.declared.yaml_token_type_t.TheVariants as kind
 use Rattle.yaml_emit_laws_dumps.specs.parse_model.Tokens.{Token, TokenBody, type_of}
 use Rattle.yaml_emit_laws_dumps.specs.parse_model.Tokens as token
 use Rattle.yaml_emit_laws_dumps.specs.parse_grammar.declared.Wants.{Wants}
 use Rattle.yaml_emit_laws_dumps.specs.parse_grammar.declared.Wants.TheVariants.{Flow, Block}
 use Rattle.yaml_emit_laws_dumps.specs.parse_grammar.declared.Brackets.{Brackets}
 use Rattle.yaml_emit_laws_dumps.specs.parse_grammar.declared.Brackets.TheVariants as brackets
-use Rattle.yaml_emit_laws_dumps.specs.parse_grammar.declared.Site.TheVariants.{Root}
+use Rattle.yaml_emit_laws_dumps.specs.parse_grammar.declared.Site.TheVariants.{Root, IndentlessEntry}
 use Rattle.yaml_emit_laws_dumps.specs.parse_grammar.declared.Choice.{Choice}
 use Rattle.yaml_emit_laws_dumps.specs.parse_grammar.declared.Choice.TheVariants.{Refuse, Take, Leave, Open}
-use Rattle.yaml_emit_laws_dumps.specs.parse_grammar.declared.ParseProblem.{ParseProblem}
-use Rattle.yaml_emit_laws_dumps.specs.parse_grammar.declared.ParseProblem.TheVariants as problem
-use Rattle.yaml_emit_laws_dumps.specs.parse_grammar.Items.{RawEvent, Properties, item_at}
+use Rattle.yaml_emit_laws_dumps.specs.parse_grammar.Items.{RawEvent, Properties, Shape, item_at, node_at}
 use Rattle.yaml_emit_laws_dumps.specs.parse_grammar.Items as item
-use Rattle.yaml_emit_laws_dumps.specs.parse_grammar.States.{State, Taken}
+use Rattle.yaml_emit_laws_dumps.specs.parse_grammar.States.{State}
 use Rattle.yaml_emit_laws_dumps.specs.parse_grammar.States as state
-use Rattle.yaml_emit_laws_dumps.specs.parse_grammar.Machine.{choice_at, taken_at, documents_taken, content_taken, node_taken, with_properties_taken, items_taken, more_taken, stream_taken, entries_taken, pairs_taken, left_at, parts_documents, starts_node, starts_content, follows, wants_of, no_node, joins, closes, no_end, Fed, stop, go, with_item, given_by, turn, feed}
+use Rattle.yaml_emit_laws_dumps.specs.parse_grammar.Machine.{choice_at, taken_at, documents_taken, content_taken, node_taken, with_properties_taken, items_taken, more_taken, stream_taken, entries_taken, pairs_taken, left_at, wants_of, Fed, stop, go, with_item, given_by, turn, feed}
 use Rattle.yaml_emit_laws_dumps.specs.emit_layout.declared.Expected.TheVariants as at
 use Rattle.yaml_emit_laws_dumps.specs.emit_layout.Progress.{Due, item_due, key_due, value_due, Progress, at_place, inside, behind_node}
-use Rattle.yaml_round_content.proofs.Stacks.{between, dues, shape_of, node_shape, AreRight, IsPlaced, moved, Leads}
+use Rattle.yaml_emit_laws_dumps.proofs.Rules.{MayLeave, leave_rule, opens_first, was_take}
+use Rattle.yaml_round_content.proofs.Stacks.{between, dues, shape_of, node_shape, AreRight, IsPlaced, moved_kind, moved, Leads}
 
 -- ---- taking a token
 
@@ -44,16 +42,12 @@ opens_pairs : (s : List State)
     → inside (key_due ∷ behind_node (behind_node (dues s))) ≡ inside (key_due ∷ dues s)
 opens_pairs s = ap (λ ds. inside (key_due ∷ ds)) (twice (dues s))
 
--- what is refused isn't taken
-refused_untaken : (p : ParseProblem) (o : Option yaml_mark_t) → Refuse p o ≡ Take → ⊥
-refused_untaken p o h = cc
-
 stream_leads : (start end : yaml_mark_t) (b : TokenBody) (s : List State)
     → choice_at state.stream (type_of b) ≡ Take → AreRight (state.stream ∷ s)
     → Leads (shape_of (state.stream ∷ s)) (stream_taken start end b).item
     ((stream_taken start end b).above ++ s)
 stream_leads start end (token.stream_start e) s c h = (refl, (refl, h))
-stream_leads start end _ s c h = absurd (refused_untaken problem.NoStreamStart None c)
+stream_leads start end _ s c h = absurd (was_take _ c)
 
 documents_lead : (from start end : yaml_mark_t) (b : TokenBody) (s : List State)
     → AreRight (state.documents ∷ s)
@@ -65,25 +59,26 @@ documents_lead from start end token.document_start s h = (refl, (refl, (refl, (a
 documents_lead from start end token.stream_end s h = (refl, (sym (ap shape_of h.0), h.1))
 documents_lead from start end _ s h = (refl, h)
 
+-- a node in its place, whatever its properties
+at_node : (h : Progress) (z : List State) (p : Option Properties) (k : Shape)
+    (start end : yaml_mark_t) → h.place ≡ at.Node → moved_kind h k ≡ shape_of z → AreRight z
+    → Leads h (Some (node_at p k start end)) z
+at_node h z None k start end e f r = (e, (f, r))
+at_node h z (Some q) k start end e f r = (e, (f, r))
+
 content_leads : (w : Wants) (p : Option Properties) (start end : yaml_mark_t) (b : TokenBody)
     (s : List State) → shape_of s ≡ inside (dues s) → AreRight s
     → Leads (node_shape s) (content_taken w p start end b).item
     ((content_taken w p start end b).above ++ s)
-content_leads w None start end (token.scalar v x) s e r = (refl, (behind s e, r))
-content_leads w (Some q) start end (token.scalar v x) s e r = (refl, (behind s e, r))
-content_leads w None start end token.flow_sequence_start s e r = (refl, (opens_items s, (e, r)))
-content_leads w (Some q) start end token.flow_sequence_start s e r = (refl, (opens_items s, (e, r)))
-content_leads w None start end token.flow_mapping_start s e r = (refl, (opens_pairs s, (e, r)))
-content_leads w (Some q) start end token.flow_mapping_start s e r = (refl, (opens_pairs s, (e, r)))
-content_leads w None start end token.block_sequence_start s e r = (refl, (opens_items s, (e, r)))
-content_leads w (Some q) start end token.block_sequence_start s e r = (refl, (opens_items s, (e, r)))
-content_leads w None start end token.block_mapping_start s e r = (refl, (opens_pairs s, (e, r)))
-content_leads w (Some q) start end token.block_mapping_start s e r = (refl, (opens_pairs s, (e, r)))
-content_leads (Block (Some x)) None start end token.block_entry s e r = (refl, (opens_items s, (refl, (e, r))))
-content_leads (Block (Some x)) (Some q) start end token.block_entry s e r = (refl, (opens_items s, (refl, (e, r))))
-content_leads (Block None) q start end token.block_entry s e r = (refl, (e, r))
-content_leads Flow q start end token.block_entry s e r = (refl, (e, r))
-content_leads w q start end _ s e r = (refl, (e, r))
+content_leads w p start end (token.scalar v x) s e r = at_node (node_shape s) s p (item.scalar v x) start end refl (behind s e) r
+content_leads w p start end token.flow_sequence_start s e r = at_node (node_shape s) (state.items brackets.Sequence start ∷ s) p (item.sequence _) start end refl (opens_items s) (e, r)
+content_leads w p start end token.flow_mapping_start s e r = at_node (node_shape s) (state.items brackets.Mapping start ∷ s) p (item.mapping _) start end refl (opens_pairs s) (e, r)
+content_leads w p start end token.block_sequence_start s e r = at_node (node_shape s) (state.entries start ∷ s) p (item.sequence _) start end refl (opens_items s) (e, r)
+content_leads w p start end token.block_mapping_start s e r = at_node (node_shape s) (state.pairs start ∷ s) p (item.mapping _) start end refl (opens_pairs s) (e, r)
+content_leads (Block (Some x)) p start end token.block_entry s e r = at_node (node_shape s) (state.optional (IndentlessEntry x) end ∷ state.others x ∷ s) p (item.sequence _) start end refl (opens_items s) (refl, (e, r))
+content_leads (Block None) p start end token.block_entry s e r = (refl, (e, r))
+content_leads Flow p start end token.block_entry s e r = (refl, (e, r))
+content_leads w p start end _ s e r = (refl, (e, r))
 
 node_leads : (w : Wants) (start end : yaml_mark_t) (b : TokenBody) (s : List State)
     → shape_of s ≡ inside (dues s) → AreRight s
@@ -160,94 +155,30 @@ taken_leads (state.colon place) t s c h = (refl, h)
 taken_leads (state.with_properties w q) t s c h = with_properties_leads w q t.start_mark t.end_mark t.body s h.0 h.1
 taken_leads (state.items b o) t s c h = items_lead b o t.start_mark t.end_mark t.body s h
 taken_leads (state.more b o) t s c h = more_leads b o t.start_mark t.end_mark t.body s h
-taken_leads state.pair_end t s c h = cc
-taken_leads state.lone t s c h = cc
+taken_leads state.pair_end t s c h = absurd (was_take _ c)
+taken_leads state.lone t s c h = absurd (was_take _ c)
 
 -- ---- leaving a state
 
-not_left : (a : Bool) (p : ParseProblem) (o : Option yaml_mark_t)
-    → (if a then Take else Refuse p o) ≡ Leave → ⊥
-not_left true p o h = cc
-not_left false p o h = cc
-
-not_left_first : (a b : Bool) (p : ParseProblem)
-    → (if a then Take else if b then Open else Refuse p None) ≡ Leave → ⊥
-not_left_first true b p h = cc
-not_left_first false true p h = cc
-not_left_first false false p h = cc
-
 left_leads : (x : State) (k : yaml_token_type_t) (start : yaml_mark_t) (s : List State)
-    → choice_at x k ≡ Leave → AreRight (x ∷ s) → Leads (shape_of (x ∷ s)) (Some (left_at x start)) s
-left_leads state.stream kind.YAML_STREAM_START_TOKEN start s c h = cc
-left_leads state.stream _ start s c h = cc
-left_leads state.first k start s c h = absurd (not_left_first (parts_documents k) (starts_node (Block None) k) problem.NoBlockNode c)
-left_leads state.documents kind.YAML_DOCUMENT_END_TOKEN start s c h = cc
-left_leads state.documents k start s c h = absurd (not_left (parts_documents k) problem.NoDocumentStart None c)
-left_leads (state.directives from) kind.YAML_STREAM_END_TOKEN start s c h = cc
-left_leads (state.directives from) k start s c h = absurd (not_left (parts_documents k) problem.NoDocumentStart None c)
-left_leads (state.entries o) kind.YAML_BLOCK_ENTRY_TOKEN start s c h = cc
-left_leads (state.entries o) kind.YAML_BLOCK_END_TOKEN start s c h = cc
-left_leads (state.entries o) _ start s c h = cc
-left_leads (state.pairs o) kind.YAML_KEY_TOKEN start s c h = cc
-left_leads (state.pairs o) kind.YAML_BLOCK_END_TOKEN start s c h = cc
-left_leads (state.pairs o) _ start s c h = cc
-left_leads (state.items b o) kind.YAML_KEY_TOKEN start s c h = cc
-left_leads (state.items b o) k start s c h = absurd (not_left (closes b k || starts_node Flow k) problem.NoFlowNode None c)
-left_leads (state.more b o) kind.YAML_FLOW_ENTRY_TOKEN start s c h = cc
-left_leads (state.more b o) k start s c h = absurd (not_left (closes b k) (no_end b) (Some o) c)
-left_leads (state.optional place before) k start s c h = (refl, (behind s h.0, h.1))
-left_leads (state.colon place) k start s c h = (refl, (behind s h.0, h.1))
-left_leads (state.with_properties w q) k start s c h = (refl, (behind s h.0, h.1))
-left_leads state.lone k start s c h = (refl, (behind s h.0, h.1))
-left_leads state.document_end k start s c h = (refl, (sym (ap shape_of h.0), h.1))
-left_leads (state.others side) k start s c h = ((refl, refl), (sym h.0, h.1))
-left_leads state.pair_end k start s c h = ((refl, refl), (sym h.0, h.1))
+    → MayLeave x k → AreRight (x ∷ s) → Leads (shape_of (x ∷ s)) (Some (left_at x start)) s
+left_leads (state.optional place before) k start s l h = (refl, (behind s h.0, h.1))
+left_leads (state.colon place) k start s l h = (refl, (behind s h.0, h.1))
+left_leads (state.with_properties w q) k start s l h = (refl, (behind s h.0, h.1))
+left_leads state.lone k start s l h = (refl, (behind s h.0, h.1))
+left_leads state.document_end k start s l h = (refl, (sym (ap shape_of h.0), h.1))
+left_leads (state.others side) k start s l h = ((refl, refl), (sym h.0, h.1))
+left_leads state.pair_end k start s l h = ((refl, refl), (sym h.0, h.1))
+left_leads _ k start s l h = absurd l
 
 -- ---- an implicit document
-
-not_opened : (b : Bool) (p : ParseProblem) (o : Option yaml_mark_t)
-    → (if b then Take else Refuse p o) ≡ Open → ⊥
-not_opened true p o h = cc
-not_opened false p o h = cc
-
-not_opened_with_properties : (b : Bool) → (if b then Take else Leave) ≡ Open → ⊥
-not_opened_with_properties true h = cc
-not_opened_with_properties false h = cc
-
-not_opened_optional : (a b : Bool) (p : ParseProblem)
-    → (if a then Leave else if b then Take else Refuse p None) ≡ Open → ⊥
-not_opened_optional true b p h = cc
-not_opened_optional false true p h = cc
-not_opened_optional false false p h = cc
 
 -- it opens where documents may come
 opens_between : (x : State) (k : yaml_token_type_t) (s : List State) → choice_at x k ≡ Open
     → AreRight (x ∷ s) → (shape_of (x ∷ s) ≡ at_place between) × (s ≡ [])
-opens_between state.stream kind.YAML_STREAM_START_TOKEN s c h = cc
-opens_between state.stream _ s c h = cc
-opens_between state.first k s c h = (refl, h.0)
-opens_between state.documents k s c h = (refl, h.0)
-opens_between (state.directives from) k s c h = (refl, h.0)
-opens_between (state.optional place before) k s c h = absurd (not_opened_optional (follows place k) (starts_node (wants_of place) k) (no_node (wants_of place)) c)
-opens_between state.document_end kind.YAML_DOCUMENT_END_TOKEN s c h = cc
-opens_between state.document_end _ s c h = cc
-opens_between (state.entries o) kind.YAML_BLOCK_ENTRY_TOKEN s c h = cc
-opens_between (state.entries o) kind.YAML_BLOCK_END_TOKEN s c h = cc
-opens_between (state.entries o) _ s c h = cc
-opens_between (state.others side) kind.YAML_BLOCK_ENTRY_TOKEN s c h = cc
-opens_between (state.others side) _ s c h = cc
-opens_between (state.pairs o) kind.YAML_KEY_TOKEN s c h = cc
-opens_between (state.pairs o) kind.YAML_BLOCK_END_TOKEN s c h = cc
-opens_between (state.pairs o) _ s c h = cc
-opens_between (state.colon place) kind.YAML_VALUE_TOKEN s c h = cc
-opens_between (state.colon place) _ s c h = cc
-opens_between (state.with_properties w q) k s c h = absurd (not_opened_with_properties (joins q k || starts_content w k) c)
-opens_between (state.items b o) kind.YAML_KEY_TOKEN s c h = cc
-opens_between (state.items b o) k s c h = absurd (not_opened (closes b k || starts_node Flow k) problem.NoFlowNode None c)
-opens_between (state.more b o) kind.YAML_FLOW_ENTRY_TOKEN s c h = cc
-opens_between (state.more b o) k s c h = absurd (not_opened (closes b k) (no_end b) (Some o) c)
-opens_between state.pair_end k s c h = cc
-opens_between state.lone k s c h = cc
+opens_between x k s c h =
+    let e = opens_first x k c in
+    (ap (λ (y : State). shape_of (y ∷ s)) e, (subst (λ (y : State). AreRight (y ∷ s)) e h).0)
 
 -- ---- a stack at a token
 
@@ -291,7 +222,7 @@ turn_leads : (c : Choice) (x : State) (t : Token) (s : List State) (below : Fed)
 turn_leads (Refuse p o) x t s below c h k = tt
 turn_leads Take x t s below c h k = given_leads (shape_of (x ∷ s)) (taken_at x t).item (taken_at x t).above s (taken_leads x t s c h)
 turn_leads Leave x t s below c h k =
-    let l : Leads (shape_of (x ∷ s)) (Some (left_at x t.start_mark)) s = left_leads x (type_of t.body) t.start_mark s c h in
+    let l : Leads (shape_of (x ∷ s)) (Some (left_at x t.start_mark)) s = left_leads x (type_of t.body) t.start_mark s (leave_rule x (type_of t.body) c) h in
     with_leads (shape_of (x ∷ s)) (left_at x t.start_mark) below l.0 (subst (λ (z : Progress). FedLeads z below) (sym l.1.0) k)
 turn_leads Open x t s below c h k =
     let o : (shape_of (x ∷ s) ≡ at_place between) × (s ≡ []) = opens_between x (type_of t.body) s c h in

@@ -95,14 +95,12 @@ scalar_tagged anchor t value style false h = ap (λ (l : Bool). content_of (norm
 
 event_says : (anchor tag : Option (List ℕ)) (shape : Shape)
     → content_of (normalize_body true (node_event anchor tag shape)) ≡ shape_says anchor tag shape
-event_says anchor None item.empty = refl
 event_says anchor None (item.scalar value style) = ap (λ (b : Bool). scalar_says anchor (untagged b) value) (same_plain style)
-event_says anchor None (item.sequence style) = refl
-event_says anchor None (item.mapping style) = refl
 event_says anchor (Some t) item.empty = empty_tagged anchor t (bytes_eq t (codes "!")) (lone_is t)
 event_says anchor (Some t) (item.scalar value style) = scalar_tagged anchor t value style (bytes_eq t (codes "!")) (λ h. no_mark t value h)
 event_says anchor (Some t) (item.sequence style) = refl
 event_says anchor (Some t) (item.mapping style) = refl
+event_says anchor None _ = refl
 
 -- ---- tags
 

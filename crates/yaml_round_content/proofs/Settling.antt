@@ -45,11 +45,9 @@ tagged_expected false anchor tag value style h e = e
 
 node_expected : (anchor tag : Option (List ℕ)) (k : Kind) (h : Progress) → h.place ≡ at.Node
     → Expects h (node_event anchor tag k)
-node_expected anchor tag item.empty h e = e
 node_expected anchor None (item.scalar value style) h e = e
 node_expected anchor (Some tag) (item.scalar value style) h e = tagged_expected (bytes_eq tag (codes "!")) anchor tag value style h e
-node_expected anchor tag (item.sequence style) h e = e
-node_expected anchor tag (item.mapping style) h e = e
+node_expected anchor tag _ h e = e
 
 tagged_moved : (t : Bool) (anchor : Option (List ℕ)) (tag value : List ℕ)
     (style : yaml_scalar_style_t) (h : Progress)
@@ -60,11 +58,9 @@ tagged_moved false anchor tag value style h = refl
 
 node_moved : (anchor tag : Option (List ℕ)) (k : Kind) (h : Progress)
     → moved_by h (node_event anchor tag k) ≡ moved_kind h k
-node_moved anchor tag item.empty h = refl
 node_moved anchor None (item.scalar value style) h = refl
 node_moved anchor (Some tag) (item.scalar value style) h = tagged_moved (bytes_eq tag (codes "!")) anchor tag value style h
-node_moved anchor tag (item.sequence style) h = refl
-node_moved anchor tag (item.mapping style) h = refl
+node_moved anchor tag _ h = refl
 
 node_placed : (normalize : EventBody → EventBody) → IsNormalizing normalize
     → (h : Progress) (anchor : Option (List ℕ)) (written : Option _) (tag : Option (List ℕ))

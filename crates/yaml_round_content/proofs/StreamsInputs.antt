@@ -1,9 +1,6 @@
 -- The events of an input.
-use Rattle.std.proofs.Common.{◌≡◌, ℕ, Bool, true, List, [], ◌∷◌, Option, None, inl, inr}
-use Rattle.std.proofs.lemmas.Bool.{cases_Bool}
+use Rattle.std.proofs.Common.{◌≡◌, ℕ, Bool, true, List, [], ◌∷◌, None}
 use Rattle.yaml_emit_laws_dumps.specs.parse_model.declared.yaml_encoding_t.{yaml_encoding_t}
-use Rattle.yaml_emit_laws_dumps.specs.parse_model.Tokens.{Token}
-use Rattle.yaml_emit_laws_dumps.specs.parse_model.Faults.{Fault}
 use Rattle.yaml_scan_laws_texts.specs.scan_history.Scanned.{scanned}
 use Rattle.yaml_scan_laws_texts.specs.Spelled.{AreSpelled}
 use Rattle.yaml_scan_laws_texts.proofs.Inputs.{scanned_spelled}
@@ -15,22 +12,14 @@ use Rattle.yaml_emit_laws_dumps.specs.emit_layout.Progress.{first_progress}
 use Rattle.yaml_emit_laws_dumps.specs.StreamsLaws.{AreRightTold}
 use Rattle.yaml_emit_laws_dumps.proofs.Passing.{streams, fronts, own_right}
 use Rattle.yaml_emit_laws_dumps.proofs.Loading.{taken}
-use Rattle.yaml_round_laws_adapted.specs.Adapted.{spells_text, cut, adapted}
+use Rattle.yaml_round_laws_adapted.specs.Adapted.{adapted}
 use Rattle.yaml_round_content.specs.Normalized.{IsNormalizing}
 use Rattle.yaml_round_content.specs.StreamsLaws.{emitter_events_by, IsRightReading, parsed_input, InputsAreStreams, InputsAreFronts, InputsLoadRight}
+use Rattle.yaml_round_content.proofs.Tokens.{cut_spelled}
 use Rattle.yaml_round_content.proofs.Emitted.{or_both, unchanged}
 use Rattle.yaml_round_content.proofs.Whole.{parsed_is_right}
 
 -- ---- its tokens
-
-cut_spelled : (fault : Option Fault) (ts : List Token) → AreSpelled ts
-    → AreSpelled (cut fault ts).tokens
-cut_spelled fault [] h = tt
-cut_spelled fault (t ∷ ts) h =
-    elim (cases_Bool (spells_text t.body)) [
-      | inl e ↦ rw e (h.0, cut_spelled fault ts h.1)
-      | inr e ↦ rw e tt
-    ]
 
 adapted_spelled : (from : yaml_encoding_t) (input : List ℕ)
     → AreSpelled (adapted (scanned from input)).tokens

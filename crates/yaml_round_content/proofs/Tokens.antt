@@ -10,7 +10,8 @@ use Rattle.yaml_round_content.specs.round_laws_adapted.Adapted.{spells_text, cut
 use Rattle.yaml_round_content.specs.scan_laws_texts.Spelled.{AreSpelled}
 use Rattle.yaml_round_content.proofs.Inputs.{scanned_spelled}
 
-cut_spelled : (fault : Option Fault) (ts : List Token) → AreSpelled ts
+-- What is cut stays well spelled.
+pub cut_spelled : (fault : Option Fault) (ts : List Token) → AreSpelled ts
     → AreSpelled (cut fault ts).tokens
 cut_spelled fault [] h = tt
 cut_spelled fault (t ∷ ts) h =
@@ -19,6 +20,7 @@ cut_spelled fault (t ∷ ts) h =
       | inr e ↦ rw e tt
     ]
 
+-- An input's tokens are well spelled.
 pub tokens_spelled : (from : yaml_encoding_t) (input : List ℕ)
     → AreSpelled (tokens_of from input).tokens
 tokens_spelled from input = cut_spelled (scanned from input).fault (scanned from input).tokens (scanned_spelled from input)

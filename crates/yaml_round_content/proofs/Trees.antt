@@ -33,16 +33,7 @@ core emit.mapping_end = event.mapping_end
 
 core_said : (b : EventBody) → content_of b ≡ core (emit.emitter_event b)
 core_said event.no = refl
-core_said (event.stream_start encoding) = refl
-core_said event.stream_end = refl
-core_said (event.document_start version directives implicit) = refl
-core_said (event.document_end implicit) = refl
-core_said (event.alias name) = refl
-core_said (event.scalar anchor tag value plain quoted style) = refl
-core_said (event.sequence_start anchor tag implicit style) = refl
-core_said event.sequence_end = refl
-core_said (event.mapping_start anchor tag implicit style) = refl
-core_said event.mapping_end = refl
+core_said _ = refl
 
 cores : (es : List Told) → contents es ≡ map core (emitter_events true es)
 cores [] = refl

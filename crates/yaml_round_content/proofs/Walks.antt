@@ -71,9 +71,7 @@ Visit = ℤ → Rest → Rest
 inside_bare : (v : Visit) (id : ℤ) (b : model.NodeBody) (r : Rest) (m : Met)
     → inside v id b r m ≡ inside v id (core_body b) r m
 inside_bare v id model.no r m = refl
-inside_bare v id (model.scalar value style) r m = refl
-inside_bare v id (model.sequence items style) r m = refl
-inside_bare v id (model.mapping pairs style) r m = refl
+inside_bare v id _ r m = refl
 
 visited : (n : ℕ) (ns : List model.Node) → visits n ns ≡ visits n (bare ns)
 unfolding visits

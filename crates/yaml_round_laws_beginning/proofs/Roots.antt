@@ -53,16 +53,7 @@ says b = is_nothing_next (emitter_event (normalize_body false b) ∷ [])
 whatever : (e : emit.Event) (es : List emit.Event)
     → is_nothing_next (e ∷ es) ≡ is_nothing_next (e ∷ [])
 whatever emit.no_event es = refl
-whatever (emit.stream_start x) es = refl
-whatever emit.stream_end es = refl
-whatever (emit.document_start o) es = refl
-whatever (emit.document_end i) es = refl
-whatever (emit.alias name) es = refl
-whatever (emit.scalar v) es = refl
-whatever (emit.sequence_start o) es = refl
-whatever emit.sequence_end es = refl
-whatever (emit.mapping_start o) es = refl
-whatever emit.mapping_end es = refl
+whatever _ es = refl
 
 -- a value that is there where it may be plain
 filled : (bare plain : Bool) (value : List ℕ) (style : yaml_scalar_style_t)

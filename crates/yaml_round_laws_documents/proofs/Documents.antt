@@ -47,12 +47,12 @@ note_reads g gs f D E e = ap (λ (s : Settled). read_on s g.0 g.1 (λ x. reading
 
 -- ---- directives
 
-record Directed (ts : List Token) (bs : List TokenBody) (D E : Directives) : Type 0 where
-  directives : List trees.Directive
-  rest : List Token
-  same : ts ≡ spell_directives directives rest
-  left : token_bodies rest ≡ bs
-  gives : (more : List Token) (gs : List Given) (f : Option Fault)
+pub record Directed (ts : List Token) (bs : List TokenBody) (D E : Directives) : Type 0 where
+  pub directives : List trees.Directive
+  pub rest : List Token
+  pub same : ts ≡ spell_directives directives rest
+  pub left : token_bodies rest ≡ bs
+  pub gives : (more : List Token) (gs : List Given) (f : Option Fault)
       → reading (items_directives directives more gs) f D ≡ reading gs f E
 
 tags_directed : (ds before : List TagDirective) (v : Option yaml_version_directive_t)
@@ -84,8 +84,9 @@ tags_directed (d ∷ ds) before v (new, fine) ts bs e =
           ∙ ap (λ (x : List TagDirective). reading gs f (record { version = v; tags = x })) (append_assoc before (d ∷ []) ds);
     }
 
-version_directed : (v : Option yaml_version_directive_t) (ds : List TagDirective) → IsFineVersion v
-    → AreFineTags [] ds → (ts : List Token) (bs : List TokenBody)
+-- Directives are read as they are spelled.
+pub version_directed : (v : Option yaml_version_directive_t) (ds : List TagDirective)
+    → IsFineVersion v → AreFineTags [] ds → (ts : List Token) (bs : List TokenBody)
     → token_bodies ts ≡ version_bodies v (directives_bodies ds bs)
     → Directed ts bs no_directives (record { version = v; tags = ds })
 version_directed None ds known fine ts bs e = tags_directed ds [] None fine ts bs e

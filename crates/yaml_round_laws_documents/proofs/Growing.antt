@@ -1,5 +1,5 @@
 -- Trees from the bodies of tokens.
-use Rattle.std.proofs.Common.{◌≡◌, ℕ, Bool, true, false, not, ◌&&◌, List, [], ◌∷◌, length, Option, Some, None, refl, sym, ap, subst, ◌∙◌, codes}
+use Rattle.std.proofs.Common.{◌≡◌, ℕ, Bool, true, false, not, ◌&&◌, List, [], ◌∷◌, length, Option, Some, None, refl, sym, ap, subst, ◌∙◌, codes, ◌||◌}
 use Rattle.std.specs.Prelude.{if◌then◌else◌}
 use Rattle.std.specs.Str.{bytes_eq}
 use Rattle.yaml_parse_grammar.specs.parse_model.declared.yaml_mark_t.{yaml_mark_t}
@@ -76,20 +76,20 @@ step_says g gs f D b e = on_says (settle g.0 D) b D g.0 g.1 (λ x. reading gs f 
 
 -- ---- properties
 
-record Named : Type 0 where
-  handle : List ℕ
-  suffix : List ℕ
-  full : List ℕ
+pub record Named : Type 0 where
+  pub handle : List ℕ
+  pub suffix : List ℕ
+  pub full : List ℕ
 
-abbrev IsNamed : List TagDirective → Option Named → Type 0
+abbrev pub IsNamed : List TagDirective → Option Named → Type 0
 IsNamed ds None = Unit {0}
 IsNamed ds (Some x) = resolved ds x.handle x.suffix ≡ Some x.full
 
-abbrev named_bodies : Option Named → List TokenBody → List TokenBody
+abbrev pub named_bodies : Option Named → List TokenBody → List TokenBody
 named_bodies None bs = bs
 named_bodies (Some x) bs = token.tag x.handle x.suffix ∷ bs
 
-abbrev full_of : Option Named → Option (List ℕ)
+abbrev pub full_of : Option Named → Option (List ℕ)
 full_of None = None
 full_of (Some x) = Some x.full
 
@@ -101,12 +101,21 @@ abbrev pub properties_if : Option PropertyTokens → Option Properties
 properties_if None = None
 properties_if (Some d) = Some (properties_of d)
 
-record WithProperties (ds : List TagDirective) (anchor : Option (List ℕ)) (tag : Option Named) (ts : List Token) (bs : List TokenBody) : Type 0 where
-  only_properties : Option PropertyTokens
-  rest : List Token
-  same : ts ≡ spell_if only_properties rest
-  left : token_bodies rest ≡ bs
-  gives : (shape : Shape) (from to : yaml_mark_t) (D : Directives) → D.tags ≡ ds
+abbrev pub some_tokens : Option PropertyTokens → Bool
+some_tokens None = false
+some_tokens (Some d) = true
+
+abbrev pub some_named : Option Named → Bool
+some_named None = false
+some_named (Some x) = true
+
+pub record WithProperties (ds : List TagDirective) (anchor : Option (List ℕ)) (tag : Option Named) (ts : List Token) (bs : List TokenBody) : Type 0 where
+  pub only_properties : Option PropertyTokens
+  pub rest : List Token
+  pub same : ts ≡ spell_if only_properties rest
+  pub left : token_bodies rest ≡ bs
+  pub some : some_tokens only_properties ≡ (has anchor || some_named tag)
+  pub gives : (shape : Shape) (from to : yaml_mark_t) (D : Directives) → D.tags ≡ ds
       → settle (node_at (properties_if only_properties) shape from to) D
       ≡ gave (node_event anchor (full_of tag) shape) D
 
@@ -119,14 +128,15 @@ pub resolves : (ds : List TagDirective) (handle suffix full : List ℕ) (anchor 
 resolves ds handle suffix full anchor shape from at D e t =
     ap (λ (o : Option (List ℕ)). with_resolved o anchor shape from at D) (ap (λ (x : List TagDirective). resolved x handle suffix) t ∙ e)
 
-with_properties : (ds : List TagDirective) (anchor : Option (List ℕ)) (tag : Option Named)
+-- Properties are read as they are spelled.
+pub with_properties : (ds : List TagDirective) (anchor : Option (List ℕ)) (tag : Option Named)
     → IsNamed ds tag → (ts : List Token) (bs : List TokenBody)
     → token_bodies ts ≡ anchor_bodies anchor (named_bodies tag bs)
     → WithProperties ds anchor tag ts bs
-with_properties ds None None h ts bs e = record { only_properties = None; rest = ts; same = refl; left = e; gives = λ shape from to D t. refl }
+with_properties ds None None h ts bs e = record { only_properties = None; rest = ts; same = refl; left = e; some = refl; gives = λ shape from to D t. refl }
 with_properties ds (Some a) None h ts bs e =
     let x = take ts (token.anchor a) bs e in
-    record { only_properties = Some (trees.anchor (record { name = a; span = x.span })); rest = x.rest; same = x.same; left = x.left; gives = λ shape from to D t. refl }
+    record { only_properties = Some (trees.anchor (record { name = a; span = x.span })); rest = x.rest; same = x.same; left = x.left; some = refl; gives = λ shape from to D t. refl }
 with_properties ds None (Some n) h ts bs e =
     let x = take ts (token.tag n.handle n.suffix) bs e in
     record {
@@ -134,6 +144,7 @@ with_properties ds None (Some n) h ts bs e =
       rest = x.rest;
       same = x.same;
       left = x.left;
+      some = refl;
       gives = λ shape from to D t. resolves ds n.handle n.suffix n.full None shape x.span.from x.span.from D h t;
     }
 with_properties ds (Some a) (Some n) h ts bs e =
@@ -144,6 +155,7 @@ with_properties ds (Some a) (Some n) h ts bs e =
       rest = y.rest;
       same = x.same ∙ ap (λ (r : List Token). token_at (token.anchor a) x.span ∷ r) y.same;
       left = y.left;
+      some = refl;
       gives = λ shape from to D t. resolves ds n.handle n.suffix n.full (Some a) shape x.span.from y.span.from D h t;
     }
 
@@ -167,26 +179,29 @@ pub split_resolved : (ds : List TagDirective) (s : Split)
 split_resolved ds (shorthand handle suffix) = refl
 split_resolved ds (verbatim t) = refl
 
-abbrev tag_named : List TagDirective → Option (List ℕ) → Option Named
+abbrev pub tag_named : List TagDirective → Option (List ℕ) → Option Named
 tag_named ds None = None
 tag_named ds (Some t) = Some (record { handle = split_handle (split_tag ds t); suffix = split_suffix (split_tag ds t); full = t })
 
-tag_is_named : (ds : List TagDirective) → Resolves ds → (tag : Option (List ℕ))
+-- Its parts resolve to it.
+pub tag_is_named : (ds : List TagDirective) → Resolves ds → (tag : Option (List ℕ))
     → IsNamed ds (tag_named ds tag)
 tag_is_named ds r None = tt
 tag_is_named ds r (Some t) = split_resolved ds (split_tag ds t) ∙ r t
 
-tag_bodies_are : (ds : List TagDirective) (tag : Option (List ℕ)) (bs : List TokenBody)
+-- Its token is that of its parts.
+pub tag_bodies_are : (ds : List TagDirective) (tag : Option (List ℕ)) (bs : List TokenBody)
     → tag_bodies ds tag bs ≡ named_bodies (tag_named ds tag) bs
 tag_bodies_are ds None bs = refl
 tag_bodies_are ds (Some t) bs = ap (λ (b : TokenBody). b ∷ bs) (split_body (split_tag ds t))
 
-full_is : (ds : List TagDirective) (tag : Option (List ℕ)) → full_of (tag_named ds tag) ≡ tag
+-- In full it is that tag.
+pub full_is : (ds : List TagDirective) (tag : Option (List ℕ)) → full_of (tag_named ds tag) ≡ tag
 full_is ds None = refl
 full_is ds (Some t) = refl
 
 -- of a scalar: with `!` where it is untagged and may not be quoted
-abbrev bang : Named
+abbrev pub bang : Named
 bang = record { handle = []; suffix = 33 ∷ []; full = 33 ∷ [] }
 
 abbrev mark_named : Bool → Option Named

@@ -12,17 +12,13 @@ named_spells : (cs : List ℕ) → AllPass is_allowed cs → (x : yaml_encoding_
     → Spells x (spellings x cs) (encode_utf8_all cs)
 unfolding encoding_of mark_length
 named_spells cs h YAML_ANY_ENCODING n = absurd n
-named_spells cs h YAML_UTF8_ENCODING n = record { characters = cs; allowed = h; spelled = refl; is = refl }
-named_spells cs h YAML_UTF16LE_ENCODING n = record { characters = cs; allowed = h; spelled = refl; is = refl }
-named_spells cs h YAML_UTF16BE_ENCODING n = record { characters = cs; allowed = h; spelled = refl; is = refl }
+named_spells cs h _ n = record { characters = cs; allowed = h; spelled = refl; is = refl }
 
 marked_spells : (cs : List ℕ) → AllPass is_allowed cs → (x : yaml_encoding_t) → IsNamed x
     → Spells YAML_ANY_ENCODING (mark_of x ++ spellings x cs) (encode_utf8_all cs)
 unfolding encoding_of mark_length
 marked_spells cs h YAML_ANY_ENCODING n = absurd n
-marked_spells cs h YAML_UTF8_ENCODING n = record { characters = cs; allowed = h; spelled = refl; is = refl }
-marked_spells cs h YAML_UTF16LE_ENCODING n = record { characters = cs; allowed = h; spelled = refl; is = refl }
-marked_spells cs h YAML_UTF16BE_ENCODING n = record { characters = cs; allowed = h; spelled = refl; is = refl }
+marked_spells cs h _ n = record { characters = cs; allowed = h; spelled = refl; is = refl }
 
 abbrev length_by : Bool → Bool → Bool → ℕ
 length_by low high utf8 = if low || high then 2 else if utf8 then 3 else 0

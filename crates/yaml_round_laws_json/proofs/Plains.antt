@@ -3,6 +3,7 @@ use Rattle.std.proofs.Common.{◌≡◌, ℕ, zero, suc, ◌+◌, ◌<◌, ◌�
 use Rattle.std.specs.List.{list_all}
 use Rattle.std.proofs.lemmas.Bool.Decides.{nat_tests}
 use Rattle.std.proofs.lemmas.Bool.{or_cases, or_left, or_right, and_parts}
+use Rattle.std.proofs.Math.Bool.{and-false}
 use Rattle.yaml_scan_history.specs.scan_model.Marks.{byte, break_of, is_blank, is_blank_or_end}
 use Rattle.yaml_scan_history.specs.scan_model.Breaks.{is_document_indicator}
 use Rattle.yaml_scan_history.specs.scan_model.Wrong.{Wrong}
@@ -230,25 +231,21 @@ letter b h = record {
   none = λ flow alone. grind (arith, nat_tests);
 }
 
-and_false : (a : Bool) → (a && false) ≡ false
-and_false true = refl
-and_false false = refl
-
 letter_alone : (text : List ℕ) (p : ℕ) → Letter (byte text p) → is_blank_or_end text p ≡ false
 letter_alone text p l = rw (l.blank, l.some, l.width (byte text (p + 1)) (byte text (p + 2))) refl
 
 letter_begins : (text : List ℕ) (p : ℕ) → Letter (byte text p) → begins_lexeme text p ≡ true
-letter_begins text p l = rw (l.space, l.tab, l.hash, l.width (byte text (p + 1)) (byte text (p + 2)), l.order, and_false) refl
+letter_begins text p l = rw (l.space, l.tab, l.hash, l.width (byte text (p + 1)) (byte text (p + 2)), l.order, and-false) refl
 
 letter_kind : (flow : Bool) (text : List ℕ) (p : ℕ) → Letter (byte text p)
     → kind_at flow text p ≡ Some kinds.Plain
 unfolding kind_at is_document_start is_document_end starts_plain
 letter_kind flow text p l =
-    rw (letter_alone text p l, l.some, l.percent, l.dash, l.dot, and_false, l.none flow (is_blank_or_end text (p + 1)), l.plain) refl
+    rw (letter_alone text p l, l.some, l.percent, l.dash, l.dot, and-false, l.none flow (is_blank_or_end text (p + 1)), l.plain) refl
 
 dash_begins : (text : List ℕ) (p : ℕ) → byte text p ≡ 45 → begins_lexeme text p ≡ true
 unfolding break_of
-dash_begins text p h = rw (h, and_false) refl
+dash_begins text p h = rw (h, and-false) refl
 
 dash_none : (flow : Bool) → indicator_of flow false 45 ≡ None
 unfolding indicator_of
@@ -257,7 +254,7 @@ dash_none flow = refl
 dash_kind : (flow : Bool) (text : List ℕ) (p : ℕ) → byte text p ≡ 45 → Letter (byte text (p + 1))
     → kind_at flow text p ≡ Some kinds.Plain
 unfolding kind_at is_document_start is_document_end starts_plain break_of is_indicator_byte is_bracket
-dash_kind flow text p h l = rw (h, l.dash, and_false, letter_alone text (p + 1) l, dash_none flow, l.blank) refl
+dash_kind flow text p h l = rw (h, l.dash, and-false, letter_alone text (p + 1) l, dash_none flow, l.blank) refl
 
 zero_letter : is_letter_or_digit 0 ≡ true → ⊥
 unfolding is_letter_or_digit

@@ -59,17 +59,8 @@ scalar_says true anchor tag value plain quoted style = refl
 scalar_says false anchor tag value plain quoted style = refl
 
 event_says : (b : EventBody) → content b ≡ says (emit.emitter_event (normalize_body false b))
-event_says event.no = refl
-event_says (event.stream_start encoding) = refl
-event_says event.stream_end = refl
-event_says (event.document_start version directives implicit) = refl
-event_says (event.document_end implicit) = refl
-event_says (event.alias name) = refl
 event_says (event.scalar anchor tag value plain quoted style) = scalar_says (is_lone_mark tag value) anchor tag value plain quoted style
-event_says (event.sequence_start anchor tag implicit style) = refl
-event_says event.sequence_end = refl
-event_says (event.mapping_start anchor tag implicit style) = refl
-event_says event.mapping_end = refl
+event_says _ = refl
 
 -- the content of events as an emitter sees them
 pub contents_said : (es : List Told) → contents es ≡ map says (emitter_events false es)

@@ -25,11 +25,10 @@ use Rattle.yaml_emit_laws_text.specs.Bodies.{version_bodies, directives_bodies, 
 use Rattle.yaml_emit_laws_text.specs.PrettyBodies.{start_bodies}
 use Rattle.yaml_round_laws_documents.specs.TreeLaws.{token_bodies, event_bodies, SaysTree, HasNoMark, AreParsable, parsed_of}
 use Rattle.yaml_round_laws_documents.proofs.Growing.{take}
-use Rattle.yaml_round_laws_documents.proofs.Documents.{item_says, no_spans, ends_say, resolving}
+use Rattle.yaml_round_laws_documents.proofs.Documents.{version_directed, item_says, no_spans, ends_say, resolving}
 use Rattle.yaml_emit_laws_pretty.specs.Bodies.{context_in, root_bodies, is_root_kept, is_left_out, has_dots, opening_bodies, documents_bodies, starts_with_nothing}
 use Rattle.yaml_round_laws_pretty.specs.Reads.{root_reads, documents_reads, stream_reads}
 use Rattle.yaml_round_laws_pretty.specs.TokenLaws.{PrettyTokensAreParsed}
-use Rattle.yaml_round_laws_pretty.proofs.Directives.{version_directed}
 use Rattle.yaml_round_laws_pretty.proofs.Nodes.{nodes_grown, maybes_grown}
 use Rattle.yaml_round_laws_documents.proofs.CanonicalPremises.{fine_version, fine_tags}
 

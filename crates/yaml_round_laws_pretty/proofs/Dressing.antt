@@ -12,17 +12,16 @@ use Rattle.yaml_parse_grammar.specs.declared.name.Wants.{Wants}
 use Rattle.yaml_parse_grammar.specs.declared.name.Site.{Site}
 use Rattle.yaml_parse_grammar.specs.Items.{Shape, Properties, node_at}
 use Rattle.yaml_parse_grammar.specs.Items as item
-use Rattle.yaml_parse_grammar.specs.Trees.{token_at, PropertyTokens, Given, spell_content, spell_maybe, properties_of}
+use Rattle.yaml_parse_grammar.specs.Trees.{PropertyTokens, Given, spell_content, spell_maybe, properties_of}
 use Rattle.yaml_parse_grammar.specs.TreeSteps.{items_content, items_maybe, behind}
 use Rattle.yaml_parse_grammar.specs.Trees as trees
-use Rattle.yaml_parse_grammar.specs.Resolve.{Directives, gave, settle, reading, resolved, node_event}
-use Rattle.yaml_emit_laws_text.specs.emit_layout.emit_tags.Tags.{split_tag}
+use Rattle.yaml_parse_grammar.specs.Resolve.{Directives, gave, settle, reading, node_event}
 use Rattle.yaml_emit_laws_text.specs.emit_layout.emit_text.declared.Style.{Style}
 use Rattle.yaml_emit_laws_text.specs.emit_layout.emit_text.declared.Style.TheVariants as style
 use Rattle.yaml_emit_laws_text.specs.emit_layout.Grammar.{has}
 use Rattle.yaml_emit_laws_text.specs.Bodies.{anchor_bodies, tag_bodies, mark_bodies}
 use Rattle.yaml_round_laws_documents.specs.TreeLaws.{token_bodies, SaysTree, IsNoMark, Grown}
-use Rattle.yaml_round_laws_documents.proofs.Growing.{take, step_says, resolves, tagged_event, dress_gives, split_resolved, dress_spells, spell_if, properties_if, split_handle, split_suffix, split_body, with_dress}
+use Rattle.yaml_round_laws_documents.proofs.Growing.{take, step_says, tagged_event, dress_gives, dress_spells, spell_if, properties_if, with_dress, Named, IsNamed, named_bodies, full_of, some_tokens, some_named, with_properties, tag_named, tag_is_named, tag_bodies_are, full_is, bang}
 use Rattle.yaml_emit_laws_pretty.specs.Bodies.{style_named, takes_mark, is_bare, is_nothing, scalar_bodies}
 use Rattle.yaml_round_laws_pretty.specs.Reads.{scalar_reads}
 use Rattle.yaml_round_laws_documents.proofs.CanonicalPremises.{Resolves}
@@ -47,93 +46,7 @@ held w at before ds R ts bs g = record { tree = trees.there g.tree; rest = g.res
 
 -- ---- properties
 
-pub record Named : Type 0 where
-  pub handle : List ℕ
-  pub suffix : List ℕ
-  pub full : List ℕ
-
-abbrev pub IsNamed : List TagDirective → Option Named → Type 0
-IsNamed ds None = Unit {0}
-IsNamed ds (Some x) = resolved ds x.handle x.suffix ≡ Some x.full
-
-abbrev pub named_bodies : Option Named → List TokenBody → List TokenBody
-named_bodies None bs = bs
-named_bodies (Some x) bs = token.tag x.handle x.suffix ∷ bs
-
-abbrev pub full_of : Option Named → Option (List ℕ)
-full_of None = None
-full_of (Some x) = Some x.full
-
-abbrev some_tokens : Option PropertyTokens → Bool
-some_tokens None = false
-some_tokens (Some d) = true
-
-abbrev some_named : Option Named → Bool
-some_named None = false
-some_named (Some x) = true
-
-record WithProperties (ds : List TagDirective) (anchor : Option (List ℕ)) (tag : Option Named) (ts : List Token) (bs : List TokenBody) : Type 0 where
-  dress : Option PropertyTokens
-  rest : List Token
-  same : ts ≡ spell_if dress rest
-  left : token_bodies rest ≡ bs
-  some : some_tokens dress ≡ (has anchor || some_named tag)
-  gives : (shape : Shape) (from to : yaml_mark_t) (D : Directives) → D.tags ≡ ds
-      → settle (node_at (properties_if dress) shape from to) D
-      ≡ gave (node_event anchor (full_of tag) shape) D
-
-with_properties : (ds : List TagDirective) (anchor : Option (List ℕ)) (tag : Option Named)
-    → IsNamed ds tag → (ts : List Token) (bs : List TokenBody)
-    → token_bodies ts ≡ anchor_bodies anchor (named_bodies tag bs)
-    → WithProperties ds anchor tag ts bs
-with_properties ds None None h ts bs e = record { dress = None; rest = ts; same = refl; left = e; some = refl; gives = λ shape from to D t. refl }
-with_properties ds (Some a) None h ts bs e =
-    let x = take ts (token.anchor a) bs e in
-    record { dress = Some (trees.anchor (record { name = a; span = x.span })); rest = x.rest; same = x.same; left = x.left; some = refl; gives = λ shape from to D t. refl }
-with_properties ds None (Some n) h ts bs e =
-    let x = take ts (token.tag n.handle n.suffix) bs e in
-    record {
-      dress = Some (trees.tag (record { handle = n.handle; suffix = n.suffix; span = x.span }));
-      rest = x.rest;
-      same = x.same;
-      left = x.left;
-      some = refl;
-      gives = λ shape from to D t. resolves ds n.handle n.suffix n.full None shape x.span.from x.span.from D h t;
-    }
-with_properties ds (Some a) (Some n) h ts bs e =
-    let x = take ts (token.anchor a) (token.tag n.handle n.suffix ∷ bs) e in
-    let y = take x.rest (token.tag n.handle n.suffix) bs x.left in
-    record {
-      dress = Some (trees.anchor_tag (record { name = a; span = x.span }) (record { handle = n.handle; suffix = n.suffix; span = y.span }));
-      rest = y.rest;
-      same = x.same ∙ ap (λ (r : List Token). token_at (token.anchor a) x.span ∷ r) y.same;
-      left = y.left;
-      some = refl;
-      gives = λ shape from to D t. resolves ds n.handle n.suffix n.full (Some a) shape x.span.from y.span.from D h t;
-    }
-
-abbrev tag_named : List TagDirective → Option (List ℕ) → Option Named
-tag_named ds None = None
-tag_named ds (Some t) = Some (record { handle = split_handle (split_tag ds t); suffix = split_suffix (split_tag ds t); full = t })
-
-tag_is_named : (ds : List TagDirective) → Resolves ds → (tag : Option (List ℕ))
-    → IsNamed ds (tag_named ds tag)
-tag_is_named ds r None = tt
-tag_is_named ds r (Some t) = split_resolved ds (split_tag ds t) ∙ r t
-
-tag_bodies_are : (ds : List TagDirective) (tag : Option (List ℕ)) (bs : List TokenBody)
-    → tag_bodies ds tag bs ≡ named_bodies (tag_named ds tag) bs
-tag_bodies_are ds None bs = refl
-tag_bodies_are ds (Some t) bs = ap (λ (b : TokenBody). b ∷ bs) (split_body (split_tag ds t))
-
-full_is : (ds : List TagDirective) (tag : Option (List ℕ)) → full_of (tag_named ds tag) ≡ tag
-full_is ds None = refl
-full_is ds (Some t) = refl
-
 -- of a scalar: with `!` where that is asked and it is untagged
-abbrev bang : Named
-bang = record { handle = []; suffix = 33 ∷ []; full = 33 ∷ [] }
-
 abbrev scalar_named : List TagDirective → Option (List ℕ) → Bool → Option Named
 scalar_named ds None true = Some bang
 scalar_named ds None false = None
@@ -176,13 +89,13 @@ dressed_named w ds anchor tag h shape R cs bs inner ts e =
     let d = with_properties ds anchor tag h ts cs e in
     let c = inner d.rest d.left in
     record {
-      tree = with_dress d.dress c.tree;
+      tree = with_dress d.only_properties c.tree;
       rest = c.rest;
-      same = d.same ∙ ap (λ (y : List Token). spell_if d.dress y) c.same ∙ sym (dress_spells w d.dress c.tree c.rest);
+      same = d.same ∙ ap (λ (y : List Token). spell_if d.only_properties y) c.same ∙ sym (dress_spells w d.only_properties c.tree c.rest);
       left = c.left;
       gives = λ more gs f D same.
           let P : List Given → Type 0 = λ y. SaysTree (λ es. node_event anchor (full_of tag) shape ∷ R es) (reading y f D) (reading gs f D) in
-          subst P (sym (dress_gives w d.dress c.tree more gs)) (c.gives (properties_if d.dress) (node_event anchor (full_of tag) shape) more gs f D same (λ from to. d.gives shape from to D same));
+          subst P (sym (dress_gives w d.only_properties c.tree more gs)) (c.gives (properties_if d.only_properties) (node_event anchor (full_of tag) shape) more gs f D same (λ from to. d.gives shape from to D same));
     }
 
 -- of a collection
@@ -203,10 +116,7 @@ untagged_event : (anchor : Option (List ℕ)) (value : List ℕ) (s : Style)
     → node_event anchor None (item.scalar value (style_named s))
     ≡ scalar_reads anchor None value false s
 untagged_event anchor value style.Plain = refl
-untagged_event anchor value style.Single = refl
-untagged_event anchor value style.Double = refl
-untagged_event anchor value style.Literal = refl
-untagged_event anchor value style.Folded = refl
+untagged_event anchor value _ = refl
 
 event_is : (ds : List TagDirective) (anchor tag : Option (List ℕ)) (value : List ℕ) (marked : Bool)
     (s : Style) → IsNoMark tag
@@ -275,7 +185,7 @@ alone w ds r anchor tag some bs ts e =
     let named = e ∙ ap (λ (y : List TokenBody). anchor_bodies anchor y) (tag_bodies_are ds tag bs) in
     let d = with_properties ds anchor (tag_named ds tag) (tag_is_named ds r tag) ts bs named in
     let P : Option (List ℕ) → Type 0 = λ t. Grown w ds (λ es. node_event anchor t item.empty ∷ es) ts bs in
-    subst P (full_is ds tag) (alone_by w ds anchor (full_of (tag_named ds tag)) d.dress (d.some ∙ some_either ds anchor tag some) ts d.rest bs d.same d.left (λ from to D is. d.gives item.empty from to D is))
+    subst P (full_is ds tag) (alone_by w ds anchor (full_of (tag_named ds tag)) d.only_properties (d.some ∙ some_either ds anchor tag some) ts d.rest bs d.same d.left (λ from to D is. d.gives item.empty from to D is))
 
 unmarked : (quoted : Bool) → takes_mark quoted style.Plain ≡ false
 unmarked true = refl

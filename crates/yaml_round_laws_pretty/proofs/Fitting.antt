@@ -46,11 +46,8 @@ Needs style.Literal P = P
 Needs style.Folded P = P
 
 needs_any : (s : Style) (P : Type 0) → P → Needs s P
-needs_any style.Plain P p = p
-needs_any style.Single P p = p
 needs_any style.Double P p = tt
-needs_any style.Literal P p = p
-needs_any style.Folded P p = p
+needs_any _ P p = p
 
 record Clear (a : Allowed) (P : Type 0) : Type 0 where
   plain : a.plain ≡ true → P

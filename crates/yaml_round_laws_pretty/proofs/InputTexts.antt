@@ -62,17 +62,11 @@ scalar_text true anchor tag value plain quoted style t u = (tt, u)
 scalar_text false anchor tag value plain quoted style t u = (option_text tag t, u)
 
 body_text : (b : EventBody) → HasUtf8 b → Texts (emit.emitter_event (normalize_body false b))
-body_text event.no u = tt
-body_text (event.stream_start encoding) u = tt
-body_text event.stream_end u = tt
 body_text (event.document_start version directives implicit) u = directives_text directives u
-body_text (event.document_end implicit) u = tt
-body_text (event.alias name) u = tt
 body_text (event.scalar anchor tag value plain quoted style) (a, t, u) = scalar_text (is_lone_mark tag value) anchor tag value plain quoted style t u
 body_text (event.sequence_start anchor tag implicit style) (a, t) = option_text tag t
-body_text event.sequence_end u = tt
 body_text (event.mapping_start anchor tag implicit style) (a, t) = option_text tag t
-body_text event.mapping_end u = tt
+body_text _ u = tt
 
 abbrev AllTexts : List emit.Event → Type 0
 AllTexts [] = Unit {0}

@@ -1,6 +1,5 @@
 mod Dressing
 mod Nodes
-mod Directives
 pub mod Documents
 pub mod Passing
 pub mod Contents
@@ -16,4 +15,3 @@ mod Fitting
 mod Layouts
 mod Marks
 pub mod Bytes
-mod Encoding

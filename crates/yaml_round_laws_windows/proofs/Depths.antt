@@ -74,19 +74,7 @@ plainly_flat (Err w) n = refl
 body_deep : (k : Kind) (s : SpelledText) (l : Lexeme) (n : ℕ)
     → depth_after (body_by k s l) n ≡ by_kind.depth_after k n
 unfolding word_at
-body_deep kinds.StreamStart s l n = refl
-body_deep kinds.StreamEnd s l n = refl
 body_deep kinds.Directive s l n = directed_flat (directive_at s.text l.start.index) n
-body_deep kinds.DocumentStart s l n = refl
-body_deep kinds.DocumentEnd s l n = refl
-body_deep kinds.FlowSequenceStart s l n = refl
-body_deep kinds.FlowMappingStart s l n = refl
-body_deep kinds.FlowSequenceEnd s l n = refl
-body_deep kinds.FlowMappingEnd s l n = refl
-body_deep kinds.FlowEntry s l n = refl
-body_deep kinds.BlockEntry s l n = refl
-body_deep kinds.KeyMark s l n = refl
-body_deep kinds.ValueMark s l n = refl
 body_deep kinds.Alias s l n = valued_flat tokens.alias (anchor_at contexts.Alias s.text l.start.index) (λ v m. refl) n
 body_deep kinds.Anchor s l n = valued_flat tokens.anchor (anchor_at contexts.Anchor s.text l.start.index) (λ v m. refl) n
 body_deep kinds.Tag s l n = tagged_flat (tag_at (nat_lt 0 l.depth) s.text l.start.index) n
@@ -97,6 +85,7 @@ body_deep kinds.SingleQuoted s l n =
 body_deep kinds.DoubleQuoted s l n =
     valued_flat (λ v. tokens.scalar v styles.YAML_DOUBLE_QUOTED_SCALAR_STYLE) (double_quoted_at s.text l.start.index) (λ v m. refl) n
 body_deep kinds.Plain s l n = plainly_flat (plain_at (nat_lt 0 l.depth) l.level s.text l.start.index) n
+body_deep _ s l n = refl
 
 ends_flat : (k : ℕ) (l : Lexeme) (n : ℕ) → depth_behind (replicate k (before block_end l)) n ≡ n
 ends_flat zero l n = refl

@@ -151,16 +151,12 @@ taken_moved d n state.first t = documents_moved d n t.start_mark t.start_mark t.
 taken_moved d n state.documents t = documents_moved d n t.start_mark t.start_mark t.end_mark t.body
 taken_moved d n (state.directives from) t = documents_moved d n from t.start_mark t.end_mark t.body
 taken_moved d n (state.optional place before) t = node_moved d n (wants_of place) t.start_mark t.end_mark t.body
-taken_moved d n state.document_end t = refl
 taken_moved d n (state.entries opener) t = entries_moved d n opener t.start_mark t.end_mark t.body
-taken_moved d n (state.others side) t = refl
 taken_moved d n (state.pairs opener) t = pairs_moved d n opener t.start_mark t.end_mark t.body
-taken_moved d n (state.colon place) t = refl
 taken_moved d n (state.with_properties w p) t = beside_moved d n w p t.start_mark t.end_mark t.body
 taken_moved d n (state.items b opener) t = items_moved d n b opener t.start_mark t.end_mark t.body
 taken_moved d n (state.more b opener) t = more_moved d n b opener t.start_mark t.end_mark t.body
-taken_moved d n state.pair_end t = refl
-taken_moved d n state.lone t = refl
+taken_moved d n _ t = refl
 
 -- ---- what is chosen, and what is left
 
@@ -199,25 +195,17 @@ three d n false false x y p h k = refl
 choice_moved : (d n : ℕ) (x : State) (k : yaml_token_type_t)
     → choice_at (moved_state d n x) k ≡ moved_choice d n (choice_at x k)
 choice_moved d n state.stream kind.YAML_STREAM_START_TOKEN = refl
-choice_moved d n state.stream _ = refl
 choice_moved d n state.first k = three d n (parts_documents k) (starts_node (Block None) k) Take Open problem.NoBlockNode refl refl
 choice_moved d n state.documents kind.YAML_DOCUMENT_END_TOKEN = refl
-choice_moved d n state.documents _ = refl
 choice_moved d n (state.directives from) kind.YAML_STREAM_END_TOKEN = refl
-choice_moved d n (state.directives from) _ = refl
 choice_moved d n (state.optional place before) k = three d n (follows place k) (starts_node (wants_of place) k) Leave Take (no_node (wants_of place)) refl refl
 choice_moved d n state.document_end kind.YAML_DOCUMENT_END_TOKEN = refl
-choice_moved d n state.document_end _ = refl
 choice_moved d n (state.entries opener) kind.YAML_BLOCK_ENTRY_TOKEN = refl
 choice_moved d n (state.entries opener) kind.YAML_BLOCK_END_TOKEN = refl
-choice_moved d n (state.entries opener) _ = refl
 choice_moved d n (state.others side) kind.YAML_BLOCK_ENTRY_TOKEN = refl
-choice_moved d n (state.others side) _ = refl
 choice_moved d n (state.pairs opener) kind.YAML_KEY_TOKEN = refl
 choice_moved d n (state.pairs opener) kind.YAML_BLOCK_END_TOKEN = refl
-choice_moved d n (state.pairs opener) _ = refl
 choice_moved d n (state.colon place) kind.YAML_VALUE_TOKEN = refl
-choice_moved d n (state.colon place) _ = refl
 choice_moved d n (state.with_properties w p) k = ap (λ (z : Bool). if z || starts_content w k then Take else Leave) (joins_moved d n p k) ∙ take_or_leave d n (joins p k || starts_content w k)
 choice_moved d n (state.items brackets.Sequence opener) kind.YAML_KEY_TOKEN = refl
 choice_moved d n (state.items brackets.Sequence opener) kind.YAML_ALIAS_TOKEN = refl
@@ -231,6 +219,7 @@ choice_moved d n (state.more brackets.Mapping opener) kind.YAML_FLOW_ENTRY_TOKEN
 choice_moved d n (state.more brackets.Mapping opener) _ = refl
 choice_moved d n state.pair_end k = refl
 choice_moved d n state.lone k = refl
+choice_moved d n _ _ = refl
 
 left_moved : (d n : ℕ) (x : State) (m : yaml_mark_t)
     → left_at (moved_state d n x) (moved_mark d n m) ≡ moved_item d n (left_at x m)

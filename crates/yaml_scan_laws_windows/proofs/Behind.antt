@@ -3,6 +3,7 @@ use Rattle.std.proofs.Common.{◌≡◌, ℕ, suc, ◌+◌, ◌-◌, true, false
 use Rattle.std.proofs.lemmas.Bool.{cases_lt, true≢false}
 use Rattle.std.proofs.lemmas.List.{append_assoc, append-nil, length-append, same_from_push}
 use Rattle.std.specs.List.{flat_map}
+use Rattle.std.proofs.lemmas.Option.{none-some, same_Some}
 use Rattle.yaml_scan_history.specs.scan_model.declared.name.yaml_encoding_t.{yaml_encoding_t}
 use Rattle.yaml_scan_history.specs.scan_model.declared.record.yaml_mark_t.{yaml_mark_t}
 use Rattle.yaml_scan_history.specs.scan_model.declared.problem.ScanFault.{ScanFault}
@@ -43,12 +44,6 @@ use Rattle.yaml_scan_laws_windows.proofs.Ending.{white_kind, line_long, whole_en
 
 some_none : {A : Type 0} {x : A} → Some x ≡ None → ⊥
 some_none e = cc
-
-none_some : {A : Type 0} {x : A} → None ≡ Some x → ⊥
-none_some e = cc
-
-some_same : {x y : Kind} → Some x ≡ Some y → x ≡ y
-some_same e = cc
 
 ends_not : {f : ScanFault} → Ends ≡ Fails f → ⊥
 ends_not e = cc
@@ -100,13 +95,13 @@ line_over a line e l h at y more reads =
       | inr past ↦
           let there : q ≡ length t = omega (arith, past, inside) in
           let none : byte t q ≡ 0 = ap (λ z. byte t z) there ∙ byte_past t (length t) (omega arith) in
-          (read_kind t H y r ∙ some_same (sym r.stands ∙ end_kind (in_flow H) t q none), there)
+          (read_kind t H y r ∙ same_Some _ _ (sym r.stands ∙ end_kind (in_flow H) t q none), there)
       | inl on ↦
           let p = q - length a in
           let back : q ≡ length a + p = omega (arith, forward, at) in
           let same : byte t q ≡ byte line p = ap (λ z. byte t z) back ∙ byte_right a line p in
           let white = e.white p (omega (arith, forward, at)) (omega (arith, on, size, forward, at)) in
-          absurd (none_some (sym (white_kind (in_flow H) t q (ap is_white same ∙ white)) ∙ r.stands))
+          absurd (none-some _ (sym (white_kind (in_flow H) t q (ap is_white same ∙ white)) ∙ r.stands))
     ]
 
 -- the line alone is passed to its end
@@ -157,7 +152,7 @@ line_outer a line cut e over whole_over outer =
         ∙ finishes (in_flow H) line 0 e.mark in
         let (l, dots) = goes_on t whole_over j x h there more in
         let s = has_read t H l (sym (next_open t x h more) ∙ dots) in
-        let kind : s.kind ≡ kinds.DocumentEnd = some_same (sym s.stands ∙ stands_there) in
+        let kind : s.kind ≡ kinds.DocumentEnd = same_Some _ _ (sym s.stands ∙ stands_there) in
         let is_dots : l.kind ≡ kinds.DocumentEnd = read_kind t H l s ∙ kind in
         let reached_at : l.reached ≡ mark_at t (length a + 3) =
         ap (λ (y : Lexeme). y.reached) (sym s.clean.is) ∙ ap (λ k. (lexeme_behind k t H).reached) kind
@@ -329,7 +324,7 @@ at_line x a line cut e none outer =
     unfaulted None h = h
     unfaulted (Some f) h =
         let (g, is, _) = refused_fronts_are_scanned x a line cut f h in
-        absurd (none_some (sym none ∙ ap (λ (r : Remaining). r.fault) is))
+        absurd (none-some _ (sym none ∙ ap (λ (r : Remaining). r.fault) is))
 
     unmoved : (d n : ℕ) (f : Option Fault) → option_map (moved_fault d n) f ≡ None → f ≡ None
     unmoved d n None h = refl

@@ -3,6 +3,7 @@ use Rattle.std.proofs.Common.{◌≡◌, ℕ, zero, suc, ◌+◌, ◌-◌, ◌<�
 use Rattle.std.proofs.lemmas.Bool.{cases_Bool, cases_lt, eqb-true, true≢false}
 use Rattle.std.proofs.lemmas.Bool.Decides.{nat_tests}
 use Rattle.std.proofs.lemmas.List.{get_or_append_left, get_or-append-add, get_or_past, get_or_push, length-append, length_push}
+use Rattle.std.proofs.Math.Bool.{and-false}
 use Rattle.yaml_scan_history.specs.scan_model.Marks.{byte, ends_of, ends_break, line_at, column_at, is_blank_or_end}
 use Rattle.yaml_scan_history.specs.scan_model.Classes.{is_bom}
 use Rattle.yaml_scan_history.specs.scan_model.Breaks.{is_document_indicator}
@@ -150,19 +151,12 @@ not_bom : (b c e : ℕ) → (b ≡ 45) ⊎ (b ≡ 46) → (b == 0xEF && (c == 0x
 not_bom b c e (inl z) = rw z refl
 not_bom b c e (inr z) = rw z refl
 
-and_false : (x : Bool) → (x && false) ≡ false
-and_false true = refl
-and_false false = refl
-
-rest_bom : (a b : List ℕ) → IsCut a b → (p : ℕ)
+-- U+FEFF counts at the beginning alone
+pub bom_by : (a b : List ℕ)
+    → (length a + 0 == 0 && is_bom (a ++ b) (length a + 0)) ≡ is_bom b 0 → (p : ℕ)
     → (length a + p == 0 && is_bom (a ++ b) (length a + p)) ≡ (p == 0 && is_bom b p)
-rest_bom a b cut zero =
-    let mark = first_mark b cut.mark in
-    let here : byte (a ++ b) (length a + 0) ≡ byte b 0 = byte_right a b 0 in
-    let mine : is_bom b 0 ≡ false = not_bom (byte b 0) (byte b 1) (byte b 2) mark in
-    let others : is_bom (a ++ b) (length a + 0) ≡ false = rw here (not_bom (byte b 0) (byte (a ++ b) (length a + 0 + 1)) (byte (a ++ b) (length a + 0 + 2)) mark) in
-    rw (mine, others) (and_false (length a + 0 == 0))
-rest_bom a b cut (suc p) =
+bom_by a b h zero = h
+bom_by a b h (suc p) =
     let later : (length a + suc p == 0) ≡ false = not_zero (length a) p in
     let sooner : (suc p == 0) ≡ false = some_not_zero p in
     rw (later, sooner) refl
@@ -173,22 +167,38 @@ rest_bom a b cut (suc p) =
     some_not_zero : (p : ℕ) → (suc p == 0) ≡ false
     some_not_zero p = grind (arith, nat_tests)
 
--- The rest stands in the whole.
-pub rest_alike : (a b : List ℕ) → IsCut a b → Alike b (a ++ b) (length a) (suc (length b))
-rest_alike a b cut =
+rest_bom : (a b : List ℕ) → IsCut a b
+    → (length a + 0 == 0 && is_bom (a ++ b) (length a + 0)) ≡ is_bom b 0
+rest_bom a b cut =
+    let mark = first_mark b cut.mark in
+    let here : byte (a ++ b) (length a + 0) ≡ byte b 0 = byte_right a b 0 in
+    let mine : is_bom b 0 ≡ false = not_bom (byte b 0) (byte b 1) (byte b 2) mark in
+    let others : is_bom (a ++ b) (length a + 0) ≡ false = rw here (not_bom (byte b 0) (byte (a ++ b) (length a + 0 + 1)) (byte (a ++ b) (length a + 0 + 2)) mark) in
+    rw (mine, others) (and-false (length a + 0 == 0))
+
+-- What stands behind a column 0 stands so in the whole, where its line ends and U+FEFF do.
+pub behind_alike : (a b : List ℕ) → column_at (a ++ b) (length a) ≡ 0
+    → ((p : ℕ) → ends_break (a ++ b) (length a + p) ≡ ends_break b p)
+    → ((p : ℕ) → (length a + p == 0 && is_bom (a ++ b) (length a + p)) ≡ (p == 0 && is_bom b p))
+    → Alike b (a ++ b) (length a) (suc (length b))
+behind_alike a b column ends bom =
     let long = length-append a b in
     record {
       bytes = λ p l. byte_right a b p;
       onward = λ p l on. let here = within b p (onward_some _ on) in omega (arith, here);
       edge = byte_past b (suc (length b)) (omega arith);
       stops = inl (byte_right a b (suc (length b)) ∙ byte_past b (suc (length b)) (omega arith));
-      column = cut_column a b cut;
-      ends = λ p l. rest_ends a b cut p;
+      column = column;
+      ends = λ p l. ends p;
       short = omega arith;
       long = omega (arith, long);
       covers = omega arith;
-      bom = λ p l. rest_bom a b cut p;
+      bom = λ p l. bom p;
     }
+
+-- The rest stands in the whole.
+pub rest_alike : (a b : List ℕ) → IsCut a b → Alike b (a ++ b) (length a) (suc (length b))
+rest_alike a b cut = behind_alike a b (cut_column a b cut) (rest_ends a b cut) (bom_by a b (rest_bom a b cut))
 
 -- ---- the front
 

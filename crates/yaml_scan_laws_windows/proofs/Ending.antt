@@ -3,6 +3,7 @@ use Rattle.std.proofs.Common.{◌≡◌, ℕ, zero, suc, ◌+◌, ◌<◌, ◌�
 use Rattle.std.proofs.lemmas.Bool.{cases_Bool, cases_lt, and_parts, eqb-true, true≢false}
 use Rattle.std.proofs.lemmas.Bool.Decides.{nat_tests}
 use Rattle.std.proofs.lemmas.List.{length-append}
+use Rattle.std.proofs.Math.Bool.{or-true}
 use Rattle.yaml_scan_history.specs.scan_model.Marks.{byte, break_of, break_width, line_at, column_at, is_blank, is_blank_or_end}
 use Rattle.yaml_scan_history.specs.scan_model.Classes.{is_bom}
 use Rattle.yaml_scan_history.specs.scan_model.Breaks.{is_document_indicator}
@@ -78,12 +79,8 @@ white_end : (t : List ℕ) (p : ℕ) → is_white (byte t p) ≡ true → is_bla
 white_end t p h =
     elim (white_cases (byte t p) h) [
       | inl blank ↦ rw blank refl
-      | inr z ↦ rw (break_byte (byte t p) (byte t (p + 1)) (byte t (p + 2)) z) (or_true (is_blank (byte t p) || byte t p == 0))
+      | inr z ↦ rw (break_byte (byte t p) (byte t (p + 1)) (byte t (p + 2)) z) (or-true (is_blank (byte t p) || byte t p == 0))
     ]
-  where
-    or_true : (x : Bool) → (x || true) ≡ true
-    or_true true = refl
-    or_true false = refl
 
 -- the whole begins with it too
 pub whole_end : (line b : List ℕ) → IsEndLine line → is_document_end (line ++ b) 0 ≡ true
@@ -158,10 +155,6 @@ whole_width line b p feed l (inr z) =
           absurd (omega (arith, last, z))
     ]
 
-or_true : (x : Bool) → (x || true) ≡ true
-or_true true = refl
-or_true false = refl
-
 -- a step over a blank
 over_blank : (line b : List ℕ) (allowed : Bool) (p x y : ℕ) → 3 ≤ p → p < length line
     → (byte line p == 32 || ((false || not allowed) && byte line p == 9)) ≡ true
@@ -196,7 +189,7 @@ over_break line b allowed p y far l feed z white rest room =
         left = y;
         room = omega (arith, room, end);
         crossed = step ∙ ap (λ q. with_break true (gap_within y false (allowed || true) U q)) end
-            ∙ ap (λ k. with_break true (gap_within y false k U (length line))) (or_true allowed);
+            ∙ ap (λ k. with_break true (gap_within y false k U (length line))) (or-true allowed);
       }
       | inr more ↦ record {
         left = more.left;

@@ -3,6 +3,7 @@ use Rattle.std.proofs.Common.{◌≡◌, ℕ, zero, suc, ◌+◌, ◌-◌, ◌�
 use Rattle.std.proofs.lemmas.Bool.{cases_Bool}
 use Rattle.std.proofs.lemmas.Bool.Decides.{nat_tests}
 use Rattle.std.proofs.lemmas.List.{length-append, append-nil, append_assoc, map-append}
+use Rattle.std.proofs.lemmas.Option.{none-some, same_Some}
 use Rattle.yaml_scan_history.specs.scan_model.declared.name.yaml_encoding_t.{yaml_encoding_t}
 use Rattle.yaml_scan_history.specs.declared.lexeme.Lexeme.{Lexeme}
 use Rattle.yaml_scan_history.specs.declared.lexeme.Entry.{Entry}
@@ -21,10 +22,7 @@ moved_entry d n e = record { lexeme = moved_lexeme d n e.lexeme; ends = e.ends; 
 
 above : (h b : List Lexeme) (e : ℕ) (c : Candidate) → ((e : ℕ) → candidate e b ≡ None)
     → candidate e (h ++ b) ≡ Some c → length b ≤ c.number
-above [] b e c none is = absurd (none_some (sym (none e) ∙ is))
-  where
-    none_some : {A : Type 0} {x : A} → None ≡ Some x → ⊥
-    none_some e = cc
+above [] b e c none is = absurd (none-some _ (sym (none e) ∙ is))
 above (l ∷ h) b e c none is =
     elim (candidate-more e l (h ++ b) c is) [
       | inl top ↦ omega (arith, top, length-append h b)
@@ -228,18 +226,12 @@ first_on d n k [] h b c s =
   where
     lower : (e : ℕ) (f : Candidate) (o : Option Candidate) → candidate e (h ++ b) ≡ o
         → moved_found d n k o ≡ Some f → k + length b ≤ f.number
-    lower e f None is same = absurd (none_some same)
-      where
-        none_some : {A : Type 0} {x : A} → None ≡ Some x → ⊥
-        none_some e = cc
+    lower e f None is same = absurd (none-some _ same)
     lower e f (Some g) is same =
         let up = above h b e g s.mine is in
-        let it : moved_candidate d n k g ≡ f = inner same in
+        let it : moved_candidate d n k g ≡ f = same_Some _ _ same in
         let number = ap (λ (x : Candidate). x.number) it in
         omega (arith, up, number)
-      where
-        inner : {x y : Candidate} → Some x ≡ Some y → x ≡ y
-        inner e = cc
 
     others : (e : ℕ) (f : Candidate) → candidate e (moved_lexemes d n h ++ c) ≡ Some f → k + length b ≤ f.number
     others e f is = lower e f (candidate e (h ++ b)) refl (sym (candidate_on d n k e h b c s) ∙ is)

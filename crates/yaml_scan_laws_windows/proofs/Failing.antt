@@ -2,6 +2,7 @@
 use Rattle.std.proofs.Common.{◌≡◌, ◌≢◌, ℕ, suc, ◌+◌, ◌<◌, ◌≤◌, ◌==◌, ◌&&◌, nat_lt, nat_le, not, Bool, true, false, List, [], ◌∷◌, ◌++◌, length, Option, Some, None, Result, Ok, Err, refl, sym, ap, subst, ◌∙◌, inl, inr, arith}
 use Rattle.std.proofs.lemmas.Bool.{cases_Bool, cases_lt}
 use Rattle.std.proofs.lemmas.Bool.Decides.{nat_tests}
+use Rattle.std.proofs.lemmas.Option.{none-some, same_Some}
 use Rattle.yaml_scan_history.specs.scan_model.declared.record.yaml_mark_t.{yaml_mark_t}
 use Rattle.yaml_scan_history.specs.scan_model.declared.problem.ScanFault.{ScanFault}
 use Rattle.yaml_scan_history.specs.scan_model.Marks.{byte, line_at, mark_at}
@@ -148,12 +149,6 @@ end_reads a b cut H inside at l there =
 pub fails_not : {f : ScanFault} {l : Lexeme} → Fails f ≡ Read l → ⊥
 fails_not e = cc
 
-none_kind : {x : Kind} → None ≡ Some x → ⊥
-none_kind e = cc
-
-same_kind : {x y : Kind} → Some x ≡ Some y → x ≡ y
-same_kind e = cc
-
 ok_not : {v : WordText} {w : Wrong} → Ok v ≡ Err w → ⊥
 ok_not e = cc
 
@@ -214,7 +209,7 @@ reads_not a b cut x h stands f e more l r =
         by : text_wrong y (a ++ b) (x ∷ h) ≡ None → (r : Result WordText Wrong) → word_behind y a (x ∷ h) ≡ r → ⊥
         by none (Ok w) is =
             let all = coming_there a (a ++ b) 0 (length a) 0 0 (x ∷ h) (x ∷ h) pair on (Some y) k
-            (λ z s. subst (λ v. Said a (a ++ b) 0 (length a) 0 v (word_behind v a (x ∷ h)) (word_behind v (a ++ b) (x ∷ h))) (same_kind s) (said_read a b (x ∷ h) cut stands.inside on y k w is)) in
+            (λ z s. subst (λ v. Said a (a ++ b) 0 (length a) 0 v (word_behind v a (x ∷ h)) (word_behind v (a ++ b) (x ∷ h))) (same_Some _ _ s) (said_read a b (x ∷ h) cut stands.inside on y k w is)) in
             fails_not (ap (moved_next 0 0) (sym here) ∙ sym all ∙ there)
         by none (Err w) is =
             elim (word_there a (a ++ b) 0 (length a) 0 0 (x ∷ h) (x ∷ h) pair on y k) [
@@ -233,10 +228,7 @@ fails_same e = cc
 pub colon_index : (o : Option yaml_mark_t) (m : yaml_mark_t) (f : ScanFault)
     → colon_missing_of o m ≡ Some f → f.problem_mark ≡ m
 colon_index None m f e = absurd (some_none (sym e))
-colon_index (Some s) m f e = ap (λ (g : ScanFault). g.problem_mark) (inner (sym e))
-  where
-    inner : {x y : ScanFault} → Some x ≡ Some y → x ≡ y
-    inner e = cc
+colon_index (Some s) m f e = ap (λ (g : ScanFault). g.problem_mark) (same_Some _ _ (sym e))
 
 -- what comes first in both
 first_early : (a b c e : Option ScanFault) (w f : ScanFault) (y z : Next) (r s : Option ScanFault)
@@ -308,7 +300,7 @@ fails_there a b cut x h stands f e more low =
         → (o : Option Kind) → kind_behind a (x ∷ h) ≡ o
         → coming (kind_behind (a ++ b) (x ∷ h)) (a ++ b) (x ∷ h) ≡ Fails f
     inner pair on here None k =
-        coming_there a (a ++ b) 0 (length a) 0 0 (x ∷ h) (x ∷ h) pair on None k (λ z s. absurd (none_kind s))
+        coming_there a (a ++ b) 0 (length a) 0 0 (x ∷ h) (x ∷ h) pair on None k (λ z s. absurd (none-some _ s))
         ∙ ap (moved_next 0 0) here ∙ ap Fails (fault_zero f)
     inner pair on here (Some y) k = by (word_behind y a (x ∷ h)) refl
       where
@@ -316,7 +308,7 @@ fails_there a b cut x h stands f e more low =
             → coming (kind_behind (a ++ b) (x ∷ h)) (a ++ b) (x ∷ h) ≡ Fails f
         by_said said =
             coming_there a (a ++ b) 0 (length a) 0 0 (x ∷ h) (x ∷ h) pair on (Some y) k
-            (λ z s. subst (λ v. Said a (a ++ b) 0 (length a) 0 v (word_behind v a (x ∷ h)) (word_behind v (a ++ b) (x ∷ h))) (same_kind s) said)
+            (λ z s. subst (λ v. Said a (a ++ b) 0 (length a) 0 v (word_behind v a (x ∷ h)) (word_behind v (a ++ b) (x ∷ h))) (same_Some _ _ s) said)
             ∙ ap (moved_next 0 0) here ∙ ap Fails (fault_zero f)
 
         early : (w : Wrong) → word_behind y a (x ∷ h) ≡ Err w → length a ≤ w.place
@@ -429,13 +421,13 @@ fails_back a b cut x h stands f e more g r low =
         → coming (kind_behind (a ++ b) (x ∷ h)) (a ++ b) (x ∷ h) ≡ Fails g
         → (o : Option Kind) → kind_behind a (x ∷ h) ≡ o → g ≡ f
     inner pair on here there None k =
-        fails_same (sym there ∙ coming_there a (a ++ b) 0 (length a) 0 0 (x ∷ h) (x ∷ h) pair on None k (λ z s. absurd (none_kind s)) ∙ ap (moved_next 0 0) here) ∙ fault_zero f
+        fails_same (sym there ∙ coming_there a (a ++ b) 0 (length a) 0 0 (x ∷ h) (x ∷ h) pair on None k (λ z s. absurd (none-some _ s)) ∙ ap (moved_next 0 0) here) ∙ fault_zero f
     inner pair on here there (Some y) k = by (word_behind y a (x ∷ h)) refl
       where
         by_said : Said a (a ++ b) 0 (length a) 0 y (word_behind y a (x ∷ h)) (word_behind y (a ++ b) (x ∷ h)) → g ≡ f
         by_said said =
             fails_same (sym there ∙ coming_there a (a ++ b) 0 (length a) 0 0 (x ∷ h) (x ∷ h) pair on (Some y) k
-            (λ z s. subst (λ v. Said a (a ++ b) 0 (length a) 0 v (word_behind v a (x ∷ h)) (word_behind v (a ++ b) (x ∷ h))) (same_kind s) said)
+            (λ z s. subst (λ v. Said a (a ++ b) 0 (length a) 0 v (word_behind v a (x ∷ h)) (word_behind v (a ++ b) (x ∷ h))) (same_Some _ _ s) said)
             ∙ ap (moved_next 0 0) here) ∙ fault_zero f
 
         late : (w : Wrong) → word_behind y (a ++ b) (x ∷ h) ≡ Err w → length a ≤ w.place → g ≡ f

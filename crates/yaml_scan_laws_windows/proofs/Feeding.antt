@@ -1,16 +1,15 @@
 -- What stands behind LF is alike in the whole.
-use Rattle.std.proofs.Common.{◌≡◌, ℕ, zero, suc, ◌+◌, ◌-◌, ◌<◌, ◌≤◌, ◌==◌, ◌&&◌, true, false, List, ◌++◌, length, refl, sym, ap, ◌∙◌, inl, inr, arith}
+use Rattle.std.proofs.Common.{◌≡◌, ℕ, zero, suc, ◌+◌, ◌-◌, ◌<◌, ◌≤◌, ◌==◌, true, false, List, ◌++◌, length, refl, sym, ap, ◌∙◌, inl, inr, arith}
 use Rattle.std.proofs.lemmas.Bool.{cases_lt}
 use Rattle.std.proofs.lemmas.Bool.Decides.{nat_tests}
-use Rattle.std.proofs.lemmas.List.{length-append, length_push}
+use Rattle.std.proofs.lemmas.List.{length_push}
 use Rattle.yaml_scan_history.specs.scan_model.Marks.{byte, ends_of, ends_break, line_at, column_at, mark_at}
 use Rattle.yaml_scan_history.specs.scan_model.Classes.{is_bom}
-use Rattle.yaml_scan_history.proofs.MarksLemmas.{within, column_end}
+use Rattle.yaml_scan_history.proofs.MarksLemmas.{column_end}
 use Rattle.yaml_scan_laws_windows.specs.Alike.{Alike}
 use Rattle.yaml_scan_laws_windows.specs.Cuts.{EndsIn}
 use Rattle.yaml_scan_laws_windows.specs.Moved.{moved_mark}
-use Rattle.yaml_scan_laws_windows.proofs.Bytes.{onward_some}
-use Rattle.yaml_scan_laws_windows.proofs.Cutting.{byte_left, byte_right, byte_past, last_is, columns_by, lines_by}
+use Rattle.yaml_scan_laws_windows.proofs.Cutting.{byte_left, byte_right, behind_alike, bom_by, last_is, columns_by, lines_by}
 
 pub feed_long : (a : List ℕ) → EndsIn a 10 → 0 < length a
 feed_long a (xs, is) = let long : length a ≡ length xs + 1 = ap length is ∙ length_push xs 10 in omega (arith, long)
@@ -76,42 +75,13 @@ fed_marks a b feed q =
     let columns = columns_by a b (fed_column a b feed) (fed_ends a b feed) q in
     rw (lines, columns) refl
 
-fed_bom : (a b : List ℕ) → EndsIn a 10 → is_bom b 0 ≡ false → (p : ℕ)
-    → (length a + p == 0 && is_bom (a ++ b) (length a + p)) ≡ (p == 0 && is_bom b p)
-fed_bom a b feed none zero =
-    let off : (length a + 0 == 0) ≡ false = some_not (length a) (feed_long a feed) in
-    rw (off, none) refl
-  where
-    some_not : (n : ℕ) → 0 < n → (n + 0 == 0) ≡ false
-    some_not n l = grind (arith, nat_tests)
-fed_bom a b feed none (suc p) =
-    let later : (length a + suc p == 0) ≡ false = not_zero (length a) p in
-    let sooner : (suc p == 0) ≡ false = some_not_zero p in
-    rw (later, sooner) refl
-  where
-    not_zero : (n p : ℕ) → (n + suc p == 0) ≡ false
-    not_zero n p = grind (arith, nat_tests)
-
-    some_not_zero : (p : ℕ) → (suc p == 0) ≡ false
-    some_not_zero p = grind (arith, nat_tests)
-
 -- what stands behind LF stands so in the whole, but for U+FEFF
 pub fed_alike : (a b : List ℕ) → EndsIn a 10 → is_bom b 0 ≡ false
     → Alike b (a ++ b) (length a) (suc (length b))
-fed_alike a b feed none =
-    let long = length-append a b in
-    record {
-      bytes = λ p l. byte_right a b p;
-      onward = λ p l on. let here = within b p (onward_some _ on) in omega (arith, here);
-      edge = byte_past b (suc (length b)) (omega arith);
-      stops = inl (byte_right a b (suc (length b)) ∙ byte_past b (suc (length b)) (omega arith));
-      column = fed_column a b feed;
-      ends = λ p l. fed_ends a b feed p;
-      short = omega arith;
-      long = omega (arith, long);
-      covers = omega arith;
-      bom = λ p l. fed_bom a b feed none p;
-    }
+fed_alike a b feed none = behind_alike a b (fed_column a b feed) (fed_ends a b feed) (bom_by a b (let off = some_not (length a) (feed_long a feed) in rw (off, none) refl))
+  where
+    some_not : (n : ℕ) → 0 < n → (n + 0 == 0) ≡ false
+    some_not n l = grind (arith, nat_tests)
 
 -- ---- in front of LF
 

@@ -3,6 +3,8 @@ use Rattle.std.proofs.Common.{◌≡◌, ◌≢◌, ℕ, zero, suc, ◌+◌, ◌
 use Rattle.std.proofs.lemmas.Bool.{cases_Bool}
 use Rattle.std.proofs.lemmas.Bool.Decides.{nat_tests}
 use Rattle.std.specs.List.{flat_map}
+use Rattle.std.proofs.lemmas.Option.{same_Some}
+use Rattle.std.proofs.Math.Bool.{and-false}
 use Rattle.yaml_scan_history.specs.scan_model.declared.name.yaml_encoding_t.{yaml_encoding_t}
 use Rattle.yaml_scan_history.specs.scan_model.declared.problem.ScanFault.{ScanFault}
 use Rattle.yaml_scan_history.specs.scan_model.Faults.{Fault}
@@ -59,9 +61,6 @@ directed_body (Err x) w e = absurd (err_ok refl e)
     err_ok : {w : WordText} {x : Wrong} {r : Result WordText Wrong} → r ≡ Err x → r ≡ Ok w → ⊥
     err_ok e f = cc
 
-some_same : {x y : Kind} → Some x ≡ Some y → x ≡ y
-some_same e = cc
-
 fails_read : {f : ScanFault} {l : Lexeme} → Fails f ≡ Read l → ⊥
 fails_read e = cc
 
@@ -81,10 +80,6 @@ placed_saved t l (Ok w) =
       | inl e ↦ rw e refl
       | inr e ↦ rw e refl
     ]
-
-never_saved : (x : Bool) → (x && false) ≡ false
-never_saved true = refl
-never_saved false = refl
 
 -- ---- the lexemes of both
 
@@ -138,11 +133,11 @@ lead_reads x b lead l e first behind come =
     let s : SpelledText = record { encoding = x; text = b } in
     let H = first_lexeme ∷ [] in
     let r = has_read b H l (sym (next_open b first_lexeme [] refl) ∙ e) in
-    let kind : r.kind ≡ kinds.Directive = some_same (sym r.stands ∙ lead_kind b lead) in
+    let kind : r.kind ≡ kinds.Directive = same_Some _ _ (sym r.stands ∙ lead_kind b lead) in
     let is : l.kind ≡ kinds.Directive = read_kind b H l r ∙ kind in
     let deep : l.depth ≡ 0 = read_deep b H l e in
     let saved : l.saved ≡ false = ap (λ (y : Lexeme). y.saved) (sym r.clean.is) ∙ placed_saved b (begun_behind r.kind b H) (word_behind r.kind b H)
-    ∙ ap (λ k. (begun_behind k b H).saved) kind ∙ never_saved (allowed_behind H (gap_behind b H)) in
+    ∙ ap (λ k. (begun_behind k b H).saved) kind ∙ and-false (allowed_behind H (gap_behind b H)) in
     let B = l ∷ H in
     let begins : history b 2 ≡ B = history_more b 1 ∙ ap (λ z. extended (next b z) z) (start_history b) ∙ ap (λ y. extended y H) e in
     let (h, grows) = history_grows b 2 (suc (suc (length b))) (omega arith) in

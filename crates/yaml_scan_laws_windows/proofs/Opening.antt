@@ -5,6 +5,7 @@ use Rattle.std.proofs.lemmas.Bool.Decides.{nat_tests}
 use Rattle.std.proofs.lemmas.Grind.{flat_map-append}
 use Rattle.std.proofs.lemmas.List.{append-nil, append_assoc, same_from_push, length-append}
 use Rattle.std.specs.List.{flat_map}
+use Rattle.std.proofs.lemmas.Option.{none-some, same_Some}
 use Rattle.yaml_scan_history.specs.scan_model.declared.name.yaml_encoding_t.{yaml_encoding_t}
 use Rattle.yaml_scan_history.specs.scan_model.declared.record.yaml_mark_t.{yaml_mark_t}
 use Rattle.yaml_scan_history.specs.scan_model.declared.problem.ScanFault.{ScanFault}
@@ -102,31 +103,25 @@ all_early a b cut n E at (suc j) le =
     let rest = all_early a b cut n E at j (omega (arith, le)) in
     subst (λ y. AllEarly (line_at a (length a)) (extended y (history a j))) (sym reads) (read_early a b cut (history a j) (history_stands a j) l reads more, rest)
 
-inner : {A : Type 0} {x y : A} → Some x ≡ Some y → x ≡ y
-inner e = cc
-
-none_some : {A : Type 0} {x : A} → None ≡ Some x → ⊥
-none_some e = cc
-
 candidate_early : (line : ℕ) (h : List Lexeme) → AllEarly line h → (e : ℕ) (c : Candidate)
     → candidate e h ≡ Some c → c.lexeme.start.line < line
 unfolding candidate
-candidate_early line [] a e c is = absurd (none_some is)
+candidate_early line [] a e c is = absurd (none-some _ is)
 candidate_early line (l ∷ h) a e c is =
     elim (cases_Bool (l.depth == e)) [
       | inl i ↦ elim (cases_Bool l.saved) [
         | inl s ↦
-            let same = inner (rw (i, s) at is) in
+            let same = same_Some _ _ (rw (i, s) at is) in
             let line_is = ap (λ (y : Candidate). y.lexeme.start.line) same in
             let low = a.0 s in
             omega (arith, low, line_is)
         | inr s ↦ elim (cases_Bool (cancels l.kind)) [
-          | inl x ↦ absurd (none_some (rw (i, s, x) at is))
+          | inl x ↦ absurd (none-some _ (rw (i, s, x) at is))
           | inr x ↦ candidate_early line h a.1 e c (rw (i, s, x) at is)
         ]
       ]
       | inr i ↦ elim (cases_Bool (nat_lt l.depth e)) [
-        | inl j ↦ absurd (none_some (rw (i, j) at is))
+        | inl j ↦ absurd (none-some _ (rw (i, j) at is))
         | inr j ↦ candidate_early line h a.1 e c (rw (i, j) at is)
       ]
     ]

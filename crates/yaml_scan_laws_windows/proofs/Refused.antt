@@ -10,6 +10,7 @@ use Rattle.yaml_scan_history.specs.declared.lexeme.Lexeme.{Lexeme}
 use Rattle.yaml_scan_history.specs.Kinds.{is_end}
 use Rattle.yaml_scan_history.specs.Next.{Next, Read, Fails, Ends, kind_behind, next, extended, step, history}
 use Rattle.std.specs.List.{flat_map}
+use Rattle.std.proofs.lemmas.Option.{same_Some}
 use Rattle.yaml_scan_history.specs.Remaining.{SpelledText, spell, all, fault_in}
 use Rattle.yaml_scan_laws_order.proofs.HistoryForward.{Stands, history_stands, last_is_all}
 use Rattle.yaml_scan_laws_windows.specs.Cuts.{IsCut}
@@ -151,10 +152,7 @@ front_fails x a b cut f fails =
 fault_some : (y : Next) (f : Fault) → fault_in y ≡ Some f
     → (g : ScanFault) × (y ≡ Fails g) × (scanner_fault g ≡ f)
 fault_some (Read l) f e = absurd (some_none (sym e))
-fault_some (Fails g) f e = (g, refl, inner e)
-  where
-    inner : {x y : Fault} → Some x ≡ Some y → x ≡ y
-    inner e = cc
+fault_some (Fails g) f e = (g, refl, same_Some _ _ e)
 fault_some Ends f e = absurd (some_none (sym e))
 
 pub refused_fronts_are_scanned : RefusedFrontsAreScanned

@@ -1,6 +1,7 @@
 -- The next lexeme, in each part of a text.
 use Rattle.std.proofs.Common.{◌≡◌, ◌≢◌, ℕ, ◌+◌, ◌<◌, ◌≤◌, nat_lt, false, List, [], ◌∷◌, length, Option, Some, None, Result, Ok, Err, refl, sym, ap, subst, ◌∙◌, inl, inr, arith}
 use Rattle.std.proofs.lemmas.Bool.{cases_Bool, cases_lt, true≢false}
+use Rattle.std.proofs.lemmas.Option.{same_Some}
 use Rattle.yaml_scan_history.specs.scan_model.declared.problem.ScanFault.{ScanFault}
 use Rattle.yaml_scan_history.specs.scan_model.Marks.{byte, mark_at}
 use Rattle.yaml_scan_history.specs.scan_model.Breaks.{is_document_indicator}
@@ -147,9 +148,6 @@ pub read_kind : (t : List ℕ) (H : List Lexeme) (l : Lexeme) → (r : HasRead t
 read_kind t H l r =
     ap (λ (y : Lexeme). y.kind) (sym r.clean.is) ∙ with_kind t (begun_behind r.kind t H) (word_behind r.kind t H)
 
-some_same : (k l : Kind) → Some k ≡ Some l → k ≡ l
-some_same k l e = cc
-
 -- a lexeme but the end stands in front of the end
 pub read_within : (t u : List ℕ) (d m n k : ℕ) (H G : List Lexeme) → Pair t u d m n k H G
     → (l : Lexeme) → HasRead t H l → is_end l.kind ≡ false → (gap_behind t H).place < m
@@ -160,7 +158,7 @@ read_within t u d m n k H G p l r go =
           let inside = p.inside in
           let e : (gap_behind t H).place ≡ m = omega (arith, past, inside) in
           let zero : byte t (gap_behind t H).place ≡ 0 = ap (λ q. byte t q) e ∙ p.alike.edge in
-          let same = some_same kinds.StreamEnd r.kind (sym (end_kind (in_flow H) t (gap_behind t H).place zero) ∙ r.stands) in
+          let same = same_Some kinds.StreamEnd r.kind (sym (end_kind (in_flow H) t (gap_behind t H).place zero) ∙ r.stands) in
           absurd (true≢false (ap is_end (same ∙ sym (read_kind t H l r)) ∙ go))
     ]
 
@@ -188,5 +186,5 @@ pub front_comes : (t u : List ℕ) (d m n k : ℕ) (H G : List Lexeme) → Pair 
 front_comes t u d m n k H G p l e go =
     let r = has_read t H l e in
     coming_there t u d m n k H G p (read_within t u d m n k H G p l r go) (Some r.kind) r.stands
-    (λ x s. subst (λ y. Said t u d m n y (word_behind y t H) (word_behind y u G)) (some_same r.kind x s) (front_said t u d m n k H G p l r go))
+    (λ x s. subst (λ y. Said t u d m n y (word_behind y t H) (word_behind y u G)) (same_Some r.kind x s) (front_said t u d m n k H G p l r go))
     ∙ ap (moved_next d n) e

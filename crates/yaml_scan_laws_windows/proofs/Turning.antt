@@ -1,6 +1,7 @@
 -- Where the front ends, the whole goes on with the rest's mark.
 use Rattle.std.proofs.Common.{◌≡◌, ℕ, suc, ◌+◌, ◌≤◌, ◌==◌, ◌&&◌, ◌||◌, nat_lt, if◌then◌else◌, Bool, true, false, not, List, [], ◌∷◌, ◌++◌, length, Option, Some, None, refl, sym, ap, subst, ◌∙◌, inl, inr, ◌⊎◌, arith}
 use Rattle.std.proofs.lemmas.Bool.{cases_Bool, cases_lt, and_parts, eqb-true, true≢false}
+use Rattle.std.proofs.Math.Bool.{and-false}
 use Rattle.yaml_scan_history.specs.scan_model.declared.record.yaml_mark_t.{yaml_mark_t}
 use Rattle.yaml_scan_history.specs.scan_model.Tokens as tokens
 use Rattle.yaml_scan_history.specs.scan_model.Tokens.{TokenBody}
@@ -96,11 +97,7 @@ mark_parts : (c z x y : Bool) → ((c && (x || y)) && z) ≡ true
     → (((c && x) && z) ≡ true) ⊎ (((c && y) && z) ≡ true)
 mark_parts true true true y h = inl refl
 mark_parts true true false y h = inr h
-mark_parts true false x y h = absurd (true≢false (sym h ∙ no (x || y)))
-  where
-    no : (x : Bool) → (x && false) ≡ false
-    no true = refl
-    no false = refl
+mark_parts true false x y h = absurd (true≢false (sym h ∙ and-false (x || y)))
 mark_parts false z x y h = absurd (true≢false (sym h))
 
 shift : (a b c : Bool) → (a && (b && c)) ≡ ((a && b) && c)

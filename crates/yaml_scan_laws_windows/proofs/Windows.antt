@@ -4,6 +4,7 @@ use Rattle.std.proofs.lemmas.Bool.{cases_Bool, true≢false}
 use Rattle.std.proofs.lemmas.Grind.{flat_map-append}
 use Rattle.std.proofs.lemmas.List.{append-nil, append_assoc, same_from_push}
 use Rattle.std.specs.List.{flat_map}
+use Rattle.std.proofs.lemmas.Option.{none-some}
 use Rattle.yaml_scan_history.specs.scan_model.declared.name.yaml_encoding_t.{yaml_encoding_t}
 use Rattle.yaml_scan_history.specs.scan_model.declared.record.yaml_mark_t.{yaml_mark_t}
 use Rattle.yaml_scan_history.specs.scan_model.declared.problem.ScanFault.{ScanFault}
@@ -36,12 +37,9 @@ use Rattle.yaml_scan_laws_windows.proofs.Joining.{spells_moved, told, offline_to
 
 -- ---- without a fault the stream's end is read
 
-none_some : {A : Type 0} {x : A} → None ≡ Some x → ⊥
-none_some e = cc
-
 pub fault_none : (x : Next) → fault_in x ≡ None → ((l : Lexeme) → x ≢ Read l) → x ≡ Ends
 fault_none (Read l) e never = absurd (never l refl)
-fault_none (Fails p) e never = absurd (none_some (sym e))
+fault_none (Fails p) e never = absurd (none-some _ (sym e))
 fault_none Ends e never = refl
 
 never_ends : (a b c e f : Option ScanFault) (l : Lexeme)

@@ -2,6 +2,8 @@
 use Rattle.std.proofs.Common.{◌≡◌, ℕ, ◌+◌, ◌<◌, ◌==◌, ◌&&◌, ◌||◌, nat_lt, if◌then◌else◌, Bool, true, false, List, Some, None, Result, Ok, Err, refl, sym, ap, ◌∙◌, inl, inr, ◌⊎◌, arith}
 use Rattle.std.proofs.lemmas.Bool.{cases_Bool, true≢false}
 use Rattle.std.proofs.lemmas.Bool.Decides.{nat_tests}
+use Rattle.std.proofs.Math.Bool.{or-true}
+use Rattle.std.proofs.lemmas.Option.{none-some, same_Some}
 use Rattle.yaml_scan_history.specs.scan_model.declared.name.yaml_scalar_style_t.{yaml_scalar_style_t}
 use Rattle.yaml_scan_history.specs.scan_model.declared.name.yaml_scalar_style_t.TheVariants as styles
 use Rattle.yaml_scan_history.specs.scan_model.declared.problem.Context.TheVariants as contexts
@@ -87,12 +89,8 @@ no_plain : (flow : Bool) (t : List ℕ) (p : ℕ) → (byte t p ≡ 10) ⊎ (byt
 unfolding starts_plain
 no_plain flow t p h =
     let some : nat_lt 0 (break_width t p) ≡ true = break_byte (byte t p) (byte t (p + 1)) (byte t (p + 2)) h in
-    let white : is_blank_or_end t p ≡ true = rw some (or_true _) in
+    let white : is_blank_or_end t p ≡ true = rw some (or-true _) in
     rw white refl
-  where
-    or_true : (x : Bool) → (x || true) ≡ true
-    or_true true = refl
-    or_true false = refl
 
 no_thrice : (c z : Bool) (b x y n : ℕ) → (b == n) ≡ false
     → ((c && (b == n && (x == n && y == n))) && z) ≡ false
@@ -165,12 +163,6 @@ blank_kind flow t p h =
       | inr z ↦ rw z y
     ]
 
-none_some : (k : Kind) → None ≡ Some k → ⊥
-none_some k e = cc
-
-some_same : (k l : Kind) → Some k ≡ Some l → k ≡ l
-some_same k l e = cc
-
 -- where a lexeme but the stream's end stands, the byte goes on
 pub kind_onward : (flow : Bool) (t : List ℕ) (p : ℕ) (k : Kind) → kind_at flow t p ≡ Some k
     → is_end k ≡ false → is_onward (byte t p) ≡ true
@@ -179,9 +171,9 @@ kind_onward flow t p k e go =
       | inl on ↦ on
       | inr off ↦ elim (off_cases (byte t p) off) [
         | inl z ↦
-            let same : kinds.StreamEnd ≡ k = some_same kinds.StreamEnd k (sym (end_kind flow t p z) ∙ e) in
+            let same : kinds.StreamEnd ≡ k = same_Some kinds.StreamEnd k (sym (end_kind flow t p z) ∙ e) in
             absurd (true≢false (ap is_end same ∙ go))
-        | inr z ↦ absurd (none_some k (sym (break_kind flow t p z) ∙ e))
+        | inr z ↦ absurd (none-some k (sym (break_kind flow t p z) ∙ e))
       ]
     ]
 
@@ -191,7 +183,7 @@ pub kind_text : (flow : Bool) (t : List ℕ) (p : ℕ) (k : Kind) → kind_at fl
 kind_text flow t p k e =
     elim (cases_Bool (is_blank (byte t p))) [
       | inr text ↦ text
-      | inl blank ↦ absurd (none_some k (sym (blank_kind flow t p blank) ∙ e))
+      | inl blank ↦ absurd (none-some k (sym (blank_kind flow t p blank) ∙ e))
     ]
 
 -- ---- words

@@ -1,19 +1,19 @@
 -- What a state does at a token, by cases on what it does: the one place where each state meets each token.
 use Rattle.std.proofs.Common.{◌≡◌, Bool, true, false, if◌then◌else◌, ◌||◌, Option, Some, None, refl, subst, sym}
-use Rattle.yaml_parse_laws_trees.specs.parse_grammar.parse_model.declared.yaml_mark_t.{yaml_mark_t}
-use Rattle.yaml_parse_laws_trees.specs.parse_grammar.parse_model.declared.yaml_token_type_t.{yaml_token_type_t}
-use Rattle.yaml_parse_laws_trees.specs.parse_grammar.parse_model.declared.yaml_token_type_t.TheVariants as kind
-use Rattle.yaml_parse_laws_trees.specs.parse_grammar.declared.name.Wants.{Wants}
-use Rattle.yaml_parse_laws_trees.specs.parse_grammar.declared.name.Wants.TheVariants.{Flow, Block}
-use Rattle.yaml_parse_laws_trees.specs.parse_grammar.declared.name.Site.{Site}
-use Rattle.yaml_parse_laws_trees.specs.parse_grammar.declared.name.Choice.{Choice}
-use Rattle.yaml_parse_laws_trees.specs.parse_grammar.declared.name.Choice.TheVariants.{Refuse, Take, Leave, Open}
-use Rattle.yaml_parse_laws_trees.specs.parse_grammar.declared.problem.ParseProblem.{ParseProblem}
-use Rattle.yaml_parse_laws_trees.specs.parse_grammar.declared.problem.ParseProblem.TheVariants as problem
-use Rattle.yaml_parse_laws_trees.specs.parse_grammar.Items.{Properties}
-use Rattle.yaml_parse_laws_trees.specs.parse_grammar.States.{State}
-use Rattle.yaml_parse_laws_trees.specs.parse_grammar.States as state
-use Rattle.yaml_parse_laws_trees.specs.parse_grammar.Machine.{starts_content, starts_node, wants_of, closes, parts_documents, follows, no_node, no_end, joins, choice_at}
+use Rattle.yaml_parse_model.specs.declared.yaml_mark_t.{yaml_mark_t}
+use Rattle.yaml_parse_model.specs.declared.yaml_token_type_t.{yaml_token_type_t}
+use Rattle.yaml_parse_model.specs.declared.yaml_token_type_t.TheVariants as kind
+use Rattle.yaml_parse_grammar.specs.declared.name.Wants.{Wants}
+use Rattle.yaml_parse_grammar.specs.declared.name.Wants.TheVariants.{Flow, Block}
+use Rattle.yaml_parse_grammar.specs.declared.name.Site.{Site}
+use Rattle.yaml_parse_grammar.specs.declared.name.Choice.{Choice}
+use Rattle.yaml_parse_grammar.specs.declared.name.Choice.TheVariants.{Refuse, Take, Leave, Open}
+use Rattle.yaml_parse_grammar.specs.declared.problem.ParseProblem.{ParseProblem}
+use Rattle.yaml_parse_grammar.specs.declared.problem.ParseProblem.TheVariants as problem
+use Rattle.yaml_parse_grammar.specs.Items.{Properties}
+use Rattle.yaml_parse_grammar.specs.States.{State}
+use Rattle.yaml_parse_grammar.specs.States as state
+use Rattle.yaml_parse_grammar.specs.Machine.{starts_content, starts_node, wants_of, closes, parts_documents, follows, no_node, no_end, joins, choice_at}
 
 -- ---- what each choice tells
 
@@ -88,7 +88,6 @@ properties_rule false w p k h = tt
 -- Each state keeps to its rule.
 pub rule : (x : State) (k : yaml_token_type_t) → Rule (choice_at x k) x k
 rule state.stream kind.YAML_STREAM_START_TOKEN = tt
-rule state.stream _ = tt
 rule state.first k = first_rule (parts_documents k) (starts_node (Block None) k) problem.NoBlockNode k (λ e. e)
 rule state.documents kind.YAML_DOCUMENT_END_TOKEN = tt
 rule state.documents k = taken_or (parts_documents k) problem.NoDocumentStart None state.documents k tt tt
@@ -96,17 +95,12 @@ rule (state.directives from) kind.YAML_STREAM_END_TOKEN = tt
 rule (state.directives from) k = taken_or (parts_documents k) problem.NoDocumentStart None (state.directives from) k tt tt
 rule (state.optional place before) k = optional_rule (follows place k) (starts_node (wants_of place) k) (no_node (wants_of place)) place before k (λ e. e) (λ e. e)
 rule state.document_end kind.YAML_DOCUMENT_END_TOKEN = tt
-rule state.document_end _ = tt
 rule (state.entries o) kind.YAML_BLOCK_ENTRY_TOKEN = tt
 rule (state.entries o) kind.YAML_BLOCK_END_TOKEN = tt
-rule (state.entries o) _ = tt
 rule (state.others side) kind.YAML_BLOCK_ENTRY_TOKEN = tt
-rule (state.others side) _ = tt
 rule (state.pairs o) kind.YAML_KEY_TOKEN = tt
 rule (state.pairs o) kind.YAML_BLOCK_END_TOKEN = tt
-rule (state.pairs o) _ = tt
 rule (state.colon place) kind.YAML_VALUE_TOKEN = tt
-rule (state.colon place) _ = tt
 rule (state.with_properties w p) k = properties_rule (joins p k || starts_content w k) w p k (λ e. e)
 rule (state.items b o) kind.YAML_KEY_TOKEN = tt
 rule (state.items b o) k = taken_or (closes b k || starts_node Flow k) problem.NoFlowNode None (state.items b o) k tt tt
@@ -114,6 +108,7 @@ rule (state.more b o) kind.YAML_FLOW_ENTRY_TOKEN = tt
 rule (state.more b o) k = taken_or (closes b k) (no_end b) (Some o) (state.more b o) k tt tt
 rule state.pair_end k = tt
 rule state.lone k = tt
+rule _ _ = tt
 
 -- ---- a token that isn't taken: each such arm is answered by computing
 

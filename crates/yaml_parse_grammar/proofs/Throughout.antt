@@ -1,0 +1,373 @@
+-- What holds of all items: whatever holds of each part of a token holds of what the machine gives, of what it keeps, and of the events.
+use Rattle.std.proofs.Common.{ℕ, ℤ, Bool, true, false, if◌then◌else◌, List, [], ◌∷◌, ◌++◌, length, map, Option, Some, None}
+use Rattle.yaml_parse_model.specs.declared.yaml_mark_t.{yaml_mark_t}
+use Rattle.yaml_parse_model.specs.declared.yaml_encoding_t.{yaml_encoding_t}
+use Rattle.yaml_parse_model.specs.declared.yaml_scalar_style_t.{yaml_scalar_style_t}
+use Rattle.yaml_parse_model.specs.declared.yaml_sequence_style_t.{yaml_sequence_style_t}
+use Rattle.yaml_parse_model.specs.declared.yaml_mapping_style_t.{yaml_mapping_style_t}
+use Rattle.yaml_parse_model.specs.Tokens.{Token, TokenBody, type_of, no_token}
+use Rattle.yaml_parse_model.specs.Tokens as token
+use Rattle.yaml_parse_model.specs.Faults.{Fault}
+use Rattle.yaml_parse_model.specs.declared.yaml_version_directive_t.{yaml_version_directive_t}
+use Rattle.yaml_parse_model.specs.Events.{EventBody, TagDirective}
+use Rattle.yaml_parse_model.specs.Events as event
+use Rattle.yaml_parse_grammar.specs.declared.name.Wants.{Wants}
+use Rattle.yaml_parse_grammar.specs.declared.name.Wants.TheVariants.{Flow, Block}
+use Rattle.yaml_parse_grammar.specs.declared.name.Brackets.{Brackets}
+use Rattle.yaml_parse_grammar.specs.declared.name.Brackets.TheVariants as brackets
+use Rattle.yaml_parse_grammar.specs.declared.name.Site.TheVariants.{Root}
+use Rattle.yaml_parse_grammar.specs.declared.name.Choice.{Choice}
+use Rattle.yaml_parse_grammar.specs.declared.name.Choice.TheVariants.{Refuse, Take, Leave, Open}
+use Rattle.yaml_parse_grammar.specs.Items.{RawEvent, RawEventBody, Properties, Tag, Shape, node_at}
+use Rattle.yaml_parse_grammar.specs.Items as item
+use Rattle.yaml_parse_grammar.specs.States.{State, Taken}
+use Rattle.yaml_parse_grammar.specs.States as state
+use Rattle.yaml_parse_grammar.specs.Trees.{Given}
+use Rattle.yaml_parse_grammar.specs.Stacks.{IsInner}
+use Rattle.yaml_parse_grammar.specs.Resolve.{Directives, Settled, refused, gave, noted, settle, settle_body, resolved, directive_for, with_resolved, with_tag, with_version, is_known_version, node_event, Told, Reading, read_on, reading}
+use Rattle.yaml_parse_grammar.specs.Machine.{choice_at, tag_at, taken_at, documents_taken, content_taken, node_taken, with_properties_taken, items_taken, more_taken, stream_taken, entries_taken, pairs_taken, left_at, Stands, Fed, stop, go, with_item, given_by, turn, feed, Outcome, finished, carry, run}
+
+-- ---- what is taken
+
+abbrev pub AllAre : (State → Type 0) → List State → Type 0
+AllAre Q [] = Unit {0}
+AllAre Q (x ∷ s) = Q x × AllAre Q s
+
+pub all_over : (Q : State → Type 0) (xs ys : List State) → AllAre Q xs → AllAre Q ys
+    → AllAre Q (xs ++ ys)
+all_over Q [] ys h k = k
+all_over Q (x ∷ xs) ys h k = (h.0, all_over Q xs ys h.1 k)
+
+-- P of the item, and Q of the states above; what gives none leaves something open
+abbrev pub AreTaken : (RawEventBody → Type 0) → (State → Type 0) → Taken → Type 0
+AreTaken P Q x = Item x.item × AllAre Q x.above
+  where
+    Item : Option RawEvent → Type 0
+    Item None = Stands x.above
+    Item (Some i) = P i.body
+
+-- a state within a document that holds no text
+abbrev pub IsBare : State → Type 0
+IsBare (state.with_properties w p) = ⊥
+IsBare x = IsInner x
+
+-- Within a document: of tokens T, of an anchor A, of a tag G, of items P, of states Q.
+pub record Inner (T : TokenBody → Type 0) (A : Option (List ℕ) → Type 0) (G : Option Tag → Type 0)
+    (P : RawEventBody → Type 0) (Q : State → Type 0) : Type 0 where
+  pub unnamed : A None
+  pub untagged : G None
+  pub anchor : (name : List ℕ) → T (token.anchor name) → A (Some name)
+  pub tag : (handle suffix : List ℕ) (m : yaml_mark_t) → T (token.tag handle suffix)
+      → G (Some (tag_at handle suffix m))
+  pub alias : (name : List ℕ) → T (token.alias name) → P (item.event (event.alias name))
+  pub scalar : (a : Option (List ℕ)) (g : Option Tag) (v : List ℕ) (style : yaml_scalar_style_t)
+      → A a → G g → T (token.scalar v style) → P (item.node a g (item.scalar v style))
+  pub sequence : (a : Option (List ℕ)) (g : Option Tag) (style : yaml_sequence_style_t) → A a → G g
+      → P (item.node a g (item.sequence style))
+  pub mapping : (a : Option (List ℕ)) (g : Option Tag) (style : yaml_mapping_style_t) → A a → G g
+      → P (item.node a g (item.mapping style))
+  pub sequence_end : P (item.event event.sequence_end)
+  pub mapping_end : P (item.event event.mapping_end)
+  pub states : (x : State) → IsBare x → Q x
+  pub properties : (w : Wants) (p : Properties) → A p.anchor → G p.tag
+      → Q (state.with_properties w p)
+  pub held : (w : Wants) (p : Properties) → Q (state.with_properties w p) → A p.anchor × G p.tag
+
+abbrev AreOf : (Option (List ℕ) → Type 0) → (Option Tag → Type 0) → Option Properties → Type 0
+AreOf A G None = A None × G None
+AreOf A G (Some p) = A p.anchor × G p.tag
+
+node_is : (A : Option (List ℕ) → Type 0) (G : Option Tag → Type 0) (P : RawEventBody → Type 0)
+    (p : Option Properties) (s : Shape) (start end : yaml_mark_t) → AreOf A G p
+    → ((a : Option (List ℕ)) (g : Option Tag) → A a → G g → P (item.node a g s))
+    → P (node_at p s start end).body
+node_is A G P None s start end h f = f None None h.0 h.1
+node_is A G P (Some p) s start end h f = f p.anchor p.tag h.0 h.1
+
+content_are : {T : TokenBody → Type 0} {A : Option (List ℕ) → Type 0} {G : Option Tag → Type 0}
+    {P : RawEventBody → Type 0} {Q : State → Type 0} (r : Inner T A G P Q) (w : Wants)
+    (p : Option Properties) (start end : yaml_mark_t) (b : TokenBody) → AreOf A G p → T b
+    → AreTaken P Q (content_taken w p start end b)
+content_are {A = A} {G = G} {P = P} r w p start end (token.scalar v style) h t = (node_is A G P p _ start end h (λ a g k l. r.scalar a g v style k l t), tt)
+content_are {A = A} {G = G} {P = P} r w p start end token.flow_sequence_start h t = (node_is A G P p _ start end h (λ a g. r.sequence a g _), (r.states _ tt, tt))
+content_are {A = A} {G = G} {P = P} r w p start end token.flow_mapping_start h t = (node_is A G P p _ start end h (λ a g. r.mapping a g _), (r.states _ tt, tt))
+content_are {A = A} {G = G} {P = P} r w p start end token.block_sequence_start h t = (node_is A G P p _ start end h (λ a g. r.sequence a g _), (r.states _ tt, tt))
+content_are {A = A} {G = G} {P = P} r w p start end token.block_mapping_start h t = (node_is A G P p _ start end h (λ a g. r.mapping a g _), (r.states _ tt, tt))
+content_are {A = A} {G = G} {P = P} r (Block (Some side)) p start end token.block_entry h t = (node_is A G P p _ start end h (λ a g. r.sequence a g _), (r.states _ tt, (r.states _ tt, tt)))
+content_are r (Block None) p start end token.block_entry h t = (tt, (r.states _ tt, tt))
+content_are r Flow p start end token.block_entry h t = (tt, (r.states _ tt, tt))
+content_are r w p start end _ h t = (tt, (r.states _ tt, tt))
+
+node_are : {T : TokenBody → Type 0} {A : Option (List ℕ) → Type 0} {G : Option Tag → Type 0}
+    {P : RawEventBody → Type 0} {Q : State → Type 0} (r : Inner T A G P Q) (w : Wants)
+    (start end : yaml_mark_t) (b : TokenBody) → T b → AreTaken P Q (node_taken w start end b)
+node_are r w start end (token.alias name) t = (r.alias name t, tt)
+node_are r w start end (token.anchor name) t = (tt, (r.properties w _ (r.anchor name t) r.untagged, tt))
+node_are r w start end (token.tag handle suffix) t = (tt, (r.properties w _ r.unnamed (r.tag handle suffix start t), tt))
+node_are r w start end b t = content_are r w None start end b (r.unnamed, r.untagged) t
+
+beside_are : {T : TokenBody → Type 0} {A : Option (List ℕ) → Type 0} {G : Option Tag → Type 0}
+    {P : RawEventBody → Type 0} {Q : State → Type 0} (r : Inner T A G P Q) (w : Wants)
+    (p : Properties) (start end : yaml_mark_t) (b : TokenBody) → A p.anchor × G p.tag → T b
+    → AreTaken P Q (with_properties_taken w p start end b)
+beside_are r w p start end (token.anchor name) h t = (tt, (r.properties w _ (r.anchor name t) h.1, tt))
+beside_are r w p start end (token.tag handle suffix) h t = (tt, (r.properties w _ h.0 (r.tag handle suffix start t), tt))
+beside_are r w p start end b h t = content_are r w (Some p) start end b h t
+
+on_others : (P : RawEventBody → Type 0) (Q : State → Type 0) (i : Option RawEvent)
+    (xs ys : List State) → AreTaken P Q (record { item = i; above = xs }) → AllAre Q ys
+    → AreTaken P Q (record { item = i; above = xs ++ ys })
+on_others P Q None [] ys h k = absurd h.0
+on_others P Q None (x ∷ xs) ys h k = (tt, all_over Q (x ∷ xs) ys h.1 k)
+on_others P Q (Some i) xs ys h k = (h.0, all_over Q xs ys h.1 k)
+
+items_are : {T : TokenBody → Type 0} {A : Option (List ℕ) → Type 0} {G : Option Tag → Type 0}
+    {P : RawEventBody → Type 0} {Q : State → Type 0} (r : Inner T A G P Q) (b : Brackets)
+    (o start end : yaml_mark_t) (x : TokenBody) → T x → AreTaken P Q (items_taken b o start end x)
+items_are r brackets.Sequence o start end token.key t = (r.mapping None None _ r.unnamed r.untagged, (r.states _ tt, (r.states _ tt, (r.states _ tt, (r.states _ tt, tt)))))
+items_are r brackets.Mapping o start end token.key t = (tt, (r.states _ tt, (r.states _ tt, (r.states _ tt, tt))))
+items_are r brackets.Sequence o start end token.flow_sequence_end t = (r.sequence_end, tt)
+items_are r brackets.Mapping o start end token.flow_sequence_end t = (r.mapping_end, tt)
+items_are r brackets.Sequence o start end token.flow_mapping_end t = (r.sequence_end, tt)
+items_are r brackets.Mapping o start end token.flow_mapping_end t = (r.mapping_end, tt)
+items_are {P = P} {Q = Q} r brackets.Sequence o start end x t = on_others P Q (node_taken Flow start end x).item (node_taken Flow start end x).above (state.more brackets.Sequence o ∷ []) (node_are r Flow start end x t) (r.states _ tt, tt)
+items_are {P = P} {Q = Q} r brackets.Mapping o start end x t = on_others P Q (node_taken Flow start end x).item (node_taken Flow start end x).above (state.lone ∷ state.more brackets.Mapping o ∷ []) (node_are r Flow start end x t) (r.states _ tt, (r.states _ tt, tt))
+
+more_are : {T : TokenBody → Type 0} {A : Option (List ℕ) → Type 0} {G : Option Tag → Type 0}
+    {P : RawEventBody → Type 0} {Q : State → Type 0} (r : Inner T A G P Q) (b : Brackets)
+    (o start end : yaml_mark_t) (x : TokenBody) → AreTaken P Q (more_taken b o start end x)
+more_are r b o start end token.flow_entry = (tt, (r.states _ tt, tt))
+more_are r brackets.Sequence o start end _ = (r.sequence_end, tt)
+more_are r brackets.Mapping o start end _ = (r.mapping_end, tt)
+
+entries_are : {T : TokenBody → Type 0} {A : Option (List ℕ) → Type 0} {G : Option Tag → Type 0}
+    {P : RawEventBody → Type 0} {Q : State → Type 0} (r : Inner T A G P Q)
+    (o start end : yaml_mark_t) (x : TokenBody) → AreTaken P Q (entries_taken o start end x)
+entries_are r o start end token.block_entry = (tt, (r.states _ tt, (r.states _ tt, tt)))
+entries_are r o start end _ = (r.sequence_end, tt)
+
+pairs_are : {T : TokenBody → Type 0} {A : Option (List ℕ) → Type 0} {G : Option Tag → Type 0}
+    {P : RawEventBody → Type 0} {Q : State → Type 0} (r : Inner T A G P Q)
+    (o start end : yaml_mark_t) (x : TokenBody) → AreTaken P Q (pairs_taken o start end x)
+pairs_are r o start end token.key = (tt, (r.states _ tt, (r.states _ tt, (r.states _ tt, tt))))
+pairs_are r o start end _ = (r.mapping_end, tt)
+
+-- Within a document what is taken is as the rules say.
+pub inner_are : {T : TokenBody → Type 0} {A : Option (List ℕ) → Type 0} {G : Option Tag → Type 0}
+    {P : RawEventBody → Type 0} {Q : State → Type 0} (r : Inner T A G P Q) (x : State) (t : Token)
+    → IsInner x → Q x → T t.body → AreTaken P Q (taken_at x t)
+inner_are r (state.optional place before) t i q h = node_are r _ t.start_mark t.end_mark t.body h
+inner_are r (state.entries o) t i q h = entries_are r o t.start_mark t.end_mark t.body
+inner_are r (state.others side) t i q h = (tt, (r.states _ tt, (r.states _ tt, tt)))
+inner_are r (state.pairs o) t i q h = pairs_are r o t.start_mark t.end_mark t.body
+inner_are r (state.colon place) t i q h = (tt, (r.states _ tt, tt))
+inner_are r (state.with_properties w p) t i q h = beside_are r w p t.start_mark t.end_mark t.body (r.held w p q) h
+inner_are r (state.items b o) t i q h = items_are r b o t.start_mark t.end_mark t.body h
+inner_are r (state.more b o) t i q h = more_are r b o t.start_mark t.end_mark t.body
+inner_are r state.pair_end t i q h = (tt, (r.states _ tt, tt))
+inner_are r state.lone t i q h = (tt, (r.states _ tt, tt))
+inner_are r _ t i q h = absurd i
+
+-- ---- over all tokens
+
+-- any state that holds no text
+abbrev pub IsTextless : State → Type 0
+IsTextless (state.with_properties w p) = ⊥
+IsTextless _ = Unit {0}
+
+pub bare_textless : (x : State) → IsBare x → IsTextless x
+bare_textless (state.with_properties w p) h = h
+bare_textless _ h = tt
+
+-- Outside of documents.
+pub record Outer (T : TokenBody → Type 0) (A : Option (List ℕ) → Type 0) (G : Option Tag → Type 0)
+    (P : RawEventBody → Type 0) (Q : State → Type 0) : Type 0 where
+  pub inner : Inner T A G P Q
+  pub empty : (a : Option (List ℕ)) (g : Option Tag) → A a → G g → P (item.node a g item.empty)
+  pub start : (encoding : yaml_encoding_t) → P (item.event (event.stream_start encoding))
+  pub end : P (item.event event.stream_end)
+  pub version : (major minor : ℤ) → P (item.version_directive major minor)
+  pub handle : (handle prefix : List ℕ) → T (token.tag_directive handle prefix)
+      → P (item.tag_directive handle prefix)
+  pub document : (implicit : Bool) → P (item.document implicit)
+  pub document_end : (implicit : Bool) → P (item.event (event.document_end implicit))
+  pub outer : (x : State) → IsTextless x → Q x
+  pub none : T no_token.body
+
+stream_are : {T : TokenBody → Type 0} {A : Option (List ℕ) → Type 0} {G : Option Tag → Type 0}
+    {P : RawEventBody → Type 0} {Q : State → Type 0} (r : Outer T A G P Q) (start end : yaml_mark_t)
+    (b : TokenBody) → AreTaken P Q (stream_taken start end b)
+stream_are r start end (token.stream_start encoding) = (r.start encoding, (r.outer _ tt, tt))
+stream_are r start end _ = (tt, (r.outer _ tt, tt))
+
+documents_are : {T : TokenBody → Type 0} {A : Option (List ℕ) → Type 0} {G : Option Tag → Type 0}
+    {P : RawEventBody → Type 0} {Q : State → Type 0} (r : Outer T A G P Q)
+    (from start end : yaml_mark_t) (b : TokenBody) → T b
+    → AreTaken P Q (documents_taken from start end b)
+documents_are r from start end (token.version_directive major minor) t = (r.version major minor, (r.outer _ tt, tt))
+documents_are r from start end (token.tag_directive handle prefix) t = (r.handle handle prefix t, (r.outer _ tt, tt))
+documents_are r from start end token.document_start t = (r.document false, (r.outer _ tt, (r.outer _ tt, (r.outer _ tt, tt))))
+documents_are r from start end token.stream_end t = (r.end, tt)
+documents_are r from start end _ t = (tt, (r.outer _ tt, tt))
+
+-- What a state takes is as the rules say.
+pub taken_are : {T : TokenBody → Type 0} {A : Option (List ℕ) → Type 0} {G : Option Tag → Type 0}
+    {P : RawEventBody → Type 0} {Q : State → Type 0} (r : Outer T A G P Q) (x : State) (t : Token)
+    → Q x → T t.body → AreTaken P Q (taken_at x t)
+taken_are r state.stream t q h = stream_are r t.start_mark t.end_mark t.body
+taken_are r state.first t q h = documents_are r t.start_mark t.start_mark t.end_mark t.body h
+taken_are r state.documents t q h = documents_are r t.start_mark t.start_mark t.end_mark t.body h
+taken_are r (state.directives from) t q h = documents_are r from t.start_mark t.end_mark t.body h
+taken_are r state.document_end t q h = (r.document_end false, tt)
+taken_are r x t q h = inner_are r.inner x t tt q h
+
+-- So is what it gives where it leaves.
+pub left_are : {T : TokenBody → Type 0} {A : Option (List ℕ) → Type 0} {G : Option Tag → Type 0}
+    {P : RawEventBody → Type 0} {Q : State → Type 0} (r : Outer T A G P Q) (x : State)
+    (start : yaml_mark_t) → Q x → P (left_at x start).body
+left_are r state.document_end start q = r.document_end true
+left_are r (state.others side) start q = r.inner.sequence_end
+left_are r (state.with_properties w p) start q =
+    let (a, g) = r.inner.held w p q in r.empty p.anchor p.tag a g
+left_are r state.pair_end start q = r.inner.mapping_end
+left_are r _ start q = r.empty None None r.inner.unnamed r.inner.untagged
+
+-- all items of a list
+abbrev pub AllGive : (RawEventBody → Type 0) → List RawEvent → Type 0
+AllGive P [] = Unit {0}
+AllGive P (i ∷ is) = P i.body × AllGive P is
+
+-- with the number of tokens that are not asked for
+abbrev pub GivenAre : (RawEventBody → Type 0) → List Given → Type 0
+GivenAre P [] = Unit {0}
+GivenAre P (g ∷ gs) = P g.0.body × GivenAre P gs
+
+abbrev pub Each : (TokenBody → Type 0) → List Token → Type 0
+Each T [] = Unit {0}
+Each T (t ∷ ts) = T t.body × Each T ts
+
+abbrev pub FedAre : (RawEventBody → Type 0) → (State → Type 0) → Fed → Type 0
+FedAre P Q (stop is f) = AllGive P is
+FedAre P Q (go is s) = AllGive P is × AllAre Q s
+
+fed_with : (P : RawEventBody → Type 0) (Q : State → Type 0) (i : RawEvent) (below : Fed) → P i.body
+    → FedAre P Q below → FedAre P Q (with_item i below)
+fed_with P Q i (stop is f) h k = (h, k)
+fed_with P Q i (go is s) h k = ((h, k.0), k.1)
+
+fed_by : (P : RawEventBody → Type 0) (Q : State → Type 0) (i : Option RawEvent)
+    (above s : List State) → AreTaken P Q (record { item = i; above = above }) → AllAre Q s
+    → FedAre P Q (given_by (record { item = i; above = above }) s)
+fed_by P Q None above s h k = (tt, all_over Q above s h.1 k)
+fed_by P Q (Some i) above s h k = ((h.0, tt), all_over Q above s h.1 k)
+
+turn_are : {T : TokenBody → Type 0} {A : Option (List ℕ) → Type 0} {G : Option Tag → Type 0}
+    {P : RawEventBody → Type 0} {Q : State → Type 0} (r : Outer T A G P Q) (c : Choice) (x : State)
+    (t : Token) (s : List State) (below : Fed) → T t.body → AllAre Q (x ∷ s) → FedAre P Q below
+    → FedAre P Q (turn c x t s below)
+turn_are r (Refuse p o) x t s below h q k = tt
+turn_are {P = P} {Q = Q} r Take x t s below h q k = fed_by P Q (taken_at x t).item (taken_at x t).above s (taken_are r x t q.0 h) q.1
+turn_are {P = P} {Q = Q} r Leave x t s below h q k = fed_with P Q (left_at x t.start_mark) below (left_are r x t.start_mark q.0) k
+turn_are {P = P} {Q = Q} r Open x t s below h q k =
+    let start = state.optional Root t.start_mark in
+    let rest = state.document_end ∷ state.documents ∷ s in
+    fed_with P Q (item.item_at (item.document true) t.start_mark t.start_mark) (given_by (taken_at start t) rest) (r.document true)
+    (fed_by P Q (taken_at start t).item (taken_at start t).above rest (taken_are r start t (r.outer start tt) h) (r.outer _ tt, (r.outer _ tt, q.1)))
+
+pub feed_are : {T : TokenBody → Type 0} {A : Option (List ℕ) → Type 0} {G : Option Tag → Type 0}
+    {P : RawEventBody → Type 0} {Q : State → Type 0} (r : Outer T A G P Q) (s : List State)
+    (t : Token) → T t.body → AllAre Q s → FedAre P Q (feed s t)
+unfolding feed
+feed_are r [] t h q = (tt, tt)
+feed_are r (x ∷ s) t h q = turn_are r (choice_at x (type_of t.body)) x t s (feed s t) h q (feed_are r s t h q.1)
+
+given_over : (P : RawEventBody → Type 0) (left : ℕ) (is : List RawEvent) (more : List Given)
+    → AllGive P is → GivenAre P more
+    → GivenAre P (map (λ (i : RawEvent). (i, left)) is ++ more)
+given_over P left [] more h k = k
+given_over P left (i ∷ is) more h k = (h.0, given_over P left is more h.1 k)
+
+given_alone : (P : RawEventBody → Type 0) (left : ℕ) (is : List RawEvent) → AllGive P is
+    → GivenAre P (map (λ (i : RawEvent). (i, left)) is)
+given_alone P left [] h = tt
+given_alone P left (i ∷ is) h = (h.0, given_alone P left is h.1)
+
+carried_are : (P : RawEventBody → Type 0) (Q : State → Type 0) (left : ℕ) (fed : Fed)
+    (k : List State → Outcome) → FedAre P Q fed
+    → ((s : List State) → AllAre Q s → GivenAre P (k s).items)
+    → GivenAre P (carry left fed k).items
+carried_are P Q left (stop is f) k h more = given_alone P left is h
+carried_are P Q left (go is s) k h more = given_over P left is (k s).items h.0 (more s h.1)
+
+-- All items of a list of tokens are as the rules say.
+pub run_are : {T : TokenBody → Type 0} {A : Option (List ℕ) → Type 0} {G : Option Tag → Type 0}
+    {P : RawEventBody → Type 0} {Q : State → Type 0} (r : Outer T A G P Q) (ts : List Token)
+    (s : List State) (f : Option Fault) → Each T ts → AllAre Q s → GivenAre P (run ts s f).items
+unfolding run
+run_are r [] [] (Some e) h q = tt
+run_are r [] (x ∷ s) (Some e) h q = tt
+run_are {P = P} {Q = Q} r [] s None h q = carried_are P Q 0 (feed s no_token) (λ _. finished) (feed_are r s no_token r.none q) (λ s' q'. tt)
+run_are {P = P} {Q = Q} r (t ∷ ts) s f h q =
+    carried_are P Q (length ts) (feed s t) (λ s'. run ts s' f) (feed_are r s t h.0 q) (λ s' q'. run_are r ts s' f h.1 q')
+
+-- ---- settled
+
+-- B of the event that an item settles to, if it does
+abbrev pub SettlesTo : (EventBody → Type 0) → Settled → Type 0
+SettlesTo B (refused f) = Unit {0}
+SettlesTo B (gave body ds) = B body
+SettlesTo B (noted ds) = Unit {0}
+
+-- Of items P, of events B: whatever the tag comes to and whatever the directives are.
+pub record Settling (P : RawEventBody → Type 0) (B : EventBody → Type 0) : Type 0 where
+  pub whole : (body : EventBody) → P (item.event body) → B body
+  pub document : (v : Option yaml_version_directive_t) (tags : List TagDirective) (implicit : Bool)
+      → B (event.document_start v tags implicit)
+  pub node : (a : Option (List ℕ)) (g : Option (List ℕ)) (s : Shape) → B (node_event a g s)
+
+if_settles : (B : EventBody → Type 0) (known : Bool) (ds : Directives) (f : Fault)
+    → SettlesTo B (if known then noted ds else refused f)
+if_settles B true ds f = tt
+if_settles B false ds f = tt
+
+-- What an item settles to is as the rules say.
+pub settles : (P : RawEventBody → Type 0) (B : EventBody → Type 0) → Settling P B
+    → (b : RawEventBody) (from : yaml_mark_t) (ds : Directives) → P b
+    → SettlesTo B (settle_body b from ds)
+settles P B r (item.event body) from ds h = r.whole body h
+settles P B r (item.version_directive x y) from ds h = version ds.version
+  where
+    version : (v : Option yaml_version_directive_t) → SettlesTo B (with_version v ds.tags x y from)
+    version None = if_settles B (is_known_version x y) _ _
+    version (Some v) = tt
+settles P B r (item.tag_directive x y) from ds h = handled (directive_for x ds.tags)
+  where
+    handled : (o : Option (List ℕ)) → SettlesTo B (with_tag o ds x y from)
+    handled None = tt
+    handled (Some p) = tt
+settles P B r (item.document implicit) from ds h = r.document ds.version ds.tags implicit
+settles P B r (item.node a None s) from ds h = r.node a None s
+settles P B r (item.node a (Some tag) s) from ds h = known (resolved ds.tags tag.handle tag.suffix)
+  where
+    known : (o : Option (List ℕ)) → SettlesTo B (with_resolved o a s from tag.mark ds)
+    known None = tt
+    known (Some g) = r.node a (Some g) s
+
+abbrev pub EventsAre : (EventBody → Type 0) → List Told → Type 0
+EventsAre B [] = Unit {0}
+EventsAre B (t ∷ ts) = B t.0.body × EventsAre B ts
+
+read_on_is : (B : EventBody → Type 0) (c : Settled) (g : Given) (k : Directives → Reading)
+    → SettlesTo B c → ((ds : Directives) → EventsAre B (k ds).events)
+    → EventsAre B (read_on c g.0 g.1 k).events
+read_on_is B (refused f) g k h more = tt
+read_on_is B (gave body ds) g k h more = (h, more ds)
+read_on_is B (noted ds) g k h more = more ds
+
+-- All events are as the rules say, where the items are.
+pub reading_is : (P : RawEventBody → Type 0) (B : EventBody → Type 0) → Settling P B
+    → (gs : List Given) (f : Option Fault) (ds : Directives) → GivenAre P gs
+    → EventsAre B (reading gs f ds).events
+unfolding reading
+reading_is P B r [] f ds h = tt
+reading_is P B r (g ∷ gs) f ds h = read_on_is B (settle g.0 ds) g (λ ds'. reading gs f ds') (settles P B r g.0.body g.0.from ds h.0) (λ ds'. reading_is P B r gs f ds' h.1)

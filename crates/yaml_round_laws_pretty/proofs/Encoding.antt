@@ -1,1 +1,0 @@
--- A layout's bytes spell its characters. (As in `yaml_round_laws_documents`.)

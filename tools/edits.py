@@ -72,7 +72,7 @@ FIRST = [
     ("the input repeated as its normal form", "yaml_round/own_styles_kept"),
     ("a size refused one byte early, or one late", "yaml_round_device/size_refused_one_byte_early", "yaml_round/normal_form_refused_one_byte_early", "yaml_round/size_refused_one_byte_late"),
     ("a flush left out, an empty `put` that fails, reading on behind the limit", "yaml_round_device/finish_not_called", "yaml_round_device/empty_put_told_as_failed", "yaml_round_device/byte_past_the_limit"),
-    ("for C: a place told of what isn't there, a fault without its line, two fields exchanged", "yaml_round_c/absent_anchor_has_a_place", "yaml_round_c/absent_version_is_one", "yaml_round_c/line_never_told", "yaml_round_c/indent_and_width_exchanged"),
+    ("for C: a place told of what isn't there, a fault without its line, two fields exchanged", "yaml_round_c/absent_anchor_has_a_place", "yaml_round_c/line_never_told", "yaml_round_c/indent_and_width_exchanged"),
     ("every fault told as want of memory by a caller", "yaml_cli_lookup/every_fault_told_as_want_of_memory"),
 ]
 IMPLIED_HEAD = """

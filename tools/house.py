@@ -17,6 +17,9 @@
                                crates aside) of which more than one crate of a member has one of the name, but for those that
                                have one meaning there (the glossary's last table); and types that are named by a bare word
                                for a position, but for those that the glossary's table of positions has
+    tools/house.py --copies    lemmas and records of proofs/ that are written again, letter by letter but for their own name, in
+                               a crate that stands on the first one's or in the first one's, the longest first: a place to
+                               look, since a name in them may mean another thing in each file
 """
 import collections
 import glob
@@ -32,6 +35,8 @@ STATEMENT = re.compile(r"(?:(?:pub|abbrev|opaque|unfoldable) )*[^\s:({=]+(?: [({
 # What is brought in of another crate's lemmas, and a statement that is the names of laws.
 CITES = re.compile(rf"use Rattle\.(\w+)\.proofs\.(\w+)\.(?:\{{([^}}]*)\}}|({repo.NAME}))")
 LAWS = re.compile(r"(?:[A-Z]\w* → )*[A-Z]\w*")
+# A lemma or a record of proofs, with what is said before its name.
+LEMMA = re.compile(r"^((?:(?:pub|abbrev|opaque|unfoldable|record) )*)([^\s:({=]+)(?= )(?: [({][^=\n]*)? :(?:.|\n)*?(?=\n\n|\Z)", re.M)
 # A function that is no method.
 FUNCTION = re.compile(r"^(?:pub(?:\([a-z]+\))? )?(?:const )?fn (\w+)", re.M)
 # What a document doesn't name: a day, an issue, a machine's folder.
@@ -83,6 +88,23 @@ def unexplained(path, lines):
             yield f"{path}:{at + 1}: a read that nothing uses, without a reason"
         if ITEM.match(line) and not any(it.startswith("///") for it in above):
             yield f"{path}:{at + 1}: public, without a doc comment"
+
+
+def copies():
+    """Lemmas and records of proofs that stand twice, by their length: where the one is, and the one that could be cited."""
+    found = collections.defaultdict(list)
+    for path in files():
+        if "/proofs/" in path and not path.endswith(("/Answers.antt", "/Invariants.antt")):
+            for it in LEMMA.finditer(repo.read(path)):
+                said = re.sub(r"\b(?:pub|abbrev|unfoldable) |^ *--.*$", "", it[0], flags=re.M)
+                same = re.sub(rf"(?<![\w'-]){re.escape(it[2])}(?![\w'-])", "@", said)
+                found[" ".join(same.split())].append((path, it[2]))
+    for text, them in sorted(found.items(), key=lambda it: -len(it[0])):
+        for path, name in them if len(text) > 80 else []:
+            under = {path.split("/")[1], *repo.below(path.split("/")[1])}
+            first = min((it for it in them if it[0].split("/")[1] in under), key=lambda it: len(repo.below(it[0].split("/")[1])))
+            if first != (path, name):
+                yield f"{path}: {name} is {first[1]} of {first[0]}, {len(text)} characters"
 
 
 def documents():
@@ -222,6 +244,9 @@ def functions_twice_named():
 def main():
     if "--names" in sys.argv[1:]:
         print("\n".join([*twice_named(), *bare_positions(), *functions_twice_named()]))
+        return 0
+    if "--copies" in sys.argv[1:]:
+        print("\n".join(copies()))
         return 0
     wrong = []
     for path in files():

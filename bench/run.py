@@ -17,6 +17,8 @@ import tempfile
 HERE = os.path.dirname(os.path.abspath(__file__))
 KINDS = ["mapping", "flow", "scalars", "literals", "anchors", "json"]
 MODES = {"events": ["events"], "canonical": ["fmt"], "pretty": ["fmt", "--pretty"], "docs": ["docs"]}
+# What loads the documents, which alone is counted too.
+LOADS = {"ours": "yaml_round_writing::reload::documents_of", "peer": "yaml_parser_load"}
 ROUNDS = {10_000: 25, 1_000_000: 25, 10_000_000: 7}
 
 
@@ -55,8 +57,11 @@ def medians(measure, sides, mode, file, rounds):
     return {side: tuple(statistics.median(column) for column in zip(*rows)) for side, rows in taken.items()}
 
 
-def instructions(words, folder):
+def instructions(words, folder, inside=None):
+    """How many are carried out, by all of a program or inside of a function that is named."""
     tool = ["valgrind", "--tool=callgrind", f"--callgrind-out-file={folder}/counts"]
+    if inside:
+        tool.append(f"--toggle-collect={inside}")
     ran = subprocess.run([*tool, *words], check=True, stdout=subprocess.DEVNULL, stderr=subprocess.PIPE, text=True)
     return int(re.search(r"Collected : (\d+)", ran.stderr).group(1))
 
@@ -71,8 +76,10 @@ def count_table(sides, sizes, folder):
     for kind in KINDS:
         for size in sizes:
             file = input_of(folder, kind, size)
-            for mode in MODES:
-                ours, peer = (instructions(words_of(sides, side, mode, file), folder) for side in ("ours", "peer"))
+            for mode in [*MODES, "load"]:
+                ran = "docs" if mode == "load" else mode
+                inside = LOADS if mode == "load" else {}
+                ours, peer = (instructions(words_of(sides, side, ran, file), folder, inside.get(side)) for side in ("ours", "peer"))
                 print(f"| {kind} | {size:,} | {mode} | {ours / 1e6:.1f} | {peer / 1e6:.1f} | {ours / peer:.2f} |", flush=True)
 
 

@@ -12,7 +12,9 @@ use Rattle.yaml_emit_graph.specs.declared.graph.Stage.{Stage}
 use Rattle.yaml_emit_graph.specs.declared.graph.Stage.TheVariants as at
 use Rattle.yaml_emit_graph.specs.Graph.{graph_opening, turn_event}
 use Rattle.yaml_emit_graph.specs.declared.walk.Turn.{Turn}
+use Rattle.yaml_emit_graph.specs.declared.bracket.Bracket.{Bracket}
 use Rattle.yaml_emit_graph.specs.Texts.{text_event, IsPlainText}
+use Rattle.yaml_emit_graph.specs.Brackets.{bracket_event, IsPlainBracket}
 
 -- a call put that event, with texts that are UTF-8, into a slot
 abbrev pub Says : Event → Result Unit AllocError → EventBody → Type 0
@@ -55,6 +57,21 @@ pub record GivesPlainText (d : Document) (old : Events) (value : List ℕ) (new 
     pub style : yaml_scalar_style_t
     pub next : remaining_events d old ≡ text_event value style ∷ remaining_events d new
     pub utf8 : IsUtf8 value
+    pub walk : IsEvents d new
+
+-- a turn of the walk comes next, and opens or closes a collection, with the default tag and without an anchor
+pub record IsBracketAhead (d : Document) (e : Events) (bracket : Bracket) : Type 0 where
+  pub place : e.place ≡ at.Nodes
+  pub within : e.given < length e.turns.items
+  pub turn : Turn
+  pub there : turn ≡ get_or e.turns.items e.given turn
+  pub is : IsPlainBracket (turn_event e.numbers.items d.nodes turn) bracket
+
+-- the next event is that, and the others are still to come
+pub record GivesBracket (d : Document) (old : Events) (bracket : Bracket) (new : Events) : Type 0
+  where
+    pub flow : Bool
+    pub next : remaining_events d old ≡ bracket_event bracket flow ∷ remaining_events d new
     pub walk : IsEvents d new
 
 -- the next event stands in a slot, and the others are still to come

@@ -6,10 +6,12 @@ ghost use Rattle.yaml_parse_document.specs.Documents.{str_tag, seq_tag, map_tag}
 ghost use Rattle.yaml_parse_model.specs.Events.{body_of, text_of, directive_of};
 ghost use Rattle.yaml_parse_model.specs.Nodes.{node_of, tag_of};
 ghost use Rattle.yaml_emit_layout.specs.Content.{emitter_event, scalar, alias, sequence_start, mapping_start, document_start, is_flow_sequence, is_flow_mapping};
-ghost use Rattle.yaml_emit_graph.specs.Graph.{lead, name_of, anchor_of, is_text, graph_scalar, graph_start, opening_event, closing_event, body_of_id, tag_of_id, turn_event, graph_opening, dumped};
-ghost use Rattle.yaml_emit_graph.specs.Events.{remaining_events, IsEvents, Says, GivesGraphEvent, IsAhead, GivesPlainText, IsUtf8Body};
+ghost use Rattle.yaml_emit_graph.specs.Graph.{lead, name_of, anchor_of, graph_scalar, graph_start, opening_event, closing_event, body_of_id, tag_of_id, turn_event, graph_opening, dumped};
+ghost use Rattle.yaml_emit_graph.specs.Events.{remaining_events, IsEvents, Says, GivesGraphEvent, IsAhead, GivesPlainText, IsBracketAhead, GivesBracket, IsUtf8Body};
 
+use crate::bracket::{Bracket, bracket_met};
 use crate::numbers::{Walked, number_of, walk_nodes};
+use crate::tags::{is_map, is_seq, is_str};
 use crate::text::text_met;
 use crate::walk::Turn;
 use std::alloc::{AllocError, Global};
@@ -89,50 +91,6 @@ fn copies(
     match copy_directives(alloc, directives) {
         Ok(copies) => Ok(copies),
         Err(_) => Err(AllocError),
-    }
-}
-
-fn is_text(text: &[u8], other: &[u8]) -> bool
-    ensures { result ≡ is_text text.now other.now }
-{
-    text == other
-}
-
-// Whether the tag is that of a text.
-// Inlined: mostly a look at the kind.
-#[inline(always)]
-fn is_str(tag: &yaml_node_tag_t) -> bool
-    ensures { result ≡ is_text (tag_of tag.now) str_tag }
-{
-    match tag {
-        yaml_node_tag_t::Str => true,
-        yaml_node_tag_t::Seq => false,
-        yaml_node_tag_t::Map => false,
-        yaml_node_tag_t::Spelled { text } => is_text(text, b"tag:yaml.org,2002:str"),
-    }
-}
-
-// Whether it is that of a sequence.
-fn is_seq(tag: &yaml_node_tag_t) -> bool
-    ensures { result ≡ is_text (tag_of tag.now) seq_tag }
-{
-    match tag {
-        yaml_node_tag_t::Str => false,
-        yaml_node_tag_t::Seq => true,
-        yaml_node_tag_t::Map => false,
-        yaml_node_tag_t::Spelled { text } => is_text(text, b"tag:yaml.org,2002:seq"),
-    }
-}
-
-// Whether it is that of a mapping.
-fn is_map(tag: &yaml_node_tag_t) -> bool
-    ensures { result ≡ is_text (tag_of tag.now) map_tag }
-{
-    match tag {
-        yaml_node_tag_t::Str => false,
-        yaml_node_tag_t::Seq => false,
-        yaml_node_tag_t::Map => true,
-        yaml_node_tag_t::Spelled { text } => is_text(text, b"tag:yaml.org,2002:map"),
     }
 }
 
@@ -473,6 +431,51 @@ impl Events {
             Some(value) => {
                 self.given += 1;
                 Some(value)
+            }
+        }
+    }
+
+    // What opens or closes a collection where its turn comes next, if the event says no more than that.
+    // Inlined: mostly a look at the node.
+    #[inline(always)]
+    fn bracket_ahead(&self, document: &yaml_document_t) -> Option<Bracket>
+        requires { self.now.place ≡ Stage.Nodes }
+        ensures { IfSome result (λ b. IsBracketAhead document.now self.now b) }
+    {
+        if self.given < self.turns.len() {
+            match bracket_met(&self.numbers, document, self.turns[self.given]) {
+                None => None,
+                Some(bracket) => Some(bracket),
+            }
+        } else {
+            None
+        }
+    }
+
+    // The same, wherever the walk is.
+    // Inlined: a test.
+    #[inline(always)]
+    fn bracket_to_come(&self, document: &yaml_document_t) -> Option<Bracket>
+        ensures { IfSome result (λ b. IsBracketAhead document.now self.now b) }
+    {
+        match self.place {
+            Stage::Nodes => self.bracket_ahead(document),
+            _ => None,
+        }
+    }
+
+    /// What opens or closes a collection, if that comes next, with the default tag and without an anchor: then it is given.
+    // Inlined: mostly a look at the node.
+    #[inline(always)]
+    pub fn next_bracket(&mut self, document: &yaml_document_t) -> Option<Bracket>
+        ensures bracket { IfSome result (λ b. GivesBracket document.now self.old b self.new) }
+        ensures none { result ≡ None → self.new ≡ self.old }
+    {
+        match self.bracket_to_come(document) {
+            None => None,
+            Some(bracket) => {
+                self.given += 1;
+                Some(bracket)
             }
         }
     }

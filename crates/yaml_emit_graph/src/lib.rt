@@ -1,9 +1,12 @@
 //! The events of a document that the calls built: a walk over its nodes, which of them have an anchor, and which number.
 #![tactic(auto)]
 
+mod bracket;
 mod graph;
 mod numbers;
+mod tags;
 mod text;
 mod walk;
 
+pub use bracket::Bracket;
 pub use graph::Events;

@@ -1,5 +1,6 @@
 pub mod Lists
 mod Plain
+mod Bracketed
 pub mod Canonical
 pub mod Seeing
 pub mod Finishing

@@ -1,12 +1,12 @@
 -- A text with the default tag and without an anchor, where a node is due in canonical form.
-use Rattle.std.proofs.Common.{◌≡◌, ℕ, Bool, true, false, refl, sym, ◌∙◌, ap, List, [], Option, Some, None, map}
+use Rattle.std.proofs.Common.{◌≡◌, ℕ, Bool, true, false, refl, sym, subst, ◌∙◌, ap, List, [], Option, Some, None, map}
 use Rattle.std.proofs.Math.Bool.{and-false}
 use Rattle.std.specs.Prelude.{◌&&◌, codes}
 use Rattle.std.specs.Str.{chars}
 use Rattle.yaml_scan_model.specs.declared.yaml_scalar_style_t.{yaml_scalar_style_t}
 use Rattle.yaml_scan_model.specs.declared.yaml_tag_directive_t.{yaml_tag_directive_t}
 use Rattle.yaml_emit_tags.specs.parse_model.Events.{TagDirective, directive_of}
-use Rattle.yaml_emit_tags.specs.parse_model.Nodes.{str_tag}
+use Rattle.yaml_emit_tags.specs.parse_model.Nodes.{str_tag, seq_tag, map_tag}
 use Rattle.yaml_emit_tags.specs.Tags.{tag_spelling, spelled, directive_for, defines, suffix_keeps, uri_text}
 use Rattle.yaml_emit_text.specs.declared.Settings.{Settings}
 use Rattle.yaml_emit_text.specs.Sink.{Output, Puts}
@@ -33,11 +33,26 @@ pub none_listed : (listed : List yaml_tag_directive_t) (ds : List TagDirective)
     → map directive_of listed ≡ ds → listed ≡ [] → ds ≡ []
 none_listed listed ds e h = sym e ∙ ap (map directive_of) h
 
--- the tag of a text, without directives
-pub puts_str : (a b : Output) (ds : List TagDirective) → ds ≡ []
-    → Puts a b (word (codes "!!str")) → Puts a b (word (tag_spelling ds str_tag))
+-- the default tags, without directives
+pub str_spelled : tag_spelling [] str_tag ≡ codes "!!str"
 unfolding directive_for defines suffix_keeps uri_text spelled
-puts_str a b ds e p = rw e p
+str_spelled = refl
+
+pub seq_spelled : tag_spelling [] seq_tag ≡ codes "!!seq"
+unfolding directive_for defines suffix_keeps uri_text spelled
+seq_spelled = refl
+
+pub map_spelled : tag_spelling [] map_tag ≡ codes "!!map"
+unfolding directive_for defines suffix_keeps uri_text spelled
+map_spelled = refl
+
+pub puts_default : (a b : Output) (ds : List TagDirective) (tag spelled : List ℕ) → ds ≡ []
+    → tag_spelling [] tag ≡ spelled → Puts a b (word spelled)
+    → Puts a b (word (tag_spelling ds tag))
+puts_default a b ds tag spelled e is p =
+    let P : List ℕ → Type 0 = λ t. Puts a b (word t) in
+    let Q : List TagDirective → Type 0 = λ z. Puts a b (word (tag_spelling z tag)) in
+    subst Q (sym e) (subst P (sym is) p)
 
 pub puts_text : (s : Settings) (ds : List TagDirective) (at : Spot) (value : List ℕ)
     (style : yaml_scalar_style_t) (a b c : Output) → s.canonical ≡ true

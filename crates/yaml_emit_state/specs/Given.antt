@@ -1,9 +1,9 @@
 -- What the lent parts of an event say.
-use Rattle.std.specs.Prelude.{◌≡◌, ℕ, true, List, Option, Some, None, map}
+use Rattle.std.specs.Prelude.{◌≡◌, ℕ, Bool, true, false, List, Option, Some, None, map}
 use Rattle.std.specs.Str.{IsAscii}
 use Rattle.yaml_scan_model.specs.declared.yaml_scalar_style_t.{yaml_scalar_style_t}
 use Rattle.yaml_parse_model.specs.Events.{text_of, directive_of}
-use Rattle.yaml_parse_model.specs.Nodes.{str_tag}
+use Rattle.yaml_parse_model.specs.Nodes.{str_tag, seq_tag, map_tag}
 use Rattle.yaml_emit_layout.specs.Content as said
 use Rattle.yaml_emit_layout.specs.Nodes as nodes
 use Rattle.yaml_emit_state.specs.declared.given.Context.{Context}
@@ -34,6 +34,20 @@ plain_text value style = record {
   quoted = true;
   style = style;
 }
+
+-- what opens a collection with the default tag and without an anchor
+abbrev pub plain_start : List ℕ → Bool → said.Start
+plain_start tag flow = record { anchor = None; tag = Some tag; implicit = true; flow = flow }
+
+-- what opens a sequence, and a mapping
+abbrev pub plain_opening : Bool → Bool → said.Event
+plain_opening true flow = said.sequence_start (plain_start seq_tag flow)
+plain_opening false flow = said.mapping_start (plain_start map_tag flow)
+
+-- what ends them
+abbrev pub closing : Bool → said.Event
+closing true = said.sequence_end
+closing false = said.mapping_end
 
 abbrev pub lent_start : Start → said.Start
 lent_start p = record {

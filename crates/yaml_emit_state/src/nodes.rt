@@ -1,8 +1,8 @@
 //! Nodes: aliases, properties, scalars, and what opens collections.
-ghost use Rattle.std.specs.Prelude.{◌≡◌, ◌≢◌, ◌<◌, ◌∷◌, [], None, Some, true, false, not, ◌&&◌, ◌||◌, ◌==◌, ℕ, map, length, IsUtf8};
+ghost use Rattle.std.specs.Prelude.{◌≡◌, ◌≢◌, ◌<◌, ◌∷◌, [], None, Some, Bool, true, false, not, ◌&&◌, ◌||◌, ◌==◌, ℕ, map, length, IsUtf8};
 ghost use Rattle.std.specs.Str.{chars, IsAscii};
 ghost use Rattle.yaml_parse_model.specs.Events.{text_of};
-ghost use Rattle.yaml_emit_tags.specs.parse_model.Nodes.{str_tag};
+ghost use Rattle.yaml_emit_tags.specs.parse_model.Nodes.{str_tag, seq_tag, map_tag};
 ghost use Rattle.yaml_emit_tags.specs.Tags.{tag_spelling};
 ghost use Rattle.yaml_emit_text.specs.Sink.{Puts};
 ghost use Rattle.yaml_emit_text.specs.Tame.{IsTame};
@@ -13,7 +13,7 @@ ghost use Rattle.yaml_emit_layout.specs.Grammar.{kept_if, kept_tag, has};
 ghost use Rattle.yaml_emit_layout.specs.Nodes.{alias_layout, anchor_text, tag_text, properties_text, mark_text, scalar_layout, style_of, is_plain, checked, deeper, page_at, is_flow};
 ghost use Rattle.yaml_emit_layout.specs.State.{start_text};
 ghost use Rattle.yaml_scan_model.specs.declared.yaml_scalar_style_t.{yaml_scalar_style_t};
-ghost use Rattle.yaml_emit_state.specs.Given.{lent_context, lent_scalar, lent_start, plain_text, IsNamed};
+ghost use Rattle.yaml_emit_state.specs.Given.{lent_context, lent_scalar, lent_start, plain_text, plain_start, IsNamed};
 
 use crate::before::{put_blank_if, put_opener_if};
 use crate::given::{Context, Scalar, Start};
@@ -290,17 +290,73 @@ fn are_none(directives: &DirectiveTable) -> bool
     directives.list().is_empty()
 }
 
-// The tag of a text, with a space in front where one is due.
+// A default tag, with a space in front where one is due. Its word is that where there is no directive: it is given without and
+// with the space.
 // Inlined: mostly there is no directive, and its bytes are known.
+#[inline(always)]
+fn put_default_tag(
+    sink: &mut Sink,
+    directives: &DirectiveTable,
+    tag: &[u8],
+    spelled: &[u8],
+    parted: &[u8],
+)
+    requires spelled { tag_spelling [] tag.now ≡ spelled.now }
+    requires some { 0 < length spelled.now }
+    requires ascii { IsAscii spelled.now }
+    requires parted { parted.now ≡ 32 ∷ spelled.now }
+    ensures { Puts sink.old sink.new (word (tag_spelling directives.now tag.now)) }
+{
+    if are_none(directives) {
+        sink.put_known_word(spelled, parted);
+    } else {
+        put_tag(sink, directives, tag);
+    }
+}
+
+// The tag of a text.
+// Inlined: its bytes are known.
 #[inline(always)]
 fn put_str_tag(sink: &mut Sink, directives: &DirectiveTable)
     ensures { Puts sink.old sink.new (word (tag_spelling directives.now str_tag)) }
 {
-    if are_none(directives) {
-        sink.put_known_word(b"!!str", b" !!str");
-    } else {
-        put_tag(sink, directives, b"tag:yaml.org,2002:str");
-    }
+    put_default_tag(
+        sink,
+        directives,
+        b"tag:yaml.org,2002:str",
+        b"!!str",
+        b" !!str",
+    );
+}
+
+// The tag of a sequence.
+// Inlined: its bytes are known.
+#[inline(always)]
+fn put_seq_tag(sink: &mut Sink, directives: &DirectiveTable)
+    ensures { Puts sink.old sink.new (word (tag_spelling directives.now seq_tag)) }
+{
+    put_default_tag(
+        sink,
+        directives,
+        b"tag:yaml.org,2002:seq",
+        b"!!seq",
+        b" !!seq",
+    );
+}
+
+// The tag of a mapping.
+// Inlined: its bytes are known.
+#[inline(always)]
+fn put_map_tag(sink: &mut Sink, directives: &DirectiveTable)
+    ensures { Puts sink.old sink.new (word (tag_spelling directives.now map_tag)) }
+{
+    put_default_tag(
+        sink,
+        directives,
+        b"tag:yaml.org,2002:map",
+        b"!!map",
+        b" !!map",
+    );
 }
 
 /// A text with the default tag and without an anchor, in canonical form.
@@ -393,4 +449,28 @@ pub fn put_collection(sink: &mut Sink, context: &Context, spot: Spot, c: char, s
         is_flow(context.settings, spot, start.flow, start.empty),
         c,
     );
+}
+
+/// What opens a sequence with the default tag and without an anchor, in canonical form.
+// Inlined: it is a few bytes.
+#[inline(always)]
+pub fn put_plain_sequence(sink: &mut Sink, context: &Context)
+    requires { context.now.settings.now.canonical ≡ true }
+    ensures { (at : Spot) (flow empty : Bool) → Puts sink.old sink.new
+        (start_text (lent_context context.now) at 91 (plain_start seq_tag flow) empty) }
+{
+    put_seq_tag(sink, context.directives);
+    put_opener_if(sink, true, '[');
+}
+
+/// What opens a mapping with the default tag and without an anchor, in canonical form.
+// Inlined: it is a few bytes.
+#[inline(always)]
+pub fn put_plain_mapping(sink: &mut Sink, context: &Context)
+    requires { context.now.settings.now.canonical ≡ true }
+    ensures { (at : Spot) (flow empty : Bool) → Puts sink.old sink.new
+        (start_text (lent_context context.now) at 123 (plain_start map_tag flow) empty) }
+{
+    put_map_tag(sink, context.directives);
+    put_opener_if(sink, true, '{');
 }

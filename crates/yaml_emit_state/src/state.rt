@@ -12,7 +12,7 @@ use crate::given::{Context, Scalar, Where};
 use crate::judge::problem_of;
 use crate::keys::{is_simple, is_simple_alias, is_simple_key};
 use crate::levels::Levels;
-use event::{put_alias_node, put_event, put_scalar_node, put_text_node};
+use event::{put_alias_node, put_event, put_plain_node, put_scalar_node, put_text_node};
 pub use resume::yaml_emitter_stand_t;
 use std::alloc::{AllocError, Global};
 use yaml_emit_layout::Expected;
@@ -44,10 +44,10 @@ fn is_tame_in(canonical: bool, value: &[u8]) -> bool
 
 impl Core {
     ghost use Rattle.yaml_parse_model.specs.Events.{body_of, text_of};
-    ghost use Rattle.yaml_emit_layout.specs.Content.{emitter_event, alias, scalar};
+    ghost use Rattle.yaml_emit_layout.specs.Content.{emitter_event, alias, scalar, sequence_end, mapping_end};
     ghost use Rattle.yaml_emit_layout.specs.State.{problem_at};
     ghost use Rattle.yaml_scan_model.specs.declared.yaml_scalar_style_t.{yaml_scalar_style_t};
-    ghost use Rattle.yaml_emit_state.specs.Given.{lent_scalar, plain_text, IsNamed};
+    ghost use Rattle.yaml_emit_state.specs.Given.{lent_scalar, plain_text, plain_opening, IsNamed};
     ghost use Rattle.yaml_emit_state.specs.Steps.{state_of, settings_of, LaysOut, IsFreshCore, LaysOutRight, Starves, is_going, goes_on};
 
     /// Nothing was laid out.
@@ -369,32 +369,26 @@ impl Core {
         }
     }
 
-    // What ends a sequence, in canonical form.
+    /// Lays out what ends a sequence, in canonical form, or refuses it.
     // Out of line: kind and form are known, and what other kinds need takes no room here.
     #[inline(never)]
-    fn lay_sequence_end(&mut self, event: &mut yaml_event_body_t, empty: bool)
-        requires utf8 { HasUtf8 (body_of event.old) }
-        requires form { self.old.settings.canonical ≡ true }
-        ensures { LaysOut self.old self.new (emitter_event (body_of event.old)) empty }
+    pub fn lay_sequence_end(&mut self, empty: bool)
+        requires { (settings_of self.old).canonical ≡ true }
+        ensures { LaysOut self.old self.new sequence_end empty }
     {
-        match event {
-            yaml_event_body_t::SequenceEnd => self.lay_by(event, empty, true),
-            _ => self.lay_any(event, empty),
-        }
+        let mut event = yaml_event_body_t::SequenceEnd;
+        self.lay_by(&mut event, empty, true);
     }
 
-    // What ends a mapping, in canonical form.
+    /// Lays out what ends a mapping, in canonical form, or refuses it.
     // Out of line: kind and form are known, and what other kinds need takes no room here.
     #[inline(never)]
-    fn lay_mapping_end(&mut self, event: &mut yaml_event_body_t, empty: bool)
-        requires utf8 { HasUtf8 (body_of event.old) }
-        requires form { self.old.settings.canonical ≡ true }
-        ensures { LaysOut self.old self.new (emitter_event (body_of event.old)) empty }
+    pub fn lay_mapping_end(&mut self, empty: bool)
+        requires { (settings_of self.old).canonical ≡ true }
+        ensures { LaysOut self.old self.new mapping_end empty }
     {
-        match event {
-            yaml_event_body_t::MappingEnd => self.lay_by(event, empty, true),
-            _ => self.lay_any(event, empty),
-        }
+        let mut event = yaml_event_body_t::MappingEnd;
+        self.lay_by(&mut event, empty, true);
     }
 
     // What is known to be an alias is laid out or refused.
@@ -436,8 +430,8 @@ impl Core {
             yaml_event_body_t::Scalar { .. } => self.lay_scalar(event, empty, true),
             yaml_event_body_t::SequenceStart { .. } => self.lay_sequence_start(event, empty),
             yaml_event_body_t::MappingStart { .. } => self.lay_mapping_start(event, empty),
-            yaml_event_body_t::SequenceEnd => self.lay_sequence_end(event, empty),
-            yaml_event_body_t::MappingEnd => self.lay_mapping_end(event, empty),
+            yaml_event_body_t::SequenceEnd => self.lay_sequence_end(empty),
+            yaml_event_body_t::MappingEnd => self.lay_mapping_end(empty),
             yaml_event_body_t::Alias { .. } => self.lay_alias(event, empty),
             _ => self.lay_any(event, empty),
         }
@@ -488,6 +482,26 @@ impl Core {
         let top = self.levels.innermost();
         put_text_node(&mut self.sink, &context, top, value);
         self.step(false);
+    }
+
+    /// Lays out what opens a sequence, or a mapping, with the default tag and without an anchor, where a node is due, in
+    /// canonical form, which doesn't ask for its style.
+    // Out of line: what it needs is in registers.
+    #[inline(never)]
+    pub fn lay_plain_start(&mut self, sequence: bool)
+        requires form { (settings_of self.old).canonical ≡ true }
+        requires due { self.old.place ≡ Expected.Node }
+        ensures { (flow empty : Bool) → LaysOut self.old self.new (plain_opening sequence flow)
+            empty }
+    {
+        let settings = self.settings(true);
+        let context = Context {
+            settings: &settings,
+            directives: &self.directives,
+        };
+        let top = self.levels.innermost();
+        put_plain_node(&mut self.sink, &context, top, sequence);
+        self.open_by(&settings, false, false, false, sequence);
     }
 
     /// Lays out an event that is no longer held, by whether it opens a collection that the next event closes; or refuses it.

@@ -1,23 +1,26 @@
 //! What is written for an event.
-ghost use Rattle.std.specs.Prelude.{◌≡◌, true, false, map, IsUtf8};
+ghost use Rattle.std.specs.Prelude.{◌≡◌, Bool, true, false, map, IsUtf8};
 ghost use Rattle.std.specs.Str.{IsAscii};
 ghost use Rattle.yaml_parse_model.specs.Events.{body_of, text_of};
 ghost use Rattle.yaml_parse_model.specs.Constructors.{HasUtf8};
 ghost use Rattle.yaml_emit_text.specs.Sink.{Puts};
 ghost use Rattle.yaml_emit_text.specs.Tame.{IsTame};
+ghost use Rattle.yaml_emit_layout.specs.declared.Expected.{Expected};
 ghost use Rattle.yaml_emit_layout.specs.Content.{emitter_event};
 ghost use Rattle.yaml_emit_text.specs.Layout.{◌▹◌};
 ghost use Rattle.yaml_emit_layout.specs.Nodes.{alias_layout, scalar_layout};
 ghost use Rattle.yaml_emit_layout.specs.State.{text_at, is_simple_event, before_node, spot_of, start_text};
 ghost use Rattle.yaml_scan_model.specs.declared.yaml_scalar_style_t.{yaml_scalar_style_t};
-ghost use Rattle.yaml_emit_state.specs.Given.{lent_context, lent_scalar, lent_start, plain_text, name_of, IsNamed};
+ghost use Rattle.yaml_emit_state.specs.Given.{lent_context, lent_scalar, lent_start, plain_text, plain_opening, name_of, IsNamed};
 
 use crate::before::{put_before, put_closer_at};
 use crate::documents::{put_end, put_start_at, put_stop_at};
 use crate::given::{Context, Opening, Scalar, Start, Where};
 use crate::indent::spot_of;
 use crate::keys::{is_flow_mapping, is_flow_sequence};
-use crate::nodes::{put_alias_at, put_collection, put_scalar, put_text};
+use crate::nodes::{
+    put_alias_at, put_collection, put_plain_mapping, put_plain_sequence, put_scalar, put_text,
+};
 use yaml_emit_layout::Level;
 use yaml_emit_text::{Settings, Sink};
 use yaml_parse_model::yaml_event_body_t;
@@ -140,6 +143,28 @@ fn put_start_node(
 {
     put_before(sink, context.settings, top, simple);
     put_collection(sink, context, spot_of(*top, simple), c, start);
+}
+
+// What opens a collection with the default tag and without an anchor in the innermost one, with what comes before it, in canonical
+// form.
+// Inlined into its one caller.
+#[inline(always)]
+pub(super) fn put_plain_node(
+    sink: &mut Sink,
+    context: &Context,
+    top: &Option<Level>,
+    sequence: bool,
+)
+    requires { context.now.settings.now.canonical ≡ true }
+    ensures { (place : Expected) (flow empty : Bool) → Puts sink.old sink.new
+        (text_at (lent_context context.now) place top.now (plain_opening sequence flow) empty) }
+{
+    put_before(sink, context.settings, top, false);
+    if sequence {
+        put_plain_sequence(sink, context);
+    } else {
+        put_plain_mapping(sink, context);
+    }
 }
 
 /// What is written for an event in its right place, but for the depth, by whether it opens a collection that the next event closes,

@@ -166,7 +166,7 @@ impl Core {
     // A collection is opened as settings and style have it.
     // Inlined: where the form is known it is short.
     #[inline(always)]
-    fn open_by(
+    pub(super) fn open_by(
         &mut self,
         settings: &Settings,
         simple: bool,

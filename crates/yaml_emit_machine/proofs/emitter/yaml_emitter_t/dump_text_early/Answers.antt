@@ -11,14 +11,14 @@ returns-in-Some c =
       less = λ going. one_less_left _ _ _ g.next;
     }
 
-pub dump_next_early-requires-clause-walk : goal.dump_next_early-requires-clause-walk
-dump_next_early-requires-clause-walk c = rw (c.in-None.ensures.none refl) c.requires.walk
+pub dump_bracket_early-requires-clause-walk : goal.dump_bracket_early-requires-clause-walk
+dump_bracket_early-requires-clause-walk c = rw (c.in-None.ensures.none refl) c.requires.walk
 
 pub returns-in-None : goal.returns-in-None
 returns-in-None c =
     let same = c.in-None.ensures.none refl in
     record {
-      early = rw same at c.dump_next_early.ensures.early;
-      walk = c.dump_next_early.ensures.walk;
-      less = rw same at c.dump_next_early.ensures.less;
+      early = rw same at c.dump_bracket_early.ensures.early;
+      walk = c.dump_bracket_early.ensures.walk;
+      less = rw same at c.dump_bracket_early.ensures.less;
     }

@@ -1,5 +1,5 @@
 use Rattle.std.proofs.Common.{refl}
-use Rattle.yaml_emit_graph.proofs.graph.is_seq.Goals as goal
+use Rattle.yaml_emit_graph.proofs.tags.is_seq.Goals as goal
 
 pub returns-in-Str : goal.returns-in-Str
 returns-in-Str c = rw c.in-Str.is refl

@@ -312,6 +312,8 @@ impl Making {
     }
 
     // One node more, which is open.
+    // Inlined into the beginning of each kind: the node is built where it is to stand.
+    #[inline(always)]
     fn open(
         &mut self,
         anchor: Option<Vec<u8>>,

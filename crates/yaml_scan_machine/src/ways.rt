@@ -1,7 +1,7 @@
 //! Ways for the kinds of lexemes. The kinds that are met most have a way of their own, which is the general one with its
-//! kind known: so the compiler leaves out of it what the kind doesn't ask for. Those of indicators are inlined: they have no
-//! text, and a call would cost a quarter of each. Those that have a text are out of line, or all would be kept in one frame whose
-//! parts are set to zero for each lexeme.
+//! kind known: so the compiler leaves out of it what the kind doesn't ask for. Those of indicators and plain scalars are inlined:
+//! a call would cost a quarter of an indicator's. The others are out of line, or all would be kept in one frame whose parts are
+//! set to zero for each lexeme.
 
 ghost use Rattle.yaml_scan_model.specs.Faults.{fault_of};
 ghost use Rattle.yaml_scan_history.specs.declared.kind.Kind.TheVariants as kinds;
@@ -80,7 +80,7 @@ impl<'a> Machine<'a> {
     }
 
     /// Reads a double quoted scalar.
-    // Out of line, as is each way with a text.
+    // Out of line: it is met less often.
     #[inline(never)]
     fn double_quoted(&mut self, spot: &Spot, spares: &mut Spares, fault: &mut yaml_fault_t) -> bool
         requires { MayReadAt self.old kinds.DoubleQuoted spot.now }
@@ -140,7 +140,7 @@ impl<'a> Machine<'a> {
     }
 
     /// Reads a single quoted scalar.
-    // Out of line, as is each way with a text.
+    // Out of line: it is met less often.
     #[inline(never)]
     fn single_quoted(&mut self, spot: &Spot, spares: &mut Spares, fault: &mut yaml_fault_t) -> bool
         requires { MayReadAt self.old kinds.SingleQuoted spot.now }
@@ -150,7 +150,7 @@ impl<'a> Machine<'a> {
     }
 
     /// Reads an anchor.
-    // Out of line, as is each way with a text.
+    // Out of line: it is met less often.
     #[inline(never)]
     fn anchor(&mut self, spot: &Spot, spares: &mut Spares, fault: &mut yaml_fault_t) -> bool
         requires { MayReadAt self.old kinds.Anchor spot.now }
@@ -160,7 +160,7 @@ impl<'a> Machine<'a> {
     }
 
     /// Reads an alias.
-    // Out of line, as is each way with a text.
+    // Out of line: it is met less often.
     #[inline(never)]
     fn alias(&mut self, spot: &Spot, spares: &mut Spares, fault: &mut yaml_fault_t) -> bool
         requires { MayReadAt self.old kinds.Alias spot.now }
@@ -170,7 +170,7 @@ impl<'a> Machine<'a> {
     }
 
     /// Reads a tag.
-    // Out of line, as is each way with a text.
+    // Out of line: it is met less often.
     #[inline(never)]
     fn tag(&mut self, spot: &Spot, spares: &mut Spares, fault: &mut yaml_fault_t) -> bool
         requires { MayReadAt self.old kinds.Tag spot.now }
@@ -180,7 +180,7 @@ impl<'a> Machine<'a> {
     }
 
     /// Reads a lexeme of any kind, in the general way.
-    // Out of line, as is each way with a text. Cold: a way that hands over to it mostly goes on itself.
+    // Out of line, as above. Cold: a way that hands over to it mostly goes on itself.
     #[cold]
     #[inline(never)]
     pub(crate) fn of_rare(

@@ -1,6 +1,7 @@
 //! Ways for the kinds of lexemes. The kinds that are met most have a way of their own, which is the general one with its
-//! kind known: so the compiler leaves out of it what the kind doesn't ask for. Each way is out of line, or all would be
-//! kept in one frame whose parts are set to zero for each lexeme.
+//! kind known: so the compiler leaves out of it what the kind doesn't ask for. Those of indicators and plain scalars are inlined:
+//! a call would cost a quarter of an indicator's. The others are out of line, or all would be kept in one frame whose parts are
+//! set to zero for each lexeme.
 
 ghost use Rattle.yaml_scan_model.specs.Faults.{fault_of};
 ghost use Rattle.yaml_scan_history.specs.declared.kind.Kind.TheVariants as kinds;
@@ -18,8 +19,8 @@ impl<'a> Machine<'a> {
 
     /// Reads the lexeme that stands there, in the way of its kind; or puts the fault into the slot that was lent. A text may
     /// take a spare one's room.
-    // Inlined: it is called at one place.
-    #[inline(always)]
+    // No hint: with the ways that are inlined it is larger than what the kit inlines always. It is called at one place, so LLVM
+    // inlines it.
     pub fn by_kind(
         &mut self,
         kind: Kind,
@@ -49,8 +50,8 @@ impl<'a> Machine<'a> {
     }
 
     /// Reads a `,`.
-    // Out of line, as is each way.
-    #[inline(never)]
+    // Inlined, as is the way of each indicator.
+    #[inline(always)]
     fn flow_entry(&mut self, spot: &Spot, spares: &mut Spares, fault: &mut yaml_fault_t) -> bool
         requires { MayReadAt self.old kinds.FlowEntry spot.now }
         ensures { Steps self.old self.new (fault_of fault.new) result }
@@ -59,8 +60,8 @@ impl<'a> Machine<'a> {
     }
 
     /// Reads a `:`.
-    // Out of line, as is each way.
-    #[inline(never)]
+    // Inlined, as is the way of each indicator.
+    #[inline(always)]
     fn value_mark(&mut self, spot: &Spot, spares: &mut Spares, fault: &mut yaml_fault_t) -> bool
         requires { MayReadAt self.old kinds.ValueMark spot.now }
         ensures { Steps self.old self.new (fault_of fault.new) result }
@@ -69,8 +70,8 @@ impl<'a> Machine<'a> {
     }
 
     /// Reads a plain scalar.
-    // Out of line, as is each way.
-    #[inline(never)]
+    // Inlined, as the way that is met most.
+    #[inline(always)]
     fn plain(&mut self, spot: &Spot, spares: &mut Spares, fault: &mut yaml_fault_t) -> bool
         requires { MayReadAt self.old kinds.Plain spot.now }
         ensures { Steps self.old self.new (fault_of fault.new) result }
@@ -79,7 +80,7 @@ impl<'a> Machine<'a> {
     }
 
     /// Reads a double quoted scalar.
-    // Out of line, as is each way.
+    // Out of line: it is met less often.
     #[inline(never)]
     fn double_quoted(&mut self, spot: &Spot, spares: &mut Spares, fault: &mut yaml_fault_t) -> bool
         requires { MayReadAt self.old kinds.DoubleQuoted spot.now }
@@ -89,8 +90,8 @@ impl<'a> Machine<'a> {
     }
 
     /// Reads a `]`.
-    // Out of line, as is each way.
-    #[inline(never)]
+    // Inlined, as is the way of each indicator.
+    #[inline(always)]
     fn sequence_end(&mut self, spot: &Spot, spares: &mut Spares, fault: &mut yaml_fault_t) -> bool
         requires { MayReadAt self.old kinds.FlowSequenceEnd spot.now }
         ensures { Steps self.old self.new (fault_of fault.new) result }
@@ -99,8 +100,8 @@ impl<'a> Machine<'a> {
     }
 
     /// Reads a `}`.
-    // Out of line, as is each way.
-    #[inline(never)]
+    // Inlined, as is the way of each indicator.
+    #[inline(always)]
     fn mapping_end(&mut self, spot: &Spot, spares: &mut Spares, fault: &mut yaml_fault_t) -> bool
         requires { MayReadAt self.old kinds.FlowMappingEnd spot.now }
         ensures { Steps self.old self.new (fault_of fault.new) result }
@@ -109,8 +110,8 @@ impl<'a> Machine<'a> {
     }
 
     /// Reads a `[`.
-    // Out of line, as is each way.
-    #[inline(never)]
+    // Inlined, as is the way of each indicator.
+    #[inline(always)]
     fn sequence_start(&mut self, spot: &Spot, spares: &mut Spares, fault: &mut yaml_fault_t) -> bool
         requires { MayReadAt self.old kinds.FlowSequenceStart spot.now }
         ensures { Steps self.old self.new (fault_of fault.new) result }
@@ -119,8 +120,8 @@ impl<'a> Machine<'a> {
     }
 
     /// Reads a `{`.
-    // Out of line, as is each way.
-    #[inline(never)]
+    // Inlined, as is the way of each indicator.
+    #[inline(always)]
     fn mapping_start(&mut self, spot: &Spot, spares: &mut Spares, fault: &mut yaml_fault_t) -> bool
         requires { MayReadAt self.old kinds.FlowMappingStart spot.now }
         ensures { Steps self.old self.new (fault_of fault.new) result }
@@ -129,8 +130,8 @@ impl<'a> Machine<'a> {
     }
 
     /// Reads a `-`.
-    // Out of line, as is each way.
-    #[inline(never)]
+    // Inlined, as is the way of each indicator.
+    #[inline(always)]
     fn block_entry(&mut self, spot: &Spot, spares: &mut Spares, fault: &mut yaml_fault_t) -> bool
         requires { MayReadAt self.old kinds.BlockEntry spot.now }
         ensures { Steps self.old self.new (fault_of fault.new) result }
@@ -139,7 +140,7 @@ impl<'a> Machine<'a> {
     }
 
     /// Reads a single quoted scalar.
-    // Out of line, as is each way.
+    // Out of line: it is met less often.
     #[inline(never)]
     fn single_quoted(&mut self, spot: &Spot, spares: &mut Spares, fault: &mut yaml_fault_t) -> bool
         requires { MayReadAt self.old kinds.SingleQuoted spot.now }
@@ -149,7 +150,7 @@ impl<'a> Machine<'a> {
     }
 
     /// Reads an anchor.
-    // Out of line, as is each way.
+    // Out of line: it is met less often.
     #[inline(never)]
     fn anchor(&mut self, spot: &Spot, spares: &mut Spares, fault: &mut yaml_fault_t) -> bool
         requires { MayReadAt self.old kinds.Anchor spot.now }
@@ -159,7 +160,7 @@ impl<'a> Machine<'a> {
     }
 
     /// Reads an alias.
-    // Out of line, as is each way.
+    // Out of line: it is met less often.
     #[inline(never)]
     fn alias(&mut self, spot: &Spot, spares: &mut Spares, fault: &mut yaml_fault_t) -> bool
         requires { MayReadAt self.old kinds.Alias spot.now }
@@ -169,7 +170,7 @@ impl<'a> Machine<'a> {
     }
 
     /// Reads a tag.
-    // Out of line, as is each way.
+    // Out of line: it is met less often.
     #[inline(never)]
     fn tag(&mut self, spot: &Spot, spares: &mut Spares, fault: &mut yaml_fault_t) -> bool
         requires { MayReadAt self.old kinds.Tag spot.now }
@@ -179,7 +180,7 @@ impl<'a> Machine<'a> {
     }
 
     /// Reads a lexeme of any kind, in the general way.
-    // Out of line, as is each way. Cold: a way that hands over to it mostly goes on itself.
+    // Out of line, as above. Cold: a way that hands over to it mostly goes on itself.
     #[cold]
     #[inline(never)]
     pub(crate) fn of_rare(
